@@ -2,7 +2,7 @@
 use Rattle.std.proofs.Common.{◌≡◌, ℕ, zero, suc, ◌+◌, ◌-◌, ◌<◌, ◌≤◌, List, [], ◌++◌, length, map, drop, All, refl, arith, append_assoc}
 use Rattle.std.specs.List.{slice_index, slice_range, flat_map, range_with_len}
 use Rattle.std.proofs.lemmas.List.{get_or-take, get_or-drop, length-take, length-drop, take-map, drop-map}
-use Rattle.tt_scan.specs.declared.edge.Edge.{Edge}
+use Rattle.tt_scan_edges.specs.declared.edge.Edge.{Edge}
 use Rattle.tt_arc.specs.declared.point.Point.{Point}
 use Rattle.tt_fit.specs.Outline.{AreEnds}
 use Rattle.tt_arc.specs.Chords.{contour_edges, contour_start, contour_at}

@@ -1,7 +1,7 @@
 -- The weights of a quadratic's coordinates, and a bound of a coordinate at k eighths.
 use Rattle.std.proofs.Common.{◌≡◌, ℕ, zero, suc, ◌+◌, ◌^◌, ◌<◌, ◌≤◌, pos, ◌+ℤ◌, ◌-ℤ◌, ◌*ℤ◌, unsigned_abs, SFits, w64, List, ◌∷◌, ◌++◌, [], refl, arith, add-one, append-nil}
 use Rattle.std.proofs.lemmas.Int.{ints}
-use Rattle.tt_scan.specs.declared.edge.Edge.{Edge}
+use Rattle.tt_scan_edges.specs.declared.edge.Edge.{Edge}
 use Rattle.tt_arc.specs.declared.quadratic.Coordinates.{Coordinates}
 use Rattle.tt_arc.specs.declared.quadratic.Quadratic.{Quadratic}
 use Rattle.tt_arc.specs.declared.quadratic.EdgeEnd.{EdgeEnd}

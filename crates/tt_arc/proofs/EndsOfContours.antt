@@ -4,7 +4,7 @@ use Rattle.std.specs.List.{slice_index, slice_range, flat_map, range_with_len}
 use Rattle.std.proofs.lemmas.List.{take_at, drop_at, length-take}
 use Rattle.std.proofs.lemmas.List.Folds.{flat_map-map}
 use Rattle.std.proofs.lemmas.List.FromFn.{length-map-range_with_len}
-use Rattle.tt_scan.specs.declared.edge.Edge.{Edge}
+use Rattle.tt_scan_edges.specs.declared.edge.Edge.{Edge}
 use Rattle.tt_scan.specs.Contours.{contours_from, contours_at, AreEndsFrom, AreEnds}
 use Rattle.tt_arc.specs.Chords.{moved, contour_edges, contour_start, contour_at, chord_edges, chord_contours}
 use Rattle.tt_arc.proofs.Contours.{slice_of_map}

@@ -5,8 +5,8 @@ use Rattle.std.proofs.lemmas.Bool.{or_cases, cases_lt}
 use Rattle.std.proofs.lemmas.Int.{ints}
 use Rattle.std.proofs.lemmas.List.Folds.{Any-from_list_any, list_any-from_Any, list_any-append, list_any_at}
 use Rattle.std.proofs.lemmas.List.FromFn.{length-range_with_len, get_or-range_with_len}
-use Rattle.tt_scan.specs.declared.edge.Edge.{Edge}
-use Rattle.tt_scan.specs.Winding.{is_zero, lies_on, lies_on_one, winding}
+use Rattle.tt_scan_edges.specs.declared.edge.Edge.{Edge}
+use Rattle.tt_scan_edges.specs.Winding.{is_zero, lies_on, lies_on_one, winding}
 use Rattle.tt_arc.specs.declared.point.Point.{Point}
 use Rattle.tt_arc.specs.Chords.{moved, edges_at, contour_edges, contour_at, chord_edges}
 use Rattle.tt_arc.specs.Laws.{LiesOnOutline, OnByPoints, BlackByPoints}

@@ -2,10 +2,10 @@
 use Rattle.std.proofs.Common.{◌≡◌, ℕ, zero, suc, Bool, true, false, ◌&&◌, if◌then◌else◌, ℤ, pos, negsuc, neg_ℤ, ◌+ℤ◌, ◌-ℤ◌, ◌*ℤ◌, ◌≤ℤ◌, ◌<ℤ◌, int_lt, int_le, List, [], ◌∷◌, ◌++◌, length, map, refl, sym, ap, ◌∙◌, arith}
 use Rattle.std.specs.List.{flat_map, range_with_len}
 use Rattle.std.proofs.lemmas.Int.{ints, by_lt_z}
-use Rattle.tt_scan.specs.declared.edge.Edge.{Edge}
-use Rattle.tt_scan.specs.Winding.{side, is_zero, is_between, lies_on, lies_on_one, turned, winding}
-use Rattle.tt_scan.proofs.Ranges.{between_turned}
-use Rattle.tt_scan.proofs.Sides.{on_rising, side_reversed}
+use Rattle.tt_scan_edges.specs.declared.edge.Edge.{Edge}
+use Rattle.tt_scan_edges.specs.Winding.{side, is_zero, is_between, lies_on, lies_on_one, turned, winding}
+use Rattle.tt_scan_edges.proofs.Ranges.{between_turned}
+use Rattle.tt_scan_edges.proofs.Sides.{on_rising, side_reversed}
 use Rattle.tt_arc.specs.declared.quadratic.Coordinates.{Coordinates}
 use Rattle.tt_arc.specs.declared.quadratic.Quadratic.{Quadratic}
 use Rattle.tt_arc.specs.declared.point.Point.{Point}

@@ -4,7 +4,7 @@
 -- 26.6, ends of quadratics in 1/128 pixel, edges in 1/8192 pixel.
 use Rattle.std.specs.Prelude.{◌≡◌, ℕ, zero, suc, ◌+◌, ◌-◌, ◌*◌, ◌^◌, ◌<◌, ◌≤◌, Bool, true, false, nat_lt, if◌then◌else◌, ℤ, pos, ◌+ℤ◌, ◌-ℤ◌, ◌*ℤ◌, unsigned_abs, List, [], ◌∷◌, ◌++◌, length, map, take, get_or, refl}
 use Rattle.std.specs.List.{slice_index, slice_range, flat_map, range_with_len}
-use Rattle.tt_scan.specs.declared.edge.Edge.{Edge}
+use Rattle.tt_scan_edges.specs.declared.edge.Edge.{Edge}
 use Rattle.tt_arc.specs.declared.quadratic.Coordinates.{Coordinates}
 use Rattle.tt_arc.specs.declared.quadratic.Quadratic.{Quadratic}
 use Rattle.tt_arc.specs.declared.quadratic.CurveEnd.{CurveEnd}

@@ -3,15 +3,15 @@ use Rattle.std.proofs.Common.{◌≡◌, ◌∙◌, ℕ, ◌+◌, ◌<◌, ◌�
 use Rattle.std.specs.Prelude.{int_lt, unsigned_abs}
 use Rattle.std.proofs.lemmas.Int.{ints, by_lt_z}
 use Rattle.std.proofs.lemmas.List.{take_all, take_more, length-take}
-use Rattle.tt_scan.specs.declared.edge.Edge.{Edge}
-use Rattle.tt_scan.specs.declared.edge.Frame.{Frame}
-use Rattle.tt_scan.specs.declared.edge_table.Entry.{Entry}
+use Rattle.tt_scan_edges.specs.declared.edge.Edge.{Edge}
+use Rattle.tt_scan_edges.specs.declared.edge.Frame.{Frame}
+use Rattle.tt_scan_edges.specs.declared.entry.Entry.{Entry}
 use Rattle.tt_scan.specs.declared.rows.Gap.{Gap}
-use Rattle.tt_scan.specs.Crossing.{AreRows, has_row}
+use Rattle.tt_scan_edges.specs.Crossing.{AreRows, has_row}
 use Rattle.tt_scan.specs.EdgeList.{IsGapAt, AreEntered, is_in}
 use Rattle.tt_scan.specs.EdgeTable.{IsUnmet}
-use Rattle.tt_scan.specs.Winding.{EdgeFits, row_y, is_between}
-use Rattle.tt_scan.proofs.Ranges.{none_at}
+use Rattle.tt_scan_edges.specs.Winding.{EdgeFits, row_y, is_between}
+use Rattle.tt_scan_edges.proofs.Ranges.{none_at}
 use Rattle.tt_scan.proofs.Standing.{entry_pushed}
 use Rattle.tt_scan.proofs.Unmet.{rows_joined}
 

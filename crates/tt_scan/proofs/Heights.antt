@@ -4,10 +4,10 @@ use Rattle.std.specs.Prelude.{unsigned_abs, IfSome}
 use Rattle.std.specs.Int.{int_max, int_min}
 use Rattle.std.proofs.lemmas.Int.{clamps, ints}
 use Rattle.std.proofs.lemmas.List.Elements.{All-head, All-tail}
-use Rattle.tt_scan.specs.Crossing.{spans}
+use Rattle.tt_scan_edges.specs.Crossing.{spans}
 use Rattle.tt_scan.specs.EdgeList.{heights_of, heights_with}
-use Rattle.tt_scan.specs.Winding.{EdgeFits, is_between, is_black, rows_met}
-use Rattle.tt_scan.specs.declared.edge.Edge.{Edge}
+use Rattle.tt_scan_edges.specs.Winding.{EdgeFits, is_between, is_black, rows_met}
+use Rattle.tt_scan_edges.specs.declared.edge.Edge.{Edge}
 use Rattle.tt_scan.proofs.Unmet.{unmet_blank}
 
 -- one edge more

@@ -1,8 +1,8 @@
 -- Edges moved to the right by whole pixels blacken the moved columns.
 use Rattle.std.proofs.Common.{◌≡◌, ℕ, List, [], ◌∷◌, refl, arith, ℤ, pos, ◌+ℤ◌, ◌-ℤ◌, ◌*ℤ◌}
 use Rattle.std.proofs.lemmas.Int.{ints}
-use Rattle.tt_scan.specs.declared.edge.Edge.{Edge}
-use Rattle.tt_scan.specs.Winding.{column_x, side, is_between, lies_on, lies_on_one, turned, winding, is_black, moved_edge, moved_edges}
+use Rattle.tt_scan_edges.specs.declared.edge.Edge.{Edge}
+use Rattle.tt_scan_edges.specs.Winding.{column_x, side, is_between, lies_on, lies_on_one, turned, winding, is_black, moved_edge, moved_edges}
 
 side_moved : (d : ℤ) (e : Edge) (x y : ℤ) → side (moved_edge d e) (x +ℤ d) y ≡ side e x y
 side_moved d e x y =

@@ -1,10 +1,10 @@
 -- The columns that spans cover from several pens.
 use Rattle.std.proofs.Common.{◌≡◌, refl, ℕ, zero, suc, ◌+◌, ◌-◌, ◌<◌, Bool, true, false, ◌&&◌, ◌||◌, List, [], ◌∷◌, ◌++◌, length, take, drop, slice_index, get_or, pos, ◌-ℤ◌, arith}
 use Rattle.std.proofs.lemmas.List.{take_more, take_rest}
-use Rattle.tt_scan.specs.declared.mark.Span.{Span}
-use Rattle.tt_scan.specs.Marks.{covers, covers_from}
-use Rattle.tt_scan.proofs.Bools.{or_false, or_or}
-use Rattle.tt_scan.proofs.Visits.{covers_more}
+use Rattle.tt_scan_edges.specs.declared.mark.Span.{Span}
+use Rattle.tt_scan_edges.specs.Marks.{covers, covers_from}
+use Rattle.tt_scan_edges.proofs.Bools.{or_false, or_or}
+use Rattle.tt_scan_edges.proofs.Visits.{covers_more}
 
 joined : (old inside some one : Bool) → ((old || (inside && some)) || (inside && one)) ≡ (old || (inside && (some || one)))
 joined true inside some one = refl

@@ -6,15 +6,15 @@ use Rattle.std.proofs.lemmas.Int.{ints}
 use Rattle.std.proofs.lemmas.List.Sums.{sum_by-cons}
 use Rattle.std.proofs.lemmas.List.{length-map}
 use Rattle.std.proofs.lemmas.List.Sorted.{All-permutation, sum_by-IsPermutation}
-use Rattle.tt_scan.specs.declared.edge.Edge.{Edge}
-use Rattle.tt_scan.specs.declared.edge.Frame.{Frame}
+use Rattle.tt_scan_edges.specs.declared.edge.Edge.{Edge}
+use Rattle.tt_scan_edges.specs.declared.edge.Frame.{Frame}
 use Rattle.tt_scan.specs.declared.edge_table.EdgeTable.{EdgeTable}
-use Rattle.tt_scan.specs.declared.edge_table.Entry.{Entry}
-use Rattle.tt_scan.specs.declared.mark.Mark.{Mark}
-use Rattle.tt_scan.specs.declared.mark.Span.{Span}
-use Rattle.tt_scan.specs.declared.walk.Walk.{Walk}
-use Rattle.tt_scan.specs.EdgeTable.{AreLeft, AreWalked, HasRoom, IsReady, IsTableOf, IsWalkAt, edge_of, edges_of, if_on, meets_row}
-use Rattle.tt_scan.specs.Winding.{column_x}
+use Rattle.tt_scan_edges.specs.declared.entry.Entry.{Entry}
+use Rattle.tt_scan_edges.specs.declared.walk.Walk.{Walk}
+use Rattle.tt_scan_edges.specs.Entries.{edge_of}
+use Rattle.tt_scan.specs.EdgeTable.{AreWalked, HasRoom, IsReady, IsTableOf, IsWalkAt, edges_of, if_on, meets_row}
+use Rattle.tt_scan_edges.specs.Left.{Left, IsLeftBy}
+use Rattle.tt_scan_edges.specs.Winding.{column_x}
 use Rattle.tt_scan.proofs.Standing.{stand, few_stand, sum_kept, sum_of_edges, up_of, down_of, on_of, wound, touched}
 use Rattle.tt_scan.proofs.Walked.{sum_of_entries, few_met}
 
@@ -31,13 +31,14 @@ ones (m ∷ ms) = let whole = sum_by-cons (λ (n : Entry). 1) m ms in let rest =
 pub same_length : (xs ys : List Entry) → ((g : Entry → ℕ) → sum_by g xs ≡ sum_by g ys) → length xs ≡ length ys
 same_length xs ys same = sym (ones xs) ∙ same (λ _. 1) ∙ ones ys
 
-pub left_same : (es : List Edge) (m : ℕ) (y : ℤ) (xs ys : List Entry) (ks : List Mark) (ss : List Span) → ((g : Entry → ℕ) → sum_by g xs ≡ sum_by g ys)
-    → AreLeft es m y xs ks ss → AreLeft es m y ys ks ss
-left_same es m y xs ys ks ss same are =
+pub left_same : (es : List Edge) (m : ℕ) (y : ℤ) (xs ys : List Entry) (most : ℕ) (l : Left) → ((g : Entry → ℕ) → sum_by g xs ≡ sum_by g ys)
+    → IsLeftBy (edges_of es xs) m y most l → IsLeftBy (edges_of es ys) m y most l
+left_same es m y xs ys most l same are =
     let sums = sums_of_edges es xs ys same in
     let long = same_length xs ys same in
-    let few = are.count in
-    let black_few = are.black_count in
+    let one = length-map xs (λ (n : Entry). edge_of es n) in
+    let other = length-map ys (λ (n : Entry). edge_of es n) in
+    let room = are.room in
     record {
       black = λ c.
           let x = column_x m c in
@@ -45,8 +46,8 @@ left_same es m y xs ys ks ss same are =
       turn = λ c.
           let x = column_x m c in
           are.turn c ∙ wound (edges_of es xs) x y ∙ rw (sums (up_of x y), sums (down_of x y)) (sym (wound (edges_of es ys) x y));
-      count = omega (arith, long, few);
-      black_count = omega (arith, long, black_few);
+      whole = are.whole;
+      room = omega (arith, long, one, other, room);
     }
 
 -- of the entries begun, those that continue below a row are those that meet the row below
@@ -103,14 +104,6 @@ none_walked es f r ms = record {
   sums = λ g. refl;
   walks = λ k d below. absurd (omega arith);
   on = λ k d below. absurd (omega arith);
-}
-
-pub none_left : (es : List Edge) (m : ℕ) (y : ℤ) → AreLeft es m y [] [] []
-none_left es m y = record {
-  black = λ c. refl;
-  turn = λ c. refl;
-  count = omega arith;
-  black_count = omega arith;
 }
 
 -- walks in another order

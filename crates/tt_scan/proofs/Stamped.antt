@@ -6,15 +6,15 @@ use Rattle.std.proofs.lemmas.Bool.{cases_lt}
 use Rattle.std.proofs.lemmas.Int.{ints, by_lt_z, to_z-of_z}
 use Rattle.std.proofs.lemmas.List.{take_more}
 use Rattle.std.proofs.lemmas.Nat.Bits.{bit_at-lt, bit_at-zero, bit_at_or}
-use Rattle.tt_scan.specs.declared.mark.Span.{Span}
+use Rattle.tt_scan_edges.specs.declared.mark.Span.{Span}
 use Rattle.tt_scan.specs.declared.stamp.Stamp.{Stamp}
-use Rattle.tt_scan.specs.Marks.{covers}
+use Rattle.tt_scan_edges.specs.Marks.{covers}
 use Rattle.tt_scan.specs.Stamps.{in_word, shows, IsStampOf}
-use Rattle.tt_scan.proofs.Bools.{or_false}
+use Rattle.tt_scan_edges.proofs.Bools.{or_false}
 use Rattle.tt_scan.proofs.Columns.{or_bit}
-use Rattle.tt_scan.proofs.ActiveEdges.{reached}
+use Rattle.tt_scan_edges.proofs.Orders.{reached}
 use Rattle.tt_scan.proofs.Words.{past_last}
-use Rattle.tt_scan.proofs.Visits.{covers_more}
+use Rattle.tt_scan_edges.proofs.Visits.{covers_more}
 
 -- a span from a stamp's first column on, up to its last; the numbers computed for it fit
 pub record Spanned (low first last : ℤ) : Type 0 where

@@ -8,16 +8,17 @@ use Rattle.std.proofs.lemmas.List.{append-nil, map-append, take_more}
 use Rattle.std.proofs.lemmas.List.Elements.{All-push, All-cons, All-filter}
 use Rattle.std.proofs.lemmas.List.Sums.{sum_by-cons, sum_by_push}
 use Rattle.std.proofs.lemmas.List.Sorted.{All-permutation, sum_by-IsPermutation}
-use Rattle.tt_scan.specs.declared.edge.Edge.{Edge}
-use Rattle.tt_scan.specs.declared.edge.Frame.{Frame}
-use Rattle.tt_scan.specs.declared.edge_table.Entry.{Entry}
-use Rattle.tt_scan.specs.Crossing.{AreRows}
-use Rattle.tt_scan.specs.EdgeTable.{IsTableOf, meets_row, edge_of, edges_of}
-use Rattle.tt_scan.specs.Tape.{edge_at}
-use Rattle.tt_scan.specs.Winding.{row_y, side, is_zero, is_between, lies_on, lies_on_one, turned, winding, rows_met}
-use Rattle.tt_scan.proofs.Crosses.{third_false}
-use Rattle.tt_scan.proofs.Edges.{rows_few}
-use Rattle.tt_scan.proofs.Bools.{or_false, or_or}
+use Rattle.tt_scan_edges.specs.declared.edge.Edge.{Edge}
+use Rattle.tt_scan_edges.specs.declared.edge.Frame.{Frame}
+use Rattle.tt_scan_edges.specs.declared.entry.Entry.{Entry}
+use Rattle.tt_scan_edges.specs.Crossing.{AreRows}
+use Rattle.tt_scan_edges.specs.Entries.{edge_of}
+use Rattle.tt_scan.specs.EdgeTable.{IsTableOf, meets_row, edges_of}
+use Rattle.tt_scan_edges.specs.Counted.{edge_at}
+use Rattle.tt_scan_edges.specs.Winding.{row_y, side, is_zero, is_between, lies_on, lies_on_one, turned, winding, rows_met}
+use Rattle.tt_scan_edges.proofs.Crosses.{third_false}
+use Rattle.tt_scan_edges.proofs.Edges.{rows_few}
+use Rattle.tt_scan_edges.proofs.Bools.{or_false, or_or}
 
 -- the entries of an edge table, one more at a time, and in another order
 

@@ -7,13 +7,14 @@ use Rattle.std.proofs.lemmas.Int.{ints}
 use Rattle.std.proofs.lemmas.List.FromFn.{length-range_with_len, get_or-range_with_len}
 use Rattle.std.proofs.lemmas.List.Sums.{sum_by-cons, sum_by-le}
 use Rattle.tt_core.specs.Limits.{height_limit}
-use Rattle.tt_scan.specs.declared.edge.Edge.{Edge}
-use Rattle.tt_scan.specs.declared.edge.Frame.{Frame}
-use Rattle.tt_scan.specs.declared.edge_table.Entry.{Entry}
-use Rattle.tt_scan.specs.Crossing.{AreRows}
-use Rattle.tt_scan.specs.EdgeTable.{IsTableOf, IsUnmet, edge_of, rows_in}
-use Rattle.tt_scan.specs.Winding.{FrameFits, row_y, is_between, rows_met, crossings_of}
-use Rattle.tt_scan.proofs.Edges.{rows_few}
+use Rattle.tt_scan_edges.specs.declared.edge.Edge.{Edge}
+use Rattle.tt_scan_edges.specs.declared.edge.Frame.{Frame}
+use Rattle.tt_scan_edges.specs.declared.entry.Entry.{Entry}
+use Rattle.tt_scan_edges.specs.Crossing.{AreRows}
+use Rattle.tt_scan_edges.specs.Entries.{edge_of}
+use Rattle.tt_scan.specs.EdgeTable.{IsTableOf, IsUnmet, rows_in}
+use Rattle.tt_scan_edges.specs.Winding.{FrameFits, row_y, is_between, rows_met, crossings_of}
+use Rattle.tt_scan_edges.proofs.Edges.{rows_few}
 use Rattle.tt_scan.proofs.Standing.{same_sums}
 
 -- whether a row meets an edge, as a count

@@ -1,11 +1,11 @@
 -- Edges that a row does not meet, and the rows of all edges, one more at a time.
 use Rattle.std.proofs.Common.{◌≡◌, ◌∙◌, ℕ, ◌+◌, ◌<◌, Bool, true, false, List, [], ◌∷◌, ◌++◌, ℤ, pos, ◌-ℤ◌, ◌≤ℤ◌, ◌<ℤ◌, ◌⊎◌, inl, inr, if◌then◌else◌, refl, arith}
 use Rattle.std.proofs.lemmas.Int.{ints}
-use Rattle.tt_scan.specs.declared.edge.Edge.{Edge}
-use Rattle.tt_scan.specs.declared.edge.Frame.{Frame}
-use Rattle.tt_scan.specs.Crossing.{AreRows, AreAllRows, has_row}
-use Rattle.tt_scan.specs.Winding.{row_y, side, is_zero, is_between, lies_on_one, winding, is_black, rows_met}
-use Rattle.tt_scan.proofs.Crosses.{third_false, no_turned}
+use Rattle.tt_scan_edges.specs.declared.edge.Edge.{Edge}
+use Rattle.tt_scan_edges.specs.declared.edge.Frame.{Frame}
+use Rattle.tt_scan_edges.specs.Crossing.{AreRows, AreAllRows, has_row}
+use Rattle.tt_scan_edges.specs.Winding.{row_y, side, is_zero, is_between, lies_on_one, winding, is_black, rows_met}
+use Rattle.tt_scan_edges.proofs.Crosses.{third_false, no_turned}
 
 -- a row that meets no edge is blank
 

@@ -1,25 +1,32 @@
 -- Edges walked from row to row, those that begin in a row, and the marks and spans that they add there.
-use Rattle.std.proofs.Common.{◌≡◌, ◌≢◌, ◌∙◌, sym, refl, ℕ, zero, suc, ◌+◌, ◌<◌, ◌≤◌, Bool, true, false, ◌&&◌, ◌||◌, List, [], ◌∷◌, ◌++◌, length, map, take, drop, get_or, filter, sum_by, All, inl, inr, ℤ, pos, ◌+ℤ◌, ◌-ℤ◌, ◌≤ℤ◌, ◌<ℤ◌, int_lt, int_le, if◌then◌else◌, arith}
+use Rattle.std.proofs.Common.{◌≡◌, ◌≢◌, ◌∙◌, ap, sym, refl, length-append, ℕ, zero, suc, ◌+◌, ◌<◌, ◌≤◌, Bool, true, false, ◌&&◌, List, [], ◌∷◌, ◌++◌, length, map, take, drop, get_or, filter, sum_by, All, inl, inr, ℤ, pos, ◌+ℤ◌, ◌-ℤ◌, ◌≤ℤ◌, ◌<ℤ◌, int_lt, int_le, if◌then◌else◌, arith}
 use Rattle.std.specs.Prelude.{set}
 use Rattle.std.proofs.lemmas.Int.{ints}
 use Rattle.std.proofs.lemmas.Bool.{cases_eq}
-use Rattle.std.proofs.lemmas.List.{append-nil, map-append, take_more, take-append-drop, get_or-drop, length-drop, length-map, get_or-set_same, get_or-set_other}
+use Rattle.std.proofs.lemmas.List.{drop_more, append-nil, map-append, take_more, take-append-drop, get_or-drop, length-drop, length-map, get_or-set_same, get_or-set_other}
 use Rattle.std.proofs.lemmas.List.Elements.{All-push, All-cons, filter-append}
 use Rattle.std.proofs.lemmas.List.Sums.{sum_by-cons, sum_by_push, sum_by-take-le}
-use Rattle.tt_scan.specs.declared.edge.Edge.{Edge}
-use Rattle.tt_scan.specs.declared.edge.Frame.{Frame}
-use Rattle.tt_scan.specs.declared.edge_table.Entry.{Entry}
-use Rattle.tt_scan.specs.declared.mark.Mark.{Mark}
-use Rattle.tt_scan.specs.declared.mark.Span.{Span}
-use Rattle.tt_scan.specs.declared.walk.Walk.{Walk}
-use Rattle.tt_scan.specs.Crossing.{AreRows}
-use Rattle.tt_scan.specs.EdgeTable.{AreLeft, AreWalked, IsInOrder, IsWalkAt, edge_of, edges_of, if_on, is_long, meets_row}
-use Rattle.tt_scan.specs.Marks.{covers, turns}
-use Rattle.tt_scan.specs.Walks.{IsWalk}
-use Rattle.tt_scan.specs.Winding.{column_x, row_y, is_between, lies_on, turned}
-use Rattle.tt_scan.proofs.ActiveEdges.{none_met}
-use Rattle.tt_scan.proofs.Crosses.{level_here}
+use Rattle.tt_scan_edges.specs.declared.edge.Edge.{Edge}
+use Rattle.tt_scan_edges.specs.declared.edge.Frame.{Frame}
+use Rattle.tt_scan_edges.specs.declared.entry.Entry.{Entry}
+use Rattle.tt_scan_edges.specs.declared.walk.Walk.{Walk}
+use Rattle.tt_scan_edges.specs.Crossing.{AreRows}
+use Rattle.tt_scan_edges.specs.Entries.{IsInOrder, edge_of}
+use Rattle.tt_scan.specs.EdgeTable.{AreWalked, IsWalkAt, edges_of, if_on, is_long, meets_row}
+use Rattle.tt_scan_edges.specs.Left.{Left, HasLeft, IsLeftBy}
+use Rattle.tt_scan_edges.specs.Walks.{GoesBelow, IsWalk}
+use Rattle.tt_scan_edges.specs.Winding.{column_x, row_y, is_between}
+use Rattle.tt_scan_edges.proofs.Crosses.{level_here}
 use Rattle.tt_scan.proofs.Standing.{on_push, winding_push}
+
+-- no edge meets the row where all begin below it
+
+pub none_met : (r : ℤ) (ms : List Entry) → ((i : ℕ) (d : Entry) → i < length ms → r <ℤ (get_or ms i d).first) → filter (meets_row r) ms ≡ []
+none_met r [] left = refl
+none_met r (m ∷ ms) left =
+    let one = left 0 m (omega arith) in
+    let off : meets_row r m ≡ false = grind (arith, ints) in
+    rw off (none_met r ms (λ k d below. left (suc k) d (omega arith)))
 
 -- a walk of the row above
 
@@ -53,14 +60,8 @@ sloped_long e f first past r y are height low on =
     let above = met_at e f first past r y are height low (omega (arith, ints, on)) in
     met_twice e.ay e.by (row_y f (r +ℤ pos 1)) here (rw up above)
 
-pub record GoesBelow (es : List Edge) (margin : ℕ) (y : ℤ) (w : Walk) : Type 0 where
-  pub sloped : (edge_of es w.entry).ay ≢ (edge_of es w.entry).by
-  pub met : is_between (edge_of es w.entry).ay (edge_of es w.entry).by y ≡ true
-  pub above : is_between (edge_of es w.entry).ay (edge_of es w.entry).by (y +ℤ pos 8192) ≡ true
-  pub walk : IsWalk (edge_of es w.entry) margin (y +ℤ pos 8192) w
-
 pub goes_below : (es : List Edge) (f : Frame) (r y : ℤ) (w : Walk) → IsWalkAt es f (r -ℤ pos 1) w → r <ℤ w.entry.past → y ≡ row_y f r
-    → GoesBelow es f.margin y w
+    → GoesBelow (edge_of es w.entry) f.margin y w
 goes_below es f r y w is past height =
     let up = row_above f r y height in
     let first = is.first in
@@ -86,7 +87,7 @@ at_below es f r y w v is past height same walk =
     }
 
 pub walk_here : (es : List Edge) (f : Frame) (r y : ℤ) (ws vs : List Walk) (i : ℕ) (d : Walk) → All (IsWalkAt es f (r -ℤ pos 1)) vs
-    → All (λ w. r <ℤ w.entry.past) vs → get_or ws i d ≡ get_or vs i d → i < length vs → y ≡ row_y f r → GoesBelow es f.margin y (get_or ws i d)
+    → All (λ w. r <ℤ w.entry.past) vs → get_or ws i d ≡ get_or vs i d → i < length vs → y ≡ row_y f r → GoesBelow (edge_of es (get_or ws i d).entry) f.margin y (get_or ws i d)
 walk_here es f r y ws vs i d walks on same below height = rw same (goes_below es f r y (get_or vs i d) (walks i d below) (on i d below) height)
 
 pub walked_here : (es : List Edge) (f : Frame) (r y : ℤ) (ws vs : List Walk) (i : ℕ) (d v : Walk) → All (IsWalkAt es f (r -ℤ pos 1)) vs
@@ -128,20 +129,22 @@ longer : (ms : List Entry) (n : Entry) → length (ms ++ n ∷ []) ≡ length ms
 longer [] n = refl
 longer (m ∷ ms) n = let rest = longer ms n in omega arith
 
-pub left_push : (es : List Edge) (m : ℕ) (y : ℤ) (ms : List Entry) (n : Entry) (ks kt : List Mark) (ss st : List Span) → AreLeft es m y ms ks ss
-    → ((c : ℤ) → covers st c ≡ (covers ss c || lies_on (edge_of es n) (column_x m c) y))
-    → ((c : ℤ) → turns kt c ≡ turns ks c +ℤ turned (edge_of es n) (column_x m c) y)
-    → length kt ≤ length ks + 1 → length st ≤ length ss + 1 → AreLeft es m y (ms ++ n ∷ []) kt st
-left_push es m y ms n ks kt ss st are black turn count black_count =
-    let long = longer ms n in
-    let few = are.count in
-    let black_few = are.black_count in
-    record {
-      black = λ c. black c ∙ rw (are.black c, edges_push es ms n) (sym (on_push (edges_of es ms) (edge_of es n) (column_x m c) y));
-      turn = λ c. turn c ∙ rw (are.turn c, edges_push es ms n) (sym (winding_push (edges_of es ms) (edge_of es n) (column_x m c) y));
-      count = omega (arith, long, few, count);
-      black_count = omega (arith, long, black_few, black_count);
-    }
+one_longer : (es : List Edge) (e : Edge) → length (es ++ e ∷ []) ≡ length es + 1
+one_longer [] e = refl
+one_longer (d ∷ es) e = let rest = one_longer es e in omega arith
+
+pub left_push : (es : List Edge) (m : ℕ) (y : ℤ) (ms : List Entry) (n : Entry) (most : ℕ) (k l : Left) → IsLeftBy (edges_of es ms) m y most k
+    → HasLeft (edge_of es n) m y k l → IsLeftBy (edges_of es (ms ++ n ∷ [])) m y most l
+left_push es m y ms n most k l are has =
+    let long = one_longer (edges_of es ms) (edge_of es n) in
+    let before = are.room in
+    let after = has.room in
+    rw (edges_push es ms n) (record {
+      black = λ c. has.black c ∙ rw (are.black c) (sym (on_push (edges_of es ms) (edge_of es n) (column_x m c) y));
+      turn = λ c. has.turn c ∙ rw (are.turn c) (sym (winding_push (edges_of es ms) (edge_of es n) (column_x m c) y));
+      whole = has.whole ∙ are.whole;
+      room = omega (arith, long, before, after);
+    })
 
 -- entries of walks
 
@@ -246,18 +249,41 @@ room_for_mark r ms n d below met =
 
 -- where an entry begins below the row, those after it do too
 
-pub all_met : (r : ℤ) (ms : List Entry) (n : ℕ) → IsInOrder ms r → n < length ms → ((d : Entry) → r <ℤ (get_or ms n d).first)
-    → filter (meets_row r) (take n ms) ≡ filter (meets_row r) ms
-all_met r ms n order below after =
-    let later = none_met r (drop n ms) (λ i d under.
+pub none_after : (r : ℤ) (ms : List Entry) (n : ℕ) → IsInOrder ms r → n < length ms → ((d : Entry) → r <ℤ (get_or ms n d).first)
+    → filter (meets_row r) (drop n ms) ≡ []
+none_after r ms n order below after =
+    none_met r (drop n ms) (λ i d under.
     let long = length-drop n ms in
     let first = after d in
     let up = order n (n + i) d (omega arith) (omega (arith, under, long)) first in
-    rw (get_or-drop n ms i d) (omega (arith, ints, first, up))) in
+    rw (get_or-drop n ms i d) (omega (arith, ints, first, up)))
+
+met_parted : (r : ℤ) (ms : List Entry) (n : ℕ) → filter (meets_row r) ms ≡ filter (meets_row r) (take n ms) ++ filter (meets_row r) (drop n ms)
+met_parted r ms n =
     let whole : filter (meets_row r) (take n ms ++ drop n ms) ≡ filter (meets_row r) (take n ms) ++ filter (meets_row r) (drop n ms) =
     filter-append (meets_row r) (take n ms) (drop n ms) in
-    let parted : filter (meets_row r) ms ≡ filter (meets_row r) (take n ms) ++ filter (meets_row r) (drop n ms) = rw (take-append-drop n ms) at whole in
-    sym (parted ∙ rw later (append-nil (filter (meets_row r) (take n ms))))
+    rw (take-append-drop n ms) at whole
+
+pub all_met : (r : ℤ) (ms : List Entry) (n : ℕ) → IsInOrder ms r → n < length ms → ((d : Entry) → r <ℤ (get_or ms n d).first)
+    → filter (meets_row r) (take n ms) ≡ filter (meets_row r) ms
+all_met r ms n order below after =
+    sym (met_parted r ms n ∙ rw (none_after r ms n order below after) (append-nil (filter (meets_row r) (take n ms))))
+
+pub met_counts : (r : ℤ) (ms : List Entry) (n : ℕ)
+    → length (filter (meets_row r) (take n ms)) + length (filter (meets_row r) (drop n ms)) ≡ length (filter (meets_row r) ms)
+met_counts r ms n = sym (ap length (met_parted r ms n) ∙ length-append (filter (meets_row r) (take n ms)) (filter (meets_row r) (drop n ms)))
+
+-- the entries from one on that meet the row are that one, if it does, and those after it
+
+met_from_at : (r : ℤ) (m : Entry) (ms : List Entry) (b : Bool) → meets_row r m ≡ b
+    → length (filter (meets_row r) (m ∷ ms)) ≡ length (filter (meets_row r) (m ∷ [])) + length (filter (meets_row r) ms)
+met_from_at r m ms true is = rw is (omega arith)
+met_from_at r m ms false is = rw is refl
+
+pub met_from : (r : ℤ) (ms : List Entry) (n : ℕ) (d : Entry) → n < length ms
+    → length (filter (meets_row r) (drop n ms)) ≡ length (filter (meets_row r) (get_or ms n d ∷ [])) + length (filter (meets_row r) (drop (n + 1) ms))
+met_from r ms n d below =
+    rw (drop_more ms n d below) (met_from_at r (get_or ms n d) (drop (n + 1) ms) (meets_row r (get_or ms n d)) refl)
 
 -- a walk begun in the row
 

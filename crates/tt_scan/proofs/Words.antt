@@ -9,7 +9,7 @@ use Rattle.std.proofs.lemmas.Nat.Bits.{bit_at_above, bit_at_cat_low, ones_shr, b
 use Rattle.tt_core.specs.Bits.{bit}
 use Rattle.tt_scan.specs.Stamps.{in_word}
 use Rattle.tt_scan.proofs.Columns.{or_bit}
-use Rattle.tt_scan.proofs.Bools.{or_false}
+use Rattle.tt_scan_edges.proofs.Bools.{or_false}
 
 -- a word with columns
 

@@ -1,7 +1,7 @@
 -- No part of the standard: the edges of an outline's contours, which lie one after the other.
 use Rattle.std.specs.Prelude.{◌≡◌, ℕ, ◌≤◌, List, [], ◌∷◌}
 use Rattle.std.specs.List.{slice_range}
-use Rattle.tt_scan.specs.declared.edge.Edge.{Edge}
+use Rattle.tt_scan_edges.specs.declared.edge.Edge.{Edge}
 
 -- the contours of an outline: each ends before the edge of a number in the list
 abbrev pub contours_from : ℕ → List Edge → List ℕ → List (List Edge)

@@ -2,11 +2,11 @@
 -- rows.
 use Rattle.std.specs.Prelude.{◌≡◌, refl, ℕ, Bool, false, ◌&&◌, ℤ, pos, negsuc, int_lt, ◌<ℤ◌, ◌-ℤ◌, ◌*ℤ◌, List, [], ◌∷◌, Option, Some, None}
 use Rattle.std.specs.Int.{int_max, int_min}
-use Rattle.tt_scan.specs.declared.edge.Edge.{Edge}
-use Rattle.tt_scan.specs.declared.edge.Frame.{Frame}
-use Rattle.tt_scan.specs.declared.edge_table.Entry.{Entry}
+use Rattle.tt_scan_edges.specs.declared.edge.Edge.{Edge}
+use Rattle.tt_scan_edges.specs.declared.edge.Frame.{Frame}
+use Rattle.tt_scan_edges.specs.declared.entry.Entry.{Entry}
 use Rattle.tt_scan.specs.declared.rows.Gap.{Gap}
-use Rattle.tt_scan.specs.Crossing.{AreAllRows}
+use Rattle.tt_scan_edges.specs.Crossing.{AreAllRows}
 use Rattle.tt_scan.specs.EdgeTable.{IsTableOf}
 
 pub record EdgeList : Type 0 where

@@ -1,18 +1,15 @@
 -- No part of the standard: the edge table of a scan converter. Its entries are the edges that meet some row of the
 -- frame, and some of these are walked from row to row.
-use Rattle.std.specs.Prelude.{◌≡◌, ◌≢◌, ℕ, ◌<◌, ◌≤◌, Bool, true, false, ℤ, pos, int_lt, ◌<ℤ◌, ◌≤ℤ◌, ◌+ℤ◌, ◌-ℤ◌, unsigned_abs, if◌then◌else◌, List, map, length, get_or, take, sum_by, vec_capacity, All}
-use Rattle.tt_scan.specs.declared.edge.Edge.{Edge}
-use Rattle.tt_scan.specs.declared.edge.Frame.{Frame}
+use Rattle.std.specs.Prelude.{◌≡◌, ℕ, ◌<◌, ◌≤◌, Bool, true, false, ℤ, pos, int_lt, ◌<ℤ◌, ◌≤ℤ◌, ◌+ℤ◌, ◌-ℤ◌, unsigned_abs, if◌then◌else◌, List, map, length, take, sum_by, vec_capacity, All}
+use Rattle.tt_scan_edges.specs.declared.edge.Edge.{Edge}
+use Rattle.tt_scan_edges.specs.declared.edge.Frame.{Frame}
 use Rattle.tt_scan.specs.declared.edge_table.EdgeTable.{EdgeTable}
-use Rattle.tt_scan.specs.declared.edge_table.Entry.{Entry}
-use Rattle.tt_scan.specs.declared.mark.Mark.{Mark}
-use Rattle.tt_scan.specs.declared.mark.Span.{Span}
-use Rattle.tt_scan.specs.declared.walk.Walk.{Walk}
-use Rattle.tt_scan.specs.Crossing.{AreRows, has_row}
-use Rattle.tt_scan.specs.Marks.{covers, turns}
-use Rattle.tt_scan.specs.Tape.{edge_at}
-use Rattle.tt_scan.specs.Walks.{IsWalk}
-use Rattle.tt_scan.specs.Winding.{column_x, row_y, is_between, lies_on_one, winding}
+use Rattle.tt_scan_edges.specs.declared.entry.Entry.{Entry}
+use Rattle.tt_scan_edges.specs.declared.walk.Walk.{Walk}
+use Rattle.tt_scan_edges.specs.Crossing.{AreRows, has_row}
+use Rattle.tt_scan_edges.specs.Entries.{IsInOrder, edge_of}
+use Rattle.tt_scan_edges.specs.Walks.{IsWalk}
+use Rattle.tt_scan_edges.specs.Winding.{row_y, is_between}
 
 -- the edge of an entry meets a row
 abbrev pub meets_row : ℤ → Entry → Bool
@@ -22,25 +19,8 @@ meets_row r m = has_row (m.first, m.past) r
 abbrev pub rows_in : Entry → ℕ
 rows_in m = unsigned_abs (m.past -ℤ m.first)
 
--- the edge of an entry, among the edges of a tape
-abbrev pub edge_of : List Edge → Entry → Edge
-edge_of es m = edge_at es m.edge
-
 abbrev pub edges_of : List Edge → List Entry → List Edge
 edges_of es ms = map (λ m. edge_of es m) ms
-
--- the edges that begin below a row are in order of their first rows
-abbrev pub IsInOrder : List Entry → ℤ → Type 0
-IsInOrder ms row = (i j : ℕ) (d : Entry) → i ≤ j → j < length ms → row <ℤ (get_or ms i d).first
-    → (get_or ms i d).first ≤ℤ (get_or ms j d).first
-
--- the first `n` entries are in order of their first rows
-abbrev pub IsOrderedTo : List Entry → ℕ → Type 0
-IsOrderedTo ms n = (i j : ℕ) (d : Entry) → i ≤ j → j < n → (get_or ms i d).first ≤ℤ (get_or ms j d).first
-
--- the first `n` entries are in order, but entry `k` may belong before its place
-abbrev pub IsOrderedBut : List Entry → ℕ → ℕ → Type 0
-IsOrderedBut ms n k = (i j : ℕ) (d : Entry) → i ≤ j → j < n → j ≢ k → (get_or ms i d).first ≤ℤ (get_or ms j d).first
 
 -- 1 where an edge has rows below its first, else 0
 abbrev pub is_long : Entry → ℕ
@@ -49,6 +29,11 @@ is_long m = if int_lt (m.first +ℤ pos 1) m.past then 1 else 0
 -- an entry's summand where the edge continues below a row, else 0
 abbrev pub if_on : ℤ → (Entry → ℕ) → Entry → ℕ
 if_on row g m = if int_lt (row +ℤ pos 1) m.past then g m else 0
+
+-- an entry has the number of an edge, and its rows
+pub record IsEntryOf (es : List Edge) (f : Frame) (m : Entry) : Type 0 where
+  pub number : m.edge < length es
+  pub rows : AreRows (edge_of es m) f (m.first, m.past)
 
 -- a walk of an edge in a row that the edge meets
 pub record IsWalkAt (es : List Edge) (f : Frame) (row : ℤ) (w : Walk) : Type 0 where
@@ -65,13 +50,6 @@ pub record AreWalked (es : List Edge) (f : Frame) (row : ℤ) (ms : List Entry) 
   pub sums : (g : Entry → ℕ) → sum_by (λ w. g w.entry) ws ≡ sum_by (if_on row g) (take begun ms)
   pub walks : All (IsWalkAt es f row) ws
   pub on : All (λ w. (row +ℤ pos 1) <ℤ w.entry.past) ws
-
--- the marks and spans of some entries' edges at the height of a row
-pub record AreLeft (es : List Edge) (margin : ℕ) (y : ℤ) (ms : List Entry) (left : List Mark) (spans : List Span) : Type 0 where
-  pub black : (c : ℤ) → covers spans c ≡ lies_on_one (edges_of es ms) (column_x margin c) y
-  pub turn : (c : ℤ) → turns left c ≡ winding (edges_of es ms) (column_x margin c) y
-  pub count : length left ≤ length ms
-  pub black_count : length spans ≤ length ms
 
 -- no row of the frame meets an edge
 abbrev pub IsUnmet : Frame → Edge → Type 0

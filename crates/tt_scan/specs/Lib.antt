@@ -1,11 +1,5 @@
-pub mod Bounds
 pub mod Contours
-pub mod Counted
-pub mod Crossing
 pub mod EdgeList
 pub mod EdgeTable
-pub mod Marks
 pub mod Stamps
 pub mod Tape
-pub mod Winding
-pub mod Walks

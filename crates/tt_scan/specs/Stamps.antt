@@ -1,8 +1,8 @@
 -- No part of the standard: the black columns of a narrow row as one word.
 use Rattle.std.specs.Prelude.{◌≡◌, refl, ℕ, ◌-◌, ◌^◌, ◌<◌, ◌≤◌, Bool, true, false, ◌&&◌, ◌==◌, nat_lt, ℤ, negsuc, ◌-ℤ◌, int_le, unsigned_abs, List}
 use Rattle.std.specs.Int.{bit_at}
-use Rattle.tt_scan.specs.Marks.{covers}
-use Rattle.tt_scan.specs.declared.mark.Span.{Span}
+use Rattle.tt_scan_edges.specs.Marks.{covers}
+use Rattle.tt_scan_edges.specs.declared.mark.Span.{Span}
 use Rattle.tt_scan.specs.declared.stamp.Stamp.{Stamp}
 
 -- column j of a word, the leftmost in the highest bit; the lowest seven bits show nothing

@@ -1,17 +1,13 @@
 -- No part of the standard: the edges of one glyph, the frame of its picture, and the count of crossings.
-use Rattle.std.specs.Prelude.{ℕ, ℤ, pos, List, get_or}
-use Rattle.tt_scan.specs.declared.edge.Edge.{Edge}
-use Rattle.tt_scan.specs.declared.edge.Frame.{Frame}
-use Rattle.tt_scan.specs.Winding.{column_x, row_y}
+use Rattle.std.specs.Prelude.{ℕ, ℤ, pos, List}
+use Rattle.tt_scan_edges.specs.declared.edge.Edge.{Edge}
+use Rattle.tt_scan_edges.specs.declared.edge.Frame.{Frame}
+use Rattle.tt_scan_edges.specs.Winding.{column_x, row_y}
 
 pub record Tape : Type 0 where
   pub frame : Frame
   pub edges : List Edge
   pub crosses : ℕ
-
--- edge i; past the last edge, an edge at 0
-abbrev pub edge_at : List Edge → ℕ → Edge
-edge_at edges i = get_or edges i (record { ax = pos 0; ay = pos 0; bx = pos 0; by = pos 0 })
 
 -- the centre of pixel k of row r
 abbrev pub centre_x : Tape → ℕ → ℤ

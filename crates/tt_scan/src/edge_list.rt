@@ -1,14 +1,13 @@
 //! The edges of one glyph while they are made. Their rows are not known yet: `Tape::of` finds the rows of all at once.
 
 ghost use Rattle.std.specs.Prelude.{◌≡◌, ℤ, false, ◌+◌, ◌^◌, ◌<◌, ◌≤◌, ◌≤ℤ◌, unsigned_abs, length, [], ◌∷◌, ◌++◌, All, IfSome, OnOk};
-ghost use Rattle.tt_scan.specs.Crossing.{spans};
+ghost use Rattle.tt_scan_edges.specs.Crossing.{spans};
 ghost use Rattle.tt_scan.specs.EdgeList.{heights_of, heights_with};
-ghost use Rattle.tt_scan.specs.Winding.{EdgeFits, is_black};
+ghost use Rattle.tt_scan_edges.specs.Winding.{EdgeFits, is_black};
 
-use crate::counted::CountedEdges;
-use crate::edge::Edge;
 use std::alloc::{AllocError, Global};
 use std::marker::Model;
+use tt_scan_edges::{CountedEdges, Edge};
 
 /// The edges of one glyph, in the order of their addition.
 #[derive(Drop)]
@@ -19,7 +18,7 @@ pub struct EdgeList {
 impl Model for EdgeList {
     ghost use Rattle.std.specs.Prelude.{◌≡◌, All};
     ghost use Rattle.tt_scan.specs.EdgeList as list;
-    ghost use Rattle.tt_scan.specs.Winding.{EdgeFits};
+    ghost use Rattle.tt_scan_edges.specs.Winding.{EdgeFits};
 
     ghost Value = { list.EdgeList };
 

@@ -1,8 +1,8 @@
 //! Lemmas: blackness by single edges, and by edges moved to the right.
 
 ghost use Rattle.std.specs.Prelude.{◌≡◌, ◌≢◌, ◌↔◌, ◌⊎◌, ℕ, ℤ, true, pos, List, ◌+ℤ◌, ◌*ℤ◌};
-ghost use Rattle.tt_scan.specs.declared.edge.Edge.{Edge};
-ghost use Rattle.tt_scan.specs.Winding.{lies_on_one, winding, is_black, LiesOnSome, moved_edges, column_x};
+ghost use Rattle.tt_scan_edges.specs.declared.edge.Edge.{Edge};
+ghost use Rattle.tt_scan_edges.specs.Winding.{lies_on_one, winding, is_black, LiesOnSome, moved_edges, column_x};
 
 /// Lemma: a point is black if and only if it lies on some edge or the turns of all edges do not add up to 0.
 pub fn black_points()

@@ -1,51 +1,36 @@
-//! Scan conversion: the edges of a glyph, and which pixels they blacken. OpenType, "TrueType Fundamentals", the scan
-//! converter's rules 1 and 2.
+//! Scan conversion: the edges of a glyph together, and which pixels they blacken in a row. OpenType, "TrueType
+//! Fundamentals", the scan converter's rules 1 and 2. tt_scan_edges has edges one by one: their crossings and walks.
 //!
 //! The way of a row, from edges to black pixels:
 //!
 //! ```text
 //! edge_list.rt    the edges while they are made; `Tape::of` then finds the rows of all at once
 //! edge_table.rt   the edges that meet the row: those walked from the row above, and those that begin there
-//! counted.rt      crosses each of them, and counts the crossings
-//! crossing.rt     an edge at the height of the row: the columns that it touches, and its turn
-//! collect.rt      touched columns are black spans (rule 2), turns are marks
-//! stretch.rt      the marks in order of their columns, and black spans where their sum isn't 0 (rule 1)
+//! collect.rt      crosses each of them: touched columns are black spans (rule 2), turns are marks
+//! sweep.rt        black spans between the marks (rule 1)
 //! paint.rt        paints the spans in a row of bytes; stamp.rt paints a narrow glyph by one word
-//! bounds.rt       the least and the greatest black column
 //! ```
 //!
-//! `pixel.rt` computes one pixel from all edges: slow, and the rule itself.
+//! rows.rt has the rows that an edge meets, row_at.rt a row of the frame.
 #![tactic(auto)]
 
-mod bounds;
 mod bytes;
 mod collect;
-mod counted;
-mod crossing;
-mod edge;
 mod edge_list;
 mod edge_table;
-mod insertion;
 pub mod laws;
-mod mark;
 mod paint;
-mod pixel;
-mod quotient;
 mod row;
-mod row_order;
+mod row_at;
 mod rows;
 mod stamp;
-mod stretch;
 mod sweep;
 mod tape;
-mod walk;
 
-pub use bounds::bounds_of;
 pub use bytes::blacken;
-pub use edge::{Cross, Edge, Frame};
 pub use edge_list::EdgeList;
-pub use mark::Span;
 pub use row::row_into;
 pub use stamp::paint_columns;
 pub use sweep::Sweep;
 pub use tape::Tape;
+pub use tt_scan_edges::{Cross, Edge, Frame, Span, bounds_of};

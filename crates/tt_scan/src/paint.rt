@@ -2,33 +2,33 @@
 
 ghost use Rattle.std.specs.Prelude.{◌≡◌, ℕ, ◌*◌, ◌^◌, ◌<◌, ◌≤◌, ◌+ℤ◌, ◌-ℤ◌, ◌&&◌, ◌||◌, nat_le, nat_lt, int_le, pos, length, unsigned_abs};
 ghost use Rattle.tt_core.specs.Bits.{bit};
-ghost use Rattle.tt_scan.specs.Marks.{covers, covers_from};
+ghost use Rattle.tt_scan_edges.specs.Marks.{covers, covers_from};
 
 use crate::bytes::fill;
-use crate::mark::Span;
+use tt_scan_edges::Span;
 
 /// The columns that a row of bytes shows: `width` columns, from `low` on.
 #[derive(Clone, Copy)]
-struct Window {
+struct Shown {
     low: i64,
     width: u32,
 }
 
-/// The first place of the window whose column is not left of `at`; `width` where there is none.
-fn place(at: i64, window: Window) -> usize
-    requires { unsigned_abs window.low < 2 ^ 41 }
-    ensures { (k : ℕ) → k < window.width → int_le at (window.low +ℤ pos k) ≡ nat_le result k }
+/// The first place that is shown and whose column is not left of `at`; `width` where there is none.
+fn place(at: i64, shown: Shown) -> usize
+    requires { unsigned_abs shown.low < 2 ^ 41 }
+    ensures { (k : ℕ) → k < shown.width → int_le at (shown.low +ℤ pos k) ≡ nat_le result k }
 {
-    (at.clamp(window.low, window.low + i64::from(window.width)) - window.low) as usize
+    (at.clamp(shown.low, shown.low + i64::from(shown.width)) - shown.low) as usize
 }
 
-/// One past the last place of the window whose column is not right of `at`; 0 where there is none.
-fn past(at: i64, window: Window) -> usize
-    requires { unsigned_abs window.low < 2 ^ 41 }
-    ensures { (k : ℕ) → k < window.width → int_le (window.low +ℤ pos k) at ≡ nat_lt k result }
+/// One past the last place that is shown and whose column is not right of `at`; 0 where there is none.
+fn past(at: i64, shown: Shown) -> usize
+    requires { unsigned_abs shown.low < 2 ^ 41 }
+    ensures { (k : ℕ) → k < shown.width → int_le (shown.low +ℤ pos k) at ≡ nat_lt k result }
 {
-    let before = window.low - 1;
-    (at.clamp(before, before + i64::from(window.width)) - before) as usize
+    let before = shown.low - 1;
+    (at.clamp(before, before + i64::from(shown.width)) - before) as usize
 }
 
 /// Blackens the row's columns from `from` up to `to`.
@@ -43,19 +43,19 @@ fn blacken(row: &mut [u8], width: usize, from: usize, to: usize)
     }
 }
 
-/// Blackens a span's columns, as far as the window shows them.
-fn paint_span(span: Span, window: Window, row: &mut [u8])
-    requires low { unsigned_abs window.low < 2 ^ 41 }
-    requires width { window.width ≤ 8 * length row.old }
-    ensures bits { (k : ℕ) → bit row.new k ≡ (bit row.old k || (nat_lt k window.width
-        && (int_le span.first (window.low +ℤ pos k) && int_le (window.low +ℤ pos k) span.last))) }
+/// Blackens a span's columns, as far as they are shown.
+fn paint_span(span: Span, shown: Shown, row: &mut [u8])
+    requires low { unsigned_abs shown.low < 2 ^ 41 }
+    requires width { shown.width ≤ 8 * length row.old }
+    ensures bits { (k : ℕ) → bit row.new k ≡ (bit row.old k || (nat_lt k shown.width
+        && (int_le span.first (shown.low +ℤ pos k) && int_le (shown.low +ℤ pos k) span.last))) }
     ensures len { length row.new ≡ length row.old }
 {
     blacken(
         row,
-        window.width as usize,
-        place(span.first, window),
-        past(span.last, window),
+        shown.width as usize,
+        place(span.first, shown),
+        past(span.last, shown),
     );
 }
 
@@ -68,9 +68,9 @@ pub(crate) fn paint_spans(spans: &[Span], shift: i64, width: u32, row: &mut [u8]
     ensures bits { (k : ℕ) → bit row.new k ≡ (bit row.old k || (nat_lt k width && covers spans.now (pos k -ℤ shift))) }
     ensures len { length row.new ≡ length row.old }
 {
-    let window = Window { low: -shift, width };
+    let shown = Shown { low: -shift, width };
     for i in 0..spans.len() {
-        paint_span(spans[i], window, row);
+        paint_span(spans[i], shown, row);
     }
 }
 

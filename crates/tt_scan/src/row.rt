@@ -1,9 +1,9 @@
 //! A whole row of a picture at once.
 
-ghost use Rattle.std.specs.Prelude.{◌≡◌, ℕ, ◌+◌, ◌*◌, ◌^◌, ◌<◌, ◌≤◌, ◌<ℤ◌, ◌≤ℤ◌, ◌&&◌, ◌||◌, nat_lt, pos, length};
+ghost use Rattle.std.specs.Prelude.{◌≡◌, ℕ, ◌+◌, ◌^◌, ◌<◌, ◌≤◌, ◌<ℤ◌, ◌≤ℤ◌, ◌&&◌, ◌||◌, nat_lt, pos, length};
 ghost use Rattle.tt_core.specs.Bits.{bit, stride};
 ghost use Rattle.tt_scan.specs.Tape.{centre_x, centre_y};
-ghost use Rattle.tt_scan.specs.Winding.{is_black, rows_met};
+ghost use Rattle.tt_scan_edges.specs.Winding.{is_black, rows_met};
 
 use crate::sweep::Sweep;
 use crate::tape::Tape;

@@ -1,11 +1,11 @@
 //! The rows of a frame that an edge meets.
 
 ghost use Rattle.std.specs.Prelude.{◌≡◌, ℤ, ◌+◌, ◌^◌, ◌<◌, ◌+ℤ◌, ◌*ℤ◌, ◌-ℤ◌, ◌⊎◌, true, ◌&&◌, pos, int_lt, int_le, ◌<ℤ◌, ◌≤ℤ◌, unsigned_abs, IfSome};
-ghost use Rattle.tt_scan.specs.Crossing.{AreRows, has_row, spans};
+ghost use Rattle.tt_scan_edges.specs.Crossing.{AreRows, has_row, spans};
 ghost use Rattle.tt_scan.specs.EdgeList.{IsGapAt, is_in};
-ghost use Rattle.tt_scan.specs.Winding.{EdgeFits, FrameFits, is_between};
+ghost use Rattle.tt_scan_edges.specs.Winding.{EdgeFits, FrameFits, is_between};
 
-use crate::edge::{Edge, Frame};
+use tt_scan_edges::{Edge, Frame};
 
 /// From a centre line to the next, in 1/8192 pixel.
 const LINE: i32 = 8192;

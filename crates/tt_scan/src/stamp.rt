@@ -3,12 +3,12 @@
 ghost use Rattle.std.specs.Prelude.{◌≡◌, ℕ, ℤ, ◌+◌, ◌-◌, ◌*◌, ◌/◌, ◌%◌, ◌^◌, ◌<◌, ◌≤◌, ◌+ℤ◌, ◌-ℤ◌, ◌<ℤ◌, ◌≤ℤ◌, ◌&&◌, ◌||◌, ◌==◌, true, false, nat_le, nat_lt, int_le, pos, [], ◌∷◌, length, take, slice_index, unsigned_abs, IfSome};
 ghost use Rattle.std.specs.Int.{bit_at};
 ghost use Rattle.tt_core.specs.Bits.{bit};
-ghost use Rattle.tt_scan.specs.Marks.{covers, covers_from};
+ghost use Rattle.tt_scan_edges.specs.Marks.{covers, covers_from};
 ghost use Rattle.tt_scan.specs.Stamps.{in_word, shows, IsStampOf};
 ghost use Rattle.tt_scan.specs.declared.stamp.Stamp.{Stamp};
 
-use crate::mark::Span;
 use crate::paint::{paint_spans, paint_spans_at};
+use tt_scan_edges::Span;
 
 /// `columns` columns from `low` on, at most 57: a bit for each, from the highest bit on.
 #[derive(Clone, Copy)]

@@ -2,41 +2,35 @@
 
 ghost use Rattle.std.specs.Prelude.{◌≡◌, ℕ, ℤ, ◌+◌, ◌-ℤ◌, ◌*◌, ◌^◌, ◌<◌, ◌≤◌, ◌<ℤ◌, ◌≤ℤ◌, ◌&&◌, ◌||◌, nat_lt, pos, [], length, unsigned_abs, IfOk};
 ghost use Rattle.tt_core.specs.Bits.{bit};
-ghost use Rattle.tt_scan.specs.Bounds.{AreBounds};
-ghost use Rattle.tt_scan.specs.Marks.{covers, covers_from};
-ghost use Rattle.tt_scan.specs.Winding.{is_black, column_x, row_y, rows_met};
+ghost use Rattle.tt_scan_edges.specs.Bounds.{AreBounds};
+ghost use Rattle.tt_scan_edges.specs.Marks.{covers, covers_from};
+ghost use Rattle.tt_scan_edges.specs.Winding.{is_black, column_x, row_y, rows_met};
 
-use crate::bounds::bounds_of;
-use crate::mark::{Mark, Span};
 use crate::paint::paint_spans;
 use crate::stamp::{Stamp, paint_from, paint_stamp, stamped};
-use crate::stretch::wind;
 use crate::tape::Tape;
 use std::alloc::{AllocError, Global};
 use std::marker::Model;
+use tt_scan_edges::{RowLeft, Span, bounds_of};
 
 /// The black columns of a row, and memory for the rows of a tape.
 #[derive(Drop)]
 pub struct Sweep {
-    marks: Vec<Mark>,
-    spans: Vec<Span>,
+    left: RowLeft,
     /// The columns of the spans as one word, where they are few.
     stamp: Option<Stamp>,
-    room: usize,
 }
 
 impl Model for Sweep {
-    ghost use Rattle.std.specs.Prelude.{IfSome, ◌+◌, ◌*◌, ◌^◌, ◌<◌, ◌≤◌, length};
-    ghost use Rattle.std.specs.Vec.{vec_capacity};
-    ghost use Rattle.tt_scan.specs.Marks.{Swept};
+    ghost use Rattle.std.specs.Prelude.{IfSome};
+    ghost use Rattle.tt_scan_edges.specs.Marks.{Swept};
     ghost use Rattle.tt_scan.specs.Stamps.{IsStampOf};
 
     ghost Value = { Swept };
 
-    ghost view = { λ s. record { spans = s.spans.items; room = s.room } };
+    ghost view = { λ s. record { spans = s.left.black; room = s.left.most } };
 
-    ghost invariant = { λ s. (s.room < 2 ^ 61) × (s.room ≤ vec_capacity s.marks) × (2 * s.room + 1 ≤ vec_capacity s.spans)
-        × (length s.spans.items ≤ 2 * s.room + 1) × IfSome s.stamp (IsStampOf s.spans.items) };
+    ghost invariant = { λ s. IfSome s.stamp (IsStampOf s.left.black) };
 }
 
 impl Sweep {
@@ -44,12 +38,9 @@ impl Sweep {
     pub fn new(alloc: Global, most: usize) -> Result<Sweep, AllocError>
         ensures { IfOk result (λ sweep. sweep ≡ record { spans = []; room = most }) }
     {
-        let marks = Vec::with_capacity(alloc, most)?;
         Ok(Sweep {
-            marks,
-            spans: Vec::with_capacity(alloc, 2 * most + 1)?,
+            left: RowLeft::new(alloc, most)?,
             stamp: None,
-            room: most,
         })
     }
 
@@ -66,11 +57,10 @@ impl Sweep {
         // Each edge that meets the row is crossed once, and no other edge is.
         ensures crosses { tape.new.crosses ≡ tape.old.crosses + rows_met tape.old.edges (row_y tape.old.frame r) }
     {
-        self.marks.clear();
-        self.spans.clear();
-        tape.collect(r, &mut self.marks, &mut self.spans);
-        wind(&self.marks, &mut self.spans);
-        self.stamp = stamped(&self.spans);
+        self.left.clear();
+        tape.collect(r, &mut self.left);
+        self.left.wind();
+        self.stamp = stamped(self.left.black());
     }
 
     /// Blackens the pixels of the black columns, moved by `shift` columns to the right. The row has `width` pixels, the
@@ -83,8 +73,8 @@ impl Sweep {
         ensures len { length row.new ≡ length row.old }
     {
         match self.stamp {
-            Some(stamp) => paint_stamp(stamp, &self.spans, shift, width, row),
-            None => paint_spans(&self.spans, shift, width, row),
+            Some(stamp) => paint_stamp(stamp, self.left.black(), shift, width, row),
+            None => paint_spans(self.left.black(), shift, width, row),
         }
     }
 
@@ -97,7 +87,7 @@ impl Sweep {
             ≡ (bit row.old k || (nat_lt k width && covers_from self.now.spans pens.now k)) }
         ensures len { length row.new ≡ length row.old }
     {
-        paint_from(self.stamp, &self.spans, pens, width, row);
+        paint_from(self.stamp, self.left.black(), pens, width, row);
     }
 
     /// The black columns of the row cut last, in no order; some may occur twice. `paint_columns` paints them.
@@ -105,13 +95,13 @@ impl Sweep {
         ensures exact { result.now ≡ self.now.spans }
         ensures few { length result.now ≤ 2 * self.now.room + 1 }
     {
-        &self.spans
+        self.left.black()
     }
 
     /// The least and the greatest black column of the row cut last, both included; None where no column is black.
     pub fn bounds(&self) -> Option<(i64, i64)>
         ensures { AreBounds self.now.spans result }
     {
-        bounds_of(&self.spans)
+        bounds_of(self.left.black())
     }
 }

@@ -1,25 +1,23 @@
-//! The edges of one glyph, in the frame of its picture. They are stored in `counted.rt`, so that each crossing is
-//! counted.
+//! The edges of one glyph, in the frame of its picture. `CountedEdges` stores them, so that each crossing is counted.
 
-ghost use Rattle.std.specs.Prelude.{◌≡◌, ℕ, ℤ, false, int_lt, if◌then◌else◌, vec_capacity, ◌+◌, ◌*◌, ◌^◌, ◌<◌, ◌≤◌, ◌<ℤ◌, ◌≤ℤ◌, pos, List, length, [], ◌∷◌, ◌++◌, get_or, unsigned_abs, All, IfOk, OnOk, OnErr};
-ghost use Rattle.tt_scan.specs.declared.edge.Edge.{Edge};
+ghost use Rattle.std.specs.Prelude.{◌≡◌, ℤ, false, int_lt, if◌then◌else◌, ◌+◌, ◌*◌, ◌^◌, ◌<◌, ◌≤◌, ◌<ℤ◌, ◌≤ℤ◌, pos, List, length, [], ◌∷◌, ◌++◌, unsigned_abs, All, IfOk, OnOk, OnErr};
+ghost use Rattle.tt_scan_edges.specs.declared.edge.Edge.{Edge};
 ghost use Rattle.tt_core.specs.Limits.{width_limit, height_limit};
-ghost use Rattle.tt_scan.specs.Winding.{EdgeFits, FrameFits, is_black, column_x, row_y, lies_on_one, winding, rows_met, crossings_of};
-ghost use Rattle.tt_scan.specs.Marks.{covers, turns, IsRising};
-ghost use Rattle.tt_scan.specs.Crossing.{IsCross, AreRows, AreAllRows, has_row};
+ghost use Rattle.tt_scan_edges.specs.Winding.{EdgeFits, FrameFits, is_black, column_x, row_y, rows_met, crossings_of};
+ghost use Rattle.tt_scan_edges.specs.Marks.{IsRising};
+ghost use Rattle.tt_scan_edges.specs.Left.{IsBlank, IsLeftBy};
+ghost use Rattle.tt_scan_edges.specs.Crossing.{IsCross, AreRows, AreAllRows, has_row};
 ghost use Rattle.tt_scan.specs.EdgeList.{AreEntered};
 ghost use Rattle.tt_scan.specs.EdgeTable.{HasRoom};
-ghost use Rattle.tt_scan.specs.Tape.{edge_at};
+ghost use Rattle.tt_scan_edges.specs.Counted.{edge_at};
 
-use crate::counted::CountedEdges;
-use crate::crossing::row_height;
-use crate::edge::{Cross, Edge, Frame};
 use crate::edge_list::EdgeList;
-use crate::edge_table::{EdgeTable, Entry};
-use crate::mark::{Mark, Span};
+use crate::edge_table::EdgeTable;
+use crate::row_at::RowAt;
 use crate::rows::{gap_at, gap_from, is_in, join, row_range, widened};
 use std::alloc::{AllocError, Global};
 use std::marker::Model;
+use tt_scan_edges::{CountedEdges, Cross, Edge, Entry, Frame, RowLeft, row_height};
 
 /// The edges of one glyph, in the frame of its picture.
 #[derive(Drop)]
@@ -34,10 +32,10 @@ pub struct Tape {
 
 impl Model for Tape {
     ghost use Rattle.std.specs.Prelude.{All};
-    ghost use Rattle.tt_scan.specs.Crossing.{AreAllRows};
+    ghost use Rattle.tt_scan_edges.specs.Crossing.{AreAllRows};
     ghost use Rattle.tt_scan.specs.EdgeTable.{IsReady};
     ghost use Rattle.tt_scan.specs.Tape as tape;
-    ghost use Rattle.tt_scan.specs.Winding.{EdgeFits, FrameFits};
+    ghost use Rattle.tt_scan_edges.specs.Winding.{EdgeFits, FrameFits};
 
     ghost Value = { tape.Tape };
 
@@ -253,10 +251,10 @@ impl Tape {
         requires { i < length self.now.edges }
         ensures { AreRows (edge_at self.now.edges i) self.now.frame result }
     {
-        widened(self.edges.rows_of(i, self.frame))
+        widened(row_range(self.edges.lend()[i], self.frame))
     }
 
-    /// Crosses edge `i` at the centre line of a row. Only `pixel` and tests call this function.
+    /// Crosses edge `i` at the centre line of a row. Only tests call this function.
     pub fn cross(&mut self, i: usize, row: i64) -> Cross
         requires within { i < length self.old.edges }
         requires row_low { pos 0 ≤ℤ row }
@@ -270,31 +268,35 @@ impl Tape {
             .cross(i, self.frame.margin, row_height(self.frame, row))
     }
 
-    /// Adds the marks of the edges that meet a row, in order of their columns, and the spans that they touch. Each of
-    /// these edges is crossed once, and no other edge is.
-    pub(crate) fn collect(&mut self, r: i64, marks: &mut Vec<Mark>, black: &mut Vec<Span>)
+    /// Whether the pixel of a column and a row is black: its centre lies on an edge, or the edges wind round it. Only
+    /// tests call this function: the program draws rows by a `Sweep`.
+    pub fn pixel(&mut self, c: i64, r: i64) -> bool
         requires row_low { pos 0 ≤ℤ r }
         requires row_high { r <ℤ pos self.old.frame.height }
         requires count { self.old.crosses + length self.old.edges ≤ 2 ^ 63 }
-        requires none { marks.old.items ≡ [] }
-        requires white { black.old.items ≡ [] }
-        requires room { length self.old.edges ≤ vec_capacity marks.old }
-        requires black_room { length self.old.edges ≤ vec_capacity black.old }
-        ensures black { (c : ℤ) → covers black.new.items c
-            ≡ lies_on_one self.old.edges (column_x self.old.frame.margin c) (row_y self.old.frame r) }
-        ensures turns { (c : ℤ) → turns marks.new.items c
-            ≡ winding self.old.edges (column_x self.old.frame.margin c) (row_y self.old.frame r) }
-        ensures order { IsRising marks.new.items }
-        ensures count { length marks.new.items ≤ length self.old.edges }
-        ensures black_count { length black.new.items ≤ length self.old.edges }
-        ensures capacity { vec_capacity marks.new ≡ vec_capacity marks.old }
-        ensures black_capacity { vec_capacity black.new ≡ vec_capacity black.old }
+        ensures black { result ≡ is_black self.old.edges (column_x self.old.frame.margin c) (row_y self.old.frame r) }
+        ensures kept { self.new ≡ record self.old { crosses = self.new.crosses } }
+        ensures count { self.new.crosses ≤ self.old.crosses + length self.old.edges }
+    {
+        self.edges
+            .is_black(c, self.frame.margin, row_height(self.frame, r))
+    }
+
+    /// Adds the marks of the edges that meet a row, in order of their columns, and the spans that they touch. Each of
+    /// these edges is crossed once, and no other edge is.
+    pub(crate) fn collect(&mut self, r: i64, left: &mut RowLeft)
+        requires row_low { pos 0 ≤ℤ r }
+        requires row_high { r <ℤ pos self.old.frame.height }
+        requires count { self.old.crosses + length self.old.edges ≤ 2 ^ 63 }
+        requires blank { IsBlank left.old }
+        requires room { length self.old.edges ≤ left.old.most }
+        ensures left { IsLeftBy self.old.edges self.old.frame.margin (row_y self.old.frame r) left.old.most left.new }
+        ensures order { IsRising left.new.marks }
         ensures tape { self.new ≡ record self.old { crosses = self.new.crosses } }
         ensures crosses { self.new.crosses ≡ self.old.crosses + rows_met self.old.edges (row_y self.old.frame r) }
     {
-        let y = row_height(self.frame, r);
-        self.table
-            .visit(&mut self.edges, self.frame, y, r as i32, marks, black);
-        self.table.settle(marks);
+        let at = RowAt::of(self.frame, r);
+        self.table.visit(&mut self.edges, at, left);
+        self.table.settle(left);
     }
 }

@@ -6,11 +6,11 @@ use Rattle.std.specs.Int.{int_div_euclid, int_rem_euclid}
 use Rattle.std.specs.Ordering.{int_eq}
 use Rattle.std.proofs.lemmas.Bool.Decides.{nat_tests}
 use Rattle.std.proofs.lemmas.Int.{by_lt_z, ints}
-use Rattle.tt_scan.specs.Winding.{is_black, is_zero, lies_on_one, side, turned, winding}
-use Rattle.tt_scan.specs.declared.edge.Edge.{Edge}
-use Rattle.tt_scan.proofs.Crosses.{turned_at}
-use Rattle.tt_scan.proofs.Floors.{below_floor}
-use Rattle.tt_scan.proofs.Sides.{side_reversed}
+use Rattle.tt_scan_edges.specs.Winding.{is_black, is_zero, lies_on_one, side, turned, winding}
+use Rattle.tt_scan_edges.specs.declared.edge.Edge.{Edge}
+use Rattle.tt_scan_edges.proofs.Crosses.{turned_at}
+use Rattle.tt_scan_edges.proofs.Floors.{below_floor}
+use Rattle.tt_scan_edges.proofs.Sides.{side_reversed}
 use Rattle.tt_scan_dropouts.specs.Crossings.{centre, gap_at}
 use Rattle.tt_scan_dropouts.specs.Gaps.{is_free}
 use Rattle.tt_scan_dropouts.specs.Laws.{RowsCrossedBothWays, crosses_gap, goes_through}

@@ -2,7 +2,7 @@
 use Rattle.std.proofs.Common.{◌≡◌, ◌<◌, ◌+◌, ℕ, List, [], ◌∷◌, refl, true, false, add-one, drop, drop-cons, get_or, length, map, arith}
 use Rattle.std.specs.Int.{int_max, int_min}
 use Rattle.std.specs.Prelude.{ℤ, pos, ◌+ℤ◌, ◌*ℤ◌, int_le}
-use Rattle.tt_scan.specs.declared.edge.Edge.{Edge}
+use Rattle.tt_scan_edges.specs.declared.edge.Edge.{Edge}
 use Rattle.tt_scan_dropouts.specs.Crossings.{gap_at, line_from}
 use Rattle.tt_scan_dropouts.specs.Dropouts.{columns_of, greatest_x, least_x, turned_round}
 use Rattle.tt_scan_dropouts.specs.Gaps.{columns_between}

@@ -8,10 +8,10 @@ use Rattle.std.proofs.lemmas.List.{length-map}
 use Rattle.std.proofs.lemmas.List.Sums.{sum_by-cons, sum_by-le}
 use Rattle.std.proofs.lemmas.Nat.{mul-le}
 use Rattle.tt_core.specs.Bits.{stride}
-use Rattle.tt_scan.specs.declared.edge.Edge.{Edge}
-use Rattle.tt_scan.specs.declared.edge.Frame.{Frame}
-use Rattle.tt_scan.specs.Winding.{crossings_of, is_between, row_y, rows_met}
-use Rattle.tt_scan.proofs.Ranges.{between_from}
+use Rattle.tt_scan_edges.specs.declared.edge.Edge.{Edge}
+use Rattle.tt_scan_edges.specs.declared.edge.Frame.{Frame}
+use Rattle.tt_scan_edges.specs.Winding.{crossings_of, is_between, row_y, rows_met}
+use Rattle.tt_scan_edges.proofs.Ranges.{between_from}
 use Rattle.tt_scan_dropouts.specs.Counted.{bands, bands_bytes, bitmap_bytes, box_columns, box_rows, edges_counted, filling_counted, numbers_in, rows_crossed, rows_of_band}
 use Rattle.tt_scan_dropouts.specs.Crossings.{line_from, lines_crossed}
 use Rattle.tt_scan_dropouts.specs.Dropouts.{columns_of, crossed, turned_round}

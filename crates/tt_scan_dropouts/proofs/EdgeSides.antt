@@ -4,8 +4,8 @@ use Rattle.std.specs.Prelude.{ℤ, pos, ◌-ℤ◌, ◌*ℤ◌, ◌≤ℤ◌, �
 use Rattle.std.proofs.lemmas.Int.{by_lt_z, ints}
 use lib.IntN.{*ℤ_comm}
 use Rattle.tt_core.specs.Products.{mul_diff, mul_mono, mul_neg, neg_mul}
-use Rattle.tt_scan.specs.Winding.{is_between, is_zero, lies_on, side}
-use Rattle.tt_scan.specs.declared.edge.Edge.{Edge}
+use Rattle.tt_scan_edges.specs.Winding.{is_between, is_zero, lies_on, side}
+use Rattle.tt_scan_edges.specs.declared.edge.Edge.{Edge}
 
 -- the sign of the product of the distances of a from x and of b from y
 record Sign (a x b y p : ℤ) : Type 0 where

@@ -7,7 +7,7 @@ use Rattle.std.proofs.lemmas.Bool.{cases_Bool}
 use Rattle.std.proofs.lemmas.Int.{clamps, ints}
 use Rattle.std.proofs.lemmas.List.{map-append}
 use Rattle.std.proofs.lemmas.List.Elements.{All-cons, All-head, All-nil, All-tail, All-weaker}
-use Rattle.tt_scan.specs.declared.edge.Edge.{Edge}
+use Rattle.tt_scan_edges.specs.declared.edge.Edge.{Edge}
 use Rattle.tt_scan_dropouts.specs.Crossings.{centre, gap_at, line_from}
 use Rattle.tt_scan_dropouts.specs.Dropouts.{columns_of, edges_of, greatest_x, is_added_by_columns, is_added_by_rows, is_dropout, is_inked, least_x, outline_turned, turned_round}
 use Rattle.tt_scan_dropouts.specs.Gaps.{asked, boxed, columns_between, gap_marks, in_gap, is_added, is_asked, is_free, leans_right, some_asks}

@@ -10,12 +10,12 @@ use Rattle.std.proofs.lemmas.Nat.{mul-le}
 use Rattle.std.proofs.lemmas.Nat.Bits.{bit_at-zero}
 use borrow.Rule.Slice.PartMut.{put_mid}
 use Rattle.tt_core.specs.Bits.{bit, stride}
-use Rattle.tt_scan.specs.declared.edge.Edge.{Edge}
-use Rattle.tt_scan.specs.declared.edge.Frame.{Frame}
-use Rattle.tt_scan.specs.declared.mark.Span.{Span}
-use Rattle.tt_scan.specs.Marks.{covers}
-use Rattle.tt_scan.specs.Winding.{FrameFits, column_x, is_between, is_black, row_y, rows_met}
-use Rattle.tt_scan.proofs.Visits.{within_width}
+use Rattle.tt_scan_edges.specs.declared.edge.Edge.{Edge}
+use Rattle.tt_scan_edges.specs.declared.edge.Frame.{Frame}
+use Rattle.tt_scan_edges.specs.declared.mark.Span.{Span}
+use Rattle.tt_scan_edges.specs.Marks.{covers}
+use Rattle.tt_scan_edges.specs.Winding.{FrameFits, column_x, is_between, is_black, row_y, rows_met}
+use Rattle.tt_scan_edges.proofs.Visits.{within_width}
 use Rattle.tt_scan_dropouts.specs.Crossings.{centre}
 use Rattle.tt_scan_dropouts.specs.Windows.{WindowFits, first_row, frame_of, has, has_rows, is_within, place, row_from_top}
 use Rattle.tt_scan_dropouts.specs.declared.window.Window.{Window}

@@ -4,8 +4,8 @@ use Rattle.std.specs.Prelude.{int_lt, true, false, ◌≢◌, [], ◌∷◌, ℤ
 use Rattle.std.specs.Int.{int_div_euclid, int_rem_euclid}
 use Rattle.std.proofs.lemmas.Int.{ints, by_lt_z, fits_signed_mul, unsigned_abs-mul}
 use Rattle.std.proofs.lemmas.Nat.{mul-lt}
-use Rattle.tt_scan.specs.Winding.{EdgeFits}
-use Rattle.tt_scan.specs.declared.edge.Edge.{Edge}
+use Rattle.tt_scan_edges.specs.Winding.{EdgeFits}
+use Rattle.tt_scan_edges.specs.declared.edge.Edge.{Edge}
 use Rattle.tt_scan_dropouts.specs.Crossings.{centre, crossing_at, gap_at, is_rising, line_crossed, line_from, lines_crossed, touches, upward}
 
 pub floor_low : (n : ℤ) → (pos 8192 *ℤ int_div_euclid n (pos 8192)) ≤ℤ n

@@ -3,8 +3,8 @@ use Rattle.std.proofs.Common.{◌≡◌, refl, sym, ◌∙◌, ap, ap₂, Bool, 
 use Rattle.std.specs.Prelude.{ℤ, pos, ◌+ℤ◌, ◌*ℤ◌, map}
 use Rattle.std.proofs.lemmas.Int.{ints}
 use Rattle.std.proofs.lemmas.List.{map-append}
-use Rattle.tt_scan.specs.declared.edge.Edge.{Edge}
-use Rattle.tt_scan.specs.Winding.{is_between, is_black, is_zero, lies_on, lies_on_one, side, turned, winding}
+use Rattle.tt_scan_edges.specs.declared.edge.Edge.{Edge}
+use Rattle.tt_scan_edges.specs.Winding.{is_between, is_black, is_zero, lies_on, lies_on_one, side, turned, winding}
 use Rattle.tt_scan_dropouts.specs.Crossings.{centre}
 use Rattle.tt_scan_dropouts.specs.Dropouts.{columns_of, edges_of, is_added_by_columns, is_added_by_rows, is_inked, outline_turned, row_adds, turned_round}
 use Rattle.tt_scan_dropouts.specs.Gaps.{is_added}

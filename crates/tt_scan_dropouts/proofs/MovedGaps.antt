@@ -5,7 +5,7 @@ use Rattle.std.specs.Prelude.{ℤ, pos, ◌+ℤ◌, ◌-ℤ◌, ◌*ℤ◌, int_
 use Rattle.std.specs.Int.{int_max, int_min}
 use Rattle.std.specs.Option.{option_map}
 use Rattle.std.proofs.lemmas.Int.{ints}
-use Rattle.tt_scan.specs.declared.edge.Edge.{Edge}
+use Rattle.tt_scan_edges.specs.declared.edge.Edge.{Edge}
 use Rattle.tt_scan_dropouts.specs.Crossings.{gap_at, line_from}
 use Rattle.tt_scan_dropouts.specs.Dropouts.{columns_of, greatest_x, least_x}
 use Rattle.tt_scan_dropouts.specs.Gaps.{adds, asked, asked_by, boxed, columns_between, gap_marks, in_gap, is_added, is_asked, is_free, leans_right, least_place, pixel_of, some_asks}

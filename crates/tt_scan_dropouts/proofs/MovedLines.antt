@@ -4,7 +4,7 @@ use Rattle.std.specs.Prelude.{ℤ, pos, negsuc, ◌+ℤ◌, ◌-ℤ◌, ◌*ℤ�
 use Rattle.std.specs.Int.{int_div_euclid, int_rem_euclid}
 use Rattle.std.specs.List.{range_with_len}
 use Rattle.std.proofs.lemmas.Int.{ints}
-use Rattle.tt_scan.specs.declared.edge.Edge.{Edge}
+use Rattle.tt_scan_edges.specs.declared.edge.Edge.{Edge}
 use Rattle.tt_scan_dropouts.specs.Crossings.{centre, crossing, crossing_at, crossings, edge_x, gap_at, is_rising, line_crossed, line_from, lines_crossed, place_at, touches, upward}
 use Rattle.tt_scan_dropouts.specs.Laws.{moved}
 use Rattle.tt_scan_dropouts.specs.declared.mark.Crossing.{Crossing}

@@ -9,8 +9,8 @@ use Rattle.std.proofs.lemmas.Int.{ints}
 use Rattle.std.proofs.lemmas.List.Elements.{All-map}
 use Rattle.std.proofs.lemmas.List.Folds.{list_any_at, list_any_none}
 use Rattle.tt_scan.specs.Contours.{AreEnds, IsClosed, contours_at}
-use Rattle.tt_scan.specs.Winding.{is_black}
-use Rattle.tt_scan.specs.declared.edge.Edge.{Edge}
+use Rattle.tt_scan_edges.specs.Winding.{is_black}
+use Rattle.tt_scan_edges.specs.declared.edge.Edge.{Edge}
 use Rattle.tt_scan_dropouts.specs.BothWays.{NoneFreeBothWays, has_end_on_line, is_black_seen}
 use Rattle.tt_scan_dropouts.specs.Crossings.{agree, centre, crossings, is_on_line}
 use Rattle.tt_scan_dropouts.specs.Dropouts.{edges_of, is_added_by_columns, is_added_by_rows, is_dropout, is_inked, outline_turned, row_adds, turned_round}

@@ -9,7 +9,7 @@ use Rattle.std.specs.Ordering.{int_eq}
 use Rattle.std.proofs.lemmas.Bool.{cases_Bool}
 use Rattle.std.proofs.lemmas.Int.{ints}
 use Rattle.tt_scan.specs.Contours.{AreEnds, contours_at}
-use Rattle.tt_scan.specs.declared.edge.Edge.{Edge}
+use Rattle.tt_scan_edges.specs.declared.edge.Edge.{Edge}
 use Rattle.tt_scan_dropouts.specs.Crossings.{crossing, crossings, is_on_line, line_crossed, line_from, lines_crossed, meets_line, touches}
 use Rattle.tt_scan_dropouts.specs.Dropouts.{columns_of, edges_of, row_adds}
 use Rattle.tt_scan_dropouts.specs.Gaps.{asked, free_marks, is_added, is_free}

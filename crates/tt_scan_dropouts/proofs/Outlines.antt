@@ -6,8 +6,8 @@ use Rattle.std.specs.List.{slice_range}
 use Rattle.std.proofs.lemmas.List.Elements.{All-map}
 use Rattle.std.proofs.lemmas.List.Folds.{drop_split}
 use Rattle.tt_scan.specs.Contours.{AreEnds, AreEndsFrom, contours_at, contours_from}
-use Rattle.tt_scan.specs.Winding.{EdgeFits}
-use Rattle.tt_scan.specs.declared.edge.Edge.{Edge}
+use Rattle.tt_scan_edges.specs.Winding.{EdgeFits}
+use Rattle.tt_scan_edges.specs.declared.edge.Edge.{Edge}
 use Rattle.tt_scan_dropouts.specs.Dropouts.{edges_of, outline_turned, turned_round}
 
 drop_whole : (es : List Edge) → drop (length es) es ≡ []

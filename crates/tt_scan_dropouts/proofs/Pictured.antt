@@ -10,8 +10,8 @@ use Rattle.std.specs.List.Sorted.{IsNonDecreasingBy}
 use Rattle.std.specs.Ordering.{int_eq}
 use Rattle.std.specs.Prelude.{◌^◌, int_le, int_lt, unsigned_abs}
 use Rattle.tt_core.specs.Limits.{width_limit}
-use Rattle.tt_scan.specs.declared.edge.Edge.{Edge}
-use Rattle.tt_scan.specs.declared.edge.Frame.{Frame}
+use Rattle.tt_scan_edges.specs.declared.edge.Edge.{Edge}
+use Rattle.tt_scan_edges.specs.declared.edge.Frame.{Frame}
 use Rattle.tt_scan_dropouts.specs.Dropouts.{is_dropout}
 use Rattle.tt_scan_dropouts.specs.Gaps.{has_pixel}
 use Rattle.tt_scan_dropouts.specs.Pictures.{column_at, is_among, is_at, is_dropout_from, line_at}

@@ -5,10 +5,10 @@ use Rattle.std.specs.Prelude.{ℤ, pos, negsuc, ◌+ℤ◌, int_le, int_lt, neg_
 use Rattle.std.proofs.lemmas.Int.{ints}
 use Rattle.std.proofs.lemmas.List.Elements.{All-head, All-tail}
 use Rattle.tt_scan.specs.Contours.{GoesRound, IsClosed}
-use Rattle.tt_scan.specs.Winding.{lies_on, lies_on_one, side, turned, winding}
-use Rattle.tt_scan.specs.declared.edge.Edge.{Edge}
-use Rattle.tt_scan.proofs.Bools.{or_or}
-use Rattle.tt_scan.proofs.Crosses.{turned_at}
+use Rattle.tt_scan_edges.specs.Winding.{lies_on, lies_on_one, side, turned, winding}
+use Rattle.tt_scan_edges.specs.declared.edge.Edge.{Edge}
+use Rattle.tt_scan_edges.proofs.Bools.{or_or}
+use Rattle.tt_scan_edges.proofs.Crosses.{turned_at}
 use Rattle.tt_scan_dropouts.specs.Crossings.{centre}
 use Rattle.tt_scan_dropouts.specs.Dropouts.{edges_of, is_inked, outline_turned, turned_round}
 use Rattle.tt_scan_dropouts.specs.Laws.{ColumnsCrossedBothWays}

@@ -6,7 +6,7 @@ use Rattle.std.proofs.lemmas.List.{append-nil, drop_more, get_or_default, take_m
 use Rattle.std.proofs.lemmas.List.Elements.{filter-append}
 use Rattle.std.proofs.lemmas.List.FromFn.{map-range_with_len_more}
 use Rattle.std.proofs.lemmas.Grind.{flat_map-append}
-use Rattle.tt_scan.specs.declared.edge.Edge.{Edge}
+use Rattle.tt_scan_edges.specs.declared.edge.Edge.{Edge}
 use Rattle.tt_scan.specs.Contours.{contours_from}
 use Rattle.tt_scan_dropouts.specs.Crossings.{centre, crossing, crossings, line_crossed, touches}
 use Rattle.tt_scan_dropouts.specs.Gaps.{free_marks, in_free_gap, is_free}

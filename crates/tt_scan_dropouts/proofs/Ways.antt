@@ -7,7 +7,7 @@ use Rattle.std.proofs.lemmas.Bool.{cases_Bool}
 use Rattle.std.proofs.lemmas.Int.{ints}
 use Rattle.std.proofs.lemmas.List.{map-append, take_more}
 use Rattle.std.proofs.lemmas.List.Folds.{list_any-append}
-use Rattle.tt_scan.specs.declared.edge.Edge.{Edge}
+use Rattle.tt_scan_edges.specs.declared.edge.Edge.{Edge}
 use Rattle.tt_scan_dropouts.specs.BothWays.{AreMarked, AreTold, slot}
 use Rattle.tt_scan_dropouts.specs.Crossings.{agree, crossing, crossings, is_rising, line_crossed, line_from, lines_crossed, meets_line}
 use Rattle.tt_scan_dropouts.specs.Dropouts.{turned_round}

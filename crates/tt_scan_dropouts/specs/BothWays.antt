@@ -2,8 +2,8 @@
 -- times 64 gaps.
 use Rattle.std.specs.Prelude.{◌≡◌, ℕ, ◌+◌, ◌*◌, Bool, true, false, ◌&&◌, ◌||◌, ℤ, pos, negsuc, int_le, int_lt, if◌then◌else◌, get_or, unsigned_abs, List}
 use Rattle.std.specs.Int.{int_rem_euclid}
-use Rattle.tt_scan.specs.declared.edge.Edge.{Edge}
-use Rattle.tt_scan.specs.Winding.{is_black}
+use Rattle.tt_scan_edges.specs.declared.edge.Edge.{Edge}
+use Rattle.tt_scan_edges.specs.Winding.{is_black}
 use Rattle.tt_scan_dropouts.specs.Crossings.{centre, is_on_line}
 use Rattle.tt_scan_dropouts.specs.Gaps.{is_free}
 use Rattle.tt_scan_dropouts.specs.Laws.{crosses_gap}

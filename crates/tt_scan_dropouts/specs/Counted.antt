@@ -2,7 +2,7 @@
 -- not know the picture: rows inside and outside count, and a glyph counts the same at each pen.
 use Rattle.std.specs.Prelude.{◌≡◌, refl, ℕ, ◌+◌, ◌*◌, ◌/◌, ◌-◌, min, pos, negsuc, ◌-ℤ◌, unsigned_abs, List, [], ◌∷◌, length, map}
 use Rattle.tt_core.specs.Bits.{stride}
-use Rattle.tt_scan.specs.declared.edge.Edge.{Edge}
+use Rattle.tt_scan_edges.specs.declared.edge.Edge.{Edge}
 use Rattle.tt_scan_dropouts.specs.Crossings.{lines_crossed}
 use Rattle.tt_scan_dropouts.specs.Dropouts.{columns_of, crossed, turned_round}
 use Rattle.tt_scan_dropouts.specs.declared.mark.Columns.{Columns}

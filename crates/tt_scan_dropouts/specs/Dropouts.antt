@@ -3,8 +3,8 @@
 use Rattle.std.specs.Prelude.{ℕ, ◌+◌, Bool, ◌||◌, ℤ, pos, List, [], ◌∷◌, map}
 use Rattle.std.specs.List.{flat_map}
 use Rattle.std.specs.Int.{int_max, int_min}
-use Rattle.tt_scan.specs.declared.edge.Edge.{Edge}
-use Rattle.tt_scan.specs.Winding.{is_black}
+use Rattle.tt_scan_edges.specs.declared.edge.Edge.{Edge}
+use Rattle.tt_scan_edges.specs.Winding.{is_black}
 use Rattle.tt_scan_dropouts.specs.Crossings.{centre, lines_crossed}
 use Rattle.tt_scan_dropouts.specs.Gaps.{columns_between, is_added}
 use Rattle.tt_scan_dropouts.specs.Walk.{marks}

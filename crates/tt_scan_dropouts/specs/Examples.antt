@@ -3,7 +3,7 @@
 -- columns.
 use Rattle.std.specs.Prelude.{◌≡◌, refl, ℕ, ◌*◌, true, false, if◌then◌else◌, pos, List, [], ◌∷◌, ◌++◌, map, codes}
 use Rattle.std.specs.List.{range_with_len}
-use Rattle.tt_scan.specs.declared.edge.Edge.{Edge}
+use Rattle.tt_scan_edges.specs.declared.edge.Edge.{Edge}
 use Rattle.tt_scan_dropouts.specs.Dropouts.{is_inked, is_added_by_rows, is_added_by_columns}
 use Rattle.tt_scan_dropouts.specs.declared.mark.Rules.{Rules}
 

@@ -4,9 +4,9 @@ use Rattle.std.specs.Prelude.{◌≡◌, refl, ℕ, ◌/◌, ◌≤◌, Bool, tr
 use Rattle.std.specs.List.{list_any, range_with_len, sum_by}
 use Rattle.std.specs.Ordering.{int_eq}
 use Rattle.tt_scan.specs.Contours.{IsClosed}
-use Rattle.tt_scan.specs.Winding.{crossings_of, is_black}
-use Rattle.tt_scan.specs.declared.edge.Edge.{Edge}
-use Rattle.tt_scan.specs.declared.edge.Frame.{Frame}
+use Rattle.tt_scan_edges.specs.Winding.{crossings_of, is_black}
+use Rattle.tt_scan_edges.specs.declared.edge.Edge.{Edge}
+use Rattle.tt_scan_edges.specs.declared.edge.Frame.{Frame}
 use Rattle.tt_scan_dropouts.specs.Counted.{bands, bitmap_bytes, box_columns, box_rows, edges_counted, filling_counted, rows_of_band}
 use Rattle.tt_scan_dropouts.specs.Crossings.{agree, centre, crossings}
 use Rattle.tt_scan_dropouts.specs.Dropouts.{edges_of, is_added_by_columns, is_added_by_rows, is_dropout, is_inked, outline_turned}

@@ -3,7 +3,7 @@
 ghost use Rattle.std.specs.Prelude.{◌≡◌, not, ℕ, ℤ, true, length, ◌+◌, ◌*◌, ◌^◌, ◌<◌, ◌≤◌, ◌+ℤ◌, ◌&&◌, ◌||◌, nat_lt, pos, unsigned_abs, All, IfOk};
 ghost use Rattle.std.specs.Ordering.{int_eq};
 ghost use Rattle.tt_core.specs.Bits.{bit, stride};
-ghost use Rattle.tt_scan.specs.Winding.{EdgeFits, FrameFits, is_black};
+ghost use Rattle.tt_scan_edges.specs.Winding.{EdgeFits, FrameFits, is_black};
 ghost use Rattle.tt_scan_dropouts.specs.Crossings.{centre};
 ghost use Rattle.tt_scan_dropouts.specs.Gaps.{has_pixel, is_free};
 ghost use Rattle.tt_scan_dropouts.specs.Windows.{WindowFits, first_row, frame_of, has, has_rows, is_black_in, is_black_by, place, row_from_top};

@@ -3,7 +3,7 @@
 //! tables show which gaps may be crossed both ways, and a look at all edges decides whether one of those may be free.
 
 ghost use Rattle.std.specs.Prelude.{◌≡◌, List, ℕ, ℤ, ◌<◌, ◌≤◌, true, false, ◌∷◌, [], ◌+◌, ◌++◌, length, get_or, map, All};
-ghost use Rattle.tt_scan.specs.Winding.{EdgeFits};
+ghost use Rattle.tt_scan_edges.specs.Winding.{EdgeFits};
 ghost use Rattle.std.specs.List.{list_any};
 ghost use Rattle.tt_scan.specs.Contours.{AreEnds, IsClosed, contours_at};
 ghost use Rattle.tt_scan_dropouts.specs.BothWays.{AreTold, NoneFreeBothWays, has_end_on_line, is_black_seen, slot};

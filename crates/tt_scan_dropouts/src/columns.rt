@@ -2,7 +2,7 @@
 
 ghost use Rattle.std.specs.Prelude.{◌≡◌, ◌^◌, ◌<◌, map, unsigned_abs, All};
 ghost use Rattle.std.specs.Int.{int_max, int_min};
-ghost use Rattle.tt_scan.specs.Winding.{EdgeFits};
+ghost use Rattle.tt_scan_edges.specs.Winding.{EdgeFits};
 ghost use Rattle.tt_scan_dropouts.specs.Dropouts.{columns_of, greatest_x, least_x, turned_round};
 ghost use Rattle.tt_scan_dropouts.specs.Gaps.{columns_between};
 ghost use Rattle.tt_scan_dropouts.specs.Windows.{ColumnsFit, ExtentFits};

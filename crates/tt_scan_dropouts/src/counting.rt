@@ -1,7 +1,7 @@
 //! What the edges of one glyph count where a job's work is bounded. The count knows no picture and no pen.
 
 ghost use Rattle.std.specs.Prelude.{◌≡◌, ◌^◌, ◌*◌, ◌+◌, ◌<◌, ◌≤◌, length, All};
-ghost use Rattle.tt_scan.specs.Winding.{EdgeFits};
+ghost use Rattle.tt_scan_edges.specs.Winding.{EdgeFits};
 ghost use Rattle.tt_scan_dropouts.specs.Counted.{bands, bands_bytes, edges_counted, filling_counted, numbers_in, rows_crossed};
 ghost use Rattle.tt_scan_dropouts.specs.Dropouts.{crossed};
 ghost use Rattle.tt_scan_dropouts.specs.Windows.{ColumnsFit};

@@ -3,7 +3,7 @@
 
 ghost use Rattle.std.specs.Prelude.{◌≡◌, ◌∷◌, [], pos, ◌^◌, ◌<◌, ◌≤◌, ◌≤ℤ◌, ◌<ℤ◌, ◌-ℤ◌, ◌*ℤ◌, unsigned_abs, IfNone, IfSome};
 ghost use Rattle.std.specs.Int.{int_div_euclid};
-ghost use Rattle.tt_scan.specs.Winding.{EdgeFits};
+ghost use Rattle.tt_scan_edges.specs.Winding.{EdgeFits};
 ghost use Rattle.tt_scan_dropouts.specs.Crossings.{centre, crossing, crossing_at, edge_x, gap_at, is_on_line, line_crossed, line_from, lines_crossed, meets_line, touches, upward};
 
 use crate::mark::Crossing;

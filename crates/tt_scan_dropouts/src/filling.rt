@@ -5,7 +5,7 @@ ghost use Rattle.std.specs.Prelude.{◌≡◌, false, ℤ, ◌^◌, ◌≤◌, �
 ghost use Rattle.std.specs.List.{list_any};
 ghost use Rattle.std.specs.Ordering.{int_eq};
 ghost use Rattle.tt_scan.specs.Contours.{AreEnds, IsClosed, contours_at};
-ghost use Rattle.tt_scan.specs.Winding.{EdgeFits};
+ghost use Rattle.tt_scan_edges.specs.Winding.{EdgeFits};
 ghost use Rattle.tt_scan_dropouts.specs.Dropouts.{columns_of, is_dropout, row_adds, turned_round};
 ghost use Rattle.tt_scan_dropouts.specs.Gaps.{has_pixel};
 ghost use Rattle.tt_scan_dropouts.specs.Walk.{is_in_free_gap};

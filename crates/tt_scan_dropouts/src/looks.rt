@@ -3,7 +3,7 @@
 //! itself.
 
 ghost use Rattle.std.specs.Prelude.{◌≡◌, true, false, ◌+◌, ◌^◌, ◌<◌, ◌≤◌, map, unsigned_abs, All};
-ghost use Rattle.tt_scan.specs.Winding.{EdgeFits};
+ghost use Rattle.tt_scan_edges.specs.Winding.{EdgeFits};
 ghost use Rattle.tt_scan_dropouts.specs.BothWays.{NoneFreeBothWays, is_black_seen, look_limit};
 ghost use Rattle.tt_scan_dropouts.specs.Gaps.{is_free};
 ghost use Rattle.tt_scan_dropouts.specs.Windows.{seen_by};

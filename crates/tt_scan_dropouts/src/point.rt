@@ -2,7 +2,7 @@
 
 ghost use Rattle.std.specs.Prelude.{◌≡◌, false, ℤ, ◌-ℤ◌, ◌*ℤ◌, ◌^◌, ◌<◌, ◌≤◌, pos, unsigned_abs, All};
 ghost use Rattle.tt_scan_dropouts.specs.BothWays.{turn_by};
-ghost use Rattle.tt_scan.specs.Winding.{EdgeFits, turned, winding};
+ghost use Rattle.tt_scan_edges.specs.Winding.{EdgeFits, turned, winding};
 
 use tt_scan::Edge;
 

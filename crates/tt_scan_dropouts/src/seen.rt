@@ -1,7 +1,7 @@
 //! An edge as a pass sees it.
 
 ghost use Rattle.std.specs.Prelude.{◌≡◌};
-ghost use Rattle.tt_scan.specs.Winding.{EdgeFits};
+ghost use Rattle.tt_scan_edges.specs.Winding.{EdgeFits};
 ghost use Rattle.tt_scan_dropouts.specs.Crossings.{meets_line};
 ghost use Rattle.tt_scan_dropouts.specs.Dropouts.{turned_round};
 ghost use Rattle.tt_scan_dropouts.specs.Windows.{seen_by};

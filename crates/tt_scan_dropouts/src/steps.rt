@@ -1,7 +1,7 @@
 //! The walk along a contour: the crossings and the ends of its edges, in order.
 
 ghost use Rattle.std.specs.Prelude.{◌≡◌, ◌++◌, All, IfOk, OnOk};
-ghost use Rattle.tt_scan.specs.Winding.{EdgeFits};
+ghost use Rattle.tt_scan_edges.specs.Winding.{EdgeFits};
 ghost use Rattle.tt_scan_dropouts.specs.Walk.{steps_of, walk};
 
 use crate::crossing::{crossing, lines_crossed};

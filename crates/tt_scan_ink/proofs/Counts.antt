@@ -1,8 +1,8 @@
 -- The number of crossings that the rows of a tape need: its count fits.
 use Rattle.std.proofs.Common.{◌≡◌, ℕ, ◌+◌, ◌*◌, ◌^◌, ◌≤◌, Bool, true, false, if◌then◌else◌, List, [], ◌∷◌, length, ℤ, arith}
 use Rattle.std.proofs.Math.Nat.{mul-le-mul_right}
-use Rattle.tt_scan.specs.Winding.{is_between, rows_met}
-use Rattle.tt_scan.specs.declared.edge.Edge.{Edge}
+use Rattle.tt_scan_edges.specs.Winding.{is_between, rows_met}
+use Rattle.tt_scan_edges.specs.declared.edge.Edge.{Edge}
 
 one_or_none : (b : Bool) → (if b then 1 else 0) ≤ 1
 one_or_none true = omega arith

@@ -5,8 +5,8 @@ use Rattle.std.proofs.lemmas.Bool.{cases_Bool, false≢true}
 use Rattle.std.proofs.lemmas.Int.{by_lt_z, clamps, ints}
 use Rattle.std.proofs.lemmas.List.Elements.{All-head, All-tail}
 use Rattle.tt_scan.specs.Contours.{IsClosed}
-use Rattle.tt_scan.specs.Winding.{is_between, is_black, is_zero, lies_on, lies_on_one, side, winding}
-use Rattle.tt_scan.specs.declared.edge.Edge.{Edge}
+use Rattle.tt_scan_edges.specs.Winding.{is_between, is_black, is_zero, lies_on, lies_on_one, side, winding}
+use Rattle.tt_scan_edges.specs.declared.edge.Edge.{Edge}
 use Rattle.tt_scan_dropouts.specs.Crossings.{centre}
 use Rattle.tt_scan_dropouts.specs.Dropouts.{columns_of, edges_of, greatest_x, is_dropout, is_inked, least_x, turned_round}
 use Rattle.tt_scan_dropouts.specs.Windows.{is_column_of}

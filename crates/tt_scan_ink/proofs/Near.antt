@@ -4,8 +4,8 @@ use Rattle.std.specs.Int.{int_div_euclid, int_max, int_min}
 use Rattle.std.specs.Prelude.{unsigned_abs}
 use Rattle.std.proofs.lemmas.Int.{clamps, ints}
 use Rattle.std.proofs.lemmas.List.Elements.{All-head, All-map, All-tail, All-weaker}
-use Rattle.tt_scan.specs.Winding.{EdgeFits}
-use Rattle.tt_scan.specs.declared.edge.Edge.{Edge}
+use Rattle.tt_scan_edges.specs.Winding.{EdgeFits}
+use Rattle.tt_scan_edges.specs.declared.edge.Edge.{Edge}
 use Rattle.tt_scan_dropouts.specs.Crossings.{gap_at, line_from}
 use Rattle.tt_scan_dropouts.specs.Dropouts.{columns_of, greatest_x, least_x, turned_round}
 use Rattle.tt_scan_dropouts.specs.Gaps.{columns_between}

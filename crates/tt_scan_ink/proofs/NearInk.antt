@@ -2,8 +2,8 @@
 use Rattle.std.proofs.Common.{ℕ, zero, suc, ◌^◌, ◌<◌, Bool, true, false, if◌then◌else◌, List, Option, None, Some, ℤ, pos, neg_ℤ, ◌+ℤ◌, ◌≤ℤ◌, ◌<ℤ◌, All, arith}
 use Rattle.std.specs.Prelude.{IfSome, unsigned_abs}
 use Rattle.std.proofs.lemmas.Int.{clamps, ints}
-use Rattle.tt_scan.specs.Winding.{EdgeFits}
-use Rattle.tt_scan.specs.declared.edge.Edge.{Edge}
+use Rattle.tt_scan_edges.specs.Winding.{EdgeFits}
+use Rattle.tt_scan_edges.specs.declared.edge.Edge.{Edge}
 use Rattle.tt_scan_dropouts.specs.declared.mark.Columns.{Columns}
 use Rattle.tt_scan_dropouts.specs.declared.mark.Rules.{Rules}
 use Rattle.tt_scan_ink.proofs.Near.{columns_near, lines_near}

@@ -3,12 +3,12 @@ use Rattle.std.proofs.Common.{◌≡◌, ◌≢◌, ◌∙◌, ap, sym, refl, �
 use Rattle.std.specs.Int.{int_max, int_min}
 use Rattle.std.specs.Ordering.{int_eq}
 use Rattle.std.proofs.lemmas.Int.{by_lt_z, clamps, ints}
-use Rattle.tt_scan.specs.Marks.{covers}
-use Rattle.tt_scan.specs.Winding.{column_x, is_black, row_y}
-use Rattle.tt_scan.specs.declared.edge.Edge.{Edge}
-use Rattle.tt_scan.specs.declared.edge.Frame.{Frame}
-use Rattle.tt_scan.specs.declared.mark.Span.{Span}
-use Rattle.tt_scan.proofs.Visits.{covers_more}
+use Rattle.tt_scan_edges.specs.Marks.{covers}
+use Rattle.tt_scan_edges.specs.Winding.{column_x, is_black, row_y}
+use Rattle.tt_scan_edges.specs.declared.edge.Edge.{Edge}
+use Rattle.tt_scan_edges.specs.declared.edge.Frame.{Frame}
+use Rattle.tt_scan_edges.specs.declared.mark.Span.{Span}
+use Rattle.tt_scan_edges.proofs.Visits.{covers_more}
 use Rattle.tt_scan_dropouts.specs.Crossings.{centre}
 use Rattle.tt_scan_dropouts.specs.Gaps.{has_pixel}
 use Rattle.tt_scan_dropouts.specs.Windows.{has, is_column_of, is_within}

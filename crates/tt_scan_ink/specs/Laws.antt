@@ -1,7 +1,7 @@
 -- Lemmas about the definitions: the box holds all black pixels of the plane, and no smaller box does.
 use Rattle.std.specs.Prelude.{Bool, ◌||◌, ℤ, All, List, Option}
 use Rattle.tt_scan.specs.Contours.{IsClosed}
-use Rattle.tt_scan.specs.declared.edge.Edge.{Edge}
+use Rattle.tt_scan_edges.specs.declared.edge.Edge.{Edge}
 use Rattle.tt_scan_dropouts.specs.Dropouts.{edges_of, is_dropout, is_inked}
 use Rattle.tt_scan_dropouts.specs.declared.mark.Rules.{Rules}
 use Rattle.tt_scan_ink.specs.Ink.{dropouts_ink, edges_ink, joined}

@@ -1,10 +1,10 @@
 -- The box of black pixels, in one sentence: it holds them all, and each of its sides has a black pixel.
 use Rattle.std.specs.Prelude.{◌≡◌, ℕ, Bool, true, false, ◌&&◌, ◌^◌, ◌<◌, ℤ, ◌≤ℤ◌, unsigned_abs, List, Option, Some, None}
 use Rattle.std.specs.Ordering.{int_eq}
-use Rattle.tt_scan.specs.Marks.{covers}
-use Rattle.tt_scan.specs.Winding.{is_black}
-use Rattle.tt_scan.specs.declared.edge.Edge.{Edge}
-use Rattle.tt_scan.specs.declared.mark.Span.{Span}
+use Rattle.tt_scan_edges.specs.Marks.{covers}
+use Rattle.tt_scan_edges.specs.Winding.{is_black}
+use Rattle.tt_scan_edges.specs.declared.edge.Edge.{Edge}
+use Rattle.tt_scan_edges.specs.declared.mark.Span.{Span}
 use Rattle.tt_scan_dropouts.specs.Crossings.{centre}
 use Rattle.tt_scan_dropouts.specs.Windows.{is_column_of, is_within}
 use Rattle.tt_scan_dropouts.specs.declared.mark.Columns.{Columns}

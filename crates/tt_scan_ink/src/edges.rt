@@ -2,7 +2,7 @@
 
 ghost use Rattle.std.specs.Prelude.{◌≡◌, ◌+◌, ◌*◌, ◌^◌, ◌<◌, ◌≤◌, ◌-ℤ◌, pos, unsigned_abs, [], ◌∷◌, length, IfOk, IfSome};
 ghost use Rattle.tt_core.specs.Limits.{height_limit};
-ghost use Rattle.tt_scan.specs.Winding.{FrameFits};
+ghost use Rattle.tt_scan_edges.specs.Winding.{FrameFits};
 ghost use Rattle.tt_scan_ink.specs.Ink.{count_of, edges_ink};
 ghost use Rattle.tt_scan_ink.specs.Least.{AreNear, IsInk, IsNear, covered, is_inked_by, shown};
 

@@ -2,7 +2,7 @@
 use Rattle.std.proofs.Common.{◌≡◌, ℕ, ◌+◌, ◌*◌, ◌^◌, ◌<◌, ◌≤◌, min, List, length, inr, arith}
 use Rattle.std.proofs.Math.Nat.{mul-le-mul_right}
 use Rattle.tt_scan.specs.EdgeList.{EdgeList, heights_of}
-use Rattle.tt_scan.specs.declared.edge.Edge.{Edge}
+use Rattle.tt_scan_edges.specs.declared.edge.Edge.{Edge}
 use Rattle.tt_scan_rows.specs.Cut.{IfEdges, IsLarge}
 use Rattle.tt_scan_rows.specs.Raster.{lines_in}
 use Rattle.tt_scan_rows.specs.declared.raster.Cut.{Cut}

@@ -4,12 +4,12 @@ use Rattle.std.specs.Prelude.{unsigned_abs}
 use Rattle.std.proofs.lemmas.Bool.{cases_lt}
 use Rattle.std.proofs.lemmas.Int.{by_lt_z, ints}
 use Rattle.std.proofs.lemmas.List.{get_or_past}
-use Rattle.tt_scan.specs.Crossing.{has_row}
-use Rattle.tt_scan.specs.Marks.{covers, covers_from}
-use Rattle.tt_scan.specs.Winding.{column_x, is_black, row_y}
-use Rattle.tt_scan.specs.declared.edge.Edge.{Edge}
-use Rattle.tt_scan.specs.declared.edge.Frame.{Frame}
-use Rattle.tt_scan.specs.declared.mark.Span.{Span}
+use Rattle.tt_scan_edges.specs.Crossing.{has_row}
+use Rattle.tt_scan_edges.specs.Marks.{covers, covers_from}
+use Rattle.tt_scan_edges.specs.Winding.{column_x, is_black, row_y}
+use Rattle.tt_scan_edges.specs.declared.edge.Edge.{Edge}
+use Rattle.tt_scan_edges.specs.declared.edge.Frame.{Frame}
+use Rattle.tt_scan_edges.specs.declared.mark.Span.{Span}
 use Rattle.tt_scan_rows.specs.Raster.{IsRasterOf, Raster, line_y, shows, shows_from, spans_at}
 use Rattle.tt_scan_rows.specs.Rows.{AreRowsOf, row_at}
 

@@ -3,7 +3,7 @@
 use Rattle.std.specs.Prelude.{⊤, ℕ, ◌+◌, ◌*◌, ◌<◌, List, length, ◌⊎◌}
 use Rattle.tt_core.specs.Limits.{height_limit}
 use Rattle.tt_scan.specs.EdgeList.{EdgeList, heights_of}
-use Rattle.tt_scan.specs.declared.edge.Edge.{Edge}
+use Rattle.tt_scan_edges.specs.declared.edge.Edge.{Edge}
 use Rattle.tt_scan_rows.specs.Raster.{Raster, lines_in}
 use Rattle.tt_scan_rows.specs.declared.raster.Cut.{Cut}
 use Rattle.tt_scan_rows.specs.declared.raster.Cut.TheVariants as cut

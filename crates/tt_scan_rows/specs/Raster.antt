@@ -1,10 +1,10 @@
 -- No part of the standard: the black columns of a glyph line by line. A line counts pixel rows upwards from the base
 -- line, a column counts rightwards from the glyph's pen; all heights are in 1/8192 pixel.
 use Rattle.std.specs.Prelude.{◌≡◌, refl, ℕ, ◌+◌, ◌/◌, ◌^◌, Bool, true, false, ◌||◌, if◌then◌else◌, ℤ, pos, negsuc, ◌+ℤ◌, ◌-ℤ◌, ◌*ℤ◌, ◌<ℤ◌, int_le, unsigned_abs, List, [], ◌∷◌, Option, Some, None}
-use Rattle.tt_scan.specs.Marks.{covers}
-use Rattle.tt_scan.specs.Winding.{column_x, is_black}
-use Rattle.tt_scan.specs.declared.edge.Edge.{Edge}
-use Rattle.tt_scan.specs.declared.mark.Span.{Span}
+use Rattle.tt_scan_edges.specs.Marks.{covers}
+use Rattle.tt_scan_edges.specs.Winding.{column_x, is_black}
+use Rattle.tt_scan_edges.specs.declared.edge.Edge.{Edge}
+use Rattle.tt_scan_edges.specs.declared.mark.Span.{Span}
 use Rattle.tt_scan_rows.specs.Rows.{row_at}
 
 -- the spans of some lines, line by line downwards from the top one

@@ -6,10 +6,10 @@
 ghost use Rattle.std.specs.Prelude.{◌≡◌, ℕ, ℤ, false, ◌+◌, ◌*◌, ◌^◌, ◌<◌, ◌≤◌, ◌&&◌, ◌||◌, ◌+ℤ◌, ◌-ℤ◌, ◌*ℤ◌, ◌<ℤ◌, ◌≤ℤ◌, pos, nat_lt, unsigned_abs, [], length, IfNone, IfOk, IfSome};
 ghost use Rattle.tt_core.specs.Bits.{bit};
 ghost use Rattle.tt_core.specs.Limits.{height_limit};
-ghost use Rattle.tt_scan.specs.Bounds.{AreBounds};
-ghost use Rattle.tt_scan.specs.Crossing.{has_row, spans};
+ghost use Rattle.tt_scan_edges.specs.Bounds.{AreBounds};
+ghost use Rattle.tt_scan_edges.specs.Crossing.{has_row, spans};
 ghost use Rattle.tt_scan.specs.EdgeList.{heights_of};
-ghost use Rattle.tt_scan.specs.Winding.{FrameFits, column_x, is_black};
+ghost use Rattle.tt_scan_edges.specs.Winding.{FrameFits, column_x, is_black};
 ghost use Rattle.tt_scan_rows.specs.Raster.{IsRasterOf, line_y, lines_in, shows, shows_from, spans_at};
 ghost use Rattle.tt_scan_rows.specs.Rows.{row_at, spans_in};
 ghost use Rattle.tt_scan_rows.specs.Cut.{IfEdges, IfRaster, IsLarge};

@@ -2,9 +2,9 @@
 
 ghost use Rattle.std.specs.Prelude.{◌≡◌, ℕ, ◌+◌, ◌*◌, ◌^◌, ◌<◌, ◌≤◌, ◌&&◌, ◌||◌, nat_lt, [], ◌∷◌, ◌++◌, length, slice_range, IfNone, IfOk, IfSome, OnErr, OnOk};
 ghost use Rattle.tt_core.specs.Bits.{bit};
-ghost use Rattle.tt_scan.specs.Bounds.{AreBounds};
-ghost use Rattle.tt_scan.specs.Marks.{covers_from};
-ghost use Rattle.tt_scan.specs.Winding.{crossings_of};
+ghost use Rattle.tt_scan_edges.specs.Bounds.{AreBounds};
+ghost use Rattle.tt_scan_edges.specs.Marks.{covers_from};
+ghost use Rattle.tt_scan_edges.specs.Winding.{crossings_of};
 ghost use Rattle.tt_scan_rows.specs.Rows.{AreRowsOf, row_at, spans_in};
 
 use std::alloc::{AllocError, Global};

@@ -5,7 +5,7 @@ use Rattle.std.proofs.Math.Nat.{div-lt_iff_lt-mul, mul_comm}
 use Rattle.std.specs.List.{range_with_len}
 use Rattle.tt_core.specs.Bits.{stride}
 use Rattle.tt_pbm.specs.P4.{columns, shows, byte_at, rows, p4_header_of}
-use Rattle.tt_scan.specs.declared.edge.Frame.{Frame}
+use Rattle.tt_scan_edges.specs.declared.edge.Frame.{Frame}
 use Rattle.tt_scan_dropouts.specs.Pictures.{is_among}
 use Rattle.tt_scan_dropouts.specs.declared.picture.Dropout.{Dropout}
 use Rattle.tt_strike.specs.Glyphs.{Glyph, Stand, all_rows, shows_by, stamps_in}

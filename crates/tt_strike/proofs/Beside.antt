@@ -2,8 +2,8 @@
 use Rattle.std.proofs.Common.{◌≡◌, refl, ℕ, ◌+◌, Bool, true, false, ◌||◌, ℤ, pos, ◌+ℤ◌, ◌-ℤ◌, ◌*ℤ◌, List, [], ◌∷◌, ◌++◌, None, arith}
 use Rattle.std.proofs.lemmas.Int.{ints}
 use Rattle.std.proofs.lemmas.List.Elements.{All-head, All-tail}
-use Rattle.tt_scan.specs.declared.edge.Frame.{Frame}
-use Rattle.tt_scan.specs.Winding.{is_black, column_x, row_y}
+use Rattle.tt_scan_edges.specs.declared.edge.Frame.{Frame}
+use Rattle.tt_scan_edges.specs.Winding.{is_black, column_x, row_y}
 use Rattle.tt_scan_dropouts.specs.Pictures.{column_at, line_at}
 use Rattle.tt_strike.specs.Laws.{MarginMoves, GlyphsByThemselves, AreUnfilled, UnfilledAreEdges}
 use Rattle.tt_strike.specs.Pixels.{Shape, is_filled, some_black, some_filled}

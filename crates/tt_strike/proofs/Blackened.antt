@@ -1,6 +1,6 @@
 -- A row with the glyphs so far, and with one glyph more.
 use Rattle.std.proofs.Common.{◌≡◌, ℕ, zero, suc, ◌+◌, ◌<◌, Bool, true, false, ◌&&◌, ◌||◌, List, [], ◌∷◌, length, take, get_or, refl, arith}
-use Rattle.tt_scan.specs.declared.edge.Frame.{Frame}
+use Rattle.tt_scan_edges.specs.declared.edge.Frame.{Frame}
 use Rattle.tt_strike.specs.Pixels.{Stamp, is_black_from, is_black_by}
 
 pub or_false : (b : Bool) → (b || false) ≡ b

@@ -5,8 +5,8 @@ use Rattle.tt_arc.proofs.Closed.{all_closed}
 use Rattle.tt_core.specs.Limits.{width_limit}
 use Rattle.tt_fit.specs.Fitting.{Fitter}
 use Rattle.tt_scan.specs.Contours.{IsClosed, contours_at}
-use Rattle.tt_scan.specs.declared.edge.Edge.{Edge}
-use Rattle.tt_scan.specs.declared.edge.Frame.{Frame}
+use Rattle.tt_scan_edges.specs.declared.edge.Edge.{Edge}
+use Rattle.tt_scan_edges.specs.declared.edge.Frame.{Frame}
 use Rattle.tt_scan_dropouts.specs.Pictures.{is_dropout_from}
 use Rattle.tt_scan_dropouts.specs.declared.mark.Rules.{Rules}
 use Rattle.tt_strike.specs.Glyphs.{Body, tape, raster, BodyFits, IsTape, edges_of, left_of, AreDrawn, AreWithin, CanBeFilled, Glyph, IsDrawn}

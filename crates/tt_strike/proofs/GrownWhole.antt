@@ -8,7 +8,7 @@ use Rattle.tt_core.specs.Limits.{height_limit, width_limit}
 use Rattle.tt_core.specs.Outcomes.{each}
 use Rattle.tt_fit.specs.Fitting.{Fitter}
 use Rattle.tt_line.specs.Layout.{Placement}
-use Rattle.tt_scan.specs.declared.edge.Frame.{Frame}
+use Rattle.tt_scan_edges.specs.declared.edge.Frame.{Frame}
 use Rattle.tt_scan_ink.specs.Least.{IsInk}
 use Rattle.tt_strike.specs.Work.{line_fitter}
 use Rattle.tt_strike.specs.Grown.{before, grown, grown_line, grown_placement, lacking, not_large, past, with_sides}

@@ -8,7 +8,7 @@ use Rattle.tt_fit.specs.Fitting.{Fitter, charged_fitter, fitted_outline, unfitte
 use Rattle.tt_fit.specs.Laws.{UnboundedStays}
 use Rattle.tt_fit.specs.Outline.{Outline}
 use Rattle.tt_fit.specs.declared.programs.Fit.{Fit}
-use Rattle.tt_scan.specs.declared.edge.Edge.{Edge}
+use Rattle.tt_scan_edges.specs.declared.edge.Edge.{Edge}
 use Rattle.tt_scan_dropouts.specs.declared.mark.Rules.{Rules}
 use Rattle.tt_scan_rows.specs.Raster.{IsRasterOf, Raster}
 use Rattle.tt_strike.specs.Distinct.{fitter_after}

@@ -10,7 +10,7 @@ use Rattle.tt_core.specs.Chains.{came-through}
 use Rattle.tt_fit.specs.Laws.{OthersNeverFallBack, OthersAreUnbounded, UnboundedStays}
 use Rattle.tt_fit.specs.Rules.{falls_back}
 use Rattle.tt_line.specs.Layout.{Placement, placement}
-use Rattle.tt_scan.specs.declared.edge.Frame.{Frame}
+use Rattle.tt_scan_edges.specs.declared.edge.Frame.{Frame}
 use Rattle.tt_strike.specs.Job.{Job}
 use Rattle.tt_strike.specs.Tables.{Face, face_of, programs_in, glyphs_in}
 use Rattle.tt_strike.specs.Laws.{OthersListNothing}

@@ -2,11 +2,11 @@
 use Rattle.std.proofs.Common.{◌≡◌, ℕ, ◌^◌, ◌<◌, ◌≤◌, Bool, true, false, ◌&&◌, ◌||◌, nat_lt, List, [], ◌∷◌, length, ℤ, pos, ◌-ℤ◌, ◌<ℤ◌, if◌then◌else◌, refl, arith}
 use Rattle.std.proofs.lemmas.Bool.Decides.{nat_tests}
 use Rattle.std.proofs.lemmas.Int.{ints}
-use Rattle.tt_scan.specs.declared.edge.Edge.{Edge}
-use Rattle.tt_scan.specs.declared.edge.Frame.{Frame}
-use Rattle.tt_scan.specs.declared.mark.Span.{Span}
-use Rattle.tt_scan.specs.Marks.{covers, covers_from}
-use Rattle.tt_scan.specs.Winding.{is_black, column_x, row_y, rows_met, is_between}
+use Rattle.tt_scan_edges.specs.declared.edge.Edge.{Edge}
+use Rattle.tt_scan_edges.specs.declared.edge.Frame.{Frame}
+use Rattle.tt_scan_edges.specs.declared.mark.Span.{Span}
+use Rattle.tt_scan_edges.specs.Marks.{covers, covers_from}
+use Rattle.tt_scan_edges.specs.Winding.{is_black, column_x, row_y, rows_met, is_between}
 use Rattle.tt_scan_dropouts.specs.Pictures.{line_at}
 use Rattle.tt_scan_rows.specs.Raster.{Raster, shows_from}
 use Rattle.tt_strike.specs.Pixels as pixels

@@ -4,9 +4,9 @@ use Rattle.std.specs.List.{range_with_len}
 use Rattle.std.specs.Prelude.{All}
 use Rattle.std.proofs.lemmas.List.Elements.{All-head, All-tail}
 use Rattle.std.proofs.lemmas.List.Sums.{sum_by-cons}
-use Rattle.tt_scan.specs.Winding.{row_y, rows_met}
-use Rattle.tt_scan.specs.declared.edge.Edge.{Edge}
-use Rattle.tt_scan.specs.declared.edge.Frame.{Frame}
+use Rattle.tt_scan_edges.specs.Winding.{row_y, rows_met}
+use Rattle.tt_scan_edges.specs.declared.edge.Edge.{Edge}
+use Rattle.tt_scan_edges.specs.declared.edge.Frame.{Frame}
 use Rattle.tt_strike.specs.Glyphs.{Body, tape, raster, BodyFits, Glyph, GlyphFits, body_crosses, crosses_in, drawn_of, edges_cut}
 use Rattle.tt_strike.specs.Pictures.{rows_crossings}
 use Rattle.tt_strike.specs.Pixels.{crossings_up_to, cut_from}

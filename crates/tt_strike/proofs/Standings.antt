@@ -11,11 +11,11 @@ use Rattle.tt_core.specs.Limits.{margin_limit, width_limit}
 use Rattle.tt_arc.specs.Chords.{chord_contours, chord_edges}
 use Rattle.tt_fit.specs.Fitting.{Fitter, fitted_outline}
 use Rattle.tt_fit.specs.Outline.{Outline}
-use Rattle.tt_scan.specs.declared.edge.Edge.{Edge}
-use Rattle.tt_scan.specs.declared.edge.Frame.{Frame}
+use Rattle.tt_scan_edges.specs.declared.edge.Edge.{Edge}
+use Rattle.tt_scan_edges.specs.declared.edge.Frame.{Frame}
 use Rattle.tt_scan.specs.Contours.{contours_at}
 use Rattle.tt_scan.proofs.Moved.{black_in_columns}
-use Rattle.tt_scan.specs.Winding.{is_black, column_x, row_y, moved_edges}
+use Rattle.tt_scan_edges.specs.Winding.{is_black, column_x, row_y, moved_edges}
 use Rattle.tt_scan_dropouts.specs.Counted.{edges_counted}
 use Rattle.tt_scan_dropouts.specs.Dropouts.{is_dropout}
 use Rattle.tt_scan_dropouts.specs.Laws.{moved, outline_moved}

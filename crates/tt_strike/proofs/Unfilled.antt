@@ -11,8 +11,8 @@ use Rattle.tt_fit.specs.Outline.{Outline}
 use Rattle.tt_fit.specs.declared.programs.Fit.TheVariants as fit
 use Rattle.tt_line.specs.Layout.{Placement, placement}
 use Rattle.tt_pbm.specs.P4.{p4_header_of}
-use Rattle.tt_scan.specs.declared.edge.Frame.{Frame}
-use Rattle.tt_scan.specs.Winding.{column_x, row_y}
+use Rattle.tt_scan_edges.specs.declared.edge.Frame.{Frame}
+use Rattle.tt_scan_edges.specs.Winding.{column_x, row_y}
 use Rattle.tt_strike.specs.Distinct.{distinct, fitter_for}
 use Rattle.tt_strike.specs.Job.{Job}
 use Rattle.tt_strike.specs.Laws.{AreUnfilled, OthersFillNone, IsByEdges, OthersDrawByEdges, edges_picture}

@@ -5,8 +5,8 @@ use Rattle.std.specs.Int.{int_max, int_min}
 use Rattle.tt_core.specs.Faults.{Fault}
 use Rattle.tt_fit.specs.Fitting.{Fitter, fitted_outline}
 use Rattle.tt_fit.specs.Outline.{Outline}
-use Rattle.tt_scan.specs.declared.edge.Edge.{Edge}
-use Rattle.tt_scan.specs.declared.edge.Frame.{Frame}
+use Rattle.tt_scan_edges.specs.declared.edge.Edge.{Edge}
+use Rattle.tt_scan_edges.specs.declared.edge.Frame.{Frame}
 use Rattle.tt_scan_dropouts.specs.declared.mark.Rules.{Rules}
 use Rattle.tt_scan_ink.specs.Ink as ink
 use Rattle.tt_scan_ink.specs.Ink.{dropouts_ink, edges_ink}

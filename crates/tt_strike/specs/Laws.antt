@@ -10,9 +10,9 @@ use Rattle.tt_fit.specs.Fitting.{Fitter}
 use Rattle.tt_fit.specs.Rules.{falls_back}
 use Rattle.tt_line.specs.Layout.{Placement, placement}
 use Rattle.tt_pbm.specs.P4.{p4}
-use Rattle.tt_scan.specs.declared.edge.Edge.{Edge}
-use Rattle.tt_scan.specs.declared.edge.Frame.{Frame}
-use Rattle.tt_scan.specs.Winding.{column_x, row_y}
+use Rattle.tt_scan_edges.specs.declared.edge.Edge.{Edge}
+use Rattle.tt_scan_edges.specs.declared.edge.Frame.{Frame}
+use Rattle.tt_scan_edges.specs.Winding.{column_x, row_y}
 use Rattle.tt_scan_dropouts.specs.declared.mark.Rules.{Rules}
 use Rattle.tt_strike.specs.Job.{Job}
 use Rattle.tt_strike.specs.declared.report.Unfitted.{Unfitted}

@@ -5,7 +5,7 @@ use Rattle.tt_core.specs.Outcomes.{◌>>=◌}
 use Rattle.tt_fit.specs.Fitting.{Fitter}
 use Rattle.tt_line.specs.Layout.{Placement, advance_in_pixels}
 use Rattle.tt_metrics.specs.Metrics.{Metrics}
-use Rattle.tt_scan.specs.declared.edge.Frame.{Frame}
+use Rattle.tt_scan_edges.specs.declared.edge.Frame.{Frame}
 use Rattle.tt_scan_ink.specs.declared.ink.GlyphInk.{GlyphInk}
 use Rattle.tt_strike.specs.Ink.{all_joined, glyph_ink, ink_at}
 use Rattle.tt_strike.specs.Job.{Job}

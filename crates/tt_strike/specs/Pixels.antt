@@ -2,10 +2,10 @@
 -- itself. One glyph's winding does not count for another. The dropouts of each glyph, by its own rules, are added where
 -- they are filled.
 use Rattle.std.specs.Prelude.{◌≡◌, ℕ, ◌≤◌, ◌^◌, Bool, false, ◌||◌, ℤ, pos, ◌-ℤ◌, List, [], ◌∷◌, length, Option, Some, None}
-use Rattle.tt_scan.specs.declared.edge.Edge.{Edge}
-use Rattle.tt_scan.specs.declared.edge.Frame.{Frame}
+use Rattle.tt_scan_edges.specs.declared.edge.Edge.{Edge}
+use Rattle.tt_scan_edges.specs.declared.edge.Frame.{Frame}
 use Rattle.tt_scan.specs.Tape.{Tape}
-use Rattle.tt_scan.specs.Winding.{is_black, column_x, row_y, crossings_of}
+use Rattle.tt_scan_edges.specs.Winding.{is_black, column_x, row_y, crossings_of}
 use Rattle.tt_scan_dropouts.specs.Dropouts.{is_dropout}
 use Rattle.tt_scan_dropouts.specs.Pictures.{column_at, line_at}
 use Rattle.tt_scan_dropouts.specs.declared.mark.Rules.{Rules}

@@ -9,7 +9,7 @@ use Rattle.tt_fit.specs.Fitting.{Fitter, charged_fitter}
 use Rattle.tt_strike.specs.Distinct.{distinct, each_fitter, fitter_after}
 use Rattle.tt_fit.specs.declared.programs.Fit.{Fit}
 use Rattle.tt_fit.specs.declared.programs.Fit.TheVariants as fit
-use Rattle.tt_scan.specs.declared.edge.Edge.{Edge}
+use Rattle.tt_scan_edges.specs.declared.edge.Edge.{Edge}
 use Rattle.tt_scan_dropouts.specs.Counted.{edges_counted, filling_counted}
 use Rattle.tt_scan_dropouts.specs.declared.mark.Rules.{Rules}
 use Rattle.tt_strike.specs.Pixels.{Shape}

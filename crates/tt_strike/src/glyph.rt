@@ -7,7 +7,7 @@ ghost use Rattle.tt_core.specs.Outcomes.{IfTold, font_fault};
 ghost use Rattle.tt_fit.specs.Fitting.{Fitter, fitted_outline, after_glyph};
 ghost use Rattle.tt_fit.specs.Outline.{IsOutline, outline_of};
 ghost use Rattle.tt_scan.specs.Contours.{AreEnds, contours_at};
-ghost use Rattle.tt_scan.specs.Winding.{FrameFits};
+ghost use Rattle.tt_scan_edges.specs.Winding.{FrameFits};
 ghost use Rattle.tt_scan_rows.specs.Raster.{IsRasterOf, Raster};
 ghost use Rattle.tt_strike.specs.Glyphs.{BodyFits, IsBodyOf, IsDrawn, IsTape, edges_of, glyph_crossings, left_of, pen_crossings};
 ghost use Rattle.tt_strike.specs.Kept.{AreKeptFor, IsKept};

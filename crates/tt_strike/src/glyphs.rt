@@ -4,9 +4,9 @@ ghost use Rattle.std.specs.Prelude.{◌≡◌, ◌≢◌, true, false, None, ℕ
 ghost use Rattle.tt_core.specs.Limits.{text_limit, width_limit};
 ghost use Rattle.tt_core.specs.Outcomes.{IfTold, each, font_fault};
 ghost use Rattle.tt_fit.specs.Fitting.{Fitter, fitted_outline};
-ghost use Rattle.tt_scan.specs.declared.edge.Frame.{Frame};
-ghost use Rattle.tt_scan.specs.Winding.{FrameFits};
-ghost use Rattle.tt_scan.specs.Winding.{is_black, column_x, row_y};
+ghost use Rattle.tt_scan_edges.specs.declared.edge.Frame.{Frame};
+ghost use Rattle.tt_scan_edges.specs.Winding.{FrameFits};
+ghost use Rattle.tt_scan_edges.specs.Winding.{is_black, column_x, row_y};
 ghost use Rattle.tt_strike.specs.Distinct.{IsNext, distinct, each_fitter, fitter_after, fitter_past, is_among, with_glyph};
 ghost use Rattle.tt_strike.specs.Glyphs.{AreDrawn, AreKept, AreWithin, Adds, ArePlaces, Stand, crossings_standing, edges_of, numbers_of, stamps_in};
 ghost use Rattle.tt_strike.specs.Kept.{AreKeptFor};

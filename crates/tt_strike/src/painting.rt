@@ -3,7 +3,7 @@
 ghost use Rattle.std.specs.Prelude.{◌≡◌, ℕ, ℤ, ◌+◌, ◌*◌, ◌<◌, ◌≤◌, ◌&&◌, ◌||◌, false, nat_lt, pos, length};
 ghost use Rattle.tt_core.specs.Bits.{bit};
 ghost use Rattle.tt_core.specs.Limits.{height_limit};
-ghost use Rattle.tt_scan.specs.Winding.{is_black, column_x, row_y, rows_met};
+ghost use Rattle.tt_scan_edges.specs.Winding.{is_black, column_x, row_y, rows_met};
 ghost use Rattle.tt_scan_dropouts.specs.Pictures.{line_at};
 ghost use Rattle.tt_strike.specs.Glyphs.{GlyphFits, body_crosses, drawn_of, stamp_of};
 ghost use Rattle.tt_strike.specs.Pixels.{TapeFits, edges, is_black_from};

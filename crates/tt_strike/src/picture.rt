@@ -3,7 +3,7 @@
 ghost use Rattle.std.specs.Prelude.{◌≡◌, ◌+ℤ◌, ◌+◌, ◌-◌, ◌^◌, ◌<◌, ◌≤◌, min, pos, length, All, IfOk};
 ghost use Rattle.tt_core.specs.Bits.{stride};
 ghost use Rattle.tt_core.specs.Limits.{width_limit, height_limit};
-ghost use Rattle.tt_scan.specs.Winding.{FrameFits};
+ghost use Rattle.tt_scan_edges.specs.Winding.{FrameFits};
 ghost use Rattle.tt_scan_dropouts.specs.Pictures.{AreDropouts};
 ghost use Rattle.tt_strike.specs.Glyphs.{BodyFits, all_rows, edges_cut};
 ghost use Rattle.tt_strike.specs.Pictures.{IsReady, all_crossings, crossings_made, row_at};
@@ -34,7 +34,7 @@ pub struct Picture {
 impl Model for Picture {
     ghost use Rattle.std.specs.Prelude.{◌≤◌, All};
     ghost use Rattle.tt_core.specs.Limits.{height_limit};
-    ghost use Rattle.tt_scan.specs.Winding.{FrameFits};
+    ghost use Rattle.tt_scan_edges.specs.Winding.{FrameFits};
     ghost use Rattle.tt_scan_dropouts.specs.Pictures.{AreDropouts};
     ghost use Rattle.tt_strike.specs.Glyphs.{GlyphFits, all_rows, edges_cut};
     ghost use Rattle.tt_strike.specs.Pictures as pictures;

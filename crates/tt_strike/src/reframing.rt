@@ -2,8 +2,8 @@
 
 ghost use Rattle.std.specs.Prelude.{◌≡◌, ◌≤◌, ◌^◌, ℕ, false, [], length, All, IfOk};
 ghost use Rattle.tt_fit.specs.Fitting.{Fitter};
-ghost use Rattle.tt_scan.specs.declared.edge.Frame.{Frame};
-ghost use Rattle.tt_scan.specs.Winding.{FrameFits};
+ghost use Rattle.tt_scan_edges.specs.declared.edge.Frame.{Frame};
+ghost use Rattle.tt_scan_edges.specs.Winding.{FrameFits};
 ghost use Rattle.tt_strike.specs.Glyphs.{AreDrawn, IsDrawn, edges_of, numbers_of};
 ghost use Rattle.tt_strike.specs.Views.{body_view};
 

@@ -7,7 +7,7 @@
 
 ghost use Rattle.std.specs.Prelude.{◌≡◌, ◌<◌, length, All, IfOk, IfSome};
 ghost use Rattle.tt_fit.specs.Outline.{AreEnds, IsPoint};
-ghost use Rattle.tt_scan.specs.Winding.{FrameFits};
+ghost use Rattle.tt_scan_edges.specs.Winding.{FrameFits};
 
 use crate::pictures::{frame_in, put_picture};
 use crate::tables::{note_glyph, programs_of, put_fault, tables_of};

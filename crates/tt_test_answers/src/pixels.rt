@@ -10,7 +10,7 @@
 //! Where memory is refused for an edge, a note on standard error says so, and the edge is put on the tape again.
 
 ghost use Rattle.std.specs.Prelude.{◌≡◌, ◌≤ℤ◌, ◌<ℤ◌, ◌<◌, ◌^◌, pos, length};
-ghost use Rattle.tt_scan.specs.Winding.{EdgeFits, FrameFits};
+ghost use Rattle.tt_scan_edges.specs.Winding.{EdgeFits, FrameFits};
 
 use crate::pictures::{MOST_CROSSES, frame_in, put_picture};
 use std::alloc::Global;

@@ -1,18 +1,27 @@
 use Rattle.std.proofs.Common.{SFits, w64, w8, rules}
 use Rattle.std.proofs.lemmas.Int.{to_z-of_z}
-use Rattle.tt_scan.specs.Crossing.{IsCross}
-use Rattle.tt_scan.specs.Tape.{edge_at}
+use Rattle.tt_scan_edges.specs.Crossing.{IsCross}
+use Rattle.tt_scan_edges.specs.Entries.{edge_of}
+use Rattle.tt_scan_edges.proofs.Crossed.{left_by_cross}
 use Rattle.tt_scan.proofs.collect.visit_below.Goals as goal
 
-crossed : (c : goal.After-leave_mark) → IsCross (edge_at c.args.edges.now.edges c.args.walk.now.entry.edge) c.args.margin c.args.y c.cross_below-cross.result
-crossed c = let y : SFits w64 c.args.y = c.ranges.y in simp to_z-of_z at c.cross_below-cross.ensures.exact
+pub cross_below-cross-requires-clause-margin : goal.cross_below-cross-requires-clause-margin
+cross_below-cross-requires-clause-margin c = c.args.at.fits.margin
 
-pub returns-clause-black : goal.returns-clause-black
-returns-clause-black c = λ at. let exact = crossed c in rw (exact.touch at) (c.leave_touch.ensures.black at)
+pub cross_below-cross-requires-clause-below : goal.cross_below-cross-requires-clause-below
+cross_below-cross-requires-clause-below c =
+    let y : SFits w64 c.args.at.y = search rules in
+    simp to_z-of_z c.requires.below
 
-pub returns-clause-turns : goal.returns-clause-turns
-returns-clause-turns c = λ at.
+pub returns-clause-left : goal.returns-clause-left
+returns-clause-left c =
+    let y : SFits w64 c.args.at.y = search rules in
     let turn : SFits w8 c.cross_below-cross.result.turn = search rules in
     let first : SFits w64 c.cross_below-cross.result.first = search rules in
-    let exact = crossed c in
-    rw (exact.right at) (c.leave_mark.ensures.turns at)
+    let exact : IsCross (edge_of c.args.edges.now.edges c.args.walk.now.entry) c.args.at.frame.margin c.args.at.y c.cross_below-cross.result = simp to_z-of_z at c.cross_below-cross.ensures.exact in
+    left_by_cross _ _ _ c.cross_below-cross.result c.args.left.now c.leave_last.new.self exact c.leave_last.ensures.black c.leave_last.ensures.turns c.leave_last.ensures.most c.leave_last.ensures.room
+
+pub returns-clause-walk : goal.returns-clause-walk
+returns-clause-walk c =
+    let y : SFits w64 c.args.at.y = search rules in
+    simp to_z-of_z at c.cross_below-cross.ensures.walk

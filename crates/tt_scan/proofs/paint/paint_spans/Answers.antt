@@ -1,7 +1,7 @@
 use Rattle.std.proofs.Common.{◌≡◌, ◌+ℤ◌, ◌-ℤ◌, nat_lt, pos, SFits, w64, rules, arith}
 use Rattle.std.proofs.lemmas.Int.{ints, to_z-of_z}
 use Rattle.tt_core.specs.Bits.{bit}
-use Rattle.tt_scan.proofs.Visits.{span_more}
+use Rattle.tt_scan_edges.proofs.Visits.{span_more}
 use Rattle.tt_scan.proofs.paint.paint_spans.Goals as goal
 
 pub loop-i-preserved : goal.loop-i-preserved

@@ -1,6 +1,6 @@
 use Rattle.std.proofs.Common.{◌≡◌, ℕ, ◌-ℤ◌, ◌&&◌, ◌||◌, nat_lt, length, drop, pos}
 use Rattle.tt_core.specs.Bits.{bit}
-use Rattle.tt_scan.specs.Marks.{covers}
+use Rattle.tt_scan_edges.specs.Marks.{covers}
 use Rattle.tt_scan.proofs.paint.paint_spans.Given as goal
 
 -- the black columns so far and the remaining spans are all spans

@@ -1,6 +1,6 @@
 use Rattle.std.proofs.Common.{◌≡◌, ℕ, ◌||◌, ◌&&◌, nat_lt, length, take}
 use Rattle.tt_core.specs.Bits.{bit}
-use Rattle.tt_scan.specs.Marks.{covers_from}
+use Rattle.tt_scan_edges.specs.Marks.{covers_from}
 use Rattle.tt_scan.proofs.paint.paint_spans_at.Given as goal
 
 -- the pens so far are done

@@ -2,10 +2,10 @@ use Rattle.std.proofs.Common.{◌≡◌, ◌∙◌, ap, ◌||◌, ◌-ℤ◌, �
 use Rattle.std.proofs.lemmas.Int.{ints, to_z-of_z}
 use Rattle.tt_core.specs.Bits.{bit}
 use Rattle.tt_core.specs.Limits.{width_limit}
-use Rattle.tt_scan.specs.Marks.{covers}
+use Rattle.tt_scan_edges.specs.Marks.{covers}
 use Rattle.tt_scan.specs.Tape.{centre_x, centre_y}
-use Rattle.tt_scan.specs.Winding.{is_black}
-use Rattle.tt_scan.proofs.Visits.{within_width}
+use Rattle.tt_scan_edges.specs.Winding.{is_black}
+use Rattle.tt_scan_edges.proofs.Visits.{within_width}
 use Rattle.tt_scan.proofs.row.row_into.Goals as goal
 
 pub returns-clause-bits : goal.returns-clause-bits

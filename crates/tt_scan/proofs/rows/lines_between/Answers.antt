@@ -1,6 +1,6 @@
 use Rattle.std.proofs.Common.{◌∙◌, ◌+ℤ◌, pos, SFits, w32, rules, arith}
 use Rattle.std.proofs.lemmas.Int.{ints, to_z-of_z}
-use Rattle.tt_scan.proofs.Ranges.{pixels_in, none_between}
+use Rattle.tt_scan_edges.proofs.Ranges.{pixels_in, none_between}
 use Rattle.tt_scan.proofs.rows.lines_between.Goals as goal
 
 pub returns-then-first-last-clause-exact : goal.returns-then-first-last-clause-exact

@@ -1,6 +1,6 @@
 use Rattle.std.proofs.Common.{◌∙◌, sym, ◌+ℤ◌, ◌-ℤ◌, ◌*ℤ◌, pos, SFits, w32, rules, arith}
 use Rattle.std.proofs.lemmas.Int.{ints, clamps, to_z-of_z}
-use Rattle.tt_scan.proofs.Ranges.{between_from}
+use Rattle.tt_scan_edges.proofs.Ranges.{between_from}
 use Rattle.tt_scan.proofs.rows.lines_met.Goals as goal
 
 pub returns-clause-exact : goal.returns-clause-exact

@@ -1,6 +1,6 @@
 use Rattle.std.proofs.Common.{◌≡◌, pos, to_z, ◌∙◌, sym, ◌-ℤ◌, SFits, w32, rules, arith}
 use Rattle.std.proofs.lemmas.Int.{ints, to_z-of_z}
-use Rattle.tt_scan.proofs.Ranges.{downwards}
+use Rattle.tt_scan_edges.proofs.Ranges.{downwards}
 use Rattle.tt_scan.proofs.rows.row_range.Goals as goal
 
 pub returns-in-Some : goal.returns-in-Some

@@ -1,6 +1,6 @@
 use Rattle.std.proofs.Common.{◌+ℤ◌, pos, SFits, w32, rules, arith}
 use Rattle.std.proofs.lemmas.Int.{ints, to_z-of_z}
-use Rattle.tt_scan.proofs.Ranges.{clipped}
+use Rattle.tt_scan_edges.proofs.Ranges.{clipped}
 use Rattle.tt_scan.proofs.rows.within.Goals as goal
 
 pub returns-clause-met : goal.returns-clause-met

@@ -1,6 +1,6 @@
 use Rattle.std.proofs.Common.{◌≡◌, ℕ, ℤ, ◌-◌, ◌^◌, ◌<◌, ◌≤◌, take, unsigned_abs}
 use Rattle.std.specs.Int.{bit_at}
-use Rattle.tt_scan.specs.Marks.{covers}
+use Rattle.tt_scan_edges.specs.Marks.{covers}
 use Rattle.tt_scan.specs.Stamps.{shows}
 use Rattle.tt_scan.proofs.stamp.stamped.Given as goal
 

@@ -1,7 +1,7 @@
 use Rattle.std.proofs.Common.{◌≡◌, ◌∙◌, ap, refl, Bool, ◌||◌, pos, ◌+ℤ◌, ◌-ℤ◌, SFits, w32, w64, rules, arith}
 use Rattle.std.proofs.lemmas.Int.{ints, to_z-of_z}
 use Rattle.tt_core.specs.Bits.{bit}
-use Rattle.tt_scan.specs.Winding.{FrameFits, row_y}
+use Rattle.tt_scan_edges.specs.Winding.{FrameFits, row_y}
 use Rattle.tt_scan_dropouts.specs.Windows.{first_row}
 use Rattle.tt_scan_dropouts.proofs.Inked.{has_row_of, met_few, row_painted}
 use Rattle.tt_scan_dropouts.proofs.bitmap.paint_row.Goals as goal

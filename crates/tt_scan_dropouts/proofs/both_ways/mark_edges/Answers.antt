@@ -1,5 +1,5 @@
 use Rattle.std.proofs.Common.{refl, sym, subst, pos, map, take, arith}
-use Rattle.tt_scan.specs.declared.edge.Edge.{Edge}
+use Rattle.tt_scan_edges.specs.declared.edge.Edge.{Edge}
 use Rattle.tt_scan_dropouts.specs.BothWays.{AreTold, is_black_seen}
 use Rattle.tt_scan_dropouts.specs.Windows.{seen_by}
 use Rattle.tt_scan_dropouts.specs.declared.window.Over.TheVariants as over

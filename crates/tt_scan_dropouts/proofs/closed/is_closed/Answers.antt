@@ -1,6 +1,6 @@
 use Rattle.std.proofs.Common.{sym, ◌∙◌, pos, get_or, length, ◌-◌, ◌<◌, arith}
 use Rattle.std.proofs.lemmas.Bool.Decides.{nat_tests}
-use Rattle.tt_scan.specs.declared.edge.Edge.{Edge}
+use Rattle.tt_scan_edges.specs.declared.edge.Edge.{Edge}
 use Rattle.tt_scan_dropouts.proofs.Rounds.{closed_by, meets}
 use Rattle.tt_scan_dropouts.proofs.closed.is_closed.Goals as goal
 

@@ -1,6 +1,6 @@
 use Rattle.std.proofs.Common.{◌≡◌, ◌<◌, ◌∙◌, sym, SFits, w32, get_or, length, map, pos, arith, rules}
 use Rattle.std.proofs.lemmas.Int.{ints, to_z-of_z}
-use Rattle.tt_scan.specs.declared.edge.Edge.{Edge}
+use Rattle.tt_scan_edges.specs.declared.edge.Edge.{Edge}
 use Rattle.tt_scan_dropouts.specs.Dropouts.{greatest_x, least_x, turned_round}
 use Rattle.tt_scan_dropouts.proofs.Boxes.{box_from_first, box_turned_from_first}
 use Rattle.tt_scan_dropouts.proofs.columns.box_of.Goals as goal

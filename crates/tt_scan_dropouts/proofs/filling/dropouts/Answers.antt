@@ -1,6 +1,6 @@
 use Rattle.std.proofs.Common.{◌≡◌, refl, ◌&&◌, ℤ, true, false, ap, map, sym, ◌∙◌}
 use Rattle.tt_scan.specs.Contours.{contours_at}
-use Rattle.tt_scan.specs.Winding.{is_black}
+use Rattle.tt_scan_edges.specs.Winding.{is_black}
 use Rattle.tt_scan_dropouts.specs.Crossings.{centre}
 use Rattle.tt_scan_dropouts.specs.Dropouts.{columns_of, turned_round}
 use Rattle.tt_scan_dropouts.specs.Gaps.{has_pixel}

@@ -1,6 +1,6 @@
 use Rattle.std.proofs.Common.{◌≡◌, ◌≤◌, take}
 use Rattle.std.specs.Prelude.{unsigned_abs}
-use Rattle.tt_scan.specs.Winding as is
+use Rattle.tt_scan_edges.specs.Winding as is
 use Rattle.tt_scan_dropouts.proofs.point.winding.Given as goal
 
 -- the winding of the edges so far round the point

@@ -2,7 +2,7 @@ use Rattle.std.proofs.Common.{◌≡◌, ◌∙◌, ap, map, All}
 use Rattle.std.specs.Prelude.{IfSome}
 use Rattle.std.proofs.lemmas.Result.{IfOk-weaker}
 use Rattle.tt_scan.specs.Tape.{Tape}
-use Rattle.tt_scan.specs.Winding.{EdgeFits}
+use Rattle.tt_scan_edges.specs.Winding.{EdgeFits}
 use Rattle.tt_scan_dropouts.specs.Dropouts.{columns_of, turned_round}
 use Rattle.tt_scan_ink.specs.Ink.{count_of, edges_ink, ink_in}
 use Rattle.tt_scan_ink.specs.Least.{IsInk, IsNear, is_inked_by, shown}

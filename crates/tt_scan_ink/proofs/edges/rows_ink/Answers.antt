@@ -1,7 +1,7 @@
 use Rattle.std.proofs.Common.{◌≡◌, ◌∙◌, ap, refl, ◌+◌, ◌<◌, length, ℤ, pos, ◌-ℤ◌, SFits, w64, rules, arith}
 use Rattle.std.proofs.lemmas.Int.{ints, to_z-of_z}
 use Rattle.tt_scan.specs.Tape.{Tape}
-use Rattle.tt_scan.specs.Winding.{FrameFits, row_y, rows_met}
+use Rattle.tt_scan_edges.specs.Winding.{FrameFits, row_y, rows_met}
 use Rattle.tt_scan_ink.specs.Least.{IsInk, covered, is_inked_by, shown}
 use Rattle.tt_scan_ink.proofs.Counts.{met_few, one_row_more}
 use Rattle.tt_scan_ink.proofs.Regions.{rows_more}

@@ -1,7 +1,7 @@
 use Rattle.std.proofs.Common.{◌≡◌, ◌∙◌, ◌<◌, ◌∷◌, [], ◌+◌, ap, get_or, length, take, pos, SFits, w64}
 use Rattle.std.proofs.lemmas.Int.{to_z-of_z}
 use Rattle.std.proofs.lemmas.List.{take_all, take_more}
-use Rattle.tt_scan.specs.declared.mark.Span.{Span}
+use Rattle.tt_scan_edges.specs.declared.mark.Span.{Span}
 use Rattle.tt_scan_ink.specs.Least.{covered}
 use Rattle.tt_scan_ink.proofs.Regions.{no_spans, spans_more}
 use Rattle.tt_scan_ink.proofs.Together.{joined_is}

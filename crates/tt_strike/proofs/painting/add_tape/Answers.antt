@@ -2,7 +2,7 @@ use Rattle.std.proofs.Common.{◌≡◌, ◌∙◌, ◌+◌, ◌^◌, ◌<◌, �
 use Rattle.std.proofs.lemmas.Int.{to_z-of_z}
 use Rattle.tt_core.specs.Bits.{bit}
 use Rattle.tt_scan.specs.Tape.{Tape}
-use Rattle.tt_scan.specs.Winding.{row_y, rows_met}
+use Rattle.tt_scan_edges.specs.Winding.{row_y, rows_met}
 use Rattle.tt_strike.specs.Pixels.{crossings_up_to}
 use Rattle.tt_strike.proofs.RowsNeeded.{crossings_few, row_more, row_unmet}
 use Rattle.tt_strike.proofs.Pens.{none_from, painted_from}

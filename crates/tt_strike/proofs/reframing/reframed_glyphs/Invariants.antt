@@ -2,7 +2,7 @@ use Rattle.std.proofs.Common.{◌≡◌, ◌++◌, ℕ, false, length}
 use Rattle.std.specs.Prelude.{All}
 use Rattle.std.specs.Vec.Iter.{into_iter_items, into_iter_len}
 use Rattle.tt_fit.specs.Fitting.{Fitter}
-use Rattle.tt_scan.specs.declared.edge.Frame.{Frame}
+use Rattle.tt_scan_edges.specs.declared.edge.Frame.{Frame}
 use Rattle.tt_strike.specs.Glyphs.{AreDrawn, numbers_of}
 use Rattle.tt_strike.proofs.Reframed.{IsBare}
 use Rattle.tt_strike.proofs.reframing.reframed_glyphs.Given as goal

@@ -1,6 +1,6 @@
 use Rattle.std.proofs.Common.{◌≡◌, ◌<◌, All, length, take, refl}
 use Rattle.std.proofs.lemmas.List.{take_all, take_more}
-use Rattle.tt_scan.specs.Winding.{EdgeFits}
+use Rattle.tt_scan_edges.specs.Winding.{EdgeFits}
 use Rattle.tt_scan.proofs.Gaps.{nothing}
 use Rattle.tt_scan.proofs.Heights.{blank_outside, heights_more, high_fits, low_fits, ordered}
 use Rattle.tt_scan.proofs.edge_list.EdgeList.heights.Goals as goal

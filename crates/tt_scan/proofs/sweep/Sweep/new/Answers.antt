@@ -2,4 +2,4 @@ use Rattle.std.proofs.Common.{refl}
 use Rattle.tt_scan.proofs.sweep.Sweep.new.Goals as goal
 
 pub returns : goal.returns
-returns c = rw c.in_ok-with_capacity.ensures.items refl
+returns c = rw (c.in_ok-new.ensures.white, c.in_ok-new.ensures.most) refl

@@ -1,17 +1,13 @@
-use Rattle.std.proofs.Common.{◌≡◌, ◌∙◌, refl, SFits, w32, w64, rules, arith}
-use Rattle.std.proofs.lemmas.Int.{ints, to_z-of_z}
-use Rattle.tt_scan.specs.Marks.{turns}
-use Rattle.tt_scan.specs.Winding.{FrameFits, column_x, row_y, winding}
+use Rattle.std.proofs.Common.{◌≡◌, refl, SFits, w64, arith}
+use Rattle.std.proofs.lemmas.Int.{to_z-of_z}
+use Rattle.tt_scan_edges.specs.Left.{IsLeftBy}
+use Rattle.tt_scan_edges.specs.Winding.{row_y}
+use Rattle.tt_scan_edges.proofs.Crossed.{left_settled}
 use Rattle.tt_scan.proofs.Reached.{ready_kept}
-use Rattle.tt_scan.proofs.Stretches.{turns_permuted}
 use Rattle.tt_scan.proofs.tape.Tape.collect.Goals as goal
 
-pub visit-requires-clause-high : goal.visit-requires-clause-high
-visit-requires-clause-high c =
-    let row : SFits w64 c.args.r = c.ranges.r in
-    let frame : FrameFits c.args.self.now.frame = rw (← c.self.view_is) c.self.invariant.0 in
-    let short : SFits w32 c.args.r = omega (arith, ints, frame.height_high, c.requires.row_low, c.requires.row_high) in
-    simp to_z-of_z (rw (← c.self.view_is) at c.requires.row_high)
+pub visit-requires-clause-ready : goal.visit-requires-clause-ready
+visit-requires-clause-ready c = rw c.of-at.ensures.frame c.self.invariant.3
 
 pub invariant_of-self : goal.invariant_of-self
 invariant_of-self c =
@@ -19,28 +15,19 @@ invariant_of-self c =
       c.self.invariant.0,
       c.self.invariant.1,
       c.self.invariant.2,
-      ready_kept c.self.inside.edges.edges c.self.inside.frame c.visit.new.self c.settle.new.self c.visit.ensures.ready
+      ready_kept c.self.inside.edges.edges c.self.inside.frame c.visit.new.self c.settle.new.self (rw c.of-at.ensures.frame at c.visit.ensures.ready)
           (rw c.settle.ensures.entries refl) c.settle.ensures.walks (omega (arith, c.settle.ensures.walk_capacity))
           c.settle.ensures.long c.settle.ensures.begun c.settle.ensures.row c.settle.ensures.sorted,
     )
 
-pub returns-clause-black : goal.returns-clause-black
-returns-clause-black c = λ at.
+pub returns-clause-left : goal.returns-clause-left
+returns-clause-left c =
     let row : SFits w64 c.args.r = c.ranges.r in
-    let frame : FrameFits c.args.self.now.frame = rw (← c.self.view_is) c.self.invariant.0 in
-    let short : SFits w32 c.args.r = omega (arith, ints, frame.height_high, c.requires.row_low, c.requires.row_high) in
-    let height : SFits w64 c.row_height-y.result = search rules in
-    let is_height : c.row_height-y.result ≡ row_y c.self.inside.frame c.args.r = simp to_z-of_z at c.row_height-y.ensures.exact in
-    rw (← c.self.view_is) (rw is_height at (simp to_z-of_z at (c.visit.ensures.black at)))
+    let at_row : c.of-at.result.r ≡ c.args.r = simp to_z-of_z at c.of-at.ensures.row in
+    let height : c.of-at.result.y ≡ row_y c.self.inside.frame c.args.r = rw (c.of-at.ensures.frame, at_row) at c.of-at.result.height in
+    let left : IsLeftBy c.self.inside.edges.edges c.self.inside.frame.margin (row_y c.self.inside.frame c.args.r) c.args.left.now.most c.visit.new.left =
+    rw (height, c.of-at.ensures.frame) at c.visit.ensures.left in
+    rw (← c.self.view_is) (left_settled _ _ _ _ c.visit.new.left c.settle.new.left left c.settle.ensures.permutation c.settle.ensures.rest)
 
-pub returns-clause-turns : goal.returns-clause-turns
-returns-clause-turns c = λ at.
-    let row : SFits w64 c.args.r = c.ranges.r in
-    let frame : FrameFits c.args.self.now.frame = rw (← c.self.view_is) c.self.invariant.0 in
-    let short : SFits w32 c.args.r = omega (arith, ints, frame.height_high, c.requires.row_low, c.requires.row_high) in
-    let height : SFits w64 c.row_height-y.result = search rules in
-    let is_height : c.row_height-y.result ≡ row_y c.self.inside.frame c.args.r = simp to_z-of_z at c.row_height-y.ensures.exact in
-    let visited : turns c.visit.new.marks.items at
-    ≡ winding c.args.self.now.edges (column_x c.args.self.now.frame.margin at) (row_y c.args.self.now.frame c.args.r) =
-    rw (← c.self.view_is) (rw is_height at (simp to_z-of_z at (c.visit.ensures.turns at))) in
-    turns_permuted c.visit.new.marks.items c.settle.new.marks.items at c.settle.ensures.permutation ∙ visited
+pub returns-clause-crosses : goal.returns-clause-crosses
+returns-clause-crosses c = ?

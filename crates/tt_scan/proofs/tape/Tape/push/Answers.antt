@@ -1,6 +1,6 @@
 use Rattle.std.proofs.Common.{◌≡◌, length, ◌++◌, ◌∷◌, [], refl, arith}
 use Rattle.std.proofs.lemmas.List.Elements.{All-push}
-use Rattle.tt_scan.specs.Winding.{EdgeFits}
+use Rattle.tt_scan_edges.specs.Winding.{EdgeFits}
 use Rattle.tt_scan.proofs.Reached.{ready_unsorted}
 use Rattle.tt_scan.proofs.Standing.{entry_pushed}
 use Rattle.tt_scan.proofs.Unmet.{rows_joined}

@@ -1,6 +1,6 @@
 use Rattle.tt_scan.proofs.Unmet.{unmet_blank}
-use Rattle.tt_scan.specs.Crossing.{AreAllRows}
-use Rattle.tt_scan.specs.Winding.{column_x, row_y}
+use Rattle.tt_scan_edges.specs.Crossing.{AreAllRows}
+use Rattle.tt_scan_edges.specs.Winding.{column_x, row_y}
 use Rattle.tt_scan.proofs.tape.Tape.rows.Goals as goal
 
 pub returns-clause-exact : goal.returns-clause-exact

@@ -1,7 +1,7 @@
 use Rattle.std.proofs.Common.{◌<◌, length}
 use Rattle.tt_scan.proofs.tape.Tape.rows_of.Goals as goal
 
-pub rows_of-requires-clause-edge : goal.rows_of-requires-clause-edge
-rows_of-requires-clause-edge c =
+pub row_range-requires-clause-edge : goal.row_range-requires-clause-edge
+row_range-requires-clause-edge c =
     let within : c.args.i < length c.self.inside.edges.edges = rw (← c.self.view_is) at c.requires in
-    c.self.invariant.1 c.args.i _ within
+    rw c.lend.ensures (c.self.invariant.1 c.args.i _ within)

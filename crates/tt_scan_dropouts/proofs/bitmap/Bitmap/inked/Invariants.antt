@@ -1,6 +1,6 @@
 use Rattle.std.proofs.Common.{◌≡◌, ℤ, true, length, ◌*◌, ◌≤◌, ◌&&◌}
 use Rattle.tt_core.specs.Bits.{bit, stride}
-use Rattle.tt_scan.specs.Winding.{is_black}
+use Rattle.tt_scan_edges.specs.Winding.{is_black}
 use Rattle.tt_scan_dropouts.specs.Crossings.{centre}
 use Rattle.tt_scan_dropouts.specs.Windows.{has, has_rows, place}
 use Rattle.tt_scan_dropouts.proofs.Inked.{is_painted}

@@ -1,5 +1,5 @@
 use Rattle.std.proofs.Common.{rules, ◌≡◌, false, subst, ℤ}
-use Rattle.tt_scan.specs.Crossing.{has_row}
+use Rattle.tt_scan_edges.specs.Crossing.{has_row}
 use Rattle.tt_scan_rows.proofs.Lines.{no_row_blank}
 use Rattle.tt_scan_rows.proofs.raster.Raster.lines.Goals as goal
 

@@ -2,8 +2,8 @@ use Rattle.std.proofs.Common.{◌≡◌, ◌∙◌, ap, refl, ◌+◌, ◌-◌, 
 use Rattle.std.proofs.lemmas.Int.{ints, to_z-of_z}
 use Rattle.std.proofs.lemmas.List.{length-append}
 use Rattle.tt_scan.specs.Tape.{Tape}
-use Rattle.tt_scan.specs.Winding.{row_y, rows_met}
-use Rattle.tt_scan.specs.declared.edge.Frame.{Frame}
+use Rattle.tt_scan_edges.specs.Winding.{row_y, rows_met}
+use Rattle.tt_scan_edges.specs.declared.edge.Frame.{Frame}
 use Rattle.tt_scan_rows.specs.Rows.{spans_in}
 use Rattle.tt_scan_rows.proofs.CutRows.{black_more, held_more, met_few, one_row_more, rest_more, row_fits}
 use Rattle.tt_scan_rows.proofs.rows.Rows.cut.Goals as goal

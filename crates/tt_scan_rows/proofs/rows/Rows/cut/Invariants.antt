@@ -1,7 +1,7 @@
 use Rattle.std.proofs.Common.{◌≡◌, ℕ, ℤ, ◌+◌, ◌-◌, ◌*◌, ◌^◌, ◌<◌, ◌≤◌, ◌<ℤ◌, pos, length, sum_by}
 use Rattle.std.specs.List.{range_with_len}
-use Rattle.tt_scan.specs.Marks.{covers}
-use Rattle.tt_scan.specs.Winding.{column_x, crossings_of, is_black, row_y, rows_met}
+use Rattle.tt_scan_edges.specs.Marks.{covers}
+use Rattle.tt_scan_edges.specs.Winding.{column_x, crossings_of, is_black, row_y, rows_met}
 use Rattle.tt_scan_rows.specs.Rows.{row_at, spans_in}
 use Rattle.tt_scan_rows.proofs.rows.Rows.cut.Given as goal
 

@@ -1,7 +1,7 @@
 use Rattle.std.proofs.Common.{◌≡◌, ℕ, false, length, drop, List}
 use Rattle.tt_core.specs.Outcomes.{each, after_each}
 use Rattle.tt_fit.specs.Fitting.{Fitter}
-use Rattle.tt_scan.specs.declared.edge.Frame.{Frame}
+use Rattle.tt_scan_edges.specs.declared.edge.Frame.{Frame}
 use Rattle.tt_strike.specs.Glyphs.{AreDrawn, AreKept, AreWithin, Stand, numbers_of}
 use Rattle.tt_strike.specs.Picture.{glyph_shape}
 use Rattle.tt_strike.specs.Pixels.{Shape}

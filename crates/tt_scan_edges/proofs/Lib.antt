@@ -1,0 +1,14 @@
+pub mod Bools
+pub mod Crossed
+pub mod Crosses
+pub mod Edges
+pub mod Extents
+pub mod Floors
+pub mod Followed
+pub mod Orders
+pub mod Ranges
+pub mod RowOrder
+pub mod Sides
+pub mod Stretches
+pub mod Visits
+pub mod Walks
