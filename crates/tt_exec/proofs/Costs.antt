@@ -1,7 +1,7 @@
 -- The work of a step by its opcode, as in the table.
 use Rattle.std.proofs.Common.{◌≡◌, ◌≢◌, ℕ, zero, suc, ◌+◌, ◌%◌, ◌<◌, ◌==◌, ◌||◌, ◌&&◌, Bool, true, false, if◌then◌else◌, not, List, [], ◌∷◌, length, slice_index_or, refl, sym, ap, ◌∙◌, arith}
 use Rattle.std.proofs.lemmas.Bool.Decides.{nat_tests}
-use Rattle.tt_exec.specs.MachineState.{MachineState}
+use Rattle.tt_exec_step.specs.MachineState.{MachineState}
 use Rattle.tt_exec.specs.Work.{cost_by, gone_over, passed, is_looped, is_counted, is_of_glyph, is_of_flags, is_of_zone, is_push_of_many, moves_one, is_relative, is_of_lines, finds_two, is_of_distance, is_slow, is_push, is_quick, slowness}
 
 abbrev pub costs : List ℕ

@@ -1,13 +1,3 @@
-pub mod Computed
 pub mod Costs
-pub mod Entries
-pub mod Lacking
-pub mod Loosened
-pub mod Single
-pub mod Sizes
-pub mod Slots
-pub mod Steps
 pub mod StepsPaid
-pub mod Tables
-pub mod WithAll
 pub mod WorkPaid

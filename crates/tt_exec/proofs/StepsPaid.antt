@@ -1,24 +1,24 @@
 -- Steps that were paid for, and how a run stops after them.
-use Rattle.std.proofs.Common.{◌≡◌, ◌≢◌, ℕ, zero, suc, ◌+◌, ◌-◌, ◌<◌, ◌≤◌, false, true, inl, Option, Some, None, IfSome, Result, Ok, Err, ◌∙◌, refl, arith}
-use Rattle.tt_core.specs.Faults.{Fault}
+use Rattle.std.proofs.Common.{◌≡◌, ◌≢◌, ℕ, zero, suc, ◌+◌, ◌-◌, ◌<◌, ◌≤◌, false, true, inl, Option, Some, None, IfOk, Result, Ok, Err, sym, ◌∙◌, ap, refl, arith}
+use Rattle.tt_core.specs.Faults.{Fault, fault_at}
 use Rattle.tt_core.specs.Limits.{step_limit}
-use Rattle.tt_core.specs.Outcomes.{font_fault}
-use Rattle.tt_core.specs.declared.font_fault.FontFault.{FontFault}
-use Rattle.tt_core.specs.declared.font_fault.FontFault.TheVariants as font
-use Rattle.tt_exec.specs.declared.outcome.Outcome.{Outcome}
-use Rattle.tt_exec.specs.declared.outcome.Outcome.TheVariants as outcome
-use Rattle.tt_exec.specs.declared.work.Stop.{Stop}
+use Rattle.tt_core.specs.declared.fault.Why.TheVariants as why
+use Rattle.tt_exec_step.specs.declared.outcome.Outcome.{Outcome}
+use Rattle.tt_exec_step.specs.declared.outcome.Outcome.TheVariants as outcome
+use Rattle.tt_exec_step.specs.MachineState.{Code, MachineState}
+use Rattle.tt_exec_step.specs.Outcome.{ComesTo}
+use Rattle.tt_exec_step.specs.Runs.{Leads, Halts, run_outcome}
+use Rattle.tt_exec_step.specs.Step.{step, is_ended}
+use Rattle.tt_exec_step.proofs.Computed.{fault_is}
+use Rattle.tt_exec.specs.declared.fault.ExecFault.{ExecFault}
+use Rattle.tt_exec.specs.declared.fault.ExecFault.TheVariants as exec
 use Rattle.tt_exec.specs.declared.work.WorkFault.{WorkFault}
-use Rattle.tt_exec.specs.declared.work.Stop.TheVariants as stop
-use Rattle.tt_exec.specs.MachineState.{MachineState, Machine}
-use Rattle.tt_exec.specs.Machines.{exec_fault}
-use Rattle.tt_exec.specs.Outcome.{ComesTo, halted}
-use Rattle.tt_exec.specs.Runs.{Leads, Halts, run_outcome}
-use Rattle.tt_exec.specs.Step.{step, is_ended}
+use Rattle.tt_exec.specs.declared.work.WorkFault.TheVariants as work
+use Rattle.tt_exec.specs.Halting.{halted}
+use Rattle.tt_exec.specs.Machines.{Machine, run_from}
 use Rattle.tt_exec.specs.Work.{enough, spent, charged, step_cost, copied, over_at, work_within, run_work}
-use Rattle.tt_exec.specs.Worked.{Paid, StopWorkIs, OutcomeWithin, own_fault, work_fault}
-use Rattle.tt_exec.proofs.Computed.{fault_told}
-use Rattle.tt_exec.proofs.WorkPaid.{StepPays, at_end, none_left, step_made, step_refused, step_spent, run_begun, charged_enough}
+use Rattle.tt_exec.specs.Worked.{Paid, RunsTo, RunsWithin, WorkIs, OutcomeWithin}
+use Rattle.tt_exec.proofs.WorkPaid.{StepPays, at_end, none_left, step_made, step_refused, step_spent, run_begun, run_spent, charged_enough}
 
 -- no payment yet
 pub paid_none : (left : Option ℕ) → Paid 0 left left
@@ -39,7 +39,7 @@ pub paid_more : (n : ℕ) (m : MachineState) (old mid new : Option ℕ) → Paid
     → Paid (n + 1) old new
 paid_more n m old mid new paid pays = paid_one (step_cost m) n (over_at m) old mid new (step_counts m) paid pays
 
-pub paid_copies : (told : Fault) (cost n : ℕ) (old mid new : Option ℕ) → charged told cost old ≡ enough mid
+paid_copies : (told : Fault) (cost n : ℕ) (old mid new : Option ℕ) → charged told cost old ≡ enough mid
     → Paid n mid new → Paid n old new
 paid_copies told cost n None mid new pays paid = let none : mid ≡ None = cc in rw none at paid
 paid_copies told cost n (Some left) mid new pays paid =
@@ -89,8 +89,8 @@ comes_to_fault s m first left rest n fault few open_at comes pays refused =
 
 pub comes_to_refusal : (o : Outcome) (s m t : MachineState) (at : ℕ) (first left rest : Option ℕ) (n : ℕ)
     → n < step_limit → is_ended m ≡ false → Comes s first n m left → StepPays m left (enough rest)
-    → ComesTo (step m) at t o → o ≢ outcome.Done → (told : FontFault) → told ≡ halted t.frame at o
-    → StopWorkIs (work_within step_limit s) first (Err (stop.Run told)) rest
+    → ComesTo (step m) at t o → o ≢ outcome.Done → (told : ExecFault) → told ≡ halted t.frame at o
+    → WorkIs (work_within step_limit s) first (Err (work.Run told)) rest
 comes_to_refusal outcome.Done s m t at first left rest n few open_at comes pays given not_done told is =
     absurd (not_done refl)
 comes_to_refusal (outcome.Refused why) s m t at first left rest n few open_at comes pays given not_done told is =
@@ -111,8 +111,8 @@ halts_at s m n fault few open_at leads refused = record {
 }
 
 pub halts_by : (o : Outcome) (s m t : MachineState) (at n : ℕ) → n < step_limit → is_ended m ≡ false → Leads n s m
-    → ComesTo (step m) at t o → o ≢ outcome.Done → (told : FontFault) → told ≡ halted t.frame at o
-    → IfSome (font_fault told) (Halts s)
+    → ComesTo (step m) at t o → o ≢ outcome.Done → (told : ExecFault) → told ≡ halted t.frame at o
+    → RunsTo s (Err (work.Run told)) t
 halts_by outcome.Done s m t at n few open_at leads given not_done told is = absurd (not_done refl)
 halts_by (outcome.Refused why) s m t at n few open_at leads given not_done told is =
     rw is (halts_at s m n _ few open_at leads given.1)
@@ -120,17 +120,47 @@ halts_by (outcome.SkipRefused why) s m t at n few open_at leads given not_done t
     rw is (halts_at s m n _ few open_at leads given)
 halts_by outcome.NoMemory s m t at n few open_at leads given not_done told is = rw is tt
 
--- a fact about the steps' work is one about the run's, once its copies are paid for
-pub work_of_rest : (m : MachineState) (left rest : Option ℕ) (r : Result ℕ Stop) (new : Option ℕ)
-    → charged (over_at m) (copied m) left ≡ enough rest → StopWorkIs (work_within step_limit m) rest r new
-    → StopWorkIs (run_work m) left r new
-work_of_rest m left rest (Ok n) new pays is = run_begun m left rest pays ∙ is
-work_of_rest m left rest (Err (stop.Run (font.Font fault))) new pays is = run_begun m left rest pays ∙ is
-work_of_rest m left rest (Err (stop.Run font.Memory)) new pays is = tt
-work_of_rest m left rest (Err (stop.Spent fault)) new pays is = (run_begun m left rest pays ∙ is.0, is.1)
+-- the fault of a run is its computed outcome, from an equal state
+pub fault_told : (s m t : MachineState) (e : WorkFault) (new : Machine) → m ≡ s → RunsTo m (Err e) t
+    → OutcomeWithin (run_outcome s) (Err e) new
+fault_told s m t (work.Run (exec.Font f)) new same h = ap run_outcome (sym same) ∙ fault_is m f h
+fault_told s m t (work.Run exec.Memory) new same h = tt
+fault_told s m t (work.Run exec.Failed) new same h = tt
+fault_told s m t (work.Spent f) new same h = tt
 
--- the stop of a run within a machine is its computed outcome, from an equal state
-pub stop_told : (s m : MachineState) (why : Stop) (r : WorkFault) (new : Machine) → m ≡ s → r ≡ work_fault why
-    → IfSome (own_fault why) (Halts m) → OutcomeWithin (run_outcome s) (Err r) new
-stop_told s m (stop.Run fault) r new same told h = rw told (fault_told s m fault (exec_fault fault) new same refl h)
-stop_told s m (stop.Spent fault) r new same told h = rw told tt
+-- a run that has no result on a machine that had not failed, and now has
+pub runs_failed : (p : Code) (old new : Machine) (m t : MachineState) (e : WorkFault) → old.failed ≡ false
+    → new.failed ≡ true → m ≡ run_from p old.state → RunsTo m (Err e) t → RunsWithin p old (Err e) new
+runs_failed p old new m t (work.Run (exec.Font f)) open_at shut same h = (open_at, shut, rw same at h)
+runs_failed p old new m t (work.Run exec.Memory) open_at shut same h = (open_at, shut)
+runs_failed p old new m t (work.Run exec.Failed) open_at shut same h = absurd h
+runs_failed p old new m t (work.Spent f) open_at shut same h = (open_at, shut)
+
+-- a fact about the steps' work is one about the run's, once its copies are paid for
+pub work_of_rest : (p : Code) (old new : Machine) (m : MachineState) (left rest after : Option ℕ)
+    (r : Result ℕ WorkFault) → old.failed ≡ false → RunsWithin p old r new
+    → charged (over_at m) (copied m) left ≡ enough rest → WorkIs (work_within step_limit m) rest r after
+    → WorkIs (run_work m) left r after
+work_of_rest p old new m left rest after (Ok n) open_at runs pays is = run_begun m left rest pays ∙ is
+work_of_rest p old new m left rest after (Err (work.Run (exec.Font f))) open_at runs pays is =
+    run_begun m left rest pays ∙ is
+work_of_rest p old new m left rest after (Err (work.Run exec.Memory)) open_at runs pays is = tt
+work_of_rest p old new m left rest after (Err (work.Run exec.Failed)) open_at runs pays is =
+    let failed = runs.0 in absurd (cc)
+work_of_rest p old new m left rest after (Err (work.Spent f)) open_at runs pays is =
+    (run_begun m left rest pays ∙ is.0, is.1)
+
+pub paid_of_rest : (told : Fault) (cost : ℕ) (old mid new : Option ℕ) (r : Result ℕ WorkFault)
+    → charged told cost old ≡ enough mid → IfOk r (λ n. Paid n mid new) → IfOk r (λ n. Paid n old new)
+paid_of_rest told cost old mid new (Ok n) pays paid = paid_copies told cost n old mid new pays paid
+paid_of_rest told cost old mid new (Err e) pays paid = tt
+
+-- a run whose copies are not paid for halts at the program's first byte
+pub not_begun : (p : Code) (s : MachineState) (left : Option ℕ) (fault : Fault)
+    → fault ≡ fault_at p.table p.base why.StepLimit
+    → ((told : Fault) → charged told (copied s) left ≡ spent told) → run_work (run_from p s) left ≡ spent fault
+not_begun p s left fault is pays =
+    let m = run_from p s in
+    let first : p.base ≡ p.base + 0 = omega arith in
+    let same : fault ≡ over_at m = is ∙ ap (λ (n : ℕ). fault_at p.table n why.StepLimit) first in
+    rw same (run_spent m left (over_at m) (pays (over_at m)))

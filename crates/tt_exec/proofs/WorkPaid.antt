@@ -4,8 +4,8 @@ use Rattle.std.proofs.lemmas.Bool.Decides.{nat_tests}
 use Rattle.tt_core.specs.Faults.{Fault}
 use Rattle.tt_core.specs.Limits.{step_limit}
 use Rattle.tt_core.specs.declared.fault.Why.TheVariants as why
-use Rattle.tt_exec.specs.MachineState.{MachineState}
-use Rattle.tt_exec.specs.Step.{step, is_ended}
+use Rattle.tt_exec_step.specs.MachineState.{MachineState}
+use Rattle.tt_exec_step.specs.Step.{step, is_ended}
 use Rattle.tt_exec.specs.Work.{Worked, enough, spent, then_work, charged, step_cost, copied, over_at, work_after, work_within, run_work}
 
 -- the program's end needs no work

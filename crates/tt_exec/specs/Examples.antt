@@ -11,10 +11,10 @@ use Rattle.tt_state.specs.GraphicsState.{default_state}
 use Rattle.tt_state.specs.declared.tolerance.Tolerance.TheVariants as tolerance
 use Rattle.tt_exec_stack.specs.Stack.{pushed}
 use Rattle.tt_exec.specs.Machines.{fresh, run_from}
-use Rattle.tt_exec.specs.MachineState.{MachineState}
+use Rattle.tt_exec_step.specs.MachineState.{MachineState}
 use Rattle.tt_exec.specs.Parts.{Parts}
-use Rattle.tt_exec.specs.Runs.{run_within}
-use Rattle.tt_exec.specs.Step.{step}
+use Rattle.tt_exec_step.specs.Runs.{run_within}
+use Rattle.tt_exec_step.specs.Step.{step}
 use Rattle.tt_exec.specs.Work.{enough, spent, copied_of, slowness, work_within, run_work}
 
 -- the state after a count of steps

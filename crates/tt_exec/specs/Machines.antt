@@ -1,24 +1,21 @@
 -- Apple TrueType Reference Manual, "Instructing TrueType Glyphs": the runs of a machine, one after another.
-use Rattle.std.specs.Prelude.{◌≡◌, ℕ, Option, Some, None, true, false, if◌then◌else◌, List, [], codes, Result, Ok, Err}
+use Rattle.std.specs.Prelude.{◌≡◌, ℕ, Option, Some, None, Bool, true, false, if◌then◌else◌, List, [], codes, Result, Ok, Err}
 use Rattle.std.specs.Str.{bytes_eq}
 use Rattle.tt_core.specs.Faults.{Fault}
 use Rattle.tt_core.specs.declared.font_fault.FontFault.{FontFault}
 use Rattle.tt_core.specs.declared.font_fault.FontFault.TheVariants as font
 use Rattle.tt_exec.specs.declared.fault.ExecFault.{ExecFault}
 use Rattle.tt_exec.specs.declared.fault.ExecFault.TheVariants as exec
-use Rattle.tt_exec.specs.declared.machine_state.Kind.{Kind}
-use Rattle.tt_exec.specs.declared.machine_state.Kind.TheVariants as kind
-use Rattle.tt_exec.specs.MachineState.{Code, Frame, MachineState, Machine}
+use Rattle.tt_exec_step.specs.declared.machine_state.Kind.{Kind}
+use Rattle.tt_exec_step.specs.declared.machine_state.Kind.TheVariants as kind
+use Rattle.tt_exec_step.specs.MachineState.{Code, MachineState, no_code, start_of, begun}
 use Rattle.tt_exec.specs.Parts.{Parts}
-use Rattle.tt_exec.specs.Runs.{Ends, Halts}
+use Rattle.tt_exec_step.specs.Runs.{Ends, Halts}
 
--- the start of a program
-abbrev pub start_of : Code → Frame
-start_of p = record { code = p; place = 0; start = 0; left = 0 }
-
--- before the first run
-abbrev pub no_code : Code
-no_code = record { table = codes "none"; base = 0; bytes = [] }
+-- a machine's state, and whether a run of it failed
+pub record Machine : Type 0 where
+  pub state : MachineState
+  pub failed : Bool
 
 abbrev pub fresh : Parts → MachineState
 fresh p = record {
@@ -65,10 +62,7 @@ kind_of table =
     if bytes_eq table (codes "fpgm") then kind.Font else (
     if bytes_eq table (codes "prep") then kind.ControlValue else kind.Glyph)
 
--- a run begins at the program's first byte, with an empty stack and no open call; all else is unchanged
-abbrev pub begun : Kind → Code → MachineState → MachineState
-begun k p m = record m { stack = []; frame = start_of p; callers = []; kind = k }
-
+-- a run of a program begins
 abbrev pub run_from : Code → MachineState → MachineState
 run_from p m = begun (kind_of p.table) p m
 

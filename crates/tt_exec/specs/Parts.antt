@@ -5,7 +5,7 @@ use Rattle.tt_state.specs.declared.graphics_state.GraphicsState.{GraphicsState}
 use Rattle.tt_state.specs.declared.tolerance.Tolerance.{Tolerance}
 use Rattle.tt_points_zones.specs.Zones.{ZoneLists, zones_view}
 use Rattle.tt_exec.specs.declared.parts.Parts as declared
-use Rattle.tt_exec.specs.MachineState.{Body}
+use Rattle.tt_exec_step.specs.MachineState.{Body}
 
 pub record Parts : Type 0 where
   pub scale : Scale

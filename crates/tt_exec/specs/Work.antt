@@ -12,9 +12,9 @@ use Rattle.tt_core.specs.declared.fault.Why.TheVariants as why
 use Rattle.tt_code.specs.declared.decoding.Halt.{Halt}
 use Rattle.tt_code.specs.Skips.{if_end, else_end, definition_end}
 use Rattle.tt_exec_stack.specs.Logic.{is_true}
-use Rattle.tt_exec.specs.MachineState.{Body, MachineState, fault_in}
-use Rattle.tt_exec.specs.Numbered.{extent}
-use Rattle.tt_exec.specs.Step.{step, is_ended}
+use Rattle.tt_exec_step.specs.MachineState.{MachineState, fault_in}
+use Rattle.tt_exec_step.specs.Numbered.{table_copies}
+use Rattle.tt_exec_step.specs.Step.{step, is_ended}
 use Rattle.tt_exec.specs.Machines.{fresh}
 use Rattle.tt_exec.specs.Parts.{Parts}
 
@@ -156,10 +156,6 @@ cost_by op m = 1 + (gone_over op m + passed op m)
 
 abbrev pub step_cost : MachineState → ℕ
 step_cost m = cost_by (slice_index m.frame.code.bytes m.frame.place) m
-
--- the things copied for a table of functions: its bodies, and a place for each number up to the greatest
-abbrev pub table_copies : List (ℕ × Body) → ℕ
-table_copies functions = length functions + extent functions
 
 -- the things copied for a run
 abbrev pub copied : MachineState → ℕ

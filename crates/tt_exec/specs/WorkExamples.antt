@@ -6,8 +6,8 @@ use Rattle.tt_points_zones.specs.Zones.{in_pixels}
 use Rattle.tt_state.specs.GraphicsState.{default_state}
 use Rattle.tt_state.specs.declared.point.Point.{Point}
 use Rattle.tt_state.specs.declared.tolerance.Tolerance.TheVariants as tolerance
-use Rattle.tt_exec.specs.Machines.{fresh, no_code, run_from}
-use Rattle.tt_exec.specs.MachineState.{Body, MachineState}
+use Rattle.tt_exec.specs.Machines.{fresh, run_from}
+use Rattle.tt_exec_step.specs.MachineState.{Body, MachineState, no_code}
 use Rattle.tt_exec.specs.Parts.{Parts}
 use Rattle.tt_exec.specs.Work.{copied, slowness, step_cost}
 

@@ -1,16 +1,13 @@
 -- No part of the standard: a run within a budget, compared with its computed outcome and its work.
 use Rattle.std.specs.Prelude.{◌≡◌, ℕ, ◌+◌, ◌<◌, ◌≤◌, Bool, true, false, Option, Some, None, Result, Ok, Err}
 use Rattle.tt_core.specs.Faults.{Fault}
-use Rattle.tt_core.specs.Outcomes.{font_fault}
-use Rattle.tt_core.specs.declared.font_fault.FontFault.TheVariants as font
 use Rattle.tt_core.specs.declared.fault.Why.TheVariants as why
 use Rattle.tt_exec.specs.declared.fault.ExecFault.TheVariants as exec
 use Rattle.tt_exec.specs.declared.work.WorkFault.{WorkFault}
 use Rattle.tt_exec.specs.declared.work.WorkFault.TheVariants as work
-use Rattle.tt_exec.specs.declared.work.Stop.{Stop}
-use Rattle.tt_exec.specs.declared.work.Stop.TheVariants as stop
-use Rattle.tt_exec.specs.MachineState.{Code, MachineState, Machine}
-use Rattle.tt_exec.specs.Machines.{exec_fault, OutcomeIs, RunGives}
+use Rattle.tt_exec_step.specs.MachineState.{Code, MachineState}
+use Rattle.tt_exec.specs.Machines.{Machine, OutcomeIs, RunGives}
+use Rattle.tt_exec_step.specs.Runs.{Ends, Halts}
 use Rattle.tt_exec.specs.Work.{Worked, enough, spent, run_work}
 
 -- A run within its budget has the result of a run without one. After a run that exceeds it the machine has failed.
@@ -40,26 +37,13 @@ abbrev pub Pays : Fault → Worked → Bool → Option ℕ → Type 0
 Pays fault worked true new = worked ≡ enough new
 Pays fault worked false new = (worked ≡ spent fault) × (new ≡ Some 0)
 
--- the work less a cost, if there is enough
-abbrev pub Less : ℕ → ℕ → Option ℕ → Type 0
-Less cost left (Some rest) = cost + rest ≡ left
-Less cost left None = left < cost
-
--- a job's remaining work as in WorkIs, after a run within a machine
-abbrev pub StopWorkIs : (Option ℕ → Worked) → Option ℕ → Result ℕ Stop → Option ℕ → Type 0
-StopWorkIs worked old (Ok n) new = worked old ≡ enough new
-StopWorkIs worked old (Err (stop.Run (font.Font fault))) new = worked old ≡ enough new
-StopWorkIs worked old (Err (stop.Run font.Memory)) new = Unit {0}
-StopWorkIs worked old (Err (stop.Spent fault)) new = (worked old ≡ spent fault) × (new ≡ Some 0)
-
--- the fault of a run that halts within its budget
-abbrev pub own_fault : Stop → Option Fault
-own_fault (stop.Run fault) = font_fault fault
-own_fault (stop.Spent fault) = None
-
-abbrev pub work_fault : Stop → WorkFault
-work_fault (stop.Run fault) = work.Run (exec_fault fault)
-work_fault (stop.Spent fault) = work.Spent fault
+-- A run of a machine that has not failed ends, halts with a fault, wants memory, or exceeds its budget.
+abbrev pub RunsTo : MachineState → Result ℕ WorkFault → MachineState → Type 0
+RunsTo old (Ok n) new = Ends old n new
+RunsTo old (Err (work.Run (exec.Font fault))) new = Halts old fault
+RunsTo old (Err (work.Run exec.Memory)) new = Unit {0}
+RunsTo old (Err (work.Run exec.Failed)) new = ⊥
+RunsTo old (Err (work.Spent fault)) new = Unit {0}
 
 -- n steps used at least n of the work
 abbrev pub Paid : ℕ → Option ℕ → Option ℕ → Type 0

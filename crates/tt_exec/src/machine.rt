@@ -1,34 +1,34 @@
 //! A machine and its runs. Apple TrueType Reference Manual, "Instructing TrueType Glyphs".
 
-ghost use Rattle.std.specs.Prelude.{◌≡◌, ◌+◌, ◌<◌, ◌≤◌, length, reverse, true, false, All, IfOk, IfSome, OnErr, OnOk};
+ghost use Rattle.std.specs.Prelude.{◌≡◌, ◌+◌, ◌≤◌, length, reverse, true, All, IfOk, IfSome, OnErr, OnOk};
 ghost use Rattle.std.specs.Option.{option_map};
+ghost use Rattle.tt_core.specs.Limits.{size_limit, stack_limit, step_limit};
 ghost use Rattle.tt_core.specs.Scales.{IsScale};
-ghost use Rattle.tt_core.specs.Limits.{size_limit};
 ghost use Rattle.tt_exec_points.specs.Zones.{no_zones};
 ghost use Rattle.tt_points_zones.specs.Zones.{zones_view, IsPoint, IsZones, SameShape};
-ghost use Rattle.tt_core.specs.Limits.{stack_limit, step_limit};
-ghost use Rattle.tt_exec.specs.Machines.{begun_again, kind_of, run_from, GivesParts, OutcomeIs, RunGives};
+ghost use Rattle.tt_exec_step.specs.Runs.{run_outcome};
+ghost use Rattle.tt_exec_step.specs.Sizes.{SameSizes};
+ghost use Rattle.tt_exec_step.specs.States.{state_of};
+ghost use Rattle.tt_exec_step.specs.Views.{code_of};
+ghost use Rattle.tt_exec.specs.Machines.{begun_again, fresh, kind_of, run_from, GivesParts, OutcomeIs, RunGives};
 ghost use Rattle.tt_exec.specs.Parts.{parts_of};
-ghost use Rattle.tt_exec.specs.Runs.{run_outcome};
-ghost use Rattle.tt_exec.specs.Sizes.{SameSizes};
-ghost use Rattle.tt_exec.specs.Views.{code_of};
 ghost use Rattle.tt_exec.specs.Work.{copied_of, run_work, work_within};
 ghost use Rattle.tt_exec.specs.Worked.{OutcomeWithin, Paid, RunsWithin, WorkIs};
 
-use crate::callers::Callers;
-use crate::copies::Copies;
+use crate::copies::{Copies, pay_copies};
 use crate::fault::ExecFault;
 use crate::laws;
-use crate::machine_state::{Kind, MachineState};
 use crate::parts::Parts;
-use crate::program::{Code, Frame};
+use crate::running::go;
 use crate::work::{Work, WorkFault};
 use std::alloc::{AllocError, Global};
 use std::marker::Model;
 use std::mem::replace;
+use tt_core::{Fault, Why};
 use tt_exec_points::Points;
 use tt_exec_stack::Stack;
 use tt_exec_state::Size;
+use tt_exec_step::{Callers, Code, Frame, Kind, MachineState};
 use tt_points::Zones;
 use tt_state::{Point, ScanControl};
 
@@ -40,11 +40,11 @@ pub struct Machine<'a> {
 }
 
 impl<'a> Model for Machine<'a> {
-    ghost use Rattle.tt_exec.specs.MachineState as held;
+    ghost use Rattle.tt_exec.specs.Machines as held;
 
     ghost Value = { held.Machine };
 
-    ghost use Rattle.tt_exec.specs.States.{state_of};
+    ghost use Rattle.tt_exec_step.specs.States.{state_of};
 
     ghost view = { λ m. record { state = state_of m.state; failed = m.failed } };
 }
@@ -60,6 +60,35 @@ fn kind_of(table: [u8; 4]) -> Kind
     } else {
         Kind::Glyph
     }
+}
+
+/// Makes a state that of a new machine of these parts and zones, reusing its memory. The points of the twilight zone
+/// have been copied by the same allowance.
+fn begin_again<'a>(
+    state: &mut MachineState<'a>,
+    parts: &Parts<'a>,
+    zones: Zones,
+    copies: &mut Copies,
+) -> Result<(), AllocError>
+    requires size { parts.now.ppem ≤ size_limit }
+    requires scale { IsScale parts.now.scale }
+    requires zones { IsZones (zones_view zones) }
+    requires paid { copies.old.left + length parts.now.zones.twilight.items ≡ copied_of (parts_of parts.now) }
+    ensures exact { OnOk result (state_of state.new ≡ fresh (record (parts_of parts.now) { zones = zones_view zones })) }
+    ensures rest { copies.new.rest ≡ copies.old.rest }
+{
+    state.begin(Frame::idle().code, Kind::Glyph);
+    copies.copy_table(&mut state.functions, &parts.functions)?;
+    copies.copy_table(&mut state.instructions, &parts.instructions)?;
+    copies.copy_values(&mut state.storage, &parts.storage)?;
+    copies.copy_values(&mut state.cvt, &parts.cvt)?;
+    state.graphics = parts.state;
+    state.tolerance = parts.tolerance;
+    state.points = Points::new(zones);
+    state.skip_glyphs = parts.skip_glyphs;
+    state.default_state = parts.default_state;
+    state.size = Size::new(parts.ppem, parts.scale);
+    Ok(())
 }
 
 impl<'a> Machine<'a> {
@@ -119,7 +148,7 @@ impl<'a> Machine<'a> {
         ensures refused { OnErr result (self.new.failed ≡ true) }
         ensures rest { copies.new.rest ≡ copies.old.rest }
     {
-        let begun = self.state.begin_again(parts, zones, copies);
+        let begun = begin_again(&mut self.state, parts, zones, copies);
         self.failed = begun.is_err();
         begun
     }
@@ -159,14 +188,12 @@ impl<'a> Machine<'a> {
         if self.failed {
             return Err(WorkFault::Run(ExecFault::Failed));
         }
-        laws::sizes_are_kept();
-        self.state.points.are_valid();
-        self.state.begin(code, kind_of(code.table));
-        match self.state.run(work) {
-            Ok(steps) => Ok(steps),
-            Err(stop) => {
+        match pay_copies(&self.state, work) {
+            Some(copies) => self.run_paid(code, copies, work),
+            None => {
                 self.failed = true;
-                Err(WorkFault::from(stop))
+                let fault = Fault::new(code.table, code.base, Why::StepLimit);
+                Err(WorkFault::Spent(fault))
             }
         }
     }
@@ -194,11 +221,11 @@ impl<'a> Machine<'a> {
         laws::sizes_are_kept();
         self.state.points.are_valid();
         self.state.begin(code, kind_of(code.table));
-        match self.state.go(work) {
+        match go(&mut self.state, work) {
             Ok(steps) => Ok(steps),
-            Err(stop) => {
+            Err(fault) => {
                 self.failed = true;
-                Err(WorkFault::from(stop))
+                Err(fault)
             }
         }
     }
@@ -236,6 +263,6 @@ impl<'a> Machine<'a> {
         if self.failed {
             return None;
         }
-        Some(self.state.into_parts())
+        Some(Parts::of(self.state))
     }
 }

@@ -1,11 +1,16 @@
 //! The parts of a machine, which exist between runs.
 
-ghost use Rattle.std.specs.Prelude.{◌≡◌, IfOk};
+ghost use Rattle.std.specs.Prelude.{◌≡◌, ◌≤◌, IfOk};
+ghost use Rattle.tt_core.specs.Limits.{size_limit};
+ghost use Rattle.tt_core.specs.Scales.{IsScale};
+ghost use Rattle.tt_points_zones.specs.Zones.{zones_view, IsZones};
+ghost use Rattle.tt_exec_step.specs.States.{state_of};
+ghost use Rattle.tt_exec.specs.Machines.{parts_in};
 ghost use Rattle.tt_exec.specs.Parts.{parts_of};
 
-use crate::function_table::Functions;
 use std::alloc::AllocError;
 use tt_core::Scale;
+use tt_exec_step::{Functions, MachineState};
 use tt_points::Zones;
 use tt_state::{GraphicsState, Tolerance};
 
@@ -34,6 +39,28 @@ pub struct Parts<'a> {
 }
 
 impl<'a> Parts<'a> {
+    /// The parts of a machine in this state.
+    pub(crate) fn of(state: MachineState<'a>) -> Parts<'a>
+        ensures exact { parts_of result ≡ parts_in (state_of state.entry) }
+        ensures size { result.ppem ≤ size_limit }
+        ensures scale { IsScale result.scale }
+        ensures zones { IsZones (zones_view result.zones) }
+    {
+        Parts {
+            scale: state.size.scale,
+            ppem: state.size.ppem,
+            cvt: state.cvt,
+            storage: state.storage,
+            zones: state.points.into_zones(),
+            functions: state.functions,
+            instructions: state.instructions,
+            state: state.graphics,
+            tolerance: state.tolerance,
+            skip_glyphs: state.skip_glyphs,
+            default_state: state.default_state,
+        }
+    }
+
     /// A copy in memory of its own. Programs are not copied.
     pub fn copy(&self) -> Result<Parts<'a>, AllocError>
         ensures { IfOk result (λ p. parts_of p ≡ parts_of self.now) }

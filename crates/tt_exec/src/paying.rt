@@ -1,14 +1,14 @@
-//! The work of a run, if its job has a budget (profile): for each step, and for copies made before the run.
+//! The work of each step, if its job has a budget (profile).
 
 ghost use Rattle.std.specs.Prelude.{◌≡◌, ◌≢◌, ◌+◌, ◌^◌, ◌<◌, ◌≤◌, length, IfOk};
-ghost use Rattle.tt_exec.specs.MachineState as machine;
-ghost use Rattle.tt_exec.specs.States.{state_of};
+ghost use Rattle.tt_exec_step.specs.MachineState as machine;
+ghost use Rattle.tt_exec_step.specs.States.{state_of};
 ghost use Rattle.tt_exec.specs.Work as is;
-ghost use Rattle.tt_exec.specs.Worked.{Less, Pays};
+ghost use Rattle.tt_exec.specs.Worked.{Pays};
 
-use crate::machine_state::MachineState;
 use crate::work::Work;
 use tt_code::{Halt, skip_def, skip_else, skip_if};
+use tt_exec_step::MachineState;
 
 /// The work of a step by its opcode; 0 if the opcode alone doesn't decide it.
 const COSTS: [u8; 256] = [
@@ -46,161 +46,135 @@ fn slowness(op: u8) -> u64
     }
 }
 
-impl MachineState<'_> {
-    /// The top of the stack; 0 for an empty stack.
-    fn top_of_stack(&self) -> i32
-        ensures { result ≡ is.top_of self.now.stack }
-    {
-        self.stack.items().last().copied().unwrap_or(0)
-    }
+/// The top of the stack; 0 for an empty stack.
+fn top_of_stack(state: &MachineState<'_>) -> i32
+    ensures { result ≡ is.top_of state.now.stack }
+{
+    state.stack.items().last().copied().unwrap_or(0)
+}
 
-    /// The count `n`, or the count of stack entries if that is less.
-    fn of_stack(&self, n: u32) -> u64
-        ensures exact { result ≡ is.of_stack n (state_of self.now) }
-        ensures few { result < 2 ^ 32 }
-    {
-        (n as u64).min(self.stack.len() as u64)
-    }
+/// The count `n`, or the count of stack entries if that is less.
+fn of_stack(state: &MachineState<'_>, n: u32) -> u64
+    ensures exact { result ≡ is.of_stack n (state_of state.now) }
+    ensures few { result < 2 ^ 32 }
+{
+    (n as u64).min(state.stack.len() as u64)
+}
 
-    /// The extra work of an opcode, which doesn't depend on the loop variable or the stack.
-    fn weight(&self, op: u8) -> u64
-        requires { self.now.frame.place < length self.now.frame.code.bytes.now }
-        ensures exact { result ≡ is.weight op (state_of self.now) }
-        ensures few { result < 2 ^ 8 }
-    {
-        match op {
-            0x2E | 0x2F | 0x3A | 0x3B | 0x3E | 0x3F | 0x48 | 0xE0..=0xFF => 4,
-            0xC0..=0xDF => 7,
-            0x27 => 8,
-            0x06..=0x0B | 0x0F => 32,
-            0x86 | 0x87 => 48,
-            0x40 | 0x41 => match self.frame.code.bytes.get(self.frame.place + 1) {
-                Some(count) => u64::from(*count),
-                None => 0,
-            },
-            _ => slowness(op),
-        }
+/// The extra work of an opcode, which doesn't depend on the loop variable or the stack.
+fn weight(state: &MachineState<'_>, op: u8) -> u64
+    requires { state.now.frame.place < length state.now.frame.code.bytes.now }
+    ensures exact { result ≡ is.weight op (state_of state.now) }
+    ensures few { result < 2 ^ 8 }
+{
+    match op {
+        0x2E | 0x2F | 0x3A | 0x3B | 0x3E | 0x3F | 0x48 | 0xE0..=0xFF => 4,
+        0xC0..=0xDF => 7,
+        0x27 => 8,
+        0x06..=0x0B | 0x0F => 32,
+        0x86 | 0x87 => 48,
+        0x40 | 0x41 => match state.frame.code.bytes.get(state.frame.place + 1) {
+            Some(count) => u64::from(*count),
+            None => 0,
+        },
+        _ => slowness(op),
     }
+}
 
-    /// The work for the points or stack entries that an opcode covers.
-    fn gone_over(&self, op: u8) -> u64
-        requires { self.now.frame.place < length self.now.frame.code.bytes.now }
-        ensures exact { result ≡ is.gone_over op (state_of self.now) }
-        ensures few { result < 2 ^ 63 }
-    {
-        match op {
-            0x32 | 0x33 | 0x38 | 0x3C | 0x80 => 4 * self.of_stack(self.graphics.loops),
-            0x39 => 4 * self.of_stack(self.graphics.loops) + 4,
-            0x26 | 0x5D | 0x71..=0x75 => 2 * self.of_stack(self.top_of_stack().unsigned_abs()),
-            0x30 | 0x31 => 2 * self.points.glyph_count() as u64,
-            0x34..=0x37 => 4 * (self.points.twilight_count() + self.points.glyph_count()) as u64,
-            0x81 | 0x82 => self.points.glyph_count() as u64,
-            _ => self.weight(op),
-        }
+/// The work for the points or stack entries that an opcode covers.
+fn gone_over(state: &MachineState<'_>, op: u8) -> u64
+    requires { state.now.frame.place < length state.now.frame.code.bytes.now }
+    ensures exact { result ≡ is.gone_over op (state_of state.now) }
+    ensures few { result < 2 ^ 63 }
+{
+    match op {
+        0x32 | 0x33 | 0x38 | 0x3C | 0x80 => 4 * of_stack(state, state.graphics.loops),
+        0x39 => 4 * of_stack(state, state.graphics.loops) + 4,
+        0x26 | 0x5D | 0x71..=0x75 => 2 * of_stack(state, top_of_stack(state).unsigned_abs()),
+        0x30 | 0x31 => 2 * state.points.glyph_count() as u64,
+        0x34..=0x37 => 4 * (state.points.twilight_count() + state.points.glyph_count()) as u64,
+        0x81 | 0x82 => state.points.glyph_count() as u64,
+        _ => weight(state, op),
     }
+}
 
-    /// The count of bytes skipped after the opcode at the frame's place.
-    fn passed_by(&self, end: Result<usize, Halt>) -> u64
-        requires stands { self.now.frame.place < length self.now.frame.code.bytes.now }
-        requires after { IfOk end (λ j. self.now.frame.place < j) }
-        requires within { IfOk end (λ j. j ≤ length self.now.frame.code.bytes.now) }
-        ensures exact { result ≡ is.passed_by (state_of self.now) end }
-        ensures few { result < 2 ^ 32 }
-    {
-        let after = self.frame.place + 1;
-        let to = match end {
-            Ok(place) => place,
-            Err(_) => self.frame.code.bytes.len(),
-        };
-        (to - after) as u64
-    }
+/// The count of bytes skipped after the opcode at the frame's place.
+fn passed_by(state: &MachineState<'_>, end: Result<usize, Halt>) -> u64
+    requires stands { state.now.frame.place < length state.now.frame.code.bytes.now }
+    requires after { IfOk end (λ j. state.now.frame.place < j) }
+    requires within { IfOk end (λ j. j ≤ length state.now.frame.code.bytes.now) }
+    ensures exact { result ≡ is.passed_by (state_of state.now) end }
+    ensures few { result < 2 ^ 32 }
+{
+    let after = state.frame.place + 1;
+    let to = match end {
+        Ok(place) => place,
+        Err(_) => state.frame.code.bytes.len(),
+    };
+    (to - after) as u64
+}
 
-    /// The count of bytes that the opcode at the frame's place skips.
-    fn passed(&self, op: u8) -> u64
-        requires { self.now.frame.place < length self.now.frame.code.bytes.now }
-        ensures exact { result ≡ is.passed op (state_of self.now) }
-        ensures few { result < 2 ^ 32 }
-    {
-        let bytes = self.frame.code.bytes;
-        let at = self.frame.place;
-        match op {
-            0x58 if self.top_of_stack() == 0 => self.passed_by(skip_if(bytes, at)),
-            0x1B => self.passed_by(skip_else(bytes, at)),
-            0x2C | 0x89 => self.passed_by(skip_def(bytes, at)),
-            _ => 0,
-        }
+/// The count of bytes that the opcode at the frame's place skips.
+fn passed(state: &MachineState<'_>, op: u8) -> u64
+    requires { state.now.frame.place < length state.now.frame.code.bytes.now }
+    ensures exact { result ≡ is.passed op (state_of state.now) }
+    ensures few { result < 2 ^ 32 }
+{
+    let bytes = state.frame.code.bytes;
+    let at = state.frame.place;
+    match op {
+        0x58 if top_of_stack(state) == 0 => passed_by(state, skip_if(bytes, at)),
+        0x1B => passed_by(state, skip_else(bytes, at)),
+        0x2C | 0x89 => passed_by(state, skip_def(bytes, at)),
+        _ => 0,
     }
+}
 
-    /// The work of a step with this opcode.
-    #[inline(never)]
-    fn cost_by(&self, op: u8) -> u64
-        requires { self.now.frame.place < length self.now.frame.code.bytes.now }
-        ensures { result ≡ is.cost_by op (state_of self.now) }
-    {
-        match op {
-            0x1B | 0x2C | 0x58 | 0x89 => 2 + self.passed(op),
-            _ => 1 + self.gone_over(op),
-        }
+/// The work of a step with this opcode.
+#[inline(never)]
+fn cost_by(state: &MachineState<'_>, op: u8) -> u64
+    requires { state.now.frame.place < length state.now.frame.code.bytes.now }
+    ensures { result ≡ is.cost_by op (state_of state.now) }
+{
+    match op {
+        0x1B | 0x2C | 0x58 | 0x89 => 2 + passed(state, op),
+        _ => 1 + gone_over(state, op),
     }
+}
 
-    /// The work of the step at the frame's place. The program's end inside a call is 1.
-    #[inline(always)]
-    fn step_cost(&self) -> u64
-        ensures { result ≡ is.step_cost (state_of self.now) }
-    {
-        let bytes = self.frame.code.bytes;
-        let at = self.frame.place;
-        if at == bytes.len() {
-            return 1;
-        }
-        let op = bytes[at];
-        let cost = fixed_cost(op);
-        if cost == 0 {
-            return self.cost_by(op);
-        }
-        cost
+/// The work of the step at the frame's place. The program's end inside a call is 1.
+#[inline(always)]
+fn step_cost(state: &MachineState<'_>) -> u64
+    ensures { result ≡ is.step_cost (state_of state.now) }
+{
+    let bytes = state.frame.code.bytes;
+    let at = state.frame.place;
+    if at == bytes.len() {
+        return 1;
     }
+    let op = bytes[at];
+    let cost = fixed_cost(op);
+    if cost == 0 {
+        return cost_by(state, op);
+    }
+    cost
+}
 
-    /// Pays for the step at the frame's place. False if the remaining work is less than its cost; then no work remains.
-    /// A run without a budget spends one test on it.
-    #[inline(always)]
-    pub(crate) fn pay_step(&self, work: &mut Work) -> bool
-        ensures { let m = state_of self.now in
-            Pays (is.over_at m) (is.charged (is.over_at m) (is.step_cost m) work.old.left) result work.new.left }
-    {
-        let Some(left) = work.left else {
-            return true;
-        };
-        let cost = self.step_cost();
-        if cost > left {
-            work.left = Some(0);
-            return false;
-        }
-        work.left = Some(left - cost);
-        true
+/// Pays for the step at the frame's place. False if the remaining work is less than its cost; then no work remains.
+/// A run without a budget spends one test on it.
+#[inline(always)]
+pub(crate) fn pay_step(state: &MachineState<'_>, work: &mut Work) -> bool
+    ensures { let m = state_of state.now in
+        Pays (is.over_at m) (is.charged (is.over_at m) (is.step_cost m) work.old.left) result work.new.left }
+{
+    let Some(left) = work.left else {
+        return true;
+    };
+    let cost = step_cost(state);
+    if cost > left {
+        work.left = Some(0);
+        return false;
     }
-
-    /// The work that remains after paying for the copies of a run; None if there is not enough.
-    fn after_copies(&self, left: u64) -> Option<u64>
-        ensures { Less (is.copied (state_of self.now)) left result }
-    {
-        let left = left.checked_sub(self.cvt.len() as u64)?;
-        let left = left.checked_sub(self.storage.len() as u64)?;
-        let left = left.checked_sub(self.points.twilight_count() as u64)?;
-        let left = left.checked_sub(self.functions.copies() as u64)?;
-        left.checked_sub(self.instructions.copies() as u64)
-    }
-
-    /// Pays for the copies made for a run. False if there is not enough work; then no work remains.
-    pub(crate) fn pay_copies(&self, work: &mut Work) -> bool
-        ensures { let m = state_of self.now in
-            Pays (is.over_at m) (is.charged (is.over_at m) (is.copied m) work.old.left) result work.new.left }
-    {
-        let Some(left) = work.left else {
-            return true;
-        };
-        let rest = self.after_copies(left);
-        work.left = Some(rest.unwrap_or(0));
-        rest.is_some()
-    }
+    work.left = Some(left - cost);
+    true
 }

@@ -3,7 +3,7 @@
 ghost use Rattle.std.specs.Prelude.{◌≡◌};
 
 use crate::fault::ExecFault;
-use tt_core::{Fault, FontFault};
+use tt_core::Fault;
 
 /// The remaining work of a job; None without a budget.
 #[derive(Clone, Copy, Debug, PartialEq, Eq)]
@@ -32,24 +32,4 @@ pub enum WorkFault {
     Run(ExecFault),
     /// An instruction needs more work than remains: StepLimit there.
     Spent(Fault),
-}
-
-/// The reason why a run stops within a machine.
-#[derive(Clone, Copy)]
-pub(crate) enum Stop {
-    Run(FontFault),
-    Spent(Fault),
-}
-
-impl From<Stop> for WorkFault {
-    ghost use Rattle.tt_exec.specs.Worked.{work_fault};
-
-    ghost from_gives = { λ stop e. e ≡ work_fault stop };
-
-    fn from(stop: Stop) -> WorkFault {
-        match stop {
-            Stop::Run(fault) => WorkFault::Run(ExecFault::from(fault)),
-            Stop::Spent(fault) => WorkFault::Spent(fault),
-        }
-    }
 }

@@ -5,7 +5,7 @@ use Rattle.tt_core.specs.Limits.{work_limit}
 use Rattle.tt_core.specs.Outcomes.{◌>>=◌}
 use Rattle.tt_exec.proofs.WorkPaid.{falls, then_enough}
 use Rattle.tt_exec.specs.Machines.{fresh, run_from}
-use Rattle.tt_exec.specs.MachineState.{Code}
+use Rattle.tt_exec_step.specs.MachineState.{Code}
 use Rattle.tt_exec.specs.Parts.{Parts}
 use Rattle.tt_exec.specs.Work.{Worked, enough, spent, then_work}
 use Rattle.tt_glyf.specs.declared.raw.Record.{Record}

@@ -5,7 +5,8 @@ use Rattle.tt_core.specs.Limits.{step_limit}
 use Rattle.tt_core.specs.declared.fault.Why.TheVariants as why
 use Rattle.tt_exec.proofs.WorkPaid.{run_begun, run_spent}
 use Rattle.tt_exec.specs.Machines.{begun_again, fresh, run_from}
-use Rattle.tt_exec.specs.MachineState.{Code, MachineState, Machine}
+use Rattle.tt_exec_step.specs.MachineState.{Code, MachineState}
+use Rattle.tt_exec.specs.Machines.{Machine}
 use Rattle.tt_exec.specs.Parts.{Parts}
 use Rattle.tt_exec.specs.Work.{enough, spent, charged, copied_of, over_at, work_within}
 use Rattle.tt_fit.specs.GlyphZone.{GlyphProgram, program_in_glyf, on_grid_at}

@@ -3,7 +3,7 @@ use Rattle.std.proofs.Common.{◌≡◌, ℕ, zero, suc, Bool, true, false, if�
 use Rattle.tt_core.specs.Faults.{Fault}
 use Rattle.tt_exec.proofs.WorkPaid.{unbounded}
 use Rattle.tt_exec.specs.Machines.{fresh, run_from}
-use Rattle.tt_exec.specs.MachineState.{Code}
+use Rattle.tt_exec_step.specs.MachineState.{Code}
 use Rattle.tt_exec.specs.Parts.{Parts}
 use Rattle.tt_exec.specs.Work.{Worked, enough, then_work}
 use Rattle.tt_glyf.specs.declared.raw.Record.{Record}

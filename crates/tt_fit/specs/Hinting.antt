@@ -5,9 +5,9 @@ use Rattle.std.specs.Prelude.{⊤, Bool, ◌&&◌, ◌==◌, not, if◌then◌el
 use Rattle.tt_core.specs.Faults.{Fault}
 use Rattle.tt_core.specs.Outcomes.{◌>>=◌}
 use Rattle.tt_exec.specs.Machines.{fresh, parts_in, run_from}
-use Rattle.tt_exec.specs.MachineState.{Code, MachineState}
+use Rattle.tt_exec_step.specs.MachineState.{Code, MachineState}
 use Rattle.tt_exec.specs.Parts.{Parts}
-use Rattle.tt_exec.specs.Runs.{run_outcome}
+use Rattle.tt_exec_step.specs.Runs.{run_outcome}
 use Rattle.tt_fit.specs.GlyphZone.{GlyphProgram, program_in_glyf, on_grid_at, left_outline}
 use Rattle.tt_fit.specs.Parts.{AreParts, parts_with}
 use Rattle.tt_fit.specs.Outline.{Outline}

@@ -5,7 +5,7 @@
 use Rattle.std.specs.Prelude.{ℕ, List, codes, Option, Some, None, Result, Ok, Err}
 use Rattle.tt_core.specs.Faults.{Fault}
 use Rattle.tt_core.specs.Outcomes.{◌>>=◌}
-use Rattle.tt_exec.specs.MachineState.{Code}
+use Rattle.tt_exec_step.specs.MachineState.{Code}
 use Rattle.tt_exec.specs.Parts.{Parts}
 use Rattle.tt_exec.specs.Work.{Worked, enough, spent, then_work}
 use Rattle.tt_glyf.specs.Loca.{Glyf}

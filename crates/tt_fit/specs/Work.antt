@@ -9,7 +9,7 @@ use Rattle.tt_exec.specs.declared.fault.ExecFault.TheVariants as exec
 use Rattle.tt_exec.specs.declared.work.WorkFault.{WorkFault}
 use Rattle.tt_exec.specs.declared.work.WorkFault.TheVariants as work
 use Rattle.tt_exec.specs.Machines.{fresh, run_from}
-use Rattle.tt_exec.specs.MachineState.{Code}
+use Rattle.tt_exec_step.specs.MachineState.{Code}
 use Rattle.tt_exec.specs.Parts.{Parts}
 use Rattle.tt_exec.specs.Work.{Worked, enough, spent, then_work, run_work}
 use Rattle.tt_glyf.specs.declared.raw.Record.{Record}

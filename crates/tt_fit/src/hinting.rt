@@ -7,7 +7,7 @@ ghost use Rattle.tt_exec.specs.declared.work.WorkFault.TheVariants as machine;
 ghost use Rattle.tt_exec.specs.Machines.{begun_again, exec_fault, parts_in, run_from};
 ghost use Rattle.tt_exec.specs.Work.{copied_of, run_work, work_within};
 ghost use Rattle.tt_exec.specs.Parts.{parts_of};
-ghost use Rattle.tt_exec.specs.Views.{code_of};
+ghost use Rattle.tt_exec_step.specs.Views.{code_of};
 ghost use Rattle.tt_points_zones.specs.Zones.{IsZones, SameShape};
 ghost use Rattle.tt_fit.specs.GlyphZone.{program_in_glyf};
 ghost use Rattle.tt_fit.specs.Outline.{outline_of, phantom_of, ArePhantom, IsOutline};

@@ -6,7 +6,7 @@ ghost use Rattle.tt_core.specs.Faults.{is_ascii};
 ghost use Rattle.tt_core.specs.Limits.{font_limit};
 ghost use Rattle.tt_core.specs.Outcomes.{FontGives};
 ghost use Rattle.tt_exec.specs.Parts.{parts_of};
-ghost use Rattle.tt_exec.specs.Views.{code_of};
+ghost use Rattle.tt_exec_step.specs.Views.{code_of};
 ghost use Rattle.tt_fit.specs.Preparation.{program_tables, programs_work, without_fallback, within_work, begun_at, left_at, work_at, prepared};
 ghost use Rattle.tt_fit.specs.Fallback.{everywhere};
 ghost use Rattle.tt_fit.specs.Hinting.{IsHinting, off};

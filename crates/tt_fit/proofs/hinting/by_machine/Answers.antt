@@ -1,8 +1,8 @@
 use Rattle.std.proofs.Common.{◌∙◌, ap, length, arith, rules}
 use Rattle.std.specs.Prelude.{option_map}
-use Rattle.tt_exec.specs.MachineState.{Machine}
+use Rattle.tt_exec.specs.Machines.{Machine}
 use Rattle.tt_exec.specs.Parts.{parts_of}
-use Rattle.tt_exec.specs.Views.{code_of}
+use Rattle.tt_exec_step.specs.Views.{code_of}
 use Rattle.tt_fit.proofs.Paid.{copies-spent, copies-paid}
 use Rattle.tt_fit.proofs.Zones.{zone-length}
 use Rattle.tt_fit.specs.Outline.{outline_of, phantom_of}

@@ -1,0 +1,10 @@
+pub mod Computed
+pub mod Entries
+pub mod Lacking
+pub mod Loosened
+pub mod Single
+pub mod Sizes
+pub mod Slots
+pub mod Steps
+pub mod Tables
+pub mod WithAll

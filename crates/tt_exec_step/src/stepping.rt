@@ -1,0 +1,59 @@
+//! One step. Apple TrueType Reference Manual, "Instructing TrueType Glyphs".
+
+ghost use Rattle.std.specs.Prelude.{◌≡◌};
+ghost use Rattle.tt_exec_step.specs.Opcodes.{operation_of};
+ghost use Rattle.tt_exec_step.specs.States.{state_of};
+ghost use Rattle.tt_exec_step.specs.Step as is;
+ghost use Rattle.tt_exec_step.specs.Outcome.{ComesTo};
+
+use crate::machine_state::MachineState;
+use crate::outcome::Outcome;
+use crate::taking::taken_by;
+use tt_code::{decode, plain_opcode};
+use tt_core::Why;
+
+impl MachineState<'_> {
+    /// On a tolerant machine, provides the stack values that an instruction takes.
+    #[inline(always)]
+    fn fill_stack(&mut self, op: u8)
+        ensures exact { state_of self.new ≡ is.filled (operation_of op) (state_of self.old) }
+        ensures frame { self.new.frame ≡ self.old.frame }
+    {
+        if self.tolerance.is_tolerant() {
+            self.stack.pad(taken_by(op));
+        }
+    }
+
+    /// Executes the instruction at the frame's place. Errors: CodeShort if its data passes the program's end or the
+    /// place is that end; those of the instruction.
+    #[inline(always)]
+    pub fn step(&mut self) -> Outcome
+        ensures { ComesTo (is.step (state_of self.old)) self.old.frame.place (state_of self.new) result }
+    {
+        let at = self.frame.place;
+        let bytes = self.frame.code.bytes;
+        if at == bytes.len() {
+            return Outcome::Refused(Why::CodeShort);
+        }
+        if let Some(op) = plain_opcode(bytes, at) {
+            self.frame.place = at + 1;
+            self.fill_stack(op);
+            return self.operate(op, at);
+        }
+        match decode(bytes, at) {
+            Ok(i) => {
+                self.frame.place = at + i.len;
+                self.push(i.op, i.args, at)
+            }
+            Err(halt) => Outcome::Refused(halt.why),
+        }
+    }
+
+    /// Whether the program has ended.
+    #[inline(always)]
+    pub fn is_ended(&self) -> bool
+        ensures { result ≡ is.is_ended (state_of self.now) }
+    {
+        self.frame.place == self.frame.code.bytes.len() && self.callers.len() == 0
+    }
+}
