@@ -1,7 +1,7 @@
 //! The ends of an outline's contours among its edges.
 
 ghost use Rattle.std.specs.Prelude.{◌≡◌, ℤ, ◌*◌, ◌≤◌, length, map, IfOk};
-ghost use Rattle.tt_fit.specs.Outline.{AreEnds};
+ghost use Rattle.tt_fit_outline.specs.Outline.{AreEnds};
 ghost use Rattle.tt_scan.specs.Contours.{contours_at, AreEnds as AreEdgeEnds};
 ghost use Rattle.tt_arc.specs.declared.point.Point.{Point};
 ghost use Rattle.tt_arc.specs.Chords.{moved, edges_of, contour_edges, chord_edges, chord_contours};

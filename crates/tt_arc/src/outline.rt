@@ -2,7 +2,7 @@
 
 ghost use Rattle.std.specs.Prelude.{◌≡◌, ◌*◌, ◌≤◌, ◌++◌, length, map, if◌then◌else◌, All, IfOk, OnOk};
 ghost use Rattle.std.specs.List.{sum_by};
-ghost use Rattle.tt_fit.specs.Outline.{AreEnds};
+ghost use Rattle.tt_fit_outline.specs.Outline.{AreEnds};
 ghost use Rattle.tt_scan.specs.Winding.{FrameFits};
 ghost use Rattle.tt_arc.specs.Chords.{IsNear, moved, outline_edges, chord_edges};
 

@@ -4,15 +4,16 @@ use Rattle.tt_core.specs.Faults.{Fault}
 use Rattle.tt_core.specs.Outcomes.{◌>>=◌}
 use Rattle.tt_exec.specs.Work.{Worked, enough}
 use Rattle.tt_glyf.specs.declared.raw.Record.{Record}
-use Rattle.tt_fit.specs.declared.unmade.Unmade.{Unmade}
-use Rattle.tt_fit.specs.declared.unmade.Unmade.TheVariants as unmade
-use Rattle.tt_fit.specs.Joining.{placed}
+use Rattle.tt_fit_outline.specs.declared.unmade.Unmade.{Unmade}
+use Rattle.tt_fit_outline.specs.declared.unmade.Unmade.TheVariants as unmade
+use Rattle.tt_fit_outline.specs.Joining.{placed}
 use Rattle.tt_glyf.specs.GlyphData.{glyph_data_of}
 use Rattle.tt_glyf.specs.Raw.{CompositeGlyph, SimpleGlyph, composite, simple}
-use Rattle.tt_fit.specs.Hinting.{hinted}
+use Rattle.tt_fit_outline.specs.Hinting.{hinted}
 use Rattle.tt_fit.specs.Fitting.{Fitter, size_of, start, simple_program, composite_program, simple_outline, joined, added, outline_at, added_work, outline_work}
-use Rattle.tt_fit.specs.Outline.{Outline}
-use Rattle.tt_fit.specs.Work.{RefusalLeaves, joined_work, unmade_fault}
+use Rattle.tt_fit_outline.specs.Outline.{Outline}
+use Rattle.tt_fit_outline.specs.Work.{RefusalLeaves, unmade_fault}
+use Rattle.tt_fit.specs.Work.{joined_work}
 
 pub one_record_more : (add : Record → Outline → Result Outline Fault) (rs : List Record) (i : ℕ) (d : Record)
     (o next : Outline) → i < length rs → add (get_or rs i d) o ≡ Ok next

@@ -21,18 +21,19 @@ use Rattle.tt_glyf.specs.Raw.{Raw, SimpleGlyph, CompositeGlyph, empty, simple, c
 use Rattle.tt_metrics.specs.Metrics.{Metrics, units_per_em_of, loca_format_of, glyphs_of}
 use Rattle.tt_fit.specs.declared.dropouts.DropoutsBy.{DropoutsBy}
 use Rattle.tt_fit.specs.declared.dropouts.DropoutsBy.TheVariants as by
-use Rattle.tt_fit.specs.Component.{shift_of}
-use Rattle.tt_fit.specs.Joining.{placed, appended, within_point_limit}
+use Rattle.tt_fit_outline.specs.Component.{shift_of}
+use Rattle.tt_fit_outline.specs.Joining.{placed, appended, within_point_limit}
 use Rattle.tt_fit.specs.Fallback.{Fallback, never, where_refused, everywhere, unfitted_by, hinting_for}
-use Rattle.tt_fit.specs.Outline.{PhantomPoints, Outline}
-use Rattle.tt_fit.specs.GlyphZone.{GlyphProgram}
-use Rattle.tt_fit.specs.Hinting.{Hinting, off, IsHinting, hinted}
-use Rattle.tt_fit.specs.Scaling.{glyf_fault, phantom_points, phantom_units, blank, scaled_outline, settled}
-use Rattle.tt_fit.specs.Size.{FontSize, size_by}
-use Rattle.tt_fit.specs.Units.{Units, units_by}
-use Rattle.tt_fit.specs.declared.rules.Scaling.{Scaling}
-use Rattle.tt_fit.specs.declared.rules.Scaling.TheVariants as scaling
-use Rattle.tt_fit.specs.Work.{if_ok, hinted_work, joined_work, left_in}
+use Rattle.tt_fit_outline.specs.Outline.{PhantomPoints, Outline}
+use Rattle.tt_fit_outline.specs.GlyphZone.{GlyphProgram}
+use Rattle.tt_fit_outline.specs.Hinting.{Hinting, off, IsHinting, hinted}
+use Rattle.tt_fit_outline.specs.Scaling.{glyf_fault, phantom_points, phantom_units, blank, scaled_outline, settled}
+use Rattle.tt_fit_outline.specs.Size.{FontSize, size_by}
+use Rattle.tt_fit_outline.specs.Units.{Units, units_by}
+use Rattle.tt_fit_outline.specs.declared.rules.Scaling.{Scaling}
+use Rattle.tt_fit_outline.specs.declared.rules.Scaling.TheVariants as scaling
+use Rattle.tt_fit_outline.specs.Work.{if_ok, hinted_work}
+use Rattle.tt_fit.specs.Work.{joined_work, left_in}
 
 -- The inputs of outlines: a font's glyph data and metrics, the pixels per em and the scaling. Then the state after its
 -- programs, which glyphs are unfitted, and the depth limit of components. Then the job's remaining work (None if

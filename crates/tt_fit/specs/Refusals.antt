@@ -18,18 +18,18 @@ use Rattle.tt_metrics.specs.declared.head.LocaFormat.TheVariants.{Short}
 use Rattle.tt_metrics.specs.Metrics.{Metrics}
 use Rattle.tt_fit.specs.declared.programs.Fit.TheVariants as fit
 use Rattle.tt_fit.specs.declared.dropouts.DropoutsBy.TheVariants as by
-use Rattle.tt_fit.specs.Component.{shift_of}
-use Rattle.tt_fit.specs.Joining.{placed, appended, within_point_limit}
+use Rattle.tt_fit_outline.specs.Component.{shift_of}
+use Rattle.tt_fit_outline.specs.Joining.{placed, appended, within_point_limit}
 use Rattle.tt_fit.specs.Fallback.{Fallback, never, where_refused, everywhere, is_program_fault}
 use Rattle.tt_fit.specs.Fitting.{Fitter, added, added_work, fitted_outline, unfitted_fault}
-use Rattle.tt_fit.specs.GlyphZone.{on_grid_at}
+use Rattle.tt_fit_outline.specs.GlyphZone.{on_grid_at}
 use Rattle.tt_fit.specs.Preparation.{ProgramTables, left_by_programs, programs_work, prepared}
-use Rattle.tt_fit.specs.Parts.{begun_parts}
+use Rattle.tt_fit_outline.specs.Parts.{begun_parts}
 use Rattle.tt_fit.specs.Rules.{of_profile}
-use Rattle.tt_fit.specs.Hinting.{off, ready, run_of, by_program}
-use Rattle.tt_fit.specs.Scaling.{blank, scaled_outline, settled}
-use Rattle.tt_fit.specs.Work.{program_work}
-use Rattle.tt_fit.specs.declared.rules.Scaling.TheVariants as scaling
+use Rattle.tt_fit_outline.specs.Hinting.{off, ready, run_of, by_program}
+use Rattle.tt_fit_outline.specs.Scaling.{blank, scaled_outline, settled}
+use Rattle.tt_fit_outline.specs.Work.{program_work}
+use Rattle.tt_fit_outline.specs.declared.rules.Scaling.TheVariants as scaling
 
 abbrev its_metrics : Metrics
 its_metrics = record {

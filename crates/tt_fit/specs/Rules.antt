@@ -6,8 +6,8 @@ use Rattle.tt_fit.specs.declared.dropouts.DropoutsBy.{DropoutsBy}
 use Rattle.tt_fit.specs.declared.dropouts.DropoutsBy.TheVariants as by
 use Rattle.tt_fit.specs.declared.programs.Fit.{Fit}
 use Rattle.tt_fit.specs.declared.programs.Fit.TheVariants as fit
-use Rattle.tt_fit.specs.declared.rules.Rules.{Rules}
-use Rattle.tt_fit.specs.declared.rules.Scaling.TheVariants as scaling
+use Rattle.tt_fit_outline.specs.declared.rules.Rules.{Rules}
+use Rattle.tt_fit_outline.specs.declared.rules.Scaling.TheVariants as scaling
 
 -- the fits that make a glyph unfitted where a program is refused
 abbrev pub falls_back : Fit → Bool

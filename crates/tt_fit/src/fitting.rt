@@ -8,37 +8,35 @@ ghost use Rattle.tt_glyf.specs.Loca.{glyph_offset};
 ghost use Rattle.tt_glyf.specs.Meaning.{AreEnds as EndContours, HasArguments};
 ghost use Rattle.tt_metrics.specs.Metrics.{loca_format_of, glyphs_of};
 ghost use Rattle.tt_fit.specs.Counting.{points_asked, counted};
-ghost use Rattle.tt_fit.specs.Joining.{placed};
+ghost use Rattle.tt_fit_outline.specs.Joining.{placed};
 ghost use Rattle.tt_fit.specs.Defects.{IsOutlineDefect};
 ghost use Rattle.tt_fit.specs.Dropouts.{dropouts_of};
 ghost use Rattle.tt_fit.specs.Fallback.{never, where_refused};
 ghost use Rattle.tt_fit.specs.Fitting.{IsFitter, with_hinting, size_of, start, glyph_program, simple_outline, joined, added, outline_at, simple_work, added_work, outline_work, glyph_work, unfitted_fault, fitted_outline, after_glyph, charged_fitter};
-ghost use Rattle.tt_fit.specs.Outline.{outline_of, phantom_of, IsPoint, ArePhantom, AreEnds, IsOutline};
+ghost use Rattle.tt_fit_outline.specs.Outline.{outline_of, phantom_of, IsPoint, ArePhantom, AreEnds, IsOutline};
 ghost use Rattle.tt_fit.specs.Preparation.{program_tables, fitter_of};
-ghost use Rattle.tt_fit.specs.Hinting.{IsHinting};
-ghost use Rattle.tt_fit.specs.Scaling.{phantom_units};
-ghost use Rattle.tt_fit.specs.Units.{units_by};
-ghost use Rattle.tt_fit.specs.Views.{hinting_view, size_view, program_view, units_view};
-ghost use Rattle.tt_fit.specs.Work.{IsEnough, Makes, RefusalLeaves, WorkGives, joined_work, unmade_fault};
+ghost use Rattle.tt_fit_outline.specs.Hinting.{IsHinting};
+ghost use Rattle.tt_fit_outline.specs.Scaling.{phantom_units};
+ghost use Rattle.tt_fit_outline.specs.Units.{units_by};
+ghost use Rattle.tt_fit_outline.specs.Views.{hinting_view, size_view, program_view, units_view};
+ghost use Rattle.tt_fit_outline.specs.Work.{Makes, RefusalLeaves, WorkGives, unmade_fault};
+ghost use Rattle.tt_fit.specs.Work.{IsEnough, joined_work};
 ghost use Rattle.tt_exec.specs.Work.{spent};
 
 use crate::counting::points_of;
 use crate::dropouts::{DropoutRules, DropoutsBy, rules_by};
 use crate::fallback::{Fallback, is_program_fault};
-use crate::hinting::{GlyphMachine, Hinting, hinted};
-use crate::joining::placed;
-use crate::outline::Outline;
 use crate::preparation::{Preparation, prepared};
-use crate::programs::{Fit, GlyphProgram, Programs};
-use crate::rules::{Scaling, dropouts_by, levels_of, rules_of};
-use crate::scaling::{blank, glyf_fault, phantom_points, phantom_units, scaled_outline};
-use crate::size::FontSize;
-use crate::units::Units;
-use crate::unmade::{Unmade, unbounded};
+use crate::programs::{Fit, Programs};
+use crate::rules::{dropouts_by, levels_of, rules_of};
 use std::alloc::{AllocError, Global};
 use std::marker::Model;
 use tt_core::{Fault, FontFault, Why};
 use tt_exec::Work;
+use tt_fit_outline::{
+    FontSize, GlyphMachine, GlyphProgram, Hinting, Outline, Scaling, Units, Unmade, blank, glyf_fault, hinted,
+    phantom_points, phantom_units, placed, scaled_outline, unbounded,
+};
 use tt_glyf::{Glyf, Raw, RawPoint, Record};
 use tt_metrics::Metrics;
 
@@ -64,7 +62,8 @@ pub struct Fitter<'a> {
 impl<'a> Model for Fitter<'a> {
     ghost use Rattle.tt_fit.specs.Fitting.{IsFitter};
     ghost use Rattle.tt_fit.specs.Fitting as fitting;
-    ghost use Rattle.tt_fit.specs.Views.{hinting_view, fallback_view};
+    ghost use Rattle.tt_fit_outline.specs.Views.{hinting_view};
+    ghost use Rattle.tt_fit.specs.Views.{fallback_view};
 
     ghost Value = { fitting.Fitter };
 

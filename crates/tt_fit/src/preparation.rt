@@ -9,24 +9,22 @@ ghost use Rattle.tt_exec.specs.Parts.{parts_of};
 ghost use Rattle.tt_exec.specs.Views.{code_of};
 ghost use Rattle.tt_fit.specs.Preparation.{program_tables, programs_work, without_fallback, within_work, begun_at, left_at, work_at, prepared};
 ghost use Rattle.tt_fit.specs.Fallback.{everywhere};
-ghost use Rattle.tt_fit.specs.Hinting.{IsHinting, off};
+ghost use Rattle.tt_fit_outline.specs.Hinting.{IsHinting, off};
 ghost use Rattle.tt_fit.specs.Rules.{rules_of, work_of};
-ghost use Rattle.tt_fit.specs.Size.{size_by};
-ghost use Rattle.tt_fit.specs.Views.{hinting_view, preparation_view, size_view};
-ghost use Rattle.tt_fit.specs.Work.{Makes, WorkGives};
+ghost use Rattle.tt_fit_outline.specs.Size.{size_by};
+ghost use Rattle.tt_fit_outline.specs.Views.{hinting_view, size_view};
+ghost use Rattle.tt_fit.specs.Views.{preparation_view};
+ghost use Rattle.tt_fit_outline.specs.Work.{Makes, WorkGives};
 ghost use Rattle.tt_metrics.specs.Metrics.{units_per_em_of};
 
 use crate::fallback::Fallback;
-use crate::hinting::{Hinting, run};
-use crate::parts::{begun_parts, left_to_glyphs};
 use crate::programs::{Fit, Programs};
 use crate::rules::{cvt_read, rules_of, work_of};
-use crate::size::FontSize;
-use crate::unmade::{Unmade, unbounded};
 use std::alloc::Global;
 use std::mem::swap;
 use tt_core::{Fault, FontFault};
 use tt_exec::{Code, Work};
+use tt_fit_outline::{FontSize, Hinting, Unmade, begun_parts, left_to_glyphs, run, unbounded};
 use tt_metrics::Metrics;
 
 /// The state for glyph programs, which glyphs are unfitted, and the job's remaining work.

@@ -4,8 +4,8 @@ use Rattle.std.proofs.lemmas.Result.{err_from_is_err_and}
 use Rattle.tt_glyf.specs.GlyphData.{glyph_data_of}
 use Rattle.tt_glyf.specs.Raw.{CompositeGlyph, SimpleGlyph, composite, simple}
 use Rattle.tt_fit.specs.Fitting.{with_hinting, start, added, added_work}
-use Rattle.tt_fit.specs.Outline.{outline_of}
-use Rattle.tt_fit.specs.Views.{hinting_view}
+use Rattle.tt_fit_outline.specs.Outline.{outline_of}
+use Rattle.tt_fit_outline.specs.Views.{hinting_view}
 use Rattle.tt_fit.proofs.Levels.{one_record_more, one_record_paid, one_record_refused, one_level_done, one_level_work, composite_made, simple_made}
 use Rattle.tt_fit.proofs.fitting.Fitter.+fitting.Goals as goal
 

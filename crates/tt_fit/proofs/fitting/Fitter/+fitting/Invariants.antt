@@ -1,7 +1,7 @@
 use Rattle.std.proofs.Common.{◌≡◌, ◌+◌, ◌*◌, drop}
 use Rattle.tt_fit.specs.Fitting.{with_hinting, joined, added, added_work}
-use Rattle.tt_fit.specs.Outline.{outline_of, IsOutline}
-use Rattle.tt_fit.specs.Views.{hinting_view}
+use Rattle.tt_fit_outline.specs.Outline.{outline_of, IsOutline}
+use Rattle.tt_fit_outline.specs.Views.{hinting_view}
 use Rattle.tt_fit.specs.Work.{joined_work}
 use Rattle.tt_fit.proofs.fitting.Fitter.+fitting.Given as goal
 

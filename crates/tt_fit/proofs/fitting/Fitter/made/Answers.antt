@@ -1,5 +1,5 @@
 use Rattle.tt_fit.specs.Fitting.{with_hinting}
-use Rattle.tt_fit.specs.Views.{hinting_view}
+use Rattle.tt_fit_outline.specs.Views.{hinting_view}
 use Rattle.tt_fit.proofs.Unbounded.{of-outline, never-spent}
 use Rattle.tt_fit.proofs.fitting.Fitter.made.Goals as goal
 

@@ -1,6 +1,6 @@
 use Rattle.std.proofs.Common.{◌≡◌, sym, arith}
-use Rattle.tt_fit.specs.Outline.{outline_of}
-use Rattle.tt_fit.specs.Views.{hinting_view}
+use Rattle.tt_fit_outline.specs.Outline.{outline_of}
+use Rattle.tt_fit_outline.specs.Views.{hinting_view}
 use Rattle.tt_fit.proofs.Falling.{made-by-programs, left-where-enough, pays-too}
 use Rattle.tt_fit.proofs.fitting.Fitter.made_or_unfitted.Goals as goal
 
