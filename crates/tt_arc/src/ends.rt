@@ -7,7 +7,7 @@ ghost use Rattle.tt_arc.specs.declared.point.Point.{Point};
 ghost use Rattle.tt_arc.specs.Chords.{moved, edges_of, contour_edges, chord_edges, chord_contours};
 
 use std::alloc::{AllocError, Global};
-use tt_fit::Outline;
+use tt_fit_outline::Outline;
 
 /// The number of a point's edges: `on` and `next` say whether the point and the next point of its contour are on the
 /// curve.

@@ -9,7 +9,7 @@ ghost use Rattle.tt_arc.specs.Chords.{IsNear, moved, outline_edges, chord_edges}
 use crate::contour::push_contour;
 use crate::point::Offset;
 use std::alloc::{AllocError, Global};
-use tt_fit::Outline;
+use tt_fit_outline::Outline;
 use tt_scan::{EdgeList, Frame, Tape};
 
 /// Adds the edges of all contours to a list. An entry of `ends` is one past its contour's last point. Error: memory

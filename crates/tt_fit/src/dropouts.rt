@@ -2,7 +2,6 @@
 
 ghost use Rattle.std.specs.Prelude.{◌≡◌};
 ghost use Rattle.tt_fit.specs.Dropouts.{type_rules, scan_rules, program_rules, rules_by};
-ghost use Rattle.tt_fit_outline.specs.Outline.{outline_of};
 ghost use Rattle.tt_fit_outline.specs.Views.{hinting_view};
 
 use tt_fit_outline::{Hinting, Outline};

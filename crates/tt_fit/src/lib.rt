@@ -6,6 +6,7 @@ mod dropouts;
 mod fallback;
 mod fitting;
 pub mod laws;
+mod outlines;
 mod preparation;
 mod programs;
 mod rules;

@@ -16,7 +16,7 @@ use Rattle.tt_state.specs.declared.point.Point.{Point}
 use Rattle.tt_state.specs.GraphicsState.{default_of, default_state}
 use Rattle.tt_fit_outline.specs.GlyphZone.{untouched, glyph_zone, contours_from}
 use Rattle.tt_fit_outline.specs.Outline.{Outline, PhantomPoints}
-use Rattle.tt_fit_outline.specs.declared.rules.Rules.{Rules}
+use Rattle.tt_fit_outline.specs.declared.rules.OutlineRules.{OutlineRules}
 use Rattle.tt_fit_outline.specs.declared.rules.Scaling.TheVariants as scaling
 use Rattle.tt_fit_outline.specs.Size.{FontSize, size_by}
 use Rattle.tt_fit_outline.specs.Units.{Units}
@@ -48,7 +48,7 @@ without_glyph halves twilight = record {
 }
 
 -- the parts at the start of the font program and the control value program; both have no glyph
-abbrev pub begun_parts : Metrics → List ℕ → ℕ → Rules → Parts
+abbrev pub begun_parts : Metrics → List ℕ → ℕ → OutlineRules → Parts
 begun_parts m cvt ppem rules = record {
   scale = (size_by rules.scaling ppem (units_per_em_of m)).scale;
   ppem = ppem;

@@ -1,11 +1,11 @@
 //! The places of a component's points. OpenType, "The 'glyf' table", "Composite Glyph Description".
 
-ghost use Rattle.std.specs.Prelude.{◌≡◌, ◌<◌, ◌≤◌, ◌^◌, ◌+ℤ◌, ◌*ℤ◌, unsigned_abs, IsTrue, IfOk, IfErr};
+ghost use Rattle.std.specs.Prelude.{◌≡◌, ◌<◌, ◌≤◌, ◌^◌, ◌+ℤ◌, ◌*ℤ◌, unsigned_abs, IfOk};
 ghost use Rattle.tt_core.specs.Numbers.{rounded_quotient};
 ghost use Rattle.tt_core.specs.Outcomes.{Gives};
 ghost use Rattle.tt_glyf.specs.Composite.{one};
 ghost use Rattle.tt_glyf.specs.Meaning.{HasArguments};
-ghost use Rattle.tt_fit_outline.specs.Component.{transformed, offset_along, offset_of, point_of, onto, matched_by, shift_of, landed, placed_point};
+ghost use Rattle.tt_fit_outline.specs.Component.{transformed, offset_along, offset_of, point_of, onto, shift_of, landed, placed_point};
 ghost use Rattle.tt_fit_outline.specs.Outline.{IsPoint};
 ghost use Rattle.tt_fit_outline.specs.Views.{size_view, landing_view, position_view, shift_view};
 

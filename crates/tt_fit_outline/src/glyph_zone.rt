@@ -1,11 +1,11 @@
 //! The points that a glyph's program works on. Apple TrueType Reference Manual, "Instructing TrueType Glyphs" (zones,
 //! phantom points).
 
-ghost use Rattle.std.specs.Prelude.{◌≡◌, ℕ, ◌+◌, ◌++◌, ◌∷◌, [], true, false, length, map, option_map, All, IfOk, IfErr, OnOk};
+ghost use Rattle.std.specs.Prelude.{◌≡◌, ◌+◌, ◌++◌, ◌∷◌, [], true, false, length, map, option_map, All, IfOk, IfErr, OnOk};
 ghost use Rattle.tt_core.specs.Outcomes.{Gives};
 ghost use Rattle.tt_points_zones.specs.Zones.{IsPoint as IsZonePoint};
 ghost use Rattle.tt_fit_outline.specs.GlyphZone.{on_grid_at, untouched, outline_point, glyph_zone, contours_from, place_of, seen, left_outline};
-ghost use Rattle.tt_fit_outline.specs.Outline.{outline_of, phantom_of, IsCoordinate, IsPoint, IsPosition, ArePhantom, AreEnds, IsOutline};
+ghost use Rattle.tt_fit_outline.specs.Outline.{outline_of, phantom_of, IsCoordinate, IsPoint, IsPosition, ArePhantom, IsOutline};
 ghost use Rattle.tt_fit_outline.specs.Scaling.{coordinate_fault, is_coordinate, to_grid};
 ghost use Rattle.tt_fit_outline.specs.Units.{IsNear, with_units};
 ghost use Rattle.tt_fit_outline.specs.Views.{units_view};

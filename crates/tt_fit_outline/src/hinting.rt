@@ -1,11 +1,9 @@
 //! Runs a glyph's program over its outline. Apple TrueType Reference Manual, "Instructing TrueType Glyphs".
 
-ghost use Rattle.std.specs.Prelude.{◌≡◌, ◌≢◌, false, option_map, IfOk, OnOk};
+ghost use Rattle.std.specs.Prelude.{◌≡◌, false, option_map, IfOk, OnOk};
 ghost use Rattle.tt_core.specs.Limits.{step_limit};
-ghost use Rattle.tt_exec.specs.declared.fault.ExecFault.TheVariants as exec;
-ghost use Rattle.tt_exec.specs.declared.work.WorkFault.TheVariants as machine;
-ghost use Rattle.tt_exec.specs.Machines.{begun_again, exec_fault, parts_in, run_from};
-ghost use Rattle.tt_exec.specs.Work.{copied_of, run_work, work_within};
+ghost use Rattle.tt_exec.specs.Machines.{begun_again, parts_in, run_from};
+ghost use Rattle.tt_exec.specs.Work.{copied_of, work_within};
 ghost use Rattle.tt_exec.specs.Parts.{parts_of};
 ghost use Rattle.tt_exec.specs.Views.{code_of};
 ghost use Rattle.tt_points_zones.specs.Zones.{IsZones, SameShape};
@@ -14,7 +12,7 @@ ghost use Rattle.tt_fit_outline.specs.Outline.{outline_of, phantom_of, ArePhanto
 ghost use Rattle.tt_fit_outline.specs.Hinting.{IsHinting, by_program, hinted, run_of, run_on};
 ghost use Rattle.tt_fit_outline.specs.Parts.{AreParts, parts_with};
 ghost use Rattle.tt_fit_outline.specs.Views.{hinting_view, program_view, units_view};
-ghost use Rattle.tt_fit_outline.specs.Work.{Makes, WorkGives, code_work, hinted_work, program_work, work_fault};
+ghost use Rattle.tt_fit_outline.specs.Work.{Makes, WorkGives, code_work, hinted_work, program_work};
 
 use crate::glyph_zone::{left_outline, on_grid};
 use crate::outline::Outline;
@@ -22,10 +20,10 @@ use crate::parts::{glyph_zones, without_contents};
 use crate::glyph_program::GlyphProgram;
 use crate::scaling::glyf_fault;
 use crate::units::Units;
-use crate::unmade::Unmade;
+use crate::unmade::{Unmade, refusal_of};
 use std::alloc::{AllocError, Global};
-use tt_core::{FontFault, Why};
-use tt_exec::{Code, Copies, ExecFault, Machine, Parts, Work, WorkFault};
+use tt_core::Why;
+use tt_exec::{Code, Copies, Machine, Parts, Work};
 
 /// The machine that runs the programs of all glyphs in turn; None before the first.
 pub type GlyphMachine<'a> = Option<Box<Machine<'a>>>;
@@ -37,43 +35,6 @@ pub enum Hinting<'a> {
     Off,
     /// The parts of a machine for a glyph's program.
     Ready(Parts<'a>),
-}
-
-/// Converts a refusal of a machine that has not failed before.
-fn font_fault(fault: ExecFault) -> FontFault
-    requires { fault ≢ exec.Failed }
-    ensures { fault ≡ exec_fault result }
-{
-    match fault {
-        ExecFault::Font(fault) => FontFault::Font(fault),
-        ExecFault::Memory => FontFault::Memory,
-        ExecFault::Failed => unreachable!(),
-    }
-}
-
-/// Converts a refusal of a run whose work may be bounded, out of work included.
-fn unmade(fault: WorkFault) -> Unmade
-    requires { fault ≢ machine.Run exec.Failed }
-    ensures { fault ≡ work_fault result }
-{
-    match fault {
-        WorkFault::Run(refusal) => Unmade::from(font_fault(refusal)),
-        WorkFault::Spent(fault) => Unmade::Spent(fault),
-    }
-}
-
-/// Runs a program on a machine that has not failed. Errors: those of the program, Memory, Spent.
-fn run_on<'a>(machine: &mut Machine<'a>, code: Code<'a>, work: &mut Work) -> Result<(), Unmade>
-    requires { machine.old.failed ≡ false }
-    ensures exact { Makes (λ _. parts_in machine.new.state) result (run_on (code_of code.entry) machine.old.state) }
-    ensures work { WorkGives result work.new.left (run_work (run_from (code_of code.entry) machine.old.state) work.old.left) }
-    ensures shape { OnOk result (SameShape machine.old.state.zones machine.new.state.zones) }
-    ensures done { OnOk result (machine.new.failed ≡ false) }
-{
-    match machine.run_within(code, work) {
-        Ok(_) => Ok(()),
-        Err(fault) => Err(unmade(fault)),
-    }
 }
 
 /// Runs a glyph's program on a machine that has not failed and whose copies are paid for. Errors: those of the program,
@@ -92,7 +53,7 @@ fn run_paid<'a>(
 {
     match machine.run_paid(code, copies, work) {
         Ok(_) => Ok(()),
-        Err(fault) => Err(unmade(fault)),
+        Err(fault) => Err(refusal_of(fault)),
     }
 }
 
@@ -111,7 +72,9 @@ pub fn run<'a>(
     ensures shape { IfOk result (λ p. SameShape (parts_of parts.entry).zones (parts_of p).zones) }
 {
     let mut machine = Machine::new(alloc, parts)?;
-    run_on(&mut machine, code, work)?;
+    if let Err(fault) = machine.run_within(code, work) {
+        return Err(refusal_of(fault));
+    }
     match machine.into_parts() {
         Some(left) => Ok(left),
         None => unreachable!(),
@@ -128,12 +91,22 @@ fn code_in_glyf<'a>(program: GlyphProgram<'a, '_>) -> Code<'a>
     }
 }
 
-/// A machine for the programs of all glyphs. It copies nothing: the first glyph is put into it like each later one.
-fn first_machine<'a>(alloc: Global, parts: &Parts<'a>) -> Result<Box<Machine<'a>>, AllocError>
+/// The machine for the programs of all glyphs, made before the first. A new machine copies nothing: the first glyph is
+/// put into it like each later one.
+fn machine_of_all<'a>(
+    alloc: Global,
+    machine: GlyphMachine<'a>,
+    parts: &Parts<'a>,
+) -> Result<Box<Machine<'a>>, AllocError>
     requires { AreParts (parts_of parts.now) }
 {
-    let parts = without_contents(alloc, parts)?;
-    Ok(Box::new(alloc, Machine::new(alloc, parts)?)?)
+    match machine {
+        Some(machine) => Ok(machine),
+        None => {
+            let parts = without_contents(alloc, parts)?;
+            Ok(Box::new(alloc, Machine::new(alloc, parts)?)?)
+        }
+    }
 }
 
 /// Puts a glyph into a machine, which then equals a new machine made of the parts with this glyph. An allowance that
@@ -163,7 +136,7 @@ fn put_glyph<'a>(
 /// The outline after a glyph's program, run on a machine into which the glyph is put first. Without work for the copies
 /// nothing is copied. Errors: CoordRange of a phantom point, those of the program, Memory, Spent.
 #[tactic(auto, unfolding(crate::specs::Hinting::by_program, crate::specs::Work::program_work))]
-fn by_machine<'a>(
+fn by_program<'a>(
     alloc: Global,
     machine: &mut Machine<'a>,
     parts: &Parts<'a>,
@@ -194,34 +167,8 @@ fn by_machine<'a>(
     Ok(left_outline(outline, machine.glyph_points(), machine.scan())?)
 }
 
-/// The outline after a glyph's program. The machine is reused for each glyph; it is None before the first. Errors:
-/// CoordRange of a phantom point, those of the program, Memory, Spent.
-fn by_program<'a>(
-    alloc: Global,
-    machine: &mut GlyphMachine<'a>,
-    parts: &Parts<'a>,
-    program: GlyphProgram<'a, '_>,
-    outline: Outline,
-    work: &mut Work,
-) -> Result<Outline, Unmade>
-    requires parts { AreParts (parts_of parts.now) }
-    requires outline { IsOutline (outline_of outline) }
-    ensures exact { Makes outline_of result (by_program (parts_of parts.now) (program_view program.entry) (outline_of outline)) }
-    ensures work { WorkGives result work.new.left (program_work (parts_of parts.now) (program_view program.entry) (outline_of outline) work.old.left) }
-    ensures valid { IfOk result (λ o. IsOutline (outline_of o)) }
-{
-    match machine {
-        Some(machine) => by_machine(alloc, machine.as_mut(), parts, program, outline, work),
-        None => {
-            let mut first = first_machine(alloc, parts)?;
-            let made = by_machine(alloc, first.as_mut(), parts, program, outline, work);
-            *machine = Some(first);
-            made
-        }
-    }
-}
-
-/// The outline after a glyph's program, from scaled points or joined components.
+/// The outline after a glyph's program, from scaled points or joined components. The machine is reused for each glyph.
+/// Errors: CoordRange of a phantom point, those of the program, Memory, Spent.
 pub fn hinted<'a>(
     alloc: Global,
     machine: &mut GlyphMachine<'a>,
@@ -242,7 +189,10 @@ pub fn hinted<'a>(
             if parts.skip_glyphs || program.code.is_empty() {
                 return Ok(outline);
             }
-            by_program(alloc, machine, parts, program, outline, work)
+            let mut own = machine_of_all(alloc, machine.take(), parts)?;
+            let made = by_program(alloc, own.as_mut(), parts, program, outline, work);
+            *machine = Some(own);
+            made
         }
     }
 }

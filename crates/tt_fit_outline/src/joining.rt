@@ -1,6 +1,6 @@
 //! Joins a component with the points assembled so far. OpenType, "The 'glyf' table", "Composite Glyph Description".
 
-ghost use Rattle.std.specs.Prelude.{◌≡◌, ◌+◌, ◌<◌, ◌≤◌, ◌++◌, length, All, IsTrue, IfOk, OnOk};
+ghost use Rattle.std.specs.Prelude.{◌≡◌, ◌+◌, ◌<◌, ◌≤◌, ◌++◌, length, All, IfOk, OnOk};
 ghost use Rattle.tt_core.specs.Limits.{point_limit};
 ghost use Rattle.tt_core.specs.Outcomes.{after_each, FontGives, Leaves};
 ghost use Rattle.tt_glyf.specs.Meaning.{HasArguments};

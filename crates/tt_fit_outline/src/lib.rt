@@ -21,7 +21,7 @@ pub use hinting::{GlyphMachine, Hinting, hinted, run};
 pub use joining::placed;
 pub use outline::Outline;
 pub use parts::{begun_parts, left_to_glyphs};
-pub use rules::{Rules, Scaling};
+pub use rules::{OutlineRules, Scaling};
 pub use scaling::{Phantom, blank, glyf_fault, phantom_points, phantom_units, scaled_outline};
 pub use size::FontSize;
 pub use units::{PhantomUnits, Units};

@@ -4,16 +4,14 @@
 ghost use Rattle.std.specs.Prelude.{◌≡◌, ◌+◌, ◌*◌, ◌≤◌, length, option_map, IfOk};
 ghost use Rattle.tt_exec.specs.Parts.{parts_of};
 ghost use Rattle.tt_fit_outline.specs.Outline.{outline_of, phantom_of, ArePhantom, IsOutline};
-ghost use Rattle.tt_core.specs.Scales.{IsScale};
-ghost use Rattle.tt_fit_outline.specs.Parts.{AreParts, begun_parts, control_value, control_values, glyph_state, left_to_glyphs, originals_by, parts_with, pointers_set_back, without_glyph, zones_of};
-ghost use Rattle.tt_fit_outline.specs.Size.{size_by};
+ghost use Rattle.tt_core.specs.Limits.{size_limit};
+ghost use Rattle.tt_fit_outline.specs.Parts.{AreParts, begun_parts, control_value, control_values, glyph_state, left_to_glyphs, originals_by, parts_with, pointers_set_back, without_glyph};
 ghost use Rattle.tt_fit_outline.specs.Views.{size_view, units_view};
-ghost use Rattle.tt_metrics.specs.Metrics.{units_per_em_of};
 ghost use Rattle.tt_points_zones.specs.Zones.{zones_view, IsZones};
 
 use crate::glyph_zone::{contours, glyph_zone, untouched};
 use crate::outline::Outline;
-use crate::rules::Rules;
+use crate::rules::OutlineRules;
 use crate::size::FontSize;
 use crate::units::Units;
 use std::alloc::{AllocError, Global};
@@ -63,16 +61,17 @@ pub fn begun_parts<'a>(
     alloc: Global,
     metrics: &Metrics,
     cvt: &[u8],
-    size: FontSize,
-    rules: Rules,
+    ppem: u32,
+    rules: OutlineRules,
 ) -> Result<Parts<'a>, AllocError>
-    requires { size_view size ≡ size_by rules.scaling size.ppem (units_per_em_of metrics.now) }
-    ensures exact { IfOk result (λ p. parts_of p ≡ begun_parts metrics.now cvt.now size.ppem rules) }
+    requires { ppem ≤ size_limit }
+    ensures exact { IfOk result (λ p. parts_of p ≡ begun_parts metrics.now cvt.now ppem rules) }
     ensures valid { IfOk result (λ p. AreParts (parts_of p)) }
 {
+    let size = FontSize::of(metrics, ppem, rules.scaling);
     Ok(Parts {
         scale: size.scale,
-        ppem: size.ppem,
+        ppem,
         cvt: control_values(alloc, size, cvt)?,
         storage: vec![in alloc; 0; usize::from(metrics.storage())]?,
         zones: without_glyph(alloc, size.scale.halves, metrics.twilight())?,

@@ -12,7 +12,7 @@ pub enum Scaling {
 
 /// The rules for running programs and scaling.
 #[derive(Clone, Copy)]
-pub struct Rules {
+pub struct OutlineRules {
     /// Whether programs have the whole instruction set.
     pub whole: bool,
     /// What happens when an instruction refers to something missing.

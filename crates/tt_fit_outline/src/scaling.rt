@@ -1,17 +1,17 @@
 //! Scales font units to 26.6 pixels, and makes the phantom points. Apple TrueType Reference Manual, "Digitizing
 //! Letterform Designs" and "Instructing TrueType Glyphs".
 
-ghost use Rattle.std.specs.Prelude.{◌≡◌, ◌+◌, ◌<◌, ◌≤◌, false, true, length, map, All, IsTrue, IfOk, IfErr};
+ghost use Rattle.std.specs.Prelude.{◌≡◌, ◌+◌, ◌<◌, ◌≤◌, false, true, length, map, All, IfOk, IfErr};
 ghost use Rattle.tt_core.specs.Limits.{point_limit};
 ghost use Rattle.tt_core.specs.Outcomes.{each, FontGives, Gives};
 ghost use Rattle.tt_metrics.specs.Metrics.{glyphs_of};
 ghost use Rattle.tt_glyf.specs.Meaning.{AreEnds as EndContours};
-ghost use Rattle.tt_fit_outline.specs.Outline.{Outline, outline_of, IsCoordinate, IsPoint, AreEnds, IsOutline};
+ghost use Rattle.tt_fit_outline.specs.Outline.{Outline, outline_of, IsCoordinate, IsPoint, IsOutline};
 ghost use Rattle.tt_fit_outline.specs.Scaling.{is_coordinate, glyf_fault, coordinate_fault, settled, scaled_position, scaled_by_scale, scaled_point, phantom_points, phantom_units, blank, scaled_outline};
 ghost use Rattle.tt_fit_outline.specs.Views.{size_view, landing_view, phantom_view, phantom_units_view};
 
 use crate::outline::Outline;
-use crate::size::{FontSize, Shift};
+use crate::size::{FontSize, PowerScale};
 use crate::units::PhantomUnits;
 use std::alloc::{AllocError, Global};
 use tt_core::{COORDINATE_LIMIT, Fault, FontFault, Why};
@@ -81,7 +81,7 @@ fn scaled_point(size: FontSize, at: u32, point: RawPoint) -> Result<(i32, i32, b
 #[inline(never)]
 fn shifted_points(
     alloc: Global,
-    shift: Shift,
+    shift: PowerScale,
     points: &[RawPoint],
 ) -> Result<Vec<(i32, i32, bool)>, AllocError>
     ensures exact { IfOk result (λ v. v.items ≡ map (scaled_by_scale shift.scale) points.now) }

@@ -59,7 +59,7 @@ impl FontSize {
 
     /// The scale as a shift. None where the font units are no power of two, or where a coordinate of 16 bits could
     /// exceed the limit.
-    pub(crate) fn shift(self) -> Option<Shift>
+    pub(crate) fn shift(self) -> Option<PowerScale>
         ensures { IfSome result (λ s. s.scale ≡ self.scale) }
     {
         let units = u64::from(self.scale.units);
@@ -68,7 +68,7 @@ impl FontSize {
         if 1u64 << by != 2 * units || u64::from(self.scale.pixels) * 32768 > limit {
             return None;
         }
-        Some(Shift {
+        Some(PowerScale {
             scale: self.scale,
             by,
         })
@@ -77,7 +77,7 @@ impl FontSize {
 
 /// A scale whose font units are a power of two, by which no coordinate of 16 bits exceeds the limit.
 #[derive(Clone, Copy)]
-pub(crate) struct Shift {
+pub(crate) struct PowerScale {
     scale: Scale,
     by: u32,
     pub(crate) ghost valid: { IsScale scale },
@@ -96,7 +96,7 @@ fn product(v: i16, pixels: u32) -> i64
     i64::from(v) * i64::from(pixels)
 }
 
-impl Shift {
+impl PowerScale {
     /// `n` divided by the font units, rounded to the nearest whole number, a half upwards.
     #[inline(always)]
     fn nearest(self, n: i64) -> i64

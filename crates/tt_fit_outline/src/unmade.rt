@@ -1,11 +1,14 @@
 //! Why an outline is not made, where the work of programs may be bounded (profile).
 
-ghost use Rattle.std.specs.Prelude.{◌≡◌};
+ghost use Rattle.std.specs.Prelude.{◌≡◌, ◌≢◌};
+ghost use Rattle.tt_exec.specs.declared.fault.ExecFault.TheVariants as exec;
+ghost use Rattle.tt_exec.specs.declared.work.WorkFault.TheVariants as work;
 ghost use Rattle.tt_fit_outline.specs.declared.unmade.Unmade.TheVariants as unmade;
-ghost use Rattle.tt_fit_outline.specs.Work.{IsUnbounded, unmade_of};
+ghost use Rattle.tt_fit_outline.specs.Work.{IsUnbounded, unmade_of, work_fault};
 
 use std::alloc::AllocError;
 use tt_core::{Fault, FontFault};
+use tt_exec::{ExecFault, WorkFault};
 
 /// Why an outline is not made.
 #[derive(Clone, Copy)]
@@ -54,5 +57,20 @@ pub fn unbounded(refusal: Unmade) -> FontFault
         Unmade::Font(fault) => FontFault::Font(fault),
         Unmade::Memory => FontFault::Memory,
         Unmade::Spent(_) => unreachable!(),
+    }
+}
+
+/// A machine's refusal of a run, where the machine had not failed before.
+pub(crate) fn refusal_of(fault: WorkFault) -> Unmade
+    requires { fault ≢ work.Run exec.Failed }
+    ensures { fault ≡ work_fault result }
+{
+    match fault {
+        WorkFault::Run(refusal) => match refusal {
+            ExecFault::Font(fault) => Unmade::Font(fault),
+            ExecFault::Memory => Unmade::Memory,
+            ExecFault::Failed => unreachable!(),
+        },
+        WorkFault::Spent(fault) => Unmade::Spent(fault),
     }
 }

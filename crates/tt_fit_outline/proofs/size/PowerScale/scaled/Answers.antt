@@ -2,7 +2,7 @@ use Rattle.std.proofs.Common.{◌≤◌, refl, SFits, w16, w32, w64, unsigned_ab
 use Rattle.std.proofs.lemmas.Int.{to_z-of_z, ints}
 use Rattle.tt_core.specs.Limits.{coordinate_limit}
 use Rattle.tt_fit_outline.proofs.Shifts.{quotient-within}
-use Rattle.tt_fit_outline.proofs.size.Shift.scaled.Goals as goal
+use Rattle.tt_fit_outline.proofs.size.PowerScale.scaled.Goals as goal
 
 pub overflow_cast-result : goal.overflow_cast-result
 overflow_cast-result c =

@@ -8,7 +8,7 @@ use Rattle.tt_fit_outline.proofs.Zones.{zone-length}
 use Rattle.tt_fit_outline.specs.Outline.{outline_of, phantom_of}
 use Rattle.tt_fit_outline.specs.Views.{program_view, units_view}
 use Rattle.tt_fit_outline.specs.Hinting.{by_program, run_of}
-use Rattle.tt_fit_outline.proofs.hinting.by_machine.Goals as goal
+use Rattle.tt_fit_outline.proofs.hinting.by_program.Goals as goal
 
 pub returns-in_err-run_paid-clause-exact : goal.returns-in_err-run_paid-clause-exact
 unfolding by_program run_of
