@@ -263,7 +263,8 @@ impl<'a> Fitter<'a> {
         ensures unfitted { IfOk result (λ o. o.unfitted ≡ unfitted) }
         ensures valid { IfOk result (λ o. IsOutline (outline_of o)) }
     {
-        match self.outline(machine, hinting, self.levels, g, &mut Work::unbounded()) {
+        let mut work = Work { left: None };
+        match self.outline(machine, hinting, self.levels, g, &mut work) {
             Ok(outline) => Ok(Outline {
                 unfitted,
                 ..outline

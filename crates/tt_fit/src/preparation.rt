@@ -1,7 +1,7 @@
 //! Runs the font program and the control value program before the first glyph. Apple TrueType Reference Manual,
 //! "Instructing TrueType Glyphs".
 
-ghost use Rattle.std.specs.Prelude.{◌≡◌, ◌*◌, ◌≤◌, length, Ok, IfOk, IsTrue};
+ghost use Rattle.std.specs.Prelude.{◌≡◌, ◌≤◌, length, Ok, IfOk, IsTrue};
 ghost use Rattle.tt_core.specs.Faults.{is_ascii};
 ghost use Rattle.tt_core.specs.Limits.{font_limit, size_limit};
 ghost use Rattle.tt_core.specs.Outcomes.{FontGives};
@@ -84,7 +84,7 @@ fn without_fallback<'a>(hinting: Hinting<'a>) -> Preparation<'a>
     Preparation {
         hinting,
         fallback: Fallback::Never,
-        work: Work::unbounded(),
+        work: Work { left: None },
     }
 }
 
@@ -148,7 +148,7 @@ pub(crate) fn prepared<'a>(
 {
     match fit {
         Fit::Full => {
-            let mut work = Work::unbounded();
+            let mut work = Work { left: None };
             match left_by_programs(alloc, metrics, programs, ppem, fit, &mut work) {
                 Ok(hinting) => Ok(without_fallback(hinting)),
                 Err(refusal) => Err(unbounded(refusal)),

@@ -14,10 +14,10 @@ ghost use Rattle.tt_fit_outline.specs.Parts.{AreParts, parts_with};
 ghost use Rattle.tt_fit_outline.specs.Views.{hinting_view, program_view, units_view};
 ghost use Rattle.tt_fit_outline.specs.Work.{Makes, WorkGives, code_work, hinted_work, program_work};
 
+use crate::glyph_program::GlyphProgram;
 use crate::glyph_zone::{left_outline, on_grid};
 use crate::outline::Outline;
 use crate::parts::{glyph_zones, without_contents};
-use crate::glyph_program::GlyphProgram;
 use crate::scaling::glyf_fault;
 use crate::units::Units;
 use crate::unmade::{Unmade, refusal_of};
