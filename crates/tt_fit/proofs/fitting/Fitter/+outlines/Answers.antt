@@ -7,7 +7,7 @@ use Rattle.tt_fit.specs.Fitting.{with_hinting, start, added, added_work}
 use Rattle.tt_fit_outline.specs.Outline.{outline_of}
 use Rattle.tt_fit_outline.specs.Views.{hinting_view}
 use Rattle.tt_fit.proofs.Levels.{one_record_more, one_record_paid, one_record_refused, one_level_done, one_level_work, composite_made, simple_made}
-use Rattle.tt_fit.proofs.outlines.Fitter.+outlines.Goals as goal
+use Rattle.tt_fit.proofs.fitting.Fitter.+outlines.Goals as goal
 
 pub joined-loop-part-preserved : goal.joined-loop-part-preserved
 joined-loop-part-preserved t c =

@@ -3,7 +3,7 @@ use Rattle.tt_fit.specs.Fitting.{with_hinting, joined, added, added_work}
 use Rattle.tt_fit_outline.specs.Outline.{outline_of, IsOutline}
 use Rattle.tt_fit_outline.specs.Views.{hinting_view}
 use Rattle.tt_fit.specs.Work.{joined_work}
-use Rattle.tt_fit.proofs.outlines.Fitter.+outlines.Given as goal
+use Rattle.tt_fit.proofs.fitting.Fitter.+outlines.Given as goal
 
 abbrev pub decreases-added : goal.decreases-added
 decreases-added l = 3 * l.levels
