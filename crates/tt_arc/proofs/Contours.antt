@@ -4,7 +4,7 @@ use Rattle.std.specs.List.{slice_index, slice_range, flat_map, range_with_len}
 use Rattle.std.proofs.lemmas.List.{get_or-take, get_or-drop, length-take, length-drop, take-map, drop-map}
 use Rattle.tt_scan_edges.specs.declared.edge.Edge.{Edge}
 use Rattle.tt_arc.specs.declared.point.Point.{Point}
-use Rattle.tt_fit.specs.Outline.{AreEnds}
+use Rattle.tt_fit_outline.specs.Outline.{AreEnds}
 use Rattle.tt_arc.specs.Chords.{contour_edges, contour_start, contour_at}
 
 pub slice_of_map : {X : Type 0} (f : X → Point) (ps : List X) (a b : ℕ) → slice_range (map f ps) a b

@@ -3,7 +3,7 @@ use Rattle.std.proofs.Common.{◌≡◌, ℕ, zero, suc, ◌+◌, ◌-◌, ◌*�
 use Rattle.std.specs.List.{flat_map, range_with_len}
 use Rattle.std.proofs.lemmas.List.{length-take}
 use Rattle.tt_scan_edges.specs.declared.edge.Edge.{Edge}
-use Rattle.tt_fit.specs.Outline.{AreEnds}
+use Rattle.tt_fit_outline.specs.Outline.{AreEnds}
 use Rattle.tt_arc.specs.declared.quadratic.Quadratic.{Quadratic}
 use Rattle.tt_arc.specs.declared.point.Point.{Point}
 use Rattle.tt_arc.specs.Chords.{first_chords, edges_of, edges_at, contour_edges, contour_start, contour_at, chord_edges, moved}

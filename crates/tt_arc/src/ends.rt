@@ -1,13 +1,13 @@
 //! The ends of an outline's contours among its edges.
 
 ghost use Rattle.std.specs.Prelude.{◌≡◌, ℤ, ◌*◌, ◌≤◌, length, map, IfOk};
-ghost use Rattle.tt_fit.specs.Outline.{AreEnds};
+ghost use Rattle.tt_fit_outline.specs.Outline.{AreEnds};
 ghost use Rattle.tt_scan.specs.Contours.{contours_at, AreEnds as AreEdgeEnds};
 ghost use Rattle.tt_arc.specs.declared.point.Point.{Point};
 ghost use Rattle.tt_arc.specs.Chords.{moved, edges_of, contour_edges, chord_edges, chord_contours};
 
 use std::alloc::{AllocError, Global};
-use tt_fit::Outline;
+use tt_fit_outline::Outline;
 
 /// The number of a point's edges: `on` and `next` say whether the point and the next point of its contour are on the
 /// curve.

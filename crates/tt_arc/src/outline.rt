@@ -2,14 +2,14 @@
 
 ghost use Rattle.std.specs.Prelude.{◌≡◌, ◌*◌, ◌≤◌, ◌++◌, length, map, if◌then◌else◌, All, IfOk, OnOk};
 ghost use Rattle.std.specs.List.{sum_by};
-ghost use Rattle.tt_fit.specs.Outline.{AreEnds};
+ghost use Rattle.tt_fit_outline.specs.Outline.{AreEnds};
 ghost use Rattle.tt_scan_edges.specs.Winding.{FrameFits};
 ghost use Rattle.tt_arc.specs.Chords.{IsNear, moved, outline_edges, chord_edges};
 
 use crate::contour::push_contour;
 use crate::point::Offset;
 use std::alloc::{AllocError, Global};
-use tt_fit::Outline;
+use tt_fit_outline::Outline;
 use tt_scan::{EdgeList, Frame, Tape};
 
 /// Adds the edges of all contours to a list. An entry of `ends` is one past its contour's last point. Error: memory

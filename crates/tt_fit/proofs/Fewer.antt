@@ -17,15 +17,16 @@ use Rattle.tt_fit.specs.declared.dropouts.DropoutsBy.{DropoutsBy}
 use Rattle.tt_fit.specs.declared.programs.Fit.TheVariants as fit
 use Rattle.tt_fit.specs.Fallback.{Fallback, never, where_refused, everywhere}
 use Rattle.tt_fit.specs.Fitting.{Fitter, with_hinting, size_of, start, composite_program, simple_program, joined, added, simple_work, composite_work, made_work, work_by, added_work, outline_work, glyph_work, left_after, after_glyph}
-use Rattle.tt_fit.specs.GlyphZone.{GlyphProgram, program_in_glyf, on_grid_at}
-use Rattle.tt_fit.specs.Hinting.{Hinting, off, ready, is_run, run_of}
+use Rattle.tt_fit_outline.specs.GlyphZone.{GlyphProgram, program_in_glyf, on_grid_at}
+use Rattle.tt_fit_outline.specs.Hinting.{Hinting, off, ready, is_run, run_of}
 use Rattle.tt_fit.specs.Laws.{Fewer, WorkFalls, BestIsBounded}
-use Rattle.tt_fit.specs.Outline.{Outline}
-use Rattle.tt_fit.specs.Parts.{parts_with}
+use Rattle.tt_fit_outline.specs.Outline.{Outline}
+use Rattle.tt_fit_outline.specs.Parts.{parts_with}
 use Rattle.tt_fit.specs.Preparation.{ProgramTables, font_program, control_value_program, with_definitions, programs_work, begun_at, left_at, work_at, prepared_by, prepared, fitter_with, fitter_of}
 use Rattle.tt_fit.specs.Rules.{dropouts_by}
-use Rattle.tt_fit.specs.Scaling.{scaled_outline}
-use Rattle.tt_fit.specs.Work.{if_ok, code_work, program_work, hinted_work, joined_work}
+use Rattle.tt_fit_outline.specs.Scaling.{scaled_outline}
+use Rattle.tt_fit_outline.specs.Work.{if_ok, code_work, program_work, hinted_work}
+use Rattle.tt_fit.specs.Work.{joined_work}
 
 -- work does not increase what remains
 abbrev Falls : (Option ℕ → Worked) → Type 0

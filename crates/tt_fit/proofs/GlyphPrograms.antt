@@ -5,11 +5,11 @@ use Rattle.tt_core.specs.Chains.{came-through, was-err, passed-else, failed-else
 use Rattle.tt_core.specs.Faults.{Fault}
 use Rattle.tt_exec.specs.Parts.{Parts}
 use Rattle.tt_fit.specs.Defects.{PassesLimit, IsGridDefect, IsProgramDefect, IsHintingDefect}
-use Rattle.tt_fit.specs.GlyphZone.{GlyphProgram, program_in_glyf, on_grid, are_on_grid, on_grid_at}
-use Rattle.tt_fit.specs.Parts.{parts_with}
-use Rattle.tt_fit.specs.Outline.{PhantomPoints, Outline}
-use Rattle.tt_fit.specs.Hinting.{Hinting, off, ready, is_run, run_of, by_program, hinted}
-use Rattle.tt_fit.specs.Scaling.{is_coordinate}
+use Rattle.tt_fit_outline.specs.GlyphZone.{GlyphProgram, program_in_glyf, on_grid, are_on_grid, on_grid_at}
+use Rattle.tt_fit_outline.specs.Parts.{parts_with}
+use Rattle.tt_fit_outline.specs.Outline.{PhantomPoints, Outline}
+use Rattle.tt_fit_outline.specs.Hinting.{Hinting, off, ready, is_run, run_of, by_program, hinted}
+use Rattle.tt_fit_outline.specs.Scaling.{is_coordinate}
 use Rattle.tt_fit.proofs.Placing.{passes, fits, one-fails, all-hold}
 
 -- the phantom points on the grid

@@ -4,15 +4,18 @@ use Rattle.tt_core.specs.Faults.{Fault}
 use Rattle.tt_core.specs.Outcomes.{◌>>=◌}
 use Rattle.tt_exec.specs.Work.{Worked, enough}
 use Rattle.tt_glyf.specs.declared.raw.Record.{Record}
-use Rattle.tt_fit.specs.declared.unmade.Unmade.{Unmade}
-use Rattle.tt_fit.specs.declared.unmade.Unmade.TheVariants as unmade
-use Rattle.tt_fit.specs.Joining.{placed}
+use Rattle.tt_fit_outline.specs.declared.unmade.Unmade.{Unmade}
+use Rattle.tt_fit_outline.specs.declared.unmade.Unmade.TheVariants as unmade
+use Rattle.tt_fit_outline.specs.Joining.{placed}
 use Rattle.tt_glyf.specs.GlyphData.{glyph_data_of}
+use Rattle.tt_glyf.specs.Loca.{glyph_offset}
 use Rattle.tt_glyf.specs.Raw.{CompositeGlyph, SimpleGlyph, composite, simple}
-use Rattle.tt_fit.specs.Hinting.{hinted}
-use Rattle.tt_fit.specs.Fitting.{Fitter, size_of, start, simple_program, composite_program, simple_outline, joined, added, outline_at, added_work, outline_work}
-use Rattle.tt_fit.specs.Outline.{Outline}
-use Rattle.tt_fit.specs.Work.{RefusalLeaves, joined_work, unmade_fault}
+use Rattle.tt_fit_outline.specs.Hinting.{hinted}
+use Rattle.tt_fit.specs.Fitting.{Fitter, size_of, start, simple_program, composite_program, joined, added, outline_at, added_work, outline_work}
+use Rattle.tt_fit_outline.specs.Outline.{Outline}
+use Rattle.tt_fit_outline.specs.Scaling.{scaled_outline}
+use Rattle.tt_fit_outline.specs.Work.{RefusalLeaves, unmade_fault}
+use Rattle.tt_fit.specs.Work.{joined_work}
 
 pub one_record_more : (add : Record → Outline → Result Outline Fault) (rs : List Record) (i : ℕ) (d : Record)
     (o next : Outline) → i < length rs → add (get_or rs i d) o ≡ Ok next
@@ -33,11 +36,12 @@ pub one_level_done : (s : Fitter) (levels : ℕ) (r : Record) (o component : Out
     → outline_at s (levels - 1) r.glyph ≡ Ok component → added s levels r o ≡ placed (size_of s) r component o
 one_level_done s levels r o component some made = rw (one_level s levels r o some, made) refl
 
--- a simple glyph that was read, and begun without points
-pub simple_made : (s : Fitter) (levels g : ℕ) (d : SimpleGlyph) (o : Outline) → glyph_data_of s.tables g ≡ Ok (simple d)
-    → start s d.x_min g ≡ Ok o
-    → outline_at s levels g ≡ simple_outline s g d.points d.ends (simple_program s g d) o
-simple_made s levels g d o read begun = rw (read, begun) refl
+-- a simple glyph that was read, begun without points, and scaled
+pub simple_made : (s : Fitter) (levels g : ℕ) (d : SimpleGlyph) (o scaled : Outline)
+    → glyph_data_of s.tables g ≡ Ok (simple d) → start s d.x_min g ≡ Ok o
+    → scaled_outline (size_of s) (glyph_offset s.tables g) d.points d.ends o ≡ Ok scaled
+    → outline_at s levels g ≡ hinted s.hinting (simple_program s g d) scaled
+simple_made s levels g d o scaled read begun scales = rw (read, begun, scales) refl
 
 pub composite_made : (s : Fitter) (levels g : ℕ) (d : CompositeGlyph) (o so_far : Outline)
     → glyph_data_of s.tables g ≡ Ok (composite d) → start s d.x_min g ≡ Ok o

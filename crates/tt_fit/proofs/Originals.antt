@@ -13,17 +13,17 @@ use Rattle.tt_metrics.specs.Metrics.{Metrics, units_per_em_of}
 use Rattle.tt_state.specs.declared.point.Point.{Point}
 use Rattle.tt_fit.specs.declared.programs.Fit.{Fit}
 use Rattle.tt_fit.specs.declared.programs.Fit.TheVariants as fit
-use Rattle.tt_fit.specs.declared.rules.Scaling.{Scaling}
-use Rattle.tt_fit.specs.declared.rules.Scaling.TheVariants as scaling
+use Rattle.tt_fit_outline.specs.declared.rules.Scaling.{Scaling}
+use Rattle.tt_fit_outline.specs.declared.rules.Scaling.TheVariants as scaling
 use Rattle.tt_fit.specs.Fitting.{Fitter, size_of, start}
-use Rattle.tt_fit.specs.GlyphZone.{untouched, outline_point, phantom_zone, glyph_zone}
+use Rattle.tt_fit_outline.specs.GlyphZone.{untouched, outline_point, phantom_zone, glyph_zone}
 use Rattle.tt_fit.specs.Laws.{IsScaledBy, OriginalsAreScaled, OthersMeasureInPixels}
-use Rattle.tt_fit.specs.Outline.{Outline, PhantomPoints}
+use Rattle.tt_fit_outline.specs.Outline.{Outline, PhantomPoints}
 use Rattle.tt_fit.specs.Preparation.{ProgramTables, prepared, fitter_of}
 use Rattle.tt_fit.specs.Rules.{rules_of}
-use Rattle.tt_fit.specs.Scaling.{settled, is_coordinate, are_positions, scaled_position, scaled_point, phantom_units, phantom_points, blank, scaled_outline}
-use Rattle.tt_fit.specs.Size.{FontSize, size_by}
-use Rattle.tt_fit.specs.Units.{in_units, units_by, with_units}
+use Rattle.tt_fit_outline.specs.Scaling.{settled, is_coordinate, are_positions, scaled_position, scaled_point, phantom_units, phantom_points, blank, scaled_outline}
+use Rattle.tt_fit_outline.specs.Size.{FontSize, size_by}
+use Rattle.tt_fit_outline.specs.Units.{in_units, units_by, with_units}
 
 -- settling does not move a point within the limit
 settled-same : (at : ℕ) (p q : ℤ × ℤ × Bool) → settled at p ≡ Ok q → p ≡ q

@@ -14,12 +14,12 @@ use Rattle.tt_core.proofs.Each.{each-failed, each-made, length-each}
 use Rattle.tt_glyf.specs.Format.{args_are_xy_values, has}
 use Rattle.tt_glyf.specs.declared.raw.RawPoint.{RawPoint}
 use Rattle.tt_glyf.specs.declared.raw.Record.{Record}
-use Rattle.tt_fit.specs.Component.{offset_of, point_of, matched_by, shift_of, landed, placed_point}
-use Rattle.tt_fit.specs.Joining.{within_point_limit, appended, placed}
+use Rattle.tt_fit_outline.specs.Component.{offset_of, point_of, matched_by, shift_of, landed, placed_point}
+use Rattle.tt_fit_outline.specs.Joining.{within_point_limit, appended, placed}
 use Rattle.tt_fit.specs.Defects.{PassesLimit, LeavesLimit, IsPhantomDefect, IsScaledDefect, LacksPoint, IsMatchDefect, IsLandingDefect, IsCountDefect, IsPlacingDefect}
-use Rattle.tt_fit.specs.Outline.{PhantomPoints, Outline}
-use Rattle.tt_fit.specs.Scaling.{is_coordinate, is_position, are_positions, glyf_fault, coordinate_fault, settled, scaled_position, scaled_point, blank, scaled_outline}
-use Rattle.tt_fit.specs.Size.{FontSize}
+use Rattle.tt_fit_outline.specs.Outline.{PhantomPoints, Outline}
+use Rattle.tt_fit_outline.specs.Scaling.{is_coordinate, is_position, are_positions, glyf_fault, coordinate_fault, settled, scaled_position, scaled_point, blank, scaled_outline}
+use Rattle.tt_fit_outline.specs.Size.{FontSize}
 
 -- coordinates
 pub passes : (v : ℤ) → is_coordinate v ≡ false → PassesLimit v

@@ -12,11 +12,11 @@ use Rattle.tt_glyf.specs.Raw.{Raw, empty, simple, composite}
 use Rattle.tt_glyf.proofs.Defects.{glyph-broke, glyph-whole}
 use Rattle.tt_fit.specs.Defects.{IsStartDefect, IsPlacingDefect, assembled_before, IsRecordsDefect, IsHintingDefect, IsMakingDefect, IsDefectBy, IsBadComponent, IsOutlineDefect}
 use Rattle.tt_fit.specs.Fitting.{Fitter, size_of, start, joined, composite_program, simple_program, made, outline_by, added, glyph_fitter, fitted_outline}
-use Rattle.tt_fit.specs.GlyphZone.{GlyphProgram}
+use Rattle.tt_fit_outline.specs.GlyphZone.{GlyphProgram}
 use Rattle.tt_fit.specs.Laws.{OutlinesAreWhole, OutlineFaultsStand}
-use Rattle.tt_fit.specs.Outline.{Outline}
-use Rattle.tt_fit.specs.Hinting.{Hinting, hinted}
-use Rattle.tt_fit.specs.Scaling.{phantom_points, scaled_outline}
+use Rattle.tt_fit_outline.specs.Outline.{Outline}
+use Rattle.tt_fit_outline.specs.Hinting.{Hinting, hinted}
+use Rattle.tt_fit_outline.specs.Scaling.{phantom_points, scaled_outline}
 use Rattle.tt_fit.proofs.GlyphPrograms.{hinted-broke, hinted-whole}
 use Rattle.tt_fit.proofs.Placing.{blank-broke, blank-whole, scaled-broke, scaled-whole, placing-broke, placing-whole}
 

@@ -13,16 +13,17 @@ use Rattle.tt_glyf.specs.Raw.{Raw, empty, simple, composite}
 use Rattle.tt_metrics.specs.Metrics.{Metrics}
 use Rattle.tt_fit.specs.declared.programs.Fit.{Fit}
 use Rattle.tt_fit.specs.declared.programs.Fit.TheVariants as fit
-use Rattle.tt_fit.specs.declared.unmade.Unmade.{Unmade}
-use Rattle.tt_fit.specs.declared.unmade.Unmade.TheVariants as unmade
+use Rattle.tt_fit_outline.specs.declared.unmade.Unmade.{Unmade}
+use Rattle.tt_fit_outline.specs.declared.unmade.Unmade.TheVariants as unmade
 use Rattle.tt_fit.specs.Fitting.{Fitter, size_of, start, composite_program, simple_program, joined, added, simple_work, composite_work, made_work, work_by, added_work, outline_work}
-use Rattle.tt_fit.specs.GlyphZone.{GlyphProgram, program_in_glyf, on_grid_at}
-use Rattle.tt_fit.specs.Hinting.{Hinting, off, ready, is_run, run_of}
-use Rattle.tt_fit.specs.Outline.{Outline}
-use Rattle.tt_fit.specs.Parts.{parts_with}
+use Rattle.tt_fit_outline.specs.GlyphZone.{GlyphProgram, program_in_glyf, on_grid_at}
+use Rattle.tt_fit_outline.specs.Hinting.{Hinting, off, ready, is_run, run_of}
+use Rattle.tt_fit_outline.specs.Outline.{Outline}
+use Rattle.tt_fit_outline.specs.Parts.{parts_with}
 use Rattle.tt_fit.specs.Preparation.{ProgramTables, font_program, control_value_program, with_definitions, programs_work, with_fallback, within_work, begun_at, left_at, work_at, prepared}
-use Rattle.tt_fit.specs.Scaling.{scaled_outline}
-use Rattle.tt_fit.specs.Work.{IsUnbounded, RefusalLeaves, if_ok, code_work, program_work, hinted_work, joined_work}
+use Rattle.tt_fit_outline.specs.Scaling.{scaled_outline}
+use Rattle.tt_fit_outline.specs.Work.{IsUnbounded, RefusalLeaves, if_ok, code_work, program_work, hinted_work}
+use Rattle.tt_fit.specs.Work.{joined_work}
 
 pub after-ok : {X : Type 0} (x : Result X Fault) (more : X → Option ℕ → Worked)
     → ((y : X) → more y None ≡ enough None) → if_ok x more None ≡ enough None

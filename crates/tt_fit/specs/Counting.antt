@@ -11,7 +11,7 @@ use Rattle.tt_glyf.specs.Loca.{Glyf, glyph_bytes_of}
 use Rattle.tt_glyf.specs.Told.{told_size, components_of}
 use Rattle.tt_metrics.specs.declared.head.LocaFormat.TheVariants.{Short}
 use Rattle.tt_fit.specs.Fitting.{Fitter, fitted_outline}
-use Rattle.tt_fit.specs.Outline.{Outline}
+use Rattle.tt_fit_outline.specs.Outline.{Outline}
 
 -- the phantom points of each glyph and each component
 abbrev pub phantom_count : ℕ

@@ -14,14 +14,14 @@ use Rattle.tt_glyf.specs.GlyphData.{glyph_data_of}
 use Rattle.tt_glyf.specs.Loca.{glyph_offset}
 use Rattle.tt_glyf.specs.Raw.{Raw, empty, simple, composite}
 use Rattle.tt_exec.specs.Parts.{Parts}
-use Rattle.tt_fit.specs.Component.{shift_of, landed}
+use Rattle.tt_fit_outline.specs.Component.{shift_of, landed}
 use Rattle.tt_fit.specs.Fitting.{Fitter, size_of, start, composite_program, simple_program, joined, added, outline_at, glyph_fitter}
-use Rattle.tt_fit.specs.GlyphZone.{GlyphProgram, program_in_glyf, on_grid, on_grid_at}
-use Rattle.tt_fit.specs.Parts.{parts_with}
-use Rattle.tt_fit.specs.Outline.{PhantomPoints, Outline}
-use Rattle.tt_fit.specs.Hinting.{Hinting, off, ready, is_run, run_of}
-use Rattle.tt_fit.specs.Scaling.{glyf_fault, coordinate_fault, phantom_points, scaled_outline}
-use Rattle.tt_fit.specs.Size.{FontSize, scale}
+use Rattle.tt_fit_outline.specs.GlyphZone.{GlyphProgram, program_in_glyf, on_grid, on_grid_at}
+use Rattle.tt_fit_outline.specs.Parts.{parts_with}
+use Rattle.tt_fit_outline.specs.Outline.{PhantomPoints, Outline}
+use Rattle.tt_fit_outline.specs.Hinting.{Hinting, off, ready, is_run, run_of}
+use Rattle.tt_fit_outline.specs.Scaling.{glyf_fault, coordinate_fault, phantom_points, scaled_outline}
+use Rattle.tt_fit_outline.specs.Size.{FontSize, scale}
 
 -- a coordinate is past the limit
 abbrev pub PassesLimit : ℤ → Type 0

@@ -9,8 +9,8 @@ use Rattle.tt_fit.specs.declared.dropouts.DropoutRules.{DropoutRules}
 use Rattle.tt_fit.specs.declared.dropouts.DropoutsBy.{DropoutsBy}
 use Rattle.tt_fit.specs.declared.dropouts.DropoutsBy.TheVariants as by
 use Rattle.tt_fit.specs.Fitting.{Fitter}
-use Rattle.tt_fit.specs.Hinting.{Hinting, off, ready}
-use Rattle.tt_fit.specs.Outline.{Outline}
+use Rattle.tt_fit_outline.specs.Hinting.{Hinting, off, ready}
+use Rattle.tt_fit_outline.specs.Outline.{Outline}
 
 -- the rules of scan type 1
 abbrev pub default_rules : DropoutRules

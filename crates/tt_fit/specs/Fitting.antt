@@ -21,18 +21,19 @@ use Rattle.tt_glyf.specs.Raw.{Raw, SimpleGlyph, CompositeGlyph, empty, simple, c
 use Rattle.tt_metrics.specs.Metrics.{Metrics, units_per_em_of, loca_format_of, glyphs_of}
 use Rattle.tt_fit.specs.declared.dropouts.DropoutsBy.{DropoutsBy}
 use Rattle.tt_fit.specs.declared.dropouts.DropoutsBy.TheVariants as by
-use Rattle.tt_fit.specs.Component.{shift_of}
-use Rattle.tt_fit.specs.Joining.{placed, appended, within_point_limit}
+use Rattle.tt_fit_outline.specs.Component.{shift_of}
+use Rattle.tt_fit_outline.specs.Joining.{placed, appended, within_point_limit}
 use Rattle.tt_fit.specs.Fallback.{Fallback, never, where_refused, everywhere, unfitted_by, hinting_for}
-use Rattle.tt_fit.specs.Outline.{PhantomPoints, Outline}
-use Rattle.tt_fit.specs.GlyphZone.{GlyphProgram}
-use Rattle.tt_fit.specs.Hinting.{Hinting, off, IsHinting, hinted}
-use Rattle.tt_fit.specs.Scaling.{glyf_fault, phantom_points, phantom_units, blank, scaled_outline, settled}
-use Rattle.tt_fit.specs.Size.{FontSize, size_by}
-use Rattle.tt_fit.specs.Units.{Units, units_by}
-use Rattle.tt_fit.specs.declared.rules.Scaling.{Scaling}
-use Rattle.tt_fit.specs.declared.rules.Scaling.TheVariants as scaling
-use Rattle.tt_fit.specs.Work.{if_ok, hinted_work, joined_work, left_in}
+use Rattle.tt_fit_outline.specs.Outline.{PhantomPoints, Outline}
+use Rattle.tt_fit_outline.specs.GlyphZone.{GlyphProgram}
+use Rattle.tt_fit_outline.specs.Hinting.{Hinting, off, IsHinting, hinted}
+use Rattle.tt_fit_outline.specs.Scaling.{glyf_fault, phantom_points, phantom_units, blank, scaled_outline, settled}
+use Rattle.tt_fit_outline.specs.Size.{FontSize, size_by}
+use Rattle.tt_fit_outline.specs.Units.{Units, units_by}
+use Rattle.tt_fit_outline.specs.declared.rules.Scaling.{Scaling}
+use Rattle.tt_fit_outline.specs.declared.rules.Scaling.TheVariants as scaling
+use Rattle.tt_fit_outline.specs.Work.{if_ok, hinted_work}
+use Rattle.tt_fit.specs.Work.{joined_work, left_in}
 
 -- The inputs of outlines: a font's glyph data and metrics, the pixels per em and the scaling. Then the state after its
 -- programs, which glyphs are unfitted, and the depth limit of components. Then the job's remaining work (None if
@@ -202,8 +203,8 @@ its_metrics = record {
 }
 
 -- glyph 0 is empty, glyph 1 a square of four points, (64,0), (64,128), (192,128), (192,0), and glyph 2 is after it
-abbrev its_setting : List ℕ → Fitter
-its_setting third = record {
+abbrev its_fitter : List ℕ → Fitter
+its_fitter third = record {
   tables = record {
     loca = 0 ∷ 0 ∷ 0 ∷ 0 ∷ 0 ∷ 11 ∷ 0 ∷ 22 ∷ [];
     glyf = 0 ∷ 1 ∷ 0 ∷ 64 ∷ 0 ∷ 0 ∷ 0 ∷ 192 ∷ 0 ∷ 128 ∷ 0 ∷ 3 ∷ 0 ∷ 0 ∷ 0x33 ∷ 0x35 ∷ 0x33 ∷ 0x15 ∷ 0x40 ∷ 0x80 ∷ 0x80 ∷
@@ -225,12 +226,12 @@ abbrev its_phantom_points : ℤ → PhantomPoints
 its_phantom_points left =
     record { left = (left, pos 0); right = (left +ℤ pos 1024, pos 0); ascent = (pos 0, pos 1024); descent = (pos 0, neg_ℤ (pos 256)) }
 
-empty_is_blank : fitted_outline (its_setting []) 0 ≡ Ok
+empty_is_blank : fitted_outline (its_fitter []) 0 ≡ Ok
     (record { points = []; ends = []; phantom = its_phantom_points (pos 0); scan = None })
 unfolding fitted_outline unfitted_fault glyph_data_of blank
 empty_is_blank = refl
 
-square_is_scaled : fitted_outline (its_setting []) 1 ≡ Ok (record {
+square_is_scaled : fitted_outline (its_fitter []) 1 ≡ Ok (record {
   points = (pos 256, pos 0, true) ∷ (pos 256, pos 512, true) ∷ (pos 768, pos 512, true) ∷ (pos 768, pos 0, true) ∷ [];
   ends = 4 ∷ [];
   phantom = its_phantom_points (pos 0);
@@ -245,7 +246,7 @@ square_is_scaled = refl
 abbrev two_squares : List ℕ
 two_squares = 255 ∷ 255 ∷ 0 ∷ 64 ∷ 0 ∷ 0 ∷ 1 ∷ 0 ∷ 0 ∷ 128 ∷ 0 ∷ 0x22 ∷ 0 ∷ 1 ∷ 0 ∷ 0 ∷ 2 ∷ 2 ∷ 0 ∷ 1 ∷ 64 ∷ 0 ∷ []
 
-squares_are_joined : fitted_outline (its_setting two_squares) 2 ≡ Ok (record {
+squares_are_joined : fitted_outline (its_fitter two_squares) 2 ≡ Ok (record {
   points = (pos 256, pos 0, true) ∷ (pos 256, pos 512, true) ∷ (pos 768, pos 512, true) ∷ (pos 768, pos 0, true)
       ∷ (pos 512, pos 0, true) ∷ (pos 512, pos 512, true) ∷ (pos 1024, pos 512, true) ∷ (pos 1024, pos 0, true) ∷ [];
   ends = 4 ∷ 8 ∷ [];
@@ -262,7 +263,7 @@ squares_are_joined = refl
 abbrev itself : List ℕ
 itself = 255 ∷ 255 ∷ 0 ∷ 64 ∷ 0 ∷ 0 ∷ 1 ∷ 0 ∷ 0 ∷ 128 ∷ 0 ∷ 2 ∷ 0 ∷ 2 ∷ 0 ∷ 0 ∷ []
 
-itself_is_too_deep : fitted_outline (its_setting itself) 2 ≡ Err (fault_at (codes "glyf") 32 why.ComponentDepth)
+itself_is_too_deep : fitted_outline (its_fitter itself) 2 ≡ Err (fault_at (codes "glyf") 32 why.ComponentDepth)
 unfolding fitted_outline unfitted_fault added glyph_data_of glyph_bytes_of header_of described composite_of records_from record_at
     known_glyph arguments_at argument_at transform_at unscaled program_of byte_in word_in signed_in slice_in blank
 itself_is_too_deep = refl

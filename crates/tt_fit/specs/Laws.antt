@@ -21,13 +21,13 @@ use Rattle.tt_fit.specs.Defects.{IsOutlineDefect}
 use Rattle.tt_fit.specs.Dropouts.{default_rules, scan_rules, scan_left, dropouts_of}
 use Rattle.tt_fit.specs.Fallback.{never, where_refused, is_program_fault}
 use Rattle.tt_fit.specs.Fitting.{Fitter, with_hinting, size_of, start, simple_program, outline_at, glyph_work, unfitted_fault, fitted_outline, after_glyph}
-use Rattle.tt_fit.specs.Hinting.{off, ready}
-use Rattle.tt_fit.specs.GlyphZone.{glyph_zone}
-use Rattle.tt_fit.specs.Outline.{Outline, PhantomPoints}
+use Rattle.tt_fit_outline.specs.Hinting.{off, ready}
+use Rattle.tt_fit_outline.specs.GlyphZone.{glyph_zone}
+use Rattle.tt_fit_outline.specs.Outline.{Outline, PhantomPoints}
 use Rattle.tt_fit.specs.Preparation.{ProgramTables, left_at, work_at, fitter_with, fitter_of}
 use Rattle.tt_fit.specs.Rules.{falls_back}
-use Rattle.tt_fit.specs.Scaling.{scaled_outline}
-use Rattle.tt_fit.specs.declared.rules.Scaling.TheVariants as scaling
+use Rattle.tt_fit_outline.specs.Scaling.{scaled_outline}
+use Rattle.tt_fit_outline.specs.declared.rules.Scaling.TheVariants as scaling
 use Rattle.tt_fit.specs.Work.{IsEnough}
 
 -- a glyph with an outline has no defect, nor do its components

@@ -16,10 +16,10 @@ use Rattle.tt_fit.specs.declared.programs.Programs as declared
 use Rattle.tt_fit.specs.declared.dropouts.DropoutsBy.TheVariants as by
 use Rattle.tt_fit.specs.Fallback.{Fallback, never, where_refused, everywhere}
 use Rattle.tt_fit.specs.Fitting.{Fitter}
-use Rattle.tt_fit.specs.Hinting.{Hinting, off, ready, run_of}
-use Rattle.tt_fit.specs.Parts.{begun_parts, left_to_glyphs}
+use Rattle.tt_fit_outline.specs.Hinting.{Hinting, off, ready, run_of}
+use Rattle.tt_fit_outline.specs.Parts.{begun_parts, left_to_glyphs}
 use Rattle.tt_fit.specs.Rules.{rules_of, levels_of, work_of, cvt_read, dropouts_by}
-use Rattle.tt_fit.specs.Work.{if_ok, code_work}
+use Rattle.tt_fit_outline.specs.Work.{if_ok, code_work}
 
 -- the control values, the font program and the control value program
 pub record ProgramTables : Type 0 where

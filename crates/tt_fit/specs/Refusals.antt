@@ -18,18 +18,18 @@ use Rattle.tt_metrics.specs.declared.head.LocaFormat.TheVariants.{Short}
 use Rattle.tt_metrics.specs.Metrics.{Metrics}
 use Rattle.tt_fit.specs.declared.programs.Fit.TheVariants as fit
 use Rattle.tt_fit.specs.declared.dropouts.DropoutsBy.TheVariants as by
-use Rattle.tt_fit.specs.Component.{shift_of}
-use Rattle.tt_fit.specs.Joining.{placed, appended, within_point_limit}
+use Rattle.tt_fit_outline.specs.Component.{shift_of}
+use Rattle.tt_fit_outline.specs.Joining.{placed, appended, within_point_limit}
 use Rattle.tt_fit.specs.Fallback.{Fallback, never, where_refused, everywhere, is_program_fault}
 use Rattle.tt_fit.specs.Fitting.{Fitter, added, added_work, fitted_outline, unfitted_fault}
-use Rattle.tt_fit.specs.GlyphZone.{on_grid_at}
+use Rattle.tt_fit_outline.specs.GlyphZone.{on_grid_at}
 use Rattle.tt_fit.specs.Preparation.{ProgramTables, left_by_programs, programs_work, prepared}
-use Rattle.tt_fit.specs.Parts.{begun_parts}
+use Rattle.tt_fit_outline.specs.Parts.{begun_parts}
 use Rattle.tt_fit.specs.Rules.{of_profile}
-use Rattle.tt_fit.specs.Hinting.{off, ready, run_of, by_program}
-use Rattle.tt_fit.specs.Scaling.{blank, scaled_outline, settled}
-use Rattle.tt_fit.specs.Work.{program_work}
-use Rattle.tt_fit.specs.declared.rules.Scaling.TheVariants as scaling
+use Rattle.tt_fit_outline.specs.Hinting.{off, ready, run_of, by_program}
+use Rattle.tt_fit_outline.specs.Scaling.{blank, scaled_outline, settled}
+use Rattle.tt_fit_outline.specs.Work.{program_work}
+use Rattle.tt_fit_outline.specs.declared.rules.Scaling.TheVariants as scaling
 
 abbrev its_metrics : Metrics
 its_metrics = record {
@@ -39,8 +39,8 @@ its_metrics = record {
   hmtx = 1 ∷ 0 ∷ 0 ∷ 64 ∷ 0 ∷ 64 ∷ 0 ∷ 64 ∷ 0 ∷ 64 ∷ [];
 }
 
-abbrev its_setting : Fallback → Fitter
-its_setting fallback = record {
+abbrev its_fitter : Fallback → Fitter
+its_fitter fallback = record {
   tables = record {
     loca = 0 ∷ 0 ∷ 0 ∷ 0 ∷ 0 ∷ 12 ∷ 0 ∷ 21 ∷ 0 ∷ 22 ∷ [];
     glyf = 0 ∷ 1 ∷ 0 ∷ 64 ∷ 0 ∷ 0 ∷ 0 ∷ 192 ∷ 0 ∷ 128 ∷ 0 ∷ 3 ∷ 0 ∷ 1 ∷ 6 ∷ 0x33 ∷ 0x35 ∷ 0x33 ∷ 0x15 ∷ 0x40 ∷ 0x80 ∷
@@ -61,20 +61,20 @@ its_setting fallback = record {
 abbrev its_fault : Fault
 its_fault = fault_at (codes "glyf") 14 why.OffProfile
 
-program_is_refused : fitted_outline (its_setting never) 1 ≡ Err its_fault
+program_is_refused : fitted_outline (its_fitter never) 1 ≡ Err its_fault
 unfolding fitted_outline unfitted_fault glyph_data_of glyph_bytes_of header_of described simple_of ends_from end_at
     points_within points_of flags_from run_at coordinates_from coordinate_at within_words delta_at byte_in word_in
     signed_in slice_in blank scaled_outline settled by_program on_grid_at run_of run_outcome run_within
 program_is_refused = refl
 
-square_is_unfitted : unfitted_fault (its_setting where_refused) 1 ≡ Some its_fault
+square_is_unfitted : unfitted_fault (its_fitter where_refused) 1 ≡ Some its_fault
 unfolding unfitted_fault glyph_data_of glyph_bytes_of header_of described simple_of ends_from end_at
     points_within points_of flags_from run_at coordinates_from coordinate_at within_words delta_at byte_in word_in
     signed_in slice_in blank scaled_outline settled by_program on_grid_at run_of run_outcome run_within
     is_program_fault why_number program_work run_work work_within
 square_is_unfitted = refl
 
-composite_is_unfitted : unfitted_fault (its_setting where_refused) 2 ≡ Some its_fault
+composite_is_unfitted : unfitted_fault (its_fitter where_refused) 2 ≡ Some its_fault
 unfolding unfitted_fault added glyph_data_of glyph_bytes_of header_of described simple_of ends_from end_at
     points_within points_of flags_from run_at coordinates_from coordinate_at within_words delta_at byte_in word_in
     signed_in slice_in blank scaled_outline settled by_program on_grid_at run_of run_outcome run_within
@@ -82,7 +82,7 @@ unfolding unfitted_fault added glyph_data_of glyph_bytes_of header_of described 
     is_program_fault why_number added_work program_work run_work work_within
 composite_is_unfitted = refl
 
-composite_is_scaled : fitted_outline (its_setting where_refused) 2 ≡ Ok (record {
+composite_is_scaled : fitted_outline (its_fitter where_refused) 2 ≡ Ok (record {
   points = (pos 256, pos 0, true) ∷ (pos 256, pos 512, true) ∷ (pos 768, pos 512, true) ∷ (pos 768, pos 0, true) ∷ [];
   ends = 4 ∷ [];
   phantom = record {
@@ -100,7 +100,7 @@ unfolding fitted_outline unfitted_fault added placed appended shift_of within_po
     transform_at unscaled program_of is_program_fault why_number added_work program_work run_work work_within
 composite_is_scaled = refl
 
-short_is_refused : fitted_outline (its_setting where_refused) 3 ≡ Err (fault_at (codes "glyf") 44 why.GlyphShort)
+short_is_refused : fitted_outline (its_fitter where_refused) 3 ≡ Err (fault_at (codes "glyf") 44 why.GlyphShort)
 unfolding fitted_outline unfitted_fault glyph_data_of glyph_bytes_of header_of described byte_in word_in signed_in
     slice_in is_program_fault why_number
 short_is_refused = refl
@@ -128,6 +128,6 @@ unfolding prepared left_by_programs run_of run_outcome run_within programs_work 
 with_best_every_glyph_is_unfitted = refl
 
 -- this fault makes a glyph without a program unfitted too
-empty_is_unfitted : unfitted_fault (its_setting (everywhere font_fault)) 0 ≡ Some font_fault
+empty_is_unfitted : unfitted_fault (its_fitter (everywhere font_fault)) 0 ≡ Some font_fault
 unfolding unfitted_fault
 empty_is_unfitted = refl

@@ -6,8 +6,8 @@ use Rattle.tt_fit.specs.declared.dropouts.DropoutsBy.{DropoutsBy}
 use Rattle.tt_fit.specs.declared.dropouts.DropoutsBy.TheVariants as by
 use Rattle.tt_fit.specs.declared.programs.Fit.{Fit}
 use Rattle.tt_fit.specs.declared.programs.Fit.TheVariants as fit
-use Rattle.tt_fit.specs.declared.rules.Rules.{Rules}
-use Rattle.tt_fit.specs.declared.rules.Scaling.TheVariants as scaling
+use Rattle.tt_fit_outline.specs.declared.rules.OutlineRules.{OutlineRules}
+use Rattle.tt_fit_outline.specs.declared.rules.Scaling.TheVariants as scaling
 
 -- the fits that make a glyph unfitted where a program is refused
 abbrev pub falls_back : Fit → Bool
@@ -18,10 +18,10 @@ falls_back fit.Best = true
 
 -- the rules for running programs and scaling: those of the profile; or the whole instruction set, tolerance, and a
 -- factor that is rounded first
-abbrev pub of_profile : Rules
+abbrev pub of_profile : OutlineRules
 of_profile = record { whole = false; tolerance = tolerance.Strict; scaling = scaling.Exact }
 
-abbrev pub rules_of : Fit → Rules
+abbrev pub rules_of : Fit → OutlineRules
 rules_of fit.Full = of_profile
 rules_of fit.None = of_profile
 rules_of fit.Fallback = of_profile

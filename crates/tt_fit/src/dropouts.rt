@@ -2,11 +2,9 @@
 
 ghost use Rattle.std.specs.Prelude.{◌≡◌};
 ghost use Rattle.tt_fit.specs.Dropouts.{type_rules, scan_rules, program_rules, rules_by};
-ghost use Rattle.tt_fit.specs.Outline.{outline_of};
-ghost use Rattle.tt_fit.specs.Views.{hinting_view};
+ghost use Rattle.tt_fit_outline.specs.Views.{hinting_view};
 
-use crate::hinting::Hinting;
-use crate::outline::Outline;
+use tt_fit_outline::{Hinting, Outline};
 use tt_state::ScanControl;
 
 /// Which dropouts are filled, and with which pixel.

@@ -1,45 +1,33 @@
 //! The outlines of a font at a size.
 
-ghost use Rattle.std.specs.Prelude.{◌≡◌, ◌+◌, ◌<◌, ◌≤◌, ◌^◌, IsTrue, Err, IfOk, IfErr, IfSome, OnOk, OnErr, length, option_map, All};
+ghost use Rattle.std.specs.Prelude.{◌≡◌, ◌<◌, ◌≤◌, Err, IfOk, IfSome, OnOk, OnErr, length, All};
 ghost use Rattle.tt_core.specs.Directory.{HasNo};
 ghost use Rattle.tt_core.specs.Limits.{font_limit, point_limit, size_limit};
-ghost use Rattle.tt_core.specs.Outcomes.{FontGives, Gives, IfTold, font_fault};
-ghost use Rattle.tt_glyf.specs.Loca.{glyph_offset};
-ghost use Rattle.tt_glyf.specs.Meaning.{AreEnds as EndContours, HasArguments};
+ghost use Rattle.tt_core.specs.Outcomes.{FontGives, IfTold, font_fault};
 ghost use Rattle.tt_metrics.specs.Metrics.{loca_format_of, glyphs_of};
 ghost use Rattle.tt_fit.specs.Counting.{points_asked, counted};
-ghost use Rattle.tt_fit.specs.Joining.{placed};
 ghost use Rattle.tt_fit.specs.Defects.{IsOutlineDefect};
 ghost use Rattle.tt_fit.specs.Dropouts.{dropouts_of};
-ghost use Rattle.tt_fit.specs.Fallback.{never, where_refused};
-ghost use Rattle.tt_fit.specs.Fitting.{IsFitter, with_hinting, size_of, start, glyph_program, simple_outline, joined, added, outline_at, simple_work, added_work, outline_work, glyph_work, unfitted_fault, fitted_outline, after_glyph, charged_fitter};
-ghost use Rattle.tt_fit.specs.Outline.{outline_of, phantom_of, IsPoint, ArePhantom, AreEnds, IsOutline};
+ghost use Rattle.tt_fit.specs.Fallback.{where_refused};
+ghost use Rattle.tt_fit.specs.Fitting.{IsFitter, with_hinting, outline_at, glyph_work, unfitted_fault, fitted_outline, after_glyph, charged_fitter};
+ghost use Rattle.tt_fit_outline.specs.Outline.{outline_of, phantom_of, IsPoint, ArePhantom, AreEnds, IsOutline};
 ghost use Rattle.tt_fit.specs.Preparation.{program_tables, fitter_of};
-ghost use Rattle.tt_fit.specs.Hinting.{IsHinting};
-ghost use Rattle.tt_fit.specs.Scaling.{phantom_units};
-ghost use Rattle.tt_fit.specs.Units.{units_by};
-ghost use Rattle.tt_fit.specs.Views.{hinting_view, size_view, program_view, units_view};
-ghost use Rattle.tt_fit.specs.Work.{IsEnough, Makes, RefusalLeaves, WorkGives, joined_work, unmade_fault};
-ghost use Rattle.tt_exec.specs.Work.{spent};
+ghost use Rattle.tt_fit_outline.specs.Hinting.{IsHinting};
+ghost use Rattle.tt_fit_outline.specs.Views.{hinting_view};
+ghost use Rattle.tt_fit_outline.specs.Work.{RefusalLeaves, unmade_fault};
 
 use crate::counting::points_of;
 use crate::dropouts::{DropoutRules, DropoutsBy, rules_by};
 use crate::fallback::{Fallback, is_program_fault};
-use crate::hinting::{GlyphMachine, Hinting, hinted};
-use crate::joining::placed;
-use crate::outline::Outline;
 use crate::preparation::{Preparation, prepared};
-use crate::programs::{Fit, GlyphProgram, Programs};
-use crate::rules::{Scaling, dropouts_by, levels_of, rules_of};
-use crate::scaling::{blank, glyf_fault, phantom_points, phantom_units, scaled_outline};
-use crate::size::FontSize;
-use crate::units::Units;
-use crate::unmade::{Unmade, unbounded};
+use crate::programs::{Fit, Programs};
+use crate::rules::{dropouts_by, levels_of, rules_of};
 use std::alloc::{AllocError, Global};
 use std::marker::Model;
-use tt_core::{Fault, FontFault, Why};
+use tt_core::{Fault, FontFault};
 use tt_exec::Work;
-use tt_glyf::{Glyf, Raw, RawPoint, Record};
+use tt_fit_outline::{GlyphMachine, Hinting, Outline, Scaling, Unmade, unbounded};
+use tt_glyf::Glyf;
 use tt_metrics::Metrics;
 
 /// Makes the outlines of a font at a size. Clauses see the glyph data, the metrics, the size, and what the font's
@@ -47,24 +35,25 @@ use tt_metrics::Metrics;
 /// the source of the dropout rules.
 #[derive(Drop)]
 pub struct Fitter<'a> {
-    alloc: Global,
-    metrics: Metrics<'a>,
-    glyf: Glyf<'a>,
-    ppem: u32,
-    scaling: Scaling,
-    hinting: Hinting<'a>,
+    pub(crate) alloc: Global,
+    pub(crate) metrics: Metrics<'a>,
+    pub(crate) glyf: Glyf<'a>,
+    pub(crate) ppem: u32,
+    pub(crate) scaling: Scaling,
+    pub(crate) hinting: Hinting<'a>,
     /// Reused for the program of each glyph; None before the first. Not visible to clauses.
-    machine: GlyphMachine<'a>,
-    fallback: Fallback,
-    levels: u32,
-    work: Work,
-    dropouts: DropoutsBy,
+    pub(crate) machine: GlyphMachine<'a>,
+    pub(crate) fallback: Fallback,
+    pub(crate) levels: u32,
+    pub(crate) work: Work,
+    pub(crate) dropouts: DropoutsBy,
 }
 
 impl<'a> Model for Fitter<'a> {
     ghost use Rattle.tt_fit.specs.Fitting.{IsFitter};
     ghost use Rattle.tt_fit.specs.Fitting as fitting;
-    ghost use Rattle.tt_fit.specs.Views.{hinting_view, fallback_view};
+    ghost use Rattle.tt_fit_outline.specs.Views.{hinting_view};
+    ghost use Rattle.tt_fit.specs.Views.{fallback_view};
 
     ghost Value = { fitting.Fitter };
 
@@ -98,19 +87,17 @@ impl<'a> Fitter<'a> {
         ensures metrics { IfOk result (λ f. f.metrics ≡ metrics.now) }
         ensures ppem { IfOk result (λ f. f.ppem ≡ ppem) }
     {
-        let scaling = rules_of(fit).scaling;
-        let size = FontSize::of(metrics, ppem, scaling);
         let Preparation {
             hinting,
             fallback,
             work,
-        } = prepared(alloc, metrics, programs, size, fit)?;
+        } = prepared(alloc, metrics, programs, ppem, fit)?;
         Ok(Fitter {
             alloc,
             metrics: metrics.copy(),
             glyf,
             ppem,
-            scaling,
+            scaling: rules_of(fit).scaling,
             hinting,
             machine: None,
             fallback,
@@ -148,7 +135,7 @@ impl<'a> Fitter<'a> {
         ensures outline { IfOk result (λ o. IsOutline (outline_of o)) }
     {
         let mut work = self.work;
-        self.made_by_fallback(g, &mut None, &mut work)
+        self.fitted_within(g, &mut None, &mut work)
     }
 
     /// As `fitted`, and charges the work of the programs to the job, where work is bounded.
@@ -169,7 +156,7 @@ impl<'a> Fitter<'a> {
     {
         let mut work = self.work;
         let mut machine = self.machine.take();
-        let outline = self.made_by_fallback(g, &mut machine, &mut work)?;
+        let outline = self.fitted_within(g, &mut machine, &mut work)?;
         self.machine = machine;
         self.work = work;
         Ok(outline)
@@ -200,7 +187,7 @@ impl<'a> Fitter<'a> {
 
     /// The outline of a glyph within the job's remaining work, with the fault of a program that makes it unfitted.
     #[tactic(auto, unfolding(crate::specs::Fitting::fitted_outline, crate::specs::Fitting::unfitted_fault))]
-    fn made_by_fallback(
+    fn fitted_within(
         &self,
         g: u16,
         machine: &mut GlyphMachine<'a>,
@@ -215,36 +202,23 @@ impl<'a> Fitter<'a> {
     {
         match self.fallback {
             Fallback::Never => self.made(machine, &self.hinting, g, None),
-            Fallback::WhereRefused => self.made_or_unfitted(g, machine, work),
             Fallback::Everywhere(fault) => self.made(machine, &Hinting::Off, g, Some(fault)),
+            Fallback::WhereRefused => {
+                match self.outline(machine, &self.hinting, self.levels, g, work) {
+                    Ok(outline) => Ok(Outline {
+                        unfitted: None,
+                        ..outline
+                    }),
+                    Err(refusal) => self.refused(g, refusal, machine, work),
+                }
+            }
         }
     }
 
-    /// The outline of a glyph with its program. Where a program is refused or exceeds the work, the outline without
-    /// programs.
+    /// After a refusal with programs: the outline without them if a program is at fault or exceeds the work, else the
+    /// refusal.
     #[tactic(auto, unfolding(crate::specs::Fitting::fitted_outline, crate::specs::Fitting::unfitted_fault))]
-    fn made_or_unfitted(
-        &self,
-        g: u16,
-        machine: &mut GlyphMachine<'a>,
-        work: &mut Work,
-    ) -> Result<Outline, FontFault>
-        requires known { g < self.now.tables.glyphs }
-        requires work { work.old.left ≡ self.now.work }
-        requires fallback { self.now.fallback ≡ where_refused }
-        ensures exact { FontGives outline_of result (fitted_outline self.now g) }
-        ensures unfitted { IfOk result (λ o. o.unfitted ≡ unfitted_fault self.now g) }
-        ensures valid { IfOk result (λ o. IsOutline (outline_of o)) }
-        ensures left { OnOk result (work.new.left ≡ (after_glyph self.now g).work) }
-    {
-        match self.made_within(machine, &self.hinting, g, None, work) {
-            Ok(outline) => Ok(outline),
-            Err(refusal) => self.unmade(g, refusal, machine, work),
-        }
-    }
-
-    /// After a refusal: the outline without programs if a program is refused or exceeds the work, else the refusal.
-    fn unmade(
+    fn refused(
         &self,
         g: u16,
         refusal: Unmade,
@@ -261,53 +235,18 @@ impl<'a> Fitter<'a> {
         ensures left { OnOk result (work.new.left ≡ (after_glyph self.now g).work) }
     {
         match refusal {
-            Unmade::Font(fault) => self.refused(g, fault, machine),
+            Unmade::Font(fault) => {
+                if !is_program_fault(fault) {
+                    return Err(FontFault::Font(fault));
+                }
+                self.made(machine, &Hinting::Off, g, Some(fault))
+            }
             Unmade::Memory => Err(FontFault::Memory),
-            Unmade::Spent(fault) => {
+            Unmade::Spent(over) => {
                 *work = Work { left: Some(0) };
-                self.spent(g, fault, machine)
+                self.made(machine, &Hinting::Off, g, Some(over))
             }
         }
-    }
-
-    /// After this fault: the outline without programs if a program is at fault, else the fault.
-    #[tactic(auto, unfolding(crate::specs::Fitting::fitted_outline, crate::specs::Fitting::unfitted_fault))]
-    fn refused(
-        &self,
-        g: u16,
-        fault: Fault,
-        machine: &mut GlyphMachine<'a>,
-    ) -> Result<Outline, FontFault>
-        requires known { g < self.now.tables.glyphs }
-        requires fallback { self.now.fallback ≡ where_refused }
-        requires work { IsEnough (glyph_work self.now g self.now.work) }
-        requires fault { outline_at (with_hinting self.now self.now.hinting) self.now.levels g ≡ Err fault }
-        ensures exact { FontGives outline_of result (fitted_outline self.now g) }
-        ensures unfitted { IfOk result (λ o. o.unfitted ≡ unfitted_fault self.now g) }
-        ensures valid { IfOk result (λ o. IsOutline (outline_of o)) }
-    {
-        if !is_program_fault(fault) {
-            return Err(FontFault::Font(fault));
-        }
-        self.made(machine, &Hinting::Off, g, Some(fault))
-    }
-
-    /// The outline without programs, since they exceed the remaining work, with this fault.
-    #[tactic(auto, unfolding(crate::specs::Fitting::fitted_outline, crate::specs::Fitting::unfitted_fault))]
-    fn spent(
-        &self,
-        g: u16,
-        over: Fault,
-        machine: &mut GlyphMachine<'a>,
-    ) -> Result<Outline, FontFault>
-        requires known { g < self.now.tables.glyphs }
-        requires fallback { self.now.fallback ≡ where_refused }
-        requires work { glyph_work self.now g self.now.work ≡ spent over }
-        ensures exact { FontGives outline_of result (fitted_outline self.now g) }
-        ensures unfitted { IfOk result (λ o. o.unfitted ≡ unfitted_fault self.now g) }
-        ensures valid { IfOk result (λ o. IsOutline (outline_of o)) }
-    {
-        self.made(machine, &Hinting::Off, g, Some(over))
     }
 
     /// The outline of a glyph by `hinting`, marked with the fault that makes it unfitted. Work is not bounded.
@@ -325,217 +264,12 @@ impl<'a> Fitter<'a> {
         ensures valid { IfOk result (λ o. IsOutline (outline_of o)) }
     {
         let mut work = Work { left: None };
-        match self.made_within(machine, hinting, g, unfitted, &mut work) {
-            Ok(made) => Ok(made),
+        match self.outline(machine, hinting, self.levels, g, &mut work) {
+            Ok(outline) => Ok(Outline {
+                unfitted,
+                ..outline
+            }),
             Err(refusal) => Err(unbounded(refusal)),
         }
-    }
-
-    /// As `made`, within the job's remaining work.
-    fn made_within(
-        &self,
-        machine: &mut GlyphMachine<'a>,
-        hinting: &Hinting<'a>,
-        g: u16,
-        unfitted: Option<Fault>,
-        work: &mut Work,
-    ) -> Result<Outline, Unmade>
-        requires hinting { IsHinting (hinting_view hinting.now) }
-        requires known { g < self.now.tables.glyphs }
-        ensures exact { Makes outline_of result (outline_at (with_hinting self.now (hinting_view hinting.now)) self.now.levels g) }
-        ensures work { WorkGives result work.new.left (outline_work (with_hinting self.now (hinting_view hinting.now)) self.now.levels g work.old.left) }
-        ensures unfitted { IfOk result (λ o. o.unfitted ≡ unfitted) }
-        ensures valid { IfOk result (λ o. IsOutline (outline_of o)) }
-    {
-        let outline = self.outline(machine, hinting, self.levels, g, work)?;
-        Ok(Outline {
-            unfitted,
-            ..outline
-        })
-    }
-
-    fn size(&self) -> FontSize
-        ensures { size_view result ≡ size_of self.now }
-    {
-        FontSize::of(&self.metrics, self.ppem, self.scaling)
-    }
-
-    /// An outline without points. Error: CoordRange.
-    fn start(&self, x_min: i16, g: u16) -> Result<Outline, Fault>
-        requires { g < self.now.tables.glyphs }
-        ensures exact { Gives outline_of result (start self.now x_min g) }
-        ensures valid { IfOk result (λ o. IsOutline (outline_of o)) }
-    {
-        let phantom = phantom_points(self.size(), &self.metrics, x_min, g);
-        blank(self.alloc, self.glyf.start(g), phantom)
-    }
-
-    fn program<'u>(
-        &self,
-        g: u16,
-        code: &'a [u8],
-        code_at: u32,
-        units: Option<Units<'u>>,
-    ) -> GlyphProgram<'a, 'u>
-        requires known { g < self.now.tables.glyphs }
-        requires fits { code_at + length code.now < 2 ^ 32 }
-        ensures { program_view result ≡ glyph_program self.now g code.now code_at (option_map units_view units.entry) }
-    {
-        GlyphProgram {
-            code,
-            code_at,
-            glyph_at: self.glyf.start(g),
-            units,
-        }
-    }
-
-    /// The places of a simple glyph's points, where its program measures originals in font units.
-    fn units<'u>(&self, g: u16, x_min: i16, points: &'u [RawPoint]) -> Option<Units<'u>>
-        requires { g < self.now.tables.glyphs }
-        ensures { option_map units_view result ≡ units_by self.now.scaling points.now (phantom_units self.now.metrics x_min g) }
-    {
-        match self.scaling {
-            Scaling::Exact => None,
-            Scaling::Rounded => Some(Units {
-                points,
-                phantom: phantom_units(&self.metrics, x_min, g),
-            }),
-        }
-    }
-
-    /// The outline of a simple glyph, from one without points. Errors: CoordRange, those of its program, Memory, Spent.
-    fn simple(
-        &self,
-        machine: &mut GlyphMachine<'a>,
-        hinting: &Hinting<'a>,
-        g: u16,
-        points: &[RawPoint],
-        last_points: &[u16],
-        program: GlyphProgram<'a, '_>,
-        start: Outline,
-        work: &mut Work,
-    ) -> Result<Outline, Unmade>
-        requires hinting { IsHinting (hinting_view hinting.now) }
-        requires known { g < self.now.tables.glyphs }
-        requires few { length points.now ≤ point_limit }
-        requires ends { EndContours (length points.now) last_points.now }
-        requires start { IsOutline (outline_of start) }
-        ensures exact { Makes outline_of result (simple_outline (with_hinting self.now (hinting_view hinting.now)) g points.now last_points.now (program_view program.entry) (outline_of start)) }
-        ensures work { WorkGives result work.new.left (simple_work (with_hinting self.now (hinting_view hinting.now)) g points.now last_points.now (program_view program.entry) (outline_of start) work.old.left) }
-        ensures valid { IfOk result (λ o. IsOutline (outline_of o)) }
-    {
-        let at = self.glyf.start(g);
-        let scaled = scaled_outline(self.alloc, self.size(), at, points, last_points, start)?;
-        hinted(self.alloc, machine, hinting, program, scaled, work)
-    }
-
-    /// The outline of a glyph, with this many levels of components allowed below it.
-    #[cycle(fitting)]
-    fn outline(
-        &self,
-        machine: &mut GlyphMachine<'a>,
-        hinting: &Hinting<'a>,
-        levels: u32,
-        g: u16,
-        work: &mut Work,
-    ) -> Result<Outline, Unmade>
-        requires hinting { IsHinting (hinting_view hinting.now) }
-        requires known { g < self.now.tables.glyphs }
-        ensures exact { Makes outline_of result (outline_at (with_hinting self.now (hinting_view hinting.now)) levels g) }
-        ensures work { WorkGives result work.new.left (outline_work (with_hinting self.now (hinting_view hinting.now)) levels g work.old.left) }
-        ensures valid { IfOk result (λ o. IsOutline (outline_of o)) }
-    {
-        match self.glyf.read(self.alloc, g)? {
-            Raw::Empty => Ok(self.start(0, g)?),
-            Raw::Simple {
-                x_min,
-                points,
-                ends,
-                code,
-                code_at,
-            } => {
-                let start = self.start(x_min, g)?;
-                let units = self.units(g, x_min, &points);
-                let program = self.program(g, code, code_at, units);
-                self.simple(machine, hinting, g, &points, &ends, program, start, work)
-            }
-            Raw::Composite {
-                x_min,
-                records,
-                code,
-                code_at,
-            } => {
-                let start = self.start(x_min, g)?;
-                let joined = self.joined(
-                    machine,
-                    hinting,
-                    levels,
-                    records.as_slice(),
-                    start,
-                    work,
-                )?;
-                hinted(
-                    self.alloc,
-                    machine,
-                    hinting,
-                    self.program(g, code, code_at, None),
-                    joined,
-                    work,
-                )
-            }
-        }
-    }
-
-    /// Adds each record in order to the outline so far.
-    #[cycle(fitting)]
-    fn joined(
-        &self,
-        machine: &mut GlyphMachine<'a>,
-        hinting: &Hinting<'a>,
-        levels: u32,
-        records: &[Record],
-        start: Outline,
-        work: &mut Work,
-    ) -> Result<Outline, Unmade>
-        requires hinting { IsHinting (hinting_view hinting.now) }
-        requires known { All (λ r. r.glyph < self.now.tables.glyphs) records.now }
-        requires arguments { All HasArguments records.now }
-        requires start { IsOutline (outline_of start) }
-        ensures exact { Makes outline_of result (joined (added (with_hinting self.now (hinting_view hinting.now)) levels) records.now (outline_of start)) }
-        ensures work { WorkGives result work.new.left (joined_work (added (with_hinting self.now (hinting_view hinting.now)) levels) (added_work (with_hinting self.now (hinting_view hinting.now)) levels) records.now (outline_of start) work.old.left) }
-        ensures valid { IfOk result (λ o. IsOutline (outline_of o)) }
-    {
-        let mut so_far = start;
-        for part in records {
-            so_far = self.added(machine, hinting, levels, *part, so_far, work)?;
-        }
-        Ok(so_far)
-    }
-
-    /// Adds one record: makes its component's outline, places it, and drops it.
-    #[cycle(fitting)]
-    #[tactic(auto, using(crate::proofs::Levels::one_level, crate::proofs::Levels::one_level_work), unfolding(crate::specs::Fitting::added, crate::specs::Fitting::added_work))]
-    fn added(
-        &self,
-        machine: &mut GlyphMachine<'a>,
-        hinting: &Hinting<'a>,
-        levels: u32,
-        part: Record,
-        so_far: Outline,
-        work: &mut Work,
-    ) -> Result<Outline, Unmade>
-        requires hinting { IsHinting (hinting_view hinting.now) }
-        requires known { part.glyph < self.now.tables.glyphs }
-        requires arguments { HasArguments part }
-        requires so_far { IsOutline (outline_of so_far) }
-        ensures exact { Makes outline_of result (added (with_hinting self.now (hinting_view hinting.now)) levels part (outline_of so_far)) }
-        ensures work { WorkGives result work.new.left (added_work (with_hinting self.now (hinting_view hinting.now)) levels part work.old.left) }
-        ensures valid { IfOk result (λ o. IsOutline (outline_of o)) }
-    {
-        if levels == 0 {
-            return Err(Unmade::Font(glyf_fault(part.at, Why::ComponentDepth)));
-        }
-        let component = self.outline(machine, hinting, levels - 1, part.glyph, work)?;
-        Ok(placed(self.size(), part, &component, so_far)?)
     }
 }

@@ -1,30 +1,19 @@
-//! Outlines of glyphs at a size: scales points, joins components, and runs the font's programs.
+//! Outlines of a font's glyphs at a size, by a way of fitting: runs the font's programs first, then makes each glyph.
 #![tactic(auto)]
 
-mod component;
 mod counting;
 mod dropouts;
 mod fallback;
 mod fitting;
-mod glyph_zone;
-mod hinting;
-mod joining;
 pub mod laws;
-mod outline;
-mod parts;
-mod places;
-mod position;
+mod outlines;
 mod preparation;
 mod programs;
 mod rules;
-mod scaling;
-mod size;
-mod units;
-mod unmade;
 
 pub use dropouts::DropoutRules;
 pub use fitting::Fitter;
-pub use outline::Outline;
 pub use programs::{Fit, Programs};
 /// The refusals of an outline, by this crate's name for them.
 pub use tt_core::FontFault as FitFault;
+pub use tt_fit_outline::Outline;

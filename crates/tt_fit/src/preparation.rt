@@ -1,32 +1,27 @@
 //! Runs the font program and the control value program before the first glyph. Apple TrueType Reference Manual,
 //! "Instructing TrueType Glyphs".
 
-ghost use Rattle.std.specs.Prelude.{◌≡◌, ◌+◌, ◌*◌, ◌≤◌, [], length, replicate, Ok, IfOk, IsTrue};
+ghost use Rattle.std.specs.Prelude.{◌≡◌, ◌≤◌, length, Ok, IfOk, IsTrue};
 ghost use Rattle.tt_core.specs.Faults.{is_ascii};
-ghost use Rattle.tt_core.specs.Limits.{font_limit};
+ghost use Rattle.tt_core.specs.Limits.{font_limit, size_limit};
 ghost use Rattle.tt_core.specs.Outcomes.{FontGives};
-ghost use Rattle.tt_exec.specs.Parts.{parts_of};
 ghost use Rattle.tt_exec_step.specs.Views.{code_of};
 ghost use Rattle.tt_fit.specs.Preparation.{program_tables, programs_work, without_fallback, within_work, begun_at, left_at, work_at, prepared};
 ghost use Rattle.tt_fit.specs.Fallback.{everywhere};
-ghost use Rattle.tt_fit.specs.Hinting.{IsHinting, off};
+ghost use Rattle.tt_fit_outline.specs.Hinting.{IsHinting, off};
 ghost use Rattle.tt_fit.specs.Rules.{rules_of, work_of};
-ghost use Rattle.tt_fit.specs.Size.{size_by};
-ghost use Rattle.tt_fit.specs.Views.{hinting_view, preparation_view, size_view};
-ghost use Rattle.tt_fit.specs.Work.{Makes, WorkGives};
-ghost use Rattle.tt_metrics.specs.Metrics.{units_per_em_of};
+ghost use Rattle.tt_fit_outline.specs.Views.{hinting_view};
+ghost use Rattle.tt_fit.specs.Views.{preparation_view};
+ghost use Rattle.tt_fit_outline.specs.Work.{Makes, WorkGives};
 
 use crate::fallback::Fallback;
-use crate::hinting::{Hinting, run};
-use crate::parts::{begun_parts, left_to_glyphs};
 use crate::programs::{Fit, Programs};
 use crate::rules::{cvt_read, rules_of, work_of};
-use crate::size::FontSize;
-use crate::unmade::{Unmade, unbounded};
 use std::alloc::Global;
 use std::mem::swap;
 use tt_core::{Fault, FontFault};
 use tt_exec::{Code, Work};
+use tt_fit_outline::{Hinting, Unmade, begun_parts, left_to_glyphs, run, unbounded};
 use tt_metrics::Metrics;
 
 /// The state for glyph programs, which glyphs are unfitted, and the job's remaining work.
@@ -56,49 +51,28 @@ fn left_by_programs<'a>(
     alloc: Global,
     metrics: &Metrics,
     programs: Programs<'a>,
-    size: FontSize,
+    ppem: u32,
     fit: Fit,
     work: &mut Work,
 ) -> Result<Hinting<'a>, Unmade>
-    requires size { size_view size ≡ size_by (rules_of fit).scaling size.ppem (units_per_em_of metrics.now) }
+    requires ppem { ppem ≤ size_limit }
     requires fpgm { length programs.fpgm.now ≤ font_limit }
     requires prep { length programs.prep.now ≤ font_limit }
-    ensures exact { Makes hinting_view result (left_at metrics.now (program_tables programs.entry) size.ppem fit) }
+    ensures exact { Makes hinting_view result (left_at metrics.now (program_tables programs.entry) ppem fit) }
     ensures work { let tables = program_tables programs.entry in
-        WorkGives result work.new.left (programs_work (begun_at metrics.now tables size.ppem fit) tables work.old.left) }
+        WorkGives result work.new.left (programs_work (begun_at metrics.now tables ppem fit) tables work.old.left) }
     ensures valid { IfOk result (λ h. IsHinting (hinting_view h)) }
 {
     let rules = rules_of(fit);
     let cvt = cvt_read(fit, programs.cvt);
-    let begun = begun_parts(alloc, metrics, cvt, size, rules)?;
+    let begun = begun_parts(alloc, metrics, cvt, ppem, rules)?;
     let mut font = run(alloc, begun, whole_table(*b"fpgm", programs.fpgm), work)?;
-    let mut prep_parts = begun_parts(alloc, metrics, cvt, size, rules)?;
+    let mut prep_parts = begun_parts(alloc, metrics, cvt, ppem, rules)?;
     swap(&mut prep_parts.functions, &mut font.functions);
     swap(&mut prep_parts.instructions, &mut font.instructions);
     let prep = whole_table(*b"prep", programs.prep);
     let left = run(alloc, prep_parts, prep, work)?;
     Ok(Hinting::Ready(left_to_glyphs(left)))
-}
-
-/// As `left_by_programs`, with unbounded work. Errors: theirs, Memory.
-fn left_unbounded<'a>(
-    alloc: Global,
-    metrics: &Metrics,
-    programs: Programs<'a>,
-    size: FontSize,
-    fit: Fit,
-) -> Result<Hinting<'a>, FontFault>
-    requires size { size_view size ≡ size_by (rules_of fit).scaling size.ppem (units_per_em_of metrics.now) }
-    requires fpgm { length programs.fpgm.now ≤ font_limit }
-    requires prep { length programs.prep.now ≤ font_limit }
-    ensures exact { FontGives hinting_view result (left_at metrics.now (program_tables programs.entry) size.ppem fit) }
-    ensures valid { IfOk result (λ h. IsHinting (hinting_view h)) }
-{
-    let mut work = Work { left: None };
-    match left_by_programs(alloc, metrics, programs, size, fit, &mut work) {
-        Ok(hinting) => Ok(hinting),
-        Err(refusal) => Err(unbounded(refusal)),
-    }
 }
 
 /// No glyph is unfitted.
@@ -131,18 +105,18 @@ fn with_fallback<'a>(
     alloc: Global,
     metrics: &Metrics,
     programs: Programs<'a>,
-    size: FontSize,
+    ppem: u32,
     fit: Fit,
 ) -> Result<Preparation<'a>, FontFault>
-    requires size { size_view size ≡ size_by (rules_of fit).scaling size.ppem (units_per_em_of metrics.now) }
+    requires ppem { ppem ≤ size_limit }
     requires fpgm { length programs.fpgm.now ≤ font_limit }
     requires prep { length programs.prep.now ≤ font_limit }
     ensures exact { let tables = program_tables programs.entry in
-        FontGives preparation_view result (Ok (within_work (work_at metrics.now tables size.ppem fit) (left_at metrics.now tables size.ppem fit))) }
+        FontGives preparation_view result (Ok (within_work (work_at metrics.now tables ppem fit) (left_at metrics.now tables ppem fit))) }
     ensures valid { IfOk result (λ p. IsHinting (hinting_view p.hinting)) }
 {
     let mut work = work_of(fit);
-    match left_by_programs(alloc, metrics, programs, size, fit, &mut work) {
+    match left_by_programs(alloc, metrics, programs, ppem, fit, &mut work) {
         Ok(hinting) => Ok(Preparation {
             hinting,
             fallback: Fallback::WhereRefused,
@@ -163,18 +137,24 @@ pub(crate) fn prepared<'a>(
     alloc: Global,
     metrics: &Metrics,
     programs: Programs<'a>,
-    size: FontSize,
+    ppem: u32,
     fit: Fit,
 ) -> Result<Preparation<'a>, FontFault>
-    requires size { size_view size ≡ size_by (rules_of fit).scaling size.ppem (units_per_em_of metrics.now) }
+    requires ppem { ppem ≤ size_limit }
     requires fpgm { length programs.fpgm.now ≤ font_limit }
     requires prep { length programs.prep.now ≤ font_limit }
-    ensures exact { FontGives preparation_view result (prepared metrics.now (program_tables programs.entry) size.ppem fit) }
+    ensures exact { FontGives preparation_view result (prepared metrics.now (program_tables programs.entry) ppem fit) }
     ensures valid { IfOk result (λ p. IsHinting (hinting_view p.hinting)) }
 {
     match fit {
-        Fit::Full => Ok(without_fallback(left_unbounded(alloc, metrics, programs, size, fit)?)),
+        Fit::Full => {
+            let mut work = Work { left: None };
+            match left_by_programs(alloc, metrics, programs, ppem, fit, &mut work) {
+                Ok(hinting) => Ok(without_fallback(hinting)),
+                Err(refusal) => Err(unbounded(refusal)),
+            }
+        }
         Fit::None => Ok(without_fallback(Hinting::Off)),
-        Fit::Fallback | Fit::Best => with_fallback(alloc, metrics, programs, size, fit),
+        Fit::Fallback | Fit::Best => with_fallback(alloc, metrics, programs, ppem, fit),
     }
 }

@@ -1,8 +1,4 @@
-//! The tables of a font's programs, how they are run, and a glyph's program.
-
-ghost use Rattle.std.specs.Prelude.{◌+◌, ◌<◌, ◌^◌, length};
-
-use crate::units::Units;
+//! The tables of a font's programs, and how they are run.
 
 /// How outlines are fitted to the grid.
 #[derive(Clone, Copy, Debug, PartialEq, Eq)]
@@ -26,17 +22,4 @@ pub struct Programs<'a> {
     pub fpgm: &'a [u8],
     /// The control value program.
     pub prep: &'a [u8],
-}
-
-/// A glyph's program.
-#[derive(Clone, Copy)]
-pub(crate) struct GlyphProgram<'a, 'u> {
-    pub(crate) code: &'a [u8],
-    /// The offset of the program in glyf.
-    pub(crate) code_at: u32,
-    /// The offset of the glyph's first byte in glyf.
-    pub(crate) glyph_at: u32,
-    /// The font units in which originals are measured; None for 26.6.
-    pub(crate) units: Option<Units<'u>>,
-    pub(crate) ghost fits: { code_at + length code.now < 2 ^ 32 },
 }

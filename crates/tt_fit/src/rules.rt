@@ -7,39 +7,22 @@ use crate::dropouts::DropoutsBy;
 use crate::programs::{Fit, Programs};
 use tt_core::{BEST_LEVEL_LIMIT, LEVEL_LIMIT, WORK_LIMIT};
 use tt_exec::Work;
+use tt_fit_outline::{OutlineRules, Scaling};
 use tt_state::Tolerance;
 
 /// Bytes of the control values that are read, if the job's work is bounded.
 const CVT_BYTES: usize = 2 * 65_535;
 
-/// How distances in font units are scaled to pixels.
-#[derive(Clone, Copy)]
-pub(crate) enum Scaling {
-    Exact,
-    /// By a factor that is rounded first.
-    Rounded,
-}
-
-/// The rules for running programs and scaling.
-#[derive(Clone, Copy)]
-pub(crate) struct Rules {
-    /// Whether programs have the whole instruction set.
-    pub(crate) whole: bool,
-    /// What happens when an instruction refers to something missing.
-    pub(crate) tolerance: Tolerance,
-    pub(crate) scaling: Scaling,
-}
-
-pub(crate) fn rules_of(fit: Fit) -> Rules
+pub(crate) fn rules_of(fit: Fit) -> OutlineRules
     ensures { result ≡ rules_of fit }
 {
     match fit {
-        Fit::Full | Fit::None | Fit::Fallback => Rules {
+        Fit::Full | Fit::None | Fit::Fallback => OutlineRules {
             whole: false,
             tolerance: Tolerance::Strict,
             scaling: Scaling::Exact,
         },
-        Fit::Best => Rules {
+        Fit::Best => OutlineRules {
             whole: true,
             tolerance: Tolerance::Tolerant,
             scaling: Scaling::Rounded,

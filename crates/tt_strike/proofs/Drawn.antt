@@ -10,7 +10,7 @@ use Rattle.tt_core.specs.Outcomes.{each}
 use Rattle.tt_core.proofs.Each.{each-failed, each-made}
 use Rattle.tt_fit.specs.Defects.{IsOutlineDefect}
 use Rattle.tt_fit.specs.Fitting.{Fitter, fitted_outline}
-use Rattle.tt_fit.specs.Outline.{Outline}
+use Rattle.tt_fit_outline.specs.Outline.{Outline}
 use Rattle.tt_fit.proofs.Standing.{faults-stand, outlines-whole}
 use Rattle.tt_strike.specs.Defects.{IsGlyphDefect}
 use Rattle.tt_strike.specs.Picture.{glyph_shape}

@@ -6,7 +6,7 @@ use Rattle.std.specs.Map.{lookup}
 use Rattle.tt_core.specs.Faults.{Fault}
 use Rattle.tt_fit.specs.Fitting.{Fitter, charged_fitter, fitted_outline, unfitted_fault}
 use Rattle.tt_fit.specs.Laws.{UnboundedStays}
-use Rattle.tt_fit.specs.Outline.{Outline}
+use Rattle.tt_fit_outline.specs.Outline.{Outline}
 use Rattle.tt_fit.specs.declared.programs.Fit.{Fit}
 use Rattle.tt_scan_edges.specs.declared.edge.Edge.{Edge}
 use Rattle.tt_scan_dropouts.specs.declared.mark.Rules.{Rules}

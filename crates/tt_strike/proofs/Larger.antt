@@ -5,7 +5,7 @@ use Rattle.tt_core.specs.Chains.{came-through}
 use Rattle.tt_core.specs.Faults.{Fault}
 use Rattle.tt_core.specs.Outcomes.{each}
 use Rattle.tt_fit.specs.Fitting.{Fitter, fitted_outline}
-use Rattle.tt_fit.specs.Outline.{Outline}
+use Rattle.tt_fit_outline.specs.Outline.{Outline}
 use Rattle.tt_scan_edges.specs.declared.edge.Frame.{Frame}
 use Rattle.tt_scan_edges.specs.Winding.{column_x, is_black, row_y}
 use Rattle.tt_scan_dropouts.specs.Pictures.{column_at, line_at}

@@ -10,7 +10,7 @@ use Rattle.tt_arc.proofs.Moves.{contours_there, outline_at}
 use Rattle.tt_core.specs.Limits.{margin_limit, width_limit}
 use Rattle.tt_arc.specs.Chords.{chord_contours, chord_edges}
 use Rattle.tt_fit.specs.Fitting.{Fitter, fitted_outline}
-use Rattle.tt_fit.specs.Outline.{Outline}
+use Rattle.tt_fit_outline.specs.Outline.{Outline}
 use Rattle.tt_scan_edges.specs.declared.edge.Edge.{Edge}
 use Rattle.tt_scan_edges.specs.declared.edge.Frame.{Frame}
 use Rattle.tt_scan.specs.Contours.{contours_at}

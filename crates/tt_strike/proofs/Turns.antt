@@ -8,7 +8,7 @@ use Rattle.tt_core.specs.Outcomes.{◌>>=◌, each, after_each, font_fault}
 use Rattle.tt_core.specs.Faults.{Fault}
 use Rattle.tt_fit.specs.Dropouts.{dropouts_of}
 use Rattle.tt_fit.specs.Fitting.{Fitter, fitted_outline, after_glyph}
-use Rattle.tt_fit.specs.Outline.{Outline}
+use Rattle.tt_fit_outline.specs.Outline.{Outline}
 use Rattle.tt_strike.specs.Distinct.{is_among, with_glyph, distinct_after, fitter_after, fitter_past, fitter_for, IsNext}
 use Rattle.tt_strike.specs.Picture.{glyph_shape}
 use Rattle.tt_strike.specs.Pixels.{Shape}

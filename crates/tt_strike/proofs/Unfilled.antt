@@ -7,7 +7,7 @@ use Rattle.tt_core.specs.Outcomes.{each}
 use Rattle.tt_fit.specs.Dropouts.{dropouts_of}
 use Rattle.tt_fit.specs.Fitting.{Fitter, unfitted_fault, fitted_outline, after_glyph}
 use Rattle.tt_fit.specs.Laws as fit_laws
-use Rattle.tt_fit.specs.Outline.{Outline}
+use Rattle.tt_fit_outline.specs.Outline.{Outline}
 use Rattle.tt_fit.specs.declared.programs.Fit.TheVariants as fit
 use Rattle.tt_line.specs.Layout.{Placement, placement}
 use Rattle.tt_pbm.specs.P4.{p4_header_of}

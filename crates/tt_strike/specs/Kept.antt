@@ -1,7 +1,7 @@
 -- No part of the standard: glyphs cached from line to line.
 use Rattle.std.specs.Prelude.{◌≡◌, ℕ, List, All, None, Ok}
 use Rattle.tt_fit.specs.Fitting.{Fitter, fitted_outline, unfitted_fault}
-use Rattle.tt_fit.specs.Outline.{Outline}
+use Rattle.tt_fit_outline.specs.Outline.{Outline}
 use Rattle.tt_scan_rows.specs.Raster.{IsRasterOf}
 use Rattle.tt_strike.specs.Picture.{edges_at, filled_by}
 use Rattle.tt_strike_kept.specs.Glyph.{KeptGlyph}

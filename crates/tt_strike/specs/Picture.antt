@@ -8,7 +8,7 @@ use Rattle.tt_core.specs.Limits.{point_work_limit}
 use Rattle.tt_core.specs.Outcomes.{◌>>=◌, each}
 use Rattle.tt_fit.specs.Dropouts.{dropouts_of}
 use Rattle.tt_fit.specs.Fitting.{Fitter, fitted_outline, unfitted_fault}
-use Rattle.tt_fit.specs.Outline.{Outline}
+use Rattle.tt_fit_outline.specs.Outline.{Outline}
 use Rattle.tt_fit.specs.Preparation.{fitter_of}
 use Rattle.tt_fit.specs.declared.dropouts.DropoutRules.{DropoutRules}
 use Rattle.tt_fit.specs.declared.programs.Fit.{Fit}

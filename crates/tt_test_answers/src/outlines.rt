@@ -6,7 +6,7 @@
 //! and a picture has the line `GLYPH unfitted TABLE+OFFSET: NUMBER NAME` before it.
 
 ghost use Rattle.std.specs.Prelude.{◌≡◌, ◌<◌, length, All, IfOk, IfSome};
-ghost use Rattle.tt_fit.specs.Outline.{AreEnds, IsPoint};
+ghost use Rattle.tt_fit_outline.specs.Outline.{AreEnds, IsPoint};
 ghost use Rattle.tt_scan_edges.specs.Winding.{FrameFits};
 
 use crate::pictures::{frame_in, put_picture};

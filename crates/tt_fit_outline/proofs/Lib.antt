@@ -1,0 +1,6 @@
+pub mod Contours
+pub mod Lists
+pub mod Outlines
+pub mod Paid
+pub mod Shifts
+pub mod Zones

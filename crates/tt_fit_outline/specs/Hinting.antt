@@ -1,0 +1,47 @@
+-- Apple TrueType Reference Manual, "Instructing TrueType Glyphs": how a font's programs change an outline. A glyph's
+-- program works on a copy of the state after the control value program. A glyph whose program is not run has its scaled
+-- points unchanged (profile).
+use Rattle.std.specs.Prelude.{⊤, Bool, ◌&&◌, ◌==◌, not, if◌then◌else◌, length, Result, Ok}
+use Rattle.tt_core.specs.Faults.{Fault}
+use Rattle.tt_core.specs.Outcomes.{◌>>=◌}
+use Rattle.tt_exec.specs.Machines.{fresh, parts_in, run_from}
+use Rattle.tt_exec_step.specs.MachineState.{Code, MachineState}
+use Rattle.tt_exec.specs.Parts.{Parts}
+use Rattle.tt_exec_step.specs.Runs.{run_outcome}
+use Rattle.tt_fit_outline.specs.GlyphZone.{GlyphProgram, program_in_glyf, on_grid_at, left_outline}
+use Rattle.tt_fit_outline.specs.Parts.{AreParts, parts_with}
+use Rattle.tt_fit_outline.specs.Outline.{Outline}
+
+-- what the font program and the control value program give to glyph programs: nothing where no program is run, else the
+-- parts of a machine
+pub data Hinting : Type 0 where
+  off : Hinting
+  ready : Parts → Hinting
+
+-- a property of every result of the two programs
+abbrev pub IsHinting : Hinting → Type 0
+IsHinting off = ⊤
+IsHinting (ready parts) = AreParts parts
+
+-- a machine's parts after a program, or its fault
+abbrev pub run_on : Code → MachineState → Result Parts Fault
+run_on program m = run_outcome (run_from program m) >>= λ left. Ok (parts_in left)
+
+-- a machine's parts after a program that begins with these parts, or its fault
+unfoldable pub run_of : Code → Parts → Result Parts Fault
+run_of program parts = run_outcome (run_from program (fresh parts)) >>= λ left. Ok (parts_in left)
+
+-- a program of at least one byte is run, unless the control value program switched glyph programs off
+abbrev pub is_run : Parts → GlyphProgram → Bool
+is_run parts p = not (parts.skip_glyphs) && not (length p.code == 0)
+
+-- the phantom points are rounded to the grid, and the program runs; the points after it are the outline
+unfoldable pub by_program : Parts → GlyphProgram → Outline → Result Outline Fault
+by_program parts p o = on_grid_at p.glyph_at o.phantom >>= λ grid.
+    run_of (program_in_glyf p) (parts_with parts p.units o grid) >>= λ left.
+    Ok (left_outline o left.zones.glyph left.state.scan)
+
+-- the outline after a glyph's program, from scaled points or joined components
+abbrev pub hinted : Hinting → GlyphProgram → Outline → Result Outline Fault
+hinted off p o = Ok o
+hinted (ready parts) p o = if is_run parts p then by_program parts p o else Ok o

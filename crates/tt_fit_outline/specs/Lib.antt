@@ -1,0 +1,11 @@
+pub mod Component
+pub mod GlyphZone
+pub mod Hinting
+pub mod Joining
+pub mod Outline
+pub mod Parts
+pub mod Scaling
+pub mod Size
+pub mod Units
+pub mod Views
+pub mod Work

@@ -1,0 +1,49 @@
+-- The definitions' views of the code's values.
+use Rattle.std.specs.Prelude.{Bool, ℤ, pos, option_map}
+use Rattle.tt_exec.specs.Parts.{parts_of}
+use Rattle.tt_fit_outline.specs.declared.position.Position as position
+use Rattle.tt_fit_outline.specs.declared.position.Shift as shift
+use Rattle.tt_fit_outline.specs.declared.hinting.Hinting as hinting
+use Rattle.tt_fit_outline.specs.declared.hinting.Hinting.TheVariants as state
+use Rattle.tt_fit_outline.specs.declared.glyph_program.GlyphProgram as program
+use Rattle.tt_fit_outline.specs.declared.scaling.Landing as landing
+use Rattle.tt_fit_outline.specs.declared.scaling.Phantom as phantom
+use Rattle.tt_fit_outline.specs.declared.size.FontSize as size
+use Rattle.tt_fit_outline.specs.declared.units.PhantomUnits as phantom_units
+use Rattle.tt_fit_outline.specs.declared.units.Units as units
+use Rattle.tt_fit_outline.specs.Outline.{PhantomPoints}
+use Rattle.tt_fit_outline.specs.GlyphZone.{GlyphProgram}
+use Rattle.tt_fit_outline.specs.Hinting.{Hinting, off, ready}
+use Rattle.tt_fit_outline.specs.Size.{FontSize}
+use Rattle.tt_fit_outline.specs.Units.{Units}
+
+abbrev pub size_view : size.FontSize → FontSize
+size_view z = record { ppem = z.ppem; scale = z.scale; control_values = z.control_values }
+
+abbrev pub landing_view : landing.Landing → ℤ × ℤ × Bool
+landing_view p = (p.x, p.y, p.on)
+
+abbrev pub phantom_view : phantom.Phantom → PhantomPoints
+phantom_view p = record
+    { left = (p.left, pos 0); right = (p.right, pos 0); ascent = (pos 0, p.ascent); descent = (pos 0, p.descent) }
+
+abbrev pub position_view : position.Position → ℤ × ℤ
+position_view p = (p.x, p.y)
+
+abbrev pub shift_view : shift.Shift → ℤ × ℤ
+shift_view s = (s.x, s.y)
+
+abbrev pub phantom_units_view : phantom_units.PhantomUnits → PhantomPoints
+phantom_units_view p = record
+    { left = (p.left, pos 0); right = (p.right, pos 0); ascent = (pos 0, p.ascent); descent = (pos 0, p.descent) }
+
+abbrev pub units_view : units.Units → Units
+units_view u = record { points = u.points.now; phantom = phantom_units_view u.phantom }
+
+abbrev pub program_view : program.GlyphProgram → GlyphProgram
+program_view p =
+    record { code = p.code.now; code_at = p.code_at; glyph_at = p.glyph_at; units = option_map units_view p.units }
+
+abbrev pub hinting_view : hinting.Hinting → Hinting
+hinting_view state.Off = off
+hinting_view (state.Ready parts) = ready (parts_of parts)

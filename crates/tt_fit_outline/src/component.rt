@@ -1,0 +1,147 @@
+//! The places of a component's points. OpenType, "The 'glyf' table", "Composite Glyph Description".
+
+ghost use Rattle.std.specs.Prelude.{◌≡◌, ◌<◌, ◌≤◌, ◌^◌, ◌+ℤ◌, ◌*ℤ◌, unsigned_abs, IfOk};
+ghost use Rattle.tt_core.specs.Numbers.{rounded_quotient};
+ghost use Rattle.tt_core.specs.Outcomes.{Gives};
+ghost use Rattle.tt_glyf.specs.Composite.{one};
+ghost use Rattle.tt_glyf.specs.Meaning.{HasArguments};
+ghost use Rattle.tt_fit_outline.specs.Component.{transformed, offset_along, offset_of, point_of, onto, shift_of, landed, placed_point};
+ghost use Rattle.tt_fit_outline.specs.Outline.{IsPoint};
+ghost use Rattle.tt_fit_outline.specs.Views.{size_view, landing_view, position_view, shift_view};
+
+use crate::position::{Position, Shift};
+use crate::scaling::{Landing, glyf_fault, settled};
+use crate::size::FontSize;
+use tt_core::{Fault, Why, rq};
+use tt_glyf::{ComponentFlags, Record};
+use tt_state::Round;
+
+/// The number one in 2.14.
+const ONE: i64 = 16384;
+
+/// One row of a transform: the factors of x and of y.
+#[derive(Clone, Copy)]
+struct Row {
+    x: i16,
+    y: i16,
+}
+
+fn times(factor: i16, v: i32) -> i64
+    ensures exact { result ≡ factor *ℤ v }
+    ensures bound { unsigned_abs result ≤ 2 ^ 46 }
+{
+    i64::from(factor) * i64::from(v)
+}
+
+fn blend(row: Row, point: (i32, i32, bool)) -> i64
+    ensures exact { result ≡ rounded_quotient (row.x *ℤ point.0 +ℤ row.y *ℤ point.1) one }
+    ensures bound { unsigned_abs result ≤ 2 ^ 47 }
+{
+    rq(times(row.x, point.0) + times(row.y, point.1), ONE)
+}
+
+/// A point's position under a component's transform.
+fn transformed(part: Record, point: (i32, i32, bool)) -> Position
+    ensures { position_view result ≡ transformed part point }
+{
+    let row_x = Row {
+        x: part.xx,
+        y: part.xy,
+    };
+    let row_y = Row {
+        x: part.yx,
+        y: part.yy,
+    };
+    Position {
+        x: blend(row_x, point),
+        y: blend(row_y, point),
+    }
+}
+
+/// An argument of a component as an offset.
+fn offset_along(size: FontSize, part: Record, v: i32) -> i64
+    requires { unsigned_abs v ≤ 2 ^ 15 }
+    ensures exact { result ≡ offset_along (size_view size) part v }
+    ensures bound { unsigned_abs result < 2 ^ 47 }
+{
+    let offset = size.scaled(v);
+    if part.has(ComponentFlags::ROUND_XY_TO_GRID) {
+        Round::Grid.round(offset)
+    } else {
+        offset
+    }
+}
+
+fn offset_of(size: FontSize, part: Record) -> Shift
+    requires x { unsigned_abs part.arg1 ≤ 2 ^ 15 }
+    requires y { unsigned_abs part.arg2 ≤ 2 ^ 15 }
+    ensures { shift_view result ≡ offset_of (size_view size) part }
+{
+    Shift {
+        x: offset_along(size, part, part.arg1),
+        y: offset_along(size, part, part.arg2),
+    }
+}
+
+fn point_of(points: &[(i32, i32, bool)], number: i32) -> Option<(i32, i32, bool)>
+    ensures { result ≡ point_of points.now number }
+{
+    match usize::try_from(number) {
+        Ok(i) => points.get(i).copied(),
+        Err(_) => None,
+    }
+}
+
+/// The shift that takes a component's point onto another point.
+fn onto(part: Record, point: (i32, i32, bool), target: (i32, i32, bool)) -> Shift
+    ensures { shift_view result ≡ onto part point target }
+{
+    let from = transformed(part, point);
+    Shift {
+        x: i64::from(target.0) - from.x,
+        y: i64::from(target.1) - from.y,
+    }
+}
+
+/// How far a component is moved, given the points assembled so far. Error: MatchPoint.
+#[tactic(auto, unfolding(crate::specs::Component::shift_of))]
+pub(crate) fn shift_of(
+    size: FontSize,
+    part: Record,
+    component: &[(i32, i32, bool)],
+    points: &[(i32, i32, bool)],
+) -> Result<Shift, Fault>
+    requires { HasArguments part }
+    ensures exact { Gives shift_view result (shift_of (size_view size) part component.now points.now) }
+{
+    if part.has(ComponentFlags::ARGS_ARE_XY_VALUES) {
+        return Ok(offset_of(size, part));
+    }
+    match (point_of(component, part.arg2), point_of(points, part.arg1)) {
+        (Some(point), Some(target)) => Ok(onto(part, point, target)),
+        _ => Err(glyf_fault(part.at, Why::MatchPoint)),
+    }
+}
+
+fn landed(part: Record, by: Shift, point: (i32, i32, bool)) -> Landing
+    ensures { landing_view result ≡ landed part (shift_view by) point }
+{
+    let to = transformed(part, point);
+    Landing {
+        x: to.x + by.x,
+        y: to.y + by.y,
+        on: point.2,
+    }
+}
+
+/// A point of a component in its place. Error: CoordRange, at the record.
+pub(crate) fn placed_point(
+    part: Record,
+    by: Shift,
+    point: (i32, i32, bool),
+) -> Result<(i32, i32, bool), Fault>
+    ensures exact { Gives (λ p. p) result (placed_point part (shift_view by) point) }
+    ensures within { IfOk result IsPoint }
+{
+    settled(part.at, landed(part, by, point))
+}

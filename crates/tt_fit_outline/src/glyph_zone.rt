@@ -1,0 +1,233 @@
+//! The points that a glyph's program works on. Apple TrueType Reference Manual, "Instructing TrueType Glyphs" (zones,
+//! phantom points).
+
+ghost use Rattle.std.specs.Prelude.{◌≡◌, ◌+◌, ◌++◌, ◌∷◌, [], true, false, length, map, option_map, All, IfOk, IfErr, OnOk};
+ghost use Rattle.tt_core.specs.Outcomes.{Gives};
+ghost use Rattle.tt_points_zones.specs.Zones.{IsPoint as IsZonePoint};
+ghost use Rattle.tt_fit_outline.specs.GlyphZone.{on_grid_at, untouched, outline_point, glyph_zone, contours_from, place_of, seen, left_outline};
+ghost use Rattle.tt_fit_outline.specs.Outline.{outline_of, phantom_of, IsCoordinate, IsPoint, IsPosition, ArePhantom, IsOutline};
+ghost use Rattle.tt_fit_outline.specs.Scaling.{coordinate_fault, is_coordinate, to_grid};
+ghost use Rattle.tt_fit_outline.specs.Units.{IsNear, with_units};
+ghost use Rattle.tt_fit_outline.specs.Views.{units_view};
+
+use crate::outline::Outline;
+use crate::places::{phantom_places, places_of, put_units, with_units};
+use crate::scaling::coordinate;
+use crate::units::Units;
+use std::alloc::{AllocError, Global};
+use tt_core::Fault;
+use tt_state::{Point, Round, ScanControl};
+
+/// A coordinate rounded to the grid. Error: CoordRange, at this offset in glyf.
+fn to_grid(at: u32, v: i32) -> Result<i32, Fault>
+    requires { IsCoordinate v }
+    ensures ok { IfOk result (λ w. (w ≡ to_grid v) × (is_coordinate (to_grid v) ≡ true)) }
+    ensures within { IfOk result IsCoordinate }
+    ensures err { IfErr result (λ f. (f ≡ coordinate_fault at) × (is_coordinate (to_grid v) ≡ false)) }
+{
+    coordinate(at, Round::Grid.round(i64::from(v)))
+}
+
+/// A position with x rounded to the grid. Error: CoordRange.
+fn along_x(at: u32, p: (i32, i32)) -> Result<(i32, i32), Fault>
+    requires { IsPosition p }
+    ensures ok { IfOk result (λ q. (q ≡ (to_grid p.0, p.1)) × (is_coordinate (to_grid p.0) ≡ true)) }
+    ensures within { IfOk result IsPosition }
+    ensures err { IfErr result (λ f. (f ≡ coordinate_fault at) × (is_coordinate (to_grid p.0) ≡ false)) }
+{
+    Ok((to_grid(at, p.0)?, p.1))
+}
+
+/// A position with y rounded to the grid. Error: CoordRange.
+fn along_y(at: u32, p: (i32, i32)) -> Result<(i32, i32), Fault>
+    requires { IsPosition p }
+    ensures ok { IfOk result (λ q. (q ≡ (p.0, to_grid p.1)) × (is_coordinate (to_grid p.1) ≡ true)) }
+    ensures within { IfOk result IsPosition }
+    ensures err { IfErr result (λ f. (f ≡ coordinate_fault at) × (is_coordinate (to_grid p.1) ≡ false)) }
+{
+    Ok((p.0, to_grid(at, p.1)?))
+}
+
+/// The phantom points on the grid: the ends of the advance along x, the ascent and the descent along y. Error:
+/// CoordRange, at this offset in glyf.
+#[tactic(auto, unfolding(crate::specs::GlyphZone::on_grid_at))]
+pub(crate) fn on_grid(at: u32, phantom: &[(i32, i32); 4]) -> Result<[(i32, i32); 4], Fault>
+    requires { ArePhantom (phantom_of phantom.now) }
+    ensures exact { Gives phantom_of result (on_grid_at at (phantom_of phantom.now)) }
+    ensures valid { IfOk result (λ p. ArePhantom (phantom_of p)) }
+{
+    let left = along_x(at, phantom[0])?;
+    let right = along_x(at, phantom[1])?;
+    let ascent = along_y(at, phantom[2])?;
+    let descent = along_y(at, phantom[3])?;
+    Ok([left, right, ascent, descent])
+}
+
+/// A point not yet touched.
+pub(crate) fn untouched(org: (i32, i32), now: (i32, i32), on: bool) -> Point
+    ensures { result ≡ untouched org now on }
+{
+    Point {
+        units_x: 0,
+        units_y: 0,
+        org_x: org.0,
+        org_y: org.1,
+        x: now.0,
+        y: now.1,
+        touched_x: false,
+        touched_y: false,
+        on,
+    }
+}
+
+fn outline_point(point: (i32, i32, bool)) -> Point
+    requires { IsPoint point }
+    ensures exact { result ≡ outline_point point }
+    ensures valid { IsZonePoint result }
+{
+    untouched((point.0, point.1), (point.0, point.1), point.2)
+}
+
+/// The points of an outline, with room for the phantom points, in the given memory.
+fn outline_points(room: Vec<Point>, points: &[(i32, i32, bool)]) -> Result<Vec<Point>, AllocError>
+    requires { All IsPoint points.now }
+    ensures exact { IfOk result (λ v. v.items ≡ map outline_point points.now) }
+    ensures valid { IfOk result (λ v. All IsZonePoint v.items) }
+{
+    let mut zone = room;
+    zone.clear();
+    zone.reserve(points.len().saturating_add(4))?;
+    for point in points {
+        zone.push(outline_point(*point))?;
+    }
+    Ok(zone)
+}
+
+/// Appends a phantom point to a zone: in font units, its original place, and its current place.
+#[tactic(auto, using(crate::proofs::Zones::one_more))]
+fn push_phantom(
+    zone: &mut Vec<Point>,
+    units: (i32, i32),
+    was: (i32, i32),
+    now: (i32, i32),
+) -> Result<(), AllocError>
+    requires zone { All IsZonePoint zone.old.items }
+    requires units { IsNear units }
+    requires was { IsPosition was }
+    requires now { IsPosition now }
+    ensures exact { OnOk result (zone.new.items ≡ zone.old.items ++ with_units units (untouched was now true) ∷ []) }
+    ensures valid { OnOk result (All IsZonePoint zone.new.items) }
+{
+    zone.push(with_units(units, untouched(was, now, true)))?;
+    Ok(())
+}
+
+/// The points of an outline, followed by its phantom points on the grid, in the given memory.
+pub(crate) fn glyph_zone(
+    room: Vec<Point>,
+    units: Option<Units>,
+    outline: &Outline,
+    grid: &[(i32, i32); 4],
+) -> Result<Vec<Point>, AllocError>
+    requires outline { IsOutline (outline_of outline.now) }
+    requires grid { ArePhantom (phantom_of grid.now) }
+    ensures exact { IfOk result (λ v. v.items ≡ glyph_zone (option_map units_view units.entry) (outline_of outline.now) (phantom_of grid.now)) }
+    ensures valid { IfOk result (λ v. All IsZonePoint v.items) }
+{
+    let mut zone = outline_points(room, &outline.points)?;
+    put_units(&mut zone, places_of(units));
+    let places = phantom_places(units);
+    let was = &outline.phantom;
+    push_phantom(&mut zone, (places.left, 0), was[0], grid[0])?;
+    push_phantom(&mut zone, (places.right, 0), was[1], grid[1])?;
+    push_phantom(&mut zone, (0, i32::from(places.ascent)), was[2], grid[2])?;
+    push_phantom(&mut zone, (0, i32::from(places.descent)), was[3], grid[3])?;
+    Ok(zone)
+}
+
+/// Each contour's first point and the number one past its last, in the given memory.
+pub(crate) fn contours(room: Vec<(u32, u32)>, ends: &[u32]) -> Result<Vec<(u32, u32)>, AllocError>
+    ensures { IfOk result (λ v. v.items ≡ contours_from 0 ends.now) }
+{
+    let mut contours = room;
+    contours.clear();
+    contours.reserve(ends.len())?;
+    let mut first = 0;
+    for end in ends {
+        contours.push((first, *end))?;
+        first = *end;
+    }
+    Ok(contours)
+}
+
+fn seen(point: Point) -> (i32, i32, bool)
+    requires { IsZonePoint point }
+    ensures exact { result ≡ seen point }
+    ensures valid { IsPoint result }
+{
+    (point.x, point.y, point.on)
+}
+
+fn place_of(point: Point) -> (i32, i32)
+    requires { IsZonePoint point }
+    ensures exact { result ≡ place_of point }
+    ensures valid { IsPosition result }
+{
+    (point.x, point.y)
+}
+
+/// The places of an outline's points after a program, in the given memory.
+fn seen_points(
+    room: Vec<(i32, i32, bool)>,
+    zone: &[Point],
+) -> Result<Vec<(i32, i32, bool)>, AllocError>
+    requires { All IsZonePoint zone.now }
+    ensures exact { IfOk result (λ v. v.items ≡ map seen zone.now) }
+    ensures valid { IfOk result (λ v. All IsPoint v.items) }
+{
+    let mut points = room;
+    points.clear();
+    points.reserve(zone.len())?;
+    for point in zone {
+        points.push(seen(*point))?;
+    }
+    Ok(points)
+}
+
+/// The places of the phantom points after a program.
+fn seen_phantom(zone: &[Point]) -> [(i32, i32); 4]
+    requires count { length zone.now ≡ 4 }
+    requires zone { All IsZonePoint zone.now }
+    ensures exact { phantom_of result ≡ phantom_of (map place_of zone.now) }
+    ensures valid { ArePhantom (phantom_of result) }
+{
+    [
+        place_of(zone[0]),
+        place_of(zone[1]),
+        place_of(zone[2]),
+        place_of(zone[3]),
+    ]
+}
+
+/// The outline with the points of the glyph zone, phantom points last, and the program's scan control.
+pub(crate) fn left_outline(
+    outline: Outline,
+    zone: &[Point],
+    scan: ScanControl,
+) -> Result<Outline, AllocError>
+    requires outline { IsOutline (outline_of outline) }
+    requires count { length zone.now ≡ length outline.points.items + 4 }
+    requires zone { All IsZonePoint zone.now }
+    ensures exact { IfOk result (λ o. outline_of o ≡ left_outline (outline_of outline) zone.now scan) }
+    ensures valid { IfOk result (λ o. IsOutline (outline_of o)) }
+{
+    let (own, phantom) = zone.split_at(outline.points.len());
+    let points = seen_points(outline.points, own)?;
+    Ok(Outline {
+        points,
+        ends: outline.ends,
+        phantom: seen_phantom(phantom),
+        unfitted: None,
+        scan: Some(scan),
+    })
+}

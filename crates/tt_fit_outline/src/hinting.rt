@@ -1,0 +1,198 @@
+//! Runs a glyph's program over its outline. Apple TrueType Reference Manual, "Instructing TrueType Glyphs".
+
+ghost use Rattle.std.specs.Prelude.{◌≡◌, false, option_map, IfOk, OnOk};
+ghost use Rattle.tt_core.specs.Limits.{step_limit};
+ghost use Rattle.tt_exec.specs.Machines.{begun_again, parts_in, run_from};
+ghost use Rattle.tt_exec.specs.Work.{copied_of, work_within};
+ghost use Rattle.tt_exec.specs.Parts.{parts_of};
+ghost use Rattle.tt_exec_step.specs.Views.{code_of};
+ghost use Rattle.tt_points_zones.specs.Zones.{IsZones, SameShape};
+ghost use Rattle.tt_fit_outline.specs.GlyphZone.{program_in_glyf};
+ghost use Rattle.tt_fit_outline.specs.Outline.{outline_of, phantom_of, ArePhantom, IsOutline};
+ghost use Rattle.tt_fit_outline.specs.Hinting.{IsHinting, by_program, hinted, run_of, run_on};
+ghost use Rattle.tt_fit_outline.specs.Parts.{AreParts, parts_with};
+ghost use Rattle.tt_fit_outline.specs.Views.{hinting_view, program_view, units_view};
+ghost use Rattle.tt_fit_outline.specs.Work.{Makes, WorkGives, code_work, hinted_work, program_work};
+
+use crate::glyph_program::GlyphProgram;
+use crate::glyph_zone::{left_outline, on_grid};
+use crate::outline::Outline;
+use crate::parts::{glyph_zones, without_contents};
+use crate::scaling::glyf_fault;
+use crate::units::Units;
+use crate::unmade::{Unmade, refusal_of};
+use std::alloc::{AllocError, Global};
+use tt_core::Why;
+use tt_exec::{Code, Copies, Machine, Parts, Work};
+
+/// The machine that runs the programs of all glyphs in turn; None before the first.
+pub type GlyphMachine<'a> = Option<Box<Machine<'a>>>;
+
+/// What the font program and the control value program give to glyph programs.
+#[derive(Drop)]
+pub enum Hinting<'a> {
+    /// No program is run.
+    Off,
+    /// The parts of a machine for a glyph's program.
+    Ready(Parts<'a>),
+}
+
+/// Runs a glyph's program on a machine that has not failed and whose copies are paid for. Errors: those of the program,
+/// Memory, Spent.
+fn run_paid<'a>(
+    machine: &mut Machine<'a>,
+    code: Code<'a>,
+    copies: Copies,
+    work: &mut Work,
+) -> Result<(), Unmade>
+    requires done { machine.old.failed ≡ false }
+    requires paid { copies.rest ≡ work.old.left }
+    ensures exact { Makes (λ _. parts_in machine.new.state) result (run_on (code_of code.entry) machine.old.state) }
+    ensures work { WorkGives result work.new.left (work_within step_limit (run_from (code_of code.entry) machine.old.state) work.old.left) }
+    ensures shape { OnOk result (SameShape machine.old.state.zones machine.new.state.zones) }
+{
+    match machine.run_paid(code, copies, work) {
+        Ok(_) => Ok(()),
+        Err(fault) => Err(refusal_of(fault)),
+    }
+}
+
+/// A machine's parts after a program. Errors: those of the program, Memory, Spent.
+#[tactic(auto, unfolding(crate::specs::Hinting::run_of))]
+pub fn run<'a>(
+    alloc: Global,
+    parts: Parts<'a>,
+    code: Code<'a>,
+    work: &mut Work,
+) -> Result<Parts<'a>, Unmade>
+    requires { AreParts (parts_of parts) }
+    ensures exact { Makes parts_of result (run_of (code_of code.entry) (parts_of parts.entry)) }
+    ensures work { WorkGives result work.new.left (code_work (code_of code.entry) (parts_of parts.entry) work.old.left) }
+    ensures valid { IfOk result (λ p. AreParts (parts_of p)) }
+    ensures shape { IfOk result (λ p. SameShape (parts_of parts.entry).zones (parts_of p).zones) }
+{
+    let mut machine = Machine::new(alloc, parts)?;
+    if let Err(fault) = machine.run_within(code, work) {
+        return Err(refusal_of(fault));
+    }
+    match machine.into_parts() {
+        Some(left) => Ok(left),
+        None => unreachable!(),
+    }
+}
+
+fn code_in_glyf<'a>(program: GlyphProgram<'a, '_>) -> Code<'a>
+    ensures { code_of result ≡ program_in_glyf (program_view program.entry) }
+{
+    Code {
+        table: *b"glyf",
+        base: program.code_at,
+        bytes: program.code,
+    }
+}
+
+/// The machine for the programs of all glyphs, made before the first. A new machine copies nothing: the first glyph is
+/// put into it like each later one.
+fn machine_of_all<'a>(
+    alloc: Global,
+    machine: GlyphMachine<'a>,
+    parts: &Parts<'a>,
+) -> Result<Box<Machine<'a>>, AllocError>
+    requires { AreParts (parts_of parts.now) }
+{
+    match machine {
+        Some(machine) => Ok(machine),
+        None => {
+            let parts = without_contents(alloc, parts)?;
+            Ok(Box::new(alloc, Machine::new(alloc, parts)?)?)
+        }
+    }
+}
+
+/// Puts a glyph into a machine, which then equals a new machine made of the parts with this glyph. An allowance that
+/// covers all copies of the parts is used up.
+fn put_glyph<'a>(
+    alloc: Global,
+    machine: &mut Machine<'a>,
+    parts: &Parts<'a>,
+    units: Option<Units>,
+    outline: &Outline,
+    grid: &[(i32, i32); 4],
+    copies: &mut Copies,
+) -> Result<(), AllocError>
+    requires parts { AreParts (parts_of parts.now) }
+    requires outline { IsOutline (outline_of outline.now) }
+    requires grid { ArePhantom (phantom_of grid.now) }
+    requires paid { copies.old.left ≡ copied_of (parts_of parts.now) }
+    ensures exact { OnOk result (machine.new ≡ begun_again (parts_with (parts_of parts.now) (option_map units_view units.entry) (outline_of outline.now) (phantom_of grid.now))) }
+    ensures valid { OnOk result (IsZones machine.new.state.zones) }
+    ensures rest { copies.new.rest ≡ copies.old.rest }
+{
+    let room = machine.take_zones(alloc);
+    let zones = glyph_zones(room, parts, units, outline, grid, copies)?;
+    machine.begin_again(parts, zones, copies)
+}
+
+/// The outline after a glyph's program, run on a machine into which the glyph is put first. Without work for the copies
+/// nothing is copied. Errors: CoordRange of a phantom point, those of the program, Memory, Spent.
+#[tactic(auto, unfolding(crate::specs::Hinting::by_program, crate::specs::Work::program_work))]
+fn by_program<'a>(
+    alloc: Global,
+    machine: &mut Machine<'a>,
+    parts: &Parts<'a>,
+    program: GlyphProgram<'a, '_>,
+    outline: Outline,
+    work: &mut Work,
+) -> Result<Outline, Unmade>
+    requires parts { AreParts (parts_of parts.now) }
+    requires outline { IsOutline (outline_of outline) }
+    ensures exact { Makes outline_of result (by_program (parts_of parts.now) (program_view program.entry) (outline_of outline)) }
+    ensures work { WorkGives result work.new.left (program_work (parts_of parts.now) (program_view program.entry) (outline_of outline) work.old.left) }
+    ensures valid { IfOk result (λ o. IsOutline (outline_of o)) }
+{
+    let grid = on_grid(program.glyph_at, &outline.phantom)?;
+    let Some(mut copies) = parts.pay(work) else {
+        return Err(Unmade::Spent(glyf_fault(program.code_at, Why::StepLimit)));
+    };
+    put_glyph(
+        alloc,
+        machine,
+        parts,
+        program.units,
+        &outline,
+        &grid,
+        &mut copies,
+    )?;
+    run_paid(machine, code_in_glyf(program), copies, work)?;
+    Ok(left_outline(outline, machine.glyph_points(), machine.scan())?)
+}
+
+/// The outline after a glyph's program, from scaled points or joined components. The machine is reused for each glyph.
+/// Errors: CoordRange of a phantom point, those of the program, Memory, Spent.
+pub fn hinted<'a>(
+    alloc: Global,
+    machine: &mut GlyphMachine<'a>,
+    hinting: &Hinting<'a>,
+    program: GlyphProgram<'a, '_>,
+    outline: Outline,
+    work: &mut Work,
+) -> Result<Outline, Unmade>
+    requires hinting { IsHinting (hinting_view hinting.now) }
+    requires outline { IsOutline (outline_of outline) }
+    ensures exact { Makes outline_of result (hinted (hinting_view hinting.now) (program_view program.entry) (outline_of outline)) }
+    ensures work { WorkGives result work.new.left (hinted_work (hinting_view hinting.now) (program_view program.entry) (outline_of outline) work.old.left) }
+    ensures valid { IfOk result (λ o. IsOutline (outline_of o)) }
+{
+    match hinting {
+        Hinting::Off => Ok(outline),
+        Hinting::Ready(parts) => {
+            if parts.skip_glyphs || program.code.is_empty() {
+                return Ok(outline);
+            }
+            let mut own = machine_of_all(alloc, machine.take(), parts)?;
+            let made = by_program(alloc, own.as_mut(), parts, program, outline, work);
+            *machine = Some(own);
+            made
+        }
+    }
+}

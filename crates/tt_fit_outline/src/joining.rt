@@ -1,0 +1,120 @@
+//! Joins a component with the points assembled so far. OpenType, "The 'glyf' table", "Composite Glyph Description".
+
+ghost use Rattle.std.specs.Prelude.{◌≡◌, ◌+◌, ◌<◌, ◌≤◌, ◌++◌, length, All, IfOk, OnOk};
+ghost use Rattle.tt_core.specs.Limits.{point_limit};
+ghost use Rattle.tt_core.specs.Outcomes.{after_each, FontGives, Leaves};
+ghost use Rattle.tt_glyf.specs.Meaning.{HasArguments};
+ghost use Rattle.tt_fit_outline.specs.Component.{placed_point};
+ghost use Rattle.tt_fit_outline.specs.Joining.{ends_after, scan_after, appended, placed};
+ghost use Rattle.tt_fit_outline.specs.Outline.{outline_of, IsPoint, IsOutline};
+ghost use Rattle.tt_fit_outline.specs.Views.{size_view, shift_view};
+
+use crate::component::{placed_point, shift_of};
+use crate::outline::Outline;
+use crate::position::Shift;
+use crate::scaling::glyf_fault;
+use crate::size::FontSize;
+use std::alloc::AllocError;
+use tt_core::{FontFault, POINT_LIMIT, Why};
+use tt_glyf::{ComponentFlags, Record};
+use tt_state::ScanControl;
+
+/// Appends each point of a component in its place. Errors: CoordRange, Memory.
+#[tactic(auto, using(crate::proofs::Lists::points))]
+fn push_placed(
+    points: &mut Vec<(i32, i32, bool)>,
+    part: Record,
+    by: Shift,
+    component: &[(i32, i32, bool)],
+) -> Result<(), FontFault>
+    requires { All IsPoint points.old.items }
+    ensures exact { Leaves result points.new.items (after_each (placed_point part (shift_view by)) component.now points.old.items) }
+    ensures count { OnOk result (length points.new.items ≡ length points.old.items + length component.now) }
+    ensures coordinates { OnOk result (All IsPoint points.new.items) }
+{
+    points.reserve(component.len())?;
+    for point in component {
+        points.push(placed_point(part, by, *point)?)?;
+    }
+    Ok(())
+}
+
+/// Appends the ends of a component's contours, with `points` points before them.
+fn push_ends(ends: &mut Vec<u32>, points: u32, component: &[u32]) -> Result<(), AllocError>
+    requires points { points ≤ point_limit }
+    requires component { All (λ e. e ≤ point_limit) component.now }
+    ensures { OnOk result (ends.new.items ≡ ends.old.items ++ ends_after points component.now) }
+{
+    for end in component {
+        ends.push(points + *end)?;
+    }
+    Ok(())
+}
+
+/// The scan control of the last program that was run, a component's or an earlier one's.
+fn scan_after(component: Option<ScanControl>, so_far: Option<ScanControl>) -> Option<ScanControl>
+    ensures { result ≡ scan_after component so_far }
+{
+    match component {
+        Some(left) => Some(left),
+        None => so_far,
+    }
+}
+
+/// Appends a component, moved by a shift. Errors: CoordRange, PointLimit, Memory.
+#[tactic(auto, unfolding(crate::specs::Joining::appended, crate::specs::Joining::within_point_limit))]
+fn appended(
+    part: Record,
+    by: Shift,
+    component: &Outline,
+    so_far: Outline,
+) -> Result<Outline, FontFault>
+    requires component { IsOutline (outline_of component.now) }
+    requires so_far { IsOutline (outline_of so_far) }
+    ensures exact { FontGives outline_of result (appended part (shift_view by) (outline_of component.now) (outline_of so_far)) }
+    ensures valid { IfOk result (λ o. IsOutline (outline_of o)) }
+{
+    let Outline {
+        mut points,
+        mut ends,
+        phantom,
+        scan,
+        ..
+    } = so_far;
+    let before = points.len();
+    push_placed(&mut points, part, by, &component.points)?;
+    if points.len() > POINT_LIMIT {
+        return Err(FontFault::Font(glyf_fault(part.at, Why::PointLimit)));
+    }
+    push_ends(&mut ends, before as u32, &component.ends)?;
+    let phantom = if part.has(ComponentFlags::USE_MY_METRICS) {
+        component.phantom
+    } else {
+        phantom
+    };
+    Ok(Outline {
+        points,
+        ends,
+        phantom,
+        unfitted: None,
+        scan: scan_after(component.scan, scan),
+    })
+}
+
+/// Places a component and appends it. Errors: MatchPoint, CoordRange, PointLimit, Memory.
+#[tactic(auto, unfolding(crate::specs::Joining::placed))]
+pub fn placed(
+    size: FontSize,
+    part: Record,
+    component: &Outline,
+    so_far: Outline,
+) -> Result<Outline, FontFault>
+    requires arguments { HasArguments part }
+    requires component { IsOutline (outline_of component.now) }
+    requires so_far { IsOutline (outline_of so_far) }
+    ensures exact { FontGives outline_of result (placed (size_view size) part (outline_of component.now) (outline_of so_far)) }
+    ensures valid { IfOk result (λ o. IsOutline (outline_of o)) }
+{
+    let by = shift_of(size, part, &component.points, &so_far.points)?;
+    appended(part, by, component, so_far)
+}

@@ -1,0 +1,28 @@
+//! The outline of one glyph at a size: scales points, joins components, and runs a glyph's program.
+#![tactic(auto)]
+
+mod component;
+mod glyph_program;
+mod glyph_zone;
+mod hinting;
+mod joining;
+mod outline;
+mod parts;
+mod places;
+mod position;
+mod rules;
+mod scaling;
+mod size;
+mod units;
+mod unmade;
+
+pub use glyph_program::GlyphProgram;
+pub use hinting::{GlyphMachine, Hinting, hinted, run};
+pub use joining::placed;
+pub use outline::Outline;
+pub use parts::{begun_parts, left_to_glyphs};
+pub use rules::{OutlineRules, Scaling};
+pub use scaling::{Phantom, blank, glyf_fault, phantom_points, phantom_units, scaled_outline};
+pub use size::FontSize;
+pub use units::{PhantomUnits, Units};
+pub use unmade::{Unmade, unbounded};
