@@ -81,12 +81,7 @@ pub(crate) fn draw_line<'a>(
     requires asked { IsJob (job_view job.now) }
     requires maker { IsMaker face.now job.now.ppem job.now.fit maker.old }
     requires kept { (s : Fitter) → setting_in face.now (job_view job.now) ≡ Ok s → AreKeptFor s kept.old.entries }
-    requires width { (1 ≤ line.now.width) × (line.now.width ≤ width_limit) }
-    requires height { (1 ≤ line.now.height) × (line.now.height ≤ height_limit) }
-    requires rise { unsigned_abs line.now.rise ≤ 10 ^ 6 }
     requires known { All (λ g. g.0 < glyphs_of face.now.metrics) line.now.glyphs.items }
-    requires pens { All (λ g. g.1 ≤ width_limit) line.now.glyphs.items }
-    requires count { length line.now.glyphs.items ≤ text_limit }
     ensures exact { GivesUnless refusal picture_bytes result (drawn face.now (job_view job.now) (placement_of line.now)) }
     ensures valid { IfOk result IsReady }
     ensures frame { IfOk result (λ p. p.frame ≡ frame_of (placement_of line.now) job.now.margin) }

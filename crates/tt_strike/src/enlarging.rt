@@ -70,20 +70,11 @@ fn enlarge<'a>(
     requires asked { IsJob (job_view job.now) }
     requires maker { IsMaker face.now job.now.ppem job.now.fit maker.old }
     requires kept { (s : Fitter) → setting_in face.now (job_view job.now) ≡ Ok s → AreKeptFor s kept.old.entries }
-    requires width { (1 ≤ line.width) × (line.width ≤ width_limit) }
-    requires height { (1 ≤ line.height) × (line.height ≤ height_limit) }
-    requires rise { unsigned_abs line.rise ≤ 614400 }
     requires known { All (λ g. g.0 < glyphs_of face.now.metrics) line.glyphs.items }
-    requires pens { All (λ g. g.1 ≤ line.width) line.glyphs.items }
-    requires count { length line.glyphs.items ≤ text_limit }
     ensures enlarged { IfOk result (λ e. IsEnlarged face.now (job_view job.now) (placement_of line) (placement_of e.line) e.glyphs.kept.items e.inks.items) }
     ensures cost { IfOk result (λ e. line_cost face.now (job_view job.now) (placement_of line) ≡ Ok e.glyphs.cost) }
     ensures places { IfOk result (λ e. ArePlaces e.glyphs.places.items (numbers_of e.glyphs.kept.items)) }
     ensures room { IfOk result (λ e. length e.glyphs.places.items ≡ glyphs_of face.now.metrics) }
-    ensures width { IfOk result (λ e. (1 ≤ e.line.width) × (e.line.width ≤ width_limit)) }
-    ensures height { IfOk result (λ e. (1 ≤ e.line.height) × (e.line.height ≤ height_limit)) }
-    ensures rise { IfOk result (λ e. unsigned_abs e.line.rise ≤ 10 ^ 6) }
-    ensures pens { IfOk result (λ e. All (λ g. g.1 ≤ width_limit) e.line.glyphs.items) }
     ensures glyphs { IfOk result (λ e. map (λ g. g.0) e.line.glyphs.items ≡ map (λ g. g.0) line.glyphs.items) }
     ensures stops { IfTold refusal result (λ r. grown_line face.now (job_view job.now) (placement_of line) ≡ Err r) }
     ensures maker { IsMaker face.now job.now.ppem job.now.fit maker.new }
@@ -119,12 +110,7 @@ pub(crate) fn draw_grown<'a>(
     requires asked { IsJob (job_view job.now) }
     requires maker { IsMaker face.now job.now.ppem job.now.fit maker.old }
     requires kept { (s : Fitter) → setting_in face.now (job_view job.now) ≡ Ok s → AreKeptFor s kept.old.entries }
-    requires width { (1 ≤ line.width) × (line.width ≤ width_limit) }
-    requires height { (1 ≤ line.height) × (line.height ≤ height_limit) }
-    requires rise { unsigned_abs line.rise ≤ 614400 }
     requires known { All (λ g. g.0 < glyphs_of face.now.metrics) line.glyphs.items }
-    requires pens { All (λ g. g.1 ≤ line.width) line.glyphs.items }
-    requires count { length line.glyphs.items ≤ text_limit }
     ensures exact { GivesUnless refusal picture_bytes result (drawn_grown face.now (job_view job.now) (placement_of line)) }
     ensures valid { IfOk result IsReady }
     ensures frame { IfOk result (λ p. IsOkAnd (grown_line face.now (job_view job.now) (placement_of line)) (λ l. p.frame ≡ frame_of l job.now.margin)) }
@@ -167,12 +153,7 @@ pub(crate) fn measure_grown<'a>(
     requires asked { IsJob (job_view job.now) }
     requires maker { IsMaker face.now job.now.ppem job.now.fit maker.old }
     requires kept { (s : Fitter) → setting_in face.now (job_view job.now) ≡ Ok s → AreKeptFor s kept.old.entries }
-    requires width { (1 ≤ line.width) × (line.width ≤ width_limit) }
-    requires height { (1 ≤ line.height) × (line.height ≤ height_limit) }
-    requires rise { unsigned_abs line.rise ≤ 614400 }
     requires known { All (λ g. g.0 < glyphs_of face.now.metrics) line.glyphs.items }
-    requires pens { All (λ g. g.1 ≤ line.width) line.glyphs.items }
-    requires count { length line.glyphs.items ≤ text_limit }
     ensures exact { GivesUnless refusal measure_view result (measured_grown face.now (job_view job.now) (placement_of line)) }
     ensures report { IfOk result (λ m. line_report face.now (job_view job.now) (placement_of line) ≡ Ok m.report.unfitted.items) }
     ensures once { IfOk result (λ m. ListsOnce m.report.unfitted.items) }

@@ -78,15 +78,7 @@ fn move_pens(glyphs: &mut [(u16, u32)], right: u32)
 /// A line with the fewest added columns and rows such that this ink is not cut. Error: PictureLarge.
 #[tactic(auto, unfolding(crate::specs::Grown::not_large))]
 pub(crate) fn grown(line: Line, ink: Option<InkBox>) -> Result<Line, JobFault>
-    requires width { (1 ≤ line.width) × (line.width ≤ width_limit) }
-    requires height { (1 ≤ line.height) × (line.height ≤ height_limit) }
-    requires rise { unsigned_abs line.rise ≤ 614400 }
-    requires pens { All (λ g. g.1 ≤ line.width) line.glyphs.items }
     ensures exact { Gives placement_of result (grown (placement_of line) ink) }
-    ensures width { IfOk result (λ l. (1 ≤ l.width) × (l.width ≤ width_limit)) }
-    ensures height { IfOk result (λ l. (1 ≤ l.height) × (l.height ≤ height_limit)) }
-    ensures rise { IfOk result (λ l. unsigned_abs l.rise ≤ 10 ^ 6) }
-    ensures pens { IfOk result (λ l. All (λ g. g.1 ≤ width_limit) l.glyphs.items) }
     ensures glyphs { IfOk result (λ l. map (λ g. g.0) l.glyphs.items ≡ map (λ g. g.0) line.glyphs.items) }
 {
     let Some(ink) = ink else {

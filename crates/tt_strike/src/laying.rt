@@ -23,13 +23,8 @@ pub(crate) fn lay_out(alloc: Global, face: &Face, job: &Job) -> Result<Line, Dra
     ensures exact { GivesUnless refusal placement_of result (laid_out face.now (job_view job.now)) }
     ensures asked { OnOk result (IsJob (job_view job.now)) }
     ensures laid { IfOk result (λ l. placement face.now.metrics face.now.cmap job.now.text.now job.now.ppem job.now.margin ≡ Ok (placement_of l)) }
-    ensures width { IfOk result (λ l. (1 ≤ l.width) × (l.width ≤ width_limit)) }
-    ensures height { IfOk result (λ l. (1 ≤ l.height) × (l.height ≤ height_limit)) }
-    ensures rise { IfOk result (λ l. unsigned_abs l.rise ≤ 614400) }
-    ensures count { IfOk result (λ l. length l.glyphs.items ≤ text_limit) }
     ensures glyphs { IfOk result (λ l. map (λ g. g.0) l.glyphs.items ≡ text_glyphs face.now.cmap job.now.text.now) }
     ensures known { IfOk result (λ l. All (λ g. g.0 < glyphs_of face.now.metrics) l.glyphs.items) }
-    ensures pens { IfOk result (λ l. All (λ g. g.1 ≤ l.width) l.glyphs.items) }
     ensures font { IfTold draw_font_fault result (λ _. ⊥) }
     ensures job { IfTold draw_job_fault result (IsLineRefusal face.now (job_view job.now)) }
 {

@@ -207,12 +207,7 @@ pub(crate) fn measure_line<'a>(
     requires asked { IsJob (job_view job.now) }
     requires maker { IsMaker face.now job.now.ppem job.now.fit maker.old }
     requires kept { (s : Fitter) → setting_in face.now (job_view job.now) ≡ Ok s → AreKeptFor s kept.old.entries }
-    requires width { (1 ≤ line.now.width) × (line.now.width ≤ width_limit) }
-    requires height { (1 ≤ line.now.height) × (line.now.height ≤ height_limit) }
-    requires rise { unsigned_abs line.now.rise ≤ 10 ^ 6 }
     requires known { All (λ g. g.0 < glyphs_of face.now.metrics) line.now.glyphs.items }
-    requires pens { All (λ g. g.1 ≤ width_limit) line.now.glyphs.items }
-    requires count { length line.now.glyphs.items ≤ text_limit }
     ensures exact { GivesUnless refusal measure_view result (measured_line face.now (job_view job.now) (placement_of line.now)) }
     ensures report { IfOk result (λ m. line_report face.now (job_view job.now) (placement_of line.now) ≡ Ok m.report.unfitted.items) }
     ensures once { IfOk result (λ m. ListsOnce m.report.unfitted.items) }

@@ -32,9 +32,6 @@ use tt_strike_kept::KeptGlyphs;
 
 /// The frame of the picture of a laid-out line.
 pub(crate) fn frame_of(line: &Line, margin: u32) -> Frame
-    requires width { (1 ≤ line.now.width) × (line.now.width ≤ width_limit) }
-    requires height { (1 ≤ line.now.height) × (line.now.height ≤ height_limit) }
-    requires rise { unsigned_abs line.now.rise ≤ 10 ^ 6 }
     requires margin { margin ≤ margin_limit }
     ensures exact { result ≡ frame_of (placement_of line.now) margin }
     ensures fits { FrameFits result }
@@ -62,12 +59,7 @@ pub(crate) fn tested_glyphs<'a>(
     requires maker { IsMaker face.now job.now.ppem job.now.fit maker.old }
     requires kept { (s : Fitter) → setting_in face.now (job_view job.now) ≡ Ok s → AreKeptFor s kept.old.entries }
     requires keeps { keeps ≡ true → is_bounded job.now.fit ≡ false }
-    requires width { (1 ≤ line.now.width) × (line.now.width ≤ width_limit) }
-    requires height { (1 ≤ line.now.height) × (line.now.height ≤ height_limit) }
-    requires rise { unsigned_abs line.now.rise ≤ 10 ^ 6 }
     requires known { All (λ g. g.0 < glyphs_of face.now.metrics) line.now.glyphs.items }
-    requires pens { All (λ g. g.1 ≤ width_limit) line.now.glyphs.items }
-    requires count { length line.now.glyphs.items ≤ text_limit }
     ensures made { IfOk result (λ g. AreMade keeps face.now (job_view job.now) (placement_of line.now) g.kept.items) }
     ensures places { IfOk result (λ g. ArePlaces g.places.items (numbers_of g.kept.items)) }
     ensures room { IfOk result (λ g. length g.places.items ≡ glyphs_of face.now.metrics) }
