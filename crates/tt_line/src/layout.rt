@@ -1,7 +1,7 @@
 //! Lays out a line of text.
 
-ghost use Rattle.std.specs.Prelude.{◌≡◌, ◌<◌, ◌≤◌, ◌^◌, length, map, chars, sum, All, unsigned_abs, IsOk, IfOk, IfErr, IfNone};
-ghost use Rattle.tt_core.specs.Limits.{size_limit, margin_limit, text_limit, width_limit, height_limit};
+ghost use Rattle.std.specs.Prelude.{◌≡◌, ◌<◌, ◌≤◌, ◌^◌, length, map, chars, sum, All, IsOk, IfOk, IfErr, IfNone};
+ghost use Rattle.tt_core.specs.Limits.{size_limit, margin_limit, text_limit, width_limit};
 ghost use Rattle.tt_core.specs.Outcomes.{GivesUnless, IfTold};
 ghost use Rattle.tt_line.specs.Layout.{text_glyphs, advances_of, placed_glyphs, extent_of, placement, IsRefusal};
 ghost use Rattle.tt_line.specs.Outcome.{placement_of, job_fault};

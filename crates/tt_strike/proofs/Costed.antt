@@ -4,14 +4,15 @@ use Rattle.tt_fit.specs.Fitting.{Fitter}
 use Rattle.tt_fit.specs.declared.programs.Fit.{Fit}
 use Rattle.tt_line.specs.Layout.{Placement}
 use Rattle.tt_strike.specs.Costs.{cost_of, line_cost}
-use Rattle.tt_strike.specs.Glyphs.{Glyph}
+use Rattle.tt_picture.specs.Glyphs.{Glyph}
 use Rattle.tt_strike.specs.Job.{Job}
 use Rattle.tt_strike.specs.Made.{AreMade}
 use Rattle.tt_strike.specs.Picture.{crossings_tested, points_tested, setting_in, shapes_in}
-use Rattle.tt_strike.specs.Pixels.{Shape}
+use Rattle.tt_picture.specs.Pixels.{Shape}
 use Rattle.tt_strike.specs.Refusals.{as_job}
 use Rattle.tt_strike.specs.Tables.{Face}
-use Rattle.tt_strike.specs.Work.{crossings_in, is_bounded, work_left}
+use Rattle.tt_picture.specs.Shapes.{crossings_in}
+use Rattle.tt_strike.specs.Work.{is_bounded, work_left}
 
 -- the cost of a line that is not refused
 pub costed : (face : Face) (a : Job) (l : Placement) (s : Fitter) (shapes : List Shape) → setting_in face a ≡ Ok s

@@ -17,15 +17,16 @@ use Rattle.tt_scan.specs.declared.edge.Edge.{Edge}
 use Rattle.tt_scan.specs.declared.edge.Frame.{Frame}
 use Rattle.tt_scan_dropouts.specs.Counted.{edges_counted}
 use Rattle.tt_scan_dropouts.proofs.Counts.{rows_are_counted}
-use Rattle.tt_strike.specs.Distinct.{distinct, distinct_after, is_among, with_glyph}
-use Rattle.tt_strike.specs.Glyphs.{Body, tape, raster, AreDrawn, Glyph, IsBodyOf, IsDrawn, drawn_of, edges_cut, numbers_of}
+use Rattle.tt_picture.specs.Distinct.{distinct, distinct_after, is_among, with_glyph}
+use Rattle.tt_picture.specs.Glyphs.{Body, tape, raster, AreDrawn, Glyph, IsBodyOf, IsDrawn, drawn_of, edges_cut, numbers_of}
 use Rattle.tt_strike.specs.Job.{Job}
-use Rattle.tt_strike.specs.Picture.{crossings_tested, edges_at, glyph_shape, shape_at, shapes_in}
-use Rattle.tt_strike.specs.Pictures.{rows_crossings}
-use Rattle.tt_strike.specs.Pixels.{Shape, crossings_up_to, cut_from}
-use Rattle.tt_strike.specs.Work.{crossings_allowed, crossings_in, is_bounded, line_fitter, work_left, work_tested}
-use Rattle.tt_strike.proofs.RowsNeeded.{no_edge_crossed}
-use Rattle.tt_strike.proofs.Standings.{counts_from_pen}
+use Rattle.tt_picture.specs.Shapes.{edges_at, glyph_shape, shape_at, crossings_in}
+use Rattle.tt_strike.specs.Picture.{crossings_tested, shapes_in}
+use Rattle.tt_picture.specs.Pictures.{rows_crossings}
+use Rattle.tt_picture.specs.Pixels.{Shape, crossings_up_to, cut_from}
+use Rattle.tt_strike.specs.Work.{crossings_allowed, is_bounded, line_fitter, work_left, work_tested}
+use Rattle.tt_picture.proofs.RowsNeeded.{no_edge_crossed}
+use Rattle.tt_picture.proofs.Standings.{counts_from_pen}
 
 -- a sum over distinct glyphs is at most the sum over all
 

@@ -3,11 +3,11 @@ use Rattle.std.specs.Prelude.{◌≡◌, Bool, List, map, Result, Ok}
 use Rattle.tt_core.specs.Outcomes.{◌>>=◌}
 use Rattle.tt_fit.specs.Fitting.{Fitter}
 use Rattle.tt_line.specs.Layout.{Placement}
-use Rattle.tt_strike.specs.Distinct.{distinct}
-use Rattle.tt_strike.specs.Glyphs.{AreDrawn, AreWithin, Glyph, Stand, numbers_of}
+use Rattle.tt_picture.specs.Distinct.{distinct}
+use Rattle.tt_picture.specs.Glyphs.{AreDrawn, AreWithin, Glyph, Stand, numbers_of}
 use Rattle.tt_strike.specs.Job.{Job}
 use Rattle.tt_strike.specs.Picture.{crossings_tested, frame_of, line_shapes, points_tested, setting_in, shapes_in}
-use Rattle.tt_strike.specs.Pixels.{Shape}
+use Rattle.tt_picture.specs.Pixels.{Shape}
 use Rattle.tt_strike.specs.Refusals.{Refused, as_font, as_job}
 use Rattle.tt_strike.specs.Tables.{Face}
 use Rattle.tt_strike.specs.Work.{line_fitter}

@@ -1,39 +1,34 @@
-//! Draws a line that is laid out, or glyphs that are made.
+//! Draws a line that is laid out.
 
-ghost use Rattle.std.specs.Prelude.{◌≡◌, ◌<◌, ◌≤◌, ◌^◌, ◌&&◌, not, nat_lt, Bool, true, List, length, map, unsigned_abs, All, Ok, IfOk};
+ghost use Rattle.std.specs.Prelude.{◌≡◌, ◌<◌, ◌≤◌, ◌&&◌, not, nat_lt, true, map, All, Ok, IfOk};
 ghost use Rattle.tt_core.specs.declared.fault.JobFault.TheVariants.{WorkLarge};
-ghost use Rattle.tt_core.specs.Limits.{crossing_limit, text_limit, width_limit, height_limit};
+ghost use Rattle.tt_core.specs.Limits.{crossing_limit};
 ghost use Rattle.tt_core.specs.Outcomes.{GivesUnless, IfTold};
 ghost use Rattle.tt_fit.specs.Fitting.{Fitter};
 ghost use Rattle.tt_line.specs.Outcome.{placement_of};
 ghost use Rattle.tt_metrics.specs.Metrics.{glyphs_of};
-ghost use Rattle.tt_scan.specs.Winding.{FrameFits};
 ghost use Rattle.tt_strike.specs.Costs.{line_cost};
 ghost use Rattle.tt_strike.specs.Defects.{IsLineDefect, IsTooMuchWork, TellsDefects, draw_font_fault, draw_job_fault};
-ghost use Rattle.tt_strike.specs.Glyphs.{BodyFits, CanBeFilled, Stand, edges_cut};
 ghost use Rattle.tt_strike.specs.Job.{job_view, IsJob};
-ghost use Rattle.tt_strike.specs.Kept.{AreKeptFor};
+ghost use Rattle.tt_picture.specs.Kept.{AreKeptFor};
 ghost use Rattle.tt_strike.specs.Makers.{IsMaker};
-ghost use Rattle.tt_strike.specs.Picture.{drawn, frame_of, picture, setting_in};
-ghost use Rattle.tt_strike.specs.Pictures.{IsReady, all_crossings, picture_bytes};
-ghost use Rattle.tt_strike.specs.Pixels.{Shape};
+ghost use Rattle.tt_picture.specs.Pictures.{IsReady, all_crossings, picture_bytes};
+ghost use Rattle.tt_strike.specs.Picture.{drawn, frame_of, setting_in};
 ghost use Rattle.tt_strike.specs.Refusals.{refusal};
-ghost use Rattle.tt_strike.specs.Report.{line_report, unfitted_standing, ListsOnce};
+ghost use Rattle.tt_picture.specs.Unfitted.{ListsOnce};
+ghost use Rattle.tt_strike.specs.Report.{line_report};
 ghost use Rattle.tt_strike.specs.Work.{is_bounded};
 
-use crate::dropouts::line_dropouts;
 use crate::fault::DrawFault;
-use crate::glyph::Glyph;
 use crate::job::Job;
 use crate::maker::Maker;
-use crate::picture::Picture;
 use crate::tables::Face;
 use crate::tested::{frame_of, tested_glyphs};
 use crate::work::is_bounded;
-use std::alloc::{AllocError, Global};
+use std::alloc::Global;
 use tt_fit::Fit;
 use tt_line::Line;
-use tt_scan::Frame;
+use tt_picture::{Picture, draw_made};
 use tt_strike_kept::KeptGlyphs;
 
 /// Whether glyphs are cached from line to line. They are not if the cache's limit is 0, or if each line uses up work of
@@ -42,29 +37,6 @@ fn keeps_glyphs(kept: &KeptGlyphs, fit: Fit) -> bool
     ensures { result ≡ (nat_lt 0 kept.now.most && not (is_bounded fit)) }
 {
     kept.most() > 0 && !is_bounded(fit)
-}
-
-/// The picture of some glyphs and their dropouts. Error: Memory.
-pub(crate) fn draw_made(
-    alloc: Global,
-    frame: Frame,
-    glyphs: Vec<Glyph>,
-    cost: u64,
-) -> Result<Picture, AllocError>
-    requires frame { FrameFits frame }
-    requires height { frame.height ≤ height_limit }
-    requires rise { unsigned_abs frame.rise ≤ 10 ^ 6 }
-    requires glyphs { All CanBeFilled glyphs.items }
-    requires bodies { All (λ g. BodyFits frame 0 g.body) glyphs.items }
-    ensures exact { IfOk result (λ p. (keeps : Bool) (shapes : List Shape) → Stand keeps frame glyphs.items shapes → picture_bytes p ≡ picture frame shapes) }
-    ensures valid { IfOk result IsReady }
-    ensures frame { IfOk result (λ p. p.frame ≡ frame) }
-    ensures unfitted { IfOk result (λ p. p.unfitted ≡ unfitted_standing glyphs.items) }
-    ensures edges { IfOk result (λ p. p.edges ≡ edges_cut glyphs.items) }
-    ensures cost { IfOk result (λ p. p.cost ≡ cost) }
-{
-    let dropouts = line_dropouts(alloc, frame, &glyphs)?;
-    Picture::new(alloc, frame, glyphs, dropouts, cost)
 }
 
 /// The picture of a line that is laid out. Errors: those of loca and glyf, of the programs; WorkLarge of its points;

@@ -1,8 +1,8 @@
 //! Measures and draws a line with the added columns and rows that its ink needs. Its programs run once, since their
 //! work is bounded with `Fit::Best`.
 
-ghost use Rattle.std.specs.Prelude.{◌≡◌, ◌<◌, ◌≤◌, ◌^◌, true, length, map, unsigned_abs, All, Ok, Err, IfOk, IsOkAnd};
-ghost use Rattle.tt_core.specs.Limits.{crossing_limit, height_limit, text_limit, width_limit};
+ghost use Rattle.std.specs.Prelude.{◌≡◌, ◌<◌, ◌≤◌, true, length, map, All, Ok, Err, IfOk, IsOkAnd};
+ghost use Rattle.tt_core.specs.Limits.{crossing_limit};
 ghost use Rattle.tt_core.specs.Outcomes.{GivesUnless, IfTold};
 ghost use Rattle.tt_fit.specs.Fitting.{Fitter};
 ghost use Rattle.tt_line.specs.Outcome.{placement_of};
@@ -10,32 +10,31 @@ ghost use Rattle.tt_metrics.specs.Metrics.{glyphs_of};
 ghost use Rattle.tt_strike.specs.Costs.{line_cost};
 ghost use Rattle.tt_strike.specs.Defects.{IsLineDefect, TellsDefects, draw_font_fault};
 ghost use Rattle.tt_strike.specs.Enlarged.{IsEnlarged, drawn_grown, measured_grown};
-ghost use Rattle.tt_strike.specs.Glyphs.{ArePlaces, numbers_of};
+ghost use Rattle.tt_picture.specs.Glyphs.{ArePlaces, numbers_of};
 ghost use Rattle.tt_strike.specs.Grown.{grown_line};
 ghost use Rattle.tt_strike.specs.Job.{job_view, IsJob};
-ghost use Rattle.tt_strike.specs.Kept.{AreKeptFor};
+ghost use Rattle.tt_picture.specs.Kept.{AreKeptFor};
 ghost use Rattle.tt_strike.specs.Makers.{IsMaker};
 ghost use Rattle.tt_strike.specs.Measures.{measure_view};
 ghost use Rattle.tt_strike.specs.Picture.{frame_of, setting_in};
-ghost use Rattle.tt_strike.specs.Pictures.{IsReady, all_crossings, picture_bytes};
+ghost use Rattle.tt_picture.specs.Pictures.{IsReady, all_crossings, picture_bytes};
 ghost use Rattle.tt_strike.specs.Refusals.{refusal};
-ghost use Rattle.tt_strike.specs.Report.{line_report, ListsOnce};
+ghost use Rattle.tt_picture.specs.Unfitted.{ListsOnce};
+ghost use Rattle.tt_strike.specs.Report.{line_report};
 ghost use Rattle.tt_strike.specs.Work.{is_bounded};
 
-use crate::drawing::{draw_line, draw_made};
+use crate::drawing::draw_line;
 use crate::fault::DrawFault;
-use crate::glyphs::Glyphs;
 use crate::growing::grown;
 use crate::job::Job;
 use crate::maker::Maker;
-use crate::measuring::{Measure, characters, glyph_inks, ink_of, measure_of};
-use crate::picture::Picture;
-use crate::report::report_on;
+use crate::measuring::{Measure, characters, ink_of, measure_of};
 use crate::tables::Face;
 use crate::tested::{frame_of, tested_glyphs};
 use crate::work::is_bounded;
 use std::alloc::Global;
 use tt_line::Line;
+use tt_picture::{Glyphs, Picture, draw_made, glyph_inks, report_on};
 use tt_scan_ink::GlyphInk;
 use tt_strike_kept::KeptGlyphs;
 

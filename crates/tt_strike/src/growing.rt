@@ -2,14 +2,13 @@
 
 ghost use Rattle.std.specs.Prelude.{◌≡◌, ◌+◌, ◌<◌, ◌≤◌, ◌^◌, map, unsigned_abs, All, IfOk, IfErr};
 ghost use Rattle.tt_core.specs.declared.fault.JobFault.TheVariants.{PictureLarge};
-ghost use Rattle.tt_core.specs.Limits.{height_limit, width_limit};
 ghost use Rattle.tt_core.specs.Outcomes.{Gives};
 ghost use Rattle.tt_line.specs.Outcome.{placement_of};
 ghost use Rattle.tt_strike.specs.Grown.{before, grown, lacking, past};
 
-use crate::ink_box::InkBox;
 use tt_core::{HEIGHT_LIMIT, JobFault, WIDTH_LIMIT};
 use tt_line::Line;
+use tt_picture::InkBox;
 
 /// How many columns and rows are added on each side of a picture.
 #[derive(Clone, Copy)]

@@ -1,7 +1,6 @@
 //! Lays a text out, once its job is tested.
 
-ghost use Rattle.std.specs.Prelude.{◌≡◌, ◌<◌, ◌≤◌, length, map, unsigned_abs, All, Ok, IfOk, OnOk};
-ghost use Rattle.tt_core.specs.Limits.{height_limit, text_limit, width_limit};
+ghost use Rattle.std.specs.Prelude.{◌≡◌, ◌<◌, map, All, Ok, IfOk, OnOk};
 ghost use Rattle.tt_core.specs.Outcomes.{GivesUnless, IfTold};
 ghost use Rattle.tt_line.specs.Layout.{placement, text_glyphs};
 ghost use Rattle.tt_line.specs.Outcome.{placement_of};

@@ -1,43 +1,39 @@
 //! Measures a line that is laid out.
 
-ghost use Rattle.std.specs.Prelude.{◌≡◌, ℕ, ◌<◌, ◌≤◌, ◌^◌, pos, ◌+ℤ◌, true, length, map, unsigned_abs, All, IfOk, IfSome, Ok, Option};
+ghost use Rattle.std.specs.Prelude.{◌≡◌, ℕ, ◌<◌, ◌≤◌, pos, ◌+ℤ◌, true, length, map, All, IfOk, IfSome, Ok, Option};
 ghost use Rattle.tt_core.specs.declared.fault.JobFault.TheVariants.{WorkLarge};
-ghost use Rattle.tt_core.specs.Limits.{height_limit, size_limit, text_limit, width_limit};
+ghost use Rattle.tt_core.specs.Limits.{size_limit, width_limit};
 ghost use Rattle.tt_core.specs.Outcomes.{GivesUnless, IfTold};
 ghost use Rattle.tt_fit.specs.Fitting.{Fitter};
-ghost use Rattle.tt_line.specs.Layout.{advance_in_pixels};
 ghost use Rattle.tt_line.specs.Outcome.{placement_of};
 ghost use Rattle.tt_metrics.specs.Metrics.{glyphs_of};
 ghost use Rattle.tt_scan.specs.Winding.{FrameFits};
 ghost use Rattle.tt_scan_ink.specs.declared.ink.GlyphInk.{GlyphInk};
 ghost use Rattle.tt_strike.specs.Costs.{line_cost};
 ghost use Rattle.tt_strike.specs.Defects.{IsLineDefect, IsTooMuchWork, TellsDefects, draw_font_fault, draw_job_fault};
-ghost use Rattle.tt_strike.specs.Distinct.{is_among};
-ghost use Rattle.tt_strike.specs.Glyphs.{ArePlaces, CanBeFilled, IsTape, ink_standing, numbers_of};
-ghost use Rattle.tt_strike.specs.Ink.{all_joined};
+ghost use Rattle.tt_picture.specs.Distinct.{is_among};
+ghost use Rattle.tt_picture.specs.Glyphs.{ArePlaces, numbers_of};
 ghost use Rattle.tt_strike.specs.Job.{job_view, IsJob};
-ghost use Rattle.tt_strike.specs.Kept.{AreKeptFor};
+ghost use Rattle.tt_picture.specs.Kept.{AreKeptFor};
 ghost use Rattle.tt_strike.specs.Makers.{IsMaker};
 ghost use Rattle.tt_strike.specs.Measures.{character_at, ink_of, measure_view, measured_line};
 ghost use Rattle.tt_scan_ink.specs.Least.{IsNear};
 ghost use Rattle.tt_strike.specs.Picture.{setting_in};
 ghost use Rattle.tt_strike.specs.Refusals.{refusal};
-ghost use Rattle.tt_strike.specs.Report.{line_report, ListsOnce};
+ghost use Rattle.tt_picture.specs.Unfitted.{ListsOnce};
+ghost use Rattle.tt_strike.specs.Report.{line_report};
 
 use crate::fault::DrawFault;
-use crate::glyph::{Body, Glyph};
-use crate::glyphs::Glyphs;
-use crate::ink_box::{InkBox, ink_at, joined};
 use crate::job::Job;
 use crate::maker::Maker;
-use crate::report::{Report, report_on};
 use crate::tables::Face;
 use crate::tested::{frame_of, tested_glyphs};
 use std::alloc::{AllocError, Global};
 use tt_line::{Line, advance};
 use tt_metrics::Metrics;
+use tt_picture::{Glyphs, InkBox, Report, glyph_inks, ink_at, joined, report_on};
 use tt_scan::Frame;
-use tt_scan_ink::{GlyphInk, dropouts_ink, edges_ink};
+use tt_scan_ink::GlyphInk;
 use tt_strike_kept::KeptGlyphs;
 
 /// The place of a character in its line's picture.
@@ -67,41 +63,6 @@ pub struct Measure {
     pub characters: Vec<CharacterMeasure>,
     /// The line's report.
     pub report: Report,
-}
-
-/// The box of a glyph's black pixels at pen 0. Error: Memory.
-fn glyph_ink(alloc: Global, glyph: &Glyph) -> Result<Option<GlyphInk>, AllocError>
-    requires tape { IsTape glyph.now.body }
-    requires glyph { CanBeFilled glyph.now }
-    ensures exact { IfOk result (λ ink. ink ≡ ink_standing glyph.now) }
-    ensures near { IfOk result (λ ink. IfSome ink IsNear) }
-{
-    let Body::Tape(tape) = &glyph.body else {
-        return Ok(None);
-    };
-    let filled = match glyph.filled {
-        Some(rules) => dropouts_ink(alloc, rules, tape, &glyph.ends)?,
-        None => None,
-    };
-    let edges = edges_ink(alloc, tape.copied()?.into_list())?;
-    Ok(tt_scan_ink::joined(edges, filled))
-}
-
-/// The boxes of some glyphs. Error: Memory.
-pub(crate) fn glyph_inks(
-    alloc: Global,
-    glyphs: &[Glyph],
-) -> Result<Vec<Option<GlyphInk>>, AllocError>
-    requires tapes { All (λ g. IsTape g.body) glyphs.now }
-    requires glyphs { All CanBeFilled glyphs.now }
-    ensures exact { IfOk result (λ v. v.items ≡ map ink_standing glyphs.now) }
-    ensures near { IfOk result (λ v. All (λ ink. IfSome ink IsNear) v.items) }
-{
-    let mut inks = Vec::with_capacity(alloc, glyphs.len())?;
-    for glyph in glyphs {
-        inks.push(glyph_ink(alloc, glyph)?)?;
-    }
-    Ok(inks)
 }
 
 /// The measure of a character, whose glyph is one of those with these inks.

@@ -10,9 +10,10 @@ ghost use Rattle.tt_strike.specs.Grown.{grown_measured, grown_outcome, grown_pla
 ghost use Rattle.tt_strike.specs.Job.{size_tested, IsSizeRefusal};
 ghost use Rattle.tt_strike.specs.Measures.{measure_view, measured};
 ghost use Rattle.tt_strike.specs.Picture.{frame_of, line_outcome};
-ghost use Rattle.tt_strike.specs.Pictures.{IsReady, all_crossings, picture_bytes};
+ghost use Rattle.tt_picture.specs.Pictures.{IsReady, all_crossings, picture_bytes};
 ghost use Rattle.tt_strike.specs.Refusals.{as_job, refusal};
-ghost use Rattle.tt_strike.specs.Report.{report_by, ListsOnce};
+ghost use Rattle.tt_picture.specs.Unfitted.{ListsOnce};
+ghost use Rattle.tt_strike.specs.Report.{report_by};
 ghost use Rattle.tt_strike.specs.Strikes.{job_of};
 ghost use Rattle.tt_strike.specs.Work.{is_bounded};
 ghost use Rattle.tt_strike_kept.specs.Kept.{bytes_in};
@@ -24,11 +25,11 @@ use crate::job::{Job, test_size};
 use crate::laying::lay_out;
 use crate::maker::Maker;
 use crate::measuring::{Measure, measure_line};
-use crate::picture::Picture;
 use crate::tables::Face;
 use std::alloc::Global;
 use std::marker::Model;
 use tt_fit::Fit;
+use tt_picture::Picture;
 use tt_strike_kept::KeptGlyphs;
 
 /// A font at a size with a fit, which draws lines one after the other. The font's programs run once, when the first
@@ -49,7 +50,7 @@ impl<'f, 'a> Model for Strike<'f, 'a> {
     ghost use Rattle.std.specs.Prelude.{◌≡◌, ◌≤◌, true, [], Ok};
     ghost use Rattle.tt_core.specs.Limits.{size_limit};
     ghost use Rattle.tt_fit.specs.Fitting.{Fitter};
-    ghost use Rattle.tt_strike.specs.Kept.{AreKeptFor};
+    ghost use Rattle.tt_picture.specs.Kept.{AreKeptFor};
     ghost use Rattle.tt_strike.specs.Makers.{IsMaker};
     ghost use Rattle.tt_strike.specs.Picture.{setting};
     ghost use Rattle.tt_strike.specs.Strikes as strikes;

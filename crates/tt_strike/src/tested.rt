@@ -1,8 +1,8 @@
 //! Makes and tests the glyphs of a laid-out line, before they are drawn or measured.
 
-ghost use Rattle.std.specs.Prelude.{◌≡◌, ◌<◌, ◌≤◌, ◌^◌, true, false, length, map, unsigned_abs, All, Ok, Err, IfOk};
+ghost use Rattle.std.specs.Prelude.{◌≡◌, ◌<◌, ◌≤◌, true, false, length, map, All, Ok, Err, IfOk};
 ghost use Rattle.tt_core.specs.declared.fault.JobFault.TheVariants.{WorkLarge};
-ghost use Rattle.tt_core.specs.Limits.{height_limit, margin_limit, text_limit, width_limit};
+ghost use Rattle.tt_core.specs.Limits.{margin_limit};
 ghost use Rattle.tt_core.specs.Outcomes.{IfTold};
 ghost use Rattle.tt_fit.specs.Fitting.{Fitter};
 ghost use Rattle.tt_line.specs.Outcome.{placement_of};
@@ -10,9 +10,9 @@ ghost use Rattle.tt_metrics.specs.Metrics.{glyphs_of};
 ghost use Rattle.tt_scan.specs.Winding.{FrameFits};
 ghost use Rattle.tt_strike.specs.Costs.{line_cost};
 ghost use Rattle.tt_strike.specs.Defects.{IsLineDefect, IsTooMuchWork, TellsDefects, draw_font_fault, draw_job_fault};
-ghost use Rattle.tt_strike.specs.Glyphs.{ArePlaces, numbers_of};
+ghost use Rattle.tt_picture.specs.Glyphs.{ArePlaces, numbers_of};
 ghost use Rattle.tt_strike.specs.Job.{job_view, IsJob};
-ghost use Rattle.tt_strike.specs.Kept.{AreKeptFor};
+ghost use Rattle.tt_picture.specs.Kept.{AreKeptFor};
 ghost use Rattle.tt_strike.specs.Made.{AreMade, shapes_made};
 ghost use Rattle.tt_strike.specs.Makers.{IsMaker};
 ghost use Rattle.tt_strike.specs.Picture.{frame_of, setting_in};
@@ -20,13 +20,13 @@ ghost use Rattle.tt_strike.specs.Refusals.{refusal};
 ghost use Rattle.tt_strike.specs.Work.{is_bounded};
 
 use crate::fault::DrawFault;
-use crate::glyphs::{Glyphs, line_glyphs};
 use crate::job::Job;
 use crate::maker::Maker;
 use crate::tables::Face;
 use crate::work::{charge_points, cost_of, crossings_allowed, test_crossings};
 use std::alloc::Global;
 use tt_line::Line;
+use tt_picture::{Glyphs, line_glyphs};
 use tt_scan::Frame;
 use tt_strike_kept::KeptGlyphs;
 

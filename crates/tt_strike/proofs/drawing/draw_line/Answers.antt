@@ -3,9 +3,9 @@ use Rattle.std.proofs.lemmas.Result.{err_from_is_err_and}
 use Rattle.tt_line.specs.Outcome.{placement_of}
 use Rattle.tt_strike.specs.Work.{line_fitter}
 use Rattle.tt_strike.specs.Job.{job_view}
-use Rattle.tt_strike.specs.Picture.{frame_of, picture}
-use Rattle.tt_strike.specs.Pictures.{picture_bytes}
-use Rattle.tt_strike.proofs.Filled.{can_be_filled}
+use Rattle.tt_picture.specs.Pictures.{picture, picture_bytes}
+use Rattle.tt_strike.specs.Picture.{frame_of}
+use Rattle.tt_picture.proofs.Filled.{can_be_filled}
 use Rattle.tt_strike.proofs.Kept.{unbounded_where}
 use Rattle.tt_strike.proofs.Made.{drawn_as_made, reported_as_made}
 use Rattle.tt_strike.proofs.Needed.{tested_crossings}

@@ -3,16 +3,17 @@ use Rattle.std.proofs.lemmas.Result.{IfOk-weaker, err_from_is_err_and}
 use Rattle.tt_line.specs.Outcome.{placement_of}
 use Rattle.tt_metrics.specs.Metrics.{glyphs_of}
 use Rattle.tt_strike.specs.Costs.{line_cost}
-use Rattle.tt_strike.specs.Distinct.{distinct}
+use Rattle.tt_picture.specs.Distinct.{distinct}
 use Rattle.tt_strike.specs.Work.{line_fitter}
-use Rattle.tt_strike.specs.Glyphs.{AreDrawn, Stand, numbers_of}
+use Rattle.tt_picture.specs.Glyphs.{AreDrawn, Stand, numbers_of}
 use Rattle.tt_strike.specs.Job.{job_view}
-use Rattle.tt_strike.specs.Picture.{drawn, frame_of, picture}
-use Rattle.tt_strike.specs.Pictures.{Picture, picture_bytes}
-use Rattle.tt_strike.specs.Report.{line_report, unfitted_standing}
-use Rattle.tt_strike.proofs.Among.{all_among, of_same_glyphs}
+use Rattle.tt_picture.specs.Pictures.{picture, Picture, picture_bytes}
+use Rattle.tt_strike.specs.Picture.{drawn, frame_of}
+use Rattle.tt_picture.specs.Unfitted.{unfitted_standing}
+use Rattle.tt_strike.specs.Report.{line_report}
+use Rattle.tt_picture.proofs.Among.{all_among, of_same_glyphs}
 use Rattle.tt_strike.proofs.Enlarged.{larger_drawn, larger_made, larger_reported, same_cost, ungrown_stops}
-use Rattle.tt_strike.proofs.Filled.{can_be_filled, tapes_few}
+use Rattle.tt_picture.proofs.Filled.{can_be_filled, tapes_few}
 use Rattle.tt_strike.proofs.GrownStops.{same_report}
 use Rattle.tt_strike.proofs.Made.{reported_as_made}
 use Rattle.tt_strike.proofs.Needed.{tested_crossings}

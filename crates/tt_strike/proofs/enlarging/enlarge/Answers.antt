@@ -2,12 +2,12 @@ use Rattle.std.proofs.Common.{◌∙◌, map}
 use Rattle.std.proofs.lemmas.Result.{err_from_is_err_and}
 use Rattle.tt_line.specs.Outcome.{placement_of}
 use Rattle.tt_strike.specs.Work.{line_fitter}
-use Rattle.tt_strike.specs.Glyphs.{numbers_of}
+use Rattle.tt_picture.specs.Glyphs.{numbers_of}
 use Rattle.tt_strike.specs.Job.{job_view}
 use Rattle.tt_strike.specs.Measures.{ink_of, line_ink}
-use Rattle.tt_strike.proofs.Among.{all_among}
+use Rattle.tt_picture.proofs.Among.{all_among}
 use Rattle.tt_strike.proofs.Enlarged.{grown_as_made, grown_moves, not_grown, unmade_stops}
-use Rattle.tt_strike.proofs.Filled.{can_be_filled}
+use Rattle.tt_picture.proofs.Filled.{can_be_filled}
 use Rattle.tt_strike.proofs.Made.{inks_as_made}
 use Rattle.tt_strike.proofs.enlarging.enlarge.Goals as goal
 

@@ -3,10 +3,10 @@ use Rattle.std.proofs.lemmas.Result.{err_from_is_err_and}
 use Rattle.std.proofs.lemmas.List.{length-map}
 use Rattle.tt_line.specs.Outcome.{placement_of}
 use Rattle.tt_metrics.specs.Metrics.{glyphs_of}
-use Rattle.tt_strike.specs.Glyphs.{ink_standing, numbers_of}
+use Rattle.tt_picture.specs.Glyphs.{ink_standing, numbers_of}
 use Rattle.tt_strike.specs.Job.{job_view}
 use Rattle.tt_strike.specs.Measures.{line_ink, measured_line}
-use Rattle.tt_strike.proofs.Among.{all_among, of_same_glyphs}
+use Rattle.tt_picture.proofs.Among.{all_among, of_same_glyphs}
 use Rattle.tt_strike.proofs.Enlarged.{larger_made, larger_measured, ungrown_stops}
 use Rattle.tt_strike.proofs.Made.{inks_as_made, reported_as_made}
 use Rattle.tt_strike.proofs.enlarging.measure_grown.Goals as goal

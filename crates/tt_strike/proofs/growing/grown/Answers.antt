@@ -9,7 +9,7 @@ use Rattle.tt_core.specs.Limits.{height_limit, width_limit}
 use Rattle.tt_line.specs.Layout.{Placement}
 use Rattle.tt_line.specs.Outcome.{placement_of}
 use Rattle.tt_strike.specs.Grown.{grown, lacking, not_large, with_sides}
-use Rattle.tt_strike.specs.declared.ink_box.InkBox.{InkBox}
+use Rattle.tt_picture.specs.declared.ink_box.InkBox.{InkBox}
 use Rattle.tt_strike.proofs.growing.grown.Goals.{After-move_pens}
 use Rattle.tt_strike.proofs.growing.grown.Goals as goal
 

@@ -1,6 +1,6 @@
 use Rattle.std.proofs.Common.{◌≡◌, ℕ, map, take, Option}
 use Rattle.tt_scan_ink.specs.declared.ink.GlyphInk.{GlyphInk}
-use Rattle.tt_strike.specs.Glyphs.{numbers_of}
+use Rattle.tt_picture.specs.Glyphs.{numbers_of}
 use Rattle.tt_strike.specs.Measures.{character_at}
 use Rattle.tt_strike.proofs.measuring.characters.Given as goal
 

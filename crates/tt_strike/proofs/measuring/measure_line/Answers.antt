@@ -1,11 +1,11 @@
 use Rattle.std.proofs.Common.{◌∙◌, map, refl}
 use Rattle.tt_line.specs.Outcome.{placement_of}
 use Rattle.tt_strike.specs.Work.{line_fitter}
-use Rattle.tt_strike.specs.Glyphs.{numbers_of}
+use Rattle.tt_picture.specs.Glyphs.{numbers_of}
 use Rattle.tt_strike.specs.Job.{job_view}
 use Rattle.tt_strike.specs.Measures.{line_ink}
-use Rattle.tt_strike.proofs.Among.{all_among}
-use Rattle.tt_strike.proofs.Filled.{can_be_filled}
+use Rattle.tt_picture.proofs.Among.{all_among}
+use Rattle.tt_picture.proofs.Filled.{can_be_filled}
 use Rattle.tt_strike.proofs.Made.{inks_as_made, measured_as_made, reported_as_made}
 use Rattle.tt_strike.proofs.measuring.measure_line.Goals as goal
 

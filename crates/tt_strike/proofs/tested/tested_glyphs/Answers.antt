@@ -6,16 +6,18 @@ use Rattle.tt_line.specs.Outcome.{placement_of}
 use Rattle.tt_strike.specs.Costs.{cost_of}
 use Rattle.tt_strike.specs.Defects.{IsLineDefect}
 use Rattle.tt_strike.specs.Job.{job_view}
-use Rattle.tt_strike.specs.Glyphs.{Stand, crossings_standing, numbers_of}
-use Rattle.tt_strike.specs.Kept.{AreKeptFor}
-use Rattle.tt_strike.specs.Picture.{frame_of, glyph_shape, setting_in, shapes_in}
-use Rattle.tt_strike.specs.Pixels.{Shape}
-use Rattle.tt_strike.specs.Work.{crossings_allowed, crossings_in, is_bounded, line_fitter, work_left}
+use Rattle.tt_picture.specs.Glyphs.{Stand, crossings_standing, numbers_of}
+use Rattle.tt_picture.specs.Kept.{AreKeptFor}
+use Rattle.tt_picture.specs.Shapes.{glyph_shape, crossings_in}
+use Rattle.tt_strike.specs.Picture.{frame_of, setting_in, shapes_in}
+use Rattle.tt_picture.specs.Pixels.{Shape}
+use Rattle.tt_strike.specs.Work.{crossings_allowed, is_bounded, line_fitter, work_left}
 use Rattle.tt_strike_kept.specs.Kept.{Kept}
-use Rattle.tt_strike.proofs.Filled.{tapes_few}
+use Rattle.tt_picture.proofs.Filled.{tapes_few}
 use Rattle.tt_strike.proofs.Costed.{cost_alike, costed}
-use Rattle.tt_strike.proofs.Kept.{kept_at_a_cost, kept_before_a_cost, kept_for, work_alike}
-use Rattle.tt_strike.proofs.Places.{ok_and}
+use Rattle.tt_picture.proofs.Kept.{kept_at_a_cost, kept_before_a_cost}
+use Rattle.tt_strike.proofs.Kept.{kept_for, work_alike}
+use Rattle.tt_picture.proofs.Places.{ok_and}
 use Rattle.tt_strike.proofs.Setting.{crossings_most, given_back, unspent, work_remains}
 use Rattle.tt_strike.proofs.Stopped.{crossings_stop, crossings_tell, drawing_refuses_no_job, font_tells, glyph_stops, points_stop, points_tell, points_tell_no_defect, setting_stops}
 use Rattle.tt_strike.proofs.Telling.{glyph_tells, no_line_defect, setting_tells}
