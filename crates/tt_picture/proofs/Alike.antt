@@ -49,8 +49,8 @@ rows_alike w h a b same =
     map_alike (byte_at w a) (byte_at w b) (stride w * h) 0 (stride w * h) (byte_alike w h a b same) (omega arith)
 
 -- glyphs and dropouts that blacken the same pixels as some shapes have the same picture
-pub same_picture : {keeps : Bool} (f : Frame) (gs : List Glyph) (ds : List Dropout) (shapes : List Shape) (header : List ℕ)
-    → header ≡ p4_header_of f.width f.height → f.width < 2 ^ 62 → Stand keeps f gs shapes
+pub same_picture : {cached : Bool} (f : Frame) (gs : List Glyph) (ds : List Dropout) (shapes : List Shape) (header : List ℕ)
+    → header ≡ p4_header_of f.width f.height → f.width < 2 ^ 62 → Stand cached f gs shapes
     → AreAlike f.width f.height (is_among ds) (is_filled_by f (stamps_in gs))
     → header ++ all_rows f gs ds ≡ picture f shapes
 same_picture f gs ds shapes header is wide stand drops = rw is (ap (λ bytes. p4_header_of f.width f.height ++ bytes)

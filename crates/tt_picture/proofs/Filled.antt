@@ -55,7 +55,7 @@ few_edges : (f : Frame) (body : Body) → BodyFits f 0 body → length (edges_of
 few_edges f (tape t) fits = fits.edges
 few_edges f (raster k) fits = omega arith
 
-one_can_be_filled : {keeps : Bool} (s : Fitter) (f : Frame) (g : Glyph) → IsDrawn keeps s f g
+one_can_be_filled : {cached : Bool} (s : Fitter) (f : Frame) (g : Glyph) → IsDrawn cached s f g
     → All (λ pen. pen ≤ width_limit + g.left) g.pens → CanBeFilled g
 one_can_be_filled s f g drawn pens =
     let o = drawn.shape in
@@ -68,12 +68,12 @@ one_can_be_filled s f g drawn pens =
       pens = of_tape g.filled f g.body g.left g.pens drawn.of_tape drawn.left pens;
     }
 
-pub can_be_filled : {keeps : Bool} (maker : ℕ → Fitter) {f : Frame} (gs : List Glyph) → AreDrawn keeps maker f gs → AreWithin gs
+pub can_be_filled : {cached : Bool} (maker : ℕ → Fitter) {f : Frame} (gs : List Glyph) → AreDrawn cached maker f gs → AreWithin gs
     → All CanBeFilled gs
 can_be_filled maker {f} gs drawn within = λ k d below.
     let g = get_or gs k d in one_can_be_filled (maker g.number) f g (drawn k d below) (within k d below)
 
 -- the edges of drawn glyphs are few
-pub tapes_few : {keeps : Bool} (maker : ℕ → Fitter) {f : Frame} (gs : List Glyph) → AreDrawn keeps maker f gs
+pub tapes_few : {cached : Bool} (maker : ℕ → Fitter) {f : Frame} (gs : List Glyph) → AreDrawn cached maker f gs
     → All (λ g. length (edges_of g.body) ≤ 2 ^ 17) gs
 tapes_few maker {f} gs drawn = λ k d below. let g = get_or gs k d in few_edges f g.body (drawn k d below).fits

@@ -8,11 +8,11 @@ or_true true = refl
 or_true false = refl
 
 -- the number of one of them is among them
-pub is_there : (ns : List ℕ) (i g : ℕ) → i < length ns → slice_index ns i ≡ g → is_among g ns ≡ true
-is_there [] i g below same = absurd (omega arith)
-is_there (n ∷ ns) zero g below same =
+pub is_there_at : (ns : List ℕ) (i g : ℕ) → i < length ns → slice_index ns i ≡ g → is_among g ns ≡ true
+is_there_at [] i g below same = absurd (omega arith)
+is_there_at (n ∷ ns) zero g below same =
     let test : (n == g) ≡ true = grind (arith, nat_tests) in rw test refl
-is_there (n ∷ ns) (suc i) g below same = rw (is_there ns i g (omega arith) same) (or_true (n == g))
+is_there_at (n ∷ ns) (suc i) g below same = rw (is_there_at ns i g (omega arith) same) (or_true (n == g))
 
 -- a number that none of them has is not among them
 pub is_not_there : (ns : List ℕ) (g : ℕ) → All (λ n. n ≢ g) ns → is_among g ns ≡ false

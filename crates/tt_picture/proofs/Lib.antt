@@ -6,7 +6,7 @@ pub mod Filled
 pub mod FirstMet
 pub mod Inked
 pub mod Keeping
-pub mod Kept
+pub mod Cached
 pub mod Listing
 mod Pens
 pub mod Places

@@ -11,12 +11,12 @@ use Rattle.tt_picture.specs.Unfitted.{listed, unfitted_among, unfitted_standing,
 use Rattle.tt_scan.specs.declared.edge.Frame.{Frame}
 
 -- drawn glyphs are those of the definition
-pub standing_listed : {keeps : Bool} (maker : ℕ → Fitter) (f : Frame) (gs : List Glyph) → AreDrawn keeps maker f gs
+pub standing_listed : {cached : Bool} (maker : ℕ → Fitter) (f : Frame) (gs : List Glyph) → AreDrawn cached maker f gs
     → unfitted_standing gs ≡ unfitted_among maker (numbers_of gs)
 standing_listed maker f [] drawn = refl
-standing_listed {keeps} maker f (g ∷ gs) drawn =
-    let IsOne : Glyph → Type 0 = λ g. IsDrawn keeps (maker g.number) f g in
-    let first : IsDrawn keeps (maker g.number) f g = All-head IsOne g gs drawn in
+standing_listed {cached} maker f (g ∷ gs) drawn =
+    let IsOne : Glyph → Type 0 = λ g. IsDrawn cached (maker g.number) f g in
+    let first : IsDrawn cached (maker g.number) f g = All-head IsOne g gs drawn in
     rw (first.unfitted, standing_listed maker f gs (All-tail IsOne g gs drawn)) refl
 
 neither : (a b : Bool) → (a || b) ≡ false → (a ≡ false) × (b ≡ false)
@@ -109,8 +109,8 @@ pub none_more : (gs : List Glyph) (i : ℕ) (g : Glyph) (before : List Unfitted)
 none_more gs i g before below is stands = rw (from_one gs i g below is, stands) refl
 
 -- the list of a line's glyphs is that of the definition
-pub of_line : {keeps : Bool} (maker : ℕ → Fitter) (f : Frame) (gs : List Glyph) (line : List (ℕ × ℕ)) (entries : List Unfitted)
-    → AreDrawn keeps maker f gs → numbers_of gs ≡ distinct (map (λ g. g.0) line) → entries ≡ unfitted_standing gs
+pub of_line : {cached : Bool} (maker : ℕ → Fitter) (f : Frame) (gs : List Glyph) (line : List (ℕ × ℕ)) (entries : List Unfitted)
+    → AreDrawn cached maker f gs → numbers_of gs ≡ distinct (map (λ g. g.0) line) → entries ≡ unfitted_standing gs
     → entries ≡ unfitted_among maker (distinct (map (λ g. g.0) line))
 of_line maker f gs line entries drawn numbers is =
     is ∙ standing_listed maker f gs drawn ∙ ap (unfitted_among maker) numbers

@@ -122,7 +122,7 @@ nothing_left [] none = refl
 nothing_left (x ∷ xs) some = absurd (omega arith)
 
 -- after the last place all results are made
-none_left : {X : Type 0} (xs : List X) (i : ℕ) → length xs ≤ i → drop i xs ≡ []
+pub none_left : {X : Type 0} (xs : List X) (i : ℕ) → length xs ≤ i → drop i xs ≡ []
 none_left [] zero over = refl
 none_left [] (suc i) over = refl
 none_left (x ∷ xs) zero over = absurd (omega (arith, over))

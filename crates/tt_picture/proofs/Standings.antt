@@ -24,7 +24,7 @@ use Rattle.tt_scan_dropouts.proofs.Moved.{dropouts_move}
 use Rattle.tt_scan_dropouts.specs.Pictures.{column_at, line_at}
 use Rattle.tt_scan_dropouts.specs.declared.mark.Rules.{Rules}
 use Rattle.tt_scan_rows.specs.Raster.{line_y}
-use Rattle.tt_picture.specs.Glyphs.{Body, tape, raster, IsBodyOf, IsTape, body_crossings, drawn_of, edges_of, left_of, Glyph, IsDrawn, AreDrawn, AreKept, AreWithin, Adds, Stand, crossings_standing, stamps_in, numbers_of}
+use Rattle.tt_picture.specs.Glyphs.{Body, tape, raster, IsBodyOf, IsTape, body_crossings, drawn_of, edges_of, left_of, Glyph, IsDrawn, AreDrawn, AreSeated, AreWithin, Adds, Stand, crossings_standing, stamps_in, numbers_of}
 use Rattle.tt_picture.specs.Shapes.{contours_of, origin_of, edges_at, filled_by, glyph_shape, filling_crossings}
 use Rattle.tt_picture.specs.Pixels.{Drawn, Shape, is_drawn, is_black_from, is_black_by, is_filled, is_filled_from, is_filled_by, some_black, some_filled}
 use Rattle.tt_picture.proofs.Crossed.{crosses_at, crossings_more, filling_moved}
@@ -116,9 +116,9 @@ some_filled_more f (h ∷ hs) s c r =
     (is_filled s.filled s.contours (column_at f 0 c) (line_at f r)))
 
 -- the glyphs so far, and one place more
-pub one_place_more : (keeps : Bool) (f : Frame) (before after : List Glyph) (shapes : List Shape) (new : Shape)
-    → Stand keeps f before shapes → Adds keeps f before after new → Stand keeps f after (shapes ++ new ∷ [])
-one_place_more keeps f before after shapes new stand adds = record {
+pub one_place_more : (cached : Bool) (f : Frame) (before after : List Glyph) (shapes : List Shape) (new : Shape)
+    → Stand cached f before shapes → Adds cached f before after new → Stand cached f after (shapes ++ new ∷ [])
+one_place_more cached f before after shapes new stand adds = record {
   black = λ c r small.
       rw (adds.black c r small, stand.black c r small) (sym (some_more shapes new (column_x f.margin (pos c)) (row_y f (pos r))));
   dropouts = λ c r. rw (adds.dropouts c r, stand.dropouts c r) (sym (some_filled_more f shapes new c r));
@@ -224,13 +224,13 @@ fills_by f o (raster k) None filled ends pen c r is of_tape contours = rw (← i
 fills_by f o (raster k) (Some rules) filled ends pen c r is of_tape contours = absurd of_tape
 
 -- a drawn glyph with one pen more
-pub adds_at : (keeps : Bool) (maker : ℕ → Fitter) (f : Frame) (before gs : List Glyph) (i : ℕ) (g : Glyph) (placed : ℕ × ℕ)
+pub adds_at : (cached : Bool) (maker : ℕ → Fitter) (f : Frame) (before gs : List Glyph) (i : ℕ) (g : Glyph) (placed : ℕ × ℕ)
     → placed.1 ≤ width_limit → ((c r : ℕ) → is_black_by f (stamps_in gs) c r ≡ is_black_by f (stamps_in before) c r)
     → ((c r : ℕ) → is_filled_by f (stamps_in gs) c r ≡ is_filled_by f (stamps_in before) c r)
     → crossings_standing gs ≡ crossings_standing before → i < length gs
-    → g ≡ get_or gs i g → IsDrawn keeps (maker g.number) f g → g.number ≡ placed.0
-    → IsOkAnd (glyph_shape maker placed) (Adds keeps f before (set gs i (record g { pens = g.pens ++ (placed.1 + g.left) ∷ [] })))
-adds_at keeps maker f before gs i g placed near same same_dropouts as_often below is drawn number =
+    → g ≡ get_or gs i g → IsDrawn cached (maker g.number) f g → g.number ≡ placed.0
+    → IsOkAnd (glyph_shape maker placed) (Adds cached f before (set gs i (record g { pens = g.pens ++ (placed.1 + g.left) ∷ [] })))
+adds_at cached maker f before gs i g placed near same same_dropouts as_often below is drawn number =
     let o = drawn.shape in
     let made : fitted_outline (maker placed.0) placed.0 ≡ Ok o = rw number at drawn.outline in
     let rules = filled_by (maker placed.0) placed.0 o in
@@ -258,17 +258,17 @@ pub number_is : (gs : List Glyph) (i : ℕ) (g : Glyph) (n : ℕ) → i < length
 number_is gs i g n below is found = ap (λ (t : Glyph). t.number) is
     ∙ sym (get_or-map (λ (t : Glyph). t.number) gs i g 0 below) ∙ found
 
-pub drawn_is : (keeps : Bool) (maker : ℕ → Fitter) (f : Frame) (gs : List Glyph) (i : ℕ) (g : Glyph)
-    → AreDrawn keeps maker f gs → i < length gs → g ≡ get_or gs i g → IsDrawn keeps (maker g.number) f g
-drawn_is keeps maker f gs i g drawn below is = rw (← is) at (drawn i g below)
+pub drawn_is : (cached : Bool) (maker : ℕ → Fitter) (f : Frame) (gs : List Glyph) (i : ℕ) (g : Glyph)
+    → AreDrawn cached maker f gs → i < length gs → g ≡ get_or gs i g → IsDrawn cached (maker g.number) f g
+drawn_is cached maker f gs i g drawn below is = rw (← is) at (drawn i g below)
 
-pub drawn_stood : (keeps : Bool) (maker : ℕ → Fitter) (f : Frame) (gs : List Glyph) (i : ℕ) (g : Glyph) (ps : List ℕ)
-    → AreDrawn keeps maker f gs → i < length gs → g ≡ get_or gs i g
-    → AreDrawn keeps maker f (set gs i (record g { pens = ps }))
-drawn_stood keeps maker f gs i g ps all below is =
-    let drawn = drawn_is keeps maker f gs i g all below is in
+pub drawn_stood : (cached : Bool) (maker : ℕ → Fitter) (f : Frame) (gs : List Glyph) (i : ℕ) (g : Glyph) (ps : List ℕ)
+    → AreDrawn cached maker f gs → i < length gs → g ≡ get_or gs i g
+    → AreDrawn cached maker f (set gs i (record g { pens = ps }))
+drawn_stood cached maker f gs i g ps all below is =
+    let drawn = drawn_is cached maker f gs i g all below is in
     let stood : Glyph = record g { pens = ps } in
-    let here : IsDrawn keeps (maker stood.number) f stood = record {
+    let here : IsDrawn cached (maker stood.number) f stood = record {
       shape = drawn.shape;
       unfitted = drawn.unfitted;
       outline = drawn.outline;
@@ -281,10 +281,10 @@ drawn_stood keeps maker f gs i g ps all below is =
       ends = drawn.ends;
       fits = drawn.fits;
     } in
-    All-set (λ g. IsDrawn keeps (maker g.number) f g) gs i stood here all
+    All-set (λ g. IsDrawn cached (maker g.number) f g) gs i stood here all
 
 pub kept_stood : (glyphs : ℕ) (table : List ℕ) (gs : List Glyph) (i : ℕ) (g : Glyph) (ps : List ℕ)
-    → AreKept glyphs table gs → i < length gs → g ≡ get_or gs i g → AreKept glyphs table (set gs i (record g { pens = ps }))
+    → AreSeated glyphs table gs → i < length gs → g ≡ get_or gs i g → AreSeated glyphs table (set gs i (record g { pens = ps }))
 kept_stood glyphs table gs i g ps kept below is =
     let own : g.left ≤ margin_limit = rw (← is) at (kept.lefts i g below) in
     record {
@@ -293,17 +293,17 @@ kept_stood glyphs table gs i g ps kept below is =
       lefts = All-set (λ g. g.left ≤ margin_limit) gs i (record g { pens = ps }) own kept.lefts;
     }
 
-pub left_is : (glyphs : ℕ) (table : List ℕ) (gs : List Glyph) (i : ℕ) (g : Glyph) → AreKept glyphs table gs → i < length gs
+pub left_is : (glyphs : ℕ) (table : List ℕ) (gs : List Glyph) (i : ℕ) (g : Glyph) → AreSeated glyphs table gs → i < length gs
     → g ≡ get_or gs i g → g.left ≤ margin_limit
 left_is glyphs table gs i g kept below is = rw (← is) at (kept.lefts i g below)
 
 -- the pixels added by a place, at any pen equal to this one
-pub made_at : {pen : ℕ} (keeps : Bool) (maker : ℕ → Fitter) (f : Frame) (before after : List Glyph) (g : ℕ × ℕ)
-    → IsOkAnd (glyph_shape maker (g.0, pen)) (Adds keeps f before after) → g ≡ (g.0, pen)
-    → (new : Shape) × (glyph_shape maker g ≡ Ok new) × Adds keeps f before after new
-made_at {pen} keeps maker f before after g black is =
+pub made_at : {pen : ℕ} (cached : Bool) (maker : ℕ → Fitter) (f : Frame) (before after : List Glyph) (g : ℕ × ℕ)
+    → IsOkAnd (glyph_shape maker (g.0, pen)) (Adds cached f before after) → g ≡ (g.0, pen)
+    → (new : Shape) × (glyph_shape maker g ≡ Ok new) × Adds cached f before after new
+made_at {pen} cached maker f before after g black is =
     let same : g.1 ≡ pen = ap (λ (g : ℕ × ℕ). g.1) is in
-    rw same (ok_and (glyph_shape maker (g.0, pen)) (Adds keeps f before after) black)
+    rw same (ok_and (glyph_shape maker (g.0, pen)) (Adds cached f before after) black)
 
 -- a glyph whose pens lie within the width, with one pen more within it
 pub within_stood : (gs : List Glyph) (i : ℕ) (g : Glyph) (pen : ℕ) → i < length gs → g ≡ get_or gs i g → pen ≤ width_limit

@@ -1,8 +1,9 @@
 -- No part of the standard: the distinct glyphs of a line, each with its edges at pen 0, and with its pens.
-use Rattle.std.specs.Prelude.{◌≡◌, ℕ, ◌<◌, ◌≤◌, ◌-◌, ◌+◌, ◌*◌, ◌^◌, Bool, false, ◌||◌, List, [], ◌∷◌, length, map, slice_index, pos, All, IfSome, Option, Ok, ⊤}
+use Rattle.std.specs.Prelude.{◌≡◌, ℕ, ◌<◌, ◌≤◌, ◌-◌, ◌+◌, ◌*◌, ◌^◌, Bool, false, ◌||◌, List, [], ◌∷◌, length, map, slice_index, pos, All, IfSome, IsOkAnd, Option, Ok, ⊤}
 use Rattle.tt_core.specs.Bits.{stride}
 use Rattle.tt_core.specs.Faults.{Fault}
 use Rattle.tt_core.specs.Limits.{margin_limit, width_limit}
+use Rattle.tt_core.specs.Outcomes.{each}
 use Rattle.tt_pbm.specs.P4.{rows}
 use Rattle.tt_fit.specs.Fitting.{Fitter, fitted_outline, unfitted_fault}
 use Rattle.tt_fit.specs.Outline.{Outline}
@@ -17,8 +18,9 @@ use Rattle.tt_scan_dropouts.specs.declared.mark.Rules.{Rules}
 use Rattle.tt_scan_dropouts.specs.declared.picture.Dropout.{Dropout}
 use Rattle.tt_scan_rows.specs.Raster.{IsRasterOf, Raster}
 use Rattle.tt_scan_ink.specs.declared.ink.GlyphInk.{GlyphInk}
+use Rattle.tt_picture.specs.Distinct.{IsNext, distinct, with_glyph}
 use Rattle.tt_picture.specs.Ink.{ink_by}
-use Rattle.tt_picture.specs.Shapes.{contours_of, edges_at, filled_by, crossings_in, filling_crossings}
+use Rattle.tt_picture.specs.Shapes.{contours_of, crossings_in, edges_at, filled_by, filling_crossings, glyph_shape}
 use Rattle.tt_picture.specs.Pixels as pixels
 use Rattle.tt_picture.specs.Pixels.{Drawn, Shape, Stamp, TapeFits, cut_from, is_black_by, is_filled, is_filled_by, some_black, some_filled}
 
@@ -96,13 +98,13 @@ crosses_in (g ∷ gs) = body_crosses g.body + crosses_in gs
 
 -- a glyph has the body of its outline, dropouts by its contours, and the fault that makes it unfitted; without a cache
 -- it is a tape
-pub record IsDrawn (keeps : Bool) (s : Fitter) (f : Frame) (g : Glyph) : Type 0 where
+pub record IsDrawn (cached : Bool) (s : Fitter) (f : Frame) (g : Glyph) : Type 0 where
   pub shape : Outline
   pub unfitted : g.unfitted ≡ unfitted_fault s g.number
   pub outline : fitted_outline s g.number ≡ Ok shape
   pub body : IsBodyOf (edges_at 0 shape) g.body
   pub left : g.left ≡ left_of f g.body
-  pub tape : keeps ≡ false → IsTape g.body
+  pub tape : cached ≡ false → IsTape g.body
   pub filled : g.filled ≡ filled_by s g.number shape
   pub of_tape : IfSome g.filled (λ rules. IsTape g.body)
   pub contours : IfSome g.filled (λ rules. contours_at (edges_of g.body) g.ends ≡ contours_of 0 shape)
@@ -157,19 +159,19 @@ crossings_standing [] = 0
 crossings_standing (g ∷ gs) = glyph_crossings g + crossings_standing gs
 
 -- two lists of glyphs give the same picture and dropouts, and without a cache cost the same crossings
-pub record Stand (keeps : Bool) (f : Frame) (gs : List Glyph) (shapes : List Shape) : Type 0 where
+pub record Stand (cached : Bool) (f : Frame) (gs : List Glyph) (shapes : List Shape) : Type 0 where
   pub black : (c r : ℕ) → c < 2 ^ 62 → is_black_by f (stamps_in gs) c r
       ≡ some_black shapes (column_x f.margin (pos c)) (row_y f (pos r))
   pub dropouts : (c r : ℕ) → is_filled_by f (stamps_in gs) c r ≡ some_filled f shapes c r
-  pub crossings : keeps ≡ false → crossings_standing gs ≡ crossings_in shapes
+  pub crossings : cached ≡ false → crossings_standing gs ≡ crossings_in shapes
 
 -- a list of glyphs adds one shape to the list before it
-pub record Adds (keeps : Bool) (f : Frame) (before after : List Glyph) (s : Shape) : Type 0 where
+pub record Adds (cached : Bool) (f : Frame) (before after : List Glyph) (s : Shape) : Type 0 where
   pub black : (c r : ℕ) → c < 2 ^ 62 → is_black_by f (stamps_in after) c r
       ≡ (is_black_by f (stamps_in before) c r || is_black s.edges (column_x f.margin (pos c)) (row_y f (pos r)))
   pub dropouts : (c r : ℕ) → is_filled_by f (stamps_in after) c r
       ≡ (is_filled_by f (stamps_in before) c r || is_filled s.filled s.contours (column_at f 0 c) (line_at f r))
-  pub crossings : keeps ≡ false → crossings_standing after
+  pub crossings : cached ≡ false → crossings_standing after
       ≡ crossings_standing before + (edges_counted s.edges + filling_crossings s.filled s.edges)
 
 -- for each glyph of the font 0, or one more than its place among some numbers
@@ -185,10 +187,38 @@ pub record GlyphFits (f : Frame) (made most : ℕ) (g : Glyph) : Type 0 where
 
 -- each glyph is drawn by its fitter
 abbrev pub AreDrawn : Bool → (ℕ → Fitter) → Frame → List Glyph → Type 0
-AreDrawn keeps maker f gs = All (λ g. IsDrawn keeps (maker g.number) f g) gs
+AreDrawn cached maker f gs = All (λ g. IsDrawn cached (maker g.number) f g) gs
 
--- a line's glyphs and the table of their places, in a font of this many glyphs; at most a margin is added to their pens
-pub record AreKept (glyphs : ℕ) (table : List ℕ) (gs : List Glyph) : Type 0 where
+-- glyphs and the table of their places, in a font of this many glyphs; at most a margin is added to their pens
+pub record AreSeated (glyphs : ℕ) (table : List ℕ) (gs : List Glyph) : Type 0 where
   pub room : length table ≡ glyphs
   pub places : ArePlaces table (numbers_of gs)
   pub lefts : All (λ g. g.left ≤ margin_limit) gs
+
+-- glyphs before and after a glyph was found among them, or was made by this fitter and added without a pen
+pub record HasGlyph (cached : Bool) (s : Fitter) (f : Frame) (number : ℕ) (before after : List Glyph) : Type 0 where
+  pub few : length after ≤ length before + 1
+  pub numbers : numbers_of after ≡ with_glyph (numbers_of before) number
+  pub drawn : (maker : ℕ → Fitter) → IsNext maker s (numbers_of before) number → AreDrawn cached maker f before
+      → AreDrawn cached maker f after
+  pub black : (c r : ℕ) → is_black_by f (stamps_in after) c r ≡ is_black_by f (stamps_in before) c r
+  pub dropouts : (c r : ℕ) → is_filled_by f (stamps_in after) c r ≡ is_filled_by f (stamps_in before) c r
+  pub crossings : crossings_standing after ≡ crossings_standing before
+  pub pens : AreWithin before → AreWithin after
+
+-- glyphs before and after a pen of a glyph was added, and the glyph was made by this fitter if it was missing
+pub record HasPen (cached : Bool) (s : Fitter) (f : Frame) (placed : ℕ × ℕ) (before after : List Glyph) : Type 0 where
+  pub few : length after ≤ length before + 1
+  pub numbers : numbers_of after ≡ with_glyph (numbers_of before) placed.0
+  pub drawn : (maker : ℕ → Fitter) → IsNext maker s (numbers_of before) placed.0 → AreDrawn cached maker f before
+      → AreDrawn cached maker f after
+  pub pens : AreWithin before → AreWithin after
+  pub adds : (maker : ℕ → Fitter) → IsNext maker s (numbers_of before) placed.0 → AreDrawn cached maker f before
+      → IsOkAnd (glyph_shape maker placed) (Adds cached f before after)
+
+-- the glyphs of a line: each once, by its fitter, and at its pens
+pub record AreOfLine (cached : Bool) (maker : ℕ → Fitter) (f : Frame) (line : List (ℕ × ℕ)) (gs : List Glyph) : Type 0 where
+  pub numbers : numbers_of gs ≡ distinct (map (λ g. g.0) line)
+  pub drawn : AreDrawn cached maker f gs
+  pub pens : AreWithin gs
+  pub stand : IsOkAnd (each (glyph_shape maker) line) (Stand cached f gs)

@@ -1,7 +1,7 @@
+pub mod Cached
 pub mod Distinct
 pub mod Glyphs
 pub mod Ink
-pub mod Kept
 pub mod Pictures
 pub mod Pixels
 pub mod Shapes

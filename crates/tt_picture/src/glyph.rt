@@ -1,7 +1,6 @@
 //! A glyph of a line, made once however often it appears. For painting see painting.rt.
 
-ghost use Rattle.std.specs.Prelude.{◌≡◌, ◌+◌, ◌*◌, ◌<◌, ◌≤◌, ◌^◌, true, false, ◌++◌, [], ◌∷◌, length, nat_eq, IfOk, IfSome, IfNone, OnOk, Some, None, Err};
-ghost use Rattle.std.specs.Map.{lookup};
+ghost use Rattle.std.specs.Prelude.{◌≡◌, ◌+◌, ◌*◌, ◌<◌, ◌≤◌, ◌^◌, true, false, ◌++◌, [], ◌∷◌, length, IfOk, IfSome, IfNone, OnOk, Some, None, Err};
 ghost use Rattle.tt_core.specs.Limits.{margin_limit, width_limit};
 ghost use Rattle.tt_core.specs.Outcomes.{IfTold, font_fault};
 ghost use Rattle.tt_fit.specs.Fitting.{Fitter, fitted_outline, after_glyph};
@@ -10,10 +9,11 @@ ghost use Rattle.tt_scan.specs.Contours.{AreEnds, contours_at};
 ghost use Rattle.tt_scan.specs.Winding.{FrameFits};
 ghost use Rattle.tt_scan_rows.specs.Raster.{IsRasterOf, Raster};
 ghost use Rattle.tt_picture.specs.Glyphs.{BodyFits, IsBodyOf, IsDrawn, IsTape, edges_of, left_of};
-ghost use Rattle.tt_picture.specs.Kept.{AreKeptFor, IsKept};
+ghost use Rattle.tt_picture.specs.Cached.{IsCacheFor, IsCached, is_there, limit_of};
 ghost use Rattle.tt_picture.specs.Shapes.{contours_of, edges_at};
 ghost use Rattle.tt_picture.specs.Views.{body_view};
 
+use crate::cache::Cache;
 use crate::dropouts::rules_for;
 use crate::report::Unfitted;
 use std::alloc::{AllocError, Global};
@@ -25,7 +25,7 @@ use tt_fit::{Fitter, Outline};
 use tt_scan::{EdgeList, Frame, Tape};
 use tt_scan_dropouts::Rules;
 use tt_scan_rows::{Cut, Raster};
-use tt_strike_kept::{KeptGlyph, KeptGlyphs};
+use tt_strike_kept::KeptGlyph;
 
 /// The part of a glyph that blackens rows.
 #[derive(Drop)]
@@ -84,55 +84,49 @@ impl Glyph {
         number: u16,
         frame: Frame,
         room: usize,
-        kept: &mut KeptGlyphs,
-        keeps: bool,
+        cache: &mut Cache,
     ) -> Result<Glyph, FontFault>
         requires known { number < fitter.old.tables.glyphs }
         requires frame { FrameFits frame }
-        requires keeps { keeps ≡ true → fitter.old.work ≡ None }
-        requires kept { AreKeptFor fitter.old kept.old.entries }
+        requires cache { IsCacheFor fitter.old cache.old }
         ensures number { IfOk result (λ g. g.number ≡ number) }
         ensures pens { IfOk result (λ g. g.pens ≡ []) }
         ensures left { IfOk result (λ g. g.left ≤ margin_limit) }
-        ensures valid { IfOk result (IsDrawn keeps fitter.old frame) }
+        ensures valid { IfOk result (IsDrawn (is_there cache.old) fitter.old frame) }
         ensures after { OnOk result (fitter.new ≡ after_glyph fitter.old number) }
-        ensures kept { AreKeptFor fitter.old kept.new.entries }
-        ensures same { keeps ≡ false → kept.new ≡ kept.old }
-        ensures most { kept.new.most ≡ kept.old.most }
+        ensures cache { IsCacheFor fitter.old cache.new }
+        ensures limit { limit_of cache.new ≡ limit_of cache.old }
         ensures fault { IfTold font_fault result (λ f. fitted_outline fitter.old number ≡ Err f) }
     {
-        match found(kept, number, keeps) {
+        match cache.find(number) {
             Some(glyph) => {
                 tt_fit::laws::work_unfits();
-                Ok(Glyph::kept(alloc, number, glyph, frame, room)?)
+                Ok(Glyph::cached(alloc, number, glyph, frame, room)?)
             }
-            None => Glyph::new(alloc, fitter, number, frame, room, kept, keeps),
+            None => Glyph::new(alloc, fitter, number, frame, room, cache),
         }
     }
 
     /// Makes a glyph without a pen from its outline, with room for `room` pens. The fitter then serves later glyphs. A
-    /// small enough glyph is cached, where glyphs are cached at all. Errors: those of its outline, Memory.
+    /// small enough glyph is cached, if there is a cache. Errors: those of its outline, Memory.
     fn new(
         alloc: Global,
         fitter: &mut Fitter,
         number: u16,
         frame: Frame,
         room: usize,
-        kept: &mut KeptGlyphs,
-        keeps: bool,
+        cache: &mut Cache,
     ) -> Result<Glyph, FontFault>
         requires known { number < fitter.old.tables.glyphs }
         requires frame { FrameFits frame }
-        requires keeps { keeps ≡ true → fitter.old.work ≡ None }
-        requires kept { AreKeptFor fitter.old kept.old.entries }
+        requires cache { IsCacheFor fitter.old cache.old }
         ensures number { IfOk result (λ g. g.number ≡ number) }
         ensures pens { IfOk result (λ g. g.pens ≡ []) }
         ensures left { IfOk result (λ g. g.left ≤ margin_limit) }
-        ensures valid { IfOk result (IsDrawn keeps fitter.old frame) }
+        ensures valid { IfOk result (IsDrawn (is_there cache.old) fitter.old frame) }
         ensures after { OnOk result (fitter.new ≡ after_glyph fitter.old number) }
-        ensures kept { AreKeptFor fitter.old kept.new.entries }
-        ensures same { keeps ≡ false → kept.new ≡ kept.old }
-        ensures most { kept.new.most ≡ kept.old.most }
+        ensures cache { IsCacheFor fitter.old cache.new }
+        ensures limit { limit_of cache.new ≡ limit_of cache.old }
         ensures fault { IfTold font_fault result (λ f. fitted_outline fitter.old number ≡ Err f) }
     {
         // The outline is dropped at the end, once its edges are made.
@@ -141,8 +135,8 @@ impl Glyph {
         let list = edges_of(alloc, &outline)?;
         let ends = ends_of(alloc, &outline, filled)?;
         let unfitted = outline.unfitted;
-        let plain = can_be_kept(keeps, filled);
-        let body = body_of(alloc, list, frame, number, unfitted, kept, plain)?;
+        let caches = can_be_cached(cache, filled);
+        let body = body_of(alloc, list, frame, number, unfitted, cache, caches)?;
         let left = body.left(frame);
         Ok(Glyph {
             number,
@@ -156,19 +150,19 @@ impl Glyph {
     }
 
     /// A cached glyph, without a pen, with room for `room` pens. Error: Memory.
-    fn kept(
+    fn cached(
         alloc: Global,
         number: u16,
-        kept: KeptGlyph,
+        glyph: KeptGlyph,
         frame: Frame,
         room: usize,
     ) -> Result<Glyph, AllocError>
         ensures number { IfOk result (λ g. g.number ≡ number) }
         ensures pens { IfOk result (λ g. g.pens ≡ []) }
         ensures left { IfOk result (λ g. g.left ≡ frame.margin) }
-        ensures valid { IfOk result (λ g. (s : Fitter) → IsKept s number kept → IsDrawn true s frame g) }
+        ensures valid { IfOk result (λ g. (s : Fitter) → IsCached s number glyph → IsDrawn true s frame g) }
     {
-        let KeptGlyph { raster, unfitted } = kept;
+        let KeptGlyph { raster, unfitted } = glyph;
         Ok(Glyph {
             number,
             body: Body::Raster(raster),
@@ -214,23 +208,15 @@ impl Glyph {
     }
 }
 
-/// The cached glyph with this number, where glyphs are cached at all.
-fn found(kept: &KeptGlyphs, number: u16, keeps: bool) -> Option<KeptGlyph>
-    ensures keeps { IfSome result (λ _. keeps ≡ true) }
-    ensures found { IfSome result (λ g. lookup (nat_eq number) kept.now.entries ≡ Some g) }
-{
-    if keeps { kept.find(number) } else { None }
-}
-
 /// Whether a glyph may be cached. A glyph with filled dropouts may not, since its dropouts are found by its edges.
-fn can_be_kept(keeps: bool, filled: Option<Rules>) -> bool
-    ensures kept { result ≡ true → (keeps ≡ true) × (filled ≡ None) }
-    ensures off { keeps ≡ false → result ≡ false }
+fn can_be_cached(cache: &Cache, filled: Option<Rules>) -> bool
+    ensures cached { result ≡ true → (is_there cache.now ≡ true) × (filled ≡ None) }
+    ensures off { is_there cache.now ≡ false → result ≡ false }
     ensures filled { IfSome filled (λ _. result ≡ false) }
 {
     match filled {
         Some(_) => false,
-        None => keeps,
+        None => cache.is_there(),
     }
 }
 
@@ -261,18 +247,18 @@ fn raster_of(
     frame: Frame,
     number: u16,
     unfitted: Option<Fault>,
-    kept: &mut KeptGlyphs,
+    cache: &mut Cache,
 ) -> Result<Body, AllocError>
     requires frame { FrameFits frame }
     requires few { length list.edges ≤ 2 ^ 17 }
     ensures body { IfOk result (λ b. IsBodyOf list.edges (body_view b) × BodyFits frame 0 (body_view b)) }
-    ensures kept { (s : Fitter) → ((k : Raster) → IsRasterOf list.edges k → IsKept s number (record { raster = k; unfitted = unfitted })) → AreKeptFor s kept.old.entries → AreKeptFor s kept.new.entries }
-    ensures most { kept.new.most ≡ kept.old.most }
+    ensures cached { (s : Fitter) → ((k : Raster) → IsRasterOf list.edges k → IsCached s number (record { raster = k; unfitted = unfitted })) → IsCacheFor s cache.old → IsCacheFor s cache.new }
+    ensures limit { limit_of cache.new ≡ limit_of cache.old }
 {
-    match Raster::cut(alloc, list, 2 * frame.height, kept.most() / 16)? {
+    match Raster::cut(alloc, list, 2 * frame.height, cache.raster_limit())? {
         Cut::Raster(raster) => {
             let raster = Rc::new(alloc, raster)?;
-            kept.keep(
+            cache.put(
                 number,
                 KeptGlyph {
                     raster: raster.clone()?,
@@ -285,26 +271,25 @@ fn raster_of(
     }
 }
 
-/// The body of a glyph with these edges: a cached raster, or a tape. Error: Memory.
+/// The body of a glyph with these edges: a raster, if the glyph is cached, or a tape. Error: Memory.
 fn body_of(
     alloc: Global,
     list: EdgeList,
     frame: Frame,
     number: u16,
     unfitted: Option<Fault>,
-    kept: &mut KeptGlyphs,
-    keeps: bool,
+    cache: &mut Cache,
+    caches: bool,
 ) -> Result<Body, AllocError>
     requires frame { FrameFits frame }
     requires few { length list.edges ≤ 2 ^ 17 }
     ensures body { IfOk result (λ b. IsBodyOf list.edges (body_view b) × BodyFits frame 0 (body_view b)) }
-    ensures tape { IfOk result (λ b. keeps ≡ false → IsTape (body_view b)) }
-    ensures kept { (s : Fitter) → (keeps ≡ true → (k : Raster) → IsRasterOf list.edges k → IsKept s number (record { raster = k; unfitted = unfitted })) → AreKeptFor s kept.old.entries → AreKeptFor s kept.new.entries }
-    ensures same { keeps ≡ false → kept.new ≡ kept.old }
-    ensures most { kept.new.most ≡ kept.old.most }
+    ensures tape { IfOk result (λ b. caches ≡ false → IsTape (body_view b)) }
+    ensures cached { (s : Fitter) → (caches ≡ true → (k : Raster) → IsRasterOf list.edges k → IsCached s number (record { raster = k; unfitted = unfitted })) → IsCacheFor s cache.old → IsCacheFor s cache.new }
+    ensures limit { limit_of cache.new ≡ limit_of cache.old }
 {
-    if keeps {
-        raster_of(alloc, list, frame, number, unfitted, kept)
+    if caches {
+        raster_of(alloc, list, frame, number, unfitted, cache)
     } else {
         tape_of(alloc, list, frame)
     }

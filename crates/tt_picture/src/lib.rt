@@ -1,10 +1,11 @@
 //! The picture of glyphs at their pens, made row by row. Glyphs come from a fitter, or from a cache.
 //!
 //! ```text
+//! cache.rt      the cache of glyphs, which may be absent
 //! glyph.rt      a glyph of a line: a tape of edges or a raster, its dropout rules and its pens
 //! glyphs.rt     the distinct glyphs of a line, made in order
 //! reframing.rt  glyphs moved into another frame
-//! crossings.rt  the crossings of glyphs at their pens
+//! counting.rt   the crossings of glyphs at their pens
 //! report.rt     the unfitted glyphs
 //! inks.rt       the boxes of glyphs' black pixels
 //! ink_box.rt    such a box in a picture
@@ -16,7 +17,8 @@
 //! ```
 #![tactic(auto)]
 
-mod crossings;
+mod cache;
+mod counting;
 mod drawing;
 mod dropouts;
 mod glyph;
@@ -29,7 +31,8 @@ mod reframing;
 mod report;
 mod rows;
 
-pub use crossings::crossings;
+pub use cache::Cache;
+pub use counting::crossings;
 pub use drawing::draw_made;
 pub use glyph::Glyph;
 pub use glyphs::{Glyphs, line_glyphs};

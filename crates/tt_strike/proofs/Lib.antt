@@ -9,7 +9,8 @@ mod Listing
 mod Whole
 mod Stopped
 mod Setting
-mod Kept
+mod Caches
+mod Textless
 mod Made
 mod GrownMeasures
 mod GrownStops

@@ -16,20 +16,20 @@ use Rattle.tt_strike.specs.Report.{line_report}
 use Rattle.tt_strike.specs.Tables.{Face}
 use Rattle.tt_strike.specs.Work.{line_fitter}
 
-pub drawn_as_made : {keeps : Bool} (face : Face) (a : Job) (l : Placement) (gs : List Glyph)
-    → (made : AreMade keeps face a l gs) → drawn face a l ≡ Ok (picture (frame_of l a.margin) made.shapes)
+pub drawn_as_made : {cached : Bool} (face : Face) (a : Job) (l : Placement) (gs : List Glyph)
+    → (made : AreMade cached face a l gs) → drawn face a l ≡ Ok (picture (frame_of l a.margin) made.shapes)
 unfolding drawn
 drawn_as_made face a l gs made = rw (made.opened, made.few, made.fitted, made.seldom) refl
 
-pub measured_as_made : {keeps : Bool} (face : Face) (a : Job) (l : Placement) (gs : List Glyph)
-    → (made : AreMade keeps face a l gs)
+pub measured_as_made : {cached : Bool} (face : Face) (a : Job) (l : Placement) (gs : List Glyph)
+    → (made : AreMade cached face a l gs)
     → measured_line face a l ≡ Ok (measure_by face.metrics a.ppem a.margin (line_ink made.setting l) l)
 unfolding measured_line
 measured_as_made face a l gs made = rw (made.opened, made.few, made.fitted, made.seldom) refl
 
 -- the list of the unfitted glyphs is the report of the line, and lists each once
-pub reported_as_made : {keeps : Bool} (face : Face) (a : Job) (l : Placement) (gs : List Glyph)
-    (entries : List Unfitted) → AreMade keeps face a l gs → entries ≡ unfitted_standing gs
+pub reported_as_made : {cached : Bool} (face : Face) (a : Job) (l : Placement) (gs : List Glyph)
+    (entries : List Unfitted) → AreMade cached face a l gs → entries ≡ unfitted_standing gs
     → (line_report face a l ≡ Ok entries) × ListsOnce entries
 unfolding line_report
 reported_as_made face a l gs entries made listed =

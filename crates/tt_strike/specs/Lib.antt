@@ -12,6 +12,7 @@ pub mod Makers
 pub mod Measures
 pub mod Picture
 pub mod Report
+pub mod Reported
 pub mod Strikes
 pub mod Views
 pub mod Work

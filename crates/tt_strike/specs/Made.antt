@@ -17,14 +17,14 @@ abbrev pub shapes_made : Face → Job → Placement → Result (List Shape) Refu
 shapes_made face a line = as_font (setting_in face a) >>= λ s. line_shapes s a line
 
 -- the line's glyphs are made without a refusal: the fitter, the shapes, and these glyphs, each once and at its pens
-pub record AreMade (keeps : Bool) (face : Face) (a : Job) (line : Placement) (gs : List Glyph) : Type 0 where
+pub record AreMade (cached : Bool) (face : Face) (a : Job) (line : Placement) (gs : List Glyph) : Type 0 where
   pub setting : Fitter
   pub shapes : List Shape
   pub opened : setting_in face a ≡ Ok setting
   pub few : as_job (points_tested setting a line) ≡ Ok tt
   pub fitted : shapes_in setting line ≡ Ok shapes
   pub seldom : crossings_tested setting a line shapes ≡ Ok tt
-  pub drawn : AreDrawn keeps (line_fitter setting (map (λ g. g.0) line.glyphs)) (frame_of line a.margin) gs
+  pub drawn : AreDrawn cached (line_fitter setting (map (λ g. g.0) line.glyphs)) (frame_of line a.margin) gs
   pub numbers : numbers_of gs ≡ distinct (map (λ g. g.0) line.glyphs)
   pub within : AreWithin gs
-  pub stand : Stand keeps (frame_of line a.margin) gs shapes
+  pub stand : Stand cached (frame_of line a.margin) gs shapes

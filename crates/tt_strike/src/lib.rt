@@ -11,6 +11,7 @@ pub mod laws;
 mod laying;
 mod maker;
 mod measuring;
+mod sized;
 mod strike;
 mod tables;
 mod tested;

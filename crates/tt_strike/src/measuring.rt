@@ -2,9 +2,8 @@
 
 ghost use Rattle.std.specs.Prelude.{◌≡◌, ℕ, ◌<◌, ◌≤◌, pos, ◌+ℤ◌, true, length, map, All, IfOk, IfSome, Ok, Option};
 ghost use Rattle.tt_core.specs.declared.fault.JobFault.TheVariants.{WorkLarge};
-ghost use Rattle.tt_core.specs.Limits.{size_limit, width_limit};
+ghost use Rattle.tt_core.specs.Limits.{margin_limit, size_limit, width_limit};
 ghost use Rattle.tt_core.specs.Outcomes.{GivesUnless, IfTold};
-ghost use Rattle.tt_fit.specs.Fitting.{Fitter};
 ghost use Rattle.tt_line.specs.Outcome.{placement_of};
 ghost use Rattle.tt_metrics.specs.Metrics.{glyphs_of};
 ghost use Rattle.tt_scan.specs.Winding.{FrameFits};
@@ -13,28 +12,22 @@ ghost use Rattle.tt_strike.specs.Costs.{line_cost};
 ghost use Rattle.tt_strike.specs.Defects.{IsLineDefect, IsTooMuchWork, TellsDefects, draw_font_fault, draw_job_fault};
 ghost use Rattle.tt_picture.specs.Distinct.{is_among};
 ghost use Rattle.tt_picture.specs.Glyphs.{ArePlaces, numbers_of};
-ghost use Rattle.tt_strike.specs.Job.{job_view, IsJob};
-ghost use Rattle.tt_picture.specs.Kept.{AreKeptFor};
-ghost use Rattle.tt_strike.specs.Makers.{IsMaker};
 ghost use Rattle.tt_strike.specs.Measures.{character_at, ink_of, measure_view, measured_line};
 ghost use Rattle.tt_scan_ink.specs.Least.{IsNear};
-ghost use Rattle.tt_strike.specs.Picture.{setting_in};
 ghost use Rattle.tt_strike.specs.Refusals.{refusal};
+ghost use Rattle.tt_strike.specs.Strikes.{job_with};
 ghost use Rattle.tt_picture.specs.Unfitted.{ListsOnce};
 ghost use Rattle.tt_strike.specs.Report.{line_report};
 
 use crate::fault::DrawFault;
-use crate::job::Job;
-use crate::maker::Maker;
-use crate::tables::Face;
-use crate::tested::{frame_of, tested_glyphs};
+use crate::sized::SizedFace;
+use crate::tested::frame_of;
 use std::alloc::{AllocError, Global};
 use tt_line::{Line, advance};
 use tt_metrics::Metrics;
-use tt_picture::{Glyphs, InkBox, Report, glyph_inks, ink_at, joined, report_on};
+use tt_picture::{Cache, Glyphs, InkBox, Report, glyph_inks, ink_at, joined, report_on};
 use tt_scan::Frame;
 use tt_scan_ink::GlyphInk;
-use tt_strike_kept::KeptGlyphs;
 
 /// The place of a character in its line's picture.
 #[derive(Clone, Copy, Debug, PartialEq, Eq)]
@@ -79,11 +72,11 @@ fn character(
     requires known { placed.0 < glyphs_of metrics.now }
     requires pen { placed.1 ≤ width_limit }
     requires room { length glyphs.now.places.items ≡ glyphs_of metrics.now }
-    requires places { ArePlaces glyphs.now.places.items (numbers_of glyphs.now.kept.items) }
-    requires among { is_among placed.0 (numbers_of glyphs.now.kept.items) ≡ true }
-    requires count { length inks.now ≡ length glyphs.now.kept.items }
+    requires places { ArePlaces glyphs.now.places.items (numbers_of glyphs.now.made.items) }
+    requires among { is_among placed.0 (numbers_of glyphs.now.made.items) ≡ true }
+    requires count { length inks.now ≡ length glyphs.now.made.items }
     requires near { All (λ ink. IfSome ink IsNear) inks.now }
-    ensures { (inked : ℕ → Option GlyphInk) → inks.now ≡ map inked (numbers_of glyphs.now.kept.items)
+    ensures { (inked : ℕ → Option GlyphInk) → inks.now ≡ map inked (numbers_of glyphs.now.made.items)
         → result ≡ character_at metrics.now ppem frame inked placed }
 {
     let (glyph, pen) = placed;
@@ -114,11 +107,11 @@ pub(crate) fn characters(
     requires known { All (λ g. g.0 < glyphs_of metrics.now) line.now }
     requires pens { All (λ g. g.1 ≤ width_limit) line.now }
     requires room { length glyphs.now.places.items ≡ glyphs_of metrics.now }
-    requires places { ArePlaces glyphs.now.places.items (numbers_of glyphs.now.kept.items) }
-    requires among { All (λ g. is_among g.0 (numbers_of glyphs.now.kept.items) ≡ true) line.now }
-    requires count { length inks.now ≡ length glyphs.now.kept.items }
+    requires places { ArePlaces glyphs.now.places.items (numbers_of glyphs.now.made.items) }
+    requires among { All (λ g. is_among g.0 (numbers_of glyphs.now.made.items) ≡ true) line.now }
+    requires count { length inks.now ≡ length glyphs.now.made.items }
     requires near { All (λ ink. IfSome ink IsNear) inks.now }
-    ensures { IfOk result (λ v. (inked : ℕ → Option GlyphInk) → inks.now ≡ map inked (numbers_of glyphs.now.kept.items)
+    ensures { IfOk result (λ v. (inked : ℕ → Option GlyphInk) → inks.now ≡ map inked (numbers_of glyphs.now.made.items)
         → v.items ≡ map (character_at metrics.now ppem frame inked) line.now) }
 {
     let mut measured = Vec::with_capacity(alloc, line.len())?;
@@ -155,41 +148,34 @@ pub(crate) fn measure_of(frame: Frame, characters: Vec<CharacterMeasure>, report
     }
 }
 
-/// The measure of a line that is laid out. Errors: as `tested_glyphs`. No glyph is cached.
-#[tactic(auto, unfolding(crate::specs::Measures::measured_line, crate::specs::Report::line_report))]
-pub(crate) fn measure_line<'a>(
-    alloc: Global,
-    face: &Face<'a>,
-    maker: &mut Maker<'a>,
-    kept: &mut KeptGlyphs,
-    job: &Job,
-    line: &Line,
-) -> Result<Measure, DrawFault>
-    requires asked { IsJob (job_view job.now) }
-    requires maker { IsMaker face.now job.now.ppem job.now.fit maker.old }
-    requires kept { (s : Fitter) → setting_in face.now (job_view job.now) ≡ Ok s → AreKeptFor s kept.old.entries }
-    requires known { All (λ g. g.0 < glyphs_of face.now.metrics) line.now.glyphs.items }
-    ensures exact { GivesUnless refusal measure_view result (measured_line face.now (job_view job.now) (placement_of line.now)) }
-    ensures report { IfOk result (λ m. line_report face.now (job_view job.now) (placement_of line.now) ≡ Ok m.report.unfitted.items) }
-    ensures once { IfOk result (λ m. ListsOnce m.report.unfitted.items) }
-    ensures cost { IfOk result (λ m. line_cost face.now (job_view job.now) (placement_of line.now) ≡ Ok m.report.cost) }
-    ensures maker { IsMaker face.now job.now.ppem job.now.fit maker.new }
-    ensures same { kept.new ≡ kept.old }
-    ensures defects { TellsDefects draw_font_fault (IsLineDefect face.now (job_view job.now) (map (λ g. g.0) line.now.glyphs.items)) result }
-    ensures work { IfTold draw_job_fault result (λ j. (j ≡ WorkLarge) × IsTooMuchWork face.now (job_view job.now) (placement_of line.now)) }
-{
-    let glyphs = tested_glyphs(alloc, face, maker, kept, job, line, false)?;
-    let frame = frame_of(line, job.margin);
-    let inks = glyph_inks(alloc, &glyphs.kept)?;
-    let report = report_on(alloc, &glyphs.kept, glyphs.cost)?;
-    let characters = characters(
-        alloc,
-        face.metrics(),
-        job.ppem,
-        frame,
-        &line.glyphs,
-        &glyphs,
-        &inks,
-    )?;
-    Ok(measure_of(frame, characters, report))
+impl<'f, 'a> SizedFace<'f, 'a> {
+    /// The measure of a line that is laid out, with this margin. Errors: as `tested_glyphs`. No glyph is cached.
+    #[tactic(auto, unfolding(crate::specs::Measures::measured_line, crate::specs::Report::line_report))]
+    pub(crate) fn measure_line(&mut self, margin: u32, line: &Line) -> Result<Measure, DrawFault>
+        requires margin { margin ≤ margin_limit }
+        requires known { All (λ g. g.0 < glyphs_of self.old.face.metrics) line.now.glyphs.items }
+        ensures exact { GivesUnless refusal measure_view result (measured_line self.old.face (job_with self.old margin) (placement_of line.now)) }
+        ensures report { IfOk result (λ m. line_report self.old.face (job_with self.old margin) (placement_of line.now) ≡ Ok m.report.unfitted.items) }
+        ensures once { IfOk result (λ m. ListsOnce m.report.unfitted.items) }
+        ensures cost { IfOk result (λ m. line_cost self.old.face (job_with self.old margin) (placement_of line.now) ≡ Ok m.report.cost) }
+        ensures same { self.new ≡ self.old }
+        ensures defects { TellsDefects draw_font_fault (IsLineDefect self.old.face (job_with self.old margin) (map (λ g. g.0) line.now.glyphs.items)) result }
+        ensures work { IfTold draw_job_fault result (λ j. (j ≡ WorkLarge) × IsTooMuchWork self.old.face (job_with self.old margin) (placement_of line.now)) }
+    {
+        let glyphs = self.tested_glyphs(margin, line, &mut Cache::absent())?;
+        let alloc = self.alloc();
+        let frame = frame_of(line, margin);
+        let inks = glyph_inks(alloc, &glyphs.made)?;
+        let report = report_on(alloc, &glyphs.made, glyphs.cost)?;
+        let characters = characters(
+            alloc,
+            self.face().metrics(),
+            self.ppem(),
+            frame,
+            &line.glyphs,
+            &glyphs,
+            &inks,
+        )?;
+        Ok(measure_of(frame, characters, report))
+    }
 }

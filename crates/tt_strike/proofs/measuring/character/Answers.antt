@@ -18,7 +18,7 @@ box_found inked boxes gs i n d are below is =
 
 pub returns : goal.returns
 returns c = λ inked same.
-    let gs = c.args.glyphs.now.kept.items in
+    let gs = c.args.glyphs.now.made.items in
     let found : c.match-find.ink ≡ inked c.args.placed.0 =
     elim c.match-find.branch [
       | in-Some w ↦

@@ -10,7 +10,7 @@ use Rattle.tt_picture.proofs.glyphs.Glyphs.reframed.Goals as goal
 
 pub loop-place-init : goal.loop-place-init
 loop-place-init c =
-    let gs = c.in_ok-kept.kept.items in
+    let gs = c.in_ok-kept.made.items in
     let bare = c.in_ok-kept.ensures.bare in
     record {
       valid = record {
@@ -29,8 +29,8 @@ loop-place-preserved c =
     let so_far = c.loop-place.invariant in
     let one = c.in_ok-stand.ensures in
     let i = c.loop-place.place-index in
-    let before = c.loop-place.glyphs.kept.items in
-    let after = c.stand.new.self.kept.items in
+    let before = c.loop-place.glyphs.made.items in
+    let after = c.stand.new.self.made.items in
     let line = c.args.line.now in
     let below : i < length line = c.loop-place-test.true in
     record {
@@ -54,7 +54,7 @@ returns-clause-stand c = λ maker f drawn.
     let stood = c.loop-place.invariant.stand maker f drawn in
     let over : length line ≤ c.loop-place.place-index = omega (arith, c.loop-place-test.false) in
     all_made (glyph_shape maker) line c.loop-place.place-index stood.0
-    (Stand false c.args.frame c.loop-place.glyphs.kept.items) over stood.1 stood.2
+    (Stand false c.args.frame c.loop-place.glyphs.made.items) over stood.1 stood.2
 
 -- a glyph of the line is known, and is one of these
 pub stand-requires-clause-known : goal.stand-requires-clause-known

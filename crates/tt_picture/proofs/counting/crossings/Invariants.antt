@@ -1,6 +1,6 @@
 use Rattle.std.proofs.Common.{◌≡◌, ◌+◌, ◌-◌, ◌^◌, ◌≤◌, min, drop}
 use Rattle.tt_picture.specs.Glyphs.{crossings_standing}
-use Rattle.tt_picture.proofs.crossings.crossings.Given as goal
+use Rattle.tt_picture.proofs.counting.crossings.Given as goal
 
 -- the crossings so far, and those of the remaining glyphs, are all
 abbrev pub invariant-loop-glyph : goal.invariant-loop-glyph

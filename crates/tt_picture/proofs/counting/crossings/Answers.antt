@@ -1,7 +1,7 @@
 use Rattle.std.proofs.Common.{◌-◌, ◌^◌, ◌≤◌, length, arith}
 use Rattle.tt_picture.specs.Glyphs.{crossings_standing}
 use Rattle.tt_picture.proofs.Crossed.{all_crossed, one_glyph_crosses}
-use Rattle.tt_picture.proofs.crossings.crossings.Goals as goal
+use Rattle.tt_picture.proofs.counting.crossings.Goals as goal
 
 pub loop-glyph-preserved : goal.loop-glyph-preserved
 loop-glyph-preserved c =
