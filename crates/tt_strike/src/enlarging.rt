@@ -63,7 +63,8 @@ impl<'f, 'a> SizedFace<'f, 'a> {
         ensures same { self.new ≡ self.old }
         ensures defects { TellsDefects draw_font_fault (IsLineDefect self.old.face (job_with self.old margin) (map (λ g. g.0) line.glyphs.items)) result }
     {
-        let glyphs = self.tested_glyphs(margin, &line, &mut Cache::absent())?;
+        let mut none = Cache::absent();
+        let glyphs = self.tested_glyphs(margin, &line, &mut none)?;
         let alloc = self.alloc();
         let frame = frame_of(&line, margin);
         let inks = glyph_inks(alloc, &glyphs.made)?;

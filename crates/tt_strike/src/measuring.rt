@@ -162,7 +162,8 @@ impl<'f, 'a> SizedFace<'f, 'a> {
         ensures defects { TellsDefects draw_font_fault (IsLineDefect self.old.face (job_with self.old margin) (map (λ g. g.0) line.now.glyphs.items)) result }
         ensures work { IfTold draw_job_fault result (λ j. (j ≡ WorkLarge) × IsTooMuchWork self.old.face (job_with self.old margin) (placement_of line.now)) }
     {
-        let glyphs = self.tested_glyphs(margin, line, &mut Cache::absent())?;
+        let mut none = Cache::absent();
+        let glyphs = self.tested_glyphs(margin, line, &mut none)?;
         let alloc = self.alloc();
         let frame = frame_of(line, margin);
         let inks = glyph_inks(alloc, &glyphs.made)?;

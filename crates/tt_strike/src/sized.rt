@@ -58,16 +58,19 @@ impl<'f, 'a> SizedFace<'f, 'a> {
         })
     }
 
+    /// Where memory comes from.
     pub(crate) fn alloc(&self) -> Global {
         self.alloc
     }
 
+    /// The font's tables.
     pub(crate) fn face(&self) -> &'f Face<'a>
         ensures { result.now ≡ self.now.face }
     {
         self.face
     }
 
+    /// The size in pixels per em.
     pub(crate) fn ppem(&self) -> u32
         ensures exact { result ≡ self.now.ppem }
         ensures limit { result ≤ size_limit }
@@ -75,6 +78,7 @@ impl<'f, 'a> SizedFace<'f, 'a> {
         self.ppem
     }
 
+    /// How outlines are fitted.
     pub(crate) fn fit(&self) -> Fit
         ensures { result ≡ self.now.fit }
     {

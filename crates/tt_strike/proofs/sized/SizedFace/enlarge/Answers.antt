@@ -19,11 +19,11 @@ returns-in_err-glyphs-clause-stops c =
     c.in_err-glyphs.field-0.0 c.in_err-glyphs.ensures.stops)
 
 pub tested_glyphs-requires-clause-cache : goal.tested_glyphs-requires-clause-cache
-tested_glyphs-requires-clause-cache c = rw c.absent.ensures tt
+tested_glyphs-requires-clause-cache c = rw c.absent-none.ensures tt
 
 pub glyph_inks-requires-clause-tapes : goal.glyph_inks-requires-clause-tapes
 glyph_inks-requires-clause-tapes c =
-    let made = rw c.absent.ensures at c.in_ok-glyphs.ensures.made in
+    let made = rw c.absent-none.ensures at c.in_ok-glyphs.ensures.made in
     rw c.deref.ensures.value (tapes_as_made c.args.self.now.face (job_with c.args.self.now c.args.margin) (placement_of c.args.line)
     c.in_ok-glyphs.glyphs.made.items made)
 
@@ -63,7 +63,7 @@ returns-in_err-line-clause-stops c =
     let l = placement_of c.args.line in
     let gs = c.in_ok-glyphs.glyphs.made.items in
     let characters = c.in_ok-characters.characters.items in
-    let made = rw c.absent.ensures at c.in_ok-glyphs.ensures.made in
+    let made = rw c.absent-none.ensures at c.in_ok-glyphs.ensures.made in
     let p = err_from_is_err_and c.from_residual-in_err-line.result c.from_residual-in_err-line.ensures.1 in
     let inks = (rw c.deref.ensures.value at c.in_ok-inks.ensures.exact) ∙ inks_as_made face a l gs made in
     let all = c.in_ok-characters.ensures (line_ink made.setting l) (c.deref-3.ensures.value ∙ inks) in
@@ -80,7 +80,7 @@ returns-clause-enlarged c =
     let larger = placement_of c.in_ok-line.line in
     let gs = c.in_ok-glyphs.glyphs.made.items in
     let characters = c.in_ok-characters.characters.items in
-    let made = rw c.absent.ensures at c.in_ok-glyphs.ensures.made in
+    let made = rw c.absent-none.ensures at c.in_ok-glyphs.ensures.made in
     let are = rw c.deref.ensures.value at c.in_ok-inks.ensures.exact in
     let inks = are ∙ inks_as_made face a l gs made in
     let all = c.in_ok-characters.ensures (line_ink made.setting l) (c.deref-3.ensures.value ∙ inks) in

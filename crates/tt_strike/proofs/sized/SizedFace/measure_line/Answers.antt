@@ -19,11 +19,11 @@ returns-in_err-glyphs-clause-exact c =
     c.in_err-glyphs.field-0.0 c.in_err-glyphs.ensures.stops)
 
 pub tested_glyphs-requires-clause-cache : goal.tested_glyphs-requires-clause-cache
-tested_glyphs-requires-clause-cache c = rw c.absent.ensures tt
+tested_glyphs-requires-clause-cache c = rw c.absent-none.ensures tt
 
 pub glyph_inks-requires-clause-tapes : goal.glyph_inks-requires-clause-tapes
 glyph_inks-requires-clause-tapes c =
-    let made = rw c.absent.ensures at c.in_ok-glyphs.ensures.made in
+    let made = rw c.absent-none.ensures at c.in_ok-glyphs.ensures.made in
     rw c.deref.ensures.value (tapes_as_made c.args.self.now.face (job_with c.args.self.now c.args.margin) (placement_of c.args.line.now)
     c.in_ok-glyphs.glyphs.made.items made)
 
@@ -62,7 +62,7 @@ returns-clause-exact c =
     let a = job_with c.args.self.now c.args.margin in
     let l = placement_of c.args.line.now in
     let gs = c.in_ok-glyphs.glyphs.made.items in
-    let made = rw c.absent.ensures at c.in_ok-glyphs.ensures.made in
+    let made = rw c.absent-none.ensures at c.in_ok-glyphs.ensures.made in
     let inks = (rw c.deref.ensures.value at c.in_ok-inks.ensures.exact) ∙ inks_as_made face a l gs made in
     let measured = c.in_ok-characters.ensures (line_ink made.setting l) (c.deref-4.ensures.value ∙ inks) in
     let characters = rw (c.metrics.ensures, c.face.ensures, c.ppem.ensures.exact, c.tested_glyphs.ensures.same,

@@ -221,17 +221,18 @@ returns-clause-defects c =
     rw (← c.self.view_is) (no_line_defect c.self.inside.face.now (job_with (record { face = c.self.inside.face.now; ppem = c.self.inside.ppem; fit = c.self.inside.fit }) c.args.margin) s gs made.0 c.in_ok-fitter.ensures.exact
     c.in_ok-fitter.ensures.defects made.1)
 
-pub returns-clause-maker : goal.returns-clause-maker
-returns-clause-maker c =
+pub invariant_of-self-5 : goal.invariant_of-self-5
+invariant_of-self-5 c =
     let s = c.in_ok-fitter.fitter in
     let setting = c.in_ok-fitter.ensures.setting in
     let gs = map (λ g. g.0) c.args.line.now.glyphs.items in
     let begun = rw c.deref.ensures.value at c.in_ok-charge_points.ensures.charged in
-    given_back c.self.inside.face.now c.self.inside.ppem c.self.inside.fit s c.line_glyphs.new.fitter c.take.new.self
-    c.give_back.new.self (is_bounded c.self.inside.fit) setting
+    let maker = given_back c.self.inside.face.now c.self.inside.ppem c.self.inside.fit s c.line_glyphs.new.fitter
+    c.take.new.self c.give_back.new.self (is_bounded c.self.inside.fit) setting
     (λ other. unspent c.work_unfits.ensures.stays s c.charge_points.new.fitter c.line_glyphs.new.fitter gs
     (numbers_of c.in_ok-glyphs.glyphs.made.items) begun c.in_ok-glyphs.ensures.after (setting.unbounded other))
-    c.take.ensures.maker c.give_back.ensures.kept c.give_back.ensures.same
+    c.take.ensures.maker c.give_back.ensures.kept c.give_back.ensures.same in
+    (c.self.invariant.0, c.self.invariant.1, maker)
 
 pub charge_points-requires-clause-unbounded : goal.charge_points-requires-clause-unbounded
 charge_points-requires-clause-unbounded c = c.in_ok-fitter.ensures.setting.unbounded
