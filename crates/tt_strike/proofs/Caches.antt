@@ -70,4 +70,4 @@ bytes_within most bytes (Some k) is low least = omega (arith, low, least)
 
 pub no_bytes : (z : SizedFace) (c : Option Kept) → IsCacheOf z c → is_bounded z.fit ≡ true → bytes_in (entries_of c) ≡ 0
 no_bytes z None own bounded = refl
-no_bytes z (Some k) own bounded = absurd (let other = own.0 in cc)
+no_bytes z (Some k) own bounded = absurd (let other = own.0 in let wrong = rw bounded at other in cc)

@@ -43,3 +43,9 @@ returns-clause-cost c =
 
 pub returns-clause-defects : goal.returns-clause-defects
 returns-clause-defects c = rw (← c.self.view_is, ← c.in_ok-line.ensures.glyphs) c.measure_grown.ensures.defects
+
+pub returns-clause-same : goal.returns-clause-same
+returns-clause-same c = rw c.measure_grown.ensures.same c.self.view_is
+
+pub invariant_of-self-2 : goal.invariant_of-self-2
+invariant_of-self-2 c = (rw c.measure_grown.ensures.same c.self.invariant.0, c.self.invariant.1)

@@ -1,4 +1,4 @@
-use Rattle.std.proofs.Common.{◌≡◌, ◌≤◌, Ok}
+use Rattle.std.proofs.Common.{◌≡◌, ◌≤◌, Ok, refl}
 use Rattle.std.proofs.lemmas.Result.{IfOk-weaker, err_from_is_err_and}
 use Rattle.tt_core.specs.Limits.{crossing_limit}
 use Rattle.tt_line.specs.Outcome.{placement_of}
@@ -96,3 +96,6 @@ invariant_of-self-2 c =
       rw c.draw_line.ensures.same c.draw_line.ensures.cache,
       rw c.draw_line.ensures.limit before.1,
     )
+
+pub returns-clause-same : goal.returns-clause-same
+returns-clause-same c = rw (c.draw_line.ensures.same, ← c.self.view_is) refl

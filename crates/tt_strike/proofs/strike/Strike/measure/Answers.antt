@@ -54,3 +54,9 @@ returns-clause-job c =
     let z = c.self.inside.sized in
     rw (← c.self.view_is) (work_refuses c.measure_line.result (job_by z c.args.text.now c.args.margin) z.face
     (placement_of c.in_ok-line.line) c.in_ok-line.ensures.laid c.measure_line.ensures.work)
+
+pub returns-clause-same : goal.returns-clause-same
+returns-clause-same c = rw c.measure_line.ensures.same c.self.view_is
+
+pub invariant_of-self-2 : goal.invariant_of-self-2
+invariant_of-self-2 c = (rw c.measure_line.ensures.same c.self.invariant.0, c.self.invariant.1)
