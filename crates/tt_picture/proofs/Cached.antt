@@ -1,5 +1,5 @@
 -- Cached glyphs equal those made anew.
-use Rattle.std.proofs.Common.{◌≡◌, ◌∙◌, ℕ, ◌-◌, ◌<◌, ◌≤◌, Bool, true, false, nat_eq, List, ◌∷◌, Option, None, Some, Ok, ◌⊎◌, refl, sym}
+use Rattle.std.proofs.Common.{◌≡◌, ◌∙◌, ℕ, ◌-◌, ◌<◌, ◌≤◌, Bool, true, false, nat_eq, List, ◌∷◌, Option, None, Some, Ok, ◌⊎◌, ap, refl, sym}
 use Rattle.std.specs.Prelude.{IfSome}
 use Rattle.std.specs.Map.{lookup, remove_entry}
 use Rattle.tt_core.specs.Faults.{Fault}
@@ -77,14 +77,16 @@ cache_before stays s gs (Some j) (Some k) same old new = rw (unchanged stays s g
 -- and that of the fitter after a cost
 pub cache_at_a_cost : (s : Fitter) (cost : ℕ) (c : Option Kept) → IsCacheFor s c → IsCacheFor (charged_fitter s cost) c
 cache_at_a_cost s cost None own = tt
-cache_at_a_cost s cost (Some k) own = rw (uncharged s cost own.0) own
+cache_at_a_cost s cost (Some k) own =
+    let same = uncharged s cost own.0 in
+    (ap (λ (f : Fitter). f.work) same ∙ own.0, rw same own.1)
 
 pub cache_before_a_cost : (s : Fitter) (cost : ℕ) (before after : Option Kept) → limit_of after ≡ limit_of before
     → IsCacheFor s before → IsCacheFor (charged_fitter s cost) after → IsCacheFor s after
 cache_before_a_cost s cost None None same old new = tt
 cache_before_a_cost s cost None (Some k) same old new = absurd cc
 cache_before_a_cost s cost (Some j) None same old new = tt
-cache_before_a_cost s cost (Some j) (Some k) same old new = rw (uncharged s cost old.0) at new
+cache_before_a_cost s cost (Some j) (Some k) same old new = (old.0, rw (uncharged s cost old.0) at new.1)
 
 -- a glyph with filled dropouts is a tape
 pub tape_where : (filled : Option Rules) (body : Body) (plain : Bool) → IfSome filled (λ rules. plain ≡ false)

@@ -68,8 +68,9 @@ impl Cache {
         ensures cached { (s : Fitter) → IsCached s number glyph → IsCacheFor s self.old → IsCacheFor s self.new }
         ensures limit { limit_of self.new ≡ limit_of self.old }
     {
-        if let Some(glyphs) = &mut self.glyphs {
-            glyphs.keep(number, glyph);
+        match &mut self.glyphs {
+            Some(glyphs) => glyphs.keep(number, glyph),
+            None => (),
         }
     }
 

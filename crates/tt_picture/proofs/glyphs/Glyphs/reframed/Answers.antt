@@ -10,17 +10,17 @@ use Rattle.tt_picture.proofs.glyphs.Glyphs.reframed.Goals as goal
 
 pub loop-place-init : goal.loop-place-init
 loop-place-init c =
-    let gs = c.in_ok-kept.made.items in
-    let bare = c.in_ok-kept.ensures.bare in
+    let gs = c.in_ok-made.made.items in
+    let bare = c.in_ok-made.ensures.bare in
     record {
       valid = record {
         room = refl;
-        places = rw c.in_ok-kept.ensures.numbers c.requires.places;
+        places = rw c.in_ok-made.ensures.numbers c.requires.places;
         lefts = bare_lefts gs bare;
       };
-      numbers = c.in_ok-kept.ensures.numbers;
+      numbers = c.in_ok-made.ensures.numbers;
       pens = bare_within gs bare;
-      drawn = c.in_ok-kept.ensures.drawn;
+      drawn = c.in_ok-made.ensures.drawn;
       stand = λ maker f drawn. ([], none_before (each (glyph_shape maker) c.args.line.now), bare_stand c.args.frame gs bare);
     }
 
