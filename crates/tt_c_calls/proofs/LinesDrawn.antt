@@ -23,7 +23,7 @@ use Rattle.tt_c_calls.specs.Answers.{job_answer}
 use Rattle.tt_c_calls.specs.Refusals.{Refusal, as_call}
 use Rattle.tt_c_calls.specs.Lines.{AreAffordable, cost_asked, cost_taken, first_taken, lines_taken, AreEnds, AreLinesDrawn, DrawsLines, EndsWith, IsLineDrawn, IsLineWritten, IsTextStopped, line_between, line_bytes, line_told, lines_by, lines_bytes, start_of, stopped_answer}
 use Rattle.tt_c_calls.specs.Pictures.{IsMadeBy, IsPictureOf, IsWritten}
-use Rattle.tt_strike.specs.Pictures.{Picture}
+use Rattle.tt_picture.specs.Pictures.{Picture}
 
 -- equal lists have equal parts
 same_part : (m at n : ℕ) (old new : List ℕ) → take m new ≡ take m old → at + n ≤ m

@@ -12,7 +12,7 @@ use Rattle.tt_strike.specs.Defects.{IsLineDefect}
 use Rattle.tt_strike.specs.Grown.{grown_outcome, grown_placement}
 use Rattle.tt_strike.specs.Job.{Job, tested}
 use Rattle.tt_strike.specs.Picture.{line_outcome}
-use Rattle.tt_strike.specs.Pictures.{IsReady, Picture, picture_bytes}
+use Rattle.tt_picture.specs.Pictures.{IsReady, Picture, picture_bytes}
 use Rattle.tt_strike.specs.Refusals.{Refused, as_font, as_job, font, job, large}
 use Rattle.tt_strike.specs.Strikes.{Strike, job_of}
 use Rattle.tt_strike.specs.Tables.{Face, face_of}

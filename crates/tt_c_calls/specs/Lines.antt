@@ -7,7 +7,7 @@ use Rattle.tt_core.specs.Outcomes.{◌>>=◌}
 use Rattle.tt_render.specs.Lines.{lines_budget}
 use Rattle.tt_strike.specs.Costs.{cost_by}
 use Rattle.tt_strike.specs.Defects.{IsFaceDefect}
-use Rattle.tt_strike.specs.Pictures.{Picture}
+use Rattle.tt_picture.specs.Pictures.{Picture}
 use Rattle.tt_strike.specs.Refusals.{as_font}
 use Rattle.tt_strike.specs.Strikes.{Strike}
 use Rattle.tt_strike.specs.Tables.{Face, face_of}

@@ -7,9 +7,9 @@ use Rattle.tt_strike.specs.Measures.{Measure, measured}
 use Rattle.tt_strike.specs.Refusals.{Refused}
 use Rattle.tt_strike.specs.Report.{report_by}
 use Rattle.tt_strike.specs.Tables.{Face, face_of}
-use Rattle.tt_strike.specs.declared.ink_box.InkBox.{InkBox}
+use Rattle.tt_picture.specs.declared.ink_box.InkBox.{InkBox}
 use Rattle.tt_strike.specs.declared.measuring.CharacterMeasure.{CharacterMeasure}
-use Rattle.tt_strike.specs.declared.report.Unfitted.{Unfitted}
+use Rattle.tt_picture.specs.declared.report.Unfitted.{Unfitted}
 use Rattle.tt_c_calls.specs.declared.answer.CAnswer.{CAnswer}
 use Rattle.tt_c_calls.specs.declared.asked.CJob.{CJob}
 use Rattle.tt_c_calls.specs.declared.measuring.CBox.{CBox}

@@ -10,7 +10,7 @@ use Rattle.tt_strike.specs.Costs.{cost_by}
 use Rattle.tt_strike.specs.Grown.{grown_outcome, grown_placement}
 use Rattle.tt_strike.specs.Job.{Job, tested}
 use Rattle.tt_strike.specs.Picture.{frame_of, line_outcome}
-use Rattle.tt_strike.specs.Pictures.{IsReady, Picture, picture_bytes}
+use Rattle.tt_picture.specs.Pictures.{IsReady, Picture, picture_bytes}
 use Rattle.tt_strike.specs.Refusals.{Refused, as_font, as_job}
 use Rattle.tt_strike.specs.Report.{report_by}
 use Rattle.tt_strike.specs.Tables.{Face, face_of}

@@ -5,7 +5,7 @@ ghost use Rattle.tt_core.specs.Bits.{stride};
 ghost use Rattle.tt_core.specs.Outcomes.{GivesUnless};
 ghost use Rattle.tt_line.specs.Layout.{text_glyphs};
 ghost use Rattle.tt_strike.specs.Defects.{IsLineDefect, TellsDefects};
-ghost use Rattle.tt_strike.specs.Pictures.{IsReady, picture_bytes};
+ghost use Rattle.tt_picture.specs.Pictures.{IsReady, picture_bytes};
 ghost use Rattle.tt_strike.specs.Strikes.{job_of};
 ghost use Rattle.tt_c_calls.specs.Asked.{IsAskedDefect, grows};
 ghost use Rattle.tt_c_calls.specs.Pictures.{IsBandSmall, IsBandWritten, IsMadeBy, IsPictureOf, band_of, band_rows, picture_by, picture_told, picture_wanted};

@@ -4,7 +4,7 @@ use Rattle.std.specs.Prelude.{Option, Some, None}
 use Rattle.tt_core.specs.declared.fault.JobFault.{JobFault}
 use Rattle.tt_line.specs.declared.fault.LineFault.{LineFault}
 use Rattle.tt_line.specs.declared.fault.LineFault.TheVariants.{Job, Memory}
-use Rattle.tt_line.specs.declared.layout.Line.{Line}
+use Rattle.tt_line.specs.declared.line.Line.{Line}
 use Rattle.tt_line.specs.Layout.{Placement}
 
 abbrev pub placement_of : Line → Placement

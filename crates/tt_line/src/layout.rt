@@ -1,7 +1,7 @@
-//! The line as a whole.
+//! Lays out a line of text.
 
-ghost use Rattle.std.specs.Prelude.{◌≡◌, ◌<◌, ◌≤◌, ◌^◌, length, map, chars, sum, All, unsigned_abs, IsOk, IfOk, IfErr, IfNone};
-ghost use Rattle.tt_core.specs.Limits.{size_limit, margin_limit, text_limit, width_limit, height_limit};
+ghost use Rattle.std.specs.Prelude.{◌≡◌, ◌<◌, ◌≤◌, ◌^◌, length, map, chars, sum, All, IsOk, IfOk, IfErr, IfNone};
+ghost use Rattle.tt_core.specs.Limits.{size_limit, margin_limit, text_limit, width_limit};
 ghost use Rattle.tt_core.specs.Outcomes.{GivesUnless, IfTold};
 ghost use Rattle.tt_line.specs.Layout.{text_glyphs, advances_of, placed_glyphs, extent_of, placement, IsRefusal};
 ghost use Rattle.tt_line.specs.Outcome.{placement_of, job_fault};
@@ -10,23 +10,11 @@ ghost use Rattle.tt_metrics.specs.Metrics.{glyphs_of};
 use crate::extent::{test_limits, with_margins};
 use crate::fault::LineFault;
 use crate::known::KnownAdvances;
+use crate::line::Line;
 use crate::pixels::{depth, rise};
 use std::alloc::{AllocError, Global};
 use tt_cmap::Cmap;
 use tt_metrics::Metrics;
-
-/// A line of text after layout.
-#[derive(Drop)]
-pub struct Line {
-    /// Pixels in a row of the picture, margins included: 1 to 16,384.
-    pub width: u32,
-    /// Rows of the picture, margins included: 1 to 4,096.
-    pub height: u32,
-    /// Pixels from the base line up to the upper margin.
-    pub rise: i32,
-    /// The glyph of each character, and the pixels from the left margin to the glyph's origin.
-    pub glyphs: Vec<(u16, u32)>,
-}
 
 /// Lays out a text at `ppem` pixels per em, with margins of `margin` pixels. Each advance is rounded to the nearest
 /// pixel; ascent and descent are rounded up. A refused line takes no memory.
@@ -50,13 +38,8 @@ pub fn lay(
     requires text { length (chars text.now) ≤ text_limit }
     requires glyphs { cmap.now.glyphs ≡ glyphs_of metrics.now }
     ensures exact { GivesUnless job_fault placement_of result (placement metrics.now cmap.now text.now ppem margin) }
-    ensures width { IfOk result (λ l. (1 ≤ l.width) × (l.width ≤ width_limit)) }
-    ensures height { IfOk result (λ l. (1 ≤ l.height) × (l.height ≤ height_limit)) }
-    ensures rise { IfOk result (λ l. unsigned_abs l.rise ≤ 614400) }
-    ensures count { IfOk result (λ l. length l.glyphs.items ≡ length (chars text.now)) }
     ensures glyphs { IfOk result (λ l. map (λ p. p.0) l.glyphs.items ≡ text_glyphs cmap.now text.now) }
     ensures known { IfOk result (λ l. All (λ p. p.0 < glyphs_of metrics.now) l.glyphs.items) }
-    ensures pens { IfOk result (λ l. All (λ p. p.1 ≤ l.width) l.glyphs.items) }
     // Only the glyphs of an accepted line take memory.
     ensures memory { IfErr result (λ e. IfNone (job_fault e)
         (IsOk (placement metrics.now cmap.now text.now ppem margin) × (0 < length (chars text.now)))) }

@@ -6,8 +6,10 @@ mod fault;
 mod known;
 pub mod laws;
 mod layout;
+mod line;
 mod pixels;
 
 pub use fault::LineFault;
-pub use layout::{Line, lay};
+pub use layout::lay;
+pub use line::Line;
 pub use pixels::advance;

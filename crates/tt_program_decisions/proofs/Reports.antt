@@ -4,7 +4,7 @@ use Rattle.std.specs.Io.KnownBytes.{Appends}
 use Rattle.std.specs.Prelude.{◌⊎◌, IfOk, IfErr, OnOk, is_err}
 use Rattle.tt_pbm.specs.declared.writing.Cut.{Cut}
 use Rattle.tt_render.specs.declared.fault.RunFault.TheVariants as run
-use Rattle.tt_strike.specs.declared.report.Unfitted.{Unfitted}
+use Rattle.tt_picture.specs.declared.report.Unfitted.{Unfitted}
 use Rattle.tt_render.specs.Messages.{unfitted_line_of}
 use Rattle.tt_render.specs.Printing.{Errors, Prints, PrintsUnless}
 use Rattle.tt_program_decisions.specs.Telling.{TellsFault, TellsReport, report_lines}

@@ -16,9 +16,10 @@ use Rattle.tt_render.specs.MapLines.{map_wanted}
 use Rattle.tt_render.specs.Outcome.{Traffic}
 use Rattle.tt_render.specs.Run.{run_wanted}
 use Rattle.tt_render.specs.TextOutcome.{FontTextGives, TextTellsDefectsOf, job_by, reader_in}
-use Rattle.tt_strike.specs.Report.{ListsOnce, report_of}
-use Rattle.tt_strike.specs.declared.report.Report.{Report}
-use Rattle.tt_strike.specs.declared.report.Unfitted.{Unfitted}
+use Rattle.tt_picture.specs.Unfitted.{ListsOnce}
+use Rattle.tt_strike.specs.Report.{report_of}
+use Rattle.tt_picture.specs.declared.report.Report.{Report}
+use Rattle.tt_picture.specs.declared.report.Unfitted.{Unfitted}
 use Rattle.tt_program_decisions.specs.declared.request.Request.{Request}
 use Rattle.tt_program_decisions.specs.declared.request.Request.TheVariants.{Map, Draw, Text, Lines}
 use Rattle.tt_program_decisions.specs.declared.request.Words.{Words}

@@ -10,7 +10,7 @@ use Rattle.tt_render.specs.Printing.{Errors, Prints, PrintsNothing}
 use Rattle.tt_render.specs.TextsMessages.{texts_line_of, texts_status_of}
 use Rattle.tt_render.specs.declared.texts_fault.TextsFault.{TextsFault}
 use Rattle.tt_render.specs.declared.texts_fault.TextsFault.TheVariants as texts
-use Rattle.tt_strike.specs.declared.report.Unfitted.{Unfitted}
+use Rattle.tt_picture.specs.declared.report.Unfitted.{Unfitted}
 use Rattle.tt_render.specs.Messages.{line_of, status_of, unfitted_line_of}
 
 -- the status and the line of one fault

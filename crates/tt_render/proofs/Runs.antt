@@ -9,14 +9,15 @@ use Rattle.tt_core.specs.Outcomes.{◌>>=◌}
 use Rattle.tt_fit.specs.Fitting.{Fitter}
 use Rattle.tt_line.specs.Layout.{Placement, placement}
 use Rattle.tt_strike.specs.Costs.{cost_by, line_cost}
-use Rattle.tt_strike.specs.declared.report.Unfitted.{Unfitted}
-use Rattle.tt_strike.specs.Distinct.{distinct}
+use Rattle.tt_picture.specs.declared.report.Unfitted.{Unfitted}
+use Rattle.tt_picture.specs.Distinct.{distinct}
 use Rattle.tt_strike.specs.Work.{line_fitter}
 use Rattle.tt_strike.specs.Job.{Job, tested}
 use Rattle.tt_strike.specs.Picture.{drawn, line_outcome, line_shapes, pictured, pictured_by, setting_in}
-use Rattle.tt_strike.specs.Pixels.{Shape}
+use Rattle.tt_picture.specs.Pixels.{Shape}
 use Rattle.tt_strike.specs.Refusals.{Refused, as_font, as_job, job, large}
-use Rattle.tt_strike.specs.Report.{line_report, report_by, unfitted_among}
+use Rattle.tt_picture.specs.Unfitted.{unfitted_among}
+use Rattle.tt_strike.specs.Report.{line_report, report_by}
 use Rattle.tt_strike.specs.Strikes.{Strike, job_of}
 use Rattle.tt_strike.specs.Tables.{Face, face_of}
 use Rattle.tt_render.specs.declared.setting.Product.{Product}

@@ -25,8 +25,8 @@ use Rattle.tt_render.specs.Reading.{FontReader, FontFails, FontIsBegun, FontIsRe
 use Rattle.tt_render.specs.Reports.{report_text_of}
 use Rattle.tt_render.specs.Settings.{setting_tested, strike_of}
 use Rattle.tt_render.specs.Texts.{TextAnswer, TextRefusal, missing, not_utf8, refused}
-use Rattle.tt_strike.specs.declared.report.Unfitted.{Unfitted}
-use Rattle.tt_strike.specs.Pictures.{IsReady, picture_bytes}
+use Rattle.tt_picture.specs.declared.report.Unfitted.{Unfitted}
+use Rattle.tt_picture.specs.Pictures.{IsReady, picture_bytes}
 use Rattle.tt_strike.specs.Refusals.{Refused, font, job}
 use Rattle.tt_strike.specs.Strikes.{Strike}
 

@@ -7,7 +7,7 @@ use Rattle.tt_core.specs.declared.fault.Why.TheVariants as why
 use Rattle.tt_core.specs.Faults.{Fault, fault_at, why_number, why_name, job_number, job_name}
 use Rattle.tt_render.specs.declared.fault.RunFault.{RunFault}
 use Rattle.tt_render.specs.declared.fault.RunFault.TheVariants as run
-use Rattle.tt_strike.specs.declared.report.Unfitted.{Unfitted}
+use Rattle.tt_picture.specs.declared.report.Unfitted.{Unfitted}
 use Rattle.tt_render.specs.MapLines.{code_point}
 
 abbrev pub status_of : RunFault → ℕ

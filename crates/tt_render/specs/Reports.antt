@@ -3,7 +3,7 @@ use Rattle.std.specs.Prelude.{◌≡◌, refl, ℕ, List, [], ◌∷◌, ◌++�
 use Rattle.std.specs.Fmt.{digits}
 use Rattle.tt_core.specs.declared.fault.Why.TheVariants as why
 use Rattle.tt_core.specs.Faults.{fault_at, why_number, why_name}
-use Rattle.tt_strike.specs.declared.report.Unfitted.{Unfitted}
+use Rattle.tt_picture.specs.declared.report.Unfitted.{Unfitted}
 use Rattle.tt_render.specs.MapLines.{code_point}
 use Rattle.tt_render.specs.Messages.{fault_words}
 use Rattle.tt_render.specs.Texts.{TextAnswer}

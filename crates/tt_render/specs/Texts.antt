@@ -3,7 +3,7 @@ use Rattle.std.specs.Prelude.{◌≡◌, refl, ℕ, List, [], ◌∷◌, chars, 
 use Rattle.tt_cmap.specs.Lacking.{lacking_of}
 use Rattle.tt_cmap.specs.Lookup.{Cmap, by_segments}
 use Rattle.tt_core.specs.Outcomes.{◌>>=◌}
-use Rattle.tt_strike.specs.declared.report.Unfitted.{Unfitted}
+use Rattle.tt_picture.specs.declared.report.Unfitted.{Unfitted}
 use Rattle.tt_strike.specs.Costs.{cost_by}
 use Rattle.tt_strike.specs.Grown.{grown_measured, grown_outcome}
 use Rattle.tt_strike.specs.Measures.{measured}

@@ -8,9 +8,10 @@ ghost use Rattle.tt_line.specs.Layout.{text_glyphs};
 ghost use Rattle.tt_strike.specs.Defects.{IsLineDefect, IsRunDefect, IsFontRefusal, IsLineRefusal, TellsDefects, draw_font_fault, draw_job_fault};
 ghost use Rattle.tt_strike.specs.Job.{job_view, tested, IsJob};
 ghost use Rattle.tt_strike.specs.Picture.{line_outcome, pictured};
-ghost use Rattle.tt_strike.specs.Pictures.{IsReady, picture_bytes};
+ghost use Rattle.tt_picture.specs.Pictures.{IsReady, picture_bytes};
 ghost use Rattle.tt_strike.specs.Refusals.{refusal};
-ghost use Rattle.tt_strike.specs.Report.{report_of, report_by, ListsOnce};
+ghost use Rattle.tt_picture.specs.Unfitted.{ListsOnce};
+ghost use Rattle.tt_strike.specs.Report.{report_of, report_by};
 ghost use Rattle.tt_strike.specs.Tables.{face_of};
 
 use std::alloc::Global;

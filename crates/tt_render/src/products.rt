@@ -10,7 +10,7 @@ ghost use Rattle.tt_render.specs.Texts.{as_text, product_of};
 ghost use Rattle.tt_strike.specs.Costs.{cost_by};
 ghost use Rattle.tt_strike.specs.Defects.{IsLineDefect, TellsDefects};
 ghost use Rattle.tt_strike.specs.Measures.{measure_view};
-ghost use Rattle.tt_strike.specs.Pictures.{IsReady, picture_bytes};
+ghost use Rattle.tt_picture.specs.Pictures.{IsReady, picture_bytes};
 ghost use Rattle.tt_strike.specs.Report.{report_by};
 ghost use Rattle.tt_strike.specs.Strikes.{job_of};
 

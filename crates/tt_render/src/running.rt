@@ -7,7 +7,8 @@ ghost use Rattle.tt_strike.specs.Defects.{IsRunDefect};
 ghost use Rattle.tt_render.specs.Defects.{IsJobRefusal, TellsDefectsOf};
 ghost use Rattle.tt_render.specs.Outcome.{CallGives, IfJob, IfLarge, traffic_of};
 ghost use Rattle.tt_render.specs.Run.{run_wanted};
-ghost use Rattle.tt_strike.specs.Report.{report_of, ListsOnce};
+ghost use Rattle.tt_picture.specs.Unfitted.{ListsOnce};
+ghost use Rattle.tt_strike.specs.Report.{report_of};
 
 use crate::drawing::{Drawn, draw};
 use crate::fault::RunFault;

@@ -4,7 +4,7 @@ ghost use Rattle.std.specs.Prelude.{◌≡◌, ◌+◌, ◌*◌, ◌^◌, ◌<�
 ghost use Rattle.std.specs.Io.KnownBytes.{Appends};
 ghost use Rattle.tt_core.specs.Bits.{stride};
 ghost use Rattle.tt_render.specs.LinesOutcome.{CanGoOut, bytes_in};
-ghost use Rattle.tt_strike.specs.Pictures.{IsReady, picture_bytes, row_at};
+ghost use Rattle.tt_picture.specs.Pictures.{IsReady, picture_bytes, row_at};
 
 use crate::drawing::Drawn;
 use crate::products::Output;

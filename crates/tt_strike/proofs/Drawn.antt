@@ -13,8 +13,8 @@ use Rattle.tt_fit.specs.Fitting.{Fitter, fitted_outline}
 use Rattle.tt_fit_outline.specs.Outline.{Outline}
 use Rattle.tt_fit.proofs.Standing.{faults-stand, outlines-whole}
 use Rattle.tt_strike.specs.Defects.{IsGlyphDefect}
-use Rattle.tt_strike.specs.Picture.{glyph_shape}
-use Rattle.tt_strike.specs.Pixels.{Shape}
+use Rattle.tt_picture.specs.Shapes.{glyph_shape}
+use Rattle.tt_picture.specs.Pixels.{Shape}
 
 -- a glyph that fails has no outline, and one that is made has one
 glyph-failed : (maker : ℕ → Fitter) (g : ℕ × ℕ) (e : Fault) → glyph_shape maker g ≡ Err e → fitted_outline (maker g.0) g.0 ≡ Err e

@@ -10,29 +10,31 @@ use Rattle.tt_fit_outline.specs.Outline.{Outline}
 use Rattle.tt_line.specs.Layout.{Placement}
 use Rattle.tt_scan_edges.specs.declared.edge.Frame.{Frame}
 use Rattle.tt_scan_ink.specs.declared.ink.GlyphInk.{GlyphInk}
-use Rattle.tt_strike.specs.Work.{line_fitter}
+use Rattle.tt_strike.specs.Work.{line_fitter, work_left}
 use Rattle.tt_strike.specs.Costs.{cost_of, line_cost}
-use Rattle.tt_strike.specs.Glyphs.{AreDrawn, Glyph, numbers_of}
+use Rattle.tt_picture.specs.Glyphs.{AreDrawn, Glyph, numbers_of}
 use Rattle.tt_strike.specs.Grown.{grown, grown_line, lacking, not_large, with_sides}
-use Rattle.tt_strike.specs.Ink.{glyph_ink}
+use Rattle.tt_picture.specs.Ink.{glyph_ink}
 use Rattle.tt_strike.specs.Job.{Job}
 use Rattle.tt_strike.specs.Made.{AreMade, shapes_made}
 use Rattle.tt_strike.specs.Measures.{Measure, character_at, ink_of, line_ink, measure_by, measured_line}
-use Rattle.tt_strike.specs.Picture.{crossings_tested, drawn, frame_of, glyph_shape, picture, points_tested, setting_in, shape_at, shapes_in}
-use Rattle.tt_strike.specs.Pixels.{Shape}
+use Rattle.tt_picture.specs.Pictures.{picture}
+use Rattle.tt_picture.specs.Shapes.{glyph_shape, shape_at, crossings_in}
+use Rattle.tt_strike.specs.Picture.{crossings_tested, drawn, frame_of, points_tested, setting_in, shapes_in}
+use Rattle.tt_picture.specs.Pixels.{Shape}
 use Rattle.tt_strike.specs.Refusals.{Refused, as_job, job, refusal}
-use Rattle.tt_strike.specs.Report.{ListsOnce, line_report, unfitted_standing}
+use Rattle.tt_picture.specs.Unfitted.{ListsOnce, unfitted_standing}
+use Rattle.tt_strike.specs.Report.{line_report}
 use Rattle.tt_strike.specs.Tables.{Face}
-use Rattle.tt_strike.specs.Work.{crossings_in, work_left}
 use Rattle.tt_strike.specs.declared.fault.DrawFault.{DrawFault}
-use Rattle.tt_strike.specs.declared.ink_box.InkBox.{InkBox}
+use Rattle.tt_picture.specs.declared.ink_box.InkBox.{InkBox}
 use Rattle.tt_strike.specs.declared.measuring.CharacterMeasure.{CharacterMeasure}
-use Rattle.tt_strike.specs.declared.report.Unfitted.{Unfitted}
+use Rattle.tt_picture.specs.declared.report.Unfitted.{Unfitted}
 use Rattle.tt_strike.proofs.Costed.{costed, costed_as_made}
 use Rattle.tt_strike.proofs.Larger.{first_of}
-use Rattle.tt_strike.proofs.Listing.{standing_listed}
+use Rattle.tt_picture.proofs.Listing.{standing_listed}
 use Rattle.tt_strike.proofs.Made.{measured_as_made, reported_as_made}
-use Rattle.tt_strike.proofs.Standings.{counts_from_pen, filling_from_pen}
+use Rattle.tt_picture.proofs.Standings.{counts_from_pen, filling_from_pen}
 use Rattle.tt_strike.proofs.Stopped.{measuring_stops, stops}
 
 -- glyphs moved to the right

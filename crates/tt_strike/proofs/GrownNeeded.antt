@@ -10,10 +10,11 @@ use Rattle.tt_strike.specs.Work.{line_fitter}
 use Rattle.tt_strike.specs.Grown.{before, grown, grown_line, grown_placement, lacking, past, with_sides}
 use Rattle.tt_strike.specs.InkLaws.{AreNeeded, GrownAddsFewest, IsLeast, is_ink}
 use Rattle.tt_strike.specs.Measures.{measured_line}
-use Rattle.tt_strike.specs.Picture.{frame_of, glyph_shape, laid_out}
-use Rattle.tt_strike.specs.Pixels.{Shape}
+use Rattle.tt_picture.specs.Shapes.{glyph_shape}
+use Rattle.tt_strike.specs.Picture.{frame_of, laid_out}
+use Rattle.tt_picture.specs.Pixels.{Shape}
 use Rattle.tt_strike.specs.declared.growing.Sides.{Sides}
-use Rattle.tt_strike.specs.declared.ink_box.InkBox.{InkBox}
+use Rattle.tt_picture.specs.declared.ink_box.InkBox.{InkBox}
 use Rattle.tt_strike.proofs.GrownWhole.{line_ink, moved_black, not_too_large, same_glyphs}
 use Rattle.tt_strike.proofs.InkHeld.{BoxLaws, least_box, line_held, seen, shapes_black}
 use Rattle.tt_strike.proofs.Whole.{of-job}

@@ -3,17 +3,18 @@ use Rattle.std.proofs.Common.{◌≡◌, ◌∙◌, refl, ap, sym, ℕ, List, ma
 use Rattle.tt_core.specs.Outcomes.{◌>>=◌}
 use Rattle.tt_fit.specs.Fitting.{Fitter}
 use Rattle.tt_line.specs.Layout.{Placement}
-use Rattle.tt_strike.specs.Distinct.{distinct}
+use Rattle.tt_picture.specs.Distinct.{distinct}
 use Rattle.tt_strike.specs.Enlarged.{drawn_grown}
 use Rattle.tt_strike.specs.Grown.{grown_line, grown_outcome, grown_placement}
 use Rattle.tt_strike.specs.Job.{Job}
 use Rattle.tt_strike.specs.Picture.{laid_out, line_shapes, setting_in}
-use Rattle.tt_strike.specs.Pixels.{Shape}
+use Rattle.tt_picture.specs.Pixels.{Shape}
 use Rattle.tt_strike.specs.Refusals.{Refused, as_font}
-use Rattle.tt_strike.specs.Report.{line_report, unfitted_among}
+use Rattle.tt_picture.specs.Unfitted.{unfitted_among}
+use Rattle.tt_strike.specs.Report.{line_report}
 use Rattle.tt_strike.specs.Tables.{Face}
 use Rattle.tt_strike.specs.Work.{line_fitter}
-use Rattle.tt_strike.specs.declared.report.Unfitted.{Unfitted}
+use Rattle.tt_picture.specs.declared.report.Unfitted.{Unfitted}
 
 -- the line of a laid-out text is enlarged, and drawn
 pub placed_as_laid : (face : Face) (a : Job) (l : Placement) → laid_out face a ≡ Ok l

@@ -14,8 +14,9 @@ use Rattle.tt_strike.specs.Work.{line_fitter}
 use Rattle.tt_strike.specs.Grown.{before, grown, grown_line, grown_placement, lacking, not_large, past, with_sides}
 use Rattle.tt_strike.specs.InkLaws.{GrownCutsNone, IsLeast, IsInPicture, line_of}
 use Rattle.tt_strike.specs.Measures.{measured_line}
-use Rattle.tt_strike.specs.Picture.{frame_of, glyph_shape, laid_out}
-use Rattle.tt_strike.specs.declared.ink_box.InkBox.{InkBox}
+use Rattle.tt_picture.specs.Shapes.{glyph_shape}
+use Rattle.tt_strike.specs.Picture.{frame_of, laid_out}
+use Rattle.tt_picture.specs.declared.ink_box.InkBox.{InkBox}
 use Rattle.tt_strike.proofs.InkHeld.{BoxLaws, glyph_black, least_box, line_black, line_held, seen, shapes_black}
 use Rattle.tt_strike.proofs.Whole.{of-job}
 

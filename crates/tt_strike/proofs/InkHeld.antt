@@ -25,19 +25,20 @@ use Rattle.tt_scan_ink.specs.Least.{IsInk, IsLeastBox}
 use Rattle.tt_scan_ink.specs.declared.ink.GlyphInk.{GlyphInk}
 use Rattle.tt_scan_ink.proofs.Together.{ink_alike, joined_is}
 use Rattle.tt_strike.specs.Work.{line_fitter}
-use Rattle.tt_strike.specs.Ink.{all_joined, box_at, column_of, filled_ink, glyph_ink, ink_at, ink_by, joined, outline_ink, row_of}
+use Rattle.tt_picture.specs.Ink.{all_joined, box_at, column_of, filled_ink, glyph_ink, ink_at, ink_by, joined, outline_ink, row_of}
 use Rattle.tt_strike.specs.InkLaws.{InkIsDrawn, IsBoxOf, IsLeast, MeasureHoldsInk, is_ink, line_of, some_dropout}
 use Rattle.tt_strike.specs.Job.{Job}
 use Rattle.tt_strike.specs.Measures.{Measure, character_at, line_ink, measure_by, measured_line}
-use Rattle.tt_strike.specs.Picture.{contours_of, edges_at, filled_by, frame_of, glyph_shape, line_shapes, origin_of, setting_in}
-use Rattle.tt_strike.specs.Pixels.{Shape, is_filled, some_black, some_filled}
+use Rattle.tt_picture.specs.Shapes.{contours_of, edges_at, filled_by, glyph_shape, origin_of}
+use Rattle.tt_strike.specs.Picture.{frame_of, line_shapes, setting_in}
+use Rattle.tt_picture.specs.Pixels.{Shape, is_filled, some_black, some_filled}
 use Rattle.tt_strike.specs.Refusals.{as_font}
 use Rattle.tt_strike.specs.Tables.{Face}
-use Rattle.tt_strike.specs.declared.ink_box.InkBox.{InkBox}
+use Rattle.tt_picture.specs.declared.ink_box.InkBox.{InkBox}
 use Rattle.tt_strike.specs.declared.measuring.CharacterMeasure.{CharacterMeasure}
-use Rattle.tt_strike.proofs.Blackened.{or_false, or_or}
+use Rattle.tt_picture.proofs.Blackened.{or_false, or_or}
 use Rattle.tt_strike.proofs.Larger.{first_of}
-use Rattle.tt_strike.proofs.Standings.{contours_at_pen, from_pen}
+use Rattle.tt_picture.proofs.Standings.{contours_at_pen, from_pen}
 use Rattle.tt_strike.proofs.Whole.{of-font}
 
 -- the laws of the crates below about boxes and contours

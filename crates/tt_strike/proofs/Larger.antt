@@ -12,9 +12,10 @@ use Rattle.tt_scan_dropouts.specs.Pictures.{column_at, line_at}
 use Rattle.tt_scan_dropouts.specs.declared.mark.Rules.{Rules}
 use Rattle.tt_strike.specs.Grown.{with_sides}
 use Rattle.tt_strike.specs.Laws.{SidesMove}
-use Rattle.tt_strike.specs.Picture.{contours_of, edges_at, frame_of, glyph_shape, shape_at}
-use Rattle.tt_strike.specs.Pixels.{Shape, is_filled, some_black, some_filled}
-use Rattle.tt_strike.proofs.Standings.{filled_from_pen, from_pen}
+use Rattle.tt_picture.specs.Shapes.{contours_of, edges_at, glyph_shape, shape_at}
+use Rattle.tt_strike.specs.Picture.{frame_of}
+use Rattle.tt_picture.specs.Pixels.{Shape, is_filled, some_black, some_filled}
+use Rattle.tt_picture.proofs.Standings.{filled_from_pen, from_pen}
 
 -- one glyph, in a frame with m more rows above
 one_black : (m : ℕ) (o : Outline) (pen left c : ℕ) (y : ℤ)

@@ -1,15 +1,5 @@
 mod Drawn
-mod Blackened
 mod Telling
-mod Keeping
-mod Pens
-pub mod Places
-mod Standings
-mod Seats
-mod Turns
-mod Crossed
-mod Filled
-mod Alike
 mod Beside
 mod InkHeld
 mod GrownWhole
@@ -18,19 +8,15 @@ mod Unfilled
 mod Listing
 mod Whole
 mod Stopped
-mod FirstMet
 mod Setting
-mod Kept
+mod Caches
+mod Textless
 mod Made
-mod Among
 mod GrownMeasures
 mod GrownStops
 mod Larger
-mod Reframed
 mod Enlarged
 mod Agreeing
 mod SidesRefuse
-mod RowsCut
 mod Costed
-mod RowsNeeded
 mod Needed

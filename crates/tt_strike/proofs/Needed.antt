@@ -17,15 +17,16 @@ use Rattle.tt_scan_edges.specs.declared.edge.Edge.{Edge}
 use Rattle.tt_scan_edges.specs.declared.edge.Frame.{Frame}
 use Rattle.tt_scan_dropouts.specs.Counted.{edges_counted}
 use Rattle.tt_scan_dropouts.proofs.Counts.{rows_are_counted}
-use Rattle.tt_strike.specs.Distinct.{distinct, distinct_after, is_among, with_glyph}
-use Rattle.tt_strike.specs.Glyphs.{Body, tape, raster, AreDrawn, Glyph, IsBodyOf, IsDrawn, drawn_of, edges_cut, numbers_of}
+use Rattle.tt_picture.specs.Distinct.{distinct, distinct_after, is_among, with_glyph}
+use Rattle.tt_picture.specs.Glyphs.{Body, tape, raster, AreDrawn, Glyph, IsBodyOf, IsDrawn, drawn_of, edges_cut, numbers_of}
 use Rattle.tt_strike.specs.Job.{Job}
-use Rattle.tt_strike.specs.Picture.{crossings_tested, edges_at, glyph_shape, shape_at, shapes_in}
-use Rattle.tt_strike.specs.Pictures.{rows_crossings}
-use Rattle.tt_strike.specs.Pixels.{Shape, crossings_up_to, cut_from}
-use Rattle.tt_strike.specs.Work.{crossings_allowed, crossings_in, is_bounded, line_fitter, work_left, work_tested}
-use Rattle.tt_strike.proofs.RowsNeeded.{no_edge_crossed}
-use Rattle.tt_strike.proofs.Standings.{counts_from_pen}
+use Rattle.tt_picture.specs.Shapes.{edges_at, glyph_shape, shape_at, crossings_in}
+use Rattle.tt_strike.specs.Picture.{crossings_tested, shapes_in}
+use Rattle.tt_picture.specs.Pictures.{rows_crossings}
+use Rattle.tt_picture.specs.Pixels.{Shape, crossings_up_to, cut_from}
+use Rattle.tt_strike.specs.Work.{crossings_allowed, is_bounded, line_fitter, work_left, work_tested}
+use Rattle.tt_picture.proofs.RowsNeeded.{no_edge_crossed}
+use Rattle.tt_picture.proofs.Standings.{counts_from_pen}
 
 -- a sum over distinct glyphs is at most the sum over all
 
@@ -96,20 +97,20 @@ body_needs : (f : Frame) (count : List Edge → ℕ) (body : Body) (es : List Ed
 body_needs f count (tape t) es most is = rw is (most es)
 body_needs f count (raster k) es most is = let none : crossings_of f [] ≡ 0 = no_edge_crossed f f.height in omega (arith, none)
 
-one_needs : {keeps : Bool} (f : Frame) (count : List Edge → ℕ) (s : Fitter) (g : Glyph)
-    → ((those : List Edge) → crossings_of f those ≤ count those) → IsDrawn keeps s f g
+one_needs : {cached : Bool} (f : Frame) (count : List Edge → ℕ) (s : Fitter) (g : Glyph)
+    → ((those : List Edge) → crossings_of f those ≤ count those) → IsDrawn cached s f g
     → crossings_of f (cut_from (drawn_of g.body)) ≤ outline_count count (fitted_outline s g.number)
 one_needs f count s g most drawn = rw drawn.outline (body_needs f count g.body (edges_at 0 drawn.shape) most drawn.body)
 
-glyphs_need : {keeps : Bool} (f : Frame) (count : List Edge → ℕ) (maker : ℕ → Fitter) (gs : List Glyph)
-    → ((those : List Edge) → crossings_of f those ≤ count those) → AreDrawn keeps maker f gs
+glyphs_need : {cached : Bool} (f : Frame) (count : List Edge → ℕ) (maker : ℕ → Fitter) (gs : List Glyph)
+    → ((those : List Edge) → crossings_of f those ≤ count those) → AreDrawn cached maker f gs
     → rows_crossings f f.height (edges_cut gs) ≤ summed (glyph_count count maker) (numbers_of gs)
 glyphs_need f count maker [] most drawn = omega arith
-glyphs_need {keeps} f count maker (g ∷ gs) most drawn =
-    let P : Glyph → Type 0 = λ g. IsDrawn keeps (maker g.number) f g in
+glyphs_need {cached} f count maker (g ∷ gs) most drawn =
+    let P : Glyph → Type 0 = λ g. IsDrawn cached (maker g.number) f g in
     let one : crossings_up_to f f.height (cut_from (drawn_of g.body)) ≤ glyph_count count maker g.number =
-    one_needs {keeps = keeps} f count (maker g.number) g most (All-head P g gs drawn) in
-    let rest = glyphs_need {keeps = keeps} f count maker gs most (All-tail P g gs drawn) in
+    one_needs {cached = cached} f count (maker g.number) g most (All-head P g gs drawn) in
+    let rest = glyphs_need {cached = cached} f count maker gs most (All-tail P g gs drawn) in
     omega (arith, one, rest)
 
 -- a work that was tested is within its limit
@@ -130,16 +131,16 @@ allowed_few : (left : Option ℕ) → crossings_allowed left ≤ crossing_limit
 allowed_few None = omega arith
 allowed_few (Some left) = omega arith
 
-pub tested_crossings : {keeps : Bool} (a : Job) (l : Placement) (s : Fitter) (f : Frame) (gs : List Glyph)
-    (shapes : List Shape) → AreDrawn keeps (line_fitter s (map (λ g. g.0) l.glyphs)) f gs
+pub tested_crossings : {cached : Bool} (a : Job) (l : Placement) (s : Fitter) (f : Frame) (gs : List Glyph)
+    (shapes : List Shape) → AreDrawn cached (line_fitter s (map (λ g. g.0) l.glyphs)) f gs
     → numbers_of gs ≡ distinct (map (λ g. g.0) l.glyphs) → shapes_in s l ≡ Ok shapes
     → crossings_tested s a l shapes ≡ Ok tt → is_bounded a.fit ≡ true
     → rows_crossings f f.height (edges_cut gs) ≤ crossing_limit
-tested_crossings {keeps} a l s f gs shapes drawn each_once made seldom bounded =
+tested_crossings {cached} a l s f gs shapes drawn each_once made seldom bounded =
     let numbers = map (λ (g : ℕ × ℕ). g.0) l.glyphs in
     let maker = line_fitter s numbers in
     let count = edges_counted in
-    let needed = glyphs_need {keeps = keeps} f count maker gs (λ those. rows_are_counted f those) drawn in
+    let needed = glyphs_need {cached = cached} f count maker gs (λ those. rows_are_counted f those) drawn in
     let least : summed (glyph_count count maker) (distinct numbers) ≤ 0 + summed (glyph_count count maker) numbers =
     distinct_few (glyph_count count maker) [] numbers in
     let few : summed (glyph_count count maker) (numbers_of gs) ≤ summed (glyph_count count maker) numbers =

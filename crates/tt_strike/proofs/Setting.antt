@@ -1,13 +1,14 @@
 -- Every fit but Best leaves the fitter unchanged.
-use Rattle.std.proofs.Common.{◌≡◌, ◌≢◌, ◌∙◌, ℕ, ◌*◌, Bool, true, false, List, [], ◌∷◌, Option, None, Ok, ap, refl}
-use Rattle.tt_fit.specs.Fitting.{Fitter, charged_fitter, work_less}
+use Rattle.std.proofs.Common.{◌≡◌, ◌≢◌, ◌∙◌, ℕ, ◌*◌, Bool, true, false, List, Option, None, Ok, ap, refl}
+use Rattle.tt_fit.specs.Fitting.{Fitter}
 use Rattle.tt_fit.specs.Laws.{OthersAreUnbounded, UnboundedStays}
 use Rattle.tt_fit.specs.Preparation.{ProgramTables, fitter_of}
 use Rattle.tt_fit.specs.declared.programs.Fit.{Fit}
 use Rattle.tt_fit.specs.declared.programs.Fit.TheVariants as fit
 use Rattle.tt_glyf.specs.Loca.{Glyf}
 use Rattle.tt_metrics.specs.Metrics.{Metrics}
-use Rattle.tt_strike.specs.Distinct.{distinct, fitter_after}
+use Rattle.tt_picture.specs.Distinct.{distinct, fitter_after}
+use Rattle.tt_picture.proofs.Unbounded.{uncharged, unchanged}
 use Rattle.tt_strike.specs.Makers.{IsMaker, IsSetting}
 use Rattle.tt_strike.specs.Tables.{Face}
 use Rattle.tt_strike.specs.Work.{crossings_allowed, is_bounded, point_work, points_in, started, work_left}
@@ -20,16 +21,6 @@ not_best how other is = absurd (let wrong = rw is at other in cc)
 pub unbounded : OthersAreUnbounded → (m : Metrics) (tables : Glyf) (programs : ProgramTables) (ppem : ℕ) (how : Fit)
     (s : Fitter) → fitter_of m tables programs ppem how ≡ Ok s → is_bounded how ≡ false → s.work ≡ None
 unbounded law m tables programs ppem how s made other = (law m tables programs ppem how s (not_best how other) made).0
-
-pub unchanged : UnboundedStays → (s : Fitter) (gs : List ℕ) → s.work ≡ None → fitter_after s gs ≡ s
-unchanged stays s [] none = refl
-unchanged stays s (g ∷ gs) none = rw (stays s g none).1 (unchanged stays s gs none)
-
--- no cost changes unbounded work
-pub uncharged : (s : Fitter) (cost : ℕ) → s.work ≡ None → charged_fitter s cost ≡ s
-uncharged s cost none =
-    let same : work_less cost s.work ≡ s.work = rw none refl in
-    ap (λ (w : Option ℕ). record s { work = w }) same
 
 -- a fitter with unbounded work is unchanged after a cost and some glyphs
 pub unspent : UnboundedStays → (s t u : Fitter) (gs numbers : List ℕ) → t ≡ started s gs → u ≡ fitter_after t numbers

@@ -13,15 +13,17 @@ use Rattle.tt_strike.specs.Grown.{grown, grown_line, grown_outcome, grown_placem
 use Rattle.tt_strike.specs.Job.{Job}
 use Rattle.tt_strike.specs.Laws.{GrownRefusals, SidesRefuseNothing}
 use Rattle.tt_strike.specs.Measures.{Measure, measured_line}
-use Rattle.tt_strike.specs.Picture.{drawn, frame_of, glyph_shape, laid_out, line_shapes, picture, points_tested, setting_in, shape_at}
-use Rattle.tt_strike.specs.Pixels.{Shape}
+use Rattle.tt_picture.specs.Pictures.{picture}
+use Rattle.tt_picture.specs.Shapes.{glyph_shape, shape_at, crossings_in}
+use Rattle.tt_strike.specs.Picture.{drawn, frame_of, laid_out, line_shapes, points_tested, setting_in}
+use Rattle.tt_picture.specs.Pixels.{Shape}
 use Rattle.tt_strike.specs.Refusals.{Refused, as_font, as_job, job}
 use Rattle.tt_strike.specs.Tables.{Face}
-use Rattle.tt_strike.specs.Work.{crossings_allowed, crossings_in, line_fitter, work_left, work_tested}
+use Rattle.tt_strike.specs.Work.{crossings_allowed, line_fitter, work_left, work_tested}
 use Rattle.tt_strike.specs.declared.growing.Sides.{Sides}
-use Rattle.tt_strike.specs.declared.ink_box.InkBox.{InkBox}
+use Rattle.tt_picture.specs.declared.ink_box.InkBox.{InkBox}
 use Rattle.tt_strike.proofs.Agreeing.{measured_so_drawn}
-use Rattle.tt_strike.proofs.Standings.{counts_from_pen, filling_from_pen}
+use Rattle.tt_picture.proofs.Standings.{counts_from_pen, filling_from_pen}
 use Rattle.tt_strike.proofs.Stopped.{line_as_laid}
 
 -- neither of two results is an error, or both are the same

@@ -25,8 +25,9 @@ use Rattle.tt_strike.specs.declared.fault.DrawFault.TheVariants as draw
 use Rattle.tt_strike.specs.Grown.{grown_outcome, grown_placement}
 use Rattle.tt_strike.specs.Made.{shapes_made}
 use Rattle.tt_strike.specs.Measures.{measured, measured_line}
-use Rattle.tt_strike.specs.Pixels.{Shape}
-use Rattle.tt_strike.specs.Work.{crossings_allowed, crossings_in, is_bounded, points_in, work_left, work_tested}
+use Rattle.tt_picture.specs.Pixels.{Shape}
+use Rattle.tt_picture.specs.Shapes.{crossings_in}
+use Rattle.tt_strike.specs.Work.{crossings_allowed, is_bounded, points_in, work_left, work_tested}
 use Rattle.tt_strike.specs.Views.{draw_fault_of_font, draw_fault_of_line}
 
 pub laying_stops : (a : Job) (face : Face) (e : LineFault) → tested a ≡ Ok tt

@@ -18,8 +18,9 @@ use Rattle.tt_strike.specs.Job.{Job}
 use Rattle.tt_strike.specs.Defects.{IsFaceDefect, IsGlyphTableDefect, IsProgramTableDefect, IsSettingDefect, IsGlyphDefect, IsLineDefect, IsRunDefect}
 use Rattle.tt_strike.specs.Work.{line_fitter}
 use Rattle.tt_strike.specs.Tables.{Face, face_of, programs_in}
-use Rattle.tt_strike.specs.Picture.{setting_in, glyph_shape}
-use Rattle.tt_strike.specs.Pixels.{Shape}
+use Rattle.tt_picture.specs.Shapes.{glyph_shape}
+use Rattle.tt_strike.specs.Picture.{setting_in}
+use Rattle.tt_picture.specs.Pixels.{Shape}
 use Rattle.tt_strike.proofs.Drawn.{defect_of_line, no_defect_of_line}
 
 pub no_glyph_table_defect : {X : Type 0} (r : Result X Fault) (directory : List ℕ) (m : Metrics)

@@ -13,15 +13,17 @@ use Rattle.tt_line.specs.Layout.{Placement, placement}
 use Rattle.tt_pbm.specs.P4.{p4_header_of}
 use Rattle.tt_scan_edges.specs.declared.edge.Frame.{Frame}
 use Rattle.tt_scan_edges.specs.Winding.{column_x, row_y}
-use Rattle.tt_strike.specs.Distinct.{distinct, fitter_for}
+use Rattle.tt_picture.specs.Distinct.{distinct, fitter_for}
 use Rattle.tt_strike.specs.Job.{Job}
 use Rattle.tt_strike.specs.Laws.{AreUnfilled, OthersFillNone, IsByEdges, OthersDrawByEdges, edges_picture}
 use Rattle.tt_strike.specs.Refusals.{as_font, as_job}
-use Rattle.tt_strike.specs.Picture.{setting, setting_in, shape_at, glyph_shape, frame_of, picture, shapes_in, points_tested, crossings_tested, line_shapes, drawn, pictured, pictured_by}
-use Rattle.tt_strike.specs.Pixels.{Shape, is_black_pixel, some_black}
+use Rattle.tt_picture.specs.Pictures.{picture}
+use Rattle.tt_picture.specs.Shapes.{shape_at, glyph_shape}
+use Rattle.tt_strike.specs.Picture.{setting, setting_in, frame_of, shapes_in, points_tested, crossings_tested, line_shapes, drawn, pictured, pictured_by}
+use Rattle.tt_picture.specs.Pixels.{Shape, is_black_pixel, some_black}
 use Rattle.tt_strike.specs.Tables.{Face, face_of, glyphs_in, programs_in}
 use Rattle.tt_strike.specs.Work.{line_fitter, started}
-use Rattle.tt_strike.proofs.Alike.{rows_alike}
+use Rattle.tt_picture.proofs.Alike.{rows_alike}
 use Rattle.tt_strike.proofs.Beside.{unfilled_are_edges}
 use Rattle.tt_strike.proofs.Whole.{of-font, of-job}
 

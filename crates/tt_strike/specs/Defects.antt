@@ -21,7 +21,8 @@ use Rattle.tt_strike.specs.declared.fault.DrawFault.TheVariants as draw
 use Rattle.tt_strike.specs.Tables.{Face, face_of, cmap_tag, cvt_tag, fpgm_tag, prep_tag, programs_in}
 use Rattle.tt_strike.specs.Refusals.{needs_font}
 use Rattle.tt_strike.specs.Picture.{setting_in, shapes_in}
-use Rattle.tt_strike.specs.Work.{crossings_allowed, crossings_in, is_bounded, line_fitter, points_in, work_left}
+use Rattle.tt_picture.specs.Shapes.{crossings_in}
+use Rattle.tt_strike.specs.Work.{crossings_allowed, is_bounded, line_fitter, points_in, work_left}
 
 -- a defect of the directory, or of a table needed for every text
 abbrev pub IsFaceDefect : List ℕ → Fault → Type 0

@@ -4,7 +4,7 @@ use Rattle.tt_core.specs.Outcomes.{◌>>=◌}
 use Rattle.tt_line.specs.Layout.{Placement}
 use Rattle.tt_scan_ink.specs.declared.ink.GlyphInk.{GlyphInk}
 use Rattle.tt_scan_ink.specs.Least.{IsNear}
-use Rattle.tt_strike.specs.Glyphs.{Glyph, ink_standing}
+use Rattle.tt_picture.specs.Glyphs.{Glyph, ink_standing}
 use Rattle.tt_strike.specs.Grown.{grown_line}
 use Rattle.tt_strike.specs.Job.{Job}
 use Rattle.tt_strike.specs.Made.{AreMade}

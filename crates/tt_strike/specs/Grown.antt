@@ -11,7 +11,7 @@ use Rattle.tt_strike.specs.Picture.{drawn, laid_out}
 use Rattle.tt_strike.specs.Refusals.{Refused, as_job}
 use Rattle.tt_strike.specs.Tables.{Face}
 use Rattle.tt_strike.specs.declared.growing.Sides.{Sides}
-use Rattle.tt_strike.specs.declared.ink_box.InkBox.{InkBox}
+use Rattle.tt_picture.specs.declared.ink_box.InkBox.{InkBox}
 
 -- how many columns or rows a place lies before the first, and past the last of this many
 abbrev pub before : ℤ → ℕ

@@ -11,11 +11,11 @@ use Rattle.tt_strike.specs.Grown.{grown_measured, grown_outcome, grown_placement
 use Rattle.tt_strike.specs.Job.{Job}
 use Rattle.tt_strike.specs.Measures.{Measure, measured_line}
 use Rattle.tt_strike.specs.Picture.{frame_of, laid_out, setting_in, shapes_in}
-use Rattle.tt_strike.specs.Pixels.{Shape, is_black_pixel, is_filled, some_black}
+use Rattle.tt_picture.specs.Pixels.{Shape, is_black_pixel, is_filled, some_black}
 use Rattle.tt_strike.specs.Refusals.{Refused}
 use Rattle.tt_strike.specs.Tables.{Face}
 use Rattle.tt_strike.specs.declared.growing.Sides.{Sides}
-use Rattle.tt_strike.specs.declared.ink_box.InkBox.{InkBox}
+use Rattle.tt_picture.specs.declared.ink_box.InkBox.{InkBox}
 
 -- a row's line, counted upwards from the base line
 abbrev pub line_of : Frame → ℤ → ℤ

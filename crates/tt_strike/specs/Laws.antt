@@ -15,15 +15,17 @@ use Rattle.tt_scan_edges.specs.declared.edge.Frame.{Frame}
 use Rattle.tt_scan_edges.specs.Winding.{column_x, row_y}
 use Rattle.tt_scan_dropouts.specs.declared.mark.Rules.{Rules}
 use Rattle.tt_strike.specs.Job.{Job}
-use Rattle.tt_strike.specs.declared.report.Unfitted.{Unfitted}
+use Rattle.tt_picture.specs.declared.report.Unfitted.{Unfitted}
 use Rattle.tt_strike.specs.Defects.{IsFaceDefect, IsRunDefect}
 use Rattle.tt_strike.specs.Grown.{grown_outcome, with_sides}
 use Rattle.tt_strike.specs.declared.growing.Sides.{Sides}
 use Rattle.tt_strike.specs.Picture as pictures
-use Rattle.tt_strike.specs.Picture.{setting_in, frame_of, glyph_shape, line_outcome, picture, pictured, shapes_in}
+use Rattle.tt_picture.specs.Pictures.{picture}
+use Rattle.tt_picture.specs.Shapes.{glyph_shape}
+use Rattle.tt_strike.specs.Picture.{setting_in, frame_of, line_outcome, pictured, shapes_in}
 use Rattle.tt_strike.specs.Measures.{measured}
 use Rattle.tt_strike.specs.Refusals.{Refused, job}
-use Rattle.tt_strike.specs.Pixels.{Shape, some_black, is_black_pixel}
+use Rattle.tt_picture.specs.Pixels.{Shape, some_black, is_black_pixel}
 use Rattle.tt_strike.specs.Report.{report_of}
 use Rattle.tt_strike.specs.Tables.{Face, face_of}
 

@@ -7,13 +7,13 @@ use Rattle.tt_line.specs.Layout.{Placement, advance_in_pixels}
 use Rattle.tt_metrics.specs.Metrics.{Metrics}
 use Rattle.tt_scan_edges.specs.declared.edge.Frame.{Frame}
 use Rattle.tt_scan_ink.specs.declared.ink.GlyphInk.{GlyphInk}
-use Rattle.tt_strike.specs.Ink.{all_joined, glyph_ink, ink_at}
+use Rattle.tt_picture.specs.Ink.{all_joined, glyph_ink, ink_at}
 use Rattle.tt_strike.specs.Job.{Job}
 use Rattle.tt_strike.specs.Picture.{frame_of, laid_out, line_shapes, setting_in}
 use Rattle.tt_strike.specs.Refusals.{Refused, as_font}
 use Rattle.tt_strike.specs.Tables.{Face}
 use Rattle.tt_strike.specs.Work.{line_fitter}
-use Rattle.tt_strike.specs.declared.ink_box.InkBox.{InkBox}
+use Rattle.tt_picture.specs.declared.ink_box.InkBox.{InkBox}
 use Rattle.tt_strike.specs.declared.measuring.CharacterMeasure.{CharacterMeasure}
 use Rattle.tt_strike.specs.declared.measuring.Measure as declared
 

@@ -1,27 +1,22 @@
 -- The picture of a line of text: each glyph's outline moved to its pen, blackened by the scan converter's rules
 -- (OpenType, "TrueType Fundamentals"), written as format P4 of Netpbm's PBM. Margins and limits are profile.
-use Rattle.std.specs.Prelude.{ℕ, ◌*◌, ℤ, pos, ◌-ℤ◌, List, map, Option, Some, None, Result, Ok}
-use Rattle.tt_arc.specs.Chords.{chord_contours, chord_edges}
+use Rattle.std.specs.Prelude.{ℕ, List, map, Result, Ok}
 use Rattle.tt_core.specs.declared.fault.JobFault.{JobFault}
 use Rattle.tt_core.specs.Faults.{Fault}
 use Rattle.tt_core.specs.Limits.{point_work_limit}
 use Rattle.tt_core.specs.Outcomes.{◌>>=◌, each}
-use Rattle.tt_fit.specs.Dropouts.{dropouts_of}
-use Rattle.tt_fit.specs.Fitting.{Fitter, fitted_outline, unfitted_fault}
-use Rattle.tt_fit_outline.specs.Outline.{Outline}
+use Rattle.tt_fit.specs.Fitting.{Fitter}
 use Rattle.tt_fit.specs.Preparation.{fitter_of}
-use Rattle.tt_fit.specs.declared.dropouts.DropoutRules.{DropoutRules}
 use Rattle.tt_fit.specs.declared.programs.Fit.{Fit}
 use Rattle.tt_line.specs.Layout.{Placement, placement}
-use Rattle.tt_pbm.specs.P4.{p4}
-use Rattle.tt_scan_edges.specs.declared.edge.Edge.{Edge}
 use Rattle.tt_scan_edges.specs.declared.edge.Frame.{Frame}
-use Rattle.tt_scan_dropouts.specs.declared.mark.Rules.{Rules}
 use Rattle.tt_strike.specs.Job.{Job, tested}
 use Rattle.tt_strike.specs.Refusals.{Refused, as_font, as_job}
-use Rattle.tt_strike.specs.Pixels.{Shape, is_black_pixel}
+use Rattle.tt_picture.specs.Pictures.{picture}
+use Rattle.tt_picture.specs.Pixels.{Shape}
+use Rattle.tt_picture.specs.Shapes.{crossings_in, glyph_shape}
 use Rattle.tt_strike.specs.Tables.{Face, face_of, glyphs_in, programs_in}
-use Rattle.tt_strike.specs.Work.{crossings_allowed, crossings_in, line_fitter, points_in, work_left, work_tested}
+use Rattle.tt_strike.specs.Work.{crossings_allowed, line_fitter, points_in, work_left, work_tested}
 
 -- the fitter: the glyph data, and the state after the font's programs at the size
 unfoldable pub setting : Face → ℕ → Fit → Result Fitter Fault
@@ -33,41 +28,9 @@ setting face ppem how = do
 abbrev pub setting_in : Face → Job → Result Fitter Fault
 setting_in face a = setting face a.ppem a.fit
 
--- the x of the first phantom point, which is placed at the pen
-abbrev pub origin_of : Outline → ℤ
-origin_of o = o.phantom.left.0
-
--- the edges of an outline at a pen; a pixel has 64 units
-abbrev pub edges_at : ℕ → Outline → List Edge
-edges_at pen o = chord_edges o.points o.ends (pos (64 * pen) -ℤ origin_of o) (pos 0)
-
--- the edges contour by contour
-abbrev pub contours_of : ℕ → Outline → List (List Edge)
-contours_of pen o = chord_contours o.points o.ends (pos (64 * pen) -ℤ origin_of o) (pos 0)
-
--- the dropout rules in the scan converter's type
-abbrev pub rules_for : Option DropoutRules → Option Rules
-rules_for None = None
-rules_for (Some rules) = Some (record { stubs = rules.stubs; smart = rules.smart })
-
--- the dropout rules of a character's glyph
-abbrev pub filled_by : Fitter → ℕ → Outline → Option Rules
-filled_by s g o = rules_for (dropouts_of s (unfitted_fault s g) o)
-
--- a glyph at its pen, by its fitter
-abbrev pub shape_at : Fitter → ℕ × ℕ → Outline → Shape
-shape_at s g o = record { edges = edges_at g.1 o; contours = contours_of g.1 o; filled = filled_by s g.0 o }
-
-abbrev pub glyph_shape : (ℕ → Fitter) → ℕ × ℕ → Result Shape Fault
-glyph_shape maker g = fitted_outline (maker g.0) g.0 >>= λ o. Ok (shape_at (maker g.0) g o)
-
 -- the frame of a line's picture
 abbrev pub frame_of : Placement → ℕ → Frame
 frame_of line margin = record { width = line.width; height = line.height; margin = margin; rise = line.rise }
-
--- the file of a picture in which some glyphs are drawn
-abbrev pub picture : Frame → List Shape → List ℕ
-picture f glyphs = p4 f.width f.height (is_black_pixel f glyphs)
 
 -- the glyphs of a laid-out line, made in order
 abbrev pub shapes_in : Fitter → Placement → Result (List Shape) Fault

@@ -1,10 +1,15 @@
 -- No part of the standard: a font at a size, with a fit, its cache's limit in bytes and its cached glyphs with their
 -- numbers, the newest first; and the jobs of its lines.
-use Rattle.std.specs.Prelude.{ℕ, List}
+use Rattle.std.specs.Prelude.{◌≡◌, ℕ, false, List, [], Option, None, Some, Ok, ⊤}
 use Rattle.tt_fit.specs.declared.programs.Fit.{Fit}
+use Rattle.tt_fit.specs.Fitting.{Fitter}
+use Rattle.tt_picture.specs.Cached.{AreCachedFor}
 use Rattle.tt_strike.specs.Job.{Job}
+use Rattle.tt_strike.specs.Picture.{setting}
 use Rattle.tt_strike.specs.Tables.{Face}
+use Rattle.tt_strike.specs.Work.{is_bounded}
 use Rattle.tt_strike_kept.specs.Glyph.{KeptGlyph}
+use Rattle.tt_strike_kept.specs.Kept.{Kept}
 
 pub record Strike : Type 0 where
   pub face : Face
@@ -16,3 +21,27 @@ pub record Strike : Type 0 where
 -- the job of a line
 abbrev pub job_of : Strike → List ℕ → ℕ → Job
 job_of s text margin = record { text = text; ppem = s.ppem; margin = margin; fit = s.fit }
+
+-- a font at a size, with a fit, without its cache
+pub record SizedFace : Type 0 where
+  pub face : Face
+  pub ppem : ℕ
+  pub fit : Fit
+
+abbrev pub job_by : SizedFace → List ℕ → ℕ → Job
+job_by z text margin = record { text = text; ppem = z.ppem; margin = margin; fit = z.fit }
+
+-- the job of a line that is laid out, which does not depend on the text any more
+abbrev pub job_with : SizedFace → ℕ → Job
+job_with z margin = job_by z [] margin
+
+-- a cache for a font at a size, if there is one: lines use up no work, and each glyph equals the one made anew
+abbrev pub IsCacheOf : SizedFace → Option Kept → Type 0
+IsCacheOf z None = ⊤
+IsCacheOf z (Some k) = (is_bounded z.fit ≡ false)
+    × ((s : Fitter) → setting z.face z.ppem z.fit ≡ Ok s → AreCachedFor s k.entries)
+
+-- a new cache of at most this many bytes, if there is one
+abbrev pub IsFresh : Fit → ℕ → Option Kept → Type 0
+IsFresh how most None = ⊤
+IsFresh how most (Some k) = (is_bounded how ≡ false) × (k.entries ≡ []) × (k.most ≡ most)

@@ -4,9 +4,6 @@ use Rattle.tt_core.specs.declared.font_fault.FontFault.TheVariants as font
 use Rattle.tt_line.specs.declared.fault.LineFault.{LineFault}
 use Rattle.tt_line.specs.declared.fault.LineFault.TheVariants as line
 use Rattle.tt_strike.specs.declared.fault.DrawFault.{DrawFault}
-use Rattle.tt_strike.specs.declared.glyph.Body.{Body}
-use Rattle.tt_strike.specs.declared.glyph.Body.TheVariants as body
-use Rattle.tt_strike.specs.Glyphs as glyphs
 use Rattle.tt_strike.specs.declared.fault.DrawFault.TheVariants as draw
 
 -- a font fault that stopped a part of a drawing stops the drawing
@@ -17,8 +14,3 @@ draw_fault_of_font font.Memory = draw.Memory
 abbrev pub draw_fault_of_line : LineFault → DrawFault
 draw_fault_of_line (line.Job j) = draw.Job j
 draw_fault_of_line line.Memory = draw.Memory
-
--- the body of a glyph
-abbrev pub body_view : Body → glyphs.Body
-body_view (body.Tape t) = glyphs.tape t
-body_view (body.Raster k) = glyphs.raster k.value

@@ -1,18 +1,14 @@
 -- No part of the standard: the limits of a job's work (profile). It is bounded only with best.
-use Rattle.std.specs.Prelude.{◌≡◌, refl, ℕ, ◌+◌, ◌*◌, ◌/◌, min, ◌&&◌, nat_lt, Bool, true, false, if◌then◌else◌, List, [], ◌∷◌, Option, Some, None, Result, Ok, Err}
+use Rattle.std.specs.Prelude.{◌≡◌, refl, ℕ, ◌+◌, ◌*◌, ◌/◌, min, ◌&&◌, nat_lt, Bool, true, false, if◌then◌else◌, List, Option, Some, None, Result, Ok, Err}
 use Rattle.std.specs.List.{sum_by}
 use Rattle.tt_core.specs.declared.fault.JobFault.{JobFault}
 use Rattle.tt_core.specs.declared.fault.JobFault.TheVariants as fault
 use Rattle.tt_core.specs.Limits.{crossing_limit}
 use Rattle.tt_fit.specs.Counting.{points_asked}
 use Rattle.tt_fit.specs.Fitting.{Fitter, charged_fitter}
-use Rattle.tt_strike.specs.Distinct.{distinct, each_fitter, fitter_after}
+use Rattle.tt_picture.specs.Distinct.{distinct, each_fitter, fitter_after}
 use Rattle.tt_fit.specs.declared.programs.Fit.{Fit}
 use Rattle.tt_fit.specs.declared.programs.Fit.TheVariants as fit
-use Rattle.tt_scan_edges.specs.declared.edge.Edge.{Edge}
-use Rattle.tt_scan_dropouts.specs.Counted.{edges_counted, filling_counted}
-use Rattle.tt_scan_dropouts.specs.declared.mark.Rules.{Rules}
-use Rattle.tt_strike.specs.Pixels.{Shape}
 
 -- the fits that bound the work of a job
 abbrev pub is_bounded : Fit → Bool
@@ -49,16 +45,6 @@ work_left s gs = (fitter_after (started s gs) (distinct gs)).work
 abbrev pub crossings_allowed : Option ℕ → ℕ
 crossings_allowed None = crossing_limit
 crossings_allowed (Some left) = min crossing_limit (left / 4 + 500000)
-
--- where dropouts are filled, a glyph counts the search for them too
-abbrev pub filling_crossings : Option Rules → List Edge → ℕ
-filling_crossings None edges = 0
-filling_crossings (Some rules) edges = filling_counted edges
-
--- the crossings of some glyphs, each at its pen: of all rows, inside a picture and outside
-abbrev pub crossings_in : List Shape → ℕ
-crossings_in [] = 0
-crossings_in (s ∷ ss) = (edges_counted s.edges + filling_crossings s.filled s.edges) + crossings_in ss
 
 -- worked values: all work remains, some, three, and none
 all_remains : crossings_allowed (Some 100000000) ≡ 16000000

@@ -1,7 +1,7 @@
 //! The distinct glyphs of a line.
 
 ghost use Rattle.std.specs.Prelude.{◌≡◌, ◌<◌, map, All, IfOk};
-ghost use Rattle.tt_strike.specs.Distinct.{distinct};
+ghost use Rattle.tt_picture.specs.Distinct.{distinct};
 
 use std::alloc::{AllocError, Global};
 

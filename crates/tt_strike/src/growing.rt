@@ -2,14 +2,13 @@
 
 ghost use Rattle.std.specs.Prelude.{◌≡◌, ◌+◌, ◌<◌, ◌≤◌, ◌^◌, map, unsigned_abs, All, IfOk, IfErr};
 ghost use Rattle.tt_core.specs.declared.fault.JobFault.TheVariants.{PictureLarge};
-ghost use Rattle.tt_core.specs.Limits.{height_limit, width_limit};
 ghost use Rattle.tt_core.specs.Outcomes.{Gives};
 ghost use Rattle.tt_line.specs.Outcome.{placement_of};
 ghost use Rattle.tt_strike.specs.Grown.{before, grown, lacking, past};
 
-use crate::ink_box::InkBox;
 use tt_core::{HEIGHT_LIMIT, JobFault, WIDTH_LIMIT};
 use tt_line::Line;
+use tt_picture::InkBox;
 
 /// How many columns and rows are added on each side of a picture.
 #[derive(Clone, Copy)]
@@ -78,15 +77,7 @@ fn move_pens(glyphs: &mut [(u16, u32)], right: u32)
 /// A line with the fewest added columns and rows such that this ink is not cut. Error: PictureLarge.
 #[tactic(auto, unfolding(crate::specs::Grown::not_large))]
 pub(crate) fn grown(line: Line, ink: Option<InkBox>) -> Result<Line, JobFault>
-    requires width { (1 ≤ line.width) × (line.width ≤ width_limit) }
-    requires height { (1 ≤ line.height) × (line.height ≤ height_limit) }
-    requires rise { unsigned_abs line.rise ≤ 614400 }
-    requires pens { All (λ g. g.1 ≤ line.width) line.glyphs.items }
     ensures exact { Gives placement_of result (grown (placement_of line) ink) }
-    ensures width { IfOk result (λ l. (1 ≤ l.width) × (l.width ≤ width_limit)) }
-    ensures height { IfOk result (λ l. (1 ≤ l.height) × (l.height ≤ height_limit)) }
-    ensures rise { IfOk result (λ l. unsigned_abs l.rise ≤ 10 ^ 6) }
-    ensures pens { IfOk result (λ l. All (λ g. g.1 ≤ width_limit) l.glyphs.items) }
     ensures glyphs { IfOk result (λ l. map (λ g. g.0) l.glyphs.items ≡ map (λ g. g.0) line.glyphs.items) }
 {
     let Some(ink) = ink else {

@@ -3,33 +3,23 @@
 
 mod distinct;
 mod drawing;
-mod dropouts;
 mod enlarging;
 mod fault;
-mod glyph;
-mod glyphs;
 mod growing;
-mod ink_box;
 mod job;
 pub mod laws;
 mod laying;
 mod maker;
 mod measuring;
-mod painting;
-mod picture;
-mod reframing;
-mod report;
-mod rows;
+mod sized;
 mod strike;
 mod tables;
 mod tested;
 mod work;
 
 pub use fault::DrawFault;
-pub use ink_box::InkBox;
 pub use job::{Job, test_job, test_text};
 pub use measuring::{CharacterMeasure, Measure};
-pub use picture::Picture;
-pub use report::{Report, Unfitted};
 pub use strike::Strike;
 pub use tables::Face;
+pub use tt_picture::{InkBox, Picture, Report, Unfitted};

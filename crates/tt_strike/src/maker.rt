@@ -1,15 +1,14 @@
 //! The fitter of a font at a size, opened when the first line is drawn.
 
-ghost use Rattle.std.specs.Prelude.{◌≡◌, true, false, IfOk};
+ghost use Rattle.std.specs.Prelude.{◌≡◌, ◌≤◌, true, false, IfOk};
+ghost use Rattle.tt_core.specs.Limits.{size_limit};
 ghost use Rattle.tt_core.specs.Outcomes.{FontGives, font_fault};
 ghost use Rattle.tt_strike.specs.Defects.{IsSettingDefect, TellsDefects};
-ghost use Rattle.tt_strike.specs.Job.{job_view, IsJob};
-ghost use Rattle.tt_strike.specs.Makers.{IsMaker, IsSetting};
+ghost use Rattle.tt_strike.specs.Makers.{IsMaker, IsSetting, job_at};
 ghost use Rattle.tt_strike.specs.declared.maker.Maker.TheVariants.{Ready, Refused};
-ghost use Rattle.tt_strike.specs.Picture.{setting_in};
+ghost use Rattle.tt_strike.specs.Picture.{setting};
 ghost use Rattle.tt_strike.specs.Work.{is_bounded};
 
-use crate::job::Job;
 use crate::tables::{Face, open_glyf, open_programs};
 use crate::work::is_bounded;
 use std::alloc::Global;
@@ -27,19 +26,25 @@ pub(crate) enum Maker<'a> {
     Refused(Fault),
 }
 
-/// The fitter of a job. Errors, the first of: those of loca and glyf; TableRange of the control values and the two
-/// programs; those of running the two. Memory may come at any allocation.
+/// The fitter of a font at a size. Errors, the first of: those of loca and glyf; TableRange of the control values and
+/// the two programs; those of running the two. Memory may come at any allocation.
 #[tactic(auto, unfolding(crate::specs::Picture::setting))]
-fn open_fitter<'a>(alloc: Global, face: &Face<'a>, job: &Job) -> Result<Fitter<'a>, FontFault>
-    requires { IsJob (job_view job.now) }
-    ensures exact { FontGives (λ f. f) result (setting_in face.now (job_view job.now)) }
-    ensures setting { IfOk result (IsSetting face.now job.now.ppem job.now.fit) }
-    ensures defects { TellsDefects font_fault (IsSettingDefect face.now (job_view job.now)) result }
+fn open_fitter<'a>(
+    alloc: Global,
+    face: &Face<'a>,
+    ppem: u32,
+    fit: Fit,
+) -> Result<Fitter<'a>, FontFault>
+    requires low { 1 ≤ ppem }
+    requires high { ppem ≤ size_limit }
+    ensures exact { FontGives (λ f. f) result (setting face.now ppem fit) }
+    ensures setting { IfOk result (IsSetting face.now ppem fit) }
+    ensures defects { TellsDefects font_fault (IsSettingDefect face.now (job_at ppem fit)) result }
 {
     tt_fit::laws::work_unfits();
     let glyf = open_glyf(face)?;
-    let programs = open_programs(face, job.fit)?;
-    Ok(Fitter::new(alloc, face.metrics(), glyf, programs, job.ppem, job.fit)?)
+    let programs = open_programs(face, fit)?;
+    Ok(Fitter::new(alloc, face.metrics(), glyf, programs, ppem, fit)?)
 }
 
 impl<'a> Maker<'a> {
@@ -50,20 +55,22 @@ impl<'a> Maker<'a> {
         *self = Maker::Refused(fault);
     }
 
-    /// Takes the fitter of a job out, and opens it first if it is missing. Errors: as `open_fitter`. A defect of the
-    /// font is recorded.
+    /// Takes the fitter of a font at a size out, and opens it first if it is missing. Errors: as `open_fitter`. A
+    /// defect of the font is recorded.
     pub(crate) fn take(
         &mut self,
         alloc: Global,
         face: &Face<'a>,
-        job: &Job,
+        ppem: u32,
+        fit: Fit,
     ) -> Result<Fitter<'a>, FontFault>
-        requires asked { IsJob (job_view job.now) }
-        requires maker { IsMaker face.now job.now.ppem job.now.fit self.old }
-        ensures exact { FontGives (λ f. f) result (setting_in face.now (job_view job.now)) }
-        ensures setting { IfOk result (IsSetting face.now job.now.ppem job.now.fit) }
-        ensures defects { TellsDefects font_fault (IsSettingDefect face.now (job_view job.now)) result }
-        ensures maker { IsMaker face.now job.now.ppem job.now.fit self.new }
+        requires low { 1 ≤ ppem }
+        requires high { ppem ≤ size_limit }
+        requires maker { IsMaker face.now ppem fit self.old }
+        ensures exact { FontGives (λ f. f) result (setting face.now ppem fit) }
+        ensures setting { IfOk result (IsSetting face.now ppem fit) }
+        ensures defects { TellsDefects font_fault (IsSettingDefect face.now (job_at ppem fit)) result }
+        ensures maker { IsMaker face.now ppem fit self.new }
     {
         match mem::replace(self, Maker::Unmade) {
             Maker::Ready(fitter) => Ok(fitter),
@@ -72,7 +79,7 @@ impl<'a> Maker<'a> {
                 Err(FontFault::Font(fault))
             }
             Maker::Unmade => {
-                let made = open_fitter(alloc, face, job);
+                let made = open_fitter(alloc, face, ppem, fit);
                 if let Err(FontFault::Font(fault)) = &made {
                     self.refuse(*fault);
                 }

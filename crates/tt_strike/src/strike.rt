@@ -10,26 +10,23 @@ ghost use Rattle.tt_strike.specs.Grown.{grown_measured, grown_outcome, grown_pla
 ghost use Rattle.tt_strike.specs.Job.{size_tested, IsSizeRefusal};
 ghost use Rattle.tt_strike.specs.Measures.{measure_view, measured};
 ghost use Rattle.tt_strike.specs.Picture.{frame_of, line_outcome};
-ghost use Rattle.tt_strike.specs.Pictures.{IsReady, all_crossings, picture_bytes};
+ghost use Rattle.tt_picture.specs.Pictures.{IsReady, all_crossings, picture_bytes};
 ghost use Rattle.tt_strike.specs.Refusals.{as_job, refusal};
-ghost use Rattle.tt_strike.specs.Report.{report_by, ListsOnce};
-ghost use Rattle.tt_strike.specs.Strikes.{job_of};
+ghost use Rattle.tt_picture.specs.Unfitted.{ListsOnce};
+ghost use Rattle.tt_strike.specs.Report.{report_by};
+ghost use Rattle.tt_strike.specs.Strikes.{IsFresh, job_of};
 ghost use Rattle.tt_strike.specs.Work.{is_bounded};
 ghost use Rattle.tt_strike_kept.specs.Kept.{bytes_in};
 
-use crate::drawing::draw_line;
-use crate::enlarging::{draw_grown, measure_grown};
 use crate::fault::DrawFault;
-use crate::job::{Job, test_size};
-use crate::laying::lay_out;
-use crate::maker::Maker;
-use crate::measuring::{Measure, measure_line};
-use crate::picture::Picture;
+use crate::measuring::Measure;
+use crate::sized::SizedFace;
 use crate::tables::Face;
-use std::alloc::Global;
+use crate::work::is_bounded;
+use std::alloc::{AllocError, Global};
 use std::marker::Model;
 use tt_fit::Fit;
-use tt_strike_kept::KeptGlyphs;
+use tt_picture::{Cache, Picture};
 
 /// A font at a size with a fit, which draws lines one after the other. The font's programs run once, when the first
 /// line is drawn. With `Fit::Best` they run anew for each line, since a line uses up some of their work. Glyphs are
@@ -37,38 +34,39 @@ use tt_strike_kept::KeptGlyphs;
 /// glyphs with their numbers, the newest first. A line changes the cached glyphs alone.
 #[derive(Drop)]
 pub struct Strike<'f, 'a> {
-    alloc: Global,
-    face: &'f Face<'a>,
-    ppem: u32,
-    fit: Fit,
-    maker: Maker<'a>,
-    kept: KeptGlyphs,
+    sized: SizedFace<'f, 'a>,
+    cache: Cache,
+    /// The limit of the cache in bytes, also where there is none.
+    most: usize,
 }
 
 impl<'f, 'a> Model for Strike<'f, 'a> {
-    ghost use Rattle.std.specs.Prelude.{◌≡◌, ◌≤◌, true, [], Ok};
-    ghost use Rattle.tt_core.specs.Limits.{size_limit};
-    ghost use Rattle.tt_fit.specs.Fitting.{Fitter};
-    ghost use Rattle.tt_strike.specs.Kept.{AreKeptFor};
-    ghost use Rattle.tt_strike.specs.Makers.{IsMaker};
-    ghost use Rattle.tt_strike.specs.Picture.{setting};
+    ghost use Rattle.std.specs.Prelude.{◌≤◌, IfSome};
+    ghost use Rattle.tt_picture.specs.Cached.{entries_of, limit_of};
     ghost use Rattle.tt_strike.specs.Strikes as strikes;
-    ghost use Rattle.tt_strike.specs.Work.{is_bounded};
 
     ghost Value = { strikes.Strike };
 
     ghost view = { λ s. record {
-      face = s.face.now;
-      ppem = s.ppem;
-      fit = s.fit;
-      most = s.kept.most;
-      kept = s.kept.entries;
+      face = s.sized.face;
+      ppem = s.sized.ppem;
+      fit = s.sized.fit;
+      most = s.most;
+      kept = entries_of s.cache;
     } };
 
-    ghost invariant = { λ s. (1 ≤ s.ppem) × (s.ppem ≤ size_limit)
-        × IsMaker s.face.now s.ppem s.fit s.maker
-        × ((t : Fitter) → setting s.face.now s.ppem s.fit ≡ Ok t → AreKeptFor t s.kept.entries)
-        × (is_bounded s.fit ≡ true → s.kept.entries ≡ []) };
+    ghost invariant = { λ s. strikes.IsCacheOf s.sized s.cache × IfSome (limit_of s.cache) (λ most. most ≤ s.most) };
+}
+
+/// A cache of at most `most` bytes for a font at a size. None where the limit is 0, and where each line uses up work of
+/// the fitter. Error: Memory.
+fn open_cache(alloc: Global, most: usize, fit: Fit) -> Result<Cache, AllocError>
+    ensures { IfOk result (IsFresh fit most) }
+{
+    if most == 0 || is_bounded(fit) {
+        return Ok(Cache::absent());
+    }
+    Cache::new(alloc, most)
 }
 
 impl<'f, 'a> Strike<'f, 'a> {
@@ -86,15 +84,9 @@ impl<'f, 'a> Strike<'f, 'a> {
         ensures font { IfTold draw_font_fault result (λ _. ⊥) }
         ensures refused { IfTold draw_job_fault result (IsSizeRefusal ppem) }
     {
-        test_size(ppem)?;
-        Ok(Strike {
-            alloc,
-            face,
-            ppem,
-            fit,
-            maker: Maker::Unmade,
-            kept: KeptGlyphs::new(alloc, most)?,
-        })
+        let sized = SizedFace::new(alloc, face, ppem, fit)?;
+        let cache = open_cache(alloc, most, fit)?;
+        Ok(Strike { sized, cache, most })
     }
 
     /// The picture of a text of at most 4,096 characters, with a margin of 0 to 64 pixels: the picture that `run` would
@@ -114,21 +106,8 @@ impl<'f, 'a> Strike<'f, 'a> {
         ensures job { IfTold draw_job_fault result (IsLineRefusal self.old.face (job_of self.old text.now margin)) }
         ensures same { self.new ≡ record self.old { kept = self.new.kept } }
     {
-        let job = Job {
-            text,
-            ppem: self.ppem,
-            margin,
-            fit: self.fit,
-        };
-        let line = lay_out(self.alloc, self.face, &job)?;
-        draw_line(
-            self.alloc,
-            self.face,
-            &mut self.maker,
-            &mut self.kept,
-            &job,
-            &line,
-        )
+        let line = self.sized.lay_out(text, margin)?;
+        self.sized.draw_line(margin, &line, &mut self.cache)
     }
 
     /// The base line, the ink and the characters' places of a text's picture, without the picture. Errors as those of
@@ -143,21 +122,8 @@ impl<'f, 'a> Strike<'f, 'a> {
         ensures job { IfTold draw_job_fault result (IsLineRefusal self.old.face (job_of self.old text.now margin)) }
         ensures same { self.new ≡ self.old }
     {
-        let job = Job {
-            text,
-            ppem: self.ppem,
-            margin,
-            fit: self.fit,
-        };
-        let line = lay_out(self.alloc, self.face, &job)?;
-        measure_line(
-            self.alloc,
-            self.face,
-            &mut self.maker,
-            &mut self.kept,
-            &job,
-            &line,
-        )
+        let line = self.sized.lay_out(text, margin)?;
+        self.sized.measure_line(margin, &line)
     }
 
     /// The picture of a text with the fewest added columns and rows such that no ink is cut; equal to that of `line`
@@ -175,21 +141,8 @@ impl<'f, 'a> Strike<'f, 'a> {
         ensures defects { TellsDefects draw_font_fault (IsLineDefect self.old.face (job_of self.old text.now margin) (text_glyphs self.old.face.cmap text.now)) result }
         ensures same { self.new ≡ record self.old { kept = self.new.kept } }
     {
-        let job = Job {
-            text,
-            ppem: self.ppem,
-            margin,
-            fit: self.fit,
-        };
-        let line = lay_out(self.alloc, self.face, &job)?;
-        draw_grown(
-            self.alloc,
-            self.face,
-            &mut self.maker,
-            &mut self.kept,
-            &job,
-            line,
-        )
+        let line = self.sized.lay_out(text, margin)?;
+        self.sized.draw_grown(margin, line, &mut self.cache)
     }
 
     /// The measure of the picture that `grown_line` makes. Errors: those of `measure`, and PictureLarge of the larger
@@ -203,21 +156,8 @@ impl<'f, 'a> Strike<'f, 'a> {
         ensures defects { TellsDefects draw_font_fault (IsLineDefect self.old.face (job_of self.old text.now margin) (text_glyphs self.old.face.cmap text.now)) result }
         ensures same { self.new ≡ self.old }
     {
-        let job = Job {
-            text,
-            ppem: self.ppem,
-            margin,
-            fit: self.fit,
-        };
-        let line = lay_out(self.alloc, self.face, &job)?;
-        measure_grown(
-            self.alloc,
-            self.face,
-            &mut self.maker,
-            &mut self.kept,
-            &job,
-            line,
-        )
+        let line = self.sized.lay_out(text, margin)?;
+        self.sized.measure_grown(margin, line)
     }
 
     /// The bytes of the cached glyphs: for each those of its black columns, and 128. With `Fit::None`, `Fit::Full` and
@@ -227,6 +167,13 @@ impl<'f, 'a> Strike<'f, 'a> {
         ensures most { result ≤ self.now.most }
         ensures best { is_bounded self.now.fit ≡ true → result ≡ 0 }
     {
-        self.kept.bytes()
+        self.cache.bytes()
+    }
+
+    /// The font's tables, which outlive this loan of the strike.
+    pub fn face(&self) -> &'f Face<'a>
+        ensures { result.now ≡ self.now.face }
+    {
+        self.sized.face()
     }
 }

@@ -6,16 +6,16 @@ ghost use Rattle.tt_core.specs.Limits.{crossing_limit, point_work_limit};
 ghost use Rattle.tt_core.specs.Outcomes.{Gives, GivesUnless};
 ghost use Rattle.tt_fit.specs.Counting.{left_of, points_asked};
 ghost use Rattle.tt_strike.specs.Costs.{cost_of};
-ghost use Rattle.tt_strike.specs.Glyphs.{crossings_standing, edges_of};
+ghost use Rattle.tt_picture.specs.Glyphs.{crossings_standing, edges_of};
 ghost use Rattle.tt_strike.specs.Refusals.{as_job, refusal};
 ghost use Rattle.tt_strike.specs.Work.{crossings_allowed, is_bounded, points_in, started, work_tested};
 
 use crate::distinct::distinct;
 use crate::fault::DrawFault;
-use crate::glyph::Glyph;
 use std::alloc::{AllocError, Global};
 use tt_core::{CROSSING_LIMIT, JobFault, POINT_WORK_LIMIT, WORK_LIMIT};
 use tt_fit::{Fit, Fitter};
+use tt_picture::{Glyph, crossings};
 
 /// The work that each point of a line's glyphs takes.
 const POINT_WORK: u64 = 40;
@@ -122,16 +122,4 @@ pub(crate) fn cost_of(left: Option<u64>, crossings: u64) -> u64
         None => 0,
         Some(left) => WORK_LIMIT.saturating_sub(left) + CROSSING_WORK * crossings,
     }
-}
-
-/// The crossings of some glyphs at their pens, or 2 ^ 64 - 1 if there are more.
-fn crossings(glyphs: &[Glyph]) -> u64
-    requires tapes { All (λ g. length (edges_of g.body) ≤ 2 ^ 17) glyphs.now }
-    ensures { result ≡ min (crossings_standing glyphs.now) (2 ^ 64 - 1) }
-{
-    let mut all: u64 = 0;
-    for glyph in glyphs {
-        all = all.saturating_add(glyph.crossings());
-    }
-    all
 }

@@ -5,7 +5,7 @@ use Rattle.tt_strike.specs.Job.{job_view}
 use Rattle.tt_strike.specs.Defects.{IsRunDefect}
 use Rattle.tt_strike.specs.Picture.{pictured}
 use Rattle.tt_render.specs.Run.{run_wanted}
-use Rattle.tt_strike.specs.Pictures.{picture_bytes}
+use Rattle.tt_picture.specs.Pictures.{picture_bytes}
 use Rattle.tt_render.proofs.Answered.{reading_job, reading_large, reading_defects, drawing_fails, drawing_job, drawing_large, drawing_defects}
 use Rattle.tt_render.proofs.Calls.{IsRead, run_is_of_font, run_refused, job_fails, reading_fails, with_bytes, tells_of_known}
 use Rattle.tt_render.proofs.running.run.Goals as goal

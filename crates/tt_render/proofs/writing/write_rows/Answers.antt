@@ -1,7 +1,7 @@
 use Rattle.std.proofs.Common.{◌≡◌, ◌∙◌, ◌+◌, ◌*◌, ◌≤◌, length, take, refl, ap, arith}
 use Rattle.std.proofs.lemmas.List.{take_all}
 use Rattle.tt_core.specs.Bits.{stride}
-use Rattle.tt_strike.specs.Pictures.{row_at}
+use Rattle.tt_picture.specs.Pictures.{row_at}
 use Rattle.tt_render.proofs.Sent.{appends_none, appends_more, next_part, part_of_next, row_ends, few_bytes}
 use Rattle.tt_render.proofs.writing.write_rows.Goals as goal
 

@@ -1,8 +1,8 @@
 use Rattle.std.proofs.Common.{◌∙◌, ◌≡◌, ◌<◌, true, false, length, get_or, map, arith}
 use Rattle.std.proofs.lemmas.List.{get_or_default, length-set}
 use Rattle.std.proofs.lemmas.List.Elements.{All-push}
-use Rattle.tt_strike.specs.Distinct.{distinct, is_among}
-use Rattle.tt_strike.proofs.FirstMet.{marked_more, met_again, met_first}
+use Rattle.tt_picture.specs.Distinct.{distinct, is_among}
+use Rattle.tt_picture.proofs.FirstMet.{marked_more, met_again, met_first}
 use Rattle.tt_strike.proofs.distinct.distinct.Goals as goal
 use Rattle.tt_strike.proofs.distinct.distinct.Goals.{then-not-index+in_ok-push, else-not-index}
 

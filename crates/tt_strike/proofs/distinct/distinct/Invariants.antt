@@ -1,5 +1,5 @@
 use Rattle.std.proofs.Common.{◌≡◌, ◌<◌, ℕ, false, drop, get_or, length, map, All}
-use Rattle.tt_strike.specs.Distinct.{distinct, distinct_after, is_among}
+use Rattle.tt_picture.specs.Distinct.{distinct, distinct_after, is_among}
 use Rattle.tt_strike.proofs.distinct.distinct.Given as goal
 
 -- the marked glyphs are those among the numbers, and with the rest of the line these are all

@@ -1,5 +1,5 @@
-use Rattle.std.proofs.Common.{◌≡◌, ◌∙◌, refl, ap, ℕ, ◌+◌, ◌≤◌, List, [], ◌∷◌, length, map, nat_lt, false, pos, ◌+ℤ◌, SFits, w32, to_z, Some, Ok, arith, rules}
-use Rattle.std.specs.Prelude.{All}
+use Rattle.std.proofs.Common.{◌≡◌, ◌∙◌, refl, ap, ℕ, ◌+◌, ◌≤◌, List, [], ◌∷◌, length, map, nat_lt, false, pos, ℤ, ◌+ℤ◌, SFits, w32, to_z, of_z, Some, Ok, arith, rules}
+use Rattle.std.specs.Prelude.{All, unsigned_abs}
 use Rattle.std.proofs.lemmas.Bool.Decides.{nat_tests}
 use Rattle.std.proofs.lemmas.Int.{ints, to_z-of_z, to_z_pos}
 use Rattle.std.proofs.lemmas.List.{length-map, with_items_is}
@@ -9,7 +9,7 @@ use Rattle.tt_core.specs.Limits.{height_limit, width_limit}
 use Rattle.tt_line.specs.Layout.{Placement}
 use Rattle.tt_line.specs.Outcome.{placement_of}
 use Rattle.tt_strike.specs.Grown.{grown, lacking, not_large, with_sides}
-use Rattle.tt_strike.specs.declared.ink_box.InkBox.{InkBox}
+use Rattle.tt_picture.specs.declared.ink_box.InkBox.{InkBox}
 use Rattle.tt_strike.proofs.growing.grown.Goals.{After-move_pens}
 use Rattle.tt_strike.proofs.growing.grown.Goals as goal
 
@@ -45,18 +45,43 @@ returns-clause-exact c =
     let old : SFits w32 c.args.line.rise = search rules in
     let few : c.lacking-sides.result.top ≤ height_limit = omega (arith, c.in_ok-height.ensures.exact, c.in_ok-height.ensures.within) in
     let top : to_z w32 c.lacking-sides.result.top ≡ pos c.lacking-sides.result.top = to_z_pos w32 c.lacking-sides.result.top (omega arith) in
-    let fits : SFits w32 (c.args.line.rise +ℤ pos c.lacking-sides.result.top) = omega (arith, ints, c.requires.rise) in
+    let risen = c.args.line.risen in
+    let high = c.args.line.high in
+    let fits : SFits w32 (c.args.line.rise +ℤ pos c.lacking-sides.result.top) = omega (arith, ints, risen, high.1) in
     rw (c.in-Some.is, glyphs, top) (simp to_z-of_z (rw sides
     (grown_is line b c.in_ok-width.width c.in_ok-height.height wide c.in_ok-width.ensures.within high c.in_ok-height.ensures.within)))
 
-pub returns-clause-pens : goal.returns-clause-pens
-returns-clause-pens c =
+pub invariant_of-result-clause-pens : goal.invariant_of-result-clause-pens
+invariant_of-result-clause-pens c =
     let gs = c.args.line.glyphs.items in
     let left = c.lacking-sides.result.left in
-    let low : All (λ (g : ℕ × ℕ). g.1 + left ≤ width_limit) gs = λ k d below.
-    omega (arith, c.requires.pens k d below, c.in_ok-width.ensures.exact, c.in_ok-width.ensures.within) in
-    rw (glyphs_then (goal.at.returns-clause-pens c).After-move_pens)
-    (All-map (λ (g : ℕ × ℕ). g.1 ≤ width_limit) (λ (g : ℕ × ℕ). (g.0, g.1 + left)) gs low)
+    let low : All (λ (g : ℕ × ℕ). g.1 + left ≤ c.in_ok-width.width) gs = λ k d below.
+    omega (arith, c.args.line.pens k d below, c.in_ok-width.ensures.exact) in
+    rw (glyphs_then (goal.at.invariant_of-result-clause-pens c).After-move_pens)
+    (All-map (λ (g : ℕ × ℕ). g.1 ≤ c.in_ok-width.width) (λ (g : ℕ × ℕ). (g.0, g.1 + left)) gs low)
+
+pub invariant_of-result-clause-few : goal.invariant_of-result-clause-few
+invariant_of-result-clause-few c =
+    rw (glyphs_then (goal.at.invariant_of-result-clause-few c).After-move_pens,
+    length-map {B = ℕ × ℕ} c.args.line.glyphs.items (λ (g : ℕ × ℕ). (g.0, g.1 + c.lacking-sides.result.left))) c.args.line.few
+
+risen_more : (r : ℤ) (t h k : ℕ) → unsigned_abs r ≤ 614400 + h → h + t ≤ k → unsigned_abs (r +ℤ pos t) ≤ 614400 + k
+risen_more r t h k was more = grind (arith, ints)
+
+-- the base line stays within the rows as the rows at the top count in both
+pub invariant_of-result-clause-risen : goal.invariant_of-result-clause-risen
+invariant_of-result-clause-risen c =
+    let old : SFits w32 c.args.line.rise = search rules in
+    let high = c.args.line.high in
+    let risen = c.args.line.risen in
+    let few : c.lacking-sides.result.top ≤ height_limit = omega (arith, c.in_ok-height.ensures.exact, c.in_ok-height.ensures.within) in
+    let top : to_z w32 c.lacking-sides.result.top ≡ pos c.lacking-sides.result.top = to_z_pos w32 c.lacking-sides.result.top (omega arith) in
+    let fits : SFits w32 (c.args.line.rise +ℤ pos c.lacking-sides.result.top) = omega (arith, ints, risen, high.1) in
+    -- by an equation of its own: once unsigned_abs is unfolded, simp finds neither to_z nor of_z
+    let new : to_z w32 (of_z w32 (to_z w32 (of_z w32 c.args.line.rise) +ℤ to_z w32 c.lacking-sides.result.top))
+        ≡ c.args.line.rise +ℤ pos c.lacking-sides.result.top = rw top (simp to_z-of_z refl) in
+    rw new (risen_more c.args.line.rise c.lacking-sides.result.top c.args.line.height c.in_ok-height.height risen
+    (omega (arith, c.in_ok-height.ensures.exact)))
 
 same_numbers : (gs : List (ℕ × ℕ)) (right : ℕ)
     → map (λ (g : ℕ × ℕ). g.0) (map (λ (g : ℕ × ℕ). (g.0, g.1 + right)) gs) ≡ map (λ (g : ℕ × ℕ). g.0) gs

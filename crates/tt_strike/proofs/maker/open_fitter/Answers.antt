@@ -1,7 +1,7 @@
 use Rattle.std.proofs.Common.{refl}
 use Rattle.std.proofs.lemmas.Result.{err_from_is_err_and}
 use Rattle.tt_fit.specs.Preparation.{program_tables}
-use Rattle.tt_strike.specs.Job.{job_view}
+use Rattle.tt_strike.specs.Makers.{job_at}
 use Rattle.tt_strike.specs.Picture.{setting}
 use Rattle.tt_strike.proofs.Setting.{unbounded}
 use Rattle.tt_strike.proofs.Telling.{failed_by, made_by, preparing_tells, no_setting_defect}
@@ -11,7 +11,7 @@ pub returns-in_err-new-clause-defects : goal.returns-in_err-new-clause-defects
 returns-in_err-new-clause-defects c =
     let p = err_from_is_err_and c.from_residual-in_err-new.result c.from_residual-in_err-new.ensures.1 in
     let programs = program_tables c.in_ok-programs.programs in
-    let a = job_view c.args.job.now in
+    let a = job_at c.args.ppem c.args.fit in
     let fails = failed_by c.args.face.now.metrics c.in_ok-glyf.glyf programs a.ppem a.fit c.in_err-new.field-0.0
     (rw c.metrics.ensures at c.in_err-new.ensures.exact) refl in
     rw (p.1, p.2) (preparing_tells c.args.face.now a c.in_ok-glyf.glyf programs
@@ -20,7 +20,7 @@ returns-in_err-new-clause-defects c =
 pub returns-clause-defects : goal.returns-clause-defects
 returns-clause-defects c =
     let programs = program_tables c.in_ok-programs.programs in
-    let a = job_view c.args.job.now in
+    let a = job_at c.args.ppem c.args.fit in
     let made = made_by c.args.face.now.metrics c.in_ok-glyf.glyf programs a.ppem a.fit c.in_ok-new.field-0
     (rw c.metrics.ensures at c.in_ok-new.ensures.exact) refl in
     no_setting_defect c.args.face.now a c.in_ok-glyf.glyf programs c.in_ok-new.field-0
@@ -31,14 +31,14 @@ unfolding setting
 returns-in_err-new-clause-exact c =
     let p = err_from_is_err_and c.from_residual-in_err-new.result c.from_residual-in_err-new.ensures.1 in
     let fails = failed_by c.args.face.now.metrics c.in_ok-glyf.glyf (program_tables c.in_ok-programs.programs)
-    c.args.job.now.ppem c.args.job.now.fit c.in_err-new.field-0.0 (rw c.metrics.ensures at c.in_err-new.ensures.exact) refl in
+    c.args.ppem c.args.fit c.in_err-new.field-0.0 (rw c.metrics.ensures at c.in_err-new.ensures.exact) refl in
     rw (p.1, p.2, c.in_ok-glyf.ensures.exact, c.in_ok-programs.ensures.exact) fails
 
 pub returns-clause-exact : goal.returns-clause-exact
 unfolding setting
 returns-clause-exact c =
     let made = made_by c.args.face.now.metrics c.in_ok-glyf.glyf (program_tables c.in_ok-programs.programs)
-    c.args.job.now.ppem c.args.job.now.fit c.in_ok-new.field-0 (rw c.metrics.ensures at c.in_ok-new.ensures.exact) refl in
+    c.args.ppem c.args.fit c.in_ok-new.field-0 (rw c.metrics.ensures at c.in_ok-new.ensures.exact) refl in
     rw (c.in_ok-glyf.ensures.exact, c.in_ok-programs.ensures.exact) made
 
 pub returns-clause-setting : goal.returns-clause-setting
@@ -46,7 +46,7 @@ unfolding setting
 returns-clause-setting c =
     let face = c.args.face.now in
     let programs = program_tables c.in_ok-programs.programs in
-    let a = job_view c.args.job.now in
+    let a = job_at c.args.ppem c.args.fit in
     let made = made_by face.metrics c.in_ok-glyf.glyf programs a.ppem a.fit c.in_ok-new.field-0
     (rw c.metrics.ensures at c.in_ok-new.ensures.exact) refl in
     record {

@@ -2,8 +2,8 @@ use Rattle.std.proofs.Common.{◌≡◌, ◌∙◌, ap, ℕ, ◌+◌, ◌<◌, L
 use Rattle.std.proofs.lemmas.Int.{ints, to_z-of_z}
 use Rattle.std.proofs.lemmas.List.{get_or-map, length-map}
 use Rattle.tt_scan_ink.specs.declared.ink.GlyphInk.{GlyphInk}
-use Rattle.tt_strike.specs.Glyphs.{Glyph, numbers_of}
-use Rattle.tt_strike.proofs.Keeping.{is_not_there}
+use Rattle.tt_picture.specs.Glyphs.{Glyph, numbers_of}
+use Rattle.tt_picture.proofs.Keeping.{is_not_there}
 use Rattle.tt_strike.proofs.measuring.character.Goals.{in-Some, in-None}
 use Rattle.tt_strike.proofs.measuring.character.Goals as goal
 
@@ -18,7 +18,7 @@ box_found inked boxes gs i n d are below is =
 
 pub returns : goal.returns
 returns c = λ inked same.
-    let gs = c.args.glyphs.now.kept.items in
+    let gs = c.args.glyphs.now.made.items in
     let found : c.match-find.ink ≡ inked c.args.placed.0 =
     elim c.match-find.branch [
       | in-Some w ↦

@@ -1,5 +1,5 @@
 use Rattle.std.proofs.Common.{◌≡◌, drop, map}
-use Rattle.tt_strike.specs.Ink.{all_joined}
+use Rattle.tt_picture.specs.Ink.{all_joined}
 use Rattle.tt_strike.specs.Measures.{ink_of}
 use Rattle.tt_strike.proofs.measuring.ink_of.Given as goal
 

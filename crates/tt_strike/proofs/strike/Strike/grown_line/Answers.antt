@@ -1,18 +1,24 @@
-use Rattle.std.proofs.lemmas.Result.{err_from_is_err_and}
+use Rattle.std.proofs.Common.{◌≡◌, ◌≤◌, Ok, refl}
+use Rattle.std.proofs.lemmas.Result.{IfOk-weaker, err_from_is_err_and}
+use Rattle.tt_core.specs.Limits.{crossing_limit}
 use Rattle.tt_line.specs.Outcome.{placement_of}
-use Rattle.tt_strike.specs.Costs.{cost_by}
-use Rattle.tt_strike.specs.Report.{report_by}
-use Rattle.tt_strike.specs.Strikes.{Strike, job_of}
+use Rattle.tt_picture.specs.Pictures.{IsReady, Picture, all_crossings}
+use Rattle.tt_picture.specs.Unfitted.{ListsOnce}
+use Rattle.tt_strike.specs.Costs.{cost_by, line_cost}
+use Rattle.tt_strike.specs.Report.{line_report, report_by}
+use Rattle.tt_strike.specs.Reported.{IsReported}
+use Rattle.tt_strike.specs.Strikes.{job_by, job_with}
 use Rattle.tt_strike.proofs.GrownStops.{drawn_as_laid, placed_as_laid}
 use Rattle.tt_strike.proofs.Stopped.{grown_stops, no_defect_told}
+use Rattle.tt_strike.proofs.Textless.{cost_textless, drawn_grown_textless, grown_textless, report_textless}
 use Rattle.tt_strike.proofs.strike.Strike.grown_line.Goals as goal
 
 pub returns-in_err-line-clause-exact : goal.returns-in_err-line-clause-exact
 returns-in_err-line-clause-exact c =
+    let z = c.self.inside.sized in
     let p = err_from_is_err_and c.from_residual.result c.from_residual.ensures.1 in
-    let s : Strike = record { face = c.self.inside.face.now; ppem = c.self.inside.ppem; fit = c.self.inside.fit; most = c.self.inside.kept.most; kept = c.self.inside.kept.entries } in
-    let a = job_of s c.args.text.now c.args.margin in
-    rw (p.1, p.2, ← c.self.view_is) (grown_stops s.face a c.in_err-line.field-0.0 c.in_err-line.ensures.exact)
+    rw (p.1, p.2, ← c.self.view_is) (grown_stops z.face (job_by z c.args.text.now c.args.margin) c.in_err-line.field-0.0
+    c.in_err-line.ensures.exact)
 
 pub returns-in_err-line-clause-defects : goal.returns-in_err-line-clause-defects
 returns-in_err-line-clause-defects c =
@@ -21,25 +27,70 @@ returns-in_err-line-clause-defects c =
 
 pub returns-clause-exact : goal.returns-clause-exact
 returns-clause-exact c =
-    let s : Strike = record { face = c.self.inside.face.now; ppem = c.self.inside.ppem; fit = c.self.inside.fit; most = c.self.inside.kept.most; kept = c.self.inside.kept.entries } in
-    let a = job_of s c.args.text.now c.args.margin in
-    rw (← c.self.view_is, drawn_as_laid s.face a (placement_of c.in_ok-line.line) c.in_ok-line.ensures.exact)
-    c.draw_grown.ensures.exact
+    let z = c.self.inside.sized in
+    let l = placement_of c.in_ok-line.line in
+    rw (← c.self.view_is, drawn_as_laid z.face (job_by z c.args.text.now c.args.margin) l c.in_ok-line.ensures.exact,
+    drawn_grown_textless z c.args.text.now c.args.margin l) c.draw_grown.ensures.exact
 
 pub returns-clause-frame : goal.returns-clause-frame
 returns-clause-frame c =
-    let s : Strike = record { face = c.self.inside.face.now; ppem = c.self.inside.ppem; fit = c.self.inside.fit; most = c.self.inside.kept.most; kept = c.self.inside.kept.entries } in
-    let a = job_of s c.args.text.now c.args.margin in
-    rw (← c.self.view_is, placed_as_laid s.face a (placement_of c.in_ok-line.line) c.in_ok-line.ensures.exact)
-    c.draw_grown.ensures.frame
+    let z = c.self.inside.sized in
+    let l = placement_of c.in_ok-line.line in
+    rw (← c.self.view_is, placed_as_laid z.face (job_by z c.args.text.now c.args.margin) l c.in_ok-line.ensures.exact,
+    grown_textless z c.args.text.now c.args.margin l) c.draw_grown.ensures.frame
+
+pub returns-clause-valid : goal.returns-clause-valid
+returns-clause-valid c =
+    let z = c.self.inside.sized in
+    let l = placement_of c.in_ok-line.line in
+    let Is : Picture → Type 0 = IsReported z.face (job_with z c.args.margin) l in
+    IfOk-weaker c.draw_grown.result Is IsReady (λ p is. is.ready) c.draw_grown.ensures.reported
 
 pub returns-clause-report : goal.returns-clause-report
 unfolding report_by
-returns-clause-report c = rw (← c.self.view_is, c.in_ok-line.ensures.laid) c.draw_grown.ensures.report
+returns-clause-report c =
+    let z = c.self.inside.sized in
+    let l = placement_of c.in_ok-line.line in
+    let Is : Picture → Type 0 = IsReported z.face (job_with z c.args.margin) l in
+    rw (← c.self.view_is, c.in_ok-line.ensures.laid, report_textless z c.args.text.now c.args.margin l)
+    (IfOk-weaker c.draw_grown.result Is (λ (p : Picture). line_report z.face (job_with z c.args.margin) l ≡ Ok p.unfitted)
+    (λ p is. is.report) c.draw_grown.ensures.reported)
+
+pub returns-clause-once : goal.returns-clause-once
+returns-clause-once c =
+    let z = c.self.inside.sized in
+    let l = placement_of c.in_ok-line.line in
+    let Is : Picture → Type 0 = IsReported z.face (job_with z c.args.margin) l in
+    IfOk-weaker c.draw_grown.result Is (λ (p : Picture). ListsOnce p.unfitted) (λ p is. is.once) c.draw_grown.ensures.reported
+
+pub returns-clause-cost : goal.returns-clause-cost
+unfolding cost_by
+returns-clause-cost c =
+    let z = c.self.inside.sized in
+    let l = placement_of c.in_ok-line.line in
+    let Is : Picture → Type 0 = IsReported z.face (job_with z c.args.margin) l in
+    rw (← c.self.view_is, c.in_ok-line.ensures.laid, cost_textless z c.args.text.now c.args.margin l)
+    (IfOk-weaker c.draw_grown.result Is (λ (p : Picture). line_cost z.face (job_with z c.args.margin) l ≡ Ok p.cost)
+    (λ p is. is.cost) c.draw_grown.ensures.reported)
+
+pub returns-clause-few : goal.returns-clause-few
+returns-clause-few c =
+    let z = c.self.inside.sized in
+    let l = placement_of c.in_ok-line.line in
+    let Is : Picture → Type 0 = IsReported z.face (job_with z c.args.margin) l in
+    rw (← c.self.view_is) (λ bounded. IfOk-weaker c.draw_grown.result Is (λ (p : Picture). all_crossings p ≤ crossing_limit)
+    (λ p is. is.few bounded) c.draw_grown.ensures.reported)
 
 pub returns-clause-defects : goal.returns-clause-defects
 returns-clause-defects c = rw (← c.self.view_is, ← c.in_ok-line.ensures.glyphs) c.draw_grown.ensures.defects
 
-pub returns-clause-cost : goal.returns-clause-cost
-unfolding cost_by
-returns-clause-cost c = rw (← c.self.view_is, c.in_ok-line.ensures.laid) c.draw_grown.ensures.cost
+pub invariant_of-self-2 : goal.invariant_of-self-2
+invariant_of-self-2 c =
+    let before = c.self.invariant in
+    (
+      rw c.draw_grown.ensures.same c.draw_grown.ensures.cache,
+      rw c.draw_grown.ensures.limit before.1,
+    )
+
+pub returns-clause-same : goal.returns-clause-same
+returns-clause-same c = rw (c.draw_grown.ensures.same, ← c.self.view_is) refl

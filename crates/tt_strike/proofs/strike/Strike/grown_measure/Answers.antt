@@ -2,17 +2,18 @@ use Rattle.std.proofs.lemmas.Result.{err_from_is_err_and}
 use Rattle.tt_line.specs.Outcome.{placement_of}
 use Rattle.tt_strike.specs.Costs.{cost_by}
 use Rattle.tt_strike.specs.Report.{report_by}
-use Rattle.tt_strike.specs.Strikes.{Strike, job_of}
+use Rattle.tt_strike.specs.Strikes.{job_by}
 use Rattle.tt_strike.proofs.GrownMeasures.{measured_as_laid, not_laid_out}
 use Rattle.tt_strike.proofs.Stopped.{no_defect_told}
+use Rattle.tt_strike.proofs.Textless.{cost_textless, measured_grown_textless, report_textless}
 use Rattle.tt_strike.proofs.strike.Strike.grown_measure.Goals as goal
 
 pub returns-in_err-line-clause-exact : goal.returns-in_err-line-clause-exact
 returns-in_err-line-clause-exact c =
+    let z = c.self.inside.sized in
     let p = err_from_is_err_and c.from_residual.result c.from_residual.ensures.1 in
-    let s : Strike = record { face = c.self.inside.face.now; ppem = c.self.inside.ppem; fit = c.self.inside.fit; most = c.self.inside.kept.most; kept = c.self.inside.kept.entries } in
-    let a = job_of s c.args.text.now c.args.margin in
-    rw (p.1, p.2, ← c.self.view_is) (not_laid_out s.face a c.in_err-line.field-0.0 c.in_err-line.ensures.exact)
+    rw (p.1, p.2, ← c.self.view_is) (not_laid_out z.face (job_by z c.args.text.now c.args.margin) c.in_err-line.field-0.0
+    c.in_err-line.ensures.exact)
 
 pub returns-in_err-line-clause-defects : goal.returns-in_err-line-clause-defects
 returns-in_err-line-clause-defects c =
@@ -21,18 +22,30 @@ returns-in_err-line-clause-defects c =
 
 pub returns-clause-exact : goal.returns-clause-exact
 returns-clause-exact c =
-    let s : Strike = record { face = c.self.inside.face.now; ppem = c.self.inside.ppem; fit = c.self.inside.fit; most = c.self.inside.kept.most; kept = c.self.inside.kept.entries } in
-    let a = job_of s c.args.text.now c.args.margin in
-    rw (← c.self.view_is, measured_as_laid s.face a (placement_of c.in_ok-line.line) c.in_ok-line.ensures.exact)
-    c.measure_grown.ensures.exact
+    let z = c.self.inside.sized in
+    let l = placement_of c.in_ok-line.line in
+    rw (← c.self.view_is, measured_as_laid z.face (job_by z c.args.text.now c.args.margin) l c.in_ok-line.ensures.exact,
+    measured_grown_textless z c.args.text.now c.args.margin l) c.measure_grown.ensures.exact
 
 pub returns-clause-report : goal.returns-clause-report
 unfolding report_by
-returns-clause-report c = rw (← c.self.view_is, c.in_ok-line.ensures.laid) c.measure_grown.ensures.report
+returns-clause-report c =
+    let z = c.self.inside.sized in
+    rw (← c.self.view_is, c.in_ok-line.ensures.laid, report_textless z c.args.text.now c.args.margin (placement_of c.in_ok-line.line))
+    c.measure_grown.ensures.report
+
+pub returns-clause-cost : goal.returns-clause-cost
+unfolding cost_by
+returns-clause-cost c =
+    let z = c.self.inside.sized in
+    rw (← c.self.view_is, c.in_ok-line.ensures.laid, cost_textless z c.args.text.now c.args.margin (placement_of c.in_ok-line.line))
+    c.measure_grown.ensures.cost
 
 pub returns-clause-defects : goal.returns-clause-defects
 returns-clause-defects c = rw (← c.self.view_is, ← c.in_ok-line.ensures.glyphs) c.measure_grown.ensures.defects
 
-pub returns-clause-cost : goal.returns-clause-cost
-unfolding cost_by
-returns-clause-cost c = rw (← c.self.view_is, c.in_ok-line.ensures.laid) c.measure_grown.ensures.cost
+pub returns-clause-same : goal.returns-clause-same
+returns-clause-same c = rw c.measure_grown.ensures.same c.self.view_is
+
+pub invariant_of-self-2 : goal.invariant_of-self-2
+invariant_of-self-2 c = (rw c.measure_grown.ensures.same c.self.invariant.0, c.self.invariant.1)

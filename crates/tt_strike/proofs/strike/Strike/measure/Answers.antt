@@ -1,17 +1,18 @@
 use Rattle.std.proofs.lemmas.Result.{err_from_is_err_and}
 use Rattle.tt_line.specs.Outcome.{placement_of}
 use Rattle.tt_strike.specs.Costs.{cost_by}
-use Rattle.tt_strike.specs.Measures.{measured}
 use Rattle.tt_strike.specs.Report.{report_by}
-use Rattle.tt_strike.specs.Strikes.{Strike, job_of}
+use Rattle.tt_strike.specs.Strikes.{job_by}
+use Rattle.tt_strike.specs.Measures.{measured}
 use Rattle.tt_strike.proofs.Stopped.{measure_stops, no_defect_told, work_refuses}
+use Rattle.tt_strike.proofs.Textless.{cost_textless, measured_textless, report_textless}
 use Rattle.tt_strike.proofs.strike.Strike.measure.Goals as goal
 
 pub returns-in_err-line-clause-exact : goal.returns-in_err-line-clause-exact
 returns-in_err-line-clause-exact c =
+    let z = c.self.inside.sized in
     let p = err_from_is_err_and c.from_residual.result c.from_residual.ensures.1 in
-    let s : Strike = record { face = c.self.inside.face.now; ppem = c.self.inside.ppem; fit = c.self.inside.fit; most = c.self.inside.kept.most; kept = c.self.inside.kept.entries } in
-    rw (p.1, p.2, ← c.self.view_is) (measure_stops s.face (job_of s c.args.text.now c.args.margin) c.in_err-line.field-0.0
+    rw (p.1, p.2, ← c.self.view_is) (measure_stops z.face (job_by z c.args.text.now c.args.margin) c.in_err-line.field-0.0
     c.in_err-line.ensures.exact)
 
 pub returns-in_err-line-clause-defects : goal.returns-in_err-line-clause-defects
@@ -24,23 +25,38 @@ returns-in_err-line-clause-job c =
     let p = err_from_is_err_and c.from_residual.result c.from_residual.ensures.1 in
     rw (p.1, p.2, ← c.self.view_is) c.in_err-line.ensures.job
 
+pub returns-clause-exact : goal.returns-clause-exact
+unfolding measured
+returns-clause-exact c =
+    let z = c.self.inside.sized in
+    rw (← c.self.view_is, c.in_ok-line.ensures.exact,
+    measured_textless z c.args.text.now c.args.margin (placement_of c.in_ok-line.line)) c.measure_line.ensures.exact
+
 pub returns-clause-report : goal.returns-clause-report
 unfolding report_by
-returns-clause-report c = rw (← c.self.view_is, c.in_ok-line.ensures.laid) c.measure_line.ensures.report
+returns-clause-report c =
+    let z = c.self.inside.sized in
+    rw (← c.self.view_is, c.in_ok-line.ensures.laid, report_textless z c.args.text.now c.args.margin (placement_of c.in_ok-line.line))
+    c.measure_line.ensures.report
+
+pub returns-clause-cost : goal.returns-clause-cost
+unfolding cost_by
+returns-clause-cost c =
+    let z = c.self.inside.sized in
+    rw (← c.self.view_is, c.in_ok-line.ensures.laid, cost_textless z c.args.text.now c.args.margin (placement_of c.in_ok-line.line))
+    c.measure_line.ensures.cost
 
 pub returns-clause-defects : goal.returns-clause-defects
 returns-clause-defects c = rw (← c.self.view_is, ← c.in_ok-line.ensures.glyphs) c.measure_line.ensures.defects
 
 pub returns-clause-job : goal.returns-clause-job
 returns-clause-job c =
-    let s : Strike = record { face = c.self.inside.face.now; ppem = c.self.inside.ppem; fit = c.self.inside.fit; most = c.self.inside.kept.most; kept = c.self.inside.kept.entries } in
-    rw (← c.self.view_is) (work_refuses c.measure_line.result (job_of s c.args.text.now c.args.margin) s.face
+    let z = c.self.inside.sized in
+    rw (← c.self.view_is) (work_refuses c.measure_line.result (job_by z c.args.text.now c.args.margin) z.face
     (placement_of c.in_ok-line.line) c.in_ok-line.ensures.laid c.measure_line.ensures.work)
 
-pub returns-clause-exact : goal.returns-clause-exact
-unfolding measured
-returns-clause-exact c = rw (← c.self.view_is, c.in_ok-line.ensures.exact) c.measure_line.ensures.exact
+pub returns-clause-same : goal.returns-clause-same
+returns-clause-same c = rw c.measure_line.ensures.same c.self.view_is
 
-pub returns-clause-cost : goal.returns-clause-cost
-unfolding cost_by
-returns-clause-cost c = rw (← c.self.view_is, c.in_ok-line.ensures.laid) c.measure_line.ensures.cost
+pub invariant_of-self-2 : goal.invariant_of-self-2
+invariant_of-self-2 c = (rw c.measure_line.ensures.same c.self.invariant.0, c.self.invariant.1)

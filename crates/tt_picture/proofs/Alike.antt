@@ -1,0 +1,58 @@
+-- Pictures with the same pixels have the same rows.
+use Rattle.std.proofs.Common.{◌≡◌, ℕ, zero, suc, ◌+◌, ◌*◌, ◌/◌, ◌%◌, ◌<◌, ◌≤◌, ◌^◌, Bool, true, false, ◌&&◌, ◌||◌, nat_lt, List, ◌++◌, map, refl, ap, ap₂, ◌∙◌, arith}
+use Rattle.std.proofs.lemmas.Bool.Decides.{nat_tests}
+use Rattle.std.proofs.Math.Nat.{div-lt_iff_lt-mul, mul_comm}
+use Rattle.std.specs.List.{range_with_len}
+use Rattle.tt_core.specs.Bits.{stride}
+use Rattle.tt_pbm.specs.P4.{columns, shows, byte_at, rows, p4_header_of}
+use Rattle.tt_scan_edges.specs.declared.edge.Frame.{Frame}
+use Rattle.tt_scan_dropouts.specs.Pictures.{is_among}
+use Rattle.tt_scan_dropouts.specs.declared.picture.Dropout.{Dropout}
+use Rattle.tt_picture.specs.Glyphs.{Glyph, Stand, all_rows, shows_by, stamps_in}
+use Rattle.tt_picture.specs.Pictures.{picture}
+use Rattle.tt_picture.specs.Pixels.{Shape, is_black_pixel, is_filled_by}
+
+-- alike in columns and rows below these
+abbrev pub AreAlike : ℕ → ℕ → (ℕ → ℕ → Bool) → (ℕ → ℕ → Bool) → Type 0
+AreAlike w h a b = (c r : ℕ) → c < w → r < h → a c r ≡ b c r
+
+-- a byte of the first h rows is in one of them
+row_below : (k h i : ℕ) → i < k * h → i / k < h
+row_below zero h i below = absurd (omega (arith, below))
+row_below (suc k) h i below = (div-lt_iff_lt-mul {k = suc k} {x = i} {y = h} (omega arith)).1 (rw (mul_comm h (suc k)) below)
+
+columns_alike : (n : ℕ) (p q : ℕ → Bool) → ((j : ℕ) → p j ≡ q j) → columns n p ≡ columns n q
+columns_alike zero p q same = refl
+columns_alike (suc n) p q same = rw (columns_alike n p q same, same n) refl
+
+shown_alike : (w h : ℕ) (a b : ℕ → ℕ → Bool) (c r : ℕ) (inside : Bool) → AreAlike w h a b → r < h → nat_lt c w ≡ inside
+    → (inside && a c r) ≡ (inside && b c r)
+shown_alike w h a b c r true same below is = same c r (grind (arith, nat_tests, is)) below
+shown_alike w h a b c r false same below is = refl
+
+byte_alike : (w h : ℕ) (a b : ℕ → ℕ → Bool) → AreAlike w h a b → (i : ℕ) → i < stride w * h → byte_at w a i ≡ byte_at w b i
+byte_alike w h a b same i below =
+    let at = 8 * (i % stride w) in
+    let r = i / stride w in
+    let low : r < h = row_below (stride w) h i below in
+    columns_alike 8 (λ j. shows w a r (at + j)) (λ j. shows w b r (at + j))
+    (λ j. shown_alike w h a b (at + j) r (nat_lt (at + j) w) same low refl)
+
+map_alike : (f g : ℕ → ℕ) (most from n : ℕ) → ((i : ℕ) → i < most → f i ≡ g i) → from + n ≤ most
+    → map f (range_with_len from n) ≡ map g (range_with_len from n)
+map_alike f g most from zero same within = refl
+map_alike f g most from (suc n) same within =
+    rw (same from (omega (arith, within)), map_alike f g most (from + 1) n same (omega (arith, within))) refl
+
+pub rows_alike : (w h : ℕ) (a b : ℕ → ℕ → Bool) → AreAlike w h a b → rows w a 0 (stride w * h) ≡ rows w b 0 (stride w * h)
+rows_alike w h a b same =
+    map_alike (byte_at w a) (byte_at w b) (stride w * h) 0 (stride w * h) (byte_alike w h a b same) (omega arith)
+
+-- glyphs and dropouts that blacken the same pixels as some shapes have the same picture
+pub same_picture : {cached : Bool} (f : Frame) (gs : List Glyph) (ds : List Dropout) (shapes : List Shape) (header : List ℕ)
+    → header ≡ p4_header_of f.width f.height → f.width < 2 ^ 62 → Stand cached f gs shapes
+    → AreAlike f.width f.height (is_among ds) (is_filled_by f (stamps_in gs))
+    → header ++ all_rows f gs ds ≡ picture f shapes
+same_picture f gs ds shapes header is wide stand drops = rw is (ap (λ bytes. p4_header_of f.width f.height ++ bytes)
+    (rows_alike f.width f.height (shows_by f (stamps_in gs) ds) (is_black_pixel f shapes)
+    (λ c r column row. ap₂ (λ a b. a || b) (stand.black c r (omega (arith, column, wide))) (drops c r column row ∙ stand.dropouts c r))))

@@ -1,0 +1,19 @@
+pub mod Alike
+pub mod Among
+pub mod Blackened
+pub mod Crossed
+pub mod Filled
+pub mod FirstMet
+pub mod Inked
+pub mod Keeping
+pub mod Cached
+pub mod Listing
+mod Pens
+pub mod Places
+mod Reframed
+mod RowsCut
+pub mod RowsNeeded
+mod Seats
+pub mod Standings
+mod Turns
+pub mod Unbounded

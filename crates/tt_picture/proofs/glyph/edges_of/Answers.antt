@@ -1,0 +1,15 @@
+use Rattle.std.proofs.Common.{◌≤◌, ◌-ℤ◌, pos, unsigned_abs, SFits, w32, w64, get_or, rules, arith}
+use Rattle.std.proofs.lemmas.Int.{ints, to_z-of_z}
+use Rattle.tt_core.specs.Limits.{coordinate_limit}
+use Rattle.tt_picture.proofs.glyph.edges_of.Goals as goal
+
+pub returns-clause-exact : goal.returns-clause-exact
+returns-clause-exact c =
+    let origin : SFits w64 c.from.result = search rules in
+    let bits : SFits w32 (get_or c.args.outline.now.phantom 0 (pos 0, pos 0)).0 = search rules in
+    let within = c.requires.outline.phantom.left.0 in
+    let origin_is = simp to_z-of_z at c.from.ensures in
+    let small : unsigned_abs c.from.result ≤ coordinate_limit = rw origin_is within in
+    let moved : SFits w64 (pos 0 -ℤ c.from.result) = omega (arith, ints) in
+    let made = simp to_z-of_z at c.edges.ensures.exact in
+    rw origin_is at made

@@ -1,0 +1,9 @@
+pub mod Cached
+pub mod Distinct
+pub mod Glyphs
+pub mod Ink
+pub mod Pictures
+pub mod Pixels
+pub mod Shapes
+pub mod Unfitted
+pub mod Views

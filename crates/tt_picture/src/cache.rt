@@ -1,0 +1,97 @@
+//! The cache of glyphs, which may be absent.
+
+ghost use Rattle.std.specs.Prelude.{◌≡◌, ◌≤◌, ◌/◌, [], nat_eq, IfOk, IfSome, None, Some};
+ghost use Rattle.std.specs.Map.{lookup};
+ghost use Rattle.tt_fit.specs.Fitting.{Fitter};
+ghost use Rattle.tt_picture.specs.Cached.{IsCacheFor, IsCached, entries_of, is_there, limit_of};
+ghost use Rattle.tt_strike_kept.specs.Kept.{bytes_in};
+
+use std::alloc::{AllocError, Global};
+use std::marker::Model;
+use tt_strike_kept::{KeptGlyph, KeptGlyphs};
+
+/// The glyphs that are cached from line to line, or no cache at all.
+#[derive(Drop)]
+pub struct Cache {
+    glyphs: Option<KeptGlyphs>,
+}
+
+impl Model for Cache {
+    ghost use Rattle.std.specs.Prelude.{Option};
+    ghost use Rattle.tt_strike_kept.specs.Kept.{Kept};
+
+    ghost Value = { Option Kept };
+
+    ghost view = { λ c. c.glyphs };
+}
+
+impl Cache {
+    /// An empty cache of at most `most` bytes. Error: Memory.
+    pub fn new(alloc: Global, most: usize) -> Result<Cache, AllocError>
+        ensures { IfOk result (λ c. c ≡ Some (record { entries = []; most = most })) }
+    {
+        let glyphs = KeptGlyphs::new(alloc, most)?;
+        Ok(Cache {
+            glyphs: Some(glyphs),
+        })
+    }
+
+    /// No cache. It takes no memory.
+    pub fn absent() -> Cache
+        ensures { result ≡ None }
+    {
+        Cache { glyphs: None }
+    }
+
+    /// Whether there is a cache.
+    pub(crate) fn is_there(&self) -> bool
+        ensures { result ≡ is_there self.now }
+    {
+        match &self.glyphs {
+            Some(_) => true,
+            None => false,
+        }
+    }
+
+    /// The cached glyph with this number.
+    pub(crate) fn find(&self, number: u16) -> Option<KeptGlyph>
+        ensures { IfSome result (λ g. lookup (nat_eq number) (entries_of self.now) ≡ Some g) }
+    {
+        match &self.glyphs {
+            Some(glyphs) => glyphs.find(number),
+            None => None,
+        }
+    }
+
+    /// Adds a glyph as the newest, where there is a cache. The oldest are dropped until all fit the limit.
+    pub(crate) fn put(&mut self, number: u16, glyph: KeptGlyph)
+        ensures cached { (s : Fitter) → IsCached s number glyph → IsCacheFor s self.old → IsCacheFor s self.new }
+        ensures limit { limit_of self.new ≡ limit_of self.old }
+    {
+        match &mut self.glyphs {
+            Some(glyphs) => glyphs.keep(number, glyph),
+            None => (),
+        }
+    }
+
+    /// The greatest raster that is cached, in bytes: a sixteenth of the limit.
+    pub(crate) fn raster_limit(&self) -> usize
+        ensures { IfSome (limit_of self.now) (λ most. result ≡ most / 16) }
+    {
+        match &self.glyphs {
+            Some(glyphs) => glyphs.most() / 16,
+            None => 0,
+        }
+    }
+
+    /// The bytes of the cached glyphs: for each those of its raster, and 128.
+    pub fn bytes(&self) -> usize
+        ensures exact { result ≡ bytes_in (entries_of self.now) }
+        ensures limit { IfSome (limit_of self.now) (λ most. result ≤ most) }
+    {
+        match &self.glyphs {
+            Some(glyphs) => glyphs.bytes(),
+            None => 0,
+        }
+    }
+}

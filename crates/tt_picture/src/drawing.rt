@@ -1,0 +1,38 @@
+//! Draws glyphs that are made.
+
+ghost use Rattle.std.specs.Prelude.{◌≡◌, ◌≤◌, ◌^◌, Bool, List, unsigned_abs, All, IfOk};
+ghost use Rattle.tt_core.specs.Limits.{height_limit};
+ghost use Rattle.tt_picture.specs.Glyphs.{BodyFits, CanBeFilled, Stand, edges_cut};
+ghost use Rattle.tt_picture.specs.Pictures.{IsReady, picture, picture_bytes};
+ghost use Rattle.tt_picture.specs.Pixels.{Shape};
+ghost use Rattle.tt_picture.specs.Unfitted.{unfitted_standing};
+ghost use Rattle.tt_scan_edges.specs.Winding.{FrameFits};
+
+use crate::dropouts::line_dropouts;
+use crate::glyph::Glyph;
+use crate::picture::Picture;
+use std::alloc::{AllocError, Global};
+use tt_scan::Frame;
+
+/// The picture of some glyphs and their dropouts. Error: Memory.
+pub fn draw_made(
+    alloc: Global,
+    frame: Frame,
+    glyphs: Vec<Glyph>,
+    cost: u64,
+) -> Result<Picture, AllocError>
+    requires frame { FrameFits frame }
+    requires height { frame.height ≤ height_limit }
+    requires rise { unsigned_abs frame.rise ≤ 10 ^ 6 }
+    requires glyphs { All CanBeFilled glyphs.items }
+    requires bodies { All (λ g. BodyFits frame 0 g.body) glyphs.items }
+    ensures exact { IfOk result (λ p. (keeps : Bool) (shapes : List Shape) → Stand keeps frame glyphs.items shapes → picture_bytes p ≡ picture frame shapes) }
+    ensures valid { IfOk result IsReady }
+    ensures frame { IfOk result (λ p. p.frame ≡ frame) }
+    ensures unfitted { IfOk result (λ p. p.unfitted ≡ unfitted_standing glyphs.items) }
+    ensures edges { IfOk result (λ p. p.edges ≡ edges_cut glyphs.items) }
+    ensures cost { IfOk result (λ p. p.cost ≡ cost) }
+{
+    let dropouts = line_dropouts(alloc, frame, &glyphs)?;
+    Picture::new(alloc, frame, glyphs, dropouts, cost)
+}

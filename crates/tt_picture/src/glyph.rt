@@ -1,0 +1,312 @@
+//! A glyph of a line, made once however often it appears. For painting see painting.rt.
+
+ghost use Rattle.std.specs.Prelude.{◌≡◌, ◌+◌, ◌*◌, ◌<◌, ◌≤◌, ◌^◌, true, false, ◌++◌, [], ◌∷◌, length, IfOk, IfSome, IfNone, OnOk, Some, None, Err};
+ghost use Rattle.tt_core.specs.Limits.{margin_limit, width_limit};
+ghost use Rattle.tt_core.specs.Outcomes.{IfTold, font_fault};
+ghost use Rattle.tt_fit.specs.Fitting.{Fitter, fitted_outline, after_glyph};
+ghost use Rattle.tt_fit_outline.specs.Outline.{IsOutline, outline_of};
+ghost use Rattle.tt_scan.specs.Contours.{AreEnds, contours_at};
+ghost use Rattle.tt_scan_edges.specs.Winding.{FrameFits};
+ghost use Rattle.tt_scan_rows.specs.Raster.{IsRasterOf, Raster};
+ghost use Rattle.tt_picture.specs.Glyphs.{BodyFits, IsBodyOf, IsDrawn, IsTape, edges_of, left_of};
+ghost use Rattle.tt_picture.specs.Cached.{IsCacheFor, IsCached, is_there, limit_of};
+ghost use Rattle.tt_picture.specs.Shapes.{contours_of, edges_at};
+ghost use Rattle.tt_picture.specs.Views.{body_view};
+
+use crate::cache::Cache;
+use crate::dropouts::rules_for;
+use crate::report::Unfitted;
+use std::alloc::{AllocError, Global};
+use std::marker::Model;
+use std::rc::Rc;
+use tt_arc::{contour_ends, edges};
+use tt_core::{Fault, FontFault};
+use tt_fit::{Fitter, Outline};
+use tt_scan::{EdgeList, Frame, Tape};
+use tt_scan_dropouts::Rules;
+use tt_scan_rows::{Cut, Raster};
+use tt_strike_kept::KeptGlyph;
+
+/// The part of a glyph that blackens rows.
+#[derive(Drop)]
+pub(crate) enum Body {
+    /// Its edges at pen 0.
+    Tape(Tape),
+    /// The black columns of its lines.
+    Raster(Rc<Raster>),
+}
+
+impl Body {
+    /// Added to every pen: 0 for a tape, the margin for a raster.
+    fn left(&self, frame: Frame) -> u32
+        ensures exact { result ≡ left_of frame (body_view self.now) }
+        ensures limit { frame.margin ≤ margin_limit → result ≤ margin_limit }
+    {
+        match self {
+            Body::Tape(_) => 0,
+            Body::Raster(_) => frame.margin,
+        }
+    }
+}
+
+/// A glyph by its number in the font, with its body.
+#[derive(Drop)]
+pub struct Glyph {
+    pub(crate) number: u16,
+    pub(crate) body: Body,
+    /// The rules for filling its dropouts.
+    pub(crate) filled: Option<Rules>,
+    /// The number of edges up to the end of each contour; empty where no dropouts are filled.
+    pub(crate) ends: Vec<usize>,
+    /// Added to every pen: 0 for a tape, the margin for a raster.
+    pub(crate) left: u32,
+    /// Its pens in the line, in pixels from the left end, with `left` added.
+    pub(crate) pens: Vec<u32>,
+    /// The fault that makes it unfitted.
+    pub(crate) unfitted: Option<Fault>,
+}
+
+impl Model for Glyph {
+    ghost use Rattle.tt_picture.specs.Glyphs as glyphs;
+    ghost use Rattle.tt_picture.specs.Views.{body_view};
+
+    ghost Value = { glyphs.Glyph };
+
+    ghost view = { λ g. record { number = g.number; body = body_view g.body; filled = g.filled; ends = g.ends.items; left = g.left; pens = g.pens.items; unfitted = g.unfitted } };
+}
+
+impl Glyph {
+    /// A glyph without a pen, with room for `room` pens, from the cache if it is there. The fitter then serves later
+    /// glyphs. Errors: those of its outline, Memory.
+    pub(crate) fn of(
+        alloc: Global,
+        fitter: &mut Fitter,
+        number: u16,
+        frame: Frame,
+        room: usize,
+        cache: &mut Cache,
+    ) -> Result<Glyph, FontFault>
+        requires known { number < fitter.old.tables.glyphs }
+        requires frame { FrameFits frame }
+        requires cache { IsCacheFor fitter.old cache.old }
+        ensures number { IfOk result (λ g. g.number ≡ number) }
+        ensures pens { IfOk result (λ g. g.pens ≡ []) }
+        ensures left { IfOk result (λ g. g.left ≤ margin_limit) }
+        ensures valid { IfOk result (IsDrawn (is_there cache.old) fitter.old frame) }
+        ensures after { OnOk result (fitter.new ≡ after_glyph fitter.old number) }
+        ensures cache { IsCacheFor fitter.old cache.new }
+        ensures limit { limit_of cache.new ≡ limit_of cache.old }
+        ensures fault { IfTold font_fault result (λ f. fitted_outline fitter.old number ≡ Err f) }
+    {
+        match cache.find(number) {
+            Some(glyph) => {
+                tt_fit::laws::work_unfits();
+                Ok(Glyph::cached(alloc, number, glyph, frame, room)?)
+            }
+            None => Glyph::new(alloc, fitter, number, frame, room, cache),
+        }
+    }
+
+    /// Makes a glyph without a pen from its outline, with room for `room` pens. The fitter then serves later glyphs. A
+    /// small enough glyph is cached, if there is a cache. Errors: those of its outline, Memory.
+    fn new(
+        alloc: Global,
+        fitter: &mut Fitter,
+        number: u16,
+        frame: Frame,
+        room: usize,
+        cache: &mut Cache,
+    ) -> Result<Glyph, FontFault>
+        requires known { number < fitter.old.tables.glyphs }
+        requires frame { FrameFits frame }
+        requires cache { IsCacheFor fitter.old cache.old }
+        ensures number { IfOk result (λ g. g.number ≡ number) }
+        ensures pens { IfOk result (λ g. g.pens ≡ []) }
+        ensures left { IfOk result (λ g. g.left ≤ margin_limit) }
+        ensures valid { IfOk result (IsDrawn (is_there cache.old) fitter.old frame) }
+        ensures after { OnOk result (fitter.new ≡ after_glyph fitter.old number) }
+        ensures cache { IsCacheFor fitter.old cache.new }
+        ensures limit { limit_of cache.new ≡ limit_of cache.old }
+        ensures fault { IfTold font_fault result (λ f. fitted_outline fitter.old number ≡ Err f) }
+    {
+        // The outline is dropped at the end, once its edges are made.
+        let outline = fitter.fit(number)?;
+        let filled = rules_for(fitter.dropouts(&outline));
+        let list = edges_of(alloc, &outline)?;
+        let ends = ends_of(alloc, &outline, filled)?;
+        let unfitted = outline.unfitted;
+        let caches = can_be_cached(cache, filled);
+        let body = body_of(alloc, list, frame, number, unfitted, cache, caches)?;
+        let left = body.left(frame);
+        Ok(Glyph {
+            number,
+            body,
+            filled,
+            ends,
+            left,
+            pens: Vec::with_capacity(alloc, room)?,
+            unfitted,
+        })
+    }
+
+    /// A cached glyph, without a pen, with room for `room` pens. Error: Memory.
+    fn cached(
+        alloc: Global,
+        number: u16,
+        glyph: KeptGlyph,
+        frame: Frame,
+        room: usize,
+    ) -> Result<Glyph, AllocError>
+        ensures number { IfOk result (λ g. g.number ≡ number) }
+        ensures pens { IfOk result (λ g. g.pens ≡ []) }
+        ensures left { IfOk result (λ g. g.left ≡ frame.margin) }
+        ensures valid { IfOk result (λ g. (s : Fitter) → IsCached s number glyph → IsDrawn true s frame g) }
+    {
+        let KeptGlyph { raster, unfitted } = glyph;
+        Ok(Glyph {
+            number,
+            body: Body::Raster(raster),
+            filled: None,
+            ends: Vec::new(alloc),
+            left: frame.margin,
+            pens: Vec::with_capacity(alloc, room)?,
+            unfitted,
+        })
+    }
+
+    /// The report of the glyph, if its outline is not fitted.
+    pub(crate) fn unfitted(&self) -> Option<Unfitted>
+        ensures none { IfNone result (self.now.unfitted ≡ None) }
+        ensures some { IfSome result (λ u. (self.now.unfitted ≡ Some u.fault) × (u.glyph ≡ self.now.number)) }
+    {
+        match self.unfitted {
+            Some(fault) => Some(Unfitted {
+                glyph: self.number,
+                fault,
+            }),
+            None => None,
+        }
+    }
+
+    /// Adds a pen of the glyph, in pixels from the left end of the line. Error: Memory.
+    pub(crate) fn stand(&mut self, pen: u32) -> Result<(), AllocError>
+        requires pen { pen ≤ width_limit }
+        requires left { self.old.left ≤ margin_limit }
+        ensures { OnOk result (self.new ≡ record self.old { pens = self.old.pens ++ (pen + self.old.left) ∷ [] }) }
+    {
+        Ok(self.pens.push(pen + self.left)?)
+    }
+
+    /// The number of its edges.
+    pub(crate) fn edges(&self) -> usize
+        ensures { result ≡ length (edges_of self.now.body) }
+    {
+        match &self.body {
+            Body::Tape(tape) => tape.edges(),
+            Body::Raster(_) => 0,
+        }
+    }
+}
+
+/// Whether a glyph may be cached. A glyph with filled dropouts may not, since its dropouts are found by its edges.
+fn can_be_cached(cache: &Cache, filled: Option<Rules>) -> bool
+    ensures cached { result ≡ true → (is_there cache.now ≡ true) × (filled ≡ None) }
+    ensures off { is_there cache.now ≡ false → result ≡ false }
+    ensures filled { IfSome filled (λ _. result ≡ false) }
+{
+    match filled {
+        Some(_) => false,
+        None => cache.is_there(),
+    }
+}
+
+/// The edges of an outline whose first phantom point is at the left end of the line.
+fn edges_of(alloc: Global, outline: &Outline) -> Result<EdgeList, AllocError>
+    requires outline { IsOutline (outline_of outline.now) }
+    ensures exact { IfOk result (λ l. l.edges ≡ edges_at 0 (outline_of outline.now)) }
+    ensures few { IfOk result (λ l. length l.edges ≤ 2 ^ 17) }
+{
+    let origin = outline.phantom[0].0;
+    edges(alloc, outline, -i64::from(origin), 0)
+}
+
+/// A tape of edges. Each row is cut when it is made.
+pub(crate) fn tape_of(alloc: Global, list: EdgeList, frame: Frame) -> Result<Body, AllocError>
+    requires frame { FrameFits frame }
+    requires few { length list.edges ≤ 2 ^ 17 }
+    ensures body { IfOk result (λ b. IsBodyOf list.edges (body_view b) × IsTape (body_view b) × BodyFits frame 0 (body_view b)) }
+{
+    Ok(Body::Tape(Tape::of(alloc, frame, list)?))
+}
+
+/// The raster of a glyph, which is cached for later lines. A tape of its edges, where it has too many lines or too many
+/// black columns.
+fn raster_of(
+    alloc: Global,
+    list: EdgeList,
+    frame: Frame,
+    number: u16,
+    unfitted: Option<Fault>,
+    cache: &mut Cache,
+) -> Result<Body, AllocError>
+    requires frame { FrameFits frame }
+    requires few { length list.edges ≤ 2 ^ 17 }
+    ensures body { IfOk result (λ b. IsBodyOf list.edges (body_view b) × BodyFits frame 0 (body_view b)) }
+    ensures cached { (s : Fitter) → ((k : Raster) → IsRasterOf list.edges k → IsCached s number (record { raster = k; unfitted = unfitted })) → IsCacheFor s cache.old → IsCacheFor s cache.new }
+    ensures limit { limit_of cache.new ≡ limit_of cache.old }
+{
+    match Raster::cut(alloc, list, 2 * frame.height, cache.raster_limit())? {
+        Cut::Raster(raster) => {
+            let raster = Rc::new(alloc, raster)?;
+            cache.put(
+                number,
+                KeptGlyph {
+                    raster: raster.clone()?,
+                    unfitted,
+                },
+            );
+            Ok(Body::Raster(raster))
+        }
+        Cut::Edges(list) => tape_of(alloc, list, frame),
+    }
+}
+
+/// The body of a glyph with these edges: a raster, if the glyph is cached, or a tape. Error: Memory.
+fn body_of(
+    alloc: Global,
+    list: EdgeList,
+    frame: Frame,
+    number: u16,
+    unfitted: Option<Fault>,
+    cache: &mut Cache,
+    caches: bool,
+) -> Result<Body, AllocError>
+    requires frame { FrameFits frame }
+    requires few { length list.edges ≤ 2 ^ 17 }
+    ensures body { IfOk result (λ b. IsBodyOf list.edges (body_view b) × BodyFits frame 0 (body_view b)) }
+    ensures tape { IfOk result (λ b. caches ≡ false → IsTape (body_view b)) }
+    ensures cached { (s : Fitter) → (caches ≡ true → (k : Raster) → IsRasterOf list.edges k → IsCached s number (record { raster = k; unfitted = unfitted })) → IsCacheFor s cache.old → IsCacheFor s cache.new }
+    ensures limit { limit_of cache.new ≡ limit_of cache.old }
+{
+    if caches {
+        raster_of(alloc, list, frame, number, unfitted, cache)
+    } else {
+        tape_of(alloc, list, frame)
+    }
+}
+
+/// The number of an outline's edges up to the end of each contour, if its dropouts are filled. Error: Memory.
+fn ends_of(
+    alloc: Global,
+    outline: &Outline,
+    filled: Option<Rules>,
+) -> Result<Vec<usize>, AllocError>
+    requires outline { IsOutline (outline_of outline.now) }
+    ensures contours { IfOk result (λ v. IfSome filled (λ rules. contours_at (edges_at 0 (outline_of outline.now)) v.items ≡ contours_of 0 (outline_of outline.now))) }
+    ensures ends { IfOk result (λ v. IfSome filled (λ rules. AreEnds (length (edges_at 0 (outline_of outline.now))) v.items)) }
+{
+    match filled {
+        Some(_) => contour_ends(alloc, outline),
+        None => Ok(Vec::new(alloc)),
+    }
+}

@@ -1,0 +1,42 @@
+//! The picture of glyphs at their pens, made row by row. Glyphs come from a fitter, or from a cache.
+//!
+//! ```text
+//! cache.rt      the cache of glyphs, which may be absent
+//! glyph.rt      a glyph of a line: a tape of edges or a raster, its dropout rules and its pens
+//! glyphs.rt     the distinct glyphs of a line, made in order
+//! reframing.rt  glyphs moved into another frame
+//! counting.rt   the crossings of glyphs at their pens
+//! report.rt     the unfitted glyphs
+//! inks.rt       the boxes of glyphs' black pixels
+//! ink_box.rt    such a box in a picture
+//! dropouts.rt   the dropouts of a line
+//! painting.rt   one row of a glyph
+//! rows.rt       one row of a picture
+//! picture.rt    the picture
+//! drawing.rt    the picture of made glyphs
+//! ```
+#![tactic(auto)]
+
+mod cache;
+mod counting;
+mod drawing;
+mod dropouts;
+mod glyph;
+mod glyphs;
+mod ink_box;
+mod inks;
+mod painting;
+mod picture;
+mod reframing;
+mod report;
+mod rows;
+
+pub use cache::Cache;
+pub use counting::crossings;
+pub use drawing::draw_made;
+pub use glyph::Glyph;
+pub use glyphs::{Glyphs, line_glyphs};
+pub use ink_box::{InkBox, ink_at, joined};
+pub use inks::glyph_inks;
+pub use picture::Picture;
+pub use report::{Report, Unfitted, report_on};

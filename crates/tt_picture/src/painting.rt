@@ -1,0 +1,80 @@
+//! Paints a glyph: blackens its pixels of one row, at each of its pens.
+
+ghost use Rattle.std.specs.Prelude.{◌≡◌, ℕ, ℤ, ◌+◌, ◌*◌, ◌<◌, ◌≤◌, ◌&&◌, ◌||◌, false, nat_lt, pos, length};
+ghost use Rattle.tt_core.specs.Bits.{bit};
+ghost use Rattle.tt_core.specs.Limits.{height_limit};
+ghost use Rattle.tt_scan_edges.specs.Winding.{is_black, column_x, row_y, rows_met};
+ghost use Rattle.tt_scan_dropouts.specs.Pictures.{line_at};
+ghost use Rattle.tt_picture.specs.Glyphs.{GlyphFits, body_crosses, drawn_of, stamp_of};
+ghost use Rattle.tt_picture.specs.Pixels.{TapeFits, edges, is_black_from};
+
+use crate::glyph::{Body, Glyph};
+use tt_scan::{Frame, Sweep, Tape};
+
+/// The line of row `r` of a picture, counted upwards from the base line.
+fn line_of(frame: Frame, r: u32) -> i64
+    ensures { result ≡ line_at frame r }
+{
+    i64::from(frame.rise) + i64::from(frame.margin) - 1 - i64::from(r)
+}
+
+/// Whether an edge of a tape may meet a row of the picture. Without one the tape blackens nothing there.
+fn meets(tape: &Tape, r: u32) -> bool
+    requires { r < tape.now.frame.height }
+    ensures none { result ≡ false → rows_met tape.now.edges (row_y tape.now.frame (pos r)) ≡ 0 }
+    ensures white { result ≡ false → (c : ℤ) → is_black tape.now.edges (column_x tape.now.frame.margin c) (row_y tape.now.frame (pos r)) ≡ false }
+{
+    let (first, past) = tape.rows();
+    let row = i64::from(r);
+    first <= row && row < past
+}
+
+/// Blackens the pixels of a row that the edges of a tape cover at some pens; all others are unchanged.
+fn add_tape(tape: &mut Tape, sweep: &mut Sweep, pens: &[u32], frame: Frame, r: u32, row: &mut [u8])
+    requires tape { TapeFits frame r tape.old }
+    requires room { length tape.old.edges ≤ sweep.old.room }
+    requires height { frame.height ≤ height_limit }
+    requires within { r < frame.height }
+    requires width { frame.width ≤ 8 * length row.old }
+    ensures bits { (k : ℕ) → bit row.new k ≡ (bit row.old k || (nat_lt k frame.width && is_black_from frame (edges tape.old.edges) pens.now k r)) }
+    ensures len { length row.new ≡ length row.old }
+    ensures tape { TapeFits frame (r + 1) tape.new }
+    ensures edges { tape.new.edges ≡ tape.old.edges }
+    ensures room { sweep.new.room ≡ sweep.old.room }
+{
+    if !meets(tape, r) {
+        return;
+    }
+    sweep.cut(tape, i64::from(r));
+    sweep.paint_all(pens, frame.width, row);
+}
+
+impl Glyph {
+    /// How often rows crossed its edges so far; 0 for a raster, which is cut already.
+    pub(crate) fn crosses(&self) -> u64
+        ensures { result ≡ body_crosses self.now.body }
+    {
+        match &self.body {
+            Body::Tape(tape) => tape.crosses(),
+            Body::Raster(_) => 0,
+        }
+    }
+
+    /// Blackens the pixels of a row that the glyph covers at its pens; all others are unchanged.
+    pub(crate) fn add_to_row(&mut self, sweep: &mut Sweep, frame: Frame, r: u32, row: &mut [u8])
+        requires glyph { GlyphFits frame r sweep.old.room self.old }
+        requires height { frame.height ≤ height_limit }
+        requires within { r < frame.height }
+        requires width { frame.width ≤ 8 * length row.old }
+        ensures bits { (k : ℕ) → bit row.new k ≡ (bit row.old k || (nat_lt k frame.width && is_black_from frame (drawn_of self.old.body) self.old.pens k r)) }
+        ensures len { length row.new ≡ length row.old }
+        ensures glyph { GlyphFits frame (r + 1) sweep.new.room self.new }
+        ensures stamp { stamp_of self.new ≡ stamp_of self.old }
+        ensures room { sweep.new.room ≡ sweep.old.room }
+    {
+        match &mut self.body {
+            Body::Tape(tape) => add_tape(tape, sweep, &self.pens, frame, r, row),
+            Body::Raster(raster) => raster.paint(line_of(frame, r), &self.pens, frame.width, row),
+        }
+    }
+}

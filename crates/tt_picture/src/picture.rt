@@ -1,0 +1,159 @@
+//! The picture of a line, whose rows are made in order.
+
+ghost use Rattle.std.specs.Prelude.{◌≡◌, ◌+ℤ◌, ◌+◌, ◌-◌, ◌^◌, ◌<◌, ◌≤◌, min, pos, length, All, IfOk};
+ghost use Rattle.tt_core.specs.Bits.{stride};
+ghost use Rattle.tt_core.specs.Limits.{width_limit, height_limit};
+ghost use Rattle.tt_scan_edges.specs.Winding.{FrameFits};
+ghost use Rattle.tt_scan_dropouts.specs.Pictures.{AreDropouts};
+ghost use Rattle.tt_picture.specs.Glyphs.{BodyFits, all_rows, edges_cut};
+ghost use Rattle.tt_picture.specs.Pictures.{IsReady, all_crossings, crossings_made, row_at};
+ghost use Rattle.tt_picture.specs.Unfitted.{unfitted_standing};
+
+use crate::glyph::Glyph;
+use crate::report::{Report, Unfitted, report_on};
+use crate::rows::{crosses, make_row, most_edges};
+use std::alloc::{AllocError, Global};
+use std::marker::Model;
+use tt_scan::{Frame, Sweep};
+use tt_scan_dropouts::Dropout;
+
+/// The picture of a line: its size, its base line, its rows, which are made in order, and its report. It already has
+/// all the memory that its rows need.
+#[derive(Drop)]
+pub struct Picture {
+    frame: Frame,
+    glyphs: Vec<Glyph>,
+    sweep: Sweep,
+    /// In order of their rows.
+    dropouts: Vec<Dropout>,
+    /// How many rows were made.
+    made: u32,
+    report: Report,
+}
+
+impl Model for Picture {
+    ghost use Rattle.std.specs.Prelude.{◌≤◌, All};
+    ghost use Rattle.tt_core.specs.Limits.{height_limit};
+    ghost use Rattle.tt_scan_edges.specs.Winding.{FrameFits};
+    ghost use Rattle.tt_scan_dropouts.specs.Pictures.{AreDropouts};
+    ghost use Rattle.tt_picture.specs.Glyphs.{GlyphFits, all_rows, edges_cut};
+    ghost use Rattle.tt_picture.specs.Pictures as pictures;
+
+    ghost Value = { pictures.Picture };
+
+    ghost view = { λ p. record { frame = p.frame; rows = all_rows p.frame p.glyphs.items p.dropouts.items; made = p.made; unfitted = p.report.unfitted.items; edges = edges_cut p.glyphs.items; cost = p.report.cost } };
+
+    ghost invariant = { λ p. FrameFits p.frame × (p.frame.height ≤ height_limit) × (p.made ≤ p.frame.height)
+        × All (GlyphFits p.frame p.made p.sweep.room) p.glyphs.items
+        × AreDropouts p.frame.width p.dropouts.items };
+}
+
+impl Picture {
+    /// The picture of some glyphs and dropouts, with no row made yet, of a text with this cost. Error: out of memory.
+    pub(crate) fn new(
+        alloc: Global,
+        frame: Frame,
+        glyphs: Vec<Glyph>,
+        dropouts: Vec<Dropout>,
+        cost: u64,
+    ) -> Result<Picture, AllocError>
+        requires frame { FrameFits frame }
+        requires height { frame.height ≤ height_limit }
+        requires glyphs { All (λ g. BodyFits frame 0 g.body) glyphs.items }
+        requires dropouts { AreDropouts frame.width dropouts.items }
+        ensures exact { IfOk result (λ p. p ≡ record { frame = frame; rows = all_rows frame glyphs.items dropouts.items; made = 0; unfitted = unfitted_standing glyphs.items; edges = edges_cut glyphs.items; cost = cost }) }
+        ensures valid { IfOk result IsReady }
+    {
+        let most = most_edges(&glyphs);
+        let report = report_on(alloc, &glyphs, cost)?;
+        Ok(Picture {
+            frame,
+            glyphs,
+            sweep: Sweep::new(alloc, most)?,
+            dropouts,
+            made: 0,
+            report,
+        })
+    }
+
+    /// Pixels in a row: 1 to 16,384.
+    pub fn width(&self) -> u32
+        ensures exact { result ≡ self.now.frame.width }
+        ensures some { 1 ≤ result }
+        ensures limit { result ≤ width_limit }
+    {
+        self.frame.width
+    }
+
+    /// Rows: 1 to 4,096.
+    pub fn height(&self) -> u32
+        ensures exact { result ≡ self.now.frame.height }
+        ensures some { 1 ≤ result }
+        ensures limit { result ≤ height_limit }
+    {
+        self.frame.height
+    }
+
+    /// The number of rows above the base line. Below 0, or more than the picture has, where the base line is outside.
+    pub fn baseline(&self) -> i64
+        ensures { result ≡ self.now.frame.rise +ℤ pos self.now.frame.margin }
+    {
+        i64::from(self.frame.rise) + i64::from(self.frame.margin)
+    }
+
+    /// The bytes of a row: a bit for each pixel, and up to seven bits more.
+    pub fn row_bytes(&self) -> usize
+        ensures { result ≡ stride self.now.frame.width }
+    {
+        (self.frame.width as usize).div_ceil(8)
+    }
+
+    /// The glyphs of the line that are not fitted.
+    pub fn unfitted(&self) -> &[Unfitted]
+        ensures { result.now ≡ self.now.unfitted }
+    {
+        &self.report.unfitted
+    }
+
+    /// What the text takes of the budget of a call of many lines.
+    pub fn cost(&self) -> u64
+        ensures { result ≡ self.now.cost }
+    {
+        self.report.cost
+    }
+
+    /// The picture's report.
+    pub fn into_report(self) -> Report
+        ensures { result.unfitted.items ≡ self.unfitted }
+    {
+        let Picture { report, .. } = self;
+        report
+    }
+
+    /// How often the rows made so far crossed edges, or 2 ^ 64 - 1 if that is more. Only tests call this function.
+    pub fn crosses(&self) -> u64
+        ensures exact { result ≡ min (crossings_made self.now) (2 ^ 64 - 1) }
+        ensures within { result ≤ all_crossings self.now }
+    {
+        crosses(&self.glyphs)
+    }
+
+    /// Makes the next row, the highest first, and overwrites `row`. The leftmost pixel is the highest bit of the first
+    /// byte; 1 is black; the bits after the last pixel are 0. It takes no memory.
+    pub fn next_row(&mut self, row: &mut [u8])
+        requires within { self.old.made < self.old.frame.height }
+        requires len { length row.old ≡ stride self.old.frame.width }
+        ensures row { row.new ≡ row_at self.old self.old.made }
+        ensures same { self.new ≡ record self.old { made = self.old.made + 1 } }
+    {
+        make_row(
+            &mut self.glyphs,
+            &mut self.sweep,
+            self.frame,
+            &self.dropouts,
+            self.made,
+            row,
+        );
+        self.made += 1;
+    }
+}

@@ -1,0 +1,43 @@
+use Rattle.std.proofs.Common.{refl}
+use Rattle.std.proofs.lemmas.Result.{err_from_is_err_and}
+use Rattle.tt_strike.specs.Strikes.{job_by}
+use Rattle.tt_strike.proofs.Stopped.{laying_stops, laying_tells, laying_tells_no_defect}
+use Rattle.tt_strike.proofs.sized.SizedFace.lay_out.Goals as goal
+
+pub returns-in_err-test_job-clause-exact : goal.returns-in_err-test_job-clause-exact
+returns-in_err-test_job-clause-exact c =
+    let p = err_from_is_err_and c.from_residual.result c.from_residual.ensures.1 in
+    rw (p.1, p.2, ← c.self.view_is, c.in_err-test_job.ensures.exact) refl
+
+pub returns-in_err-test_job-clause-font : goal.returns-in_err-test_job-clause-font
+returns-in_err-test_job-clause-font c =
+    let p = err_from_is_err_and c.from_residual.result c.from_residual.ensures.1 in
+    rw (p.1, p.2) tt
+
+pub returns-in_err-test_job-clause-job : goal.returns-in_err-test_job-clause-job
+returns-in_err-test_job-clause-job c =
+    let p = err_from_is_err_and c.from_residual.result c.from_residual.ensures.1 in
+    rw (p.1, p.2, ← c.self.view_is, c.in_err-test_job.ensures.first) c.in_err-test_job.ensures.refused
+
+pub returns-in_err-lay-clause-exact : goal.returns-in_err-lay-clause-exact
+returns-in_err-lay-clause-exact c =
+    let p = err_from_is_err_and c.from_residual-in_err-lay.result c.from_residual-in_err-lay.ensures.1 in
+    let fails = rw (c.metrics.ensures, c.cmap.ensures.exact) at c.in_err-lay.ensures.exact in
+    rw (p.1, p.2, ← c.self.view_is) (laying_stops (job_by (record { face = c.self.inside.face.now; ppem = c.self.inside.ppem; fit = c.self.inside.fit }) c.args.text.now c.args.margin) c.self.inside.face.now c.in_err-lay.field-0.0
+    c.in_ok-test_job.ensures.exact fails)
+
+pub returns-in_err-lay-clause-font : goal.returns-in_err-lay-clause-font
+returns-in_err-lay-clause-font c =
+    let p = err_from_is_err_and c.from_residual-in_err-lay.result c.from_residual-in_err-lay.ensures.1 in
+    rw (p.1, p.2) (laying_tells_no_defect _ c.in_err-lay.field-0.0)
+
+pub returns-in_err-lay-clause-job : goal.returns-in_err-lay-clause-job
+returns-in_err-lay-clause-job c =
+    let p = err_from_is_err_and c.from_residual-in_err-lay.result c.from_residual-in_err-lay.ensures.1 in
+    let fault = rw (c.metrics.ensures, c.cmap.ensures.exact) at c.in_err-lay.ensures.fault in
+    rw (p.1, p.2, ← c.self.view_is) (laying_tells (job_by (record { face = c.self.inside.face.now; ppem = c.self.inside.ppem; fit = c.self.inside.fit }) c.args.text.now c.args.margin) c.self.inside.face.now c.in_err-lay.field-0.0 fault)
+
+pub returns-clause-exact : goal.returns-clause-exact
+returns-clause-exact c =
+    let laid = rw (c.metrics.ensures, c.cmap.ensures.exact) at c.in_ok-lay.ensures.exact in
+    rw (← c.self.view_is, c.in_ok-test_job.ensures.exact, laid) refl

@@ -1,0 +1,87 @@
+//! A face at a size: its fitter is opened once, and makes the glyphs of line after line.
+
+ghost use Rattle.std.specs.Prelude.{◌≡◌, ◌≤◌, IfErr, IfOk};
+ghost use Rattle.tt_core.specs.Limits.{size_limit};
+ghost use Rattle.tt_core.specs.Outcomes.{Gives};
+ghost use Rattle.tt_strike.specs.Job.{size_tested, IsSizeRefusal};
+
+use crate::job::test_size;
+use crate::maker::Maker;
+use crate::tables::Face;
+use std::alloc::Global;
+use std::marker::Model;
+use tt_core::JobFault;
+use tt_fit::Fit;
+
+/// A face at a size, with a fit. Clauses see these three. They do not see the fitter, which changes no answer.
+#[derive(Drop)]
+pub(crate) struct SizedFace<'f, 'a> {
+    pub(crate) alloc: Global,
+    pub(crate) face: &'f Face<'a>,
+    pub(crate) ppem: u32,
+    pub(crate) fit: Fit,
+    pub(crate) maker: Maker<'a>,
+}
+
+impl<'f, 'a> Model for SizedFace<'f, 'a> {
+    ghost use Rattle.std.specs.Prelude.{◌≤◌};
+    ghost use Rattle.tt_core.specs.Limits.{size_limit};
+    ghost use Rattle.tt_strike.specs.Makers.{IsMaker};
+    ghost use Rattle.tt_strike.specs.Strikes as strikes;
+
+    ghost Value = { strikes.SizedFace };
+
+    ghost view = { λ z. record { face = z.face.now; ppem = z.ppem; fit = z.fit } };
+
+    ghost invariant = { λ z. (1 ≤ z.ppem) × (z.ppem ≤ size_limit) × IsMaker z.face.now z.ppem z.fit z.maker };
+}
+
+impl<'f, 'a> SizedFace<'f, 'a> {
+    /// A face at a size in pixels per em, 1 to 300. Error: SizeRange.
+    pub(crate) fn new(
+        alloc: Global,
+        face: &'f Face<'a>,
+        ppem: u32,
+        fit: Fit,
+    ) -> Result<SizedFace<'f, 'a>, JobFault>
+        ensures tested { Gives (λ z. tt) result (size_tested ppem) }
+        ensures exact { IfOk result (λ z. z ≡ record { face = face.now; ppem = ppem; fit = fit }) }
+        ensures refused { IfErr result (IsSizeRefusal ppem) }
+    {
+        test_size(ppem)?;
+        Ok(SizedFace {
+            alloc,
+            face,
+            ppem,
+            fit,
+            maker: Maker::Unmade,
+        })
+    }
+
+    /// Where memory comes from.
+    pub(crate) fn alloc(&self) -> Global {
+        self.alloc
+    }
+
+    /// The font's tables.
+    pub(crate) fn face(&self) -> &'f Face<'a>
+        ensures { result.now ≡ self.now.face }
+    {
+        self.face
+    }
+
+    /// The size in pixels per em.
+    pub(crate) fn ppem(&self) -> u32
+        ensures exact { result ≡ self.now.ppem }
+        ensures limit { result ≤ size_limit }
+    {
+        self.ppem
+    }
+
+    /// How outlines are fitted.
+    pub(crate) fn fit(&self) -> Fit
+        ensures { result ≡ self.now.fit }
+    {
+        self.fit
+    }
+}
