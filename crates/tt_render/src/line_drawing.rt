@@ -35,12 +35,10 @@ pub fn lines_budget(before: u64) -> u128
 fn draw_line(
     alloc: Global,
     strike: &mut Strike,
-    face: &Face,
     setting: &Setting,
     number: u32,
     line: &[u8],
 ) -> Result<ReadyText, TextStop>
-    requires face { strike.old.face ≡ face.now }
     requires short { length line.now ≤ line_limit }
     ensures exact { GivesUnless told answer_view result (draws_by setting.now strike.old line.now) }
     ensures valid { IfOk result (λ r. CanGoOut r.output) }
@@ -52,7 +50,7 @@ fn draw_line(
     let Ok(text) = str::from_utf8(line) else {
         return Err(TextStop::Refused(TextFault::NotUtf8));
     };
-    answer_text(alloc, strike, face, setting, Some(number), text)
+    answer_text(alloc, strike, setting, Some(number), text)
 }
 
 /// The place of the next line, if there is one. The `drawn` lines before it took `used` of the budget. Errors, the first
@@ -92,13 +90,11 @@ fn next_line<R: Source>(
 fn draw_lines_by<R: Source, W: Sink, E: Sink>(
     alloc: Global,
     strike: &mut Strike,
-    face: &Face,
     lines: &mut R,
     out: &mut W,
     error: &mut E,
     setting: &Setting,
 ) -> Result<usize, TextsFault>
-    requires face { strike.old.face ≡ face.now }
     requires lines { R.has_failed lines.old ≡ false }
     requires out { W.has_failed out.old ≡ false }
     requires error { E.has_failed error.old ≡ false }
@@ -116,7 +112,7 @@ fn draw_lines_by<R: Source, W: Sink, E: Sink>(
             Err(stop) => return Err(texts_fault(Some(number), stop)),
         };
         let line = reader.line(place);
-        let mut ready = match draw_line(alloc, strike, face, setting, number, line) {
+        let mut ready = match draw_line(alloc, strike, setting, number, line) {
             Ok(ready) => ready,
             Err(refusal) => return Err(texts_fault(Some(number), refusal)),
         };
@@ -169,5 +165,5 @@ pub fn draw_lines<F: Source, R: Source, W: Sink, E: Sink>(
     let file = read_font(alloc, font)?;
     let face = Face::open(&file)?;
     let mut strike = Strike::new(alloc, &face, setting.ppem, setting.fit, setting.most)?;
-    draw_lines_by(alloc, &mut strike, &face, lines, out, error, setting)
+    draw_lines_by(alloc, &mut strike, lines, out, error, setting)
 }

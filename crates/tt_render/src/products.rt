@@ -87,11 +87,9 @@ fn measure_output(
 pub(crate) fn make_output(
     alloc: Global,
     strike: &mut Strike,
-    face: &Face,
     setting: &Setting,
     text: &str,
 ) -> Result<Output, TextStop>
-    requires face { strike.old.face ≡ face.now }
     ensures exact { GivesUnless told bytes_in result (as_text (product_of strike.old setting.now.product setting.now.margin text.now)) }
     ensures report { IfOk result (λ o. report_by strike.old.face (job_of strike.old text.now setting.now.margin) ≡ Ok (unfitted_in o)) }
     ensures cost { IfOk result (λ o. cost_by strike.old.face (job_of strike.old text.now setting.now.margin) ≡ Ok (cost_in o)) }
@@ -110,10 +108,12 @@ pub(crate) fn make_output(
             Ok(picture_output(alloc, picture)?)
         }
         Product::Measure => {
+            let face = strike.face();
             let measure = strike.measure(text, setting.margin)?;
             Ok(measure_output(alloc, face, text, measure)?)
         }
         Product::GrownMeasure => {
+            let face = strike.face();
             let measure = strike.grown_measure(text, setting.margin)?;
             Ok(measure_output(alloc, face, text, measure)?)
         }

@@ -15,7 +15,7 @@ use crate::texts_fault::{TextFault, TextStop};
 use crate::texts_messages::report_text;
 use std::alloc::Global;
 use tt_cmap::{Cmap, lacking};
-use tt_strike::{Face, Strike};
+use tt_strike::Strike;
 
 /// The output of a text, ready to be written; the reported characters without a glyph; and the report as it is printed.
 #[derive(Drop)]
@@ -55,12 +55,10 @@ fn missing_of(
 pub(crate) fn answer_text(
     alloc: Global,
     strike: &mut Strike,
-    face: &Face,
     setting: &Setting,
     number: Option<u32>,
     text: &str,
 ) -> Result<ReadyText, TextStop>
-    requires face { strike.old.face ≡ face.now }
     ensures exact { GivesUnless told answer_view result (text_answer strike.old setting.now.product setting.now.missing setting.now.margin text.now) }
     ensures valid { IfOk result (λ r. CanGoOut r.output) }
     ensures report { IfOk result (TellsOf number) }
@@ -68,7 +66,8 @@ pub(crate) fn answer_text(
     ensures defects { TellsDefects stop_font_fault (IsLineDefect strike.old.face (job_of strike.old text.now setting.now.margin) (text_glyphs strike.old.face.cmap text.now)) result }
     ensures same { strike.new ≡ record strike.old { kept = strike.new.kept } }
 {
-    let output = make_output(alloc, strike, face, setting, text)?;
+    let face = strike.face();
+    let output = make_output(alloc, strike, setting, text)?;
     let lacking = missing_of(alloc, face.cmap(), setting.missing, text)?;
     let report = report_text(alloc, number, output.unfitted(), &lacking)?;
     Ok(ReadyText {

@@ -38,7 +38,7 @@ fn ready_text(
     let face = Face::open(file)?;
     // There is no other line, so no glyph is cached.
     let mut strike = Strike::new(alloc, &face, setting.ppem, setting.fit, 0)?;
-    match answer_text(alloc, &mut strike, &face, setting, None, text) {
+    match answer_text(alloc, &mut strike, setting, None, text) {
         Ok(ready) => Ok(ready),
         Err(stop) => Err(texts_fault(None, stop)),
     }

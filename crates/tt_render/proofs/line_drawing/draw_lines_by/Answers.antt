@@ -200,9 +200,6 @@ returns-in-Err-draw_line-clause-defects g c =
     (errors_of g.E.Sink.written g.E.Sink.has_failed c.args.error.now c.loop-before.error) c.loop-before.before
     c.loop-before.used why so_far.so_far (next_tells IsOne rest after line why found.1 is))
 
-pub draw_line-requires-clause-face : goal.draw_line-requires-clause-face
-draw_line-requires-clause-face g c = ap (λ (s : Strike). s.face) c.loop-before.invariant.strike ∙ c.requires.face
-
 pub returns-in-Ok-None-clause-kept : goal.returns-in-Ok-None-clause-kept
 returns-in-Ok-None-clause-kept g c =
     let most = λ (s : Strike). s.most in
