@@ -5,14 +5,17 @@ use Rattle.tt_core.specs.declared.fault.JobFault.{JobFault}
 use Rattle.tt_core.specs.Faults.{Fault}
 use Rattle.tt_core.specs.Limits.{font_limit}
 use Rattle.tt_core.specs.Outcomes.{◌>>=◌}
-use Rattle.tt_render.specs.Outcome.{of_font}
-use Rattle.tt_strike.specs.Refusals.{Refused, as_font, as_job, job, large}
+use Rattle.tt_render_run.specs.Outcome.{of_font}
+use Rattle.tt_strike.specs.declared.fault.DrawFault.{DrawFault}
+use Rattle.tt_strike.specs.declared.fault.DrawFault.TheVariants as draw
+use Rattle.tt_strike.specs.Defects.{draw_font_fault}
+use Rattle.tt_strike.specs.Refusals.{Refused, as_font, as_job, job, large, refusal}
 use Rattle.tt_strike.specs.Tables.{Face, face_of}
 use Rattle.tt_c_calls.specs.declared.fault.CallFault.{CallFault}
 use Rattle.tt_c_calls.specs.declared.fault.CallFault.TheVariants as call
 use Rattle.tt_c_calls.specs.Answers.{DefectStands, TellsRefusal, call_answer}
 use Rattle.tt_c_calls.specs.Fonts.{face_wanted}
-use Rattle.tt_c_calls.specs.Refusals.{Refusal, as_call, call_font_fault, call_refusal, refused}
+use Rattle.tt_c_calls.specs.Refusals.{Refusal, as_call, call_font_fault, call_of_draw, call_refusal, refused}
 
 tells_memory : {X : Type 0} (wanted : Result X Refusal) → TellsRefusal wanted (call_answer call.Memory)
 tells_memory (Ok x) = refl
@@ -109,3 +112,21 @@ by_face test make font passes = rw passes (by_size (nat_lt font_limit (length fo
 pub by_test : {X : Type 0} (test : Result (Unit {0}) JobFault) (make : Unit {0} → Result X Refused) (j : JobFault)
     → test ≡ Err j → as_call (as_job test >>= make) ≡ Err (refused (job j))
 by_test test make j fails = rw fails refl
+
+-- a fault of drawing stops the call for the same reason
+pub draw_refused : {X : Type 0} (wanted : Result X Refused) (d : DrawFault)
+    → IfSome (refusal d) (λ why. wanted ≡ Err why)
+    → IfSome (call_refusal (call_of_draw d)) (λ why. as_call wanted ≡ Err why)
+draw_refused wanted (draw.Font f) is = rw is refl
+draw_refused wanted (draw.Job j) is = rw is refl
+draw_refused wanted draw.Memory is = tt
+
+pub draw_tells : (P : Fault → Type 0) (d : DrawFault) → IfSome (draw_font_fault d) P
+    → IfSome (call_font_fault (call_of_draw d)) P
+draw_tells P (draw.Font f) stands = stands
+draw_tells P (draw.Job j) stands = tt
+draw_tells P draw.Memory stands = tt
+
+-- what is drawn is what the call gives
+pub drawn_too : {X : Type 0} (wanted : Result X Refused) (x : X) → wanted ≡ Ok x → as_call wanted ≡ Ok x
+drawn_too wanted x is = rw is refl

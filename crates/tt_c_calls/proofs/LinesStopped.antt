@@ -11,6 +11,8 @@ use Rattle.tt_cmap.specs.Lookup.{cmap_of}
 use Rattle.tt_core.specs.Directory.{needed_table}
 use Rattle.tt_fit.specs.declared.programs.Fit.{Fit}
 use Rattle.tt_metrics.specs.Metrics.{glyphs_of, metrics_of}
+use Rattle.tt_render.specs.declared.setting.Setting.{Setting}
+use Rattle.tt_render.specs.Settings.{job_by, plain_setting}
 use Rattle.tt_strike.specs.declared.fault.DrawFault.{DrawFault}
 use Rattle.tt_strike.specs.declared.fault.DrawFault.TheVariants as draw
 use Rattle.tt_strike.specs.Job.{Job, size_tested, tested}
@@ -123,6 +125,12 @@ lines_defect_told IsOne call.Memory stands is = absurd (omega arith)
 -- the size or the margin is refused
 abbrev of_no_text : CJob → Fit → Job
 of_no_text j how = record { text = []; ppem = j.size; margin = j.margin; fit = how }
+
+-- a setting's job of no text
+pub of_setting : (j : CJob) (how : Fit) (s : Setting) (a : Job) (r : Result (Unit {0}) JobFault) → a ≡ job_by s []
+    → s ≡ plain_setting j.size j.margin how → tested a ≡ r → tested (of_no_text j how) ≡ r
+of_setting j how s a r is of test =
+    subst (λ (b : Job). tested b ≡ r) (is ∙ ap (λ (t : Setting). job_by t []) of) test
 
 pub job_refused : (j : CJob) (file : List ℕ) (how : Fit) (why : JobFault) → fit_asked j.fit ≡ Ok how
     → tested (of_no_text j how) ≡ Err why → lines_wanted j file ≡ Err (refused (job why))

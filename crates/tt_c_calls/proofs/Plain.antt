@@ -5,13 +5,14 @@ use Rattle.tt_core.specs.declared.fault.JobFault.{JobFault}
 use Rattle.tt_core.specs.Faults.{Fault}
 use Rattle.tt_core.specs.Limits.{font_limit}
 use Rattle.tt_core.specs.Outcomes.{◌>>=◌}
-use Rattle.tt_render.specs.Run.{run_outcome}
+use Rattle.tt_render_run.specs.Run.{run_outcome}
 use Rattle.tt_strike.specs.Job.{Job, tested}
 use Rattle.tt_strike.specs.Picture.{line_outcome, pictured, pictured_by}
 use Rattle.tt_strike.specs.Refusals.{as_font, large}
 use Rattle.tt_strike.specs.Tables.{Face, face_of}
 use Rattle.tt_c_calls.specs.Laws.{PlainIsRun}
-use Rattle.tt_c_calls.specs.Pictures.{made_of, picture_by, picture_wanted}
+use Rattle.tt_c_calls.specs.Pictures.{made_of, picture_wanted}
+use Rattle.tt_render.specs.Texts.{picture_by}
 
 -- the tests of a line do not refuse the line of a tested job
 line_drawn : (face : Face) (a : Job) → tested a ≡ Ok tt → line_outcome face a ≡ pictured_by face a

@@ -3,8 +3,8 @@
 use Rattle.std.specs.Prelude.{◌≡◌, ℕ, true, List, Ok}
 use Rattle.tt_core.specs.declared.fault.JobFault.{JobFault}
 use Rattle.tt_core.specs.Faults.{Fault, is_ascii}
-use Rattle.tt_render.specs.Messages.{font_line, job_line}
-use Rattle.tt_render.specs.Run.{run_outcome}
+use Rattle.tt_render_run.specs.Messages.{font_line, job_line}
+use Rattle.tt_render_run.specs.Run.{run_outcome}
 use Rattle.tt_strike.specs.Job.{Job}
 use Rattle.tt_c_calls.specs.declared.asked.CJob.{CJob}
 use Rattle.tt_c_calls.specs.Answers.{fault_answer, job_answer}

@@ -3,7 +3,7 @@ use Rattle.std.specs.Prelude.{◌≡◌, ℕ, List, ◌++◌, chars, length, dro
 use Rattle.tt_cmap.specs.Lookup.{Cmap, glyph_of}
 use Rattle.tt_core.specs.Outcomes.{◌>>=◌}
 use Rattle.tt_metrics.specs.Metrics.{Metrics, advance_of}
-use Rattle.tt_render.specs.Outcome.{of_font}
+use Rattle.tt_render_run.specs.Outcome.{of_font}
 use Rattle.tt_strike.specs.Job.{text_tested}
 use Rattle.tt_strike.specs.Refusals.{as_font, as_job}
 use Rattle.tt_strike.specs.Tables.{face_of}

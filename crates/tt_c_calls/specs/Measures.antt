@@ -1,12 +1,10 @@
 -- No part of the standard: the measure of a text, for C (profile).
-use Rattle.std.specs.Prelude.{◌≡◌, ℕ, ◌<◌, Bool, true, false, pos, List, ◌++◌, length, drop, map, Option, Some, None, Result, Ok, IsOkAnd}
+use Rattle.std.specs.Prelude.{◌≡◌, ℕ, ◌<◌, pos, List, ◌++◌, length, drop, map, Option, Some, None, Result, Ok, IsOkAnd}
 use Rattle.tt_core.specs.Outcomes.{◌>>=◌}
-use Rattle.tt_strike.specs.Grown.{grown_measured}
-use Rattle.tt_strike.specs.Job.{Job}
-use Rattle.tt_strike.specs.Measures.{Measure, measured}
-use Rattle.tt_strike.specs.Refusals.{Refused}
+use Rattle.tt_render.specs.Texts.{measure_by}
+use Rattle.tt_strike.specs.Measures.{Measure}
 use Rattle.tt_strike.specs.Report.{report_by}
-use Rattle.tt_strike.specs.Tables.{Face, face_of}
+use Rattle.tt_strike.specs.Tables.{face_of}
 use Rattle.tt_picture.specs.declared.ink_box.InkBox.{InkBox}
 use Rattle.tt_strike.specs.declared.measuring.CharacterMeasure.{CharacterMeasure}
 use Rattle.tt_picture.specs.declared.report.Unfitted.{Unfitted}
@@ -19,11 +17,6 @@ use Rattle.tt_c_calls.specs.Answers.{done_answer, room_answer}
 use Rattle.tt_c_calls.specs.Asked.{asked, grows}
 use Rattle.tt_c_calls.specs.Pictures.{made_of}
 use Rattle.tt_c_calls.specs.Refusals.{Refusal, as_call}
-
--- the measure of a job by a font's tables: of its picture, or of the picture enlarged so that no ink is cut
-unfoldable pub measure_by : Bool → Face → Job → Result Measure Refused
-measure_by false face a = measured face a
-measure_by true face a = grown_measured face a
 
 -- the measure of a text by a font file
 unfoldable pub measure_wanted : CJob → List ℕ → List ℕ → Result Measure Refusal

@@ -1,18 +1,13 @@
 -- No part of the standard: the rows of a picture, for C (profile). Netpbm, "PBM", format P4, has the bytes of a row;
 -- each row begins with a new byte.
-use Rattle.std.specs.Prelude.{◌≡◌, refl, ℕ, ◌*◌, ◌-◌, ◌<◌, min, Bool, true, false, pos, ◌+ℤ◌, List, ◌++◌, length, take, drop, Result, Ok, IsOkAnd}
+use Rattle.std.specs.Prelude.{◌≡◌, refl, ℕ, ◌*◌, ◌-◌, ◌<◌, min, pos, ◌+ℤ◌, List, ◌++◌, length, take, drop, Result, Ok, IsOkAnd}
 use Rattle.tt_core.specs.Bits.{stride}
 use Rattle.tt_core.specs.Outcomes.{◌>>=◌}
-use Rattle.tt_line.specs.Layout.{placement}
-use Rattle.tt_render.specs.Outcome.{of_font}
-use Rattle.tt_scan_edges.specs.declared.edge.Frame.{Frame}
-use Rattle.tt_strike.specs.Costs.{cost_by}
-use Rattle.tt_strike.specs.Grown.{grown_outcome, grown_placement}
+use Rattle.tt_render_run.specs.Outcome.{of_font}
+use Rattle.tt_render.specs.Texts.{IsMadeBy, picture_by}
 use Rattle.tt_strike.specs.Job.{Job, tested}
-use Rattle.tt_strike.specs.Picture.{frame_of, line_outcome}
 use Rattle.tt_picture.specs.Pictures.{IsReady, Picture, picture_bytes}
 use Rattle.tt_strike.specs.Refusals.{Refused, as_font, as_job}
-use Rattle.tt_strike.specs.Report.{report_by}
 use Rattle.tt_strike.specs.Tables.{Face, face_of}
 use Rattle.tt_c_calls.specs.declared.answer.CAnswer.{CAnswer}
 use Rattle.tt_c_calls.specs.declared.asked.CJob.{CJob}
@@ -21,11 +16,6 @@ use Rattle.tt_c_calls.specs.Answers.{done_answer, room_answer}
 use Rattle.tt_c_calls.specs.Asked.{asked, grows}
 use Rattle.tt_c_calls.specs.Refusals.{Refusal, as_call}
 
--- the file of the picture of a job by a font's tables: as it is, or enlarged so that no ink is cut
-unfoldable pub picture_by : Bool → Face → Job → Result (List ℕ) Refused
-picture_by false face a = line_outcome face a
-picture_by true face a = grown_outcome face a
-
 -- a result made from a font's tables, after the tests of the job and then of the font's size
 abbrev pub made_of : {X : Type 0} → (Face → Result X Refused) → Job → List ℕ → Result X Refused
 made_of make a font = as_job (tested a) >>= λ u. of_font (λ file. as_font (face_of file) >>= make) font
@@ -33,17 +23,6 @@ made_of make a font = as_job (tested a) >>= λ u. of_font (λ file. as_font (fac
 -- the file of the picture of a text by a font file
 unfoldable pub picture_wanted : CJob → List ℕ → List ℕ → Result (List ℕ) Refusal
 picture_wanted j text font = asked j text >>= λ a. as_call (made_of (λ face. picture_by (grows j) face a) a font)
-
--- the frame of that picture
-abbrev pub IsFramed : Bool → Face → Job → Frame → Type 0
-IsFramed false face a f =
-    IsOkAnd (placement face.metrics face.cmap a.text a.ppem a.margin) (λ l. f ≡ frame_of l a.margin)
-IsFramed true face a f = IsOkAnd (grown_placement face a) (λ l. f ≡ frame_of l a.margin)
-
--- a picture of a job by a font's tables: its frame, its unfitted glyphs, and what it takes of the budget of many lines
-abbrev pub IsMadeBy : Bool → Job → Picture → Face → Type 0
-IsMadeBy grow a p face =
-    IsFramed grow face a p.frame × (report_by face a ≡ Ok p.unfitted) × (cost_by face a ≡ Ok p.cost)
 
 -- a picture is that of a text by a font file
 pub record IsPictureOf (j : CJob) (text font : List ℕ) (p : Picture) : Type 0 where

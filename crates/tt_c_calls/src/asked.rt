@@ -10,6 +10,7 @@ ghost use Rattle.tt_c_calls.specs.Refusals.{call_refusal};
 use crate::fault::CallFault;
 use std::str;
 use tt_fit::Fit;
+use tt_render::Setting;
 use tt_strike::Job;
 
 /// How a text is to be drawn.
@@ -69,10 +70,5 @@ pub(crate) fn job_of<'t>(job: &CJob, text: &'t [u8]) -> Result<Job<'t>, CallFaul
 {
     let fit = fit_of(job.fit)?;
     let text = text_of(text)?;
-    Ok(Job {
-        text,
-        ppem: job.size,
-        margin: job.margin,
-        fit,
-    })
+    Ok(Setting::plain(job.size, job.margin, fit).job(text))
 }

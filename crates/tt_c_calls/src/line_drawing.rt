@@ -9,11 +9,11 @@ use crate::answer::{CAnswer, answer_of, done, wants_room};
 use crate::asked::{CJob, fit_of, text_of};
 use crate::fault::CallFault;
 use crate::opening::face_of;
-use crate::pictures::{CPicture, picture_by, told_of, write_band};
+use crate::pictures::{CPicture, told_of, write_band};
 use std::alloc::Global;
 use tt_core::JobFault;
-use tt_render::lines_budget;
-use tt_strike::{Job, Strike, test_job};
+use tt_render::{Setting, lines_budget, make_picture};
+use tt_strike::{Strike, test_job};
 
 /// A line that was drawn.
 #[repr(C)]
@@ -61,9 +61,9 @@ fn draw_line(
         Ok(text) => text,
         Err(fault) => return (answer_of(fault), 0),
     };
-    let mut picture = match picture_by(strike, job.grows(), text, job.margin) {
+    let mut picture = match make_picture(strike, job.grows(), text, job.margin) {
         Ok(picture) => picture,
-        Err(fault) => return (answer_of(fault), 0),
+        Err(fault) => return (answer_of(CallFault::from(fault)), 0),
     };
     let cost = picture.cost();
     let height = picture.height();
@@ -156,13 +156,7 @@ pub fn draw_lines(
         Err(fault) => return (answer_of(fault), 0),
     };
     // A text of no characters is never too long.
-    let none = Job {
-        text: "",
-        ppem: job.size,
-        margin: job.margin,
-        fit,
-    };
-    if let Err(fault) = test_job(&none) {
+    if let Err(fault) = test_job(&Setting::plain(job.size, job.margin, fit).job("")) {
         return (answer_of(CallFault::Job(fault)), 0);
     }
     let face = match face_of(font) {

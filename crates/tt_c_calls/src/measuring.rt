@@ -1,22 +1,20 @@
 //! A text measured.
 
-ghost use Rattle.std.specs.Prelude.{◌≡◌, ◌≢◌, ◌<◌, length, Ok, IfOk};
+ghost use Rattle.std.specs.Prelude.{◌≡◌, ◌≢◌, ◌<◌, length, IfOk};
 ghost use Rattle.tt_core.specs.Outcomes.{GivesUnless};
-ghost use Rattle.tt_line.specs.Layout.{text_glyphs};
-ghost use Rattle.tt_strike.specs.Defects.{IsLineDefect, TellsDefects};
+ghost use Rattle.tt_strike.specs.Defects.{TellsDefects};
 ghost use Rattle.tt_strike.specs.Measures.{measure_view};
-ghost use Rattle.tt_strike.specs.Report.{report_by};
-ghost use Rattle.tt_strike.specs.Strikes.{job_of};
 ghost use Rattle.tt_c_calls.specs.Answers.{DefectStands, TellsRefusal};
 ghost use Rattle.tt_c_calls.specs.Asked.{IsAskedDefect};
-ghost use Rattle.tt_c_calls.specs.Measures.{AreCharactersOf, AreCharactersTold, IsCharactersSmall, IsEntriesSmall, IsMeasureOf, IsMeasureTold, box_told, character_told, measure_by, measure_told, measure_wanted};
-ghost use Rattle.tt_c_calls.specs.Refusals.{as_call, call_font_fault, call_refusal};
+ghost use Rattle.tt_c_calls.specs.Measures.{AreCharactersOf, AreCharactersTold, IsCharactersSmall, IsEntriesSmall, IsMeasureOf, IsMeasureTold, box_told, character_told, measure_told, measure_wanted};
+ghost use Rattle.tt_c_calls.specs.Refusals.{call_font_fault, call_refusal};
 
 use crate::answer::{CAnswer, answer_of, done, wants_room};
 use crate::asked::{CJob, job_of};
 use crate::fault::CallFault;
 use crate::opening::face_of;
 use std::alloc::Global;
+use tt_render::make_measure;
 use tt_strike::{CharacterMeasure, InkBox, Measure, Strike, test_job};
 
 /// A box of pixels; all four sides are included.
@@ -107,28 +105,8 @@ fn measure_of(measure: &Measure) -> CMeasure
     }
 }
 
-/// The measure of a text by a strike: of its picture, or of the enlarged picture. Errors: those of `Strike::measure` or
-/// `Strike::grown_measure`.
-#[tactic(auto, unfolding(crate::specs::Measures::measure_by))]
-fn measured_by(
-    strike: &mut Strike,
-    grow: bool,
-    text: &str,
-    margin: u32,
-) -> Result<Measure, CallFault>
-    ensures exact { GivesUnless call_refusal measure_view result (as_call (measure_by grow strike.old.face (job_of strike.old text.now margin))) }
-    ensures report { IfOk result (λ m. report_by strike.old.face (job_of strike.old text.now margin) ≡ Ok m.report.unfitted.items) }
-    ensures defects { TellsDefects call_font_fault (IsLineDefect strike.old.face (job_of strike.old text.now margin) (text_glyphs strike.old.face.cmap text.now)) result }
-{
-    if grow {
-        Ok(strike.grown_measure(text, margin)?)
-    } else {
-        Ok(strike.measure(text, margin)?)
-    }
-}
-
 /// The measure of a text by a font file. Errors, the first of: UnknownFit, NotUtf8; SizeRange, MarginRange, TextLong;
-/// FontLarge; those of the tables that every text needs; those of `measured_by`.
+/// FontLarge; those of the tables that every text needs; those of `make_measure`.
 #[tactic(auto, unfolding(crate::specs::Measures::measure_wanted))]
 fn measured(alloc: Global, font: &[u8], text: &[u8], job: &CJob) -> Result<Measure, CallFault>
     ensures exact { GivesUnless call_refusal measure_view result (measure_wanted job.now text.now font.now) }
@@ -139,7 +117,8 @@ fn measured(alloc: Global, font: &[u8], text: &[u8], job: &CJob) -> Result<Measu
     test_job(&asked)?;
     let face = face_of(font)?;
     let mut strike = Strike::new(alloc, &face, asked.ppem, asked.fit, 0)?;
-    measured_by(&mut strike, job.grows(), asked.text, asked.margin)
+    let measure = make_measure(&mut strike, job.grows(), asked.text, asked.margin)?;
+    Ok(measure)
 }
 
 /// Measures a text: the size of its picture, its base line, and the box of its ink. Answers: done; the font is refused,

@@ -3,20 +3,19 @@
 ghost use Rattle.std.specs.Prelude.{◌≡◌, ◌≢◌, ◌*◌, ◌+◌, ◌-◌, ◌<◌, ◌≤◌, min, length, take, drop, Ok, IfOk};
 ghost use Rattle.tt_core.specs.Bits.{stride};
 ghost use Rattle.tt_core.specs.Outcomes.{GivesUnless};
-ghost use Rattle.tt_line.specs.Layout.{text_glyphs};
-ghost use Rattle.tt_strike.specs.Defects.{IsLineDefect, TellsDefects};
+ghost use Rattle.tt_strike.specs.Defects.{TellsDefects};
 ghost use Rattle.tt_picture.specs.Pictures.{IsReady, picture_bytes};
-ghost use Rattle.tt_strike.specs.Strikes.{job_of};
-ghost use Rattle.tt_c_calls.specs.Asked.{IsAskedDefect, grows};
-ghost use Rattle.tt_c_calls.specs.Pictures.{IsBandSmall, IsBandWritten, IsMadeBy, IsPictureOf, band_of, band_rows, picture_by, picture_told, picture_wanted};
+ghost use Rattle.tt_c_calls.specs.Asked.{IsAskedDefect};
+ghost use Rattle.tt_c_calls.specs.Pictures.{IsBandSmall, IsBandWritten, IsPictureOf, band_of, band_rows, picture_told, picture_wanted};
 ghost use Rattle.tt_c_calls.specs.Answers.{room_answer};
-ghost use Rattle.tt_c_calls.specs.Refusals.{as_call, call_font_fault, call_refusal};
+ghost use Rattle.tt_c_calls.specs.Refusals.{call_font_fault, call_refusal};
 
 use crate::answer::{CAnswer, done, wants_room};
 use crate::asked::{CJob, job_of};
 use crate::fault::CallFault;
 use crate::opening::face_of;
 use std::alloc::Global;
+use tt_render::make_picture;
 use tt_strike::{Picture, Strike, test_job};
 
 /// A picture without its pixels.
@@ -48,29 +47,8 @@ pub(crate) fn told_of(picture: &Picture) -> CPicture
     }
 }
 
-/// The picture of a text by a strike, as it is or enlarged. Errors: those of `Strike::line` or `Strike::grown_line`.
-#[tactic(auto, unfolding(crate::specs::Pictures::picture_by))]
-pub(crate) fn picture_by(
-    strike: &mut Strike,
-    grow: bool,
-    text: &str,
-    margin: u32,
-) -> Result<Picture, CallFault>
-    ensures exact { GivesUnless call_refusal picture_bytes result (as_call (picture_by grow strike.old.face (job_of strike.old text.now margin))) }
-    ensures ready { IfOk result IsReady }
-    ensures made { IfOk result (λ p. IsMadeBy grow (job_of strike.old text.now margin) p strike.old.face) }
-    ensures defects { TellsDefects call_font_fault (IsLineDefect strike.old.face (job_of strike.old text.now margin) (text_glyphs strike.old.face.cmap text.now)) result }
-    ensures same { strike.new ≡ record strike.old { kept = strike.new.kept } }
-{
-    if grow {
-        Ok(strike.grown_line(text, margin)?)
-    } else {
-        Ok(strike.line(text, margin)?)
-    }
-}
-
 /// The picture of a text by a font file. Errors, the first of: UnknownFit, NotUtf8; SizeRange, MarginRange, TextLong;
-/// FontLarge; those of the tables that every text needs; those of `picture_by`.
+/// FontLarge; those of the tables that every text needs; those of `make_picture`.
 #[tactic(auto, unfolding(crate::specs::Pictures::picture_wanted))]
 pub(crate) fn picture_of(
     alloc: Global,
@@ -86,7 +64,8 @@ pub(crate) fn picture_of(
     test_job(&asked)?;
     let face = face_of(font)?;
     let mut strike = Strike::new(alloc, &face, asked.ppem, asked.fit, 0)?;
-    picture_by(&mut strike, job.grows(), asked.text, asked.margin)
+    let picture = make_picture(&mut strike, job.grows(), asked.text, asked.margin)?;
+    Ok(picture)
 }
 
 /// Makes `count` rows of a picture in the place of one, and discards them.

@@ -1,3 +1,2 @@
-mod Both
 mod Reports
 pub mod Statuses

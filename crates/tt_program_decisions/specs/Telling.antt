@@ -1,52 +1,39 @@
 -- No part of the standard: the program's report of an answer, by its exit status and on standard error.
-use Rattle.std.specs.Prelude.{◌≡◌, ◌⊎◌, ℕ, Bool, true, false, List, [], ◌∷◌, ◌++◌, codes, Option, Result, Ok, Err, IfOk}
+use Rattle.std.specs.Prelude.{◌≡◌, ◌⊎◌, ℕ, Bool, true, false, List, ◌++◌, codes, Option, Result, Ok, Err}
 use Rattle.std.specs.Io.KnownBytes.{Keeps}
 use Rattle.tt_core.specs.Faults.{Fault}
-use Rattle.tt_render.specs.declared.fault.RunFault.{RunFault}
-use Rattle.tt_render.specs.declared.fault.RunFault.TheVariants as run
-use Rattle.tt_render.specs.Defects.{TellsDefectsOf}
-use Rattle.tt_render.specs.Outcome.{CallGives, Traffic, Wanted}
+use Rattle.tt_render_run.specs.declared.fault.RunFault.{RunFault}
+use Rattle.tt_render_run.specs.declared.fault.RunFault.TheVariants as run
+use Rattle.tt_render_run.specs.Defects.{TellsDefectsOf}
+use Rattle.tt_render_run.specs.Outcome.{CallGives, Traffic, Wanted}
 use Rattle.tt_render.specs.Printing.{Errors, Prints, PrintsNothing}
 use Rattle.tt_render.specs.TextsMessages.{texts_line_of, texts_status_of}
-use Rattle.tt_render.specs.declared.texts_fault.TextsFault.{TextsFault}
-use Rattle.tt_render.specs.declared.texts_fault.TextsFault.TheVariants as texts
-use Rattle.tt_picture.specs.declared.report.Unfitted.{Unfitted}
-use Rattle.tt_render.specs.Messages.{line_of, status_of, unfitted_line_of}
+use Rattle.tt_render.specs.declared.refusal.Refusal.TheVariants as reason
+use Rattle.tt_render.specs.declared.refusal.TextsFault.{TextsFault}
+use Rattle.tt_render.specs.Views.{before_lines}
+use Rattle.tt_render_run.specs.Messages.{line_of, status_of}
 
 -- the status and the line of one fault
 abbrev pub TellsFault : RunFault → ℕ → Errors → Type 0
 TellsFault fault status e = (status ≡ status_of fault) × Prints e (line_of fault ++ codes "\n")
 
--- the lines of unfitted glyphs
-abbrev pub report_lines : List Unfitted → List ℕ
-report_lines [] = []
-report_lines (u ∷ us) = unfitted_line_of u ++ (codes "\n" ++ report_lines us)
-
--- a picture's report is printed, or nothing where it is empty; if memory is refused for the lines, the program reports
--- that instead
-abbrev pub TellsReport : List Unfitted → ℕ → Errors → Type 0
-TellsReport [] status e = (status ≡ 0) × PrintsNothing e
-TellsReport (u ∷ us) status e =
-    ((status ≡ 0) × Prints e (report_lines (u ∷ us))) ⊎ TellsFault run.Memory status e
-
 -- a fault is reported by status and line; if memory is refused for that line, the program reports that instead
 abbrev pub TellsFailure : RunFault → ℕ → Errors → Type 0
 TellsFailure fault status e = TellsFault fault status e ⊎ TellsFault run.Memory status e
 
--- an answer is reported; where it is Ok, by its list of unfitted glyphs
-abbrev pub Tells : {V : Type 0} → (V → List Unfitted) → Result V RunFault → ℕ → Errors → Type 0
-Tells entries (Ok v) status e = TellsReport (entries v) status e
-Tells entries (Err fault) status e = TellsFailure fault status e
+-- an answer of `map` is reported; nothing is printed where it is Ok
+abbrev pub Tells : {V : Type 0} → Result V RunFault → ℕ → Errors → Type 0
+Tells (Ok v) status e = (status ≡ 0) × PrintsNothing e
+Tells (Err fault) status e = TellsFailure fault status e
 
 -- a call gave some answer, with its contract about the devices, and the program reported that answer
-pub record Does {V : Type 0} (entries : V → List Unfitted) (wanted : Wanted) (IsListed : List Unfitted → Type 0)
-    (IsDefect : List ℕ → Fault → Type 0) (t : Traffic) (e : Errors) (status : ℕ) : Type 0
+pub record Does (wanted : Wanted) (IsDefect : List ℕ → Fault → Type 0) (t : Traffic) (e : Errors) (status : ℕ)
+    : Type 0
   where
-    pub answer : Result V RunFault
+    pub answer : Result (Unit {0}) RunFault
     pub outcome : CallGives answer t wanted
-    pub listed : IfOk answer (λ v. IsListed (entries v))
     pub defects : TellsDefectsOf t.left_before IsDefect answer
-    pub told : Tells entries answer status e
+    pub told : Tells answer status e
 
 -- the status and the line of one fault of a call that draws texts
 abbrev pub TellsTextsFault : TextsFault → ℕ → Errors → Type 0
@@ -55,7 +42,7 @@ TellsTextsFault fault status e = (status ≡ texts_status_of fault) × Prints e 
 -- a fault of a call that draws texts is reported by status and line; if memory is refused for the line, the program
 -- reports that instead. By the status alone, where standard error had failed before
 abbrev pub TellsTextsFailure : Bool → TextsFault → ℕ → Errors → Type 0
-TellsTextsFailure false fault status e = TellsTextsFault fault status e ⊎ TellsTextsFault texts.Memory status e
+TellsTextsFailure false fault status e = TellsTextsFault fault status e ⊎ TellsTextsFault (before_lines reason.Memory) status e
 TellsTextsFailure true fault status e =
     (status ≡ texts_status_of fault) × Keeps e.before e.after × (e.failed ≡ true)
 

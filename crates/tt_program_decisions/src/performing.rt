@@ -2,17 +2,17 @@
 
 ghost use Rattle.std.specs.Prelude.{◌≡◌, ◌≤◌, false};
 ghost use Rattle.tt_program_decisions.specs.Requests.{Performs, UnlessLines};
-ghost use Rattle.tt_render.specs.Outcome.{traffic_of};
+ghost use Rattle.tt_render_run.specs.Outcome.{traffic_of};
 ghost use Rattle.tt_render.specs.Printing.{errors_of};
 
 use crate::request::Request;
-use crate::telling::{tell, tell_picture};
+use crate::telling::tell;
 use crate::telling_texts::tell_texts;
 use std::alloc::Global;
 use tt_core::{Sink, Source};
 
-/// Performs a request, and reports on standard error a fault, or the unfitted glyphs and, where requested, the
-/// characters without a glyph. Returns the exit status.
+/// Performs a request, and reports on standard error the unfitted glyphs and, where requested, the characters without a
+/// glyph, or a fault. Returns the exit status.
 pub fn perform<R: Source, L: Source, W: Sink, E: Sink>(
     alloc: Global,
     request: &Request,
@@ -34,10 +34,6 @@ pub fn perform<R: Source, L: Source, W: Sink, E: Sink>(
         Request::Map { text, .. } => {
             let mapped = tt_render::map(alloc, font, text, out);
             tell(alloc, &mapped, error)
-        }
-        Request::Draw { job, .. } => {
-            let drawn = tt_render::run(alloc, font, out, job);
-            tell_picture(alloc, &drawn, error)
         }
         Request::Text { text, setting, .. } => {
             let drawn = tt_render::draw_text(alloc, font, out, error, text, setting);

@@ -1,12 +1,11 @@
 //! The request of a command line.
 
-ghost use Rattle.std.specs.Prelude.{◌≡◌, ◌≢◌, ℕ, Bool, true, false, List, Option, None, codes, option_map};
-ghost use Rattle.tt_strike.specs.Job.{job_view};
-ghost use Rattle.tt_render.specs.TextOutcome.{job_by};
-ghost use Rattle.tt_program_decisions.specs.Requests.{AsksDrawing, asked, asked_of, draw_asked, fit_named, font_of, map_asked, missing_named, options_asked, picture_asked, product_asked, text_asked};
+ghost use Rattle.std.specs.Prelude.{◌≡◌, ◌≢◌, ℕ, Bool, List, Option, None, codes, option_map};
+ghost use Rattle.tt_render.specs.declared.setting.Product.TheVariants.{Measure, Picture};
+ghost use Rattle.tt_program_decisions.specs.Requests.{AsksDrawing, asked_of, draw_asked, fit_named, font_of, map_asked, missing_named, options_asked};
 
 use tt_fit::Fit;
-use tt_render::{Job, Missing, Product, Setting};
+use tt_render::{Missing, Product, Setting};
 
 /// The request of a command line.
 #[derive(Clone, Copy)]
@@ -16,13 +15,7 @@ pub enum Request<'a> {
         font: &'a str,
         text: &'a str,
     },
-    /// Draw a line of text.
-    Draw {
-        font: &'a str,
-        job: Job<'a>,
-    },
-    /// Draw a line of text and report or refuse its characters without a glyph, or draw a picture that grows, or report
-    /// the line's measures.
+    /// Draw a line of text, or report its measures.
     Text {
         font: &'a str,
         text: &'a str,
@@ -41,10 +34,8 @@ impl<'a> Request<'a> {
         ensures { result.now ≡ font_of self.now }
     {
         match self {
-            Request::Map { font, .. }
-            | Request::Draw { font, .. }
-            | Request::Text { font, .. }
-            | Request::Lines { font, .. } => font,
+            Request::Map { font, .. } | Request::Text { font, .. } | Request::Lines { font, .. } =>
+                font,
         }
     }
 }
@@ -77,32 +68,33 @@ pub trait Arguments<'a> {
 /// text accompanies standard input's lines. None also for an unknown way to fit or treatment of missing glyphs.
 pub fn request_of<'a, A: Arguments<'a>>(subcommand: &str, arguments: &A) -> Option<Request<'a>>
     ensures map { subcommand.now ≡ codes "map" → option_map asked_of result ≡ map_asked (A.text arguments.now (codes "FONT")) (A.text arguments.now (codes "TEXT")) }
-    ensures draw { subcommand.now ≡ codes "draw" → AsksDrawing (A.text arguments.now) (A.IsNumber arguments.now) (A.IsFlag arguments.now) false (option_map asked_of result) }
-    ensures measure { subcommand.now ≡ codes "measure" → AsksDrawing (A.text arguments.now) (A.IsNumber arguments.now) (A.IsFlag arguments.now) true (option_map asked_of result) }
+    ensures draw { subcommand.now ≡ codes "draw" → AsksDrawing (A.text arguments.now) (A.IsNumber arguments.now) (A.IsFlag arguments.now) Picture (option_map asked_of result) }
+    ensures measure { subcommand.now ≡ codes "measure" → AsksDrawing (A.text arguments.now) (A.IsNumber arguments.now) (A.IsFlag arguments.now) Measure (option_map asked_of result) }
     ensures other { subcommand.now ≢ codes "map" → subcommand.now ≢ codes "draw" → subcommand.now ≢ codes "measure" → result ≡ None }
 {
     match subcommand {
         "map" => map_of(arguments.text_for("FONT"), arguments.text_for("TEXT")),
-        "draw" => drawing_of(arguments, false),
-        "measure" => drawing_of(arguments, true),
+        "draw" => drawing_of(arguments, Product::Picture),
+        "measure" => drawing_of(arguments, Product::Measure),
         _ => None,
     }
 }
 
 /// The request of `draw`, or of `measure`, by its arguments.
-fn drawing_of<'a, A: Arguments<'a>>(arguments: &A, measures: bool) -> Option<Request<'a>>
-    ensures { AsksDrawing (A.text arguments.now) (A.IsNumber arguments.now) (A.IsFlag arguments.now) measures (option_map asked_of result) }
+fn drawing_of<'a, A: Arguments<'a>>(arguments: &A, product: Product) -> Option<Request<'a>>
+    ensures { AsksDrawing (A.text arguments.now) (A.IsNumber arguments.now) (A.IsFlag arguments.now) product (option_map asked_of result) }
 {
-    draw_of(
+    text_or_lines(
         arguments.text_for("FONT"),
         arguments.text_for("TEXT"),
         arguments.is_set("lines"),
-        options_of(
+        setting_of(
             arguments.number_for("size"),
             arguments.number_for("margin"),
             arguments.text_for("fit"),
             arguments.text_for("missing"),
-            product_of(measures, arguments.is_set("grow")),
+            arguments.is_set("grow"),
+            product,
         ),
     )
 }
@@ -118,7 +110,7 @@ fn map_of<'a>(font: Option<&'a str>, text: Option<&'a str>) -> Option<Request<'a
 }
 
 /// The request `draw OPTION.. FONT TEXT` or `draw OPTION.. --lines FONT`, where its words and options are present.
-fn draw_of<'a>(
+fn text_or_lines<'a>(
     font: Option<&'a str>,
     text: Option<&'a str>,
     lines: bool,
@@ -133,7 +125,11 @@ fn draw_of<'a>(
             if lines {
                 return None;
             }
-            Some(text_of(font, text, setting))
+            Some(Request::Text {
+                font,
+                text,
+                setting,
+            })
         }
         None => {
             if !lines {
@@ -144,102 +140,28 @@ fn draw_of<'a>(
     }
 }
 
-/// The request of a text with a setting, by the product.
-fn text_of<'a>(font: &'a str, text: &'a str, setting: Setting) -> Request<'a>
-    ensures { asked_of result ≡ text_asked setting.product font.now text.now setting }
-{
-    match setting.product {
-        Product::Picture => picture_of(font, text, setting),
-        Product::Grown | Product::Measure | Product::GrownMeasure => Request::Text {
-            font,
-            text,
-            setting,
-        },
-    }
-}
-
-/// The picture of a text with a setting: its job alone, where characters without a glyph are drawn as others are.
-fn picture_of<'a>(font: &'a str, text: &'a str, setting: Setting) -> Request<'a>
-    ensures { asked_of result ≡ picture_asked setting.missing font.now text.now setting }
-{
-    match setting.missing {
-        Missing::Draw => Request::Draw {
-            font,
-            job: job_of(text, &setting),
-        },
-        Missing::Tell | Missing::Refuse => Request::Text {
-            font,
-            text,
-            setting,
-        },
-    }
-}
-
-/// The job of a text with a setting.
-pub fn job_of<'a>(text: &'a str, setting: &Setting) -> Job<'a>
-    ensures { job_view result ≡ job_by setting.now text.now }
-{
-    Job {
-        text,
-        ppem: setting.ppem,
-        margin: setting.margin,
-        fit: setting.fit,
-    }
-}
-
-/// The setting of `--size SIZE --margin MARGIN --fit FIT --missing MISSING` for a product, where all are present.
-fn options_of(
-    size: Option<u32>,
-    margin: Option<u32>,
-    fit: Option<&str>,
-    missing: Option<&str>,
-    product: Product,
-) -> Option<Setting>
-    ensures { result ≡ options_asked size margin (option_map (λ s. s.now) fit.entry) (option_map (λ s. s.now) missing.entry) product }
-{
-    let words = Words {
-        size: size?,
-        margin: margin?,
-        fit: fit?,
-        missing: missing?,
-    };
-    setting_of(&words, product)
-}
-
-/// The product of a text: its measures or its picture, and of the grown picture or the plain one.
-fn product_of(measures: bool, grows: bool) -> Product
-    ensures { result ≡ product_asked measures grows }
-{
-    match (measures, grows) {
-        (false, false) => Product::Picture,
-        (false, true) => Product::Grown,
-        (true, false) => Product::Measure,
-        (true, true) => Product::GrownMeasure,
-    }
-}
-
-/// The options of a drawing, as the command line has them.
-#[derive(Clone, Copy)]
-pub struct Words<'a> {
-    pub size: u32,
-    pub margin: u32,
-    pub fit: &'a str,
-    pub missing: &'a str,
-}
-
 /// The limit of the cache of glyphs from line to line, in bytes. All letters of a Latin font at the largest size fit,
 /// and some thousand glyphs at a usual one.
 const GLYPHS_KEPT: usize = 4_194_304;
 
-/// The setting of a product; None where the name of the way to fit, or of the treatment of missing glyphs, is unknown.
-pub fn setting_of(words: &Words, product: Product) -> Option<Setting>
-    ensures { result ≡ asked words.now product }
+/// The setting of `--size SIZE --margin MARGIN --fit FIT --missing MISSING` for a product, where all are present. None
+/// where the name of the way to fit, or of the treatment of missing glyphs, is unknown.
+pub fn setting_of(
+    size: Option<u32>,
+    margin: Option<u32>,
+    fit: Option<&str>,
+    missing: Option<&str>,
+    grow: bool,
+    product: Product,
+) -> Option<Setting>
+    ensures { result ≡ options_asked size margin (option_map (λ s. s.now) fit.entry) (option_map (λ s. s.now) missing.entry) grow product }
 {
     Some(Setting {
-        ppem: words.size,
-        margin: words.margin,
-        fit: way_of(words.fit)?,
-        missing: missing_of(words.missing)?,
+        ppem: size?,
+        margin: margin?,
+        fit: way_of(fit?)?,
+        missing: missing_of(missing?)?,
+        grow,
         product,
         most: GLYPHS_KEPT,
     })

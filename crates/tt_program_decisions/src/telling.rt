@@ -1,15 +1,15 @@
 //! The report of an answer: the exit status, and a line on standard error.
 
-ghost use Rattle.std.specs.Prelude.{◌≡◌, ◌≤◌, ◌++◌, [], false, codes, string_bytes, IfOk, IfErr};
-ghost use Rattle.tt_render.specs.declared.fault.RunFault.TheVariants.{Memory};
-ghost use Rattle.tt_render.specs.Messages.{line_of};
+ghost use Rattle.std.specs.Prelude.{◌≡◌, ◌≤◌, ◌++◌, false, codes, string_bytes, IfOk, IfErr};
+ghost use Rattle.tt_render_run.specs.declared.fault.RunFault.TheVariants.{Memory};
+ghost use Rattle.tt_render_run.specs.Messages.{line_of};
 ghost use Rattle.tt_render.specs.Printing.{Prints, errors_of};
-ghost use Rattle.tt_program_decisions.specs.Telling.{Tells, TellsFailure, TellsFault, TellsReport, report_lines};
+ghost use Rattle.tt_program_decisions.specs.Telling.{Tells, TellsFailure, TellsFault};
 
 use std::alloc::{AllocError, Global};
 use tt_core::Sink;
 use tt_pbm::write_all_of;
-use tt_render::{Report, RunFault, Unfitted, line, status, unfitted_line};
+use tt_render::{RunFault, line, status};
 
 /// The line for refused memory; it takes no memory.
 pub(crate) const NO_MEMORY: &str = "tt_render: out of memory\n";
@@ -18,40 +18,12 @@ pub(crate) const NO_MEMORY: &str = "tt_render: out of memory\n";
 pub(crate) fn tell<E: Sink>(alloc: Global, answer: &Result<(), RunFault>, error: &mut E) -> u8
     requires { E.has_failed error.old ≡ false }
     ensures bound { result ≤ 5 }
-    ensures told { Tells (λ v. []) answer.now result (errors_of E.written E.has_failed error.old error.new) }
+    ensures told { Tells answer.now result (errors_of E.written E.has_failed error.old error.new) }
 {
     match answer {
         Ok(()) => 0,
         Err(fault) => tell_fault(alloc, fault, error),
     }
-}
-
-/// Reports the answer of `run`, with the unfitted glyphs, on standard error. Returns the exit status.
-pub(crate) fn tell_picture<E: Sink>(
-    alloc: Global,
-    answer: &Result<Report, RunFault>,
-    error: &mut E,
-) -> u8
-    requires { E.has_failed error.old ≡ false }
-    ensures bound { result ≤ 5 }
-    ensures told { Tells (λ r. r.unfitted.items) answer.now result (errors_of E.written E.has_failed error.old error.new) }
-{
-    match answer {
-        Ok(report) => tell_report(alloc, &report.unfitted, error),
-        Err(fault) => tell_fault(alloc, fault, error),
-    }
-}
-
-/// Reports the unfitted glyphs, or refused memory where memory is refused for their lines.
-fn tell_report<E: Sink>(alloc: Global, unfitted: &[Unfitted], error: &mut E) -> u8
-    requires { E.has_failed error.old ≡ false }
-    ensures bound { result ≤ 5 }
-    ensures told { TellsReport unfitted.now result (errors_of E.written E.has_failed error.old error.new) }
-{
-    if unfitted.is_empty() {
-        return 0;
-    }
-    tell_text(report_lines(alloc, unfitted), 0, error)
 }
 
 /// Prints a text and returns a status. Where memory was refused for the text, reports that instead.
@@ -76,18 +48,6 @@ pub(crate) fn tell_text<E: Sink>(
             status(&RunFault::Memory)
         }
     }
-}
-
-/// A line for each unfitted glyph, with its line feed.
-fn report_lines(alloc: Global, unfitted: &[Unfitted]) -> Result<String, AllocError>
-    ensures { IfOk result (λ text. string_bytes text ≡ report_lines unfitted.now) }
-{
-    let mut text = String::new(alloc);
-    for entry in unfitted {
-        text.push_str(&unfitted_line(alloc, entry)?)?;
-        text.push_str("\n")?;
-    }
-    Ok(text)
 }
 
 /// Reports a fault, or refused memory where memory is refused for the fault's line.

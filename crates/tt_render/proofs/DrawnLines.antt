@@ -14,30 +14,28 @@ use Rattle.tt_strike.specs.Strikes.{Strike}
 use Rattle.tt_render.specs.declared.setting.Setting.{Setting}
 use Rattle.tt_render.specs.declared.lines.LineReader.{LineReader}
 use Rattle.tt_render.specs.declared.text_answers.ReadyText.{ReadyText}
-use Rattle.tt_render.specs.declared.texts_fault.TextFault.{TextFault}
-use Rattle.tt_render.specs.declared.texts_fault.TextFault.TheVariants as text_of
-use Rattle.tt_render.specs.declared.texts_fault.TextsFault.{TextsFault}
-use Rattle.tt_render.specs.declared.texts_fault.TextStop.{TextStop}
-use Rattle.tt_render.specs.declared.texts_fault.TextStop.TheVariants as stop_of
+use Rattle.tt_render.specs.declared.refusal.Refusal.{Refusal}
+use Rattle.tt_render.specs.declared.refusal.Refusal.TheVariants as reason
+use Rattle.tt_render.specs.declared.refusal.TextsFault.{TextsFault}
 use Rattle.tt_render.specs.LineReading.{BeginsLong, LosesLine}
 use Rattle.tt_render.specs.Lines.{AreAffordable, LinesDrawn, cost_drawn, drawn_from, drawn_with, line_drawn, line_limit, lines_budget, lines_cost, lines_of}
-use Rattle.tt_render.specs.LinesOutcome.{Draws, FailsByStop, FindsLine, HasLine, IsCutAfter, IsNoRead, IsNotBegun, LinesFail, SendsBudget, SendsDrawn, SendsFirstLines, SendsSome, draws_by, refusal_of, texts_fault_of, told}
-use Rattle.tt_render.specs.Outcome.{Traffic}
+use Rattle.tt_render.specs.TextsOutcome.{Draws, FailsByStop, FindsLine, HasLine, IsCutAfter, IsNotBegun, IsOfText, LinesFail, SendsBudget, SendsDrawn, SendsFirstLines, SendsSome, StopsAtLine, told}
+use Rattle.tt_render_run.specs.Outcome.{Traffic}
 use Rattle.tt_render.specs.Printing.{Errors, Prints, PrintsBehind}
 use Rattle.tt_render.specs.Reports.{told_of}
 use Rattle.tt_render.specs.Texts.{TextAnswer, TextRefusal, not_utf8, product_of, refused, text_answer}
 use Rattle.tt_render.proofs.Printed.{appends_nothing, nothing_printed, printed_behind}
-use Rattle.tt_render.proofs.Sent.{appends_more}
+use Rattle.tt_render_run.proofs.Sent.{appends_more}
 
 pub long_line : (a : Setting) (s : Strike) (line : List ℕ) → line_limit < length line
-    → draws_by a s line ≡ Err (refused (job fault.TextLong))
+    → line_drawn a s line ≡ Err (refused (job fault.TextLong))
 unfolding line_drawn
 long_line a s line long =
     let is : nat_lt line_limit (length line) ≡ true = grind (arith, nat_tests) in
     rw is refl
 
 pub line_of_no_text : (a : Setting) (s : Strike) (line : List ℕ) → length line ≤ line_limit → (IsUtf8 line → ⊥)
-    → draws_by a s line ≡ Err not_utf8
+    → line_drawn a s line ≡ Err not_utf8
 unfolding line_drawn
 line_of_no_text a s line short other =
     let is : nat_lt line_limit (length line) ≡ false = grind (arith, nat_tests) in
@@ -49,7 +47,7 @@ line_of_no_text a s line short other =
     no_test false is_not = is_not
 
 pub line_of_text : (a : Setting) (s : Strike) (line text : List ℕ) → length line ≤ line_limit
-    → (text ≡ line) × IsUtf8 line → draws_by a s line ≡ text_answer s a.product a.missing a.margin text
+    → (text ≡ line) × IsUtf8 line → line_drawn a s line ≡ text_answer a s text
 unfolding line_drawn
 line_of_text a s line text short is_text =
     let is : nat_lt line_limit (length line) ≡ false = grind (arith, nat_tests) in
@@ -57,12 +55,12 @@ line_of_text a s line text short is_text =
     rw (is, yes, is_text.0) refl
 
 -- a line is drawn alike whatever glyphs are cached
-kept_aside : (a : Setting) (s t : Strike) → draws_by a (record s { kept = t.kept }) ≡ draws_by a s
+kept_aside : (a : Setting) (s t : Strike) → line_drawn a (record s { kept = t.kept }) ≡ line_drawn a s
 unfolding line_drawn text_answer product_of
 kept_aside a s t = refl
 
-pub drawn_alike : (a : Setting) (s t : Strike) → t ≡ record s { kept = t.kept } → draws_by a t ≡ draws_by a s
-drawn_alike a s t alone = ap (λ (x : Strike). draws_by a x) alone ∙ kept_aside a s t
+pub drawn_alike : (a : Setting) (s t : Strike) → t ≡ record s { kept = t.kept } → line_drawn a t ≡ line_drawn a s
+drawn_alike a s t alone = ap (λ (x : Strike). line_drawn a x) alone ∙ kept_aside a s t
 
 -- a strike whose cached glyphs alone have changed, twice
 pub kept_alone : (r s t : Strike) → s ≡ record r { kept = s.kept } → t ≡ record s { kept = t.kept }
@@ -390,74 +388,123 @@ budget_sent draw text rest t e number used so_far spent has =
     (appends_nothing t.out_after) has in
     (number, refl, sends, rw front dear)
 
--- the fault of a line that was not drawn
-abbrev IsLineFault : Draws → Traffic → Errors → ℕ → TextFault → List ℕ → Type 0
-IsLineFault draw t e number f text =
-    SendsDrawn draw t e (Some (number, refusal_of f)) text
-    ⊎ ((f ≡ text_of.Job fault.WorkLarge) × SendsBudget draw t e number text)
+-- a line is refused for this reason
+refused_at : (draw : Draws) (t : Traffic) (e : Errors) (number : ℕ) (why : Refusal) (r : TextRefusal)
+    (text : Option (List ℕ)) → told why ≡ Some r → IfSome text (SendsDrawn draw t e (Some (number, r)))
+    → IfSome text (StopsAtLine draw t e number why)
+refused_at draw t e number why r None is sends = tt
+refused_at draw t e number why r (Some text) is sends = inl (r, is, sends)
 
--- the next line is not begun
-not_begun : (draw : Draws)
+-- the next line is too long
+too_long : (draw : Draws)
     → ((line : List ℕ) → line_limit < length line → draw line ≡ Err (refused (job fault.TextLong)))
-    → (text left : Option (List ℕ)) (t : Traffic) (e : Errors) (number used : ℕ) (f : TextFault)
-    → SoFar draw text left t.out_before t.out_after e number used → IsNotBegun number used f left
-    → IfSome text (IsLineFault draw t e (number + 1) f)
-not_begun draw long None left t e number used f so_far begun = tt
-not_begun draw long (Some text) None t e number used f so_far begun = absurd so_far
-not_begun draw long (Some text) (Some rest) t e number used f so_far (inl (is, begins)) =
+    → (text left : Option (List ℕ)) (t : Traffic) (e : Errors) (number used : ℕ)
+    → SoFar draw text left t.out_before t.out_after e number used → IfSome left BeginsLong
+    → IfSome text (StopsAtLine draw t e (number + 1) (reason.Job fault.TextLong))
+too_long draw long None left t e number used so_far begins = tt
+too_long draw long (Some text) None t e number used so_far begins = absurd so_far
+too_long draw long (Some text) (Some rest) t e number used so_far begins =
     let line = begins.0 in
-    let refuses : draw line ≡ Err (refusal_of f) = rw is (long line begins.3) in
     let never : length line ≤ line_limit → used ≤ lines_budget number =
     λ short. absurd (omega (arith, short, begins.3)) in
-    inl (next_refused draw text rest t e number used (refusal_of f) so_far
-    (line, begins.1, begins.2, refuses, never))
-not_begun draw long (Some text) (Some rest) t e number used f so_far (inr (is, spent, has)) =
-    inr (is, budget_sent draw text rest t e number used so_far spent has)
+    let why = refused (job fault.TextLong) in
+    inl (
+      why,
+      refl,
+      next_refused draw text rest t e number used why so_far
+          (line, begins.1, begins.2, long line begins.3, never),
+    )
+
+-- the lines before the next one took more than the budget
+not_affordable : (draw : Draws) (text left : Option (List ℕ)) (t : Traffic) (e : Errors) (number used : ℕ)
+    → SoFar draw text left t.out_before t.out_after e number used → lines_budget number < used
+    → IfSome left (λ rest. HasLine (lines_of rest))
+    → IfSome text (StopsAtLine draw t e (number + 1) (reason.Job fault.WorkLarge))
+not_affordable draw None left t e number used so_far spent has = tt
+not_affordable draw (Some text) None t e number used so_far spent has = absurd so_far
+not_affordable draw (Some text) (Some rest) t e number used so_far spent has =
+    inr (refl, budget_sent draw text rest t e number used so_far spent has)
+
+-- the next line is not begun
+not_begun : (a : Setting) (s : Strike) (left : Option (List ℕ)) (t : Traffic) (e : Errors) (number used : ℕ)
+    (why : Refusal) → SoFar (line_drawn a s) t.left_before left t.out_before t.out_after e number used
+    → IsNotBegun number used why left → t.read_failed ≡ false → t.write_failed ≡ false
+    → LinesFail (line_drawn a s) why (Some (number + 1)) t e
+not_begun a s left t e number used why so_far (inl (is, begins)) reads writes =
+    rw is (too_long (line_drawn a s) (long_line a s) t.left_before left t e number used so_far begins, reads, writes)
+not_begun a s left t e number used why so_far (inr (is, spent, has)) reads writes =
+    rw is (not_affordable (line_drawn a s) t.left_before left t e number used so_far spent has, reads, writes)
 
 -- so the call stops
-pub stopped_before : (a : Setting) (s : Strike) (r : LineReader) (fault : TextStop) (left after : Option (List ℕ))
+pub stopped_before : (a : Setting) (s : Strike) (r : LineReader) (why : Refusal) (left after : Option (List ℕ))
     (t : Traffic) (e : Errors) (number used : ℕ)
-    → SoFar (draws_by a s) t.left_before left t.out_before t.out_after e number used
-    → FindsLine r number used (Err fault) left after → FailsByStop t.read_failed (Err fault)
-    → t.write_failed ≡ false → LinesFail (draws_by a s) (texts_fault_of (Some (number + 1)) fault) t e
-stopped_before a s r (stop_of.Refused f) left after t e number used so_far begun reads writes = (
-  not_begun (draws_by a s) (long_line a s) t.left_before left t e number used f so_far begun,
-  reads,
-  writes,
-)
-stopped_before a s r stop_of.Read left after t e number used so_far begun reads writes =
-    (some_sent (draws_by a s) left t e number used so_far, reads, writes)
-stopped_before a s r stop_of.Memory left after t e number used so_far begun reads writes = absurd begun
+    → SoFar (line_drawn a s) t.left_before left t.out_before t.out_after e number used
+    → FindsLine r number used (Err why) left after → FailsByStop t.read_failed (Err why)
+    → t.write_failed ≡ false → LinesFail (line_drawn a s) why (Some (number + 1)) t e
+stopped_before a s r reason.Read left after t e number used so_far begun reads writes =
+    (some_sent (line_drawn a s) left t e number used so_far, reads, writes)
+stopped_before a s r (reason.Font f) left after t e number used so_far begun reads writes =
+    not_begun a s left t e number used (reason.Font f) so_far begun reads writes
+stopped_before a s r (reason.Job j) left after t e number used so_far begun reads writes =
+    not_begun a s left t e number used (reason.Job j) so_far begun reads writes
+stopped_before a s r reason.NotUtf8 left after t e number used so_far begun reads writes =
+    not_begun a s left t e number used reason.NotUtf8 so_far begun reads writes
+stopped_before a s r (reason.Missing c) left after t e number used so_far begun reads writes =
+    not_begun a s left t e number used (reason.Missing c) so_far begun reads writes
+stopped_before a s r reason.FontRead left after t e number used so_far begun reads writes =
+    not_begun a s left t e number used reason.FontRead so_far begun reads writes
+stopped_before a s r reason.FontLarge left after t e number used so_far begun reads writes =
+    not_begun a s left t e number used reason.FontLarge so_far begun reads writes
+stopped_before a s r (reason.Write sent) left after t e number used so_far begun reads writes =
+    not_begun a s left t e number used (reason.Write sent) so_far begun reads writes
+stopped_before a s r reason.Many left after t e number used so_far begun reads writes =
+    not_begun a s left t e number used reason.Many so_far begun reads writes
+stopped_before a s r reason.Memory left after t e number used so_far begun reads writes =
+    not_begun a s left t e number used reason.Memory so_far begun reads writes
 
 -- the next line is refused when it is drawn
 line_refused : (draw : Draws) (text left after : Option (List ℕ)) (t : Traffic) (e : Errors) (number used : ℕ)
-    (line : List ℕ) (f : TextFault) → SoFar draw text left t.out_before t.out_after e number used
-    → LosesLine left after line → used ≤ lines_budget number → draw line ≡ Err (refusal_of f)
-    → IfSome text (IsLineFault draw t e (number + 1) f)
-line_refused draw None left after t e number used line f so_far loses enough is = tt
-line_refused draw (Some text) None after t e number used line f so_far loses enough is = absurd so_far
-line_refused draw (Some text) (Some rest) None t e number used line f so_far loses enough is = absurd loses
-line_refused draw (Some text) (Some rest) (Some left) t e number used line f so_far loses enough is =
-    inl (next_refused draw text rest t e number used (refusal_of f) so_far
-    (line, lines_of left, loses, is, λ short. enough))
+    (line : List ℕ) (r : TextRefusal) → SoFar draw text left t.out_before t.out_after e number used
+    → LosesLine left after line → used ≤ lines_budget number → draw line ≡ Err r
+    → IfSome text (SendsDrawn draw t e (Some (number + 1, r)))
+line_refused draw None left after t e number used line r so_far loses enough is = tt
+line_refused draw (Some text) None after t e number used line r so_far loses enough is = absurd so_far
+line_refused draw (Some text) (Some rest) None t e number used line r so_far loses enough is = absurd loses
+line_refused draw (Some text) (Some rest) (Some left) t e number used line r so_far loses enough is =
+    next_refused draw text rest t e number used r so_far (line, lines_of left, loses, is, λ short. enough)
 
 -- so the call stops
-stops : (draw : Draws) (why : TextStop) (left after : Option (List ℕ)) (t : Traffic) (e : Errors)
+stops : (draw : Draws) (why : Refusal) (left after : Option (List ℕ)) (t : Traffic) (e : Errors)
     (number used : ℕ) (line : List ℕ) → SoFar draw t.left_before left t.out_before t.out_after e number used
     → LosesLine left after line → used ≤ lines_budget number → IfSome (told why) (λ r. draw line ≡ Err r)
-    → IsNoRead {V = ReadyText} (Err why) → t.read_failed ≡ false → t.write_failed ≡ false
-    → LinesFail draw (texts_fault_of (Some (number + 1)) why) t e
-stops draw (stop_of.Refused f) left after t e number used line so_far loses enough is serves reads writes =
-    (line_refused draw t.left_before left after t e number used line f so_far loses enough is, reads, writes)
-stops draw stop_of.Read left after t e number used line so_far loses enough is serves reads writes = absurd serves
-stops draw stop_of.Memory left after t e number used line so_far loses enough is serves reads writes =
-    (some_sent draw left t e number used so_far, reads, writes)
+    → IsOfText {V = ReadyText} (Err why) → t.read_failed ≡ false → t.write_failed ≡ false
+    → LinesFail draw why (Some (number + 1)) t e
+stops draw why left after t e number used line so_far loses enough is serves reads writes = by why is serves
+  where
+    at_line : (why : Refusal) (r : TextRefusal) → told why ≡ Some r → draw line ≡ Err r
+        → IfSome t.left_before (StopsAtLine draw t e (number + 1) why)
+    at_line why r tells is =
+        refused_at draw t e (number + 1) why r t.left_before tells
+        (line_refused draw t.left_before left after t e number used line r so_far loses enough is)
 
-pub stopped_in : (draw other : Draws) (why : TextStop) (left after : Option (List ℕ)) (t : Traffic) (e : Errors)
+    by : (why : Refusal) → IfSome (told why) (λ r. draw line ≡ Err r) → IsOfText {V = ReadyText} (Err why)
+        → LinesFail draw why (Some (number + 1)) t e
+    by (reason.Font f) is serves = (at_line (reason.Font f) _ refl is, reads, writes)
+    by (reason.Job j) is serves = (at_line (reason.Job j) _ refl is, reads, writes)
+    by reason.NotUtf8 is serves = (at_line reason.NotUtf8 _ refl is, reads, writes)
+    by (reason.Missing c) is serves = (at_line (reason.Missing c) _ refl is, reads, writes)
+    by reason.FontRead is serves = absurd serves
+    by reason.FontLarge is serves = absurd serves
+    by reason.Read is serves = absurd serves
+    by (reason.Write sent) is serves = absurd serves
+    by reason.Many is serves = absurd serves
+    by reason.Memory is serves = (some_sent draw left t e number used so_far, reads, writes)
+
+pub stopped_in : (draw other : Draws) (why : Refusal) (left after : Option (List ℕ)) (t : Traffic) (e : Errors)
     (number used : ℕ) (line : List ℕ) → other ≡ draw
     → SoFar draw t.left_before left t.out_before t.out_after e number used → LosesLine left after line
-    → used ≤ lines_budget number → IfSome (told why) (λ r. other line ≡ Err r) → IsNoRead {V = ReadyText} (Err why)
-    → t.read_failed ≡ false → t.write_failed ≡ false → LinesFail draw (texts_fault_of (Some (number + 1)) why) t e
+    → used ≤ lines_budget number → IfSome (told why) (λ r. other line ≡ Err r) → IsOfText {V = ReadyText} (Err why)
+    → t.read_failed ≡ false → t.write_failed ≡ false → LinesFail draw why (Some (number + 1)) t e
 stopped_in draw other why left after t e number used line same so_far loses enough is =
     stops draw why left after t e number used line so_far loses enough
     (subst (λ (d : Draws). IfSome (told why) (λ r. d line ≡ Err r)) same is)

@@ -10,13 +10,13 @@ use Rattle.tt_strike.specs.declared.fault.DrawFault.TheVariants as draw
 use Rattle.tt_strike.specs.Job.{size_tested}
 use Rattle.tt_strike.specs.Refusals.{Refused, as_job, font, refusal}
 use Rattle.tt_strike.specs.Tables.{Face, face_of}
-use Rattle.tt_render.specs.declared.fault.RunFault.{RunFault}
-use Rattle.tt_render.specs.declared.fault.RunFault.TheVariants as run
+use Rattle.tt_render_run.specs.declared.fault.RunFault.{RunFault}
+use Rattle.tt_render_run.specs.declared.fault.RunFault.TheVariants as run
 use Rattle.tt_render.specs.declared.setting.Setting.{Setting}
-use Rattle.tt_render.specs.LinesOutcome.{IsIdle, StopsAtFont}
-use Rattle.tt_render.specs.Reading.{FontIsRead, FontReader, ReadFails}
+use Rattle.tt_render.specs.TextsOutcome.{IsIdle, StopsAtFont}
+use Rattle.tt_render_run.specs.Reading.{FontIsRead, FontReader, ReadFails}
 use Rattle.tt_render.specs.Settings.{setting_tested, strike_by, strike_of}
-use Rattle.tt_render.specs.Views.{texts_fault_of_draw, texts_fault_of_run}
+use Rattle.tt_render.specs.Views.{before_lines, refusal_of_draw, refusal_of_run}
 use Rattle.tt_render.proofs.Printed.{keeps_itself}
 
 -- unused devices
@@ -31,7 +31,7 @@ idle left out error read write failed reads writes prints =
 pub reading_stops : (V : Type 0) {S : Type 0} (tests : Result (Unit {0}) JobFault) (opened : List ℕ → Result S Refused)
     (fault : RunFault) (before after : Option (List ℕ)) (failed : Bool) → tests ≡ Ok tt
     → ReadFails fault before after failed
-    → StopsAtFont {V = V} tests opened (Err (texts_fault_of_run fault))
+    → StopsAtFont {V = V} tests opened (Err (before_lines (refusal_of_run fault)))
     (record { before = before; after = after; failed = failed })
 reading_stops V tests opened (run.Font f) before after failed passes fails = absurd fails
 reading_stops V tests opened (run.Job j) before after failed passes fails = absurd fails
@@ -66,7 +66,7 @@ size_passes (Err j) rest why passes refused = absurd cc
 pub strike_stops : (V : Type 0) {S : Type 0} (a : Setting) (opened : List ℕ → Result S Refused) (fault : DrawFault) (f : FontReader)
     (file : List ℕ) → setting_tested a ≡ Ok tt → FontIsRead f file
     → IfSome (refusal fault) (λ why. as_job (size_tested a.ppem) ≡ Err why)
-    → StopsAtFont {V = V} (setting_tested a) opened (Err (texts_fault_of_draw fault)) f
+    → StopsAtFont {V = V} (setting_tested a) opened (Err (before_lines (refusal_of_draw fault))) f
 unfolding setting_tested
 strike_stops V a opened (draw.Font fault) f file passes read refused =
     absurd (size_passes (size_tested a.ppem) _ _ passes refused)

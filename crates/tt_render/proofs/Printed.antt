@@ -3,7 +3,7 @@ use Rattle.std.proofs.Common.{◌≡◌, ℕ, ◌+◌, ◌<◌, ◌≤◌, Bool,
 use Rattle.std.proofs.lemmas.List.{take-append-le}
 use Rattle.std.specs.Io.KnownBytes.{Appends, Keeps}
 use Rattle.tt_render.specs.Printing.{PrintsBehind, PrintsUnless}
-use Rattle.tt_render.proofs.Sent.{appends_both, appends_more}
+use Rattle.tt_render_run.proofs.Sent.{appends_both, appends_more}
 
 pub keeps_itself : (a : Option (List ℕ)) → Keeps a a
 keeps_itself None = tt

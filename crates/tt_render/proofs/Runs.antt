@@ -20,17 +20,14 @@ use Rattle.tt_picture.specs.Unfitted.{unfitted_among}
 use Rattle.tt_strike.specs.Report.{line_report, report_by}
 use Rattle.tt_strike.specs.Strikes.{Strike, job_of}
 use Rattle.tt_strike.specs.Tables.{Face, face_of}
-use Rattle.tt_render.specs.declared.setting.Product.{Product}
 use Rattle.tt_render.specs.declared.setting.Product.TheVariants as product
 use Rattle.tt_render.specs.declared.setting.Setting.{Setting}
 use Rattle.tt_render.specs.Lines.{line_drawn, line_limit}
-use Rattle.tt_render.specs.LinesOutcome.{draws_by}
-use Rattle.tt_render.specs.Outcome.{of_font}
-use Rattle.tt_render.specs.Run.{run_outcome}
+use Rattle.tt_render_run.specs.Outcome.{of_font}
+use Rattle.tt_render_run.specs.Run.{run_outcome}
 use Rattle.tt_render.specs.RunLaws.{LinesAreRuns, LinesAreTexts, TextsAreRuns, bytes_of}
-use Rattle.tt_render.specs.Settings.{strike_by, strike_of}
-use Rattle.tt_render.specs.TextOutcome.{job_by, text_by}
-use Rattle.tt_render.specs.Texts.{TextAnswer, TextRefusal, answer_of, as_text, missing_tested, not_utf8, product_of, refused, text_answer}
+use Rattle.tt_render.specs.Settings.{job_by, strike_by, strike_of}
+use Rattle.tt_render.specs.Texts.{TextAnswer, TextRefusal, answer_of, as_text, missing_tested, not_utf8, picture_by, product_of, refused, text_answer}
 
 -- a text with a picture has a report
 report_is : (face : Face) (a : Job) (line : Placement) (s : Fitter) (shapes : List Shape)
@@ -118,22 +115,21 @@ is_run a file text s opened =
     ap (λ (t : Strike). line_outcome t.face (job_of t text a.margin)) (sym same)
     ∙ ap (λ (r : Result (List ℕ) Refused). as_job (tested j) >>= λ u. r) made
 
-picture_of : (s : Strike) (wanted : Product) (margin : ℕ) (text : List ℕ) → wanted ≡ product.Picture
-    → product_of s wanted margin text ≡ line_outcome s.face (job_of s text margin)
-unfolding product_of
-picture_of s wanted margin text is = rw is refl
+picture_of : (a : Setting) (s : Strike) (text : List ℕ) → a.product ≡ product.Picture → a.grow ≡ false
+    → product_of a s text ≡ line_outcome s.face (job_of s text a.margin)
+unfolding product_of picture_by
+picture_of a s text is plain = rw (is, plain) refl
 
 pub texts_are_runs : TextsAreRuns
 unfolding text_answer
-texts_are_runs a file text s is opened =
-    let picture = picture_of s a.product a.margin text is ∙ is_run a file text s opened in
-    let report = report_by s.face (job_of s text a.margin) in
+texts_are_runs a file text s is plain opened =
+    let drawn = picture_of a s text is plain in
+    let picture = drawn ∙ is_run a file text s opened in
+    let j = job_of s text a.margin in
     let lacking = missing_tested s.face.cmap a.missing text in
-    bytes_by_parts (product_of s a.product a.margin text) report lacking (cost_by s.face (job_of s text a.margin))
-    (λ bytes was. has_report s.face (job_of s text a.margin) bytes
-    (sym (picture_of s a.product a.margin text is) ∙ was))
-    (λ bytes was. has_cost s.face (job_of s text a.margin) bytes
-    (sym (picture_of s a.product a.margin text is) ∙ was))
+    bytes_by_parts (product_of a s text) (report_by s.face j) lacking (cost_by s.face j)
+    (λ bytes was. has_report s.face j bytes (sym drawn ∙ was))
+    (λ bytes was. has_cost s.face j bytes (sym drawn ∙ was))
     ∙ ap (λ (r : Result (List ℕ) Refused). as_text r >>= λ bytes. lacking >>= λ cs. Ok bytes) picture
 
 -- what is drawn by a strike was given by `run`
@@ -149,18 +145,18 @@ utf8_answer : (whole : Bool) (answer : Result TextAnswer TextRefusal) (t : TextA
 utf8_answer true answer t was = was
 utf8_answer false answer t was = absurd cc
 
-line_passes : (a : Setting) (line : List ℕ) (s : Strike) (t : TextAnswer) → draws_by a s line ≡ Ok t
-    → text_by a line s ≡ Ok t
+line_passes : (a : Setting) (line : List ℕ) (s : Strike) (t : TextAnswer) → line_drawn a s line ≡ Ok t
+    → text_answer a s line ≡ Ok t
 unfolding line_drawn
 line_passes a line s t was =
     let short = passed-on (nat_lt line_limit (length line)) (refused (job fault.TextLong)) _ t was in
-    utf8_answer (is_utf8 line) (text_by a line s) t short.1
+    utf8_answer (is_utf8 line) (text_answer a s line) t short.1
 
 pub lines_are_runs : LinesAreRuns
-lines_are_runs a file line s t is opened was =
-    let drawn : text_by a line s ≡ Ok t = line_passes a line s t was in
+lines_are_runs a file line s t is plain opened was =
+    let drawn : text_answer a s line ≡ Ok t = line_passes a line s t was in
     was_run (run_outcome (job_by a line) file) (missing_tested s.face.cmap a.missing line) t.bytes
-    (sym (texts_are_runs a file line s is opened) ∙ ap bytes_of drawn)
+    (sym (texts_are_runs a file line s is plain opened) ∙ ap bytes_of drawn)
 
 pub lines_are_texts : LinesAreTexts
 unfolding line_drawn

@@ -7,8 +7,7 @@ use Rattle.std.specs.Str.{is_utf8}
 use Rattle.tt_core.specs.declared.fault.JobFault.TheVariants as fault
 use Rattle.tt_strike.specs.Refusals.{job}
 use Rattle.tt_strike.specs.Strikes.{Strike}
-use Rattle.tt_render.specs.declared.setting.Missing.{Missing}
-use Rattle.tt_render.specs.declared.setting.Product.{Product}
+use Rattle.tt_render.specs.declared.setting.Setting.{Setting}
 use Rattle.tt_render.specs.Reports.{report_text_of, told_of}
 use Rattle.tt_render.specs.Texts.{TextAnswer, TextRefusal, not_utf8, refused, text_answer}
 
@@ -46,9 +45,9 @@ line_answer answer line =
     else if is_utf8 line then answer line
     else Err not_utf8
 
--- the answer of a line that is drawn by a strike, with a margin
-unfoldable pub line_drawn : Strike → Product → Missing → ℕ → List ℕ → Result TextAnswer TextRefusal
-line_drawn s wanted missing margin line = line_answer (text_answer s wanted missing margin) line
+-- the answer of a line that is drawn by a strike
+unfoldable pub line_drawn : Setting → Strike → List ℕ → Result TextAnswer TextRefusal
+line_drawn a s line = line_answer (text_answer a s) line
 
 -- the drawing of lines: the output up to the first refused line, the reports of these lines, and that line's number
 -- with its refusal

@@ -1,13 +1,13 @@
 -- What a call that draws lines claims about the defects of a font.
-use Rattle.std.specs.Prelude.{◌≡◌, refl, ℕ, ◌-◌, List, [], ◌∷◌, get_or, codes, Option, Some, IfSome, Result, Err, IsOkAnd, ⊤}
+use Rattle.std.specs.Prelude.{◌≡◌, refl, ℕ, ◌-◌, List, [], ◌∷◌, get_or, codes, Option, Some, None, IfSome, Result, Ok, Err, IsOkAnd, ⊤}
 use Rattle.tt_core.specs.Faults.{Fault}
 use Rattle.tt_line.specs.Layout.{text_glyphs}
 use Rattle.tt_render.specs.declared.setting.Setting.{Setting}
-use Rattle.tt_render.specs.declared.texts_fault.TextFault.TheVariants as fault
-use Rattle.tt_render.specs.declared.texts_fault.TextsFault.{TextsFault}
-use Rattle.tt_render.specs.declared.texts_fault.TextsFault.TheVariants as texts
+use Rattle.tt_render.specs.declared.refusal.Refusal.{Refusal}
+use Rattle.tt_render.specs.declared.refusal.Refusal.TheVariants as reason
+use Rattle.tt_render.specs.declared.refusal.TextsFault.{TextsFault}
 use Rattle.tt_render.specs.Lines.{lines_of}
-use Rattle.tt_render.specs.TextOutcome.{job_by}
+use Rattle.tt_render.specs.Settings.{job_by}
 use Rattle.tt_strike.specs.Defects.{IsFaceDefect, IsLineDefect}
 use Rattle.tt_strike.specs.Strikes.{Strike, job_of}
 use Rattle.tt_strike.specs.Tables.{face_of}
@@ -31,19 +31,26 @@ BeginsDefective IsOne f text =
     (line : List ℕ) × (rest : List (List ℕ)) × (lines_of text ≡ line ∷ rest) × IsOne line f
 
 -- where the text is known, the font's fault that refuses a line is a defect of that line; no other fault is the font's
+abbrev pub LineTells : (List ℕ → Fault → Type 0) → Option (List ℕ) → Refusal → Option ℕ → Type 0
+LineTells IsOne text (reason.Font f) (Some number) = IfSome text (λ all. IsOne (line_numbered all number) f)
+LineTells IsOne text (reason.Font f) None = ⊥
+LineTells IsOne text why line = ⊤
+
 abbrev pub LinesTell : {V : Type 0} → (List ℕ → Fault → Type 0) → Option (List ℕ) → Result V TextsFault → Type 0
-LinesTell IsOne text (Err (texts.Text (Some number) (fault.Font f))) =
-    IfSome text (λ all. IsOne (line_numbered all number) f)
-LinesTell IsOne text (Err (texts.Font f)) = ⊥
-LinesTell IsOne text r = ⊤
+LinesTell IsOne text (Err fault) = LineTells IsOne text fault.refusal fault.line
+LinesTell IsOne text (Ok v) = ⊤
 
 -- a font's fault in an error is a defect of the font: of the tables that every text needs, or, where the text is known,
 -- of the data that the numbered line is drawn from
-abbrev pub LinesTellDefects : {V : Type 0} → Setting → Option (List ℕ) → Result V TextsFault → List ℕ → Type 0
-LinesTellDefects a text (Err (texts.Text (Some number) (fault.Font f))) file =
+abbrev pub LineTellsDefect : Setting → Option (List ℕ) → Refusal → Option ℕ → List ℕ → Type 0
+LineTellsDefect a text (reason.Font f) (Some number) file =
     IfSome text (λ all. IsDefectIn a file (line_numbered all number) f)
-LinesTellDefects a text (Err (texts.Font f)) file = IsFaceDefect file f
-LinesTellDefects a text r file = ⊤
+LineTellsDefect a text (reason.Font f) None file = IsFaceDefect file f
+LineTellsDefect a text why line file = ⊤
+
+abbrev pub LinesTellDefects : {V : Type 0} → Setting → Option (List ℕ) → Result V TextsFault → List ℕ → Type 0
+LinesTellDefects a text (Err fault) file = LineTellsDefect a text fault.refusal fault.line file
+LinesTellDefects a text (Ok v) file = ⊤
 
 -- this claim for the bytes of a font's reader, where they are known
 abbrev pub LinesTellDefectsOf : {V : Type 0} → Option (List ℕ) → Setting → Option (List ℕ) → Result V TextsFault → Type 0

@@ -4,8 +4,8 @@ use Rattle.std.specs.Fmt.{digits}
 use Rattle.tt_core.specs.declared.fault.Why.TheVariants as why
 use Rattle.tt_core.specs.Faults.{fault_at, why_number, why_name}
 use Rattle.tt_picture.specs.declared.report.Unfitted.{Unfitted}
-use Rattle.tt_render.specs.MapLines.{code_point}
-use Rattle.tt_render.specs.Messages.{fault_words}
+use Rattle.tt_render_run.specs.MapLines.{code_point}
+use Rattle.tt_render_run.specs.Messages.{fault_words}
 use Rattle.tt_render.specs.Texts.{TextAnswer}
 
 -- `tt_render: `, or of a line `tt_render: line <number>: `

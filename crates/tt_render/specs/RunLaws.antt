@@ -1,5 +1,5 @@
 -- Laws of texts and lines: the picture of each is what `run` gives for that text alone.
-use Rattle.std.specs.Prelude.{◌≡◌, refl, ℕ, ◌≤◌, true, List, [], length, codes, Result, Ok, Err}
+use Rattle.std.specs.Prelude.{◌≡◌, refl, ℕ, ◌≤◌, true, false, List, [], length, codes, Result, Ok, Err}
 use Rattle.std.specs.Str.{is_utf8}
 use Rattle.tt_core.specs.declared.fault.JobFault.TheVariants as fault
 use Rattle.tt_core.specs.Outcomes.{◌>>=◌}
@@ -7,12 +7,10 @@ use Rattle.tt_strike.specs.Refusals.{job}
 use Rattle.tt_strike.specs.Strikes.{Strike}
 use Rattle.tt_render.specs.declared.setting.Product.TheVariants as product
 use Rattle.tt_render.specs.declared.setting.Setting.{Setting}
-use Rattle.tt_render.specs.Lines.{line_limit}
-use Rattle.tt_render.specs.LinesOutcome.{draws_by}
-use Rattle.tt_render.specs.Run.{run_outcome}
-use Rattle.tt_render.specs.Settings.{strike_of}
-use Rattle.tt_render.specs.TextOutcome.{job_by, text_by}
-use Rattle.tt_render.specs.Texts.{TextAnswer, TextRefusal, as_text, missing, missing_tested, refused}
+use Rattle.tt_render.specs.Lines.{line_drawn, line_limit}
+use Rattle.tt_render_run.specs.Run.{run_outcome}
+use Rattle.tt_render.specs.Settings.{job_by, strike_of}
+use Rattle.tt_render.specs.Texts.{TextAnswer, TextRefusal, as_text, missing, missing_tested, refused, text_answer}
 
 -- the bytes of an answer, or its refusal
 abbrev pub bytes_of : Result TextAnswer TextRefusal → Result (List ℕ) TextRefusal
@@ -27,18 +25,19 @@ run_for a s file text =
 
 -- the picture of a text is what `run` gives for it, and the text is refused for the same reason
 abbrev pub TextsAreRuns : Type 0
-TextsAreRuns = (a : Setting) (file text : List ℕ) (s : Strike) → a.product ≡ product.Picture → strike_of a file ≡ Ok s
-    → bytes_of (text_by a text s) ≡ run_for a s file text
+TextsAreRuns = (a : Setting) (file text : List ℕ) (s : Strike) → a.product ≡ product.Picture → a.grow ≡ false
+    → strike_of a file ≡ Ok s → bytes_of (text_answer a s text) ≡ run_for a s file text
 
 -- the picture of each line is what `run` gives for that line alone
 abbrev pub LinesAreRuns : Type 0
 LinesAreRuns = (a : Setting) (file line : List ℕ) (s : Strike) (t : TextAnswer) → a.product ≡ product.Picture
-    → strike_of a file ≡ Ok s → draws_by a s line ≡ Ok t → run_outcome (job_by a line) file ≡ Ok t.bytes
+    → a.grow ≡ false → strike_of a file ≡ Ok s → line_drawn a s line ≡ Ok t
+    → run_outcome (job_by a line) file ≡ Ok t.bytes
 
 -- a line of at most 16,384 bytes of UTF-8 has the answer of a text, whatever the product
 abbrev pub LinesAreTexts : Type 0
 LinesAreTexts = (a : Setting) (line : List ℕ) (s : Strike) → length line ≤ line_limit → is_utf8 line ≡ true
-    → draws_by a s line ≡ text_by a line s
+    → line_drawn a s line ≡ text_answer a s line
 
 -- worked values: the bytes of a drawn text, and of a refused one
 drawn_bytes : bytes_of (Ok (record { bytes = codes "P4"; unfitted = []; lacking = codes "A"; cost = 12 })) ≡ Ok (codes "P4")

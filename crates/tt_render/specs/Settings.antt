@@ -1,21 +1,38 @@
--- No part of the standard: the tests of a setting before the font is read, and its strike (profile).
-use Rattle.std.specs.Prelude.{◌≡◌, refl, ℕ, List, [], Result, Ok, Err}
+-- No part of the standard: the tests of a setting before the font is read, its jobs, and its strike (profile).
+use Rattle.std.specs.Prelude.{◌≡◌, refl, ℕ, false, List, [], Result, Ok, Err}
 use Rattle.tt_core.specs.declared.fault.JobFault.{JobFault}
 use Rattle.tt_core.specs.declared.fault.JobFault.TheVariants as fault
 use Rattle.tt_core.specs.Outcomes.{◌>>=◌}
+use Rattle.tt_fit.specs.declared.programs.Fit.{Fit}
 use Rattle.tt_fit.specs.declared.programs.Fit.TheVariants as fit
-use Rattle.tt_strike.specs.Job.{margin_tested, size_tested}
+use Rattle.tt_strike.specs.Job.{Job, margin_tested, size_tested}
 use Rattle.tt_strike.specs.Refusals.{Refused, as_font}
 use Rattle.tt_strike.specs.Strikes.{Strike}
 use Rattle.tt_strike.specs.Tables.{Face, face_of}
 use Rattle.tt_render.specs.declared.setting.Missing.TheVariants as how
 use Rattle.tt_render.specs.declared.setting.Product.TheVariants as product
 use Rattle.tt_render.specs.declared.setting.Setting.{Setting}
-use Rattle.tt_render.specs.Outcome.{of_font}
+use Rattle.tt_render_run.specs.Outcome.{of_font}
 
 -- the limits of a setting, in the order of their tests
 unfoldable pub setting_tested : Setting → Result (Unit {0}) JobFault
 setting_tested a = size_tested a.ppem >>= λ u. margin_tested a.margin
+
+-- the setting by which `run` draws: glyph 0 in place of a missing one, the picture as it is, no cached glyphs
+abbrev pub plain_setting : ℕ → ℕ → Fit → Setting
+plain_setting ppem margin f = record {
+  ppem = ppem;
+  margin = margin;
+  fit = f;
+  missing = how.Draw;
+  grow = false;
+  product = product.Picture;
+  most = 0;
+}
+
+-- the job of a text
+abbrev pub job_by : Setting → List ℕ → Job
+job_by a text = record { text = text; ppem = a.ppem; margin = a.margin; fit = a.fit }
 
 -- the strike of a setting, by a font's tables, before its first line
 abbrev pub strike_by : Setting → Face → Strike
@@ -27,7 +44,7 @@ strike_of a file = of_font (λ font. as_font (face_of font) >>= λ face. Ok (str
 
 -- worked values
 sized : ℕ → ℕ → Setting
-sized ppem margin = record { ppem = ppem; margin = margin; fit = fit.None; missing = how.Draw; product = product.Picture; most = 0 }
+sized ppem margin = plain_setting ppem margin fit.None
 
 size_before_margin : setting_tested (sized 301 65) ≡ Err fault.SizeRange
 unfolding sized setting_tested size_tested

@@ -1,20 +1,26 @@
 -- No part of the standard: the answer of a text, by a font at a size (profile).
-use Rattle.std.specs.Prelude.{◌≡◌, refl, ℕ, List, [], ◌∷◌, chars, codes, Result, Ok, Err}
+use Rattle.std.specs.Prelude.{◌≡◌, refl, ℕ, Bool, true, false, List, [], ◌∷◌, chars, codes, Result, Ok, Err, IsOkAnd}
 use Rattle.tt_cmap.specs.Lacking.{lacking_of}
 use Rattle.tt_cmap.specs.Lookup.{Cmap, by_segments}
 use Rattle.tt_core.specs.Outcomes.{◌>>=◌}
+use Rattle.tt_line.specs.Layout.{placement}
+use Rattle.tt_scan_edges.specs.declared.edge.Frame.{Frame}
 use Rattle.tt_picture.specs.declared.report.Unfitted.{Unfitted}
 use Rattle.tt_strike.specs.Costs.{cost_by}
-use Rattle.tt_strike.specs.Grown.{grown_measured, grown_outcome}
-use Rattle.tt_strike.specs.Measures.{measured}
-use Rattle.tt_strike.specs.Picture.{line_outcome}
+use Rattle.tt_strike.specs.Grown.{grown_measured, grown_outcome, grown_placement}
+use Rattle.tt_strike.specs.Job.{Job}
+use Rattle.tt_strike.specs.Measures.{Measure, measured}
+use Rattle.tt_strike.specs.Picture.{frame_of, line_outcome}
+use Rattle.tt_picture.specs.Pictures.{Picture}
 use Rattle.tt_strike.specs.Refusals.{Refused}
 use Rattle.tt_strike.specs.Report.{report_by}
 use Rattle.tt_strike.specs.Strikes.{Strike, job_of}
+use Rattle.tt_strike.specs.Tables.{Face}
 use Rattle.tt_render.specs.declared.setting.Missing.{Missing}
 use Rattle.tt_render.specs.declared.setting.Missing.TheVariants as how
 use Rattle.tt_render.specs.declared.setting.Product.{Product}
 use Rattle.tt_render.specs.declared.setting.Product.TheVariants as product
+use Rattle.tt_render.specs.declared.setting.Setting.{Setting}
 use Rattle.tt_render.specs.MeasureText.{measure_text}
 
 -- why a text is not drawn: it is refused; it is not UTF-8; the font has no glyph for this character
@@ -61,20 +67,42 @@ answer_of product report lacking taken =
     as_text taken >>= λ cost.
     Ok (record { bytes = bytes; unfitted = unfitted; lacking = cs; cost = cost })
 
--- the output of a text that is drawn by a strike, with a margin
-unfoldable pub product_of : Strike → Product → ℕ → List ℕ → Result (List ℕ) Refused
-product_of s product.Picture margin text = line_outcome s.face (job_of s text margin)
-product_of s product.Grown margin text = grown_outcome s.face (job_of s text margin)
-product_of s product.Measure margin text =
-    measured s.face (job_of s text margin) >>= λ m. Ok (measure_text s.face.metrics (chars text) m)
-product_of s product.GrownMeasure margin text =
-    grown_measured s.face (job_of s text margin) >>= λ m. Ok (measure_text s.face.metrics (chars text) m)
+-- the file of the picture of a job by a font's tables: as it is, or enlarged so that no ink is cut
+unfoldable pub picture_by : Bool → Face → Job → Result (List ℕ) Refused
+picture_by false face j = line_outcome face j
+picture_by true face j = grown_outcome face j
+
+-- the frame of that picture
+abbrev pub IsFramed : Bool → Face → Job → Frame → Type 0
+IsFramed false face j f =
+    IsOkAnd (placement face.metrics face.cmap j.text j.ppem j.margin) (λ l. f ≡ frame_of l j.margin)
+IsFramed true face j f = IsOkAnd (grown_placement face j) (λ l. f ≡ frame_of l j.margin)
+
+-- a picture of a job by a font's tables: its frame, its unfitted glyphs, and what it takes of the budget of many lines
+abbrev pub IsMadeBy : Bool → Job → Picture → Face → Type 0
+IsMadeBy grow j p face =
+    IsFramed grow face j p.frame × (report_by face j ≡ Ok p.unfitted) × (cost_by face j ≡ Ok p.cost)
+
+-- the measure of that picture
+unfoldable pub measure_by : Bool → Face → Job → Result Measure Refused
+measure_by false face j = measured face j
+measure_by true face j = grown_measured face j
+
+-- the output of a job by a font's tables
+abbrev pub product_by : Product → Bool → Face → Job → Result (List ℕ) Refused
+product_by product.Picture grow face j = picture_by grow face j
+product_by product.Measure grow face j =
+    measure_by grow face j >>= λ m. Ok (measure_text face.metrics (chars j.text) m)
+
+-- the output of a text that is drawn by a strike
+unfoldable pub product_of : Setting → Strike → List ℕ → Result (List ℕ) Refused
+product_of a s text = product_by a.product a.grow s.face (job_of s text a.margin)
 
 -- the answer of this text
-unfoldable pub text_answer : Strike → Product → Missing → ℕ → List ℕ → Result TextAnswer TextRefusal
-text_answer s wanted asked margin text =
-    answer_of (product_of s wanted margin text) (report_by s.face (job_of s text margin))
-    (missing_tested s.face.cmap asked text) (cost_by s.face (job_of s text margin))
+unfoldable pub text_answer : Setting → Strike → List ℕ → Result TextAnswer TextRefusal
+text_answer a s text =
+    answer_of (product_of a s text) (report_by s.face (job_of s text a.margin))
+    (missing_tested s.face.cmap a.missing text) (cost_by s.face (job_of s text a.margin))
 
 -- worked values: A and B have glyphs, C and @ have none
 told_in_their_order : missing_among how.Tell (lacking_of (by_segments 3) (codes "CA@BC")) ≡ Ok (codes "C@")

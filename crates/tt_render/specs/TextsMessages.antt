@@ -4,71 +4,73 @@ use Rattle.std.specs.Fmt.{digits}
 use Rattle.tt_core.specs.declared.fault.JobFault.TheVariants as job
 use Rattle.tt_core.specs.declared.fault.Why.TheVariants as why
 use Rattle.tt_core.specs.Faults.{fault_at, job_name, job_number, why_name, why_number}
-use Rattle.tt_render.specs.declared.texts_fault.TextFault.{TextFault}
-use Rattle.tt_render.specs.declared.texts_fault.TextFault.TheVariants as text
-use Rattle.tt_render.specs.declared.texts_fault.TextsFault.{TextsFault}
-use Rattle.tt_render.specs.declared.texts_fault.TextsFault.TheVariants as texts
-use Rattle.tt_render.specs.Messages.{fault_words, font_line, job_line, job_words, missing_words}
+use Rattle.tt_render.specs.declared.refusal.Refusal.{Refusal}
+use Rattle.tt_render.specs.declared.refusal.Refusal.TheVariants as reason
+use Rattle.tt_render.specs.declared.refusal.TextsFault.{TextsFault}
+use Rattle.tt_render_run.specs.Messages.{fault_words, job_words, missing_words}
 use Rattle.tt_render.specs.Reports.{head_of}
 
-abbrev pub text_status_of : TextFault → ℕ
-text_status_of (text.Font f) = 1
-text_status_of (text.Job j) = 2
-text_status_of text.NotUtf8 = 2
-text_status_of (text.Missing c) = 2
+abbrev pub refusal_status_of : Refusal → ℕ
+refusal_status_of (reason.Font f) = 1
+refusal_status_of (reason.Job j) = 2
+refusal_status_of reason.NotUtf8 = 2
+refusal_status_of (reason.Missing c) = 2
+refusal_status_of reason.FontRead = 3
+refusal_status_of reason.FontLarge = 3
+refusal_status_of reason.Read = 3
+refusal_status_of (reason.Write sent) = 4
+refusal_status_of reason.Many = 2
+refusal_status_of reason.Memory = 5
 
 abbrev pub texts_status_of : TextsFault → ℕ
-texts_status_of (texts.Font f) = 1
-texts_status_of (texts.Job j) = 2
-texts_status_of texts.FontRead = 3
-texts_status_of texts.FontLarge = 3
-texts_status_of (texts.Text number fault) = text_status_of fault
-texts_status_of texts.Read = 3
-texts_status_of (texts.Write number sent) = 4
-texts_status_of texts.Many = 2
-texts_status_of texts.Memory = 5
+texts_status_of fault = refusal_status_of fault.refusal
 
--- why a text is not drawn, after its head
-abbrev pub text_words : TextFault → List ℕ
-text_words (text.Font f) = fault_words f
-text_words (text.Job j) = job_words j
-text_words text.NotUtf8 = codes "not UTF-8"
-text_words (text.Missing c) = missing_words c
+-- the line that a message names: a reader that failed, and refused memory, are no line's own
+abbrev pub named_line_of : Refusal → Option ℕ → Option ℕ
+named_line_of reason.FontRead line = None
+named_line_of reason.FontLarge line = None
+named_line_of reason.Read line = None
+named_line_of reason.Many line = None
+named_line_of reason.Memory line = None
+named_line_of why line = line
 
-abbrev pub text_line_of : Option ℕ → TextFault → List ℕ
-text_line_of number fault = head_of number ++ text_words fault
-
--- `cannot write after <sent> bytes` after its head
-abbrev pub cut_line_of : Option ℕ → ℕ → List ℕ
-cut_line_of number sent = head_of number ++ (codes "cannot write after " ++ (decimal sent ++ codes " bytes"))
+-- why a call stopped, after the head of its line
+abbrev pub refusal_words : Refusal → List ℕ
+refusal_words (reason.Font f) = fault_words f
+refusal_words (reason.Job j) = job_words j
+refusal_words reason.NotUtf8 = codes "not UTF-8"
+refusal_words (reason.Missing c) = missing_words c
+refusal_words reason.FontRead = codes "cannot read the font"
+refusal_words reason.FontLarge = codes "font larger than 67108864 bytes"
+refusal_words reason.Read = codes "cannot read the lines"
+refusal_words (reason.Write sent) = codes "cannot write after " ++ (decimal sent ++ codes " bytes")
+refusal_words reason.Many = codes "more than 4294967295 lines"
+refusal_words reason.Memory = codes "out of memory"
 
 abbrev pub texts_line_of : TextsFault → List ℕ
-texts_line_of (texts.Font f) = font_line f
-texts_line_of (texts.Job j) = job_line j
-texts_line_of texts.FontRead = codes "tt_render: cannot read the font"
-texts_line_of texts.FontLarge = codes "tt_render: font larger than 67108864 bytes"
-texts_line_of (texts.Text number fault) = text_line_of number fault
-texts_line_of texts.Read = codes "tt_render: cannot read the lines"
-texts_line_of (texts.Write number sent) = cut_line_of number sent
-texts_line_of texts.Many = codes "tt_render: more than 4294967295 lines"
-texts_line_of texts.Memory = codes "tt_render: out of memory"
+texts_line_of fault = head_of (named_line_of fault.refusal fault.line) ++ refusal_words fault.refusal
 
 -- worked values
-a_line_without_a_picture : texts_line_of (texts.Text (Some 17) (text.Job job.EmptyPicture))
+a_line_without_a_picture : texts_line_of (record { line = Some 17; refusal = reason.Job job.EmptyPicture })
     ≡ codes "tt_render: line 17: 62 EmptyPicture"
 unfolding digits job_number job_name
 a_line_without_a_picture = refl
 
-a_line_with_a_broken_glyph : texts_line_of (texts.Text (Some 3) (text.Font (fault_at (codes "glyf") 14 why.GlyphShort)))
+a_line_with_a_broken_glyph : texts_line_of (record { line = Some 3; refusal = reason.Font (fault_at (codes "glyf") 14 why.GlyphShort) })
     ≡ codes "tt_render: line 3: glyf+14: 14 GlyphShort"
 unfolding digits why_number why_name
 a_line_with_a_broken_glyph = refl
 
-the_one_text_lacks_a_glyph : texts_line_of (texts.Text None (text.Missing 0x4E2D))
+the_one_text_lacks_a_glyph : texts_line_of (record { line = None; refusal = reason.Missing 0x4E2D })
     ≡ codes "tt_render: U+4E2D has no glyph"
 unfolding digits
 the_one_text_lacks_a_glyph = refl
 
-a_line_is_cut : texts_line_of (texts.Write (Some 2) 100) ≡ codes "tt_render: line 2: cannot write after 100 bytes"
+a_line_is_cut : texts_line_of (record { line = Some 2; refusal = reason.Write 100 })
+    ≡ codes "tt_render: line 2: cannot write after 100 bytes"
 unfolding digits
 a_line_is_cut = refl
+
+memory_is_no_lines_own : texts_line_of (record { line = Some 2; refusal = reason.Memory })
+    ≡ codes "tt_render: out of memory"
+memory_is_no_lines_own = refl

@@ -3,24 +3,23 @@
 ghost use Rattle.std.specs.Prelude.{◌≡◌, ◌≤◌, false, length, Some, IfOk};
 ghost use Rattle.tt_core.specs.Outcomes.{GivesUnless, IfTold};
 ghost use Rattle.tt_render.specs.LineReading.{IsReader, text_left};
-ghost use Rattle.tt_render.specs.Lines.{line_limit, lines_budget};
+ghost use Rattle.tt_render.specs.Lines.{line_drawn, line_limit, lines_budget};
 ghost use Rattle.tt_render.specs.LinesDefects.{IsDefectBy, LinesTell, LinesTellDefectsOf};
-ghost use Rattle.tt_render.specs.LinesOutcome.{CanGoOut, FailsByStop, FindsLine, FontLinesGive, IsNoRead, LinesGive, TellsOf, answer_view, draws_by, told};
-ghost use Rattle.tt_render.specs.Outcome.{traffic_of};
+ghost use Rattle.tt_render_run.specs.Outcome.{traffic_of};
 ghost use Rattle.tt_render.specs.Printing.{errors_of};
-ghost use Rattle.tt_render.specs.Reading.{font_reader_of};
-ghost use Rattle.tt_render.specs.TextOutcome.{stop_font_fault};
+ghost use Rattle.tt_render_run.specs.Reading.{font_reader_of};
+ghost use Rattle.tt_render.specs.TextsOutcome.{CanGoOut, FailsByStop, FindsLine, FontLinesGive, IsOfText, LinesGive, TellsOf, answer_view, refusal_font_fault, told};
 
 use crate::lines::{LINE_LIMIT, LinePlace, LineReader, ReadFault};
 use crate::printing::print_text;
-use crate::reading::read_font;
+use crate::products::write_output;
+use crate::refusal::{Refusal, TextsFault, texts_fault};
 use crate::setting::{Setting, test_setting};
 use crate::text_answers::{ReadyText, answer_text};
-use crate::texts_fault::{TextFault, TextStop, TextsFault, texts_fault};
-use crate::writing::write_output;
 use std::alloc::Global;
 use std::str;
 use tt_core::{JobFault, Sink, Source};
+use tt_render_run::read_font;
 use tt_strike::{Face, Strike};
 
 /// What the lines of a call may take with `Fit::Best` before one more is drawn, by how many they are.
@@ -35,24 +34,22 @@ pub fn lines_budget(before: u64) -> u128
 fn draw_line(
     alloc: Global,
     strike: &mut Strike,
-    face: &Face,
     setting: &Setting,
     number: u32,
     line: &[u8],
-) -> Result<ReadyText, TextStop>
-    requires face { strike.old.face ≡ face.now }
+) -> Result<ReadyText, Refusal>
     requires short { length line.now ≤ line_limit }
-    ensures exact { GivesUnless told answer_view result (draws_by setting.now strike.old line.now) }
+    ensures exact { GivesUnless told answer_view result (line_drawn setting.now strike.old line.now) }
     ensures valid { IfOk result (λ r. CanGoOut r.output) }
     ensures report { IfOk result (TellsOf (Some number)) }
-    ensures serves { IsNoRead result }
-    ensures defects { IfTold stop_font_fault result (IsDefectBy setting.now strike.old line.now) }
+    ensures serves { IsOfText result }
+    ensures defects { IfTold refusal_font_fault result (IsDefectBy setting.now strike.old line.now) }
     ensures same { strike.new ≡ record strike.old { kept = strike.new.kept } }
 {
     let Ok(text) = str::from_utf8(line) else {
-        return Err(TextStop::Refused(TextFault::NotUtf8));
+        return Err(Refusal::NotUtf8);
     };
-    answer_text(alloc, strike, face, setting, Some(number), text)
+    answer_text(alloc, strike, setting, Some(number), text)
 }
 
 /// The place of the next line, if there is one. The `drawn` lines before it took `used` of the budget. Errors, the first
@@ -62,7 +59,7 @@ fn next_line<R: Source>(
     lines: &mut R,
     drawn: u32,
     used: u128,
-) -> Result<Option<LinePlace>, TextStop>
+) -> Result<Option<LinePlace>, Refusal>
     requires valid { IsReader reader.old }
     requires source { R.has_failed lines.old ≡ false }
     ensures valid { IsReader reader.new }
@@ -72,18 +69,16 @@ fn next_line<R: Source>(
     let place = match reader.read_line(lines) {
         Ok(Some(place)) => place,
         Ok(None) => return Ok(None),
-        Err(ReadFault::Long) => {
-            return Err(TextStop::Refused(TextFault::Job(JobFault::TextLong)));
-        }
-        Err(ReadFault::Read) => return Err(TextStop::Read),
+        Err(ReadFault::Long) => return Err(Refusal::Job(JobFault::TextLong)),
+        Err(ReadFault::Read) => return Err(Refusal::Read),
     };
     let line = reader.line(place);
     if line.len() > LINE_LIMIT {
-        return Err(TextStop::Refused(TextFault::Job(JobFault::TextLong)));
+        return Err(Refusal::Job(JobFault::TextLong));
     }
     let budget = lines_budget(u64::from(drawn));
     if used > budget {
-        return Err(TextStop::Refused(TextFault::Job(JobFault::WorkLarge)));
+        return Err(Refusal::Job(JobFault::WorkLarge));
     }
     Ok(Some(place))
 }
@@ -92,17 +87,15 @@ fn next_line<R: Source>(
 fn draw_lines_by<R: Source, W: Sink, E: Sink>(
     alloc: Global,
     strike: &mut Strike,
-    face: &Face,
     lines: &mut R,
     out: &mut W,
     error: &mut E,
     setting: &Setting,
 ) -> Result<usize, TextsFault>
-    requires face { strike.old.face ≡ face.now }
     requires lines { R.has_failed lines.old ≡ false }
     requires out { W.has_failed out.old ≡ false }
     requires error { E.has_failed error.old ≡ false }
-    ensures outcome { LinesGive (draws_by setting.now strike.old) result (traffic_of R.left R.has_failed W.written W.has_failed lines.old lines.new out.old out.new) (errors_of E.written E.has_failed error.old error.new) }
+    ensures outcome { LinesGive (line_drawn setting.now strike.old) result (traffic_of R.left R.has_failed W.written W.has_failed lines.old lines.new out.old out.new) (errors_of E.written E.has_failed error.old error.new) }
     ensures defects { LinesTell (IsDefectBy setting.now strike.old) (R.left lines.old) result }
     ensures kept { IfOk result (λ n. n ≤ strike.old.most) }
 {
@@ -116,20 +109,23 @@ fn draw_lines_by<R: Source, W: Sink, E: Sink>(
             Err(stop) => return Err(texts_fault(Some(number), stop)),
         };
         let line = reader.line(place);
-        let mut ready = match draw_line(alloc, strike, face, setting, number, line) {
+        let mut ready = match draw_line(alloc, strike, setting, number, line) {
             Ok(ready) => ready,
             Err(refusal) => return Err(texts_fault(Some(number), refusal)),
         };
         used += u128::from(ready.output.cost());
         if let Err(cut) = write_output(out, &mut ready.output) {
-            return Err(TextsFault::Write {
-                number: Some(number),
-                sent: cut.sent,
+            return Err(TextsFault {
+                line: Some(number),
+                refusal: Refusal::Write { sent: cut.sent },
             });
         }
         print_text(error, &ready.report);
     }
-    Err(TextsFault::Many)
+    Err(TextsFault {
+        line: None,
+        refusal: Refusal::Many,
+    })
 }
 
 /// Draws the lines of a text in order, and writes the product of each, as `draw_text` would write it, as soon as it is
@@ -141,9 +137,10 @@ fn draw_lines_by<R: Source, W: Sink, E: Sink>(
 /// them. Returns the bytes of the glyphs that are cached at the end, which are at most the setting's `most`.
 ///
 /// Errors, the first of: Job (SizeRange, MarginRange), before the font is read; FontRead, FontLarge; Font, of the
-/// tables needed for every text; then, line by line: Read; Text, with the line's number, from 1: TextLong, of more than
-/// 16,384 bytes; WorkLarge, where the lines before it took more than their budget; NotUtf8; those of `Strike::line`,
-/// `Strike::grown_line`, `Strike::measure` or `Strike::grown_measure`; Missing; and Write. Many comes after 4,294,967,295 lines. Memory may come at any allocation.
+/// tables needed for every text; then, line by line, with the line's number, from 1: Read; Job (TextLong, of more than
+/// 16,384 bytes; WorkLarge, where the lines before it took more than their budget); NotUtf8; Font and Job of
+/// `make_picture` or `make_measure`; Missing; and Write. Many comes after 4,294,967,295 lines. Memory may come at any
+/// allocation.
 #[tactic(auto, unfolding(crate::specs::Settings::strike_of))]
 pub fn draw_lines<F: Source, R: Source, W: Sink, E: Sink>(
     alloc: Global,
@@ -169,5 +166,5 @@ pub fn draw_lines<F: Source, R: Source, W: Sink, E: Sink>(
     let file = read_font(alloc, font)?;
     let face = Face::open(&file)?;
     let mut strike = Strike::new(alloc, &face, setting.ppem, setting.fit, setting.most)?;
-    draw_lines_by(alloc, &mut strike, &face, lines, out, error, setting)
+    draw_lines_by(alloc, &mut strike, lines, out, error, setting)
 }

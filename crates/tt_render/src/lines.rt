@@ -7,9 +7,9 @@ ghost use Rattle.tt_render.specs.LineReading.{IsReader, IsFirstFeed, GetsMore, R
 ghost use Rattle.tt_render.specs.Lines.{before_feed};
 ghost use Rattle.std.specs.Io.KnownBytes.{IsAtEnd, Keeps};
 
-use crate::reading::read_behind;
 use std::alloc::{AllocError, Global};
 use tt_core::{IoFailed, Source};
+use tt_render_run::read_behind;
 
 /// The longest line, in bytes.
 pub(crate) const LINE_LIMIT: usize = 16_384;

@@ -1,25 +1,26 @@
-//! The product of a text: its output.
+//! The product of a text: its output, and how it is written.
 
-ghost use Rattle.std.specs.Prelude.{◌≡◌, chars, Ok, IfOk};
-ghost use Rattle.tt_core.specs.Outcomes.{GivesUnless, IfTold};
+ghost use Rattle.std.specs.Io.KnownBytes.{Appends};
+ghost use Rattle.std.specs.Prelude.{◌≡◌, ◌<◌, false, is_err, length, take, Ok, IfOk, IfErr, OnOk};
+ghost use Rattle.tt_core.specs.Outcomes.{GivesUnless};
 ghost use Rattle.tt_line.specs.Layout.{text_glyphs};
-ghost use Rattle.tt_render.specs.LinesOutcome.{CanGoOut, IsNoRead, bytes_in, cost_in, told, unfitted_in};
-ghost use Rattle.tt_render.specs.TextOutcome.{stop_font_fault};
-ghost use Rattle.tt_render.specs.MeasureText.{measure_text};
-ghost use Rattle.tt_render.specs.Texts.{as_text, product_of};
+ghost use Rattle.tt_render.specs.TextsOutcome.{CanGoOut, bytes_in, cost_in, unfitted_in};
+ghost use Rattle.tt_render.specs.Texts.{IsMadeBy, measure_by, picture_by, product_of};
 ghost use Rattle.tt_strike.specs.Costs.{cost_by};
-ghost use Rattle.tt_strike.specs.Defects.{IsLineDefect, TellsDefects};
+ghost use Rattle.tt_strike.specs.Defects.{IsLineDefect, TellsDefects, draw_font_fault};
 ghost use Rattle.tt_strike.specs.Measures.{measure_view};
 ghost use Rattle.tt_picture.specs.Pictures.{IsReady, picture_bytes};
+ghost use Rattle.tt_strike.specs.Refusals.{refusal};
 ghost use Rattle.tt_strike.specs.Report.{report_by};
 ghost use Rattle.tt_strike.specs.Strikes.{job_of};
 
-use crate::drawing::Drawn;
 use crate::measure_text::measure_text;
 use crate::setting::{Product, Setting};
-use crate::texts_fault::TextStop;
-use std::alloc::{AllocError, Global};
-use tt_strike::{Face, Measure, Picture, Report, Strike, Unfitted};
+use std::alloc::Global;
+use tt_core::Sink;
+use tt_pbm::{Cut, write_all_of};
+use tt_render_run::{Drawn, write_picture};
+use tt_strike::{DrawFault, Measure, Picture, Report, Strike, Unfitted};
 
 /// A text's output, ready to be written.
 #[derive(Drop)]
@@ -52,70 +53,91 @@ impl Output {
     }
 }
 
-/// A picture, ready to be written.
-fn picture_output(alloc: Global, picture: Picture) -> Result<Output, AllocError>
-    requires { IsReady picture }
-    ensures exact { IfOk result (λ o. bytes_in o ≡ picture_bytes picture) }
-    ensures report { IfOk result (λ o. unfitted_in o ≡ picture.unfitted) }
-    ensures cost { IfOk result (λ o. cost_in o ≡ picture.cost) }
-    ensures ready { IfOk result CanGoOut }
-{
-    let row = vec![in alloc; 0u8; picture.row_bytes()]?;
-    Ok(Output::Picture(Drawn { picture, row }))
-}
-
-/// The measure of a text, ready to be written.
-fn measure_output(
-    alloc: Global,
-    face: &Face,
+/// The picture of a text by a strike: as it is, or with `grow` enlarged so that no ink is cut. Errors: those of
+/// `Strike::line` or `Strike::grown_line`.
+#[tactic(auto, unfolding(crate::specs::Texts::picture_by))]
+pub fn make_picture(
+    strike: &mut Strike,
+    grow: bool,
     text: &str,
-    measure: Measure,
-) -> Result<Output, AllocError>
-    ensures exact { IfOk result (λ o. bytes_in o ≡ measure_text face.now.metrics (chars text.now) (measure_view measure)) }
-    ensures report { IfOk result (λ o. unfitted_in o ≡ measure.report.unfitted.items) }
-    ensures cost { IfOk result (λ o. cost_in o ≡ measure.report.cost) }
-    ensures ready { IfOk result CanGoOut }
+    margin: u32,
+) -> Result<Picture, DrawFault>
+    ensures exact { GivesUnless refusal picture_bytes result (picture_by grow strike.old.face (job_of strike.old text.now margin)) }
+    ensures ready { IfOk result IsReady }
+    ensures made { IfOk result (λ p. IsMadeBy grow (job_of strike.old text.now margin) p strike.old.face) }
+    ensures defects { TellsDefects draw_font_fault (IsLineDefect strike.old.face (job_of strike.old text.now margin) (text_glyphs strike.old.face.cmap text.now)) result }
+    ensures same { strike.new ≡ record strike.old { kept = strike.new.kept } }
 {
-    let lines = measure_text(alloc, face.metrics(), text, &measure)?;
-    let Measure { report, .. } = measure;
-    Ok(Output::Text(lines, report))
+    if grow {
+        strike.grown_line(text, margin)
+    } else {
+        strike.line(text, margin)
+    }
 }
 
-/// A text's output by a strike. Errors: those of `Strike::line`, `Strike::grown_line`, `Strike::measure` or
-/// `Strike::grown_measure`.
+/// The measure of the picture that `make_picture` makes. Errors: those of `Strike::measure` or `Strike::grown_measure`.
+#[tactic(auto, unfolding(crate::specs::Texts::measure_by))]
+pub fn make_measure(
+    strike: &mut Strike,
+    grow: bool,
+    text: &str,
+    margin: u32,
+) -> Result<Measure, DrawFault>
+    ensures exact { GivesUnless refusal measure_view result (measure_by grow strike.old.face (job_of strike.old text.now margin)) }
+    ensures report { IfOk result (λ m. report_by strike.old.face (job_of strike.old text.now margin) ≡ Ok m.report.unfitted.items) }
+    ensures cost { IfOk result (λ m. cost_by strike.old.face (job_of strike.old text.now margin) ≡ Ok m.report.cost) }
+    ensures defects { TellsDefects draw_font_fault (IsLineDefect strike.old.face (job_of strike.old text.now margin) (text_glyphs strike.old.face.cmap text.now)) result }
+    ensures same { strike.new ≡ strike.old }
+{
+    if grow {
+        strike.grown_measure(text, margin)
+    } else {
+        strike.measure(text, margin)
+    }
+}
+
+/// A text's output by a strike. Errors: those of `make_picture` or `make_measure`.
 #[tactic(auto, unfolding(crate::specs::Texts::product_of))]
 pub(crate) fn make_output(
     alloc: Global,
     strike: &mut Strike,
-    face: &Face,
     setting: &Setting,
     text: &str,
-) -> Result<Output, TextStop>
-    requires face { strike.old.face ≡ face.now }
-    ensures exact { GivesUnless told bytes_in result (as_text (product_of strike.old setting.now.product setting.now.margin text.now)) }
+) -> Result<Output, DrawFault>
+    ensures exact { GivesUnless refusal bytes_in result (product_of setting.now strike.old text.now) }
     ensures report { IfOk result (λ o. report_by strike.old.face (job_of strike.old text.now setting.now.margin) ≡ Ok (unfitted_in o)) }
     ensures cost { IfOk result (λ o. cost_by strike.old.face (job_of strike.old text.now setting.now.margin) ≡ Ok (cost_in o)) }
     ensures ready { IfOk result CanGoOut }
-    ensures serves { IsNoRead result }
-    ensures defects { TellsDefects stop_font_fault (IsLineDefect strike.old.face (job_of strike.old text.now setting.now.margin) (text_glyphs strike.old.face.cmap text.now)) result }
+    ensures defects { TellsDefects draw_font_fault (IsLineDefect strike.old.face (job_of strike.old text.now setting.now.margin) (text_glyphs strike.old.face.cmap text.now)) result }
     ensures same { strike.new ≡ record strike.old { kept = strike.new.kept } }
 {
     match setting.product {
         Product::Picture => {
-            let picture = strike.line(text, setting.margin)?;
-            Ok(picture_output(alloc, picture)?)
-        }
-        Product::Grown => {
-            let picture = strike.grown_line(text, setting.margin)?;
-            Ok(picture_output(alloc, picture)?)
+            let picture = make_picture(strike, setting.grow, text, setting.margin)?;
+            let row = vec![in alloc; 0u8; picture.row_bytes()]?;
+            Ok(Output::Picture(Drawn { picture, row }))
         }
         Product::Measure => {
-            let measure = strike.measure(text, setting.margin)?;
-            Ok(measure_output(alloc, face, text, measure)?)
+            let face = strike.face();
+            let measure = make_measure(strike, setting.grow, text, setting.margin)?;
+            let lines = measure_text(alloc, face.metrics(), text, &measure)?;
+            let Measure { report, .. } = measure;
+            Ok(Output::Text(lines, report))
         }
-        Product::GrownMeasure => {
-            let measure = strike.grown_measure(text, setting.margin)?;
-            Ok(measure_output(alloc, face, text, measure)?)
-        }
+    }
+}
+
+/// Writes the output of a text: a picture as `write_picture` does, lines of text by one call. It takes no memory.
+pub(crate) fn write_output<W: Sink>(out: &mut W, output: &mut Output) -> Result<(), Cut>
+    requires out { W.has_failed out.old ≡ false }
+    requires ready { CanGoOut output.old }
+    ensures all { OnOk result (Appends (W.written out.old) (W.written out.new) (bytes_in output.old)) }
+    ensures part { IfErr result (λ cut. Appends (W.written out.old) (W.written out.new) (take cut.sent (bytes_in output.old))) }
+    ensures within { IfErr result (λ cut. cut.sent < length (bytes_in output.old)) }
+    ensures failure { W.has_failed out.new ≡ is_err result }
+{
+    match output {
+        Output::Picture(drawn) => write_picture(out, drawn),
+        Output::Text(text, _) => write_all_of(out, text.as_bytes()),
     }
 }

@@ -1,7 +1,9 @@
 //! How texts are drawn.
 
+ghost use Rattle.std.specs.Prelude.{◌≡◌};
 ghost use Rattle.tt_core.specs.Outcomes.{Gives};
-ghost use Rattle.tt_render.specs.Settings.{setting_tested};
+ghost use Rattle.tt_render.specs.Settings.{job_by, plain_setting, setting_tested};
+ghost use Rattle.tt_strike.specs.Job.{job_view};
 
 use tt_core::JobFault;
 use tt_fit::Fit;
@@ -23,12 +25,8 @@ pub enum Missing {
 pub enum Product {
     /// Its picture.
     Picture,
-    /// Its picture with the fewest columns and rows added on each side such that no ink is cut.
-    Grown,
     /// The places of its picture's base line, ink and characters, as lines of text.
     Measure,
-    /// These lines for the picture that `Grown` makes.
-    GrownMeasure,
 }
 
 /// How texts are drawn.
@@ -40,9 +38,40 @@ pub struct Setting {
     pub margin: u32,
     pub fit: Fit,
     pub missing: Missing,
+    /// Whether the picture has the fewest columns and rows more on each side such that no ink is cut.
+    pub grow: bool,
     pub product: Product,
     /// The most bytes of glyphs cached from line to line.
     pub most: usize,
+}
+
+impl Setting {
+    /// The setting by which `run` draws: glyph 0 in place of a missing one, the picture as it is, no cached glyphs.
+    pub fn plain(ppem: u32, margin: u32, fit: Fit) -> Setting
+        ensures { result ≡ plain_setting ppem margin fit }
+    {
+        Setting {
+            ppem,
+            margin,
+            fit,
+            missing: Missing::Draw,
+            grow: false,
+            product: Product::Picture,
+            most: 0,
+        }
+    }
+
+    /// The job of a text. Jobs are made here alone.
+    pub fn job<'t>(&self, text: &'t str) -> Job<'t>
+        ensures { job_view result ≡ job_by self.now text.now }
+    {
+        Job {
+            text,
+            ppem: self.ppem,
+            margin: self.margin,
+            fit: self.fit,
+        }
+    }
 }
 
 /// Tests a setting. Errors, the first of: SizeRange, MarginRange.
@@ -50,10 +79,5 @@ pub(crate) fn test_setting(setting: &Setting) -> Result<(), JobFault>
     ensures { Gives (λ u. u) result (setting_tested setting.now) }
 {
     // The tests of a job are reused: an empty text is never too long.
-    test_job(&Job {
-        text: "",
-        ppem: setting.ppem,
-        margin: setting.margin,
-        fit: setting.fit,
-    })
+    test_job(&setting.job(""))
 }

@@ -3,19 +3,18 @@
 ghost use Rattle.std.specs.Prelude.{◌≡◌, IfOk};
 ghost use Rattle.tt_core.specs.Outcomes.{GivesUnless, IfTold};
 ghost use Rattle.tt_line.specs.Layout.{text_glyphs};
-ghost use Rattle.tt_render.specs.LinesOutcome.{CanGoOut, IsNoRead, TellsOf, answer_view, told};
-ghost use Rattle.tt_render.specs.TextOutcome.{stop_font_fault};
 ghost use Rattle.tt_render.specs.Texts.{missing_tested, text_answer};
+ghost use Rattle.tt_render.specs.TextsOutcome.{CanGoOut, IsOfText, TellsOf, answer_view, refusal_font_fault, told};
 ghost use Rattle.tt_strike.specs.Defects.{IsLineDefect, TellsDefects};
 ghost use Rattle.tt_strike.specs.Strikes.{job_of};
 
 use crate::products::{Output, make_output};
+use crate::refusal::Refusal;
 use crate::setting::{Missing, Setting};
-use crate::texts_fault::{TextFault, TextStop};
 use crate::texts_messages::report_text;
 use std::alloc::Global;
 use tt_cmap::{Cmap, lacking};
-use tt_strike::{Face, Strike};
+use tt_strike::Strike;
 
 /// The output of a text, ready to be written; the reported characters without a glyph; and the report as it is printed.
 #[derive(Drop)]
@@ -32,10 +31,10 @@ fn missing_of(
     cmap: &Cmap,
     missing: Missing,
     text: &str,
-) -> Result<Vec<char>, TextStop>
+) -> Result<Vec<char>, Refusal>
     ensures exact { GivesUnless told (λ v. v.items) result (missing_tested cmap.now missing text.now) }
-    ensures font { IfTold stop_font_fault result (λ _. ⊥) }
-    ensures serves { IsNoRead result }
+    ensures font { IfTold refusal_font_fault result (λ _. ⊥) }
+    ensures serves { IsOfText result }
 {
     match missing {
         Missing::Draw => Ok(Vec::new(alloc)),
@@ -43,7 +42,7 @@ fn missing_of(
         Missing::Refuse => {
             let lacking = lacking(alloc, cmap, text)?;
             match lacking.first() {
-                Some(c) => Err(TextStop::Refused(TextFault::Missing(*c))),
+                Some(c) => Err(Refusal::Missing(*c)),
                 None => Ok(lacking),
             }
         }
@@ -55,20 +54,19 @@ fn missing_of(
 pub(crate) fn answer_text(
     alloc: Global,
     strike: &mut Strike,
-    face: &Face,
     setting: &Setting,
     number: Option<u32>,
     text: &str,
-) -> Result<ReadyText, TextStop>
-    requires face { strike.old.face ≡ face.now }
-    ensures exact { GivesUnless told answer_view result (text_answer strike.old setting.now.product setting.now.missing setting.now.margin text.now) }
+) -> Result<ReadyText, Refusal>
+    ensures exact { GivesUnless told answer_view result (text_answer setting.now strike.old text.now) }
     ensures valid { IfOk result (λ r. CanGoOut r.output) }
     ensures report { IfOk result (TellsOf number) }
-    ensures serves { IsNoRead result }
-    ensures defects { TellsDefects stop_font_fault (IsLineDefect strike.old.face (job_of strike.old text.now setting.now.margin) (text_glyphs strike.old.face.cmap text.now)) result }
+    ensures serves { IsOfText result }
+    ensures defects { TellsDefects refusal_font_fault (IsLineDefect strike.old.face (job_of strike.old text.now setting.now.margin) (text_glyphs strike.old.face.cmap text.now)) result }
     ensures same { strike.new ≡ record strike.old { kept = strike.new.kept } }
 {
-    let output = make_output(alloc, strike, face, setting, text)?;
+    let face = strike.face();
+    let output = make_output(alloc, strike, setting, text)?;
     let lacking = missing_of(alloc, face.cmap(), setting.missing, text)?;
     let report = report_text(alloc, number, output.unfitted(), &lacking)?;
     Ok(ReadyText {

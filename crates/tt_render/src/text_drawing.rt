@@ -2,26 +2,26 @@
 
 ghost use Rattle.std.specs.Prelude.{◌≡◌, ◌≤◌, false, length, Ok, None, IfOk};
 ghost use Rattle.tt_core.specs.Limits.{font_limit};
-ghost use Rattle.tt_render.specs.LinesOutcome.{CanGoOut, TellsOf};
-ghost use Rattle.tt_render.specs.Outcome.{traffic_of};
+ghost use Rattle.tt_render_run.specs.Outcome.{traffic_of};
 ghost use Rattle.tt_render.specs.Printing.{errors_of};
-ghost use Rattle.tt_render.specs.Settings.{strike_of};
-ghost use Rattle.tt_render.specs.TextOutcome.{FontTextGives, ReadiesText, TextTellsDefects, TextTellsDefectsOf, job_by, text_by};
+ghost use Rattle.tt_render.specs.Settings.{job_by, strike_of};
+ghost use Rattle.tt_render.specs.Texts.{text_answer};
+ghost use Rattle.tt_render.specs.TextsOutcome.{CanGoOut, FontTextGives, ReadiesText, TellsOf, TextTellsDefects, TextTellsDefectsOf};
 ghost use Rattle.tt_strike.specs.Defects.{IsRunDefect};
 ghost use Rattle.tt_strike.specs.Job.{tested};
 
 use crate::printing::print_text;
-use crate::reading::read_font;
+use crate::products::write_output;
+use crate::refusal::{Refusal, TextsFault, texts_fault};
 use crate::setting::Setting;
 use crate::text_answers::{ReadyText, answer_text};
-use crate::texts_fault::{TextsFault, texts_fault};
-use crate::writing::write_output;
 use std::alloc::Global;
 use tt_core::{Sink, Source};
-use tt_strike::{Face, Job, Strike, test_job};
+use tt_render_run::read_font;
+use tt_strike::{Face, Strike, test_job};
 
-/// The answer of the one text by a font file. Errors, the first of: Font, of the tables needed for every text; Text.
-/// Memory may come at any allocation.
+/// The answer of the one text by a font file. Errors, the first of: Font, of the tables needed for every text; those of
+/// `answer_text`. Memory may come at any allocation.
 fn ready_text(
     alloc: Global,
     file: &[u8],
@@ -30,7 +30,7 @@ fn ready_text(
 ) -> Result<ReadyText, TextsFault>
     requires size { length file.now ≤ font_limit }
     requires tested { tested (job_by setting.now text.now) ≡ Ok tt }
-    ensures outcome { ReadiesText (text_by setting.now text.now) (strike_of setting.now file.now) result }
+    ensures outcome { ReadiesText (λ s. text_answer setting.now s text.now) (strike_of setting.now file.now) result }
     ensures defects { TextTellsDefects (IsRunDefect (job_by setting.now text.now) file.now) result }
     ensures valid { IfOk result (λ r. CanGoOut r.output) }
     ensures report { IfOk result (TellsOf None) }
@@ -38,9 +38,9 @@ fn ready_text(
     let face = Face::open(file)?;
     // There is no other line, so no glyph is cached.
     let mut strike = Strike::new(alloc, &face, setting.ppem, setting.fit, 0)?;
-    match answer_text(alloc, &mut strike, &face, setting, None, text) {
+    match answer_text(alloc, &mut strike, setting, None, text) {
         Ok(ready) => Ok(ready),
-        Err(stop) => Err(texts_fault(None, stop)),
+        Err(refusal) => Err(texts_fault(None, refusal)),
     }
 }
 
@@ -49,10 +49,10 @@ fn ready_text(
 /// be fitted. With `Missing::Tell` a line for each character without a glyph follows. A failure of `error` does not
 /// change the answer.
 ///
-/// Errors, the first of: Job (SizeRange, MarginRange, and TextLong, of more than 4,096 characters), before the font is
-/// read; FontRead, FontLarge; Font, of the tables needed for every text; Text, with no number: those of `Strike::line`,
-/// `Strike::grown_line`, `Strike::measure` or `Strike::grown_measure`; Missing; and Write, with no number. Memory may
-/// come at any allocation, and then nothing was written.
+/// Errors, the first of these, with no line: Job (SizeRange, MarginRange, and TextLong, of more than 4,096 characters),
+/// before the font is read; FontRead, FontLarge; Font, of the tables needed for every text; Font and Job of
+/// `make_picture` or `make_measure`; Missing; and Write. Memory may come at any allocation, and then nothing was
+/// written.
 pub fn draw_text<R: Source, W: Sink, E: Sink>(
     alloc: Global,
     font: &mut R,
@@ -69,12 +69,7 @@ pub fn draw_text<R: Source, W: Sink, E: Sink>(
     ensures outcome { FontTextGives setting.now text.now result (traffic_of R.left R.has_failed W.written W.has_failed font.old font.new out.old out.new) (errors_of E.written E.has_failed error.old error.new) }
     ensures defects { TextTellsDefectsOf (R.left font.old) (IsRunDefect (job_by setting.now text.now)) result }
 {
-    test_job(&Job {
-        text,
-        ppem: setting.ppem,
-        margin: setting.margin,
-        fit: setting.fit,
-    })?;
+    test_job(&setting.job(text))?;
     let file = read_font(alloc, font)?;
     let mut ready = ready_text(alloc, &file, text, setting)?;
     match write_output(out, &mut ready.output) {
@@ -82,9 +77,9 @@ pub fn draw_text<R: Source, W: Sink, E: Sink>(
             print_text(error, &ready.report);
             Ok(())
         }
-        Err(cut) => Err(TextsFault::Write {
-            number: None,
-            sent: cut.sent,
+        Err(cut) => Err(TextsFault {
+            line: None,
+            refusal: Refusal::Write { sent: cut.sent },
         }),
     }
 }

@@ -2,10 +2,9 @@
 
 ghost use Rattle.std.specs.Prelude.{◌≡◌, ◌++◌, flat_map, length, string_bytes, IfOk, IsOk, OnOk};
 ghost use Rattle.tt_render.specs.Reports.{head_of, lacking_told, report_text_of, unfitted_told};
-ghost use Rattle.tt_render.specs.TextsMessages.{cut_line_of, text_line_of, text_status_of, texts_line_of, texts_status_of};
+ghost use Rattle.tt_render.specs.TextsMessages.{named_line_of, texts_line_of, texts_status_of};
 
-use crate::messages::{font_line, job_line};
-use crate::texts_fault::{TextFault, TextsFault};
+use crate::refusal::{Refusal, TextsFault};
 use std::alloc::{AllocError, Global};
 use tt_strike::Unfitted;
 
@@ -13,22 +12,27 @@ use tt_strike::Unfitted;
 pub fn texts_status(fault: &TextsFault) -> u8
     ensures { result ≡ texts_status_of fault.now }
 {
-    match fault {
-        TextsFault::Font(_) => 1,
-        TextsFault::Job(_) | TextsFault::Many => 2,
-        TextsFault::FontRead | TextsFault::FontLarge | TextsFault::Read => 3,
-        TextsFault::Text { fault, .. } => text_status(fault),
-        TextsFault::Write { .. } => 4,
-        TextsFault::Memory => 5,
+    match fault.refusal {
+        Refusal::Font(_) => 1,
+        Refusal::Job(_) | Refusal::NotUtf8 | Refusal::Missing(_) | Refusal::Many => 2,
+        Refusal::FontRead | Refusal::FontLarge | Refusal::Read => 3,
+        Refusal::Write { .. } => 4,
+        Refusal::Memory => 5,
     }
 }
 
-fn text_status(fault: &TextFault) -> u8
-    ensures { result ≡ text_status_of fault.now }
+/// The line that a message names: a reader that failed, and refused memory, are no line's own.
+fn named_line(fault: &TextsFault) -> Option<u32>
+    ensures { result ≡ named_line_of fault.now.refusal fault.now.line }
 {
-    match fault {
-        TextFault::Font(_) => 1,
-        TextFault::Job(_) | TextFault::NotUtf8 | TextFault::Missing(_) => 2,
+    match fault.refusal {
+        Refusal::FontRead | Refusal::FontLarge | Refusal::Read | Refusal::Many | Refusal::Memory =>
+            None,
+        Refusal::Font(_)
+        | Refusal::Job(_)
+        | Refusal::NotUtf8
+        | Refusal::Missing(_)
+        | Refusal::Write { .. } => fault.line,
     }
 }
 
@@ -36,53 +40,32 @@ fn text_status(fault: &TextFault) -> u8
 pub fn texts_line(alloc: Global, fault: &TextsFault) -> Result<String, AllocError>
     ensures { IfOk result (λ text. string_bytes text ≡ texts_line_of fault.now) }
 {
-    match fault {
-        TextsFault::Font(fault) => font_line(alloc, *fault),
-        TextsFault::Job(job) => job_line(alloc, *job),
-        TextsFault::FontRead => String::from_str(alloc, "tt_render: cannot read the font"),
-        TextsFault::FontLarge => {
-            String::from_str(alloc, "tt_render: font larger than 67108864 bytes")
-        }
-        TextsFault::Text { number, fault } => text_line(alloc, *number, fault),
-        TextsFault::Read => String::from_str(alloc, "tt_render: cannot read the lines"),
-        TextsFault::Write { number, sent } => cut_line(alloc, *number, *sent),
-        TextsFault::Many => String::from_str(alloc, "tt_render: more than 4294967295 lines"),
-        TextsFault::Memory => String::from_str(alloc, "tt_render: out of memory"),
-    }
-}
-
-/// The line of a text that is not drawn.
-fn text_line(alloc: Global, number: Option<u32>, fault: &TextFault) -> Result<String, AllocError>
-    ensures { IfOk result (λ text. string_bytes text ≡ text_line_of number fault.now) }
-{
-    let head = head(alloc, number)?;
-    match fault {
-        TextFault::Font(fault) => {
+    let head = head(alloc, named_line(fault))?;
+    match &fault.refusal {
+        Refusal::Font(fault) => {
             let table = fault.tag();
             let offset = fault.offset;
             let code = fault.why.number();
             let name = fault.why.name();
             format!(in alloc; "{head}{table}+{offset}: {code} {name}")
         }
-        TextFault::Job(job) => {
+        Refusal::Job(job) => {
             let code = job.number();
             let name = job.name();
             format!(in alloc; "{head}{code} {name}")
         }
-        TextFault::NotUtf8 => format!(in alloc; "{head}not UTF-8"),
-        TextFault::Missing(c) => {
+        Refusal::NotUtf8 => format!(in alloc; "{head}not UTF-8"),
+        Refusal::Missing(c) => {
             let code = *c as u32;
             format!(in alloc; "{head}U+{code:04X} has no glyph")
         }
+        Refusal::FontRead => format!(in alloc; "{head}cannot read the font"),
+        Refusal::FontLarge => format!(in alloc; "{head}font larger than 67108864 bytes"),
+        Refusal::Read => format!(in alloc; "{head}cannot read the lines"),
+        Refusal::Write { sent } => format!(in alloc; "{head}cannot write after {sent} bytes"),
+        Refusal::Many => format!(in alloc; "{head}more than 4294967295 lines"),
+        Refusal::Memory => format!(in alloc; "{head}out of memory"),
     }
-}
-
-/// The line of a picture that could not be written.
-fn cut_line(alloc: Global, number: Option<u32>, sent: u64) -> Result<String, AllocError>
-    ensures { IfOk result (λ text. string_bytes text ≡ cut_line_of number sent) }
-{
-    let head = head(alloc, number)?;
-    format!(in alloc; "{head}cannot write after {sent} bytes")
 }
 
 /// The start of a message about the one text, or about the line with this number.

@@ -6,7 +6,7 @@ use super::devices::{Given, Manner, Written};
 use std::alloc::Global;
 use std::str;
 use tt_core::Device;
-use tt_program_decisions::{DRAW, Request, Words, job_of, perform, setting_of};
+use tt_program_decisions::{DRAW, Request, perform, setting_of};
 use tt_render::{Product, Setting};
 use tt_test_words::Line;
 
@@ -57,8 +57,11 @@ impl Asked {
             };
             request = Request::Lines { font: "", setting };
             if question == "draw" {
-                let job = job_of(text, &setting);
-                request = Request::Draw { font: "", job };
+                request = Request::Text {
+                    font: "",
+                    text,
+                    setting,
+                };
             }
         }
         let font = self.changed(alloc, line);
@@ -150,11 +153,15 @@ fn manner_in(line: &mut Line) -> Manner {
 
 /// The next three words, size, margin and way to fit.
 fn setting_in(line: &mut Line, missing: &str) -> Option<Setting> {
-    let words = Words {
-        size: line.number(0, u32::MAX as i64) as u32,
-        margin: line.number(0, u32::MAX as i64) as u32,
-        fit: line.word(),
-        missing,
-    };
-    setting_of(&words, Product::Picture)
+    let size = line.number(0, u32::MAX as i64) as u32;
+    let margin = line.number(0, u32::MAX as i64) as u32;
+    let fit = line.word();
+    setting_of(
+        Some(size),
+        Some(margin),
+        Some(fit),
+        Some(missing),
+        false,
+        Product::Picture,
+    )
 }

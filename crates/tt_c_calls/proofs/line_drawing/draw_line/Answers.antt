@@ -1,5 +1,6 @@
 use Rattle.std.proofs.Common.{◌≡◌, ◌≢◌, arith, refl}
-use Rattle.tt_c_calls.proofs.Answered.{fails, stands, writes_none}
+use Rattle.tt_c_calls.specs.Refusals.{call_of_draw}
+use Rattle.tt_c_calls.proofs.Answered.{draw_refused, draw_tells, drawn_too, fails, stands, writes_none}
 use Rattle.tt_c_calls.proofs.StrikeLines.{line_defect, line_refused, line_stopped, line_written, picture_of_line, room_small, text_refused}
 use Rattle.tt_c_calls.proofs.line_drawing.draw_line.Goals as goal
 use Rattle.tt_c_calls.proofs.line_drawing.draw_line.Goals.{then-answer-eq0, else-answer-eq0}
@@ -10,13 +11,15 @@ returns-in-Err-clause-done g c = rw c.answer_of.ensures (λ h. absurd (fails c.i
 pub returns-in-Err-clause-bytes : goal.returns-in-Err-clause-bytes
 returns-in-Err-clause-bytes g c = rw (c.answer_of.ensures, writes_none c.in-Err.fault) (omega arith)
 
-pub returns-in-Err-picture_by-clause-done : goal.returns-in-Err-picture_by-clause-done
-returns-in-Err-picture_by-clause-done g c =
-    rw c.answer_of-in-Err-picture_by.ensures (λ h. absurd (fails c.in-Err-picture_by.fault h))
+pub returns-in-Err-make_picture-clause-done : goal.returns-in-Err-make_picture-clause-done
+returns-in-Err-make_picture-clause-done g c =
+    rw (c.answer_of-in-Err-make_picture.ensures, c.from.ensures)
+    (λ h. absurd (fails (call_of_draw c.in-Err-make_picture.fault) h))
 
-pub returns-in-Err-picture_by-clause-bytes : goal.returns-in-Err-picture_by-clause-bytes
-returns-in-Err-picture_by-clause-bytes g c =
-    rw (c.answer_of-in-Err-picture_by.ensures, writes_none c.in-Err-picture_by.fault) (omega arith)
+pub returns-in-Err-make_picture-clause-bytes : goal.returns-in-Err-make_picture-clause-bytes
+returns-in-Err-make_picture-clause-bytes g c =
+    rw (c.answer_of-in-Err-make_picture.ensures, c.from.ensures, writes_none (call_of_draw c.in-Err-make_picture.fault))
+    (omega arith)
 
 pub returns-in-Err-clause-stopped : goal.returns-in-Err-clause-stopped
 returns-in-Err-clause-stopped g c not_done =
@@ -28,40 +31,41 @@ pub returns-in-Err-clause-stands : goal.returns-in-Err-clause-stands
 returns-in-Err-clause-stands g c = rw c.answer_of.ensures (stands _ c.in-Err.fault
     (rw c.in-Err.ensures.refused tt))
 
-pub returns-in-Err-picture_by-clause-stopped : goal.returns-in-Err-picture_by-clause-stopped
-returns-in-Err-picture_by-clause-stopped g c not_done =
-    let e = c.in-Err-picture_by.fault in
-    let exact = rw c.grows.ensures at c.in-Err-picture_by.ensures.exact in
-    rw c.answer_of-in-Err-picture_by.ensures (line_stopped c.args.job.now g.font c.args.line.now _ e
-    (line_refused c.args.job.now g.font c.args.line.now c.in-Ok.text.now c.args.strike.now e c.requires
-    c.in-Ok.ensures.exact exact))
+pub returns-in-Err-make_picture-clause-stopped : goal.returns-in-Err-make_picture-clause-stopped
+returns-in-Err-make_picture-clause-stopped g c not_done =
+    let d = c.in-Err-make_picture.fault in
+    let exact = rw c.grows.ensures at c.in-Err-make_picture.ensures.exact in
+    rw (c.answer_of-in-Err-make_picture.ensures, c.from.ensures)
+    (line_stopped c.args.job.now g.font c.args.line.now _ (call_of_draw d)
+    (line_refused c.args.job.now g.font c.args.line.now c.in-Ok.text.now c.args.strike.now (call_of_draw d) c.requires
+    c.in-Ok.ensures.exact (draw_refused _ d exact)))
 
-pub returns-in-Err-picture_by-clause-stands : goal.returns-in-Err-picture_by-clause-stands
-returns-in-Err-picture_by-clause-stands g c =
-    let e = c.in-Err-picture_by.fault in
-    rw c.answer_of-in-Err-picture_by.ensures (stands _ e
-    (line_defect c.args.job.now g.font c.args.line.now c.in-Ok.text.now c.args.strike.now e c.requires
-    c.in-Ok.ensures.exact c.in-Err-picture_by.ensures.defects))
+pub returns-in-Err-make_picture-clause-stands : goal.returns-in-Err-make_picture-clause-stands
+returns-in-Err-make_picture-clause-stands g c =
+    let d = c.in-Err-make_picture.fault in
+    rw (c.answer_of-in-Err-make_picture.ensures, c.from.ensures) (stands _ (call_of_draw d)
+    (line_defect c.args.job.now g.font c.args.line.now c.in-Ok.text.now c.args.strike.now (call_of_draw d) c.requires
+    c.in-Ok.ensures.exact (draw_tells _ d c.in-Err-make_picture.ensures.defects)))
 
 pub returns-clause-done : goal.returns-clause-done
 returns-clause-done g c done =
-    let made = rw c.grows.ensures at c.in-Ok-picture_by.ensures in
+    let made = rw c.grows.ensures at c.in-Ok-make_picture.ensures in
     let of = picture_of_line c.args.job.now g.font c.args.line.now c.in-Ok.text.now c.args.strike.now _ c.requires
-    c.in-Ok.ensures.exact made.exact made.ready made.made in
+    c.in-Ok.ensures.exact (drawn_too _ _ made.exact) made.ready made.made in
     let told : c.if-answer-eq0.told ≡ record { picture = c.write_band-answer.new.told; at = c.args.at } =
     elim c.if-answer-eq0.branch [
       | then-answer-eq0 w ↦ w.told-is
       | else-answer-eq0 w ↦ absurd (w.if-answer-eq0.false done)
     ] in
-    line_written c.args.job.now g.font c.args.line.now c.args.at _ c.in-Ok-picture_by.picture c.args.room.now _ _ _ _ _ of
+    line_written c.args.job.now g.font c.args.line.now c.args.at _ c.in-Ok-make_picture.picture c.args.room.now _ _ _ _ _ of
     c.height-height.ensures.exact (c.write_band-answer.ensures.done done) told c.cost-cost.ensures
 
 pub returns-clause-stopped : goal.returns-clause-stopped
 returns-clause-stopped g c not_done =
-    let made = rw c.grows.ensures at c.in-Ok-picture_by.ensures in
-    room_small c.args.job.now g.font c.args.line.now c.args.room.now _ c.in-Ok-picture_by.picture _
+    let made = rw c.grows.ensures at c.in-Ok-make_picture.ensures in
+    room_small c.args.job.now g.font c.args.line.now c.args.room.now _ c.in-Ok-make_picture.picture _
     (picture_of_line c.args.job.now g.font c.args.line.now c.in-Ok.text.now c.args.strike.now _ c.requires
-    c.in-Ok.ensures.exact made.exact made.ready made.made)
+    c.in-Ok.ensures.exact (drawn_too _ _ made.exact) made.ready made.made)
     c.height-height.ensures.exact (c.write_band-answer.ensures.small not_done)
 
 pub returns-clause-stands : goal.returns-clause-stands

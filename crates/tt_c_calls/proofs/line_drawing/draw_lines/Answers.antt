@@ -1,7 +1,7 @@
 use Rattle.std.proofs.Common.{◌≡◌, ℕ, List, ap, arith, inl, length, subst}
 use Rattle.tt_c_calls.specs.Lines.{DrawsLines, EndsWith, IsLinesDefect, LineDefectStands, lines_wanted}
 use Rattle.tt_c_calls.specs.declared.fault.CallFault.TheVariants as call
-use Rattle.tt_c_calls.proofs.LinesStopped.{directory_is, face_refused, fit_defect, fit_refused, job_first, job_refused, lines_defect_told, lines_opened, lines_refused, opened_first, refused_first, room_names_none, strike_for, strike_refused}
+use Rattle.tt_c_calls.proofs.LinesStopped.{directory_is, face_refused, fit_defect, fit_refused, job_first, job_refused, lines_defect_told, lines_opened, lines_refused, of_setting, opened_first, refused_first, room_names_none, strike_for, strike_refused}
 use Rattle.tt_c_calls.specs.Refusals.{call_font_fault}
 use Rattle.tt_c_calls.proofs.StrikeLines.{if_some_more}
 use Rattle.tt_c_calls.proofs.line_drawing.draw_lines.Goals as goal
@@ -25,13 +25,13 @@ pub returns-in-Err-test_job-clause-order : goal.returns-in-Err-test_job-clause-o
 returns-in-Err-test_job-clause-order c = rw c.answer_of-in-Err-test_job.ensures
     (job_first (lines_wanted c.args.job.now c.args.font.now) _ _ c.in-Err-test_job.fault
     (job_refused c.args.job.now c.args.font.now c.in-Ok.fit c.in-Err-test_job.fault c.in-Ok.ensures.exact
-    c.in-Err-test_job.ensures.exact))
+    (of_setting c.args.job.now c.in-Ok.fit _ _ _ c.job.ensures c.plain.ensures c.in-Err-test_job.ensures.exact)))
 
 pub returns-in-Err-test_job-clause-drawn : goal.returns-in-Err-test_job-clause-drawn
 returns-in-Err-test_job-clause-drawn c room = rw c.answer_of-in-Err-test_job.ensures
     (lines_refused c.args.job.now c.args.font.now _ _ _ _ (call.Job c.in-Err-test_job.fault)
     (job_refused c.args.job.now c.args.font.now c.in-Ok.fit c.in-Err-test_job.fault c.in-Ok.ensures.exact
-    c.in-Err-test_job.ensures.exact))
+    (of_setting c.args.job.now c.in-Ok.fit _ _ _ c.job.ensures c.plain.ensures c.in-Err-test_job.ensures.exact)))
 
 pub returns-in-Err-test_job-clause-stands : goal.returns-in-Err-test_job-clause-stands
 returns-in-Err-test_job-clause-stands c =
@@ -41,13 +41,13 @@ pub returns-in-Err-face_of-clause-order : goal.returns-in-Err-face_of-clause-ord
 returns-in-Err-face_of-clause-order c = rw c.answer_of-in-Err-face_of.ensures
     (refused_first (lines_wanted c.args.job.now c.args.font.now) _ _ c.in-Err-face_of.fault c.in-Err-face_of.ensures.memory
     (face_refused c.args.job.now c.args.font.now c.in-Ok.fit c.in-Err-face_of.fault c.in-Ok.ensures.exact
-    c.in_default.ensures.exact c.in-Err-face_of.ensures.exact))
+    (of_setting c.args.job.now c.in-Ok.fit _ _ _ c.job.ensures c.plain.ensures c.in_default.ensures.exact) c.in-Err-face_of.ensures.exact))
 
 pub returns-in-Err-face_of-clause-drawn : goal.returns-in-Err-face_of-clause-drawn
 returns-in-Err-face_of-clause-drawn c room = rw c.answer_of-in-Err-face_of.ensures
     (lines_refused c.args.job.now c.args.font.now _ _ _ _ c.in-Err-face_of.fault
     (face_refused c.args.job.now c.args.font.now c.in-Ok.fit c.in-Err-face_of.fault c.in-Ok.ensures.exact
-    c.in_default.ensures.exact c.in-Err-face_of.ensures.exact))
+    (of_setting c.args.job.now c.in-Ok.fit _ _ _ c.job.ensures c.plain.ensures c.in_default.ensures.exact) c.in-Err-face_of.ensures.exact))
 
 pub returns-in-Err-face_of-clause-stands : goal.returns-in-Err-face_of-clause-stands
 returns-in-Err-face_of-clause-stands c = rw c.answer_of-in-Err-face_of.ensures
@@ -58,7 +58,7 @@ pub returns-then-lines-ends-clause-order : goal.returns-then-lines-ends-clause-o
 returns-then-lines-ends-clause-order c =
     opened_first (lines_wanted c.args.job.now c.args.font.now) c.in-Ok-face_of.face _ _ _
     (lines_opened c.args.job.now c.args.font.now c.in-Ok.fit c.in-Ok-face_of.face c.in-Ok.ensures.exact
-    c.in_default.ensures.exact c.in-Ok-face_of.ensures.exact) (λ few. c.wants_room.ensures)
+    (of_setting c.args.job.now c.in-Ok.fit _ _ _ c.job.ensures c.plain.ensures c.in_default.ensures.exact) c.in-Ok-face_of.ensures.exact) (λ few. c.wants_room.ensures)
 
 pub returns-then-lines-ends-clause-stands : goal.returns-then-lines-ends-clause-stands
 returns-then-lines-ends-clause-stands c = rw c.wants_room.ensures (room_names_none _ _ _)
@@ -67,26 +67,26 @@ pub returns-in-Err-new-clause-order : goal.returns-in-Err-new-clause-order
 returns-in-Err-new-clause-order c =
     opened_first (lines_wanted c.args.job.now c.args.font.now) c.in-Ok-face_of.face _ _ _
     (lines_opened c.args.job.now c.args.font.now c.in-Ok.fit c.in-Ok-face_of.face c.in-Ok.ensures.exact
-    c.in_default.ensures.exact c.in-Ok-face_of.ensures.exact)
+    (of_setting c.args.job.now c.in-Ok.fit _ _ _ c.job.ensures c.plain.ensures c.in_default.ensures.exact) c.in-Ok-face_of.ensures.exact)
     (λ few. absurd (omega (arith, few, c.if-lines-ends.false)))
 
 pub returns-in-Err-new-clause-drawn : goal.returns-in-Err-new-clause-drawn
 returns-in-Err-new-clause-drawn c room =
-    let memory = strike_refused c.args.job.now c.in-Ok.fit c.in-Err-new.fault c.in_default.ensures.exact
+    let memory = strike_refused c.args.job.now c.in-Ok.fit c.in-Err-new.fault (of_setting c.args.job.now c.in-Ok.fit _ _ _ c.job.ensures c.plain.ensures c.in_default.ensures.exact)
     c.in-Err-new.ensures.tested in
     rw (c.answer_of-in-Err-new.ensures, c.from.ensures, memory)
     (lines_refused c.args.job.now c.args.font.now _ _ _ _ call.Memory tt)
 
 pub returns-in-Err-new-clause-stands : goal.returns-in-Err-new-clause-stands
 returns-in-Err-new-clause-stands c =
-    let memory = strike_refused c.args.job.now c.in-Ok.fit c.in-Err-new.fault c.in_default.ensures.exact
+    let memory = strike_refused c.args.job.now c.in-Ok.fit c.in-Err-new.fault (of_setting c.args.job.now c.in-Ok.fit _ _ _ c.job.ensures c.plain.ensures c.in_default.ensures.exact)
     c.in-Err-new.ensures.tested in
     rw (c.answer_of-in-Err-new.ensures, c.from.ensures, memory) (lines_defect_told _ call.Memory tt)
 
 pub draw_by-answer-requires : goal.draw_by-answer-requires
 draw_by-answer-requires c = (
   strike_for c.args.job.now c.args.font.now c.in-Ok.fit c.in-Ok-face_of.face c.in-Ok-new.strike c.args.keep
-      c.in-Ok.ensures.exact c.in_default.ensures.exact c.in-Ok-face_of.ensures.exact c.in-Ok-new.ensures.exact,
+      c.in-Ok.ensures.exact (of_setting c.args.job.now c.in-Ok.fit _ _ _ c.job.ensures c.plain.ensures c.in_default.ensures.exact) c.in-Ok-face_of.ensures.exact c.in-Ok-new.ensures.exact,
   c.if-lines-ends.false,
 )
 
@@ -94,7 +94,7 @@ pub returns-clause-order : goal.returns-clause-order
 returns-clause-order c =
     opened_first (lines_wanted c.args.job.now c.args.font.now) c.in-Ok-face_of.face _ _ _
     (lines_opened c.args.job.now c.args.font.now c.in-Ok.fit c.in-Ok-face_of.face c.in-Ok.ensures.exact
-    c.in_default.ensures.exact c.in-Ok-face_of.ensures.exact)
+    (of_setting c.args.job.now c.in-Ok.fit _ _ _ c.job.ensures c.plain.ensures c.in_default.ensures.exact) c.in-Ok-face_of.ensures.exact)
     (λ few. absurd (omega (arith, few, c.if-lines-ends.false)))
 
 pub returns-clause-drawn : goal.returns-clause-drawn

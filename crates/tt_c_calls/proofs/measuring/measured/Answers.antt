@@ -11,9 +11,10 @@ use Rattle.tt_c_calls.specs.declared.asked.CJob.{CJob}
 use Rattle.tt_c_calls.specs.declared.fault.CallFault.{CallFault}
 use Rattle.tt_c_calls.specs.Asked.{IsAskedDefect, asked, grows}
 use Rattle.tt_c_calls.specs.Fonts.{face_wanted}
-use Rattle.tt_c_calls.specs.Measures.{IsMeasureOf, measure_by, measure_wanted}
-use Rattle.tt_c_calls.specs.Refusals.{as_call, call_refusal}
-use Rattle.tt_c_calls.proofs.Answered.{first_stops}
+use Rattle.tt_c_calls.specs.Measures.{IsMeasureOf, measure_wanted}
+use Rattle.tt_render.specs.Texts.{measure_by}
+use Rattle.tt_c_calls.specs.Refusals.{as_call, call_of_draw, call_refusal}
+use Rattle.tt_c_calls.proofs.Answered.{draw_refused, draw_tells, drawn_too, first_stops}
 use Rattle.tt_c_calls.proofs.AskedTables.{asked_defects, asked_tells, face_read, of_tables}
 use Rattle.tt_c_calls.proofs.measuring.measured.Goals as goal
 
@@ -52,11 +53,31 @@ returns-in_err-face-clause-exact c =
     let is = by_tables c.args.job.now c.args.text.now font (job_view c.in_ok-asked.asked) c.in_ok-asked.ensures c.in_ok-test_job.ensures.exact in
     rw (p.1, p.2, is) (first_stops (face_wanted font) _ fault c.in_err-face.ensures.exact)
 
+pub returns-in_err-measure-clause-exact : goal.returns-in_err-measure-clause-exact
+returns-in_err-measure-clause-exact c =
+    let p = err_from_is_err_and c.from_residual-in_err-measure.result c.from_residual-in_err-measure.ensures.1 in
+    let j = c.args.job.now in
+    let a = job_view c.in_ok-asked.asked in
+    let face = c.in_ok-face.face in
+    let is = by_face j c.args.text.now c.args.font.now a face c.in_ok-asked.ensures c.in_ok-test_job.ensures.exact
+    c.in_ok-face.ensures.exact in
+    rw (p.1, p.2, is) (draw_refused (measure_by (grows j) face a) c.in_err-measure.field-0.0
+    (rw (c.in_ok-strike.ensures.exact, c.grows.ensures) at c.in_err-measure.ensures.exact))
+
+pub returns-in_err-measure-clause-defects : goal.returns-in_err-measure-clause-defects
+returns-in_err-measure-clause-defects c =
+    let p = err_from_is_err_and c.from_residual-in_err-measure.result c.from_residual-in_err-measure.ensures.1 in
+    let d = c.in_err-measure.field-0.0 in
+    let tells = rw c.in_ok-strike.ensures.exact at c.in_err-measure.ensures.defects in
+    rw (p.1, p.2) (asked_defects {V = Measure} c.args.job.now c.args.text.now c.args.font.now
+    (job_view c.in_ok-asked.asked) c.in_ok-face.face (Err (call_of_draw d)) c.in_ok-asked.ensures
+    c.in_ok-face.ensures.exact c.in_ok-face.ensures.defects (draw_tells _ d tells))
+
 pub returns-clause-exact : goal.returns-clause-exact
 returns-clause-exact c =
     let is = by_face c.args.job.now c.args.text.now c.args.font.now (job_view c.in_ok-asked.asked) c.in_ok-face.face
     c.in_ok-asked.ensures c.in_ok-test_job.ensures.exact c.in_ok-face.ensures.exact in
-    rw is (rw (c.in_ok-strike.ensures.exact, c.grows.ensures) at c.measured_by.ensures.exact)
+    rw is (drawn_too _ _ (rw (c.in_ok-strike.ensures.exact, c.grows.ensures) at c.in_ok-measure.ensures.exact))
 
 pub returns-clause-measure : goal.returns-clause-measure
 returns-clause-measure c =
@@ -66,12 +87,12 @@ returns-clause-measure c =
     let a = job_view c.in_ok-asked.asked in
     let face = c.in_ok-face.face in
     let is = by_face job text font a face c.in_ok-asked.ensures c.in_ok-test_job.ensures.exact c.in_ok-face.ensures.exact in
-    is_measure job text font a face c.measured_by.result c.in_ok-asked.ensures c.in_ok-face.ensures.exact
-    (rw is (rw (c.in_ok-strike.ensures.exact, c.grows.ensures) at c.measured_by.ensures.exact))
-    (rw c.in_ok-strike.ensures.exact at c.measured_by.ensures.report)
+    is_measure job text font a face (Ok c.in_ok-measure.measure) c.in_ok-asked.ensures c.in_ok-face.ensures.exact
+    (rw is (drawn_too _ _ (rw (c.in_ok-strike.ensures.exact, c.grows.ensures) at c.in_ok-measure.ensures.exact)))
+    (rw c.in_ok-strike.ensures.exact at c.in_ok-measure.ensures.report)
 
 pub returns-clause-defects : goal.returns-clause-defects
 returns-clause-defects c =
-    asked_defects c.args.job.now c.args.text.now c.args.font.now (job_view c.in_ok-asked.asked) c.in_ok-face.face
-    c.measured_by.result c.in_ok-asked.ensures c.in_ok-face.ensures.exact c.in_ok-face.ensures.defects
-    (rw c.in_ok-strike.ensures.exact at c.measured_by.ensures.defects)
+    asked_defects {V = Measure} c.args.job.now c.args.text.now c.args.font.now (job_view c.in_ok-asked.asked)
+    c.in_ok-face.face (Ok c.in_ok-measure.measure) c.in_ok-asked.ensures c.in_ok-face.ensures.exact
+    c.in_ok-face.ensures.defects (rw c.in_ok-strike.ensures.exact at c.in_ok-measure.ensures.defects)

@@ -9,9 +9,10 @@ use Rattle.tt_c_calls.specs.declared.asked.CJob.{CJob}
 use Rattle.tt_c_calls.specs.declared.fault.CallFault.{CallFault}
 use Rattle.tt_c_calls.specs.Asked.{IsAskedDefect, asked, grows}
 use Rattle.tt_c_calls.specs.Fonts.{face_wanted}
-use Rattle.tt_c_calls.specs.Pictures.{IsMadeBy, IsPictureOf, picture_by, picture_wanted}
-use Rattle.tt_c_calls.specs.Refusals.{as_call, call_refusal}
-use Rattle.tt_c_calls.proofs.Answered.{first_stops}
+use Rattle.tt_c_calls.specs.Pictures.{IsPictureOf, picture_wanted}
+use Rattle.tt_render.specs.Texts.{IsMadeBy, picture_by}
+use Rattle.tt_c_calls.specs.Refusals.{as_call, call_of_draw, call_refusal}
+use Rattle.tt_c_calls.proofs.Answered.{draw_refused, draw_tells, drawn_too, first_stops}
 use Rattle.tt_c_calls.proofs.AskedTables.{asked_defects, asked_tells, face_read, of_tables}
 use Rattle.tt_c_calls.proofs.pictures.picture_of.Goals as goal
 
@@ -50,11 +51,31 @@ returns-in_err-face-clause-exact c =
     let is = by_tables c.args.job.now c.args.text.now font (job_view c.in_ok-asked.asked) c.in_ok-asked.ensures c.in_ok-test_job.ensures.exact in
     rw (p.1, p.2, is) (first_stops (face_wanted font) _ fault c.in_err-face.ensures.exact)
 
+pub returns-in_err-picture-clause-exact : goal.returns-in_err-picture-clause-exact
+returns-in_err-picture-clause-exact c =
+    let p = err_from_is_err_and c.from_residual-in_err-picture.result c.from_residual-in_err-picture.ensures.1 in
+    let j = c.args.job.now in
+    let a = job_view c.in_ok-asked.asked in
+    let face = c.in_ok-face.face in
+    let is = by_face j c.args.text.now c.args.font.now a face c.in_ok-asked.ensures c.in_ok-test_job.ensures.exact
+    c.in_ok-face.ensures.exact in
+    rw (p.1, p.2, is) (draw_refused (picture_by (grows j) face a) c.in_err-picture.field-0.0
+    (rw (c.in_ok-strike.ensures.exact, c.grows.ensures) at c.in_err-picture.ensures.exact))
+
+pub returns-in_err-picture-clause-defects : goal.returns-in_err-picture-clause-defects
+returns-in_err-picture-clause-defects c =
+    let p = err_from_is_err_and c.from_residual-in_err-picture.result c.from_residual-in_err-picture.ensures.1 in
+    let d = c.in_err-picture.field-0.0 in
+    let tells = rw c.in_ok-strike.ensures.exact at c.in_err-picture.ensures.defects in
+    rw (p.1, p.2) (asked_defects {V = Picture} c.args.job.now c.args.text.now c.args.font.now
+    (job_view c.in_ok-asked.asked) c.in_ok-face.face (Err (call_of_draw d)) c.in_ok-asked.ensures
+    c.in_ok-face.ensures.exact c.in_ok-face.ensures.defects (draw_tells _ d tells))
+
 pub returns-clause-exact : goal.returns-clause-exact
 returns-clause-exact c =
     let is = by_face c.args.job.now c.args.text.now c.args.font.now (job_view c.in_ok-asked.asked) c.in_ok-face.face
     c.in_ok-asked.ensures c.in_ok-test_job.ensures.exact c.in_ok-face.ensures.exact in
-    rw is (rw (c.in_ok-strike.ensures.exact, c.grows.ensures) at c.picture_by.ensures.exact)
+    rw is (drawn_too _ _ (rw (c.in_ok-strike.ensures.exact, c.grows.ensures) at c.in_ok-picture.ensures.exact))
 
 pub returns-clause-picture : goal.returns-clause-picture
 returns-clause-picture c =
@@ -64,12 +85,12 @@ returns-clause-picture c =
     let a = job_view c.in_ok-asked.asked in
     let face = c.in_ok-face.face in
     let is = by_face job text font a face c.in_ok-asked.ensures c.in_ok-test_job.ensures.exact c.in_ok-face.ensures.exact in
-    is_picture job text font a face c.picture_by.result c.in_ok-asked.ensures c.in_ok-face.ensures.exact
-    (rw is (rw (c.in_ok-strike.ensures.exact, c.grows.ensures) at c.picture_by.ensures.exact))
-    c.picture_by.ensures.ready (rw (c.in_ok-strike.ensures.exact, c.grows.ensures) at c.picture_by.ensures.made)
+    is_picture job text font a face (Ok c.in_ok-picture.picture) c.in_ok-asked.ensures c.in_ok-face.ensures.exact
+    (rw is (drawn_too _ _ (rw (c.in_ok-strike.ensures.exact, c.grows.ensures) at c.in_ok-picture.ensures.exact)))
+    c.in_ok-picture.ensures.ready (rw (c.in_ok-strike.ensures.exact, c.grows.ensures) at c.in_ok-picture.ensures.made)
 
 pub returns-clause-defects : goal.returns-clause-defects
 returns-clause-defects c =
-    asked_defects c.args.job.now c.args.text.now c.args.font.now (job_view c.in_ok-asked.asked) c.in_ok-face.face
-    c.picture_by.result c.in_ok-asked.ensures c.in_ok-face.ensures.exact c.in_ok-face.ensures.defects
-    (rw c.in_ok-strike.ensures.exact at c.picture_by.ensures.defects)
+    asked_defects {V = Picture} c.args.job.now c.args.text.now c.args.font.now (job_view c.in_ok-asked.asked)
+    c.in_ok-face.face (Ok c.in_ok-picture.picture) c.in_ok-asked.ensures c.in_ok-face.ensures.exact
+    c.in_ok-face.ensures.defects (rw c.in_ok-strike.ensures.exact at c.in_ok-picture.ensures.defects)

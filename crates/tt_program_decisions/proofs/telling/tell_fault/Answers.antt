@@ -1,5 +1,5 @@
 use Rattle.std.proofs.Common.{◌++◌, codes, string_bytes}
-use Rattle.tt_render.specs.Messages.{line_of, status_of}
+use Rattle.tt_render_run.specs.Messages.{line_of, status_of}
 use Rattle.tt_program_decisions.proofs.Reports.{text_told}
 use Rattle.tt_program_decisions.proofs.telling.tell_fault.Goals as goal
 

@@ -1,9 +1,9 @@
 use Rattle.std.proofs.Common.{ℕ, List, ap, inl, inr, subst}
 use Rattle.std.proofs.lemmas.Result.{err_from_is_err_and}
 use Rattle.tt_render.specs.LinesDefects.{LinesTellDefects}
-use Rattle.tt_render.specs.Reading.{FontIsRead, FontIsUnread, font_reader_of}
+use Rattle.tt_render_run.specs.Reading.{FontIsRead, FontIsUnread, font_reader_of}
 use Rattle.tt_render.specs.Settings.{strike_by, strike_of}
-use Rattle.tt_render.proofs.Calls.{known_of}
+use Rattle.tt_render_run.proofs.Calls.{known_of}
 use Rattle.tt_render.proofs.DrawnLines.{kept_within}
 use Rattle.tt_render.proofs.DefectLines.{lines_tell, reading_tells, setting_tells, strike_tells}
 use Rattle.tt_render.proofs.FontLines.{font_opened, font_refused, idle, reading_stops, strike_stops}

@@ -1,14 +1,13 @@
-use Rattle.std.proofs.Common.{◌≡◌, ◌∙◌, ℕ, ◌+◌, IfSome, Some, Ok, arith, ap, refl, subst}
+use Rattle.std.proofs.Common.{◌≡◌, ℕ, ◌+◌, IfSome, Some, Ok, arith, ap, refl, subst}
 use Rattle.std.proofs.lemmas.Result.{err_from_is_err_and}
 use Rattle.tt_strike.specs.Strikes.{Strike}
 use Rattle.tt_render.specs.LineReading.{held, line_at, text_left}
-use Rattle.tt_render.specs.Lines.{lines_limit}
+use Rattle.tt_render.specs.Lines.{line_drawn, lines_limit}
 use Rattle.tt_render.specs.LinesDefects.{IsDefectBy}
-use Rattle.tt_render.specs.LinesOutcome.{answer_view, draws_by}
-use Rattle.tt_render.specs.Outcome.{traffic_of}
+use Rattle.tt_render_run.specs.Outcome.{traffic_of}
 use Rattle.tt_render.specs.Printing.{PrintsBehind, errors_of}
 use Rattle.tt_render.specs.Reports.{told_of}
-use Rattle.tt_render.specs.TextOutcome.{stop_font_fault}
+use Rattle.tt_render.specs.TextsOutcome.{answer_view, refusal_font_fault}
 use Rattle.tt_render.proofs.DefectLines.{begun_tells, next_tells, stop_tells}
 use Rattle.tt_render.proofs.DrawnLines.{SoFar, all_drawn, cut_sent, drawn_alike, drawn_too, kept_alone, many_sent, none_so_far, one_more, reader_at_end, some_sent, stopped_before, stopped_in, whole_text}
 use Rattle.tt_render.proofs.Printed.{keeps_itself}
@@ -16,7 +15,7 @@ use Rattle.tt_render.proofs.line_drawing.draw_lines_by.Goals as goal
 
 pub returns-in_err-reader-clause-outcome : goal.returns-in_err-reader-clause-outcome
 returns-in_err-reader-clause-outcome g c =
-    let draw = draws_by c.args.setting.now c.args.strike.now in
+    let draw = line_drawn c.args.setting.now c.args.strike.now in
     let left = g.R.Source.left c.args.lines.now in
     let out = g.W.Sink.written c.args.out.now in
     let error = g.E.Sink.written c.args.error.now in
@@ -39,7 +38,7 @@ loop-before-init g c =
       reads = c.requires.lines;
       few = omega arith;
       writes = c.requires.out;
-      so_far = none_so_far (draws_by c.args.setting.now c.args.strike.now) left (text_left reader.reader left)
+      so_far = none_so_far (line_drawn c.args.setting.now c.args.strike.now) left (text_left reader.reader left)
           (g.W.Sink.written c.args.out.now) (g.E.Sink.written c.args.error.now)
           (g.E.Sink.has_failed c.args.error.now) (whole_text (held reader.reader) left reader.ensures.empty)
           c.requires.error;
@@ -48,7 +47,7 @@ loop-before-init g c =
 pub returns-in-Ok-None-clause-outcome : goal.returns-in-Ok-None-clause-outcome
 returns-in-Ok-None-clause-outcome g c =
     let so_far = c.loop-before.invariant in
-    let draw = draws_by c.args.setting.now c.args.strike.now in
+    let draw = line_drawn c.args.setting.now c.args.strike.now in
     let left = g.R.Source.left in
     let t = traffic_of left g.R.Source.has_failed g.W.Sink.written g.W.Sink.has_failed c.args.lines.now
     c.next_line.new.lines c.args.out.now c.loop-before.out in
@@ -84,7 +83,7 @@ returns-in-Err-draw_line-clause-outcome g c =
     let e = errors_of g.E.Sink.written g.E.Sink.has_failed c.args.error.now c.loop-before.error in
     let same = drawn_alike a c.args.strike.now c.loop-before.strike so_far.strike in
     let is = rw c.line-line.ensures at c.in-Err-draw_line.ensures.exact in
-    let fails = stopped_in (draws_by a c.args.strike.now) (draws_by a c.loop-before.strike) c.in-Err-draw_line.refusal
+    let fails = stopped_in (line_drawn a c.args.strike.now) (line_drawn a c.loop-before.strike) c.in-Err-draw_line.refusal
     (text_left c.loop-before.reader (left c.loop-before.lines))
     (text_left c.next_line.new.reader (left c.next_line.new.lines)) t e c.loop-before.before c.loop-before.used
     (line_at c.next_line.new.reader c.in-Ok-Some.place) same so_far.so_far found.1 found.3 is
@@ -95,13 +94,13 @@ pub returns-in-Err-write_output-clause-outcome : goal.returns-in-Err-write_outpu
 returns-in-Err-write_output-clause-outcome g c =
     let so_far = c.loop-before.invariant in
     let a = c.args.setting.now in
-    let draw = draws_by a c.args.strike.now in
+    let draw = line_drawn a c.args.strike.now in
     let left = g.R.Source.left in
     let written = g.W.Sink.written in
     let found = rw c.in-Ok-Some.field-0-is at c.in-Ok-Some.ensures.outcome in
     let line = line_at c.next_line.new.reader c.in-Ok-Some.place in
     let is : draw line ≡ Ok (answer_view c.in-Ok.ready) =
-    drawn_too draw (draws_by a c.loop-before.strike) line (Ok (answer_view c.in-Ok.ready))
+    drawn_too draw (line_drawn a c.loop-before.strike) line (Ok (answer_view c.in-Ok.ready))
     (drawn_alike a c.args.strike.now c.loop-before.strike so_far.strike)
     (rw c.line-line.ensures at c.in-Ok.ensures.exact) in
     let cut = c.in-Err-write_output in
@@ -118,7 +117,7 @@ pub loop-before-preserved : goal.loop-before-preserved
 loop-before-preserved g c =
     let so_far = c.loop-before.invariant in
     let a = c.args.setting.now in
-    let draw = draws_by a c.args.strike.now in
+    let draw = line_drawn a c.args.strike.now in
     let left = g.R.Source.left in
     let written = g.W.Sink.written in
     let told = g.E.Sink.written in
@@ -127,7 +126,7 @@ loop-before-preserved g c =
     let line = line_at c.next_line.new.reader c.in-Ok-Some.place in
     let answer = answer_view c.in-Ok.ready in
     let is : draw line ≡ Ok answer =
-    drawn_too draw (draws_by a c.loop-before.strike) line (Ok answer)
+    drawn_too draw (line_drawn a c.loop-before.strike) line (Ok answer)
     (drawn_alike a c.args.strike.now c.loop-before.strike so_far.strike)
     (rw c.line-line.ensures at c.in-Ok.ensures.exact) in
     let printed : PrintsBehind (failed c.loop-before.error)
@@ -159,7 +158,7 @@ loop-before-preserved g c =
 pub returns-clause-outcome : goal.returns-clause-outcome
 returns-clause-outcome g c =
     let so_far = c.loop-before.invariant in
-    let draw = draws_by c.args.setting.now c.args.strike.now in
+    let draw = line_drawn c.args.setting.now c.args.strike.now in
     let left = g.R.Source.left in
     let all : c.loop-before.before ≡ lines_limit =
     omega (arith, c.loop-before.auto.before-end, c.loop-before-test.false) in
@@ -177,7 +176,7 @@ returns-in_err-reader-clause-defects g c =
 pub returns-in-Err-clause-defects : goal.returns-in-Err-clause-defects
 returns-in-Err-clause-defects g c =
     let left = g.R.Source.left in
-    rw c.texts_fault.ensures (begun_tells ℕ (IsDefectBy c.args.setting.now c.args.strike.now) (left c.args.lines.now)
+    rw c.texts_fault.ensures (begun_tells (IsDefectBy c.args.setting.now c.args.strike.now) (left c.args.lines.now)
     (text_left c.loop-before.reader (left c.loop-before.lines))
     (text_left c.next_line.new.reader (left c.next_line.new.lines)) c.next_line.new.reader c.loop-before.before
     c.loop-before.used c.in-Err.stop c.in-Err.ensures.outcome)
@@ -192,16 +191,13 @@ returns-in-Err-draw_line-clause-defects g c =
     let found = rw c.in-Ok-Some.field-0-is at c.in-Ok-Some.ensures.outcome in
     let line = line_at c.next_line.new.reader c.in-Ok-Some.place in
     let why = c.in-Err-draw_line.refusal in
-    let Tells : Strike → Type 0 = λ s. IfSome (stop_font_fault why) (IsDefectBy a s line) in
+    let Tells : Strike → Type 0 = λ s. IfSome (refusal_font_fault why) (IsDefectBy a s line) in
     let is = subst Tells so_far.strike (rw c.line-line.ensures at c.in-Err-draw_line.ensures.defects) in
     let IsOne = IsDefectBy a c.args.strike.now in
-    rw c.texts_fault-in-Err-draw_line.ensures (stop_tells ℕ IsOne (draws_by a c.args.strike.now)
+    rw c.texts_fault-in-Err-draw_line.ensures (stop_tells IsOne (line_drawn a c.args.strike.now)
     (left c.args.lines.now) rest (g.W.Sink.written c.args.out.now) (g.W.Sink.written c.loop-before.out)
     (errors_of g.E.Sink.written g.E.Sink.has_failed c.args.error.now c.loop-before.error) c.loop-before.before
     c.loop-before.used why so_far.so_far (next_tells IsOne rest after line why found.1 is))
-
-pub draw_line-requires-clause-face : goal.draw_line-requires-clause-face
-draw_line-requires-clause-face g c = ap (λ (s : Strike). s.face) c.loop-before.invariant.strike ∙ c.requires.face
 
 pub returns-in-Ok-None-clause-kept : goal.returns-in-Ok-None-clause-kept
 returns-in-Ok-None-clause-kept g c =

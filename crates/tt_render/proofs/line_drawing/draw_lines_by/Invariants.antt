@@ -1,6 +1,6 @@
 use Rattle.std.proofs.Common.{◌≡◌, ◌*◌, ◌≤◌, false}
 use Rattle.tt_render.specs.LineReading.{IsReader, text_left}
-use Rattle.tt_render.specs.LinesOutcome.{draws_by}
+use Rattle.tt_render.specs.Lines.{line_drawn}
 use Rattle.tt_render.specs.Printing.{errors_of}
 use Rattle.tt_render.proofs.DrawnLines.{SoFar}
 use Rattle.tt_render.proofs.line_drawing.draw_lines_by.Given as goal
@@ -13,7 +13,7 @@ invariant-loop-before g l = record {
   reads : g.R.Source.has_failed l.lines ≡ false;
   few : l.used ≤ 18446744073709551615 * l.before;
   writes : g.W.Sink.has_failed l.out ≡ false;
-  so_far : SoFar (draws_by l.setting l.fn.strike) (g.R.Source.left l.fn.lines)
+  so_far : SoFar (line_drawn l.setting l.fn.strike) (g.R.Source.left l.fn.lines)
       (text_left l.reader (g.R.Source.left l.lines)) (g.W.Sink.written l.fn.out) (g.W.Sink.written l.out)
       (errors_of g.E.Sink.written g.E.Sink.has_failed l.fn.error l.error) l.before l.used;
 }

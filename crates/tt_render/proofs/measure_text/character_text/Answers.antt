@@ -1,7 +1,7 @@
 use Rattle.std.proofs.Common.{rules, true, SFits, w64}
 use Rattle.std.proofs.lemmas.Int.{to_z-of_z}
 use Rattle.std.specs.Fmt.{digits}
-use Rattle.tt_render.proofs.Text.{padded_to_four}
+use Rattle.tt_render_run.proofs.Text.{padded_to_four}
 use Rattle.tt_render.proofs.measure_text.character_text.Goals as goal
 
 pub returns : goal.returns

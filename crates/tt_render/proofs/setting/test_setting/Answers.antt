@@ -1,9 +1,9 @@
-use Rattle.std.proofs.Common.{◌≡◌, refl, Result, Ok, Err, []}
+use Rattle.std.proofs.Common.{◌≡◌, refl, Result, Ok, Err, [], subst}
 use Rattle.std.proofs.lemmas.Str.{chars-nil}
 use Rattle.tt_core.specs.declared.fault.JobFault.{JobFault}
-use Rattle.tt_core.specs.Outcomes.{◌>>=◌}
+use Rattle.tt_core.specs.Outcomes.{◌>>=◌, Gives}
 use Rattle.tt_strike.specs.Job.{Job, margin_tested, size_tested, tested, text_tested}
-use Rattle.tt_render.specs.Settings.{setting_tested}
+use Rattle.tt_render.specs.Settings.{job_by, setting_tested}
 use Rattle.tt_render.proofs.setting.test_setting.Goals as goal
 
 -- a passing test adds nothing behind others
@@ -20,5 +20,5 @@ same_tests a none = rw (none, chars-nil, passes_behind (margin_tested a.margin))
 pub returns : goal.returns
 unfolding setting_tested
 returns c =
-    let a = c.args.setting.now in
-    rw (← same_tests (record { text = []; ppem = a.ppem; margin = a.margin; fit = a.fit }) refl) c.test_job.ensures.exact
+    rw (← same_tests (job_by c.args.setting.now []) refl)
+    (subst (λ (j : Job). Gives (λ u. u) c.test_job.result (tested j)) c.job.ensures c.test_job.ensures.exact)

@@ -1,15 +1,16 @@
-use Rattle.std.proofs.Common.{ℕ, List, Err, inl, subst}
+use Rattle.std.proofs.Common.{◌≡◌, ℕ, List, Ok, Err, inl, subst}
 use Rattle.std.proofs.lemmas.Result.{err_from_is_err_and}
-use Rattle.tt_render.specs.declared.texts_fault.TextsFault.TheVariants as texts
-use Rattle.tt_render.specs.LinesOutcome.{StopsAtFont, answer_view}
-use Rattle.tt_render.specs.Outcome.{traffic_of}
+use Rattle.tt_render.specs.declared.refusal.Refusal.TheVariants as reason
+use Rattle.tt_render_run.specs.Outcome.{traffic_of}
 use Rattle.tt_render.specs.Printing.{errors_of}
-use Rattle.tt_render.specs.Reading.{font_reader_of}
-use Rattle.tt_render.specs.Settings.{strike_of}
-use Rattle.tt_render.specs.TextOutcome.{ReadiesText, TextTellsDefects, job_by, text_by}
+use Rattle.tt_render_run.specs.Reading.{font_reader_of}
+use Rattle.tt_render.specs.Settings.{job_by, strike_of}
+use Rattle.tt_render.specs.Texts.{text_answer}
+use Rattle.tt_render.specs.TextsOutcome.{ReadiesText, StopsAtFont, TextTellsDefects, answer_view}
+use Rattle.tt_render.specs.Views.{before_lines}
 use Rattle.tt_strike.specs.Defects.{IsRunDefect}
-use Rattle.tt_strike.specs.Job.{tested}
-use Rattle.tt_render.proofs.Calls.{known_of}
+use Rattle.tt_strike.specs.Job.{Job, tested}
+use Rattle.tt_render_run.proofs.Calls.{known_of}
 use Rattle.tt_render.proofs.FontLines.{reading_stops}
 use Rattle.tt_render.proofs.OneText.{job_tells, reading_tells, silent, text_cut, text_fails, text_written}
 use Rattle.tt_render.proofs.Printed.{keeps_itself}
@@ -20,9 +21,9 @@ returns-in_err-test_job-clause-outcome g c =
     let p = err_from_is_err_and c.from_residual.result c.from_residual.ensures.1 in
     let left = g.R.Source.left c.args.font.now in
     let stops : StopsAtFont {V = Unit {0}} (tested (job_by c.args.setting.now c.args.text.now))
-    (strike_of c.args.setting.now) (Err (texts.Job c.in_err-test_job.field-0.0))
+    (strike_of c.args.setting.now) (Err (before_lines (reason.Job c.in_err-test_job.field-0.0)))
     (font_reader_of g.R.Source.left g.R.Source.has_failed c.args.font.now c.args.font.now)
-    = (c.in_err-test_job.ensures.exact, (keeps_itself left, c.requires.font)) in
+    = (subst (λ (j : Job). tested j ≡ Err c.in_err-test_job.field-0.0) c.job.ensures c.in_err-test_job.ensures.exact, (keeps_itself left, c.requires.font)) in
     rw (p.1, p.2)
     (inl (
       stops,
@@ -38,7 +39,7 @@ returns-in_err-file-clause-outcome g c =
     let failed = g.R.Source.has_failed font in
     let p = err_from_is_err_and c.from_residual-in_err-file.result c.from_residual-in_err-file.ensures.1 in
     let stops = reading_stops (Unit {0}) (tested (job_by a c.args.text.now)) (strike_of a) c.in_err-file.field-0.0
-    (left c.args.font.now) (left font) failed c.in_ok-test_job.ensures.exact c.in_err-file.ensures in
+    (left c.args.font.now) (left font) failed (subst (λ (j : Job). tested j ≡ Ok tt) c.job.ensures c.in_ok-test_job.ensures.exact) c.in_err-file.ensures in
     rw (p.1, p.2)
     (inl (
       stops,
@@ -56,13 +57,13 @@ returns-in_err-ready-clause-outcome g c =
     let a = c.args.setting.now in
     let text = c.args.text.now in
     let fault = c.in_err-ready.field-0.0 in
-    let P : List ℕ → Type 0 = λ bytes. ReadiesText (text_by a text) (strike_of a bytes) (Err fault) in
+    let P : List ℕ → Type 0 = λ bytes. ReadiesText (λ t. text_answer a t text) (strike_of a bytes) (Err fault) in
     let why = subst P c.deref.ensures.value c.in_err-ready.ensures.outcome in
     rw (p.1, p.2)
     (text_fails a text file.file.items fault
     (traffic_of left g.R.Source.has_failed g.W.Sink.written g.W.Sink.has_failed c.args.font.now font c.args.out.now
     c.args.out.now) (errors_of g.E.Sink.written g.E.Sink.has_failed c.args.error.now c.args.error.now)
-    c.in_ok-test_job.ensures.exact (file.ensures.0, file.ensures.1, file.ensures.3) why
+    (subst (λ (j : Job). tested j ≡ Ok tt) c.job.ensures c.in_ok-test_job.ensures.exact) (file.ensures.0, file.ensures.1, file.ensures.3) why
     (silent (left c.args.font.now) (left font) (g.W.Sink.written c.args.out.now) (g.E.Sink.written c.args.error.now)
     failed _ _ c.requires.out c.requires.error))
 
@@ -76,7 +77,7 @@ returns-in-Ok-clause-outcome g c =
     (traffic_of g.R.Source.left g.R.Source.has_failed g.W.Sink.written g.W.Sink.has_failed c.args.font.now
     c.read_font.new.font c.args.out.now c.write_output.new.out)
     (errors_of g.E.Sink.written g.E.Sink.has_failed c.args.error.now c.print_text.new.error)
-    c.in_ok-test_job.ensures.exact (file.ensures.0, file.ensures.1, file.ensures.3) made.1 made.2 c.in-Ok.ensures.all
+    (subst (λ (j : Job). tested j ≡ Ok tt) c.job.ensures c.in_ok-test_job.ensures.exact) (file.ensures.0, file.ensures.1, file.ensures.3) made.1 made.2 c.in-Ok.ensures.all
     c.in-Ok.ensures.failure printed
 
 pub returns-clause-outcome : goal.returns-clause-outcome
@@ -90,7 +91,7 @@ returns-clause-outcome g c =
     (traffic_of g.R.Source.left g.R.Source.has_failed g.W.Sink.written g.W.Sink.has_failed c.args.font.now
     c.read_font.new.font c.args.out.now c.write_output.new.out)
     (errors_of g.E.Sink.written g.E.Sink.has_failed c.args.error.now c.args.error.now)
-    c.in_ok-test_job.ensures.exact (file.ensures.0, file.ensures.1, file.ensures.3) made.1 made.2
+    (subst (λ (j : Job). tested j ≡ Ok tt) c.job.ensures c.in_ok-test_job.ensures.exact) (file.ensures.0, file.ensures.1, file.ensures.3) made.1 made.2
     (cut.within, cut.part) cut.failure (keeps_itself (g.E.Sink.written c.args.error.now), c.requires.error)
 
 pub returns-in_err-test_job-clause-defects : goal.returns-in_err-test_job-clause-defects

@@ -1,8 +1,8 @@
-use Rattle.std.proofs.Common.{◌∙◌, inl}
+use Rattle.std.proofs.Common.{◌∙◌, inl, refl}
 use Rattle.std.proofs.lemmas.Result.{err_from_is_err_and}
-use Rattle.tt_render.specs.Settings.{strike_by, strike_of}
-use Rattle.tt_render.specs.TextOutcome.{job_by, text_by}
-use Rattle.tt_render.proofs.Faces.{no_defect}
+use Rattle.tt_render.specs.Settings.{job_by, strike_by, strike_of}
+use Rattle.tt_render.specs.Texts.{text_answer}
+use Rattle.tt_render_run.proofs.Faces.{no_defect}
 use Rattle.tt_render.proofs.FontLines.{font_opened, font_refused}
 use Rattle.tt_render.proofs.OneText.{most_aside, strike_stops, strike_tells, text_stops, text_tells}
 use Rattle.tt_render.proofs.text_drawing.ready_text.Goals as goal
@@ -11,15 +11,16 @@ use Rattle.tt_strike.specs.Defects.{IsRunDefect}
 pub returns-in_err-face-clause-outcome : goal.returns-in_err-face-clause-outcome
 returns-in_err-face-clause-outcome c =
     let p = err_from_is_err_and c.from_residual.result c.from_residual.ensures.1 in
-    rw (p.1, p.2) (font_refused c.args.setting.now c.args.file.now c.in_err-face.field-0.0 c.requires.size
-    c.in_err-face.ensures.exact)
+    let refused = font_refused c.args.setting.now c.args.file.now c.in_err-face.field-0.0 c.requires.size
+    c.in_err-face.ensures.exact in
+    rw (p.1, p.2) (inl (c.in_err-face.field-0.0, refl, refused))
 
 pub returns-in_err-strike-clause-outcome : goal.returns-in_err-strike-clause-outcome
 returns-in_err-strike-clause-outcome c =
     let a = c.args.setting.now in
     let text = c.args.text.now in
     let p = err_from_is_err_and c.from_residual-in_err-strike.result c.from_residual-in_err-strike.ensures.1 in
-    rw (p.1, p.2) (strike_stops (text_by a text) (strike_of a c.args.file.now) (job_by a text)
+    rw (p.1, p.2) (strike_stops (λ t. text_answer a t text) (strike_of a c.args.file.now) (job_by a text)
     c.in_err-strike.field-0.0 c.requires.tested c.in_err-strike.ensures.tested)
 
 pub returns-in-Ok-clause-outcome : goal.returns-in-Ok-clause-outcome
@@ -29,16 +30,16 @@ returns-in-Ok-clause-outcome c =
     let s = strike_by a face in
     let opened = font_opened a c.args.file.now face c.requires.size c.in_ok-face.ensures.exact in
     let answers = rw c.in_ok-strike.ensures.exact at c.in-Ok.ensures.exact in
-    (s, opened, most_aside s 0 a.product a.missing a.margin c.args.text.now ∙ answers)
+    (s, opened, most_aside a s 0 c.args.text.now ∙ answers)
 
 pub returns-clause-outcome : goal.returns-clause-outcome
 returns-clause-outcome c =
     let a = c.args.setting.now in
     let text = c.args.text.now in
     let s = strike_by a c.in_ok-face.face in
-    let refused = rw (c.in_ok-strike.ensures.exact, ← most_aside s 0 a.product a.missing a.margin text) at c.in-Err.ensures.exact
+    let refused = rw (c.in_ok-strike.ensures.exact, ← most_aside a s 0 text) at c.in-Err.ensures.exact
     in
-    rw c.texts_fault.ensures (text_stops (text_by a text) (strike_of a c.args.file.now) s c.in-Err.stop
+    rw c.texts_fault.ensures (text_stops (λ t. text_answer a t text) (strike_of a c.args.file.now) s c.in-Err.refusal
     (font_opened a c.args.file.now c.in_ok-face.face c.requires.size c.in_ok-face.ensures.exact) refused
     c.in-Err.ensures.serves)
 
@@ -63,4 +64,4 @@ pub returns-clause-defects : goal.returns-clause-defects
 returns-clause-defects c =
     let stands = rw c.in_ok-strike.ensures.exact at c.in-Err.ensures.defects in
     rw c.texts_fault.ensures (text_tells (job_by c.args.setting.now c.args.text.now) c.args.file.now
-    c.in_ok-face.face c.in-Err.stop c.in_ok-face.ensures.exact stands)
+    c.in_ok-face.face c.in-Err.refusal c.in_ok-face.ensures.exact stands c.in-Err.ensures.serves)

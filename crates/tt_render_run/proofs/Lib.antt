@@ -1,0 +1,7 @@
+pub mod Known
+pub mod Calls
+pub mod Sent
+pub mod Text
+mod Answered
+mod Made
+pub mod Faces

@@ -1,0 +1,40 @@
+use Rattle.std.proofs.lemmas.Result.{err_from_is_err_and}
+use Rattle.tt_strike.specs.Job.{job_view}
+use Rattle.tt_strike.specs.Picture.{pictured}
+use Rattle.tt_strike.specs.Report.{report_of}
+use Rattle.tt_render_run.proofs.Faces.{defect_tells, no_defect, refusal_tells, within}
+use Rattle.tt_render_run.proofs.drawing.draw.Goals as goal
+
+pub returns-clause-exact : goal.returns-clause-exact
+unfolding pictured
+returns-clause-exact c =
+    let by = within (job_view c.args.job.now) c.in_ok-face.face c.requires.tested in
+    rw (c.in_ok-face.ensures.exact, ← by) c.in_ok-picture.ensures.exact
+
+pub returns-clause-report : goal.returns-clause-report
+unfolding report_of
+returns-clause-report c = rw c.in_ok-face.ensures.exact c.in_ok-picture.ensures.report
+
+pub returns-clause-defects : goal.returns-clause-defects
+returns-clause-defects c =
+    no_defect (job_view c.args.job.now) c.args.file.now c.in_ok-face.face c.in_ok-face.ensures.exact
+    c.in_ok-face.ensures.sound c.in_ok-picture.ensures.defects
+
+pub returns-in_err-picture-clause-exact : goal.returns-in_err-picture-clause-exact
+unfolding pictured
+returns-in_err-picture-clause-exact c =
+    let p = err_from_is_err_and c.from_residual-in_err-picture.result c.from_residual-in_err-picture.ensures.1 in
+    let by = within (job_view c.args.job.now) c.in_ok-face.face c.requires.tested in
+    rw (p.1, p.2, c.in_ok-face.ensures.exact, ← by) c.in_err-picture.ensures.exact
+
+pub returns-in_err-picture-clause-defects : goal.returns-in_err-picture-clause-defects
+returns-in_err-picture-clause-defects c =
+    let p = err_from_is_err_and c.from_residual-in_err-picture.result c.from_residual-in_err-picture.ensures.1 in
+    rw (p.1, p.2) (defect_tells (job_view c.args.job.now) c.args.file.now c.in_ok-face.face c.in_err-picture.field-0.0
+    c.in_ok-face.ensures.exact c.in_err-picture.ensures.defects)
+
+pub returns-in_err-picture-clause-job : goal.returns-in_err-picture-clause-job
+returns-in_err-picture-clause-job c =
+    let p = err_from_is_err_and c.from_residual-in_err-picture.result c.from_residual-in_err-picture.ensures.1 in
+    rw (p.1, p.2) (refusal_tells (job_view c.args.job.now) c.args.file.now c.in_ok-face.face c.in_err-picture.field-0.0
+    c.requires.asked c.in_ok-face.ensures.exact c.in_err-picture.ensures.job)

@@ -1,0 +1,31 @@
+-- What a call claims about the defects of a font, and why it refuses a job.
+use Rattle.std.specs.Prelude.{List, ℕ, Option, Some, None, Result, Ok, Err, IsOkAnd, IfSome, Bool, true, false, ⊤}
+use Rattle.tt_core.specs.Directory.{HasNo}
+use Rattle.tt_core.specs.Faults.{Fault}
+use Rattle.tt_core.specs.declared.fault.JobFault.{JobFault}
+use Rattle.tt_strike.specs.Defects.{IsFontRefusal}
+use Rattle.tt_strike.specs.Job.{Job, IsTestRefusal}
+use Rattle.tt_strike.specs.Refusals.{needs_font}
+use Rattle.tt_strike.specs.Tables.{face_of}
+use Rattle.tt_render_run.specs.declared.fault.RunFault.{RunFault}
+use Rattle.tt_render_run.specs.declared.fault.RunFault.TheVariants as run
+
+-- a call that ends with Ok or Write found no defect, and a font fault in its error is one
+abbrev pub CallTellsDefects : {V : Type 0} → (Fault → Type 0) → Result V RunFault → Type 0
+CallTellsDefects IsOne (Ok v) = HasNo IsOne
+CallTellsDefects IsOne (Err (run.Font f)) = IsOne f
+CallTellsDefects IsOne (Err (run.Write sent)) = HasNo IsOne
+CallTellsDefects IsOne (Err e) = ⊤
+
+-- these claims for the bytes of a reader, where they are known
+abbrev pub TellsDefectsOf : {V : Type 0} → Option (List ℕ) → (List ℕ → Fault → Type 0) → Result V RunFault → Type 0
+TellsDefectsOf None IsOne result = ⊤
+TellsDefectsOf (Some file) IsOne result = CallTellsDefects (IsOne file) result
+
+-- the fact that refuses a job, alone or by a font file: the font comes second
+abbrev pub IsRefusedBy : Bool → Job → Option (List ℕ) → JobFault → Type 0
+IsRefusedBy true a left j = IfSome left (λ file. IsOkAnd (face_of file) (λ face. IsFontRefusal face a j))
+IsRefusedBy false a left j = IsTestRefusal a j
+
+abbrev pub IsJobRefusal : Job → Option (List ℕ) → JobFault → Type 0
+IsJobRefusal a left j = IsRefusedBy (needs_font j) a left j

@@ -1,0 +1,60 @@
+//! The picture of a job by a font file.
+
+ghost use Rattle.std.specs.Prelude.{◌≡◌, ◌≤◌, length, Ok, IfOk, IsOkAnd};
+ghost use Rattle.tt_core.specs.Bits.{stride};
+ghost use Rattle.tt_core.specs.Limits.{font_limit};
+ghost use Rattle.tt_core.specs.Outcomes.{GivesUnless, IfTold};
+ghost use Rattle.tt_line.specs.Layout.{text_glyphs};
+ghost use Rattle.tt_strike.specs.Defects.{IsLineDefect, IsRunDefect, IsFontRefusal, IsLineRefusal, TellsDefects, draw_font_fault, draw_job_fault};
+ghost use Rattle.tt_strike.specs.Job.{job_view, tested, IsJob};
+ghost use Rattle.tt_strike.specs.Picture.{line_outcome, pictured};
+ghost use Rattle.tt_picture.specs.Pictures.{IsReady, picture_bytes};
+ghost use Rattle.tt_strike.specs.Refusals.{refusal};
+ghost use Rattle.tt_picture.specs.Unfitted.{ListsOnce};
+ghost use Rattle.tt_strike.specs.Report.{report_of, report_by};
+ghost use Rattle.tt_strike.specs.Tables.{face_of};
+
+use std::alloc::Global;
+use tt_strike::{DrawFault, Face, Job, Picture, Strike};
+
+/// A picture, and memory for one of its rows.
+#[derive(Drop)]
+pub struct Drawn {
+    pub picture: Picture,
+    pub row: Vec<u8>,
+}
+
+/// The picture of a job by the tables of a font. Errors: as `Strike::new` and `Strike::line`.
+fn draw_by(alloc: Global, face: &Face, job: &Job) -> Result<Picture, DrawFault>
+    ensures exact { GivesUnless refusal picture_bytes result (line_outcome face.now (job_view job.now)) }
+    ensures valid { IfOk result IsReady }
+    ensures report { IfOk result (λ p. report_by face.now (job_view job.now) ≡ Ok p.unfitted) }
+    ensures once { IfOk result (λ p. ListsOnce p.unfitted) }
+    ensures defects { TellsDefects draw_font_fault (IsLineDefect face.now (job_view job.now) (text_glyphs face.now.cmap job.now.text.now)) result }
+    ensures job { IfTold draw_job_fault result (IsLineRefusal face.now (job_view job.now)) }
+{
+    let mut strike = Strike::new(alloc, face, job.ppem, job.fit, 0)?;
+    strike.line(job.text, job.margin)
+}
+
+/// The picture of a job by a font file, and memory for one of its rows. Errors, the first of: those of the tables
+/// needed for every text; EmptyPicture, PictureLarge; those of loca and glyf; those of the programs; WorkLarge of its
+/// points; those of the glyphs in the order of the text; WorkLarge of its crossings. Memory may come at any allocation.
+#[tactic(auto, unfolding(tt_strike::specs::Picture::pictured, tt_strike::specs::Report::report_of))]
+pub(crate) fn draw(alloc: Global, file: &[u8], job: &Job) -> Result<Drawn, DrawFault>
+    requires size { length file.now ≤ font_limit }
+    requires asked { IsJob (job_view job.now) }
+    requires tested { tested (job_view job.now) ≡ Ok tt }
+    ensures exact { GivesUnless refusal (λ d. picture_bytes d.picture) result (pictured (job_view job.now) file.now) }
+    ensures valid { IfOk result (λ d. IsReady d.picture) }
+    ensures row { IfOk result (λ d. length d.row.items ≡ stride d.picture.frame.width) }
+    ensures report { IfOk result (λ d. report_of (job_view job.now) file.now ≡ Ok d.picture.unfitted) }
+    ensures once { IfOk result (λ d. ListsOnce d.picture.unfitted) }
+    ensures defects { TellsDefects draw_font_fault (IsRunDefect (job_view job.now) file.now) result }
+    ensures job { IfTold draw_job_fault result (λ j. IsOkAnd (face_of file.now) (λ face. IsFontRefusal face (job_view job.now) j)) }
+{
+    let face = Face::open(file)?;
+    let picture = draw_by(alloc, &face, job)?;
+    let row = vec![in alloc; 0u8; picture.row_bytes()]?;
+    Ok(Drawn { picture, row })
+}

@@ -1,0 +1,19 @@
+//! Draws a line of text, and maps characters to glyphs, by a font, from a reader to a writer.
+#![tactic(auto)]
+
+mod drawing;
+mod fault;
+pub mod laws;
+mod mapping;
+mod messages;
+mod reading;
+mod running;
+mod writing;
+
+pub use drawing::Drawn;
+pub use fault::RunFault;
+pub use mapping::map;
+pub use messages::{font_line, job_line, line, missing_line, status, unfitted_line};
+pub use reading::{read_behind, read_font};
+pub use running::run;
+pub use writing::write_picture;

@@ -1,0 +1,116 @@
+//! Writes each character's glyph and advance as lines, by a font from a reader.
+
+ghost use Rattle.std.specs.Fmt.{digit_glyph};
+ghost use Rattle.std.specs.Prelude.{◌≡◌, ◌+◌, ◌^◌, ◌<◌, ◌≤◌, ◌∷◌, ◌++◌, true, false, length, chars, IfOk, IfSome};
+ghost use Rattle.tt_core.specs.declared.fault.JobFault.TheVariants.{TextLong};
+ghost use Rattle.tt_core.specs.Limits.{font_limit, text_limit};
+ghost use Rattle.tt_core.specs.Outcomes.{FontGives, font_fault};
+ghost use Rattle.tt_metrics.specs.Metrics.{glyphs_of};
+ghost use Rattle.tt_strike.specs.Defects.{IsFaceDefect, TellsDefects};
+ghost use Rattle.tt_render_run.specs.Defects.{TellsDefectsOf};
+ghost use Rattle.tt_render_run.specs.MapLines.{code_point, line_text, lines_of, map_lines, map_wanted};
+ghost use Rattle.tt_render_run.specs.Outcome.{CallGives, IfJob, IfLarge, traffic_of};
+
+use crate::fault::RunFault;
+use crate::reading::read_font;
+use std::alloc::{AllocError, Global};
+use tt_cmap::{Cmap, KnownGlyphs};
+use tt_core::{FontFault, Sink, Source};
+use tt_metrics::Metrics;
+use tt_pbm::{Ascii, write_all_of};
+use tt_strike::{Face, test_text};
+
+/// Writes a line `U+NNNN glyph advance` for each character of the text: the code point in capital hexadecimal, the
+/// glyph's number and its advance in font units. Nothing is written before all lines are made.
+///
+/// Errors, the first of: Job (TextLong), before the font is read; Read, FontLarge; Font, in the order in which the
+/// bytes are read; Write. Memory may come at any allocation.
+pub fn map<R: Source, W: Sink>(
+    alloc: Global,
+    font: &mut R,
+    text: &str,
+    out: &mut W,
+) -> Result<(), RunFault>
+    requires font { R.has_failed font.old ≡ false }
+    requires out { W.has_failed out.old ≡ false }
+    ensures outcome { CallGives result (traffic_of R.left R.has_failed W.written W.has_failed font.old font.new out.old out.new) (map_wanted text.now) }
+    ensures defects { TellsDefectsOf (R.left font.old) IsFaceDefect result }
+    ensures text { IfJob result (λ j. (j ≡ TextLong) × (text_limit < length (chars text.now))) }
+    ensures large { IfLarge result (IfSome (R.left font.old) (λ file. font_limit < length file)) }
+{
+    test_text(text)?;
+    let file = read_font(alloc, font)?;
+    let lines = lines_by(alloc, &file, text)?;
+    write_all_of(out, &lines)?;
+    Ok(())
+}
+
+/// The lines by the tables of a font file.
+#[tactic(auto, unfolding(crate::specs::MapLines::lines_of))]
+fn lines_by(alloc: Global, file: &[u8], text: &str) -> Result<Vec<u8>, FontFault>
+    requires { length file.now ≤ font_limit }
+    ensures exact { FontGives (λ lines. lines.items) result (lines_of file.now text.now) }
+    ensures defects { TellsDefects font_fault (IsFaceDefect file.now) result }
+{
+    let face = Face::open(file)?;
+    Ok(lines(alloc, face.metrics(), face.cmap(), text)?)
+}
+
+fn lines(alloc: Global, metrics: &Metrics, cmap: &Cmap, text: &str) -> Result<Vec<u8>, AllocError>
+    requires { cmap.now.glyphs ≡ glyphs_of metrics.now }
+    ensures { IfOk result (λ lines. lines.items ≡ map_lines metrics.now cmap.now text.now) }
+{
+    let mut lines = Vec::new(alloc);
+    let mut cmap = KnownGlyphs::new(cmap);
+    for c in text.chars() {
+        let glyph = cmap.glyph(c);
+        let line = line(c, glyph, metrics.advance(glyph));
+        lines.extend_from_slice(line.as_bytes())?;
+    }
+    Ok(lines)
+}
+
+/// The line of a character, made from its end.
+fn line(c: char, glyph: u16, advance: u16) -> Ascii
+    ensures { result ≡ line_text c glyph advance }
+{
+    let mut line = Ascii::new();
+    line.push(b'\n');
+    line.push_decimal(advance);
+    line.push(b' ');
+    line.push_decimal(glyph);
+    line.push(b' ');
+    push_code_point(&mut line, c as u32);
+    line.push(b'+');
+    line.push(b'U');
+    line
+}
+
+/// Puts a code point before a text, with at least four digits.
+fn push_code_point(line: &mut Ascii, code: u32)
+    requires code { code < 2 ^ 24 }
+    requires room { length line.old + 6 ≤ 24 }
+    ensures text { line.new ≡ code_point code ++ line.old }
+    ensures len { length line.new ≤ length line.old + 6 }
+{
+    push_digit(line, code % 16);
+    push_digit(line, code / 16 % 16);
+    push_digit(line, code / 256 % 16);
+    push_digit(line, code / 4096 % 16);
+    if code >= 0x1_0000 {
+        push_digit(line, code / 0x1_0000 % 16);
+        if code >= 0x10_0000 {
+            push_digit(line, code / 0x10_0000);
+        }
+    }
+}
+
+/// Puts a capital hexadecimal digit before a text.
+fn push_digit(line: &mut Ascii, digit: u32)
+    requires digit { digit < 16 }
+    requires room { length line.old < 24 }
+    ensures text { line.new ≡ digit_glyph true digit ∷ line.old }
+{
+    let first = if digit < 10 { b'0' } else { b'A' - 10 };
+    line.push(first + digit as u8);
+}
