@@ -160,13 +160,6 @@ impl<'f, 'a> Strike<'f, 'a> {
         self.sized.measure_grown(margin, line)
     }
 
-    /// The font's tables, which outlive the strike's borrow.
-    pub fn face(&self) -> &'f Face<'a>
-        ensures { result.now ≡ self.now.face }
-    {
-        self.face
-    }
-
     /// The bytes of the cached glyphs: for each those of its black columns, and 128. With `Fit::None`, `Fit::Full` and
     /// `Fit::Fallback` the newest glyphs are cached; with `Fit::Best` none.
     pub fn kept_bytes(&self) -> usize
