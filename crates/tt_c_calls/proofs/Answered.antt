@@ -7,7 +7,7 @@ use Rattle.tt_core.specs.Limits.{font_limit}
 use Rattle.tt_core.specs.Outcomes.{◌>>=◌}
 use Rattle.tt_render.specs.Outcome.{of_font}
 use Rattle.tt_strike.specs.Refusals.{Refused, as_font, as_job, job, large}
-use Rattle.tt_strike.specs.Tables.{Face, face_of}
+use Rattle.tt_face.specs.Faces.{Face, face_of}
 use Rattle.tt_c_calls.specs.declared.fault.CallFault.{CallFault}
 use Rattle.tt_c_calls.specs.declared.fault.CallFault.TheVariants as call
 use Rattle.tt_c_calls.specs.Answers.{DefectStands, TellsRefusal, call_answer}

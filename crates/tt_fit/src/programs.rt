@@ -1,4 +1,4 @@
-//! The tables of a font's programs, how they are run, and a glyph's program.
+//! How a font's programs are run, and a glyph's program.
 
 ghost use Rattle.std.specs.Prelude.{◌+◌, ◌<◌, ◌^◌, length};
 
@@ -15,17 +15,6 @@ pub enum Fit {
     Fallback,
     /// As `Fallback`, with the whole instruction set, tolerance of missing things, and deeper nesting of components.
     Best,
-}
-
-/// The tables with a font's programs, each empty where the font has none.
-#[derive(Clone, Copy)]
-pub struct Programs<'a> {
-    /// The control values.
-    pub cvt: &'a [u8],
-    /// The font program.
-    pub fpgm: &'a [u8],
-    /// The control value program.
-    pub prep: &'a [u8],
 }
 
 /// A glyph's program.

@@ -32,7 +32,7 @@ use Rattle.tt_strike.specs.Defects.{IsLineDefect, IsRunDefect, draw_font_fault}
 use Rattle.tt_strike.specs.Job.{Job, size_tested, tested}
 use Rattle.tt_strike.specs.Refusals.{Refused, as_job, refusal}
 use Rattle.tt_strike.specs.Strikes.{Strike}
-use Rattle.tt_strike.specs.Tables.{Face, face_of}
+use Rattle.tt_face.specs.Faces.{Face, face_of}
 
 -- the answer of a text does not depend on the cache's limit
 pub most_aside : (s : Strike) (most : ℕ) (wanted : Product) (asked : Missing) (margin : ℕ) (text : List ℕ)

@@ -22,7 +22,7 @@ use Rattle.tt_strike.specs.Picture.{crossings_tested, drawn, frame_of, glyph_sha
 use Rattle.tt_strike.specs.Pixels.{Shape}
 use Rattle.tt_strike.specs.Refusals.{Refused, as_job, job, refusal}
 use Rattle.tt_strike.specs.Report.{ListsOnce, line_report, unfitted_standing}
-use Rattle.tt_strike.specs.Tables.{Face}
+use Rattle.tt_face.specs.Faces.{Face}
 use Rattle.tt_strike.specs.Work.{crossings_in, work_left}
 use Rattle.tt_strike.specs.declared.fault.DrawFault.{DrawFault}
 use Rattle.tt_strike.specs.declared.ink_box.InkBox.{InkBox}

@@ -11,7 +11,7 @@ use Rattle.tt_strike.specs.Picture.{laid_out, line_shapes, setting_in}
 use Rattle.tt_strike.specs.Pixels.{Shape}
 use Rattle.tt_strike.specs.Refusals.{Refused, as_font}
 use Rattle.tt_strike.specs.Report.{line_report, unfitted_among}
-use Rattle.tt_strike.specs.Tables.{Face}
+use Rattle.tt_face.specs.Faces.{Face}
 use Rattle.tt_strike.specs.Work.{line_fitter}
 use Rattle.tt_strike.specs.declared.report.Unfitted.{Unfitted}
 

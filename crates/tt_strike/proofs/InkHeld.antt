@@ -32,7 +32,7 @@ use Rattle.tt_strike.specs.Measures.{Measure, character_at, line_ink, measure_by
 use Rattle.tt_strike.specs.Picture.{contours_of, edges_at, filled_by, frame_of, glyph_shape, line_shapes, origin_of, setting_in}
 use Rattle.tt_strike.specs.Pixels.{Shape, is_filled, some_black, some_filled}
 use Rattle.tt_strike.specs.Refusals.{as_font}
-use Rattle.tt_strike.specs.Tables.{Face}
+use Rattle.tt_face.specs.Faces.{Face}
 use Rattle.tt_strike.specs.declared.ink_box.InkBox.{InkBox}
 use Rattle.tt_strike.specs.declared.measuring.CharacterMeasure.{CharacterMeasure}
 use Rattle.tt_strike.proofs.Blackened.{or_false, or_or}

@@ -15,7 +15,7 @@ use Rattle.tt_strike.specs.Made.{AreMade}
 use Rattle.tt_strike.specs.Measures.{line_ink, measure_by, measured_line}
 use Rattle.tt_strike.specs.Picture.{contours_of, drawn, edges_at, filled_by, frame_of, picture}
 use Rattle.tt_strike.specs.Report.{ListsOnce, line_report, unfitted_standing}
-use Rattle.tt_strike.specs.Tables.{Face}
+use Rattle.tt_face.specs.Faces.{Face}
 use Rattle.tt_strike.specs.declared.report.Unfitted.{Unfitted}
 use Rattle.tt_strike.proofs.Listing.{lists_once, of_line}
 

@@ -16,7 +16,7 @@ use Rattle.tt_strike.specs.Measures.{Measure, measured_line}
 use Rattle.tt_strike.specs.Picture.{drawn, frame_of, glyph_shape, laid_out, line_shapes, picture, points_tested, setting_in, shape_at}
 use Rattle.tt_strike.specs.Pixels.{Shape}
 use Rattle.tt_strike.specs.Refusals.{Refused, as_font, as_job, job}
-use Rattle.tt_strike.specs.Tables.{Face}
+use Rattle.tt_face.specs.Faces.{Face}
 use Rattle.tt_strike.specs.Work.{crossings_allowed, crossings_in, line_fitter, work_left, work_tested}
 use Rattle.tt_strike.specs.declared.growing.Sides.{Sides}
 use Rattle.tt_strike.specs.declared.ink_box.InkBox.{InkBox}

@@ -4,7 +4,7 @@ pub mod Costs
 pub mod Defects
 pub mod Distinct
 pub mod Enlarged
-pub mod Tables
+pub mod Programs
 pub mod Glyphs
 pub mod Grown
 pub mod Ink

@@ -8,7 +8,7 @@ use Rattle.tt_fit.specs.Fitting.{Fitter, unfitted_fault}
 use Rattle.tt_line.specs.Layout.{Placement, placement}
 use Rattle.tt_strike.specs.Job.{Job}
 use Rattle.tt_strike.specs.declared.report.Unfitted.{Unfitted}
-use Rattle.tt_strike.specs.Tables.{Face, face_of}
+use Rattle.tt_face.specs.Faces.{Face, face_of}
 use Rattle.tt_strike.specs.Distinct.{distinct, is_among}
 use Rattle.tt_strike.specs.Glyphs.{Glyph}
 use Rattle.tt_strike.specs.Refusals.{Refused, as_font, as_job}

@@ -3,7 +3,7 @@
 use Rattle.std.specs.Prelude.{ℕ, List}
 use Rattle.tt_fit.specs.declared.programs.Fit.{Fit}
 use Rattle.tt_strike.specs.Job.{Job}
-use Rattle.tt_strike.specs.Tables.{Face}
+use Rattle.tt_face.specs.Faces.{Face}
 use Rattle.tt_strike_kept.specs.Glyph.{KeptGlyph}
 
 pub record Strike : Type 0 where

@@ -27,7 +27,7 @@ use crate::glyph::Glyph;
 use crate::job::Job;
 use crate::maker::Maker;
 use crate::picture::Picture;
-use crate::tables::Face;
+use tt_face::Face;
 use crate::tested::{frame_of, tested_glyphs};
 use crate::work::is_bounded;
 use std::alloc::{AllocError, Global};

@@ -31,7 +31,7 @@ use crate::maker::Maker;
 use crate::measuring::{Measure, characters, glyph_inks, ink_of, measure_of};
 use crate::picture::Picture;
 use crate::report::report_on;
-use crate::tables::Face;
+use tt_face::Face;
 use crate::tested::{frame_of, tested_glyphs};
 use crate::work::is_bounded;
 use std::alloc::Global;

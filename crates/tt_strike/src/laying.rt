@@ -13,7 +13,7 @@ ghost use Rattle.tt_strike.specs.Refusals.{refusal};
 
 use crate::fault::DrawFault;
 use crate::job::{Job, test_job};
-use crate::tables::Face;
+use tt_face::Face;
 use std::alloc::Global;
 use tt_line::{Line, lay};
 

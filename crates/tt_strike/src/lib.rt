@@ -17,11 +17,11 @@ mod maker;
 mod measuring;
 mod painting;
 mod picture;
+mod programs;
 mod reframing;
 mod report;
 mod rows;
 mod strike;
-mod tables;
 mod tested;
 mod work;
 
@@ -32,4 +32,4 @@ pub use measuring::{CharacterMeasure, Measure};
 pub use picture::Picture;
 pub use report::{Report, Unfitted};
 pub use strike::Strike;
-pub use tables::Face;
+pub use tt_face::Face;

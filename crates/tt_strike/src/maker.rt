@@ -10,11 +10,12 @@ ghost use Rattle.tt_strike.specs.Picture.{setting_in};
 ghost use Rattle.tt_strike.specs.Work.{is_bounded};
 
 use crate::job::Job;
-use crate::tables::{Face, open_glyf, open_programs};
+use crate::programs::open_programs;
 use crate::work::is_bounded;
 use std::alloc::Global;
 use std::mem;
 use tt_core::{Fault, FontFault};
+use tt_face::Face;
 use tt_fit::{Fit, Fitter};
 
 /// The state of a strike's fitter.
@@ -37,7 +38,7 @@ fn open_fitter<'a>(alloc: Global, face: &Face<'a>, job: &Job) -> Result<Fitter<'
     ensures defects { TellsDefects font_fault (IsSettingDefect face.now (job_view job.now)) result }
 {
     tt_fit::laws::work_unfits();
-    let glyf = open_glyf(face)?;
+    let glyf = face.glyf()?;
     let programs = open_programs(face, job.fit)?;
     Ok(Fitter::new(alloc, face.metrics(), glyf, programs, job.ppem, job.fit)?)
 }

@@ -31,7 +31,7 @@ use crate::ink_box::{InkBox, ink_at, joined};
 use crate::job::Job;
 use crate::maker::Maker;
 use crate::report::{Report, report_on};
-use crate::tables::Face;
+use tt_face::Face;
 use crate::tested::{frame_of, tested_glyphs};
 use std::alloc::{AllocError, Global};
 use tt_line::{Line, advance};

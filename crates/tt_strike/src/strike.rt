@@ -25,7 +25,7 @@ use crate::laying::lay_out;
 use crate::maker::Maker;
 use crate::measuring::{Measure, measure_line};
 use crate::picture::Picture;
-use crate::tables::Face;
+use tt_face::Face;
 use std::alloc::Global;
 use std::marker::Model;
 use tt_fit::Fit;

@@ -23,7 +23,7 @@ use crate::fault::DrawFault;
 use crate::glyphs::{Glyphs, line_glyphs};
 use crate::job::Job;
 use crate::maker::Maker;
-use crate::tables::Face;
+use tt_face::Face;
 use crate::work::{charge_points, cost_of, crossings_allowed, test_crossings};
 use std::alloc::Global;
 use tt_line::Line;

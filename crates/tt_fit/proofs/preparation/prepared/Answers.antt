@@ -1,4 +1,4 @@
-use Rattle.tt_fit.specs.Preparation.{program_tables}
+use Rattle.tt_face.specs.Programs.{program_tables}
 use Rattle.tt_fit.proofs.Unbounded.{prepared-falling}
 use Rattle.tt_fit.proofs.preparation.prepared.Goals as goal
 
