@@ -26,80 +26,80 @@ abbrev pub file_fault : ℕ → Why → Fault
 file_fault offset why = fault_at (codes "file") offset why
 
 -- a refusal in messages: its number and its name
-pub record Entry : Type 0 where
+pub record NumberedName : Type 0 where
   pub number : ℕ
   pub name : List ℕ
 
-abbrev pub entry : ℕ → List ℕ → Entry
-entry number name = record { number = number; name = name }
+abbrev pub numbered : ℕ → List ℕ → NumberedName
+numbered number name = record { number = number; name = name }
 
 -- the refusals of a font, status 1
-abbrev pub why_entry : Why → Entry
-why_entry why.BadVersion = entry 1 (codes "BadVersion")
-why_entry why.DirShort = entry 2 (codes "DirShort")
-why_entry why.NoTable = entry 3 (codes "NoTable")
-why_entry why.TableRange = entry 4 (codes "TableRange")
-why_entry why.HeadMagic = entry 5 (codes "HeadMagic")
-why_entry why.EmRange = entry 6 (codes "EmRange")
-why_entry why.LocaFormat = entry 7 (codes "LocaFormat")
-why_entry why.MaxpVersion = entry 8 (codes "MaxpVersion")
-why_entry why.MetricsShort = entry 9 (codes "MetricsShort")
-why_entry why.NoCmap = entry 10 (codes "NoCmap")
-why_entry why.CmapShape = entry 11 (codes "CmapShape")
-why_entry why.LocaShort = entry 12 (codes "LocaShort")
-why_entry why.GlyphRange = entry 13 (codes "GlyphRange")
-why_entry why.GlyphShort = entry 14 (codes "GlyphShort")
-why_entry why.ContourOrder = entry 15 (codes "ContourOrder")
-why_entry why.FlagRun = entry 16 (codes "FlagRun")
-why_entry why.ComponentDepth = entry 17 (codes "ComponentDepth")
-why_entry why.ComponentCount = entry 18 (codes "ComponentCount")
-why_entry why.ComponentGlyph = entry 19 (codes "ComponentGlyph")
-why_entry why.MatchPoint = entry 20 (codes "MatchPoint")
-why_entry why.ScaledOffset = entry 21 (codes "ScaledOffset")
-why_entry why.PointLimit = entry 22 (codes "PointLimit")
-why_entry why.CoordRange = entry 23 (codes "CoordRange")
-why_entry why.StepLimit = entry 30 (codes "StepLimit")
-why_entry why.StackFull = entry 31 (codes "StackFull")
-why_entry why.StackShort = entry 32 (codes "StackShort")
-why_entry why.CallDepth = entry 33 (codes "CallDepth")
-why_entry why.BadOpcode = entry 34 (codes "BadOpcode")
-why_entry why.OffProfile = entry 35 (codes "OffProfile")
-why_entry why.JumpRange = entry 36 (codes "JumpRange")
-why_entry why.CodeShort = entry 37 (codes "CodeShort")
-why_entry why.NoFunction = entry 38 (codes "NoFunction")
-why_entry why.DefinitionPlace = entry 39 (codes "DefinitionPlace")
-why_entry why.IfOpen = entry 40 (codes "IfOpen")
-why_entry why.NoEndf = entry 41 (codes "NoEndf")
-why_entry why.PointRange = entry 42 (codes "PointRange")
-why_entry why.ContourRange = entry 43 (codes "ContourRange")
-why_entry why.ZoneRange = entry 44 (codes "ZoneRange")
-why_entry why.CvtRange = entry 45 (codes "CvtRange")
-why_entry why.StorageRange = entry 46 (codes "StorageRange")
-why_entry why.DivZero = entry 47 (codes "DivZero")
-why_entry why.ValueRange = entry 48 (codes "ValueRange")
-why_entry why.Perpendicular = entry 49 (codes "Perpendicular")
-why_entry why.BadArgument = entry 50 (codes "BadArgument")
+abbrev pub why_in_messages : Why → NumberedName
+why_in_messages why.BadVersion = numbered 1 (codes "BadVersion")
+why_in_messages why.DirShort = numbered 2 (codes "DirShort")
+why_in_messages why.NoTable = numbered 3 (codes "NoTable")
+why_in_messages why.TableRange = numbered 4 (codes "TableRange")
+why_in_messages why.HeadMagic = numbered 5 (codes "HeadMagic")
+why_in_messages why.EmRange = numbered 6 (codes "EmRange")
+why_in_messages why.LocaFormat = numbered 7 (codes "LocaFormat")
+why_in_messages why.MaxpVersion = numbered 8 (codes "MaxpVersion")
+why_in_messages why.MetricsShort = numbered 9 (codes "MetricsShort")
+why_in_messages why.NoCmap = numbered 10 (codes "NoCmap")
+why_in_messages why.CmapShape = numbered 11 (codes "CmapShape")
+why_in_messages why.LocaShort = numbered 12 (codes "LocaShort")
+why_in_messages why.GlyphRange = numbered 13 (codes "GlyphRange")
+why_in_messages why.GlyphShort = numbered 14 (codes "GlyphShort")
+why_in_messages why.ContourOrder = numbered 15 (codes "ContourOrder")
+why_in_messages why.FlagRun = numbered 16 (codes "FlagRun")
+why_in_messages why.ComponentDepth = numbered 17 (codes "ComponentDepth")
+why_in_messages why.ComponentCount = numbered 18 (codes "ComponentCount")
+why_in_messages why.ComponentGlyph = numbered 19 (codes "ComponentGlyph")
+why_in_messages why.MatchPoint = numbered 20 (codes "MatchPoint")
+why_in_messages why.ScaledOffset = numbered 21 (codes "ScaledOffset")
+why_in_messages why.PointLimit = numbered 22 (codes "PointLimit")
+why_in_messages why.CoordRange = numbered 23 (codes "CoordRange")
+why_in_messages why.StepLimit = numbered 30 (codes "StepLimit")
+why_in_messages why.StackFull = numbered 31 (codes "StackFull")
+why_in_messages why.StackShort = numbered 32 (codes "StackShort")
+why_in_messages why.CallDepth = numbered 33 (codes "CallDepth")
+why_in_messages why.BadOpcode = numbered 34 (codes "BadOpcode")
+why_in_messages why.OffProfile = numbered 35 (codes "OffProfile")
+why_in_messages why.JumpRange = numbered 36 (codes "JumpRange")
+why_in_messages why.CodeShort = numbered 37 (codes "CodeShort")
+why_in_messages why.NoFunction = numbered 38 (codes "NoFunction")
+why_in_messages why.DefinitionPlace = numbered 39 (codes "DefinitionPlace")
+why_in_messages why.IfOpen = numbered 40 (codes "IfOpen")
+why_in_messages why.NoEndf = numbered 41 (codes "NoEndf")
+why_in_messages why.PointRange = numbered 42 (codes "PointRange")
+why_in_messages why.ContourRange = numbered 43 (codes "ContourRange")
+why_in_messages why.ZoneRange = numbered 44 (codes "ZoneRange")
+why_in_messages why.CvtRange = numbered 45 (codes "CvtRange")
+why_in_messages why.StorageRange = numbered 46 (codes "StorageRange")
+why_in_messages why.DivZero = numbered 47 (codes "DivZero")
+why_in_messages why.ValueRange = numbered 48 (codes "ValueRange")
+why_in_messages why.Perpendicular = numbered 49 (codes "Perpendicular")
+why_in_messages why.BadArgument = numbered 50 (codes "BadArgument")
 
 -- the refusals of a job, status 2. The C library alone has two more: 66 UnknownFit and 67 LineEnds
-abbrev pub job_entry : JobFault → Entry
-job_entry job.SizeRange = entry 60 (codes "SizeRange")
-job_entry job.TextLong = entry 61 (codes "TextLong")
-job_entry job.EmptyPicture = entry 62 (codes "EmptyPicture")
-job_entry job.PictureLarge = entry 63 (codes "PictureLarge")
-job_entry job.MarginRange = entry 64 (codes "MarginRange")
-job_entry job.WorkLarge = entry 65 (codes "WorkLarge")
+abbrev pub job_in_messages : JobFault → NumberedName
+job_in_messages job.SizeRange = numbered 60 (codes "SizeRange")
+job_in_messages job.TextLong = numbered 61 (codes "TextLong")
+job_in_messages job.EmptyPicture = numbered 62 (codes "EmptyPicture")
+job_in_messages job.PictureLarge = numbered 63 (codes "PictureLarge")
+job_in_messages job.MarginRange = numbered 64 (codes "MarginRange")
+job_in_messages job.WorkLarge = numbered 65 (codes "WorkLarge")
 
 unfoldable pub why_number : Why → ℕ
-why_number w = (why_entry w).number
+why_number w = (why_in_messages w).number
 
 unfoldable pub why_name : Why → List ℕ
-why_name w = (why_entry w).name
+why_name w = (why_in_messages w).name
 
 unfoldable pub job_number : JobFault → ℕ
-job_number j = (job_entry j).number
+job_number j = (job_in_messages j).number
 
 unfoldable pub job_name : JobFault → List ℕ
-job_name j = (job_entry j).name
+job_name j = (job_in_messages j).name
 
 -- the refusal with a number
 unfoldable pub why_of : ℕ → Option Why

@@ -6,7 +6,7 @@ ghost use Rattle.tt_core.specs.Faults.{fault_at, is_ascii, why_number, why_name,
 use std::marker::Model;
 use thiserror::Error;
 
-/// Hands the numbers and names of all kinds of defects to another macro.
+/// The numbers and names of all kinds of defects. A call hands them to another macro.
 macro_rules! whys {
     ($made:ident $of:expr) => {
         $made!(
@@ -59,8 +59,7 @@ macro_rules! whys {
     };
 }
 
-/// Hands the numbers and names of all faults of jobs to another macro. The C library alone has two more: 66 UnknownFit
-/// and 67 LineEnds.
+/// The numbers and names of all faults of jobs. The C library alone has two more: 66 UnknownFit and 67 LineEnds.
 macro_rules! job_faults {
     ($made:ident $of:expr) => {
         $made!(

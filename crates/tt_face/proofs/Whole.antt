@@ -10,7 +10,7 @@ use Rattle.tt_core.specs.Faults.{Fault}
 use Rattle.tt_core.specs.Outcomes.{◌>>=◌}
 use Rattle.tt_core.proofs.Whole as directories
 use Rattle.tt_glyf.specs.Bytes.{glyf_tag}
-use Rattle.tt_glyf.specs.Loca.{Glyf, loca_tag, loca_of, IsLocaDefect}
+use Rattle.tt_glyf.specs.Loca.{loca_tag, loca_of, IsLocaDefect}
 use Rattle.tt_glyf.proofs.Locations.{locations-whole}
 use Rattle.tt_metrics.specs.Metrics.{metrics_of, glyphs_of}
 use Rattle.tt_metrics.proofs.Whole.{metrics-whole}
@@ -27,7 +27,7 @@ face-directory file face was =
     let by_table = came-through (needed_table by_directory.value cmap_tag) _ face by_metrics.rest in
     let by_lookup = came-through (cmap_of by_table.value (glyphs_of by_metrics.value)) _ face by_table.rest in
     let same : record { directory = by_directory.value; metrics = by_metrics.value; cmap = by_lookup.value } ≡ face =
-        let done = by_lookup.rest in cc in
+    let done = by_lookup.rest in cc in
     rw (← same) (directories.directory-kept (file_directory file) by_directory.value by_directory.first)
 
 pub face-whole : FacesAreWhole
@@ -38,7 +38,7 @@ face-whole file face was =
     let by_table = came-through (needed_table by_directory.value cmap_tag) _ face by_metrics.rest in
     let by_lookup = came-through (cmap_of by_table.value (glyphs_of by_metrics.value)) _ face by_table.rest in
     let kept : by_directory.value ≡ file_directory file =
-        directories.directory-kept (file_directory file) by_directory.value by_directory.first in
+    directories.directory-kept (file_directory file) by_directory.value by_directory.first in
     let cmap = directories.table-good by_directory.value cmap_tag by_table.value IsBadCmap by_table.first
     (cmap-whole by_table.value (glyphs_of by_metrics.value) by_lookup.value by_lookup.first) in
     let P : Directory → Type 0 = λ d. HasNo (IsDefectAt d) in
