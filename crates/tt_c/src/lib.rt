@@ -2,7 +2,7 @@
 #![tactic(auto)]
 
 ghost use Rattle.std.specs.Prelude.{◌≡◌, ◌≢◌, ◌≤◌, ◌<◌, ◌^◌, ℕ, length};
-ghost use Rattle.tt_strike.specs.Defects.{IsFaceDefect};
+ghost use Rattle.tt_face.specs.Defects.{IsFaceDefect};
 ghost use Rattle.tt_c_calls.specs.Answers.{DefectStands, TellsRefusal, done_answer, memory_answer};
 ghost use Rattle.tt_c_calls.specs.Asked.{IsAskedDefect};
 ghost use Rattle.tt_c_calls.specs.Fonts.{IsFontOf, face_wanted};

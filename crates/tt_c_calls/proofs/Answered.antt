@@ -10,7 +10,7 @@ use Rattle.tt_strike.specs.declared.fault.DrawFault.{DrawFault}
 use Rattle.tt_strike.specs.declared.fault.DrawFault.TheVariants as draw
 use Rattle.tt_strike.specs.Defects.{draw_font_fault}
 use Rattle.tt_strike.specs.Refusals.{Refused, as_font, as_job, job, large, refusal}
-use Rattle.tt_strike.specs.Tables.{Face, face_of}
+use Rattle.tt_face.specs.Faces.{Face, face_of}
 use Rattle.tt_c_calls.specs.declared.fault.CallFault.{CallFault}
 use Rattle.tt_c_calls.specs.declared.fault.CallFault.TheVariants as call
 use Rattle.tt_c_calls.specs.Answers.{DefectStands, TellsRefusal, call_answer}

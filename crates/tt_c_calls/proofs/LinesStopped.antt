@@ -1,14 +1,13 @@
 -- A call that draws lines, and stops before the first line.
 use Rattle.std.proofs.Common.{◌≡◌, ◌≢◌, ◌∙◌, ◌<◌, ap, refl, ℕ, List, [], length, IfSome, Result, Ok, Err, inl, inr, arith, subst, sym}
 use Rattle.std.specs.Prelude.{◌==◌}
-use Rattle.tt_core.proofs.Whole.{directory-same}
 use Rattle.tt_core.specs.Chains.{came-through}
-use Rattle.tt_core.specs.Directory.{directory_of}
+use Rattle.tt_core.specs.Directory.{Directory}
 use Rattle.tt_core.specs.declared.fault.JobFault.{JobFault}
 use Rattle.tt_core.specs.Faults.{Fault}
 use Rattle.tt_core.specs.Outcomes.{◌>>=◌}
-use Rattle.tt_cmap.specs.Lookup.{cmap_of}
-use Rattle.tt_core.specs.Directory.{needed_table}
+use Rattle.tt_face.specs.Faces.{Face}
+use Rattle.tt_face.proofs.Whole.{face-directory}
 use Rattle.tt_fit.specs.declared.programs.Fit.{Fit}
 use Rattle.tt_metrics.specs.Metrics.{glyphs_of, metrics_of}
 use Rattle.tt_render.specs.declared.setting.Setting.{Setting}
@@ -18,7 +17,6 @@ use Rattle.tt_strike.specs.declared.fault.DrawFault.TheVariants as draw
 use Rattle.tt_strike.specs.Job.{Job, size_tested, tested}
 use Rattle.tt_strike.specs.Refusals.{as_job, font, job, large, refusal}
 use Rattle.tt_strike.specs.Strikes.{Strike}
-use Rattle.tt_strike.specs.Tables.{Face, cmap_tag, face_of}
 use Rattle.tt_c_calls.specs.Fonts.{face_wanted}
 use Rattle.tt_c_calls.specs.declared.answer.CAnswer.{CAnswer}
 use Rattle.tt_c_calls.specs.declared.asked.CJob.{CJob}
@@ -185,24 +183,14 @@ pub kept_alone : (r s t : Strike) → s ≡ record r { kept = s.kept } → t ≡
 kept_alone r s t first second = second ∙ ap (λ (x : Strike). record x { kept = t.kept }) first
 
 -- the font of a strike
-face_directory : (file : List ℕ) (face : Face) → face_of file ≡ Ok face → face.directory ≡ file
-unfolding face_of
-face_directory file face was =
-    let d = came-through (directory_of file) _ face was in
-    let m = came-through (metrics_of d.value) _ face d.rest in
-    let t = came-through (needed_table d.value cmap_tag) _ face m.rest in
-    let c = came-through (cmap_of t.value (glyphs_of m.value)) _ face t.rest in
-    let same : record { directory = d.value; metrics = m.value; cmap = c.value } ≡ face = let done = c.rest in cc in
-    rw (← same) (directory-same file d.value d.first)
-
-pub directory_is : (file : List ℕ) (face : Face) → face_wanted file ≡ Ok face → face.directory ≡ file
-directory_is file face is = face_directory file face (face_read file face is)
+pub file_is : (file : List ℕ) (face : Face) → face_wanted file ≡ Ok face → face.directory.file ≡ file
+file_is file face is = ap (λ (d : Directory). d.file) (face-directory file face (face_read file face is))
 
 pub strike_for : (j : CJob) (file : List ℕ) (how : Fit) (face : Face) (s : Strike) (most : ℕ) → fit_asked j.fit ≡ Ok how
     → tested (of_no_text j how) ≡ Ok tt → face_wanted file ≡ Ok face
-    → s ≡ record { face = face; ppem = j.size; fit = how; most = most; kept = [] } → IsStrikeFor j s.face.directory s
+    → s ≡ record { face = face; ppem = j.size; fit = how; most = most; kept = [] } → IsStrikeFor j s.face.directory.file s
 strike_for j file how face s most fits test found is =
     let for : IsStrikeFor j file s =
     rw is (record { face = lines_opened j file how face fits test found; fit = fits; size = refl }) in
-    let same : s.face.directory ≡ file = rw is (directory_is file face found) in
+    let same : s.face.directory.file ≡ file = rw is (file_is file face found) in
     let P : List ℕ → Type 0 = λ l. IsStrikeFor j l s in subst P (sym same) for

@@ -3,7 +3,7 @@ use Rattle.std.specs.Prelude.{◌≡◌, ℕ, List, Result, IsOkAnd}
 use Rattle.tt_metrics.specs.Metrics.{Metrics, ascent_of, descent_of, glyphs_of, units_per_em_of}
 use Rattle.tt_render_run.specs.Outcome.{of_font}
 use Rattle.tt_strike.specs.Refusals.{as_font}
-use Rattle.tt_strike.specs.Tables.{Face, face_of}
+use Rattle.tt_face.specs.Faces.{Face, face_of}
 use Rattle.tt_c_calls.specs.declared.opening.CFont.{CFont}
 use Rattle.tt_c_calls.specs.Refusals.{Refusal, as_call}
 

@@ -6,11 +6,11 @@ use Rattle.tt_core.specs.Faults.{Fault, job_number}
 use Rattle.tt_core.specs.Outcomes.{◌>>=◌}
 use Rattle.tt_render.specs.Lines.{lines_budget}
 use Rattle.tt_strike.specs.Costs.{cost_by}
-use Rattle.tt_strike.specs.Defects.{IsFaceDefect}
+use Rattle.tt_face.specs.Defects.{IsFaceDefect}
 use Rattle.tt_picture.specs.Pictures.{Picture}
 use Rattle.tt_strike.specs.Refusals.{as_font}
 use Rattle.tt_strike.specs.Strikes.{Strike}
-use Rattle.tt_strike.specs.Tables.{Face, face_of}
+use Rattle.tt_face.specs.Faces.{Face, face_of}
 use Rattle.tt_c_calls.specs.declared.answer.CAnswer.{CAnswer}
 use Rattle.tt_c_calls.specs.declared.asked.CJob.{CJob}
 use Rattle.tt_c_calls.specs.declared.line_drawing.CLine.{CLine}

@@ -4,7 +4,7 @@ use Rattle.tt_core.specs.Outcomes.{◌>>=◌}
 use Rattle.tt_render.specs.Texts.{measure_by}
 use Rattle.tt_strike.specs.Measures.{Measure}
 use Rattle.tt_strike.specs.Report.{report_by}
-use Rattle.tt_strike.specs.Tables.{face_of}
+use Rattle.tt_face.specs.Faces.{face_of}
 use Rattle.tt_picture.specs.declared.ink_box.InkBox.{InkBox}
 use Rattle.tt_strike.specs.declared.measuring.CharacterMeasure.{CharacterMeasure}
 use Rattle.tt_picture.specs.declared.report.Unfitted.{Unfitted}

@@ -11,65 +11,6 @@ use Rattle.tt_render_run.specs.declared.fault.RunFault.TheVariants as run
 use Rattle.tt_c_calls.specs.declared.answer.CAnswer.{CAnswer}
 use Rattle.tt_c_calls.specs.Answers.{done_answer, fault_answer, job_answer, plain_answer, room_answer}
 
--- the kind of a defect, by its number
-unfoldable pub why_of : ℕ → Option Why
-why_of n =
-    if n == 1 then Some why.BadVersion
-    else if n == 2 then Some why.DirShort
-    else if n == 3 then Some why.NoTable
-    else if n == 4 then Some why.TableRange
-    else if n == 5 then Some why.HeadMagic
-    else if n == 6 then Some why.EmRange
-    else if n == 7 then Some why.LocaFormat
-    else if n == 8 then Some why.MaxpVersion
-    else if n == 9 then Some why.MetricsShort
-    else if n == 10 then Some why.NoCmap
-    else if n == 11 then Some why.CmapShape
-    else if n == 12 then Some why.LocaShort
-    else if n == 13 then Some why.GlyphRange
-    else if n == 14 then Some why.GlyphShort
-    else if n == 15 then Some why.ContourOrder
-    else if n == 16 then Some why.FlagRun
-    else if n == 17 then Some why.ComponentDepth
-    else if n == 18 then Some why.ComponentCount
-    else if n == 19 then Some why.ComponentGlyph
-    else if n == 20 then Some why.MatchPoint
-    else if n == 21 then Some why.ScaledOffset
-    else if n == 22 then Some why.PointLimit
-    else if n == 23 then Some why.CoordRange
-    else if n == 30 then Some why.StepLimit
-    else if n == 31 then Some why.StackFull
-    else if n == 32 then Some why.StackShort
-    else if n == 33 then Some why.CallDepth
-    else if n == 34 then Some why.BadOpcode
-    else if n == 35 then Some why.OffProfile
-    else if n == 36 then Some why.JumpRange
-    else if n == 37 then Some why.CodeShort
-    else if n == 38 then Some why.NoFunction
-    else if n == 39 then Some why.DefinitionPlace
-    else if n == 40 then Some why.IfOpen
-    else if n == 41 then Some why.NoEndf
-    else if n == 42 then Some why.PointRange
-    else if n == 43 then Some why.ContourRange
-    else if n == 44 then Some why.ZoneRange
-    else if n == 45 then Some why.CvtRange
-    else if n == 46 then Some why.StorageRange
-    else if n == 47 then Some why.DivZero
-    else if n == 48 then Some why.ValueRange
-    else if n == 49 then Some why.Perpendicular
-    else if n == 50 then Some why.BadArgument
-    else None
-
-unfoldable pub job_of : ℕ → Option JobFault
-job_of n =
-    if n == 60 then Some job.SizeRange
-    else if n == 61 then Some job.TextLong
-    else if n == 62 then Some job.EmptyPicture
-    else if n == 63 then Some job.PictureLarge
-    else if n == 64 then Some job.MarginRange
-    else if n == 65 then Some job.WorkLarge
-    else None
-
 -- a defect at a table and an offset, if the tag is ASCII
 abbrev pub ascii_fault : List ℕ → ℕ → Why → Option Fault
 ascii_fault table offset why = if is_ascii table then Some (fault_at table offset why) else None
@@ -101,7 +42,7 @@ abbrev pub job_message : CAnswer → List ℕ
 job_message a =
     if a.number == 66 then codes "tt_render: 66 UnknownFit"
     else if a.number == 67 then codes "tt_render: 67 LineEnds"
-    else refusal_text (job_of a.number)
+    else refusal_text (job_fault_of a.number)
 
 abbrev pub room_message : CAnswer → List ℕ
 room_message a =
@@ -136,7 +77,7 @@ unfolding message_of defect_of why_of why_number why_name digits
 an_instruction = refl
 
 no_pixel : message_of (job_answer job.EmptyPicture) ≡ codes "tt_render: 62 EmptyPicture"
-unfolding message_of job_of job_number job_name digits
+unfolding message_of job_fault_of job_number job_name digits
 no_pixel = refl
 
 no_table : message_of (record (plain_answer 1 1) { table = 255 ∷ 0 ∷ 0 ∷ 0 ∷ [] }) ≡ unknown_text

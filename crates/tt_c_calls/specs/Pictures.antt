@@ -8,7 +8,7 @@ use Rattle.tt_render.specs.Texts.{IsMadeBy, picture_by}
 use Rattle.tt_strike.specs.Job.{Job, tested}
 use Rattle.tt_picture.specs.Pictures.{IsReady, Picture, picture_bytes}
 use Rattle.tt_strike.specs.Refusals.{Refused, as_font, as_job}
-use Rattle.tt_strike.specs.Tables.{Face, face_of}
+use Rattle.tt_face.specs.Faces.{Face, face_of}
 use Rattle.tt_c_calls.specs.declared.answer.CAnswer.{CAnswer}
 use Rattle.tt_c_calls.specs.declared.asked.CJob.{CJob}
 use Rattle.tt_c_calls.specs.declared.pictures.CPicture.{CPicture}

@@ -2,7 +2,7 @@
 
 ghost use Rattle.std.specs.Prelude.{◌≡◌, ◌≢◌, length, chars, map};
 ghost use Rattle.tt_core.specs.Outcomes.{GivesUnless};
-ghost use Rattle.tt_strike.specs.Defects.{IsFaceDefect};
+ghost use Rattle.tt_face.specs.Defects.{IsFaceDefect};
 ghost use Rattle.tt_c_calls.specs.Answers.{DefectStands, TellsRefusal};
 ghost use Rattle.tt_c_calls.specs.Maps.{AreGlyphsOf, AreGlyphsTold, IsGlyphsSmall, glyph_told, glyphs_wanted};
 ghost use Rattle.tt_c_calls.specs.Measures.{IsEntriesSmall};

@@ -3,85 +3,13 @@
 ghost use Rattle.std.specs.Prelude.{◌≡◌, ◌≢◌, ◌+◌, ◌<◌, length, string_bytes, IfOk};
 ghost use Rattle.tt_core.specs.Faults.{is_ascii};
 ghost use Rattle.tt_c_calls.specs.Answers.{memory_answer};
-ghost use Rattle.tt_c_calls.specs.Messages.{IsTextSmall, IsTextWritten, defect_message, defect_of, job_message, job_of, message_of, why_of};
+ghost use Rattle.tt_c_calls.specs.Messages.{IsTextSmall, IsTextWritten, defect_message, defect_of, job_message, message_of};
 
 use crate::answer::{CAnswer, answer_of, done, wants_room};
 use crate::fault::CallFault;
 use std::alloc::{AllocError, Global};
 use tt_core::{Fault, JobFault, Why};
 use tt_render::{RunFault, line};
-
-/// The kind of a font's defect, by its number; None where no kind has it.
-#[tactic(auto, unfolding(crate::specs::Messages::why_of))]
-fn why_of(number: u32) -> Option<Why>
-    ensures { result ≡ why_of number }
-{
-    let why = match number {
-        1 => Why::BadVersion,
-        2 => Why::DirShort,
-        3 => Why::NoTable,
-        4 => Why::TableRange,
-        5 => Why::HeadMagic,
-        6 => Why::EmRange,
-        7 => Why::LocaFormat,
-        8 => Why::MaxpVersion,
-        9 => Why::MetricsShort,
-        10 => Why::NoCmap,
-        11 => Why::CmapShape,
-        12 => Why::LocaShort,
-        13 => Why::GlyphRange,
-        14 => Why::GlyphShort,
-        15 => Why::ContourOrder,
-        16 => Why::FlagRun,
-        17 => Why::ComponentDepth,
-        18 => Why::ComponentCount,
-        19 => Why::ComponentGlyph,
-        20 => Why::MatchPoint,
-        21 => Why::ScaledOffset,
-        22 => Why::PointLimit,
-        23 => Why::CoordRange,
-        30 => Why::StepLimit,
-        31 => Why::StackFull,
-        32 => Why::StackShort,
-        33 => Why::CallDepth,
-        34 => Why::BadOpcode,
-        35 => Why::OffProfile,
-        36 => Why::JumpRange,
-        37 => Why::CodeShort,
-        38 => Why::NoFunction,
-        39 => Why::DefinitionPlace,
-        40 => Why::IfOpen,
-        41 => Why::NoEndf,
-        42 => Why::PointRange,
-        43 => Why::ContourRange,
-        44 => Why::ZoneRange,
-        45 => Why::CvtRange,
-        46 => Why::StorageRange,
-        47 => Why::DivZero,
-        48 => Why::ValueRange,
-        49 => Why::Perpendicular,
-        50 => Why::BadArgument,
-        _ => return None,
-    };
-    Some(why)
-}
-
-/// The kind of a job's fault, by its number; None where no kind has it.
-#[tactic(auto, unfolding(crate::specs::Messages::job_of))]
-fn job_of(number: u32) -> Option<JobFault>
-    ensures { result ≡ job_of number }
-{
-    let fault = match number {
-        60 => JobFault::SizeRange,
-        61 => JobFault::TextLong,
-        62 => JobFault::EmptyPicture,
-        63 => JobFault::PictureLarge,
-        64 => JobFault::MarginRange,
-        65 => JobFault::WorkLarge,
-        _ => return None,
-    };
-    Some(fault)
-}
 
 /// Whether the bytes of a tag are ASCII.
 fn is_tag(table: &[u8]) -> bool
@@ -95,7 +23,7 @@ fn is_tag(table: &[u8]) -> bool
 fn defect_of(told: &CAnswer) -> Option<Fault>
     ensures { result ≡ defect_of told.now }
 {
-    let why = why_of(told.number)?;
+    let why = Why::of(told.number)?;
     if !is_tag(&told.table) {
         return None;
     }
@@ -138,7 +66,7 @@ fn job_text(alloc: Global, told: &CAnswer) -> Result<String, AllocError>
     match told.number {
         66 => String::from_str(alloc, "tt_render: 66 UnknownFit"),
         67 => String::from_str(alloc, "tt_render: 67 LineEnds"),
-        number => match job_of(number) {
+        number => match JobFault::of(number) {
             Some(fault) => line(alloc, &RunFault::Job(fault)),
             None => String::from_str(alloc, "tt_render: no such answer"),
         },

@@ -3,7 +3,8 @@
 ghost use Rattle.std.specs.Prelude.{◌≡◌, ◌≢◌, ◌≤◌, length, IfOk, IfErr};
 ghost use Rattle.tt_core.specs.Limits.{font_limit};
 ghost use Rattle.tt_core.specs.Outcomes.{GivesUnless};
-ghost use Rattle.tt_strike.specs.Defects.{IsFaceDefect, TellsDefects};
+ghost use Rattle.tt_face.specs.Defects.{IsFaceDefect};
+ghost use Rattle.tt_strike.specs.Defects.{TellsDefects};
 ghost use Rattle.tt_c_calls.specs.Answers.{DefectStands, TellsRefusal, done_answer};
 ghost use Rattle.tt_c_calls.specs.Fonts.{IsFontOf, face_wanted};
 ghost use Rattle.tt_c_calls.specs.declared.fault.CallFault.TheVariants as call;

@@ -3,6 +3,7 @@ pub mod Each
 mod KnownBytes
 pub mod Numbers
 pub mod Quotients
+pub mod Refusals
 mod Scales
 mod Text
 pub mod Whole

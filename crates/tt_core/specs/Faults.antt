@@ -1,6 +1,6 @@
 -- The refusals, with their numbers and names. Apple TrueType Reference Manual and OpenType say what a font must fulfil.
 -- The numbers and the names are this project's own (profile).
-use Rattle.std.specs.Prelude.{ℕ, List, Bool, nat_lt, codes}
+use Rattle.std.specs.Prelude.{ℕ, ◌==◌, List, Bool, nat_lt, if◌then◌else◌, codes, Option, Some, None}
 use Rattle.std.specs.List.{list_all}
 use Rattle.tt_core.specs.declared.fault.JobFault.{JobFault}
 use Rattle.tt_core.specs.declared.fault.JobFault.TheVariants as job
@@ -25,110 +25,137 @@ fault_at table offset why = record { table = table; offset = offset; why = why }
 abbrev pub file_fault : ℕ → Why → Fault
 file_fault offset why = fault_at (codes "file") offset why
 
+-- a refusal in messages: its number and its name
+pub record NumberedName : Type 0 where
+  pub number : ℕ
+  pub name : List ℕ
+
+abbrev pub numbered : ℕ → List ℕ → NumberedName
+numbered number name = record { number = number; name = name }
+
+-- the refusals of a font, status 1
+abbrev pub why_in_messages : Why → NumberedName
+why_in_messages why.BadVersion = numbered 1 (codes "BadVersion")
+why_in_messages why.DirShort = numbered 2 (codes "DirShort")
+why_in_messages why.NoTable = numbered 3 (codes "NoTable")
+why_in_messages why.TableRange = numbered 4 (codes "TableRange")
+why_in_messages why.HeadMagic = numbered 5 (codes "HeadMagic")
+why_in_messages why.EmRange = numbered 6 (codes "EmRange")
+why_in_messages why.LocaFormat = numbered 7 (codes "LocaFormat")
+why_in_messages why.MaxpVersion = numbered 8 (codes "MaxpVersion")
+why_in_messages why.MetricsShort = numbered 9 (codes "MetricsShort")
+why_in_messages why.NoCmap = numbered 10 (codes "NoCmap")
+why_in_messages why.CmapShape = numbered 11 (codes "CmapShape")
+why_in_messages why.LocaShort = numbered 12 (codes "LocaShort")
+why_in_messages why.GlyphRange = numbered 13 (codes "GlyphRange")
+why_in_messages why.GlyphShort = numbered 14 (codes "GlyphShort")
+why_in_messages why.ContourOrder = numbered 15 (codes "ContourOrder")
+why_in_messages why.FlagRun = numbered 16 (codes "FlagRun")
+why_in_messages why.ComponentDepth = numbered 17 (codes "ComponentDepth")
+why_in_messages why.ComponentCount = numbered 18 (codes "ComponentCount")
+why_in_messages why.ComponentGlyph = numbered 19 (codes "ComponentGlyph")
+why_in_messages why.MatchPoint = numbered 20 (codes "MatchPoint")
+why_in_messages why.ScaledOffset = numbered 21 (codes "ScaledOffset")
+why_in_messages why.PointLimit = numbered 22 (codes "PointLimit")
+why_in_messages why.CoordRange = numbered 23 (codes "CoordRange")
+why_in_messages why.StepLimit = numbered 30 (codes "StepLimit")
+why_in_messages why.StackFull = numbered 31 (codes "StackFull")
+why_in_messages why.StackShort = numbered 32 (codes "StackShort")
+why_in_messages why.CallDepth = numbered 33 (codes "CallDepth")
+why_in_messages why.BadOpcode = numbered 34 (codes "BadOpcode")
+why_in_messages why.OffProfile = numbered 35 (codes "OffProfile")
+why_in_messages why.JumpRange = numbered 36 (codes "JumpRange")
+why_in_messages why.CodeShort = numbered 37 (codes "CodeShort")
+why_in_messages why.NoFunction = numbered 38 (codes "NoFunction")
+why_in_messages why.DefinitionPlace = numbered 39 (codes "DefinitionPlace")
+why_in_messages why.IfOpen = numbered 40 (codes "IfOpen")
+why_in_messages why.NoEndf = numbered 41 (codes "NoEndf")
+why_in_messages why.PointRange = numbered 42 (codes "PointRange")
+why_in_messages why.ContourRange = numbered 43 (codes "ContourRange")
+why_in_messages why.ZoneRange = numbered 44 (codes "ZoneRange")
+why_in_messages why.CvtRange = numbered 45 (codes "CvtRange")
+why_in_messages why.StorageRange = numbered 46 (codes "StorageRange")
+why_in_messages why.DivZero = numbered 47 (codes "DivZero")
+why_in_messages why.ValueRange = numbered 48 (codes "ValueRange")
+why_in_messages why.Perpendicular = numbered 49 (codes "Perpendicular")
+why_in_messages why.BadArgument = numbered 50 (codes "BadArgument")
+
+-- the refusals of a job, status 2. The C library alone has two more: 66 UnknownFit and 67 LineEnds
+abbrev pub job_in_messages : JobFault → NumberedName
+job_in_messages job.SizeRange = numbered 60 (codes "SizeRange")
+job_in_messages job.TextLong = numbered 61 (codes "TextLong")
+job_in_messages job.EmptyPicture = numbered 62 (codes "EmptyPicture")
+job_in_messages job.PictureLarge = numbered 63 (codes "PictureLarge")
+job_in_messages job.MarginRange = numbered 64 (codes "MarginRange")
+job_in_messages job.WorkLarge = numbered 65 (codes "WorkLarge")
+
 unfoldable pub why_number : Why → ℕ
-why_number why.BadVersion = 1
-why_number why.DirShort = 2
-why_number why.NoTable = 3
-why_number why.TableRange = 4
-why_number why.HeadMagic = 5
-why_number why.EmRange = 6
-why_number why.LocaFormat = 7
-why_number why.MaxpVersion = 8
-why_number why.MetricsShort = 9
-why_number why.NoCmap = 10
-why_number why.CmapShape = 11
-why_number why.LocaShort = 12
-why_number why.GlyphRange = 13
-why_number why.GlyphShort = 14
-why_number why.ContourOrder = 15
-why_number why.FlagRun = 16
-why_number why.ComponentDepth = 17
-why_number why.ComponentCount = 18
-why_number why.ComponentGlyph = 19
-why_number why.MatchPoint = 20
-why_number why.ScaledOffset = 21
-why_number why.PointLimit = 22
-why_number why.CoordRange = 23
-why_number why.StepLimit = 30
-why_number why.StackFull = 31
-why_number why.StackShort = 32
-why_number why.CallDepth = 33
-why_number why.BadOpcode = 34
-why_number why.OffProfile = 35
-why_number why.JumpRange = 36
-why_number why.CodeShort = 37
-why_number why.NoFunction = 38
-why_number why.DefinitionPlace = 39
-why_number why.IfOpen = 40
-why_number why.NoEndf = 41
-why_number why.PointRange = 42
-why_number why.ContourRange = 43
-why_number why.ZoneRange = 44
-why_number why.CvtRange = 45
-why_number why.StorageRange = 46
-why_number why.DivZero = 47
-why_number why.ValueRange = 48
-why_number why.Perpendicular = 49
-why_number why.BadArgument = 50
+why_number w = (why_in_messages w).number
 
 unfoldable pub why_name : Why → List ℕ
-why_name why.BadVersion = codes "BadVersion"
-why_name why.DirShort = codes "DirShort"
-why_name why.NoTable = codes "NoTable"
-why_name why.TableRange = codes "TableRange"
-why_name why.HeadMagic = codes "HeadMagic"
-why_name why.EmRange = codes "EmRange"
-why_name why.LocaFormat = codes "LocaFormat"
-why_name why.MaxpVersion = codes "MaxpVersion"
-why_name why.MetricsShort = codes "MetricsShort"
-why_name why.NoCmap = codes "NoCmap"
-why_name why.CmapShape = codes "CmapShape"
-why_name why.LocaShort = codes "LocaShort"
-why_name why.GlyphRange = codes "GlyphRange"
-why_name why.GlyphShort = codes "GlyphShort"
-why_name why.ContourOrder = codes "ContourOrder"
-why_name why.FlagRun = codes "FlagRun"
-why_name why.ComponentDepth = codes "ComponentDepth"
-why_name why.ComponentCount = codes "ComponentCount"
-why_name why.ComponentGlyph = codes "ComponentGlyph"
-why_name why.MatchPoint = codes "MatchPoint"
-why_name why.ScaledOffset = codes "ScaledOffset"
-why_name why.PointLimit = codes "PointLimit"
-why_name why.CoordRange = codes "CoordRange"
-why_name why.StepLimit = codes "StepLimit"
-why_name why.StackFull = codes "StackFull"
-why_name why.StackShort = codes "StackShort"
-why_name why.CallDepth = codes "CallDepth"
-why_name why.BadOpcode = codes "BadOpcode"
-why_name why.OffProfile = codes "OffProfile"
-why_name why.JumpRange = codes "JumpRange"
-why_name why.CodeShort = codes "CodeShort"
-why_name why.NoFunction = codes "NoFunction"
-why_name why.DefinitionPlace = codes "DefinitionPlace"
-why_name why.IfOpen = codes "IfOpen"
-why_name why.NoEndf = codes "NoEndf"
-why_name why.PointRange = codes "PointRange"
-why_name why.ContourRange = codes "ContourRange"
-why_name why.ZoneRange = codes "ZoneRange"
-why_name why.CvtRange = codes "CvtRange"
-why_name why.StorageRange = codes "StorageRange"
-why_name why.DivZero = codes "DivZero"
-why_name why.ValueRange = codes "ValueRange"
-why_name why.Perpendicular = codes "Perpendicular"
-why_name why.BadArgument = codes "BadArgument"
+why_name w = (why_in_messages w).name
 
 unfoldable pub job_number : JobFault → ℕ
-job_number job.SizeRange = 60
-job_number job.TextLong = 61
-job_number job.EmptyPicture = 62
-job_number job.PictureLarge = 63
-job_number job.MarginRange = 64
-job_number job.WorkLarge = 65
+job_number j = (job_in_messages j).number
 
 unfoldable pub job_name : JobFault → List ℕ
-job_name job.SizeRange = codes "SizeRange"
-job_name job.TextLong = codes "TextLong"
-job_name job.EmptyPicture = codes "EmptyPicture"
-job_name job.PictureLarge = codes "PictureLarge"
-job_name job.MarginRange = codes "MarginRange"
-job_name job.WorkLarge = codes "WorkLarge"
+job_name j = (job_in_messages j).name
+
+-- the refusal with a number
+unfoldable pub why_of : ℕ → Option Why
+why_of n =
+    if n == 1 then Some why.BadVersion
+    else if n == 2 then Some why.DirShort
+    else if n == 3 then Some why.NoTable
+    else if n == 4 then Some why.TableRange
+    else if n == 5 then Some why.HeadMagic
+    else if n == 6 then Some why.EmRange
+    else if n == 7 then Some why.LocaFormat
+    else if n == 8 then Some why.MaxpVersion
+    else if n == 9 then Some why.MetricsShort
+    else if n == 10 then Some why.NoCmap
+    else if n == 11 then Some why.CmapShape
+    else if n == 12 then Some why.LocaShort
+    else if n == 13 then Some why.GlyphRange
+    else if n == 14 then Some why.GlyphShort
+    else if n == 15 then Some why.ContourOrder
+    else if n == 16 then Some why.FlagRun
+    else if n == 17 then Some why.ComponentDepth
+    else if n == 18 then Some why.ComponentCount
+    else if n == 19 then Some why.ComponentGlyph
+    else if n == 20 then Some why.MatchPoint
+    else if n == 21 then Some why.ScaledOffset
+    else if n == 22 then Some why.PointLimit
+    else if n == 23 then Some why.CoordRange
+    else if n == 30 then Some why.StepLimit
+    else if n == 31 then Some why.StackFull
+    else if n == 32 then Some why.StackShort
+    else if n == 33 then Some why.CallDepth
+    else if n == 34 then Some why.BadOpcode
+    else if n == 35 then Some why.OffProfile
+    else if n == 36 then Some why.JumpRange
+    else if n == 37 then Some why.CodeShort
+    else if n == 38 then Some why.NoFunction
+    else if n == 39 then Some why.DefinitionPlace
+    else if n == 40 then Some why.IfOpen
+    else if n == 41 then Some why.NoEndf
+    else if n == 42 then Some why.PointRange
+    else if n == 43 then Some why.ContourRange
+    else if n == 44 then Some why.ZoneRange
+    else if n == 45 then Some why.CvtRange
+    else if n == 46 then Some why.StorageRange
+    else if n == 47 then Some why.DivZero
+    else if n == 48 then Some why.ValueRange
+    else if n == 49 then Some why.Perpendicular
+    else if n == 50 then Some why.BadArgument
+    else None
+
+unfoldable pub job_fault_of : ℕ → Option JobFault
+job_fault_of n =
+    if n == 60 then Some job.SizeRange
+    else if n == 61 then Some job.TextLong
+    else if n == 62 then Some job.EmptyPicture
+    else if n == 63 then Some job.PictureLarge
+    else if n == 64 then Some job.MarginRange
+    else if n == 65 then Some job.WorkLarge
+    else None

@@ -1,7 +1,7 @@
 //! The table directory. Apple TrueType Reference Manual, "The Font Directory".
 
-ghost use Rattle.std.specs.Prelude.{◌≡◌, ◌<◌, ◌≤◌, false, List, ℕ, length, IsTrue, IfOk, IfErr, OnOk, IfSome, is_some, option_copied};
-ghost use Rattle.tt_core.specs.Directory.{directory_of, directory_end, record_count, record_of, has_tag, named_by, table_of, needed_table, HasNo, IsDirectoryDefect, RecordPassesEnd, PassesEnd, IsTableDefect};
+ghost use Rattle.std.specs.Prelude.{◌≡◌, ◌<◌, ◌≤◌, false, ℕ, length, IsTrue, IfOk, IfErr, OnOk, IfSome, is_some, option_copied};
+ghost use Rattle.tt_core.specs.Directory.{Directory, directory_of, file_directory, read_directory, directory_end, record_count, record_of, has_tag, named_by, table_of, needed_table, HasNo, IsDirectoryDefect, RecordPassesEnd, PassesEnd, IsTableDefect};
 ghost use Rattle.tt_core.specs.Faults.{is_ascii};
 ghost use Rattle.tt_core.specs.Limits.{font_limit};
 ghost use Rattle.tt_core.specs.Outcomes.{Gives};
@@ -13,45 +13,67 @@ use std::marker::Model;
 
 const FILE: [u8; 4] = *b"file";
 
-/// A font file whose directory fits. Clauses see the file's bytes.
+/// A directory that fits in its font file. Clauses see the file's bytes and the directory's offset.
 #[derive(Drop)]
 pub struct Dir<'a> {
     file: &'a [u8],
+    at: usize,
     count: usize,
 }
 
 impl<'a> Model for Dir<'a> {
-    ghost Value = { List ℕ };
+    ghost use Rattle.std.specs.Prelude.{◌≡◌, ◌≤◌, length};
+    ghost use Rattle.tt_core.specs.Directory.{Directory, directory_end, record_count};
+    ghost use Rattle.tt_core.specs.Limits.{font_limit};
 
-    ghost view = { λ d. d.file.now };
+    ghost Value = { Directory };
 
-    ghost invariant = { λ d. (d.count ≡ record_count d.file.now) × (directory_end d.file.now ≤ length d.file.now)
+    ghost view = { λ d. record { file = d.file.now; at = d.at } };
+
+    ghost invariant = { λ d. (d.count ≡ record_count (record { file = d.file.now; at = d.at }))
+        × (directory_end (record { file = d.file.now; at = d.at }) ≤ length d.file.now)
         × (length d.file.now ≤ font_limit) };
 }
 
 impl<'a> Dir<'a> {
-    /// Opens a file by the head of its directory. Errors: DirShort, BadVersion.
-    #[tactic(auto, unfolding(crate::specs::Directory::directory_of))]
+    /// Opens a file with one font by the head of its directory. Errors: DirShort, BadVersion.
     pub fn open(file: &'a [u8]) -> Result<Dir<'a>, Fault>
         requires { length file.now ≤ font_limit }
         ensures exact { Gives (λ d. d) result (directory_of file.now) }
-        ensures whole { IfOk result (λ d. d ≡ file.now) }
-        ensures sound { OnOk result (HasNo (IsDirectoryDefect file.now)) }
-        ensures fault { IfErr result (IsDirectoryDefect file.now) }
+        ensures whole { IfOk result (λ d. d ≡ file_directory file.now) }
+        ensures sound { OnOk result (HasNo (IsDirectoryDefect (file_directory file.now))) }
+        ensures fault { IfErr result (IsDirectoryDefect (file_directory file.now)) }
+    {
+        Dir::at(file, 0)
+    }
+
+    /// Opens a directory by its head at an offset in a file. Errors: DirShort, BadVersion.
+    #[tactic(auto, unfolding(crate::specs::Directory::read_directory))]
+    fn at(file: &'a [u8], at: u32) -> Result<Dir<'a>, Fault>
+        requires { length file.now ≤ font_limit }
+        ensures exact { Gives (λ d. d) result (read_directory (record { file = file.now; at = at })) }
+        ensures whole { IfOk result (λ d. d ≡ record { file = file.now; at = at }) }
+        ensures sound { OnOk result (HasNo (IsDirectoryDefect (record { file = file.now; at = at }))) }
+        ensures fault { IfErr result (IsDirectoryDefect (record { file = file.now; at = at })) }
     {
         let short = Fault::new(FILE, file.len() as u32, Why::DirShort);
-        if file.len() < 12 {
+        let place = at as usize;
+        if file.len() < place + 12 {
             return Err(short);
         }
-        let version = u32_at(file, 0).unwrap();
+        let version = u32_at(file, place).unwrap();
         if version != 0x0001_0000 && version != 0x7472_7565 {
-            return Err(Fault::new(FILE, 0, Why::BadVersion));
+            return Err(Fault::new(FILE, at, Why::BadVersion));
         }
-        let count = usize::from(u16_at(file, 4).unwrap());
-        if file.len() < 12 + 16 * count {
+        let count = usize::from(u16_at(file, place + 4).unwrap());
+        if file.len() < place + 12 + 16 * count {
             return Err(short);
         }
-        Ok(Dir { file, count })
+        Ok(Dir {
+            file,
+            at: place,
+            count,
+        })
     }
 
     /// The table with a tag, or None if no record has the tag. The first record with the tag counts (profile). Error:
@@ -84,7 +106,7 @@ impl<'a> Dir<'a> {
         let Some(i) = number else {
             return Ok(None);
         };
-        let place = 12 + 16 * i;
+        let place = self.at + 12 + 16 * i;
         let offset = u32_at(file, place + 8).unwrap() as usize;
         let length = u32_at(file, place + 12).unwrap() as usize;
         if file.len() < offset + length {
@@ -112,11 +134,11 @@ impl<'a> Dir<'a> {
     fn record(&self, tag: [u8; 4]) -> Option<usize>
         ensures exact { result ≡ record_of self.now tag }
         ensures bound { IfSome result (λ i. i < record_count self.now) }
-        ensures room { directory_end self.now ≤ length self.now }
-        ensures size { length self.now ≤ font_limit }
+        ensures room { directory_end self.now ≤ length self.now.file }
+        ensures size { length self.now.file ≤ font_limit }
     {
         for i in 0..self.count {
-            let place = 12 + 16 * i;
+            let place = self.at + 12 + 16 * i;
             if self.file[place..place + 4] == tag[..] {
                 return Some(i);
             }

@@ -1,102 +1,195 @@
 //! The refusals of a font and of a job, with their numbers and names.
 
 ghost use Rattle.std.specs.Prelude.{◌≡◌, IsTrue};
-ghost use Rattle.tt_core.specs.Faults.{fault_at, is_ascii, why_number, why_name, job_number, job_name};
+ghost use Rattle.tt_core.specs.Faults.{fault_at, is_ascii, why_number, why_name, why_of, job_number, job_name, job_fault_of};
 
 use std::marker::Model;
 use thiserror::Error;
+
+/// The numbers and names of all kinds of defects. A call hands them to another macro.
+macro_rules! whys {
+    ($made:ident $of:expr) => {
+        $made!(
+            $of, Why,
+            1 BadVersion,
+            2 DirShort,
+            3 NoTable,
+            4 TableRange,
+            5 HeadMagic,
+            6 EmRange,
+            7 LocaFormat,
+            8 MaxpVersion,
+            9 MetricsShort,
+            10 NoCmap,
+            11 CmapShape,
+            12 LocaShort,
+            13 GlyphRange,
+            14 GlyphShort,
+            15 ContourOrder,
+            16 FlagRun,
+            17 ComponentDepth,
+            18 ComponentCount,
+            19 ComponentGlyph,
+            20 MatchPoint,
+            21 ScaledOffset,
+            22 PointLimit,
+            23 CoordRange,
+            30 StepLimit,
+            31 StackFull,
+            32 StackShort,
+            33 CallDepth,
+            34 BadOpcode,
+            35 OffProfile,
+            36 JumpRange,
+            37 CodeShort,
+            38 NoFunction,
+            39 DefinitionPlace,
+            40 IfOpen,
+            41 NoEndf,
+            42 PointRange,
+            43 ContourRange,
+            44 ZoneRange,
+            45 CvtRange,
+            46 StorageRange,
+            47 DivZero,
+            48 ValueRange,
+            49 Perpendicular,
+            50 BadArgument,
+        )
+    };
+}
+
+/// The numbers and names of all faults of jobs. The C library alone has two more: 66 UnknownFit and 67 LineEnds.
+macro_rules! job_faults {
+    ($made:ident $of:expr) => {
+        $made!(
+            $of, JobFault,
+            60 SizeRange,
+            61 TextLong,
+            62 EmptyPicture,
+            63 PictureLarge,
+            64 MarginRange,
+            65 WorkLarge,
+        )
+    };
+}
+
+macro_rules! number {
+    ($of:expr, $kind:ident, $($number:literal $name:ident,)*) => {
+        match $of {
+            $($kind::$name => $number,)*
+        }
+    };
+}
+
+macro_rules! name {
+    ($of:expr, $kind:ident, $($number:literal $name:ident,)*) => {
+        match $of {
+            $($kind::$name => stringify!($name),)*
+        }
+    };
+}
+
+macro_rules! with_number {
+    ($of:expr, $kind:ident, $($number:literal $name:ident,)*) => {
+        match $of {
+            $($number => $kind::$name,)*
+            _ => return None,
+        }
+    };
+}
 
 /// The kind of a font's defect.
 #[derive(Clone, Copy, Debug, PartialEq, Eq)]
 pub enum Why {
     /// The file's version is neither 0x00010000 nor 'true'.
-    BadVersion = 1,
+    BadVersion,
     /// The directory passes the end of the file.
-    DirShort = 2,
+    DirShort,
     /// A needed table is missing.
-    NoTable = 3,
+    NoTable,
     /// A needed table passes the end of the file.
-    TableRange = 4,
+    TableRange,
     /// head's magic number is wrong.
-    HeadMagic = 5,
+    HeadMagic,
     /// unitsPerEm is outside 16 to 16384.
-    EmRange = 6,
+    EmRange,
     /// indexToLocFormat is neither 0 nor 1.
-    LocaFormat = 7,
+    LocaFormat,
     /// maxp's version is not 1.0.
-    MaxpVersion = 8,
+    MaxpVersion,
     /// head, maxp, hhea or hmtx is too short, or one of its counts is 0.
-    MetricsShort = 9,
+    MetricsShort,
     /// There is no supported character map.
-    NoCmap = 10,
+    NoCmap,
     /// cmap's header, records or subtable do not fit, or its end codes fall.
-    CmapShape = 11,
+    CmapShape,
     /// loca has too few entries.
-    LocaShort = 12,
+    LocaShort,
     /// A loca entry is above the next one, or past glyf.
-    GlyphRange = 13,
+    GlyphRange,
     /// A glyph's bytes end too early.
-    GlyphShort = 14,
+    GlyphShort,
     /// A contour ends before the one before it.
-    ContourOrder = 15,
+    ContourOrder,
     /// A repeated flag runs past the last point.
-    FlagRun = 16,
+    FlagRun,
     /// Composites are nested too deep.
-    ComponentDepth = 17,
+    ComponentDepth,
     /// A composite has too many components.
-    ComponentCount = 18,
+    ComponentCount,
     /// A component is no glyph of the font.
-    ComponentGlyph = 19,
+    ComponentGlyph,
     /// A point to be matched does not exist.
-    MatchPoint = 20,
+    MatchPoint,
     /// A component requests a scaled offset.
-    ScaledOffset = 21,
+    ScaledOffset,
     /// A glyph has too many points.
-    PointLimit = 22,
+    PointLimit,
     /// A coordinate is outside its range.
-    CoordRange = 23,
+    CoordRange,
     /// A program makes too many steps.
-    StepLimit = 30,
+    StepLimit,
     /// The stack is full.
-    StackFull = 31,
+    StackFull,
     /// The stack has too few entries.
-    StackShort = 32,
+    StackShort,
     /// Calls are nested too deep.
-    CallDepth = 33,
+    CallDepth,
     /// The opcode is no instruction.
-    BadOpcode = 34,
+    BadOpcode,
     /// The instruction is outside the supported set.
-    OffProfile = 35,
+    OffProfile,
     /// A jump leaves the program.
-    JumpRange = 36,
+    JumpRange,
     /// The program ends inside an instruction or a call.
-    CodeShort = 37,
+    CodeShort,
     /// The function does not exist.
-    NoFunction = 38,
+    NoFunction,
     /// A function is defined or ended out of place.
-    DefinitionPlace = 39,
+    DefinitionPlace,
     /// An IF or ELSE has no end.
-    IfOpen = 40,
+    IfOpen,
     /// An FDEF has no end.
-    NoEndf = 41,
+    NoEndf,
     /// The point does not exist.
-    PointRange = 42,
+    PointRange,
     /// The contour does not exist.
-    ContourRange = 43,
+    ContourRange,
     /// The zone does not exist.
-    ZoneRange = 44,
+    ZoneRange,
     /// The control value does not exist.
-    CvtRange = 45,
+    CvtRange,
     /// The storage place does not exist.
-    StorageRange = 46,
+    StorageRange,
     /// A division by zero.
-    DivZero = 47,
+    DivZero,
     /// A value is outside its range.
-    ValueRange = 48,
+    ValueRange,
     /// The projection and freedom vectors are perpendicular.
-    Perpendicular = 49,
+    Perpendicular,
     /// An argument has no meaning.
-    BadArgument = 50,
+    BadArgument,
 }
 
 impl Why {
@@ -105,7 +198,7 @@ impl Why {
     pub fn number(self) -> u8
         ensures { result ≡ why_number self }
     {
-        self as u8
+        whys!(number self)
     }
 
     /// The name in messages.
@@ -113,52 +206,16 @@ impl Why {
     pub fn name(self) -> &'static str
         ensures { result.now ≡ why_name self }
     {
-        match self {
-            Why::BadVersion => "BadVersion",
-            Why::DirShort => "DirShort",
-            Why::NoTable => "NoTable",
-            Why::TableRange => "TableRange",
-            Why::HeadMagic => "HeadMagic",
-            Why::EmRange => "EmRange",
-            Why::LocaFormat => "LocaFormat",
-            Why::MaxpVersion => "MaxpVersion",
-            Why::MetricsShort => "MetricsShort",
-            Why::NoCmap => "NoCmap",
-            Why::CmapShape => "CmapShape",
-            Why::LocaShort => "LocaShort",
-            Why::GlyphRange => "GlyphRange",
-            Why::GlyphShort => "GlyphShort",
-            Why::ContourOrder => "ContourOrder",
-            Why::FlagRun => "FlagRun",
-            Why::ComponentDepth => "ComponentDepth",
-            Why::ComponentCount => "ComponentCount",
-            Why::ComponentGlyph => "ComponentGlyph",
-            Why::MatchPoint => "MatchPoint",
-            Why::ScaledOffset => "ScaledOffset",
-            Why::PointLimit => "PointLimit",
-            Why::CoordRange => "CoordRange",
-            Why::StepLimit => "StepLimit",
-            Why::StackFull => "StackFull",
-            Why::StackShort => "StackShort",
-            Why::CallDepth => "CallDepth",
-            Why::BadOpcode => "BadOpcode",
-            Why::OffProfile => "OffProfile",
-            Why::JumpRange => "JumpRange",
-            Why::CodeShort => "CodeShort",
-            Why::NoFunction => "NoFunction",
-            Why::DefinitionPlace => "DefinitionPlace",
-            Why::IfOpen => "IfOpen",
-            Why::NoEndf => "NoEndf",
-            Why::PointRange => "PointRange",
-            Why::ContourRange => "ContourRange",
-            Why::ZoneRange => "ZoneRange",
-            Why::CvtRange => "CvtRange",
-            Why::StorageRange => "StorageRange",
-            Why::DivZero => "DivZero",
-            Why::ValueRange => "ValueRange",
-            Why::Perpendicular => "Perpendicular",
-            Why::BadArgument => "BadArgument",
-        }
+        whys!(name self)
+    }
+
+    /// The kind with a number; None where no kind has it.
+    #[tactic(auto, unfolding(crate::specs::Faults::why_of))]
+    pub fn of(number: u32) -> Option<Why>
+        ensures { result ≡ why_of number }
+    {
+        let why = whys!(with_number number);
+        Some(why)
     }
 }
 
@@ -211,22 +268,22 @@ impl Fault {
 pub enum JobFault {
     /// The size is outside 1 to 300 pixels per em.
     #[error("the size is outside 1 to 300 pixels per em")]
-    SizeRange = 60,
+    SizeRange,
     /// The text has more than 4,096 characters.
     #[error("the text has more than 4,096 characters")]
-    TextLong = 61,
+    TextLong,
     /// The picture would have no pixel.
     #[error("the picture would have no pixel")]
-    EmptyPicture = 62,
+    EmptyPicture,
     /// The picture would be too large.
     #[error("the picture would be too large")]
-    PictureLarge = 63,
+    PictureLarge,
     /// The margin is above 64 pixels.
     #[error("the margin is above 64 pixels")]
-    MarginRange = 64,
+    MarginRange,
     /// The job's glyphs would be too much work.
     #[error("its glyphs would be too much work")]
-    WorkLarge = 65,
+    WorkLarge,
 }
 
 impl JobFault {
@@ -235,7 +292,7 @@ impl JobFault {
     pub fn number(self) -> u8
         ensures { result ≡ job_number self }
     {
-        self as u8
+        job_faults!(number self)
     }
 
     /// The name in messages.
@@ -243,13 +300,15 @@ impl JobFault {
     pub fn name(self) -> &'static str
         ensures { result.now ≡ job_name self }
     {
-        match self {
-            JobFault::SizeRange => "SizeRange",
-            JobFault::TextLong => "TextLong",
-            JobFault::EmptyPicture => "EmptyPicture",
-            JobFault::PictureLarge => "PictureLarge",
-            JobFault::MarginRange => "MarginRange",
-            JobFault::WorkLarge => "WorkLarge",
-        }
+        job_faults!(name self)
+    }
+
+    /// The fault with a number; None where no fault has it.
+    #[tactic(auto, unfolding(crate::specs::Faults::job_fault_of))]
+    pub fn of(number: u32) -> Option<JobFault>
+        ensures { result ≡ job_fault_of number }
+    {
+        let fault = job_faults!(with_number number);
+        Some(fault)
     }
 }

@@ -1,12 +1,12 @@
 //! Lemmas about the definitions, for all files and all scales. No code runs.
 
-ghost use Rattle.tt_core.specs.Laws.{DirectoriesAreWhole, DirectoriesAreFiles, TablesAreWhole};
+ghost use Rattle.tt_core.specs.Laws.{DirectoriesAreWhole, DirectoriesAreKept, TablesAreWhole};
 ghost use Rattle.tt_core.specs.Scales.{ScalesKeepOrder, ScalesAreOdd, ScalesKeepDifferences};
 
 /// Lemma: if the definitions give a directory, or a needed table, then the directory or the table has no defect.
 pub fn tables_are_whole()
     ensures directory { DirectoriesAreWhole }
-    ensures same { DirectoriesAreFiles }
+    ensures same { DirectoriesAreKept }
     ensures table { TablesAreWhole }
 {}
 

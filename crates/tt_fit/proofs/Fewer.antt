@@ -22,7 +22,8 @@ use Rattle.tt_fit_outline.specs.Hinting.{Hinting, off, ready, is_run, run_of}
 use Rattle.tt_fit.specs.Laws.{Fewer, WorkFalls, BestIsBounded}
 use Rattle.tt_fit_outline.specs.Outline.{Outline}
 use Rattle.tt_fit_outline.specs.Parts.{parts_with}
-use Rattle.tt_fit.specs.Preparation.{ProgramTables, font_program, control_value_program, with_definitions, programs_work, begun_at, left_at, work_at, prepared_by, prepared, fitter_with, fitter_of}
+use Rattle.tt_face.specs.Programs.{ProgramTables}
+use Rattle.tt_fit.specs.Preparation.{font_program, control_value_program, with_definitions, programs_work, begun_at, left_at, work_at, prepared_by, prepared, fitter_with, fitter_of}
 use Rattle.tt_fit.specs.Rules.{dropouts_by}
 use Rattle.tt_fit_outline.specs.Scaling.{scaled_outline}
 use Rattle.tt_fit_outline.specs.Work.{if_ok, code_work, program_work, hinted_work}

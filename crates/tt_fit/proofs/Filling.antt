@@ -15,7 +15,8 @@ use Rattle.tt_fit.specs.Dropouts.{default_rules, type_rules, rules_by}
 use Rattle.tt_fit.specs.Fitting.{Fitter, after_glyph}
 use Rattle.tt_fit_outline.specs.Hinting.{Hinting, ready}
 use Rattle.tt_fit.specs.Laws.{OthersFillNone, RulesStay, UnfittedByTypeOne, AreEmpty, EmptyByTypeOne, SkippedByTypeOne, FittedByScan, OffFillsNone, OtherTypesFillNone}
-use Rattle.tt_fit.specs.Preparation.{ProgramTables, prepared, fitter_of}
+use Rattle.tt_face.specs.Programs.{ProgramTables}
+use Rattle.tt_fit.specs.Preparation.{prepared, fitter_of}
 use Rattle.tt_fit.specs.Rules.{dropouts_by}
 
 -- the source of the rules

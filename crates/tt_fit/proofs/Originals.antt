@@ -19,7 +19,8 @@ use Rattle.tt_fit.specs.Fitting.{Fitter, size_of, start}
 use Rattle.tt_fit_outline.specs.GlyphZone.{untouched, outline_point, phantom_zone, glyph_zone}
 use Rattle.tt_fit.specs.Laws.{IsScaledBy, OriginalsAreScaled, OthersMeasureInPixels}
 use Rattle.tt_fit_outline.specs.Outline.{Outline, PhantomPoints}
-use Rattle.tt_fit.specs.Preparation.{ProgramTables, prepared, fitter_of}
+use Rattle.tt_face.specs.Programs.{ProgramTables}
+use Rattle.tt_fit.specs.Preparation.{prepared, fitter_of}
 use Rattle.tt_fit.specs.Rules.{rules_of}
 use Rattle.tt_fit_outline.specs.Scaling.{settled, is_coordinate, are_positions, scaled_position, scaled_point, phantom_units, phantom_points, blank, scaled_outline}
 use Rattle.tt_fit_outline.specs.Size.{FontSize, size_by}

@@ -20,7 +20,8 @@ use Rattle.tt_fit_outline.specs.GlyphZone.{GlyphProgram, program_in_glyf, on_gri
 use Rattle.tt_fit_outline.specs.Hinting.{Hinting, off, ready, is_run, run_of}
 use Rattle.tt_fit_outline.specs.Outline.{Outline}
 use Rattle.tt_fit_outline.specs.Parts.{parts_with}
-use Rattle.tt_fit.specs.Preparation.{ProgramTables, font_program, control_value_program, with_definitions, programs_work, with_fallback, within_work, begun_at, left_at, work_at, prepared}
+use Rattle.tt_face.specs.Programs.{ProgramTables}
+use Rattle.tt_fit.specs.Preparation.{font_program, control_value_program, with_definitions, programs_work, with_fallback, within_work, begun_at, left_at, work_at, prepared}
 use Rattle.tt_fit_outline.specs.Scaling.{scaled_outline}
 use Rattle.tt_fit_outline.specs.Work.{IsUnbounded, RefusalLeaves, if_ok, code_work, program_work, hinted_work}
 use Rattle.tt_fit.specs.Work.{joined_work}

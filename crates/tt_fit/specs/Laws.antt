@@ -24,7 +24,8 @@ use Rattle.tt_fit.specs.Fitting.{Fitter, with_hinting, size_of, start, simple_pr
 use Rattle.tt_fit_outline.specs.Hinting.{off, ready}
 use Rattle.tt_fit_outline.specs.GlyphZone.{glyph_zone}
 use Rattle.tt_fit_outline.specs.Outline.{Outline, PhantomPoints}
-use Rattle.tt_fit.specs.Preparation.{ProgramTables, left_at, work_at, fitter_with, fitter_of}
+use Rattle.tt_face.specs.Programs.{ProgramTables}
+use Rattle.tt_fit.specs.Preparation.{left_at, work_at, fitter_with, fitter_of}
 use Rattle.tt_fit.specs.Rules.{falls_back}
 use Rattle.tt_fit_outline.specs.Scaling.{scaled_outline}
 use Rattle.tt_fit_outline.specs.declared.rules.Scaling.TheVariants as scaling

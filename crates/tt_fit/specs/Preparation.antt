@@ -8,11 +8,11 @@ use Rattle.tt_core.specs.Outcomes.{◌>>=◌}
 use Rattle.tt_exec_step.specs.MachineState.{Code}
 use Rattle.tt_exec.specs.Parts.{Parts}
 use Rattle.tt_exec.specs.Work.{Worked, enough, spent, then_work}
+use Rattle.tt_face.specs.Programs.{ProgramTables}
 use Rattle.tt_glyf.specs.Loca.{Glyf}
 use Rattle.tt_metrics.specs.Metrics.{Metrics}
 use Rattle.tt_fit.specs.declared.programs.Fit.{Fit}
 use Rattle.tt_fit.specs.declared.programs.Fit.TheVariants as fit
-use Rattle.tt_fit.specs.declared.programs.Programs as declared
 use Rattle.tt_fit.specs.declared.dropouts.DropoutsBy.TheVariants as by
 use Rattle.tt_fit.specs.Fallback.{Fallback, never, where_refused, everywhere}
 use Rattle.tt_fit.specs.Fitting.{Fitter}
@@ -20,15 +20,6 @@ use Rattle.tt_fit_outline.specs.Hinting.{Hinting, off, ready, run_of}
 use Rattle.tt_fit_outline.specs.Parts.{begun_parts, left_to_glyphs}
 use Rattle.tt_fit.specs.Rules.{rules_of, levels_of, work_of, cvt_read, dropouts_by}
 use Rattle.tt_fit_outline.specs.Work.{if_ok, code_work}
-
--- the control values, the font program and the control value program
-pub record ProgramTables : Type 0 where
-  pub cvt : List ℕ
-  pub fpgm : List ℕ
-  pub prep : List ℕ
-
-abbrev pub program_tables : declared.Programs → ProgramTables
-program_tables p = record { cvt = p.cvt.now; fpgm = p.fpgm.now; prep = p.prep.now }
 
 abbrev pub font_program : List ℕ → Code
 font_program fpgm = record { table = codes "fpgm"; base = 0; bytes = fpgm }

@@ -23,7 +23,8 @@ use Rattle.tt_fit_outline.specs.Joining.{placed, appended, within_point_limit}
 use Rattle.tt_fit.specs.Fallback.{Fallback, never, where_refused, everywhere, is_program_fault}
 use Rattle.tt_fit.specs.Fitting.{Fitter, added, added_work, fitted_outline, unfitted_fault}
 use Rattle.tt_fit_outline.specs.GlyphZone.{on_grid_at}
-use Rattle.tt_fit.specs.Preparation.{ProgramTables, left_by_programs, programs_work, prepared}
+use Rattle.tt_face.specs.Programs.{ProgramTables}
+use Rattle.tt_fit.specs.Preparation.{left_by_programs, programs_work, prepared}
 use Rattle.tt_fit_outline.specs.Parts.{begun_parts}
 use Rattle.tt_fit.specs.Rules.{of_profile}
 use Rattle.tt_fit_outline.specs.Hinting.{off, ready, run_of, by_program}

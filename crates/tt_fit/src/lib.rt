@@ -13,7 +13,8 @@ mod rules;
 
 pub use dropouts::DropoutRules;
 pub use fitting::Fitter;
-pub use programs::{Fit, Programs};
+pub use programs::Fit;
 /// The refusals of an outline, by this crate's name for them.
 pub use tt_core::FontFault as FitFault;
+pub use tt_face::Programs;
 pub use tt_fit_outline::Outline;

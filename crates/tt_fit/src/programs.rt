@@ -1,4 +1,4 @@
-//! The tables of a font's programs, and how they are run.
+//! How a font's programs are run.
 
 /// How outlines are fitted to the grid.
 #[derive(Clone, Copy, Debug, PartialEq, Eq)]
@@ -11,15 +11,4 @@ pub enum Fit {
     Fallback,
     /// As `Fallback`, with the whole instruction set, tolerance of missing things, and deeper nesting of components.
     Best,
-}
-
-/// The tables with a font's programs, each empty where the font has none.
-#[derive(Clone, Copy)]
-pub struct Programs<'a> {
-    /// The control values.
-    pub cvt: &'a [u8],
-    /// The font program.
-    pub fpgm: &'a [u8],
-    /// The control value program.
-    pub prep: &'a [u8],
 }

@@ -4,7 +4,8 @@ ghost use Rattle.std.specs.Prelude.{◌≡◌};
 ghost use Rattle.tt_fit.specs.Rules.{rules_of, levels_of, work_of, cvt_read, dropouts_by};
 
 use crate::dropouts::DropoutsBy;
-use crate::programs::{Fit, Programs};
+use crate::programs::Fit;
+use tt_face::Programs;
 use tt_core::{BEST_LEVEL_LIMIT, LEVEL_LIMIT, WORK_LIMIT};
 use tt_exec::Work;
 use tt_fit_outline::{OutlineRules, Scaling};

@@ -2,7 +2,7 @@
 use Rattle.std.proofs.Common.{◌≡◌, ℕ, ◌*◌, nat_lt, false, List, length, Result, Ok, inl, inr, subst, sym}
 use Rattle.std.specs.Prelude.{not, ◌==◌, IsOkAnd}
 use Rattle.tt_core.specs.Chains.{came-through, passed-on, passed, passed-else, not-both, not-neither, not-below, not-zero}
-use Rattle.tt_core.specs.Directory.{needed_table, HasNo}
+use Rattle.tt_core.specs.Directory.{Directory, needed_table, HasNo}
 use Rattle.tt_core.specs.Faults.{Fault}
 use Rattle.tt_core.specs.Numbers.{unsigned_at}
 use Rattle.tt_core.specs.Outcomes.{◌>>=◌}
@@ -72,48 +72,48 @@ hhea-bytes-whole hhea h was =
       | inr none ↦ not-zero (unsigned_at hhea 34 2) pairs.0 none.1
     ]
 
-head-whole : (file : List ℕ) (h : Head) → head_of file ≡ Ok h → HasNo (IsHeadDefect file)
+head-whole : (d : Directory) (h : Head) → head_of d ≡ Ok h → HasNo (IsHeadDefect d)
 unfolding head_of
-head-whole file h was =
-    let by_table = came-through (needed_table file head_tag) head_in h was in
-    table-good file head_tag by_table.value IsBadHead by_table.first
+head-whole d h was =
+    let by_table = came-through (needed_table d head_tag) head_in h was in
+    table-good d head_tag by_table.value IsBadHead by_table.first
     (head-bytes-whole by_table.value h by_table.rest)
 
-maxp-whole : (file : List ℕ) (m : Maxp) → maxp_of file ≡ Ok m → HasNo (IsMaxpDefect file)
+maxp-whole : (d : Directory) (m : Maxp) → maxp_of d ≡ Ok m → HasNo (IsMaxpDefect d)
 unfolding maxp_of
-maxp-whole file m was =
-    let by_table = came-through (needed_table file maxp_tag) maxp_in m was in
-    table-good file maxp_tag by_table.value IsBadMaxp by_table.first
+maxp-whole d m was =
+    let by_table = came-through (needed_table d maxp_tag) maxp_in m was in
+    table-good d maxp_tag by_table.value IsBadMaxp by_table.first
     (maxp-bytes-whole by_table.value m by_table.rest)
 
-hhea-whole : (file : List ℕ) (h : Hhea) → hhea_of file ≡ Ok h → HasNo (IsHheaDefect file)
+hhea-whole : (d : Directory) (h : Hhea) → hhea_of d ≡ Ok h → HasNo (IsHheaDefect d)
 unfolding hhea_of
-hhea-whole file h was =
-    let by_table = came-through (needed_table file hhea_tag) hhea_in h was in
-    table-good file hhea_tag by_table.value IsBadHhea by_table.first
+hhea-whole d h was =
+    let by_table = came-through (needed_table d hhea_tag) hhea_in h was in
+    table-good d hhea_tag by_table.value IsBadHhea by_table.first
     (hhea-bytes-whole by_table.value h by_table.rest)
 
-hmtx-whole : (file : List ℕ) (n : ℕ) (hmtx : List ℕ) → hmtx_of file n ≡ Ok hmtx
-    → HasNo (IsHmtxDefect file n)
+hmtx-whole : (d : Directory) (n : ℕ) (hmtx : List ℕ) → hmtx_of d n ≡ Ok hmtx
+    → HasNo (IsHmtxDefect d n)
 unfolding hmtx_of
-hmtx-whole file n hmtx was =
-    let by_table = came-through (needed_table file hmtx_tag) (or_short hmtx_tag (4 * n)) hmtx was in
+hmtx-whole d n hmtx was =
+    let by_table = came-through (needed_table d hmtx_tag) (or_short hmtx_tag (4 * n)) hmtx was in
     let long = long-enough hmtx_tag (4 * n) by_table.value hmtx by_table.rest in
-    table-good file hmtx_tag by_table.value (IsShort hmtx_tag (4 * n)) by_table.first
+    table-good d hmtx_tag by_table.value (IsShort hmtx_tag (4 * n)) by_table.first
     (λ fault short. not-below (length by_table.value) (4 * n) long.0 short.0)
 
 pub metrics-whole : MetricsAreWhole
 unfolding metrics_of
-metrics-whole file m was =
-    let by_head = came-through (head_of file) _ m was in
-    let by_maxp = came-through (maxp_of file) _ m by_head.rest in
-    let by_hhea = came-through (hhea_of file) _ m by_maxp.rest in
-    let by_hmtx = came-through (hmtx_of file by_hhea.value.long_metrics) _ m by_hhea.rest in
+metrics-whole d m was =
+    let by_head = came-through (head_of d) _ m was in
+    let by_maxp = came-through (maxp_of d) _ m by_head.rest in
+    let by_hhea = came-through (hhea_of d) _ m by_maxp.rest in
+    let by_hmtx = came-through (hmtx_of d by_hhea.value.long_metrics) _ m by_hhea.rest in
     λ fault defect. elim defect [
-      | inl head ↦ head-whole file by_head.value by_head.first fault head
-      | inr (inl maxp) ↦ maxp-whole file by_maxp.value by_maxp.first fault maxp
-      | inr (inr (inl hhea)) ↦ hhea-whole file by_hhea.value by_hhea.first fault hhea
+      | inl head ↦ head-whole d by_head.value by_head.first fault head
+      | inr (inl maxp) ↦ maxp-whole d by_maxp.value by_maxp.first fault maxp
+      | inr (inr (inl hhea)) ↦ hhea-whole d by_hhea.value by_hhea.first fault hhea
       | inr (inr (inr hmtx)) ↦
-          let P : Result Hhea Fault → Type 0 = λ r. IsOkAnd r (λ h. IsHmtxDefect file h.long_metrics fault) in
-          hmtx-whole file by_hhea.value.long_metrics by_hmtx.value by_hmtx.first fault (subst P by_hhea.first hmtx)
+          let P : Result Hhea Fault → Type 0 = λ r. IsOkAnd r (λ h. IsHmtxDefect d h.long_metrics fault) in
+          hmtx-whole d by_hhea.value.long_metrics by_hmtx.value by_hmtx.first fault (subst P by_hhea.first hmtx)
     ]

@@ -2,7 +2,7 @@
 use Rattle.std.specs.Prelude.{◌≡◌, ℕ, ◌≤◌, Bool, false, not, ◌&&◌, ◌||◌, ◌==◌, nat_le, if◌then◌else◌, List, length, codes, Result, Ok, Err, ◌⊎◌}
 use Rattle.tt_core.specs.Faults.{Fault}
 use Rattle.tt_core.specs.declared.fault.Why.TheVariants as why
-use Rattle.tt_core.specs.Directory.{needed_table, IsDefectIn}
+use Rattle.tt_core.specs.Directory.{Directory, needed_table, IsDefectIn}
 use Rattle.tt_core.specs.Faults.{fault_at}
 use Rattle.tt_core.specs.Numbers.{unsigned_at}
 use Rattle.tt_core.specs.Outcomes.{◌>>=◌}
@@ -46,8 +46,8 @@ head_fields head =
 unfoldable pub head_in : List ℕ → Result Head Fault
 head_in head = or_short head_tag 54 head >>= head_fields
 
-unfoldable pub head_of : List ℕ → Result Head Fault
-head_of file = needed_table file head_tag >>= head_in
+unfoldable pub head_of : Directory → Result Head Fault
+head_of directory = needed_table directory head_tag >>= head_in
 
 -- a defect of head: it is too short, or a field that exists has a refused value
 abbrev pub IsBadHead : List ℕ → Fault → Type 0
@@ -58,5 +58,5 @@ IsBadHead head fault =
     ⊎ ((52 ≤ length head) × (is_loca_format (unsigned_at head 50 2) ≡ false)
     × (fault ≡ fault_at head_tag 50 why.LocaFormat))
 
-abbrev pub IsHeadDefect : List ℕ → Fault → Type 0
-IsHeadDefect file fault = IsDefectIn file head_tag IsBadHead fault
+abbrev pub IsHeadDefect : Directory → Fault → Type 0
+IsHeadDefect directory fault = IsDefectIn directory head_tag IsBadHead fault

@@ -2,7 +2,7 @@
 use Rattle.std.specs.Prelude.{◌≡◌, ℕ, ◌≤◌, ◌==◌, if◌then◌else◌, List, length, codes, Result, Ok, Err, ◌⊎◌}
 use Rattle.tt_core.specs.Faults.{Fault}
 use Rattle.tt_core.specs.declared.fault.Why.TheVariants as why
-use Rattle.tt_core.specs.Directory.{needed_table, IsDefectIn}
+use Rattle.tt_core.specs.Directory.{Directory, needed_table, IsDefectIn}
 use Rattle.tt_core.specs.Faults.{fault_at}
 use Rattle.tt_core.specs.Numbers.{unsigned_at, signed16}
 use Rattle.tt_core.specs.Outcomes.{◌>>=◌}
@@ -23,8 +23,8 @@ hhea_fields hhea =
 unfoldable pub hhea_in : List ℕ → Result Hhea Fault
 hhea_in hhea = or_short hhea_tag 36 hhea >>= hhea_fields
 
-unfoldable pub hhea_of : List ℕ → Result Hhea Fault
-hhea_of file = needed_table file hhea_tag >>= hhea_in
+unfoldable pub hhea_of : Directory → Result Hhea Fault
+hhea_of directory = needed_table directory hhea_tag >>= hhea_in
 
 -- a defect of hhea: it is too short, or counts no long metrics
 abbrev pub IsBadHhea : List ℕ → Fault → Type 0
@@ -32,5 +32,5 @@ IsBadHhea hhea fault =
     IsShort hhea_tag 36 hhea fault
     ⊎ ((36 ≤ length hhea) × (unsigned_at hhea 34 2 ≡ 0) × (fault ≡ fault_at hhea_tag 34 why.MetricsShort))
 
-abbrev pub IsHheaDefect : List ℕ → Fault → Type 0
-IsHheaDefect file fault = IsDefectIn file hhea_tag IsBadHhea fault
+abbrev pub IsHheaDefect : Directory → Fault → Type 0
+IsHheaDefect directory fault = IsDefectIn directory hhea_tag IsBadHhea fault

@@ -3,7 +3,7 @@
 use Rattle.std.specs.Prelude.{◌≡◌, ℕ, ◌≤◌, Bool, false, ◌==◌, if◌then◌else◌, List, length, codes, Result, Ok, Err, ◌⊎◌}
 use Rattle.tt_core.specs.Faults.{Fault}
 use Rattle.tt_core.specs.declared.fault.Why.TheVariants as why
-use Rattle.tt_core.specs.Directory.{needed_table, IsDefectIn}
+use Rattle.tt_core.specs.Directory.{Directory, needed_table, IsDefectIn}
 use Rattle.tt_core.specs.Faults.{fault_at}
 use Rattle.tt_core.specs.Numbers.{unsigned_at}
 use Rattle.tt_core.specs.Outcomes.{◌>>=◌}
@@ -32,8 +32,8 @@ maxp_fields maxp =
 unfoldable pub maxp_in : List ℕ → Result Maxp Fault
 maxp_in maxp = or_short maxp_tag 4 maxp >>= versioned_maxp >>= or_short maxp_tag 32 >>= maxp_fields
 
-unfoldable pub maxp_of : List ℕ → Result Maxp Fault
-maxp_of file = needed_table file maxp_tag >>= maxp_in
+unfoldable pub maxp_of : Directory → Result Maxp Fault
+maxp_of directory = needed_table directory maxp_tag >>= maxp_in
 
 -- a defect of maxp: it is too short, or a field that exists has a refused value
 abbrev pub IsBadMaxp : List ℕ → Fault → Type 0
@@ -43,5 +43,5 @@ IsBadMaxp maxp fault =
     × (fault ≡ fault_at maxp_tag 0 why.MaxpVersion))
     ⊎ ((6 ≤ length maxp) × (unsigned_at maxp 4 2 ≡ 0) × (fault ≡ fault_at maxp_tag 4 why.MetricsShort))
 
-abbrev pub IsMaxpDefect : List ℕ → Fault → Type 0
-IsMaxpDefect file fault = IsDefectIn file maxp_tag IsBadMaxp fault
+abbrev pub IsMaxpDefect : Directory → Fault → Type 0
+IsMaxpDefect directory fault = IsDefectIn directory maxp_tag IsBadMaxp fault

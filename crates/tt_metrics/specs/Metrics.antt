@@ -1,6 +1,7 @@
 -- Apple TrueType Reference Manual, "The 'head' table", "The 'maxp' table", "The 'hhea' table" and "The 'hmtx' table":
 -- the numbers of the four tables together.
 use Rattle.std.specs.Prelude.{◌≡◌, ℕ, ◌*◌, ◌<◌, ◌≤◌, ℤ, List, length, [], ◌∷◌, Result, Ok, IsOkAnd, ◌⊎◌, negsuc, refl}
+use Rattle.tt_core.specs.Directory.{Directory}
 use Rattle.tt_core.specs.Faults.{Fault}
 use Rattle.tt_core.specs.Outcomes.{◌>>=◌}
 use Rattle.tt_metrics.specs.declared.head.Head.{Head}
@@ -19,12 +20,12 @@ pub record Metrics : Type 0 where
   pub hmtx : List ℕ
 
 -- the four tables, read in this order; the first fault is the result
-unfoldable pub metrics_of : List ℕ → Result Metrics Fault
-metrics_of file = do
-  head ← head_of file
-  maxp ← maxp_of file
-  hhea ← hhea_of file
-  hmtx ← hmtx_of file hhea.long_metrics
+unfoldable pub metrics_of : Directory → Result Metrics Fault
+metrics_of directory = do
+  head ← head_of directory
+  maxp ← maxp_of directory
+  hhea ← hhea_of directory
+  hmtx ← hmtx_of directory hhea.long_metrics
   Ok (record { head = head; maxp = maxp; hhea = hhea; hmtx = hmtx })
 
 -- font units in an em
@@ -66,10 +67,10 @@ pub record IsInRange (m : Metrics) : Type 0 where
   pub pairs : 4 * m.hhea.long_metrics ≤ length m.hmtx
 
 -- a defect of one of the four tables
-abbrev pub IsMetricsDefect : List ℕ → Fault → Type 0
-IsMetricsDefect file fault =
-    IsHeadDefect file fault ⊎ IsMaxpDefect file fault ⊎ IsHheaDefect file fault
-    ⊎ IsOkAnd (hhea_of file) (λ hhea. IsHmtxDefect file hhea.long_metrics fault)
+abbrev pub IsMetricsDefect : Directory → Fault → Type 0
+IsMetricsDefect directory fault =
+    IsHeadDefect directory fault ⊎ IsMaxpDefect directory fault ⊎ IsHheaDefect directory fault
+    ⊎ IsOkAnd (hhea_of directory) (λ hhea. IsHmtxDefect directory hhea.long_metrics fault)
 
 -- worked values: one pair and one bearing after it
 last_advance_repeats : advance_in (1 ∷ 2 ∷ 255 ∷ 254 ∷ 255 ∷ 253 ∷ []) 1 5 ≡ 258

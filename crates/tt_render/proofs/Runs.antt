@@ -19,7 +19,7 @@ use Rattle.tt_strike.specs.Refusals.{Refused, as_font, as_job, job, large}
 use Rattle.tt_picture.specs.Unfitted.{unfitted_among}
 use Rattle.tt_strike.specs.Report.{line_report, report_by}
 use Rattle.tt_strike.specs.Strikes.{Strike, job_of}
-use Rattle.tt_strike.specs.Tables.{Face, face_of}
+use Rattle.tt_face.specs.Faces.{Face, face_of}
 use Rattle.tt_render.specs.declared.setting.Product.TheVariants as product
 use Rattle.tt_render.specs.declared.setting.Setting.{Setting}
 use Rattle.tt_render.specs.Lines.{line_drawn, line_limit}

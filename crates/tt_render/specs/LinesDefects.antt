@@ -8,9 +8,10 @@ use Rattle.tt_render.specs.declared.refusal.Refusal.TheVariants as reason
 use Rattle.tt_render.specs.declared.refusal.TextsFault.{TextsFault}
 use Rattle.tt_render.specs.Lines.{lines_of}
 use Rattle.tt_render.specs.Settings.{job_by}
-use Rattle.tt_strike.specs.Defects.{IsFaceDefect, IsLineDefect}
+use Rattle.tt_face.specs.Defects.{IsFaceDefect}
+use Rattle.tt_strike.specs.Defects.{IsLineDefect}
 use Rattle.tt_strike.specs.Strikes.{Strike, job_of}
-use Rattle.tt_strike.specs.Tables.{face_of}
+use Rattle.tt_face.specs.Faces.{face_of}
 
 -- the line of a text with this number, counted from 1
 abbrev pub line_numbered : List ℕ → ℕ → List ℕ

@@ -15,7 +15,7 @@ use Rattle.tt_picture.specs.Pictures.{Picture}
 use Rattle.tt_strike.specs.Refusals.{Refused}
 use Rattle.tt_strike.specs.Report.{report_by}
 use Rattle.tt_strike.specs.Strikes.{Strike, job_of}
-use Rattle.tt_strike.specs.Tables.{Face}
+use Rattle.tt_face.specs.Faces.{Face}
 use Rattle.tt_render.specs.declared.setting.Missing.{Missing}
 use Rattle.tt_render.specs.declared.setting.Missing.TheVariants as how
 use Rattle.tt_render.specs.declared.setting.Product.{Product}

@@ -6,7 +6,7 @@ use Rattle.tt_core.specs.declared.fault.JobFault.{JobFault}
 use Rattle.tt_strike.specs.Defects.{IsFontRefusal}
 use Rattle.tt_strike.specs.Job.{Job, IsTestRefusal}
 use Rattle.tt_strike.specs.Refusals.{needs_font}
-use Rattle.tt_strike.specs.Tables.{face_of}
+use Rattle.tt_face.specs.Faces.{face_of}
 use Rattle.tt_render_run.specs.declared.fault.RunFault.{RunFault}
 use Rattle.tt_render_run.specs.declared.fault.RunFault.TheVariants as run
 

@@ -2,7 +2,8 @@
 use Rattle.std.specs.Prelude.{◌≡◌, ◌≢◌, ℕ, List, Ok}
 use Rattle.tt_core.specs.Directory.{HasNo}
 use Rattle.tt_fit.specs.declared.programs.Fit.TheVariants as fit
-use Rattle.tt_strike.specs.Defects.{IsFaceDefect, IsRunDefect}
+use Rattle.tt_face.specs.Defects.{IsFaceDefect}
+use Rattle.tt_strike.specs.Defects.{IsRunDefect}
 use Rattle.tt_strike.specs.Job.{Job}
 use Rattle.tt_strike.specs.Laws.{IsByEdges}
 use Rattle.tt_render_run.specs.MapLines.{map_outcome}

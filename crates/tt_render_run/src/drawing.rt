@@ -12,7 +12,7 @@ ghost use Rattle.tt_picture.specs.Pictures.{IsReady, picture_bytes};
 ghost use Rattle.tt_strike.specs.Refusals.{refusal};
 ghost use Rattle.tt_picture.specs.Unfitted.{ListsOnce};
 ghost use Rattle.tt_strike.specs.Report.{report_of, report_by};
-ghost use Rattle.tt_strike.specs.Tables.{face_of};
+ghost use Rattle.tt_face.specs.Faces.{face_of};
 
 use std::alloc::Global;
 use tt_strike::{DrawFault, Face, Job, Picture, Strike};

@@ -9,7 +9,7 @@ use Rattle.tt_strike.specs.Laws.{MeasuredAsDrawn}
 use Rattle.tt_strike.specs.Measures.{measured, measured_line}
 use Rattle.tt_strike.specs.Picture.{drawn, laid_out, line_shapes, setting_in}
 use Rattle.tt_strike.specs.Refusals.{Refused, as_font}
-use Rattle.tt_strike.specs.Tables.{Face}
+use Rattle.tt_face.specs.Faces.{Face}
 use Rattle.tt_strike.proofs.Stopped.{line_as_laid}
 
 agrees : {A B C E : Type 0} (x : Result A E) (f : A → Result B E) (g : A → Result C E) (e : E)

@@ -10,7 +10,7 @@ use Rattle.tt_strike.specs.Made.{AreMade}
 use Rattle.tt_strike.specs.Picture.{crossings_tested, points_tested, setting_in, shapes_in}
 use Rattle.tt_picture.specs.Pixels.{Shape}
 use Rattle.tt_strike.specs.Refusals.{as_job}
-use Rattle.tt_strike.specs.Tables.{Face}
+use Rattle.tt_face.specs.Faces.{Face}
 use Rattle.tt_picture.specs.Shapes.{crossings_in}
 use Rattle.tt_strike.specs.Work.{is_bounded, work_left}
 

@@ -7,7 +7,7 @@ use Rattle.tt_strike.specs.Grown.{grown_measured, grown_placement}
 use Rattle.tt_strike.specs.Job.{Job}
 use Rattle.tt_strike.specs.Picture.{laid_out}
 use Rattle.tt_strike.specs.Refusals.{refusal}
-use Rattle.tt_strike.specs.Tables.{Face}
+use Rattle.tt_face.specs.Faces.{Face}
 use Rattle.tt_strike.specs.declared.fault.DrawFault.{DrawFault}
 use Rattle.tt_strike.proofs.GrownStops.{placed_as_laid}
 use Rattle.tt_strike.proofs.Stopped.{stops}

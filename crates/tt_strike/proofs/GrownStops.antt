@@ -12,7 +12,7 @@ use Rattle.tt_picture.specs.Pixels.{Shape}
 use Rattle.tt_strike.specs.Refusals.{Refused, as_font}
 use Rattle.tt_picture.specs.Unfitted.{unfitted_among}
 use Rattle.tt_strike.specs.Report.{line_report}
-use Rattle.tt_strike.specs.Tables.{Face}
+use Rattle.tt_face.specs.Faces.{Face}
 use Rattle.tt_strike.specs.Work.{line_fitter}
 use Rattle.tt_picture.specs.declared.report.Unfitted.{Unfitted}
 

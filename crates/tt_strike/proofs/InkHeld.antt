@@ -33,7 +33,7 @@ use Rattle.tt_picture.specs.Shapes.{contours_of, edges_at, filled_by, glyph_shap
 use Rattle.tt_strike.specs.Picture.{frame_of, line_shapes, setting_in}
 use Rattle.tt_picture.specs.Pixels.{Shape, is_filled, some_black, some_filled}
 use Rattle.tt_strike.specs.Refusals.{as_font}
-use Rattle.tt_strike.specs.Tables.{Face}
+use Rattle.tt_face.specs.Faces.{Face}
 use Rattle.tt_picture.specs.declared.ink_box.InkBox.{InkBox}
 use Rattle.tt_strike.specs.declared.measuring.CharacterMeasure.{CharacterMeasure}
 use Rattle.tt_picture.proofs.Blackened.{or_false, or_or}

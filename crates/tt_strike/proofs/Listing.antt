@@ -16,7 +16,8 @@ use Rattle.tt_strike.specs.Laws.{OthersListNothing}
 use Rattle.tt_strike.specs.Picture.{line_shapes, setting, setting_in}
 use Rattle.tt_strike.specs.Refusals.{Refused, as_font, as_job}
 use Rattle.tt_strike.specs.Report.{line_report, report_by, report_of}
-use Rattle.tt_strike.specs.Tables.{Face, face_of, programs_in, glyphs_in}
+use Rattle.tt_face.specs.Faces.{Face, face_of, glyphs_in}
+use Rattle.tt_strike.specs.Programs.{programs_in}
 use Rattle.tt_strike.specs.Work.{line_fitter, point_work, points_in, started}
 use Rattle.tt_strike.proofs.Whole.{of-font}
 
@@ -60,9 +61,9 @@ line_lists_nothing laws face a line entries was other =
     let by_setting = came-through (as_font (setting_in face a)) _ entries was in
     let s = by_setting.value in
     let by_edges = came-through (line_shapes s a line) _ entries by_setting.rest in
-    let by_tables = came-through (glyphs_in face.directory face.metrics) _ s
+    let by_tables = came-through (glyphs_in face) _ s
     (of-font (setting_in face a) s by_setting.first) in
-    let by_programs = came-through (programs_in face.directory a.fit) _ s by_tables.rest in
+    let by_programs = came-through (programs_in face a.fit) _ s by_tables.rest in
     let all = map (λ g. g.0) line.glyphs in
     let numbers = distinct all in
     let unbounded = laws.others face.metrics by_tables.value by_programs.value a.ppem a.fit s (not_best a.fit other)

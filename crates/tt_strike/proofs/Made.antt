@@ -13,7 +13,7 @@ use Rattle.tt_strike.specs.Made.{AreMade}
 use Rattle.tt_strike.specs.Measures.{line_ink, measure_by, measured_line}
 use Rattle.tt_strike.specs.Picture.{drawn, frame_of}
 use Rattle.tt_strike.specs.Report.{line_report}
-use Rattle.tt_strike.specs.Tables.{Face}
+use Rattle.tt_face.specs.Faces.{Face}
 use Rattle.tt_strike.specs.Work.{line_fitter}
 
 pub drawn_as_made : {cached : Bool} (face : Face) (a : Job) (l : Placement) (gs : List Glyph)

@@ -2,7 +2,8 @@
 use Rattle.std.proofs.Common.{◌≡◌, ◌≢◌, ◌∙◌, ℕ, ◌*◌, Bool, true, false, List, Option, None, Ok, ap, refl}
 use Rattle.tt_fit.specs.Fitting.{Fitter}
 use Rattle.tt_fit.specs.Laws.{OthersAreUnbounded, UnboundedStays}
-use Rattle.tt_fit.specs.Preparation.{ProgramTables, fitter_of}
+use Rattle.tt_face.specs.Programs.{ProgramTables}
+use Rattle.tt_fit.specs.Preparation.{fitter_of}
 use Rattle.tt_fit.specs.declared.programs.Fit.{Fit}
 use Rattle.tt_fit.specs.declared.programs.Fit.TheVariants as fit
 use Rattle.tt_glyf.specs.Loca.{Glyf}
@@ -10,7 +11,7 @@ use Rattle.tt_metrics.specs.Metrics.{Metrics}
 use Rattle.tt_picture.specs.Distinct.{distinct, fitter_after}
 use Rattle.tt_picture.proofs.Unbounded.{uncharged, unchanged}
 use Rattle.tt_strike.specs.Makers.{IsMaker, IsSetting}
-use Rattle.tt_strike.specs.Tables.{Face}
+use Rattle.tt_face.specs.Faces.{Face}
 use Rattle.tt_strike.specs.Work.{crossings_allowed, is_bounded, point_work, points_in, started, work_left}
 use Rattle.tt_strike.specs.declared.maker.Maker.{Maker}
 use Rattle.tt_strike.specs.declared.maker.Maker.TheVariants as maker

@@ -18,7 +18,7 @@ use Rattle.tt_picture.specs.Shapes.{glyph_shape, shape_at, crossings_in}
 use Rattle.tt_strike.specs.Picture.{drawn, frame_of, laid_out, line_shapes, points_tested, setting_in}
 use Rattle.tt_picture.specs.Pixels.{Shape}
 use Rattle.tt_strike.specs.Refusals.{Refused, as_font, as_job, job}
-use Rattle.tt_strike.specs.Tables.{Face}
+use Rattle.tt_face.specs.Faces.{Face}
 use Rattle.tt_strike.specs.Work.{crossings_allowed, line_fitter, work_left, work_tested}
 use Rattle.tt_strike.specs.declared.growing.Sides.{Sides}
 use Rattle.tt_picture.specs.declared.ink_box.InkBox.{InkBox}

@@ -16,7 +16,7 @@ use Rattle.tt_line.specs.Layout.{Placement, placement}
 use Rattle.tt_line.specs.Outcome.{job_fault}
 use Rattle.tt_strike.specs.Job.{Job, tested}
 use Rattle.tt_strike.specs.Defects.{IsTooMuchWork, IsExtentRefusal, IsLineRefusal, draw_font_fault, draw_job_fault}
-use Rattle.tt_strike.specs.Tables.{Face}
+use Rattle.tt_face.specs.Faces.{Face}
 use Rattle.tt_strike.specs.Refusals.{Refused, as_font, as_job, job, refusal}
 use Rattle.tt_strike.specs.Refusals as outcome
 use Rattle.tt_strike.specs.Picture.{crossings_tested, drawn, laid_out, line_outcome, line_shapes, pictured_by, shapes_in, points_tested, setting_in}

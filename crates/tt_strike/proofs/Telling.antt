@@ -1,36 +1,29 @@
 -- The defects reported by the steps of a drawing, joined.
 use Rattle.std.proofs.Common.{◌≡◌, ℕ, List, map, Result, Ok, Err, inl, inr, subst}
-use Rattle.std.specs.Prelude.{IsOkAnd, IfSome, OnOk}
+use Rattle.std.specs.Prelude.{IsOkAnd, IfSome}
 use Rattle.tt_core.specs.Chains.{came-through, was-err}
 use Rattle.tt_core.specs.Faults.{Fault}
-use Rattle.tt_core.specs.Directory.{HasNo, IsDefectIn, IsTableDefect}
+use Rattle.tt_core.specs.Directory.{HasNo}
 use Rattle.tt_core.specs.declared.font_fault.FontFault.{FontFault}
 use Rattle.tt_core.specs.declared.font_fault.FontFault.TheVariants as fault
 use Rattle.tt_fit.specs.Fitting.{Fitter}
 use Rattle.tt_fit.specs.declared.programs.Fit.{Fit}
-use Rattle.tt_fit.specs.Preparation.{ProgramTables, prepared, fitter_of}
+use Rattle.tt_face.specs.Programs.{ProgramTables}
+use Rattle.tt_fit.specs.Preparation.{prepared, fitter_of}
 use Rattle.tt_core.specs.Outcomes.{FontGives, each, font_fault}
-use Rattle.tt_glyf.specs.Bytes.{glyf_tag}
-use Rattle.tt_glyf.specs.Loca.{Glyf, loca_tag, IsLocaDefect}
+use Rattle.tt_glyf.specs.Loca.{Glyf}
 use Rattle.tt_line.specs.Layout.{text_glyphs}
 use Rattle.tt_metrics.specs.Metrics.{Metrics}
 use Rattle.tt_strike.specs.Job.{Job}
-use Rattle.tt_strike.specs.Defects.{IsFaceDefect, IsGlyphTableDefect, IsProgramTableDefect, IsSettingDefect, IsGlyphDefect, IsLineDefect, IsRunDefect}
+use Rattle.tt_face.specs.Defects.{IsFaceDefect, IsGlyphTableDefect}
+use Rattle.tt_strike.specs.Defects.{IsProgramTableDefect, IsSettingDefect, IsGlyphDefect, IsLineDefect, IsRunDefect}
 use Rattle.tt_strike.specs.Work.{line_fitter}
-use Rattle.tt_strike.specs.Tables.{Face, face_of, programs_in}
+use Rattle.tt_face.specs.Faces.{Face, face_of}
+use Rattle.tt_strike.specs.Programs.{programs_in}
 use Rattle.tt_picture.specs.Shapes.{glyph_shape}
 use Rattle.tt_strike.specs.Picture.{setting_in}
 use Rattle.tt_picture.specs.Pixels.{Shape}
 use Rattle.tt_strike.proofs.Drawn.{defect_of_line, no_defect_of_line}
-
-pub no_glyph_table_defect : {X : Type 0} (r : Result X Fault) (directory : List ℕ) (m : Metrics)
-    → OnOk r (HasNo (IsDefectIn directory loca_tag (λ loca. IsLocaDefect loca m)))
-    → HasNo (IsTableDefect directory glyf_tag) → OnOk r (HasNo (IsGlyphTableDefect directory m))
-no_glyph_table_defect (Err e) directory m loca glyf = tt
-no_glyph_table_defect (Ok x) directory m loca glyf = λ fault defect. elim defect [
-  | inl of_loca ↦ loca fault of_loca
-  | inr of_glyf ↦ glyf fault of_glyf
-]
 
 -- a report about a fitter, with the fit of the job
 pub failed_by : {fit : Fit} (m : Metrics) (tables : Glyf) (programs : ProgramTables) (ppem : ℕ) (asked : Fit)
@@ -57,7 +50,7 @@ preparation-fault m tables programs ppem how f fails = elim (was-err (prepared m
 
 -- a fault of preparing the programs is a defect of the fitter
 pub preparing_tells : (face : Face) (a : Job) (tables : Glyf) (programs : ProgramTables)
-    → programs_in face.directory a.fit ≡ Ok programs → (e : FontFault) → FontGives {X = Fitter} (λ f. f) (Err e)
+    → programs_in face a.fit ≡ Ok programs → (e : FontFault) → FontGives {X = Fitter} (λ f. f) (Err e)
     (fitter_of face.metrics tables programs a.ppem a.fit) → IfSome (font_fault e) (IsSettingDefect face a)
 preparing_tells face a tables programs there (fault.Font f) fails =
     inr (inr (rw there (preparation-fault face.metrics tables programs a.ppem a.fit f fails)))
@@ -73,8 +66,8 @@ prepared-without-fault m tables programs ppem how s f made fails =
     absurd (cc)
 
 pub no_setting_defect : (face : Face) (a : Job) (tables : Glyf) (programs : ProgramTables) (s : Fitter)
-    → HasNo (IsGlyphTableDefect face.directory face.metrics) → HasNo (IsProgramTableDefect face.directory a.fit)
-    → programs_in face.directory a.fit ≡ Ok programs → fitter_of face.metrics tables programs a.ppem a.fit ≡ Ok s
+    → HasNo (IsGlyphTableDefect face) → HasNo (IsProgramTableDefect face a.fit)
+    → programs_in face a.fit ≡ Ok programs → fitter_of face.metrics tables programs a.ppem a.fit ≡ Ok s
     → HasNo (IsSettingDefect face a)
 no_setting_defect face a tables programs s good kept there made = λ fault defect. elim defect [
   | inl of_tables ↦ good fault of_tables

@@ -21,7 +21,8 @@ use Rattle.tt_picture.specs.Pictures.{picture}
 use Rattle.tt_picture.specs.Shapes.{shape_at, glyph_shape}
 use Rattle.tt_strike.specs.Picture.{setting, setting_in, frame_of, shapes_in, points_tested, crossings_tested, line_shapes, drawn, pictured, pictured_by}
 use Rattle.tt_picture.specs.Pixels.{Shape, is_black_pixel, some_black}
-use Rattle.tt_strike.specs.Tables.{Face, face_of, glyphs_in, programs_in}
+use Rattle.tt_face.specs.Faces.{Face, face_of, glyphs_in}
+use Rattle.tt_strike.specs.Programs.{programs_in}
 use Rattle.tt_strike.specs.Work.{line_fitter, started}
 use Rattle.tt_picture.proofs.Alike.{rows_alike}
 use Rattle.tt_strike.proofs.Beside.{unfilled_are_edges}
@@ -74,8 +75,8 @@ all_unfilled maker (g ∷ gs) glyphs none was =
 pub others_fill_none : FillLaws → OthersFillNone
 unfolding setting
 others_fill_none laws face a line s glyphs other is fitted =
-    let by_tables = came-through (glyphs_in face.directory face.metrics) _ s is in
-    let by_programs = came-through (programs_in face.directory a.fit) _ s by_tables.rest in
+    let by_tables = came-through (glyphs_in face) _ s is in
+    let by_programs = came-through (programs_in face a.fit) _ s by_tables.rest in
     let all = map (λ g. g.0) line.glyphs in
     let none = laws.none face.metrics by_tables.value by_programs.value a.ppem a.fit s in
     all_unfilled (line_fitter s all) line.glyphs glyphs

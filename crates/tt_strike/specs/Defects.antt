@@ -1,66 +1,49 @@
 -- The defects that a call can meet in a font.
 use Rattle.std.specs.Prelude.{◌≡◌, ◌<◌, List, ℕ, length, map, slice_index, Option, Some, None, Result, Ok, Err, IsOkAnd, IfSome, Bool, true, false, ◌⊎◌}
 use Rattle.tt_core.specs.Faults.{Fault}
-use Rattle.tt_core.specs.Directory.{HasNo, IsDefectIn, PassesEnd, IsTableDefect, IsDirectoryDefect}
+use Rattle.tt_core.specs.Directory.{HasNo}
+use Rattle.tt_face.specs.Defects.{IsFaceDefect, IsGlyphTableDefect, HasProgramPastEnd}
+use Rattle.tt_face.specs.Faces.{Face, face_of}
 use Rattle.tt_fit.specs.declared.programs.Fit.{Fit}
 use Rattle.tt_fit.specs.declared.programs.Fit.TheVariants as fit
 use Rattle.tt_fit.specs.Defects.{IsOutlineDefect}
 use Rattle.tt_fit.specs.Fitting.{Fitter}
 use Rattle.tt_fit.specs.Preparation.{prepared}
-use Rattle.tt_glyf.specs.Bytes.{glyf_tag}
-use Rattle.tt_glyf.specs.Loca.{loca_tag, IsLocaDefect}
 use Rattle.tt_line.specs.Layout.{Placement, placement, text_glyphs, extent_of, IsRefusal}
-use Rattle.tt_cmap.specs.Defects.{IsBadCmap}
-use Rattle.tt_metrics.specs.Metrics.{Metrics, IsMetricsDefect}
 use Rattle.tt_core.specs.declared.fault.JobFault.{JobFault}
 use Rattle.tt_core.specs.declared.fault.JobFault.TheVariants as fault
 use Rattle.tt_core.specs.Limits.{point_work_limit}
 use Rattle.tt_strike.specs.Job.{Job, IsTestRefusal}
 use Rattle.tt_strike.specs.declared.fault.DrawFault.{DrawFault}
 use Rattle.tt_strike.specs.declared.fault.DrawFault.TheVariants as draw
-use Rattle.tt_strike.specs.Tables.{Face, face_of, cmap_tag, cvt_tag, fpgm_tag, prep_tag, programs_in}
+use Rattle.tt_strike.specs.Programs.{programs_in}
 use Rattle.tt_strike.specs.Refusals.{needs_font}
 use Rattle.tt_strike.specs.Picture.{setting_in, shapes_in}
 use Rattle.tt_picture.specs.Shapes.{crossings_in}
 use Rattle.tt_strike.specs.Work.{crossings_allowed, is_bounded, line_fitter, points_in, work_left}
-
--- a defect of the directory, or of a table needed for every text
-abbrev pub IsFaceDefect : List ℕ → Fault → Type 0
-IsFaceDefect file fault = IsDirectoryDefect file fault ⊎ IsMetricsDefect file fault
-    ⊎ IsDefectIn file cmap_tag IsBadCmap fault
-
--- a defect of loca, or of glyf's place in the file
-abbrev pub IsGlyphTableDefect : List ℕ → Metrics → Fault → Type 0
-IsGlyphTableDefect directory m fault = IsDefectIn directory loca_tag (λ loca. IsLocaDefect loca m) fault
-    ⊎ IsTableDefect directory glyf_tag fault
 
 -- a defect of one of some glyphs, or of a component reached from it, by the fitter of each
 abbrev pub IsGlyphDefect : (ℕ → Fitter) → List ℕ → Fault → Type 0
 IsGlyphDefect maker glyphs fault = (i : ℕ) × (i < length glyphs)
     × IsOutlineDefect (maker (slice_index glyphs i)) (slice_index glyphs i) fault
 
--- the control values, the font program or the control value program pass the end of the file
-abbrev pub HasProgramPastEnd : List ℕ → Fault → Type 0
-HasProgramPastEnd directory fault = PassesEnd directory cvt_tag fault ⊎ PassesEnd directory fpgm_tag fault
-    ⊎ PassesEnd directory prep_tag fault
-
 -- a defect of the programs' places; without fitting they are not read
-abbrev pub IsProgramTableDefect : List ℕ → Fit → Fault → Type 0
-IsProgramTableDefect directory fit.None fault = ⊥
-IsProgramTableDefect directory fit.Full fault = HasProgramPastEnd directory fault
-IsProgramTableDefect directory fit.Fallback fault = HasProgramPastEnd directory fault
-IsProgramTableDefect directory fit.Best fault = HasProgramPastEnd directory fault
+abbrev pub IsProgramTableDefect : Face → Fit → Fault → Type 0
+IsProgramTableDefect face fit.None fault = ⊥
+IsProgramTableDefect face fit.Full fault = HasProgramPastEnd face.directory fault
+IsProgramTableDefect face fit.Fallback fault = HasProgramPastEnd face.directory fault
+IsProgramTableDefect face fit.Best fault = HasProgramPastEnd face.directory fault
 
 -- this fault of the font program or the control value program at the size; with fallback and best it is recorded, and
 -- no defect
 abbrev pub IsPreparationDefect : Face → Job → Fault → Type 0
-IsPreparationDefect face a fault = IsOkAnd (programs_in face.directory a.fit)
+IsPreparationDefect face a fault = IsOkAnd (programs_in face a.fit)
     (λ programs. prepared face.metrics programs a.ppem a.fit ≡ Err fault)
 
 -- a defect of the fitter's tables and programs
 abbrev pub IsSettingDefect : Face → Job → Fault → Type 0
-IsSettingDefect face a fault = IsGlyphTableDefect face.directory face.metrics fault
-    ⊎ IsProgramTableDefect face.directory a.fit fault ⊎ IsPreparationDefect face a fault
+IsSettingDefect face a fault = IsGlyphTableDefect face fault
+    ⊎ IsProgramTableDefect face a.fit fault ⊎ IsPreparationDefect face a fault
 
 -- a defect that stops some glyphs from being drawn
 abbrev pub IsLineDefect : Face → Job → List ℕ → Fault → Type 0

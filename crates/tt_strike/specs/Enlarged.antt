@@ -11,7 +11,7 @@ use Rattle.tt_strike.specs.Made.{AreMade}
 use Rattle.tt_strike.specs.Measures.{Measure, measured_line}
 use Rattle.tt_strike.specs.Picture.{drawn}
 use Rattle.tt_strike.specs.Refusals.{Refused}
-use Rattle.tt_strike.specs.Tables.{Face}
+use Rattle.tt_face.specs.Faces.{Face}
 
 -- the picture and the measure of a line that is laid out, once it is enlarged
 abbrev pub drawn_grown : Face → Job → Placement → Result (List ℕ) Refused

@@ -9,7 +9,7 @@ use Rattle.tt_strike.specs.Job.{Job}
 use Rattle.tt_strike.specs.Measures.{Measure, measured_line}
 use Rattle.tt_strike.specs.Picture.{drawn, laid_out}
 use Rattle.tt_strike.specs.Refusals.{Refused, as_job}
-use Rattle.tt_strike.specs.Tables.{Face}
+use Rattle.tt_face.specs.Faces.{Face}
 use Rattle.tt_strike.specs.declared.growing.Sides.{Sides}
 use Rattle.tt_picture.specs.declared.ink_box.InkBox.{InkBox}
 

@@ -13,7 +13,7 @@ use Rattle.tt_strike.specs.Measures.{Measure, measured_line}
 use Rattle.tt_strike.specs.Picture.{frame_of, laid_out, setting_in, shapes_in}
 use Rattle.tt_picture.specs.Pixels.{Shape, is_black_pixel, is_filled, some_black}
 use Rattle.tt_strike.specs.Refusals.{Refused}
-use Rattle.tt_strike.specs.Tables.{Face}
+use Rattle.tt_face.specs.Faces.{Face}
 use Rattle.tt_strike.specs.declared.growing.Sides.{Sides}
 use Rattle.tt_picture.specs.declared.ink_box.InkBox.{InkBox}
 

@@ -16,7 +16,8 @@ use Rattle.tt_scan_edges.specs.Winding.{column_x, row_y}
 use Rattle.tt_scan_dropouts.specs.declared.mark.Rules.{Rules}
 use Rattle.tt_strike.specs.Job.{Job}
 use Rattle.tt_picture.specs.declared.report.Unfitted.{Unfitted}
-use Rattle.tt_strike.specs.Defects.{IsFaceDefect, IsRunDefect}
+use Rattle.tt_face.specs.Defects.{IsFaceDefect}
+use Rattle.tt_strike.specs.Defects.{IsRunDefect}
 use Rattle.tt_strike.specs.Grown.{grown_outcome, with_sides}
 use Rattle.tt_strike.specs.declared.growing.Sides.{Sides}
 use Rattle.tt_strike.specs.Picture as pictures
@@ -27,11 +28,7 @@ use Rattle.tt_strike.specs.Measures.{measured}
 use Rattle.tt_strike.specs.Refusals.{Refused, job}
 use Rattle.tt_picture.specs.Pixels.{Shape, some_black, is_black_pixel}
 use Rattle.tt_strike.specs.Report.{report_of}
-use Rattle.tt_strike.specs.Tables.{Face, face_of}
-
--- a file with the tables of a font has no defect in them
-abbrev pub FacesAreWhole : Type 0
-FacesAreWhole = (file : List ℕ) (face : Face) → face_of file ≡ Ok face → HasNo (IsFaceDefect file)
+use Rattle.tt_face.specs.Faces.{Face, face_of}
 
 -- a font file that gives a job's picture has no defect for the job
 abbrev pub DrawnFontsAreWhole : Type 0

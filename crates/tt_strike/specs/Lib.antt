@@ -3,7 +3,7 @@ pub mod Refusals
 pub mod Costs
 pub mod Defects
 pub mod Enlarged
-pub mod Tables
+pub mod Programs
 pub mod Grown
 pub mod InkLaws
 pub mod Laws

@@ -7,7 +7,7 @@ use Rattle.tt_metrics.specs.Metrics.{glyphs_of}
 use Rattle.tt_strike.specs.Defects.{IsSettingDefect}
 use Rattle.tt_strike.specs.Job.{Job}
 use Rattle.tt_strike.specs.Picture.{setting}
-use Rattle.tt_strike.specs.Tables.{Face}
+use Rattle.tt_face.specs.Faces.{Face}
 use Rattle.tt_strike.specs.Work.{is_bounded}
 use Rattle.tt_strike.specs.declared.maker.Maker.{Maker}
 use Rattle.tt_strike.specs.declared.maker.Maker.TheVariants as maker

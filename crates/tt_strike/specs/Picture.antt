@@ -15,14 +15,15 @@ use Rattle.tt_strike.specs.Refusals.{Refused, as_font, as_job}
 use Rattle.tt_picture.specs.Pictures.{picture}
 use Rattle.tt_picture.specs.Pixels.{Shape}
 use Rattle.tt_picture.specs.Shapes.{crossings_in, glyph_shape}
-use Rattle.tt_strike.specs.Tables.{Face, face_of, glyphs_in, programs_in}
+use Rattle.tt_face.specs.Faces.{Face, face_of, glyphs_in}
+use Rattle.tt_strike.specs.Programs.{programs_in}
 use Rattle.tt_strike.specs.Work.{crossings_allowed, line_fitter, points_in, work_left, work_tested}
 
 -- the fitter: the glyph data, and the state after the font's programs at the size
 unfoldable pub setting : Face → ℕ → Fit → Result Fitter Fault
 setting face ppem how = do
-  tables ← glyphs_in face.directory face.metrics
-  programs ← programs_in face.directory how
+  tables ← glyphs_in face
+  programs ← programs_in face how
   fitter_of face.metrics tables programs ppem how
 
 abbrev pub setting_in : Face → Job → Result Fitter Fault

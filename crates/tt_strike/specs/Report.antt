@@ -9,7 +9,7 @@ use Rattle.tt_picture.specs.Unfitted.{unfitted_among}
 use Rattle.tt_strike.specs.Job.{Job}
 use Rattle.tt_strike.specs.Picture.{setting_in, line_shapes}
 use Rattle.tt_strike.specs.Refusals.{Refused, as_font, as_job}
-use Rattle.tt_strike.specs.Tables.{Face, face_of}
+use Rattle.tt_face.specs.Faces.{Face, face_of}
 use Rattle.tt_strike.specs.Work.{line_fitter}
 
 -- the unfitted glyphs of a drawn line, each once, in order of first appearance

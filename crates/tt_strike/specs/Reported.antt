@@ -7,7 +7,7 @@ use Rattle.tt_picture.specs.Unfitted.{ListsOnce}
 use Rattle.tt_strike.specs.Costs.{line_cost}
 use Rattle.tt_strike.specs.Job.{Job}
 use Rattle.tt_strike.specs.Report.{line_report}
-use Rattle.tt_strike.specs.Tables.{Face}
+use Rattle.tt_face.specs.Faces.{Face}
 use Rattle.tt_strike.specs.Work.{is_bounded}
 
 -- no row is made yet, the report and the cost are those of the line, and a bounded job crosses edges within its limit

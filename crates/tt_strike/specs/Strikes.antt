@@ -6,7 +6,7 @@ use Rattle.tt_fit.specs.Fitting.{Fitter}
 use Rattle.tt_picture.specs.Cached.{AreCachedFor}
 use Rattle.tt_strike.specs.Job.{Job}
 use Rattle.tt_strike.specs.Picture.{setting}
-use Rattle.tt_strike.specs.Tables.{Face}
+use Rattle.tt_face.specs.Faces.{Face}
 use Rattle.tt_strike.specs.Work.{is_bounded}
 use Rattle.tt_strike_kept.specs.Glyph.{KeptGlyph}
 use Rattle.tt_strike_kept.specs.Kept.{Kept}

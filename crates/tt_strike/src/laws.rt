@@ -1,6 +1,7 @@
 //! Laws of the definitions. Each function is a lemma: its clauses hold of all jobs, files and glyphs, and no code runs.
 
-ghost use Rattle.tt_strike.specs.Laws.{DrawnFontsAreWhole, FacesAreWhole, OthersListNothing, MarginMoves, MeasuredAsDrawn, GlyphsByThemselves, UnfilledAreEdges, OthersFillNone, OthersDrawByEdges, GrownRefusals, SidesMove, SidesRefuseNothing};
+ghost use Rattle.tt_face.specs.Laws.{FacesAreWhole};
+ghost use Rattle.tt_strike.specs.Laws.{DrawnFontsAreWhole, OthersListNothing, MarginMoves, MeasuredAsDrawn, GlyphsByThemselves, UnfilledAreEdges, OthersFillNone, OthersDrawByEdges, GrownRefusals, SidesMove, SidesRefuseNothing};
 ghost use Rattle.tt_strike.specs.InkLaws.{GrownAddsFewest, GrownCutsNone, GrownMeasuredAsDrawn, InkIsDrawn, MeasureHoldsInk};
 
 /// Lemma: where the definitions give a font's tables, these have no defect. Where they give a job's picture, the font
@@ -9,10 +10,6 @@ pub fn fonts_are_whole()
     ensures tables { FacesAreWhole }
     ensures picture { DrawnFontsAreWhole }
 {
-    tt_core::laws::tables_are_whole();
-    tt_metrics::laws::metrics_are_whole();
-    tt_cmap::laws::cmaps_are_whole();
-    tt_glyf::laws::locations_are_whole();
     tt_line::laws::glyphs_are_placed();
 }
 

@@ -11,9 +11,9 @@ pub mod laws;
 mod laying;
 mod maker;
 mod measuring;
+mod programs;
 mod sized;
 mod strike;
-mod tables;
 mod tested;
 mod work;
 
@@ -21,5 +21,5 @@ pub use fault::DrawFault;
 pub use job::{Job, test_job, test_text};
 pub use measuring::{CharacterMeasure, Measure};
 pub use strike::Strike;
-pub use tables::Face;
+pub use tt_face::Face;
 pub use tt_picture::{InkBox, Picture, Report, Unfitted};

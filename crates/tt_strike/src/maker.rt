@@ -9,11 +9,12 @@ ghost use Rattle.tt_strike.specs.declared.maker.Maker.TheVariants.{Ready, Refuse
 ghost use Rattle.tt_strike.specs.Picture.{setting};
 ghost use Rattle.tt_strike.specs.Work.{is_bounded};
 
-use crate::tables::{Face, open_glyf, open_programs};
+use crate::programs::open_programs;
 use crate::work::is_bounded;
 use std::alloc::Global;
 use std::mem;
 use tt_core::{Fault, FontFault};
+use tt_face::Face;
 use tt_fit::{Fit, Fitter};
 
 /// The state of a strike's fitter.
@@ -42,7 +43,7 @@ fn open_fitter<'a>(
     ensures defects { TellsDefects font_fault (IsSettingDefect face.now (job_at ppem fit)) result }
 {
     tt_fit::laws::work_unfits();
-    let glyf = open_glyf(face)?;
+    let glyf = face.glyf()?;
     let programs = open_programs(face, fit)?;
     Ok(Fitter::new(alloc, face.metrics(), glyf, programs, ppem, fit)?)
 }

@@ -7,7 +7,7 @@ ghost use Rattle.tt_strike.specs.Job.{size_tested, IsSizeRefusal};
 
 use crate::job::test_size;
 use crate::maker::Maker;
-use crate::tables::Face;
+use tt_face::Face;
 use std::alloc::Global;
 use std::marker::Model;
 use tt_core::JobFault;

@@ -21,7 +21,7 @@ ghost use Rattle.tt_strike_kept.specs.Kept.{bytes_in};
 use crate::fault::DrawFault;
 use crate::measuring::Measure;
 use crate::sized::SizedFace;
-use crate::tables::Face;
+use tt_face::Face;
 use crate::work::is_bounded;
 use std::alloc::{AllocError, Global};
 use std::marker::Model;

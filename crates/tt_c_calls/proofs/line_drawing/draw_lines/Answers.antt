@@ -99,8 +99,8 @@ returns-clause-order c =
 
 pub returns-clause-drawn : goal.returns-clause-drawn
 returns-clause-drawn c room =
-    let font = directory_is c.args.font.now c.in-Ok-face_of.face c.in-Ok-face_of.ensures.exact in
-    let same : c.in-Ok-new.strike.face.directory ≡ c.args.font.now = rw c.in-Ok-new.ensures.exact font in
+    let font = file_is c.args.font.now c.in-Ok-face_of.face c.in-Ok-face_of.ensures.exact in
+    let same : c.in-Ok-new.strike.face.directory.file ≡ c.args.font.now = rw c.in-Ok-new.ensures.exact font in
     let D : List ℕ → Type 0 = λ file. (used : ℕ)
     × DrawsLines c.args.job.now file c.args.texts.now c.args.ends.now c.args.rows.now c.draw_by-answer.new.rows
     c.args.lines.now c.draw_by-answer.new.lines used c.draw_by-answer.result.count
@@ -109,8 +109,8 @@ returns-clause-drawn c room =
 
 pub returns-clause-stands : goal.returns-clause-stands
 returns-clause-stands c =
-    let font = directory_is c.args.font.now c.in-Ok-face_of.face c.in-Ok-face_of.ensures.exact in
-    let same : c.in-Ok-new.strike.face.directory ≡ c.args.font.now = rw c.in-Ok-new.ensures.exact font in
+    let font = file_is c.args.font.now c.in-Ok-face_of.face c.in-Ok-face_of.ensures.exact in
+    let same : c.in-Ok-new.strike.face.directory.file ≡ c.args.font.now = rw c.in-Ok-new.ensures.exact font in
     let D : List ℕ → Type 0 = λ file. LineDefectStands
     (IsLinesDefect c.args.job.now file c.args.texts.now c.args.ends.now c.draw_by-answer.result.count) c.draw_by-answer.result in
     subst D same c.draw_by-answer.ensures.stands

@@ -1,5 +1,5 @@
 use Rattle.tt_c_calls.proofs.line_drawing.draw_lines.Given as goal
 
--- the directory of a font is its file
+-- the file of a strike's face
 abbrev pub ghost-draw_by : goal.ghost-draw_by
-ghost-draw_by a = a.strike.now.face.directory
+ghost-draw_by a = a.strike.now.face.directory.file

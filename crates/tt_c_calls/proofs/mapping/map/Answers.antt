@@ -1,9 +1,9 @@
 use Rattle.std.proofs.Common.{◌≡◌, List, ℕ, chars, map, Result, Ok, Err, refl, ◌∙◌, arith}
 use Rattle.std.specs.Prelude.{IfSome}
 use Rattle.std.proofs.lemmas.List.{length-map}
-use Rattle.tt_strike.specs.Defects.{IsFaceDefect}
+use Rattle.tt_face.specs.Defects.{IsFaceDefect}
 use Rattle.tt_strike.specs.Job.{text_tested}
-use Rattle.tt_strike.specs.Tables.{Face}
+use Rattle.tt_face.specs.Faces.{Face}
 use Rattle.tt_strike.specs.Refusals.{Refused, job}
 use Rattle.tt_core.specs.Outcomes.{◌>>=◌}
 use Rattle.tt_c_calls.specs.declared.fault.CallFault.TheVariants as call

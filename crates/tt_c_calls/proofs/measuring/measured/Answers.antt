@@ -5,7 +5,7 @@ use Rattle.tt_core.specs.Outcomes.{GivesUnless, ◌>>=◌}
 use Rattle.tt_strike.specs.Job.{Job, job_view, tested}
 use Rattle.tt_strike.specs.Measures.{measure_view}
 use Rattle.tt_strike.specs.Report.{report_by}
-use Rattle.tt_strike.specs.Tables.{Face}
+use Rattle.tt_face.specs.Faces.{Face}
 use Rattle.tt_strike.specs.declared.measuring.Measure.{Measure}
 use Rattle.tt_c_calls.specs.declared.asked.CJob.{CJob}
 use Rattle.tt_c_calls.specs.declared.fault.CallFault.{CallFault}

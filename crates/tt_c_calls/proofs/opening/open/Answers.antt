@@ -1,4 +1,4 @@
-use Rattle.tt_strike.specs.Defects.{IsFaceDefect}
+use Rattle.tt_face.specs.Defects.{IsFaceDefect}
 use Rattle.tt_c_calls.proofs.Answered.{stands}
 use Rattle.tt_c_calls.proofs.opening.open.Goals as goal
 

@@ -4,7 +4,7 @@ use Rattle.std.proofs.lemmas.Result.{err_from_is_err_and}
 use Rattle.tt_core.specs.Outcomes.{GivesUnless, ◌>>=◌}
 use Rattle.tt_strike.specs.Job.{Job, job_view, tested}
 use Rattle.tt_picture.specs.Pictures.{IsReady, Picture, picture_bytes}
-use Rattle.tt_strike.specs.Tables.{Face}
+use Rattle.tt_face.specs.Faces.{Face}
 use Rattle.tt_c_calls.specs.declared.asked.CJob.{CJob}
 use Rattle.tt_c_calls.specs.declared.fault.CallFault.{CallFault}
 use Rattle.tt_c_calls.specs.Asked.{IsAskedDefect, asked, grows}

@@ -1,4 +1,5 @@
-use Rattle.tt_fit.specs.Preparation.{program_tables, begun_at}
+use Rattle.tt_face.specs.Programs.{program_tables}
+use Rattle.tt_fit.specs.Preparation.{begun_at}
 use Rattle.tt_fit.proofs.Unbounded.{of-programs, never-spent, prepared-falling}
 use Rattle.tt_fit.proofs.preparation.prepared.Goals as goal
 

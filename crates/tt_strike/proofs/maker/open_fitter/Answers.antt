@@ -1,6 +1,6 @@
 use Rattle.std.proofs.Common.{refl}
 use Rattle.std.proofs.lemmas.Result.{err_from_is_err_and}
-use Rattle.tt_fit.specs.Preparation.{program_tables}
+use Rattle.tt_face.specs.Programs.{program_tables}
 use Rattle.tt_strike.specs.Makers.{job_at}
 use Rattle.tt_strike.specs.Picture.{setting}
 use Rattle.tt_strike.proofs.Setting.{unbounded}

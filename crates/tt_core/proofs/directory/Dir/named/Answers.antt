@@ -6,7 +6,7 @@ use Rattle.tt_core.proofs.directory.Dir.named.Goals as goal
 pub returns-clause-exact : goal.returns-clause-exact
 returns-clause-exact c =
     let file = c.self.inside.file.now in
-    let place = 12 + 16 * c.in-Some.i in
+    let place = c.self.inside.at + 12 + 16 * c.in-Some.i in
     let offset = number_told file (place + 8) 4 c.unwrap-offset.result
     (sym c.u32_at.ensures ∙ c.unwrap-offset.ensures) in
     let size = number_told file (place + 12) 4 c.unwrap-length.result

@@ -1,8 +1,7 @@
-use Rattle.std.proofs.Common.{◌≡◌, refl, rules}
+use Rattle.std.proofs.Common.{refl}
 use Rattle.tt_core.specs.Faults.{why_number}
-use Rattle.tt_core.specs.declared.fault.Why.TheVariants as why
 use Rattle.tt_core.proofs.fault.Why.number.Goals as goal
 
-pub returns : goal.returns
+pub returns-in-MaxpVersion : goal.returns-in-MaxpVersion
 unfolding why_number
-returns c = let first : c.args.self ≡ why.BadVersion = search rules in rw (first, why_number) refl
+returns-in-MaxpVersion c = rw (c.in-MaxpVersion.is, why_number) refl

@@ -1,23 +1,20 @@
--- The tables of a font, in the order of reading (profile): those needed for every text, the glyphs' data, and the
+-- The tables of a face, in the order of reading (profile): those needed for every text, the glyphs' data, and the
 -- programs. Apple TrueType Reference Manual, "The Font Directory", "The 'cvt ' table", "The 'fpgm' table", "The 'prep'
--- table"; OpenType, "cmap", "loca", "glyf". A font may lack each of the last three; without fitting none of these is
--- read.
+-- table"; OpenType, "cmap", "loca", "glyf". A font may lack each of the last three.
 use Rattle.std.specs.Prelude.{◌≡◌, refl, ℕ, List, [], ◌∷◌, take, codes, Option, Some, None, Result, Ok, Err}
 use Rattle.tt_cmap.specs.Lookup.{Cmap, cmap_of}
 use Rattle.tt_core.specs.declared.fault.Why.TheVariants as why
-use Rattle.tt_core.specs.Directory.{directory_of, table_of, needed_table}
+use Rattle.tt_core.specs.Directory.{Directory, directory_of, file_directory, read_directory, table_of, needed_table}
 use Rattle.tt_core.specs.Faults.{Fault, file_fault}
 use Rattle.tt_core.specs.Outcomes.{◌>>=◌}
-use Rattle.tt_fit.specs.declared.programs.Fit.{Fit}
-use Rattle.tt_fit.specs.declared.programs.Fit.TheVariants as fit
-use Rattle.tt_fit.specs.Preparation.{ProgramTables}
 use Rattle.tt_glyf.specs.Bytes.{glyf_tag}
 use Rattle.tt_glyf.specs.Loca.{Glyf, loca_tag, loca_of, with_glyf}
 use Rattle.tt_metrics.specs.Metrics.{Metrics, metrics_of, glyphs_of}
+use Rattle.tt_face.specs.Programs.{ProgramTables}
 
 -- the directory, the metrics and the character map of a font
 pub record Face : Type 0 where
-  pub directory : List ℕ
+  pub directory : Directory
   pub metrics : Metrics
   pub cmap : Cmap
 
@@ -25,7 +22,7 @@ pub record Face : Type 0 where
 abbrev pub cmap_tag : List ℕ
 cmap_tag = codes "cmap"
 
--- these tables of a file, or the file's first fault in the order of reading
+-- the face of a file with one font, or the file's first fault in the order of reading
 unfoldable pub face_of : List ℕ → Result Face Fault
 face_of file = do
   directory ← directory_of file
@@ -35,11 +32,11 @@ face_of file = do
   Ok (record { directory = directory; metrics = metrics; cmap = cmap })
 
 -- loca and glyf; a short loca is reported before a missing glyf
-unfoldable pub glyphs_in : List ℕ → Metrics → Result Glyf Fault
-glyphs_in directory m = do
-  loca ← needed_table directory loca_tag
-  locations ← loca_of loca m
-  glyf ← needed_table directory glyf_tag
+unfoldable pub glyphs_in : Face → Result Glyf Fault
+glyphs_in face = do
+  loca ← needed_table face.directory loca_tag
+  locations ← loca_of loca face.metrics
+  glyf ← needed_table face.directory glyf_tag
   Ok (with_glyf locations glyf)
 
 -- the tags of the control values, of the font program and of the control value program
@@ -57,26 +54,16 @@ or_empty None = []
 or_empty (Some table) = table
 
 -- the bytes of a table, none where the table is missing
-unfoldable pub optional_table : List ℕ → List ℕ → Result (List ℕ) Fault
+unfoldable pub optional_table : Directory → List ℕ → Result (List ℕ) Fault
 optional_table directory tag = table_of directory tag >>= λ table. Ok (or_empty table)
 
-abbrev pub no_programs : ProgramTables
-no_programs = record { cvt = []; fpgm = []; prep = [] }
-
--- the three tables
-unfoldable pub all_programs_in : List ℕ → Result ProgramTables Fault
-all_programs_in directory = do
+-- the three tables of the programs
+unfoldable pub programs_of : Directory → Result ProgramTables Fault
+programs_of directory = do
   cvt ← optional_table directory cvt_tag
   fpgm ← optional_table directory fpgm_tag
   prep ← optional_table directory prep_tag
   Ok (record { cvt = cvt; fpgm = fpgm; prep = prep })
-
--- the programs that fit outlines
-unfoldable pub programs_in : List ℕ → Fit → Result ProgramTables Fault
-programs_in directory fit.None = Ok no_programs
-programs_in directory fit.Full = all_programs_in directory
-programs_in directory fit.Fallback = all_programs_in directory
-programs_in directory fit.Best = all_programs_in directory
 
 -- worked values: a file with two bytes of control values, and no program
 abbrev two_bytes : List ℕ
@@ -84,14 +71,20 @@ two_bytes =
     0 ∷ 1 ∷ 0 ∷ 0 ∷ 0 ∷ 1 ∷ 0 ∷ 0 ∷ 0 ∷ 0 ∷ 0 ∷ 0
     ∷ 99 ∷ 118 ∷ 116 ∷ 32 ∷ 0 ∷ 0 ∷ 0 ∷ 0 ∷ 0 ∷ 0 ∷ 0 ∷ 28 ∷ 0 ∷ 0 ∷ 0 ∷ 2 ∷ 7 ∷ 8 ∷ []
 
-control_values_alone : programs_in two_bytes fit.Full ≡ Ok (record { cvt = 7 ∷ 8 ∷ []; fpgm = []; prep = [] })
-unfolding programs_in all_programs_in optional_table table_of
+control_values_alone : programs_of (file_directory two_bytes)
+    ≡ Ok (record { cvt = 7 ∷ 8 ∷ []; fpgm = []; prep = [] })
+unfolding programs_of optional_table table_of
 control_values_alone = refl
 
-control_values_past_the_end : programs_in (take 29 two_bytes) fit.Full ≡ Err (file_fault 12 why.TableRange)
-unfolding programs_in all_programs_in optional_table table_of
+control_values_past_the_end : programs_of (file_directory (take 29 two_bytes)) ≡ Err (file_fault 12 why.TableRange)
+unfolding programs_of optional_table table_of
 control_values_past_the_end = refl
 
-not_looked_at : programs_in (take 29 two_bytes) fit.None ≡ Ok no_programs
-unfolding programs_in
-not_looked_at = refl
+control_values_elsewhere : programs_of (record { file = 1 ∷ two_bytes; at = 1 })
+    ≡ Ok (record { cvt = 2 ∷ 7 ∷ []; fpgm = []; prep = [] })
+unfolding programs_of optional_table table_of
+control_values_elsewhere = refl
+
+a_short_file : face_of (take 11 two_bytes) ≡ Err (file_fault 11 why.DirShort)
+unfolding face_of read_directory
+a_short_file = refl

@@ -1,0 +1,20 @@
+-- Lemmas about the definitions: a result has no defect. OpenType, "Font Tables".
+use Rattle.std.specs.Prelude.{◌≡◌, ℕ, List, Ok}
+use Rattle.tt_core.specs.Directory.{Directory, HasNo}
+use Rattle.tt_glyf.specs.Loca.{Glyf}
+use Rattle.tt_face.specs.Defects.{IsFaceDefect, IsGlyphTableDefect, HasProgramPastEnd}
+use Rattle.tt_face.specs.Faces.{Face, face_of, glyphs_in, programs_of}
+use Rattle.tt_face.specs.Programs.{ProgramTables}
+
+-- a font file that gives a face has no defect in the tables needed for every text
+abbrev pub FacesAreWhole : Type 0
+FacesAreWhole = (file : List ℕ) (face : Face) → face_of file ≡ Ok face → HasNo (IsFaceDefect file)
+
+-- a face that gives loca and glyf has no defect in them
+abbrev pub GlyphTablesAreWhole : Type 0
+GlyphTablesAreWhole = (face : Face) (t : Glyf) → glyphs_in face ≡ Ok t → HasNo (IsGlyphTableDefect face)
+
+-- a directory that gives the programs has none of them past the end of the file
+abbrev pub ProgramsAreWhole : Type 0
+ProgramsAreWhole = (d : Directory) (programs : ProgramTables) → programs_of d ≡ Ok programs
+    → HasNo (HasProgramPastEnd d)

@@ -1,0 +1,4 @@
+pub mod Defects
+pub mod Faces
+pub mod Laws
+pub mod Programs

@@ -1,0 +1,113 @@
+//! The tables of a face: those needed for every text, the glyphs' data, and the programs.
+
+ghost use Rattle.std.specs.Prelude.{◌≡◌, ◌≤◌, length, IsTrue, IfOk, IfErr, OnOk};
+ghost use Rattle.tt_core.specs.Directory.{file_directory, HasNo, PassesEnd};
+ghost use Rattle.tt_core.specs.Limits.{font_limit};
+ghost use Rattle.tt_core.specs.Outcomes.{Gives};
+ghost use Rattle.tt_metrics.specs.Metrics.{loca_format_of, glyphs_of};
+ghost use Rattle.tt_face.specs.Defects.{IsFaceDefect, IsGlyphTableDefect, HasProgramPastEnd};
+ghost use Rattle.tt_face.specs.Faces.{face_of, glyphs_in, optional_table, programs_of};
+ghost use Rattle.tt_face.specs.Programs.{program_tables};
+
+use crate::programs::Programs;
+use std::marker::Model;
+use tt_cmap::Cmap;
+use tt_core::{Dir, Fault};
+use tt_glyf::{Glyf, Loca};
+use tt_metrics::Metrics;
+
+/// The directory, the metrics and the character map of a font. They borrow the font's bytes.
+#[derive(Drop)]
+pub struct Face<'a> {
+    dir: Dir<'a>,
+    metrics: Metrics<'a>,
+    cmap: Cmap<'a>,
+}
+
+impl<'a> Model for Face<'a> {
+    ghost use Rattle.std.specs.Prelude.{◌≡◌};
+    ghost use Rattle.tt_metrics.specs.Metrics.{glyphs_of};
+    ghost use Rattle.tt_face.specs.Faces as faces;
+
+    ghost Value = { faces.Face };
+
+    ghost view = { λ f. record { directory = f.dir; metrics = f.metrics; cmap = f.cmap } };
+
+    ghost invariant = { λ f. f.cmap.glyphs ≡ glyphs_of f.metrics };
+}
+
+impl<'a> Face<'a> {
+    /// Opens the tables of a font file of at most 67,108,864 bytes. The glyphs' data and the programs are read when a
+    /// line is drawn. Errors: those of the directory, of head, maxp, hhea and hmtx, and of cmap.
+    #[tactic(auto, unfolding(crate::specs::Faces::face_of))]
+    pub fn open(file: &'a [u8]) -> Result<Face<'a>, Fault>
+        requires { length file.now ≤ font_limit }
+        ensures exact { Gives (λ f. f) result (face_of file.now) }
+        ensures whole { IfOk result (λ f. f.directory ≡ file_directory file.now) }
+        ensures sound { OnOk result (HasNo (IsFaceDefect file.now)) }
+        ensures fault { IfErr result (IsFaceDefect file.now) }
+    {
+        let dir = Dir::open(file)?;
+        let metrics = Metrics::open(&dir)?;
+        let cmap = Cmap::open(dir.needed(*b"cmap")?, metrics.glyphs())?;
+        Ok(Face { dir, metrics, cmap })
+    }
+
+    /// The units per em, the ascent and the descent, the glyph count and the advances.
+    pub fn metrics(&self) -> &Metrics<'a>
+        ensures { result.now ≡ self.now.metrics }
+    {
+        &self.metrics
+    }
+
+    /// The map from characters to glyphs.
+    pub fn cmap(&self) -> &Cmap<'a>
+        ensures exact { result.now ≡ self.now.cmap }
+        ensures glyphs { result.now.glyphs ≡ glyphs_of self.now.metrics }
+    {
+        &self.cmap
+    }
+
+    /// loca and glyf. Errors: NoTable, TableRange, LocaShort.
+    #[tactic(auto, unfolding(crate::specs::Faces::glyphs_in))]
+    pub fn glyf(&self) -> Result<Glyf<'a>, Fault>
+        ensures exact { Gives (λ t. t) result (glyphs_in self.now) }
+        ensures format { IfOk result (λ t. t.format ≡ loca_format_of self.now.metrics) }
+        ensures glyphs { IfOk result (λ t. t.glyphs ≡ glyphs_of self.now.metrics) }
+        ensures sound { OnOk result (HasNo (IsGlyphTableDefect self.now)) }
+        ensures fault { IfErr result (IsGlyphTableDefect self.now) }
+    {
+        // A short loca is reported before a missing glyf.
+        let loca = Loca::open(self.dir.needed(*b"loca")?, &self.metrics)?;
+        Ok(Glyf::of(loca, self.dir.needed(*b"glyf")?))
+    }
+
+    /// The control values and the two programs. Error: TableRange, of the first table in this order.
+    #[tactic(auto, unfolding(crate::specs::Faces::programs_of))]
+    pub fn programs(&self) -> Result<Programs<'a>, Fault>
+        ensures exact { Gives program_tables result (programs_of self.now.directory) }
+        ensures fpgm { IfOk result (λ p. length p.fpgm.now ≤ font_limit) }
+        ensures prep { IfOk result (λ p. length p.prep.now ≤ font_limit) }
+        ensures sound { OnOk result (HasNo (HasProgramPastEnd self.now.directory)) }
+        ensures fault { IfErr result (HasProgramPastEnd self.now.directory) }
+    {
+        let cvt = self.optional(*b"cvt ")?;
+        let fpgm = self.optional(*b"fpgm")?;
+        let prep = self.optional(*b"prep")?;
+        Ok(Programs { cvt, fpgm, prep })
+    }
+
+    /// The bytes of a table, none where the font lacks it. Error: TableRange.
+    #[tactic(auto, unfolding(crate::specs::Faces::optional_table))]
+    fn optional(&self, tag: [u8; 4]) -> Result<&'a [u8], Fault>
+        ensures exact { Gives (λ table. table.now) result (optional_table self.now.directory tag) }
+        ensures size { IfOk result (λ table. length table.now ≤ font_limit) }
+        ensures sound { OnOk result (HasNo (PassesEnd self.now.directory tag)) }
+        ensures fault { IfErr result (PassesEnd self.now.directory tag) }
+    {
+        match self.dir.table(tag)? {
+            Some(table) => Ok(table),
+            None => Ok(&[]),
+        }
+    }
+}

@@ -1,0 +1,9 @@
+//! A face of a font: its directory, and the tables that the directory names. Each of these tables is opened here.
+#![tactic(auto)]
+
+mod face;
+pub mod laws;
+mod programs;
+
+pub use face::Face;
+pub use programs::Programs;
