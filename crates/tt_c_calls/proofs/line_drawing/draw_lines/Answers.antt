@@ -1,7 +1,7 @@
 use Rattle.std.proofs.Common.{◌≡◌, ℕ, List, ap, arith, inl, length, subst}
 use Rattle.tt_c_calls.specs.Lines.{DrawsLines, EndsWith, IsLinesDefect, LineDefectStands, lines_wanted}
 use Rattle.tt_c_calls.specs.declared.fault.CallFault.TheVariants as call
-use Rattle.tt_c_calls.proofs.LinesStopped.{directory_is, face_refused, fit_defect, fit_refused, job_first, job_refused, lines_defect_told, lines_opened, lines_refused, of_setting, opened_first, refused_first, room_names_none, strike_for, strike_refused}
+use Rattle.tt_c_calls.proofs.LinesStopped.{file_is, face_refused, fit_defect, fit_refused, job_first, job_refused, lines_defect_told, lines_opened, lines_refused, of_setting, opened_first, refused_first, room_names_none, strike_for, strike_refused}
 use Rattle.tt_c_calls.specs.Refusals.{call_font_fault}
 use Rattle.tt_c_calls.proofs.StrikeLines.{if_some_more}
 use Rattle.tt_c_calls.proofs.line_drawing.draw_lines.Goals as goal
