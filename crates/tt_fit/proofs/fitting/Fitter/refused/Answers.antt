@@ -9,7 +9,7 @@ returns-in-Font-clause-exact c =
     let pays = rw c.in-Font.is at c.requires.work in
     let fails = rw c.in-Font.is at c.requires.fault in
     let some = unfitted-where-refused s c.args.g f c.requires.fallback (c.args.work.now.left, pays) fails
-        c.is_program_fault.ensures in
+    c.is_program_fault.ensures in
     rw (made-unfitted s c.args.g f some) c.made.ensures.exact
 
 pub returns-in-Font-clause-left : goal.returns-in-Font-clause-left
