@@ -77,7 +77,7 @@ outline-returns-in_ok-scaled-in-Simple-clause-exact t c =
     let begun : start s d.x_min c.args.g ≡ Ok o = simp to_z-of_z at c.in_ok-start-in-Simple.ensures.exact in
     let scaled = outline_of c.in_ok-scaled-in-Simple.scaled in
     let scales : scaled_outline (size_of s) (glyph_offset s.tables c.args.g) d.points.items d.ends.items o ≡ Ok scaled =
-        ? in
+    ? in
     let units = simp to_z-of_z at (rw c.deref.ensures.value at c.units-units.ensures) in
     rw (simple_made s c.args.levels c.args.g glyph o scaled read begun scales)
     (rw (c.program-program.ensures, units) at c.hinted.ensures.exact)
