@@ -46,8 +46,8 @@ returns-clause-exact c =
     let few : c.lacking-sides.result.top ≤ height_limit = omega (arith, c.in_ok-height.ensures.exact, c.in_ok-height.ensures.within) in
     let top : to_z w32 c.lacking-sides.result.top ≡ pos c.lacking-sides.result.top = to_z_pos w32 c.lacking-sides.result.top (omega arith) in
     let risen = c.args.line.risen in
-    let high = c.args.line.high in
-    let fits : SFits w32 (c.args.line.rise +ℤ pos c.lacking-sides.result.top) = omega (arith, ints, risen, high.1) in
+    let rows = c.args.line.high.1 in
+    let fits : SFits w32 (c.args.line.rise +ℤ pos c.lacking-sides.result.top) = omega (arith, ints, risen, rows) in
     rw (c.in-Some.is, glyphs, top) (simp to_z-of_z (rw sides
     (grown_is line b c.in_ok-width.width c.in_ok-height.height wide c.in_ok-width.ensures.within high c.in_ok-height.ensures.within)))
 

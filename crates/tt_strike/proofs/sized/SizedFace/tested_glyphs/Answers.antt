@@ -221,8 +221,8 @@ returns-clause-defects c =
     rw (← c.self.view_is) (no_line_defect c.self.inside.face.now (job_with (record { face = c.self.inside.face.now; ppem = c.self.inside.ppem; fit = c.self.inside.fit }) c.args.margin) s gs made.0 c.in_ok-fitter.ensures.exact
     c.in_ok-fitter.ensures.defects made.1)
 
-pub invariant_of-self-5 : goal.invariant_of-self-5
-invariant_of-self-5 c =
+pub invariant_of-self-2 : goal.invariant_of-self-2
+invariant_of-self-2 c =
     let s = c.in_ok-fitter.fitter in
     let setting = c.in_ok-fitter.ensures.setting in
     let gs = map (λ g. g.0) c.args.line.now.glyphs.items in

@@ -84,8 +84,8 @@ returns-clause-few c =
 pub returns-clause-defects : goal.returns-clause-defects
 returns-clause-defects c = rw (← c.self.view_is, ← c.in_ok-line.ensures.glyphs) c.draw_grown.ensures.defects
 
-pub invariant_of-self-2 : goal.invariant_of-self-2
-invariant_of-self-2 c =
+pub invariant_of-self : goal.invariant_of-self
+invariant_of-self c =
     let before = c.self.invariant in
     (
       rw c.draw_grown.ensures.same c.draw_grown.ensures.cache,

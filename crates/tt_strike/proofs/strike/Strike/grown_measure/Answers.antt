@@ -47,5 +47,5 @@ returns-clause-defects c = rw (← c.self.view_is, ← c.in_ok-line.ensures.glyp
 pub returns-clause-same : goal.returns-clause-same
 returns-clause-same c = rw c.measure_grown.ensures.same c.self.view_is
 
-pub invariant_of-self-2 : goal.invariant_of-self-2
-invariant_of-self-2 c = (rw c.measure_grown.ensures.same c.self.invariant.0, c.self.invariant.1)
+pub invariant_of-self : goal.invariant_of-self
+invariant_of-self c = (rw c.measure_grown.ensures.same c.self.invariant.0, c.self.invariant.1)

@@ -89,8 +89,8 @@ returns-clause-job c =
     rw (← c.self.view_is) (work_refuses c.draw_line.result (job_by z c.args.text.now c.args.margin) z.face
     (placement_of c.in_ok-line.line) c.in_ok-line.ensures.laid c.draw_line.ensures.work)
 
-pub invariant_of-self-2 : goal.invariant_of-self-2
-invariant_of-self-2 c =
+pub invariant_of-self : goal.invariant_of-self
+invariant_of-self c =
     let before = c.self.invariant in
     (
       rw c.draw_line.ensures.same c.draw_line.ensures.cache,

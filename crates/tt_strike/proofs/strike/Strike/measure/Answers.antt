@@ -58,5 +58,5 @@ returns-clause-job c =
 pub returns-clause-same : goal.returns-clause-same
 returns-clause-same c = rw c.measure_line.ensures.same c.self.view_is
 
-pub invariant_of-self-2 : goal.invariant_of-self-2
-invariant_of-self-2 c = (rw c.measure_line.ensures.same c.self.invariant.0, c.self.invariant.1)
+pub invariant_of-self : goal.invariant_of-self
+invariant_of-self c = (rw c.measure_line.ensures.same c.self.invariant.0, c.self.invariant.1)
