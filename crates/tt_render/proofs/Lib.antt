@@ -7,3 +7,5 @@ mod DefectLines
 mod OneText
 mod TextsReports
 mod Runs
+mod JobRefusals
+mod Plain
