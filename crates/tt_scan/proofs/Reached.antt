@@ -50,7 +50,7 @@ left_same es m y xs ys most l same are =
       room = omega (arith, long, one, other, room);
     }
 
--- the memory is for as many edges as before
+-- Lemma: the memory is for as many edges as before
 pub left_whole : (es : List Edge) (m : ℕ) (y : ℤ) (most : ℕ) (l : Left) → IsLeftBy es m y most l → IsLeftBy es m y l.most l
 left_whole es m y most l are =
     let whole = are.whole in
