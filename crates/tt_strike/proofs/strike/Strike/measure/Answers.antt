@@ -29,8 +29,11 @@ pub returns-clause-exact : goal.returns-clause-exact
 unfolding measured
 returns-clause-exact c =
     let z = c.self.inside.sized in
-    rw (← c.self.view_is, c.in_ok-line.ensures.exact,
-    measured_textless z c.args.text.now c.args.margin (placement_of c.in_ok-line.line)) c.measure_line.ensures.exact
+    rw (
+      ← c.self.view_is,
+      c.in_ok-line.ensures.exact,
+      measured_textless z c.args.text.now c.args.margin (placement_of c.in_ok-line.line),
+    ) c.measure_line.ensures.exact
 
 pub returns-clause-report : goal.returns-clause-report
 unfolding report_by
