@@ -5,7 +5,6 @@ use Rattle.tt_cmap.specs.Lacking.{lacking_of}
 use Rattle.tt_cmap.specs.Lookup.{Cmap}
 use Rattle.tt_core.specs.declared.fault.JobFault.{JobFault}
 use Rattle.tt_core.specs.Chains.{came-through, passed-on}
-use Rattle.tt_core.specs.Faults.{Fault}
 use Rattle.tt_core.specs.Limits.{font_limit}
 use Rattle.tt_core.specs.Outcomes.{◌>>=◌}
 use Rattle.tt_picture.specs.declared.report.Unfitted.{Unfitted}
@@ -27,10 +26,10 @@ use Rattle.tt_render.specs.declared.setting.Missing.{Missing}
 use Rattle.tt_render.specs.declared.setting.Missing.TheVariants as how
 use Rattle.tt_render.specs.declared.setting.Setting.{Setting}
 use Rattle.tt_render.specs.Printing.{Errors}
-use Rattle.tt_render.specs.RunLaws.{GivesAsRun, IsPlain, PlainCallsAreRuns, PlainReportsAreRuns, PlainTextsAreRuns, bytes_of, drawn_text}
+use Rattle.tt_render.specs.RunLaws.{GivesAsRun, IsPlain, PlainCallsAreRuns, PlainReportsAreRuns, PlainTextsAreRuns, bytes_of}
 use Rattle.tt_render.specs.Settings.{job_by, strike_by, strike_of}
 use Rattle.tt_render.specs.Texts.{TextAnswer, TextRefusal, answer_of, as_text, missing, missing_tested, not_utf8, refused, text_answer}
-use Rattle.tt_render.specs.TextsOutcome.{FontTextGives, IsSilent, StopsAtFont, StopsFor, TextFails, TextGives, reader_in, told}
+use Rattle.tt_render.specs.TextsOutcome.{IsSilent, StopsAtFont, StopsFor, TextFails, TextGives, reader_in, told}
 use Rattle.tt_render.proofs.DefectLines.{if_some_more}
 use Rattle.tt_render.proofs.JobRefusals.{run_late, tested_early}
 use Rattle.tt_render.proofs.Runs.{texts_are_runs}
@@ -136,8 +135,7 @@ plain_reports_are_runs a text file t plain drawn =
     let by_tests = came-through (as_text (as_job (tested (job_by a text)))) _ t drawn in
     let by_font = came-through (as_text (strike_of a file)) _ t by_tests.rest in
     let s = by_font.value in
-    let parts = parts_of a s text t by_font.rest in
-    (
+    let parts = parts_of a s text t by_font.rest in (
       report_of_file a text file s (text_alone (strike_of a file) s by_font.first) ∙ parts.0,
       λ asked. none_told s.face.cmap a.missing text t.lacking asked parts.1,
     )
