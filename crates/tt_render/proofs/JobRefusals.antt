@@ -1,5 +1,5 @@
 -- Which refusals of a job need the font.
-use Rattle.std.proofs.Common.{◌≡◌, ℕ, ◌&&◌, ◌||◌, nat_lt, if◌then◌else◌, Bool, true, false, List, length, map, Result, Ok, Err, inl, inr, ap, refl}
+use Rattle.std.proofs.Common.{◌≡◌, ℕ, ◌&&◌, ◌||◌, nat_lt, if◌then◌else◌, Bool, true, false, List, length, Result, Ok, Err, inl, inr, ap, refl}
 use Rattle.tt_cmap.specs.Lookup.{Cmap}
 use Rattle.tt_core.specs.declared.fault.JobFault.{JobFault}
 use Rattle.tt_core.specs.declared.fault.JobFault.TheVariants as fault

@@ -1,4 +1,5 @@
 pub mod DrawnLines
+mod StoppedLines
 pub mod HeldLines
 mod Printed
 mod FontLines

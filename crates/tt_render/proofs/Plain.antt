@@ -5,7 +5,6 @@ use Rattle.tt_cmap.specs.Lacking.{lacking_of}
 use Rattle.tt_cmap.specs.Lookup.{Cmap}
 use Rattle.tt_core.specs.declared.fault.JobFault.{JobFault}
 use Rattle.tt_core.specs.Chains.{came-through, passed-on}
-use Rattle.tt_core.specs.Faults.{Fault}
 use Rattle.tt_core.specs.Limits.{font_limit}
 use Rattle.tt_core.specs.Outcomes.{◌>>=◌}
 use Rattle.tt_picture.specs.declared.report.Unfitted.{Unfitted}
@@ -27,13 +26,13 @@ use Rattle.tt_render.specs.declared.setting.Missing.{Missing}
 use Rattle.tt_render.specs.declared.setting.Missing.TheVariants as how
 use Rattle.tt_render.specs.declared.setting.Setting.{Setting}
 use Rattle.tt_render.specs.Printing.{Errors}
-use Rattle.tt_render.specs.RunLaws.{GivesAsRun, IsPlain, PlainCallsAreRuns, PlainReportsAreRuns, PlainTextsAreRuns, bytes_of, drawn_text}
+use Rattle.tt_render.specs.RunLaws.{GivesAsRun, IsPlain, PlainCallsAreRuns, PlainReportsAreRuns, PlainTextsAreRuns, bytes_of}
 use Rattle.tt_render.specs.Settings.{job_by, strike_by, strike_of}
 use Rattle.tt_render.specs.Texts.{TextAnswer, TextRefusal, answer_of, as_text, missing, missing_tested, not_utf8, refused, text_answer}
-use Rattle.tt_render.specs.TextsOutcome.{FontTextGives, IsSilent, StopsAtFont, StopsFor, TextFails, TextGives, reader_in, told}
+use Rattle.tt_render.specs.TextsOutcome.{IsSilent, StopsAtFont, StopsFor, TextFails, TextGives, reader_in, told}
 use Rattle.tt_render.proofs.DefectLines.{if_some_more}
 use Rattle.tt_render.proofs.JobRefusals.{run_late, tested_early}
-use Rattle.tt_render.proofs.Runs.{texts_are_runs}
+use Rattle.tt_render.proofs.Runs.{ok_same, texts_are_runs}
 
 -- no text is refused for a character without a glyph
 none_refused : (m : Cmap) (asked : Missing) (text : List ℕ) → asked ≢ how.Refuse
@@ -50,10 +49,10 @@ none_told m how.Draw text cs is tells = cc
 none_told m how.Tell text cs is tells = absurd cc
 none_told m how.Refuse text cs is tells = absurd cc
 
-drawn_unless : (ran : Result (List ℕ) Refused) (lacking : Result (List ℕ) TextRefusal) (cs : List ℕ)
+kept_as_run : (ran : Result (List ℕ) Refused) (lacking : Result (List ℕ) TextRefusal) (cs : List ℕ)
     → lacking ≡ Ok cs → (as_text ran >>= λ bytes. lacking >>= λ cs. Ok bytes) ≡ as_text ran
-drawn_unless (Ok bytes) lacking cs is = rw is refl
-drawn_unless (Err why) lacking cs is = refl
+kept_as_run (Ok bytes) lacking cs is = rw is refl
+kept_as_run (Err why) lacking cs is = refl
 
 -- the answer by an opened font
 of_strike : (a : Setting) (text file : List ℕ) (s : Strike) → IsPlain a → strike_of a file ≡ Ok s
@@ -61,7 +60,7 @@ of_strike : (a : Setting) (text file : List ℕ) (s : Strike) → IsPlain a → 
 of_strike a text file s plain opened =
     let none = none_refused s.face.cmap a.missing text plain.drawn in
     texts_are_runs a file text s plain.picture plain.whole opened
-    ∙ drawn_unless (run_outcome (job_by a text) file) (missing_tested s.face.cmap a.missing text) none.0 none.1
+    ∙ kept_as_run (run_outcome (job_by a text) file) (missing_tested s.face.cmap a.missing text) none.0 none.1
 
 -- a font that is refused is refused alike
 alike : (big : Bool) (r : Result Face Refused) (f : Face → Strike) (g : Face → Result (List ℕ) Refused) (why : Refused)
@@ -113,9 +112,6 @@ parts_of : (a : Setting) (s : Strike) (text : List ℕ) (t : TextAnswer) → tex
 unfolding text_answer
 parts_of a s text t is = with_parts _ _ _ _ t is
 
-same_value : {X E : Type 0} (x y : X) → ◌≡◌ {A = Result X E} (Ok x) (Ok y) → x ≡ y
-same_value x y is = cc
-
 report_of_file : (a : Setting) (text file : List ℕ) (s : Strike) → strike_of a file ≡ Ok s
     → report_of (job_by a text) file ≡ report_by s.face (job_of s text a.margin)
 unfolding strike_of report_of
@@ -123,7 +119,7 @@ report_of_file a text file s opened =
     let fits = passed-on (nat_lt font_limit (length file)) large
     (as_font (face_of file) >>= λ face. Ok (strike_by a face)) s opened in
     let by_face = came-through (as_font (face_of file)) _ s fits.1 in
-    let same = same_value (strike_by a by_face.value) s by_face.rest in
+    let same = ok_same (strike_by a by_face.value) s by_face.rest in
     ap (λ (r : Result Face Refused). r >>= λ face. report_by face (job_by a text)) by_face.first
     ∙ ap (λ (t : Strike). report_by t.face (job_of t text a.margin)) same
 
@@ -136,8 +132,7 @@ plain_reports_are_runs a text file t plain drawn =
     let by_tests = came-through (as_text (as_job (tested (job_by a text)))) _ t drawn in
     let by_font = came-through (as_text (strike_of a file)) _ t by_tests.rest in
     let s = by_font.value in
-    let parts = parts_of a s text t by_font.rest in
-    (
+    let parts = parts_of a s text t by_font.rest in (
       report_of_file a text file s (text_alone (strike_of a file) s by_font.first) ∙ parts.0,
       λ asked. none_told s.face.cmap a.missing text t.lacking asked parts.1,
     )

@@ -3,6 +3,7 @@ use Rattle.std.specs.Prelude.{◌≡◌, ◌≢◌, refl, ℕ, ◌≤◌, true, 
 use Rattle.std.specs.Str.{is_utf8}
 use Rattle.tt_core.specs.declared.fault.JobFault.TheVariants as fault
 use Rattle.tt_core.specs.Outcomes.{◌>>=◌}
+use Rattle.tt_fit.specs.declared.programs.Fit.{Fit}
 use Rattle.tt_strike.specs.Job.{tested}
 use Rattle.tt_strike.specs.Refusals.{as_job, job}
 use Rattle.tt_strike.specs.Report.{report_of}
@@ -16,7 +17,7 @@ use Rattle.tt_render.specs.Printing.{Errors}
 use Rattle.tt_render_run.specs.declared.fault.RunFault.{RunFault}
 use Rattle.tt_render_run.specs.Outcome.{CallFails, CallGives, Traffic, Wanted}
 use Rattle.tt_render_run.specs.Run.{run_outcome, run_wanted}
-use Rattle.tt_render.specs.Settings.{job_by, strike_of}
+use Rattle.tt_render.specs.Settings.{job_by, plain_setting, strike_of}
 use Rattle.tt_render.specs.Texts.{TextAnswer, TextRefusal, as_text, missing, missing_tested, refused, text_answer}
 use Rattle.tt_render.specs.TextsOutcome.{FontTextGives}
 use Rattle.tt_render.specs.Views.{before_lines, refusal_of_run}
@@ -55,7 +56,7 @@ drawn_text a text file =
     as_text (strike_of a file) >>= λ s.
     text_answer a s text
 
--- the picture of a text as it is, with glyph 0 for each character without a glyph
+-- a setting for the picture of a text as it is, with glyph 0 for each character without a glyph
 pub record IsPlain (a : Setting) : Type 0 where
   pub picture : a.product ≡ product.Picture
   pub whole : a.grow ≡ false
@@ -81,7 +82,10 @@ abbrev pub PlainCallsAreRuns : Type 0
 PlainCallsAreRuns = (a : Setting) (text : List ℕ) (r : Result (Unit {0}) TextsFault) (t : Traffic) (e : Errors)
     → IsPlain a → FontTextGives a text r t e → GivesAsRun r t (run_wanted (job_by a text))
 
--- worked values: the bytes of a drawn text, and of a refused one
+-- worked values: the setting of `run`; the bytes of a drawn text, and of a refused one
+run_is_plain : (ppem margin : ℕ) (f : Fit) → IsPlain (plain_setting ppem margin f)
+run_is_plain ppem margin f = record { picture = refl; whole = refl; drawn = λ is. cc }
+
 drawn_bytes : bytes_of (Ok (record { bytes = codes "P4"; unfitted = []; lacking = codes "A"; cost = 12 })) ≡ Ok (codes "P4")
 drawn_bytes = refl
 
