@@ -189,15 +189,18 @@ def asked(known, asking):
 def tables_by_name(sources):
     """Returns for each name the places that refuse with it, with the tables whose tags the place's file names.
 
-    Where it names none, the tags are those of its crate. Where names and messages are made is no such place.
+    Where it names none, the tags are those of its crate and of this crate's inner ones. Where names and messages are made
+    is no such place.
     """
     tags, of_crates, found = {}, {}, {}
     for path, text in sources.items():
         tags[path] = set(re.findall(r"\bconst \w+: \[u8; 4\] = \*b\"(.{4})\"", text))
         of_crates.setdefault(path.split("/")[1], set()).update(tags[path])
     for path, text in sources.items():
+        crate = path.split("/")[1]
+        around = set().union(*(of_crates[it] for it in of_crates if it == crate or it.startswith(f"{crate}_")))
         for name in re.findall(r"\bWhy::(\w+)", text) if path not in (ENUMS, MESSAGES) else ():
-            found.setdefault(name, {})[path] = tags[path] or of_crates[path.split("/")[1]]
+            found.setdefault(name, {})[path] = tags[path] or around
     return found
 
 

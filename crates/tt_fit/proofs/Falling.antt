@@ -10,7 +10,7 @@ use Rattle.tt_fit.specs.declared.dropouts.DropoutsBy.TheVariants.{Nobody}
 use Rattle.tt_fit.specs.declared.programs.Fit.{Fit}
 use Rattle.tt_fit.specs.declared.programs.Fit.TheVariants as fit
 use Rattle.tt_fit.specs.Fallback.{Fallback, never, where_refused, everywhere, is_program_fault}
-use Rattle.tt_fit.specs.Fitting.{Fitter, with_hinting, outline_at, outline_work, glyph_work, unfitted_fault, fitted_outline, left_after, after_glyph}
+use Rattle.tt_fit.specs.Fitting.{Fitter, with_hinting, outline_at, outline_work, glyph_work, unfitted_fault, fitted_outline, left_after_glyph, after_glyph}
 use Rattle.tt_fit.specs.Laws.{HasWork, ProgramsHaveWork, FallbackFits, FallbackScales, FallbackRefuses, FallbackUnfitsAll, OthersNeverFallBack, FullIsByPrograms, NoneIsWithoutPrograms, UnboundedIsEnough, OthersAreUnbounded, UnboundedStays, SpentWorkUnfits, SpentProgramsUnfitAll}
 use Rattle.tt_fit_outline.specs.Outline.{Outline}
 use Rattle.tt_face.specs.Programs.{ProgramTables}
@@ -315,7 +315,7 @@ others-are-unbounded m tables programs ppem how s other is =
     )
 
 stays : (fallback : Fallback) (worked : Worked) (left : Option ℕ) → worked ≡ enough left
-    → left_after fallback worked left ≡ left
+    → left_after_glyph fallback worked left ≡ left
 stays never worked left is = refl
 stays where_refused worked left is = rw is refl
 stays (everywhere f) worked left is = refl

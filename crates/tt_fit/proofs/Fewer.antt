@@ -16,7 +16,7 @@ use Rattle.tt_metrics.specs.Metrics.{Metrics}
 use Rattle.tt_fit.specs.declared.dropouts.DropoutsBy.{DropoutsBy}
 use Rattle.tt_fit.specs.declared.programs.Fit.TheVariants as fit
 use Rattle.tt_fit.specs.Fallback.{Fallback, never, where_refused, everywhere}
-use Rattle.tt_fit.specs.Fitting.{Fitter, with_hinting, size_of, start, composite_program, simple_program, joined, added, simple_work, composite_work, made_work, work_by, added_work, outline_work, glyph_work, left_after, after_glyph}
+use Rattle.tt_fit.specs.Fitting.{Fitter, with_hinting, size_of, start, composite_program, simple_program, joined, added, simple_work, composite_work, made_work, work_by, added_work, outline_work, glyph_work, left_after_glyph, after_glyph}
 use Rattle.tt_fit_outline.specs.GlyphZone.{GlyphProgram, program_in_glyf, on_grid_at}
 use Rattle.tt_fit_outline.specs.Hinting.{Hinting, off, ready, is_run, run_of}
 use Rattle.tt_fit.specs.Laws.{Fewer, WorkFalls, BestIsBounded}
@@ -114,7 +114,7 @@ of-programs parts programs left after e =
 -- after a glyph
 left-by : (fallback : Fallback) (worked : Worked) (left : ℕ)
     → ((after : Option ℕ) → worked ≡ enough after → Fewer left after)
-    → Fewer left (left_after fallback worked (Some left))
+    → Fewer left (left_after_glyph fallback worked (Some left))
 left-by never worked left each = (left, refl, omega arith)
 left-by where_refused (enough after) left each = each after refl
 left-by where_refused (spent f) left each = (0, refl, omega arith)

@@ -1,7 +1,9 @@
 -- One record more, one level of components, and a simple glyph.
 use Rattle.std.proofs.Common.{◌≡◌, ℕ, zero, suc, ◌+◌, ◌-◌, ◌<◌, List, length, drop, get_or, Option, IfSome, Result, Ok, Err, refl, arith, add-one, drop-cons}
 use Rattle.tt_core.specs.Faults.{Fault}
-use Rattle.tt_core.specs.Outcomes.{◌>>=◌}
+use Rattle.tt_core.specs.Outcomes.{◌>>=◌, font_fault}
+use Rattle.tt_core.specs.declared.font_fault.FontFault.{FontFault}
+use Rattle.tt_core.specs.declared.font_fault.FontFault.TheVariants as font
 use Rattle.tt_exec.specs.Work.{Worked, enough}
 use Rattle.tt_glyf.specs.declared.raw.Record.{Record}
 use Rattle.tt_fit_outline.specs.declared.unmade.Unmade.{Unmade}
@@ -14,7 +16,7 @@ use Rattle.tt_fit_outline.specs.Hinting.{hinted}
 use Rattle.tt_fit.specs.Fitting.{Fitter, size_of, start, simple_program, composite_program, joined, added, outline_at, added_work, outline_work}
 use Rattle.tt_fit_outline.specs.Outline.{Outline}
 use Rattle.tt_fit_outline.specs.Scaling.{scaled_outline}
-use Rattle.tt_fit_outline.specs.Work.{RefusalLeaves, unmade_fault}
+use Rattle.tt_fit_outline.specs.Work.{RefusalLeaves, unmade_fault, unmade_of}
 use Rattle.tt_fit.specs.Work.{joined_work}
 
 pub one_record_more : (add : Record → Outline → Result Outline Fault) (rs : List Record) (i : ℕ) (d : Record)
@@ -42,6 +44,21 @@ pub simple_made : (s : Fitter) (levels g : ℕ) (d : SimpleGlyph) (o scaled : Ou
     → scaled_outline (size_of s) (glyph_offset s.tables g) d.points d.ends o ≡ Ok scaled
     → outline_at s levels g ≡ hinted s.hinting (simple_program s g d) scaled
 simple_made s levels g d o scaled read begun scales = rw (read, begun, scales) refl
+
+-- its points are not scaled: the fault is the answer, and no program runs
+pub simple_refused : (s : Fitter) (levels g : ℕ) (d : SimpleGlyph) (o : Outline) (fault : FontFault)
+    → glyph_data_of s.tables g ≡ Ok (simple d) → start s d.x_min g ≡ Ok o
+    → IfSome (font_fault fault) (λ f. scaled_outline (size_of s) (glyph_offset s.tables g) d.points d.ends o ≡ Err f)
+    → IfSome (unmade_fault (unmade_of fault)) (λ f. outline_at s levels g ≡ Err f)
+simple_refused s levels g d o (font.Font f) read begun fails = rw (read, begun, fails) refl
+simple_refused s levels g d o font.Memory read begun fails = tt
+
+pub simple_unpaid : (s : Fitter) (levels g : ℕ) (d : SimpleGlyph) (o : Outline) (fault : FontFault) (left : Option ℕ)
+    → glyph_data_of s.tables g ≡ Ok (simple d) → start s d.x_min g ≡ Ok o
+    → IfSome (font_fault fault) (λ f. scaled_outline (size_of s) (glyph_offset s.tables g) d.points d.ends o ≡ Err f)
+    → RefusalLeaves (unmade_of fault) left (outline_work s levels g left)
+simple_unpaid s levels g d o (font.Font f) left read begun fails = rw (read, begun, fails) refl
+simple_unpaid s levels g d o font.Memory left read begun fails = tt
 
 pub composite_made : (s : Fitter) (levels g : ℕ) (d : CompositeGlyph) (o so_far : Outline)
     → glyph_data_of s.tables g ≡ Ok (composite d) → start s d.x_min g ≡ Ok o

@@ -151,14 +151,14 @@ unfitted_fault s g =
     unfitted_by s.fallback (glyph_work s g s.work) (outline_at (with_hinting s s.hinting) s.levels g)
 
 -- the job's remaining work after a glyph; unchanged where a refused program is the answer, or none is run
-abbrev pub left_after : Fallback → Worked → Option ℕ → Option ℕ
-left_after never worked left = left
-left_after where_refused worked left = left_in worked
-left_after (everywhere fault) worked left = left
+abbrev pub left_after_glyph : Fallback → Worked → Option ℕ → Option ℕ
+left_after_glyph never worked left = left
+left_after_glyph where_refused worked left = left_in worked
+left_after_glyph (everywhere fault) worked left = left
 
 -- the fitter for the glyphs after a character's glyph
 unfoldable pub after_glyph : Fitter → ℕ → Fitter
-after_glyph s g = record s { work = left_after s.fallback (glyph_work s g s.work) s.work }
+after_glyph s g = record s { work = left_after_glyph s.fallback (glyph_work s g s.work) s.work }
 
 -- a job's remaining work after a cost; none remains where there was less
 abbrev pub work_less : ℕ → Option ℕ → Option ℕ

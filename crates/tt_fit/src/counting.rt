@@ -1,7 +1,7 @@
 //! Counts the points of a glyph before the glyph is made (profile).
 
 ghost use Rattle.std.specs.Prelude.{◌≡◌, ◌<◌, All, IfOk};
-ghost use Rattle.tt_fit.specs.Counting.{points_asked, points_of_all, counted, left_of};
+ghost use Rattle.tt_fit.specs.Counting.{points_asked, points_of_all, left_of};
 
 use std::alloc::{AllocError, Global};
 use tt_glyf::{Glyf, Record};
@@ -9,28 +9,11 @@ use tt_glyf::{Glyf, Record};
 /// The ends of a glyph's advance, its ascent and its descent.
 const PHANTOM_COUNT: u64 = 4;
 
-/// The count of a glyph's points, with this many levels of components; None where there are more than `most`. At most
-/// `most` are counted. Error: out of memory.
-pub(crate) fn points_of(
-    alloc: Global,
-    glyf: &Glyf,
-    levels: u32,
-    g: u16,
-    most: u64,
-) -> Result<Option<u64>, AllocError>
-    requires { g < glyf.now.glyphs }
-    ensures { IfOk result (λ n. n ≡ counted most (points_asked glyf.now levels g)) }
-{
-    match left_after(alloc, glyf, levels, g, most)? {
-        Some(left) => Ok(Some(most - left)),
-        None => Ok(None),
-    }
-}
-
-/// What remains of `most` after one glyph's points; None where it has more.
+/// What remains of `most` after the points of one glyph, with this many levels of components; None where it has more.
+/// Error: out of memory.
 #[cycle(counting)]
 #[tactic(auto, using(crate::proofs::Counts::own_alone, crate::proofs::Counts::with_components))]
-fn left_after(
+pub(crate) fn left_after(
     alloc: Global,
     glyf: &Glyf,
     levels: u32,

@@ -1,10 +1,10 @@
 //! The rules for filling a glyph's dropouts.
 
 ghost use Rattle.std.specs.Prelude.{◌≡◌};
-ghost use Rattle.tt_fit.specs.Dropouts.{type_rules, scan_rules, program_rules, rules_by};
+ghost use Rattle.tt_fit.specs.Dropouts.{type_rules, scan_rules, program_rules};
 ghost use Rattle.tt_fit_outline.specs.Views.{hinting_view};
 
-use tt_fit_outline::{Hinting, Outline};
+use tt_fit_outline::Hinting;
 use tt_state::ScanControl;
 
 /// Which dropouts are filled, and with which pixel.
@@ -44,10 +44,7 @@ fn type_rules(scan_type: u16) -> Option<DropoutRules>
             stubs: true,
             smart: false,
         }),
-        1 => Some(DropoutRules {
-            stubs: false,
-            smart: false,
-        }),
+        1 => Some(DropoutRules::DEFAULT),
         4 => Some(DropoutRules {
             stubs: true,
             smart: true,
@@ -72,7 +69,7 @@ fn scan_rules(scan: ScanControl) -> Option<DropoutRules>
 
 /// The rules by the scan control of the glyph's last program, or, where none was run, by that of the control value
 /// program. Scan type 1 where no glyph program may run.
-fn program_rules(hinting: &Hinting, scan: Option<ScanControl>) -> Option<DropoutRules>
+pub(crate) fn program_rules(hinting: &Hinting, scan: Option<ScanControl>) -> Option<DropoutRules>
     ensures { result ≡ program_rules (hinting_view hinting.now) scan }
 {
     match hinting {
@@ -86,19 +83,5 @@ fn program_rules(hinting: &Hinting, scan: Option<ScanControl>) -> Option<Dropout
                 None => scan_rules(parts.state.scan),
             }
         }
-    }
-}
-
-/// The rules for an outline, by their source.
-pub(crate) fn rules_by(by: DropoutsBy, hinting: &Hinting, outline: &Outline) -> Option<DropoutRules>
-    ensures { result ≡ rules_by by (hinting_view hinting.now) outline.now.unfitted outline.now.scan }
-{
-    match by {
-        DropoutsBy::Nobody => None,
-        DropoutsBy::Default => Some(DropoutRules::DEFAULT),
-        DropoutsBy::Programs => match outline.unfitted {
-            Some(_) => Some(DropoutRules::DEFAULT),
-            None => program_rules(hinting, outline.scan),
-        },
     }
 }

@@ -17,8 +17,8 @@ ghost use Rattle.tt_fit_outline.specs.Hinting.{IsHinting};
 ghost use Rattle.tt_fit_outline.specs.Views.{hinting_view};
 ghost use Rattle.tt_fit_outline.specs.Work.{RefusalLeaves, unmade_fault};
 
-use crate::counting::points_of;
-use crate::dropouts::{DropoutRules, DropoutsBy, rules_by};
+use crate::counting::left_after;
+use crate::dropouts::{DropoutRules, DropoutsBy, program_rules};
 use crate::fallback::{Fallback, is_program_fault};
 use crate::preparation::{Preparation, prepared};
 use crate::programs::Fit;
@@ -116,7 +116,10 @@ impl<'a> Fitter<'a> {
         requires { g < self.now.tables.glyphs }
         ensures exact { IfOk result (λ n. n ≡ counted most (points_asked self.now.tables self.now.levels g)) }
     {
-        points_of(self.alloc, &self.glyf, self.levels, g, most)
+        match left_after(self.alloc, &self.glyf, self.levels, g, most)? {
+            Some(left) => Ok(Some(most - left)),
+            None => Ok(None),
+        }
     }
 
     /// The outline of a glyph, in 26.6 pixels. Errors: those of reading a glyph, CoordRange, ComponentDepth,
@@ -184,7 +187,14 @@ impl<'a> Fitter<'a> {
     pub fn dropouts(&self, outline: &Outline) -> Option<DropoutRules>
         ensures { result ≡ dropouts_of self.now outline.now.unfitted (outline_of outline.now) }
     {
-        rules_by(self.dropouts, &self.hinting, outline)
+        match self.dropouts {
+            DropoutsBy::Nobody => None,
+            DropoutsBy::Default => Some(DropoutRules::DEFAULT),
+            DropoutsBy::Programs => match outline.unfitted {
+                Some(_) => Some(DropoutRules::DEFAULT),
+                None => program_rules(&self.hinting, outline.scan),
+            },
+        }
     }
 
     /// The outline of a glyph within the job's remaining work, with the fault of a program that makes it unfitted.

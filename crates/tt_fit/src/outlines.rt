@@ -17,8 +17,8 @@ use crate::fitting::Fitter;
 use tt_core::{Fault, Why};
 use tt_exec::Work;
 use tt_fit_outline::{
-    FontSize, GlyphMachine, GlyphProgram, Hinting, Outline, Scaling, Units, Unmade, blank, glyf_fault, hinted,
-    phantom_points, phantom_units, placed, scaled_outline,
+    FontSize, GlyphMachine, GlyphProgram, Hinting, Outline, Scaling, Units, Unmade, blank,
+    glyf_fault, hinted, phantom_points, phantom_units, placed, scaled_outline,
 };
 use tt_glyf::{Raw, RawPoint, Record};
 

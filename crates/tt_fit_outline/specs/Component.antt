@@ -12,7 +12,7 @@ use Rattle.tt_fit_outline.specs.Scaling.{to_grid, glyf_fault, settled}
 use Rattle.tt_fit_outline.specs.declared.rules.Scaling.TheVariants as scaling
 use Rattle.tt_fit_outline.specs.Size.{FontSize, scale, size_by}
 
--- a point's position under a component's transform, in 2.14
+-- a point under a component's transform, whose factors are in 2.14
 abbrev pub transformed : Record → ℤ × ℤ × Bool → ℤ × ℤ
 transformed r p = (rounded_quotient (r.xx *ℤ p.0 +ℤ r.xy *ℤ p.1) one, rounded_quotient (r.yx *ℤ p.0 +ℤ r.yy *ℤ p.1) one)
 

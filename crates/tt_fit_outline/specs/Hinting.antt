@@ -5,7 +5,7 @@ use Rattle.std.specs.Prelude.{⊤, Bool, ◌&&◌, ◌==◌, not, if◌then◌el
 use Rattle.tt_core.specs.Faults.{Fault}
 use Rattle.tt_core.specs.Outcomes.{◌>>=◌}
 use Rattle.tt_exec.specs.Machines.{fresh, parts_in, run_from}
-use Rattle.tt_exec_step.specs.MachineState.{Code, MachineState}
+use Rattle.tt_exec_step.specs.MachineState.{Code}
 use Rattle.tt_exec.specs.Parts.{Parts}
 use Rattle.tt_exec_step.specs.Runs.{run_outcome}
 use Rattle.tt_fit_outline.specs.GlyphZone.{GlyphProgram, program_in_glyf, on_grid_at, left_outline}
@@ -22,10 +22,6 @@ pub data Hinting : Type 0 where
 abbrev pub IsHinting : Hinting → Type 0
 IsHinting off = ⊤
 IsHinting (ready parts) = AreParts parts
-
--- a machine's parts after a program, or its fault
-abbrev pub run_on : Code → MachineState → Result Parts Fault
-run_on program m = run_outcome (run_from program m) >>= λ left. Ok (parts_in left)
 
 -- a machine's parts after a program that begins with these parts, or its fault
 unfoldable pub run_of : Code → Parts → Result Parts Fault

@@ -1,8 +1,8 @@
 -- The definitions' views of the code's values.
 use Rattle.std.specs.Prelude.{Bool, ℤ, pos, option_map}
 use Rattle.tt_exec.specs.Parts.{parts_of}
-use Rattle.tt_fit_outline.specs.declared.position.Position as position
-use Rattle.tt_fit_outline.specs.declared.position.Shift as shift
+use Rattle.tt_fit_outline.specs.declared.shift.ComponentPoint as component_point
+use Rattle.tt_fit_outline.specs.declared.shift.Shift as shift
 use Rattle.tt_fit_outline.specs.declared.hinting.Hinting as hinting
 use Rattle.tt_fit_outline.specs.declared.hinting.Hinting.TheVariants as state
 use Rattle.tt_fit_outline.specs.declared.glyph_program.GlyphProgram as program
@@ -27,8 +27,8 @@ abbrev pub phantom_view : phantom.Phantom → PhantomPoints
 phantom_view p = record
     { left = (p.left, pos 0); right = (p.right, pos 0); ascent = (pos 0, p.ascent); descent = (pos 0, p.descent) }
 
-abbrev pub position_view : position.Position → ℤ × ℤ
-position_view p = (p.x, p.y)
+abbrev pub component_point_view : component_point.ComponentPoint → ℤ × ℤ
+component_point_view p = (p.x, p.y)
 
 abbrev pub shift_view : shift.Shift → ℤ × ℤ
 shift_view s = (s.x, s.y)

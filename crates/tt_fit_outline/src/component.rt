@@ -7,10 +7,10 @@ ghost use Rattle.tt_glyf.specs.Composite.{one};
 ghost use Rattle.tt_glyf.specs.Meaning.{HasArguments};
 ghost use Rattle.tt_fit_outline.specs.Component.{transformed, offset_along, offset_of, point_of, onto, shift_of, landed, placed_point};
 ghost use Rattle.tt_fit_outline.specs.Outline.{IsPoint};
-ghost use Rattle.tt_fit_outline.specs.Views.{size_view, landing_view, position_view, shift_view};
+ghost use Rattle.tt_fit_outline.specs.Views.{size_view, landing_view, component_point_view, shift_view};
 
-use crate::position::{Position, Shift};
 use crate::scaling::{Landing, glyf_fault, settled};
+use crate::shift::{ComponentPoint, Shift};
 use crate::size::FontSize;
 use tt_core::{Fault, Why, rq};
 use tt_glyf::{ComponentFlags, Record};
@@ -40,9 +40,9 @@ fn blend(row: Row, point: (i32, i32, bool)) -> i64
     rq(times(row.x, point.0) + times(row.y, point.1), ONE)
 }
 
-/// A point's position under a component's transform.
-fn transformed(part: Record, point: (i32, i32, bool)) -> Position
-    ensures { position_view result ≡ transformed part point }
+/// A component's point under the transform.
+fn transformed(part: Record, point: (i32, i32, bool)) -> ComponentPoint
+    ensures { component_point_view result ≡ transformed part point }
 {
     let row_x = Row {
         x: part.xx,
@@ -52,7 +52,7 @@ fn transformed(part: Record, point: (i32, i32, bool)) -> Position
         x: part.yx,
         y: part.yy,
     };
-    Position {
+    ComponentPoint {
         x: blend(row_x, point),
         y: blend(row_y, point),
     }
@@ -64,7 +64,7 @@ fn offset_along(size: FontSize, part: Record, v: i32) -> i64
     ensures exact { result ≡ offset_along (size_view size) part v }
     ensures bound { unsigned_abs result < 2 ^ 47 }
 {
-    let offset = size.scaled(v);
+    let offset = size.scale.scaled(v);
     if part.has(ComponentFlags::ROUND_XY_TO_GRID) {
         Round::Grid.round(offset)
     } else {

@@ -14,7 +14,7 @@ use crate::outline::Outline;
 use crate::places::{phantom_places, places_of, put_units, with_units};
 use crate::scaling::coordinate;
 use crate::units::Units;
-use std::alloc::{AllocError, Global};
+use std::alloc::AllocError;
 use tt_core::Fault;
 use tt_state::{Point, Round, ScanControl};
 

@@ -1,15 +1,14 @@
 //! Runs a glyph's program over its outline. Apple TrueType Reference Manual, "Instructing TrueType Glyphs".
 
-ghost use Rattle.std.specs.Prelude.{◌≡◌, false, option_map, IfOk, OnOk};
-ghost use Rattle.tt_core.specs.Limits.{step_limit};
-ghost use Rattle.tt_exec.specs.Machines.{begun_again, parts_in, run_from};
-ghost use Rattle.tt_exec.specs.Work.{copied_of, work_within};
+ghost use Rattle.std.specs.Prelude.{◌≡◌, option_map, IfOk, OnOk};
+ghost use Rattle.tt_exec.specs.Machines.{begun_again};
+ghost use Rattle.tt_exec.specs.Work.{copied_of};
 ghost use Rattle.tt_exec.specs.Parts.{parts_of};
 ghost use Rattle.tt_exec_step.specs.Views.{code_of};
 ghost use Rattle.tt_points_zones.specs.Zones.{IsZones, SameShape};
 ghost use Rattle.tt_fit_outline.specs.GlyphZone.{program_in_glyf};
 ghost use Rattle.tt_fit_outline.specs.Outline.{outline_of, phantom_of, ArePhantom, IsOutline};
-ghost use Rattle.tt_fit_outline.specs.Hinting.{IsHinting, by_program, hinted, run_of, run_on};
+ghost use Rattle.tt_fit_outline.specs.Hinting.{IsHinting, by_program, hinted, run_of};
 ghost use Rattle.tt_fit_outline.specs.Parts.{AreParts, parts_with};
 ghost use Rattle.tt_fit_outline.specs.Views.{hinting_view, program_view, units_view};
 ghost use Rattle.tt_fit_outline.specs.Work.{Makes, WorkGives, code_work, hinted_work, program_work};
@@ -35,26 +34,6 @@ pub enum Hinting<'a> {
     Off,
     /// The parts of a machine for a glyph's program.
     Ready(Parts<'a>),
-}
-
-/// Runs a glyph's program on a machine that has not failed and whose copies are paid for. Errors: those of the program,
-/// Memory, Spent.
-fn run_paid<'a>(
-    machine: &mut Machine<'a>,
-    code: Code<'a>,
-    copies: Copies,
-    work: &mut Work,
-) -> Result<(), Unmade>
-    requires done { machine.old.failed ≡ false }
-    requires paid { copies.rest ≡ work.old.left }
-    ensures exact { Makes (λ _. parts_in machine.new.state) result (run_on (code_of code.entry) machine.old.state) }
-    ensures work { WorkGives result work.new.left (work_within step_limit (run_from (code_of code.entry) machine.old.state) work.old.left) }
-    ensures shape { OnOk result (SameShape machine.old.state.zones machine.new.state.zones) }
-{
-    match machine.run_paid(code, copies, work) {
-        Ok(_) => Ok(()),
-        Err(fault) => Err(refusal_of(fault)),
-    }
 }
 
 /// A machine's parts after a program. Errors: those of the program, Memory, Spent.
@@ -163,8 +142,10 @@ fn by_program<'a>(
         &grid,
         &mut copies,
     )?;
-    run_paid(machine, code_in_glyf(program), copies, work)?;
-    Ok(left_outline(outline, machine.glyph_points(), machine.scan())?)
+    match machine.run_paid(code_in_glyf(program), copies, work) {
+        Ok(_) => Ok(left_outline(outline, machine.glyph_points(), machine.scan())?),
+        Err(fault) => Err(refusal_of(fault)),
+    }
 }
 
 /// The outline after a glyph's program, from scaled points or joined components. The machine is reused for each glyph.

@@ -11,8 +11,8 @@ ghost use Rattle.tt_fit_outline.specs.Views.{size_view, shift_view};
 
 use crate::component::{placed_point, shift_of};
 use crate::outline::Outline;
-use crate::position::Shift;
 use crate::scaling::glyf_fault;
+use crate::shift::Shift;
 use crate::size::FontSize;
 use std::alloc::AllocError;
 use tt_core::{FontFault, POINT_LIMIT, Why};

@@ -63,8 +63,8 @@ fn scaled_position(size: FontSize, point: RawPoint) -> Landing
     ensures { landing_view result ≡ scaled_position (size_view size) point }
 {
     Landing {
-        x: size.scaled(i32::from(point.x)),
-        y: size.scaled(i32::from(point.y)),
+        x: size.scale.scaled(i32::from(point.x)),
+        y: size.scale.scaled(i32::from(point.y)),
         on: point.on,
     }
 }
@@ -168,10 +168,10 @@ pub fn phantom_points(size: FontSize, metrics: &Metrics, x_min: i16, g: u16) -> 
 {
     let units = phantom_units(metrics, x_min, g);
     Phantom {
-        left: size.scaled(units.left),
-        right: size.scaled(units.right),
-        ascent: size.scaled(i32::from(units.ascent)),
-        descent: size.scaled(i32::from(units.descent)),
+        left: size.scale.scaled(units.left),
+        right: size.scale.scaled(units.right),
+        ascent: size.scale.scaled(i32::from(units.ascent)),
+        descent: size.scale.scaled(i32::from(units.descent)),
     }
 }
 

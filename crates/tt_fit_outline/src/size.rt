@@ -48,15 +48,6 @@ impl FontSize {
         }
     }
 
-    /// A distance in font units as 26.6.
-    pub(crate) fn scaled(self, v: i32) -> i64
-        ensures exact { result ≡ scaled_by self.scale v }
-        ensures bound { unsigned_abs result < 2 ^ 46 }
-        ensures close { unsigned_abs result ≤ 1200 * unsigned_abs v }
-    {
-        self.scale.scaled(v)
-    }
-
     /// The scale as a shift. None where the font units are no power of two, or where a coordinate of 16 bits could
     /// exceed the limit.
     pub(crate) fn shift(self) -> Option<PowerScale>

@@ -92,7 +92,7 @@ bytes_by_parts (Ok bytes) report lacking taken reported costed =
     ∙ drawn_unless bytes there.0 lacking cost.0
 bytes_by_parts (Err why) report lacking taken reported costed = refl
 
-ok_same : {X E : Type 0} (x y : X) → ◌≡◌ {A = Result X E} (Ok x) (Ok y) → x ≡ y
+pub ok_same : {X E : Type 0} (x y : X) → ◌≡◌ {A = Result X E} (Ok x) (Ok y) → x ≡ y
 ok_same x y is = cc
 
 by_file : (j : Job) (file : List ℕ) (face : Face) → nat_lt font_limit (length file) ≡ false

@@ -50,6 +50,18 @@ left_same es m y xs ys most l same are =
       room = omega (arith, long, one, other, room);
     }
 
+-- Lemma: the memory is for as many edges as before
+pub left_whole : (es : List Edge) (m : ℕ) (y : ℤ) (most : ℕ) (l : Left) → IsLeftBy es m y most l → IsLeftBy es m y l.most l
+left_whole es m y most l are =
+    let whole = are.whole in
+    let room = are.room in
+    record {
+      black = are.black;
+      turn = are.turn;
+      whole = refl;
+      room = omega (arith, whole, room);
+    }
+
 -- of the entries begun, those that continue below a row are those that meet the row below
 
 meets_is : (first past r : ℤ) → first ≤ℤ (r -ℤ pos 1) → (int_le first r && int_lt r past) ≡ int_lt ((r -ℤ pos 1) +ℤ pos 1) past

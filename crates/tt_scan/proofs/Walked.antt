@@ -278,7 +278,7 @@ met_counts r ms n = sym (ap length (met_parted r ms n) ∙ length-append (filter
 met_from_at : (r : ℤ) (m : Entry) (ms : List Entry) (b : Bool) → meets_row r m ≡ b
     → length (filter (meets_row r) (m ∷ ms)) ≡ length (filter (meets_row r) (m ∷ [])) + length (filter (meets_row r) ms)
 met_from_at r m ms true is = rw is (omega arith)
-met_from_at r m ms false is = rw is refl
+met_from_at r m ms false is = rw is (omega arith)
 
 pub met_from : (r : ℤ) (ms : List Entry) (n : ℕ) (d : Entry) → n < length ms
     → length (filter (meets_row r) (drop n ms)) ≡ length (filter (meets_row r) (get_or ms n d ∷ [])) + length (filter (meets_row r) (drop (n + 1) ms))

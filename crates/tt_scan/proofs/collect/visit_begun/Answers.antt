@@ -14,6 +14,7 @@ returns-then-begins_below-clause-left c =
     let after : c.args.at.r <ℤ (get_or c.args.entries.now c.loop-next.next no_entry).first = is_less c.args.at.r (get_or c.args.entries.now c.loop-next.next no_entry).first (sym (simp to_z-of_z at c.begins_below.ensures) ∙ c.if-begins_below.true) in
     rw (all_met c.args.at.r c.args.entries.now c.loop-next.next c.requires.order c.loop-next-test.true
     (λ d. rw (get_or_default c.args.entries.now c.loop-next.next d no_entry c.loop-next-test.true) after)) at c.loop-next.invariant.left
+
 pub returns-then-begins_below-clause-crosses : goal.returns-then-begins_below-clause-crosses
 returns-then-begins_below-clause-crosses c =
     let r : SFits w32 c.args.at.r = search rules in
@@ -23,18 +24,22 @@ returns-then-begins_below-clause-crosses c =
     let counted = rw none at c.loop-next.invariant.count in
     let count : c.loop-next.edges.crosses ≡ c.args.edges.now.crosses + length (filter (meets_row c.args.at.r) (drop c.args.from c.args.entries.now)) = omega (arith, counted) in
     c.loop-next.invariant.edges ∙ rw count refl
+
 pub visit_entry-requires-clause-fits : goal.visit_entry-requires-clause-fits
 visit_entry-requires-clause-fits c =
     rw c.loop-next.invariant.edges c.requires.fits
+
 pub visit_entry-requires-clause-entry : goal.visit_entry-requires-clause-entry
 visit_entry-requires-clause-entry c =
     rw c.loop-next.invariant.edges (c.requires.entries c.loop-next.next no_entry c.loop-next-test.true)
+
 pub visit_entry-requires-clause-crosses : goal.visit_entry-requires-clause-crosses
 visit_entry-requires-clause-crosses c =
     λ meets.
     let more = met_from c.args.at.r c.args.entries.now c.loop-next.next no_entry c.loop-next-test.true in
     let one : length (filter (meets_row c.args.at.r) (get_or c.args.entries.now c.loop-next.next no_entry ∷ [])) ≡ 1 = rw meets refl in
     omega (arith, more, one, c.loop-next.invariant.count, c.requires.crosses)
+
 pub visit_entry-requires-clause-room : goal.visit_entry-requires-clause-room
 visit_entry-requires-clause-room c =
     λ meets.
@@ -42,6 +47,7 @@ visit_entry-requires-clause-room c =
     let long = length-map (filter (meets_row c.args.at.r) (take c.loop-next.next c.args.entries.now)) (λ (m : Entry). edge_of c.args.edges.now.edges m) in
     let room = c.loop-next.invariant.left.room in
     omega (arith, met, long, room, c.requires.room)
+
 pub visit_entry-requires-clause-walk_room : goal.visit_entry-requires-clause-walk_room
 visit_entry-requires-clause-walk_room c =
     let r : SFits w32 c.args.at.r = search rules in
@@ -49,6 +55,7 @@ visit_entry-requires-clause-walk_room c =
     λ on.
     let room = room_for_walk c.args.edges.now.edges c.args.at.frame c.args.at.r c.args.entries.now c.loop-next.next no_entry c.loop-next.walks.items c.loop-next.invariant.walked c.loop-next-test.true low on in
     omega (arith, room, c.requires.walk_room, c.loop-next.invariant.walk_capacity)
+
 pub loop-next-preserved : goal.loop-next-preserved
 loop-next-preserved c =
     let r : SFits w32 c.args.at.r = search rules in
@@ -67,15 +74,18 @@ loop-next-preserved c =
       count = omega (arith, c.loop-next.invariant.count, more, crosses);
       walk_capacity = search rules;
     }
+
 pub returns-clause-walked : goal.returns-clause-walked
 returns-clause-walked c =
     let walked = c.loop-next.invariant.walked in
     let within = walked.within in
     let done : c.loop-next.next ≡ length c.args.entries.now = omega (arith, c.loop-next-test.false, within) in
     rw done at walked
+
 pub returns-clause-left : goal.returns-clause-left
 returns-clause-left c =
     rw (take_all c.loop-next.next c.args.entries.now c.loop-next-test.false) at c.loop-next.invariant.left
+
 pub returns-clause-crosses : goal.returns-clause-crosses
 returns-clause-crosses c =
     let counted = rw (drop_all c.loop-next.next c.args.entries.now c.loop-next-test.false) at c.loop-next.invariant.count in

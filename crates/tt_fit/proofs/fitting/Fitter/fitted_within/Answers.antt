@@ -39,5 +39,5 @@ returns-in-Ok-clause-left c =
     let hinting : s.hinting ≡ hinting_view c.self.inside.hinting = grind (arith, c.self.view_is) in
     let levels : s.levels ≡ c.self.inside.levels = grind (arith, c.self.view_is) in
     let pays = pays-too s c.args.g (hinting_view c.self.inside.hinting) _ _ hinting c.requires.work
-        (rw (← levels) at c.in-Ok.ensures.work) in
+    (rw (← levels) at c.in-Ok.ensures.work) in
     sym (left-where-enough s c.args.g _ refused_so pays)

@@ -1,19 +1,19 @@
 use Rattle.std.proofs.Common.{sym}
-use Rattle.tt_fit.proofs.Falling.{left-where-enough, left-where-spent, made-unfitted, unfitted-where-refused, unfitted-where-spent, on-ok}
+use Rattle.tt_fit.proofs.Falling.{left-where-enough, left-where-spent, made-unfitted, unfitted-where-refused, on-ok}
 use Rattle.tt_fit.proofs.fitting.Fitter.refused.Goals as goal
 
-pub returns-in-Font-clause-exact : goal.returns-in-Font-clause-exact
-returns-in-Font-clause-exact c =
+pub returns-else-not-is_program_fault-clause-exact : goal.returns-else-not-is_program_fault-clause-exact
+returns-else-not-is_program_fault-clause-exact c =
     let s = c.args.self.now in
     let f = c.in-Font.fault in
     let pays = rw c.in-Font.is at c.requires.work in
     let fails = rw c.in-Font.is at c.requires.fault in
     let some = unfitted-where-refused s c.args.g f c.requires.fallback (c.args.work.now.left, pays) fails
-        c.is_program_fault.ensures in
+    (sym c.if-not-is_program_fault.ensures) in
     rw (made-unfitted s c.args.g f some) c.made.ensures.exact
 
-pub returns-in-Font-clause-left : goal.returns-in-Font-clause-left
-returns-in-Font-clause-left c =
+pub returns-else-not-is_program_fault-clause-left : goal.returns-else-not-is_program_fault-clause-left
+returns-else-not-is_program_fault-clause-left c =
     let pays = rw c.in-Font.is at c.requires.work in
     on-ok c.made.result _
     (sym (left-where-enough c.args.self.now c.args.g c.args.work.now.left c.requires.fallback pays))

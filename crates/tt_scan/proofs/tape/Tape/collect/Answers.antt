@@ -1,7 +1,7 @@
-use Rattle.std.proofs.Common.{◌≡◌, refl, SFits, w64, arith}
+use Rattle.std.proofs.Common.{◌≡◌, ◌+◌, ap, refl, SFits, w64, arith}
 use Rattle.std.proofs.lemmas.Int.{to_z-of_z}
 use Rattle.tt_scan_edges.specs.Left.{IsLeftBy}
-use Rattle.tt_scan_edges.specs.Winding.{row_y}
+use Rattle.tt_scan_edges.specs.Winding.{row_y, rows_met}
 use Rattle.tt_scan_edges.proofs.Crossed.{left_settled}
 use Rattle.tt_scan.proofs.Reached.{ready_kept}
 use Rattle.tt_scan.proofs.tape.Tape.collect.Goals as goal
@@ -30,4 +30,10 @@ returns-clause-left c =
     rw (← c.self.view_is) (left_settled _ _ _ _ c.visit.new.left c.settle.new.left left c.settle.ensures.permutation c.settle.ensures.rest)
 
 pub returns-clause-crosses : goal.returns-clause-crosses
-returns-clause-crosses c = ?
+returns-clause-crosses c =
+    let row : SFits w64 c.args.r = c.ranges.r in
+    let at_row : c.of-at.result.r ≡ c.args.r = simp to_z-of_z at c.of-at.ensures.row in
+    let height : c.of-at.result.y ≡ row_y c.self.inside.frame c.args.r = rw (c.of-at.ensures.frame, at_row) at c.of-at.result.height in
+    let crosses : c.visit.new.edges.crosses ≡ c.self.inside.edges.crosses + rows_met c.self.inside.edges.edges c.of-at.result.y =
+    ap (λ e. e.crosses) c.visit.ensures.crosses in
+    rw (← c.self.view_is) (rw height at crosses)

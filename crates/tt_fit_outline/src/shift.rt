@@ -1,11 +1,11 @@
-//! A component point's position and a component's shift, in 26.6 pixels. Their sum is not yet tested against the limit
-//! of a coordinate.
+//! A component's shift, and a point of the component before it is moved. Their sum is not yet tested against the limit of
+//! a coordinate.
 
 ghost use Rattle.std.specs.Prelude.{◌<◌, ◌≤◌, ◌^◌, unsigned_abs};
 
-/// A position in 26.6 pixels.
+/// A component's point under the transform, in 26.6 pixels.
 #[derive(Clone, Copy)]
-pub(crate) struct Position {
+pub(crate) struct ComponentPoint {
     pub(crate) x: i64,
     pub(crate) y: i64,
     ghost x_fits: { unsigned_abs x ≤ 2 ^ 47 },
