@@ -13,7 +13,7 @@ use Rattle.tt_strike.specs.Picture.{pictured, pictured_by}
 use Rattle.tt_strike.specs.Refusals.{Refused, as_font, as_job, font, job, large}
 use Rattle.tt_strike.specs.Report.{report_by, report_of}
 use Rattle.tt_strike.specs.Strikes.{Strike, job_of}
-use Rattle.tt_strike.specs.Tables.{Face, face_of}
+use Rattle.tt_face.specs.Faces.{Face, face_of}
 use Rattle.tt_render_run.specs.declared.fault.RunFault.TheVariants as run
 use Rattle.tt_render_run.specs.Outcome.{SendsAll, SendsFirst, Traffic, WithBytes, of_font}
 use Rattle.tt_render_run.specs.Reading.{FontIsRead}
