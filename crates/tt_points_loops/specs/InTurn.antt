@@ -1,5 +1,5 @@
 -- No part of the standard: the change of one point, by the instruction that makes it.
-use Rattle.std.specs.Prelude.{ℕ, ℤ, ◌^◌, ◌≤◌, unsigned_abs, IfOk, Result}
+use Rattle.std.specs.Prelude.{ℤ, ◌^◌, ◌≤◌, unsigned_abs, IfOk, Result}
 use Rattle.tt_core.specs.declared.fault.Why.{Why}
 use Rattle.tt_state.specs.declared.graphics_state.GraphicsState.{GraphicsState}
 use Rattle.tt_state.specs.declared.tolerance.Tolerance.{Tolerance}
