@@ -18,6 +18,7 @@ macro_rules! unless_missing {
         }
     };
 }
+
 pub(crate) use unless_missing;
 
 /// Pops a count of pairs, and gives their count of entries. Errors: StackShort, BadArgument below 0.

@@ -1,11 +1,11 @@
 //! One change for each of several points in turn: ALIGNRP, IP, SHP, SHPIX, FLIPPT. Apple TrueType Reference Manual,
 //! "Graphics State" (loop).
 
-ghost use Rattle.std.specs.Prelude.{◌≡◌, reverse, IfErr};
+ghost use Rattle.std.specs.Prelude.{◌≡◌, IfErr};
 ghost use Rattle.tt_core.specs.Outcomes.{Gives};
 ghost use Rattle.tt_points_loops.specs.InTurn as is;
 ghost use Rattle.tt_points_loops.specs.InTurn.{IsChange};
-ghost use Rattle.tt_points_loops.specs.Series.{looped, one_by_one, passing_over};
+ghost use Rattle.tt_points_loops.specs.Series.{looped};
 ghost use Rattle.tt_points_zones.specs.Zones.{IsZones, zones_view};
 
 use crate::flipping::flip;
@@ -54,46 +54,6 @@ fn change_one(
     }
 }
 
-/// Changes a point. A tolerant machine passes over the point where something is missing.
-fn change_or_pass(
-    zones: &mut Zones,
-    state: &GraphicsState,
-    tolerance: Tolerance,
-    change: Change,
-    n: i32,
-) -> Result<(), Why>
-    requires zones { IsZones (zones_view zones.old) }
-    requires change { IsChange change }
-    ensures exact { Gives (λ u. zones_view zones.new) result
-        (passing_over tolerance (is.changed change tolerance state.now) n (zones_view zones.old)) }
-    ensures zones { IsZones (zones_view zones.new) }
-{
-    match change_one(zones, state, tolerance, change, n) {
-        Err(why) if tolerance.passes_over(why) => Ok(()),
-        answer => answer,
-    }
-}
-
-fn change_all(
-    zones: &mut Zones,
-    state: &GraphicsState,
-    tolerance: Tolerance,
-    change: Change,
-    numbers: &[i32],
-) -> Result<(), Why>
-    requires zones { IsZones (zones_view zones.old) }
-    requires change { IsChange change }
-    ensures exact { Gives (λ u. zones_view zones.new) result
-        (one_by_one (passing_over tolerance (is.changed change tolerance state.now)) (reverse numbers.now)
-        (zones_view zones.old)) }
-    ensures zones { IsZones (zones_view zones.new) }
-{
-    for i in (0..numbers.len()).rev() {
-        change_or_pass(zones, state, tolerance, change, numbers[i])?;
-    }
-    Ok(())
-}
-
 /// Changes the points with these numbers, the last one first, and resets the loop variable. A tolerant machine passes
 /// over each point where something is missing. Errors: PointRange, Perpendicular, ValueRange.
 pub(crate) fn in_turn(
@@ -109,7 +69,12 @@ pub(crate) fn in_turn(
         (looped tolerance (is.changed change tolerance state.old) numbers.now (zones_view zones.old) state.old) }
     ensures zones { IsZones (zones_view zones.new) }
 {
-    change_all(zones, state, tolerance, change, numbers)?;
+    for i in (0..numbers.len()).rev() {
+        match change_one(zones, state, tolerance, change, numbers[i]) {
+            Err(why) if tolerance.passes_over(why) => {}
+            answer => answer?,
+        }
+    }
     state.loops = 1;
     Ok(())
 }

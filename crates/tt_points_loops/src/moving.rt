@@ -256,7 +256,12 @@ fn pushed(p: Point, by: Distance, state: &GraphicsState) -> Result<Point, Why>
 }
 
 /// Moves a point of zp2 along the freedom vector. Errors: PointRange, ValueRange.
-pub(crate) fn push(zones: &mut Zones, state: &GraphicsState, by: Distance, n: i32) -> Result<(), Why>
+pub(crate) fn push(
+    zones: &mut Zones,
+    state: &GraphicsState,
+    by: Distance,
+    n: i32,
+) -> Result<(), Why>
     requires zones { IsZones (zones_view zones.old) }
     requires small { unsigned_abs by.0 ≤ 2 ^ 32 }
     ensures exact { Gives (λ u. zones_view zones.new) result (is.push by.0 state.now n (zones_view zones.old)) }

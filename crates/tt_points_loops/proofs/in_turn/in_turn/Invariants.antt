@@ -2,7 +2,7 @@ use Rattle.std.proofs.Common.{◌≡◌, reverse, take}
 use Rattle.tt_points_loops.specs.InTurn.{changed}
 use Rattle.tt_points_loops.specs.Series.{one_by_one, passing_over}
 use Rattle.tt_points_zones.specs.Zones.{IsZones, zones_view}
-use Rattle.tt_points_loops.proofs.in_turn.change_all.Given as goal
+use Rattle.tt_points_loops.proofs.in_turn.in_turn.Given as goal
 
 -- the remaining steps, applied to the present state, give the whole result
 abbrev pub invariant-loop-i : goal.invariant-loop-i
