@@ -4,7 +4,7 @@ ghost use Rattle.std.specs.Prelude.{◌≡◌, IfErr, ◌+◌, ◌+ℤ◌, ◌*�
 ghost use Rattle.tt_core.specs.Outcomes.{Gives};
 ghost use Rattle.tt_exec_points.specs.ControlValues as is;
 
-use crate::instruction::{pairs_counted, pairs_there};
+use crate::popping::{pairs_counted, pairs_there};
 use tt_core::Why;
 use tt_exec_stack::Stack;
 use tt_points_loops::deltas::{DeltaRange, delta_of};

@@ -1,10 +1,27 @@
 //! The instructions on points, with the interpreter's stack. Apple TrueType Reference Manual, "Instruction set".
+//!
+//! ```text
+//! points.rt          the zones after each instruction
+//! popping.rt         values from the stack, and what a tolerant machine passes over
+//! moving.rt          MDAP, MDRP, MSIRP, MIAP, MIRP
+//! measuring.rt       SCFS, UTP, GC, MD
+//! several.rt         ALIGNRP, IP, SHP, SHPIX, FLIPPT, FLIPRGON, FLIPRGOFF, SHC, SHZ, DELTAP, IUP
+//! lines.rt           SPVTL, SFVTL, SDPVTL, ISECT, ALIGNPTS
+//! control_values.rt  DELTAC
+//! instruction.rt     the function of each instruction
+//! laws.rt            laws of them
+//! ```
 #![tactic(auto)]
 
 mod control_values;
 mod instruction;
 pub mod laws;
+mod lines;
+mod measuring;
+mod moving;
 mod points;
+mod popping;
+mod several;
 
 pub use instruction::{PointInstruction, on_points};
 pub use points::Points;

@@ -1,6 +1,7 @@
 pub mod Series
 pub mod Slanted
 pub mod Flipping
+pub mod InTurn
 pub mod Moving
 pub mod Shifting
 pub mod Deltas

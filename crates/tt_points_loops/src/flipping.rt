@@ -1,18 +1,19 @@
 //! Points on the curve and off it: FLIPPT, FLIPRGON, FLIPRGOFF. Apple TrueType Reference Manual, "Instruction set":
 //! managing outlines. They use the glyph zone, whatever the zone pointers (profile).
 
-ghost use Rattle.std.specs.Prelude.{◌≡◌, ◌≤◌, Ok, All, IfErr, length, reverse};
+ghost use Rattle.std.specs.Prelude.{◌≡◌, ◌≤◌, Ok, All, IfErr, length};
 ghost use Rattle.tt_core.specs.Outcomes.{Gives};
 ghost use Rattle.tt_points_loops.specs.Flipping as is;
-ghost use Rattle.tt_points_loops.specs.Series.{each_from_to, one_by_one, passing_over};
+ghost use Rattle.tt_points_loops.specs.Series.{each_from_to};
 ghost use Rattle.tt_points_zones.specs.Zones.{IsPoint, IsZones, zones_view};
 
+use crate::in_turn::{Change, in_turn};
 use tt_core::Why;
 use tt_points_zones::Zones;
 use tt_state::{GraphicsState, Point, Tolerance, Zone};
 
 /// Flips a point of the glyph between on and off the curve. Error: PointRange.
-fn flip(zones: &mut Zones, n: i32) -> Result<(), Why>
+pub(crate) fn flip(zones: &mut Zones, n: i32) -> Result<(), Why>
     requires { IsZones (zones_view zones.old) }
     ensures exact { Gives (λ u. zones_view zones.new) result (is.flip n (zones_view zones.old)) }
     ensures zones { IsZones (zones_view zones.new) }
@@ -20,30 +21,6 @@ fn flip(zones: &mut Zones, n: i32) -> Result<(), Why>
 {
     let p = zones.point(Zone::Glyph, n)?;
     zones.set(Zone::Glyph, n, Point { on: !p.on, ..p });
-    Ok(())
-}
-
-/// Flips a point as `flip` does. A tolerant machine passes over a missing point. Error: PointRange.
-fn flip_or_pass(zones: &mut Zones, tolerance: Tolerance, n: i32) -> Result<(), Why>
-    requires { IsZones (zones_view zones.old) }
-    ensures exact { Gives (λ u. zones_view zones.new) result (passing_over tolerance is.flip n (zones_view zones.old)) }
-    ensures zones { IsZones (zones_view zones.new) }
-{
-    match flip(zones, n) {
-        Err(why) if tolerance.passes_over(why) => Ok(()),
-        answer => answer,
-    }
-}
-
-fn flip_all(zones: &mut Zones, tolerance: Tolerance, numbers: &[i32]) -> Result<(), Why>
-    requires { IsZones (zones_view zones.old) }
-    ensures exact { Gives (λ u. zones_view zones.new) result
-        (one_by_one (passing_over tolerance is.flip) (reverse numbers.now) (zones_view zones.old)) }
-    ensures zones { IsZones (zones_view zones.new) }
-{
-    for i in (0..numbers.len()).rev() {
-        flip_or_pass(zones, tolerance, numbers[i])?;
-    }
     Ok(())
 }
 
@@ -60,9 +37,7 @@ pub fn flippt(
         (is.flippt tolerance numbers.now (zones_view zones.old) state.old) }
     ensures zones { IsZones (zones_view zones.new) }
 {
-    flip_all(zones, tolerance, numbers)?;
-    state.loops = 1;
-    Ok(())
+    in_turn(zones, state, tolerance, Change::Flip, numbers)
 }
 
 fn put_on(p: Point, on: bool) -> Point

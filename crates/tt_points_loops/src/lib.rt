@@ -3,6 +3,7 @@
 
 pub mod deltas;
 pub mod flipping;
+mod in_turn;
 pub mod laws;
 pub mod moving;
 pub mod shifting;

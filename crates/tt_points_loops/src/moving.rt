@@ -1,14 +1,14 @@
 //! Points moved one by one: ALIGNRP, IP, SHPIX. Apple TrueType Reference Manual, "Instruction set": managing outlines.
 //! Distances are in 26.6 pixels.
 
-ghost use Rattle.std.specs.Prelude.{◌≡◌, ◌^◌, ◌<◌, ◌≤◌, reverse, unsigned_abs, IfErr, IfOk, IfSome, ◌-ℤ◌};
+ghost use Rattle.std.specs.Prelude.{◌≡◌, ◌^◌, ◌<◌, ◌≤◌, unsigned_abs, IfErr, IfOk, IfSome, ◌-ℤ◌};
 ghost use Rattle.tt_core.specs.Outcomes.{Gives};
 ghost use Rattle.tt_core.specs.Scales.{IsScale};
 ghost use Rattle.tt_points_loops.specs.Moving as is;
-ghost use Rattle.tt_points_loops.specs.Series.{one_by_one, passing_over};
 ghost use Rattle.tt_points_zones.specs.Motions as motion;
 ghost use Rattle.tt_points_zones.specs.Zones.{IsPoint, IsZones, zones_view};
 
+use crate::in_turn::{Change, in_turn};
 use tt_core::{Scale, Why, quotient};
 use tt_points_zones::{Distance, Motion, Originals, Zones, may_move, product};
 use tt_state::{GraphicsState, Point, Tolerance, Zone};
@@ -47,7 +47,7 @@ fn aligned(p: Point, r: Point, state: &GraphicsState) -> Result<Point, Why>
 }
 
 /// Moves a point of zp1 to the current coordinate of rp0. Errors: PointRange, Perpendicular, ValueRange.
-fn align(zones: &mut Zones, state: &GraphicsState, n: i32) -> Result<(), Why>
+pub(crate) fn align(zones: &mut Zones, state: &GraphicsState, n: i32) -> Result<(), Why>
     requires { IsZones (zones_view zones.old) }
     ensures exact { Gives (λ u. zones_view zones.new) result (is.align state.now n (zones_view zones.old)) }
     ensures zones { IsZones (zones_view zones.new) }
@@ -57,41 +57,6 @@ fn align(zones: &mut Zones, state: &GraphicsState, n: i32) -> Result<(), Why>
     let reference = zones.point(state.zp0, state.rp0)?;
     let moved = aligned(p, reference, state)?;
     zones.set(state.zp1, n, moved);
-    Ok(())
-}
-
-/// Moves a point as `align` does. A tolerant machine passes over the point where something is missing.
-fn align_or_pass(
-    zones: &mut Zones,
-    state: &GraphicsState,
-    tolerance: Tolerance,
-    n: i32,
-) -> Result<(), Why>
-    requires { IsZones (zones_view zones.old) }
-    ensures exact { Gives (λ u. zones_view zones.new) result
-        (passing_over tolerance (is.align state.now) n (zones_view zones.old)) }
-    ensures zones { IsZones (zones_view zones.new) }
-{
-    match align(zones, state, n) {
-        Err(why) if tolerance.passes_over(why) => Ok(()),
-        answer => answer,
-    }
-}
-
-fn align_all(
-    zones: &mut Zones,
-    state: &GraphicsState,
-    tolerance: Tolerance,
-    numbers: &[i32],
-) -> Result<(), Why>
-    requires { IsZones (zones_view zones.old) }
-    ensures exact { Gives (λ u. zones_view zones.new) result
-        (one_by_one (passing_over tolerance (is.align state.now)) (reverse numbers.now) (zones_view zones.old)) }
-    ensures zones { IsZones (zones_view zones.new) }
-{
-    for i in (0..numbers.len()).rev() {
-        align_or_pass(zones, state, tolerance, numbers[i])?;
-    }
     Ok(())
 }
 
@@ -109,9 +74,7 @@ pub fn alignrp(
         (is.alignrp tolerance numbers.now (zones_view zones.old) state.old) }
     ensures zones { IsZones (zones_view zones.new) }
 {
-    align_all(zones, state, tolerance, numbers)?;
-    state.loops = 1;
-    Ok(())
+    in_turn(zones, state, tolerance, Change::Align, numbers)
 }
 
 /// The original distance between two points: in font units where the originals have a scale, otherwise in 26.6.
@@ -247,7 +210,7 @@ fn in_between(
 
 /// Moves a point of zp2 to its original share of the way from rp1 to rp2. Errors: PointRange, Perpendicular,
 /// ValueRange.
-fn interpolate(
+pub(crate) fn interpolate(
     zones: &mut Zones,
     state: &GraphicsState,
     tolerance: Tolerance,
@@ -265,42 +228,6 @@ fn interpolate(
     Ok(())
 }
 
-/// Moves a point as `interpolate` does. A tolerant machine passes over the point where something is missing.
-fn interpolate_or_pass(
-    zones: &mut Zones,
-    state: &GraphicsState,
-    tolerance: Tolerance,
-    n: i32,
-) -> Result<(), Why>
-    requires { IsZones (zones_view zones.old) }
-    ensures exact { Gives (λ u. zones_view zones.new) result
-        (passing_over tolerance (is.interpolate tolerance state.now) n (zones_view zones.old)) }
-    ensures zones { IsZones (zones_view zones.new) }
-{
-    match interpolate(zones, state, tolerance, n) {
-        Err(why) if tolerance.passes_over(why) => Ok(()),
-        answer => answer,
-    }
-}
-
-fn interpolate_all(
-    zones: &mut Zones,
-    state: &GraphicsState,
-    tolerance: Tolerance,
-    numbers: &[i32],
-) -> Result<(), Why>
-    requires { IsZones (zones_view zones.old) }
-    ensures exact { Gives (λ u. zones_view zones.new) result
-        (one_by_one (passing_over tolerance (is.interpolate tolerance state.now)) (reverse numbers.now)
-        (zones_view zones.old)) }
-    ensures zones { IsZones (zones_view zones.new) }
-{
-    for i in (0..numbers.len()).rev() {
-        interpolate_or_pass(zones, state, tolerance, numbers[i])?;
-    }
-    Ok(())
-}
-
 /// IP[], 0x39: loop points of zp2 -> moves each point to its original share of the way from rp1, in zp0, to rp2, in
 /// zp1. A tolerant machine uses rp1 in place of a missing rp2. It passes over each missing point, and over all points
 /// if rp1 is missing. Errors: PointRange, Perpendicular, ValueRange.
@@ -315,9 +242,7 @@ pub fn ip(
         (is.ip tolerance numbers.now (zones_view zones.old) state.old) }
     ensures zones { IsZones (zones_view zones.new) }
 {
-    interpolate_all(zones, state, tolerance, numbers)?;
-    state.loops = 1;
-    Ok(())
+    in_turn(zones, state, tolerance, Change::Interpolate, numbers)
 }
 
 /// The point moved along the freedom vector. Error: ValueRange.
@@ -331,7 +256,12 @@ fn pushed(p: Point, by: Distance, state: &GraphicsState) -> Result<Point, Why>
 }
 
 /// Moves a point of zp2 along the freedom vector. Errors: PointRange, ValueRange.
-fn push(zones: &mut Zones, state: &GraphicsState, by: Distance, n: i32) -> Result<(), Why>
+pub(crate) fn push(
+    zones: &mut Zones,
+    state: &GraphicsState,
+    by: Distance,
+    n: i32,
+) -> Result<(), Why>
     requires zones { IsZones (zones_view zones.old) }
     requires small { unsigned_abs by.0 ≤ 2 ^ 32 }
     ensures exact { Gives (λ u. zones_view zones.new) result (is.push by.0 state.now n (zones_view zones.old)) }
@@ -341,45 +271,6 @@ fn push(zones: &mut Zones, state: &GraphicsState, by: Distance, n: i32) -> Resul
     let p = zones.point(state.zp2, n)?;
     let moved = pushed(p, by, state)?;
     zones.set(state.zp2, n, moved);
-    Ok(())
-}
-
-/// Moves a point as `push` does. A tolerant machine passes over a missing point.
-fn push_or_pass(
-    zones: &mut Zones,
-    state: &GraphicsState,
-    tolerance: Tolerance,
-    by: Distance,
-    n: i32,
-) -> Result<(), Why>
-    requires zones { IsZones (zones_view zones.old) }
-    requires small { unsigned_abs by.0 ≤ 2 ^ 32 }
-    ensures exact { Gives (λ u. zones_view zones.new) result
-        (passing_over tolerance (is.push by.0 state.now) n (zones_view zones.old)) }
-    ensures zones { IsZones (zones_view zones.new) }
-{
-    match push(zones, state, by, n) {
-        Err(why) if tolerance.passes_over(why) => Ok(()),
-        answer => answer,
-    }
-}
-
-fn push_all(
-    zones: &mut Zones,
-    state: &GraphicsState,
-    tolerance: Tolerance,
-    by: Distance,
-    numbers: &[i32],
-) -> Result<(), Why>
-    requires zones { IsZones (zones_view zones.old) }
-    requires small { unsigned_abs by.0 ≤ 2 ^ 32 }
-    ensures exact { Gives (λ u. zones_view zones.new) result
-        (one_by_one (passing_over tolerance (is.push by.0 state.now)) (reverse numbers.now) (zones_view zones.old)) }
-    ensures zones { IsZones (zones_view zones.new) }
-{
-    for i in (0..numbers.len()).rev() {
-        push_or_pass(zones, state, tolerance, by, numbers[i])?;
-    }
     Ok(())
 }
 
@@ -398,7 +289,5 @@ pub fn shpix(
     ensures zones { IsZones (zones_view zones.new) }
 {
     let by = Distance(i64::from(amount));
-    push_all(zones, state, tolerance, by, numbers)?;
-    state.loops = 1;
-    Ok(())
+    in_turn(zones, state, tolerance, Change::Push(by), numbers)
 }

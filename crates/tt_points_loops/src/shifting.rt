@@ -1,15 +1,16 @@
 //! Points that follow a reference point: SHP, SHC, SHZ. Apple TrueType Reference Manual, "Instruction set": managing
 //! outlines. Distances are in 26.6 pixels.
 
-ghost use Rattle.std.specs.Prelude.{◌≡◌, ℕ, ◌≤◌, ◌≤ℤ◌, pos, true, false, All, IfErr, IfOk, length, reverse};
+ghost use Rattle.std.specs.Prelude.{◌≡◌, ℕ, ◌≤◌, ◌≤ℤ◌, pos, true, false, All, IfErr, IfOk, length};
 ghost use Rattle.tt_core.specs.Outcomes.{Gives};
-ghost use Rattle.tt_points_loops.specs.Series.{each_from_to, one_by_one, passing_over};
+ghost use Rattle.tt_points_loops.specs.Series.{each_from_to};
 ghost use Rattle.tt_points_loops.specs.Shifting as is;
 ghost use Rattle.tt_points_zones.specs.Points.{points_in};
 ghost use Rattle.tt_points_zones.specs.Zones.{AreContours, IsPoint, IsZones, zones_view};
 ghost use Rattle.tt_state.specs.Tolerance.{is_missing};
 ghost use Rattle.tt_state.specs.declared.graphics_state.Zone.TheVariants as zone;
 
+use crate::in_turn::{Change, in_turn};
 use tt_core::Why;
 use tt_points_zones::{Motion, Zones, may_move, zone_of};
 use tt_state::{GraphicsState, Point, Tolerance, Zone};
@@ -92,7 +93,7 @@ fn follow(p: Point, r: Point, touch: bool, state: &GraphicsState) -> Result<Poin
 
 /// Moves a point of zp2 as far as its reference point has moved. `before` is the reference point before the first move.
 /// Errors: PointRange, Perpendicular, ValueRange.
-fn shift(
+pub(crate) fn shift(
     zones: &mut Zones,
     state: &GraphicsState,
     before: Result<Point, Why>,
@@ -107,45 +108,6 @@ fn shift(
     let p = zones.point(state.zp2, n)?;
     let q = follow(p, before?, true, state)?;
     zones.set(state.zp2, n, q);
-    Ok(())
-}
-
-/// Moves a point as `shift` does. A tolerant machine passes over the point where something is missing.
-fn shift_or_pass(
-    zones: &mut Zones,
-    state: &GraphicsState,
-    tolerance: Tolerance,
-    before: Result<Point, Why>,
-    n: i32,
-) -> Result<(), Why>
-    requires zones { IsZones (zones_view zones.old) }
-    requires before { IfOk before IsPoint }
-    ensures exact { Gives (λ u. zones_view zones.new) result
-        (passing_over tolerance (is.shift state.now before) n (zones_view zones.old)) }
-    ensures zones { IsZones (zones_view zones.new) }
-{
-    match shift(zones, state, before, n) {
-        Err(why) if tolerance.passes_over(why) => Ok(()),
-        answer => answer,
-    }
-}
-
-fn shift_all(
-    zones: &mut Zones,
-    state: &GraphicsState,
-    tolerance: Tolerance,
-    before: Result<Point, Why>,
-    numbers: &[i32],
-) -> Result<(), Why>
-    requires zones { IsZones (zones_view zones.old) }
-    requires before { IfOk before IsPoint }
-    ensures exact { Gives (λ u. zones_view zones.new) result
-        (one_by_one (passing_over tolerance (is.shift state.now before)) (reverse numbers.now) (zones_view zones.old)) }
-    ensures zones { IsZones (zones_view zones.new) }
-{
-    for i in (0..numbers.len()).rev() {
-        shift_or_pass(zones, state, tolerance, before, numbers[i])?;
-    }
     Ok(())
 }
 
@@ -165,9 +127,7 @@ pub fn shp(
     ensures zones { IsZones (zones_view zones.new) }
 {
     let before = reference(zones, state, which);
-    shift_all(zones, state, tolerance, before, numbers)?;
-    state.loops = 1;
-    Ok(())
+    in_turn(zones, state, tolerance, Change::Follow(before), numbers)
 }
 
 /// The number `n` of a point of the zone `of`, if that zone is `zone`.

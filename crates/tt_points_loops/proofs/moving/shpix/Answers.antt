@@ -2,10 +2,9 @@ use Rattle.std.proofs.Common.{SFits, w32, w64, rules}
 use Rattle.std.proofs.lemmas.Int.{to_z-of_z}
 use Rattle.tt_points_loops.proofs.moving.shpix.Goals as goal
 
-pub returns-in_err-push_all-clause-exact : goal.returns-in_err-push_all-clause-exact
-returns-in_err-push_all-clause-exact c =
+pub returns-clause-exact : goal.returns-clause-exact
+returns-clause-exact c =
     let amount : SFits w32 c.args.amount = c.ranges.amount in
     let wide : SFits w64 c.from.result = search rules in
     let by = simp to_z-of_z at c.from.ensures in
-    let pushed = rw by at (simp to_z-of_z at c.in_err-push_all.ensures.exact) in
-    rw pushed (search rules)
+    rw by at (simp to_z-of_z at c.in_turn.ensures.exact)

@@ -1,6 +1,6 @@
 use Rattle.std.proofs.Common.{SFits, w32}
 use Rattle.std.proofs.lemmas.Int.{to_z-of_z}
-use Rattle.tt_exec_points.proofs.instruction.refer_to.Goals as goal
+use Rattle.tt_exec_points.proofs.moving.refer_to.Goals as goal
 
 pub returns : goal.returns
 returns c =

@@ -1,5 +1,5 @@
 use Rattle.std.proofs.Common.{refl}
-use Rattle.tt_exec_points.proofs.instruction.does_nothing.Goals as goal
+use Rattle.tt_exec_points.proofs.several.does_nothing.Goals as goal
 
 pub returns-then-not-referred : goal.returns-then-not-referred
 returns-then-not-referred c = rw c.if-not-referred.true refl

@@ -1,0 +1,218 @@
+//! The instructions on several points: ALIGNRP, IP, SHP, SHPIX, FLIPPT, FLIPRGON, FLIPRGOFF, SHC, SHZ, DELTAP1 to
+//! DELTAP3, IUP. Apple TrueType Reference Manual, "Instruction set": managing outlines, managing exceptions.
+
+ghost use Rattle.std.specs.Prelude.{◌≡◌};
+ghost use Rattle.tt_core.specs.Outcomes.{Gives};
+ghost use Rattle.tt_exec_points.specs.Instruction as is;
+ghost use Rattle.tt_exec_points.specs.Popping as popping;
+ghost use Rattle.tt_points_iup.specs.Interpolation as interpolation;
+
+use crate::points::Points;
+use crate::popping::{pairs_counted, pairs_there, unless_missing};
+use tt_core::Why;
+use tt_exec_stack::Stack;
+use tt_points_iup::iup;
+use tt_points_loops::deltas::{DeltaRange, deltap};
+use tt_points_loops::flipping::{flippt, fliprgoff, fliprgon};
+use tt_points_loops::moving::{alignrp, ip, shpix};
+use tt_points_loops::shifting::{ReferencePoint, reference_number, reference_zone, shc, shp, shz};
+use tt_state::{Axis, GraphicsState, Tolerance};
+
+/// Applies a change to the points whose numbers are on the stack. The loop variable is their count. A tolerant machine
+/// takes no point if the reference point is missing or the stack has fewer. Error: StackShort.
+macro_rules! looped {
+    ($tolerance:ident, $referred:expr, $stack:ident, $graphics:ident, $numbers:ident => $change:expr) => {{
+        if $tolerance.is_tolerant() && does_nothing($referred, $stack, $graphics) {
+            $graphics.loops = 1;
+            return Ok(());
+        }
+        let many = $graphics.loops as usize;
+        let $numbers = $stack.top(many)?;
+        $change?;
+        $stack.discard(many);
+        Ok(())
+    }};
+}
+
+/// Whether no point is taken: the reference point is missing, or the stack has fewer points than the loop variable.
+fn does_nothing(referred: bool, stack: &Stack, graphics: &GraphicsState) -> bool
+    ensures { result ≡ popping.too_little referred stack.now graphics.now }
+{
+    !referred || stack.len() < graphics.loops as usize
+}
+
+impl Points {
+    /// ALIGNRP[], 0x3C: loop points -> nothing. Errors: PointRange, Perpendicular, ValueRange.
+    pub(crate) fn alignrp(
+        &mut self,
+        tolerance: Tolerance,
+        stack: &mut Stack,
+        graphics: &mut GraphicsState,
+    ) -> Result<(), Why>
+        ensures { let given = is.alignrp tolerance stack.old self.old graphics.old in
+            Gives (λ u. (stack.new, self.new, graphics.new)) result given }
+    {
+        looped!(tolerance, self.zones.has(graphics.zp0, graphics.rp0), stack, graphics, numbers =>
+            alignrp(&mut self.zones, graphics, tolerance, numbers))
+    }
+
+    /// IP[], 0x39: loop points -> nothing. Errors: PointRange, Perpendicular, ValueRange.
+    pub(crate) fn ip(
+        &mut self,
+        tolerance: Tolerance,
+        stack: &mut Stack,
+        graphics: &mut GraphicsState,
+    ) -> Result<(), Why>
+        ensures { let given = is.ip tolerance stack.old self.old graphics.old in
+            Gives (λ u. (stack.new, self.new, graphics.new)) result given }
+    {
+        looped!(tolerance, self.zones.has(graphics.zp0, graphics.rp1), stack, graphics, numbers =>
+            ip(&mut self.zones, graphics, tolerance, numbers))
+    }
+
+    /// Whether the reference point that others follow exists.
+    #[tactic(auto, unfolding(crate::specs::Instruction::has_reference))]
+    fn has_reference(&self, which: ReferencePoint, graphics: &GraphicsState) -> bool
+        ensures { result ≡ is.has_reference which self.now graphics.now }
+    {
+        self.zones.has(
+            reference_zone(graphics, which),
+            reference_number(graphics, which),
+        )
+    }
+
+    /// SHP[a], 0x32 and 0x33: loop points -> nothing. Errors: PointRange, Perpendicular, ValueRange.
+    pub(crate) fn shp(
+        &mut self,
+        tolerance: Tolerance,
+        which: ReferencePoint,
+        stack: &mut Stack,
+        graphics: &mut GraphicsState,
+    ) -> Result<(), Why>
+        ensures { let given = is.shp tolerance which stack.old self.old graphics.old in
+            Gives (λ u. (stack.new, self.new, graphics.new)) result given }
+    {
+        looped!(tolerance, self.has_reference(which, graphics), stack, graphics, numbers =>
+            shp(&mut self.zones, graphics, tolerance, which, numbers))
+    }
+
+    /// SHPIX[], 0x38: loop points, amount -> nothing. Errors: PointRange, ValueRange.
+    pub(crate) fn shpix(
+        &mut self,
+        tolerance: Tolerance,
+        stack: &mut Stack,
+        graphics: &mut GraphicsState,
+    ) -> Result<(), Why>
+        ensures { let given = is.shpix tolerance stack.old self.old graphics.old in
+            Gives (λ u. (stack.new, self.new, graphics.new)) result given }
+    {
+        let amount = stack.pop()?;
+        looped!(tolerance, true, stack, graphics, numbers =>
+            shpix(&mut self.zones, graphics, tolerance, numbers, amount))
+    }
+
+    /// FLIPPT[], 0x80: loop points -> nothing. Error: PointRange.
+    pub(crate) fn flippt(
+        &mut self,
+        tolerance: Tolerance,
+        stack: &mut Stack,
+        graphics: &mut GraphicsState,
+    ) -> Result<(), Why>
+        ensures { let given = is.flippt tolerance stack.old self.old graphics.old in
+            Gives (λ u. (stack.new, self.new, graphics.new)) result given }
+    {
+        looped!(tolerance, true, stack, graphics, numbers => flippt(&mut self.zones, graphics, tolerance, numbers))
+    }
+
+    /// FLIPRGON[], 0x81: low, high -> nothing. Error: PointRange.
+    pub(crate) fn fliprgon(
+        &mut self,
+        tolerance: Tolerance,
+        stack: &mut Stack,
+        graphics: &GraphicsState,
+    ) -> Result<(), Why>
+        ensures { let given = is.fliprgon tolerance stack.old self.old graphics.now in
+            Gives (λ u. (stack.new, self.new, graphics.now)) result given }
+    {
+        let high = stack.pop()?;
+        let low = stack.pop()?;
+        unless_missing!(tolerance, fliprgon(&mut self.zones, low, high), ())
+    }
+
+    /// FLIPRGOFF[], 0x82: low, high -> nothing. Error: PointRange.
+    pub(crate) fn fliprgoff(
+        &mut self,
+        tolerance: Tolerance,
+        stack: &mut Stack,
+        graphics: &GraphicsState,
+    ) -> Result<(), Why>
+        ensures { let given = is.fliprgoff tolerance stack.old self.old graphics.now in
+            Gives (λ u. (stack.new, self.new, graphics.now)) result given }
+    {
+        let high = stack.pop()?;
+        let low = stack.pop()?;
+        unless_missing!(tolerance, fliprgoff(&mut self.zones, low, high), ())
+    }
+
+    /// SHC[a], 0x34 and 0x35: contour -> nothing. Errors: ContourRange, PointRange, Perpendicular, ValueRange.
+    pub(crate) fn shc(
+        &mut self,
+        tolerance: Tolerance,
+        which: ReferencePoint,
+        stack: &mut Stack,
+        graphics: &GraphicsState,
+    ) -> Result<(), Why>
+        ensures { let given = is.shc tolerance which stack.old self.old graphics.now in
+            Gives (λ u. (stack.new, self.new, graphics.now)) result given }
+    {
+        let contour = stack.pop()?;
+        unless_missing!(
+            tolerance,
+            shc(&mut self.zones, graphics, which, contour),
+            ()
+        )
+    }
+
+    /// SHZ[a], 0x36 and 0x37: zone -> nothing. Errors: ZoneRange, PointRange, Perpendicular, ValueRange.
+    pub(crate) fn shz(
+        &mut self,
+        tolerance: Tolerance,
+        which: ReferencePoint,
+        stack: &mut Stack,
+        graphics: &GraphicsState,
+    ) -> Result<(), Why>
+        ensures { let given = is.shz tolerance which stack.old self.old graphics.now in
+            Gives (λ u. (stack.new, self.new, graphics.now)) result given }
+    {
+        let zone = stack.pop()?;
+        unless_missing!(tolerance, shz(&mut self.zones, graphics, which, zone), ())
+    }
+
+    /// DELTAP1[], DELTAP2[] and DELTAP3[], 0x5D, 0x71 and 0x72: n pairs of an argument and a point, n -> nothing.
+    /// Errors: BadArgument, PointRange, Perpendicular, ValueRange.
+    pub(crate) fn deltap(
+        &mut self,
+        tolerance: Tolerance,
+        range: DeltaRange,
+        ppem: u32,
+        stack: &mut Stack,
+        graphics: &GraphicsState,
+    ) -> Result<(), Why>
+        ensures { let given = is.deltap tolerance range ppem stack.old self.old graphics.now in
+            Gives (λ u. (stack.new, self.new, graphics.now)) result given }
+    {
+        let many = pairs_counted(stack)?;
+        let there = pairs_there(tolerance, many, stack);
+        let pairs = stack.top(there)?;
+        deltap(&mut self.zones, graphics, tolerance, range, ppem, pairs)?;
+        stack.discard(many.min(stack.len()));
+        Ok(())
+    }
+
+    /// IUP[a], 0x30 along y and 0x31 along x: -> nothing. Error: ValueRange.
+    pub(crate) fn iup(&mut self, axis: Axis) -> Result<(), Why>
+        ensures { Gives (λ u. self.new) result (interpolation.iup axis self.old) }
+    {
+        iup(&mut self.zones, axis)
+    }
+}
