@@ -63,6 +63,10 @@ pub kept_alone : (r s t : Strike) → s ≡ record r { kept = s.kept } → t ≡
     → t ≡ record r { kept = t.kept }
 kept_alone r s t first second = second ∙ ap (λ (x : Strike). record x { kept = t.kept }) first
 
+-- a strike that differs in its cached glyphs alone has the same limit
+pub same_most : (s t : Strike) → t ≡ record s { kept = t.kept } → t.most ≡ s.most
+same_most s t is = ap (λ (r : Strike). r.most) is
+
 -- the limit of a cache by another name
 pub kept_within : (r : Result ℕ TextsFault) (limit most : ℕ) → limit ≡ most → IfOk r (λ n. n ≤ limit)
     → IfOk r (λ n. n ≤ most)

@@ -1,4 +1,4 @@
-use Rattle.std.proofs.Common.{◌≡◌, ℕ, ◌+◌, IfSome, Some, Ok, arith, ap, refl, subst}
+use Rattle.std.proofs.Common.{◌≡◌, ℕ, ◌+◌, IfSome, Some, Ok, arith, refl, subst}
 use Rattle.std.proofs.lemmas.Result.{err_from_is_err_and}
 use Rattle.tt_strike.specs.Strikes.{Strike}
 use Rattle.tt_render.specs.LineReading.{held, line_at, text_left}
@@ -9,7 +9,7 @@ use Rattle.tt_render.specs.Printing.{PrintsBehind, errors_of}
 use Rattle.tt_render.specs.Reports.{told_of}
 use Rattle.tt_render.specs.TextsOutcome.{answer_view, refusal_font_fault}
 use Rattle.tt_render.proofs.DefectLines.{begun_tells, next_tells, stop_tells}
-use Rattle.tt_render.proofs.DrawnLines.{SoFar, all_drawn, drawn_alike, drawn_too, kept_alone, many_sent, none_so_far, one_more, reader_at_end, some_sent, whole_text}
+use Rattle.tt_render.proofs.DrawnLines.{SoFar, all_drawn, drawn_alike, drawn_too, kept_alone, many_sent, none_so_far, one_more, reader_at_end, same_most, some_sent, whole_text}
 use Rattle.tt_render.proofs.StoppedLines.{cut_sent, stopped_before, stopped_in}
 use Rattle.tt_render.proofs.Printed.{keeps_itself}
 use Rattle.tt_render.proofs.line_drawing.draw_lines_by.Goals as goal
@@ -201,10 +201,8 @@ returns-in-Err-draw_line-clause-defects g c =
     c.loop-before.used why so_far.so_far (next_tells IsOne rest after line why found.1 is))
 
 pub returns-in-Ok-None-clause-kept : goal.returns-in-Ok-None-clause-kept
-returns-in-Ok-None-clause-kept g c =
-    let most = λ (s : Strike). s.most in
-    omega (
-      arith,
-      c.kept_bytes.ensures.most,
-      ap most c.loop-before.invariant.strike,
-    )
+returns-in-Ok-None-clause-kept g c = omega (
+  arith,
+  c.kept_bytes.ensures.most,
+  same_most c.args.strike.now c.loop-before.strike c.loop-before.invariant.strike,
+)
