@@ -1,4 +1,4 @@
-use Rattle.std.proofs.Common.{sym}
+use Rattle.std.proofs.Common.{◌∙◌, sym}
 use Rattle.tt_fit.proofs.Falling.{left-where-enough, left-where-spent, made-unfitted, unfitted-where-refused, on-ok}
 use Rattle.tt_fit.proofs.fitting.Fitter.refused.Goals as goal
 
@@ -22,4 +22,4 @@ pub returns-in-Spent-clause-left : goal.returns-in-Spent-clause-left
 returns-in-Spent-clause-left c =
     let over = rw c.in-Spent.is at c.requires.work in
     on-ok c.marked-in-Spent.result _
-    (sym (left-where-spent c.args.self.now c.args.g c.in-Spent.over c.requires.fallback over))
+    (c.of.ensures ∙ sym (left-where-spent c.args.self.now c.args.g c.in-Spent.over c.requires.fallback over))
