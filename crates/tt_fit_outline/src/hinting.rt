@@ -16,10 +16,10 @@ ghost use Rattle.tt_fit_outline.specs.Work.{Makes, WorkGives, code_work, hinted_
 use crate::glyph_program::GlyphProgram;
 use crate::glyph_zone::{left_outline, on_grid};
 use crate::outline::Outline;
+use crate::outline_fault::{OutlineFault, refusal_of};
 use crate::parts::{glyph_zones, without_contents};
 use crate::scaling::glyf_fault;
 use crate::units::Units;
-use crate::unmade::{Unmade, refusal_of};
 use std::alloc::{AllocError, Global};
 use tt_core::Why;
 use tt_exec::{Code, Copies, Machine, Parts, Work};
@@ -43,7 +43,7 @@ pub fn run<'a>(
     parts: Parts<'a>,
     code: Code<'a>,
     work: &mut Work,
-) -> Result<Parts<'a>, Unmade>
+) -> Result<Parts<'a>, OutlineFault>
     requires { AreParts (parts_of parts) }
     ensures exact { Makes parts_of result (run_of (code_of code.entry) (parts_of parts.entry)) }
     ensures work { WorkGives result work.new.left (code_work (code_of code.entry) (parts_of parts.entry) work.old.left) }
@@ -122,7 +122,7 @@ fn by_program<'a>(
     program: GlyphProgram<'a, '_>,
     outline: Outline,
     work: &mut Work,
-) -> Result<Outline, Unmade>
+) -> Result<Outline, OutlineFault>
     requires parts { AreParts (parts_of parts.now) }
     requires outline { IsOutline (outline_of outline) }
     ensures exact { Makes outline_of result (by_program (parts_of parts.now) (program_view program.entry) (outline_of outline)) }
@@ -131,7 +131,7 @@ fn by_program<'a>(
 {
     let grid = on_grid(program.glyph_at, &outline.phantom)?;
     let Some(mut copies) = parts.pay(work) else {
-        return Err(Unmade::Spent(glyf_fault(program.code_at, Why::StepLimit)));
+        return Err(OutlineFault::Spent(glyf_fault(program.code_at, Why::StepLimit)));
     };
     put_glyph(
         alloc,
@@ -157,7 +157,7 @@ pub fn hinted<'a>(
     program: GlyphProgram<'a, '_>,
     outline: Outline,
     work: &mut Work,
-) -> Result<Outline, Unmade>
+) -> Result<Outline, OutlineFault>
     requires hinting { IsHinting (hinting_view hinting.now) }
     requires outline { IsOutline (outline_of outline) }
     ensures exact { Makes outline_of result (hinted (hinting_view hinting.now) (program_view program.entry) (outline_of outline)) }
