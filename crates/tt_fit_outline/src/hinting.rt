@@ -70,8 +70,17 @@ fn code_in_glyf<'a>(program: GlyphProgram<'a, '_>) -> Code<'a>
     }
 }
 
-/// The machine for the programs of all glyphs, made before the first. A new machine copies nothing: the first glyph is
-/// put into it like each later one.
+/// A machine for the programs of all glyphs. It copies nothing: the first glyph is put into it like each later one. Not
+/// inline: a machine takes 100 kB, and each glyph's frame would have room for one.
+#[inline(never)]
+fn first_machine<'a>(alloc: Global, parts: &Parts<'a>) -> Result<Box<Machine<'a>>, AllocError>
+    requires { AreParts (parts_of parts.now) }
+{
+    let parts = without_contents(alloc, parts)?;
+    Ok(Box::new(alloc, Machine::new(alloc, parts)?)?)
+}
+
+/// The machine of the glyphs before, or a first one.
 fn machine_of_all<'a>(
     alloc: Global,
     machine: GlyphMachine<'a>,
@@ -81,10 +90,7 @@ fn machine_of_all<'a>(
 {
     match machine {
         Some(machine) => Ok(machine),
-        None => {
-            let parts = without_contents(alloc, parts)?;
-            Ok(Box::new(alloc, Machine::new(alloc, parts)?)?)
-        }
+        None => first_machine(alloc, parts),
     }
 }
 
