@@ -6,8 +6,8 @@ use Rattle.tt_core.specs.declared.font_fault.FontFault.{FontFault}
 use Rattle.tt_core.specs.declared.font_fault.FontFault.TheVariants as font
 use Rattle.tt_exec.specs.Work.{Worked, enough}
 use Rattle.tt_glyf.specs.declared.raw.Record.{Record}
-use Rattle.tt_fit_outline.specs.declared.unmade.Unmade.{Unmade}
-use Rattle.tt_fit_outline.specs.declared.unmade.Unmade.TheVariants as unmade
+use Rattle.tt_fit_outline.specs.declared.outline_fault.OutlineFault.{OutlineFault}
+use Rattle.tt_fit_outline.specs.declared.outline_fault.OutlineFault.TheVariants as outline
 use Rattle.tt_fit_outline.specs.Joining.{placed}
 use Rattle.tt_glyf.specs.GlyphData.{glyph_data_of}
 use Rattle.tt_glyf.specs.Loca.{glyph_offset}
@@ -16,7 +16,7 @@ use Rattle.tt_fit_outline.specs.Hinting.{hinted}
 use Rattle.tt_fit.specs.Fitting.{Fitter, size_of, start, simple_program, composite_program, joined, added, outline_at, added_work, outline_work}
 use Rattle.tt_fit_outline.specs.Outline.{Outline}
 use Rattle.tt_fit_outline.specs.Scaling.{scaled_outline}
-use Rattle.tt_fit_outline.specs.Work.{RefusalLeaves, unmade_fault, unmade_of}
+use Rattle.tt_fit_outline.specs.Work.{RefusalLeaves, outline_fault, outline_fault_of}
 use Rattle.tt_fit.specs.Work.{joined_work}
 
 pub one_record_more : (add : Record → Outline → Result Outline Fault) (rs : List Record) (i : ℕ) (d : Record)
@@ -49,14 +49,14 @@ simple_made s levels g d o scaled read begun scales = rw (read, begun, scales) r
 pub simple_refused : (s : Fitter) (levels g : ℕ) (d : SimpleGlyph) (o : Outline) (fault : FontFault)
     → glyph_data_of s.tables g ≡ Ok (simple d) → start s d.x_min g ≡ Ok o
     → IfSome (font_fault fault) (λ f. scaled_outline (size_of s) (glyph_offset s.tables g) d.points d.ends o ≡ Err f)
-    → IfSome (unmade_fault (unmade_of fault)) (λ f. outline_at s levels g ≡ Err f)
+    → IfSome (outline_fault (outline_fault_of fault)) (λ f. outline_at s levels g ≡ Err f)
 simple_refused s levels g d o (font.Font f) read begun fails = rw (read, begun, fails) refl
 simple_refused s levels g d o font.Memory read begun fails = tt
 
 pub simple_unpaid : (s : Fitter) (levels g : ℕ) (d : SimpleGlyph) (o : Outline) (fault : FontFault) (left : Option ℕ)
     → glyph_data_of s.tables g ≡ Ok (simple d) → start s d.x_min g ≡ Ok o
     → IfSome (font_fault fault) (λ f. scaled_outline (size_of s) (glyph_offset s.tables g) d.points d.ends o ≡ Err f)
-    → RefusalLeaves (unmade_of fault) left (outline_work s levels g left)
+    → RefusalLeaves (outline_fault_of fault) left (outline_work s levels g left)
 simple_unpaid s levels g d o (font.Font f) left read begun fails = rw (read, begun, fails) refl
 simple_unpaid s levels g d o font.Memory left read begun fails = tt
 
@@ -76,14 +76,14 @@ one_record_paid add work rs i d o next left rest below gives pays =
 
 -- the work of a refused record
 pub one_record_refused : (add : Record → Outline → Result Outline Fault) (work : Record → Option ℕ → Worked)
-    (rs : List Record) (i : ℕ) (d : Record) (o : Outline) (left new : Option ℕ) (refusal : Unmade) → i < length rs
-    → IfSome (unmade_fault refusal) (λ f. add (get_or rs i d) o ≡ Err f)
+    (rs : List Record) (i : ℕ) (d : Record) (o : Outline) (left new : Option ℕ) (refusal : OutlineFault) → i < length rs
+    → IfSome (outline_fault refusal) (λ f. add (get_or rs i d) o ≡ Err f)
     → RefusalLeaves refusal new (work (get_or rs i d) left)
     → RefusalLeaves refusal new (joined_work add work (drop i rs) o left)
-one_record_refused add work rs i d o left new (unmade.Font f) below fails pays =
+one_record_refused add work rs i d o left new (outline.Font f) below fails pays =
     rw (drop-cons rs i d below, pays, fails) refl
-one_record_refused add work rs i d o left new unmade.Memory below fails pays = tt
-one_record_refused add work rs i d o left new (unmade.Spent f) below fails pays =
+one_record_refused add work rs i d o left new outline.Memory below fails pays = tt
+one_record_refused add work rs i d o left new (outline.Spent f) below fails pays =
     rw (drop-cons rs i d below, pays) refl
 
 -- the work of a record with a level remaining

@@ -13,8 +13,8 @@ use Rattle.tt_glyf.specs.Raw.{Raw, empty, simple, composite}
 use Rattle.tt_metrics.specs.Metrics.{Metrics}
 use Rattle.tt_fit.specs.declared.programs.Fit.{Fit}
 use Rattle.tt_fit.specs.declared.programs.Fit.TheVariants as fit
-use Rattle.tt_fit_outline.specs.declared.unmade.Unmade.{Unmade}
-use Rattle.tt_fit_outline.specs.declared.unmade.Unmade.TheVariants as unmade
+use Rattle.tt_fit_outline.specs.declared.outline_fault.OutlineFault.{OutlineFault}
+use Rattle.tt_fit_outline.specs.declared.outline_fault.OutlineFault.TheVariants as outline
 use Rattle.tt_fit.specs.Fitting.{Fitter, size_of, start, composite_program, simple_program, joined, added, simple_work, composite_work, made_work, work_by, added_work, outline_work}
 use Rattle.tt_fit_outline.specs.GlyphZone.{GlyphProgram, program_in_glyf, on_grid_at}
 use Rattle.tt_fit_outline.specs.Hinting.{Hinting, off, ready, is_run, run_of}
@@ -121,8 +121,8 @@ prepared-falling m programs ppem fit.None is = elim is [
 ]
 
 -- no call is refused for exceeded work
-pub never-spent : (refusal : Unmade) (new : Option ℕ) (worked : Worked) → worked ≡ enough None
+pub never-spent : (refusal : OutlineFault) (new : Option ℕ) (worked : Worked) → worked ≡ enough None
     → RefusalLeaves refusal new worked → IsUnbounded refusal
-never-spent (unmade.Font f) new worked free leaves = tt
-never-spent unmade.Memory new worked free leaves = tt
-never-spent (unmade.Spent f) new worked free leaves = absurd cc
+never-spent (outline.Font f) new worked free leaves = tt
+never-spent outline.Memory new worked free leaves = tt
+never-spent (outline.Spent f) new worked free leaves = absurd cc

@@ -15,7 +15,7 @@ ghost use Rattle.tt_face.specs.Programs.{program_tables};
 ghost use Rattle.tt_fit.specs.Preparation.{fitter_of};
 ghost use Rattle.tt_fit_outline.specs.Hinting.{IsHinting};
 ghost use Rattle.tt_fit_outline.specs.Views.{hinting_view};
-ghost use Rattle.tt_fit_outline.specs.Work.{RefusalLeaves, unmade_fault};
+ghost use Rattle.tt_fit_outline.specs.Work.{RefusalLeaves, outline_fault};
 
 use crate::counting::left_after;
 use crate::dropouts::{DropoutRules, DropoutsBy, program_rules};
@@ -28,7 +28,7 @@ use std::alloc::{AllocError, Global};
 use std::marker::Model;
 use tt_core::{Fault, FontFault};
 use tt_exec::Work;
-use tt_fit_outline::{GlyphMachine, Hinting, Outline, Scaling, Unmade, unbounded};
+use tt_fit_outline::{GlyphMachine, Hinting, Outline, OutlineFault, Scaling, unbounded};
 use tt_glyf::Glyf;
 use tt_metrics::Metrics;
 
@@ -213,8 +213,8 @@ impl<'a> Fitter<'a> {
         ensures left { OnOk result (work.new.left ≡ (after_glyph self.now g).work) }
     {
         match self.fallback {
-            Fallback::Never => self.made(machine, &self.hinting, g, None),
-            Fallback::Everywhere(fault) => self.made(machine, &Hinting::Off, g, Some(fault)),
+            Fallback::Never => self.marked(machine, &self.hinting, g, None),
+            Fallback::Everywhere(fault) => self.marked(machine, &Hinting::Off, g, Some(fault)),
             Fallback::WhereRefused => {
                 match self.outline(machine, &self.hinting, self.levels, g, work) {
                     Ok(outline) => Ok(Outline {
@@ -233,36 +233,36 @@ impl<'a> Fitter<'a> {
     fn refused(
         &self,
         g: u16,
-        refusal: Unmade,
+        refusal: OutlineFault,
         machine: &mut GlyphMachine<'a>,
         work: &mut Work,
     ) -> Result<Outline, FontFault>
         requires known { g < self.now.tables.glyphs }
         requires fallback { self.now.fallback ≡ where_refused }
         requires work { RefusalLeaves refusal work.old.left (glyph_work self.now g self.now.work) }
-        requires fault { IfSome (unmade_fault refusal) (λ f. outline_at (with_hinting self.now self.now.hinting) self.now.levels g ≡ Err f) }
+        requires fault { IfSome (outline_fault refusal) (λ f. outline_at (with_hinting self.now self.now.hinting) self.now.levels g ≡ Err f) }
         ensures exact { FontGives outline_of result (fitted_outline self.now g) }
         ensures unfitted { IfOk result (λ o. o.unfitted ≡ unfitted_fault self.now g) }
         ensures valid { IfOk result (λ o. IsOutline (outline_of o)) }
         ensures left { OnOk result (work.new.left ≡ (after_glyph self.now g).work) }
     {
         match refusal {
-            Unmade::Font(fault) => {
+            OutlineFault::Font(fault) => {
                 if !is_program_fault(fault) {
                     return Err(FontFault::Font(fault));
                 }
-                self.made(machine, &Hinting::Off, g, Some(fault))
+                self.marked(machine, &Hinting::Off, g, Some(fault))
             }
-            Unmade::Memory => Err(FontFault::Memory),
-            Unmade::Spent(over) => {
-                *work = Work { left: Some(0) };
-                self.made(machine, &Hinting::Off, g, Some(over))
+            OutlineFault::Memory => Err(FontFault::Memory),
+            OutlineFault::Spent(over) => {
+                *work = Work::of(0);
+                self.marked(machine, &Hinting::Off, g, Some(over))
             }
         }
     }
 
     /// The outline of a glyph by `hinting`, marked with the fault that makes it unfitted. Work is not bounded.
-    fn made(
+    fn marked(
         &self,
         machine: &mut GlyphMachine<'a>,
         hinting: &Hinting<'a>,
@@ -275,7 +275,7 @@ impl<'a> Fitter<'a> {
         ensures unfitted { IfOk result (λ o. o.unfitted ≡ unfitted) }
         ensures valid { IfOk result (λ o. IsOutline (outline_of o)) }
     {
-        let mut work = Work { left: None };
+        let mut work = Work::unbounded();
         match self.outline(machine, hinting, self.levels, g, &mut work) {
             Ok(outline) => Ok(Outline {
                 unfitted,

@@ -17,7 +17,7 @@ use crate::fitting::Fitter;
 use tt_core::{Fault, Why};
 use tt_exec::Work;
 use tt_fit_outline::{
-    FontSize, GlyphMachine, GlyphProgram, Hinting, Outline, Scaling, Units, Unmade, blank,
+    FontSize, GlyphMachine, GlyphProgram, Hinting, Outline, OutlineFault, Scaling, Units, blank,
     glyf_fault, hinted, phantom_points, phantom_units, placed, scaled_outline,
 };
 use tt_glyf::{Raw, RawPoint, Record};
@@ -81,7 +81,7 @@ impl<'a> Fitter<'a> {
         levels: u32,
         g: u16,
         work: &mut Work,
-    ) -> Result<Outline, Unmade>
+    ) -> Result<Outline, OutlineFault>
         requires hinting { IsHinting (hinting_view hinting.now) }
         requires known { g < self.now.tables.glyphs }
         ensures exact { Makes outline_of result (outline_at (with_hinting self.now (hinting_view hinting.now)) levels g) }
@@ -135,7 +135,7 @@ impl<'a> Fitter<'a> {
         records: &[Record],
         start: Outline,
         work: &mut Work,
-    ) -> Result<Outline, Unmade>
+    ) -> Result<Outline, OutlineFault>
         requires hinting { IsHinting (hinting_view hinting.now) }
         requires known { All (λ r. r.glyph < self.now.tables.glyphs) records.now }
         requires arguments { All HasArguments records.now }
@@ -162,7 +162,7 @@ impl<'a> Fitter<'a> {
         part: Record,
         so_far: Outline,
         work: &mut Work,
-    ) -> Result<Outline, Unmade>
+    ) -> Result<Outline, OutlineFault>
         requires hinting { IsHinting (hinting_view hinting.now) }
         requires known { part.glyph < self.now.tables.glyphs }
         requires arguments { HasArguments part }
@@ -172,7 +172,7 @@ impl<'a> Fitter<'a> {
         ensures valid { IfOk result (λ o. IsOutline (outline_of o)) }
     {
         if levels == 0 {
-            return Err(Unmade::Font(glyf_fault(part.at, Why::ComponentDepth)));
+            return Err(OutlineFault::Font(glyf_fault(part.at, Why::ComponentDepth)));
         }
         let component = self.outline(machine, hinting, levels - 1, part.glyph, work)?;
         Ok(placed(self.size(), part, &component, so_far)?)

@@ -23,7 +23,7 @@ use std::alloc::Global;
 use std::mem::swap;
 use tt_core::{Fault, FontFault};
 use tt_exec::{Code, Work};
-use tt_fit_outline::{Hinting, Unmade, begun_parts, left_to_glyphs, run, unbounded};
+use tt_fit_outline::{Hinting, OutlineFault, begun_parts, left_to_glyphs, run, unbounded};
 use tt_metrics::Metrics;
 
 /// The state for glyph programs, which glyphs are unfitted, and the job's remaining work.
@@ -56,7 +56,7 @@ fn left_by_programs<'a>(
     ppem: u32,
     fit: Fit,
     work: &mut Work,
-) -> Result<Hinting<'a>, Unmade>
+) -> Result<Hinting<'a>, OutlineFault>
     requires ppem { ppem ≤ size_limit }
     requires fpgm { length programs.fpgm.now ≤ font_limit }
     requires prep { length programs.prep.now ≤ font_limit }
@@ -86,7 +86,7 @@ fn without_fallback<'a>(hinting: Hinting<'a>) -> Preparation<'a>
     Preparation {
         hinting,
         fallback: Fallback::Never,
-        work: Work { left: None },
+        work: Work::unbounded(),
     }
 }
 
@@ -125,9 +125,9 @@ fn with_fallback<'a>(
             work,
         }),
         Err(refusal) => match refusal {
-            Unmade::Font(fault) => Ok(all_unfitted(fault, work)),
-            Unmade::Memory => Err(FontFault::Memory),
-            Unmade::Spent(fault) => Ok(all_unfitted(fault, Work { left: Some(0) })),
+            OutlineFault::Font(fault) => Ok(all_unfitted(fault, work)),
+            OutlineFault::Memory => Err(FontFault::Memory),
+            OutlineFault::Spent(fault) => Ok(all_unfitted(fault, Work::of(0))),
         },
     }
 }
@@ -150,7 +150,7 @@ pub(crate) fn prepared<'a>(
 {
     match fit {
         Fit::Full => {
-            let mut work = Work { left: None };
+            let mut work = Work::unbounded();
             match left_by_programs(alloc, metrics, programs, ppem, fit, &mut work) {
                 Ok(hinting) => Ok(without_fallback(hinting)),
                 Err(refusal) => Err(unbounded(refusal)),

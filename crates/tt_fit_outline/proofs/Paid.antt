@@ -10,15 +10,15 @@ use Rattle.tt_exec.specs.Parts.{Parts}
 use Rattle.tt_exec.specs.Worked.{OutcomeWithin, WorkIs}
 use Rattle.tt_exec.specs.declared.work.WorkFault.{WorkFault}
 use Rattle.tt_exec_step.specs.Runs.{run_outcome}
-use Rattle.tt_fit_outline.specs.declared.unmade.Unmade.{Unmade}
-use Rattle.tt_fit_outline.specs.declared.unmade.Unmade.TheVariants as unmade
+use Rattle.tt_fit_outline.specs.declared.outline_fault.OutlineFault.{OutlineFault}
+use Rattle.tt_fit_outline.specs.declared.outline_fault.OutlineFault.TheVariants as outline
 use Rattle.tt_fit_outline.specs.Hinting.{by_program, run_of}
 use Rattle.tt_exec.specs.Work.{Worked, enough, spent, charged, copied_of, over_at, work_within}
 use Rattle.tt_fit_outline.specs.GlyphZone.{GlyphProgram, program_in_glyf, on_grid_at}
 use Rattle.tt_fit_outline.specs.Outline.{Outline, PhantomPoints}
 use Rattle.tt_fit_outline.specs.Parts.{parts_with}
 use Rattle.tt_fit_outline.specs.Scaling.{glyf_fault}
-use Rattle.tt_fit_outline.specs.Work.{RefusalLeaves, program_work, unmade_fault, work_fault}
+use Rattle.tt_fit_outline.specs.Work.{RefusalLeaves, program_work, outline_fault, work_fault}
 
 -- the state in which a glyph's program begins
 abbrev pub begins : Parts → GlyphProgram → Outline → PhantomPoints → MachineState
@@ -48,20 +48,20 @@ copies-paid parts p o grid left rest code machine on pays is put =
 
 -- a run's refusal is the glyph's
 pub program-refused : (parts : Parts) (p : GlyphProgram) (o : Outline) (grid : PhantomPoints) (code : Code)
-    (machine new : Machine) (fault : WorkFault) (refusal : Unmade) → on_grid_at p.glyph_at o.phantom ≡ Ok grid
+    (machine new : Machine) (fault : WorkFault) (refusal : OutlineFault) → on_grid_at p.glyph_at o.phantom ≡ Ok grid
     → code ≡ program_in_glyf p → machine ≡ begun_again (parts_with parts p.units o grid)
     → fault ≡ work_fault refusal → OutcomeWithin (run_outcome (run_from code machine.state)) (Err fault) new
-    → IfSome (unmade_fault refusal) (λ f. by_program parts p o ≡ Err f)
+    → IfSome (outline_fault refusal) (λ f. by_program parts p o ≡ Err f)
 unfolding by_program run_of
-program-refused parts p o grid code machine new fault (unmade.Font f) on is put same fails =
+program-refused parts p o grid code machine new fault (outline.Font f) on is put same fails =
     let told : run_outcome (begins parts p o grid) ≡ Err f = rw (same, is, put) at fails in
     rw (on, told) refl
-program-refused parts p o grid code machine new fault unmade.Memory on is put same fails = tt
-program-refused parts p o grid code machine new fault (unmade.Spent f) on is put same fails = tt
+program-refused parts p o grid code machine new fault outline.Memory on is put same fails = tt
+program-refused parts p o grid code machine new fault (outline.Spent f) on is put same fails = tt
 
-pub refusal-leaves : (worked : Option ℕ → Worked) (old new : Option ℕ) (fault : WorkFault) (refusal : Unmade)
+pub refusal-leaves : (worked : Option ℕ → Worked) (old new : Option ℕ) (fault : WorkFault) (refusal : OutlineFault)
     → fault ≡ work_fault refusal → WorkIs worked old (Err fault) new → RefusalLeaves refusal new (worked old)
-refusal-leaves worked old new fault (unmade.Font f) same is = rw same at is
-refusal-leaves worked old new fault unmade.Memory same is = tt
-refusal-leaves worked old new fault (unmade.Spent f) same is =
+refusal-leaves worked old new fault (outline.Font f) same is = rw same at is
+refusal-leaves worked old new fault outline.Memory same is = tt
+refusal-leaves worked old new fault (outline.Spent f) same is =
     let over : (worked old ≡ spent f) × (new ≡ Some 0) = rw same at is in over.0

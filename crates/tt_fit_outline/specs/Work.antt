@@ -12,8 +12,8 @@ use Rattle.tt_exec.specs.Machines.{fresh, run_from}
 use Rattle.tt_exec_step.specs.MachineState.{Code}
 use Rattle.tt_exec.specs.Parts.{Parts}
 use Rattle.tt_exec.specs.Work.{Worked, enough, spent, run_work}
-use Rattle.tt_fit_outline.specs.declared.unmade.Unmade.{Unmade}
-use Rattle.tt_fit_outline.specs.declared.unmade.Unmade.TheVariants as unmade
+use Rattle.tt_fit_outline.specs.declared.outline_fault.OutlineFault.{OutlineFault}
+use Rattle.tt_fit_outline.specs.declared.outline_fault.OutlineFault.TheVariants as outline
 use Rattle.tt_fit_outline.specs.GlyphZone.{GlyphProgram, program_in_glyf, on_grid_at}
 use Rattle.tt_fit_outline.specs.Hinting.{Hinting, off, ready, is_run}
 use Rattle.tt_fit_outline.specs.Outline.{Outline}
@@ -38,40 +38,40 @@ hinted_work off p o left = enough left
 hinted_work (ready parts) p o left = if is_run parts p then program_work parts p o left else enough left
 
 -- a refusal of a call whose work is not counted
-abbrev pub unmade_of : FontFault → Unmade
-unmade_of (font.Font fault) = unmade.Font fault
-unmade_of font.Memory = unmade.Memory
+abbrev pub outline_fault_of : FontFault → OutlineFault
+outline_fault_of (font.Font fault) = outline.Font fault
+outline_fault_of font.Memory = outline.Memory
 
 -- the refusal as a machine reports it
-abbrev pub work_fault : Unmade → WorkFault
-work_fault (unmade.Font fault) = work.Run (exec.Font fault)
-work_fault unmade.Memory = work.Run exec.Memory
-work_fault (unmade.Spent fault) = work.Spent fault
+abbrev pub work_fault : OutlineFault → WorkFault
+work_fault (outline.Font fault) = work.Run (exec.Font fault)
+work_fault outline.Memory = work.Run exec.Memory
+work_fault (outline.Spent fault) = work.Spent fault
 
 -- the refusal is not for exceeded work
-abbrev pub IsUnbounded : Unmade → Type 0
-IsUnbounded (unmade.Font fault) = Unit {0}
-IsUnbounded unmade.Memory = Unit {0}
-IsUnbounded (unmade.Spent fault) = ⊥
+abbrev pub IsUnbounded : OutlineFault → Type 0
+IsUnbounded (outline.Font fault) = Unit {0}
+IsUnbounded outline.Memory = Unit {0}
+IsUnbounded (outline.Spent fault) = ⊥
 
 -- the defect in a refusal: none where memory ran out or work was exceeded
-abbrev pub unmade_fault : Unmade → Option Fault
-unmade_fault (unmade.Font fault) = Some fault
-unmade_fault unmade.Memory = None
-unmade_fault (unmade.Spent fault) = None
+abbrev pub outline_fault : OutlineFault → Option Fault
+outline_fault (outline.Font fault) = Some fault
+outline_fault outline.Memory = None
+outline_fault (outline.Spent fault) = None
 
 -- a call gives what the definition gives, unless memory ran out or its work is exceeded
-abbrev pub Makes : {X Y : Type 0} → (X → Y) → Result X Unmade → Result Y Fault → Type 0
-Makes view result wanted = GivesUnless unmade_fault view result wanted
+abbrev pub Makes : {X Y : Type 0} → (X → Y) → Result X OutlineFault → Result Y Fault → Type 0
+Makes view result wanted = GivesUnless outline_fault view result wanted
 
 -- the job's remaining work after a refusal: by the work; or the work was exceeded. Nothing is claimed where memory ran
 -- out.
-abbrev pub RefusalLeaves : Unmade → Option ℕ → Worked → Type 0
-RefusalLeaves (unmade.Font fault) new worked = worked ≡ enough new
-RefusalLeaves unmade.Memory new worked = Unit {0}
-RefusalLeaves (unmade.Spent fault) new worked = worked ≡ spent fault
+abbrev pub RefusalLeaves : OutlineFault → Option ℕ → Worked → Type 0
+RefusalLeaves (outline.Font fault) new worked = worked ≡ enough new
+RefusalLeaves outline.Memory new worked = Unit {0}
+RefusalLeaves (outline.Spent fault) new worked = worked ≡ spent fault
 
 -- the job's remaining work after a call
-abbrev pub WorkGives : {X : Type 0} → Result X Unmade → Option ℕ → Worked → Type 0
+abbrev pub WorkGives : {X : Type 0} → Result X OutlineFault → Option ℕ → Worked → Type 0
 WorkGives (Ok x) new worked = worked ≡ enough new
 WorkGives (Err refusal) new worked = RefusalLeaves refusal new worked

@@ -16,10 +16,10 @@ ghost use Rattle.tt_fit_outline.specs.Work.{Makes, WorkGives, code_work, hinted_
 use crate::glyph_program::GlyphProgram;
 use crate::glyph_zone::{left_outline, on_grid};
 use crate::outline::Outline;
+use crate::outline_fault::{OutlineFault, refusal_of};
 use crate::parts::{glyph_zones, without_contents};
 use crate::scaling::glyf_fault;
 use crate::units::Units;
-use crate::unmade::{Unmade, refusal_of};
 use std::alloc::{AllocError, Global};
 use tt_core::Why;
 use tt_exec::{Code, Copies, Machine, Parts, Work};
@@ -43,7 +43,7 @@ pub fn run<'a>(
     parts: Parts<'a>,
     code: Code<'a>,
     work: &mut Work,
-) -> Result<Parts<'a>, Unmade>
+) -> Result<Parts<'a>, OutlineFault>
     requires { AreParts (parts_of parts) }
     ensures exact { Makes parts_of result (run_of (code_of code.entry) (parts_of parts.entry)) }
     ensures work { WorkGives result work.new.left (code_work (code_of code.entry) (parts_of parts.entry) work.old.left) }
@@ -70,8 +70,17 @@ fn code_in_glyf<'a>(program: GlyphProgram<'a, '_>) -> Code<'a>
     }
 }
 
-/// The machine for the programs of all glyphs, made before the first. A new machine copies nothing: the first glyph is
-/// put into it like each later one.
+/// A machine for the programs of all glyphs. It copies nothing: the first glyph is put into it like each later one. Not
+/// inline: a machine takes 100 kB, and each glyph's frame would have room for one.
+#[inline(never)]
+fn first_machine<'a>(alloc: Global, parts: &Parts<'a>) -> Result<Box<Machine<'a>>, AllocError>
+    requires { AreParts (parts_of parts.now) }
+{
+    let parts = without_contents(alloc, parts)?;
+    Ok(Box::new(alloc, Machine::new(alloc, parts)?)?)
+}
+
+/// The machine of the glyphs before, or a first one.
 fn machine_of_all<'a>(
     alloc: Global,
     machine: GlyphMachine<'a>,
@@ -81,10 +90,7 @@ fn machine_of_all<'a>(
 {
     match machine {
         Some(machine) => Ok(machine),
-        None => {
-            let parts = without_contents(alloc, parts)?;
-            Ok(Box::new(alloc, Machine::new(alloc, parts)?)?)
-        }
+        None => first_machine(alloc, parts),
     }
 }
 
@@ -122,7 +128,7 @@ fn by_program<'a>(
     program: GlyphProgram<'a, '_>,
     outline: Outline,
     work: &mut Work,
-) -> Result<Outline, Unmade>
+) -> Result<Outline, OutlineFault>
     requires parts { AreParts (parts_of parts.now) }
     requires outline { IsOutline (outline_of outline) }
     ensures exact { Makes outline_of result (by_program (parts_of parts.now) (program_view program.entry) (outline_of outline)) }
@@ -131,7 +137,7 @@ fn by_program<'a>(
 {
     let grid = on_grid(program.glyph_at, &outline.phantom)?;
     let Some(mut copies) = parts.pay(work) else {
-        return Err(Unmade::Spent(glyf_fault(program.code_at, Why::StepLimit)));
+        return Err(OutlineFault::Spent(glyf_fault(program.code_at, Why::StepLimit)));
     };
     put_glyph(
         alloc,
@@ -157,7 +163,7 @@ pub fn hinted<'a>(
     program: GlyphProgram<'a, '_>,
     outline: Outline,
     work: &mut Work,
-) -> Result<Outline, Unmade>
+) -> Result<Outline, OutlineFault>
     requires hinting { IsHinting (hinting_view hinting.now) }
     requires outline { IsOutline (outline_of outline) }
     ensures exact { Makes outline_of result (hinted (hinting_view hinting.now) (program_view program.entry) (outline_of outline)) }

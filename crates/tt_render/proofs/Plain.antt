@@ -1,5 +1,5 @@
 -- What `draw_text` gives by a plain setting is what `run` gives for the setting's job.
-use Rattle.std.proofs.Common.{◌≡◌, ◌≢◌, ◌∙◌, refl, ap, sym, ℕ, ◌<◌, nat_lt, Bool, true, false, if◌then◌else◌, List, [], length, chars, Option, Some, None, IfSome, Result, Ok, Err, inl, inr, arith}
+use Rattle.std.proofs.Common.{◌≡◌, ◌≢◌, ◌∙◌, refl, ap, sym, subst, ℕ, ◌<◌, nat_lt, Bool, true, false, if◌then◌else◌, List, [], length, map, chars, Option, Some, None, IfSome, Result, Ok, Err, inl, inr, arith}
 use Rattle.std.proofs.lemmas.Bool.Decides.{nat_tests}
 use Rattle.tt_cmap.specs.Lacking.{lacking_of}
 use Rattle.tt_cmap.specs.Lookup.{Cmap}
@@ -8,12 +8,20 @@ use Rattle.tt_core.specs.Chains.{came-through, passed-on}
 use Rattle.tt_core.specs.Limits.{font_limit}
 use Rattle.tt_core.specs.Outcomes.{◌>>=◌}
 use Rattle.tt_picture.specs.declared.report.Unfitted.{Unfitted}
-use Rattle.tt_strike.specs.Job.{tested}
-use Rattle.tt_strike.specs.Picture.{pictured, pictured_by}
+use Rattle.tt_line.specs.Layout.{placement}
+use Rattle.tt_picture.specs.Unfitted.{ListsOnce}
+use Rattle.tt_picture.proofs.Listing.{lists_once}
+use Rattle.tt_strike.specs.Job.{Job, tested}
+use Rattle.tt_strike.specs.Picture.{line_shapes, pictured, pictured_by, setting_in}
 use Rattle.tt_strike.specs.Refusals.{Refused, as_font, as_job, font, job, large}
-use Rattle.tt_strike.specs.Report.{report_by, report_of}
+use Rattle.tt_strike.specs.Report.{line_report, report_by, report_of}
 use Rattle.tt_strike.specs.Strikes.{Strike, job_of}
+<<<<<<< HEAD
 use Rattle.tt_face.specs.Faces.{Face, face_of}
+=======
+use Rattle.tt_face.specs.Faces.{Face, face_of}
+use Rattle.tt_strike.specs.Work.{line_fitter}
+>>>>>>> 98a1d44257dd31949b6366042dc917a75117f272
 use Rattle.tt_render_run.specs.declared.fault.RunFault.TheVariants as run
 use Rattle.tt_render_run.specs.Outcome.{SendsAll, SendsFirst, Traffic, WithBytes, of_font}
 use Rattle.tt_render_run.specs.Reading.{FontIsRead}
@@ -123,6 +131,16 @@ report_of_file a text file s opened =
     ap (λ (r : Result Face Refused). r >>= λ face. report_by face (job_by a text)) by_face.first
     ∙ ap (λ (t : Strike). report_by t.face (job_of t text a.margin)) same
 
+-- no glyph is listed twice
+listed_once : (face : Face) (a : Job) (entries : List Unfitted) → report_by face a ≡ Ok entries → ListsOnce entries
+unfolding report_by line_report
+listed_once face a entries is =
+    let by_line = came-through (as_job (placement face.metrics face.cmap a.text a.ppem a.margin)) _ entries is in
+    let by_setting = came-through (as_font (setting_in face a)) _ entries by_line.rest in
+    let by_shapes = came-through (line_shapes by_setting.value a by_line.value) _ entries by_setting.rest in
+    let numbers = map (λ (g : ℕ × ℕ). g.0) by_line.value.glyphs in
+    subst ListsOnce (ok_same _ entries by_shapes.rest) (lists_once (line_fitter by_setting.value numbers) numbers)
+
 text_alone : {X : Type 0} (r : Result X Refused) (x : X) → as_text r ≡ Ok x → r ≡ Ok x
 text_alone (Ok y) x is = let same : y ≡ x = cc in ap Ok same
 text_alone (Err why) x is = absurd cc
@@ -134,6 +152,7 @@ plain_reports_are_runs a text file t plain drawn =
     let s = by_font.value in
     let parts = parts_of a s text t by_font.rest in (
       report_of_file a text file s (text_alone (strike_of a file) s by_font.first) ∙ parts.0,
+      listed_once s.face (job_of s text a.margin) t.unfitted parts.0,
       λ asked. none_told s.face.cmap a.missing text t.lacking asked parts.1,
     )
 

@@ -4,6 +4,7 @@ use Rattle.std.specs.Str.{is_utf8}
 use Rattle.tt_core.specs.declared.fault.JobFault.TheVariants as fault
 use Rattle.tt_core.specs.Outcomes.{◌>>=◌}
 use Rattle.tt_fit.specs.declared.programs.Fit.{Fit}
+use Rattle.tt_picture.specs.Unfitted.{ListsOnce}
 use Rattle.tt_strike.specs.Job.{tested}
 use Rattle.tt_strike.specs.Refusals.{as_job, job}
 use Rattle.tt_strike.specs.Report.{report_of}
@@ -67,10 +68,10 @@ abbrev pub PlainTextsAreRuns : Type 0
 PlainTextsAreRuns = (a : Setting) (text file : List ℕ) → IsPlain a
     → bytes_of (drawn_text a text file) ≡ as_text (run_outcome (job_by a text) file)
 
--- it has the report of `run` too, and with `Missing::Draw` no character is reported
+-- it has the report of `run` too, which lists no glyph twice, and with `Missing::Draw` no character is reported
 abbrev pub PlainReportsAreRuns : Type 0
 PlainReportsAreRuns = (a : Setting) (text file : List ℕ) (t : TextAnswer) → IsPlain a → drawn_text a text file ≡ Ok t
-    → (report_of (job_by a text) file ≡ Ok t.unfitted) × (a.missing ≡ how.Draw → t.lacking ≡ [])
+    → (report_of (job_by a text) file ≡ Ok t.unfitted) × ListsOnce t.unfitted × (a.missing ≡ how.Draw → t.lacking ≡ [])
 
 -- a call met the outcome of `run`, for these bytes; its fault is the one of `run`
 abbrev pub GivesAsRun : {V : Type 0} → Result V TextsFault → Traffic → Wanted → Type 0

@@ -7,7 +7,8 @@ pub unbounded-requires : goal.unbounded-requires
 unbounded-requires c =
     let tables = program_tables c.args.programs in
     let parts = begun_at c.args.metrics.now tables c.args.ppem c.args.fit in
-    never-spent c.in-Err.refusal _ _ (of-programs parts tables) c.in-Err.ensures.work
+    never-spent c.in-Err.refusal _ _ (of-programs parts tables)
+    (rw c.unbounded-work.ensures at c.in-Err.ensures.work)
 
 pub returns-in-Fallback-clause-exact : goal.returns-in-Fallback-clause-exact
 returns-in-Fallback-clause-exact c =

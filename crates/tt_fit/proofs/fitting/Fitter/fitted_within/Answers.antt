@@ -9,18 +9,18 @@ pub returns-in-Everywhere-clause-unfitted : goal.returns-in-Everywhere-clause-un
 returns-in-Everywhere-clause-unfitted c =
     let fault = c.in-Everywhere.fault in
     let everywhere_so : c.args.self.now.fallback ≡ everywhere fault = grind (arith, c.self.view_is, c.in-Everywhere.is) in
-    rw (unfitted-everywhere c.args.self.now c.args.g fault everywhere_so) c.made-in-Everywhere.ensures.unfitted
+    rw (unfitted-everywhere c.args.self.now c.args.g fault everywhere_so) c.marked-in-Everywhere.ensures.unfitted
 
 pub returns-in-Never-clause-left : goal.returns-in-Never-clause-left
 returns-in-Never-clause-left c =
     let never_so : c.args.self.now.fallback ≡ never = grind (arith, c.self.view_is, c.in-Never.is) in
-    on-ok c.made.result _ (c.requires.work ∙ sym (left-where-never c.args.self.now c.args.g never_so))
+    on-ok c.marked.result _ (c.requires.work ∙ sym (left-where-never c.args.self.now c.args.g never_so))
 
 pub returns-in-Everywhere-clause-left : goal.returns-in-Everywhere-clause-left
 returns-in-Everywhere-clause-left c =
     let fault = c.in-Everywhere.fault in
     let everywhere_so : c.args.self.now.fallback ≡ everywhere fault = grind (arith, c.self.view_is, c.in-Everywhere.is) in
-    on-ok c.made-in-Everywhere.result _
+    on-ok c.marked-in-Everywhere.result _
     (c.requires.work ∙ sym (left-where-everywhere c.args.self.now c.args.g fault everywhere_so))
 
 pub returns-in-Ok-clause-exact : goal.returns-in-Ok-clause-exact

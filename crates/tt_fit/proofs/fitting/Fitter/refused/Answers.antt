@@ -1,4 +1,4 @@
-use Rattle.std.proofs.Common.{sym}
+use Rattle.std.proofs.Common.{◌∙◌, sym}
 use Rattle.tt_fit.proofs.Falling.{left-where-enough, left-where-spent, made-unfitted, unfitted-where-refused, on-ok}
 use Rattle.tt_fit.proofs.fitting.Fitter.refused.Goals as goal
 
@@ -10,16 +10,16 @@ returns-else-not-is_program_fault-clause-exact c =
     let fails = rw c.in-Font.is at c.requires.fault in
     let some = unfitted-where-refused s c.args.g f c.requires.fallback (c.args.work.now.left, pays) fails
     (sym c.if-not-is_program_fault.ensures) in
-    rw (made-unfitted s c.args.g f some) c.made.ensures.exact
+    rw (made-unfitted s c.args.g f some) c.marked.ensures.exact
 
 pub returns-else-not-is_program_fault-clause-left : goal.returns-else-not-is_program_fault-clause-left
 returns-else-not-is_program_fault-clause-left c =
     let pays = rw c.in-Font.is at c.requires.work in
-    on-ok c.made.result _
+    on-ok c.marked.result _
     (sym (left-where-enough c.args.self.now c.args.g c.args.work.now.left c.requires.fallback pays))
 
 pub returns-in-Spent-clause-left : goal.returns-in-Spent-clause-left
 returns-in-Spent-clause-left c =
     let over = rw c.in-Spent.is at c.requires.work in
-    on-ok c.made-in-Spent.result _
-    (sym (left-where-spent c.args.self.now c.args.g c.in-Spent.over c.requires.fallback over))
+    on-ok c.marked-in-Spent.result _
+    (c.of.ensures ∙ sym (left-where-spent c.args.self.now c.args.g c.in-Spent.over c.requires.fallback over))
