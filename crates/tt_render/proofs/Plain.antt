@@ -16,12 +16,8 @@ use Rattle.tt_strike.specs.Picture.{line_shapes, pictured, pictured_by, setting_
 use Rattle.tt_strike.specs.Refusals.{Refused, as_font, as_job, font, job, large}
 use Rattle.tt_strike.specs.Report.{line_report, report_by, report_of}
 use Rattle.tt_strike.specs.Strikes.{Strike, job_of}
-<<<<<<< HEAD
-use Rattle.tt_face.specs.Faces.{Face, face_of}
-=======
 use Rattle.tt_face.specs.Faces.{Face, face_of}
 use Rattle.tt_strike.specs.Work.{line_fitter}
->>>>>>> 98a1d44257dd31949b6366042dc917a75117f272
 use Rattle.tt_render_run.specs.declared.fault.RunFault.TheVariants as run
 use Rattle.tt_render_run.specs.Outcome.{SendsAll, SendsFirst, Traffic, WithBytes, of_font}
 use Rattle.tt_render_run.specs.Reading.{FontIsRead}
