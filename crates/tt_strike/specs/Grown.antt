@@ -11,6 +11,7 @@ use Rattle.tt_strike.specs.Picture.{drawn, laid_out}
 use Rattle.tt_strike.specs.Refusals.{Refused, as_job}
 use Rattle.tt_strike.specs.Tables.{Face}
 use Rattle.tt_strike.specs.declared.growing.Sides.{Sides}
+use Rattle.tt_picture.specs.Pictures.{Image}
 use Rattle.tt_picture.specs.declared.ink_box.InkBox.{InkBox}
 
 -- how many columns or rows a place lies before the first, and past the last of this many
@@ -59,7 +60,7 @@ unfoldable pub grown_placement : Face → Job → Result Placement Refused
 grown_placement face a = laid_out face a >>= λ line. grown_line face a line
 
 -- the picture of the enlarged line
-unfoldable pub grown_outcome : Face → Job → Result (List ℕ) Refused
+unfoldable pub grown_outcome : Face → Job → Result Image Refused
 grown_outcome face a = grown_placement face a >>= λ line. drawn face a line
 
 -- the measure of the enlarged line's picture
