@@ -27,10 +27,7 @@ fn glyph_ink(alloc: Global, glyph: &Glyph) -> Result<Option<GlyphInk>, AllocErro
 }
 
 /// The boxes of some glyphs. Error: Memory.
-pub fn glyph_inks(
-    alloc: Global,
-    glyphs: &[Glyph],
-) -> Result<Vec<Option<GlyphInk>>, AllocError>
+pub fn glyph_inks(alloc: Global, glyphs: &[Glyph]) -> Result<Vec<Option<GlyphInk>>, AllocError>
     requires tapes { All (λ g. IsTape g.body) glyphs.now }
     requires glyphs { All CanBeFilled glyphs.now }
     ensures exact { IfOk result (λ v. v.items ≡ map ink_standing glyphs.now) }
