@@ -68,10 +68,10 @@ impl Cache {
         ensures cached { (s : Fitter) → IsCached s number glyph → IsCacheFor s self.old → IsCacheFor s self.new }
         ensures limit { limit_of self.new ≡ limit_of self.old }
     {
-        match &mut self.glyphs {
-            Some(glyphs) => glyphs.keep(number, glyph),
-            None => (),
-        }
+        let Some(glyphs) = &mut self.glyphs else {
+            return;
+        };
+        glyphs.keep(number, glyph);
     }
 
     /// The greatest raster that is cached, in bytes: a sixteenth of the limit.

@@ -1,4 +1,4 @@
-use Rattle.std.proofs.Common.{◌++◌, ◌∷◌, [], ◌∙◌, ◌+◌, arith}
+use Rattle.std.proofs.Common.{◌++◌, ◌∷◌, [], ◌∙◌, ◌+◌}
 use Rattle.std.proofs.lemmas.List.{length-set}
 use Rattle.tt_picture.specs.Cached.{is_there}
 use Rattle.tt_picture.proofs.Standings.{adds_at, numbers_stood, number_is, drawn_is, drawn_stood, kept_stood, left_is, within_stood}
