@@ -1,6 +1,6 @@
 -- The bytes of a picture's rows, from the top (Netpbm, "PBM", format P4). A byte has 8 pixels, the leftmost in the
 -- highest bit, with 1 for black. The bits after a row's last pixel are 0 (profile).
-use Rattle.std.specs.Prelude.{◌≡◌, refl, ℕ, zero, suc, ◌+◌, ◌*◌, ◌/◌, ◌%◌, ◌^◌, Bool, true, ◌&&◌, nat_lt, if◌then◌else◌, List, [], ◌∷◌, map}
+use Rattle.std.specs.Prelude.{◌≡◌, refl, ℕ, zero, suc, ◌+◌, ◌*◌, ◌/◌, ◌%◌, ◌^◌, Bool, true, false, ◌&&◌, nat_lt, if◌then◌else◌, List, [], ◌∷◌, map}
 use Rattle.std.specs.List.{range_with_len, sum_by}
 use Rattle.std.proofs.Common.{arith}
 use Rattle.tt_core.specs.Bits.{stride}
