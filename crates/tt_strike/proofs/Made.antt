@@ -1,5 +1,5 @@
 -- The picture, the report and the measure of a line whose glyphs are made and not refused.
-use Rattle.std.proofs.Common.{◌≡◌, refl, false, List, map, Ok}
+use Rattle.std.proofs.Common.{◌≡◌, refl, Bool, false, List, map, Ok}
 use Rattle.std.specs.Prelude.{All}
 use Rattle.tt_line.specs.Layout.{Placement}
 use Rattle.tt_picture.specs.declared.report.Unfitted.{Unfitted}

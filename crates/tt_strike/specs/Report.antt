@@ -1,6 +1,6 @@
 -- No part of the standard: the unfitted glyphs of a text, whose points are only scaled, each with the fault of a
 -- program (profile).
-use Rattle.std.specs.Prelude.{List, map, Result, Ok}
+use Rattle.std.specs.Prelude.{ℕ, List, map, Result, Ok}
 use Rattle.tt_core.specs.Outcomes.{◌>>=◌}
 use Rattle.tt_line.specs.Layout.{Placement, placement}
 use Rattle.tt_picture.specs.declared.report.Unfitted.{Unfitted}

@@ -46,8 +46,8 @@ returns-clause-exact c =
     let few : c.lacking-sides.result.top ≤ height_limit = omega (arith, c.in_ok-height.ensures.exact, c.in_ok-height.ensures.within) in
     let top : to_z w32 c.lacking-sides.result.top ≡ pos c.lacking-sides.result.top = to_z_pos w32 c.lacking-sides.result.top (omega arith) in
     let risen = c.args.line.risen in
-    let high = c.args.line.high in
-    let fits : SFits w32 (c.args.line.rise +ℤ pos c.lacking-sides.result.top) = omega (arith, ints, risen, high.1) in
+    let rows = c.args.line.high.1 in
+    let fits : SFits w32 (c.args.line.rise +ℤ pos c.lacking-sides.result.top) = omega (arith, ints, risen, rows) in
     rw (c.in-Some.is, glyphs, top) (simp to_z-of_z (rw sides
     (grown_is line b c.in_ok-width.width c.in_ok-height.height wide c.in_ok-width.ensures.within high c.in_ok-height.ensures.within)))
 
@@ -62,8 +62,10 @@ invariant_of-result-clause-pens c =
 
 pub invariant_of-result-clause-few : goal.invariant_of-result-clause-few
 invariant_of-result-clause-few c =
-    rw (glyphs_then (goal.at.invariant_of-result-clause-few c).After-move_pens,
-    length-map {B = ℕ × ℕ} c.args.line.glyphs.items (λ (g : ℕ × ℕ). (g.0, g.1 + c.lacking-sides.result.left))) c.args.line.few
+    rw (
+      glyphs_then (goal.at.invariant_of-result-clause-few c).After-move_pens,
+      length-map {B = ℕ × ℕ} c.args.line.glyphs.items (λ (g : ℕ × ℕ). (g.0, g.1 + c.lacking-sides.result.left)),
+    ) c.args.line.few
 
 risen_more : (r : ℤ) (t h k : ℕ) → unsigned_abs r ≤ 614400 + h → h + t ≤ k → unsigned_abs (r +ℤ pos t) ≤ 614400 + k
 risen_more r t h k was more = grind (arith, ints)
@@ -79,7 +81,7 @@ invariant_of-result-clause-risen c =
     let fits : SFits w32 (c.args.line.rise +ℤ pos c.lacking-sides.result.top) = omega (arith, ints, risen, high.1) in
     -- by an equation of its own: once unsigned_abs is unfolded, simp finds neither to_z nor of_z
     let new : to_z w32 (of_z w32 (to_z w32 (of_z w32 c.args.line.rise) +ℤ to_z w32 c.lacking-sides.result.top))
-        ≡ c.args.line.rise +ℤ pos c.lacking-sides.result.top = rw top (simp to_z-of_z refl) in
+    ≡ c.args.line.rise +ℤ pos c.lacking-sides.result.top = rw top (simp to_z-of_z refl) in
     rw new (risen_more c.args.line.rise c.lacking-sides.result.top c.args.line.height c.in_ok-height.height risen
     (omega (arith, c.in_ok-height.ensures.exact)))
 

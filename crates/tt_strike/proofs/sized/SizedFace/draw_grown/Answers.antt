@@ -42,7 +42,7 @@ returns-then-not-is_bounded-clause-exact c =
 
 pub returns-then-not-is_bounded-clause-frame : goal.returns-then-not-is_bounded-clause-frame
 returns-then-not-is_bounded-clause-frame c =
-    let framed = rw (c.enlarge.ensures.same, c.into_line-larger.ensures) at c.draw_line.ensures.frame in
+    let framed = rw c.into_line-larger.ensures at c.draw_line.ensures.frame in
     rw c.in_ok-enlarged.ensures.enlarged.exact framed
 
 pub returns-then-not-is_bounded-clause-defects : goal.returns-then-not-is_bounded-clause-defects

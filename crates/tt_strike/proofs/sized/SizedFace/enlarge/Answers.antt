@@ -67,8 +67,14 @@ returns-in_err-line-clause-stops c =
     let p = err_from_is_err_and c.from_residual-in_err-line.result c.from_residual-in_err-line.ensures.1 in
     let inks = (rw c.deref.ensures.value at c.in_ok-inks.ensures.exact) ∙ inks_as_made face a l gs made in
     let all = c.in_ok-characters.ensures (line_ink made.setting l) (c.deref-3.ensures.value ∙ inks) in
-    let measured = rw (c.metrics.ensures, c.face.ensures, c.ppem.ensures.exact, c.tested_glyphs.ensures.same,
-    c.frame_of-frame.ensures.exact, c.deref-2.ensures.value) at all in
+    let measured = rw (
+      c.metrics.ensures,
+      c.face.ensures,
+      c.ppem.ensures.exact,
+      c.tested_glyphs.ensures.same,
+      c.frame_of-frame.ensures.exact,
+      c.deref-2.ensures.value,
+    ) at all in
     let ink = rw (c.ink_of.ensures, c.deref-4.ensures.value) at c.in_err-line.ensures.exact in
     rw (p.1, p.2) (not_grown face a l c.in_err-line.field-0.0 gs characters made measured ink)
 
@@ -84,8 +90,14 @@ returns-clause-enlarged c =
     let are = rw c.deref.ensures.value at c.in_ok-inks.ensures.exact in
     let inks = are ∙ inks_as_made face a l gs made in
     let all = c.in_ok-characters.ensures (line_ink made.setting l) (c.deref-3.ensures.value ∙ inks) in
-    let measured = rw (c.metrics.ensures, c.face.ensures, c.ppem.ensures.exact, c.tested_glyphs.ensures.same,
-    c.frame_of-frame.ensures.exact, c.deref-2.ensures.value) at all in
+    let measured = rw (
+      c.metrics.ensures,
+      c.face.ensures,
+      c.ppem.ensures.exact,
+      c.tested_glyphs.ensures.same,
+      c.frame_of-frame.ensures.exact,
+      c.deref-2.ensures.value,
+    ) at all in
     let ink = rw (c.ink_of.ensures, c.deref-4.ensures.value) at c.in_ok-line.ensures.exact in
     let moved = grown_moves l larger (ink_of characters) ink in
     record {

@@ -1,6 +1,6 @@
 use Rattle.std.proofs.Common.{refl}
 use Rattle.std.proofs.lemmas.Result.{err_from_is_err_and}
-use Rattle.tt_strike.specs.Strikes.{job_by}
+use Rattle.tt_strike.specs.Strikes.{SizedFace, job_by}
 use Rattle.tt_strike.proofs.Stopped.{laying_stops, laying_tells, laying_tells_no_defect}
 use Rattle.tt_strike.proofs.sized.SizedFace.lay_out.Goals as goal
 
@@ -21,9 +21,10 @@ returns-in_err-test_job-clause-job c =
 
 pub returns-in_err-lay-clause-exact : goal.returns-in_err-lay-clause-exact
 returns-in_err-lay-clause-exact c =
+    let z : SizedFace = record { face = c.self.inside.face.now; ppem = c.self.inside.ppem; fit = c.self.inside.fit } in
     let p = err_from_is_err_and c.from_residual-in_err-lay.result c.from_residual-in_err-lay.ensures.1 in
     let fails = rw (c.metrics.ensures, c.cmap.ensures.exact) at c.in_err-lay.ensures.exact in
-    rw (p.1, p.2, ← c.self.view_is) (laying_stops (job_by (record { face = c.self.inside.face.now; ppem = c.self.inside.ppem; fit = c.self.inside.fit }) c.args.text.now c.args.margin) c.self.inside.face.now c.in_err-lay.field-0.0
+    rw (p.1, p.2, ← c.self.view_is) (laying_stops (job_by z c.args.text.now c.args.margin) z.face c.in_err-lay.field-0.0
     c.in_ok-test_job.ensures.exact fails)
 
 pub returns-in_err-lay-clause-font : goal.returns-in_err-lay-clause-font
@@ -33,9 +34,10 @@ returns-in_err-lay-clause-font c =
 
 pub returns-in_err-lay-clause-job : goal.returns-in_err-lay-clause-job
 returns-in_err-lay-clause-job c =
+    let z : SizedFace = record { face = c.self.inside.face.now; ppem = c.self.inside.ppem; fit = c.self.inside.fit } in
     let p = err_from_is_err_and c.from_residual-in_err-lay.result c.from_residual-in_err-lay.ensures.1 in
     let fault = rw (c.metrics.ensures, c.cmap.ensures.exact) at c.in_err-lay.ensures.fault in
-    rw (p.1, p.2, ← c.self.view_is) (laying_tells (job_by (record { face = c.self.inside.face.now; ppem = c.self.inside.ppem; fit = c.self.inside.fit }) c.args.text.now c.args.margin) c.self.inside.face.now c.in_err-lay.field-0.0 fault)
+    rw (p.1, p.2, ← c.self.view_is) (laying_tells (job_by z c.args.text.now c.args.margin) z.face c.in_err-lay.field-0.0 fault)
 
 pub returns-clause-exact : goal.returns-clause-exact
 returns-clause-exact c =

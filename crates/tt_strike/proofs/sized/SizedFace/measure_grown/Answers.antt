@@ -65,8 +65,14 @@ returns-clause-exact c =
     let made = larger_made face a l larger e.left gs e.made e.moved in
     let inks = e.inked ∙ inks_as_made face a l gs e.made in
     let measured = c.in_ok-characters.ensures (line_ink s l) (c.deref-3.ensures.value ∙ inks) in
-    let characters = rw (c.metrics.ensures, c.face.ensures, c.ppem.ensures.exact, c.enlarge.ensures.same,
-    c.frame_of-frame.ensures.exact, c.deref-2.ensures.value) at measured in
+    let characters = rw (
+      c.metrics.ensures,
+      c.face.ensures,
+      c.ppem.ensures.exact,
+      c.enlarge.ensures.same,
+      c.frame_of-frame.ensures.exact,
+      c.deref-2.ensures.value,
+    ) at measured in
     rw (
       e.exact,
       larger_measured face a l larger s c.in_ok-enlarged.ensures.glyphs made,

@@ -65,8 +65,14 @@ returns-clause-exact c =
     let made = rw c.absent-none.ensures at c.in_ok-glyphs.ensures.made in
     let inks = (rw c.deref.ensures.value at c.in_ok-inks.ensures.exact) ∙ inks_as_made face a l gs made in
     let measured = c.in_ok-characters.ensures (line_ink made.setting l) (c.deref-4.ensures.value ∙ inks) in
-    let characters = rw (c.metrics.ensures, c.face.ensures, c.ppem.ensures.exact, c.tested_glyphs.ensures.same,
-    c.frame_of-frame.ensures.exact, c.deref-3.ensures.value) at measured in
+    let characters = rw (
+      c.metrics.ensures,
+      c.face.ensures,
+      c.ppem.ensures.exact,
+      c.tested_glyphs.ensures.same,
+      c.frame_of-frame.ensures.exact,
+      c.deref-3.ensures.value,
+    ) at measured in
     rw (
       measured_as_made face a l gs made,
       c.measure_of.ensures.exact,

@@ -25,14 +25,16 @@ use Rattle.tt_strike.proofs.sized.SizedFace.tested_glyphs.Goals as goal
 
 pub returns-in_err-fitter-clause-stops : goal.returns-in_err-fitter-clause-stops
 returns-in_err-fitter-clause-stops c =
+    let z : SizedFace = record { face = c.self.inside.face.now; ppem = c.self.inside.ppem; fit = c.self.inside.fit } in
     let p = err_from_is_err_and c.from_residual.result c.from_residual.ensures.1 in
-    rw (p.1, p.2, ← c.self.view_is) (setting_stops c.self.inside.face.now (job_with (record { face = c.self.inside.face.now; ppem = c.self.inside.ppem; fit = c.self.inside.fit }) c.args.margin) (placement_of c.args.line.now)
+    rw (p.1, p.2, ← c.self.view_is) (setting_stops z.face (job_with z c.args.margin) (placement_of c.args.line.now)
     c.in_err-fitter.field-0.0 c.in_err-fitter.ensures.exact)
 
 pub returns-in_err-fitter-clause-defects : goal.returns-in_err-fitter-clause-defects
 returns-in_err-fitter-clause-defects c =
-    let face = c.self.inside.face.now in
-    let a = job_with (record { face = c.self.inside.face.now; ppem = c.self.inside.ppem; fit = c.self.inside.fit }) c.args.margin in
+    let z : SizedFace = record { face = c.self.inside.face.now; ppem = c.self.inside.ppem; fit = c.self.inside.fit } in
+    let face = z.face in
+    let a = job_with z c.args.margin in
     let gs = map (λ g. g.0) c.args.line.now.glyphs.items in
     let p = err_from_is_err_and c.from_residual.result c.from_residual.ensures.1 in
     rw (p.1, p.2, ← c.self.view_is) (font_tells (IsLineDefect face a gs) c.in_err-fitter.field-0.0
@@ -45,41 +47,46 @@ returns-in_err-fitter-clause-work c =
 
 pub returns-in_err-charge_points-clause-stops : goal.returns-in_err-charge_points-clause-stops
 returns-in_err-charge_points-clause-stops c =
+    let z : SizedFace = record { face = c.self.inside.face.now; ppem = c.self.inside.ppem; fit = c.self.inside.fit } in
     let p = err_from_is_err_and c.from_residual-in_err-charge_points.result
     c.from_residual-in_err-charge_points.ensures.1 in
     let fails = rw c.deref.ensures.value at c.in_err-charge_points.ensures.exact in
-    rw (p.1, p.2, ← c.self.view_is) (points_stop c.self.inside.face.now (job_with (record { face = c.self.inside.face.now; ppem = c.self.inside.ppem; fit = c.self.inside.fit }) c.args.margin) (placement_of c.args.line.now)
+    rw (p.1, p.2, ← c.self.view_is) (points_stop z.face (job_with z c.args.margin) (placement_of c.args.line.now)
     c.in_ok-fitter.fitter c.in_err-charge_points.field-0.0 c.in_ok-fitter.ensures.exact fails)
 
 pub returns-in_err-charge_points-clause-defects : goal.returns-in_err-charge_points-clause-defects
 returns-in_err-charge_points-clause-defects c =
+    let z : SizedFace = record { face = c.self.inside.face.now; ppem = c.self.inside.ppem; fit = c.self.inside.fit } in
     let p = err_from_is_err_and c.from_residual-in_err-charge_points.result
     c.from_residual-in_err-charge_points.ensures.1 in
     let fails = rw c.deref.ensures.value at c.in_err-charge_points.ensures.exact in
-    rw (p.1, p.2) (points_tell_no_defect _ c.in_ok-fitter.fitter (job_with (record { face = c.self.inside.face.now; ppem = c.self.inside.ppem; fit = c.self.inside.fit }) c.args.margin)
+    rw (p.1, p.2) (points_tell_no_defect _ c.in_ok-fitter.fitter (job_with z c.args.margin)
     (placement_of c.args.line.now) c.in_err-charge_points.field-0.0 fails)
 
 pub returns-in_err-charge_points-clause-work : goal.returns-in_err-charge_points-clause-work
 returns-in_err-charge_points-clause-work c =
+    let z : SizedFace = record { face = c.self.inside.face.now; ppem = c.self.inside.ppem; fit = c.self.inside.fit } in
     let p = err_from_is_err_and c.from_residual-in_err-charge_points.result
     c.from_residual-in_err-charge_points.ensures.1 in
     let fails = rw c.deref.ensures.value at c.in_err-charge_points.ensures.exact in
-    rw (p.1, p.2, ← c.self.view_is) (points_tell c.self.inside.face.now (job_with (record { face = c.self.inside.face.now; ppem = c.self.inside.ppem; fit = c.self.inside.fit }) c.args.margin) (placement_of c.args.line.now)
+    rw (p.1, p.2, ← c.self.view_is) (points_tell z.face (job_with z c.args.margin) (placement_of c.args.line.now)
     c.in_ok-fitter.fitter c.in_err-charge_points.field-0.0 c.in_ok-fitter.ensures.exact fails)
 
 pub returns-in_err-glyphs-clause-stops : goal.returns-in_err-glyphs-clause-stops
 returns-in_err-glyphs-clause-stops c =
+    let z : SizedFace = record { face = c.self.inside.face.now; ppem = c.self.inside.ppem; fit = c.self.inside.fit } in
     let p = err_from_is_err_and c.from_residual-in_err-glyphs.result c.from_residual-in_err-glyphs.ensures.1 in
     let few = rw c.deref.ensures.value at c.in_ok-charge_points.ensures.exact in
     let begun = rw c.deref.ensures.value at c.in_ok-charge_points.ensures.charged in
     let fails = rw (c.deref-2.ensures.value, begun) at c.in_err-glyphs.ensures.fault in
-    rw (p.1, p.2, ← c.self.view_is) (glyph_stops c.self.inside.face.now (job_with (record { face = c.self.inside.face.now; ppem = c.self.inside.ppem; fit = c.self.inside.fit }) c.args.margin) (placement_of c.args.line.now)
+    rw (p.1, p.2, ← c.self.view_is) (glyph_stops z.face (job_with z c.args.margin) (placement_of c.args.line.now)
     c.in_ok-fitter.fitter c.in_err-glyphs.field-0.0 c.in_ok-fitter.ensures.exact few fails)
 
 pub returns-in_err-glyphs-clause-defects : goal.returns-in_err-glyphs-clause-defects
 returns-in_err-glyphs-clause-defects c =
-    let face = c.self.inside.face.now in
-    let a = job_with (record { face = c.self.inside.face.now; ppem = c.self.inside.ppem; fit = c.self.inside.fit }) c.args.margin in
+    let z : SizedFace = record { face = c.self.inside.face.now; ppem = c.self.inside.ppem; fit = c.self.inside.fit } in
+    let face = z.face in
+    let a = job_with z c.args.margin in
     let s = c.in_ok-fitter.fitter in
     let places = c.args.line.now.glyphs.items in
     let p = err_from_is_err_and c.from_residual-in_err-glyphs.result c.from_residual-in_err-glyphs.ensures.1 in
@@ -99,7 +106,7 @@ returns-in_err-crossings-clause-stops c =
     let there = is_there c.args.cache.now in
     let z : SizedFace = record { face = c.self.inside.face.now; ppem = c.self.inside.ppem; fit = c.self.inside.fit } in
     let unbounded = unbounded_where z c.args.cache.now (rw (← c.self.view_is) at c.requires.cache) in
-    let a = job_with (record { face = c.self.inside.face.now; ppem = c.self.inside.ppem; fit = c.self.inside.fit }) c.args.margin in
+    let a = job_with z c.args.margin in
     let l = placement_of c.args.line.now in
     let s = c.in_ok-fitter.fitter in
     let p = err_from_is_err_and c.from_residual-in_err-crossings.result
@@ -114,7 +121,7 @@ returns-in_err-crossings-clause-stops c =
     unbounded made.2.crossings)
     ∙ (rw (c.deref-3.ensures.value, most) at c.in_err-crossings.ensures.exact) in
     let few = rw c.deref.ensures.value at c.in_ok-charge_points.ensures.exact in
-    rw (p.1, p.2, ← c.self.view_is) (crossings_stop c.self.inside.face.now a l s made.0 c.in_err-crossings.field-0.0
+    rw (p.1, p.2, ← c.self.view_is) (crossings_stop z.face a l s made.0 c.in_err-crossings.field-0.0
     c.in_ok-fitter.ensures.exact few made.1 refused)
 
 pub returns-in_err-crossings-clause-work : goal.returns-in_err-crossings-clause-work
@@ -122,7 +129,7 @@ returns-in_err-crossings-clause-work c =
     let there = is_there c.args.cache.now in
     let z : SizedFace = record { face = c.self.inside.face.now; ppem = c.self.inside.ppem; fit = c.self.inside.fit } in
     let unbounded = unbounded_where z c.args.cache.now (rw (← c.self.view_is) at c.requires.cache) in
-    let a = job_with (record { face = c.self.inside.face.now; ppem = c.self.inside.ppem; fit = c.self.inside.fit }) c.args.margin in
+    let a = job_with z c.args.margin in
     let l = placement_of c.args.line.now in
     let s = c.in_ok-fitter.fitter in
     let p = err_from_is_err_and c.from_residual-in_err-crossings.result
@@ -136,7 +143,7 @@ returns-in_err-crossings-clause-work c =
     let refused = sym (work_alike there a.fit (crossings_allowed (work_left s (map (λ g. g.0) l.glyphs))) _ _
     unbounded made.2.crossings)
     ∙ (rw (c.deref-3.ensures.value, most) at c.in_err-crossings.ensures.exact) in
-    rw (p.1, p.2, ← c.self.view_is) (crossings_tell c.self.inside.face.now a l s made.0 c.in_err-crossings.field-0.0
+    rw (p.1, p.2, ← c.self.view_is) (crossings_tell z.face a l s made.0 c.in_err-crossings.field-0.0
     c.in_ok-fitter.ensures.exact made.1 refused)
 
 pub test_crossings-requires-clause-tapes : goal.test_crossings-requires-clause-tapes
@@ -151,7 +158,7 @@ returns-clause-made c =
     let there = is_there c.args.cache.now in
     let z : SizedFace = record { face = c.self.inside.face.now; ppem = c.self.inside.ppem; fit = c.self.inside.fit } in
     let unbounded = unbounded_where z c.args.cache.now (rw (← c.self.view_is) at c.requires.cache) in
-    let a = job_with (record { face = c.self.inside.face.now; ppem = c.self.inside.ppem; fit = c.self.inside.fit }) c.args.margin in
+    let a = job_with z c.args.margin in
     let l = placement_of c.args.line.now in
     let s = c.in_ok-fitter.fitter in
     let begun = rw c.deref.ensures.value at c.in_ok-charge_points.ensures.charged in
@@ -180,7 +187,7 @@ returns-clause-cost c =
     let there = is_there c.args.cache.now in
     let z : SizedFace = record { face = c.self.inside.face.now; ppem = c.self.inside.ppem; fit = c.self.inside.fit } in
     let unbounded = unbounded_where z c.args.cache.now (rw (← c.self.view_is) at c.requires.cache) in
-    let a = job_with (record { face = c.self.inside.face.now; ppem = c.self.inside.ppem; fit = c.self.inside.fit }) c.args.margin in
+    let a = job_with z c.args.margin in
     let l = placement_of c.args.line.now in
     let s = c.in_ok-fitter.fitter in
     let gs = map (λ g. g.0) l.glyphs in
@@ -208,21 +215,22 @@ returns-clause-cost c =
     (crossings_in made.0) none count unbounded made.2.crossings in
     let same : c.cost_of.result ≡ cost_of (work_left s gs) (crossings_in made.0) =
     c.cost_of.ensures ∙ alike ∙ ap (λ (w : Option ℕ). cost_of w (crossings_in made.0)) left in
-    rw (← c.self.view_is) (costed c.self.inside.face.now a l s made.0 c.in_ok-fitter.ensures.exact few made.1 seldom
+    rw (← c.self.view_is) (costed z.face a l s made.0 c.in_ok-fitter.ensures.exact few made.1 seldom
     ∙ ap Ok {x = cost_of (work_left s gs) (crossings_in made.0)} {y = c.cost_of.result} (sym same))
 
 pub returns-clause-defects : goal.returns-clause-defects
 returns-clause-defects c =
+    let z : SizedFace = record { face = c.self.inside.face.now; ppem = c.self.inside.ppem; fit = c.self.inside.fit } in
     let s = c.in_ok-fitter.fitter in
     let gs = c.args.line.now.glyphs.items in
     let begun = rw c.deref.ensures.value at c.in_ok-charge_points.ensures.charged in
     let line = rw (c.deref-2.ensures.value, begun) at c.in_ok-glyphs.ensures.line in
     let made = ok_and (each (glyph_shape (line_fitter s (map (λ g. g.0) gs))) gs) _ line.stand in
-    rw (← c.self.view_is) (no_line_defect c.self.inside.face.now (job_with (record { face = c.self.inside.face.now; ppem = c.self.inside.ppem; fit = c.self.inside.fit }) c.args.margin) s gs made.0 c.in_ok-fitter.ensures.exact
+    rw (← c.self.view_is) (no_line_defect z.face (job_with z c.args.margin) s gs made.0 c.in_ok-fitter.ensures.exact
     c.in_ok-fitter.ensures.defects made.1)
 
-pub invariant_of-self-5 : goal.invariant_of-self-5
-invariant_of-self-5 c =
+pub invariant_of-self-2 : goal.invariant_of-self-2
+invariant_of-self-2 c =
     let s = c.in_ok-fitter.fitter in
     let setting = c.in_ok-fitter.ensures.setting in
     let gs = map (λ g. g.0) c.args.line.now.glyphs.items in

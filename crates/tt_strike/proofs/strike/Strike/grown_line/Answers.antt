@@ -29,15 +29,21 @@ pub returns-clause-exact : goal.returns-clause-exact
 returns-clause-exact c =
     let z = c.self.inside.sized in
     let l = placement_of c.in_ok-line.line in
-    rw (← c.self.view_is, drawn_as_laid z.face (job_by z c.args.text.now c.args.margin) l c.in_ok-line.ensures.exact,
-    drawn_grown_textless z c.args.text.now c.args.margin l) c.draw_grown.ensures.exact
+    rw (
+      ← c.self.view_is,
+      drawn_as_laid z.face (job_by z c.args.text.now c.args.margin) l c.in_ok-line.ensures.exact,
+      drawn_grown_textless z c.args.text.now c.args.margin l,
+    ) c.draw_grown.ensures.exact
 
 pub returns-clause-frame : goal.returns-clause-frame
 returns-clause-frame c =
     let z = c.self.inside.sized in
     let l = placement_of c.in_ok-line.line in
-    rw (← c.self.view_is, placed_as_laid z.face (job_by z c.args.text.now c.args.margin) l c.in_ok-line.ensures.exact,
-    grown_textless z c.args.text.now c.args.margin l) c.draw_grown.ensures.frame
+    rw (
+      ← c.self.view_is,
+      placed_as_laid z.face (job_by z c.args.text.now c.args.margin) l c.in_ok-line.ensures.exact,
+      grown_textless z c.args.text.now c.args.margin l,
+    ) c.draw_grown.ensures.frame
 
 pub returns-clause-valid : goal.returns-clause-valid
 returns-clause-valid c =
@@ -84,10 +90,9 @@ returns-clause-few c =
 pub returns-clause-defects : goal.returns-clause-defects
 returns-clause-defects c = rw (← c.self.view_is, ← c.in_ok-line.ensures.glyphs) c.draw_grown.ensures.defects
 
-pub invariant_of-self-2 : goal.invariant_of-self-2
-invariant_of-self-2 c =
-    let before = c.self.invariant in
-    (
+pub invariant_of-self : goal.invariant_of-self
+invariant_of-self c =
+    let before = c.self.invariant in (
       rw c.draw_grown.ensures.same c.draw_grown.ensures.cache,
       rw c.draw_grown.ensures.limit before.1,
     )

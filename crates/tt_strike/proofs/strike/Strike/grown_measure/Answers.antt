@@ -24,8 +24,11 @@ pub returns-clause-exact : goal.returns-clause-exact
 returns-clause-exact c =
     let z = c.self.inside.sized in
     let l = placement_of c.in_ok-line.line in
-    rw (← c.self.view_is, measured_as_laid z.face (job_by z c.args.text.now c.args.margin) l c.in_ok-line.ensures.exact,
-    measured_grown_textless z c.args.text.now c.args.margin l) c.measure_grown.ensures.exact
+    rw (
+      ← c.self.view_is,
+      measured_as_laid z.face (job_by z c.args.text.now c.args.margin) l c.in_ok-line.ensures.exact,
+      measured_grown_textless z c.args.text.now c.args.margin l,
+    ) c.measure_grown.ensures.exact
 
 pub returns-clause-report : goal.returns-clause-report
 unfolding report_by
@@ -47,5 +50,5 @@ returns-clause-defects c = rw (← c.self.view_is, ← c.in_ok-line.ensures.glyp
 pub returns-clause-same : goal.returns-clause-same
 returns-clause-same c = rw c.measure_grown.ensures.same c.self.view_is
 
-pub invariant_of-self-2 : goal.invariant_of-self-2
-invariant_of-self-2 c = (rw c.measure_grown.ensures.same c.self.invariant.0, c.self.invariant.1)
+pub invariant_of-self : goal.invariant_of-self
+invariant_of-self c = (rw c.measure_grown.ensures.same c.self.invariant.0, c.self.invariant.1)

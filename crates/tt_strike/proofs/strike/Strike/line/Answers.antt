@@ -32,8 +32,12 @@ returns-in_err-line-clause-job c =
 pub returns-clause-exact : goal.returns-clause-exact
 returns-clause-exact c =
     let z = c.self.inside.sized in
-    rw (← c.self.view_is, line_as_laid z.face (job_by z c.args.text.now c.args.margin), c.in_ok-line.ensures.exact,
-    drawn_textless z c.args.text.now c.args.margin (placement_of c.in_ok-line.line)) c.draw_line.ensures.exact
+    rw (
+      ← c.self.view_is,
+      line_as_laid z.face (job_by z c.args.text.now c.args.margin),
+      c.in_ok-line.ensures.exact,
+      drawn_textless z c.args.text.now c.args.margin (placement_of c.in_ok-line.line),
+    ) c.draw_line.ensures.exact
 
 pub returns-clause-frame : goal.returns-clause-frame
 returns-clause-frame c = rw (← c.self.view_is, c.in_ok-line.ensures.laid) c.draw_line.ensures.frame
@@ -89,10 +93,9 @@ returns-clause-job c =
     rw (← c.self.view_is) (work_refuses c.draw_line.result (job_by z c.args.text.now c.args.margin) z.face
     (placement_of c.in_ok-line.line) c.in_ok-line.ensures.laid c.draw_line.ensures.work)
 
-pub invariant_of-self-2 : goal.invariant_of-self-2
-invariant_of-self-2 c =
-    let before = c.self.invariant in
-    (
+pub invariant_of-self : goal.invariant_of-self
+invariant_of-self c =
+    let before = c.self.invariant in (
       rw c.draw_line.ensures.same c.draw_line.ensures.cache,
       rw c.draw_line.ensures.limit before.1,
     )

@@ -29,8 +29,11 @@ pub returns-clause-exact : goal.returns-clause-exact
 unfolding measured
 returns-clause-exact c =
     let z = c.self.inside.sized in
-    rw (← c.self.view_is, c.in_ok-line.ensures.exact,
-    measured_textless z c.args.text.now c.args.margin (placement_of c.in_ok-line.line)) c.measure_line.ensures.exact
+    rw (
+      ← c.self.view_is,
+      c.in_ok-line.ensures.exact,
+      measured_textless z c.args.text.now c.args.margin (placement_of c.in_ok-line.line),
+    ) c.measure_line.ensures.exact
 
 pub returns-clause-report : goal.returns-clause-report
 unfolding report_by
@@ -58,5 +61,5 @@ returns-clause-job c =
 pub returns-clause-same : goal.returns-clause-same
 returns-clause-same c = rw c.measure_line.ensures.same c.self.view_is
 
-pub invariant_of-self-2 : goal.invariant_of-self-2
-invariant_of-self-2 c = (rw c.measure_line.ensures.same c.self.invariant.0, c.self.invariant.1)
+pub invariant_of-self : goal.invariant_of-self
+invariant_of-self c = (rw c.measure_line.ensures.same c.self.invariant.0, c.self.invariant.1)

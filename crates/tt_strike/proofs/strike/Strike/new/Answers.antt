@@ -4,8 +4,7 @@ use Rattle.tt_strike.proofs.strike.Strike.new.Goals as goal
 
 pub invariant_of-result : goal.invariant_of-result
 invariant_of-result c =
-    let fresh = c.in_ok-cache.ensures in
-    (
+    let fresh = c.in_ok-cache.ensures in (
       rw c.in_ok-sized.ensures.exact (fresh_of (record { face = c.args.face.now; ppem = c.args.ppem; fit = c.args.fit })
           c.args.most c.in_ok-cache.cache fresh),
       fresh_limit c.args.fit c.args.most c.in_ok-cache.cache fresh,
