@@ -1,4 +1,5 @@
 pub mod DrawnLines
+mod StoppedLines
 pub mod HeldLines
 mod Printed
 mod FontLines
@@ -7,3 +8,5 @@ mod DefectLines
 mod OneText
 mod TextsReports
 mod Runs
+mod JobRefusals
+mod Plain

@@ -1,16 +1,26 @@
 -- Laws of texts and lines: the picture of each is what `run` gives for that text alone.
-use Rattle.std.specs.Prelude.{◌≡◌, refl, ℕ, ◌≤◌, true, false, List, [], length, codes, Result, Ok, Err}
+use Rattle.std.specs.Prelude.{◌≡◌, ◌≢◌, refl, ℕ, ◌≤◌, true, false, List, [], length, codes, Result, Ok, Err}
 use Rattle.std.specs.Str.{is_utf8}
 use Rattle.tt_core.specs.declared.fault.JobFault.TheVariants as fault
 use Rattle.tt_core.specs.Outcomes.{◌>>=◌}
-use Rattle.tt_strike.specs.Refusals.{job}
+use Rattle.tt_fit.specs.declared.programs.Fit.{Fit}
+use Rattle.tt_strike.specs.Job.{tested}
+use Rattle.tt_strike.specs.Refusals.{as_job, job}
+use Rattle.tt_strike.specs.Report.{report_of}
 use Rattle.tt_strike.specs.Strikes.{Strike}
+use Rattle.tt_render.specs.declared.refusal.TextsFault.{TextsFault}
+use Rattle.tt_render.specs.declared.setting.Missing.TheVariants as how
 use Rattle.tt_render.specs.declared.setting.Product.TheVariants as product
 use Rattle.tt_render.specs.declared.setting.Setting.{Setting}
 use Rattle.tt_render.specs.Lines.{line_drawn, line_limit}
-use Rattle.tt_render_run.specs.Run.{run_outcome}
-use Rattle.tt_render.specs.Settings.{job_by, strike_of}
+use Rattle.tt_render.specs.Printing.{Errors}
+use Rattle.tt_render_run.specs.declared.fault.RunFault.{RunFault}
+use Rattle.tt_render_run.specs.Outcome.{CallFails, CallGives, Traffic, Wanted}
+use Rattle.tt_render_run.specs.Run.{run_outcome, run_wanted}
+use Rattle.tt_render.specs.Settings.{job_by, plain_setting, strike_of}
 use Rattle.tt_render.specs.Texts.{TextAnswer, TextRefusal, as_text, missing, missing_tested, refused, text_answer}
+use Rattle.tt_render.specs.TextsOutcome.{FontTextGives}
+use Rattle.tt_render.specs.Views.{before_lines, refusal_of_run}
 
 -- the bytes of an answer, or its refusal
 abbrev pub bytes_of : Result TextAnswer TextRefusal → Result (List ℕ) TextRefusal
@@ -39,7 +49,43 @@ abbrev pub LinesAreTexts : Type 0
 LinesAreTexts = (a : Setting) (line : List ℕ) (s : Strike) → length line ≤ line_limit → is_utf8 line ≡ true
     → line_drawn a s line ≡ text_answer a s line
 
--- worked values: the bytes of a drawn text, and of a refused one
+-- the definition of `draw_text` for a text and a font file: first the tests of its job, then those of the font's tables
+abbrev pub drawn_text : Setting → List ℕ → List ℕ → Result TextAnswer TextRefusal
+drawn_text a text file =
+    as_text (as_job (tested (job_by a text))) >>= λ u.
+    as_text (strike_of a file) >>= λ s.
+    text_answer a s text
+
+-- a setting for the picture of a text as it is, with glyph 0 for each character without a glyph
+pub record IsPlain (a : Setting) : Type 0 where
+  pub picture : a.product ≡ product.Picture
+  pub whole : a.grow ≡ false
+  pub drawn : a.missing ≢ how.Refuse
+
+-- by such a setting a text has the bytes of `run` for its job, or the same refusal
+abbrev pub PlainTextsAreRuns : Type 0
+PlainTextsAreRuns = (a : Setting) (text file : List ℕ) → IsPlain a
+    → bytes_of (drawn_text a text file) ≡ as_text (run_outcome (job_by a text) file)
+
+-- it has the report of `run` too, and with `Missing::Draw` no character is reported
+abbrev pub PlainReportsAreRuns : Type 0
+PlainReportsAreRuns = (a : Setting) (text file : List ℕ) (t : TextAnswer) → IsPlain a → drawn_text a text file ≡ Ok t
+    → (report_of (job_by a text) file ≡ Ok t.unfitted) × (a.missing ≡ how.Draw → t.lacking ≡ [])
+
+-- a call met the outcome of `run`, for these bytes; its fault is the one of `run`
+abbrev pub GivesAsRun : {V : Type 0} → Result V TextsFault → Traffic → Wanted → Type 0
+GivesAsRun {V} (Ok v) t w = CallGives {V = V} (Ok v) t w
+GivesAsRun (Err fault) t w = (f : RunFault) × (fault ≡ before_lines (refusal_of_run f)) × CallFails f t w
+
+-- a call that met the outcome of `draw_text` by such a setting met that of `run` for its job
+abbrev pub PlainCallsAreRuns : Type 0
+PlainCallsAreRuns = (a : Setting) (text : List ℕ) (r : Result (Unit {0}) TextsFault) (t : Traffic) (e : Errors)
+    → IsPlain a → FontTextGives a text r t e → GivesAsRun r t (run_wanted (job_by a text))
+
+-- worked values: the setting of `run`; the bytes of a drawn text, and of a refused one
+run_is_plain : (ppem margin : ℕ) (f : Fit) → IsPlain (plain_setting ppem margin f)
+run_is_plain ppem margin f = record { picture = refl; whole = refl; drawn = λ is. cc }
+
 drawn_bytes : bytes_of (Ok (record { bytes = codes "P4"; unfitted = []; lacking = codes "A"; cost = 12 })) ≡ Ok (codes "P4")
 drawn_bytes = refl
 

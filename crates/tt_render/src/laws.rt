@@ -1,6 +1,6 @@
 //! Laws of the definitions. Each function is a lemma: its clauses hold of all jobs and files, and no code runs.
 
-ghost use Rattle.tt_render.specs.RunLaws.{LinesAreRuns, LinesAreTexts, TextsAreRuns};
+ghost use Rattle.tt_render.specs.RunLaws.{LinesAreRuns, LinesAreTexts, PlainCallsAreRuns, PlainReportsAreRuns, PlainTextsAreRuns, TextsAreRuns};
 
 pub use tt_render_run::laws::{fonts_are_whole, others_fill_none};
 
@@ -11,4 +11,13 @@ pub fn lines_are_runs()
     ensures texts { TextsAreRuns }
     ensures lines { LinesAreRuns }
     ensures alike { LinesAreTexts }
+{}
+
+/// Lemma: with `Product::Picture`, no `grow`, and `Missing::Draw` or `Missing::Tell`, `draw_text` is `run` for the
+/// setting's job. The bitmap, the refusal and the report of unfitted glyphs are the same. With `Missing::Draw` nothing
+/// else is reported. A call that meets the outcome of `draw_text` meets that of `run`.
+pub fn plain_texts_are_runs()
+    ensures texts { PlainTextsAreRuns }
+    ensures reports { PlainReportsAreRuns }
+    ensures calls { PlainCallsAreRuns }
 {}

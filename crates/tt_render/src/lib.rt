@@ -19,5 +19,5 @@ pub use refusal::{Refusal, TextsFault};
 pub use setting::{Missing, Product, Setting};
 pub use text_drawing::draw_text;
 pub use texts_messages::{texts_line, texts_status};
-pub use tt_render_run::{RunFault, line, map, missing_line, run, status, unfitted_line};
+pub use tt_render_run::{RunFault, line, map, run, status, unfitted_line};
 pub use tt_strike::{Job, Report, Unfitted};

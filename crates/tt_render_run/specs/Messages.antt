@@ -1,5 +1,5 @@
--- The program's messages: the exit status and the line on standard error of a fault; the lines of an unfitted glyph and
--- of a character without a glyph.
+-- The program's messages: the exit status and the line on standard error of a fault; the line of an unfitted glyph; and
+-- the words on a character without a glyph.
 use Rattle.std.specs.Prelude.{ℕ, List, ◌++◌, codes, decimal, ◌≡◌, refl}
 use Rattle.std.specs.Fmt.{digits}
 use Rattle.tt_core.specs.declared.fault.JobFault.{JobFault}
@@ -37,10 +37,6 @@ unfitted_line_of u =
 abbrev pub missing_words : ℕ → List ℕ
 missing_words c = codes "U+" ++ (code_point c ++ codes " has no glyph")
 
--- `tt_render: U+<code point> has no glyph`
-abbrev pub missing_line_of : ℕ → List ℕ
-missing_line_of c = codes "tt_render: " ++ missing_words c
-
 -- `<number> <name>`
 abbrev pub job_words : JobFault → List ℕ
 job_words j = decimal (job_number j) ++ (codes " " ++ job_name j)
@@ -68,18 +64,18 @@ a_glyph_not_fitted : unfitted_line_of (record { glyph = 1; fault = fault_at (cod
 unfolding digits why_number why_name
 a_glyph_not_fitted = refl
 
-a_letter_without_a_glyph : missing_line_of 0x41 ≡ codes "tt_render: U+0041 has no glyph"
+a_letter_without_a_glyph : missing_words 0x41 ≡ codes "U+0041 has no glyph"
 unfolding digits
 a_letter_without_a_glyph = refl
 
-an_ideograph_without_a_glyph : missing_line_of 0x4E2D ≡ codes "tt_render: U+4E2D has no glyph"
+an_ideograph_without_a_glyph : missing_words 0x4E2D ≡ codes "U+4E2D has no glyph"
 unfolding digits
 an_ideograph_without_a_glyph = refl
 
-an_emoji_without_a_glyph : missing_line_of 0x1F600 ≡ codes "tt_render: U+1F600 has no glyph"
+an_emoji_without_a_glyph : missing_words 0x1F600 ≡ codes "U+1F600 has no glyph"
 unfolding digits
 an_emoji_without_a_glyph = refl
 
-the_last_character_without_a_glyph : missing_line_of 0x10FFFF ≡ codes "tt_render: U+10FFFF has no glyph"
+the_last_character_without_a_glyph : missing_words 0x10FFFF ≡ codes "U+10FFFF has no glyph"
 unfolding digits
 the_last_character_without_a_glyph = refl

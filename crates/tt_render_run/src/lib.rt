@@ -13,7 +13,7 @@ mod writing;
 pub use drawing::Drawn;
 pub use fault::RunFault;
 pub use mapping::map;
-pub use messages::{font_line, job_line, line, missing_line, status, unfitted_line};
+pub use messages::{line, status, unfitted_line};
 pub use reading::{read_behind, read_font};
 pub use running::run;
 pub use writing::write_picture;

@@ -1,7 +1,7 @@
-//! The program's messages about a fault, an unfitted glyph, and a character without a glyph.
+//! The program's messages about a fault, and about an unfitted glyph.
 
 ghost use Rattle.std.specs.Prelude.{◌≡◌, string_bytes, IfOk};
-ghost use Rattle.tt_render_run.specs.Messages.{status_of, line_of, font_line, job_line, missing_line_of, unfitted_line_of};
+ghost use Rattle.tt_render_run.specs.Messages.{status_of, line_of, font_line, job_line, unfitted_line_of};
 
 use crate::fault::RunFault;
 use std::alloc::{AllocError, Global};
@@ -40,7 +40,7 @@ pub fn line(alloc: Global, fault: &RunFault) -> Result<String, AllocError>
 }
 
 /// The line of a defect of the font.
-pub fn font_line(alloc: Global, fault: Fault) -> Result<String, AllocError>
+fn font_line(alloc: Global, fault: Fault) -> Result<String, AllocError>
     ensures { IfOk result (λ text. string_bytes text ≡ font_line fault) }
 {
     let table = fault.tag();
@@ -51,7 +51,7 @@ pub fn font_line(alloc: Global, fault: Fault) -> Result<String, AllocError>
 }
 
 /// The line of a refused job.
-pub fn job_line(alloc: Global, job: JobFault) -> Result<String, AllocError>
+fn job_line(alloc: Global, job: JobFault) -> Result<String, AllocError>
     ensures { IfOk result (λ text. string_bytes text ≡ job_line job) }
 {
     let number = job.number();
@@ -70,13 +70,4 @@ pub fn unfitted_line(alloc: Global, unfitted: &Unfitted) -> Result<String, Alloc
     let number = fault.why.number();
     let name = fault.why.name();
     format!(in alloc; "tt_render: glyph {glyph} unfitted: {table}+{offset}: {number} {name}")
-}
-
-/// The program's line on standard error for a character without a glyph, without the line feed. Its code point is in
-/// capital hexadecimal with at least four digits.
-pub fn missing_line(alloc: Global, c: char) -> Result<String, AllocError>
-    ensures { IfOk result (λ text. string_bytes text ≡ missing_line_of c) }
-{
-    let code = c as u32;
-    format!(in alloc; "tt_render: U+{code:04X} has no glyph")
 }

@@ -9,7 +9,8 @@ use Rattle.tt_render.specs.Printing.{PrintsBehind, errors_of}
 use Rattle.tt_render.specs.Reports.{told_of}
 use Rattle.tt_render.specs.TextsOutcome.{answer_view, refusal_font_fault}
 use Rattle.tt_render.proofs.DefectLines.{begun_tells, next_tells, stop_tells}
-use Rattle.tt_render.proofs.DrawnLines.{SoFar, all_drawn, cut_sent, drawn_alike, drawn_too, kept_alone, many_sent, none_so_far, one_more, reader_at_end, some_sent, stopped_before, stopped_in, whole_text}
+use Rattle.tt_render.proofs.DrawnLines.{SoFar, all_drawn, drawn_alike, drawn_too, kept_alone, many_sent, none_so_far, one_more, reader_at_end, some_sent, whole_text}
+use Rattle.tt_render.proofs.StoppedLines.{cut_sent, stopped_before, stopped_in}
 use Rattle.tt_render.proofs.Printed.{keeps_itself}
 use Rattle.tt_render.proofs.line_drawing.draw_lines_by.Goals as goal
 

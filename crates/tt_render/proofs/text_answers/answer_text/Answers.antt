@@ -1,4 +1,5 @@
 use Rattle.std.proofs.lemmas.Result.{err_from_is_err_and}
+use Rattle.tt_render.specs.declared.text_answers.ReadyText.{ReadyText}
 use Rattle.tt_render.proofs.OneText.{output_serves, output_stops, output_tells}
 use Rattle.tt_render.proofs.text_answers.answer_text.Goals as goal
 
@@ -11,7 +12,7 @@ returns-in_err-output-clause-exact c =
 pub returns-in_err-output-clause-serves : goal.returns-in_err-output-clause-serves
 returns-in_err-output-clause-serves c =
     let p = err_from_is_err_and c.from_residual.result c.from_residual.ensures.1 in
-    rw (p.1, p.2) (output_serves _ c.in_err-output.field-0.0)
+    rw (p.1, p.2) (output_serves ReadyText c.in_err-output.field-0.0)
 
 pub returns-in_err-output-clause-defects : goal.returns-in_err-output-clause-defects
 returns-in_err-output-clause-defects c =
