@@ -42,7 +42,8 @@ TellsTextsFault fault status e = (status ≡ texts_status_of fault) × Prints e 
 -- a fault of a call that draws texts is reported by status and line; if memory is refused for the line, the program
 -- reports that instead. By the status alone, where standard error had failed before
 abbrev pub TellsTextsFailure : Bool → TextsFault → ℕ → Errors → Type 0
-TellsTextsFailure false fault status e = TellsTextsFault fault status e ⊎ TellsTextsFault (before_lines reason.Memory) status e
+TellsTextsFailure false fault status e =
+    TellsTextsFault fault status e ⊎ TellsTextsFault (before_lines reason.Memory) status e
 TellsTextsFailure true fault status e =
     (status ≡ texts_status_of fault) × Keeps e.before e.after × (e.failed ≡ true)
 

@@ -22,32 +22,40 @@ returns-in-Err-clause-stands c = rw c.answer_of.ensures (lines_defect_told _ c.i
     (fit_defect c.args.job.now.fit _ c.in-Err.fault c.in-Err.ensures.exact))
 
 pub returns-in-Err-test_job-clause-order : goal.returns-in-Err-test_job-clause-order
-returns-in-Err-test_job-clause-order c = rw c.answer_of-in-Err-test_job.ensures
+returns-in-Err-test_job-clause-order c =
+    let fails = of_setting c.args.job.now c.in-Ok.fit _ _ _ c.job.ensures c.plain.ensures
+    c.in-Err-test_job.ensures.exact in
+    rw c.answer_of-in-Err-test_job.ensures
     (job_first (lines_wanted c.args.job.now c.args.font.now) _ _ c.in-Err-test_job.fault
-    (job_refused c.args.job.now c.args.font.now c.in-Ok.fit c.in-Err-test_job.fault c.in-Ok.ensures.exact
-    (of_setting c.args.job.now c.in-Ok.fit _ _ _ c.job.ensures c.plain.ensures c.in-Err-test_job.ensures.exact)))
+    (job_refused c.args.job.now c.args.font.now c.in-Ok.fit c.in-Err-test_job.fault c.in-Ok.ensures.exact fails))
 
 pub returns-in-Err-test_job-clause-drawn : goal.returns-in-Err-test_job-clause-drawn
-returns-in-Err-test_job-clause-drawn c room = rw c.answer_of-in-Err-test_job.ensures
+returns-in-Err-test_job-clause-drawn c room =
+    let fails = of_setting c.args.job.now c.in-Ok.fit _ _ _ c.job.ensures c.plain.ensures
+    c.in-Err-test_job.ensures.exact in
+    rw c.answer_of-in-Err-test_job.ensures
     (lines_refused c.args.job.now c.args.font.now _ _ _ _ (call.Job c.in-Err-test_job.fault)
-    (job_refused c.args.job.now c.args.font.now c.in-Ok.fit c.in-Err-test_job.fault c.in-Ok.ensures.exact
-    (of_setting c.args.job.now c.in-Ok.fit _ _ _ c.job.ensures c.plain.ensures c.in-Err-test_job.ensures.exact)))
+    (job_refused c.args.job.now c.args.font.now c.in-Ok.fit c.in-Err-test_job.fault c.in-Ok.ensures.exact fails))
 
 pub returns-in-Err-test_job-clause-stands : goal.returns-in-Err-test_job-clause-stands
 returns-in-Err-test_job-clause-stands c =
     rw c.answer_of-in-Err-test_job.ensures (lines_defect_told _ (call.Job c.in-Err-test_job.fault) tt)
 
 pub returns-in-Err-face_of-clause-order : goal.returns-in-Err-face_of-clause-order
-returns-in-Err-face_of-clause-order c = rw c.answer_of-in-Err-face_of.ensures
+returns-in-Err-face_of-clause-order c =
+    let passed = of_setting c.args.job.now c.in-Ok.fit _ _ _ c.job.ensures c.plain.ensures c.in_default.ensures.exact in
+    rw c.answer_of-in-Err-face_of.ensures
     (refused_first (lines_wanted c.args.job.now c.args.font.now) _ _ c.in-Err-face_of.fault c.in-Err-face_of.ensures.memory
-    (face_refused c.args.job.now c.args.font.now c.in-Ok.fit c.in-Err-face_of.fault c.in-Ok.ensures.exact
-    (of_setting c.args.job.now c.in-Ok.fit _ _ _ c.job.ensures c.plain.ensures c.in_default.ensures.exact) c.in-Err-face_of.ensures.exact))
+    (face_refused c.args.job.now c.args.font.now c.in-Ok.fit c.in-Err-face_of.fault c.in-Ok.ensures.exact passed
+    c.in-Err-face_of.ensures.exact))
 
 pub returns-in-Err-face_of-clause-drawn : goal.returns-in-Err-face_of-clause-drawn
-returns-in-Err-face_of-clause-drawn c room = rw c.answer_of-in-Err-face_of.ensures
+returns-in-Err-face_of-clause-drawn c room =
+    let passed = of_setting c.args.job.now c.in-Ok.fit _ _ _ c.job.ensures c.plain.ensures c.in_default.ensures.exact in
+    rw c.answer_of-in-Err-face_of.ensures
     (lines_refused c.args.job.now c.args.font.now _ _ _ _ c.in-Err-face_of.fault
-    (face_refused c.args.job.now c.args.font.now c.in-Ok.fit c.in-Err-face_of.fault c.in-Ok.ensures.exact
-    (of_setting c.args.job.now c.in-Ok.fit _ _ _ c.job.ensures c.plain.ensures c.in_default.ensures.exact) c.in-Err-face_of.ensures.exact))
+    (face_refused c.args.job.now c.args.font.now c.in-Ok.fit c.in-Err-face_of.fault c.in-Ok.ensures.exact passed
+    c.in-Err-face_of.ensures.exact))
 
 pub returns-in-Err-face_of-clause-stands : goal.returns-in-Err-face_of-clause-stands
 returns-in-Err-face_of-clause-stands c = rw c.answer_of-in-Err-face_of.ensures
@@ -56,45 +64,49 @@ returns-in-Err-face_of-clause-stands c = rw c.answer_of-in-Err-face_of.ensures
 
 pub returns-then-lines-ends-clause-order : goal.returns-then-lines-ends-clause-order
 returns-then-lines-ends-clause-order c =
+    let passed = of_setting c.args.job.now c.in-Ok.fit _ _ _ c.job.ensures c.plain.ensures c.in_default.ensures.exact in
     opened_first (lines_wanted c.args.job.now c.args.font.now) c.in-Ok-face_of.face _ _ _
-    (lines_opened c.args.job.now c.args.font.now c.in-Ok.fit c.in-Ok-face_of.face c.in-Ok.ensures.exact
-    (of_setting c.args.job.now c.in-Ok.fit _ _ _ c.job.ensures c.plain.ensures c.in_default.ensures.exact) c.in-Ok-face_of.ensures.exact) (λ few. c.wants_room.ensures)
+    (lines_opened c.args.job.now c.args.font.now c.in-Ok.fit c.in-Ok-face_of.face c.in-Ok.ensures.exact passed
+    c.in-Ok-face_of.ensures.exact) (λ few. c.wants_room.ensures)
 
 pub returns-then-lines-ends-clause-stands : goal.returns-then-lines-ends-clause-stands
 returns-then-lines-ends-clause-stands c = rw c.wants_room.ensures (room_names_none _ _ _)
 
 pub returns-in-Err-new-clause-order : goal.returns-in-Err-new-clause-order
 returns-in-Err-new-clause-order c =
+    let passed = of_setting c.args.job.now c.in-Ok.fit _ _ _ c.job.ensures c.plain.ensures c.in_default.ensures.exact in
     opened_first (lines_wanted c.args.job.now c.args.font.now) c.in-Ok-face_of.face _ _ _
-    (lines_opened c.args.job.now c.args.font.now c.in-Ok.fit c.in-Ok-face_of.face c.in-Ok.ensures.exact
-    (of_setting c.args.job.now c.in-Ok.fit _ _ _ c.job.ensures c.plain.ensures c.in_default.ensures.exact) c.in-Ok-face_of.ensures.exact)
+    (lines_opened c.args.job.now c.args.font.now c.in-Ok.fit c.in-Ok-face_of.face c.in-Ok.ensures.exact passed
+    c.in-Ok-face_of.ensures.exact)
     (λ few. absurd (omega (arith, few, c.if-lines-ends.false)))
 
 pub returns-in-Err-new-clause-drawn : goal.returns-in-Err-new-clause-drawn
 returns-in-Err-new-clause-drawn c room =
-    let memory = strike_refused c.args.job.now c.in-Ok.fit c.in-Err-new.fault (of_setting c.args.job.now c.in-Ok.fit _ _ _ c.job.ensures c.plain.ensures c.in_default.ensures.exact)
-    c.in-Err-new.ensures.tested in
+    let passed = of_setting c.args.job.now c.in-Ok.fit _ _ _ c.job.ensures c.plain.ensures c.in_default.ensures.exact in
+    let memory = strike_refused c.args.job.now c.in-Ok.fit c.in-Err-new.fault passed c.in-Err-new.ensures.tested in
     rw (c.answer_of-in-Err-new.ensures, c.from.ensures, memory)
     (lines_refused c.args.job.now c.args.font.now _ _ _ _ call.Memory tt)
 
 pub returns-in-Err-new-clause-stands : goal.returns-in-Err-new-clause-stands
 returns-in-Err-new-clause-stands c =
-    let memory = strike_refused c.args.job.now c.in-Ok.fit c.in-Err-new.fault (of_setting c.args.job.now c.in-Ok.fit _ _ _ c.job.ensures c.plain.ensures c.in_default.ensures.exact)
-    c.in-Err-new.ensures.tested in
+    let passed = of_setting c.args.job.now c.in-Ok.fit _ _ _ c.job.ensures c.plain.ensures c.in_default.ensures.exact in
+    let memory = strike_refused c.args.job.now c.in-Ok.fit c.in-Err-new.fault passed c.in-Err-new.ensures.tested in
     rw (c.answer_of-in-Err-new.ensures, c.from.ensures, memory) (lines_defect_told _ call.Memory tt)
 
 pub draw_by-answer-requires : goal.draw_by-answer-requires
-draw_by-answer-requires c = (
-  strike_for c.args.job.now c.args.font.now c.in-Ok.fit c.in-Ok-face_of.face c.in-Ok-new.strike c.args.keep
-      c.in-Ok.ensures.exact (of_setting c.args.job.now c.in-Ok.fit _ _ _ c.job.ensures c.plain.ensures c.in_default.ensures.exact) c.in-Ok-face_of.ensures.exact c.in-Ok-new.ensures.exact,
-  c.if-lines-ends.false,
-)
+draw_by-answer-requires c =
+    let passed = of_setting c.args.job.now c.in-Ok.fit _ _ _ c.job.ensures c.plain.ensures c.in_default.ensures.exact in (
+      strike_for c.args.job.now c.args.font.now c.in-Ok.fit c.in-Ok-face_of.face c.in-Ok-new.strike c.args.keep
+          c.in-Ok.ensures.exact passed c.in-Ok-face_of.ensures.exact c.in-Ok-new.ensures.exact,
+      c.if-lines-ends.false,
+    )
 
 pub returns-clause-order : goal.returns-clause-order
 returns-clause-order c =
+    let passed = of_setting c.args.job.now c.in-Ok.fit _ _ _ c.job.ensures c.plain.ensures c.in_default.ensures.exact in
     opened_first (lines_wanted c.args.job.now c.args.font.now) c.in-Ok-face_of.face _ _ _
-    (lines_opened c.args.job.now c.args.font.now c.in-Ok.fit c.in-Ok-face_of.face c.in-Ok.ensures.exact
-    (of_setting c.args.job.now c.in-Ok.fit _ _ _ c.job.ensures c.plain.ensures c.in_default.ensures.exact) c.in-Ok-face_of.ensures.exact)
+    (lines_opened c.args.job.now c.args.font.now c.in-Ok.fit c.in-Ok-face_of.face c.in-Ok.ensures.exact passed
+    c.in-Ok-face_of.ensures.exact)
     (λ few. absurd (omega (arith, few, c.if-lines-ends.false)))
 
 pub returns-clause-drawn : goal.returns-clause-drawn
