@@ -3,7 +3,6 @@ use Rattle.std.specs.Prelude.{◌≡◌, refl, ℕ, Bool, ◌&&◌, nat_le, nat_
 use Rattle.std.specs.Fmt.{digits}
 use Rattle.tt_pbm.specs.P4.{p4_header_of}
 use Rattle.tt_picture.specs.Pictures.{Image, Picture, image, image_of}
-use Rattle.tt_scan_edges.specs.declared.edge.Frame.{Frame}
 use Rattle.tt_strike.specs.Job.{Job}
 use Rattle.tt_strike.specs.Picture.{pictured}
 use Rattle.tt_strike.specs.Refusals.{Refused}
@@ -25,12 +24,10 @@ abbrev pub file_pictured : Job → List ℕ → Result (List ℕ) Refused
 file_pictured a file = as_file (pictured a file)
 
 -- worked value: columns 1 and 2 of rows 2 and 3
-four_by_four : Frame
-four_by_four = record { width = 4; height = 4; margin = 0; rise = pos 4 }
-
 a_square : ℕ → ℕ → Bool
 a_square c r = (nat_le 1 c && nat_lt c 3) && nat_le 2 r
 
-a_picture : p4 (image four_by_four a_square) ≡ codes "P4\n4 4\n" ++ (0x00 ∷ 0x00 ∷ 0x60 ∷ 0x60 ∷ [])
-unfolding digits four_by_four a_square
+a_picture : p4 (image (record { width = 4; height = 4; margin = 0; rise = pos 4 }) a_square)
+    ≡ codes "P4\n4 4\n" ++ (0x00 ∷ 0x00 ∷ 0x60 ∷ 0x60 ∷ [])
+unfolding digits a_square
 a_picture = refl
