@@ -137,8 +137,8 @@ texts_are_runs a file text s is plain opened =
     let j = job_of s text a.margin in
     let lacking = missing_tested s.face.cmap a.missing text in
     bytes_by_parts (product_of a s text) (report_by s.face j) lacking (cost_by s.face j)
-    (λ bytes was. let made = file_made (line_outcome s.face j) bytes (sym drawn ∙ was) in has_report s.face j made.0 made.1.0)
-    (λ bytes was. let made = file_made (line_outcome s.face j) bytes (sym drawn ∙ was) in has_cost s.face j made.0 made.1.0)
+    (λ bytes was. let made = file_made (line_outcome s.face j) bytes (sym drawn ∙ was) in has_report s.face j made.0 made.1)
+    (λ bytes was. let made = file_made (line_outcome s.face j) bytes (sym drawn ∙ was) in has_cost s.face j made.0 made.1)
     ∙ ap (λ (r : Result (List ℕ) Refused). as_text r >>= λ bytes. lacking >>= λ cs. Ok bytes) picture
 
 -- what is drawn by a strike was given by `run`

@@ -33,13 +33,13 @@ pub written-whole : DrawnFontsAreWhole → WrittenFontsAreWhole
 unfolding run_outcome
 written-whole law a file bytes was =
     let made = file_made (pictured a file) bytes (made-of (tested a) (file_pictured a) file bytes was) in
-    law a file made.0 made.1.0
+    law a file made.0 made.1
 
 pub written-by-edges : OthersDrawByEdges → OthersWriteByEdges
 unfolding run_outcome
 written-by-edges law a file bytes other was =
     let made = file_made (pictured a file) bytes (made-of (tested a) (file_pictured a) file bytes was) in
-    (made.0, made.1.1, law a file made.0 other made.1.0)
+    (made.0, made.2, law a file made.0 other made.1)
 
 lines-whole : FacesAreWhole → (file text bytes : List ℕ) → lines_of file text ≡ Ok bytes → HasNo (IsFaceDefect file)
 unfolding lines_of
