@@ -1,6 +1,7 @@
 -- The file of a picture (Netpbm, "PBM", format P4): its header, and then its rows from the top.
-use Rattle.std.specs.Prelude.{◌≡◌, refl, ℕ, Bool, ◌&&◌, nat_le, nat_lt, pos, List, [], ◌∷◌, ◌++◌, codes, Result, Ok, Err}
+use Rattle.std.specs.Prelude.{◌≡◌, refl, ℕ, Bool, ◌&&◌, nat_le, nat_lt, pos, List, [], ◌∷◌, ◌++◌, codes, Result, Ok}
 use Rattle.std.specs.Fmt.{digits}
+use Rattle.tt_core.specs.Outcomes.{◌>>=◌}
 use Rattle.tt_pbm.specs.P4.{p4_header_of}
 use Rattle.tt_picture.specs.Pictures.{Image, Picture, image, image_of}
 use Rattle.tt_strike.specs.Job.{Job}
@@ -16,8 +17,7 @@ picture_bytes p = p4 (image_of p)
 
 -- the file of an image, or its refusal
 abbrev pub as_file : {E : Type 0} → Result Image E → Result (List ℕ) E
-as_file (Ok i) = Ok (p4 i)
-as_file (Err e) = Err e
+as_file made = made >>= λ i. Ok (p4 i)
 
 -- the file of the picture of a job by a font file
 abbrev pub file_pictured : Job → List ℕ → Result (List ℕ) Refused
