@@ -1,5 +1,5 @@
 -- No part of the standard: a line's picture enlarged on each side so that no ink is cut (profile).
-use Rattle.std.specs.Prelude.{◌≡◌, refl, ℕ, suc, ◌+◌, ◌-◌, nat_lt, ◌||◌, if◌then◌else◌, ℤ, pos, negsuc, ◌+ℤ◌, List, [], ◌∷◌, map, Option, Some, None, Result, Ok, Err}
+use Rattle.std.specs.Prelude.{◌≡◌, refl, ℕ, suc, ◌+◌, ◌-◌, nat_lt, ◌||◌, if◌then◌else◌, ℤ, pos, negsuc, ◌+ℤ◌, [], ◌∷◌, map, Option, Some, None, Result, Ok, Err}
 use Rattle.tt_core.specs.declared.fault.JobFault.{JobFault}
 use Rattle.tt_core.specs.declared.fault.JobFault.TheVariants as fault
 use Rattle.tt_core.specs.Limits.{height_limit, width_limit}
