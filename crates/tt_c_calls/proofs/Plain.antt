@@ -1,17 +1,20 @@
 -- A picture without `grow` is the one that `run` writes.
-use Rattle.std.proofs.Common.{◌≡◌, Bool, true, false, List, ℕ, Result, Ok, Err, refl, nat_lt, length}
+use Rattle.std.proofs.Common.{◌≡◌, Bool, true, false, List, ℕ, Result, Ok, Err, ap, refl, nat_lt, length}
 use Rattle.std.specs.Prelude.{if◌then◌else◌}
 use Rattle.tt_core.specs.declared.fault.JobFault.{JobFault}
 use Rattle.tt_core.specs.Faults.{Fault}
 use Rattle.tt_core.specs.Limits.{font_limit}
 use Rattle.tt_core.specs.Outcomes.{◌>>=◌}
+use Rattle.tt_picture.specs.Pictures.{Image}
+use Rattle.tt_render_run.specs.File.{as_file}
 use Rattle.tt_render_run.specs.Run.{run_outcome}
 use Rattle.tt_strike.specs.Job.{Job, tested}
 use Rattle.tt_strike.specs.Picture.{line_outcome, pictured, pictured_by}
-use Rattle.tt_strike.specs.Refusals.{as_font, large}
+use Rattle.tt_strike.specs.Refusals.{Refused, as_font, large}
 use Rattle.tt_face.specs.Faces.{Face, face_of}
 use Rattle.tt_c_calls.specs.Laws.{PlainIsRun}
 use Rattle.tt_c_calls.specs.Pictures.{made_of, picture_wanted}
+use Rattle.tt_c_calls.specs.Refusals.{as_call}
 use Rattle.tt_render.specs.Texts.{picture_by}
 
 -- the tests of a line do not refuse the line of a tested job
@@ -20,18 +23,23 @@ unfolding line_outcome
 line_drawn face a passes = rw passes refl
 
 by_size : (is_large : Bool) (face : Result Face Fault) (a : Job) → tested a ≡ Ok tt
-    → (if is_large then Err large else (as_font face >>= λ face. line_outcome face a))
-    ≡ (if is_large then Err large else (as_font face >>= λ face. pictured_by face a))
+    → as_file (if is_large then Err large else (as_font face >>= λ face. line_outcome face a))
+    ≡ (if is_large then Err large else as_file (as_font face >>= λ face. pictured_by face a))
 by_size true face a passes = refl
-by_size false (Ok face) a passes = line_drawn face a passes
+by_size false (Ok face) a passes = ap as_file (line_drawn face a passes)
 by_size false (Err f) a passes = refl
 
 by_test : (test : Result (Unit {0}) JobFault) (a : Job) (font : List ℕ) → tested a ≡ test
-    → made_of (λ face. line_outcome face a) a font ≡ run_outcome a font
+    → as_file (made_of (λ face. line_outcome face a) a font) ≡ run_outcome a font
 unfolding run_outcome pictured
 by_test (Ok u) a font is = rw is (by_size (nat_lt font_limit (length font)) (face_of font) a is)
 by_test (Err j) a font is = rw is refl
 
+file_called : (made : Result Image Refused) → as_file (as_call made) ≡ as_call (as_file made)
+file_called (Ok i) = refl
+file_called (Err why) = refl
+
 pub plain_is_run : PlainIsRun
 unfolding picture_wanted picture_by
-plain_is_run j text font a plain is = rw (is, plain, by_test (tested a) a font refl) refl
+plain_is_run j text font a plain is =
+    rw (is, plain, ← by_test (tested a) a font refl) (file_called (made_of (λ face. line_outcome face a) a font))

@@ -12,7 +12,7 @@ use Rattle.tt_strike.specs.Defects.{IsLineDefect}
 use Rattle.tt_strike.specs.Grown.{grown_outcome, grown_placement}
 use Rattle.tt_strike.specs.Job.{Job, tested}
 use Rattle.tt_strike.specs.Picture.{line_outcome}
-use Rattle.tt_picture.specs.Pictures.{IsReady, Picture, picture_bytes}
+use Rattle.tt_picture.specs.Pictures.{IsReady, Picture, image_of}
 use Rattle.tt_strike.specs.Refusals.{Refused, as_font, as_job, font, job, large}
 use Rattle.tt_strike.specs.Strikes.{Strike, job_of}
 use Rattle.tt_face.specs.Faces.{Face, face_of}
@@ -83,10 +83,10 @@ wanted_by j file line t s for text =
 
 -- a picture that a strike made of a line is that of the line
 pub picture_of_line : (j : CJob) (file line t : List ℕ) (s : Strike) (p : Picture) → IsStrikeFor j file s
-    → text_asked line ≡ Ok t → as_call (picture_by (grows j) s.face (job_of s t j.margin)) ≡ Ok (picture_bytes p)
+    → text_asked line ≡ Ok t → as_call (picture_by (grows j) s.face (job_of s t j.margin)) ≡ Ok (image_of p)
     → IsReady p → IsMadeBy (grows j) (job_of s t j.margin) p s.face → IsPictureOf j line file p
 picture_of_line j file line t s p for text exact ready made = record {
-  file = wanted_by j file line t s for text ∙ exact;
+  image = wanted_by j file line t s for text ∙ exact;
   ready = ready;
   made = rw (asked_by j file line t s for text, (opened j file s for).face_of_file) made;
 }

@@ -3,6 +3,7 @@
 use Rattle.std.specs.Prelude.{◌≡◌, ℕ, true, List, Ok}
 use Rattle.tt_core.specs.declared.fault.JobFault.{JobFault}
 use Rattle.tt_core.specs.Faults.{Fault, is_ascii}
+use Rattle.tt_render_run.specs.File.{as_file}
 use Rattle.tt_render_run.specs.Messages.{font_line, job_line}
 use Rattle.tt_render_run.specs.Run.{run_outcome}
 use Rattle.tt_strike.specs.Job.{Job}
@@ -21,7 +22,7 @@ FontMessagesAreLines = (f : Fault) → is_ascii f.table ≡ true → message_of 
 abbrev pub JobMessagesAreLines : Type 0
 JobMessagesAreLines = (j : JobFault) → message_of (job_answer j) ≡ job_line j
 
--- without `grow` the requested picture is the one that `run` writes, and is refused for the same reason
+-- without `grow` the file of the requested picture is the one that `run` writes, and is refused for the same reason
 abbrev pub PlainIsRun : Type 0
 PlainIsRun = (j : CJob) (text font : List ℕ) (a : Job) → j.grow ≡ 0 → asked j text ≡ Ok a
-    → picture_wanted j text font ≡ as_call (run_outcome a font)
+    → as_file (picture_wanted j text font) ≡ as_call (run_outcome a font)

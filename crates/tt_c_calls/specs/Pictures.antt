@@ -6,7 +6,7 @@ use Rattle.tt_core.specs.Outcomes.{◌>>=◌}
 use Rattle.tt_render_run.specs.Outcome.{of_font}
 use Rattle.tt_render.specs.Texts.{IsMadeBy, picture_by}
 use Rattle.tt_strike.specs.Job.{Job, tested}
-use Rattle.tt_picture.specs.Pictures.{IsReady, Picture, picture_bytes}
+use Rattle.tt_picture.specs.Pictures.{Image, IsReady, Picture, image_of}
 use Rattle.tt_strike.specs.Refusals.{Refused, as_font, as_job}
 use Rattle.tt_face.specs.Faces.{Face, face_of}
 use Rattle.tt_c_calls.specs.declared.answer.CAnswer.{CAnswer}
@@ -20,13 +20,13 @@ use Rattle.tt_c_calls.specs.Refusals.{Refusal, as_call}
 abbrev pub made_of : {X : Type 0} → (Face → Result X Refused) → Job → List ℕ → Result X Refused
 made_of make a font = as_job (tested a) >>= λ u. of_font (λ file. as_font (face_of file) >>= make) font
 
--- the file of the picture of a text by a font file
-unfoldable pub picture_wanted : CJob → List ℕ → List ℕ → Result (List ℕ) Refusal
+-- the image of the picture of a text by a font file
+unfoldable pub picture_wanted : CJob → List ℕ → List ℕ → Result Image Refusal
 picture_wanted j text font = asked j text >>= λ a. as_call (made_of (λ face. picture_by (grows j) face a) a font)
 
 -- a picture is that of a text by a font file
 pub record IsPictureOf (j : CJob) (text font : List ℕ) (p : Picture) : Type 0 where
-  pub file : picture_wanted j text font ≡ Ok (picture_bytes p)
+  pub image : picture_wanted j text font ≡ Ok (image_of p)
   pub ready : IsReady p
   pub made : IsOkAnd (asked j text) (λ a. IsOkAnd (face_of font) (IsMadeBy (grows j) a p))
 

@@ -4,7 +4,7 @@ ghost use Rattle.std.specs.Prelude.{◌≡◌, ◌≢◌, ◌*◌, ◌+◌, ◌-
 ghost use Rattle.tt_core.specs.Bits.{stride};
 ghost use Rattle.tt_core.specs.Outcomes.{GivesUnless};
 ghost use Rattle.tt_strike.specs.Defects.{TellsDefects};
-ghost use Rattle.tt_picture.specs.Pictures.{IsReady, picture_bytes};
+ghost use Rattle.tt_picture.specs.Pictures.{IsReady, image_of};
 ghost use Rattle.tt_c_calls.specs.Asked.{IsAskedDefect};
 ghost use Rattle.tt_c_calls.specs.Pictures.{IsBandSmall, IsBandWritten, IsPictureOf, band_of, band_rows, picture_told, picture_wanted};
 ghost use Rattle.tt_c_calls.specs.Answers.{room_answer};
@@ -56,7 +56,7 @@ pub(crate) fn picture_of(
     text: &[u8],
     job: &CJob,
 ) -> Result<Picture, CallFault>
-    ensures exact { GivesUnless call_refusal picture_bytes result (picture_wanted job.now text.now font.now) }
+    ensures exact { GivesUnless call_refusal image_of result (picture_wanted job.now text.now font.now) }
     ensures picture { IfOk result (IsPictureOf job.now text.now font.now) }
     ensures defects { TellsDefects call_font_fault (IsAskedDefect job.now text.now font.now) result }
 {

@@ -1,2 +1,1 @@
 pub mod P4
-pub mod Rows

@@ -11,6 +11,7 @@ pub mod Listing
 mod Pens
 pub mod Places
 mod Reframed
+mod RowBytes
 mod RowsCut
 pub mod RowsNeeded
 mod Seats

@@ -3,8 +3,8 @@ use Rattle.std.proofs.Common.{◌≡◌, ◌∙◌, ℕ, ◌+◌, ◌-◌, ◌*�
 use Rattle.std.proofs.Math.Seq.{drop-append_seam}
 use Rattle.std.proofs.lemmas.Nat.{mul-le}
 use Rattle.tt_core.specs.Bits.{stride}
-use Rattle.tt_pbm.specs.P4.{rows}
-use Rattle.tt_pbm.specs.Rows.{length-rows, rows_more, take-rows}
+use Rattle.tt_picture.specs.Rows.{rows}
+use Rattle.tt_picture.proofs.RowBytes.{length-rows, rows_more, take-rows}
 
 -- rows after those from an end on
 rows_after : (w : ℕ) (black : ℕ → ℕ → Bool) (m n : ℕ) → drop m (rows w black 0 (m + n)) ≡ rows w black m n

@@ -4,7 +4,6 @@ use Rattle.tt_core.specs.Bits.{stride}
 use Rattle.tt_core.specs.Faults.{Fault}
 use Rattle.tt_core.specs.Limits.{margin_limit, width_limit}
 use Rattle.tt_core.specs.Outcomes.{each}
-use Rattle.tt_pbm.specs.P4.{rows}
 use Rattle.tt_fit.specs.Fitting.{Fitter, fitted_outline, unfitted_fault}
 use Rattle.tt_fit_outline.specs.Outline.{Outline}
 use Rattle.tt_scan.specs.Contours.{AreEnds, IsClosed, contours_at}
@@ -20,6 +19,7 @@ use Rattle.tt_scan_rows.specs.Raster.{IsRasterOf, Raster}
 use Rattle.tt_scan_ink.specs.declared.ink.GlyphInk.{GlyphInk}
 use Rattle.tt_picture.specs.Distinct.{IsNext, distinct, with_glyph}
 use Rattle.tt_picture.specs.Ink.{ink_by}
+use Rattle.tt_picture.specs.Rows.{rows}
 use Rattle.tt_picture.specs.Shapes.{contours_of, crossings_in, edges_at, filled_by, filling_crossings, glyph_shape}
 use Rattle.tt_picture.specs.Pixels as pixels
 use Rattle.tt_picture.specs.Pixels.{Drawn, Shape, Stamp, TapeFits, cut_from, is_black_by, is_filled, is_filled_by, some_black, some_filled}

@@ -4,6 +4,7 @@ pub mod Glyphs
 pub mod Ink
 pub mod Pictures
 pub mod Pixels
+pub mod Rows
 pub mod Shapes
 pub mod Unfitted
 pub mod Views

@@ -1,12 +1,12 @@
--- A picture whose rows are made one after the other. Netpbm, "PBM", format P4, defines the bytes of a row.
-use Rattle.std.specs.Prelude.{◌≡◌, refl, ℕ, ◌+◌, ◌*◌, ◌≤◌, List, [], ◌∷◌, ◌++◌, length, take, drop, pos}
+-- A picture whose rows are made one after the other, and its image.
+use Rattle.std.specs.Prelude.{◌≡◌, refl, ℕ, ◌+◌, ◌*◌, ◌≤◌, Bool, List, [], ◌∷◌, length, take, drop, pos}
 use Rattle.tt_core.specs.Bits.{stride}
 use Rattle.tt_core.specs.Limits.{height_limit}
-use Rattle.tt_pbm.specs.P4.{p4, p4_header_of}
 use Rattle.tt_scan_edges.specs.declared.edge.Edge.{Edge}
 use Rattle.tt_scan_edges.specs.declared.edge.Frame.{Frame}
 use Rattle.tt_scan_edges.specs.Winding.{FrameFits}
 use Rattle.tt_picture.specs.Pixels.{Shape, crossings_up_to, is_black_pixel}
+use Rattle.tt_picture.specs.Rows.{rows}
 use Rattle.tt_picture.specs.declared.report.Unfitted.{Unfitted}
 
 -- the frame, the bytes of its rows, how many rows were made, the unfitted glyphs, the edges that rows are cut from,
@@ -23,13 +23,21 @@ pub record Picture : Type 0 where
 abbrev pub row_at : Picture → ℕ → List ℕ
 row_at p r = take (stride p.frame.width) (drop (stride p.frame.width * r) p.rows)
 
--- the bytes of its file
-abbrev pub picture_bytes : Picture → List ℕ
-picture_bytes p = p4_header_of p.frame.width p.frame.height ++ p.rows
+-- what a picture shows: its frame, and the bytes of its rows
+pub record Image : Type 0 where
+  pub frame : Frame
+  pub rows : List ℕ
 
--- the file of a picture in which some glyphs are drawn
-abbrev pub picture : Frame → List Shape → List ℕ
-picture f glyphs = p4 f.width f.height (is_black_pixel f glyphs)
+abbrev pub image_of : Picture → Image
+image_of p = record { frame = p.frame; rows = p.rows }
+
+-- the image of a frame with these pixels: `black c r` says whether column c is black in row r
+abbrev pub image : Frame → (ℕ → ℕ → Bool) → Image
+image f black = record { frame = f; rows = rows f.width black 0 (stride f.width * f.height) }
+
+-- the image in which some glyphs are drawn
+abbrev pub picture : Frame → List Shape → Image
+picture f glyphs = image f (is_black_pixel f glyphs)
 
 -- the crossings that the first rows of a frame need, this many, with the edges of all glyphs
 abbrev pub rows_crossings : Frame → ℕ → List (List Edge) → ℕ

@@ -3,7 +3,7 @@
 ghost use Rattle.std.specs.Prelude.{◌≡◌, ◌≤◌, ◌^◌, Bool, List, unsigned_abs, All, IfOk};
 ghost use Rattle.tt_core.specs.Limits.{height_limit};
 ghost use Rattle.tt_picture.specs.Glyphs.{BodyFits, CanBeFilled, Stand, edges_cut};
-ghost use Rattle.tt_picture.specs.Pictures.{IsReady, picture, picture_bytes};
+ghost use Rattle.tt_picture.specs.Pictures.{IsReady, image_of, picture};
 ghost use Rattle.tt_picture.specs.Pixels.{Shape};
 ghost use Rattle.tt_picture.specs.Unfitted.{unfitted_standing};
 ghost use Rattle.tt_scan_edges.specs.Winding.{FrameFits};
@@ -26,7 +26,7 @@ pub fn draw_made(
     requires rise { unsigned_abs frame.rise ≤ 10 ^ 6 }
     requires glyphs { All CanBeFilled glyphs.items }
     requires bodies { All (λ g. BodyFits frame 0 g.body) glyphs.items }
-    ensures exact { IfOk result (λ p. (keeps : Bool) (shapes : List Shape) → Stand keeps frame glyphs.items shapes → picture_bytes p ≡ picture frame shapes) }
+    ensures exact { IfOk result (λ p. (keeps : Bool) (shapes : List Shape) → Stand keeps frame glyphs.items shapes → image_of p ≡ picture frame shapes) }
     ensures valid { IfOk result IsReady }
     ensures frame { IfOk result (λ p. p.frame ≡ frame) }
     ensures unfitted { IfOk result (λ p. p.unfitted ≡ unfitted_standing glyphs.items) }

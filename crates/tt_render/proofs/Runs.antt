@@ -11,6 +11,7 @@ use Rattle.tt_line.specs.Layout.{Placement, placement}
 use Rattle.tt_strike.specs.Costs.{cost_by, line_cost}
 use Rattle.tt_picture.specs.declared.report.Unfitted.{Unfitted}
 use Rattle.tt_picture.specs.Distinct.{distinct}
+use Rattle.tt_picture.specs.Pictures.{Image}
 use Rattle.tt_strike.specs.Work.{line_fitter}
 use Rattle.tt_strike.specs.Job.{Job, tested}
 use Rattle.tt_strike.specs.Picture.{drawn, line_outcome, line_shapes, pictured, pictured_by, setting_in}
@@ -25,6 +26,8 @@ use Rattle.tt_render.specs.declared.setting.Setting.{Setting}
 use Rattle.tt_render.specs.Lines.{line_drawn, line_limit}
 use Rattle.tt_render_run.specs.Outcome.{of_font}
 use Rattle.tt_render_run.specs.Run.{run_outcome}
+use Rattle.tt_render_run.specs.File.{as_file, file_pictured}
+use Rattle.tt_render_run.proofs.Files.{file_made}
 use Rattle.tt_render.specs.RunLaws.{LinesAreRuns, LinesAreTexts, TextsAreRuns, bytes_of}
 use Rattle.tt_render.specs.Settings.{job_by, strike_by, strike_of}
 use Rattle.tt_render.specs.Texts.{TextAnswer, TextRefusal, answer_of, as_text, missing_tested, not_utf8, picture_by, product_of, refused, text_answer}
@@ -37,15 +40,15 @@ report_is : (face : Face) (a : Job) (line : Placement) (s : Fitter) (shapes : Li
 unfolding report_by line_report
 report_is face a line s shapes laid made drawn = rw (laid, made, drawn) refl
 
-has_report : (face : Face) (a : Job) (bytes : List ℕ) → line_outcome face a ≡ Ok bytes
+has_report : (face : Face) (a : Job) (i : Image) → line_outcome face a ≡ Ok i
     → (entries : List Unfitted) × (report_by face a ≡ Ok entries)
 unfolding line_outcome pictured_by drawn
-has_report face a bytes was =
-    let by_tests = came-through (as_job (tested a)) _ bytes was in
-    let by_line = came-through (as_job (placement face.metrics face.cmap a.text a.ppem a.margin)) _ bytes
+has_report face a i was =
+    let by_tests = came-through (as_job (tested a)) _ i was in
+    let by_line = came-through (as_job (placement face.metrics face.cmap a.text a.ppem a.margin)) _ i
     by_tests.rest in
-    let by_setting = came-through (as_font (setting_in face a)) _ bytes by_line.rest in
-    let by_shapes = came-through (line_shapes by_setting.value a by_line.value) _ bytes by_setting.rest in
+    let by_setting = came-through (as_font (setting_in face a)) _ i by_line.rest in
+    let by_shapes = came-through (line_shapes by_setting.value a by_line.value) _ i by_setting.rest in
     let numbers = map (λ (g : ℕ × ℕ). g.0) by_line.value.glyphs in (
       unfitted_among (line_fitter by_setting.value numbers) (distinct numbers),
       report_is face a by_line.value by_setting.value by_shapes.value by_line.first by_setting.first by_shapes.first,
@@ -62,15 +65,15 @@ cost_is : (face : Face) (a : Job) (line : Placement) (s : Fitter) (shapes : List
 unfolding cost_by line_cost
 cost_is face a line s shapes laid made drawn = goes_on _ line _ laid (goes_on _ s _ made (goes_on _ shapes _ drawn (_, refl)))
 
-has_cost : (face : Face) (a : Job) (bytes : List ℕ) → line_outcome face a ≡ Ok bytes
+has_cost : (face : Face) (a : Job) (i : Image) → line_outcome face a ≡ Ok i
     → (n : ℕ) × (cost_by face a ≡ Ok n)
 unfolding line_outcome pictured_by drawn
-has_cost face a bytes was =
-    let by_tests = came-through (as_job (tested a)) _ bytes was in
-    let by_line = came-through (as_job (placement face.metrics face.cmap a.text a.ppem a.margin)) _ bytes
+has_cost face a i was =
+    let by_tests = came-through (as_job (tested a)) _ i was in
+    let by_line = came-through (as_job (placement face.metrics face.cmap a.text a.ppem a.margin)) _ i
     by_tests.rest in
-    let by_setting = came-through (as_font (setting_in face a)) _ bytes by_line.rest in
-    let by_shapes = came-through (line_shapes by_setting.value a by_line.value) _ bytes by_setting.rest in
+    let by_setting = came-through (as_font (setting_in face a)) _ i by_line.rest in
+    let by_shapes = came-through (line_shapes by_setting.value a by_line.value) _ i by_setting.rest in
     cost_is face a by_line.value by_setting.value by_shapes.value by_line.first by_setting.first by_shapes.first
 
 -- the bytes of an answer by its parts, where a picture has a report and a cost
@@ -96,13 +99,18 @@ pub ok_same : {X E : Type 0} (x y : X) → ◌≡◌ {A = Result X E} (Ok x) (Ok
 ok_same x y is = cc
 
 by_file : (j : Job) (file : List ℕ) (face : Face) → nat_lt font_limit (length file) ≡ false
-    → as_font (face_of file) ≡ Ok face → pictured_by face j ≡ of_font (pictured j) file
+    → as_font (face_of file) ≡ Ok face → as_file (pictured_by face j) ≡ of_font (file_pictured j) file
 unfolding pictured
 by_file j file face small read = rw (small, read) refl
 
+file_after : (t : Result (Unit {0}) Refused) (r : Result Image Refused)
+    → as_file (t >>= λ u. r) ≡ (t >>= λ u. as_file r)
+file_after (Ok u) r = refl
+file_after (Err why) r = refl
+
 -- a strike that is opened by a file draws the picture of `run` for that file
 is_run : (a : Setting) (file text : List ℕ) (s : Strike) → strike_of a file ≡ Ok s
-    → line_outcome s.face (job_of s text a.margin) ≡ run_outcome (job_by a text) file
+    → as_file (line_outcome s.face (job_of s text a.margin)) ≡ run_outcome (job_by a text) file
 unfolding strike_of line_outcome run_outcome
 is_run a file text s opened =
     let fits = passed-on (nat_lt font_limit (length file)) large
@@ -112,11 +120,12 @@ is_run a file text s opened =
     let j = job_by a text in
     let same = ok_same (strike_by a face) s by_face.rest in
     let made = by_file j file face fits.0 by_face.first in
-    ap (λ (t : Strike). line_outcome t.face (job_of t text a.margin)) (sym same)
+    ap (λ (t : Strike). as_file (line_outcome t.face (job_of t text a.margin))) (sym same)
+    ∙ file_after (as_job (tested j)) (pictured_by face j)
     ∙ ap (λ (r : Result (List ℕ) Refused). as_job (tested j) >>= λ u. r) made
 
 picture_of : (a : Setting) (s : Strike) (text : List ℕ) → a.product ≡ product.Picture → a.grow ≡ false
-    → product_of a s text ≡ line_outcome s.face (job_of s text a.margin)
+    → product_of a s text ≡ as_file (line_outcome s.face (job_of s text a.margin))
 unfolding product_of picture_by
 picture_of a s text is plain = rw (is, plain) refl
 
@@ -128,8 +137,8 @@ texts_are_runs a file text s is plain opened =
     let j = job_of s text a.margin in
     let lacking = missing_tested s.face.cmap a.missing text in
     bytes_by_parts (product_of a s text) (report_by s.face j) lacking (cost_by s.face j)
-    (λ bytes was. has_report s.face j bytes (sym drawn ∙ was))
-    (λ bytes was. has_cost s.face j bytes (sym drawn ∙ was))
+    (λ bytes was. let made = file_made (line_outcome s.face j) bytes (sym drawn ∙ was) in has_report s.face j made.0 made.1)
+    (λ bytes was. let made = file_made (line_outcome s.face j) bytes (sym drawn ∙ was) in has_cost s.face j made.0 made.1)
     ∙ ap (λ (r : Result (List ℕ) Refused). as_text r >>= λ bytes. lacking >>= λ cs. Ok bytes) picture
 
 -- what is drawn by a strike was given by `run`

@@ -11,7 +11,7 @@ use Rattle.tt_strike.specs.Grown.{grown_measured, grown_outcome, grown_placement
 use Rattle.tt_strike.specs.Job.{Job}
 use Rattle.tt_strike.specs.Measures.{Measure, measured}
 use Rattle.tt_strike.specs.Picture.{frame_of, line_outcome}
-use Rattle.tt_picture.specs.Pictures.{Picture}
+use Rattle.tt_picture.specs.Pictures.{Image, Picture}
 use Rattle.tt_strike.specs.Refusals.{Refused}
 use Rattle.tt_strike.specs.Report.{report_by}
 use Rattle.tt_strike.specs.Strikes.{Strike, job_of}
@@ -22,6 +22,7 @@ use Rattle.tt_render.specs.declared.setting.Product.{Product}
 use Rattle.tt_render.specs.declared.setting.Product.TheVariants as product
 use Rattle.tt_render.specs.declared.setting.Setting.{Setting}
 use Rattle.tt_render.specs.MeasureText.{measure_text}
+use Rattle.tt_render_run.specs.File.{as_file}
 
 -- why a text is not drawn: it is refused; it is not UTF-8; the font has no glyph for this character
 pub data TextRefusal : Type 0 where
@@ -67,8 +68,8 @@ answer_of product report lacking taken =
     as_text taken >>= λ cost.
     Ok (record { bytes = bytes; unfitted = unfitted; lacking = cs; cost = cost })
 
--- the file of the picture of a job by a font's tables: as it is, or enlarged so that no ink is cut
-unfoldable pub picture_by : Bool → Face → Job → Result (List ℕ) Refused
+-- the image of the picture of a job by a font's tables: as it is, or enlarged so that no ink is cut
+unfoldable pub picture_by : Bool → Face → Job → Result Image Refused
 picture_by false face j = line_outcome face j
 picture_by true face j = grown_outcome face j
 
@@ -90,7 +91,7 @@ measure_by true face j = grown_measured face j
 
 -- the output of a job by a font's tables
 abbrev pub product_by : Product → Bool → Face → Job → Result (List ℕ) Refused
-product_by product.Picture grow face j = picture_by grow face j
+product_by product.Picture grow face j = as_file (picture_by grow face j)
 product_by product.Measure grow face j =
     measure_by grow face j >>= λ m. Ok (measure_text face.metrics (chars j.text) m)
 

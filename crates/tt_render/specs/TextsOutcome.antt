@@ -18,6 +18,7 @@ use Rattle.tt_render.specs.declared.lines.LinePlace.{LinePlace}
 use Rattle.tt_render.specs.declared.lines.LineReader.{LineReader}
 use Rattle.tt_render.specs.LineReading.{BeginsLong, IsPlace, LosesLine, line_at}
 use Rattle.tt_render.specs.Lines.{AreAffordable, drawn_from, line_drawn, line_limit, lines_budget, lines_cost, lines_limit, lines_of, text_drawn}
+use Rattle.tt_render_run.specs.File.{picture_bytes}
 use Rattle.tt_render_run.specs.Outcome.{Traffic, SendsAll, SendsFirst, ReadsNothing, ReadsToEnd, WritesNothing, WriterServes, WriterFails}
 use Rattle.tt_render.specs.Printing.{Errors, Prints, PrintsNothing}
 use Rattle.tt_render_run.specs.Reading.{FontReader, FontFails, FontIsBegun, FontIsRead, FontIsUnread}
@@ -26,7 +27,7 @@ use Rattle.tt_render.specs.Settings.{job_by, setting_tested, strike_of}
 use Rattle.tt_render.specs.Texts.{TextAnswer, TextRefusal, missing, not_utf8, refused, text_answer}
 use Rattle.tt_picture.specs.declared.report.Unfitted.{Unfitted}
 use Rattle.tt_strike.specs.Job.{tested}
-use Rattle.tt_picture.specs.Pictures.{IsReady, picture_bytes}
+use Rattle.tt_picture.specs.Pictures.{IsReady}
 use Rattle.tt_strike.specs.Refusals.{Refused, font, job}
 use Rattle.tt_strike.specs.Strikes.{Strike}
 

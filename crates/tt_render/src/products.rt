@@ -9,7 +9,7 @@ ghost use Rattle.tt_render.specs.Texts.{IsMadeBy, measure_by, picture_by, produc
 ghost use Rattle.tt_strike.specs.Costs.{cost_by};
 ghost use Rattle.tt_strike.specs.Defects.{IsLineDefect, TellsDefects, draw_font_fault};
 ghost use Rattle.tt_strike.specs.Measures.{measure_view};
-ghost use Rattle.tt_picture.specs.Pictures.{IsReady, picture_bytes};
+ghost use Rattle.tt_picture.specs.Pictures.{IsReady, image_of};
 ghost use Rattle.tt_strike.specs.Refusals.{refusal};
 ghost use Rattle.tt_strike.specs.Report.{report_by};
 ghost use Rattle.tt_strike.specs.Strikes.{job_of};
@@ -62,7 +62,7 @@ pub fn make_picture(
     text: &str,
     margin: u32,
 ) -> Result<Picture, DrawFault>
-    ensures exact { GivesUnless refusal picture_bytes result (picture_by grow strike.old.face (job_of strike.old text.now margin)) }
+    ensures exact { GivesUnless refusal image_of result (picture_by grow strike.old.face (job_of strike.old text.now margin)) }
     ensures ready { IfOk result IsReady }
     ensures made { IfOk result (λ p. IsMadeBy grow (job_of strike.old text.now margin) p strike.old.face) }
     ensures defects { TellsDefects draw_font_fault (IsLineDefect strike.old.face (job_of strike.old text.now margin) (text_glyphs strike.old.face.cmap text.now)) result }

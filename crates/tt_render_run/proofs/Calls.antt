@@ -9,10 +9,10 @@ use Rattle.tt_render_run.specs.declared.fault.RunFault.{RunFault}
 use Rattle.tt_render_run.specs.declared.fault.RunFault.TheVariants as run
 use Rattle.tt_strike.specs.Job.{Job, tested, text_tested}
 use Rattle.tt_render_run.specs.Defects.{CallTellsDefects, TellsDefectsOf}
+use Rattle.tt_render_run.specs.File.{file_pictured}
 use Rattle.tt_render_run.specs.MapLines.{lines_of, map_outcome}
 use Rattle.tt_strike.specs.Refusals.{Refused, font, job, large, as_font, needs_font}
 use Rattle.tt_render_run.specs.Outcome.{of_font, Wanted, WithBytes, CallFails}
-use Rattle.tt_strike.specs.Picture.{pictured}
 use Rattle.tt_render_run.specs.Run.{run_outcome}
 use Rattle.tt_render_run.specs.Reading.{ReadFails}
 use Rattle.tt_render_run.proofs.Known.{consumes_all}
@@ -28,7 +28,7 @@ unfolding map_outcome
 map_is_of_font text good = record { tested = good; same = λ file. rw good refl }
 
 pub run_is_of_font : (a : Job) → tested a ≡ Ok tt → IsOfFont (record { tested = tested a; bytes = run_outcome a })
-    (pictured a)
+    (file_pictured a)
 unfolding run_outcome
 run_is_of_font a good = record { tested = good; same = λ file. rw good refl }
 

@@ -1,4 +1,5 @@
 pub mod Known
+pub mod Files
 pub mod Calls
 pub mod Sent
 pub mod Text

@@ -12,10 +12,12 @@ use Rattle.tt_strike.specs.Laws.{DrawnFontsAreWhole, OthersDrawByEdges}
 use Rattle.tt_strike.specs.Picture.{pictured}
 use Rattle.tt_strike.specs.Refusals.{Refused, as_font, as_job}
 use Rattle.tt_face.specs.Faces.{face_of}
+use Rattle.tt_render_run.specs.File.{file_pictured}
 use Rattle.tt_render_run.specs.Laws.{WrittenFontsAreWhole, MappedFontsAreWhole, OthersWriteByEdges}
 use Rattle.tt_render_run.specs.MapLines.{lines_of, map_outcome}
 use Rattle.tt_render_run.specs.Outcome.{outcome_of}
 use Rattle.tt_render_run.specs.Run.{run_outcome}
+use Rattle.tt_render_run.proofs.Files.{file_made}
 
 -- a result of a font was not refused
 of-font : {X : Type 0} (r : Result X Fault) (x : X) → as_font r ≡ Ok x → r ≡ Ok x
@@ -30,11 +32,15 @@ made-of tests made file bytes was =
 
 pub written-whole : DrawnFontsAreWhole → WrittenFontsAreWhole
 unfolding run_outcome
-written-whole law a file bytes was = law a file bytes (made-of (tested a) (pictured a) file bytes was)
+written-whole law a file bytes was =
+    let made = file_made (pictured a file) bytes (made-of (tested a) (file_pictured a) file bytes was) in
+    law a file made.0 made.1
 
 pub written-by-edges : OthersDrawByEdges → OthersWriteByEdges
 unfolding run_outcome
-written-by-edges law a file bytes other was = law a file bytes other (made-of (tested a) (pictured a) file bytes was)
+written-by-edges law a file bytes other was =
+    let made = file_made (pictured a file) bytes (made-of (tested a) (file_pictured a) file bytes was) in
+    (made.0, made.2, law a file made.0 other made.1)
 
 lines-whole : FacesAreWhole → (file text bytes : List ℕ) → lines_of file text ≡ Ok bytes → HasNo (IsFaceDefect file)
 unfolding lines_of

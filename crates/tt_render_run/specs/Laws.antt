@@ -6,6 +6,8 @@ use Rattle.tt_face.specs.Defects.{IsFaceDefect}
 use Rattle.tt_strike.specs.Defects.{IsRunDefect}
 use Rattle.tt_strike.specs.Job.{Job}
 use Rattle.tt_strike.specs.Laws.{IsByEdges}
+use Rattle.tt_picture.specs.Pictures.{Image}
+use Rattle.tt_render_run.specs.File.{p4}
 use Rattle.tt_render_run.specs.MapLines.{map_outcome}
 use Rattle.tt_render_run.specs.Run.{run_outcome}
 
@@ -17,7 +19,11 @@ WrittenFontsAreWhole = (a : Job) (file bytes : List ℕ) → run_outcome a file 
 abbrev pub MappedFontsAreWhole : Type 0
 MappedFontsAreWhole = (text file bytes : List ℕ) → map_outcome text file ≡ Ok bytes → HasNo (IsFaceDefect file)
 
+-- these bytes are the file of the image of a job without dropout control
+abbrev pub IsWrittenByEdges : Job → List ℕ → List ℕ → Type 0
+IsWrittenByEdges a file bytes = (i : Image) × (bytes ≡ p4 i) × IsByEdges a file i
+
 -- with every fit but Best a picture is written as without dropout control
 abbrev pub OthersWriteByEdges : Type 0
 OthersWriteByEdges = (a : Job) (file bytes : List ℕ) → a.fit ≢ fit.Best → run_outcome a file ≡ Ok bytes
-    → IsByEdges a file bytes
+    → IsWrittenByEdges a file bytes

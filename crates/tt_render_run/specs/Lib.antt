@@ -1,4 +1,5 @@
 pub mod Defects
+pub mod File
 pub mod Laws
 pub mod MapLines
 pub mod Messages

@@ -1,13 +1,13 @@
 -- No part of the standard: the bytes of `run` for a job and a font file.
 use Rattle.std.specs.Prelude.{ℕ, List, Result}
 use Rattle.tt_strike.specs.Job.{Job, tested}
-use Rattle.tt_strike.specs.Picture.{pictured}
 use Rattle.tt_strike.specs.Refusals.{Refused}
+use Rattle.tt_render_run.specs.File.{file_pictured}
 use Rattle.tt_render_run.specs.Outcome.{Wanted, outcome_of}
 
 -- the bytes for a job and a font file, or the refusal: the job is tested first, then the file's size
 unfoldable pub run_outcome : Job → List ℕ → Result (List ℕ) Refused
-run_outcome a file = outcome_of (tested a) (pictured a) file
+run_outcome a file = outcome_of (tested a) (file_pictured a) file
 
 abbrev pub run_wanted : Job → Wanted
 run_wanted a = record { tested = tested a; bytes = run_outcome a }

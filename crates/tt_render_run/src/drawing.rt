@@ -8,7 +8,7 @@ ghost use Rattle.tt_line.specs.Layout.{text_glyphs};
 ghost use Rattle.tt_strike.specs.Defects.{IsLineDefect, IsRunDefect, IsFontRefusal, IsLineRefusal, TellsDefects, draw_font_fault, draw_job_fault};
 ghost use Rattle.tt_strike.specs.Job.{job_view, tested, IsJob};
 ghost use Rattle.tt_strike.specs.Picture.{line_outcome, pictured};
-ghost use Rattle.tt_picture.specs.Pictures.{IsReady, picture_bytes};
+ghost use Rattle.tt_picture.specs.Pictures.{IsReady, image_of};
 ghost use Rattle.tt_strike.specs.Refusals.{refusal};
 ghost use Rattle.tt_picture.specs.Unfitted.{ListsOnce};
 ghost use Rattle.tt_strike.specs.Report.{report_of, report_by};
@@ -26,7 +26,7 @@ pub struct Drawn {
 
 /// The picture of a job by the tables of a font. Errors: as `Strike::new` and `Strike::line`.
 fn draw_by(alloc: Global, face: &Face, job: &Job) -> Result<Picture, DrawFault>
-    ensures exact { GivesUnless refusal picture_bytes result (line_outcome face.now (job_view job.now)) }
+    ensures exact { GivesUnless refusal image_of result (line_outcome face.now (job_view job.now)) }
     ensures valid { IfOk result IsReady }
     ensures report { IfOk result (λ p. report_by face.now (job_view job.now) ≡ Ok p.unfitted) }
     ensures once { IfOk result (λ p. ListsOnce p.unfitted) }
@@ -45,7 +45,7 @@ pub(crate) fn draw(alloc: Global, file: &[u8], job: &Job) -> Result<Drawn, DrawF
     requires size { length file.now ≤ font_limit }
     requires asked { IsJob (job_view job.now) }
     requires tested { tested (job_view job.now) ≡ Ok tt }
-    ensures exact { GivesUnless refusal (λ d. picture_bytes d.picture) result (pictured (job_view job.now) file.now) }
+    ensures exact { GivesUnless refusal (λ d. image_of d.picture) result (pictured (job_view job.now) file.now) }
     ensures valid { IfOk result (λ d. IsReady d.picture) }
     ensures row { IfOk result (λ d. length d.row.items ≡ stride d.picture.frame.width) }
     ensures report { IfOk result (λ d. report_of (job_view job.now) file.now ≡ Ok d.picture.unfitted) }

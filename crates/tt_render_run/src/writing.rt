@@ -3,7 +3,8 @@
 ghost use Rattle.std.specs.Prelude.{◌≡◌, ◌+◌, ◌*◌, ◌^◌, ◌<◌, ◌≤◌, false, is_err, length, take, IfErr, OnOk};
 ghost use Rattle.std.specs.Io.KnownBytes.{Appends};
 ghost use Rattle.tt_core.specs.Bits.{stride};
-ghost use Rattle.tt_picture.specs.Pictures.{IsReady, picture_bytes, row_at};
+ghost use Rattle.tt_picture.specs.Pictures.{IsReady, row_at};
+ghost use Rattle.tt_render_run.specs.File.{picture_bytes};
 
 use crate::drawing::Drawn;
 use tt_core::Sink;

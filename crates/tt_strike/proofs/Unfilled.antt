@@ -1,5 +1,5 @@
 -- With every fit but Best no dropouts of a line's glyphs are filled, and its picture is by edges alone.
-use Rattle.std.proofs.Common.{◌≡◌, ◌≢◌, ◌∙◌, refl, sym, ap, subst, ℕ, ◌==◌, Bool, true, false, List, [], ◌∷◌, ◌++◌, map, pos, Option, None, Result, Ok}
+use Rattle.std.proofs.Common.{◌≡◌, ◌≢◌, ◌∙◌, refl, sym, ap, subst, ℕ, ◌==◌, Bool, true, false, List, [], ◌∷◌, map, pos, Option, None, Result, Ok}
 use Rattle.std.proofs.lemmas.List.Elements.{All-nil, All-cons}
 use Rattle.tt_core.specs.Chains.{came-through}
 use Rattle.tt_core.specs.Faults.{Fault}
@@ -10,21 +10,20 @@ use Rattle.tt_fit.specs.Laws as fit_laws
 use Rattle.tt_fit_outline.specs.Outline.{Outline}
 use Rattle.tt_fit.specs.declared.programs.Fit.TheVariants as fit
 use Rattle.tt_line.specs.Layout.{Placement, placement}
-use Rattle.tt_pbm.specs.P4.{p4_header_of}
 use Rattle.tt_scan_edges.specs.declared.edge.Frame.{Frame}
 use Rattle.tt_scan_edges.specs.Winding.{column_x, row_y}
 use Rattle.tt_picture.specs.Distinct.{distinct, fitter_for}
 use Rattle.tt_strike.specs.Job.{Job}
 use Rattle.tt_strike.specs.Laws.{AreUnfilled, OthersFillNone, IsByEdges, OthersDrawByEdges, edges_picture}
 use Rattle.tt_strike.specs.Refusals.{as_font, as_job}
-use Rattle.tt_picture.specs.Pictures.{picture}
+use Rattle.tt_picture.specs.Pictures.{Image, picture}
 use Rattle.tt_picture.specs.Shapes.{shape_at, glyph_shape}
 use Rattle.tt_strike.specs.Picture.{setting, setting_in, frame_of, shapes_in, points_tested, crossings_tested, line_shapes, drawn, pictured, pictured_by}
 use Rattle.tt_picture.specs.Pixels.{Shape, is_black_pixel, some_black}
 use Rattle.tt_face.specs.Faces.{Face, face_of, glyphs_in}
 use Rattle.tt_strike.specs.Programs.{programs_in}
 use Rattle.tt_strike.specs.Work.{line_fitter, started}
-use Rattle.tt_picture.proofs.Alike.{rows_alike}
+use Rattle.tt_picture.proofs.Alike.{image_alike}
 use Rattle.tt_strike.proofs.Beside.{unfilled_are_edges}
 use Rattle.tt_strike.proofs.Whole.{of-font, of-job}
 
@@ -84,20 +83,19 @@ others_fill_none laws face a line s glyphs other is fitted =
 
 -- the picture of unfilled glyphs
 same_by_edges : (f : Frame) (glyphs : List Shape) → AreUnfilled glyphs → picture f glyphs ≡ edges_picture f glyphs
-same_by_edges f glyphs none = ap (λ bytes. p4_header_of f.width f.height ++ bytes)
-    (rows_alike f.width f.height (is_black_pixel f glyphs)
+same_by_edges f glyphs none = image_alike f (is_black_pixel f glyphs)
     (λ c r. some_black glyphs (column_x f.margin (pos c)) (row_y f (pos r)))
-    (λ c r column row. unfilled_are_edges f glyphs c r none))
+    (λ c r column row. unfilled_are_edges f glyphs c r none)
 
-line_by_edges : FillLaws → (a : Job) (file bytes : List ℕ) (face : Face) (line : Placement) → a.fit ≢ fit.Best
+line_by_edges : FillLaws → (a : Job) (file : List ℕ) (i : Image) (face : Face) (line : Placement) → a.fit ≢ fit.Best
     → face_of file ≡ Ok face → placement face.metrics face.cmap a.text a.ppem a.margin ≡ Ok line
-    → drawn face a line ≡ Ok bytes → IsByEdges a file bytes
+    → drawn face a line ≡ Ok i → IsByEdges a file i
 unfolding drawn
-line_by_edges laws a file bytes face line other read laid was =
-    let by_setting = came-through (as_font (setting_in face a)) _ bytes was in
+line_by_edges laws a file i face line other read laid was =
+    let by_setting = came-through (as_font (setting_in face a)) _ i was in
     let s = by_setting.value in
     let made = of-font (setting_in face a) s by_setting.first in
-    let by_edges = came-through (line_shapes s a line) _ bytes by_setting.rest in
+    let by_edges = came-through (line_shapes s a line) _ i by_setting.rest in
     let by_points = came-through (as_job (points_tested s a line)) _ by_edges.value by_edges.first in
     let by_glyphs = came-through (as_font (shapes_in s line)) _ by_edges.value by_points.rest in
     let glyphs = by_glyphs.value in
@@ -106,7 +104,7 @@ line_by_edges laws a file bytes face line other read laid was =
     let unfilled = others_fill_none laws face a line s glyphs other made fitted in
     let f = frame_of line a.margin in
     let same = ok_same glyphs by_edges.value by_crossings.rest in
-    let whole = ok_same (picture f by_edges.value) bytes by_edges.rest in
+    let whole = ok_same (picture f by_edges.value) i by_edges.rest in
     record {
       face = face;
       line = line;
@@ -122,12 +120,12 @@ line_by_edges laws a file bytes face line other read laid was =
 
 pub others_draw_by_edges : FillLaws → OthersDrawByEdges
 unfolding pictured pictured_by
-others_draw_by_edges laws a file bytes other was =
-    let by_face = came-through (as_font (face_of file)) _ bytes was in
+others_draw_by_edges laws a file i other was =
+    let by_face = came-through (as_font (face_of file)) _ i was in
     let face = by_face.value in
-    let by_line = came-through (as_job (placement face.metrics face.cmap a.text a.ppem a.margin)) _ bytes
+    let by_line = came-through (as_job (placement face.metrics face.cmap a.text a.ppem a.margin)) _ i
     by_face.rest in
     let line = by_line.value in
     let read = of-font (face_of file) face by_face.first in
     let laid = of-job (placement face.metrics face.cmap a.text a.ppem a.margin) line by_line.first in
-    line_by_edges laws a file bytes face line other read laid by_line.rest
+    line_by_edges laws a file i face line other read laid by_line.rest

@@ -1,4 +1,4 @@
--- A font that gives bytes to write has no defect.
+-- A font that gives a picture has no defect.
 use Rattle.std.proofs.Common.{◌≡◌, ℕ, List, map, Result, Ok, Err}
 use Rattle.tt_core.specs.declared.fault.JobFault.{JobFault}
 use Rattle.tt_core.specs.Chains.{came-through}
@@ -13,6 +13,7 @@ use Rattle.tt_fit.specs.declared.programs.Fit.TheVariants as fit
 use Rattle.tt_fit.specs.Fitting.{Fitter}
 use Rattle.tt_line.specs.Laws.{PlacesGlyphs}
 use Rattle.tt_line.specs.Layout.{Placement, placement}
+use Rattle.tt_picture.specs.Pictures.{Image}
 use Rattle.tt_strike.specs.Job.{Job}
 use Rattle.tt_strike.specs.Defects.{IsProgramTableDefect, IsSettingDefect, IsLineDefect}
 use Rattle.tt_strike.specs.Programs.{programs_in}
@@ -48,14 +49,14 @@ pub of-job : {X : Type 0} (r : Result X JobFault) (x : X) → as_job r ≡ Ok x 
 of-job (Ok y) x was = cc
 of-job (Err j) x was = absurd cc
 
-line-whole : (face : Face) (a : Job) (line : Placement) (bytes : List ℕ) → drawn face a line ≡ Ok bytes
+line-whole : (face : Face) (a : Job) (line : Placement) (i : Image) → drawn face a line ≡ Ok i
     → HasNo (IsLineDefect face a (map (λ g. g.0) line.glyphs))
 unfolding drawn
-line-whole face a line bytes was =
-    let by_setting = came-through (as_font (setting_in face a)) _ bytes was in
+line-whole face a line i was =
+    let by_setting = came-through (as_font (setting_in face a)) _ i was in
     let s = by_setting.value in
     let there = of-font (setting_in face a) s by_setting.first in
-    let by_edges = came-through (line_shapes s a line) _ bytes by_setting.rest in
+    let by_edges = came-through (line_shapes s a line) _ i by_setting.rest in
     let by_points = came-through (as_job (points_tested s a line)) _ by_edges.value by_edges.first in
     let by_glyphs = came-through (as_font (shapes_in s line)) _ by_edges.value by_points.rest in
     no_line_defect face a s line.glyphs by_glyphs.value there (setting-whole face a s there)
@@ -63,14 +64,14 @@ line-whole face a line bytes was =
 
 pub drawn-whole : PlacesGlyphs → DrawnFontsAreWhole
 unfolding pictured pictured_by
-drawn-whole places a file bytes was =
-    let by_face = came-through (as_font (face_of file)) _ bytes was in
+drawn-whole places a file i was =
+    let by_face = came-through (as_font (face_of file)) _ i was in
     let face = by_face.value in
-    let by_line = came-through (as_job (placement face.metrics face.cmap a.text a.ppem a.margin)) _ bytes
+    let by_line = came-through (as_job (placement face.metrics face.cmap a.text a.ppem a.margin)) _ i
     by_face.rest in
     let line = by_line.value in
     let there = of-font (face_of file) face by_face.first in
     let laid = of-job (placement face.metrics face.cmap a.text a.ppem a.margin) line by_line.first in
     no_run_defect a file face (map (λ g. g.0) line.glyphs) there (face-whole file face there)
     (places face.metrics face.cmap a.text a.ppem a.margin line laid)
-    (line-whole face a line bytes by_line.rest)
+    (line-whole face a line i by_line.rest)

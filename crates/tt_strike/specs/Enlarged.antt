@@ -5,6 +5,7 @@ use Rattle.tt_line.specs.Layout.{Placement}
 use Rattle.tt_scan_ink.specs.declared.ink.GlyphInk.{GlyphInk}
 use Rattle.tt_scan_ink.specs.Least.{IsNear}
 use Rattle.tt_picture.specs.Glyphs.{Glyph, ink_standing}
+use Rattle.tt_picture.specs.Pictures.{Image}
 use Rattle.tt_strike.specs.Grown.{grown_line}
 use Rattle.tt_strike.specs.Job.{Job}
 use Rattle.tt_strike.specs.Made.{AreMade}
@@ -14,7 +15,7 @@ use Rattle.tt_strike.specs.Refusals.{Refused}
 use Rattle.tt_face.specs.Faces.{Face}
 
 -- the picture and the measure of a line that is laid out, once it is enlarged
-abbrev pub drawn_grown : Face → Job → Placement → Result (List ℕ) Refused
+abbrev pub drawn_grown : Face → Job → Placement → Result Image Refused
 drawn_grown face a line = grown_line face a line >>= λ larger. drawn face a larger
 
 abbrev pub measured_grown : Face → Job → Placement → Result Measure Refused

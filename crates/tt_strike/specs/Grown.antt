@@ -1,5 +1,5 @@
 -- No part of the standard: a line's picture enlarged on each side so that no ink is cut (profile).
-use Rattle.std.specs.Prelude.{◌≡◌, refl, ℕ, suc, ◌+◌, ◌-◌, nat_lt, ◌||◌, if◌then◌else◌, ℤ, pos, negsuc, ◌+ℤ◌, List, [], ◌∷◌, map, Option, Some, None, Result, Ok, Err}
+use Rattle.std.specs.Prelude.{◌≡◌, refl, ℕ, suc, ◌+◌, ◌-◌, nat_lt, ◌||◌, if◌then◌else◌, ℤ, pos, negsuc, ◌+ℤ◌, [], ◌∷◌, map, Option, Some, None, Result, Ok, Err}
 use Rattle.tt_core.specs.declared.fault.JobFault.{JobFault}
 use Rattle.tt_core.specs.declared.fault.JobFault.TheVariants as fault
 use Rattle.tt_core.specs.Limits.{height_limit, width_limit}
@@ -11,6 +11,7 @@ use Rattle.tt_strike.specs.Picture.{drawn, laid_out}
 use Rattle.tt_strike.specs.Refusals.{Refused, as_job}
 use Rattle.tt_face.specs.Faces.{Face}
 use Rattle.tt_strike.specs.declared.growing.Sides.{Sides}
+use Rattle.tt_picture.specs.Pictures.{Image}
 use Rattle.tt_picture.specs.declared.ink_box.InkBox.{InkBox}
 
 -- how many columns or rows a place lies before the first, and past the last of this many
@@ -59,7 +60,7 @@ unfoldable pub grown_placement : Face → Job → Result Placement Refused
 grown_placement face a = laid_out face a >>= λ line. grown_line face a line
 
 -- the picture of the enlarged line
-unfoldable pub grown_outcome : Face → Job → Result (List ℕ) Refused
+unfoldable pub grown_outcome : Face → Job → Result Image Refused
 grown_outcome face a = grown_placement face a >>= λ line. drawn face a line
 
 -- the measure of the enlarged line's picture

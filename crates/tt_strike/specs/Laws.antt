@@ -1,7 +1,6 @@
 -- Laws of the definitions. A font with a picture has no defect, and only fallback and best make a glyph unfitted. The
 -- others say which pixels are black with another margin, beside other glyphs, and without filled dropouts.
-use Rattle.std.specs.Prelude.{◌≡◌, ◌≢◌, refl, ℕ, ◌+◌, ◌||◌, true, false, pos, All, List, [], ◌∷◌, ◌++◌, ◌↔◌, ◌⊎◌, codes, Option, Some, None, Ok, Err}
-use Rattle.std.specs.Fmt.{digits}
+use Rattle.std.specs.Prelude.{◌≡◌, ◌≢◌, refl, ℕ, ◌+◌, ◌||◌, true, false, pos, All, List, [], ◌∷◌, ◌++◌, ◌↔◌, ◌⊎◌, Option, Some, None, Ok, Err}
 use Rattle.tt_core.specs.Directory.{HasNo}
 use Rattle.tt_core.specs.Outcomes.{each}
 use Rattle.tt_core.specs.declared.fault.JobFault.TheVariants as fault
@@ -9,7 +8,6 @@ use Rattle.tt_fit.specs.declared.programs.Fit.TheVariants as fit
 use Rattle.tt_fit.specs.Fitting.{Fitter}
 use Rattle.tt_fit.specs.Rules.{falls_back}
 use Rattle.tt_line.specs.Layout.{Placement, placement}
-use Rattle.tt_pbm.specs.P4.{p4}
 use Rattle.tt_scan_edges.specs.declared.edge.Edge.{Edge}
 use Rattle.tt_scan_edges.specs.declared.edge.Frame.{Frame}
 use Rattle.tt_scan_edges.specs.Winding.{column_x, row_y}
@@ -21,7 +19,7 @@ use Rattle.tt_strike.specs.Defects.{IsRunDefect}
 use Rattle.tt_strike.specs.Grown.{grown_outcome, with_sides}
 use Rattle.tt_strike.specs.declared.growing.Sides.{Sides}
 use Rattle.tt_strike.specs.Picture as pictures
-use Rattle.tt_picture.specs.Pictures.{picture}
+use Rattle.tt_picture.specs.Pictures.{Image, image, picture}
 use Rattle.tt_picture.specs.Shapes.{glyph_shape}
 use Rattle.tt_strike.specs.Picture.{setting_in, frame_of, line_outcome, pictured, shapes_in}
 use Rattle.tt_strike.specs.Measures.{measured}
@@ -32,7 +30,7 @@ use Rattle.tt_face.specs.Faces.{Face, face_of}
 
 -- a font file that gives a job's picture has no defect for the job
 abbrev pub DrawnFontsAreWhole : Type 0
-DrawnFontsAreWhole = (a : Job) (file bytes : List ℕ) → pictured a file ≡ Ok bytes → HasNo (IsRunDefect a file)
+DrawnFontsAreWhole = (a : Job) (file : List ℕ) (i : Image) → pictured a file ≡ Ok i → HasNo (IsRunDefect a file)
 
 -- with a fit that does not fall back, no glyph is listed as unfitted
 abbrev pub OthersListNothing : Type 0
@@ -86,12 +84,12 @@ abbrev pub OthersFillNone : Type 0
 OthersFillNone = (face : Face) (a : Job) (line : Placement) (s : Fitter) (glyphs : List Shape) → a.fit ≢ fit.Best
     → setting_in face a ≡ Ok s → shapes_in s line ≡ Ok glyphs → AreUnfilled glyphs
 
--- the file of a picture in which some glyphs are drawn without dropout control
-abbrev pub edges_picture : Frame → List Shape → List ℕ
-edges_picture f glyphs = p4 f.width f.height (λ c r. some_black glyphs (column_x f.margin (pos c)) (row_y f (pos r)))
+-- the image in which some glyphs are drawn without dropout control
+abbrev pub edges_picture : Frame → List Shape → Image
+edges_picture f glyphs = image f (λ c r. some_black glyphs (column_x f.margin (pos c)) (row_y f (pos r)))
 
--- these bytes are that file for a job, a font file and the glyphs of the definition
-pub record IsByEdges (a : Job) (file bytes : List ℕ) : Type 0 where
+-- this image is that for a job, a font file and the glyphs of the definition
+pub record IsByEdges (a : Job) (file : List ℕ) (i : Image) : Type 0 where
   pub face : Face
   pub line : Placement
   pub setting : Fitter
@@ -101,11 +99,11 @@ pub record IsByEdges (a : Job) (file bytes : List ℕ) : Type 0 where
   pub made : setting_in face a ≡ Ok setting
   pub fitted : shapes_in setting line ≡ Ok glyphs
   pub unfilled : AreUnfilled glyphs
-  pub drawn : bytes ≡ edges_picture (frame_of line a.margin) glyphs
+  pub drawn : i ≡ edges_picture (frame_of line a.margin) glyphs
 
 abbrev pub OthersDrawByEdges : Type 0
-OthersDrawByEdges = (a : Job) (file bytes : List ℕ) → a.fit ≢ fit.Best → pictured a file ≡ Ok bytes
-    → IsByEdges a file bytes
+OthersDrawByEdges = (a : Job) (file : List ℕ) (i : Image) → a.fit ≢ fit.Best → pictured a file ≡ Ok i
+    → IsByEdges a file i
 
 -- worked values: a stem between the centres of two columns, with its dropouts filled by scan type 0 and without
 stem_edge : ℕ → ℕ → ℕ → ℕ → Edge
@@ -124,14 +122,14 @@ by_type_zero = Some (record { stubs = true; smart = false })
 two_rows : Frame
 two_rows = record { width = 2; height = 2; margin = 0; rise = pos 2 }
 
-filled_it_is_seen : picture two_rows (stem by_type_zero ∷ []) ≡ codes "P4\n2 2\n" ++ (0x80 ∷ 0x80 ∷ [])
-unfolding digits two_rows stem stem_edges stem_edge by_type_zero
+filled_it_is_seen : (picture two_rows (stem by_type_zero ∷ [])).rows ≡ 0x80 ∷ 0x80 ∷ []
+unfolding two_rows stem stem_edges stem_edge by_type_zero
 filled_it_is_seen = refl
 
-unfilled_it_is_lost : picture two_rows (stem None ∷ []) ≡ codes "P4\n2 2\n" ++ (0x00 ∷ 0x00 ∷ [])
-unfolding digits two_rows stem stem_edges stem_edge
+unfilled_it_is_lost : (picture two_rows (stem None ∷ [])).rows ≡ 0x00 ∷ 0x00 ∷ []
+unfolding two_rows stem stem_edges stem_edge
 unfilled_it_is_lost = refl
 
-by_edges_it_is_lost : edges_picture two_rows (stem by_type_zero ∷ []) ≡ codes "P4\n2 2\n" ++ (0x00 ∷ 0x00 ∷ [])
-unfolding digits two_rows stem stem_edges stem_edge by_type_zero
+by_edges_it_is_lost : (edges_picture two_rows (stem by_type_zero ∷ [])).rows ≡ 0x00 ∷ 0x00 ∷ []
+unfolding two_rows stem stem_edges stem_edge by_type_zero
 by_edges_it_is_lost = refl

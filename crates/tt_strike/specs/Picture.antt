@@ -1,5 +1,5 @@
 -- The picture of a line of text: each glyph's outline moved to its pen, blackened by the scan converter's rules
--- (OpenType, "TrueType Fundamentals"), written as format P4 of Netpbm's PBM. Margins and limits are profile.
+-- (OpenType, "TrueType Fundamentals"). Margins and limits are profile.
 use Rattle.std.specs.Prelude.{ℕ, List, map, Result, Ok}
 use Rattle.tt_core.specs.declared.fault.JobFault.{JobFault}
 use Rattle.tt_core.specs.Faults.{Fault}
@@ -12,7 +12,7 @@ use Rattle.tt_line.specs.Layout.{Placement, placement}
 use Rattle.tt_scan_edges.specs.declared.edge.Frame.{Frame}
 use Rattle.tt_strike.specs.Job.{Job, tested}
 use Rattle.tt_strike.specs.Refusals.{Refused, as_font, as_job}
-use Rattle.tt_picture.specs.Pictures.{picture}
+use Rattle.tt_picture.specs.Pictures.{Image, picture}
 use Rattle.tt_picture.specs.Pixels.{Shape}
 use Rattle.tt_picture.specs.Shapes.{crossings_in, glyph_shape}
 use Rattle.tt_face.specs.Faces.{Face, face_of, glyphs_in}
@@ -55,7 +55,7 @@ line_shapes s a line =
     Ok glyphs
 
 -- the picture of a laid-out line
-unfoldable pub drawn : Face → Job → Placement → Result (List ℕ) Refused
+unfoldable pub drawn : Face → Job → Placement → Result Image Refused
 drawn face a line =
     as_font (setting_in face a) >>= λ s.
     line_shapes s a line >>= λ glyphs.
@@ -66,15 +66,15 @@ abbrev pub laid_out : Face → Job → Result Placement Refused
 laid_out face a = as_job (tested a) >>= λ u. as_job (placement face.metrics face.cmap a.text a.ppem a.margin)
 
 -- the picture of a text by a font's tables, or the first refusal
-unfoldable pub pictured_by : Face → Job → Result (List ℕ) Refused
+unfoldable pub pictured_by : Face → Job → Result Image Refused
 pictured_by face a =
     as_job (placement face.metrics face.cmap a.text a.ppem a.margin) >>= λ line.
     drawn face a line
 
 -- the picture of a job, which is tested first
-unfoldable pub line_outcome : Face → Job → Result (List ℕ) Refused
+unfoldable pub line_outcome : Face → Job → Result Image Refused
 line_outcome face a = as_job (tested a) >>= λ u. pictured_by face a
 
 -- the picture of a job by a font file
-unfoldable pub pictured : Job → List ℕ → Result (List ℕ) Refused
+unfoldable pub pictured : Job → List ℕ → Result Image Refused
 pictured a file = as_font (face_of file) >>= λ face. pictured_by face a

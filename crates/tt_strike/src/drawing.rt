@@ -7,7 +7,7 @@ ghost use Rattle.tt_core.specs.Outcomes.{GivesUnless, IfTold};
 ghost use Rattle.tt_line.specs.Outcome.{placement_of};
 ghost use Rattle.tt_metrics.specs.Metrics.{glyphs_of};
 ghost use Rattle.tt_picture.specs.Cached.{limit_of};
-ghost use Rattle.tt_picture.specs.Pictures.{picture_bytes};
+ghost use Rattle.tt_picture.specs.Pictures.{image_of};
 ghost use Rattle.tt_strike.specs.Defects.{IsLineDefect, IsTooMuchWork, TellsDefects, draw_font_fault, draw_job_fault};
 ghost use Rattle.tt_strike.specs.Picture.{drawn, frame_of};
 ghost use Rattle.tt_strike.specs.Refusals.{refusal};
@@ -32,7 +32,7 @@ impl<'f, 'a> SizedFace<'f, 'a> {
         requires margin { margin ≤ margin_limit }
         requires known { All (λ g. g.0 < glyphs_of self.old.face.metrics) line.now.glyphs.items }
         requires cache { IsCacheOf self.old cache.old }
-        ensures exact { GivesUnless refusal picture_bytes result (drawn self.old.face (job_with self.old margin) (placement_of line.now)) }
+        ensures exact { GivesUnless refusal image_of result (drawn self.old.face (job_with self.old margin) (placement_of line.now)) }
         ensures frame { IfOk result (λ p. p.frame ≡ frame_of (placement_of line.now) margin) }
         ensures reported { IfOk result (IsReported self.old.face (job_with self.old margin) (placement_of line.now)) }
         ensures cache { IsCacheOf self.old cache.new }

@@ -8,7 +8,7 @@ ghost use Rattle.tt_line.specs.Outcome.{placement_of};
 ghost use Rattle.tt_metrics.specs.Metrics.{glyphs_of};
 ghost use Rattle.tt_picture.specs.Cached.{limit_of};
 ghost use Rattle.tt_picture.specs.Glyphs.{AreSeated};
-ghost use Rattle.tt_picture.specs.Pictures.{picture_bytes};
+ghost use Rattle.tt_picture.specs.Pictures.{image_of};
 ghost use Rattle.tt_picture.specs.Unfitted.{ListsOnce};
 ghost use Rattle.tt_strike.specs.Costs.{line_cost};
 ghost use Rattle.tt_strike.specs.Defects.{IsLineDefect, TellsDefects, draw_font_fault};
@@ -92,7 +92,7 @@ impl<'f, 'a> SizedFace<'f, 'a> {
         requires margin { margin ≤ margin_limit }
         requires known { All (λ g. g.0 < glyphs_of self.old.face.metrics) line.glyphs.items }
         requires cache { IsCacheOf self.old cache.old }
-        ensures exact { GivesUnless refusal picture_bytes result (drawn_grown self.old.face (job_with self.old margin) (placement_of line)) }
+        ensures exact { GivesUnless refusal image_of result (drawn_grown self.old.face (job_with self.old margin) (placement_of line)) }
         ensures frame { IfOk result (λ p. IsOkAnd (grown_line self.old.face (job_with self.old margin) (placement_of line)) (λ l. p.frame ≡ frame_of l margin)) }
         ensures reported { IfOk result (IsReported self.old.face (job_with self.old margin) (placement_of line)) }
         ensures cache { IsCacheOf self.old cache.new }

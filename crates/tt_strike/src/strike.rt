@@ -10,7 +10,7 @@ ghost use Rattle.tt_strike.specs.Grown.{grown_measured, grown_outcome, grown_pla
 ghost use Rattle.tt_strike.specs.Job.{size_tested, IsSizeRefusal};
 ghost use Rattle.tt_strike.specs.Measures.{measure_view, measured};
 ghost use Rattle.tt_strike.specs.Picture.{frame_of, line_outcome};
-ghost use Rattle.tt_picture.specs.Pictures.{IsReady, all_crossings, picture_bytes};
+ghost use Rattle.tt_picture.specs.Pictures.{IsReady, all_crossings, image_of};
 ghost use Rattle.tt_strike.specs.Refusals.{as_job, refusal};
 ghost use Rattle.tt_picture.specs.Unfitted.{ListsOnce};
 ghost use Rattle.tt_strike.specs.Report.{report_by};
@@ -95,7 +95,7 @@ impl<'f, 'a> Strike<'f, 'a> {
     /// WorkLarge of the crossings. Memory may come at any allocation. A refused line too may change the cached glyphs.
     #[tactic(auto, unfolding(crate::specs::Picture::line_outcome, crate::specs::Picture::pictured_by, crate::specs::Report::report_by, crate::specs::Costs::cost_by))]
     pub fn line(&mut self, text: &str, margin: u32) -> Result<Picture, DrawFault>
-        ensures exact { GivesUnless refusal picture_bytes result (line_outcome self.old.face (job_of self.old text.now margin)) }
+        ensures exact { GivesUnless refusal image_of result (line_outcome self.old.face (job_of self.old text.now margin)) }
         ensures valid { IfOk result IsReady }
         ensures frame { IfOk result (λ p. IsOkAnd (placement self.old.face.metrics self.old.face.cmap text.now self.old.ppem margin) (λ l. p.frame ≡ frame_of l margin)) }
         ensures report { IfOk result (λ p. report_by self.old.face (job_of self.old text.now margin) ≡ Ok p.unfitted) }
@@ -131,7 +131,7 @@ impl<'f, 'a> Strike<'f, 'a> {
     /// cached glyphs.
     #[tactic(auto, unfolding(crate::specs::Grown::grown_outcome, crate::specs::Grown::grown_placement))]
     pub fn grown_line(&mut self, text: &str, margin: u32) -> Result<Picture, DrawFault>
-        ensures exact { GivesUnless refusal picture_bytes result (grown_outcome self.old.face (job_of self.old text.now margin)) }
+        ensures exact { GivesUnless refusal image_of result (grown_outcome self.old.face (job_of self.old text.now margin)) }
         ensures valid { IfOk result IsReady }
         ensures frame { IfOk result (λ p. IsOkAnd (grown_placement self.old.face (job_of self.old text.now margin)) (λ l. p.frame ≡ frame_of l margin)) }
         ensures report { IfOk result (λ p. report_by self.old.face (job_of self.old text.now margin) ≡ Ok p.unfitted) }

@@ -3,7 +3,7 @@ use Rattle.std.specs.Prelude.{IfOk}
 use Rattle.std.proofs.lemmas.Result.{err_from_is_err_and}
 use Rattle.tt_core.specs.Outcomes.{GivesUnless, ◌>>=◌}
 use Rattle.tt_strike.specs.Job.{Job, job_view, tested}
-use Rattle.tt_picture.specs.Pictures.{IsReady, Picture, picture_bytes}
+use Rattle.tt_picture.specs.Pictures.{IsReady, Picture, image_of}
 use Rattle.tt_face.specs.Faces.{Face}
 use Rattle.tt_c_calls.specs.declared.asked.CJob.{CJob}
 use Rattle.tt_c_calls.specs.declared.fault.CallFault.{CallFault}
@@ -27,10 +27,10 @@ by_face j text font a face is passes read = by_tables j text font a is passes �
 
 is_picture : (j : CJob) (text font : List ℕ) (a : Job) (face : Face) (r : Result Picture CallFault)
     → asked j text ≡ Ok a → face_wanted font ≡ Ok face
-    → GivesUnless call_refusal picture_bytes r (picture_wanted j text font) → IfOk r IsReady
+    → GivesUnless call_refusal image_of r (picture_wanted j text font) → IfOk r IsReady
     → IfOk r (λ p. IsMadeBy (grows j) a p face) → IfOk r (IsPictureOf j text font)
 is_picture j text font a face (Ok p) is read gives ready made = record {
-  file = gives;
+  image = gives;
   ready = ready;
   made = rw (is, face_read font face read) made;
 }

@@ -1,8 +1,7 @@
-use Rattle.std.proofs.Common.{◌≡◌, Bool, List, refl, arith}
+use Rattle.std.proofs.Common.{◌≡◌, Bool, List, arith}
 use Rattle.std.proofs.lemmas.Result.{IfOk-weaker}
-use Rattle.tt_pbm.specs.P4.{p4_header_of}
 use Rattle.tt_picture.specs.Glyphs.{Stand, all_rows, edges_cut}
-use Rattle.tt_picture.specs.Pictures.{picture, Picture, picture_bytes}
+use Rattle.tt_picture.specs.Pictures.{Picture, image_of, picture}
 use Rattle.tt_picture.specs.Pixels.{Shape}
 use Rattle.tt_picture.specs.Unfitted.{unfitted_standing}
 use Rattle.tt_picture.proofs.Alike.{same_picture}
@@ -16,6 +15,6 @@ returns-clause-exact c =
     let alike = rw c.deref.ensures.value at c.in_ok-dropouts.ensures.exact in
     IfOk-weaker c.new.result
     (λ (p : Picture). p ≡ record { frame = f; rows = all_rows f gs ds; made = 0; unfitted = unfitted_standing gs; edges = edges_cut gs; cost = c.args.cost })
-    (λ (p : Picture). (keeps : Bool) (shapes : List Shape) → Stand keeps f gs shapes → picture_bytes p ≡ picture f shapes)
-    (λ p its keeps shapes stand. rw its (same_picture f gs ds shapes (p4_header_of f.width f.height) refl
+    (λ (p : Picture). (keeps : Bool) (shapes : List Shape) → Stand keeps f gs shapes → image_of p ≡ picture f shapes)
+    (λ p its keeps shapes stand. rw its (same_picture f gs ds shapes
     (omega (arith, c.requires.frame.width_high)) stand alike)) c.new.ensures.exact

@@ -1,11 +1,11 @@
 use Rattle.std.proofs.Common.{◌≡◌, ◌∙◌, nat_lt, length, refl, ap}
 use Rattle.std.proofs.lemmas.List.{length-replicate}
 use Rattle.tt_core.specs.Bits.{stride}
-use Rattle.tt_pbm.specs.Rows.{row_is, bit-replicate_zero}
 use Rattle.tt_scan_dropouts.specs.Pictures.{is_among}
 use Rattle.tt_picture.specs.Glyphs.{shows_by, stamps_in}
 use Rattle.tt_picture.specs.Pixels.{is_black_by}
 use Rattle.tt_picture.proofs.Blackened.{both_shown}
+use Rattle.tt_picture.proofs.RowBytes.{row_is, bit-replicate_zero}
 use Rattle.tt_picture.proofs.rows.make_row.Goals as goal
 
 pub returns-clause-row : goal.returns-clause-row

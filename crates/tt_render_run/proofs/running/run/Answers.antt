@@ -1,13 +1,15 @@
-use Rattle.std.proofs.Common.{◌<◌, List, ℕ, length, take}
+use Rattle.std.proofs.Common.{◌<◌, List, ℕ, length, take, ap}
 use Rattle.std.proofs.lemmas.Result.{err_from_is_err_and}
 use Rattle.std.specs.Io.KnownBytes.{Appends}
 use Rattle.tt_strike.specs.Job.{job_view}
 use Rattle.tt_strike.specs.Defects.{IsRunDefect}
 use Rattle.tt_strike.specs.Picture.{pictured}
+use Rattle.tt_strike.specs.Refusals.{refusal}
 use Rattle.tt_render_run.specs.Run.{run_wanted}
-use Rattle.tt_picture.specs.Pictures.{picture_bytes}
+use Rattle.tt_render_run.specs.File.{as_file, file_pictured, picture_bytes}
 use Rattle.tt_render_run.proofs.Answered.{reading_job, reading_large, reading_defects, drawing_fails, drawing_job, drawing_large, drawing_defects}
 use Rattle.tt_render_run.proofs.Calls.{IsRead, run_is_of_font, run_refused, job_fails, reading_fails, with_bytes, tells_of_known}
+use Rattle.tt_render_run.proofs.Files.{no_file}
 use Rattle.tt_render_run.proofs.running.run.Goals as goal
 
 pub returns-in_err-test_job-clause-outcome : goal.returns-in_err-test_job-clause-outcome
@@ -31,7 +33,7 @@ returns-in_err-file-clause-outcome g c =
     let left = g.R.Source.left in
     let a = job_view c.args.job.now in
     let p = err_from_is_err_and c.from_residual-in_err-file.result c.from_residual-in_err-file.ensures.1 in
-    rw (p.1, p.2) (reading_fails (run_wanted a) (pictured a) (run_is_of_font a c.in_ok-test_job.ensures.exact)
+    rw (p.1, p.2) (reading_fails (run_wanted a) (file_pictured a) (run_is_of_font a c.in_ok-test_job.ensures.exact)
     c.in_err-file.field-0.0 (left c.args.font.now) (left c.read_font.new.font) (g.W.Sink.written c.args.out.now)
     (g.R.Source.has_failed c.read_font.new.font) (g.W.Sink.has_failed c.args.out.now) c.in_err-file.ensures
     c.requires.out)
@@ -63,12 +65,13 @@ returns-in_err-picture-clause-outcome g c =
     let a = job_view c.args.job.now in
     let file = c.in_ok-file in
     let p = err_from_is_err_and c.from_residual-in_err-picture.result c.from_residual-in_err-picture.ensures.1 in
-    let fails = rw c.deref.ensures.value at c.in_err-picture.ensures.exact in
+    let fails = no_file (pictured a file.file.items) (refusal c.in_err-picture.field-0.0)
+    (rw c.deref.ensures.value at c.in_err-picture.ensures.exact) in
     let extent = rw c.deref.ensures.value at c.in_err-picture.ensures.job in
     let read : IsRead (left c.args.font.now) (left c.read_font.new.font) file.file.items
     (g.R.Source.has_failed c.read_font.new.font) (g.W.Sink.has_failed c.args.out.now) =
     record { taken = file.ensures.0; end = file.ensures.1; small = file.ensures.2; reader_serves = file.ensures.3; writer_serves = c.requires.out } in
-    rw (p.1, p.2) (drawing_fails (run_wanted a) (pictured a) (run_is_of_font a c.in_ok-test_job.ensures.exact) a
+    rw (p.1, p.2) (drawing_fails (run_wanted a) (file_pictured a) (run_is_of_font a c.in_ok-test_job.ensures.exact) a
     c.in_err-picture.field-0.0 (left c.args.font.now) (left c.read_font.new.font)
     (g.W.Sink.written c.args.out.now) file.file.items (g.R.Source.has_failed c.read_font.new.font)
     (g.W.Sink.has_failed c.args.out.now) read fails extent)
@@ -106,13 +109,13 @@ returns-in_err-write_picture-clause-outcome g c =
     let file = c.in_ok-file in
     let bytes = picture_bytes c.in_ok-picture.picture.picture in
     let cut = c.in_err-write_picture in
-    let made = rw c.deref.ensures.value at c.in_ok-picture.ensures.exact in
+    let made = ap as_file (rw c.deref.ensures.value at c.in_ok-picture.ensures.exact) in
     let Q : List ℕ → Type 0 = λ bs. (cut.field-0.0.sent < length bs) × Appends (written c.args.out.now)
     (written c.write_picture.new.out) (take cut.field-0.0.sent bs) in
     let p = err_from_is_err_and c.from_residual-in_err-write_picture.result
     c.from_residual-in_err-write_picture.ensures.1 in
     rw (p.1, p.2)
-    (of_font.tested, with_bytes (run_wanted a) (pictured a) of_font Q (left c.args.font.now) (left c.read_font.new.font) file.file.items bytes file.ensures.0 file.ensures.1 file.ensures.2 made (cut.ensures.within, cut.ensures.part), (file.ensures.1, file.ensures.3), cut.ensures.failure)
+    (of_font.tested, with_bytes (run_wanted a) (file_pictured a) of_font Q (left c.args.font.now) (left c.read_font.new.font) file.file.items bytes file.ensures.0 file.ensures.1 file.ensures.2 made (cut.ensures.within, cut.ensures.part), (file.ensures.1, file.ensures.3), cut.ensures.failure)
 
 pub returns-in_err-write_picture-clause-defects : goal.returns-in_err-write_picture-clause-defects
 returns-in_err-write_picture-clause-defects g c =
@@ -132,9 +135,9 @@ returns-clause-outcome g c =
     let of_font = run_is_of_font a c.in_ok-test_job.ensures.exact in
     let file = c.in_ok-file in
     let bytes = picture_bytes c.in_ok-picture.picture.picture in
-    let made = rw c.deref.ensures.value at c.in_ok-picture.ensures.exact in
+    let made = ap as_file (rw c.deref.ensures.value at c.in_ok-picture.ensures.exact) in
     let Q : List ℕ → Type 0 = Appends (written c.args.out.now) (written c.write_picture.new.out) in
-    (of_font.tested, with_bytes (run_wanted a) (pictured a) of_font Q (left c.args.font.now) (left c.read_font.new.font) file.file.items bytes file.ensures.0 file.ensures.1 file.ensures.2 made c.in_ok-write_picture.ensures.all, (file.ensures.1, file.ensures.3), c.in_ok-write_picture.ensures.failure)
+    (of_font.tested, with_bytes (run_wanted a) (file_pictured a) of_font Q (left c.args.font.now) (left c.read_font.new.font) file.file.items bytes file.ensures.0 file.ensures.1 file.ensures.2 made c.in_ok-write_picture.ensures.all, (file.ensures.1, file.ensures.3), c.in_ok-write_picture.ensures.failure)
 
 pub returns-clause-defects : goal.returns-clause-defects
 returns-clause-defects g c =

@@ -1,7 +1,7 @@
 use Rattle.std.proofs.Common.{◌*◌, refl}
 use Rattle.tt_core.specs.Bits.{stride}
-use Rattle.tt_pbm.specs.Rows.{length-rows}
 use Rattle.tt_picture.specs.Glyphs.{shows_by, stamps_in}
+use Rattle.tt_picture.proofs.RowBytes.{length-rows}
 use Rattle.tt_picture.proofs.picture.Picture.new.Goals as goal
 
 pub returns-clause-valid : goal.returns-clause-valid

@@ -1,9 +1,9 @@
 use Rattle.std.proofs.Common.{◌≡◌, ◌∙◌, ◌*◌, ◌+◌, List, ap, length, map, sym, vec_len}
 use Rattle.std.proofs.lemmas.List.{length-map, with_items_is}
 use Rattle.tt_core.specs.Bits.{stride}
-use Rattle.tt_pbm.specs.P4.{rows}
 use Rattle.tt_picture.specs.Glyphs.{shows_by, stamp_of, stamps_in}
 use Rattle.tt_picture.specs.Pixels.{Stamp, cut_from}
+use Rattle.tt_picture.specs.Rows.{rows}
 use Rattle.tt_picture.proofs.RowsCut.{row_cut}
 use Rattle.tt_picture.proofs.picture.Picture.next_row.Goals as goal
 

@@ -8,7 +8,7 @@ use Rattle.tt_strike.specs.Work.{line_fitter}
 use Rattle.tt_picture.specs.Glyphs.{AreDrawn, Stand, numbers_of}
 use Rattle.tt_strike.specs.Reported.{IsReported}
 use Rattle.tt_strike.specs.Strikes.{job_with}
-use Rattle.tt_picture.specs.Pictures.{picture, picture_bytes}
+use Rattle.tt_picture.specs.Pictures.{image_of, picture}
 use Rattle.tt_strike.specs.Picture.{drawn, frame_of}
 use Rattle.tt_picture.specs.Unfitted.{unfitted_standing}
 use Rattle.tt_picture.proofs.Among.{all_among, of_same_glyphs}
@@ -102,8 +102,8 @@ returns-clause-exact c =
     let there = places maker (frame_of l a.margin) e.made.drawn in
     let stand : Stand false f hs made.shapes = rw fitted at there in
     let drawn = rw c.frame_of-frame.ensures.exact at c.in_ok-draw_made.ensures.exact in
-    let bytes : picture_bytes p ≡ picture f made.shapes = drawn false made.shapes stand in
-    rw e.exact (larger_drawn face a larger s made ∙ ap Ok {x = picture f made.shapes} {y = picture_bytes p} (sym bytes))
+    let image : image_of p ≡ picture f made.shapes = drawn false made.shapes stand in
+    rw e.exact (larger_drawn face a larger s made ∙ ap Ok {x = picture f made.shapes} {y = image_of p} (sym image))
 
 pub returns-clause-frame : goal.returns-clause-frame
 returns-clause-frame c =

@@ -2,7 +2,7 @@ use Rattle.std.proofs.Common.{◌≡◌, ◌∙◌, ap, sym, map, Ok, arith}
 use Rattle.std.proofs.lemmas.Result.{err_from_is_err_and}
 use Rattle.tt_line.specs.Outcome.{placement_of}
 use Rattle.tt_picture.specs.Cached.{is_there}
-use Rattle.tt_picture.specs.Pictures.{picture, picture_bytes}
+use Rattle.tt_picture.specs.Pictures.{image_of, picture}
 use Rattle.tt_picture.proofs.Filled.{can_be_filled}
 use Rattle.tt_strike.specs.Picture.{frame_of}
 use Rattle.tt_strike.specs.Strikes.{job_with}
@@ -33,9 +33,9 @@ returns-clause-exact c =
     let made = c.in_ok-glyphs.ensures.made in
     let p = c.in_ok-draw_made.field-0 in
     let drawn = rw c.frame_of-frame.ensures.exact at c.in_ok-draw_made.ensures.exact in
-    let bytes : picture_bytes p ≡ picture (frame_of l a.margin) made.shapes = drawn _ made.shapes made.stand in
+    let image : image_of p ≡ picture (frame_of l a.margin) made.shapes = drawn _ made.shapes made.stand in
     drawn_as_made face a l gs made
-    ∙ ap Ok {x = picture (frame_of l a.margin) made.shapes} {y = picture_bytes p} (sym bytes)
+    ∙ ap Ok {x = picture (frame_of l a.margin) made.shapes} {y = image_of p} (sym image)
 
 pub returns-clause-frame : goal.returns-clause-frame
 returns-clause-frame c = c.in_ok-draw_made.ensures.frame ∙ c.frame_of-frame.ensures.exact

@@ -1,4 +1,4 @@
--- Not from the standard: lemmas about the rows of a picture.
+-- The bytes of a picture's rows.
 use Rattle.std.specs.Prelude.{◌≡◌, refl, ℕ, zero, suc, ◌+◌, ◌*◌, ◌/◌, ◌%◌, ◌-◌, ◌^◌, ◌<◌, ◌≤◌, Bool, true, false, ◌&&◌, ◌==◌, nat_lt, if◌then◌else◌, List, ◌∷◌, ◌++◌, map, length, take, slice_index, replicate}
 use Rattle.std.specs.List.{range_with_len}
 use Rattle.std.specs.Int.{bit_at}
@@ -10,7 +10,7 @@ use Rattle.std.proofs.lemmas.List.FromFn.{length-map-range_with_len, get_or-map-
 use Rattle.std.proofs.lemmas.Nat.{div-mul-add, mod-mul-add}
 use Rattle.std.proofs.lemmas.Nat.Bits.{bit_at_lowest, bit_at-suc, bit_at-lt, bit_at-zero, same_from_bits_below}
 use Rattle.tt_core.specs.Bits.{stride}
-use Rattle.tt_pbm.specs.P4.{columns, shows, byte_of, byte_at, rows}
+use Rattle.tt_picture.specs.Rows.{columns, shows, byte_of, byte_at, rows}
 use Rattle.tt_core.specs.Bits.{bit}
 
 -- ---- splitting

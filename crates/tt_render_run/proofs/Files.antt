@@ -1,0 +1,18 @@
+-- The file of an image that is made.
+use Rattle.std.proofs.Common.{◌≡◌, ℕ, List, Option, Some, None, IfSome, Result, Ok, Err, refl, sym}
+use Rattle.tt_picture.specs.Pictures.{Image}
+use Rattle.tt_strike.specs.Refusals.{Refused}
+use Rattle.tt_render_run.specs.File.{as_file, p4}
+
+-- an image that is refused has no file
+pub no_file : (made : Result Image Refused) (told : Option Refused) → IfSome told (λ e. made ≡ Err e)
+    → IfSome told (λ e. as_file made ≡ Err e)
+no_file made None refused = tt
+no_file made (Some e) refused = rw refused refl
+
+-- bytes that are made are the file of an image
+pub file_made : (made : Result Image Refused) (bytes : List ℕ) → as_file made ≡ Ok bytes
+    → (i : Image) × (made ≡ Ok i) × (bytes ≡ p4 i)
+file_made (Ok i) bytes was =
+    let same : p4 i ≡ bytes = cc in (i, refl, sym same)
+file_made (Err e) bytes was = absurd cc

@@ -1,0 +1,33 @@
+-- The file of a picture (Netpbm, "PBM", format P4): its header, and then its rows from the top.
+use Rattle.std.specs.Prelude.{◌≡◌, refl, ℕ, Bool, ◌&&◌, nat_le, nat_lt, pos, List, [], ◌∷◌, ◌++◌, codes, Result, Ok}
+use Rattle.std.specs.Fmt.{digits}
+use Rattle.tt_core.specs.Outcomes.{◌>>=◌}
+use Rattle.tt_pbm.specs.P4.{p4_header_of}
+use Rattle.tt_picture.specs.Pictures.{Image, Picture, image, image_of}
+use Rattle.tt_strike.specs.Job.{Job}
+use Rattle.tt_strike.specs.Picture.{pictured}
+use Rattle.tt_strike.specs.Refusals.{Refused}
+
+-- the bytes of the file of an image, and of a picture
+abbrev pub p4 : Image → List ℕ
+p4 i = p4_header_of i.frame.width i.frame.height ++ i.rows
+
+abbrev pub picture_bytes : Picture → List ℕ
+picture_bytes p = p4 (image_of p)
+
+-- the file of an image, or its refusal
+abbrev pub as_file : {E : Type 0} → Result Image E → Result (List ℕ) E
+as_file made = made >>= λ i. Ok (p4 i)
+
+-- the file of the picture of a job by a font file
+abbrev pub file_pictured : Job → List ℕ → Result (List ℕ) Refused
+file_pictured a file = as_file (pictured a file)
+
+-- worked value: columns 1 and 2 of rows 2 and 3
+a_square : ℕ → ℕ → Bool
+a_square c r = (nat_le 1 c && nat_lt c 3) && nat_le 2 r
+
+a_picture : p4 (image (record { width = 4; height = 4; margin = 0; rise = pos 4 }) a_square)
+    ≡ codes "P4\n4 4\n" ++ (0x00 ∷ 0x00 ∷ 0x60 ∷ 0x60 ∷ [])
+unfolding digits a_square
+a_picture = refl
