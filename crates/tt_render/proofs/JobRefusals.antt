@@ -16,7 +16,9 @@ use Rattle.tt_strike.specs.Picture.{crossings_tested, drawn, line_shapes, pictur
 use Rattle.tt_strike.specs.Refusals.{Refused, as_font, as_job, job, large, needs_font}
 use Rattle.tt_face.specs.Faces.{Face, face_of}
 use Rattle.tt_strike.specs.Work.{is_bounded, work_tested}
+use Rattle.tt_render_run.specs.File.{as_file}
 use Rattle.tt_render_run.specs.Run.{run_outcome}
+use Rattle.tt_render_run.proofs.Files.{no_image}
 
 -- one test with one refusal
 of_test : (need fails : Bool) (why j : JobFault) → needs_font why ≡ need
@@ -126,9 +128,9 @@ pub run_late : (a : Job) (file : List ℕ) (j : JobFault) → tested a ≡ Ok tt
 unfolding run_outcome pictured
 run_late a file j good refused =
     let behind = rw good at refused in
-    let made = font_late (nat_lt font_limit (length file)) (as_font (face_of file) >>= λ face. pictured_by face a) j behind
-    in
-    elim (was-err (as_font (face_of file)) _ (job j) made) [
+    let image = as_font (face_of file) >>= λ face. pictured_by face a in
+    let made = font_late (nat_lt font_limit (length file)) (as_file image) j behind in
+    elim (was-err (as_font (face_of file)) _ (job j) (no_image image (job j) made)) [
       | inl first ↦ absurd (no_font (face_of file) j first)
       | inr later ↦ pictured_late later.value a j later.rest
     ]

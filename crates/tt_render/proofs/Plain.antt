@@ -9,6 +9,7 @@ use Rattle.tt_core.specs.Limits.{font_limit}
 use Rattle.tt_core.specs.Outcomes.{◌>>=◌}
 use Rattle.tt_picture.specs.declared.report.Unfitted.{Unfitted}
 use Rattle.tt_line.specs.Layout.{placement}
+use Rattle.tt_picture.specs.Pictures.{Image}
 use Rattle.tt_picture.specs.Unfitted.{ListsOnce}
 use Rattle.tt_picture.proofs.Listing.{lists_once}
 use Rattle.tt_strike.specs.Job.{Job, tested}
@@ -19,6 +20,7 @@ use Rattle.tt_strike.specs.Strikes.{Strike, job_of}
 use Rattle.tt_face.specs.Faces.{Face, face_of}
 use Rattle.tt_strike.specs.Work.{line_fitter}
 use Rattle.tt_render_run.specs.declared.fault.RunFault.TheVariants as run
+use Rattle.tt_render_run.specs.File.{as_file, file_pictured}
 use Rattle.tt_render_run.specs.Outcome.{SendsAll, SendsFirst, Traffic, WithBytes, of_font}
 use Rattle.tt_render_run.specs.Reading.{FontIsRead}
 use Rattle.tt_render_run.specs.Run.{run_outcome, run_wanted}
@@ -67,8 +69,9 @@ of_strike a text file s plain opened =
     ∙ kept_as_run (run_outcome (job_by a text) file) (missing_tested s.face.cmap a.missing text) none.0 none.1
 
 -- a font that is refused is refused alike
-alike : (big : Bool) (r : Result Face Refused) (f : Face → Strike) (g : Face → Result (List ℕ) Refused) (why : Refused)
-    → (if big then Err large else (r >>= λ face. Ok (f face))) ≡ Err why → (if big then Err large else (r >>= g)) ≡ Err why
+alike : (big : Bool) (r : Result Face Refused) (f : Face → Strike) (g : Face → Result Image Refused) (why : Refused)
+    → (if big then Err large else (r >>= λ face. Ok (f face))) ≡ Err why
+    → (if big then Err large else as_file (r >>= g)) ≡ Err why
 alike true r f g why was = let same : large ≡ why = cc in ap Err same
 alike false (Ok face) f g why was = absurd cc
 alike false (Err e) f g why was = let same : e ≡ why = cc in ap Err same
@@ -78,7 +81,7 @@ of_no_strike : (a : Setting) (text file : List ℕ) (why : Refused) → tested (
 unfolding strike_of run_outcome pictured
 of_no_strike a text file why good stops =
     let j = job_by a text in
-    ap (λ (r : Result (Unit {0}) JobFault). as_job r >>= λ u. of_font (pictured j) file) good
+    ap (λ (r : Result (Unit {0}) JobFault). as_job r >>= λ u. of_font (file_pictured j) file) good
     ∙ alike (nat_lt font_limit (length file)) (as_font (face_of file)) (strike_by a) (λ face. pictured_by face j) why stops
 
 by_strike : (a : Setting) (text file : List ℕ) (o : Result Strike Refused) → IsPlain a
@@ -182,8 +185,8 @@ run_of_large : (a : Setting) (text file : List ℕ) → tested (job_by a text) �
 unfolding run_outcome
 run_of_large a text file good big =
     let is_big : nat_lt font_limit (length file) ≡ true = grind (arith, nat_tests) in
-    ap (λ (r : Result (Unit {0}) JobFault). as_job r >>= λ u. of_font (pictured (job_by a text)) file) good
-    ∙ ap (λ (b : Bool). if b then Err large else pictured (job_by a text) file) is_big
+    ap (λ (r : Result (Unit {0}) JobFault). as_job r >>= λ u. of_font (file_pictured (job_by a text)) file) good
+    ∙ ap (λ (b : Bool). if b then Err large else file_pictured (job_by a text) file) is_big
 
 -- a call that stopped before the text was drawn
 before_text : (a : Setting) (text : List ℕ) (why : Refusal) (line : Option ℕ) (t : Traffic) (e : Errors)
