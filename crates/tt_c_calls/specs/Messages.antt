@@ -5,7 +5,7 @@ use Rattle.tt_core.specs.declared.fault.JobFault.{JobFault}
 use Rattle.tt_core.specs.declared.fault.JobFault.TheVariants as job
 use Rattle.tt_core.specs.declared.fault.Why.{Why}
 use Rattle.tt_core.specs.declared.fault.Why.TheVariants as why
-use Rattle.tt_core.specs.Faults.{Fault, fault_at, is_ascii, why_name, why_number, job_name, job_number}
+use Rattle.tt_core.specs.Faults.{Fault, fault_at, is_ascii, why_name, why_number, why_of, job_name, job_number, job_fault_of}
 use Rattle.tt_render_run.specs.Messages.{font_line, job_line, line_of}
 use Rattle.tt_render_run.specs.declared.fault.RunFault.TheVariants as run
 use Rattle.tt_c_calls.specs.declared.answer.CAnswer.{CAnswer}
