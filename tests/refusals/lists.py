@@ -53,12 +53,10 @@ def bounds(read):
 
 
 def table(read):
-    """Reads the table of all refusals: the enums of tt_core, and the numbers that answers of C have besides."""
+    """Reads the table of all refusals: the lists of tt_core, and the numbers that answers of C have besides."""
     known, (low, high) = Known(), bounds(read)
-    for name, text in re.findall(r"^pub enum (\w+) \{(.*?)\n\}", read(ENUMS), re.S | re.M):
-        numbers = {it: int(number) for it, number in re.findall(r"^ +(\w+) = (\d+),", text, re.M)}
-        if numbers:
-            known.enums[name] = numbers
+    for name, text in re.findall(r"^ +\$of, (\w+),\n((?: +\d+ \w+,\n)+)", read(ENUMS), re.M):
+        known.enums[name] = {it: int(number) for number, it in re.findall(r"(\d+) (\w+),", text)}
     for it, number in known.enums["Why"].items():
         (known.programs if low <= number <= high else known.font)[it] = number
     for name, numbers in known.enums.items():
@@ -101,23 +99,27 @@ def numbers_of_enums(known):
     return faults
 
 
-def names_of_enums(known, read):
-    """`name` gives each variant's name."""
+def variants_of_enums(known, read):
+    """Each enum has exactly the variants of its list, in the same order."""
     faults = []
     for kind, numbers in known.enums.items():
-        found = dict(re.findall(rf"^ +{kind}::(\w+) => \"(\w+)\",", read(ENUMS), re.M))
-        faults += [f"{kind}::{it} has the name {found.get(it)}" for it in numbers if found.get(it) != it]
+        text = re.search(rf"^pub enum {kind} \{{(.*?)\n\}}", read(ENUMS), re.S | re.M)[1]
+        variants = re.findall(r"^ +(\w+),$", text, re.M)
+        faults += [f"{kind} lacks the variant {it}" for it in numbers if it not in variants]
+        faults += [f"the list of {kind} lacks {it}" for it in variants if it not in numbers]
+        if not faults and variants != list(numbers):
+            faults.append(f"{kind} and its list are in different orders")
     return faults
 
 
 def definitions(known, read):
-    """Numbers and names of Faults.antt, by the definitions of `number` and `name` of each enum."""
-    text, faults = read(DEFINED), []
-    numbers = pairs(r"^\w+_number \w+\.(?P<name>\w+) = (?P<n>\d+)$", text)
-    faults += compared(numbers, {it: number for of in known.enums.values() for it, number in of.items()})
-    names = re.findall(r"^\w+_name \w+\.(\w+) = codes \"(\w+)\"$", text, re.M)
-    faults += [f"{it} has the name {other}" for it, other in names if it != other]
-    return faults + [f"{it} has no name" for of in known.enums.values() for it in of if it not in dict(names)]
+    """Numbers and names of Faults.antt, and the refusals by their numbers there."""
+    text, wanted = read(DEFINED), {it: number for of in known.enums.values() for it, number in of.items()}
+    rows = re.findall(r"^\w+_in_messages \w+\.(\w+) = numbered (\d+) \(codes \"(\w+)\"\)$", text, re.M)
+    faults = compared([(int(number), it) for it, number, _ in rows], wanted)
+    faults += [f"{it} has the name {other}" for it, _, other in rows if it != other]
+    by_number = pairs(r"\bif n == (?P<n>\d+) then Some \w+\.(?P<name>\w+)$", text)
+    return faults + [f"by number: {it}" for it in compared(by_number, wanted)]
 
 
 def header(known, read):
@@ -146,14 +148,11 @@ def page(known, read):
     return faults
 
 
-def by_number(known, read, code):
-    """The kinds by their numbers, of which C makes messages; and the calls' own, in code or in the definition."""
-    text = read(MESSAGES if code else MESSAGES_DEFINED)
-    kinds = r"^ +(?P<n>\d+) => \w+::(?P<name>\w+),$" if code else r"== (?P<n>\d+) then Some \w+\.(?P<name>\w+)$"
+def messages_of_calls(known, read, code):
+    """The messages of what the calls alone refuse, in code or in the definition."""
     case = r"^ +(\d+) => String\S+\(alloc, " if code else r"if a\.number == (\d+) then codes "
-    own = re.findall(case + r"\"tt_render: (\d+) (\w+)\"", text, re.M)
-    faults = compared(pairs(kinds, text), {it: number for of in known.enums.values() for it, number in of.items()})
-    faults += [f"at {at} it has the text {number} {name}" for at, number, name in own if at != number]
+    own = re.findall(case + r"\"tt_render: (\d+) (\w+)\"", read(MESSAGES if code else MESSAGES_DEFINED), re.M)
+    faults = [f"at {at} it has the text {number} {name}" for at, number, name in own if at != number]
     return faults + compared([(int(number), name) for _, number, name in own], known.calls)
 
 
@@ -189,8 +188,8 @@ def asked(known, asking):
 def tables_by_name(sources):
     """Returns for each name the places that refuse with it, with the tables whose tags the place's file names.
 
-    Where it names none, the tags are those of its crate and of this crate's inner ones. Where names and messages are made
-    is no such place.
+    Where it names none, the tags are those of its crate and of this crate's inner ones. The lists of names are no such
+    place.
     """
     tags, of_crates, found = {}, {}, {}
     for path, text in sources.items():
@@ -199,7 +198,7 @@ def tables_by_name(sources):
     for path, text in sources.items():
         crate = path.split("/")[1]
         around = set().union(*(of_crates[it] for it in of_crates if it == crate or it.startswith(f"{crate}_")))
-        for name in re.findall(r"\bWhy::(\w+)", text) if path not in (ENUMS, MESSAGES) else ():
+        for name in re.findall(r"\bWhy::(\w+)", text) if path != ENUMS else ():
             found.setdefault(name, {})[path] = tags[path] or around
     return found
 
