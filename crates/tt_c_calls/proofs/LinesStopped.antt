@@ -9,7 +9,6 @@ use Rattle.tt_core.specs.Outcomes.{◌>>=◌}
 use Rattle.tt_face.specs.Faces.{Face}
 use Rattle.tt_face.proofs.Whole.{face-directory}
 use Rattle.tt_fit.specs.declared.programs.Fit.{Fit}
-use Rattle.tt_metrics.specs.Metrics.{glyphs_of, metrics_of}
 use Rattle.tt_render.specs.declared.setting.Setting.{Setting}
 use Rattle.tt_render.specs.Settings.{job_by, plain_setting}
 use Rattle.tt_strike.specs.declared.fault.DrawFault.{DrawFault}
