@@ -232,7 +232,8 @@ fn scantype(stack: &mut Stack, graphics: &mut GraphicsState) -> Result<(), Why>
     Ok(())
 }
 
-/// SANGW[], 0x7E; AA[], 0x7F; DEBUG[], 0x4F: n -> nothing.
+/// SANGW[], 0x7E; AA[], 0x7F; DEBUG[], 0x4F: n -> nothing. A function (for the prover): it shows that `Stack::pop` does
+/// what the definition says.
 fn ignored(stack: &mut Stack) -> Result<(), Why>
     ensures { Does (is.ignored stack.old) stack.new result }
 {

@@ -47,7 +47,7 @@ impl<'a> Model for Glyf<'a> {
 
 impl<'a> Glyf<'a> {
     /// Opens loca and glyf of the font with these metrics. Error: LocaShort. This call is for users that open both at
-    /// once; tt_render opens loca first and then calls `of`.
+    /// once; tt_face opens loca first and then calls `of`.
     pub fn open(loca: &'a [u8], glyf: &'a [u8], metrics: &Metrics) -> Result<Glyf<'a>, Fault>
         requires loca { length loca.now ≤ font_limit }
         requires glyf { length glyf.now ≤ font_limit }
@@ -111,7 +111,8 @@ impl<'a> Glyf<'a> {
     }
 
     /// The data of a glyph as in the file. Errors: GlyphRange, GlyphShort, ContourOrder, FlagRun, ComponentCount,
-    /// ComponentGlyph, ScaledOffset, PointLimit, CoordRange, Memory.
+    /// ComponentGlyph, ScaledOffset, PointLimit, CoordRange, Memory. Apart from `read_whole` (for the prover): the
+    /// other clauses follow from what `read_whole` gives.
     pub fn read(&self, alloc: Global, g: u16) -> Result<Raw<'a>, FontFault>
         requires { g < self.now.glyphs }
         ensures exact { FontGives raw_view result (glyph_data_of self.now g) }
