@@ -75,7 +75,6 @@ fn next_run(
         is.limited contour.old.along.axis (swept contour.old.along before.point first.point
         (drop start contour.old.points.now)) ≡ Err why) }
     ensures valid { All IsPoint contour.new.points.now }
-    ensures many { IfOk result (λ u. length contour.new.points.now ≡ length contour.old.points.now) }
     ensures along { contour.new.along ≡ contour.old.along }
     ensures same_reference { contour.new.points.ghost_name ≡ contour.old.points.ghost_name }
 {
