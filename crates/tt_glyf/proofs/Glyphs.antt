@@ -14,7 +14,7 @@ use Rattle.tt_glyf.specs.Bytes.{GlyphBytes, stretch_at, Listing, word_in, signed
 use Rattle.tt_glyf.specs.Composite.{Program, records_of, has_program, program_of, composite_of}
 use Rattle.tt_glyf.specs.GlyphData.{Header, header_of, described, glyph_in, glyph_data_of}
 use Rattle.tt_glyf.specs.Loca.{Glyf, glyph_offset, has_no_bytes, is_out_of_range, bytes_between, glyph_bytes_of}
-use Rattle.tt_glyf.specs.Meaning.{IfEmpty, HasNoOutline, IfSimple, IfComposite, glyph_bytes_at, IsProgram, HasProgram, contour_count, written_x_min, written_size, flags_place, records_end, AreEnds, AreWords, ArePoints, AreComponents, AreRecords, AreCompositeWords}
+use Rattle.tt_glyf.specs.Meaning.{IfEmpty, HasNoOutline, IfSimple, IfComposite, glyph_bytes_at, IsProgram, HasProgram, contour_count, written_x_min, written_size, flags_place, records_end, AreEnds, AreWords, ArePoints, AreComponents, AreRecords, AreCompositeWords, IsAsWritten}
 use Rattle.tt_glyf.specs.Format.{size_place}
 use Rattle.tt_glyf.specs.Raw.{SimpleGlyph, CompositeGlyph, Raw, empty, simple, composite}
 use Rattle.tt_glyf.specs.Simple.{ends_of, points_within, points_of, simple_of}
@@ -380,3 +380,14 @@ glyph-cases t g false d is was =
 pub glyph-is : (t : Glyf) (g : ℕ) (d : Raw) → glyph_data_of t g ≡ Ok d → IsGlyph t g d
 unfolding glyph_data_of
 glyph-is t g d was = glyph-cases t g (has_no_bytes t g) d refl was
+
+pub as-written : (t : Glyf) (g : ℕ) (d : Raw) → glyph_data_of t g ≡ Ok d → IsAsWritten t g d
+as-written t g d was =
+    let is = glyph-is t g d was in
+    record {
+      nothing = is.nothing;
+      words = is.words;
+      points = is.points;
+      composite_words = is.composite_words;
+      components = is.components;
+    }

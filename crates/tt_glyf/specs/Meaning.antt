@@ -242,3 +242,12 @@ pub record AreCompositeWords (g : GlyphBytes) (c : CompositeGlyph) : Type 0 wher
   pub follows : has_program c.records ≡ true → (c.code_at ≡ g.start + (records_end g.bytes header_size c.records + word_size))
       × (length c.code ≡ unsigned_at g.bytes (records_end g.bytes header_size c.records) word_size)
   pub none : has_program c.records ≡ false → c.code ≡ []
+
+-- a glyph is as written: its words, the sums of its deltas, and its component records. Without an outline it has no
+-- bytes or no contours
+pub record IsAsWritten (t : Glyf) (g : ℕ) (d : Raw) : Type 0 where
+  pub nothing : IfEmpty d (HasNoOutline t g)
+  pub words : IfSimple d (AreWords (glyph_bytes_at t g))
+  pub points : IfSimple d (λ s. ArePoints (bytes_between t g) (flags_place (bytes_between t g) (length s.ends)) s.points)
+  pub composite_words : IfComposite d (AreCompositeWords (glyph_bytes_at t g))
+  pub components : IfComposite d (λ c. AreComponents (glyph_bytes_at t g) header_size c.records)

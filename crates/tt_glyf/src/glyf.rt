@@ -7,8 +7,8 @@ ghost use Rattle.tt_core.specs.Outcomes.{Gives};
 ghost use Rattle.tt_glyf.specs.Bytes.{stretch_at};
 ghost use Rattle.tt_glyf.specs.Format.{header_size};
 ghost use Rattle.tt_glyf.specs.GlyphData.{glyph_in, described, glyph_data_of};
-ghost use Rattle.tt_glyf.specs.Loca.{glyph_tables_of, tables_with, with_glyf, glyph_offset, has_no_bytes, bytes_between, glyph_bytes_of, IsLocaDefect, IsRangeDefect, AreTables};
-ghost use Rattle.tt_glyf.specs.Meaning.{IfEmpty, HasNoOutline, IfSimple, IfComposite, glyph_bytes_at, flags_place, HasArguments, HasProgram, AreEnds, AreWords, ArePoints, AreComponents, AreRecords, AreCompositeWords};
+ghost use Rattle.tt_glyf.specs.Loca.{glyph_tables_of, tables_with, with_glyf, glyph_offset, has_no_bytes, glyph_bytes_of, IsLocaDefect, IsRangeDefect, AreTables};
+ghost use Rattle.tt_glyf.specs.Meaning.{IfSimple, IfComposite, HasArguments, HasProgram, AreEnds, AreRecords, IsAsWritten};
 ghost use Rattle.tt_glyf.specs.Raw.{raw_view};
 ghost use Rattle.tt_core.specs.Outcomes.{FontGives, IfTold, font_fault};
 ghost use Rattle.tt_glyf.specs.Defects.{IsGlyphDefect};
@@ -119,18 +119,12 @@ impl<'a> Glyf<'a> {
         // On Ok the glyph has no defect; a fault names a defect that exists.
         ensures sound { OnOk result (HasNo (IsGlyphDefect self.now g)) }
         ensures fault { IfTold font_fault result (IsGlyphDefect self.now g) }
-        // A glyph without outline has no bytes or no contours.
-        ensures empty { IfOk result (λ r. IfEmpty (raw_view r) (HasNoOutline self.now g)) }
-        // A simple glyph: its words, the contours' ends, and the points. A point's flag is that of its run; its
-        // coordinates are the sums of all deltas up to the point.
-        ensures words { IfOk result (λ r. IfSimple (raw_view r) (AreWords (glyph_bytes_at self.now g))) }
+        // The words, points and component records are as written. Without an outline there are no bytes or no contours.
+        ensures written { IfOk result (λ r. IsAsWritten self.now g (raw_view r)) }
+        // A simple glyph has at most 16,384 points, and its contours end in order at the last one.
         ensures few { IfOk result (λ r. IfSimple (raw_view r) (λ s. length s.points ≤ point_limit)) }
         ensures ends { IfOk result (λ r. IfSimple (raw_view r) (λ s. AreEnds (length s.points) s.ends)) }
-        ensures sums { IfOk result (λ r. IfSimple (raw_view r) (λ s. ArePoints (bytes_between self.now g) (flags_place (bytes_between self.now g) (length s.ends)) s.points)) }
-        // A composite glyph: its words, and the records as written. Each record names a glyph of the font and has
-        // arguments within their ranges.
-        ensures composite_words { IfOk result (λ r. IfComposite (raw_view r) (AreCompositeWords (glyph_bytes_at self.now g))) }
-        ensures components { IfOk result (λ r. IfComposite (raw_view r) (λ c. AreComponents (glyph_bytes_at self.now g) header_size c.records)) }
+        // Each record of a composite glyph names a glyph of the font and has arguments within their ranges.
         ensures records { IfOk result (λ r. IfComposite (raw_view r) (λ c. AreRecords self.now.glyphs c.records)) }
         ensures arguments { IfOk result (λ r. IfComposite (raw_view r) (λ c. All HasArguments c.records)) }
         // The program is the bytes of glyf at its offset.
