@@ -24,7 +24,7 @@ use tt_core::{Fault, FontFault};
 use tt_fit::{Fitter, Outline};
 use tt_scan::{EdgeList, Frame, Tape};
 use tt_scan_dropouts::Rules;
-use tt_scan_rows::{Cut, Raster};
+use tt_scan_rows::{CutGlyph, Raster};
 use tt_strike_kept::KeptGlyph;
 
 /// The part of a glyph that blackens rows.
@@ -256,7 +256,7 @@ fn raster_of(
     ensures limit { limit_of cache.new ≡ limit_of cache.old }
 {
     match Raster::cut(alloc, list, 2 * frame.height, cache.raster_limit())? {
-        Cut::Raster(raster) => {
+        CutGlyph::Raster(raster) => {
             let raster = Rc::new(alloc, raster)?;
             cache.put(
                 number,
@@ -267,7 +267,7 @@ fn raster_of(
             );
             Ok(Body::Raster(raster))
         }
-        Cut::Edges(list) => tape_of(alloc, list, frame),
+        CutGlyph::Edges(list) => tape_of(alloc, list, frame),
     }
 }
 
