@@ -16,7 +16,7 @@ ghost use Rattle.tt_glyf.specs.Views.{header_view};
 
 use crate::bytes::GlyphBytes;
 use crate::composite::read_composite;
-use crate::header::{Header, read_header};
+use crate::header::{GlyphHeader, read_header};
 use crate::loca::Loca;
 use crate::raw::Raw;
 use crate::simple::read_simple;
@@ -164,7 +164,7 @@ fn read_glyph<'a>(alloc: Global, glyph: &GlyphBytes<'a>, glyphs: u16) -> Result<
 fn read_described<'a>(
     alloc: Global,
     glyph: &GlyphBytes<'a>,
-    header: Header,
+    header: GlyphHeader,
     glyphs: u16,
 ) -> Result<Raw<'a>, FontFault>
     requires { header_size ≤ length glyph.now.bytes }
