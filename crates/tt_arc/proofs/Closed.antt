@@ -9,7 +9,7 @@ use Rattle.tt_scan_edges.specs.declared.edge.Edge.{Edge}
 use Rattle.tt_arc.specs.declared.quadratic.Quadratic.{Quadratic}
 use Rattle.tt_arc.specs.declared.quadratic.CurveEnd.{CurveEnd}
 use Rattle.tt_arc.specs.declared.quadratic.EdgeEnd.{EdgeEnd}
-use Rattle.tt_arc.specs.declared.point.Point.{Point}
+use Rattle.tt_arc.specs.declared.point.PlacedPoint.{PlacedPoint}
 use Rattle.tt_arc.specs.Chords.{moved, edge_end_of, curve_end_of, quadratic_of, along_x, along_y, chord_end, edge_between, first_chords, edges_of, contour_edges, contour_at}
 use Rattle.tt_arc.specs.Laws.{ContoursAreClosed}
 use Rattle.tt_arc.proofs.Turns.{first_eighth, last_eighth, straight, no_edge, curved}
@@ -60,22 +60,22 @@ to_end : (c : Quadratic) → chord_end c 8 ≡ whole_end c.to
 to_end c = rw (last_eighth (along_x c), last_eighth (along_y c)) refl
 
 -- the start of a point's edges, from the preceding point
-abbrev start : Point → Point → EdgeEnd
+abbrev start : PlacedPoint → PlacedPoint → EdgeEnd
 start before p = if p.on then edge_end_of p else whole_end (curve_end_of before p)
 
-start_on : (before p : Point) → p.on ≡ true → start before p ≡ edge_end_of p
+start_on : (before p : PlacedPoint) → p.on ≡ true → start before p ≡ edge_end_of p
 start_on before p on = rw on refl
 
-start_off : (before p : Point) → p.on ≡ false → start before p ≡ whole_end (curve_end_of before p)
+start_off : (before p : PlacedPoint) → p.on ≡ false → start before p ≡ whole_end (curve_end_of before p)
 start_off before p off = rw off refl
 
-curve_end_on : (n p : Point) → n.on ≡ true → whole_end (curve_end_of n p) ≡ edge_end_of n
+curve_end_on : (n p : PlacedPoint) → n.on ≡ true → whole_end (curve_end_of n p) ≡ edge_end_of n
 curve_end_on n p on =
     rw on (same_end (pos 64 *ℤ (pos 2 *ℤ n.x)) (pos 128 *ℤ n.x) (pos 64 *ℤ (pos 2 *ℤ n.y)) (pos 128 *ℤ n.y)
     (omega (arith, ints)) (omega (arith, ints)))
 
 -- the point midway between two points off the curve does not depend on their order
-curve_end_midway : (n p : Point) → n.on ≡ false → p.on ≡ false → curve_end_of n p ≡ curve_end_of p n
+curve_end_midway : (n p : PlacedPoint) → n.on ≡ false → p.on ≡ false → curve_end_of n p ≡ curve_end_of p n
 curve_end_midway n p n_off p_off =
     let x : n.x +ℤ p.x ≡ p.x +ℤ n.x = omega (arith, ints) in
     let y : n.y +ℤ p.y ≡ p.y +ℤ n.y = omega (arith, ints) in
@@ -85,7 +85,7 @@ curve_end_midway n p n_off p_off =
 leads_by : (s t u v : EdgeEnd) (es fs : List Edge) → es ≡ fs → Leads s fs t → s ≡ u → t ≡ v → Leads u es v
 leads_by s t u v es fs same leads is_s is_t = rw (same, ← is_s, ← is_t) leads
 
-of_point_by : (before p after : Point) (on next : Bool) → p.on ≡ on → after.on ≡ next
+of_point_by : (before p after : PlacedPoint) (on next : Bool) → p.on ≡ on → after.on ≡ next
     → Leads (start before p) (edges_of before p after) (start p after)
 of_point_by before p after true true is_on is_next =
     leads_by (edge_end_of p) (edge_end_of after) (start before p) (start p after) (edges_of before p after)
@@ -106,14 +106,14 @@ of_point_by before p after false false is_on is_next =
     (curved before p after is_on) (of_chords c 8) (from_start c ∙ sym (start_off before p is_on))
     (to_end c ∙ ap whole_end (curve_end_midway after p is_next is_on) ∙ sym (start_off p after is_next))
 
-along : (before p : Point) (ps : List Point) (following : Point)
+along : (before p : PlacedPoint) (ps : List PlacedPoint) (following : PlacedPoint)
     → Leads (start before p) (edges_along before p ps following) (start (last_of p ps) following)
 along before p [] following = of_point_by before p following p.on following.on refl refl
 along before p (q ∷ ps) following =
     leads_on (start before p) (start p q) (start (last_of q ps) following) (edges_of before p q)
     (edges_along p q ps following) (of_point_by before p q p.on q.on refl refl) (along p q ps following)
 
-contour_closed : (ps : List Point) → IsClosed (contour_edges ps)
+contour_closed : (ps : List PlacedPoint) → IsClosed (contour_edges ps)
 contour_closed [] = tt
 contour_closed (p ∷ []) = tt
 contour_closed (p ∷ q ∷ ps) =

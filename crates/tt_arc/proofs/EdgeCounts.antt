@@ -2,7 +2,7 @@
 use Rattle.std.proofs.Common.{◌≡◌, ℕ, ◌+◌, ◌-◌, ◌*◌, ◌<◌, ◌≤◌, Bool, true, false, if◌then◌else◌, ℤ, pos, List, [], ◌∷◌, length, map, drop, get_or, refl, sym, ap, ◌∙◌, arith, add-one, drop-cons, length-append}
 use Rattle.std.proofs.lemmas.List.{length-take, drop_all}
 use Rattle.tt_scan_edges.specs.declared.edge.Edge.{Edge}
-use Rattle.tt_arc.specs.declared.point.Point.{Point}
+use Rattle.tt_arc.specs.declared.point.PlacedPoint.{PlacedPoint}
 use Rattle.tt_arc.specs.Chords.{moved, edges_of, contour_edges}
 use Rattle.tt_arc.proofs.Few.{eight_chords}
 use Rattle.tt_arc.proofs.Walks.{edges_along, last_of, rest, rest_is, contour_whole}
@@ -17,19 +17,19 @@ by_flags true true line chords eight = refl
 by_flags true false line chords eight = refl
 by_flags false next line chords eight = eight
 
-pub point_count : (before p after : Point) → length (edges_of before p after) ≡ edge_count p.on after.on
+pub point_count : (before p after : PlacedPoint) → length (edges_of before p after) ≡ edge_count p.on after.on
 unfolding edges_of
 point_count before p after = by_flags p.on after.on _ _ (eight_chords _)
 
-pub off_count : (before p after : Point) → p.on ≡ false → length (edges_of before p after) ≡ 8
+pub off_count : (before p after : PlacedPoint) → p.on ≡ false → length (edges_of before p after) ≡ 8
 off_count before p after off = point_count before p after ∙ rw off refl
 
 -- a number that is the edge count of every such point
 pub count_is : (on next : Bool) (n : ℕ)
-    → ((before p after : Point) → p.on ≡ on → after.on ≡ next → n ≡ length (edges_of before p after))
+    → ((before p after : PlacedPoint) → p.on ≡ on → after.on ≡ next → n ≡ length (edges_of before p after))
     → n ≡ edge_count on next
 count_is on next n every =
-    let at : Bool → Point = λ b. record { x = pos 0; y = pos 0; on = b } in
+    let at : Bool → PlacedPoint = λ b. record { x = pos 0; y = pos 0; on = b } in
     every (at on) (at on) (at next) refl refl ∙ point_count (at on) (at on) (at next)
 
 -- the edges of a point and of the points after it, with one more point following
@@ -37,7 +37,7 @@ abbrev pub count_along : Bool → List Bool → Bool → ℕ
 count_along on [] following = edge_count on following
 count_along on (next ∷ nexts) following = edge_count on next + count_along next nexts following
 
-along_count : (before p : Point) (ps : List Point) (following : Point) → length (edges_along before p ps following)
+along_count : (before p : PlacedPoint) (ps : List PlacedPoint) (following : PlacedPoint) → length (edges_along before p ps following)
     ≡ count_along p.on (map (λ q. q.on) ps) following.on
 along_count before p [] following = point_count before p following
 along_count before p (q ∷ ps) following =
@@ -52,7 +52,7 @@ count_round [] = 0
 count_round (on ∷ []) = 0
 count_round (on ∷ next ∷ nexts) = count_along on (next ∷ nexts) on
 
-round_count : (ps : List Point) → length (contour_edges ps) ≡ count_round (map (λ p. p.on) ps)
+round_count : (ps : List PlacedPoint) → length (contour_edges ps) ≡ count_round (map (λ p. p.on) ps)
 round_count [] = refl
 round_count (p ∷ []) = refl
 round_count (p ∷ q ∷ ps) = ap length (sym (contour_whole p q ps)) ∙ along_count (last_of q ps) p (q ∷ ps) p

@@ -5,7 +5,7 @@ use Rattle.std.proofs.lemmas.List.{length-take}
 use Rattle.tt_scan_edges.specs.declared.edge.Edge.{Edge}
 use Rattle.tt_fit_outline.specs.Outline.{AreEnds}
 use Rattle.tt_arc.specs.declared.quadratic.Quadratic.{Quadratic}
-use Rattle.tt_arc.specs.declared.point.Point.{Point}
+use Rattle.tt_arc.specs.declared.point.PlacedPoint.{PlacedPoint}
 use Rattle.tt_arc.specs.Chords.{first_chords, edges_of, edges_at, contour_edges, contour_start, contour_at, chord_edges, moved}
 use Rattle.tt_arc.proofs.Contours.{start_within}
 
@@ -19,11 +19,11 @@ one_of true true line chords eight = omega arith
 one_of true false line chords eight = omega arith
 one_of false next line chords eight = omega (arith, eight)
 
-few_of : (before p after : Point) → length (edges_of before p after) ≤ 8
+few_of : (before p after : PlacedPoint) → length (edges_of before p after) ≤ 8
 unfolding edges_of
 few_of before p after = one_of p.on after.on _ _ (eight_chords _)
 
-few_points : (all : List Point) (k m : ℕ) → length (flat_map (edges_at all) (range_with_len k m)) ≤ 8 * m
+few_points : (all : List PlacedPoint) (k m : ℕ) → length (flat_map (edges_at all) (range_with_len k m)) ≤ 8 * m
 few_points all k zero = omega arith
 few_points all k (suc m) =
     let few : length (edges_at all k) ≤ 8 = few_of _ _ _ in
@@ -35,10 +35,10 @@ if_any : (b : Bool) (es : List Edge) (n : ℕ) → length es ≤ n → length (i
 if_any true es n few = few
 if_any false es n few = omega arith
 
-few_in_contour : (ps : List Point) → length (contour_edges ps) ≤ 8 * length ps
+few_in_contour : (ps : List PlacedPoint) → length (contour_edges ps) ≤ 8 * length ps
 few_in_contour ps = if_any (nat_lt 1 (length ps)) _ (8 * length ps) (few_points ps 0 (length ps))
 
-few_in_contours : (n : ℕ) (ends : List ℕ) (ps : List Point) → AreEnds n ends → (c m : ℕ) → c + m ≡ length ends
+few_in_contours : (n : ℕ) (ends : List ℕ) (ps : List PlacedPoint) → AreEnds n ends → (c m : ℕ) → c + m ≡ length ends
     → length (flat_map (λ c. contour_edges (contour_at ps ends c)) (range_with_len c m)) ≤ 8 *
     (n - contour_start ends c)
 few_in_contours n ends ps are c zero all = omega arith

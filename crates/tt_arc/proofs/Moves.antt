@@ -9,7 +9,7 @@ use Rattle.tt_arc.specs.declared.quadratic.Coordinates.{Coordinates}
 use Rattle.tt_arc.specs.declared.quadratic.Quadratic.{Quadratic}
 use Rattle.tt_arc.specs.declared.quadratic.CurveEnd.{CurveEnd}
 use Rattle.tt_arc.specs.declared.quadratic.EdgeEnd.{EdgeEnd}
-use Rattle.tt_arc.specs.declared.point.Point.{Point}
+use Rattle.tt_arc.specs.declared.point.PlacedPoint.{PlacedPoint}
 use Rattle.tt_arc.specs.Chords.{moved, edge_end_of, curve_end_of, quadratic_of, eighth, chord_end, edge_between, first_chords, edges_of, contour_edges, contour_start, contour_at, chord_edges, chord_contours}
 use Rattle.tt_arc.specs.Laws.{OutlineMoved, ContoursMoved, raised_edge, ContoursRaised}
 use Rattle.tt_arc.proofs.Contours.{slice_of_map}
@@ -17,7 +17,7 @@ use Rattle.tt_arc.proofs.Eighths.{by_eighths}
 use Rattle.tt_arc.proofs.Walks.{edges_along, last_of, contour_whole}
 
 -- d is in 26.6: twice d in 1/128 pixel, 128 times d in 1/8192 pixel
-abbrev point_moved : ℤ → Point → Point
+abbrev point_moved : ℤ → PlacedPoint → PlacedPoint
 point_moved d p = record { x = p.x +ℤ d; y = p.y; on = p.on }
 
 abbrev curve_end_moved : ℤ → CurveEnd → CurveEnd
@@ -35,7 +35,7 @@ edge_end_moved d s = record { x = s.x +ℤ pos 128 *ℤ d; y = s.y }
 abbrev along : ℤ → List Edge → List Edge
 along d es = moved_edges (pos 128 *ℤ d) es
 
-edge_end_is : (d : ℤ) (p : Point) → edge_end_of (point_moved d p) ≡ edge_end_moved d (edge_end_of p)
+edge_end_is : (d : ℤ) (p : PlacedPoint) → edge_end_of (point_moved d p) ≡ edge_end_moved d (edge_end_of p)
 edge_end_is d p =
     let y = pos 128 *ℤ p.y in
     let Q : ℤ → EdgeEnd = λ x. record { x = x; y = y } in
@@ -48,7 +48,7 @@ curve_end_by : (on : Bool) (d nx ny px py : ℤ)
 curve_end_by true d nx ny px py = let Q : ℤ → CurveEnd = λ x. record { x = x; y = pos 2 *ℤ ny } in ap Q (omega (arith, ints))
 curve_end_by false d nx ny px py = let Q : ℤ → CurveEnd = λ x. record { x = x; y = ny +ℤ py } in ap Q (omega (arith, ints))
 
-quadratic_is : (d : ℤ) (before p after : Point) → quadratic_of (point_moved d before) (point_moved d p) (point_moved d after)
+quadratic_is : (d : ℤ) (before p after : PlacedPoint) → quadratic_of (point_moved d before) (point_moved d p) (point_moved d after)
     ≡ quadratic_moved d (quadratic_of before p after)
 quadratic_is d before p after =
     let from : curve_end_of (point_moved d before) (point_moved d p) ≡ curve_end_moved d (curve_end_of before p) = curve_end_by before.on d
@@ -91,7 +91,7 @@ one_of E true true l line cs chords is_line are = rw is_line refl
 one_of E true false l line cs chords is_line are = refl
 one_of E false next l line cs chords is_line are = are
 
-edges_moved : (d : ℤ) (before p after : Point) → edges_of (point_moved d before) (point_moved d p) (point_moved d after)
+edges_moved : (d : ℤ) (before p after : PlacedPoint) → edges_of (point_moved d before) (point_moved d p) (point_moved d after)
     ≡ along d (edges_of before p after)
 unfolding edges_of
 edges_moved d before p after =
@@ -102,22 +102,22 @@ edges_moved d before p after =
     one_of (moved_edge (pos 128 *ℤ d)) p.on after.on _ _ _ _ line chords
 
 -- a change of each point's edges is a change of the edges of contours and outlines; P changes points, E edges
-abbrev Changes : (Point → Point) → (Edge → Edge) → Type 0
-Changes P E = (before p after : Point) → edges_of (P before) (P p) (P after) ≡ map E (edges_of before p after)
+abbrev Changes : (PlacedPoint → PlacedPoint) → (Edge → Edge) → Type 0
+Changes P E = (before p after : PlacedPoint) → edges_of (P before) (P p) (P after) ≡ map E (edges_of before p after)
 
-along_changed : (P : Point → Point) (E : Edge → Edge) → Changes P E
-    → (before p : Point) (ps : List Point) (following : Point)
+along_changed : (P : PlacedPoint → PlacedPoint) (E : Edge → Edge) → Changes P E
+    → (before p : PlacedPoint) (ps : List PlacedPoint) (following : PlacedPoint)
     → edges_along (P before) (P p) (map P ps) (P following) ≡ map E (edges_along before p ps following)
 along_changed P E each before p [] following = each before p following
 along_changed P E each before p (q ∷ ps) following =
     rw (each before p q, along_changed P E each p q ps following)
     (sym (map-append E (edges_of before p q) (edges_along p q ps following)))
 
-last_changed : (P : Point → Point) (p : Point) (ps : List Point) → last_of (P p) (map P ps) ≡ P (last_of p ps)
+last_changed : (P : PlacedPoint → PlacedPoint) (p : PlacedPoint) (ps : List PlacedPoint) → last_of (P p) (map P ps) ≡ P (last_of p ps)
 last_changed P p [] = refl
 last_changed P p (q ∷ ps) = last_changed P q ps
 
-contour_changed : (P : Point → Point) (E : Edge → Edge) → Changes P E → (ps : List Point) → contour_edges (map P ps)
+contour_changed : (P : PlacedPoint → PlacedPoint) (E : Edge → Edge) → Changes P E → (ps : List PlacedPoint) → contour_edges (map P ps)
     ≡ map E (contour_edges ps)
 contour_changed P E each [] = refl
 contour_changed P E each (p ∷ []) = refl
@@ -126,12 +126,12 @@ contour_changed P E each (p ∷ q ∷ ps) =
     let walked = rw (last_changed P q ps) at whole in
     sym walked ∙ along_changed P E each (last_of q ps) p (q ∷ ps) p ∙ ap (map E) (contour_whole p q ps)
 
-one_changed : (P : Point → Point) (E : Edge → Edge) → Changes P E → (ps : List Point) (ends : List ℕ) (c : ℕ)
+one_changed : (P : PlacedPoint → PlacedPoint) (E : Edge → Edge) → Changes P E → (ps : List PlacedPoint) (ends : List ℕ) (c : ℕ)
     → contour_edges (contour_at (map P ps) ends c) ≡ map E (contour_edges (contour_at ps ends c))
 one_changed P E each ps ends c =
     rw (slice_of_map P ps (contour_start ends c) (slice_index ends c)) (contour_changed P E each (contour_at ps ends c))
 
-outline_changed : (P : Point → Point) (E : Edge → Edge) → Changes P E → (ps : List Point) (ends cs : List ℕ)
+outline_changed : (P : PlacedPoint → PlacedPoint) (E : Edge → Edge) → Changes P E → (ps : List PlacedPoint) (ends cs : List ℕ)
     → flat_map (λ c. contour_edges (contour_at (map P ps) ends c)) cs
     ≡ map E (flat_map (λ c. contour_edges (contour_at ps ends c)) cs)
 outline_changed P E each ps ends [] = refl
@@ -141,7 +141,7 @@ outline_changed P E each ps ends (c ∷ cs) =
     (flat_map (λ c. contour_edges (contour_at ps ends c)) cs)))
 
 -- the corresponding statement for each contour
-contours_changed : (P : Point → Point) (E : Edge → Edge) → Changes P E → (ps : List Point) (ends cs : List ℕ)
+contours_changed : (P : PlacedPoint → PlacedPoint) (E : Edge → Edge) → Changes P E → (ps : List PlacedPoint) (ends cs : List ℕ)
     → map (λ c. contour_edges (contour_at (map P ps) ends c)) cs
     ≡ map (map E) (map (λ c. contour_edges (contour_at ps ends c)) cs)
 contours_changed P E each ps ends [] = refl
@@ -150,7 +150,7 @@ contours_changed P E each ps ends (c ∷ cs) =
 
 point_is : (dx dy d : ℤ) (p : ℤ × ℤ × Bool) → moved (dx +ℤ d) dy p ≡ point_moved d (moved dx dy p)
 point_is dx dy d p =
-    let Q : ℤ → Point = λ x. record { x = x; y = p.1 +ℤ dy; on = p.2 } in
+    let Q : ℤ → PlacedPoint = λ x. record { x = x; y = p.1 +ℤ dy; on = p.2 } in
     ap Q (omega (arith, ints))
 
 points_moved : (dx dy d : ℤ) (ps : List (ℤ × ℤ × Bool)) → map (moved (dx +ℤ d) dy) ps
@@ -185,7 +185,7 @@ contours_there points ends dx dy k =
 
 -- An outline with x and y exchanged moves along x if the outline moves up.
 
-abbrev exchanged : Point → Point
+abbrev exchanged : PlacedPoint → PlacedPoint
 exchanged p = record { x = p.y; y = p.x; on = p.on }
 
 abbrev curve_end_exchanged : CurveEnd → CurveEnd
@@ -225,7 +225,7 @@ edges_exchanged before p after =
     ≡ map edge_exchanged (first_chords c 8) = rw is (chords_exchanged c 8) in
     one_of edge_exchanged p.on after.on _ _ _ _ refl chords
 
-abbrev point_raised : ℤ → Point → Point
+abbrev point_raised : ℤ → PlacedPoint → PlacedPoint
 point_raised d p = record { x = p.x; y = p.y +ℤ d; on = p.on }
 
 raised_is : (d : ℤ) (es : List Edge) → map edge_exchanged (along d (map edge_exchanged es))
@@ -242,7 +242,7 @@ edges_raised d before p after =
 
 point_there : (dx dy d : ℤ) (p : ℤ × ℤ × Bool) → moved dx (dy +ℤ d) p ≡ point_raised d (moved dx dy p)
 point_there dx dy d p =
-    let Q : ℤ → Point = λ y. record { x = p.0 +ℤ dx; y = y; on = p.2 } in
+    let Q : ℤ → PlacedPoint = λ y. record { x = p.0 +ℤ dx; y = y; on = p.2 } in
     ap Q (omega (arith, ints))
 
 points_raised : (dx dy d : ℤ) (ps : List (ℤ × ℤ × Bool)) → map (moved dx (dy +ℤ d)) ps

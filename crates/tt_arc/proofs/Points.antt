@@ -7,7 +7,7 @@ use Rattle.std.proofs.lemmas.List.Folds.{Any-from_list_any, list_any-from_Any, l
 use Rattle.std.proofs.lemmas.List.FromFn.{length-range_with_len, get_or-range_with_len}
 use Rattle.tt_scan_edges.specs.declared.edge.Edge.{Edge}
 use Rattle.tt_scan_edges.specs.Winding.{is_zero, lies_on, lies_on_one, winding}
-use Rattle.tt_arc.specs.declared.point.Point.{Point}
+use Rattle.tt_arc.specs.declared.point.PlacedPoint.{PlacedPoint}
 use Rattle.tt_arc.specs.Chords.{moved, edges_at, contour_edges, contour_at, chord_edges}
 use Rattle.tt_arc.specs.Laws.{LiesOnOutline, OnByPoints, BlackByPoints}
 use Rattle.tt_arc.proofs.Walks.{of_two, of_fewer}
@@ -36,7 +36,7 @@ there_is q n i below is =
     let at : get_or (range_with_len 0 n) i 0 ≡ i = get_or-range_with_len 0 n i 0 below ∙ omega arith in
     list_any_at q (range_with_len 0 n) i 0 (omega (arith, many)) (rw at is)
 
-found_in_contour : (p : Edge → Bool) (ps : List Point) → list_any p (contour_edges ps) ≡ true → (i : ℕ) × (1 < length ps)
+found_in_contour : (p : Edge → Bool) (ps : List PlacedPoint) → list_any p (contour_edges ps) ≡ true → (i : ℕ) × (1 < length ps)
     × (i < length ps) × (list_any p (edges_at ps i) ≡ true)
 found_in_contour p ps some = elim (cases_lt 1 (length ps)) [
   | inl two ↦
@@ -49,7 +49,7 @@ found_in_contour p ps some = elim (cases_lt 1 (length ps)) [
       absurd (cc)
 ]
 
-there_is_in_contour : (p : Edge → Bool) (ps : List Point) (i : ℕ) → 1 < length ps → i < length ps
+there_is_in_contour : (p : Edge → Bool) (ps : List PlacedPoint) (i : ℕ) → 1 < length ps → i < length ps
     → list_any p (edges_at ps i) ≡ true → list_any p (contour_edges ps) ≡ true
 there_is_in_contour p ps i two below on =
     ap (list_any p) (of_two ps two) ∙ any_piece p (edges_at ps) (range_with_len 0 (length ps))

@@ -8,7 +8,7 @@ use Rattle.tt_scan_edges.proofs.Ranges.{between_turned}
 use Rattle.tt_scan_edges.proofs.Sides.{on_rising, side_reversed}
 use Rattle.tt_arc.specs.declared.quadratic.Coordinates.{Coordinates}
 use Rattle.tt_arc.specs.declared.quadratic.Quadratic.{Quadratic}
-use Rattle.tt_arc.specs.declared.point.Point.{Point}
+use Rattle.tt_arc.specs.declared.point.PlacedPoint.{PlacedPoint}
 use Rattle.tt_arc.specs.Chords.{moved, edge_end_of, curve_end_of, quadratic_of, eighth, along_y, chord_end, edge_between, first_chords, edges_of, contour_edges, contour_at, chord_edges}
 use Rattle.tt_arc.specs.Laws.{turned_right, winding_right, SidesAgree}
 use Rattle.tt_arc.proofs.Walks.{edges_along, last_of, contour_whole}
@@ -117,23 +117,23 @@ pub last_eighth : (b : Coordinates) → eighth 8 b ≡ pos 64 *ℤ b.to
 last_eighth b = omega (arith, ints)
 
 -- the height of the start of a point's edges
-abbrev height : Point → Point → ℤ
+abbrev height : PlacedPoint → PlacedPoint → ℤ
 height before p = if p.on then pos 128 *ℤ p.y else pos 64 *ℤ (curve_end_of before p).y
 
-height_on : (before p : Point) → p.on ≡ true → height before p ≡ pos 128 *ℤ p.y
+height_on : (before p : PlacedPoint) → p.on ≡ true → height before p ≡ pos 128 *ℤ p.y
 height_on before p on = rw on refl
 
-height_off : (before p : Point) → p.on ≡ false → height before p ≡ pos 64 *ℤ (curve_end_of before p).y
+height_off : (before p : PlacedPoint) → p.on ≡ false → height before p ≡ pos 64 *ℤ (curve_end_of before p).y
 height_off before p off = rw off refl
 
-curve_end_on : (n p : Point) → n.on ≡ true → (curve_end_of n p).y ≡ pos 2 *ℤ n.y
+curve_end_on : (n p : PlacedPoint) → n.on ≡ true → (curve_end_of n p).y ≡ pos 2 *ℤ n.y
 curve_end_on n p on = rw on refl
 
-curve_end_off : (n p : Point) → n.on ≡ false → (curve_end_of n p).y ≡ n.y +ℤ p.y
+curve_end_off : (n p : PlacedPoint) → n.on ≡ false → (curve_end_of n p).y ≡ n.y +ℤ p.y
 curve_end_off n p off = rw off refl
 
 -- a quadratic ends at the start of the next point's edges
-quadratic_ends : (p after : Point) (next : Bool) → p.on ≡ false → after.on ≡ next → pos 64 *ℤ (curve_end_of after p).y
+quadratic_ends : (p after : PlacedPoint) (next : Bool) → p.on ≡ false → after.on ≡ next → pos 64 *ℤ (curve_end_of after p).y
     ≡ height p after
 quadratic_ends p after true off on =
     let here = curve_end_on after p on in
@@ -145,16 +145,16 @@ quadratic_ends p after false off on =
     let other = curve_end_off p after off in
     omega (arith, ints, here, there, other)
 
-pub straight : (before p after : Point) → p.on ≡ true → after.on ≡ true → edges_of before p after ≡ edge_between (edge_end_of p)
+pub straight : (before p after : PlacedPoint) → p.on ≡ true → after.on ≡ true → edges_of before p after ≡ edge_between (edge_end_of p)
     (edge_end_of after) ∷ []
 unfolding edges_of
 straight before p after on next = rw (on, next) refl
 
-pub no_edge : (before p after : Point) → p.on ≡ true → after.on ≡ false → edges_of before p after ≡ []
+pub no_edge : (before p after : PlacedPoint) → p.on ≡ true → after.on ≡ false → edges_of before p after ≡ []
 unfolding edges_of
 no_edge before p after on next = rw (on, next) refl
 
-pub curved : (before p after : Point) → p.on ≡ false → edges_of before p after ≡ first_chords (quadratic_of before p after) 8
+pub curved : (before p after : PlacedPoint) → p.on ≡ false → edges_of before p after ≡ first_chords (quadratic_of before p after) 8
 unfolding edges_of
 curved before p after off = rw off refl
 
@@ -168,7 +168,7 @@ one_turn y a b = omega (arith, ints)
 no_turn : (y a : ℤ) → pos 0 ≡ over y a -ℤ over y a
 no_turn y a = omega (arith, ints)
 
-of_point_by : (y : ℤ) (before p after : Point) (on next : Bool) → p.on ≡ on → after.on ≡ next
+of_point_by : (y : ℤ) (before p after : PlacedPoint) (on next : Bool) → p.on ≡ on → after.on ≡ next
     → turns y (edges_of before p after) ≡ over y (height p after) -ℤ over y (height before p)
 of_point_by y before p after true true is_on is_next =
     between y (height p after) (height before p) (pos 128 *ℤ after.y) (pos 128 *ℤ p.y) (edges_of before p after)
@@ -189,11 +189,11 @@ of_point_by y before p after false next is_on is_next =
     between y (height p after) (height before p) (chord_end c 8).y (chord_end c 0).y (edges_of before p after)
     (first_chords c 8) (curved before p after is_on) (of_chords y c 8) last first
 
-of_point : (y : ℤ) (before p after : Point) → turns y (edges_of before p after) ≡ over y (height p after) -ℤ over y
+of_point : (y : ℤ) (before p after : PlacedPoint) → turns y (edges_of before p after) ≡ over y (height p after) -ℤ over y
     (height before p)
 of_point y before p after = of_point_by y before p after p.on after.on refl refl
 
-along : (y : ℤ) (before p : Point) (ps : List Point) (following : Point) → turns y (edges_along before p ps following)
+along : (y : ℤ) (before p : PlacedPoint) (ps : List PlacedPoint) (following : PlacedPoint) → turns y (edges_along before p ps following)
     ≡ over y (height (last_of p ps) following) -ℤ over y (height before p)
 along y before p [] following = of_point y before p following
 along y before p (q ∷ ps) following =
@@ -202,7 +202,7 @@ along y before p (q ∷ ps) following =
     let both = turns-append y (edges_of before p q) (edges_along p q ps following) in
     omega (arith, ints, one, more, both)
 
-round_contour : (y : ℤ) (ps : List Point) → turns y (contour_edges ps) ≡ pos 0
+round_contour : (y : ℤ) (ps : List PlacedPoint) → turns y (contour_edges ps) ≡ pos 0
 round_contour y [] = refl
 round_contour y (p ∷ []) = refl
 round_contour y (p ∷ q ∷ ps) =
@@ -210,7 +210,7 @@ round_contour y (p ∷ q ∷ ps) =
     let turn = along y (last_of q ps) p (q ∷ ps) p in
     omega (arith, ints, whole, turn)
 
-round_all : (y : ℤ) (f : ℕ → List Point) (cs : List ℕ) → turns y (flat_map (λ c. contour_edges (f c)) cs) ≡ pos 0
+round_all : (y : ℤ) (f : ℕ → List PlacedPoint) (cs : List ℕ) → turns y (flat_map (λ c. contour_edges (f c)) cs) ≡ pos 0
 round_all y f [] = refl
 round_all y f (c ∷ cs) =
     let one = round_contour y (f c) in

@@ -6,7 +6,7 @@ use Rattle.std.proofs.lemmas.List.{take_all, get_or-map}
 use Rattle.tt_scan_edges.specs.declared.edge.Edge.{Edge}
 use Rattle.tt_arc.specs.declared.quadratic.Quadratic.{Quadratic}
 use Rattle.tt_arc.specs.declared.quadratic.EdgeEnd.{EdgeEnd}
-use Rattle.tt_arc.specs.declared.point.Point.{Point}
+use Rattle.tt_arc.specs.declared.point.PlacedPoint.{PlacedPoint}
 use Rattle.tt_arc.specs.Chords.{chord_end, edge_between, first_chords, edges_of, point_at, number_before, number_after, edges_at, contour_edges}
 use Rattle.tt_arc.proofs.Eighths.{one_chord_more}
 
@@ -17,16 +17,16 @@ one_chord_pushed out old new c k from to e before is_from is_to is_e after =
     rw (after, before, is_e, is_from, is_to, one_chord_more c k, append_assoc) refl
 
 -- the edges of a point and of the points after it, with one more point before them and one following
-abbrev pub edges_along : Point → Point → List Point → Point → List Edge
+abbrev pub edges_along : PlacedPoint → PlacedPoint → List PlacedPoint → PlacedPoint → List Edge
 edges_along before p [] following = edges_of before p following
 edges_along before p (q ∷ ps) following = edges_of before p q ++ edges_along p q ps following
 
 -- the last of a point and the points after it
-abbrev pub last_of : Point → List Point → Point
+abbrev pub last_of : PlacedPoint → List PlacedPoint → PlacedPoint
 last_of p [] = p
 last_of p (q ∷ ps) = last_of q ps
 
-abbrev nowhere : Point
+abbrev nowhere : PlacedPoint
 nowhere = record { x = pos 0; y = pos 0; on = false }
 
 -- the points after the first, in the order of the code
@@ -45,12 +45,12 @@ after_last n i is = grind (arith, is)
 pub after_inner : (n i : ℕ) → i + 1 < n → number_after n i ≡ i + 1
 after_inner n i below = grind (arith, below)
 
-one_point : (ps : List Point) (k : ℕ) (before p after : Point) → before ≡ point_at ps (number_before (length ps) k) → p
+one_point : (ps : List PlacedPoint) (k : ℕ) (before p after : PlacedPoint) → before ≡ point_at ps (number_before (length ps) k) → p
     ≡ point_at ps k → after ≡ point_at ps (number_after (length ps) k) → edges_at ps k ≡ edges_of before p after
 one_point ps k before p after is_before is_p is_after = rw (is_before, is_p, is_after) refl
 
 -- the points from a number on, each with its neighbours, in the order of the code
-along_is : (all : List Point) (k : ℕ) (before p : Point) (ps : List Point) (first : Point) → before
+along_is : (all : List PlacedPoint) (k : ℕ) (before p : PlacedPoint) (ps : List PlacedPoint) (first : PlacedPoint) → before
     ≡ point_at all (number_before (length all) k) → first ≡ point_at all 0 → drop k all ≡ p ∷ ps
     → edges_along before p ps first ≡ flat_map (edges_at all) (range_with_len k (length (p ∷ ps)))
 along_is all k before p [] first is_before is_first from =
@@ -74,36 +74,36 @@ along_is all k before p (q ∷ ps) first is_before is_first from =
     let others = along_is all (k + 1) p q ps first next_before is_first next_from in
     rw (one_point all k before p q is_before here after, others) refl
 
-last_at : (p : Point) (ps : List Point) → last_of p ps ≡ point_at (p ∷ ps) (length ps)
+last_at : (p : PlacedPoint) (ps : List PlacedPoint) → last_of p ps ≡ point_at (p ∷ ps) (length ps)
 last_at p [] = refl
 last_at p (q ∷ ps) = last_at q ps
 
-pub of_two : (ps : List Point) → 1 < length ps → contour_edges ps ≡ flat_map (edges_at ps) (range_with_len 0 (length ps))
+pub of_two : (ps : List PlacedPoint) → 1 < length ps → contour_edges ps ≡ flat_map (edges_at ps) (range_with_len 0 (length ps))
 of_two ps two = rw (lt-ltb 1 (length ps) two) refl
 
-pub of_fewer : (ps : List Point) → length ps < 2 → contour_edges ps ≡ []
+pub of_fewer : (ps : List PlacedPoint) → length ps < 2 → contour_edges ps ≡ []
 of_fewer [] few = refl
 of_fewer (p ∷ []) few = refl
 of_fewer (p ∷ q ∷ ps) few = absurd (omega arith)
 
-pub contour_whole : (p q : Point) (ps : List Point) → edges_along (last_of q ps) p (q ∷ ps) p ≡ contour_edges (p ∷ q ∷ ps)
+pub contour_whole : (p q : PlacedPoint) (ps : List PlacedPoint) → edges_along (last_of q ps) p (q ∷ ps) p ≡ contour_edges (p ∷ q ∷ ps)
 contour_whole p q ps =
     let less : length (p ∷ q ∷ ps) - 1 ≡ suc (length ps) = omega arith in
     let last : last_of q ps ≡ point_at (p ∷ q ∷ ps) (number_before (length (p ∷ q ∷ ps)) 0) = rw less (last_at q ps) in
     along_is (p ∷ q ∷ ps) 0 (last_of q ps) p (q ∷ ps) p last refl refl ∙ sym (of_two (p ∷ q ∷ ps) (omega arith))
 
 -- the edges of the points from point i on
-abbrev pub edges_onward : List Point → ℕ → List Edge
+abbrev pub edges_onward : List PlacedPoint → ℕ → List Edge
 edges_onward ps i = flat_map (edges_at ps) (range_with_len i (length ps - i))
 
-pub all_onward : (ps : List Point) → 1 < length ps → edges_onward ps 0 ≡ contour_edges ps
+pub all_onward : (ps : List PlacedPoint) → 1 < length ps → edges_onward ps 0 ≡ contour_edges ps
 all_onward ps two = let whole : length ps - 0 ≡ length ps = omega arith in rw whole (sym (of_two ps two))
 
-pub none_onward : (ps : List Point) (i : ℕ) → length ps ≤ i → edges_onward ps i ≡ []
+pub none_onward : (ps : List PlacedPoint) (i : ℕ) → length ps ≤ i → edges_onward ps i ≡ []
 none_onward ps i past = let none : length ps - i ≡ 0 = omega arith in rw none refl
 
 -- one point of a contour done
-pub one_point_more : (ps : List Point) (out new : List Edge) (i : ℕ) (before p after : Point) → i < length ps → before
+pub one_point_more : (ps : List PlacedPoint) (out new : List Edge) (i : ℕ) (before p after : PlacedPoint) → i < length ps → before
     ≡ point_at ps (number_before (length ps) i) → p ≡ point_at ps i → after ≡ point_at ps (number_after (length ps) i)
     → new ≡ out ++ edges_of before p after → new ++ edges_onward ps (i + 1) ≡ out ++ edges_onward ps i
 one_point_more ps out new i before p after below is_before is_p is_after is_new =
@@ -111,6 +111,6 @@ one_point_more ps out new i before p after below is_before is_p is_after is_new 
     rw (is_new, more, ← one_point ps i before p after is_before is_p is_after, append_assoc) refl
 
 -- a point of a contour after its move
-pub point_is : {X : Type 0} (f : X → Point) (xs : List X) (i : ℕ) (d : X) → i < length xs → f (get_or xs i d)
+pub point_is : {X : Type 0} (f : X → PlacedPoint) (xs : List X) (i : ℕ) (d : X) → i < length xs → f (get_or xs i d)
     ≡ point_at (map f xs) i
 point_is f xs i d below = sym (get_or-map f xs i d nowhere below)

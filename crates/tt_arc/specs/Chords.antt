@@ -10,14 +10,14 @@ use Rattle.tt_arc.specs.declared.quadratic.Quadratic.{Quadratic}
 use Rattle.tt_arc.specs.declared.quadratic.CurveEnd.{CurveEnd}
 use Rattle.tt_arc.specs.declared.quadratic.EdgeEnd.{EdgeEnd}
 use Rattle.tt_arc.specs.declared.quadratic.Differences.{Differences}
-use Rattle.tt_arc.specs.declared.point.Point.{Point}
+use Rattle.tt_arc.specs.declared.point.PlacedPoint.{PlacedPoint}
 
 -- a point moved by dx and dy
-abbrev pub moved : ℤ → ℤ → ℤ × ℤ × Bool → Point
+abbrev pub moved : ℤ → ℤ → ℤ × ℤ × Bool → PlacedPoint
 moved dx dy p = record { x = p.0 +ℤ dx; y = p.1 +ℤ dy; on = p.2 }
 
 -- a point on the curve as an end of an edge
-abbrev pub edge_end_of : Point → EdgeEnd
+abbrev pub edge_end_of : PlacedPoint → EdgeEnd
 edge_end_of p = record { x = pos 128 *ℤ p.x; y = pos 128 *ℤ p.y }
 
 -- the straight edge from a to b
@@ -26,11 +26,11 @@ edge_between a b = record { ax = a.x; ay = a.y; bx = b.x; by = b.y }
 
 -- the end of the quadratic of a point p off the curve, towards a neighbour n. The end is n, or the point midway if n is
 -- off the curve too
-abbrev pub curve_end_of : Point → Point → CurveEnd
+abbrev pub curve_end_of : PlacedPoint → PlacedPoint → CurveEnd
 curve_end_of n p = if n.on then record { x = pos 2 *ℤ n.x; y = pos 2 *ℤ n.y } else record { x = n.x +ℤ p.x; y = n.y +ℤ p.y }
 
 -- the quadratic of a point p off the curve, between the points before and after it
-abbrev pub quadratic_of : Point → Point → Point → Quadratic
+abbrev pub quadratic_of : PlacedPoint → PlacedPoint → PlacedPoint → Quadratic
 quadratic_of before p after = record { from = curve_end_of before p; control = p; to = curve_end_of after p }
 
 -- one coordinate of a quadratic at t = k / 8, in 1/8192 pixel:
@@ -56,13 +56,13 @@ first_chords c zero = []
 first_chords c (suc k) = first_chords c k ++ edge_between (chord_end c k) (chord_end c (suc k)) ∷ []
 
 -- the edges of a point p, between the points before and after it
-unfoldable pub edges_of : Point → Point → Point → List Edge
+unfoldable pub edges_of : PlacedPoint → PlacedPoint → PlacedPoint → List Edge
 edges_of before p after =
     if p.on then (if after.on then edge_between (edge_end_of p) (edge_end_of after) ∷ [] else [])
     else first_chords (quadratic_of before p after) 8
 
 -- a point of a contour by its number; past the last point, a point at 0
-abbrev pub point_at : List Point → ℕ → Point
+abbrev pub point_at : List PlacedPoint → ℕ → PlacedPoint
 point_at ps i = get_or ps i (record { x = pos 0; y = pos 0; on = false })
 
 -- the numbers of the points before and after point i of a closed contour of n points
@@ -74,11 +74,11 @@ abbrev pub number_after : ℕ → ℕ → ℕ
 number_after n i = if nat_lt (i + 1) n then i + 1 else 0
 
 -- the edges of point i of a closed contour
-abbrev pub edges_at : List Point → ℕ → List Edge
+abbrev pub edges_at : List PlacedPoint → ℕ → List Edge
 edges_at ps i = edges_of (point_at ps (number_before (length ps) i)) (point_at ps i) (point_at ps (number_after (length ps) i))
 
 -- the edges of a closed contour, point by point; a single point has none
-abbrev pub contour_edges : List Point → List Edge
+abbrev pub contour_edges : List PlacedPoint → List Edge
 contour_edges ps = if nat_lt 1 (length ps) then flat_map (edges_at ps) (range_with_len 0 (length ps)) else []
 
 -- the start of contour c: the end of the preceding contour
@@ -87,11 +87,11 @@ contour_start ends zero = 0
 contour_start ends (suc c) = slice_index ends c
 
 -- the points of contour c
-abbrev pub contour_at : List Point → List ℕ → ℕ → List Point
+abbrev pub contour_at : List PlacedPoint → List ℕ → ℕ → List PlacedPoint
 contour_at ps ends c = slice_range ps (contour_start ends c) (slice_index ends c)
 
 -- the edges of all contours in sequence
-abbrev pub outline_edges : List Point → List ℕ → List Edge
+abbrev pub outline_edges : List PlacedPoint → List ℕ → List Edge
 outline_edges ps ends = flat_map (λ c. contour_edges (contour_at ps ends c)) (range_with_len 0 (length ends))
 
 -- the edges of an outline moved by dx and dy
@@ -104,7 +104,7 @@ chord_contours points ends dx dy =
     map (λ c. contour_edges (contour_at (map (moved dx dy) points) ends c)) (range_with_len 0 (length ends))
 
 -- a moved point within the program's range
-pub record PointFits (p : Point) : Type 0 where
+pub record PointFits (p : PlacedPoint) : Type 0 where
   pub x : unsigned_abs p.x < 2 ^ 23
   pub y : unsigned_abs p.y < 2 ^ 23
 

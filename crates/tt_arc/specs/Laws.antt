@@ -4,11 +4,11 @@ use Rattle.std.specs.List.{Any, flat_map}
 use Rattle.tt_scan.specs.Contours.{IsClosed}
 use Rattle.tt_scan_edges.specs.declared.edge.Edge.{Edge}
 use Rattle.tt_scan_edges.specs.Winding.{side, lies_on, lies_on_one, winding, is_black, moved_edges}
-use Rattle.tt_arc.specs.declared.point.Point.{Point}
+use Rattle.tt_arc.specs.declared.point.PlacedPoint.{PlacedPoint}
 use Rattle.tt_arc.specs.Chords.{moved, edges_of, edges_at, contour_at, chord_edges, chord_contours}
 
 -- contour c has two points or more, i is one of them, and (x, y) is on an edge of that point
-pub record LiesOnEdgeOf (ps : List Point) (ends : List ℕ) (x y : ℤ) (c i : ℕ) : Type 0 where
+pub record LiesOnEdgeOf (ps : List PlacedPoint) (ends : List ℕ) (x y : ℤ) (c i : ℕ) : Type 0 where
   pub contour : c < length ends
   pub two : 1 < length (contour_at ps ends c)
   pub point : i < length (contour_at ps ends c)

@@ -3,14 +3,14 @@
 ghost use Rattle.std.specs.Prelude.{◌≡◌, ◌<◌, ◌++◌, All, map, OnOk};
 ghost use Rattle.tt_arc.specs.Chords.{PointFits, IsNear, EdgeEndFits, moved, edge_end_of, number_after, edges_of, contour_edges};
 
-use crate::point::{Offset, Point, moved};
+use crate::point::{Offset, PlacedPoint, moved};
 use crate::quadratic::{EdgeEnd, edge_between, push_chords, quadratic_of};
 use std::alloc::AllocError;
 use tt_scan::EdgeList;
 
 /// A point on the curve as an end of an edge.
 #[inline(always)]
-fn edge_end_of(p: Point) -> EdgeEnd
+fn edge_end_of(p: PlacedPoint) -> EdgeEnd
     requires { PointFits p }
     ensures exact { result ≡ edge_end_of p }
     ensures valid { EdgeEndFits result }
@@ -24,7 +24,12 @@ fn edge_end_of(p: Point) -> EdgeEnd
 /// Adds the edges of a point to a list, between its neighbours `before` and `after`. Error: memory ran out.
 #[inline(always)]
 #[tactic(auto, unfolding(crate::specs::Chords::edges_of))]
-fn push_edges(list: &mut EdgeList, before: Point, p: Point, after: Point) -> Result<(), AllocError>
+fn push_edges(
+    list: &mut EdgeList,
+    before: PlacedPoint,
+    p: PlacedPoint,
+    after: PlacedPoint,
+) -> Result<(), AllocError>
     requires before { PointFits before }
     requires point { PointFits p }
     requires after { PointFits after }

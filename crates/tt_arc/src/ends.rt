@@ -3,7 +3,7 @@
 ghost use Rattle.std.specs.Prelude.{◌≡◌, ℤ, ◌*◌, ◌≤◌, length, map, IfOk};
 ghost use Rattle.tt_fit_outline.specs.Outline.{AreEnds};
 ghost use Rattle.tt_scan.specs.Contours.{contours_at, AreEnds as AreEdgeEnds};
-ghost use Rattle.tt_arc.specs.declared.point.Point.{Point};
+ghost use Rattle.tt_arc.specs.declared.point.PlacedPoint.{PlacedPoint};
 ghost use Rattle.tt_arc.specs.Chords.{moved, edges_of, contour_edges, chord_edges, chord_contours};
 
 use std::alloc::{AllocError, Global};
@@ -14,7 +14,7 @@ use tt_fit_outline::Outline;
 #[inline(always)]
 #[tactic(auto, using(crate::proofs::EdgeCounts::point_count))]
 fn edges_at_point(on: bool, next: bool) -> usize
-    ensures exact { (before p after : Point) → p.on ≡ on → after.on ≡ next → result ≡ length (edges_of before p after) }
+    ensures exact { (before p after : PlacedPoint) → p.on ≡ on → after.on ≡ next → result ≡ length (edges_of before p after) }
     ensures few { result ≤ 8 }
 {
     if on { usize::from(next) } else { 8 }

@@ -5,7 +5,7 @@ ghost use Rattle.tt_arc.specs.Chords.{moved, IsNear};
 
 /// A point of a glyph at its position, in 26.6.
 #[derive(Clone, Copy)]
-pub(crate) struct Point {
+pub(crate) struct PlacedPoint {
     pub(crate) x: i64,
     pub(crate) y: i64,
     /// Whether the point is on the curve.
@@ -23,12 +23,12 @@ pub(crate) struct Offset {
 
 /// A point of an outline (x, y, and whether it is on the curve), moved to the glyph's position.
 #[inline(always)]
-pub(crate) fn moved(point: (i32, i32, bool), by: Offset) -> Point
+pub(crate) fn moved(point: (i32, i32, bool), by: Offset) -> PlacedPoint
     requires { IsNear by.dx by.dy point }
     ensures { result ≡ moved by.dx by.dy point }
 {
     let (x, y, on) = point;
-    Point {
+    PlacedPoint {
         x: i64::from(x) + by.dx,
         y: i64::from(y) + by.dy,
         on,

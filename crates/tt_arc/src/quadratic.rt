@@ -4,7 +4,7 @@
 //! ```text
 //!            c            a, b    the ends of the quadratic (`CurveEnd`), in 1/128 pixel: the neighbours of point c,
 //!          .   .                  or midway between c and a neighbour that is off the curve too
-//!        _-------_        c       its control point, the point off the curve (`Point`), in 26.6
+//!        _-------_        c       its control point, the point off the curve (`PlacedPoint`), in 26.6
 //!      /           \      chords  eight, between the places at t = 0, 1/8, .., 1 (`EdgeEnd`), in 1/8192 pixel
 //!    a               b
 //! ```
@@ -16,7 +16,7 @@ ghost use Rattle.std.specs.Prelude.{◌≡◌, ◌^◌, ◌<◌, ◌≤◌, ◌+
 ghost use Rattle.tt_scan_edges.specs.Winding.{EdgeFits};
 ghost use Rattle.tt_arc.specs.Chords.{PointFits, CurveEndFits, QuadraticFits, CoordinatesFit, EdgeEndFits, AreDifferences, along_x, along_y, curve_end_of, quadratic_of, edge_between, first_chords};
 
-use crate::point::Point;
+use crate::point::PlacedPoint;
 use std::alloc::AllocError;
 use tt_scan::{Edge, EdgeList};
 
@@ -31,14 +31,14 @@ pub(crate) struct CurveEnd {
 #[derive(Clone, Copy)]
 pub(crate) struct Quadratic {
     pub(crate) from: CurveEnd,
-    pub(crate) control: Point,
+    pub(crate) control: PlacedPoint,
     pub(crate) to: CurveEnd,
 }
 
 /// The end of the quadratic of a point off the curve, towards a neighbour. The end is the neighbour, or the point
 /// midway if the neighbour is off the curve too.
 #[inline(always)]
-fn curve_end_of(neighbour: Point, p: Point) -> CurveEnd
+fn curve_end_of(neighbour: PlacedPoint, p: PlacedPoint) -> CurveEnd
     requires neighbour { PointFits neighbour }
     requires point { PointFits p }
     ensures exact { result ≡ curve_end_of neighbour p }
@@ -59,7 +59,7 @@ fn curve_end_of(neighbour: Point, p: Point) -> CurveEnd
 
 /// The quadratic of a point off the curve, between its neighbours.
 #[inline(always)]
-pub(crate) fn quadratic_of(before: Point, p: Point, after: Point) -> Quadratic
+pub(crate) fn quadratic_of(before: PlacedPoint, p: PlacedPoint, after: PlacedPoint) -> Quadratic
     requires before { PointFits before }
     requires point { PointFits p }
     requires after { PointFits after }

@@ -13,7 +13,9 @@ ghost use Rattle.tt_c_calls.specs.Messages.{IsTextSmall, IsTextWritten, message_
 ghost use Rattle.tt_c_calls.specs.Pictures.{IsBandDrawn, IsRoomSmall, picture_wanted};
 
 use std::alloc::Global;
-use tt_c_calls::{CAnswer, CCharacter, CFont, CGlyph, CJob, CLine, CMeasure, CPicture};
+use tt_c_calls::{
+    Band, CAnswer, CCharacter, CFont, CGlyph, CJob, CLine, CMeasure, CPicture, Texts,
+};
 
 /// `tt_c_calls::open`.
 #[unsafe(no_mangle)]
@@ -109,7 +111,11 @@ pub extern "C" fn tt_draw(
     ensures told_kept { result ≢ 0 → told.new ≡ told.old }
     ensures stands { DefectStands (IsAskedDefect job.now text.now font.now) answer.new }
 {
-    *answer = tt_c_calls::draw_band(alloc, font, text, job, 0, 4096, rows, told);
+    let whole = Band {
+        first: 0,
+        count: 4096,
+    };
+    *answer = tt_c_calls::draw_band(alloc, font, text, job, whole, rows, told);
     answer.status
 }
 
@@ -134,7 +140,8 @@ pub extern "C" fn tt_draw_band(
     ensures told_kept { result ≢ 0 → told.new ≡ told.old }
     ensures stands { DefectStands (IsAskedDefect job.now text.now font.now) answer.new }
 {
-    *answer = tt_c_calls::draw_band(alloc, font, text, job, first, count, rows, told);
+    let band = Band { first, count };
+    *answer = tt_c_calls::draw_band(alloc, font, text, job, band, rows, told);
     answer.status
 }
 
@@ -157,7 +164,8 @@ pub extern "C" fn tt_draw_lines(
     ensures drawn { length ends.now ≤ length lines.old → (used : ℕ) × DrawsLines job.now font.now texts.now ends.now rows.old rows.new lines.old lines.new used answer.new.count × EndsWith job.now font.now texts.now ends.now (length rows.old) used answer.new }
     ensures stands { LineDefectStands (IsLinesDefect job.now font.now texts.now ends.now answer.new.count) answer.new }
 {
-    *answer = tt_c_calls::draw_lines(alloc, font, texts, ends, job, keep, rows, lines).0;
+    let all = Texts { bytes: texts, ends };
+    *answer = tt_c_calls::draw_lines(alloc, font, all, job, keep, rows, lines).0;
     answer.status
 }
 

@@ -7,13 +7,13 @@ ghost use Rattle.tt_c_calls.specs.Pictures.{IsBandDrawn, IsRoomSmall, picture_wa
 
 use crate::answer::{CAnswer, answer_of};
 use crate::asked::CJob;
-use crate::pictures::{CPicture, picture_of, write_band};
+use crate::pictures::{Band, CPicture, picture_of, write_band};
 use std::alloc::Global;
 
-/// Draws a band of the picture of a text: at most `count` rows from row `first` on. `rows` gets the rows one after the
-/// other at its front, the highest first, the leftmost pixel in the highest bit, 1 for black. `told` describes the
-/// whole picture. This is the picture that `run` writes for the font, text and job, or, with `grow`, that picture
-/// enlarged so that no ink is cut. The rows before the band are made too, and discarded.
+/// Draws a band of the picture of a text. `rows` gets the rows one after the other at its front, the highest first, the
+/// leftmost pixel in the highest bit, 1 for black. `told` describes the whole picture. This is the picture that `run`
+/// writes for the font, text and job, or, with `grow`, that picture enlarged so that no ink is cut. The rows before the
+/// band are made too, and discarded.
 ///
 /// Answers: done, with the bytes and rows of the band; the font is refused, too large, or the job refused; memory was
 /// refused; the text is not UTF-8; the room is too small, with the bytes and rows needed. Unless the answer is done,
@@ -23,14 +23,13 @@ pub fn draw_band(
     font: &[u8],
     text: &[u8],
     job: &CJob,
-    first: u32,
-    count: u32,
+    band: Band,
     rows: &mut [u8],
     told: &mut CPicture,
 ) -> CAnswer
-    ensures done { result.status ≡ 0 → IsBandDrawn job.now text.now font.now first count rows.old rows.new told.new result }
+    ensures done { result.status ≡ 0 → IsBandDrawn job.now text.now font.now band.first band.count rows.old rows.new told.new result }
     ensures refused { result.status ≢ 0 → result.status ≢ 7 → TellsRefusal (picture_wanted job.now text.now font.now) result }
-    ensures small { result.status ≡ 7 → IsRoomSmall job.now text.now font.now first count rows.old result }
+    ensures small { result.status ≡ 7 → IsRoomSmall job.now text.now font.now band.first band.count rows.old result }
     ensures kept { result.status ≢ 0 → rows.new ≡ rows.old }
     ensures told_kept { result.status ≢ 0 → told.new ≡ told.old }
     ensures stands { DefectStands (IsAskedDefect job.now text.now font.now) result }
@@ -39,5 +38,5 @@ pub fn draw_band(
         Ok(picture) => picture,
         Err(fault) => return answer_of(fault),
     };
-    write_band(&mut picture, first, count, rows, told)
+    write_band(&mut picture, band.first, band.count, rows, told)
 }

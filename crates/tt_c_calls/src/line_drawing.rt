@@ -24,6 +24,14 @@ pub struct CLine {
     pub at: u64,
 }
 
+/// Lines of text one after the other in some bytes. Line i begins where the line before it ends, and ends before byte
+/// `ends[i]`.
+#[derive(Clone, Copy)]
+pub struct Texts<'a> {
+    pub bytes: &'a [u8],
+    pub ends: &'a [u64],
+}
+
 /// The answer of a call that a line stopped, by the line's own answer. The `count` lines before it were drawn in `used`
 /// bytes.
 fn stopped(answer: CAnswer, used: usize, count: usize) -> CAnswer
@@ -120,10 +128,9 @@ fn draw_by(
 }
 
 /// Draws lines one after the other, each as `draw_band` draws its whole picture. The font is opened once and its
-/// programs run once; with the way to fit `best` they run once a line. Line i begins in `texts` where the line before
-/// it ends, and ends before `ends[i]`. `rows` gets the rows of all lines one after the other, and `lines[i]` describes
-/// line i. Between lines at most `keep` bytes of glyphs are cached; with `best` none are. Beside the answer the call
-/// returns the bytes of the glyphs that are cached at its end.
+/// programs run once; with the way to fit `best` they run once a line. `rows` gets the rows of all lines one after the
+/// other, and `lines[i]` describes line i. Between lines at most `keep` bytes of glyphs are cached; with `best` none
+/// are. Beside the answer the call returns the bytes of the glyphs that are cached at its end.
 ///
 /// Answers, the first of these, where all bytes and entries after the drawn lines are unchanged:
 /// - the way to fit, the size or the margin is refused, or the font is too large or refused; no line is drawn;
@@ -138,19 +145,19 @@ fn draw_by(
 pub fn draw_lines(
     alloc: Global,
     font: &[u8],
-    texts: &[u8],
-    ends: &[u64],
+    texts: Texts<'_>,
     job: &CJob,
     keep: usize,
     rows: &mut [u8],
     lines: &mut [CLine],
 ) -> (CAnswer, usize)
-    ensures order { AnswersInOrder (lines_wanted job.now font.now) (length lines.old) (length ends.now) result.0 }
-    ensures kept { length lines.old < length ends.now → (rows.new ≡ rows.old) × (lines.new ≡ lines.old) }
-    ensures drawn { length ends.now ≤ length lines.old → (used : ℕ) × DrawsLines job.now font.now texts.now ends.now rows.old rows.new lines.old lines.new used result.0.count × EndsWith job.now font.now texts.now ends.now (length rows.old) used result.0 }
-    ensures stands { LineDefectStands (IsLinesDefect job.now font.now texts.now ends.now result.0.count) result.0 }
+    ensures order { AnswersInOrder (lines_wanted job.now font.now) (length lines.old) (length texts.ends.now) result.0 }
+    ensures kept { length lines.old < length texts.ends.now → (rows.new ≡ rows.old) × (lines.new ≡ lines.old) }
+    ensures drawn { length texts.ends.now ≤ length lines.old → (used : ℕ) × DrawsLines job.now font.now texts.bytes.now texts.ends.now rows.old rows.new lines.old lines.new used result.0.count × EndsWith job.now font.now texts.bytes.now texts.ends.now (length rows.old) used result.0 }
+    ensures stands { LineDefectStands (IsLinesDefect job.now font.now texts.bytes.now texts.ends.now result.0.count) result.0 }
     ensures cached { result.1 ≤ keep }
 {
+    let ends = texts.ends;
     let fit = match fit_of(job.fit) {
         Ok(fit) => fit,
         Err(fault) => return (answer_of(fault), 0),
@@ -170,6 +177,6 @@ pub fn draw_lines(
         Ok(strike) => strike,
         Err(fault) => return (answer_of(CallFault::from(fault)), 0),
     };
-    let answer = draw_by(&mut strike, job, texts, ends, rows, lines);
+    let answer = draw_by(&mut strike, job, texts.bytes, ends, rows, lines);
     (answer, strike.kept_bytes())
 }

@@ -34,6 +34,13 @@ pub struct CPicture {
     pub unfitted: u64,
 }
 
+/// The rows of a picture that a caller wants: at most `count` from row `first` on.
+#[derive(Clone, Copy)]
+pub struct Band {
+    pub first: u32,
+    pub count: u32,
+}
+
 /// A picture's description for C.
 pub(crate) fn told_of(picture: &Picture) -> CPicture
     ensures { result ≡ picture_told picture.now }

@@ -28,7 +28,7 @@ use tt_core::{Fault, Why};
 use tt_exec_points::Points;
 use tt_exec_stack::Stack;
 use tt_exec_state::Size;
-use tt_exec_step::{Callers, Code, Frame, Kind, MachineState};
+use tt_exec_step::{CallFrame, Callers, Code, Kind, MachineState};
 use tt_points::Zones;
 use tt_state::{Point, ScanControl};
 
@@ -77,7 +77,7 @@ fn begin_again<'a>(
     ensures exact { OnOk result (state_of state.new ≡ fresh (record (parts_of parts.now) { zones = zones_view zones })) }
     ensures rest { copies.new.rest ≡ copies.old.rest }
 {
-    state.begin(Frame::idle().code, Kind::Glyph);
+    state.begin(CallFrame::idle().code, Kind::Glyph);
     copies.copy_table(&mut state.functions, &parts.functions)?;
     copies.copy_table(&mut state.instructions, &parts.instructions)?;
     copies.copy_values(&mut state.storage, &parts.storage)?;
@@ -102,7 +102,7 @@ impl<'a> Machine<'a> {
     {
         let state = MachineState {
             stack: Stack::new(alloc)?,
-            frame: Frame::idle(),
+            frame: CallFrame::idle(),
             callers: Callers::new(alloc),
             functions: parts.functions,
             instructions: parts.instructions,

@@ -209,7 +209,8 @@ impl Points {
         Ok(())
     }
 
-    /// IUP[a], 0x30 along y and 0x31 along x: -> nothing. Error: ValueRange.
+    /// IUP[a], 0x30 along y and 0x31 along x: -> nothing. Error: ValueRange. A method (for the prover): only methods of
+    /// `Points` open the zones, so `on_points` needs no fact of them.
     pub(crate) fn iup(&mut self, axis: Axis) -> Result<(), Why>
         ensures { Gives (λ u. self.new) result (interpolation.iup axis self.old) }
     {

@@ -17,7 +17,7 @@ fn dup(stack: &mut Stack) -> Result<(), Why>
     stack.push(i64::from(e))
 }
 
-/// POP[], 0x21: e -> nothing.
+/// POP[], 0x21: e -> nothing. A function (for the prover): it shows that `Stack::pop` does what the definition says.
 fn pop(stack: &mut Stack) -> Result<(), Why>
     ensures { Does (is.pop stack.old) stack.new result }
 {

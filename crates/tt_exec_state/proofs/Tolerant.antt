@@ -26,7 +26,7 @@ use Rattle.tt_exec_state.specs.StoredValues.{place, value_at, value_set}
 use Rattle.tt_exec_state.specs.Vectors as vectors
 use Rattle.tt_exec_state.specs.Vectors.{vector_given, vector_pushed}
 use Rattle.tt_exec_state.specs.declared.instruction.Query.TheVariants as query
-use Rattle.tt_exec_state.specs.declared.instruction.Setting.TheVariants as setting
+use Rattle.tt_exec_state.specs.declared.instruction.GraphicsSetting.TheVariants as setting
 use Rattle.tt_exec_state.specs.declared.instruction.StoredValues.TheVariants as value
 use Rattle.tt_exec_state.specs.declared.instruction.Vectors.TheVariants as op
 

@@ -21,7 +21,7 @@ use Rattle.tt_points_zones.specs.ZoneNumbers.{zone_of}
 use Rattle.tt_exec_state.specs.Size.{in_pixels}
 use Rattle.tt_exec_state.specs.Vectors.{along, part, vector_given, vector_pushed, vectors_accessed}
 use Rattle.tt_exec_state.specs.WithAll.{beside, VectorsStay, SettingsStay, IsAxis, AreOnAxes, AxesAreKept}
-use Rattle.tt_exec_state.specs.declared.instruction.Setting.TheVariants as setting
+use Rattle.tt_exec_state.specs.declared.instruction.GraphicsSetting.TheVariants as setting
 use Rattle.tt_exec_state.specs.declared.instruction.Vectors.TheVariants as op
 
 -- a pair that is an axis, in 2.14, is its unit vector

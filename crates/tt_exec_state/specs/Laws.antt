@@ -12,13 +12,13 @@ use Rattle.tt_exec_state.specs.Settings as settings
 use Rattle.tt_exec_state.specs.StoredValues as values
 use Rattle.tt_exec_state.specs.Vectors as vectors
 use Rattle.tt_exec_state.specs.declared.instruction.Query.{Query}
-use Rattle.tt_exec_state.specs.declared.instruction.Setting.{Setting}
+use Rattle.tt_exec_state.specs.declared.instruction.GraphicsSetting.{GraphicsSetting}
 use Rattle.tt_exec_state.specs.declared.instruction.StoredValues.{StoredValues}
 use Rattle.tt_exec_state.specs.declared.instruction.Vectors.{Vectors}
 
 -- a tolerant machine has the result of a strict one, or another in place of a refusal that tolerance lifts
 abbrev pub SettingIsLoosened : Type 0
-SettingIsLoosened = (o : Setting) (ppem : ℕ) (scale : Scale) (s : List ℤ) (g : GraphicsState)
+SettingIsLoosened = (o : GraphicsSetting) (ppem : ℕ) (scale : Scale) (s : List ℤ) (g : GraphicsState)
     → Loosens (settings.state_set o ppem scale tolerance.Strict s g) (settings.state_set o ppem scale tolerance.Tolerant s g)
 
 abbrev pub ValuesAreLoosened : Type 0
@@ -28,7 +28,7 @@ ValuesAreLoosened = (o : StoredValues) (scale : Scale) (s storage cvt : List ℤ
 
 -- with the values that it takes, an instruction does not fail with too few, and a missing thing is passed over
 abbrev pub SettingIsTotal : Type 0
-SettingIsTotal = (o : Setting) (ppem : ℕ) (scale : Scale) (s : List ℤ) (g : GraphicsState) → settings.takes o ≤ length s
+SettingIsTotal = (o : GraphicsSetting) (ppem : ℕ) (scale : Scale) (s : List ℤ) (g : GraphicsState) → settings.takes o ≤ length s
     → IsTotal (settings.state_set o ppem scale tolerance.Tolerant s g)
 
 abbrev pub ValuesAreTotal : Type 0
@@ -45,7 +45,7 @@ QueriesAreTotal = (o : Query) (ppem : ℕ) (s : List ℤ) → queries.takes o �
 
 -- with fewer values it is refused
 abbrev pub SettingIsShort : Type 0
-SettingIsShort = (o : Setting) (ppem : ℕ) (scale : Scale) (t : Tolerance) (s : List ℤ) (g : GraphicsState)
+SettingIsShort = (o : GraphicsSetting) (ppem : ℕ) (scale : Scale) (t : Tolerance) (s : List ℤ) (g : GraphicsState)
     → length s < settings.takes o → settings.state_set o ppem scale t s g ≡ Err why.StackShort
 
 abbrev pub ValuesAreShort : Type 0

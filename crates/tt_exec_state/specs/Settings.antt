@@ -13,8 +13,8 @@ use Rattle.tt_state.specs.GraphicsState.{default_state}
 use Rattle.tt_state.specs.Rounding.{super_state, super_state_at_45}
 use Rattle.tt_state.specs.Tolerance.{unless_missing}
 use Rattle.tt_points_zones.specs.ZoneNumbers.{zone_of}
-use Rattle.tt_exec_state.specs.declared.instruction.Setting.{Setting}
-use Rattle.tt_exec_state.specs.declared.instruction.Setting.TheVariants as op
+use Rattle.tt_exec_state.specs.declared.instruction.GraphicsSetting.{GraphicsSetting}
+use Rattle.tt_exec_state.specs.declared.instruction.GraphicsSetting.TheVariants as op
 use Rattle.tt_exec_state.specs.Size.{in_pixels}
 
 -- the state after a setting, or its refusal
@@ -125,7 +125,7 @@ abbrev pub ignored : List ℤ → Result (List ℤ) Why
 ignored (n ∷ s) = Ok s
 ignored [] = Err why.StackShort
 
-abbrev pub state_set : Setting → ℕ → Scale → Tolerance → List ℤ → GraphicsState → Set
+abbrev pub state_set : GraphicsSetting → ℕ → Scale → Tolerance → List ℤ → GraphicsState → Set
 state_set op.Srp0 ppem scale t s g = srp0 s g
 state_set op.Srp1 ppem scale t s g = srp1 s g
 state_set op.Srp2 ppem scale t s g = srp2 s g
@@ -149,7 +149,7 @@ state_set op.Scantype ppem scale t s g = scantype s g
 state_set op.Ignored ppem scale t s g = ignored s >>= λ t. Ok (t, g)
 
 -- the count of values that an instruction takes
-abbrev pub takes : Setting → ℕ
+abbrev pub takes : GraphicsSetting → ℕ
 takes op.Srp0 = 1
 takes op.Srp1 = 1
 takes op.Srp2 = 1

@@ -9,7 +9,7 @@ use Rattle.tt_state.specs.declared.vector.Vector.TheVariants as vector
 use Rattle.tt_points_zones.specs.WithAll.{with_all, Stays}
 use Rattle.tt_exec_state.specs.Settings.{state_set}
 use Rattle.tt_exec_state.specs.Vectors.{vectors_accessed}
-use Rattle.tt_exec_state.specs.declared.instruction.Setting.{Setting}
+use Rattle.tt_exec_state.specs.declared.instruction.GraphicsSetting.{GraphicsSetting}
 use Rattle.tt_exec_state.specs.declared.instruction.Vectors.{Vectors}
 
 -- the graphics state beside the stack
@@ -21,7 +21,7 @@ VectorsStay = (o : Vectors) (s : List ℤ) (g : GraphicsState)
     → Stays beside (vectors_accessed o s g) (vectors_accessed o s (with_all g))
 
 abbrev pub SettingsStay : Type 0
-SettingsStay = (o : Setting) (ppem : ℕ) (scale : Scale) (t : Tolerance) (s : List ℤ) (g : GraphicsState)
+SettingsStay = (o : GraphicsSetting) (ppem : ℕ) (scale : Scale) (t : Tolerance) (s : List ℤ) (g : GraphicsState)
     → Stays beside (state_set o ppem scale t s g) (state_set o ppem scale t s (with_all g))
 
 abbrev pub IsAxis : Vector → Type 0

@@ -5,7 +5,7 @@ use tt_state::{Axis, Round};
 
 /// The instructions that set a variable of the graphics state.
 #[derive(Clone, Copy)]
-pub enum Setting {
+pub enum GraphicsSetting {
     Srp0,
     Srp1,
     Srp2,

@@ -11,7 +11,7 @@ mod size;
 mod stored_values;
 mod vectors;
 
-pub use instruction::{Query, Setting, StoredValues, Vectors};
+pub use instruction::{GraphicsSetting, Query, StoredValues, Vectors};
 pub use queries::answer;
 pub use settings::set_state;
 pub use size::Size;

@@ -5,7 +5,7 @@ ghost use Rattle.std.specs.Prelude.{◌≡◌};
 ghost use Rattle.tt_exec_stack.specs.Stack.{Does};
 ghost use Rattle.tt_exec_state.specs.Settings as is;
 
-use crate::instruction::Setting;
+use crate::instruction::GraphicsSetting;
 use crate::size::Size;
 use tt_core::Why;
 use tt_exec_stack::Stack;
@@ -232,7 +232,8 @@ fn scantype(stack: &mut Stack, graphics: &mut GraphicsState) -> Result<(), Why>
     Ok(())
 }
 
-/// SANGW[], 0x7E; AA[], 0x7F; DEBUG[], 0x4F: n -> nothing.
+/// SANGW[], 0x7E; AA[], 0x7F; DEBUG[], 0x4F: n -> nothing. A function (for the prover): it shows that `Stack::pop` does
+/// what the definition says.
 fn ignored(stack: &mut Stack) -> Result<(), Why>
     ensures { Does (is.ignored stack.old) stack.new result }
 {
@@ -244,7 +245,7 @@ fn ignored(stack: &mut Stack) -> Result<(), Why>
 /// SDS; ZoneRange of a strict machine; ValueRange of SSW.
 #[inline(always)]
 pub fn set_state(
-    op: Setting,
+    op: GraphicsSetting,
     size: Size,
     tolerance: Tolerance,
     stack: &mut Stack,
@@ -254,32 +255,32 @@ pub fn set_state(
         Does given (stack.new, graphics.new) result }
 {
     match op {
-        Setting::Srp0 => srp0(stack, graphics),
-        Setting::Srp1 => srp1(stack, graphics),
-        Setting::Srp2 => srp2(stack, graphics),
-        Setting::Szp0 => szp0(tolerance, stack, graphics),
-        Setting::Szp1 => szp1(tolerance, stack, graphics),
-        Setting::Szp2 => szp2(tolerance, stack, graphics),
-        Setting::Szps => szps(tolerance, stack, graphics),
-        Setting::Sloop => sloop(stack, graphics),
-        Setting::RoundTo(round) => {
+        GraphicsSetting::Srp0 => srp0(stack, graphics),
+        GraphicsSetting::Srp1 => srp1(stack, graphics),
+        GraphicsSetting::Srp2 => srp2(stack, graphics),
+        GraphicsSetting::Szp0 => szp0(tolerance, stack, graphics),
+        GraphicsSetting::Szp1 => szp1(tolerance, stack, graphics),
+        GraphicsSetting::Szp2 => szp2(tolerance, stack, graphics),
+        GraphicsSetting::Szps => szps(tolerance, stack, graphics),
+        GraphicsSetting::Sloop => sloop(stack, graphics),
+        GraphicsSetting::RoundTo(round) => {
             round_to(round, graphics);
             Ok(())
         }
-        Setting::Sround => sround(stack, graphics),
-        Setting::S45round => s45round(stack, graphics),
-        Setting::Smd => smd(stack, graphics),
-        Setting::Scvtci => scvtci(stack, graphics),
-        Setting::Sswci => sswci(stack, graphics),
-        Setting::Ssw => ssw(size, stack, graphics),
-        Setting::Flip(on) => {
+        GraphicsSetting::Sround => sround(stack, graphics),
+        GraphicsSetting::S45round => s45round(stack, graphics),
+        GraphicsSetting::Smd => smd(stack, graphics),
+        GraphicsSetting::Scvtci => scvtci(stack, graphics),
+        GraphicsSetting::Sswci => sswci(stack, graphics),
+        GraphicsSetting::Ssw => ssw(size, stack, graphics),
+        GraphicsSetting::Flip(on) => {
             flip(on, graphics);
             Ok(())
         }
-        Setting::Sdb => sdb(stack, graphics),
-        Setting::Sds => sds(stack, graphics),
-        Setting::Scanctrl => scanctrl(size, stack, graphics),
-        Setting::Scantype => scantype(stack, graphics),
-        Setting::Ignored => ignored(stack),
+        GraphicsSetting::Sdb => sdb(stack, graphics),
+        GraphicsSetting::Sds => sds(stack, graphics),
+        GraphicsSetting::Scanctrl => scanctrl(size, stack, graphics),
+        GraphicsSetting::Scantype => scantype(stack, graphics),
+        GraphicsSetting::Ignored => ignored(stack),
     }
 }

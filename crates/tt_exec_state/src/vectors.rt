@@ -108,14 +108,14 @@ fn push_vector(vector: &Vector, stack: &mut Stack) -> Result<(), Why>
     stack.push(i64::from(vector.y()))
 }
 
-/// GPV[], 0x0C: -> the projection vector.
+/// GPV[], 0x0C: -> the projection vector. A function (for the prover): it shows that the graphics state is unchanged.
 fn gpv(stack: &mut Stack, graphics: &GraphicsState) -> Result<(), Why>
     ensures { Does (is.gpv stack.old graphics.now) (stack.new, graphics.now) result }
 {
     push_vector(&graphics.proj, stack)
 }
 
-/// GFV[], 0x0D: -> the freedom vector.
+/// GFV[], 0x0D: -> the freedom vector. A function (for the prover): it shows that the graphics state is unchanged.
 fn gfv(stack: &mut Stack, graphics: &GraphicsState) -> Result<(), Why>
     ensures { Does (is.gfv stack.old graphics.now) (stack.new, graphics.now) result }
 {

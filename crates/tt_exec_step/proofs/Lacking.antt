@@ -32,7 +32,7 @@ use Rattle.tt_exec_step.specs.Flags.{instctrl}
 use Rattle.tt_exec_step.specs.Flow.{goes_to, skipped, jumped, if_from, jmpr, jrot, jrof}
 use Rattle.tt_exec_step.specs.Functions.{may_define, defined, fdef_from, idef_from, endf, called, call, instruction_called, called_often, loopcall}
 use Rattle.tt_exec_step.specs.Loosened.{tolerant_in, LacksNothing, TolerantRunsLackNothing}
-use Rattle.tt_exec_step.specs.MachineState.{Body, Frame, MachineState}
+use Rattle.tt_exec_step.specs.MachineState.{Body, CallFrame, MachineState}
 use Rattle.tt_exec_step.specs.Numbered.{is_number, is_opcode, function_at}
 use Rattle.tt_exec_step.specs.OnPoints.{left_by, on_points}
 use Rattle.tt_exec_step.specs.Opcodes.{operation_of}
@@ -218,7 +218,7 @@ idef_from_lacks (n ∷ s) at m there =
     (definition_end m.frame.code.bytes at) (definition_end_read m.frame.code.bytes at)) refl
 idef_from_lacks [] at m there = absurd (omega arith)
 
-endf_lacks : (callers : List Frame) (at : ℕ) (m : MachineState) → LacksNothing (endf callers at (tolerant_in m))
+endf_lacks : (callers : List CallFrame) (at : ℕ) (m : MachineState) → LacksNothing (endf callers at (tolerant_in m))
 endf_lacks [] at m = refl
 endf_lacks (caller ∷ callers) at m = either (m.frame.left == 0) _ _ refl refl
 

@@ -27,7 +27,7 @@ use Rattle.tt_exec_stack.specs.declared.instruction.Arithmetic.{Arithmetic}
 use Rattle.tt_exec_stack.specs.declared.instruction.Logic.{Logic}
 use Rattle.tt_exec_stack.specs.declared.instruction.Managing.{Managing}
 use Rattle.tt_exec_state.specs.declared.instruction.Query.{Query}
-use Rattle.tt_exec_state.specs.declared.instruction.Setting.{Setting}
+use Rattle.tt_exec_state.specs.declared.instruction.GraphicsSetting.{GraphicsSetting}
 use Rattle.tt_exec_state.specs.declared.instruction.StoredValues.{StoredValues}
 use Rattle.tt_exec_state.specs.declared.instruction.Vectors.{Vectors}
 use Rattle.tt_exec_stack.specs.Pushing.{pushed_bytes, pushed_words}
@@ -41,7 +41,7 @@ use Rattle.tt_exec_step.specs.Flags.{flagged, instctrl}
 use Rattle.tt_exec_step.specs.Flow.{goes_to, skipped, jumped, if_from, jmpr, jrot, jrof}
 use Rattle.tt_exec_step.specs.Functions.{may_define, has_no_name, with_definition, defined, fdef_from, idef_from, endf, called, call, instruction_called, called_often, loopcall}
 use Rattle.tt_exec_step.specs.Loosened.{strict_in, tolerant_in, RunLoosens, RunsLoosen}
-use Rattle.tt_exec_step.specs.MachineState.{Body, Frame, MachineState, fault_in}
+use Rattle.tt_exec_step.specs.MachineState.{Body, CallFrame, MachineState, fault_in}
 use Rattle.tt_exec_step.specs.Numbered.{is_number, is_opcode, function_at}
 use Rattle.tt_exec_step.specs.OnPoints.{left_by, on_points}
 use Rattle.tt_exec_step.specs.Opcodes.{operation_of}
@@ -242,7 +242,7 @@ idef_from_loosens stays (n ∷ s) at m =
     (refused m at why.BadArgument))
 idef_from_loosens stays [] at m = short m at _
 
-endf_loosens : (callers : List Frame) (at : ℕ) (m : MachineState)
+endf_loosens : (callers : List CallFrame) (at : ℕ) (m : MachineState)
     → RunLoosens (endf callers at (strict_in m)) (endf callers at (tolerant_in m))
 endf_loosens [] at m = λ other. refl
 endf_loosens (caller ∷ callers) at m = either (m.frame.left == 0) _ _ _ _ (refl, refl) (refl, refl)
@@ -321,7 +321,7 @@ vectors_loosen k o at m =
     (λ s. operate (op.access_vectors o) at (filled_with s m))
     (λ less. rw (k.vectors_short o m.stack m.graphics less) refl) (graphics_loosen at m given given (same given))
 
-settings_loosen : Families → (o : Setting) (at : ℕ) (m : MachineState) → OperationLoosens (op.set_state o) at m
+settings_loosen : Families → (o : GraphicsSetting) (at : ℕ) (m : MachineState) → OperationLoosens (op.set_state o) at m
 settings_loosen k o at m =
     filling k.stays (settings.takes o) m.stack m at (operate (op.set_state o) at (strict_in m))
     (λ s. operate (op.set_state o) at (filled_with s m))

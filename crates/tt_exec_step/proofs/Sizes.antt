@@ -29,7 +29,7 @@ use Rattle.tt_core.specs.Limits.{call_limit}
 use Rattle.tt_exec_step.specs.Flags.{flagged, instctrl}
 use Rattle.tt_exec_step.specs.Flow.{goes_to, skipped, jumped, if_from, jmpr, jrot, jrof}
 use Rattle.tt_exec_step.specs.Functions.{may_define, has_no_name, with_definition, defined, fdef_from, idef_from, endf, called, call, instruction_called, called_often, loopcall}
-use Rattle.tt_exec_step.specs.MachineState.{Body, Frame, MachineState}
+use Rattle.tt_exec_step.specs.MachineState.{Body, CallFrame, MachineState}
 use Rattle.tt_exec_step.specs.OnPoints.{left_by, on_points}
 use Rattle.tt_exec_step.specs.Numbered.{is_number, is_opcode, function_at}
 use Rattle.tt_exec_step.specs.Opcodes.{operation_of}
@@ -176,7 +176,7 @@ idef_from_kept (n ∷ s) at m =
     (defined_kept at (definition.Instruction (unsigned_abs n)) (record m { stack = s }) (definition_end m.frame.code.bytes at)) tt
 idef_from_kept [] at m = tt
 
-endf_kept : (callers : List Frame) (at : ℕ) (m : MachineState) → Keeps m (endf callers at m)
+endf_kept : (callers : List CallFrame) (at : ℕ) (m : MachineState) → Keeps m (endf callers at m)
 endf_kept [] at m = tt
 endf_kept (caller ∷ callers) at m = either (Keeps m) (m.frame.left == 0) _ _ (same m) (same m)
 

@@ -29,7 +29,7 @@ use Rattle.tt_exec_state.specs.WithAll as of_settings
 use Rattle.tt_exec_step.specs.Flags.{flagged, instctrl}
 use Rattle.tt_exec_step.specs.Flow.{goes_to, skipped, jumped, if_from, jmpr, jrot, jrof}
 use Rattle.tt_exec_step.specs.Functions.{may_define, has_no_name, with_definition, defined, fdef_from, idef_from, endf, called, call, instruction_called, called_often, loopcall}
-use Rattle.tt_exec_step.specs.MachineState.{Body, Frame, MachineState, fault_in}
+use Rattle.tt_exec_step.specs.MachineState.{Body, CallFrame, MachineState, fault_in}
 use Rattle.tt_exec_step.specs.Numbered.{is_number, is_opcode, function_at}
 use Rattle.tt_exec_step.specs.OnPoints.{left_by, on_points}
 use Rattle.tt_exec_step.specs.Opcodes.{operation_of}
@@ -166,7 +166,7 @@ idef_from_stays (n ∷ s) at m =
     (refused m at why.BadArgument)
 idef_from_stays [] at m = λ other. refl
 
-endf_stays : (callers : List Frame) (at : ℕ) (m : MachineState) → RunStays (endf callers at m) (endf callers at (with_all_in m))
+endf_stays : (callers : List CallFrame) (at : ℕ) (m : MachineState) → RunStays (endf callers at m) (endf callers at (with_all_in m))
 endf_stays [] at m = λ other. refl
 endf_stays (caller ∷ callers) at m = either (m.frame.left == 0) _ _ _ _ refl refl
 

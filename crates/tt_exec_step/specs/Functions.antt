@@ -11,11 +11,11 @@ use Rattle.tt_exec_step.specs.declared.program.Definition.{Definition}
 use Rattle.tt_exec_step.specs.declared.program.Definition.TheVariants as definition
 use Rattle.tt_core.specs.Limits.{call_limit}
 use Rattle.tt_exec_step.specs.Flow.{goes_to}
-use Rattle.tt_exec_step.specs.MachineState.{Body, Frame, MachineState, fault_in}
+use Rattle.tt_exec_step.specs.MachineState.{Body, CallFrame, MachineState, fault_in}
 use Rattle.tt_exec_step.specs.Numbered.{is_number, is_opcode, function_at, with_function}
 
 -- only the font program and the control value program define functions and instructions, outside calls (profile)
-abbrev pub may_define : Kind → List Frame → Bool
+abbrev pub may_define : Kind → List CallFrame → Bool
 may_define kind.Font [] = true
 may_define kind.ControlValue [] = true
 may_define _ _ = false
@@ -62,7 +62,7 @@ idef at m =
     if may_define m.kind m.callers then idef_from m.stack at m else Err (fault_in m.frame at why.DefinitionPlace)
 
 -- ENDF begins the next round of a LOOPCALL, or continues after the call
-abbrev pub endf : List Frame → ℕ → MachineState → Result MachineState Fault
+abbrev pub endf : List CallFrame → ℕ → MachineState → Result MachineState Fault
 endf [] at m = Err (fault_in m.frame at why.DefinitionPlace)
 endf (caller ∷ callers) at m =
     if m.frame.left == 0 then Ok (record m { frame = caller; callers = callers })

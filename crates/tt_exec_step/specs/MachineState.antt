@@ -21,7 +21,7 @@ pub record Body : Type 0 where
 
 -- an open call, or the running program: the place of its next instruction, the place where it began, and the count of
 -- repeats to come
-pub record Frame : Type 0 where
+pub record CallFrame : Type 0 where
   pub code : Code
   pub place : ℕ
   pub start : ℕ
@@ -31,8 +31,8 @@ pub record Frame : Type 0 where
 -- instructions by opcode.
 pub record MachineState : Type 0 where
   pub stack : List ℤ
-  pub frame : Frame
-  pub callers : List Frame
+  pub frame : CallFrame
+  pub callers : List CallFrame
   pub functions : List (ℕ × Body)
   pub instructions : List (ℕ × Body)
   pub storage : List ℤ
@@ -47,11 +47,11 @@ pub record MachineState : Type 0 where
   pub kind : Kind
 
 -- a fault at a place, named by the table of the program with the instruction, and the offset there
-abbrev pub fault_in : Frame → ℕ → Why → Fault
+abbrev pub fault_in : CallFrame → ℕ → Why → Fault
 fault_in frame at why = fault_at frame.code.table (frame.code.base + at) why
 
 -- the start of a program
-abbrev pub start_of : Code → Frame
+abbrev pub start_of : Code → CallFrame
 start_of p = record { code = p; place = 0; start = 0; left = 0 }
 
 -- before the first run

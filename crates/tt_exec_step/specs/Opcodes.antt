@@ -8,7 +8,7 @@ use Rattle.tt_exec_stack.specs.declared.instruction.Logic.TheVariants as logic
 use Rattle.tt_exec_stack.specs.declared.instruction.Managing.TheVariants as managing
 use Rattle.tt_exec_state.specs.declared.instruction.StoredValues.TheVariants as places
 use Rattle.tt_exec_state.specs.declared.instruction.Query.TheVariants as query
-use Rattle.tt_exec_state.specs.declared.instruction.Setting.TheVariants as setting
+use Rattle.tt_exec_state.specs.declared.instruction.GraphicsSetting.TheVariants as setting
 use Rattle.tt_exec_state.specs.declared.instruction.Vectors.TheVariants as vectors
 use Rattle.tt_code.specs.Decoding.{takes_data}
 use Rattle.tt_points.specs.Distances.{keeping}

@@ -6,7 +6,7 @@ use Rattle.tt_exec_stack.specs.declared.instruction.Logic.{Logic}
 use Rattle.tt_exec_stack.specs.declared.instruction.Managing.{Managing}
 use Rattle.tt_exec_state.specs.declared.instruction.StoredValues.{StoredValues}
 use Rattle.tt_exec_state.specs.declared.instruction.Query.{Query}
-use Rattle.tt_exec_state.specs.declared.instruction.Setting.{Setting}
+use Rattle.tt_exec_state.specs.declared.instruction.GraphicsSetting.{GraphicsSetting}
 use Rattle.tt_exec_state.specs.declared.instruction.Vectors.{Vectors}
 use Rattle.tt_exec_points.specs.declared.instruction.PointInstruction.{PointInstruction}
 use Rattle.tt_exec_stack.specs.Arithmetic as arithmetic
@@ -20,7 +20,7 @@ use Rattle.tt_exec_points.specs.Instruction as points
 
 pub data Operation : Type 0 where
   access_vectors : Vectors → Operation
-  set_state : Setting → Operation
+  set_state : GraphicsSetting → Operation
   manage : Managing → Operation
   evaluate : Logic → Operation
   compute : Arithmetic → Operation

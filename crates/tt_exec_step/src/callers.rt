@@ -4,7 +4,7 @@ ghost use Rattle.std.specs.Prelude.{◌≡◌, ◌<◌, ◌≤◌, ◌==◌, [],
 ghost use Rattle.tt_core.specs.Limits.{call_limit};
 ghost use Rattle.tt_exec_step.specs.Views.{frame_of};
 
-use crate::program::Frame;
+use crate::program::CallFrame;
 use smallvec::SmallVec;
 use std::alloc::Global;
 use std::marker::Model;
@@ -14,16 +14,16 @@ use tt_core::CALL_LIMIT;
 /// innermost first.
 #[derive(Drop)]
 pub struct Callers<'a> {
-    frames: SmallVec<Frame<'a>, CALL_LIMIT>,
+    frames: SmallVec<CallFrame<'a>, CALL_LIMIT>,
 }
 
 impl<'a> Model for Callers<'a> {
     ghost use Rattle.std.specs.Prelude.{◌≡◌, ◌≤◌, List, length, map, reverse};
     ghost use Rattle.tt_core.specs.Limits.{call_limit};
-    ghost use Rattle.tt_exec_step.specs.MachineState.{Frame};
+    ghost use Rattle.tt_exec_step.specs.MachineState.{CallFrame};
     ghost use Rattle.tt_exec_step.specs.Views.{frame_of};
 
-    ghost Value = { List Frame };
+    ghost Value = { List CallFrame };
 
     ghost view = { λ c. reverse (map frame_of c.frames.items) };
 
@@ -55,14 +55,14 @@ impl<'a> Callers<'a> {
     }
 
     /// Takes the innermost frame.
-    pub(crate) fn pop(&mut self) -> Option<Frame<'a>>
+    pub(crate) fn pop(&mut self) -> Option<CallFrame<'a>>
         ensures { MatchOption result (self.old ≡ []) (λ f. self.old ≡ frame_of f ∷ self.new) }
     {
         self.frames.pop()
     }
 
     /// Adds a frame. There has to be room.
-    pub(crate) fn push(&mut self, frame: Frame<'a>)
+    pub(crate) fn push(&mut self, frame: CallFrame<'a>)
         requires { length self.old < call_limit }
         ensures { self.new ≡ frame_of frame.entry ∷ self.old }
     {

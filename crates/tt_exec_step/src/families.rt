@@ -15,7 +15,7 @@ use tt_exec_stack::{
     Arithmetic, Logic, Managing, compute, evaluate, manage, push_bytes, push_words,
 };
 use tt_exec_state::{
-    Query, Setting, StoredValues, Vectors, access_values, access_vectors, answer, set_state,
+    GraphicsSetting, Query, StoredValues, Vectors, access_values, access_vectors, answer, set_state,
 };
 
 /// The outcome of an instruction, from its result.
@@ -52,7 +52,7 @@ impl MachineState<'_> {
     }
 
     #[inline(always)]
-    pub(crate) fn set_state(&mut self, op: Setting, at: usize) -> Outcome
+    pub(crate) fn set_state(&mut self, op: GraphicsSetting, at: usize) -> Outcome
         requires { at ≤ length self.old.frame.code.bytes.now }
         ensures exact { let given = is.operate (operation.set_state op) at (state_of self.old) in
             ComesTo given at (state_of self.new) result }

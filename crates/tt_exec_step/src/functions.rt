@@ -11,7 +11,7 @@ ghost use Rattle.std.specs.Prelude.{Some};
 
 use crate::machine_state::{Kind, MachineState};
 use crate::outcome::Outcome;
-use crate::program::{Body, Definition, Frame};
+use crate::program::{Body, CallFrame, Definition};
 use std::alloc::AllocError;
 use tt_code::skip_def;
 use tt_core::{CALL_LIMIT, Why};
@@ -142,7 +142,7 @@ impl<'a> MachineState<'a> {
             return Outcome::Refused(Why::CallDepth);
         }
         self.callers.push(self.frame);
-        self.frame = Frame {
+        self.frame = CallFrame {
             code: body.code,
             place: body.start,
             start: body.start,

@@ -34,4 +34,4 @@ pub use callers::Callers;
 pub use function_table::Functions;
 pub use machine_state::{Kind, MachineState};
 pub use outcome::Outcome;
-pub use program::{Body, Code, Frame};
+pub use program::{Body, CallFrame, Code};

@@ -7,7 +7,7 @@ ghost use Rattle.tt_exec_step.specs.Views.{code_of};
 
 use crate::callers::Callers;
 use crate::function_table::Functions;
-use crate::program::{Code, Frame};
+use crate::program::{CallFrame, Code};
 use tt_exec_points::Points;
 use tt_exec_stack::Stack;
 use tt_exec_state::Size;
@@ -28,7 +28,7 @@ pub enum Kind {
 pub struct MachineState<'a> {
     pub stack: Stack,
     /// The innermost open call, or the running program.
-    pub frame: Frame<'a>,
+    pub frame: CallFrame<'a>,
     /// The frames that wait for it.
     pub callers: Callers<'a>,
     pub functions: Functions<'a>,
@@ -52,7 +52,7 @@ impl<'a> MachineState<'a> {
     {
         self.stack.clear();
         self.callers.clear();
-        self.frame = Frame::of(code);
+        self.frame = CallFrame::of(code);
         self.kind = kind;
     }
 }

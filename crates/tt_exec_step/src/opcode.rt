@@ -13,7 +13,7 @@ use crate::outcome::Outcome;
 use tt_core::Why;
 use tt_exec_points::PointInstruction;
 use tt_exec_stack::{Arithmetic, Logic, Managing};
-use tt_exec_state::{Query, Setting, StoredValues, Vectors};
+use tt_exec_state::{GraphicsSetting, Query, StoredValues, Vectors};
 use tt_points::Keeping;
 use tt_points::measuring::Position;
 use tt_points_loops::deltas::DeltaRange;
@@ -57,7 +57,7 @@ impl MachineState<'_> {
     }
 
     /// DEBUG[], 0x4F; S45ROUND[], 0x77. Error: OffProfile without the whole instruction set.
-    fn set_beyond(&mut self, op: Setting, at: usize) -> Outcome
+    fn set_beyond(&mut self, op: GraphicsSetting, at: usize) -> Outcome
         requires { at < length self.old.frame.code.bytes.now }
         ensures exact { let given = is.operate (operation.beyond (operation.set_state op)) at (state_of self.old) in
             ComesTo given at (state_of self.new) result }
@@ -97,8 +97,8 @@ impl MachineState<'_> {
             0x09 => self.on_lines(PointInstruction::Sfvtl { turned: true }, at),
             0x0F => self.on_lines(PointInstruction::Isect, at),
             0x27 => self.on_lines(PointInstruction::Alignpts, at),
-            0x4F => self.set_beyond(Setting::Ignored, at),
-            0x77 => self.set_beyond(Setting::S45round, at),
+            0x4F => self.set_beyond(GraphicsSetting::Ignored, at),
+            0x77 => self.set_beyond(GraphicsSetting::S45round, at),
             0x86 => self.on_lines(PointInstruction::Sdpvtl { turned: false }, at),
             0x87 => self.on_lines(PointInstruction::Sdpvtl { turned: true }, at),
             0x89 => self.define_instruction(at),
@@ -125,22 +125,22 @@ impl MachineState<'_> {
             0x0C => self.access_vectors(Vectors::Gpv, at),
             0x0D => self.access_vectors(Vectors::Gfv, at),
             0x0E => self.access_vectors(Vectors::Sfvtpv, at),
-            0x10 => self.set_state(Setting::Srp0, at),
-            0x11 => self.set_state(Setting::Srp1, at),
-            0x12 => self.set_state(Setting::Srp2, at),
-            0x13 => self.set_state(Setting::Szp0, at),
-            0x14 => self.set_state(Setting::Szp1, at),
-            0x15 => self.set_state(Setting::Szp2, at),
-            0x16 => self.set_state(Setting::Szps, at),
-            0x17 => self.set_state(Setting::Sloop, at),
-            0x18 => self.set_state(Setting::RoundTo(Round::Grid), at),
-            0x19 => self.set_state(Setting::RoundTo(Round::Half), at),
-            0x1A => self.set_state(Setting::Smd, at),
+            0x10 => self.set_state(GraphicsSetting::Srp0, at),
+            0x11 => self.set_state(GraphicsSetting::Srp1, at),
+            0x12 => self.set_state(GraphicsSetting::Srp2, at),
+            0x13 => self.set_state(GraphicsSetting::Szp0, at),
+            0x14 => self.set_state(GraphicsSetting::Szp1, at),
+            0x15 => self.set_state(GraphicsSetting::Szp2, at),
+            0x16 => self.set_state(GraphicsSetting::Szps, at),
+            0x17 => self.set_state(GraphicsSetting::Sloop, at),
+            0x18 => self.set_state(GraphicsSetting::RoundTo(Round::Grid), at),
+            0x19 => self.set_state(GraphicsSetting::RoundTo(Round::Half), at),
+            0x1A => self.set_state(GraphicsSetting::Smd, at),
             0x1B => self.else_from(at),
             0x1C => self.jmpr(at),
-            0x1D => self.set_state(Setting::Scvtci, at),
-            0x1E => self.set_state(Setting::Sswci, at),
-            0x1F => self.set_state(Setting::Ssw, at),
+            0x1D => self.set_state(GraphicsSetting::Scvtci, at),
+            0x1E => self.set_state(GraphicsSetting::Sswci, at),
+            0x1F => self.set_state(GraphicsSetting::Ssw, at),
             _ => self.operate_apart(op, at),
         }
     }
@@ -180,7 +180,7 @@ impl MachineState<'_> {
             0x3A => self.on_points(PointInstruction::Msirp { set_rp0: false }, at),
             0x3B => self.on_points(PointInstruction::Msirp { set_rp0: true }, at),
             0x3C => self.on_points(PointInstruction::Alignrp, at),
-            0x3D => self.set_state(Setting::RoundTo(Round::Double), at),
+            0x3D => self.set_state(GraphicsSetting::RoundTo(Round::Double), at),
             0x3E => self.on_points(PointInstruction::Miap { round: false }, at),
             0x3F => self.on_points(PointInstruction::Miap { round: true }, at),
             _ => self.operate_apart(op, at),
@@ -206,8 +206,8 @@ impl MachineState<'_> {
             0x4A => self.on_points(PointInstruction::Md(Position::Original), at),
             0x4B => self.answer(Query::Mppem, at),
             0x4C => self.answer(Query::Mps, at),
-            0x4D => self.set_state(Setting::Flip(true), at),
-            0x4E => self.set_state(Setting::Flip(false), at),
+            0x4D => self.set_state(GraphicsSetting::Flip(true), at),
+            0x4E => self.set_state(GraphicsSetting::Flip(false), at),
             0x50 => self.evaluate(Logic::Lt, at),
             0x51 => self.evaluate(Logic::Lteq, at),
             0x52 => self.evaluate(Logic::Gt, at),
@@ -222,8 +222,8 @@ impl MachineState<'_> {
             0x5B => self.evaluate(Logic::Or, at),
             0x5C => self.evaluate(Logic::Not, at),
             0x5D => self.on_points(PointInstruction::Deltap(DeltaRange::First), at),
-            0x5E => self.set_state(Setting::Sdb, at),
-            0x5F => self.set_state(Setting::Sds, at),
+            0x5E => self.set_state(GraphicsSetting::Sdb, at),
+            0x5F => self.set_state(GraphicsSetting::Sds, at),
             _ => self.operate_apart(op, at),
         }
     }
@@ -258,14 +258,14 @@ impl MachineState<'_> {
             0x73 => self.on_points(PointInstruction::Deltac(DeltaRange::First), at),
             0x74 => self.on_points(PointInstruction::Deltac(DeltaRange::Second), at),
             0x75 => self.on_points(PointInstruction::Deltac(DeltaRange::Third), at),
-            0x76 => self.set_state(Setting::Sround, at),
+            0x76 => self.set_state(GraphicsSetting::Sround, at),
             0x78 => self.jrot(at),
             0x79 => self.jrof(at),
-            0x7A => self.set_state(Setting::RoundTo(Round::Off), at),
-            0x7C => self.set_state(Setting::RoundTo(Round::Up), at),
-            0x7D => self.set_state(Setting::RoundTo(Round::Down), at),
-            0x7E => self.set_state(Setting::Ignored, at),
-            0x7F => self.set_state(Setting::Ignored, at),
+            0x7A => self.set_state(GraphicsSetting::RoundTo(Round::Off), at),
+            0x7C => self.set_state(GraphicsSetting::RoundTo(Round::Up), at),
+            0x7D => self.set_state(GraphicsSetting::RoundTo(Round::Down), at),
+            0x7E => self.set_state(GraphicsSetting::Ignored, at),
+            0x7F => self.set_state(GraphicsSetting::Ignored, at),
             _ => self.operate_apart(op, at),
         }
     }
@@ -281,12 +281,12 @@ impl MachineState<'_> {
             0x80 => self.on_points(PointInstruction::Flippt, at),
             0x81 => self.on_points(PointInstruction::Fliprgon, at),
             0x82 => self.on_points(PointInstruction::Fliprgoff, at),
-            0x85 => self.set_state(Setting::Scanctrl, at),
+            0x85 => self.set_state(GraphicsSetting::Scanctrl, at),
             0x88 => self.answer(Query::Getinfo, at),
             0x8A => self.manage(Managing::Roll, at),
             0x8B => self.compute(Arithmetic::Max, at),
             0x8C => self.compute(Arithmetic::Min, at),
-            0x8D => self.set_state(Setting::Scantype, at),
+            0x8D => self.set_state(GraphicsSetting::Scantype, at),
             0x8E => self.instctrl(at),
             _ => self.operate_apart(op, at),
         }

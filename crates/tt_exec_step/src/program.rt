@@ -34,7 +34,7 @@ pub(crate) enum Definition {
 /// A running program or call: its program, the place of the next instruction, the place where it began, and the count
 /// of repeats to come.
 #[derive(Clone, Copy)]
-pub struct Frame<'a> {
+pub struct CallFrame<'a> {
     pub code: Code<'a>,
     pub place: usize,
     pub start: usize,
@@ -43,15 +43,15 @@ pub struct Frame<'a> {
     pub ghost start_within: { start ≤ length code.bytes.now },
 }
 
-impl<'a> Frame<'a> {
+impl<'a> CallFrame<'a> {
     ghost use Rattle.tt_exec_step.specs.MachineState.{no_code, start_of};
     ghost use Rattle.tt_exec_step.specs.Views.{frame_of, code_of};
 
     /// The start of a program.
-    pub(crate) fn of(code: Code<'a>) -> Frame<'a>
+    pub(crate) fn of(code: Code<'a>) -> CallFrame<'a>
         ensures { frame_of result ≡ start_of (code_of code.entry) }
     {
-        Frame {
+        CallFrame {
             code,
             place: 0,
             start: 0,
@@ -60,10 +60,10 @@ impl<'a> Frame<'a> {
     }
 
     /// The frame before the first run.
-    pub fn idle() -> Frame<'a>
+    pub fn idle() -> CallFrame<'a>
         ensures { frame_of result ≡ start_of no_code }
     {
-        Frame::of(Code {
+        CallFrame::of(Code {
             table: *b"none",
             base: 0,
             bytes: &[],
@@ -71,8 +71,8 @@ impl<'a> Frame<'a> {
     }
 }
 
-impl Default for Frame<'_> {
+impl Default for CallFrame<'_> {
     fn default() -> Self {
-        Frame::idle()
+        CallFrame::idle()
     }
 }

@@ -10,7 +10,7 @@ use Rattle.tt_core.specs.Numbers.{unsigned_at}
 use Rattle.tt_core.specs.Outcomes.{◌>>=◌}
 use Rattle.tt_glyf.specs.declared.raw.Record.{Record}
 use Rattle.tt_glyf.specs.Bytes.{GlyphBytes, Listing, byte_in, word_in, signed_in, slice_in, glyph_fault}
-use Rattle.tt_glyf.specs.Composite.{Arguments, Transform, Program, signed8, argument_at, arguments_at, one_scale, identity, two_scales_at, two_by_two_at, transform_at, asks_scaled_offset, unscaled, known_glyph, record_at, records_from, records_of, has_program, program_of, composite_of}
+use Rattle.tt_glyf.specs.Composite.{ArgumentPair, Transform, Program, signed8, argument_at, arguments_at, one_scale, identity, two_scales_at, two_by_two_at, transform_at, asks_scaled_offset, unscaled, known_glyph, record_at, records_from, records_of, has_program, program_of, composite_of}
 use Rattle.tt_glyf.specs.Format.{argument_size, transform_size, record_size, more_components, arg_1_and_2_are_words, args_are_xy_values, we_have_a_scale, we_have_an_x_and_y_scale, we_have_a_two_by_two, has}
 use Rattle.tt_glyf.specs.Defects.{IsCut, IsBadRecord, IsRecordsDefect, IsProgramDefect, IsCompositeDefect}
 use Rattle.tt_glyf.specs.Meaning.{written_argument, written_transform, record_of, written_component_flags, written_component, record_end}
@@ -123,7 +123,7 @@ IsBadBy glyphs g at flags f =
     ⊎ ((glyphs ≤ written_component g.bytes at) × (f ≡ glyph_fault g at why.ComponentGlyph))
     ⊎ ((asks_scaled_offset (record_by g at flags) ≡ true) × (f ≡ glyph_fault g at why.ScaledOffset))
 
-scaled-by : (g : GlyphBytes) (at flags number glyph : ℕ) (args : Arguments) (t : Transform) (f : Fault) → glyph ≡ number
+scaled-by : (g : GlyphBytes) (at flags number glyph : ℕ) (args : ArgumentPair) (t : Transform) (f : Fault) → glyph ≡ number
     → number ≡ written_component g.bytes at → args ≡ written_arguments g.bytes flags (at + 4)
     → t ≡ written_transform g.bytes flags (at + 4 + 2 * argument_size flags)
     → unscaled g at (record_of (g.start + at) flags glyph args.arg1 args.arg2 t) ≡ Err f

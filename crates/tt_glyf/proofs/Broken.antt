@@ -10,7 +10,7 @@ use Rattle.tt_core.specs.Limits.{point_limit}
 use Rattle.tt_core.specs.Numbers.{unsigned_at, signed16}
 use Rattle.tt_core.specs.Outcomes.{◌>>=◌}
 use Rattle.tt_glyf.specs.Bytes.{GlyphBytes, Listing, byte_in, word_in, signed_in, slice_in, glyph_fault, short, after}
-use Rattle.tt_glyf.specs.Coordinates.{Axis, Coordinate, Delta, x_axis, y_axis, origin, short_delta, delta_at, summed, is_coordinate, within_words, coordinate_at, coordinates_from}
+use Rattle.tt_glyf.specs.Coordinates.{AxisFlags, Coordinate, Delta, x_axis, y_axis, origin, short_delta, delta_at, summed, is_coordinate, within_words, coordinate_at, coordinates_from}
 use Rattle.tt_glyf.specs.Defects.{IsCut, IsFallingEnd, IsManyPoints, written_points, IsBadRun, IsFlagDefect, IsCoordinateDefect, IsSimpleDefect}
 use Rattle.tt_glyf.specs.Flags.{Run, run_within, run_at, flags_from}
 use Rattle.tt_glyf.specs.Format.{has, repeat_flag, end_place, size_place}
@@ -185,14 +185,14 @@ delta-goes-on bytes at true same = omega arith
 delta-goes-on bytes at false true = omega arith
 delta-goes-on bytes at false false = omega arith
 
-deltas-go-on : (bytes : List ℕ) (a : Axis) (flags : List ℕ) (at : ℕ) → at ≤ deltas_end bytes a flags at
+deltas-go-on : (bytes : List ℕ) (a : AxisFlags) (flags : List ℕ) (at : ℕ) → at ≤ deltas_end bytes a flags at
 deltas-go-on bytes a [] at = omega arith
 deltas-go-on bytes a (flag ∷ flags) at =
     let first = delta-goes-on bytes at (has flag a.short) (has flag a.same) in
     let others = deltas-go-on bytes a flags (written_delta bytes a flag at).next in
     omega arith
 
-delta-broke : (g : GlyphBytes) (a : Axis) (flag at : ℕ) (f : Fault) → delta_at g a flag at ≡ Err f
+delta-broke : (g : GlyphBytes) (a : AxisFlags) (flag at : ℕ) (f : Fault) → delta_at g a flag at ≡ Err f
     → IsCut g (written_delta g.bytes a flag at).next f
 unfolding delta_at
 delta-broke g a flag at f was = delta-broke-cases g at (has flag a.short) (has flag a.same) f was
@@ -207,12 +207,12 @@ leaves-more from by ds leaves =
     let below = leaves.1 in
     (suc leaves.0, omega arith, rw (add-one (suc leaves.0)) h)
 
-abbrev AreSumsBad : GlyphBytes → Axis → List ℕ → Coordinate → Fault → Type 0
+abbrev AreSumsBad : GlyphBytes → AxisFlags → List ℕ → Coordinate → Fault → Type 0
 AreSumsBad g a flags before f =
     IsCut g (deltas_end g.bytes a flags before.next) f
     ⊎ (LeavesFrom before.value (deltas g.bytes a flags before.next) × (f ≡ glyph_fault g 0 why.CoordRange))
 
-sums-more : (g : GlyphBytes) (a : Axis) (flag : ℕ) (flags : List ℕ) (before c : Coordinate) (f : Fault)
+sums-more : (g : GlyphBytes) (a : AxisFlags) (flag : ℕ) (flags : List ℕ) (before c : Coordinate) (f : Fault)
     → c ≡ summed before (written_delta g.bytes a flag before.next) → AreSumsBad g a flags c f
     → AreSumsBad g a (flag ∷ flags) before f
 sums-more g a flag flags before c f is bad =
@@ -227,7 +227,7 @@ sums-more g a flag flags before c f is bad =
     ]
 
 -- the coordinate of one point
-coordinate-broke : (g : GlyphBytes) (a : Axis) (flag : ℕ) (flags : List ℕ) (before : Coordinate) (f : Fault)
+coordinate-broke : (g : GlyphBytes) (a : AxisFlags) (flag : ℕ) (flags : List ℕ) (before : Coordinate) (f : Fault)
     → before.next ≤ length g.bytes → coordinate_at g a flag before ≡ Err f → AreSumsBad g a (flag ∷ flags) before f
 unfolding coordinate_at within_words
 coordinate-broke g a flag flags before f le was = elim (was-err (delta_at g a flag before.next) _ f was) [
@@ -244,7 +244,7 @@ coordinate-broke g a flag flags before f le was = elim (was-err (delta_at g a fl
       inr ((0, omega arith, leaves), p.1)
 ]
 
-pub sums-broke : (g : GlyphBytes) (a : Axis) (flags : List ℕ) (before : Coordinate) (f : Fault)
+pub sums-broke : (g : GlyphBytes) (a : AxisFlags) (flags : List ℕ) (before : Coordinate) (f : Fault)
     → before.next ≤ length g.bytes → coordinates_from g a flags before ≡ Err f → AreSumsBad g a flags before f
 unfolding coordinates_from
 sums-broke g a [] before f le was = absurd cc

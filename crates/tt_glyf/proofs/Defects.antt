@@ -11,7 +11,7 @@ use Rattle.tt_core.specs.Outcomes.{◌>>=◌}
 use Rattle.tt_glyf.specs.Bytes.{GlyphBytes, stretch_at, signed_in, short}
 use Rattle.tt_glyf.specs.Composite.{composite_of}
 use Rattle.tt_glyf.specs.Defects.{IsCut, IsBadGlyph, HasBytes, IsGlyphDefect}
-use Rattle.tt_glyf.specs.GlyphData.{Header, header_of, described, glyph_in, glyph_data_of}
+use Rattle.tt_glyf.specs.GlyphData.{GlyphHeader, header_of, described, glyph_in, glyph_data_of}
 use Rattle.tt_glyf.specs.Loca.{Glyf, loca_tag, entry_place, glyph_offset, has_no_bytes, is_out_of_range, bytes_between, glyph_bytes_of, IsRangeDefect}
 use Rattle.tt_glyf.specs.Meaning.{glyph_bytes_at, contour_count, written_x_min}
 use Rattle.tt_glyf.specs.Raw.{Raw, empty}
@@ -24,7 +24,7 @@ use Rattle.tt_glyf.proofs.Whole.{simple-whole, composite-whole}
 
 -- the header
 header-broke-cases : (g : GlyphBytes) (shorter : Bool) (f : Fault) → nat_lt (length g.bytes) 10 ≡ shorter
-    → ◌≡◌ {A = Result Header Fault} (if shorter then Err (short g)
+    → ◌≡◌ {A = Result GlyphHeader Fault} (if shorter then Err (short g)
     else (signed_in g 0 >>= λ contours. signed_in g 2 >>= λ x_min. Ok (record { contours = contours; x_min = x_min })))
     (Err f) → IsCut g 10 f
 header-broke-cases g true f is was = (grind (arith, nat_tests), cc)

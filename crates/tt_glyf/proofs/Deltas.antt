@@ -5,7 +5,7 @@ use Rattle.tt_core.specs.Chains.{came-through, passed-else}
 use Rattle.tt_core.specs.Numbers.{unsigned_at, signed16}
 use Rattle.tt_core.specs.Outcomes.{◌>>=◌}
 use Rattle.tt_glyf.specs.Bytes.{GlyphBytes, Listing, byte_in, signed_in}
-use Rattle.tt_glyf.specs.Coordinates.{Axis, Delta, Coordinate, delta_at, summed, is_coordinate, within_words, coordinate_at, coordinates_from, short_delta}
+use Rattle.tt_glyf.specs.Coordinates.{AxisFlags, Delta, Coordinate, delta_at, summed, is_coordinate, within_words, coordinate_at, coordinates_from, short_delta}
 use Rattle.tt_glyf.specs.Format.{has}
 use Rattle.tt_glyf.specs.Meaning.{written_delta, deltas, deltas_end, AreSums}
 use Rattle.tt_glyf.proofs.Chains.{came-after}
@@ -37,18 +37,18 @@ delta-cases g at false false d le was =
     let is : ◌≡◌ {A = Delta} (record { by = through.value; next = at + 2 }) d = cc through.rest in
     rw (← is) (record { is = rw (← value) refl; room = word.room })
 
-pub delta-was : (g : GlyphBytes) (a : Axis) (flag at : ℕ) (d : Delta) → at ≤ length g.bytes → delta_at g a flag at ≡ Ok d
+pub delta-was : (g : GlyphBytes) (a : AxisFlags) (flag at : ℕ) (d : Delta) → at ≤ length g.bytes → delta_at g a flag at ≡ Ok d
     → IsField g d.next d (written_delta g.bytes a flag at)
 unfolding delta_at
 delta-was g a flag at d le was = delta-cases g at (has flag a.short) (has flag a.same) d le was
 
 -- a coordinate that was read is the preceding one plus the delta, and fits
-pub record IsNext (g : GlyphBytes) (a : Axis) (flag : ℕ) (before c : Coordinate) : Type 0 where
+pub record IsNext (g : GlyphBytes) (a : AxisFlags) (flag : ℕ) (before c : Coordinate) : Type 0 where
   pub is : c ≡ summed before (written_delta g.bytes a flag before.next)
   pub fits : is_coordinate c.value ≡ true
   pub room : c.next ≤ length g.bytes
 
-pub coordinate-was : (g : GlyphBytes) (a : Axis) (flag : ℕ) (before c : Coordinate) → before.next ≤ length g.bytes
+pub coordinate-was : (g : GlyphBytes) (a : AxisFlags) (flag : ℕ) (before c : Coordinate) → before.next ≤ length g.bytes
     → coordinate_at g a flag before ≡ Ok c → IsNext g a flag before c
 unfolding coordinate_at within_words
 coordinate-was g a flag before c le was =
@@ -59,7 +59,7 @@ coordinate-was g a flag before c le was =
     rw (← p.1) (record { is = ap (summed before) d.is; fits = p.0; room = d.room })
 
 -- the coordinates read along an axis
-pub record AreRead (bytes : List ℕ) (a : Axis) (flags : List ℕ) (before : Coordinate) (read : Listing ℤ) : Type 0 where
+pub record AreRead (bytes : List ℕ) (a : AxisFlags) (flags : List ℕ) (before : Coordinate) (read : Listing ℤ) : Type 0 where
   pub many : length read.items ≡ length flags
   pub next : read.next ≡ deltas_end bytes a flags before.next
   pub sums : AreSums before.value read.items (deltas bytes a flags before.next)
@@ -85,7 +85,7 @@ fit-at from by ds n (suc i) first fit below =
     let h = rw (add-one i) at (fit i (omega arith)) in
     rw (add-one (suc i)) h
 
-read-more : (bytes : List ℕ) (a : Axis) (flag : ℕ) (flags : List ℕ) (before c : Coordinate) (rest read : Listing ℤ)
+read-more : (bytes : List ℕ) (a : AxisFlags) (flag : ℕ) (flags : List ℕ) (before c : Coordinate) (rest read : Listing ℤ)
     → c ≡ summed before (written_delta bytes a flag before.next) → is_coordinate c.value ≡ true
     → AreRead bytes a flags c rest → read ≡ record { items = (c.value ∷ []) ++ rest.items; next = rest.next }
     → AreRead bytes a (flag ∷ flags) before read
@@ -100,7 +100,7 @@ read-more bytes a flag flags before c rest read is fits are whole =
       room = more.room;
     })
 
-pub coordinates-were : (g : GlyphBytes) (a : Axis) (flags : List ℕ) (before : Coordinate) (read : Listing ℤ)
+pub coordinates-were : (g : GlyphBytes) (a : AxisFlags) (flags : List ℕ) (before : Coordinate) (read : Listing ℤ)
     → before.next ≤ length g.bytes → coordinates_from g a flags before ≡ Ok read → AreRead g.bytes a flags before read
 unfolding coordinates_from
 coordinates-were g a [] before read le was =

@@ -12,9 +12,9 @@ use Rattle.tt_glyf.specs.declared.raw.RawPoint.{RawPoint}
 use Rattle.tt_glyf.specs.declared.raw.Record.{Record}
 use Rattle.tt_glyf.specs.Bytes.{GlyphBytes, stretch_at, Listing, word_in, signed_in, slice_in, short}
 use Rattle.tt_glyf.specs.Composite.{Program, records_of, has_program, program_of, composite_of}
-use Rattle.tt_glyf.specs.GlyphData.{Header, header_of, described, glyph_in, glyph_data_of}
+use Rattle.tt_glyf.specs.GlyphData.{GlyphHeader, header_of, described, glyph_in, glyph_data_of}
 use Rattle.tt_glyf.specs.Loca.{Glyf, glyph_offset, has_no_bytes, is_out_of_range, bytes_between, glyph_bytes_of}
-use Rattle.tt_glyf.specs.Meaning.{IfEmpty, HasNoOutline, IfSimple, IfComposite, glyph_bytes_at, IsProgram, HasProgram, contour_count, written_x_min, written_size, flags_place, records_end, AreEnds, AreWords, ArePoints, AreComponents, AreRecords, AreCompositeWords}
+use Rattle.tt_glyf.specs.Meaning.{IfEmpty, HasNoOutline, IfSimple, IfComposite, glyph_bytes_at, IsProgram, HasProgram, contour_count, written_x_min, written_size, flags_place, records_end, AreEnds, AreWords, ArePoints, AreComponents, AreRecords, AreCompositeWords, IsAsWritten}
 use Rattle.tt_glyf.specs.Format.{size_place}
 use Rattle.tt_glyf.specs.Raw.{SimpleGlyph, CompositeGlyph, Raw, empty, simple, composite}
 use Rattle.tt_glyf.specs.Simple.{ends_of, points_within, points_of, simple_of}
@@ -255,10 +255,10 @@ described-cases glyphs g contours false false d header count sign is was =
     rw read.2 whole
 
 -- the header in the bytes
-abbrev pub written_header : List ℕ → Header
+abbrev pub written_header : List ℕ → GlyphHeader
 written_header bytes = record { contours = contour_count bytes; x_min = written_x_min bytes }
 
-header-cases : (g : GlyphBytes) (h : Header) (cut : Bool) → nat_lt (length g.bytes) 10 ≡ cut
+header-cases : (g : GlyphBytes) (h : GlyphHeader) (cut : Bool) → nat_lt (length g.bytes) 10 ≡ cut
     → (if cut then Err (short g) else (signed_in g 0 >>= λ contours. signed_in g 2
     >>= λ x_min. Ok (record { contours = contours; x_min = x_min }))) ≡ Ok h → IsField g 10 h (written_header g.bytes)
 header-cases g h true is was = absurd cc
@@ -267,10 +267,10 @@ header-cases g h false is was =
     let by_x_min = came-through (signed_in g 2) _ h by_contours.rest in
     let contours = (signed-was g 0 by_contours.value by_contours.first).is in
     let x_min = (signed-was g 2 by_x_min.value by_x_min.first).is in
-    let e : ◌≡◌ {A = Header} (record { contours = by_contours.value; x_min = by_x_min.value }) h = cc by_x_min.rest in
+    let e : ◌≡◌ {A = GlyphHeader} (record { contours = by_contours.value; x_min = by_x_min.value }) h = cc by_x_min.rest in
     rw (← e) (record { is = rw (← contours, ← x_min) refl; room = grind (arith, nat_tests) })
 
-pub header-was : (g : GlyphBytes) (h : Header) → header_of g ≡ Ok h → IsField g 10 h (written_header g.bytes)
+pub header-was : (g : GlyphBytes) (h : GlyphHeader) → header_of g ≡ Ok h → IsField g 10 h (written_header g.bytes)
 unfolding header_of
 header-was g h was = header-cases g h (nat_lt (length g.bytes) 10) refl was
 
@@ -380,3 +380,14 @@ glyph-cases t g false d is was =
 pub glyph-is : (t : Glyf) (g : ℕ) (d : Raw) → glyph_data_of t g ≡ Ok d → IsGlyph t g d
 unfolding glyph_data_of
 glyph-is t g d was = glyph-cases t g (has_no_bytes t g) d refl was
+
+pub as-written : (t : Glyf) (g : ℕ) (d : Raw) → glyph_data_of t g ≡ Ok d → IsAsWritten t g d
+as-written t g d was =
+    let is = glyph-is t g d was in
+    record {
+      nothing = is.nothing;
+      words = is.words;
+      points = is.points;
+      composite_words = is.composite_words;
+      components = is.components;
+    }

@@ -8,14 +8,14 @@ use Rattle.tt_core.specs.Faults.{Fault}
 use Rattle.tt_core.specs.Outcomes.{◌>>=◌}
 use Rattle.tt_glyf.specs.declared.raw.RawPoint.{RawPoint}
 use Rattle.tt_glyf.specs.Bytes.{GlyphBytes, Listing, after}
-use Rattle.tt_glyf.specs.Coordinates.{Axis, Coordinate, coordinate_at, coordinates_from, coordinates_of, origin, x_axis, y_axis}
+use Rattle.tt_glyf.specs.Coordinates.{AxisFlags, Coordinate, coordinate_at, coordinates_from, coordinates_of, origin, x_axis, y_axis}
 use Rattle.tt_glyf.specs.Flags.{flags_of}
 use Rattle.tt_glyf.specs.Format.{has, on_curve_point}
 use Rattle.tt_glyf.specs.Simple.{points_from, points_of}
 use Rattle.tt_glyf.specs.InPlace.{all_held, held, held_flag, held_of, HoldsFlag, placed_from, placed_of, put_x, put_y, with_x, with_y}
 use Rattle.tt_glyf.proofs.Chains.{after-after, came-after}
 
-pub turn : (g : GlyphBytes) (a : Axis) (put : RawPoint → ℤ → RawPoint) (before ps : List RawPoint) (i : ℕ)
+pub turn : (g : GlyphBytes) (a : AxisFlags) (put : RawPoint → ℤ → RawPoint) (before ps : List RawPoint) (i : ℕ)
     (d : RawPoint)
     (last c : Coordinate) → i < length ps → coordinate_at g a (held_flag (get_or ps i d)) last ≡ Ok c
     → after before (placed_from g a put (drop i ps) last) ≡ after (before ++ put (get_or ps i d) c.value ∷ [])
@@ -23,14 +23,14 @@ pub turn : (g : GlyphBytes) (a : Axis) (put : RawPoint → ℤ → RawPoint) (be
 unfolding placed_from
 turn g a put before ps i d last c below was = rw (add-one, drop-cons ps i d, was, after-after) refl
 
-pub breaks : (g : GlyphBytes) (a : Axis) (put : RawPoint → ℤ → RawPoint) (before ps : List RawPoint) (i : ℕ)
+pub breaks : (g : GlyphBytes) (a : AxisFlags) (put : RawPoint → ℤ → RawPoint) (before ps : List RawPoint) (i : ℕ)
     (d : RawPoint)
     (last : Coordinate) (f : Fault) → i < length ps → coordinate_at g a (held_flag (get_or ps i d)) last ≡ Err f
     → after before (placed_from g a put (drop i ps) last) ≡ Err f
 unfolding placed_from
 breaks g a put before ps i d last f below was = rw (drop-cons ps i d, was) refl
 
-pub done : (g : GlyphBytes) (a : Axis) (put : RawPoint → ℤ → RawPoint) (before ps : List RawPoint) (i : ℕ)
+pub done : (g : GlyphBytes) (a : AxisFlags) (put : RawPoint → ℤ → RawPoint) (before ps : List RawPoint) (i : ℕ)
     (last : Coordinate) → length ps ≤ i
     → after before (placed_from g a put (drop i ps) last) ≡ Ok (record { items = before; next = last.next })
 unfolding placed_from
@@ -50,7 +50,7 @@ put-after : (put : RawPoint → ℤ → RawPoint) (p : RawPoint) (ps : List RawP
 put-after put p ps v (Ok l) = refl
 put-after put p ps v (Err f) = refl
 
-placed-step : (g : GlyphBytes) (a : Axis) (put : RawPoint → ℤ → RawPoint) (p : RawPoint) (ps : List RawPoint)
+placed-step : (g : GlyphBytes) (a : AxisFlags) (put : RawPoint → ℤ → RawPoint) (p : RawPoint) (ps : List RawPoint)
     (r : Result Coordinate Fault)
     → ((c : Coordinate) → placed_from g a put ps c ≡ (coordinates_from g a (map held_flag ps) c >>= λ l. Ok
     (put_listing put ps l)))
@@ -62,7 +62,7 @@ placed-step g a put p ps (Ok c) rest = rw (rest c) (put-after put p ps c.value (
     (map held_flag ps) c))
 
 -- the coordinates by the points' flags, put in
-pub placed-is : (g : GlyphBytes) (a : Axis) (put : RawPoint → ℤ → RawPoint) (ps : List RawPoint) (before : Coordinate)
+pub placed-is : (g : GlyphBytes) (a : AxisFlags) (put : RawPoint → ℤ → RawPoint) (ps : List RawPoint) (before : Coordinate)
     → placed_from g a put ps before ≡ (coordinates_from g a (map held_flag ps) before >>= λ l. Ok
     (put_listing put ps l))
 unfolding placed_from coordinates_from
@@ -93,7 +93,7 @@ pub held-more : (ps : List RawPoint) (n flag : ℕ) → map held (map held_flag 
 held-more ps n flag are = rw (flags-more ps n flag, held-append (map held_flag ps) n flag, are) refl
 
 -- one point put in at its index
-pub set-turn : (g : GlyphBytes) (a : Axis) (put : RawPoint → ℤ → RawPoint) (ps : List RawPoint) (i : ℕ) (d : RawPoint)
+pub set-turn : (g : GlyphBytes) (a : AxisFlags) (put : RawPoint → ℤ → RawPoint) (ps : List RawPoint) (i : ℕ) (d : RawPoint)
     (last c : Coordinate) → i < length ps → coordinate_at g a (held_flag (get_or ps i d)) last ≡ Ok c
     → after (take (i + 1) (set ps i (put (get_or ps i d) c.value)))
     (placed_from g a put (drop (i + 1) (set ps i (put (get_or ps i d) c.value))) c)
@@ -104,7 +104,7 @@ set-turn g a put ps i d last c below was =
     rw (take_more_set ps i v below, drop-set-lt (i + 1) ps i v one) (sym (turn g a put
     (take i ps) ps i d last c below was))
 
-pub set-done : (g : GlyphBytes) (a : Axis) (put : RawPoint → ℤ → RawPoint) (ps : List RawPoint) (i : ℕ)
+pub set-done : (g : GlyphBytes) (a : AxisFlags) (put : RawPoint → ℤ → RawPoint) (ps : List RawPoint) (i : ℕ)
     (last : Coordinate) → length ps ≤ i
     → after (take i ps) (placed_from g a put (drop i ps) last) ≡ Ok (record { items = ps; next = last.next })
 set-done g a put ps i last all = done g a put (take i ps) ps i last all ∙ rw (take_all i ps all) refl
@@ -118,7 +118,7 @@ others-hold ps i v below all =
     (drop_more ps i (held 0) below) all)
 
 -- as many coordinates as flags
-coordinates-many : (g : GlyphBytes) (a : Axis) (flags : List ℕ) (before : Coordinate) (read : Listing ℤ)
+coordinates-many : (g : GlyphBytes) (a : AxisFlags) (flags : List ℕ) (before : Coordinate) (read : Listing ℤ)
     → coordinates_from g a flags before ≡ Ok read → length read.items ≡ length flags
 unfolding coordinates_from
 coordinates-many g a [] before read was =

@@ -7,7 +7,7 @@ use Rattle.tt_core.specs.Limits.{point_limit}
 use Rattle.tt_core.specs.Numbers.{unsigned_at}
 use Rattle.tt_glyf.specs.declared.raw.RawPoint.{RawPoint}
 use Rattle.tt_glyf.specs.Bytes.{GlyphBytes, Listing, word_in}
-use Rattle.tt_glyf.specs.Coordinates.{Axis, Coordinate, x_axis, y_axis, origin}
+use Rattle.tt_glyf.specs.Coordinates.{AxisFlags, Coordinate, x_axis, y_axis, origin}
 use Rattle.tt_glyf.specs.Format.{has, on_curve_point}
 use Rattle.tt_glyf.specs.Meaning.{runs_end, written_flags, deltas_end, y_place, points_end, ArePoints}
 use Rattle.tt_glyf.specs.Simple.{rising, end_at, ends_from, point_count, points_within, points_from, points_of}
@@ -157,7 +157,7 @@ pub record PointsRead (bytes : List ℕ) (at n : ℕ) (points : List RawPoint) :
   pub on : map (λ p. p.on) points ≡ map (λ flag. has flag on_curve_point) (written_flags bytes at runs)
 
 -- a list read along an axis, with its items rewritten
-read-as : (bytes : List ℕ) (a : Axis) (flags : List ℕ) (before : Coordinate) (read : Listing ℤ) (items : List ℤ)
+read-as : (bytes : List ℕ) (a : AxisFlags) (flags : List ℕ) (before : Coordinate) (read : Listing ℤ) (items : List ℤ)
     → AreRead bytes a flags before read → items ≡ read.items
     → AreRead bytes a flags before (record { items = items; next = deltas_end bytes a flags before.next })
 read-as bytes a flags before read items are is =

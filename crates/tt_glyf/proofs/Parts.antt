@@ -8,7 +8,7 @@ use Rattle.tt_core.specs.Numbers.{unsigned_at, signed16}
 use Rattle.tt_core.specs.Outcomes.{◌>>=◌}
 use Rattle.tt_glyf.specs.declared.raw.Record.{Record}
 use Rattle.tt_glyf.specs.Bytes.{GlyphBytes, Listing, byte_in, word_in, signed_in, slice_in}
-use Rattle.tt_glyf.specs.Composite.{Arguments, Transform, Program, signed8, argument_at, arguments_at, one_scale, identity, two_scales_at, two_by_two_at, transform_at, asks_scaled_offset, unscaled, known_glyph, record_at, records_from, has_program, program_of}
+use Rattle.tt_glyf.specs.Composite.{ArgumentPair, Transform, Program, signed8, argument_at, arguments_at, one_scale, identity, two_scales_at, two_by_two_at, transform_at, asks_scaled_offset, unscaled, known_glyph, record_at, records_from, has_program, program_of}
 use Rattle.tt_glyf.specs.Format.{argument_size, transform_size, record_size, more_components, arg_1_and_2_are_words, args_are_xy_values, we_have_a_scale, we_have_an_x_and_y_scale, we_have_a_two_by_two, has}
 use Rattle.tt_glyf.specs.Defects.{written_records, record_place, GoesOn}
 use Rattle.tt_glyf.specs.Meaning.{written_argument, written_transform, record_of, written_component_flags, written_component, written_record, record_end, records_end, AreComponents}
@@ -40,11 +40,11 @@ unfolding argument_at
 argument-was g flags at a was =
     argument-cases g at (has flags arg_1_and_2_are_words) (has flags args_are_xy_values) a was
 
-abbrev pub written_arguments : List ℕ → ℕ → ℕ → Arguments
+abbrev pub written_arguments : List ℕ → ℕ → ℕ → ArgumentPair
 written_arguments bytes flags at =
     record { arg1 = written_argument bytes flags at; arg2 = written_argument bytes flags (at + argument_size flags) }
 
-pub arguments-were : (g : GlyphBytes) (flags at : ℕ) (a : Arguments) → arguments_at g flags at ≡ Ok a
+pub arguments-were : (g : GlyphBytes) (flags at : ℕ) (a : ArgumentPair) → arguments_at g flags at ≡ Ok a
     → IsField g (at + 2 * argument_size flags) a (written_arguments g.bytes flags at)
 unfolding arguments_at
 arguments-were g flags at a was =
@@ -55,7 +55,7 @@ arguments-were g flags at a was =
     let room = arg2.room in
     let value1 = arg1.is in
     let value2 = arg2.is in
-    let is : ◌≡◌ {A = Arguments} (record { arg1 = first.value; arg2 = second.value }) a = cc second.rest in
+    let is : ◌≡◌ {A = ArgumentPair} (record { arg1 = first.value; arg2 = second.value }) a = cc second.rest in
     rw (← is) (record { is = rw (← value1, ← value2) refl; room = omega arith })
 
 two_scales-were : (g : GlyphBytes) (at : ℕ) (t : Transform) → two_scales_at g at ≡ Ok t
@@ -167,7 +167,7 @@ part-was : (g : GlyphBytes) (at : ℕ) (part r : Record) → unscaled g at part 
 unfolding unscaled
 part-was g at part r was = passed (asks_scaled_offset part) _ part r was
 
-part-make : (glyphs : ℕ) (g : GlyphBytes) (at flags number glyph : ℕ) (args : Arguments) (t : Transform) (r : Record)
+part-make : (glyphs : ℕ) (g : GlyphBytes) (at flags number glyph : ℕ) (args : ArgumentPair) (t : Transform) (r : Record)
     → unscaled g at (record_of (g.start + at) flags glyph args.arg1 args.arg2 t) ≡ Ok r
     → number ≡ written_component g.bytes at → IsKnown glyphs number glyph
     → args ≡ written_arguments g.bytes flags (at + 4) → IsField g

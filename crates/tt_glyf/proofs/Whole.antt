@@ -10,7 +10,7 @@ use Rattle.tt_core.specs.Limits.{component_limit}
 use Rattle.tt_glyf.specs.Bytes.{GlyphBytes, Listing, glyph_fault}
 use Rattle.tt_glyf.specs.Composite.{has_program}
 use Rattle.tt_glyf.specs.Format.{more_components, has, size_place}
-use Rattle.tt_glyf.specs.Coordinates.{Axis, Coordinate, x_axis, y_axis, origin}
+use Rattle.tt_glyf.specs.Coordinates.{AxisFlags, Coordinate, x_axis, y_axis, origin}
 use Rattle.tt_glyf.specs.Defects.{IsCut, LeavesWords, IsFallingEnd, written_points, IsFlagDefect, IsCoordinateDefect, IsSimpleDefect, IsRecordsDefect, IsProgramDefect, IsCompositeDefect, written_records, record_place, GoesOn}
 use Rattle.tt_glyf.specs.Meaning.{flags_place, written_run, runs_end, written_flags, written_delta, deltas, x_deltas, y_place, y_deltas, points_end, written_component_flags, record_end, records_end}
 use Rattle.tt_glyf.specs.Raw.{SimpleGlyph, CompositeGlyph}
@@ -49,7 +49,7 @@ runs-same bytes at (suc k) (suc n) same =
     let total_n = flags-length bytes at n in
     ap suc (runs-same bytes (written_run bytes at).next k n (omega arith))
 
-many-deltas : (bytes : List ℕ) (a : Axis) (flags : List ℕ) (at : ℕ) → length (deltas bytes a flags at) ≡ length flags
+many-deltas : (bytes : List ℕ) (a : AxisFlags) (flags : List ℕ) (at : ℕ) → length (deltas bytes a flags at) ≡ length flags
 many-deltas bytes a [] at = refl
 many-deltas bytes a (flag ∷ flags) at = ap suc (many-deltas bytes a flags (written_delta bytes a flag at).next)
 
@@ -75,7 +75,7 @@ no-flag-defect g at n f good bad =
     ]
 
 -- no sum of the deltas along an axis leaves 16 bits
-no-leaving : (bytes : List ℕ) (a : Axis) (flags : List ℕ) (before : Coordinate) (read : Listing ℤ)
+no-leaving : (bytes : List ℕ) (a : AxisFlags) (flags : List ℕ) (before : Coordinate) (read : Listing ℤ)
     → before.value ≡ pos 0 → AreRead bytes a flags before read → ¬ LeavesWords (deltas bytes a flags before.next)
 no-leaving bytes a flags before read start are bad =
     let many = many-deltas bytes a flags before.next in

@@ -87,11 +87,11 @@ unfoldable pub known_glyph : ℕ → GlyphBytes → ℕ → ℕ → Result ℕ F
 known_glyph glyphs g at glyph = if nat_lt glyph glyphs then Ok glyph else Err (glyph_fault g at why.ComponentGlyph)
 
 -- the two arguments
-pub record Arguments : Type 0 where
+pub record ArgumentPair : Type 0 where
   pub arg1 : ℤ
   pub arg2 : ℤ
 
-unfoldable pub arguments_at : GlyphBytes → ℕ → ℕ → Result Arguments Fault
+unfoldable pub arguments_at : GlyphBytes → ℕ → ℕ → Result ArgumentPair Fault
 arguments_at g flags at = do
   arg1 ← argument_at g flags at
   arg2 ← argument_at g flags (at + argument_size flags)

@@ -8,14 +8,14 @@ use Rattle.tt_glyf.specs.Bytes.{GlyphBytes, Listing, byte_in, signed_in, glyph_f
 use Rattle.tt_glyf.specs.Format.{word_size, has, x_short_vector, y_short_vector, x_is_same_or_positive, y_is_same_or_positive}
 
 -- the two flag bits that say how a delta along an axis is encoded
-pub record Axis : Type 0 where
+pub record AxisFlags : Type 0 where
   pub short : ℕ
   pub same : ℕ
 
-abbrev pub x_axis : Axis
+abbrev pub x_axis : AxisFlags
 x_axis = record { short = x_short_vector; same = x_is_same_or_positive }
 
-abbrev pub y_axis : Axis
+abbrev pub y_axis : AxisFlags
 y_axis = record { short = y_short_vector; same = y_is_same_or_positive }
 
 -- a delta, and the offset after it
@@ -28,7 +28,7 @@ abbrev pub short_delta : Bool → ℕ → ℤ
 short_delta positive byte = if positive then pos byte else neg_ℤ (pos byte)
 
 -- the delta of a point with this flag
-unfoldable pub delta_at : GlyphBytes → Axis → ℕ → ℕ → Result Delta Fault
+unfoldable pub delta_at : GlyphBytes → AxisFlags → ℕ → ℕ → Result Delta Fault
 delta_at g a flag at =
     if has flag a.short then (byte_in g at >>= λ byte. Ok
     (record { by = short_delta (has flag a.same) byte; next = at + 1 }))
@@ -53,11 +53,11 @@ unfoldable pub within_words : GlyphBytes → Coordinate → Result Coordinate Fa
 within_words g c = if is_coordinate c.value then Ok c else Err (glyph_fault g 0 why.CoordRange)
 
 -- the coordinate of a point with this flag
-unfoldable pub coordinate_at : GlyphBytes → Axis → ℕ → Coordinate → Result Coordinate Fault
+unfoldable pub coordinate_at : GlyphBytes → AxisFlags → ℕ → Coordinate → Result Coordinate Fault
 coordinate_at g a flag before = delta_at g a flag before.next >>= λ d. within_words g (summed before d)
 
 -- the coordinates of the points with these flags
-unfoldable pub coordinates_from : GlyphBytes → Axis → List ℕ → Coordinate → Result (Listing ℤ) Fault
+unfoldable pub coordinates_from : GlyphBytes → AxisFlags → List ℕ → Coordinate → Result (Listing ℤ) Fault
 coordinates_from g a [] before = Ok (record { items = []; next = before.next })
 coordinates_from g a (flag ∷ flags) before = do
   c ← coordinate_at g a flag before
@@ -67,5 +67,5 @@ coordinates_from g a (flag ∷ flags) before = do
 abbrev pub origin : ℕ → Coordinate
 origin at = record { value = pos 0; next = at }
 
-abbrev pub coordinates_of : GlyphBytes → Axis → List ℕ → ℕ → Result (Listing ℤ) Fault
+abbrev pub coordinates_of : GlyphBytes → AxisFlags → List ℕ → ℕ → Result (Listing ℤ) Fault
 coordinates_of g a flags at = coordinates_from g a flags (origin at)

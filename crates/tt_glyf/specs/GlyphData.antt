@@ -15,19 +15,19 @@ use Rattle.tt_glyf.specs.Loca.{Glyf, glyph_offset, has_no_bytes, glyph_bytes_of}
 use Rattle.tt_glyf.specs.Raw.{Raw, empty, simple, composite}
 use Rattle.tt_glyf.specs.Simple.{end_at, ends_from, points_within, points_of, simple_of}
 
-pub record Header : Type 0 where
+pub record GlyphHeader : Type 0 where
   pub contours : ℤ
   pub x_min : ℤ
 
 -- numberOfContours and xMin; the whole header must exist
-unfoldable pub header_of : GlyphBytes → Result Header Fault
+unfoldable pub header_of : GlyphBytes → Result GlyphHeader Fault
 header_of g =
     if nat_lt (length g.bytes) header_size then Err (short g)
     else (signed_in g number_of_contours_offset >>= λ contours. signed_in g x_min_offset >>= λ x_min. Ok (record { contours = contours; x_min = x_min }))
 
 -- the part after the header; a glyph without contours is empty, and its other bytes are not read; any negative number
 -- means a composite (profile)
-unfoldable pub described : ℕ → GlyphBytes → Header → Result Raw Fault
+unfoldable pub described : ℕ → GlyphBytes → GlyphHeader → Result Raw Fault
 described glyphs g h =
     if int_lt h.contours (pos 0) then composite_of glyphs g h.x_min
     else (if unsigned_abs h.contours == 0 then Ok empty else simple_of g h.x_min (unsigned_abs h.contours))

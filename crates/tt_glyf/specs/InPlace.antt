@@ -5,7 +5,7 @@ use Rattle.tt_core.specs.Faults.{Fault}
 use Rattle.tt_core.specs.Outcomes.{◌>>=◌}
 use Rattle.tt_glyf.specs.declared.raw.RawPoint.{RawPoint}
 use Rattle.tt_glyf.specs.Bytes.{GlyphBytes, Listing, after}
-use Rattle.tt_glyf.specs.Coordinates.{Axis, Coordinate, coordinate_at, origin, x_axis, y_axis}
+use Rattle.tt_glyf.specs.Coordinates.{AxisFlags, Coordinate, coordinate_at, origin, x_axis, y_axis}
 use Rattle.tt_glyf.specs.Flags.{flags_of}
 use Rattle.tt_glyf.specs.Format.{has, on_curve_point}
 
@@ -36,7 +36,7 @@ held_of g at points = flags_of g at points >>= λ flags. Ok (all_held flags)
 
 -- points that hold flags, after their coordinates along an axis are put in; the last argument is the preceding
 -- coordinate
-unfoldable pub placed_from : GlyphBytes → Axis → (RawPoint → ℤ → RawPoint) → List RawPoint → Coordinate
+unfoldable pub placed_from : GlyphBytes → AxisFlags → (RawPoint → ℤ → RawPoint) → List RawPoint → Coordinate
     → Result (Listing RawPoint) Fault
 placed_from g a put [] before = Ok (record { items = []; next = before.next })
 placed_from g a put (p ∷ ps) before = do

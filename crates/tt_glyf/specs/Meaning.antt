@@ -8,7 +8,7 @@ use Rattle.tt_glyf.specs.declared.raw.Record.{Record}
 use Rattle.tt_glyf.specs.Bytes.{GlyphBytes, stretch_at}
 use Rattle.tt_glyf.specs.Format.{word_size, number_of_contours_offset, x_min_offset, header_size, end_place, size_place, has, on_curve_point, repeat_flag, glyph_index_offset, arguments_offset, arg_1_and_2_are_words, args_are_xy_values, we_have_a_scale, we_have_an_x_and_y_scale, we_have_a_two_by_two, more_components, argument_size, record_size}
 use Rattle.tt_glyf.specs.Composite.{Transform, signed8, one_scale, identity, has_program}
-use Rattle.tt_glyf.specs.Coordinates.{Axis, Delta, x_axis, y_axis, short_delta}
+use Rattle.tt_glyf.specs.Coordinates.{AxisFlags, Delta, x_axis, y_axis, short_delta}
 use Rattle.tt_glyf.specs.Flags.{Run}
 use Rattle.tt_glyf.specs.Loca.{Glyf, glyph_offset, has_no_bytes, bytes_between}
 use Rattle.tt_glyf.specs.Raw.{SimpleGlyph, CompositeGlyph, Raw, empty, simple, composite}
@@ -100,20 +100,20 @@ written_flags bytes at (suc runs) =
     (written_run bytes at).next runs
 
 -- the delta at an offset for a point with this flag
-abbrev pub written_delta : List ℕ → Axis → ℕ → ℕ → Delta
+abbrev pub written_delta : List ℕ → AxisFlags → ℕ → ℕ → Delta
 written_delta bytes a flag at =
     if has flag a.short then record { by = short_delta (has flag a.same) (slice_index bytes at); next = at + 1 }
     else (if has flag a.same then record { by = pos 0; next = at }
     else record { by = signed16 (unsigned_at bytes at word_size); next = at + word_size })
 
 -- all deltas along an axis, in the order of the bytes
-abbrev pub deltas : List ℕ → Axis → List ℕ → ℕ → List ℤ
+abbrev pub deltas : List ℕ → AxisFlags → List ℕ → ℕ → List ℤ
 deltas bytes a [] at = []
 deltas bytes a (flag ∷ flags) at =
     (written_delta bytes a flag at).by ∷ deltas bytes a flags (written_delta bytes a flag at).next
 
 -- the offset after all deltas along an axis
-abbrev pub deltas_end : List ℕ → Axis → List ℕ → ℕ → ℕ
+abbrev pub deltas_end : List ℕ → AxisFlags → List ℕ → ℕ → ℕ
 deltas_end bytes a [] at = at
 deltas_end bytes a (flag ∷ flags) at = deltas_end bytes a flags (written_delta bytes a flag at).next
 
@@ -242,3 +242,12 @@ pub record AreCompositeWords (g : GlyphBytes) (c : CompositeGlyph) : Type 0 wher
   pub follows : has_program c.records ≡ true → (c.code_at ≡ g.start + (records_end g.bytes header_size c.records + word_size))
       × (length c.code ≡ unsigned_at g.bytes (records_end g.bytes header_size c.records) word_size)
   pub none : has_program c.records ≡ false → c.code ≡ []
+
+-- a glyph is as written: its words, the sums of its deltas, and its component records. Without an outline it has no
+-- bytes or no contours
+pub record IsAsWritten (t : Glyf) (g : ℕ) (d : Raw) : Type 0 where
+  pub nothing : IfEmpty d (HasNoOutline t g)
+  pub words : IfSimple d (AreWords (glyph_bytes_at t g))
+  pub points : IfSimple d (λ s. ArePoints (bytes_between t g) (flags_place (bytes_between t g) (length s.ends)) s.points)
+  pub composite_words : IfComposite d (AreCompositeWords (glyph_bytes_at t g))
+  pub components : IfComposite d (λ c. AreComponents (glyph_bytes_at t g) header_size c.records)

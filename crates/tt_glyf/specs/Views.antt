@@ -1,24 +1,24 @@
 -- The definitions' views of the code's values.
 use Rattle.std.specs.Prelude.{ℕ, List}
-use Rattle.tt_glyf.specs.declared.component.Arguments as arguments
+use Rattle.tt_glyf.specs.declared.component.ArgumentPair as arguments
 use Rattle.tt_glyf.specs.declared.composite.Program as program
 use Rattle.tt_glyf.specs.declared.composite.RecordList as record_list
 use Rattle.tt_glyf.specs.declared.component.Transform as transform
-use Rattle.tt_glyf.specs.declared.coordinates.Axis as axis
+use Rattle.tt_glyf.specs.declared.coordinates.AxisFlags as axis
 use Rattle.tt_glyf.specs.declared.coordinates.Coordinate as coordinate
 use Rattle.tt_glyf.specs.declared.coordinates.Delta as delta
 use Rattle.tt_glyf.specs.declared.coordinates.Sum as sum
 use Rattle.tt_glyf.specs.declared.flags.FlagList as flag_list
 use Rattle.tt_glyf.specs.declared.flags.Run as run
-use Rattle.tt_glyf.specs.declared.header.Header as header
+use Rattle.tt_glyf.specs.declared.header.GlyphHeader as header
 use Rattle.tt_glyf.specs.declared.raw.RawPoint.{RawPoint}
 use Rattle.tt_glyf.specs.declared.raw.Record.{Record}
 use Rattle.tt_glyf.specs.declared.simple.EndList as end_list
 use Rattle.tt_glyf.specs.Bytes.{Listing}
-use Rattle.tt_glyf.specs.Composite.{Arguments, Transform, Program}
-use Rattle.tt_glyf.specs.Coordinates.{Axis, Coordinate, Delta}
+use Rattle.tt_glyf.specs.Composite.{ArgumentPair, Transform, Program}
+use Rattle.tt_glyf.specs.Coordinates.{AxisFlags, Coordinate, Delta}
 use Rattle.tt_glyf.specs.Flags.{Run}
-use Rattle.tt_glyf.specs.GlyphData.{Header}
+use Rattle.tt_glyf.specs.GlyphData.{GlyphHeader}
 
 abbrev pub run_of : run.Run → Run
 run_of r = record { flag = r.flag; copies = r.copies; next = r.next }
@@ -26,7 +26,7 @@ run_of r = record { flag = r.flag; copies = r.copies; next = r.next }
 abbrev pub held_listing : flag_list.FlagList → Listing RawPoint
 held_listing f = record { items = f.points.items; next = f.next }
 
-abbrev pub axis_of : axis.Axis → Axis
+abbrev pub axis_of : axis.AxisFlags → AxisFlags
 axis_of a = record { short = a.short.0; same = a.same.0 }
 
 abbrev pub delta_of : delta.Delta → Delta
@@ -45,7 +45,7 @@ placed_listing points next = record { items = points; next = next }
 abbrev pub ends_listing : end_list.EndList → Listing ℕ
 ends_listing e = record { items = e.ends.items; next = e.next }
 
-abbrev pub arguments_of : arguments.Arguments → Arguments
+abbrev pub arguments_of : arguments.ArgumentPair → ArgumentPair
 arguments_of a = record { arg1 = a.arg1; arg2 = a.arg2 }
 
 abbrev pub transform_view : transform.Transform → Transform
@@ -57,5 +57,5 @@ records_listing r = record { items = r.records.items; next = r.next }
 abbrev pub program_view : program.Program → Program
 program_view p = record { code = p.code.now; code_at = p.code_at }
 
-abbrev pub header_view : header.Header → Header
+abbrev pub header_view : header.GlyphHeader → GlyphHeader
 header_view h = record { contours = h.contours; x_min = h.x_min }

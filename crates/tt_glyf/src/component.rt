@@ -89,14 +89,14 @@ fn argument_at(glyph: &GlyphBytes, flags: u16, at: usize) -> Result<i32, Fault>
 }
 
 #[derive(Clone, Copy)]
-struct Arguments {
+struct ArgumentPair {
     arg1: i32,
     arg2: i32,
 }
 
 /// The two arguments of a record with these flags. Error: GlyphShort.
 #[tactic(auto, unfolding(crate::specs::Composite::arguments_at))]
-fn arguments_at(glyph: &GlyphBytes, flags: u16, at: usize) -> Result<Arguments, Fault>
+fn arguments_at(glyph: &GlyphBytes, flags: u16, at: usize) -> Result<ArgumentPair, Fault>
     requires { at ≤ length glyph.now.bytes }
     ensures exact { Gives arguments_of result (arguments_at glyph.now flags at) }
     ensures bound { IfOk result (λ a. IsArgument flags a.arg1 × IsArgument flags a.arg2) }
@@ -104,7 +104,7 @@ fn arguments_at(glyph: &GlyphBytes, flags: u16, at: usize) -> Result<Arguments, 
 {
     let arg1 = argument_at(glyph, flags, at)?;
     let arg2 = argument_at(glyph, flags, at + argument_size(flags))?;
-    Ok(Arguments { arg1, arg2 })
+    Ok(ArgumentPair { arg1, arg2 })
 }
 
 /// x' = xx x + xy y and y' = yx x + yy y.

@@ -14,17 +14,17 @@ use tt_core::{Fault, Why};
 
 /// The two flags that say how a delta along an axis is encoded.
 #[derive(Clone, Copy)]
-pub(crate) struct Axis {
+pub(crate) struct AxisFlags {
     pub(crate) short: PointFlags,
     pub(crate) same: PointFlags,
 }
 
-const X_AXIS: Axis = Axis {
+const X_AXIS: AxisFlags = AxisFlags {
     short: PointFlags::X_SHORT_VECTOR,
     same: PointFlags::X_IS_SAME_OR_POSITIVE,
 };
 
-const Y_AXIS: Axis = Axis {
+const Y_AXIS: AxisFlags = AxisFlags {
     short: PointFlags::Y_SHORT_VECTOR,
     same: PointFlags::Y_IS_SAME_OR_POSITIVE,
 };
@@ -51,7 +51,7 @@ fn short(positive: bool, byte: u8) -> i32
 /// The delta of a point with this flag. Error: GlyphShort.
 #[inline(always)]
 #[tactic(auto, unfolding(crate::specs::Coordinates::delta_at))]
-fn delta_at(glyph: &GlyphBytes, axis: Axis, flag: u8, at: usize) -> Result<Delta, Fault>
+fn delta_at(glyph: &GlyphBytes, axis: AxisFlags, flag: u8, at: usize) -> Result<Delta, Fault>
     requires { at ≤ length glyph.now.bytes }
     ensures exact { Gives delta_of result (delta_at glyph.now (axis_of axis) flag at) }
     ensures bound { IfOk result (λ d. unsigned_abs d.by ≤ 32768) }
@@ -121,7 +121,7 @@ fn within_words(glyph: &GlyphBytes, sum: Sum) -> Result<Coordinate, Fault>
 #[tactic(auto, unfolding(crate::specs::Coordinates::coordinate_at))]
 fn coordinate_at(
     glyph: &GlyphBytes,
-    axis: Axis,
+    axis: AxisFlags,
     flag: u8,
     before: Coordinate,
 ) -> Result<Coordinate, Fault>

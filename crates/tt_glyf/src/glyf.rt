@@ -7,8 +7,8 @@ ghost use Rattle.tt_core.specs.Outcomes.{Gives};
 ghost use Rattle.tt_glyf.specs.Bytes.{stretch_at};
 ghost use Rattle.tt_glyf.specs.Format.{header_size};
 ghost use Rattle.tt_glyf.specs.GlyphData.{glyph_in, described, glyph_data_of};
-ghost use Rattle.tt_glyf.specs.Loca.{glyph_tables_of, tables_with, with_glyf, glyph_offset, has_no_bytes, bytes_between, glyph_bytes_of, IsLocaDefect, IsRangeDefect, AreTables};
-ghost use Rattle.tt_glyf.specs.Meaning.{IfEmpty, HasNoOutline, IfSimple, IfComposite, glyph_bytes_at, flags_place, HasArguments, HasProgram, AreEnds, AreWords, ArePoints, AreComponents, AreRecords, AreCompositeWords};
+ghost use Rattle.tt_glyf.specs.Loca.{glyph_tables_of, tables_with, with_glyf, glyph_offset, has_no_bytes, glyph_bytes_of, IsLocaDefect, IsRangeDefect, AreTables};
+ghost use Rattle.tt_glyf.specs.Meaning.{IfSimple, IfComposite, HasArguments, HasProgram, AreEnds, AreRecords, IsAsWritten};
 ghost use Rattle.tt_glyf.specs.Raw.{raw_view};
 ghost use Rattle.tt_core.specs.Outcomes.{FontGives, IfTold, font_fault};
 ghost use Rattle.tt_glyf.specs.Defects.{IsGlyphDefect};
@@ -16,7 +16,7 @@ ghost use Rattle.tt_glyf.specs.Views.{header_view};
 
 use crate::bytes::GlyphBytes;
 use crate::composite::read_composite;
-use crate::header::{Header, read_header};
+use crate::header::{GlyphHeader, read_header};
 use crate::loca::Loca;
 use crate::raw::Raw;
 use crate::simple::read_simple;
@@ -47,7 +47,7 @@ impl<'a> Model for Glyf<'a> {
 
 impl<'a> Glyf<'a> {
     /// Opens loca and glyf of the font with these metrics. Error: LocaShort. This call is for users that open both at
-    /// once; tt_render opens loca first and then calls `of`.
+    /// once; tt_face opens loca first and then calls `of`.
     pub fn open(loca: &'a [u8], glyf: &'a [u8], metrics: &Metrics) -> Result<Glyf<'a>, Fault>
         requires loca { length loca.now ≤ font_limit }
         requires glyf { length glyf.now ≤ font_limit }
@@ -111,25 +111,20 @@ impl<'a> Glyf<'a> {
     }
 
     /// The data of a glyph as in the file. Errors: GlyphRange, GlyphShort, ContourOrder, FlagRun, ComponentCount,
-    /// ComponentGlyph, ScaledOffset, PointLimit, CoordRange, Memory.
+    /// ComponentGlyph, ScaledOffset, PointLimit, CoordRange, Memory. Apart from `read_whole` (for the prover): the
+    /// other clauses follow from what `read_whole` gives.
     pub fn read(&self, alloc: Global, g: u16) -> Result<Raw<'a>, FontFault>
         requires { g < self.now.glyphs }
         ensures exact { FontGives raw_view result (glyph_data_of self.now g) }
         // On Ok the glyph has no defect; a fault names a defect that exists.
         ensures sound { OnOk result (HasNo (IsGlyphDefect self.now g)) }
         ensures fault { IfTold font_fault result (IsGlyphDefect self.now g) }
-        // A glyph without outline has no bytes or no contours.
-        ensures empty { IfOk result (λ r. IfEmpty (raw_view r) (HasNoOutline self.now g)) }
-        // A simple glyph: its words, the contours' ends, and the points. A point's flag is that of its run; its
-        // coordinates are the sums of all deltas up to the point.
-        ensures words { IfOk result (λ r. IfSimple (raw_view r) (AreWords (glyph_bytes_at self.now g))) }
+        // The words, points and component records are as written. Without an outline there are no bytes or no contours.
+        ensures written { IfOk result (λ r. IsAsWritten self.now g (raw_view r)) }
+        // A simple glyph has at most 16,384 points, and its contours end in order at the last one.
         ensures few { IfOk result (λ r. IfSimple (raw_view r) (λ s. length s.points ≤ point_limit)) }
         ensures ends { IfOk result (λ r. IfSimple (raw_view r) (λ s. AreEnds (length s.points) s.ends)) }
-        ensures sums { IfOk result (λ r. IfSimple (raw_view r) (λ s. ArePoints (bytes_between self.now g) (flags_place (bytes_between self.now g) (length s.ends)) s.points)) }
-        // A composite glyph: its words, and the records as written. Each record names a glyph of the font and has
-        // arguments within their ranges.
-        ensures composite_words { IfOk result (λ r. IfComposite (raw_view r) (AreCompositeWords (glyph_bytes_at self.now g))) }
-        ensures components { IfOk result (λ r. IfComposite (raw_view r) (λ c. AreComponents (glyph_bytes_at self.now g) header_size c.records)) }
+        // Each record of a composite glyph names a glyph of the font and has arguments within their ranges.
         ensures records { IfOk result (λ r. IfComposite (raw_view r) (λ c. AreRecords self.now.glyphs c.records)) }
         ensures arguments { IfOk result (λ r. IfComposite (raw_view r) (λ c. All HasArguments c.records)) }
         // The program is the bytes of glyf at its offset.
@@ -169,7 +164,7 @@ fn read_glyph<'a>(alloc: Global, glyph: &GlyphBytes<'a>, glyphs: u16) -> Result<
 fn read_described<'a>(
     alloc: Global,
     glyph: &GlyphBytes<'a>,
-    header: Header,
+    header: GlyphHeader,
     glyphs: u16,
 ) -> Result<Raw<'a>, FontFault>
     requires { header_size ≤ length glyph.now.bytes }

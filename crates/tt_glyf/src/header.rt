@@ -11,7 +11,7 @@ use crate::format::{HEADER_SIZE, NUMBER_OF_CONTOURS_OFFSET, X_MIN_OFFSET};
 use tt_core::Fault;
 
 #[derive(Clone, Copy)]
-pub(crate) struct Header {
+pub(crate) struct GlyphHeader {
     /// Negative for a composite glyph.
     pub(crate) contours: i16,
     pub(crate) x_min: i16,
@@ -19,7 +19,7 @@ pub(crate) struct Header {
 
 /// The header's fields in use. Error: GlyphShort.
 #[tactic(auto, unfolding(crate::specs::GlyphData::header_of))]
-pub(crate) fn read_header(glyph: &GlyphBytes) -> Result<Header, Fault>
+pub(crate) fn read_header(glyph: &GlyphBytes) -> Result<GlyphHeader, Fault>
     ensures exact { Gives header_view result (header_of glyph.now) }
     ensures room { IfOk result (λ h. header_size ≤ length glyph.now.bytes) }
 {
@@ -28,5 +28,5 @@ pub(crate) fn read_header(glyph: &GlyphBytes) -> Result<Header, Fault>
     }
     let contours = glyph.signed(NUMBER_OF_CONTOURS_OFFSET)?;
     let x_min = glyph.signed(X_MIN_OFFSET)?;
-    Ok(Header { contours, x_min })
+    Ok(GlyphHeader { contours, x_min })
 }

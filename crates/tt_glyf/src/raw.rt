@@ -60,7 +60,8 @@ pub struct Record {
 }
 
 impl Record {
-    /// Whether the record has this flag.
+    /// Whether the record has this flag. Apart from `has_flag` (for the prover), which alone needs the contract of
+    /// `contains`.
     pub fn has(&self, flag: ComponentFlags) -> bool
         ensures { result ≡ has self.now.flags flag.0 }
     {

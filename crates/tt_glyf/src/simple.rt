@@ -97,7 +97,8 @@ fn placed_points(
     Ok(points)
 }
 
-/// The `count` points from an offset on. Errors: GlyphShort, FlagRun, CoordRange, Memory.
+/// The `count` points from an offset on. Errors: GlyphShort, FlagRun, CoordRange, Memory. Apart from `placed_points`
+/// (for the prover): a lemma shows that its points are those of the definition.
 fn read_points(
     alloc: Global,
     glyph: &GlyphBytes,

@@ -2,7 +2,7 @@
 use Rattle.std.specs.Prelude.{◌≡◌, ◌<◌, ◌^◌, ℕ}
 use Rattle.tt_cmap.specs.Lookup.{Cmap, glyph_of}
 use Rattle.tt_line.specs.Layout.{advance_in_pixels}
-use Rattle.tt_line.specs.declared.known.Step.{Step}
+use Rattle.tt_line.specs.declared.known.GlyphAdvance.{GlyphAdvance}
 use Rattle.tt_metrics.specs.Metrics.{Metrics, glyphs_of}
 
 -- the tables and the size that determine glyphs and advances
@@ -12,7 +12,7 @@ pub record Source : Type 0 where
   pub ppem : ℕ
 
 -- the glyph and the advance of a character
-pub record IsKnown (s : Source) (c : ℕ) (step : Step) : Type 0 where
+pub record IsKnown (s : Source) (c : ℕ) (step : GlyphAdvance) : Type 0 where
   pub glyph : step.glyph ≡ glyph_of s.cmap c
   pub known : step.glyph < glyphs_of s.metrics
   pub advance : step.advance ≡ advance_in_pixels s.metrics s.ppem step.glyph

@@ -9,7 +9,7 @@ use Rattle.tt_core.specs.Limits.{width_limit, height_limit}
 use Rattle.tt_core.specs.Numbers.{rounded_quotient}
 use Rattle.tt_core.specs.Outcomes.{◌>>=◌}
 use Rattle.tt_cmap.specs.Lookup.{Cmap, glyph_of}
-use Rattle.tt_line.specs.declared.extent.Extent.{Extent}
+use Rattle.tt_line.specs.declared.extent.PictureExtent.{PictureExtent}
 use Rattle.tt_metrics.specs.declared.head.LocaFormat.TheVariants.{Short}
 use Rattle.tt_metrics.specs.Metrics.{Metrics, units_per_em_of, ascent_of, descent_of, advance_of}
 
@@ -46,14 +46,14 @@ abbrev pub placed_glyphs : Metrics → ℕ → List ℕ → List (ℕ × ℕ)
 placed_glyphs m ppem glyphs = map (λ i. (slice_index glyphs i, pen_of m ppem glyphs i)) (range_with_len 0 (length glyphs))
 
 -- the size of the picture of a line with its margins
-abbrev pub extent_of : Metrics → ℕ → ℕ → List ℕ → Extent
+abbrev pub extent_of : Metrics → ℕ → ℕ → List ℕ → PictureExtent
 extent_of m ppem margin glyphs = record {
   width = sum (advances_of m ppem glyphs) + 2 * margin;
   height = rise_of m ppem +ℤ depth_of m ppem +ℤ pos (2 * margin);
 }
 
 -- a picture without a pixel is refused first, then one that is too large
-unfoldable pub within_limits : Extent → Result Extent JobFault
+unfoldable pub within_limits : PictureExtent → Result PictureExtent JobFault
 within_limits e =
     if (e.width == 0) || int_lt e.height (pos 1) then Err job.EmptyPicture
     else (if nat_lt width_limit e.width || int_lt (pos height_limit) e.height then Err job.PictureLarge else Ok e)
@@ -66,7 +66,7 @@ pub record Placement : Type 0 where
   pub rise : ℤ
   pub glyphs : List (ℕ × ℕ)
 
-abbrev pub placed_in : Metrics → ℕ → List ℕ → Extent → Placement
+abbrev pub placed_in : Metrics → ℕ → List ℕ → PictureExtent → Placement
 placed_in m ppem glyphs e = record {
   width = e.width;
   height = unsigned_abs e.height;
@@ -82,21 +82,21 @@ unfoldable pub placement : Metrics → Cmap → List ℕ → ℕ → ℕ → Res
 placement m cmap text ppem margin = glyph_placement m ppem margin (text_glyphs cmap text)
 
 -- a picture without a pixel
-abbrev pub IsEmpty : Extent → Type 0
+abbrev pub IsEmpty : PictureExtent → Type 0
 IsEmpty e = (e.width < 1) ⊎ (e.height <ℤ pos 1)
 
 -- a picture above the limits
-abbrev pub IsLarge : Extent → Type 0
+abbrev pub IsLarge : PictureExtent → Type 0
 IsLarge e = (width_limit < e.width) ⊎ (pos height_limit <ℤ e.height)
 
 -- the defect of a refused picture
-abbrev pub IsRefusal : Extent → JobFault → Type 0
+abbrev pub IsRefusal : PictureExtent → JobFault → Type 0
 IsRefusal e job.EmptyPicture = IsEmpty e
 IsRefusal e job.PictureLarge = (¬ IsEmpty e) × IsLarge e
 IsRefusal e j = ⊥
 
 -- the ranges of an accepted picture
-pub record IsWithinLimits (e : Extent) : Type 0 where
+pub record IsWithinLimits (e : PictureExtent) : Type 0 where
   pub some_width : 1 ≤ e.width
   pub width : e.width ≤ width_limit
   pub some_height : pos 1 ≤ℤ e.height

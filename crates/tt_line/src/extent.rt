@@ -9,13 +9,13 @@ use tt_core::{HEIGHT_LIMIT, JobFault, WIDTH_LIMIT};
 
 /// Width and height of a picture, in pixels, before the limits are tested. The height may be negative.
 #[derive(Clone, Copy)]
-pub(crate) struct Extent {
+pub(crate) struct PictureExtent {
     pub(crate) width: u64,
     pub(crate) height: i32,
 }
 
 /// The extent of a line with its margins: the sum of advances, and the rise plus the depth.
-pub(crate) fn with_margins(advances: u64, rise: i32, depth: i32, margin: u32) -> Extent
+pub(crate) fn with_margins(advances: u64, rise: i32, depth: i32, margin: u32) -> PictureExtent
     requires advances { advances < 2 ^ 40 }
     requires rise { unsigned_abs rise < 2 ^ 20 }
     requires depth { unsigned_abs depth < 2 ^ 20 }
@@ -24,7 +24,7 @@ pub(crate) fn with_margins(advances: u64, rise: i32, depth: i32, margin: u32) ->
     ensures height { result.height ≡ rise +ℤ depth +ℤ pos (2 * margin) }
 {
     let margins = 2 * margin;
-    Extent {
+    PictureExtent {
         width: advances + u64::from(margins),
         height: rise + depth + margins as i32,
     }
@@ -34,7 +34,7 @@ pub(crate) fn with_margins(advances: u64, rise: i32, depth: i32, margin: u32) ->
 ///
 /// Errors: EmptyPicture, PictureLarge.
 #[tactic(auto, unfolding(crate::specs::Layout::within_limits))]
-pub(crate) fn test_limits(extent: Extent) -> Result<Extent, JobFault>
+pub(crate) fn test_limits(extent: PictureExtent) -> Result<PictureExtent, JobFault>
     ensures exact { Gives (λ e. e) result (within_limits extent) }
     ensures same { IfOk result (λ e. e ≡ extent) }
     ensures within { IfOk result IsWithinLimits }

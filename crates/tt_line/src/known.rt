@@ -17,16 +17,16 @@ const KEPT: usize = 128;
 
 /// A glyph and its advance in pixels.
 #[derive(Clone, Copy)]
-pub(crate) struct Step {
+pub(crate) struct GlyphAdvance {
     pub(crate) glyph: u16,
     pub(crate) advance: u32,
 }
 
 /// A character and its step.
 #[derive(Clone, Copy)]
-struct Known {
+struct KnownAdvance {
     code: u32,
-    step: Step,
+    step: GlyphAdvance,
 }
 
 /// The steps of recent characters, one for each remainder of their codes by 128. Clauses see the source of the steps:
@@ -36,7 +36,7 @@ pub(crate) struct KnownAdvances<'t, 'a> {
     metrics: &'t Metrics<'a>,
     cmap: &'t Cmap<'a>,
     ppem: u32,
-    known: [Known; KEPT],
+    known: [KnownAdvance; KEPT],
 }
 
 impl<'t, 'a> Model for KnownAdvances<'t, 'a> {
@@ -56,13 +56,13 @@ impl<'t, 'a> Model for KnownAdvances<'t, 'a> {
 /// The step of a character, without the cache.
 #[cold]
 #[inline(never)]
-fn found(metrics: &Metrics, cmap: &Cmap, ppem: u32, c: char) -> Step
+fn found(metrics: &Metrics, cmap: &Cmap, ppem: u32, c: char) -> GlyphAdvance
     requires size { ppem ≤ size_limit }
     requires glyphs { cmap.now.glyphs ≡ glyphs_of metrics.now }
     ensures { IsKnown (record { metrics = metrics.now; cmap = cmap.now; ppem = ppem }) c result }
 {
     let glyph = cmap.glyph(c);
-    Step {
+    GlyphAdvance {
         glyph,
         advance: advance(metrics, ppem, glyph),
     }
@@ -75,7 +75,7 @@ impl<'t, 'a> KnownAdvances<'t, 'a> {
         requires glyphs { cmap.now.glyphs ≡ glyphs_of metrics.now }
         ensures { result ≡ record { metrics = metrics.now; cmap = cmap.now; ppem = ppem } }
     {
-        let first = Known {
+        let first = KnownAdvance {
             code: 0,
             step: found(metrics, cmap, ppem, '\0'),
         };
@@ -89,7 +89,7 @@ impl<'t, 'a> KnownAdvances<'t, 'a> {
 
     /// The step of a character.
     #[inline(always)]
-    pub(crate) fn step(&mut self, c: char) -> Step
+    pub(crate) fn step(&mut self, c: char) -> GlyphAdvance
         ensures glyph { result.glyph ≡ glyph_of self.old.cmap c }
         ensures known { result.glyph < glyphs_of self.old.metrics }
         ensures advance { result.advance ≡ advance_in_pixels self.old.metrics self.old.ppem result.glyph }
@@ -102,7 +102,7 @@ impl<'t, 'a> KnownAdvances<'t, 'a> {
             return known.step;
         }
         let step = found(self.metrics, self.cmap, self.ppem, c);
-        self.known[place] = Known {
+        self.known[place] = KnownAdvance {
             code: c as u32,
             step,
         };

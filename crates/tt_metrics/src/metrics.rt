@@ -120,7 +120,7 @@ impl<'a> Metrics<'a> {
         self.maxp.twilight
     }
 
-    /// The advance of a glyph, in font units.
+    /// The advance of a glyph, in font units. Apart from `advance_at` (for the prover), which needs no invariant.
     pub fn advance(&self, g: u16) -> u16
         requires { g < glyphs_of self.now }
         ensures { result ≡ advance_of self.now g }
@@ -128,7 +128,8 @@ impl<'a> Metrics<'a> {
         advance_at(self.hmtx, self.hhea.long_metrics, g)
     }
 
-    /// The left side bearing of a glyph, in font units.
+    /// The left side bearing of a glyph, in font units. Apart from `bearing_at` (for the prover), which needs no
+    /// invariant.
     pub fn lsb(&self, g: u16) -> i16
         requires { g < glyphs_of self.now }
         ensures { result ≡ left_side_bearing_of self.now g }

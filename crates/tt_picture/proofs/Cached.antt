@@ -8,7 +8,7 @@ use Rattle.tt_fit.specs.Laws.{UnboundedStays}
 use Rattle.tt_fit_outline.specs.Outline.{Outline}
 use Rattle.tt_picture.specs.Cached.{IsCacheFor, IsCached, entries_of, is_there, limit_of}
 use Rattle.tt_picture.specs.Distinct.{fitter_after}
-use Rattle.tt_picture.specs.Glyphs.{Body, tape, raster, IsBodyOf, IsTape, edges_of}
+use Rattle.tt_picture.specs.Glyphs.{GlyphBody, tape, raster, IsBodyOf, IsTape, edges_of}
 use Rattle.tt_picture.specs.Shapes.{edges_at, filled_by}
 use Rattle.tt_picture.proofs.Unbounded.{uncharged, unchanged}
 use Rattle.tt_scan_edges.specs.declared.edge.Edge.{Edge}
@@ -89,13 +89,13 @@ cache_before_a_cost s cost (Some j) None same old new = tt
 cache_before_a_cost s cost (Some j) (Some k) same old new = (old.0, rw (uncharged s cost old.0) at new.1)
 
 -- a glyph with filled dropouts is a tape
-pub tape_where : (filled : Option Rules) (body : Body) (plain : Bool) → IfSome filled (λ rules. plain ≡ false)
+pub tape_where : (filled : Option Rules) (body : GlyphBody) (plain : Bool) → IfSome filled (λ rules. plain ≡ false)
     → (plain ≡ false → IsTape body) → IfSome filled (λ rules. IsTape body)
 tape_where None body plain off is = tt
 tape_where (Some rules) body plain off is = is off
 
 -- the tape has the edges of its outline
-pub of_edges : (filled : Option Rules) (body : Body) (es : List Edge) (P : List Edge → Type 0)
+pub of_edges : (filled : Option Rules) (body : GlyphBody) (es : List Edge) (P : List Edge → Type 0)
     → IfSome filled (λ rules. IsTape body) → IsBodyOf es body → IfSome filled (λ rules. P es)
     → IfSome filled (λ rules. P (edges_of body))
 of_edges None body es P is has holds = tt

@@ -9,7 +9,7 @@ use Rattle.tt_scan_edges.specs.declared.edge.Edge.{Edge}
 use Rattle.tt_scan_edges.specs.declared.edge.Frame.{Frame}
 use Rattle.tt_scan_dropouts.specs.Pictures.{is_dropout_from}
 use Rattle.tt_scan_dropouts.specs.declared.mark.Rules.{Rules}
-use Rattle.tt_picture.specs.Glyphs.{Body, tape, raster, BodyFits, IsTape, edges_of, left_of, AreDrawn, AreWithin, CanBeFilled, Glyph, IsDrawn}
+use Rattle.tt_picture.specs.Glyphs.{GlyphBody, tape, raster, BodyFits, IsTape, edges_of, left_of, AreDrawn, AreWithin, CanBeFilled, Glyph, IsDrawn}
 use Rattle.tt_picture.specs.Shapes.{contours_of, origin_of}
 use Rattle.tt_picture.specs.Pixels.{Stamp, is_filled_by, is_filled_from}
 use Rattle.tt_picture.proofs.Blackened.{or_false, or_or}
@@ -43,7 +43,7 @@ closed_as None contours outlined closed are = are
 closed_as (Some rules) contours outlined closed are = rw are closed
 
 -- pens within the width, of a glyph with 0 added to its pens
-of_tape : (filled : Option Rules) (f : Frame) (body : Body) (left : ℕ) (pens : List ℕ) → IfSome filled (λ rules. IsTape body)
+of_tape : (filled : Option Rules) (f : Frame) (body : GlyphBody) (left : ℕ) (pens : List ℕ) → IfSome filled (λ rules. IsTape body)
     → left ≡ left_of f body → All (λ pen. pen ≤ width_limit + left) pens
     → IfSome filled (λ rules. All (λ pen. pen ≤ width_limit) pens)
 of_tape None f body left pens is at within = tt
@@ -51,7 +51,7 @@ of_tape (Some rules) f (tape t) left pens is at within = λ i d below.
     let low = within i d below in omega (arith, low, at)
 of_tape (Some rules) f (raster k) left pens is at within = absurd is
 
-few_edges : (f : Frame) (body : Body) → BodyFits f 0 body → length (edges_of body) ≤ 2 ^ 17
+few_edges : (f : Frame) (body : GlyphBody) → BodyFits f 0 body → length (edges_of body) ≤ 2 ^ 17
 few_edges f (tape t) fits = fits.edges
 few_edges f (raster k) fits = omega arith
 

@@ -3,7 +3,7 @@ use Rattle.std.proofs.Common.{◌≡◌, refl, ℕ, false, List, [], ◌∷◌, 
 use Rattle.std.specs.Prelude.{IfSome}
 use Rattle.std.proofs.lemmas.List.Elements.{All-head, All-tail}
 use Rattle.tt_fit.specs.Fitting.{Fitter}
-use Rattle.tt_picture.specs.Glyphs.{Body, tape, raster, AreDrawn, Glyph, IsBodyOf, IsDrawn, IsTape, edges_of, ink_standing, numbers_of}
+use Rattle.tt_picture.specs.Glyphs.{GlyphBody, tape, raster, AreDrawn, Glyph, IsBodyOf, IsDrawn, IsTape, edges_of, ink_standing, numbers_of}
 use Rattle.tt_picture.specs.Ink.{glyph_ink, ink_by}
 use Rattle.tt_picture.specs.Shapes.{contours_of, edges_at, filled_by}
 use Rattle.tt_scan_edges.specs.declared.edge.Edge.{Edge}
@@ -16,7 +16,7 @@ same_ink : (these filled : Option Rules) (es fs : List Edge) (cs ds : List (List
 same_ink None filled es fs cs ds is edges contours = rw (← is, edges) refl
 same_ink (Some rules) filled es fs cs ds is edges contours = rw (← is, edges, contours) refl
 
-pub edges_are : (body : Body) (es : List Edge) → IsTape body → IsBodyOf es body → edges_of body ≡ es
+pub edges_are : (body : GlyphBody) (es : List Edge) → IsTape body → IsBodyOf es body → edges_of body ≡ es
 edges_are (tape t) es is of = of
 edges_are (raster k) es is of = absurd is
 

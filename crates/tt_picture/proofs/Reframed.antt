@@ -10,13 +10,13 @@ use Rattle.tt_fit.specs.Fitting.{Fitter}
 use Rattle.tt_scan_edges.specs.declared.edge.Frame.{Frame}
 use Rattle.tt_scan_dropouts.specs.declared.mark.Rules.{Rules}
 use Rattle.tt_picture.specs.Distinct.{is_among}
-use Rattle.tt_picture.specs.Glyphs.{ArePlaces, AreWithin, Body, tape, raster, BodyFits, Glyph, IsBodyOf, IsDrawn, IsTape, Stand, crossings_standing, edges_of, left_of, stamps_in}
+use Rattle.tt_picture.specs.Glyphs.{ArePlaces, AreWithin, GlyphBody, tape, raster, BodyFits, Glyph, IsBodyOf, IsDrawn, IsTape, Stand, crossings_standing, edges_of, left_of, stamps_in}
 use Rattle.tt_picture.specs.Shapes.{edges_at}
 use Rattle.tt_picture.specs.Pixels.{is_black_by, is_filled_by}
 use Rattle.tt_picture.proofs.Inked.{edges_are}
 
 -- nothing is added to the pens of a tape
-tape_left : (f : Frame) (body : Body) → IsTape body → left_of f body ≡ 0
+tape_left : (f : Frame) (body : GlyphBody) → IsTape body → left_of f body ≡ 0
 tape_left f (tape t) is = refl
 tape_left f (raster k) is = absurd is
 

@@ -24,7 +24,7 @@ use Rattle.tt_scan_dropouts.proofs.Moved.{dropouts_move}
 use Rattle.tt_scan_dropouts.specs.Pictures.{column_at, line_at}
 use Rattle.tt_scan_dropouts.specs.declared.mark.Rules.{Rules}
 use Rattle.tt_scan_rows.specs.Raster.{line_y}
-use Rattle.tt_picture.specs.Glyphs.{Body, tape, raster, IsBodyOf, IsTape, body_crossings, drawn_of, edges_of, left_of, Glyph, IsDrawn, AreDrawn, AreSeated, AreWithin, Adds, Stand, crossings_standing, stamps_in, numbers_of}
+use Rattle.tt_picture.specs.Glyphs.{GlyphBody, tape, raster, IsBodyOf, IsTape, body_crossings, drawn_of, edges_of, left_of, Glyph, IsDrawn, AreDrawn, AreSeated, AreWithin, Adds, Stand, crossings_standing, stamps_in, numbers_of}
 use Rattle.tt_picture.specs.Shapes.{contours_of, origin_of, edges_at, filled_by, glyph_shape, filling_crossings}
 use Rattle.tt_picture.specs.Pixels.{Drawn, Shape, is_drawn, is_black_from, is_black_by, is_filled, is_filled_from, is_filled_by, some_black, some_filled}
 use Rattle.tt_picture.proofs.Crossed.{crosses_at, crossings_more, filling_moved}
@@ -189,7 +189,7 @@ filled_from_pen (Some rules) f o pen c r =
     ∙ rw (contours_at_pen o pen, column) (ap (is_dropout rules (outline_moved (pos pen) (pos 0) (contours_of 0 o)) (column_at f pen c +ℤ pos pen)) (sym line))
 
 -- the pixels that a glyph's body blackens at a pen
-black_at : (f : Frame) (o : Outline) (body : Body) (pen c r : ℕ) → pen ≤ width_limit → c < 2 ^ 62 → IsBodyOf (edges_at 0 o) body
+black_at : (f : Frame) (o : Outline) (body : GlyphBody) (pen c r : ℕ) → pen ≤ width_limit → c < 2 ^ 62 → IsBodyOf (edges_at 0 o) body
     → is_drawn f (drawn_of body) (pos c -ℤ pos (pen + left_of f body)) r
     ≡ is_black (edges_at pen o) (column_x f.margin (pos c)) (row_y f (pos r))
 black_at f o (tape t) pen c r near small is =
@@ -203,7 +203,7 @@ black_at f o (raster k) pen c r near small is =
     is at (line_at f r) low ∙ rw (column, line) (sym (from_pen f.margin o pen (pos c) (row_y f (pos r))))
 
 -- the crossings of a glyph at a pen, where its body is a tape
-works_as : (o : Outline) (body : Body) (these filled : Option Rules) (pen : ℕ) → IsTape body → these ≡ filled
+works_as : (o : Outline) (body : GlyphBody) (these filled : Option Rules) (pen : ℕ) → IsTape body → these ≡ filled
     → IsBodyOf (edges_at 0 o) body
     → body_crossings body these ≡ edges_counted (edges_at pen o) + filling_crossings filled (edges_at pen o)
 works_as o (tape t) these filled pen is same edges =
@@ -211,7 +211,7 @@ works_as o (tape t) these filled pen is same edges =
 works_as o (raster k) these filled pen is same edges = absurd is
 
 -- the dropouts of a glyph at a pen: those of a raster are not filled
-fills_by : (f : Frame) (o : Outline) (body : Body) (these filled : Option Rules) (ends : List ℕ) (pen c r : ℕ) → these ≡ filled
+fills_by : (f : Frame) (o : Outline) (body : GlyphBody) (these filled : Option Rules) (ends : List ℕ) (pen c r : ℕ) → these ≡ filled
     → IfSome these (λ rules. IsTape body) → IfSome these (λ rules. contours_at (edges_of body) ends ≡ contours_of 0 o)
     → is_filled these (contours_at (edges_of body) ends) (column_at f (pen + left_of f body) c) (line_at f r)
     ≡ is_filled filled (contours_of pen o) (column_at f 0 c) (line_at f r)

@@ -25,24 +25,24 @@ use Rattle.tt_picture.specs.Pixels as pixels
 use Rattle.tt_picture.specs.Pixels.{Drawn, Shape, Stamp, TapeFits, cut_from, is_black_by, is_filled, is_filled_by, some_black, some_filled}
 
 -- the part of a glyph that blackens rows: a tape of its edges, or the black columns of its lines
-pub data Body : Type 0 where
-  tape : Tape → Body
-  raster : Raster → Body
+pub data GlyphBody : Type 0 where
+  tape : Tape → GlyphBody
+  raster : Raster → GlyphBody
 
-abbrev pub edges_of : Body → List Edge
+abbrev pub edges_of : GlyphBody → List Edge
 edges_of (tape t) = t.edges
 edges_of (raster k) = []
 
-abbrev pub drawn_of : Body → Drawn
+abbrev pub drawn_of : GlyphBody → Drawn
 drawn_of (tape t) = pixels.edges t.edges
 drawn_of (raster k) = pixels.raster k
 
-abbrev pub IsTape : Body → Type 0
+abbrev pub IsTape : GlyphBody → Type 0
 IsTape (tape t) = ⊤
 IsTape (raster k) = ⊥
 
 -- added to every pen: 0 for a tape, the margin for a raster
-abbrev pub left_of : Frame → Body → ℕ
+abbrev pub left_of : Frame → GlyphBody → ℕ
 left_of f (tape t) = 0
 left_of f (raster k) = f.margin
 
@@ -50,7 +50,7 @@ left_of f (raster k) = f.margin
 -- dropouts are filled. Then the number added to its pens, the pens, and the fault that makes it unfitted
 pub record Glyph : Type 0 where
   pub number : ℕ
-  pub body : Body
+  pub body : GlyphBody
   pub filled : Option Rules
   pub ends : List ℕ
   pub left : ℕ
@@ -78,17 +78,17 @@ abbrev pub edges_cut : List Glyph → List (List Edge)
 edges_cut gs = map (λ s. cut_from s.drawn) (stamps_in gs)
 
 -- a body has the edges of an outline, or their black columns
-abbrev pub IsBodyOf : List Edge → Body → Type 0
+abbrev pub IsBodyOf : List Edge → GlyphBody → Type 0
 IsBodyOf es (tape t) = t.edges ≡ es
 IsBodyOf es (raster k) = IsRasterOf es k
 
 -- a tape has this frame and few edges, and counts the crossings of the first rows, this many
-abbrev pub BodyFits : Frame → ℕ → Body → Type 0
+abbrev pub BodyFits : Frame → ℕ → GlyphBody → Type 0
 BodyFits f made (tape t) = TapeFits f made t
 BodyFits f made (raster k) = ⊤
 
 -- the count of crossings made so far, of a glyph and of some
-abbrev pub body_crosses : Body → ℕ
+abbrev pub body_crosses : GlyphBody → ℕ
 body_crosses (tape t) = t.crosses
 body_crosses (raster k) = 0
 
@@ -143,7 +143,7 @@ abbrev pub all_rows : Frame → List Glyph → List Dropout → List ℕ
 all_rows f gs ds = rows_by f gs ds 0 (stride f.width * f.height)
 
 -- the crossings of a glyph at one pen and at all, in the picture and outside; a raster is cut already
-abbrev pub body_crossings : Body → Option Rules → ℕ
+abbrev pub body_crossings : GlyphBody → Option Rules → ℕ
 body_crossings (tape t) filled = edges_counted t.edges + filling_crossings filled t.edges
 body_crossings (raster k) filled = 0
 

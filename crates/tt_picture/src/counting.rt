@@ -3,7 +3,7 @@
 ghost use Rattle.std.specs.Prelude.{◌≡◌, ◌≤◌, ◌-◌, ◌^◌, min, length, All};
 ghost use Rattle.tt_picture.specs.Glyphs.{crossings_standing, edges_of, glyph_crossings, pen_crossings};
 
-use crate::glyph::{Body, Glyph};
+use crate::glyph::{Glyph, GlyphBody};
 use tt_scan_dropouts::{edges_counted, filling_counted};
 
 impl Glyph {
@@ -13,7 +13,7 @@ impl Glyph {
         requires few { length (edges_of self.now.body) ≤ 2 ^ 17 }
         ensures { result ≡ pen_crossings self.now }
     {
-        let Body::Tape(tape) = &self.body else {
+        let GlyphBody::Tape(tape) = &self.body else {
             return 0;
         };
         let edges = tape.lend();

@@ -9,7 +9,7 @@ ghost use Rattle.tt_picture.specs.Glyphs.{CanBeFilled, edges_of, stamps_in};
 ghost use Rattle.tt_picture.specs.Shapes.{rules_for};
 ghost use Rattle.tt_picture.specs.Pixels.{is_filled_by, is_filled_from};
 
-use crate::glyph::{Body, Glyph};
+use crate::glyph::{Glyph, GlyphBody};
 use std::alloc::{AllocError, Global};
 use tt_fit::DropoutRules;
 use tt_scan::Frame;
@@ -45,7 +45,7 @@ fn push_glyph(
     ensures within { OnOk result (AreInColumns frame.width found.new.items) }
 {
     match (glyph.filled, &glyph.body) {
-        (Some(rules), Body::Tape(tape)) => {
+        (Some(rules), GlyphBody::Tape(tape)) => {
             push_dropouts(alloc, found, frame, rules, tape, &glyph.ends, &glyph.pens)
         }
         _ => Ok(()),

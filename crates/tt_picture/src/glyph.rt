@@ -24,27 +24,27 @@ use tt_core::{Fault, FontFault};
 use tt_fit::{Fitter, Outline};
 use tt_scan::{EdgeList, Frame, Tape};
 use tt_scan_dropouts::Rules;
-use tt_scan_rows::{Cut, Raster};
+use tt_scan_rows::{CutGlyph, Raster};
 use tt_strike_kept::KeptGlyph;
 
 /// The part of a glyph that blackens rows.
 #[derive(Drop)]
-pub(crate) enum Body {
+pub(crate) enum GlyphBody {
     /// Its edges at pen 0.
     Tape(Tape),
     /// The black columns of its lines.
     Raster(Rc<Raster>),
 }
 
-impl Body {
+impl GlyphBody {
     /// Added to every pen: 0 for a tape, the margin for a raster.
     fn left(&self, frame: Frame) -> u32
         ensures exact { result ≡ left_of frame (body_view self.now) }
         ensures limit { frame.margin ≤ margin_limit → result ≤ margin_limit }
     {
         match self {
-            Body::Tape(_) => 0,
-            Body::Raster(_) => frame.margin,
+            GlyphBody::Tape(_) => 0,
+            GlyphBody::Raster(_) => frame.margin,
         }
     }
 }
@@ -53,7 +53,7 @@ impl Body {
 #[derive(Drop)]
 pub struct Glyph {
     pub(crate) number: u16,
-    pub(crate) body: Body,
+    pub(crate) body: GlyphBody,
     /// The rules for filling its dropouts.
     pub(crate) filled: Option<Rules>,
     /// The number of edges up to the end of each contour; empty where no dropouts are filled.
@@ -165,7 +165,7 @@ impl Glyph {
         let KeptGlyph { raster, unfitted } = glyph;
         Ok(Glyph {
             number,
-            body: Body::Raster(raster),
+            body: GlyphBody::Raster(raster),
             filled: None,
             ends: Vec::new(alloc),
             left: frame.margin,
@@ -202,8 +202,8 @@ impl Glyph {
         ensures { result ≡ length (edges_of self.now.body) }
     {
         match &self.body {
-            Body::Tape(tape) => tape.edges(),
-            Body::Raster(_) => 0,
+            GlyphBody::Tape(tape) => tape.edges(),
+            GlyphBody::Raster(_) => 0,
         }
     }
 }
@@ -231,12 +231,12 @@ fn edges_of(alloc: Global, outline: &Outline) -> Result<EdgeList, AllocError>
 }
 
 /// A tape of edges. Each row is cut when it is made.
-pub(crate) fn tape_of(alloc: Global, list: EdgeList, frame: Frame) -> Result<Body, AllocError>
+pub(crate) fn tape_of(alloc: Global, list: EdgeList, frame: Frame) -> Result<GlyphBody, AllocError>
     requires frame { FrameFits frame }
     requires few { length list.edges ≤ 2 ^ 17 }
     ensures body { IfOk result (λ b. IsBodyOf list.edges (body_view b) × IsTape (body_view b) × BodyFits frame 0 (body_view b)) }
 {
-    Ok(Body::Tape(Tape::of(alloc, frame, list)?))
+    Ok(GlyphBody::Tape(Tape::of(alloc, frame, list)?))
 }
 
 /// The raster of a glyph, which is cached for later lines. A tape of its edges, where it has too many lines or too many
@@ -248,7 +248,7 @@ fn raster_of(
     number: u16,
     unfitted: Option<Fault>,
     cache: &mut Cache,
-) -> Result<Body, AllocError>
+) -> Result<GlyphBody, AllocError>
     requires frame { FrameFits frame }
     requires few { length list.edges ≤ 2 ^ 17 }
     ensures body { IfOk result (λ b. IsBodyOf list.edges (body_view b) × BodyFits frame 0 (body_view b)) }
@@ -256,7 +256,7 @@ fn raster_of(
     ensures limit { limit_of cache.new ≡ limit_of cache.old }
 {
     match Raster::cut(alloc, list, 2 * frame.height, cache.raster_limit())? {
-        Cut::Raster(raster) => {
+        CutGlyph::Raster(raster) => {
             let raster = Rc::new(alloc, raster)?;
             cache.put(
                 number,
@@ -265,9 +265,9 @@ fn raster_of(
                     unfitted,
                 },
             );
-            Ok(Body::Raster(raster))
+            Ok(GlyphBody::Raster(raster))
         }
-        Cut::Edges(list) => tape_of(alloc, list, frame),
+        CutGlyph::Edges(list) => tape_of(alloc, list, frame),
     }
 }
 
@@ -280,7 +280,7 @@ fn body_of(
     unfitted: Option<Fault>,
     cache: &mut Cache,
     caches: bool,
-) -> Result<Body, AllocError>
+) -> Result<GlyphBody, AllocError>
     requires frame { FrameFits frame }
     requires few { length list.edges ≤ 2 ^ 17 }
     ensures body { IfOk result (λ b. IsBodyOf list.edges (body_view b) × BodyFits frame 0 (body_view b)) }

@@ -4,7 +4,7 @@ ghost use Rattle.std.specs.Prelude.{◌≡◌, map, All, IfOk, IfSome};
 ghost use Rattle.tt_picture.specs.Glyphs.{CanBeFilled, IsTape, ink_standing};
 ghost use Rattle.tt_scan_ink.specs.Least.{IsNear};
 
-use crate::glyph::{Body, Glyph};
+use crate::glyph::{Glyph, GlyphBody};
 use std::alloc::{AllocError, Global};
 use tt_scan_ink::{GlyphInk, dropouts_ink, edges_ink};
 
@@ -15,7 +15,7 @@ fn glyph_ink(alloc: Global, glyph: &Glyph) -> Result<Option<GlyphInk>, AllocErro
     ensures exact { IfOk result (λ ink. ink ≡ ink_standing glyph.now) }
     ensures near { IfOk result (λ ink. IfSome ink IsNear) }
 {
-    let Body::Tape(tape) = &glyph.body else {
+    let GlyphBody::Tape(tape) = &glyph.body else {
         return Ok(None);
     };
     let filled = match glyph.filled {

@@ -8,7 +8,7 @@ ghost use Rattle.tt_scan_dropouts.specs.Pictures.{line_at};
 ghost use Rattle.tt_picture.specs.Glyphs.{GlyphFits, body_crosses, drawn_of, stamp_of};
 ghost use Rattle.tt_picture.specs.Pixels.{TapeFits, edges, is_black_from};
 
-use crate::glyph::{Body, Glyph};
+use crate::glyph::{Glyph, GlyphBody};
 use tt_scan::{Frame, Sweep, Tape};
 
 /// The line of row `r` of a picture, counted upwards from the base line.
@@ -55,8 +55,8 @@ impl Glyph {
         ensures { result ≡ body_crosses self.now.body }
     {
         match &self.body {
-            Body::Tape(tape) => tape.crosses(),
-            Body::Raster(_) => 0,
+            GlyphBody::Tape(tape) => tape.crosses(),
+            GlyphBody::Raster(_) => 0,
         }
     }
 
@@ -73,8 +73,13 @@ impl Glyph {
         ensures room { sweep.new.room ≡ sweep.old.room }
     {
         match &mut self.body {
-            Body::Tape(tape) => add_tape(tape, sweep, &self.pens, frame, r, row),
-            Body::Raster(raster) => raster.paint(line_of(frame, r), &self.pens, frame.width, row),
+            GlyphBody::Tape(tape) => add_tape(tape, sweep, &self.pens, frame, r, row),
+            GlyphBody::Raster(raster) => raster.paint(
+                line_of(frame, r),
+                &self.pens,
+                frame.width,
+                row,
+            ),
         }
     }
 }

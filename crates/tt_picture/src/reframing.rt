@@ -7,18 +7,18 @@ ghost use Rattle.tt_scan_edges.specs.Winding.{FrameFits};
 ghost use Rattle.tt_picture.specs.Glyphs.{AreDrawn, IsDrawn, edges_of, numbers_of};
 ghost use Rattle.tt_picture.specs.Views.{body_view};
 
-use crate::glyph::{Body, Glyph, tape_of};
+use crate::glyph::{Glyph, GlyphBody, tape_of};
 use std::alloc::{AllocError, Global};
 use tt_scan::{EdgeList, Frame};
 
-impl Body {
+impl GlyphBody {
     /// The edges of a tape, for a tape in another frame. A raster has none.
     fn into_list(self, alloc: Global) -> EdgeList
         ensures { result.edges ≡ edges_of (body_view self) }
     {
         match self {
-            Body::Tape(tape) => tape.into_list(),
-            Body::Raster(_) => EdgeList::new(alloc),
+            GlyphBody::Tape(tape) => tape.into_list(),
+            GlyphBody::Raster(_) => EdgeList::new(alloc),
         }
     }
 }

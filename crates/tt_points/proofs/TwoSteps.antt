@@ -21,8 +21,8 @@ use Rattle.tt_points.specs.Lines.{half, move_by, alignpts}
 use Rattle.tt_points.specs.Moving.{kept, referred, kept_from, msirp}
 use Rattle.tt_points.specs.Pairs.{seen, placed_in, placed_and_kept, chosen_between, placed_and_chosen}
 use Rattle.tt_points.specs.Twilight.{made, placed}
-use Rattle.tt_points.specs.declared.twilight.Along.{Along}
-use Rattle.tt_points.specs.declared.twilight.Along.TheVariants as along
+use Rattle.tt_points.specs.declared.twilight.AlongVector.{AlongVector}
+use Rattle.tt_points.specs.declared.twilight.AlongVector.TheVariants as along
 
 pub put_there : (b : Zone) (p : ℤ) (z : ZoneLists) (a q : Point) → point_in b p z ≡ Ok a
     → point_in b p (with_point b p q z) ≡ Ok q
@@ -95,7 +95,7 @@ after_one b o p n z q r f g (Ok a) was there =
     rw (put_there b p z q a was, seen_there o b n p z r q a there was) (put_again b p z a g (f a (seen o n r b p a)))
 after_one b o p n z q r f g (Err why) was there = refl
 
-placed_once : (b o : Zone) (by : Along) (m : Motion) (p d n : ℤ) (z : ZoneLists) (q r : Point)
+placed_once : (b o : Zone) (by : AlongVector) (m : Motion) (p d n : ℤ) (z : ZoneLists) (q r : Point)
     (f : Point → Point → Result Point Why) (g : GraphicsState) → point_in b p z ≡ Ok q → point_in o n z ≡ Ok r
     → two_steps b o p n f g (made b by m p d r z)
     ≡ put_before b p z g (placed_in b by m d r q >>= λ a. f a (seen o n r b p a))

@@ -20,7 +20,7 @@ use Rattle.tt_points.specs.Distances.{keeping, single_width, rounded_by, spaced_
 use Rattle.tt_points.specs.Slanted.{rising, slanted, fourth_at, with_fourth, with_twilight, before, touched_at}
 use Rattle.tt_points.specs.Moving.{kept, referred, zero_and, zero_and_touched}
 use Rattle.tt_points.specs.Twilight.{made, placed, origin}
-use Rattle.tt_points.specs.declared.twilight.Along.TheVariants as by
+use Rattle.tt_points.specs.declared.twilight.AlongVector.TheVariants as by
 
 -- the control value after the cut-in by a point's coordinate, rounded
 abbrev pub rounded_in : GraphicsState → ℤ → ℤ → ℤ

@@ -23,8 +23,8 @@ use Rattle.tt_points_zones.specs.declared.motion.Motion.{Motion}
 use Rattle.tt_points.specs.declared.distances.Keeping.{Keeping}
 use Rattle.tt_points.specs.declared.lines.Ends.{Ends}
 use Rattle.tt_points.specs.declared.measuring.Position.{Position}
-use Rattle.tt_points.specs.declared.twilight.Along.{Along}
-use Rattle.tt_points.specs.declared.twilight.Along.TheVariants as by
+use Rattle.tt_points.specs.declared.twilight.AlongVector.{AlongVector}
+use Rattle.tt_points.specs.declared.twilight.AlongVector.TheVariants as by
 use Rattle.tt_points.specs.ControlValues.{placed_at, set_at, miap_distance, mirp_distance, chosen_from}
 use Rattle.tt_points.specs.Distances.{single_width}
 use Rattle.tt_points.specs.Lines.{half, line_through, two_points, move_by}
@@ -72,15 +72,15 @@ chosen_from_enough k m p c z g =
     (kept_enough m (mirp_distance k g (original_distance m r q) c) q r) (λ n. record {})))
 
 -- twilight points
-further_enough : (a : Along) (m : Motion) (d : ℤ) (p : Point) → Enough (further a m d p)
+further_enough : (a : AlongVector) (m : Motion) (d : ℤ) (p : Point) → Enough (further a m d p)
 further_enough by.Projection m d p = put_enough m.free (steps m d) p
 further_enough by.Freedom m d p = put_enough m.free (along (pair_of m.free) d) p
 
-placed_enough : (a : Along) (m : Motion) (d : ℤ) (r p : Point) → Enough (placed a m d r p)
+placed_enough : (a : AlongVector) (m : Motion) (d : ℤ) (r p : Point) → Enough (placed a m d r p)
 unfolding placed
 placed_enough a m d r p = enough_after _ _ (further_enough a m d _) (λ q. record {})
 
-made_enough : (zone : Zone) (a : Along) (m : Motion) (p d : ℤ) (r : Point) (z : ZoneLists)
+made_enough : (zone : Zone) (a : AlongVector) (m : Motion) (p d : ℤ) (r : Point) (z : ZoneLists)
     → Enough (made zone a m p d r z)
 unfolding made
 made_enough zone.Twilight a m p d r z =

@@ -16,7 +16,7 @@ use Rattle.tt_points_zones.specs.Zones.{ZoneLists}
 use Rattle.tt_points_zones.specs.Points.{point_in, with_point}
 use Rattle.tt_points_zones.specs.Motions.{current_distance, direction, moved}
 use Rattle.tt_points_zones.specs.Meeting.{met, meeting, are_parallel, crossing, middle, cross, dot}
-use Rattle.tt_points_zones.specs.declared.meeting.Line.{Line}
+use Rattle.tt_points_zones.specs.declared.meeting.StraightLine.{StraightLine}
 use Rattle.tt_points_zones.specs.declared.meeting.Place.{Place}
 use Rattle.tt_points_zones.specs.declared.motion.Motion.{Motion}
 use Rattle.tt_points.specs.Slanted.{rising, across, slanted, touched_at, fourth_at, points, with_fourth, before}
@@ -52,7 +52,7 @@ sdpvtl turned p1 p2 z g = two_points p1 p2 z g >>= λ t.
 abbrev pub place_of : Point → Place
 place_of q = record { x = q.x; y = q.y }
 
-abbrev pub line_through : Zone → Ends → ZoneLists → Result Line Why
+abbrev pub line_through : Zone → Ends → ZoneLists → Result StraightLine Why
 line_through zone ends z = point_in zone ends.to z >>= λ to. point_in zone ends.from z >>= λ from.
     Ok (record { from = place_of from; to = place_of to })
 

@@ -23,7 +23,7 @@ use Rattle.tt_points.specs.declared.distances.Keeping.{Keeping}
 use Rattle.tt_points.specs.Distances.{keeping, single_width, rounded_by, spaced_by}
 use Rattle.tt_points.specs.Slanted.{rising, across, slanted, fourth_at, with_fourth, with_twilight, before, touched_at}
 use Rattle.tt_points.specs.Twilight.{made, placed, origin}
-use Rattle.tt_points.specs.declared.twilight.Along.TheVariants as along
+use Rattle.tt_points.specs.declared.twilight.AlongVector.TheVariants as along
 
 -- a point moved so that its distance from another is d
 unfoldable pub kept : Motion → ℤ → Point → Point → Result Point Why

@@ -11,8 +11,8 @@ use Rattle.tt_state.specs.declared.point.Point.{Point}
 use Rattle.tt_points_zones.specs.Motions.{original_distance}
 use Rattle.tt_points_zones.specs.declared.motion.Motion.{Motion}
 use Rattle.tt_points.specs.declared.distances.Keeping.{Keeping}
-use Rattle.tt_points.specs.declared.twilight.Along.{Along}
-use Rattle.tt_points.specs.declared.twilight.Along.TheVariants as along
+use Rattle.tt_points.specs.declared.twilight.AlongVector.{AlongVector}
+use Rattle.tt_points.specs.declared.twilight.AlongVector.TheVariants as along
 use Rattle.tt_points.specs.ControlValues.{is_same, mirp_distance}
 use Rattle.tt_points.specs.Moving.{kept}
 use Rattle.tt_points.specs.Twilight.{placed}
@@ -26,7 +26,7 @@ abbrev pub seen : Zone → ℤ → Point → Zone → ℤ → Point → Point
 seen a n r b p q = if is_one a n b p then q else r
 
 -- a twilight point as placed gives it; a glyph point is unchanged
-unfoldable pub placed_in : Zone → Along → Motion → ℤ → Point → Point → Result Point Why
+unfoldable pub placed_in : Zone → AlongVector → Motion → ℤ → Point → Point → Result Point Why
 placed_in zone.Twilight by m d r q = placed by m d r q
 placed_in zone.Glyph by m d r q = Ok q
 

@@ -21,8 +21,8 @@ use Rattle.tt_points.specs.Measuring.{scfs, utp}
 use Rattle.tt_points.specs.Moving.{kept, referred, mdap_distance, mdap, kept_from, msirp, mdrp_distance, mdrp}
 use Rattle.tt_points.specs.Twilight.{settled_in, placed, made}
 use Rattle.tt_points.specs.declared.lines.Ends.{Ends}
-use Rattle.tt_points.specs.declared.twilight.Along.{Along}
-use Rattle.tt_points.specs.declared.twilight.Along.TheVariants as along
+use Rattle.tt_points.specs.declared.twilight.AlongVector.{AlongVector}
+use Rattle.tt_points.specs.declared.twilight.AlongVector.TheVariants as along
 use Rattle.tt_points.specs.ControlValues as by_value
 use Rattle.tt_points.specs.Lines as lines
 use Rattle.tt_points.specs.Measuring as measuring
@@ -46,7 +46,7 @@ twice g z r f once again =
     through (SameShape z) (Before z) r (λ y. f y >>= λ w. Ok (w, g)) once
     (λ y here. through (SameShape y) (Before z) (f y) (λ w. Ok (w, g)) (again y) (λ w next. joined z y w here next))
 
-made_kept : (zone : Zone) (by : Along) (m : Motion) (p d : ℤ) (r : Point) (z : ZoneLists)
+made_kept : (zone : Zone) (by : AlongVector) (m : Motion) (p d : ℤ) (r : Point) (z : ZoneLists)
     → KeepsShape z (made zone by m p d r z)
 unfolding made
 made_kept zone.Twilight by m p d r z =

@@ -11,8 +11,8 @@ use Rattle.tt_points_zones.specs.Zones.{ZoneLists}
 use Rattle.tt_points_zones.specs.Points.{point_in, with_point}
 use Rattle.tt_points_zones.specs.Motions.{shifted, shifted_along}
 use Rattle.tt_points_zones.specs.declared.motion.Motion.{Motion}
-use Rattle.tt_points.specs.declared.twilight.Along.{Along}
-use Rattle.tt_points.specs.declared.twilight.Along.TheVariants as along
+use Rattle.tt_points.specs.declared.twilight.AlongVector.{AlongVector}
+use Rattle.tt_points.specs.declared.twilight.AlongVector.TheVariants as along
 
 -- a point whose original place is its current place
 abbrev pub settled : Point → Point
@@ -24,12 +24,12 @@ settled_in zone.Glyph p = p
 
 -- a point moved further along the freedom vector: by a distance along the projection vector, or along the freedom
 -- vector itself
-abbrev pub further : Along → Motion → ℤ → Point → Result Point Why
+abbrev pub further : AlongVector → Motion → ℤ → Point → Result Point Why
 further along.Projection m d p = shifted m d p
 further along.Freedom m d p = shifted_along m.free d p
 
 -- a point placed at a distance from another's original place; the new place becomes its original place too
-unfoldable pub placed : Along → Motion → ℤ → Point → Point → Result Point Why
+unfoldable pub placed : AlongVector → Motion → ℤ → Point → Point → Result Point Why
 placed by m d r p = further by m d (record p { x = r.org_x; y = r.org_y }) >>= λ q. Ok (settled q)
 
 -- the point with both coordinates 0
@@ -47,7 +47,7 @@ origin = record {
 }
 
 -- twilight point number p, placed by this rule; glyph points are unchanged
-unfoldable pub made : Zone → Along → Motion → ℤ → ℤ → Point → ZoneLists → Result ZoneLists Why
+unfoldable pub made : Zone → AlongVector → Motion → ℤ → ℤ → Point → ZoneLists → Result ZoneLists Why
 made zone.Twilight by m p d r z =
     point_in zone.Twilight p z >>= λ q. placed by m d r q >>= λ n. Ok (with_point zone.Twilight p n z)
 made zone.Glyph by m p d r z = Ok z

@@ -12,7 +12,7 @@ ghost use Rattle.tt_points.specs.Pairs as pairs;
 use crate::distances::{Keeping, cut_in, flipped, given, rounded_by, single_width, spaced_by};
 use crate::moving::{kept, refer};
 use crate::pairs::seen;
-use crate::twilight::{Along, placed, placed_in};
+use crate::twilight::{AlongVector, placed, placed_in};
 use tt_core::Why;
 use tt_points_zones::{Distance, Motion, Zones, may_move};
 use tt_state::{GraphicsState, Point, Zone};
@@ -64,7 +64,7 @@ fn placed_at(zone: Zone, q: Point, m: &Motion, c: Distance) -> Result<Point, Why
     ensures valid { IfOk result IsPoint }
 {
     match zone {
-        Zone::Twilight => placed(q, m, Along::Freedom, c, ORIGIN),
+        Zone::Twilight => placed(q, m, AlongVector::Freedom, c, ORIGIN),
         Zone::Glyph => Ok(q),
     }
 }
@@ -201,7 +201,7 @@ fn placed_and_chosen(
     ensures exact { Gives (λ n. n) result (pairs.placed_and_chosen keeping state.now p m.now c.0 q r) }
     ensures valid { IfOk result IsPoint }
 {
-    let q = placed_in(state.zp1, q, m, Along::Freedom, c, r)?;
+    let q = placed_in(state.zp1, q, m, AlongVector::Freedom, c, r)?;
     chosen_between(keeping, state, m, c, q, seen(state, state.rp0, r, p, q))
 }
 

@@ -11,7 +11,7 @@ ghost use Rattle.tt_points.specs.Lines as is;
 
 use crate::pairs::seen;
 use tt_core::Why;
-use tt_points_zones::{Distance, Line, Motion, Place, Zones, may_move, met};
+use tt_points_zones::{Distance, Motion, Place, StraightLine, Zones, may_move, met};
 use tt_state::{GraphicsState, Point, Vector, Zone};
 
 /// The numbers of the two points that a line goes through.
@@ -122,14 +122,14 @@ fn place_of(q: Point) -> Place
 }
 
 /// The line through the current places of two points of a zone. Error: PointRange, of the second point first.
-fn line_through(zones: &Zones, zone: Zone, ends: Ends) -> Result<Line, Why>
+fn line_through(zones: &Zones, zone: Zone, ends: Ends) -> Result<StraightLine, Why>
     requires { IsZones (zones_view zones.now) }
     ensures exact { Gives (λ l. l) result (is.line_through zone ends (zones_view zones.now)) }
     ensures valid { IfOk result IsLine }
 {
     let to = zones.point(zone, ends.to)?;
     let from = zones.point(zone, ends.from)?;
-    Ok(Line {
+    Ok(StraightLine {
         from: place_of(from),
         to: place_of(to),
     })

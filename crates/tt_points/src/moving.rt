@@ -11,7 +11,7 @@ ghost use Rattle.tt_points.specs.Pairs as pairs;
 
 use crate::distances::{Keeping, given, rounded_by, single_width, spaced_by};
 use crate::pairs::seen;
-use crate::twilight::{Along, placed_in};
+use crate::twilight::{AlongVector, placed_in};
 use tt_core::Why;
 use tt_points_zones::{Distance, Motion, Zones, may_move};
 use tt_state::{GraphicsState, Point};
@@ -109,7 +109,7 @@ fn placed_and_kept(
     ensures exact { Gives (λ n. n) result (pairs.placed_and_kept state.now p m.now d.0 q r) }
     ensures valid { IfOk result IsPoint }
 {
-    let q = placed_in(state.zp1, q, m, Along::Projection, d, r)?;
+    let q = placed_in(state.zp1, q, m, AlongVector::Projection, d, r)?;
     kept(q, m, d, seen(state, state.rp0, r, p, q))
 }
 

@@ -12,7 +12,7 @@ use tt_state::{Point, Zone};
 
 /// The vector that measures how far away a twilight point is placed.
 #[derive(Clone, Copy)]
-pub(crate) enum Along {
+pub(crate) enum AlongVector {
     /// The projection vector measures the distance.
     Projection,
     /// The distance goes along the freedom vector itself.
@@ -59,15 +59,15 @@ fn at_original(p: Point, r: Point) -> Point
 }
 
 /// A point moved by the distance `d` along a vector, without a touch. Error: ValueRange.
-fn further(p: Point, m: &Motion, along: Along, d: Distance) -> Result<Point, Why>
+fn further(p: Point, m: &Motion, along: AlongVector, d: Distance) -> Result<Point, Why>
     requires p { IsPoint p }
     requires small { unsigned_abs d.0 < 2 ^ 32 }
     ensures exact { Gives (λ q. q) result (is.further along m.now d.0 p) }
     ensures valid { IfOk result IsPoint }
 {
     match along {
-        Along::Projection => m.shifted(p, d.0),
-        Along::Freedom => m.shifted_along(p, d.0),
+        AlongVector::Projection => m.shifted(p, d.0),
+        AlongVector::Freedom => m.shifted_along(p, d.0),
     }
 }
 
@@ -77,7 +77,7 @@ fn further(p: Point, m: &Motion, along: Along, d: Distance) -> Result<Point, Why
 pub(crate) fn placed(
     p: Point,
     m: &Motion,
-    along: Along,
+    along: AlongVector,
     d: Distance,
     r: Point,
 ) -> Result<Point, Why>
@@ -96,7 +96,7 @@ pub(crate) fn placed_in(
     zone: Zone,
     p: Point,
     m: &Motion,
-    along: Along,
+    along: AlongVector,
     d: Distance,
     r: Point,
 ) -> Result<Point, Why>

@@ -1,5 +1,5 @@
 -- A sweep up to the next touched point, or to the end without one.
-use Rattle.std.proofs.Common.{◌≡◌, ℕ, suc, ◌+◌, ◌<◌, true, List, [], ◌∷◌, ◌++◌, length, map, take, drop, get_or, Some, None, Ok, Err, ap, sym, refl, arith, append_assoc}
+use Rattle.std.proofs.Common.{◌≡◌, ℕ, suc, ◌+◌, ◌<◌, true, List, [], ◌∷◌, ◌++◌, length, map, take, drop, get_or, Some, None, Ok, Err, ap, sym, refl, arith, append_assoc, length-append, length-drop}
 use Rattle.std.proofs.lemmas.List.{append-nil, take_all, drop_all, drop_more, take-append-drop, length-map, length-take}
 use Rattle.tt_core.specs.declared.fault.Why.{Why}
 use Rattle.tt_state.specs.declared.point.Point.{Point}
@@ -62,6 +62,7 @@ run_ends along before first old new n some long none made sound =
     record {
       more = omega arith;
       bound = omega arith;
+      many = same;
       so_far = rw (all, past, append-nil new, run_last along before first old untouched) (sym is);
       rest = rw (past, gone) refl;
       valid = sound;
@@ -103,6 +104,7 @@ run_goes along before first old part n d inside none here made sound =
     record {
       more = omega arith;
       bound = omega arith;
+      many = omega (arith, length-append part (drop n old), length-drop n old, long, inside);
       so_far = rw (split, past.0, run, is) made_so;
       rest = rw split (past.1);
       valid = sound;

@@ -21,7 +21,7 @@ use Rattle.tt_points_iup.specs.declared.place.Along.{Along}
 
 -- A point's original and current coordinate on an axis. `from` decides its order among others, and its share of the way
 -- between two.
-pub record Position : Type 0 where
+pub record AxisPosition : Type 0 where
   pub from : ℤ
   pub org : ℤ
   pub cur : ℤ
@@ -35,7 +35,7 @@ abbrev pub measured : Option Scale → Axis → Point → ℤ
 measured None axis p = org axis p
 measured (Some s) axis p = units axis p
 
-abbrev pub position_at : Along → Point → Position
+abbrev pub position_at : Along → Point → AxisPosition
 position_at along p = record {
   from = measured along.originals.units along.axis p;
   org = org along.axis p;
@@ -61,22 +61,22 @@ share by part way range =
     quotient by.halves (part *ℤ multiplier by.units by.halves way range) (divisor by.units range)
 
 -- the current coordinate with the original share of the way from the lower to the upper position
-abbrev pub in_proportion : Originals → Position → Position → Position → ℤ
+abbrev pub in_proportion : Originals → AxisPosition → AxisPosition → AxisPosition → ℤ
 in_proportion by p lo hi = lo.cur +ℤ share by (p.from -ℤ lo.from) (hi.cur -ℤ lo.cur) (hi.from -ℤ lo.from)
 
 -- a position: moved as the lower one if its original is not above that one's; as the upper one if it is not below that
 -- one's; otherwise in proportion. The test is in 26.6, for a zone in font units too.
-abbrev pub following : Originals → Position → Position → Position → ℤ
+abbrev pub following : Originals → AxisPosition → AxisPosition → AxisPosition → ℤ
 following by p lo hi =
     if int_le p.org lo.org then p.org +ℤ (lo.cur -ℤ lo.org)
     else (if int_le hi.org p.org then p.org +ℤ (hi.cur -ℤ hi.org) else in_proportion by p lo hi)
 
 -- the lower position is the one with the lower original, in font units for a zone in these
-abbrev pub between : Originals → Position → Position → Position → ℤ
+abbrev pub between : Originals → AxisPosition → AxisPosition → AxisPosition → ℤ
 between by p a b = if int_lt b.from a.from then following by p b a else following by p a b
 
 -- a point between two positions; it is still untouched
-abbrev pub placed_between : Along → Position → Position → Point → Point
+abbrev pub placed_between : Along → AxisPosition → AxisPosition → Point → Point
 placed_between along lo hi p = put along.axis (following along.originals (position_at along p) lo hi) p
 
 -- an untouched point between two touched ones

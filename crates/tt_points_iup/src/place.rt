@@ -23,7 +23,7 @@ pub(crate) struct Along {
 
 /// A point's original and current coordinate on an axis.
 #[derive(Clone, Copy)]
-pub(crate) struct Position {
+pub(crate) struct AxisPosition {
     /// The coordinate that decides order and proportion: font units for a zone in these, otherwise `org`.
     pub(crate) from: i32,
     pub(crate) org: i32,
@@ -35,8 +35,8 @@ pub(crate) struct Position {
 #[derive(Clone, Copy)]
 pub(crate) struct Neighbours {
     along: Along,
-    lo: Position,
-    hi: Position,
+    lo: AxisPosition,
+    hi: AxisPosition,
     multiplier: i64,
     divisor: i64,
     ghost are: { AreNeighbours along (position_of lo) (position_of hi) multiplier divisor },
@@ -44,7 +44,7 @@ pub(crate) struct Neighbours {
 
 /// A coordinate on an axis, in 26.6 pixels.
 #[derive(Clone, Copy)]
-pub(crate) struct Coordinate(pub(crate) i64);
+pub(crate) struct PixelCoordinate(pub(crate) i64);
 
 /// The quotient of a way and a range in 16.16.
 fn factor(halves: Halves, way: Distance, range: Distance) -> i64
@@ -80,7 +80,7 @@ fn divisor(originals: Originals, range: Distance) -> i64
     }
 }
 
-fn ordered(along: Along, lo: Position, hi: Position) -> Neighbours
+fn ordered(along: Along, lo: AxisPosition, hi: AxisPosition) -> Neighbours
     requires low { IsPosition along.originals (position_of lo) }
     requires high { IsPosition along.originals (position_of hi) }
     ensures along { result.along ≡ along }
@@ -126,7 +126,7 @@ fn added(a: i32, b: i64) -> i64
 }
 
 /// `u`, moved by the move of a touched point.
-fn moved_as(u: i32, position: Position) -> i64
+fn moved_as(u: i32, position: AxisPosition) -> i64
     requires org { unsigned_abs position.org ≤ coordinate_limit }
     requires cur { unsigned_abs position.cur ≤ coordinate_limit }
     ensures { result ≡ u +ℤ (position.cur -ℤ position.org) }
@@ -143,7 +143,7 @@ fn multiplied(part: Distance, multiplier: i64) -> i64
     part.0 * multiplier
 }
 
-fn in_proportion(p: Position, between: Neighbours) -> i64
+fn in_proportion(p: AxisPosition, between: Neighbours) -> i64
     requires point { IsPosition between.along.originals (position_of p) }
     requires order { between.lo.org <ℤ between.hi.org }
     ensures { result ≡ is.in_proportion between.along.originals (position_of p) (position_of between.lo) (position_of between.hi) }
@@ -157,21 +157,21 @@ fn in_proportion(p: Position, between: Neighbours) -> i64
     added(between.lo.cur, share)
 }
 
-fn following(p: Position, between: Neighbours) -> Coordinate
+fn following(p: AxisPosition, between: Neighbours) -> PixelCoordinate
     requires { IsPosition between.along.originals (position_of p) }
     ensures { result.0 ≡ is.following between.along.originals (position_of p) (position_of between.lo) (position_of between.hi) }
 {
     if p.org <= between.lo.org {
-        Coordinate(moved_as(p.org, between.lo))
+        PixelCoordinate(moved_as(p.org, between.lo))
     } else if p.org >= between.hi.org {
-        Coordinate(moved_as(p.org, between.hi))
+        PixelCoordinate(moved_as(p.org, between.hi))
     } else {
-        Coordinate(in_proportion(p, between))
+        PixelCoordinate(in_proportion(p, between))
     }
 }
 
 /// The coordinate, if it is within the limit. Error: ValueRange.
-fn limited(p: PlainPoint, axis: Axis, to: Coordinate) -> Result<Coordinate, Why>
+fn limited(p: PlainPoint, axis: Axis, to: PixelCoordinate) -> Result<PixelCoordinate, Why>
     requires { IsPoint p.point }
     ensures exact { Gives (λ v. put_to axis v.0 p.point) result (is.limited_point axis (put_to axis to.0 p.point)) }
     ensures within { IfOk result (λ v. unsigned_abs v.0 ≤ coordinate_limit) }
@@ -184,7 +184,7 @@ fn limited(p: PlainPoint, axis: Axis, to: Coordinate) -> Result<Coordinate, Why>
 }
 
 /// The new coordinate of an untouched point between touched ones. Error: ValueRange.
-pub(crate) fn interpolated(p: PlainPoint, between: Neighbours) -> Result<Coordinate, Why>
+pub(crate) fn interpolated(p: PlainPoint, between: Neighbours) -> Result<PixelCoordinate, Why>
     requires { IsPoint p.point }
     ensures exact { Gives (λ v. put_to between.along.axis v.0 p.point) result (is.limited_point between.along.axis
         (is.placed_between between.along (position_of between.lo) (position_of between.hi) p.point)) }

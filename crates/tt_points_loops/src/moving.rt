@@ -13,7 +13,8 @@ use tt_core::{Scale, Why, quotient};
 use tt_points_zones::{Distance, Motion, Originals, Zones, may_move, product};
 use tt_state::{GraphicsState, Point, Tolerance, Zone};
 
-/// The point moved by a distance along the projection vector. Error: ValueRange.
+/// The point moved by a distance along the projection vector. Error: ValueRange. It takes a `Distance` (for the
+/// prover): then no number of 64 bits is in the goals of its callers.
 fn moved_by(p: Point, m: &Motion, by: Distance) -> Result<Point, Why>
     requires point { IsPoint p }
     requires small { unsigned_abs by.0 < 2 ^ 47 }

@@ -8,7 +8,7 @@ use Rattle.tt_core.specs.declared.fault.Why.{Why}
 use Rattle.tt_core.specs.declared.fault.Why.TheVariants as why
 use Rattle.tt_points_zones.specs.Points.{is_coordinate}
 use Rattle.tt_points_zones.specs.declared.meeting.Place.{Place}
-use Rattle.tt_points_zones.specs.declared.meeting.Line.{Line}
+use Rattle.tt_points_zones.specs.declared.meeting.StraightLine.{StraightLine}
 use Rattle.tt_points_zones.specs.declared.way.Way.{Way}
 use Rattle.tt_points_zones.specs.declared.meeting.FarPlace.{FarPlace}
 
@@ -17,7 +17,7 @@ pub record IsPlace (p : Place) : Type 0 where
   pub x : unsigned_abs p.x ≤ coordinate_limit
   pub y : unsigned_abs p.y ≤ coordinate_limit
 
-pub record IsLine (l : Line) : Type 0 where
+pub record IsLine (l : StraightLine) : Type 0 where
   pub from : IsPlace l.from
   pub to : IsPlace l.to
 

@@ -11,7 +11,7 @@ mod zone_numbers;
 mod zones;
 
 pub use distances::{Distance, distance_between, product};
-pub use meeting::{Line, Place, met};
+pub use meeting::{Place, StraightLine, met};
 pub use motion::{Motion, may_move};
 pub use points::{cur, is_coordinate, is_touched, org, put};
 pub use zone_numbers::zone_of;

@@ -22,7 +22,7 @@ pub struct Place {
 
 /// The line through two places, endless on both sides.
 #[derive(Clone, Copy)]
-pub struct Line {
+pub struct StraightLine {
     pub from: Place,
     pub to: Place,
 }
@@ -146,7 +146,7 @@ fn quarter(a: i32, b: i32, c: i32, d: i32) -> i32
 
 /// The middle of the four places of two lines.
 #[tactic(auto, unfolding(crate::specs::Meeting::middle))]
-fn middle(a: Line, b: Line) -> FarPlace
+fn middle(a: StraightLine, b: StraightLine) -> FarPlace
     requires a { IsLine a }
     requires b { IsLine b }
     ensures { far_view result ≡ is.middle a.from a.to b.from b.to }
@@ -159,7 +159,7 @@ fn middle(a: Line, b: Line) -> FarPlace
 
 /// The meeting point of two lines, which may be past the limit of coordinates.
 #[tactic(auto, unfolding(crate::specs::Meeting::meeting, crate::specs::Meeting::crossing))]
-fn far_meeting(a: Line, b: Line) -> FarPlace
+fn far_meeting(a: StraightLine, b: StraightLine) -> FarPlace
     requires a { IsLine a }
     requires b { IsLine b }
     ensures { far_view result ≡ is.meeting a.from a.to b.from b.to }
@@ -191,7 +191,7 @@ fn limited(v: i128) -> Result<i32, Why>
 /// The meeting point of two lines, or the middle of their four places for lines that are parallel or nearly so. Error:
 /// ValueRange past the limit of coordinates.
 #[tactic(auto, unfolding(crate::specs::Meeting::met))]
-pub fn met(a: Line, b: Line) -> Result<Place, Why>
+pub fn met(a: StraightLine, b: StraightLine) -> Result<Place, Why>
     requires a { IsLine a }
     requires b { IsLine b }
     ensures exact { Gives (λ p. p) result (is.met a.from a.to b.from b.to) }

@@ -50,7 +50,8 @@ impl EdgeList {
         }
     }
 
-    /// Takes memory for `more` further edges. The edges are unchanged, whatever the result.
+    /// Takes memory for `more` further edges. The edges are unchanged, whatever the result. A method (for the prover):
+    /// it keeps the invariant, so no caller proves it.
     #[inline(always)]
     pub fn reserve(&mut self, more: usize) -> Result<(), AllocError>
         ensures edges { self.new.edges ≡ self.old.edges }
@@ -59,7 +60,7 @@ impl EdgeList {
         self.edges.reserve(more)
     }
 
-    /// Adds an edge; there is memory for it.
+    /// Adds an edge; there is memory for it. A method (for the prover): it keeps the invariant, so no caller proves it.
     #[inline(always)]
     pub fn push_reserved(&mut self, edge: Edge)
         requires edge { EdgeFits edge }

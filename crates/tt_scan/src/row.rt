@@ -10,7 +10,7 @@ use crate::tape::Tape;
 
 /// Blackens the pixels of a row of the picture in a row of bytes, the leftmost pixel in the highest bit of the first
 /// byte. It takes no memory: the sweep has it. No crate of the product calls this function. The glyphs of a line may be
-/// anywhere in its rows, so tt_strike calls `Sweep::cut` and `Sweep::paint_all`.
+/// anywhere in its rows, so tt_picture calls `Sweep::cut` and `Sweep::paint_all`.
 pub fn row_into(tape: &mut Tape, sweep: &mut Sweep, r: i64, row: &mut [u8])
     requires row_low { pos 0 ≤ℤ r }
     requires row_high { r <ℤ pos tape.old.frame.height }

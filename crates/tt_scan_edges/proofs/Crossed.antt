@@ -3,7 +3,7 @@ use Rattle.std.proofs.Common.{◌≡◌, ◌∙◌, ap, sym, Bool, not, ◌∷�
 use Rattle.std.specs.List.Sorted.{IsPermutation}
 use Rattle.tt_scan_edges.specs.declared.edge.Cross.{Cross}
 use Rattle.tt_scan_edges.specs.declared.edge.Edge.{Edge}
-use Rattle.tt_scan_edges.specs.declared.mark.Mark.{Mark}
+use Rattle.tt_scan_edges.specs.declared.mark.TurnMark.{TurnMark}
 use Rattle.tt_scan_edges.specs.Crossing.{spans, IsCross}
 use Rattle.tt_scan_edges.specs.Left.{Left, HasLeft, IsBlank, IsLeftBy}
 use Rattle.tt_scan_edges.specs.Marks.{covers, turns}
@@ -45,6 +45,6 @@ blank_left m y l is = record {
 }
 
 -- no marks, no turns
-pub none_turned : (ms : List Mark) (c : ℤ) (b : Bool) → length ms ≡ 0 → b ≡ (b || not (is_zero (turns ms c)))
+pub none_turned : (ms : List TurnMark) (c : ℤ) (b : Bool) → length ms ≡ 0 → b ≡ (b || not (is_zero (turns ms c)))
 none_turned [] c b none = sym (or_false b)
 none_turned (m ∷ ms) c b none = absurd (omega (arith, none))

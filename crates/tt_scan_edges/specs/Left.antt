@@ -1,14 +1,14 @@
 -- No part of the standard: what the edges that meet a row leave there, the marks of their turns and black spans.
 use Rattle.std.specs.Prelude.{◌≡◌, ℕ, ◌+◌, ◌≤◌, ◌||◌, nat_lt, if◌then◌else◌, ℤ, ◌+ℤ◌, List, [], length}
 use Rattle.tt_scan_edges.specs.declared.edge.Edge.{Edge}
-use Rattle.tt_scan_edges.specs.declared.mark.Mark.{Mark}
+use Rattle.tt_scan_edges.specs.declared.mark.TurnMark.{TurnMark}
 use Rattle.tt_scan_edges.specs.declared.mark.Span.{Span}
 use Rattle.tt_scan_edges.specs.Marks.{covers, turns}
 use Rattle.tt_scan_edges.specs.Winding.{column_x, lies_on, lies_on_one, turned, winding}
 
 -- the marks and spans so far, the number of edges that there is memory for, and how many more edges may be crossed
 pub record Left : Type 0 where
-  pub marks : List Mark
+  pub marks : List TurnMark
   pub black : List Span
   pub most : ℕ
   pub room : ℕ

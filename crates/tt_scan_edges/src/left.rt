@@ -9,7 +9,7 @@ ghost use Rattle.tt_scan_edges.specs.Marks.{covers, turns, IsRising};
 ghost use Rattle.tt_scan_edges.specs.Winding.{is_zero};
 
 use crate::edge::Cross;
-use crate::mark::{Mark, Span};
+use crate::mark::{Span, TurnMark};
 use crate::stretch::{is_rising, settle, sink, wind};
 use std::alloc::{AllocError, Global};
 use std::marker::Model;
@@ -17,7 +17,7 @@ use std::marker::Model;
 /// The marks and black spans of a row, with memory for a number of edges.
 #[derive(Drop)]
 pub struct RowLeft {
-    marks: Vec<Mark>,
+    marks: Vec<TurnMark>,
     black: Vec<Span>,
     most: usize,
 }
@@ -57,7 +57,7 @@ fn leave_touch(touch: Option<(i64, i64)>, black: &mut Vec<Span>)
 
 /// Adds an edge's turn as a mark.
 #[inline(always)]
-fn leave_mark(cross: Cross, marks: &mut Vec<Mark>)
+fn leave_mark(cross: Cross, marks: &mut Vec<TurnMark>)
     requires bound { unsigned_abs cross.turn ≤ 1 }
     requires near { unsigned_abs cross.first ≤ 2 ^ 20 }
     requires some { cross.turn ≢ pos 0 }
@@ -67,7 +67,7 @@ fn leave_mark(cross: Cross, marks: &mut Vec<Mark>)
     ensures count { length marks.new.items ≡ length marks.old.items + 1 }
     ensures capacity { vec_capacity marks.new ≡ vec_capacity marks.old }
 {
-    marks.push_reserved(Mark {
+    marks.push_reserved(TurnMark {
         first: cross.first as i32,
         sign: i32::from(cross.turn),
     });
@@ -75,7 +75,7 @@ fn leave_mark(cross: Cross, marks: &mut Vec<Mark>)
 
 /// Adds an edge's turn, if it has one, as a mark at its place in the order of columns.
 #[inline(always)]
-fn leave_turn(cross: Cross, marks: &mut Vec<Mark>)
+fn leave_turn(cross: Cross, marks: &mut Vec<TurnMark>)
     requires bound { unsigned_abs cross.turn ≤ 1 }
     requires near { unsigned_abs cross.first ≤ 2 ^ 20 }
     requires room { length marks.old.items < vec_capacity marks.old }

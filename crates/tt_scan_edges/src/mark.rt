@@ -7,21 +7,21 @@ use crate::insertion::HasColumn;
 
 /// An edge turns left of the centres from this column on.
 #[derive(Clone, Copy)]
-pub(crate) struct Mark {
+pub(crate) struct TurnMark {
     pub(crate) first: i32,
     /// Not below 0 where the edge rises: the edge adds 1 to the winding of those centres. Below 0 where it falls: it
     /// subtracts 1.
     pub(crate) sign: i32,
 }
 
-impl HasColumn for Mark {
+impl HasColumn for TurnMark {
     #[inline(always)]
     fn column(&self) -> i32 {
         self.first
     }
 }
 
-impl Mark {
+impl TurnMark {
     /// The edge's turn.
     #[inline(always)]
     pub(crate) fn turn(self) -> i64

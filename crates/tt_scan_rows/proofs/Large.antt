@@ -5,8 +5,8 @@ use Rattle.tt_scan.specs.EdgeList.{EdgeList, heights_of}
 use Rattle.tt_scan_edges.specs.declared.edge.Edge.{Edge}
 use Rattle.tt_scan_rows.specs.Cut.{IfEdges, IsLarge}
 use Rattle.tt_scan_rows.specs.Raster.{lines_in}
-use Rattle.tt_scan_rows.specs.declared.raster.Cut.{Cut}
-use Rattle.tt_scan_rows.specs.declared.raster.Cut.TheVariants as cut
+use Rattle.tt_scan_rows.specs.declared.raster.CutGlyph.{CutGlyph}
+use Rattle.tt_scan_rows.specs.declared.raster.CutGlyph.TheVariants as cut
 
 -- too many spans
 
@@ -18,7 +18,7 @@ many_spans most n height edges least many rows few =
 
 -- too large edges
 
-pub edges_then : (made : Cut) (P Q : EdgeList → Type 0) → ((l : EdgeList) → P l → Q l) → IfEdges made P → IfEdges made Q
+pub edges_then : (made : CutGlyph) (P Q : EdgeList → Type 0) → ((l : EdgeList) → P l → Q l) → IfEdges made P → IfEdges made Q
 edges_then (cut.Raster k) P Q then is = tt
 edges_then (cut.Edges l) P Q then is = then l is
 

@@ -5,16 +5,16 @@ use Rattle.tt_core.specs.Limits.{height_limit}
 use Rattle.tt_scan.specs.EdgeList.{EdgeList, heights_of}
 use Rattle.tt_scan_edges.specs.declared.edge.Edge.{Edge}
 use Rattle.tt_scan_rows.specs.Raster.{Raster, lines_in}
-use Rattle.tt_scan_rows.specs.declared.raster.Cut.{Cut}
-use Rattle.tt_scan_rows.specs.declared.raster.Cut.TheVariants as cut
+use Rattle.tt_scan_rows.specs.declared.raster.CutGlyph.{CutGlyph}
+use Rattle.tt_scan_rows.specs.declared.raster.CutGlyph.TheVariants as cut
 
 -- a property of the raster, if one was made
-abbrev pub IfRaster : Cut → (Raster → Type 0) → Type 0
+abbrev pub IfRaster : CutGlyph → (Raster → Type 0) → Type 0
 IfRaster (cut.Raster k) P = P k
 IfRaster (cut.Edges l) P = ⊤
 
 -- a property of the edges, if they were given back
-abbrev pub IfEdges : Cut → (EdgeList → Type 0) → Type 0
+abbrev pub IfEdges : CutGlyph → (EdgeList → Type 0) → Type 0
 IfEdges (cut.Raster k) P = ⊤
 IfEdges (cut.Edges l) P = P l
 

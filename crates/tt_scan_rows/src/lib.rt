@@ -4,4 +4,4 @@
 mod raster;
 mod rows;
 
-pub use raster::{Cut, Raster};
+pub use raster::{CutGlyph, Raster};

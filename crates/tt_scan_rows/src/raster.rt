@@ -49,7 +49,7 @@ impl Model for Raster {
 
 /// The result of cutting a glyph's edges.
 #[derive(Drop)]
-pub enum Cut {
+pub enum CutGlyph {
     /// The raster of the glyph.
     Raster(Raster),
     /// The edges unchanged: their raster would be too large.
@@ -144,7 +144,7 @@ impl Raster {
         list: EdgeList,
         most_rows: u32,
         most_spans: usize,
-    ) -> Result<Cut, AllocError>
+    ) -> Result<CutGlyph, AllocError>
         requires { length list.edges ≤ 2 ^ 17 }
         ensures black { IfOk result (λ cut. IfRaster cut (IsRasterOf list.edges)) }
         ensures rows { IfOk result (λ cut. IfRaster cut (λ k. length k.rows ≤ most_rows)) }
@@ -153,11 +153,11 @@ impl Raster {
         ensures large { IfOk result (λ cut. IfEdges cut (λ _. IsLarge list.edges most_rows most_spans)) }
     {
         let Some((first, last)) = lines_met(&list) else {
-            return Ok(Cut::Raster(Raster::blank(alloc)?));
+            return Ok(CutGlyph::Raster(Raster::blank(alloc)?));
         };
         let count = count_of(first, last);
         if most_rows < count || MOST_ROWS < count {
-            return Ok(Cut::Edges(list));
+            return Ok(CutGlyph::Edges(list));
         }
         Raster::cut_in(alloc, list, frame_of(count, last), last, most_spans)
     }
@@ -170,7 +170,7 @@ impl Raster {
         frame: Frame,
         top: i32,
         most_spans: usize,
-    ) -> Result<Cut, AllocError>
+    ) -> Result<CutGlyph, AllocError>
         requires few { length list.edges ≤ 2 ^ 17 }
         requires frame { FrameFits frame }
         requires margin { frame.margin ≡ 0 }
@@ -188,8 +188,8 @@ impl Raster {
         let mut tape = Tape::of(alloc, frame, list)?;
         let mut sweep = Sweep::new(alloc, tape.edges())?;
         match Rows::cut(alloc, &mut tape, &mut sweep, most_spans.min(MANY_SPANS))? {
-            Some(rows) => Ok(Cut::Raster(Raster { rows, top })),
-            None => Ok(Cut::Edges(tape.into_list())),
+            Some(rows) => Ok(CutGlyph::Raster(Raster { rows, top })),
+            None => Ok(CutGlyph::Edges(tape.into_list())),
         }
     }
 

@@ -6,7 +6,7 @@ ghost use Rattle.tt_core.specs.Limits.{coordinate_limit};
 ghost use Rattle.tt_state.specs.Vectors as is;
 ghost use Rattle.tt_state.specs.Axes.{vector_of};
 
-use crate::vector::{Part, Vector, Wide, widened};
+use crate::vector::{Vector, VectorPart, Wide, widened};
 
 /// 2^28 `s` / `l`, cut. With two divisions no product exceeds 2^59.
 fn quotient(s: u64, l: u64) -> u64
@@ -42,7 +42,7 @@ fn square(v: Wide) -> u64
 }
 
 /// A part of a unit vector: `v` is the part before scaling, and `l` the vector's squared length.
-fn part_of(v: Wide, l: u64) -> Part
+fn part_of(v: Wide, l: u64) -> VectorPart
     requires small { unsigned_abs v.0 ≤ 2 * coordinate_limit }
     requires some { 0 < l }
     requires within { is.square v.0 ≤ l }
@@ -50,7 +50,11 @@ fn part_of(v: Wide, l: u64) -> Part
     ensures { result.0 ≡ is.part v.0 l }
 {
     let m = magnitude(square(v), l) as i16;
-    if v.0 < 0 { Part(-m) } else { Part(m) }
+    if v.0 < 0 {
+        VectorPart(-m)
+    } else {
+        VectorPart(m)
+    }
 }
 
 fn unit_of(x: Wide, y: Wide) -> Vector

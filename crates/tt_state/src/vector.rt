@@ -44,7 +44,7 @@ pub(crate) struct Wide(pub(crate) i64);
 
 /// A part of a unit vector, in 2.14.
 #[derive(Clone, Copy)]
-pub(crate) struct Part(pub(crate) i16);
+pub(crate) struct VectorPart(pub(crate) i16);
 
 pub(crate) fn widened(v: i32) -> Wide
     ensures exact { result.0 ≡ v }
@@ -109,7 +109,7 @@ impl Slope {
 
 impl Vector {
     /// The vector with these parts.
-    pub(crate) fn of(x: Part, y: Part) -> Vector
+    pub(crate) fn of(x: VectorPart, y: VectorPart) -> Vector
         requires { is.IsUnit x.0 y.0 }
         ensures { result ≡ vector_of (is.pair x.0 y.0) }
     {

@@ -18,7 +18,7 @@ use Rattle.tt_scan_edges.specs.declared.edge.Frame.{Frame}
 use Rattle.tt_scan_dropouts.specs.Counted.{edges_counted}
 use Rattle.tt_scan_dropouts.proofs.Counts.{rows_are_counted}
 use Rattle.tt_picture.specs.Distinct.{distinct, distinct_after, is_among, with_glyph}
-use Rattle.tt_picture.specs.Glyphs.{Body, tape, raster, AreDrawn, Glyph, IsBodyOf, IsDrawn, drawn_of, edges_cut, numbers_of}
+use Rattle.tt_picture.specs.Glyphs.{GlyphBody, tape, raster, AreDrawn, Glyph, IsBodyOf, IsDrawn, drawn_of, edges_cut, numbers_of}
 use Rattle.tt_strike.specs.Job.{Job}
 use Rattle.tt_picture.specs.Shapes.{edges_at, glyph_shape, shape_at, crossings_in}
 use Rattle.tt_strike.specs.Picture.{crossings_tested, shapes_in}
@@ -91,7 +91,7 @@ shapes_count maker (g ∷ gs) shapes made =
 
 -- the glyphs that are drawn need no more crossings than they count
 
-body_needs : (f : Frame) (count : List Edge → ℕ) (body : Body) (es : List Edge)
+body_needs : (f : Frame) (count : List Edge → ℕ) (body : GlyphBody) (es : List Edge)
     → ((those : List Edge) → crossings_of f those ≤ count those) → IsBodyOf es body
     → crossings_of f (cut_from (drawn_of body)) ≤ count es
 body_needs f count (tape t) es most is = rw is (most es)

@@ -114,9 +114,9 @@ returns-clause-drawn c room =
     let font = file_is c.args.font.now c.in-Ok-face_of.face c.in-Ok-face_of.ensures.exact in
     let same : c.in-Ok-new.strike.face.directory.file ≡ c.args.font.now = rw c.in-Ok-new.ensures.exact font in
     let D : List ℕ → Type 0 = λ file. (used : ℕ)
-    × DrawsLines c.args.job.now file c.args.texts.now c.args.ends.now c.args.rows.now c.draw_by-answer.new.rows
+    × DrawsLines c.args.job.now file c.args.texts.bytes.now c.args.texts.ends.now c.args.rows.now c.draw_by-answer.new.rows
     c.args.lines.now c.draw_by-answer.new.lines used c.draw_by-answer.result.count
-    × EndsWith c.args.job.now file c.args.texts.now c.args.ends.now (length c.args.rows.now) used c.draw_by-answer.result in
+    × EndsWith c.args.job.now file c.args.texts.bytes.now c.args.texts.ends.now (length c.args.rows.now) used c.draw_by-answer.result in
     subst D same c.draw_by-answer.ensures.drawn
 
 pub returns-clause-stands : goal.returns-clause-stands
@@ -124,7 +124,7 @@ returns-clause-stands c =
     let font = file_is c.args.font.now c.in-Ok-face_of.face c.in-Ok-face_of.ensures.exact in
     let same : c.in-Ok-new.strike.face.directory.file ≡ c.args.font.now = rw c.in-Ok-new.ensures.exact font in
     let D : List ℕ → Type 0 = λ file. LineDefectStands
-    (IsLinesDefect c.args.job.now file c.args.texts.now c.args.ends.now c.draw_by-answer.result.count) c.draw_by-answer.result in
+    (IsLinesDefect c.args.job.now file c.args.texts.bytes.now c.args.texts.ends.now c.draw_by-answer.result.count) c.draw_by-answer.result in
     subst D same c.draw_by-answer.ensures.stands
 
 pub returns-clause-cached : goal.returns-clause-cached

@@ -27,6 +27,8 @@ loop-start-preserved c =
     let new = c.next_run.new.contour.points.now in
     let inside : start ≤ length now = omega (arith, c.loop-start.invariant.place, c.loop-start.invariant.many) in
     let run = rw c.loop-start.invariant.along at c.in_ok-run.ensures.run in
+    let many : length new ≡ length now =
+    omega (arith, run.many, length-drop start now, length-drop start new, c.loop-start-test.true, c.len.ensures) in
     let written = front_kept now new start c.in_ok-run.ensures.front in
     let far = after_run along c.loop-start.before.point c.args.first.point
     (swept along c.args.last.point c.args.first.point old) now old (drop start new) start _ _ inside (record {
@@ -39,7 +41,7 @@ loop-start-preserved c =
       rest = rw written at far.rest;
       before = run.valid;
       valid = c.in_ok-run.ensures.valid;
-      many = c.in_ok-run.ensures.many ∙ c.loop-start.invariant.many;
+      many = many ∙ c.loop-start.invariant.many;
       reads = omega (arith, c.loop-start.invariant.reads, c.in_ok-run.ensures.count);
       along = c.in_ok-run.ensures.along ∙ c.loop-start.invariant.along;
       name = c.in_ok-run.ensures.same_reference ∙ c.loop-start.invariant.name;
