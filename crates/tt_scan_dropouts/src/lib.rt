@@ -1,6 +1,6 @@
 //! Dropout control: which pixels are black besides those of the scan converter's rules 1 and 2, so that no stroke is
-//! lost at small sizes. OpenType, "TrueType Fundamentals", rules 3 and 4, and the smart ones beside them. tt_scan_gaps has
-//! gaps one by one: the crossings in them, and which pixel a gap needs.
+//! lost at small sizes. OpenType, "TrueType Fundamentals", rules 3 and 4, and the smart ones beside them. tt_scan_gaps
+//! has gaps one by one: the crossings in them, and which pixel a gap needs.
 //!
 //! Here are the passes over all rows and columns of a glyph, with worked pictures and lemmas, and the code:
 //!

@@ -1,5 +1,5 @@
-//! Whether a glyph may have dropouts. If closed contours cross a free gap, they cross it both rising and falling. So where
-//! no free gap is crossed both ways, there are no dropouts, and nothing else need be computed.
+//! Whether a glyph may have dropouts. If closed contours cross a free gap, they cross it both rising and falling. So
+//! where no free gap is crossed both ways, there are no dropouts, and nothing else need be computed.
 
 ghost use Rattle.std.specs.Prelude.{◌≡◌, ℤ, true, false, length, All};
 ghost use Rattle.tt_scan_edges.specs.Winding.{EdgeFits};

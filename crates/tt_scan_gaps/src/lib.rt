@@ -1,6 +1,6 @@
-//! Gaps one by one. A gap lies between the centres of two pixels that are side by side in a row. Dropout control blackens
-//! one of the two where edges cross a gap and both are white. OpenType, "TrueType Fundamentals", the scan converter's
-//! rules 3 and 4, and the smart ones beside them.
+//! Gaps one by one. A gap lies between the centres of two pixels that are side by side in a row. Where edges cross a gap
+//! and both its pixels are white, dropout control blackens one of them. OpenType, "TrueType Fundamentals", the scan
+//! converter's rules 3 and 4, and the smart ones beside them.
 //!
 //! ```text
 //! mark.rt       a crossing, a step of a contour, a mark in a gap, and the rules for filling dropouts
@@ -15,8 +15,8 @@
 //! gaps.rt       which pixel a gap needs
 //! ```
 //!
-//! tt_scan_dropouts passes over the gaps of all rows, and over those of all columns. The text speaks of rows. Columns are
-//! the rows of the outline with x and y exchanged.
+//! tt_scan_dropouts passes over the gaps of all rows, and over those of all columns. The text speaks of rows. Columns
+//! are the rows of the outline with x and y exchanged.
 #![tactic(auto)]
 
 mod both_ways;
