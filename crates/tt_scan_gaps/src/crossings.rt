@@ -197,6 +197,7 @@ pub fn crossing(edge: Edge, k: u64) -> Crossing
 }
 
 /// The upper end of an edge that is not level, where it lies on a line.
+#[inline]
 pub fn touch(edge: Edge) -> Option<Crossing>
     requires { EdgeFits edge }
     ensures some { IfSome result (λ c. touches edge ≡ c ∷ []) }
