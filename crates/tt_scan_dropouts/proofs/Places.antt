@@ -8,6 +8,7 @@ use Rattle.std.proofs.lemmas.Nat.{mul-le}
 use Rattle.tt_core.specs.Bits.{bit, stride}
 use Rattle.tt_scan_dropouts.specs.Passes.{has_pixel}
 use Rattle.tt_scan_dropouts.specs.Windows.{Bitmap, has, is_black_in, is_within, place}
+use Rattle.tt_scan_gaps.proofs.Tests.{both, eq_of}
 use Rattle.tt_scan_dropouts.specs.declared.pixel.Pixel.{Pixel}
 use Rattle.tt_scan_dropouts.specs.declared.window.Window.{Window}
 
