@@ -1,5 +1,5 @@
 -- Marks in gaps that are not free add nothing: a pass may omit them. The marks in free gaps of lists one after another.
-use Rattle.std.proofs.Common.{◌≡◌, refl, Bool, true, false, List, [], ◌∷◌, arith, ◌∙◌, ap, ℕ, ◌+◌, ◌-◌, ◌<◌, not, ◌++◌, length, get_or, take, drop}
+use Rattle.std.proofs.Common.{◌≡◌, refl, Bool, true, false, List, [], ◌∷◌, arith, ◌∙◌, ap, ℕ, ◌+◌, ◌<◌, not, ◌++◌, length, get_or, take, drop}
 use Rattle.std.specs.Prelude.{ℤ, pos, ◌-ℤ◌, map}
 use Rattle.std.specs.List.{filter, flat_map, range_with_len, slice_range}
 use Rattle.std.proofs.lemmas.Int.{ints}
