@@ -12,7 +12,7 @@ use Rattle.tt_picture.specs.Glyphs.{GlyphBody, tape, raster, IsBodyOf, IsTape, e
 use Rattle.tt_picture.specs.Shapes.{edges_at, filled_by}
 use Rattle.tt_picture.proofs.Unbounded.{uncharged, unchanged}
 use Rattle.tt_scan_edges.specs.declared.edge.Edge.{Edge}
-use Rattle.tt_scan_dropouts.specs.declared.mark.Rules.{Rules}
+use Rattle.tt_scan_gaps.specs.declared.mark.Rules.{Rules}
 use Rattle.tt_scan_rows.specs.Raster.{IsRasterOf, Raster}
 use Rattle.tt_strike_kept.proofs.CallerLemmas.{all_found, all_kept}
 use Rattle.tt_strike_kept.specs.Glyph.{KeptGlyph}

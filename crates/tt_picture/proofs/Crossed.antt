@@ -5,7 +5,7 @@ use Rattle.std.proofs.Math.Nat.{mul-suc}
 use Rattle.tt_scan_edges.specs.declared.edge.Edge.{Edge}
 use Rattle.tt_scan_dropouts.specs.Counted.{edges_counted}
 use Rattle.tt_scan_dropouts.specs.Laws.{moved}
-use Rattle.tt_scan_dropouts.specs.declared.mark.Rules.{Rules}
+use Rattle.tt_scan_gaps.specs.declared.mark.Rules.{Rules}
 use Rattle.tt_scan_dropouts.proofs.Counts.{filling_stays}
 use Rattle.tt_picture.specs.Glyphs.{Glyph, crossings_standing, glyph_crossings, pen_crossings}
 use Rattle.tt_picture.specs.Pixels.{Shape}

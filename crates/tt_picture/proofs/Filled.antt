@@ -8,7 +8,7 @@ use Rattle.tt_scan.specs.Contours.{IsClosed, contours_at}
 use Rattle.tt_scan_edges.specs.declared.edge.Edge.{Edge}
 use Rattle.tt_scan_edges.specs.declared.edge.Frame.{Frame}
 use Rattle.tt_scan_dropouts.specs.Pictures.{is_dropout_from}
-use Rattle.tt_scan_dropouts.specs.declared.mark.Rules.{Rules}
+use Rattle.tt_scan_gaps.specs.declared.mark.Rules.{Rules}
 use Rattle.tt_picture.specs.Glyphs.{GlyphBody, tape, raster, BodyFits, IsTape, edges_of, left_of, AreDrawn, AreWithin, CanBeFilled, Glyph, IsDrawn}
 use Rattle.tt_picture.specs.Shapes.{contours_of, origin_of}
 use Rattle.tt_picture.specs.Pixels.{Stamp, is_filled_by, is_filled_from}

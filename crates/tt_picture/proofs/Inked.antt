@@ -8,7 +8,7 @@ use Rattle.tt_picture.specs.Ink.{glyph_ink, ink_by}
 use Rattle.tt_picture.specs.Shapes.{contours_of, edges_at, filled_by}
 use Rattle.tt_scan_edges.specs.declared.edge.Edge.{Edge}
 use Rattle.tt_scan_edges.specs.declared.edge.Frame.{Frame}
-use Rattle.tt_scan_dropouts.specs.declared.mark.Rules.{Rules}
+use Rattle.tt_scan_gaps.specs.declared.mark.Rules.{Rules}
 
 -- the ink of a tape is that of its edges
 same_ink : (these filled : Option Rules) (es fs : List Edge) (cs ds : List (List Edge)) → these ≡ filled → es ≡ fs

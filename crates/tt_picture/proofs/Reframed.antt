@@ -8,7 +8,7 @@ use Rattle.tt_core.specs.Limits.{margin_limit}
 use Rattle.tt_core.specs.Outcomes.{each, after_each}
 use Rattle.tt_fit.specs.Fitting.{Fitter}
 use Rattle.tt_scan_edges.specs.declared.edge.Frame.{Frame}
-use Rattle.tt_scan_dropouts.specs.declared.mark.Rules.{Rules}
+use Rattle.tt_scan_gaps.specs.declared.mark.Rules.{Rules}
 use Rattle.tt_picture.specs.Distinct.{is_among}
 use Rattle.tt_picture.specs.Glyphs.{ArePlaces, AreWithin, GlyphBody, tape, raster, BodyFits, Glyph, IsBodyOf, IsDrawn, IsTape, Stand, crossings_standing, edges_of, left_of, stamps_in}
 use Rattle.tt_picture.specs.Shapes.{edges_at}

@@ -22,7 +22,7 @@ use Rattle.tt_scan_dropouts.specs.Laws.{moved, outline_moved}
 use Rattle.tt_scan_dropouts.proofs.Counts.{edges_stay}
 use Rattle.tt_scan_dropouts.proofs.Moved.{dropouts_move}
 use Rattle.tt_scan_dropouts.specs.Pictures.{column_at, line_at}
-use Rattle.tt_scan_dropouts.specs.declared.mark.Rules.{Rules}
+use Rattle.tt_scan_gaps.specs.declared.mark.Rules.{Rules}
 use Rattle.tt_scan_rows.specs.Raster.{line_y}
 use Rattle.tt_picture.specs.Glyphs.{GlyphBody, tape, raster, IsBodyOf, IsTape, body_crossings, drawn_of, edges_of, left_of, Glyph, IsDrawn, AreDrawn, AreSeated, AreWithin, Adds, Stand, crossings_standing, stamps_in, numbers_of}
 use Rattle.tt_picture.specs.Shapes.{contours_of, origin_of, edges_at, filled_by, glyph_shape, filling_crossings}

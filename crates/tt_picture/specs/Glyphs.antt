@@ -13,7 +13,7 @@ use Rattle.tt_scan.specs.Tape.{Tape}
 use Rattle.tt_scan_edges.specs.Winding.{is_black, column_x, row_y}
 use Rattle.tt_scan_dropouts.specs.Counted.{edges_counted}
 use Rattle.tt_scan_dropouts.specs.Pictures.{column_at, is_among, line_at}
-use Rattle.tt_scan_dropouts.specs.declared.mark.Rules.{Rules}
+use Rattle.tt_scan_gaps.specs.declared.mark.Rules.{Rules}
 use Rattle.tt_scan_dropouts.specs.declared.picture.Dropout.{Dropout}
 use Rattle.tt_scan_rows.specs.Raster.{IsRasterOf, Raster}
 use Rattle.tt_scan_ink.specs.declared.ink.GlyphInk.{GlyphInk}

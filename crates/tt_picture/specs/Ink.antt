@@ -7,7 +7,7 @@ use Rattle.tt_fit.specs.Fitting.{Fitter, fitted_outline}
 use Rattle.tt_fit_outline.specs.Outline.{Outline}
 use Rattle.tt_scan_edges.specs.declared.edge.Edge.{Edge}
 use Rattle.tt_scan_edges.specs.declared.edge.Frame.{Frame}
-use Rattle.tt_scan_dropouts.specs.declared.mark.Rules.{Rules}
+use Rattle.tt_scan_gaps.specs.declared.mark.Rules.{Rules}
 use Rattle.tt_scan_ink.specs.Ink as ink
 use Rattle.tt_scan_ink.specs.Ink.{dropouts_ink, edges_ink}
 use Rattle.tt_scan_ink.specs.declared.ink.GlyphInk.{GlyphInk}

@@ -8,7 +8,7 @@ use Rattle.tt_scan.specs.Tape.{Tape}
 use Rattle.tt_scan_edges.specs.Winding.{is_black, column_x, row_y, crossings_of}
 use Rattle.tt_scan_dropouts.specs.Dropouts.{is_dropout}
 use Rattle.tt_scan_dropouts.specs.Pictures.{column_at, line_at}
-use Rattle.tt_scan_dropouts.specs.declared.mark.Rules.{Rules}
+use Rattle.tt_scan_gaps.specs.declared.mark.Rules.{Rules}
 use Rattle.tt_scan_rows.specs.Raster.{Raster, shows}
 
 -- a glyph at its pen: its edges, also contour by contour, and its dropout rules, if dropouts are filled

@@ -11,9 +11,10 @@ use Rattle.tt_scan_edges.specs.declared.edge.Edge.{Edge}
 use Rattle.tt_scan_edges.proofs.Crosses.{turned_at}
 use Rattle.tt_scan_edges.proofs.Floors.{below_floor}
 use Rattle.tt_scan_edges.proofs.Sides.{side_reversed}
-use Rattle.tt_scan_dropouts.specs.Crossings.{centre, gap_at}
-use Rattle.tt_scan_dropouts.specs.Gaps.{is_free}
-use Rattle.tt_scan_dropouts.specs.Laws.{RowsCrossedBothWays, crosses_gap, goes_through}
+use Rattle.tt_scan_gaps.specs.Crossings.{centre, gap_at}
+use Rattle.tt_scan_gaps.specs.Gaps.{is_free}
+use Rattle.tt_scan_gaps.specs.BothWays.{crosses_gap, goes_through}
+use Rattle.tt_scan_dropouts.specs.Laws.{RowsCrossedBothWays}
 use Rattle.tt_scan_dropouts.proofs.Through.{in_gap, is_here, through_here}
 
 -- a point lies strictly right of an edge if and only if the edge's place, rounded down to a whole number, is left of it

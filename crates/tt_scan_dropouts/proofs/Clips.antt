@@ -4,10 +4,12 @@ use Rattle.std.specs.Prelude.{ℤ, pos, ◌+ℤ◌, ◌-ℤ◌, ◌≤ℤ◌, �
 use Rattle.std.specs.Int.{int_max, int_min}
 use Rattle.std.proofs.lemmas.Int.{clamps, ints}
 use Rattle.tt_scan_edges.specs.declared.edge.Edge.{Edge}
-use Rattle.tt_scan_dropouts.specs.Dropouts.{columns_of, edges_of, is_dropout, turned_round}
-use Rattle.tt_scan_dropouts.specs.Windows.{ColumnsFit, IsPart, WindowFits, box_has, has, is_column_of, is_within, widened}
-use Rattle.tt_scan_dropouts.specs.declared.mark.Columns.{Columns}
-use Rattle.tt_scan_dropouts.specs.declared.mark.Rules.{Rules}
+use Rattle.tt_scan_gaps.specs.Boxes.{ColumnsFit, columns_of, is_column_of}
+use Rattle.tt_scan_gaps.specs.Seen.{turned_round}
+use Rattle.tt_scan_dropouts.specs.Dropouts.{edges_of, is_dropout}
+use Rattle.tt_scan_dropouts.specs.Windows.{IsPart, WindowFits, box_has, has, is_within, widened}
+use Rattle.tt_scan_gaps.specs.declared.mark.Columns.{Columns}
+use Rattle.tt_scan_gaps.specs.declared.mark.Rules.{Rules}
 use Rattle.tt_scan_dropouts.specs.declared.window.Part.{Part}
 use Rattle.tt_scan_dropouts.specs.declared.window.Window.{Window}
 use Rattle.tt_scan_dropouts.proofs.InBox.{LiesInBox, dropout_in_box}

@@ -13,11 +13,13 @@ use Rattle.tt_scan_edges.specs.declared.edge.Frame.{Frame}
 use Rattle.tt_scan_edges.specs.Winding.{crossings_of, is_between, row_y, rows_met}
 use Rattle.tt_scan_edges.proofs.Ranges.{between_from}
 use Rattle.tt_scan_dropouts.specs.Counted.{bands, bands_bytes, bitmap_bytes, box_columns, box_rows, edges_counted, filling_counted, numbers_in, rows_crossed, rows_of_band}
-use Rattle.tt_scan_dropouts.specs.Crossings.{line_from, lines_crossed}
-use Rattle.tt_scan_dropouts.specs.Dropouts.{columns_of, crossed, turned_round}
+use Rattle.tt_scan_gaps.specs.Crossings.{line_from, lines_crossed}
+use Rattle.tt_scan_gaps.specs.Boxes.{columns_of}
+use Rattle.tt_scan_gaps.specs.Seen.{turned_round}
+use Rattle.tt_scan_dropouts.specs.Dropouts.{crossed}
 use Rattle.tt_scan_dropouts.specs.Laws.{BandsAreCounted, BitmapIsCounted, CountsStay, RowsAreCounted, moved}
-use Rattle.tt_scan_dropouts.specs.declared.mark.Columns.{Columns}
-use Rattle.tt_scan_dropouts.proofs.Lines.{floor_high, floor_low}
+use Rattle.tt_scan_gaps.specs.declared.mark.Columns.{Columns}
+use Rattle.tt_scan_gaps.proofs.Lines.{floor_high, floor_low}
 use Rattle.tt_scan_dropouts.proofs.Moved.{contour_turned}
 use Rattle.tt_scan_dropouts.proofs.MovedGaps.{box_moved, columns_moved}
 use Rattle.tt_scan_dropouts.proofs.MovedLines.{apart_moved, line_from_moved}

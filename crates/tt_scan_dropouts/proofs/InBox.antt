@@ -8,15 +8,18 @@ use Rattle.std.proofs.lemmas.Int.{clamps, ints}
 use Rattle.std.proofs.lemmas.List.{map-append}
 use Rattle.std.proofs.lemmas.List.Elements.{All-cons, All-head, All-nil, All-tail, All-weaker}
 use Rattle.tt_scan_edges.specs.declared.edge.Edge.{Edge}
-use Rattle.tt_scan_dropouts.specs.Crossings.{centre, gap_at, line_from}
-use Rattle.tt_scan_dropouts.specs.Dropouts.{columns_of, edges_of, greatest_x, is_added_by_columns, is_added_by_rows, is_dropout, is_inked, least_x, outline_turned, turned_round}
-use Rattle.tt_scan_dropouts.specs.Gaps.{asked, boxed, columns_between, gap_marks, in_gap, is_added, is_asked, is_free, leans_right, some_asks}
-use Rattle.tt_scan_dropouts.specs.Walk.{marks}
-use Rattle.tt_scan_dropouts.specs.declared.mark.Columns.{Columns}
-use Rattle.tt_scan_dropouts.specs.declared.mark.Mark.{Mark}
-use Rattle.tt_scan_dropouts.specs.declared.mark.Rules.{Rules}
-use Rattle.tt_scan_dropouts.proofs.Bounds.{EdgeLeaves, EdgeWithin, IsWithin, edge_leaves_within, outline_leaves}
-use Rattle.tt_scan_dropouts.proofs.Lines.{floor_high, floor_low}
+use Rattle.tt_scan_gaps.specs.Crossings.{centre, gap_at, line_from}
+use Rattle.tt_scan_gaps.specs.Boxes.{columns_between, columns_of, greatest_x, least_x}
+use Rattle.tt_scan_gaps.specs.Seen.{turned_round}
+use Rattle.tt_scan_dropouts.specs.Dropouts.{edges_of, is_added_by_columns, is_added_by_rows, is_dropout, is_inked, outline_turned}
+use Rattle.tt_scan_gaps.specs.Gaps.{asked, boxed, gap_marks, in_gap, is_added, is_asked, is_free, leans_right, some_asks}
+use Rattle.tt_scan_gaps.specs.Walk.{marks}
+use Rattle.tt_scan_gaps.specs.declared.mark.Columns.{Columns}
+use Rattle.tt_scan_gaps.specs.declared.mark.Mark.{Mark}
+use Rattle.tt_scan_gaps.specs.declared.mark.Rules.{Rules}
+use Rattle.tt_scan_gaps.proofs.Bounds.{EdgeLeaves, EdgeWithin, IsWithin, edge_leaves_within}
+use Rattle.tt_scan_dropouts.proofs.Leaves.{outline_leaves}
+use Rattle.tt_scan_gaps.proofs.Lines.{floor_high, floor_low}
 
 -- the least and the greatest x of edge ends
 

@@ -16,10 +16,11 @@ use Rattle.tt_scan_edges.specs.declared.mark.Span.{Span}
 use Rattle.tt_scan_edges.specs.Marks.{covers}
 use Rattle.tt_scan_edges.specs.Winding.{FrameFits, column_x, is_between, is_black, row_y, rows_met}
 use Rattle.tt_scan_edges.proofs.Visits.{within_width}
-use Rattle.tt_scan_dropouts.specs.Crossings.{centre}
+use Rattle.tt_scan_gaps.specs.Crossings.{centre}
 use Rattle.tt_scan_dropouts.specs.Windows.{WindowFits, first_row, frame_of, has, has_rows, is_within, place, row_from_top}
 use Rattle.tt_scan_dropouts.specs.declared.window.Window.{Window}
-use Rattle.tt_scan_dropouts.proofs.Places.{both, eq_of, offset_within, or_false, row_within}
+use Rattle.tt_scan_gaps.proofs.Tests.{both, eq_of}
+use Rattle.tt_scan_dropouts.proofs.Places.{offset_within, or_false, row_within}
 
 -- a window's own frame has its rows, and a frame that has them all has each
 pub own_rows : (w : Window) → has_rows (frame_of w) w ≡ true

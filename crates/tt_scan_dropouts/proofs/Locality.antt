@@ -2,10 +2,10 @@
 use Rattle.std.proofs.Common.{◌≡◌, refl, Bool, List, arith}
 use Rattle.std.specs.Prelude.{ℤ, pos, ◌+ℤ◌, ◌-ℤ◌, ◌≤ℤ◌}
 use Rattle.std.proofs.lemmas.Int.{ints}
-use Rattle.tt_scan_dropouts.specs.Gaps.{is_added, is_free}
-use Rattle.tt_scan_dropouts.specs.declared.mark.Columns.{Columns}
-use Rattle.tt_scan_dropouts.specs.declared.mark.Mark.{Mark}
-use Rattle.tt_scan_dropouts.specs.declared.mark.Rules.{Rules}
+use Rattle.tt_scan_gaps.specs.Gaps.{is_added, is_free}
+use Rattle.tt_scan_gaps.specs.declared.mark.Columns.{Columns}
+use Rattle.tt_scan_gaps.specs.declared.mark.Mark.{Mark}
+use Rattle.tt_scan_gaps.specs.declared.mark.Rules.{Rules}
 
 -- two pictures agree round a pixel of a line
 abbrev pub AgreeRound : (ℤ → ℤ → Bool) → (ℤ → ℤ → Bool) → ℤ → ℤ → Type 0

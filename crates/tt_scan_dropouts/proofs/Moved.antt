@@ -5,13 +5,15 @@ use Rattle.std.proofs.lemmas.Int.{ints}
 use Rattle.std.proofs.lemmas.List.{map-append}
 use Rattle.tt_scan_edges.specs.declared.edge.Edge.{Edge}
 use Rattle.tt_scan_edges.specs.Winding.{is_between, is_black, is_zero, lies_on, lies_on_one, side, turned, winding}
-use Rattle.tt_scan_dropouts.specs.Crossings.{centre}
-use Rattle.tt_scan_dropouts.specs.Dropouts.{columns_of, edges_of, is_added_by_columns, is_added_by_rows, is_inked, outline_turned, row_adds, turned_round}
-use Rattle.tt_scan_dropouts.specs.Gaps.{is_added}
+use Rattle.tt_scan_gaps.specs.Crossings.{centre}
+use Rattle.tt_scan_gaps.specs.Boxes.{columns_of}
+use Rattle.tt_scan_gaps.specs.Seen.{turned_round}
+use Rattle.tt_scan_dropouts.specs.Dropouts.{edges_of, is_added_by_columns, is_added_by_rows, is_inked, outline_turned, row_adds}
+use Rattle.tt_scan_gaps.specs.Gaps.{is_added}
 use Rattle.tt_scan_dropouts.specs.Laws.{DropoutsMoved, moved, outline_moved}
-use Rattle.tt_scan_dropouts.specs.Walk.{contour_marks, marks}
-use Rattle.tt_scan_dropouts.specs.declared.mark.Mark.{Mark}
-use Rattle.tt_scan_dropouts.specs.declared.mark.Rules.{Rules}
+use Rattle.tt_scan_gaps.specs.Walk.{contour_marks, marks}
+use Rattle.tt_scan_gaps.specs.declared.mark.Mark.{Mark}
+use Rattle.tt_scan_gaps.specs.declared.mark.Rules.{Rules}
 use Rattle.tt_scan_dropouts.proofs.MovedGaps.{IsMoved, added_moved, box_moved, none_added, up_to_moved}
 use Rattle.tt_scan_dropouts.proofs.MovedLines.{apart_moved, centre_moved, less_moved}
 use Rattle.tt_scan_dropouts.proofs.MovedMarks.{mark_moved, marks_moved}

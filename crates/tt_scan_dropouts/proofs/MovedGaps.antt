@@ -6,13 +6,13 @@ use Rattle.std.specs.Int.{int_max, int_min}
 use Rattle.std.specs.Option.{option_map}
 use Rattle.std.proofs.lemmas.Int.{ints}
 use Rattle.tt_scan_edges.specs.declared.edge.Edge.{Edge}
-use Rattle.tt_scan_dropouts.specs.Crossings.{gap_at, line_from}
-use Rattle.tt_scan_dropouts.specs.Dropouts.{columns_of, greatest_x, least_x}
-use Rattle.tt_scan_dropouts.specs.Gaps.{adds, asked, asked_by, boxed, columns_between, gap_marks, in_gap, is_added, is_asked, is_free, leans_right, least_place, pixel_of, some_asks}
+use Rattle.tt_scan_gaps.specs.Crossings.{gap_at, line_from}
+use Rattle.tt_scan_gaps.specs.Boxes.{columns_between, columns_of, greatest_x, least_x}
+use Rattle.tt_scan_gaps.specs.Gaps.{adds, asked, asked_by, boxed, gap_marks, in_gap, is_added, is_asked, is_free, leans_right, least_place, pixel_of, some_asks}
 use Rattle.tt_scan_dropouts.specs.Laws.{moved}
-use Rattle.tt_scan_dropouts.specs.declared.mark.Columns.{Columns}
-use Rattle.tt_scan_dropouts.specs.declared.mark.Mark.{Mark}
-use Rattle.tt_scan_dropouts.specs.declared.mark.Rules.{Rules}
+use Rattle.tt_scan_gaps.specs.declared.mark.Columns.{Columns}
+use Rattle.tt_scan_gaps.specs.declared.mark.Mark.{Mark}
+use Rattle.tt_scan_gaps.specs.declared.mark.Rules.{Rules}
 use Rattle.tt_scan_dropouts.proofs.MovedLines.{gap_moved, less_moved, line_from_moved}
 use Rattle.tt_scan_dropouts.proofs.MovedMarks.{equal_moved, mark_moved}
 

@@ -5,10 +5,10 @@ use Rattle.std.specs.Int.{int_div_euclid, int_rem_euclid}
 use Rattle.std.specs.List.{range_with_len}
 use Rattle.std.proofs.lemmas.Int.{ints}
 use Rattle.tt_scan_edges.specs.declared.edge.Edge.{Edge}
-use Rattle.tt_scan_dropouts.specs.Crossings.{centre, crossing, crossing_at, crossings, edge_x, gap_at, is_rising, line_crossed, line_from, lines_crossed, place_at, touches, upward}
+use Rattle.tt_scan_gaps.specs.Crossings.{centre, crossing, crossing_at, crossings, edge_x, gap_at, is_rising, line_crossed, line_from, lines_crossed, place_at, touches, upward}
 use Rattle.tt_scan_dropouts.specs.Laws.{moved}
-use Rattle.tt_scan_dropouts.specs.declared.mark.Crossing.{Crossing}
-use Rattle.tt_scan_dropouts.proofs.Lines.{floor_high, floor_low}
+use Rattle.tt_scan_gaps.specs.declared.mark.Crossing.{Crossing}
+use Rattle.tt_scan_gaps.proofs.Lines.{floor_high, floor_low}
 
 -- floors
 

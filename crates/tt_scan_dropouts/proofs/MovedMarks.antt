@@ -7,14 +7,14 @@ use Rattle.std.specs.Ordering.{int_eq}
 use Rattle.std.proofs.lemmas.Int.{ints}
 use Rattle.std.proofs.lemmas.List.{drop-map, take-map, length-map, map-append, reverse-append}
 use Rattle.tt_scan_edges.specs.declared.edge.Edge.{Edge}
-use Rattle.tt_scan_dropouts.specs.Crossings.{centre, crossings, touches}
+use Rattle.tt_scan_gaps.specs.Crossings.{centre, crossings, touches}
 use Rattle.tt_scan_dropouts.specs.Laws.{moved, outline_moved}
-use Rattle.tt_scan_dropouts.specs.Walk.{contour_marks, edge_marks, is_of_stub, is_stub, is_tip, mark_of, marks, marks_of_step, others, step_marks, steps_of, walk, walk_marks, way}
-use Rattle.tt_scan_dropouts.specs.declared.mark.Crossing.{Crossing}
-use Rattle.tt_scan_dropouts.specs.declared.mark.Leg.{Leg}
-use Rattle.tt_scan_dropouts.specs.declared.mark.Mark.{Mark}
-use Rattle.tt_scan_dropouts.specs.declared.mark.Step.{Step}
-use Rattle.tt_scan_dropouts.specs.declared.mark.Step.TheVariants as step
+use Rattle.tt_scan_gaps.specs.Walk.{contour_marks, edge_marks, is_of_stub, is_stub, is_tip, mark_of, marks, marks_of_step, others, step_marks, steps_of, walk, walk_marks, way}
+use Rattle.tt_scan_gaps.specs.declared.mark.Crossing.{Crossing}
+use Rattle.tt_scan_gaps.specs.declared.mark.Leg.{Leg}
+use Rattle.tt_scan_gaps.specs.declared.mark.Mark.{Mark}
+use Rattle.tt_scan_gaps.specs.declared.mark.Step.{Step}
+use Rattle.tt_scan_gaps.specs.declared.mark.Step.TheVariants as step
 use Rattle.tt_scan_dropouts.proofs.MovedLines.{apart_moved, centre_moved, crossing_moved, crossings_moved, touches_moved}
 
 -- lists

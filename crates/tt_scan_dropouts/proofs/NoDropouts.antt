@@ -11,15 +11,15 @@ use Rattle.std.proofs.lemmas.List.Folds.{list_any_at, list_any_none}
 use Rattle.tt_scan.specs.Contours.{AreEnds, IsClosed, contours_at}
 use Rattle.tt_scan_edges.specs.Winding.{is_black}
 use Rattle.tt_scan_edges.specs.declared.edge.Edge.{Edge}
-use Rattle.tt_scan_dropouts.specs.BothWays.{NoneFreeBothWays, has_end_on_line, is_black_seen}
-use Rattle.tt_scan_dropouts.specs.Crossings.{agree, centre, crossings, is_on_line}
-use Rattle.tt_scan_dropouts.specs.Dropouts.{edges_of, is_added_by_columns, is_added_by_rows, is_dropout, is_inked, outline_turned, row_adds, turned_round}
-use Rattle.tt_scan_dropouts.specs.Gaps.{is_free}
-use Rattle.tt_scan_dropouts.specs.Laws.{crosses_gap, goes_through, is_through}
-use Rattle.tt_scan_dropouts.specs.Walk.{is_in_free_gap, some_in_free_gap}
-use Rattle.tt_scan_dropouts.specs.declared.mark.Crossing.{Crossing}
-use Rattle.tt_scan_dropouts.specs.declared.mark.Rules.{Rules}
-use Rattle.tt_scan_dropouts.specs.declared.window.Over.TheVariants as over
+use Rattle.tt_scan_gaps.specs.BothWays.{NoneFreeBothWays, crosses_gap, goes_through, is_black_seen, is_through}
+use Rattle.tt_scan_gaps.specs.Crossings.{agree, centre, crossings, has_end_on_line, is_on_line}
+use Rattle.tt_scan_gaps.specs.Seen.{turned_round}
+use Rattle.tt_scan_dropouts.specs.Dropouts.{edges_of, is_added_by_columns, is_added_by_rows, is_dropout, is_inked, outline_turned, row_adds}
+use Rattle.tt_scan_gaps.specs.Gaps.{is_free}
+use Rattle.tt_scan_gaps.specs.Walk.{is_in_free_gap, some_in_free_gap}
+use Rattle.tt_scan_gaps.specs.declared.mark.Crossing.{Crossing}
+use Rattle.tt_scan_gaps.specs.declared.mark.Rules.{Rules}
+use Rattle.tt_scan_gaps.specs.declared.seen.Over.TheVariants as over
 use Rattle.tt_scan_dropouts.proofs.BothWays.{rows_crossed}
 use Rattle.tt_scan_dropouts.proofs.NoFreeGap.{none_touched, nothing_added}
 use Rattle.tt_scan_dropouts.proofs.Outlines.{edges_at, ends_turned, turned_at}

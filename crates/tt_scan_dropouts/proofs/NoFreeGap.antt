@@ -10,27 +10,21 @@ use Rattle.std.proofs.lemmas.Bool.{cases_Bool}
 use Rattle.std.proofs.lemmas.Int.{ints}
 use Rattle.tt_scan.specs.Contours.{AreEnds, contours_at}
 use Rattle.tt_scan_edges.specs.declared.edge.Edge.{Edge}
-use Rattle.tt_scan_dropouts.specs.Crossings.{crossing, crossings, is_on_line, line_crossed, line_from, lines_crossed, meets_line, touches}
-use Rattle.tt_scan_dropouts.specs.Dropouts.{columns_of, edges_of, row_adds}
-use Rattle.tt_scan_dropouts.specs.Gaps.{asked, free_marks, is_added, is_free}
-use Rattle.tt_scan_dropouts.specs.Walk.{contour_marks, edge_marks, is_in_free_gap, mark_of, marks, marks_of_step, some_in_free_gap, step_marks, steps_of, walk}
-use Rattle.tt_scan_dropouts.specs.declared.mark.Columns.{Columns}
-use Rattle.tt_scan_dropouts.specs.declared.mark.Crossing.{Crossing}
-use Rattle.tt_scan_dropouts.specs.declared.mark.Rules.{Rules}
-use Rattle.tt_scan_dropouts.specs.declared.mark.Step.{Step}
-use Rattle.tt_scan_dropouts.specs.declared.mark.Step.TheVariants as step
-use Rattle.tt_scan_dropouts.proofs.FreeMarks.{added_kept}
-use Rattle.tt_scan_dropouts.proofs.Lines.{off_touches_none}
+use Rattle.tt_scan_gaps.specs.Crossings.{crossing, crossings, is_on_line, line_crossed, line_from, lines_crossed, meets_line, touches}
+use Rattle.tt_scan_gaps.specs.Boxes.{columns_of}
+use Rattle.tt_scan_dropouts.specs.Dropouts.{edges_of, row_adds}
+use Rattle.tt_scan_gaps.specs.Gaps.{asked, free_marks, is_added, is_free}
+use Rattle.tt_scan_gaps.specs.Walk.{contour_marks, edge_marks, is_in_free_gap, mark_of, marks, marks_of_step, some_in_free_gap, step_marks, steps_of, walk}
+use Rattle.tt_scan_gaps.specs.declared.mark.Columns.{Columns}
+use Rattle.tt_scan_gaps.specs.declared.mark.Crossing.{Crossing}
+use Rattle.tt_scan_gaps.specs.declared.mark.Rules.{Rules}
+use Rattle.tt_scan_gaps.specs.declared.mark.Step.{Step}
+use Rattle.tt_scan_gaps.specs.declared.mark.Step.TheVariants as step
+use Rattle.tt_scan_dropouts.proofs.FreeMarks.{added_kept, free_append, free_edge}
+use Rattle.tt_scan_gaps.proofs.Lines.{eq_lines, off_touches_none}
+use Rattle.tt_scan_gaps.proofs.Tests.{first_not, other_not}
 use Rattle.tt_scan_dropouts.proofs.Outlines.{edges_at}
-use Rattle.tt_scan_dropouts.proofs.Walks.{free_append, free_edge, more_crossings}
-
-first_not : (a b : Bool) → (a || b) ≡ false → a ≡ false
-first_not true b not = not
-first_not false b not = refl
-
-other_not : (a b : Bool) → (a || b) ≡ false → b ≡ false
-other_not true b not = cc
-other_not false b not = not
+use Rattle.tt_scan_gaps.proofs.Walks.{more_crossings}
 
 -- the crossings of an edge, one after the other
 
@@ -242,12 +236,6 @@ pub none_touched : (stubs : Bool) (black : ℤ → ℤ → Bool) (e : Edge) → 
 none_touched false black e none = refl
 none_touched true black e none =
     rw (no_touches e (first_not (is_on_line e.ay) (is_on_line e.by) none) (other_not (is_on_line e.ay) (is_on_line e.by) none)) refl
-
-eq_lines : (a b : ℤ) → not (int_eq (line_from a) (line_from b)) ≡ false → line_from a ≡ line_from b
-eq_lines a b apart = grind (arith, ints, apart)
-
-pub level : (a b : ℤ) → meets_line false a b ≡ false → line_from a ≡ line_from b
-level a b none = eq_lines a b (first_not (not (int_eq (line_from a) (line_from b))) false none)
 
 pub none_met : (stubs : Bool) (black : ℤ → ℤ → Bool) (e : Edge) → meets_line stubs e.ay e.by ≡ false
     → is_in_free_gap stubs black e ≡ false

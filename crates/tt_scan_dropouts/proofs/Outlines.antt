@@ -8,7 +8,8 @@ use Rattle.std.proofs.lemmas.List.Folds.{drop_split}
 use Rattle.tt_scan.specs.Contours.{AreEnds, AreEndsFrom, contours_at, contours_from}
 use Rattle.tt_scan_edges.specs.Winding.{EdgeFits}
 use Rattle.tt_scan_edges.specs.declared.edge.Edge.{Edge}
-use Rattle.tt_scan_dropouts.specs.Dropouts.{edges_of, outline_turned, turned_round}
+use Rattle.tt_scan_gaps.specs.Seen.{turned_round}
+use Rattle.tt_scan_dropouts.specs.Dropouts.{edges_of, outline_turned}
 
 drop_whole : (es : List Edge) → drop (length es) es ≡ []
 drop_whole [] = refl

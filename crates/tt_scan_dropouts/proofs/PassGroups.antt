@@ -5,11 +5,12 @@ use Rattle.std.proofs.lemmas.Int.{ints}
 use Rattle.std.proofs.lemmas.List.{get_or_default, get_or-drop, get_or-take}
 use Rattle.std.specs.List.{list_any}
 use Rattle.std.specs.Ordering.{int_eq}
-use Rattle.tt_scan_dropouts.specs.Gaps.{IsFirstInGap, IsGroup, IsInOrder, asked, asked_by, gives_way, in_gap, is_asked, is_up_to}
-use Rattle.tt_scan_dropouts.specs.declared.mark.Columns.{Columns}
-use Rattle.tt_scan_dropouts.specs.declared.mark.Crossing.{Crossing}
-use Rattle.tt_scan_dropouts.specs.declared.mark.Mark.{Mark}
-use Rattle.tt_scan_dropouts.specs.declared.mark.Rules.{Rules}
+use Rattle.tt_scan_gaps.specs.Gaps.{IsFirstInGap, IsGroup, IsInOrder, asked, asked_by, in_gap, is_asked, is_up_to}
+use Rattle.tt_scan_dropouts.specs.Passes.{gives_way}
+use Rattle.tt_scan_gaps.specs.declared.mark.Columns.{Columns}
+use Rattle.tt_scan_gaps.specs.declared.mark.Crossing.{Crossing}
+use Rattle.tt_scan_gaps.specs.declared.mark.Mark.{Mark}
+use Rattle.tt_scan_gaps.specs.declared.mark.Rules.{Rules}
 use Rattle.tt_scan_dropouts.specs.declared.pass.Wish.{Wish}
 use Rattle.tt_scan_dropouts.proofs.PassSteps.{AreBefore, IsLast, added_so_far, done, done_more, gap_of, none_in}
 

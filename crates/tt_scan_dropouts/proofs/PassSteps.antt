@@ -5,12 +5,13 @@ use Rattle.std.proofs.lemmas.Int.{ints}
 use Rattle.std.proofs.lemmas.List.Folds.{list_any-append}
 use Rattle.std.specs.List.{list_any}
 use Rattle.std.specs.Ordering.{int_eq}
-use Rattle.tt_scan_dropouts.specs.Gaps.{IsGroup, asked, asked_by, boxed, gap_marks, gives_way, has_pixel, in_gap, is_added, is_asked, is_free, is_up_to, leans_right, pixel_of, some_asks}
-use Rattle.tt_scan_dropouts.specs.declared.mark.Columns.{Columns}
-use Rattle.tt_scan_dropouts.specs.declared.mark.Crossing.{Crossing}
-use Rattle.tt_scan_dropouts.specs.declared.mark.Mark.{Mark}
-use Rattle.tt_scan_dropouts.specs.declared.mark.Pixel.{Pixel}
-use Rattle.tt_scan_dropouts.specs.declared.mark.Rules.{Rules}
+use Rattle.tt_scan_gaps.specs.Gaps.{IsGroup, asked, asked_by, boxed, gap_marks, in_gap, is_added, is_asked, is_free, is_up_to, leans_right, pixel_of, some_asks}
+use Rattle.tt_scan_dropouts.specs.Passes.{gives_way, has_pixel}
+use Rattle.tt_scan_gaps.specs.declared.mark.Columns.{Columns}
+use Rattle.tt_scan_gaps.specs.declared.mark.Crossing.{Crossing}
+use Rattle.tt_scan_gaps.specs.declared.mark.Mark.{Mark}
+use Rattle.tt_scan_dropouts.specs.declared.pixel.Pixel.{Pixel}
+use Rattle.tt_scan_gaps.specs.declared.mark.Rules.{Rules}
 use Rattle.tt_scan_dropouts.specs.declared.pass.Wish.{Wish}
 
 pub asks_for : (rules : Rules) (b : Columns) (black : ℤ → ℤ → Bool) (j c q : ℤ) (here : List Mark)

@@ -13,11 +13,11 @@ use Rattle.tt_core.specs.Limits.{width_limit}
 use Rattle.tt_scan_edges.specs.declared.edge.Edge.{Edge}
 use Rattle.tt_scan_edges.specs.declared.edge.Frame.{Frame}
 use Rattle.tt_scan_dropouts.specs.Dropouts.{is_dropout}
-use Rattle.tt_scan_dropouts.specs.Gaps.{has_pixel}
+use Rattle.tt_scan_dropouts.specs.Passes.{has_pixel}
 use Rattle.tt_scan_dropouts.specs.Pictures.{column_at, is_among, is_at, is_dropout_from, line_at}
 use Rattle.tt_scan_dropouts.specs.Windows.{WindowFits, has, widened}
-use Rattle.tt_scan_dropouts.specs.declared.mark.Pixel.{Pixel}
-use Rattle.tt_scan_dropouts.specs.declared.mark.Rules.{Rules}
+use Rattle.tt_scan_dropouts.specs.declared.pixel.Pixel.{Pixel}
+use Rattle.tt_scan_gaps.specs.declared.mark.Rules.{Rules}
 use Rattle.tt_scan_dropouts.specs.declared.picture.Dropout.{Dropout}
 use Rattle.tt_scan_dropouts.specs.declared.window.Window.{Window}
 

@@ -4,12 +4,12 @@ use Rattle.std.specs.Prelude.{ℤ}
 use Rattle.std.proofs.lemmas.Int.{ints}
 use Rattle.std.proofs.lemmas.List.{take_more}
 use Rattle.std.specs.Ordering.{int_eq}
-use Rattle.tt_scan_dropouts.specs.Gaps.{has_pixel}
+use Rattle.tt_scan_dropouts.specs.Passes.{has_pixel}
 use Rattle.tt_scan_dropouts.specs.Windows.{has, has_pixel_by}
-use Rattle.tt_scan_dropouts.specs.declared.mark.Pixel.{Pixel}
+use Rattle.tt_scan_dropouts.specs.declared.pixel.Pixel.{Pixel}
 use Rattle.tt_scan_dropouts.specs.declared.window.Window.{Window}
-use Rattle.tt_scan_dropouts.specs.declared.window.Over.{Over}
-use Rattle.tt_scan_dropouts.specs.declared.window.Over.TheVariants as over
+use Rattle.tt_scan_gaps.specs.declared.seen.Over.{Over}
+use Rattle.tt_scan_gaps.specs.declared.seen.Over.TheVariants as over
 
 or_false : (b : Bool) → (b || false) ≡ b
 or_false true = refl

@@ -6,14 +6,11 @@ use Rattle.std.proofs.lemmas.Bool.Decides.{nat_tests}
 use Rattle.std.proofs.lemmas.Int.{ints}
 use Rattle.std.proofs.lemmas.Nat.{mul-le}
 use Rattle.tt_core.specs.Bits.{bit, stride}
-use Rattle.tt_scan_dropouts.specs.Gaps.{has_pixel}
+use Rattle.tt_scan_dropouts.specs.Passes.{has_pixel}
 use Rattle.tt_scan_dropouts.specs.Windows.{Bitmap, has, is_black_in, is_within, place}
-use Rattle.tt_scan_dropouts.specs.declared.mark.Pixel.{Pixel}
+use Rattle.tt_scan_gaps.proofs.Tests.{both, eq_of}
+use Rattle.tt_scan_dropouts.specs.declared.pixel.Pixel.{Pixel}
 use Rattle.tt_scan_dropouts.specs.declared.window.Window.{Window}
-
-pub both : (a b : Bool) → (a && b) ≡ true → (a ≡ true) × (b ≡ true)
-both true b is = (refl, is)
-both false b is = absurd cc
 
 and_swap : (a b : Bool) → (a && b) ≡ (b && a)
 and_swap true true = refl
@@ -28,9 +25,6 @@ or_false false = refl
 pub or_or : (a b c : Bool) → (a || (b || c)) ≡ ((a || b) || c)
 or_or true b c = refl
 or_or false b c = refl
-
-pub eq_of : (a b : ℤ) → int_eq a b ≡ true → a ≡ b
-eq_of a b is = grind (arith, ints)
 
 -- the bytes of the rows below a row, and those of the row, are within those of all rows
 pub row_within : (w h r : ℕ) → r < h → stride w * r + stride w ≤ stride w * h

@@ -7,7 +7,7 @@ use Rattle.std.proofs.lemmas.List.{drop_more}
 use Rattle.std.proofs.lemmas.List.Elements.{All-cons}
 use Rattle.tt_scan.specs.Contours.{GoesRound, IsClosed, Meets, contours_from}
 use Rattle.tt_scan_edges.specs.declared.edge.Edge.{Edge}
-use Rattle.tt_scan_dropouts.proofs.Places.{both, eq_of}
+use Rattle.tt_scan_gaps.proofs.Tests.{both, eq_of}
 
 pub meets : (e f : Edge) → (int_eq e.bx f.ax && int_eq e.by f.ay) ≡ true → Meets e f
 meets e f is =

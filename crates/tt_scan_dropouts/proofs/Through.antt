@@ -7,10 +7,10 @@ use Rattle.std.proofs.lemmas.Int.{by_lt_z, ints}
 use Rattle.std.proofs.lemmas.List.Folds.{list_any_at, list_any_none}
 use Rattle.std.proofs.lemmas.List.FromFn.{get_or-map-range_with_len, length-map-range_with_len}
 use Rattle.tt_scan_edges.specs.declared.edge.Edge.{Edge}
-use Rattle.tt_scan_dropouts.specs.Crossings.{agree, centre, crossing, crossings, edge_x, gap_at, is_rising, line_crossed, line_from, lines_crossed, upward}
-use Rattle.tt_scan_dropouts.specs.Laws.{goes_through, is_through}
-use Rattle.tt_scan_dropouts.proofs.Lines.{floor_high, floor_low, line_high, line_low}
-use Rattle.tt_scan_dropouts.proofs.Places.{eq_of}
+use Rattle.tt_scan_gaps.specs.Crossings.{agree, centre, crossing, crossings, edge_x, gap_at, is_rising, line_crossed, line_from, lines_crossed, upward}
+use Rattle.tt_scan_gaps.specs.BothWays.{goes_through, is_through}
+use Rattle.tt_scan_gaps.proofs.Lines.{floor_high, floor_low, line_high, line_low}
+use Rattle.tt_scan_gaps.proofs.Tests.{eq_of}
 
 three : (a b c : Bool) → (a && b && c) ≡ true → (a ≡ true) × (b ≡ true) × (c ≡ true)
 three true true c is = (refl, refl, is)

@@ -5,13 +5,14 @@ use Rattle.std.specs.Prelude.{ℤ, pos, ◌+ℤ◌, ◌-ℤ◌, ◌≤ℤ◌, �
 use Rattle.std.proofs.lemmas.Int.{ints}
 use Rattle.tt_scan.specs.Contours.{AreEnds, contours_at}
 use Rattle.tt_scan_edges.specs.declared.edge.Edge.{Edge}
-use Rattle.tt_scan_dropouts.specs.Dropouts.{columns_of, edges_of, is_added_by_columns, is_added_by_rows, is_dropout, is_inked, outline_turned, row_adds}
-use Rattle.tt_scan_dropouts.specs.Gaps.{free_marks, is_added}
-use Rattle.tt_scan_dropouts.specs.Walk.{marks}
+use Rattle.tt_scan_gaps.specs.Boxes.{columns_of}
+use Rattle.tt_scan_dropouts.specs.Dropouts.{edges_of, is_added_by_columns, is_added_by_rows, is_dropout, is_inked, outline_turned, row_adds}
+use Rattle.tt_scan_gaps.specs.Gaps.{free_marks, is_added}
+use Rattle.tt_scan_gaps.specs.Walk.{marks}
 use Rattle.tt_scan_dropouts.specs.Windows.{has, widened}
-use Rattle.tt_scan_dropouts.specs.declared.mark.Columns.{Columns}
-use Rattle.tt_scan_dropouts.specs.declared.mark.Mark.{Mark}
-use Rattle.tt_scan_dropouts.specs.declared.mark.Rules.{Rules}
+use Rattle.tt_scan_gaps.specs.declared.mark.Columns.{Columns}
+use Rattle.tt_scan_gaps.specs.declared.mark.Mark.{Mark}
+use Rattle.tt_scan_gaps.specs.declared.mark.Rules.{Rules}
 use Rattle.tt_scan_dropouts.specs.declared.window.Window.{Window}
 use Rattle.tt_scan_dropouts.proofs.FreeMarks.{added_kept}
 use Rattle.tt_scan_dropouts.proofs.Locality.{added_alike}

@@ -9,8 +9,9 @@ use Rattle.tt_scan_edges.specs.Winding.{lies_on, lies_on_one, side, turned, wind
 use Rattle.tt_scan_edges.specs.declared.edge.Edge.{Edge}
 use Rattle.tt_scan_edges.proofs.Bools.{or_or}
 use Rattle.tt_scan_edges.proofs.Crosses.{turned_at}
-use Rattle.tt_scan_dropouts.specs.Crossings.{centre}
-use Rattle.tt_scan_dropouts.specs.Dropouts.{edges_of, is_inked, outline_turned, turned_round}
+use Rattle.tt_scan_gaps.specs.Crossings.{centre}
+use Rattle.tt_scan_gaps.specs.Seen.{turned_round}
+use Rattle.tt_scan_dropouts.specs.Dropouts.{edges_of, is_inked, outline_turned}
 use Rattle.tt_scan_dropouts.specs.Laws.{ColumnsCrossedBothWays}
 use Rattle.tt_scan_dropouts.proofs.BothWays.{both_ways, free, one_if, white}
 use Rattle.tt_scan_dropouts.proofs.EdgeSides.{Known, known}

@@ -3,13 +3,14 @@ use Rattle.std.proofs.Common.{◌≡◌, refl, Bool, true, false, not, ◌&&◌,
 use Rattle.std.proofs.lemmas.Bool.{cases_Bool}
 use Rattle.std.specs.Prelude.{ℤ, pos, ◌+ℤ◌, ◌-ℤ◌, None}
 use Rattle.std.proofs.lemmas.Int.{ints}
-use Rattle.tt_scan_dropouts.specs.Gaps.{asked, is_added, is_free}
+use Rattle.tt_scan_gaps.specs.Gaps.{asked, is_added, is_free}
 use Rattle.tt_scan_dropouts.specs.Laws.{AddedByColumnsWasWhite, AddedByRowsWasWhite, DropoutWasWhite}
-use Rattle.tt_scan_dropouts.specs.Dropouts.{columns_of, edges_of, is_added_by_columns, is_added_by_rows, is_inked, outline_turned}
-use Rattle.tt_scan_dropouts.specs.Walk.{marks}
-use Rattle.tt_scan_dropouts.specs.declared.mark.Columns.{Columns}
-use Rattle.tt_scan_dropouts.specs.declared.mark.Mark.{Mark}
-use Rattle.tt_scan_dropouts.specs.declared.mark.Rules.{Rules}
+use Rattle.tt_scan_gaps.specs.Boxes.{columns_of}
+use Rattle.tt_scan_dropouts.specs.Dropouts.{edges_of, is_added_by_columns, is_added_by_rows, is_inked, outline_turned}
+use Rattle.tt_scan_gaps.specs.Walk.{marks}
+use Rattle.tt_scan_gaps.specs.declared.mark.Columns.{Columns}
+use Rattle.tt_scan_gaps.specs.declared.mark.Mark.{Mark}
+use Rattle.tt_scan_gaps.specs.declared.mark.Rules.{Rules}
 
 neither : (b : Bool) → (not b && false) ≡ false
 neither true = refl

@@ -3,9 +3,11 @@
 use Rattle.std.specs.Prelude.{◌≡◌, refl, ℕ, ◌+◌, ◌*◌, ◌/◌, ◌-◌, min, pos, negsuc, ◌-ℤ◌, unsigned_abs, List, [], ◌∷◌, length, map}
 use Rattle.tt_core.specs.Bits.{stride}
 use Rattle.tt_scan_edges.specs.declared.edge.Edge.{Edge}
-use Rattle.tt_scan_dropouts.specs.Crossings.{lines_crossed}
-use Rattle.tt_scan_dropouts.specs.Dropouts.{columns_of, crossed, turned_round}
-use Rattle.tt_scan_dropouts.specs.declared.mark.Columns.{Columns}
+use Rattle.tt_scan_gaps.specs.Crossings.{lines_crossed}
+use Rattle.tt_scan_gaps.specs.Boxes.{columns_of}
+use Rattle.tt_scan_gaps.specs.Seen.{turned_round}
+use Rattle.tt_scan_dropouts.specs.Dropouts.{crossed}
+use Rattle.tt_scan_gaps.specs.declared.mark.Columns.{Columns}
 
 -- rows are worked on in bands of at most this many
 abbrev pub band_rows : ℕ

@@ -1,40 +1,23 @@
 -- The dropouts of a glyph: first a pass over all rows, then a pass over all columns. For the second pass the pixels
 -- that the rows added are black (profile).
-use Rattle.std.specs.Prelude.{ℕ, ◌+◌, Bool, ◌||◌, ℤ, pos, List, [], ◌∷◌, map}
+use Rattle.std.specs.Prelude.{ℕ, ◌+◌, Bool, ◌||◌, ℤ, List, [], ◌∷◌, map}
 use Rattle.std.specs.List.{flat_map}
-use Rattle.std.specs.Int.{int_max, int_min}
 use Rattle.tt_scan_edges.specs.declared.edge.Edge.{Edge}
 use Rattle.tt_scan_edges.specs.Winding.{is_black}
-use Rattle.tt_scan_dropouts.specs.Crossings.{centre, lines_crossed}
-use Rattle.tt_scan_dropouts.specs.Gaps.{columns_between, is_added}
-use Rattle.tt_scan_dropouts.specs.Walk.{marks}
-use Rattle.tt_scan_dropouts.specs.declared.mark.Columns.{Columns}
-use Rattle.tt_scan_dropouts.specs.declared.mark.Rules.{Rules}
+use Rattle.tt_scan_gaps.specs.Crossings.{centre, lines_crossed}
+use Rattle.tt_scan_gaps.specs.Boxes.{columns_of}
+use Rattle.tt_scan_gaps.specs.Gaps.{is_added}
+use Rattle.tt_scan_gaps.specs.Seen.{turned_round}
+use Rattle.tt_scan_gaps.specs.Walk.{marks}
+use Rattle.tt_scan_gaps.specs.declared.mark.Rules.{Rules}
 
 -- x and y exchanged
-abbrev pub turned_round : Edge → Edge
-turned_round e = record { ax = e.ay; ay = e.ax; bx = e.by; by = e.bx }
-
 abbrev pub outline_turned : List (List Edge) → List (List Edge)
 outline_turned contours = map (map turned_round) contours
 
 -- the edges of all contours
 abbrev pub edges_of : List (List Edge) → List Edge
 edges_of contours = flat_map (λ es. es) contours
-
--- the least and the greatest x of the edge ends
-abbrev pub least_x : ℤ → List Edge → ℤ
-least_x x [] = x
-least_x x (e ∷ es) = least_x (int_min x (int_min e.ax e.bx)) es
-
-abbrev pub greatest_x : ℤ → List Edge → ℤ
-greatest_x x [] = x
-greatest_x x (e ∷ es) = greatest_x (int_max x (int_max e.ax e.bx)) es
-
--- the columns of an outline's box
-abbrev pub columns_of : List Edge → Columns
-columns_of [] = record { first = pos 0; last = pos 0 }
-columns_of (e ∷ es) = columns_between (least_x e.ax (e ∷ es)) (greatest_x e.ax (e ∷ es))
 
 -- the pass over an outline's rows adds a pixel, by the pixels that are black before
 abbrev pub row_adds : Rules → List (List Edge) → (ℤ → ℤ → Bool) → ℤ → ℤ → Bool

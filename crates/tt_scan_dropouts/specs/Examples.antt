@@ -5,7 +5,7 @@ use Rattle.std.specs.Prelude.{◌≡◌, refl, ℕ, ◌*◌, true, false, if◌t
 use Rattle.std.specs.List.{range_with_len}
 use Rattle.tt_scan_edges.specs.declared.edge.Edge.{Edge}
 use Rattle.tt_scan_dropouts.specs.Dropouts.{is_inked, is_added_by_rows, is_added_by_columns}
-use Rattle.tt_scan_dropouts.specs.declared.mark.Rules.{Rules}
+use Rattle.tt_scan_gaps.specs.declared.mark.Rules.{Rules}
 
 -- the edge between two points
 line : ℕ × ℕ → ℕ × ℕ → Edge

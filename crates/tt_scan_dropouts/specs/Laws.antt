@@ -1,18 +1,17 @@
 -- Lemmas about the definitions: dropouts are white without them, and move with their glyph. A free gap is crossed both
 -- ways or not at all. What a glyph needs is at most what it counts, and it counts the same at each pen.
-use Rattle.std.specs.Prelude.{◌≡◌, refl, ℕ, ◌/◌, ◌≤◌, Bool, true, false, ◌&&◌, ℤ, pos, ◌+ℤ◌, ◌*ℤ◌, All, List, [], ◌∷◌, map}
-use Rattle.std.specs.List.{list_any, range_with_len, sum_by}
-use Rattle.std.specs.Ordering.{int_eq}
+use Rattle.std.specs.Prelude.{◌≡◌, refl, ℕ, ◌/◌, ◌≤◌, true, false, ℤ, pos, ◌+ℤ◌, ◌*ℤ◌, All, List, [], ◌∷◌, map}
+use Rattle.std.specs.List.{range_with_len, sum_by}
 use Rattle.tt_scan.specs.Contours.{IsClosed}
 use Rattle.tt_scan_edges.specs.Winding.{crossings_of, is_black}
 use Rattle.tt_scan_edges.specs.declared.edge.Edge.{Edge}
 use Rattle.tt_scan_edges.specs.declared.edge.Frame.{Frame}
 use Rattle.tt_scan_dropouts.specs.Counted.{bands, bitmap_bytes, box_columns, box_rows, edges_counted, filling_counted, rows_of_band}
-use Rattle.tt_scan_dropouts.specs.Crossings.{agree, centre, crossings}
+use Rattle.tt_scan_gaps.specs.BothWays.{crosses_gap}
+use Rattle.tt_scan_gaps.specs.Crossings.{centre}
 use Rattle.tt_scan_dropouts.specs.Dropouts.{edges_of, is_added_by_columns, is_added_by_rows, is_dropout, is_inked, outline_turned}
-use Rattle.tt_scan_dropouts.specs.Gaps.{is_free}
-use Rattle.tt_scan_dropouts.specs.declared.mark.Crossing.{Crossing}
-use Rattle.tt_scan_dropouts.specs.declared.mark.Rules.{Rules}
+use Rattle.tt_scan_gaps.specs.Gaps.{is_free}
+use Rattle.tt_scan_gaps.specs.declared.mark.Rules.{Rules}
 
 -- a pixel that the rows add is white by rules 1 and 2
 abbrev pub AddedByRowsWasWhite : Type 0
@@ -46,18 +45,6 @@ outline_moved k m contours = map (map (moved k m)) contours
 abbrev pub DropoutsMoved : Type 0
 DropoutsMoved = (rules : Rules) (contours : List (List Edge)) (k m c j : ℤ)
     → is_dropout rules (outline_moved k m contours) (c +ℤ k) (j +ℤ m) ≡ is_dropout rules contours c j
-
--- a crossing that goes through gap c of line j, rising or falling
-abbrev pub is_through : Bool → ℤ → ℤ → Crossing → Bool
-is_through up j c q = int_eq q.line j && int_eq q.gap c && agree q.up up
-
--- an edge has a crossing through gap c of line j, rising or falling
-abbrev pub goes_through : Bool → ℤ → ℤ → Edge → Bool
-goes_through up j c e = list_any (is_through up j c) (crossings e)
-
--- some edge has a crossing through gap c of line j, rising or falling
-abbrev pub crosses_gap : Bool → List Edge → ℤ → ℤ → Bool
-crosses_gap up es j c = list_any (goes_through up j c) es
 
 -- some edge rises through a free gap of a row if and only if one falls through it, whatever the edges
 abbrev pub RowsCrossedBothWays : Type 0

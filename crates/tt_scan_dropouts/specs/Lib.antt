@@ -1,10 +1,7 @@
-pub mod BothWays
 pub mod Counted
-pub mod Crossings
 pub mod Dropouts
 pub mod Examples
-pub mod Gaps
 pub mod Laws
+pub mod Passes
 pub mod Pictures
-pub mod Walk
 pub mod Windows

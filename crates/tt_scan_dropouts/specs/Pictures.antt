@@ -5,7 +5,7 @@ use Rattle.std.specs.List.Sorted.{IsNonDecreasingBy}
 use Rattle.tt_scan_edges.specs.declared.edge.Edge.{Edge}
 use Rattle.tt_scan_edges.specs.declared.edge.Frame.{Frame}
 use Rattle.tt_scan_dropouts.specs.Dropouts.{is_dropout}
-use Rattle.tt_scan_dropouts.specs.declared.mark.Rules.{Rules}
+use Rattle.tt_scan_gaps.specs.declared.mark.Rules.{Rules}
 use Rattle.tt_scan_dropouts.specs.declared.picture.Dropout.{Dropout}
 
 -- column c of a picture, counted rightwards from a pen, and row r, counted upwards from the base line

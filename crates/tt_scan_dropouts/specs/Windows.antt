@@ -4,17 +4,15 @@ use Rattle.std.specs.Prelude.{ℕ, ◌+◌, ◌*◌, ◌^◌, ◌<◌, ◌≤◌
 use Rattle.std.specs.Int.{int_max}
 use Rattle.tt_core.specs.Bits.{bit, stride}
 use Rattle.tt_core.specs.Limits.{height_limit}
-use Rattle.tt_scan_edges.specs.declared.edge.Edge.{Edge}
 use Rattle.tt_scan_edges.specs.declared.edge.Frame.{Frame}
-use Rattle.tt_scan_dropouts.specs.Dropouts.{turned_round}
-use Rattle.tt_scan_dropouts.specs.Gaps.{has_pixel}
-use Rattle.tt_scan_dropouts.specs.declared.columns.Extent.{Extent}
-use Rattle.tt_scan_dropouts.specs.declared.mark.Columns.{Columns}
-use Rattle.tt_scan_dropouts.specs.declared.mark.Pixel.{Pixel}
+use Rattle.tt_scan_gaps.specs.Boxes.{is_column_of}
+use Rattle.tt_scan_gaps.specs.declared.mark.Columns.{Columns}
+use Rattle.tt_scan_gaps.specs.declared.seen.Over.{Over}
+use Rattle.tt_scan_gaps.specs.declared.seen.Over.TheVariants as over
+use Rattle.tt_scan_dropouts.specs.Passes.{has_pixel}
+use Rattle.tt_scan_dropouts.specs.declared.pixel.Pixel.{Pixel}
 use Rattle.tt_scan_dropouts.specs.declared.window.Part.{Part}
 use Rattle.tt_scan_dropouts.specs.declared.window.Window.{Window}
-use Rattle.tt_scan_dropouts.specs.declared.window.Over.{Over}
-use Rattle.tt_scan_dropouts.specs.declared.window.Over.TheVariants as over
 
 -- limits on a window: at most the rows of a picture, and two more on each side
 pub record WindowFits (w : Window) : Type 0 where
@@ -25,16 +23,6 @@ pub record WindowFits (w : Window) : Type 0 where
   pub low : 1 ≤ w.height
   pub high : w.height ≤ height_limit + 4
 
--- limits on the columns of a box, or its rows
-pub record ColumnsFit (b : Columns) : Type 0 where
-  pub first : unsigned_abs b.first < 2 ^ 19
-  pub last : unsigned_abs b.last < 2 ^ 19
-
--- limits on an extent
-pub record ExtentFits (e : Extent) : Type 0 where
-  pub low : unsigned_abs e.low < 2 ^ 30
-  pub high : unsigned_abs e.high < 2 ^ 30
-
 -- one of `count` numbers from `first` on
 abbrev pub is_within : ℤ → ℕ → ℤ → Bool
 is_within first count n = int_le first n && int_lt n (first +ℤ pos count)
@@ -42,10 +30,6 @@ is_within first count n = int_le first n && int_lt n (first +ℤ pos count)
 -- a pixel lies in a window
 abbrev pub has : Window → ℤ → ℤ → Bool
 has w c j = is_within w.left w.width c && is_within w.bottom w.height j
-
--- one of the columns of a box, or of its rows
-abbrev pub is_column_of : Columns → ℤ → Bool
-is_column_of b n = int_le b.first n && int_le n b.last
 
 -- a pixel lies in a box, given by its columns and its rows
 abbrev pub box_has : Columns → Columns → ℤ → ℤ → Bool
@@ -98,11 +82,6 @@ is_black_in b c j = if has b.window c j then bit b.bits (place b.window c j) els
 abbrev pub is_black_by : Over → Bitmap → ℤ → ℤ → Bool
 is_black_by over.Rows b p j = is_black_in b p j
 is_black_by over.Columns b p j = is_black_in b j p
-
--- an edge as a pass sees it
-abbrev pub seen_by : Over → Edge → Edge
-seen_by over.Rows e = e
-seen_by over.Columns e = turned_round e
 
 -- a list of pixels has pixel p of line j; in a pass over columns with column and row exchanged
 abbrev pub has_pixel_by : Over → List Pixel → ℤ → ℤ → Bool

@@ -4,15 +4,17 @@ ghost use Rattle.std.specs.Prelude.{◌≡◌, not, ℕ, ℤ, true, length, ◌+
 ghost use Rattle.std.specs.Ordering.{int_eq};
 ghost use Rattle.tt_core.specs.Bits.{bit, stride};
 ghost use Rattle.tt_scan_edges.specs.Winding.{EdgeFits, FrameFits, is_black};
-ghost use Rattle.tt_scan_dropouts.specs.Crossings.{centre};
-ghost use Rattle.tt_scan_dropouts.specs.Gaps.{has_pixel, is_free};
+ghost use Rattle.tt_scan_gaps.specs.Crossings.{centre};
+ghost use Rattle.tt_scan_gaps.specs.Gaps.{is_free};
+ghost use Rattle.tt_scan_dropouts.specs.Passes.{has_pixel};
 ghost use Rattle.tt_scan_dropouts.specs.Windows.{WindowFits, first_row, frame_of, has, has_rows, is_black_in, is_black_by, place, row_from_top};
 
-use crate::mark::Pixel;
-use crate::window::{Over, Window, has, offset};
+use crate::pixel::Pixel;
+use crate::window::{Window, has, offset};
 use std::alloc::{AllocError, Global};
 use std::marker::Model;
 use tt_scan::{Edge, Frame, Sweep, Tape, blacken};
+use tt_scan_gaps::Over;
 
 /// The rows of a window from the bottom up, each a whole number of bytes, the leftmost pixel in the highest bit.
 #[derive(Drop)]

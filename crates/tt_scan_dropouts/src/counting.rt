@@ -4,13 +4,10 @@ ghost use Rattle.std.specs.Prelude.{◌≡◌, ◌^◌, ◌*◌, ◌+◌, ◌<�
 ghost use Rattle.tt_scan_edges.specs.Winding.{EdgeFits};
 ghost use Rattle.tt_scan_dropouts.specs.Counted.{bands, bands_bytes, edges_counted, filling_counted, numbers_in, rows_crossed};
 ghost use Rattle.tt_scan_dropouts.specs.Dropouts.{crossed};
-ghost use Rattle.tt_scan_dropouts.specs.Windows.{ColumnsFit};
+ghost use Rattle.tt_scan_gaps.specs.Boxes.{ColumnsFit};
 
-use crate::columns::box_of;
-use crate::crossing::lines_crossed;
-use crate::mark::Columns;
-use crate::seen::turned_round;
 use tt_scan::Edge;
+use tt_scan_gaps::{Columns, box_of, lines_crossed, turned_round};
 
 /// The most rows that are worked on at once where a glyph may have more rows than a picture.
 pub const BAND_ROWS: u32 = 2048;

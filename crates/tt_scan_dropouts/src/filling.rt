@@ -6,23 +6,23 @@ ghost use Rattle.std.specs.List.{list_any};
 ghost use Rattle.std.specs.Ordering.{int_eq};
 ghost use Rattle.tt_scan.specs.Contours.{AreEnds, IsClosed, contours_at};
 ghost use Rattle.tt_scan_edges.specs.Winding.{EdgeFits};
-ghost use Rattle.tt_scan_dropouts.specs.Dropouts.{columns_of, is_dropout, row_adds, turned_round};
-ghost use Rattle.tt_scan_dropouts.specs.Gaps.{has_pixel};
-ghost use Rattle.tt_scan_dropouts.specs.Walk.{is_in_free_gap};
-ghost use Rattle.tt_scan_dropouts.specs.Windows.{WindowFits, has, has_pixel_by, is_black_by, seen_by, widened};
-ghost use Rattle.tt_scan_dropouts.specs.declared.window.Over.TheVariants as over;
+ghost use Rattle.tt_scan_gaps.specs.Boxes.{columns_of};
+ghost use Rattle.tt_scan_gaps.specs.Seen.{seen_by, turned_round};
+ghost use Rattle.tt_scan_dropouts.specs.Dropouts.{is_dropout, row_adds};
+ghost use Rattle.tt_scan_dropouts.specs.Passes.{has_pixel};
+ghost use Rattle.tt_scan_gaps.specs.Walk.{is_in_free_gap};
+ghost use Rattle.tt_scan_dropouts.specs.Windows.{WindowFits, has, has_pixel_by, is_black_by, widened};
+ghost use Rattle.tt_scan_gaps.specs.declared.seen.Over.TheVariants as over;
 
 use crate::bitmap::Bitmap;
-use crate::both_ways::closed_may_have_dropouts;
-use crate::columns::box_of;
-use crate::gaps::sort;
-use crate::mark::{Columns, Pixel, Rules};
 use crate::marks::{crosses_free_gap, free_marks, touches_free_gap};
+use crate::may_have::closed_may_have_dropouts;
 use crate::pass::pass;
-use crate::seen::{meets, seen_by, turned_round};
-use crate::window::{Over, Window, clipped, has, widened};
+use crate::pixel::Pixel;
+use crate::window::{Window, clipped, has, widened};
 use std::alloc::{AllocError, Global};
 use tt_scan::{Edge, Tape};
+use tt_scan_gaps::{Columns, Over, Rules, box_of, meets, seen_by, sort_marks, turned_round};
 
 /// Edges with x and y exchanged. Error: memory ran out.
 fn all_turned_round(alloc: Global, edges: &[Edge]) -> Result<Vec<Edge>, AllocError>
@@ -52,7 +52,7 @@ fn pass_over(
         ≡ row_adds rules (contours_at edges.now ends.now) (is_black_by over ink.now) p j) }
 {
     let mut marks = free_marks(alloc, ink, over, rules.stubs, edges, ends)?;
-    sort(&mut marks);
+    sort_marks(&mut marks);
     pass(alloc, rules, columns, over, ink, &marks)
 }
 

@@ -4,19 +4,18 @@
 ghost use Rattle.std.specs.Prelude.{◌≡◌, ◌++◌, [], ◌∷◌, ◌<◌, true, length, map, All, IfOk, OnOk};
 ghost use Rattle.tt_scan.specs.Contours.{AreEnds, contours_at};
 ghost use Rattle.tt_scan_edges.specs.Winding.{EdgeFits};
-ghost use Rattle.tt_scan_dropouts.specs.Crossings.{crossings, touches};
-ghost use Rattle.tt_scan_dropouts.specs.Gaps.{free_marks, is_free};
-ghost use Rattle.tt_scan_dropouts.specs.Walk.{contour_marks, edge_marks, mark_of, marks, some_in_free_gap, step_marks, walk_marks};
+ghost use Rattle.tt_scan_gaps.specs.Crossings.{crossings, touches};
+ghost use Rattle.tt_scan_gaps.specs.Gaps.{free_marks, is_free};
+ghost use Rattle.tt_scan_gaps.specs.Walk.{contour_marks, edge_marks, mark_of, marks, some_in_free_gap, step_marks, walk_marks};
 ghost use Rattle.tt_scan_dropouts.specs.Windows.{is_black_by};
 
 use crate::bitmap::Bitmap;
-use crate::crossing::{crossing, gap_crossed, line_crossed, lines_crossed, touch};
-use crate::mark::{Crossing, Mark, Step};
-use crate::steps::walk;
-use crate::stub::is_of_stub;
-use crate::window::Over;
 use std::alloc::{AllocError, Global};
 use tt_scan::Edge;
+use tt_scan_gaps::{
+    Crossing, Mark, Over, Step, crossing, gap_crossed, is_of_stub, line_crossed, lines_crossed,
+    touch, walk,
+};
 
 /// Whether the gap of a crossing is free.
 #[inline(always)]

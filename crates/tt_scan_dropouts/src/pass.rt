@@ -2,16 +2,16 @@
 
 ghost use Rattle.std.specs.Prelude.{◌≡◌, ℤ, ◌<◌, not, ◌&&◌, ◌||◌, ◌+ℤ◌, pos, length, get_or, IfOk, OnOk};
 ghost use Rattle.std.specs.Ordering.{int_eq};
-ghost use Rattle.tt_scan_dropouts.specs.Gaps.{IsInOrder, asked_by, gives_way, has_pixel, is_added};
+ghost use Rattle.tt_scan_gaps.specs.Gaps.{IsInOrder, asked_by, is_added};
+ghost use Rattle.tt_scan_dropouts.specs.Passes.{gives_way, has_pixel};
 ghost use Rattle.tt_scan_dropouts.specs.Windows.{is_black_by};
-ghost use Rattle.tt_scan_dropouts.specs.declared.mark.Mark.{Mark};
+ghost use Rattle.tt_scan_gaps.specs.declared.mark.Mark.{Mark};
 
 use crate::bitmap::Bitmap;
-use crate::gaps::{group_end, pixel_of, some_asks};
-use crate::mark::{Columns, Mark, Pixel, Rules};
 use crate::marks::is_free;
-use crate::window::Over;
+use crate::pixel::Pixel;
 use std::alloc::{AllocError, Global};
+use tt_scan_gaps::{Columns, Mark, Over, Rules, group_end, pixel_of, some_asks};
 
 /// The pixel that the gap of these marks needs.
 fn asked(rules: Rules, columns: Columns, over: Over, ink: &Bitmap, marks: &[Mark]) -> Option<i64>

@@ -3,9 +3,10 @@
 ghost use Rattle.std.specs.Prelude.{◌≡◌, ℤ, pos, true, false, ◌&&◌, ◌+ℤ◌, ◌-ℤ◌, ◌^◌, ◌<◌, ◌≤◌, unsigned_abs, IfNone, IfSome};
 ghost use Rattle.std.specs.Int.{int_max, int_min};
 ghost use Rattle.tt_scan_dropouts.specs.Counted.{numbers_in};
-ghost use Rattle.tt_scan_dropouts.specs.Windows.{ColumnsFit, IsPart, WindowFits, box_has, has, is_column_of, is_within, widened};
+ghost use Rattle.tt_scan_gaps.specs.Boxes.{ColumnsFit, is_column_of};
+ghost use Rattle.tt_scan_dropouts.specs.Windows.{IsPart, WindowFits, box_has, has, is_within, widened};
 
-use crate::mark::Columns;
+use tt_scan_gaps::Columns;
 
 /// A window of pixels: `width` columns from `left` on, and `height` rows from `bottom` up.
 #[derive(Clone, Copy, Debug, PartialEq, Eq)]
@@ -14,13 +15,6 @@ pub struct Window {
     pub bottom: i32,
     pub width: u32,
     pub height: u32,
-}
-
-/// The direction of a pass. In a pass over columns these are the lines, and a pixel's column and row are exchanged.
-#[derive(Clone, Copy)]
-pub(crate) enum Over {
-    Rows,
-    Columns,
 }
 
 /// Whether a number is one of `count` numbers from `first` on.

@@ -7,11 +7,12 @@ use Rattle.std.proofs.lemmas.List.Elements.{All-head, All-tail}
 use Rattle.tt_scan.specs.Contours.{IsClosed}
 use Rattle.tt_scan_edges.specs.Winding.{is_between, is_black, is_zero, lies_on, lies_on_one, side, winding}
 use Rattle.tt_scan_edges.specs.declared.edge.Edge.{Edge}
-use Rattle.tt_scan_dropouts.specs.Crossings.{centre}
-use Rattle.tt_scan_dropouts.specs.Dropouts.{columns_of, edges_of, greatest_x, is_dropout, is_inked, least_x, turned_round}
-use Rattle.tt_scan_dropouts.specs.Windows.{is_column_of}
-use Rattle.tt_scan_dropouts.specs.declared.mark.Columns.{Columns}
-use Rattle.tt_scan_dropouts.proofs.Bounds.{EdgeWithin}
+use Rattle.tt_scan_gaps.specs.Crossings.{centre}
+use Rattle.tt_scan_gaps.specs.Boxes.{columns_of, greatest_x, is_column_of, least_x}
+use Rattle.tt_scan_gaps.specs.Seen.{turned_round}
+use Rattle.tt_scan_dropouts.specs.Dropouts.{edges_of, is_dropout, is_inked}
+use Rattle.tt_scan_gaps.specs.declared.mark.Columns.{Columns}
+use Rattle.tt_scan_gaps.proofs.Bounds.{EdgeWithin}
 use Rattle.tt_scan_dropouts.proofs.InBox.{IsColumnOf, LiesInBoxOf, dropout_in_box, edges_turned, edges_within, line_within, turned_twice}
 use Rattle.tt_scan_dropouts.proofs.TurnedWinding.{round_all}
 use Rattle.tt_scan_ink.specs.Ink.{count_of, ink_in}

@@ -6,11 +6,11 @@ use Rattle.std.proofs.lemmas.Int.{clamps, ints}
 use Rattle.std.proofs.lemmas.List.Elements.{All-head, All-map, All-tail, All-weaker}
 use Rattle.tt_scan_edges.specs.Winding.{EdgeFits}
 use Rattle.tt_scan_edges.specs.declared.edge.Edge.{Edge}
-use Rattle.tt_scan_dropouts.specs.Crossings.{gap_at, line_from}
-use Rattle.tt_scan_dropouts.specs.Dropouts.{columns_of, greatest_x, least_x, turned_round}
-use Rattle.tt_scan_dropouts.specs.Gaps.{columns_between}
-use Rattle.tt_scan_dropouts.specs.declared.mark.Columns.{Columns}
-use Rattle.tt_scan_dropouts.proofs.Lines.{floor_high, floor_low}
+use Rattle.tt_scan_gaps.specs.Crossings.{gap_at, line_from}
+use Rattle.tt_scan_gaps.specs.Boxes.{columns_between, columns_of, greatest_x, least_x}
+use Rattle.tt_scan_gaps.specs.Seen.{turned_round}
+use Rattle.tt_scan_gaps.specs.declared.mark.Columns.{Columns}
+use Rattle.tt_scan_gaps.proofs.Lines.{floor_high, floor_low}
 use Rattle.tt_scan_ink.specs.Least.{AreNear}
 
 -- the extents of the ends of edges

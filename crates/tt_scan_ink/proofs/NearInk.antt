@@ -4,8 +4,8 @@ use Rattle.std.specs.Prelude.{IfSome, unsigned_abs}
 use Rattle.std.proofs.lemmas.Int.{clamps, ints}
 use Rattle.tt_scan_edges.specs.Winding.{EdgeFits}
 use Rattle.tt_scan_edges.specs.declared.edge.Edge.{Edge}
-use Rattle.tt_scan_dropouts.specs.declared.mark.Columns.{Columns}
-use Rattle.tt_scan_dropouts.specs.declared.mark.Rules.{Rules}
+use Rattle.tt_scan_gaps.specs.declared.mark.Columns.{Columns}
+use Rattle.tt_scan_gaps.specs.declared.mark.Rules.{Rules}
 use Rattle.tt_scan_ink.proofs.Near.{columns_near, lines_near}
 use Rattle.tt_scan_ink.specs.Ink.{count_of, dropouts_ink, edges_ink, ink_in, joined, line_ink, lines_ink, pixel_box}
 use Rattle.tt_scan_ink.specs.Least.{AreNear, IsNear}

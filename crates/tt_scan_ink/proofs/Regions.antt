@@ -9,11 +9,12 @@ use Rattle.tt_scan_edges.specs.declared.edge.Edge.{Edge}
 use Rattle.tt_scan_edges.specs.declared.edge.Frame.{Frame}
 use Rattle.tt_scan_edges.specs.declared.mark.Span.{Span}
 use Rattle.tt_scan_edges.proofs.Visits.{covers_more}
-use Rattle.tt_scan_dropouts.specs.Crossings.{centre}
-use Rattle.tt_scan_dropouts.specs.Gaps.{has_pixel}
-use Rattle.tt_scan_dropouts.specs.Windows.{has, is_column_of, is_within}
-use Rattle.tt_scan_dropouts.specs.declared.mark.Columns.{Columns}
-use Rattle.tt_scan_dropouts.specs.declared.mark.Pixel.{Pixel}
+use Rattle.tt_scan_gaps.specs.Crossings.{centre}
+use Rattle.tt_scan_dropouts.specs.Passes.{has_pixel}
+use Rattle.tt_scan_gaps.specs.Boxes.{is_column_of}
+use Rattle.tt_scan_dropouts.specs.Windows.{has, is_within}
+use Rattle.tt_scan_gaps.specs.declared.mark.Columns.{Columns}
+use Rattle.tt_scan_dropouts.specs.declared.pixel.Pixel.{Pixel}
 use Rattle.tt_scan_ink.specs.Ink.{count_of, ink_in, line_ink, lines_ink, pixel_box}
 use Rattle.tt_scan_ink.specs.Least.{AreNear, IsInk, IsLeastBox, covered, is_inked_by, shown}
 use Rattle.tt_scan_ink.specs.declared.ink.GlyphInk.{GlyphInk}

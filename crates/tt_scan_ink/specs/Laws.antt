@@ -3,7 +3,7 @@ use Rattle.std.specs.Prelude.{Bool, ◌||◌, ℤ, All, List, Option}
 use Rattle.tt_scan.specs.Contours.{IsClosed}
 use Rattle.tt_scan_edges.specs.declared.edge.Edge.{Edge}
 use Rattle.tt_scan_dropouts.specs.Dropouts.{edges_of, is_dropout, is_inked}
-use Rattle.tt_scan_dropouts.specs.declared.mark.Rules.{Rules}
+use Rattle.tt_scan_gaps.specs.declared.mark.Rules.{Rules}
 use Rattle.tt_scan_ink.specs.Ink.{dropouts_ink, edges_ink, joined}
 use Rattle.tt_scan_ink.specs.Least.{IsInk}
 use Rattle.tt_scan_ink.specs.declared.ink.GlyphInk.{GlyphInk}

@@ -5,9 +5,10 @@ use Rattle.tt_scan_edges.specs.Marks.{covers}
 use Rattle.tt_scan_edges.specs.Winding.{is_black}
 use Rattle.tt_scan_edges.specs.declared.edge.Edge.{Edge}
 use Rattle.tt_scan_edges.specs.declared.mark.Span.{Span}
-use Rattle.tt_scan_dropouts.specs.Crossings.{centre}
-use Rattle.tt_scan_dropouts.specs.Windows.{is_column_of, is_within}
-use Rattle.tt_scan_dropouts.specs.declared.mark.Columns.{Columns}
+use Rattle.tt_scan_gaps.specs.Crossings.{centre}
+use Rattle.tt_scan_gaps.specs.Boxes.{is_column_of}
+use Rattle.tt_scan_dropouts.specs.Windows.{is_within}
+use Rattle.tt_scan_gaps.specs.declared.mark.Columns.{Columns}
 use Rattle.tt_scan_ink.specs.declared.ink.GlyphInk.{GlyphInk}
 
 -- a pixel lies in a box

@@ -4,7 +4,7 @@ ghost use Rattle.std.specs.Prelude.{◌≡◌, ◌&&◌, ◌+◌, ◌^◌, ◌<�
 ghost use Rattle.tt_core.specs.Limits.{height_limit};
 ghost use Rattle.tt_scan.specs.Contours.{AreEnds, contours_at};
 ghost use Rattle.tt_scan_dropouts.specs.Dropouts.{is_dropout};
-ghost use Rattle.tt_scan_dropouts.specs.Gaps.{has_pixel};
+ghost use Rattle.tt_scan_dropouts.specs.Passes.{has_pixel};
 ghost use Rattle.tt_scan_dropouts.specs.Windows.{WindowFits, has, widened};
 ghost use Rattle.tt_scan_ink.specs.Ink.{count_of, dropouts_ink};
 ghost use Rattle.tt_scan_ink.specs.Least.{AreNear, IsInk, IsNear, shown};

@@ -12,11 +12,11 @@ use Rattle.tt_metrics.specs.Metrics.{Metrics}
 use Rattle.tt_scan_edges.specs.declared.edge.Edge.{Edge}
 use Rattle.tt_scan_edges.specs.declared.edge.Frame.{Frame}
 use Rattle.tt_scan_edges.specs.Winding.{column_x, is_black, row_y}
-use Rattle.tt_scan_dropouts.specs.Crossings.{centre}
+use Rattle.tt_scan_gaps.specs.Crossings.{centre}
 use Rattle.tt_scan_dropouts.specs.Dropouts.{is_dropout}
 use Rattle.tt_scan_dropouts.specs.Laws.{outline_moved}
 use Rattle.tt_scan_dropouts.specs.Pictures.{column_at, line_at}
-use Rattle.tt_scan_dropouts.specs.declared.mark.Rules.{Rules}
+use Rattle.tt_scan_gaps.specs.declared.mark.Rules.{Rules}
 use Rattle.tt_scan_dropouts.proofs.Moved.{dropouts_move}
 use Rattle.tt_scan_ink.specs.Ink as ink
 use Rattle.tt_scan_ink.specs.Ink.{dropouts_ink, edges_ink}

@@ -9,7 +9,7 @@ use Rattle.tt_fit_outline.specs.Outline.{Outline}
 use Rattle.tt_scan_edges.specs.declared.edge.Frame.{Frame}
 use Rattle.tt_scan_edges.specs.Winding.{column_x, is_black, row_y}
 use Rattle.tt_scan_dropouts.specs.Pictures.{column_at, line_at}
-use Rattle.tt_scan_dropouts.specs.declared.mark.Rules.{Rules}
+use Rattle.tt_scan_gaps.specs.declared.mark.Rules.{Rules}
 use Rattle.tt_strike.specs.Grown.{with_sides}
 use Rattle.tt_strike.specs.Laws.{SidesMove}
 use Rattle.tt_picture.specs.Shapes.{contours_of, edges_at, glyph_shape, shape_at}

@@ -11,7 +11,7 @@ use Rattle.tt_line.specs.Layout.{Placement, placement}
 use Rattle.tt_scan_edges.specs.declared.edge.Edge.{Edge}
 use Rattle.tt_scan_edges.specs.declared.edge.Frame.{Frame}
 use Rattle.tt_scan_edges.specs.Winding.{column_x, row_y}
-use Rattle.tt_scan_dropouts.specs.declared.mark.Rules.{Rules}
+use Rattle.tt_scan_gaps.specs.declared.mark.Rules.{Rules}
 use Rattle.tt_strike.specs.Job.{Job}
 use Rattle.tt_picture.specs.declared.report.Unfitted.{Unfitted}
 use Rattle.tt_face.specs.Defects.{IsFaceDefect}

@@ -2,7 +2,7 @@ use Rattle.std.proofs.Common.{◌≡◌, ◌≤◌, ◌∙◌, ℕ, ◌+◌, ◌
 use Rattle.std.proofs.lemmas.List.{length-drop, length-take-le}
 use Rattle.tt_core.specs.Bits.{stride}
 use Rattle.tt_scan_edges.specs.Winding.{is_black}
-use Rattle.tt_scan_dropouts.specs.Crossings.{centre}
+use Rattle.tt_scan_gaps.specs.Crossings.{centre}
 use Rattle.tt_scan_dropouts.proofs.Inked.{row_inked}
 use Rattle.tt_scan_dropouts.proofs.Places.{row_within}
 use Rattle.tt_scan_dropouts.proofs.bitmap.ink_row.Goals as goal

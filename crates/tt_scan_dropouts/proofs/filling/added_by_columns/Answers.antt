@@ -1,7 +1,7 @@
 use Rattle.std.proofs.Common.{map, sym}
-use Rattle.tt_scan_dropouts.specs.Dropouts.{turned_round}
+use Rattle.tt_scan_gaps.specs.Seen.{turned_round}
 use Rattle.tt_scan_dropouts.specs.Windows.{is_black_by}
-use Rattle.tt_scan_dropouts.specs.declared.window.Over.TheVariants as over
+use Rattle.tt_scan_gaps.specs.declared.seen.Over.TheVariants as over
 use Rattle.tt_scan_dropouts.proofs.NoFreeGap.{nothing_added}
 use Rattle.tt_scan_dropouts.proofs.Outlines.{ends_turned, fits_turned}
 use Rattle.tt_scan_dropouts.proofs.filling.added_by_columns.Goals as goal

@@ -1,5 +1,5 @@
 use Rattle.std.proofs.Common.{◌≡◌, map, take}
-use Rattle.tt_scan_dropouts.specs.Dropouts.{turned_round}
+use Rattle.tt_scan_gaps.specs.Seen.{turned_round}
 use Rattle.tt_scan_dropouts.proofs.filling.all_turned_round.Given as goal
 
 -- the edges so far are turned round

@@ -1,11 +1,12 @@
 use Rattle.std.proofs.Common.{◌≡◌, refl, ◌&&◌, ℤ, true, false, ap, map, sym, ◌∙◌}
 use Rattle.tt_scan.specs.Contours.{contours_at}
 use Rattle.tt_scan_edges.specs.Winding.{is_black}
-use Rattle.tt_scan_dropouts.specs.Crossings.{centre}
-use Rattle.tt_scan_dropouts.specs.Dropouts.{columns_of, turned_round}
-use Rattle.tt_scan_dropouts.specs.Gaps.{has_pixel}
+use Rattle.tt_scan_gaps.specs.Crossings.{centre}
+use Rattle.tt_scan_gaps.specs.Boxes.{columns_of}
+use Rattle.tt_scan_gaps.specs.Seen.{turned_round}
+use Rattle.tt_scan_dropouts.specs.Passes.{has_pixel}
 use Rattle.tt_scan_dropouts.specs.Windows.{box_has, has, is_black_by, is_black_in}
-use Rattle.tt_scan_dropouts.specs.declared.window.Over.TheVariants as over
+use Rattle.tt_scan_gaps.specs.declared.seen.Over.TheVariants as over
 use Rattle.tt_scan_dropouts.proofs.Clips.{clipped_alike, clipped_away}
 use Rattle.tt_scan_dropouts.proofs.NoFreeGap.{still_none}
 use Rattle.tt_scan_dropouts.proofs.Outlines.{edges_at, turned_at}

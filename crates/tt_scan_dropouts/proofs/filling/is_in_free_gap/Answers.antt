@@ -1,5 +1,6 @@
 use Rattle.std.proofs.Common.{sym, ◌∙◌}
-use Rattle.tt_scan_dropouts.specs.Windows.{is_black_by, seen_by}
+use Rattle.tt_scan_gaps.specs.Seen.{seen_by}
+use Rattle.tt_scan_dropouts.specs.Windows.{is_black_by}
 use Rattle.tt_scan_dropouts.proofs.NoFreeGap.{none_met}
 use Rattle.tt_scan_dropouts.proofs.filling.is_in_free_gap.Goals as goal
 

@@ -1,5 +1,5 @@
 use Rattle.std.proofs.lemmas.Result.{IfOk-weaker}
-use Rattle.tt_scan_dropouts.specs.Gaps.{has_pixel}
+use Rattle.tt_scan_dropouts.specs.Passes.{has_pixel}
 use Rattle.tt_scan_dropouts.specs.Windows.{is_black_by}
 use Rattle.tt_scan_dropouts.proofs.Together.{pass_adds}
 use Rattle.tt_scan_dropouts.proofs.filling.pass_over.Goals as goal
@@ -8,4 +8,4 @@ pub returns : goal.returns
 returns c =
     IfOk-weaker c.pass.result _ _ (λ v by. pass_adds c.args.rules c.args.edges.now c.args.ends.now
     (is_black_by c.args.over c.args.ink.now) (λ p j. has_pixel v.items p j) c.in_ok-marks.marks.items
-    c.sort.new.marks.items c.requires.ends c.in_ok-marks.ensures c.sort.ensures.same by) (simp (c.requires.columns, c.deref.ensures.value) at c.pass.ensures)
+    c.sort_marks.new.marks.items c.requires.ends c.in_ok-marks.ensures c.sort_marks.ensures.same by) (simp (c.requires.columns, c.deref.ensures.value) at c.pass.ensures)

@@ -1,6 +1,6 @@
 use Rattle.std.proofs.Common.{pos}
-use Rattle.tt_scan_dropouts.specs.Gaps.{has_pixel}
-use Rattle.tt_scan_dropouts.specs.declared.mark.Pixel.{Pixel}
+use Rattle.tt_scan_dropouts.specs.Passes.{has_pixel}
+use Rattle.tt_scan_dropouts.specs.declared.pixel.Pixel.{Pixel}
 use Rattle.tt_scan_dropouts.proofs.Pixels.{one_more}
 use Rattle.tt_scan_dropouts.proofs.filling.push_within.Goals as goal
 

@@ -1,6 +1,6 @@
 use Rattle.std.proofs.Common.{◌≡◌, take, ◌||◌, ◌&&◌}
 use Rattle.std.specs.Prelude.{ℤ}
-use Rattle.tt_scan_dropouts.specs.Gaps.{has_pixel}
+use Rattle.tt_scan_dropouts.specs.Passes.{has_pixel}
 use Rattle.tt_scan_dropouts.specs.Windows.{has, has_pixel_by}
 use Rattle.tt_scan_dropouts.proofs.filling.push_within.Given as goal
 

@@ -3,10 +3,10 @@ use Rattle.std.specs.List.{list_any}
 use Rattle.std.proofs.lemmas.List.{get_or-map, length-map}
 use Rattle.std.proofs.lemmas.List.Folds.{list_any_more}
 use Rattle.tt_scan_edges.specs.declared.edge.Edge.{Edge}
-use Rattle.tt_scan_dropouts.specs.Dropouts.{turned_round}
-use Rattle.tt_scan_dropouts.specs.Walk.{is_in_free_gap}
+use Rattle.tt_scan_gaps.specs.Seen.{turned_round}
+use Rattle.tt_scan_gaps.specs.Walk.{is_in_free_gap}
 use Rattle.tt_scan_dropouts.specs.Windows.{is_black_by}
-use Rattle.tt_scan_dropouts.specs.declared.window.Over.TheVariants as over
+use Rattle.tt_scan_gaps.specs.declared.seen.Over.TheVariants as over
 use Rattle.tt_scan_dropouts.proofs.filling.some_in_free_gap.Goals as goal
 use Rattle.tt_scan_dropouts.proofs.filling.some_in_free_gap.Goals.{then-is_in_free_gap, else-is_in_free_gap, then-is_in_free_gap-2, else-is_in_free_gap-2}
 

@@ -1,9 +1,9 @@
 use Rattle.std.proofs.Common.{◌≡◌, map, take}
 use Rattle.std.specs.List.{list_any}
-use Rattle.tt_scan_dropouts.specs.Dropouts.{turned_round}
-use Rattle.tt_scan_dropouts.specs.Walk.{is_in_free_gap}
+use Rattle.tt_scan_gaps.specs.Seen.{turned_round}
+use Rattle.tt_scan_gaps.specs.Walk.{is_in_free_gap}
 use Rattle.tt_scan_dropouts.specs.Windows.{is_black_by}
-use Rattle.tt_scan_dropouts.specs.declared.window.Over.TheVariants as over
+use Rattle.tt_scan_gaps.specs.declared.seen.Over.TheVariants as over
 use Rattle.tt_scan_dropouts.proofs.filling.some_in_free_gap.Given as goal
 
 -- whether one of the edges so far makes a mark in a free gap

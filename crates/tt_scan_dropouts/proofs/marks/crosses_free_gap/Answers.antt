@@ -1,6 +1,6 @@
 use Rattle.std.proofs.Common.{◌<◌, sym, ◌∙◌, SFits, w64, arith}
 use Rattle.std.proofs.lemmas.Int.{ints, to_z-of_z}
-use Rattle.tt_scan_dropouts.specs.Crossings.{lines_crossed}
+use Rattle.tt_scan_gaps.specs.Crossings.{lines_crossed}
 use Rattle.tt_scan_dropouts.specs.Windows.{is_black_by}
 use Rattle.tt_scan_dropouts.proofs.NoFreeGap.{none_more, one_settles}
 use Rattle.tt_scan_dropouts.proofs.marks.crosses_free_gap.Goals as goal

@@ -1,7 +1,7 @@
 use Rattle.std.proofs.Common.{◌≡◌, false, map}
 use Rattle.std.specs.List.{range_with_len}
-use Rattle.tt_scan_dropouts.specs.Crossings.{crossing, line_crossed}
-use Rattle.tt_scan_dropouts.specs.Walk.{some_in_free_gap}
+use Rattle.tt_scan_gaps.specs.Crossings.{crossing, line_crossed}
+use Rattle.tt_scan_gaps.specs.Walk.{some_in_free_gap}
 use Rattle.tt_scan_dropouts.specs.Windows.{is_black_by}
 use Rattle.tt_scan_dropouts.proofs.marks.crosses_free_gap.Given as goal
 

@@ -1,7 +1,7 @@
 use Rattle.std.proofs.Common.{rules, append_assoc, length, arith}
 use Rattle.tt_scan_dropouts.specs.Windows.{is_black_by}
 use Rattle.tt_scan_dropouts.proofs.Ends.{next_end}
-use Rattle.tt_scan_dropouts.proofs.Walks.{free_next}
+use Rattle.tt_scan_dropouts.proofs.FreeMarks.{free_next}
 use Rattle.tt_scan_dropouts.proofs.marks.free_marks.Goals as goal
 
 pub offset_bounds-edges-from : goal.offset_bounds-edges-from

@@ -1,7 +1,7 @@
 use Rattle.std.proofs.Common.{◌≡◌, ◌++◌, drop, length}
 use Rattle.tt_scan.specs.Contours.{AreEndsFrom, contours_at, contours_from}
-use Rattle.tt_scan_dropouts.specs.Gaps.{free_marks}
-use Rattle.tt_scan_dropouts.specs.Walk.{marks}
+use Rattle.tt_scan_gaps.specs.Gaps.{free_marks}
+use Rattle.tt_scan_gaps.specs.Walk.{marks}
 use Rattle.tt_scan_dropouts.specs.Windows.{is_black_by}
 use Rattle.tt_scan_dropouts.proofs.marks.free_marks.Given as goal
 

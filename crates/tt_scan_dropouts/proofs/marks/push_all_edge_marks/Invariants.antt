@@ -1,7 +1,7 @@
 use Rattle.std.proofs.Common.{◌≡◌, ◌++◌, take}
 use Rattle.std.specs.List.{flat_map}
-use Rattle.tt_scan_dropouts.specs.Gaps.{free_marks}
-use Rattle.tt_scan_dropouts.specs.Walk.{edge_marks}
+use Rattle.tt_scan_gaps.specs.Gaps.{free_marks}
+use Rattle.tt_scan_gaps.specs.Walk.{edge_marks}
 use Rattle.tt_scan_dropouts.specs.Windows.{is_black_by}
 use Rattle.tt_scan_dropouts.proofs.marks.push_all_edge_marks.Given as goal
 

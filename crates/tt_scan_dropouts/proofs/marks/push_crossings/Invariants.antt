@@ -1,8 +1,8 @@
 use Rattle.std.proofs.Common.{◌≡◌, true, ◌++◌, map}
 use Rattle.std.specs.List.{range_with_len}
-use Rattle.tt_scan_dropouts.specs.Crossings.{crossing, line_crossed}
-use Rattle.tt_scan_dropouts.specs.Gaps.{free_marks}
-use Rattle.tt_scan_dropouts.specs.Walk.{mark_of}
+use Rattle.tt_scan_gaps.specs.Crossings.{crossing, line_crossed}
+use Rattle.tt_scan_gaps.specs.Gaps.{free_marks}
+use Rattle.tt_scan_gaps.specs.Walk.{mark_of}
 use Rattle.tt_scan_dropouts.specs.Windows.{is_black_by}
 use Rattle.tt_scan_dropouts.proofs.marks.push_crossings.Given as goal
 

@@ -1,6 +1,6 @@
 use Rattle.std.proofs.Common.{refl}
 use Rattle.tt_scan_dropouts.specs.Windows.{is_black_by}
-use Rattle.tt_scan_dropouts.proofs.Walks.{free_untouched}
+use Rattle.tt_scan_dropouts.proofs.FreeMarks.{free_untouched}
 use Rattle.tt_scan_dropouts.proofs.marks.push_edge_marks.Goals as goal
 
 pub returns-in_default : goal.returns-in_default

@@ -1,7 +1,7 @@
 use Rattle.std.proofs.Common.{List, refl, sym, ◌∙◌}
 use Rattle.tt_scan_dropouts.specs.Windows.{is_black_by}
-use Rattle.tt_scan_dropouts.specs.declared.mark.Mark.{Mark}
-use Rattle.tt_scan_dropouts.proofs.Walks.{free_cross}
+use Rattle.tt_scan_gaps.specs.declared.mark.Mark.{Mark}
+use Rattle.tt_scan_dropouts.proofs.FreeMarks.{free_cross}
 use Rattle.tt_scan_dropouts.proofs.marks.push_step_marks.Goals as goal
 
 pub returns-in_ok-push : goal.returns-in_ok-push

@@ -1,6 +1,6 @@
 use Rattle.std.proofs.Common.{refl, append_assoc}
 use Rattle.tt_scan_dropouts.specs.Windows.{is_black_by}
-use Rattle.tt_scan_dropouts.proofs.Walks.{more_free_steps}
+use Rattle.tt_scan_dropouts.proofs.FreeMarks.{more_free_steps}
 use Rattle.tt_scan_dropouts.proofs.marks.push_walk_marks.Goals as goal
 
 pub loop-k-preserved : goal.loop-k-preserved

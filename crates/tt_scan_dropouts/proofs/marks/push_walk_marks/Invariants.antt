@@ -1,7 +1,7 @@
 use Rattle.std.proofs.Common.{◌≡◌, ◌++◌}
 use Rattle.std.specs.List.{flat_map, range_with_len}
-use Rattle.tt_scan_dropouts.specs.Gaps.{free_marks}
-use Rattle.tt_scan_dropouts.specs.Walk.{step_marks}
+use Rattle.tt_scan_gaps.specs.Gaps.{free_marks}
+use Rattle.tt_scan_gaps.specs.Walk.{step_marks}
 use Rattle.tt_scan_dropouts.specs.Windows.{is_black_by}
 use Rattle.tt_scan_dropouts.proofs.marks.push_walk_marks.Given as goal
 

@@ -1,9 +1,9 @@
 use Rattle.std.proofs.Common.{◌≡◌, ◌∙◌, sym, get_or, SFits, w32, w64, rules}
 use Rattle.std.proofs.lemmas.Int.{to_z-of_z}
 use Rattle.std.proofs.lemmas.List.{get_or_default}
-use Rattle.tt_scan_dropouts.specs.Gaps.{pixel_of}
+use Rattle.tt_scan_gaps.specs.Gaps.{pixel_of}
 use Rattle.tt_scan_dropouts.specs.Windows.{is_black_by}
-use Rattle.tt_scan_dropouts.proofs.GapMarks.{no_mark}
+use Rattle.tt_scan_gaps.proofs.GapMarks.{no_mark}
 use Rattle.tt_scan_dropouts.proofs.PassSteps.{asks_for}
 use Rattle.tt_scan_dropouts.proofs.pass.asked.Goals as goal
 

@@ -1,6 +1,6 @@
 use Rattle.std.proofs.Common.{◌≡◌, false, SFits, w32, w64, rules, arith}
 use Rattle.std.proofs.lemmas.Int.{ints, to_z-of_z}
-use Rattle.tt_scan_dropouts.specs.Gaps.{gives_way}
+use Rattle.tt_scan_dropouts.specs.Passes.{gives_way}
 use Rattle.tt_scan_dropouts.proofs.PassSteps.{granted}
 use Rattle.tt_scan_dropouts.proofs.pass.grant.Goals as goal
 

@@ -1,10 +1,11 @@
 use Rattle.std.proofs.Common.{◌∙◌, ap, sym, not, ◌&&◌, ◌||◌, get_or, SFits, w32, w64, rules}
 use Rattle.std.proofs.lemmas.Int.{to_z-of_z}
 use Rattle.std.specs.Ordering.{int_eq}
-use Rattle.tt_scan_dropouts.specs.Gaps.{asked, gives_way}
+use Rattle.tt_scan_gaps.specs.Gaps.{asked}
+use Rattle.tt_scan_dropouts.specs.Passes.{gives_way}
 use Rattle.tt_scan_dropouts.specs.declared.pass.Wish.{Wish}
 use Rattle.tt_scan_dropouts.specs.Windows.{is_black_by}
-use Rattle.tt_scan_dropouts.proofs.GapMarks.{no_mark}
+use Rattle.tt_scan_gaps.proofs.GapMarks.{no_mark}
 use Rattle.tt_scan_dropouts.proofs.PassSteps.{all_added, asked_near, unasked}
 use Rattle.tt_scan_dropouts.proofs.PassGroups.{added_asked, added_unasked, gives_way_is, group_asks, last_asked, last_unasked}
 use Rattle.tt_scan_dropouts.proofs.pass.pass.Goals as goal

@@ -1,5 +1,6 @@
 use Rattle.std.proofs.Common.{◌≡◌, ℤ, ◌-◌, ◌<◌, ◌≤◌, ◌||◌, ◌-ℤ◌, pos, length}
-use Rattle.tt_scan_dropouts.specs.Gaps.{IsFirstInGap, asked, has_pixel}
+use Rattle.tt_scan_gaps.specs.Gaps.{IsFirstInGap, asked}
+use Rattle.tt_scan_dropouts.specs.Passes.{has_pixel}
 use Rattle.tt_scan_dropouts.specs.Windows.{is_black_by}
 use Rattle.tt_scan_dropouts.proofs.PassSteps.{IsLast, added_so_far}
 use Rattle.tt_scan_dropouts.proofs.pass.pass.Given as goal

@@ -3,7 +3,9 @@ use Rattle.std.specs.Prelude.{IfSome}
 use Rattle.std.proofs.lemmas.Result.{IfOk-weaker}
 use Rattle.tt_scan.specs.Contours.{contours_at}
 use Rattle.tt_scan_edges.specs.Winding.{EdgeFits}
-use Rattle.tt_scan_dropouts.specs.Dropouts.{columns_of, is_dropout, turned_round}
+use Rattle.tt_scan_gaps.specs.Boxes.{columns_of}
+use Rattle.tt_scan_gaps.specs.Seen.{turned_round}
+use Rattle.tt_scan_dropouts.specs.Dropouts.{is_dropout}
 use Rattle.tt_scan_ink.specs.Ink.{count_of, dropouts_ink, ink_in}
 use Rattle.tt_scan_ink.specs.Least.{IsInk, IsNear, shown}
 use Rattle.tt_scan_ink.proofs.Near.{columns_near, lines_near}

@@ -1,7 +1,7 @@
 use Rattle.std.proofs.Common.{◌≡◌, ◌∙◌, ◌<◌, ◌∷◌, [], ◌+◌, ap, get_or, length, take, pos, refl}
 use Rattle.std.proofs.lemmas.List.{take_all, take_more}
-use Rattle.tt_scan_dropouts.specs.Gaps.{has_pixel}
-use Rattle.tt_scan_dropouts.specs.declared.mark.Pixel.{Pixel}
+use Rattle.tt_scan_dropouts.specs.Passes.{has_pixel}
+use Rattle.tt_scan_dropouts.specs.declared.pixel.Pixel.{Pixel}
 use Rattle.tt_scan_ink.proofs.Regions.{pixels_more}
 use Rattle.tt_scan_ink.proofs.Together.{joined_is}
 use Rattle.tt_scan_ink.proofs.dropouts.pixels_ink.Goals as goal

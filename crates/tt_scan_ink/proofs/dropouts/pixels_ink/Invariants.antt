@@ -1,5 +1,5 @@
 use Rattle.std.proofs.Common.{take}
-use Rattle.tt_scan_dropouts.specs.Gaps.{has_pixel}
+use Rattle.tt_scan_dropouts.specs.Passes.{has_pixel}
 use Rattle.tt_scan_ink.specs.Least.{IsInk}
 use Rattle.tt_scan_ink.proofs.dropouts.pixels_ink.Given as goal
 

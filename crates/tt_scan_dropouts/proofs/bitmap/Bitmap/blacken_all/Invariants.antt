@@ -1,5 +1,5 @@
 use Rattle.std.proofs.Common.{◌≡◌, ℤ, ◌||◌, take}
-use Rattle.tt_scan_dropouts.specs.Gaps.{has_pixel}
+use Rattle.tt_scan_dropouts.specs.Passes.{has_pixel}
 use Rattle.tt_scan_dropouts.specs.Windows.{is_black_in}
 use Rattle.tt_scan_dropouts.proofs.bitmap.Bitmap.blacken_all.Given as goal
 

@@ -1,7 +1,7 @@
 use Rattle.std.proofs.Common.{◌∙◌, refl, ap, ◌*◌, length, arith}
 use Rattle.std.proofs.lemmas.List.{length-replicate, with_items_is}
 use Rattle.tt_scan_edges.specs.Winding.{is_black}
-use Rattle.tt_scan_dropouts.specs.Crossings.{centre}
+use Rattle.tt_scan_gaps.specs.Crossings.{centre}
 use Rattle.tt_scan_dropouts.specs.Windows.{place}
 use Rattle.tt_scan_dropouts.proofs.Inked.{all_painted, all_white, count_fits, none_painted, one_row_more}
 use Rattle.tt_scan_dropouts.proofs.bitmap.Bitmap.inked.Goals as goal

@@ -1,7 +1,7 @@
 use Rattle.std.proofs.Common.{◌≡◌, ℤ, true, length, ◌*◌, ◌≤◌, ◌&&◌}
 use Rattle.tt_core.specs.Bits.{bit, stride}
 use Rattle.tt_scan_edges.specs.Winding.{is_black}
-use Rattle.tt_scan_dropouts.specs.Crossings.{centre}
+use Rattle.tt_scan_gaps.specs.Crossings.{centre}
 use Rattle.tt_scan_dropouts.specs.Windows.{has, has_rows, place}
 use Rattle.tt_scan_dropouts.proofs.Inked.{is_painted}
 use Rattle.tt_scan_dropouts.proofs.bitmap.Bitmap.inked.Given as goal

@@ -1,0 +1,22 @@
+use Rattle.std.proofs.Common.{◌≡◌, true, false, sym, ◌∙◌, map}
+use Rattle.std.specs.List.{list_any}
+use Rattle.tt_scan_gaps.specs.BothWays.{NoneFreeBothWays, is_black_seen}
+use Rattle.tt_scan_gaps.specs.Crossings.{has_end_on_line}
+use Rattle.tt_scan_gaps.specs.Seen.{turned_round}
+use Rattle.tt_scan_gaps.specs.declared.seen.Over.TheVariants as over
+use Rattle.tt_scan_dropouts.proofs.NoDropouts.{no_dropout}
+use Rattle.tt_scan_gaps.proofs.Ways.{seen_by_columns, seen_by_rows}
+use Rattle.tt_scan_dropouts.proofs.may_have.closed_may_have_dropouts.Goals as goal
+
+pub returns : goal.returns
+returns c = λ last rules same k j.
+    let es = c.args.edges.now in
+    let closed = c.requires.closed in
+    let rows : NoneFreeBothWays (is_black_seen over.Rows es) es = rw seen_by_rows at (c.may_cross_both_ways.ensures.rows last) in
+    let columns : NoneFreeBothWays (is_black_seen over.Columns es) (map turned_round es) =
+    rw seen_by_columns at (c.may_cross_both_ways.ensures.columns last) in
+    let off : rules.stubs ≡ true → list_any has_end_on_line es ≡ false = λ stubs. elim c.else-stubs.branch [
+      | goal.else-stubs-via-then-stubs+else-some_end_on_line w ↦ sym w.some_end_on_line.ensures ∙ w.if-some_end_on_line.false
+      | goal.else-stubs-via-else-stubs w ↦ let bad : true ≡ false = sym stubs ∙ same ∙ w.if-stubs.false in absurd cc
+    ] in
+    no_dropout rules es c.args.ends.now c.requires.ends closed rows columns off k j

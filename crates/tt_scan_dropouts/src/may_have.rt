@@ -1,0 +1,54 @@
+//! Whether a glyph may have dropouts. If closed contours cross a free gap, they cross it both rising and falling. So
+//! where no free gap is crossed both ways, there are no dropouts, and nothing else need be computed.
+
+ghost use Rattle.std.specs.Prelude.{◌≡◌, ℤ, true, false, length, All};
+ghost use Rattle.tt_scan_edges.specs.Winding.{EdgeFits};
+ghost use Rattle.std.specs.List.{list_any};
+ghost use Rattle.tt_scan.specs.Contours.{AreEnds, IsClosed, contours_at};
+ghost use Rattle.tt_scan_gaps.specs.Crossings.{has_end_on_line};
+ghost use Rattle.tt_scan_dropouts.specs.Dropouts.{is_dropout};
+ghost use Rattle.tt_scan_gaps.specs.declared.mark.Rules.{Rules};
+
+use crate::closed::are_closed;
+use tt_scan::Edge;
+use tt_scan_gaps::{has_end_on_line, may_cross_both_ways};
+
+/// Whether an end of some edge lies on a line, of rows or of columns.
+fn some_end_on_line(edges: &[Edge]) -> bool
+    requires { All EdgeFits edges.now }
+    ensures { result ≡ list_any has_end_on_line edges.now }
+{
+    for edge in edges {
+        if has_end_on_line(*edge) {
+            return true;
+        }
+    }
+    false
+}
+
+/// Whether an outline with closed contours may have dropouts. False means that it has none: it crosses no free gap both
+/// rising and falling, and, where stubs are drawn, no edge ends on a line.
+pub(crate) fn closed_may_have_dropouts(stubs: bool, edges: &[Edge], ends: &[usize]) -> bool
+    requires edges { All EdgeFits edges.now }
+    requires ends { AreEnds (length edges.now) ends.now }
+    requires closed { All IsClosed (contours_at edges.now ends.now) }
+    ensures { result ≡ false → (rules : Rules) → rules.stubs ≡ stubs → (c j : ℤ)
+        → is_dropout rules (contours_at edges.now ends.now) c j ≡ false }
+{
+    if stubs && some_end_on_line(edges) {
+        return true;
+    }
+    may_cross_both_ways(edges)
+}
+
+/// Whether an outline may have dropouts. False means that it has none: its contours are closed, it crosses no free gap
+/// both rising and falling, and, where stubs are drawn, no edge ends on a line. Each contour ends before the edge of a
+/// number in `ends`.
+pub fn may_have_dropouts(stubs: bool, edges: &[Edge], ends: &[usize]) -> bool
+    requires edges { All EdgeFits edges.now }
+    requires ends { AreEnds (length edges.now) ends.now }
+    ensures { result ≡ false → (rules : Rules) → rules.stubs ≡ stubs → (c j : ℤ)
+        → is_dropout rules (contours_at edges.now ends.now) c j ≡ false }
+{
+    !are_closed(edges, ends) || closed_may_have_dropouts(stubs, edges, ends)
+}

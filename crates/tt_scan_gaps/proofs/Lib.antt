@@ -1,0 +1,8 @@
+pub mod Bounds
+pub mod Boxes
+pub mod GapMarks
+pub mod Lines
+pub mod Points
+pub mod Tests
+pub mod Walks
+pub mod Ways

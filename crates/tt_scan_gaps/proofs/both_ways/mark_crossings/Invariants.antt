@@ -1,0 +1,20 @@
+use Rattle.std.proofs.Common.{◌≡◌, ℕ, ◌<◌, ◌≤◌, true, false, get_or, length}
+use Rattle.tt_scan_gaps.specs.BothWays.{is_black_seen, slot}
+use Rattle.tt_scan_gaps.specs.Crossings.{crossing, line_crossed}
+use Rattle.tt_scan_gaps.specs.Gaps.{is_free}
+use Rattle.tt_scan_gaps.proofs.both_ways.mark_crossings.Given as goal
+
+-- the crossings so far are marked, and no marked one in the other table lies in a free gap; looks
+-- are only taken
+abbrev pub invariant-loop-k : goal.invariant-loop-k
+invariant-loop-k l = record {
+  marked : (m : ℕ) → m < l.k
+      → get_or l.table (slot (line_crossed l.edge m) (crossing l.edge (line_crossed l.edge m)).gap) false ≡ true;
+  kept : (s : ℕ) → get_or l.fn.table s false ≡ true → get_or l.table s false ≡ true;
+  taken : (m : ℕ) → m < l.k
+      → get_or l.other (slot (line_crossed l.edge m) (crossing l.edge (line_crossed l.edge m)).gap) false ≡ true
+      → is_free (is_black_seen l.over l.edges) (crossing l.edge (line_crossed l.edge m)).gap (line_crossed l.edge m)
+      ≡ false;
+  len : length l.table ≡ 2048;
+  fewer : l.looks ≤ l.fn.looks;
+}

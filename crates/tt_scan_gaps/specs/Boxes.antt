@@ -1,0 +1,56 @@
+-- The columns of a glyph's box (profile). The rows are the columns of the outline with x and y exchanged.
+use Rattle.std.specs.Prelude.{◌≡◌, refl, ◌^◌, ◌<◌, Bool, ◌&&◌, if◌then◌else◌, ℤ, pos, ◌+ℤ◌, ◌*ℤ◌, int_le, unsigned_abs, List, [], ◌∷◌}
+use Rattle.std.specs.Int.{int_max, int_min}
+use Rattle.tt_scan_edges.specs.declared.edge.Edge.{Edge}
+use Rattle.tt_scan_gaps.specs.Crossings.{gap_at, line_from}
+use Rattle.tt_scan_gaps.specs.declared.columns.Extent.{Extent}
+use Rattle.tt_scan_gaps.specs.declared.mark.Columns.{Columns}
+
+-- the columns of a glyph's box: those with a centre from the least to the greatest x. Where there is none, the column
+-- nearer to the middle, and the right one where both are as near
+abbrev pub columns_between : ℤ → ℤ → Columns
+columns_between low high =
+    let first = line_from low in
+    let last = gap_at high in
+    if int_le first last then record { first = first; last = last }
+    else (if int_le (pos 16384 *ℤ first) (low +ℤ high) then record { first = first; last = first }
+    else record { first = last; last = last })
+
+-- the least and the greatest x of the edge ends
+abbrev pub least_x : ℤ → List Edge → ℤ
+least_x x [] = x
+least_x x (e ∷ es) = least_x (int_min x (int_min e.ax e.bx)) es
+
+abbrev pub greatest_x : ℤ → List Edge → ℤ
+greatest_x x [] = x
+greatest_x x (e ∷ es) = greatest_x (int_max x (int_max e.ax e.bx)) es
+
+-- the columns of an outline's box
+abbrev pub columns_of : List Edge → Columns
+columns_of [] = record { first = pos 0; last = pos 0 }
+columns_of (e ∷ es) = columns_between (least_x e.ax (e ∷ es)) (greatest_x e.ax (e ∷ es))
+
+-- limits on the columns of a box, or its rows
+pub record ColumnsFit (b : Columns) : Type 0 where
+  pub first : unsigned_abs b.first < 2 ^ 19
+  pub last : unsigned_abs b.last < 2 ^ 19
+
+-- limits on an extent
+pub record ExtentFits (e : Extent) : Type 0 where
+  pub low : unsigned_abs e.low < 2 ^ 30
+  pub high : unsigned_abs e.high < 2 ^ 30
+
+-- one of the columns of a box, or of its rows
+abbrev pub is_column_of : Columns → ℤ → Bool
+is_column_of b n = int_le b.first n && int_le n b.last
+
+-- worked values: from the middle of column 0 to that of column 2; then a stem between the centres of columns 0 and 1,
+-- left and right of their border
+three_columns : columns_between (pos 4096) (pos 20480) ≡ record { first = pos 0; last = pos 2 }
+three_columns = refl
+
+nearer_to_the_left : columns_between (pos 5000) (pos 6000) ≡ record { first = pos 0; last = pos 0 }
+nearer_to_the_left = refl
+
+nearer_to_the_right : columns_between (pos 9000) (pos 10000) ≡ record { first = pos 1; last = pos 1 }
+nearer_to_the_right = refl

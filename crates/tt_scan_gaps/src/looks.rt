@@ -1,0 +1,103 @@
+//! How often the gaps of a glyph are examined. An examination reads all edges. Only `look` examines a gap, and takes one
+//! of the remaining looks. Only `may_cross_both_ways` gives looks. No clause sees a function that reads the edges
+//! itself.
+
+ghost use Rattle.std.specs.Prelude.{◌≡◌, true, false, ◌+◌, ◌^◌, ◌<◌, ◌≤◌, map, unsigned_abs, All};
+ghost use Rattle.tt_scan_edges.specs.Winding.{EdgeFits};
+ghost use Rattle.tt_scan_gaps.specs.BothWays.{NoneFreeBothWays, is_black_seen, look_limit};
+ghost use Rattle.tt_scan_gaps.specs.Gaps.{is_free};
+ghost use Rattle.tt_scan_gaps.specs.Seen.{seen_by};
+ghost use Rattle.tt_scan_gaps.specs.declared.seen.Over.TheVariants as over;
+
+use crate::both_ways::mark_edges;
+use crate::crossings::centre;
+use crate::point::winding;
+use crate::seen::Over;
+use std::marker::Model;
+use tt_scan_edges::Edge;
+
+/// The most gaps of a glyph that are examined one by one.
+const LOOKS: u32 = 16;
+
+/// How many gaps of a glyph may still be examined. Clauses see the number.
+#[derive(Drop)]
+pub(crate) struct Looks {
+    left: u32,
+}
+
+impl Model for Looks {
+    ghost use Rattle.std.specs.Prelude.{ℕ, ◌≤◌};
+    ghost use Rattle.tt_scan_gaps.specs.BothWays.{look_limit};
+
+    ghost Value = { ℕ };
+
+    ghost view = { λ l. l.left };
+
+    ghost invariant = { λ l. l.left ≤ look_limit };
+}
+
+impl Looks {
+    /// The looks of a glyph.
+    fn all() -> Looks
+        ensures { result ≡ look_limit }
+    {
+        Looks { left: LOOKS }
+    }
+}
+
+/// Whether edges wind round the centre of a pixel of a line, as a pass sees it. If so, the pixel is black.
+fn is_wound_round(over: Over, edges: &[Edge], pixel: i64, line: i64) -> bool
+    requires edges { All EdgeFits edges.now }
+    requires pixel { unsigned_abs pixel < 2 ^ 18 }
+    requires line { unsigned_abs line < 2 ^ 18 }
+    ensures { result ≡ true → is_black_seen over edges.now pixel line ≡ true }
+{
+    match over {
+        Over::Rows => winding(edges, centre(pixel), centre(line)) != 0,
+        Over::Columns => winding(edges, centre(line), centre(pixel)) != 0,
+    }
+}
+
+/// Whether a gap of a line may be free, as a pass sees it. It is not free where edges wind round a pixel beside it. The
+/// test does not look for edges through such a pixel's centre.
+fn may_be_free(over: Over, edges: &[Edge], gap: i64, line: i64) -> bool
+    requires edges { All EdgeFits edges.now }
+    requires gap { unsigned_abs gap + 1 < 2 ^ 18 }
+    requires line { unsigned_abs line < 2 ^ 18 }
+    ensures { result ≡ false → is_free (is_black_seen over edges.now) gap line ≡ false }
+{
+    !is_wound_round(over, edges, gap, line) && !is_wound_round(over, edges, gap + 1, line)
+}
+
+/// Whether a gap may be free. True where no looks remain; else one of them is taken, and all edges are read. Few gaps
+/// need a look, so the code is outside the loop that calls it.
+#[cold]
+#[inline(never)]
+pub(crate) fn look(over: Over, edges: &[Edge], looks: &mut Looks, gap: i64, line: i64) -> bool
+    requires edges { All EdgeFits edges.now }
+    requires gap { unsigned_abs gap + 1 < 2 ^ 18 }
+    requires line { unsigned_abs line < 2 ^ 18 }
+    ensures free { result ≡ false → is_free (is_black_seen over edges.now) gap line ≡ false }
+    ensures none { looks.old ≡ 0 → (result ≡ true) × (looks.new ≡ 0) }
+    ensures one { 0 < looks.old → looks.new + 1 ≡ looks.old }
+    ensures fewer { looks.new ≤ looks.old }
+{
+    if looks.left == 0 {
+        return true;
+    }
+    looks.left -= 1;
+    may_be_free(over, edges, gap, line)
+}
+
+/// Whether edges may cross some free gap of a row or of a column both rising and falling. False means that they do not.
+/// True also where more gaps need a look than a glyph has.
+pub fn may_cross_both_ways(edges: &[Edge]) -> bool
+    requires { All EdgeFits edges.now }
+    ensures rows { result ≡ false
+        → NoneFreeBothWays (is_black_seen over.Rows edges.now) (map (seen_by over.Rows) edges.now) }
+    ensures columns { result ≡ false
+        → NoneFreeBothWays (is_black_seen over.Columns edges.now) (map (seen_by over.Columns) edges.now) }
+{
+    let mut looks = Looks::all();
+    mark_edges(edges, &mut looks)
+}

@@ -1,0 +1,54 @@
+//! An edge as a pass sees it.
+
+ghost use Rattle.std.specs.Prelude.{◌≡◌};
+ghost use Rattle.tt_scan_edges.specs.Winding.{EdgeFits};
+ghost use Rattle.tt_scan_gaps.specs.Crossings.{meets_line};
+ghost use Rattle.tt_scan_gaps.specs.Seen.{seen_by, turned_round};
+
+use crate::crossings::meets_line;
+use tt_scan_edges::Edge;
+
+/// The direction of a pass. In a pass over columns these are the lines, and a pixel's column and row are exchanged.
+#[derive(Clone, Copy)]
+pub enum Over {
+    Rows,
+    Columns,
+}
+
+/// An edge with x and y exchanged.
+#[inline(always)]
+pub fn turned_round(edge: Edge) -> Edge
+    ensures { result ≡ turned_round edge }
+{
+    Edge {
+        ax: edge.ay,
+        ay: edge.ax,
+        bx: edge.by,
+        by: edge.bx,
+    }
+}
+
+/// An edge as a pass sees it: with x and y exchanged in a pass over columns.
+#[inline(always)]
+pub fn seen_by(over: Over, edge: Edge) -> Edge
+    requires { EdgeFits edge }
+    ensures exact { result ≡ seen_by over edge }
+    ensures fits { EdgeFits result }
+{
+    match over {
+        Over::Rows => edge,
+        Over::Columns => turned_round(edge),
+    }
+}
+
+/// Whether an edge, as a pass sees it, meets a line.
+#[inline(always)]
+pub fn meets(over: Over, stubs: bool, edge: &Edge) -> bool
+    requires { EdgeFits edge.now }
+    ensures { result ≡ meets_line stubs (seen_by over edge.now).ay (seen_by over edge.now).by }
+{
+    match over {
+        Over::Rows => meets_line(stubs, edge.ay, edge.by),
+        Over::Columns => meets_line(stubs, edge.ax, edge.bx),
+    }
+}
