@@ -17,12 +17,12 @@ ghost use Rattle.tt_fit_outline.specs.Work.{Makes, WorkGives};
 
 use crate::fallback::Fallback;
 use crate::programs::Fit;
-use tt_face::Programs;
 use crate::rules::{cvt_read, rules_of, work_of};
 use std::alloc::Global;
 use std::mem::swap;
 use tt_core::{Fault, FontFault};
 use tt_exec::{Code, Work};
+use tt_face::Programs;
 use tt_fit_outline::{Hinting, OutlineFault, begun_parts, left_to_glyphs, run, unbounded};
 use tt_metrics::Metrics;
 

@@ -5,9 +5,9 @@ ghost use Rattle.tt_fit.specs.Rules.{rules_of, levels_of, work_of, cvt_read, dro
 
 use crate::dropouts::DropoutsBy;
 use crate::programs::Fit;
-use tt_face::Programs;
 use tt_core::{BEST_LEVEL_LIMIT, LEVEL_LIMIT, WORK_LIMIT};
 use tt_exec::Work;
+use tt_face::Programs;
 use tt_fit_outline::{OutlineRules, Scaling};
 use tt_state::Tolerance;
 

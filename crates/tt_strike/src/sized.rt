@@ -7,10 +7,10 @@ ghost use Rattle.tt_strike.specs.Job.{size_tested, IsSizeRefusal};
 
 use crate::job::test_size;
 use crate::maker::Maker;
-use tt_face::Face;
 use std::alloc::Global;
 use std::marker::Model;
 use tt_core::JobFault;
+use tt_face::Face;
 use tt_fit::Fit;
 
 /// A face at a size, with a fit. Clauses see these three. They do not see the fitter, which changes no answer.

@@ -21,10 +21,10 @@ ghost use Rattle.tt_strike_kept.specs.Kept.{bytes_in};
 use crate::fault::DrawFault;
 use crate::measuring::Measure;
 use crate::sized::SizedFace;
-use tt_face::Face;
 use crate::work::is_bounded;
 use std::alloc::{AllocError, Global};
 use std::marker::Model;
+use tt_face::Face;
 use tt_fit::Fit;
 use tt_picture::{Cache, Picture};
 
