@@ -32,8 +32,8 @@ returns-in-Ok-clause-outcome c =
     let answers = rw c.in_ok-strike.ensures.exact at c.in-Ok.ensures.exact in
     (s, opened, most_aside a s 0 c.args.text.now ∙ answers)
 
-pub returns-in-Err-clause-outcome : goal.returns-in-Err-clause-outcome
-returns-in-Err-clause-outcome c =
+pub returns-clause-outcome : goal.returns-clause-outcome
+returns-clause-outcome c =
     let a = c.args.setting.now in
     let text = c.args.text.now in
     let s = strike_by a c.in_ok-face.face in
@@ -60,8 +60,8 @@ returns-in-Ok-clause-defects c =
     no_defect (job_by c.args.setting.now c.args.text.now) c.args.file.now c.in_ok-face.face c.in_ok-face.ensures.exact
     c.in_ok-face.ensures.sound none
 
-pub returns-in-Err-clause-defects : goal.returns-in-Err-clause-defects
-returns-in-Err-clause-defects c =
+pub returns-clause-defects : goal.returns-clause-defects
+returns-clause-defects c =
     let stands = rw c.in_ok-strike.ensures.exact at c.in-Err.ensures.defects in
     rw c.texts_fault.ensures (text_tells (job_by c.args.setting.now c.args.text.now) c.args.file.now
     c.in_ok-face.face c.in-Err.refusal c.in_ok-face.ensures.exact stands c.in-Err.ensures.serves)
