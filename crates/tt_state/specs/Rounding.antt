@@ -1,6 +1,6 @@
 -- Apple TrueType Reference Manual, "Graphics State" (round state) and "Instruction Set" (RTG, RTHG, RTDG, RDTG, RUTG,
 -- ROFF, SROUND, S45ROUND). Distances are in 26.6 pixels.
-use Rattle.std.specs.Prelude.{◌≡◌, ℕ, if◌then◌else◌, ℤ, pos, negsuc, ◌+ℤ◌, neg_ℤ, int_lt, refl}
+use Rattle.std.specs.Prelude.{◌≡◌, ℕ, if◌then◌else◌, ℤ, pos, negsuc, ◌+ℤ◌, neg_ℤ, int_lt, refl, [], ◌∷◌, map}
 use Rattle.tt_state.specs.declared.rounding.Round.{Round}
 use Rattle.tt_state.specs.declared.rounding.Round.TheVariants as round
 use Rattle.tt_state.specs.Sround.{cut_to, a_pixel, half_a_diagonal, super_of, rounded_by}
@@ -29,44 +29,27 @@ abbrev pub super_state_at_45 : ℕ → Round
 super_state_at_45 byte = round.Super (super_of half_a_diagonal byte)
 
 -- worked values
-half_a_pixel : rounded round.Grid (pos 32) ≡ pos 64
-half_a_pixel = refl
+to_the_grid : map (rounded round.Grid) (pos 32 ∷ negsuc 31 ∷ pos 31 ∷ []) ≡ pos 64 ∷ negsuc 63 ∷ pos 0 ∷ []
+to_the_grid = refl
 
-minus_half_a_pixel : rounded round.Grid (negsuc 31) ≡ negsuc 63
-minus_half_a_pixel = refl
-
-less_than_half : rounded round.Grid (pos 31) ≡ pos 0
-less_than_half = refl
-
-to_a_half : rounded round.Half (pos 64) ≡ pos 96
+to_a_half : map (rounded round.Half) (pos 64 ∷ negsuc 0 ∷ []) ≡ pos 96 ∷ negsuc 31 ∷ []
 to_a_half = refl
 
-minus_one_to_a_half : rounded round.Half (negsuc 0) ≡ negsuc 31
-minus_one_to_a_half = refl
+to_the_double_grid : rounded round.Double (pos 16) ≡ pos 32
+to_the_double_grid = refl
 
-double_grid : rounded round.Double (pos 16) ≡ pos 32
-double_grid = refl
+up_and_down : map (λ state. rounded state (negsuc 126)) (round.Up ∷ round.Down ∷ []) ≡ negsuc 127 ∷ negsuc 63 ∷ []
+up_and_down = refl
 
 up : rounded round.Up (pos 1) ≡ pos 64
 up = refl
 
-down : rounded round.Down (negsuc 126) ≡ negsuc 63
-down = refl
-
 minus_ten : rounded (super_state 0x59) (negsuc 9) ≡ negsuc 15
 minus_ten = refl
 
-at_45 : rounded (super_state_at_45 0x48) (pos 67) ≡ pos 45
+-- a half period goes away from 0
+at_45 : map (rounded (super_state_at_45 0x48)) (pos 67 ∷ pos 68 ∷ negsuc 22 ∷ []) ≡ pos 45 ∷ pos 90 ∷ negsuc 44 ∷ []
 at_45 = refl
 
-half_a_period_at_45 : rounded (super_state_at_45 0x48) (pos 68) ≡ pos 90
-half_a_period_at_45 = refl
-
-minus_half_a_period_at_45 : rounded (super_state_at_45 0x48) (negsuc 22) ≡ negsuc 44
-minus_half_a_period_at_45 = refl
-
-up_at_45 : rounded (super_state_at_45 0x40) (pos 46) ≡ pos 90
+up_at_45 : map (rounded (super_state_at_45 0x40)) (pos 46 ∷ pos 0 ∷ []) ≡ pos 90 ∷ pos 0 ∷ []
 up_at_45 = refl
-
-none_at_45 : rounded (super_state_at_45 0x40) (pos 0) ≡ pos 0
-none_at_45 = refl

@@ -1,6 +1,6 @@
 -- Apple TrueType Reference Manual, "Instruction Set" (SROUND, S45ROUND): one rule, by the period of a grid. Distances
 -- are in 26.6 pixels; a grid period and any `fine` are in 2.14.
-use Rattle.std.specs.Prelude.{◌≡◌, ℕ, ◌+◌, ◌-◌, ◌*◌, ◌/◌, ◌%◌, ◌<◌, ◌≤◌, ◌==◌, nat_le, true, false, if◌then◌else◌, ℤ, pos, negsuc, ◌+ℤ◌, ◌-ℤ◌, ◌*ℤ◌, ◌≤ℤ◌, int_lt, refl}
+use Rattle.std.specs.Prelude.{◌≡◌, ℕ, ◌+◌, ◌-◌, ◌*◌, ◌/◌, ◌%◌, ◌<◌, ◌≤◌, ◌==◌, nat_le, true, false, if◌then◌else◌, ℤ, pos, negsuc, ◌+ℤ◌, ◌-ℤ◌, ◌*ℤ◌, ◌≤ℤ◌, int_lt, refl, List, [], ◌∷◌, map}
 use Rattle.std.specs.Int.{int_div_euclid, int_rem_euclid}
 use Rattle.tt_state.specs.declared.sround.GridPeriod.{GridPeriod}
 use Rattle.tt_state.specs.declared.sround.GridPeriod.TheVariants as grid_period
@@ -90,23 +90,18 @@ not_above_the_root = refl
 next_above_the_root : nat_le (2 * ((half_a_diagonal + 1) * (half_a_diagonal + 1))) (a_pixel * a_pixel) ≡ false
 next_above_the_root = refl
 
-half_a_period_at_45 : super_of half_a_diagonal 0x00 ≡ record { period = 22; phase = 0; threshold = pos 21 }
-half_a_period_at_45 = refl
+-- half a period, no threshold, to the nearest, down, a quarter, three quarters, and kept back
+abbrev bytes_at_45 : List ℕ
+bytes_at_45 = 0x00 ∷ 0xB0 ∷ 0x48 ∷ 0x41 ∷ 0x58 ∷ 0x78 ∷ 0xC8 ∷ []
 
-no_threshold_at_45 : super_of half_a_diagonal 0xB0 ≡ record { period = 90; phase = 67; threshold = pos 89 }
-no_threshold_at_45 = refl
+periods_at_45 : map (λ byte. (super_of half_a_diagonal byte).period) bytes_at_45
+    ≡ 22 ∷ 90 ∷ 45 ∷ 45 ∷ 45 ∷ 45 ∷ 45 ∷ []
+periods_at_45 = refl
 
-nearest_at_45 : super_of half_a_diagonal 0x48 ≡ record { period = 45; phase = 0; threshold = pos 22 }
-nearest_at_45 = refl
+phases_at_45 : map (λ byte. (super_of half_a_diagonal byte).phase) bytes_at_45
+    ≡ 0 ∷ 67 ∷ 0 ∷ 0 ∷ 11 ∷ 33 ∷ 0 ∷ []
+phases_at_45 = refl
 
-rounded_down_at_45 : super_of half_a_diagonal 0x41 ≡ record { period = 45; phase = 0; threshold = negsuc 16 }
-rounded_down_at_45 = refl
-
-a_quarter_at_45 : super_of half_a_diagonal 0x58 ≡ record { period = 45; phase = 11; threshold = pos 22 }
-a_quarter_at_45 = refl
-
-three_quarters_at_45 : super_of half_a_diagonal 0x78 ≡ record { period = 45; phase = 33; threshold = pos 22 }
-three_quarters_at_45 = refl
-
-kept_back_at_45 : super_of half_a_diagonal 0xC8 ≡ record { period = 45; phase = 0; threshold = pos 22 }
-kept_back_at_45 = refl
+thresholds_at_45 : map (λ byte. (super_of half_a_diagonal byte).threshold) bytes_at_45
+    ≡ pos 21 ∷ pos 89 ∷ pos 22 ∷ negsuc 16 ∷ pos 22 ∷ pos 22 ∷ pos 22 ∷ []
+thresholds_at_45 = refl

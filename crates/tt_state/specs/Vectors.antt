@@ -1,7 +1,7 @@
 -- Apple TrueType Reference Manual, "Graphics State" (projection vector, freedom vector, dual projection vector) and
 -- "Instruction Set" (SPVTL, SFVTL, SDPVTL, SPVFS, SFVFS). Coordinates and distances are in 26.6 pixels. The parts of a
 -- unit vector are in 2.14: 16384 is 1.
-use Rattle.std.specs.Prelude.{◌≡◌, ℕ, zero, suc, ◌+◌, ◌*◌, ◌/◌, ◌^◌, ◌≤◌, ◌==◌, nat_lt, nat_le, max, Bool, true, false, if◌then◌else◌, ℤ, pos, negsuc, ◌+ℤ◌, ◌-ℤ◌, ◌*ℤ◌, neg_ℤ, int_lt, unsigned_abs, refl}
+use Rattle.std.specs.Prelude.{◌≡◌, ℕ, zero, suc, ◌+◌, ◌*◌, ◌/◌, ◌^◌, ◌≤◌, ◌==◌, nat_lt, nat_le, max, Bool, true, false, if◌then◌else◌, ℤ, pos, negsuc, ◌+ℤ◌, ◌-ℤ◌, ◌*ℤ◌, neg_ℤ, int_lt, unsigned_abs, refl, [], ◌∷◌, map}
 use Rattle.tt_core.specs.Numbers.{rounded_quotient}
 
 -- the parts of a vector, or the coordinates of a place
@@ -65,101 +65,62 @@ abbrev pub dot : Pair → Pair → ℤ
 dot projection freedom = counted (project projection freedom.x freedom.y)
 
 -- worked values
-three_four : unit (pos 3) (pos 4) ≡ pair (pos 9830) (pos 13107)
+-- 3 by 4, straight down, diagonal, 1 by 2, and downwards
+slanted_units : map (λ (v : Pair). unit v.x v.y)
+    (pair (pos 3) (pos 4) ∷ pair (pos 0) (negsuc 4) ∷ pair (pos 1) (pos 1) ∷ pair (pos 1) (pos 2)
+    ∷ pair (pos 2) (negsuc 0) ∷ [])
+    ≡ pair (pos 9830) (pos 13107) ∷ pair (pos 0) (negsuc 16383) ∷ pair (pos 11585) (pos 11585)
+    ∷ pair (pos 7327) (pos 14654) ∷ pair (pos 14654) (negsuc 7326) ∷ []
 unfolding unit root
-three_four = refl
+slanted_units = refl
 
-straight_down : unit (pos 0) (negsuc 4) ≡ pair (pos 0) (negsuc 16383)
+-- one in a thousand, and never the axis itself
+units_near_an_axis : map (λ (v : Pair). unit v.x v.y)
+    (pair (pos 1) (pos 1000) ∷ pair (pos 4194302) (pos 1) ∷ pair (pos 16382) (pos 255) ∷ [])
+    ≡ pair (pos 16) (pos 16383) ∷ pair (pos 16383) (pos 0) ∷ pair (pos 16382) (pos 255) ∷ []
 unfolding unit root
-straight_down = refl
-
-diagonal : unit (pos 1) (pos 1) ≡ pair (pos 11585) (pos 11585)
-unfolding unit root
-diagonal = refl
-
-one_two : unit (pos 1) (pos 2) ≡ pair (pos 7327) (pos 14654)
-unfolding unit root
-one_two = refl
-
-downward : unit (pos 2) (negsuc 0) ≡ pair (pos 14654) (negsuc 7326)
-unfolding unit root
-downward = refl
-
-one_in_a_thousand : unit (pos 1) (pos 1000) ≡ pair (pos 16) (pos 16383)
-unfolding unit root
-one_in_a_thousand = refl
-
-never_the_axis : unit (pos 4194302) (pos 1) ≡ pair (pos 16383) (pos 0)
-unfolding unit root
-never_the_axis = refl
-
-near_the_axis : unit (pos 16382) (pos 255) ≡ pair (pos 16382) (pos 255)
-unfolding unit root
-near_the_axis = refl
+units_near_an_axis = refl
 
 no_direction : unit (pos 0) (pos 0) ≡ pair (pos 16384) (pos 0)
 unfolding unit root
 no_direction = refl
 
-upward_line : line (pair (pos 0) (pos 0)) (pair (pos 100) (pos 200)) false ≡ pair (pos 7327) (pos 14654)
+-- upwards, and turned left
+line_and_turned_line : map (line (pair (pos 0) (pos 0)) (pair (pos 100) (pos 200))) (false ∷ true ∷ [])
+    ≡ pair (pos 7327) (pos 14654) ∷ pair (negsuc 14653) (pos 7327) ∷ []
 unfolding unit root
-upward_line = refl
-
-turned_left : line (pair (pos 0) (pos 0)) (pair (pos 100) (pos 200)) true ≡ pair (negsuc 14653) (pos 7327)
-unfolding unit root
-turned_left = refl
+line_and_turned_line = refl
 
 one_place : line (pair (pos 100) (pos 200)) (pair (pos 100) (pos 200)) true ≡ pair (pos 16384) (pos 0)
 unfolding unit root
 one_place = refl
 
-slanted : project (pair (pos 7327) (pos 14654)) (pos 100) (pos 200) ≡ pos 224
+-- along the vector and at right angles to it, a pixel to the right and to the left, and below a half
+projected : map (λ (d : Pair). project (pair (pos 7327) (pos 14654)) d.x d.y)
+    (pair (pos 100) (pos 200) ∷ pair (pos 200) (negsuc 99) ∷ pair (pos 64) (pos 0) ∷ pair (negsuc 63) (pos 0)
+    ∷ pair (pos 1) (pos 0) ∷ [])
+    ≡ pos 224 ∷ pos 0 ∷ pos 29 ∷ negsuc 28 ∷ pos 0 ∷ []
 unfolding project
-slanted = refl
+projected = refl
 
-at_right_angles : project (pair (pos 7327) (pos 14654)) (pos 200) (negsuc 99) ≡ pos 0
-unfolding project
-at_right_angles = refl
-
-one_pixel : project (pair (pos 7327) (pos 14654)) (pos 64) (pos 0) ≡ pos 29
-unfolding project
-one_pixel = refl
-
-minus_one_pixel : project (pair (pos 7327) (pos 14654)) (negsuc 63) (pos 0) ≡ negsuc 28
-unfolding project
-minus_one_pixel = refl
-
-below_a_half : project (pair (pos 7327) (pos 14654)) (pos 1) (pos 0) ≡ pos 0
-unfolding project
-below_a_half = refl
-
-pixel_along : along (pair (pos 7327) (pos 14654)) (pos 64) ≡ pair (pos 29) (pos 57)
+-- a pixel, and the least distance
+moved_along_it : map (along (pair (pos 7327) (pos 14654))) (pos 64 ∷ pos 1 ∷ [])
+    ≡ pair (pos 29) (pos 57) ∷ pair (pos 0) (pos 1) ∷ []
 unfolding along
-pixel_along = refl
+moved_along_it = refl
 
-least_along : along (pair (pos 7327) (pos 14654)) (pos 1) ≡ pair (pos 0) (pos 1)
-unfolding along
-least_along = refl
-
-dot_with_x : dot (pair (pos 7327) (pos 14654)) (pair (pos 16384) (pos 0)) ≡ pos 7327
+-- with the x axis, and with itself
+dots_of_a_slant : map (dot (pair (pos 7327) (pos 14654))) (pair (pos 16384) (pos 0) ∷ pair (pos 7327) (pos 14654) ∷ [])
+    ≡ pos 7327 ∷ pos 16383 ∷ []
 unfolding project
-dot_with_x = refl
+dots_of_a_slant = refl
 
-dot_with_itself : dot (pair (pos 7327) (pos 14654)) (pair (pos 7327) (pos 14654)) ≡ pos 16383
+-- just below a sixteenth, just above it, and at right angles
+dots_with_y : map (λ v. dot v (pair (pos 0) (pos 16384)))
+    (pair (pos 16352) (pos 1013) ∷ pair (pos 16351) (pos 1030) ∷ pair (pos 16384) (pos 0) ∷ [])
+    ≡ pos 16384 ∷ pos 1030 ∷ pos 16384 ∷ []
 unfolding project
-dot_with_itself = refl
-
-below_a_sixteenth : dot (pair (pos 16352) (pos 1013)) (pair (pos 0) (pos 16384)) ≡ pos 16384
-unfolding project
-below_a_sixteenth = refl
-
-above_a_sixteenth : dot (pair (pos 16351) (pos 1030)) (pair (pos 0) (pos 16384)) ≡ pos 1030
-unfolding project
-above_a_sixteenth = refl
-
-dot_of_axes : dot (pair (pos 16384) (pos 0)) (pair (pos 0) (pos 16384)) ≡ pos 16384
-unfolding project
-dot_of_axes = refl
+dots_with_y = refl
 
 dot_of_opposites : dot (pair (pos 16384) (pos 0)) (pair (negsuc 16383) (pos 0)) ≡ negsuc 16383
 unfolding project
