@@ -1,5 +1,5 @@
 -- Binary search: the count of numbers that it tests, if the passing numbers follow the failing ones.
-use Rattle.std.specs.Prelude.{◌≡◌, ℕ, zero, suc, ◌+◌, ◌-◌, ◌/◌, nat_le, Bool, if◌then◌else◌, refl}
+use Rattle.std.specs.Prelude.{◌≡◌, ℕ, zero, suc, ◌+◌, ◌-◌, ◌/◌, nat_le, Bool, if◌then◌else◌, refl, [], ◌∷◌, map}
 
 -- the count of tests in a binary search of the numbers from low on; the last argument is their count. The middle number
 -- is tested first; then the half before it if it passes, or the half after it if it fails. The first argument is at
@@ -20,18 +20,7 @@ none_is_asked : asked (λ i. nat_le 3 i) 0 0 ≡ 0
 unfolding asked_within
 none_is_asked = refl
 
-first_of_five : asked (λ i. nat_le 0 i) 0 5 ≡ 3
+-- the first of five, the fourth, the last, and none of them
+passing_from : map (λ k. asked (λ i. nat_le k i) 0 5) (0 ∷ 3 ∷ 4 ∷ 5 ∷ []) ≡ 3 ∷ 3 ∷ 3 ∷ 2 ∷ []
 unfolding asked_within
-first_of_five = refl
-
-fourth_of_five : asked (λ i. nat_le 3 i) 0 5 ≡ 3
-unfolding asked_within
-fourth_of_five = refl
-
-last_of_five : asked (λ i. nat_le 4 i) 0 5 ≡ 3
-unfolding asked_within
-last_of_five = refl
-
-past_all_five : asked (λ i. nat_le 5 i) 0 5 ≡ 2
-unfolding asked_within
-past_all_five = refl
+passing_from = refl

@@ -1,5 +1,5 @@
 -- OpenType, "cmap": the glyph of a character, by the chosen subtable.
-use Rattle.std.specs.Prelude.{false, ◌<◌, ◌≡◌, ℕ, List, [], ◌∷◌, Option, Some, None, Result, Ok, Err, refl}
+use Rattle.std.specs.Prelude.{false, ◌<◌, ◌≡◌, ℕ, List, [], ◌∷◌, Option, Some, None, Result, Ok, Err, refl, map}
 use Rattle.tt_core.specs.Faults.{Fault}
 use Rattle.tt_core.specs.declared.fault.Why.TheVariants as why
 use Rattle.tt_core.specs.Outcomes.{◌>>=◌}
@@ -60,23 +60,12 @@ by_segments glyphs = record { subtable = segments (record { table = two_segments
 its_subtable : chosen_subtable two_segments ≡ Some (choice_of Segments 12)
 its_subtable = refl
 
-its_first_letter : glyph_of (by_segments 3) 65 ≡ 1
-its_first_letter = refl
-
-its_second_letter : glyph_of (by_segments 3) 66 ≡ 2
-its_second_letter = refl
-
 a_glyph_that_the_font_lacks : glyph_of (by_segments 2) 66 ≡ 0
 a_glyph_that_the_font_lacks = refl
 
-before_a_segment : glyph_of (by_segments 3) 64 ≡ 0
-before_a_segment = refl
-
-by_the_last_segment : glyph_of (by_segments 3) 65535 ≡ 0
-by_the_last_segment = refl
-
-past_the_last_segment : glyph_of (by_segments 3) 65536 ≡ 0
-past_the_last_segment = refl
+-- before a segment, its two letters, and by and past the last segment
+its_letters : map (glyph_of (by_segments 3)) (64 ∷ 65 ∷ 66 ∷ 65535 ∷ 65536 ∷ []) ≡ 0 ∷ 1 ∷ 2 ∷ 0 ∷ 0 ∷ []
+its_letters = refl
 
 -- one group: 0001F600 to 0001F602, from glyph 1 on
 abbrev pub one_group : List ℕ
@@ -90,14 +79,6 @@ by_groups = record { subtable = groups (record { table = one_group; at = 12 }); 
 its_groups : chosen_subtable one_group ≡ Some (choice_of Groups 12)
 its_groups = refl
 
-the_second_of_a_group : glyph_of by_groups 128513 ≡ 2
-the_second_of_a_group = refl
-
-the_third_that_the_font_lacks : glyph_of by_groups 128514 ≡ 0
-the_third_that_the_font_lacks = refl
-
-before_a_group : glyph_of by_groups 65 ≡ 0
-before_a_group = refl
-
-past_the_last_group : glyph_of by_groups 128515 ≡ 0
-past_the_last_group = refl
+-- before the group, its second, its third, which the font lacks, and past the group
+of_a_group : map (glyph_of by_groups) (65 ∷ 128513 ∷ 128514 ∷ 128515 ∷ []) ≡ 0 ∷ 2 ∷ 0 ∷ 0 ∷ []
+of_a_group = refl

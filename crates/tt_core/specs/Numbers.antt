@@ -1,6 +1,6 @@
 -- Apple TrueType Reference Manual, "The TrueType Font File" (data types). Every number of a font is big-endian, and a
 -- signed number is two's complement. This file also has the rounding of quotients.
-use Rattle.std.specs.Prelude.{◌≡◌, ℕ, zero, suc, ◌+◌, ◌*◌, ◌^◌, List, [], ◌∷◌, length, slice_index, nat_lt, nat_le, if◌then◌else◌, ℤ, pos, negsuc, ◌+ℤ◌, ◌-ℤ◌, ◌*ℤ◌, neg_ℤ, int_lt, Option, Some, None, option_map, refl}
+use Rattle.std.specs.Prelude.{◌≡◌, ℕ, zero, suc, ◌+◌, ◌*◌, ◌^◌, List, [], ◌∷◌, length, slice_index, nat_lt, nat_le, if◌then◌else◌, ℤ, pos, negsuc, ◌+ℤ◌, ◌-ℤ◌, ◌*ℤ◌, neg_ℤ, int_lt, Option, Some, None, option_map, refl, map}
 use Rattle.std.specs.Int.{int_div_euclid}
 
 -- the number in the k bytes at an offset, the highest byte first; a byte past the end counts as 0
@@ -38,14 +38,9 @@ past_the_end = refl
 minus_two : signed_at (255 ∷ 254 ∷ []) 0 ≡ Some (negsuc 1)
 minus_two = refl
 
-half_goes_up : rounded_quotient (pos 1) (pos 2) ≡ pos 1
-half_goes_up = refl
-
-minus_half_goes_up : rounded_quotient (negsuc 0) (pos 2) ≡ pos 0
-minus_half_goes_up = refl
-
-minus_one_and_a_half : rounded_quotient (negsuc 2) (pos 2) ≡ negsuc 0
-minus_one_and_a_half = refl
+-- a half goes up, below 0 too
+halves_go_up : map (λ n. rounded_quotient n (pos 2)) (pos 1 ∷ negsuc 0 ∷ negsuc 2 ∷ []) ≡ pos 1 ∷ pos 0 ∷ negsuc 0 ∷ []
+halves_go_up = refl
 
 negative_divisor : rounded_quotient (pos 3) (negsuc 1) ≡ negsuc 0
 negative_divisor = refl

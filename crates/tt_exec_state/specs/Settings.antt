@@ -1,5 +1,5 @@
 -- Apple TrueType Reference Manual, "Instruction set": managing the graphics state. The top of the stack comes first.
-use Rattle.std.specs.Prelude.{◌≡◌, ℕ, ℤ, pos, negsuc, int_lt, unsigned_abs, ◌==◌, nat_le, Bool, true, false, ◌&&◌, ◌||◌, not, if◌then◌else◌, List, [], ◌∷◌, Result, Ok, Err, refl}
+use Rattle.std.specs.Prelude.{◌≡◌, ℕ, ℤ, pos, negsuc, int_lt, unsigned_abs, ◌==◌, nat_le, Bool, true, false, ◌&&◌, ◌||◌, not, if◌then◌else◌, List, [], ◌∷◌, Result, Ok, Err, refl, map}
 use Rattle.std.specs.Int.{int_rem_euclid}
 use Rattle.tt_core.specs.declared.scaling.Scale.{Scale}
 use Rattle.tt_core.specs.Outcomes.{◌>>=◌}
@@ -192,28 +192,21 @@ always_on = refl
 never_on : control_after (pos 0x900) 1 true ≡ false
 never_on = refl
 
--- up to 20 pixels
-on_up_to_its_size : control_after (pos 0x114) 20 false ≡ true
+-- on up to 20 pixels, and as before beyond
+on_up_to_its_size : map (λ size. control_after (pos 0x114) size false) (20 ∷ 21 ∷ []) ≡ true ∷ false ∷ []
 on_up_to_its_size = refl
 
-as_before_beyond_it : control_after (pos 0x114) 21 false ≡ false
-as_before_beyond_it = refl
-
-off_beyond_its_size : control_after (pos 0x814) 21 true ≡ false
+-- as before up to 20 pixels, and off beyond
+off_beyond_its_size : map (λ size. control_after (pos 0x814) size true) (20 ∷ 21 ∷ []) ≡ true ∷ false ∷ []
 off_beyond_its_size = refl
-
-as_before_up_to_it : control_after (pos 0x814) 20 true ≡ true
-as_before_up_to_it = refl
 
 -- for rotated and for stretched glyphs alone
 as_before_for_others : control_after (pos 0x614) 20 false ≡ false
 as_before_for_others = refl
 
-type_five : type_after (pos 5) 0 ≡ 5
-type_five = refl
-
-type_of_sixteen_bits : type_after (pos 0x10004) 0 ≡ 4
-type_of_sixteen_bits = refl
+-- the low 16 bits
+type_of_a_number : map (λ v. type_after v 0) (pos 5 ∷ pos 0x10004 ∷ []) ≡ 5 ∷ 4 ∷ []
+type_of_a_number = refl
 
 type_of_a_negative_number : type_after (negsuc 0) 4 ≡ 4
 type_of_a_negative_number = refl

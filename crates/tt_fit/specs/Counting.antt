@@ -1,7 +1,7 @@
 -- The number of a glyph's points, with each component counted as often as it is used. The count bounds the work before
 -- the glyph is made (profile). A simple glyph states its own count: OpenType, "The 'glyf' table", "Simple Glyph
 -- Description".
-use Rattle.std.specs.Prelude.{◌≡◌, ℕ, zero, suc, ◌+◌, ◌-◌, ◌≤◌, nat_le, if◌then◌else◌, List, [], ◌∷◌, length, Option, Some, None, Ok, refl}
+use Rattle.std.specs.Prelude.{◌≡◌, ℕ, zero, suc, ◌+◌, ◌-◌, ◌≤◌, nat_le, if◌then◌else◌, List, [], ◌∷◌, length, Option, Some, None, Ok, refl, map}
 use Rattle.std.specs.List.{sum_by}
 use Rattle.tt_glyf.specs.declared.raw.Record.{Record}
 use Rattle.tt_glyf.specs.Bytes.{byte_in, word_in, signed_in, slice_in}
@@ -60,19 +60,16 @@ its_tables = record {
   glyphs = 4;
 }
 
-square_is_counted : points_asked its_tables 0 1 ≡ 9
-unfolding points_asked told_size glyph_bytes_of
-square_is_counted = refl
-
 squares_are_counted : points_asked its_tables 1 2 ≡ 22
 unfolding points_asked told_size components_of glyph_data_of glyph_bytes_of header_of described composite_of
     records_from record_at known_glyph arguments_at argument_at transform_at unscaled program_of byte_in word_in
     signed_in slice_in
 squares_are_counted = refl
 
-squares_are_not_counted_without_a_level : points_asked its_tables 0 2 ≡ 4
+-- with no level left the square is counted, but not two squares
+counted_without_a_level : map (points_asked its_tables 0) (1 ∷ 2 ∷ []) ≡ 9 ∷ 4 ∷ []
 unfolding points_asked told_size glyph_bytes_of
-squares_are_not_counted_without_a_level = refl
+counted_without_a_level = refl
 
 itself_is_counted_at_each_level : points_asked its_tables 8 3 ≡ 36
 unfolding points_asked told_size components_of glyph_data_of glyph_bytes_of header_of described composite_of

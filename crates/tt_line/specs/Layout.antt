@@ -111,14 +111,8 @@ example = record {
   hmtx = 1 ∷ 0 ∷ 0 ∷ 0 ∷ 0 ∷ 250 ∷ 0 ∷ 0 ∷ 0 ∷ 8 ∷ 0 ∷ 0 ∷ [];
 }
 
-rounded_up : ceiling_quotient (pos 7) (pos 2) ≡ pos 4
+rounded_up : map (λ n. ceiling_quotient n (pos 2)) (pos 7 ∷ negsuc 6 ∷ negsuc 7 ∷ []) ≡ pos 4 ∷ negsuc 2 ∷ negsuc 3 ∷ []
 rounded_up = refl
-
-rounded_up_below_zero : ceiling_quotient (negsuc 6) (pos 2) ≡ negsuc 2
-rounded_up_below_zero = refl
-
-whole_below_zero : ceiling_quotient (negsuc 7) (pos 2) ≡ negsuc 3
-whole_below_zero = refl
 
 a_little_below_zero : ceiling_quotient (negsuc 0) (pos 16384) ≡ pos 0
 a_little_below_zero = refl

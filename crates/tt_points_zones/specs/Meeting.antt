@@ -1,6 +1,6 @@
 -- Apple TrueType Reference Manual, "Instruction Set" (ISECT): the meeting point of two lines, each through two places
 -- and endless on both sides. Coordinates are in 26.6 pixels.
-use Rattle.std.specs.Prelude.{◌≡◌, ◌≤◌, ◌*◌, ℤ, pos, negsuc, ◌+ℤ◌, ◌-ℤ◌, ◌*ℤ◌, int_div, unsigned_abs, nat_le, Bool, if◌then◌else◌, Result, Ok, Err, refl}
+use Rattle.std.specs.Prelude.{◌≡◌, ◌≤◌, ◌*◌, ℤ, pos, negsuc, ◌+ℤ◌, ◌-ℤ◌, ◌*ℤ◌, int_div, unsigned_abs, nat_le, Bool, if◌then◌else◌, Result, Ok, Err, refl, [], ◌∷◌, map}
 use Rattle.tt_core.specs.Limits.{coordinate_limit}
 use Rattle.tt_core.specs.Numbers.{rounded_quotient}
 use Rattle.tt_core.specs.Outcomes.{◌>>=◌}
@@ -88,15 +88,12 @@ before_the_first_place : met (place (pos 0) (pos 0)) (place (pos 100) (pos 200))
 unfolding met meeting are_parallel crossing middle cross dot
 before_the_first_place = refl
 
-at_one_in_twenty : met (place (pos 0) (pos 0)) (place (pos 1000) (pos 0)) (place (pos 0) (pos 10))
-    (place (pos 1000) (pos 60)) ≡ Ok (place (pos 500) (pos 17))
+-- a line that rises by one in twenty meets the level one, and one that rises by one in eighteen
+at_small_angles : map (λ b1. met (place (pos 0) (pos 0)) (place (pos 1000) (pos 0)) (place (pos 0) (pos 10)) b1)
+    (place (pos 1000) (pos 60) ∷ place (pos 1000) (pos 65) ∷ [])
+    ≡ Ok (place (pos 500) (pos 17)) ∷ Ok (place (negsuc 181) (pos 0)) ∷ []
 unfolding met meeting are_parallel crossing middle cross dot
-at_one_in_twenty = refl
-
-at_one_in_eighteen : met (place (pos 0) (pos 0)) (place (pos 1000) (pos 0)) (place (pos 0) (pos 10))
-    (place (pos 1000) (pos 65)) ≡ Ok (place (negsuc 181) (pos 0))
-unfolding met meeting are_parallel crossing middle cross dot
-at_one_in_eighteen = refl
+at_small_angles = refl
 
 parallel_lines : met (place (pos 0) (pos 0)) (place (negsuc 9) (negsuc 19)) (place (pos 0) (negsuc 4))
     (place (negsuc 9) (negsuc 24)) ≡ Ok (place (negsuc 4) (negsuc 11))

@@ -1,6 +1,6 @@
 -- The program's messages: the exit status and the line on standard error of a fault; the line of an unfitted glyph; and
 -- the words on a character without a glyph.
-use Rattle.std.specs.Prelude.{ℕ, List, ◌++◌, codes, decimal, ◌≡◌, refl}
+use Rattle.std.specs.Prelude.{ℕ, List, ◌++◌, codes, decimal, ◌≡◌, refl, [], ◌∷◌, map}
 use Rattle.std.specs.Fmt.{digits}
 use Rattle.tt_core.specs.declared.fault.JobFault.{JobFault}
 use Rattle.tt_core.specs.declared.fault.Why.TheVariants as why
@@ -64,18 +64,9 @@ a_glyph_not_fitted : unfitted_line_of (record { glyph = 1; fault = fault_at (cod
 unfolding digits why_number why_name
 a_glyph_not_fitted = refl
 
-a_letter_without_a_glyph : missing_words 0x41 ≡ codes "U+0041 has no glyph"
+-- a letter, an ideograph, an emoji, and the last character
+without_a_glyph : map missing_words (0x41 ∷ 0x4E2D ∷ 0x1F600 ∷ 0x10FFFF ∷ []) ≡
+    codes "U+0041 has no glyph" ∷ codes "U+4E2D has no glyph"
+    ∷ codes "U+1F600 has no glyph" ∷ codes "U+10FFFF has no glyph" ∷ []
 unfolding digits
-a_letter_without_a_glyph = refl
-
-an_ideograph_without_a_glyph : missing_words 0x4E2D ≡ codes "U+4E2D has no glyph"
-unfolding digits
-an_ideograph_without_a_glyph = refl
-
-an_emoji_without_a_glyph : missing_words 0x1F600 ≡ codes "U+1F600 has no glyph"
-unfolding digits
-an_emoji_without_a_glyph = refl
-
-the_last_character_without_a_glyph : missing_words 0x10FFFF ≡ codes "U+10FFFF has no glyph"
-unfolding digits
-the_last_character_without_a_glyph = refl
+without_a_glyph = refl

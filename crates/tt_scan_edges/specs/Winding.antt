@@ -99,17 +99,10 @@ edge ax ay bx by = record { ax = ax; ay = ay; bx = bx; by = by }
 square : List Edge
 square = edge (pos 1) (pos 1) (pos 1) (pos 3) ∷ edge (pos 1) (pos 3) (pos 3) (pos 3) ∷ edge (pos 3) (pos 3) (pos 3) (pos 1) ∷ edge (pos 3) (pos 1) (pos 1) (pos 1) ∷ []
 
-inside_is_black : is_black square (pos 2) (pos 2) ≡ true
+-- inside, on its right edge, and right of it
+along_its_middle : map (λ x. is_black square x (pos 2)) (pos 2 ∷ pos 3 ∷ pos 4 ∷ []) ≡ true ∷ true ∷ false ∷ []
 unfolding square edge
-inside_is_black = refl
-
-right_edge_is_black : is_black square (pos 3) (pos 2) ≡ true
-unfolding square edge
-right_edge_is_black = refl
-
-right_of_it_is_white : is_black square (pos 4) (pos 2) ≡ false
-unfolding square edge
-right_of_it_is_white = refl
+along_its_middle = refl
 
 above_it_is_white : is_black square (pos 2) (pos 4) ≡ false
 unfolding square edge
@@ -120,17 +113,9 @@ unfolding edge
 a_point_is_black_at_itself = refl
 
 -- the square's four edges: the level ones count at their own height alone
-its_lower_side_meets_three : rows_met square (pos 1) ≡ 3
+lower_side_middle_and_above : map (rows_met square) (pos 1 ∷ pos 2 ∷ pos 4 ∷ []) ≡ 3 ∷ 2 ∷ 0 ∷ []
 unfolding square edge
-its_lower_side_meets_three = refl
-
-its_middle_meets_two : rows_met square (pos 2) ≡ 2
-unfolding square edge
-its_middle_meets_two = refl
-
-above_it_meets_none : rows_met square (pos 4) ≡ 0
-unfolding square edge
-above_it_meets_none = refl
+lower_side_middle_and_above = refl
 
 -- a picture of three rows, whose centre lines are at 12288, 4096 and -4096
 three_rows : Frame

@@ -1,6 +1,6 @@
 -- No part of the standard: the black columns of a glyph line by line. A line counts pixel rows upwards from the base
 -- line, a column counts rightwards from the glyph's pen; all heights are in 1/8192 pixel.
-use Rattle.std.specs.Prelude.{◌≡◌, refl, ℕ, ◌+◌, ◌/◌, ◌^◌, Bool, true, false, ◌||◌, if◌then◌else◌, ℤ, pos, negsuc, ◌+ℤ◌, ◌-ℤ◌, ◌*ℤ◌, ◌<ℤ◌, int_le, unsigned_abs, List, [], ◌∷◌, Option, Some, None}
+use Rattle.std.specs.Prelude.{◌≡◌, refl, ℕ, ◌+◌, ◌/◌, ◌^◌, Bool, true, false, ◌||◌, if◌then◌else◌, ℤ, pos, negsuc, ◌+ℤ◌, ◌-ℤ◌, ◌*ℤ◌, ◌<ℤ◌, int_le, unsigned_abs, List, [], ◌∷◌, Option, Some, None, map}
 use Rattle.tt_scan_edges.specs.Marks.{covers}
 use Rattle.tt_scan_edges.specs.Winding.{column_x, is_black}
 use Rattle.tt_scan_edges.specs.declared.edge.Edge.{Edge}
@@ -45,25 +45,23 @@ span first last = record { first = first; last = last }
 three_lines : Raster
 three_lines = record { top = pos 1; rows = (span (negsuc 1) (pos 3) ∷ []) ∷ [] ∷ (span (pos 4) (pos 4) ∷ []) ∷ [] }
 
-the_top_line_is_black_left_of_the_pen : shows three_lines (negsuc 1) (pos 1) ≡ true
+-- columns -2, 0 and 4 of the top line
+the_top_line : map (λ c. shows three_lines c (pos 1)) (negsuc 1 ∷ pos 0 ∷ pos 4 ∷ []) ≡ true ∷ true ∷ false ∷ []
 unfolding three_lines span
-the_top_line_is_black_left_of_the_pen = refl
+the_top_line = refl
 
 the_line_below_is_blank : shows three_lines (pos 0) (pos 0) ≡ false
 unfolding three_lines span
 the_line_below_is_blank = refl
 
-the_line_under_the_base_line_is_black : shows three_lines (pos 4) (negsuc 0) ≡ true
+-- column 4 under the base line, and below all lines
+under_the_base_line : map (shows three_lines (pos 4)) (negsuc 0 ∷ negsuc 1 ∷ []) ≡ true ∷ false ∷ []
 unfolding three_lines span
-the_line_under_the_base_line_is_black = refl
+under_the_base_line = refl
 
 above_the_top_all_is_blank : shows three_lines (pos 0) (pos 2) ≡ false
 unfolding three_lines span
 above_the_top_all_is_blank = refl
-
-below_the_last_all_is_blank : shows three_lines (pos 4) (negsuc 1) ≡ false
-unfolding three_lines span
-below_the_last_all_is_blank = refl
 
 from_the_second_pen : shows_from three_lines (9 ∷ 2 ∷ []) (pos 0) (pos 1) ≡ true
 unfolding three_lines span

@@ -1,6 +1,6 @@
 -- Laws of ink. The box of a measure is the least that holds a line's black pixels, those outside of the picture too. A
 -- grown picture is refused exactly where its measure is. It cuts no ink, and no smaller picture does so.
-use Rattle.std.specs.Prelude.{◌≡◌, refl, ℕ, ◌<◌, ◌||◌, Bool, true, false, ℤ, pos, negsuc, ◌+ℤ◌, ◌-ℤ◌, ◌≤ℤ◌, ◌<ℤ◌, List, [], ◌∷◌, Option, Some, None, Ok, Err, ◌↔◌, ◌⊎◌}
+use Rattle.std.specs.Prelude.{◌≡◌, refl, ℕ, ◌<◌, ◌||◌, Bool, true, false, ℤ, pos, negsuc, ◌+ℤ◌, ◌-ℤ◌, ◌≤ℤ◌, ◌<ℤ◌, List, [], ◌∷◌, Option, Some, None, Ok, Err, ◌↔◌, ◌⊎◌, map}
 use Rattle.tt_fit.specs.Fitting.{Fitter}
 use Rattle.tt_line.specs.Layout.{Placement}
 use Rattle.tt_scan_edges.specs.declared.edge.Edge.{Edge}
@@ -109,21 +109,11 @@ upright =
     let edges : List Edge = record { ax = pos 12288; ay = pos 0; bx = pos 12288; by = pos 16384 } ∷ [] in
     record { edges = edges; contours = edges ∷ []; filled = None } ∷ []
 
-ink_on_the_right : is_ink one_pixel upright (pos 1) (pos 0) ≡ true
+-- in the next column: its own row, the two above it, and the one below it
+ink_on_the_right : map (is_ink one_pixel upright (pos 1)) (pos 0 ∷ negsuc 0 ∷ negsuc 1 ∷ pos 1 ∷ [])
+    ≡ true ∷ true ∷ false ∷ false ∷ []
 unfolding one_pixel upright
 ink_on_the_right = refl
-
-ink_above : is_ink one_pixel upright (pos 1) (negsuc 0) ≡ true
-unfolding one_pixel upright
-ink_above = refl
-
-none_two_above : is_ink one_pixel upright (pos 1) (negsuc 1) ≡ false
-unfolding one_pixel upright
-none_two_above = refl
-
-none_below : is_ink one_pixel upright (pos 1) (pos 1) ≡ false
-unfolding one_pixel upright
-none_below = refl
 
 none_inside : is_ink one_pixel upright (pos 0) (pos 0) ≡ false
 unfolding one_pixel upright
