@@ -211,32 +211,22 @@ on_points t instruction.Alignpts ppem s z g cvt = with_values cvt (alignpts t s 
 
 -- the count of values that an instruction takes at once, before points and pairs whose count the program decides
 abbrev pub takes : PointInstruction → ℕ
-takes instruction.Utp = 1
-takes (instruction.Mdap round) = 1
 takes (instruction.Iup axis) = 0
 takes (instruction.Shp which) = 0
+takes instruction.Ip = 0
+takes instruction.Alignrp = 0
+takes instruction.Flippt = 0
+takes (instruction.Mdap round) = 1
 takes (instruction.Shc which) = 1
 takes (instruction.Shz which) = 1
-takes instruction.Shpix = 1
-takes instruction.Ip = 0
-takes (instruction.Msirp set_rp0) = 2
-takes instruction.Alignrp = 0
-takes (instruction.Miap round) = 2
+takes instruction.Utp = 1
 takes (instruction.Gc of) = 1
-takes instruction.Scfs = 2
-takes (instruction.Md between) = 2
 takes (instruction.Deltap range) = 1
 takes (instruction.Deltac range) = 1
-takes instruction.Flippt = 0
-takes instruction.Fliprgon = 2
-takes instruction.Fliprgoff = 2
 takes (instruction.Mdrp keeping) = 1
-takes (instruction.Mirp keeping) = 2
-takes (instruction.Spvtl turned) = 2
-takes (instruction.Sfvtl turned) = 2
-takes (instruction.Sdpvtl turned) = 2
+takes instruction.Shpix = 1
 takes instruction.Isect = 5
-takes instruction.Alignpts = 2
+takes other = 2
 
 -- worked values: a tolerant machine with exactly two points, one at 0 and one at 40 along x
 abbrev two : ZoneLists

@@ -101,14 +101,9 @@ takes op.Add = 2
 takes op.Sub = 2
 takes op.Div = 2
 takes op.Mul = 2
-takes op.Abs = 1
-takes op.Neg = 1
-takes op.Floor = 1
-takes op.Ceiling = 1
-takes op.Round = 1
-takes op.Nround = 1
 takes op.Max = 2
 takes op.Min = 2
+takes other = 1
 
 -- worked values
 minus_eight_times_36 : mul (pos 36 ∷ neg_ℤ (pos 8) ∷ []) ≡ Ok (neg_ℤ (pos 5) ∷ [])

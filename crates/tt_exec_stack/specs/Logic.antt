@@ -82,17 +82,10 @@ evaluated op.Not round s = negated s
 
 -- the count of values that an instruction takes
 abbrev pub takes : Logic → ℕ
-takes op.Lt = 2
-takes op.Lteq = 2
-takes op.Gt = 2
-takes op.Gteq = 2
-takes op.Eq = 2
-takes op.Neq = 2
 takes op.Odd = 1
 takes op.Even = 1
-takes op.And = 2
-takes op.Or = 2
 takes op.Not = 1
+takes other = 2
 
 -- worked values: the second entry is compared with the top
 one_is_less_than_two : lt (pos 2 ∷ pos 1 ∷ []) ≡ Ok (pos 1 ∷ [])

@@ -60,14 +60,11 @@ managed op.Roll t s = roll s
 
 -- the count of values that an instruction takes at once
 abbrev pub takes : Managing → ℕ
-takes op.Dup = 1
-takes op.Pop = 1
 takes op.Clear = 0
-takes op.Swap = 2
 takes op.Depth = 0
-takes op.Cindex = 1
-takes op.Mindex = 1
+takes op.Swap = 2
 takes op.Roll = 3
+takes other = 1
 
 -- worked values: 10, 20, 30 with 30 on top
 the_second_copied : cindex tolerance.Strict (pos 2 ∷ pos 30 ∷ pos 20 ∷ pos 10 ∷ [])

@@ -29,9 +29,8 @@ answered op.Getinfo ppem s = getinfo s
 
 -- the count of values that an instruction takes
 abbrev pub takes : Query → ℕ
-takes op.Mppem = 0
-takes op.Mps = 0
 takes op.Getinfo = 1
+takes other = 0
 
 -- worked values
 all_bits_set : getinfo (neg_ℤ (pos 1) ∷ []) ≡ Ok (pos 35 ∷ [])

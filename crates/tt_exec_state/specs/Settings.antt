@@ -150,27 +150,9 @@ state_set op.Ignored ppem scale t s g = ignored s >>= λ t. Ok (t, g)
 
 -- the count of values that an instruction takes
 abbrev pub takes : GraphicsSetting → ℕ
-takes op.Srp0 = 1
-takes op.Srp1 = 1
-takes op.Srp2 = 1
-takes op.Szp0 = 1
-takes op.Szp1 = 1
-takes op.Szp2 = 1
-takes op.Szps = 1
-takes op.Sloop = 1
 takes (op.RoundTo round) = 0
-takes op.Sround = 1
-takes op.S45round = 1
-takes op.Smd = 1
-takes op.Scvtci = 1
-takes op.Sswci = 1
-takes op.Ssw = 1
 takes (op.Flip on) = 0
-takes op.Sdb = 1
-takes op.Sds = 1
-takes op.Scanctrl = 1
-takes op.Scantype = 1
-takes op.Ignored = 1
+takes other = 1
 
 -- worked values
 no_zone_two : szp0 tolerance.Strict (pos 2 ∷ []) default_state ≡ Err why.ZoneRange

@@ -62,11 +62,9 @@ values_accessed op.Rcvt scale t s storage cvt = rcvt t s cvt >>= λ r. Ok (r, st
 
 -- the count of values that an instruction takes
 abbrev pub takes : StoredValues → ℕ
-takes op.Ws = 2
 takes op.Rs = 1
-takes op.Wcvtp = 2
-takes op.Wcvtf = 2
 takes op.Rcvt = 1
+takes other = 2
 
 -- worked values
 value_on_top : ws tolerance.Strict (pos 7 ∷ pos 1 ∷ []) (pos 0 ∷ pos 0 ∷ []) ≡ Ok ([], pos 0 ∷ pos 7 ∷ [])

@@ -81,14 +81,9 @@ vectors_accessed op.Sfvtpv s g = Ok (s, sfvtpv g)
 
 -- the count of values that an instruction takes
 abbrev pub takes : Vectors → ℕ
-takes (op.Svtca axis) = 0
-takes (op.Spvtca axis) = 0
-takes (op.Sfvtca axis) = 0
 takes op.Spvfs = 2
 takes op.Sfvfs = 2
-takes op.Gpv = 0
-takes op.Gfv = 0
-takes op.Sfvtpv = 0
+takes other = 0
 
 -- worked values
 y_on_top : vector_given (pos 0) (pos 16384) false ≡ Ok vector.Y
