@@ -12,14 +12,14 @@ use Rattle.tt_state.specs.GraphicsState.{default_state}
 use Rattle.tt_state.specs.Rounding.{rounded}
 use Rattle.tt_state.specs.Vectors.{project, along}
 use Rattle.tt_points_zones.specs.Zones.{ZoneLists}
-use Rattle.tt_points_zones.specs.Points.{point_in, with_point}
+use Rattle.tt_points_zones.specs.Points.{point_in, with_point, origin}
 use Rattle.tt_points_zones.specs.Motions.{cur, original_distance, direction, moved}
 use Rattle.tt_points_zones.specs.declared.motion.Motion.{Motion}
 use Rattle.tt_points.specs.declared.distances.Keeping.{Keeping}
 use Rattle.tt_points.specs.Distances.{keeping, single_width, rounded_by, spaced_by, flipped, cut_in}
 use Rattle.tt_points.specs.Slanted.{rising, slanted, fourth_at, with_fourth, with_twilight, before, touched_at}
 use Rattle.tt_points.specs.Moving.{kept, referred, zero_and, zero_and_touched}
-use Rattle.tt_points.specs.Twilight.{made, placed, origin}
+use Rattle.tt_points.specs.Twilight.{made, placed}
 use Rattle.tt_points.specs.declared.twilight.AlongVector.TheVariants as by
 
 -- the control value after the cut-in by a point's coordinate, rounded

@@ -16,7 +16,7 @@ use Rattle.tt_points_zones.specs.Total.{enough_of, enough_of_either, point_enoug
 use Rattle.tt_points_zones.specs.Meeting.{met, meeting, limited}
 use Rattle.tt_points_zones.specs.Motions.{direction, cur, current_distance, original_distance, put_further, marked, steps, moved}
 use Rattle.tt_points_zones.specs.Originals.{distance_by, scale_between}
-use Rattle.tt_points_zones.specs.Points.{is_coordinate, point_in}
+use Rattle.tt_points_zones.specs.Points.{is_coordinate, point_in, origin}
 use Rattle.tt_points_zones.specs.Zones.{ZoneLists}
 use Rattle.tt_points_zones.specs.declared.meeting.Place.{Place}
 use Rattle.tt_points_zones.specs.declared.motion.Motion.{Motion}
@@ -29,7 +29,7 @@ use Rattle.tt_points.specs.ControlValues.{placed_at, set_at, miap_distance, mirp
 use Rattle.tt_points.specs.Distances.{single_width}
 use Rattle.tt_points.specs.Lines.{half, line_through, two_points, move_by}
 use Rattle.tt_points.specs.Moving.{kept, kept_from, mdap_distance, mdrp_distance}
-use Rattle.tt_points.specs.Twilight.{further, placed, made, origin}
+use Rattle.tt_points.specs.Twilight.{further, placed, made}
 use Rattle.tt_points.specs.ControlValues as by_value
 use Rattle.tt_points.specs.Lines as lines
 use Rattle.tt_points.specs.Measuring as measuring

@@ -13,14 +13,13 @@ use Rattle.tt_state.specs.Axes.{vector_of}
 use Rattle.tt_state.specs.Vectors.{pair, line, unit, root, project}
 use Rattle.tt_state.specs.GraphicsState.{default_of, default_state}
 use Rattle.tt_points_zones.specs.Zones.{ZoneLists}
-use Rattle.tt_points_zones.specs.Points.{point_in, with_point}
+use Rattle.tt_points_zones.specs.Points.{point_in, with_point, origin}
 use Rattle.tt_points_zones.specs.Motions.{current_distance, direction, moved}
 use Rattle.tt_points_zones.specs.Meeting.{met, meeting, are_parallel, crossing, middle, cross, dot}
 use Rattle.tt_points_zones.specs.declared.meeting.StraightLine.{StraightLine}
 use Rattle.tt_points_zones.specs.declared.meeting.Place.{Place}
 use Rattle.tt_points_zones.specs.declared.motion.Motion.{Motion}
 use Rattle.tt_points.specs.Slanted.{rising, across, slanted, touched_at, fourth_at, points, with_fourth, before}
-use Rattle.tt_points.specs.Twilight.{origin}
 use Rattle.tt_points.specs.declared.lines.Ends.{Ends}
 
 -- point p1 of zone pointer 2 and point p2 of zone pointer 1

@@ -13,7 +13,7 @@ use Rattle.tt_state.specs.declared.vector.Vector.TheVariants as vector
 use Rattle.tt_state.specs.GraphicsState.{default_state}
 use Rattle.tt_state.specs.Vectors.{project}
 use Rattle.tt_points_zones.specs.Zones.{ZoneLists, in_pixels}
-use Rattle.tt_points_zones.specs.Points.{point_in, with_point}
+use Rattle.tt_points_zones.specs.Points.{point_in, with_point, origin}
 use Rattle.tt_points_zones.specs.Motions.{vectors_of, cur, org, current_distance, direction, marked, moved}
 use Rattle.tt_points_zones.specs.Originals.{distance_by, scale_between}
 use Rattle.tt_points_zones.specs.declared.motion.Motion.{Motion}
@@ -21,7 +21,7 @@ use Rattle.tt_points.specs.declared.measuring.Position.{Position}
 use Rattle.tt_points.specs.declared.measuring.Position.TheVariants as position
 use Rattle.tt_points.specs.Moving.{in_units, by_12}
 use Rattle.tt_points.specs.Slanted.{rising, slanted, dual_upward, fourth_at, with_fourth, before}
-use Rattle.tt_points.specs.Twilight.{settled_in, origin}
+use Rattle.tt_points.specs.Twilight.{settled_in}
 
 -- a point's current place along the projection vector, or its original place along the dual one
 abbrev pub coordinate : Position → Motion → Point → ℤ

@@ -15,14 +15,14 @@ use Rattle.tt_state.specs.GraphicsState.{default_state}
 use Rattle.tt_state.specs.Rounding.{rounded}
 use Rattle.tt_state.specs.Vectors.{project}
 use Rattle.tt_points_zones.specs.Zones.{ZoneLists, in_pixels}
-use Rattle.tt_points_zones.specs.Points.{point_in, with_point}
+use Rattle.tt_points_zones.specs.Points.{point_in, with_point, origin}
 use Rattle.tt_points_zones.specs.Motions.{cur, current_distance, direction, moved}
 use Rattle.tt_points_zones.specs.Originals.{distance_by, scale_between}
 use Rattle.tt_points_zones.specs.declared.motion.Motion.{Motion}
 use Rattle.tt_points.specs.declared.distances.Keeping.{Keeping}
 use Rattle.tt_points.specs.Distances.{keeping, single_width, rounded_by, spaced_by}
 use Rattle.tt_points.specs.Slanted.{rising, across, slanted, fourth_at, with_fourth, with_twilight, before, touched_at}
-use Rattle.tt_points.specs.Twilight.{made, placed, origin}
+use Rattle.tt_points.specs.Twilight.{made, placed}
 use Rattle.tt_points.specs.declared.twilight.AlongVector.TheVariants as along
 
 -- a point moved so that its distance from another is d

@@ -7,8 +7,8 @@ use Rattle.tt_state.specs.declared.vector.Vector.{Vector}
 use Rattle.tt_state.specs.declared.vector.Vector.TheVariants as vector
 use Rattle.tt_state.specs.GraphicsState.{default_of}
 use Rattle.tt_state.specs.Vectors.{pair}
+use Rattle.tt_points_zones.specs.Points.{origin}
 use Rattle.tt_points_zones.specs.Zones.{ZoneLists, in_pixels}
-use Rattle.tt_points.specs.Twilight.{origin}
 
 -- vectors along a line that rises by 2 in 1, and at right angles to it
 abbrev pub rising : Vector

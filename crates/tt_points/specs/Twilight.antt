@@ -1,7 +1,7 @@
 -- Apple TrueType Reference Manual, "Instructing TrueType Glyphs" (zones): twilight points have no place of their own
 -- until an instruction gives them one. The choice of these places is this project's own (profile). Coordinates are in
 -- 26.6 pixels.
-use Rattle.std.specs.Prelude.{ℤ, pos, true, false, Result, Ok}
+use Rattle.std.specs.Prelude.{ℤ, Result, Ok}
 use Rattle.tt_core.specs.Outcomes.{◌>>=◌}
 use Rattle.tt_core.specs.declared.fault.Why.{Why}
 use Rattle.tt_state.specs.declared.graphics_state.Zone.{Zone}
@@ -31,20 +31,6 @@ further along.Freedom m d p = shifted_along m.free d p
 -- a point placed at a distance from another's original place; the new place becomes its original place too
 unfoldable pub placed : AlongVector → Motion → ℤ → Point → Point → Result Point Why
 placed by m d r p = further by m d (record p { x = r.org_x; y = r.org_y }) >>= λ q. Ok (settled q)
-
--- the point with both coordinates 0
-abbrev pub origin : Point
-origin = record {
-  units_x = pos 0;
-  units_y = pos 0;
-  org_x = pos 0;
-  org_y = pos 0;
-  x = pos 0;
-  y = pos 0;
-  touched_x = false;
-  touched_y = false;
-  on = true;
-}
 
 -- twilight point number p, placed by this rule; glyph points are unchanged
 unfoldable pub made : Zone → AlongVector → Motion → ℤ → ℤ → Point → ZoneLists → Result ZoneLists Why

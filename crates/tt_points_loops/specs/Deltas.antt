@@ -14,7 +14,7 @@ use Rattle.tt_state.specs.declared.point.Point.{Point}
 use Rattle.tt_state.specs.declared.tolerance.Tolerance.{Tolerance}
 use Rattle.tt_state.specs.declared.tolerance.Tolerance.TheVariants as tolerance
 use Rattle.tt_points_zones.specs.Motions.{direction, moved}
-use Rattle.tt_points_zones.specs.Points.{point_in, with_point}
+use Rattle.tt_points_zones.specs.Points.{point_in, with_point, origin}
 use Rattle.tt_points_zones.specs.Zones.{ZoneLists, in_pixels}
 use Rattle.tt_points_loops.specs.declared.deltas.DeltaRange.{DeltaRange}
 use Rattle.tt_points_loops.specs.declared.deltas.DeltaRange.TheVariants as ranges
@@ -94,17 +94,7 @@ below_0 : delta_of tolerance.Tolerant ranges.First (negsuc 0) 24 default_state �
 below_0 = refl
 
 abbrev point : ℤ → Bool → Point
-point x touched = record {
-  units_x = pos 0;
-  units_y = pos 0;
-  org_x = pos 0;
-  org_y = pos 0;
-  x = x;
-  y = pos 0;
-  touched_x = touched;
-  touched_y = false;
-  on = true;
-}
+point x touched = record origin { x = x; touched_x = touched }
 
 abbrev glyph : List Point → ZoneLists
 glyph ps = record { twilight = []; glyph = ps; contours = []; originals = in_pixels halves.Up }

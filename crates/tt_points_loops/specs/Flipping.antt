@@ -11,7 +11,7 @@ use Rattle.tt_state.specs.declared.graphics_state.Zone.TheVariants as zone
 use Rattle.tt_state.specs.declared.point.Point.{Point}
 use Rattle.tt_state.specs.declared.tolerance.Tolerance.{Tolerance}
 use Rattle.tt_state.specs.declared.tolerance.Tolerance.TheVariants as tolerance
-use Rattle.tt_points_zones.specs.Points.{point_in, with_point}
+use Rattle.tt_points_zones.specs.Points.{point_in, with_point, origin}
 use Rattle.tt_points_zones.specs.Zones.{ZoneLists, in_pixels}
 use Rattle.tt_points_loops.specs.Series.{each_from_to, looped}
 
@@ -43,17 +43,7 @@ fliprgoff low high z = flip_range false low high z
 
 -- worked values
 abbrev point : Bool → Point
-point on = record {
-  units_x = pos 0;
-  units_y = pos 0;
-  org_x = pos 0;
-  org_y = pos 0;
-  x = pos 0;
-  y = pos 0;
-  touched_x = false;
-  touched_y = false;
-  on = on;
-}
+point on = record origin { on = on }
 
 abbrev glyph : List Point → ZoneLists
 glyph ps = record { twilight = []; glyph = ps; contours = []; originals = in_pixels halves.Up }

@@ -24,7 +24,7 @@ use Rattle.tt_points_zones.specs.Points.{point_in, with_point}
 use Rattle.tt_points_zones.specs.Zones.{ZoneLists, in_pixels}
 use Rattle.tt_points_zones.specs.declared.motion.Motion.{Motion}
 use Rattle.tt_points_loops.specs.Series.{looped}
-use Rattle.tt_points_loops.specs.Slanted.{rising, slanted, dual_upward, still, risen, at_first, moved_on}
+use Rattle.tt_points_loops.specs.Slanted.{point, moved_to, rising, slanted, dual_upward, still, risen, at_first, moved_on}
 
 -- ALIGNRP: moves points of zp1 to the current coordinate of rp0, in zp0
 abbrev pub aligned : GraphicsState → Point → Point → Result Point Why
@@ -84,22 +84,6 @@ abbrev pub shpix : Tolerance → List ℤ → ℤ → ZoneLists → GraphicsStat
 shpix t points amount z g = looped t (push amount g) points z g
 
 -- worked values, along x
-abbrev point : ℤ → ℤ → Point
-point org x = record {
-  units_x = pos 0;
-  units_y = pos 0;
-  org_x = org;
-  org_y = pos 0;
-  x = x;
-  y = pos 0;
-  touched_x = false;
-  touched_y = false;
-  on = true;
-}
-
-abbrev moved_to : ℤ → ℤ → Point
-moved_to org x = record (point org x) { touched_x = true }
-
 abbrev glyph : List Point → ZoneLists
 glyph ps = record { twilight = []; glyph = ps; contours = []; originals = in_pixels halves.Up }
 

@@ -24,7 +24,7 @@ use Rattle.tt_points_zones.specs.declared.motion.Motion.{Motion}
 use Rattle.tt_points_loops.specs.declared.shifting.ReferencePoint.{ReferencePoint}
 use Rattle.tt_points_loops.specs.declared.shifting.ReferencePoint.TheVariants as by
 use Rattle.tt_points_loops.specs.Series.{each_from_to, looped}
-use Rattle.tt_points_loops.specs.Slanted.{rising, slanted, risen, at_first, moved_on}
+use Rattle.tt_points_loops.specs.Slanted.{point, moved_to, rising, slanted, risen, at_first, moved_on}
 
 -- the reference point: rp1 in zp0, or rp2 in zp1
 abbrev pub reference_zone : ReferencePoint → GraphicsState → Zone
@@ -118,22 +118,6 @@ unfoldable pub shz : ReferencePoint → ℤ → ZoneLists → GraphicsState → 
 shz which e z g = zone_of e >>= λ zone. shift_range false which zone (outline_in zone z) z g
 
 -- worked values, along x
-abbrev point : ℤ → ℤ → Point
-point org x = record {
-  units_x = pos 0;
-  units_y = pos 0;
-  org_x = org;
-  org_y = pos 0;
-  x = x;
-  y = pos 0;
-  touched_x = false;
-  touched_y = false;
-  on = true;
-}
-
-abbrev moved_to : ℤ → ℤ → Point
-moved_to org x = record (point org x) { touched_x = true }
-
 abbrev glyph : List Point → ZoneLists
 glyph ps = record { twilight = []; glyph = ps; contours = (0, 2) ∷ []; originals = in_pixels halves.Up }
 

@@ -1,11 +1,12 @@
--- No part of the standard: points and vectors off the axes, for worked values. Coordinates are in 26.6 pixels.
-use Rattle.std.specs.Prelude.{ℤ, pos, Bool, true, false}
+-- No part of the standard: points, and vectors off the axes, for worked values. Coordinates are in 26.6 pixels.
+use Rattle.std.specs.Prelude.{ℤ, pos, Bool, true}
 use Rattle.tt_state.specs.GraphicsState.{default_of}
 use Rattle.tt_state.specs.Vectors.{pair}
 use Rattle.tt_state.specs.declared.graphics_state.GraphicsState.{GraphicsState}
 use Rattle.tt_state.specs.declared.point.Point.{Point}
 use Rattle.tt_state.specs.declared.vector.Vector.{Vector}
 use Rattle.tt_state.specs.declared.vector.Vector.TheVariants as vector
+use Rattle.tt_points_zones.specs.Points.{origin}
 
 -- a vector along a line that rises by 2 in 1
 abbrev pub rising : Vector
@@ -21,19 +22,16 @@ dual_upward =
     let steep = vector.Off (pair (pos 1256) (pos 16335)) in
     record (default_of true) { proj = steep; dual = vector.Y; free = steep }
 
+-- a point by its original and its current place along x, and the same point touched along x
+abbrev pub point : ℤ → ℤ → Point
+point org x = record origin { org_x = org; x = x }
+
+abbrev pub moved_to : ℤ → ℤ → Point
+moved_to org x = record (point org x) { touched_x = true }
+
 -- a point at its original place
 abbrev pub still : ℤ → ℤ → Point
-still x y = record {
-  units_x = pos 0;
-  units_y = pos 0;
-  org_x = x;
-  org_y = y;
-  x = x;
-  y = y;
-  touched_x = false;
-  touched_y = false;
-  on = true;
-}
+still x y = record origin { org_x = x; org_y = y; x = x; y = y }
 
 -- a point moved from (0, 100) to (10, 130)
 abbrev pub risen : Point

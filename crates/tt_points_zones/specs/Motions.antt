@@ -1,7 +1,7 @@
 -- Apple TrueType Reference Manual, "Graphics State" (projection, dual projection and freedom vector) and "Instructing
 -- TrueType Glyphs" (touched points): how points are measured and moved along any vectors. Coordinates and distances are
 -- in 26.6 pixels.
-use Rattle.std.specs.Prelude.{◌≡◌, ℤ, pos, ◌+ℤ◌, ◌-ℤ◌, ◌*ℤ◌, Bool, true, false, ◌&&◌, ◌||◌, if◌then◌else◌, Result, Ok, Err, refl}
+use Rattle.std.specs.Prelude.{◌≡◌, ℤ, pos, ◌+ℤ◌, ◌-ℤ◌, ◌*ℤ◌, Bool, true, ◌&&◌, ◌||◌, if◌then◌else◌, Result, Ok, Err, refl}
 use Rattle.std.specs.Ordering.{int_eq}
 use Rattle.tt_core.specs.Numbers.{rounded_quotient}
 use Rattle.tt_core.specs.Outcomes.{◌>>=◌}
@@ -13,7 +13,7 @@ use Rattle.tt_state.specs.declared.vector.Vector.{Vector}
 use Rattle.tt_state.specs.declared.vector.Vector.TheVariants as vector
 use Rattle.tt_state.specs.Vectors.{Pair, pair, project, along, dot}
 use Rattle.tt_state.specs.Axes.{pair_of, vector_of}
-use Rattle.tt_points_zones.specs.Points.{is_coordinate}
+use Rattle.tt_points_zones.specs.Points.{is_coordinate, origin}
 use Rattle.tt_points_zones.specs.declared.motion.Motion.{Motion}
 
 -- the vectors of a graphics state
@@ -92,7 +92,7 @@ moved_along free d p = pushed free (along (pair_of free) d) p
 
 -- worked values: a projection vector, or all vectors, along a line that rises by 2 in 1
 abbrev a_point : Point
-a_point = record { units_x = pos 0; units_y = pos 0; org_x = pos 0; org_y = pos 0; x = pos 50; y = pos 90; touched_x = false; touched_y = false; on = true }
+a_point = record origin { x = pos 50; y = pos 90 }
 
 abbrev rising : Vector
 rising = vector_of (pair (pos 7327) (pos 14654))

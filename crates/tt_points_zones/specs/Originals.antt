@@ -11,6 +11,7 @@ use Rattle.tt_state.specs.declared.point.Point.{Point}
 use Rattle.tt_state.specs.declared.vector.Vector.TheVariants as vector
 use Rattle.tt_state.specs.Axes.{pair_of}
 use Rattle.tt_state.specs.Vectors.{project}
+use Rattle.tt_points_zones.specs.Points.{origin}
 use Rattle.tt_points_zones.specs.Motions.{original_distance}
 use Rattle.tt_points_zones.specs.Zones.{ZoneLists}
 use Rattle.tt_points_zones.specs.declared.motion.Motion.{Motion}
@@ -55,17 +56,7 @@ DistancesAreNear = (s : Scale) (m : Motion) (p q : Point) → IsScale s → Dual
 
 -- worked values: 127 units at 12 of 1024
 abbrev at_units : ℤ → ℤ → Point
-at_units units org = record {
-  units_x = units;
-  units_y = pos 0;
-  org_x = org;
-  org_y = pos 0;
-  x = org;
-  y = pos 0;
-  touched_x = false;
-  touched_y = false;
-  on = true;
-}
+at_units units org = record origin { units_x = units; org_x = org; x = org }
 
 abbrev along_x : Motion
 along_x = record { proj = vector.X; dual = vector.X; free = vector.X }

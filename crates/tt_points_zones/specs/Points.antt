@@ -14,6 +14,20 @@ use Rattle.tt_state.specs.declared.graphics_state.Zone.TheVariants as zone
 use Rattle.tt_state.specs.declared.point.Point.{Point}
 use Rattle.tt_points_zones.specs.Zones.{ZoneLists}
 
+-- the point with both coordinates 0
+abbrev pub origin : Point
+origin = record {
+  units_x = pos 0;
+  units_y = pos 0;
+  org_x = pos 0;
+  org_y = pos 0;
+  x = pos 0;
+  y = pos 0;
+  touched_x = false;
+  touched_y = false;
+  on = true;
+}
+
 -- a point's current coordinate on an axis, and its original one
 abbrev pub cur : Axis → Point → ℤ
 cur axis.X p = p.x
@@ -76,7 +90,7 @@ pub record HasPoint (zone : Zone) (n : ℤ) (z : ZoneLists) : Type 0 where
 
 -- worked values
 abbrev a_point : Point
-a_point = record { units_x = pos 0; units_y = pos 0; org_x = pos 0; org_y = pos 0; x = pos 10; y = pos 20; touched_x = false; touched_y = false; on = true }
+a_point = record origin { x = pos 10; y = pos 20 }
 
 moved_along_y : moved axis.Y (pos 5) a_point ≡ Ok (record a_point { y = pos 25; touched_y = true })
 moved_along_y = refl
