@@ -54,12 +54,12 @@ fn put_simple(line: &mut Line, points: &[RawPoint], contours: usize, program: us
     put_size(line, points.len());
     put_size(line, contours);
     put_size(line, program);
-    let (mut place, mut x, mut y, mut on) = (0i64, 0i64, 0i64, 0i64);
+    let (mut place, mut x, mut y, mut on) = (1i64, 0i64, 0i64, 0i64);
     for p in points {
-        place = place.wrapping_add(1);
         x = x.wrapping_add(place.wrapping_mul(i64::from(p.x)));
         y = y.wrapping_add(place.wrapping_mul(i64::from(p.y)));
         on = on.wrapping_add(place.wrapping_mul(i64::from(p.on)));
+        place = place.wrapping_add(1);
     }
     line.put_fields(&[x, y, on]);
     line.put("\n");
