@@ -1,7 +1,7 @@
 -- Apple TrueType Reference Manual, "The Font Directory": the offset subtable of 12 bytes, and a record of 16 bytes for
 -- each table. OpenType, "TrueType Collections": a directory may be anywhere in its file, and a table's offset counts
 -- from the file's start. Search words, checksums, the order of the records and alignment are not tested (profile).
-use Rattle.std.specs.Prelude.{◌≡◌, ℕ, ◌+◌, ◌*◌, ◌<◌, ◌≤◌, Bool, false, not, ◌||◌, ◌==◌, nat_lt, if◌then◌else◌, List, [], ◌∷◌, length, take, slice_range, codes, bytes_eq, Option, Some, None, is_some, Result, Ok, Err, IsOkAnd, OnOk, ◌⊎◌, refl}
+use Rattle.std.specs.Prelude.{◌≡◌, ℕ, ◌+◌, ◌*◌, ◌<◌, ◌≤◌, Bool, false, not, ◌||◌, ◌==◌, nat_lt, if◌then◌else◌, List, [], ◌∷◌, length, take, slice_range, codes, bytes_eq, Option, Some, None, is_some, Result, Ok, Err, IsOkAnd, OnOk, ◌⊎◌, refl, map}
 use Rattle.std.proofs.Common.{inl, inr, subst}
 use Rattle.tt_core.specs.declared.fault.Why.TheVariants as why
 use Rattle.tt_core.specs.Faults.{Fault, fault_at, file_fault}
@@ -144,10 +144,6 @@ its_directory : directory_of one_table ≡ Ok (file_directory one_table)
 unfolding read_directory
 its_directory = refl
 
-its_head : table_of (file_directory one_table) (codes "head") ≡ Ok (Some (7 ∷ 8 ∷ []))
-unfolding table_of
-its_head = refl
-
 its_maxp : needed_table (file_directory one_table) (codes "maxp") ≡ Err (fault_at (codes "maxp") 0 why.NoTable)
 unfolding needed_table table_of
 its_maxp = refl
@@ -174,9 +170,11 @@ elsewhere : read_directory (at_2 behind_its_table) ≡ Ok (at_2 behind_its_table
 unfolding read_directory
 elsewhere = refl
 
-head_before_it : table_of (at_2 behind_its_table) (codes "head") ≡ Ok (Some (7 ∷ 8 ∷ []))
+-- the same table, behind its directory and before it
+head_of_each : map (λ d. table_of d (codes "head")) (file_directory one_table ∷ at_2 behind_its_table ∷ [])
+    ≡ Ok (Some (7 ∷ 8 ∷ [])) ∷ Ok (Some (7 ∷ 8 ∷ [])) ∷ []
 unfolding table_of
-head_before_it = refl
+head_of_each = refl
 
 maxp_elsewhere : needed_table (at_2 behind_its_table) (codes "maxp") ≡ Err (fault_at (codes "maxp") 0 why.NoTable)
 unfolding needed_table table_of

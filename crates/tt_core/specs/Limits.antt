@@ -17,10 +17,11 @@ size_limit = 300
 abbrev pub margin_limit : ℕ
 margin_limit = 64
 
--- columns and rows of a picture
+-- columns of pixels in a picture
 abbrev pub width_limit : ℕ
 width_limit = 16384
 
+-- rows of pixels
 abbrev pub height_limit : ℕ
 height_limit = 4096
 
@@ -32,7 +33,7 @@ point_limit = 16384
 abbrev pub component_limit : ℕ
 component_limit = 32
 
--- levels of nested components
+-- levels to which components are nested
 abbrev pub level_limit : ℕ
 level_limit = 4
 

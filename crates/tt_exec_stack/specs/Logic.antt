@@ -19,26 +19,32 @@ truth false = pos 0
 abbrev pub is_true : ℤ → Bool
 is_true v = not (int_eq v (pos 0))
 
+-- LT: the second entry is less than the top
 abbrev pub lt : List ℤ → Result (List ℤ) Why
 lt (b ∷ a ∷ s) = pushed (truth (int_lt a b)) s
 lt _ = Err why.StackShort
 
+-- LTEQ: at most the top
 abbrev pub lteq : List ℤ → Result (List ℤ) Why
 lteq (b ∷ a ∷ s) = pushed (truth (int_le a b)) s
 lteq _ = Err why.StackShort
 
+-- GT: greater
 abbrev pub gt : List ℤ → Result (List ℤ) Why
 gt (b ∷ a ∷ s) = pushed (truth (int_lt b a)) s
 gt _ = Err why.StackShort
 
+-- GTEQ: at least
 abbrev pub gteq : List ℤ → Result (List ℤ) Why
 gteq (b ∷ a ∷ s) = pushed (truth (int_le b a)) s
 gteq _ = Err why.StackShort
 
+-- EQ: the same number
 abbrev pub eq : List ℤ → Result (List ℤ) Why
 eq (b ∷ a ∷ s) = pushed (truth (int_eq a b)) s
 eq _ = Err why.StackShort
 
+-- NEQ: a number other than the top
 abbrev pub neq : List ℤ → Result (List ℤ) Why
 neq (b ∷ a ∷ s) = pushed (truth (not (int_eq a b))) s
 neq _ = Err why.StackShort

@@ -66,14 +66,17 @@ abbrev pub s45round : List ℤ → GraphicsState → Set
 s45round (n ∷ s) g = Ok (s, round_to (super_state_at_45 (unsigned_abs (int_rem_euclid n (pos 256)))) g)
 s45round [] g = Err why.StackShort
 
+-- the minimum distance
 abbrev pub smd : List ℤ → GraphicsState → Set
 smd (d ∷ s) g = Ok (s, record g { min_distance = d })
 smd [] g = Err why.StackShort
 
+-- the cut-in of control values
 abbrev pub scvtci : List ℤ → GraphicsState → Set
 scvtci (n ∷ s) g = Ok (s, record g { cut_in = n })
 scvtci [] g = Err why.StackShort
 
+-- the cut-in of the single width
 abbrev pub sswci : List ℤ → GraphicsState → Set
 sswci (n ∷ s) g = Ok (s, record g { single_cut_in = n })
 sswci [] g = Err why.StackShort

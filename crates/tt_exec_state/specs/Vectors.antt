@@ -85,7 +85,7 @@ takes op.Spvfs = 2
 takes op.Sfvfs = 2
 takes other = 0
 
--- worked values
+-- worked values: vectors by their parts, the part along y on top of the stack
 y_on_top : vector_given (pos 0) (pos 16384) false ≡ Ok vector.Y
 y_on_top = refl
 

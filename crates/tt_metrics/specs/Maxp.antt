@@ -35,7 +35,7 @@ maxp_in maxp = or_short maxp_tag 4 maxp >>= versioned_maxp >>= or_short maxp_tag
 unfoldable pub maxp_of : Directory → Result Maxp Fault
 maxp_of directory = needed_table directory maxp_tag >>= maxp_in
 
--- a defect of maxp: it is too short, or a field that exists has a refused value
+-- a defect of maxp: the table is too short, or one of its fields has a refused value
 abbrev pub IsBadMaxp : List ℕ → Fault → Type 0
 IsBadMaxp maxp fault =
     IsShort maxp_tag 32 maxp fault

@@ -1,6 +1,6 @@
 -- Apple TrueType Reference Manual, "Instruction Set" (SPVTL, SFVTL, SDPVTL, ISECT, ALIGNPTS): vectors along the line
 -- through two points, the meeting point of two lines, and aligned points. Coordinates are in 26.6 pixels.
-use Rattle.std.specs.Prelude.{◌≡◌, ℤ, pos, negsuc, neg_ℤ, int_div, Bool, true, false, Result, Ok, Err, refl}
+use Rattle.std.specs.Prelude.{◌≡◌, ℤ, pos, negsuc, neg_ℤ, int_div, Bool, true, false, Result, Ok, Err, refl, [], ◌∷◌, map}
 use Rattle.tt_core.specs.Outcomes.{◌>>=◌}
 use Rattle.tt_core.specs.declared.fault.Why.{Why}
 use Rattle.tt_core.specs.declared.fault.Why.TheVariants as why
@@ -106,15 +106,12 @@ freedom_turned_left : sfvtl true (pos 2) (pos 3) before all ≡ Ok (record all {
 unfolding sfvtl vector_of unit root
 freedom_turned_left = refl
 
-each_line_by_itself : sdpvtl false (pos 0) (pos 5) before all
+each_line_by_itself : map (λ turned. sdpvtl turned (pos 0) (pos 5) before all) (false ∷ true ∷ [])
     ≡ Ok (record all { proj = off (pos 1256) (pos 16335); dual = vector.Y })
+    ∷ Ok (record all { proj = off (negsuc 16334) (pos 1256); dual = off (negsuc 16383) (pos 0) })
+    ∷ []
 unfolding sdpvtl vector_of unit root
 each_line_by_itself = refl
-
-both_turned_left : sdpvtl true (pos 0) (pos 5) before all
-    ≡ Ok (record all { proj = off (negsuc 16334) (pos 1256); dual = off (negsuc 16383) (pos 0) })
-unfolding sdpvtl vector_of unit root
-both_turned_left = refl
 
 abbrev ends : ℤ → ℤ → Ends
 ends from to = record { from = from; to = to }

@@ -1,7 +1,7 @@
 -- Apple TrueType Reference Manual, "Instruction set" (IUP[a]) and "Instructing TrueType Glyphs" (touched points):
 -- untouched points move with the nearest touched points. Coordinates are in 26.6 pixels. In a glyph zone in font units,
 -- these decide order and proportion (profile).
-use Rattle.std.specs.Prelude.{◌≡◌, ℕ, ℤ, pos, negsuc, ◌+ℤ◌, ◌-ℤ◌, ◌*ℤ◌, int_le, int_lt, Bool, true, false, if◌then◌else◌, List, [], ◌∷◌, ◌++◌, drop, slice_range, Option, Some, None, Result, Ok, Err, refl}
+use Rattle.std.specs.Prelude.{◌≡◌, ℕ, ℤ, pos, negsuc, ◌+ℤ◌, ◌-ℤ◌, ◌*ℤ◌, int_le, int_lt, Bool, true, false, if◌then◌else◌, List, [], ◌∷◌, ◌++◌, drop, slice_range, Option, Some, None, Result, Ok, Err, refl, map}
 use Rattle.std.specs.List.{list_all}
 use Rattle.std.specs.Ordering.{int_eq}
 use Rattle.tt_core.specs.Outcomes.{◌>>=◌}
@@ -148,16 +148,14 @@ at org cur touched =
 abbrev untouched : ℤ → Point
 untouched org = at org org false
 
-in_proportion_between : contour along_x
-    (at (pos 0) (pos 10) true ∷ untouched (pos 25) ∷ at (pos 100) (pos 130) true ∷ [])
-    ≡ at (pos 0) (pos 10) true ∷ at (pos 25) (pos 40) false ∷ at (pos 100) (pos 130) true ∷ []
+-- in proportion between the two, and shifted below both
+between_and_below : map (λ p. contour along_x (at (pos 0) (pos 10) true ∷ untouched p ∷ at (pos 100) (pos 130) true ∷ []))
+    (pos 25 ∷ negsuc 4 ∷ [])
+    ≡ (at (pos 0) (pos 10) true ∷ at (pos 25) (pos 40) false ∷ at (pos 100) (pos 130) true ∷ [])
+    ∷ (at (pos 0) (pos 10) true ∷ at (negsuc 4) (pos 5) false ∷ at (pos 100) (pos 130) true ∷ [])
+    ∷ []
 unfolding contour interpolated
-in_proportion_between = refl
-
-below_both : contour along_x (at (pos 0) (pos 10) true ∷ untouched (negsuc 4) ∷ at (pos 100) (pos 130) true ∷ [])
-    ≡ at (pos 0) (pos 10) true ∷ at (negsuc 4) (pos 5) false ∷ at (pos 100) (pos 130) true ∷ []
-unfolding contour interpolated
-below_both = refl
+between_and_below = refl
 
 nothing_touched : contour along_x (untouched (pos 0) ∷ untouched (pos 25) ∷ untouched (pos 100) ∷ [])
     ≡ untouched (pos 0) ∷ untouched (pos 25) ∷ untouched (pos 100) ∷ []

@@ -28,15 +28,17 @@ origin = record {
   on = true;
 }
 
--- a point's current coordinate on an axis, and its original one
+-- a point's current coordinate on an axis
 abbrev pub cur : Axis → Point → ℤ
 cur axis.X p = p.x
 cur axis.Y p = p.y
 
+-- a point's original coordinate
 abbrev pub org : Axis → Point → ℤ
 org axis.X p = p.org_x
 org axis.Y p = p.org_y
 
+-- whether a point is touched along an axis
 abbrev pub is_touched : Axis → Point → Bool
 is_touched axis.X p = p.touched_x
 is_touched axis.Y p = p.touched_y

@@ -20,11 +20,9 @@ stop_at_open kind = stop.Unopened
 abbrev pub stop_status : Stop → ℕ
 stop_status stop.Shown = 0
 stop_status stop.NotShown = 4
-stop_status stop.Refused = 2
-stop_status stop.NoText = 2
-stop_status stop.Incomplete = 2
 stop_status stop.Unopened = status_of run.Read
 stop_status stop.Memory = status_of run.Memory
+stop_status other = 2
 
 -- where the text is empty, clap has printed the help, the version or its refusal
 abbrev pub stop_text : Stop → List ℕ

@@ -11,6 +11,7 @@ abbrev pub run_fault_of_font : FontFault → RunFault
 run_fault_of_font (font.Font f) = run.Font f
 run_fault_of_font font.Memory = run.Memory
 
+-- so does a fault that stopped a drawing
 abbrev pub run_fault_of_draw : DrawFault → RunFault
 run_fault_of_draw (draw.Font f) = run.Font f
 run_fault_of_draw (draw.Job j) = run.Job j

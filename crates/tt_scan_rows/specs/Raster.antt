@@ -50,6 +50,7 @@ the_top_line : map (λ c. shows three_lines c (pos 1)) (negsuc 1 ∷ pos 0 ∷ p
 unfolding three_lines span
 the_top_line = refl
 
+-- its middle line
 the_line_below_is_blank : shows three_lines (pos 0) (pos 0) ≡ false
 unfolding three_lines span
 the_line_below_is_blank = refl

@@ -11,6 +11,7 @@ abbrev pub draw_fault_of_font : FontFault → DrawFault
 draw_fault_of_font (font.Font f) = draw.Font f
 draw_fault_of_font font.Memory = draw.Memory
 
+-- so does the fault of a line
 abbrev pub draw_fault_of_line : LineFault → DrawFault
 draw_fault_of_line (line.Job j) = draw.Job j
 draw_fault_of_line line.Memory = draw.Memory
