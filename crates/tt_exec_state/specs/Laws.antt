@@ -43,7 +43,7 @@ abbrev pub QueriesAreTotal : Type 0
 QueriesAreTotal = (o : Query) (ppem : ℕ) (s : List ℤ) → queries.takes o ≤ length s
     → IsTotal (queries.answered o ppem s)
 
--- with fewer values it is refused
+-- with fewer values an instruction is refused
 abbrev pub SettingIsShort : Type 0
 SettingIsShort = (o : GraphicsSetting) (ppem : ℕ) (scale : Scale) (t : Tolerance) (s : List ℤ) (g : GraphicsState)
     → length s < settings.takes o → settings.state_set o ppem scale t s g ≡ Err why.StackShort

@@ -46,6 +46,7 @@ fdef_from (n ∷ s) at m =
     else Err (fault_in m.frame at why.BadArgument)
 fdef_from [] at m = Err (fault_in m.frame at why.StackShort)
 
+-- FDEF, where a definition is allowed
 abbrev pub fdef : ℕ → MachineState → Result MachineState Fault
 fdef at m =
     if may_define m.kind m.callers then fdef_from m.stack at m else Err (fault_in m.frame at why.DefinitionPlace)

@@ -46,6 +46,7 @@ on_curve_point = 1
 abbrev pub x_short_vector : ℕ
 x_short_vector = 2
 
+-- likewise along y
 abbrev pub y_short_vector : ℕ
 y_short_vector = 4
 
@@ -57,6 +58,7 @@ repeat_flag = 8
 abbrev pub x_is_same_or_positive : ℕ
 x_is_same_or_positive = 16
 
+-- likewise
 abbrev pub y_is_same_or_positive : ℕ
 y_is_same_or_positive = 32
 
@@ -71,6 +73,7 @@ point_flags =
 abbrev pub glyph_index_offset : ℕ
 glyph_index_offset = 2
 
+-- the arguments follow it
 abbrev pub arguments_offset : ℕ
 arguments_offset = 4
 
@@ -86,18 +89,23 @@ args_are_xy_values = 0x2
 abbrev pub round_xy_to_grid : ℕ
 round_xy_to_grid = 0x4
 
+-- one scale for both axes
 abbrev pub we_have_a_scale : ℕ
 we_have_a_scale = 0x8
 
+-- another component follows
 abbrev pub more_components : ℕ
 more_components = 0x20
 
+-- a scale for each of the axes
 abbrev pub we_have_an_x_and_y_scale : ℕ
 we_have_an_x_and_y_scale = 0x40
 
+-- a matrix of four numbers along both axes
 abbrev pub we_have_a_two_by_two : ℕ
 we_have_a_two_by_two = 0x80
 
+-- a program follows the last component
 abbrev pub we_have_instructions : ℕ
 we_have_instructions = 0x100
 
@@ -105,9 +113,11 @@ we_have_instructions = 0x100
 abbrev pub use_my_metrics : ℕ
 use_my_metrics = 0x200
 
+-- the transform scales the offsets too
 abbrev pub scaled_component_offset : ℕ
 scaled_component_offset = 0x800
 
+-- the transform leaves the offsets unchanged
 abbrev pub unscaled_component_offset : ℕ
 unscaled_component_offset = 0x1000
 

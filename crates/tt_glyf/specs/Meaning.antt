@@ -173,18 +173,8 @@ written_transform bytes flags at =
 
 -- a record from its fields
 abbrev pub record_of : ℕ → ℕ → ℕ → ℤ → ℤ → Transform → Record
-record_of at flags glyph arg1 arg2 t =
-    record {
-      at = at;
-      flags = flags;
-      glyph = glyph;
-      arg1 = arg1;
-      arg2 = arg2;
-      xx = t.xx;
-      yx = t.yx;
-      xy = t.xy;
-      yy = t.yy;
-    }
+record_of at flags glyph arg1 arg2 t = record
+    { at = at; flags = flags; glyph = glyph; arg1 = arg1; arg2 = arg2; xx = t.xx; yx = t.yx; xy = t.xy; yy = t.yy }
 
 abbrev pub written_component_flags : List ℕ → ℕ → ℕ
 written_component_flags bytes at = unsigned_at bytes at word_size

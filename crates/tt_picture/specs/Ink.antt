@@ -53,12 +53,8 @@ ink_at f pen (Some b) = Some (box_at f pen b)
 
 -- the least box that holds two
 abbrev pub joined_boxes : InkBox → InkBox → InkBox
-joined_boxes a b = record {
-  left = int_min a.left b.left;
-  top = int_min a.top b.top;
-  right = int_max a.right b.right;
-  bottom = int_max a.bottom b.bottom;
-}
+joined_boxes a b = record
+    { left = int_min a.left b.left; top = int_min a.top b.top; right = int_max a.right b.right; bottom = int_max a.bottom b.bottom }
 
 abbrev pub joined : Option InkBox → Option InkBox → Option InkBox
 joined None b = b

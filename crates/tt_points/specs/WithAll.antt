@@ -71,6 +71,7 @@ md_stays : (between : Position) (p2 p1 : ℤ) (z : ZoneLists) (g : GraphicsState
 unfolding measuring.md
 md_stays between p2 p1 z g = same (measuring.md between p2 p1 z g)
 
+-- one point is moved
 scfs_stays : (p v : ℤ) (z : ZoneLists) (g : GraphicsState)
     → StaysSame (measuring.scfs p v z g) (measuring.scfs p v z (with_all g))
 unfolding measuring.scfs

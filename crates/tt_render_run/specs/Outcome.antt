@@ -43,17 +43,19 @@ traffic_of left read_failed written write_failed font_before font_after out_befo
 abbrev pub Advances : Option (List ℕ) → Option (List ℕ) → Type 0
 Advances before after = (bytes : List ℕ) × Consumes before after bytes
 
--- the reader in a call: it was not used; it gave some bytes, perhaps none; it gave all its bytes; it failed after some
--- bytes
+-- the reader was not used in a call
 abbrev pub ReadsNothing : Traffic → Type 0
 ReadsNothing t = Keeps t.left_before t.left_after × (t.read_failed ≡ false)
 
+-- it gave some bytes, perhaps none
 abbrev pub ReadsSome : Traffic → Type 0
 ReadsSome t = Advances t.left_before t.left_after × (t.read_failed ≡ false)
 
+-- it gave all its bytes
 abbrev pub ReadsToEnd : Traffic → Type 0
 ReadsToEnd t = IsAtEnd t.left_after × (t.read_failed ≡ false)
 
+-- it failed after some bytes
 abbrev pub ReaderFails : Traffic → Type 0
 ReaderFails t = Advances t.left_before t.left_after × (t.read_failed ≡ true)
 

@@ -27,7 +27,7 @@ pub record FontReader : Type 0 where
   pub after : Option (List ℕ)
   pub failed : Bool
 
--- the reader by its own contract
+-- the reader of a font by its own contract
 abbrev pub font_reader_of : {R : Type 0} → (R → Option (List ℕ)) → (R → Bool) → R → R → FontReader
 font_reader_of left has_failed before after =
     record { before = left before; after = left after; failed = has_failed after }
