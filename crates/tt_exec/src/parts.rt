@@ -3,10 +3,10 @@
 ghost use Rattle.std.specs.Prelude.{◌≡◌, ◌≤◌, IfOk};
 ghost use Rattle.tt_core.specs.Limits.{size_limit};
 ghost use Rattle.tt_core.specs.Scales.{IsScale};
-ghost use Rattle.tt_points_zones.specs.Zones.{zones_view, IsZones};
-ghost use Rattle.tt_exec_step.specs.States.{state_of};
 ghost use Rattle.tt_exec.specs.Machines.{parts_in};
 ghost use Rattle.tt_exec.specs.Parts.{parts_of};
+ghost use Rattle.tt_exec_step.specs.States.{state_of};
+ghost use Rattle.tt_points_zones.specs.Zones.{zones_view, IsZones};
 
 use std::alloc::AllocError;
 use tt_core::Scale;

@@ -4,18 +4,18 @@ ghost use Rattle.std.specs.Prelude.{◌≡◌, ◌<◌, ◌≤◌, Err, IfOk, If
 ghost use Rattle.tt_core.specs.Directory.{HasNo};
 ghost use Rattle.tt_core.specs.Limits.{font_limit, point_limit, size_limit};
 ghost use Rattle.tt_core.specs.Outcomes.{FontGives, IfTold, font_fault};
-ghost use Rattle.tt_metrics.specs.Metrics.{loca_format_of, glyphs_of};
+ghost use Rattle.tt_face.specs.Programs.{program_tables};
 ghost use Rattle.tt_fit.specs.Counting.{points_asked, counted};
 ghost use Rattle.tt_fit.specs.Defects.{IsOutlineDefect};
 ghost use Rattle.tt_fit.specs.Dropouts.{dropouts_of};
 ghost use Rattle.tt_fit.specs.Fallback.{where_refused};
 ghost use Rattle.tt_fit.specs.Fitting.{IsFitter, with_hinting, outline_at, glyph_work, unfitted_fault, fitted_outline, after_glyph, charged_fitter};
-ghost use Rattle.tt_fit_outline.specs.Outline.{outline_of, phantom_of, IsPoint, ArePhantom, AreEnds, IsOutline};
-ghost use Rattle.tt_face.specs.Programs.{program_tables};
 ghost use Rattle.tt_fit.specs.Preparation.{fitter_of};
 ghost use Rattle.tt_fit_outline.specs.Hinting.{IsHinting};
+ghost use Rattle.tt_fit_outline.specs.Outline.{outline_of, phantom_of, IsPoint, ArePhantom, AreEnds, IsOutline};
 ghost use Rattle.tt_fit_outline.specs.Views.{hinting_view};
 ghost use Rattle.tt_fit_outline.specs.Work.{RefusalLeaves, outline_fault};
+ghost use Rattle.tt_metrics.specs.Metrics.{loca_format_of, glyphs_of};
 
 use crate::counting::left_after;
 use crate::dropouts::{DropoutRules, DropoutsBy, program_rules};

@@ -2,16 +2,16 @@
 
 ghost use Rattle.std.specs.Prelude.{◌≡◌, option_map, IfOk, OnOk};
 ghost use Rattle.tt_exec.specs.Machines.{begun_again};
-ghost use Rattle.tt_exec.specs.Work.{copied_of};
 ghost use Rattle.tt_exec.specs.Parts.{parts_of};
+ghost use Rattle.tt_exec.specs.Work.{copied_of};
 ghost use Rattle.tt_exec_step.specs.Views.{code_of};
-ghost use Rattle.tt_points_zones.specs.Zones.{IsZones, SameShape};
 ghost use Rattle.tt_fit_outline.specs.GlyphZone.{program_in_glyf};
-ghost use Rattle.tt_fit_outline.specs.Outline.{outline_of, phantom_of, ArePhantom, IsOutline};
 ghost use Rattle.tt_fit_outline.specs.Hinting.{IsHinting, by_program, hinted, run_of};
+ghost use Rattle.tt_fit_outline.specs.Outline.{outline_of, phantom_of, ArePhantom, IsOutline};
 ghost use Rattle.tt_fit_outline.specs.Parts.{AreParts, parts_with};
 ghost use Rattle.tt_fit_outline.specs.Views.{hinting_view, program_view, units_view};
 ghost use Rattle.tt_fit_outline.specs.Work.{Makes, WorkGives, code_work, hinted_work, program_work};
+ghost use Rattle.tt_points_zones.specs.Zones.{IsZones, SameShape};
 
 use crate::glyph_program::GlyphProgram;
 use crate::glyph_zone::{left_outline, on_grid};

@@ -2,12 +2,12 @@
 
 ghost use Rattle.std.specs.Prelude.{◌≡◌, ℕ, ◌≤◌, ◌<◌, ◌||◌, ◌^◌, unsigned_abs, All, IfOk, OnOk};
 ghost use Rattle.tt_core.specs.Limits.{height_limit};
-ghost use Rattle.tt_scan.specs.Contours.{contours_at};
-ghost use Rattle.tt_scan_edges.specs.Winding.{FrameFits};
-ghost use Rattle.tt_scan_dropouts.specs.Pictures.{AreDropouts, AreInColumns, is_among};
 ghost use Rattle.tt_picture.specs.Glyphs.{CanBeFilled, edges_of, stamps_in};
-ghost use Rattle.tt_picture.specs.Shapes.{rules_for};
 ghost use Rattle.tt_picture.specs.Pixels.{is_filled_by, is_filled_from};
+ghost use Rattle.tt_picture.specs.Shapes.{rules_for};
+ghost use Rattle.tt_scan.specs.Contours.{contours_at};
+ghost use Rattle.tt_scan_dropouts.specs.Pictures.{AreDropouts, AreInColumns, is_among};
+ghost use Rattle.tt_scan_edges.specs.Winding.{FrameFits};
 
 use crate::glyph::{Glyph, GlyphBody};
 use std::alloc::{AllocError, Global};

@@ -2,12 +2,12 @@
 
 ghost use Rattle.std.specs.Prelude.{◌≡◌, ◌<◌, false, length, Ok, IfOk, IfSome};
 ghost use Rattle.tt_core.specs.Limits.{font_limit};
-ghost use Rattle.tt_strike.specs.Job.{job_view};
-ghost use Rattle.tt_strike.specs.Defects.{IsRunDefect};
+ghost use Rattle.tt_picture.specs.Unfitted.{ListsOnce};
 ghost use Rattle.tt_render_run.specs.Defects.{IsJobRefusal, TellsDefectsOf};
 ghost use Rattle.tt_render_run.specs.Outcome.{CallGives, IfJob, IfLarge, traffic_of};
 ghost use Rattle.tt_render_run.specs.Run.{run_wanted};
-ghost use Rattle.tt_picture.specs.Unfitted.{ListsOnce};
+ghost use Rattle.tt_strike.specs.Defects.{IsRunDefect};
+ghost use Rattle.tt_strike.specs.Job.{job_view};
 ghost use Rattle.tt_strike.specs.Report.{report_of};
 
 use crate::drawing::{Drawn, draw};

@@ -1,15 +1,15 @@
 //! The edges of one glyph, in the frame of its picture. `CountedEdges` stores them, so that each crossing is counted.
 
 ghost use Rattle.std.specs.Prelude.{◌≡◌, ℤ, false, int_lt, if◌then◌else◌, ◌+◌, ◌*◌, ◌^◌, ◌<◌, ◌≤◌, ◌<ℤ◌, ◌≤ℤ◌, pos, List, length, [], ◌∷◌, ◌++◌, unsigned_abs, All, IfOk, OnOk, OnErr};
-ghost use Rattle.tt_scan_edges.specs.declared.edge.Edge.{Edge};
 ghost use Rattle.tt_core.specs.Limits.{width_limit, height_limit};
-ghost use Rattle.tt_scan_edges.specs.Winding.{EdgeFits, FrameFits, is_black, column_x, row_y, rows_met, crossings_of};
-ghost use Rattle.tt_scan_edges.specs.Marks.{IsRising};
-ghost use Rattle.tt_scan_edges.specs.Left.{IsBlank, IsLeftBy};
-ghost use Rattle.tt_scan_edges.specs.Crossing.{IsCross, AreRows, AreAllRows, has_row};
 ghost use Rattle.tt_scan.specs.EdgeList.{AreEntered};
 ghost use Rattle.tt_scan.specs.EdgeTable.{HasRoom};
 ghost use Rattle.tt_scan_edges.specs.Counted.{edge_at};
+ghost use Rattle.tt_scan_edges.specs.Crossing.{IsCross, AreRows, AreAllRows, has_row};
+ghost use Rattle.tt_scan_edges.specs.declared.edge.Edge.{Edge};
+ghost use Rattle.tt_scan_edges.specs.Left.{IsBlank, IsLeftBy};
+ghost use Rattle.tt_scan_edges.specs.Marks.{IsRising};
+ghost use Rattle.tt_scan_edges.specs.Winding.{EdgeFits, FrameFits, is_black, column_x, row_y, rows_met, crossings_of};
 
 use crate::edge_list::EdgeList;
 use crate::edge_table::EdgeTable;

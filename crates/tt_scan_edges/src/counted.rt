@@ -4,11 +4,11 @@
 
 ghost use Rattle.std.specs.Prelude.{◌≡◌, true, ◌+◌, ◌^◌, ◌≢◌, pos, ◌<◌, ◌≤◌, length, [], ◌∷◌, ◌++◌, unsigned_abs, IfOk, OnOk};
 ghost use Rattle.tt_core.specs.Limits.{margin_limit};
-ghost use Rattle.tt_scan_edges.specs.Winding.{EdgeFits, is_between};
+ghost use Rattle.tt_scan_edges.specs.Counted.{edge_at};
 ghost use Rattle.tt_scan_edges.specs.Crossing.{IsCross};
 ghost use Rattle.tt_scan_edges.specs.Entries.{edge_of};
-ghost use Rattle.tt_scan_edges.specs.Counted.{edge_at};
 ghost use Rattle.tt_scan_edges.specs.Walks.{GoesBelow, IsWalk};
+ghost use Rattle.tt_scan_edges.specs.Winding.{EdgeFits, is_between};
 
 use crate::crossing::{crossing, crossing_met};
 use crate::edge::{Cross, Edge};

@@ -4,15 +4,15 @@ ghost use Rattle.std.specs.Prelude.{◌≡◌, ◌≤◌, true, [], Ok, IfOk, Is
 ghost use Rattle.tt_core.specs.Limits.{crossing_limit};
 ghost use Rattle.tt_core.specs.Outcomes.{GivesUnless, IfTold};
 ghost use Rattle.tt_line.specs.Layout.{placement, text_glyphs};
+ghost use Rattle.tt_picture.specs.Pictures.{IsReady, all_crossings, image_of};
+ghost use Rattle.tt_picture.specs.Unfitted.{ListsOnce};
 ghost use Rattle.tt_strike.specs.Costs.{cost_by};
 ghost use Rattle.tt_strike.specs.Defects.{IsLineDefect, IsLineRefusal, TellsDefects, draw_font_fault, draw_job_fault};
 ghost use Rattle.tt_strike.specs.Grown.{grown_measured, grown_outcome, grown_placement};
 ghost use Rattle.tt_strike.specs.Job.{size_tested, IsSizeRefusal};
 ghost use Rattle.tt_strike.specs.Measures.{measure_view, measured};
 ghost use Rattle.tt_strike.specs.Picture.{frame_of, line_outcome};
-ghost use Rattle.tt_picture.specs.Pictures.{IsReady, all_crossings, image_of};
 ghost use Rattle.tt_strike.specs.Refusals.{as_job, refusal};
-ghost use Rattle.tt_picture.specs.Unfitted.{ListsOnce};
 ghost use Rattle.tt_strike.specs.Report.{report_by};
 ghost use Rattle.tt_strike.specs.Strikes.{IsFresh, job_of};
 ghost use Rattle.tt_strike.specs.Work.{is_bounded};
