@@ -10,7 +10,7 @@ ghost use Rattle.tt_render.specs.Printing.{errors_of};
 ghost use Rattle.tt_render_run.specs.Reading.{font_reader_of};
 ghost use Rattle.tt_render.specs.TextsOutcome.{CanGoOut, FailsByStop, FindsLine, FontLinesGive, IsOfText, LinesGive, TellsOf, answer_view, refusal_font_fault, told};
 
-use crate::lines::{LINE_LIMIT, LinePlace, LineReader, ReadFault};
+use crate::lines::{LINE_LIMIT, LinePlace, LineReader, NextLine};
 use crate::printing::print_text;
 use crate::products::write_output;
 use crate::refusal::{Refusal, TextsFault, texts_fault};
@@ -67,10 +67,10 @@ fn next_line<R: Source>(
     ensures failure { FailsByStop (R.has_failed lines.new) result }
 {
     let place = match reader.read_line(lines) {
-        Ok(Some(place)) => place,
-        Ok(None) => return Ok(None),
-        Err(ReadFault::Long) => return Err(Refusal::Job(JobFault::TextLong)),
-        Err(ReadFault::Read) => return Err(Refusal::Read),
+        Ok(NextLine::Line(place)) => place,
+        Ok(NextLine::Long) => return Err(Refusal::Job(JobFault::TextLong)),
+        Ok(NextLine::End) => return Ok(None),
+        Err(_) => return Err(Refusal::Read),
     };
     let line = reader.line(place);
     if line.len() > LINE_LIMIT {
