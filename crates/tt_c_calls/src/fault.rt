@@ -4,7 +4,6 @@ ghost use Rattle.std.specs.Prelude.{◌≡◌};
 ghost use Rattle.tt_c_calls.specs.declared.fault.CallFault.TheVariants as call;
 ghost use Rattle.tt_c_calls.specs.Refusals.{call_of_draw};
 
-use std::alloc::AllocError;
 use tt_core::{Fault, JobFault};
 use tt_strike::DrawFault;
 
@@ -52,13 +51,5 @@ impl From<DrawFault> for CallFault {
             DrawFault::Job(fault) => CallFault::Job(fault),
             DrawFault::Memory => CallFault::Memory,
         }
-    }
-}
-
-impl From<AllocError> for CallFault {
-    ghost from_gives = { λ _ e. e ≡ call.Memory };
-
-    fn from(_e: AllocError) -> CallFault {
-        CallFault::Memory
     }
 }
