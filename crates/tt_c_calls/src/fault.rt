@@ -26,14 +26,6 @@ pub(crate) enum CallFault {
     Memory,
 }
 
-impl From<Fault> for CallFault {
-    ghost from_gives = { λ f e. e ≡ call.Font f };
-
-    fn from(fault: Fault) -> CallFault {
-        CallFault::Font(fault)
-    }
-}
-
 impl From<JobFault> for CallFault {
     ghost from_gives = { λ j e. e ≡ call.Job j };
 
