@@ -58,7 +58,7 @@ def functions_of(crate, files):
     """Returns the functions of all files of a crate, given as lists of lines.
 
     The prover names a method by the module of its type, and not by the file of the impl. A trait's method it names by
-    type, trait and the trait's arguments in one word: `From<JobFault> for LineFault` is LineFaultFromJobFault.
+    type, trait and the trait's arguments in one word: `From<JobFault> for DrawFault` is DrawFaultFromJobFault.
     """
     found, defined = [], files_of_types(files)
     for file, lines in files.items():

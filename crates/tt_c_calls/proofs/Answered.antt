@@ -4,11 +4,10 @@ use Rattle.std.specs.Prelude.{IfSome, if◌then◌else◌}
 use Rattle.tt_core.specs.declared.fault.JobFault.{JobFault}
 use Rattle.tt_core.specs.Faults.{Fault}
 use Rattle.tt_core.specs.Limits.{font_limit}
-use Rattle.tt_core.specs.Outcomes.{◌>>=◌}
+use Rattle.tt_core.specs.Outcomes.{◌>>=◌, draw_font_fault}
 use Rattle.tt_render_run.specs.Outcome.{of_font}
-use Rattle.tt_strike.specs.declared.fault.DrawFault.{DrawFault}
-use Rattle.tt_strike.specs.declared.fault.DrawFault.TheVariants as draw
-use Rattle.tt_strike.specs.Defects.{draw_font_fault}
+use Rattle.tt_core.specs.declared.draw_fault.DrawFault.{DrawFault}
+use Rattle.tt_core.specs.declared.draw_fault.DrawFault.TheVariants as draw
 use Rattle.tt_strike.specs.Refusals.{Refused, as_font, as_job, job, large, refusal}
 use Rattle.tt_face.specs.Faces.{Face, face_of}
 use Rattle.tt_c_calls.specs.declared.fault.CallFault.{CallFault}

@@ -11,8 +11,8 @@ use Rattle.tt_face.proofs.Whole.{face-directory}
 use Rattle.tt_fit.specs.declared.programs.Fit.{Fit}
 use Rattle.tt_render.specs.declared.setting.Setting.{Setting}
 use Rattle.tt_render.specs.Settings.{job_by, plain_setting}
-use Rattle.tt_strike.specs.declared.fault.DrawFault.{DrawFault}
-use Rattle.tt_strike.specs.declared.fault.DrawFault.TheVariants as draw
+use Rattle.tt_core.specs.declared.draw_fault.DrawFault.{DrawFault}
+use Rattle.tt_core.specs.declared.draw_fault.DrawFault.TheVariants as draw
 use Rattle.tt_strike.specs.Job.{Job, size_tested, tested}
 use Rattle.tt_strike.specs.Refusals.{as_job, font, job, large, refusal}
 use Rattle.tt_strike.specs.Strikes.{Strike}

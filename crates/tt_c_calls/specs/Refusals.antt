@@ -2,8 +2,8 @@
 use Rattle.std.specs.Prelude.{Option, Some, None, Result, Ok, Err}
 use Rattle.tt_core.specs.Faults.{Fault}
 use Rattle.tt_strike.specs.Refusals.{Refused, font, job, large}
-use Rattle.tt_strike.specs.declared.fault.DrawFault.{DrawFault}
-use Rattle.tt_strike.specs.declared.fault.DrawFault.TheVariants as draw
+use Rattle.tt_core.specs.declared.draw_fault.DrawFault.{DrawFault}
+use Rattle.tt_core.specs.declared.draw_fault.DrawFault.TheVariants as draw
 use Rattle.tt_c_calls.specs.declared.fault.CallFault.{CallFault}
 use Rattle.tt_c_calls.specs.declared.fault.CallFault.TheVariants as call
 

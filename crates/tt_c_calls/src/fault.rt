@@ -4,7 +4,6 @@ ghost use Rattle.std.specs.Prelude.{◌≡◌};
 ghost use Rattle.tt_c_calls.specs.declared.fault.CallFault.TheVariants as call;
 ghost use Rattle.tt_c_calls.specs.Refusals.{call_of_draw};
 
-use std::alloc::AllocError;
 use tt_core::{Fault, JobFault};
 use tt_strike::DrawFault;
 
@@ -27,14 +26,6 @@ pub(crate) enum CallFault {
     Memory,
 }
 
-impl From<Fault> for CallFault {
-    ghost from_gives = { λ f e. e ≡ call.Font f };
-
-    fn from(fault: Fault) -> CallFault {
-        CallFault::Font(fault)
-    }
-}
-
 impl From<JobFault> for CallFault {
     ghost from_gives = { λ j e. e ≡ call.Job j };
 
@@ -52,13 +43,5 @@ impl From<DrawFault> for CallFault {
             DrawFault::Job(fault) => CallFault::Job(fault),
             DrawFault::Memory => CallFault::Memory,
         }
-    }
-}
-
-impl From<AllocError> for CallFault {
-    ghost from_gives = { λ _ e. e ≡ call.Memory };
-
-    fn from(_e: AllocError) -> CallFault {
-        CallFault::Memory
     }
 }

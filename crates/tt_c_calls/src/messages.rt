@@ -100,6 +100,6 @@ pub fn message(alloc: Global, told: &CAnswer, room: &mut [u8]) -> CAnswer
 {
     match text_of(alloc, told) {
         Ok(text) => write_text(text.as_bytes(), room),
-        Err(fault) => answer_of(CallFault::from(fault)),
+        Err(_) => answer_of(CallFault::Memory),
     }
 }

@@ -40,7 +40,10 @@ pub(crate) fn face_of<'a>(font: &'a [u8]) -> Result<Face<'a>, CallFault>
     if font.len() > FONT_LIMIT {
         return Err(CallFault::FontLarge);
     }
-    Ok(Face::open(font)?)
+    match Face::open(font) {
+        Ok(face) => Ok(face),
+        Err(fault) => Err(CallFault::Font(fault)),
+    }
 }
 
 /// Tests the tables of a font that every text needs, and writes the font's figures. Answers: done; the font is refused,

@@ -1,5 +1,8 @@
 -- How a call's result is tied to a definition that gives a value or the first fault.
 use Rattle.std.specs.Prelude.{◌≡◌, List, [], ◌∷◌, ◌++◌, Option, Some, None, IfSome, Result, Ok, Err}
+use Rattle.tt_core.specs.declared.draw_fault.DrawFault.{DrawFault}
+use Rattle.tt_core.specs.declared.draw_fault.DrawFault.TheVariants as draw
+use Rattle.tt_core.specs.declared.fault.JobFault.{JobFault}
 use Rattle.tt_core.specs.declared.font_fault.FontFault.{FontFault}
 use Rattle.tt_core.specs.declared.font_fault.FontFault.TheVariants as fault
 use Rattle.tt_core.specs.Faults.{Fault}
@@ -48,3 +51,27 @@ FontGives view result wanted = GivesUnless font_fault view result wanted
 -- no fault if memory ran out
 abbrev pub Leaves : {X A : Type 0} → Result X FontFault → A → Result A Fault → Type 0
 Leaves result new wanted = GivesUnless font_fault (λ x. new) result wanted
+
+-- the fault of the font that stopped the drawing of a line
+abbrev pub draw_font_fault : DrawFault → Option Fault
+draw_font_fault (draw.Font f) = Some f
+draw_font_fault (draw.Job j) = None
+draw_font_fault draw.Memory = None
+
+-- the fault of the job that stopped the drawing of a line
+abbrev pub draw_job_fault : DrawFault → Option JobFault
+draw_job_fault (draw.Font f) = None
+draw_job_fault (draw.Job j) = Some j
+draw_job_fault draw.Memory = None
+
+-- a font fault that stopped a part of a drawing stops the drawing
+abbrev pub draw_fault_of_font : FontFault → DrawFault
+draw_fault_of_font (fault.Font f) = draw.Font f
+draw_fault_of_font fault.Memory = draw.Memory
+
+-- for a call that allocates and finds no defect of the font: its result is the definition's, unless memory ran out
+abbrev pub JobGives : {X Y : Type 0} → (X → Y) → Result X DrawFault → Result Y JobFault → Type 0
+JobGives view (Ok x) wanted = wanted ≡ Ok (view x)
+JobGives view (Err (draw.Font f)) wanted = ⊥
+JobGives view (Err (draw.Job j)) wanted = wanted ≡ Err j
+JobGives view (Err draw.Memory) wanted = Unit {0}

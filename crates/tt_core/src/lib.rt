@@ -3,6 +3,7 @@
 
 mod device;
 mod directory;
+mod draw_fault;
 mod fault;
 mod font_fault;
 mod halves;
@@ -13,6 +14,7 @@ mod scaling;
 
 pub use device::{Device, IoFailed, Sink, Source};
 pub use directory::Dir;
+pub use draw_fault::DrawFault;
 pub use fault::{Fault, JobFault, Why};
 pub use font_fault::FontFault;
 pub use halves::{Halves, quotient};

@@ -2,18 +2,18 @@
 
 ghost use Rattle.std.specs.Prelude.{◌≡◌, ◌<◌, ◌≤◌, ◌^◌, length, map, chars, sum, All, IsOk, IfOk, IfErr, IfNone};
 ghost use Rattle.tt_core.specs.Limits.{size_limit, margin_limit, text_limit, width_limit};
-ghost use Rattle.tt_core.specs.Outcomes.{GivesUnless, IfTold};
+ghost use Rattle.tt_core.specs.Outcomes.{IfTold, JobGives, draw_job_fault};
 ghost use Rattle.tt_line.specs.Layout.{text_glyphs, advances_of, placed_glyphs, extent_of, placement, IsRefusal};
-ghost use Rattle.tt_line.specs.Outcome.{placement_of, job_fault};
+ghost use Rattle.tt_line.specs.Outcome.{placement_of};
 ghost use Rattle.tt_metrics.specs.Metrics.{glyphs_of};
 
 use crate::extent::{test_limits, with_margins};
-use crate::fault::LineFault;
 use crate::known::KnownAdvances;
 use crate::line::Line;
 use crate::pixels::{depth, rise};
 use std::alloc::{AllocError, Global};
 use tt_cmap::Cmap;
+use tt_core::DrawFault;
 use tt_metrics::Metrics;
 
 /// Lays out a text at `ppem` pixels per em, with margins of `margin` pixels. Each advance is rounded to the nearest
@@ -32,18 +32,18 @@ pub fn lay(
     text: &str,
     ppem: u32,
     margin: u32,
-) -> Result<Line, LineFault>
+) -> Result<Line, DrawFault>
     requires size { ppem ≤ size_limit }
     requires margin { margin ≤ margin_limit }
     requires text { length (chars text.now) ≤ text_limit }
     requires glyphs { cmap.now.glyphs ≡ glyphs_of metrics.now }
-    ensures exact { GivesUnless job_fault placement_of result (placement metrics.now cmap.now text.now ppem margin) }
+    ensures exact { JobGives placement_of result (placement metrics.now cmap.now text.now ppem margin) }
     ensures glyphs { IfOk result (λ l. map (λ p. p.0) l.glyphs.items ≡ text_glyphs cmap.now text.now) }
     ensures known { IfOk result (λ l. All (λ p. p.0 < glyphs_of metrics.now) l.glyphs.items) }
     // Only the glyphs of an accepted line take memory.
-    ensures memory { IfErr result (λ e. IfNone (job_fault e)
+    ensures memory { IfErr result (λ e. IfNone (draw_job_fault e)
         (IsOk (placement metrics.now cmap.now text.now ppem margin) × (0 < length (chars text.now)))) }
-    ensures fault { IfTold job_fault result (IsRefusal (extent_of metrics.now ppem margin (text_glyphs cmap.now text.now))) }
+    ensures fault { IfTold draw_job_fault result (IsRefusal (extent_of metrics.now ppem margin (text_glyphs cmap.now text.now))) }
 {
     let rise = rise(metrics, ppem);
     // A first walk over the text finds its width, so that a refused line takes no memory.

@@ -2,14 +2,13 @@
 #![tactic(auto)]
 
 mod extent;
-mod fault;
 mod known;
 pub mod laws;
 mod layout;
 mod line;
 mod pixels;
 
-pub use fault::LineFault;
 pub use layout::lay;
 pub use line::Line;
 pub use pixels::advance;
+pub use tt_core::DrawFault as LineFault;

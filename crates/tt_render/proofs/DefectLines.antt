@@ -3,7 +3,7 @@ use Rattle.std.proofs.Common.{◌≡◌, ℕ, ◌+◌, ◌-◌, Bool, List, [], 
 use Rattle.std.proofs.lemmas.List.{get_or_at}
 use Rattle.tt_core.specs.declared.fault.JobFault.{JobFault}
 use Rattle.tt_core.specs.Faults.{Fault}
-use Rattle.tt_core.specs.Outcomes.{IfTold}
+use Rattle.tt_core.specs.Outcomes.{IfTold, draw_font_fault}
 use Rattle.tt_render_run.specs.declared.fault.RunFault.{RunFault}
 use Rattle.tt_render_run.specs.declared.fault.RunFault.TheVariants as run
 use Rattle.tt_render.specs.declared.setting.Setting.{Setting}
@@ -21,9 +21,9 @@ use Rattle.tt_render.specs.Settings.{strike_by}
 use Rattle.tt_render.specs.TextsOutcome.{Draws, FindsLine, refusal_font_fault}
 use Rattle.tt_render.specs.Views.{before_lines, refusal_of_draw, refusal_of_run}
 use Rattle.tt_render.proofs.DrawnLines.{SoFar}
-use Rattle.tt_strike.specs.Defects.{TellsDefects, draw_font_fault}
-use Rattle.tt_strike.specs.declared.fault.DrawFault.{DrawFault}
-use Rattle.tt_strike.specs.declared.fault.DrawFault.TheVariants as draw
+use Rattle.tt_strike.specs.Defects.{TellsDefects}
+use Rattle.tt_core.specs.declared.draw_fault.DrawFault.{DrawFault}
+use Rattle.tt_core.specs.declared.draw_fault.DrawFault.TheVariants as draw
 use Rattle.tt_face.specs.Faces.{Face, face_of}
 
 pub if_some_more : {X : Type 0} (o : Option X) (P Q : X → Type 0) → ((x : X) → P x → Q x) → IfSome o P → IfSome o Q

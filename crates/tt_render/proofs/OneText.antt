@@ -21,9 +21,10 @@ use Rattle.tt_render.specs.Texts.{TextAnswer, TextRefusal, product_of, text_answ
 use Rattle.tt_render.specs.Views.{before_lines, refusal_of_draw, refusal_of_run}
 use Rattle.tt_render.proofs.FontLines.{size_passes}
 use Rattle.tt_render.proofs.Printed.{keeps_itself}
-use Rattle.tt_strike.specs.declared.fault.DrawFault.{DrawFault}
-use Rattle.tt_strike.specs.declared.fault.DrawFault.TheVariants as draw
-use Rattle.tt_strike.specs.Defects.{IsLineDefect, IsRunDefect, draw_font_fault}
+use Rattle.tt_core.specs.declared.draw_fault.DrawFault.{DrawFault}
+use Rattle.tt_core.specs.declared.draw_fault.DrawFault.TheVariants as draw
+use Rattle.tt_core.specs.Outcomes.{draw_font_fault}
+use Rattle.tt_strike.specs.Defects.{IsLineDefect, IsRunDefect}
 use Rattle.tt_strike.specs.Job.{Job, size_tested, tested}
 use Rattle.tt_strike.specs.Refusals.{Refused, as_job}
 use Rattle.tt_strike.specs.Refusals as drawing

@@ -1,10 +1,10 @@
 -- The promises of reading the lines of a text.
-use Rattle.std.specs.Prelude.{◌≡◌, ◌≢◌, ℕ, ◌-◌, ◌<◌, ◌≤◌, Bool, true, false, List, [], ◌∷◌, ◌++◌, length, take, drop, slice_index, vec_len, All, Option, Some, None, IfSome, Result, Ok, Err, ⊤}
+use Rattle.std.specs.Prelude.{◌≡◌, ◌≢◌, ℕ, ◌-◌, ◌<◌, ◌≤◌, List, [], ◌∷◌, ◌++◌, length, take, drop, slice_index, vec_len, All, Option, Some, None, IfSome, Result, Ok, Err, ⊤}
 use Rattle.std.specs.Io.KnownBytes.{Consumes, IsAtEnd, Keeps, prepend_known}
-use Rattle.tt_render.specs.declared.lines.ReadFault.{ReadFault}
-use Rattle.tt_render.specs.declared.lines.ReadFault.TheVariants as fault
 use Rattle.tt_render.specs.declared.lines.LinePlace.{LinePlace}
 use Rattle.tt_render.specs.declared.lines.LineReader.{LineReader}
+use Rattle.tt_render.specs.declared.lines.NextLine.{NextLine}
+use Rattle.tt_render.specs.declared.lines.NextLine.TheVariants as next
 use Rattle.tt_render.specs.Lines.{line_limit, lines_of}
 
 -- the bytes of a reader's buffer
@@ -53,15 +53,9 @@ BeginsLong text = (line : List ℕ) × (rest : List (List ℕ)) × (lines_of tex
 abbrev pub IsPlace : LineReader → LinePlace → Type 0
 IsPlace r place = (place.from ≤ place.until) × (place.until ≤ vec_len r.buf)
 
--- the remaining text after reading a line
-abbrev pub ReadsLine : LineReader → Result (Option LinePlace) ReadFault → Option (List ℕ) → Option (List ℕ) → Type 0
-ReadsLine r (Ok (Some place)) before after = IsPlace r place × LosesLine before after (line_at r place)
-ReadsLine r (Ok None) before after = IfSome before (λ text. lines_of text ≡ []) × IsAtEnd after
-ReadsLine r (Err fault.Long) before after = IfSome before BeginsLong × Keeps before after
-ReadsLine r (Err fault.Read) before after = Keeps before after
-
--- the source failed exactly where a line could not be read
-abbrev pub FailsByRead : Bool → Result (Option LinePlace) ReadFault → Type 0
-FailsByRead failed (Ok place) = failed ≡ false
-FailsByRead failed (Err fault.Long) = failed ≡ false
-FailsByRead failed (Err fault.Read) = failed ≡ true
+-- the remaining text after reading a line; a line that is too long, and a failed read, leave the text unchanged
+abbrev pub ReadsLine : {E : Type 0} → LineReader → Result NextLine E → Option (List ℕ) → Option (List ℕ) → Type 0
+ReadsLine r (Ok (next.Line place)) before after = IsPlace r place × LosesLine before after (line_at r place)
+ReadsLine r (Ok next.Long) before after = IfSome before BeginsLong × Keeps before after
+ReadsLine r (Ok next.End) before after = IfSome before (λ text. lines_of text ≡ []) × IsAtEnd after
+ReadsLine r (Err e) before after = Keeps before after

@@ -43,6 +43,11 @@ told reason.NotUtf8 = Some not_utf8
 told (reason.Missing c) = Some (missing c)
 told why = None
 
+-- a result with the refusal alone; the line is known above
+abbrev pub without_line : {V : Type 0} → Result V TextsFault → Result V Refusal
+without_line (Ok v) = Ok v
+without_line (Err fault) = Err fault.refusal
+
 -- the fault of the font that stopped a text
 abbrev pub refusal_font_fault : Refusal → Option Fault
 refusal_font_fault (reason.Font f) = Some f

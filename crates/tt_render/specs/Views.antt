@@ -1,7 +1,7 @@
 -- The definitions' views of the code's faults.
 use Rattle.std.specs.Prelude.{None}
-use Rattle.tt_strike.specs.declared.fault.DrawFault.{DrawFault}
-use Rattle.tt_strike.specs.declared.fault.DrawFault.TheVariants as draw
+use Rattle.tt_core.specs.declared.draw_fault.DrawFault.{DrawFault}
+use Rattle.tt_core.specs.declared.draw_fault.DrawFault.TheVariants as draw
 use Rattle.tt_render_run.specs.declared.fault.RunFault.{RunFault}
 use Rattle.tt_render_run.specs.declared.fault.RunFault.TheVariants as run
 use Rattle.tt_render.specs.declared.refusal.Refusal.{Refusal}

@@ -8,9 +8,9 @@ ghost use Rattle.tt_render.specs.LinesDefects.{IsDefectBy, LinesTell, LinesTellD
 ghost use Rattle.tt_render_run.specs.Outcome.{traffic_of};
 ghost use Rattle.tt_render.specs.Printing.{errors_of};
 ghost use Rattle.tt_render_run.specs.Reading.{font_reader_of};
-ghost use Rattle.tt_render.specs.TextsOutcome.{CanGoOut, FailsByStop, FindsLine, FontLinesGive, IsOfText, LinesGive, TellsOf, answer_view, refusal_font_fault, told};
+ghost use Rattle.tt_render.specs.TextsOutcome.{CanGoOut, FailsByStop, FindsLine, FontLinesGive, IsOfText, LinesGive, TellsOf, answer_view, refusal_font_fault, told, without_line};
 
-use crate::lines::{LINE_LIMIT, LinePlace, LineReader, ReadFault};
+use crate::lines::{LINE_LIMIT, LinePlace, LineReader, NextLine};
 use crate::printing::print_text;
 use crate::products::write_output;
 use crate::refusal::{Refusal, TextsFault, texts_fault};
@@ -29,7 +29,8 @@ pub fn lines_budget(before: u64) -> u128
     20_000_000 + 8_000_000 * u128::from(before)
 }
 
-/// The answer of the line with this number. Errors, the first of: NotUtf8; those of a text.
+/// The answer of the line with this number. Errors, the first of: NotUtf8; those of a text. The caller puts the line
+/// into an error.
 #[tactic(auto, unfolding(crate::specs::Lines::line_drawn))]
 fn draw_line(
     alloc: Global,
@@ -37,48 +38,49 @@ fn draw_line(
     setting: &Setting,
     number: u32,
     line: &[u8],
-) -> Result<ReadyText, Refusal>
+) -> Result<ReadyText, TextsFault>
     requires short { length line.now ≤ line_limit }
-    ensures exact { GivesUnless told answer_view result (line_drawn setting.now strike.old line.now) }
+    ensures exact { GivesUnless told answer_view (without_line result) (line_drawn setting.now strike.old line.now) }
     ensures valid { IfOk result (λ r. CanGoOut r.output) }
     ensures report { IfOk result (TellsOf (Some number)) }
-    ensures serves { IsOfText result }
-    ensures defects { IfTold refusal_font_fault result (IsDefectBy setting.now strike.old line.now) }
+    ensures serves { IsOfText (without_line result) }
+    ensures defects { IfTold refusal_font_fault (without_line result) (IsDefectBy setting.now strike.old line.now) }
     ensures same { strike.new ≡ record strike.old { kept = strike.new.kept } }
 {
     let Ok(text) = str::from_utf8(line) else {
-        return Err(Refusal::NotUtf8);
+        return Err(texts_fault(None, Refusal::NotUtf8));
     };
     answer_text(alloc, strike, setting, Some(number), text)
 }
 
 /// The place of the next line, if there is one. The `drawn` lines before it took `used` of the budget. Errors, the first
-/// of: Read; TextLong, of more than 16,384 bytes; WorkLarge, where those lines took more than the budget.
+/// of: Read; TextLong, of more than 16,384 bytes; WorkLarge, where those lines took more than the budget. The caller
+/// puts the line into an error.
 fn next_line<R: Source>(
     reader: &mut LineReader,
     lines: &mut R,
     drawn: u32,
     used: u128,
-) -> Result<Option<LinePlace>, Refusal>
+) -> Result<Option<LinePlace>, TextsFault>
     requires valid { IsReader reader.old }
     requires source { R.has_failed lines.old ≡ false }
     ensures valid { IsReader reader.new }
-    ensures outcome { FindsLine reader.new drawn used result (text_left reader.old (R.left lines.old)) (text_left reader.new (R.left lines.new)) }
-    ensures failure { FailsByStop (R.has_failed lines.new) result }
+    ensures outcome { FindsLine reader.new drawn used (without_line result) (text_left reader.old (R.left lines.old)) (text_left reader.new (R.left lines.new)) }
+    ensures failure { FailsByStop (R.has_failed lines.new) (without_line result) }
 {
     let place = match reader.read_line(lines) {
-        Ok(Some(place)) => place,
-        Ok(None) => return Ok(None),
-        Err(ReadFault::Long) => return Err(Refusal::Job(JobFault::TextLong)),
-        Err(ReadFault::Read) => return Err(Refusal::Read),
+        Ok(NextLine::Line(place)) => place,
+        Ok(NextLine::Long) => return Err(texts_fault(None, Refusal::Job(JobFault::TextLong))),
+        Ok(NextLine::End) => return Ok(None),
+        Err(_) => return Err(texts_fault(None, Refusal::Read)),
     };
     let line = reader.line(place);
     if line.len() > LINE_LIMIT {
-        return Err(Refusal::Job(JobFault::TextLong));
+        return Err(texts_fault(None, Refusal::Job(JobFault::TextLong)));
     }
     let budget = lines_budget(u64::from(drawn));
     if used > budget {
-        return Err(Refusal::Job(JobFault::WorkLarge));
+        return Err(texts_fault(None, Refusal::Job(JobFault::WorkLarge)));
     }
     Ok(Some(place))
 }
@@ -106,12 +108,12 @@ fn draw_lines_by<R: Source, W: Sink, E: Sink>(
         let place = match next_line(&mut reader, lines, before, used) {
             Ok(Some(place)) => place,
             Ok(None) => return Ok(strike.kept_bytes()),
-            Err(stop) => return Err(texts_fault(Some(number), stop)),
+            Err(stop) => return Err(texts_fault(Some(number), stop.refusal)),
         };
         let line = reader.line(place);
         let mut ready = match draw_line(alloc, strike, setting, number, line) {
             Ok(ready) => ready,
-            Err(refusal) => return Err(texts_fault(Some(number), refusal)),
+            Err(fault) => return Err(texts_fault(Some(number), fault.refusal)),
         };
         used += u128::from(ready.output.cost());
         if let Err(cut) = write_output(out, &mut ready.output) {

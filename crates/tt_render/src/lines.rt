@@ -1,9 +1,8 @@
 //! Reads the lines of a text in order.
 
-ghost use Rattle.std.specs.Prelude.{◌≡◌, ◌≢◌, ℕ, ◌+◌, ◌-◌, ◌<◌, ◌≤◌, [], false, length, take, drop, vec_len, All, IfOk, OnErr, MatchOption};
+ghost use Rattle.std.specs.Prelude.{◌≡◌, ◌≢◌, ℕ, ◌+◌, ◌-◌, ◌<◌, ◌≤◌, [], false, is_err, length, take, drop, vec_len, All, IfOk, OnErr, MatchOption};
 ghost use Rattle.tt_core.specs.Device.{RemembersFailure};
-ghost use Rattle.tt_render.specs.declared.lines.ReadFault.TheVariants.{Read};
-ghost use Rattle.tt_render.specs.LineReading.{IsReader, IsFirstFeed, GetsMore, ReadsLine, FailsByRead, held, line_at, line_room, text_left};
+ghost use Rattle.tt_render.specs.LineReading.{IsReader, IsFirstFeed, GetsMore, ReadsLine, held, line_at, line_room, text_left};
 ghost use Rattle.tt_render.specs.Lines.{before_feed};
 ghost use Rattle.std.specs.Io.KnownBytes.{IsAtEnd, Keeps};
 
@@ -32,21 +31,15 @@ pub(crate) struct LinePlace {
     until: usize,
 }
 
-/// Why a line is not read.
-#[derive(Clone, Copy, Debug, PartialEq, Eq)]
-pub(crate) enum ReadFault {
-    /// The line has more than 16,384 bytes.
+/// What follows in a text.
+#[derive(Clone, Copy)]
+pub(crate) enum NextLine {
+    /// A line. Its length is not tested.
+    Line(LinePlace),
+    /// A line of more than 16,384 bytes, whose end is not read yet. The next call finds this line again.
     Long,
-    /// The device failed.
-    Read,
-}
-
-impl From<IoFailed> for ReadFault {
-    ghost from_gives = { λ _ e. e ≡ Read };
-
-    fn from(_e: IoFailed) -> ReadFault {
-        ReadFault::Read
-    }
+    /// The end.
+    End,
 }
 
 /// The place of the first line feed.
@@ -163,31 +156,28 @@ impl LineReader {
         Some(known + at)
     }
 
-    /// The next line, if there is one. A refused line is read again by the next call. Errors: Long, Read.
-    pub(crate) fn read_line<R: Source>(
-        &mut self,
-        source: &mut R,
-    ) -> Result<Option<LinePlace>, ReadFault>
+    /// The next line, if there is one. Error: the device failed.
+    pub(crate) fn read_line<R: Source>(&mut self, source: &mut R) -> Result<NextLine, IoFailed>
         requires valid { IsReader self.old }
         requires source { R.has_failed source.old ≡ false }
         ensures valid { IsReader self.new }
         ensures outcome { ReadsLine self.new result (text_left self.old (R.left source.old)) (text_left self.new (R.left source.new)) }
-        ensures failure { FailsByRead (R.has_failed source.new) result }
+        ensures failure { R.has_failed source.new ≡ is_err result }
     {
         let mut known = 0;
         'pieces: loop {
             if let Some(at) = self.feed_behind(known) {
-                return Ok(Some(self.give_line(at)));
+                return Ok(NextLine::Line(self.give_line(at)));
             }
             known = self.until - self.from;
             if known > LINE_LIMIT + 1 {
-                return Err(ReadFault::Long);
+                return Ok(NextLine::Long);
             }
             if self.read_more(source)? == 0 {
                 if known == 0 {
-                    return Ok(None);
+                    return Ok(NextLine::End);
                 }
-                return Ok(Some(self.give_rest()));
+                return Ok(NextLine::Line(self.give_rest()));
             }
         }
     }

@@ -2,13 +2,13 @@
 
 ghost use Rattle.std.specs.Io.KnownBytes.{Appends};
 ghost use Rattle.std.specs.Prelude.{◌≡◌, ◌<◌, false, is_err, length, take, Ok, IfOk, IfErr, OnOk};
-ghost use Rattle.tt_core.specs.Outcomes.{GivesUnless};
+ghost use Rattle.tt_core.specs.Outcomes.{GivesUnless, draw_font_fault};
 ghost use Rattle.tt_line.specs.Layout.{text_glyphs};
 ghost use Rattle.tt_picture.specs.Pictures.{IsReady, image_of};
 ghost use Rattle.tt_render.specs.Texts.{IsMadeBy, measure_by, picture_by, product_of};
 ghost use Rattle.tt_render.specs.TextsOutcome.{CanGoOut, bytes_in, cost_in, unfitted_in};
 ghost use Rattle.tt_strike.specs.Costs.{cost_by};
-ghost use Rattle.tt_strike.specs.Defects.{IsLineDefect, TellsDefects, draw_font_fault};
+ghost use Rattle.tt_strike.specs.Defects.{IsLineDefect, TellsDefects};
 ghost use Rattle.tt_strike.specs.Measures.{measure_view};
 ghost use Rattle.tt_strike.specs.Refusals.{refusal};
 ghost use Rattle.tt_strike.specs.Report.{report_by};

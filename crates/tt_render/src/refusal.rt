@@ -55,38 +55,28 @@ pub struct TextsFault {
     pub refusal: Refusal,
 }
 
-impl From<DrawFault> for Refusal {
-    ghost from_gives = { λ f e. e ≡ refusal_of_draw f };
-
-    fn from(fault: DrawFault) -> Refusal {
-        match fault {
-            DrawFault::Font(fault) => Refusal::Font(fault),
-            DrawFault::Job(fault) => Refusal::Job(fault),
-            DrawFault::Memory => Refusal::Memory,
-        }
+/// A fault of a picture is the refusal of its text.
+fn refusal_of_draw(fault: DrawFault) -> Refusal
+    ensures { result ≡ refusal_of_draw fault }
+{
+    match fault {
+        DrawFault::Font(fault) => Refusal::Font(fault),
+        DrawFault::Job(fault) => Refusal::Job(fault),
+        DrawFault::Memory => Refusal::Memory,
     }
 }
 
-impl From<RunFault> for Refusal {
-    ghost from_gives = { λ f e. e ≡ refusal_of_run f };
-
-    fn from(fault: RunFault) -> Refusal {
-        match fault {
-            RunFault::Font(fault) => Refusal::Font(fault),
-            RunFault::Job(fault) => Refusal::Job(fault),
-            RunFault::Read => Refusal::FontRead,
-            RunFault::FontLarge => Refusal::FontLarge,
-            RunFault::Write { sent } => Refusal::Write { sent },
-            RunFault::Memory => Refusal::Memory,
-        }
-    }
-}
-
-impl From<AllocError> for Refusal {
-    ghost from_gives = { λ _ e. e ≡ reason.Memory };
-
-    fn from(_e: AllocError) -> Refusal {
-        Refusal::Memory
+/// A fault of reading a font is the refusal of the call.
+fn refusal_of_run(fault: RunFault) -> Refusal
+    ensures { result ≡ refusal_of_run fault }
+{
+    match fault {
+        RunFault::Font(fault) => Refusal::Font(fault),
+        RunFault::Job(fault) => Refusal::Job(fault),
+        RunFault::Read => Refusal::FontRead,
+        RunFault::FontLarge => Refusal::FontLarge,
+        RunFault::Write { sent } => Refusal::Write { sent },
+        RunFault::Memory => Refusal::Memory,
     }
 }
 
@@ -125,7 +115,7 @@ impl From<DrawFault> for TextsFault {
     ghost from_gives = { λ f e. e ≡ before_lines (refusal_of_draw f) };
 
     fn from(fault: DrawFault) -> TextsFault {
-        texts_fault(None, Refusal::from(fault))
+        texts_fault(None, refusal_of_draw(fault))
     }
 }
 
@@ -133,6 +123,6 @@ impl From<RunFault> for TextsFault {
     ghost from_gives = { λ f e. e ≡ before_lines (refusal_of_run f) };
 
     fn from(fault: RunFault) -> TextsFault {
-        texts_fault(None, Refusal::from(fault))
+        texts_fault(None, refusal_of_run(fault))
     }
 }

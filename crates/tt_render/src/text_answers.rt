@@ -4,12 +4,12 @@ ghost use Rattle.std.specs.Prelude.{◌≡◌, IfOk};
 ghost use Rattle.tt_core.specs.Outcomes.{GivesUnless, IfTold};
 ghost use Rattle.tt_line.specs.Layout.{text_glyphs};
 ghost use Rattle.tt_render.specs.Texts.{missing_tested, text_answer};
-ghost use Rattle.tt_render.specs.TextsOutcome.{CanGoOut, IsOfText, TellsOf, answer_view, refusal_font_fault, told};
+ghost use Rattle.tt_render.specs.TextsOutcome.{CanGoOut, IsOfText, TellsOf, answer_view, refusal_font_fault, told, without_line};
 ghost use Rattle.tt_strike.specs.Defects.{IsLineDefect, TellsDefects};
 ghost use Rattle.tt_strike.specs.Strikes.{job_of};
 
 use crate::products::{Output, make_output};
-use crate::refusal::Refusal;
+use crate::refusal::{Refusal, TextsFault, texts_fault};
 use crate::setting::{Missing, Setting};
 use crate::texts_messages::report_text;
 use std::alloc::Global;
@@ -24,17 +24,18 @@ pub(crate) struct ReadyText {
     pub(crate) report: String,
 }
 
-/// The characters of a text without a glyph that are reported. Error: Missing, the first, where they are refused.
+/// The characters of a text without a glyph that are reported. Error: Missing, the first, where they are refused. The
+/// caller knows the line.
 #[tactic(auto, unfolding(crate::specs::Texts::missing_tested))]
 fn missing_of(
     alloc: Global,
     cmap: &Cmap,
     missing: Missing,
     text: &str,
-) -> Result<Vec<char>, Refusal>
-    ensures exact { GivesUnless told (λ v. v.items) result (missing_tested cmap.now missing text.now) }
-    ensures font { IfTold refusal_font_fault result (λ _. ⊥) }
-    ensures serves { IsOfText result }
+) -> Result<Vec<char>, TextsFault>
+    ensures exact { GivesUnless told (λ v. v.items) (without_line result) (missing_tested cmap.now missing text.now) }
+    ensures font { IfTold refusal_font_fault (without_line result) (λ _. ⊥) }
+    ensures serves { IsOfText (without_line result) }
 {
     match missing {
         Missing::Draw => Ok(Vec::new(alloc)),
@@ -42,7 +43,7 @@ fn missing_of(
         Missing::Refuse => {
             let lacking = lacking(alloc, cmap, text)?;
             match lacking.first() {
-                Some(c) => Err(Refusal::Missing(*c)),
+                Some(c) => Err(texts_fault(None, Refusal::Missing(*c))),
                 None => Ok(lacking),
             }
         }
@@ -50,6 +51,7 @@ fn missing_of(
 }
 
 /// The answer of a text by a strike; `number` is that of a line. Errors, the first of: those of `make_output`; Missing.
+/// The caller puts the line into an error.
 #[tactic(auto, unfolding(crate::specs::Texts::text_answer))]
 pub(crate) fn answer_text(
     alloc: Global,
@@ -57,12 +59,12 @@ pub(crate) fn answer_text(
     setting: &Setting,
     number: Option<u32>,
     text: &str,
-) -> Result<ReadyText, Refusal>
-    ensures exact { GivesUnless told answer_view result (text_answer setting.now strike.old text.now) }
+) -> Result<ReadyText, TextsFault>
+    ensures exact { GivesUnless told answer_view (without_line result) (text_answer setting.now strike.old text.now) }
     ensures valid { IfOk result (λ r. CanGoOut r.output) }
     ensures report { IfOk result (TellsOf number) }
-    ensures serves { IsOfText result }
-    ensures defects { TellsDefects refusal_font_fault (IsLineDefect strike.old.face (job_of strike.old text.now setting.now.margin) (text_glyphs strike.old.face.cmap text.now)) result }
+    ensures serves { IsOfText (without_line result) }
+    ensures defects { TellsDefects refusal_font_fault (IsLineDefect strike.old.face (job_of strike.old text.now setting.now.margin) (text_glyphs strike.old.face.cmap text.now)) (without_line result) }
     ensures same { strike.new ≡ record strike.old { kept = strike.new.kept } }
 {
     let face = strike.face();

@@ -40,7 +40,7 @@ fn ready_text(
     let mut strike = Strike::new(alloc, &face, setting.ppem, setting.fit, 0)?;
     match answer_text(alloc, &mut strike, setting, None, text) {
         Ok(ready) => Ok(ready),
-        Err(refusal) => Err(texts_fault(None, refusal)),
+        Err(fault) => Err(texts_fault(None, fault.refusal)),
     }
 }
 

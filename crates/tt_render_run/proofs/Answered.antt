@@ -8,14 +8,14 @@ use Rattle.tt_core.specs.declared.fault.JobFault.{JobFault}
 use Rattle.tt_core.specs.declared.fault.JobFault.TheVariants as fault
 use Rattle.tt_core.specs.Faults.{Fault}
 use Rattle.tt_core.specs.Limits.{font_limit}
-use Rattle.tt_core.specs.Outcomes.{font_fault}
-use Rattle.tt_strike.specs.declared.fault.DrawFault.{DrawFault}
-use Rattle.tt_strike.specs.declared.fault.DrawFault.TheVariants as draw
+use Rattle.tt_core.specs.Outcomes.{font_fault, draw_font_fault, draw_job_fault}
+use Rattle.tt_core.specs.declared.draw_fault.DrawFault.{DrawFault}
+use Rattle.tt_core.specs.declared.draw_fault.DrawFault.TheVariants as draw
 use Rattle.tt_render_run.specs.declared.fault.RunFault.{RunFault}
 use Rattle.tt_render_run.specs.declared.fault.RunFault.TheVariants as run
 use Rattle.tt_strike.specs.Job.{Job}
 use Rattle.tt_render_run.specs.Defects.{TellsDefectsOf, IsJobRefusal}
-use Rattle.tt_strike.specs.Defects.{IsFontRefusal, draw_font_fault, draw_job_fault}
+use Rattle.tt_strike.specs.Defects.{IsFontRefusal}
 use Rattle.tt_face.specs.Faces.{Face, face_of}
 use Rattle.tt_strike.specs.Refusals.{Refused, as_font, needs_font, refusal}
 use Rattle.tt_render_run.specs.Outcome.{Wanted, CallFails, IfJob, IfLarge}

@@ -3,9 +3,9 @@
 ghost use Rattle.std.specs.Prelude.{◌≡◌, ◌≤◌, length, Ok, IfOk, IsOkAnd};
 ghost use Rattle.tt_core.specs.Bits.{stride};
 ghost use Rattle.tt_core.specs.Limits.{font_limit};
-ghost use Rattle.tt_core.specs.Outcomes.{GivesUnless, IfTold};
+ghost use Rattle.tt_core.specs.Outcomes.{GivesUnless, IfTold, draw_font_fault, draw_job_fault};
 ghost use Rattle.tt_line.specs.Layout.{text_glyphs};
-ghost use Rattle.tt_strike.specs.Defects.{IsLineDefect, IsRunDefect, IsFontRefusal, IsLineRefusal, TellsDefects, draw_font_fault, draw_job_fault};
+ghost use Rattle.tt_strike.specs.Defects.{IsLineDefect, IsRunDefect, IsFontRefusal, IsLineRefusal, TellsDefects};
 ghost use Rattle.tt_strike.specs.Job.{job_view, tested, IsJob};
 ghost use Rattle.tt_strike.specs.Picture.{line_outcome, pictured};
 ghost use Rattle.tt_picture.specs.Pictures.{IsReady, image_of};

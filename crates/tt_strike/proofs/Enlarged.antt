@@ -26,7 +26,7 @@ use Rattle.tt_strike.specs.Refusals.{Refused, as_job, job, refusal}
 use Rattle.tt_picture.specs.Unfitted.{ListsOnce, unfitted_standing}
 use Rattle.tt_strike.specs.Report.{line_report}
 use Rattle.tt_face.specs.Faces.{Face}
-use Rattle.tt_strike.specs.declared.fault.DrawFault.{DrawFault}
+use Rattle.tt_core.specs.declared.draw_fault.DrawFault.{DrawFault}
 use Rattle.tt_picture.specs.declared.ink_box.InkBox.{InkBox}
 use Rattle.tt_strike.specs.declared.measuring.CharacterMeasure.{CharacterMeasure}
 use Rattle.tt_picture.specs.declared.report.Unfitted.{Unfitted}

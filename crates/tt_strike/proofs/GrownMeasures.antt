@@ -8,7 +8,7 @@ use Rattle.tt_strike.specs.Job.{Job}
 use Rattle.tt_strike.specs.Picture.{laid_out}
 use Rattle.tt_strike.specs.Refusals.{refusal}
 use Rattle.tt_face.specs.Faces.{Face}
-use Rattle.tt_strike.specs.declared.fault.DrawFault.{DrawFault}
+use Rattle.tt_core.specs.declared.draw_fault.DrawFault.{DrawFault}
 use Rattle.tt_strike.proofs.GrownStops.{placed_as_laid}
 use Rattle.tt_strike.proofs.Stopped.{stops}
 

@@ -1,40 +1,46 @@
 -- A step of a drawing that stops also stops the picture.
 use Rattle.std.proofs.Common.{◌≡◌, ◌∙◌, ◌<◌, nat_lt, Bool, true, false, ◌&&◌, if◌then◌else◌, List, map, Result, Ok, Err, inl, inr, refl, arith}
 use Rattle.std.proofs.lemmas.Bool.Decides.{nat_tests}
-use Rattle.std.specs.Prelude.{IfSome}
+use Rattle.std.specs.Prelude.{IfOk, IfSome}
 use Rattle.tt_core.specs.declared.font_fault.FontFault.{FontFault}
 use Rattle.tt_core.specs.declared.font_fault.FontFault.TheVariants as font
 use Rattle.tt_core.specs.declared.fault.JobFault.{JobFault}
 use Rattle.tt_core.specs.declared.fault.JobFault.TheVariants as job_of
 use Rattle.tt_core.specs.Faults.{Fault}
 use Rattle.tt_core.specs.Limits.{point_work_limit}
-use Rattle.tt_core.specs.Outcomes.{◌>>=◌, FontGives, IfTold, font_fault}
+use Rattle.tt_core.specs.Outcomes.{◌>>=◌, FontGives, GivesUnless, IfTold, JobGives, draw_fault_of_font, draw_font_fault, draw_job_fault, font_fault}
 use Rattle.tt_fit.specs.Fitting.{Fitter}
-use Rattle.tt_line.specs.declared.fault.LineFault.{LineFault}
-use Rattle.tt_line.specs.declared.fault.LineFault.TheVariants as line
+use Rattle.tt_line.specs.declared.line.Line.{Line}
 use Rattle.tt_line.specs.Layout.{Placement, placement}
-use Rattle.tt_line.specs.Outcome.{job_fault}
+use Rattle.tt_line.specs.Outcome.{placement_of}
 use Rattle.tt_strike.specs.Job.{Job, tested}
-use Rattle.tt_strike.specs.Defects.{IsTooMuchWork, IsExtentRefusal, IsLineRefusal, draw_font_fault, draw_job_fault}
+use Rattle.tt_strike.specs.Defects.{IsTooMuchWork, IsExtentRefusal, IsLineRefusal}
 use Rattle.tt_face.specs.Faces.{Face}
 use Rattle.tt_strike.specs.Refusals.{Refused, as_font, as_job, job, refusal}
 use Rattle.tt_strike.specs.Refusals as outcome
 use Rattle.tt_strike.specs.Picture.{crossings_tested, drawn, laid_out, line_outcome, line_shapes, pictured_by, shapes_in, points_tested, setting_in}
-use Rattle.tt_strike.specs.declared.fault.DrawFault.{DrawFault}
-use Rattle.tt_strike.specs.declared.fault.DrawFault.TheVariants as draw
+use Rattle.tt_core.specs.declared.draw_fault.DrawFault.{DrawFault}
+use Rattle.tt_core.specs.declared.draw_fault.DrawFault.TheVariants as draw
 use Rattle.tt_strike.specs.Grown.{grown_outcome, grown_placement}
 use Rattle.tt_strike.specs.Made.{shapes_made}
 use Rattle.tt_strike.specs.Measures.{measured, measured_line}
 use Rattle.tt_picture.specs.Pixels.{Shape}
 use Rattle.tt_picture.specs.Shapes.{crossings_in}
 use Rattle.tt_strike.specs.Work.{crossings_allowed, is_bounded, points_in, work_left, work_tested}
-use Rattle.tt_strike.specs.Views.{draw_fault_of_font, draw_fault_of_line}
 
-pub laying_stops : (a : Job) (face : Face) (e : LineFault) → tested a ≡ Ok tt
-    → IfSome (job_fault e) (λ j. placement face.metrics face.cmap a.text a.ppem a.margin ≡ Err j)
-    → IfSome (refusal (draw_fault_of_line e)) (λ r. laid_out face a ≡ Err r)
-laying_stops a face (line.Job j) passes fails = rw (passes, fails) refl
-laying_stops a face line.Memory passes fails = tt
+-- a line of a tested job is laid out, or refused, as its text is placed
+pub laid_as_placed : (a : Job) (face : Face) (r : Result Line DrawFault) → tested a ≡ Ok tt
+    → JobGives placement_of r (placement face.metrics face.cmap a.text a.ppem a.margin)
+    → GivesUnless refusal placement_of r (laid_out face a)
+laid_as_placed a face (Ok l) passes gives = rw (passes, gives) refl
+laid_as_placed a face (Err (draw.Font f)) passes gives = absurd gives
+laid_as_placed a face (Err (draw.Job j)) passes gives = rw (passes, gives) refl
+laid_as_placed a face (Err draw.Memory) passes gives = tt
+
+pub placed_as_given : (r : Result Line DrawFault) (wanted : Result Placement JobFault)
+    → JobGives placement_of r wanted → IfOk r (λ l. wanted ≡ Ok (placement_of l))
+placed_as_given (Ok l) wanted gives = gives
+placed_as_given (Err e) wanted gives = tt
 
 -- a font refuses a line that is too much work
 pub work_refuses : {V : Type 0} (r : Result V DrawFault) (a : Job) (face : Face) (l : Placement)
@@ -135,15 +141,20 @@ of_extent face a job_of.PictureLarge stands = stands
 of_extent face a job_of.MarginRange stands = absurd stands
 of_extent face a job_of.WorkLarge stands = absurd stands
 
-pub laying_tells : (a : Job) (face : Face) (e : LineFault) → IfSome (job_fault e) (IsExtentRefusal face a)
-    → IfSome (draw_job_fault (draw_fault_of_line e)) (IsLineRefusal face a)
-laying_tells a face (line.Job j) stands = of_extent face a j stands
-laying_tells a face line.Memory stands = tt
+pub laying_tells : (a : Job) (face : Face) (r : Result Line DrawFault) → IfTold draw_job_fault r (IsExtentRefusal face a)
+    → IfTold draw_job_fault r (IsLineRefusal face a)
+laying_tells a face (Ok l) stands = tt
+laying_tells a face (Err (draw.Font f)) stands = tt
+laying_tells a face (Err (draw.Job j)) stands = of_extent face a j stands
+laying_tells a face (Err draw.Memory) stands = tt
 
 -- laying out finds no defect of the font, and drawing refuses no job
-pub laying_tells_no_defect : (P : Fault → Type 0) (e : LineFault) → IfSome (draw_font_fault (draw_fault_of_line e)) P
-laying_tells_no_defect P (line.Job j) = tt
-laying_tells_no_defect P line.Memory = tt
+pub laying_tells_no_defect : (P : Fault → Type 0) (r : Result Line DrawFault) (wanted : Result Placement JobFault)
+    → JobGives placement_of r wanted → IfTold draw_font_fault r P
+laying_tells_no_defect P (Ok l) wanted gives = tt
+laying_tells_no_defect P (Err (draw.Font f)) wanted gives = absurd gives
+laying_tells_no_defect P (Err (draw.Job j)) wanted gives = tt
+laying_tells_no_defect P (Err draw.Memory) wanted gives = tt
 
 pub drawing_refuses_no_job : (P : JobFault → Type 0) (e : FontFault) → IfSome (draw_job_fault (draw_fault_of_font e)) P
 drawing_refuses_no_job P (font.Font f) = tt

@@ -1,5 +1,5 @@
 -- The defects that a call can meet in a font.
-use Rattle.std.specs.Prelude.{◌≡◌, ◌<◌, List, ℕ, length, map, slice_index, Option, Some, None, Result, Ok, Err, IsOkAnd, IfSome, Bool, true, false, ◌⊎◌}
+use Rattle.std.specs.Prelude.{◌≡◌, ◌<◌, List, ℕ, length, map, slice_index, Option, Result, Ok, Err, IsOkAnd, IfSome, Bool, true, false, ◌⊎◌}
 use Rattle.tt_core.specs.Faults.{Fault}
 use Rattle.tt_core.specs.Directory.{HasNo}
 use Rattle.tt_face.specs.Defects.{IsFaceDefect, IsGlyphTableDefect, HasProgramPastEnd}
@@ -14,8 +14,6 @@ use Rattle.tt_core.specs.declared.fault.JobFault.{JobFault}
 use Rattle.tt_core.specs.declared.fault.JobFault.TheVariants as fault
 use Rattle.tt_core.specs.Limits.{point_work_limit}
 use Rattle.tt_strike.specs.Job.{Job, IsTestRefusal}
-use Rattle.tt_strike.specs.declared.fault.DrawFault.{DrawFault}
-use Rattle.tt_strike.specs.declared.fault.DrawFault.TheVariants as draw
 use Rattle.tt_strike.specs.Programs.{programs_in}
 use Rattle.tt_strike.specs.Refusals.{needs_font}
 use Rattle.tt_strike.specs.Picture.{setting_in, shapes_in}
@@ -59,18 +57,6 @@ IsRunDefect a file fault = IsFaceDefect file fault ⊎ IsOkAnd (face_of file)
 abbrev pub TellsDefects : {V E : Type 0} → (E → Option Fault) → (Fault → Type 0) → Result V E → Type 0
 TellsDefects told IsOne (Ok v) = HasNo IsOne
 TellsDefects told IsOne (Err e) = IfSome (told e) IsOne
-
--- the fault of the font that stopped the making of a picture
-abbrev pub draw_font_fault : DrawFault → Option Fault
-draw_font_fault (draw.Font f) = Some f
-draw_font_fault (draw.Job j) = None
-draw_font_fault draw.Memory = None
-
--- the refusal of the job that stopped the making of a picture
-abbrev pub draw_job_fault : DrawFault → Option JobFault
-draw_job_fault (draw.Font f) = None
-draw_job_fault (draw.Job j) = Some j
-draw_job_fault draw.Memory = None
 
 -- the fact that refuses the extent of a picture
 abbrev pub IsExtentRefusal : Face → Job → JobFault → Type 0

@@ -14,5 +14,4 @@ pub mod Picture
 pub mod Report
 pub mod Reported
 pub mod Strikes
-pub mod Views
 pub mod Work

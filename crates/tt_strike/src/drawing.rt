@@ -3,20 +3,20 @@
 ghost use Rattle.std.specs.Prelude.{◌≡◌, ◌<◌, ◌≤◌, map, All, IfOk};
 ghost use Rattle.tt_core.specs.declared.fault.JobFault.TheVariants.{WorkLarge};
 ghost use Rattle.tt_core.specs.Limits.{margin_limit};
-ghost use Rattle.tt_core.specs.Outcomes.{GivesUnless, IfTold};
+ghost use Rattle.tt_core.specs.Outcomes.{GivesUnless, IfTold, draw_font_fault, draw_job_fault};
 ghost use Rattle.tt_line.specs.Outcome.{placement_of};
 ghost use Rattle.tt_metrics.specs.Metrics.{glyphs_of};
 ghost use Rattle.tt_picture.specs.Cached.{limit_of};
 ghost use Rattle.tt_picture.specs.Pictures.{image_of};
-ghost use Rattle.tt_strike.specs.Defects.{IsLineDefect, IsTooMuchWork, TellsDefects, draw_font_fault, draw_job_fault};
+ghost use Rattle.tt_strike.specs.Defects.{IsLineDefect, IsTooMuchWork, TellsDefects};
 ghost use Rattle.tt_strike.specs.Picture.{drawn, frame_of};
 ghost use Rattle.tt_strike.specs.Refusals.{refusal};
 ghost use Rattle.tt_strike.specs.Reported.{IsReported};
 ghost use Rattle.tt_strike.specs.Strikes.{IsCacheOf, job_with};
 
-use crate::fault::DrawFault;
 use crate::sized::SizedFace;
 use crate::tested::frame_of;
+use tt_core::DrawFault;
 use tt_line::Line;
 use tt_picture::{Cache, Picture, draw_made};
 

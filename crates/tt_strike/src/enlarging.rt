@@ -3,7 +3,7 @@
 
 ghost use Rattle.std.specs.Prelude.{◌≡◌, ◌<◌, ◌≤◌, map, All, Ok, Err, IfOk, IsOkAnd};
 ghost use Rattle.tt_core.specs.Limits.{margin_limit};
-ghost use Rattle.tt_core.specs.Outcomes.{GivesUnless, IfTold};
+ghost use Rattle.tt_core.specs.Outcomes.{GivesUnless, IfTold, draw_font_fault};
 ghost use Rattle.tt_line.specs.Outcome.{placement_of};
 ghost use Rattle.tt_metrics.specs.Metrics.{glyphs_of};
 ghost use Rattle.tt_picture.specs.Cached.{limit_of};
@@ -11,7 +11,7 @@ ghost use Rattle.tt_picture.specs.Glyphs.{AreSeated};
 ghost use Rattle.tt_picture.specs.Pictures.{image_of};
 ghost use Rattle.tt_picture.specs.Unfitted.{ListsOnce};
 ghost use Rattle.tt_strike.specs.Costs.{line_cost};
-ghost use Rattle.tt_strike.specs.Defects.{IsLineDefect, TellsDefects, draw_font_fault};
+ghost use Rattle.tt_strike.specs.Defects.{IsLineDefect, TellsDefects};
 ghost use Rattle.tt_strike.specs.Enlarged.{IsEnlarged, drawn_grown, measured_grown};
 ghost use Rattle.tt_strike.specs.Grown.{grown_line};
 ghost use Rattle.tt_strike.specs.Measures.{measure_view};
@@ -21,12 +21,12 @@ ghost use Rattle.tt_strike.specs.Report.{line_report};
 ghost use Rattle.tt_strike.specs.Reported.{IsReported};
 ghost use Rattle.tt_strike.specs.Strikes.{IsCacheOf, job_with};
 
-use crate::fault::DrawFault;
 use crate::growing::grown;
 use crate::measuring::{Measure, characters, ink_of, measure_of};
 use crate::sized::SizedFace;
 use crate::tested::frame_of;
 use crate::work::is_bounded;
+use tt_core::DrawFault;
 use tt_line::Line;
 use tt_picture::{Cache, Glyphs, Picture, draw_made, glyph_inks, report_on};
 use tt_scan_ink::GlyphInk;

@@ -2,18 +2,18 @@
 
 ghost use Rattle.std.specs.Prelude.{◌≡◌, ◌<◌, ◌≤◌, map, All, Ok, IfOk, OnOk};
 ghost use Rattle.tt_core.specs.Limits.{margin_limit};
-ghost use Rattle.tt_core.specs.Outcomes.{GivesUnless, IfTold};
+ghost use Rattle.tt_core.specs.Outcomes.{GivesUnless, IfTold, draw_font_fault, draw_job_fault};
 ghost use Rattle.tt_line.specs.Layout.{placement, text_glyphs};
 ghost use Rattle.tt_line.specs.Outcome.{placement_of};
 ghost use Rattle.tt_metrics.specs.Metrics.{glyphs_of};
-ghost use Rattle.tt_strike.specs.Defects.{IsLineRefusal, draw_font_fault, draw_job_fault};
+ghost use Rattle.tt_strike.specs.Defects.{IsLineRefusal};
 ghost use Rattle.tt_strike.specs.Picture.{laid_out};
 ghost use Rattle.tt_strike.specs.Refusals.{refusal};
 ghost use Rattle.tt_strike.specs.Strikes.{job_by};
 
-use crate::fault::DrawFault;
 use crate::job::{Job, test_job};
 use crate::sized::SizedFace;
+use tt_core::DrawFault;
 use tt_line::{Line, lay};
 
 impl<'f, 'a> SizedFace<'f, 'a> {
@@ -36,13 +36,13 @@ impl<'f, 'a> SizedFace<'f, 'a> {
         };
         test_job(&job)?;
         let face = self.face;
-        Ok(lay(
+        lay(
             self.alloc,
             face.metrics(),
             face.cmap(),
             text,
             self.ppem,
             margin,
-        )?)
+        )
     }
 }

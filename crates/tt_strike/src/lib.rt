@@ -4,7 +4,6 @@
 mod distinct;
 mod drawing;
 mod enlarging;
-mod fault;
 mod growing;
 mod job;
 pub mod laws;
@@ -17,9 +16,9 @@ mod strike;
 mod tested;
 mod work;
 
-pub use fault::DrawFault;
 pub use job::{Job, test_job, test_text};
 pub use measuring::{CharacterMeasure, Measure};
 pub use strike::Strike;
+pub use tt_core::DrawFault;
 pub use tt_face::Face;
 pub use tt_picture::{InkBox, Picture, Report, Unfitted};

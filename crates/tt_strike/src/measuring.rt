@@ -3,7 +3,7 @@
 ghost use Rattle.std.specs.Prelude.{◌≡◌, ℕ, ◌<◌, ◌≤◌, pos, ◌+ℤ◌, true, length, map, All, IfOk, IfSome, Ok, Option};
 ghost use Rattle.tt_core.specs.declared.fault.JobFault.TheVariants.{WorkLarge};
 ghost use Rattle.tt_core.specs.Limits.{margin_limit, size_limit, width_limit};
-ghost use Rattle.tt_core.specs.Outcomes.{GivesUnless, IfTold};
+ghost use Rattle.tt_core.specs.Outcomes.{GivesUnless, IfTold, draw_font_fault, draw_job_fault};
 ghost use Rattle.tt_line.specs.Outcome.{placement_of};
 ghost use Rattle.tt_metrics.specs.Metrics.{glyphs_of};
 ghost use Rattle.tt_picture.specs.Distinct.{is_among};
@@ -13,16 +13,16 @@ ghost use Rattle.tt_scan_edges.specs.Winding.{FrameFits};
 ghost use Rattle.tt_scan_ink.specs.declared.ink.GlyphInk.{GlyphInk};
 ghost use Rattle.tt_scan_ink.specs.Least.{IsNear};
 ghost use Rattle.tt_strike.specs.Costs.{line_cost};
-ghost use Rattle.tt_strike.specs.Defects.{IsLineDefect, IsTooMuchWork, TellsDefects, draw_font_fault, draw_job_fault};
+ghost use Rattle.tt_strike.specs.Defects.{IsLineDefect, IsTooMuchWork, TellsDefects};
 ghost use Rattle.tt_strike.specs.Measures.{character_at, ink_of, measure_view, measured_line};
 ghost use Rattle.tt_strike.specs.Refusals.{refusal};
 ghost use Rattle.tt_strike.specs.Report.{line_report};
 ghost use Rattle.tt_strike.specs.Strikes.{job_with};
 
-use crate::fault::DrawFault;
 use crate::sized::SizedFace;
 use crate::tested::frame_of;
 use std::alloc::{AllocError, Global};
+use tt_core::DrawFault;
 use tt_line::{Line, advance};
 use tt_metrics::Metrics;
 use tt_picture::{Cache, Glyphs, InkBox, Report, glyph_inks, ink_at, joined, report_on};

@@ -2,12 +2,12 @@
 
 ghost use Rattle.std.specs.Prelude.{◌≡◌, ◌≤◌, true, [], Ok, IfOk, IsOkAnd};
 ghost use Rattle.tt_core.specs.Limits.{crossing_limit};
-ghost use Rattle.tt_core.specs.Outcomes.{GivesUnless, IfTold};
+ghost use Rattle.tt_core.specs.Outcomes.{GivesUnless, IfTold, draw_font_fault, draw_job_fault};
 ghost use Rattle.tt_line.specs.Layout.{placement, text_glyphs};
 ghost use Rattle.tt_picture.specs.Pictures.{IsReady, all_crossings, image_of};
 ghost use Rattle.tt_picture.specs.Unfitted.{ListsOnce};
 ghost use Rattle.tt_strike.specs.Costs.{cost_by};
-ghost use Rattle.tt_strike.specs.Defects.{IsLineDefect, IsLineRefusal, TellsDefects, draw_font_fault, draw_job_fault};
+ghost use Rattle.tt_strike.specs.Defects.{IsLineDefect, IsLineRefusal, TellsDefects};
 ghost use Rattle.tt_strike.specs.Grown.{grown_measured, grown_outcome, grown_placement};
 ghost use Rattle.tt_strike.specs.Job.{size_tested, IsSizeRefusal};
 ghost use Rattle.tt_strike.specs.Measures.{measure_view, measured};
@@ -18,12 +18,12 @@ ghost use Rattle.tt_strike.specs.Strikes.{IsFresh, job_of};
 ghost use Rattle.tt_strike.specs.Work.{is_bounded};
 ghost use Rattle.tt_strike_kept.specs.Kept.{bytes_in};
 
-use crate::fault::DrawFault;
 use crate::measuring::Measure;
 use crate::sized::SizedFace;
 use crate::work::is_bounded;
 use std::alloc::{AllocError, Global};
 use std::marker::Model;
+use tt_core::DrawFault;
 use tt_face::Face;
 use tt_fit::Fit;
 use tt_picture::{Cache, Picture};

@@ -3,22 +3,22 @@
 ghost use Rattle.std.specs.Prelude.{◌≡◌, ◌<◌, ◌≤◌, map, All, Ok, Err, IfOk};
 ghost use Rattle.tt_core.specs.declared.fault.JobFault.TheVariants.{WorkLarge};
 ghost use Rattle.tt_core.specs.Limits.{margin_limit};
-ghost use Rattle.tt_core.specs.Outcomes.{IfTold};
+ghost use Rattle.tt_core.specs.Outcomes.{IfTold, draw_font_fault, draw_job_fault};
 ghost use Rattle.tt_line.specs.Outcome.{placement_of};
 ghost use Rattle.tt_metrics.specs.Metrics.{glyphs_of};
 ghost use Rattle.tt_picture.specs.Cached.{is_there, limit_of};
 ghost use Rattle.tt_picture.specs.Glyphs.{AreSeated};
 ghost use Rattle.tt_scan_edges.specs.Winding.{FrameFits};
 ghost use Rattle.tt_strike.specs.Costs.{line_cost};
-ghost use Rattle.tt_strike.specs.Defects.{IsLineDefect, IsTooMuchWork, TellsDefects, draw_font_fault, draw_job_fault};
+ghost use Rattle.tt_strike.specs.Defects.{IsLineDefect, IsTooMuchWork, TellsDefects};
 ghost use Rattle.tt_strike.specs.Made.{AreMade, shapes_made};
 ghost use Rattle.tt_strike.specs.Picture.{frame_of};
 ghost use Rattle.tt_strike.specs.Refusals.{refusal};
 ghost use Rattle.tt_strike.specs.Strikes.{IsCacheOf, job_with};
 
-use crate::fault::DrawFault;
 use crate::sized::SizedFace;
 use crate::work::{charge_points, cost_of, crossings_allowed, test_crossings};
+use tt_core::DrawFault;
 use tt_line::Line;
 use tt_picture::{Cache, Glyphs, line_glyphs};
 use tt_scan::Frame;

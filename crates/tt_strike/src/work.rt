@@ -11,9 +11,8 @@ ghost use Rattle.tt_strike.specs.Refusals.{as_job, refusal};
 ghost use Rattle.tt_strike.specs.Work.{crossings_allowed, is_bounded, points_in, started, work_tested};
 
 use crate::distinct::distinct;
-use crate::fault::DrawFault;
 use std::alloc::{AllocError, Global};
-use tt_core::{CROSSING_LIMIT, JobFault, POINT_WORK_LIMIT, WORK_LIMIT};
+use tt_core::{CROSSING_LIMIT, DrawFault, JobFault, POINT_WORK_LIMIT, WORK_LIMIT};
 use tt_fit::{Fit, Fitter};
 use tt_picture::{Glyph, crossings};
 

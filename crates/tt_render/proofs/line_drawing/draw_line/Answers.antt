@@ -1,11 +1,12 @@
+use Rattle.tt_render.specs.TextsOutcome.{without_line}
 use Rattle.tt_render.proofs.DefectLines.{told_of_text}
 use Rattle.tt_render.proofs.DrawnLines.{line_of_no_text, line_of_text}
 use Rattle.tt_render.proofs.line_drawing.draw_line.Goals as goal
 
 pub returns-in_default-clause-exact : goal.returns-in_default-clause-exact
 returns-in_default-clause-exact c =
-    line_of_no_text c.args.setting.now c.args.strike.now c.args.line.now
-    c.requires.short c.in_default.ensures.cases.0
+    rw c.texts_fault.ensures (line_of_no_text c.args.setting.now c.args.strike.now c.args.line.now
+    c.requires.short c.in_default.ensures.cases.0)
 
 pub returns-clause-exact : goal.returns-clause-exact
 returns-clause-exact c =
@@ -15,4 +16,4 @@ returns-clause-exact c =
 
 pub returns-clause-defects : goal.returns-clause-defects
 returns-clause-defects c =
-    told_of_text _ c.answer_text.result (rw c.in-Ok.ensures.cases.0 at c.answer_text.ensures.defects)
+    told_of_text _ (without_line c.answer_text.result) (rw c.in-Ok.ensures.cases.0 at c.answer_text.ensures.defects)

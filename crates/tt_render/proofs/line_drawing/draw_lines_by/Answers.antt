@@ -67,7 +67,7 @@ returns-in-Err-clause-outcome g c =
     let t = traffic_of left g.R.Source.has_failed g.W.Sink.written g.W.Sink.has_failed c.args.lines.now
     c.next_line.new.lines c.args.out.now c.loop-before.out in
     let e = errors_of g.E.Sink.written g.E.Sink.has_failed c.args.error.now c.loop-before.error in
-    let fails = stopped_before c.args.setting.now c.args.strike.now c.next_line.new.reader c.in-Err.stop
+    let fails = stopped_before c.args.setting.now c.args.strike.now c.next_line.new.reader c.in-Err.stop.refusal
     (text_left c.loop-before.reader (left c.loop-before.lines))
     (text_left c.next_line.new.reader (left c.next_line.new.lines)) t e c.loop-before.before c.loop-before.used
     so_far.so_far c.in-Err.ensures.outcome c.in-Err.ensures.failure so_far.writes in
@@ -84,7 +84,7 @@ returns-in-Err-draw_line-clause-outcome g c =
     let e = errors_of g.E.Sink.written g.E.Sink.has_failed c.args.error.now c.loop-before.error in
     let same = drawn_alike a c.args.strike.now c.loop-before.strike so_far.strike in
     let is = rw c.line-line.ensures at c.in-Err-draw_line.ensures.exact in
-    let fails = stopped_in (line_drawn a c.args.strike.now) (line_drawn a c.loop-before.strike) c.in-Err-draw_line.refusal
+    let fails = stopped_in (line_drawn a c.args.strike.now) (line_drawn a c.loop-before.strike) c.in-Err-draw_line.fault.refusal
     (text_left c.loop-before.reader (left c.loop-before.lines))
     (text_left c.next_line.new.reader (left c.next_line.new.lines)) t e c.loop-before.before c.loop-before.used
     (line_at c.next_line.new.reader c.in-Ok-Some.place) same so_far.so_far found.1 found.3 is
@@ -180,7 +180,7 @@ returns-in-Err-clause-defects g c =
     rw c.texts_fault.ensures (begun_tells (IsDefectBy c.args.setting.now c.args.strike.now) (left c.args.lines.now)
     (text_left c.loop-before.reader (left c.loop-before.lines))
     (text_left c.next_line.new.reader (left c.next_line.new.lines)) c.next_line.new.reader c.loop-before.before
-    c.loop-before.used c.in-Err.stop c.in-Err.ensures.outcome)
+    c.loop-before.used c.in-Err.stop.refusal c.in-Err.ensures.outcome)
 
 pub returns-in-Err-draw_line-clause-defects : goal.returns-in-Err-draw_line-clause-defects
 returns-in-Err-draw_line-clause-defects g c =
@@ -191,7 +191,7 @@ returns-in-Err-draw_line-clause-defects g c =
     let after = text_left c.next_line.new.reader (left c.next_line.new.lines) in
     let found = rw c.in-Ok-Some.field-0-is at c.in-Ok-Some.ensures.outcome in
     let line = line_at c.next_line.new.reader c.in-Ok-Some.place in
-    let why = c.in-Err-draw_line.refusal in
+    let why = c.in-Err-draw_line.fault.refusal in
     let Tells : Strike → Type 0 = λ s. IfSome (refusal_font_fault why) (IsDefectBy a s line) in
     let is = subst Tells so_far.strike (rw c.line-line.ensures at c.in-Err-draw_line.ensures.defects) in
     let IsOne = IsDefectBy a c.args.strike.now in

@@ -39,7 +39,7 @@ returns-clause-outcome c =
     let s = strike_by a c.in_ok-face.face in
     let refused = rw (c.in_ok-strike.ensures.exact, ← most_aside a s 0 text) at c.in-Err.ensures.exact
     in
-    rw c.texts_fault.ensures (text_stops (λ t. text_answer a t text) (strike_of a c.args.file.now) s c.in-Err.refusal
+    rw c.texts_fault.ensures (text_stops (λ t. text_answer a t text) (strike_of a c.args.file.now) s c.in-Err.fault.refusal
     (font_opened a c.args.file.now c.in_ok-face.face c.requires.size c.in_ok-face.ensures.exact) refused
     c.in-Err.ensures.serves)
 
@@ -64,4 +64,4 @@ pub returns-clause-defects : goal.returns-clause-defects
 returns-clause-defects c =
     let stands = rw c.in_ok-strike.ensures.exact at c.in-Err.ensures.defects in
     rw c.texts_fault.ensures (text_tells (job_by c.args.setting.now c.args.text.now) c.args.file.now
-    c.in_ok-face.face c.in-Err.refusal c.in_ok-face.ensures.exact stands c.in-Err.ensures.serves)
+    c.in_ok-face.face c.in-Err.fault.refusal c.in_ok-face.ensures.exact stands c.in-Err.ensures.serves)
