@@ -14,7 +14,7 @@ pub(crate) mod reads;
 
 use crate::lookup::reads::Reads;
 use crate::ranges::Subtable;
-use crate::records::{CMAP, Choice, chosen, record_count};
+use crate::records::{CMAP, Choice, Records};
 use std::marker::Model;
 use tt_core::{Fault, Why};
 
@@ -69,8 +69,8 @@ impl<'a> Cmap<'a> {
         ensures sound { OnOk result (HasNo (IsBadCmap table.now)) }
         ensures fault { IfErr result (IsBadCmap table.now) }
     {
-        let count = record_count(table)?;
-        Cmap::by_subtable(table, glyphs, chosen(table, count))
+        let records = Records::open(table)?;
+        Cmap::by_subtable(table, glyphs, records.chosen())
     }
 
     /// The map by the chosen subtable. Errors: NoCmap, CmapShape.

@@ -1,12 +1,13 @@
 //! The choice of cmap's subtable by its encoding records. OpenType, "cmap", encoding records.
 
-ghost use Rattle.std.specs.Prelude.{◌≡◌, ◌*◌, ◌+◌, ◌<◌, ◌≤◌, length, IsTrue, IfOk, IfErr, IfSome};
+ghost use Rattle.std.specs.Prelude.{◌≡◌, ◌+◌, ◌<◌, ◌≤◌, length, IsTrue, IfOk, IfErr, IfSome};
 ghost use Rattle.tt_core.specs.Limits.{font_limit};
 ghost use Rattle.std.specs.Bool.{OnTrue};
 ghost use Rattle.tt_core.specs.Outcomes.{Gives};
 ghost use Rattle.tt_cmap.specs.Subtables.{records_of, record_count, record_place, format_number, windows_encoding, is_for, has_format, first_subtable, first_of, chosen_subtable};
 ghost use Rattle.tt_cmap.specs.Defects.{IsBadRecords};
 
+use std::marker::Model;
 use tt_core::{Fault, Why, u16_at, u32_at};
 
 pub(crate) const CMAP: [u8; 4] = *b"cmap";
@@ -36,26 +37,6 @@ pub(crate) struct Choice {
     pub(crate) at: usize,
 }
 
-/// The number of records. Error: CmapShape.
-#[tactic(auto, unfolding(crate::specs::Subtables::records_of))]
-pub(crate) fn record_count(table: &[u8]) -> Result<usize, Fault>
-    requires { length table.now ≤ font_limit }
-    ensures exact { Gives (λ n. n) result (records_of table.now) }
-    ensures count { IfOk result (λ n. n ≡ record_count table.now) }
-    ensures fit { IfOk result (λ n. record_place n ≤ length table.now) }
-    ensures fault { IfErr result (IsBadRecords table.now) }
-{
-    let short = Fault::new(CMAP, table.len() as u32, Why::CmapShape);
-    if table.len() < 4 {
-        return Err(short);
-    }
-    let count = usize::from(u16_at(table, 2).unwrap());
-    if table.len() < 4 + 8 * count {
-        return Err(short);
-    }
-    Ok(count)
-}
-
 /// The number of a format.
 fn format_number(format: Format) -> u16
     ensures { result ≡ format_number format }
@@ -76,21 +57,6 @@ fn windows_encoding(format: Format) -> u16
     }
 }
 
-fn is_meant_for(platform: Platform, format: Format, table: &[u8], i: usize) -> bool
-    requires small { i < 65536 }
-    requires fits { record_place i + 8 ≤ length table.now }
-    ensures { result ≡ is_for platform format table.now i }
-{
-    let place = 4 + 8 * i;
-    let number = u16_at(table, place).unwrap();
-    match platform {
-        Platform::Windows => {
-            number == 3 && u16_at(table, place + 2).unwrap() == windows_encoding(format)
-        }
-        Platform::Unicode => number == 0,
-    }
-}
-
 fn has_format(format: Format, table: &[u8], at: usize) -> bool
     ensures exact { result ≡ has_format format table.now at }
     ensures within { OnTrue result (at + 2 ≤ length table.now) }
@@ -98,47 +64,96 @@ fn has_format(format: Format, table: &[u8], at: usize) -> bool
     u16_at(table, at) == Some(format_number(format))
 }
 
-#[tactic(auto, using(tt_core::specs::Search::first_from_next, tt_core::specs::Search::first_from_here))]
-fn first_subtable(platform: Platform, format: Format, table: &[u8], count: usize) -> Option<usize>
-    requires count { count ≡ record_count table.now }
-    requires fit { record_place count ≤ length table.now }
-    ensures exact { result ≡ first_subtable platform format table.now }
-    ensures within { IfSome result (λ at. at + 2 ≤ length table.now) }
-{
-    for i in 0..count {
-        let at = u32_at(table, 8 + 8 * i).unwrap() as usize;
-        if is_meant_for(platform, format, table, i) && has_format(format, table, at) {
-            return Some(at);
+/// The encoding records of cmap. Clauses see the bytes of cmap.
+#[derive(Drop)]
+pub(crate) struct Records<'a> {
+    table: &'a [u8],
+    count: usize,
+}
+
+impl<'a> Model for Records<'a> {
+    ghost use Rattle.std.specs.Prelude.{◌≡◌, ◌<◌, ◌≤◌, ℕ, List, length};
+    ghost use Rattle.tt_cmap.specs.Subtables.{record_count, record_place};
+
+    ghost Value = { List ℕ };
+
+    ghost view = { λ r. r.table.now };
+
+    ghost invariant = { λ r. (r.count ≡ record_count r.table.now) × (r.count < 65536)
+        × (record_place r.count ≤ length r.table.now) };
+}
+
+impl<'a> Records<'a> {
+    /// The records, if the header and all records fit. Error: CmapShape.
+    #[tactic(auto, unfolding(crate::specs::Subtables::records_of))]
+    pub(crate) fn open(table: &'a [u8]) -> Result<Records<'a>, Fault>
+        requires { length table.now ≤ font_limit }
+        ensures exact { Gives record_count result (records_of table.now) }
+        ensures whole { IfOk result (λ r. r ≡ table.now) }
+        ensures fit { IfOk result (λ r. record_place (record_count r) ≤ length r) }
+        ensures fault { IfErr result (IsBadRecords table.now) }
+    {
+        let short = Fault::new(CMAP, table.len() as u32, Why::CmapShape);
+        if table.len() < 4 {
+            return Err(short);
+        }
+        let count = usize::from(u16_at(table, 2).unwrap());
+        if table.len() < 4 + 8 * count {
+            return Err(short);
+        }
+        Ok(Records { table, count })
+    }
+
+    fn is_meant_for(&self, platform: Platform, format: Format, i: usize) -> bool
+        requires { i < record_count self.now }
+        ensures { result ≡ is_for platform format self.now i }
+    {
+        let place = 4 + 8 * i;
+        let number = u16_at(self.table, place).unwrap();
+        match platform {
+            Platform::Windows => {
+                number == 3 && u16_at(self.table, place + 2).unwrap() == windows_encoding(format)
+            }
+            Platform::Unicode => number == 0,
         }
     }
-    None
-}
 
-/// The first subtable of a format: that of Windows before that of Unicode.
-fn first_of(format: Format, table: &[u8], count: usize) -> Option<Choice>
-    requires count { count ≡ record_count table.now }
-    requires fit { record_place count ≤ length table.now }
-    ensures exact { result ≡ first_of format table.now }
-    ensures within { IfSome result (λ p. p.at + 2 ≤ length table.now) }
-{
-    if let Some(at) = first_subtable(Platform::Windows, format, table, count) {
-        return Some(Choice { format, at });
+    #[tactic(auto, using(tt_core::specs::Search::first_from_next, tt_core::specs::Search::first_from_here))]
+    fn first_subtable(&self, platform: Platform, format: Format) -> Option<usize>
+        ensures exact { result ≡ first_subtable platform format self.now }
+        ensures within { IfSome result (λ at. at + 2 ≤ length self.now) }
+    {
+        for i in 0..self.count {
+            let at = u32_at(self.table, 8 + 8 * i).unwrap() as usize;
+            if self.is_meant_for(platform, format, i) && has_format(format, self.table, at) {
+                return Some(at);
+            }
+        }
+        None
     }
-    match first_subtable(Platform::Unicode, format, table, count) {
-        Some(at) => Some(Choice { format, at }),
-        None => None,
-    }
-}
 
-/// The chosen subtable, if there is one: format 12 before format 4.
-pub(crate) fn chosen(table: &[u8], count: usize) -> Option<Choice>
-    requires count { count ≡ record_count table.now }
-    requires fit { record_place count ≤ length table.now }
-    ensures exact { result ≡ chosen_subtable table.now }
-    ensures within { IfSome result (λ p. p.at + 2 ≤ length table.now) }
-{
-    match first_of(Format::Groups, table, count) {
-        Some(choice) => Some(choice),
-        None => first_of(Format::Segments, table, count),
+    /// The first subtable of a format: that of Windows before that of Unicode.
+    fn first_of(&self, format: Format) -> Option<Choice>
+        ensures exact { result ≡ first_of format self.now }
+        ensures within { IfSome result (λ p. p.at + 2 ≤ length self.now) }
+    {
+        if let Some(at) = self.first_subtable(Platform::Windows, format) {
+            return Some(Choice { format, at });
+        }
+        match self.first_subtable(Platform::Unicode, format) {
+            Some(at) => Some(Choice { format, at }),
+            None => None,
+        }
+    }
+
+    /// The chosen subtable, if there is one: format 12 before format 4.
+    pub(crate) fn chosen(&self) -> Option<Choice>
+        ensures exact { result ≡ chosen_subtable self.now }
+        ensures within { IfSome result (λ p. p.at + 2 ≤ length self.now) }
+    {
+        match self.first_of(Format::Groups) {
+            Some(choice) => Some(choice),
+            None => self.first_of(Format::Segments),
+        }
     }
 }
