@@ -8,8 +8,8 @@ use Rattle.tt_core.specs.Search.{first_below}
 use Rattle.tt_cmap.specs.declared.records.Format.{Format}
 use Rattle.tt_cmap.specs.declared.records.Format.TheVariants as format
 use Rattle.tt_cmap.specs.declared.records.Choice.{Choice}
-use Rattle.tt_cmap.specs.declared.ranges.Subtable as ranges
-use Rattle.tt_cmap.specs.declared.ranges.Subtable.TheVariants as by
+use Rattle.tt_cmap.specs.declared.subtable.Subtable as subtable
+use Rattle.tt_cmap.specs.declared.subtable.Subtable.TheVariants as by
 use Rattle.tt_cmap.specs.Format4.{Format4, seg_count, segments_at, end_code, end_code_place, by_segment, segment_reads}
 use Rattle.tt_cmap.specs.Format12.{Format12, num_groups, groups_at, end_char_code, end_char_code_place, by_group, group_reads}
 use Rattle.tt_cmap.specs.Halves.{asked}
@@ -111,6 +111,6 @@ IfSegments (segments m) P = P
 IfSegments (groups m) P = ⊤
 
 -- the definitions' view of the code's subtable
-abbrev pub subtable_view : ranges.Subtable → Subtable
+abbrev pub subtable_view : subtable.Subtable → Subtable
 subtable_view (by.Segments m) = segments m
 subtable_view (by.Groups m) = groups m

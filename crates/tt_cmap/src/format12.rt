@@ -1,17 +1,18 @@
 //! A subtable of format 12. OpenType, "cmap", format 12: segmented coverage.
 
-ghost use Rattle.std.specs.Prelude.{◌≡◌, ◌+◌, ◌*◌, ◌^◌, ◌<◌, ◌≤◌, length, IfOk, IfErr};
+ghost use Rattle.std.specs.Prelude.{◌≡◌, ◌≤◌, length, IfOk, IfErr};
 ghost use Rattle.tt_core.specs.Limits.{font_limit};
 ghost use Rattle.tt_core.specs.Outcomes.{Gives};
 ghost use Rattle.tt_cmap.specs.Defects.{IsBadFormat12};
-ghost use Rattle.tt_cmap.specs.Format12.{groups_at, num_groups, group_place, end_char_code, end_char_code_place, by_group, group_reads};
+ghost use Rattle.tt_cmap.specs.Format12.{groups_at};
 
 use crate::glyphs::or_missing;
 use crate::lookup::reads::Reads;
+use crate::ranges::Ranges;
 use crate::records::CMAP;
 use crate::table::Table;
 use std::marker::Model;
-use tt_core::{Fault, Why};
+use tt_core::{Fault, Why, u32_at};
 
 /// The offset of numGroups, a uint32, in the subtable.
 const NUM_GROUPS: usize = 12;
@@ -50,83 +51,53 @@ impl<'a> Model for Format12<'a> {
 }
 
 impl<'a> Format12<'a> {
-    /// The subtable at an offset. Error: CmapShape.
+    /// The subtable at an offset of cmap. Error: CmapShape.
     #[tactic(auto, unfolding(crate::specs::Format12::groups_at))]
-    pub(crate) fn open(
-        table: Table<'a>,
-        at: usize,
-        reads: &mut Reads,
-    ) -> Result<Format12<'a>, Fault>
-        requires size { length table ≤ font_limit }
-        requires place { at ≤ length table }
-        requires room { reads.old + 1 < 2 ^ 32 }
-        ensures exact { Gives (λ m. m) result (groups_at table.entry at) }
-        ensures whole { IfOk result (λ m. m ≡ record { table = table.entry; at = at }) }
-        ensures fault { IfErr result (IsBadFormat12 (record { table = table.entry; at = at })) }
-        ensures few { reads.new ≤ reads.old + 1 }
+    pub(crate) fn open(table: &'a [u8], at: usize) -> Result<Format12<'a>, Fault>
+        requires size { length table.now ≤ font_limit }
+        requires place { at ≤ length table.now }
+        ensures exact { Gives (λ m. m) result (groups_at table.now at) }
+        ensures whole { IfOk result (λ m. m ≡ record { table = table.now; at = at }) }
+        ensures fault { IfErr result (IsBadFormat12 (record { table = table.now; at = at })) }
     {
         let short = Fault::new(CMAP, at as u32, Why::CmapShape);
         if table.len() < at + GROUPS {
             return Err(short);
         }
-        let count = table.long(at + NUM_GROUPS, reads);
+        let count = u32_at(table, at + NUM_GROUPS).unwrap() as usize;
         if table.len() < at + GROUPS + GROUP * count {
             return Err(short);
         }
+        let table = Table::new(table);
         Ok(Format12 { table, at, count })
     }
+}
 
-    pub(crate) fn count(&self) -> usize
-        ensures exact { result ≡ num_groups self.now }
-        ensures bound { 12 * result ≤ font_limit }
-    {
+impl<'a> Ranges for Format12<'a> {
+    ghost use Rattle.tt_cmap.specs.Ranges.{groups};
+
+    ghost ranges_of = { groups };
+
+    fn count(&self) -> usize {
         self.count
     }
 
-    fn group_place(&self, i: usize) -> usize
-        requires { i < num_groups self.now }
-        ensures exact { result ≡ group_place self.now i }
-        ensures fits { result + 12 ≤ length self.now.table }
-        ensures size { length self.now.table ≤ font_limit }
-    {
-        self.at + GROUPS + GROUP * i
+    fn end_place(&self, i: usize) -> u32 {
+        (self.at + GROUPS + GROUP * i + END_CHAR_CODE) as u32
     }
 
-    /// The offset of a group's last character.
-    pub(crate) fn end_char_code_place(&self, i: usize) -> usize
-        requires { i < num_groups self.now }
-        ensures exact { result ≡ end_char_code_place self.now i }
-        ensures fits { result + 4 ≤ length self.now.table }
-        ensures size { length self.now.table ≤ font_limit }
-    {
-        self.group_place(i) + END_CHAR_CODE
+    fn end(&self, i: usize, reads: &mut Reads) -> usize {
+        self.table
+            .long(self.at + GROUPS + GROUP * i + END_CHAR_CODE, reads)
     }
 
-    pub(crate) fn end_char_code(&self, i: usize, reads: &mut Reads) -> usize
-        requires group { i < num_groups self.now }
-        requires room { reads.old + 1 < 2 ^ 32 }
-        ensures exact { result ≡ end_char_code self.now i }
-        ensures count { reads.new ≡ reads.old + 1 }
-    {
-        self.table.long(self.end_char_code_place(i), reads)
-    }
-
-    /// The glyph of a character by a group that ends at the character or after it.
-    pub(crate) fn glyph(&self, glyphs: u16, c: usize, i: usize, reads: &mut Reads) -> u16
-        requires group { i < num_groups self.now }
-        requires character { c < 2 ^ 21 }
-        requires glyphs { 0 < glyphs }
-        requires room { reads.old + 2 < 2 ^ 32 }
-        ensures exact { result ≡ by_group self.now glyphs c i }
-        ensures bound { result < glyphs }
-        ensures count { reads.new ≡ reads.old + group_reads self.now c i }
-    {
-        let place = self.group_place(i);
-        let start = self.table.long(place, reads);
+    fn glyph_by(&self, glyphs: u16, c: usize, i: usize, reads: &mut Reads) -> u16 {
+        let group = self.at + GROUPS + GROUP * i;
+        let start = self.table.long(group, reads);
         if c < start {
             return 0;
         }
-        let first = self.table.long(place + START_GLYPH_ID, reads);
+        let first = self.table.long(group + START_GLYPH_ID, reads);
         or_missing(glyphs, first + (c - start))
     }
 }

@@ -1,17 +1,18 @@
 //! A subtable of format 4. OpenType, "cmap", format 4: segment mapping to delta values.
 
-ghost use Rattle.std.specs.Prelude.{◌≡◌, ◌+◌, ◌-◌, ◌*◌, ◌^◌, ◌<◌, ◌≤◌, length, IfOk, IfErr};
+ghost use Rattle.std.specs.Prelude.{◌≡◌, ◌≤◌, length, IfOk, IfErr};
 ghost use Rattle.tt_core.specs.Limits.{font_limit};
 ghost use Rattle.tt_core.specs.Outcomes.{Gives};
 ghost use Rattle.tt_cmap.specs.Defects.{IsBadFormat4};
-ghost use Rattle.tt_cmap.specs.Format4.{segments_at, seg_count_x2, seg_count, end_code, end_code_place, start_code, id_delta, id_range_offset, id_range_offset_place, by_segment, segment_reads};
+ghost use Rattle.tt_cmap.specs.Format4.{segments_at};
 
 use crate::glyphs::or_missing;
 use crate::lookup::reads::Reads;
+use crate::ranges::Ranges;
 use crate::records::CMAP;
 use crate::table::Table;
 use std::marker::Model;
-use tt_core::{Fault, Why};
+use tt_core::{Fault, Why, u16_at};
 
 /// The offset of segCountX2 in the subtable. segCountX2 is twice the number of segments. Each of the lists endCode,
 /// startCode, idDelta and idRangeOffset has segCountX2 bytes.
@@ -49,22 +50,20 @@ impl<'a> Model for Format4<'a> {
 }
 
 impl<'a> Format4<'a> {
-    /// The subtable at an offset. Error: CmapShape.
+    /// The subtable at an offset of cmap. Error: CmapShape.
     #[tactic(auto, unfolding(crate::specs::Format4::segments_at))]
-    pub(crate) fn open(table: Table<'a>, at: usize, reads: &mut Reads) -> Result<Format4<'a>, Fault>
-        requires size { length table ≤ font_limit }
-        requires place { at ≤ length table }
-        requires room { reads.old + 1 < 2 ^ 32 }
-        ensures exact { Gives (λ m. m) result (segments_at table.entry at) }
-        ensures whole { IfOk result (λ m. m ≡ record { table = table.entry; at = at }) }
-        ensures fault { IfErr result (IsBadFormat4 (record { table = table.entry; at = at })) }
-        ensures few { reads.new ≤ reads.old + 1 }
+    pub(crate) fn open(table: &'a [u8], at: usize) -> Result<Format4<'a>, Fault>
+        requires size { length table.now ≤ font_limit }
+        requires place { at ≤ length table.now }
+        ensures exact { Gives (λ m. m) result (segments_at table.now at) }
+        ensures whole { IfOk result (λ m. m ≡ record { table = table.now; at = at }) }
+        ensures fault { IfErr result (IsBadFormat4 (record { table = table.now; at = at })) }
     {
         let short = Fault::new(CMAP, at as u32, Why::CmapShape);
         if table.len() < at + END_CODE {
             return Err(short);
         }
-        let list = table.word(at + SEG_COUNT_X2, reads);
+        let list = usize::from(u16_at(table, at + SEG_COUNT_X2).unwrap());
         if list % WORD != 0 {
             let place = at + SEG_COUNT_X2;
             return Err(Fault::new(CMAP, place as u32, Why::CmapShape));
@@ -72,84 +71,40 @@ impl<'a> Format4<'a> {
         if table.len() < at + HEADER + 4 * list {
             return Err(short);
         }
+        let table = Table::new(table);
         Ok(Format4 { table, at, list })
     }
+}
 
-    pub(crate) fn count(&self) -> usize
-        ensures exact { result ≡ seg_count self.now }
-        ensures bound { result < 32768 }
-    {
+impl<'a> Ranges for Format4<'a> {
+    ghost use Rattle.tt_cmap.specs.Ranges.{segments};
+
+    ghost ranges_of = { segments };
+
+    fn count(&self) -> usize {
         self.list / WORD
     }
 
-    /// The offset of a segment's last character.
-    pub(crate) fn end_code_place(&self, i: usize) -> usize
-        requires { i < seg_count self.now }
-        ensures exact { result ≡ end_code_place self.now i }
-        ensures fits { result + 2 ≤ length self.now.table }
-        ensures size { length self.now.table ≤ font_limit }
-    {
-        self.at + END_CODE + WORD * i
+    fn end_place(&self, i: usize) -> u32 {
+        (self.at + END_CODE + WORD * i) as u32
     }
 
-    pub(crate) fn end_code(&self, i: usize, reads: &mut Reads) -> usize
-        requires segment { i < seg_count self.now }
-        requires room { reads.old + 1 < 2 ^ 32 }
-        ensures exact { result ≡ end_code self.now i }
-        ensures bound { result < 65536 }
-        ensures count { reads.new ≡ reads.old + 1 }
-    {
-        self.table.word(self.end_code_place(i), reads)
+    fn end(&self, i: usize, reads: &mut Reads) -> usize {
+        self.table.word(self.at + END_CODE + WORD * i, reads)
     }
 
-    fn start_code(&self, i: usize, reads: &mut Reads) -> usize
-        requires segment { i < seg_count self.now }
-        requires room { reads.old + 1 < 2 ^ 32 }
-        ensures exact { result ≡ start_code self.now i }
-        ensures bound { result < 65536 }
-        ensures count { reads.new ≡ reads.old + 1 }
-    {
-        let start_codes = self.at + HEADER + self.list;
-        self.table.word(start_codes + WORD * i, reads)
-    }
-
-    fn id_delta(&self, i: usize, reads: &mut Reads) -> usize
-        requires segment { i < seg_count self.now }
-        requires room { reads.old + 1 < 2 ^ 32 }
-        ensures exact { result ≡ id_delta self.now i }
-        ensures bound { result < 65536 }
-        ensures count { reads.new ≡ reads.old + 1 }
-    {
-        let id_deltas = self.at + HEADER + 2 * self.list;
-        self.table.word(id_deltas + WORD * i, reads)
-    }
-
-    fn id_range_offset_place(&self, i: usize) -> usize
-        requires { i < seg_count self.now }
-        ensures exact { result ≡ id_range_offset_place self.now i }
-        ensures fits { result + 2 ≤ length self.now.table }
-        ensures size { length self.now.table ≤ font_limit }
-    {
-        let id_range_offsets = self.at + HEADER + 3 * self.list;
-        id_range_offsets + WORD * i
-    }
-
-    /// The glyph of a character by a segment that ends at the character or after it.
-    pub(crate) fn glyph(&self, glyphs: u16, c: usize, i: usize, reads: &mut Reads) -> u16
-        requires segment { i < seg_count self.now }
-        requires character { c < 2 ^ 21 }
-        requires glyphs { 0 < glyphs }
-        requires room { reads.old + 4 < 2 ^ 32 }
-        ensures exact { result ≡ by_segment self.now glyphs c i }
-        ensures bound { result < glyphs }
-        ensures count { reads.new ≡ reads.old + segment_reads self.now c i }
-    {
-        let start = self.start_code(i, reads);
+    fn glyph_by(&self, glyphs: u16, c: usize, i: usize, reads: &mut Reads) -> u16 {
+        // startCode, idDelta and idRangeOffset are the second, third and fourth list.
+        let start = self
+            .table
+            .word(self.at + HEADER + self.list + WORD * i, reads);
         if c < start {
             return 0;
         }
-        let delta = self.id_delta(i, reads);
-        let place = self.id_range_offset_place(i);
+        let delta = self
+            .table
+            .word(self.at + HEADER + 2 * self.list + WORD * i, reads);
+        let place = self.at + HEADER + 3 * self.list + WORD * i;
         let range_offset = self.table.word(place, reads);
         if range_offset == 0 {
             return or_missing(glyphs, (c + delta) % 65536);

@@ -10,6 +10,7 @@ mod lookup;
 mod missing;
 mod ranges;
 mod records;
+mod subtable;
 mod table;
 
 pub use known::KnownGlyphs;

@@ -13,8 +13,9 @@ ghost use Rattle.tt_cmap.specs.Defects.{IsBadCmap, IsBadChoice};
 pub(crate) mod reads;
 
 use crate::lookup::reads::Reads;
-use crate::ranges::Subtable;
+use crate::ranges::Ranges;
 use crate::records::{CMAP, Choice, Records};
+use crate::subtable::Subtable;
 use std::marker::Model;
 use tt_core::{Fault, Why};
 
@@ -73,7 +74,7 @@ impl<'a> Cmap<'a> {
         Cmap::by_subtable(table, glyphs, records.chosen())
     }
 
-    /// The map by the chosen subtable. Errors: NoCmap, CmapShape.
+    /// The map by the chosen subtable, whose ranges must end in rising order. Errors: NoCmap, CmapShape.
     fn by_subtable(table: &'a [u8], glyphs: u16, choice: Option<Choice>) -> Result<Cmap<'a>, Fault>
         requires size { length table.now ≤ font_limit }
         requires within { IfSome choice (λ p. p.at ≤ length table.now) }
@@ -86,10 +87,11 @@ impl<'a> Cmap<'a> {
         let Some(choice) = choice else {
             return Err(Fault::new(CMAP, 0, Why::NoCmap));
         };
-        Ok(Cmap {
-            subtable: Subtable::open(table, choice, &mut Reads::none())?,
-            glyphs,
-        })
+        let subtable = Subtable::open(table, choice)?;
+        match subtable.falling(&mut Reads::none()) {
+            Some(i) => Err(Fault::new(CMAP, subtable.end_place(i + 1), Why::CmapShape)),
+            None => Ok(Cmap { subtable, glyphs }),
+        }
     }
 
     /// The glyph of a character, and the count of numbers read from the subtable. A binary search reads ends of

@@ -1,5 +1,5 @@
-//! The bytes of cmap, read number by number. The bytes do not leave this module, so every read of a subtable is
-//! counted.
+//! The bytes of cmap, as a lookup reads them number by number. The bytes do not leave this module, so every read of a
+//! lookup is counted.
 
 ghost use Rattle.std.specs.Prelude.{◌≡◌, ◌+◌, ◌<◌, ◌≤◌, ◌^◌, length};
 ghost use Rattle.tt_core.specs.Numbers.{unsigned_at, number_at};
@@ -27,12 +27,6 @@ impl<'a> Table<'a> {
         ensures exact { result ≡ bytes.now }
     {
         Table { bytes }
-    }
-
-    pub(crate) fn len(&self) -> usize
-        ensures exact { result ≡ length self.now }
-    {
-        self.bytes.len()
     }
 
     /// The uint16 at an offset.

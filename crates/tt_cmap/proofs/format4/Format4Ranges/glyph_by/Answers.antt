@@ -1,5 +1,5 @@
 use Rattle.std.proofs.Common.{rules}
-use Rattle.tt_cmap.proofs.format4.Format4.glyph.Goals as goal
+use Rattle.tt_cmap.proofs.format4.Format4Ranges.glyph_by.Goals as goal
 
 pub returns-in-Some-clause-exact : goal.returns-in-Some-clause-exact
 returns-in-Some-clause-exact c = search rules

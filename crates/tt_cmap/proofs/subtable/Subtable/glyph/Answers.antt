@@ -1,7 +1,7 @@
 use Rattle.std.proofs.Common.{◌≤◌}
 use Rattle.tt_cmap.specs.Ranges.{subtable_view, IfSegments}
 use Rattle.tt_cmap.proofs.Halves.{not-beyond}
-use Rattle.tt_cmap.proofs.ranges.Subtable.glyph.Goals as goal
+use Rattle.tt_cmap.proofs.subtable.Subtable.glyph.Goals as goal
 
 pub returns-in-Some-clause-beyond : goal.returns-in-Some-clause-beyond
 returns-in-Some-clause-beyond c =

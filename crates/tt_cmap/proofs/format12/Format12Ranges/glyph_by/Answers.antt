@@ -1,5 +1,5 @@
 use Rattle.std.proofs.Common.{rules}
-use Rattle.tt_cmap.proofs.format12.Format12.glyph.Goals as goal
+use Rattle.tt_cmap.proofs.format12.Format12Ranges.glyph_by.Goals as goal
 
 pub returns-then-c-start-clause-exact : goal.returns-then-c-start-clause-exact
 returns-then-c-start-clause-exact c = search rules

@@ -1,7 +1,7 @@
 use Rattle.std.proofs.Common.{◌≡◌, ◌≤◌, ◌+◌, ◌*◌, ◌-◌}
 use Rattle.tt_core.specs.Search.{first_from}
 use Rattle.tt_cmap.specs.Ranges.{falls, falling_range, subtable_view}
-use Rattle.tt_cmap.proofs.ranges.Subtable.falling.Given as goal
+use Rattle.tt_cmap.proofs.subtable.Subtable.falling.Given as goal
 
 -- the search over all ranges is the search over the remaining ranges
 abbrev pub invariant-loop-i : goal.invariant-loop-i

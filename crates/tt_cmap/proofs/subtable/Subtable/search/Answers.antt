@@ -1,7 +1,7 @@
 use Rattle.std.proofs.Common.{◌<◌, ◌≤◌, ◌+◌, ◌-◌, ◌/◌, refl, arith}
 use Rattle.tt_cmap.specs.Ranges.{range_count, range_end, subtable_view, ends_read, most_ends, IfSegments}
 use Rattle.tt_cmap.proofs.Halves.{IsLeft, all-left, has-room, goes-on, plane-below, goes-back, found, nothing-found, few-ends, all-read}
-use Rattle.tt_cmap.proofs.ranges.Subtable.search.Goals as goal
+use Rattle.tt_cmap.proofs.subtable.Subtable.search.Goals as goal
 
 pub loop-low-init : goal.loop-low-init
 loop-low-init c = all-left (subtable_view c.args.self.now) c.args.c c.count-count.result c.args.reads.now c.count-count.ensures.exact

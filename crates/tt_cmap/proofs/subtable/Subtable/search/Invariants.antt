@@ -1,7 +1,7 @@
 use Rattle.std.proofs.Common.{◌+◌, ◌-◌}
 use Rattle.tt_cmap.specs.Ranges.{ends_read, subtable_view}
 use Rattle.tt_cmap.proofs.Halves.{IsLeft}
-use Rattle.tt_cmap.proofs.ranges.Subtable.search.Given as goal
+use Rattle.tt_cmap.proofs.subtable.Subtable.search.Given as goal
 
 abbrev pub invariant-loop-low : goal.invariant-loop-low
 invariant-loop-low l =
