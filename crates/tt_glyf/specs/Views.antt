@@ -1,6 +1,5 @@
 -- The definitions' views of the code's values.
 use Rattle.std.specs.Prelude.{ℕ, List}
-use Rattle.tt_glyf.specs.declared.component.ArgumentPair as arguments
 use Rattle.tt_glyf.specs.declared.composite.Program as program
 use Rattle.tt_glyf.specs.declared.composite.RecordList as record_list
 use Rattle.tt_glyf.specs.declared.component.Transform as transform
@@ -10,15 +9,13 @@ use Rattle.tt_glyf.specs.declared.coordinates.Delta as delta
 use Rattle.tt_glyf.specs.declared.coordinates.Sum as sum
 use Rattle.tt_glyf.specs.declared.flags.FlagList as flag_list
 use Rattle.tt_glyf.specs.declared.flags.Run as run
-use Rattle.tt_glyf.specs.declared.header.GlyphHeader as header
 use Rattle.tt_glyf.specs.declared.raw.RawPoint.{RawPoint}
 use Rattle.tt_glyf.specs.declared.raw.Record.{Record}
 use Rattle.tt_glyf.specs.declared.simple.EndList as end_list
 use Rattle.tt_glyf.specs.Bytes.{Listing}
-use Rattle.tt_glyf.specs.Composite.{ArgumentPair, Transform, Program}
+use Rattle.tt_glyf.specs.Composite.{Transform, Program}
 use Rattle.tt_glyf.specs.Coordinates.{AxisFlags, Coordinate, Delta}
 use Rattle.tt_glyf.specs.Flags.{Run}
-use Rattle.tt_glyf.specs.GlyphData.{GlyphHeader}
 
 abbrev pub run_of : run.Run → Run
 run_of r = record { flag = r.flag; copies = r.copies; next = r.next }
@@ -45,9 +42,6 @@ placed_listing points next = record { items = points; next = next }
 abbrev pub ends_listing : end_list.EndList → Listing ℕ
 ends_listing e = record { items = e.ends.items; next = e.next }
 
-abbrev pub arguments_of : arguments.ArgumentPair → ArgumentPair
-arguments_of a = record { arg1 = a.arg1; arg2 = a.arg2 }
-
 abbrev pub transform_view : transform.Transform → Transform
 transform_view t = record { xx = t.xx; yx = t.yx; xy = t.xy; yy = t.yy }
 
@@ -56,6 +50,3 @@ records_listing r = record { items = r.records.items; next = r.next }
 
 abbrev pub program_view : program.Program → Program
 program_view p = record { code = p.code.now; code_at = p.code_at }
-
-abbrev pub header_view : header.GlyphHeader → GlyphHeader
-header_view h = record { contours = h.contours; x_min = h.x_min }

@@ -5,14 +5,16 @@ ghost use Rattle.tt_core.specs.Limits.{font_limit};
 ghost use Rattle.tt_core.specs.Outcomes.{Gives};
 ghost use Rattle.tt_glyf.specs.Bytes.{byte_in, word_in, signed_in, slice_in, glyph_fault, short};
 
+use std::alloc::Global;
 use std::marker::Model;
 use tt_core::{Fault, Why, i16_at, u16_at};
 
 const GLYF: [u8; 4] = *b"glyf";
 
-/// The bytes of one glyph, and their offset in glyf.
+/// The bytes of one glyph, their offset in glyf, and where memory for its lists comes from. Clauses see the first two.
 #[derive(Drop)]
 pub(crate) struct GlyphBytes<'a> {
+    alloc: Global,
     start: usize,
     bytes: &'a [u8],
 }
@@ -30,11 +32,20 @@ impl<'a> Model for GlyphBytes<'a> {
 }
 
 impl<'a> GlyphBytes<'a> {
-    pub(crate) fn new(start: usize, bytes: &'a [u8]) -> GlyphBytes<'a>
+    pub(crate) fn new(alloc: Global, start: usize, bytes: &'a [u8]) -> GlyphBytes<'a>
         requires { start + length bytes.now ≤ font_limit }
         ensures { result ≡ record { start = start; bytes = bytes.now } }
     {
-        GlyphBytes { start, bytes }
+        GlyphBytes {
+            alloc,
+            start,
+            bytes,
+        }
+    }
+
+    /// Where memory comes from.
+    pub(crate) fn alloc(&self) -> Global {
+        self.alloc
     }
 
     pub(crate) fn len(&self) -> usize

@@ -14,7 +14,6 @@ use crate::component::{record_at, record_size};
 use crate::component_flags::{ComponentFlags, has_flag};
 use crate::format::{HEADER_SIZE, WORD_SIZE};
 use crate::raw::{Raw, Record};
-use std::alloc::Global;
 use tt_core::{COMPONENT_LIMIT, Fault, FontFault, Why};
 
 /// The records of a glyph, and the offset after them.
@@ -25,13 +24,13 @@ struct RecordList {
 }
 
 /// The component records after the header. Errors: GlyphShort, ComponentCount, ComponentGlyph, ScaledOffset, Memory.
-fn read_records(alloc: Global, glyph: &GlyphBytes, glyphs: u16) -> Result<RecordList, FontFault>
+fn read_records(glyph: &GlyphBytes, glyphs: u16) -> Result<RecordList, FontFault>
     requires { header_size ≤ length glyph.now.bytes }
     ensures exact { FontGives records_listing result (records_of glyphs glyph.now) }
     ensures arguments { IfOk result (λ r. All HasArguments r.records.items) }
     ensures room { IfOk result (λ r. r.next ≤ length glyph.now.bytes) }
 {
-    let mut records = Vec::new(alloc);
+    let mut records = Vec::new(glyph.alloc());
     let mut next = HEADER_SIZE;
     for i in 0..COMPONENT_LIMIT {
         let part = record_at(glyph, glyphs, next)?;
@@ -83,25 +82,22 @@ fn read_program<'a>(glyph: &GlyphBytes<'a>, list: &RecordList) -> Result<Program
     })
 }
 
-/// The part of a composite glyph after its header. Errors: GlyphShort, ComponentCount, ComponentGlyph, ScaledOffset,
-/// Memory.
-#[tactic(auto, unfolding(crate::specs::Composite::composite_of))]
-pub(crate) fn read_composite<'a>(
-    alloc: Global,
-    glyph: &GlyphBytes<'a>,
-    x_min: i16,
-    glyphs: u16,
-) -> Result<Raw<'a>, FontFault>
-    requires { header_size ≤ length glyph.now.bytes }
-    ensures exact { FontGives raw_view result (composite_of glyphs glyph.now x_min) }
-    ensures arguments { IfOk result (λ r. IfComposite (raw_view r) (λ c. All HasArguments c.records)) }
-{
-    let list = read_records(alloc, glyph, glyphs)?;
-    let program = read_program(glyph, &list)?;
-    Ok(Raw::Composite {
-        x_min,
-        records: list.records,
-        code: program.code,
-        code_at: program.code_at,
-    })
+impl<'a> GlyphBytes<'a> {
+    /// The part of a composite glyph after its header. Errors: GlyphShort, ComponentCount, ComponentGlyph,
+    /// ScaledOffset, Memory.
+    #[tactic(auto, unfolding(crate::specs::Composite::composite_of))]
+    pub(crate) fn read_composite(&self, x_min: i16, glyphs: u16) -> Result<Raw<'a>, FontFault>
+        requires { header_size ≤ length self.now.bytes }
+        ensures exact { FontGives raw_view result (composite_of glyphs self.now x_min) }
+        ensures arguments { IfOk result (λ r. IfComposite (raw_view r) (λ c. All HasArguments c.records)) }
+    {
+        let list = read_records(self, glyphs)?;
+        let program = read_program(self, &list)?;
+        Ok(Raw::Composite {
+            x_min,
+            records: list.records,
+            code: program.code,
+            code_at: program.code_at,
+        })
+    }
 }

@@ -11,7 +11,6 @@ ghost use Rattle.tt_glyf.specs.Views.{run_of, held_listing};
 use crate::bytes::GlyphBytes;
 use crate::raw::RawPoint;
 use bitflags::{Flag, Flags, bitflag_items};
-use std::alloc::Global;
 use tt_core::{Fault, FontFault, Why};
 
 /// The flags of a point.
@@ -143,19 +142,14 @@ fn push_copies(points: &mut Vec<RawPoint>, point: RawPoint, n: usize)
 
 /// The flags of `count` points. Errors: GlyphShort, FlagRun, Memory.
 #[inline(never)]
-pub(crate) fn read_flags(
-    alloc: Global,
-    glyph: &GlyphBytes,
-    at: usize,
-    count: usize,
-) -> Result<FlagList, FontFault>
+pub(crate) fn read_flags(glyph: &GlyphBytes, at: usize, count: usize) -> Result<FlagList, FontFault>
     requires place { at ≤ length glyph.now.bytes }
     requires size { count < 2 ^ 32 }
     ensures exact { FontGives held_listing result (held_of glyph.now at count) }
     ensures held { IfOk result (λ l. All HoldsFlag l.points.items) }
     ensures room { IfOk result (λ l. l.next ≤ length glyph.now.bytes) }
 {
-    let mut points = Vec::with_capacity(alloc, count)?;
+    let mut points = Vec::with_capacity(glyph.alloc(), count)?;
     let mut next = at;
     let mut left = count;
     while left > 0 {

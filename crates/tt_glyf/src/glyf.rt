@@ -5,21 +5,17 @@ ghost use Rattle.tt_core.specs.Limits.{font_limit, point_limit};
 ghost use Rattle.tt_core.specs.Directory.{HasNo};
 ghost use Rattle.tt_core.specs.Outcomes.{Gives};
 ghost use Rattle.tt_glyf.specs.Bytes.{stretch_at};
-ghost use Rattle.tt_glyf.specs.Format.{header_size};
-ghost use Rattle.tt_glyf.specs.GlyphData.{glyph_in, described, glyph_data_of};
+ghost use Rattle.tt_glyf.specs.GlyphData.{glyph_in, glyph_data_of};
 ghost use Rattle.tt_glyf.specs.Loca.{glyph_tables_of, tables_with, with_glyf, glyph_offset, has_no_bytes, glyph_bytes_of, IsLocaDefect, IsRangeDefect, AreTables};
 ghost use Rattle.tt_glyf.specs.Meaning.{IfSimple, IfComposite, HasArguments, HasProgram, AreEnds, AreRecords, IsAsWritten};
 ghost use Rattle.tt_glyf.specs.Raw.{raw_view};
 ghost use Rattle.tt_core.specs.Outcomes.{FontGives, IfTold, font_fault};
 ghost use Rattle.tt_glyf.specs.Defects.{IsGlyphDefect};
-ghost use Rattle.tt_glyf.specs.Views.{header_view};
 
 use crate::bytes::GlyphBytes;
-use crate::composite::read_composite;
-use crate::header::{GlyphHeader, read_header};
+use crate::format::{HEADER_SIZE, NUMBER_OF_CONTOURS_OFFSET, X_MIN_OFFSET};
 use crate::loca::Loca;
 use crate::raw::Raw;
-use crate::simple::read_simple;
 use std::alloc::Global;
 use std::marker::Model;
 use tt_core::{Fault, FontFault, Why};
@@ -145,38 +141,27 @@ impl<'a> Glyf<'a> {
             return Ok(Raw::Empty);
         }
         let bytes = self.bytes(g)?;
-        let glyph = GlyphBytes::new(self.start(g) as usize, bytes);
-        read_glyph(alloc, &glyph, self.loca.glyphs())
+        let glyph = GlyphBytes::new(alloc, self.start(g) as usize, bytes);
+        read_glyph(&glyph, self.loca.glyphs())
     }
 }
 
 /// The glyph that bytes of glyf describe.
-fn read_glyph<'a>(alloc: Global, glyph: &GlyphBytes<'a>, glyphs: u16) -> Result<Raw<'a>, FontFault>
+#[tactic(auto, unfolding(crate::specs::GlyphData::header_of, crate::specs::GlyphData::described))]
+fn read_glyph<'a>(glyph: &GlyphBytes<'a>, glyphs: u16) -> Result<Raw<'a>, FontFault>
     ensures exact { FontGives raw_view result (glyph_in glyphs glyph.now) }
     ensures arguments { IfOk result (λ r. IfComposite (raw_view r) (λ c. All HasArguments c.records)) }
 {
-    let header = read_header(glyph)?;
-    read_described(alloc, glyph, header, glyphs)
-}
-
-/// The part of a glyph after its header.
-#[tactic(auto, unfolding(crate::specs::GlyphData::described))]
-fn read_described<'a>(
-    alloc: Global,
-    glyph: &GlyphBytes<'a>,
-    header: GlyphHeader,
-    glyphs: u16,
-) -> Result<Raw<'a>, FontFault>
-    requires { header_size ≤ length glyph.now.bytes }
-    ensures exact { FontGives raw_view result (described glyphs glyph.now (header_view header)) }
-    ensures arguments { IfOk result (λ r. IfComposite (raw_view r) (λ c. All HasArguments c.records)) }
-{
-    if header.contours < 0 {
-        return read_composite(alloc, glyph, header.x_min, glyphs);
+    if glyph.len() < HEADER_SIZE {
+        return Err(FontFault::Font(glyph.short()));
     }
-    if header.contours == 0 {
+    let contours = glyph.signed(NUMBER_OF_CONTOURS_OFFSET)?;
+    let x_min = glyph.signed(X_MIN_OFFSET)?;
+    if contours < 0 {
+        return glyph.read_composite(x_min, glyphs);
+    }
+    if contours == 0 {
         return Ok(Raw::Empty);
     }
-    let contours = usize::from(header.contours.unsigned_abs());
-    read_simple(alloc, glyph, header.x_min, contours)
+    glyph.read_simple(x_min, usize::from(contours.unsigned_abs()))
 }

@@ -9,7 +9,6 @@ mod coordinates;
 mod flags;
 mod format;
 mod glyf;
-mod header;
 pub mod laws;
 mod loca;
 mod raw;

@@ -15,7 +15,6 @@ use crate::coordinates::{read_x, read_y};
 use crate::flags::read_flags;
 use crate::format::{HEADER_SIZE, WORD_SIZE};
 use crate::raw::{Raw, RawPoint};
-use std::alloc::Global;
 use tt_core::{Fault, FontFault, POINT_LIMIT, Why};
 
 /// The end of a contour, at least the preceding end. Errors: GlyphShort, ContourOrder.
@@ -41,7 +40,7 @@ struct EndList {
 
 /// The ends of all contours. Errors: GlyphShort, ContourOrder, Memory.
 #[tactic(auto, using(crate::proofs::Contours::turn, crate::proofs::Contours::breaks, crate::proofs::Contours::done))]
-fn read_ends(alloc: Global, glyph: &GlyphBytes, contours: usize) -> Result<EndList, FontFault>
+fn read_ends(glyph: &GlyphBytes, contours: usize) -> Result<EndList, FontFault>
     requires header { header_size ≤ length glyph.now.bytes }
     requires size { contours < 2 ^ 16 }
     ensures exact { FontGives ends_listing result (ends_of glyph.now contours) }
@@ -49,7 +48,7 @@ fn read_ends(alloc: Global, glyph: &GlyphBytes, contours: usize) -> Result<EndLi
     ensures next { IfOk result (λ e. e.next ≡ end_place contours) }
     ensures room { IfOk result (λ e. e.next ≤ length glyph.now.bytes) }
 {
-    let mut ends = Vec::with_capacity(alloc, contours.min(glyph.len() / WORD_SIZE))?;
+    let mut ends = Vec::with_capacity(glyph.alloc(), contours.min(glyph.len() / WORD_SIZE))?;
     let mut before = 0;
     for i in 0..contours {
         before = end_at(glyph, HEADER_SIZE + WORD_SIZE * i, before)?;
@@ -79,63 +78,40 @@ fn point_count(glyph: &GlyphBytes, list: &EndList) -> Result<usize, Fault>
 
 /// The `count` points from an offset on, read in one list. Errors: GlyphShort, FlagRun, CoordRange, Memory.
 #[tactic(auto, unfolding(crate::specs::InPlace::placed_of))]
-fn placed_points(
-    alloc: Global,
-    glyph: &GlyphBytes,
-    at: usize,
-    count: usize,
-) -> Result<Vec<RawPoint>, FontFault>
+fn read_points(glyph: &GlyphBytes, at: usize, count: usize) -> Result<Vec<RawPoint>, FontFault>
     requires place { at ≤ length glyph.now.bytes }
     requires few { count ≤ point_limit }
-    ensures exact { FontGives (λ p. p.items) result (placed_of glyph.now at count) }
+    ensures exact { FontGives (λ p. p.items) result (points_of glyph.now at count) }
 {
-    let list = read_flags(alloc, glyph, at, count)?;
+    let list = read_flags(glyph, at, count)?;
     let mut points = list.points;
     let after_x = read_x(glyph, &mut points, list.next)?;
     read_y(glyph, &mut points, after_x)?;
     Ok(points)
 }
 
-/// The `count` points from an offset on. Errors: GlyphShort, FlagRun, CoordRange, Memory. Apart from `placed_points`
-/// (for the prover): a lemma shows that its points are those of the definition.
-fn read_points(
-    alloc: Global,
-    glyph: &GlyphBytes,
-    at: usize,
-    count: usize,
-) -> Result<Vec<RawPoint>, FontFault>
-    requires place { at ≤ length glyph.now.bytes }
-    requires few { count ≤ point_limit }
-    ensures exact { FontGives (λ p. p.items) result (points_of glyph.now at count) }
-{
-    placed_points(alloc, glyph, at, count)
-}
-
-/// The part of a simple glyph after its header. Errors: GlyphShort, ContourOrder, PointLimit, FlagRun, CoordRange,
-/// Memory.
-#[tactic(auto, unfolding(crate::specs::Simple::simple_of))]
-pub(crate) fn read_simple<'a>(
-    alloc: Global,
-    glyph: &GlyphBytes<'a>,
-    x_min: i16,
-    contours: usize,
-) -> Result<Raw<'a>, FontFault>
-    requires header { header_size ≤ length glyph.now.bytes }
-    requires some { 0 < contours }
-    requires size { contours < 2 ^ 16 }
-    ensures exact { FontGives raw_view result (simple_of glyph.now x_min contours) }
-    ensures arguments { IfOk result (λ r. IfComposite (raw_view r) (λ c. All HasArguments c.records)) }
-{
-    let list = read_ends(alloc, glyph, contours)?;
-    let count = point_count(glyph, &list)?;
-    let size = usize::from(glyph.word(list.next)?);
-    let code = glyph.slice(list.next + WORD_SIZE, size)?;
-    let points = read_points(alloc, glyph, list.next + WORD_SIZE + size, count)?;
-    Ok(Raw::Simple {
-        x_min,
-        points,
-        ends: list.ends,
-        code,
-        code_at: glyph.place(list.next + WORD_SIZE),
-    })
+impl<'a> GlyphBytes<'a> {
+    /// The part of a simple glyph after its header. Errors: GlyphShort, ContourOrder, PointLimit, FlagRun, CoordRange,
+    /// Memory.
+    #[tactic(auto, unfolding(crate::specs::Simple::simple_of))]
+    pub(crate) fn read_simple(&self, x_min: i16, contours: usize) -> Result<Raw<'a>, FontFault>
+        requires header { header_size ≤ length self.now.bytes }
+        requires some { 0 < contours }
+        requires size { contours < 2 ^ 16 }
+        ensures exact { FontGives raw_view result (simple_of self.now x_min contours) }
+        ensures arguments { IfOk result (λ r. IfComposite (raw_view r) (λ c. All HasArguments c.records)) }
+    {
+        let list = read_ends(self, contours)?;
+        let count = point_count(self, &list)?;
+        let size = usize::from(self.word(list.next)?);
+        let code = self.slice(list.next + WORD_SIZE, size)?;
+        let points = read_points(self, list.next + WORD_SIZE + size, count)?;
+        Ok(Raw::Simple {
+            x_min,
+            points,
+            ends: list.ends,
+            code,
+            code_at: self.place(list.next + WORD_SIZE),
+        })
+    }
 }
