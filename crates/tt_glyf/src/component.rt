@@ -3,10 +3,10 @@
 ghost use Rattle.std.specs.Prelude.{◌≡◌, ◌+◌, ◌*◌, ◌≤◌, length, unsigned_abs, IsTrue, IfOk, IfErr};
 ghost use Rattle.tt_core.specs.Limits.{font_limit};
 ghost use Rattle.tt_core.specs.Outcomes.{Gives};
-ghost use Rattle.tt_glyf.specs.Composite.{signed8, argument_at, arguments_at, two_scales_at, two_by_two_at, transform_at, scales_offsets, is_identity, transform_of, has_arguments_zero, asks_scaled_offset, unscaled, known_glyph, record_at};
-ghost use Rattle.tt_glyf.specs.Format.{argument_size, transform_size, record_size, word_size};
+ghost use Rattle.tt_glyf.specs.Composite.{signed8, argument_at, transform_at, scales_offsets, asks_scaled_offset, record_at};
+ghost use Rattle.tt_glyf.specs.Format.{argument_size, transform_size, record_size};
 ghost use Rattle.tt_glyf.specs.Meaning.{HasArguments, IsArgument};
-ghost use Rattle.tt_glyf.specs.Views.{arguments_of, transform_view};
+ghost use Rattle.tt_glyf.specs.Views.{transform_view};
 
 use crate::bytes::GlyphBytes;
 use crate::component_flags::{ComponentFlags, has_flag};
@@ -88,25 +88,6 @@ fn argument_at(glyph: &GlyphBytes, flags: u16, at: usize) -> Result<i32, Fault>
     }
 }
 
-#[derive(Clone, Copy)]
-struct ArgumentPair {
-    arg1: i32,
-    arg2: i32,
-}
-
-/// The two arguments of a record with these flags. Error: GlyphShort.
-#[tactic(auto, unfolding(crate::specs::Composite::arguments_at))]
-fn arguments_at(glyph: &GlyphBytes, flags: u16, at: usize) -> Result<ArgumentPair, Fault>
-    requires { at ≤ length glyph.now.bytes }
-    ensures exact { Gives arguments_of result (arguments_at glyph.now flags at) }
-    ensures bound { IfOk result (λ a. IsArgument flags a.arg1 × IsArgument flags a.arg2) }
-    ensures room { IfOk result (λ a. at + 2 * argument_size flags ≤ length glyph.now.bytes) }
-{
-    let arg1 = argument_at(glyph, flags, at)?;
-    let arg2 = argument_at(glyph, flags, at + argument_size(flags))?;
-    Ok(ArgumentPair { arg1, arg2 })
-}
-
 /// x' = xx x + xy y and y' = yx x + yy y.
 #[derive(Clone, Copy)]
 struct Transform {
@@ -116,37 +97,8 @@ struct Transform {
     yy: i16,
 }
 
-/// A transform by a scale along each axis. Error: GlyphShort.
-#[tactic(auto, unfolding(crate::specs::Composite::two_scales_at))]
-fn two_scales_at(glyph: &GlyphBytes, at: usize) -> Result<Transform, Fault>
-    ensures exact { Gives transform_view result (two_scales_at glyph.now at) }
-    ensures room { IfOk result (λ t. at + 2 * word_size ≤ length glyph.now.bytes) }
-{
-    let xx = glyph.signed(at)?;
-    let yy = glyph.signed(at + WORD_SIZE)?;
-    Ok(Transform {
-        xx,
-        yx: 0,
-        xy: 0,
-        yy,
-    })
-}
-
-/// A transform by a matrix. Error: GlyphShort.
-#[tactic(auto, unfolding(crate::specs::Composite::two_by_two_at))]
-fn two_by_two_at(glyph: &GlyphBytes, at: usize) -> Result<Transform, Fault>
-    ensures exact { Gives transform_view result (two_by_two_at glyph.now at) }
-    ensures room { IfOk result (λ t. at + 4 * word_size ≤ length glyph.now.bytes) }
-{
-    let xx = glyph.signed(at)?;
-    let yx = glyph.signed(at + WORD_SIZE)?;
-    let xy = glyph.signed(at + 2 * WORD_SIZE)?;
-    let yy = glyph.signed(at + 3 * WORD_SIZE)?;
-    Ok(Transform { xx, yx, xy, yy })
-}
-
 /// The transform of a record with these flags. Error: GlyphShort.
-#[tactic(auto, unfolding(crate::specs::Composite::transform_at))]
+#[tactic(auto, unfolding(crate::specs::Composite::transform_at, crate::specs::Composite::two_scales_at, crate::specs::Composite::two_by_two_at))]
 fn transform_at(glyph: &GlyphBytes, flags: u16, at: usize) -> Result<Transform, Fault>
     requires { at ≤ length glyph.now.bytes }
     ensures exact { Gives transform_view result (transform_at glyph.now flags at) }
@@ -162,10 +114,21 @@ fn transform_at(glyph: &GlyphBytes, flags: u16, at: usize) -> Result<Transform, 
         });
     }
     if has_flag(flags, ComponentFlags::WE_HAVE_AN_X_AND_Y_SCALE) {
-        return two_scales_at(glyph, at);
+        let xx = glyph.signed(at)?;
+        let yy = glyph.signed(at + WORD_SIZE)?;
+        return Ok(Transform {
+            xx,
+            yx: 0,
+            xy: 0,
+            yy,
+        });
     }
     if has_flag(flags, ComponentFlags::WE_HAVE_A_TWO_BY_TWO) {
-        return two_by_two_at(glyph, at);
+        let xx = glyph.signed(at)?;
+        let yx = glyph.signed(at + WORD_SIZE)?;
+        let xy = glyph.signed(at + 2 * WORD_SIZE)?;
+        let yy = glyph.signed(at + 3 * WORD_SIZE)?;
+        return Ok(Transform { xx, yx, xy, yy });
     }
     Ok(Transform {
         xx: ONE,
@@ -184,52 +147,18 @@ fn scales_offsets(flags: u16) -> bool
         && has_flag(flags, ComponentFlags::ARGS_ARE_XY_VALUES)
 }
 
-fn is_identity(part: Record) -> bool
-    ensures { result ≡ is_identity (transform_of part) }
-{
-    part.xx == ONE && part.yx == 0 && part.xy == 0 && part.yy == ONE
-}
-
-fn has_arguments_zero(part: Record) -> bool
-    ensures { result ≡ has_arguments_zero part }
-{
-    part.arg1 == 0 && part.arg2 == 0
-}
-
 /// Whether a record requests a transform of its offset, and the transform would change the offset.
 fn asks_scaled_offset(part: Record) -> bool
     ensures { result ≡ asks_scaled_offset part }
 {
-    scales_offsets(part.flags) && !is_identity(part) && !has_arguments_zero(part)
+    let is_identity = part.xx == ONE && part.yx == 0 && part.xy == 0 && part.yy == ONE;
+    let has_arguments_zero = part.arg1 == 0 && part.arg2 == 0;
+    scales_offsets(part.flags) && !is_identity && !has_arguments_zero
 }
 
-/// The record, unless it requests a transform that would change its offset. Error: ScaledOffset (profile).
-#[tactic(auto, unfolding(crate::specs::Composite::unscaled))]
-fn unscaled(glyph: &GlyphBytes, at: usize, part: Record) -> Result<Record, Fault>
-    requires { at ≤ length glyph.now.bytes }
-    ensures exact { Gives (λ r. r) result (unscaled glyph.now at part) }
-    ensures whole { IfOk result (λ r. r ≡ part) }
-{
-    if asks_scaled_offset(part) {
-        return Err(glyph.fault(at, Why::ScaledOffset));
-    }
-    Ok(part)
-}
-
-/// The glyph number, if the font has the glyph. Error: ComponentGlyph.
-#[tactic(auto, unfolding(crate::specs::Composite::known_glyph))]
-fn known_glyph(glyph: &GlyphBytes, glyphs: u16, at: usize, number: u16) -> Result<u16, Fault>
-    requires { at ≤ length glyph.now.bytes }
-    ensures exact { Gives (λ n. n) result (known_glyph glyphs glyph.now at number) }
-{
-    if number >= glyphs {
-        return Err(glyph.fault(at, Why::ComponentGlyph));
-    }
-    Ok(number)
-}
-
-/// The component record at an offset. Errors: GlyphShort, ComponentGlyph, ScaledOffset.
-#[tactic(auto, unfolding(crate::specs::Composite::record_at))]
+/// The component record at an offset. A record that requests a transform of its offset is refused, unless the transform
+/// would not change the offset (profile). Errors: GlyphShort, ComponentGlyph, ScaledOffset.
+#[tactic(auto, unfolding(crate::specs::Composite::record_at, crate::specs::Composite::known_glyph, crate::specs::Composite::arguments_at, crate::specs::Composite::unscaled))]
 pub(crate) fn record_at(glyph: &GlyphBytes, glyphs: u16, at: usize) -> Result<Record, Fault>
     requires { at ≤ length glyph.now.bytes }
     ensures exact { Gives (λ r. r) result (record_at glyphs glyph.now at) }
@@ -239,23 +168,26 @@ pub(crate) fn record_at(glyph: &GlyphBytes, glyphs: u16, at: usize) -> Result<Re
 {
     let flags = glyph.word(at)?;
     let number = glyph.word(at + GLYPH_INDEX_OFFSET)?;
-    let component = known_glyph(glyph, glyphs, at, number)?;
-    let args = arguments_at(glyph, flags, at + ARGUMENTS_OFFSET)?;
-    let t = transform_at(
-        glyph,
-        flags,
-        at + ARGUMENTS_OFFSET + 2 * argument_size(flags),
-    )?;
+    if number >= glyphs {
+        return Err(glyph.fault(at, Why::ComponentGlyph));
+    }
+    let arguments = at + ARGUMENTS_OFFSET;
+    let arg1 = argument_at(glyph, flags, arguments)?;
+    let arg2 = argument_at(glyph, flags, arguments + argument_size(flags))?;
+    let t = transform_at(glyph, flags, arguments + 2 * argument_size(flags))?;
     let part = Record {
         at: glyph.place(at),
         flags,
-        glyph: component,
-        arg1: args.arg1,
-        arg2: args.arg2,
+        glyph: number,
+        arg1,
+        arg2,
         xx: t.xx,
         yx: t.yx,
         xy: t.xy,
         yy: t.yy,
     };
-    unscaled(glyph, at, part)
+    if asks_scaled_offset(part) {
+        return Err(glyph.fault(at, Why::ScaledOffset));
+    }
+    Ok(part)
 }
