@@ -3,12 +3,12 @@
 ghost use Rattle.std.specs.Prelude.{◌≡◌, ◌≤◌, IsTrue, IfOk, IfErr, length};
 ghost use Rattle.tt_core.specs.Limits.{font_limit};
 ghost use Rattle.tt_core.specs.Outcomes.{Gives};
-ghost use Rattle.tt_metrics.specs.Head.{smallest_em, largest_em, head_in, head_of, IsBadHead, IsHeadDefect};
+ghost use Rattle.tt_metrics.specs.Head.{smallest_em, largest_em, head_in, IsBadHead};
 
-use crate::table::long_enough;
-use tt_core::{Dir, Fault, Why, u16_at, u32_at};
+use crate::table::test_length;
+use tt_core::{Fault, Why, u16_at, u32_at};
 
-const HEAD: [u8; 4] = *b"head";
+pub(crate) const HEAD: [u8; 4] = *b"head";
 
 /// The smallest unitsPerEm.
 const SMALLEST_EM: u16 = 16;
@@ -32,26 +32,16 @@ pub struct Head {
     pub loca_format: LocaFormat,
 }
 
-/// The fields of head. Errors: NoTable, TableRange, MetricsShort, HeadMagic, EmRange, LocaFormat.
-#[tactic(auto, unfolding(crate::specs::Head::head_of))]
-pub(crate) fn read_head(dir: &Dir) -> Result<Head, Fault>
-    ensures exact { Gives (λ head. head) result (head_of dir.now) }
-    ensures em_low { IfOk result (λ head. smallest_em ≤ head.units_per_em) }
-    ensures em_high { IfOk result (λ head. head.units_per_em ≤ largest_em) }
-    ensures fault { IfErr result (IsHeadDefect dir.now) }
-{
-    fields_of(dir.needed(HEAD)?)
-}
-
+/// The fields of head. Errors: MetricsShort, HeadMagic, EmRange, LocaFormat.
 #[tactic(auto, unfolding(crate::specs::Head::head_in))]
-fn fields_of(head: &[u8]) -> Result<Head, Fault>
+pub(crate) fn read_head(head: &[u8]) -> Result<Head, Fault>
     requires { length head.now ≤ font_limit }
     ensures exact { Gives (λ head. head) result (head_in head.now) }
     ensures em_low { IfOk result (λ head. smallest_em ≤ head.units_per_em) }
     ensures em_high { IfOk result (λ head. head.units_per_em ≤ largest_em) }
     ensures fault { IfErr result (IsBadHead head.now) }
 {
-    let head = long_enough(HEAD, 54, head)?;
+    test_length(HEAD, 54, head)?;
     if u32_at(head, 12).unwrap() != 0x5F0F_3CF5 {
         return Err(Fault::new(HEAD, 12, Why::HeadMagic));
     }

@@ -3,12 +3,12 @@
 ghost use Rattle.std.specs.Prelude.{◌≡◌, ◌≤◌, ◌<◌, IsTrue, IfOk, IfErr, length};
 ghost use Rattle.tt_core.specs.Limits.{font_limit};
 ghost use Rattle.tt_core.specs.Outcomes.{Gives};
-ghost use Rattle.tt_metrics.specs.Hhea.{hhea_in, hhea_of, IsBadHhea, IsHheaDefect};
+ghost use Rattle.tt_metrics.specs.Hhea.{hhea_in, IsBadHhea};
 
-use crate::table::long_enough;
-use tt_core::{Dir, Fault, Why, i16_at, u16_at};
+use crate::table::test_length;
+use tt_core::{Fault, Why, i16_at, u16_at};
 
-const HHEA: [u8; 4] = *b"hhea";
+pub(crate) const HHEA: [u8; 4] = *b"hhea";
 
 #[derive(Clone, Copy)]
 pub struct Hhea {
@@ -20,24 +20,15 @@ pub struct Hhea {
     pub long_metrics: u16,
 }
 
-/// The fields of hhea. Errors: NoTable, TableRange, MetricsShort.
-#[tactic(auto, unfolding(crate::specs::Hhea::hhea_of))]
-pub(crate) fn read_hhea(dir: &Dir) -> Result<Hhea, Fault>
-    ensures exact { Gives (λ hhea. hhea) result (hhea_of dir.now) }
-    ensures long_metrics { IfOk result (λ hhea. 0 < hhea.long_metrics) }
-    ensures fault { IfErr result (IsHheaDefect dir.now) }
-{
-    fields_of(dir.needed(HHEA)?)
-}
-
+/// The fields of hhea. Error: MetricsShort.
 #[tactic(auto, unfolding(crate::specs::Hhea::hhea_in))]
-fn fields_of(hhea: &[u8]) -> Result<Hhea, Fault>
+pub(crate) fn read_hhea(hhea: &[u8]) -> Result<Hhea, Fault>
     requires { length hhea.now ≤ font_limit }
     ensures exact { Gives (λ hhea. hhea) result (hhea_in hhea.now) }
     ensures long_metrics { IfOk result (λ hhea. 0 < hhea.long_metrics) }
     ensures fault { IfErr result (IsBadHhea hhea.now) }
 {
-    let hhea = long_enough(HHEA, 36, hhea)?;
+    test_length(HHEA, 36, hhea)?;
     let long_metrics = u16_at(hhea, 34).unwrap();
     if long_metrics == 0 {
         return Err(Fault::new(HHEA, 34, Why::MetricsShort));

@@ -1,25 +1,11 @@
 //! The horizontal metrics. Apple TrueType Reference Manual, "The 'hmtx' table".
 
-ghost use Rattle.std.specs.Prelude.{◌≡◌, ◌*◌, ◌<◌, ◌≤◌, length, IsTrue, IfOk, IfErr};
-ghost use Rattle.tt_core.specs.Limits.{font_limit};
-ghost use Rattle.tt_core.specs.Outcomes.{Gives};
-ghost use Rattle.tt_metrics.specs.Hmtx.{hmtx_of, advance_in, bearing_in, IsHmtxDefect};
+ghost use Rattle.std.specs.Prelude.{◌≡◌, ◌*◌, ◌<◌, ◌≤◌, length};
+ghost use Rattle.tt_metrics.specs.Hmtx.{advance_in, bearing_in};
 
-use crate::table::long_enough;
-use tt_core::{Dir, Fault, i16_at, u16_at};
+use tt_core::{i16_at, u16_at};
 
-const HMTX: [u8; 4] = *b"hmtx";
-
-/// The bytes of hmtx, with at least `n` pairs. Errors: NoTable, TableRange, MetricsShort.
-#[tactic(auto, unfolding(crate::specs::Hmtx::hmtx_of))]
-pub(crate) fn read_hmtx<'a>(dir: &Dir<'a>, n: u16) -> Result<&'a [u8], Fault>
-    ensures exact { Gives (λ hmtx. hmtx.now) result (hmtx_of dir.now n) }
-    ensures pairs { IfOk result (λ hmtx. 4 * n ≤ length hmtx.now) }
-    ensures size { IfOk result (λ hmtx. length hmtx.now ≤ font_limit) }
-    ensures fault { IfErr result (IsHmtxDefect dir.now n) }
-{
-    long_enough(HMTX, 4 * usize::from(n), dir.needed(HMTX)?)
-}
+pub(crate) const HMTX: [u8; 4] = *b"hmtx";
 
 /// The advance of glyph `g`, in font units.
 pub(crate) fn advance_at(hmtx: &[u8], n: u16, g: u16) -> u16

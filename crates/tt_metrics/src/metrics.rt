@@ -6,10 +6,11 @@ ghost use Rattle.tt_core.specs.Outcomes.{Gives};
 ghost use Rattle.tt_metrics.specs.Head.{smallest_em, largest_em};
 ghost use Rattle.tt_metrics.specs.Metrics.{metrics_of, units_per_em_of, loca_format_of, glyphs_of, twilight_of, storage_of, ascent_of, descent_of, advance_of, left_side_bearing_of, IsInRange, IsMetricsDefect};
 
-use crate::head::{Head, LocaFormat, read_head};
-use crate::hhea::{Hhea, read_hhea};
-use crate::hmtx::{advance_at, bearing_at, read_hmtx};
-use crate::maxp::{Maxp, read_maxp};
+use crate::head::{HEAD, Head, LocaFormat, read_head};
+use crate::hhea::{HHEA, Hhea, read_hhea};
+use crate::hmtx::{HMTX, advance_at, bearing_at};
+use crate::maxp::{MAXP, Maxp, read_maxp};
+use crate::table::test_length;
 use std::marker::Model;
 use tt_core::{Dir, Fault};
 
@@ -37,17 +38,18 @@ impl<'a> Model for Metrics<'a> {
 impl<'a> Metrics<'a> {
     /// Reads head, maxp, hhea and hmtx, in this order. Errors: NoTable, TableRange, HeadMagic,
     /// EmRange, LocaFormat, MaxpVersion, MetricsShort.
-    #[tactic(auto, unfolding(crate::specs::Metrics::metrics_of))]
+    #[tactic(auto, unfolding(crate::specs::Metrics::metrics_of, crate::specs::Head::head_of, crate::specs::Maxp::maxp_of, crate::specs::Hhea::hhea_of, crate::specs::Hmtx::hmtx_of))]
     pub fn open(dir: &Dir<'a>) -> Result<Metrics<'a>, Fault>
         ensures exact { Gives (λ m. m) result (metrics_of dir.now) }
         ensures ranges { IfOk result IsInRange }
         ensures sound { OnOk result (HasNo (IsMetricsDefect dir.now)) }
         ensures fault { IfErr result (IsMetricsDefect dir.now) }
     {
-        let head = read_head(dir)?;
-        let maxp = read_maxp(dir)?;
-        let hhea = read_hhea(dir)?;
-        let hmtx = read_hmtx(dir, hhea.long_metrics)?;
+        let head = read_head(dir.needed(HEAD)?)?;
+        let maxp = read_maxp(dir.needed(MAXP)?)?;
+        let hhea = read_hhea(dir.needed(HHEA)?)?;
+        let hmtx = dir.needed(HMTX)?;
+        test_length(HMTX, 4 * usize::from(hhea.long_metrics), hmtx)?;
         Ok(Metrics {
             head,
             maxp,

@@ -1,6 +1,6 @@
 //! A table with a least size.
 
-ghost use Rattle.std.specs.Prelude.{◌≡◌, ◌≤◌, length, IsTrue, IfOk, IfErr};
+ghost use Rattle.std.specs.Prelude.{◌≤◌, length, IsTrue, OnOk, IfErr};
 ghost use Rattle.tt_core.specs.Limits.{font_limit};
 ghost use Rattle.tt_core.specs.Faults.{is_ascii};
 ghost use Rattle.tt_core.specs.Outcomes.{Gives};
@@ -9,20 +9,15 @@ ghost use Rattle.tt_metrics.specs.Tables.{or_short, IsShort};
 use tt_core::{Fault, Why};
 
 /// Refuses a table of fewer than `least` bytes, at its length. Error: MetricsShort.
-pub(crate) fn long_enough<'a>(
-    tag: [u8; 4],
-    least: usize,
-    table: &'a [u8],
-) -> Result<&'a [u8], Fault>
+pub(crate) fn test_length(tag: [u8; 4], least: usize, table: &[u8]) -> Result<(), Fault>
     requires ascii { IsTrue (is_ascii tag) }
     requires size { length table.now ≤ font_limit }
-    ensures exact { Gives (λ t. t.now) result (or_short tag least table.now) }
-    ensures whole { IfOk result (λ t. t.now ≡ table.now) }
-    ensures long { IfOk result (λ t. least ≤ length t.now) }
+    ensures exact { Gives (λ _. table.now) result (or_short tag least table.now) }
+    ensures long { OnOk result (least ≤ length table.now) }
     ensures fault { IfErr result (IsShort tag least table.now) }
 {
     if table.len() < least {
         return Err(Fault::new(tag, table.len() as u32, Why::MetricsShort));
     }
-    Ok(table)
+    Ok(())
 }

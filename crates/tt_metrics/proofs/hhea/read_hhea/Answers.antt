@@ -3,12 +3,12 @@ use Rattle.std.specs.Prelude.{◌==◌}
 use Rattle.std.proofs.lemmas.Int.{to_z-of_z}
 use Rattle.tt_core.proofs.Numbers.{number_told, signed_told}
 use Rattle.tt_metrics.specs.Hhea.{hhea_in}
-use Rattle.tt_metrics.proofs.hhea.fields_of.Goals as goal
+use Rattle.tt_metrics.proofs.hhea.read_hhea.Goals as goal
 
 pub returns-clause-exact : goal.returns-clause-exact
 unfolding hhea_in
 returns-clause-exact c =
-    let hhea = c.in_ok-hhea.hhea.now in
+    let hhea = c.args.hhea.now in
     let long = number_told hhea 34 2 c.unwrap-long_metrics.result
     (sym c.u16_at.ensures ∙ c.unwrap-long_metrics.ensures) in
     let some : (c.unwrap-long_metrics.result == 0) ≡ false = search rules in
@@ -16,4 +16,4 @@ returns-clause-exact c =
     let descent = signed_told hhea 6 c.unwrap-2.result (sym c.i16_at-2.ensures ∙ c.unwrap-2.ensures) in
     let up : SFits w16 c.unwrap.result = search rules in
     let down : SFits w16 c.unwrap-2.result = search rules in
-    simp to_z-of_z (rw (c.in_ok-hhea.ensures.exact, long, some, ascent, descent) refl)
+    simp to_z-of_z (rw (c.in_ok-test_length.ensures.exact, long, some, ascent, descent) refl)
