@@ -23,7 +23,7 @@ struct RecordList {
     next: usize,
 }
 
-/// The component records after the header. Errors: GlyphShort, ComponentCount, ComponentGlyph, ScaledOffset, Memory.
+/// The component records after the header. Errors: those of a record, ComponentCount, Memory.
 fn read_records(glyph: &GlyphBytes, glyphs: u16) -> Result<RecordList, FontFault>
     requires { header_size ≤ length glyph.now.bytes }
     ensures exact { FontGives records_listing result (records_of glyphs glyph.now) }
@@ -83,8 +83,7 @@ fn read_program<'a>(glyph: &GlyphBytes<'a>, list: &RecordList) -> Result<Program
 }
 
 impl<'a> GlyphBytes<'a> {
-    /// The part of a composite glyph after its header. Errors: GlyphShort, ComponentCount, ComponentGlyph,
-    /// ScaledOffset, Memory.
+    /// The part of a composite glyph after its header. Errors: those of the records, GlyphShort, Memory.
     #[tactic(auto, unfolding(crate::specs::Composite::composite_of))]
     pub(crate) fn read_composite(&self, x_min: i16, glyphs: u16) -> Result<Raw<'a>, FontFault>
         requires { header_size ≤ length self.now.bytes }

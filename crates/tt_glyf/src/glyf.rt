@@ -106,9 +106,8 @@ impl<'a> Glyf<'a> {
         start == next
     }
 
-    /// The data of a glyph as in the file. Errors: GlyphRange, GlyphShort, ContourOrder, FlagRun, ComponentCount,
-    /// ComponentGlyph, ScaledOffset, PointLimit, CoordRange, Memory. Apart from `read_whole` (for the prover): the
-    /// other clauses follow from what `read_whole` gives.
+    /// The data of a glyph as in the file. Errors: GlyphRange, those of a simple glyph or of a composite, Memory. Apart
+    /// from `read_whole` (for the prover): the other clauses follow from what `read_whole` gives.
     pub fn read(&self, alloc: Global, g: u16) -> Result<Raw<'a>, FontFault>
         requires { g < self.now.glyphs }
         ensures exact { FontGives raw_view result (glyph_data_of self.now g) }

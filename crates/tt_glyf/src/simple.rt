@@ -76,7 +76,7 @@ fn point_count(glyph: &GlyphBytes, list: &EndList) -> Result<usize, Fault>
     Ok(count)
 }
 
-/// The `count` points from an offset on, read in one list. Errors: GlyphShort, FlagRun, CoordRange, Memory.
+/// The `count` points from an offset on, read in one list. Errors: those of flags and coordinates, Memory.
 #[tactic(auto, unfolding(crate::specs::InPlace::placed_of))]
 fn read_points(glyph: &GlyphBytes, at: usize, count: usize) -> Result<Vec<RawPoint>, FontFault>
     requires place { at ≤ length glyph.now.bytes }
@@ -91,7 +91,7 @@ fn read_points(glyph: &GlyphBytes, at: usize, count: usize) -> Result<Vec<RawPoi
 }
 
 impl<'a> GlyphBytes<'a> {
-    /// The part of a simple glyph after its header. Errors: GlyphShort, ContourOrder, PointLimit, FlagRun, CoordRange,
+    /// The part of a simple glyph after its header. Errors: those of the ends and the points, PointLimit, GlyphShort,
     /// Memory.
     #[tactic(auto, unfolding(crate::specs::Simple::simple_of))]
     pub(crate) fn read_simple(&self, x_min: i16, contours: usize) -> Result<Raw<'a>, FontFault>

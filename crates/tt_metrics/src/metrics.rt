@@ -36,8 +36,7 @@ impl<'a> Model for Metrics<'a> {
 }
 
 impl<'a> Metrics<'a> {
-    /// Reads head, maxp, hhea and hmtx, in this order. Errors: NoTable, TableRange, HeadMagic,
-    /// EmRange, LocaFormat, MaxpVersion, MetricsShort.
+    /// Reads head, maxp, hhea and hmtx, in this order. Errors: NoTable, TableRange, those of each table.
     #[tactic(auto, unfolding(crate::specs::Metrics::metrics_of, crate::specs::Head::head_of, crate::specs::Maxp::maxp_of, crate::specs::Hhea::hhea_of, crate::specs::Hmtx::hmtx_of))]
     pub fn open(dir: &Dir<'a>) -> Result<Metrics<'a>, Fault>
         ensures exact { Gives (λ m. m) result (metrics_of dir.now) }

@@ -10,9 +10,16 @@ use Rattle.tt_metrics.proofs.metrics.Metrics.open.Goals as goal
 pub returns-clause-exact : goal.returns-clause-exact
 unfolding metrics_of head_of maxp_of hhea_of hmtx_of
 returns-clause-exact c =
-    rw (c.in_ok-needed.ensures.exact, c.in_ok-head.ensures.exact, c.in_ok-needed-2.ensures.exact,
-      c.in_ok-maxp.ensures.exact, c.in_ok-needed-3.ensures.exact, c.in_ok-hhea.ensures.exact,
-      c.in_ok-hmtx.ensures.exact, c.in_ok-test_length.ensures.exact)
+    rw (
+      c.in_ok-needed.ensures.exact,
+      c.in_ok-head.ensures.exact,
+      c.in_ok-needed-2.ensures.exact,
+      c.in_ok-maxp.ensures.exact,
+      c.in_ok-needed-3.ensures.exact,
+      c.in_ok-hhea.ensures.exact,
+      c.in_ok-hmtx.ensures.exact,
+      c.in_ok-test_length.ensures.exact,
+    )
     refl
 
 pub returns-clause-sound : goal.returns-clause-sound
