@@ -7,7 +7,7 @@ ghost use Rattle.tt_glyf.specs.Format.{end_place, header_size, word_size};
 ghost use Rattle.tt_glyf.specs.InPlace.{placed_of};
 ghost use Rattle.tt_glyf.specs.Meaning.{HasArguments, IfComposite};
 ghost use Rattle.tt_glyf.specs.Raw.{raw_view};
-ghost use Rattle.tt_glyf.specs.Simple.{end_at, ends_of, points_within, points_of, simple_of};
+ghost use Rattle.tt_glyf.specs.Simple.{end_at, ends_of, points_of, simple_of};
 ghost use Rattle.tt_glyf.specs.Views.{ends_listing};
 
 use crate::bytes::GlyphBytes;
@@ -60,22 +60,6 @@ fn read_ends(glyph: &GlyphBytes, contours: usize) -> Result<EndList, FontFault>
     })
 }
 
-/// The number of points. Error: PointLimit, at the last contour's end.
-#[tactic(auto, unfolding(crate::specs::Simple::points_within))]
-fn point_count(glyph: &GlyphBytes, list: &EndList) -> Result<usize, Fault>
-    requires some { 0 < vec_len list.now.ends }
-    requires after { word_size ≤ list.now.next }
-    requires room { list.now.next ≤ length glyph.now.bytes }
-    ensures exact { Gives (λ n. n) result (points_within glyph.now (ends_listing list.now)) }
-    ensures few { IfOk result (λ n. n ≤ point_limit) }
-{
-    let count = usize::from(list.ends[list.ends.len() - 1]) + 1;
-    if count > POINT_LIMIT {
-        return Err(glyph.fault(list.next - WORD_SIZE, Why::PointLimit));
-    }
-    Ok(count)
-}
-
 /// The `count` points from an offset on, read in one list. Errors: those of flags and coordinates, Memory.
 #[tactic(auto, unfolding(crate::specs::InPlace::placed_of))]
 fn read_points(glyph: &GlyphBytes, at: usize, count: usize) -> Result<Vec<RawPoint>, FontFault>
@@ -93,7 +77,7 @@ fn read_points(glyph: &GlyphBytes, at: usize, count: usize) -> Result<Vec<RawPoi
 impl<'a> GlyphBytes<'a> {
     /// The part of a simple glyph after its header. Errors: those of the ends and the points, PointLimit, GlyphShort,
     /// Memory.
-    #[tactic(auto, unfolding(crate::specs::Simple::simple_of))]
+    #[tactic(auto, unfolding(crate::specs::Simple::simple_of, crate::specs::Simple::points_within))]
     pub(crate) fn read_simple(&self, x_min: i16, contours: usize) -> Result<Raw<'a>, FontFault>
         requires header { header_size ≤ length self.now.bytes }
         requires some { 0 < contours }
@@ -102,7 +86,11 @@ impl<'a> GlyphBytes<'a> {
         ensures arguments { IfOk result (λ r. IfComposite (raw_view r) (λ c. All HasArguments c.records)) }
     {
         let list = read_ends(self, contours)?;
-        let count = point_count(self, &list)?;
+        let count = usize::from(list.ends[list.ends.len() - 1]) + 1;
+        if count > POINT_LIMIT {
+            // At the last contour's end.
+            return Err(FontFault::Font(self.fault(list.next - WORD_SIZE, Why::PointLimit)));
+        }
         let size = usize::from(self.word(list.next)?);
         let code = self.slice(list.next + WORD_SIZE, size)?;
         let points = read_points(self, list.next + WORD_SIZE + size, count)?;
