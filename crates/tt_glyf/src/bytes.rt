@@ -49,8 +49,7 @@ impl<'a> GlyphBytes<'a> {
     }
 
     pub(crate) fn len(&self) -> usize
-        ensures exact { result ≡ length self.now.bytes }
-        ensures limit { self.now.start + result ≤ font_limit }
+        ensures { result ≡ length self.now.bytes }
     {
         self.bytes.len()
     }
@@ -129,7 +128,6 @@ impl<'a> GlyphBytes<'a> {
     pub(crate) fn slice(&self, at: usize, n: usize) -> Result<&'a [u8], Fault>
         ensures exact { Gives (λ b. b.now) result (slice_in self.now at n) }
         ensures room { IfOk result (λ b. at + n ≤ length self.now.bytes) }
-        ensures limit { length self.now.bytes ≤ font_limit }
     {
         if at > self.bytes.len() || self.bytes.len() - at < n {
             return Err(self.short());

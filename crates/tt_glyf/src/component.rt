@@ -71,7 +71,6 @@ fn argument_at(glyph: &GlyphBytes, flags: u16, at: usize) -> Result<i32, Fault>
     ensures exact { Gives (λ a. a) result (argument_at glyph.now flags at) }
     ensures bound { IfOk result (IsArgument flags) }
     ensures room { IfOk result (λ a. at + argument_size flags ≤ length glyph.now.bytes) }
-    ensures limit { length glyph.now.bytes ≤ font_limit }
 {
     let signed = has_flag(flags, ComponentFlags::ARGS_ARE_XY_VALUES);
     if has_flag(flags, ComponentFlags::ARG_1_AND_2_ARE_WORDS) {
