@@ -116,21 +116,18 @@ fn within_words(glyph: &GlyphBytes, sum: Sum) -> Result<Coordinate, Fault>
     }
 }
 
-/// The coordinate after the preceding one. Errors: GlyphShort, CoordRange.
-#[inline(always)]
-#[tactic(auto, unfolding(crate::specs::Coordinates::coordinate_at))]
-fn coordinate_at(
-    glyph: &GlyphBytes,
-    axis: AxisFlags,
-    flag: u8,
-    before: Coordinate,
-) -> Result<Coordinate, Fault>
-    requires { before.next ≤ length glyph.now.bytes }
-    ensures exact { Gives coordinate_of result (coordinate_at glyph.now (axis_of axis) flag (coordinate_of before)) }
-    ensures room { IfOk result (λ c. c.next ≤ length glyph.now.bytes) }
-{
-    let delta = delta_at(glyph, axis, flag, before.next)?;
-    within_words(glyph, summed(before, delta))
+impl Coordinate {
+    /// The coordinate after this one. Errors: GlyphShort, CoordRange.
+    #[inline(always)]
+    #[tactic(auto, unfolding(crate::specs::Coordinates::coordinate_at))]
+    fn after(self, glyph: &GlyphBytes, axis: AxisFlags, flag: u8) -> Result<Coordinate, Fault>
+        requires { self.next ≤ length glyph.now.bytes }
+        ensures exact { Gives coordinate_of result (coordinate_at glyph.now (axis_of axis) flag (coordinate_of self)) }
+        ensures room { IfOk result (λ c. c.next ≤ length glyph.now.bytes) }
+    {
+        let delta = delta_at(glyph, axis, flag, self.next)?;
+        within_words(glyph, summed(self, delta))
+    }
 }
 
 /// Sets the x of points that hold their flags. Returns the offset of the y deltas. Errors: GlyphShort, CoordRange.
@@ -145,7 +142,7 @@ pub(crate) fn read_x(glyph: &GlyphBytes, points: &mut [RawPoint], at: usize) -> 
 {
     let mut last = Coordinate { value: 0, next: at };
     for i in 0..points.len() {
-        last = coordinate_at(glyph, X_AXIS, held_flag(points[i]), last)?;
+        last = last.after(glyph, X_AXIS, held_flag(points[i]))?;
         points[i].x = last.value;
     }
     Ok(last.next)
@@ -162,7 +159,7 @@ pub(crate) fn read_y(glyph: &GlyphBytes, points: &mut [RawPoint], at: usize) -> 
 {
     let mut last = Coordinate { value: 0, next: at };
     for i in 0..points.len() {
-        last = coordinate_at(glyph, Y_AXIS, held_flag(points[i]), last)?;
+        last = last.after(glyph, Y_AXIS, held_flag(points[i]))?;
         points[i].y = last.value;
     }
     Ok(last.next)
