@@ -94,22 +94,19 @@ impl<'a> Ranges for Format4<'a> {
     }
 
     fn glyph_by(&self, glyphs: u16, c: usize, i: usize, reads: &mut Reads) -> u16 {
-        // startCode, idDelta and idRangeOffset are the second, third and fourth list.
-        let start = self
-            .table
-            .word(self.at + HEADER + self.list + WORD * i, reads);
+        let start_code = self.at + HEADER + self.list + WORD * i;
+        let start = self.table.word(start_code, reads);
         if c < start {
             return 0;
         }
-        let delta = self
-            .table
-            .word(self.at + HEADER + 2 * self.list + WORD * i, reads);
-        let place = self.at + HEADER + 3 * self.list + WORD * i;
-        let range_offset = self.table.word(place, reads);
+        let id_delta = self.at + HEADER + 2 * self.list + WORD * i;
+        let delta = self.table.word(id_delta, reads);
+        let id_range_offset = self.at + HEADER + 3 * self.list + WORD * i;
+        let range_offset = self.table.word(id_range_offset, reads);
         if range_offset == 0 {
             return or_missing(glyphs, (c + delta) % 65536);
         }
-        let in_array = place + range_offset + WORD * (c - start);
+        let in_array = id_range_offset + range_offset + WORD * (c - start);
         match self.table.word_if_there(in_array, reads) {
             None | Some(0) => 0,
             Some(glyph) => or_missing(glyphs, (usize::from(glyph) + delta) % 65536),
