@@ -87,8 +87,7 @@ impl<'a> Ranges for Format12<'a> {
     }
 
     fn end(&self, i: usize, reads: &mut Reads) -> usize {
-        self.table
-            .long(self.at + GROUPS + GROUP * i + END_CHAR_CODE, reads)
+        self.table.long(self.end_place(i) as usize, reads)
     }
 
     fn glyph_by(&self, glyphs: u16, c: usize, i: usize, reads: &mut Reads) -> u16 {

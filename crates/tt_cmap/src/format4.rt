@@ -90,7 +90,7 @@ impl<'a> Ranges for Format4<'a> {
     }
 
     fn end(&self, i: usize, reads: &mut Reads) -> usize {
-        self.table.word(self.at + END_CODE + WORD * i, reads)
+        self.table.word(self.end_place(i) as usize, reads)
     }
 
     fn glyph_by(&self, glyphs: u16, c: usize, i: usize, reads: &mut Reads) -> u16 {
