@@ -4,7 +4,6 @@ ghost use Rattle.std.specs.Prelude.{◌≡◌, ◌+◌, ◌*◌, ◌^◌, ◌<�
 ghost use Rattle.tt_core.specs.Limits.{point_limit};
 ghost use Rattle.tt_core.specs.Outcomes.{Gives, FontGives};
 ghost use Rattle.tt_glyf.specs.Format.{end_place, header_size, word_size};
-ghost use Rattle.tt_glyf.specs.InPlace.{placed_of};
 ghost use Rattle.tt_glyf.specs.Meaning.{HasArguments, IfComposite};
 ghost use Rattle.tt_glyf.specs.Raw.{raw_view};
 ghost use Rattle.tt_glyf.specs.Simple.{end_at, ends_of, points_of, simple_of};
