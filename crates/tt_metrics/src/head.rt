@@ -1,11 +1,6 @@
 //! The font header. Apple TrueType Reference Manual, "The 'head' table".
 
-ghost use Rattle.std.specs.Prelude.{◌≡◌, ◌≤◌, IsTrue, IfOk, IfErr, length};
-ghost use Rattle.tt_core.specs.Limits.{font_limit};
-ghost use Rattle.tt_core.specs.Outcomes.{Gives};
-ghost use Rattle.tt_metrics.specs.Head.{smallest_em, largest_em, head_in, IsBadHead};
-
-use crate::table::test_length;
+use crate::table::{Fields, test_length};
 use tt_core::{Fault, Why, u16_at, u32_at};
 
 pub(crate) const HEAD: [u8; 4] = *b"head";
@@ -32,30 +27,35 @@ pub struct Head {
     pub loca_format: LocaFormat,
 }
 
-/// The fields of head. Errors: MetricsShort, HeadMagic, EmRange, LocaFormat.
-#[tactic(auto, unfolding(crate::specs::Head::head_in))]
-pub(crate) fn read_head(head: &[u8]) -> Result<Head, Fault>
-    requires { length head.now ≤ font_limit }
-    ensures exact { Gives (λ head. head) result (head_in head.now) }
-    ensures em_low { IfOk result (λ head. smallest_em ≤ head.units_per_em) }
-    ensures em_high { IfOk result (λ head. head.units_per_em ≤ largest_em) }
-    ensures fault { IfErr result (IsBadHead head.now) }
-{
-    test_length(HEAD, 54, head)?;
-    if u32_at(head, 12).unwrap() != 0x5F0F_3CF5 {
-        return Err(Fault::new(HEAD, 12, Why::HeadMagic));
+impl Fields for Head {
+    ghost use Rattle.std.specs.Prelude.{◌≤◌};
+    ghost use Rattle.tt_metrics.specs.Head.{head_in, IsBadHead, smallest_em, largest_em};
+
+    ghost fields_in = { head_in };
+
+    ghost IsBad = { IsBadHead };
+
+    ghost HasRanges = { λ head. (smallest_em ≤ head.units_per_em) × (head.units_per_em ≤ largest_em) };
+
+    /// Errors: MetricsShort, HeadMagic, EmRange, LocaFormat.
+    #[tactic(auto, unfolding(crate::specs::Head::head_in))]
+    fn read(head: &[u8]) -> Result<Head, Fault> {
+        test_length(HEAD, 54, head)?;
+        if u32_at(head, 12).unwrap() != 0x5F0F_3CF5 {
+            return Err(Fault::new(HEAD, 12, Why::HeadMagic));
+        }
+        let units_per_em = u16_at(head, 18).unwrap();
+        if !(SMALLEST_EM..=LARGEST_EM).contains(&units_per_em) {
+            return Err(Fault::new(HEAD, 18, Why::EmRange));
+        }
+        let loca_format = match u16_at(head, 50).unwrap() {
+            0 => LocaFormat::Short,
+            1 => LocaFormat::Long,
+            _ => return Err(Fault::new(HEAD, 50, Why::LocaFormat)),
+        };
+        Ok(Head {
+            units_per_em,
+            loca_format,
+        })
     }
-    let units_per_em = u16_at(head, 18).unwrap();
-    if !(SMALLEST_EM..=LARGEST_EM).contains(&units_per_em) {
-        return Err(Fault::new(HEAD, 18, Why::EmRange));
-    }
-    let loca_format = match u16_at(head, 50).unwrap() {
-        0 => LocaFormat::Short,
-        1 => LocaFormat::Long,
-        _ => return Err(Fault::new(HEAD, 50, Why::LocaFormat)),
-    };
-    Ok(Head {
-        units_per_em,
-        loca_format,
-    })
 }

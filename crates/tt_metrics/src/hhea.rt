@@ -1,11 +1,6 @@
 //! The horizontal header. Apple TrueType Reference Manual, "The 'hhea' table".
 
-ghost use Rattle.std.specs.Prelude.{◌≡◌, ◌≤◌, ◌<◌, IsTrue, IfOk, IfErr, length};
-ghost use Rattle.tt_core.specs.Limits.{font_limit};
-ghost use Rattle.tt_core.specs.Outcomes.{Gives};
-ghost use Rattle.tt_metrics.specs.Hhea.{hhea_in, IsBadHhea};
-
-use crate::table::test_length;
+use crate::table::{Fields, test_length};
 use tt_core::{Fault, Why, i16_at, u16_at};
 
 pub(crate) const HHEA: [u8; 4] = *b"hhea";
@@ -20,22 +15,28 @@ pub struct Hhea {
     pub long_metrics: u16,
 }
 
-/// The fields of hhea. Error: MetricsShort.
-#[tactic(auto, unfolding(crate::specs::Hhea::hhea_in))]
-pub(crate) fn read_hhea(hhea: &[u8]) -> Result<Hhea, Fault>
-    requires { length hhea.now ≤ font_limit }
-    ensures exact { Gives (λ hhea. hhea) result (hhea_in hhea.now) }
-    ensures long_metrics { IfOk result (λ hhea. 0 < hhea.long_metrics) }
-    ensures fault { IfErr result (IsBadHhea hhea.now) }
-{
-    test_length(HHEA, 36, hhea)?;
-    let long_metrics = u16_at(hhea, 34).unwrap();
-    if long_metrics == 0 {
-        return Err(Fault::new(HHEA, 34, Why::MetricsShort));
+impl Fields for Hhea {
+    ghost use Rattle.std.specs.Prelude.{◌<◌};
+    ghost use Rattle.tt_metrics.specs.Hhea.{hhea_in, IsBadHhea};
+
+    ghost fields_in = { hhea_in };
+
+    ghost IsBad = { IsBadHhea };
+
+    ghost HasRanges = { λ hhea. 0 < hhea.long_metrics };
+
+    /// Error: MetricsShort.
+    #[tactic(auto, unfolding(crate::specs::Hhea::hhea_in))]
+    fn read(hhea: &[u8]) -> Result<Hhea, Fault> {
+        test_length(HHEA, 36, hhea)?;
+        let long_metrics = u16_at(hhea, 34).unwrap();
+        if long_metrics == 0 {
+            return Err(Fault::new(HHEA, 34, Why::MetricsShort));
+        }
+        Ok(Hhea {
+            ascent: i16_at(hhea, 4).unwrap(),
+            descent: i16_at(hhea, 6).unwrap(),
+            long_metrics,
+        })
     }
-    Ok(Hhea {
-        ascent: i16_at(hhea, 4).unwrap(),
-        descent: i16_at(hhea, 6).unwrap(),
-        long_metrics,
-    })
 }

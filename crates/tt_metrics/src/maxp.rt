@@ -1,11 +1,6 @@
 //! The maximum profile. Apple TrueType Reference Manual, "The 'maxp' table".
 
-ghost use Rattle.std.specs.Prelude.{◌≡◌, ◌≤◌, ◌<◌, IsTrue, IfOk, IfErr, length};
-ghost use Rattle.tt_core.specs.Limits.{font_limit};
-ghost use Rattle.tt_core.specs.Outcomes.{Gives};
-ghost use Rattle.tt_metrics.specs.Maxp.{maxp_in, IsBadMaxp};
-
-use crate::table::test_length;
+use crate::table::{Fields, test_length};
 use tt_core::{Fault, Why, u16_at, u32_at};
 
 pub(crate) const MAXP: [u8; 4] = *b"maxp";
@@ -19,26 +14,32 @@ pub struct Maxp {
     pub storage: u16,
 }
 
-/// The fields of maxp. Errors: MetricsShort, MaxpVersion.
-#[tactic(auto, unfolding(crate::specs::Maxp::maxp_in))]
-pub(crate) fn read_maxp(maxp: &[u8]) -> Result<Maxp, Fault>
-    requires { length maxp.now ≤ font_limit }
-    ensures exact { Gives (λ maxp. maxp) result (maxp_in maxp.now) }
-    ensures glyphs { IfOk result (λ maxp. 0 < maxp.glyphs) }
-    ensures fault { IfErr result (IsBadMaxp maxp.now) }
-{
-    test_length(MAXP, 4, maxp)?;
-    if u32_at(maxp, 0).unwrap() != 0x0001_0000 {
-        return Err(Fault::new(MAXP, 0, Why::MaxpVersion));
+impl Fields for Maxp {
+    ghost use Rattle.std.specs.Prelude.{◌<◌};
+    ghost use Rattle.tt_metrics.specs.Maxp.{maxp_in, IsBadMaxp};
+
+    ghost fields_in = { maxp_in };
+
+    ghost IsBad = { IsBadMaxp };
+
+    ghost HasRanges = { λ maxp. 0 < maxp.glyphs };
+
+    /// Errors: MetricsShort, MaxpVersion.
+    #[tactic(auto, unfolding(crate::specs::Maxp::maxp_in))]
+    fn read(maxp: &[u8]) -> Result<Maxp, Fault> {
+        test_length(MAXP, 4, maxp)?;
+        if u32_at(maxp, 0).unwrap() != 0x0001_0000 {
+            return Err(Fault::new(MAXP, 0, Why::MaxpVersion));
+        }
+        test_length(MAXP, 32, maxp)?;
+        let glyphs = u16_at(maxp, 4).unwrap();
+        if glyphs == 0 {
+            return Err(Fault::new(MAXP, 4, Why::MetricsShort));
+        }
+        Ok(Maxp {
+            glyphs,
+            twilight: u16_at(maxp, 16).unwrap(),
+            storage: u16_at(maxp, 18).unwrap(),
+        })
     }
-    test_length(MAXP, 32, maxp)?;
-    let glyphs = u16_at(maxp, 4).unwrap();
-    if glyphs == 0 {
-        return Err(Fault::new(MAXP, 4, Why::MetricsShort));
-    }
-    Ok(Maxp {
-        glyphs,
-        twilight: u16_at(maxp, 16).unwrap(),
-        storage: u16_at(maxp, 18).unwrap(),
-    })
 }

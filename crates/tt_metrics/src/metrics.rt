@@ -6,11 +6,11 @@ ghost use Rattle.tt_core.specs.Outcomes.{Gives};
 ghost use Rattle.tt_metrics.specs.Head.{smallest_em, largest_em};
 ghost use Rattle.tt_metrics.specs.Metrics.{metrics_of, units_per_em_of, loca_format_of, glyphs_of, twilight_of, storage_of, ascent_of, descent_of, advance_of, left_side_bearing_of, IsInRange, IsMetricsDefect};
 
-use crate::head::{HEAD, Head, LocaFormat, read_head};
-use crate::hhea::{HHEA, Hhea, read_hhea};
+use crate::head::{HEAD, Head, LocaFormat};
+use crate::hhea::{HHEA, Hhea};
 use crate::hmtx::{HMTX, advance_at, bearing_at};
-use crate::maxp::{MAXP, Maxp, read_maxp};
-use crate::table::test_length;
+use crate::maxp::{MAXP, Maxp};
+use crate::table::{Fields, test_length};
 use std::marker::Model;
 use tt_core::{Dir, Fault};
 
@@ -44,9 +44,9 @@ impl<'a> Metrics<'a> {
         ensures sound { OnOk result (HasNo (IsMetricsDefect dir.now)) }
         ensures fault { IfErr result (IsMetricsDefect dir.now) }
     {
-        let head = read_head(dir.needed(HEAD)?)?;
-        let maxp = read_maxp(dir.needed(MAXP)?)?;
-        let hhea = read_hhea(dir.needed(HHEA)?)?;
+        let head = Head::read(dir.needed(HEAD)?)?;
+        let maxp = Maxp::read(dir.needed(MAXP)?)?;
+        let hhea = Hhea::read(dir.needed(HHEA)?)?;
         let hmtx = dir.needed(HMTX)?;
         test_length(HMTX, 4 * usize::from(hhea.long_metrics), hmtx)?;
         Ok(Metrics {

@@ -1,12 +1,31 @@
-//! A table with a least size.
+//! What head, maxp and hhea have in common.
 
-ghost use Rattle.std.specs.Prelude.{◌≤◌, length, IsTrue, OnOk, IfErr};
+ghost use Rattle.std.specs.Prelude.{◌≤◌, ℕ, List, Result, length, IsTrue, IfOk, OnOk, IfErr};
 ghost use Rattle.tt_core.specs.Limits.{font_limit};
-ghost use Rattle.tt_core.specs.Faults.{is_ascii};
+ghost use Rattle.tt_core.specs.Faults.{Fault, is_ascii};
 ghost use Rattle.tt_core.specs.Outcomes.{Gives};
 ghost use Rattle.tt_metrics.specs.Tables.{or_short, IsShort};
 
 use tt_core::{Fault, Why};
+
+/// The fields of a table.
+pub(crate) trait Fields: Copy {
+    // The fields in bytes, or the first fault of the bytes.
+    ghost fields_in: { List ℕ → Result Self Fault };
+
+    // A defect of bytes.
+    ghost IsBad: { List ℕ → Fault → Type 0 };
+
+    // The ranges of the fields.
+    ghost HasRanges: { Self → Type 0 };
+
+    /// The fields in bytes of a table.
+    fn read(table: &[u8]) -> Result<Self, Fault>
+        requires { length table.now ≤ font_limit }
+        ensures exact { Gives (λ t. t) result (fields_in table.now) }
+        ensures ranges { IfOk result HasRanges }
+        ensures fault { IfErr result (IsBad table.now) };
+}
 
 /// Refuses a table of fewer than `least` bytes, at its length. Error: MetricsShort.
 pub(crate) fn test_length(tag: [u8; 4], least: usize, table: &[u8]) -> Result<(), Fault>

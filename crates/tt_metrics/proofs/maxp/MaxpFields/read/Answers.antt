@@ -2,7 +2,7 @@ use Rattle.std.proofs.Common.{◌≡◌, ◌∙◌, false, refl, sym, rules}
 use Rattle.std.specs.Prelude.{◌==◌}
 use Rattle.tt_core.proofs.Numbers.{number_told}
 use Rattle.tt_metrics.specs.Maxp.{maxp_in}
-use Rattle.tt_metrics.proofs.maxp.read_maxp.Goals as goal
+use Rattle.tt_metrics.proofs.maxp.MaxpFields.read.Goals as goal
 
 pub returns-clause-exact : goal.returns-clause-exact
 unfolding maxp_in

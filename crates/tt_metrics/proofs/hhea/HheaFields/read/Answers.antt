@@ -3,7 +3,7 @@ use Rattle.std.specs.Prelude.{◌==◌}
 use Rattle.std.proofs.lemmas.Int.{to_z-of_z}
 use Rattle.tt_core.proofs.Numbers.{number_told, signed_told}
 use Rattle.tt_metrics.specs.Hhea.{hhea_in}
-use Rattle.tt_metrics.proofs.hhea.read_hhea.Goals as goal
+use Rattle.tt_metrics.proofs.hhea.HheaFields.read.Goals as goal
 
 pub returns-clause-exact : goal.returns-clause-exact
 unfolding hhea_in

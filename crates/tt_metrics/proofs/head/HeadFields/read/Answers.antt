@@ -1,8 +1,8 @@
 use Rattle.std.proofs.Common.{◌≡◌, ◌∙◌, true, refl, sym, rules}
 use Rattle.tt_core.proofs.Numbers.{number_told}
 use Rattle.tt_metrics.specs.Head.{head_in, is_em}
-use Rattle.tt_metrics.proofs.head.read_head.Goals.{in-0, in-1}
-use Rattle.tt_metrics.proofs.head.read_head.Goals as goal
+use Rattle.tt_metrics.proofs.head.HeadFields.read.Goals.{in-0, in-1}
+use Rattle.tt_metrics.proofs.head.HeadFields.read.Goals as goal
 
 pub returns-clause-exact : goal.returns-clause-exact
 unfolding head_in
