@@ -4,7 +4,8 @@
 ghost use Rattle.std.specs.Prelude.{◌≡◌, ◌-ℤ◌, ◌<◌, ◌^◌, unsigned_abs, IfOk, IfErr};
 ghost use Rattle.tt_core.specs.Outcomes.{Gives};
 ghost use Rattle.tt_points_zones.specs.Motions as motion;
-ghost use Rattle.tt_points_zones.specs.Zones.{IsPoint, IsZones, zones_view};
+ghost use Rattle.tt_points_zones.specs.Views.{zones_view};
+ghost use Rattle.tt_points_zones.specs.Zones.{IsPoint};
 ghost use Rattle.tt_points.specs.ControlValues as is;
 ghost use Rattle.tt_points.specs.Distances as distances;
 ghost use Rattle.tt_points.specs.Pairs as pairs;
@@ -107,10 +108,8 @@ pub fn miap(
     p: i32,
     c: i32,
 ) -> Result<(), Why>
-    requires zones { IsZones (zones_view zones.old) }
     ensures exact { Gives (λ u. (zones_view zones.new, state.new)) result
         (is.miap round p c (zones_view zones.old) state.old) }
-    ensures zones { IsZones (zones_view zones.new) }
     ensures kept { IfErr result (λ why. (zones_view zones.new ≡ zones_view zones.old) × (state.new ≡ state.old)) }
 {
     let q = zones.point(state.zp0, p)?;
@@ -225,10 +224,8 @@ pub fn mirp(
     p: i32,
     c: i32,
 ) -> Result<(), Why>
-    requires zones { IsZones (zones_view zones.old) }
     ensures exact { Gives (λ u. (zones_view zones.new, state.new)) result
         (is.mirp keeping p c (zones_view zones.old) state.old) }
-    ensures zones { IsZones (zones_view zones.new) }
     ensures kept { IfErr result (λ why. (zones_view zones.new ≡ zones_view zones.old) × (state.new ≡ state.old)) }
 {
     let q = zones.point(state.zp1, p)?;

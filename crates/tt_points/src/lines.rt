@@ -5,7 +5,8 @@ ghost use Rattle.std.specs.Prelude.{◌≡◌, ◌<◌, ◌≤◌, ◌*◌, ◌^
 ghost use Rattle.tt_core.specs.Limits.{coordinate_limit};
 ghost use Rattle.tt_core.specs.Outcomes.{Gives};
 ghost use Rattle.tt_points_zones.specs.Meeting.{IsLine, IsPlace};
-ghost use Rattle.tt_points_zones.specs.Zones.{IsPoint, IsZones, zones_view};
+ghost use Rattle.tt_points_zones.specs.Views.{zones_view};
+ghost use Rattle.tt_points_zones.specs.Zones.{IsPoint};
 ghost use Rattle.tt_state.specs.Axes.{vector_of};
 ghost use Rattle.tt_points.specs.Lines as is;
 
@@ -23,7 +24,6 @@ pub struct Ends {
 
 /// Point `p1` of zone pointer 2 and point `p2` of zone pointer 1. Error: PointRange.
 fn two_points(zones: &Zones, state: &GraphicsState, p1: i32, p2: i32) -> Result<(Point, Point), Why>
-    requires { IsZones (zones_view zones.now) }
     ensures exact { Gives (λ t. t) result (is.two_points p1 p2 (zones_view zones.now) state.now) }
     ensures first { IfOk result (λ t. IsPoint t.0) }
     ensures second { IfOk result (λ t. IsPoint t.1) }
@@ -62,7 +62,6 @@ pub fn spvtl(
     p1: i32,
     p2: i32,
 ) -> Result<(), Why>
-    requires { IsZones (zones_view zones.now) }
     ensures exact { Gives (λ u. state.new) result (is.spvtl turned p1 p2 (zones_view zones.now) state.old) }
     ensures kept { IfErr result (λ why. state.new ≡ state.old) }
 {
@@ -82,7 +81,6 @@ pub fn sfvtl(
     p1: i32,
     p2: i32,
 ) -> Result<(), Why>
-    requires { IsZones (zones_view zones.now) }
     ensures exact { Gives (λ u. state.new) result (is.sfvtl turned p1 p2 (zones_view zones.now) state.old) }
     ensures kept { IfErr result (λ why. state.new ≡ state.old) }
 {
@@ -102,7 +100,6 @@ pub fn sdpvtl(
     p1: i32,
     p2: i32,
 ) -> Result<(), Why>
-    requires { IsZones (zones_view zones.now) }
     ensures exact { Gives (λ u. state.new) result (is.sdpvtl turned p1 p2 (zones_view zones.now) state.old) }
     ensures kept { IfErr result (λ why. state.new ≡ state.old) }
 {
@@ -123,7 +120,6 @@ fn place_of(q: Point) -> Place
 
 /// The line through the current places of two points of a zone. Error: PointRange, of the second point first.
 fn line_through(zones: &Zones, zone: Zone, ends: Ends) -> Result<StraightLine, Why>
-    requires { IsZones (zones_view zones.now) }
     ensures exact { Gives (λ l. l) result (is.line_through zone ends (zones_view zones.now)) }
     ensures valid { IfOk result IsLine }
 {
@@ -157,9 +153,7 @@ fn put_to(q: Point, place: Place) -> Point
 /// of these four. Errors: PointRange of b1, b0, a1, a0, p; ValueRange.
 #[tactic(auto, unfolding(crate::specs::Lines::isect))]
 pub fn isect(zones: &mut Zones, state: &GraphicsState, p: i32, a: Ends, b: Ends) -> Result<(), Why>
-    requires { IsZones (zones_view zones.old) }
     ensures exact { Gives (λ u. zones_view zones.new) result (is.isect p a b (zones_view zones.old) state.now) }
-    ensures zones { IsZones (zones_view zones.new) }
     ensures kept { IfErr result (λ why. zones_view zones.new ≡ zones_view zones.old) }
 {
     let b = line_through(zones, state.zp0, b)?;
@@ -191,9 +185,7 @@ fn opposite(d: Distance) -> Distance
 /// p1, of p2; Perpendicular, ValueRange.
 #[tactic(auto, unfolding(crate::specs::Lines::alignpts))]
 pub fn alignpts(zones: &mut Zones, state: &GraphicsState, p1: i32, p2: i32) -> Result<(), Why>
-    requires { IsZones (zones_view zones.old) }
     ensures exact { Gives (λ u. zones_view zones.new) result (is.alignpts p1 p2 (zones_view zones.old) state.now) }
-    ensures zones { IsZones (zones_view zones.new) }
     ensures kept { IfErr result (λ why. zones_view zones.new ≡ zones_view zones.old) }
 {
     let a = zones.point(state.zp1, p1)?;

@@ -5,7 +5,8 @@ ghost use Rattle.std.specs.Prelude.{◌≡◌, ◌-ℤ◌, ◌<◌, ◌≤◌, �
 ghost use Rattle.tt_core.specs.Limits.{coordinate_limit};
 ghost use Rattle.tt_core.specs.Outcomes.{Gives};
 ghost use Rattle.tt_points_zones.specs.Motions as motion;
-ghost use Rattle.tt_points_zones.specs.Zones.{IsPoint, IsZones, zones_view};
+ghost use Rattle.tt_points_zones.specs.Views.{zones_view};
+ghost use Rattle.tt_points_zones.specs.Zones.{IsPoint};
 ghost use Rattle.tt_points.specs.Measuring as is;
 
 use crate::twilight::settled_in;
@@ -25,7 +26,6 @@ pub enum Position {
 /// GC[a], 0x46 and 0x47: p -> c, the coordinate of point p of zone pointer 2. Error: PointRange.
 #[tactic(auto, unfolding(crate::specs::Measuring::gc))]
 pub fn gc(zones: &Zones, state: &GraphicsState, of: Position, p: i32) -> Result<i32, Why>
-    requires { IsZones (zones_view zones.now) }
     ensures { Gives (λ c. c) result (is.gc of p (zones_view zones.now) state.now) }
 {
     let q = zones.point(state.zp2, p)?;
@@ -54,7 +54,6 @@ pub fn md(
     p2: i32,
     p1: i32,
 ) -> Result<i32, Why>
-    requires { IsZones (zones_view zones.now) }
     ensures { Gives (λ d. d) result (is.md between p2 p1 (zones_view zones.now) state.now) }
 {
     let a = zones.point(state.zp1, p1)?;
@@ -82,9 +81,7 @@ fn short_of(v: i32, q: Point, m: &Motion) -> i64
 /// original place too (profile). Errors: PointRange, Perpendicular, ValueRange.
 #[tactic(auto, unfolding(crate::specs::Measuring::scfs))]
 pub fn scfs(zones: &mut Zones, state: &GraphicsState, p: i32, v: i32) -> Result<(), Why>
-    requires { IsZones (zones_view zones.old) }
     ensures exact { Gives (λ u. zones_view zones.new) result (is.scfs p v (zones_view zones.old) state.now) }
-    ensures zones { IsZones (zones_view zones.new) }
     ensures kept { IfErr result (λ why. zones_view zones.new ≡ zones_view zones.old) }
 {
     let q = zones.point(state.zp2, p)?;
@@ -98,9 +95,7 @@ pub fn scfs(zones: &mut Zones, state: &GraphicsState, p: i32, v: i32) -> Result<
 /// UTP[], 0x29: p -> makes point p of zone pointer 0 untouched along the freedom vector. Error: PointRange.
 #[tactic(auto, unfolding(crate::specs::Measuring::utp))]
 pub fn utp(zones: &mut Zones, state: &GraphicsState, p: i32) -> Result<(), Why>
-    requires { IsZones (zones_view zones.old) }
     ensures exact { Gives (λ u. zones_view zones.new) result (is.utp p (zones_view zones.old) state.now) }
-    ensures zones { IsZones (zones_view zones.new) }
     ensures kept { IfErr result (λ why. zones_view zones.new ≡ zones_view zones.old) }
 {
     let q = zones.point(state.zp0, p)?;

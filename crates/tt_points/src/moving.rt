@@ -5,7 +5,8 @@ ghost use Rattle.std.specs.Prelude.{◌≡◌, ◌-ℤ◌, ◌<◌, ◌≤◌, �
 ghost use Rattle.tt_core.specs.Outcomes.{Gives};
 ghost use Rattle.tt_state.specs.Rounding.{rounded};
 ghost use Rattle.tt_points_zones.specs.Motions as motion;
-ghost use Rattle.tt_points_zones.specs.Zones.{IsPoint, IsZones, zones_view};
+ghost use Rattle.tt_points_zones.specs.Views.{zones_view};
+ghost use Rattle.tt_points_zones.specs.Zones.{IsPoint};
 ghost use Rattle.tt_points.specs.Moving as is;
 ghost use Rattle.tt_points.specs.Pairs as pairs;
 
@@ -77,10 +78,8 @@ fn mdap_distance(round: bool, state: &GraphicsState, q: Point, m: &Motion) -> i6
 /// coordinate. Reference points 0 and 1 become p. Errors: PointRange, Perpendicular, ValueRange.
 #[tactic(auto, unfolding(crate::specs::Moving::mdap))]
 pub fn mdap(zones: &mut Zones, state: &mut GraphicsState, round: bool, p: i32) -> Result<(), Why>
-    requires zones { IsZones (zones_view zones.old) }
     ensures exact { Gives (λ u. (zones_view zones.new, state.new)) result
         (is.mdap round p (zones_view zones.old) state.old) }
-    ensures zones { IsZones (zones_view zones.new) }
     ensures kept { IfErr result (λ why. (zones_view zones.new ≡ zones_view zones.old) × (state.new ≡ state.old)) }
 {
     let q = zones.point(state.zp0, p)?;
@@ -125,10 +124,8 @@ pub fn msirp(
     p: i32,
     d: i32,
 ) -> Result<(), Why>
-    requires zones { IsZones (zones_view zones.old) }
     ensures exact { Gives (λ u. (zones_view zones.new, state.new)) result
         (is.msirp set_rp0 p d (zones_view zones.old) state.old) }
-    ensures zones { IsZones (zones_view zones.new) }
     ensures kept { IfErr result (λ why. (zones_view zones.new ≡ zones_view zones.old) × (state.new ≡ state.old)) }
 {
     let q = zones.point(state.zp1, p)?;
@@ -170,10 +167,8 @@ pub fn mdrp(
     keeping: Keeping,
     p: i32,
 ) -> Result<(), Why>
-    requires zones { IsZones (zones_view zones.old) }
     ensures exact { Gives (λ u. (zones_view zones.new, state.new)) result
         (is.mdrp keeping p (zones_view zones.old) state.old) }
-    ensures zones { IsZones (zones_view zones.new) }
     ensures kept { IfErr result (λ why. (zones_view zones.new ≡ zones_view zones.old) × (state.new ≡ state.old)) }
 {
     let q = zones.point(state.zp1, p)?;

@@ -1,6 +1,6 @@
 use Rattle.std.proofs.Common.{SFits, w32, rules}
 use Rattle.std.proofs.lemmas.Int.{to_z-of_z}
-use Rattle.tt_points_zones.specs.Zones.{zones_view}
+use Rattle.tt_points_zones.specs.Views.{zones_view}
 use Rattle.tt_points.specs.ControlValues.{mirp}
 use Rattle.tt_points.proofs.TwoSteps.{mirp_once}
 use Rattle.tt_points.proofs.control_values.mirp.Goals as goal

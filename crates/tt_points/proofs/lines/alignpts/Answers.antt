@@ -1,6 +1,6 @@
 use Rattle.std.proofs.Common.{SFits, w32, w64, refl, rules}
 use Rattle.std.proofs.lemmas.Int.{to_z-of_z}
-use Rattle.tt_points_zones.specs.Zones.{zones_view}
+use Rattle.tt_points_zones.specs.Views.{zones_view}
 use Rattle.tt_points.specs.Lines.{alignpts}
 use Rattle.tt_points.proofs.TwoSteps.{alignpts_once, still_there}
 use Rattle.tt_points.proofs.lines.alignpts.Goals as goal
