@@ -13,6 +13,7 @@ pub mod measuring;
 pub mod moving;
 mod pairs;
 mod twilight;
+mod unrounded;
 
 pub use distances::Keeping;
 pub use tt_points_zones::Zones;
