@@ -1,7 +1,7 @@
 //! Lines through points: vectors along them, their meeting point, and aligned points. Apple TrueType Reference Manual,
 //! "Instruction Set" (SPVTL, SFVTL, SDPVTL, ISECT, ALIGNPTS). Coordinates are in 26.6 pixels.
 
-ghost use Rattle.std.specs.Prelude.{◌≡◌, ◌<◌, ◌≤◌, ◌*◌, ◌^◌, neg_ℤ, unsigned_abs, IfOk, IfErr};
+ghost use Rattle.std.specs.Prelude.{◌≡◌, ◌<◌, ◌≤◌, ◌*◌, ◌^◌, unsigned_abs, IfOk, IfErr};
 ghost use Rattle.tt_core.specs.Limits.{coordinate_limit};
 ghost use Rattle.tt_core.specs.Outcomes.{Gives};
 ghost use Rattle.tt_points_zones.specs.Meeting.{IsLine, IsPlace};
@@ -15,21 +15,21 @@ use tt_core::Why;
 use tt_points_zones::{Distance, Motion, Place, StraightLine, Zones, may_move, met};
 use tt_state::{GraphicsState, Point, Vector, Zone};
 
-/// The numbers of the two points that a line goes through.
+/// The numbers of two points, between which a line goes or a distance is measured.
 #[derive(Clone, Copy)]
 pub struct Ends {
     pub from: i32,
     pub to: i32,
 }
 
-/// Point `p1` of zone pointer 2 and point `p2` of zone pointer 1. Error: PointRange.
-fn two_points(zones: &Zones, state: &GraphicsState, p1: i32, p2: i32) -> Result<(Point, Point), Why>
-    ensures exact { Gives (λ t. t) result (is.two_points p1 p2 (zones_view zones.now) state.now) }
+/// The ends of a line: the first is a point of zone pointer 2, the second one of zone pointer 1. Error: PointRange.
+fn two_points(zones: &Zones, state: &GraphicsState, line: Ends) -> Result<(Point, Point), Why>
+    ensures exact { Gives (λ t. t) result (is.two_points line.from line.to (zones_view zones.now) state.now) }
     ensures first { IfOk result (λ t. IsPoint t.0) }
     ensures second { IfOk result (λ t. IsPoint t.1) }
 {
-    let a = zones.point(state.zp2, p1)?;
-    let b = zones.point(state.zp1, p2)?;
+    let a = zones.point(state.zp2, line.from)?;
+    let b = zones.point(state.zp1, line.to)?;
     Ok((a, b))
 }
 
@@ -55,17 +55,12 @@ fn original_line(turned: bool, a: Point, b: Point) -> Vector
 /// from point p1 of zone pointer 2 to point p2 of zone pointer 1. With `turned`, both vectors are turned a quarter to
 /// the left. Error: PointRange.
 #[tactic(auto, unfolding(crate::specs::Lines::spvtl))]
-pub fn spvtl(
-    zones: &Zones,
-    state: &mut GraphicsState,
-    turned: bool,
-    p1: i32,
-    p2: i32,
-) -> Result<(), Why>
-    ensures exact { Gives (λ u. state.new) result (is.spvtl turned p1 p2 (zones_view zones.now) state.old) }
+pub fn spvtl(zones: &Zones, state: &mut GraphicsState, turned: bool, line: Ends) -> Result<(), Why>
+    ensures exact { Gives (λ u. state.new) result
+        (is.spvtl turned line.from line.to (zones_view zones.now) state.old) }
     ensures kept { IfErr result (λ why. state.new ≡ state.old) }
 {
-    let (a, b) = two_points(zones, state, p1, p2)?;
+    let (a, b) = two_points(zones, state, line)?;
     state.proj = current_line(turned, a, b);
     state.dual = state.proj;
     Ok(())
@@ -74,17 +69,12 @@ pub fn spvtl(
 /// SFVTL[a], 0x08 and 0x09: p2, p1 -> sets the freedom vector along SPVTL's line. With `turned`, the vector is turned a
 /// quarter to the left. Error: PointRange.
 #[tactic(auto, unfolding(crate::specs::Lines::sfvtl))]
-pub fn sfvtl(
-    zones: &Zones,
-    state: &mut GraphicsState,
-    turned: bool,
-    p1: i32,
-    p2: i32,
-) -> Result<(), Why>
-    ensures exact { Gives (λ u. state.new) result (is.sfvtl turned p1 p2 (zones_view zones.now) state.old) }
+pub fn sfvtl(zones: &Zones, state: &mut GraphicsState, turned: bool, line: Ends) -> Result<(), Why>
+    ensures exact { Gives (λ u. state.new) result
+        (is.sfvtl turned line.from line.to (zones_view zones.now) state.old) }
     ensures kept { IfErr result (λ why. state.new ≡ state.old) }
 {
-    let (a, b) = two_points(zones, state, p1, p2)?;
+    let (a, b) = two_points(zones, state, line)?;
     state.free = current_line(turned, a, b);
     Ok(())
 }
@@ -93,17 +83,12 @@ pub fn sfvtl(
 /// along the line between the original places of these points. With `turned`, both are turned a quarter to the left.
 /// Where one of the lines has no length, its vector alone becomes the x axis (profile). Error: PointRange.
 #[tactic(auto, unfolding(crate::specs::Lines::sdpvtl))]
-pub fn sdpvtl(
-    zones: &Zones,
-    state: &mut GraphicsState,
-    turned: bool,
-    p1: i32,
-    p2: i32,
-) -> Result<(), Why>
-    ensures exact { Gives (λ u. state.new) result (is.sdpvtl turned p1 p2 (zones_view zones.now) state.old) }
+pub fn sdpvtl(zones: &Zones, state: &mut GraphicsState, turned: bool, line: Ends) -> Result<(), Why>
+    ensures exact { Gives (λ u. state.new) result
+        (is.sdpvtl turned line.from line.to (zones_view zones.now) state.old) }
     ensures kept { IfErr result (λ why. state.new ≡ state.old) }
 {
-    let (a, b) = two_points(zones, state, p1, p2)?;
+    let (a, b) = two_points(zones, state, line)?;
     state.dual = original_line(turned, a, b);
     state.proj = current_line(turned, a, b);
     Ok(())
@@ -172,14 +157,6 @@ fn half(d: Distance) -> Distance
     Distance(d.0 / 2)
 }
 
-fn opposite(d: Distance) -> Distance
-    requires { unsigned_abs d.0 < 2 ^ 23 }
-    ensures exact { result.0 ≡ neg_ℤ d.0 }
-    ensures bound { unsigned_abs result.0 < 2 ^ 23 }
-{
-    Distance(-d.0)
-}
-
 /// ALIGNPTS[], 0x27: p2, p1 -> moves point p1 of zone pointer 1 and point p2 of zone pointer 0 to the middle between
 /// them, along the projection vector. Each moves by half the distance, cut toward 0 (profile). Errors: PointRange of
 /// p1, of p2; Perpendicular, ValueRange.
@@ -194,7 +171,7 @@ pub fn alignpts(zones: &mut Zones, state: &GraphicsState, p1: i32, p2: i32) -> R
     let motion = Motion::of(state);
     let h = half(motion.current_distance(a, b));
     let a = motion.moved(a, h.0)?;
-    let b = motion.moved(seen(state, p2, b, p1, a), opposite(h).0)?;
+    let b = motion.moved(seen(state, p2, b, p1, a), -h.0)?;
     zones.set(state.zp1, p1, a);
     zones.set(state.zp0, p2, b);
     Ok(())

@@ -3,7 +3,6 @@
 
 ghost use Rattle.std.specs.Prelude.{◌≡◌, ◌<◌, ◌^◌, unsigned_abs, IfOk, IfErr};
 ghost use Rattle.tt_core.specs.Outcomes.{Gives};
-ghost use Rattle.tt_points_zones.specs.Motions as motion;
 ghost use Rattle.tt_points_zones.specs.Views.{zones_view};
 ghost use Rattle.tt_points_zones.specs.Zones.{IsPoint};
 ghost use Rattle.tt_points.specs.Moving as is;
@@ -39,16 +38,14 @@ pub fn refer(state: &mut GraphicsState, rp0: bool, p: i32)
     }
 }
 
-/// MDAP's move of a point: to its rounded coordinate with `round`, otherwise 0.
+/// MDAP's move of a point with the coordinate `at`: to its rounded coordinate with `round`, otherwise 0.
 #[tactic(auto, unfolding(crate::specs::Moving::mdap_distance))]
-fn mdap_distance(round: bool, state: &GraphicsState, q: Point, m: &Motion) -> i64
-    requires { IsPoint q }
-    ensures exact { result ≡ is.mdap_distance round state.now (motion.cur m.now q) }
-    ensures bound { unsigned_abs result < 2 ^ 33 }
+fn mdap_distance(round: bool, state: &GraphicsState, at: Unrounded) -> i64
+    ensures exact { result ≡ is.mdap_distance round state.now at.distance }
+    ensures bound { unsigned_abs result < 2 ^ 34 }
 {
     if round {
-        let at = i64::from(m.cur(q));
-        state.round.round(at) - at
+        state.round.round(at.distance) - at.distance
     } else {
         0
     }
@@ -65,7 +62,10 @@ pub fn mdap(zones: &mut Zones, state: &mut GraphicsState, round: bool, p: i32) -
     let q = zones.point(state.zp0, p)?;
     may_move(state)?;
     let motion = Motion::of(state);
-    let q = motion.moved(q, mdap_distance(round, state, q, &motion))?;
+    let at = Unrounded {
+        distance: i64::from(motion.cur(q)),
+    };
+    let q = motion.moved(q, mdap_distance(round, state, at))?;
     zones.set(state.zp0, p, q);
     state.rp0 = p;
     state.rp1 = p;
