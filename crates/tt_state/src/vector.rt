@@ -7,6 +7,7 @@ ghost use Rattle.tt_core.specs.Numbers.{rounded_quotient};
 ghost use Rattle.tt_state.specs.Vectors as is;
 ghost use Rattle.tt_state.specs.Axes.{pair_of, vector_of};
 
+use crate::steps::Steps;
 use std::marker::Model;
 use tt_core::rq;
 
@@ -161,21 +162,19 @@ impl Vector {
         }
     }
 
-    /// The distances along x and along y of a distance `d` along the vector, in 26.6 pixels.
+    /// The move along x and along y, for a distance `d` along the vector.
     #[tactic(auto, unfolding(crate::specs::Vectors::along), using(crate::proofs::OnAxes::whole, crate::proofs::OnAxes::nothing))]
-    pub fn along(&self, d: i64) -> (i64, i64)
+    pub fn along(&self, d: i64) -> Steps
         requires { unsigned_abs d ≤ 2 ^ 32 }
-        ensures exact { is.pair result.0 result.1 ≡ is.along (pair_of self.now) d }
-        ensures few_x { unsigned_abs result.0 ≤ 2 ^ 32 }
-        ensures few_y { unsigned_abs result.1 ≤ 2 ^ 32 }
+        ensures { is.pair result.x result.y ≡ is.along (pair_of self.now) d }
     {
         match self {
-            Vector::X => (d, 0),
-            Vector::Y => (0, d),
-            Vector::Off(s) => (
-                rounded(product(Wide(d), s.x())),
-                rounded(product(Wide(d), s.y())),
-            ),
+            Vector::X => Steps { x: d, y: 0 },
+            Vector::Y => Steps { x: 0, y: d },
+            Vector::Off(s) => Steps {
+                x: rounded(product(Wide(d), s.x())),
+                y: rounded(product(Wide(d), s.y())),
+            },
         }
     }
 }

@@ -3,9 +3,9 @@ use Rattle.std.proofs.lemmas.Int.{to_z-of_z}
 use Rattle.tt_state.specs.Vectors.{along}
 use Rattle.tt_state.proofs.vector.Vector.along.Goals as goal
 
-pub returns-in-Off-clause-exact : goal.returns-in-Off-clause-exact
+pub returns-in-Off : goal.returns-in-Off
 unfolding along
-returns-in-Off-clause-exact c =
+returns-in-Off c =
     let d : SFits w64 c.args.d = c.ranges.d in
     let far_x : SFits w64 c.product.result = search rules in
     let far_y : SFits w64 c.product-in-Off.result = search rules in
