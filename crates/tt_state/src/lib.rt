@@ -1,6 +1,7 @@
 //! The state of the TrueType interpreter: graphics state, rounding, unit vectors, and points as programs see them.
 #![tactic(auto)]
 
+mod fine_period;
 mod graphics_state;
 pub mod laws;
 mod point;
