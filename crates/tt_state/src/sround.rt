@@ -4,6 +4,7 @@ ghost use Rattle.std.specs.Prelude.{◌≡◌, ◌+◌, ◌*◌, ◌^◌, ◌<�
 ghost use Rattle.tt_state.specs.Sround.{a_pixel, half_a_diagonal, length_of, cut_to, fine_period_of, period_of, phase_of, threshold_of, super_of, rounded_by};
 
 use crate::fine_period::FinePeriod;
+use crate::magnitude::Magnitude;
 use std::marker::Model;
 
 /// The distance between the grid lines of SROUND and S45ROUND.
@@ -122,23 +123,19 @@ impl Super {
     }
 
     /// A magnitude before it is cut.
-    fn lifted(&self, m: i64) -> i64
-        requires small { unsigned_abs m < 2 ^ 41 }
-        requires sign { pos 0 ≤ℤ m }
-        ensures exact { result ≡ (m -ℤ pos self.now.phase) +ℤ self.now.threshold }
+    fn lifted(&self, m: Magnitude) -> i64
+        ensures exact { result ≡ (m.size -ℤ pos self.now.phase) +ℤ self.now.threshold }
         ensures low { pos 0 ≤ℤ (result +ℤ pos 256) }
-        ensures high { (result +ℤ pos self.now.phase) ≤ℤ (m +ℤ pos 256) }
+        ensures high { (result +ℤ pos self.now.phase) ≤ℤ (m.size +ℤ pos 256) }
     {
-        m - i64::from(self.phase) + i64::from(self.threshold)
+        m.size - i64::from(self.phase) + i64::from(self.threshold)
     }
 
     /// A rounded magnitude, or the phase if the result would be below 0.
-    pub(crate) fn rounded(&self, m: i64) -> i64
-        requires small { unsigned_abs m < 2 ^ 41 }
-        requires sign { pos 0 ≤ℤ m }
-        ensures exact { result ≡ rounded_by self.now m }
+    pub(crate) fn rounded(&self, m: Magnitude) -> i64
+        ensures exact { result ≡ rounded_by self.now m.size }
         ensures low { pos 0 ≤ℤ result }
-        ensures high { result ≤ℤ (m +ℤ pos 256) }
+        ensures high { result ≤ℤ (m.size +ℤ pos 256) }
     {
         let phase = i64::from(self.phase);
         let rounded = cut(self.lifted(m), self.period) + phase;
