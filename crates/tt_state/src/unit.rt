@@ -8,18 +8,6 @@ ghost use Rattle.tt_state.specs.Axes.{vector_of};
 
 use crate::vector::{Vector, VectorPart, Wide, widened};
 
-/// 2^28 `s` / `l`, cut. With two divisions no product exceeds 2^59.
-fn quotient(s: u64, l: u64) -> u64
-    requires some { 0 < l }
-    requires within { s ≤ l }
-    requires small { l < 2 ^ 45 }
-    ensures exact { result ≡ 2 ^ 28 * s / l }
-    ensures bound { result ≤ 2 ^ 28 }
-{
-    let n = 16384 * s;
-    n / l * 16384 + n % l * 16384 / l
-}
-
 /// The magnitude of a part of a unit vector, in 2.14: `s` is the part's square before scaling, and `l` the vector's
 /// squared length.
 fn magnitude(s: u64, l: u64) -> u64
@@ -29,7 +17,9 @@ fn magnitude(s: u64, l: u64) -> u64
     ensures exact { result ≡ is.magnitude s l }
     ensures bound { result ≤ 16384 }
 {
-    quotient(s, l).isqrt()
+    let n = 16384 * s;
+    // This is 2^28 s / l, cut. With two divisions no product exceeds 2^59.
+    (n / l * 16384 + n % l * 16384 / l).isqrt()
 }
 
 fn square(v: Wide) -> u64
