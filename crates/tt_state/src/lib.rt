@@ -4,6 +4,7 @@
 mod fine_period;
 mod graphics_state;
 pub mod laws;
+mod leg;
 mod magnitude;
 mod point;
 mod rounding;

@@ -41,13 +41,13 @@ pub enum Vector {
 
 /// A number with room for products.
 #[derive(Clone, Copy)]
-pub(crate) struct Wide(pub(crate) i64);
+struct Wide(i64);
 
 /// A part of a unit vector, in 2.14.
 #[derive(Clone, Copy)]
 pub(crate) struct VectorPart(pub(crate) i16);
 
-pub(crate) fn widened(v: i32) -> Wide
+fn widened(v: i32) -> Wide
     ensures exact { result.0 ≡ v }
     ensures bound { unsigned_abs result.0 ≤ 2 ^ 31 }
 {
