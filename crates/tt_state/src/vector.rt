@@ -64,15 +64,6 @@ fn product(a: Wide, b: Wide) -> i64
     a.0 * b.0
 }
 
-fn total(a: i64, b: i64) -> i64
-    requires a { unsigned_abs a ≤ 2 ^ 45 }
-    requires b { unsigned_abs b ≤ 2 ^ 45 }
-    ensures exact { result ≡ a +ℤ b }
-    ensures bound { unsigned_abs result ≤ unsigned_abs a + unsigned_abs b }
-{
-    a + b
-}
-
 /// A product with parts of a unit vector, rounded from 14 fractional bits to a whole number.
 fn rounded(n: i64) -> i64
     requires { unsigned_abs n ≤ 2 ^ 46 }
@@ -104,7 +95,7 @@ impl Slope {
         ensures exact { result ≡ (x.0 *ℤ self.now.x) +ℤ (y.0 *ℤ self.now.y) }
         ensures bound { unsigned_abs result ≤ 16384 * (unsigned_abs x.0 + unsigned_abs y.0) }
     {
-        total(product(x, self.x()), product(y, self.y()))
+        product(x, self.x()) + product(y, self.y())
     }
 }
 
