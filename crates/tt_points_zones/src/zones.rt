@@ -1,11 +1,10 @@
 //! The zones. Apple TrueType Reference Manual, "Instructing TrueType Glyphs" (zones) and "Graphics State" (zone
 //! pointers).
 
-ghost use Rattle.std.specs.Prelude.{◌≡◌, ◌<◌, ◌≤ℤ◌, pos, unsigned_abs, length, slice_set, All, IfOk, IfSome};
+ghost use Rattle.std.specs.Prelude.{◌≡◌, length, All, IfOk, IfSome};
 ghost use Rattle.std.proofs.Props.{props};
 ghost use Rattle.tt_core.specs.Outcomes.{Gives};
 ghost use Rattle.tt_core.specs.Scales.{IsScale};
-ghost use Rattle.tt_points_zones.specs.Points as is;
 ghost use Rattle.tt_points_zones.specs.Zones.{AreContours, AreContours-prop, IsPoint, in_pixels};
 
 use std::alloc::AllocError;
@@ -49,7 +48,7 @@ pub struct Zones {
 
 impl Zones {
     ghost use Rattle.tt_points_zones.specs.Originals.{scale_between};
-    ghost use Rattle.tt_points_zones.specs.Points.{HasPoint, points_in, point_in, with_point};
+    ghost use Rattle.tt_points_zones.specs.Points.{HasPoint, has_point, points_in, point_in, with_point};
     ghost use Rattle.tt_points_zones.specs.Views.{zones_view};
 
     /// A copy in memory of its own.
@@ -80,12 +79,16 @@ impl Zones {
         ensures valid { IfOk result IsPoint }
         ensures there { IfOk result (λ p. HasPoint zone n (zones_view self.now)) }
     {
-        point_at(self.points(zone), n)
+        let points = self.points(zone);
+        if n < 0 || n as usize >= points.len() {
+            return Err(Why::PointRange);
+        }
+        Ok(points[n as usize])
     }
 
     /// Whether a zone has a point with number `n`.
     pub fn has(&self, zone: Zone, n: i32) -> bool
-        ensures { result ≡ is.has_point zone n (zones_view self.now) }
+        ensures { result ≡ has_point zone n (zones_view self.now) }
     {
         self.point(zone, n).is_ok()
     }
@@ -109,34 +112,8 @@ impl Zones {
         ensures exact { zones_view self.new ≡ with_point zone n p (zones_view self.old) }
     {
         match zone {
-            Zone::Twilight => set_at(&mut self.twilight, n, p),
-            Zone::Glyph => set_at(&mut self.glyph, n, p),
+            Zone::Twilight => self.twilight[n as usize] = p,
+            Zone::Glyph => self.glyph[n as usize] = p,
         }
     }
-}
-
-/// The point with number `n`. Error: PointRange.
-fn point_at(points: &[Point], n: i32) -> Result<Point, Why>
-    requires { All IsPoint points.now }
-    ensures exact { Gives (λ p. p) result (is.point_at n points.now) }
-    ensures valid { IfOk result IsPoint }
-    ensures sign { IfOk result (λ p. pos 0 ≤ℤ n) }
-    ensures within { IfOk result (λ p. unsigned_abs n < length points.now) }
-{
-    if n < 0 || n as usize >= points.len() {
-        return Err(Why::PointRange);
-    }
-    Ok(points[n as usize])
-}
-
-fn set_at(points: &mut [Point], n: i32, p: Point)
-    requires points { All IsPoint points.old }
-    requires sign { pos 0 ≤ℤ n }
-    requires within { unsigned_abs n < length points.old }
-    requires point { IsPoint p }
-    ensures exact { points.new ≡ slice_set points.old (unsigned_abs n) p }
-    ensures valid { All IsPoint points.new }
-    ensures count { length points.new ≡ length points.old }
-{
-    points[n as usize] = p;
 }
