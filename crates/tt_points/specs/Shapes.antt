@@ -127,7 +127,7 @@ isect_kept p a b z g =
     whatever (SameShape z) (line_through g.zp0 b z) _ (λ other.
     whatever (SameShape z) (line_through g.zp1 a z) _ (λ one.
     whatever (SameShape z) (point_in g.zp2 p z) _ (λ q.
-    whatever (SameShape z) (met one.from one.to other.from other.to) _ (λ place.
+    whatever (SameShape z) (met (one.0) (one.1) (other.0) (other.1)) _ (λ place.
     put_one g.zp2 p (put_to place q) z))))
 
 move_by_kept : (zone : Zone) (p : ℤ) (m : Motion) (d : ℤ) (z : ZoneLists) → KeepsShape z (move_by zone p m d z)

@@ -4,7 +4,7 @@
 ghost use Rattle.std.specs.Prelude.{◌≡◌, ◌<◌, ◌≤◌, ◌*◌, ◌^◌, unsigned_abs, IfOk, IfErr};
 ghost use Rattle.tt_core.specs.Limits.{coordinate_limit};
 ghost use Rattle.tt_core.specs.Outcomes.{Gives};
-ghost use Rattle.tt_points_zones.specs.Meeting.{IsLine, IsPlace};
+ghost use Rattle.tt_points_zones.specs.Meeting.{IsPlace};
 ghost use Rattle.tt_points_zones.specs.Views.{zones_view};
 ghost use Rattle.tt_points_zones.specs.Zones.{IsPoint};
 ghost use Rattle.tt_state.specs.Axes.{vector_of};
@@ -105,8 +105,7 @@ fn place_of(q: Point) -> Place
 
 /// The line through the current places of two points of a zone. Error: PointRange, of the second point first.
 fn line_through(zones: &Zones, zone: Zone, ends: Ends) -> Result<StraightLine, Why>
-    ensures exact { Gives (λ l. l) result (is.line_through zone ends (zones_view zones.now)) }
-    ensures valid { IfOk result IsLine }
+    ensures { Gives (λ l. (l.from, l.to)) result (is.line_through zone ends (zones_view zones.now)) }
 {
     let to = zones.point(zone, ends.to)?;
     let from = zones.point(zone, ends.from)?;
