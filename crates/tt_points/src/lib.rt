@@ -8,6 +8,7 @@
 pub mod control_values;
 mod distances;
 pub mod laws;
+mod line_points;
 pub mod lines;
 pub mod measuring;
 pub mod moving;

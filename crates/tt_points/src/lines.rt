@@ -1,54 +1,25 @@
 //! Lines through points: vectors along them, their meeting point, and aligned points. Apple TrueType Reference Manual,
 //! "Instruction Set" (SPVTL, SFVTL, SDPVTL, ISECT, ALIGNPTS). Coordinates are in 26.6 pixels.
 
-ghost use Rattle.std.specs.Prelude.{◌≡◌, ◌<◌, ◌≤◌, ◌*◌, ◌^◌, unsigned_abs, IfOk, IfErr};
+ghost use Rattle.std.specs.Prelude.{◌≡◌, ◌<◌, ◌≤◌, ◌*◌, ◌^◌, unsigned_abs, IfErr};
 ghost use Rattle.tt_core.specs.Limits.{coordinate_limit};
 ghost use Rattle.tt_core.specs.Outcomes.{Gives};
 ghost use Rattle.tt_points_zones.specs.Meeting.{IsPlace};
 ghost use Rattle.tt_points_zones.specs.Views.{zones_view};
 ghost use Rattle.tt_points_zones.specs.Zones.{IsPoint};
-ghost use Rattle.tt_state.specs.Axes.{vector_of};
 ghost use Rattle.tt_points.specs.Lines as is;
 
+use crate::line_points::LinePoints;
 use crate::pairs::seen;
 use tt_core::Why;
 use tt_points_zones::{Distance, Motion, Place, StraightLine, Zones, may_move, met};
-use tt_state::{GraphicsState, Point, Vector, Zone};
+use tt_state::{GraphicsState, Point, Zone};
 
 /// The numbers of two points, between which a line goes or a distance is measured.
 #[derive(Clone, Copy)]
 pub struct Ends {
     pub from: i32,
     pub to: i32,
-}
-
-/// The ends of a line: the first is a point of zone pointer 2, the second one of zone pointer 1. Error: PointRange.
-fn two_points(zones: &Zones, state: &GraphicsState, line: Ends) -> Result<(Point, Point), Why>
-    ensures exact { Gives (λ t. t) result (is.two_points line.from line.to (zones_view zones.now) state.now) }
-    ensures first { IfOk result (λ t. IsPoint t.0) }
-    ensures second { IfOk result (λ t. IsPoint t.1) }
-{
-    let a = zones.point(state.zp2, line.from)?;
-    let b = zones.point(state.zp1, line.to)?;
-    Ok((a, b))
-}
-
-/// The unit vector of the line from `a` to `b`, by their current places. With `turned`, a quarter turn to the left.
-fn current_line(turned: bool, a: Point, b: Point) -> Vector
-    requires a { IsPoint a }
-    requires b { IsPoint b }
-    ensures { result ≡ is.current_line turned a b }
-{
-    Vector::line((a.x, a.y), (b.x, b.y), turned)
-}
-
-/// The unit vector of the line from `a` to `b`, by their original places.
-fn original_line(turned: bool, a: Point, b: Point) -> Vector
-    requires a { IsPoint a }
-    requires b { IsPoint b }
-    ensures { result ≡ is.original_line turned a b }
-{
-    Vector::line((a.org_x, a.org_y), (b.org_x, b.org_y), turned)
 }
 
 /// SPVTL[a], 0x06 and 0x07: p2, p1 -> sets the projection and the dual projection vector along a line. The line goes
@@ -60,8 +31,8 @@ pub fn spvtl(zones: &Zones, state: &mut GraphicsState, turned: bool, line: Ends)
         (is.spvtl turned line.from line.to (zones_view zones.now) state.old) }
     ensures kept { IfErr result (λ why. state.new ≡ state.old) }
 {
-    let (a, b) = two_points(zones, state, line)?;
-    state.proj = current_line(turned, a, b);
+    let points = LinePoints::of(zones, state, line)?;
+    state.proj = points.current(turned);
     state.dual = state.proj;
     Ok(())
 }
@@ -74,8 +45,8 @@ pub fn sfvtl(zones: &Zones, state: &mut GraphicsState, turned: bool, line: Ends)
         (is.sfvtl turned line.from line.to (zones_view zones.now) state.old) }
     ensures kept { IfErr result (λ why. state.new ≡ state.old) }
 {
-    let (a, b) = two_points(zones, state, line)?;
-    state.free = current_line(turned, a, b);
+    let points = LinePoints::of(zones, state, line)?;
+    state.free = points.current(turned);
     Ok(())
 }
 
@@ -88,9 +59,9 @@ pub fn sdpvtl(zones: &Zones, state: &mut GraphicsState, turned: bool, line: Ends
         (is.sdpvtl turned line.from line.to (zones_view zones.now) state.old) }
     ensures kept { IfErr result (λ why. state.new ≡ state.old) }
 {
-    let (a, b) = two_points(zones, state, line)?;
-    state.dual = original_line(turned, a, b);
-    state.proj = current_line(turned, a, b);
+    let points = LinePoints::of(zones, state, line)?;
+    state.dual = points.original(turned);
+    state.proj = points.current(turned);
     Ok(())
 }
 

@@ -5,4 +5,4 @@ use Rattle.tt_points.proofs.lines.sfvtl.Goals as goal
 pub returns-clause-exact : goal.returns-clause-exact
 unfolding sfvtl
 returns-clause-exact c =
-    rw (c.in_ok-a.ensures.exact, c.current_line-state.ensures) refl
+    rw (c.in_ok-points.ensures, c.current-state.ensures) refl
