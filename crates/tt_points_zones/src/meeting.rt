@@ -65,6 +65,7 @@ fn are_parallel(a: Way, b: Way) -> bool
     19 * cross(a, b).unsigned_abs() <= dot(a, b).unsigned_abs()
 }
 
+/// `n / d` rounded to the nearest whole number, a half upwards. It may exceed 64 bits.
 fn long_nearest(n: i128, d: i128) -> i128
     requires numerator { unsigned_abs n < 2 ^ 69 }
     requires denominator { unsigned_abs d < 2 ^ 47 }
@@ -75,21 +76,6 @@ fn long_nearest(n: i128, d: i128) -> i128
     (2 * n + d).div_euclid(2 * d)
 }
 
-/// `n / d` rounded to the nearest whole number, a half upwards. It may exceed 64 bits.
-fn long_rq(n: i128, d: i128) -> i128
-    requires numerator { unsigned_abs n < 2 ^ 69 }
-    requires denominator { unsigned_abs d < 2 ^ 47 }
-    requires nonzero { d ≢ pos 0 }
-    ensures exact { result ≡ rounded_quotient n d }
-    ensures few { unsigned_abs result ≤ unsigned_abs n }
-{
-    if d < 0 {
-        long_nearest(-n, -d)
-    } else {
-        long_nearest(n, d)
-    }
-}
-
 /// A fraction of a way's length along an axis. Its numerator times the length may exceed 64 bits.
 fn part_of(way: Distance, part: Fraction) -> i128
     requires { unsigned_abs way.0 < 2 ^ 22 }
@@ -97,7 +83,12 @@ fn part_of(way: Distance, part: Fraction) -> i128
     ensures few { unsigned_abs result < 2 ^ 69 }
 {
     let n = i128::from(part.n) * i128::from(way.0);
-    long_rq(n, i128::from(part.d))
+    let d = i128::from(part.d);
+    if d < 0 {
+        long_nearest(-n, -d)
+    } else {
+        long_nearest(n, d)
+    }
 }
 
 /// The place at a fraction of a way from `from`.
