@@ -44,20 +44,6 @@ pub(crate) fn settled_in(zone: Zone, p: Point) -> Point
     }
 }
 
-/// The point `p` at the original place of `r`.
-fn at_original(p: Point, r: Point) -> Point
-    requires p { IsPoint p }
-    requires r { IsPoint r }
-    ensures exact { result ≡ record p { x = r.org_x; y = r.org_y } }
-    ensures valid { IsPoint result }
-{
-    Point {
-        x: r.org_x,
-        y: r.org_y,
-        ..p
-    }
-}
-
 /// A point moved by the distance `d` along a vector, without a touch. Error: ValueRange.
 fn further(p: Point, m: &Motion, along: AlongVector, d: Unrounded) -> Result<Point, Why>
     requires { IsPoint p }
@@ -87,7 +73,14 @@ pub(crate) fn placed_in(
     ensures valid { IfOk result IsPoint }
 {
     match zone {
-        Zone::Twilight => Ok(settled(further(at_original(p, r), m, along, d)?)),
+        Zone::Twilight => {
+            let p = Point {
+                x: r.org_x,
+                y: r.org_y,
+                ..p
+            };
+            Ok(settled(further(p, m, along, d)?))
+        }
         Zone::Glyph => Ok(p),
     }
 }
