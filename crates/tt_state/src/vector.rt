@@ -170,25 +170,17 @@ impl Vector {
     }
 }
 
-/// A usable dot product: 1 if its magnitude is below a sixteenth, so that points do not fly off (profile).
-fn counted(whole: i64) -> i32
-    requires { unsigned_abs whole ≤ 32768 }
-    ensures exact { result ≡ is.counted whole }
-    ensures low { 1024 ≤ unsigned_abs result }
-    ensures high { unsigned_abs result ≤ 32768 }
-{
-    if whole.unsigned_abs() < 1024 {
-        16384
-    } else {
-        whole as i32
-    }
-}
-
-/// The length of the freedom vector along the projection vector, in 2.14.
+/// The length of the freedom vector along the projection vector, in 2.14. It is 1 if its magnitude is below a
+/// sixteenth, so that points do not fly off (profile).
 pub fn dot(projection: Vector, freedom: Vector) -> i32
     ensures exact { result ≡ is.dot (pair_of projection) (pair_of freedom) }
     ensures low { 1024 ≤ unsigned_abs result }
     ensures high { unsigned_abs result ≤ 32768 }
 {
-    counted(projection.project(freedom.x(), freedom.y()))
+    let whole = projection.project(freedom.x(), freedom.y());
+    if whole.unsigned_abs() < 1024 {
+        16384
+    } else {
+        whole as i32
+    }
 }
