@@ -4,9 +4,9 @@
 mod fine_period;
 mod graphics_state;
 pub mod laws;
-mod leg;
 mod magnitude;
 mod point;
+mod reach;
 mod rounding;
 mod sround;
 mod steps;

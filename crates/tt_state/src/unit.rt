@@ -6,7 +6,7 @@ ghost use Rattle.tt_core.specs.Limits.{coordinate_limit};
 ghost use Rattle.tt_state.specs.Vectors as is;
 ghost use Rattle.tt_state.specs.Axes.{vector_of};
 
-use crate::leg::Leg;
+use crate::reach::Reach;
 use crate::vector::{Vector, VectorPart};
 
 /// The magnitude of a part of a unit vector, in 2.14: `s` is the part's square before scaling, and `l` the vector's
@@ -23,30 +23,30 @@ fn magnitude(s: u64, l: u64) -> u64
     (n / l * 16384 + n % l * 16384 / l).isqrt()
 }
 
-fn square(leg: Leg) -> u64
-    ensures exact { result ≡ is.square leg.length }
+fn square(reach: Reach) -> u64
+    ensures exact { result ≡ is.square reach.length }
     ensures bound { result < 2 ^ 44 }
 {
-    let m = leg.length.unsigned_abs();
+    let m = reach.length.unsigned_abs();
     m * m
 }
 
 /// A part of a unit vector, in a direction with the squared length `l`.
-fn part_of(leg: Leg, l: u64) -> VectorPart
+fn part_of(reach: Reach, l: u64) -> VectorPart
     requires some { 0 < l }
-    requires within { is.square leg.length ≤ l }
+    requires within { is.square reach.length ≤ l }
     requires few { l < 2 ^ 45 }
-    ensures { result.0 ≡ is.part leg.length l }
+    ensures { result.0 ≡ is.part reach.length l }
 {
-    let m = magnitude(square(leg), l) as i16;
-    if leg.length < 0 {
+    let m = magnitude(square(reach), l) as i16;
+    if reach.length < 0 {
         VectorPart(-m)
     } else {
         VectorPart(m)
     }
 }
 
-fn unit_of(x: Leg, y: Leg) -> Vector
+fn unit_of(x: Reach, y: Reach) -> Vector
     ensures { result ≡ vector_of (is.unit x.length y.length) }
 {
     let l = square(x) + square(y);
@@ -56,21 +56,21 @@ fn unit_of(x: Leg, y: Leg) -> Vector
     Vector::of(part_of(x, l), part_of(y, l))
 }
 
-fn difference(from: i32, to: i32) -> Leg
+fn difference(from: i32, to: i32) -> Reach
     requires from { unsigned_abs from ≤ coordinate_limit }
     requires to { unsigned_abs to ≤ coordinate_limit }
     ensures { result.length ≡ to -ℤ from }
 {
-    Leg {
+    Reach {
         length: i64::from(to) - i64::from(from),
     }
 }
 
-fn negated(leg: Leg) -> Leg
-    ensures { result.length ≡ neg_ℤ leg.length }
+fn negated(reach: Reach) -> Reach
+    ensures { result.length ≡ neg_ℤ reach.length }
 {
-    Leg {
-        length: -leg.length,
+    Reach {
+        length: -reach.length,
     }
 }
 
@@ -81,10 +81,10 @@ impl Vector {
         requires y { unsigned_abs y ≤ 2 * coordinate_limit }
         ensures { result ≡ vector_of (is.unit x y) }
     {
-        let x = Leg {
+        let x = Reach {
             length: i64::from(x),
         };
-        let y = Leg {
+        let y = Reach {
             length: i64::from(y),
         };
         unit_of(x, y)
