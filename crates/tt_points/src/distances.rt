@@ -52,12 +52,11 @@ pub(crate) fn single_width(state: &GraphicsState, d: Unrounded) -> Unrounded
 {
     let width = magnitude(i64::from(state.single_width));
     if apart(magnitude(d.distance), width) < i64::from(state.single_cut_in) {
-        Unrounded {
+        return Unrounded {
             distance: signed(d.distance, width),
-        }
-    } else {
-        d
+        };
     }
+    d
 }
 
 /// The distance `e`, at least the minimum distance from 0 on the side of `d`.
@@ -107,12 +106,11 @@ pub(crate) fn flipped(state: &GraphicsState, d: Unrounded, c: Unrounded) -> Unro
     ensures { result.distance ≡ is.flipped state.now d.distance c.distance }
 {
     if state.auto_flip && is_opposite(d.distance, c.distance) {
-        Unrounded {
+        return Unrounded {
             distance: -c.distance,
-        }
-    } else {
-        c
+        };
     }
+    c
 }
 
 /// The control value `c`, or the measured distance `d` if they differ by more than the cut-in.

@@ -210,15 +210,14 @@ impl Motion {
     {
         laws::on_axes();
         match (self.proj, self.free) {
-            (Vector::X, Vector::X) => Steps { x: d, y: 0 },
-            (Vector::Y, Vector::Y) => Steps { x: 0, y: d },
-            _ => {
-                let whole = dot(self.proj, self.free);
-                Steps {
-                    x: step(d, self.free.x(), whole),
-                    y: step(d, self.free.y(), whole),
-                }
-            }
+            (Vector::X, Vector::X) => return Steps { x: d, y: 0 },
+            (Vector::Y, Vector::Y) => return Steps { x: 0, y: d },
+            _ => {}
+        }
+        let whole = dot(self.proj, self.free);
+        Steps {
+            x: step(d, self.free.x(), whole),
+            y: step(d, self.free.y(), whole),
         }
     }
 

@@ -69,11 +69,13 @@ fn fine_period_of(grid: GridPeriod, byte: u8) -> FinePeriod
     ensures { result.length ≡ fine_period_of (length_of grid) byte }
 {
     let grid = grid.length();
-    match byte / 64 {
-        0 => FinePeriod { length: grid / 2 },
-        2 => FinePeriod { length: 2 * grid },
-        _ => FinePeriod { length: grid },
+    if byte / 64 == 0 {
+        return FinePeriod { length: grid / 2 };
     }
+    if byte / 64 == 2 {
+        return FinePeriod { length: 2 * grid };
+    }
+    FinePeriod { length: grid }
 }
 
 /// The phase, from bits 5 and 4: quarters of the period.

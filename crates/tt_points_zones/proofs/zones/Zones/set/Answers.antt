@@ -7,7 +7,7 @@ use Rattle.tt_points_zones.proofs.zones.Zones.set.Goals as goal
 pub returns-in-Twilight : goal.returns-in-Twilight
 returns-in-Twilight c =
     let n : SFits w32 c.args.n = c.ranges.n in
-    rw c.in-Twilight.is (simp to_z-of_z)
+    record { exact = rw c.in-Twilight.is (simp to_z-of_z) }
 
 pub invariant_of-self-in-Twilight-clause-twilight_points : goal.invariant_of-self-in-Twilight-clause-twilight_points
 invariant_of-self-in-Twilight-clause-twilight_points c =
