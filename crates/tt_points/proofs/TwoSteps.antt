@@ -19,8 +19,8 @@ use Rattle.tt_points.specs.ControlValues.{mirp_distance, chosen_from, mirp}
 use Rattle.tt_points.specs.Distances.{single_width}
 use Rattle.tt_points.specs.Lines.{half, move_by, alignpts}
 use Rattle.tt_points.specs.Moving.{kept, referred, kept_from, msirp}
-use Rattle.tt_points.specs.Pairs.{seen, placed_in, placed_and_kept, chosen_between, placed_and_chosen}
-use Rattle.tt_points.specs.Twilight.{made, placed}
+use Rattle.tt_points.specs.Pairs.{seen}
+use Rattle.tt_points.specs.Twilight.{made, placed, placed_in}
 use Rattle.tt_points.specs.declared.twilight.AlongVector.{AlongVector}
 use Rattle.tt_points.specs.declared.twilight.AlongVector.TheVariants as along
 
@@ -108,22 +108,28 @@ placed_once zone.Glyph o by m p d n z q r f g was there =
 pub msirp_once : (set_rp0 : Bool) (p d : ℤ) (z : ZoneLists) (g : GraphicsState) (q r : Point) (m : Motion)
     → point_in g.zp1 p z ≡ Ok q → point_in g.zp0 g.rp0 z ≡ Ok r → direction g ≡ Ok m
     → msirp set_rp0 p d z g
-    ≡ put_before g.zp1 p z (referred set_rp0 p g) (placed_and_kept g p m d q r)
-unfolding msirp kept_from placed_and_kept
+    ≡ put_before g.zp1 p z (referred set_rp0 p g)
+    (placed_in g.zp1 along.Projection m d r q >>= λ a. kept m d a (seen g.zp0 g.rp0 r g.zp1 p a))
+unfolding msirp kept_from
 msirp_once set_rp0 p d z g q r m was there way =
     rw (was, there, way)
     (placed_once g.zp1 g.zp0 along.Projection m p d g.rp0 z q r (kept m d) (referred set_rp0 p g) was there)
 
+-- a point moved to the distance from another that a control value gives
+abbrev pub chosen_at : Keeping → GraphicsState → Motion → ℤ → Point → Point → Result Point Why
+chosen_at k g m c q r = kept m (mirp_distance k g (original_distance m r q) c) q r
+
 pub mirp_once : (k : Keeping) (p c : ℤ) (z : ZoneLists) (g : GraphicsState) (q r : Point) (m : Motion)
     → point_in g.zp1 p z ≡ Ok q → point_in g.zp0 g.rp0 z ≡ Ok r → direction g ≡ Ok m
     → mirp k p c z g
-    ≡ put_before g.zp1 p z (referred k.set_rp0 p g) (placed_and_chosen k g p m (single_width g c) q r)
-unfolding mirp chosen_from placed_and_chosen chosen_between
+    ≡ put_before g.zp1 p z (referred k.set_rp0 p g)
+    (placed_in g.zp1 along.Freedom m (single_width g c) r q >>= λ a.
+    chosen_at k g m (single_width g c) a (seen g.zp0 g.rp0 r g.zp1 p a))
+unfolding mirp chosen_from
 mirp_once k p c z g q r m was there way =
     rw (was, there, way)
     (placed_once g.zp1 g.zp0 along.Freedom m p (single_width g c) g.rp0 z q r
-    (λ a b. kept m (mirp_distance k g (original_distance m b a) (single_width g c)) a b) (referred k.set_rp0 p g) was
-    there)
+    (chosen_at k g m (single_width g c)) (referred k.set_rp0 p g) was there)
 
 -- ALIGNPTS moves two points by their numbers
 second : (b o : Zone) (p n : ℤ) (z : ZoneLists) (q r : Point) (m : Motion) (d : ℤ) (given : Result Point Why)

@@ -19,29 +19,22 @@ use Rattle.tt_points.specs.declared.distances.Keeping.{Keeping}
 use Rattle.tt_points.specs.Distances.{keeping, single_width, rounded_by, spaced_by, flipped, cut_in}
 use Rattle.tt_points.specs.Slanted.{rising, slanted, fourth_at, with_fourth, with_twilight, before, touched_at}
 use Rattle.tt_points.specs.Moving.{kept, referred, zero_and, zero_and_touched}
-use Rattle.tt_points.specs.Twilight.{made, placed}
+use Rattle.tt_points.specs.Twilight.{made, placed, placed_in}
 use Rattle.tt_points.specs.declared.twilight.AlongVector.TheVariants as by
-
--- the control value after the cut-in by a point's coordinate, rounded
-abbrev pub rounded_in : GraphicsState → ℤ → ℤ → ℤ
-rounded_in g at c = rounded g.round (cut_in g at c)
 
 -- the distance from a point's coordinate to a control value, with or without cut-in and rounding
 unfoldable pub miap_distance : Bool → GraphicsState → ℤ → ℤ → ℤ
-miap_distance round g at c = if round then rounded_in g at c -ℤ at else c -ℤ at
-
--- a twilight point placed at the control value
-unfoldable pub placed_at : Zone → Motion → ℤ → Point → Result Point Why
-placed_at zone.Twilight m c q = placed by.Freedom m c origin q
-placed_at zone.Glyph m c q = Ok q
+miap_distance round g at c = if round then rounded g.round (cut_in g at c) -ℤ at else c -ℤ at
 
 -- a point moved to the control value
 unfoldable pub set_at : Bool → GraphicsState → Motion → ℤ → Point → Result Point Why
 set_at round g m c q = moved m (miap_distance round g (cur m q) c) q
 
+-- a twilight point is placed there first
 unfoldable pub miap : Bool → ℤ → ℤ → ZoneLists → GraphicsState → Result (ZoneLists × GraphicsState) Why
-miap round p c z g = point_in g.zp0 p z >>= λ q. direction g >>= λ m. placed_at g.zp0 m c q >>= λ n.
-    set_at round g m c n >>= λ o. Ok (with_point g.zp0 p o z, record g { rp0 = p; rp1 = p })
+miap round p c z g = point_in g.zp0 p z >>= λ q. direction g >>= λ m.
+    placed_in g.zp0 by.Freedom m c origin q >>= λ n. set_at round g m c n >>= λ o.
+    Ok (with_point g.zp0 p o z, record g { rp0 = p; rp1 = p })
 
 abbrev pub is_same : Zone → Zone → Bool
 is_same zone.Twilight zone.Twilight = true
@@ -81,7 +74,7 @@ at_hundred x = record origin { org_x = pos 100; x = x; touched_x = true }
 
 a_twilight_point_rounded : miap true (pos 0) (pos 100) (zero_and (pos 0)) in_twilight
     ≡ Ok (record (zero_and (pos 0)) { twilight = at_hundred (pos 128) ∷ [] }, in_twilight)
-unfolding miap set_at miap_distance placed_at placed direction project along
+unfolding miap set_at miap_distance placed_in placed direction project along
 a_twilight_point_rounded = refl
 
 -- a point at 100, with a control value of 200
@@ -111,7 +104,7 @@ a_twilight_point_at_a_distance = refl
 -- along a line that rises by 2 in 1, with a control value of 100
 a_value_along_it : miap true (pos 4) (pos 100) before (slanted rising)
     ≡ Ok (with_fourth (fourth_at (pos 61) (pos 112) true true), record (slanted rising) { rp0 = pos 4; rp1 = pos 4 })
-unfolding miap set_at miap_distance placed_at direction project
+unfolding miap set_at miap_distance placed_in direction project
 a_value_along_it = refl
 
 a_distance_along_it : mirp (keeping false false true) (pos 4) (pos 100) before (slanted rising)
@@ -124,7 +117,7 @@ a_twilight_point_along_it : miap false (pos 1) (pos 100) before (record (slanted
       with_twilight (touched_at (pos 45) (pos 89) (pos 45) (pos 89) true true),
       record (slanted rising) { zp0 = zone.Twilight; rp0 = pos 1; rp1 = pos 1 },
     )
-unfolding miap set_at miap_distance placed_at placed direction project along
+unfolding miap set_at miap_distance placed_in placed direction project along
 a_twilight_point_along_it = refl
 
 -- placed along the freedom vector, then moved to the coordinate 100 along the projection vector
@@ -133,7 +126,7 @@ a_twilight_point_moved_on : miap false (pos 1) (pos 100) before (record (slanted
       with_twilight (touched_at (pos 100) (pos 0) (pos 223) (pos 0) true false),
       record (slanted vector.X) { zp0 = zone.Twilight; rp0 = pos 1; rp1 = pos 1 },
     )
-unfolding miap set_at miap_distance placed_at placed direction project along
+unfolding miap set_at miap_distance placed_in placed direction project along
 a_twilight_point_moved_on = refl
 
 a_twilight_point_at_a_slanted_distance : mirp (keeping false false false) (pos 1) (pos 100) before

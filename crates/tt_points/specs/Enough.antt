@@ -25,11 +25,11 @@ use Rattle.tt_points.specs.declared.lines.Ends.{Ends}
 use Rattle.tt_points.specs.declared.measuring.Position.{Position}
 use Rattle.tt_points.specs.declared.twilight.AlongVector.{AlongVector}
 use Rattle.tt_points.specs.declared.twilight.AlongVector.TheVariants as by
-use Rattle.tt_points.specs.ControlValues.{placed_at, set_at, miap_distance, mirp_distance, chosen_from}
+use Rattle.tt_points.specs.ControlValues.{set_at, miap_distance, mirp_distance, chosen_from}
 use Rattle.tt_points.specs.Distances.{single_width}
 use Rattle.tt_points.specs.Lines.{half, line_through, two_points, move_by}
 use Rattle.tt_points.specs.Moving.{kept, kept_from, mdap_distance, mdrp_distance}
-use Rattle.tt_points.specs.Twilight.{further, placed, made}
+use Rattle.tt_points.specs.Twilight.{further, placed, placed_in, made}
 use Rattle.tt_points.specs.ControlValues as by_value
 use Rattle.tt_points.specs.Lines as lines
 use Rattle.tt_points.specs.Measuring as measuring
@@ -88,10 +88,10 @@ made_enough zone.Twilight a m p d r z =
     enough_after (placed a m d r q) _ (placed_enough a m d r q) (λ n. record {}))
 made_enough zone.Glyph a m p d r z = record {}
 
-placed_at_enough : (zone : Zone) (m : Motion) (c : ℤ) (q : Point) → Enough (placed_at zone m c q)
-unfolding placed_at
-placed_at_enough zone.Twilight m c q = placed_enough by.Freedom m c origin q
-placed_at_enough zone.Glyph m c q = record {}
+placed_in_enough : (zone : Zone) (a : AlongVector) (m : Motion) (d : ℤ) (r p : Point) → Enough (placed_in zone a m d r p)
+unfolding placed_in
+placed_in_enough zone.Twilight a m d r p = placed_enough a m d r p
+placed_in_enough zone.Glyph a m d r p = record {}
 
 set_at_enough : (round : Bool) (g : GraphicsState) (m : Motion) (c : ℤ) (q : Point) → Enough (set_at round g m c q)
 unfolding set_at
@@ -130,7 +130,7 @@ unfolding by_value.miap
 miap_enough round p c z g =
     enough_after (point_in g.zp0 p z) _ (point_enough g.zp0 p z) (λ q.
     enough_after (direction g) _ (direction_enough g) (λ m.
-    enough_after (placed_at g.zp0 m c q) _ (placed_at_enough g.zp0 m c q) (λ n.
+    enough_after (placed_in g.zp0 by.Freedom m c origin q) _ (placed_in_enough g.zp0 by.Freedom m c origin q) (λ n.
     enough_after (set_at round g m c n) _ (set_at_enough round g m c n) (λ o. record {}))))
 
 mirp_enough : (k : Keeping) (p c : ℤ) (z : ZoneLists) (g : GraphicsState) → Enough (by_value.mirp k p c z g)

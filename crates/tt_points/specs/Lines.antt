@@ -16,7 +16,6 @@ use Rattle.tt_points_zones.specs.Zones.{ZoneLists}
 use Rattle.tt_points_zones.specs.Points.{point_in, with_point, origin}
 use Rattle.tt_points_zones.specs.Motions.{current_distance, direction, moved}
 use Rattle.tt_points_zones.specs.Meeting.{met, meeting, are_parallel, crossing, middle, cross, dot}
-use Rattle.tt_points_zones.specs.declared.meeting.StraightLine.{StraightLine}
 use Rattle.tt_points_zones.specs.declared.meeting.Place.{Place}
 use Rattle.tt_points_zones.specs.declared.motion.Motion.{Motion}
 use Rattle.tt_points.specs.Slanted.{rising, across, slanted, touched_at, fourth_at, points, with_fourth, before}
@@ -51,9 +50,9 @@ sdpvtl turned p1 p2 z g = two_points p1 p2 z g >>= λ t.
 abbrev pub place_of : Point → Place
 place_of q = record { x = q.x; y = q.y }
 
-abbrev pub line_through : Zone → Ends → ZoneLists → Result StraightLine Why
+abbrev pub line_through : Zone → Ends → ZoneLists → Result (Place × Place) Why
 line_through zone ends z = point_in zone ends.to z >>= λ to. point_in zone ends.from z >>= λ from.
-    Ok (record { from = place_of from; to = place_of to })
+    Ok (place_of from, place_of to)
 
 -- a point moved to a place, and touched along both axes
 abbrev pub put_to : Place → Point → Point
@@ -62,7 +61,7 @@ put_to place q = record q { x = place.x; y = place.y; touched_x = true; touched_
 -- a point moved to where line a, of zone pointer 1, meets line b, of zone pointer 0
 unfoldable pub isect : ℤ → Ends → Ends → ZoneLists → GraphicsState → Result ZoneLists Why
 isect p a b z g = line_through g.zp0 b z >>= λ other. line_through g.zp1 a z >>= λ one. point_in g.zp2 p z >>= λ q.
-    met one.from one.to other.from other.to >>= λ place. Ok (with_point g.zp2 p (put_to place q) z)
+    met (one.0) (one.1) (other.0) (other.1) >>= λ place. Ok (with_point g.zp2 p (put_to place q) z)
 
 -- half a distance, cut toward 0 (profile)
 abbrev pub half : ℤ → ℤ

@@ -6,7 +6,7 @@ use Rattle.tt_state.specs.declared.graphics_state.GraphicsState.{GraphicsState}
 use Rattle.tt_state.specs.declared.graphics_state.Zone.{Zone}
 use Rattle.tt_state.specs.declared.graphics_state.Zone.TheVariants as zone
 use Rattle.tt_state.specs.declared.point.Point.{Point}
-use Rattle.tt_points_zones.specs.Points.{point_in, with_point}
+use Rattle.tt_points_zones.specs.Points.{origin, point_in, with_point}
 use Rattle.tt_points_zones.specs.Meeting.{met}
 use Rattle.tt_points_zones.specs.Motions.{cur, current_distance, original_distance, direction, marked, moved}
 use Rattle.tt_points_zones.specs.Originals.{distance_by, scale_between}
@@ -14,12 +14,12 @@ use Rattle.tt_points_zones.specs.Shapes.{whatever, through, same, joined, put_on
 use Rattle.tt_points_zones.specs.Zones.{ZoneLists, SameShape, KeepsShape, KeepsShapeBefore}
 use Rattle.tt_points_zones.specs.declared.motion.Motion.{Motion}
 use Rattle.tt_points.specs.declared.distances.Keeping.{Keeping}
-use Rattle.tt_points.specs.ControlValues.{placed_at, set_at, miap, mirp_distance, chosen_from, mirp}
+use Rattle.tt_points.specs.ControlValues.{set_at, miap, mirp_distance, chosen_from, mirp}
 use Rattle.tt_points.specs.Distances.{single_width}
 use Rattle.tt_points.specs.Lines.{line_through, put_to, isect, half, move_by, alignpts}
 use Rattle.tt_points.specs.Measuring.{scfs, utp}
 use Rattle.tt_points.specs.Moving.{kept, referred, mdap_distance, mdap, kept_from, msirp, mdrp_distance, mdrp}
-use Rattle.tt_points.specs.Twilight.{settled_in, placed, made}
+use Rattle.tt_points.specs.Twilight.{settled_in, placed, placed_in, made}
 use Rattle.tt_points.specs.declared.lines.Ends.{Ends}
 use Rattle.tt_points.specs.declared.twilight.AlongVector.{AlongVector}
 use Rattle.tt_points.specs.declared.twilight.AlongVector.TheVariants as along
@@ -97,7 +97,7 @@ unfolding miap
 miap_kept round p c z g =
     whatever (Before z) (point_in g.zp0 p z) _ (λ q.
     whatever (Before z) (direction g) _ (λ m.
-    whatever (Before z) (placed_at g.zp0 m c q) _ (λ n.
+    whatever (Before z) (placed_in g.zp0 along.Freedom m c origin q) _ (λ n.
     put_before (record g { rp0 = p; rp1 = p }) g.zp0 p z (set_at round g m c n))))
 
 mirp_kept : (k : Keeping) (p c : ℤ) (z : ZoneLists) (g : GraphicsState) → KeepsShapeBefore z (mirp k p c z g)
@@ -127,7 +127,7 @@ isect_kept p a b z g =
     whatever (SameShape z) (line_through g.zp0 b z) _ (λ other.
     whatever (SameShape z) (line_through g.zp1 a z) _ (λ one.
     whatever (SameShape z) (point_in g.zp2 p z) _ (λ q.
-    whatever (SameShape z) (met one.from one.to other.from other.to) _ (λ place.
+    whatever (SameShape z) (met (one.0) (one.1) (other.0) (other.1)) _ (λ place.
     put_one g.zp2 p (put_to place q) z))))
 
 move_by_kept : (zone : Zone) (p : ℤ) (m : Motion) (d : ℤ) (z : ZoneLists) → KeepsShape z (move_by zone p m d z)

@@ -32,6 +32,11 @@ further along.Freedom m d p = shifted_along m.free d p
 unfoldable pub placed : AlongVector → Motion → ℤ → Point → Point → Result Point Why
 placed by m d r p = further by m d (record p { x = r.org_x; y = r.org_y }) >>= λ q. Ok (settled q)
 
+-- a twilight point is placed so; a glyph point is unchanged
+unfoldable pub placed_in : Zone → AlongVector → Motion → ℤ → Point → Point → Result Point Why
+placed_in zone.Twilight by m d r q = placed by m d r q
+placed_in zone.Glyph by m d r q = Ok q
+
 -- twilight point number p, placed by this rule; glyph points are unchanged
 unfoldable pub made : Zone → AlongVector → Motion → ℤ → ℤ → Point → ZoneLists → Result ZoneLists Why
 made zone.Twilight by m p d r z =

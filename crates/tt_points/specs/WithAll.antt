@@ -4,15 +4,17 @@ use Rattle.std.proofs.Common.{ℤ, Bool, refl}
 use Rattle.tt_state.specs.declared.graphics_state.GraphicsState.{GraphicsState}
 use Rattle.tt_points_zones.specs.WithAll.{beside, StaysBeside, by_vectors}
 use Rattle.tt_points_zones.specs.Motions.{direction, cur, moved}
-use Rattle.tt_points_zones.specs.Points.{point_in}
+use Rattle.tt_points_zones.specs.Points.{origin, point_in}
 use Rattle.tt_points_zones.specs.WithAll.{with_all, Stays, StaysSame, same, chained, after, directed}
 use Rattle.tt_points_zones.specs.Zones.{ZoneLists}
 use Rattle.tt_points.specs.declared.distances.Keeping.{Keeping}
 use Rattle.tt_points.specs.declared.lines.Ends.{Ends}
 use Rattle.tt_points.specs.declared.measuring.Position.{Position}
-use Rattle.tt_points.specs.ControlValues.{placed_at, set_at, miap_distance, mirp_distance, chosen_from}
+use Rattle.tt_points.specs.ControlValues.{set_at, miap_distance, mirp_distance, chosen_from}
 use Rattle.tt_points.specs.Distances.{single_width}
 use Rattle.tt_points.specs.Moving.{kept, mdap_distance, kept_from, mdrp_distance}
+use Rattle.tt_points.specs.Twilight.{placed_in}
+use Rattle.tt_points.specs.declared.twilight.AlongVector.TheVariants as along
 use Rattle.tt_points.specs.ControlValues as by_value
 use Rattle.tt_points.specs.Lines as lines
 use Rattle.tt_points.specs.Measuring as measuring
@@ -50,7 +52,7 @@ unfolding by_value.miap set_at miap_distance
 miap_stays round p c z g =
     after beside (point_in g.zp0 p z) _ _ (λ q.
     chained (λ m. m) beside (direction g) (direction (with_all g)) _ _ (directed g) (λ m.
-    after beside (placed_at g.zp0 m c q) _ _ (λ n. after beside (set_at round g m c n) _ _ (λ o. refl))))
+    after beside (placed_in g.zp0 along.Freedom m c origin q) _ _ (λ n. after beside (set_at round g m c n) _ _ (λ o. refl))))
 
 mirp_stays : (k : Keeping) (p c : ℤ) (z : ZoneLists) (g : GraphicsState)
     → StaysBeside (by_value.mirp k p c z g) (by_value.mirp k p c z (with_all g))

@@ -4,16 +4,8 @@
 ghost use Rattle.std.specs.Prelude.{◌≡◌, ◌<◌, ◌≤◌, ◌^◌, pos, ◌≤ℤ◌, unsigned_abs};
 ghost use Rattle.tt_points.specs.Distances as is;
 
-use tt_points_zones::Distance;
+use crate::unrounded::Unrounded;
 use tt_state::GraphicsState;
-
-/// A distance from the stack or from the control value table.
-pub(crate) fn given(d: i32) -> Distance
-    ensures exact { result.0 ≡ d }
-    ensures bound { unsigned_abs result.0 < 2 ^ 32 }
-{
-    Distance(i64::from(d))
-}
 
 /// The options of MDRP and MIRP. The distance type, in the opcode's two lowest bits, has no effect (profile).
 #[derive(Clone, Copy)]
@@ -55,17 +47,16 @@ fn apart(a: i64, b: i64) -> i64
 /// The single width with the sign of `d`, if their magnitudes differ by less than the single-width cut-in; otherwise
 /// `d`.
 #[tactic(auto, unfolding(crate::specs::Distances::single_width))]
-pub(crate) fn single_width(state: &GraphicsState, d: i64) -> i64
-    requires { unsigned_abs d < 2 ^ 32 }
-    ensures exact { result ≡ is.single_width state.now d }
-    ensures bound { unsigned_abs result < 2 ^ 32 }
+pub(crate) fn single_width(state: &GraphicsState, d: Unrounded) -> Unrounded
+    ensures { result.distance ≡ is.single_width state.now d.distance }
 {
     let width = magnitude(i64::from(state.single_width));
-    if apart(magnitude(d), width) < i64::from(state.single_cut_in) {
-        signed(d, width)
-    } else {
-        d
+    if apart(magnitude(d.distance), width) < i64::from(state.single_cut_in) {
+        return Unrounded {
+            distance: signed(d.distance, width),
+        };
     }
+    d
 }
 
 /// The distance `e`, at least the minimum distance from 0 on the side of `d`.
@@ -79,15 +70,14 @@ fn at_least_minimum(state: &GraphicsState, d: i64, e: i64) -> i64
 }
 
 /// The distance, rounded if `keeping` says so.
-pub(crate) fn rounded_by(keeping: Keeping, state: &GraphicsState, e: i64) -> i64
-    requires { unsigned_abs e < 2 ^ 32 }
-    ensures exact { result ≡ is.rounded_by keeping state.now e }
+pub(crate) fn rounded_by(keeping: Keeping, state: &GraphicsState, e: Unrounded) -> i64
+    ensures exact { result ≡ is.rounded_by keeping state.now e.distance }
     ensures bound { unsigned_abs result < 2 ^ 33 }
 {
     if keeping.round {
-        state.round.round(e)
+        state.round.round(e.distance)
     } else {
-        e
+        e.distance
     }
 }
 
@@ -112,26 +102,22 @@ fn is_opposite(d: i64, c: i64) -> bool
 }
 
 /// The control value `c`. With auto flip it gets the sign of the measured distance `d`, if their signs are opposite.
-pub(crate) fn flipped(state: &GraphicsState, d: i64, c: i64) -> i64
-    requires { unsigned_abs c < 2 ^ 32 }
-    ensures exact { result ≡ is.flipped state.now d c }
-    ensures bound { unsigned_abs result < 2 ^ 32 }
+pub(crate) fn flipped(state: &GraphicsState, d: Unrounded, c: Unrounded) -> Unrounded
+    ensures { result.distance ≡ is.flipped state.now d.distance c.distance }
 {
-    if state.auto_flip && is_opposite(d, c) {
-        -c
-    } else {
-        c
+    if state.auto_flip && is_opposite(d.distance, c.distance) {
+        return Unrounded {
+            distance: -c.distance,
+        };
     }
+    c
 }
 
 /// The control value `c`, or the measured distance `d` if they differ by more than the cut-in.
-pub(crate) fn cut_in(state: &GraphicsState, d: i64, c: i64) -> i64
-    requires d { unsigned_abs d < 2 ^ 32 }
-    requires c { unsigned_abs c < 2 ^ 32 }
-    ensures exact { result ≡ is.cut_in state.now d c }
-    ensures bound { unsigned_abs result < 2 ^ 32 }
+pub(crate) fn cut_in(state: &GraphicsState, d: Unrounded, c: Unrounded) -> Unrounded
+    ensures { result.distance ≡ is.cut_in state.now d.distance c.distance }
 {
-    if apart(c, d) > i64::from(state.cut_in) {
+    if apart(c.distance, d.distance) > i64::from(state.cut_in) {
         d
     } else {
         c

@@ -8,11 +8,13 @@
 pub mod control_values;
 mod distances;
 pub mod laws;
+mod line_points;
 pub mod lines;
 pub mod measuring;
 pub mod moving;
 mod pairs;
 mod twilight;
+mod unrounded;
 
 pub use distances::Keeping;
 pub use tt_points_zones::Zones;

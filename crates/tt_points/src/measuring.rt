@@ -1,17 +1,16 @@
 //! Coordinates read and set, distances measured, and a touch removed. Apple TrueType Reference Manual, "Instruction
 //! Set" (GC, SCFS, MD, UTP). Coordinates are in 26.6 pixels.
 
-ghost use Rattle.std.specs.Prelude.{◌≡◌, ◌-ℤ◌, ◌<◌, ◌≤◌, ◌*◌, ◌^◌, unsigned_abs, IfErr};
-ghost use Rattle.tt_core.specs.Limits.{coordinate_limit};
+ghost use Rattle.std.specs.Prelude.{◌≡◌, ◌<◌, ◌^◌, unsigned_abs, IfErr};
 ghost use Rattle.tt_core.specs.Outcomes.{Gives};
-ghost use Rattle.tt_points_zones.specs.Motions as motion;
-ghost use Rattle.tt_points_zones.specs.Zones.{IsPoint, IsZones, zones_view};
+ghost use Rattle.tt_points_zones.specs.Views.{zones_view};
 ghost use Rattle.tt_points.specs.Measuring as is;
 
+use crate::lines::Ends;
 use crate::twilight::settled_in;
 use tt_core::Why;
 use tt_points_zones::{Distance, Motion, Zones, may_move};
-use tt_state::{GraphicsState, Point};
+use tt_state::GraphicsState;
 
 /// The place of a point that GC or MD measures.
 #[derive(Clone, Copy)]
@@ -25,7 +24,6 @@ pub enum Position {
 /// GC[a], 0x46 and 0x47: p -> c, the coordinate of point p of zone pointer 2. Error: PointRange.
 #[tactic(auto, unfolding(crate::specs::Measuring::gc))]
 pub fn gc(zones: &Zones, state: &GraphicsState, of: Position, p: i32) -> Result<i32, Why>
-    requires { IsZones (zones_view zones.now) }
     ensures { Gives (λ c. c) result (is.gc of p (zones_view zones.now) state.now) }
 {
     let q = zones.point(state.zp2, p)?;
@@ -44,21 +42,14 @@ fn stack_value(d: Distance) -> i32
     d.0 as i32
 }
 
-/// MD[a], 0x49 and 0x4A: p2, p1 -> d, the distance from point p1 of zone pointer 1 to point p2 of zone pointer 0.
-/// Error: PointRange.
+/// MD[a], 0x49 and 0x4A: p2, p1 -> d, the distance from point p1 of zone pointer 1 to point p2 of zone pointer 0. The
+/// ends go from p1 to p2. Error: PointRange.
 #[tactic(auto, unfolding(crate::specs::Measuring::md))]
-pub fn md(
-    zones: &Zones,
-    state: &GraphicsState,
-    between: Position,
-    p2: i32,
-    p1: i32,
-) -> Result<i32, Why>
-    requires { IsZones (zones_view zones.now) }
-    ensures { Gives (λ d. d) result (is.md between p2 p1 (zones_view zones.now) state.now) }
+pub fn md(zones: &Zones, state: &GraphicsState, between: Position, ends: Ends) -> Result<i32, Why>
+    ensures { Gives (λ d. d) result (is.md between ends.to ends.from (zones_view zones.now) state.now) }
 {
-    let a = zones.point(state.zp1, p1)?;
-    let b = zones.point(state.zp0, p2)?;
+    let a = zones.point(state.zp1, ends.from)?;
+    let b = zones.point(state.zp0, ends.to)?;
     let motion = Motion::of(state);
     match between {
         Position::Current => Ok(stack_value(motion.current_distance(a, b))),
@@ -69,28 +60,18 @@ pub fn md(
     }
 }
 
-/// The distance from a point's coordinate to `v`.
-fn short_of(v: i32, q: Point, m: &Motion) -> i64
-    requires { IsPoint q }
-    ensures exact { result ≡ v -ℤ motion.cur m.now q }
-    ensures bound { unsigned_abs result < 2 ^ 33 }
-{
-    i64::from(v) - i64::from(m.cur(q))
-}
-
 /// SCFS[], 0x48: p, v -> moves point p of zone pointer 2 to the coordinate v. For a twilight point the new place is the
 /// original place too (profile). Errors: PointRange, Perpendicular, ValueRange.
 #[tactic(auto, unfolding(crate::specs::Measuring::scfs))]
 pub fn scfs(zones: &mut Zones, state: &GraphicsState, p: i32, v: i32) -> Result<(), Why>
-    requires { IsZones (zones_view zones.old) }
     ensures exact { Gives (λ u. zones_view zones.new) result (is.scfs p v (zones_view zones.old) state.now) }
-    ensures zones { IsZones (zones_view zones.new) }
     ensures kept { IfErr result (λ why. zones_view zones.new ≡ zones_view zones.old) }
 {
     let q = zones.point(state.zp2, p)?;
     may_move(state)?;
     let motion = Motion::of(state);
-    let q = motion.moved(q, short_of(v, q, &motion))?;
+    let by = i64::from(v) - i64::from(motion.cur(q));
+    let q = motion.moved(q, by)?;
     zones.set(state.zp2, p, settled_in(state.zp2, q));
     Ok(())
 }
@@ -98,9 +79,7 @@ pub fn scfs(zones: &mut Zones, state: &GraphicsState, p: i32, v: i32) -> Result<
 /// UTP[], 0x29: p -> makes point p of zone pointer 0 untouched along the freedom vector. Error: PointRange.
 #[tactic(auto, unfolding(crate::specs::Measuring::utp))]
 pub fn utp(zones: &mut Zones, state: &GraphicsState, p: i32) -> Result<(), Why>
-    requires { IsZones (zones_view zones.old) }
     ensures exact { Gives (λ u. zones_view zones.new) result (is.utp p (zones_view zones.old) state.now) }
-    ensures zones { IsZones (zones_view zones.new) }
     ensures kept { IfErr result (λ why. zones_view zones.new ≡ zones_view zones.old) }
 {
     let q = zones.point(state.zp0, p)?;

@@ -1,31 +1,19 @@
 //! Instructions that move a point along the projection vector without a control value. Apple TrueType Reference Manual,
 //! "Instruction Set" (MDAP, MSIRP, MDRP). Coordinates are in 26.6 pixels.
 
-ghost use Rattle.std.specs.Prelude.{◌≡◌, ◌-ℤ◌, ◌<◌, ◌≤◌, ◌^◌, unsigned_abs, IfOk, IfErr};
+ghost use Rattle.std.specs.Prelude.{◌≡◌, ◌<◌, ◌^◌, unsigned_abs, IfOk, IfErr};
 ghost use Rattle.tt_core.specs.Outcomes.{Gives};
-ghost use Rattle.tt_state.specs.Rounding.{rounded};
-ghost use Rattle.tt_points_zones.specs.Motions as motion;
-ghost use Rattle.tt_points_zones.specs.Zones.{IsPoint, IsZones, zones_view};
+ghost use Rattle.tt_points_zones.specs.Views.{zones_view};
+ghost use Rattle.tt_points_zones.specs.Zones.{IsPoint};
 ghost use Rattle.tt_points.specs.Moving as is;
-ghost use Rattle.tt_points.specs.Pairs as pairs;
 
-use crate::distances::{Keeping, given, rounded_by, single_width, spaced_by};
+use crate::distances::{Keeping, rounded_by, single_width, spaced_by};
 use crate::pairs::seen;
 use crate::twilight::{AlongVector, placed_in};
+use crate::unrounded::Unrounded;
 use tt_core::Why;
 use tt_points_zones::{Distance, Motion, Zones, may_move};
 use tt_state::{GraphicsState, Point};
-
-/// The difference between `d` and the current distance from `r` to `q`.
-fn short_of(d: Distance, q: Point, r: Point, m: &Motion) -> i64
-    requires q { IsPoint q }
-    requires r { IsPoint r }
-    requires small { unsigned_abs d.0 < 2 ^ 33 }
-    ensures exact { result ≡ d.0 -ℤ motion.current_distance m.now r q }
-    ensures bound { unsigned_abs result < 2 ^ 34 }
-{
-    d.0 - m.current_distance(r, q).0
-}
 
 /// The point `q`, moved so that its distance from `r` is `d`. Error: ValueRange.
 #[tactic(auto, unfolding(crate::specs::Moving::kept))]
@@ -36,7 +24,7 @@ pub(crate) fn kept(q: Point, m: &Motion, d: Distance, r: Point) -> Result<Point,
     ensures exact { Gives (λ p. p) result (is.kept m.now d.0 q r) }
     ensures valid { IfOk result IsPoint }
 {
-    m.moved(q, short_of(d, q, r, m))
+    m.moved(q, d.0 - m.current_distance(r, q).0)
 }
 
 /// Sets the reference points after MSIRP, MDRP or MIRP: 1 to the old 0, 2 to p, and with `rp0` also 0 to p.
@@ -50,24 +38,14 @@ pub fn refer(state: &mut GraphicsState, rp0: bool, p: i32)
     }
 }
 
-/// The difference between a coordinate and its rounded value.
-fn to_rounded(state: &GraphicsState, at: Distance) -> i64
-    requires { unsigned_abs at.0 < 2 ^ 22 }
-    ensures exact { result ≡ rounded state.now.round at.0 -ℤ at.0 }
-    ensures bound { unsigned_abs result < 2 ^ 33 }
-{
-    state.round.round(at.0) - at.0
-}
-
-/// MDAP's move of a point: to its rounded coordinate with `round`, otherwise 0.
+/// MDAP's move of a point with the coordinate `at`: to its rounded coordinate with `round`, otherwise 0.
 #[tactic(auto, unfolding(crate::specs::Moving::mdap_distance))]
-fn mdap_distance(round: bool, state: &GraphicsState, q: Point, m: &Motion) -> i64
-    requires { IsPoint q }
-    ensures exact { result ≡ is.mdap_distance round state.now (motion.cur m.now q) }
-    ensures bound { unsigned_abs result < 2 ^ 33 }
+fn mdap_distance(round: bool, state: &GraphicsState, at: Unrounded) -> i64
+    ensures exact { result ≡ is.mdap_distance round state.now at.distance }
+    ensures bound { unsigned_abs result < 2 ^ 34 }
 {
     if round {
-        to_rounded(state, Distance(i64::from(m.cur(q))))
+        state.round.round(at.distance) - at.distance
     } else {
         0
     }
@@ -77,40 +55,21 @@ fn mdap_distance(round: bool, state: &GraphicsState, q: Point, m: &Motion) -> i6
 /// coordinate. Reference points 0 and 1 become p. Errors: PointRange, Perpendicular, ValueRange.
 #[tactic(auto, unfolding(crate::specs::Moving::mdap))]
 pub fn mdap(zones: &mut Zones, state: &mut GraphicsState, round: bool, p: i32) -> Result<(), Why>
-    requires zones { IsZones (zones_view zones.old) }
     ensures exact { Gives (λ u. (zones_view zones.new, state.new)) result
         (is.mdap round p (zones_view zones.old) state.old) }
-    ensures zones { IsZones (zones_view zones.new) }
     ensures kept { IfErr result (λ why. (zones_view zones.new ≡ zones_view zones.old) × (state.new ≡ state.old)) }
 {
     let q = zones.point(state.zp0, p)?;
     may_move(state)?;
     let motion = Motion::of(state);
-    let q = motion.moved(q, mdap_distance(round, state, q, &motion))?;
+    let at = Unrounded {
+        distance: i64::from(motion.cur(q)),
+    };
+    let q = motion.moved(q, mdap_distance(round, state, at))?;
     zones.set(state.zp0, p, q);
     state.rp0 = p;
     state.rp1 = p;
     Ok(())
-}
-
-/// The result of MSIRP for `q`, the point `p` of zone pointer 1, with reference point 0 at `r`. Error: ValueRange.
-#[tactic(auto, unfolding(crate::specs::Pairs::placed_and_kept))]
-fn placed_and_kept(
-    state: &GraphicsState,
-    p: i32,
-    m: &Motion,
-    d: Distance,
-    q: Point,
-    r: Point,
-) -> Result<Point, Why>
-    requires q { IsPoint q }
-    requires r { IsPoint r }
-    requires small { unsigned_abs d.0 < 2 ^ 32 }
-    ensures exact { Gives (λ n. n) result (pairs.placed_and_kept state.now p m.now d.0 q r) }
-    ensures valid { IfOk result IsPoint }
-{
-    let q = placed_in(state.zp1, q, m, AlongVector::Projection, d, r)?;
-    kept(q, m, d, seen(state, state.rp0, r, p, q))
 }
 
 /// MSIRP[a], 0x3A and 0x3B: p, d -> moves point p of zone pointer 1 to the distance d from reference point 0, of zone
@@ -125,39 +84,30 @@ pub fn msirp(
     p: i32,
     d: i32,
 ) -> Result<(), Why>
-    requires zones { IsZones (zones_view zones.old) }
     ensures exact { Gives (λ u. (zones_view zones.new, state.new)) result
         (is.msirp set_rp0 p d (zones_view zones.old) state.old) }
-    ensures zones { IsZones (zones_view zones.new) }
     ensures kept { IfErr result (λ why. (zones_view zones.new ≡ zones_view zones.old) × (state.new ≡ state.old)) }
 {
     let q = zones.point(state.zp1, p)?;
     let r = zones.point(state.zp0, state.rp0)?;
     may_move(state)?;
     let motion = Motion::of(state);
-    let q = placed_and_kept(state, p, &motion, given(d), q, r)?;
-    zones.set(state.zp1, p, q);
+    let d = Unrounded::given(d);
+    let q = placed_in(state.zp1, q, &motion, AlongVector::Projection, d, r)?;
+    let r = seen(state, state.rp0, r, p, q);
+    zones.set(state.zp1, p, kept(q, &motion, Distance(d.distance), r)?);
     refer(state, set_rp0, p);
     Ok(())
 }
 
-/// The distance that MDRP sets, for an original distance after the single width.
-fn mdrp_kept(keeping: Keeping, state: &GraphicsState, d: i64) -> i64
-    requires { unsigned_abs d < 2 ^ 32 }
-    ensures exact { result ≡ is.mdrp_kept keeping state.now d }
-    ensures bound { unsigned_abs result < 2 ^ 33 }
-{
-    spaced_by(keeping, state, d, rounded_by(keeping, state, d))
-}
-
 /// The distance that MDRP sets, for an original distance.
 #[tactic(auto, unfolding(crate::specs::Moving::mdrp_distance))]
-fn mdrp_distance(keeping: Keeping, state: &GraphicsState, d: Distance) -> Distance
-    requires { unsigned_abs d.0 < 2 ^ 30 }
-    ensures exact { result.0 ≡ is.mdrp_distance keeping state.now d.0 }
+fn mdrp_distance(keeping: Keeping, state: &GraphicsState, d: Unrounded) -> Distance
+    ensures exact { result.0 ≡ is.mdrp_distance keeping state.now d.distance }
     ensures bound { unsigned_abs result.0 < 2 ^ 33 }
 {
-    Distance(mdrp_kept(keeping, state, single_width(state, d.0)))
+    let d = single_width(state, d);
+    Distance(spaced_by(keeping, state, d.distance, rounded_by(keeping, state, d)))
 }
 
 /// MDRP[abcde], 0xC0 to 0xDF: p -> moves point p of zone pointer 1 to its original distance from reference point 0, of
@@ -170,10 +120,8 @@ pub fn mdrp(
     keeping: Keeping,
     p: i32,
 ) -> Result<(), Why>
-    requires zones { IsZones (zones_view zones.old) }
     ensures exact { Gives (λ u. (zones_view zones.new, state.new)) result
         (is.mdrp keeping p (zones_view zones.old) state.old) }
-    ensures zones { IsZones (zones_view zones.new) }
     ensures kept { IfErr result (λ why. (zones_view zones.new ≡ zones_view zones.old) × (state.new ≡ state.old)) }
 {
     let q = zones.point(state.zp1, p)?;
@@ -181,7 +129,10 @@ pub fn mdrp(
     may_move(state)?;
     let motion = Motion::of(state);
     let scale = zones.scale_between(state.zp0, state.zp1);
-    let d = mdrp_distance(keeping, state, motion.distance_by(scale, r, q));
+    let original = Unrounded {
+        distance: motion.distance_by(scale, r, q).0,
+    };
+    let d = mdrp_distance(keeping, state, original);
     zones.set(state.zp1, p, kept(q, &motion, d, r)?);
     refer(state, keeping.set_rp0, p);
     Ok(())

@@ -1,3 +1,2 @@
-pub mod Kept
 mod OnAxis
 mod Units

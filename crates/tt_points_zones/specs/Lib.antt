@@ -1,6 +1,7 @@
 pub mod WithAll
 pub mod Shapes
 pub mod Total
+pub mod Views
 pub mod Zones
 pub mod Points
 pub mod ZoneNumbers

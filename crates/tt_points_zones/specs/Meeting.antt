@@ -8,18 +8,13 @@ use Rattle.tt_core.specs.declared.fault.Why.{Why}
 use Rattle.tt_core.specs.declared.fault.Why.TheVariants as why
 use Rattle.tt_points_zones.specs.Points.{is_coordinate}
 use Rattle.tt_points_zones.specs.declared.meeting.Place.{Place}
-use Rattle.tt_points_zones.specs.declared.meeting.StraightLine.{StraightLine}
 use Rattle.tt_points_zones.specs.declared.way.Way.{Way}
 use Rattle.tt_points_zones.specs.declared.meeting.FarPlace.{FarPlace}
 
--- a place whose coordinates are within the limit, and a line through two such places
+-- a place whose coordinates are within the limit
 pub record IsPlace (p : Place) : Type 0 where
   pub x : unsigned_abs p.x ≤ coordinate_limit
   pub y : unsigned_abs p.y ≤ coordinate_limit
-
-pub record IsLine (l : StraightLine) : Type 0 where
-  pub from : IsPlace l.from
-  pub to : IsPlace l.to
 
 -- the views of the code's ways, and of its places before the limit is tested
 abbrev pub way_view : Way → Place

@@ -1,26 +1,18 @@
 -- Apple TrueType Reference Manual, "Instructing TrueType Glyphs" (zones): the points of both zones and the contours of
 -- the glyph. Coordinates are in 26.6 pixels; their limit is this project's own (profile).
 use Rattle.std.specs.Prelude.{◌≡◌, ℕ, ◌^◌, ◌≤◌, List, [], ◌∷◌, length, All, unsigned_abs, None, Result, IfOk, IfSome}
+use Rattle.std.specs.Coded.{×_prop, le_prop, Coded-set, coded_ℕ}
 use Rattle.tt_core.specs.Limits.{coordinate_limit}
 use Rattle.tt_state.specs.declared.point.Point.{Point}
 use Rattle.tt_core.specs.Scales.{IsScale}
 use Rattle.tt_core.specs.declared.halves.Halves.{Halves}
 use Rattle.tt_points_zones.specs.declared.zones.Originals.{Originals}
-use Rattle.tt_points_zones.specs.declared.zones.Zones.{Zones}
 
 pub record ZoneLists : Type 0 where
   pub twilight : List Point
   pub glyph : List Point
   pub contours : List (ℕ × ℕ)
   pub originals : Originals
-
-abbrev pub zones_view : Zones → ZoneLists
-zones_view z = record {
-  twilight = z.twilight.items;
-  glyph = z.glyph.items;
-  contours = z.contours.items;
-  originals = z.originals;
-}
 
 -- the original places of a glyph zone in 26.6
 abbrev pub in_pixels : Halves → Originals
@@ -40,6 +32,12 @@ abbrev pub AreContours : ℕ → List (ℕ × ℕ) → ℕ → Type 0
 AreContours from [] points = from ≤ points
 AreContours from (contour ∷ contours) points =
     (contour.0 ≡ from) × (from ≤ contour.1) × AreContours contour.1 contours points
+
+-- the ranges are contours in one way at most
+pub AreContours-prop : (from : ℕ) (contours : List (ℕ × ℕ)) (points : ℕ) → IsProp (AreContours from contours points)
+AreContours-prop from [] points = le_prop
+AreContours-prop from (contour ∷ contours) points =
+    ×_prop (Coded-set coded_ℕ contour.0 from) (×_prop le_prop (AreContours-prop contour.1 contours points))
 
 pub record IsZones (z : ZoneLists) : Type 0 where
   pub twilight : All IsPoint z.twilight

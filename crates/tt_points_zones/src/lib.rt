@@ -6,13 +6,15 @@ pub mod laws;
 mod meeting;
 mod motion;
 mod points;
+mod straight_line;
 mod way;
 mod zone_numbers;
 mod zones;
 
 pub use distances::{Distance, distance_between, product};
-pub use meeting::{Place, StraightLine, met};
+pub use meeting::{Place, met};
 pub use motion::{Motion, may_move};
 pub use points::{cur, is_coordinate, is_touched, org, put};
+pub use straight_line::StraightLine;
 pub use zone_numbers::zone_of;
 pub use zones::{Originals, Zones};

@@ -7,9 +7,10 @@ ghost use Rattle.tt_core.specs.Limits.{coordinate_limit};
 ghost use Rattle.tt_core.specs.Numbers.{nearest_quotient, rounded_quotient};
 ghost use Rattle.tt_core.specs.Outcomes.{Gives};
 ghost use Rattle.tt_points_zones.specs.Meeting as is;
-ghost use Rattle.tt_points_zones.specs.Meeting.{IsLine, IsPlace, far_view, way_view};
+ghost use Rattle.tt_points_zones.specs.Meeting.{IsPlace, far_view, way_view};
 
 use crate::distances::{Distance, distance_between, product};
+use crate::straight_line::StraightLine;
 use crate::way::{Fraction, Way};
 use tt_core::{COORDINATE_LIMIT, Why};
 
@@ -18,13 +19,6 @@ use tt_core::{COORDINATE_LIMIT, Why};
 pub struct Place {
     pub x: i32,
     pub y: i32,
-}
-
-/// The line through two places, endless on both sides.
-#[derive(Clone, Copy)]
-pub struct StraightLine {
-    pub from: Place,
-    pub to: Place,
 }
 
 /// A place that may be past the limit of coordinates.
@@ -71,16 +65,7 @@ fn are_parallel(a: Way, b: Way) -> bool
     19 * cross(a, b).unsigned_abs() <= dot(a, b).unsigned_abs()
 }
 
-/// `n * d`, which may exceed 64 bits.
-fn long_product(n: i64, d: Distance) -> i128
-    requires n { unsigned_abs n < 2 ^ 47 }
-    requires d { unsigned_abs d.0 < 2 ^ 22 }
-    ensures exact { result ≡ n *ℤ d.0 }
-    ensures few { unsigned_abs result < 2 ^ 69 }
-{
-    i128::from(n) * i128::from(d.0)
-}
-
+/// `n / d` rounded to the nearest whole number, a half upwards. It may exceed 64 bits.
 fn long_nearest(n: i128, d: i128) -> i128
     requires numerator { unsigned_abs n < 2 ^ 69 }
     requires denominator { unsigned_abs d < 2 ^ 47 }
@@ -91,14 +76,14 @@ fn long_nearest(n: i128, d: i128) -> i128
     (2 * n + d).div_euclid(2 * d)
 }
 
-/// `n / d` rounded to the nearest whole number, a half upwards. It may exceed 64 bits.
-fn long_rq(n: i128, d: i128) -> i128
-    requires numerator { unsigned_abs n < 2 ^ 69 }
-    requires denominator { unsigned_abs d < 2 ^ 47 }
-    requires nonzero { d ≢ pos 0 }
-    ensures exact { result ≡ rounded_quotient n d }
-    ensures few { unsigned_abs result ≤ unsigned_abs n }
+/// A fraction of a way's length along an axis. Its numerator times the length may exceed 64 bits.
+fn part_of(way: Distance, part: Fraction) -> i128
+    requires { unsigned_abs way.0 < 2 ^ 22 }
+    ensures exact { result ≡ rounded_quotient (part.n *ℤ way.0) part.d }
+    ensures few { unsigned_abs result < 2 ^ 69 }
 {
+    let n = i128::from(part.n) * i128::from(way.0);
+    let d = i128::from(part.d);
     if d < 0 {
         long_nearest(-n, -d)
     } else {
@@ -106,30 +91,13 @@ fn long_rq(n: i128, d: i128) -> i128
     }
 }
 
-/// A fraction of a way's length along an axis.
-fn part_of(way: Distance, part: Fraction) -> i128
-    requires { unsigned_abs way.0 < 2 ^ 22 }
-    ensures exact { result ≡ rounded_quotient (part.n *ℤ way.0) part.d }
-    ensures few { unsigned_abs result < 2 ^ 69 }
-{
-    long_rq(long_product(part.n, way), i128::from(part.d))
-}
-
-/// `from + by`.
-fn further(from: i32, by: i128) -> i128
-    requires { unsigned_abs by < 2 ^ 69 }
-    ensures { result ≡ from +ℤ by }
-{
-    i128::from(from) + by
-}
-
 /// The place at a fraction of a way from `from`.
 fn gone(from: Place, way: Way, part: Fraction) -> FarPlace
     ensures { far_view result ≡ is.gone from (way_view way) part.n part.d }
 {
     FarPlace {
-        x: further(from.x, part_of(way.x, part)),
-        y: further(from.y, part_of(way.y, part)),
+        x: i128::from(from.x) + part_of(way.x, part),
+        y: i128::from(from.y) + part_of(way.y, part),
     }
 }
 
@@ -147,8 +115,6 @@ fn quarter(a: i32, b: i32, c: i32, d: i32) -> i32
 /// The middle of the four places of two lines.
 #[tactic(auto, unfolding(crate::specs::Meeting::middle))]
 fn middle(a: StraightLine, b: StraightLine) -> FarPlace
-    requires a { IsLine a }
-    requires b { IsLine b }
     ensures { far_view result ≡ is.middle a.from a.to b.from b.to }
 {
     FarPlace {
@@ -160,8 +126,6 @@ fn middle(a: StraightLine, b: StraightLine) -> FarPlace
 /// The meeting point of two lines, which may be past the limit of coordinates.
 #[tactic(auto, unfolding(crate::specs::Meeting::meeting, crate::specs::Meeting::crossing))]
 fn far_meeting(a: StraightLine, b: StraightLine) -> FarPlace
-    requires a { IsLine a }
-    requires b { IsLine b }
     ensures { far_view result ≡ is.meeting a.from a.to b.from b.to }
 {
     let way = way_between(a.from, a.to);
@@ -192,8 +156,6 @@ fn limited(v: i128) -> Result<i32, Why>
 /// ValueRange past the limit of coordinates.
 #[tactic(auto, unfolding(crate::specs::Meeting::met))]
 pub fn met(a: StraightLine, b: StraightLine) -> Result<Place, Why>
-    requires a { IsLine a }
-    requires b { IsLine b }
     ensures exact { Gives (λ p. p) result (is.met a.from a.to b.from b.to) }
     ensures valid { IfOk result IsPlace }
 {

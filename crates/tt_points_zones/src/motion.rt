@@ -15,7 +15,7 @@ ghost use Rattle.tt_state.specs.Vectors.{pair};
 use crate::distances::Distance;
 use crate::points::is_coordinate;
 use tt_core::{Scale, Why, rq};
-use tt_state::{GraphicsState, Point, Vector, dot, laws};
+use tt_state::{GraphicsState, Point, Steps, Vector, dot, laws};
 
 /// The vectors for measuring and moving points.
 #[derive(Clone, Copy)]
@@ -56,16 +56,6 @@ fn pushed_to(part: i32, by: i64, at: i32) -> Result<i32, Why>
     Ok(to as i32)
 }
 
-/// A distance times a part of a unit vector.
-fn scaled(d: i64, part: i64) -> i64
-    requires d { unsigned_abs d < 2 ^ 47 }
-    requires part { unsigned_abs part ≤ 2 ^ 14 }
-    ensures exact { result ≡ d *ℤ part }
-    ensures bound { unsigned_abs result < 2 ^ 61 }
-{
-    d * part
-}
-
 /// The move along an axis, for a move `d` along the projection vector. `part` is the freedom vector's part along the
 /// axis, and `whole` the dot product of both vectors.
 fn step(d: i64, part: i32, whole: i32) -> i64
@@ -75,7 +65,7 @@ fn step(d: i64, part: i32, whole: i32) -> i64
     ensures exact { result ≡ rounded_quotient (d *ℤ part) whole }
     ensures bound { unsigned_abs result < 2 ^ 61 }
 {
-    rq(scaled(d, i64::from(part)), i64::from(whole))
+    rq(d * i64::from(part), i64::from(whole))
 }
 
 fn is_same(v: &Vector, w: &Vector) -> bool
@@ -187,16 +177,14 @@ impl Motion {
 
     /// The point moved by `by` along x and y, on axes where the freedom vector has a part. Its touches are unchanged.
     /// Error: ValueRange past the limit of coordinates.
-    fn put_further(&self, p: Point, by: (i64, i64)) -> Result<Point, Why>
-        requires point { IsPoint p }
-        requires x { unsigned_abs by.0 < 2 ^ 62 }
-        requires y { unsigned_abs by.1 < 2 ^ 62 }
-        ensures exact { Gives (λ q. q) result (is.put_further self.now.free (pair by.0 by.1) p) }
+    fn put_further(&self, p: Point, by: Steps) -> Result<Point, Why>
+        requires { IsPoint p }
+        ensures exact { Gives (λ q. q) result (is.put_further self.now.free (pair by.x by.y) p) }
         ensures valid { IfOk result IsPoint }
     {
         Ok(Point {
-            x: pushed_to(self.free.x(), by.0, p.x)?,
-            y: pushed_to(self.free.y(), by.1, p.y)?,
+            x: pushed_to(self.free.x(), by.x, p.x)?,
+            y: pushed_to(self.free.y(), by.y, p.y)?,
             ..p
         })
     }
@@ -216,20 +204,20 @@ impl Motion {
     }
 
     /// The move along x and y, for a move `d` along the projection vector.
-    fn steps(&self, d: i64) -> (i64, i64)
+    fn steps(&self, d: i64) -> Steps
         requires { unsigned_abs d < 2 ^ 47 }
-        ensures exact { pair result.0 result.1 ≡ is.steps self.now d }
-        ensures x { unsigned_abs result.0 < 2 ^ 61 }
-        ensures y { unsigned_abs result.1 < 2 ^ 61 }
+        ensures { pair result.x result.y ≡ is.steps self.now d }
     {
         laws::on_axes();
         match (self.proj, self.free) {
-            (Vector::X, Vector::X) => (d, 0),
-            (Vector::Y, Vector::Y) => (0, d),
-            _ => {
-                let whole = dot(self.proj, self.free);
-                (step(d, self.free.x(), whole), step(d, self.free.y(), whole))
-            }
+            (Vector::X, Vector::X) => return Steps { x: d, y: 0 },
+            (Vector::Y, Vector::Y) => return Steps { x: 0, y: d },
+            _ => {}
+        }
+        let whole = dot(self.proj, self.free);
+        Steps {
+            x: step(d, self.free.x(), whole),
+            y: step(d, self.free.y(), whole),
         }
     }
 
@@ -255,18 +243,6 @@ impl Motion {
         self.put_further(p, self.free.along(d))
     }
 
-    /// The point moved by `by` along x and y, and touched, on axes where the freedom vector has a part. Error:
-    /// ValueRange past the limit of coordinates.
-    fn pushed(&self, p: Point, by: (i64, i64)) -> Result<Point, Why>
-        requires point { IsPoint p }
-        requires x { unsigned_abs by.0 < 2 ^ 62 }
-        requires y { unsigned_abs by.1 < 2 ^ 62 }
-        ensures exact { Gives (λ q. q) result (is.pushed self.now.free (pair by.0 by.1) p) }
-        ensures valid { IfOk result IsPoint }
-    {
-        Ok(self.marked(self.put_further(p, by)?, true))
-    }
-
     /// The point moved along the freedom vector, by `d` along the projection vector, and touched. Error: ValueRange
     /// past the limit of coordinates.
     pub fn moved(&self, p: Point, d: i64) -> Result<Point, Why>
@@ -275,8 +251,9 @@ impl Motion {
         ensures exact { Gives (λ q. q) result (is.moved self.now d p) }
         ensures valid { IfOk result IsPoint }
     {
-        self.pushed(p, self.steps(d))
+        Ok(self.marked(self.shifted(p, d)?, true))
     }
+
     /// The point moved by `d` along the freedom vector itself, whatever the projection vector, and touched. Error:
     /// ValueRange past the limit of coordinates.
     pub fn moved_along(&self, p: Point, d: i64) -> Result<Point, Why>
@@ -285,6 +262,6 @@ impl Motion {
         ensures exact { Gives (λ q. q) result (is.moved_along self.now.free d p) }
         ensures valid { IfOk result IsPoint }
     {
-        self.pushed(p, self.free.along(d))
+        Ok(self.marked(self.shifted_along(p, d)?, true))
     }
 }

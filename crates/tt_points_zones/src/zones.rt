@@ -1,13 +1,11 @@
 //! The zones. Apple TrueType Reference Manual, "Instructing TrueType Glyphs" (zones) and "Graphics State" (zone
 //! pointers).
 
-ghost use Rattle.std.specs.Prelude.{◌≡◌, ◌<◌, ◌≤ℤ◌, pos, unsigned_abs, length, slice_set, All, IfOk, IfSome};
+ghost use Rattle.std.specs.Prelude.{◌≡◌, length, All, IfOk, IfSome};
+ghost use Rattle.std.proofs.Props.{props};
 ghost use Rattle.tt_core.specs.Outcomes.{Gives};
-ghost use Rattle.tt_points_zones.specs.Points.{HasPoint, points_in, point_in, with_point};
 ghost use Rattle.tt_core.specs.Scales.{IsScale};
-ghost use Rattle.tt_points_zones.specs.Originals.{scale_between};
-ghost use Rattle.tt_points_zones.specs.Points as is;
-ghost use Rattle.tt_points_zones.specs.Zones.{IsPoint, IsZones, in_pixels, zones_view};
+ghost use Rattle.tt_points_zones.specs.Zones.{AreContours, AreContours-prop, IsPoint, in_pixels};
 
 use std::alloc::AllocError;
 use tt_core::{Halves, Scale, Why};
@@ -42,9 +40,17 @@ pub struct Zones {
     pub glyph: Vec<Point>,
     pub contours: Vec<(u32, u32)>,
     pub originals: Originals,
+    pub ghost twilight_points: { All IsPoint twilight.items },
+    pub ghost glyph_points: { All IsPoint glyph.items },
+    pub ghost ranges: { AreContours 0 contours.items (length glyph.items) } by { AreContours-prop 0 contours.items (length glyph.items) },
+    pub ghost scale: { IfSome originals.units IsScale } by { Prim.hlevel props },
 }
 
 impl Zones {
+    ghost use Rattle.tt_points_zones.specs.Originals.{scale_between};
+    ghost use Rattle.tt_points_zones.specs.Points.{HasPoint, has_point, points_in, point_in, with_point};
+    ghost use Rattle.tt_points_zones.specs.Views.{zones_view};
+
     /// A copy in memory of its own.
     pub fn copy(&self) -> Result<Zones, AllocError>
         ensures { IfOk result (λ z. zones_view z ≡ zones_view self.now) }
@@ -58,7 +64,6 @@ impl Zones {
     }
 
     fn points(&self, zone: Zone) -> &[Point]
-        requires { IsZones (zones_view self.now) }
         ensures exact { result.now ≡ points_in zone (zones_view self.now) }
         ensures valid { All IsPoint result.now }
     {
@@ -70,18 +75,20 @@ impl Zones {
 
     /// The point with number `n` in a zone. Error: PointRange.
     pub fn point(&self, zone: Zone, n: i32) -> Result<Point, Why>
-        requires { IsZones (zones_view self.now) }
         ensures exact { Gives (λ p. p) result (point_in zone n (zones_view self.now)) }
         ensures valid { IfOk result IsPoint }
         ensures there { IfOk result (λ p. HasPoint zone n (zones_view self.now)) }
     {
-        point_at(self.points(zone), n)
+        let points = self.points(zone);
+        if n < 0 || n as usize >= points.len() {
+            return Err(Why::PointRange);
+        }
+        Ok(points[n as usize])
     }
 
     /// Whether a zone has a point with number `n`.
     pub fn has(&self, zone: Zone, n: i32) -> bool
-        requires { IsZones (zones_view self.now) }
-        ensures { result ≡ is.has_point zone n (zones_view self.now) }
+        ensures { result ≡ has_point zone n (zones_view self.now) }
     {
         self.point(zone, n).is_ok()
     }
@@ -89,7 +96,6 @@ impl Zones {
     /// The scale of the distance between two original places: that of the font units, if both zones are the glyph zone
     /// and the glyph zone is in font units. Otherwise None: the distance is measured in 26.6.
     pub fn scale_between(&self, from: Zone, to: Zone) -> Option<Scale>
-        requires { IsZones (zones_view self.now) }
         ensures exact { result ≡ scale_between from to (zones_view self.now) }
         ensures valid { IfSome result IsScale }
     {
@@ -101,41 +107,13 @@ impl Zones {
 
     /// Replaces the point with number `n` in a zone by `p`.
     pub fn set(&mut self, zone: Zone, n: i32, p: Point)
-        requires zones { IsZones (zones_view self.old) }
         requires there { HasPoint zone n (zones_view self.old) }
         requires point { IsPoint p }
         ensures exact { zones_view self.new ≡ with_point zone n p (zones_view self.old) }
-        ensures valid { IsZones (zones_view self.new) }
     {
         match zone {
-            Zone::Twilight => set_at(&mut self.twilight, n, p),
-            Zone::Glyph => set_at(&mut self.glyph, n, p),
+            Zone::Twilight => self.twilight[n as usize] = p,
+            Zone::Glyph => self.glyph[n as usize] = p,
         }
     }
-}
-
-/// The point with number `n`. Error: PointRange.
-fn point_at(points: &[Point], n: i32) -> Result<Point, Why>
-    requires { All IsPoint points.now }
-    ensures exact { Gives (λ p. p) result (is.point_at n points.now) }
-    ensures valid { IfOk result IsPoint }
-    ensures sign { IfOk result (λ p. pos 0 ≤ℤ n) }
-    ensures within { IfOk result (λ p. unsigned_abs n < length points.now) }
-{
-    if n < 0 || n as usize >= points.len() {
-        return Err(Why::PointRange);
-    }
-    Ok(points[n as usize])
-}
-
-fn set_at(points: &mut [Point], n: i32, p: Point)
-    requires points { All IsPoint points.old }
-    requires sign { pos 0 ≤ℤ n }
-    requires within { unsigned_abs n < length points.old }
-    requires point { IsPoint p }
-    ensures exact { points.new ≡ slice_set points.old (unsigned_abs n) p }
-    ensures valid { All IsPoint points.new }
-    ensures count { length points.new ≡ length points.old }
-{
-    points[n as usize] = p;
 }

@@ -4,6 +4,7 @@
 ghost use Rattle.std.specs.Prelude.{◌≡◌, ◌+◌, ◌^◌, ◌<◌, ◌≤◌, pos, ◌+ℤ◌, ◌<ℤ◌, ◌≤ℤ◌, unsigned_abs};
 ghost use Rattle.tt_state.specs.Rounding.{super_state, super_state_at_45, rounded_magnitude, rounded};
 
+use crate::magnitude::Magnitude;
 use crate::sround::{GridPeriod, Super, cut};
 
 /// The round state: how instructions round.
@@ -41,20 +42,18 @@ impl Round {
     }
 
     /// A rounded magnitude.
-    fn rounded_magnitude(&self, m: i64) -> i64
-        requires small { unsigned_abs m < 2 ^ 41 }
-        requires sign { pos 0 ≤ℤ m }
-        ensures exact { result ≡ rounded_magnitude self.now m }
+    fn rounded_magnitude(&self, m: Magnitude) -> i64
+        ensures exact { result ≡ rounded_magnitude self.now m.size }
         ensures low { pos 0 ≤ℤ result }
-        ensures high { result ≤ℤ (m +ℤ pos 256) }
+        ensures high { result ≤ℤ (m.size +ℤ pos 256) }
     {
         match self {
-            Round::Grid => cut(m + 32, 64),
-            Round::Half => cut(m, 64) + 32,
-            Round::Double => cut(m + 16, 32),
-            Round::Down => cut(m, 64),
-            Round::Up => cut(m + 63, 64),
-            Round::Off => m,
+            Round::Grid => cut(m.size + 32, 64),
+            Round::Half => cut(m.size, 64) + 32,
+            Round::Double => cut(m.size + 16, 32),
+            Round::Down => cut(m.size, 64),
+            Round::Up => cut(m.size + 63, 64),
+            Round::Off => m.size,
             Round::Super(state) => state.rounded(m),
         }
     }
@@ -66,9 +65,9 @@ impl Round {
         ensures bound { unsigned_abs result ≤ unsigned_abs v + 256 }
     {
         if v < 0 {
-            -self.rounded_magnitude(-v)
+            -self.rounded_magnitude(Magnitude { size: -v })
         } else {
-            self.rounded_magnitude(v)
+            self.rounded_magnitude(Magnitude { size: v })
         }
     }
 }

@@ -3,6 +3,8 @@
 ghost use Rattle.std.specs.Prelude.{◌≡◌, ◌+◌, ◌*◌, ◌^◌, ◌<◌, ◌≤◌, pos, ◌+ℤ◌, ◌-ℤ◌, ◌*ℤ◌, ◌<ℤ◌, ◌≤ℤ◌, unsigned_abs};
 ghost use Rattle.tt_state.specs.Sround.{a_pixel, half_a_diagonal, length_of, cut_to, fine_period_of, period_of, phase_of, threshold_of, super_of, rounded_by};
 
+use crate::fine_period::FinePeriod;
+use crate::magnitude::Magnitude;
 use std::marker::Model;
 
 /// The distance between the grid lines of SROUND and S45ROUND.
@@ -63,53 +65,47 @@ pub(crate) fn cut(n: i64, k: u32) -> i64
 
 /// The period in 2.14 pixels, from bits 7 and 6 of the byte. The fourth code, reserved in the standard, counts as the
 /// second (profile).
-fn fine_period_of(grid: u32, byte: u8) -> u32
-    requires low { half_a_diagonal ≤ grid }
-    requires high { grid ≤ a_pixel }
-    ensures exact { result ≡ fine_period_of grid byte }
-    ensures low { 5792 ≤ result }
-    ensures high { result ≤ 32768 }
+fn fine_period_of(grid: GridPeriod, byte: u8) -> FinePeriod
+    ensures { result.length ≡ fine_period_of (length_of grid) byte }
 {
-    match byte / 64 {
-        0 => grid / 2,
-        2 => 2 * grid,
-        _ => grid,
+    let grid = grid.length();
+    if byte / 64 == 0 {
+        return FinePeriod { length: grid / 2 };
     }
+    if byte / 64 == 2 {
+        return FinePeriod { length: 2 * grid };
+    }
+    FinePeriod { length: grid }
 }
 
-/// The phase, from bits 5 and 4: quarters of the period `fine`, which is in 2.14 pixels.
-fn phase_of(fine: u32, byte: u8) -> u32
-    requires low { 5792 ≤ fine }
-    requires high { fine ≤ 32768 }
-    ensures exact { result ≡ phase_of fine byte }
-    ensures within { result < period_of fine }
+/// The phase, from bits 5 and 4: quarters of the period.
+fn phase_of(fine: FinePeriod, byte: u8) -> u32
+    ensures exact { result ≡ phase_of fine.length byte }
+    ensures within { result < period_of fine.length }
 {
-    fine * (u32::from(byte) / 16 % 4) / 4 / 256
+    fine.length * (u32::from(byte) / 16 % 4) / 4 / 256
 }
 
 /// `n - 4` times a period.
-fn eighths(fine: u32, n: u8) -> i32
-    requires some { fine ≤ 32768 }
-    requires few { n < 16 }
-    ensures exact { result ≡ pos fine *ℤ (pos n -ℤ pos 4) }
-    ensures low { pos 0 ≤ℤ (result +ℤ pos (4 * fine)) }
-    ensures high { result ≤ℤ pos (12 * fine) }
+fn eighths(fine: FinePeriod, n: u8) -> i32
+    requires { n < 16 }
+    ensures exact { result ≡ pos fine.length *ℤ (pos n -ℤ pos 4) }
+    ensures low { pos 0 ≤ℤ (result +ℤ pos (4 * fine.length)) }
+    ensures high { result ≤ℤ pos (12 * fine.length) }
 {
-    fine as i32 * (i32::from(n) - 4)
+    fine.length as i32 * (i32::from(n) - 4)
 }
 
 /// The threshold, from bits 3 to 0. For 0 it is the period less one. For any other n it is n - 4 eighths of the
-/// period, rounded down. `fine` is the period in 2.14 pixels.
-fn threshold_of(fine: u32, byte: u8) -> i32
-    requires low { 5792 ≤ fine }
-    requires high { fine ≤ 32768 }
-    ensures exact { result ≡ threshold_of fine byte }
-    ensures low { pos 0 ≤ℤ (result +ℤ pos (period_of fine)) }
-    ensures high { result ≤ℤ pos (2 * period_of fine) }
+/// period, rounded down.
+fn threshold_of(fine: FinePeriod, byte: u8) -> i32
+    ensures exact { result ≡ threshold_of fine.length byte }
+    ensures low { pos 0 ≤ℤ (result +ℤ pos (period_of fine.length)) }
+    ensures high { result ≤ℤ pos (2 * period_of fine.length) }
 {
     let n = byte % 16;
     if n == 0 {
-        (fine / 256) as i32 - 1
+        (fine.length / 256) as i32 - 1
     } else {
         eighths(fine, n).div_euclid(2048)
     }
@@ -120,32 +116,28 @@ impl Super {
     pub(crate) fn from_byte(grid: GridPeriod, byte: u8) -> Super
         ensures { result ≡ super_of (length_of grid) byte }
     {
-        let fine = fine_period_of(grid.length(), byte);
+        let fine = fine_period_of(grid, byte);
         Super {
-            period: fine / 256,
+            period: fine.length / 256,
             phase: phase_of(fine, byte),
             threshold: threshold_of(fine, byte),
         }
     }
 
     /// A magnitude before it is cut.
-    fn lifted(&self, m: i64) -> i64
-        requires small { unsigned_abs m < 2 ^ 41 }
-        requires sign { pos 0 ≤ℤ m }
-        ensures exact { result ≡ (m -ℤ pos self.now.phase) +ℤ self.now.threshold }
+    fn lifted(&self, m: Magnitude) -> i64
+        ensures exact { result ≡ (m.size -ℤ pos self.now.phase) +ℤ self.now.threshold }
         ensures low { pos 0 ≤ℤ (result +ℤ pos 256) }
-        ensures high { (result +ℤ pos self.now.phase) ≤ℤ (m +ℤ pos 256) }
+        ensures high { (result +ℤ pos self.now.phase) ≤ℤ (m.size +ℤ pos 256) }
     {
-        m - i64::from(self.phase) + i64::from(self.threshold)
+        m.size - i64::from(self.phase) + i64::from(self.threshold)
     }
 
     /// A rounded magnitude, or the phase if the result would be below 0.
-    pub(crate) fn rounded(&self, m: i64) -> i64
-        requires small { unsigned_abs m < 2 ^ 41 }
-        requires sign { pos 0 ≤ℤ m }
-        ensures exact { result ≡ rounded_by self.now m }
+    pub(crate) fn rounded(&self, m: Magnitude) -> i64
+        ensures exact { result ≡ rounded_by self.now m.size }
         ensures low { pos 0 ≤ℤ result }
-        ensures high { result ≤ℤ (m +ℤ pos 256) }
+        ensures high { result ≤ℤ (m.size +ℤ pos 256) }
     {
         let phase = i64::from(self.phase);
         let rounded = cut(self.lifted(m), self.period) + phase;

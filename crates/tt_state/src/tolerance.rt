@@ -15,16 +15,6 @@ pub enum Tolerance {
     Tolerant,
 }
 
-/// Whether a refusal is for a missing item.
-fn is_missing(why: Why) -> bool
-    ensures { result ≡ is.is_missing why }
-{
-    matches!(
-        why,
-        Why::PointRange | Why::ContourRange | Why::ZoneRange | Why::CvtRange | Why::StorageRange
-    )
-}
-
 impl Tolerance {
     /// Whether the machine is tolerant.
     #[inline(always)]
@@ -37,13 +27,20 @@ impl Tolerance {
         }
     }
 
-    /// Whether the machine passes over a refusal.
+    /// Whether the machine passes over a refusal: a tolerant one does, where an item is missing.
     pub fn passes_over(self, why: Why) -> bool
         ensures { result ≡ is.passes_over self why }
     {
         match self {
             Tolerance::Strict => false,
-            Tolerance::Tolerant => is_missing(why),
+            Tolerance::Tolerant => matches!(
+                why,
+                Why::PointRange
+                    | Why::ContourRange
+                    | Why::ZoneRange
+                    | Why::CvtRange
+                    | Why::StorageRange
+            ),
         }
     }
 }

@@ -6,19 +6,8 @@ ghost use Rattle.tt_core.specs.Limits.{coordinate_limit};
 ghost use Rattle.tt_state.specs.Vectors as is;
 ghost use Rattle.tt_state.specs.Axes.{vector_of};
 
-use crate::vector::{Vector, VectorPart, Wide, widened};
-
-/// 2^28 `s` / `l`, cut. With two divisions no product exceeds 2^59.
-fn quotient(s: u64, l: u64) -> u64
-    requires some { 0 < l }
-    requires within { s ≤ l }
-    requires small { l < 2 ^ 45 }
-    ensures exact { result ≡ 2 ^ 28 * s / l }
-    ensures bound { result ≤ 2 ^ 28 }
-{
-    let n = 16384 * s;
-    n / l * 16384 + n % l * 16384 / l
-}
+use crate::reach::Reach;
+use crate::vector::{Vector, VectorPart};
 
 /// The magnitude of a part of a unit vector, in 2.14: `s` is the part's square before scaling, and `l` the vector's
 /// squared length.
@@ -29,38 +18,36 @@ fn magnitude(s: u64, l: u64) -> u64
     ensures exact { result ≡ is.magnitude s l }
     ensures bound { result ≤ 16384 }
 {
-    quotient(s, l).isqrt()
+    let n = 16384 * s;
+    // This is 2^28 s / l, cut. With two divisions no product exceeds 2^59.
+    (n / l * 16384 + n % l * 16384 / l).isqrt()
 }
 
-fn square(v: Wide) -> u64
-    requires { unsigned_abs v.0 ≤ 2 * coordinate_limit }
-    ensures exact { result ≡ is.square v.0 }
+fn square(reach: Reach) -> u64
+    ensures exact { result ≡ is.square reach.length }
     ensures bound { result < 2 ^ 44 }
 {
-    let m = v.0.unsigned_abs();
+    let m = reach.length.unsigned_abs();
     m * m
 }
 
-/// A part of a unit vector: `v` is the part before scaling, and `l` the vector's squared length.
-fn part_of(v: Wide, l: u64) -> VectorPart
-    requires small { unsigned_abs v.0 ≤ 2 * coordinate_limit }
+/// A part of a unit vector, in a direction with the squared length `l`.
+fn part_of(reach: Reach, l: u64) -> VectorPart
     requires some { 0 < l }
-    requires within { is.square v.0 ≤ l }
+    requires within { is.square reach.length ≤ l }
     requires few { l < 2 ^ 45 }
-    ensures { result.0 ≡ is.part v.0 l }
+    ensures { result.0 ≡ is.part reach.length l }
 {
-    let m = magnitude(square(v), l) as i16;
-    if v.0 < 0 {
+    let m = magnitude(square(reach), l) as i16;
+    if reach.length < 0 {
         VectorPart(-m)
     } else {
         VectorPart(m)
     }
 }
 
-fn unit_of(x: Wide, y: Wide) -> Vector
-    requires x { unsigned_abs x.0 ≤ 2 * coordinate_limit }
-    requires y { unsigned_abs y.0 ≤ 2 * coordinate_limit }
-    ensures { result ≡ vector_of (is.unit x.0 y.0) }
+fn unit_of(x: Reach, y: Reach) -> Vector
+    ensures { result ≡ vector_of (is.unit x.length y.length) }
 {
     let l = square(x) + square(y);
     if l == 0 {
@@ -69,21 +56,22 @@ fn unit_of(x: Wide, y: Wide) -> Vector
     Vector::of(part_of(x, l), part_of(y, l))
 }
 
-fn difference(from: i32, to: i32) -> Wide
+fn difference(from: i32, to: i32) -> Reach
     requires from { unsigned_abs from ≤ coordinate_limit }
     requires to { unsigned_abs to ≤ coordinate_limit }
-    ensures exact { result.0 ≡ to -ℤ from }
-    ensures bound { unsigned_abs result.0 ≤ 2 * coordinate_limit }
+    ensures { result.length ≡ to -ℤ from }
 {
-    Wide(i64::from(to) - i64::from(from))
+    Reach {
+        length: i64::from(to) - i64::from(from),
+    }
 }
 
-fn negated(v: Wide) -> Wide
-    requires { unsigned_abs v.0 ≤ 2 * coordinate_limit }
-    ensures exact { result.0 ≡ neg_ℤ v.0 }
-    ensures bound { unsigned_abs result.0 ≤ 2 * coordinate_limit }
+fn negated(reach: Reach) -> Reach
+    ensures { result.length ≡ neg_ℤ reach.length }
 {
-    Wide(-v.0)
+    Reach {
+        length: -reach.length,
+    }
 }
 
 impl Vector {
@@ -93,7 +81,13 @@ impl Vector {
         requires y { unsigned_abs y ≤ 2 * coordinate_limit }
         ensures { result ≡ vector_of (is.unit x y) }
     {
-        unit_of(widened(x), widened(y))
+        let x = Reach {
+            length: i64::from(x),
+        };
+        let y = Reach {
+            length: i64::from(y),
+        };
+        unit_of(x, y)
     }
 
     /// The unit vector of a line, or that vector turned counterclockwise by a quarter turn. It is the x axis if the

@@ -7,6 +7,7 @@ ghost use Rattle.tt_core.specs.Numbers.{rounded_quotient};
 ghost use Rattle.tt_state.specs.Vectors as is;
 ghost use Rattle.tt_state.specs.Axes.{pair_of, vector_of};
 
+use crate::steps::Steps;
 use std::marker::Model;
 use tt_core::rq;
 
@@ -40,13 +41,13 @@ pub enum Vector {
 
 /// A number with room for products.
 #[derive(Clone, Copy)]
-pub(crate) struct Wide(pub(crate) i64);
+struct Wide(i64);
 
 /// A part of a unit vector, in 2.14.
 #[derive(Clone, Copy)]
 pub(crate) struct VectorPart(pub(crate) i16);
 
-pub(crate) fn widened(v: i32) -> Wide
+fn widened(v: i32) -> Wide
     ensures exact { result.0 ≡ v }
     ensures bound { unsigned_abs result.0 ≤ 2 ^ 31 }
 {
@@ -61,15 +62,6 @@ fn product(a: Wide, b: Wide) -> i64
     ensures bound { unsigned_abs result ≤ 16384 * unsigned_abs a.0 }
 {
     a.0 * b.0
-}
-
-fn total(a: i64, b: i64) -> i64
-    requires a { unsigned_abs a ≤ 2 ^ 45 }
-    requires b { unsigned_abs b ≤ 2 ^ 45 }
-    ensures exact { result ≡ a +ℤ b }
-    ensures bound { unsigned_abs result ≤ unsigned_abs a + unsigned_abs b }
-{
-    a + b
 }
 
 /// A product with parts of a unit vector, rounded from 14 fractional bits to a whole number.
@@ -103,7 +95,7 @@ impl Slope {
         ensures exact { result ≡ (x.0 *ℤ self.now.x) +ℤ (y.0 *ℤ self.now.y) }
         ensures bound { unsigned_abs result ≤ 16384 * (unsigned_abs x.0 + unsigned_abs y.0) }
     {
-        total(product(x, self.x()), product(y, self.y()))
+        product(x, self.x()) + product(y, self.y())
     }
 }
 
@@ -161,44 +153,34 @@ impl Vector {
         }
     }
 
-    /// The distances along x and along y of a distance `d` along the vector, in 26.6 pixels.
+    /// The move along x and along y, for a distance `d` along the vector.
     #[tactic(auto, unfolding(crate::specs::Vectors::along), using(crate::proofs::OnAxes::whole, crate::proofs::OnAxes::nothing))]
-    pub fn along(&self, d: i64) -> (i64, i64)
+    pub fn along(&self, d: i64) -> Steps
         requires { unsigned_abs d ≤ 2 ^ 32 }
-        ensures exact { is.pair result.0 result.1 ≡ is.along (pair_of self.now) d }
-        ensures few_x { unsigned_abs result.0 ≤ 2 ^ 32 }
-        ensures few_y { unsigned_abs result.1 ≤ 2 ^ 32 }
+        ensures { is.pair result.x result.y ≡ is.along (pair_of self.now) d }
     {
         match self {
-            Vector::X => (d, 0),
-            Vector::Y => (0, d),
-            Vector::Off(s) => (
-                rounded(product(Wide(d), s.x())),
-                rounded(product(Wide(d), s.y())),
-            ),
+            Vector::X => Steps { x: d, y: 0 },
+            Vector::Y => Steps { x: 0, y: d },
+            Vector::Off(s) => Steps {
+                x: rounded(product(Wide(d), s.x())),
+                y: rounded(product(Wide(d), s.y())),
+            },
         }
     }
 }
 
-/// A usable dot product: 1 if its magnitude is below a sixteenth, so that points do not fly off (profile).
-fn counted(whole: i64) -> i32
-    requires { unsigned_abs whole ≤ 32768 }
-    ensures exact { result ≡ is.counted whole }
-    ensures low { 1024 ≤ unsigned_abs result }
-    ensures high { unsigned_abs result ≤ 32768 }
-{
-    if whole.unsigned_abs() < 1024 {
-        16384
-    } else {
-        whole as i32
-    }
-}
-
-/// The length of the freedom vector along the projection vector, in 2.14.
+/// The length of the freedom vector along the projection vector, in 2.14. It is 1 if its magnitude is below a
+/// sixteenth, so that points do not fly off (profile).
 pub fn dot(projection: Vector, freedom: Vector) -> i32
     ensures exact { result ≡ is.dot (pair_of projection) (pair_of freedom) }
     ensures low { 1024 ≤ unsigned_abs result }
     ensures high { unsigned_abs result ≤ 32768 }
 {
-    counted(projection.project(freedom.x(), freedom.y()))
+    let whole = projection.project(freedom.x(), freedom.y());
+    if whole.unsigned_abs() < 1024 {
+        16384
+    } else {
+        whole as i32
+    }
 }

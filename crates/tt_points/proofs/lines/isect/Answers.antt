@@ -7,8 +7,8 @@ pub returns-in_err-met-clause-exact : goal.returns-in_err-met-clause-exact
 unfolding isect
 returns-in_err-met-clause-exact c =
     let p : SFits w32 c.args.p = c.ranges.p in
-    let b = c.in_ok-b.ensures.exact in
-    let a = c.in_ok-a.ensures.exact in
+    let b = c.in_ok-b.ensures in
+    let a = c.in_ok-a.ensures in
     let q = simp to_z-of_z at c.in_ok-q.ensures.exact in
     let met = c.in_err-met.ensures.exact in
     rw (isect, b, a, q, met) (search rules)
@@ -17,8 +17,8 @@ pub returns-clause-exact : goal.returns-clause-exact
 unfolding isect
 returns-clause-exact c =
     let p : SFits w32 c.args.p = c.ranges.p in
-    let b = c.in_ok-b.ensures.exact in
-    let a = c.in_ok-a.ensures.exact in
+    let b = c.in_ok-b.ensures in
+    let a = c.in_ok-a.ensures in
     let q = simp to_z-of_z at c.in_ok-q.ensures.exact in
     let met = c.in_ok-met.ensures.exact in
     rw (isect, b, a, q, met) (search rules)

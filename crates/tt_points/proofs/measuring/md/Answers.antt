@@ -6,8 +6,8 @@ use Rattle.tt_points.proofs.measuring.md.Goals as goal
 pub returns-in-Current : goal.returns-in-Current
 unfolding md
 returns-in-Current c =
-    let p1 : SFits w32 c.args.p1 = c.ranges.p1 in
-    let p2 : SFits w32 c.args.p2 = c.ranges.p2 in
+    let from : SFits w32 c.args.ends.from = search rules in
+    let to : SFits w32 c.args.ends.to = search rules in
     let fits : SFits w32 c.stack_value.result = search rules in
     let a = simp to_z-of_z at c.in_ok-a.ensures.exact in
     let b = simp to_z-of_z at c.in_ok-b.ensures.exact in

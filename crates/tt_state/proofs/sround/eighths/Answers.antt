@@ -6,16 +6,16 @@ use Rattle.tt_state.proofs.sround.eighths.Goals as goal
 pub returns-clause-exact : goal.returns-clause-exact
 returns-clause-exact c =
     let is_n : c.from.result ≡ pos c.args.n = search rules in
-    let is_fine = to_z_pos w32 c.args.fine (omega arith) in
+    let is_fine = to_z_pos w32 c.args.fine.length (omega (arith, c.args.fine.high)) in
     let small : SFits w32 (pos c.args.n) = omega (arith, ints) in
     let few : unsigned_abs (pos c.args.n -ℤ pos 4) ≤ 16 = omega (arith, ints) in
     let difference : SFits w32 (pos c.args.n -ℤ pos 4) = omega (arith, ints) in
-    let product : SFits w32 (pos c.args.fine *ℤ (pos c.args.n -ℤ pos 4)) =
-    fits_signed_mul w32 (pos c.args.fine) (pos c.args.n -ℤ pos 4) 32768 16 c.requires.some few (omega arith) in
+    let product : SFits w32 (pos c.args.fine.length *ℤ (pos c.args.n -ℤ pos 4)) =
+    fits_signed_mul w32 (pos c.args.fine.length) (pos c.args.n -ℤ pos 4) 32768 16 c.args.fine.high few (omega arith) in
     simp (is_n, is_fine, to_z-of_z)
 
 pub returns-clause-low : goal.returns-clause-low
-returns-clause-low c = rw (returns-clause-exact c) (eighths_low c.args.fine c.args.n)
+returns-clause-low c = rw (returns-clause-exact c) (eighths_low c.args.fine.length c.args.n)
 
 pub returns-clause-high : goal.returns-clause-high
-returns-clause-high c = rw (returns-clause-exact c) (eighths_high c.args.fine c.args.n c.requires.few)
+returns-clause-high c = rw (returns-clause-exact c) (eighths_high c.args.fine.length c.args.n c.requires)

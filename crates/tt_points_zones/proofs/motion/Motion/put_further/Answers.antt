@@ -18,8 +18,8 @@ returns-in_err-pushed_to-2-clause-exact c =
     let py : SFits w32 c.args.p.y = search rules in
     let free_x : SFits w32 c.x.result = search rules in
     let free_y : SFits w32 c.y.result = search rules in
-    let by_x : SFits w64 c.args.by.0 = search rules in
-    let by_y : SFits w64 c.args.by.1 = search rules in
+    let by_x : SFits w64 c.args.by.x = search rules in
+    let by_y : SFits w64 c.args.by.y = search rules in
     let first = simp to_z-of_z at c.in_ok-pushed_to.ensures.exact in
     let second = simp to_z-of_z at c.in_err-pushed_to-2.ensures.exact in
     rw (← c.x.ensures.exact, ← c.y.ensures.exact, first, second) (search rules)

@@ -8,6 +8,6 @@ use Rattle.tt_points_zones.proofs.motion.Motion.shifted_along.Goals as goal
 pub returns-clause-exact : goal.returns-clause-exact
 returns-clause-exact c =
     let d : SFits w64 c.args.d = c.ranges.d in
-    let along = simp to_z-of_z at c.along.ensures.exact in
+    let along = simp to_z-of_z at c.along.ensures in
     subst (λ (by : Pair). Gives (λ q. q) c.put_further.result (put_further c.args.self.now.free by c.args.p))
     along c.put_further.ensures.exact

@@ -16,3 +16,20 @@ returns c =
     let contours = same_list _ c.args.self.now.contours.items _ (λ x y same i. (same.0 i, same.1 i))
     c.in_ok-clone-3.ensures.cases.0 in
     rw (twilight, glyph, contours) refl
+
+pub invariant_of-result-clause-twilight_points : goal.invariant_of-result-clause-twilight_points
+invariant_of-result-clause-twilight_points c =
+    let twilight = same_list _ c.args.self.now.twilight.items _ (λ x y same. same) c.in_ok-clone.ensures.cases.0 in
+    rw twilight c.args.self.now.twilight_points
+
+pub invariant_of-result-clause-glyph_points : goal.invariant_of-result-clause-glyph_points
+invariant_of-result-clause-glyph_points c =
+    let glyph = same_list _ c.args.self.now.glyph.items _ (λ x y same. same) c.in_ok-clone-2.ensures.cases.0 in
+    rw glyph c.args.self.now.glyph_points
+
+pub invariant_of-result-clause-ranges : goal.invariant_of-result-clause-ranges
+invariant_of-result-clause-ranges c =
+    let glyph = same_list _ c.args.self.now.glyph.items _ (λ x y same. same) c.in_ok-clone-2.ensures.cases.0 in
+    let contours = same_list _ c.args.self.now.contours.items _ (λ x y same i. (same.0 i, same.1 i))
+    c.in_ok-clone-3.ensures.cases.0 in
+    rw (glyph, contours) c.args.self.now.ranges

@@ -8,6 +8,6 @@ returns-then-turned c =
     let fy : SFits w32 c.args.from.1 = search rules in
     let tx : SFits w32 c.args.to.0 = search rules in
     let ty : SFits w32 c.args.to.1 = search rules in
-    let dx = simp to_z-of_z at c.difference-dx.ensures.exact in
-    let dy = simp to_z-of_z at c.difference-dy.ensures.exact in
-    rw (c.unit_of.ensures, c.negated.ensures.exact, dx, dy, c.if-turned.true) refl
+    let dx = simp to_z-of_z at c.difference-dx.ensures in
+    let dy = simp to_z-of_z at c.difference-dy.ensures in
+    rw (c.unit_of.ensures, c.negated.ensures, dx, dy, c.if-turned.true) refl
