@@ -1,47 +1,18 @@
-//! The instructions that measure points or put them: SCFS, UTP, GC, MD. On a tolerant machine GC and MD measure 0 if a
-//! point is missing (profile). Apple TrueType Reference Manual, "Instruction set": managing outlines.
+//! The instructions that measure points: GC, MD. On a tolerant machine they measure 0 if a point is missing (profile).
+//! Apple TrueType Reference Manual, "Instruction set": managing outlines.
 
 ghost use Rattle.std.specs.Prelude.{◌≡◌};
-ghost use Rattle.tt_core.specs.Outcomes.{Gives};
 ghost use Rattle.tt_exec_points.specs.Instruction as is;
+ghost use Rattle.tt_exec_stack.specs.Stack.{Does};
 
 use crate::points::Points;
 use crate::popping::unless_missing;
 use tt_core::Why;
 use tt_exec_stack::Stack;
-use tt_points::measuring::{Position, gc, md, scfs, utp};
+use tt_points::measuring::{Position, gc, md};
 use tt_state::{GraphicsState, Tolerance};
 
 impl Points {
-    /// SCFS[], 0x48: p, v -> nothing. Errors: PointRange, Perpendicular, ValueRange.
-    pub(crate) fn scfs(
-        &mut self,
-        tolerance: Tolerance,
-        stack: &mut Stack,
-        graphics: &GraphicsState,
-    ) -> Result<(), Why>
-        ensures { let given = is.scfs tolerance stack.old self.old graphics.now in
-            Gives (λ u. (stack.new, self.new, graphics.now)) result given }
-    {
-        let v = stack.pop()?;
-        let p = stack.pop()?;
-        unless_missing!(tolerance, scfs(&mut self.zones, graphics, p, v), ())
-    }
-
-    /// UTP[], 0x29: p -> nothing. Error: PointRange.
-    pub(crate) fn utp(
-        &mut self,
-        tolerance: Tolerance,
-        stack: &mut Stack,
-        graphics: &GraphicsState,
-    ) -> Result<(), Why>
-        ensures { let given = is.utp tolerance stack.old self.old graphics.now in
-            Gives (λ u. (stack.new, self.new, graphics.now)) result given }
-    {
-        let p = stack.pop()?;
-        unless_missing!(tolerance, utp(&mut self.zones, graphics, p), ())
-    }
-
     /// GC[a], 0x46 and 0x47: p -> c. Error: PointRange.
     pub(crate) fn gc(
         &self,
@@ -50,7 +21,7 @@ impl Points {
         stack: &mut Stack,
         graphics: &GraphicsState,
     ) -> Result<(), Why>
-        ensures { Gives (λ u. stack.new) result (is.gc tolerance of stack.old self.now graphics.now) }
+        ensures { Does (is.gc tolerance of stack.old self.now graphics.now) stack.new result }
     {
         let p = stack.pop()?;
         let measured = unless_missing!(tolerance, gc(&self.zones, graphics, of, p), 0);
@@ -65,7 +36,7 @@ impl Points {
         stack: &mut Stack,
         graphics: &GraphicsState,
     ) -> Result<(), Why>
-        ensures { Gives (λ u. stack.new) result (is.md tolerance between stack.old self.now graphics.now) }
+        ensures { Does (is.md tolerance between stack.old self.now graphics.now) stack.new result }
     {
         let p1 = stack.pop()?;
         let p2 = stack.pop()?;
