@@ -48,10 +48,10 @@ pub fn on_points(
         Does given (stack.new, points.new, graphics.new, cvt.new) result }
 {
     match op {
-        OnPoints::OnOne(op) => points.on_one(tolerance, op, cvt, stack, graphics),
-        OnPoints::OnLines(op) => points.on_lines(tolerance, op, stack, graphics),
-        OnPoints::InTurn(op) => points.in_turn(tolerance, op, stack, graphics),
-        OnPoints::OnRange(op) => points.on_range(tolerance, op, stack, graphics),
+        OnPoints::OnOne(one) => points.on_one(tolerance, one, cvt, stack, graphics),
+        OnPoints::OnLines(lines) => points.on_lines(tolerance, lines, stack, graphics),
+        OnPoints::InTurn(several) => points.in_turn(tolerance, several, stack, graphics),
+        OnPoints::OnRange(range) => points.on_range(tolerance, range, stack, graphics),
         OnPoints::Iup(axis) => points.iup(axis),
         OnPoints::Gc(of) => points.gc(tolerance, of, stack, graphics),
         OnPoints::Md(between) => points.md(tolerance, between, stack, graphics),
