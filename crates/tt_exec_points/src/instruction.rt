@@ -16,7 +16,7 @@ use tt_core::Why;
 use tt_exec_stack::Stack;
 use tt_exec_state::Size;
 use tt_points::measuring::Position;
-use tt_points_loops::deltas::DeltaRange;
+use tt_points_loops::deltas::{DeltaRange, Deltas};
 use tt_state::{Axis, GraphicsState, Tolerance};
 
 /// An instruction on points, or DELTAC. Those of one family take the same and leave the same.
@@ -31,6 +31,19 @@ pub enum OnPoints {
     Md(Position),
     Deltap(DeltaRange),
     Deltac(DeltaRange),
+}
+
+/// The exceptions of an instruction on this machine.
+fn deltas(range: DeltaRange, size: Size, tolerance: Tolerance) -> Deltas
+    ensures range { result.range ≡ range }
+    ensures ppem { result.ppem ≡ size.ppem }
+    ensures tolerance { result.tolerance ≡ tolerance }
+{
+    Deltas {
+        range,
+        ppem: size.ppem,
+        tolerance,
+    }
 }
 
 /// Executes an instruction. Errors: StackShort; those of the instruction. A tolerant machine has none for a missing
@@ -55,7 +68,7 @@ pub fn on_points(
         OnPoints::Iup(axis) => points.iup(axis),
         OnPoints::Gc(of) => points.gc(tolerance, of, stack, graphics),
         OnPoints::Md(between) => points.md(tolerance, between, stack, graphics),
-        OnPoints::Deltap(range) => points.deltap(tolerance, range, size.ppem, stack, graphics),
-        OnPoints::Deltac(range) => deltac(tolerance, range, size.ppem, stack, graphics, cvt),
+        OnPoints::Deltap(range) => points.deltap(deltas(range, size, tolerance), stack, graphics),
+        OnPoints::Deltac(range) => deltac(deltas(range, size, tolerance), stack, graphics, cvt),
     }
 }

@@ -13,7 +13,7 @@ use crate::popping::{pairs_counted, pairs_there, popped, unless_missing};
 use tt_core::Why;
 use tt_exec_stack::Stack;
 use tt_points_iup::iup;
-use tt_points_loops::deltas::{DeltaRange, deltap};
+use tt_points_loops::deltas::{Deltas, deltap};
 use tt_points_loops::flipping::{flippt, fliprgoff, fliprgon};
 use tt_points_loops::moving::{alignrp, ip, shpix};
 use tt_points_loops::shifting::{ReferencePoint, reference_number, reference_zone, shc, shp, shz};
@@ -142,19 +142,17 @@ impl Points {
     /// Errors: BadArgument, PointRange, Perpendicular, ValueRange.
     pub(crate) fn deltap(
         &mut self,
-        tolerance: Tolerance,
-        range: DeltaRange,
-        ppem: u32,
+        by: Deltas,
         stack: &mut Stack,
         graphics: &GraphicsState,
     ) -> Result<(), Why>
-        ensures { let given = is.deltap tolerance range ppem stack.old self.old graphics.now in
+        ensures { let given = is.deltap by.tolerance by.range by.ppem stack.old self.old graphics.now in
             Does given (stack.new, self.new, graphics.now) result }
     {
         let many = pairs_counted(stack)?;
-        let there = pairs_there(tolerance, many, stack);
+        let there = pairs_there(by.tolerance, many, stack);
         let pairs = stack.top(there)?;
-        deltap(&mut self.zones, graphics, tolerance, range, ppem, pairs)?;
+        deltap(&mut self.zones, graphics, by, pairs)?;
         stack.discard(many.min(stack.len()));
         Ok(())
     }
