@@ -1,8 +1,7 @@
 //! One pass round a contour, from each touched point to the next one.
 
-ghost use Rattle.std.specs.Prelude.{◌≡◌, ◌+◌, ◌*◌, ◌^◌, ◌<◌, ◌≤◌, length, map, take, drop, Err, All, IfOk, IfErr};
+ghost use Rattle.std.specs.Prelude.{◌≡◌, ◌+◌, ◌*◌, ◌^◌, ◌<◌, ◌≤◌, length, map, take, drop, Err, IfOk, IfErr};
 ghost use Rattle.tt_core.specs.Outcomes.{Gives};
-ghost use Rattle.tt_points_zones.specs.Zones.{IsPoint};
 ghost use Rattle.tt_points_iup.specs.Interpolation as is;
 ghost use Rattle.tt_points_iup.specs.Readings.{of_contour};
 ghost use Rattle.tt_points_iup.specs.Sweeps.{swept, IsRun};
@@ -28,9 +27,6 @@ fn fill(
     after: PlainPoint,
 ) -> Result<(), Why>
     requires range { start + len ≤ length contour.old.points.now }
-    requires points { All IsPoint contour.old.points.now }
-    requires before { IsPoint before.point }
-    requires after { IsPoint after.point }
     ensures exact { Gives (λ u. take len (drop start contour.new.points.now)) result
         (is.limited contour.old.along.axis (map (is.interpolated contour.old.along before.point after.point)
         (take len (drop start contour.old.points.now)))) }
@@ -38,7 +34,6 @@ fn fill(
     ensures back { IfOk result (λ u.
         drop len (drop start contour.new.points.now) ≡ drop len (drop start contour.old.points.now)) }
     ensures count { IfOk result (λ u. contour.new.reads ≡ contour.old.reads) }
-    ensures valid { All IsPoint contour.new.points.now }
     ensures many { IfOk result (λ u. length contour.new.points.now ≡ length contour.old.points.now) }
     ensures along { contour.new.along ≡ contour.old.along }
     ensures same_reference { contour.new.points.ghost_name ≡ contour.old.points.ghost_name }
@@ -63,9 +58,6 @@ fn next_run(
     first: PlainPoint,
 ) -> Result<PointRun, Why>
     requires start { start < length contour.old.points.now }
-    requires points { All IsPoint contour.old.points.now }
-    requires before { IsPoint before.point }
-    requires first { IsPoint first.point }
     requires room { contour.old.reads + length contour.old.points.now < 2 ^ 64 + start }
     ensures run { IfOk result (λ run. IsRun contour.old.along before.point first.point
         (drop start contour.old.points.now) (drop start contour.new.points.now) run.len run.last.point) }
@@ -74,7 +66,6 @@ fn next_run(
     ensures fault { IfErr result (λ why.
         is.limited contour.old.along.axis (swept contour.old.along before.point first.point
         (drop start contour.old.points.now)) ≡ Err why) }
-    ensures valid { All IsPoint contour.new.points.now }
     ensures along { contour.new.along ≡ contour.old.along }
     ensures same_reference { contour.new.points.ghost_name ≡ contour.old.points.ghost_name }
 {
@@ -91,14 +82,10 @@ fn next_run(
 /// Interpolates a contour from its first point to its end. `last` and `first` are its last and first touched point.
 /// Error: ValueRange.
 fn sweep(contour: &mut Contour<'_>, last: PlainPoint, first: PlainPoint) -> Result<(), Why>
-    requires points { All IsPoint contour.old.points.now }
-    requires last { IsPoint last.point }
-    requires first { IsPoint first.point }
     requires room { contour.old.reads + length contour.old.points.now < 2 ^ 64 }
     ensures exact { Gives (λ u. contour.new.points.now) result
         (is.limited contour.old.along.axis (swept contour.old.along last.point first.point contour.old.points.now)) }
     ensures count { IfOk result (λ u. contour.new.reads ≡ contour.old.reads + length contour.old.points.now) }
-    ensures valid { All IsPoint contour.new.points.now }
     ensures same_reference { contour.new.points.ghost_name ≡ contour.old.points.ghost_name }
 {
     let mut start = 0;
@@ -113,14 +100,12 @@ fn sweep(contour: &mut Contour<'_>, last: PlainPoint, first: PlainPoint) -> Resu
 
 /// Interpolates the points of a contour. Error: ValueRange.
 pub(crate) fn interpolate_contour(contour: &mut Contour<'_>) -> Result<(), Why>
-    requires points { All IsPoint contour.old.points.now }
     requires room { contour.old.reads + 3 * length contour.old.points.now < 2 ^ 64 }
     ensures exact { Gives (λ u. contour.new.points.now) result
         (is.limited contour.old.along.axis (is.contour contour.old.along contour.old.points.now)) }
     ensures count { IfOk result (λ u.
         contour.new.reads ≡ contour.old.reads + of_contour contour.old.along.axis contour.old.points.now) }
     ensures few { IfOk result (λ u. contour.new.reads ≤ contour.old.reads + 3 * length contour.old.points.now) }
-    ensures valid { All IsPoint contour.new.points.now }
     ensures same_reference { contour.new.points.ghost_name ≡ contour.old.points.ghost_name }
 {
     let Some(first) = first_touched(contour) else {

@@ -1,7 +1,6 @@
 use Rattle.std.proofs.Common.{◌≡◌, ◌∙◌, ◌+◌, ◌<◌, length, drop, get_or, length-drop, sym, arith}
 use Rattle.std.proofs.lemmas.List.{get_or-drop}
 use Rattle.std.proofs.lemmas.Result.{err_from_is_err_and}
-use Rattle.tt_points_zones.specs.Zones.{IsPoint}
 use Rattle.tt_points_iup.proofs.Filled.{blank}
 use Rattle.tt_points_iup.proofs.Runs.{run_finishes, run_finishes_outside, run_reaches, run_reaches_outside}
 use Rattle.tt_points_iup.proofs.contour.next_run.Goals as goal
@@ -35,7 +34,7 @@ returns-then-start-len-clause-run c =
     let same : length new ≡ length old = omega (arith, left, now, many) in
     let made = rw (searched.along, searched.unchanged) at c.in_ok-fill.ensures.exact in
     run_finishes c.args.contour.now.along c.args.before.point c.args.first.point old new c.untouched-len.result some
-    long same searched.none made c.requires.before
+    long same searched.none made
 
 pub returns-in_err-fill-2-clause-fault : goal.returns-in_err-fill-2-clause-fault
 returns-in_err-fill-2-clause-fault c =
@@ -71,7 +70,5 @@ returns-clause-run c =
     let is : c.at-last.result.point ≡ get_or old n blank = last ∙ sym (get_or-drop start points n blank) in
     let made = rw (searched.along, searched.unchanged) at c.in_ok-fill-2.ensures.exact in
     let back = rw searched.unchanged at c.in_ok-fill-2.ensures.back in
-    let valid : IsPoint (get_or old n blank) =
-    rw (get_or-drop start points n blank) (c.requires.points (start + n) blank far) in
     run_reaches c.args.contour.now.along c.args.before.point c.args.first.point c.at-last.result.point old (drop start
-    c.fill-2.new.contour.points.now) n blank inside searched.none (searched.end blank far) is made back valid
+    c.fill-2.new.contour.points.now) n blank inside searched.none (searched.end blank far) is made back
