@@ -277,17 +277,11 @@ flippt k s z g =
     loop true s z g (λ points. flipping.flippt tolerance.Strict points z g)
     (λ points. flipping.flippt tolerance.Tolerant points z g) ((k z g).flippt) (λ none. absurd cc)
 
-fliprgon : (s : List ℤ) (z : ZoneLists) (g : GraphicsState)
-    → Loosens (is.fliprgon tolerance.Strict s z g) (is.fliprgon tolerance.Tolerant s z g)
-fliprgon (high ∷ low ∷ s) z g = unless (s, z, g) (after_move s g (flipping.fliprgon low high z))
-fliprgon (high ∷ []) z g = λ other. refl
-fliprgon [] z g = λ other. refl
-
-fliprgoff : (s : List ℤ) (z : ZoneLists) (g : GraphicsState)
-    → Loosens (is.fliprgoff tolerance.Strict s z g) (is.fliprgoff tolerance.Tolerant s z g)
-fliprgoff (high ∷ low ∷ s) z g = unless (s, z, g) (after_move s g (flipping.fliprgoff low high z))
-fliprgoff (high ∷ []) z g = λ other. refl
-fliprgoff [] z g = λ other. refl
+flip_range : (on : Bool) (s : List ℤ) (z : ZoneLists) (g : GraphicsState)
+    → Loosens (is.flip_range tolerance.Strict on s z g) (is.flip_range tolerance.Tolerant on s z g)
+flip_range on (high ∷ low ∷ s) z g = unless (s, z, g) (after_move s g (flipping.flip_range on low high z))
+flip_range on (high ∷ []) z g = λ other. refl
+flip_range on [] z g = λ other. refl
 
 shc : (which : ReferencePoint) (s : List ℤ) (z : ZoneLists) (g : GraphicsState)
     → Loosens (is.shc tolerance.Strict which s z g) (is.shc tolerance.Tolerant which s z g)
@@ -360,8 +354,7 @@ points_loosened k (instruction.Deltac range) ppem s z g cvt =
     chained (deltac tolerance.Strict range ppem s g cvt) (deltac tolerance.Tolerant range ppem s g cvt) _ _
     (values range ppem s g cvt) (λ t. refl)
 points_loosened k (instruction.InTurn turn.Flippt) ppem s z g cvt = valued cvt _ _ (flippt k s z g)
-points_loosened k (instruction.OnRange ranged.Fliprgon) ppem s z g cvt = valued cvt _ _ (fliprgon s z g)
-points_loosened k (instruction.OnRange ranged.Fliprgoff) ppem s z g cvt = valued cvt _ _ (fliprgoff s z g)
+points_loosened k (instruction.OnRange (ranged.Flip on)) ppem s z g cvt = valued cvt _ _ (flip_range on s z g)
 points_loosened k (instruction.OnOne (single.Mdrp keeping)) ppem s z g cvt = valued cvt _ _ (mdrp keeping s z g)
 points_loosened k (instruction.OnOne (single.Mirp keeping)) ppem s z g cvt = valued cvt _ _ (mirp keeping cvt s z g)
 points_loosened k (instruction.OnLines (line.Spvtl turned)) ppem s z g cvt = valued cvt _ _ (spvtl turned s z g)

@@ -190,17 +190,12 @@ shpix k t [] z g = tt
 flippt : Many → (t : Tolerance) (s : List ℤ) (z : ZoneLists) (g : GraphicsState) → Keeps z (is.flippt t s z g)
 flippt k t s z g = loop t true s z g (λ points. flipping.flippt t points z g) ((k z g).flippt t)
 
-fliprgon : Many → (t : Tolerance) (s : List ℤ) (z : ZoneLists) (g : GraphicsState) → Keeps z (is.fliprgon t s z g)
-fliprgon k t (high ∷ low ∷ s) z g =
-    passed t s z _ _ (changed s g z (flipping.fliprgon low high z) ((k z g).fliprgon low high))
-fliprgon k t (high ∷ []) z g = tt
-fliprgon k t [] z g = tt
-
-fliprgoff : Many → (t : Tolerance) (s : List ℤ) (z : ZoneLists) (g : GraphicsState) → Keeps z (is.fliprgoff t s z g)
-fliprgoff k t (high ∷ low ∷ s) z g =
-    passed t s z _ _ (changed s g z (flipping.fliprgoff low high z) ((k z g).fliprgoff low high))
-fliprgoff k t (high ∷ []) z g = tt
-fliprgoff k t [] z g = tt
+flip_range : Many → (t : Tolerance) (on : Bool) (s : List ℤ) (z : ZoneLists) (g : GraphicsState)
+    → Keeps z (is.flip_range t on s z g)
+flip_range k t on (high ∷ low ∷ s) z g =
+    passed t s z _ _ (changed s g z (flipping.flip_range on low high z) ((k z g).flip_range on low high))
+flip_range k t on (high ∷ []) z g = tt
+flip_range k t on [] z g = tt
 
 shc : Many → (t : Tolerance) (which : ReferencePoint) (s : List ℤ) (z : ZoneLists) (g : GraphicsState)
     → Keeps z (is.shc t which s z g)
@@ -286,8 +281,8 @@ sizes_kept one many i t (instruction.Deltac range) ppem s z g cvt has =
     through (λ u. AsMany cvt u.1) (SameSizes z cvt) (deltac t range ppem s g cvt) (λ u. Ok (u.0, z, g, u.1))
     (deltac_kept t range ppem s g cvt) (λ u count. record { zones = same z; control_values = count })
 sizes_kept one many i t (instruction.InTurn turn.Flippt) ppem s z g cvt has = valued z cvt _ (flippt many t s z g)
-sizes_kept one many i t (instruction.OnRange ranged.Fliprgon) ppem s z g cvt has = valued z cvt _ (fliprgon many t s z g)
-sizes_kept one many i t (instruction.OnRange ranged.Fliprgoff) ppem s z g cvt has = valued z cvt _ (fliprgoff many t s z g)
+sizes_kept one many i t (instruction.OnRange (ranged.Flip on)) ppem s z g cvt has =
+    valued z cvt _ (flip_range many t on s z g)
 sizes_kept one many i t (instruction.OnOne (single.Mdrp keeping)) ppem s z g cvt has = valued z cvt _ (mdrp one t keeping s z g)
 sizes_kept one many i t (instruction.OnOne (single.Mirp keeping)) ppem s z g cvt has = valued z cvt _ (mirp one t keeping cvt s z g)
 sizes_kept one many i t (instruction.OnLines (line.Spvtl turned)) ppem s z g cvt has = valued z cvt _ (spvtl t turned s z g)

@@ -39,10 +39,8 @@ points_short (instruction.Deltap range) ppem t s z g cvt few =
 points_short (instruction.Deltac range) ppem t s z g cvt few =
     short_of_one (λ s. on_points t (instruction.Deltac range) ppem s z g cvt) refl s few
 points_short (instruction.InTurn turn.Flippt) ppem t s z g cvt few = absurd (omega arith)
-points_short (instruction.OnRange ranged.Fliprgon) ppem t s z g cvt few =
-    short_of_two (λ s. on_points t (instruction.OnRange ranged.Fliprgon) ppem s z g cvt) refl (λ a. refl) s few
-points_short (instruction.OnRange ranged.Fliprgoff) ppem t s z g cvt few =
-    short_of_two (λ s. on_points t (instruction.OnRange ranged.Fliprgoff) ppem s z g cvt) refl (λ a. refl) s few
+points_short (instruction.OnRange (ranged.Flip on)) ppem t s z g cvt few =
+    short_of_two (λ s. on_points t (instruction.OnRange (ranged.Flip on)) ppem s z g cvt) refl (λ a. refl) s few
 points_short (instruction.OnOne (single.Mdrp keeping)) ppem t s z g cvt few =
     short_of_one (λ s. on_points t (instruction.OnOne (single.Mdrp keeping)) ppem s z g cvt) refl s few
 points_short (instruction.OnOne (single.Mirp keeping)) ppem t s z g cvt few =

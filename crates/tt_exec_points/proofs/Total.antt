@@ -215,17 +215,12 @@ shpix k [] z g enough = absurd (omega arith)
 flippt : Many → (s : List ℤ) (z : ZoneLists) (g : GraphicsState) → IsTotal (is.flippt tolerance.Tolerant s z g)
 flippt k s z g = loop true s z g (λ points. flipping.flippt tolerance.Tolerant points z g) ((k z g).flippt)
 
-fliprgon : Many → (s : List ℤ) (z : ZoneLists) (g : GraphicsState) → 2 ≤ length s
-    → IsTotal (is.fliprgon tolerance.Tolerant s z g)
-fliprgon k (high ∷ low ∷ s) z g enough = moved s z g (flipping.fliprgon low high z) ((k z g).fliprgon low high)
-fliprgon k (high ∷ []) z g enough = absurd (omega arith)
-fliprgon k [] z g enough = absurd (omega arith)
-
-fliprgoff : Many → (s : List ℤ) (z : ZoneLists) (g : GraphicsState) → 2 ≤ length s
-    → IsTotal (is.fliprgoff tolerance.Tolerant s z g)
-fliprgoff k (high ∷ low ∷ s) z g enough = moved s z g (flipping.fliprgoff low high z) ((k z g).fliprgoff low high)
-fliprgoff k (high ∷ []) z g enough = absurd (omega arith)
-fliprgoff k [] z g enough = absurd (omega arith)
+flip_range : Many → (on : Bool) (s : List ℤ) (z : ZoneLists) (g : GraphicsState) → 2 ≤ length s
+    → IsTotal (is.flip_range tolerance.Tolerant on s z g)
+flip_range k on (high ∷ low ∷ s) z g enough =
+    moved s z g (flipping.flip_range on low high z) ((k z g).flip_range on low high)
+flip_range k on (high ∷ []) z g enough = absurd (omega arith)
+flip_range k on [] z g enough = absurd (omega arith)
 
 shc : Many → (which : ReferencePoint) (s : List ℤ) (z : ZoneLists) (g : GraphicsState) → 1 ≤ length s
     → IsTotal (is.shc tolerance.Tolerant which s z g)
@@ -328,8 +323,8 @@ points_total one many (instruction.Deltap range) ppem s z g cvt enough =
 points_total one many (instruction.Deltac range) ppem s z g cvt enough =
     total_after (deltac tolerance.Tolerant range ppem s g cvt) _ (values range ppem s g cvt enough) (λ t. record {})
 points_total one many (instruction.InTurn turn.Flippt) ppem s z g cvt enough = valued cvt _ (flippt many s z g)
-points_total one many (instruction.OnRange ranged.Fliprgon) ppem s z g cvt enough = valued cvt _ (fliprgon many s z g enough)
-points_total one many (instruction.OnRange ranged.Fliprgoff) ppem s z g cvt enough = valued cvt _ (fliprgoff many s z g enough)
+points_total one many (instruction.OnRange (ranged.Flip on)) ppem s z g cvt enough =
+    valued cvt _ (flip_range many on s z g enough)
 points_total one many (instruction.OnOne (single.Mdrp keeping)) ppem s z g cvt enough = valued cvt _ (mdrp one keeping s z g enough)
 points_total one many (instruction.OnOne (single.Mirp keeping)) ppem s z g cvt enough =
     valued cvt _ (mirp one keeping cvt s z g enough)

@@ -220,19 +220,12 @@ flippt k t s z g =
     loop t true s z g (λ points. flipping.flippt t points z g)
     (λ points. flipping.flippt t points z (with_all g)) ((k z g).flippt t)
 
-fliprgon : (t : Tolerance) (s : List ℤ) (z : ZoneLists) (g : GraphicsState)
-    → StaysThird (is.fliprgon t s z g) (is.fliprgon t s z (with_all g))
-fliprgon t (high ∷ low ∷ s) z g =
-    passed t s z _ _ _ (moved s g (flipping.fliprgon low high z) _ (same (flipping.fliprgon low high z)))
-fliprgon t (high ∷ []) z g = λ other. refl
-fliprgon t [] z g = λ other. refl
-
-fliprgoff : (t : Tolerance) (s : List ℤ) (z : ZoneLists) (g : GraphicsState)
-    → StaysThird (is.fliprgoff t s z g) (is.fliprgoff t s z (with_all g))
-fliprgoff t (high ∷ low ∷ s) z g =
-    passed t s z _ _ _ (moved s g (flipping.fliprgoff low high z) _ (same (flipping.fliprgoff low high z)))
-fliprgoff t (high ∷ []) z g = λ other. refl
-fliprgoff t [] z g = λ other. refl
+flip_range : (t : Tolerance) (on : Bool) (s : List ℤ) (z : ZoneLists) (g : GraphicsState)
+    → StaysThird (is.flip_range t on s z g) (is.flip_range t on s z (with_all g))
+flip_range t on (high ∷ low ∷ s) z g =
+    passed t s z _ _ _ (moved s g (flipping.flip_range on low high z) _ (same (flipping.flip_range on low high z)))
+flip_range t on (high ∷ []) z g = λ other. refl
+flip_range t on [] z g = λ other. refl
 
 shc : Many → (t : Tolerance) (which : ReferencePoint) (s : List ℤ) (z : ZoneLists) (g : GraphicsState)
     → StaysThird (is.shc t which s z g) (is.shc t which s z (with_all g))
@@ -278,8 +271,7 @@ points_stay one many t (instruction.Deltap range) ppem s z g cvt = valued cvt _ 
 points_stay one many t (instruction.Deltac range) ppem s z g cvt =
     given.after beside (deltac t range ppem s g cvt) _ _ (λ u. refl)
 points_stay one many t (instruction.InTurn turn.Flippt) ppem s z g cvt = valued cvt _ _ (flippt many t s z g)
-points_stay one many t (instruction.OnRange ranged.Fliprgon) ppem s z g cvt = valued cvt _ _ (fliprgon t s z g)
-points_stay one many t (instruction.OnRange ranged.Fliprgoff) ppem s z g cvt = valued cvt _ _ (fliprgoff t s z g)
+points_stay one many t (instruction.OnRange (ranged.Flip on)) ppem s z g cvt = valued cvt _ _ (flip_range t on s z g)
 points_stay one many t (instruction.OnOne (single.Mdrp keeping)) ppem s z g cvt = valued cvt _ _ (mdrp one t keeping s z g)
 points_stay one many t (instruction.OnOne (single.Mirp keeping)) ppem s z g cvt = valued cvt _ _ (mirp one t keeping cvt s z g)
 points_stay one many t (instruction.OnLines (line.Spvtl turned)) ppem s z g cvt = valued cvt _ _ (spvtl one t turned s z g)

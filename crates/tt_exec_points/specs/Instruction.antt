@@ -131,13 +131,9 @@ shpix t [] z g = Err why.StackShort
 abbrev pub flippt : Tolerance → List ℤ → ZoneLists → GraphicsState → Left
 flippt t s z g = looped t true s z g (λ points. flipping.flippt t points z g)
 
-abbrev pub fliprgon : Tolerance → List ℤ → ZoneLists → GraphicsState → Left
-fliprgon t (high ∷ low ∷ s) z g = unless_missing t (s, z, g) (after_move s g (flipping.fliprgon low high z))
-fliprgon t _ z g = Err why.StackShort
-
-abbrev pub fliprgoff : Tolerance → List ℤ → ZoneLists → GraphicsState → Left
-fliprgoff t (high ∷ low ∷ s) z g = unless_missing t (s, z, g) (after_move s g (flipping.fliprgoff low high z))
-fliprgoff t _ z g = Err why.StackShort
+abbrev pub flip_range : Tolerance → Bool → List ℤ → ZoneLists → GraphicsState → Left
+flip_range t on (high ∷ low ∷ s) z g = unless_missing t (s, z, g) (after_move s g (flipping.flip_range on low high z))
+flip_range t on _ z g = Err why.StackShort
 
 abbrev pub shc : Tolerance → ReferencePoint → List ℤ → ZoneLists → GraphicsState → Left
 shc t which (c ∷ s) z g = unless_missing t (s, z, g) (after_move s g (shifting.shc which c z g))
@@ -203,8 +199,7 @@ in_turn t turn.Shpix s z g = shpix t s z g
 in_turn t turn.Flippt s z g = flippt t s z g
 
 abbrev pub on_range : Tolerance → OnRange → List ℤ → ZoneLists → GraphicsState → Left
-on_range t ranged.Fliprgon s z g = fliprgon t s z g
-on_range t ranged.Fliprgoff s z g = fliprgoff t s z g
+on_range t (ranged.Flip on) s z g = flip_range t on s z g
 on_range t (ranged.Shc which) s z g = shc t which s z g
 on_range t (ranged.Shz which) s z g = shz t which s z g
 

@@ -14,7 +14,7 @@ use tt_core::Why;
 use tt_exec_stack::Stack;
 use tt_points_iup::iup;
 use tt_points_loops::deltas::{Deltas, deltap};
-use tt_points_loops::flipping::{flippt, fliprgoff, fliprgon};
+use tt_points_loops::flipping::{flip_range, flippt};
 use tt_points_loops::moving::{alignrp, ip, shpix};
 use tt_points_loops::shifting::{ReferencePoint, reference_number, reference_zone, shc, shp, shz};
 use tt_state::{Axis, GraphicsState, Tolerance};
@@ -37,10 +37,8 @@ pub enum InTurn {
 /// An instruction on a range of points.
 #[derive(Clone, Copy)]
 pub enum OnRange {
-    /// FLIPRGON[], 0x81: low, high -> nothing.
-    Fliprgon,
-    /// FLIPRGOFF[], 0x82: low, high -> nothing.
-    Fliprgoff,
+    /// FLIPRGON[], 0x81, and FLIPRGOFF[], 0x82: low, high -> nothing.
+    Flip { on: bool },
     /// SHC[a], 0x34 and 0x35: contour -> nothing.
     Shc(ReferencePoint),
     /// SHZ[a], 0x36 and 0x37: zone -> nothing.
@@ -127,10 +125,8 @@ impl Points {
             Does given (stack.new, self.new, graphics.now) result }
     {
         match op {
-            OnRange::Fliprgon =>
-                popped!(tolerance, stack, high, low => fliprgon(&mut self.zones, low, high)),
-            OnRange::Fliprgoff =>
-                popped!(tolerance, stack, high, low => fliprgoff(&mut self.zones, low, high)),
+            OnRange::Flip { on } =>
+                popped!(tolerance, stack, high, low => flip_range(&mut self.zones, low, high, on)),
             OnRange::Shc(which) => popped!(tolerance, stack, contour =>
                 shc(&mut self.zones, graphics, which, contour)),
             OnRange::Shz(which) =>
