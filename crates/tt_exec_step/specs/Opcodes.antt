@@ -192,8 +192,8 @@ opcodes_60 =
 abbrev pub opcodes_80 : List (ℕ × Operation)
 opcodes_80 =
     (0x80, op.on_points (on.InTurn turn.Flippt)) ∷
-    (0x81, op.on_points (on.OnRange ranged.Fliprgon)) ∷
-    (0x82, op.on_points (on.OnRange ranged.Fliprgoff)) ∷
+    (0x81, op.on_points (on.OnRange (ranged.Flip true))) ∷
+    (0x82, op.on_points (on.OnRange (ranged.Flip false))) ∷
     (0x85, op.set_state setting.Scanctrl) ∷
     (0x88, op.answer query.Getinfo) ∷
     (0x8A, op.manage managing.Roll) ∷
@@ -358,10 +358,10 @@ deltac2 = refl
 flippt : operation_of 0x80 ≡ op.on_points (on.InTurn turn.Flippt)
 flippt = refl
 
-fliprgon : operation_of 0x81 ≡ op.on_points (on.OnRange ranged.Fliprgon)
+fliprgon : operation_of 0x81 ≡ op.on_points (on.OnRange (ranged.Flip true))
 fliprgon = refl
 
-fliprgoff : operation_of 0x82 ≡ op.on_points (on.OnRange ranged.Fliprgoff)
+fliprgoff : operation_of 0x82 ≡ op.on_points (on.OnRange (ranged.Flip false))
 fliprgoff = refl
 
 mdrp_alone : operation_of 0xC3 ≡ op.on_points (on.OnOne (single.Mdrp (keeping false false false)))

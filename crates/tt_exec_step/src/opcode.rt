@@ -280,8 +280,8 @@ impl MachineState<'_> {
     {
         match op {
             0x80 => self.on_points(OnPoints::InTurn(InTurn::Flippt), at),
-            0x81 => self.on_points(OnPoints::OnRange(OnRange::Fliprgon), at),
-            0x82 => self.on_points(OnPoints::OnRange(OnRange::Fliprgoff), at),
+            0x81 => self.on_points(OnPoints::OnRange(OnRange::Flip { on: true }), at),
+            0x82 => self.on_points(OnPoints::OnRange(OnRange::Flip { on: false }), at),
             0x85 => self.set_state(GraphicsSetting::Scanctrl, at),
             0x88 => self.answer(Query::Getinfo, at),
             0x8A => self.manage(Managing::Roll, at),
