@@ -19,9 +19,9 @@ pub enum DeltaRange {
     Third,
 }
 
-/// The exceptions of a DELTAP or a DELTAC on a machine.
+/// A DELTAP or a DELTAC on a machine.
 #[derive(Clone, Copy)]
-pub struct Deltas {
+pub struct Delta {
     pub range: DeltaRange,
     /// The machine's size, in pixels per em.
     pub ppem: u32,
@@ -30,17 +30,17 @@ pub struct Deltas {
 
 /// A pair on the stack: an argument, and the number of a point or of a control value.
 #[derive(Clone, Copy)]
-pub struct DeltaPair {
+pub struct Pair {
     pub argument: i32,
     pub number: i32,
 }
 
 /// Pair `i` of a list of arguments and numbers.
-pub fn pair_at(pairs: &[i32], i: usize) -> DeltaPair
+pub fn pair_at(pairs: &[i32], i: usize) -> Pair
     requires { 2 * i + 1 < length pairs.now }
     ensures { (result.argument, result.number) ≡ get_or (is.pairs_of pairs.now) i (pos 0, pos 0) }
 {
-    DeltaPair {
+    Pair {
         argument: pairs[2 * i],
         number: pairs[2 * i + 1],
     }
@@ -123,7 +123,7 @@ fn byte_of(tolerance: Tolerance, argument: i32) -> Result<u8, Why>
 /// The move that an argument of DELTAP or DELTAC requests at the machine's size: 1 to 8 steps to either side, in 26.6
 /// pixels. None where the argument is for another size. Error: BadArgument, for an argument that is no byte, unless the
 /// machine is tolerant.
-pub fn delta_of(by: Deltas, argument: i32, state: &GraphicsState) -> Result<Option<i32>, Why>
+pub fn delta_of(by: Delta, argument: i32, state: &GraphicsState) -> Result<Option<i32>, Why>
     ensures exact { Gives (λ d. d) result (is.delta_of by.tolerance by.range argument by.ppem state.now) }
     ensures bound { IfOk result (λ d. IfSome d (λ by. unsigned_abs by ≤ 512)) }
 {
@@ -150,7 +150,7 @@ fn move_by(zones: &mut Zones, state: &GraphicsState, d: i32, n: i32) -> Result<(
 }
 
 /// Moves the point of a pair as its argument requests. Errors: BadArgument, PointRange, Perpendicular, ValueRange.
-fn except(zones: &mut Zones, state: &GraphicsState, by: Deltas, pair: DeltaPair) -> Result<(), Why>
+fn except(zones: &mut Zones, state: &GraphicsState, by: Delta, pair: Pair) -> Result<(), Why>
     requires zones { IsZones (zones_view zones.old) }
     ensures exact { Gives (λ u. zones_view zones.new) result
         (is.except by.tolerance by.range by.ppem state.now (pair.argument, pair.number) (zones_view zones.old)) }
@@ -166,12 +166,7 @@ fn except(zones: &mut Zones, state: &GraphicsState, by: Deltas, pair: DeltaPair)
 /// DELTAP1[], 0x5D; DELTAP2[], 0x71; DELTAP3[], 0x72: pairs of an argument and a point of zp0 -> moves each point as
 /// requested. The last pair comes first. A tolerant machine passes over each missing point. Errors: BadArgument,
 /// PointRange, Perpendicular, ValueRange.
-pub fn deltap(
-    zones: &mut Zones,
-    state: &GraphicsState,
-    by: Deltas,
-    pairs: &[i32],
-) -> Result<(), Why>
+pub fn deltap(zones: &mut Zones, state: &GraphicsState, by: Delta, pairs: &[i32]) -> Result<(), Why>
     requires zones { IsZones (zones_view zones.old) }
     ensures exact { Gives (λ u. zones_view zones.new) result
         (is.deltap by.tolerance by.range by.ppem pairs.now (zones_view zones.old) state.now) }
