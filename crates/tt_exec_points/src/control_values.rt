@@ -8,7 +8,7 @@ ghost use Rattle.tt_exec_stack.specs.Stack.{Does};
 use crate::popping::{pairs_counted, pairs_there};
 use tt_core::Why;
 use tt_exec_stack::Stack;
-use tt_points_loops::deltas::{Delta, Pair, delta_of, pair_at};
+use tt_points_loops::deltas::{Deltas, Pair, delta_of, pair_at};
 use tt_state::GraphicsState;
 
 /// A sum that fits 32 bits. Error: ValueRange.
@@ -34,7 +34,7 @@ fn change_by(d: Option<i32>, n: i32, cvt: &mut [i32]) -> Result<(), Why>
 }
 
 /// Changes the control value of a pair as its argument requests. Errors: BadArgument, CvtRange, ValueRange.
-fn change_pair(by: Delta, state: &GraphicsState, pair: Pair, cvt: &mut [i32]) -> Result<(), Why>
+fn change_pair(by: Deltas, state: &GraphicsState, pair: Pair, cvt: &mut [i32]) -> Result<(), Why>
     ensures exact { let given = is.change_pair by.tolerance by.range by.ppem state.now (pair.argument, pair.number) in
         Does (given cvt.old) cvt.new result }
     ensures kept { IfErr result (λ why. cvt.new ≡ cvt.old) }
@@ -45,7 +45,7 @@ fn change_pair(by: Delta, state: &GraphicsState, pair: Pair, cvt: &mut [i32]) ->
 
 /// Changes the control value of every pair, the last pair first. A tolerant machine passes over a missing one. Errors:
 /// BadArgument, CvtRange, ValueRange.
-fn change_all(by: Delta, state: &GraphicsState, pairs: &[i32], cvt: &mut [i32]) -> Result<(), Why>
+fn change_all(by: Deltas, state: &GraphicsState, pairs: &[i32], cvt: &mut [i32]) -> Result<(), Why>
     ensures { let given = is.changes by.tolerance by.range by.ppem state.now (is.popped pairs.now) cvt.old in
         Does given cvt.new result }
 {
@@ -61,7 +61,7 @@ fn change_all(by: Delta, state: &GraphicsState, pairs: &[i32], cvt: &mut [i32]) 
 /// DELTAC1[] to DELTAC3[], 0x73 to 0x75: n pairs of an argument and a control value's number, n -> nothing. Errors:
 /// BadArgument, CvtRange, ValueRange.
 pub(crate) fn deltac(
-    by: Delta,
+    by: Deltas,
     stack: &mut Stack,
     graphics: &GraphicsState,
     cvt: &mut [i32],

@@ -16,7 +16,7 @@ use tt_core::Why;
 use tt_exec_stack::Stack;
 use tt_exec_state::Size;
 use tt_points::measuring::Position;
-use tt_points_loops::deltas::{Delta, DeltaRange};
+use tt_points_loops::deltas::{DeltaRange, Deltas};
 use tt_state::{Axis, GraphicsState, Tolerance};
 
 /// An instruction on points, or DELTAC. Those of one family take the same and leave the same.
@@ -34,12 +34,12 @@ pub enum OnPoints {
 }
 
 /// DELTAP or DELTAC on this machine.
-fn delta(range: DeltaRange, size: Size, tolerance: Tolerance) -> Delta
+fn deltas(range: DeltaRange, size: Size, tolerance: Tolerance) -> Deltas
     ensures range { result.range ≡ range }
     ensures ppem { result.ppem ≡ size.ppem }
     ensures tolerance { result.tolerance ≡ tolerance }
 {
-    Delta {
+    Deltas {
         range,
         ppem: size.ppem,
         tolerance,
@@ -68,7 +68,7 @@ pub fn on_points(
         OnPoints::Iup(axis) => points.iup(axis),
         OnPoints::Gc(of) => points.gc(tolerance, of, stack, graphics),
         OnPoints::Md(between) => points.md(tolerance, between, stack, graphics),
-        OnPoints::Deltap(range) => points.deltap(delta(range, size, tolerance), stack, graphics),
-        OnPoints::Deltac(range) => deltac(delta(range, size, tolerance), stack, graphics, cvt),
+        OnPoints::Deltap(range) => points.deltap(deltas(range, size, tolerance), stack, graphics),
+        OnPoints::Deltac(range) => deltac(deltas(range, size, tolerance), stack, graphics, cvt),
     }
 }

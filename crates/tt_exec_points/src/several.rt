@@ -13,7 +13,7 @@ use crate::popping::{pairs_counted, pairs_there, popped, unless_missing};
 use tt_core::Why;
 use tt_exec_stack::Stack;
 use tt_points_iup::iup;
-use tt_points_loops::deltas::{Delta, deltap};
+use tt_points_loops::deltas::{Deltas, deltap};
 use tt_points_loops::flipping::{flip_range, flippt};
 use tt_points_loops::moving::{alignrp, ip, shpix};
 use tt_points_loops::shifting::{ReferencePoint, reference_number, reference_zone, shc, shp, shz};
@@ -138,7 +138,7 @@ impl Points {
     /// Errors: BadArgument, PointRange, Perpendicular, ValueRange.
     pub(crate) fn deltap(
         &mut self,
-        by: Delta,
+        by: Deltas,
         stack: &mut Stack,
         graphics: &GraphicsState,
     ) -> Result<(), Why>

@@ -21,7 +21,7 @@ pub enum DeltaRange {
 
 /// A DELTAP or a DELTAC on a machine.
 #[derive(Clone, Copy)]
-pub struct Delta {
+pub struct Deltas {
     pub range: DeltaRange,
     /// The machine's size, in pixels per em.
     pub ppem: u32,
@@ -123,7 +123,7 @@ fn byte_of(tolerance: Tolerance, argument: i32) -> Result<u8, Why>
 /// The move that an argument of DELTAP or DELTAC requests at the machine's size: 1 to 8 steps to either side, in 26.6
 /// pixels. None where the argument is for another size. Error: BadArgument, for an argument that is no byte, unless the
 /// machine is tolerant.
-pub fn delta_of(by: Delta, argument: i32, state: &GraphicsState) -> Result<Option<i32>, Why>
+pub fn delta_of(by: Deltas, argument: i32, state: &GraphicsState) -> Result<Option<i32>, Why>
     ensures exact { Gives (λ d. d) result (is.delta_of by.tolerance by.range argument by.ppem state.now) }
     ensures bound { IfOk result (λ d. IfSome d (λ by. unsigned_abs by ≤ 512)) }
 {
@@ -150,7 +150,7 @@ fn move_by(zones: &mut Zones, state: &GraphicsState, d: i32, n: i32) -> Result<(
 }
 
 /// Moves the point of a pair as its argument requests. Errors: BadArgument, PointRange, Perpendicular, ValueRange.
-fn except(zones: &mut Zones, state: &GraphicsState, by: Delta, pair: Pair) -> Result<(), Why>
+fn except(zones: &mut Zones, state: &GraphicsState, by: Deltas, pair: Pair) -> Result<(), Why>
     requires zones { IsZones (zones_view zones.old) }
     ensures exact { Gives (λ u. zones_view zones.new) result
         (is.except by.tolerance by.range by.ppem state.now (pair.argument, pair.number) (zones_view zones.old)) }
@@ -166,7 +166,12 @@ fn except(zones: &mut Zones, state: &GraphicsState, by: Delta, pair: Pair) -> Re
 /// DELTAP1[], 0x5D; DELTAP2[], 0x71; DELTAP3[], 0x72: pairs of an argument and a point of zp0 -> moves each point as
 /// requested. The last pair comes first. A tolerant machine passes over each missing point. Errors: BadArgument,
 /// PointRange, Perpendicular, ValueRange.
-pub fn deltap(zones: &mut Zones, state: &GraphicsState, by: Delta, pairs: &[i32]) -> Result<(), Why>
+pub fn deltap(
+    zones: &mut Zones,
+    state: &GraphicsState,
+    by: Deltas,
+    pairs: &[i32],
+) -> Result<(), Why>
     requires zones { IsZones (zones_view zones.old) }
     ensures exact { Gives (λ u. zones_view zones.new) result
         (is.deltap by.tolerance by.range by.ppem pairs.now (zones_view zones.old) state.now) }
