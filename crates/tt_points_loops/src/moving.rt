@@ -243,7 +243,8 @@ pub fn ip(
         (is.ip tolerance numbers.now (zones_view zones.old) state.old) }
     ensures zones { IsZones (zones_view zones.new) }
 {
-    in_turn(zones, state, tolerance, Change::Interpolate, numbers)
+    let change = Change::Interpolate(tolerance);
+    in_turn(zones, state, tolerance, change, numbers)
 }
 
 /// The point moved along the freedom vector. Error: ValueRange.
