@@ -34,8 +34,7 @@ pub(crate) enum Change {
 fn change_one(zones: &mut Zones, state: &GraphicsState, change: Change, n: i32) -> Result<(), Why>
     requires zones { IsZones (zones_view zones.old) }
     requires change { IsChange change }
-    ensures exact { Gives (λ u. zones_view zones.new) result
-        (is.changed change state.now n (zones_view zones.old)) }
+    ensures exact { Gives (λ u. zones_view zones.new) result (is.changed change state.now n (zones_view zones.old)) }
     ensures zones { IsZones (zones_view zones.new) }
     ensures kept { IfErr result (λ why. zones_view zones.new ≡ zones_view zones.old) }
 {
