@@ -42,6 +42,7 @@ use Rattle.tt_exec_points.specs.Laws.{PointsAreLoosened}
 use Rattle.tt_exec_points.specs.Popping.{Left, after, after_move, nothing_looped, looped, pairs_counted, taken_in_pairs, counted}
 use Rattle.tt_exec_points.specs.declared.instruction.OnPoints.TheVariants as instruction
 use Rattle.tt_exec_points.specs.declared.lines.OnLines.TheVariants as line
+use Rattle.tt_exec_points.specs.declared.measuring.Measuring.TheVariants as measure
 use Rattle.tt_exec_points.specs.declared.moving.OnOne.TheVariants as single
 use Rattle.tt_exec_points.specs.declared.several.InTurn.TheVariants as turn
 use Rattle.tt_exec_points.specs.declared.several.OnRange.TheVariants as ranged
@@ -346,9 +347,9 @@ points_loosened k (instruction.InTurn turn.Ip) ppem s z g cvt = valued cvt _ _ (
 points_loosened k (instruction.OnOne (single.Msirp set_rp0)) ppem s z g cvt = valued cvt _ _ (msirp set_rp0 s z g)
 points_loosened k (instruction.InTurn turn.Alignrp) ppem s z g cvt = valued cvt _ _ (alignrp k s z g)
 points_loosened k (instruction.OnOne (single.Miap round)) ppem s z g cvt = valued cvt _ _ (miap round cvt s z g)
-points_loosened k (instruction.Gc of) ppem s z g cvt = told z g cvt _ _ (gc of s z g)
+points_loosened k (instruction.Measuring (measure.Gc of)) ppem s z g cvt = told z g cvt _ _ (gc of s z g)
 points_loosened k (instruction.OnOne single.Scfs) ppem s z g cvt = valued cvt _ _ (scfs s z g)
-points_loosened k (instruction.Md between) ppem s z g cvt = told z g cvt _ _ (md between s z g)
+points_loosened k (instruction.Measuring (measure.Md between)) ppem s z g cvt = told z g cvt _ _ (md between s z g)
 points_loosened k (instruction.Deltap range) ppem s z g cvt = valued cvt _ _ (deltap k range ppem s z g)
 points_loosened k (instruction.Deltac range) ppem s z g cvt =
     chained (deltac tolerance.Strict range ppem s g cvt) (deltac tolerance.Tolerant range ppem s g cvt) _ _

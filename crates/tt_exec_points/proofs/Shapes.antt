@@ -30,6 +30,7 @@ use Rattle.tt_exec_points.specs.Instruction as is
 use Rattle.tt_exec_points.specs.declared.instruction.OnPoints.{OnPoints}
 use Rattle.tt_exec_points.specs.declared.instruction.OnPoints.TheVariants as instruction
 use Rattle.tt_exec_points.specs.declared.lines.OnLines.TheVariants as line
+use Rattle.tt_exec_points.specs.declared.measuring.Measuring.TheVariants as measure
 use Rattle.tt_exec_points.specs.declared.moving.OnOne.TheVariants as single
 use Rattle.tt_exec_points.specs.declared.several.InTurn.TheVariants as turn
 use Rattle.tt_exec_points.specs.declared.several.OnRange.TheVariants as ranged
@@ -273,9 +274,9 @@ sizes_kept one many i t (instruction.InTurn turn.Ip) ppem s z g cvt has = valued
 sizes_kept one many i t (instruction.OnOne (single.Msirp set_rp0)) ppem s z g cvt has = valued z cvt _ (msirp one t set_rp0 s z g)
 sizes_kept one many i t (instruction.InTurn turn.Alignrp) ppem s z g cvt has = valued z cvt _ (alignrp many t s z g)
 sizes_kept one many i t (instruction.OnOne (single.Miap round)) ppem s z g cvt has = valued z cvt _ (miap one t round cvt s z g)
-sizes_kept one many i t (instruction.Gc of) ppem s z g cvt has = told z g cvt (is.gc t of s z g)
+sizes_kept one many i t (instruction.Measuring (measure.Gc of)) ppem s z g cvt has = told z g cvt (is.gc t of s z g)
 sizes_kept one many i t (instruction.OnOne single.Scfs) ppem s z g cvt has = valued z cvt _ (scfs one t s z g)
-sizes_kept one many i t (instruction.Md between) ppem s z g cvt has = told z g cvt (is.md t between s z g)
+sizes_kept one many i t (instruction.Measuring (measure.Md between)) ppem s z g cvt has = told z g cvt (is.md t between s z g)
 sizes_kept one many i t (instruction.Deltap range) ppem s z g cvt has = valued z cvt _ (deltap many t range ppem s z g)
 sizes_kept one many i t (instruction.Deltac range) ppem s z g cvt has =
     through (λ u. AsMany cvt u.1) (SameSizes z cvt) (deltac t range ppem s g cvt) (λ u. Ok (u.0, z, g, u.1))

@@ -5,6 +5,7 @@ use Rattle.tt_exec_points.specs.Instruction.{on_points}
 use Rattle.tt_exec_points.specs.Laws.{PointsAreShort}
 use Rattle.tt_exec_points.specs.declared.instruction.OnPoints.TheVariants as instruction
 use Rattle.tt_exec_points.specs.declared.lines.OnLines.TheVariants as line
+use Rattle.tt_exec_points.specs.declared.measuring.Measuring.TheVariants as measure
 use Rattle.tt_exec_points.specs.declared.moving.OnOne.TheVariants as single
 use Rattle.tt_exec_points.specs.declared.several.InTurn.TheVariants as turn
 use Rattle.tt_exec_points.specs.declared.several.OnRange.TheVariants as ranged
@@ -28,12 +29,12 @@ points_short (instruction.OnOne (single.Msirp set_rp0)) ppem t s z g cvt few =
 points_short (instruction.InTurn turn.Alignrp) ppem t s z g cvt few = absurd (omega arith)
 points_short (instruction.OnOne (single.Miap round)) ppem t s z g cvt few =
     short_of_two (λ s. on_points t (instruction.OnOne (single.Miap round)) ppem s z g cvt) refl (λ a. refl) s few
-points_short (instruction.Gc of) ppem t s z g cvt few =
-    short_of_one (λ s. on_points t (instruction.Gc of) ppem s z g cvt) refl s few
+points_short (instruction.Measuring (measure.Gc of)) ppem t s z g cvt few =
+    short_of_one (λ s. on_points t (instruction.Measuring (measure.Gc of)) ppem s z g cvt) refl s few
 points_short (instruction.OnOne single.Scfs) ppem t s z g cvt few =
     short_of_two (λ s. on_points t (instruction.OnOne single.Scfs) ppem s z g cvt) refl (λ a. refl) s few
-points_short (instruction.Md between) ppem t s z g cvt few =
-    short_of_two (λ s. on_points t (instruction.Md between) ppem s z g cvt) refl (λ a. refl) s few
+points_short (instruction.Measuring (measure.Md between)) ppem t s z g cvt few =
+    short_of_two (λ s. on_points t (instruction.Measuring (measure.Md between)) ppem s z g cvt) refl (λ a. refl) s few
 points_short (instruction.Deltap range) ppem t s z g cvt few =
     short_of_one (λ s. on_points t (instruction.Deltap range) ppem s z g cvt) refl s few
 points_short (instruction.Deltac range) ppem t s z g cvt few =

@@ -40,6 +40,7 @@ use Rattle.tt_exec_points.specs.Laws.{PointsAreTotal}
 use Rattle.tt_exec_points.specs.Popping.{Left, after, after_move, nothing_looped, looped, pairs_counted, pairs_there, taken_in_pairs, counted}
 use Rattle.tt_exec_points.specs.declared.instruction.OnPoints.TheVariants as instruction
 use Rattle.tt_exec_points.specs.declared.lines.OnLines.TheVariants as line
+use Rattle.tt_exec_points.specs.declared.measuring.Measuring.TheVariants as measure
 use Rattle.tt_exec_points.specs.declared.moving.OnOne.TheVariants as single
 use Rattle.tt_exec_points.specs.declared.several.InTurn.TheVariants as turn
 use Rattle.tt_exec_points.specs.declared.several.OnRange.TheVariants as ranged
@@ -315,9 +316,9 @@ points_total one many (instruction.OnOne (single.Msirp set_rp0)) ppem s z g cvt 
     valued cvt _ (msirp one set_rp0 s z g enough)
 points_total one many (instruction.InTurn turn.Alignrp) ppem s z g cvt enough = valued cvt _ (alignrp many s z g)
 points_total one many (instruction.OnOne (single.Miap round)) ppem s z g cvt enough = valued cvt _ (miap one round cvt s z g enough)
-points_total one many (instruction.Gc of) ppem s z g cvt enough = told z g cvt _ (gc one of s z g enough)
+points_total one many (instruction.Measuring (measure.Gc of)) ppem s z g cvt enough = told z g cvt _ (gc one of s z g enough)
 points_total one many (instruction.OnOne single.Scfs) ppem s z g cvt enough = valued cvt _ (scfs one s z g enough)
-points_total one many (instruction.Md between) ppem s z g cvt enough = told z g cvt _ (md one between s z g enough)
+points_total one many (instruction.Measuring (measure.Md between)) ppem s z g cvt enough = told z g cvt _ (md one between s z g enough)
 points_total one many (instruction.Deltap range) ppem s z g cvt enough =
     valued cvt _ (deltap many range ppem s z g enough)
 points_total one many (instruction.Deltac range) ppem s z g cvt enough =

@@ -31,6 +31,7 @@ use Rattle.tt_exec_points.specs.Popping.{Left, after, after_move, taken, too_lit
 use Rattle.tt_exec_points.specs.WithAll.{beside, PointsStay}
 use Rattle.tt_exec_points.specs.declared.instruction.OnPoints.TheVariants as instruction
 use Rattle.tt_exec_points.specs.declared.lines.OnLines.TheVariants as line
+use Rattle.tt_exec_points.specs.declared.measuring.Measuring.TheVariants as measure
 use Rattle.tt_exec_points.specs.declared.moving.OnOne.TheVariants as single
 use Rattle.tt_exec_points.specs.declared.several.InTurn.TheVariants as turn
 use Rattle.tt_exec_points.specs.declared.several.OnRange.TheVariants as ranged
@@ -264,9 +265,9 @@ points_stay one many t (instruction.InTurn turn.Ip) ppem s z g cvt = valued cvt 
 points_stay one many t (instruction.OnOne (single.Msirp set_rp0)) ppem s z g cvt = valued cvt _ _ (msirp one t set_rp0 s z g)
 points_stay one many t (instruction.InTurn turn.Alignrp) ppem s z g cvt = valued cvt _ _ (alignrp many t s z g)
 points_stay one many t (instruction.OnOne (single.Miap round)) ppem s z g cvt = valued cvt _ _ (miap one t round cvt s z g)
-points_stay one many t (instruction.Gc of) ppem s z g cvt = told z g cvt _ _ (gc one t of s z g)
+points_stay one many t (instruction.Measuring (measure.Gc of)) ppem s z g cvt = told z g cvt _ _ (gc one t of s z g)
 points_stay one many t (instruction.OnOne single.Scfs) ppem s z g cvt = valued cvt _ _ (scfs one t s z g)
-points_stay one many t (instruction.Md between) ppem s z g cvt = told z g cvt _ _ (md one t between s z g)
+points_stay one many t (instruction.Measuring (measure.Md between)) ppem s z g cvt = told z g cvt _ _ (md one t between s z g)
 points_stay one many t (instruction.Deltap range) ppem s z g cvt = valued cvt _ _ (deltap many t range ppem s z g)
 points_stay one many t (instruction.Deltac range) ppem s z g cvt =
     given.after beside (deltac t range ppem s g cvt) _ _ (λ u. refl)

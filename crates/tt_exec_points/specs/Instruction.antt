@@ -42,6 +42,8 @@ use Rattle.tt_exec_points.specs.declared.instruction.OnPoints.{OnPoints}
 use Rattle.tt_exec_points.specs.declared.instruction.OnPoints.TheVariants as instruction
 use Rattle.tt_exec_points.specs.declared.lines.OnLines.{OnLines}
 use Rattle.tt_exec_points.specs.declared.lines.OnLines.TheVariants as line
+use Rattle.tt_exec_points.specs.declared.measuring.Measuring.{Measuring}
+use Rattle.tt_exec_points.specs.declared.measuring.Measuring.TheVariants as measure
 use Rattle.tt_exec_points.specs.declared.moving.OnOne.{OnOne}
 use Rattle.tt_exec_points.specs.declared.moving.OnOne.TheVariants as single
 use Rattle.tt_exec_points.specs.declared.several.InTurn.{InTurn}
@@ -174,7 +176,7 @@ abbrev pub alignpts : Tolerance → List ℤ → ZoneLists → GraphicsState →
 alignpts t (p1 ∷ p2 ∷ s) z g = unless_missing t (s, z, g) (after_move s g (lines.alignpts p1 p2 z g))
 alignpts t _ z g = Err why.StackShort
 
--- the instructions of each family: on one point, on lines, on points in turn, on a range of points
+-- the instructions of each family: on one point, on lines, on points in turn, on a range of points; those that measure
 abbrev pub on_one : Tolerance → OnOne → List ℤ → List ℤ → ZoneLists → GraphicsState → Left
 on_one t (single.Mdap round) cvt s z g = mdap t round s z g
 on_one t (single.Mdrp keeping) cvt s z g = mdrp t keeping s z g
@@ -203,6 +205,10 @@ on_range t (ranged.Flip on) s z g = flip_range t on s z g
 on_range t (ranged.Shc which) s z g = shc t which s z g
 on_range t (ranged.Shz which) s z g = shz t which s z g
 
+abbrev pub measured : Tolerance → Measuring → List ℤ → ZoneLists → GraphicsState → Result (List ℤ) Why
+measured t (measure.Gc of) s z g = gc t of s z g
+measured t (measure.Md between) s z g = md t between s z g
+
 -- the stack, the zones, the graphics state and the control values, or a refusal
 abbrev pub LeftOfAll : Type 0
 LeftOfAll = Result (List ℤ × ZoneLists × GraphicsState × List ℤ) Why
@@ -220,8 +226,7 @@ on_points t (instruction.OnLines o) ppem s z g cvt = with_values cvt (on_lines t
 on_points t (instruction.InTurn o) ppem s z g cvt = with_values cvt (in_turn t o s z g)
 on_points t (instruction.OnRange o) ppem s z g cvt = with_values cvt (on_range t o s z g)
 on_points t (instruction.Iup axis) ppem s z g cvt = with_values cvt (after_move s g (iup axis z))
-on_points t (instruction.Gc of) ppem s z g cvt = with_points z g cvt (gc t of s z g)
-on_points t (instruction.Md between) ppem s z g cvt = with_points z g cvt (md t between s z g)
+on_points t (instruction.Measuring o) ppem s z g cvt = with_points z g cvt (measured t o s z g)
 on_points t (instruction.Deltap range) ppem s z g cvt = with_values cvt (deltap t range ppem s z g)
 on_points t (instruction.Deltac range) ppem s z g cvt = deltac t range ppem s g cvt >>= λ t. Ok (t.0, z, g, t.1)
 
@@ -235,7 +240,7 @@ takes (instruction.OnOne (single.Mdrp keeping)) = 1
 takes (instruction.OnOne single.Utp) = 1
 takes (instruction.OnRange (ranged.Shc which)) = 1
 takes (instruction.OnRange (ranged.Shz which)) = 1
-takes (instruction.Gc of) = 1
+takes (instruction.Measuring (measure.Gc of)) = 1
 takes (instruction.Deltap range) = 1
 takes (instruction.Deltac range) = 1
 takes (instruction.OnLines line.Isect) = 5

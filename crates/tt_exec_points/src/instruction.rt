@@ -9,13 +9,13 @@ ghost use Rattle.tt_exec_stack.specs.Stack.{Does};
 
 use crate::control_values::deltac;
 use crate::lines::OnLines;
+use crate::measuring::Measuring;
 use crate::moving::OnOne;
 use crate::points::Points;
 use crate::several::{InTurn, OnRange};
 use tt_core::Why;
 use tt_exec_stack::Stack;
 use tt_exec_state::Size;
-use tt_points::measuring::Position;
 use tt_points_loops::deltas::{DeltaRange, Deltas};
 use tt_state::{Axis, GraphicsState, Tolerance};
 
@@ -27,8 +27,7 @@ pub enum OnPoints {
     InTurn(InTurn),
     OnRange(OnRange),
     Iup(Axis),
-    Gc(Position),
-    Md(Position),
+    Measuring(Measuring),
     Deltap(DeltaRange),
     Deltac(DeltaRange),
 }
@@ -66,8 +65,7 @@ pub fn on_points(
         OnPoints::InTurn(several) => points.in_turn(tolerance, several, stack, graphics),
         OnPoints::OnRange(range) => points.on_range(tolerance, range, stack, graphics),
         OnPoints::Iup(axis) => points.iup(axis),
-        OnPoints::Gc(of) => points.gc(tolerance, of, stack, graphics),
-        OnPoints::Md(between) => points.md(tolerance, between, stack, graphics),
+        OnPoints::Measuring(measuring) => points.measure(tolerance, measuring, stack, graphics),
         OnPoints::Deltap(range) => points.deltap(deltas(range, size, tolerance), stack, graphics),
         OnPoints::Deltac(range) => deltac(deltas(range, size, tolerance), stack, graphics, cvt),
     }

@@ -25,6 +25,7 @@ mod several;
 
 pub use instruction::{OnPoints, on_points};
 pub use lines::OnLines;
+pub use measuring::Measuring;
 pub use moving::OnOne;
 pub use points::Points;
 pub use several::{InTurn, OnRange};

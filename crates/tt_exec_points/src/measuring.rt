@@ -12,35 +12,42 @@ use tt_exec_stack::Stack;
 use tt_points::measuring::{Position, gc, md};
 use tt_state::{GraphicsState, Tolerance};
 
-impl Points {
-    /// GC[a], 0x46 and 0x47: p -> c. Error: PointRange.
-    pub(crate) fn gc(
-        &self,
-        tolerance: Tolerance,
-        of: Position,
-        stack: &mut Stack,
-        graphics: &GraphicsState,
-    ) -> Result<(), Why>
-        ensures { Does (is.gc tolerance of stack.old self.now graphics.now) stack.new result }
-    {
-        let p = stack.pop()?;
-        let measured = unless_missing!(tolerance, gc(&self.zones, graphics, of, p), 0);
-        stack.push(i64::from(measured?))
-    }
+/// An instruction that measures points.
+#[derive(Clone, Copy)]
+pub enum Measuring {
+    /// GC[a], 0x46 and 0x47: p -> c.
+    Gc(Position),
+    /// MD[a], 0x49 and 0x4A: p2, p1 -> d.
+    Md(Position),
+}
 
-    /// MD[a], 0x49 and 0x4A: p2, p1 -> d. Error: PointRange.
-    pub(crate) fn md(
+impl Points {
+    /// Executes an instruction that measures. Errors: StackShort; PointRange of a strict machine; StackFull.
+    pub(crate) fn measure(
         &self,
         tolerance: Tolerance,
-        between: Position,
+        op: Measuring,
         stack: &mut Stack,
         graphics: &GraphicsState,
     ) -> Result<(), Why>
-        ensures { Does (is.md tolerance between stack.old self.now graphics.now) stack.new result }
+        ensures { Does (is.measured tolerance op stack.old self.now graphics.now) stack.new result }
     {
-        let p1 = stack.pop()?;
-        let p2 = stack.pop()?;
-        let measured = unless_missing!(tolerance, md(&self.zones, graphics, between, p2, p1), 0);
-        stack.push(i64::from(measured?))
+        match op {
+            Measuring::Gc(of) => {
+                let p = stack.pop()?;
+                let measured = unless_missing!(tolerance, gc(&self.zones, graphics, of, p), 0);
+                stack.push(i64::from(measured?))
+            }
+            Measuring::Md(between) => {
+                let p1 = stack.pop()?;
+                let p2 = stack.pop()?;
+                let measured = unless_missing!(
+                    tolerance,
+                    md(&self.zones, graphics, between, p2, p1),
+                    0
+                );
+                stack.push(i64::from(measured?))
+            }
+        }
     }
 }
