@@ -18,6 +18,7 @@ use Rattle.tt_points_loops.specs.declared.deltas.DeltaRange.TheVariants as range
 use Rattle.tt_points_loops.specs.declared.shifting.ReferencePoint.TheVariants as by
 use Rattle.tt_exec_points.specs.declared.instruction.OnPoints.TheVariants as on
 use Rattle.tt_exec_points.specs.declared.lines.OnLines.TheVariants as line
+use Rattle.tt_exec_points.specs.declared.measuring.Measuring.TheVariants as measure
 use Rattle.tt_exec_points.specs.declared.moving.OnOne.TheVariants as single
 use Rattle.tt_exec_points.specs.declared.several.InTurn.TheVariants as turn
 use Rattle.tt_exec_points.specs.declared.several.OnRange.TheVariants as ranged
@@ -126,11 +127,11 @@ opcodes_40 =
     (0x43, op.access_values places.Rs) ∷
     (0x44, op.access_values places.Wcvtp) ∷
     (0x45, op.access_values places.Rcvt) ∷
-    (0x46, op.on_points (on.Gc position.Current)) ∷
-    (0x47, op.on_points (on.Gc position.Original)) ∷
+    (0x46, op.on_points (on.Measuring (measure.Gc position.Current))) ∷
+    (0x47, op.on_points (on.Measuring (measure.Gc position.Original))) ∷
     (0x48, op.on_points (on.OnOne single.Scfs)) ∷
-    (0x49, op.on_points (on.Md position.Current)) ∷
-    (0x4A, op.on_points (on.Md position.Original)) ∷
+    (0x49, op.on_points (on.Measuring (measure.Md position.Current))) ∷
+    (0x4A, op.on_points (on.Measuring (measure.Md position.Original))) ∷
     (0x4B, op.answer query.Mppem) ∷
     (0x4C, op.answer query.Mps) ∷
     (0x4D, op.set_state (setting.Flip true)) ∷
@@ -333,17 +334,17 @@ alignrp = refl
 miap : operation_of 0x3E ≡ op.on_points (on.OnOne (single.Miap false))
 miap = refl
 
-gc_original : operation_of 0x47 ≡ op.on_points (on.Gc position.Original)
+gc_original : operation_of 0x47 ≡ op.on_points (on.Measuring (measure.Gc position.Original))
 gc_original = refl
 
 scfs : operation_of 0x48 ≡ op.on_points (on.OnOne single.Scfs)
 scfs = refl
 
 -- 0x49 measures current places, and 0x4A original ones, as rasterizers do (profile)
-md_current : operation_of 0x49 ≡ op.on_points (on.Md position.Current)
+md_current : operation_of 0x49 ≡ op.on_points (on.Measuring (measure.Md position.Current))
 md_current = refl
 
-md_original : operation_of 0x4A ≡ op.on_points (on.Md position.Original)
+md_original : operation_of 0x4A ≡ op.on_points (on.Measuring (measure.Md position.Original))
 md_original = refl
 
 deltap1 : operation_of 0x5D ≡ op.on_points (on.Deltap ranges.First)

@@ -12,7 +12,7 @@ ghost use Rattle.tt_exec_step.specs.Outcome.{ComesTo, wants_memory};
 use crate::machine_state::MachineState;
 use crate::outcome::Outcome;
 use tt_core::Why;
-use tt_exec_points::{InTurn, OnLines, OnOne, OnPoints, OnRange};
+use tt_exec_points::{InTurn, Measuring, OnLines, OnOne, OnPoints, OnRange};
 use tt_exec_stack::{Arithmetic, Logic, Managing};
 use tt_exec_state::{GraphicsSetting, Query, StoredValues, Vectors};
 use tt_points::Keeping;
@@ -200,11 +200,11 @@ impl MachineState<'_> {
             0x43 => self.access_values(StoredValues::Rs, at),
             0x44 => self.access_values(StoredValues::Wcvtp, at),
             0x45 => self.access_values(StoredValues::Rcvt, at),
-            0x46 => self.on_points(OnPoints::Gc(Position::Current), at),
-            0x47 => self.on_points(OnPoints::Gc(Position::Original), at),
+            0x46 => self.on_points(OnPoints::Measuring(Measuring::Gc(Position::Current)), at),
+            0x47 => self.on_points(OnPoints::Measuring(Measuring::Gc(Position::Original)), at),
             0x48 => self.on_points(OnPoints::OnOne(OnOne::Scfs), at),
-            0x49 => self.on_points(OnPoints::Md(Position::Current), at),
-            0x4A => self.on_points(OnPoints::Md(Position::Original), at),
+            0x49 => self.on_points(OnPoints::Measuring(Measuring::Md(Position::Current)), at),
+            0x4A => self.on_points(OnPoints::Measuring(Measuring::Md(Position::Original)), at),
             0x4B => self.answer(Query::Mppem, at),
             0x4C => self.answer(Query::Mps, at),
             0x4D => self.set_state(GraphicsSetting::Flip(true), at),
