@@ -24,16 +24,6 @@ fn moved_by(p: Point, m: &Motion, by: Distance) -> Result<Point, Why>
     m.moved(p, by.0)
 }
 
-/// The point `p` moved to the current coordinate of `r` along the projection vector. Error: ValueRange.
-fn moved_to(p: Point, r: Point, m: &Motion) -> Result<Point, Why>
-    requires p { IsPoint p }
-    requires r { IsPoint r }
-    ensures exact { Gives (λ q. q) result (motion.moved m.now (motion.current_distance m.now p r) p) }
-    ensures valid { IfOk result IsPoint }
-{
-    moved_by(p, m, m.current_distance(p, r))
-}
-
 /// The point `p` moved to the current coordinate of `r`, by the vectors of the graphics state. Errors: Perpendicular,
 /// ValueRange.
 fn aligned(p: Point, r: Point, state: &GraphicsState) -> Result<Point, Why>
@@ -44,7 +34,7 @@ fn aligned(p: Point, r: Point, state: &GraphicsState) -> Result<Point, Why>
 {
     may_move(state)?;
     let motion = Motion::of(state);
-    moved_to(p, r, &motion)
+    moved_by(p, &motion, motion.current_distance(p, r))
 }
 
 /// Moves a point of zp1 to the current coordinate of rp0. Errors: PointRange, Perpendicular, ValueRange.
