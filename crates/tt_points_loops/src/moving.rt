@@ -108,23 +108,6 @@ fn interpolated(by: Originals, p: Point, a: Point, b: Point, m: &Motion) -> Dist
     Distance(quotient(by.halves, product(o, now), range.0))
 }
 
-/// The point moved to its original share of the way from `a` to `b`. Error: ValueRange.
-fn moved_between(by: Originals, p: Point, a: Point, b: Point, m: &Motion) -> Result<Point, Why>
-    requires scale { IfSome by.units IsScale }
-    requires p { IsPoint p }
-    requires a { IsPoint a }
-    requires b { IsPoint b }
-    ensures exact { Gives (λ q. q) result
-        (motion.moved m.now (is.interpolated by.halves by.units m.now a b p -ℤ motion.current_distance m.now a p) p) }
-    ensures valid { IfOk result IsPoint }
-{
-    moved_by(
-        p,
-        m,
-        difference(interpolated(by, p, a, b, m), m.current_distance(a, p)),
-    )
-}
-
 /// The point moved to its original share of the way, by the vectors of the graphics state. Errors: Perpendicular,
 /// ValueRange.
 fn kept_between(
@@ -143,7 +126,9 @@ fn kept_between(
 {
     may_move(state)?;
     let motion = Motion::of(state);
-    moved_between(by, p, a, b, &motion)
+    let now = motion.current_distance(a, p);
+    let by = difference(interpolated(by, p, a, b, &motion), now);
+    moved_by(p, &motion, by)
 }
 
 /// The second end of IP's range, rp2 in zp1. A tolerant machine takes the first end, `a`, in place of a missing point.
