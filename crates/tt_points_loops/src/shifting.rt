@@ -54,26 +54,6 @@ fn reference(zones: &Zones, state: &GraphicsState, which: ReferencePoint) -> Res
     zones.point(reference_zone(state, which), reference_number(state, which))
 }
 
-/// The point moved as far as `r` has moved, and touched. Error: ValueRange.
-fn moved_as(p: Point, r: Point, m: &Motion) -> Result<Point, Why>
-    requires p { IsPoint p }
-    requires r { IsPoint r }
-    ensures exact { Gives (λ q. q) result (is.moved_as m.now r p) }
-    ensures valid { IfOk result IsPoint }
-{
-    m.moved(p, m.offset(r))
-}
-
-/// The point moved as far as `r` has moved, with its touches unchanged. Error: ValueRange.
-fn shifted_as(p: Point, r: Point, m: &Motion) -> Result<Point, Why>
-    requires p { IsPoint p }
-    requires r { IsPoint r }
-    ensures exact { Gives (λ q. q) result (is.shifted_as m.now r p) }
-    ensures valid { IfOk result IsPoint }
-{
-    m.shifted(p, m.offset(r))
-}
-
 /// The point moved as far as its reference point `r` has moved. `touch` says whether the move touches the point.
 /// Errors: Perpendicular, ValueRange.
 fn follow(p: Point, r: Point, touch: bool, state: &GraphicsState) -> Result<Point, Why>
@@ -85,9 +65,9 @@ fn follow(p: Point, r: Point, touch: bool, state: &GraphicsState) -> Result<Poin
     may_move(state)?;
     let motion = Motion::of(state);
     if touch {
-        moved_as(p, r, &motion)
+        motion.moved(p, motion.offset(r))
     } else {
-        shifted_as(p, r, &motion)
+        motion.shifted(p, motion.offset(r))
     }
 }
 
