@@ -167,23 +167,6 @@ fn originals_among(zones: &Zones, state: &GraphicsState) -> Originals
     }
 }
 
-/// The point moved to its original share of the way from rp1 to rp2. Errors: PointRange, Perpendicular, ValueRange.
-fn in_between(
-    zones: &Zones,
-    state: &GraphicsState,
-    tolerance: Tolerance,
-    p: Point,
-) -> Result<Point, Why>
-    requires zones { IsZones (zones_view zones.now) }
-    requires point { IsPoint p }
-    ensures exact { Gives (λ q. q) result (is.in_between tolerance state.now (zones_view zones.now) p) }
-    ensures valid { IfOk result IsPoint }
-{
-    let a = zones.point(state.zp0, state.rp1)?;
-    let b = other_end(zones, state, tolerance, a)?;
-    kept_between(originals_among(zones, state), p, a, b, state)
-}
-
 /// Moves a point of zp2 to its original share of the way from rp1 to rp2. Errors: PointRange, Perpendicular,
 /// ValueRange.
 pub(crate) fn interpolate(
@@ -199,7 +182,9 @@ pub(crate) fn interpolate(
     ensures kept { IfErr result (λ why. zones_view zones.new ≡ zones_view zones.old) }
 {
     let p = zones.point(state.zp2, n)?;
-    let q = in_between(zones, state, tolerance, p)?;
+    let a = zones.point(state.zp0, state.rp1)?;
+    let b = other_end(zones, state, tolerance, a)?;
+    let q = kept_between(originals_among(zones, state), p, a, b, state)?;
     zones.set(state.zp2, n, q);
     Ok(())
 }
