@@ -126,9 +126,9 @@ fn kept_between(
 {
     may_move(state)?;
     let motion = Motion::of(state);
-    let now = motion.current_distance(a, p);
-    let by = difference(interpolated(by, p, a, b, &motion), now);
-    moved_by(p, &motion, by)
+    let wanted = interpolated(by, p, a, b, &motion);
+    let way = difference(wanted, motion.current_distance(a, p));
+    moved_by(p, &motion, way)
 }
 
 /// The second end of IP's range, rp2 in zp1. A tolerant machine takes the first end, `a`, in place of a missing point.
