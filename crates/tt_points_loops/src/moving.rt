@@ -90,44 +90,46 @@ fn difference(a: Distance, b: Distance) -> Distance
     Distance(a.0 - b.0)
 }
 
-/// The distance from `a` that gives `p` its original share of the way from `a` to `b`.
-fn interpolated(by: Originals, p: Point, a: Point, b: Point, m: &Motion) -> Distance
-    requires scale { IfSome by.units IsScale }
+/// The range of IP: both ends, and the measure of original places.
+#[derive(Clone, Copy)]
+struct Between {
+    from: Point,
+    to: Point,
+    by: Originals,
+    ghost from_valid: { IsPoint from },
+    ghost to_valid: { IsPoint to },
+}
+
+/// The distance from the first end that gives `p` its original share of the way to the second one.
+fn interpolated(p: Point, between: Between, m: &Motion) -> Distance
+    requires scale { IfSome between.by.units IsScale }
     requires p { IsPoint p }
-    requires a { IsPoint a }
-    requires b { IsPoint b }
-    ensures exact { result.0 ≡ is.interpolated by.halves by.units m.now a b p }
+    ensures exact { result.0 ≡ is.interpolated between.by.halves between.by.units m.now between.from between.to p }
     ensures bound { unsigned_abs result.0 < 2 ^ 46 }
 {
-    let range = unscaled(by.units, m, a, b);
+    let Between { from, to, by } = between;
+    let range = unscaled(by.units, m, from, to);
     if range.0 == 0 {
-        return m.distance_by(by.units, a, p);
+        return m.distance_by(by.units, from, p);
     }
-    let o = unscaled(by.units, m, a, p);
-    let now = m.current_distance(a, b);
+    let o = unscaled(by.units, m, from, p);
+    let now = m.current_distance(from, to);
     Distance(quotient(by.halves, product(o, now), range.0))
 }
 
 /// The point moved to its original share of the way, by the vectors of the graphics state. Errors: Perpendicular,
 /// ValueRange.
-fn kept_between(
-    by: Originals,
-    p: Point,
-    a: Point,
-    b: Point,
-    state: &GraphicsState,
-) -> Result<Point, Why>
-    requires scale { IfSome by.units IsScale }
+fn kept_between(p: Point, between: Between, state: &GraphicsState) -> Result<Point, Why>
+    requires scale { IfSome between.by.units IsScale }
     requires p { IsPoint p }
-    requires a { IsPoint a }
-    requires b { IsPoint b }
-    ensures exact { Gives (λ q. q) result (is.kept_between by.halves by.units state.now a b p) }
+    ensures exact { Gives (λ q. q) result
+        (is.kept_between between.by.halves between.by.units state.now between.from between.to p) }
     ensures valid { IfOk result IsPoint }
 {
     may_move(state)?;
     let motion = Motion::of(state);
-    let wanted = interpolated(by, p, a, b, &motion);
-    let way = difference(wanted, motion.current_distance(a, p));
+    let wanted = interpolated(p, between, &motion);
+    let way = difference(wanted, motion.current_distance(between.from, p));
     moved_by(p, &motion, way)
 }
 
@@ -182,9 +184,13 @@ pub(crate) fn interpolate(
     ensures kept { IfErr result (λ why. zones_view zones.new ≡ zones_view zones.old) }
 {
     let p = zones.point(state.zp2, n)?;
-    let a = zones.point(state.zp0, state.rp1)?;
-    let b = other_end(zones, state, tolerance, a)?;
-    let q = kept_between(originals_among(zones, state), p, a, b, state)?;
+    let from = zones.point(state.zp0, state.rp1)?;
+    let between = Between {
+        from,
+        to: other_end(zones, state, tolerance, from)?,
+        by: originals_among(zones, state),
+    };
+    let q = kept_between(p, between, state)?;
     zones.set(state.zp2, n, q);
     Ok(())
 }
