@@ -18,17 +18,18 @@ struct PointRun {
     last: PlainPoint,
 }
 
-/// Interpolates the `len` untouched points from number `start` on, between `before` and `after`. Error: ValueRange.
-fn fill(
-    contour: &mut Contour<'_>,
-    start: usize,
-    len: usize,
+/// The touched points before and after a run. After the last run comes the first touched point of the contour.
+#[derive(Clone, Copy)]
+struct Around {
     before: PlainPoint,
     after: PlainPoint,
-) -> Result<(), Why>
+}
+
+/// Interpolates the `len` untouched points from number `start` on, between the touched points. Error: ValueRange.
+fn fill(contour: &mut Contour<'_>, start: usize, len: usize, around: Around) -> Result<(), Why>
     requires range { start + len ≤ length contour.old.points.now }
     ensures exact { Gives (λ u. take len (drop start contour.new.points.now)) result
-        (is.limited contour.old.along.axis (map (is.interpolated contour.old.along before.point after.point)
+        (is.limited contour.old.along.axis (map (is.interpolated contour.old.along around.before.point around.after.point)
         (take len (drop start contour.old.points.now)))) }
     ensures front { IfOk result (λ u. take start contour.new.points.now ≡ take start contour.old.points.now) }
     ensures back { IfOk result (λ u.
@@ -41,7 +42,7 @@ fn fill(
     if len == 0 {
         return Ok(());
     }
-    let between = Neighbours::of(contour.along(), before, after);
+    let between = Neighbours::of(contour.along(), around.before, around.after);
     for k in 0..len {
         let to = interpolated(contour.at(start + k), between)?;
         contour.put(start + k, to);
@@ -50,32 +51,34 @@ fn fill(
 }
 
 /// Interpolates the points from `start` on, up to the next touched point or the end. The run includes that touched
-/// point. `before` is the touched point before `start`, `first` the first one of the contour. Error: ValueRange.
-fn next_run(
-    contour: &mut Contour<'_>,
-    start: usize,
-    before: PlainPoint,
-    first: PlainPoint,
-) -> Result<PointRun, Why>
+/// point. `around` has the touched point before `start`, and the first one of the contour. Error: ValueRange.
+fn next_run(contour: &mut Contour<'_>, start: usize, around: Around) -> Result<PointRun, Why>
     requires start { start < length contour.old.points.now }
     requires room { contour.old.reads + length contour.old.points.now < 2 ^ 64 + start }
-    ensures run { IfOk result (λ run. IsRun contour.old.along before.point first.point
+    ensures run { IfOk result (λ run. IsRun contour.old.along around.before.point around.after.point
         (drop start contour.old.points.now) (drop start contour.new.points.now) run.len run.last.point) }
     ensures front { IfOk result (λ u. take start contour.new.points.now ≡ take start contour.old.points.now) }
     ensures count { IfOk result (λ run. contour.new.reads ≡ contour.old.reads + run.len) }
     ensures fault { IfErr result (λ why.
-        is.limited contour.old.along.axis (swept contour.old.along before.point first.point
+        is.limited contour.old.along.axis (swept contour.old.along around.before.point around.after.point
         (drop start contour.old.points.now)) ≡ Err why) }
     ensures along { contour.new.along ≡ contour.old.along }
     ensures same_reference { contour.new.points.ghost_name ≡ contour.old.points.ghost_name }
 {
     let len = untouched(contour, start);
     if start + len == contour.len() {
-        fill(contour, start, len, before, first)?;
-        return Ok(PointRun { len, last: before });
+        fill(contour, start, len, around)?;
+        return Ok(PointRun {
+            len,
+            last: around.before,
+        });
     }
     let last = contour.at(start + len);
-    fill(contour, start, len, before, last)?;
+    let within = Around {
+        before: around.before,
+        after: last,
+    };
+    fill(contour, start, len, within)?;
     Ok(PointRun { len: len + 1, last })
 }
 
@@ -91,7 +94,11 @@ fn sweep(contour: &mut Contour<'_>, last: PlainPoint, first: PlainPoint) -> Resu
     let mut start = 0;
     let mut before = last;
     while start < contour.len() {
-        let run = next_run(contour, start, before, first)?;
+        let around = Around {
+            before,
+            after: first,
+        };
+        let run = next_run(contour, start, around)?;
         start += run.len;
         before = run.last;
     }

@@ -9,7 +9,7 @@ use Rattle.tt_points_iup.proofs.contour.fill.Goals as goal
 pub returns-in_err-to-clause-exact : goal.returns-in_err-to-clause-exact
 returns-in_err-to-clause-exact c =
     let along = c.args.contour.now.along in
-    let f = is.interpolated along c.args.before.point c.args.after.point in
+    let f = is.interpolated along c.args.around.before.point c.args.around.after.point in
     let now = c.loop-k.contour.points.now in
     let old = c.args.contour.now.points.now in
     let inside : c.args.start + c.args.len ≤ length now = omega (arith, c.requires.range, c.loop-k.invariant.many) in
@@ -23,7 +23,7 @@ returns-in_err-to-clause-exact c =
 pub loop-k-preserved : goal.loop-k-preserved
 loop-k-preserved c =
     let along = c.args.contour.now.along in
-    let f = is.interpolated along c.args.before.point c.args.after.point in
+    let f = is.interpolated along c.args.around.before.point c.args.around.after.point in
     let now = c.loop-k.contour.points.now in
     let old = c.args.contour.now.points.now in
     let at = c.args.start + c.loop-k.k in
@@ -49,7 +49,7 @@ loop-k-preserved c =
 pub returns-clause-exact : goal.returns-clause-exact
 returns-clause-exact c =
     let along = c.args.contour.now.along in
-    let f = is.interpolated along c.args.before.point c.args.after.point in
+    let f = is.interpolated along c.args.around.before.point c.args.around.after.point in
     let all : c.loop-k.k ≡ c.args.len = omega (arith, c.loop-k-test.false, c.loop-k.auto.k-end) in
     all_made along.axis f c.loop-k.contour.points.now c.args.contour.now.points.now c.args.start c.args.len
     (rw all at c.loop-k.invariant.filled) c.loop-k.contour.valid
