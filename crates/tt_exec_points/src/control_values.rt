@@ -51,8 +51,9 @@ fn change_all(by: Deltas, state: &GraphicsState, pairs: &[i32], cvt: &mut [i32])
 {
     for i in (0..pairs.len() / 2).rev() {
         match change_pair(by, state, pair_at(pairs, i), cvt) {
+            Ok(()) => {}
             Err(why) if by.tolerance.passes_over(why) => {}
-            done => done?,
+            Err(why) => return Err(why),
         }
     }
     Ok(())

@@ -24,7 +24,7 @@ macro_rules! unless_missing {
 macro_rules! popped {
     ($tolerance:ident, $stack:ident, $($value:ident),+ => $done:expr) => {{
         $(let $value = $stack.pop()?;)+
-        unless_missing!($tolerance, $done, ())
+        $crate::popping::unless_missing!($tolerance, $done, ())
     }};
 }
 

@@ -179,8 +179,9 @@ pub fn deltap(
 {
     for i in (0..pairs.len() / 2).rev() {
         match except(zones, state, by, pair_at(pairs, i)) {
+            Ok(()) => {}
             Err(why) if by.tolerance.passes_over(why) => {}
-            answer => answer?,
+            Err(why) => return Err(why),
         }
     }
     Ok(())
