@@ -15,7 +15,7 @@ WAY = (
     ("tt_render", "draw_lines"),
     ("tt_fit", "simple"),
     ("tt_fit", "hinted"),
-    ("tt_exec_points", "mdrp"),
+    ("tt_exec_points", "on_one"),
     ("tt_points", "mdrp"),
 )
 # This station may be missing: then a simple glyph has no function of its own.

@@ -40,7 +40,12 @@ use Rattle.tt_exec_points.specs.Instruction.{control_value, mirp_value, mirp_by,
 use Rattle.tt_exec_points.specs.Instruction as is
 use Rattle.tt_exec_points.specs.Laws.{PointsAreLoosened}
 use Rattle.tt_exec_points.specs.Popping.{Left, after, after_move, nothing_looped, looped, pairs_counted, taken_in_pairs, counted}
-use Rattle.tt_exec_points.specs.declared.instruction.PointInstruction.TheVariants as instruction
+use Rattle.tt_exec_points.specs.declared.instruction.OnPoints.TheVariants as instruction
+use Rattle.tt_exec_points.specs.declared.lines.OnLines.TheVariants as line
+use Rattle.tt_exec_points.specs.declared.measuring.Measuring.TheVariants as measure
+use Rattle.tt_exec_points.specs.declared.moving.OnOne.TheVariants as single
+use Rattle.tt_exec_points.specs.declared.several.InTurn.TheVariants as turn
+use Rattle.tt_exec_points.specs.declared.several.OnRange.TheVariants as ranged
 
 -- the law of the instructions on several points
 abbrev Many : Type 0
@@ -273,17 +278,11 @@ flippt k s z g =
     loop true s z g (λ points. flipping.flippt tolerance.Strict points z g)
     (λ points. flipping.flippt tolerance.Tolerant points z g) ((k z g).flippt) (λ none. absurd cc)
 
-fliprgon : (s : List ℤ) (z : ZoneLists) (g : GraphicsState)
-    → Loosens (is.fliprgon tolerance.Strict s z g) (is.fliprgon tolerance.Tolerant s z g)
-fliprgon (high ∷ low ∷ s) z g = unless (s, z, g) (after_move s g (flipping.fliprgon low high z))
-fliprgon (high ∷ []) z g = λ other. refl
-fliprgon [] z g = λ other. refl
-
-fliprgoff : (s : List ℤ) (z : ZoneLists) (g : GraphicsState)
-    → Loosens (is.fliprgoff tolerance.Strict s z g) (is.fliprgoff tolerance.Tolerant s z g)
-fliprgoff (high ∷ low ∷ s) z g = unless (s, z, g) (after_move s g (flipping.fliprgoff low high z))
-fliprgoff (high ∷ []) z g = λ other. refl
-fliprgoff [] z g = λ other. refl
+flip_range : (on : Bool) (s : List ℤ) (z : ZoneLists) (g : GraphicsState)
+    → Loosens (is.flip_range tolerance.Strict on s z g) (is.flip_range tolerance.Tolerant on s z g)
+flip_range on (high ∷ low ∷ s) z g = unless (s, z, g) (after_move s g (flipping.flip_range on low high z))
+flip_range on (high ∷ []) z g = λ other. refl
+flip_range on [] z g = λ other. refl
 
 shc : (which : ReferencePoint) (s : List ℤ) (z : ZoneLists) (g : GraphicsState)
     → Loosens (is.shc tolerance.Strict which s z g) (is.shc tolerance.Tolerant which s z g)
@@ -337,31 +336,30 @@ told : (z : ZoneLists) (g : GraphicsState) (cvt : List ℤ) (r loose : Result (L
 told z g cvt r loose loosens = chained r loose _ _ loosens (λ s. refl)
 
 pub points_loosened : Many → PointsAreLoosened
-points_loosened k instruction.Utp ppem s z g cvt = valued cvt _ _ (utp s z g)
-points_loosened k (instruction.Mdap round) ppem s z g cvt = valued cvt _ _ (mdap round s z g)
+points_loosened k (instruction.OnOne single.Utp) ppem s z g cvt = valued cvt _ _ (utp s z g)
+points_loosened k (instruction.OnOne (single.Mdap round)) ppem s z g cvt = valued cvt _ _ (mdap round s z g)
 points_loosened k (instruction.Iup axis) ppem s z g cvt = same (with_values cvt (after_move s g (iup axis z)))
-points_loosened k (instruction.Shp which) ppem s z g cvt = valued cvt _ _ (shp k which s z g)
-points_loosened k (instruction.Shc which) ppem s z g cvt = valued cvt _ _ (shc which s z g)
-points_loosened k (instruction.Shz which) ppem s z g cvt = valued cvt _ _ (shz which s z g)
-points_loosened k instruction.Shpix ppem s z g cvt = valued cvt _ _ (shpix k s z g)
-points_loosened k instruction.Ip ppem s z g cvt = valued cvt _ _ (ip k s z g)
-points_loosened k (instruction.Msirp set_rp0) ppem s z g cvt = valued cvt _ _ (msirp set_rp0 s z g)
-points_loosened k instruction.Alignrp ppem s z g cvt = valued cvt _ _ (alignrp k s z g)
-points_loosened k (instruction.Miap round) ppem s z g cvt = valued cvt _ _ (miap round cvt s z g)
-points_loosened k (instruction.Gc of) ppem s z g cvt = told z g cvt _ _ (gc of s z g)
-points_loosened k instruction.Scfs ppem s z g cvt = valued cvt _ _ (scfs s z g)
-points_loosened k (instruction.Md between) ppem s z g cvt = told z g cvt _ _ (md between s z g)
+points_loosened k (instruction.InTurn (turn.Shp which)) ppem s z g cvt = valued cvt _ _ (shp k which s z g)
+points_loosened k (instruction.OnRange (ranged.Shc which)) ppem s z g cvt = valued cvt _ _ (shc which s z g)
+points_loosened k (instruction.OnRange (ranged.Shz which)) ppem s z g cvt = valued cvt _ _ (shz which s z g)
+points_loosened k (instruction.InTurn turn.Shpix) ppem s z g cvt = valued cvt _ _ (shpix k s z g)
+points_loosened k (instruction.InTurn turn.Ip) ppem s z g cvt = valued cvt _ _ (ip k s z g)
+points_loosened k (instruction.OnOne (single.Msirp set_rp0)) ppem s z g cvt = valued cvt _ _ (msirp set_rp0 s z g)
+points_loosened k (instruction.InTurn turn.Alignrp) ppem s z g cvt = valued cvt _ _ (alignrp k s z g)
+points_loosened k (instruction.OnOne (single.Miap round)) ppem s z g cvt = valued cvt _ _ (miap round cvt s z g)
+points_loosened k (instruction.Measuring (measure.Gc of)) ppem s z g cvt = told z g cvt _ _ (gc of s z g)
+points_loosened k (instruction.OnOne single.Scfs) ppem s z g cvt = valued cvt _ _ (scfs s z g)
+points_loosened k (instruction.Measuring (measure.Md between)) ppem s z g cvt = told z g cvt _ _ (md between s z g)
 points_loosened k (instruction.Deltap range) ppem s z g cvt = valued cvt _ _ (deltap k range ppem s z g)
 points_loosened k (instruction.Deltac range) ppem s z g cvt =
     chained (deltac tolerance.Strict range ppem s g cvt) (deltac tolerance.Tolerant range ppem s g cvt) _ _
     (values range ppem s g cvt) (λ t. refl)
-points_loosened k instruction.Flippt ppem s z g cvt = valued cvt _ _ (flippt k s z g)
-points_loosened k instruction.Fliprgon ppem s z g cvt = valued cvt _ _ (fliprgon s z g)
-points_loosened k instruction.Fliprgoff ppem s z g cvt = valued cvt _ _ (fliprgoff s z g)
-points_loosened k (instruction.Mdrp keeping) ppem s z g cvt = valued cvt _ _ (mdrp keeping s z g)
-points_loosened k (instruction.Mirp keeping) ppem s z g cvt = valued cvt _ _ (mirp keeping cvt s z g)
-points_loosened k (instruction.Spvtl turned) ppem s z g cvt = valued cvt _ _ (spvtl turned s z g)
-points_loosened k (instruction.Sfvtl turned) ppem s z g cvt = valued cvt _ _ (sfvtl turned s z g)
-points_loosened k (instruction.Sdpvtl turned) ppem s z g cvt = valued cvt _ _ (sdpvtl turned s z g)
-points_loosened k instruction.Isect ppem s z g cvt = valued cvt _ _ (isect s z g)
-points_loosened k instruction.Alignpts ppem s z g cvt = valued cvt _ _ (alignpts s z g)
+points_loosened k (instruction.InTurn turn.Flippt) ppem s z g cvt = valued cvt _ _ (flippt k s z g)
+points_loosened k (instruction.OnRange (ranged.Flip on)) ppem s z g cvt = valued cvt _ _ (flip_range on s z g)
+points_loosened k (instruction.OnOne (single.Mdrp keeping)) ppem s z g cvt = valued cvt _ _ (mdrp keeping s z g)
+points_loosened k (instruction.OnOne (single.Mirp keeping)) ppem s z g cvt = valued cvt _ _ (mirp keeping cvt s z g)
+points_loosened k (instruction.OnLines (line.Spvtl turned)) ppem s z g cvt = valued cvt _ _ (spvtl turned s z g)
+points_loosened k (instruction.OnLines (line.Sfvtl turned)) ppem s z g cvt = valued cvt _ _ (sfvtl turned s z g)
+points_loosened k (instruction.OnLines (line.Sdpvtl turned)) ppem s z g cvt = valued cvt _ _ (sdpvtl turned s z g)
+points_loosened k (instruction.OnLines line.Isect) ppem s z g cvt = valued cvt _ _ (isect s z g)
+points_loosened k (instruction.OnLines line.Alignpts) ppem s z g cvt = valued cvt _ _ (alignpts s z g)

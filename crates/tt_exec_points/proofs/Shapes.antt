@@ -27,8 +27,13 @@ use Rattle.tt_exec_state.specs.StoredValues.{place}
 use Rattle.tt_exec_points.specs.ControlValues.{value_of, change_by, change_pair, change, changes, popped, deltac}
 use Rattle.tt_exec_points.specs.Instruction.{with_values, with_points, on_points}
 use Rattle.tt_exec_points.specs.Instruction as is
-use Rattle.tt_exec_points.specs.declared.instruction.PointInstruction.{PointInstruction}
-use Rattle.tt_exec_points.specs.declared.instruction.PointInstruction.TheVariants as instruction
+use Rattle.tt_exec_points.specs.declared.instruction.OnPoints.{OnPoints}
+use Rattle.tt_exec_points.specs.declared.instruction.OnPoints.TheVariants as instruction
+use Rattle.tt_exec_points.specs.declared.lines.OnLines.TheVariants as line
+use Rattle.tt_exec_points.specs.declared.measuring.Measuring.TheVariants as measure
+use Rattle.tt_exec_points.specs.declared.moving.OnOne.TheVariants as single
+use Rattle.tt_exec_points.specs.declared.several.InTurn.TheVariants as turn
+use Rattle.tt_exec_points.specs.declared.several.OnRange.TheVariants as ranged
 use Rattle.tt_exec_points.specs.Popping.{Left, after, after_move, taken, too_little, looped, counted}
 use Rattle.tt_exec_points.specs.Shapes.{SameSizes}
 
@@ -186,17 +191,12 @@ shpix k t [] z g = tt
 flippt : Many → (t : Tolerance) (s : List ℤ) (z : ZoneLists) (g : GraphicsState) → Keeps z (is.flippt t s z g)
 flippt k t s z g = loop t true s z g (λ points. flipping.flippt t points z g) ((k z g).flippt t)
 
-fliprgon : Many → (t : Tolerance) (s : List ℤ) (z : ZoneLists) (g : GraphicsState) → Keeps z (is.fliprgon t s z g)
-fliprgon k t (high ∷ low ∷ s) z g =
-    passed t s z _ _ (changed s g z (flipping.fliprgon low high z) ((k z g).fliprgon low high))
-fliprgon k t (high ∷ []) z g = tt
-fliprgon k t [] z g = tt
-
-fliprgoff : Many → (t : Tolerance) (s : List ℤ) (z : ZoneLists) (g : GraphicsState) → Keeps z (is.fliprgoff t s z g)
-fliprgoff k t (high ∷ low ∷ s) z g =
-    passed t s z _ _ (changed s g z (flipping.fliprgoff low high z) ((k z g).fliprgoff low high))
-fliprgoff k t (high ∷ []) z g = tt
-fliprgoff k t [] z g = tt
+flip_range : Many → (t : Tolerance) (on : Bool) (s : List ℤ) (z : ZoneLists) (g : GraphicsState)
+    → Keeps z (is.flip_range t on s z g)
+flip_range k t on (high ∷ low ∷ s) z g =
+    passed t s z _ _ (changed s g z (flipping.flip_range on low high z) ((k z g).flip_range on low high))
+flip_range k t on (high ∷ []) z g = tt
+flip_range k t on [] z g = tt
 
 shc : Many → (t : Tolerance) (which : ReferencePoint) (s : List ℤ) (z : ZoneLists) (g : GraphicsState)
     → Keeps z (is.shc t which s z g)
@@ -259,35 +259,35 @@ told : (z : ZoneLists) (g : GraphicsState) (cvt : List ℤ) (r : Result (List �
 told z g cvt (Ok s) = record { zones = same z; control_values = refl }
 told z g cvt (Err why) = tt
 
-pub sizes_kept : Single → Many → Interpolated → (t : Tolerance) (op : PointInstruction) (ppem : ℕ) (s : List ℤ)
+pub sizes_kept : Single → Many → Interpolated → (t : Tolerance) (op : OnPoints) (ppem : ℕ) (s : List ℤ)
     (z : ZoneLists) (g : GraphicsState) (cvt : List ℤ) → HasContours z
     → IfOk (on_points t op ppem s z g cvt) (SameSizes z cvt)
-sizes_kept one many i t instruction.Utp ppem s z g cvt has = valued z cvt _ (utp one t s z g)
-sizes_kept one many i t (instruction.Mdap round) ppem s z g cvt has = valued z cvt _ (mdap one t round s z g)
+sizes_kept one many i t (instruction.OnOne single.Utp) ppem s z g cvt has = valued z cvt _ (utp one t s z g)
+sizes_kept one many i t (instruction.OnOne (single.Mdap round)) ppem s z g cvt has = valued z cvt _ (mdap one t round s z g)
 sizes_kept one many i t (instruction.Iup axis) ppem s z g cvt has =
     valued z cvt _ (changed s g z (iup axis z) (i axis z has))
-sizes_kept one many i t (instruction.Shp which) ppem s z g cvt has = valued z cvt _ (shp many t which s z g)
-sizes_kept one many i t (instruction.Shc which) ppem s z g cvt has = valued z cvt _ (shc many t which s z g)
-sizes_kept one many i t (instruction.Shz which) ppem s z g cvt has = valued z cvt _ (shz many t which s z g)
-sizes_kept one many i t instruction.Shpix ppem s z g cvt has = valued z cvt _ (shpix many t s z g)
-sizes_kept one many i t instruction.Ip ppem s z g cvt has = valued z cvt _ (ip many t s z g)
-sizes_kept one many i t (instruction.Msirp set_rp0) ppem s z g cvt has = valued z cvt _ (msirp one t set_rp0 s z g)
-sizes_kept one many i t instruction.Alignrp ppem s z g cvt has = valued z cvt _ (alignrp many t s z g)
-sizes_kept one many i t (instruction.Miap round) ppem s z g cvt has = valued z cvt _ (miap one t round cvt s z g)
-sizes_kept one many i t (instruction.Gc of) ppem s z g cvt has = told z g cvt (is.gc t of s z g)
-sizes_kept one many i t instruction.Scfs ppem s z g cvt has = valued z cvt _ (scfs one t s z g)
-sizes_kept one many i t (instruction.Md between) ppem s z g cvt has = told z g cvt (is.md t between s z g)
+sizes_kept one many i t (instruction.InTurn (turn.Shp which)) ppem s z g cvt has = valued z cvt _ (shp many t which s z g)
+sizes_kept one many i t (instruction.OnRange (ranged.Shc which)) ppem s z g cvt has = valued z cvt _ (shc many t which s z g)
+sizes_kept one many i t (instruction.OnRange (ranged.Shz which)) ppem s z g cvt has = valued z cvt _ (shz many t which s z g)
+sizes_kept one many i t (instruction.InTurn turn.Shpix) ppem s z g cvt has = valued z cvt _ (shpix many t s z g)
+sizes_kept one many i t (instruction.InTurn turn.Ip) ppem s z g cvt has = valued z cvt _ (ip many t s z g)
+sizes_kept one many i t (instruction.OnOne (single.Msirp set_rp0)) ppem s z g cvt has = valued z cvt _ (msirp one t set_rp0 s z g)
+sizes_kept one many i t (instruction.InTurn turn.Alignrp) ppem s z g cvt has = valued z cvt _ (alignrp many t s z g)
+sizes_kept one many i t (instruction.OnOne (single.Miap round)) ppem s z g cvt has = valued z cvt _ (miap one t round cvt s z g)
+sizes_kept one many i t (instruction.Measuring (measure.Gc of)) ppem s z g cvt has = told z g cvt (is.gc t of s z g)
+sizes_kept one many i t (instruction.OnOne single.Scfs) ppem s z g cvt has = valued z cvt _ (scfs one t s z g)
+sizes_kept one many i t (instruction.Measuring (measure.Md between)) ppem s z g cvt has = told z g cvt (is.md t between s z g)
 sizes_kept one many i t (instruction.Deltap range) ppem s z g cvt has = valued z cvt _ (deltap many t range ppem s z g)
 sizes_kept one many i t (instruction.Deltac range) ppem s z g cvt has =
     through (λ u. AsMany cvt u.1) (SameSizes z cvt) (deltac t range ppem s g cvt) (λ u. Ok (u.0, z, g, u.1))
     (deltac_kept t range ppem s g cvt) (λ u count. record { zones = same z; control_values = count })
-sizes_kept one many i t instruction.Flippt ppem s z g cvt has = valued z cvt _ (flippt many t s z g)
-sizes_kept one many i t instruction.Fliprgon ppem s z g cvt has = valued z cvt _ (fliprgon many t s z g)
-sizes_kept one many i t instruction.Fliprgoff ppem s z g cvt has = valued z cvt _ (fliprgoff many t s z g)
-sizes_kept one many i t (instruction.Mdrp keeping) ppem s z g cvt has = valued z cvt _ (mdrp one t keeping s z g)
-sizes_kept one many i t (instruction.Mirp keeping) ppem s z g cvt has = valued z cvt _ (mirp one t keeping cvt s z g)
-sizes_kept one many i t (instruction.Spvtl turned) ppem s z g cvt has = valued z cvt _ (spvtl t turned s z g)
-sizes_kept one many i t (instruction.Sfvtl turned) ppem s z g cvt has = valued z cvt _ (sfvtl t turned s z g)
-sizes_kept one many i t (instruction.Sdpvtl turned) ppem s z g cvt has = valued z cvt _ (sdpvtl t turned s z g)
-sizes_kept one many i t instruction.Isect ppem s z g cvt has = valued z cvt _ (isect one t s z g)
-sizes_kept one many i t instruction.Alignpts ppem s z g cvt has = valued z cvt _ (alignpts one t s z g)
+sizes_kept one many i t (instruction.InTurn turn.Flippt) ppem s z g cvt has = valued z cvt _ (flippt many t s z g)
+sizes_kept one many i t (instruction.OnRange (ranged.Flip on)) ppem s z g cvt has =
+    valued z cvt _ (flip_range many t on s z g)
+sizes_kept one many i t (instruction.OnOne (single.Mdrp keeping)) ppem s z g cvt has = valued z cvt _ (mdrp one t keeping s z g)
+sizes_kept one many i t (instruction.OnOne (single.Mirp keeping)) ppem s z g cvt has = valued z cvt _ (mirp one t keeping cvt s z g)
+sizes_kept one many i t (instruction.OnLines (line.Spvtl turned)) ppem s z g cvt has = valued z cvt _ (spvtl t turned s z g)
+sizes_kept one many i t (instruction.OnLines (line.Sfvtl turned)) ppem s z g cvt has = valued z cvt _ (sfvtl t turned s z g)
+sizes_kept one many i t (instruction.OnLines (line.Sdpvtl turned)) ppem s z g cvt has = valued z cvt _ (sdpvtl t turned s z g)
+sizes_kept one many i t (instruction.OnLines line.Isect) ppem s z g cvt has = valued z cvt _ (isect one t s z g)
+sizes_kept one many i t (instruction.OnLines line.Alignpts) ppem s z g cvt has = valued z cvt _ (alignpts one t s z g)

@@ -38,7 +38,12 @@ use Rattle.tt_exec_points.specs.Instruction.{control_value, mirp_value, has_refe
 use Rattle.tt_exec_points.specs.Instruction as is
 use Rattle.tt_exec_points.specs.Laws.{PointsAreTotal}
 use Rattle.tt_exec_points.specs.Popping.{Left, after, after_move, nothing_looped, looped, pairs_counted, pairs_there, taken_in_pairs, counted}
-use Rattle.tt_exec_points.specs.declared.instruction.PointInstruction.TheVariants as instruction
+use Rattle.tt_exec_points.specs.declared.instruction.OnPoints.TheVariants as instruction
+use Rattle.tt_exec_points.specs.declared.lines.OnLines.TheVariants as line
+use Rattle.tt_exec_points.specs.declared.measuring.Measuring.TheVariants as measure
+use Rattle.tt_exec_points.specs.declared.moving.OnOne.TheVariants as single
+use Rattle.tt_exec_points.specs.declared.several.InTurn.TheVariants as turn
+use Rattle.tt_exec_points.specs.declared.several.OnRange.TheVariants as ranged
 use Rattle.tt_exec_points.proofs.Loosened.{unless_short}
 
 -- the laws of the instructions
@@ -211,17 +216,12 @@ shpix k [] z g enough = absurd (omega arith)
 flippt : Many → (s : List ℤ) (z : ZoneLists) (g : GraphicsState) → IsTotal (is.flippt tolerance.Tolerant s z g)
 flippt k s z g = loop true s z g (λ points. flipping.flippt tolerance.Tolerant points z g) ((k z g).flippt)
 
-fliprgon : Many → (s : List ℤ) (z : ZoneLists) (g : GraphicsState) → 2 ≤ length s
-    → IsTotal (is.fliprgon tolerance.Tolerant s z g)
-fliprgon k (high ∷ low ∷ s) z g enough = moved s z g (flipping.fliprgon low high z) ((k z g).fliprgon low high)
-fliprgon k (high ∷ []) z g enough = absurd (omega arith)
-fliprgon k [] z g enough = absurd (omega arith)
-
-fliprgoff : Many → (s : List ℤ) (z : ZoneLists) (g : GraphicsState) → 2 ≤ length s
-    → IsTotal (is.fliprgoff tolerance.Tolerant s z g)
-fliprgoff k (high ∷ low ∷ s) z g enough = moved s z g (flipping.fliprgoff low high z) ((k z g).fliprgoff low high)
-fliprgoff k (high ∷ []) z g enough = absurd (omega arith)
-fliprgoff k [] z g enough = absurd (omega arith)
+flip_range : Many → (on : Bool) (s : List ℤ) (z : ZoneLists) (g : GraphicsState) → 2 ≤ length s
+    → IsTotal (is.flip_range tolerance.Tolerant on s z g)
+flip_range k on (high ∷ low ∷ s) z g enough =
+    moved s z g (flipping.flip_range on low high z) ((k z g).flip_range on low high)
+flip_range k on (high ∷ []) z g enough = absurd (omega arith)
+flip_range k on [] z g enough = absurd (omega arith)
 
 shc : Many → (which : ReferencePoint) (s : List ℤ) (z : ZoneLists) (g : GraphicsState) → 1 ≤ length s
     → IsTotal (is.shc tolerance.Tolerant which s z g)
@@ -304,36 +304,36 @@ told : (z : ZoneLists) (g : GraphicsState) (cvt : List ℤ) (r : Result (List �
 told z g cvt r total = total_after r _ total (λ s. record {})
 
 pub points_total : Single → Many → PointsAreTotal
-points_total one many instruction.Utp ppem s z g cvt enough = valued cvt _ (utp one s z g enough)
-points_total one many (instruction.Mdap round) ppem s z g cvt enough = valued cvt _ (mdap one round s z g enough)
+points_total one many (instruction.OnOne single.Utp) ppem s z g cvt enough = valued cvt _ (utp one s z g enough)
+points_total one many (instruction.OnOne (single.Mdap round)) ppem s z g cvt enough = valued cvt _ (mdap one round s z g enough)
 points_total one many (instruction.Iup axis) ppem s z g cvt enough = valued cvt _ (interpolated axis s z g)
-points_total one many (instruction.Shp which) ppem s z g cvt enough = valued cvt _ (shp many which s z g)
-points_total one many (instruction.Shc which) ppem s z g cvt enough = valued cvt _ (shc many which s z g enough)
-points_total one many (instruction.Shz which) ppem s z g cvt enough = valued cvt _ (shz many which s z g enough)
-points_total one many instruction.Shpix ppem s z g cvt enough = valued cvt _ (shpix many s z g enough)
-points_total one many instruction.Ip ppem s z g cvt enough = valued cvt _ (ip many s z g)
-points_total one many (instruction.Msirp set_rp0) ppem s z g cvt enough =
+points_total one many (instruction.InTurn (turn.Shp which)) ppem s z g cvt enough = valued cvt _ (shp many which s z g)
+points_total one many (instruction.OnRange (ranged.Shc which)) ppem s z g cvt enough = valued cvt _ (shc many which s z g enough)
+points_total one many (instruction.OnRange (ranged.Shz which)) ppem s z g cvt enough = valued cvt _ (shz many which s z g enough)
+points_total one many (instruction.InTurn turn.Shpix) ppem s z g cvt enough = valued cvt _ (shpix many s z g enough)
+points_total one many (instruction.InTurn turn.Ip) ppem s z g cvt enough = valued cvt _ (ip many s z g)
+points_total one many (instruction.OnOne (single.Msirp set_rp0)) ppem s z g cvt enough =
     valued cvt _ (msirp one set_rp0 s z g enough)
-points_total one many instruction.Alignrp ppem s z g cvt enough = valued cvt _ (alignrp many s z g)
-points_total one many (instruction.Miap round) ppem s z g cvt enough = valued cvt _ (miap one round cvt s z g enough)
-points_total one many (instruction.Gc of) ppem s z g cvt enough = told z g cvt _ (gc one of s z g enough)
-points_total one many instruction.Scfs ppem s z g cvt enough = valued cvt _ (scfs one s z g enough)
-points_total one many (instruction.Md between) ppem s z g cvt enough = told z g cvt _ (md one between s z g enough)
+points_total one many (instruction.InTurn turn.Alignrp) ppem s z g cvt enough = valued cvt _ (alignrp many s z g)
+points_total one many (instruction.OnOne (single.Miap round)) ppem s z g cvt enough = valued cvt _ (miap one round cvt s z g enough)
+points_total one many (instruction.Measuring (measure.Gc of)) ppem s z g cvt enough = told z g cvt _ (gc one of s z g enough)
+points_total one many (instruction.OnOne single.Scfs) ppem s z g cvt enough = valued cvt _ (scfs one s z g enough)
+points_total one many (instruction.Measuring (measure.Md between)) ppem s z g cvt enough = told z g cvt _ (md one between s z g enough)
 points_total one many (instruction.Deltap range) ppem s z g cvt enough =
     valued cvt _ (deltap many range ppem s z g enough)
 points_total one many (instruction.Deltac range) ppem s z g cvt enough =
     total_after (deltac tolerance.Tolerant range ppem s g cvt) _ (values range ppem s g cvt enough) (λ t. record {})
-points_total one many instruction.Flippt ppem s z g cvt enough = valued cvt _ (flippt many s z g)
-points_total one many instruction.Fliprgon ppem s z g cvt enough = valued cvt _ (fliprgon many s z g enough)
-points_total one many instruction.Fliprgoff ppem s z g cvt enough = valued cvt _ (fliprgoff many s z g enough)
-points_total one many (instruction.Mdrp keeping) ppem s z g cvt enough = valued cvt _ (mdrp one keeping s z g enough)
-points_total one many (instruction.Mirp keeping) ppem s z g cvt enough =
+points_total one many (instruction.InTurn turn.Flippt) ppem s z g cvt enough = valued cvt _ (flippt many s z g)
+points_total one many (instruction.OnRange (ranged.Flip on)) ppem s z g cvt enough =
+    valued cvt _ (flip_range many on s z g enough)
+points_total one many (instruction.OnOne (single.Mdrp keeping)) ppem s z g cvt enough = valued cvt _ (mdrp one keeping s z g enough)
+points_total one many (instruction.OnOne (single.Mirp keeping)) ppem s z g cvt enough =
     valued cvt _ (mirp one keeping cvt s z g enough)
-points_total one many (instruction.Spvtl turned) ppem s z g cvt enough =
+points_total one many (instruction.OnLines (line.Spvtl turned)) ppem s z g cvt enough =
     valued cvt _ (spvtl one turned s z g enough)
-points_total one many (instruction.Sfvtl turned) ppem s z g cvt enough =
+points_total one many (instruction.OnLines (line.Sfvtl turned)) ppem s z g cvt enough =
     valued cvt _ (sfvtl one turned s z g enough)
-points_total one many (instruction.Sdpvtl turned) ppem s z g cvt enough =
+points_total one many (instruction.OnLines (line.Sdpvtl turned)) ppem s z g cvt enough =
     valued cvt _ (sdpvtl one turned s z g enough)
-points_total one many instruction.Isect ppem s z g cvt enough = valued cvt _ (isect one s z g enough)
-points_total one many instruction.Alignpts ppem s z g cvt enough = valued cvt _ (alignpts one s z g enough)
+points_total one many (instruction.OnLines line.Isect) ppem s z g cvt enough = valued cvt _ (isect one s z g enough)
+points_total one many (instruction.OnLines line.Alignpts) ppem s z g cvt enough = valued cvt _ (alignpts one s z g enough)

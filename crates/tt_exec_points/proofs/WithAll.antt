@@ -29,7 +29,12 @@ use Rattle.tt_exec_points.specs.Instruction.{after_setting, has_reference, with_
 use Rattle.tt_exec_points.specs.Instruction as is
 use Rattle.tt_exec_points.specs.Popping.{Left, after, after_move, taken, too_little, looped, counted}
 use Rattle.tt_exec_points.specs.WithAll.{beside, PointsStay}
-use Rattle.tt_exec_points.specs.declared.instruction.PointInstruction.TheVariants as instruction
+use Rattle.tt_exec_points.specs.declared.instruction.OnPoints.TheVariants as instruction
+use Rattle.tt_exec_points.specs.declared.lines.OnLines.TheVariants as line
+use Rattle.tt_exec_points.specs.declared.measuring.Measuring.TheVariants as measure
+use Rattle.tt_exec_points.specs.declared.moving.OnOne.TheVariants as single
+use Rattle.tt_exec_points.specs.declared.several.InTurn.TheVariants as turn
+use Rattle.tt_exec_points.specs.declared.several.OnRange.TheVariants as ranged
 
 -- the laws of the instructions
 abbrev Single : Type 0
@@ -216,19 +221,12 @@ flippt k t s z g =
     loop t true s z g (λ points. flipping.flippt t points z g)
     (λ points. flipping.flippt t points z (with_all g)) ((k z g).flippt t)
 
-fliprgon : (t : Tolerance) (s : List ℤ) (z : ZoneLists) (g : GraphicsState)
-    → StaysThird (is.fliprgon t s z g) (is.fliprgon t s z (with_all g))
-fliprgon t (high ∷ low ∷ s) z g =
-    passed t s z _ _ _ (moved s g (flipping.fliprgon low high z) _ (same (flipping.fliprgon low high z)))
-fliprgon t (high ∷ []) z g = λ other. refl
-fliprgon t [] z g = λ other. refl
-
-fliprgoff : (t : Tolerance) (s : List ℤ) (z : ZoneLists) (g : GraphicsState)
-    → StaysThird (is.fliprgoff t s z g) (is.fliprgoff t s z (with_all g))
-fliprgoff t (high ∷ low ∷ s) z g =
-    passed t s z _ _ _ (moved s g (flipping.fliprgoff low high z) _ (same (flipping.fliprgoff low high z)))
-fliprgoff t (high ∷ []) z g = λ other. refl
-fliprgoff t [] z g = λ other. refl
+flip_range : (t : Tolerance) (on : Bool) (s : List ℤ) (z : ZoneLists) (g : GraphicsState)
+    → StaysThird (is.flip_range t on s z g) (is.flip_range t on s z (with_all g))
+flip_range t on (high ∷ low ∷ s) z g =
+    passed t s z _ _ _ (moved s g (flipping.flip_range on low high z) _ (same (flipping.flip_range on low high z)))
+flip_range t on (high ∷ []) z g = λ other. refl
+flip_range t on [] z g = λ other. refl
 
 shc : Many → (t : Tolerance) (which : ReferencePoint) (s : List ℤ) (z : ZoneLists) (g : GraphicsState)
     → StaysThird (is.shc t which s z g) (is.shc t which s z (with_all g))
@@ -255,31 +253,30 @@ told : (z : ZoneLists) (g : GraphicsState) (cvt : List ℤ) (r with : Result (Li
 told z g cvt r with stays = chained (λ s. s) beside r with _ _ stays (λ s. refl)
 
 pub points_stay : Single → Many → PointsStay
-points_stay one many t instruction.Utp ppem s z g cvt = valued cvt _ _ (utp one t s z g)
-points_stay one many t (instruction.Mdap round) ppem s z g cvt = valued cvt _ _ (mdap one t round s z g)
+points_stay one many t (instruction.OnOne single.Utp) ppem s z g cvt = valued cvt _ _ (utp one t s z g)
+points_stay one many t (instruction.OnOne (single.Mdap round)) ppem s z g cvt = valued cvt _ _ (mdap one t round s z g)
 points_stay one many t (instruction.Iup axis) ppem s z g cvt =
     valued cvt _ _ (moved s g (iup axis z) _ (same (iup axis z)))
-points_stay one many t (instruction.Shp which) ppem s z g cvt = valued cvt _ _ (shp many t which s z g)
-points_stay one many t (instruction.Shc which) ppem s z g cvt = valued cvt _ _ (shc many t which s z g)
-points_stay one many t (instruction.Shz which) ppem s z g cvt = valued cvt _ _ (shz many t which s z g)
-points_stay one many t instruction.Shpix ppem s z g cvt = valued cvt _ _ (shpix many t s z g)
-points_stay one many t instruction.Ip ppem s z g cvt = valued cvt _ _ (ip many t s z g)
-points_stay one many t (instruction.Msirp set_rp0) ppem s z g cvt = valued cvt _ _ (msirp one t set_rp0 s z g)
-points_stay one many t instruction.Alignrp ppem s z g cvt = valued cvt _ _ (alignrp many t s z g)
-points_stay one many t (instruction.Miap round) ppem s z g cvt = valued cvt _ _ (miap one t round cvt s z g)
-points_stay one many t (instruction.Gc of) ppem s z g cvt = told z g cvt _ _ (gc one t of s z g)
-points_stay one many t instruction.Scfs ppem s z g cvt = valued cvt _ _ (scfs one t s z g)
-points_stay one many t (instruction.Md between) ppem s z g cvt = told z g cvt _ _ (md one t between s z g)
+points_stay one many t (instruction.InTurn (turn.Shp which)) ppem s z g cvt = valued cvt _ _ (shp many t which s z g)
+points_stay one many t (instruction.OnRange (ranged.Shc which)) ppem s z g cvt = valued cvt _ _ (shc many t which s z g)
+points_stay one many t (instruction.OnRange (ranged.Shz which)) ppem s z g cvt = valued cvt _ _ (shz many t which s z g)
+points_stay one many t (instruction.InTurn turn.Shpix) ppem s z g cvt = valued cvt _ _ (shpix many t s z g)
+points_stay one many t (instruction.InTurn turn.Ip) ppem s z g cvt = valued cvt _ _ (ip many t s z g)
+points_stay one many t (instruction.OnOne (single.Msirp set_rp0)) ppem s z g cvt = valued cvt _ _ (msirp one t set_rp0 s z g)
+points_stay one many t (instruction.InTurn turn.Alignrp) ppem s z g cvt = valued cvt _ _ (alignrp many t s z g)
+points_stay one many t (instruction.OnOne (single.Miap round)) ppem s z g cvt = valued cvt _ _ (miap one t round cvt s z g)
+points_stay one many t (instruction.Measuring (measure.Gc of)) ppem s z g cvt = told z g cvt _ _ (gc one t of s z g)
+points_stay one many t (instruction.OnOne single.Scfs) ppem s z g cvt = valued cvt _ _ (scfs one t s z g)
+points_stay one many t (instruction.Measuring (measure.Md between)) ppem s z g cvt = told z g cvt _ _ (md one t between s z g)
 points_stay one many t (instruction.Deltap range) ppem s z g cvt = valued cvt _ _ (deltap many t range ppem s z g)
 points_stay one many t (instruction.Deltac range) ppem s z g cvt =
     given.after beside (deltac t range ppem s g cvt) _ _ (λ u. refl)
-points_stay one many t instruction.Flippt ppem s z g cvt = valued cvt _ _ (flippt many t s z g)
-points_stay one many t instruction.Fliprgon ppem s z g cvt = valued cvt _ _ (fliprgon t s z g)
-points_stay one many t instruction.Fliprgoff ppem s z g cvt = valued cvt _ _ (fliprgoff t s z g)
-points_stay one many t (instruction.Mdrp keeping) ppem s z g cvt = valued cvt _ _ (mdrp one t keeping s z g)
-points_stay one many t (instruction.Mirp keeping) ppem s z g cvt = valued cvt _ _ (mirp one t keeping cvt s z g)
-points_stay one many t (instruction.Spvtl turned) ppem s z g cvt = valued cvt _ _ (spvtl one t turned s z g)
-points_stay one many t (instruction.Sfvtl turned) ppem s z g cvt = valued cvt _ _ (sfvtl one t turned s z g)
-points_stay one many t (instruction.Sdpvtl turned) ppem s z g cvt = valued cvt _ _ (sdpvtl one t turned s z g)
-points_stay one many t instruction.Isect ppem s z g cvt = valued cvt _ _ (isect one t s z g)
-points_stay one many t instruction.Alignpts ppem s z g cvt = valued cvt _ _ (alignpts one t s z g)
+points_stay one many t (instruction.InTurn turn.Flippt) ppem s z g cvt = valued cvt _ _ (flippt many t s z g)
+points_stay one many t (instruction.OnRange (ranged.Flip on)) ppem s z g cvt = valued cvt _ _ (flip_range t on s z g)
+points_stay one many t (instruction.OnOne (single.Mdrp keeping)) ppem s z g cvt = valued cvt _ _ (mdrp one t keeping s z g)
+points_stay one many t (instruction.OnOne (single.Mirp keeping)) ppem s z g cvt = valued cvt _ _ (mirp one t keeping cvt s z g)
+points_stay one many t (instruction.OnLines (line.Spvtl turned)) ppem s z g cvt = valued cvt _ _ (spvtl one t turned s z g)
+points_stay one many t (instruction.OnLines (line.Sfvtl turned)) ppem s z g cvt = valued cvt _ _ (sfvtl one t turned s z g)
+points_stay one many t (instruction.OnLines (line.Sdpvtl turned)) ppem s z g cvt = valued cvt _ _ (sdpvtl one t turned s z g)
+points_stay one many t (instruction.OnLines line.Isect) ppem s z g cvt = valued cvt _ _ (isect one t s z g)
+points_stay one many t (instruction.OnLines line.Alignpts) ppem s z g cvt = valued cvt _ _ (alignpts one t s z g)

@@ -38,8 +38,18 @@ use Rattle.tt_exec_stack.specs.Stack.{pushed}
 use Rattle.tt_exec_state.specs.StoredValues.{place}
 use Rattle.tt_exec_points.specs.ControlValues.{deltac}
 use Rattle.tt_exec_points.specs.Popping.{Left, after, after_move, looped, counted}
-use Rattle.tt_exec_points.specs.declared.instruction.PointInstruction.{PointInstruction}
-use Rattle.tt_exec_points.specs.declared.instruction.PointInstruction.TheVariants as instruction
+use Rattle.tt_exec_points.specs.declared.instruction.OnPoints.{OnPoints}
+use Rattle.tt_exec_points.specs.declared.instruction.OnPoints.TheVariants as instruction
+use Rattle.tt_exec_points.specs.declared.lines.OnLines.{OnLines}
+use Rattle.tt_exec_points.specs.declared.lines.OnLines.TheVariants as line
+use Rattle.tt_exec_points.specs.declared.measuring.Measuring.{Measuring}
+use Rattle.tt_exec_points.specs.declared.measuring.Measuring.TheVariants as measure
+use Rattle.tt_exec_points.specs.declared.moving.OnOne.{OnOne}
+use Rattle.tt_exec_points.specs.declared.moving.OnOne.TheVariants as single
+use Rattle.tt_exec_points.specs.declared.several.InTurn.{InTurn}
+use Rattle.tt_exec_points.specs.declared.several.InTurn.TheVariants as turn
+use Rattle.tt_exec_points.specs.declared.several.OnRange.{OnRange}
+use Rattle.tt_exec_points.specs.declared.several.OnRange.TheVariants as ranged
 
 abbrev pub mdap : Tolerance → Bool → List ℤ → ZoneLists → GraphicsState → Left
 mdap t round (p ∷ s) z g = unless_missing t (s, z, g) (after s (single_moving.mdap round p z g))
@@ -123,13 +133,9 @@ shpix t [] z g = Err why.StackShort
 abbrev pub flippt : Tolerance → List ℤ → ZoneLists → GraphicsState → Left
 flippt t s z g = looped t true s z g (λ points. flipping.flippt t points z g)
 
-abbrev pub fliprgon : Tolerance → List ℤ → ZoneLists → GraphicsState → Left
-fliprgon t (high ∷ low ∷ s) z g = unless_missing t (s, z, g) (after_move s g (flipping.fliprgon low high z))
-fliprgon t _ z g = Err why.StackShort
-
-abbrev pub fliprgoff : Tolerance → List ℤ → ZoneLists → GraphicsState → Left
-fliprgoff t (high ∷ low ∷ s) z g = unless_missing t (s, z, g) (after_move s g (flipping.fliprgoff low high z))
-fliprgoff t _ z g = Err why.StackShort
+abbrev pub flip_range : Tolerance → Bool → List ℤ → ZoneLists → GraphicsState → Left
+flip_range t on (high ∷ low ∷ s) z g = unless_missing t (s, z, g) (after_move s g (flipping.flip_range on low high z))
+flip_range t on _ z g = Err why.StackShort
 
 abbrev pub shc : Tolerance → ReferencePoint → List ℤ → ZoneLists → GraphicsState → Left
 shc t which (c ∷ s) z g = unless_missing t (s, z, g) (after_move s g (shifting.shc which c z g))
@@ -170,6 +176,39 @@ abbrev pub alignpts : Tolerance → List ℤ → ZoneLists → GraphicsState →
 alignpts t (p1 ∷ p2 ∷ s) z g = unless_missing t (s, z, g) (after_move s g (lines.alignpts p1 p2 z g))
 alignpts t _ z g = Err why.StackShort
 
+-- the instructions of each family: on one point, on lines, on points in turn, on a range of points; those that measure
+abbrev pub on_one : Tolerance → OnOne → List ℤ → List ℤ → ZoneLists → GraphicsState → Left
+on_one t (single.Mdap round) cvt s z g = mdap t round s z g
+on_one t (single.Mdrp keeping) cvt s z g = mdrp t keeping s z g
+on_one t (single.Msirp set_rp0) cvt s z g = msirp t set_rp0 s z g
+on_one t (single.Miap round) cvt s z g = miap t round cvt s z g
+on_one t (single.Mirp keeping) cvt s z g = mirp t keeping cvt s z g
+on_one t single.Scfs cvt s z g = scfs t s z g
+on_one t single.Utp cvt s z g = utp t s z g
+
+abbrev pub on_lines : Tolerance → OnLines → List ℤ → ZoneLists → GraphicsState → Left
+on_lines t (line.Spvtl turned) s z g = spvtl t turned s z g
+on_lines t (line.Sfvtl turned) s z g = sfvtl t turned s z g
+on_lines t (line.Sdpvtl turned) s z g = sdpvtl t turned s z g
+on_lines t line.Isect s z g = isect t s z g
+on_lines t line.Alignpts s z g = alignpts t s z g
+
+abbrev pub in_turn : Tolerance → InTurn → List ℤ → ZoneLists → GraphicsState → Left
+in_turn t turn.Alignrp s z g = alignrp t s z g
+in_turn t turn.Ip s z g = ip t s z g
+in_turn t (turn.Shp which) s z g = shp t which s z g
+in_turn t turn.Shpix s z g = shpix t s z g
+in_turn t turn.Flippt s z g = flippt t s z g
+
+abbrev pub on_range : Tolerance → OnRange → List ℤ → ZoneLists → GraphicsState → Left
+on_range t (ranged.Flip on) s z g = flip_range t on s z g
+on_range t (ranged.Shc which) s z g = shc t which s z g
+on_range t (ranged.Shz which) s z g = shz t which s z g
+
+abbrev pub measured : Tolerance → Measuring → List ℤ → ZoneLists → GraphicsState → Result (List ℤ) Why
+measured t (measure.Gc of) s z g = gc t of s z g
+measured t (measure.Md between) s z g = md t between s z g
+
 -- the stack, the zones, the graphics state and the control values, or a refusal
 abbrev pub LeftOfAll : Type 0
 LeftOfAll = Result (List ℤ × ZoneLists × GraphicsState × List ℤ) Why
@@ -181,51 +220,30 @@ with_values cvt left = left >>= λ t. Ok (t.0, t.1, t.2, cvt)
 abbrev pub with_points : ZoneLists → GraphicsState → List ℤ → Result (List ℤ) Why → LeftOfAll
 with_points z g cvt left = left >>= λ s. Ok (s, z, g, cvt)
 
-abbrev pub on_points : Tolerance → PointInstruction → ℕ → List ℤ → ZoneLists → GraphicsState → List ℤ → LeftOfAll
-on_points t instruction.Utp ppem s z g cvt = with_values cvt (utp t s z g)
-on_points t (instruction.Mdap round) ppem s z g cvt = with_values cvt (mdap t round s z g)
+abbrev pub on_points : Tolerance → OnPoints → ℕ → List ℤ → ZoneLists → GraphicsState → List ℤ → LeftOfAll
+on_points t (instruction.OnOne o) ppem s z g cvt = with_values cvt (on_one t o cvt s z g)
+on_points t (instruction.OnLines o) ppem s z g cvt = with_values cvt (on_lines t o s z g)
+on_points t (instruction.InTurn o) ppem s z g cvt = with_values cvt (in_turn t o s z g)
+on_points t (instruction.OnRange o) ppem s z g cvt = with_values cvt (on_range t o s z g)
 on_points t (instruction.Iup axis) ppem s z g cvt = with_values cvt (after_move s g (iup axis z))
-on_points t (instruction.Shp which) ppem s z g cvt = with_values cvt (shp t which s z g)
-on_points t (instruction.Shc which) ppem s z g cvt = with_values cvt (shc t which s z g)
-on_points t (instruction.Shz which) ppem s z g cvt = with_values cvt (shz t which s z g)
-on_points t instruction.Shpix ppem s z g cvt = with_values cvt (shpix t s z g)
-on_points t instruction.Ip ppem s z g cvt = with_values cvt (ip t s z g)
-on_points t (instruction.Msirp set_rp0) ppem s z g cvt = with_values cvt (msirp t set_rp0 s z g)
-on_points t instruction.Alignrp ppem s z g cvt = with_values cvt (alignrp t s z g)
-on_points t (instruction.Miap round) ppem s z g cvt = with_values cvt (miap t round cvt s z g)
-on_points t (instruction.Gc of) ppem s z g cvt = with_points z g cvt (gc t of s z g)
-on_points t instruction.Scfs ppem s z g cvt = with_values cvt (scfs t s z g)
-on_points t (instruction.Md between) ppem s z g cvt = with_points z g cvt (md t between s z g)
+on_points t (instruction.Measuring o) ppem s z g cvt = with_points z g cvt (measured t o s z g)
 on_points t (instruction.Deltap range) ppem s z g cvt = with_values cvt (deltap t range ppem s z g)
 on_points t (instruction.Deltac range) ppem s z g cvt = deltac t range ppem s g cvt >>= λ t. Ok (t.0, z, g, t.1)
-on_points t instruction.Flippt ppem s z g cvt = with_values cvt (flippt t s z g)
-on_points t instruction.Fliprgon ppem s z g cvt = with_values cvt (fliprgon t s z g)
-on_points t instruction.Fliprgoff ppem s z g cvt = with_values cvt (fliprgoff t s z g)
-on_points t (instruction.Mdrp keeping) ppem s z g cvt = with_values cvt (mdrp t keeping s z g)
-on_points t (instruction.Mirp keeping) ppem s z g cvt = with_values cvt (mirp t keeping cvt s z g)
-on_points t (instruction.Spvtl turned) ppem s z g cvt = with_values cvt (spvtl t turned s z g)
-on_points t (instruction.Sfvtl turned) ppem s z g cvt = with_values cvt (sfvtl t turned s z g)
-on_points t (instruction.Sdpvtl turned) ppem s z g cvt = with_values cvt (sdpvtl t turned s z g)
-on_points t instruction.Isect ppem s z g cvt = with_values cvt (isect t s z g)
-on_points t instruction.Alignpts ppem s z g cvt = with_values cvt (alignpts t s z g)
 
 -- the count of values that an instruction takes at once, before points and pairs whose count the program decides
-abbrev pub takes : PointInstruction → ℕ
+abbrev pub takes : OnPoints → ℕ
 takes (instruction.Iup axis) = 0
-takes (instruction.Shp which) = 0
-takes instruction.Ip = 0
-takes instruction.Alignrp = 0
-takes instruction.Flippt = 0
-takes (instruction.Mdap round) = 1
-takes (instruction.Shc which) = 1
-takes (instruction.Shz which) = 1
-takes instruction.Utp = 1
-takes (instruction.Gc of) = 1
+takes (instruction.InTurn turn.Shpix) = 1
+takes (instruction.InTurn o) = 0
+takes (instruction.OnOne (single.Mdap round)) = 1
+takes (instruction.OnOne (single.Mdrp keeping)) = 1
+takes (instruction.OnOne single.Utp) = 1
+takes (instruction.OnRange (ranged.Shc which)) = 1
+takes (instruction.OnRange (ranged.Shz which)) = 1
+takes (instruction.Measuring (measure.Gc of)) = 1
 takes (instruction.Deltap range) = 1
 takes (instruction.Deltac range) = 1
-takes (instruction.Mdrp keeping) = 1
-takes instruction.Shpix = 1
-takes instruction.Isect = 5
+takes (instruction.OnLines line.Isect) = 5
 takes other = 2
 
 -- worked values: a tolerant machine with exactly two points, one at 0 and one at 40 along x

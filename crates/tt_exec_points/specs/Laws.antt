@@ -7,19 +7,19 @@ use Rattle.tt_state.specs.declared.tolerance.Tolerance.{Tolerance}
 use Rattle.tt_state.specs.declared.tolerance.Tolerance.TheVariants as tolerance
 use Rattle.tt_points_zones.specs.Zones.{ZoneLists}
 use Rattle.tt_exec_points.specs.Instruction.{on_points, takes}
-use Rattle.tt_exec_points.specs.declared.instruction.PointInstruction.{PointInstruction}
+use Rattle.tt_exec_points.specs.declared.instruction.OnPoints.{OnPoints}
 
 -- a tolerant machine has the result of a strict one, or another in place of a refusal that tolerance lifts
 abbrev pub PointsAreLoosened : Type 0
-PointsAreLoosened = (o : PointInstruction) (ppem : ℕ) (s : List ℤ) (z : ZoneLists) (g : GraphicsState) (cvt : List ℤ)
+PointsAreLoosened = (o : OnPoints) (ppem : ℕ) (s : List ℤ) (z : ZoneLists) (g : GraphicsState) (cvt : List ℤ)
     → Loosens (on_points tolerance.Strict o ppem s z g cvt) (on_points tolerance.Tolerant o ppem s z g cvt)
 
 -- with the values that it takes, an instruction does not fail with too few, and a missing thing is passed over
 abbrev pub PointsAreTotal : Type 0
-PointsAreTotal = (o : PointInstruction) (ppem : ℕ) (s : List ℤ) (z : ZoneLists) (g : GraphicsState) (cvt : List ℤ)
+PointsAreTotal = (o : OnPoints) (ppem : ℕ) (s : List ℤ) (z : ZoneLists) (g : GraphicsState) (cvt : List ℤ)
     → takes o ≤ length s → IsTotal (on_points tolerance.Tolerant o ppem s z g cvt)
 
 -- with fewer values it is refused
 abbrev pub PointsAreShort : Type 0
-PointsAreShort = (o : PointInstruction) (ppem : ℕ) (t : Tolerance) (s : List ℤ) (z : ZoneLists) (g : GraphicsState)
+PointsAreShort = (o : OnPoints) (ppem : ℕ) (t : Tolerance) (s : List ℤ) (z : ZoneLists) (g : GraphicsState)
     (cvt : List ℤ) → length s < takes o → on_points t o ppem s z g cvt ≡ Err why.StackShort

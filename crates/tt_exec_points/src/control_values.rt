@@ -1,14 +1,15 @@
 //! DELTAC1 to DELTAC3: exceptions for control values. Apple TrueType Reference Manual, "Instruction set".
 
-ghost use Rattle.std.specs.Prelude.{◌≡◌, IfErr, ◌+◌, ◌+ℤ◌, ◌*◌, ◌<◌, pos, length, get_or};
+ghost use Rattle.std.specs.Prelude.{◌≡◌, IfErr, ◌+ℤ◌};
 ghost use Rattle.tt_core.specs.Outcomes.{Gives};
 ghost use Rattle.tt_exec_points.specs.ControlValues as is;
+ghost use Rattle.tt_exec_stack.specs.Stack.{Does};
 
 use crate::popping::{pairs_counted, pairs_there};
 use tt_core::Why;
 use tt_exec_stack::Stack;
-use tt_points_loops::deltas::{DeltaRange, delta_of};
-use tt_state::{GraphicsState, Tolerance};
+use tt_points_loops::deltas::{Deltas, Pair, delta_of, pair_at};
+use tt_state::GraphicsState;
 
 /// A sum that fits 32 bits. Error: ValueRange.
 fn sum(a: i32, b: i32) -> Result<i32, Why>
@@ -32,58 +33,28 @@ fn change_by(d: Option<i32>, n: i32, cvt: &mut [i32]) -> Result<(), Why>
     Ok(())
 }
 
-/// Changes the control value of pair `i` as its argument requests. Errors: BadArgument, CvtRange, ValueRange.
-fn change_pair(
-    tolerance: Tolerance,
-    range: DeltaRange,
-    ppem: u32,
-    state: &GraphicsState,
-    pairs: &[i32],
-    i: usize,
-    cvt: &mut [i32],
-) -> Result<(), Why>
-    requires there { 2 * i + 1 < length pairs.now }
-    ensures exact { Gives (λ u. cvt.new) result (is.change_pair tolerance range ppem state.now
-        (get_or pairs.now (2 * i) (pos 0), get_or pairs.now (2 * i + 1) (pos 0)) cvt.old) }
+/// Changes the control value of a pair as its argument requests. Errors: BadArgument, CvtRange, ValueRange.
+fn change_pair(by: Deltas, state: &GraphicsState, pair: Pair, cvt: &mut [i32]) -> Result<(), Why>
+    ensures exact { let given = is.change_pair by.tolerance by.range by.ppem state.now (pair.argument, pair.number) in
+        Does (given cvt.old) cvt.new result }
     ensures kept { IfErr result (λ why. cvt.new ≡ cvt.old) }
 {
-    let d = delta_of(tolerance, range, pairs[2 * i], ppem, state)?;
-    change_by(d, pairs[2 * i + 1], cvt)
+    let d = delta_of(by, pair.argument, state)?;
+    change_by(d, pair.number, cvt)
 }
 
-/// Changes a control value as `change_pair` does. A tolerant machine passes over a missing one.
-fn change(
-    tolerance: Tolerance,
-    range: DeltaRange,
-    ppem: u32,
-    state: &GraphicsState,
-    pairs: &[i32],
-    i: usize,
-    cvt: &mut [i32],
-) -> Result<(), Why>
-    requires there { 2 * i + 1 < length pairs.now }
-    ensures { Gives (λ u. cvt.new) result (is.change tolerance range ppem state.now
-        (get_or pairs.now (2 * i) (pos 0), get_or pairs.now (2 * i + 1) (pos 0)) cvt.old) }
-{
-    match change_pair(tolerance, range, ppem, state, pairs, i, cvt) {
-        Err(why) if tolerance.passes_over(why) => Ok(()),
-        done => done,
-    }
-}
-
-/// Changes the control value of every pair, the last pair first.
-fn change_all(
-    tolerance: Tolerance,
-    range: DeltaRange,
-    ppem: u32,
-    state: &GraphicsState,
-    pairs: &[i32],
-    cvt: &mut [i32],
-) -> Result<(), Why>
-    ensures { Gives (λ u. cvt.new) result (is.changes tolerance range ppem state.now (is.popped pairs.now) cvt.old) }
+/// Changes the control value of every pair, the last pair first. A tolerant machine passes over a missing one. Errors:
+/// BadArgument, CvtRange, ValueRange.
+fn change_all(by: Deltas, state: &GraphicsState, pairs: &[i32], cvt: &mut [i32]) -> Result<(), Why>
+    ensures { let given = is.changes by.tolerance by.range by.ppem state.now (is.popped pairs.now) cvt.old in
+        Does given cvt.new result }
 {
     for i in (0..pairs.len() / 2).rev() {
-        change(tolerance, range, ppem, state, pairs, i, cvt)?;
+        match change_pair(by, state, pair_at(pairs, i), cvt) {
+            Ok(()) => {}
+            Err(why) if by.tolerance.passes_over(why) => {}
+            Err(why) => return Err(why),
+        }
     }
     Ok(())
 }
@@ -91,19 +62,18 @@ fn change_all(
 /// DELTAC1[] to DELTAC3[], 0x73 to 0x75: n pairs of an argument and a control value's number, n -> nothing. Errors:
 /// BadArgument, CvtRange, ValueRange.
 pub(crate) fn deltac(
-    tolerance: Tolerance,
-    range: DeltaRange,
-    ppem: u32,
+    by: Deltas,
     stack: &mut Stack,
     graphics: &GraphicsState,
     cvt: &mut [i32],
 ) -> Result<(), Why>
-    ensures { Gives (λ u. (stack.new, cvt.new)) result (is.deltac tolerance range ppem stack.old graphics.now cvt.old) }
+    ensures { let given = is.deltac by.tolerance by.range by.ppem stack.old graphics.now cvt.old in
+        Does given (stack.new, cvt.new) result }
 {
     let many = pairs_counted(stack)?;
-    let there = pairs_there(tolerance, many, stack);
+    let there = pairs_there(by.tolerance, many, stack);
     let pairs = stack.top(there)?;
-    change_all(tolerance, range, ppem, graphics, pairs, cvt)?;
+    change_all(by, graphics, pairs, cvt)?;
     stack.discard(many.min(stack.len()));
     Ok(())
 }

@@ -4,56 +4,52 @@
 //! say (profile). Apple TrueType Reference Manual, "Instruction set".
 
 ghost use Rattle.std.specs.Prelude.{◌≡◌};
-ghost use Rattle.tt_core.specs.Outcomes.{Gives};
 ghost use Rattle.tt_exec_points.specs.Instruction as is;
+ghost use Rattle.tt_exec_stack.specs.Stack.{Does};
 
 use crate::control_values::deltac;
+use crate::lines::OnLines;
+use crate::measuring::Measuring;
+use crate::moving::OnOne;
 use crate::points::Points;
+use crate::several::{InTurn, OnRange};
 use tt_core::Why;
 use tt_exec_stack::Stack;
 use tt_exec_state::Size;
-use tt_points::Keeping;
-use tt_points::measuring::Position;
-use tt_points_loops::deltas::DeltaRange;
-use tt_points_loops::shifting::ReferencePoint;
+use tt_points_loops::deltas::{DeltaRange, Deltas};
 use tt_state::{Axis, GraphicsState, Tolerance};
 
-/// An instruction on points, or DELTAC, by the manual's name.
+/// An instruction on points, or DELTAC. Those of one family take the same and leave the same.
 #[derive(Clone, Copy)]
-pub enum PointInstruction {
-    Utp,
-    Mdap { round: bool },
+pub enum OnPoints {
+    OnOne(OnOne),
+    OnLines(OnLines),
+    InTurn(InTurn),
+    OnRange(OnRange),
     Iup(Axis),
-    Shp(ReferencePoint),
-    Shc(ReferencePoint),
-    Shz(ReferencePoint),
-    Shpix,
-    Ip,
-    Msirp { set_rp0: bool },
-    Alignrp,
-    Miap { round: bool },
-    Gc(Position),
-    Scfs,
-    Md(Position),
+    Measuring(Measuring),
     Deltap(DeltaRange),
     Deltac(DeltaRange),
-    Flippt,
-    Fliprgon,
-    Fliprgoff,
-    Mdrp(Keeping),
-    Mirp(Keeping),
-    Spvtl { turned: bool },
-    Sfvtl { turned: bool },
-    Sdpvtl { turned: bool },
-    Isect,
-    Alignpts,
+}
+
+/// DELTAP or DELTAC on this machine.
+fn deltas(range: DeltaRange, size: Size, tolerance: Tolerance) -> Deltas
+    ensures range { result.range ≡ range }
+    ensures ppem { result.ppem ≡ size.ppem }
+    ensures tolerance { result.tolerance ≡ tolerance }
+{
+    Deltas {
+        range,
+        ppem: size.ppem,
+        tolerance,
+    }
 }
 
 /// Executes an instruction. Errors: StackShort; those of the instruction. A tolerant machine has none for a missing
 /// thing.
 pub fn on_points(
     tolerance: Tolerance,
-    op: PointInstruction,
+    op: OnPoints,
     size: Size,
     stack: &mut Stack,
     points: &mut Points,
@@ -61,38 +57,16 @@ pub fn on_points(
     cvt: &mut [i32],
 ) -> Result<(), Why>
     ensures { let given = is.on_points tolerance op size.ppem stack.old points.old graphics.old cvt.old in
-        Gives (λ u. (stack.new, points.new, graphics.new, cvt.new)) result given }
+        Does given (stack.new, points.new, graphics.new, cvt.new) result }
 {
     match op {
-        PointInstruction::Utp => points.utp(tolerance, stack, graphics),
-        PointInstruction::Mdap { round } => points.mdap(tolerance, round, stack, graphics),
-        PointInstruction::Iup(axis) => points.iup(axis),
-        PointInstruction::Shp(which) => points.shp(tolerance, which, stack, graphics),
-        PointInstruction::Shc(which) => points.shc(tolerance, which, stack, graphics),
-        PointInstruction::Shz(which) => points.shz(tolerance, which, stack, graphics),
-        PointInstruction::Shpix => points.shpix(tolerance, stack, graphics),
-        PointInstruction::Ip => points.ip(tolerance, stack, graphics),
-        PointInstruction::Msirp { set_rp0 } => points.msirp(tolerance, set_rp0, stack, graphics),
-        PointInstruction::Alignrp => points.alignrp(tolerance, stack, graphics),
-        PointInstruction::Miap { round } => points.miap(tolerance, round, cvt, stack, graphics),
-        PointInstruction::Gc(of) => points.gc(tolerance, of, stack, graphics),
-        PointInstruction::Scfs => points.scfs(tolerance, stack, graphics),
-        PointInstruction::Md(between) => points.md(tolerance, between, stack, graphics),
-        PointInstruction::Deltap(range) => points.deltap(
-            tolerance, range, size.ppem, stack, graphics,
-        ),
-        PointInstruction::Deltac(range) => deltac(
-            tolerance, range, size.ppem, stack, graphics, cvt,
-        ),
-        PointInstruction::Flippt => points.flippt(tolerance, stack, graphics),
-        PointInstruction::Fliprgon => points.fliprgon(tolerance, stack, graphics),
-        PointInstruction::Fliprgoff => points.fliprgoff(tolerance, stack, graphics),
-        PointInstruction::Mdrp(keeping) => points.mdrp(tolerance, keeping, stack, graphics),
-        PointInstruction::Mirp(keeping) => points.mirp(tolerance, keeping, cvt, stack, graphics),
-        PointInstruction::Spvtl { turned } => points.spvtl(tolerance, turned, stack, graphics),
-        PointInstruction::Sfvtl { turned } => points.sfvtl(tolerance, turned, stack, graphics),
-        PointInstruction::Sdpvtl { turned } => points.sdpvtl(tolerance, turned, stack, graphics),
-        PointInstruction::Isect => points.isect(tolerance, stack, graphics),
-        PointInstruction::Alignpts => points.alignpts(tolerance, stack, graphics),
+        OnPoints::OnOne(one) => points.on_one(tolerance, one, cvt, stack, graphics),
+        OnPoints::OnLines(lines) => points.on_lines(tolerance, lines, stack, graphics),
+        OnPoints::InTurn(several) => points.in_turn(tolerance, several, stack, graphics),
+        OnPoints::OnRange(range) => points.on_range(tolerance, range, stack, graphics),
+        OnPoints::Iup(axis) => points.iup(axis),
+        OnPoints::Measuring(measuring) => points.measure(tolerance, measuring, stack, graphics),
+        OnPoints::Deltap(range) => points.deltap(deltas(range, size, tolerance), stack, graphics),
+        OnPoints::Deltac(range) => deltac(deltas(range, size, tolerance), stack, graphics, cvt),
     }
 }

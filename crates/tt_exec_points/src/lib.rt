@@ -3,12 +3,12 @@
 //! ```text
 //! points.rt          the zones after each instruction
 //! popping.rt         values from the stack, and what a tolerant machine passes over
-//! moving.rt          MDAP, MDRP, MSIRP, MIAP, MIRP
-//! measuring.rt       SCFS, UTP, GC, MD
+//! moving.rt          MDAP, MDRP, MSIRP, MIAP, MIRP, SCFS, UTP
+//! measuring.rt       GC, MD
 //! several.rt         ALIGNRP, IP, SHP, SHPIX, FLIPPT, FLIPRGON, FLIPRGOFF, SHC, SHZ, DELTAP, IUP
 //! lines.rt           SPVTL, SFVTL, SDPVTL, ISECT, ALIGNPTS
 //! control_values.rt  DELTAC
-//! instruction.rt     the function of each instruction
+//! instruction.rt     the function of each family
 //! laws.rt            laws of them
 //! ```
 #![tactic(auto)]
@@ -23,5 +23,9 @@ mod points;
 mod popping;
 mod several;
 
-pub use instruction::{PointInstruction, on_points};
+pub use instruction::{OnPoints, on_points};
+pub use lines::OnLines;
+pub use measuring::Measuring;
+pub use moving::OnOne;
 pub use points::Points;
+pub use several::{InTurn, OnRange};

@@ -1,19 +1,40 @@
-//! The instructions that move one point: MDAP, MDRP, MSIRP, MIAP, MIRP. If something is missing, MIAP, MDRP and MIRP of
-//! a tolerant machine still set the reference points (profile). Apple TrueType Reference Manual, "Instruction set":
-//! managing outlines.
+//! The instructions that move one point or untouch it: MDAP, MDRP, MSIRP, MIAP, MIRP, SCFS, UTP. If something is
+//! missing, MIAP, MDRP and MIRP of a tolerant machine still set the reference points (profile). Apple TrueType Reference
+//! Manual, "Instruction set": managing outlines.
 
 ghost use Rattle.std.specs.Prelude.{◌≡◌, IfErr};
 ghost use Rattle.tt_core.specs.Outcomes.{Gives};
 ghost use Rattle.tt_exec_points.specs.Instruction as is;
+ghost use Rattle.tt_exec_stack.specs.Stack.{Does};
 
 use crate::points::Points;
-use crate::popping::unless_missing;
+use crate::popping::{popped, unless_missing};
 use tt_core::Why;
 use tt_exec_stack::Stack;
 use tt_points::Keeping;
 use tt_points::control_values::{miap, mirp};
+use tt_points::measuring::{scfs, utp};
 use tt_points::moving::{mdap, mdrp, msirp, refer};
 use tt_state::{GraphicsState, Tolerance};
+
+/// An instruction that moves one point or untouches it.
+#[derive(Clone, Copy)]
+pub enum OnOne {
+    /// MDAP[r], 0x2E and 0x2F: p -> nothing.
+    Mdap { round: bool },
+    /// MDRP[abcde], 0xC0 to 0xDF: p -> nothing.
+    Mdrp(Keeping),
+    /// MSIRP[a], 0x3A and 0x3B: p, d -> nothing.
+    Msirp { set_rp0: bool },
+    /// MIAP[r], 0x3E and 0x3F: p, n -> nothing.
+    Miap { round: bool },
+    /// MIRP[abcde], 0xE0 to 0xFF: p, n -> nothing.
+    Mirp(Keeping),
+    /// SCFS[], 0x48: p, v -> nothing.
+    Scfs,
+    /// UTP[], 0x29: p -> nothing.
+    Utp,
+}
 
 /// The control value with number `n`. Error: CvtRange.
 fn control_value(n: i32, cvt: &[i32]) -> Result<i32, Why>
@@ -44,57 +65,6 @@ fn refer_to(graphics: &mut GraphicsState, p: i32)
 }
 
 impl Points {
-    /// MDAP[r], 0x2E and 0x2F: p -> nothing. Errors: PointRange, Perpendicular, ValueRange.
-    pub(crate) fn mdap(
-        &mut self,
-        tolerance: Tolerance,
-        round: bool,
-        stack: &mut Stack,
-        graphics: &mut GraphicsState,
-    ) -> Result<(), Why>
-        ensures { let given = is.mdap tolerance round stack.old self.old graphics.old in
-            Gives (λ u. (stack.new, self.new, graphics.new)) result given }
-    {
-        let p = stack.pop()?;
-        unless_missing!(tolerance, mdap(&mut self.zones, graphics, round, p), ())
-    }
-
-    /// MDRP[abcde], 0xC0 to 0xDF: p -> nothing. Errors: PointRange, Perpendicular, ValueRange.
-    pub(crate) fn mdrp(
-        &mut self,
-        tolerance: Tolerance,
-        keeping: Keeping,
-        stack: &mut Stack,
-        graphics: &mut GraphicsState,
-    ) -> Result<(), Why>
-        ensures { let given = is.mdrp tolerance keeping stack.old self.old graphics.old in
-            Gives (λ u. (stack.new, self.new, graphics.new)) result given }
-    {
-        let p = stack.pop()?;
-        let done = mdrp(&mut self.zones, graphics, keeping, p);
-        unless_missing!(tolerance, done, refer(graphics, keeping.set_rp0, p))
-    }
-
-    /// MSIRP[a], 0x3A and 0x3B: p, d -> nothing. Errors: PointRange, Perpendicular, ValueRange.
-    pub(crate) fn msirp(
-        &mut self,
-        tolerance: Tolerance,
-        set_rp0: bool,
-        stack: &mut Stack,
-        graphics: &mut GraphicsState,
-    ) -> Result<(), Why>
-        ensures { let given = is.msirp tolerance set_rp0 stack.old self.old graphics.old in
-            Gives (λ u. (stack.new, self.new, graphics.new)) result given }
-    {
-        let d = stack.pop()?;
-        let p = stack.pop()?;
-        unless_missing!(
-            tolerance,
-            msirp(&mut self.zones, graphics, set_rp0, p, d),
-            ()
-        )
-    }
-
     /// MIAP with a control value, if it exists. Errors: that of `c`; PointRange, Perpendicular, ValueRange.
     fn miap_by(
         &mut self,
@@ -107,24 +77,6 @@ impl Points {
         ensures kept { IfErr result (λ why. (self.new ≡ self.old) × (graphics.new ≡ graphics.old)) }
     {
         miap(&mut self.zones, graphics, round, p, c?)
-    }
-
-    /// MIAP[r], 0x3E and 0x3F: p, n -> nothing. Errors: CvtRange, PointRange, Perpendicular, ValueRange.
-    pub(crate) fn miap(
-        &mut self,
-        tolerance: Tolerance,
-        round: bool,
-        cvt: &[i32],
-        stack: &mut Stack,
-        graphics: &mut GraphicsState,
-    ) -> Result<(), Why>
-        ensures { let given = is.miap tolerance round cvt.now stack.old self.old graphics.old in
-            Gives (λ u. (stack.new, self.new, graphics.new)) result given }
-    {
-        let n = stack.pop()?;
-        let p = stack.pop()?;
-        let done = self.miap_by(round, p, control_value(n, cvt), graphics);
-        unless_missing!(tolerance, done, refer_to(graphics, p))
     }
 
     /// MIRP with a control value, if it exists. Errors: that of `c`; PointRange, Perpendicular, ValueRange.
@@ -141,21 +93,43 @@ impl Points {
         mirp(&mut self.zones, graphics, keeping, p, c?)
     }
 
-    /// MIRP[abcde], 0xE0 to 0xFF: p, n -> nothing. Errors: CvtRange, PointRange, Perpendicular, ValueRange.
-    pub(crate) fn mirp(
+    /// Executes an instruction on one point. Errors: StackShort; PointRange of a strict machine, and CvtRange of its
+    /// MIAP and MIRP; Perpendicular and ValueRange of all but UTP.
+    pub(crate) fn on_one(
         &mut self,
         tolerance: Tolerance,
-        keeping: Keeping,
+        op: OnOne,
         cvt: &[i32],
         stack: &mut Stack,
         graphics: &mut GraphicsState,
     ) -> Result<(), Why>
-        ensures { let given = is.mirp tolerance keeping cvt.now stack.old self.old graphics.old in
-            Gives (λ u. (stack.new, self.new, graphics.new)) result given }
+        ensures { let given = is.on_one tolerance op cvt.now stack.old self.old graphics.old in
+            Does given (stack.new, self.new, graphics.new) result }
     {
-        let n = stack.pop()?;
-        let p = stack.pop()?;
-        let done = self.mirp_by(keeping, p, mirp_value(tolerance, n, cvt), graphics);
-        unless_missing!(tolerance, done, refer(graphics, keeping.set_rp0, p))
+        match op {
+            OnOne::Mdap { round } =>
+                popped!(tolerance, stack, p => mdap(&mut self.zones, graphics, round, p)),
+            OnOne::Mdrp(keeping) => {
+                let p = stack.pop()?;
+                let done = mdrp(&mut self.zones, graphics, keeping, p);
+                unless_missing!(tolerance, done, refer(graphics, keeping.set_rp0, p))
+            }
+            OnOne::Msirp { set_rp0 } => popped!(tolerance, stack, d, p =>
+                msirp(&mut self.zones, graphics, set_rp0, p, d)),
+            OnOne::Miap { round } => {
+                let n = stack.pop()?;
+                let p = stack.pop()?;
+                let done = self.miap_by(round, p, control_value(n, cvt), graphics);
+                unless_missing!(tolerance, done, refer_to(graphics, p))
+            }
+            OnOne::Mirp(keeping) => {
+                let n = stack.pop()?;
+                let p = stack.pop()?;
+                let done = self.mirp_by(keeping, p, mirp_value(tolerance, n, cvt), graphics);
+                unless_missing!(tolerance, done, refer(graphics, keeping.set_rp0, p))
+            }
+            OnOne::Scfs => popped!(tolerance, stack, v, p => scfs(&mut self.zones, graphics, p, v)),
+            OnOne::Utp => popped!(tolerance, stack, p => utp(&mut self.zones, graphics, p)),
+        }
     }
 }

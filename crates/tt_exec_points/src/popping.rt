@@ -19,6 +19,16 @@ macro_rules! unless_missing {
     };
 }
 
+/// Pops the values that an instruction takes, the top first, and does its work with them. A tolerant machine passes over
+/// a missing thing.
+macro_rules! popped {
+    ($tolerance:ident, $stack:ident, $($value:ident),+ => $done:expr) => {{
+        $(let $value = $stack.pop()?;)+
+        $crate::popping::unless_missing!($tolerance, $done, ())
+    }};
+}
+
+pub(crate) use popped;
 pub(crate) use unless_missing;
 
 /// Pops a count of pairs, and gives their count of entries. Errors: StackShort, BadArgument below 0.

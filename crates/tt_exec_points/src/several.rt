@@ -5,18 +5,45 @@ ghost use Rattle.std.specs.Prelude.{◌≡◌};
 ghost use Rattle.tt_core.specs.Outcomes.{Gives};
 ghost use Rattle.tt_exec_points.specs.Instruction as is;
 ghost use Rattle.tt_exec_points.specs.Popping as popping;
+ghost use Rattle.tt_exec_stack.specs.Stack.{Does};
 ghost use Rattle.tt_points_iup.specs.Interpolation as interpolation;
 
 use crate::points::Points;
-use crate::popping::{pairs_counted, pairs_there, unless_missing};
+use crate::popping::{pairs_counted, pairs_there, popped};
 use tt_core::Why;
 use tt_exec_stack::Stack;
 use tt_points_iup::iup;
-use tt_points_loops::deltas::{DeltaRange, deltap};
-use tt_points_loops::flipping::{flippt, fliprgoff, fliprgon};
+use tt_points_loops::deltas::{Deltas, deltap};
+use tt_points_loops::flipping::{flip_range, flippt};
 use tt_points_loops::moving::{alignrp, ip, shpix};
 use tt_points_loops::shifting::{ReferencePoint, reference_number, reference_zone, shc, shp, shz};
 use tt_state::{Axis, GraphicsState, Tolerance};
+
+/// An instruction on as many points as the loop variable says.
+#[derive(Clone, Copy)]
+pub enum InTurn {
+    /// ALIGNRP[], 0x3C: loop points -> nothing.
+    Alignrp,
+    /// IP[], 0x39: loop points -> nothing.
+    Ip,
+    /// SHP[a], 0x32 and 0x33: loop points -> nothing.
+    Shp(ReferencePoint),
+    /// SHPIX[], 0x38: loop points, amount -> nothing.
+    Shpix,
+    /// FLIPPT[], 0x80: loop points -> nothing.
+    Flippt,
+}
+
+/// An instruction on a range of points.
+#[derive(Clone, Copy)]
+pub enum OnRange {
+    /// FLIPRGON[], 0x81, and FLIPRGOFF[], 0x82: low, high -> nothing.
+    Flip { on: bool },
+    /// SHC[a], 0x34 and 0x35: contour -> nothing.
+    Shc(ReferencePoint),
+    /// SHZ[a], 0x36 and 0x37: zone -> nothing.
+    Shz(ReferencePoint),
+}
 
 /// Applies a change to the points whose numbers are on the stack. The loop variable is their count. A tolerant machine
 /// takes no point if the reference point is missing or the stack has fewer. Error: StackShort.
@@ -42,34 +69,6 @@ fn does_nothing(referred: bool, stack: &Stack, graphics: &GraphicsState) -> bool
 }
 
 impl Points {
-    /// ALIGNRP[], 0x3C: loop points -> nothing. Errors: PointRange, Perpendicular, ValueRange.
-    pub(crate) fn alignrp(
-        &mut self,
-        tolerance: Tolerance,
-        stack: &mut Stack,
-        graphics: &mut GraphicsState,
-    ) -> Result<(), Why>
-        ensures { let given = is.alignrp tolerance stack.old self.old graphics.old in
-            Gives (λ u. (stack.new, self.new, graphics.new)) result given }
-    {
-        looped!(tolerance, self.zones.has(graphics.zp0, graphics.rp0), stack, graphics, numbers =>
-            alignrp(&mut self.zones, graphics, tolerance, numbers))
-    }
-
-    /// IP[], 0x39: loop points -> nothing. Errors: PointRange, Perpendicular, ValueRange.
-    pub(crate) fn ip(
-        &mut self,
-        tolerance: Tolerance,
-        stack: &mut Stack,
-        graphics: &mut GraphicsState,
-    ) -> Result<(), Why>
-        ensures { let given = is.ip tolerance stack.old self.old graphics.old in
-            Gives (λ u. (stack.new, self.new, graphics.new)) result given }
-    {
-        looped!(tolerance, self.zones.has(graphics.zp0, graphics.rp1), stack, graphics, numbers =>
-            ip(&mut self.zones, graphics, tolerance, numbers))
-    }
-
     /// Whether the reference point that others follow exists.
     #[tactic(auto, unfolding(crate::specs::Instruction::has_reference))]
     fn has_reference(&self, which: ReferencePoint, graphics: &GraphicsState) -> bool
@@ -81,130 +80,75 @@ impl Points {
         )
     }
 
-    /// SHP[a], 0x32 and 0x33: loop points -> nothing. Errors: PointRange, Perpendicular, ValueRange.
-    pub(crate) fn shp(
+    /// Executes an instruction on points in turn. Errors: StackShort and PointRange of a strict machine; StackShort of
+    /// SHPIX; ValueRange of all but FLIPPT; Perpendicular of ALIGNRP, IP and SHP.
+    pub(crate) fn in_turn(
         &mut self,
         tolerance: Tolerance,
-        which: ReferencePoint,
+        op: InTurn,
         stack: &mut Stack,
         graphics: &mut GraphicsState,
     ) -> Result<(), Why>
-        ensures { let given = is.shp tolerance which stack.old self.old graphics.old in
-            Gives (λ u. (stack.new, self.new, graphics.new)) result given }
+        ensures { let given = is.in_turn tolerance op stack.old self.old graphics.old in
+            Does given (stack.new, self.new, graphics.new) result }
     {
-        looped!(tolerance, self.has_reference(which, graphics), stack, graphics, numbers =>
-            shp(&mut self.zones, graphics, tolerance, which, numbers))
+        match op {
+            InTurn::Alignrp =>
+                looped!(tolerance, self.zones.has(graphics.zp0, graphics.rp0), stack, graphics, numbers =>
+                    alignrp(&mut self.zones, graphics, tolerance, numbers)),
+            InTurn::Ip =>
+                looped!(tolerance, self.zones.has(graphics.zp0, graphics.rp1), stack, graphics, numbers =>
+                ip(&mut self.zones, graphics, tolerance, numbers)),
+            InTurn::Shp(which) =>
+                looped!(tolerance, self.has_reference(which, graphics), stack, graphics, numbers =>
+                shp(&mut self.zones, graphics, tolerance, which, numbers)),
+            InTurn::Shpix => {
+                let amount = stack.pop()?;
+                looped!(tolerance, true, stack, graphics, numbers =>
+                    shpix(&mut self.zones, graphics, tolerance, numbers, amount))
+            }
+            InTurn::Flippt => looped!(tolerance, true, stack, graphics, numbers =>
+                flippt(&mut self.zones, graphics, tolerance, numbers)),
+        }
     }
 
-    /// SHPIX[], 0x38: loop points, amount -> nothing. Errors: PointRange, ValueRange.
-    pub(crate) fn shpix(
+    /// Executes an instruction on a range of points. Errors: StackShort; PointRange of a strict machine, ContourRange of
+    /// its SHC and ZoneRange of its SHZ; Perpendicular and ValueRange of SHC and SHZ.
+    pub(crate) fn on_range(
         &mut self,
         tolerance: Tolerance,
-        stack: &mut Stack,
-        graphics: &mut GraphicsState,
-    ) -> Result<(), Why>
-        ensures { let given = is.shpix tolerance stack.old self.old graphics.old in
-            Gives (λ u. (stack.new, self.new, graphics.new)) result given }
-    {
-        let amount = stack.pop()?;
-        looped!(tolerance, true, stack, graphics, numbers =>
-            shpix(&mut self.zones, graphics, tolerance, numbers, amount))
-    }
-
-    /// FLIPPT[], 0x80: loop points -> nothing. Error: PointRange.
-    pub(crate) fn flippt(
-        &mut self,
-        tolerance: Tolerance,
-        stack: &mut Stack,
-        graphics: &mut GraphicsState,
-    ) -> Result<(), Why>
-        ensures { let given = is.flippt tolerance stack.old self.old graphics.old in
-            Gives (λ u. (stack.new, self.new, graphics.new)) result given }
-    {
-        looped!(tolerance, true, stack, graphics, numbers => flippt(&mut self.zones, graphics, tolerance, numbers))
-    }
-
-    /// FLIPRGON[], 0x81: low, high -> nothing. Error: PointRange.
-    pub(crate) fn fliprgon(
-        &mut self,
-        tolerance: Tolerance,
+        op: OnRange,
         stack: &mut Stack,
         graphics: &GraphicsState,
     ) -> Result<(), Why>
-        ensures { let given = is.fliprgon tolerance stack.old self.old graphics.now in
-            Gives (λ u. (stack.new, self.new, graphics.now)) result given }
+        ensures { let given = is.on_range tolerance op stack.old self.old graphics.now in
+            Does given (stack.new, self.new, graphics.now) result }
     {
-        let high = stack.pop()?;
-        let low = stack.pop()?;
-        unless_missing!(tolerance, fliprgon(&mut self.zones, low, high), ())
-    }
-
-    /// FLIPRGOFF[], 0x82: low, high -> nothing. Error: PointRange.
-    pub(crate) fn fliprgoff(
-        &mut self,
-        tolerance: Tolerance,
-        stack: &mut Stack,
-        graphics: &GraphicsState,
-    ) -> Result<(), Why>
-        ensures { let given = is.fliprgoff tolerance stack.old self.old graphics.now in
-            Gives (λ u. (stack.new, self.new, graphics.now)) result given }
-    {
-        let high = stack.pop()?;
-        let low = stack.pop()?;
-        unless_missing!(tolerance, fliprgoff(&mut self.zones, low, high), ())
-    }
-
-    /// SHC[a], 0x34 and 0x35: contour -> nothing. Errors: ContourRange, PointRange, Perpendicular, ValueRange.
-    pub(crate) fn shc(
-        &mut self,
-        tolerance: Tolerance,
-        which: ReferencePoint,
-        stack: &mut Stack,
-        graphics: &GraphicsState,
-    ) -> Result<(), Why>
-        ensures { let given = is.shc tolerance which stack.old self.old graphics.now in
-            Gives (λ u. (stack.new, self.new, graphics.now)) result given }
-    {
-        let contour = stack.pop()?;
-        unless_missing!(
-            tolerance,
-            shc(&mut self.zones, graphics, which, contour),
-            ()
-        )
-    }
-
-    /// SHZ[a], 0x36 and 0x37: zone -> nothing. Errors: ZoneRange, PointRange, Perpendicular, ValueRange.
-    pub(crate) fn shz(
-        &mut self,
-        tolerance: Tolerance,
-        which: ReferencePoint,
-        stack: &mut Stack,
-        graphics: &GraphicsState,
-    ) -> Result<(), Why>
-        ensures { let given = is.shz tolerance which stack.old self.old graphics.now in
-            Gives (λ u. (stack.new, self.new, graphics.now)) result given }
-    {
-        let zone = stack.pop()?;
-        unless_missing!(tolerance, shz(&mut self.zones, graphics, which, zone), ())
+        match op {
+            OnRange::Flip { on } =>
+                popped!(tolerance, stack, high, low => flip_range(&mut self.zones, low, high, on)),
+            OnRange::Shc(which) => popped!(tolerance, stack, contour =>
+                shc(&mut self.zones, graphics, which, contour)),
+            OnRange::Shz(which) =>
+                popped!(tolerance, stack, zone => shz(&mut self.zones, graphics, which, zone)),
+        }
     }
 
     /// DELTAP1[], DELTAP2[] and DELTAP3[], 0x5D, 0x71 and 0x72: n pairs of an argument and a point, n -> nothing.
     /// Errors: BadArgument, PointRange, Perpendicular, ValueRange.
     pub(crate) fn deltap(
         &mut self,
-        tolerance: Tolerance,
-        range: DeltaRange,
-        ppem: u32,
+        by: Deltas,
         stack: &mut Stack,
         graphics: &GraphicsState,
     ) -> Result<(), Why>
-        ensures { let given = is.deltap tolerance range ppem stack.old self.old graphics.now in
-            Gives (λ u. (stack.new, self.new, graphics.now)) result given }
+        ensures { let given = is.deltap by.tolerance by.range by.ppem stack.old self.old graphics.now in
+            Does given (stack.new, self.new, graphics.now) result }
     {
         let many = pairs_counted(stack)?;
-        let there = pairs_there(tolerance, many, stack);
+        let there = pairs_there(by.tolerance, many, stack);
         let pairs = stack.top(there)?;
-        deltap(&mut self.zones, graphics, tolerance, range, ppem, pairs)?;
+        deltap(&mut self.zones, graphics, by, pairs)?;
         stack.discard(many.min(stack.len()));
         Ok(())
     }

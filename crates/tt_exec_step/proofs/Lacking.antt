@@ -16,7 +16,7 @@ use Rattle.tt_state.specs.Loosening.{IsTotal, is_never, total_after}
 use Rattle.tt_points_zones.specs.Zones.{ZoneLists}
 use Rattle.tt_exec_points.specs.Instruction as points
 use Rattle.tt_exec_points.specs.Laws.{PointsAreTotal}
-use Rattle.tt_exec_points.specs.declared.instruction.PointInstruction.{PointInstruction}
+use Rattle.tt_exec_points.specs.declared.instruction.OnPoints.{OnPoints}
 use Rattle.tt_exec_stack.specs.Arithmetic.{computed}
 use Rattle.tt_exec_stack.specs.Logic.{is_true, evaluated}
 use Rattle.tt_exec_stack.specs.Managing.{managed}
@@ -83,7 +83,7 @@ left_lacks : (at : ℕ) (m : MachineState) (r : Result (List ℤ × ZoneLists ×
 left_lacks at m (Ok t) total = refl
 left_lacks at m (Err e) total = total
 
-points_lack : PointsAreTotal → (o : PointInstruction) (at : ℕ) (m : MachineState) → points.takes o ≤ length m.stack
+points_lack : PointsAreTotal → (o : OnPoints) (at : ℕ) (m : MachineState) → points.takes o ≤ length m.stack
     → LacksNothing (on_points o at (tolerant_in m))
 unfolding on_points
 points_lack k o at m there =

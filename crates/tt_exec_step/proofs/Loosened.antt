@@ -17,7 +17,7 @@ use Rattle.tt_state.specs.Loosening.{Loosens, same}
 use Rattle.tt_points_zones.specs.Zones.{ZoneLists}
 use Rattle.tt_exec_points.specs.Instruction as points
 use Rattle.tt_exec_points.specs.Laws.{PointsAreLoosened, PointsAreShort}
-use Rattle.tt_exec_points.specs.declared.instruction.PointInstruction.{PointInstruction}
+use Rattle.tt_exec_points.specs.declared.instruction.OnPoints.{OnPoints}
 use Rattle.tt_exec_stack.specs.Arithmetic as arithmetic
 use Rattle.tt_exec_stack.specs.Logic as logic
 use Rattle.tt_exec_stack.specs.Logic.{is_true}
@@ -339,7 +339,7 @@ values_loosen k o at m =
     (values.values_accessed o m.scale tolerance.Tolerant m.stack m.storage m.cvt)
     (k.values o m.scale m.stack m.storage m.cvt))
 
-points_loosen : Families → (o : PointInstruction) (at : ℕ) (m : MachineState) → OperationLoosens (op.on_points o) at m
+points_loosen : Families → (o : OnPoints) (at : ℕ) (m : MachineState) → OperationLoosens (op.on_points o) at m
 unfolding on_points
 points_loosen k o at m =
     filling k.stays (points.takes o) m.stack m at (operate (op.on_points o) at (strict_in m))

@@ -9,7 +9,7 @@ use Rattle.tt_code.specs.Decoding.{Instr, instruction_at, takes_data}
 use Rattle.tt_code.specs.Skips.{if_end, else_end, definition_end}
 use Rattle.tt_state.specs.declared.graphics_state.GraphicsState.{GraphicsState}
 use Rattle.tt_points_zones.specs.Zones.{ZoneLists, SameShape}
-use Rattle.tt_exec_points.specs.declared.instruction.PointInstruction.{PointInstruction}
+use Rattle.tt_exec_points.specs.declared.instruction.OnPoints.{OnPoints}
 use Rattle.tt_exec_points.specs.Instruction as points
 use Rattle.tt_exec_points.specs.Shapes as shapes
 use Rattle.tt_exec_stack.specs.Arithmetic.{computed}
@@ -44,8 +44,8 @@ use Rattle.tt_exec_step.specs.declared.machine_state.Kind.{Kind}
 use Rattle.tt_exec_step.specs.declared.machine_state.Kind.TheVariants as kind
 
 -- the laws of the instructions on points, and of those on storage and control values
-abbrev pub OnPoints : Type 0
-OnPoints = (t : Tolerance) (o : PointInstruction) (ppem : ℕ) (s : List ℤ) (z : ZoneLists) (g : GraphicsState) (cvt : List ℤ) → HasContours z
+abbrev pub PointsKept : Type 0
+PointsKept = (t : Tolerance) (o : OnPoints) (ppem : ℕ) (s : List ℤ) (z : ZoneLists) (g : GraphicsState) (cvt : List ℤ) → HasContours z
     → IfOk (points.on_points t o ppem s z g cvt) (shapes.SameSizes z cvt)
 
 abbrev pub OnPlaces : Type 0
@@ -105,7 +105,7 @@ left_by_kept : (at : ℕ) (m : MachineState) (r : Result (List ℤ × ZoneLists 
 left_by_kept at m (Ok t) sizes = (sizes.zones, refl, sizes.control_values)
 left_by_kept at m (Err why) sizes = tt
 
-on_points_kept : OnPoints → (o : PointInstruction) (at : ℕ) (m : MachineState) → HasContours m.zones → Keeps m (on_points o at m)
+on_points_kept : PointsKept → (o : OnPoints) (at : ℕ) (m : MachineState) → HasContours m.zones → Keeps m (on_points o at m)
 unfolding on_points
 on_points_kept k o at m has =
     left_by_kept at m (points.on_points m.tolerance o m.ppem m.stack m.zones m.graphics m.cvt)
@@ -204,7 +204,7 @@ instruction_called_kept at m (Some f) = called_kept at 0 m (Some f)
 instruction_called_kept at m None = tt
 
 -- a step
-operate_kept : OnPoints → OnPlaces → (o : Operation) (at : ℕ) (m : MachineState) → HasContours m.zones
+operate_kept : PointsKept → OnPlaces → (o : Operation) (at : ℕ) (m : MachineState) → HasContours m.zones
     → Keeps m (operate o at m)
 operate_kept k j (op.access_vectors o) at m has = on_graphics_kept at m (vectors_accessed o m.stack m.graphics)
 operate_kept k j (op.set_state o) at m has =
@@ -237,12 +237,12 @@ operate_kept k j (op.unnamed opcode) at m has =
     instruction_called_kept at m (function_at (pos opcode) m.instructions)
 
 -- with the stack filled for it
-filled_kept : OnPoints → OnPlaces → (o : Operation) (at : ℕ) (m : MachineState) → HasContours m.zones → (tolerant : Bool)
+filled_kept : PointsKept → OnPlaces → (o : Operation) (at : ℕ) (m : MachineState) → HasContours m.zones → (tolerant : Bool)
     → Keeps m (operate o at (if tolerant then record m { stack = padded (takes o) m.stack } else m))
 filled_kept k j o at m has true = operate_kept k j o at (record m { stack = padded (takes o) m.stack }) has
 filled_kept k j o at m has false = operate_kept k j o at m has
 
-done_kept : OnPoints → OnPlaces → (m : MachineState) (r : Result Instr Halt) → HasContours m.zones
+done_kept : PointsKept → OnPlaces → (m : MachineState) (r : Result Instr Halt) → HasContours m.zones
     → Keeps m (done m r)
 done_kept k j m (Ok i) has =
     let next = goes_to (m.frame.place + i.len) m in
@@ -252,7 +252,7 @@ done_kept k j m (Ok i) has =
     (filled_kept k j (operation_of i.op) m.frame.place next has (is_tolerant m.tolerance))
 done_kept k j m (Err halt) has = tt
 
-step_kept : OnPoints → OnPlaces → (m : MachineState) → HasContours m.zones → Keeps m (step m)
+step_kept : PointsKept → OnPlaces → (m : MachineState) → HasContours m.zones → Keeps m (step m)
 step_kept k j m has =
     either (Keeps m) (nat_le (length m.frame.code.bytes) m.frame.place) _ _ tt
     (done_kept k j m (instruction_at m.frame.code.bytes m.frame.place) has)
@@ -261,18 +261,18 @@ step_kept k j m has =
 has_still : (a b : ZoneLists) → SameShape a b → HasContours a → HasContours b
 has_still a b shape has = rw (shape.contours, shape.glyph) has
 
-leads_kept : OnPoints → OnPlaces → (n : ℕ) (s t : MachineState) → HasContours s.zones → Leads n s t → Kept s t
+leads_kept : PointsKept → OnPlaces → (n : ℕ) (s t : MachineState) → HasContours s.zones → Leads n s t → Kept s t
 leads_kept k j zero s t has here = subst (Kept s) here (same s)
 leads_kept k j (suc n) s t has (m, to_m, made) =
     let so_far = leads_kept k j n s m has to_m in
     let one = step_kept k j m (has_still s.zones m.zones so_far.0 has) in
     joined s m t so_far (rw made at one)
 
-pub shape_kept : OnPoints → OnPlaces → (old new : MachineState) (n : ℕ) → HasContours old.zones → Ends old n new
+pub shape_kept : PointsKept → OnPlaces → (old new : MachineState) (n : ℕ) → HasContours old.zones → Ends old n new
     → SameShape old.zones new.zones
 shape_kept k j old new n has e = (leads_kept k j n old new has e.leads).0
 
-pub sizes_kept : OnPoints → OnPlaces → (old new : MachineState) (n : ℕ) → HasContours old.zones → Ends old n new
+pub sizes_kept : PointsKept → OnPlaces → (old new : MachineState) (n : ℕ) → HasContours old.zones → Ends old n new
     → SameSizes old new
 sizes_kept k j old new n has e =
     let all = leads_kept k j n old new has e.leads in

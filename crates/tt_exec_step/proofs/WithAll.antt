@@ -15,7 +15,7 @@ use Rattle.tt_points_zones.specs.Zones.{ZoneLists}
 use Rattle.tt_exec_points.specs.Instruction as points
 use Rattle.tt_exec_points.specs.WithAll.{PointsStay}
 use Rattle.tt_exec_points.specs.WithAll as of_points
-use Rattle.tt_exec_points.specs.declared.instruction.PointInstruction.{PointInstruction}
+use Rattle.tt_exec_points.specs.declared.instruction.OnPoints.{OnPoints}
 use Rattle.tt_exec_stack.specs.Arithmetic.{computed}
 use Rattle.tt_exec_stack.specs.Logic.{is_true, evaluated}
 use Rattle.tt_exec_stack.specs.Managing.{managed}
@@ -82,7 +82,7 @@ left_stays : (at : ℕ) (m : MachineState) (r with : Result (List ℤ × ZoneLis
 left_stays at m (Ok t) with stays = rw stays refl
 left_stays at m (Err e) with stays = λ other. rw (stays other) refl
 
-points_stay : PointsStay → (o : PointInstruction) (at : ℕ) (m : MachineState)
+points_stay : PointsStay → (o : OnPoints) (at : ℕ) (m : MachineState)
     → RunStays (on_points o at m) (on_points o at (with_all_in m))
 unfolding on_points
 points_stay k o at m =

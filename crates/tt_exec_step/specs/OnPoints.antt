@@ -5,7 +5,7 @@ use Rattle.tt_core.specs.Faults.{Fault}
 use Rattle.tt_core.specs.declared.fault.Why.{Why}
 use Rattle.tt_state.specs.declared.graphics_state.GraphicsState.{GraphicsState}
 use Rattle.tt_points_zones.specs.Zones.{ZoneLists}
-use Rattle.tt_exec_points.specs.declared.instruction.PointInstruction.{PointInstruction}
+use Rattle.tt_exec_points.specs.declared.instruction.OnPoints.{OnPoints}
 use Rattle.tt_exec_points.specs.Instruction as is
 use Rattle.tt_exec_step.specs.MachineState.{MachineState, fault_in}
 
@@ -14,6 +14,6 @@ abbrev pub left_by : ℕ → MachineState → Result (List ℤ × ZoneLists × G
 left_by at m (Ok t) = Ok (record m { stack = t.0; zones = t.1; graphics = t.2; cvt = t.3 })
 left_by at m (Err why) = Err (fault_in m.frame at why)
 
-unfoldable pub on_points : PointInstruction → ℕ → MachineState → Result MachineState Fault
+unfoldable pub on_points : OnPoints → ℕ → MachineState → Result MachineState Fault
 on_points o at m =
     left_by at m (is.on_points m.tolerance o m.ppem m.stack m.zones m.graphics m.cvt)

@@ -16,7 +16,12 @@ use Rattle.tt_points.specs.declared.distances.Keeping.{Keeping}
 use Rattle.tt_points.specs.declared.measuring.Position.TheVariants as position
 use Rattle.tt_points_loops.specs.declared.deltas.DeltaRange.TheVariants as ranges
 use Rattle.tt_points_loops.specs.declared.shifting.ReferencePoint.TheVariants as by
-use Rattle.tt_exec_points.specs.declared.instruction.PointInstruction.TheVariants as on
+use Rattle.tt_exec_points.specs.declared.instruction.OnPoints.TheVariants as on
+use Rattle.tt_exec_points.specs.declared.lines.OnLines.TheVariants as line
+use Rattle.tt_exec_points.specs.declared.measuring.Measuring.TheVariants as measure
+use Rattle.tt_exec_points.specs.declared.moving.OnOne.TheVariants as single
+use Rattle.tt_exec_points.specs.declared.several.InTurn.TheVariants as turn
+use Rattle.tt_exec_points.specs.declared.several.OnRange.TheVariants as ranged
 use Rattle.tt_exec_step.specs.Operation.{Operation}
 use Rattle.tt_exec_step.specs.Operation as op
 
@@ -28,16 +33,16 @@ found other opcode (e ∷ es) = if opcode == e.0 then e.1 else found other opcod
 -- beyond the profile
 abbrev pub opcodes_beyond : List (ℕ × Operation)
 opcodes_beyond =
-    (0x06, op.beyond (op.on_points (on.Spvtl false))) ∷
-    (0x07, op.beyond (op.on_points (on.Spvtl true))) ∷
-    (0x08, op.beyond (op.on_points (on.Sfvtl false))) ∷
-    (0x09, op.beyond (op.on_points (on.Sfvtl true))) ∷
-    (0x0F, op.beyond (op.on_points on.Isect)) ∷
-    (0x27, op.beyond (op.on_points on.Alignpts)) ∷
+    (0x06, op.beyond (op.on_points (on.OnLines (line.Spvtl false)))) ∷
+    (0x07, op.beyond (op.on_points (on.OnLines (line.Spvtl true)))) ∷
+    (0x08, op.beyond (op.on_points (on.OnLines (line.Sfvtl false)))) ∷
+    (0x09, op.beyond (op.on_points (on.OnLines (line.Sfvtl true)))) ∷
+    (0x0F, op.beyond (op.on_points (on.OnLines line.Isect))) ∷
+    (0x27, op.beyond (op.on_points (on.OnLines line.Alignpts))) ∷
     (0x4F, op.beyond (op.set_state setting.Ignored)) ∷
     (0x77, op.beyond (op.set_state setting.S45round)) ∷
-    (0x86, op.beyond (op.on_points (on.Sdpvtl false))) ∷
-    (0x87, op.beyond (op.on_points (on.Sdpvtl true))) ∷
+    (0x86, op.beyond (op.on_points (on.OnLines (line.Sdpvtl false)))) ∷
+    (0x87, op.beyond (op.on_points (on.OnLines (line.Sdpvtl true)))) ∷
     (0x89, op.beyond op.idef) ∷
     []
 
@@ -90,29 +95,29 @@ opcodes_20 =
     (0x24, op.manage managing.Depth) ∷
     (0x25, op.manage managing.Cindex) ∷
     (0x26, op.manage managing.Mindex) ∷
-    (0x29, op.on_points on.Utp) ∷
+    (0x29, op.on_points (on.OnOne single.Utp)) ∷
     (0x2A, op.loopcall) ∷
     (0x2B, op.call) ∷
     (0x2C, op.fdef) ∷
     (0x2D, op.endf) ∷
-    (0x2E, op.on_points (on.Mdap false)) ∷
-    (0x2F, op.on_points (on.Mdap true)) ∷
+    (0x2E, op.on_points (on.OnOne (single.Mdap false))) ∷
+    (0x2F, op.on_points (on.OnOne (single.Mdap true))) ∷
     (0x30, op.on_points (on.Iup axis.Y)) ∷
     (0x31, op.on_points (on.Iup axis.X)) ∷
-    (0x32, op.on_points (on.Shp by.Rp2)) ∷
-    (0x33, op.on_points (on.Shp by.Rp1)) ∷
-    (0x34, op.on_points (on.Shc by.Rp2)) ∷
-    (0x35, op.on_points (on.Shc by.Rp1)) ∷
-    (0x36, op.on_points (on.Shz by.Rp2)) ∷
-    (0x37, op.on_points (on.Shz by.Rp1)) ∷
-    (0x38, op.on_points on.Shpix) ∷
-    (0x39, op.on_points on.Ip) ∷
-    (0x3A, op.on_points (on.Msirp false)) ∷
-    (0x3B, op.on_points (on.Msirp true)) ∷
-    (0x3C, op.on_points on.Alignrp) ∷
+    (0x32, op.on_points (on.InTurn (turn.Shp by.Rp2))) ∷
+    (0x33, op.on_points (on.InTurn (turn.Shp by.Rp1))) ∷
+    (0x34, op.on_points (on.OnRange (ranged.Shc by.Rp2))) ∷
+    (0x35, op.on_points (on.OnRange (ranged.Shc by.Rp1))) ∷
+    (0x36, op.on_points (on.OnRange (ranged.Shz by.Rp2))) ∷
+    (0x37, op.on_points (on.OnRange (ranged.Shz by.Rp1))) ∷
+    (0x38, op.on_points (on.InTurn turn.Shpix)) ∷
+    (0x39, op.on_points (on.InTurn turn.Ip)) ∷
+    (0x3A, op.on_points (on.OnOne (single.Msirp false))) ∷
+    (0x3B, op.on_points (on.OnOne (single.Msirp true))) ∷
+    (0x3C, op.on_points (on.InTurn turn.Alignrp)) ∷
     (0x3D, op.set_state (setting.RoundTo round.Double)) ∷
-    (0x3E, op.on_points (on.Miap false)) ∷
-    (0x3F, op.on_points (on.Miap true)) ∷
+    (0x3E, op.on_points (on.OnOne (single.Miap false))) ∷
+    (0x3F, op.on_points (on.OnOne (single.Miap true))) ∷
     []
 
 -- 0x40 to 0x5F
@@ -122,11 +127,11 @@ opcodes_40 =
     (0x43, op.access_values places.Rs) ∷
     (0x44, op.access_values places.Wcvtp) ∷
     (0x45, op.access_values places.Rcvt) ∷
-    (0x46, op.on_points (on.Gc position.Current)) ∷
-    (0x47, op.on_points (on.Gc position.Original)) ∷
-    (0x48, op.on_points on.Scfs) ∷
-    (0x49, op.on_points (on.Md position.Current)) ∷
-    (0x4A, op.on_points (on.Md position.Original)) ∷
+    (0x46, op.on_points (on.Measuring (measure.Gc position.Current))) ∷
+    (0x47, op.on_points (on.Measuring (measure.Gc position.Original))) ∷
+    (0x48, op.on_points (on.OnOne single.Scfs)) ∷
+    (0x49, op.on_points (on.Measuring (measure.Md position.Current))) ∷
+    (0x4A, op.on_points (on.Measuring (measure.Md position.Original))) ∷
     (0x4B, op.answer query.Mppem) ∷
     (0x4C, op.answer query.Mps) ∷
     (0x4D, op.set_state (setting.Flip true)) ∷
@@ -187,9 +192,9 @@ opcodes_60 =
 -- 0x80 to 0xBF
 abbrev pub opcodes_80 : List (ℕ × Operation)
 opcodes_80 =
-    (0x80, op.on_points on.Flippt) ∷
-    (0x81, op.on_points on.Fliprgon) ∷
-    (0x82, op.on_points on.Fliprgoff) ∷
+    (0x80, op.on_points (on.InTurn turn.Flippt)) ∷
+    (0x81, op.on_points (on.OnRange (ranged.Flip true))) ∷
+    (0x82, op.on_points (on.OnRange (ranged.Flip false))) ∷
     (0x85, op.set_state setting.Scanctrl) ∷
     (0x88, op.answer query.Getinfo) ∷
     (0x8A, op.manage managing.Roll) ∷
@@ -216,8 +221,8 @@ operation_of opcode =
     if nat_lt opcode 0x60 then named opcode opcodes_40 else (
     if nat_lt opcode 0x80 then named opcode opcodes_60 else (
     if nat_lt opcode 0xC0 then named opcode opcodes_80 else (
-    if nat_lt opcode 0xE0 then op.on_points (on.Mdrp (keeping_of opcode))
-    else op.on_points (on.Mirp (keeping_of opcode)))))))
+    if nat_lt opcode 0xE0 then op.on_points (on.OnOne (single.Mdrp (keeping_of opcode)))
+    else op.on_points (on.OnOne (single.Mirp (keeping_of opcode))))))))
 
 -- worked values: n opcodes from one on
 abbrev from : ℕ → ℕ → List ℕ
@@ -249,16 +254,16 @@ beyond_the_profile : those is_beyond (from 0 256)
 beyond_the_profile = refl
 
 -- beyond the profile
-spvtl_turned : operation_of 0x07 ≡ op.beyond (op.on_points (on.Spvtl true))
+spvtl_turned : operation_of 0x07 ≡ op.beyond (op.on_points (on.OnLines (line.Spvtl true)))
 spvtl_turned = refl
 
-sfvtl : operation_of 0x08 ≡ op.beyond (op.on_points (on.Sfvtl false))
+sfvtl : operation_of 0x08 ≡ op.beyond (op.on_points (on.OnLines (line.Sfvtl false)))
 sfvtl = refl
 
-isect : operation_of 0x0F ≡ op.beyond (op.on_points on.Isect)
+isect : operation_of 0x0F ≡ op.beyond (op.on_points (on.OnLines line.Isect))
 isect = refl
 
-alignpts : operation_of 0x27 ≡ op.beyond (op.on_points on.Alignpts)
+alignpts : operation_of 0x27 ≡ op.beyond (op.on_points (on.OnLines line.Alignpts))
 alignpts = refl
 
 debug : operation_of 0x4F ≡ op.beyond (op.set_state setting.Ignored)
@@ -267,7 +272,7 @@ debug = refl
 s45round : operation_of 0x77 ≡ op.beyond (op.set_state setting.S45round)
 s45round = refl
 
-sdpvtl_turned : operation_of 0x87 ≡ op.beyond (op.on_points (on.Sdpvtl true))
+sdpvtl_turned : operation_of 0x87 ≡ op.beyond (op.on_points (on.OnLines (line.Sdpvtl true)))
 sdpvtl_turned = refl
 
 idef : operation_of 0x89 ≡ op.beyond op.idef
@@ -290,10 +295,10 @@ floor : operation_of 0x66 ≡ op.compute arithmetic.Floor
 floor = refl
 
 -- on points
-utp : operation_of 0x29 ≡ op.on_points on.Utp
+utp : operation_of 0x29 ≡ op.on_points (on.OnOne single.Utp)
 utp = refl
 
-mdap_rounded : operation_of 0x2F ≡ op.on_points (on.Mdap true)
+mdap_rounded : operation_of 0x2F ≡ op.on_points (on.OnOne (single.Mdap true))
 mdap_rounded = refl
 
 iup_y : operation_of 0x30 ≡ op.on_points (on.Iup axis.Y)
@@ -302,44 +307,44 @@ iup_y = refl
 iup_x : operation_of 0x31 ≡ op.on_points (on.Iup axis.X)
 iup_x = refl
 
-shp_by_2 : operation_of 0x32 ≡ op.on_points (on.Shp by.Rp2)
+shp_by_2 : operation_of 0x32 ≡ op.on_points (on.InTurn (turn.Shp by.Rp2))
 shp_by_2 = refl
 
-shp_by_1 : operation_of 0x33 ≡ op.on_points (on.Shp by.Rp1)
+shp_by_1 : operation_of 0x33 ≡ op.on_points (on.InTurn (turn.Shp by.Rp1))
 shp_by_1 = refl
 
-shc_by_1 : operation_of 0x35 ≡ op.on_points (on.Shc by.Rp1)
+shc_by_1 : operation_of 0x35 ≡ op.on_points (on.OnRange (ranged.Shc by.Rp1))
 shc_by_1 = refl
 
-shz_by_2 : operation_of 0x36 ≡ op.on_points (on.Shz by.Rp2)
+shz_by_2 : operation_of 0x36 ≡ op.on_points (on.OnRange (ranged.Shz by.Rp2))
 shz_by_2 = refl
 
-shpix : operation_of 0x38 ≡ op.on_points on.Shpix
+shpix : operation_of 0x38 ≡ op.on_points (on.InTurn turn.Shpix)
 shpix = refl
 
-ip : operation_of 0x39 ≡ op.on_points on.Ip
+ip : operation_of 0x39 ≡ op.on_points (on.InTurn turn.Ip)
 ip = refl
 
-msirp_and_rp0 : operation_of 0x3B ≡ op.on_points (on.Msirp true)
+msirp_and_rp0 : operation_of 0x3B ≡ op.on_points (on.OnOne (single.Msirp true))
 msirp_and_rp0 = refl
 
-alignrp : operation_of 0x3C ≡ op.on_points on.Alignrp
+alignrp : operation_of 0x3C ≡ op.on_points (on.InTurn turn.Alignrp)
 alignrp = refl
 
-miap : operation_of 0x3E ≡ op.on_points (on.Miap false)
+miap : operation_of 0x3E ≡ op.on_points (on.OnOne (single.Miap false))
 miap = refl
 
-gc_original : operation_of 0x47 ≡ op.on_points (on.Gc position.Original)
+gc_original : operation_of 0x47 ≡ op.on_points (on.Measuring (measure.Gc position.Original))
 gc_original = refl
 
-scfs : operation_of 0x48 ≡ op.on_points on.Scfs
+scfs : operation_of 0x48 ≡ op.on_points (on.OnOne single.Scfs)
 scfs = refl
 
 -- 0x49 measures current places, and 0x4A original ones, as rasterizers do (profile)
-md_current : operation_of 0x49 ≡ op.on_points (on.Md position.Current)
+md_current : operation_of 0x49 ≡ op.on_points (on.Measuring (measure.Md position.Current))
 md_current = refl
 
-md_original : operation_of 0x4A ≡ op.on_points (on.Md position.Original)
+md_original : operation_of 0x4A ≡ op.on_points (on.Measuring (measure.Md position.Original))
 md_original = refl
 
 deltap1 : operation_of 0x5D ≡ op.on_points (on.Deltap ranges.First)
@@ -351,29 +356,29 @@ deltap3 = refl
 deltac2 : operation_of 0x74 ≡ op.on_points (on.Deltac ranges.Second)
 deltac2 = refl
 
-flippt : operation_of 0x80 ≡ op.on_points on.Flippt
+flippt : operation_of 0x80 ≡ op.on_points (on.InTurn turn.Flippt)
 flippt = refl
 
-fliprgon : operation_of 0x81 ≡ op.on_points on.Fliprgon
+fliprgon : operation_of 0x81 ≡ op.on_points (on.OnRange (ranged.Flip true))
 fliprgon = refl
 
-fliprgoff : operation_of 0x82 ≡ op.on_points on.Fliprgoff
+fliprgoff : operation_of 0x82 ≡ op.on_points (on.OnRange (ranged.Flip false))
 fliprgoff = refl
 
-mdrp_alone : operation_of 0xC3 ≡ op.on_points (on.Mdrp (keeping false false false))
+mdrp_alone : operation_of 0xC3 ≡ op.on_points (on.OnOne (single.Mdrp (keeping false false false)))
 mdrp_alone = refl
 
-mdrp_rounded : operation_of 0xC4 ≡ op.on_points (on.Mdrp (keeping false false true))
+mdrp_rounded : operation_of 0xC4 ≡ op.on_points (on.OnOne (single.Mdrp (keeping false false true)))
 mdrp_rounded = refl
 
-mdrp_spaced : operation_of 0xC8 ≡ op.on_points (on.Mdrp (keeping false true false))
+mdrp_spaced : operation_of 0xC8 ≡ op.on_points (on.OnOne (single.Mdrp (keeping false true false)))
 mdrp_spaced = refl
 
-mdrp_and_rp0 : operation_of 0xD0 ≡ op.on_points (on.Mdrp (keeping true false false))
+mdrp_and_rp0 : operation_of 0xD0 ≡ op.on_points (on.OnOne (single.Mdrp (keeping true false false)))
 mdrp_and_rp0 = refl
 
-mirp_alone : operation_of 0xE0 ≡ op.on_points (on.Mirp (keeping false false false))
+mirp_alone : operation_of 0xE0 ≡ op.on_points (on.OnOne (single.Mirp (keeping false false false)))
 mirp_alone = refl
 
-mirp_with_all : operation_of 0xFD ≡ op.on_points (on.Mirp (keeping true true true))
+mirp_with_all : operation_of 0xFD ≡ op.on_points (on.OnOne (single.Mirp (keeping true true true)))
 mirp_with_all = refl

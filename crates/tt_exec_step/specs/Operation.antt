@@ -8,7 +8,7 @@ use Rattle.tt_exec_state.specs.declared.instruction.StoredValues.{StoredValues}
 use Rattle.tt_exec_state.specs.declared.instruction.Query.{Query}
 use Rattle.tt_exec_state.specs.declared.instruction.GraphicsSetting.{GraphicsSetting}
 use Rattle.tt_exec_state.specs.declared.instruction.Vectors.{Vectors}
-use Rattle.tt_exec_points.specs.declared.instruction.PointInstruction.{PointInstruction}
+use Rattle.tt_exec_points.specs.declared.instruction.OnPoints.{OnPoints}
 use Rattle.tt_exec_stack.specs.Arithmetic as arithmetic
 use Rattle.tt_exec_stack.specs.Logic as logic
 use Rattle.tt_exec_stack.specs.Managing as managing
@@ -30,7 +30,7 @@ pub data Operation : Type 0 where
   if_from else_from eif jmpr jrot jrof : Operation
   fdef endf call loopcall : Operation
   -- an instruction that works on points, or DELTAC
-  on_points : PointInstruction → Operation
+  on_points : OnPoints → Operation
   idef : Operation
   -- an instruction that is refused without the whole instruction set (profile)
   beyond : Operation → Operation

@@ -10,7 +10,7 @@ ghost use Rattle.tt_exec_step.specs.Outcome.{ComesTo, wants_memory};
 
 use crate::machine_state::MachineState;
 use crate::outcome::Outcome;
-use tt_exec_points::{PointInstruction, on_points};
+use tt_exec_points::{OnPoints, on_points};
 use tt_exec_stack::{
     Arithmetic, Logic, Managing, compute, evaluate, manage, push_bytes, push_words,
 };
@@ -129,7 +129,7 @@ impl MachineState<'_> {
     /// An instruction that works on points, or DELTAC[].
     #[inline(always)]
     #[tactic(auto, unfolding(crate::specs::OnPoints::on_points))]
-    pub(crate) fn on_points(&mut self, op: PointInstruction, at: usize) -> Outcome
+    pub(crate) fn on_points(&mut self, op: OnPoints, at: usize) -> Outcome
         requires { at < length self.old.frame.code.bytes.now }
         ensures exact { ComesTo (on_points op at (state_of self.old)) at (state_of self.new) result }
         ensures memory { wants_memory result ≡ false }

@@ -2,6 +2,7 @@
 //! instruction's place; the frame's place is after it.
 
 ghost use Rattle.std.specs.Prelude.{◌≡◌, ◌<◌, length, false};
+ghost use Rattle.tt_exec_points.specs.declared.instruction.OnPoints.TheVariants as on;
 ghost use Rattle.tt_exec_step.specs.Opcodes as table;
 ghost use Rattle.tt_exec_step.specs.Operation as operation;
 ghost use Rattle.tt_exec_step.specs.States.{state_of};
@@ -11,7 +12,7 @@ ghost use Rattle.tt_exec_step.specs.Outcome.{ComesTo, wants_memory};
 use crate::machine_state::MachineState;
 use crate::outcome::Outcome;
 use tt_core::Why;
-use tt_exec_points::PointInstruction;
+use tt_exec_points::{InTurn, Measuring, OnLines, OnOne, OnPoints, OnRange};
 use tt_exec_stack::{Arithmetic, Logic, Managing};
 use tt_exec_state::{GraphicsSetting, Query, StoredValues, Vectors};
 use tt_points::Keeping;
@@ -44,14 +45,14 @@ fn keeping(op: u8) -> Keeping
 impl MachineState<'_> {
     /// SPVTL[], 0x06 and 0x07; SFVTL[], 0x08 and 0x09; ISECT[], 0x0F; ALIGNPTS[], 0x27; SDPVTL[], 0x86 and 0x87. Error:
     /// OffProfile without the whole instruction set.
-    fn on_lines(&mut self, op: PointInstruction, at: usize) -> Outcome
+    fn on_lines(&mut self, op: OnLines, at: usize) -> Outcome
         requires { at < length self.old.frame.code.bytes.now }
-        ensures exact { let given = is.operate (operation.beyond (operation.on_points op)) at (state_of self.old) in
-            ComesTo given at (state_of self.new) result }
+        ensures exact { let given = is.operate (operation.beyond (operation.on_points (on.OnLines op))) at
+            (state_of self.old) in ComesTo given at (state_of self.new) result }
         ensures memory { wants_memory result ≡ false }
     {
         if self.graphics.whole {
-            return self.on_points(op, at);
+            return self.on_points(OnPoints::OnLines(op), at);
         }
         Outcome::Refused(Why::OffProfile)
     }
@@ -91,16 +92,16 @@ impl MachineState<'_> {
         ensures { ComesTo (is.operate (table.apart op) at (state_of self.old)) at (state_of self.new) result }
     {
         match op {
-            0x06 => self.on_lines(PointInstruction::Spvtl { turned: false }, at),
-            0x07 => self.on_lines(PointInstruction::Spvtl { turned: true }, at),
-            0x08 => self.on_lines(PointInstruction::Sfvtl { turned: false }, at),
-            0x09 => self.on_lines(PointInstruction::Sfvtl { turned: true }, at),
-            0x0F => self.on_lines(PointInstruction::Isect, at),
-            0x27 => self.on_lines(PointInstruction::Alignpts, at),
+            0x06 => self.on_lines(OnLines::Spvtl { turned: false }, at),
+            0x07 => self.on_lines(OnLines::Spvtl { turned: true }, at),
+            0x08 => self.on_lines(OnLines::Sfvtl { turned: false }, at),
+            0x09 => self.on_lines(OnLines::Sfvtl { turned: true }, at),
+            0x0F => self.on_lines(OnLines::Isect, at),
+            0x27 => self.on_lines(OnLines::Alignpts, at),
             0x4F => self.set_beyond(GraphicsSetting::Ignored, at),
             0x77 => self.set_beyond(GraphicsSetting::S45round, at),
-            0x86 => self.on_lines(PointInstruction::Sdpvtl { turned: false }, at),
-            0x87 => self.on_lines(PointInstruction::Sdpvtl { turned: true }, at),
+            0x86 => self.on_lines(OnLines::Sdpvtl { turned: false }, at),
+            0x87 => self.on_lines(OnLines::Sdpvtl { turned: true }, at),
             0x89 => self.define_instruction(at),
             _ => self.call_instruction(op, at),
         }
@@ -160,29 +161,29 @@ impl MachineState<'_> {
             0x24 => self.manage(Managing::Depth, at),
             0x25 => self.manage(Managing::Cindex, at),
             0x26 => self.manage(Managing::Mindex, at),
-            0x29 => self.on_points(PointInstruction::Utp, at),
+            0x29 => self.on_points(OnPoints::OnOne(OnOne::Utp), at),
             0x2A => self.loopcall(at),
             0x2B => self.call(at),
             0x2C => self.fdef(at),
             0x2D => self.endf(at),
-            0x2E => self.on_points(PointInstruction::Mdap { round: false }, at),
-            0x2F => self.on_points(PointInstruction::Mdap { round: true }, at),
-            0x30 => self.on_points(PointInstruction::Iup(Axis::Y), at),
-            0x31 => self.on_points(PointInstruction::Iup(Axis::X), at),
-            0x32 => self.on_points(PointInstruction::Shp(ReferencePoint::Rp2), at),
-            0x33 => self.on_points(PointInstruction::Shp(ReferencePoint::Rp1), at),
-            0x34 => self.on_points(PointInstruction::Shc(ReferencePoint::Rp2), at),
-            0x35 => self.on_points(PointInstruction::Shc(ReferencePoint::Rp1), at),
-            0x36 => self.on_points(PointInstruction::Shz(ReferencePoint::Rp2), at),
-            0x37 => self.on_points(PointInstruction::Shz(ReferencePoint::Rp1), at),
-            0x38 => self.on_points(PointInstruction::Shpix, at),
-            0x39 => self.on_points(PointInstruction::Ip, at),
-            0x3A => self.on_points(PointInstruction::Msirp { set_rp0: false }, at),
-            0x3B => self.on_points(PointInstruction::Msirp { set_rp0: true }, at),
-            0x3C => self.on_points(PointInstruction::Alignrp, at),
+            0x2E => self.on_points(OnPoints::OnOne(OnOne::Mdap { round: false }), at),
+            0x2F => self.on_points(OnPoints::OnOne(OnOne::Mdap { round: true }), at),
+            0x30 => self.on_points(OnPoints::Iup(Axis::Y), at),
+            0x31 => self.on_points(OnPoints::Iup(Axis::X), at),
+            0x32 => self.on_points(OnPoints::InTurn(InTurn::Shp(ReferencePoint::Rp2)), at),
+            0x33 => self.on_points(OnPoints::InTurn(InTurn::Shp(ReferencePoint::Rp1)), at),
+            0x34 => self.on_points(OnPoints::OnRange(OnRange::Shc(ReferencePoint::Rp2)), at),
+            0x35 => self.on_points(OnPoints::OnRange(OnRange::Shc(ReferencePoint::Rp1)), at),
+            0x36 => self.on_points(OnPoints::OnRange(OnRange::Shz(ReferencePoint::Rp2)), at),
+            0x37 => self.on_points(OnPoints::OnRange(OnRange::Shz(ReferencePoint::Rp1)), at),
+            0x38 => self.on_points(OnPoints::InTurn(InTurn::Shpix), at),
+            0x39 => self.on_points(OnPoints::InTurn(InTurn::Ip), at),
+            0x3A => self.on_points(OnPoints::OnOne(OnOne::Msirp { set_rp0: false }), at),
+            0x3B => self.on_points(OnPoints::OnOne(OnOne::Msirp { set_rp0: true }), at),
+            0x3C => self.on_points(OnPoints::InTurn(InTurn::Alignrp), at),
             0x3D => self.set_state(GraphicsSetting::RoundTo(Round::Double), at),
-            0x3E => self.on_points(PointInstruction::Miap { round: false }, at),
-            0x3F => self.on_points(PointInstruction::Miap { round: true }, at),
+            0x3E => self.on_points(OnPoints::OnOne(OnOne::Miap { round: false }), at),
+            0x3F => self.on_points(OnPoints::OnOne(OnOne::Miap { round: true }), at),
             _ => self.operate_apart(op, at),
         }
     }
@@ -199,11 +200,11 @@ impl MachineState<'_> {
             0x43 => self.access_values(StoredValues::Rs, at),
             0x44 => self.access_values(StoredValues::Wcvtp, at),
             0x45 => self.access_values(StoredValues::Rcvt, at),
-            0x46 => self.on_points(PointInstruction::Gc(Position::Current), at),
-            0x47 => self.on_points(PointInstruction::Gc(Position::Original), at),
-            0x48 => self.on_points(PointInstruction::Scfs, at),
-            0x49 => self.on_points(PointInstruction::Md(Position::Current), at),
-            0x4A => self.on_points(PointInstruction::Md(Position::Original), at),
+            0x46 => self.on_points(OnPoints::Measuring(Measuring::Gc(Position::Current)), at),
+            0x47 => self.on_points(OnPoints::Measuring(Measuring::Gc(Position::Original)), at),
+            0x48 => self.on_points(OnPoints::OnOne(OnOne::Scfs), at),
+            0x49 => self.on_points(OnPoints::Measuring(Measuring::Md(Position::Current)), at),
+            0x4A => self.on_points(OnPoints::Measuring(Measuring::Md(Position::Original)), at),
             0x4B => self.answer(Query::Mppem, at),
             0x4C => self.answer(Query::Mps, at),
             0x4D => self.set_state(GraphicsSetting::Flip(true), at),
@@ -221,7 +222,7 @@ impl MachineState<'_> {
             0x5A => self.evaluate(Logic::And, at),
             0x5B => self.evaluate(Logic::Or, at),
             0x5C => self.evaluate(Logic::Not, at),
-            0x5D => self.on_points(PointInstruction::Deltap(DeltaRange::First), at),
+            0x5D => self.on_points(OnPoints::Deltap(DeltaRange::First), at),
             0x5E => self.set_state(GraphicsSetting::Sdb, at),
             0x5F => self.set_state(GraphicsSetting::Sds, at),
             _ => self.operate_apart(op, at),
@@ -253,11 +254,11 @@ impl MachineState<'_> {
             0x6E => self.compute(Arithmetic::Nround, at),
             0x6F => self.compute(Arithmetic::Nround, at),
             0x70 => self.access_values(StoredValues::Wcvtf, at),
-            0x71 => self.on_points(PointInstruction::Deltap(DeltaRange::Second), at),
-            0x72 => self.on_points(PointInstruction::Deltap(DeltaRange::Third), at),
-            0x73 => self.on_points(PointInstruction::Deltac(DeltaRange::First), at),
-            0x74 => self.on_points(PointInstruction::Deltac(DeltaRange::Second), at),
-            0x75 => self.on_points(PointInstruction::Deltac(DeltaRange::Third), at),
+            0x71 => self.on_points(OnPoints::Deltap(DeltaRange::Second), at),
+            0x72 => self.on_points(OnPoints::Deltap(DeltaRange::Third), at),
+            0x73 => self.on_points(OnPoints::Deltac(DeltaRange::First), at),
+            0x74 => self.on_points(OnPoints::Deltac(DeltaRange::Second), at),
+            0x75 => self.on_points(OnPoints::Deltac(DeltaRange::Third), at),
             0x76 => self.set_state(GraphicsSetting::Sround, at),
             0x78 => self.jrot(at),
             0x79 => self.jrof(at),
@@ -278,9 +279,9 @@ impl MachineState<'_> {
             ComesTo given at (state_of self.new) result }
     {
         match op {
-            0x80 => self.on_points(PointInstruction::Flippt, at),
-            0x81 => self.on_points(PointInstruction::Fliprgon, at),
-            0x82 => self.on_points(PointInstruction::Fliprgoff, at),
+            0x80 => self.on_points(OnPoints::InTurn(InTurn::Flippt), at),
+            0x81 => self.on_points(OnPoints::OnRange(OnRange::Flip { on: true }), at),
+            0x82 => self.on_points(OnPoints::OnRange(OnRange::Flip { on: false }), at),
             0x85 => self.set_state(GraphicsSetting::Scanctrl, at),
             0x88 => self.answer(Query::Getinfo, at),
             0x8A => self.manage(Managing::Roll, at),
@@ -305,8 +306,8 @@ impl MachineState<'_> {
             0x40..=0x5F => self.operate_40(op, at),
             0x60..=0x7F => self.operate_60(op, at),
             0x80..=0xBF => self.operate_80(op, at),
-            0xC0..=0xDF => self.on_points(PointInstruction::Mdrp(keeping(op)), at),
-            _ => self.on_points(PointInstruction::Mirp(keeping(op)), at),
+            0xC0..=0xDF => self.on_points(OnPoints::OnOne(OnOne::Mdrp(keeping(op))), at),
+            _ => self.on_points(OnPoints::OnOne(OnOne::Mirp(keeping(op))), at),
         }
     }
 }

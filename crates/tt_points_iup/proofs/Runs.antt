@@ -4,7 +4,6 @@ use Rattle.std.proofs.lemmas.List.{append-nil, take_all, drop_all, drop_more, ta
 use Rattle.tt_core.specs.declared.fault.Why.{Why}
 use Rattle.tt_state.specs.declared.point.Point.{Point}
 use Rattle.tt_points_zones.specs.Points.{is_touched}
-use Rattle.tt_points_zones.specs.Zones.{IsPoint}
 use Rattle.tt_points_iup.specs.Interpolation.{interpolated, first_touched, limited}
 use Rattle.tt_points_iup.specs.Sweeps.{swept, IsRun}
 use Rattle.tt_points_iup.specs.declared.place.Along.{Along}
@@ -49,8 +48,8 @@ past_at m part t vs e = (rw e (one_past part t vs), rw e (after_it part t vs))
 pub run_ends : (along : Along) (before first : Point) (old new : List Point) (n : ℕ) → 0 < length old → n ≡ length old
     → first_touched along.axis (take n old) ≡ None
     → limited along.axis (map (interpolated along before first) old) ≡ Ok new
-    → IsPoint before → IsRun along before first old new n before
-run_ends along before first old new n some long none made sound =
+    → IsRun along before first old new n before
+run_ends along before first old new n some long none made =
     let f = interpolated along before first in
     let is : map f old ≡ new = whole_ok along.axis (map f old) new made in
     let whole = take_all n old (omega arith) in
@@ -65,7 +64,6 @@ run_ends along before first old new n some long none made sound =
       many = same;
       so_far = rw (all, past, append-nil new, run_last along before first old untouched) (sym is);
       rest = rw (past, gone) refl;
-      valid = sound;
     }
 
 pub run_ends_outside : (along : Along) (before first : Point) (old : List Point) (n : ℕ) (fault : Why) → n ≡ length old
@@ -89,8 +87,8 @@ to_point along before first old n d inside none here =
 pub run_goes : (along : Along) (before first : Point) (old part : List Point) (n : ℕ) (d : Point) → n < length old
     → first_touched along.axis (take n old) ≡ None → is_touched along.axis (get_or old n d) ≡ true
     → limited along.axis (map (interpolated along before (get_or old n d)) (take n old)) ≡ Ok part
-    → IsPoint (get_or old n d) → IsRun along before first old (part ++ drop n old) (n + 1) (get_or old n d)
-run_goes along before first old part n d inside none here made sound =
+    → IsRun along before first old (part ++ drop n old) (n + 1) (get_or old n d)
+run_goes along before first old part n d inside none here made =
     let t = get_or old n d in
     let f = interpolated along before t in
     let is : map f (take n old) ≡ part = whole_ok along.axis (map f (take n old)) part made in
@@ -107,7 +105,6 @@ run_goes along before first old part n d inside none here made sound =
       many = omega (arith, length-append part (drop n old), length-drop n old, long, inside);
       so_far = rw (split, past.0, run, is) made_so;
       rest = rw split (past.1);
-      valid = sound;
     }
 
 pub run_goes_outside : (along : Along) (before first : Point) (old : List Point) (n : ℕ) (d : Point) (fault : Why)
@@ -123,9 +120,9 @@ run_goes_outside along before first old n d fault inside none here bad =
 pub run_reaches : (along : Along) (before first after : Point) (old new : List Point) (n : ℕ) (d : Point)
     → n < length old → first_touched along.axis (take n old) ≡ None → is_touched along.axis (get_or old n d) ≡ true
     → after ≡ get_or old n d → limited along.axis (map (interpolated along before after) (take n old)) ≡ Ok (take n new)
-    → drop n new ≡ drop n old → IsPoint (get_or old n d) → IsRun along before first old new (n + 1) after
-run_reaches along before first after old new n d inside none here is made back valid =
-    let run = run_goes along before first old (take n new) n d inside none here (rw is at made) valid in
+    → drop n new ≡ drop n old → IsRun along before first old new (n + 1) after
+run_reaches along before first after old new n d inside none here is made back =
+    let run = run_goes along before first old (take n new) n d inside none here (rw is at made) in
     let whole : take n new ++ drop n old ≡ new = rw (← back) (take-append-drop n new) in
     rw is (rw whole at run)
 
@@ -140,12 +137,12 @@ run_reaches_outside along before first after old n d fault inside none here is b
 -- a run to the end, by the remaining points
 pub run_finishes : (along : Along) (before first : Point) (old new : List Point) (n : ℕ) → 0 < length old
     → n ≡ length old → length new ≡ length old → first_touched along.axis (take n old) ≡ None
-    → limited along.axis (map (interpolated along before first) (take n old)) ≡ Ok (take n new) → IsPoint before
+    → limited along.axis (map (interpolated along before first) (take n old)) ≡ Ok (take n new)
     → IsRun along before first old new n before
-run_finishes along before first old new n some long same none made valid =
+run_finishes along before first old new n some long same none made =
     let all = take_all n old (omega arith) in
     let now = take_all n new (omega arith) in
-    run_ends along before first old new n some long none (rw (all, now) at made) valid
+    run_ends along before first old new n some long none (rw (all, now) at made)
 
 pub run_finishes_outside : (along : Along) (before first : Point) (old : List Point) (n : ℕ) (fault : Why)
     → n ≡ length old → first_touched along.axis (take n old) ≡ None

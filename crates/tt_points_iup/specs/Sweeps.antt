@@ -3,7 +3,6 @@ use Rattle.std.specs.Prelude.{◌≡◌, ℕ, ◌<◌, ◌≤◌, if◌then◌el
 use Rattle.std.specs.Option.{unwrap_or}
 use Rattle.tt_state.specs.declared.point.Point.{Point}
 use Rattle.tt_points_zones.specs.Points.{is_touched}
-use Rattle.tt_points_zones.specs.Zones.{IsPoint}
 use Rattle.tt_points_iup.specs.Interpolation.{interpolated, first_touched}
 use Rattle.tt_points_iup.specs.declared.place.Along.{Along}
 
@@ -22,4 +21,3 @@ pub record IsRun (along : Along) (before first : Point) (old new : List Point) (
   pub many : length new ≡ length old
   pub so_far : take len new ++ swept along last first (drop len old) ≡ swept along before first old
   pub rest : drop len new ≡ drop len old
-  pub valid : IsPoint last

@@ -8,7 +8,6 @@ ghost use Rattle.tt_state.specs.declared.point.Point.{Point as IsAPoint};
 ghost use Rattle.tt_points_zones.specs.Points.{is_touched as touched, org as org_of, put as put_to};
 ghost use Rattle.tt_points_zones.specs.Zones.{IsPoint, AreContours};
 ghost use Rattle.tt_points_iup.specs.Interpolation as is;
-ghost use Rattle.tt_points_iup.specs.Positions.{IsPosition, position_of};
 ghost use Rattle.tt_points_iup.specs.Readings.{of_contour, of_contours};
 
 use crate::contour::interpolate_contour;
@@ -23,12 +22,14 @@ pub(crate) struct Contour<'a> {
     points: &'a mut [Point],
     along: Along,
     reads: u64,
+    pub(crate) ghost valid: { All IsPoint points.now },
 }
 
 /// A point whose touches can't be read.
 #[derive(Clone, Copy)]
 pub(crate) struct PlainPoint {
     point: Point,
+    pub(crate) ghost valid: { IsPoint point },
 }
 
 /// A point's original coordinate on an axis in font units.
@@ -57,9 +58,10 @@ fn measured(p: Point, along: Along) -> i32
 }
 
 impl PlainPoint {
+    ghost use Rattle.tt_points_iup.specs.Positions.{IsPosition, position_of};
+
     /// The point's original and current coordinate.
     pub(crate) fn position(self, along: Along) -> AxisPosition
-        requires { IsPoint self.point }
         ensures exact { position_of result ≡ is.position_at along self.point }
         ensures valid { IsPosition along.originals (position_of result) }
     {
@@ -73,6 +75,7 @@ impl PlainPoint {
 
 impl<'a> Contour<'a> {
     fn over(points: &'a mut [Point], along: Along) -> Contour<'a>
+        requires { All IsPoint points.old }
         ensures same_reference { result.points.ghost_name ≡ points.entry.ghost_name }
         ensures points { result.points.now ≡ points.old }
         ensures along { result.along ≡ along }
@@ -125,11 +128,9 @@ impl<'a> Contour<'a> {
     /// Moves point `i` to a coordinate. Its touches are unchanged.
     pub(crate) fn put(&mut self, i: usize, to: PixelCoordinate)
         requires there { i < length self.old.points.now }
-        requires points { All IsPoint self.old.points.now }
         requires limit { unsigned_abs to.0 ≤ coordinate_limit }
         ensures exact { (d : IsAPoint) → self.new.points.now
             ≡ slice_set self.old.points.now i (put_to self.old.along.axis to.0 (get_or self.old.points.now i d)) }
-        ensures valid { All IsPoint self.new.points.now }
         ensures count { self.new.reads ≡ self.old.reads }
         ensures along { self.new.along ≡ self.old.along }
         ensures same_reference { self.new.points.ghost_name ≡ self.old.points.ghost_name }

@@ -5,7 +5,6 @@ ghost use Rattle.tt_core.specs.Limits.{coordinate_limit};
 ghost use Rattle.tt_core.specs.Outcomes.{Gives};
 ghost use Rattle.tt_state.specs.declared.point.Point.{Point as IsAPoint};
 ghost use Rattle.tt_points_zones.specs.Points.{put as put_to};
-ghost use Rattle.tt_points_zones.specs.Zones.{IsPoint};
 ghost use Rattle.tt_points_iup.specs.Interpolation as is;
 ghost use Rattle.tt_points_iup.specs.Positions.{AreNeighbours, IsPosition, position_of};
 
@@ -102,8 +101,6 @@ impl Neighbours {
     /// The touched points before and after a run of untouched ones.
     #[tactic(auto, unfolding(crate::specs::Interpolation::interpolated))]
     pub(crate) fn of(along: Along, before: PlainPoint, after: PlainPoint) -> Neighbours
-        requires before { IsPoint before.point }
-        requires after { IsPoint after.point }
         ensures along { result.along ≡ along }
         ensures exact { (p : IsAPoint) → is.placed_between along (position_of result.lo) (position_of result.hi) p
             ≡ is.interpolated along before.point after.point p }
@@ -172,7 +169,6 @@ fn following(p: AxisPosition, between: Neighbours) -> PixelCoordinate
 
 /// The coordinate, if it is within the limit. Error: ValueRange.
 fn limited(p: PlainPoint, axis: Axis, to: PixelCoordinate) -> Result<PixelCoordinate, Why>
-    requires { IsPoint p.point }
     ensures exact { Gives (λ v. put_to axis v.0 p.point) result (is.limited_point axis (put_to axis to.0 p.point)) }
     ensures within { IfOk result (λ v. unsigned_abs v.0 ≤ coordinate_limit) }
 {
@@ -185,7 +181,6 @@ fn limited(p: PlainPoint, axis: Axis, to: PixelCoordinate) -> Result<PixelCoordi
 
 /// The new coordinate of an untouched point between touched ones. Error: ValueRange.
 pub(crate) fn interpolated(p: PlainPoint, between: Neighbours) -> Result<PixelCoordinate, Why>
-    requires { IsPoint p.point }
     ensures exact { Gives (λ v. put_to between.along.axis v.0 p.point) result (is.limited_point between.along.axis
         (is.placed_between between.along (position_of between.lo) (position_of between.hi) p.point)) }
     ensures within { IfOk result (λ v. unsigned_abs v.0 ≤ coordinate_limit) }

@@ -1,9 +1,8 @@
 //! The touched points of a contour.
 
-ghost use Rattle.std.specs.Prelude.{◌≡◌, ◌+◌, ◌^◌, ◌<◌, ◌≤◌, length, get_or, take, drop, true, None, All, IfSome};
+ghost use Rattle.std.specs.Prelude.{◌≡◌, ◌+◌, ◌^◌, ◌<◌, ◌≤◌, length, get_or, take, drop, true, None};
 ghost use Rattle.tt_state.specs.declared.point.Point.{Point as IsAPoint};
 ghost use Rattle.tt_points_zones.specs.Points.{is_touched as touched};
-ghost use Rattle.tt_points_zones.specs.Zones.{IsPoint};
 ghost use Rattle.tt_points_iup.specs.Interpolation as is;
 ghost use Rattle.tt_points_iup.specs.Positions.{point_of};
 ghost use Rattle.tt_points_iup.specs.Readings.{up_to_first};
@@ -11,12 +10,10 @@ ghost use Rattle.tt_points_iup.specs.Readings.{up_to_first};
 use crate::counted::{Contour, PlainPoint};
 
 pub(crate) fn first_touched(contour: &mut Contour<'_>) -> Option<PlainPoint>
-    requires points { All IsPoint contour.old.points.now }
     requires room { contour.old.reads + length contour.old.points.now < 2 ^ 64 }
     ensures exact { point_of result ≡ is.first_touched contour.old.along.axis contour.old.points.now }
     ensures count { contour.new.reads ≡ contour.old.reads + up_to_first contour.old.along.axis contour.old.points.now }
     ensures few { contour.new.reads ≤ contour.old.reads + length contour.old.points.now }
-    ensures valid { IfSome result (λ p. IsPoint p.point) }
     ensures along { contour.new.along ≡ contour.old.along }
     ensures unchanged { contour.new.points.now ≡ contour.old.points.now }
     ensures same_reference { contour.new.points.ghost_name ≡ contour.old.points.ghost_name }
@@ -30,11 +27,9 @@ pub(crate) fn first_touched(contour: &mut Contour<'_>) -> Option<PlainPoint>
 }
 
 pub(crate) fn last_touched(contour: &mut Contour<'_>) -> Option<PlainPoint>
-    requires points { All IsPoint contour.old.points.now }
     requires room { contour.old.reads + length contour.old.points.now < 2 ^ 64 }
     ensures exact { point_of result ≡ is.last_touched contour.old.along.axis None contour.old.points.now }
     ensures count { contour.new.reads ≡ contour.old.reads + length contour.old.points.now }
-    ensures valid { IfSome result (λ p. IsPoint p.point) }
     ensures along { contour.new.along ≡ contour.old.along }
     ensures unchanged { contour.new.points.now ≡ contour.old.points.now }
     ensures same_reference { contour.new.points.ghost_name ≡ contour.old.points.ghost_name }

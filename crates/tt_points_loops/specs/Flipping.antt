@@ -28,18 +28,12 @@ flippt t points z g = looped t flip points z g
 abbrev pub put_on : Bool → Point → Point
 put_on on p = record p { on = on }
 
--- the points of a range put on the curve or off it; both ends have to exist, in either order
+-- FLIPRGON and FLIPRGOFF: the points of a range put on the curve or off it; both ends have to exist, in either order
 abbrev pub flip_range : Bool → ℤ → ℤ → ZoneLists → Result ZoneLists Why
 flip_range on low high z =
     point_in zone.Glyph high z >>= λ last. point_in zone.Glyph low z >>= λ first.
     each_from_to (unsigned_abs low) (unsigned_abs high + 1) (λ i p. Ok (put_on on p)) 0 z.glyph >>= λ ps.
     Ok (record z { glyph = ps })
-
-abbrev pub fliprgon : ℤ → ℤ → ZoneLists → Result ZoneLists Why
-fliprgon low high z = flip_range true low high z
-
-abbrev pub fliprgoff : ℤ → ℤ → ZoneLists → Result ZoneLists Why
-fliprgoff low high z = flip_range false low high z
 
 -- worked values
 abbrev point : Bool → Point
@@ -65,13 +59,13 @@ a_point_passed_over : flippt tolerance.Tolerant (pos 0 ∷ pos 50 ∷ []) (glyph
     (record default_state { loops = 2 }) ≡ Ok (glyph (point false ∷ []), default_state)
 a_point_passed_over = refl
 
-both_ends : fliprgon (pos 1) (pos 2) (glyph (point false ∷ point false ∷ point false ∷ point false ∷ []))
+both_ends : flip_range true (pos 1) (pos 2) (glyph (point false ∷ point false ∷ point false ∷ point false ∷ []))
     ≡ Ok (glyph (point false ∷ point true ∷ point true ∷ point false ∷ []))
 both_ends = refl
 
-none_between : fliprgoff (pos 1) (pos 0) (glyph (point true ∷ point true ∷ []))
+none_between : flip_range false (pos 1) (pos 0) (glyph (point true ∷ point true ∷ []))
     ≡ Ok (glyph (point true ∷ point true ∷ []))
 none_between = refl
 
-no_end : fliprgon (negsuc 0) (pos 0) (glyph (point true ∷ [])) ≡ Err why.PointRange
+no_end : flip_range true (negsuc 0) (pos 0) (glyph (point true ∷ [])) ≡ Err why.PointRange
 no_end = refl

@@ -136,8 +136,7 @@ pub record ShapeIsKept (z : ZoneLists) (g : GraphicsState) : Type 0 where
   pub shpix : (t : Tolerance) (points : List ℤ) (amount : ℤ)
       → KeepsShapeBefore z (moving.shpix t points amount z g)
   pub flippt : (t : Tolerance) (points : List ℤ) → KeepsShapeBefore z (flipping.flippt t points z g)
-  pub fliprgon : (low high : ℤ) → KeepsShape z (flipping.fliprgon low high z)
-  pub fliprgoff : (low high : ℤ) → KeepsShape z (flipping.fliprgoff low high z)
+  pub flip_range : (on : Bool) (low high : ℤ) → KeepsShape z (flipping.flip_range on low high z)
   pub shp : (t : Tolerance) (which : ReferencePoint) (points : List ℤ)
       → KeepsShapeBefore z (shifting.shp t which points z g)
   pub shc : (which : ReferencePoint) (c : ℤ) → KeepsShape z (shifting.shc which c z g)
@@ -151,8 +150,7 @@ shape_kept z g = record {
   ip = λ t points. loop t (interpolate t g) (interpolated t g) points z g;
   shpix = λ t points amount. loop t (push amount g) (pushed amount g) points z g;
   flippt = λ t points. loop t flip turned points z g;
-  fliprgon = λ low high. flipped_range true low high z;
-  fliprgoff = λ low high. flipped_range false low high z;
+  flip_range = λ on low high. flipped_range on low high z;
   shp = λ t which points. loop t (shift g (reference which g z)) (shifted g (reference which g z)) points z g;
   shc = λ which c. shifted_contour which c z g;
   shz = λ which e. shifted_zone which e z g;

@@ -206,8 +206,7 @@ pub record SeveralTotal (z : ZoneLists) (g : GraphicsState) : Type 0 where
   pub shp : (which : ReferencePoint) (points : List ℤ) → IsTotal (shifting.shp tolerance.Tolerant which points z g)
   pub deltap : (range : DeltaRange) (ppem : ℕ) (pairs : List ℤ)
       → IsTotal (deltas.deltap tolerance.Tolerant range ppem pairs z g)
-  pub fliprgon : (low high : ℤ) → Enough (flipping.fliprgon low high z)
-  pub fliprgoff : (low high : ℤ) → Enough (flipping.fliprgoff low high z)
+  pub flip_range : (on : Bool) (low high : ℤ) → Enough (flipping.flip_range on low high z)
   pub shc : (which : ReferencePoint) (c : ℤ) → Enough (shifting.shc which c z g)
   pub shz : (which : ReferencePoint) (e : ℤ) → Enough (shifting.shz which e z g)
 
@@ -223,8 +222,7 @@ several_total z g = record {
       points z g;
   deltap = λ range ppem pairs.
       passing (except tolerance.Tolerant range ppem g) (except_enough range ppem g) (reverse (pairs_of pairs)) z;
-  fliprgon = λ low high. flip_range_enough true low high z;
-  fliprgoff = λ low high. flip_range_enough false low high z;
+  flip_range = λ on low high. flip_range_enough on low high z;
   shc = λ which c. shc_enough which c z g;
   shz = λ which e. shz_enough which e z g;
 }

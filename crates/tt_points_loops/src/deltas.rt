@@ -5,7 +5,6 @@ ghost use Rattle.std.specs.Prelude.{◌≡◌, Some, get_or, ◌*◌, ◌+◌, �
 ghost use Rattle.std.specs.Prelude.{IfErr, IfOk, IfSome, length};
 ghost use Rattle.tt_core.specs.Outcomes.{Gives};
 ghost use Rattle.tt_points_loops.specs.Deltas as is;
-ghost use Rattle.tt_points_loops.specs.Series.{passing_over};
 ghost use Rattle.tt_points_zones.specs.Zones.{IsZones, zones_view};
 
 use tt_core::Why;
@@ -18,6 +17,33 @@ pub enum DeltaRange {
     First,
     Second,
     Third,
+}
+
+/// A DELTAP or a DELTAC on a machine.
+#[derive(Clone, Copy)]
+pub struct Deltas {
+    pub range: DeltaRange,
+    /// The machine's size, in pixels per em.
+    pub ppem: u32,
+    pub tolerance: Tolerance,
+}
+
+/// A pair on the stack: an argument, and the number of a point or of a control value.
+#[derive(Clone, Copy)]
+pub struct Pair {
+    pub argument: i32,
+    pub number: i32,
+}
+
+/// Pair `i` of a list of arguments and numbers.
+pub fn pair_at(pairs: &[i32], i: usize) -> Pair
+    requires { 2 * i + 1 < length pairs.now }
+    ensures { (result.argument, result.number) ≡ get_or (is.pairs_of pairs.now) i (pos 0, pos 0) }
+{
+    Pair {
+        argument: pairs[2 * i],
+        number: pairs[2 * i + 1],
+    }
 }
 
 /// The distance of a range's first size from the delta base, in pixels per em.
@@ -94,21 +120,15 @@ fn byte_of(tolerance: Tolerance, argument: i32) -> Result<u8, Why>
     }
 }
 
-/// The move that an argument of DELTAP or DELTAC requests at `ppem`: 1 to 8 steps to either side, in 26.6 pixels. None
-/// where the argument is for another size. Error: BadArgument, for an argument that is no byte, unless the machine is
-/// tolerant.
-pub fn delta_of(
-    tolerance: Tolerance,
-    range: DeltaRange,
-    argument: i32,
-    ppem: u32,
-    state: &GraphicsState,
-) -> Result<Option<i32>, Why>
-    ensures exact { Gives (λ d. d) result (is.delta_of tolerance range argument ppem state.now) }
+/// The move that an argument of DELTAP or DELTAC requests at the machine's size: 1 to 8 steps to either side, in 26.6
+/// pixels. None where the argument is for another size. Error: BadArgument, for an argument that is no byte, unless the
+/// machine is tolerant.
+pub fn delta_of(by: Deltas, argument: i32, state: &GraphicsState) -> Result<Option<i32>, Why>
+    ensures exact { Gives (λ d. d) result (is.delta_of by.tolerance by.range argument by.ppem state.now) }
     ensures bound { IfOk result (λ d. IfSome d (λ by. unsigned_abs by ≤ 512)) }
 {
-    let argument = byte_of(tolerance, argument)?;
-    if size_of(range, argument, state) != i64::from(ppem) {
+    let argument = byte_of(by.tolerance, argument)?;
+    if size_of(by.range, argument, state) != i64::from(by.ppem) {
         return Ok(None);
     }
     Ok(Some(exception(argument, state)))
@@ -129,71 +149,40 @@ fn move_by(zones: &mut Zones, state: &GraphicsState, d: i32, n: i32) -> Result<(
     Ok(())
 }
 
-/// Applies pair `i` of an argument and a point. Errors: BadArgument, PointRange, Perpendicular, ValueRange.
-fn except(
-    zones: &mut Zones,
-    state: &GraphicsState,
-    tolerance: Tolerance,
-    range: DeltaRange,
-    ppem: u32,
-    pairs: &[i32],
-    i: usize,
-) -> Result<(), Why>
+/// Moves the point of a pair as its argument requests. Errors: BadArgument, PointRange, Perpendicular, ValueRange.
+fn except(zones: &mut Zones, state: &GraphicsState, by: Deltas, pair: Pair) -> Result<(), Why>
     requires zones { IsZones (zones_view zones.old) }
-    requires there { 2 * i + 1 < length pairs.now }
     ensures exact { Gives (λ u. zones_view zones.new) result
-        (is.except tolerance range ppem state.now
-        (get_or pairs.now (2 * i) (pos 0), get_or pairs.now (2 * i + 1) (pos 0)) (zones_view zones.old)) }
+        (is.except by.tolerance by.range by.ppem state.now (pair.argument, pair.number) (zones_view zones.old)) }
     ensures zones { IsZones (zones_view zones.new) }
     ensures kept { IfErr result (λ why. zones_view zones.new ≡ zones_view zones.old) }
 {
-    match delta_of(tolerance, range, pairs[2 * i], ppem, state)? {
-        Some(d) => move_by(zones, state, d, pairs[2 * i + 1]),
+    match delta_of(by, pair.argument, state)? {
+        Some(d) => move_by(zones, state, d, pair.number),
         None => Ok(()),
     }
 }
 
-/// Applies a pair as `except` does. A tolerant machine passes over a missing point.
-fn except_or_pass(
-    zones: &mut Zones,
-    state: &GraphicsState,
-    tolerance: Tolerance,
-    range: DeltaRange,
-    ppem: u32,
-    pairs: &[i32],
-    i: usize,
-) -> Result<(), Why>
-    requires zones { IsZones (zones_view zones.old) }
-    requires there { 2 * i + 1 < length pairs.now }
-    ensures exact { Gives (λ u. zones_view zones.new) result
-        (passing_over tolerance (is.except tolerance range ppem state.now)
-        (get_or pairs.now (2 * i) (pos 0), get_or pairs.now (2 * i + 1) (pos 0)) (zones_view zones.old)) }
-    ensures zones { IsZones (zones_view zones.new) }
-{
-    match except(zones, state, tolerance, range, ppem, pairs, i) {
-        Err(why) if tolerance.passes_over(why) => Ok(()),
-        answer => answer,
-    }
-}
-
 /// DELTAP1[], 0x5D; DELTAP2[], 0x71; DELTAP3[], 0x72: pairs of an argument and a point of zp0 -> moves each point as
-/// requested. The size is `ppem` pixels per em. The last pair comes first. A tolerant machine passes over each missing
-/// point. Errors: BadArgument, PointRange, Perpendicular, ValueRange.
+/// requested. The last pair comes first. A tolerant machine passes over each missing point. Errors: BadArgument,
+/// PointRange, Perpendicular, ValueRange.
 pub fn deltap(
     zones: &mut Zones,
     state: &GraphicsState,
-    tolerance: Tolerance,
-    range: DeltaRange,
-    ppem: u32,
+    by: Deltas,
     pairs: &[i32],
 ) -> Result<(), Why>
     requires zones { IsZones (zones_view zones.old) }
     ensures exact { Gives (λ u. zones_view zones.new) result
-        (is.deltap tolerance range ppem pairs.now (zones_view zones.old) state.now) }
+        (is.deltap by.tolerance by.range by.ppem pairs.now (zones_view zones.old) state.now) }
     ensures zones { IsZones (zones_view zones.new) }
 {
     for i in (0..pairs.len() / 2).rev() {
-        except_or_pass(zones, state, tolerance, range, ppem, pairs, i)?;
+        match except(zones, state, by, pair_at(pairs, i)) {
+            Ok(()) => {}
+            Err(why) if by.tolerance.passes_over(why) => {}
+            Err(why) => return Err(why),
+        }
     }
     Ok(())
 }

@@ -60,9 +60,9 @@ fn put_all_on(points: &mut [Point], low: usize, past: usize, on: bool)
     }
 }
 
-/// Puts the points from `low` to `high` on the curve or off it. Both ends have to exist, in either order. Error:
-/// PointRange.
-fn flip_range(zones: &mut Zones, low: i32, high: i32, on: bool) -> Result<(), Why>
+/// FLIPRGON[], 0x81, and FLIPRGOFF[], 0x82: low, high -> puts the points of the range on the curve or off it. Both ends
+/// have to exist, in either order. Error: PointRange.
+pub fn flip_range(zones: &mut Zones, low: i32, high: i32, on: bool) -> Result<(), Why>
     requires { IsZones (zones_view zones.old) }
     ensures exact { Gives (λ u. zones_view zones.new) result (is.flip_range on low high (zones_view zones.old)) }
     ensures zones { IsZones (zones_view zones.new) }
@@ -72,24 +72,4 @@ fn flip_range(zones: &mut Zones, low: i32, high: i32, on: bool) -> Result<(), Wh
     zones.point(Zone::Glyph, low)?;
     put_all_on(&mut zones.glyph, low as usize, high as usize + 1, on);
     Ok(())
-}
-
-/// FLIPRGON[], 0x81: low, high -> puts the points of the range on the curve. Error: PointRange.
-pub fn fliprgon(zones: &mut Zones, low: i32, high: i32) -> Result<(), Why>
-    requires { IsZones (zones_view zones.old) }
-    ensures exact { Gives (λ u. zones_view zones.new) result (is.fliprgon low high (zones_view zones.old)) }
-    ensures zones { IsZones (zones_view zones.new) }
-    ensures kept { IfErr result (λ why. zones_view zones.new ≡ zones_view zones.old) }
-{
-    flip_range(zones, low, high, true)
-}
-
-/// FLIPRGOFF[], 0x82: low, high -> puts the points of the range off the curve. Error: PointRange.
-pub fn fliprgoff(zones: &mut Zones, low: i32, high: i32) -> Result<(), Why>
-    requires { IsZones (zones_view zones.old) }
-    ensures exact { Gives (λ u. zones_view zones.new) result (is.fliprgoff low high (zones_view zones.old)) }
-    ensures zones { IsZones (zones_view zones.new) }
-    ensures kept { IfErr result (λ why. zones_view zones.new ≡ zones_view zones.old) }
-{
-    flip_range(zones, low, high, false)
 }

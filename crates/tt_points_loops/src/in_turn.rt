@@ -20,8 +20,8 @@ use tt_state::{GraphicsState, Point, Tolerance};
 pub(crate) enum Change {
     /// ALIGNRP.
     Align,
-    /// IP.
-    Interpolate,
+    /// IP. A tolerant machine has an end in place of a missing one.
+    Interpolate(Tolerance),
     /// SHP, by the reference point before the first move.
     Follow(Result<Point, Why>),
     /// SHPIX, by this distance.
@@ -31,23 +31,16 @@ pub(crate) enum Change {
 }
 
 /// Changes a point. Errors: PointRange, Perpendicular, ValueRange.
-fn change_one(
-    zones: &mut Zones,
-    state: &GraphicsState,
-    tolerance: Tolerance,
-    change: Change,
-    n: i32,
-) -> Result<(), Why>
+fn change_one(zones: &mut Zones, state: &GraphicsState, change: Change, n: i32) -> Result<(), Why>
     requires zones { IsZones (zones_view zones.old) }
     requires change { IsChange change }
-    ensures exact { Gives (λ u. zones_view zones.new) result
-        (is.changed change tolerance state.now n (zones_view zones.old)) }
+    ensures exact { Gives (λ u. zones_view zones.new) result (is.changed change state.now n (zones_view zones.old)) }
     ensures zones { IsZones (zones_view zones.new) }
     ensures kept { IfErr result (λ why. zones_view zones.new ≡ zones_view zones.old) }
 {
     match change {
         Change::Align => align(zones, state, n),
-        Change::Interpolate => interpolate(zones, state, tolerance, n),
+        Change::Interpolate(tolerance) => interpolate(zones, state, tolerance, n),
         Change::Follow(before) => shift(zones, state, before, n),
         Change::Push(by) => push(zones, state, by, n),
         Change::Flip => flip(zones, n),
@@ -66,11 +59,11 @@ pub(crate) fn in_turn(
     requires zones { IsZones (zones_view zones.old) }
     requires change { IsChange change }
     ensures exact { Gives (λ u. (zones_view zones.new, state.new)) result
-        (looped tolerance (is.changed change tolerance state.old) numbers.now (zones_view zones.old) state.old) }
+        (looped tolerance (is.changed change state.old) numbers.now (zones_view zones.old) state.old) }
     ensures zones { IsZones (zones_view zones.new) }
 {
     for i in (0..numbers.len()).rev() {
-        match change_one(zones, state, tolerance, change, numbers[i]) {
+        match change_one(zones, state, change, numbers[i]) {
             Err(why) if tolerance.passes_over(why) => {}
             answer => answer?,
         }

@@ -24,16 +24,6 @@ fn moved_by(p: Point, m: &Motion, by: Distance) -> Result<Point, Why>
     m.moved(p, by.0)
 }
 
-/// The point `p` moved to the current coordinate of `r` along the projection vector. Error: ValueRange.
-fn moved_to(p: Point, r: Point, m: &Motion) -> Result<Point, Why>
-    requires p { IsPoint p }
-    requires r { IsPoint r }
-    ensures exact { Gives (λ q. q) result (motion.moved m.now (motion.current_distance m.now p r) p) }
-    ensures valid { IfOk result IsPoint }
-{
-    moved_by(p, m, m.current_distance(p, r))
-}
-
 /// The point `p` moved to the current coordinate of `r`, by the vectors of the graphics state. Errors: Perpendicular,
 /// ValueRange.
 fn aligned(p: Point, r: Point, state: &GraphicsState) -> Result<Point, Why>
@@ -44,7 +34,7 @@ fn aligned(p: Point, r: Point, state: &GraphicsState) -> Result<Point, Why>
 {
     may_move(state)?;
     let motion = Motion::of(state);
-    moved_to(p, r, &motion)
+    moved_by(p, &motion, motion.current_distance(p, r))
 }
 
 /// Moves a point of zp1 to the current coordinate of rp0. Errors: PointRange, Perpendicular, ValueRange.
@@ -100,60 +90,47 @@ fn difference(a: Distance, b: Distance) -> Distance
     Distance(a.0 - b.0)
 }
 
-/// The distance from `a` that gives `p` its original share of the way from `a` to `b`.
-fn interpolated(by: Originals, p: Point, a: Point, b: Point, m: &Motion) -> Distance
-    requires scale { IfSome by.units IsScale }
-    requires p { IsPoint p }
-    requires a { IsPoint a }
-    requires b { IsPoint b }
-    ensures exact { result.0 ≡ is.interpolated by.halves by.units m.now a b p }
-    ensures bound { unsigned_abs result.0 < 2 ^ 46 }
-{
-    let range = unscaled(by.units, m, a, b);
-    if range.0 == 0 {
-        return m.distance_by(by.units, a, p);
-    }
-    let o = unscaled(by.units, m, a, p);
-    let now = m.current_distance(a, b);
-    Distance(quotient(by.halves, product(o, now), range.0))
+/// The range of IP: both ends, and the measure of original places.
+#[derive(Clone, Copy)]
+struct Between {
+    from: Point,
+    to: Point,
+    by: Originals,
+    ghost from_valid: { IsPoint from },
+    ghost to_valid: { IsPoint to },
 }
 
-/// The point moved to its original share of the way from `a` to `b`. Error: ValueRange.
-fn moved_between(by: Originals, p: Point, a: Point, b: Point, m: &Motion) -> Result<Point, Why>
-    requires scale { IfSome by.units IsScale }
+/// The distance from the first end that gives `p` its original share of the way to the second one.
+fn interpolated(p: Point, between: Between, m: &Motion) -> Distance
+    requires scale { IfSome between.by.units IsScale }
     requires p { IsPoint p }
-    requires a { IsPoint a }
-    requires b { IsPoint b }
-    ensures exact { Gives (λ q. q) result
-        (motion.moved m.now (is.interpolated by.halves by.units m.now a b p -ℤ motion.current_distance m.now a p) p) }
-    ensures valid { IfOk result IsPoint }
+    ensures exact { result.0 ≡ is.interpolated between.by.halves between.by.units m.now between.from between.to p }
+    ensures bound { unsigned_abs result.0 < 2 ^ 46 }
 {
-    moved_by(
-        p,
-        m,
-        difference(interpolated(by, p, a, b, m), m.current_distance(a, p)),
-    )
+    let Between { from, to, by } = between;
+    let range = unscaled(by.units, m, from, to);
+    if range.0 == 0 {
+        return m.distance_by(by.units, from, p);
+    }
+    let o = unscaled(by.units, m, from, p);
+    let now = m.current_distance(from, to);
+    Distance(quotient(by.halves, product(o, now), range.0))
 }
 
 /// The point moved to its original share of the way, by the vectors of the graphics state. Errors: Perpendicular,
 /// ValueRange.
-fn kept_between(
-    by: Originals,
-    p: Point,
-    a: Point,
-    b: Point,
-    state: &GraphicsState,
-) -> Result<Point, Why>
-    requires scale { IfSome by.units IsScale }
+fn kept_between(p: Point, between: Between, state: &GraphicsState) -> Result<Point, Why>
+    requires scale { IfSome between.by.units IsScale }
     requires p { IsPoint p }
-    requires a { IsPoint a }
-    requires b { IsPoint b }
-    ensures exact { Gives (λ q. q) result (is.kept_between by.halves by.units state.now a b p) }
+    ensures exact { Gives (λ q. q) result
+        (is.kept_between between.by.halves between.by.units state.now between.from between.to p) }
     ensures valid { IfOk result IsPoint }
 {
     may_move(state)?;
     let motion = Motion::of(state);
-    moved_between(by, p, a, b, &motion)
+    let wanted = interpolated(p, between, &motion);
+    let way = difference(wanted, motion.current_distance(between.from, p));
+    moved_by(p, &motion, way)
 }
 
 /// The second end of IP's range, rp2 in zp1. A tolerant machine takes the first end, `a`, in place of a missing point.
@@ -192,23 +169,6 @@ fn originals_among(zones: &Zones, state: &GraphicsState) -> Originals
     }
 }
 
-/// The point moved to its original share of the way from rp1 to rp2. Errors: PointRange, Perpendicular, ValueRange.
-fn in_between(
-    zones: &Zones,
-    state: &GraphicsState,
-    tolerance: Tolerance,
-    p: Point,
-) -> Result<Point, Why>
-    requires zones { IsZones (zones_view zones.now) }
-    requires point { IsPoint p }
-    ensures exact { Gives (λ q. q) result (is.in_between tolerance state.now (zones_view zones.now) p) }
-    ensures valid { IfOk result IsPoint }
-{
-    let a = zones.point(state.zp0, state.rp1)?;
-    let b = other_end(zones, state, tolerance, a)?;
-    kept_between(originals_among(zones, state), p, a, b, state)
-}
-
 /// Moves a point of zp2 to its original share of the way from rp1 to rp2. Errors: PointRange, Perpendicular,
 /// ValueRange.
 pub(crate) fn interpolate(
@@ -224,7 +184,13 @@ pub(crate) fn interpolate(
     ensures kept { IfErr result (λ why. zones_view zones.new ≡ zones_view zones.old) }
 {
     let p = zones.point(state.zp2, n)?;
-    let q = in_between(zones, state, tolerance, p)?;
+    let from = zones.point(state.zp0, state.rp1)?;
+    let between = Between {
+        from,
+        to: other_end(zones, state, tolerance, from)?,
+        by: originals_among(zones, state),
+    };
+    let q = kept_between(p, between, state)?;
     zones.set(state.zp2, n, q);
     Ok(())
 }
@@ -243,7 +209,8 @@ pub fn ip(
         (is.ip tolerance numbers.now (zones_view zones.old) state.old) }
     ensures zones { IsZones (zones_view zones.new) }
 {
-    in_turn(zones, state, tolerance, Change::Interpolate, numbers)
+    let change = Change::Interpolate(tolerance);
+    in_turn(zones, state, tolerance, change, numbers)
 }
 
 /// The point moved along the freedom vector. Error: ValueRange.

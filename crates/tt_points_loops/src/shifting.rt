@@ -54,26 +54,6 @@ fn reference(zones: &Zones, state: &GraphicsState, which: ReferencePoint) -> Res
     zones.point(reference_zone(state, which), reference_number(state, which))
 }
 
-/// The point moved as far as `r` has moved, and touched. Error: ValueRange.
-fn moved_as(p: Point, r: Point, m: &Motion) -> Result<Point, Why>
-    requires p { IsPoint p }
-    requires r { IsPoint r }
-    ensures exact { Gives (λ q. q) result (is.moved_as m.now r p) }
-    ensures valid { IfOk result IsPoint }
-{
-    m.moved(p, m.offset(r))
-}
-
-/// The point moved as far as `r` has moved, with its touches unchanged. Error: ValueRange.
-fn shifted_as(p: Point, r: Point, m: &Motion) -> Result<Point, Why>
-    requires p { IsPoint p }
-    requires r { IsPoint r }
-    ensures exact { Gives (λ q. q) result (is.shifted_as m.now r p) }
-    ensures valid { IfOk result IsPoint }
-{
-    m.shifted(p, m.offset(r))
-}
-
 /// The point moved as far as its reference point `r` has moved. `touch` says whether the move touches the point.
 /// Errors: Perpendicular, ValueRange.
 fn follow(p: Point, r: Point, touch: bool, state: &GraphicsState) -> Result<Point, Why>
@@ -85,9 +65,9 @@ fn follow(p: Point, r: Point, touch: bool, state: &GraphicsState) -> Result<Poin
     may_move(state)?;
     let motion = Motion::of(state);
     if touch {
-        moved_as(p, r, &motion)
+        motion.moved(p, motion.offset(r))
     } else {
-        shifted_as(p, r, &motion)
+        motion.shifted(p, motion.offset(r))
     }
 }
 
@@ -148,12 +128,12 @@ struct Leader {
     /// The number of the reference point, if it is in the zone of the points that follow. It doesn't follow itself.
     but: Option<usize>,
     touch: bool,
+    ghost valid: { IsPoint reference },
 }
 
 /// Point `i` after it follows the reference point. That point itself is unchanged. Errors: Perpendicular, ValueRange.
 fn follow_but(p: Point, i: usize, by: Leader, state: &GraphicsState) -> Result<Point, Why>
     requires p { IsPoint p }
-    requires reference { IsPoint by.reference }
     ensures exact { Gives (λ q. q) result (is.follow_but by.but by.touch state.now by.reference i p) }
     ensures valid { IfOk result IsPoint }
 {
@@ -163,35 +143,28 @@ fn follow_but(p: Point, i: usize, by: Leader, state: &GraphicsState) -> Result<P
     follow(p, by.reference, by.touch, state)
 }
 
-/// Moves the points of a range, except the reference point. Errors: Perpendicular, ValueRange.
-fn follow_all(
-    points: &mut [Point],
-    first: usize,
-    past: usize,
-    by: Leader,
-    state: &GraphicsState,
-) -> Result<(), Why>
-    requires points { All IsPoint points.old }
-    requires reference { IsPoint by.reference }
-    requires past { past ≤ length points.old }
-    ensures exact { Gives (λ u. points.new) result
-        (each_from_to first past (is.follow_but by.but by.touch state.now by.reference) 0 points.old) }
-    ensures valid { All IsPoint points.new }
-    ensures count { length points.new ≡ length points.old }
-    ensures other { IfErr result (λ why. is_missing why ≡ false) }
-{
-    for i in first..past {
-        points[i] = follow_but(points[i], i, by, state)?;
-    }
-    Ok(())
-}
-
 /// A range of points of a zone.
 #[derive(Clone, Copy)]
 struct Range {
     zone: Zone,
     first: usize,
     past: usize,
+}
+
+/// Makes the points of a range follow the reference point, except that point itself. Errors: Perpendicular, ValueRange.
+fn lead(points: &mut [Point], range: Range, by: Leader, state: &GraphicsState) -> Result<(), Why>
+    requires points { All IsPoint points.old }
+    requires past { range.past ≤ length points.old }
+    ensures exact { Gives (λ u. points.new) result
+        (each_from_to range.first range.past (is.follow_but by.but by.touch state.now by.reference) 0 points.old) }
+    ensures valid { All IsPoint points.new }
+    ensures count { length points.new ≡ length points.old }
+    ensures other { IfErr result (λ why. is_missing why ≡ false) }
+{
+    for i in range.first..range.past {
+        points[i] = follow_but(points[i], i, by, state)?;
+    }
+    Ok(())
 }
 
 /// Moves the points of a range of a zone, except the reference point. Errors: PointRange, Perpendicular, ValueRange.
@@ -221,8 +194,8 @@ fn shift_range(
         touch,
     };
     match range.zone {
-        Zone::Twilight => follow_all(&mut zones.twilight, range.first, range.past, by, state),
-        Zone::Glyph => follow_all(&mut zones.glyph, range.first, range.past, by, state),
+        Zone::Twilight => lead(&mut zones.twilight, range, by, state),
+        Zone::Glyph => lead(&mut zones.glyph, range, by, state),
     }
 }
 

@@ -1,7 +1,6 @@
-use Rattle.std.proofs.Common.{◌≡◌, ◌+◌, ◌*◌, ◌-◌, ◌/◌, ◌<◌, ◌≤◌, Ok, Err, refl, sym, length, get_or, pos, arith, take_all}
-use Rattle.std.proofs.lemmas.Result.{err_from_is_err_and}
+use Rattle.std.proofs.Common.{◌≡◌, ◌∙◌, ◌+◌, ◌*◌, ◌-◌, ◌/◌, ◌<◌, ◌≤◌, Ok, Err, refl, sym, length, get_or, pos, arith, take_all}
 use Rattle.tt_points_loops.specs.Deltas.{pairs_of}
-use Rattle.tt_points_loops.specs.Turns.{went_on, broke_off, pairs_count, pair_at}
+use Rattle.tt_points_loops.specs.Turns.{went_on, broke_off, pairs_count}
 use Rattle.tt_exec_points.specs.ControlValues.{change}
 use Rattle.tt_exec_points.proofs.control_values.change_all.Goals as goal
 
@@ -11,35 +10,46 @@ loop-i-init c =
     omega (arith, pairs_count c.args.pairs.now) in
     rw (take_all (length c.args.pairs.now / 2) (pairs_of c.args.pairs.now) few) refl
 
-pub loop-i-preserved : goal.loop-i-preserved
-loop-i-preserved c =
+pub loop-i-preserved-in-Ok : goal.loop-i-preserved-in-Ok
+loop-i-preserved-in-Ok c =
+    let by = c.args.by in
     let pairs = c.args.pairs.now in
-    let step = change c.args.tolerance c.args.range c.args.ppem c.args.state.now in
     let i = c.loop-i.i - 1 in
     let left : c.loop-i.i ≡ c.loop-i.i - 1 + 1 = omega arith in
     let there : c.loop-i.i - 1 < length (pairs_of c.args.pairs.now) = omega (arith, pairs_count c.args.pairs.now) in
-    let inside : 2 * (c.loop-i.i - 1) + 1 < length c.args.pairs.now = omega arith in
-    let came : step (get_or (pairs_of pairs) i (pos 0, pos 0)) c.loop-i.cvt
-    ≡ Ok c.change.new.cvt =
-    rw (pair_at pairs i inside) c.in_ok-change.ensures in
+    let step = change by.tolerance by.range by.ppem c.args.state.now in
+    let came : step (get_or (pairs_of pairs) i (pos 0, pos 0)) c.loop-i.cvt ≡ Ok c.change_pair.new.cvt =
+    rw (← c.pair_at.ensures, c.in-Ok.ensures.exact) refl in
     went_on step (pairs_of pairs) c.loop-i.i i (pos 0, pos 0) _ _ _
     left there c.loop-i.invariant came
 
-pub returns-in_err-change : goal.returns-in_err-change
-returns-in_err-change c =
+pub loop-i-preserved-then-passes_over : goal.loop-i-preserved-then-passes_over
+loop-i-preserved-then-passes_over c =
+    let by = c.args.by in
     let pairs = c.args.pairs.now in
-    let step = change c.args.tolerance c.args.range c.args.ppem c.args.state.now in
     let i = c.loop-i.i - 1 in
     let left : c.loop-i.i ≡ c.loop-i.i - 1 + 1 = omega arith in
     let there : c.loop-i.i - 1 < length (pairs_of c.args.pairs.now) = omega (arith, pairs_count c.args.pairs.now) in
-    let inside : 2 * (c.loop-i.i - 1) + 1 < length c.args.pairs.now = omega arith in
-    let came : step (get_or (pairs_of pairs) i (pos 0, pos 0)) c.loop-i.cvt
-    ≡ Err _ =
-    rw (pair_at pairs i inside) c.in_err-change.ensures in
-    let e = err_from_is_err_and c.from_residual.result c.from_residual.ensures.1 in
-    let whole = broke_off step (pairs_of pairs) c.loop-i.i i (pos 0, pos 0) _ _ _
-    left there c.loop-i.invariant came in
-    rw (e.1, e.2) whole
+    let step = change by.tolerance by.range by.ppem c.args.state.now in
+    let over = sym c.passes_over.ensures ∙ c.if-passes_over.true in
+    let came : step (get_or (pairs_of pairs) i (pos 0, pos 0)) c.loop-i.cvt ≡ Ok c.change_pair.new.cvt =
+    rw (← c.pair_at.ensures, c.in-Err.ensures.exact, over, c.in-Err.ensures.kept) refl in
+    went_on step (pairs_of pairs) c.loop-i.i i (pos 0, pos 0) _ _ _
+    left there c.loop-i.invariant came
+
+pub returns-else-passes_over : goal.returns-else-passes_over
+returns-else-passes_over c =
+    let by = c.args.by in
+    let pairs = c.args.pairs.now in
+    let i = c.loop-i.i - 1 in
+    let left : c.loop-i.i ≡ c.loop-i.i - 1 + 1 = omega arith in
+    let there : c.loop-i.i - 1 < length (pairs_of c.args.pairs.now) = omega (arith, pairs_count c.args.pairs.now) in
+    let step = change by.tolerance by.range by.ppem c.args.state.now in
+    let stays = sym c.passes_over.ensures ∙ c.if-passes_over.false in
+    let came : step (get_or (pairs_of pairs) i (pos 0, pos 0)) c.loop-i.cvt ≡ Err c.in-Err.why =
+    rw (← c.pair_at.ensures, c.in-Err.ensures.exact, stays) refl in
+    broke_off step (pairs_of pairs) c.loop-i.i i (pos 0, pos 0) _ _ _
+    left there c.loop-i.invariant came
 
 pub returns : goal.returns
 returns c =

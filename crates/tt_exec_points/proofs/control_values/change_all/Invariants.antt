@@ -7,5 +7,5 @@ use Rattle.tt_exec_points.proofs.control_values.change_all.Given as goal
 -- the remaining changes, applied to the present values, give the whole result
 abbrev pub invariant-loop-i : goal.invariant-loop-i
 invariant-loop-i l =
-    one_by_one (change l.tolerance l.range l.ppem l.state) (reverse (take l.i (pairs_of l.pairs))) l.cvt
-    ≡ one_by_one (change l.tolerance l.range l.ppem l.state) (reverse (pairs_of l.pairs)) l.fn.cvt
+    one_by_one (change l.by.tolerance l.by.range l.by.ppem l.state) (reverse (take l.i (pairs_of l.pairs))) l.cvt
+    ≡ one_by_one (change l.by.tolerance l.by.range l.by.ppem l.state) (reverse (pairs_of l.pairs)) l.fn.cvt

@@ -6,16 +6,10 @@ use Rattle.tt_points_iup.proofs.Filled.{blank, filled_at, next_outside, all_made
 use Rattle.tt_points_iup.proofs.Limits.{point_ok}
 use Rattle.tt_points_iup.proofs.contour.fill.Goals as goal
 
-pub interpolated-requires : goal.interpolated-requires
-interpolated-requires c =
-    let here : c.args.start + c.loop-k.k < length c.loop-k.contour.points.now =
-    omega (arith, c.loop-k-test.true, c.requires.range, c.loop-k.invariant.many) in
-    rw (c.at.ensures blank) (c.loop-k.invariant.valid (c.args.start + c.loop-k.k) blank here)
-
 pub returns-in_err-to-clause-exact : goal.returns-in_err-to-clause-exact
 returns-in_err-to-clause-exact c =
     let along = c.args.contour.now.along in
-    let f = is.interpolated along c.args.before.point c.args.after.point in
+    let f = is.interpolated along c.args.around.before.point c.args.around.after.point in
     let now = c.loop-k.contour.points.now in
     let old = c.args.contour.now.points.now in
     let inside : c.args.start + c.args.len ≤ length now = omega (arith, c.requires.range, c.loop-k.invariant.many) in
@@ -29,7 +23,7 @@ returns-in_err-to-clause-exact c =
 pub loop-k-preserved : goal.loop-k-preserved
 loop-k-preserved c =
     let along = c.args.contour.now.along in
-    let f = is.interpolated along c.args.before.point c.args.after.point in
+    let f = is.interpolated along c.args.around.before.point c.args.around.after.point in
     let now = c.loop-k.contour.points.now in
     let old = c.args.contour.now.points.now in
     let at = c.args.start + c.loop-k.k in
@@ -46,7 +40,6 @@ loop-k-preserved c =
     let set : c.put.new.self.points.now ≡ slice_set now at q = rw c.loop-k.invariant.along at (c.put.ensures.exact blank) in
     record {
       filled = rw set (filled_at f now old c.args.start c.loop-k.k q here there c.loop-k.invariant.filled made);
-      valid = c.put.ensures.valid;
       many = rw set (length-set now at q ∙ c.loop-k.invariant.many);
       reads = c.put.ensures.count ∙ c.loop-k.invariant.reads;
       along = c.put.ensures.along ∙ c.loop-k.invariant.along;
@@ -56,7 +49,7 @@ loop-k-preserved c =
 pub returns-clause-exact : goal.returns-clause-exact
 returns-clause-exact c =
     let along = c.args.contour.now.along in
-    let f = is.interpolated along c.args.before.point c.args.after.point in
+    let f = is.interpolated along c.args.around.before.point c.args.around.after.point in
     let all : c.loop-k.k ≡ c.args.len = omega (arith, c.loop-k-test.false, c.loop-k.auto.k-end) in
     all_made along.axis f c.loop-k.contour.points.now c.args.contour.now.points.now c.args.start c.args.len
-    (rw all at c.loop-k.invariant.filled) c.loop-k.invariant.valid
+    (rw all at c.loop-k.invariant.filled) c.loop-k.contour.valid

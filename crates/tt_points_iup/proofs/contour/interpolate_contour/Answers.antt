@@ -10,7 +10,7 @@ returns-in_default-clause-exact c =
     let points = c.args.contour.now.points.now in
     let none = sym c.first_touched.ensures.exact ∙ ap point_of c.in_default.is in
     rw (untouched_stays along points none, c.first_touched.ensures.unchanged)
-    (limited_ok along.axis points c.requires.points)
+    (limited_ok along.axis points c.args.contour.now.valid)
 
 pub returns-in_default-last_touched-clause-exact : goal.returns-in_default-last_touched-clause-exact
 returns-in_default-last_touched-clause-exact c =
@@ -21,7 +21,7 @@ returns-in_default-last_touched-clause-exact c =
     let behind = sym last ∙ ap point_of c.in_default-last_touched.is in
     let none = no_last along.axis points behind in
     let same = c.last_touched.ensures.unchanged ∙ searched.unchanged in
-    rw (untouched_stays along points none, same) (limited_ok along.axis points c.requires.points)
+    rw (untouched_stays along points none, same) (limited_ok along.axis points c.args.contour.now.valid)
 
 pub returns-in_default-last_touched-clause-count : goal.returns-in_default-last_touched-clause-count
 returns-in_default-last_touched-clause-count c =

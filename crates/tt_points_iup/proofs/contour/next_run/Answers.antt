@@ -1,7 +1,6 @@
 use Rattle.std.proofs.Common.{◌≡◌, ◌∙◌, ◌+◌, ◌<◌, length, drop, get_or, length-drop, sym, arith}
 use Rattle.std.proofs.lemmas.List.{get_or-drop}
 use Rattle.std.proofs.lemmas.Result.{err_from_is_err_and}
-use Rattle.tt_points_zones.specs.Zones.{IsPoint}
 use Rattle.tt_points_iup.proofs.Filled.{blank}
 use Rattle.tt_points_iup.proofs.Runs.{run_finishes, run_finishes_outside, run_reaches, run_reaches_outside}
 use Rattle.tt_points_iup.proofs.contour.next_run.Goals as goal
@@ -15,7 +14,7 @@ returns-in_err-fill-clause-fault c =
     let long : c.untouched-len.result ≡ length old =
     omega (arith, left, c.if-start-len.true, len, c.requires.start) in
     let made = rw (searched.along, searched.unchanged) at c.in_err-fill.ensures.exact in
-    let bad = run_finishes_outside c.args.contour.now.along c.args.before.point c.args.first.point old
+    let bad = run_finishes_outside c.args.contour.now.along c.args.around.before.point c.args.around.after.point old
     c.untouched-len.result c.in_err-fill.field-0.0 long searched.none made in
     let p = err_from_is_err_and c.from_residual.result c.from_residual.ensures.1 in
     rw (p.1, p.2) bad
@@ -34,8 +33,8 @@ returns-then-start-len-clause-run c =
     omega (arith, left, c.if-start-len.true, len, c.requires.start) in
     let same : length new ≡ length old = omega (arith, left, now, many) in
     let made = rw (searched.along, searched.unchanged) at c.in_ok-fill.ensures.exact in
-    run_finishes c.args.contour.now.along c.args.before.point c.args.first.point old new c.untouched-len.result some
-    long same searched.none made c.requires.before
+    run_finishes c.args.contour.now.along c.args.around.before.point c.args.around.after.point old new c.untouched-len.result some
+    long same searched.none made
 
 pub returns-in_err-fill-2-clause-fault : goal.returns-in_err-fill-2-clause-fault
 returns-in_err-fill-2-clause-fault c =
@@ -51,7 +50,7 @@ returns-in_err-fill-2-clause-fault c =
     let last = rw searched.unchanged at (c.at-last.ensures blank) in
     let is : c.at-last.result.point ≡ get_or old n blank = last ∙ sym (get_or-drop start points n blank) in
     let made = rw (searched.along, searched.unchanged) at c.in_err-fill-2.ensures.exact in
-    let bad = run_reaches_outside c.args.contour.now.along c.args.before.point c.args.first.point c.at-last.result.point
+    let bad = run_reaches_outside c.args.contour.now.along c.args.around.before.point c.args.around.after.point c.at-last.result.point
     old n blank c.in_err-fill-2.field-0.0 inside searched.none (searched.end blank far) is made in
     let p = err_from_is_err_and c.from_residual-in_err-fill-2.result c.from_residual-in_err-fill-2.ensures.1 in
     rw (p.1, p.2) bad
@@ -71,7 +70,5 @@ returns-clause-run c =
     let is : c.at-last.result.point ≡ get_or old n blank = last ∙ sym (get_or-drop start points n blank) in
     let made = rw (searched.along, searched.unchanged) at c.in_ok-fill-2.ensures.exact in
     let back = rw searched.unchanged at c.in_ok-fill-2.ensures.back in
-    let valid : IsPoint (get_or old n blank) =
-    rw (get_or-drop start points n blank) (c.requires.points (start + n) blank far) in
-    run_reaches c.args.contour.now.along c.args.before.point c.args.first.point c.at-last.result.point old (drop start
-    c.fill-2.new.contour.points.now) n blank inside searched.none (searched.end blank far) is made back valid
+    run_reaches c.args.contour.now.along c.args.around.before.point c.args.around.after.point c.at-last.result.point old (drop start
+    c.fill-2.new.contour.points.now) n blank inside searched.none (searched.end blank far) is made back

@@ -39,8 +39,6 @@ loop-start-preserved c =
       place = omega (arith, run.bound, length-drop start now, c.loop-start.invariant.many, inside);
       so_far = rw written at far.so_far;
       rest = rw written at far.rest;
-      before = run.valid;
-      valid = c.in_ok-run.ensures.valid;
       many = many ∙ c.loop-start.invariant.many;
       reads = omega (arith, c.loop-start.invariant.reads, c.in_ok-run.ensures.count);
       along = c.in_ok-run.ensures.along ∙ c.loop-start.invariant.along;
@@ -57,4 +55,4 @@ returns-clause-exact c =
     let none = drop_all start old (omega (arith, c.loop-start-test.false, c.len.ensures, c.loop-start.invariant.many)) in
     let is : now ≡ swept along c.args.last.point c.args.first.point old =
     rw (all, none, append-nil now) at c.loop-start.invariant.so_far in
-    rw (← is) (limited_ok along.axis now c.loop-start.invariant.valid)
+    rw (← is) (limited_ok along.axis now c.loop-start.contour.valid)

@@ -1,5 +1,4 @@
-use Rattle.std.proofs.Common.{◌≡◌, ◌+◌, ◌-◌, ◌≤◌, ◌++◌, length, take, drop, All}
-use Rattle.tt_points_zones.specs.Zones.{IsPoint}
+use Rattle.std.proofs.Common.{◌≡◌, ◌+◌, ◌-◌, ◌≤◌, ◌++◌, length, take, drop}
 use Rattle.tt_points_iup.specs.Sweeps.{swept}
 use Rattle.tt_points_iup.proofs.contour.sweep.Given as goal
 
@@ -11,8 +10,6 @@ invariant-loop-start l = record {
       ++ swept l.fn.contour.along l.before.point l.first.point (drop l.start l.fn.contour.points.now)
       ≡ swept l.fn.contour.along l.fn.last.point l.first.point l.fn.contour.points.now;
   rest : drop l.start l.contour.points.now ≡ drop l.start l.fn.contour.points.now;
-  before : IsPoint l.before.point;
-  valid : All IsPoint l.contour.points.now;
   many : length l.contour.points.now ≡ length l.fn.contour.points.now;
   reads : l.contour.reads ≡ l.fn.contour.reads + l.start;
   along : l.contour.along ≡ l.fn.contour.along;

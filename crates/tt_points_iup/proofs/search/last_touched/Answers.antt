@@ -25,7 +25,6 @@ loop-i-preserved c =
             same = rw (w.last-is, found)
                 (sym (last_here axis (point_of c.loop-i.last) points i blank inside here)
                 ∙ c.loop-i.invariant.same);
-            valid = rw (w.last-is, found) (c.requires.points i blank inside);
             asked = omega (arith, asked, c.loop-i.invariant.asked);
             points = same;
             along = along_is;
@@ -36,7 +35,6 @@ loop-i-preserved c =
           record {
             same = rw w.last-is (sym (last_later axis (point_of c.loop-i.last) points i blank inside here)
                 ∙ c.loop-i.invariant.same);
-            valid = rw w.last-is c.loop-i.invariant.valid;
             asked = omega (arith, asked, c.loop-i.invariant.asked);
             points = same;
             along = along_is;

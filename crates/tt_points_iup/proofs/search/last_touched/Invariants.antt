@@ -1,5 +1,4 @@
-use Rattle.std.proofs.Common.{◌≡◌, ◌+◌, None, drop, IfSome}
-use Rattle.tt_points_zones.specs.Zones.{IsPoint}
+use Rattle.std.proofs.Common.{◌≡◌, ◌+◌, None, drop}
 use Rattle.tt_points_iup.specs.Interpolation as is
 use Rattle.tt_points_iup.specs.Positions.{point_of}
 use Rattle.tt_points_iup.proofs.search.last_touched.Given as goal
@@ -9,7 +8,6 @@ abbrev pub invariant-loop-i : goal.invariant-loop-i
 invariant-loop-i l = record {
   same : is.last_touched l.fn.contour.along.axis (point_of l.last) (drop l.i l.fn.contour.points.now)
       ≡ is.last_touched l.fn.contour.along.axis None l.fn.contour.points.now;
-  valid : IfSome l.last (λ p. IsPoint p.point);
   asked : l.contour.reads ≡ l.fn.contour.reads + l.i;
   points : l.contour.points.now ≡ l.fn.contour.points.now;
   along : l.contour.along ≡ l.fn.contour.along;

@@ -1,9 +1,8 @@
-use Rattle.std.proofs.Common.{◌≡◌, ◌+◌, ◌*◌, ◌-◌, ◌/◌, ◌<◌, ◌≤◌, Ok, Err, refl, sym, length, get_or, pos, arith, take_all}
-use Rattle.std.proofs.lemmas.Result.{err_from_is_err_and}
+use Rattle.std.proofs.Common.{◌≡◌, ◌∙◌, ◌+◌, ◌*◌, ◌-◌, ◌/◌, ◌<◌, ◌≤◌, Ok, Err, refl, sym, length, get_or, pos, arith, take_all}
 use Rattle.tt_points_zones.specs.Zones.{zones_view}
 use Rattle.tt_points_loops.specs.Deltas.{except, pairs_of}
 use Rattle.tt_points_loops.specs.Series.{passing_over}
-use Rattle.tt_points_loops.specs.Turns.{went_on, broke_off, pairs_count, pair_at}
+use Rattle.tt_points_loops.specs.Turns.{went_on, broke_off, pairs_count}
 use Rattle.tt_points_loops.proofs.deltas.deltap.Goals as goal
 
 pub loop-i-init : goal.loop-i-init
@@ -12,37 +11,54 @@ loop-i-init c =
     let few : length (pairs_of c.args.pairs.now) ≤ length c.args.pairs.now / 2 = omega (arith, pairs_count pairs) in
     record { same = rw (take_all (length pairs / 2) (pairs_of pairs) few) refl; zones = c.requires.zones }
 
-pub loop-i-preserved : goal.loop-i-preserved
-loop-i-preserved c =
+pub loop-i-preserved-in-Ok : goal.loop-i-preserved-in-Ok
+loop-i-preserved-in-Ok c =
+    let by = c.args.by in
     let pairs = c.args.pairs.now in
     let i = c.loop-i.i - 1 in
     let left : c.loop-i.i ≡ c.loop-i.i - 1 + 1 = omega arith in
     let there : c.loop-i.i - 1 < length (pairs_of c.args.pairs.now) = omega (arith, pairs_count c.args.pairs.now) in
-    let inside : 2 * (c.loop-i.i - 1) + 1 < length c.args.pairs.now = omega arith in
-    let step = passing_over c.args.tolerance (except c.args.tolerance c.args.range c.args.ppem c.args.state.now) in
+    let step = passing_over by.tolerance (except by.tolerance by.range by.ppem c.args.state.now) in
     let came : step (get_or (pairs_of pairs) i (pos 0, pos 0)) (zones_view c.loop-i.zones)
-    ≡ Ok (zones_view c.except_or_pass.new.zones) =
-    rw (pair_at pairs i inside) c.in_ok-except_or_pass.ensures.exact in
+    ≡ Ok (zones_view c.except.new.zones) =
+    rw (← c.pair_at.ensures, c.in-Ok.ensures.exact) refl in
     record {
       same = went_on step (pairs_of pairs) c.loop-i.i i (pos 0, pos 0) _ _ _
           left there c.loop-i.invariant.same came;
-      zones = c.in_ok-except_or_pass.ensures.zones;
+      zones = c.in-Ok.ensures.zones;
     }
 
-pub returns-in_err-except_or_pass-clause-exact : goal.returns-in_err-except_or_pass-clause-exact
-returns-in_err-except_or_pass-clause-exact c =
+pub loop-i-preserved-then-passes_over : goal.loop-i-preserved-then-passes_over
+loop-i-preserved-then-passes_over c =
+    let by = c.args.by in
     let pairs = c.args.pairs.now in
     let i = c.loop-i.i - 1 in
     let left : c.loop-i.i ≡ c.loop-i.i - 1 + 1 = omega arith in
     let there : c.loop-i.i - 1 < length (pairs_of c.args.pairs.now) = omega (arith, pairs_count c.args.pairs.now) in
-    let inside : 2 * (c.loop-i.i - 1) + 1 < length c.args.pairs.now = omega arith in
-    let step = passing_over c.args.tolerance (except c.args.tolerance c.args.range c.args.ppem c.args.state.now) in
-    let came : step (get_or (pairs_of pairs) i (pos 0, pos 0)) (zones_view c.loop-i.zones) ≡ Err _ =
-    rw (pair_at pairs i inside) c.in_err-except_or_pass.ensures.exact in
-    let e = err_from_is_err_and c.from_residual.result c.from_residual.ensures.1 in
-    let whole = broke_off step (pairs_of pairs) c.loop-i.i i (pos 0, pos 0) _ _ _
-    left there c.loop-i.invariant.same came in
-    rw (e.1, e.2) whole
+    let step = passing_over by.tolerance (except by.tolerance by.range by.ppem c.args.state.now) in
+    let over = sym c.passes_over.ensures ∙ c.if-passes_over.true in
+    let came : step (get_or (pairs_of pairs) i (pos 0, pos 0)) (zones_view c.loop-i.zones)
+    ≡ Ok (zones_view c.except.new.zones) =
+    rw (← c.pair_at.ensures, c.in-Err.ensures.exact, over, c.in-Err.ensures.kept) refl in
+    record {
+      same = went_on step (pairs_of pairs) c.loop-i.i i (pos 0, pos 0) _ _ _
+          left there c.loop-i.invariant.same came;
+      zones = c.in-Err.ensures.zones;
+    }
+
+pub returns-else-passes_over-clause-exact : goal.returns-else-passes_over-clause-exact
+returns-else-passes_over-clause-exact c =
+    let by = c.args.by in
+    let pairs = c.args.pairs.now in
+    let i = c.loop-i.i - 1 in
+    let left : c.loop-i.i ≡ c.loop-i.i - 1 + 1 = omega arith in
+    let there : c.loop-i.i - 1 < length (pairs_of c.args.pairs.now) = omega (arith, pairs_count c.args.pairs.now) in
+    let step = passing_over by.tolerance (except by.tolerance by.range by.ppem c.args.state.now) in
+    let stays = sym c.passes_over.ensures ∙ c.if-passes_over.false in
+    let came : step (get_or (pairs_of pairs) i (pos 0, pos 0)) (zones_view c.loop-i.zones) ≡ Err c.in-Err.why =
+    rw (← c.pair_at.ensures, c.in-Err.ensures.exact, stays) refl in
+    broke_off step (pairs_of pairs) c.loop-i.i i (pos 0, pos 0) _ _ _
+    left there c.loop-i.invariant.same came
 
 pub returns-clause-exact : goal.returns-clause-exact
 returns-clause-exact c =
