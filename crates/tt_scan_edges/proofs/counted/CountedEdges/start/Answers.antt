@@ -1,13 +1,13 @@
-use Rattle.std.proofs.Common.{SFits, w64}
-use Rattle.std.proofs.lemmas.Int.{to_z-of_z}
 use Rattle.tt_scan_edges.proofs.counted.CountedEdges.start.Goals as goal
 
+pub new-requires-clause-sloped : goal.new-requires-clause-sloped
+new-requires-clause-sloped c = rw c.edge-edge.ensures.exact c.requires.sloped
+
+pub new-requires-clause-met : goal.new-requires-clause-met
+new-requires-clause-met c = rw c.edge-edge.ensures.exact c.requires.met
+
 pub returns-clause-walk : goal.returns-clause-walk
-returns-clause-walk c =
-    let y : SFits w64 c.args.y = c.ranges.y in
-    rw c.edge-edge.ensures at (simp to_z-of_z at c.new.ensures.walk)
+returns-clause-walk c = rw c.edge-edge.ensures.exact at c.new.ensures.walk
 
 pub returns-clause-exact : goal.returns-clause-exact
-returns-clause-exact c =
-    let y : SFits w64 c.args.y = c.ranges.y in
-    rw c.edge-edge.ensures at (simp to_z-of_z at c.new.ensures.exact)
+returns-clause-exact c = rw c.edge-edge.ensures.exact at c.new.ensures.exact

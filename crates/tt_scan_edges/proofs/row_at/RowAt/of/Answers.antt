@@ -1,7 +1,7 @@
 use Rattle.std.proofs.Common.{◌≡◌, refl, to_z, of_z, SFits, w32, w64, rules, arith}
 use Rattle.std.proofs.lemmas.Int.{ints, to_z-of_z}
 use Rattle.tt_scan_edges.specs.Winding.{FrameFits, row_y}
-use Rattle.tt_scan.proofs.row_at.RowAt.of.Goals as goal
+use Rattle.tt_scan_edges.proofs.row_at.RowAt.of.Goals as goal
 
 pub invariant_of-result-clause-low : goal.invariant_of-result-clause-low
 invariant_of-result-clause-low c =

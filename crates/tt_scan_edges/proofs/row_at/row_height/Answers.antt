@@ -1,6 +1,6 @@
 use Rattle.std.proofs.Common.{◌+ℤ◌, ◌-ℤ◌, ◌*ℤ◌, pos, SFits, w64, w32, refl, rules, arith}
 use Rattle.std.proofs.lemmas.Int.{ints, to_z-of_z}
-use Rattle.tt_scan_edges.proofs.crossing.row_height.Goals as goal
+use Rattle.tt_scan_edges.proofs.row_at.row_height.Goals as goal
 
 pub returns-clause-exact : goal.returns-clause-exact
 returns-clause-exact c =
