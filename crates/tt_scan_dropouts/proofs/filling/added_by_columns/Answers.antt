@@ -8,15 +8,15 @@ use Rattle.tt_scan_dropouts.proofs.filling.added_by_columns.Goals as goal
 
 pub returns-then-not-some : goal.returns-then-not-some
 returns-then-not-some c = λ p j.
-    let es = map turned_round c.args.edges.now in
-    let ends = ends_turned c.args.edges.now c.args.ends.now c.requires.ends in
-    let none = c.requires.some c.if-not-some.true in
-    rw c.new.ensures.items (sym (nothing_added c.args.rules (is_black_by over.Columns c.args.ink.now) es c.args.ends.now
+    let es = map turned_round c.args.contours.edges.now in
+    let ends = ends_turned c.args.contours.edges.now c.args.contours.ends.now c.args.contours.are_ends in
+    let none = c.requires c.if-not-some.true in
+    rw c.new.ensures.items (sym (nothing_added c.args.rules (is_black_by over.Columns c.args.ink.now) es c.args.contours.ends.now
     ends none p j))
 
 pub pass_over-requires-clause-edges : goal.pass_over-requires-clause-edges
 pass_over-requires-clause-edges c =
-    rw (c.deref.ensures.value, c.in_ok-turned.ensures) (fits_turned c.args.edges.now c.requires.edges)
+    rw (c.deref.ensures.value, c.in_ok-turned.ensures) (fits_turned c.args.contours.edges.now c.args.contours.fit)
 
 pub returns : goal.returns
 returns c = simp (c.deref.ensures.value, c.in_ok-turned.ensures) at c.pass_over.ensures

@@ -6,6 +6,6 @@ use Rattle.tt_scan_dropouts.proofs.filling.added_by_rows.Goals as goal
 
 pub returns-then-not-some : goal.returns-then-not-some
 returns-then-not-some c = λ p j.
-    let none = c.requires.some c.if-not-some.true in
-    rw c.new.ensures.items (sym (nothing_added c.args.rules (is_black_by over.Rows c.args.ink.now) c.args.edges.now
-    c.args.ends.now c.requires.ends none p j))
+    let none = c.requires c.if-not-some.true in
+    rw c.new.ensures.items (sym (nothing_added c.args.rules (is_black_by over.Rows c.args.ink.now) c.args.contours.edges.now
+    c.args.contours.ends.now c.args.contours.are_ends none p j))

@@ -8,13 +8,13 @@ use Rattle.tt_scan_dropouts.specs.Windows.{is_black_by}
 use Rattle.tt_scan_gaps.proofs.GapMarks.{no_mark}
 use Rattle.tt_scan_dropouts.proofs.PassSteps.{all_added, asked_near, unasked}
 use Rattle.tt_scan_dropouts.proofs.PassGroups.{added_asked, added_unasked, gives_way_is, group_asks, last_asked, last_unasked}
-use Rattle.tt_scan_dropouts.proofs.pass.pass.Goals as goal
+use Rattle.tt_scan_dropouts.proofs.pass.added_by.Goals as goal
 
 pub loop-start-preserved-in_ok-grant : goal.loop-start-preserved-in_ok-grant
 loop-start-preserved-in_ok-grant c =
-    let how = c.args.rules in
+    let how = c.args.pass.rules in
     let box = c.args.columns in
-    let black = is_black_by c.args.over c.args.ink.now in
+    let black = is_black_by c.args.pass.over c.args.pass.ink.now in
     let ms = c.args.marks.now in
     let ask = asked how box ms black in
     let start = c.loop-start.start in
@@ -48,9 +48,9 @@ loop-start-preserved-in_ok-grant c =
 
 pub loop-start-preserved : goal.loop-start-preserved
 loop-start-preserved c =
-    let how = c.args.rules in
+    let how = c.args.pass.rules in
     let box = c.args.columns in
-    let black = is_black_by c.args.over c.args.ink.now in
+    let black = is_black_by c.args.pass.over c.args.pass.ink.now in
     let ms = c.args.marks.now in
     let ask = asked how box ms black in
     let start = c.loop-start.start in
@@ -69,5 +69,5 @@ loop-start-preserved c =
 
 pub returns : goal.returns
 returns c = λ p j. c.loop-start.invariant.added p j
-    ∙ all_added c.args.rules c.args.columns c.args.marks.now (is_black_by c.args.over c.args.ink.now)
+    ∙ all_added c.args.pass.rules c.args.columns c.args.marks.now (is_black_by c.args.pass.over c.args.pass.ink.now)
     c.loop-start.start p j c.loop-start-test.false
