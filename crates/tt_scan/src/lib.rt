@@ -25,6 +25,7 @@ mod rows;
 mod stamp;
 mod sweep;
 mod tape;
+mod word;
 
 pub use bytes::blacken;
 pub use edge_list::EdgeList;

@@ -16,10 +16,10 @@ pub returns-then-at-inside-clause-bits : goal.returns-then-at-inside-clause-bits
 returns-then-at-inside-clause-bits c = λ on k.
     let s = c.args.stamp in
     let pen : c.from.result ≡ pos c.args.pen = c.from.ensures in
-    let low : SFits w64 s.low = omega (arith, ints, c.requires.stamp.low) in
+    let low : SFits w64 s.low = omega (arith, ints, c.args.stamp.near) in
     let of_pen : SFits w64 (pos c.args.pen) = search rules in
     let inside : SFits w64 c.args.inside = search rules in
-    let sum : SFits w64 (s.low +ℤ pos c.args.pen) = omega (arith, ints, c.requires.stamp.low, c.ranges.pen.fits) in
+    let sum : SFits w64 (s.low +ℤ pos c.args.pen) = omega (arith, ints, c.args.stamp.near, c.ranges.pen.fits) in
     let tests = simp to_z-of_z at (rw pen at c.if-at-inside.true) in
     let painted = simp to_z-of_z at (rw pen at (c.or_inside.ensures.bits k)) in
     painted
