@@ -3,6 +3,7 @@
 ghost use Rattle.std.specs.Prelude.{◌≡◌, ℕ, ℤ, ◌+◌, ◌-◌, ◌*◌, ◌/◌, ◌%◌, ◌^◌, ◌<◌, ◌≤◌, ◌+ℤ◌, ◌-ℤ◌, ◌<ℤ◌, ◌≤ℤ◌, ◌&&◌, ◌||◌, ◌==◌, true, false, nat_le, nat_lt, int_le, pos, [], ◌∷◌, length, take, slice_index, unsigned_abs, IfSome};
 ghost use Rattle.std.specs.Int.{bit_at};
 ghost use Rattle.tt_core.specs.Bits.{bit};
+ghost use Rattle.tt_scan.specs.Blackened.{IsBlackened};
 ghost use Rattle.tt_scan_edges.specs.Marks.{covers, covers_from};
 ghost use Rattle.tt_scan.specs.Stamps.{in_word, shows, IsStampOf};
 
@@ -33,8 +34,7 @@ fn word_byte(word: u64, by: usize) -> u8
 #[inline(always)]
 fn or_byte(row: &mut [u8], byte: usize, mask: u8)
     requires { byte < length row.old }
-    ensures bits { (k : ℕ) → bit row.new k ≡ (bit row.old k || ((k / 8 == byte) && (bit_at mask (7 - k % 8) == 1))) }
-    ensures len { length row.new ≡ length row.old }
+    ensures { IsBlackened (λ k. (k / 8 == byte) && (bit_at mask (7 - k % 8) == 1)) row.old row.new }
 {
     row[byte] |= mask;
 }
@@ -44,8 +44,7 @@ fn or_byte(row: &mut [u8], byte: usize, mask: u8)
 #[inline(never)]
 fn or_bytes(row: &mut [u8], at: usize, stamp: Stamp)
     requires within { at + stamp.columns ≤ 8 * length row.old }
-    ensures bits { (k : ℕ) → bit row.new k ≡ (bit row.old k || (nat_le at k && in_word stamp.word (k - at))) }
-    ensures len { length row.new ≡ length row.old }
+    ensures { IsBlackened (λ k. nat_le at k && in_word stamp.word (k - at)) row.old row.new }
 {
     let start = at / 8;
     let by = 56 + at % 8;
@@ -77,9 +76,8 @@ fn write_eight(row: &mut [u8], start: usize, eight: u64)
 #[inline(always)]
 fn or_eight(row: &mut [u8], start: usize, word: u64)
     requires { start + 8 ≤ length row.old }
-    ensures bits { (k : ℕ) → bit row.new k ≡ (bit row.old k
-        || ((nat_le (8 * start) k && nat_lt k (8 * start + 64)) && (bit_at word (63 - (k - 8 * start)) == 1))) }
-    ensures len { length row.new ≡ length row.old }
+    ensures { IsBlackened (λ k. (nat_le (8 * start) k && nat_lt k (8 * start + 64))
+        && (bit_at word (63 - (k - 8 * start)) == 1)) row.old row.new }
 {
     let old = read_eight(row, start);
     write_eight(row, start, old | word.swap_bytes());
@@ -89,8 +87,7 @@ fn or_eight(row: &mut [u8], start: usize, word: u64)
 #[inline(always)]
 fn or_word(row: &mut [u8], at: usize, stamp: Stamp)
     requires within { at + stamp.columns ≤ 8 * length row.old }
-    ensures bits { (k : ℕ) → bit row.new k ≡ (bit row.old k || (nat_le at k && in_word stamp.word (k - at))) }
-    ensures len { length row.new ≡ length row.old }
+    ensures { IsBlackened (λ k. nat_le at k && in_word stamp.word (k - at)) row.old row.new }
 {
     if row.len() < 8 {
         or_bytes(row, at, stamp);
@@ -107,8 +104,7 @@ fn or_word(row: &mut [u8], at: usize, stamp: Stamp)
 fn or_inside(row: &mut [u8], at: usize, stamp: Stamp)
     requires within { at + stamp.columns ≤ 8 * length row.old }
     requires inside { at / 8 + 8 ≤ length row.old }
-    ensures bits { (k : ℕ) → bit row.new k ≡ (bit row.old k || (nat_le at k && in_word stamp.word (k - at))) }
-    ensures len { length row.new ≡ length row.old }
+    ensures { IsBlackened (λ k. nat_le at k && in_word stamp.word (k - at)) row.old row.new }
 {
     or_eight(row, at / 8, stamp.word >> (at % 8));
 }
@@ -215,9 +211,8 @@ fn paint_fit(
     requires low { pos 0 ≤ℤ inside }
     requires inside { (at : ℕ) → pos at <ℤ inside → at + 64 ≤ width }
     requires width { width ≤ 8 * length row.old }
-    ensures bits { result ≡ true → (k : ℕ) → bit row.new k ≡ (bit row.old k || (nat_lt k width && covers spans.now (pos k -ℤ pos pen))) }
+    ensures painted { result ≡ true → IsBlackened (λ k. nat_lt k width && covers spans.now (pos k -ℤ pos pen)) row.old row.new }
     ensures none { result ≡ false → row.new ≡ row.old }
-    ensures len { length row.new ≡ length row.old }
 {
     let at = stamp.low + i64::from(pen);
     if (0 <= at) & (at < inside) {
@@ -240,8 +235,7 @@ pub(crate) fn paint_stamp(stamp: Stamp, spans: &[Span], shift: i64, width: u32, 
     requires stamp { IsStampOf spans.now stamp }
     requires shift { unsigned_abs shift < 2 ^ 40 }
     requires width { width ≤ 8 * length row.old }
-    ensures bits { (k : ℕ) → bit row.new k ≡ (bit row.old k || (nat_lt k width && covers spans.now (pos k -ℤ shift))) }
-    ensures len { length row.new ≡ length row.old }
+    ensures { IsBlackened (λ k. nat_lt k width && covers spans.now (pos k -ℤ shift)) row.old row.new }
 {
     match place_of(stamp, shift, width) {
         Some(at) => or_word(row, at, stamp),
@@ -255,8 +249,7 @@ pub(crate) fn paint_stamp(stamp: Stamp, spans: &[Span], shift: i64, width: u32, 
 fn paint_fitting(stamp: Stamp, spans: &[Span], pens: &[u32], width: u32, row: &mut [u8]) -> usize
     requires stamp { IsStampOf spans.now stamp }
     requires width { width ≤ 8 * length row.old }
-    ensures bits { (k : ℕ) → bit row.new k ≡ (bit row.old k || (nat_lt k width && covers_from spans.now (take result pens.now) k)) }
-    ensures len { length row.new ≡ length row.old }
+    ensures painted { IsBlackened (λ k. nat_lt k width && covers_from spans.now (take result pens.now) k) row.old row.new }
     ensures within { result ≤ length pens.now }
 {
     if row.len() < 8 {
@@ -276,8 +269,7 @@ fn paint_fitting(stamp: Stamp, spans: &[Span], pens: &[u32], width: u32, row: &m
 fn paint_stamps(stamp: Stamp, spans: &[Span], pens: &[u32], width: u32, row: &mut [u8])
     requires stamp { IsStampOf spans.now stamp }
     requires width { width ≤ 8 * length row.old }
-    ensures bits { (k : ℕ) → bit row.new k ≡ (bit row.old k || (nat_lt k width && covers_from spans.now pens.now k)) }
-    ensures len { length row.new ≡ length row.old }
+    ensures { IsBlackened (λ k. nat_lt k width && covers_from spans.now pens.now k) row.old row.new }
 {
     let done = paint_fitting(stamp, spans, pens, width, row);
     if done < pens.len() {
@@ -306,8 +298,7 @@ fn stamp_of(span: Span) -> Option<Stamp>
 #[inline(always)]
 fn paint_one(span: Span, pens: &[u32], width: u32, row: &mut [u8])
     requires width { width ≤ 8 * length row.old }
-    ensures bits { (k : ℕ) → bit row.new k ≡ (bit row.old k || (nat_lt k width && covers_from (span ∷ []) pens.now k)) }
-    ensures len { length row.new ≡ length row.old }
+    ensures { IsBlackened (λ k. nat_lt k width && covers_from (span ∷ []) pens.now k) row.old row.new }
 {
     match stamp_of(span) {
         Some(stamp) => paint_stamps(stamp, &[span], pens, width, row),
@@ -318,8 +309,7 @@ fn paint_one(span: Span, pens: &[u32], width: u32, row: &mut [u8])
 /// Blackens the columns of all spans from each pen, span by span.
 fn paint_each(spans: &[Span], pens: &[u32], width: u32, row: &mut [u8])
     requires width { width ≤ 8 * length row.old }
-    ensures bits { (k : ℕ) → bit row.new k ≡ (bit row.old k || (nat_lt k width && covers_from spans.now pens.now k)) }
-    ensures len { length row.new ≡ length row.old }
+    ensures { IsBlackened (λ k. nat_lt k width && covers_from spans.now pens.now k) row.old row.new }
 {
     for i in 0..spans.len() {
         paint_one(spans[i], pens, width, row);
@@ -337,8 +327,7 @@ pub(crate) fn paint_from(
 )
     requires stamp { IfSome stamp (IsStampOf spans.now) }
     requires width { width ≤ 8 * length row.old }
-    ensures bits { (k : ℕ) → bit row.new k ≡ (bit row.old k || (nat_lt k width && covers_from spans.now pens.now k)) }
-    ensures len { length row.new ≡ length row.old }
+    ensures { IsBlackened (λ k. nat_lt k width && covers_from spans.now pens.now k) row.old row.new }
 {
     match stamp {
         Some(stamp) => paint_stamps(stamp, spans, pens, width, row),

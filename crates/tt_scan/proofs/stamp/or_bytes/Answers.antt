@@ -17,6 +17,9 @@ loop-i-preserved c = record {
   len = search rules;
 }
 
-pub returns-clause-bits : goal.returns-clause-bits
-returns-clause-bits c = λ k.
-    word_end (bit c.args.row.now k) (bit c.loop-i.row k) c.args.stamp.word c.args.stamp.columns c.args.at c.loop-i.i k c.args.stamp.narrow c.args.stamp.free (omega (arith, c.loop-i-test.false)) (c.loop-i.invariant.bits k)
+pub returns : goal.returns
+returns c = record {
+  bits = λ k.
+      word_end (bit c.args.row.now k) (bit c.loop-i.row k) c.args.stamp.word c.args.stamp.columns c.args.at c.loop-i.i k c.args.stamp.narrow c.args.stamp.free (omega (arith, c.loop-i-test.false)) (c.loop-i.invariant.bits k);
+  len = c.loop-i.invariant.len;
+}
