@@ -89,51 +89,45 @@ fn some_in_free_gap(rules: Rules, ink: &Bitmap, edges: &[Edge]) -> (bool, bool)
     (rows, columns)
 }
 
-/// The pixels that the pass over the rows adds; none where no edge makes a mark in a free gap. Error: memory ran out.
-fn added_by_rows(
+/// The pixels that a pass adds; none where no edge makes a mark in a free gap. Error: memory ran out.
+fn added(
     alloc: Global,
-    rules: Rules,
-    ink: &Bitmap,
+    pass: Pass,
     some: bool,
     contours: Contours,
 ) -> Result<Vec<Pixel>, AllocError>
-    requires { some ≡ false
-        → list_any (is_in_free_gap rules.stubs (is_black_by over.Rows ink.now)) contours.edges.now ≡ false }
-    ensures { IfOk result (λ v. (p j : ℤ) → has_pixel v.items p j
-        ≡ row_adds rules (contours_at contours.edges.now contours.ends.now) (is_black_by over.Rows ink.now) p j) }
+    requires { some ≡ false → list_any (is_in_free_gap pass.rules.stubs (is_black_by pass.over pass.ink.now))
+        contours.edges.now ≡ false }
+    ensures { IfOk result (λ v. (p j : ℤ) → has_pixel v.items p j ≡ row_adds pass.rules
+        (contours_at contours.edges.now contours.ends.now) (is_black_by pass.over pass.ink.now) p j) }
 {
     if !some {
         return Ok(Vec::new(alloc));
     }
-    let over = Over::Rows;
-    pass_over(alloc, Pass { rules, over, ink }, contours)
+    pass_over(alloc, pass, contours)
 }
 
-/// The pixels that the pass over the columns adds, with column and row exchanged; none where no edge makes a mark in a
-/// free gap. Error: memory ran out.
-fn added_by_columns(
+/// `added` for contours with x and y exchanged, which take memory only where the pass is needed.
+fn added_turned(
     alloc: Global,
-    rules: Rules,
-    ink: &Bitmap,
+    pass: Pass,
     some: bool,
     contours: Contours,
 ) -> Result<Vec<Pixel>, AllocError>
-    requires { some ≡ false → list_any (is_in_free_gap rules.stubs (is_black_by over.Columns ink.now))
+    requires { some ≡ false → list_any (is_in_free_gap pass.rules.stubs (is_black_by pass.over pass.ink.now))
         (map turned_round contours.edges.now) ≡ false }
-    ensures { IfOk result (λ v. (p j : ℤ) → has_pixel v.items p j
-        ≡ row_adds rules (contours_at (map turned_round contours.edges.now) contours.ends.now)
-        (is_black_by over.Columns ink.now) p j) }
+    ensures { IfOk result (λ v. (p j : ℤ) → has_pixel v.items p j ≡ row_adds pass.rules
+        (contours_at (map turned_round contours.edges.now) contours.ends.now) (is_black_by pass.over pass.ink.now) p j) }
 {
     if !some {
         return Ok(Vec::new(alloc));
     }
     let turned = all_turned_round(alloc, contours.edges)?;
-    let over = Over::Columns;
     let contours = Contours {
         edges: &turned,
         ends: contours.ends,
     };
-    pass_over(alloc, Pass { rules, over, ink }, contours)
+    pass_over(alloc, pass, contours)
 }
 
 /// The pixel of a pass, by its column and its row.
@@ -194,10 +188,20 @@ pub fn dropouts(alloc: Global, glyph: Outlined, window: Window) -> Result<Vec<Pi
     };
     let mut ink = Bitmap::inked(alloc, glyph.tape, widened(part))?;
     let (some_by_rows, some_by_columns) = some_in_free_gap(glyph.rules, &ink, contours.edges);
-    let by_rows = added_by_rows(alloc, glyph.rules, &ink, some_by_rows, contours)?;
+    let rows = Pass {
+        rules: glyph.rules,
+        over: Over::Rows,
+        ink: &ink,
+    };
+    let by_rows = added(alloc, rows, some_by_rows, contours)?;
     // The pixels that are black now make no further gap free, so the test by columns remains true.
     ink.blacken_all(&by_rows);
-    let by_columns = added_by_columns(alloc, glyph.rules, &ink, some_by_columns, contours)?;
+    let columns = Pass {
+        rules: glyph.rules,
+        over: Over::Columns,
+        ink: &ink,
+    };
+    let by_columns = added_turned(alloc, columns, some_by_columns, contours)?;
     let mut found = Vec::new(alloc);
     push_within(&mut found, part, Over::Rows, &by_rows)?;
     push_within(&mut found, part, Over::Columns, &by_columns)?;

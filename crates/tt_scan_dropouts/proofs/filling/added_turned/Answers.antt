@@ -1,17 +1,16 @@
 use Rattle.std.proofs.Common.{map, sym}
 use Rattle.tt_scan_gaps.specs.Seen.{turned_round}
 use Rattle.tt_scan_dropouts.specs.Windows.{is_black_by}
-use Rattle.tt_scan_gaps.specs.declared.seen.Over.TheVariants as over
 use Rattle.tt_scan_dropouts.proofs.NoFreeGap.{nothing_added}
 use Rattle.tt_scan_dropouts.proofs.Outlines.{ends_turned, fits_turned}
-use Rattle.tt_scan_dropouts.proofs.filling.added_by_columns.Goals as goal
+use Rattle.tt_scan_dropouts.proofs.filling.added_turned.Goals as goal
 
 pub returns-then-not-some : goal.returns-then-not-some
 returns-then-not-some c = λ p j.
     let es = map turned_round c.args.contours.edges.now in
     let ends = ends_turned c.args.contours.edges.now c.args.contours.ends.now c.args.contours.are_ends in
     let none = c.requires c.if-not-some.true in
-    rw c.new.ensures.items (sym (nothing_added c.args.rules (is_black_by over.Columns c.args.ink.now) es c.args.contours.ends.now
+    rw c.new.ensures.items (sym (nothing_added c.args.pass.rules (is_black_by c.args.pass.over c.args.pass.ink.now) es c.args.contours.ends.now
     ends none p j))
 
 pub pass_over-requires-clause-edges : goal.pass_over-requires-clause-edges
