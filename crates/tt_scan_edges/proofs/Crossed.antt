@@ -1,5 +1,5 @@
 -- What the crossing of an edge leaves in a row.
-use Rattle.std.proofs.Common.{◌≡◌, ◌∙◌, ap, sym, Bool, not, ◌∷◌, length, List, refl, ℕ, ◌+◌, ◌≤◌, ◌||◌, [], ℤ, pos, arith}
+use Rattle.std.proofs.Common.{◌≡◌, ◌∙◌, ap, sym, Bool, not, ◌∷◌, length, List, refl, ℕ, ◌||◌, [], ℤ, arith}
 use Rattle.std.specs.List.Sorted.{IsPermutation}
 use Rattle.tt_scan_edges.specs.declared.edge.Cross.{Cross}
 use Rattle.tt_scan_edges.specs.declared.edge.Edge.{Edge}

@@ -1,7 +1,7 @@
 use Rattle.std.proofs.Common.{pos, negsuc, SFits, w64, rules, arith}
 use Rattle.std.proofs.lemmas.Int.{ints, to_z-of_z}
 use Rattle.tt_scan_edges.proofs.Orders.{reached}
-use Rattle.tt_scan.proofs.Stamped.{nothing_free, span_alone}
+use Rattle.tt_scan.proofs.Stamped.{span_alone}
 use Rattle.tt_scan.proofs.stamp.stamp_of.Goals as goal
 
 pub invariant_of-start-clause-near : goal.invariant_of-start-clause-near

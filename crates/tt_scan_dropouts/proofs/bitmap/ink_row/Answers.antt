@@ -1,10 +1,10 @@
-use Rattle.std.proofs.Common.{◌≡◌, ◌≤◌, ◌∙◌, ap, refl, ℕ, Bool, ◌||◌, ◌&&◌, ◌+◌, ◌-◌, ◌*◌, nat_lt, pos, ◌+ℤ◌, ◌-ℤ◌, length, drop, SFits, w32, w64, rules, arith}
+use Rattle.std.proofs.Common.{◌≡◌, ◌≤◌, ◌∙◌, ap, refl, ℕ, Bool, ◌||◌, ◌+◌, ◌-◌, ◌*◌, pos, ◌+ℤ◌, ◌-ℤ◌, length, drop, SFits, w32, w64, rules, arith}
 use Rattle.std.proofs.lemmas.Int.{ints, to_z-of_z}
 use Rattle.std.proofs.lemmas.List.{length-drop, length-take-le}
 use Rattle.tt_core.specs.Bits.{bit, stride}
 use Rattle.tt_scan_edges.specs.Winding.{FrameFits, is_black, row_y}
 use Rattle.tt_scan_gaps.specs.Crossings.{centre}
-use Rattle.tt_scan_dropouts.specs.Windows.{first_row, row_from_top}
+use Rattle.tt_scan_dropouts.specs.Windows.{first_row}
 use Rattle.tt_scan_dropouts.proofs.Inked.{has_row_of, met_few, row_inked, row_painted}
 use Rattle.tt_scan_dropouts.proofs.Places.{row_within}
 use Rattle.tt_scan_dropouts.proofs.bitmap.ink_row.Goals as goal

@@ -1,4 +1,4 @@
-use Rattle.std.proofs.Common.{SFits, w64, arith}
+use Rattle.std.proofs.Common.{arith}
 use Rattle.std.proofs.lemmas.Int.{ints, to_z-of_z}
 use Rattle.tt_scan_edges.proofs.Crosses.{from_lower, to_upper, from_lower_turned, to_upper_turned, level_here}
 use Rattle.tt_scan_edges.proofs.crossing.crossing_met.Goals as goal

@@ -1,4 +1,4 @@
-use Rattle.std.proofs.Common.{◌≡◌, ◌∙◌, sym, not, true, false, SFits, w32, arith}
+use Rattle.std.proofs.Common.{◌≡◌, ◌∙◌, sym, true, false, SFits, w32, arith}
 use Rattle.std.proofs.lemmas.Int.{ints, to_z-of_z}
 use Rattle.tt_scan_gaps.specs.BothWays.{is_black_seen}
 use Rattle.tt_scan_gaps.specs.Crossings.{is_rising}

@@ -1,4 +1,4 @@
-use Rattle.std.proofs.Common.{◌≡◌, ◌+◌, ◌*◌, ◌<◌, ◌≤◌, ◌-ℤ◌, ◌+ℤ◌, pos, false, length, unsigned_abs, ℤ, SFits, w32, refl, rules, arith}
+use Rattle.std.proofs.Common.{◌≡◌, ◌+◌, ◌≤◌, ◌-ℤ◌, ◌+ℤ◌, pos, false, length, unsigned_abs, ℤ, SFits, w32, refl, rules, arith}
 use Rattle.std.proofs.lemmas.Int.{to_z-of_z}
 use Rattle.tt_scan_edges.specs.Crossing.{has_row}
 use Rattle.tt_scan_edges.specs.Winding.{is_black}
