@@ -1,5 +1,4 @@
 -- No part of the standard: the edges of an outline's contours, which lie one after the other.
-use Rattle.std.specs.Coded.{Coded-set, coded_ℕ, le_prop, ×_prop}
 use Rattle.std.specs.Prelude.{◌≡◌, ℕ, ◌≤◌, List, [], ◌∷◌}
 use Rattle.std.specs.List.{slice_range}
 use Rattle.tt_scan_edges.specs.declared.edge.Edge.{Edge}
@@ -20,11 +19,6 @@ AreEndsFrom from count (end ∷ ends) = (from ≤ end) × AreEndsFrom end count 
 
 abbrev pub AreEnds : ℕ → List ℕ → Type 0
 AreEnds count ends = AreEndsFrom 0 count ends
-
--- the fact has one proof at most, so a struct may keep it
-pub AreEnds-prop : (from count : ℕ) (ends : List ℕ) → IsProp (AreEndsFrom from count ends)
-AreEnds-prop from count [] = Coded-set coded_ℕ from count
-AreEnds-prop from count (end ∷ ends) = ×_prop le_prop (AreEnds-prop end count ends)
 
 -- one edge ends where another begins
 abbrev pub Meets : Edge → Edge → Type 0

@@ -1,8 +1,9 @@
 //! The contours of an outline.
 
 ghost use Rattle.std.specs.Prelude.{◌≡◌, ◌^◌, ◌≤◌, length, All};
-ghost use Rattle.tt_scan.specs.Contours.{AreEnds, AreEnds-prop};
+ghost use Rattle.tt_scan.specs.Contours.{AreEnds};
 ghost use Rattle.tt_scan_edges.specs.Winding.{EdgeFits};
+ghost use Rattle.tt_scan_dropouts.specs.Ends.{AreEnds-prop};
 
 use tt_scan::{Edge, Tape};
 use tt_scan_gaps::Rules;

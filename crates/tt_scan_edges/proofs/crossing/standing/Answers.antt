@@ -37,6 +37,7 @@ number_is : (c : goal.After-divided) → number c ≡ number_at c.args.up.edge c
 number_is c =
     let ax : SFits w32 c.args.up.edge.ax = search rules in
     let ay : SFits w32 c.args.up.edge.ay = search rules in
+    let y : SFits w64 c.args.at.y = search rules in
     let p : Computed c.args.up.edge c.args.at.y =
     computed c.args.up.edge c.args.at.y c.args.up.fits c.args.up.rises c.requires.low c.requires.high in
     let run : SFits w64 c.run.result = search rules in
