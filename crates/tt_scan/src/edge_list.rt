@@ -1,6 +1,6 @@
 //! The edges of one glyph while they are made. Their rows are not known yet: `Tape::of` finds the rows of all at once.
 
-ghost use Rattle.std.specs.Prelude.{◌≡◌, ℤ, false, ◌+◌, ◌^◌, ◌<◌, ◌≤◌, ◌≤ℤ◌, unsigned_abs, length, [], ◌∷◌, ◌++◌, All, IfSome, OnOk};
+ghost use Rattle.std.specs.Prelude.{◌≡◌, ℤ, false, ◌+◌, ◌^◌, ◌<◌, ◌≤◌, ◌≤ℤ◌, unsigned_abs, length, [], ◌∷◌, ◌++◌, IfSome, OnOk};
 ghost use Rattle.tt_scan_edges.specs.Crossing.{spans};
 ghost use Rattle.tt_scan.specs.EdgeList.{heights_of, heights_with};
 ghost use Rattle.tt_scan_edges.specs.Winding.{EdgeFits, is_black};

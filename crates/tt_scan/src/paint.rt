@@ -1,7 +1,6 @@
 //! Painting the black columns of a row into a row of bytes, moved and clipped to it.
 
-ghost use Rattle.std.specs.Prelude.{◌≡◌, ℕ, ◌*◌, ◌^◌, ◌<◌, ◌≤◌, ◌+ℤ◌, ◌-ℤ◌, ◌&&◌, ◌||◌, nat_le, nat_lt, int_le, pos, length, unsigned_abs};
-ghost use Rattle.tt_core.specs.Bits.{bit};
+ghost use Rattle.std.specs.Prelude.{◌≡◌, ℕ, ◌*◌, ◌^◌, ◌<◌, ◌≤◌, ◌+ℤ◌, ◌-ℤ◌, ◌&&◌, nat_le, nat_lt, int_le, pos, length, unsigned_abs};
 ghost use Rattle.tt_scan.specs.Blackened.{IsBlackened};
 ghost use Rattle.tt_scan_edges.specs.Marks.{covers, covers_from};
 

@@ -1,6 +1,6 @@
 //! The black pixels of a glyph in a window. Pixels outside count as black, so that no gap there is free.
 
-ghost use Rattle.std.specs.Prelude.{◌≡◌, not, ℕ, ℤ, true, length, ◌+◌, ◌*◌, ◌^◌, ◌<◌, ◌≤◌, ◌+ℤ◌, ◌&&◌, ◌||◌, nat_lt, pos, unsigned_abs, All, IfOk};
+ghost use Rattle.std.specs.Prelude.{◌≡◌, not, ℤ, true, length, ◌+◌, ◌*◌, ◌^◌, ◌<◌, ◌≤◌, ◌&&◌, ◌||◌, unsigned_abs, All, IfOk};
 ghost use Rattle.std.specs.Ordering.{int_eq};
 ghost use Rattle.tt_core.specs.Bits.{bit, stride};
 ghost use Rattle.tt_scan_edges.specs.Winding.{EdgeFits, FrameFits, is_black};

@@ -16,7 +16,7 @@
 //! the edge, and it adds `turn` to the winding number there. The lower end counts and the upper does not, so that a
 //! joint of two edges counts once. `touch` serves rule 2: a centre on the contour is black. Both ends count.
 
-ghost use Rattle.std.specs.Prelude.{◌≡◌, true, ℕ, ℤ, ◌+◌, ◌^◌, ◌<◌, ◌≤◌, ◌&&◌, pos, int_lt, ◌-ℤ◌, ◌<ℤ◌, ◌≤ℤ◌, unsigned_abs, IfSome};
+ghost use Rattle.std.specs.Prelude.{◌≡◌, true, ℕ, ℤ, ◌+◌, ◌^◌, ◌<◌, ◌≤◌, ◌&&◌, pos, int_lt, ◌-ℤ◌, ◌≤ℤ◌, unsigned_abs, IfSome};
 ghost use Rattle.tt_scan_edges.specs.Crossing.{spans, IsCross};
 ghost use Rattle.tt_scan_edges.specs.Walks.{StandsAt, turned_round};
 ghost use Rattle.tt_scan_edges.specs.Winding.{EdgeFits, column_x, side, is_between, is_zero};

@@ -1,7 +1,7 @@
 //! What the edges that meet a row leave there: black spans where they touch centres (rule 2), and marks of their turns
 //! (rule 1).
 
-ghost use Rattle.std.specs.Prelude.{◌≡◌, ◌≢◌, ℤ, ◌+◌, ◌*◌, ◌^◌, ◌<◌, ◌≤◌, ◌+ℤ◌, ◌<ℤ◌, ◌||◌, not, int_le, pos, [], length, if◌then◌else◌, unsigned_abs, vec_capacity, IfOk};
+ghost use Rattle.std.specs.Prelude.{◌≡◌, ◌≢◌, ℤ, ◌+◌, ◌*◌, ◌^◌, ◌<◌, ◌≤◌, ◌+ℤ◌, ◌<ℤ◌, ◌||◌, not, int_le, pos, [], length, if◌then◌else◌, vec_capacity, IfOk};
 ghost use Rattle.std.specs.List.Sorted.{IsPermutation};
 ghost use Rattle.tt_scan_edges.specs.Crossing.{spans};
 ghost use Rattle.tt_scan_edges.specs.Left.{HasCross, IsBlank};
