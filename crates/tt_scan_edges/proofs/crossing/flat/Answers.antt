@@ -3,8 +3,8 @@ use Rattle.std.proofs.lemmas.Int.{ints, clamps, to_z-of_z}
 use Rattle.tt_scan_edges.proofs.Crosses.{level_cross}
 use Rattle.tt_scan_edges.proofs.crossing.flat.Goals as goal
 
-pub from_centre-right-requires-clause-place : goal.from_centre-right-requires-clause-place
-from_centre-right-requires-clause-place c =
+pub from_centre-right-requires : goal.from_centre-right-requires
+from_centre-right-requires c =
     let ax : SFits w32 c.args.edge.ax = search rules in
     let bx : SFits w32 c.args.edge.bx = search rules in
     let max : SFits w32 c.max.result = search rules in

@@ -9,12 +9,12 @@ pub returns-then-at-from : goal.returns-then-at-from
 returns-then-at-from c =
     let whole : SFits w64 c.args.stands.whole = search rules in
     let one : SFits w64 (c.args.stands.whole +ℤ pos 1) = omega (arith, ints, c.requires.near) in
-    simp to_z-of_z (rising_cross c.args.up.edge c.args.at.frame.margin c.args.at.y _ c.args.stands.whole
+    rising_cross c.args.up.edge c.args.at.frame.margin c.args.at.y _ c.args.stands.whole
     (λ (k : ℤ). is_zero c.args.stands.rest && is_zero (c.args.stands.whole -ℤ k))
     (omega (arith, ints, c.requires.low, c.requires.high)) (omega (arith, ints, c.requires.low, c.requires.high))
     (λ k. on_there c.args.up.edge c.args.at.frame.margin c.args.at.y k c.args.stands c.requires.stands)
     (λ k. right_there c.args.up.edge c.args.at.frame.margin c.args.at.y k c.args.stands c.requires.stands)
-    c.touched-touch.ensures.exact c.touched-touch.ensures.order refl refl)
+    c.touched-touch.ensures.exact c.touched-touch.ensures.order refl (simp to_z-of_z refl)
 
 pub returns-else-at-from : goal.returns-else-at-from
 returns-else-at-from c =
