@@ -86,10 +86,6 @@ at_below es f r y w v is past height same walk =
       walk = rw height at (rw (← same) at walk);
     }
 
-pub number_here : (es : List Edge) (f : Frame) (r : ℤ) (vs : List Walk) (i : ℕ) (d : Walk) → All (IsWalkAt es f (r -ℤ pos 1)) vs
-    → i < length vs → (get_or vs i d).entry.edge < length es
-number_here es f r vs i d walks below = (walks i d below).number
-
 pub walk_here : (es : List Edge) (f : Frame) (r y : ℤ) (ws vs : List Walk) (i : ℕ) (d : Walk) → All (IsWalkAt es f (r -ℤ pos 1)) vs
     → All (λ w. r <ℤ w.entry.past) vs → get_or ws i d ≡ get_or vs i d → i < length vs → y ≡ row_y f r → GoesBelow (edge_of es (get_or ws i d).entry) f.margin y (get_or ws i d)
 walk_here es f r y ws vs i d walks on same below height = rw same (goes_below es f r y (get_or vs i d) (walks i d below) (on i d below) height)

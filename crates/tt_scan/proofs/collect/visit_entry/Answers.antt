@@ -36,8 +36,8 @@ start-requires-clause-count c =
     let meets : meets_row c.args.at.r c.args.entry ≡ true = inside c.args.entry.first c.args.entry.past c.args.at.r c.requires.first (omega (arith, ints, on)) in
     c.requires.crosses meets
 
-pub leave-requires-then-goes_below : goal.leave-requires-then-goes_below
-leave-requires-then-goes_below c =
+pub leave-requires : goal.leave-requires
+leave-requires c =
     let r : SFits w32 c.args.at.r = search rules in
     let on : (c.args.at.r +ℤ pos 1) <ℤ c.args.entry.past = is_less (c.args.at.r +ℤ pos 1) c.args.entry.past (sym (simp to_z-of_z at c.goes_below.ensures) ∙ c.if-goes_below.true) in
     let meets : meets_row c.args.at.r c.args.entry ≡ true = inside c.args.entry.first c.args.entry.past c.args.at.r c.requires.first (omega (arith, ints, on)) in
@@ -79,8 +79,8 @@ returns-then-goes_below-clause-left c =
     let r : SFits w32 c.args.at.r = search rules in
     let on : (c.args.at.r +ℤ pos 1) <ℤ c.args.entry.past = is_less (c.args.at.r +ℤ pos 1) c.args.entry.past (sym (simp to_z-of_z at c.goes_below.ensures) ∙ c.if-goes_below.true) in
     let meets : meets_row c.args.at.r c.args.entry ≡ true = inside c.args.entry.first c.args.entry.past c.args.at.r c.requires.first (omega (arith, ints, on)) in
-    λ ms most are. rw meets (left_push c.args.edges.now.edges c.args.at.frame.margin c.args.at.y ms c.args.entry most c.args.left.now c.leave-then-goes_below.new.self are
-    (left_by_cross (edge_of c.args.edges.now.edges c.args.entry) c.args.at.frame.margin c.args.at.y c.start.result.1 c.args.left.now c.leave-then-goes_below.new.self c.start.ensures.exact c.leave-then-goes_below.ensures))
+    λ ms most are. rw meets (left_push c.args.edges.now.edges c.args.at.frame.margin c.args.at.y ms c.args.entry most c.args.left.now c.leave.new.self are
+    (left_by_cross (edge_of c.args.edges.now.edges c.args.entry) c.args.at.frame.margin c.args.at.y c.start.result.1 c.args.left.now c.leave.new.self c.start.ensures.exact c.leave.ensures))
 
 pub returns-then-reaches-clause-left : goal.returns-then-reaches-clause-left
 returns-then-reaches-clause-left c =

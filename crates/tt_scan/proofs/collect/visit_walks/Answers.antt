@@ -8,7 +8,7 @@ use Rattle.tt_scan.specs.EdgeTable.{IsWalkAt}
 use Rattle.tt_scan_edges.specs.Walks.{IsWalk}
 use Rattle.tt_scan_edges.specs.declared.entry.Entry.{Entry}
 use Rattle.tt_scan_edges.proofs.Crossed.{blank_left, left_by_cross}
-use Rattle.tt_scan.proofs.Walked.{no_walk, number_here, walk_here, walked_here, set_walked, set_above, entries_more, left_push}
+use Rattle.tt_scan.proofs.Walked.{no_walk, walk_here, walked_here, set_walked, set_above, entries_more, left_push}
 use Rattle.tt_scan.proofs.collect.visit_walks.Goals as goal
 
 pub loop-i-init : goal.loop-i-init
@@ -21,11 +21,6 @@ loop-i-init c = record {
   left = blank_left c.args.at.frame.margin c.args.at.y c.args.left.now c.requires.blank;
   crosses = search rules;
 }
-
-pub cross_below-requires-clause-within : goal.cross_below-requires-clause-within
-cross_below-requires-clause-within c =
-    let below : c.loop-i.i < length c.args.walks.now = omega (arith, c.loop-i-test.true, c.loop-i.invariant.len) in
-    rw (c.loop-i.invariant.crosses, c.loop-i.invariant.above c.loop-i.i no_walk (omega arith)) (number_here c.args.edges.now.edges c.args.at.frame c.args.at.r c.args.walks.now c.loop-i.i no_walk c.requires.walks below)
 
 pub cross_below-requires-clause-below : goal.cross_below-requires-clause-below
 cross_below-requires-clause-below c =
