@@ -14,3 +14,8 @@ returns-in-Some c = record {
       (stamp_painted c.args.spans.now c.args.stamp c.in-Some.at k c.args.width c.args.shift c.requires.stamp at c.in-Some.ensures.within);
   len = c.or_word.ensures.len;
 }
+
+pub returns-in-None : goal.returns-in-None
+returns-in-None c =
+    let shift : SFits w64 c.args.shift = c.ranges.shift in
+    simp to_z-of_z at c.paint_spans.ensures

@@ -13,8 +13,12 @@ returns-then-not-some c = λ p j.
     rw c.new.ensures.items (sym (nothing_added c.args.pass.rules (is_black_by c.args.pass.over c.args.pass.ink.now) es c.args.contours.ends.now
     ends none p j))
 
-pub pass_over-requires-clause-edges : goal.pass_over-requires-clause-edges
-pass_over-requires-clause-edges c =
+pub invariant_of-contours-clause-are_ends : goal.invariant_of-contours-clause-are_ends
+invariant_of-contours-clause-are_ends c =
+    rw (c.deref.ensures.value, c.in_ok-turned.ensures) (ends_turned c.args.contours.edges.now c.args.contours.ends.now c.args.contours.are_ends)
+
+pub invariant_of-contours-clause-fit : goal.invariant_of-contours-clause-fit
+invariant_of-contours-clause-fit c =
     rw (c.deref.ensures.value, c.in_ok-turned.ensures) (fits_turned c.args.contours.edges.now c.args.contours.fit)
 
 pub returns : goal.returns
