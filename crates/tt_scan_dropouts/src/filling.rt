@@ -188,20 +188,20 @@ pub fn dropouts(alloc: Global, glyph: Outlined, window: Window) -> Result<Vec<Pi
     };
     let mut ink = Bitmap::inked(alloc, glyph.tape, widened(part))?;
     let (some_by_rows, some_by_columns) = some_in_free_gap(glyph.rules, &ink, contours.edges);
-    let rows = Pass {
+    let across = Pass {
         rules: glyph.rules,
         over: Over::Rows,
         ink: &ink,
     };
-    let by_rows = added(alloc, rows, some_by_rows, contours)?;
+    let by_rows = added(alloc, across, some_by_rows, contours)?;
     // The pixels that are black now make no further gap free, so the test by columns remains true.
     ink.blacken_all(&by_rows);
-    let columns = Pass {
+    let along = Pass {
         rules: glyph.rules,
         over: Over::Columns,
         ink: &ink,
     };
-    let by_columns = added_turned(alloc, columns, some_by_columns, contours)?;
+    let by_columns = added_turned(alloc, along, some_by_columns, contours)?;
     let mut found = Vec::new(alloc);
     push_within(&mut found, part, Over::Rows, &by_rows)?;
     push_within(&mut found, part, Over::Columns, &by_columns)?;
