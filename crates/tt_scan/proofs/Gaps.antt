@@ -9,7 +9,7 @@ use Rattle.tt_scan_edges.specs.declared.entry.Entry.{Entry}
 use Rattle.tt_scan.specs.declared.rows.Gap.{Gap}
 use Rattle.tt_scan_edges.specs.Crossing.{AreRows, has_row}
 use Rattle.tt_scan.specs.EdgeList.{IsGapAt, AreEntered, is_in}
-use Rattle.tt_scan.specs.EdgeTable.{IsUnmet}
+use Rattle.tt_scan.specs.EdgeTable.{IsTableOf, IsUnmet}
 use Rattle.tt_scan_edges.specs.Winding.{EdgeFits, row_y, is_between}
 use Rattle.tt_scan_edges.proofs.Ranges.{none_at}
 use Rattle.tt_scan.proofs.Standing.{entry_pushed}
@@ -111,8 +111,8 @@ pub all_entered : (es : List Edge) (i : ℕ) (f : Frame) (r : ℤ × ℤ) (ms : 
     → AreEntered (take i es) f r ms → AreEntered es f r ms
 all_entered es i f r ms past are = rw (take_all i es past) at are
 
-pub none_entered : (f : Frame) (ms : List Entry) → ms ≡ [] → AreEntered [] f (pos 0, pos 0) ms
-none_entered f ms is = rw is (record {
+pub none_entered : (f : Frame) (ms : List Entry) → IsTableOf [] f ms → AreEntered [] f (pos 0, pos 0) ms
+none_entered f ms table = record {
   rows = record {
     outside = λ row low high out. refl;
     low = omega (arith, ints);
@@ -121,12 +121,8 @@ none_entered f ms is = rw is (record {
     first = λ some. absurd (omega (arith, ints));
     last = λ some. absurd (omega (arith, ints));
   };
-  table = record {
-    numbers = λ k d below. absurd (omega arith);
-    rows = λ k d below. absurd (omega arith);
-    sums = λ g none. refl;
-  };
-})
+  table = table;
+}
 
 -- the numbers of an edge
 pub record EdgeIsWide (e : Edge) : Type 0 where
@@ -142,9 +138,9 @@ pub record IsLent (es now : List Edge) (i : ℕ) : Type 0 where
   pub below : i < length es
   pub fits : EdgeFits (get_or es i nothing)
 
-pub is_lent : (es made now : List Edge) (i n : ℕ) → made ≡ es → All EdgeFits made → now ≡ made → n ≡ length made → i < n
+pub is_lent : (es made now : List Edge) (i n : ℕ) → made ≡ es → All EdgeFits now → now ≡ made → n ≡ length made → i < n
     → IsLent es now i
 is_lent es made now i n is fit lent many less =
-    let all : All EdgeFits es = rw is at fit in
+    let all : All EdgeFits es = rw (lent, is) at fit in
     let within : i < length es = rw (← is, ← many) less in
     record { same = lent ∙ is; below = within; fits = all i nothing within }

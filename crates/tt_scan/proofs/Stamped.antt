@@ -7,7 +7,7 @@ use Rattle.std.proofs.lemmas.Int.{ints, by_lt_z, to_z-of_z}
 use Rattle.std.proofs.lemmas.List.{take_more}
 use Rattle.std.proofs.lemmas.Nat.Bits.{bit_at-lt, bit_at-zero, bit_at_or}
 use Rattle.tt_scan_edges.specs.declared.mark.Span.{Span}
-use Rattle.tt_scan.specs.declared.stamp.Stamp.{Stamp}
+use Rattle.tt_scan.specs.declared.word.Stamp.{Stamp}
 use Rattle.tt_scan_edges.specs.Marks.{covers}
 use Rattle.tt_scan.specs.Stamps.{in_word, shows, IsStampOf}
 use Rattle.tt_scan_edges.proofs.Bools.{or_false}
@@ -92,13 +92,13 @@ mask_shows low first last c from to mask is_from is_to above below is =
           rw (on, out, over) (sym (second_false (int_le first c) false refl))
     ])
 
-pub shows_more : (s t : Stamp) (span : Span) (from to mask : ℕ) (c : ℤ) → t.low ≡ s.low → t.word ≡ bit_or s.word mask
-    → pos from ≡ span.first -ℤ s.low → pos to ≡ (span.last +ℤ pos 1) -ℤ s.low → s.low ≤ℤ span.first → span.last ≤ℤ (s.low +ℤ pos 56)
+pub shows_more : (low : ℤ) (old new : ℕ) (span : Span) (from to mask : ℕ) (c : ℤ) → new ≡ bit_or old mask
+    → pos from ≡ span.first -ℤ low → pos to ≡ (span.last +ℤ pos 1) -ℤ low → low ≤ℤ span.first → span.last ≤ℤ (low +ℤ pos 56)
     → ((j : ℕ) → j < 64 → (bit_at mask (63 - j) == 1) ≡ (nat_le from j && nat_lt j to))
-    → shows t c ≡ (shows s c || (int_le span.first c && int_le c span.last))
-shows_more s t span from to mask c low word is_from is_to above below is =
-    rw (low, word, in_both s.word mask (unsigned_abs (c -ℤ s.low)), ← mask_shows s.low span.first span.last c from to mask is_from is_to above below is)
-    (spread_in (int_le s.low c) (in_word s.word (unsigned_abs (c -ℤ s.low)) || in_word mask (unsigned_abs (c -ℤ s.low))) (in_word s.word (unsigned_abs (c -ℤ s.low))) (in_word mask (unsigned_abs (c -ℤ s.low))) refl)
+    → shows low new c ≡ (shows low old c || (int_le span.first c && int_le c span.last))
+shows_more low old new span from to mask c word is_from is_to above below is =
+    rw (word, in_both old mask (unsigned_abs (c -ℤ low)), ← mask_shows low span.first span.last c from to mask is_from is_to above below is)
+    (spread_in (int_le low c) (in_word old (unsigned_abs (c -ℤ low)) || in_word mask (unsigned_abs (c -ℤ low))) (in_word old (unsigned_abs (c -ℤ low))) (in_word mask (unsigned_abs (c -ℤ low))) refl)
 
 pub free_more : (word mask from to i : ℕ) → to ≤ 57 → ((j : ℕ) → j < 64 → (bit_at mask (63 - j) == 1) ≡ (nat_le from j && nat_lt j to))
     → i < 64 - to → bit_at word i ≡ 0 → bit_at (bit_or word mask) i ≡ 0
@@ -129,7 +129,7 @@ within_row word columns at k width few free room = elim (cases_lt k width) [
 pub stamp_painted : (ss : List Span) (s : Stamp) (at k width : ℕ) (shift : ℤ) → IsStampOf ss s → pos at ≡ s.low +ℤ shift → at + s.columns ≤ width
     → (nat_le at k && in_word s.word (k - at)) ≡ (nat_lt k width && covers ss (pos k -ℤ shift))
 stamp_painted ss s at k width shift is is_at room =
-    rw (is.shows (pos k -ℤ shift)) (elim (cases_lt k at) [
+    rw (is (pos k -ℤ shift)) (elim (cases_lt k at) [
       | inl left ↦
           let off : nat_le at k ≡ false = grind (arith, nat_tests) in
           let out : int_le s.low (pos k -ℤ shift) ≡ false = grind (arith, ints) in
@@ -138,7 +138,7 @@ stamp_painted ss s at k width shift is is_at room =
           let on : nat_le at k ≡ true = grind (arith, nat_tests) in
           let in_it : int_le s.low (pos k -ℤ shift) ≡ true = grind (arith, ints) in
           let same : unsigned_abs ((pos k -ℤ shift) -ℤ s.low) ≡ k - at = omega (arith, ints) in
-          rw (on, in_it, same) (within_row s.word s.columns at k width is.narrow is.free room)
+          rw (on, in_it, same) (within_row s.word s.columns at k width s.narrow s.free room)
     ])
 
 -- a place within the row passes both tests
@@ -156,7 +156,7 @@ inside_painted ss s shift inside k width is passed room =
     let below : (s.low +ℤ shift) <ℤ inside = by_lt_z (s.low +ℤ shift) inside (λ left. left) (λ right. let test = tests.1 in absurd (grind (arith, ints))) in
     let at : pos (unsigned_abs (s.low +ℤ shift)) ≡ s.low +ℤ shift = omega (arith, ints) in
     let fits = room (unsigned_abs (s.low +ℤ shift)) (rw at below) in
-    stamp_painted ss s (unsigned_abs (s.low +ℤ shift)) k width shift is at (omega (arith, is.narrow))
+    stamp_painted ss s (unsigned_abs (s.low +ℤ shift)) k width shift is at (omega (arith, s.narrow))
 
 -- a span alone
 
@@ -165,10 +165,10 @@ both_off true true = refl
 both_off true false = refl
 both_off false b = refl
 
-empty_shows : (low c : ℤ) → shows (record { low = low; columns = 0; word = 0 }) c ≡ false
+empty_shows : (low c : ℤ) → shows low 0 c ≡ false
 empty_shows low c =
     rw (bit_at-zero (63 - unsigned_abs (c -ℤ low))) (both_off (int_le low c) (nat_lt (unsigned_abs (c -ℤ low)) 57))
 
-pub span_alone : (low : ℤ) (s : Span) (t : Stamp) (c : ℤ) → shows t c ≡ (shows (record { low = low; columns = 0; word = 0 }) c || (int_le s.first c && int_le c s.last))
-    → covers (s ∷ []) c ≡ shows t c
+pub span_alone : (low : ℤ) (s : Span) (t : Stamp) (c : ℤ) → shows t.low t.word c ≡ (shows low 0 c || (int_le s.first c && int_le c s.last))
+    → covers (s ∷ []) c ≡ shows t.low t.word c
 span_alone low s t c is = or_false (int_le s.first c && int_le c s.last) ∙ sym (rw (empty_shows low c) at is)

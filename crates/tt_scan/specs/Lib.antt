@@ -1,3 +1,4 @@
+pub mod Blackened
 pub mod Contours
 pub mod EdgeList
 pub mod EdgeTable

@@ -3,6 +3,7 @@
 ghost use Rattle.std.specs.Prelude.{◌≡◌, ℕ, ◌+◌, ◌-◌, ◌*◌, ◌<◌, ◌≤◌, ◌&&◌, ◌||◌, ◌==◌, nat_le, nat_lt, length};
 ghost use Rattle.std.specs.Int.{bit_at};
 ghost use Rattle.tt_core.specs.Bits.{bit};
+ghost use Rattle.tt_scan.specs.Blackened.{IsBlackened};
 
 /// A byte whose columns from `from` up to `to` are black.
 fn mask(from: usize, to: usize) -> u8
@@ -18,9 +19,7 @@ fn fill_byte(row: &mut [u8], byte: usize, from: usize, to: usize)
     requires within { byte < length row.old }
     requires order { from ≤ to }
     requires fits { to ≤ 8 }
-    ensures bits { (k : ℕ) → bit row.new k ≡ (bit row.old k
-        || (nat_le (8 * byte + from) k && nat_lt k (8 * byte + to))) }
-    ensures len { length row.new ≡ length row.old }
+    ensures { IsBlackened (λ k. nat_le (8 * byte + from) k && nat_lt k (8 * byte + to)) row.old row.new }
 {
     row[byte] |= mask(from, to);
 }
@@ -29,8 +28,7 @@ fn fill_byte(row: &mut [u8], byte: usize, from: usize, to: usize)
 fn fill_bytes(row: &mut [u8], from: usize, to: usize)
     requires order { from ≤ to }
     requires within { to ≤ length row.old }
-    ensures bits { (k : ℕ) → bit row.new k ≡ (bit row.old k || (nat_le (8 * from) k && nat_lt k (8 * to))) }
-    ensures len { length row.new ≡ length row.old }
+    ensures { IsBlackened (λ k. nat_le (8 * from) k && nat_lt k (8 * to)) row.old row.new }
 {
     for byte in from..to {
         row[byte] = 0xFF;
@@ -41,8 +39,7 @@ fn fill_bytes(row: &mut [u8], from: usize, to: usize)
 pub(crate) fn fill(row: &mut [u8], from: usize, to: usize)
     requires order { from < to }
     requires within { to ≤ 8 * length row.old }
-    ensures bits { (k : ℕ) → bit row.new k ≡ (bit row.old k || (nat_le from k && nat_lt k to)) }
-    ensures len { length row.new ≡ length row.old }
+    ensures { IsBlackened (λ k. nat_le from k && nat_lt k to) row.old row.new }
 {
     let first = from / 8;
     let last = to / 8;

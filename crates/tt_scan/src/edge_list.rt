@@ -1,6 +1,6 @@
 //! The edges of one glyph while they are made. Their rows are not known yet: `Tape::of` finds the rows of all at once.
 
-ghost use Rattle.std.specs.Prelude.{◌≡◌, ℤ, false, ◌+◌, ◌^◌, ◌<◌, ◌≤◌, ◌≤ℤ◌, unsigned_abs, length, [], ◌∷◌, ◌++◌, All, IfSome, OnOk};
+ghost use Rattle.std.specs.Prelude.{◌≡◌, ℤ, false, ◌+◌, ◌^◌, ◌<◌, ◌≤◌, ◌≤ℤ◌, unsigned_abs, length, [], ◌∷◌, ◌++◌, IfSome, OnOk};
 ghost use Rattle.tt_scan_edges.specs.Crossing.{spans};
 ghost use Rattle.tt_scan.specs.EdgeList.{heights_of, heights_with};
 ghost use Rattle.tt_scan_edges.specs.Winding.{EdgeFits, is_black};
@@ -16,15 +16,14 @@ pub struct EdgeList {
 }
 
 impl Model for EdgeList {
-    ghost use Rattle.std.specs.Prelude.{◌≡◌, All};
+    ghost use Rattle.std.specs.Prelude.{◌≡◌};
     ghost use Rattle.tt_scan.specs.EdgeList as list;
-    ghost use Rattle.tt_scan_edges.specs.Winding.{EdgeFits};
 
     ghost Value = { list.EdgeList };
 
     ghost view = { λ l. record { edges = l.edges.edges; capacity = l.edges.capacity } };
 
-    ghost invariant = { λ l. All EdgeFits l.edges.edges × (l.edges.crosses ≡ 0) };
+    ghost invariant = { λ l. l.edges.crosses ≡ 0 };
 }
 
 /// The least and the greatest height of the ends of an edge and of others.
@@ -89,8 +88,7 @@ impl EdgeList {
 
     /// The list of some edges, whose count of crossings is 0.
     pub(crate) fn of(edges: CountedEdges) -> EdgeList
-        requires fit { All EdgeFits edges.edges }
-        requires crosses { edges.crosses ≡ 0 }
+        requires { edges.crosses ≡ 0 }
         ensures { result.edges ≡ edges.edges }
     {
         EdgeList { edges }
@@ -100,7 +98,6 @@ impl EdgeList {
     #[inline(always)]
     pub(crate) fn into_edges(self) -> CountedEdges
         ensures edges { result.edges ≡ self.edges }
-        ensures fit { All EdgeFits result.edges }
         ensures crosses { result.crosses ≡ 0 }
     {
         let EdgeList { edges } = self;

@@ -11,7 +11,7 @@
 //! paint.rt        paints the spans in a row of bytes; stamp.rt paints a narrow glyph by one word
 //! ```
 //!
-//! rows.rt has the rows that an edge meets, row_at.rt a row of the frame.
+//! rows.rt has the rows that an edge meets.
 #![tactic(auto)]
 
 mod bytes;
@@ -21,11 +21,11 @@ mod edge_table;
 pub mod laws;
 mod paint;
 mod row;
-mod row_at;
 mod rows;
 mod stamp;
 mod sweep;
 mod tape;
+mod word;
 
 pub use bytes::blacken;
 pub use edge_list::EdgeList;

@@ -1,7 +1,7 @@
 //! Painting the black columns of a row into a row of bytes, moved and clipped to it.
 
-ghost use Rattle.std.specs.Prelude.{◌≡◌, ℕ, ◌*◌, ◌^◌, ◌<◌, ◌≤◌, ◌+ℤ◌, ◌-ℤ◌, ◌&&◌, ◌||◌, nat_le, nat_lt, int_le, pos, length, unsigned_abs};
-ghost use Rattle.tt_core.specs.Bits.{bit};
+ghost use Rattle.std.specs.Prelude.{◌≡◌, ℕ, ◌*◌, ◌^◌, ◌<◌, ◌≤◌, ◌+ℤ◌, ◌-ℤ◌, ◌&&◌, nat_le, nat_lt, int_le, pos, length, unsigned_abs};
+ghost use Rattle.tt_scan.specs.Blackened.{IsBlackened};
 ghost use Rattle.tt_scan_edges.specs.Marks.{covers, covers_from};
 
 use crate::bytes::fill;
@@ -34,8 +34,7 @@ fn past(at: i64, shown: Shown) -> usize
 /// Blackens the row's columns from `from` up to `to`.
 fn blacken(row: &mut [u8], width: usize, from: usize, to: usize)
     requires { width ≤ 8 * length row.old }
-    ensures bits { (k : ℕ) → bit row.new k ≡ (bit row.old k || (nat_lt k width && (nat_le from k && nat_lt k to))) }
-    ensures len { length row.new ≡ length row.old }
+    ensures { IsBlackened (λ k. nat_lt k width && (nat_le from k && nat_lt k to)) row.old row.new }
 {
     let end = to.min(width);
     if from < end {
@@ -47,9 +46,8 @@ fn blacken(row: &mut [u8], width: usize, from: usize, to: usize)
 fn paint_span(span: Span, shown: Shown, row: &mut [u8])
     requires low { unsigned_abs shown.low < 2 ^ 41 }
     requires width { shown.width ≤ 8 * length row.old }
-    ensures bits { (k : ℕ) → bit row.new k ≡ (bit row.old k || (nat_lt k shown.width
-        && (int_le span.first (shown.low +ℤ pos k) && int_le (shown.low +ℤ pos k) span.last))) }
-    ensures len { length row.new ≡ length row.old }
+    ensures { IsBlackened (λ k. nat_lt k shown.width
+        && (int_le span.first (shown.low +ℤ pos k) && int_le (shown.low +ℤ pos k) span.last)) row.old row.new }
 {
     blacken(
         row,
@@ -65,8 +63,7 @@ fn paint_span(span: Span, shown: Shown, row: &mut [u8])
 pub(crate) fn paint_spans(spans: &[Span], shift: i64, width: u32, row: &mut [u8])
     requires shift { unsigned_abs shift < 2 ^ 40 }
     requires width { width ≤ 8 * length row.old }
-    ensures bits { (k : ℕ) → bit row.new k ≡ (bit row.old k || (nat_lt k width && covers spans.now (pos k -ℤ shift))) }
-    ensures len { length row.new ≡ length row.old }
+    ensures { IsBlackened (λ k. nat_lt k width && covers spans.now (pos k -ℤ shift)) row.old row.new }
 {
     let shown = Shown { low: -shift, width };
     for i in 0..spans.len() {
@@ -79,8 +76,7 @@ pub(crate) fn paint_spans(spans: &[Span], shift: i64, width: u32, row: &mut [u8]
 #[inline(never)]
 pub(crate) fn paint_spans_at(spans: &[Span], pens: &[u32], width: u32, row: &mut [u8])
     requires width { width ≤ 8 * length row.old }
-    ensures bits { (k : ℕ) → bit row.new k ≡ (bit row.old k || (nat_lt k width && covers_from spans.now pens.now k)) }
-    ensures len { length row.new ≡ length row.old }
+    ensures { IsBlackened (λ k. nat_lt k width && covers_from spans.now pens.now k) row.old row.new }
 {
     for pen in pens {
         paint_spans(spans, i64::from(*pen), width, row);

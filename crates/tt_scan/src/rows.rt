@@ -159,27 +159,12 @@ pub(crate) fn join(all: &mut (i32, i32), more: (i32, i32))
     ensures order { all.old.0 ≤ℤ all.old.1 → all.new.0 ≤ℤ all.new.1 }
 {
     // Most edges meet no row.
-    if more.0 < more.1 {
-        *all = joined(*all, more);
-    }
-}
-
-/// The rows from the first to the last of two ranges of rows. An empty range adds nothing.
-#[inline(always)]
-fn joined(all: (i32, i32), more: (i32, i32)) -> (i32, i32)
-    ensures left { (row : ℤ) → has_row all row ≡ true → has_row result row ≡ true }
-    ensures right { (row : ℤ) → has_row more row ≡ true → has_row result row ≡ true }
-    ensures first { ((result.0 ≡ all.0) × (result.0 <ℤ result.1 → all.0 <ℤ all.1))
-        ⊎ ((result.0 ≡ more.0) × (more.0 <ℤ more.1)) }
-    ensures last { ((result.1 ≡ all.1) × (result.0 <ℤ result.1 → all.0 <ℤ all.1))
-        ⊎ ((result.1 ≡ more.1) × (more.0 <ℤ more.1)) }
-    ensures order { all.0 ≤ℤ all.1 → result.0 ≤ℤ result.1 }
-{
     if more.0 >= more.1 {
-        all
-    } else if all.0 >= all.1 {
-        more
-    } else {
-        (all.0.min(more.0), all.1.max(more.1))
+        return;
     }
+    if all.0 >= all.1 {
+        *all = more;
+        return;
+    }
+    *all = (all.0.min(more.0), all.1.max(more.1));
 }

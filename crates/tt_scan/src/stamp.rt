@@ -1,22 +1,15 @@
-//! The black columns of a narrow row as one word, which is painted by eight bytes at once.
+//! Stamps: how the black columns of a narrow row become one word, which is painted by eight bytes at once.
 
 ghost use Rattle.std.specs.Prelude.{◌≡◌, ℕ, ℤ, ◌+◌, ◌-◌, ◌*◌, ◌/◌, ◌%◌, ◌^◌, ◌<◌, ◌≤◌, ◌+ℤ◌, ◌-ℤ◌, ◌<ℤ◌, ◌≤ℤ◌, ◌&&◌, ◌||◌, ◌==◌, true, false, nat_le, nat_lt, int_le, pos, [], ◌∷◌, length, take, slice_index, unsigned_abs, IfSome};
 ghost use Rattle.std.specs.Int.{bit_at};
 ghost use Rattle.tt_core.specs.Bits.{bit};
+ghost use Rattle.tt_scan.specs.Blackened.{IsBlackened};
 ghost use Rattle.tt_scan_edges.specs.Marks.{covers, covers_from};
 ghost use Rattle.tt_scan.specs.Stamps.{in_word, shows, IsStampOf};
-ghost use Rattle.tt_scan.specs.declared.stamp.Stamp.{Stamp};
 
 use crate::paint::{paint_spans, paint_spans_at};
+use crate::word::Stamp;
 use tt_scan_edges::Span;
-
-/// `columns` columns from `low` on, at most 57: a bit for each, from the highest bit on.
-#[derive(Clone, Copy)]
-pub(crate) struct Stamp {
-    pub(crate) low: i64,
-    pub(crate) columns: u32,
-    pub(crate) word: u64,
-}
 
 /// A word with the columns from `from` up to `to`.
 #[inline(always)]
@@ -41,26 +34,22 @@ fn word_byte(word: u64, by: usize) -> u8
 #[inline(always)]
 fn or_byte(row: &mut [u8], byte: usize, mask: u8)
     requires { byte < length row.old }
-    ensures bits { (k : ℕ) → bit row.new k ≡ (bit row.old k || ((k / 8 == byte) && (bit_at mask (7 - k % 8) == 1))) }
-    ensures len { length row.new ≡ length row.old }
+    ensures { IsBlackened (λ k. (k / 8 == byte) && (bit_at mask (7 - k % 8) == 1)) row.old row.new }
 {
     row[byte] |= mask;
 }
 
-/// Blackens the columns of a word byte by byte, the first of them at column `at` of the row.
+/// Blackens the columns of a stamp byte by byte, the first of them at column `at` of the row.
 #[cold]
 #[inline(never)]
-fn or_bytes(row: &mut [u8], at: usize, columns: u32, word: u64)
-    requires narrow { columns ≤ 57 }
-    requires within { at + columns ≤ 8 * length row.old }
-    requires free { (i : ℕ) → i < 64 - columns → bit_at word i ≡ 0 }
-    ensures bits { (k : ℕ) → bit row.new k ≡ (bit row.old k || (nat_le at k && in_word word (k - at))) }
-    ensures len { length row.new ≡ length row.old }
+fn or_bytes(row: &mut [u8], at: usize, stamp: Stamp)
+    requires within { at + stamp.columns ≤ 8 * length row.old }
+    ensures { IsBlackened (λ k. nat_le at k && in_word stamp.word (k - at)) row.old row.new }
 {
     let start = at / 8;
     let by = 56 + at % 8;
-    for i in 0..(at % 8 + columns as usize + 7) / 8 {
-        or_byte(row, start + i, word_byte(word, by - 8 * i));
+    for i in 0..(at % 8 + stamp.columns as usize + 7) / 8 {
+        or_byte(row, start + i, word_byte(stamp.word, by - 8 * i));
     }
 }
 
@@ -87,57 +76,45 @@ fn write_eight(row: &mut [u8], start: usize, eight: u64)
 #[inline(always)]
 fn or_eight(row: &mut [u8], start: usize, word: u64)
     requires { start + 8 ≤ length row.old }
-    ensures bits { (k : ℕ) → bit row.new k ≡ (bit row.old k
-        || ((nat_le (8 * start) k && nat_lt k (8 * start + 64)) && (bit_at word (63 - (k - 8 * start)) == 1))) }
-    ensures len { length row.new ≡ length row.old }
+    ensures { IsBlackened (λ k. (nat_le (8 * start) k && nat_lt k (8 * start + 64))
+        && (bit_at word (63 - (k - 8 * start)) == 1)) row.old row.new }
 {
     let old = read_eight(row, start);
     write_eight(row, start, old | word.swap_bytes());
 }
 
-/// Blackens the columns of a word, the first of them at column `at` of the row.
+/// Blackens the columns of a stamp, the first of them at column `at` of the row.
 #[inline(always)]
-fn or_word(row: &mut [u8], at: usize, columns: u32, word: u64)
-    requires narrow { columns ≤ 57 }
-    requires within { at + columns ≤ 8 * length row.old }
-    requires free { (i : ℕ) → i < 64 - columns → bit_at word i ≡ 0 }
-    ensures bits { (k : ℕ) → bit row.new k ≡ (bit row.old k || (nat_le at k && in_word word (k - at))) }
-    ensures len { length row.new ≡ length row.old }
+fn or_word(row: &mut [u8], at: usize, stamp: Stamp)
+    requires within { at + stamp.columns ≤ 8 * length row.old }
+    ensures { IsBlackened (λ k. nat_le at k && in_word stamp.word (k - at)) row.old row.new }
 {
     if row.len() < 8 {
-        or_bytes(row, at, columns, word);
+        or_bytes(row, at, stamp);
     } else {
         // Near the row's end the last eight bytes hold the word, since eight bytes from the word's own byte would pass
         // the end.
         let start = (at / 8).min(row.len() - 8);
-        or_eight(row, start, word >> ((at - 8 * start) % 64));
+        or_eight(row, start, stamp.word >> ((at - 8 * start) % 64));
     }
 }
 
-/// Blackens the columns of a word, where the row has eight bytes from the word's own byte on.
+/// Blackens the columns of a stamp, where the row has eight bytes from the byte of its first column on.
 #[inline(always)]
-fn or_inside(row: &mut [u8], at: usize, columns: u32, word: u64)
-    requires narrow { columns ≤ 57 }
-    requires within { at + columns ≤ 8 * length row.old }
+fn or_inside(row: &mut [u8], at: usize, stamp: Stamp)
+    requires within { at + stamp.columns ≤ 8 * length row.old }
     requires inside { at / 8 + 8 ≤ length row.old }
-    requires free { (i : ℕ) → i < 64 - columns → bit_at word i ≡ 0 }
-    ensures bits { (k : ℕ) → bit row.new k ≡ (bit row.old k || (nat_le at k && in_word word (k - at))) }
-    ensures len { length row.new ≡ length row.old }
+    ensures { IsBlackened (λ k. nat_le at k && in_word stamp.word (k - at)) row.old row.new }
 {
-    or_eight(row, at / 8, word >> (at % 8));
+    or_eight(row, at / 8, stamp.word >> (at % 8));
 }
 
 /// A stamp with a span's columns added; None where the stamp has no room for them.
 #[inline(always)]
 fn with_span(stamp: Stamp, span: Span) -> Option<Stamp>
-    requires low { unsigned_abs stamp.low ≤ 2 ^ 40 }
-    requires narrow { stamp.columns ≤ 57 }
-    requires free { (i : ℕ) → i < 64 - stamp.columns → bit_at stamp.word i ≡ 0 }
     ensures low { IfSome result (λ s. s.low ≡ stamp.low) }
-    ensures narrow { IfSome result (λ s. s.columns ≤ 57) }
-    ensures free { IfSome result (λ s. (i : ℕ) → i < 64 - s.columns → bit_at s.word i ≡ 0) }
-    ensures shows { IfSome result (λ s. (c : ℤ) → shows s c
-        ≡ (shows stamp c || (int_le span.first c && int_le c span.last))) }
+    ensures shows { IfSome result (λ s. (c : ℤ) → shows s.low s.word c
+        ≡ (shows stamp.low stamp.word c || (int_le span.first c && int_le c span.last))) }
 {
     if span.first < stamp.low || span.last < span.first || stamp.low + 56 < span.last {
         return None;
@@ -197,8 +174,7 @@ pub(crate) fn stamped(spans: &[Span]) -> Option<Stamp>
 /// The place of a stamp's first column in a row of `width` pixels, if the row has all of the stamp's columns.
 #[inline(always)]
 fn place_of(stamp: Stamp, shift: i64, width: u32) -> Option<usize>
-    requires low { unsigned_abs stamp.low ≤ 2 ^ 40 }
-    requires shift { unsigned_abs shift < 2 ^ 40 }
+    requires { unsigned_abs shift < 2 ^ 40 }
     ensures at { IfSome result (λ at. pos at ≡ stamp.low +ℤ shift) }
     ensures within { IfSome result (λ at. at + stamp.columns ≤ width) }
 {
@@ -235,18 +211,17 @@ fn paint_fit(
     requires low { pos 0 ≤ℤ inside }
     requires inside { (at : ℕ) → pos at <ℤ inside → at + 64 ≤ width }
     requires width { width ≤ 8 * length row.old }
-    ensures bits { result ≡ true → (k : ℕ) → bit row.new k ≡ (bit row.old k || (nat_lt k width && covers spans.now (pos k -ℤ pos pen))) }
+    ensures painted { result ≡ true → IsBlackened (λ k. nat_lt k width && covers spans.now (pos k -ℤ pos pen)) row.old row.new }
     ensures none { result ≡ false → row.new ≡ row.old }
-    ensures len { length row.new ≡ length row.old }
 {
     let at = stamp.low + i64::from(pen);
     if (0 <= at) & (at < inside) {
-        or_inside(row, at as usize, stamp.columns, stamp.word);
+        or_inside(row, at as usize, stamp);
         return true;
     }
     match place_of(stamp, i64::from(pen), width) {
         Some(at) => {
-            or_word(row, at, stamp.columns, stamp.word);
+            or_word(row, at, stamp);
             true
         }
         None => false,
@@ -260,11 +235,10 @@ pub(crate) fn paint_stamp(stamp: Stamp, spans: &[Span], shift: i64, width: u32, 
     requires stamp { IsStampOf spans.now stamp }
     requires shift { unsigned_abs shift < 2 ^ 40 }
     requires width { width ≤ 8 * length row.old }
-    ensures bits { (k : ℕ) → bit row.new k ≡ (bit row.old k || (nat_lt k width && covers spans.now (pos k -ℤ shift))) }
-    ensures len { length row.new ≡ length row.old }
+    ensures { IsBlackened (λ k. nat_lt k width && covers spans.now (pos k -ℤ shift)) row.old row.new }
 {
     match place_of(stamp, shift, width) {
-        Some(at) => or_word(row, at, stamp.columns, stamp.word),
+        Some(at) => or_word(row, at, stamp),
         None => paint_spans(spans, shift, width, row),
     }
 }
@@ -275,8 +249,7 @@ pub(crate) fn paint_stamp(stamp: Stamp, spans: &[Span], shift: i64, width: u32, 
 fn paint_fitting(stamp: Stamp, spans: &[Span], pens: &[u32], width: u32, row: &mut [u8]) -> usize
     requires stamp { IsStampOf spans.now stamp }
     requires width { width ≤ 8 * length row.old }
-    ensures bits { (k : ℕ) → bit row.new k ≡ (bit row.old k || (nat_lt k width && covers_from spans.now (take result pens.now) k)) }
-    ensures len { length row.new ≡ length row.old }
+    ensures painted { IsBlackened (λ k. nat_lt k width && covers_from spans.now (take result pens.now) k) row.old row.new }
     ensures within { result ≤ length pens.now }
 {
     if row.len() < 8 {
@@ -296,8 +269,7 @@ fn paint_fitting(stamp: Stamp, spans: &[Span], pens: &[u32], width: u32, row: &m
 fn paint_stamps(stamp: Stamp, spans: &[Span], pens: &[u32], width: u32, row: &mut [u8])
     requires stamp { IsStampOf spans.now stamp }
     requires width { width ≤ 8 * length row.old }
-    ensures bits { (k : ℕ) → bit row.new k ≡ (bit row.old k || (nat_lt k width && covers_from spans.now pens.now k)) }
-    ensures len { length row.new ≡ length row.old }
+    ensures { IsBlackened (λ k. nat_lt k width && covers_from spans.now pens.now k) row.old row.new }
 {
     let done = paint_fitting(stamp, spans, pens, width, row);
     if done < pens.len() {
@@ -326,8 +298,7 @@ fn stamp_of(span: Span) -> Option<Stamp>
 #[inline(always)]
 fn paint_one(span: Span, pens: &[u32], width: u32, row: &mut [u8])
     requires width { width ≤ 8 * length row.old }
-    ensures bits { (k : ℕ) → bit row.new k ≡ (bit row.old k || (nat_lt k width && covers_from (span ∷ []) pens.now k)) }
-    ensures len { length row.new ≡ length row.old }
+    ensures { IsBlackened (λ k. nat_lt k width && covers_from (span ∷ []) pens.now k) row.old row.new }
 {
     match stamp_of(span) {
         Some(stamp) => paint_stamps(stamp, &[span], pens, width, row),
@@ -338,8 +309,7 @@ fn paint_one(span: Span, pens: &[u32], width: u32, row: &mut [u8])
 /// Blackens the columns of all spans from each pen, span by span.
 fn paint_each(spans: &[Span], pens: &[u32], width: u32, row: &mut [u8])
     requires width { width ≤ 8 * length row.old }
-    ensures bits { (k : ℕ) → bit row.new k ≡ (bit row.old k || (nat_lt k width && covers_from spans.now pens.now k)) }
-    ensures len { length row.new ≡ length row.old }
+    ensures { IsBlackened (λ k. nat_lt k width && covers_from spans.now pens.now k) row.old row.new }
 {
     for i in 0..spans.len() {
         paint_one(spans[i], pens, width, row);
@@ -357,8 +327,7 @@ pub(crate) fn paint_from(
 )
     requires stamp { IfSome stamp (IsStampOf spans.now) }
     requires width { width ≤ 8 * length row.old }
-    ensures bits { (k : ℕ) → bit row.new k ≡ (bit row.old k || (nat_lt k width && covers_from spans.now pens.now k)) }
-    ensures len { length row.new ≡ length row.old }
+    ensures { IsBlackened (λ k. nat_lt k width && covers_from spans.now pens.now k) row.old row.new }
 {
     match stamp {
         Some(stamp) => paint_stamps(stamp, spans, pens, width, row),

@@ -7,8 +7,9 @@ ghost use Rattle.tt_scan_edges.specs.Marks.{covers, covers_from};
 ghost use Rattle.tt_scan_edges.specs.Winding.{is_black, column_x, row_y, rows_met};
 
 use crate::paint::paint_spans;
-use crate::stamp::{Stamp, paint_from, paint_stamp, stamped};
+use crate::stamp::{paint_from, paint_stamp, stamped};
 use crate::tape::Tape;
+use crate::word::Stamp;
 use std::alloc::{AllocError, Global};
 use std::marker::Model;
 use tt_scan_edges::{RowLeft, Span, bounds_of};

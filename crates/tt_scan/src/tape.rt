@@ -13,11 +13,10 @@ ghost use Rattle.tt_scan_edges.specs.Winding.{EdgeFits, FrameFits, is_black, col
 
 use crate::edge_list::EdgeList;
 use crate::edge_table::EdgeTable;
-use crate::row_at::RowAt;
 use crate::rows::{gap_at, gap_from, is_in, join, row_range, widened};
 use std::alloc::{AllocError, Global};
 use std::marker::Model;
-use tt_scan_edges::{CountedEdges, Cross, Edge, Entry, Frame, RowLeft, row_height};
+use tt_scan_edges::{CountedEdges, Cross, Edge, Entry, Frame, RowAt, RowLeft};
 
 /// The edges of one glyph, in the frame of its picture.
 #[derive(Drop)]
@@ -31,17 +30,16 @@ pub struct Tape {
 }
 
 impl Model for Tape {
-    ghost use Rattle.std.specs.Prelude.{All};
     ghost use Rattle.tt_scan_edges.specs.Crossing.{AreAllRows};
     ghost use Rattle.tt_scan.specs.EdgeTable.{IsReady};
     ghost use Rattle.tt_scan.specs.Tape as tape;
-    ghost use Rattle.tt_scan_edges.specs.Winding.{EdgeFits, FrameFits};
+    ghost use Rattle.tt_scan_edges.specs.Winding.{FrameFits};
 
     ghost Value = { tape.Tape };
 
     ghost view = { λ t. record { frame = t.frame; edges = t.edges.edges; crosses = t.edges.crosses } };
 
-    ghost invariant = { λ t. FrameFits t.frame × All EdgeFits t.edges.edges × AreAllRows t.edges.edges t.frame t.rows
+    ghost invariant = { λ t. FrameFits t.frame × AreAllRows t.edges.edges t.frame t.rows
         × IsReady t.edges.edges t.frame t.table };
 }
 
@@ -264,8 +262,7 @@ impl Tape {
         ensures bound { unsigned_abs result.turn ≤ 1 }
         ensures count { self.new ≡ record self.old { crosses = self.old.crosses + 1 } }
     {
-        self.edges
-            .cross(i, self.frame.margin, row_height(self.frame, row))
+        self.edges.cross(i, RowAt::of(self.frame, row))
     }
 
     /// Whether the pixel of a column and a row is black: its centre lies on an edge, or the edges wind round it. Only
@@ -278,8 +275,7 @@ impl Tape {
         ensures kept { self.new ≡ record self.old { crosses = self.new.crosses } }
         ensures count { self.new.crosses ≤ self.old.crosses + length self.old.edges }
     {
-        self.edges
-            .is_black(c, self.frame.margin, row_height(self.frame, r))
+        self.edges.is_black(c, RowAt::of(self.frame, r))
     }
 
     /// Adds the marks of the edges that meet a row, in order of their columns, and the spans that they touch. Each of

@@ -153,25 +153,21 @@ dot_between_centres_is_drawn = refl
 low_tip : List Edge
 low_tip = polygon ((32, 0) ∷ (32, 96) ∷ (105, 96) ∷ (105, 190) ∷ (150, 190) ∷ (150, 96) ∷ (224, 96) ∷ (224, 0) ∷ [])
 
-low_tip_is_drawn : drawn low_tip 4 ≡
-    codes "....  ....  ....  ...."
-    ∷ codes ".r..  ....  .r..  ...."
-    ∷ codes "####  ####  ####  ####"
-    ∷ codes "####  ####  ####  ####" ∷ []
-unfolding drawn row_by_each row_shown shown texts type_0 type_1 type_4 type_5 polygon path line low_tip
-low_tip_is_drawn = refl
-
 -- a tip that reaches further, but is less than half a pixel wide
 narrow_tip : List Edge
 narrow_tip = polygon ((32, 0) ∷ (32, 96) ∷ (105, 96) ∷ (105, 200) ∷ (133, 200) ∷ (133, 96) ∷ (224, 96) ∷ (224, 0) ∷ [])
 
-narrow_tip_is_drawn : drawn narrow_tip 4 ≡
+-- both are stubs
+stub_drawn : List (List ℕ)
+stub_drawn =
     codes "....  ....  ....  ...."
     ∷ codes ".r..  ....  .r..  ...."
     ∷ codes "####  ####  ####  ####"
     ∷ codes "####  ####  ####  ####" ∷ []
-unfolding drawn row_by_each row_shown shown texts type_0 type_1 type_4 type_5 polygon path line narrow_tip
-narrow_tip_is_drawn = refl
+
+both_tips_are_drawn : map (λ es. drawn es 4) (low_tip ∷ narrow_tip ∷ []) ≡ stub_drawn ∷ stub_drawn ∷ []
+unfolding drawn row_by_each row_shown shown texts type_0 type_1 type_4 type_5 polygon path line low_tip narrow_tip stub_drawn
+both_tips_are_drawn = refl
 
 -- a tip that reaches further, and is more than half a pixel wide
 wide_tip : List Edge

@@ -1,5 +1,6 @@
 pub mod Counted
 pub mod Dropouts
+pub mod Ends
 pub mod Examples
 pub mod Laws
 pub mod Passes

@@ -1,6 +1,6 @@
 //! The black pixels of a glyph in a window. Pixels outside count as black, so that no gap there is free.
 
-ghost use Rattle.std.specs.Prelude.{◌≡◌, not, ℕ, ℤ, true, length, ◌+◌, ◌*◌, ◌^◌, ◌<◌, ◌≤◌, ◌+ℤ◌, ◌&&◌, ◌||◌, nat_lt, pos, unsigned_abs, All, IfOk};
+ghost use Rattle.std.specs.Prelude.{◌≡◌, not, ℤ, true, length, ◌+◌, ◌*◌, ◌^◌, ◌<◌, ◌≤◌, ◌&&◌, ◌||◌, unsigned_abs, All, IfOk};
 ghost use Rattle.std.specs.Ordering.{int_eq};
 ghost use Rattle.tt_core.specs.Bits.{bit, stride};
 ghost use Rattle.tt_scan_edges.specs.Winding.{EdgeFits, FrameFits, is_black};
@@ -100,28 +100,8 @@ fn tape_for(alloc: Global, tape: &Tape, window: Window) -> Result<Tape, AllocErr
     }
 }
 
-/// Blackens the columns of one row of the window that edges blacken; `r` counts from the top.
-fn paint_row(sweep: &mut Sweep, tape: &mut Tape, window: Window, r: u32, row: &mut [u8])
-    requires window { WindowFits window }
-    requires rows { has_rows tape.old.frame window ≡ true }
-    requires within { r < window.height }
-    requires count { tape.old.crosses + length tape.old.edges ≤ 2 ^ 63 }
-    requires room { length tape.old.edges ≤ sweep.old.room }
-    requires width { window.width ≤ 8 * length row.old }
-    ensures bits { (k : ℕ) → bit row.new k ≡ (bit row.old k || (nat_lt k window.width
-        && is_black tape.old.edges (centre (window.left +ℤ pos k)) (centre (row_from_top window r)))) }
-    ensures len { length row.new ≡ length row.old }
-    ensures room { sweep.new.room ≡ sweep.old.room }
-    ensures tape { tape.new ≡ record tape.old { crosses = tape.new.crosses } }
-    ensures crosses { tape.new.crosses ≤ tape.old.crosses + length tape.old.edges }
-{
-    let frame = tape.frame();
-    sweep.cut(tape, first_row(frame, window) + i64::from(r));
-    let shift = -i64::from(window.left) - i64::from(frame.margin);
-    sweep.paint(shift, window.width, row);
-}
-
-/// Blackens the columns of row `r`, counted from the top. `bits` has the bits of all rows of the window.
+/// Blackens the columns of row `r` of the window that edges blacken; `r` counts from the top. `bits` has the bits of all
+/// rows of the window.
 fn ink_row(sweep: &mut Sweep, tape: &mut Tape, window: Window, r: u32, bits: &mut [u8])
     requires window { WindowFits window }
     requires rows { has_rows tape.old.frame window ≡ true }
@@ -139,7 +119,10 @@ fn ink_row(sweep: &mut Sweep, tape: &mut Tape, window: Window, r: u32, bits: &mu
 {
     let bytes = stride(window);
     let start = bytes * (window.height - 1 - r) as usize;
-    paint_row(sweep, tape, window, r, &mut bits[start..start + bytes]);
+    let frame = tape.frame();
+    sweep.cut(tape, first_row(frame, window) + i64::from(r));
+    let shift = -i64::from(window.left) - i64::from(frame.margin);
+    sweep.paint(shift, window.width, &mut bits[start..start + bytes]);
 }
 
 /// The number of a pixel of the window among the bits.

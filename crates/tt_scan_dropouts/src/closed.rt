@@ -1,9 +1,10 @@
 //! Which contours are closed.
 
-ghost use Rattle.std.specs.Prelude.{◌≡◌, true, ◌&&◌, length, All};
+ghost use Rattle.std.specs.Prelude.{◌≡◌, true, ◌&&◌, All};
 ghost use Rattle.std.specs.Ordering.{int_eq};
-ghost use Rattle.tt_scan.specs.Contours.{AreEnds, IsClosed, contours_at};
+ghost use Rattle.tt_scan.specs.Contours.{IsClosed, contours_at};
 
+use crate::contours::Contours;
 use tt_scan::Edge;
 
 /// Whether an edge ends where another begins.
@@ -30,10 +31,10 @@ fn is_closed(edges: &[Edge]) -> bool
 }
 
 /// Whether all contours of an outline are closed.
-pub(crate) fn are_closed(edges: &[Edge], ends: &[usize]) -> bool
-    requires { AreEnds (length edges.now) ends.now }
-    ensures { result ≡ true → All IsClosed (contours_at edges.now ends.now) }
+pub(crate) fn are_closed(contours: Contours) -> bool
+    ensures { result ≡ true → All IsClosed (contours_at contours.edges.now contours.ends.now) }
 {
+    let Contours { edges, ends } = contours;
     let mut from = 0;
     for i in 0..ends.len() {
         if !is_closed(&edges[from..ends[i]]) {

@@ -1,12 +1,11 @@
 //! The dropouts of a glyph in a window: first a pass over the rows, and then a pass over the columns. For the second
 //! pass the pixels that the first added are black.
 
-ghost use Rattle.std.specs.Prelude.{◌≡◌, false, ℤ, ◌^◌, ◌≤◌, ◌||◌, ◌&&◌, [], ◌∷◌, length, map, All, IfOk, OnOk};
+ghost use Rattle.std.specs.Prelude.{◌≡◌, false, ℤ, ◌||◌, ◌&&◌, [], ◌∷◌, map, All, IfOk, OnOk};
 ghost use Rattle.std.specs.List.{list_any};
 ghost use Rattle.std.specs.Ordering.{int_eq};
-ghost use Rattle.tt_scan.specs.Contours.{AreEnds, IsClosed, contours_at};
+ghost use Rattle.tt_scan.specs.Contours.{IsClosed, contours_at};
 ghost use Rattle.tt_scan_edges.specs.Winding.{EdgeFits};
-ghost use Rattle.tt_scan_gaps.specs.Boxes.{columns_of};
 ghost use Rattle.tt_scan_gaps.specs.Seen.{seen_by, turned_round};
 ghost use Rattle.tt_scan_dropouts.specs.Dropouts.{is_dropout, row_adds};
 ghost use Rattle.tt_scan_dropouts.specs.Passes.{has_pixel};
@@ -15,14 +14,15 @@ ghost use Rattle.tt_scan_dropouts.specs.Windows.{WindowFits, has, has_pixel_by, 
 ghost use Rattle.tt_scan_gaps.specs.declared.seen.Over.TheVariants as over;
 
 use crate::bitmap::Bitmap;
-use crate::marks::{crosses_free_gap, free_marks, touches_free_gap};
+use crate::contours::{Contours, Outlined};
+use crate::marks::{Pass, crosses_free_gap, free_marks, touches_free_gap};
 use crate::may_have::closed_may_have_dropouts;
-use crate::pass::pass;
+use crate::pass::added_by;
 use crate::pixel::Pixel;
 use crate::window::{Window, clipped, has, widened};
 use std::alloc::{AllocError, Global};
-use tt_scan::{Edge, Tape};
-use tt_scan_gaps::{Columns, Over, Rules, box_of, meets, seen_by, sort_marks, turned_round};
+use tt_scan::Edge;
+use tt_scan_gaps::{Over, Rules, box_of, meets, seen_by, sort_marks, turned_round};
 
 /// Edges with x and y exchanged. Error: memory ran out.
 fn all_turned_round(alloc: Global, edges: &[Edge]) -> Result<Vec<Edge>, AllocError>
@@ -35,112 +35,99 @@ fn all_turned_round(alloc: Global, edges: &[Edge]) -> Result<Vec<Edge>, AllocErr
     Ok(turned)
 }
 
-/// The pixels that a pass adds, by edges as the pass sees them. Error: memory ran out.
-fn pass_over(
-    alloc: Global,
-    rules: Rules,
-    columns: Columns,
-    ink: &Bitmap,
-    over: Over,
-    edges: &[Edge],
-    ends: &[usize],
-) -> Result<Vec<Pixel>, AllocError>
-    requires columns { columns ≡ columns_of edges.now }
-    requires edges { All EdgeFits edges.now }
-    requires ends { AreEnds (length edges.now) ends.now }
-    ensures { IfOk result (λ v. (p j : ℤ) → has_pixel v.items p j
-        ≡ row_adds rules (contours_at edges.now ends.now) (is_black_by over ink.now) p j) }
+/// The pixels that a pass adds, by contours as the pass sees them. Error: memory ran out.
+fn pass_over(alloc: Global, pass: Pass, contours: Contours) -> Result<Vec<Pixel>, AllocError>
+    ensures { IfOk result (λ v. (p j : ℤ) → has_pixel v.items p j ≡ row_adds pass.rules
+        (contours_at contours.edges.now contours.ends.now) (is_black_by pass.over pass.ink.now) p j) }
 {
-    let mut marks = free_marks(alloc, ink, over, rules.stubs, edges, ends)?;
+    let mut marks = free_marks(alloc, pass, contours)?;
     sort_marks(&mut marks);
-    pass(alloc, rules, columns, over, ink, &marks)
+    let (columns, _) = box_of(contours.edges);
+    added_by(alloc, pass, columns, &marks)
 }
 
 /// Whether an edge, as a pass sees it, makes a mark in a free gap: a crossing, or, where stubs are drawn, an end that
 /// touches a line.
-#[inline(never)]
-fn leaves_something(ink: &Bitmap, over: Over, stubs: bool, edge: &Edge) -> bool
-    requires { EdgeFits edge.now }
-    ensures { result ≡ is_in_free_gap stubs (is_black_by over ink.now) (seen_by over edge.now) }
-{
-    let edge = seen_by(over, *edge);
-    crosses_free_gap(ink, over, edge) || (stubs && touches_free_gap(ink, over, edge))
-}
-
-/// `leaves_something` with a quick test first: most edges are short and meet no line.
 #[inline(always)]
-fn is_in_free_gap(ink: &Bitmap, over: Over, stubs: bool, edge: &Edge) -> bool
+fn is_in_free_gap(pass: Pass, edge: &Edge) -> bool
     requires { EdgeFits edge.now }
-    ensures { result ≡ is_in_free_gap stubs (is_black_by over ink.now) (seen_by over edge.now) }
+    ensures { result ≡ is_in_free_gap pass.rules.stubs (is_black_by pass.over pass.ink.now) (seen_by pass.over edge.now) }
 {
-    meets(over, stubs, edge) && leaves_something(ink, over, stubs, edge)
+    // Most edges are short and meet no line.
+    if !meets(pass.over, pass.rules.stubs, edge) {
+        return false;
+    }
+    let edge = seen_by(pass.over, *edge);
+    crosses_free_gap(pass, edge) || (pass.rules.stubs && touches_free_gap(pass, edge))
 }
 
 /// Whether some edge makes a mark in a free gap by rows, and whether some edge does by columns. Where none does, the
 /// pass adds nothing, and its walk is not needed.
 #[inline(never)]
-fn some_in_free_gap(ink: &Bitmap, stubs: bool, edges: &[Edge]) -> (bool, bool)
+fn some_in_free_gap(rules: Rules, ink: &Bitmap, edges: &[Edge]) -> (bool, bool)
     requires { All EdgeFits edges.now }
-    ensures rows { result.0 ≡ list_any (is_in_free_gap stubs (is_black_by over.Rows ink.now)) edges.now }
+    ensures rows { result.0 ≡ list_any (is_in_free_gap rules.stubs (is_black_by over.Rows ink.now)) edges.now }
     ensures columns { result.1
-        ≡ list_any (is_in_free_gap stubs (is_black_by over.Columns ink.now)) (map turned_round edges.now) }
+        ≡ list_any (is_in_free_gap rules.stubs (is_black_by over.Columns ink.now)) (map turned_round edges.now) }
 {
+    let across = Pass {
+        rules,
+        over: Over::Rows,
+        ink,
+    };
+    let along = Pass {
+        rules,
+        over: Over::Columns,
+        ink,
+    };
     let mut rows = false;
     let mut columns = false;
     for edge in edges {
-        rows = is_in_free_gap(ink, Over::Rows, stubs, edge) || rows;
-        columns = is_in_free_gap(ink, Over::Columns, stubs, edge) || columns;
+        rows = is_in_free_gap(across, edge) || rows;
+        columns = is_in_free_gap(along, edge) || columns;
     }
     (rows, columns)
 }
 
-/// The pixels that the pass over the rows adds; none where no edge makes a mark in a free gap. Error: memory ran out.
-fn added_by_rows(
+/// The pixels that a pass adds; none where no edge makes a mark in a free gap. Error: memory ran out.
+fn added(
     alloc: Global,
-    rules: Rules,
-    columns: Columns,
-    ink: &Bitmap,
+    pass: Pass,
     some: bool,
-    edges: &[Edge],
-    ends: &[usize],
+    contours: Contours,
 ) -> Result<Vec<Pixel>, AllocError>
-    requires columns { columns ≡ columns_of edges.now }
-    requires some { some ≡ false → list_any (is_in_free_gap rules.stubs (is_black_by over.Rows ink.now)) edges.now ≡ false }
-    requires edges { All EdgeFits edges.now }
-    requires ends { AreEnds (length edges.now) ends.now }
-    ensures { IfOk result (λ v. (p j : ℤ) → has_pixel v.items p j
-        ≡ row_adds rules (contours_at edges.now ends.now) (is_black_by over.Rows ink.now) p j) }
+    requires { some ≡ false → list_any (is_in_free_gap pass.rules.stubs (is_black_by pass.over pass.ink.now))
+        contours.edges.now ≡ false }
+    ensures { IfOk result (λ v. (p j : ℤ) → has_pixel v.items p j ≡ row_adds pass.rules
+        (contours_at contours.edges.now contours.ends.now) (is_black_by pass.over pass.ink.now) p j) }
 {
     if !some {
         return Ok(Vec::new(alloc));
     }
-    pass_over(alloc, rules, columns, ink, Over::Rows, edges, ends)
+    pass_over(alloc, pass, contours)
 }
 
-/// The pixels that the pass over the columns adds, with column and row exchanged; none where no edge makes a mark in a
-/// free gap. Error: memory ran out.
-fn added_by_columns(
+/// `added` for contours with x and y exchanged, which take memory only where the pass is needed.
+fn added_turned(
     alloc: Global,
-    rules: Rules,
-    rows: Columns,
-    ink: &Bitmap,
+    pass: Pass,
     some: bool,
-    edges: &[Edge],
-    ends: &[usize],
+    contours: Contours,
 ) -> Result<Vec<Pixel>, AllocError>
-    requires rows { rows ≡ columns_of (map turned_round edges.now) }
-    requires some { some ≡ false
-        → list_any (is_in_free_gap rules.stubs (is_black_by over.Columns ink.now)) (map turned_round edges.now) ≡ false }
-    requires edges { All EdgeFits edges.now }
-    requires ends { AreEnds (length edges.now) ends.now }
-    ensures { IfOk result (λ v. (p j : ℤ) → has_pixel v.items p j
-        ≡ row_adds rules (contours_at (map turned_round edges.now) ends.now) (is_black_by over.Columns ink.now) p j) }
+    requires { some ≡ false → list_any (is_in_free_gap pass.rules.stubs (is_black_by pass.over pass.ink.now))
+        (map turned_round contours.edges.now) ≡ false }
+    ensures { IfOk result (λ v. (p j : ℤ) → has_pixel v.items p j ≡ row_adds pass.rules
+        (contours_at (map turned_round contours.edges.now) contours.ends.now) (is_black_by pass.over pass.ink.now) p j) }
 {
     if !some {
         return Ok(Vec::new(alloc));
     }
-    let turned = all_turned_round(alloc, edges)?;
-    pass_over(alloc, rules, rows, ink, Over::Columns, &turned, ends)
+    let turned = all_turned_round(alloc, contours.edges)?;
+    let contours = Contours {
+        edges: &turned,
+        ends: contours.ends,
+    };
+    pass_over(alloc, pass, contours)
 }
 
 /// The pixel of a pass, by its column and its row.
@@ -186,34 +173,35 @@ fn push_within(
 }
 
 /// The dropouts in a window of a glyph: the pixels that are black besides those of the scan converter's rules 1 and 2.
-/// OpenType, "TrueType Fundamentals", rules 3 and 4. The glyph's edges are on a tape, and each contour ends before the
-/// edge of a number in `ends`. A caller asks `may_have_dropouts` first, once for all windows of a glyph. Error: memory
-/// ran out.
-pub fn dropouts(
-    alloc: Global,
-    rules: Rules,
-    tape: &Tape,
-    ends: &[usize],
-    window: Window,
-) -> Result<Vec<Pixel>, AllocError>
-    requires few { length tape.now.edges ≤ 2 ^ 32 }
-    requires ends { AreEnds (length tape.now.edges) ends.now }
-    requires window { WindowFits (widened 2 window) }
+/// OpenType, "TrueType Fundamentals", rules 3 and 4. A caller asks `may_have_dropouts` first, once for all windows of a
+/// glyph. Error: memory ran out.
+pub fn dropouts(alloc: Global, glyph: Outlined, window: Window) -> Result<Vec<Pixel>, AllocError>
+    requires { WindowFits (widened 2 window) }
     ensures exact { IfOk result (λ v. (c j : ℤ) → has_pixel v.items c j
-        ≡ (has window c j && is_dropout rules (contours_at tape.now.edges ends.now) c j)) }
+        ≡ (has window c j && is_dropout glyph.rules (contours_at glyph.tape.now.edges glyph.ends.now) c j)) }
 {
-    let edges = tape.lend();
-    let (columns, rows) = box_of(edges);
+    let contours = glyph.contours();
+    let (columns, rows) = box_of(contours.edges);
     let part = match clipped(window, columns, rows) {
         Some(part) => part,
         None => return Ok(Vec::new(alloc)),
     };
-    let mut ink = Bitmap::inked(alloc, tape, widened(part))?;
-    let (some_by_rows, some_by_columns) = some_in_free_gap(&ink, rules.stubs, edges);
-    let by_rows = added_by_rows(alloc, rules, columns, &ink, some_by_rows, edges, ends)?;
+    let mut ink = Bitmap::inked(alloc, glyph.tape, widened(part))?;
+    let (some_by_rows, some_by_columns) = some_in_free_gap(glyph.rules, &ink, contours.edges);
+    let across = Pass {
+        rules: glyph.rules,
+        over: Over::Rows,
+        ink: &ink,
+    };
+    let by_rows = added(alloc, across, some_by_rows, contours)?;
     // The pixels that are black now make no further gap free, so the test by columns remains true.
     ink.blacken_all(&by_rows);
-    let by_columns = added_by_columns(alloc, rules, rows, &ink, some_by_columns, edges, ends)?;
+    let along = Pass {
+        rules: glyph.rules,
+        over: Over::Columns,
+        ink: &ink,
+    };
+    let by_columns = added_turned(alloc, along, some_by_columns, contours)?;
     let mut found = Vec::new(alloc);
     push_within(&mut found, part, Over::Rows, &by_rows)?;
     push_within(&mut found, part, Over::Columns, &by_columns)?;
@@ -223,20 +211,16 @@ pub fn dropouts(
 /// The dropouts in a window of a glyph whose contours are closed. Error: memory ran out.
 pub(crate) fn closed_dropouts(
     alloc: Global,
-    rules: Rules,
-    tape: &Tape,
-    ends: &[usize],
+    glyph: Outlined,
     window: Window,
 ) -> Result<Vec<Pixel>, AllocError>
-    requires few { length tape.now.edges ≤ 2 ^ 32 }
-    requires ends { AreEnds (length tape.now.edges) ends.now }
-    requires closed { All IsClosed (contours_at tape.now.edges ends.now) }
+    requires closed { All IsClosed (contours_at glyph.tape.now.edges glyph.ends.now) }
     requires window { WindowFits (widened 2 window) }
     ensures exact { IfOk result (λ v. (c j : ℤ) → has_pixel v.items c j
-        ≡ (has window c j && is_dropout rules (contours_at tape.now.edges ends.now) c j)) }
+        ≡ (has window c j && is_dropout glyph.rules (contours_at glyph.tape.now.edges glyph.ends.now) c j)) }
 {
-    if !closed_may_have_dropouts(rules.stubs, tape.lend(), ends) {
+    if !closed_may_have_dropouts(glyph.rules.stubs, glyph.contours()) {
         return Ok(Vec::new(alloc));
     }
-    dropouts(alloc, rules, tape, ends, window)
+    dropouts(alloc, glyph, window)
 }

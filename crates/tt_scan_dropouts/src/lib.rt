@@ -5,6 +5,7 @@
 //! Here are the passes over all rows and columns of a glyph, with worked pictures and lemmas, and the code:
 //!
 //! ```text
+//! contours.rt   the contours of an outline, and a glyph whose dropouts are filled
 //! closed.rt     which contours are closed
 //! may_have.rt   whether a glyph may have dropouts
 //! window.rt     a window of pixels; pixel.rt has a pixel
@@ -23,6 +24,7 @@
 
 mod bitmap;
 mod closed;
+mod contours;
 mod counting;
 mod filling;
 pub mod laws;
@@ -33,6 +35,7 @@ mod picture;
 mod pixel;
 mod window;
 
+pub use contours::Outlined;
 pub use counting::{BAND_ROWS, edges_counted, filling_counted};
 pub use filling::dropouts;
 pub use may_have::may_have_dropouts;

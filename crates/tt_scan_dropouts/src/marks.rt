@@ -2,7 +2,7 @@
 //! are omitted.
 
 ghost use Rattle.std.specs.Prelude.{◌≡◌, ◌++◌, [], ◌∷◌, ◌<◌, true, length, map, All, IfOk, OnOk};
-ghost use Rattle.tt_scan.specs.Contours.{AreEnds, contours_at};
+ghost use Rattle.tt_scan.specs.Contours.{contours_at};
 ghost use Rattle.tt_scan_edges.specs.Winding.{EdgeFits};
 ghost use Rattle.tt_scan_gaps.specs.Crossings.{crossings, touches};
 ghost use Rattle.tt_scan_gaps.specs.Gaps.{free_marks, is_free};
@@ -10,28 +10,41 @@ ghost use Rattle.tt_scan_gaps.specs.Walk.{contour_marks, edge_marks, mark_of, ma
 ghost use Rattle.tt_scan_dropouts.specs.Windows.{is_black_by};
 
 use crate::bitmap::Bitmap;
+use crate::contours::Contours;
 use std::alloc::{AllocError, Global};
 use tt_scan::Edge;
 use tt_scan_gaps::{
-    Crossing, Mark, Over, Step, crossing, gap_crossed, is_of_stub, line_crossed, lines_crossed,
-    touch, walk,
+    Crossing, Mark, Over, Rules, Step, crossing, gap_crossed, is_of_stub, line_crossed,
+    lines_crossed, touch, walk,
 };
+
+/// A pass over the rows or the columns of a glyph: its rules, and the pixels that are black before it.
+#[derive(Clone, Copy)]
+pub(crate) struct Pass<'a> {
+    pub(crate) rules: Rules,
+    pub(crate) over: Over,
+    pub(crate) ink: &'a Bitmap,
+}
 
 /// Whether the gap of a crossing is free.
 #[inline(always)]
-pub(crate) fn is_free(ink: &Bitmap, over: Over, at: Crossing) -> bool
-    ensures { result ≡ is_free (is_black_by over ink.now) at.gap at.line }
+pub(crate) fn is_free(pass: Pass, at: Crossing) -> bool
+    ensures { result ≡ is_free (is_black_by pass.over pass.ink.now) at.gap at.line }
 {
-    ink.is_free(over, i64::from(at.gap), i64::from(at.line))
+    pass.ink
+        .is_free(pass.over, i64::from(at.gap), i64::from(at.line))
 }
 
 /// Whether an edge crosses a free gap.
-pub(crate) fn crosses_free_gap(ink: &Bitmap, over: Over, edge: Edge) -> bool
+pub(crate) fn crosses_free_gap(pass: Pass, edge: Edge) -> bool
     requires { EdgeFits edge }
-    ensures { result ≡ some_in_free_gap (is_black_by over ink.now) (crossings edge) }
+    ensures { result ≡ some_in_free_gap (is_black_by pass.over pass.ink.now) (crossings edge) }
 {
     for k in 0..lines_crossed(edge) {
-        if ink.is_free(over, gap_crossed(edge, k), line_crossed(edge, k)) {
+        if pass
+            .ink
+            .is_free(pass.over, gap_crossed(edge, k), line_crossed(edge, k))
+        {
             return true;
         }
     }
@@ -39,28 +52,23 @@ pub(crate) fn crosses_free_gap(ink: &Bitmap, over: Over, edge: Edge) -> bool
 }
 
 /// Whether an end of an edge touches a line in a free gap.
-pub(crate) fn touches_free_gap(ink: &Bitmap, over: Over, edge: Edge) -> bool
+pub(crate) fn touches_free_gap(pass: Pass, edge: Edge) -> bool
     requires { EdgeFits edge }
-    ensures { result ≡ some_in_free_gap (is_black_by over ink.now) (touches edge) }
+    ensures { result ≡ some_in_free_gap (is_black_by pass.over pass.ink.now) (touches edge) }
 {
     match touch(edge) {
-        Some(at) => is_free(ink, over, at),
+        Some(at) => is_free(pass, at),
         None => false,
     }
 }
 
 /// Adds a crossing as a mark that needs a pixel. Error: memory ran out.
 #[inline(always)]
-fn push_asking(
-    marks: &mut Vec<Mark>,
-    ink: &Bitmap,
-    over: Over,
-    at: Crossing,
-) -> Result<(), AllocError>
+fn push_asking(marks: &mut Vec<Mark>, pass: Pass, at: Crossing) -> Result<(), AllocError>
     ensures { OnOk result (marks.new.items
-        ≡ marks.old.items ++ free_marks (is_black_by over ink.now) (mark_of true at ∷ [])) }
+        ≡ marks.old.items ++ free_marks (is_black_by pass.over pass.ink.now) (mark_of true at ∷ [])) }
 {
-    if is_free(ink, over, at) {
+    if is_free(pass, at) {
         marks.push(Mark { at, asks: true })?;
     }
     Ok(())
@@ -69,17 +77,16 @@ fn push_asking(
 /// Adds the marks of step `k` of a walk. Error: memory ran out.
 fn push_step_marks(
     marks: &mut Vec<Mark>,
-    ink: &Bitmap,
-    over: Over,
+    pass: Pass,
     steps: &[Step],
     k: usize,
 ) -> Result<(), AllocError>
     requires { k < length steps.now }
     ensures { OnOk result (marks.new.items
-        ≡ marks.old.items ++ free_marks (is_black_by over ink.now) (step_marks steps.now k)) }
+        ≡ marks.old.items ++ free_marks (is_black_by pass.over pass.ink.now) (step_marks steps.now k)) }
 {
     if let Step::Cross(at) = steps[k] {
-        if is_free(ink, over, at) {
+        if is_free(pass, at) {
             marks.push(Mark {
                 at,
                 asks: !is_of_stub(steps, k, at),
@@ -90,69 +97,49 @@ fn push_step_marks(
 }
 
 /// Adds the marks of a walk, where stubs are not drawn. Error: memory ran out.
-fn push_walk_marks(
-    marks: &mut Vec<Mark>,
-    ink: &Bitmap,
-    over: Over,
-    steps: &[Step],
-) -> Result<(), AllocError>
+fn push_walk_marks(marks: &mut Vec<Mark>, pass: Pass, steps: &[Step]) -> Result<(), AllocError>
     ensures { OnOk result (marks.new.items
-        ≡ marks.old.items ++ free_marks (is_black_by over ink.now) (walk_marks steps.now)) }
+        ≡ marks.old.items ++ free_marks (is_black_by pass.over pass.ink.now) (walk_marks steps.now)) }
 {
     for k in 0..steps.len() {
-        push_step_marks(marks, ink, over, steps, k)?;
+        push_step_marks(marks, pass, steps, k)?;
     }
     Ok(())
 }
 
 /// Adds the crossings of an edge. Error: memory ran out.
-fn push_crossings(
-    marks: &mut Vec<Mark>,
-    ink: &Bitmap,
-    over: Over,
-    edge: Edge,
-) -> Result<(), AllocError>
+fn push_crossings(marks: &mut Vec<Mark>, pass: Pass, edge: Edge) -> Result<(), AllocError>
     requires { EdgeFits edge }
     ensures { OnOk result (marks.new.items
-        ≡ marks.old.items ++ free_marks (is_black_by over ink.now) (map (mark_of true) (crossings edge))) }
+        ≡ marks.old.items ++ free_marks (is_black_by pass.over pass.ink.now) (map (mark_of true) (crossings edge))) }
 {
     for k in 0..lines_crossed(edge) {
-        push_asking(marks, ink, over, crossing(edge, k))?;
+        push_asking(marks, pass, crossing(edge, k))?;
     }
     Ok(())
 }
 
 /// Adds the marks of an edge, where stubs are drawn. Error: memory ran out.
-fn push_edge_marks(
-    marks: &mut Vec<Mark>,
-    ink: &Bitmap,
-    over: Over,
-    edge: Edge,
-) -> Result<(), AllocError>
+fn push_edge_marks(marks: &mut Vec<Mark>, pass: Pass, edge: Edge) -> Result<(), AllocError>
     requires { EdgeFits edge }
     ensures { OnOk result (marks.new.items
-        ≡ marks.old.items ++ free_marks (is_black_by over ink.now) (edge_marks edge)) }
+        ≡ marks.old.items ++ free_marks (is_black_by pass.over pass.ink.now) (edge_marks edge)) }
 {
-    push_crossings(marks, ink, over, edge)?;
+    push_crossings(marks, pass, edge)?;
     if let Some(at) = touch(edge) {
-        push_asking(marks, ink, over, at)?;
+        push_asking(marks, pass, at)?;
     }
     Ok(())
 }
 
 /// Adds the marks of a contour's edges, where stubs are drawn. Error: memory ran out.
-fn push_all_edge_marks(
-    marks: &mut Vec<Mark>,
-    ink: &Bitmap,
-    over: Over,
-    edges: &[Edge],
-) -> Result<(), AllocError>
+fn push_all_edge_marks(marks: &mut Vec<Mark>, pass: Pass, edges: &[Edge]) -> Result<(), AllocError>
     requires { All EdgeFits edges.now }
     ensures { OnOk result (marks.new.items
-        ≡ marks.old.items ++ free_marks (is_black_by over ink.now) (contour_marks true edges.now)) }
+        ≡ marks.old.items ++ free_marks (is_black_by pass.over pass.ink.now) (contour_marks true edges.now)) }
 {
     for i in 0..edges.len() {
-        push_edge_marks(marks, ink, over, edges[i])?;
+        push_edge_marks(marks, pass, edges[i])?;
     }
     Ok(())
 }
@@ -161,41 +148,34 @@ fn push_all_edge_marks(
 fn push_contour_marks(
     alloc: Global,
     marks: &mut Vec<Mark>,
-    ink: &Bitmap,
-    over: Over,
-    stubs: bool,
+    pass: Pass,
     edges: &[Edge],
 ) -> Result<(), AllocError>
     requires { All EdgeFits edges.now }
     ensures { OnOk result (marks.new.items
-        ≡ marks.old.items ++ free_marks (is_black_by over ink.now) (contour_marks stubs edges.now)) }
+        ≡ marks.old.items ++ free_marks (is_black_by pass.over pass.ink.now) (contour_marks pass.rules.stubs edges.now)) }
 {
-    if stubs {
-        return push_all_edge_marks(marks, ink, over, edges);
+    if pass.rules.stubs {
+        return push_all_edge_marks(marks, pass, edges);
     }
     let steps = walk(alloc, edges)?;
-    push_walk_marks(marks, ink, over, &steps)
+    push_walk_marks(marks, pass, &steps)
 }
 
-/// The marks of an outline's contours in free gaps; `ends` has for each contour the number of its edges and of those
-/// before it. Error: memory ran out.
+/// The marks of an outline's contours in free gaps. Error: memory ran out.
 pub(crate) fn free_marks(
     alloc: Global,
-    ink: &Bitmap,
-    over: Over,
-    stubs: bool,
-    edges: &[Edge],
-    ends: &[usize],
+    pass: Pass,
+    contours: Contours,
 ) -> Result<Vec<Mark>, AllocError>
-    requires edges { All EdgeFits edges.now }
-    requires ends { AreEnds (length edges.now) ends.now }
-    ensures { IfOk result (λ v. v.items
-        ≡ free_marks (is_black_by over ink.now) (marks stubs (contours_at edges.now ends.now))) }
+    ensures { IfOk result (λ v. v.items ≡ free_marks (is_black_by pass.over pass.ink.now)
+        (marks pass.rules.stubs (contours_at contours.edges.now contours.ends.now))) }
 {
+    let Contours { edges, ends } = contours;
     let mut marks = Vec::new(alloc);
     let mut from = 0;
     for i in 0..ends.len() {
-        push_contour_marks(alloc, &mut marks, ink, over, stubs, &edges[from..ends[i]])?;
+        push_contour_marks(alloc, &mut marks, pass, &edges[from..ends[i]])?;
         from = ends[i];
     }
     Ok(marks)

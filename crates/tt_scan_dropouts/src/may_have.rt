@@ -10,6 +10,7 @@ ghost use Rattle.tt_scan_dropouts.specs.Dropouts.{is_dropout};
 ghost use Rattle.tt_scan_gaps.specs.declared.mark.Rules.{Rules};
 
 use crate::closed::are_closed;
+use crate::contours::Contours;
 use tt_scan::Edge;
 use tt_scan_gaps::{has_end_on_line, may_cross_both_ways};
 
@@ -28,17 +29,15 @@ fn some_end_on_line(edges: &[Edge]) -> bool
 
 /// Whether an outline with closed contours may have dropouts. False means that it has none: it crosses no free gap both
 /// rising and falling, and, where stubs are drawn, no edge ends on a line.
-pub(crate) fn closed_may_have_dropouts(stubs: bool, edges: &[Edge], ends: &[usize]) -> bool
-    requires edges { All EdgeFits edges.now }
-    requires ends { AreEnds (length edges.now) ends.now }
-    requires closed { All IsClosed (contours_at edges.now ends.now) }
+pub(crate) fn closed_may_have_dropouts(stubs: bool, contours: Contours) -> bool
+    requires { All IsClosed (contours_at contours.edges.now contours.ends.now) }
     ensures { result ≡ false → (rules : Rules) → rules.stubs ≡ stubs → (c j : ℤ)
-        → is_dropout rules (contours_at edges.now ends.now) c j ≡ false }
+        → is_dropout rules (contours_at contours.edges.now contours.ends.now) c j ≡ false }
 {
-    if stubs && some_end_on_line(edges) {
+    if stubs && some_end_on_line(contours.edges) {
         return true;
     }
-    may_cross_both_ways(edges)
+    may_cross_both_ways(contours.edges)
 }
 
 /// Whether an outline may have dropouts. False means that it has none: its contours are closed, it crosses no free gap
@@ -50,5 +49,6 @@ pub fn may_have_dropouts(stubs: bool, edges: &[Edge], ends: &[usize]) -> bool
     ensures { result ≡ false → (rules : Rules) → rules.stubs ≡ stubs → (c j : ℤ)
         → is_dropout rules (contours_at edges.now ends.now) c j ≡ false }
 {
-    !are_closed(edges, ends) || closed_may_have_dropouts(stubs, edges, ends)
+    let contours = Contours { edges, ends };
+    !are_closed(contours) || closed_may_have_dropouts(stubs, contours)
 }

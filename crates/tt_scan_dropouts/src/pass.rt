@@ -7,21 +7,20 @@ ghost use Rattle.tt_scan_dropouts.specs.Passes.{gives_way, has_pixel};
 ghost use Rattle.tt_scan_dropouts.specs.Windows.{is_black_by};
 ghost use Rattle.tt_scan_gaps.specs.declared.mark.Mark.{Mark};
 
-use crate::bitmap::Bitmap;
-use crate::marks::is_free;
+use crate::marks::{Pass, is_free};
 use crate::pixel::Pixel;
 use std::alloc::{AllocError, Global};
-use tt_scan_gaps::{Columns, Mark, Over, Rules, group_end, pixel_of, some_asks};
+use tt_scan_gaps::{Columns, Mark, group_end, pixel_of, some_asks};
 
 /// The pixel that the gap of these marks needs.
-fn asked(rules: Rules, columns: Columns, over: Over, ink: &Bitmap, marks: &[Mark]) -> Option<i64>
+fn asked(pass: Pass, columns: Columns, marks: &[Mark]) -> Option<i64>
     requires { 0 < length marks.now }
-    ensures { (d : Mark) → result ≡ asked_by rules columns (is_black_by over ink.now)
+    ensures { (d : Mark) → result ≡ asked_by pass.rules columns (is_black_by pass.over pass.ink.now)
         (get_or marks.now 0 d).at.line (get_or marks.now 0 d).at.gap marks.now }
 {
     let at = marks[0].at;
-    if is_free(ink, over, at) && some_asks(marks) {
-        Some(pixel_of(rules, columns, at.gap, marks))
+    if is_free(pass, at) && some_asks(marks) {
+        Some(pixel_of(pass.rules, columns, at.gap, marks))
     } else {
         None
     }
@@ -74,25 +73,23 @@ fn grant(added: &mut Vec<Pixel>, last: Option<Wish>, wish: Wish) -> Result<(), A
     Ok(())
 }
 
-/// The pixels that a pass adds, by marks in order and a bitmap of the black pixels. Error: memory ran out.
-pub(crate) fn pass(
+/// The pixels that a pass adds, by marks in order and the columns of the glyph's box. Error: memory ran out.
+pub(crate) fn added_by(
     alloc: Global,
-    rules: Rules,
+    pass: Pass,
     columns: Columns,
-    over: Over,
-    ink: &Bitmap,
     marks: &[Mark],
 ) -> Result<Vec<Pixel>, AllocError>
     requires { IsInOrder marks.now }
     ensures { IfOk result (λ v. (p j : ℤ)
-        → has_pixel v.items p j ≡ is_added rules columns marks.now (is_black_by over ink.now) p j) }
+        → has_pixel v.items p j ≡ is_added pass.rules columns marks.now (is_black_by pass.over pass.ink.now) p j) }
 {
     let mut added = Vec::new(alloc);
     let mut last = None;
     let mut start = 0;
     while start < marks.len() {
         let end = group_end(marks, start);
-        if let Some(pixel) = asked(rules, columns, over, ink, &marks[start..end]) {
+        if let Some(pixel) = asked(pass, columns, &marks[start..end]) {
             let wish = Wish {
                 line: marks[start].at.line,
                 gap: marks[start].at.gap,

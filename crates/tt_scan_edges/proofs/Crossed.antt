@@ -1,25 +1,22 @@
 -- What the crossing of an edge leaves in a row.
-use Rattle.std.proofs.Common.{◌≡◌, ◌∙◌, ap, sym, Bool, not, ◌∷◌, length, List, refl, ℕ, ◌+◌, ◌≤◌, ◌||◌, [], ℤ, pos, ◌+ℤ◌, int_le, if◌then◌else◌, arith}
+use Rattle.std.proofs.Common.{◌≡◌, ◌∙◌, ap, sym, Bool, not, ◌∷◌, length, List, refl, ℕ, ◌||◌, [], ℤ, arith}
 use Rattle.std.specs.List.Sorted.{IsPermutation}
 use Rattle.tt_scan_edges.specs.declared.edge.Cross.{Cross}
 use Rattle.tt_scan_edges.specs.declared.edge.Edge.{Edge}
 use Rattle.tt_scan_edges.specs.declared.mark.TurnMark.{TurnMark}
-use Rattle.tt_scan_edges.specs.Crossing.{spans, IsCross}
-use Rattle.tt_scan_edges.specs.Left.{Left, HasLeft, IsBlank, IsLeftBy}
-use Rattle.tt_scan_edges.specs.Marks.{covers, turns}
+use Rattle.tt_scan_edges.specs.Crossing.{IsCross}
+use Rattle.tt_scan_edges.specs.Left.{Left, HasCross, HasLeft, IsBlank, IsLeftBy}
+use Rattle.tt_scan_edges.specs.Marks.{turns}
 use Rattle.tt_scan_edges.specs.Winding.{is_zero}
 use Rattle.tt_scan_edges.proofs.Bools.{or_false}
 use Rattle.tt_scan_edges.proofs.Stretches.{turns_permuted}
 
-pub left_by_cross : (e : Edge) (m : ℕ) (y : ℤ) (x : Cross) (k l : Left) → IsCross e m y x
-    → ((c : ℤ) → covers l.black c ≡ (covers k.black c || spans x.touch c))
-    → ((c : ℤ) → turns l.marks c ≡ turns k.marks c +ℤ (if int_le x.first c then x.turn else pos 0))
-    → l.most ≡ k.most → k.room ≤ l.room + 1 → HasLeft e m y k l
-left_by_cross e m y x k l exact black turn most room = record {
-  black = λ c. rw (exact.touch c) (black c);
-  turn = λ c. rw (exact.right c) (turn c);
-  whole = most;
-  room = room;
+pub left_by_cross : (e : Edge) (m : ℕ) (y : ℤ) (x : Cross) (k l : Left) → IsCross e m y x → HasCross x k l → HasLeft e m y k l
+left_by_cross e m y x k l exact has = record {
+  black = λ c. rw (exact.touch c) (has.black c);
+  turn = λ c. rw (exact.right c) (has.turn c);
+  whole = has.whole;
+  room = has.room;
 }
 
 pub left_settled : (es : List Edge) (m : ℕ) (y : ℤ) (most : ℕ) (k l : Left) → IsLeftBy es m y most k → IsPermutation k.marks l.marks

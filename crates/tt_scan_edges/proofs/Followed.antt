@@ -35,7 +35,7 @@ walk_crosses e m y w r is sloped here above touch order turn first =
     (λ down.
     let low = from_lower_turned e.ay e.by y down here in
     let high = to_upper_turned e.ay e.by (y +ℤ pos 8192) down above in
-    let one : Cross = record { touch = r.touch; turn = pos 1; first = r.first } in
+    let one : Cross = record { touch = r.touch; turn = pos 1; first = r.first; bound = omega arith; near = r.near } in
     let falls = (is.falls down).turn in
     round_cross e (turned_round e) m y one r refl refl refl refl
     (up_crosses (turned_round e) m y (at_of w) one (is.falls down).at low (omega (arith, ints, high)) touch order refl first)

@@ -2,8 +2,7 @@
 //! edge's columns at a height, and each call counts. `lend` lends the edges to those who need their rows, and to dropout
 //! control.
 
-ghost use Rattle.std.specs.Prelude.{◌≡◌, true, ◌+◌, ◌^◌, ◌≢◌, pos, ◌<◌, ◌≤◌, length, [], ◌∷◌, ◌++◌, unsigned_abs, IfOk, OnOk};
-ghost use Rattle.tt_core.specs.Limits.{margin_limit};
+ghost use Rattle.std.specs.Prelude.{◌≡◌, true, ◌+◌, ◌^◌, ◌≢◌, pos, ◌<◌, ◌≤◌, length, [], ◌∷◌, ◌++◌, All, IfOk, OnOk};
 ghost use Rattle.tt_scan_edges.specs.Counted.{edge_at};
 ghost use Rattle.tt_scan_edges.specs.Crossing.{IsCross};
 ghost use Rattle.tt_scan_edges.specs.Entries.{edge_of};
@@ -13,6 +12,7 @@ ghost use Rattle.tt_scan_edges.specs.Winding.{EdgeFits, is_between};
 use crate::crossing::{crossing, crossing_met};
 use crate::edge::{Cross, Edge};
 use crate::entry::Entry;
+use crate::row_at::RowAt;
 use crate::walk::Walk;
 use std::alloc::{AllocError, Global};
 use std::marker::Model;
@@ -25,12 +25,16 @@ pub struct CountedEdges {
 }
 
 impl Model for CountedEdges {
+    ghost use Rattle.std.specs.Prelude.{All};
     ghost use Rattle.std.specs.Vec.{vec_capacity};
     ghost use Rattle.tt_scan_edges.specs.Counted as counted;
+    ghost use Rattle.tt_scan_edges.specs.Winding.{EdgeFits};
 
     ghost Value = { counted.CountedEdges };
 
     ghost view = { λ e. record { edges = e.edges.items; crosses = e.crosses; capacity = vec_capacity e.edges } };
+
+    ghost invariant = { λ e. All EdgeFits e.edges.items };
 }
 
 impl CountedEdges {
@@ -57,7 +61,8 @@ impl CountedEdges {
     /// Adds an edge; there is memory for it.
     #[inline(always)]
     pub fn push_reserved(&mut self, edge: Edge)
-        requires { length self.old.edges < self.old.capacity }
+        requires edge { EdgeFits edge }
+        requires room { length self.old.edges < self.old.capacity }
         ensures { self.new ≡ record self.old { edges = self.old.edges ++ edge ∷ [] } }
     {
         self.edges.push_reserved(edge);
@@ -93,7 +98,8 @@ impl CountedEdges {
     /// The edges, for their rows and for dropout control.
     #[inline(always)]
     pub fn lend(&self) -> &[Edge]
-        ensures { result.now ≡ self.now.edges }
+        ensures exact { result.now ≡ self.now.edges }
+        ensures fit { All EdgeFits result.now }
     {
         self.edges.as_slice()
     }
@@ -102,7 +108,8 @@ impl CountedEdges {
     #[inline(always)]
     fn edge(&self, i: usize) -> Edge
         requires { i < length self.now.edges }
-        ensures { result ≡ edge_at self.now.edges i }
+        ensures exact { result ≡ edge_at self.now.edges i }
+        ensures fits { EdgeFits result }
     {
         self.edges[i]
     }
@@ -114,71 +121,56 @@ impl CountedEdges {
         self.crosses
     }
 
-    /// Crosses edge `i` at a height.
-    pub fn cross(&mut self, i: usize, margin: u32, y: i64) -> Cross
+    /// Crosses edge `i` in a row.
+    pub fn cross(&mut self, i: usize, at: RowAt) -> Cross
         requires within { i < length self.old.edges }
-        requires edge { EdgeFits (edge_at self.old.edges i) }
-        requires margin { margin ≤ margin_limit }
         requires count { self.old.crosses < 2 ^ 63 }
-        ensures exact { IsCross (edge_at self.old.edges i) margin y result }
-        ensures bound { unsigned_abs result.turn ≤ 1 }
+        ensures exact { IsCross (edge_at self.old.edges i) at.frame.margin at.y result }
         ensures count { self.new ≡ record self.old { crosses = self.old.crosses + 1 } }
     {
         self.crosses += 1;
-        crossing(self.edges[i], margin, y)
+        crossing(self.edges[i], at)
     }
 
-    /// Crosses edge `i` at a height that it reaches.
+    /// Crosses edge `i` in a row that it reaches.
     #[inline(always)]
-    pub fn cross_met(&mut self, i: usize, margin: u32, y: i64) -> Cross
+    pub fn cross_met(&mut self, i: usize, at: RowAt) -> Cross
         requires within { i < length self.old.edges }
-        requires edge { EdgeFits (edge_at self.old.edges i) }
-        requires margin { margin ≤ margin_limit }
-        requires met { is_between (edge_at self.old.edges i).ay (edge_at self.old.edges i).by y ≡ true }
+        requires met { is_between (edge_at self.old.edges i).ay (edge_at self.old.edges i).by at.y ≡ true }
         requires count { self.old.crosses < 2 ^ 63 }
-        ensures exact { IsCross (edge_at self.old.edges i) margin y result }
-        ensures bound { unsigned_abs result.turn ≤ 1 }
-        ensures near { unsigned_abs result.first ≤ 2 ^ 20 }
+        ensures exact { IsCross (edge_at self.old.edges i) at.frame.margin at.y result }
         ensures count { self.new ≡ record self.old { crosses = self.old.crosses + 1 } }
     {
         self.crosses += 1;
-        crossing_met(self.edges[i], margin, y)
+        crossing_met(self.edges[i], at)
     }
 
-    /// Starts the walk of an edge at a height that it reaches, and crosses it there.
+    /// Starts the walk of an edge in a row that it reaches, and crosses it there.
     #[inline(always)]
-    pub fn start(&mut self, entry: Entry, margin: u32, y: i64) -> (Walk, Cross)
+    pub fn start(&mut self, entry: Entry, at: RowAt) -> (Walk, Cross)
         requires within { entry.edge < length self.old.edges }
-        requires edge { EdgeFits (edge_of self.old.edges entry) }
-        requires margin { margin ≤ margin_limit }
         requires sloped { (edge_of self.old.edges entry).ay ≢ (edge_of self.old.edges entry).by }
-        requires met { is_between (edge_of self.old.edges entry).ay (edge_of self.old.edges entry).by y ≡ true }
+        requires met { is_between (edge_of self.old.edges entry).ay (edge_of self.old.edges entry).by at.y ≡ true }
         requires count { self.old.crosses < 2 ^ 63 }
-        ensures walk { IsWalk (edge_of self.old.edges entry) margin y result.0 }
+        ensures walk { IsWalk (edge_of self.old.edges entry) at.frame.margin at.y result.0 }
         ensures entry { result.0.entry ≡ entry }
-        ensures exact { IsCross (edge_of self.old.edges entry) margin y result.1 }
-        ensures bound { unsigned_abs result.1.turn ≤ 1 }
-        ensures near { unsigned_abs result.1.first ≤ 2 ^ 20 }
+        ensures exact { IsCross (edge_of self.old.edges entry) at.frame.margin at.y result.1 }
         ensures count { self.new ≡ record self.old { crosses = self.old.crosses + 1 } }
     {
         let edge = self.edge(entry.edge as usize);
         self.crosses += 1;
-        Walk::new(edge, entry, margin, y)
+        Walk::new(edge, entry, at)
     }
 
     /// Takes a walk one row down, and crosses its edge there.
     #[inline(always)]
-    pub fn cross_below(&mut self, walk: &mut Walk, margin: u32, y: i64) -> Cross
+    pub fn cross_below(&mut self, walk: &mut Walk, at: RowAt) -> Cross
         requires within { walk.old.entry.edge < length self.old.edges }
-        requires edge { EdgeFits (edge_of self.old.edges walk.old.entry) }
-        requires margin { margin ≤ margin_limit }
-        requires below { GoesBelow (edge_of self.old.edges walk.old.entry) margin y walk.old }
+        requires below { GoesBelow (edge_of self.old.edges walk.old.entry) at.frame.margin at.y walk.old }
         requires count { self.old.crosses < 2 ^ 63 }
-        ensures exact { IsCross (edge_of self.old.edges walk.old.entry) margin y result }
-        ensures bound { unsigned_abs result.turn ≤ 1 }
-        ensures near { unsigned_abs result.first ≤ 2 ^ 20 }
+        ensures exact { IsCross (edge_of self.old.edges walk.old.entry) at.frame.margin at.y result }
         ensures some { result.turn ≢ pos 0 }
-        ensures walk { IsWalk (edge_of self.old.edges walk.old.entry) margin y walk.new }
+        ensures walk { IsWalk (edge_of self.old.edges walk.old.entry) at.frame.margin at.y walk.new }
         ensures entry { walk.new.entry ≡ walk.old.entry }
         ensures count { self.new ≡ record self.old { crosses = self.old.crosses + 1 } }
     {

@@ -16,58 +16,42 @@
 //! the edge, and it adds `turn` to the winding number there. The lower end counts and the upper does not, so that a
 //! joint of two edges counts once. `touch` serves rule 2: a centre on the contour is black. Both ends count.
 
-ghost use Rattle.std.specs.Prelude.{◌≡◌, true, ℕ, ℤ, ◌+◌, ◌^◌, ◌<◌, ◌≤◌, ◌&&◌, pos, int_lt, ◌-ℤ◌, ◌<ℤ◌, ◌≤ℤ◌, unsigned_abs, IfSome};
-ghost use Rattle.tt_core.specs.Limits.{margin_limit};
+ghost use Rattle.std.specs.Prelude.{◌≡◌, true, ℕ, ℤ, ◌+◌, ◌^◌, ◌<◌, ◌≤◌, ◌&&◌, pos, int_lt, ◌-ℤ◌, ◌≤ℤ◌, unsigned_abs, IfSome};
 ghost use Rattle.tt_scan_edges.specs.Crossing.{spans, IsCross};
 ghost use Rattle.tt_scan_edges.specs.Walks.{StandsAt, turned_round};
-ghost use Rattle.tt_scan_edges.specs.Winding.{EdgeFits, FrameFits, column_x, row_y, side, is_between, is_zero};
+ghost use Rattle.tt_scan_edges.specs.Winding.{EdgeFits, column_x, side, is_between, is_zero};
 ghost use Rattle.tt_scan_edges.specs.declared.edge.Edge.{Edge};
 
-use crate::edge::{Cross, Edge, Frame};
-use crate::quotient::{PIXEL, Quotient, divided, pixels_between, product};
-
-/// From a border of a pixel to its centre, in 1/8192 pixel.
-const HALF: i64 = PIXEL / 2;
-
-/// The height of the centres of a row, in 1/8192 pixel.
-pub fn row_height(frame: Frame, row: i64) -> i64
-    requires frame { FrameFits frame }
-    requires low { pos 0 ≤ℤ row }
-    requires high { row <ℤ pos frame.height }
-    ensures exact { result ≡ row_y frame row }
-    ensures small { unsigned_abs result < 2 ^ 35 }
-{
-    PIXEL * (i64::from(frame.rise) + i64::from(frame.margin) - row) - HALF
-}
+use crate::edge::{Cross, Edge};
+use crate::quotient::{HALF, PIXEL, Quotient, divided, pixels_between, product};
+use crate::rising::RisingEdge;
+use crate::row_at::RowAt;
 
 /// How far a place is right of the centres of column 0. Both are in 1/8192 pixel.
 #[inline(always)]
-fn from_centre(x: i32, margin: u32) -> i64
-    requires place { unsigned_abs x < 2 ^ 30 }
-    requires margin { margin ≤ margin_limit }
-    ensures exact { result ≡ x -ℤ column_x margin (pos 0) }
+fn from_centre(x: i32, at: RowAt) -> i64
+    requires { unsigned_abs x < 2 ^ 30 }
+    ensures exact { result ≡ x -ℤ column_x at.frame.margin (pos 0) }
     ensures bound { unsigned_abs result < 2 ^ 31 }
 {
-    i64::from(x) + (PIXEL * i64::from(margin) - HALF)
+    i64::from(x) + (PIXEL * i64::from(at.frame.margin) - HALF)
 }
 
-/// The last column whose centre is not right of a rising edge, at a height between its ends. The rest is 0 where that
-/// centre lies on the edge.
+/// The last column whose centre is not right of an edge, in a row whose centres are between its ends. The rest is 0
+/// where that centre lies on the edge.
 #[inline(always)]
-pub(crate) fn standing(edge: Edge, margin: u32, y: i64) -> Quotient
-    requires edge { EdgeFits edge }
-    requires margin { margin ≤ margin_limit }
-    requires rises { edge.ay <ℤ edge.by }
-    requires low { edge.ay ≤ℤ y }
-    requires high { y ≤ℤ edge.by }
-    ensures on { (c : ℤ) → is_zero (side edge (column_x margin c) y) ≡ (is_zero result.rest && is_zero (result.whole -ℤ c)) }
-    ensures right { (c : ℤ) → int_lt (side edge (column_x margin c) y) (pos 0) ≡ int_lt result.whole c }
+pub(crate) fn standing(up: RisingEdge, at: RowAt) -> Quotient
+    requires low { up.edge.ay ≤ℤ at.y }
+    requires high { at.y ≤ℤ up.edge.by }
+    ensures on { (c : ℤ) → is_zero (side up.edge (column_x at.frame.margin c) at.y)
+        ≡ (is_zero result.rest && is_zero (result.whole -ℤ c)) }
+    ensures right { (c : ℤ) → int_lt (side up.edge (column_x at.frame.margin c) at.y) (pos 0) ≡ int_lt result.whole c }
     ensures near { unsigned_abs result.whole < 2 ^ 20 }
-    ensures stands { StandsAt edge margin y result }
+    ensures stands { StandsAt up.edge at.frame.margin at.y result }
 {
-    let rise = edge.rise();
-    let sum = product(edge.run(), y - i64::from(edge.ay))
-        + product(rise, from_centre(edge.ax, margin));
+    let rise = up.edge.rise();
+    let sum = product(up.edge.run(), at.y - i64::from(up.edge.ay))
+        + product(rise, from_centre(up.edge.ax, at));
     divided(sum, PIXEL * rise)
 }
 
@@ -98,24 +82,21 @@ fn apart() -> Cross
     }
 }
 
-/// The crossing of an edge with a below b, at a height from a to b, by the edge's quotient at that height.
+/// The crossing of an edge with a row whose centres are between its ends, by the edge's quotient there.
 #[inline(always)]
-pub(crate) fn risen(edge: Edge, y: i64, at: Quotient) -> Cross
-    requires edge { EdgeFits edge }
-    requires rises { edge.ay <ℤ edge.by }
-    requires low { edge.ay ≤ℤ y }
-    requires high { y ≤ℤ edge.by }
-    requires near { unsigned_abs at.whole < 2 ^ 20 }
-    ensures exact { (m : ℕ) → StandsAt edge m y at → IsCross edge m y result }
-    ensures bound { unsigned_abs result.turn ≤ 1 }
-    ensures near { unsigned_abs result.first ≤ 2 ^ 20 }
+pub(crate) fn risen(up: RisingEdge, at: RowAt, stands: Quotient) -> Cross
+    requires low { up.edge.ay ≤ℤ at.y }
+    requires high { at.y ≤ℤ up.edge.by }
+    requires near { unsigned_abs stands.whole < 2 ^ 20 }
+    requires stands { StandsAt up.edge at.frame.margin at.y stands }
+    ensures { IsCross up.edge at.frame.margin at.y result }
 {
-    let touch = touched(at);
-    if y < i64::from(edge.by) {
+    let touch = touched(stands);
+    if at.y < i64::from(up.edge.by) {
         Cross {
             touch,
             turn: 1,
-            first: at.whole + 1,
+            first: stands.whole + 1,
         }
     } else {
         Cross {
@@ -126,28 +107,33 @@ pub(crate) fn risen(edge: Edge, y: i64, at: Quotient) -> Cross
     }
 }
 
-/// The crossing of an edge with a below b, at a height from a to b.
+/// The crossing of an edge with a row whose centres are between its ends.
 #[inline(always)]
-fn rising(edge: Edge, margin: u32, y: i64) -> Cross
-    requires edge { EdgeFits edge }
-    requires margin { margin ≤ margin_limit }
-    requires rises { edge.ay <ℤ edge.by }
-    requires low { edge.ay ≤ℤ y }
-    requires high { y ≤ℤ edge.by }
-    ensures exact { IsCross edge margin y result }
-    ensures bound { unsigned_abs result.turn ≤ 1 }
-    ensures near { unsigned_abs result.first ≤ 2 ^ 20 }
+fn rising(up: RisingEdge, at: RowAt) -> Cross
+    requires low { up.edge.ay ≤ℤ at.y }
+    requires high { at.y ≤ℤ up.edge.by }
+    ensures { IsCross up.edge at.frame.margin at.y result }
 {
-    risen(edge, y, standing(edge, margin, y))
+    risen(up, at, standing(up, at))
 }
 
-/// The crossing of the edge from b to a, by that of the edge from a to b.
+/// The edge from b to a.
+#[inline(always)]
+pub(crate) fn reversed(edge: Edge) -> Edge
+    ensures { result ≡ turned_round edge }
+{
+    Edge {
+        ax: edge.bx,
+        ay: edge.by,
+        bx: edge.ax,
+        by: edge.ay,
+    }
+}
+
+/// The crossing of the edge from b to a, by that of the edge from a to b: the turn is reversed.
 #[inline(always)]
 pub(crate) fn turned_back(up: Cross) -> Cross
-    requires { unsigned_abs up.turn ≤ 1 }
-    ensures exact { (e : Edge) (m : ℕ) (y : ℤ) → IsCross (turned_round e) m y up → IsCross e m y result }
-    ensures bound { unsigned_abs result.turn ≤ 1 }
-    ensures first { result.first ≡ up.first }
+    ensures { (e : Edge) (m : ℕ) (y : ℤ) → IsCross (turned_round e) m y up → IsCross e m y result }
 {
     Cross {
         touch: up.touch,
@@ -156,41 +142,16 @@ pub(crate) fn turned_back(up: Cross) -> Cross
     }
 }
 
-/// The crossing of an edge with a above b, at a height from b to a: that of the edge from b to a, with the turn
-/// reversed.
+/// The crossing of an edge with a and b at the height of a row; a and b may be one point.
 #[inline(always)]
-fn falling(edge: Edge, margin: u32, y: i64) -> Cross
+fn flat(edge: Edge, at: RowAt) -> Cross
     requires edge { EdgeFits edge }
-    requires margin { margin ≤ margin_limit }
-    requires falls { edge.by <ℤ edge.ay }
-    requires low { edge.by ≤ℤ y }
-    requires high { y ≤ℤ edge.ay }
-    ensures exact { IsCross edge margin y result }
-    ensures bound { unsigned_abs result.turn ≤ 1 }
-    ensures near { unsigned_abs result.first ≤ 2 ^ 20 }
-{
-    let reversed = Edge {
-        ax: edge.bx,
-        ay: edge.by,
-        bx: edge.ax,
-        by: edge.ay,
-    };
-    turned_back(rising(reversed, margin, y))
-}
-
-/// The crossing of an edge with a and b at this height; a and b may be one point.
-#[inline(always)]
-fn flat(edge: Edge, margin: u32, y: i64) -> Cross
-    requires edge { EdgeFits edge }
-    requires margin { margin ≤ margin_limit }
     requires level { edge.ay ≡ edge.by }
-    requires here { y ≡ edge.ay }
-    ensures exact { IsCross edge margin y result }
-    ensures bound { unsigned_abs result.turn ≤ 1 }
-    ensures near { unsigned_abs result.first ≤ 2 ^ 20 }
+    requires here { at.y ≡ edge.ay }
+    ensures { IsCross edge at.frame.margin at.y result }
 {
-    let left = from_centre(edge.ax.min(edge.bx), margin);
-    let right = from_centre(edge.ax.max(edge.bx), margin);
+    let left = from_centre(edge.ax.min(edge.bx), at);
+    let right = from_centre(edge.ax.max(edge.bx), at);
     Cross {
         touch: pixels_between(left, right),
         turn: 0,
@@ -198,22 +159,20 @@ fn flat(edge: Edge, margin: u32, y: i64) -> Cross
     }
 }
 
-/// The crossing of an edge at a height that it reaches.
+/// The crossing of an edge with a row that it reaches.
 #[inline(always)]
-pub(crate) fn crossing_met(edge: Edge, margin: u32, y: i64) -> Cross
+pub(crate) fn crossing_met(edge: Edge, at: RowAt) -> Cross
     requires edge { EdgeFits edge }
-    requires margin { margin ≤ margin_limit }
-    requires met { is_between edge.ay edge.by y ≡ true }
-    ensures exact { IsCross edge margin y result }
-    ensures bound { unsigned_abs result.turn ≤ 1 }
-    ensures near { unsigned_abs result.first ≤ 2 ^ 20 }
+    requires met { is_between edge.ay edge.by at.y ≡ true }
+    ensures { IsCross edge at.frame.margin at.y result }
 {
     if edge.ay < edge.by {
-        rising(edge, margin, y)
+        rising(RisingEdge { edge }, at)
     } else if edge.by < edge.ay {
-        falling(edge, margin, y)
+        let edge = reversed(edge);
+        turned_back(rising(RisingEdge { edge }, at))
     } else {
-        flat(edge, margin, y)
+        flat(edge, at)
     }
 }
 
@@ -233,15 +192,13 @@ fn reaches(edge: Edge, y: i64) -> bool
     is_between(i64::from(edge.ay), i64::from(edge.by), y)
 }
 
-/// The crossing of an edge at a height.
-pub(crate) fn crossing(edge: Edge, margin: u32, y: i64) -> Cross
-    requires edge { EdgeFits edge }
-    requires margin { margin ≤ margin_limit }
-    ensures exact { IsCross edge margin y result }
-    ensures bound { unsigned_abs result.turn ≤ 1 }
+/// The crossing of an edge with a row.
+pub(crate) fn crossing(edge: Edge, at: RowAt) -> Cross
+    requires { EdgeFits edge }
+    ensures { IsCross edge at.frame.margin at.y result }
 {
-    if reaches(edge, y) {
-        crossing_met(edge, margin, y)
+    if reaches(edge, at.y) {
+        crossing_met(edge, at)
     } else {
         apart()
     }

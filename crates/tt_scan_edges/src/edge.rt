@@ -51,4 +51,6 @@ pub struct Cross {
     pub turn: i8,
     /// The least column whose centre lies strictly right of the edge; 0 where `turn` is 0.
     pub first: i64,
+    pub ghost bound: { unsigned_abs turn ≤ 1 },
+    pub ghost near: { unsigned_abs first ≤ 2 ^ 20 },
 }

@@ -1,16 +1,17 @@
 //! What the edges that meet a row leave there: black spans where they touch centres (rule 2), and marks of their turns
 //! (rule 1).
 
-ghost use Rattle.std.specs.Prelude.{◌≡◌, ◌≢◌, ℤ, ◌+◌, ◌*◌, ◌^◌, ◌<◌, ◌≤◌, ◌+ℤ◌, ◌<ℤ◌, ◌||◌, not, int_le, pos, [], length, if◌then◌else◌, unsigned_abs, vec_capacity, IfOk};
+ghost use Rattle.std.specs.Prelude.{◌≡◌, ◌≢◌, ℤ, ◌+◌, ◌*◌, ◌^◌, ◌<◌, ◌≤◌, ◌+ℤ◌, ◌<ℤ◌, ◌||◌, not, int_le, pos, [], length, if◌then◌else◌, vec_capacity, IfOk};
 ghost use Rattle.std.specs.List.Sorted.{IsPermutation};
 ghost use Rattle.tt_scan_edges.specs.Crossing.{spans};
-ghost use Rattle.tt_scan_edges.specs.Left.{IsBlank};
+ghost use Rattle.tt_scan_edges.specs.Left.{HasCross, IsBlank};
 ghost use Rattle.tt_scan_edges.specs.Marks.{covers, turns, IsRising};
 ghost use Rattle.tt_scan_edges.specs.Winding.{is_zero};
 
 use crate::edge::Cross;
+use crate::insertion::sink;
 use crate::mark::{Span, TurnMark};
-use crate::stretch::{is_rising, settle, sink, wind};
+use crate::stretch::{is_rising, settle, wind};
 use std::alloc::{AllocError, Global};
 use std::marker::Model;
 
@@ -58,8 +59,6 @@ fn leave_touch(touch: Option<(i64, i64)>, black: &mut Vec<Span>)
 /// Adds an edge's turn as a mark.
 #[inline(always)]
 fn leave_mark(cross: Cross, marks: &mut Vec<TurnMark>)
-    requires bound { unsigned_abs cross.turn ≤ 1 }
-    requires near { unsigned_abs cross.first ≤ 2 ^ 20 }
     requires some { cross.turn ≢ pos 0 }
     requires room { length marks.old.items < vec_capacity marks.old }
     ensures turns { (c : ℤ) → turns marks.new.items c
@@ -76,8 +75,6 @@ fn leave_mark(cross: Cross, marks: &mut Vec<TurnMark>)
 /// Adds an edge's turn, if it has one, as a mark at its place in the order of columns.
 #[inline(always)]
 fn leave_turn(cross: Cross, marks: &mut Vec<TurnMark>)
-    requires bound { unsigned_abs cross.turn ≤ 1 }
-    requires near { unsigned_abs cross.first ≤ 2 ^ 20 }
     requires room { length marks.old.items < vec_capacity marks.old }
     ensures turns { (c : ℤ) → turns marks.new.items c
         ≡ turns marks.old.items c +ℤ (if int_le cross.first c then cross.turn else pos 0) }
@@ -117,14 +114,8 @@ impl RowLeft {
     /// Adds an edge's span, and its turn, if it has one, as a mark at its place in the order of columns.
     #[inline(always)]
     pub fn leave(&mut self, cross: Cross)
-        requires bound { unsigned_abs cross.turn ≤ 1 }
-        requires near { unsigned_abs cross.first ≤ 2 ^ 20 }
-        requires room { 0 < self.old.room }
-        ensures black { (c : ℤ) → covers self.new.black c ≡ (covers self.old.black c || spans cross.touch c) }
-        ensures turns { (c : ℤ) → turns self.new.marks c
-            ≡ turns self.old.marks c +ℤ (if int_le cross.first c then cross.turn else pos 0) }
-        ensures most { self.new.most ≡ self.old.most }
-        ensures room { self.old.room ≤ self.new.room + 1 }
+        requires { 0 < self.old.room }
+        ensures { HasCross cross self.old self.new }
     {
         leave_touch(cross.touch, &mut self.black);
         leave_turn(cross, &mut self.marks);
@@ -134,15 +125,9 @@ impl RowLeft {
     /// mostly in order too.
     #[inline(always)]
     pub fn leave_last(&mut self, cross: Cross)
-        requires bound { unsigned_abs cross.turn ≤ 1 }
-        requires near { unsigned_abs cross.first ≤ 2 ^ 20 }
         requires some { cross.turn ≢ pos 0 }
         requires room { 0 < self.old.room }
-        ensures black { (c : ℤ) → covers self.new.black c ≡ (covers self.old.black c || spans cross.touch c) }
-        ensures turns { (c : ℤ) → turns self.new.marks c
-            ≡ turns self.old.marks c +ℤ (if int_le cross.first c then cross.turn else pos 0) }
-        ensures most { self.new.most ≡ self.old.most }
-        ensures room { self.old.room ≤ self.new.room + 1 }
+        ensures { HasCross cross self.old self.new }
     {
         leave_touch(cross.touch, &mut self.black);
         leave_mark(cross, &mut self.marks);

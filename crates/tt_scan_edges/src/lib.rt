@@ -3,6 +3,8 @@
 //!
 //! ```text
 //! edge.rt        an edge, the frame of a picture, and a crossing
+//! row_at.rt      a row of a frame, and the height of its centres
+//! rising.rt      an edge that rises
 //! quotient.rt    floor division
 //! crossing.rt    an edge at the height of a row: the columns that it touches, and its turn
 //! walk.rt        an edge from row to row, by sums alone
@@ -29,16 +31,18 @@ mod left;
 mod mark;
 mod pixel;
 mod quotient;
+mod rising;
+mod row_at;
 mod row_order;
 mod stretch;
 mod walk;
 
 pub use bounds::bounds_of;
 pub use counted::CountedEdges;
-pub use crossing::row_height;
 pub use edge::{Cross, Edge, Frame};
 pub use entry::Entry;
 pub use left::RowLeft;
 pub use mark::Span;
+pub use row_at::RowAt;
 pub use row_order::sort_by_first_row;
 pub use walk::{Walk, add_walk, settle_walks};

@@ -6,6 +6,9 @@ ghost use Rattle.tt_scan_edges.specs.Crossing.{spans};
 /// A pixel, in 1/8192 pixel.
 pub(crate) const PIXEL: i64 = 8192;
 
+/// From a border of a pixel to its centre, in 1/8192 pixel.
+pub(crate) const HALF: i64 = PIXEL / 2;
+
 /// The floor of a quotient, and the rest: not negative, and less than the divisor.
 #[derive(Clone, Copy)]
 pub(crate) struct Quotient {

@@ -2,7 +2,7 @@
 //! ways. So where no free gap is crossed both ways, no gap needs a pixel. Two tables show which gaps may be crossed
 //! both ways, and a look at all edges decides whether one of those may be free.
 
-ghost use Rattle.std.specs.Prelude.{◌≡◌, List, ℕ, ◌<◌, ◌≤◌, true, false, ◌∷◌, [], ◌+◌, ◌++◌, length, get_or, map, All};
+ghost use Rattle.std.specs.Prelude.{◌≡◌, List, ℕ, ◌<◌, ◌≤◌, true, false, ◌∷◌, [], ◌+◌, ◌++◌, get_or, map, All};
 ghost use Rattle.tt_scan_edges.specs.Winding.{EdgeFits};
 ghost use Rattle.tt_scan_gaps.specs.BothWays.{AreTold, NoneFreeBothWays, is_black_seen, slot};
 ghost use Rattle.tt_scan_gaps.specs.Crossings.{crossing, line_crossed, lines_crossed};
@@ -12,7 +12,7 @@ ghost use Rattle.tt_scan_gaps.specs.declared.seen.Over.TheVariants as over;
 
 use crate::crossings::{gap_crossed, line_crossed, lines_crossed};
 use crate::looks::{Looks, look};
-use crate::seen::{Over, meets, seen_by};
+use crate::seen::{Over, PassEdges, meets, seen_by};
 use tt_scan_edges::Edge;
 
 /// A table distinguishes `LINES` lines and `GAPS` gaps of a line. Numbers that differ by a multiple share a place.
@@ -33,14 +33,11 @@ fn slot(line: i64, gap: i64) -> usize
 
 /// Marks a place in one of two tables. Returns whether the other table has it.
 #[inline(always)]
-fn mark(table: &mut [bool], other: &[bool], at: usize) -> bool
-    requires table { length table.old ≡ 2048 }
-    requires other { length other.now ≡ 2048 }
-    requires within { at < 2048 }
+fn mark(table: &mut [bool; PLACES], other: &[bool; PLACES], at: usize) -> bool
+    requires { at < 2048 }
     ensures marked { get_or table.new at false ≡ true }
     ensures kept { (s : ℕ) → get_or table.old s false ≡ true → get_or table.new s false ≡ true }
     ensures other { result ≡ get_or other.now at false }
-    ensures len { length table.new ≡ 2048 }
 {
     table[at] = true;
     other[at]
@@ -48,33 +45,28 @@ fn mark(table: &mut [bool], other: &[bool], at: usize) -> bool
 
 /// Marks in one of two tables the gaps where an edge crosses lines. Returns whether such a gap is in the other table
 /// and may be free.
-#[inline(always)]
+#[inline(never)]
 fn mark_crossings(
-    table: &mut [bool],
-    other: &[bool],
-    over: Over,
-    edges: &[Edge],
+    table: &mut [bool; PLACES],
+    other: &[bool; PLACES],
+    pass: PassEdges,
     looks: &mut Looks,
     edge: Edge,
 ) -> bool
-    requires edge { EdgeFits edge }
-    requires edges { All EdgeFits edges.now }
-    requires table { length table.old ≡ 2048 }
-    requires other { length other.now ≡ 2048 }
+    requires { EdgeFits edge }
     ensures marked { result ≡ false → (k : ℕ) → k < lines_crossed edge
         → get_or table.new (slot (line_crossed edge k) (crossing edge (line_crossed edge k)).gap) false ≡ true }
     ensures kept { (s : ℕ) → get_or table.old s false ≡ true → get_or table.new s false ≡ true }
     ensures taken { result ≡ false → (k : ℕ) → k < lines_crossed edge
         → get_or other.now (slot (line_crossed edge k) (crossing edge (line_crossed edge k)).gap) false ≡ true
-        → is_free (is_black_seen over edges.now) (crossing edge (line_crossed edge k)).gap (line_crossed edge k)
-        ≡ false }
-    ensures len { length table.new ≡ 2048 }
+        → is_free (is_black_seen pass.over pass.edges.now) (crossing edge (line_crossed edge k)).gap
+        (line_crossed edge k) ≡ false }
     ensures fewer { looks.new ≤ looks.old }
 {
     for k in 0..lines_crossed(edge) {
         let line = line_crossed(edge, k);
         let gap = gap_crossed(edge, k);
-        if mark(table, other, slot(line, gap)) && look(over, edges, looks, gap, line) {
+        if mark(table, other, slot(line, gap)) && look(pass, looks, gap, line) {
             return true;
         }
     }
@@ -83,56 +75,30 @@ fn mark_crossings(
 
 /// Marks the gaps where an edge, as a pass sees it, crosses lines. Returns whether one of them is crossed the other way
 /// too and may be free.
-#[inline(never)]
-fn mark_ways(
-    rising: &mut [bool],
-    falling: &mut [bool],
-    over: Over,
-    edges: &[Edge],
-    looks: &mut Looks,
-    edge: &Edge,
-) -> bool
-    requires edge { EdgeFits edge.now }
-    requires edges { All EdgeFits edges.now }
-    requires rising { length rising.old ≡ 2048 }
-    requires falling { length falling.old ≡ 2048 }
-    ensures told { result ≡ false → (es : List Edge)
-        → AreTold (is_black_seen over edges.now) es rising.old falling.old
-        → AreTold (is_black_seen over edges.now) (es ++ seen_by over edge.now ∷ []) rising.new falling.new }
-    ensures rising_len { length rising.new ≡ 2048 }
-    ensures falling_len { length falling.new ≡ 2048 }
-    ensures fewer { looks.new ≤ looks.old }
-{
-    let edge = seen_by(over, *edge);
-    if edge.ay < edge.by {
-        mark_crossings(rising, falling, over, edges, looks, edge)
-    } else {
-        mark_crossings(falling, rising, over, edges, looks, edge)
-    }
-}
-
-/// `mark_ways` with a quick test first: most edges are short and meet no line.
 #[inline(always)]
 fn mark_edge(
-    rising: &mut [bool],
-    falling: &mut [bool],
-    over: Over,
-    edges: &[Edge],
+    rising: &mut [bool; PLACES],
+    falling: &mut [bool; PLACES],
+    pass: PassEdges,
     looks: &mut Looks,
     edge: &Edge,
 ) -> bool
-    requires edge { EdgeFits edge.now }
-    requires edges { All EdgeFits edges.now }
-    requires rising { length rising.old ≡ 2048 }
-    requires falling { length falling.old ≡ 2048 }
+    requires { EdgeFits edge.now }
     ensures told { result ≡ false → (es : List Edge)
-        → AreTold (is_black_seen over edges.now) es rising.old falling.old
-        → AreTold (is_black_seen over edges.now) (es ++ seen_by over edge.now ∷ []) rising.new falling.new }
-    ensures rising_len { length rising.new ≡ 2048 }
-    ensures falling_len { length falling.new ≡ 2048 }
+        → AreTold (is_black_seen pass.over pass.edges.now) es rising.old falling.old
+        → AreTold (is_black_seen pass.over pass.edges.now) (es ++ seen_by pass.over edge.now ∷ []) rising.new falling.new }
     ensures fewer { looks.new ≤ looks.old }
 {
-    meets(over, false, edge) && mark_ways(rising, falling, over, edges, looks, edge)
+    // Most edges are short and meet no line.
+    if !meets(pass.over, false, edge) {
+        return false;
+    }
+    let edge = seen_by(pass.over, *edge);
+    if edge.ay < edge.by {
+        mark_crossings(rising, falling, pass, looks, edge)
+    } else {
+        mark_crossings(falling, rising, pass, looks, edge)
+    }
 }
 
 /// Whether edges may cross some free gap of a row or of a column both rising and falling. False means that they do not.
@@ -145,26 +111,26 @@ pub(crate) fn mark_edges(edges: &[Edge], looks: &mut Looks) -> bool
         → NoneFreeBothWays (is_black_seen over.Columns edges.now) (map (seen_by over.Columns) edges.now) }
     ensures fewer { looks.new ≤ looks.old }
 {
+    let rows = PassEdges {
+        over: Over::Rows,
+        edges,
+    };
+    let columns = PassEdges {
+        over: Over::Columns,
+        edges,
+    };
     let mut row_rising = [false; PLACES];
     let mut row_falling = [false; PLACES];
     let mut column_rising = [false; PLACES];
     let mut column_falling = [false; PLACES];
     for edge in edges {
-        if mark_edge(
-            &mut row_rising,
-            &mut row_falling,
-            Over::Rows,
-            edges,
-            looks,
-            edge,
-        ) {
+        if mark_edge(&mut row_rising, &mut row_falling, rows, looks, edge) {
             return true;
         }
         if mark_edge(
             &mut column_rising,
             &mut column_falling,
-            Over::Columns,
-            edges,
+            columns,
             looks,
             edge,
         ) {

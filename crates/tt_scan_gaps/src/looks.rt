@@ -12,7 +12,7 @@ ghost use Rattle.tt_scan_gaps.specs.declared.seen.Over.TheVariants as over;
 use crate::both_ways::mark_edges;
 use crate::crossings::centre;
 use crate::point::winding;
-use crate::seen::Over;
+use crate::seen::{Over, PassEdges};
 use std::marker::Model;
 use tt_scan_edges::Edge;
 
@@ -46,38 +46,35 @@ impl Looks {
 }
 
 /// Whether edges wind round the centre of a pixel of a line, as a pass sees it. If so, the pixel is black.
-fn is_wound_round(over: Over, edges: &[Edge], pixel: i64, line: i64) -> bool
-    requires edges { All EdgeFits edges.now }
+fn is_wound_round(pass: PassEdges, pixel: i64, line: i64) -> bool
     requires pixel { unsigned_abs pixel < 2 ^ 18 }
     requires line { unsigned_abs line < 2 ^ 18 }
-    ensures { result ≡ true → is_black_seen over edges.now pixel line ≡ true }
+    ensures { result ≡ true → is_black_seen pass.over pass.edges.now pixel line ≡ true }
 {
-    match over {
-        Over::Rows => winding(edges, centre(pixel), centre(line)) != 0,
-        Over::Columns => winding(edges, centre(line), centre(pixel)) != 0,
+    match pass.over {
+        Over::Rows => winding(pass.edges, centre(pixel), centre(line)) != 0,
+        Over::Columns => winding(pass.edges, centre(line), centre(pixel)) != 0,
     }
 }
 
 /// Whether a gap of a line may be free, as a pass sees it. It is not free where edges wind round a pixel beside it. The
 /// test does not look for edges through such a pixel's centre.
-fn may_be_free(over: Over, edges: &[Edge], gap: i64, line: i64) -> bool
-    requires edges { All EdgeFits edges.now }
+fn may_be_free(pass: PassEdges, gap: i64, line: i64) -> bool
     requires gap { unsigned_abs gap + 1 < 2 ^ 18 }
     requires line { unsigned_abs line < 2 ^ 18 }
-    ensures { result ≡ false → is_free (is_black_seen over edges.now) gap line ≡ false }
+    ensures { result ≡ false → is_free (is_black_seen pass.over pass.edges.now) gap line ≡ false }
 {
-    !is_wound_round(over, edges, gap, line) && !is_wound_round(over, edges, gap + 1, line)
+    !is_wound_round(pass, gap, line) && !is_wound_round(pass, gap + 1, line)
 }
 
 /// Whether a gap may be free. True where no looks remain; else one of them is taken, and all edges are read. Few gaps
 /// need a look, so the code is outside the loop that calls it.
 #[cold]
 #[inline(never)]
-pub(crate) fn look(over: Over, edges: &[Edge], looks: &mut Looks, gap: i64, line: i64) -> bool
-    requires edges { All EdgeFits edges.now }
+pub(crate) fn look(pass: PassEdges, looks: &mut Looks, gap: i64, line: i64) -> bool
     requires gap { unsigned_abs gap + 1 < 2 ^ 18 }
     requires line { unsigned_abs line < 2 ^ 18 }
-    ensures free { result ≡ false → is_free (is_black_seen over edges.now) gap line ≡ false }
+    ensures free { result ≡ false → is_free (is_black_seen pass.over pass.edges.now) gap line ≡ false }
     ensures none { looks.old ≡ 0 → (result ≡ true) × (looks.new ≡ 0) }
     ensures one { 0 < looks.old → looks.new + 1 ≡ looks.old }
     ensures fewer { looks.new ≤ looks.old }
@@ -86,7 +83,7 @@ pub(crate) fn look(over: Over, edges: &[Edge], looks: &mut Looks, gap: i64, line
         return true;
     }
     looks.left -= 1;
-    may_be_free(over, edges, gap, line)
+    may_be_free(pass, gap, line)
 }
 
 /// Whether edges may cross some free gap of a row or of a column both rising and falling. False means that they do not.

@@ -1,6 +1,6 @@
 //! An edge as a pass sees it.
 
-ghost use Rattle.std.specs.Prelude.{◌≡◌};
+ghost use Rattle.std.specs.Prelude.{◌≡◌, All};
 ghost use Rattle.tt_scan_edges.specs.Winding.{EdgeFits};
 ghost use Rattle.tt_scan_gaps.specs.Crossings.{meets_line};
 ghost use Rattle.tt_scan_gaps.specs.Seen.{seen_by, turned_round};
@@ -13,6 +13,14 @@ use tt_scan_edges::Edge;
 pub enum Over {
     Rows,
     Columns,
+}
+
+/// The edges of a glyph, and the direction of a pass over them.
+#[derive(Clone, Copy)]
+pub(crate) struct PassEdges<'a> {
+    pub(crate) over: Over,
+    pub(crate) edges: &'a [Edge],
+    pub(crate) ghost fit: { All EdgeFits edges.now },
 }
 
 /// An edge with x and y exchanged.

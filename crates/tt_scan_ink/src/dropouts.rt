@@ -1,11 +1,11 @@
 //! The box of a glyph's dropouts.
 
-ghost use Rattle.std.specs.Prelude.{◌≡◌, ◌&&◌, ◌+◌, ◌^◌, ◌<◌, ◌≤◌, [], ◌∷◌, length, unsigned_abs, IfOk, IfSome};
+ghost use Rattle.std.specs.Prelude.{◌≡◌, ◌+◌, ◌^◌, ◌<◌, ◌≤◌, [], ◌∷◌, length, unsigned_abs, IfOk, IfSome};
 ghost use Rattle.tt_core.specs.Limits.{height_limit};
 ghost use Rattle.tt_scan.specs.Contours.{AreEnds, contours_at};
 ghost use Rattle.tt_scan_dropouts.specs.Dropouts.{is_dropout};
 ghost use Rattle.tt_scan_dropouts.specs.Passes.{has_pixel};
-ghost use Rattle.tt_scan_dropouts.specs.Windows.{WindowFits, has, widened};
+ghost use Rattle.tt_scan_dropouts.specs.Windows.{WindowFits, widened};
 ghost use Rattle.tt_scan_ink.specs.Ink.{count_of, dropouts_ink};
 ghost use Rattle.tt_scan_ink.specs.Least.{AreNear, IsInk, IsNear, shown};
 
@@ -14,7 +14,7 @@ use crate::lines::count_of;
 use std::alloc::{AllocError, Global};
 use tt_scan::Tape;
 use tt_scan_dropouts::{
-    BAND_ROWS, Columns, Pixel, Rules, Window, box_of, dropouts, may_have_dropouts,
+    BAND_ROWS, Columns, Outlined, Pixel, Rules, Window, box_of, dropouts, may_have_dropouts,
 };
 
 /// The box of one pixel.
@@ -59,40 +59,18 @@ fn window_of(columns: Columns, bottom: i64, height: u32) -> Window
     }
 }
 
-/// The box of the dropouts in a window. Error: memory ran out.
-fn window_ink(
-    alloc: Global,
-    rules: Rules,
-    tape: &Tape,
-    ends: &[usize],
-    window: Window,
-) -> Result<Option<GlyphInk>, AllocError>
-    requires few { length tape.now.edges ≤ 2 ^ 32 }
-    requires ends { AreEnds (length tape.now.edges) ends.now }
-    requires window { WindowFits (widened 2 window) }
-    ensures { IfOk result (IsInk (λ c j. has window c j
-        && is_dropout rules (contours_at tape.now.edges ends.now) c j)) }
-{
-    let found = dropouts(alloc, rules, tape, ends, window)?;
-    Ok(pixels_ink(&found))
-}
-
-/// The box of the dropouts in some columns and rows. The rows are done band after band from the lowest on: bitmaps of
-/// more rows take memory that the system clears anew each time. Error: memory ran out.
+/// The box of a glyph's dropouts in some columns and rows. The rows are done band after band from the lowest on: bitmaps
+/// of more rows take memory that the system clears anew each time. Error: memory ran out.
 fn windows_ink(
     alloc: Global,
-    rules: Rules,
-    tape: &Tape,
-    ends: &[usize],
+    glyph: Outlined,
     columns: Columns,
     rows: Columns,
 ) -> Result<Option<GlyphInk>, AllocError>
-    requires few { length tape.now.edges ≤ 2 ^ 32 }
-    requires ends { AreEnds (length tape.now.edges) ends.now }
     requires columns { AreNear columns }
     requires rows { AreNear rows }
     ensures { IfOk result (IsInk (shown columns rows.first (count_of rows)
-        (is_dropout rules (contours_at tape.now.edges ends.now)))) }
+        (is_dropout glyph.rules (contours_at glyph.tape.now.edges glyph.ends.now)))) }
 {
     let count = count_of(rows);
     let mut ink = None;
@@ -100,7 +78,8 @@ fn windows_ink(
     while done < count {
         let height = (count - done).min(BAND_ROWS);
         let window = window_of(columns, rows.first + i64::from(done), height);
-        ink = joined(ink, window_ink(alloc, rules, tape, ends, window)?);
+        let found = dropouts(alloc, glyph, window)?;
+        ink = joined(ink, pixels_ink(&found));
         done += height;
     }
     Ok(ink)
@@ -125,5 +104,5 @@ pub fn dropouts_ink(
         return Ok(None);
     }
     let (columns, rows) = box_of(edges);
-    windows_ink(alloc, rules, tape, ends, columns, rows)
+    windows_ink(alloc, Outlined { rules, tape, ends }, columns, rows)
 }

@@ -1,12 +1,10 @@
 -- Edges that are given back because their raster would be too large.
 use Rattle.std.proofs.Common.{◌≡◌, ℕ, ◌+◌, ◌*◌, ◌^◌, ◌<◌, ◌≤◌, min, List, length, inr, arith}
 use Rattle.std.proofs.Math.Nat.{mul-le-mul_right}
-use Rattle.tt_scan.specs.EdgeList.{EdgeList, heights_of}
+use Rattle.tt_scan.specs.EdgeList.{heights_of}
 use Rattle.tt_scan_edges.specs.declared.edge.Edge.{Edge}
-use Rattle.tt_scan_rows.specs.Cut.{IfEdges, IsLarge}
+use Rattle.tt_scan_rows.specs.Cut.{IsLarge}
 use Rattle.tt_scan_rows.specs.Raster.{lines_in}
-use Rattle.tt_scan_rows.specs.declared.raster.CutGlyph.{CutGlyph}
-use Rattle.tt_scan_rows.specs.declared.raster.CutGlyph.TheVariants as cut
 
 -- too many spans
 
@@ -17,10 +15,6 @@ many_spans most n height edges least many rows few =
     omega (arith, all, least, many, few)
 
 -- too large edges
-
-pub edges_then : (made : CutGlyph) (P Q : EdgeList → Type 0) → ((l : EdgeList) → P l → Q l) → IfEdges made P → IfEdges made Q
-edges_then (cut.Raster k) P Q then is = tt
-edges_then (cut.Edges l) P Q then is = then l is
 
 pub many_in_lines : (es : List Edge) (rows spans height : ℕ) → spans < height * (2 * length es + 1)
     → height ≤ lines_in (heights_of es) → IsLarge es rows spans

@@ -159,36 +159,10 @@ impl Raster {
         if most_rows < count || MOST_ROWS < count {
             return Ok(CutGlyph::Edges(list));
         }
-        Raster::cut_in(alloc, list, frame_of(count, last), last, most_spans)
-    }
-
-    /// The raster of the rows of a frame; its first row is line `top`. The edges instead where the rows have more than
-    /// `most_spans` spans. Error: memory ran out.
-    fn cut_in(
-        alloc: Global,
-        list: EdgeList,
-        frame: Frame,
-        top: i32,
-        most_spans: usize,
-    ) -> Result<CutGlyph, AllocError>
-        requires few { length list.edges ≤ 2 ^ 17 }
-        requires frame { FrameFits frame }
-        requires margin { frame.margin ≡ 0 }
-        requires top { frame.rise ≡ top +ℤ pos 1 }
-        requires small { unsigned_abs top < 2 ^ 19 }
-        requires blank { (x j : ℤ) → has_row ((top +ℤ pos 1) -ℤ pos frame.height, top +ℤ pos 1) j ≡ false
-            → is_black list.edges x (line_y j) ≡ false }
-        ensures black { IfOk result (λ cut. IfRaster cut (IsRasterOf list.edges)) }
-        ensures rows { IfOk result (λ cut. IfRaster cut (λ k. length k.rows ≡ frame.height)) }
-        ensures held { IfOk result (λ cut. IfRaster cut (λ k. spans_in k.rows ≤ most_spans)) }
-        ensures edges { IfOk result (λ cut. IfEdges cut (λ l. l.edges ≡ list.edges)) }
-        ensures large { IfOk result (λ cut. IfEdges cut (λ _.
-            most_spans < frame.height * (2 * length list.edges + 1))) }
-    {
-        let mut tape = Tape::of(alloc, frame, list)?;
+        let mut tape = Tape::of(alloc, frame_of(count, last), list)?;
         let mut sweep = Sweep::new(alloc, tape.edges())?;
         match Rows::cut(alloc, &mut tape, &mut sweep, most_spans.min(MANY_SPANS))? {
-            Some(rows) => Ok(CutGlyph::Raster(Raster { rows, top })),
+            Some(rows) => Ok(CutGlyph::Raster(Raster { rows, top: last })),
             None => Ok(CutGlyph::Edges(tape.into_list())),
         }
     }

@@ -13,8 +13,11 @@ loop-byte-preserved c = record {
   reached = search rules;
 }
 
-pub returns-clause-bits : goal.returns-clause-bits
-returns-clause-bits c = λ k.
-    let done : c.loop-byte.byte ≡ c.args.to =
-    omega (arith, c.loop-byte.auto.byte-end, c.loop-byte-test.false, c.requires.order) in
-    rw done at (c.loop-byte.invariant.bits k)
+pub returns : goal.returns
+returns c = record {
+  bits = λ k.
+      let done : c.loop-byte.byte ≡ c.args.to =
+      omega (arith, c.loop-byte.auto.byte-end, c.loop-byte-test.false, c.requires.order) in
+      rw done at (c.loop-byte.invariant.bits k);
+  len = c.loop-byte.invariant.len;
+}

@@ -25,10 +25,6 @@ returns-then-begins_below-clause-crosses c =
     let count : c.loop-next.edges.crosses ≡ c.args.edges.now.crosses + length (filter (meets_row c.args.at.r) (drop c.args.from c.args.entries.now)) = omega (arith, counted) in
     c.loop-next.invariant.edges ∙ rw count refl
 
-pub visit_entry-requires-clause-fits : goal.visit_entry-requires-clause-fits
-visit_entry-requires-clause-fits c =
-    rw c.loop-next.invariant.edges c.requires.fits
-
 pub visit_entry-requires-clause-entry : goal.visit_entry-requires-clause-entry
 visit_entry-requires-clause-entry c =
     rw c.loop-next.invariant.edges (c.requires.entries c.loop-next.next no_entry c.loop-next-test.true)

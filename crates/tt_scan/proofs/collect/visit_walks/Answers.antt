@@ -7,7 +7,7 @@ use Rattle.tt_scan_edges.specs.Entries.{edge_of}
 use Rattle.tt_scan.specs.EdgeTable.{IsWalkAt}
 use Rattle.tt_scan_edges.specs.Walks.{IsWalk}
 use Rattle.tt_scan_edges.specs.declared.entry.Entry.{Entry}
-use Rattle.tt_scan_edges.proofs.Crossed.{blank_left}
+use Rattle.tt_scan_edges.proofs.Crossed.{blank_left, left_by_cross}
 use Rattle.tt_scan.proofs.Walked.{no_walk, walk_here, walked_here, set_walked, set_above, entries_more, left_push}
 use Rattle.tt_scan.proofs.collect.visit_walks.Goals as goal
 
@@ -22,14 +22,14 @@ loop-i-init c = record {
   crosses = search rules;
 }
 
-pub visit_below-requires-clause-below : goal.visit_below-requires-clause-below
-visit_below-requires-clause-below c =
+pub cross_below-requires-clause-below : goal.cross_below-requires-clause-below
+cross_below-requires-clause-below c =
     let below : c.loop-i.i < length c.args.walks.now = omega (arith, c.loop-i-test.true, c.loop-i.invariant.len) in
     rw c.loop-i.invariant.crosses (walk_here c.args.edges.now.edges c.args.at.frame c.args.at.r c.args.at.y c.loop-i.walks c.args.walks.now c.loop-i.i _
     c.requires.walks c.requires.on (c.loop-i.invariant.above c.loop-i.i _ (omega arith)) below c.args.at.height)
 
-pub visit_below-requires-clause-room : goal.visit_below-requires-clause-room
-visit_below-requires-clause-room c =
+pub leave_last-requires-clause-room : goal.leave_last-requires-clause-room
+leave_last-requires-clause-room c =
     let below : c.loop-i.i < length c.args.walks.now = omega (arith, c.loop-i-test.true, c.loop-i.invariant.len) in
     let room = c.loop-i.invariant.left.room in
     let long = length-map (take c.loop-i.i (map (λ (w : Walk). w.entry) c.args.walks.now)) (λ (m : Entry). edge_of c.args.edges.now.edges m) in
@@ -43,25 +43,25 @@ loop-i-preserved c =
     let below : c.loop-i.i < length c.args.walks.now = omega (arith, c.loop-i-test.true, c.loop-i.invariant.len) in
     let within : c.loop-i.i < length c.loop-i.walks = omega (arith, c.loop-i.invariant.len, below) in
     let same = c.loop-i.invariant.above c.loop-i.i no_walk (omega arith) in
-    let walk : IsWalk (edge_of c.args.edges.now.edges (get_or c.loop-i.walks c.loop-i.i no_walk).entry) c.args.at.frame.margin c.args.at.y c.visit_below.new.walk =
-    rw c.loop-i.invariant.crosses at c.visit_below.ensures.walk in
-    let new : IsWalkAt c.args.edges.now.edges c.args.at.frame c.args.at.r c.visit_below.new.walk =
-    walked_here c.args.edges.now.edges c.args.at.frame c.args.at.r c.args.at.y c.loop-i.walks c.args.walks.now c.loop-i.i no_walk c.visit_below.new.walk
-    c.requires.walks c.requires.on same below c.args.at.height c.visit_below.ensures.entry walk in
+    let walk : IsWalk (edge_of c.args.edges.now.edges (get_or c.loop-i.walks c.loop-i.i no_walk).entry) c.args.at.frame.margin c.args.at.y c.cross_below.new.walk =
+    rw c.loop-i.invariant.crosses at c.cross_below.ensures.walk in
+    let new : IsWalkAt c.args.edges.now.edges c.args.at.frame c.args.at.r c.cross_below.new.walk =
+    walked_here c.args.edges.now.edges c.args.at.frame c.args.at.r c.args.at.y c.loop-i.walks c.args.walks.now c.loop-i.i no_walk c.cross_below.new.walk
+    c.requires.walks c.requires.on same below c.args.at.height c.cross_below.ensures.entry walk in
     record {
-      len = length-set c.loop-i.walks c.loop-i.i c.visit_below.new.walk ∙ c.loop-i.invariant.len;
-      walked = λ k d under. set_walked (IsWalkAt c.args.edges.now.edges c.args.at.frame c.args.at.r) c.loop-i.walks c.loop-i.i c.visit_below.new.walk within
+      len = length-set c.loop-i.walks c.loop-i.i c.cross_below.new.walk ∙ c.loop-i.invariant.len;
+      walked = λ k d under. set_walked (IsWalkAt c.args.edges.now.edges c.args.at.frame c.args.at.r) c.loop-i.walks c.loop-i.i c.cross_below.new.walk within
           c.loop-i.invariant.walked new k d under;
-      above = set_above c.loop-i.walks c.args.walks.now c.loop-i.i c.visit_below.new.walk c.loop-i.invariant.above;
-      entries = map-set_same (λ (w : Walk). w.entry) c.loop-i.walks c.loop-i.i c.visit_below.new.walk no_walk c.visit_below.ensures.entry ∙ c.loop-i.invariant.entries;
-      on = λ no k d under. set_walked (λ (w : Walk). (c.args.at.r +ℤ pos 1) <ℤ w.entry.past) c.loop-i.walks c.loop-i.i c.visit_below.new.walk within
+      above = set_above c.loop-i.walks c.args.walks.now c.loop-i.i c.cross_below.new.walk c.loop-i.invariant.above;
+      entries = map-set_same (λ (w : Walk). w.entry) c.loop-i.walks c.loop-i.i c.cross_below.new.walk no_walk c.cross_below.ensures.entry ∙ c.loop-i.invariant.entries;
+      on = λ no k d under. set_walked (λ (w : Walk). (c.args.at.r +ℤ pos 1) <ℤ w.entry.past) c.loop-i.walks c.loop-i.i c.cross_below.new.walk within
           (c.loop-i.invariant.on (c.ended_by-ended.ensures.before no))
-          (rw (get_or-set_same c.loop-i.walks c.loop-i.i c.visit_below.new.walk no_walk within) at (simp to_z-of_z at (c.ended_by-ended.ensures.on no))) k d under;
+          (rw (get_or-set_same c.loop-i.walks c.loop-i.i c.cross_below.new.walk no_walk within) at (simp to_z-of_z at (c.ended_by-ended.ensures.on no))) k d under;
       left = rw (entries_more c.loop-i.walks c.loop-i.walks c.args.walks.now c.loop-i.i no_walk below same)
           (left_push c.args.edges.now.edges c.args.at.frame.margin c.args.at.y (take c.loop-i.i (map (λ (w : Walk). w.entry) c.args.walks.now))
-          (get_or c.loop-i.walks c.loop-i.i no_walk).entry c.args.left.now.most c.loop-i.left c.visit_below.new.left c.loop-i.invariant.left
-          (rw c.loop-i.invariant.crosses at c.visit_below.ensures.left));
-      crosses = rw (c.visit_below.ensures.crosses, c.loop-i.invariant.crosses, add_assoc c.args.edges.now.crosses c.loop-i.i 1) refl;
+          (get_or c.loop-i.walks c.loop-i.i no_walk).entry c.args.left.now.most c.loop-i.left c.leave_last.new.self c.loop-i.invariant.left
+          (left_by_cross _ c.args.at.frame.margin c.args.at.y c.cross_below.result c.loop-i.left c.leave_last.new.self (rw c.loop-i.invariant.crosses at c.cross_below.ensures.exact) c.leave_last.ensures));
+      crosses = rw (c.cross_below.ensures.count, c.loop-i.invariant.crosses, add_assoc c.args.edges.now.crosses c.loop-i.i 1) refl;
     }
 
 pub returns-clause-left : goal.returns-clause-left

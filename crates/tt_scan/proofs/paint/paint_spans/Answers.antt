@@ -15,3 +15,6 @@ loop-i-preserved c =
           simp to_z-of_z (span_more _ (bit c.loop-i.row k) (bit c.paint_span.new.row k) (nat_lt k c.args.width) c.args.spans.now c.loop-i.i (pos k -ℤ c.args.shift) (record { first = pos 0; last = pos 0 }) c.loop-i-test.true (simp to_z-of_z at (c.loop-i.invariant.bits k)) now);
       len = search rules;
     }
+
+pub returns : goal.returns
+returns c = record { bits = search rules; len = search rules }

@@ -16,3 +16,6 @@ loop-pen-preserved c =
           (bit c.args.row.now k) (nat_lt k c.args.width) c.loop-pen-test.true);
       len = c.paint_spans.ensures.len ∙ so_far.len;
     }
+
+pub returns : goal.returns
+returns c = record { bits = search rules; len = search rules }

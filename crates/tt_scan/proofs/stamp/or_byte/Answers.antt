@@ -1,5 +1,9 @@
+use Rattle.std.proofs.Common.{rules}
 use Rattle.tt_scan.proofs.Words.{byte_ored}
 use Rattle.tt_scan.proofs.stamp.or_byte.Goals as goal
 
-pub returns-clause-bits : goal.returns-clause-bits
-returns-clause-bits c = λ k. byte_ored c.args.row.now c.args.byte c.args.mask k c.requires
+pub returns : goal.returns
+returns c = record {
+  bits = λ k. byte_ored c.args.row.now c.args.byte c.args.mask k c.requires;
+  len = search rules;
+}

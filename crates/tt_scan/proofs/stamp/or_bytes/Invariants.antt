@@ -6,6 +6,6 @@ use Rattle.tt_scan.proofs.stamp.or_bytes.Given as goal
 -- the word's columns in the bytes so far are black
 abbrev pub invariant-loop-i : goal.invariant-loop-i
 invariant-loop-i l = record {
-  bits : (k : ℕ) → bit l.row k ≡ (bit l.fn.row k || (nat_lt k (8 * (l.at / 8 + l.i)) && (nat_le l.at k && in_word l.word (k - l.at))));
+  bits : (k : ℕ) → bit l.row k ≡ (bit l.fn.row k || (nat_lt k (8 * (l.at / 8 + l.i)) && (nat_le l.at k && in_word l.stamp.word (k - l.at))));
   len : length l.row ≡ length l.fn.row;
 }

@@ -1,4 +1,4 @@
-use Rattle.std.proofs.Common.{◌∙◌, nat_lt, refl}
+use Rattle.std.proofs.Common.{◌∙◌, nat_lt, refl, rules}
 use Rattle.tt_core.specs.Bits.{bit}
 use Rattle.tt_scan.proofs.Pens.{no_spans, none_painted, one_span_painted}
 use Rattle.tt_scan.proofs.stamp.paint_each.Goals as goal
@@ -17,3 +17,6 @@ loop-i-preserved c = record {
       (one_span_painted c.args.spans.now c.loop-i.i _ c.args.pens.now k (bit c.args.row.now k) (nat_lt k c.args.width) c.loop-i-test.true);
   len = c.paint_one.ensures.len ∙ c.loop-i.invariant.len;
 }
+
+pub returns : goal.returns
+returns c = record { bits = search rules; len = search rules }

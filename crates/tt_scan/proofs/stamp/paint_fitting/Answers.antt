@@ -8,7 +8,7 @@ loop-i-preserved c =
     let so_far = c.loop-i.invariant in
     record {
       bits = λ k.
-          c.paint_fit.ensures.bits (search rules) k
+          (c.paint_fit.ensures.painted (search rules)).bits k
           ∙ rw (so_far.bits k) (one_pen_painted c.args.spans.now c.args.pens.now c.loop-i.i k (bit c.args.row.now k) (nat_lt k c.args.width) c.loop-i-test.true);
-      len = c.paint_fit.ensures.len ∙ so_far.len;
+      len = (c.paint_fit.ensures.painted (search rules)).len ∙ so_far.len;
     }

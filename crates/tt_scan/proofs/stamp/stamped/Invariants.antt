@@ -1,14 +1,7 @@
-use Rattle.std.proofs.Common.{◌≡◌, ℕ, ℤ, ◌-◌, ◌^◌, ◌<◌, ◌≤◌, take, unsigned_abs}
-use Rattle.std.specs.Int.{bit_at}
-use Rattle.tt_scan_edges.specs.Marks.{covers}
-use Rattle.tt_scan.specs.Stamps.{shows}
+use Rattle.std.proofs.Common.{take}
+use Rattle.tt_scan.specs.Stamps.{IsStampOf}
 use Rattle.tt_scan.proofs.stamp.stamped.Given as goal
 
 -- the stamp has the spans so far
 abbrev pub invariant-loop-i : goal.invariant-loop-i
-invariant-loop-i l = record {
-  shows : (c : ℤ) → covers (take l.i l.spans) c ≡ shows l.stamp c;
-  narrow : l.stamp.columns ≤ 57;
-  free : (i : ℕ) → i < 64 - l.stamp.columns → bit_at l.stamp.word i ≡ 0;
-  low : unsigned_abs l.stamp.low ≤ 2 ^ 40;
-}
+invariant-loop-i l = IsStampOf (take l.i l.spans) l.stamp

@@ -6,22 +6,22 @@ use Rattle.tt_scan_dropouts.proofs.closed.are_closed.Goals as goal
 pub offset_bounds-edges-from : goal.offset_bounds-edges-from
 offset_bounds-edges-from c =
     let i = c.loop-i.i in
-    let ends = c.args.ends.now in
-    let next = next_end c.loop-i.from (length c.args.edges.now) ends i 0 c.loop-i-test.true c.loop-i.invariant.left in
+    let ends = c.args.contours.ends.now in
+    let next = next_end c.loop-i.from (length c.args.contours.edges.now) ends i 0 c.loop-i-test.true c.loop-i.invariant.left in
     omega (arith, next.order, next.within)
 
 pub slice_bounds-is_closed-end : goal.slice_bounds-is_closed-end
 slice_bounds-is_closed-end c =
     let i = c.loop-i.i in
-    let ends = c.args.ends.now in
-    let next = next_end c.loop-i.from (length c.args.edges.now) ends i 0 c.loop-i-test.true c.loop-i.invariant.left in
+    let ends = c.args.contours.ends.now in
+    let next = next_end c.loop-i.from (length c.args.contours.edges.now) ends i 0 c.loop-i-test.true c.loop-i.invariant.left in
     search rules
 
 pub loop-i-preserved : goal.loop-i-preserved
 loop-i-preserved c =
     let i = c.loop-i.i in
-    let edges = c.args.edges.now in
-    let ends = c.args.ends.now in
+    let edges = c.args.contours.edges.now in
+    let ends = c.args.contours.ends.now in
     let next = next_end c.loop-i.from (length edges) ends i 0 c.loop-i-test.true c.loop-i.invariant.left in
     record {
       left = next.left;

@@ -6,6 +6,6 @@ use Rattle.tt_scan_dropouts.proofs.closed.are_closed.Given as goal
 -- all contours are closed if the remaining ones are
 abbrev pub invariant-loop-i : goal.invariant-loop-i
 invariant-loop-i l = record {
-  left : AreEndsFrom l.from (length l.edges) (drop l.i l.ends);
-  all : All IsClosed (contours_from l.from l.edges (drop l.i l.ends)) → All IsClosed (contours_at l.edges l.ends);
+  left : AreEndsFrom l.from (length l.contours.edges.now) (drop l.i l.contours.ends.now);
+  all : All IsClosed (contours_from l.from l.contours.edges.now (drop l.i l.contours.ends.now)) → All IsClosed (contours_at l.contours.edges.now l.contours.ends.now);
 }

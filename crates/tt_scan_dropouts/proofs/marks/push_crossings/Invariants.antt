@@ -8,5 +8,5 @@ use Rattle.tt_scan_dropouts.proofs.marks.push_crossings.Given as goal
 
 abbrev pub invariant-loop-k : goal.invariant-loop-k
 invariant-loop-k l =
-    l.marks.items ≡ l.initial.marks.items ++ free_marks (is_black_by l.over l.ink)
+    l.marks.items ≡ l.initial.marks.items ++ free_marks (is_black_by l.pass.over l.pass.ink.now)
     (map (mark_of true) (map (λ k. crossing l.edge (line_crossed l.edge k)) (range_with_len 0 l.k)))

@@ -5,5 +5,5 @@ use Rattle.tt_scan_dropouts.proofs.marks.push_edge_marks.Goals as goal
 
 pub returns-in_default : goal.returns-in_default
 returns-in_default c =
-    let black = is_black_by c.args.over c.args.ink.now in
+    let black = is_black_by c.args.pass.over c.args.pass.ink.now in
     rw (c.in_ok-push_crossings.ensures, free_untouched black c.args.edge c.in_default.ensures.none) refl

@@ -5,5 +5,5 @@ use Rattle.tt_scan_dropouts.proofs.marks.push_walk_marks.Goals as goal
 
 pub loop-k-preserved : goal.loop-k-preserved
 loop-k-preserved c =
-    let more = more_free_steps (is_black_by c.args.over c.args.ink.now) c.args.steps.now c.loop-k.k in
+    let more = more_free_steps (is_black_by c.args.pass.over c.args.pass.ink.now) c.args.steps.now c.loop-k.k in
     rw (c.in_ok-push_step_marks.ensures, c.loop-k.invariant, more, append_assoc) refl

@@ -8,4 +8,4 @@ use Rattle.tt_scan_dropouts.proofs.marks.push_walk_marks.Given as goal
 abbrev pub invariant-loop-k : goal.invariant-loop-k
 invariant-loop-k l =
     l.marks.items ≡ l.initial.marks.items
-    ++ free_marks (is_black_by l.over l.ink) (flat_map (step_marks l.steps) (range_with_len 0 l.k))
+    ++ free_marks (is_black_by l.pass.over l.pass.ink.now) (flat_map (step_marks l.steps) (range_with_len 0 l.k))

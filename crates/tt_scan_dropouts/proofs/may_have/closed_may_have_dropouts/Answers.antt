@@ -10,8 +10,8 @@ use Rattle.tt_scan_dropouts.proofs.may_have.closed_may_have_dropouts.Goals as go
 
 pub returns : goal.returns
 returns c = λ last rules same k j.
-    let es = c.args.edges.now in
-    let closed = c.requires.closed in
+    let es = c.args.contours.edges.now in
+    let closed = c.requires in
     let rows : NoneFreeBothWays (is_black_seen over.Rows es) es = rw seen_by_rows at (c.may_cross_both_ways.ensures.rows last) in
     let columns : NoneFreeBothWays (is_black_seen over.Columns es) (map turned_round es) =
     rw seen_by_columns at (c.may_cross_both_ways.ensures.columns last) in
@@ -19,4 +19,4 @@ returns c = λ last rules same k j.
       | goal.else-stubs-via-then-stubs+else-some_end_on_line w ↦ sym w.some_end_on_line.ensures ∙ w.if-some_end_on_line.false
       | goal.else-stubs-via-else-stubs w ↦ let bad : true ≡ false = sym stubs ∙ same ∙ w.if-stubs.false in absurd cc
     ] in
-    no_dropout rules es c.args.ends.now c.requires.ends closed rows columns off k j
+    no_dropout rules es c.args.contours.ends.now c.args.contours.are_ends closed rows columns off k j

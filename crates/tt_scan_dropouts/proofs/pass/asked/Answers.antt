@@ -11,8 +11,8 @@ pub returns-then-some_asks : goal.returns-then-some_asks
 returns-then-some_asks c = λ d.
     let result : SFits w64 c.pixel_of.result = search rules in
     let gap : SFits w32 (get_or c.args.marks.now 0 no_mark).at.gap = search rules in
-    let pixel : c.pixel_of.result ≡ pixel_of c.args.rules c.args.columns (get_or c.args.marks.now 0 no_mark).at.gap c.args.marks.now = simp to_z-of_z at c.pixel_of.ensures in
+    let pixel : c.pixel_of.result ≡ pixel_of c.args.pass.rules c.args.columns (get_or c.args.marks.now 0 no_mark).at.gap c.args.marks.now = simp to_z-of_z at c.pixel_of.ensures in
     rw (get_or_default c.args.marks.now 0 d no_mark c.requires) (simp to_z-of_z
-    (asks_for c.args.rules c.args.columns (is_black_by c.args.over c.args.ink.now) (get_or c.args.marks.now 0 no_mark).at.line
+    (asks_for c.args.pass.rules c.args.columns (is_black_by c.args.pass.over c.args.pass.ink.now) (get_or c.args.marks.now 0 no_mark).at.line
     (get_or c.args.marks.now 0 no_mark).at.gap c.pixel_of.result c.args.marks.now
     (sym c.is_free.ensures ∙ c.if-is_free.true) (sym c.some_asks.ensures ∙ c.if-some_asks.true) pixel))

@@ -3,20 +3,19 @@ use Rattle.std.proofs.lemmas.Int.{ints, clamps, to_z-of_z}
 use Rattle.tt_scan_edges.proofs.Crosses.{level_cross}
 use Rattle.tt_scan_edges.proofs.crossing.flat.Goals as goal
 
-pub from_centre-right-requires-clause-place : goal.from_centre-right-requires-clause-place
-from_centre-right-requires-clause-place c =
+pub from_centre-right-requires : goal.from_centre-right-requires
+from_centre-right-requires c =
     let ax : SFits w32 c.args.edge.ax = search rules in
     let bx : SFits w32 c.args.edge.bx = search rules in
     let max : SFits w32 c.max.result = search rules in
     let is = simp to_z-of_z at c.max.ensures.value in
     simp to_z-of_z (omega (arith, ints, clamps))
 
-pub returns-clause-exact : goal.returns-clause-exact
-returns-clause-exact c =
+pub returns : goal.returns
+returns c =
     let ax : SFits w32 c.args.edge.ax = search rules in
     let bx : SFits w32 c.args.edge.bx = search rules in
     let ay : SFits w32 c.args.edge.ay = search rules in
-    let y : SFits w64 c.args.y = c.ranges.y in
     let min : SFits w32 c.min.result = search rules in
     let max : SFits w32 c.max.result = search rules in
     let low : SFits w64 c.from_centre-left.result = search rules in
@@ -26,4 +25,4 @@ returns-clause-exact c =
     let is_low = simp to_z-of_z at c.from_centre-left.ensures.exact in
     let is_high = simp to_z-of_z at c.from_centre-right.ensures.exact in
     let touch = simp to_z-of_z at c.pixels_between.ensures.exact in
-    level_cross c.args.edge c.args.margin c.args.y c.from_centre-left.result c.from_centre-right.result _ c.requires.level c.requires.here (rw (is_low, is_min) refl) (rw (is_high, is_max) refl) touch c.pixels_between.ensures.order refl refl
+    level_cross c.args.edge c.args.at.frame.margin c.args.at.y c.from_centre-left.result c.from_centre-right.result _ c.requires.level c.requires.here (rw (is_low, is_min) refl) (rw (is_high, is_max) refl) touch c.pixels_between.ensures.order refl refl

@@ -20,8 +20,8 @@ overflow_mul-rise c =
 
 pub divided-requires : goal.divided-requires
 divided-requires c =
-    let p : Computed c.args.edge c.args.y =
-    computed c.args.edge c.args.y c.requires.edge c.requires.rises c.requires.low c.requires.high in
+    let p : Computed c.args.up.edge c.args.at.y =
+    computed c.args.up.edge c.args.at.y c.args.up.fits c.args.up.rises c.requires.low c.requires.high in
     let rise : SFits w64 c.rise-rise.result = search rules in
     let divisor : SFits w64 (pos 8192 *ℤ c.rise-rise.result) = omega (arith, ints, c.rise-rise.ensures.bound) in
     record { divisor = simp to_z-of_z (rw c.rise-rise.ensures.exact p.above) }
@@ -31,34 +31,34 @@ abbrev number : goal.After-divided → ℤ
 number c = c.product.result +ℤ c.product-2.result
 
 abbrev divisor : goal.After-divided → ℤ
-divisor c = pos 8192 *ℤ (c.args.edge.by -ℤ c.args.edge.ay)
+divisor c = pos 8192 *ℤ (c.args.up.edge.by -ℤ c.args.up.edge.ay)
 
-number_is : (c : goal.After-divided) → number c ≡ number_at c.args.edge c.args.margin c.args.y
+number_is : (c : goal.After-divided) → number c ≡ number_at c.args.up.edge c.args.at.frame.margin c.args.at.y
 number_is c =
-    let ax : SFits w32 c.args.edge.ax = search rules in
-    let ay : SFits w32 c.args.edge.ay = search rules in
-    let y : SFits w64 c.args.y = c.ranges.y in
-    let p : Computed c.args.edge c.args.y =
-    computed c.args.edge c.args.y c.requires.edge c.requires.rises c.requires.low c.requires.high in
+    let ax : SFits w32 c.args.up.edge.ax = search rules in
+    let ay : SFits w32 c.args.up.edge.ay = search rules in
+    let y : SFits w64 c.args.at.y = search rules in
+    let p : Computed c.args.up.edge c.args.at.y =
+    computed c.args.up.edge c.args.at.y c.args.up.fits c.args.up.rises c.requires.low c.requires.high in
     let run : SFits w64 c.run.result = search rules in
     let rise : SFits w64 c.rise-rise.result = search rules in
     let from : SFits w64 c.from.result = search rules in
     let is_from = simp to_z-of_z at c.from.ensures in
-    let height : SFits w64 (c.args.y -ℤ c.from.result) = rw is_from p.height in
+    let height : SFits w64 (c.args.at.y -ℤ c.from.result) = rw is_from p.height in
     let far : SFits w64 c.from_centre.result = search rules in
     let at = simp to_z-of_z at c.from_centre.ensures.exact in
     let left = simp to_z-of_z at c.product.ensures.exact in
     let right = simp to_z-of_z at c.product-2.ensures.exact in
     rw (left, right, at, is_from, c.run.ensures.exact, c.rise-rise.ensures.exact) refl
 
-parts : (c : goal.After-divided) (k : ℤ) → (side c.args.edge (column_x c.args.margin k) c.args.y ≡ number c -ℤ divisor c *ℤ k) × (divisor c *ℤ c.divided.result.whole +ℤ c.divided.result.rest ≡ number c) × (c.divided.result.rest <ℤ divisor c)
+parts : (c : goal.After-divided) (k : ℤ) → (side c.args.up.edge (column_x c.args.at.frame.margin k) c.args.at.y ≡ number c -ℤ divisor c *ℤ k) × (divisor c *ℤ c.divided.result.whole +ℤ c.divided.result.rest ≡ number c) × (c.divided.result.rest <ℤ divisor c)
 parts c k =
     let rise : SFits w64 c.rise-rise.result = search rules in
     let one : SFits w64 c.product.result = search rules in
     let two : SFits w64 c.product-2.result = search rules in
     let sum : SFits w64 (c.product.result +ℤ c.product-2.result) = sum_fits c.product.result c.product-2.result c.product.ensures.bound c.product-2.ensures.bound in
     let divisor : SFits w64 (pos 8192 *ℤ c.rise-rise.result) = omega (arith, ints, c.rise-rise.ensures.bound) in (
-      side_at c.args.edge c.args.margin c.args.y (c.args.edge.ax -ℤ column_x c.args.margin (pos 0)) k (number c) (pos 8192 *ℤ (c.args.edge.by -ℤ c.args.edge.ay)) refl (number_is c) refl,
+      side_at c.args.up.edge c.args.at.frame.margin c.args.at.y (c.args.up.edge.ax -ℤ column_x c.args.at.frame.margin (pos 0)) k (number c) (pos 8192 *ℤ (c.args.up.edge.by -ℤ c.args.up.edge.ay)) refl (number_is c) refl,
       rw c.rise-rise.ensures.exact at (simp to_z-of_z at c.divided.ensures.exact),
       rw c.rise-rise.ensures.exact at (simp to_z-of_z at c.divided.ensures.high),
     )
@@ -81,6 +81,6 @@ returns-clause-stands c =
 pub returns-clause-near : goal.returns-clause-near
 returns-clause-near c =
     let p = parts c (pos 0) in
-    column_near c.args.edge c.args.margin c.args.y c.divided.result c.requires.edge c.requires.margin c.requires.rises
+    column_near c.args.up.edge c.args.at.frame.margin c.args.at.y c.divided.result c.args.up.fits c.args.at.fits.margin c.args.up.rises
     c.requires.low c.requires.high
     (record { exact = p.1 ∙ number_is c; low = c.divided.ensures.low; high = p.2 })

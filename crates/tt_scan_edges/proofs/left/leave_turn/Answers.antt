@@ -7,4 +7,4 @@ leave_mark-requires-clause-some c = λ same. c.if-cross-ne0.true (ap (of_z w8) s
 
 pub returns-then-cross-ne0-clause-turns : goal.returns-then-cross-ne0-clause-turns
 returns-then-cross-ne0-clause-turns c = λ at.
-    turns_permuted c.leave_mark.new.marks.items c.sink.new.marks.items at c.sink.ensures.permutation ∙ c.leave_mark.ensures.turns at
+    turns_permuted c.leave_mark.new.marks.items c.sink.new.items.items at c.sink.ensures.permutation ∙ c.leave_mark.ensures.turns at

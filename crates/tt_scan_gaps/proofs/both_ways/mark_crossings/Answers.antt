@@ -12,20 +12,20 @@ pub look-requires-clause-gap : goal.look-requires-clause-gap
 look-requires-clause-gap c =
     let gap : SFits w64 c.gap_crossed-gap.result = omega (arith, ints, c.gap_crossed-gap.ensures.small) in
     let within : c.loop-k.k < lines_crossed c.args.edge = rw c.lines_crossed-k-end.ensures.exact at c.loop-k-test.true in
-    simp to_z-of_z (rw c.gap_crossed-gap.ensures.exact (crosses_near c.args.edge c.loop-k.k c.requires.edge within).1)
+    simp to_z-of_z (rw c.gap_crossed-gap.ensures.exact (crosses_near c.args.edge c.loop-k.k c.requires within).1)
 
 pub look-requires-clause-line : goal.look-requires-clause-line
 look-requires-clause-line c =
     let line : SFits w64 c.line_crossed-line.result = omega (arith, ints, c.line_crossed-line.ensures.small) in
     let within : c.loop-k.k < lines_crossed c.args.edge = rw c.lines_crossed-k-end.ensures.exact at c.loop-k-test.true in
-    simp to_z-of_z (rw c.line_crossed-line.ensures.exact (crosses_near c.args.edge c.loop-k.k c.requires.edge within).0)
+    simp to_z-of_z (rw c.line_crossed-line.ensures.exact (crosses_near c.args.edge c.loop-k.k c.requires within).0)
 
 pub loop-k-preserved : goal.loop-k-preserved
 loop-k-preserved c =
     let e = c.args.edge in
     let k = c.loop-k.k in
     let so_far = c.loop-k.invariant in
-    let black = is_black_seen c.args.over c.args.edges.now in
+    let black = is_black_seen c.args.pass.over c.args.pass.edges.now in
     let line : SFits w64 c.line_crossed-line.result = omega (arith, ints, c.line_crossed-line.ensures.small) in
     let gap : SFits w64 c.gap_crossed-gap.result = omega (arith, ints, c.gap_crossed-gap.ensures.small) in
     let on_line = c.line_crossed-line.ensures.exact in
@@ -57,7 +57,6 @@ loop-k-preserved c =
         | inl before ↦ so_far.taken m before has
         | inr not ↦ let same : m ≡ k = omega arith in rw same (its (rw same at has))
       ];
-      len = c.mark.ensures.len;
       fewer = elim c.else-mark.branch [
         | else-mark-via-then-mark+else-look w ↦ rw w.looks-is (omega (arith, w.look.ensures.fewer, so_far.fewer))
         | else-mark-via-else-mark w ↦ rw w.looks-is so_far.fewer

@@ -1,4 +1,4 @@
-use Rattle.std.proofs.Common.{◌≡◌, ℕ, ◌<◌, ◌≤◌, true, false, get_or, length}
+use Rattle.std.proofs.Common.{◌≡◌, ℕ, ◌<◌, ◌≤◌, true, false, get_or}
 use Rattle.tt_scan_gaps.specs.BothWays.{is_black_seen, slot}
 use Rattle.tt_scan_gaps.specs.Crossings.{crossing, line_crossed}
 use Rattle.tt_scan_gaps.specs.Gaps.{is_free}
@@ -13,8 +13,7 @@ invariant-loop-k l = record {
   kept : (s : ℕ) → get_or l.fn.table s false ≡ true → get_or l.table s false ≡ true;
   taken : (m : ℕ) → m < l.k
       → get_or l.other (slot (line_crossed l.edge m) (crossing l.edge (line_crossed l.edge m)).gap) false ≡ true
-      → is_free (is_black_seen l.over l.edges) (crossing l.edge (line_crossed l.edge m)).gap (line_crossed l.edge m)
+      → is_free (is_black_seen l.pass.over l.pass.edges.now) (crossing l.edge (line_crossed l.edge m)).gap (line_crossed l.edge m)
       ≡ false;
-  len : length l.table ≡ 2048;
   fewer : l.looks ≤ l.fn.looks;
 }

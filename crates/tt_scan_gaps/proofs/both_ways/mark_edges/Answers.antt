@@ -1,4 +1,4 @@
-use Rattle.std.proofs.Common.{refl, sym, subst, pos, map, take, arith}
+use Rattle.std.proofs.Common.{sym, subst, pos, map, take, arith}
 use Rattle.tt_scan_edges.specs.declared.edge.Edge.{Edge}
 use Rattle.tt_scan_gaps.specs.BothWays.{AreTold, is_black_seen}
 use Rattle.tt_scan_gaps.specs.Seen.{seen_by}
@@ -10,10 +10,6 @@ pub loop-edge-init : goal.loop-edge-init
 loop-edge-init c = record {
   rows = record { up = λ j c some. absurd cc; down = λ j c some. absurd cc; none = λ j c two. absurd cc };
   columns = record { up = λ j c some. absurd cc; down = λ j c some. absurd cc; none = λ j c two. absurd cc };
-  row_rising_len = refl;
-  row_falling_len = refl;
-  column_rising_len = refl;
-  column_falling_len = refl;
   fewer = omega arith;
 }
 
@@ -35,9 +31,5 @@ loop-edge-preserved c =
           c.mark_edge-in-loop-edge.new.rising c.mark_edge-in-loop-edge.new.falling)
           (sym along) (c.mark_edge-in-loop-edge.ensures.told c.if-mark_edge-2.false
           (map (seen_by over.Columns) seen) so_far.columns);
-      row_rising_len = c.mark_edge.ensures.rising_len;
-      row_falling_len = c.mark_edge.ensures.falling_len;
-      column_rising_len = c.mark_edge-in-loop-edge.ensures.rising_len;
-      column_falling_len = c.mark_edge-in-loop-edge.ensures.falling_len;
       fewer = omega (arith, so_far.fewer, c.mark_edge.ensures.fewer, c.mark_edge-in-loop-edge.ensures.fewer);
     }

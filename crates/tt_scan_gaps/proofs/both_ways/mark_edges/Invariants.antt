@@ -1,4 +1,4 @@
-use Rattle.std.proofs.Common.{◌≡◌, ◌≤◌, length, map, take}
+use Rattle.std.proofs.Common.{◌≤◌, map, take}
 use Rattle.tt_scan_gaps.specs.BothWays.{AreTold, is_black_seen}
 use Rattle.tt_scan_gaps.specs.Seen.{seen_by}
 use Rattle.tt_scan_gaps.specs.declared.seen.Over.TheVariants as over
@@ -11,9 +11,5 @@ invariant-loop-edge l = record {
       l.row_rising l.row_falling;
   columns : AreTold (is_black_seen over.Columns l.edges) (map (seen_by over.Columns) (take l.edge-index l.edges))
       l.column_rising l.column_falling;
-  row_rising_len : length l.row_rising ≡ 2048;
-  row_falling_len : length l.row_falling ≡ 2048;
-  column_rising_len : length l.column_rising ≡ 2048;
-  column_falling_len : length l.column_falling ≡ 2048;
   fewer : l.looks ≤ l.fn.looks;
 }

@@ -1,7 +1,8 @@
-use Rattle.std.proofs.Common.{◌≡◌, ◌+◌, ℤ, Bool, pos, ◌+ℤ◌, ◌&&◌, SFits, w64, rules, arith}
+use Rattle.std.proofs.Common.{◌≡◌, ◌∙◌, ◌+◌, ℤ, Bool, ap, sym, pos, ◌+ℤ◌, ◌&&◌, SFits, w64, rules, arith}
 use Rattle.std.proofs.lemmas.Int.{ints, to_z-of_z}
 use Rattle.tt_scan.specs.Contours.{contours_at}
 use Rattle.tt_scan_dropouts.specs.Dropouts.{is_dropout}
+use Rattle.tt_scan_dropouts.specs.Passes.{has_pixel}
 use Rattle.tt_scan_dropouts.specs.Windows.{has}
 use Rattle.tt_scan_dropouts.specs.declared.window.Window.{Window}
 use Rattle.tt_scan_ink.specs.Ink.{count_of}
@@ -12,7 +13,7 @@ use Rattle.tt_scan_ink.proofs.dropouts.windows_ink.Goals as goal
 
 pub loop-done-init : goal.loop-done-init
 loop-done-init c =
-    let black : ℤ → ℤ → Bool = is_dropout c.args.rules (contours_at c.args.tape.now.edges c.args.ends.now) in
+    let black : ℤ → ℤ → Bool = is_dropout c.args.glyph.rules (contours_at c.args.glyph.tape.now.edges c.args.glyph.ends.now) in
     record {
       count = c.count_of-count.ensures.exact;
       within = omega arith;
@@ -34,14 +35,16 @@ loop-done-preserved c =
     let place : SFits w64 (first +ℤ c.from.result) =
     omega (arith, ints, low, high, so_far.count, so_far.within, c.from.ensures) in
     let left : SFits w64 columns.first = search rules in
-    let black : ℤ → ℤ → Bool = is_dropout c.args.rules (contours_at c.args.tape.now.edges c.args.ends.now) in
+    let black : ℤ → ℤ → Bool = is_dropout c.args.glyph.rules (contours_at c.args.glyph.tape.now.edges c.args.glyph.ends.now) in
     let window : Window =
     record { left = columns.first; bottom = first +ℤ pos done; width = count_of columns; height = height } in
     let is : c.window_of-window.result ≡ window =
     rw c.from.ensures at (simp to_z-of_z at c.window_of-window.ensures.exact) in
-    let part : IsInk (λ (k : ℤ) (j : ℤ). has window k j && black k j) c.in_ok-window_ink.field-0 =
-    rw is at c.in_ok-window_ink.ensures in
-    let here : IsInk (shown columns (first +ℤ pos done) height black) c.in_ok-window_ink.field-0 =
+    let part : IsInk (λ (k : ℤ) (j : ℤ). has window k j && black k j) c.pixels_ink.result =
+    ink_alike (has_pixel c.deref.result.now) (λ (k : ℤ) (j : ℤ). has window k j && black k j) c.pixels_ink.result
+    (λ k j. sym (ap (λ ps. has_pixel ps k j) c.deref.ensures.value ∙ (rw is at (c.in_ok-found.ensures.exact k j))))
+    c.pixels_ink.ensures in
+    let here : IsInk (shown columns (first +ℤ pos done) height black) c.pixels_ink.result =
     ink_alike (λ (k : ℤ) (j : ℤ). has window k j && black k j) (shown columns (first +ℤ pos done) height black) _
     (λ k j. window_is columns black (first +ℤ pos done) height k j c.requires.columns) part in
     record {

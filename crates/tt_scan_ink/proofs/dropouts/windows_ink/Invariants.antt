@@ -10,7 +10,7 @@ abbrev pub invariant-loop-done : goal.invariant-loop-done
 invariant-loop-done l = record {
   count : l.count ≡ count_of l.rows;
   within : l.done ≤ l.count;
-  ink : IsInk (shown l.columns l.rows.first l.done (is_dropout l.rules (contours_at l.tape.edges l.ends))) l.ink;
+  ink : IsInk (shown l.columns l.rows.first l.done (is_dropout l.glyph.rules (contours_at l.glyph.tape.now.edges l.glyph.ends.now))) l.ink;
 }
 
 abbrev pub decreases-loop-done : goal.decreases-loop-done

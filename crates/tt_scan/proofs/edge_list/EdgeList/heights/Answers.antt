@@ -16,7 +16,7 @@ pub returns-clause-exact : goal.returns-clause-exact
 returns-clause-exact c =
     let es = c.lend-edges.result.now in
     let all : take c.loop-edge.edge-index es ≡ es = take_all c.loop-edge.edge-index es c.loop-edge-test.false in
-    rw (← c.self.view_is) (rw (all, c.lend-edges.ensures) at c.loop-edge.invariant)
+    rw (← c.self.view_is) (rw (all, c.lend-edges.ensures.exact) at c.loop-edge.invariant)
 
 pub returns-clause-blank : goal.returns-clause-blank
 returns-clause-blank c = λ x y out. blank_outside c.args.self.now.edges x y (rw (returns-clause-exact c) at out)
@@ -26,10 +26,10 @@ returns-clause-order c = rw (returns-clause-exact c) (ordered c.args.self.now.ed
 
 pub returns-clause-low : goal.returns-clause-low
 returns-clause-low c =
-    let fit : All EdgeFits c.args.self.now.edges = rw (← c.self.view_is) c.self.invariant.0 in
+    let fit : All EdgeFits c.args.self.now.edges = rw (← c.self.view_is) (rw c.lend-edges.ensures.exact at c.lend-edges.ensures.fit) in
     rw (returns-clause-exact c) (low_fits c.args.self.now.edges fit)
 
 pub returns-clause-high : goal.returns-clause-high
 returns-clause-high c =
-    let fit : All EdgeFits c.args.self.now.edges = rw (← c.self.view_is) c.self.invariant.0 in
+    let fit : All EdgeFits c.args.self.now.edges = rw (← c.self.view_is) (rw c.lend-edges.ensures.exact at c.lend-edges.ensures.fit) in
     rw (returns-clause-exact c) (high_fits c.args.self.now.edges fit)

@@ -1,23 +1,19 @@
-use Rattle.std.proofs.Common.{◌≡◌, ◌+◌, ap, refl, SFits, w64, arith}
+use Rattle.std.proofs.Common.{◌≡◌, ◌+◌, ap, SFits, w64}
 use Rattle.std.proofs.lemmas.Int.{to_z-of_z}
 use Rattle.tt_scan_edges.specs.Left.{IsLeftBy}
 use Rattle.tt_scan_edges.specs.Winding.{row_y, rows_met}
 use Rattle.tt_scan_edges.proofs.Crossed.{left_settled}
-use Rattle.tt_scan.proofs.Reached.{ready_kept}
 use Rattle.tt_scan.proofs.tape.Tape.collect.Goals as goal
 
 pub visit-requires-clause-ready : goal.visit-requires-clause-ready
-visit-requires-clause-ready c = rw c.of-at.ensures.frame c.self.invariant.3
+visit-requires-clause-ready c = rw c.of-at.ensures.frame c.self.invariant.2
 
 pub invariant_of-self : goal.invariant_of-self
 invariant_of-self c =
     rw c.visit.ensures.crosses (
       c.self.invariant.0,
       c.self.invariant.1,
-      c.self.invariant.2,
-      ready_kept c.self.inside.edges.edges c.self.inside.frame c.visit.new.self c.settle.new.self (rw c.of-at.ensures.frame at c.visit.ensures.ready)
-          (rw c.settle.ensures.entries refl) c.settle.ensures.walks (omega (arith, c.settle.ensures.walk_capacity))
-          c.settle.ensures.long c.settle.ensures.begun c.settle.ensures.row c.settle.ensures.sorted,
+      c.settle.ensures.ready c.self.inside.edges.edges c.self.inside.frame (rw c.of-at.ensures.frame at c.visit.ensures.ready),
     )
 
 pub returns-clause-left : goal.returns-clause-left

@@ -1,4 +1,4 @@
-use Rattle.std.proofs.Common.{◌∙◌, sym, ◌≤◌, length, take, get_or, refl, arith}
+use Rattle.std.proofs.Common.{◌∙◌, sym, ◌≤◌, length, take, get_or, [], refl, arith}
 use Rattle.std.proofs.lemmas.Int.{to_z-of_z}
 use Rattle.tt_scan.proofs.Gaps.{still_in, unmet_in, unmet_entered, entered_next, taken, all_entered, none_entered, edge_is_wide, is_lent, nothing}
 use Rattle.tt_scan.proofs.Reached.{ready_unsorted}
@@ -6,15 +6,14 @@ use Rattle.tt_scan.proofs.tape.Tape.of.Goals as goal
 use Rattle.tt_scan.proofs.tape.Tape.of.Goals.{then-not-is_in+in_ok-enter, else-not-is_in}
 
 pub loop-i-init : goal.loop-i-init
-loop-i-init c = record {
-  entered = none_entered c.args.frame c.reserve.new.self.entries.items (c.reserve.ensures.entries ∙ c.new-table.ensures.entries);
-  gap = c.gap_at-gap.ensures;
-  room = record {
-    long = rw (c.reserve.ensures.long, c.reserve.ensures.entries) c.new-table.ensures.room.long;
-    room = let was = c.new-table.ensures.room.room in rw c.reserve.ensures.long (omega (arith, was, c.reserve.ensures.walk_capacity));
-  };
-  sorted = c.reserve.ensures.sorted ∙ c.new-table.ensures.sorted;
-}
+loop-i-init c =
+    let ready = c.reserve.ensures.ready [] c.args.frame (c.new-table.ensures.ready c.args.frame) in
+    record {
+      entered = none_entered c.args.frame c.reserve.new.self.entries.items ready.table;
+      gap = c.gap_at-gap.ensures;
+      room = ready.room;
+      sorted = c.reserve.ensures.sorted ∙ c.new-table.ensures.sorted;
+    }
 
 pub gap_from-gap-requires-clause-gap : goal.gap_from-gap-requires-clause-gap
 gap_from-gap-requires-clause-gap c = c.loop-i.invariant.gap
@@ -22,14 +21,14 @@ gap_from-gap-requires-clause-gap c = c.loop-i.invariant.gap
 pub gap_from-gap-requires-clause-fits : goal.gap_from-gap-requires-clause-fits
 gap_from-gap-requires-clause-fits c =
     let k = is_lent c.args.list.edges c.into_edges-edges.result.edges c.lend.result.now c.loop-i.i c.len-i-end.result
-    c.into_edges-edges.ensures.edges c.into_edges-edges.ensures.fit c.lend.ensures c.len-i-end.ensures.exact c.loop-i-test.true in
+    c.into_edges-edges.ensures.edges c.lend.ensures.fit c.lend.ensures.exact c.len-i-end.ensures.exact c.loop-i-test.true in
     let wide = edge_is_wide (get_or c.args.list.edges c.loop-i.i nothing) k.fits in
     let ay = wide.ay in
     rw k.same (simp to_z-of_z k.fits.ay)
 
 pub enter-requires-clause-edge : goal.enter-requires-clause-edge
 enter-requires-clause-edge c = let k = is_lent c.args.list.edges c.into_edges-edges.result.edges c.lend.result.now c.loop-i.i c.len-i-end.result
-    c.into_edges-edges.ensures.edges c.into_edges-edges.ensures.fit c.lend.ensures c.len-i-end.ensures.exact c.loop-i-test.true in rw k.same k.fits
+    c.into_edges-edges.ensures.edges c.lend.ensures.fit c.lend.ensures.exact c.len-i-end.ensures.exact c.loop-i-test.true in rw k.same k.fits
 
 pub enter-requires-clause-room : goal.enter-requires-clause-room
 enter-requires-clause-room c = c.loop-i.invariant.room
@@ -37,7 +36,7 @@ enter-requires-clause-room c = c.loop-i.invariant.room
 pub gap_at-gap-requires-then-not-is_in : goal.gap_at-gap-requires-then-not-is_in
 gap_at-gap-requires-then-not-is_in c =
     let k = is_lent c.args.list.edges c.into_edges-edges.result.edges c.lend.result.now c.loop-i.i c.len-i-end.result
-    c.into_edges-edges.ensures.edges c.into_edges-edges.ensures.fit c.lend.ensures c.len-i-end.ensures.exact c.loop-i-test.true in
+    c.into_edges-edges.ensures.edges c.lend.ensures.fit c.lend.ensures.exact c.len-i-end.ensures.exact c.loop-i-test.true in
     let wide = edge_is_wide (get_or c.args.list.edges c.loop-i.i nothing) k.fits in
     let by = wide.by in
     rw k.same (simp to_z-of_z k.fits.by)
@@ -45,7 +44,7 @@ gap_at-gap-requires-then-not-is_in c =
 pub loop-i-preserved : goal.loop-i-preserved
 loop-i-preserved c =
     let k = is_lent c.args.list.edges c.into_edges-edges.result.edges c.lend.result.now c.loop-i.i c.len-i-end.result
-    c.into_edges-edges.ensures.edges c.into_edges-edges.ensures.fit c.lend.ensures c.len-i-end.ensures.exact c.loop-i-test.true in
+    c.into_edges-edges.ensures.edges c.lend.ensures.fit c.lend.ensures.exact c.len-i-end.ensures.exact c.loop-i-test.true in
     let es = c.args.list.edges in
     let i = c.loop-i.i in
     let e = get_or es i nothing in
@@ -83,7 +82,6 @@ invariant_of-result c =
     let past : length es ≤ c.loop-i.i = omega (arith, many, c.loop-i-test.false) in
     let are = all_entered es c.loop-i.i c.args.frame c.loop-i.rows c.loop-i.table.entries.items past c.loop-i.invariant.entered in (
       c.requires,
-      c.into_edges-edges.ensures.fit,
       rw made are.rows,
       rw made (ready_unsorted es c.args.frame c.loop-i.table are.table c.loop-i.invariant.room c.loop-i.invariant.sorted),
     )

@@ -4,4 +4,4 @@ use Rattle.tt_scan.proofs.tape.Tape.rows_of.Goals as goal
 pub row_range-requires-clause-edge : goal.row_range-requires-clause-edge
 row_range-requires-clause-edge c =
     let within : c.args.i < length c.self.inside.edges.edges = rw (← c.self.view_is) at c.requires in
-    rw c.lend.ensures (c.self.invariant.1 c.args.i _ within)
+    c.lend.ensures.fit c.args.i _ (rw c.lend.ensures.exact within)

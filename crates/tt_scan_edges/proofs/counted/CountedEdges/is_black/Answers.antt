@@ -8,38 +8,31 @@ use Rattle.tt_scan_edges.specs.Winding.{column_x, lies_on, lies_on_one, turned, 
 use Rattle.tt_scan_edges.proofs.Edges.{held, winding_more, clear_more}
 use Rattle.tt_scan_edges.proofs.counted.CountedEdges.is_black.Goals as goal
 
-pub cross-cross-requires-clause-edge : goal.cross-cross-requires-clause-edge
-cross-cross-requires-clause-edge c =
-    let below : c.loop-i.i < length c.args.self.now.edges = rw c.loop-i.invariant.end at c.loop-i-test.true in
-    rw c.loop-i.invariant.kept (c.requires.fits c.loop-i.i _ below)
-
 pub returns-then-touches-clause-black : goal.returns-then-touches-clause-black
 returns-then-touches-clause-black c =
     let column : SFits w64 c.args.c = c.ranges.c in
-    let y : SFits w64 c.args.y = c.ranges.y in
     let kept = c.loop-i.invariant.kept in
-    let exact : IsCross (edge_at c.args.self.now.edges c.loop-i.i) c.args.margin c.args.y c.cross-cross.result = rw kept at (simp to_z-of_z at c.cross-cross.ensures.exact) in
+    let exact : IsCross (edge_at c.args.self.now.edges c.loop-i.i) c.args.at.frame.margin c.args.at.y c.cross-cross.result = rw kept at c.cross-cross.ensures.exact in
     let touches = simp to_z-of_z at c.touches.ensures in
     let below : c.loop-i.i < length c.args.self.now.edges = rw c.loop-i.invariant.end at c.loop-i-test.true in
-    let on : lies_on (edge_at c.args.self.now.edges c.loop-i.i) (column_x c.args.margin c.args.c) c.args.y ≡ true = exact.touch c.args.c ∙ (sym touches ∙ c.if-touches.true) in
+    let on : lies_on (edge_at c.args.self.now.edges c.loop-i.i) (column_x c.args.at.frame.margin c.args.c) c.args.at.y ≡ true = exact.touch c.args.c ∙ (sym touches ∙ c.if-touches.true) in
     rw (held c.args.self.now.edges c.loop-i.i _ _ below on) refl
 
 pub loop-i-preserved : goal.loop-i-preserved
 loop-i-preserved c =
     let column : SFits w64 c.args.c = c.ranges.c in
-    let y : SFits w64 c.args.y = c.ranges.y in
     let turn : SFits w64 c.turn_before-winding.result = search rules in
     let kept = c.loop-i.invariant.kept in
-    let exact : IsCross (edge_at c.args.self.now.edges c.loop-i.i) c.args.margin c.args.y c.cross-cross.result = rw kept at (simp to_z-of_z at c.cross-cross.ensures.exact) in
+    let exact : IsCross (edge_at c.args.self.now.edges c.loop-i.i) c.args.at.frame.margin c.args.at.y c.cross-cross.result = rw kept at c.cross-cross.ensures.exact in
     let touches = simp to_z-of_z at c.touches.ensures in
     let below : c.loop-i.i < length c.args.self.now.edges = rw c.loop-i.invariant.end at c.loop-i-test.true in
-    let off : lies_on (edge_at c.args.self.now.edges c.loop-i.i) (column_x c.args.margin c.args.c) c.args.y ≡ false = exact.touch c.args.c ∙ (sym touches ∙ c.if-touches.false) in
-    let adds : turned (edge_at c.args.self.now.edges c.loop-i.i) (column_x c.args.margin c.args.c) c.args.y ≡ c.turn_before-winding.result = exact.right c.args.c ∙ sym (simp to_z-of_z at c.turn_before-winding.ensures.exact) in
+    let off : lies_on (edge_at c.args.self.now.edges c.loop-i.i) (column_x c.args.at.frame.margin c.args.c) c.args.at.y ≡ false = exact.touch c.args.c ∙ (sym touches ∙ c.if-touches.false) in
+    let adds : turned (edge_at c.args.self.now.edges c.loop-i.i) (column_x c.args.at.frame.margin c.args.c) c.args.at.y ≡ c.turn_before-winding.result = exact.right c.args.c ∙ sym (simp to_z-of_z at c.turn_before-winding.ensures.exact) in
     let sum : SFits w64 (to_z w64 c.loop-i.winding-bits +ℤ c.turn_before-winding.result) = omega (arith, ints, c.loop-i.winding-is, c.loop-i.invariant.small, c.turn_before-winding.ensures.small) in
     let clear_so_far = simp to_z-of_z at c.loop-i.invariant.clear in
     let winding_so_far = simp to_z-of_z at c.loop-i.invariant.winding in
-    let clear : lies_on_one (take (c.loop-i.i + 1) c.args.self.now.edges) (column_x c.args.margin c.args.c) c.args.y ≡ false = rw (clear_more c.args.self.now.edges c.loop-i.i (column_x c.args.margin c.args.c) c.args.y below, clear_so_far, off) refl in
-    let winding : to_z w64 c.loop-i.winding-bits +ℤ c.turn_before-winding.result ≡ winding (take (c.loop-i.i + 1) c.args.self.now.edges) (column_x c.args.margin c.args.c) c.args.y = rw (winding_more c.args.self.now.edges c.loop-i.i (column_x c.args.margin c.args.c) c.args.y below, adds, ← winding_so_far) refl in
+    let clear : lies_on_one (take (c.loop-i.i + 1) c.args.self.now.edges) (column_x c.args.at.frame.margin c.args.c) c.args.at.y ≡ false = rw (clear_more c.args.self.now.edges c.loop-i.i (column_x c.args.at.frame.margin c.args.c) c.args.at.y below, clear_so_far, off) refl in
+    let winding : to_z w64 c.loop-i.winding-bits +ℤ c.turn_before-winding.result ≡ winding (take (c.loop-i.i + 1) c.args.self.now.edges) (column_x c.args.at.frame.margin c.args.c) c.args.at.y = rw (winding_more c.args.self.now.edges c.loop-i.i (column_x c.args.at.frame.margin c.args.c) c.args.at.y below, adds, ← winding_so_far) refl in
     record {
       end = search rules;
       kept = search rules;
@@ -51,9 +44,8 @@ loop-i-preserved c =
 pub returns-clause-black : goal.returns-clause-black
 returns-clause-black c =
     let column : SFits w64 c.args.c = c.ranges.c in
-    let y : SFits w64 c.args.y = c.ranges.y in
     let done : c.loop-i.i ≡ length c.args.self.now.edges = omega (arith, c.loop-i.auto.i-end, c.loop-i-test.false, c.loop-i.invariant.end) in
     let all : take c.loop-i.i c.args.self.now.edges ≡ c.args.self.now.edges = rw done (take-length c.args.self.now.edges) in
-    let clear : lies_on_one c.args.self.now.edges (column_x c.args.margin c.args.c) c.args.y ≡ false = rw all at (simp to_z-of_z at c.loop-i.invariant.clear) in
-    let winding : to_z w64 c.loop-i.winding-bits ≡ winding c.args.self.now.edges (column_x c.args.margin c.args.c) c.args.y = rw all at (simp to_z-of_z at c.loop-i.invariant.winding) in
+    let clear : lies_on_one c.args.self.now.edges (column_x c.args.at.frame.margin c.args.c) c.args.at.y ≡ false = rw all at (simp to_z-of_z at c.loop-i.invariant.clear) in
+    let winding : to_z w64 c.loop-i.winding-bits ≡ winding c.args.self.now.edges (column_x c.args.at.frame.margin c.args.c) c.args.at.y = rw all at (simp to_z-of_z at c.loop-i.invariant.winding) in
     rw (clear, ← winding) (grind (arith, ints, nat_tests))

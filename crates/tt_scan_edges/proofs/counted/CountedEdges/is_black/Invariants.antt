@@ -7,7 +7,7 @@ abbrev pub invariant-loop-i : goal.invariant-loop-i
 invariant-loop-i l = record {
   end : l.i-end ≡ length l.fn.self.edges;
   kept : l.self ≡ record l.fn.self { crosses = l.fn.self.crosses + l.i };
-  clear : lies_on_one (take l.i l.fn.self.edges) (column_x l.margin l.c) l.y ≡ false;
-  winding : l.winding ≡ winding (take l.i l.fn.self.edges) (column_x l.margin l.c) l.y;
+  clear : lies_on_one (take l.i l.fn.self.edges) (column_x l.at.frame.margin l.c) l.at.y ≡ false;
+  winding : l.winding ≡ winding (take l.i l.fn.self.edges) (column_x l.at.frame.margin l.c) l.at.y;
   small : unsigned_abs l.winding ≤ l.i;
 }

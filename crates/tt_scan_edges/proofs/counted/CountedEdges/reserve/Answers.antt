@@ -1,0 +1,4 @@
+use Rattle.tt_scan_edges.proofs.counted.CountedEdges.reserve.Goals as goal
+
+pub invariant_of-self : goal.invariant_of-self
+invariant_of-self c = rw c.reserve.ensures.items c.self.invariant
