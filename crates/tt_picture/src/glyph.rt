@@ -76,8 +76,9 @@ impl Model for Glyph {
 }
 
 impl Glyph {
-    /// A glyph without a pen, with room for `room` pens, from the cache if it is there. The fitter then serves later
-    /// glyphs. Errors: those of its outline, Memory.
+    /// A glyph without a pen, with room for `room` pens, from the cache if it is there. Else it is made from its
+    /// outline, and cached if it is small enough. The fitter then serves later glyphs. Errors: those of its outline,
+    /// Memory.
     pub(crate) fn of(
         alloc: Global,
         fitter: &mut Fitter,
@@ -98,37 +99,10 @@ impl Glyph {
         ensures limit { limit_of cache.new ≡ limit_of cache.old }
         ensures fault { IfTold font_fault result (λ f. fitted_outline fitter.old number ≡ Err f) }
     {
-        match cache.find(number) {
-            Some(glyph) => {
-                tt_fit::laws::work_unfits();
-                Ok(Glyph::cached(alloc, number, glyph, frame, room)?)
-            }
-            None => Glyph::new(alloc, fitter, number, frame, room, cache),
+        if let Some(glyph) = cache.find(number) {
+            tt_fit::laws::work_unfits();
+            return Ok(Glyph::cached(alloc, number, glyph, frame, room)?);
         }
-    }
-
-    /// Makes a glyph without a pen from its outline, with room for `room` pens. The fitter then serves later glyphs. A
-    /// small enough glyph is cached, if there is a cache. Errors: those of its outline, Memory.
-    fn new(
-        alloc: Global,
-        fitter: &mut Fitter,
-        number: u16,
-        frame: Frame,
-        room: usize,
-        cache: &mut Cache,
-    ) -> Result<Glyph, FontFault>
-        requires known { number < fitter.old.tables.glyphs }
-        requires frame { FrameFits frame }
-        requires cache { IsCacheFor fitter.old cache.old }
-        ensures number { IfOk result (λ g. g.number ≡ number) }
-        ensures pens { IfOk result (λ g. g.pens ≡ []) }
-        ensures left { IfOk result (λ g. g.left ≤ margin_limit) }
-        ensures valid { IfOk result (IsDrawn (is_there cache.old) fitter.old frame) }
-        ensures after { OnOk result (fitter.new ≡ after_glyph fitter.old number) }
-        ensures cache { IsCacheFor fitter.old cache.new }
-        ensures limit { limit_of cache.new ≡ limit_of cache.old }
-        ensures fault { IfTold font_fault result (λ f. fitted_outline fitter.old number ≡ Err f) }
-    {
         // The outline is dropped at the end, once its edges are made.
         let outline = fitter.fit(number)?;
         let filled = rules_for(fitter.dropouts(&outline));
