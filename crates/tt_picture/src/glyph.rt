@@ -213,39 +213,8 @@ pub(crate) fn tape_of(alloc: Global, list: EdgeList, frame: Frame) -> Result<Gly
     Ok(GlyphBody::Tape(Tape::of(alloc, frame, list)?))
 }
 
-/// The raster of a glyph, which is cached for later lines. A tape of its edges, where it has too many lines or too many
-/// black columns.
-fn raster_of(
-    alloc: Global,
-    list: EdgeList,
-    frame: Frame,
-    number: u16,
-    unfitted: Option<Fault>,
-    cache: &mut Cache,
-) -> Result<GlyphBody, AllocError>
-    requires frame { FrameFits frame }
-    requires few { length list.edges ≤ 2 ^ 17 }
-    ensures body { IfOk result (λ b. IsBodyOf list.edges (body_view b) × BodyFits frame 0 (body_view b)) }
-    ensures cached { (s : Fitter) → ((k : Raster) → IsRasterOf list.edges k → IsCached s number (record { raster = k; unfitted = unfitted })) → IsCacheFor s cache.old → IsCacheFor s cache.new }
-    ensures limit { limit_of cache.new ≡ limit_of cache.old }
-{
-    match Raster::cut(alloc, list, 2 * frame.height, cache.raster_limit())? {
-        CutGlyph::Raster(raster) => {
-            let raster = Rc::new(alloc, raster)?;
-            cache.put(
-                number,
-                KeptGlyph {
-                    raster: raster.clone()?,
-                    unfitted,
-                },
-            );
-            Ok(GlyphBody::Raster(raster))
-        }
-        CutGlyph::Edges(list) => tape_of(alloc, list, frame),
-    }
-}
-
-/// The body of a glyph with these edges: a raster, if the glyph is cached, or a tape. Error: Memory.
+/// The body of a glyph with these edges. If the glyph may be cached: a raster, which is cached for later lines. Else, and
+/// where it has too many lines or too many black columns: a tape. Error: Memory.
 fn body_of(
     alloc: Global,
     list: EdgeList,
@@ -262,10 +231,22 @@ fn body_of(
     ensures cached { (s : Fitter) → (caches ≡ true → (k : Raster) → IsRasterOf list.edges k → IsCached s number (record { raster = k; unfitted = unfitted })) → IsCacheFor s cache.old → IsCacheFor s cache.new }
     ensures limit { limit_of cache.new ≡ limit_of cache.old }
 {
-    if caches {
-        raster_of(alloc, list, frame, number, unfitted, cache)
-    } else {
-        tape_of(alloc, list, frame)
+    if !caches {
+        return tape_of(alloc, list, frame);
+    }
+    match Raster::cut(alloc, list, 2 * frame.height, cache.raster_limit())? {
+        CutGlyph::Raster(raster) => {
+            let raster = Rc::new(alloc, raster)?;
+            cache.put(
+                number,
+                KeptGlyph {
+                    raster: raster.clone()?,
+                    unfitted,
+                },
+            );
+            Ok(GlyphBody::Raster(raster))
+        }
+        CutGlyph::Edges(list) => tape_of(alloc, list, frame),
     }
 }
 
