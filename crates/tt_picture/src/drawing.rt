@@ -1,12 +1,10 @@
 //! Draws glyphs that are made.
 
-ghost use Rattle.std.specs.Prelude.{◌≡◌, ◌≤◌, ◌^◌, Bool, List, unsigned_abs, All, IfOk};
-ghost use Rattle.tt_core.specs.Limits.{height_limit};
+ghost use Rattle.std.specs.Prelude.{◌≡◌, Bool, List, All, IfOk};
 ghost use Rattle.tt_picture.specs.Glyphs.{BodyFits, CanBeFilled, Stand, edges_cut};
-ghost use Rattle.tt_picture.specs.Pictures.{IsReady, image_of, picture};
+ghost use Rattle.tt_picture.specs.Pictures.{IsPictureFrame, IsReady, image_of, picture};
 ghost use Rattle.tt_picture.specs.Pixels.{Shape};
 ghost use Rattle.tt_picture.specs.Unfitted.{unfitted_standing};
-ghost use Rattle.tt_scan_edges.specs.Winding.{FrameFits};
 
 use crate::dropouts::line_dropouts;
 use crate::glyph::Glyph;
@@ -21,9 +19,7 @@ pub fn draw_made(
     glyphs: Vec<Glyph>,
     cost: u64,
 ) -> Result<Picture, AllocError>
-    requires frame { FrameFits frame }
-    requires height { frame.height ≤ height_limit }
-    requires rise { unsigned_abs frame.rise ≤ 10 ^ 6 }
+    requires frame { IsPictureFrame frame }
     requires glyphs { All CanBeFilled glyphs.items }
     requires bodies { All (λ g. BodyFits frame 0 g.body) glyphs.items }
     ensures exact { IfOk result (λ p. (keeps : Bool) (shapes : List Shape) → Stand keeps frame glyphs.items shapes → image_of p ≡ picture frame shapes) }

@@ -3,10 +3,9 @@
 ghost use Rattle.std.specs.Prelude.{◌≡◌, ◌+ℤ◌, ◌+◌, ◌-◌, ◌^◌, ◌<◌, ◌≤◌, min, pos, length, All, IfOk};
 ghost use Rattle.tt_core.specs.Bits.{stride};
 ghost use Rattle.tt_core.specs.Limits.{width_limit, height_limit};
-ghost use Rattle.tt_scan_edges.specs.Winding.{FrameFits};
 ghost use Rattle.tt_scan_dropouts.specs.Pictures.{AreDropouts};
 ghost use Rattle.tt_picture.specs.Glyphs.{BodyFits, all_rows, edges_cut};
-ghost use Rattle.tt_picture.specs.Pictures.{IsReady, all_crossings, crossings_made, row_at};
+ghost use Rattle.tt_picture.specs.Pictures.{IsPictureFrame, IsReady, all_crossings, crossings_made, row_at};
 ghost use Rattle.tt_picture.specs.Unfitted.{unfitted_standing};
 
 use crate::glyph::Glyph;
@@ -57,8 +56,7 @@ impl Picture {
         dropouts: Vec<Dropout>,
         cost: u64,
     ) -> Result<Picture, AllocError>
-        requires frame { FrameFits frame }
-        requires height { frame.height ≤ height_limit }
+        requires frame { IsPictureFrame frame }
         requires glyphs { All (λ g. BodyFits frame 0 g.body) glyphs.items }
         requires dropouts { AreDropouts frame.width dropouts.items }
         ensures exact { IfOk result (λ p. p ≡ record { frame = frame; rows = all_rows frame glyphs.items dropouts.items; made = 0; unfitted = unfitted_standing glyphs.items; edges = edges_cut glyphs.items; cost = cost }) }

@@ -8,7 +8,7 @@ ghost use Rattle.tt_line.specs.Outcome.{placement_of};
 ghost use Rattle.tt_metrics.specs.Metrics.{glyphs_of};
 ghost use Rattle.tt_picture.specs.Cached.{is_there, limit_of};
 ghost use Rattle.tt_picture.specs.Glyphs.{AreSeated};
-ghost use Rattle.tt_scan_edges.specs.Winding.{FrameFits};
+ghost use Rattle.tt_picture.specs.Pictures.{IsPictureFrame};
 ghost use Rattle.tt_strike.specs.Costs.{line_cost};
 ghost use Rattle.tt_strike.specs.Defects.{IsLineDefect, IsTooMuchWork, TellsDefects};
 ghost use Rattle.tt_strike.specs.Made.{AreMade, shapes_made};
@@ -27,7 +27,7 @@ use tt_scan::Frame;
 pub(crate) fn frame_of(line: &Line, margin: u32) -> Frame
     requires margin { margin ≤ margin_limit }
     ensures exact { result ≡ frame_of (placement_of line.now) margin }
-    ensures fits { FrameFits result }
+    ensures fits { IsPictureFrame result }
 {
     Frame {
         width: line.width,

@@ -17,4 +17,4 @@ returns-clause-exact c =
     (λ (p : Picture). p ≡ record { frame = f; rows = all_rows f gs ds; made = 0; unfitted = unfitted_standing gs; edges = edges_cut gs; cost = c.args.cost })
     (λ (p : Picture). (keeps : Bool) (shapes : List Shape) → Stand keeps f gs shapes → image_of p ≡ picture f shapes)
     (λ p its keeps shapes stand. rw its (same_picture f gs ds shapes
-    (omega (arith, c.requires.frame.width_high)) stand alike)) c.new.ensures.exact
+    (omega (arith, c.requires.frame.fits.width_high)) stand alike)) c.new.ensures.exact

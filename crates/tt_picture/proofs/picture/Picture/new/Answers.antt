@@ -8,8 +8,8 @@ pub returns-clause-valid : goal.returns-clause-valid
 returns-clause-valid c =
     let f = c.args.frame in
     record {
-      frame = c.requires.frame;
-      height = c.requires.height;
+      frame = c.requires.frame.fits;
+      height = c.requires.frame.height;
       rows = length-rows f.width (shows_by f (stamps_in c.args.glyphs.items) c.args.dropouts.items) 0 (stride f.width * f.height);
       made = refl;
     }

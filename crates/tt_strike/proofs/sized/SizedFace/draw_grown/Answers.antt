@@ -171,12 +171,3 @@ reframed-requires-clause-pens c =
 
 pub reframed-requires-clause-places : goal.reframed-requires-clause-places
 reframed-requires-clause-places c = c.in_ok-enlarged.ensures.valid.places
-
-pub draw_made-requires-clause-height : goal.draw_made-requires-clause-height
-draw_made-requires-clause-height c = rw c.frame_of-frame.ensures.exact c.in_ok-enlarged.enlarged.line.high.1
-
-pub draw_made-requires-clause-rise : goal.draw_made-requires-clause-rise
-draw_made-requires-clause-rise c =
-    let risen = c.in_ok-enlarged.enlarged.line.risen in
-    let high = c.in_ok-enlarged.enlarged.line.high.1 in
-    rw c.frame_of-frame.ensures.exact (omega (arith, risen, high))

@@ -1,4 +1,4 @@
-use Rattle.std.proofs.Common.{◌≡◌, ◌∙◌, ap, sym, map, Ok, arith}
+use Rattle.std.proofs.Common.{◌≡◌, ◌∙◌, ap, sym, map, Ok}
 use Rattle.std.proofs.lemmas.Result.{err_from_is_err_and}
 use Rattle.tt_line.specs.Outcome.{placement_of}
 use Rattle.tt_picture.specs.Cached.{is_there}
@@ -58,12 +58,3 @@ returns-clause-reported c =
       few = λ bounded. rw (frame, c.in_ok-draw_made.ensures.edges) (tested_crossings {cached = is_there c.args.cache.now} a l
           made.setting (frame_of l a.margin) gs made.shapes made.drawn made.numbers made.fitted made.seldom bounded);
     }
-
-pub draw_made-requires-clause-height : goal.draw_made-requires-clause-height
-draw_made-requires-clause-height c = rw c.frame_of-frame.ensures.exact c.args.line.now.high.1
-
-pub draw_made-requires-clause-rise : goal.draw_made-requires-clause-rise
-draw_made-requires-clause-rise c =
-    let risen = c.args.line.now.risen in
-    let high = c.args.line.now.high.1 in
-    rw c.frame_of-frame.ensures.exact (omega (arith, risen, high))
