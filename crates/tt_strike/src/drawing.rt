@@ -18,7 +18,7 @@ use crate::sized::SizedFace;
 use crate::tested::frame_of;
 use tt_core::DrawFault;
 use tt_line::Line;
-use tt_picture::{Cache, Picture, draw_made};
+use tt_picture::{Cache, Picture};
 
 impl<'f, 'a> SizedFace<'f, 'a> {
     /// The picture of a line that is laid out, with this margin. Errors: as `tested_glyphs`.
@@ -43,6 +43,6 @@ impl<'f, 'a> SizedFace<'f, 'a> {
     {
         let glyphs = self.tested_glyphs(margin, line, cache)?;
         let frame = frame_of(line, margin);
-        Ok(draw_made(self.alloc(), frame, glyphs.made, glyphs.cost)?)
+        Ok(Picture::new(self.alloc(), frame, glyphs.made, glyphs.cost)?)
     }
 }

@@ -28,7 +28,7 @@ use crate::tested::frame_of;
 use crate::work::is_bounded;
 use tt_core::DrawFault;
 use tt_line::Line;
-use tt_picture::{Cache, Glyphs, Picture, draw_made, glyph_inks, report_on};
+use tt_picture::{Cache, Glyphs, Picture, glyph_inks, report_on};
 use tt_scan_ink::GlyphInk;
 
 /// A line in whose picture no ink is cut, and the glyphs and inks of the line before columns and rows were added.
@@ -114,7 +114,7 @@ impl<'f, 'a> SizedFace<'f, 'a> {
         let cost = glyphs.cost;
         let frame = frame_of(&larger, margin);
         let moved = glyphs.reframed(alloc, frame, &larger.glyphs)?;
-        Ok(draw_made(alloc, frame, moved, cost)?)
+        Ok(Picture::new(alloc, frame, moved, cost)?)
     }
 
     /// The measure of the picture that `draw_grown` makes. Errors: as `enlarge`. The glyphs are made once, and none is

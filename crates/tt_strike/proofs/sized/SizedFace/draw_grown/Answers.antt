@@ -69,16 +69,16 @@ reframed-requires-clause-among c =
     (numbers_of c.in_ok-enlarged.enlarged.glyphs.made.items)
     (rw c.in_ok-enlarged.ensures.glyphs c.in_ok-enlarged.ensures.enlarged.made.numbers))
 
-pub draw_made-requires-clause-glyphs : goal.draw_made-requires-clause-glyphs
-draw_made-requires-clause-glyphs c =
+pub new-requires-clause-glyphs : goal.new-requires-clause-glyphs
+new-requires-clause-glyphs c =
     let made = c.in_ok-enlarged.ensures.enlarged.made in
     let maker = line_fitter made.setting (map (λ g. g.0) c.args.line.glyphs.items) in
     can_be_filled maker c.in_ok-moved.moved.items
     (c.in_ok-moved.ensures.drawn maker (frame_of (placement_of c.args.line) c.args.margin) made.drawn)
     c.in_ok-moved.ensures.pens
 
-pub draw_made-requires-clause-bodies : goal.draw_made-requires-clause-bodies
-draw_made-requires-clause-bodies c = λ k d below.
+pub new-requires-clause-bodies : goal.new-requires-clause-bodies
+new-requires-clause-bodies c = λ k d below.
     let made = c.in_ok-enlarged.ensures.enlarged.made in
     let maker = line_fitter made.setting (map (λ g. g.0) c.args.line.glyphs.items) in
     (c.in_ok-moved.ensures.drawn maker (frame_of (placement_of c.args.line) c.args.margin) made.drawn k d below).fits
@@ -95,19 +95,19 @@ returns-clause-exact c =
     let maker = line_fitter s (map (λ g. g.0) l.glyphs) in
     let f = frame_of larger a.margin in
     let hs = c.in_ok-moved.moved.items in
-    let p = c.in_ok-draw_made.field-0 in
+    let p = c.in_ok-new.field-0 in
     let made = larger_made face a l larger e.left gs e.made e.moved in
     let places = rw (c.deref.ensures.value, c.frame_of-frame.ensures.exact) at c.in_ok-moved.ensures.stand in
     let fitted = rw c.in_ok-enlarged.ensures.glyphs at made.fitted in
     let there = places maker (frame_of l a.margin) e.made.drawn in
     let stand : Stand false f hs made.shapes = rw fitted at there in
-    let drawn = rw c.frame_of-frame.ensures.exact at c.in_ok-draw_made.ensures.exact in
+    let drawn = rw c.frame_of-frame.ensures.exact at c.in_ok-new.ensures.exact in
     let image : image_of p ≡ picture f made.shapes = drawn false made.shapes stand in
     rw e.exact (larger_drawn face a larger s made ∙ ap Ok {x = picture f made.shapes} {y = image_of p} (sym image))
 
 pub returns-clause-frame : goal.returns-clause-frame
 returns-clause-frame c =
-    rw c.in_ok-enlarged.ensures.enlarged.exact (c.in_ok-draw_made.ensures.frame ∙ c.frame_of-frame.ensures.exact)
+    rw c.in_ok-enlarged.ensures.enlarged.exact (c.in_ok-new.ensures.frame ∙ c.frame_of-frame.ensures.exact)
 
 pub returns-then-not-is_bounded-clause-reported : goal.returns-then-not-is_bounded-clause-reported
 returns-then-not-is_bounded-clause-reported c =
@@ -142,23 +142,23 @@ returns-clause-reported c =
     let s = e.made.setting in
     let maker = line_fitter s (map (λ g. g.0) l.glyphs) in
     let hs = c.in_ok-moved.moved.items in
-    let p = c.in_ok-draw_made.field-0 in
+    let p = c.in_ok-new.field-0 in
     let there = c.in_ok-moved.ensures.drawn maker (frame_of l a.margin) e.made.drawn in
     let told = larger_reported face a l c.frame_of-frame.result gs hs p.unfitted e.made there c.in_ok-moved.ensures.numbers
-    c.in_ok-draw_made.ensures.unfitted in
+    c.in_ok-new.ensures.unfitted in
     let made = larger_made face a l larger e.left gs e.made e.moved in
     let drawn = rw c.frame_of-frame.ensures.exact at there in
-    let frame : p.frame ≡ frame_of larger a.margin = c.in_ok-draw_made.ensures.frame ∙ c.frame_of-frame.ensures.exact in
+    let frame : p.frame ≡ frame_of larger a.margin = c.in_ok-new.ensures.frame ∙ c.frame_of-frame.ensures.exact in
     let own : AreDrawn false (line_fitter s (map (λ g. g.0) larger.glyphs)) (frame_of larger a.margin) hs =
     rw c.in_ok-enlarged.ensures.glyphs drawn in
     let numbers : numbers_of hs ≡ distinct (map (λ g. g.0) larger.glyphs) =
     rw c.in_ok-enlarged.ensures.glyphs (c.in_ok-moved.ensures.numbers ∙ e.made.numbers) in
     record {
-      ready = c.in_ok-draw_made.ensures.valid;
+      ready = c.in_ok-new.ensures.valid;
       report = told.0;
       once = told.1;
-      cost = rw c.in_ok-draw_made.ensures.cost c.in_ok-enlarged.ensures.cost;
-      few = λ bounded. rw (frame, c.in_ok-draw_made.ensures.edges) (tested_crossings {cached = false} a larger s
+      cost = rw c.in_ok-new.ensures.cost c.in_ok-enlarged.ensures.cost;
+      few = λ bounded. rw (frame, c.in_ok-new.ensures.edges) (tested_crossings {cached = false} a larger s
           (frame_of larger a.margin) hs made.shapes own numbers made.fitted made.seldom bounded);
     }
 
