@@ -37,11 +37,6 @@ laid_as_placed a face (Err (draw.Font f)) passes gives = absurd gives
 laid_as_placed a face (Err (draw.Job j)) passes gives = rw (passes, gives) refl
 laid_as_placed a face (Err draw.Memory) passes gives = tt
 
-pub placed_as_given : (r : Result Line DrawFault) (wanted : Result Placement JobFault)
-    → JobGives placement_of r wanted → IfOk r (λ l. wanted ≡ Ok (placement_of l))
-placed_as_given (Ok l) wanted gives = gives
-placed_as_given (Err e) wanted gives = tt
-
 -- a font refuses a line that is too much work
 pub work_refuses : {V : Type 0} (r : Result V DrawFault) (a : Job) (face : Face) (l : Placement)
     → placement face.metrics face.cmap a.text a.ppem a.margin ≡ Ok l

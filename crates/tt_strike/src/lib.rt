@@ -6,6 +6,7 @@ mod drawing;
 mod enlarging;
 mod growing;
 mod job;
+mod laid;
 pub mod laws;
 mod laying;
 mod maker;

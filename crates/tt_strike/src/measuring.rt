@@ -2,7 +2,7 @@
 
 ghost use Rattle.std.specs.Prelude.{◌≡◌, ℕ, ◌<◌, ◌≤◌, pos, ◌+ℤ◌, true, length, map, All, IfOk, IfSome, Ok, Option};
 ghost use Rattle.tt_core.specs.declared.fault.JobFault.TheVariants.{WorkLarge};
-ghost use Rattle.tt_core.specs.Limits.{margin_limit, size_limit, width_limit};
+ghost use Rattle.tt_core.specs.Limits.{size_limit, width_limit};
 ghost use Rattle.tt_core.specs.Outcomes.{GivesUnless, IfTold, draw_font_fault, draw_job_fault};
 ghost use Rattle.tt_line.specs.Outcome.{placement_of};
 ghost use Rattle.tt_metrics.specs.Metrics.{glyphs_of};
@@ -19,11 +19,11 @@ ghost use Rattle.tt_strike.specs.Refusals.{refusal};
 ghost use Rattle.tt_strike.specs.Report.{line_report};
 ghost use Rattle.tt_strike.specs.Strikes.{job_with};
 
+use crate::laid::Laid;
 use crate::sized::SizedFace;
-use crate::tested::frame_of;
 use std::alloc::{AllocError, Global};
 use tt_core::DrawFault;
-use tt_line::{Line, advance};
+use tt_line::advance;
 use tt_metrics::Metrics;
 use tt_picture::{Cache, Glyphs, InkBox, Report, glyph_inks, ink_at, joined, report_on};
 use tt_scan::Frame;
@@ -149,23 +149,22 @@ pub(crate) fn measure_of(frame: Frame, characters: Vec<CharacterMeasure>, report
 }
 
 impl<'f, 'a> SizedFace<'f, 'a> {
-    /// The measure of a line that is laid out, with this margin. Errors: as `tested_glyphs`. No glyph is cached.
+    /// The measure of a line that is laid out. Errors: as `tested_glyphs`. No glyph is cached.
     #[tactic(auto, unfolding(crate::specs::Measures::measured_line, crate::specs::Report::line_report))]
-    pub(crate) fn measure_line(&mut self, margin: u32, line: &Line) -> Result<Measure, DrawFault>
-        requires margin { margin ≤ margin_limit }
-        requires known { All (λ g. g.0 < glyphs_of self.old.face.metrics) line.now.glyphs.items }
-        ensures exact { GivesUnless refusal measure_view result (measured_line self.old.face (job_with self.old margin) (placement_of line.now)) }
-        ensures report { IfOk result (λ m. line_report self.old.face (job_with self.old margin) (placement_of line.now) ≡ Ok m.report.unfitted.items) }
+    pub(crate) fn measure_line(&mut self, laid: &Laid) -> Result<Measure, DrawFault>
+        requires known { All (λ g. g.0 < glyphs_of self.old.face.metrics) laid.now.line.glyphs.items }
+        ensures exact { GivesUnless refusal measure_view result (measured_line self.old.face (job_with self.old laid.now.margin) (placement_of laid.now.line)) }
+        ensures report { IfOk result (λ m. line_report self.old.face (job_with self.old laid.now.margin) (placement_of laid.now.line) ≡ Ok m.report.unfitted.items) }
         ensures once { IfOk result (λ m. ListsOnce m.report.unfitted.items) }
-        ensures cost { IfOk result (λ m. line_cost self.old.face (job_with self.old margin) (placement_of line.now) ≡ Ok m.report.cost) }
+        ensures cost { IfOk result (λ m. line_cost self.old.face (job_with self.old laid.now.margin) (placement_of laid.now.line) ≡ Ok m.report.cost) }
         ensures same { self.new ≡ self.old }
-        ensures defects { TellsDefects draw_font_fault (IsLineDefect self.old.face (job_with self.old margin) (map (λ g. g.0) line.now.glyphs.items)) result }
-        ensures work { IfTold draw_job_fault result (λ j. (j ≡ WorkLarge) × IsTooMuchWork self.old.face (job_with self.old margin) (placement_of line.now)) }
+        ensures defects { TellsDefects draw_font_fault (IsLineDefect self.old.face (job_with self.old laid.now.margin) (map (λ g. g.0) laid.now.line.glyphs.items)) result }
+        ensures work { IfTold draw_job_fault result (λ j. (j ≡ WorkLarge) × IsTooMuchWork self.old.face (job_with self.old laid.now.margin) (placement_of laid.now.line)) }
     {
         let mut none = Cache::absent();
-        let glyphs = self.tested_glyphs(margin, line, &mut none)?;
+        let glyphs = self.tested_glyphs(laid, &mut none)?;
         let alloc = self.alloc();
-        let frame = frame_of(line, margin);
+        let frame = laid.frame();
         let inks = glyph_inks(alloc, &glyphs.made)?;
         let report = report_on(alloc, &glyphs.made, glyphs.cost)?;
         let characters = characters(
@@ -173,7 +172,7 @@ impl<'f, 'a> SizedFace<'f, 'a> {
             self.face().metrics(),
             self.ppem(),
             frame,
-            &line.glyphs,
+            &laid.line.glyphs,
             &glyphs,
             &inks,
         )?;

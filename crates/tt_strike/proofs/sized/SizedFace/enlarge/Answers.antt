@@ -15,7 +15,7 @@ use Rattle.tt_strike.proofs.sized.SizedFace.enlarge.Goals as goal
 pub returns-in_err-glyphs-clause-stops : goal.returns-in_err-glyphs-clause-stops
 returns-in_err-glyphs-clause-stops c =
     let p = err_from_is_err_and c.from_residual.result c.from_residual.ensures.1 in
-    rw (p.1, p.2) (unmade_stops c.args.self.now.face (job_with c.args.self.now c.args.margin) (placement_of c.args.line)
+    rw (p.1, p.2) (unmade_stops c.args.self.now.face (job_with c.args.self.now c.args.laid.margin) (placement_of c.args.laid.line)
     c.in_err-glyphs.field-0.0 c.in_err-glyphs.ensures.stops)
 
 pub tested_glyphs-requires-clause-cache : goal.tested_glyphs-requires-clause-cache
@@ -24,13 +24,13 @@ tested_glyphs-requires-clause-cache c = rw c.absent-none.ensures tt
 pub glyph_inks-requires-clause-tapes : goal.glyph_inks-requires-clause-tapes
 glyph_inks-requires-clause-tapes c =
     let made = rw c.absent-none.ensures at c.in_ok-glyphs.ensures.made in
-    rw c.deref.ensures.value (tapes_as_made c.args.self.now.face (job_with c.args.self.now c.args.margin) (placement_of c.args.line)
+    rw c.deref.ensures.value (tapes_as_made c.args.self.now.face (job_with c.args.self.now c.args.laid.margin) (placement_of c.args.laid.line)
     c.in_ok-glyphs.glyphs.made.items made)
 
 pub glyph_inks-requires-clause-glyphs : goal.glyph_inks-requires-clause-glyphs
 glyph_inks-requires-clause-glyphs c =
     let made = c.in_ok-glyphs.ensures.made in
-    rw c.deref.ensures.value (can_be_filled (line_fitter made.setting (map (λ g. g.0) c.args.line.glyphs.items))
+    rw c.deref.ensures.value (can_be_filled (line_fitter made.setting (map (λ g. g.0) c.args.laid.line.glyphs.items))
     c.in_ok-glyphs.glyphs.made.items made.drawn made.within)
 
 pub characters-requires-clause-known : goal.characters-requires-clause-known
@@ -39,7 +39,7 @@ characters-requires-clause-known c =
 
 pub characters-requires-clause-pens : goal.characters-requires-clause-pens
 characters-requires-clause-pens c =
-    let line = c.args.line in
+    let line = c.args.laid.line in
     let within : All (λ (g : ℕ × ℕ). g.1 ≤ width_limit) line.glyphs.items = λ k d below.
     let wide = line.wide.1 in omega (arith, line.pens k d below, wide) in
     rw c.deref-2.ensures.value within
@@ -53,14 +53,14 @@ characters-requires-clause-places c = c.in_ok-glyphs.ensures.valid.places
 
 pub characters-requires-clause-among : goal.characters-requires-clause-among
 characters-requires-clause-among c =
-    rw c.deref-2.ensures.value (all_among c.args.line.glyphs.items (numbers_of c.in_ok-glyphs.glyphs.made.items)
+    rw c.deref-2.ensures.value (all_among c.args.laid.line.glyphs.items (numbers_of c.in_ok-glyphs.glyphs.made.items)
     c.in_ok-glyphs.ensures.made.numbers)
 
 pub returns-in_err-line-clause-stops : goal.returns-in_err-line-clause-stops
 returns-in_err-line-clause-stops c =
     let face = c.args.self.now.face in
-    let a = job_with c.args.self.now c.args.margin in
-    let l = placement_of c.args.line in
+    let a = job_with c.args.self.now c.args.laid.margin in
+    let l = placement_of c.args.laid.line in
     let gs = c.in_ok-glyphs.glyphs.made.items in
     let characters = c.in_ok-characters.characters.items in
     let made = rw c.absent-none.ensures at c.in_ok-glyphs.ensures.made in
@@ -72,7 +72,7 @@ returns-in_err-line-clause-stops c =
       c.face.ensures,
       c.ppem.ensures.exact,
       c.tested_glyphs.ensures.same,
-      c.frame_of-frame.ensures.exact,
+      c.frame-frame.ensures.exact,
       c.deref-2.ensures.value,
     ) at all in
     let ink = rw (c.ink_of.ensures, c.deref-4.ensures.value) at c.in_err-line.ensures.exact in
@@ -81,8 +81,8 @@ returns-in_err-line-clause-stops c =
 pub returns-clause-enlarged : goal.returns-clause-enlarged
 returns-clause-enlarged c =
     let face = c.args.self.now.face in
-    let a = job_with c.args.self.now c.args.margin in
-    let l = placement_of c.args.line in
+    let a = job_with c.args.self.now c.args.laid.margin in
+    let l = placement_of c.args.laid.line in
     let larger = placement_of c.in_ok-line.line in
     let gs = c.in_ok-glyphs.glyphs.made.items in
     let characters = c.in_ok-characters.characters.items in
@@ -95,7 +95,7 @@ returns-clause-enlarged c =
       c.face.ensures,
       c.ppem.ensures.exact,
       c.tested_glyphs.ensures.same,
-      c.frame_of-frame.ensures.exact,
+      c.frame-frame.ensures.exact,
       c.deref-2.ensures.value,
     ) at all in
     let ink = rw (c.ink_of.ensures, c.deref-4.ensures.value) at c.in_ok-line.ensures.exact in

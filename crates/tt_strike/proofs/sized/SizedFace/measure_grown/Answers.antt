@@ -15,13 +15,13 @@ use Rattle.tt_strike.proofs.sized.SizedFace.measure_grown.Goals as goal
 pub returns-in_err-enlarged-clause-exact : goal.returns-in_err-enlarged-clause-exact
 returns-in_err-enlarged-clause-exact c =
     let p = err_from_is_err_and c.from_residual.result c.from_residual.ensures.1 in
-    let a = job_with c.args.self.now c.args.margin in
-    rw (p.1, p.2) (ungrown_stops c.args.self.now.face a (placement_of c.args.line) c.in_err-enlarged.field-0.0
+    let a = job_with c.args.self.now c.args.laid.margin in
+    rw (p.1, p.2) (ungrown_stops c.args.self.now.face a (placement_of c.args.laid.line) c.in_err-enlarged.field-0.0
     (measured_line c.args.self.now.face a) c.in_err-enlarged.ensures.stops)
 
 pub characters-requires-clause-known : goal.characters-requires-clause-known
 characters-requires-clause-known c =
-    let known = of_same_glyphs (λ n. n < glyphs_of c.args.self.now.face.metrics) c.args.line.glyphs.items
+    let known = of_same_glyphs (λ n. n < glyphs_of c.args.self.now.face.metrics) c.args.laid.line.glyphs.items
     c.in_ok-enlarged.enlarged.line.glyphs.items c.in_ok-enlarged.ensures.glyphs c.requires.known in
     rw (c.metrics.ensures, c.face.ensures, c.enlarge.ensures.same, c.deref-2.ensures.value) known
 
@@ -56,8 +56,8 @@ characters-requires-clause-near c = rw c.deref-3.ensures.value c.in_ok-enlarged.
 pub returns-clause-exact : goal.returns-clause-exact
 returns-clause-exact c =
     let face = c.args.self.now.face in
-    let a = job_with c.args.self.now c.args.margin in
-    let l = placement_of c.args.line in
+    let a = job_with c.args.self.now c.args.laid.margin in
+    let l = placement_of c.args.laid.line in
     let larger = placement_of c.in_ok-enlarged.enlarged.line in
     let gs = c.in_ok-enlarged.enlarged.glyphs.made.items in
     let e = c.in_ok-enlarged.ensures.enlarged in
@@ -70,26 +70,26 @@ returns-clause-exact c =
       c.face.ensures,
       c.ppem.ensures.exact,
       c.enlarge.ensures.same,
-      c.frame_of-frame.ensures.exact,
+      c.frame-frame.ensures.exact,
       c.deref-2.ensures.value,
     ) at measured in
     rw (
       e.exact,
       larger_measured face a l larger s c.in_ok-enlarged.ensures.glyphs made,
       c.measure_of.ensures.exact,
-      c.frame_of-frame.ensures.exact,
+      c.frame-frame.ensures.exact,
       characters,
     ) refl
 
 pub returns-clause-report : goal.returns-clause-report
 returns-clause-report c =
-    rw c.measure_of.ensures.report (reported_as_made c.args.self.now.face (job_with c.args.self.now c.args.margin) (placement_of c.args.line)
+    rw c.measure_of.ensures.report (reported_as_made c.args.self.now.face (job_with c.args.self.now c.args.laid.margin) (placement_of c.args.laid.line)
     c.in_ok-enlarged.enlarged.glyphs.made.items c.in_ok-report.report.unfitted.items
     c.in_ok-enlarged.ensures.enlarged.made (rw c.deref.ensures.value at c.in_ok-report.ensures.unfitted)).0
 
 pub returns-clause-once : goal.returns-clause-once
 returns-clause-once c =
-    rw c.measure_of.ensures.report (reported_as_made c.args.self.now.face (job_with c.args.self.now c.args.margin) (placement_of c.args.line)
+    rw c.measure_of.ensures.report (reported_as_made c.args.self.now.face (job_with c.args.self.now c.args.laid.margin) (placement_of c.args.laid.line)
     c.in_ok-enlarged.enlarged.glyphs.made.items c.in_ok-report.report.unfitted.items
     c.in_ok-enlarged.ensures.enlarged.made (rw c.deref.ensures.value at c.in_ok-report.ensures.unfitted)).1
 
