@@ -21,20 +21,19 @@ ghost use Rattle.tt_strike.specs.Reported.{IsReported};
 ghost use Rattle.tt_strike.specs.Strikes.{IsCacheOf, job_with};
 
 use crate::growing::grown;
+use crate::inked::InkedGlyphs;
 use crate::laid::Laid;
-use crate::measuring::{Measure, characters, ink_of, measure_of};
+use crate::measuring::Measure;
 use crate::sized::SizedFace;
 use crate::work::is_bounded;
 use tt_core::DrawFault;
 use tt_line::Line;
-use tt_picture::{Cache, Glyphs, Picture, glyph_inks, report_on};
-use tt_scan_ink::GlyphInk;
+use tt_picture::{Cache, Picture, glyph_inks};
 
-/// A line in whose picture no ink is cut, and the glyphs and inks of the line before columns and rows were added.
+/// A line in whose picture no ink is cut, and the glyphs of the line before columns and rows were added.
 #[derive(Drop)]
 pub(crate) struct Enlarged {
-    glyphs: Glyphs,
-    inks: Vec<Option<GlyphInk>>,
+    inked: InkedGlyphs,
     line: Line,
 }
 
@@ -53,30 +52,20 @@ impl<'f, 'a> SizedFace<'f, 'a> {
     /// PictureLarge. No glyph is cached.
     fn enlarge(&mut self, laid: Laid) -> Result<Enlarged, DrawFault>
         requires known { All (λ g. g.0 < glyphs_of self.old.face.metrics) laid.line.glyphs.items }
-        ensures enlarged { IfOk result (λ e. IsEnlarged self.old.face (job_with self.old laid.margin) (placement_of laid.line) (placement_of e.line) e.glyphs.made.items e.inks.items) }
-        ensures cost { IfOk result (λ e. line_cost self.old.face (job_with self.old laid.margin) (placement_of laid.line) ≡ Ok e.glyphs.cost) }
-        ensures valid { IfOk result (λ e. AreSeated (glyphs_of self.old.face.metrics) e.glyphs.places.items e.glyphs.made.items) }
-        ensures glyphs { IfOk result (λ e. map (λ g. g.0) e.line.glyphs.items ≡ map (λ g. g.0) laid.line.glyphs.items) }
+        ensures enlarged { IfOk result (λ e. IsEnlarged self.old.face (job_with self.old laid.margin) (placement_of laid.line) (placement_of e.line) e.inked.glyphs.made.items) }
+        ensures cost { IfOk result (λ e. line_cost self.old.face (job_with self.old laid.margin) (placement_of laid.line) ≡ Ok e.inked.glyphs.cost) }
+        ensures valid { IfOk result (λ e. AreSeated (glyphs_of self.old.face.metrics) e.inked.glyphs.places.items e.inked.glyphs.made.items) }
         ensures stops { IfTold refusal result (λ r. grown_line self.old.face (job_with self.old laid.margin) (placement_of laid.line) ≡ Err r) }
         ensures same { self.new ≡ self.old }
         ensures defects { TellsDefects draw_font_fault (IsLineDefect self.old.face (job_with self.old laid.margin) (map (λ g. g.0) laid.line.glyphs.items)) result }
     {
         let mut none = Cache::absent();
         let glyphs = self.tested_glyphs(&laid, &mut none)?;
-        let alloc = self.alloc();
-        let frame = laid.frame();
-        let inks = glyph_inks(alloc, &glyphs.made)?;
-        let characters = characters(
-            alloc,
-            self.face().metrics(),
-            self.ppem(),
-            frame,
-            &laid.line.glyphs,
-            &glyphs,
-            &inks,
-        )?;
-        let line = grown(laid.line, ink_of(&characters))?;
-        Ok(Enlarged { glyphs, inks, line })
+        let inks = glyph_inks(self.alloc(), &glyphs.made)?;
+        let inked = InkedGlyphs { glyphs, inks };
+        let measure = self.measure_by(&laid, &inked)?;
+        let line = grown(laid.line, measure.ink)?;
+        Ok(Enlarged { inked, line })
     }
 
     /// The picture of a line with the fewest added columns and rows such that no ink is cut. Errors: as `enlarge`.
@@ -98,12 +87,12 @@ impl<'f, 'a> SizedFace<'f, 'a> {
             let line = enlarged.into_line();
             return self.draw_line(&Laid { line, margin }, cache);
         }
-        let Enlarged { glyphs, line, .. } = enlarged;
+        let Enlarged { inked, line } = enlarged;
         let alloc = self.alloc();
-        let cost = glyphs.cost;
+        let cost = inked.glyphs.cost;
         let larger = Laid { line, margin };
         let frame = larger.frame();
-        let moved = glyphs.reframed(alloc, frame, &larger.line.glyphs)?;
+        let moved = inked.glyphs.reframed(alloc, frame, &larger.line.glyphs)?;
         Ok(Picture::new(alloc, frame, moved, cost)?)
     }
 
@@ -120,20 +109,7 @@ impl<'f, 'a> SizedFace<'f, 'a> {
     {
         let margin = laid.margin;
         let enlarged = self.enlarge(laid)?;
-        let Enlarged { glyphs, inks, line } = enlarged;
-        let alloc = self.alloc();
-        let larger = Laid { line, margin };
-        let frame = larger.frame();
-        let report = report_on(alloc, &glyphs.made, glyphs.cost)?;
-        let characters = characters(
-            alloc,
-            self.face().metrics(),
-            self.ppem(),
-            frame,
-            &larger.line.glyphs,
-            &glyphs,
-            &inks,
-        )?;
-        Ok(measure_of(frame, characters, report))
+        let Enlarged { inked, line } = enlarged;
+        Ok(self.measure_by(&Laid { line, margin }, &inked)?)
     }
 }

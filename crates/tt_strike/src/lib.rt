@@ -5,6 +5,7 @@ mod distinct;
 mod drawing;
 mod enlarging;
 mod growing;
+mod inked;
 mod job;
 mod laid;
 pub mod laws;

@@ -42,16 +42,10 @@ impl<'f, 'a> SizedFace<'f, 'a> {
         tt_fit::laws::work_unfits();
         let mut fitter = self.maker.take(self.alloc, self.face, self.ppem, self.fit)?;
         let count = self.face.metrics().glyphs();
-        charge_points(self.alloc, self.fit, &mut fitter, count, &laid.line.glyphs)?;
+        let line = &laid.line;
+        charge_points(self.alloc, self.fit, &mut fitter, count, &line.glyphs)?;
         let frame = laid.frame();
-        let mut glyphs = line_glyphs(
-            self.alloc,
-            &mut fitter,
-            count,
-            &laid.line.glyphs,
-            frame,
-            cache,
-        )?;
+        let mut glyphs = line_glyphs(self.alloc, &mut fitter, count, &line.glyphs, frame, cache)?;
         let left = fitter.work();
         let most = crossings_allowed(left);
         let crossings = test_crossings(self.fit, most, &glyphs.made)?;

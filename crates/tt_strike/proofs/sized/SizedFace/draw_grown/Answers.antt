@@ -12,7 +12,7 @@ use Rattle.tt_picture.specs.Pictures.{image_of, picture}
 use Rattle.tt_strike.specs.Picture.{drawn, frame_of}
 use Rattle.tt_picture.specs.Unfitted.{unfitted_standing}
 use Rattle.tt_picture.proofs.Among.{all_among, of_same_glyphs}
-use Rattle.tt_strike.proofs.Enlarged.{larger_drawn, larger_made, larger_reported, same_cost, ungrown_stops}
+use Rattle.tt_strike.proofs.Enlarged.{larger_drawn, larger_made, larger_reported, numbers_kept, same_cost, ungrown_stops}
 use Rattle.tt_picture.proofs.Filled.{can_be_filled, tapes_few}
 use Rattle.tt_strike.proofs.GrownStops.{same_report}
 use Rattle.tt_strike.proofs.Made.{reported_as_made}
@@ -33,7 +33,7 @@ draw_line-requires-clause-cache c = rw c.enlarge.ensures.same c.requires.cache
 pub draw_line-requires-clause-known : goal.draw_line-requires-clause-known
 draw_line-requires-clause-known c =
     rw (c.enlarge.ensures.same, c.into_line-line.ensures) (of_same_glyphs (λ n. n < glyphs_of c.args.self.now.face.metrics) c.args.laid.line.glyphs.items
-    c.in_ok-enlarged.enlarged.line.glyphs.items c.in_ok-enlarged.ensures.glyphs c.requires.known)
+    c.in_ok-enlarged.enlarged.line.glyphs.items (numbers_kept c.in_ok-enlarged.ensures.enlarged) c.requires.known)
 
 pub returns-then-not-is_bounded-clause-exact : goal.returns-then-not-is_bounded-clause-exact
 returns-then-not-is_bounded-clause-exact c =
@@ -48,26 +48,26 @@ returns-then-not-is_bounded-clause-frame c =
 pub returns-then-not-is_bounded-clause-defects : goal.returns-then-not-is_bounded-clause-defects
 returns-then-not-is_bounded-clause-defects c =
     let told = rw (c.enlarge.ensures.same, c.into_line-line.ensures) at c.draw_line.ensures.defects in
-    rw (← c.in_ok-enlarged.ensures.glyphs) told
+    rw (← (numbers_kept c.in_ok-enlarged.ensures.enlarged)) told
 
 -- with a bound the glyphs of the line are moved
 pub reframed-requires-clause-few : goal.reframed-requires-clause-few
 reframed-requires-clause-few c =
     let made = c.in_ok-enlarged.ensures.enlarged.made in
     tapes_few (line_fitter made.setting (map (λ g. g.0) c.args.laid.line.glyphs.items))
-    c.in_ok-enlarged.enlarged.glyphs.made.items made.drawn
+    c.in_ok-enlarged.enlarged.inked.glyphs.made.items made.drawn
 
 pub reframed-requires-clause-known : goal.reframed-requires-clause-known
 reframed-requires-clause-known c =
     let known = of_same_glyphs (λ n. n < glyphs_of c.args.self.now.face.metrics) c.args.laid.line.glyphs.items
-    c.in_ok-enlarged.enlarged.line.glyphs.items c.in_ok-enlarged.ensures.glyphs c.requires.known in
+    c.in_ok-enlarged.enlarged.line.glyphs.items (numbers_kept c.in_ok-enlarged.ensures.enlarged) c.requires.known in
     rw (c.deref.ensures.value, c.in_ok-enlarged.ensures.valid.room) known
 
 pub reframed-requires-clause-among : goal.reframed-requires-clause-among
 reframed-requires-clause-among c =
     rw c.deref.ensures.value (all_among c.in_ok-enlarged.enlarged.line.glyphs.items
-    (numbers_of c.in_ok-enlarged.enlarged.glyphs.made.items)
-    (rw c.in_ok-enlarged.ensures.glyphs c.in_ok-enlarged.ensures.enlarged.made.numbers))
+    (numbers_of c.in_ok-enlarged.enlarged.inked.glyphs.made.items)
+    (rw (numbers_kept c.in_ok-enlarged.ensures.enlarged) c.in_ok-enlarged.ensures.enlarged.made.numbers))
 
 pub new-requires-clause-glyphs : goal.new-requires-clause-glyphs
 new-requires-clause-glyphs c =
@@ -89,7 +89,7 @@ returns-clause-exact c =
     let a = job_with c.args.self.now c.args.laid.margin in
     let l = placement_of c.args.laid.line in
     let larger = placement_of c.in_ok-enlarged.enlarged.line in
-    let gs = c.in_ok-enlarged.enlarged.glyphs.made.items in
+    let gs = c.in_ok-enlarged.enlarged.inked.glyphs.made.items in
     let e = c.in_ok-enlarged.ensures.enlarged in
     let s = e.made.setting in
     let maker = line_fitter s (map (λ g. g.0) l.glyphs) in
@@ -98,7 +98,7 @@ returns-clause-exact c =
     let p = c.in_ok-new.field-0 in
     let made = larger_made face a l larger e.left gs e.made e.moved in
     let places = rw (c.deref.ensures.value, c.frame-frame.ensures.exact) at c.in_ok-moved.ensures.stand in
-    let fitted = rw c.in_ok-enlarged.ensures.glyphs at made.fitted in
+    let fitted = rw (numbers_kept c.in_ok-enlarged.ensures.enlarged) at made.fitted in
     let there = places maker (frame_of l a.margin) e.made.drawn in
     let stand : Stand false f hs made.shapes = rw fitted at there in
     let drawn = rw c.frame-frame.ensures.exact at c.in_ok-new.ensures.exact in
@@ -115,14 +115,14 @@ returns-then-not-is_bounded-clause-reported c =
     let a = job_with c.args.self.now c.args.laid.margin in
     let l = placement_of c.args.laid.line in
     let larger = placement_of c.in_ok-enlarged.enlarged.line in
-    let gs = c.in_ok-enlarged.enlarged.glyphs.made.items in
+    let gs = c.in_ok-enlarged.enlarged.inked.glyphs.made.items in
     let e = c.in_ok-enlarged.ensures.enlarged in
     let plain = reported_as_made face a l gs (unfitted_standing gs) e.made refl in
     let same = same_cost face a l larger e.left gs e.made e.moved in
     let anew = rw (c.enlarge.ensures.same, c.into_line-line.ensures) at c.draw_line.ensures.reported in
     IfOk-weaker c.draw_line.result (IsReported face a larger) (IsReported face a l) (λ p is. record {
       ready = is.ready;
-      report = same_report face a l larger (unfitted_standing gs) p.unfitted c.in_ok-enlarged.ensures.glyphs plain.0 is.report;
+      report = same_report face a l larger (unfitted_standing gs) p.unfitted (numbers_kept c.in_ok-enlarged.ensures.enlarged) plain.0 is.report;
       once = is.once;
       cost = sym same ∙ is.cost;
       few = is.few;
@@ -137,7 +137,7 @@ returns-clause-reported c =
     let a = job_with c.args.self.now c.args.laid.margin in
     let l = placement_of c.args.laid.line in
     let larger = placement_of c.in_ok-enlarged.enlarged.line in
-    let gs = c.in_ok-enlarged.enlarged.glyphs.made.items in
+    let gs = c.in_ok-enlarged.enlarged.inked.glyphs.made.items in
     let e = c.in_ok-enlarged.ensures.enlarged in
     let s = e.made.setting in
     let maker = line_fitter s (map (λ g. g.0) l.glyphs) in
@@ -150,9 +150,9 @@ returns-clause-reported c =
     let drawn = rw c.frame-frame.ensures.exact at there in
     let frame : p.frame ≡ frame_of larger a.margin = c.in_ok-new.ensures.frame ∙ c.frame-frame.ensures.exact in
     let own : AreDrawn false (line_fitter s (map (λ g. g.0) larger.glyphs)) (frame_of larger a.margin) hs =
-    rw c.in_ok-enlarged.ensures.glyphs drawn in
+    rw (numbers_kept c.in_ok-enlarged.ensures.enlarged) drawn in
     let numbers : numbers_of hs ≡ distinct (map (λ g. g.0) larger.glyphs) =
-    rw c.in_ok-enlarged.ensures.glyphs (c.in_ok-moved.ensures.numbers ∙ e.made.numbers) in
+    rw (numbers_kept c.in_ok-enlarged.ensures.enlarged) (c.in_ok-moved.ensures.numbers ∙ e.made.numbers) in
     record {
       ready = c.in_ok-new.ensures.valid;
       report = told.0;
