@@ -30,18 +30,18 @@ impl<'f, 'a> SizedFace<'f, 'a> {
     {
         let job = Job {
             text,
-            ppem: self.ppem,
+            ppem: self.source.ppem,
             margin,
-            fit: self.fit,
+            fit: self.source.fit,
         };
         test_job(&job)?;
-        let face = self.face;
+        let face = self.source.face;
         let line = lay(
-            self.alloc,
+            self.source.alloc,
             face.metrics(),
             face.cmap(),
             text,
-            self.ppem,
+            self.source.ppem,
             margin,
         )?;
         Ok(Laid { line, margin })

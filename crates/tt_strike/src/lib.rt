@@ -14,6 +14,7 @@ mod maker;
 mod measuring;
 mod programs;
 mod sized;
+mod source;
 mod strike;
 mod tested;
 mod work;

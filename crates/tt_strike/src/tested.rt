@@ -40,17 +40,18 @@ impl<'f, 'a> SizedFace<'f, 'a> {
         ensures work { IfTold draw_job_fault result (λ j. (j ≡ WorkLarge) × IsTooMuchWork self.old.face (job_with self.old laid.now.margin) (placement_of laid.now.line)) }
     {
         tt_fit::laws::work_unfits();
-        let mut fitter = self.maker.take(self.alloc, self.face, self.ppem, self.fit)?;
-        let count = self.face.metrics().glyphs();
+        let source = self.source;
+        let mut fitter = self.maker.take(source)?;
+        let count = source.face.metrics().glyphs();
         let line = &laid.line;
-        charge_points(self.alloc, self.fit, &mut fitter, count, &line.glyphs)?;
+        charge_points(source.alloc, source.fit, &mut fitter, count, &line.glyphs)?;
         let frame = laid.frame();
-        let mut glyphs = line_glyphs(self.alloc, &mut fitter, count, &line.glyphs, frame, cache)?;
+        let mut glyphs = line_glyphs(source.alloc, &mut fitter, count, &line.glyphs, frame, cache)?;
         let left = fitter.work();
         let most = crossings_allowed(left);
-        let crossings = test_crossings(self.fit, most, &glyphs.made)?;
+        let crossings = test_crossings(source.fit, most, &glyphs.made)?;
         glyphs.cost = cost_of(left, crossings);
-        self.maker.give_back(fitter, self.fit);
+        self.maker.give_back(fitter, source.fit);
         Ok(glyphs)
     }
 }

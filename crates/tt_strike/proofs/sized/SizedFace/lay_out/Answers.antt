@@ -21,7 +21,7 @@ returns-in_err-test_job-clause-job c =
 
 pub returns-in_err-line-clause-exact : goal.returns-in_err-line-clause-exact
 returns-in_err-line-clause-exact c =
-    let z : SizedFace = record { face = c.self.inside.face.now; ppem = c.self.inside.ppem; fit = c.self.inside.fit } in
+    let z : SizedFace = record { face = c.self.inside.source.face.now; ppem = c.self.inside.source.ppem; fit = c.self.inside.source.fit } in
     let p = err_from_is_err_and c.from_residual-in_err-line.result c.from_residual-in_err-line.ensures.1 in
     let gives = rw (c.metrics.ensures, c.cmap.ensures.exact) at c.in_err-line.ensures.exact in
     rw (p.1, p.2, ← c.self.view_is) (laid_as_placed (job_by z c.args.text.now c.args.margin) z.face
@@ -34,7 +34,7 @@ returns-in_err-line-clause-font c =
 
 pub returns-in_err-line-clause-job : goal.returns-in_err-line-clause-job
 returns-in_err-line-clause-job c =
-    let z : SizedFace = record { face = c.self.inside.face.now; ppem = c.self.inside.ppem; fit = c.self.inside.fit } in
+    let z : SizedFace = record { face = c.self.inside.source.face.now; ppem = c.self.inside.source.ppem; fit = c.self.inside.source.fit } in
     let p = err_from_is_err_and c.from_residual-in_err-line.result c.from_residual-in_err-line.ensures.1 in
     let fault = rw (c.metrics.ensures, c.cmap.ensures.exact) at c.in_err-line.ensures.fault in
     rw (p.1, p.2, ← c.self.view_is) (laying_tells (job_by z c.args.text.now c.args.margin) z.face

@@ -25,14 +25,14 @@ use Rattle.tt_strike.proofs.sized.SizedFace.tested_glyphs.Goals as goal
 
 pub returns-in_err-fitter-clause-stops : goal.returns-in_err-fitter-clause-stops
 returns-in_err-fitter-clause-stops c =
-    let z : SizedFace = record { face = c.self.inside.face.now; ppem = c.self.inside.ppem; fit = c.self.inside.fit } in
+    let z : SizedFace = record { face = c.self.inside.source.face.now; ppem = c.self.inside.source.ppem; fit = c.self.inside.source.fit } in
     let p = err_from_is_err_and c.from_residual.result c.from_residual.ensures.1 in
     rw (p.1, p.2, ← c.self.view_is) (setting_stops z.face (job_with z c.args.laid.now.margin) (placement_of c.args.laid.now.line)
     c.in_err-fitter.field-0.0 c.in_err-fitter.ensures.exact)
 
 pub returns-in_err-fitter-clause-defects : goal.returns-in_err-fitter-clause-defects
 returns-in_err-fitter-clause-defects c =
-    let z : SizedFace = record { face = c.self.inside.face.now; ppem = c.self.inside.ppem; fit = c.self.inside.fit } in
+    let z : SizedFace = record { face = c.self.inside.source.face.now; ppem = c.self.inside.source.ppem; fit = c.self.inside.source.fit } in
     let face = z.face in
     let a = job_with z c.args.laid.now.margin in
     let gs = map (λ g. g.0) c.args.laid.now.line.glyphs.items in
@@ -47,7 +47,7 @@ returns-in_err-fitter-clause-work c =
 
 pub returns-in_err-charge_points-clause-stops : goal.returns-in_err-charge_points-clause-stops
 returns-in_err-charge_points-clause-stops c =
-    let z : SizedFace = record { face = c.self.inside.face.now; ppem = c.self.inside.ppem; fit = c.self.inside.fit } in
+    let z : SizedFace = record { face = c.self.inside.source.face.now; ppem = c.self.inside.source.ppem; fit = c.self.inside.source.fit } in
     let p = err_from_is_err_and c.from_residual-in_err-charge_points.result
     c.from_residual-in_err-charge_points.ensures.1 in
     let fails = rw c.deref.ensures.value at c.in_err-charge_points.ensures.exact in
@@ -56,7 +56,7 @@ returns-in_err-charge_points-clause-stops c =
 
 pub returns-in_err-charge_points-clause-defects : goal.returns-in_err-charge_points-clause-defects
 returns-in_err-charge_points-clause-defects c =
-    let z : SizedFace = record { face = c.self.inside.face.now; ppem = c.self.inside.ppem; fit = c.self.inside.fit } in
+    let z : SizedFace = record { face = c.self.inside.source.face.now; ppem = c.self.inside.source.ppem; fit = c.self.inside.source.fit } in
     let p = err_from_is_err_and c.from_residual-in_err-charge_points.result
     c.from_residual-in_err-charge_points.ensures.1 in
     let fails = rw c.deref.ensures.value at c.in_err-charge_points.ensures.exact in
@@ -65,7 +65,7 @@ returns-in_err-charge_points-clause-defects c =
 
 pub returns-in_err-charge_points-clause-work : goal.returns-in_err-charge_points-clause-work
 returns-in_err-charge_points-clause-work c =
-    let z : SizedFace = record { face = c.self.inside.face.now; ppem = c.self.inside.ppem; fit = c.self.inside.fit } in
+    let z : SizedFace = record { face = c.self.inside.source.face.now; ppem = c.self.inside.source.ppem; fit = c.self.inside.source.fit } in
     let p = err_from_is_err_and c.from_residual-in_err-charge_points.result
     c.from_residual-in_err-charge_points.ensures.1 in
     let fails = rw c.deref.ensures.value at c.in_err-charge_points.ensures.exact in
@@ -74,7 +74,7 @@ returns-in_err-charge_points-clause-work c =
 
 pub returns-in_err-glyphs-clause-stops : goal.returns-in_err-glyphs-clause-stops
 returns-in_err-glyphs-clause-stops c =
-    let z : SizedFace = record { face = c.self.inside.face.now; ppem = c.self.inside.ppem; fit = c.self.inside.fit } in
+    let z : SizedFace = record { face = c.self.inside.source.face.now; ppem = c.self.inside.source.ppem; fit = c.self.inside.source.fit } in
     let p = err_from_is_err_and c.from_residual-in_err-glyphs.result c.from_residual-in_err-glyphs.ensures.1 in
     let few = rw c.deref.ensures.value at c.in_ok-charge_points.ensures.exact in
     let begun = rw c.deref.ensures.value at c.in_ok-charge_points.ensures.charged in
@@ -84,7 +84,7 @@ returns-in_err-glyphs-clause-stops c =
 
 pub returns-in_err-glyphs-clause-defects : goal.returns-in_err-glyphs-clause-defects
 returns-in_err-glyphs-clause-defects c =
-    let z : SizedFace = record { face = c.self.inside.face.now; ppem = c.self.inside.ppem; fit = c.self.inside.fit } in
+    let z : SizedFace = record { face = c.self.inside.source.face.now; ppem = c.self.inside.source.ppem; fit = c.self.inside.source.fit } in
     let face = z.face in
     let a = job_with z c.args.laid.now.margin in
     let s = c.in_ok-fitter.fitter in
@@ -104,7 +104,7 @@ returns-in_err-glyphs-clause-work c =
 pub returns-in_err-crossings-clause-stops : goal.returns-in_err-crossings-clause-stops
 returns-in_err-crossings-clause-stops c =
     let there = is_there c.args.cache.now in
-    let z : SizedFace = record { face = c.self.inside.face.now; ppem = c.self.inside.ppem; fit = c.self.inside.fit } in
+    let z : SizedFace = record { face = c.self.inside.source.face.now; ppem = c.self.inside.source.ppem; fit = c.self.inside.source.fit } in
     let unbounded = unbounded_where z c.args.cache.now (rw (← c.self.view_is) at c.requires.cache) in
     let a = job_with z c.args.laid.now.margin in
     let l = placement_of c.args.laid.now.line in
@@ -127,7 +127,7 @@ returns-in_err-crossings-clause-stops c =
 pub returns-in_err-crossings-clause-work : goal.returns-in_err-crossings-clause-work
 returns-in_err-crossings-clause-work c =
     let there = is_there c.args.cache.now in
-    let z : SizedFace = record { face = c.self.inside.face.now; ppem = c.self.inside.ppem; fit = c.self.inside.fit } in
+    let z : SizedFace = record { face = c.self.inside.source.face.now; ppem = c.self.inside.source.ppem; fit = c.self.inside.source.fit } in
     let unbounded = unbounded_where z c.args.cache.now (rw (← c.self.view_is) at c.requires.cache) in
     let a = job_with z c.args.laid.now.margin in
     let l = placement_of c.args.laid.now.line in
@@ -156,7 +156,7 @@ test_crossings-requires-clause-tapes c =
 pub returns-clause-made : goal.returns-clause-made
 returns-clause-made c =
     let there = is_there c.args.cache.now in
-    let z : SizedFace = record { face = c.self.inside.face.now; ppem = c.self.inside.ppem; fit = c.self.inside.fit } in
+    let z : SizedFace = record { face = c.self.inside.source.face.now; ppem = c.self.inside.source.ppem; fit = c.self.inside.source.fit } in
     let unbounded = unbounded_where z c.args.cache.now (rw (← c.self.view_is) at c.requires.cache) in
     let a = job_with z c.args.laid.now.margin in
     let l = placement_of c.args.laid.now.line in
@@ -185,7 +185,7 @@ returns-clause-made c =
 pub returns-clause-cost : goal.returns-clause-cost
 returns-clause-cost c =
     let there = is_there c.args.cache.now in
-    let z : SizedFace = record { face = c.self.inside.face.now; ppem = c.self.inside.ppem; fit = c.self.inside.fit } in
+    let z : SizedFace = record { face = c.self.inside.source.face.now; ppem = c.self.inside.source.ppem; fit = c.self.inside.source.fit } in
     let unbounded = unbounded_where z c.args.cache.now (rw (← c.self.view_is) at c.requires.cache) in
     let a = job_with z c.args.laid.now.margin in
     let l = placement_of c.args.laid.now.line in
@@ -220,7 +220,7 @@ returns-clause-cost c =
 
 pub returns-clause-defects : goal.returns-clause-defects
 returns-clause-defects c =
-    let z : SizedFace = record { face = c.self.inside.face.now; ppem = c.self.inside.ppem; fit = c.self.inside.fit } in
+    let z : SizedFace = record { face = c.self.inside.source.face.now; ppem = c.self.inside.source.ppem; fit = c.self.inside.source.fit } in
     let s = c.in_ok-fitter.fitter in
     let gs = c.args.laid.now.line.glyphs.items in
     let begun = rw c.deref.ensures.value at c.in_ok-charge_points.ensures.charged in
@@ -235,19 +235,18 @@ invariant_of-self-2 c =
     let setting = c.in_ok-fitter.ensures.setting in
     let gs = map (λ g. g.0) c.args.laid.now.line.glyphs.items in
     let begun = rw c.deref.ensures.value at c.in_ok-charge_points.ensures.charged in
-    let maker = given_back c.self.inside.face.now c.self.inside.ppem c.self.inside.fit s c.line_glyphs.new.fitter
-    c.take.new.self c.give_back.new.self (is_bounded c.self.inside.fit) setting
+    given_back c.self.inside.source.face.now c.self.inside.source.ppem c.self.inside.source.fit s c.line_glyphs.new.fitter
+    c.take.new.self c.give_back.new.self (is_bounded c.self.inside.source.fit) setting
     (λ other. unspent c.work_unfits.ensures.stays s c.charge_points.new.fitter c.line_glyphs.new.fitter gs
     (numbers_of c.in_ok-glyphs.glyphs.made.items) begun c.in_ok-glyphs.ensures.after (setting.unbounded other))
-    c.take.ensures.maker c.give_back.ensures.kept c.give_back.ensures.same in
-    (c.self.invariant.0, c.self.invariant.1, maker)
+    c.take.ensures.maker c.give_back.ensures.kept c.give_back.ensures.same
 
 pub charge_points-requires-clause-unbounded : goal.charge_points-requires-clause-unbounded
 charge_points-requires-clause-unbounded c = c.in_ok-fitter.ensures.setting.unbounded
 
 pub line_glyphs-requires-clause-cache : goal.line_glyphs-requires-clause-cache
 line_glyphs-requires-clause-cache c =
-    let z : SizedFace = record { face = c.self.inside.face.now; ppem = c.self.inside.ppem; fit = c.self.inside.fit } in
+    let z : SizedFace = record { face = c.self.inside.source.face.now; ppem = c.self.inside.source.ppem; fit = c.self.inside.source.fit } in
     let s = c.in_ok-fitter.fitter in
     let own = of_fitter z s c.args.cache.now c.in_ok-fitter.ensures.setting (rw (← c.self.view_is) at c.requires.cache) in
     rw c.in_ok-charge_points.ensures.charged (cache_at_a_cost s _ c.args.cache.now own)
@@ -255,7 +254,7 @@ line_glyphs-requires-clause-cache c =
 -- the cache is then that of the font at the size
 cache_then : (c : After-line_glyphs) → IsCacheOf c.args.self.now c.line_glyphs.new.cache
 cache_then c =
-    let z : SizedFace = record { face = c.self.inside.face.now; ppem = c.self.inside.ppem; fit = c.self.inside.fit } in
+    let z : SizedFace = record { face = c.self.inside.source.face.now; ppem = c.self.inside.source.ppem; fit = c.self.inside.source.fit } in
     let s = c.in_ok-fitter.fitter in
     let before = rw (← c.self.view_is) at c.requires.cache in
     let own = of_fitter z s c.args.cache.now c.in_ok-fitter.ensures.setting before in
