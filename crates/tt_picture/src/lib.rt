@@ -11,7 +11,7 @@
 //! ink_box.rt    such a box in a picture
 //! dropouts.rt   the dropouts of a line
 //! painting.rt   one row of a glyph
-//! rows.rt       one row of a picture
+//! rows.rt       the glyphs of one row
 //! picture.rt    the picture
 //! ```
 #![tactic(auto)]

@@ -11,11 +11,11 @@ ghost use Rattle.tt_picture.specs.Unfitted.{unfitted_standing};
 use crate::dropouts::line_dropouts;
 use crate::glyph::Glyph;
 use crate::report::{Report, Unfitted, report_on};
-use crate::rows::{crosses, make_row, most_edges};
+use crate::rows::{add_glyphs, crosses, most_edges, whiten};
 use std::alloc::{AllocError, Global};
 use std::marker::Model;
 use tt_scan::{Frame, Sweep};
-use tt_scan_dropouts::Dropout;
+use tt_scan_dropouts::{Dropout, blacken_dropouts};
 
 /// The picture of a line: its size, its base line, its rows, which are made in order, and its report. It already has
 /// all the memory that its rows need.
@@ -149,14 +149,11 @@ impl Picture {
         ensures row { row.new ≡ row_at self.old self.old.made }
         ensures same { self.new ≡ record self.old { made = self.old.made + 1 } }
     {
-        make_row(
-            &mut self.glyphs,
-            &mut self.sweep,
-            self.frame,
-            &self.dropouts,
-            self.made,
-            row,
-        );
+        let frame = self.frame;
+        let r = self.made;
+        whiten(row);
+        add_glyphs(&mut self.glyphs, &mut self.sweep, frame, r, row);
+        blacken_dropouts(&self.dropouts, frame.width, r, row);
         self.made += 1;
     }
 }
