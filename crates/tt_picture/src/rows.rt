@@ -1,10 +1,9 @@
 //! What some glyphs give to a row of their picture.
 
-ghost use Rattle.std.specs.Prelude.{◌≡◌, ℕ, ◌+◌, ◌-◌, ◌*◌, ◌^◌, ◌<◌, ◌≤◌, ◌||◌, ◌&&◌, min, nat_lt, length, replicate, All};
+ghost use Rattle.std.specs.Prelude.{◌≡◌, ℕ, ◌+◌, ◌-◌, ◌^◌, ◌≤◌, ◌||◌, ◌&&◌, min, nat_lt, length, replicate, All};
 ghost use Rattle.tt_core.specs.Bits.{bit};
-ghost use Rattle.tt_core.specs.Limits.{height_limit};
 ghost use Rattle.tt_picture.specs.Glyphs.{GlyphFits, crosses_in, edges_of, stamps_in};
-ghost use Rattle.tt_picture.specs.Pixels.{is_black_by};
+ghost use Rattle.tt_picture.specs.Pixels.{IsRowOf, is_black_by};
 
 use crate::glyph::Glyph;
 use tt_scan::{Frame, Sweep};
@@ -47,9 +46,7 @@ pub(crate) fn add_glyphs(
     row: &mut [u8],
 )
     requires glyphs { All (GlyphFits frame r sweep.old.room) glyphs.old }
-    requires height { frame.height ≤ height_limit }
-    requires within { r < frame.height }
-    requires width { frame.width ≤ 8 * length row.old }
+    requires row { IsRowOf frame r row.old }
     ensures bits { (k : ℕ) → bit row.new k ≡ (bit row.old k || (nat_lt k frame.width && is_black_by frame (stamps_in glyphs.old) k r)) }
     ensures len { length row.new ≡ length row.old }
     ensures glyphs { All (GlyphFits frame (r + 1) sweep.new.room) glyphs.new }

@@ -1,4 +1,4 @@
-use Rattle.std.proofs.Common.{◌≡◌, ◌∙◌, ◌*◌, ◌+◌, List, ap, length, map, nat_lt, refl, sym, vec_len}
+use Rattle.std.proofs.Common.{◌≡◌, ◌∙◌, ◌*◌, ◌+◌, List, ap, length, map, nat_lt, refl, sym, vec_len, arith}
 use Rattle.std.proofs.lemmas.List.{length-map, length-replicate, with_items_is}
 use Rattle.tt_core.specs.Bits.{stride}
 use Rattle.tt_scan_dropouts.specs.Pictures.{is_among}
@@ -39,3 +39,14 @@ returns-clause-same c =
     ∙ length-map c.deref_mut.result.now stamp_of ∙ c.deref_mut.ensures.len in
     rw (← c.self.view_is, with_items_is p.glyphs c.add_glyphs.new.glyphs many)
     (ap (λ (ss : List Stamp). record { frame = f; rows = rows f.width (shows_by f ss p.dropouts.items) 0 (stride f.width * f.height); made = p.made + 1; unfitted = p.report.unfitted.items; edges = map (λ s. cut_from s.drawn) ss; cost = p.report.cost }) stamps)
+
+pub add_glyphs-requires-clause-row : goal.add_glyphs-requires-clause-row
+add_glyphs-requires-clause-row c =
+    let f = c.self.inside.frame in
+    let len : length c.whiten.new.row ≡ stride f.width =
+    ap length c.whiten.ensures ∙ (length-replicate (length c.args.row.now) 0 ∙ (rw (← c.self.view_is) at c.requires.len)) in
+    record {
+      height = c.self.invariant.1;
+      within = rw (← c.self.view_is) at c.requires.within;
+      width = rw len (omega arith);
+    }
