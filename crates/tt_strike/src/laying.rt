@@ -1,4 +1,4 @@
-//! Lays a text out, once its job is tested.
+//! Lays a text out, once the text and its margin are tested.
 
 ghost use Rattle.std.specs.Prelude.{◌≡◌, ◌<◌, map, All, Ok, IfOk};
 ghost use Rattle.tt_core.specs.Outcomes.{GivesUnless, IfTold, draw_font_fault, draw_job_fault};
@@ -10,15 +10,15 @@ ghost use Rattle.tt_strike.specs.Picture.{laid_out};
 ghost use Rattle.tt_strike.specs.Refusals.{refusal};
 ghost use Rattle.tt_strike.specs.Strikes.{job_by};
 
-use crate::job::{Job, test_job};
+use crate::job::{test_margin, test_text};
 use crate::laid::Laid;
 use crate::sized::SizedFace;
 use tt_core::DrawFault;
 use tt_line::lay;
 
 impl<'f, 'a> SizedFace<'f, 'a> {
-    /// Tests a job, and lays its text out. Errors, the first of: MarginRange, TextLong; EmptyPicture, PictureLarge.
-    /// Memory may come at any allocation.
+    /// Tests a margin and a text, and lays the text out. Errors, the first of: MarginRange, TextLong; EmptyPicture,
+    /// PictureLarge. Memory may come at any allocation.
     pub(crate) fn lay_out(&self, text: &str, margin: u32) -> Result<Laid, DrawFault>
         ensures exact { GivesUnless refusal (λ l. placement_of l.line) result (laid_out self.now.face (job_by self.now text.now margin)) }
         ensures margin { IfOk result (λ l. l.margin ≡ margin) }
@@ -28,13 +28,8 @@ impl<'f, 'a> SizedFace<'f, 'a> {
         ensures font { IfTold draw_font_fault result (λ _. ⊥) }
         ensures job { IfTold draw_job_fault result (IsLineRefusal self.now.face (job_by self.now text.now margin)) }
     {
-        let job = Job {
-            text,
-            ppem: self.source.ppem,
-            margin,
-            fit: self.source.fit,
-        };
-        test_job(&job)?;
+        test_margin(margin)?;
+        test_text(text)?;
         let face = self.source.face;
         let line = lay(
             self.source.alloc,
