@@ -23,7 +23,8 @@ returns c = λ inked same.
     elim c.match-find.branch [
       | in-Some w ↦
           let at = w.in-Some.ensures.found in
-          w.ink-is ∙ box_found inked c.args.inked.now.inks.items gs w.in-Some.i c.args.placed.0 _ same at.0 at.1
+          w.ink-is ∙ (w.index.ensures
+          ∙ box_found inked c.args.inked.now.inks.items gs w.in-Some.i c.args.placed.0 w.index.result.now same at.0 at.1)
       | in-None w ↦
           let none = is_not_there (numbers_of gs) c.args.placed.0 w.in-None.ensures.absent in
           let there = c.requires.among in
@@ -43,3 +44,6 @@ returns c = λ inked same.
 
 pub advance-requires-clause-known : goal.advance-requires-clause-known
 advance-requires-clause-known c = rw (c.metrics.ensures, c.face.ensures) c.requires.known
+
+pub index-requires : goal.index-requires
+index-requires c = rw (c.args.inked.now.inked, length-map) c.in-Some.ensures.found.0

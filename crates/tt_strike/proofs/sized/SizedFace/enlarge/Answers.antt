@@ -77,13 +77,13 @@ returns-clause-enlarged c =
     let larger = placement_of c.in_ok-line.line in
     let m = measure_view c.in_ok-measure.measure in
     let made = rw c.absent-none.ensures at c.in_ok-glyphs.ensures.made in
-    let moved = grown_moves l larger m.ink c.in_ok-line.ensures in
+    let moved = grown_moves l larger m.ink c.in_ok-line.ensures.exact in
     record {
       made = made;
       left = moved.0;
       moved = moved.1;
       exact = grown_as_measured face a l larger m
-          (measured_then (goal.at.returns-clause-enlarged c).After-measure_by made) c.in_ok-line.ensures;
+          (measured_then (goal.at.returns-clause-enlarged c).After-measure_by made) c.in_ok-line.ensures.exact;
     }
 
 pub returns-in_err-glyphs-clause-defects : goal.returns-in_err-glyphs-clause-defects
