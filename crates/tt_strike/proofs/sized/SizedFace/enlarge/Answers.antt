@@ -10,7 +10,7 @@ use Rattle.tt_strike.specs.Strikes.{job_with}
 use Rattle.tt_strike.specs.Work.{line_fitter}
 use Rattle.tt_strike.proofs.Enlarged.{grown_as_measured, grown_moves, not_grown, unmade_stops}
 use Rattle.tt_strike.proofs.Made.{inks_as_made, measured_as_made, tapes_as_made}
-use Rattle.tt_strike.proofs.sized.SizedFace.enlarge.Goals.{After-measure_by}
+use Rattle.tt_strike.proofs.sized.SizedFace.enlarge.Goals.{In_ok-measure}
 use Rattle.tt_strike.proofs.sized.SizedFace.enlarge.Goals as goal
 
 pub returns-in_err-glyphs-clause-stops : goal.returns-in_err-glyphs-clause-stops
@@ -46,7 +46,7 @@ measure_by-requires-clause-among c =
     c.in_ok-glyphs.ensures.made.numbers
 
 -- the measure is that of the line
-measured_then : (c : After-measure_by) → (made : AreMade false c.args.self.now.face
+measured_then : (c : In_ok-measure) → (made : AreMade false c.args.self.now.face
     (job_with c.args.self.now c.args.laid.margin) (placement_of c.args.laid.line) c.in_ok-glyphs.glyphs.made.items)
     → measured_line c.args.self.now.face (job_with c.args.self.now c.args.laid.margin) (placement_of c.args.laid.line)
     ≡ Ok (measure_view c.in_ok-measure.measure)
@@ -67,7 +67,7 @@ returns-in_err-line-clause-stops c =
     let made = rw c.absent-none.ensures at c.in_ok-glyphs.ensures.made in
     let p = err_from_is_err_and c.from_residual-in_err-line.result c.from_residual-in_err-line.ensures.1 in
     rw (p.1, p.2) (not_grown face a l (measure_view c.in_ok-measure.measure) c.in_err-line.field-0.0
-    (measured_then (goal.at.returns-in_err-line-clause-stops c).After-measure_by made) c.in_err-line.ensures.exact)
+    (measured_then (goal.at.returns-in_err-line-clause-stops c).In_ok-measure made) c.in_err-line.ensures.exact)
 
 pub returns-clause-enlarged : goal.returns-clause-enlarged
 returns-clause-enlarged c =
@@ -83,7 +83,7 @@ returns-clause-enlarged c =
       left = moved.0;
       moved = moved.1;
       exact = grown_as_measured face a l larger m
-          (measured_then (goal.at.returns-clause-enlarged c).After-measure_by made) c.in_ok-line.ensures.exact;
+          (measured_then (goal.at.returns-clause-enlarged c).In_ok-measure made) c.in_ok-line.ensures.exact;
     }
 
 pub returns-in_err-glyphs-clause-defects : goal.returns-in_err-glyphs-clause-defects
