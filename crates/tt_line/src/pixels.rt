@@ -2,7 +2,6 @@
 
 ghost use Rattle.std.specs.Prelude.{◌≡◌, ◌*◌, ◌<◌, ◌≤◌, ◌^◌, ◌*ℤ◌, ◌≤ℤ◌, pos, unsigned_abs};
 ghost use Rattle.tt_core.specs.Limits.{size_limit};
-ghost use Rattle.tt_core.specs.Numbers.{rounded_quotient};
 ghost use Rattle.tt_line.specs.Layout.{ceiling_quotient, advance_in_pixels, rise_of, depth_of};
 ghost use Rattle.tt_metrics.specs.Head.{smallest_em};
 ghost use Rattle.tt_metrics.specs.Metrics.{glyphs_of};
@@ -17,7 +16,8 @@ pub fn advance(metrics: &Metrics, ppem: u32, glyph: u16) -> u32
     ensures exact { result ≡ advance_in_pixels metrics.now ppem glyph }
     ensures bound { result < 2 ^ 25 }
 {
-    nearest(metrics.advance(glyph), ppem, metrics.units_per_em())
+    let units = u32::from(metrics.advance(glyph));
+    rq(i64::from(units * ppem), i64::from(metrics.units_per_em())) as u32
 }
 
 /// Pixels from the base line up to the ascent.
@@ -36,16 +36,6 @@ pub(crate) fn depth(metrics: &Metrics, ppem: u32) -> i32
     ensures bound { unsigned_abs result ≤ 614400 }
 {
     rounded_up(-i32::from(metrics.descent()), ppem, metrics.units_per_em())
-}
-
-/// Font units in pixels, rounded to the nearest pixel.
-fn nearest(units: u16, ppem: u32, em: u16) -> u32
-    requires size { ppem ≤ size_limit }
-    requires em { 0 < em }
-    ensures exact { result ≡ unsigned_abs (rounded_quotient (pos (units * ppem)) (pos em)) }
-    ensures bound { result < 2 ^ 25 }
-{
-    rq(i64::from(u32::from(units) * ppem), i64::from(em)) as u32
 }
 
 /// Font units in pixels, rounded up.

@@ -132,15 +132,9 @@ ink_standing g = ink_by (edges_of g.body) (contours_at (edges_of g.body) g.ends)
 abbrev pub shows_by : Frame → List Stamp → List Dropout → ℕ → ℕ → Bool
 shows_by f stamps ds c r = is_black_by f stamps c r || is_among ds c r
 
--- bytes of the rows of a picture of some glyphs and dropouts: from a byte on, this many
-abbrev pub rows_by : Frame → List Glyph → List Dropout → ℕ → ℕ → List ℕ
-rows_by f gs ds from len = rows f.width (shows_by f (stamps_in gs) ds) from len
-
-abbrev pub row_of : Frame → List Glyph → List Dropout → ℕ → List ℕ
-row_of f gs ds r = rows_by f gs ds (stride f.width * r) (stride f.width)
-
+-- the bytes of a picture of some glyphs and dropouts
 abbrev pub all_rows : Frame → List Glyph → List Dropout → List ℕ
-all_rows f gs ds = rows_by f gs ds 0 (stride f.width * f.height)
+all_rows f gs ds = rows f.width (shows_by f (stamps_in gs) ds) 0 (stride f.width * f.height)
 
 -- the crossings of a glyph at one pen and at all, in the picture and outside; a raster is cut already
 abbrev pub body_crossings : GlyphBody → Option Rules → ℕ

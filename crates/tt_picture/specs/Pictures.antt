@@ -1,5 +1,5 @@
 -- A picture whose rows are made one after the other, and its image.
-use Rattle.std.specs.Prelude.{◌≡◌, refl, ℕ, ◌+◌, ◌*◌, ◌≤◌, Bool, List, [], ◌∷◌, length, take, drop, pos}
+use Rattle.std.specs.Prelude.{◌≡◌, refl, ℕ, ◌+◌, ◌*◌, ◌^◌, ◌≤◌, Bool, List, [], ◌∷◌, length, take, drop, pos, unsigned_abs}
 use Rattle.tt_core.specs.Bits.{stride}
 use Rattle.tt_core.specs.Limits.{height_limit}
 use Rattle.tt_scan_edges.specs.declared.edge.Edge.{Edge}
@@ -50,6 +50,12 @@ crossings_made p = rows_crossings p.frame p.made p.edges
 
 abbrev pub all_crossings : Picture → ℕ
 all_crossings p = rows_crossings p.frame p.frame.height p.edges
+
+-- the frame of a picture within the limits
+pub record IsPictureFrame (f : Frame) : Type 0 where
+  pub fits : FrameFits f
+  pub height : f.height ≤ height_limit
+  pub rise : unsigned_abs f.rise ≤ 10 ^ 6
 
 -- a picture within the limits, with no row made yet
 pub record IsReady (p : Picture) : Type 0 where

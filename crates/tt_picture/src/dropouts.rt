@@ -1,13 +1,12 @@
 //! The dropouts of a line: pixels that are black besides those of the scan converter's rules 1 and 2.
 
-ghost use Rattle.std.specs.Prelude.{◌≡◌, ℕ, ◌≤◌, ◌<◌, ◌||◌, ◌^◌, unsigned_abs, All, IfOk, OnOk};
-ghost use Rattle.tt_core.specs.Limits.{height_limit};
+ghost use Rattle.std.specs.Prelude.{◌≡◌, ℕ, ◌<◌, ◌||◌, All, IfOk, OnOk};
 ghost use Rattle.tt_picture.specs.Glyphs.{CanBeFilled, edges_of, stamps_in};
+ghost use Rattle.tt_picture.specs.Pictures.{IsPictureFrame};
 ghost use Rattle.tt_picture.specs.Pixels.{is_filled_by, is_filled_from};
 ghost use Rattle.tt_picture.specs.Shapes.{rules_for};
 ghost use Rattle.tt_scan.specs.Contours.{contours_at};
 ghost use Rattle.tt_scan_dropouts.specs.Pictures.{AreDropouts, AreInColumns, is_among};
-ghost use Rattle.tt_scan_edges.specs.Winding.{FrameFits};
 
 use crate::glyph::{Glyph, GlyphBody};
 use std::alloc::{AllocError, Global};
@@ -35,9 +34,7 @@ fn push_glyph(
     frame: Frame,
     glyph: &Glyph,
 ) -> Result<(), AllocError>
-    requires frame { FrameFits frame }
-    requires height { frame.height ≤ height_limit }
-    requires rise { unsigned_abs frame.rise ≤ 10 ^ 6 }
+    requires frame { IsPictureFrame frame }
     requires glyph { CanBeFilled glyph.now }
     requires found { AreInColumns frame.width found.old.items }
     ensures added { OnOk result ((c r : ℕ) → c < frame.width → r < frame.height → is_among found.new.items c r
@@ -58,9 +55,7 @@ pub(crate) fn line_dropouts(
     frame: Frame,
     glyphs: &[Glyph],
 ) -> Result<Vec<Dropout>, AllocError>
-    requires frame { FrameFits frame }
-    requires height { frame.height ≤ height_limit }
-    requires rise { unsigned_abs frame.rise ≤ 10 ^ 6 }
+    requires frame { IsPictureFrame frame }
     requires glyphs { All CanBeFilled glyphs.now }
     ensures exact { IfOk result (λ v. (c r : ℕ) → c < frame.width → r < frame.height
         → is_among v.items c r ≡ is_filled_by frame (stamps_in glyphs.now) c r) }

@@ -76,8 +76,9 @@ impl Model for Glyph {
 }
 
 impl Glyph {
-    /// A glyph without a pen, with room for `room` pens, from the cache if it is there. The fitter then serves later
-    /// glyphs. Errors: those of its outline, Memory.
+    /// A glyph without a pen, with room for `room` pens, from the cache if it is there. Else it is made from its
+    /// outline, and cached if it is small enough. The fitter then serves later glyphs. Errors: those of its outline,
+    /// Memory.
     pub(crate) fn of(
         alloc: Global,
         fitter: &mut Fitter,
@@ -98,37 +99,10 @@ impl Glyph {
         ensures limit { limit_of cache.new ≡ limit_of cache.old }
         ensures fault { IfTold font_fault result (λ f. fitted_outline fitter.old number ≡ Err f) }
     {
-        match cache.find(number) {
-            Some(glyph) => {
-                tt_fit::laws::work_unfits();
-                Ok(Glyph::cached(alloc, number, glyph, frame, room)?)
-            }
-            None => Glyph::new(alloc, fitter, number, frame, room, cache),
+        if let Some(glyph) = cache.find(number) {
+            tt_fit::laws::work_unfits();
+            return Ok(Glyph::cached(alloc, number, glyph, frame, room)?);
         }
-    }
-
-    /// Makes a glyph without a pen from its outline, with room for `room` pens. The fitter then serves later glyphs. A
-    /// small enough glyph is cached, if there is a cache. Errors: those of its outline, Memory.
-    fn new(
-        alloc: Global,
-        fitter: &mut Fitter,
-        number: u16,
-        frame: Frame,
-        room: usize,
-        cache: &mut Cache,
-    ) -> Result<Glyph, FontFault>
-        requires known { number < fitter.old.tables.glyphs }
-        requires frame { FrameFits frame }
-        requires cache { IsCacheFor fitter.old cache.old }
-        ensures number { IfOk result (λ g. g.number ≡ number) }
-        ensures pens { IfOk result (λ g. g.pens ≡ []) }
-        ensures left { IfOk result (λ g. g.left ≤ margin_limit) }
-        ensures valid { IfOk result (IsDrawn (is_there cache.old) fitter.old frame) }
-        ensures after { OnOk result (fitter.new ≡ after_glyph fitter.old number) }
-        ensures cache { IsCacheFor fitter.old cache.new }
-        ensures limit { limit_of cache.new ≡ limit_of cache.old }
-        ensures fault { IfTold font_fault result (λ f. fitted_outline fitter.old number ≡ Err f) }
-    {
         // The outline is dropped at the end, once its edges are made.
         let outline = fitter.fit(number)?;
         let filled = rules_for(fitter.dropouts(&outline));
@@ -239,39 +213,8 @@ pub(crate) fn tape_of(alloc: Global, list: EdgeList, frame: Frame) -> Result<Gly
     Ok(GlyphBody::Tape(Tape::of(alloc, frame, list)?))
 }
 
-/// The raster of a glyph, which is cached for later lines. A tape of its edges, where it has too many lines or too many
-/// black columns.
-fn raster_of(
-    alloc: Global,
-    list: EdgeList,
-    frame: Frame,
-    number: u16,
-    unfitted: Option<Fault>,
-    cache: &mut Cache,
-) -> Result<GlyphBody, AllocError>
-    requires frame { FrameFits frame }
-    requires few { length list.edges ≤ 2 ^ 17 }
-    ensures body { IfOk result (λ b. IsBodyOf list.edges (body_view b) × BodyFits frame 0 (body_view b)) }
-    ensures cached { (s : Fitter) → ((k : Raster) → IsRasterOf list.edges k → IsCached s number (record { raster = k; unfitted = unfitted })) → IsCacheFor s cache.old → IsCacheFor s cache.new }
-    ensures limit { limit_of cache.new ≡ limit_of cache.old }
-{
-    match Raster::cut(alloc, list, 2 * frame.height, cache.raster_limit())? {
-        CutGlyph::Raster(raster) => {
-            let raster = Rc::new(alloc, raster)?;
-            cache.put(
-                number,
-                KeptGlyph {
-                    raster: raster.clone()?,
-                    unfitted,
-                },
-            );
-            Ok(GlyphBody::Raster(raster))
-        }
-        CutGlyph::Edges(list) => tape_of(alloc, list, frame),
-    }
-}
-
-/// The body of a glyph with these edges: a raster, if the glyph is cached, or a tape. Error: Memory.
+/// The body of a glyph with these edges. If the glyph may be cached: a raster, which is cached for later lines. Else, and
+/// where it has too many lines or too many black columns: a tape. Error: Memory.
 fn body_of(
     alloc: Global,
     list: EdgeList,
@@ -288,10 +231,22 @@ fn body_of(
     ensures cached { (s : Fitter) → (caches ≡ true → (k : Raster) → IsRasterOf list.edges k → IsCached s number (record { raster = k; unfitted = unfitted })) → IsCacheFor s cache.old → IsCacheFor s cache.new }
     ensures limit { limit_of cache.new ≡ limit_of cache.old }
 {
-    if caches {
-        raster_of(alloc, list, frame, number, unfitted, cache)
-    } else {
-        tape_of(alloc, list, frame)
+    if !caches {
+        return tape_of(alloc, list, frame);
+    }
+    match Raster::cut(alloc, list, 2 * frame.height, cache.raster_limit())? {
+        CutGlyph::Raster(raster) => {
+            let raster = Rc::new(alloc, raster)?;
+            cache.put(
+                number,
+                KeptGlyph {
+                    raster: raster.clone()?,
+                    unfitted,
+                },
+            );
+            Ok(GlyphBody::Raster(raster))
+        }
+        CutGlyph::Edges(list) => tape_of(alloc, list, frame),
     }
 }
 

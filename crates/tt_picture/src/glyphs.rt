@@ -7,7 +7,7 @@ ghost use Rattle.tt_fit.specs.Fitting.{Fitter, fitted_outline};
 ghost use Rattle.tt_scan_edges.specs.declared.edge.Frame.{Frame};
 ghost use Rattle.tt_scan_edges.specs.Winding.{FrameFits};
 ghost use Rattle.tt_picture.specs.Distinct.{distinct, each_fitter, fitter_after, fitter_past, is_among};
-ghost use Rattle.tt_picture.specs.Glyphs.{AreDrawn, AreOfLine, AreSeated, AreWithin, Adds, ArePlaces, HasGlyph, HasPen, Stand, edges_of, numbers_of};
+ghost use Rattle.tt_picture.specs.Glyphs.{AreDrawn, AreOfLine, AreSeated, AreWithin, Adds, ArePlaces, HasGlyph, HasPen, edges_of, numbers_of};
 ghost use Rattle.tt_picture.specs.Cached.{IsCacheFor, is_there, limit_of};
 ghost use Rattle.tt_picture.specs.Shapes.{glyph_shape};
 
@@ -174,12 +174,9 @@ impl Glyphs {
         requires few { All (λ g. length (edges_of g.body) ≤ 2 ^ 17) self.made.items }
         requires places { ArePlaces self.places.items (numbers_of self.made.items) }
         requires known { All (λ g. g.0 < length self.places.items) line.now }
-        requires among { All (λ g. is_among g.0 (numbers_of self.made.items) ≡ true) line.now }
+        requires numbers { numbers_of self.made.items ≡ distinct (map (λ g. g.0) line.now) }
         requires pens { All (λ g. g.1 ≤ width_limit) line.now }
-        ensures numbers { IfOk result (λ v. numbers_of v.items ≡ numbers_of self.made.items) }
-        ensures pens { IfOk result (λ v. AreWithin v.items) }
-        ensures drawn { IfOk result (λ v. (maker : ℕ → Fitter) (f : Frame) → AreDrawn false maker f self.made.items → AreDrawn false maker frame v.items) }
-        ensures stand { IfOk result (λ v. (maker : ℕ → Fitter) (f : Frame) → AreDrawn false maker f self.made.items → IsOkAnd (each (glyph_shape maker) line.now) (Stand false frame v.items)) }
+        ensures { IfOk result (λ v. (maker : ℕ → Fitter) (f : Frame) → AreDrawn false maker f self.made.items → AreOfLine false maker frame line.now v.items) }
     {
         let Glyphs {
             places,

@@ -11,15 +11,13 @@
 //! ink_box.rt    such a box in a picture
 //! dropouts.rt   the dropouts of a line
 //! painting.rt   one row of a glyph
-//! rows.rt       one row of a picture
+//! rows.rt       the glyphs of one row
 //! picture.rt    the picture
-//! drawing.rt    the picture of made glyphs
 //! ```
 #![tactic(auto)]
 
 mod cache;
 mod counting;
-mod drawing;
 mod dropouts;
 mod glyph;
 mod glyphs;
@@ -33,7 +31,6 @@ mod rows;
 
 pub use cache::Cache;
 pub use counting::crossings;
-pub use drawing::draw_made;
 pub use glyph::Glyph;
 pub use glyphs::{Glyphs, line_glyphs};
 pub use ink_box::{InkBox, ink_at, joined};

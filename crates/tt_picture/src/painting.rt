@@ -1,12 +1,11 @@
 //! Paints a glyph: blackens its pixels of one row, at each of its pens.
 
-ghost use Rattle.std.specs.Prelude.{◌≡◌, ℕ, ℤ, ◌+◌, ◌*◌, ◌<◌, ◌≤◌, ◌&&◌, ◌||◌, false, nat_lt, pos, length};
+ghost use Rattle.std.specs.Prelude.{◌≡◌, ℕ, ℤ, ◌+◌, ◌<◌, ◌≤◌, ◌&&◌, ◌||◌, false, nat_lt, pos, length};
 ghost use Rattle.tt_core.specs.Bits.{bit};
-ghost use Rattle.tt_core.specs.Limits.{height_limit};
 ghost use Rattle.tt_scan_edges.specs.Winding.{is_black, column_x, row_y, rows_met};
 ghost use Rattle.tt_scan_dropouts.specs.Pictures.{line_at};
 ghost use Rattle.tt_picture.specs.Glyphs.{GlyphFits, body_crosses, drawn_of, stamp_of};
-ghost use Rattle.tt_picture.specs.Pixels.{TapeFits, edges, is_black_from};
+ghost use Rattle.tt_picture.specs.Pixels.{IsRowOf, TapeFits, edges, is_black_from};
 
 use crate::glyph::{Glyph, GlyphBody};
 use tt_scan::{Frame, Sweep, Tape};
@@ -33,9 +32,7 @@ fn meets(tape: &Tape, r: u32) -> bool
 fn add_tape(tape: &mut Tape, sweep: &mut Sweep, pens: &[u32], frame: Frame, r: u32, row: &mut [u8])
     requires tape { TapeFits frame r tape.old }
     requires room { length tape.old.edges ≤ sweep.old.room }
-    requires height { frame.height ≤ height_limit }
-    requires within { r < frame.height }
-    requires width { frame.width ≤ 8 * length row.old }
+    requires row { IsRowOf frame r row.old }
     ensures bits { (k : ℕ) → bit row.new k ≡ (bit row.old k || (nat_lt k frame.width && is_black_from frame (edges tape.old.edges) pens.now k r)) }
     ensures len { length row.new ≡ length row.old }
     ensures tape { TapeFits frame (r + 1) tape.new }
@@ -63,9 +60,7 @@ impl Glyph {
     /// Blackens the pixels of a row that the glyph covers at its pens; all others are unchanged.
     pub(crate) fn add_to_row(&mut self, sweep: &mut Sweep, frame: Frame, r: u32, row: &mut [u8])
         requires glyph { GlyphFits frame r sweep.old.room self.old }
-        requires height { frame.height ≤ height_limit }
-        requires within { r < frame.height }
-        requires width { frame.width ≤ 8 * length row.old }
+        requires row { IsRowOf frame r row.old }
         ensures bits { (k : ℕ) → bit row.new k ≡ (bit row.old k || (nat_lt k frame.width && is_black_from frame (drawn_of self.old.body) self.old.pens k r)) }
         ensures len { length row.new ≡ length row.old }
         ensures glyph { GlyphFits frame (r + 1) sweep.new.room self.new }

@@ -1,21 +1,21 @@
 //! The picture of a line, whose rows are made in order.
 
-ghost use Rattle.std.specs.Prelude.{◌≡◌, ◌+ℤ◌, ◌+◌, ◌-◌, ◌^◌, ◌<◌, ◌≤◌, min, pos, length, All, IfOk};
+ghost use Rattle.std.specs.Prelude.{◌≡◌, ◌+ℤ◌, ◌+◌, ◌-◌, ◌^◌, ◌<◌, ◌≤◌, Bool, List, min, pos, length, All, IfOk};
 ghost use Rattle.tt_core.specs.Bits.{stride};
 ghost use Rattle.tt_core.specs.Limits.{width_limit, height_limit};
-ghost use Rattle.tt_scan_edges.specs.Winding.{FrameFits};
-ghost use Rattle.tt_scan_dropouts.specs.Pictures.{AreDropouts};
-ghost use Rattle.tt_picture.specs.Glyphs.{BodyFits, all_rows, edges_cut};
-ghost use Rattle.tt_picture.specs.Pictures.{IsReady, all_crossings, crossings_made, row_at};
+ghost use Rattle.tt_picture.specs.Glyphs.{BodyFits, CanBeFilled, Stand, edges_cut};
+ghost use Rattle.tt_picture.specs.Pictures.{IsPictureFrame, IsReady, all_crossings, crossings_made, image_of, picture, row_at};
+ghost use Rattle.tt_picture.specs.Pixels.{Shape};
 ghost use Rattle.tt_picture.specs.Unfitted.{unfitted_standing};
 
+use crate::dropouts::line_dropouts;
 use crate::glyph::Glyph;
 use crate::report::{Report, Unfitted, report_on};
-use crate::rows::{crosses, make_row, most_edges};
+use crate::rows::{add_glyphs, crosses, most_edges, whiten};
 use std::alloc::{AllocError, Global};
 use std::marker::Model;
 use tt_scan::{Frame, Sweep};
-use tt_scan_dropouts::Dropout;
+use tt_scan_dropouts::{Dropout, blacken_dropouts};
 
 /// The picture of a line: its size, its base line, its rows, which are made in order, and its report. It already has
 /// all the memory that its rows need.
@@ -49,21 +49,24 @@ impl Model for Picture {
 }
 
 impl Picture {
-    /// The picture of some glyphs and dropouts, with no row made yet, of a text with this cost. Error: out of memory.
-    pub(crate) fn new(
+    /// The picture of some glyphs and their dropouts, with no row made yet, of a text with this cost. Error: Memory.
+    pub fn new(
         alloc: Global,
         frame: Frame,
         glyphs: Vec<Glyph>,
-        dropouts: Vec<Dropout>,
         cost: u64,
     ) -> Result<Picture, AllocError>
-        requires frame { FrameFits frame }
-        requires height { frame.height ≤ height_limit }
-        requires glyphs { All (λ g. BodyFits frame 0 g.body) glyphs.items }
-        requires dropouts { AreDropouts frame.width dropouts.items }
-        ensures exact { IfOk result (λ p. p ≡ record { frame = frame; rows = all_rows frame glyphs.items dropouts.items; made = 0; unfitted = unfitted_standing glyphs.items; edges = edges_cut glyphs.items; cost = cost }) }
+        requires frame { IsPictureFrame frame }
+        requires glyphs { All CanBeFilled glyphs.items }
+        requires bodies { All (λ g. BodyFits frame 0 g.body) glyphs.items }
+        ensures exact { IfOk result (λ p. (keeps : Bool) (shapes : List Shape) → Stand keeps frame glyphs.items shapes → image_of p ≡ picture frame shapes) }
         ensures valid { IfOk result IsReady }
+        ensures frame { IfOk result (λ p. p.frame ≡ frame) }
+        ensures unfitted { IfOk result (λ p. p.unfitted ≡ unfitted_standing glyphs.items) }
+        ensures edges { IfOk result (λ p. p.edges ≡ edges_cut glyphs.items) }
+        ensures cost { IfOk result (λ p. p.cost ≡ cost) }
     {
+        let dropouts = line_dropouts(alloc, frame, &glyphs)?;
         let most = most_edges(&glyphs);
         let report = report_on(alloc, &glyphs, cost)?;
         Ok(Picture {
@@ -146,14 +149,11 @@ impl Picture {
         ensures row { row.new ≡ row_at self.old self.old.made }
         ensures same { self.new ≡ record self.old { made = self.old.made + 1 } }
     {
-        make_row(
-            &mut self.glyphs,
-            &mut self.sweep,
-            self.frame,
-            &self.dropouts,
-            self.made,
-            row,
-        );
+        let frame = self.frame;
+        let r = self.made;
+        whiten(row);
+        add_glyphs(&mut self.glyphs, &mut self.sweep, frame, r, row);
+        blacken_dropouts(&self.dropouts, frame.width, r, row);
         self.made += 1;
     }
 }

@@ -1,15 +1,12 @@
-//! Makes the rows of a picture, one at a time.
+//! What some glyphs give to a row of their picture.
 
-ghost use Rattle.std.specs.Prelude.{◌≡◌, ℕ, ◌+◌, ◌-◌, ◌*◌, ◌^◌, ◌<◌, ◌≤◌, ◌||◌, ◌&&◌, min, nat_lt, length, replicate, All};
-ghost use Rattle.tt_core.specs.Bits.{bit, stride};
-ghost use Rattle.tt_core.specs.Limits.{height_limit};
-ghost use Rattle.tt_scan_dropouts.specs.Pictures.{AreDropouts};
-ghost use Rattle.tt_picture.specs.Glyphs.{GlyphFits, crosses_in, edges_of, row_of, stamps_in};
-ghost use Rattle.tt_picture.specs.Pixels.{is_black_by};
+ghost use Rattle.std.specs.Prelude.{◌≡◌, ℕ, ◌+◌, ◌-◌, ◌^◌, ◌≤◌, ◌||◌, ◌&&◌, min, nat_lt, length, replicate, All};
+ghost use Rattle.tt_core.specs.Bits.{bit};
+ghost use Rattle.tt_picture.specs.Glyphs.{GlyphFits, crosses_in, edges_of, stamps_in};
+ghost use Rattle.tt_picture.specs.Pixels.{IsRowOf, is_black_by};
 
 use crate::glyph::Glyph;
 use tt_scan::{Frame, Sweep};
-use tt_scan_dropouts::{Dropout, blacken_dropouts};
 
 /// The greatest number of edges of any of the glyphs.
 pub(crate) fn most_edges(glyphs: &[Glyph]) -> usize
@@ -33,43 +30,23 @@ pub(crate) fn crosses(glyphs: &[Glyph]) -> u64
     all
 }
 
-/// Makes row `r` of a picture, and overwrites `row`. It takes no memory.
-pub(crate) fn make_row(
-    glyphs: &mut [Glyph],
-    sweep: &mut Sweep,
-    frame: Frame,
-    dropouts: &[Dropout],
-    r: u32,
-    row: &mut [u8],
-)
-    requires dropouts { AreDropouts frame.width dropouts.now }
-    requires glyphs { All (GlyphFits frame r sweep.old.room) glyphs.old }
-    requires height { frame.height ≤ height_limit }
-    requires within { r < frame.height }
-    requires len { length row.old ≡ stride frame.width }
-    ensures row { row.new ≡ row_of frame glyphs.old dropouts.now r }
-    ensures glyphs { All (GlyphFits frame (r + 1) sweep.new.room) glyphs.new }
-    ensures stamps { stamps_in glyphs.new ≡ stamps_in glyphs.old }
-    ensures room { sweep.new.room ≡ sweep.old.room }
-{
-    whiten(row);
-    add_glyphs(glyphs, sweep, frame, r, row);
-    blacken_dropouts(dropouts, frame.width, r, row);
-}
-
 /// Makes each pixel of a row white.
-fn whiten(row: &mut [u8])
+pub(crate) fn whiten(row: &mut [u8])
     ensures { row.new ≡ replicate (length row.old) 0 }
 {
     row.fill(0);
 }
 
 /// Blackens the pixels of a row that some glyph covers; all others are unchanged.
-fn add_glyphs(glyphs: &mut [Glyph], sweep: &mut Sweep, frame: Frame, r: u32, row: &mut [u8])
+pub(crate) fn add_glyphs(
+    glyphs: &mut [Glyph],
+    sweep: &mut Sweep,
+    frame: Frame,
+    r: u32,
+    row: &mut [u8],
+)
     requires glyphs { All (GlyphFits frame r sweep.old.room) glyphs.old }
-    requires height { frame.height ≤ height_limit }
-    requires within { r < frame.height }
-    requires width { frame.width ≤ 8 * length row.old }
+    requires row { IsRowOf frame r row.old }
     ensures bits { (k : ℕ) → bit row.new k ≡ (bit row.old k || (nat_lt k frame.width && is_black_by frame (stamps_in glyphs.old) k r)) }
     ensures len { length row.new ≡ length row.old }
     ensures glyphs { All (GlyphFits frame (r + 1) sweep.new.room) glyphs.new }

@@ -13,11 +13,12 @@ use Rattle.tt_scan_ink.specs.declared.ink.GlyphInk.{GlyphInk}
 use Rattle.tt_strike.specs.Work.{line_fitter, work_left}
 use Rattle.tt_strike.specs.Costs.{cost_of, line_cost}
 use Rattle.tt_picture.specs.Glyphs.{AreDrawn, Glyph, numbers_of}
+use Rattle.tt_strike.specs.Enlarged.{IsEnlarged}
 use Rattle.tt_strike.specs.Grown.{grown, grown_line, lacking, not_large, with_sides}
 use Rattle.tt_picture.specs.Ink.{glyph_ink}
 use Rattle.tt_strike.specs.Job.{Job}
 use Rattle.tt_strike.specs.Made.{AreMade, shapes_made}
-use Rattle.tt_strike.specs.Measures.{Measure, character_at, ink_of, line_ink, measure_by, measured_line}
+use Rattle.tt_strike.specs.Measures.{Measure, line_ink, measure_by, measured_line}
 use Rattle.tt_picture.specs.Pictures.{picture}
 use Rattle.tt_picture.specs.Shapes.{glyph_shape, shape_at, crossings_in}
 use Rattle.tt_strike.specs.Picture.{crossings_tested, drawn, frame_of, points_tested, setting_in, shapes_in}
@@ -28,12 +29,11 @@ use Rattle.tt_strike.specs.Report.{line_report}
 use Rattle.tt_face.specs.Faces.{Face}
 use Rattle.tt_core.specs.declared.draw_fault.DrawFault.{DrawFault}
 use Rattle.tt_picture.specs.declared.ink_box.InkBox.{InkBox}
-use Rattle.tt_strike.specs.declared.measuring.CharacterMeasure.{CharacterMeasure}
 use Rattle.tt_picture.specs.declared.report.Unfitted.{Unfitted}
 use Rattle.tt_strike.proofs.Costed.{costed, costed_as_made}
 use Rattle.tt_strike.proofs.Larger.{first_of}
 use Rattle.tt_picture.proofs.Listing.{standing_listed}
-use Rattle.tt_strike.proofs.Made.{measured_as_made, reported_as_made}
+use Rattle.tt_strike.proofs.Made.{reported_as_made}
 use Rattle.tt_picture.proofs.Standings.{counts_from_pen, filling_from_pen}
 use Rattle.tt_strike.proofs.Stopped.{measuring_stops, stops}
 
@@ -44,6 +44,11 @@ rightwards left gs = map (λ g. (g.0, g.1 + left)) gs
 pub same_numbers : (left : ℕ) (gs : List (ℕ × ℕ)) → map (λ g. g.0) (rightwards left gs) ≡ map (λ g. g.0) gs
 same_numbers left [] = refl
 same_numbers left (g ∷ gs) = ap (λ (ns : List ℕ). g.0 ∷ ns) (same_numbers left gs)
+
+-- the numbers of an enlarged line's glyphs are those of the line
+pub numbers_kept : {face : Face} {a : Job} {l larger : Placement} {gs : List Glyph} → IsEnlarged face a l larger gs
+    → map (λ g. g.0) larger.glyphs ≡ map (λ g. g.0) l.glyphs
+numbers_kept {l = l} e = rw e.moved (same_numbers e.left l.glyphs)
 
 unmoved : (gs : List (ℕ × ℕ)) → rightwards 0 gs ≡ gs
 unmoved [] = refl
@@ -75,27 +80,13 @@ by_measure : (face : Face) (a : Job) (l : Placement) (m : Measure) → measured_
 unfolding grown_line
 by_measure face a l m measured = rw measured refl
 
--- the measures of the line's characters
-abbrev pub AreMeasured : Face → Job → Placement → Fitter → List CharacterMeasure → Type 0
-AreMeasured face a l s characters =
-    characters ≡ map (character_at face.metrics a.ppem (frame_of l a.margin) (line_ink s l)) l.glyphs
+pub grown_as_measured : (face : Face) (a : Job) (l larger : Placement) (m : Measure) → measured_line face a l ≡ Ok m
+    → grown l m.ink ≡ Ok larger → grown_line face a l ≡ Ok larger
+grown_as_measured face a l larger m measured is = by_measure face a l m measured ∙ rw is refl
 
-by_characters : (face : Face) (a : Job) (l : Placement) (gs : List Glyph) (characters : List CharacterMeasure)
-    → (made : AreMade false face a l gs) → AreMeasured face a l made.setting characters
-    → grown_line face a l ≡ as_job (grown l (ink_of characters))
-by_characters face a l gs characters made are =
-    rw are (by_measure face a l (measure_by face.metrics a.ppem a.margin (line_ink made.setting l) l)
-    (measured_as_made face a l gs made))
-
-pub grown_as_made : (face : Face) (a : Job) (l larger : Placement) (gs : List Glyph) (characters : List CharacterMeasure)
-    → (made : AreMade false face a l gs) → AreMeasured face a l made.setting characters
-    → grown l (ink_of characters) ≡ Ok larger → grown_line face a l ≡ Ok larger
-grown_as_made face a l larger gs characters made are is = by_characters face a l gs characters made are ∙ rw is refl
-
-pub not_grown : (face : Face) (a : Job) (l : Placement) (j : JobFault) (gs : List Glyph) (characters : List CharacterMeasure)
-    → (made : AreMade false face a l gs) → AreMeasured face a l made.setting characters
-    → grown l (ink_of characters) ≡ Err j → grown_line face a l ≡ Err (job j)
-not_grown face a l j gs characters made are is = by_characters face a l gs characters made are ∙ rw is refl
+pub not_grown : (face : Face) (a : Job) (l : Placement) (m : Measure) (j : JobFault) → measured_line face a l ≡ Ok m
+    → grown l m.ink ≡ Err j → grown_line face a l ≡ Err (job j)
+not_grown face a l m j measured is = by_measure face a l m measured ∙ rw is refl
 
 -- a stop in the line's glyphs stops the enlarged line
 pub unmade_stops : (face : Face) (a : Job) (l : Placement) (e : DrawFault)

@@ -1,5 +1,5 @@
 -- A step of a drawing that stops also stops the picture.
-use Rattle.std.proofs.Common.{◌≡◌, ◌∙◌, ◌<◌, nat_lt, Bool, true, false, ◌&&◌, if◌then◌else◌, List, map, Result, Ok, Err, inl, inr, refl, arith}
+use Rattle.std.proofs.Common.{◌≡◌, ◌∙◌, ℕ, ◌<◌, ◌≤◌, nat_lt, Bool, true, false, ◌&&◌, if◌then◌else◌, List, map, Result, Ok, Err, inl, inr, refl, arith}
 use Rattle.std.proofs.lemmas.Bool.Decides.{nat_tests}
 use Rattle.std.specs.Prelude.{IfOk, IfSome}
 use Rattle.tt_core.specs.declared.font_fault.FontFault.{FontFault}
@@ -7,13 +7,13 @@ use Rattle.tt_core.specs.declared.font_fault.FontFault.TheVariants as font
 use Rattle.tt_core.specs.declared.fault.JobFault.{JobFault}
 use Rattle.tt_core.specs.declared.fault.JobFault.TheVariants as job_of
 use Rattle.tt_core.specs.Faults.{Fault}
-use Rattle.tt_core.specs.Limits.{point_work_limit}
+use Rattle.tt_core.specs.Limits.{point_work_limit, size_limit}
 use Rattle.tt_core.specs.Outcomes.{◌>>=◌, FontGives, GivesUnless, IfTold, JobGives, draw_fault_of_font, draw_font_fault, draw_job_fault, font_fault}
 use Rattle.tt_fit.specs.Fitting.{Fitter}
 use Rattle.tt_line.specs.declared.line.Line.{Line}
 use Rattle.tt_line.specs.Layout.{Placement, placement}
 use Rattle.tt_line.specs.Outcome.{placement_of}
-use Rattle.tt_strike.specs.Job.{Job, tested}
+use Rattle.tt_strike.specs.Job.{Job, margin_tested, tested, text_tested}
 use Rattle.tt_strike.specs.Defects.{IsTooMuchWork, IsExtentRefusal, IsLineRefusal}
 use Rattle.tt_face.specs.Faces.{Face}
 use Rattle.tt_strike.specs.Refusals.{Refused, as_font, as_job, job, refusal}
@@ -21,12 +21,22 @@ use Rattle.tt_strike.specs.Refusals as outcome
 use Rattle.tt_strike.specs.Picture.{crossings_tested, drawn, laid_out, line_outcome, line_shapes, pictured_by, shapes_in, points_tested, setting_in}
 use Rattle.tt_core.specs.declared.draw_fault.DrawFault.{DrawFault}
 use Rattle.tt_core.specs.declared.draw_fault.DrawFault.TheVariants as draw
+use Rattle.tt_strike.specs.Strikes.{SizedFace, job_by}
 use Rattle.tt_strike.specs.Grown.{grown_outcome, grown_placement}
 use Rattle.tt_strike.specs.Made.{shapes_made}
 use Rattle.tt_strike.specs.Measures.{measured, measured_line}
 use Rattle.tt_picture.specs.Pixels.{Shape}
 use Rattle.tt_picture.specs.Shapes.{crossings_in}
 use Rattle.tt_strike.specs.Work.{crossings_allowed, is_bounded, points_in, work_left, work_tested}
+
+-- a font at a size has passed the test of its size
+pub tested_at : (z : SizedFace) (text : List ℕ) (margin : ℕ) → 1 ≤ z.ppem → z.ppem ≤ size_limit
+    → tested (job_by z text margin) ≡ (margin_tested margin >>= λ u. text_tested text)
+unfolding tested size_tested
+tested_at z text margin low high =
+    let some : nat_lt z.ppem 1 ≡ false = grind (arith, nat_tests) in
+    let few : nat_lt size_limit z.ppem ≡ false = grind (arith, nat_tests) in
+    rw (some, few) refl
 
 -- a line of a tested job is laid out, or refused, as its text is placed
 pub laid_as_placed : (a : Job) (face : Face) (r : Result Line DrawFault) → tested a ≡ Ok tt
@@ -36,11 +46,6 @@ laid_as_placed a face (Ok l) passes gives = rw (passes, gives) refl
 laid_as_placed a face (Err (draw.Font f)) passes gives = absurd gives
 laid_as_placed a face (Err (draw.Job j)) passes gives = rw (passes, gives) refl
 laid_as_placed a face (Err draw.Memory) passes gives = tt
-
-pub placed_as_given : (r : Result Line DrawFault) (wanted : Result Placement JobFault)
-    → JobGives placement_of r wanted → IfOk r (λ l. wanted ≡ Ok (placement_of l))
-placed_as_given (Ok l) wanted gives = gives
-placed_as_given (Err e) wanted gives = tt
 
 -- a font refuses a line that is too much work
 pub work_refuses : {V : Type 0} (r : Result V DrawFault) (a : Job) (face : Face) (l : Placement)

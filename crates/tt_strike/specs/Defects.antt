@@ -2,8 +2,8 @@
 use Rattle.std.specs.Prelude.{◌≡◌, ◌<◌, List, ℕ, length, map, slice_index, Option, Result, Ok, Err, IsOkAnd, IfSome, Bool, true, false, ◌⊎◌}
 use Rattle.tt_core.specs.Faults.{Fault}
 use Rattle.tt_core.specs.Directory.{HasNo}
-use Rattle.tt_face.specs.Defects.{IsFaceDefect, IsGlyphTableDefect, HasProgramPastEnd}
-use Rattle.tt_face.specs.Faces.{Face, face_of}
+use Rattle.tt_face.specs.Defects.{IsGlyphTableDefect, HasProgramPastEnd}
+use Rattle.tt_face.specs.Faces.{Face}
 use Rattle.tt_fit.specs.declared.programs.Fit.{Fit}
 use Rattle.tt_fit.specs.declared.programs.Fit.TheVariants as fit
 use Rattle.tt_fit.specs.Defects.{IsOutlineDefect}
@@ -13,7 +13,7 @@ use Rattle.tt_line.specs.Layout.{Placement, placement, text_glyphs, extent_of, I
 use Rattle.tt_core.specs.declared.fault.JobFault.{JobFault}
 use Rattle.tt_core.specs.declared.fault.JobFault.TheVariants as fault
 use Rattle.tt_core.specs.Limits.{point_work_limit}
-use Rattle.tt_strike.specs.Job.{Job, IsTestRefusal}
+use Rattle.tt_strike.specs.Job.{Job, IsFontDefect, IsTestRefusal}
 use Rattle.tt_strike.specs.Programs.{programs_in}
 use Rattle.tt_strike.specs.Refusals.{needs_font}
 use Rattle.tt_strike.specs.Picture.{setting_in, shapes_in}
@@ -50,8 +50,7 @@ IsLineDefect face a glyphs fault = IsSettingDefect face a fault ⊎ IsOkAnd (set
 
 -- a defect of the tables needed for every text, or of this text's glyphs
 abbrev pub IsRunDefect : Job → List ℕ → Fault → Type 0
-IsRunDefect a file fault = IsFaceDefect file fault ⊎ IsOkAnd (face_of file)
-    (λ face. IsLineDefect face a (text_glyphs face.cmap a.text) fault)
+IsRunDefect a file fault = IsFontDefect (λ face a. IsLineDefect face a (text_glyphs face.cmap a.text)) a file fault
 
 -- Ok means that there is no defect, and an error's fault is one
 abbrev pub TellsDefects : {V E : Type 0} → (E → Option Fault) → (Fault → Type 0) → Result V E → Type 0

@@ -1,10 +1,8 @@
 -- No part of the standard: a line enlarged so that no ink is cut, by the glyphs of the line, which are made once.
-use Rattle.std.specs.Prelude.{◌≡◌, ℕ, ◌+◌, false, List, map, All, IfSome, Option, Result, Ok}
+use Rattle.std.specs.Prelude.{◌≡◌, ℕ, ◌+◌, false, List, map, Result, Ok}
 use Rattle.tt_core.specs.Outcomes.{◌>>=◌}
 use Rattle.tt_line.specs.Layout.{Placement}
-use Rattle.tt_scan_ink.specs.declared.ink.GlyphInk.{GlyphInk}
-use Rattle.tt_scan_ink.specs.Least.{IsNear}
-use Rattle.tt_picture.specs.Glyphs.{Glyph, ink_standing}
+use Rattle.tt_picture.specs.Glyphs.{Glyph}
 use Rattle.tt_picture.specs.Pictures.{Image}
 use Rattle.tt_strike.specs.Grown.{grown_line}
 use Rattle.tt_strike.specs.Job.{Job}
@@ -21,12 +19,9 @@ drawn_grown face a line = grown_line face a line >>= λ larger. drawn face a lar
 abbrev pub measured_grown : Face → Job → Placement → Result Measure Refused
 measured_grown face a line = grown_line face a line >>= λ larger. measured_line face a larger
 
--- these glyphs of the line have these inks, and the line with added columns and rows has each glyph further to the right
-pub record IsEnlarged (face : Face) (a : Job) (line larger : Placement) (gs : List Glyph)
-    (inks : List (Option GlyphInk)) : Type 0 where
+-- these are the glyphs of the line, and the line with added columns and rows has each glyph further to the right
+pub record IsEnlarged (face : Face) (a : Job) (line larger : Placement) (gs : List Glyph) : Type 0 where
   pub made : AreMade false face a line gs
-  pub inked : inks ≡ map ink_standing gs
-  pub near : All (λ ink. IfSome ink IsNear) inks
   pub left : ℕ
   pub moved : larger.glyphs ≡ map (λ g. (g.0, g.1 + left)) line.glyphs
   pub exact : grown_line face a line ≡ Ok larger

@@ -1,11 +1,15 @@
--- No part of the standard: the job of a call, and the tests of a job before the font is read (profile).
-use Rattle.std.specs.Prelude.{◌≡◌, refl, ℕ, ◌<◌, ◌≤◌, ◌||◌, nat_lt, if◌then◌else◌, List, length, chars, codes, Result, Ok, Err, ◌⊎◌}
+-- No part of the standard: the job of a call, its tests before the font is read, and its face (profile).
+use Rattle.std.specs.Prelude.{◌≡◌, refl, ℕ, ◌<◌, ◌≤◌, ◌||◌, nat_lt, if◌then◌else◌, List, length, chars, codes, Result, Ok, Err, IsOkAnd, ◌⊎◌}
 use Rattle.tt_core.specs.declared.fault.JobFault.{JobFault}
 use Rattle.tt_core.specs.declared.fault.JobFault.TheVariants as fault
+use Rattle.tt_core.specs.Faults.{Fault}
 use Rattle.tt_core.specs.Limits.{text_limit, size_limit, margin_limit}
 use Rattle.tt_core.specs.Outcomes.{◌>>=◌}
+use Rattle.tt_face.specs.Defects.{IsFaceDefect}
+use Rattle.tt_face.specs.Faces.{Face, face_of}
 use Rattle.tt_fit.specs.declared.programs.Fit.{Fit}
 use Rattle.tt_fit.specs.declared.programs.Fit.TheVariants as fit
+use Rattle.tt_strike.specs.Refusals.{Refused, as_font}
 use Rattle.tt_strike.specs.declared.job.Job as declared
 
 -- a text, the pixels per em, the pixels round the line, and how outlines are fitted
@@ -15,8 +19,12 @@ pub record Job : Type 0 where
   pub margin : ℕ
   pub fit : Fit
 
+-- the job of a text with a margin, at a size and with a fit
+abbrev pub job_for : ℕ → Fit → List ℕ → ℕ → Job
+job_for ppem how text margin = record { text = text; ppem = ppem; margin = margin; fit = how }
+
 abbrev pub job_view : declared.Job → Job
-job_view j = record { text = j.text.now; ppem = j.ppem; margin = j.margin; fit = j.fit }
+job_view j = job_for j.ppem j.fit j.text.now j.margin
 
 -- the limit of a text, in characters
 unfoldable pub text_tested : List ℕ → Result (Unit {0}) JobFault
@@ -51,9 +59,21 @@ IsTestRefusal a fault.MarginRange = margin_limit < a.margin
 IsTestRefusal a fault.TextLong = text_limit < length (chars a.text)
 IsTestRefusal a j = ⊥
 
+-- what a job makes of the face of a font file, or the file's first fault
+abbrev pub by_face : {X : Type 0} → (Face → Job → Result X Refused) → Job → List ℕ → Result X Refused
+by_face make a file = as_font (face_of file) >>= λ face. make face a
+
+-- a fact of a job by the face of a font file, if the file gives one
+abbrev pub ByFace : (Face → Job → Type 0) → Job → List ℕ → Type 0
+ByFace P a file = IsOkAnd (face_of file) (λ face. P face a)
+
+-- a defect of a font file for a job: of the tables needed for every text, or one of this kind by the face
+abbrev pub IsFontDefect : (Face → Job → Fault → Type 0) → Job → List ℕ → Fault → Type 0
+IsFontDefect IsOne a file fault = IsFaceDefect file fault ⊎ ByFace (λ face a. IsOne face a fault) a file
+
 -- worked values
 of_size : ℕ → Job
-of_size ppem = record { text = codes "A"; ppem = ppem; margin = 0; fit = fit.None }
+of_size ppem = job_for ppem fit.None (codes "A") 0
 
 no_size : tested (of_size 0) ≡ Err fault.SizeRange
 unfolding of_size tested size_tested

@@ -5,7 +5,7 @@ use Rattle.tt_fit.specs.Fitting.{Fitter}
 use Rattle.tt_fit.specs.declared.programs.Fit.{Fit}
 use Rattle.tt_metrics.specs.Metrics.{glyphs_of}
 use Rattle.tt_strike.specs.Defects.{IsSettingDefect}
-use Rattle.tt_strike.specs.Job.{Job}
+use Rattle.tt_strike.specs.Job.{Job, job_for}
 use Rattle.tt_strike.specs.Picture.{setting}
 use Rattle.tt_face.specs.Faces.{Face}
 use Rattle.tt_strike.specs.Work.{is_bounded}
@@ -14,7 +14,7 @@ use Rattle.tt_strike.specs.declared.maker.Maker.TheVariants as maker
 
 -- any job of this size and fit
 abbrev pub job_at : ℕ → Fit → Job
-job_at ppem how = record { text = []; ppem = ppem; margin = 0; fit = how }
+job_at ppem how = job_for ppem how [] 0
 
 -- this fitter is that of a font at a size, the font has no defect for it, and its work is bounded only with best
 pub record IsSetting (face : Face) (ppem : ℕ) (how : Fit) (s : Fitter) : Type 0 where

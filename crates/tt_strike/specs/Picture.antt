@@ -10,12 +10,12 @@ use Rattle.tt_fit.specs.Preparation.{fitter_of}
 use Rattle.tt_fit.specs.declared.programs.Fit.{Fit}
 use Rattle.tt_line.specs.Layout.{Placement, placement}
 use Rattle.tt_scan_edges.specs.declared.edge.Frame.{Frame}
-use Rattle.tt_strike.specs.Job.{Job, tested}
+use Rattle.tt_strike.specs.Job.{Job, by_face, tested}
 use Rattle.tt_strike.specs.Refusals.{Refused, as_font, as_job}
 use Rattle.tt_picture.specs.Pictures.{Image, picture}
 use Rattle.tt_picture.specs.Pixels.{Shape}
 use Rattle.tt_picture.specs.Shapes.{crossings_in, glyph_shape}
-use Rattle.tt_face.specs.Faces.{Face, face_of, glyphs_in}
+use Rattle.tt_face.specs.Faces.{Face, glyphs_in}
 use Rattle.tt_strike.specs.Programs.{programs_in}
 use Rattle.tt_strike.specs.Work.{crossings_allowed, line_fitter, points_in, work_left, work_tested}
 
@@ -77,4 +77,4 @@ line_outcome face a = as_job (tested a) >>= λ u. pictured_by face a
 
 -- the picture of a job by a font file
 unfoldable pub pictured : Job → List ℕ → Result Image Refused
-pictured a file = as_font (face_of file) >>= λ face. pictured_by face a
+pictured a file = by_face pictured_by a file

@@ -6,10 +6,10 @@ use Rattle.tt_line.specs.Layout.{Placement, placement}
 use Rattle.tt_picture.specs.declared.report.Unfitted.{Unfitted}
 use Rattle.tt_picture.specs.Distinct.{distinct}
 use Rattle.tt_picture.specs.Unfitted.{unfitted_among}
-use Rattle.tt_strike.specs.Job.{Job}
+use Rattle.tt_strike.specs.Job.{Job, by_face}
 use Rattle.tt_strike.specs.Picture.{setting_in, line_shapes}
 use Rattle.tt_strike.specs.Refusals.{Refused, as_font, as_job}
-use Rattle.tt_face.specs.Faces.{Face, face_of}
+use Rattle.tt_face.specs.Faces.{Face}
 use Rattle.tt_strike.specs.Work.{line_fitter}
 
 -- the unfitted glyphs of a drawn line, each once, in order of first appearance
@@ -27,4 +27,4 @@ report_by face a =
 
 -- the unfitted glyphs of a text by a font file
 unfoldable pub report_of : Job → List ℕ → Result (List Unfitted) Refused
-report_of a file = as_font (face_of file) >>= λ face. report_by face a
+report_of a file = by_face report_by a file

@@ -4,7 +4,7 @@ use Rattle.std.specs.Prelude.{◌≡◌, ℕ, false, List, [], Option, None, Som
 use Rattle.tt_fit.specs.declared.programs.Fit.{Fit}
 use Rattle.tt_fit.specs.Fitting.{Fitter}
 use Rattle.tt_picture.specs.Cached.{AreCachedFor}
-use Rattle.tt_strike.specs.Job.{Job}
+use Rattle.tt_strike.specs.Job.{Job, job_for}
 use Rattle.tt_strike.specs.Picture.{setting}
 use Rattle.tt_face.specs.Faces.{Face}
 use Rattle.tt_strike.specs.Work.{is_bounded}
@@ -20,7 +20,7 @@ pub record Strike : Type 0 where
 
 -- the job of a line
 abbrev pub job_of : Strike → List ℕ → ℕ → Job
-job_of s text margin = record { text = text; ppem = s.ppem; margin = margin; fit = s.fit }
+job_of s text margin = job_for s.ppem s.fit text margin
 
 -- a font at a size, with a fit, without its cache
 pub record SizedFace : Type 0 where
@@ -29,7 +29,7 @@ pub record SizedFace : Type 0 where
   pub fit : Fit
 
 abbrev pub job_by : SizedFace → List ℕ → ℕ → Job
-job_by z text margin = record { text = text; ppem = z.ppem; margin = margin; fit = z.fit }
+job_by z text margin = job_for z.ppem z.fit text margin
 
 -- the job of a line that is laid out, which does not depend on the text any more
 abbrev pub job_with : SizedFace → ℕ → Job

@@ -78,7 +78,6 @@ fn move_pens(glyphs: &mut [(u16, u32)], right: u32)
 #[tactic(auto, unfolding(crate::specs::Grown::not_large))]
 pub(crate) fn grown(line: Line, ink: Option<InkBox>) -> Result<Line, JobFault>
     ensures exact { Gives placement_of result (grown (placement_of line) ink) }
-    ensures glyphs { IfOk result (λ l. map (λ g. g.0) l.glyphs.items ≡ map (λ g. g.0) line.glyphs.items) }
 {
     let Some(ink) = ink else {
         return Ok(line);

@@ -1,7 +1,6 @@
-//! Lays a text out, once its job is tested.
+//! Lays a text out, once the text and its margin are tested.
 
-ghost use Rattle.std.specs.Prelude.{◌≡◌, ◌<◌, ◌≤◌, map, All, Ok, IfOk, OnOk};
-ghost use Rattle.tt_core.specs.Limits.{margin_limit};
+ghost use Rattle.std.specs.Prelude.{◌≡◌, ◌<◌, map, All, Ok, IfOk};
 ghost use Rattle.tt_core.specs.Outcomes.{GivesUnless, IfTold, draw_font_fault, draw_job_fault};
 ghost use Rattle.tt_line.specs.Layout.{placement, text_glyphs};
 ghost use Rattle.tt_line.specs.Outcome.{placement_of};
@@ -11,38 +10,35 @@ ghost use Rattle.tt_strike.specs.Picture.{laid_out};
 ghost use Rattle.tt_strike.specs.Refusals.{refusal};
 ghost use Rattle.tt_strike.specs.Strikes.{job_by};
 
-use crate::job::{Job, test_job};
+use crate::job::{test_margin, test_text};
+use crate::laid::Laid;
 use crate::sized::SizedFace;
 use tt_core::DrawFault;
-use tt_line::{Line, lay};
+use tt_line::lay;
 
 impl<'f, 'a> SizedFace<'f, 'a> {
-    /// Tests a job, and lays its text out. Errors, the first of: MarginRange, TextLong; EmptyPicture, PictureLarge.
-    /// Memory may come at any allocation.
-    pub(crate) fn lay_out(&self, text: &str, margin: u32) -> Result<Line, DrawFault>
-        ensures exact { GivesUnless refusal placement_of result (laid_out self.now.face (job_by self.now text.now margin)) }
-        ensures margin { OnOk result (margin ≤ margin_limit) }
-        ensures laid { IfOk result (λ l. placement self.now.face.metrics self.now.face.cmap text.now self.now.ppem margin ≡ Ok (placement_of l)) }
-        ensures glyphs { IfOk result (λ l. map (λ g. g.0) l.glyphs.items ≡ text_glyphs self.now.face.cmap text.now) }
-        ensures known { IfOk result (λ l. All (λ g. g.0 < glyphs_of self.now.face.metrics) l.glyphs.items) }
+    /// Tests a margin and a text, and lays the text out. Errors, the first of: MarginRange, TextLong; EmptyPicture,
+    /// PictureLarge. Memory may come at any allocation.
+    pub(crate) fn lay_out(&self, text: &str, margin: u32) -> Result<Laid, DrawFault>
+        ensures exact { GivesUnless refusal (λ l. placement_of l.line) result (laid_out self.now.face (job_by self.now text.now margin)) }
+        ensures margin { IfOk result (λ l. l.margin ≡ margin) }
+        ensures laid { IfOk result (λ l. placement self.now.face.metrics self.now.face.cmap text.now self.now.ppem margin ≡ Ok (placement_of l.line)) }
+        ensures glyphs { IfOk result (λ l. map (λ g. g.0) l.line.glyphs.items ≡ text_glyphs self.now.face.cmap text.now) }
+        ensures known { IfOk result (λ l. All (λ g. g.0 < glyphs_of self.now.face.metrics) l.line.glyphs.items) }
         ensures font { IfTold draw_font_fault result (λ _. ⊥) }
         ensures job { IfTold draw_job_fault result (IsLineRefusal self.now.face (job_by self.now text.now margin)) }
     {
-        let job = Job {
-            text,
-            ppem: self.ppem,
-            margin,
-            fit: self.fit,
-        };
-        test_job(&job)?;
-        let face = self.face;
-        lay(
-            self.alloc,
+        test_margin(margin)?;
+        test_text(text)?;
+        let face = self.source.face;
+        let line = lay(
+            self.source.alloc,
             face.metrics(),
             face.cmap(),
             text,
-            self.ppem,
+            self.source.ppem,
             margin,
-        )
+        )?;
+        Ok(Laid { line, margin })
     }
 }

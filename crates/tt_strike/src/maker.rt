@@ -1,20 +1,18 @@
 //! The fitter of a font at a size, opened when the first line is drawn.
 
-ghost use Rattle.std.specs.Prelude.{◌≡◌, ◌≤◌, true, false, IfOk};
-ghost use Rattle.tt_core.specs.Limits.{size_limit};
+ghost use Rattle.std.specs.Prelude.{◌≡◌, true, false, IfOk};
 ghost use Rattle.tt_core.specs.Outcomes.{FontGives, font_fault};
 ghost use Rattle.tt_strike.specs.Defects.{IsSettingDefect, TellsDefects};
 ghost use Rattle.tt_strike.specs.Makers.{IsMaker, IsSetting, job_at};
-ghost use Rattle.tt_strike.specs.declared.maker.Maker.TheVariants.{Ready, Refused};
+ghost use Rattle.tt_strike.specs.declared.maker.Maker.TheVariants.{Ready};
 ghost use Rattle.tt_strike.specs.Picture.{setting};
 ghost use Rattle.tt_strike.specs.Work.{is_bounded};
 
 use crate::programs::open_programs;
+use crate::source::FitterSource;
 use crate::work::is_bounded;
-use std::alloc::Global;
 use std::mem;
 use tt_core::{Fault, FontFault};
-use tt_face::Face;
 use tt_fit::{Fit, Fitter};
 
 /// The state of a strike's fitter.
@@ -27,62 +25,42 @@ pub(crate) enum Maker<'a> {
     Refused(Fault),
 }
 
-/// The fitter of a font at a size. Errors, the first of: those of loca and glyf; TableRange of the control values and
-/// the two programs; those of running the two. Memory may come at any allocation.
-#[tactic(auto, unfolding(crate::specs::Picture::setting))]
-fn open_fitter<'a>(
-    alloc: Global,
-    face: &Face<'a>,
-    ppem: u32,
-    fit: Fit,
-) -> Result<Fitter<'a>, FontFault>
-    requires low { 1 ≤ ppem }
-    requires high { ppem ≤ size_limit }
-    ensures exact { FontGives (λ f. f) result (setting face.now ppem fit) }
-    ensures setting { IfOk result (IsSetting face.now ppem fit) }
-    ensures defects { TellsDefects font_fault (IsSettingDefect face.now (job_at ppem fit)) result }
-{
-    tt_fit::laws::work_unfits();
-    let glyf = face.glyf()?;
-    let programs = open_programs(face, fit)?;
-    Ok(Fitter::new(alloc, face.metrics(), glyf, programs, ppem, fit)?)
+impl<'f, 'a> FitterSource<'f, 'a> {
+    /// The fitter. Errors, the first of: those of loca and glyf; TableRange of the control values and the two programs;
+    /// those of running the two. Memory may come at any allocation.
+    #[tactic(auto, unfolding(crate::specs::Picture::setting))]
+    fn open(self) -> Result<Fitter<'a>, FontFault>
+        ensures exact { FontGives (λ f. f) result (setting self.face.now self.ppem self.fit) }
+        ensures setting { IfOk result (IsSetting self.face.now self.ppem self.fit) }
+        ensures defects { TellsDefects font_fault (IsSettingDefect self.face.now (job_at self.ppem self.fit)) result }
+    {
+        tt_fit::laws::work_unfits();
+        let glyf = self.face.glyf()?;
+        let programs = open_programs(self.face, self.fit)?;
+        let metrics = self.face.metrics();
+        Ok(Fitter::new(self.alloc, metrics, glyf, programs, self.ppem, self.fit)?)
+    }
 }
 
 impl<'a> Maker<'a> {
-    /// Records the defect for which there is no fitter.
-    fn refuse(&mut self, fault: Fault)
-        ensures { self.new ≡ Refused fault }
-    {
-        *self = Maker::Refused(fault);
-    }
-
-    /// Takes the fitter of a font at a size out, and opens it first if it is missing. Errors: as `open_fitter`. A
-    /// defect of the font is recorded.
-    pub(crate) fn take(
-        &mut self,
-        alloc: Global,
-        face: &Face<'a>,
-        ppem: u32,
-        fit: Fit,
-    ) -> Result<Fitter<'a>, FontFault>
-        requires low { 1 ≤ ppem }
-        requires high { ppem ≤ size_limit }
-        requires maker { IsMaker face.now ppem fit self.old }
-        ensures exact { FontGives (λ f. f) result (setting face.now ppem fit) }
-        ensures setting { IfOk result (IsSetting face.now ppem fit) }
-        ensures defects { TellsDefects font_fault (IsSettingDefect face.now (job_at ppem fit)) result }
-        ensures maker { IsMaker face.now ppem fit self.new }
+    /// Takes the fitter out, and opens it first if it is missing. Errors: as `open`. A defect of the font is recorded.
+    pub(crate) fn take(&mut self, source: FitterSource<'_, 'a>) -> Result<Fitter<'a>, FontFault>
+        requires maker { IsMaker source.face.now source.ppem source.fit self.old }
+        ensures exact { FontGives (λ f. f) result (setting source.face.now source.ppem source.fit) }
+        ensures setting { IfOk result (IsSetting source.face.now source.ppem source.fit) }
+        ensures defects { TellsDefects font_fault (IsSettingDefect source.face.now (job_at source.ppem source.fit)) result }
+        ensures maker { IsMaker source.face.now source.ppem source.fit self.new }
     {
         match mem::replace(self, Maker::Unmade) {
             Maker::Ready(fitter) => Ok(fitter),
             Maker::Refused(fault) => {
-                self.refuse(fault);
+                *self = Maker::Refused(fault);
                 Err(FontFault::Font(fault))
             }
             Maker::Unmade => {
-                let made = open_fitter(alloc, face, ppem, fit);
+                let made = source.open();
                 if let Err(FontFault::Font(fault)) = &made {
-                    self.refuse(*fault);
+                    *self = Maker::Refused(*fault);
                 }
                 made
             }

@@ -7,6 +7,7 @@ ghost use Rattle.tt_strike.specs.Job.{size_tested, IsSizeRefusal};
 
 use crate::job::test_size;
 use crate::maker::Maker;
+use crate::source::FitterSource;
 use std::alloc::Global;
 use std::marker::Model;
 use tt_core::JobFault;
@@ -16,24 +17,19 @@ use tt_fit::Fit;
 /// A face at a size, with a fit. Clauses see these three. They do not see the fitter, which changes no answer.
 #[derive(Drop)]
 pub(crate) struct SizedFace<'f, 'a> {
-    pub(crate) alloc: Global,
-    pub(crate) face: &'f Face<'a>,
-    pub(crate) ppem: u32,
-    pub(crate) fit: Fit,
+    pub(crate) source: FitterSource<'f, 'a>,
     pub(crate) maker: Maker<'a>,
 }
 
 impl<'f, 'a> Model for SizedFace<'f, 'a> {
-    ghost use Rattle.std.specs.Prelude.{◌≤◌};
-    ghost use Rattle.tt_core.specs.Limits.{size_limit};
     ghost use Rattle.tt_strike.specs.Makers.{IsMaker};
     ghost use Rattle.tt_strike.specs.Strikes as strikes;
 
     ghost Value = { strikes.SizedFace };
 
-    ghost view = { λ z. record { face = z.face.now; ppem = z.ppem; fit = z.fit } };
+    ghost view = { λ z. record { face = z.source.face.now; ppem = z.source.ppem; fit = z.source.fit } };
 
-    ghost invariant = { λ z. (1 ≤ z.ppem) × (z.ppem ≤ size_limit) × IsMaker z.face.now z.ppem z.fit z.maker };
+    ghost invariant = { λ z. IsMaker z.source.face.now z.source.ppem z.source.fit z.maker };
 }
 
 impl<'f, 'a> SizedFace<'f, 'a> {
@@ -49,25 +45,28 @@ impl<'f, 'a> SizedFace<'f, 'a> {
         ensures refused { IfErr result (IsSizeRefusal ppem) }
     {
         test_size(ppem)?;
-        Ok(SizedFace {
+        let source = FitterSource {
             alloc,
             face,
             ppem,
             fit,
+        };
+        Ok(SizedFace {
+            source,
             maker: Maker::Unmade,
         })
     }
 
     /// Where memory comes from.
     pub(crate) fn alloc(&self) -> Global {
-        self.alloc
+        self.source.alloc
     }
 
     /// The font's tables.
     pub(crate) fn face(&self) -> &'f Face<'a>
         ensures { result.now ≡ self.now.face }
     {
-        self.face
+        self.source.face
     }
 
     /// The size in pixels per em.
@@ -75,13 +74,13 @@ impl<'f, 'a> SizedFace<'f, 'a> {
         ensures exact { result ≡ self.now.ppem }
         ensures limit { result ≤ size_limit }
     {
-        self.ppem
+        self.source.ppem
     }
 
     /// How outlines are fitted.
     pub(crate) fn fit(&self) -> Fit
         ensures { result ≡ self.now.fit }
     {
-        self.fit
+        self.source.fit
     }
 }

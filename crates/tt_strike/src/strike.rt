@@ -106,8 +106,8 @@ impl<'f, 'a> Strike<'f, 'a> {
         ensures job { IfTold draw_job_fault result (IsLineRefusal self.old.face (job_of self.old text.now margin)) }
         ensures same { self.new ≡ record self.old { kept = self.new.kept } }
     {
-        let line = self.sized.lay_out(text, margin)?;
-        self.sized.draw_line(margin, &line, &mut self.cache)
+        let laid = self.sized.lay_out(text, margin)?;
+        self.sized.draw_line(&laid, &mut self.cache)
     }
 
     /// The base line, the ink and the characters' places of a text's picture, without the picture. Errors as those of
@@ -122,8 +122,8 @@ impl<'f, 'a> Strike<'f, 'a> {
         ensures job { IfTold draw_job_fault result (IsLineRefusal self.old.face (job_of self.old text.now margin)) }
         ensures same { self.new ≡ self.old }
     {
-        let line = self.sized.lay_out(text, margin)?;
-        self.sized.measure_line(margin, &line)
+        let laid = self.sized.lay_out(text, margin)?;
+        self.sized.measure_line(&laid)
     }
 
     /// The picture of a text with the fewest added columns and rows such that no ink is cut; equal to that of `line`
@@ -141,8 +141,8 @@ impl<'f, 'a> Strike<'f, 'a> {
         ensures defects { TellsDefects draw_font_fault (IsLineDefect self.old.face (job_of self.old text.now margin) (text_glyphs self.old.face.cmap text.now)) result }
         ensures same { self.new ≡ record self.old { kept = self.new.kept } }
     {
-        let line = self.sized.lay_out(text, margin)?;
-        self.sized.draw_grown(margin, line, &mut self.cache)
+        let laid = self.sized.lay_out(text, margin)?;
+        self.sized.draw_grown(laid, &mut self.cache)
     }
 
     /// The measure of the picture that `grown_line` makes. Errors: those of `measure`, and PictureLarge of the larger
@@ -156,8 +156,8 @@ impl<'f, 'a> Strike<'f, 'a> {
         ensures defects { TellsDefects draw_font_fault (IsLineDefect self.old.face (job_of self.old text.now margin) (text_glyphs self.old.face.cmap text.now)) result }
         ensures same { self.new ≡ self.old }
     {
-        let line = self.sized.lay_out(text, margin)?;
-        self.sized.measure_grown(margin, line)
+        let laid = self.sized.lay_out(text, margin)?;
+        self.sized.measure_grown(laid)
     }
 
     /// The bytes of the cached glyphs: for each those of its black columns, and 128. With `Fit::None`, `Fit::Full` and

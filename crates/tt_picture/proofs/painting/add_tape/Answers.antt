@@ -34,7 +34,7 @@ cut-requires-clause-count c =
     let t = c.args.tape.now in
     let fits = c.requires.tape in
     let few = crossings_few c.args.frame c.args.r t.edges fits.edges in
-    omega (arith, few, fits.crosses, fits.edges, c.requires.within, c.requires.height)
+    omega (arith, few, fits.crosses, fits.edges, c.requires.row.within, c.requires.row.height)
 
 pub returns-clause-bits : goal.returns-clause-bits
 returns-clause-bits c =

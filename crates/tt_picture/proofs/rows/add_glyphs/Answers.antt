@@ -43,3 +43,10 @@ loop-i-preserved c =
       stamps = same ∙ so_far.stamps;
       room = room ∙ so_far.room;
     }
+
+pub add_to_row-requires-clause-row : goal.add_to_row-requires-clause-row
+add_to_row-requires-clause-row c = record {
+  height = c.requires.row.height;
+  within = c.requires.row.within;
+  width = rw c.loop-i.invariant.len c.requires.row.width;
+}

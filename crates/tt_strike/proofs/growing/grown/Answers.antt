@@ -84,13 +84,3 @@ invariant_of-result-clause-risen c =
     ≡ c.args.line.rise +ℤ pos c.lacking-sides.result.top = rw top (simp to_z-of_z refl) in
     rw new (risen_more c.args.line.rise c.lacking-sides.result.top c.args.line.height c.in_ok-height.height risen
     (omega (arith, c.in_ok-height.ensures.exact)))
-
-same_numbers : (gs : List (ℕ × ℕ)) (right : ℕ)
-    → map (λ (g : ℕ × ℕ). g.0) (map (λ (g : ℕ × ℕ). (g.0, g.1 + right)) gs) ≡ map (λ (g : ℕ × ℕ). g.0) gs
-same_numbers [] right = refl
-same_numbers (g ∷ gs) right = ap (λ (ns : List ℕ). g.0 ∷ ns) (same_numbers gs right)
-
-pub returns-clause-glyphs : goal.returns-clause-glyphs
-returns-clause-glyphs c =
-    rw (glyphs_then (goal.at.returns-clause-glyphs c).After-move_pens)
-    (same_numbers c.args.line.glyphs.items c.lacking-sides.result.left)

@@ -1,4 +1,4 @@
-use Rattle.std.proofs.Common.{◌≡◌, ◌∙◌, ap, sym, map, Ok, arith}
+use Rattle.std.proofs.Common.{◌≡◌, ◌∙◌, ap, sym, map, Ok}
 use Rattle.std.proofs.lemmas.Result.{err_from_is_err_and}
 use Rattle.tt_line.specs.Outcome.{placement_of}
 use Rattle.tt_picture.specs.Cached.{is_there}
@@ -15,55 +15,46 @@ use Rattle.tt_strike.proofs.sized.SizedFace.draw_line.Goals as goal
 pub returns-in_err-glyphs-clause-exact : goal.returns-in_err-glyphs-clause-exact
 returns-in_err-glyphs-clause-exact c =
     let p = err_from_is_err_and c.from_residual.result c.from_residual.ensures.1 in
-    rw (p.1, p.2) (drawing_stops c.args.self.now.face (job_with c.args.self.now c.args.margin) (placement_of c.args.line.now)
+    rw (p.1, p.2) (drawing_stops c.args.self.now.face (job_with c.args.self.now c.args.laid.now.margin) (placement_of c.args.laid.now.line)
     c.in_err-glyphs.field-0.0 c.in_err-glyphs.ensures.stops)
 
-pub draw_made-requires-clause-glyphs : goal.draw_made-requires-clause-glyphs
-draw_made-requires-clause-glyphs c =
+pub new-requires-clause-glyphs : goal.new-requires-clause-glyphs
+new-requires-clause-glyphs c =
     let made = c.in_ok-glyphs.ensures.made in
-    can_be_filled (line_fitter made.setting (map (λ g. g.0) c.args.line.now.glyphs.items))
+    can_be_filled (line_fitter made.setting (map (λ g. g.0) c.args.laid.now.line.glyphs.items))
     c.in_ok-glyphs.glyphs.made.items made.drawn made.within
 
 pub returns-clause-exact : goal.returns-clause-exact
 returns-clause-exact c =
     let face = c.args.self.now.face in
-    let a = job_with c.args.self.now c.args.margin in
-    let l = placement_of c.args.line.now in
+    let a = job_with c.args.self.now c.args.laid.now.margin in
+    let l = placement_of c.args.laid.now.line in
     let gs = c.in_ok-glyphs.glyphs.made.items in
     let made = c.in_ok-glyphs.ensures.made in
-    let p = c.in_ok-draw_made.field-0 in
-    let drawn = rw c.frame_of-frame.ensures.exact at c.in_ok-draw_made.ensures.exact in
+    let p = c.in_ok-new.field-0 in
+    let drawn = rw c.frame-frame.ensures.exact at c.in_ok-new.ensures.exact in
     let image : image_of p ≡ picture (frame_of l a.margin) made.shapes = drawn _ made.shapes made.stand in
     drawn_as_made face a l gs made
     ∙ ap Ok {x = picture (frame_of l a.margin) made.shapes} {y = image_of p} (sym image)
 
 pub returns-clause-frame : goal.returns-clause-frame
-returns-clause-frame c = c.in_ok-draw_made.ensures.frame ∙ c.frame_of-frame.ensures.exact
+returns-clause-frame c = c.in_ok-new.ensures.frame ∙ c.frame-frame.ensures.exact
 
 pub returns-clause-reported : goal.returns-clause-reported
 returns-clause-reported c =
     let face = c.args.self.now.face in
-    let a = job_with c.args.self.now c.args.margin in
-    let l = placement_of c.args.line.now in
+    let a = job_with c.args.self.now c.args.laid.now.margin in
+    let l = placement_of c.args.laid.now.line in
     let gs = c.in_ok-glyphs.glyphs.made.items in
     let made = c.in_ok-glyphs.ensures.made in
-    let p = c.in_ok-draw_made.field-0 in
-    let told = reported_as_made face a l gs p.unfitted made c.in_ok-draw_made.ensures.unfitted in
-    let frame : p.frame ≡ frame_of l a.margin = c.in_ok-draw_made.ensures.frame ∙ c.frame_of-frame.ensures.exact in
+    let p = c.in_ok-new.field-0 in
+    let told = reported_as_made face a l gs p.unfitted made c.in_ok-new.ensures.unfitted in
+    let frame : p.frame ≡ frame_of l a.margin = c.in_ok-new.ensures.frame ∙ c.frame-frame.ensures.exact in
     record {
-      ready = c.in_ok-draw_made.ensures.valid;
+      ready = c.in_ok-new.ensures.valid;
       report = told.0;
       once = told.1;
-      cost = rw c.in_ok-draw_made.ensures.cost c.in_ok-glyphs.ensures.cost;
-      few = λ bounded. rw (frame, c.in_ok-draw_made.ensures.edges) (tested_crossings {cached = is_there c.args.cache.now} a l
+      cost = rw c.in_ok-new.ensures.cost c.in_ok-glyphs.ensures.cost;
+      few = λ bounded. rw (frame, c.in_ok-new.ensures.edges) (tested_crossings {cached = is_there c.args.cache.now} a l
           made.setting (frame_of l a.margin) gs made.shapes made.drawn made.numbers made.fitted made.seldom bounded);
     }
-
-pub draw_made-requires-clause-height : goal.draw_made-requires-clause-height
-draw_made-requires-clause-height c = rw c.frame_of-frame.ensures.exact c.args.line.now.high.1
-
-pub draw_made-requires-clause-rise : goal.draw_made-requires-clause-rise
-draw_made-requires-clause-rise c =
-    let risen = c.args.line.now.risen in
-    let high = c.args.line.now.high.1 in
-    rw c.frame_of-frame.ensures.exact (omega (arith, risen, high))

@@ -1,56 +1,84 @@
-use Rattle.std.proofs.Common.{◌≤◌, refl}
-use Rattle.std.proofs.lemmas.Result.{IfOk-weaker, err_from_is_err_and}
-use Rattle.tt_core.specs.Limits.{margin_limit}
-use Rattle.tt_line.specs.declared.line.Line.{Line}
+use Rattle.std.proofs.Common.{◌≡◌, ◌∙◌, Ok, Err, refl}
+use Rattle.std.proofs.lemmas.Result.{err_from_is_err_and}
+use Rattle.tt_strike.specs.Job.{tested}
 use Rattle.tt_strike.specs.Strikes.{SizedFace, job_by}
-use Rattle.tt_strike.proofs.Stopped.{laid_as_placed, laying_tells, laying_tells_no_defect, placed_as_given}
+use Rattle.tt_strike.proofs.Stopped.{laid_as_placed, laying_tells, laying_tells_no_defect, tested_at}
 use Rattle.tt_strike.proofs.sized.SizedFace.lay_out.Goals as goal
 
-pub returns-in_err-test_job-clause-exact : goal.returns-in_err-test_job-clause-exact
-returns-in_err-test_job-clause-exact c =
+pub returns-in_err-test_margin-clause-exact : goal.returns-in_err-test_margin-clause-exact
+returns-in_err-test_margin-clause-exact c =
+    let z : SizedFace = record { face = c.self.inside.source.face.now; ppem = c.self.inside.source.ppem; fit = c.self.inside.source.fit } in
     let p = err_from_is_err_and c.from_residual.result c.from_residual.ensures.1 in
-    rw (p.1, p.2, ← c.self.view_is, c.in_err-test_job.ensures.exact) refl
+    let at = tested_at z c.args.text.now c.args.margin c.self.inside.source.low c.self.inside.source.high in
+    rw (p.1, p.2, ← c.self.view_is, at, c.in_err-test_margin.ensures.exact) refl
 
-pub returns-in_err-test_job-clause-font : goal.returns-in_err-test_job-clause-font
-returns-in_err-test_job-clause-font c =
+pub returns-in_err-test_margin-clause-font : goal.returns-in_err-test_margin-clause-font
+returns-in_err-test_margin-clause-font c =
     let p = err_from_is_err_and c.from_residual.result c.from_residual.ensures.1 in
     rw (p.1, p.2) tt
 
-pub returns-in_err-test_job-clause-job : goal.returns-in_err-test_job-clause-job
-returns-in_err-test_job-clause-job c =
+pub returns-in_err-test_margin-clause-job : goal.returns-in_err-test_margin-clause-job
+returns-in_err-test_margin-clause-job c =
     let p = err_from_is_err_and c.from_residual.result c.from_residual.ensures.1 in
-    rw (p.1, p.2, ← c.self.view_is, c.in_err-test_job.ensures.first) c.in_err-test_job.ensures.refused
+    let refused = c.in_err-test_margin.ensures.refused in
+    rw (p.1, p.2, refused.0) refused.1
+
+pub returns-in_err-test_text-clause-exact : goal.returns-in_err-test_text-clause-exact
+returns-in_err-test_text-clause-exact c =
+    let z : SizedFace = record { face = c.self.inside.source.face.now; ppem = c.self.inside.source.ppem; fit = c.self.inside.source.fit } in
+    let p = err_from_is_err_and c.from_residual-in_err-test_text.result c.from_residual-in_err-test_text.ensures.1 in
+    let at = tested_at z c.args.text.now c.args.margin c.self.inside.source.low c.self.inside.source.high in
+    rw (p.1, p.2, ← c.self.view_is, at, c.in_ok-test_margin.ensures.exact, c.in_err-test_text.ensures.exact) refl
+
+pub returns-in_err-test_text-clause-font : goal.returns-in_err-test_text-clause-font
+returns-in_err-test_text-clause-font c =
+    let p = err_from_is_err_and c.from_residual-in_err-test_text.result c.from_residual-in_err-test_text.ensures.1 in
+    rw (p.1, p.2) tt
+
+pub returns-in_err-test_text-clause-job : goal.returns-in_err-test_text-clause-job
+returns-in_err-test_text-clause-job c =
+    let p = err_from_is_err_and c.from_residual-in_err-test_text.result c.from_residual-in_err-test_text.ensures.1 in
+    let refused = c.in_err-test_text.ensures.refused in
+    rw (p.1, p.2, refused.0) refused.1
+
+pub returns-in_err-line-clause-exact : goal.returns-in_err-line-clause-exact
+returns-in_err-line-clause-exact c =
+    let z : SizedFace = record { face = c.self.inside.source.face.now; ppem = c.self.inside.source.ppem; fit = c.self.inside.source.fit } in
+    let at = tested_at z c.args.text.now c.args.margin c.self.inside.source.low c.self.inside.source.high in
+    let passes : tested (job_by z c.args.text.now c.args.margin) ≡ Ok tt =
+    at ∙ rw (c.in_ok-test_margin.ensures.exact, c.in_ok-test_text.ensures.exact) refl in
+    let p = err_from_is_err_and c.from_residual-in_err-line.result c.from_residual-in_err-line.ensures.1 in
+    let gives = rw (c.metrics.ensures, c.cmap.ensures.exact) at c.in_err-line.ensures.exact in
+    rw (p.1, p.2, ← c.self.view_is) (laid_as_placed (job_by z c.args.text.now c.args.margin) z.face
+    (Err c.in_err-line.field-0.0) passes gives)
+
+pub returns-in_err-line-clause-font : goal.returns-in_err-line-clause-font
+returns-in_err-line-clause-font c =
+    let p = err_from_is_err_and c.from_residual-in_err-line.result c.from_residual-in_err-line.ensures.1 in
+    rw (p.1, p.2) (laying_tells_no_defect _ (Err c.in_err-line.field-0.0) _ c.in_err-line.ensures.exact)
+
+pub returns-in_err-line-clause-job : goal.returns-in_err-line-clause-job
+returns-in_err-line-clause-job c =
+    let z : SizedFace = record { face = c.self.inside.source.face.now; ppem = c.self.inside.source.ppem; fit = c.self.inside.source.fit } in
+    let p = err_from_is_err_and c.from_residual-in_err-line.result c.from_residual-in_err-line.ensures.1 in
+    let fault = rw (c.metrics.ensures, c.cmap.ensures.exact) at c.in_err-line.ensures.fault in
+    rw (p.1, p.2, ← c.self.view_is) (laying_tells (job_by z c.args.text.now c.args.margin) z.face
+    (Err c.in_err-line.field-0.0) fault)
 
 pub returns-clause-exact : goal.returns-clause-exact
 returns-clause-exact c =
-    let z : SizedFace = record { face = c.self.inside.face.now; ppem = c.self.inside.ppem; fit = c.self.inside.fit } in
-    let gives = rw (c.metrics.ensures, c.cmap.ensures.exact) at c.lay.ensures.exact in
-    rw (← c.self.view_is) (laid_as_placed (job_by z c.args.text.now c.args.margin) z.face c.lay.result
-    c.in_ok-test_job.ensures.exact gives)
-
--- the margin was tested before: any fact of a laid-out line is weakened to this
-pub returns-clause-margin : goal.returns-clause-margin
-returns-clause-margin c =
-    IfOk-weaker c.lay.result _ (λ (l : Line). c.args.margin ≤ margin_limit)
-    (λ l known. c.in_ok-test_job.ensures.valid.margin) c.lay.ensures.known
+    let z : SizedFace = record { face = c.self.inside.source.face.now; ppem = c.self.inside.source.ppem; fit = c.self.inside.source.fit } in
+    let at = tested_at z c.args.text.now c.args.margin c.self.inside.source.low c.self.inside.source.high in
+    let passes : tested (job_by z c.args.text.now c.args.margin) ≡ Ok tt =
+    at ∙ rw (c.in_ok-test_margin.ensures.exact, c.in_ok-test_text.ensures.exact) refl in
+    let laid = rw (c.metrics.ensures, c.cmap.ensures.exact) at c.in_ok-line.ensures.exact in
+    rw (← c.self.view_is, passes, laid) refl
 
 pub returns-clause-laid : goal.returns-clause-laid
-returns-clause-laid c =
-    let gives = rw (c.metrics.ensures, c.cmap.ensures.exact) at c.lay.ensures.exact in
-    rw (← c.self.view_is) (placed_as_given c.lay.result _ gives)
+returns-clause-laid c = rw (← c.self.view_is) (rw (c.metrics.ensures, c.cmap.ensures.exact) at c.in_ok-line.ensures.exact)
 
 pub returns-clause-glyphs : goal.returns-clause-glyphs
-returns-clause-glyphs c = rw (← c.self.view_is) (rw c.cmap.ensures.exact at c.lay.ensures.glyphs)
+returns-clause-glyphs c = rw (← c.self.view_is) (rw c.cmap.ensures.exact at c.in_ok-line.ensures.glyphs)
 
 pub returns-clause-known : goal.returns-clause-known
-returns-clause-known c = rw (← c.self.view_is) (rw c.metrics.ensures at c.lay.ensures.known)
-
-pub returns-clause-font : goal.returns-clause-font
-returns-clause-font c =
-    laying_tells_no_defect _ c.lay.result _ c.lay.ensures.exact
-
-pub returns-clause-job : goal.returns-clause-job
-returns-clause-job c =
-    let z : SizedFace = record { face = c.self.inside.face.now; ppem = c.self.inside.ppem; fit = c.self.inside.fit } in
-    let fault = rw (c.metrics.ensures, c.cmap.ensures.exact) at c.lay.ensures.fault in
-    rw (← c.self.view_is) (laying_tells (job_by z c.args.text.now c.args.margin) z.face c.lay.result fault)
+returns-clause-known c = rw (← c.self.view_is) (rw c.metrics.ensures at c.in_ok-line.ensures.known)

@@ -25,17 +25,17 @@ use Rattle.tt_strike.proofs.sized.SizedFace.tested_glyphs.Goals as goal
 
 pub returns-in_err-fitter-clause-stops : goal.returns-in_err-fitter-clause-stops
 returns-in_err-fitter-clause-stops c =
-    let z : SizedFace = record { face = c.self.inside.face.now; ppem = c.self.inside.ppem; fit = c.self.inside.fit } in
+    let z : SizedFace = record { face = c.self.inside.source.face.now; ppem = c.self.inside.source.ppem; fit = c.self.inside.source.fit } in
     let p = err_from_is_err_and c.from_residual.result c.from_residual.ensures.1 in
-    rw (p.1, p.2, ← c.self.view_is) (setting_stops z.face (job_with z c.args.margin) (placement_of c.args.line.now)
+    rw (p.1, p.2, ← c.self.view_is) (setting_stops z.face (job_with z c.args.laid.now.margin) (placement_of c.args.laid.now.line)
     c.in_err-fitter.field-0.0 c.in_err-fitter.ensures.exact)
 
 pub returns-in_err-fitter-clause-defects : goal.returns-in_err-fitter-clause-defects
 returns-in_err-fitter-clause-defects c =
-    let z : SizedFace = record { face = c.self.inside.face.now; ppem = c.self.inside.ppem; fit = c.self.inside.fit } in
+    let z : SizedFace = record { face = c.self.inside.source.face.now; ppem = c.self.inside.source.ppem; fit = c.self.inside.source.fit } in
     let face = z.face in
-    let a = job_with z c.args.margin in
-    let gs = map (λ g. g.0) c.args.line.now.glyphs.items in
+    let a = job_with z c.args.laid.now.margin in
+    let gs = map (λ g. g.0) c.args.laid.now.line.glyphs.items in
     let p = err_from_is_err_and c.from_residual.result c.from_residual.ensures.1 in
     rw (p.1, p.2, ← c.self.view_is) (font_tells (IsLineDefect face a gs) c.in_err-fitter.field-0.0
     (setting_tells face a gs c.in_err-fitter.field-0.0 c.in_err-fitter.ensures.defects))
@@ -47,48 +47,48 @@ returns-in_err-fitter-clause-work c =
 
 pub returns-in_err-charge_points-clause-stops : goal.returns-in_err-charge_points-clause-stops
 returns-in_err-charge_points-clause-stops c =
-    let z : SizedFace = record { face = c.self.inside.face.now; ppem = c.self.inside.ppem; fit = c.self.inside.fit } in
+    let z : SizedFace = record { face = c.self.inside.source.face.now; ppem = c.self.inside.source.ppem; fit = c.self.inside.source.fit } in
     let p = err_from_is_err_and c.from_residual-in_err-charge_points.result
     c.from_residual-in_err-charge_points.ensures.1 in
     let fails = rw c.deref.ensures.value at c.in_err-charge_points.ensures.exact in
-    rw (p.1, p.2, ← c.self.view_is) (points_stop z.face (job_with z c.args.margin) (placement_of c.args.line.now)
+    rw (p.1, p.2, ← c.self.view_is) (points_stop z.face (job_with z c.args.laid.now.margin) (placement_of c.args.laid.now.line)
     c.in_ok-fitter.fitter c.in_err-charge_points.field-0.0 c.in_ok-fitter.ensures.exact fails)
 
 pub returns-in_err-charge_points-clause-defects : goal.returns-in_err-charge_points-clause-defects
 returns-in_err-charge_points-clause-defects c =
-    let z : SizedFace = record { face = c.self.inside.face.now; ppem = c.self.inside.ppem; fit = c.self.inside.fit } in
+    let z : SizedFace = record { face = c.self.inside.source.face.now; ppem = c.self.inside.source.ppem; fit = c.self.inside.source.fit } in
     let p = err_from_is_err_and c.from_residual-in_err-charge_points.result
     c.from_residual-in_err-charge_points.ensures.1 in
     let fails = rw c.deref.ensures.value at c.in_err-charge_points.ensures.exact in
-    rw (p.1, p.2) (points_tell_no_defect _ c.in_ok-fitter.fitter (job_with z c.args.margin)
-    (placement_of c.args.line.now) c.in_err-charge_points.field-0.0 fails)
+    rw (p.1, p.2) (points_tell_no_defect _ c.in_ok-fitter.fitter (job_with z c.args.laid.now.margin)
+    (placement_of c.args.laid.now.line) c.in_err-charge_points.field-0.0 fails)
 
 pub returns-in_err-charge_points-clause-work : goal.returns-in_err-charge_points-clause-work
 returns-in_err-charge_points-clause-work c =
-    let z : SizedFace = record { face = c.self.inside.face.now; ppem = c.self.inside.ppem; fit = c.self.inside.fit } in
+    let z : SizedFace = record { face = c.self.inside.source.face.now; ppem = c.self.inside.source.ppem; fit = c.self.inside.source.fit } in
     let p = err_from_is_err_and c.from_residual-in_err-charge_points.result
     c.from_residual-in_err-charge_points.ensures.1 in
     let fails = rw c.deref.ensures.value at c.in_err-charge_points.ensures.exact in
-    rw (p.1, p.2, ← c.self.view_is) (points_tell z.face (job_with z c.args.margin) (placement_of c.args.line.now)
+    rw (p.1, p.2, ← c.self.view_is) (points_tell z.face (job_with z c.args.laid.now.margin) (placement_of c.args.laid.now.line)
     c.in_ok-fitter.fitter c.in_err-charge_points.field-0.0 c.in_ok-fitter.ensures.exact fails)
 
 pub returns-in_err-glyphs-clause-stops : goal.returns-in_err-glyphs-clause-stops
 returns-in_err-glyphs-clause-stops c =
-    let z : SizedFace = record { face = c.self.inside.face.now; ppem = c.self.inside.ppem; fit = c.self.inside.fit } in
+    let z : SizedFace = record { face = c.self.inside.source.face.now; ppem = c.self.inside.source.ppem; fit = c.self.inside.source.fit } in
     let p = err_from_is_err_and c.from_residual-in_err-glyphs.result c.from_residual-in_err-glyphs.ensures.1 in
     let few = rw c.deref.ensures.value at c.in_ok-charge_points.ensures.exact in
     let begun = rw c.deref.ensures.value at c.in_ok-charge_points.ensures.charged in
     let fails = rw (c.deref-2.ensures.value, begun) at c.in_err-glyphs.ensures.fault in
-    rw (p.1, p.2, ← c.self.view_is) (glyph_stops z.face (job_with z c.args.margin) (placement_of c.args.line.now)
+    rw (p.1, p.2, ← c.self.view_is) (glyph_stops z.face (job_with z c.args.laid.now.margin) (placement_of c.args.laid.now.line)
     c.in_ok-fitter.fitter c.in_err-glyphs.field-0.0 c.in_ok-fitter.ensures.exact few fails)
 
 pub returns-in_err-glyphs-clause-defects : goal.returns-in_err-glyphs-clause-defects
 returns-in_err-glyphs-clause-defects c =
-    let z : SizedFace = record { face = c.self.inside.face.now; ppem = c.self.inside.ppem; fit = c.self.inside.fit } in
+    let z : SizedFace = record { face = c.self.inside.source.face.now; ppem = c.self.inside.source.ppem; fit = c.self.inside.source.fit } in
     let face = z.face in
-    let a = job_with z c.args.margin in
+    let a = job_with z c.args.laid.now.margin in
     let s = c.in_ok-fitter.fitter in
-    let places = c.args.line.now.glyphs.items in
+    let places = c.args.laid.now.line.glyphs.items in
     let p = err_from_is_err_and c.from_residual-in_err-glyphs.result c.from_residual-in_err-glyphs.ensures.1 in
     let begun = rw c.deref.ensures.value at c.in_ok-charge_points.ensures.charged in
     let fails = rw (c.deref-2.ensures.value, begun) at c.in_err-glyphs.ensures.fault in
@@ -104,15 +104,15 @@ returns-in_err-glyphs-clause-work c =
 pub returns-in_err-crossings-clause-stops : goal.returns-in_err-crossings-clause-stops
 returns-in_err-crossings-clause-stops c =
     let there = is_there c.args.cache.now in
-    let z : SizedFace = record { face = c.self.inside.face.now; ppem = c.self.inside.ppem; fit = c.self.inside.fit } in
+    let z : SizedFace = record { face = c.self.inside.source.face.now; ppem = c.self.inside.source.ppem; fit = c.self.inside.source.fit } in
     let unbounded = unbounded_where z c.args.cache.now (rw (← c.self.view_is) at c.requires.cache) in
-    let a = job_with z c.args.margin in
-    let l = placement_of c.args.line.now in
+    let a = job_with z c.args.laid.now.margin in
+    let l = placement_of c.args.laid.now.line in
     let s = c.in_ok-fitter.fitter in
     let p = err_from_is_err_and c.from_residual-in_err-crossings.result
     c.from_residual-in_err-crossings.ensures.1 in
     let begun = rw c.deref.ensures.value at c.in_ok-charge_points.ensures.charged in
-    let line = rw (c.deref-2.ensures.value, c.frame_of-frame.ensures.exact, begun) at c.in_ok-glyphs.ensures.line in
+    let line = rw (c.deref-2.ensures.value, c.frame-frame.ensures.exact, begun) at c.in_ok-glyphs.ensures.line in
     let made = ok_and (shapes_in s l) (Stand there (frame_of l a.margin) c.in_ok-glyphs.glyphs.made.items) line.stand in
     let numbers = line.numbers in
     let most = crossings_most s c.charge_points.new.fitter c.line_glyphs.new.fitter (map (λ g. g.0) l.glyphs) _ _ _
@@ -127,15 +127,15 @@ returns-in_err-crossings-clause-stops c =
 pub returns-in_err-crossings-clause-work : goal.returns-in_err-crossings-clause-work
 returns-in_err-crossings-clause-work c =
     let there = is_there c.args.cache.now in
-    let z : SizedFace = record { face = c.self.inside.face.now; ppem = c.self.inside.ppem; fit = c.self.inside.fit } in
+    let z : SizedFace = record { face = c.self.inside.source.face.now; ppem = c.self.inside.source.ppem; fit = c.self.inside.source.fit } in
     let unbounded = unbounded_where z c.args.cache.now (rw (← c.self.view_is) at c.requires.cache) in
-    let a = job_with z c.args.margin in
-    let l = placement_of c.args.line.now in
+    let a = job_with z c.args.laid.now.margin in
+    let l = placement_of c.args.laid.now.line in
     let s = c.in_ok-fitter.fitter in
     let p = err_from_is_err_and c.from_residual-in_err-crossings.result
     c.from_residual-in_err-crossings.ensures.1 in
     let begun = rw c.deref.ensures.value at c.in_ok-charge_points.ensures.charged in
-    let line = rw (c.deref-2.ensures.value, c.frame_of-frame.ensures.exact, begun) at c.in_ok-glyphs.ensures.line in
+    let line = rw (c.deref-2.ensures.value, c.frame-frame.ensures.exact, begun) at c.in_ok-glyphs.ensures.line in
     let made = ok_and (shapes_in s l) (Stand there (frame_of l a.margin) c.in_ok-glyphs.glyphs.made.items) line.stand in
     let numbers = line.numbers in
     let most = crossings_most s c.charge_points.new.fitter c.line_glyphs.new.fitter (map (λ g. g.0) l.glyphs) _ _ _
@@ -150,19 +150,19 @@ pub test_crossings-requires-clause-tapes : goal.test_crossings-requires-clause-t
 test_crossings-requires-clause-tapes c =
     let begun = rw c.deref.ensures.value at c.in_ok-charge_points.ensures.charged in
     let line = rw (c.deref-2.ensures.value, begun) at c.in_ok-glyphs.ensures.line in
-    let maker = line_fitter c.in_ok-fitter.fitter (map (λ g. g.0) c.args.line.now.glyphs.items) in
+    let maker = line_fitter c.in_ok-fitter.fitter (map (λ g. g.0) c.args.laid.now.line.glyphs.items) in
     rw c.deref-3.ensures.value (tapes_few maker c.in_ok-glyphs.glyphs.made.items line.drawn)
 
 pub returns-clause-made : goal.returns-clause-made
 returns-clause-made c =
     let there = is_there c.args.cache.now in
-    let z : SizedFace = record { face = c.self.inside.face.now; ppem = c.self.inside.ppem; fit = c.self.inside.fit } in
+    let z : SizedFace = record { face = c.self.inside.source.face.now; ppem = c.self.inside.source.ppem; fit = c.self.inside.source.fit } in
     let unbounded = unbounded_where z c.args.cache.now (rw (← c.self.view_is) at c.requires.cache) in
-    let a = job_with z c.args.margin in
-    let l = placement_of c.args.line.now in
+    let a = job_with z c.args.laid.now.margin in
+    let l = placement_of c.args.laid.now.line in
     let s = c.in_ok-fitter.fitter in
     let begun = rw c.deref.ensures.value at c.in_ok-charge_points.ensures.charged in
-    let line = rw (c.deref-2.ensures.value, c.frame_of-frame.ensures.exact, begun) at c.in_ok-glyphs.ensures.line in
+    let line = rw (c.deref-2.ensures.value, c.frame-frame.ensures.exact, begun) at c.in_ok-glyphs.ensures.line in
     let made = ok_and (shapes_in s l) (Stand there (frame_of l a.margin) c.in_ok-glyphs.glyphs.made.items) line.stand in
     let numbers = line.numbers in
     let most = crossings_most s c.charge_points.new.fitter c.line_glyphs.new.fitter (map (λ g. g.0) l.glyphs) _ _ _
@@ -185,15 +185,15 @@ returns-clause-made c =
 pub returns-clause-cost : goal.returns-clause-cost
 returns-clause-cost c =
     let there = is_there c.args.cache.now in
-    let z : SizedFace = record { face = c.self.inside.face.now; ppem = c.self.inside.ppem; fit = c.self.inside.fit } in
+    let z : SizedFace = record { face = c.self.inside.source.face.now; ppem = c.self.inside.source.ppem; fit = c.self.inside.source.fit } in
     let unbounded = unbounded_where z c.args.cache.now (rw (← c.self.view_is) at c.requires.cache) in
-    let a = job_with z c.args.margin in
-    let l = placement_of c.args.line.now in
+    let a = job_with z c.args.laid.now.margin in
+    let l = placement_of c.args.laid.now.line in
     let s = c.in_ok-fitter.fitter in
     let gs = map (λ g. g.0) l.glyphs in
     let setting = c.in_ok-fitter.ensures.setting in
     let begun = rw c.deref.ensures.value at c.in_ok-charge_points.ensures.charged in
-    let line = rw (c.deref-2.ensures.value, c.frame_of-frame.ensures.exact, begun) at c.in_ok-glyphs.ensures.line in
+    let line = rw (c.deref-2.ensures.value, c.frame-frame.ensures.exact, begun) at c.in_ok-glyphs.ensures.line in
     let made = ok_and (shapes_in s l) (Stand there (frame_of l a.margin) c.in_ok-glyphs.glyphs.made.items) line.stand in
     let few = rw c.deref.ensures.value at c.in_ok-charge_points.ensures.exact in
     let numbers = line.numbers in
@@ -220,34 +220,33 @@ returns-clause-cost c =
 
 pub returns-clause-defects : goal.returns-clause-defects
 returns-clause-defects c =
-    let z : SizedFace = record { face = c.self.inside.face.now; ppem = c.self.inside.ppem; fit = c.self.inside.fit } in
+    let z : SizedFace = record { face = c.self.inside.source.face.now; ppem = c.self.inside.source.ppem; fit = c.self.inside.source.fit } in
     let s = c.in_ok-fitter.fitter in
-    let gs = c.args.line.now.glyphs.items in
+    let gs = c.args.laid.now.line.glyphs.items in
     let begun = rw c.deref.ensures.value at c.in_ok-charge_points.ensures.charged in
     let line = rw (c.deref-2.ensures.value, begun) at c.in_ok-glyphs.ensures.line in
     let made = ok_and (each (glyph_shape (line_fitter s (map (λ g. g.0) gs))) gs) _ line.stand in
-    rw (← c.self.view_is) (no_line_defect z.face (job_with z c.args.margin) s gs made.0 c.in_ok-fitter.ensures.exact
+    rw (← c.self.view_is) (no_line_defect z.face (job_with z c.args.laid.now.margin) s gs made.0 c.in_ok-fitter.ensures.exact
     c.in_ok-fitter.ensures.defects made.1)
 
 pub invariant_of-self-2 : goal.invariant_of-self-2
 invariant_of-self-2 c =
     let s = c.in_ok-fitter.fitter in
     let setting = c.in_ok-fitter.ensures.setting in
-    let gs = map (λ g. g.0) c.args.line.now.glyphs.items in
+    let gs = map (λ g. g.0) c.args.laid.now.line.glyphs.items in
     let begun = rw c.deref.ensures.value at c.in_ok-charge_points.ensures.charged in
-    let maker = given_back c.self.inside.face.now c.self.inside.ppem c.self.inside.fit s c.line_glyphs.new.fitter
-    c.take.new.self c.give_back.new.self (is_bounded c.self.inside.fit) setting
+    given_back c.self.inside.source.face.now c.self.inside.source.ppem c.self.inside.source.fit s c.line_glyphs.new.fitter
+    c.take.new.self c.give_back.new.self (is_bounded c.self.inside.source.fit) setting
     (λ other. unspent c.work_unfits.ensures.stays s c.charge_points.new.fitter c.line_glyphs.new.fitter gs
     (numbers_of c.in_ok-glyphs.glyphs.made.items) begun c.in_ok-glyphs.ensures.after (setting.unbounded other))
-    c.take.ensures.maker c.give_back.ensures.kept c.give_back.ensures.same in
-    (c.self.invariant.0, c.self.invariant.1, maker)
+    c.take.ensures.maker c.give_back.ensures.kept c.give_back.ensures.same
 
 pub charge_points-requires-clause-unbounded : goal.charge_points-requires-clause-unbounded
 charge_points-requires-clause-unbounded c = c.in_ok-fitter.ensures.setting.unbounded
 
 pub line_glyphs-requires-clause-cache : goal.line_glyphs-requires-clause-cache
 line_glyphs-requires-clause-cache c =
-    let z : SizedFace = record { face = c.self.inside.face.now; ppem = c.self.inside.ppem; fit = c.self.inside.fit } in
+    let z : SizedFace = record { face = c.self.inside.source.face.now; ppem = c.self.inside.source.ppem; fit = c.self.inside.source.fit } in
     let s = c.in_ok-fitter.fitter in
     let own = of_fitter z s c.args.cache.now c.in_ok-fitter.ensures.setting (rw (← c.self.view_is) at c.requires.cache) in
     rw c.in_ok-charge_points.ensures.charged (cache_at_a_cost s _ c.args.cache.now own)
@@ -255,7 +254,7 @@ line_glyphs-requires-clause-cache c =
 -- the cache is then that of the font at the size
 cache_then : (c : After-line_glyphs) → IsCacheOf c.args.self.now c.line_glyphs.new.cache
 cache_then c =
-    let z : SizedFace = record { face = c.self.inside.face.now; ppem = c.self.inside.ppem; fit = c.self.inside.fit } in
+    let z : SizedFace = record { face = c.self.inside.source.face.now; ppem = c.self.inside.source.ppem; fit = c.self.inside.source.fit } in
     let s = c.in_ok-fitter.fitter in
     let before = rw (← c.self.view_is) at c.requires.cache in
     let own = of_fitter z s c.args.cache.now c.in_ok-fitter.ensures.setting before in

@@ -13,82 +13,82 @@ use Rattle.tt_strike.proofs.Stopped.{grown_stops, no_defect_told}
 use Rattle.tt_strike.proofs.Textless.{cost_textless, drawn_grown_textless, grown_textless, report_textless}
 use Rattle.tt_strike.proofs.strike.Strike.grown_line.Goals as goal
 
-pub returns-in_err-line-clause-exact : goal.returns-in_err-line-clause-exact
-returns-in_err-line-clause-exact c =
+pub returns-in_err-laid-clause-exact : goal.returns-in_err-laid-clause-exact
+returns-in_err-laid-clause-exact c =
     let z = c.self.inside.sized in
     let p = err_from_is_err_and c.from_residual.result c.from_residual.ensures.1 in
-    rw (p.1, p.2, ← c.self.view_is) (grown_stops z.face (job_by z c.args.text.now c.args.margin) c.in_err-line.field-0.0
-    c.in_err-line.ensures.exact)
+    rw (p.1, p.2, ← c.self.view_is) (grown_stops z.face (job_by z c.args.text.now c.args.margin) c.in_err-laid.field-0.0
+    c.in_err-laid.ensures.exact)
 
-pub returns-in_err-line-clause-defects : goal.returns-in_err-line-clause-defects
-returns-in_err-line-clause-defects c =
+pub returns-in_err-laid-clause-defects : goal.returns-in_err-laid-clause-defects
+returns-in_err-laid-clause-defects c =
     let p = err_from_is_err_and c.from_residual.result c.from_residual.ensures.1 in
-    rw (p.1, p.2) (no_defect_told _ c.in_err-line.field-0.0 c.in_err-line.ensures.font)
+    rw (p.1, p.2) (no_defect_told _ c.in_err-laid.field-0.0 c.in_err-laid.ensures.font)
 
 pub returns-clause-exact : goal.returns-clause-exact
 returns-clause-exact c =
     let z = c.self.inside.sized in
-    let l = placement_of c.in_ok-line.line in
+    let l = placement_of c.in_ok-laid.laid.line in
     rw (
       ← c.self.view_is,
-      drawn_as_laid z.face (job_by z c.args.text.now c.args.margin) l c.in_ok-line.ensures.exact,
+      drawn_as_laid z.face (job_by z c.args.text.now c.args.margin) l c.in_ok-laid.ensures.exact,
       drawn_grown_textless z c.args.text.now c.args.margin l,
-    ) c.draw_grown.ensures.exact
+    ) (rw c.in_ok-laid.ensures.margin at c.draw_grown.ensures.exact)
 
 pub returns-clause-frame : goal.returns-clause-frame
 returns-clause-frame c =
     let z = c.self.inside.sized in
-    let l = placement_of c.in_ok-line.line in
+    let l = placement_of c.in_ok-laid.laid.line in
     rw (
       ← c.self.view_is,
-      placed_as_laid z.face (job_by z c.args.text.now c.args.margin) l c.in_ok-line.ensures.exact,
+      placed_as_laid z.face (job_by z c.args.text.now c.args.margin) l c.in_ok-laid.ensures.exact,
       grown_textless z c.args.text.now c.args.margin l,
-    ) c.draw_grown.ensures.frame
+    ) (rw c.in_ok-laid.ensures.margin at c.draw_grown.ensures.frame)
 
 pub returns-clause-valid : goal.returns-clause-valid
 returns-clause-valid c =
     let z = c.self.inside.sized in
-    let l = placement_of c.in_ok-line.line in
+    let l = placement_of c.in_ok-laid.laid.line in
     let Is : Picture → Type 0 = IsReported z.face (job_with z c.args.margin) l in
-    IfOk-weaker c.draw_grown.result Is IsReady (λ p is. is.ready) c.draw_grown.ensures.reported
+    IfOk-weaker c.draw_grown.result Is IsReady (λ p is. is.ready) (rw c.in_ok-laid.ensures.margin at c.draw_grown.ensures.reported)
 
 pub returns-clause-report : goal.returns-clause-report
 unfolding report_by
 returns-clause-report c =
     let z = c.self.inside.sized in
-    let l = placement_of c.in_ok-line.line in
+    let l = placement_of c.in_ok-laid.laid.line in
     let Is : Picture → Type 0 = IsReported z.face (job_with z c.args.margin) l in
-    rw (← c.self.view_is, c.in_ok-line.ensures.laid, report_textless z c.args.text.now c.args.margin l)
+    rw (← c.self.view_is, c.in_ok-laid.ensures.laid, report_textless z c.args.text.now c.args.margin l)
     (IfOk-weaker c.draw_grown.result Is (λ (p : Picture). line_report z.face (job_with z c.args.margin) l ≡ Ok p.unfitted)
-    (λ p is. is.report) c.draw_grown.ensures.reported)
+    (λ p is. is.report) (rw c.in_ok-laid.ensures.margin at c.draw_grown.ensures.reported))
 
 pub returns-clause-once : goal.returns-clause-once
 returns-clause-once c =
     let z = c.self.inside.sized in
-    let l = placement_of c.in_ok-line.line in
+    let l = placement_of c.in_ok-laid.laid.line in
     let Is : Picture → Type 0 = IsReported z.face (job_with z c.args.margin) l in
-    IfOk-weaker c.draw_grown.result Is (λ (p : Picture). ListsOnce p.unfitted) (λ p is. is.once) c.draw_grown.ensures.reported
+    IfOk-weaker c.draw_grown.result Is (λ (p : Picture). ListsOnce p.unfitted) (λ p is. is.once) (rw c.in_ok-laid.ensures.margin at c.draw_grown.ensures.reported)
 
 pub returns-clause-cost : goal.returns-clause-cost
 unfolding cost_by
 returns-clause-cost c =
     let z = c.self.inside.sized in
-    let l = placement_of c.in_ok-line.line in
+    let l = placement_of c.in_ok-laid.laid.line in
     let Is : Picture → Type 0 = IsReported z.face (job_with z c.args.margin) l in
-    rw (← c.self.view_is, c.in_ok-line.ensures.laid, cost_textless z c.args.text.now c.args.margin l)
+    rw (← c.self.view_is, c.in_ok-laid.ensures.laid, cost_textless z c.args.text.now c.args.margin l)
     (IfOk-weaker c.draw_grown.result Is (λ (p : Picture). line_cost z.face (job_with z c.args.margin) l ≡ Ok p.cost)
-    (λ p is. is.cost) c.draw_grown.ensures.reported)
+    (λ p is. is.cost) (rw c.in_ok-laid.ensures.margin at c.draw_grown.ensures.reported))
 
 pub returns-clause-few : goal.returns-clause-few
 returns-clause-few c =
     let z = c.self.inside.sized in
-    let l = placement_of c.in_ok-line.line in
+    let l = placement_of c.in_ok-laid.laid.line in
     let Is : Picture → Type 0 = IsReported z.face (job_with z c.args.margin) l in
     rw (← c.self.view_is) (λ bounded. IfOk-weaker c.draw_grown.result Is (λ (p : Picture). all_crossings p ≤ crossing_limit)
-    (λ p is. is.few bounded) c.draw_grown.ensures.reported)
+    (λ p is. is.few bounded) (rw c.in_ok-laid.ensures.margin at c.draw_grown.ensures.reported))
 
 pub returns-clause-defects : goal.returns-clause-defects
-returns-clause-defects c = rw (← c.self.view_is, ← c.in_ok-line.ensures.glyphs) c.draw_grown.ensures.defects
+returns-clause-defects c = rw (← c.self.view_is, ← c.in_ok-laid.ensures.glyphs) (rw c.in_ok-laid.ensures.margin at c.draw_grown.ensures.defects)
 
 pub invariant_of-self : goal.invariant_of-self
 invariant_of-self c =

@@ -4,8 +4,8 @@ use Rattle.std.proofs.lemmas.List.{get_or-map, length-map}
 use Rattle.tt_scan_ink.specs.declared.ink.GlyphInk.{GlyphInk}
 use Rattle.tt_picture.specs.Glyphs.{Glyph, numbers_of}
 use Rattle.tt_picture.proofs.Keeping.{is_not_there}
-use Rattle.tt_strike.proofs.measuring.character.Goals.{in-Some, in-None}
-use Rattle.tt_strike.proofs.measuring.character.Goals as goal
+use Rattle.tt_strike.proofs.sized.SizedFace.character.Goals.{in-Some, in-None}
+use Rattle.tt_strike.proofs.sized.SizedFace.character.Goals as goal
 
 -- the box at a place, of boxes of some numbers
 box_found : (inked : ℕ → Option GlyphInk) (boxes : List (Option GlyphInk)) (gs : List Glyph) (i n : ℕ)
@@ -18,12 +18,13 @@ box_found inked boxes gs i n d are below is =
 
 pub returns : goal.returns
 returns c = λ inked same.
-    let gs = c.args.glyphs.now.made.items in
+    let gs = c.args.inked.now.glyphs.made.items in
     let found : c.match-find.ink ≡ inked c.args.placed.0 =
     elim c.match-find.branch [
       | in-Some w ↦
           let at = w.in-Some.ensures.found in
-          w.ink-is ∙ box_found inked c.args.inks.now gs w.in-Some.i c.args.placed.0 _ same at.0 at.1
+          w.ink-is ∙ (w.index.ensures
+          ∙ box_found inked c.args.inked.now.inks.items gs w.in-Some.i c.args.placed.0 w.index.result.now same at.0 at.1)
       | in-None w ↦
           let none = is_not_there (numbers_of gs) c.args.placed.0 w.in-None.ensures.absent in
           let there = c.requires.among in
@@ -31,4 +32,18 @@ returns c = λ inked same.
     ] in
     let fits : SFits w64 (pos (c.args.placed.1 + c.args.frame.margin)) =
     omega (arith, ints, c.requires.pen, c.requires.frame.margin) in
-    rw (c.from.ensures, c.advance.ensures.exact, c.ink_at.ensures, found) (simp to_z-of_z)
+    rw (
+      c.from.ensures,
+      c.advance.ensures.exact,
+      c.metrics.ensures,
+      c.face.ensures,
+      c.ppem.ensures.exact,
+      c.ink_at.ensures,
+      found,
+    ) (simp to_z-of_z)
+
+pub advance-requires-clause-known : goal.advance-requires-clause-known
+advance-requires-clause-known c = rw (c.metrics.ensures, c.face.ensures) c.requires.known
+
+pub index-requires : goal.index-requires
+index-requires c = rw (c.args.inked.now.inked, length-map) c.in-Some.ensures.found.0

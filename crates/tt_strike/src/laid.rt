@@ -1,0 +1,34 @@
+//! A line that is laid out, with its margin.
+
+ghost use Rattle.std.specs.Prelude.{◌≡◌, ◌≤◌};
+ghost use Rattle.tt_core.specs.Limits.{margin_limit};
+ghost use Rattle.tt_line.specs.Outcome.{placement_of};
+ghost use Rattle.tt_picture.specs.Pictures.{IsPictureFrame};
+ghost use Rattle.tt_strike.specs.Picture.{frame_of};
+
+use tt_line::Line;
+use tt_scan::Frame;
+
+/// A line that is laid out, and the margin of its picture.
+#[derive(Drop)]
+pub(crate) struct Laid {
+    pub(crate) line: Line,
+    /// Pixels round the line.
+    pub(crate) margin: u32,
+    pub(crate) ghost within: { margin ≤ margin_limit },
+}
+
+impl Laid {
+    /// The frame of the line's picture.
+    pub(crate) fn frame(&self) -> Frame
+        ensures exact { result ≡ frame_of (placement_of self.now.line) self.now.margin }
+        ensures fits { IsPictureFrame result }
+    {
+        Frame {
+            width: self.line.width,
+            height: self.line.height,
+            margin: self.margin,
+            rise: self.line.rise,
+        }
+    }
+}
