@@ -1,0 +1,7 @@
+use Rattle.tt_render.specs.TextsMessages.{texts_line_of}
+use Rattle.tt_program_decisions.proofs.telling_texts.tell_texts.Goals as goal
+
+pub returns-in-Err-clause-told : goal.returns-in-Err-clause-told
+returns-in-Err-clause-told g c =
+    rw (c.in-Err.is, c.if-failed.false)
+    (rw c.texts_status.ensures at (c.tell_line.ensures.told (texts_line_of c.in-Err.fault.now) c.texts_line.ensures))
