@@ -1,9 +1,6 @@
 //! A text drawn into a caller's room.
 
-ghost use Rattle.std.specs.Prelude.{◌≡◌, ◌≢◌};
-ghost use Rattle.tt_c_calls.specs.Answers.{DefectStands, TellsRefusal};
-ghost use Rattle.tt_c_calls.specs.Asked.{IsAskedDefect};
-ghost use Rattle.tt_c_calls.specs.Pictures.{IsBandDrawn, IsRoomSmall, picture_wanted};
+ghost use Rattle.tt_c_calls.specs.Pictures.{DrawsBand};
 
 use crate::answer::{CAnswer, answer_of};
 use crate::asked::CJob;
@@ -27,12 +24,7 @@ pub fn draw_band(
     rows: &mut [u8],
     told: &mut CPicture,
 ) -> CAnswer
-    ensures done { result.status ≡ 0 → IsBandDrawn job.now text.now font.now band.first band.count rows.old rows.new told.new result }
-    ensures refused { result.status ≢ 0 → result.status ≢ 7 → TellsRefusal (picture_wanted job.now text.now font.now) result }
-    ensures small { result.status ≡ 7 → IsRoomSmall job.now text.now font.now band.first band.count rows.old result }
-    ensures kept { result.status ≢ 0 → rows.new ≡ rows.old }
-    ensures told_kept { result.status ≢ 0 → told.new ≡ told.old }
-    ensures stands { DefectStands (IsAskedDefect job.now text.now font.now) result }
+    ensures { DrawsBand job.now text.now font.now band.first band.count rows.old rows.new told.old told.new result }
 {
     let mut picture = match picture_of(alloc, font, text, job) {
         Ok(picture) => picture,

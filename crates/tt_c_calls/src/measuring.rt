@@ -1,12 +1,11 @@
 //! A text measured.
 
-ghost use Rattle.std.specs.Prelude.{◌≡◌, ◌≢◌, ◌<◌, length, IfOk};
+ghost use Rattle.std.specs.Prelude.{◌≡◌, ◌≢◌, length, IfOk};
 ghost use Rattle.tt_core.specs.Outcomes.{GivesUnless};
 ghost use Rattle.tt_strike.specs.Defects.{TellsDefects};
 ghost use Rattle.tt_strike.specs.Measures.{measure_view};
-ghost use Rattle.tt_c_calls.specs.Answers.{DefectStands, TellsRefusal};
 ghost use Rattle.tt_c_calls.specs.Asked.{IsAskedDefect};
-ghost use Rattle.tt_c_calls.specs.Measures.{AreCharactersOf, AreCharactersTold, IsCharactersSmall, IsEntriesSmall, IsMeasureOf, IsMeasureTold, box_told, character_told, measure_told, measure_wanted};
+ghost use Rattle.tt_c_calls.specs.Measures.{AreCharactersTold, IsEntriesSmall, IsMeasureOf, MeasuresText, PlacesCharacters, box_told, character_told, measure_told, measure_wanted};
 ghost use Rattle.tt_c_calls.specs.Refusals.{call_font_fault, call_refusal};
 
 use crate::answer::{CAnswer, answer_of, done, wants_room};
@@ -125,10 +124,7 @@ fn measured(alloc: Global, font: &[u8], text: &[u8], job: &CJob) -> Result<Measu
 /// too large, or the job refused; memory was refused; the text is not UTF-8. Unless the answer is done, `told` is
 /// unchanged.
 pub fn measure(alloc: Global, font: &[u8], text: &[u8], job: &CJob, told: &mut CMeasure) -> CAnswer
-    ensures done { result.status ≡ 0 → IsMeasureTold job.now text.now font.now told.new result }
-    ensures refused { result.status ≢ 0 → TellsRefusal (measure_wanted job.now text.now font.now) result }
-    ensures kept { result.status ≢ 0 → told.new ≡ told.old }
-    ensures stands { DefectStands (IsAskedDefect job.now text.now font.now) result }
+    ensures { MeasuresText job.now text.now font.now told.old told.new result }
 {
     match measured(alloc, font, text, job) {
         Ok(measure) => {
@@ -166,11 +162,7 @@ pub fn characters(
     job: &CJob,
     room: &mut [CCharacter],
 ) -> CAnswer
-    ensures done { result.status ≡ 0 → AreCharactersOf job.now text.now font.now room.old room.new result }
-    ensures refused { result.status ≢ 0 → result.status ≢ 7 → TellsRefusal (measure_wanted job.now text.now font.now) result }
-    ensures small { result.status ≡ 7 → IsCharactersSmall job.now text.now font.now (length room.old) result }
-    ensures kept { result.status ≢ 0 → room.new ≡ room.old }
-    ensures stands { DefectStands (IsAskedDefect job.now text.now font.now) result }
+    ensures { PlacesCharacters job.now text.now font.now room.old room.new result }
 {
     match measured(alloc, font, text, job) {
         Ok(measure) => write_characters(&measure.characters, room),
