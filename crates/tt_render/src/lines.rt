@@ -1,10 +1,9 @@
 //! Reads the lines of a text in order.
 
+ghost use Rattle.std.specs.Io.KnownBytes.{IsAtEnd, Keeps};
 ghost use Rattle.std.specs.Prelude.{◌≡◌, ◌≢◌, ℕ, ◌+◌, ◌-◌, ◌<◌, ◌≤◌, [], false, is_err, length, take, drop, vec_len, All, IfOk, OnErr, MatchOption};
 ghost use Rattle.tt_core.specs.Device.{RemembersFailure};
-ghost use Rattle.tt_render.specs.LineReading.{IsReader, IsFirstFeed, GetsMore, ReadsLine, held, line_at, line_room, text_left};
-ghost use Rattle.tt_render.specs.Lines.{before_feed};
-ghost use Rattle.std.specs.Io.KnownBytes.{IsAtEnd, Keeps};
+ghost use Rattle.tt_render.specs.Lines.{IsFirstFeed, before_feed, line_room};
 
 use std::alloc::{AllocError, Global};
 use tt_core::{IoFailed, Source};
@@ -22,6 +21,9 @@ pub(crate) struct LineReader {
     buf: Vec<u8>,
     from: usize,
     until: usize,
+    ghost order: { from ≤ until },
+    ghost within: { until ≤ vec_len buf },
+    ghost whole: { vec_len buf ≡ line_room },
 }
 
 /// The place of a line in its reader's buffer.
@@ -66,10 +68,11 @@ fn len_before_feed(line: &[u8]) -> usize
 }
 
 impl LineReader {
+    ghost use Rattle.tt_render.specs.LineReading.{GetsMore, ReadsLine, held, line_at, text_left};
+
     /// A reader that has read nothing yet.
     pub(crate) fn new(alloc: Global) -> Result<LineReader, AllocError>
-        ensures valid { IfOk result IsReader }
-        ensures empty { IfOk result (λ r. held r ≡ []) }
+        ensures { IfOk result (λ r. held r ≡ []) }
     {
         Ok(LineReader {
             buf: vec![in alloc; 0u8; LINE_ROOM]?,
@@ -80,8 +83,6 @@ impl LineReader {
 
     /// Moves the held bytes to the front of the buffer.
     fn move_to_front(&mut self)
-        requires valid { IsReader self.old }
-        ensures valid { IsReader self.new }
         ensures front { self.new.from ≡ 0 }
         ensures held { held self.new ≡ held self.old }
     {
@@ -92,9 +93,7 @@ impl LineReader {
 
     /// Reads more bytes into the buffer, and returns how many: 0 only at the end.
     fn read_more<R: Source>(&mut self, source: &mut R) -> Result<usize, IoFailed>
-        requires valid { IsReader self.old }
         requires room { length (held self.old) < line_room }
-        ensures valid { IsReader self.new }
         ensures more { IfOk result (GetsMore (held self.old) (held self.new) (R.left source.old) (R.left source.new)) }
         ensures end { IfOk result (λ n. n ≡ 0 → IsAtEnd (R.left source.new)) }
         ensures same { OnErr result (held self.new ≡ held self.old) }
@@ -110,9 +109,7 @@ impl LineReader {
 
     /// Gives out a line of `len` bytes before its line feed.
     fn give_line(&mut self, len: usize) -> LinePlace
-        requires valid { IsReader self.old }
-        requires within { len < length (held self.old) }
-        ensures valid { IsReader self.new }
+        requires { len < length (held self.old) }
         ensures place { result.from ≤ result.until }
         ensures within { result.until ≤ vec_len self.new.buf }
         ensures line { line_at self.new result ≡ before_feed (take len (held self.old)) }
@@ -130,8 +127,6 @@ impl LineReader {
 
     /// Gives out all held bytes as a line without a line feed.
     fn give_rest(&mut self) -> LinePlace
-        requires valid { IsReader self.old }
-        ensures valid { IsReader self.new }
         ensures place { result.from ≤ result.until }
         ensures within { result.until ≤ vec_len self.new.buf }
         ensures line { line_at self.new result ≡ held self.old }
@@ -147,7 +142,6 @@ impl LineReader {
 
     /// The first line feed among the held bytes, behind the first `known`, which have none.
     fn feed_behind(&self, known: usize) -> Option<usize>
-        requires valid { IsReader self.now }
         requires within { known ≤ length (held self.now) }
         requires none { All (λ x. x ≢ 10) (take known (held self.now)) }
         ensures { MatchOption result (All (λ x. x ≢ 10) (held self.now)) (IsFirstFeed (held self.now)) }
@@ -158,9 +152,7 @@ impl LineReader {
 
     /// The next line, if there is one. Error: the device failed.
     pub(crate) fn read_line<R: Source>(&mut self, source: &mut R) -> Result<NextLine, IoFailed>
-        requires valid { IsReader self.old }
-        requires source { R.has_failed source.old ≡ false }
-        ensures valid { IsReader self.new }
+        requires { R.has_failed source.old ≡ false }
         ensures outcome { ReadsLine self.new result (text_left self.old (R.left source.old)) (text_left self.new (R.left source.new)) }
         ensures failure { R.has_failed source.new ≡ is_err result }
     {

@@ -34,14 +34,13 @@ loop-before-init g c =
     let left = g.R.Source.left c.args.lines.now in
     let reader = c.in_ok-reader in
     record {
-      valid = reader.ensures.valid;
       strike = refl;
       reads = c.requires.lines;
       few = omega arith;
       writes = c.requires.out;
       so_far = none_so_far (line_drawn c.args.setting.now c.args.strike.now) left (text_left reader.reader left)
           (g.W.Sink.written c.args.out.now) (g.E.Sink.written c.args.error.now)
-          (g.E.Sink.has_failed c.args.error.now) (whole_text (held reader.reader) left reader.ensures.empty)
+          (g.E.Sink.has_failed c.args.error.now) (whole_text (held reader.reader) left reader.ensures)
           c.requires.error;
     }
 
@@ -141,7 +140,6 @@ loop-before-preserved g c =
     let used : c.loop-before.used + answer.cost ≡ c.loop-before.used + c.from-used.result =
     omega (arith, c.from-used.ensures, c.cost.ensures) in
     record {
-      valid = c.in-Ok-Some.ensures.valid;
       strike = kept_alone c.args.strike.now c.loop-before.strike c.draw_line.new.strike so_far.strike
           c.in-Ok.ensures.same;
       reads = c.in-Ok-Some.ensures.failure;

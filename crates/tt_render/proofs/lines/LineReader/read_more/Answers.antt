@@ -14,7 +14,7 @@ returns-clause-more g c =
     rw c.deref_mut.ensures.value at c.read_behind.ensures.front in
     let fits : r.until + n ≤ length buf = c.in_ok-n.ensures.bound in
     let many : length bytes ≡ n = length-take-le n (drop r.until buf) (omega (arith, length-drop r.until buf, fits)) in
-    let more = held_more r.from r.until n r.buf.items buf c.move_to_front.ensures.valid.front (omega (arith, fits))
+    let more = held_more r.from r.until n r.buf.items buf r.order (omega (arith, fits))
     front in
     let held_now = ap (λ xs. drop r.from (take (r.until + n) xs)) is ∙ more
     ∙ ap (λ xs. xs ++ bytes) c.move_to_front.ensures.held in
