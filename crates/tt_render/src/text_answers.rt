@@ -11,7 +11,7 @@ ghost use Rattle.tt_strike.specs.Strikes.{job_of};
 use crate::products::{Output, make_output};
 use crate::refusal::{Refusal, TextsFault, texts_fault};
 use crate::setting::{Missing, Setting};
-use crate::texts_messages::report_text;
+use crate::texts_messages::Messages;
 use std::alloc::Global;
 use tt_cmap::{Cmap, lacking};
 use tt_strike::Strike;
@@ -70,7 +70,7 @@ pub(crate) fn answer_text(
     let face = strike.face();
     let output = make_output(alloc, strike, setting, text)?;
     let lacking = missing_of(alloc, face.cmap(), setting.missing, text)?;
-    let report = report_text(alloc, number, output.unfitted(), &lacking)?;
+    let report = Messages { alloc, number }.report(output.unfitted(), &lacking)?;
     Ok(ReadyText {
         output,
         lacking,

@@ -1,5 +1,5 @@
 use Rattle.std.proofs.Common.{append_assoc}
-use Rattle.tt_render.proofs.texts_messages.glyph_line.Goals as goal
+use Rattle.tt_render.proofs.texts_messages.Messages.glyph_line.Goals as goal
 
 pub returns : goal.returns
 returns c =

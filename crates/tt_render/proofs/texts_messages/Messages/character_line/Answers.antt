@@ -1,7 +1,7 @@
 use Rattle.std.proofs.Common.{true}
 use Rattle.std.specs.Fmt.{digits}
 use Rattle.tt_render_run.proofs.Text.{padded_to_four}
-use Rattle.tt_render.proofs.texts_messages.character_line.Goals as goal
+use Rattle.tt_render.proofs.texts_messages.Messages.character_line.Goals as goal
 
 pub returns : goal.returns
 returns c =
