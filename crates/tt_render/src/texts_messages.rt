@@ -93,16 +93,12 @@ impl Messages {
     /// The report of the text. A line, with its line feed, for each unfitted glyph, and then one for each character
     /// without a glyph. An empty report takes no memory.
     #[tactic(auto, unfolding(crate::specs::Reports::report_text_of))]
-    pub(crate) fn report(
-        self,
-        unfitted: &[Unfitted],
-        lacking: &[char],
-    ) -> Result<String, AllocError>
-        ensures exact { IfOk result (λ text. string_bytes text ≡ report_text_of self.number unfitted.now lacking.now) }
-        ensures memory { length unfitted.now ≡ 0 → length lacking.now ≡ 0 → IsOk result }
+    pub(crate) fn report(self, glyphs: &[Unfitted], lacking: &[char]) -> Result<String, AllocError>
+        ensures exact { IfOk result (λ text. string_bytes text ≡ report_text_of self.number glyphs.now lacking.now) }
+        ensures memory { length glyphs.now ≡ 0 → length lacking.now ≡ 0 → IsOk result }
     {
         let mut text = String::new(self.alloc);
-        self.push_unfitted(&mut text, unfitted)?;
+        self.push_unfitted(&mut text, glyphs)?;
         self.push_lacking(&mut text, lacking)?;
         Ok(text)
     }
