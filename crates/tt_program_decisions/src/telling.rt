@@ -1,13 +1,12 @@
 //! The report of an answer: the exit status, and a line on standard error.
 
 ghost use Rattle.std.specs.Prelude.{◌≡◌, ℕ, ◌≤◌, ◌++◌, false, List, codes, string_bytes, IfOk};
-ghost use Rattle.tt_render.specs.Printing.{Prints, errors_of};
+ghost use Rattle.tt_render.specs.Printing.{errors_of};
 ghost use Rattle.tt_program_decisions.specs.Telling.{Tells, TellsLine};
 
 use std::alloc::{AllocError, Global};
 use tt_core::Sink;
-use tt_pbm::write_all_of;
-use tt_render::{RunFault, line, status};
+use tt_render::{RunFault, line, print_text, status};
 
 /// The line for refused memory; it takes no memory.
 pub(crate) const NO_MEMORY: &str = "tt_render: out of memory\n";
@@ -35,11 +34,11 @@ pub(crate) fn tell_line<E: Sink>(line: Result<String, AllocError>, code: u8, err
 {
     match ended(line) {
         Ok(text) => {
-            print(error, &text);
+            print_text(error, &text);
             code
         }
         Err(AllocError) => {
-            print(error, NO_MEMORY);
+            print_text(error, NO_MEMORY);
             status(&RunFault::Memory)
         }
     }
@@ -52,12 +51,4 @@ fn ended(line: Result<String, AllocError>) -> Result<String, AllocError>
     let mut text = line?;
     text.push_str("\n")?;
     Ok(text)
-}
-
-/// Prints a text on standard error. Where that fails, there is no other place for a report.
-pub(crate) fn print<E: Sink>(error: &mut E, text: &str)
-    requires { E.has_failed error.old ≡ false }
-    ensures { Prints (errors_of E.written E.has_failed error.old error.new) text.now }
-{
-    let _ = write_all_of(error, text.as_bytes());
 }

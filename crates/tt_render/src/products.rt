@@ -1,9 +1,9 @@
 //! The product of a text: its output, and how it is written.
 
-ghost use Rattle.std.specs.Io.KnownBytes.{Appends};
-ghost use Rattle.std.specs.Prelude.{◌≡◌, ◌<◌, false, is_err, length, take, Ok, IfOk, IfErr, OnOk};
+ghost use Rattle.std.specs.Prelude.{◌≡◌, false, Ok, IfOk};
 ghost use Rattle.tt_core.specs.Outcomes.{GivesUnless, draw_font_fault};
 ghost use Rattle.tt_line.specs.Layout.{text_glyphs};
+ghost use Rattle.tt_pbm.specs.Writing.{Writes};
 ghost use Rattle.tt_picture.specs.Pictures.{IsReady, image_of};
 ghost use Rattle.tt_render.specs.Texts.{IsMadeBy, measure_by, picture_by, product_of};
 ghost use Rattle.tt_render.specs.TextsOutcome.{CanGoOut, bytes_in, cost_in, unfitted_in};
@@ -131,10 +131,7 @@ pub(crate) fn make_output(
 pub(crate) fn write_output<W: Sink>(out: &mut W, output: &mut Output) -> Result<(), Cut>
     requires out { W.has_failed out.old ≡ false }
     requires ready { CanGoOut output.old }
-    ensures all { OnOk result (Appends (W.written out.old) (W.written out.new) (bytes_in output.old)) }
-    ensures part { IfErr result (λ cut. Appends (W.written out.old) (W.written out.new) (take cut.sent (bytes_in output.old))) }
-    ensures within { IfErr result (λ cut. cut.sent < length (bytes_in output.old)) }
-    ensures failure { W.has_failed out.new ≡ is_err result }
+    ensures { Writes result (W.written out.old) (W.written out.new) (W.has_failed out.new) (bytes_in output.old) }
 {
     match output {
         Output::Picture(drawn) => write_picture(out, drawn),
