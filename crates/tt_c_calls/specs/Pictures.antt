@@ -4,7 +4,7 @@ use Rattle.std.specs.Prelude.{◌≡◌, ◌≢◌, refl, ℕ, ◌*◌, ◌-◌,
 use Rattle.tt_core.specs.Bits.{stride}
 use Rattle.tt_core.specs.Outcomes.{◌>>=◌}
 use Rattle.tt_render_run.specs.Outcome.{of_font}
-use Rattle.tt_render.specs.Texts.{IsMadeBy, picture_by}
+use Rattle.tt_render.specs.Products.{IsMadeBy, picture_by}
 use Rattle.tt_strike.specs.Job.{Job, tested}
 use Rattle.tt_picture.specs.Pictures.{Image, IsReady, Picture, image_of}
 use Rattle.tt_strike.specs.Refusals.{Refused, as_font, as_job}

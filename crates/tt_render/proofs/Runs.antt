@@ -30,7 +30,8 @@ use Rattle.tt_render_run.specs.File.{as_file, file_pictured}
 use Rattle.tt_render_run.proofs.Files.{file_made}
 use Rattle.tt_render.specs.RunLaws.{LinesAreRuns, LinesAreTexts, TextsAreRuns, bytes_of}
 use Rattle.tt_render.specs.Settings.{job_by, strike_by, strike_of}
-use Rattle.tt_render.specs.Texts.{TextAnswer, TextRefusal, answer_of, as_text, missing_tested, not_utf8, picture_by, product_of, refused, text_answer}
+use Rattle.tt_render.specs.Products.{picture_by, product_of}
+use Rattle.tt_render.specs.Texts.{TextAnswer, TextRefusal, answer_of, as_text, missing_tested, not_utf8, refused, text_answer}
 
 -- a text with a picture has a report
 report_is : (face : Face) (a : Job) (line : Placement) (s : Fitter) (shapes : List Shape)

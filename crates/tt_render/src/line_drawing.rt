@@ -8,7 +8,8 @@ ghost use Rattle.tt_render.specs.LinesDefects.{IsDefectBy, LinesTell, LinesTellD
 ghost use Rattle.tt_render_run.specs.Outcome.{traffic_of};
 ghost use Rattle.tt_render.specs.Printing.{errors_of};
 ghost use Rattle.tt_render_run.specs.Reading.{font_reader_of};
-ghost use Rattle.tt_render.specs.TextsOutcome.{CanGoOut, FailsByStop, FindsLine, FontLinesGive, IsOfText, LinesGive, TellsOf, answer_view, refusal_font_fault, told, without_line};
+ghost use Rattle.tt_render.specs.Products.{CanGoOut};
+ghost use Rattle.tt_render.specs.TextsOutcome.{FailsByStop, FindsLine, FontLinesGive, IsOfText, LinesGive, TellsOf, answer_view, refusal_font_fault, told, without_line};
 
 use crate::lines::{LINE_LIMIT, LinePlace, LineReader, NextLine};
 use crate::printing::print_text;

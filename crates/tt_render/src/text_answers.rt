@@ -3,8 +3,9 @@
 ghost use Rattle.std.specs.Prelude.{◌≡◌, IfOk};
 ghost use Rattle.tt_core.specs.Outcomes.{GivesUnless, IfTold};
 ghost use Rattle.tt_line.specs.Layout.{text_glyphs};
+ghost use Rattle.tt_render.specs.Products.{CanGoOut};
 ghost use Rattle.tt_render.specs.Texts.{missing_tested, text_answer};
-ghost use Rattle.tt_render.specs.TextsOutcome.{CanGoOut, IsOfText, TellsOf, answer_view, refusal_font_fault, told, without_line};
+ghost use Rattle.tt_render.specs.TextsOutcome.{IsOfText, TellsOf, answer_view, refusal_font_fault, told, without_line};
 ghost use Rattle.tt_strike.specs.Defects.{IsLineDefect, TellsDefects};
 ghost use Rattle.tt_strike.specs.Strikes.{job_of};
 

@@ -4,9 +4,10 @@ ghost use Rattle.std.specs.Prelude.{◌≡◌, ◌≤◌, false, length, Ok, Non
 ghost use Rattle.tt_core.specs.Limits.{font_limit};
 ghost use Rattle.tt_render_run.specs.Outcome.{traffic_of};
 ghost use Rattle.tt_render.specs.Printing.{errors_of};
+ghost use Rattle.tt_render.specs.Products.{CanGoOut};
 ghost use Rattle.tt_render.specs.Settings.{job_by, strike_of};
 ghost use Rattle.tt_render.specs.Texts.{text_answer};
-ghost use Rattle.tt_render.specs.TextsOutcome.{CanGoOut, FontTextGives, ReadiesText, TellsOf, TextTellsDefects, TextTellsDefectsOf};
+ghost use Rattle.tt_render.specs.TextsOutcome.{FontTextGives, ReadiesText, TellsOf, TextTellsDefects, TextTellsDefectsOf};
 ghost use Rattle.tt_strike.specs.Defects.{IsRunDefect};
 ghost use Rattle.tt_strike.specs.Job.{tested};
 
