@@ -11,7 +11,7 @@ ghost use Rattle.tt_c_calls.specs.Pictures.{DrawsBand};
 
 use std::alloc::Global;
 use tt_c_calls::{
-    Band, CAnswer, CCharacter, CFont, CGlyph, CJob, CLine, CMeasure, CPicture, Texts,
+    Band, CAnswer, CCharacter, CFont, CGlyph, CJob, CLine, CMeasure, CPicture, TextRequest, Texts,
 };
 
 /// `tt_c_calls::open`.
@@ -52,7 +52,8 @@ pub extern "C" fn tt_measure(
     ensures status { result ≡ answer.new.status }
     ensures measures { MeasuresText job.now text.now font.now told.old told.new answer.new }
 {
-    *answer = tt_c_calls::measure(alloc, font, text, job, told);
+    let request = TextRequest { font, text, job };
+    *answer = tt_c_calls::measure(alloc, request, told);
     answer.status
 }
 
@@ -69,7 +70,8 @@ pub extern "C" fn tt_characters(
     ensures status { result ≡ answer.new.status }
     ensures places { PlacesCharacters job.now text.now font.now characters.old characters.new answer.new }
 {
-    *answer = tt_c_calls::characters(alloc, font, text, job, characters);
+    let request = TextRequest { font, text, job };
+    *answer = tt_c_calls::characters(alloc, request, characters);
     answer.status
 }
 
@@ -91,7 +93,8 @@ pub extern "C" fn tt_draw(
         first: 0,
         count: 4096,
     };
-    *answer = tt_c_calls::draw_band(alloc, font, text, job, whole, rows, told);
+    let request = TextRequest { font, text, job };
+    *answer = tt_c_calls::draw_band(alloc, request, whole, rows, told);
     answer.status
 }
 
@@ -112,7 +115,8 @@ pub extern "C" fn tt_draw_band(
     ensures draws { DrawsBand job.now text.now font.now first count rows.old rows.new told.old told.new answer.new }
 {
     let band = Band { first, count };
-    *answer = tt_c_calls::draw_band(alloc, font, text, job, band, rows, told);
+    let request = TextRequest { font, text, job };
+    *answer = tt_c_calls::draw_band(alloc, request, band, rows, told);
     answer.status
 }
 

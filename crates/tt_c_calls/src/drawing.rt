@@ -3,7 +3,7 @@
 ghost use Rattle.tt_c_calls.specs.Pictures.{DrawsBand};
 
 use crate::answer::{CAnswer, answer_of};
-use crate::asked::CJob;
+use crate::asked::TextRequest;
 use crate::pictures::{Band, CPicture, picture_of, write_band};
 use std::alloc::Global;
 
@@ -17,16 +17,14 @@ use std::alloc::Global;
 /// `rows` and `told` are unchanged.
 pub fn draw_band(
     alloc: Global,
-    font: &[u8],
-    text: &[u8],
-    job: &CJob,
+    request: TextRequest,
     band: Band,
     rows: &mut [u8],
     told: &mut CPicture,
 ) -> CAnswer
-    ensures { DrawsBand job.now text.now font.now band.first band.count rows.old rows.new told.old told.new result }
+    ensures { DrawsBand request.job.now request.text.now request.font.now band.first band.count rows.old rows.new told.old told.new result }
 {
-    let mut picture = match picture_of(alloc, font, text, job) {
+    let mut picture = match picture_of(alloc, request) {
         Ok(picture) => picture,
         Err(fault) => return answer_of(fault),
     };

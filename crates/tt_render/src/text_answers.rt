@@ -28,17 +28,12 @@ pub(crate) struct ReadyText {
 /// The characters of a text without a glyph that are reported. Error: Missing, the first, where they are refused. The
 /// caller knows the line.
 #[tactic(auto, unfolding(crate::specs::Texts::missing_tested))]
-fn missing_of(
-    alloc: Global,
-    cmap: &Cmap,
-    missing: Missing,
-    text: &str,
-) -> Result<Vec<char>, TextsFault>
-    ensures exact { GivesUnless told (λ v. v.items) (without_line result) (missing_tested cmap.now missing text.now) }
+fn missing_of(alloc: Global, cmap: &Cmap, how: Missing, text: &str) -> Result<Vec<char>, TextsFault>
+    ensures exact { GivesUnless told (λ v. v.items) (without_line result) (missing_tested cmap.now how text.now) }
     ensures font { IfTold refusal_font_fault (without_line result) (λ _. ⊥) }
     ensures serves { IsOfText (without_line result) }
 {
-    match missing {
+    match how {
         Missing::Draw => Ok(Vec::new(alloc)),
         Missing::Tell => Ok(lacking(alloc, cmap, text)?),
         Missing::Refuse => {
