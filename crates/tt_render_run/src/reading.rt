@@ -59,7 +59,9 @@ pub fn read_font<R: Source>(alloc: Global, font: &mut R) -> Result<Vec<u8>, RunF
     let mut file = Vec::new(alloc);
     let mut filled = 0;
     'pieces: loop {
-        make_room(&mut file, filled)?;
+        if let Err(AllocError) = make_room(&mut file, filled) {
+            return Err(RunFault::Memory);
+        }
         match read_behind(font, &mut file, filled) {
             Ok(0) => {
                 file.truncate(filled);
