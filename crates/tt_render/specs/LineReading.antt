@@ -1,5 +1,5 @@
 -- The promises of reading the lines of a text.
-use Rattle.std.specs.Prelude.{◌≡◌, ℕ, ◌-◌, ◌<◌, ◌≤◌, List, [], ◌∷◌, ◌++◌, length, take, drop, vec_len, Option, Some, None, IfSome, Result, Ok, Err, ⊤}
+use Rattle.std.specs.Prelude.{◌≡◌, ℕ, ◌-◌, ◌<◌, ◌≤◌, List, [], ◌∷◌, ◌++◌, length, take, drop, Option, Some, None, IfSome, Result, Ok, Err, ⊤}
 use Rattle.std.specs.Io.KnownBytes.{Consumes, IsAtEnd, Keeps, prepend_known}
 use Rattle.tt_render.specs.declared.lines.LinePlace.{LinePlace}
 use Rattle.tt_render.specs.declared.lines.LineReader.{LineReader}
@@ -34,13 +34,9 @@ LosesLine (Some text) (Some rest) line = lines_of text ≡ line ∷ lines_of res
 abbrev pub BeginsLong : List ℕ → Type 0
 BeginsLong text = (line : List ℕ) × (rest : List (List ℕ)) × (lines_of text ≡ line ∷ rest) × (line_limit < length line)
 
--- the place of a line lies in the buffer
-abbrev pub IsPlace : LineReader → LinePlace → Type 0
-IsPlace r place = (place.from ≤ place.until) × (place.until ≤ vec_len r.buf)
-
 -- the remaining text after reading a line; a line that is too long, and a failed read, leave the text unchanged
 abbrev pub ReadsLine : {E : Type 0} → LineReader → Result NextLine E → Option (List ℕ) → Option (List ℕ) → Type 0
-ReadsLine r (Ok (next.Line place)) before after = IsPlace r place × LosesLine before after (line_at r place)
+ReadsLine r (Ok (next.Line place)) before after = LosesLine before after (line_at r place)
 ReadsLine r (Ok next.Long) before after = IfSome before BeginsLong × Keeps before after
 ReadsLine r (Ok next.End) before after = IfSome before (λ text. lines_of text ≡ []) × IsAtEnd after
 ReadsLine r (Err e) before after = Keeps before after

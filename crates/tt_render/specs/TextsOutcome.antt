@@ -13,7 +13,7 @@ use Rattle.tt_render.specs.declared.refusal.Refusal.TheVariants as reason
 use Rattle.tt_render.specs.declared.refusal.TextsFault.{TextsFault}
 use Rattle.tt_render.specs.declared.lines.LinePlace.{LinePlace}
 use Rattle.tt_render.specs.declared.lines.LineReader.{LineReader}
-use Rattle.tt_render.specs.LineReading.{BeginsLong, IsPlace, LosesLine, line_at}
+use Rattle.tt_render.specs.LineReading.{BeginsLong, LosesLine, line_at}
 use Rattle.tt_render.specs.Lines.{AreAffordable, drawn_from, line_drawn, line_limit, lines_budget, lines_cost, lines_limit, lines_of, text_drawn}
 use Rattle.tt_render_run.specs.Outcome.{Traffic, SendsAll, SendsFirst, ReadsNothing, ReadsToEnd, WritesNothing, WriterServes, WriterFails}
 use Rattle.tt_render.specs.Printing.{Errors, Prints, PrintsNothing}
@@ -87,7 +87,7 @@ IsNotBegun drawn used why before =
 abbrev pub FindsLine : LineReader → ℕ → ℕ → Result (Option LinePlace) Refusal → Option (List ℕ) → Option (List ℕ)
     → Type 0
 FindsLine r drawn used (Ok (Some place)) before after =
-    IsPlace r place × LosesLine before after (line_at r place) × (length (line_at r place) ≤ line_limit)
+    LosesLine before after (line_at r place) × (length (line_at r place) ≤ line_limit)
     × (used ≤ lines_budget drawn)
 FindsLine r drawn used (Ok None) before after = IfSome before (λ text. lines_of text ≡ []) × IsAtEnd after
 FindsLine r drawn used (Err reason.Read) before after = ⊤

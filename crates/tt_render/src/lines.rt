@@ -31,6 +31,8 @@ pub(crate) struct LineReader {
 pub(crate) struct LinePlace {
     from: usize,
     until: usize,
+    ghost order: { from ≤ until },
+    ghost within: { until ≤ line_room },
 }
 
 /// What follows in a text.
@@ -110,8 +112,6 @@ impl LineReader {
     /// Gives out a line of `len` bytes before its line feed.
     fn give_line(&mut self, len: usize) -> LinePlace
         requires { len < length (held self.old) }
-        ensures place { result.from ≤ result.until }
-        ensures within { result.until ≤ vec_len self.new.buf }
         ensures line { line_at self.new result ≡ before_feed (take len (held self.old)) }
         ensures rest { held self.new ≡ drop (len + 1) (held self.old) }
     {
@@ -127,8 +127,6 @@ impl LineReader {
 
     /// Gives out all held bytes as a line without a line feed.
     fn give_rest(&mut self) -> LinePlace
-        ensures place { result.from ≤ result.until }
-        ensures within { result.until ≤ vec_len self.new.buf }
         ensures line { line_at self.new result ≡ held self.old }
         ensures rest { held self.new ≡ [] }
     {
@@ -176,8 +174,6 @@ impl LineReader {
 
     /// The bytes of the line given out last.
     pub(crate) fn line(&self, place: LinePlace) -> &[u8]
-        requires place { place.from ≤ place.until }
-        requires within { place.until ≤ vec_len self.now.buf }
         ensures { result.now ≡ line_at self.now place }
     {
         &self.buf[place.from..place.until]
