@@ -26,16 +26,11 @@ pub extern "C" fn tt_open(font: &[u8], told: &mut CFont, answer: &mut CAnswer) -
 
 /// `tt_c_calls::map`.
 #[unsafe(no_mangle)]
-pub extern "C" fn tt_map(
-    font: &[u8],
-    text: &[u8],
-    glyphs: &mut [CGlyph],
-    answer: &mut CAnswer,
-) -> u32
+pub extern "C" fn tt_map(font: &[u8], text: &[u8], room: &mut [CGlyph], answer: &mut CAnswer) -> u32
     ensures status { result ≡ answer.new.status }
-    ensures maps { MapsText text.now font.now glyphs.old glyphs.new answer.new }
+    ensures maps { MapsText text.now font.now room.old room.new answer.new }
 {
-    *answer = tt_c_calls::map(font, text, glyphs);
+    *answer = tt_c_calls::map(font, text, room);
     answer.status
 }
 

@@ -7,7 +7,7 @@ ghost use Rattle.tt_render.specs.Lines.{IsFirstFeed, before_feed, line_room};
 
 use std::alloc::{AllocError, Global};
 use tt_core::{IoFailed, Source};
-use tt_render_run::read_behind;
+use tt_render_run::read_after;
 
 /// The longest line, in bytes.
 pub(crate) const LINE_LIMIT: usize = 16_384;
@@ -104,7 +104,7 @@ impl LineReader {
     {
         self.move_to_front();
         let until = self.until;
-        let n = read_behind(source, &mut self.buf, until)?;
+        let n = read_after(source, &mut self.buf, until)?;
         self.until = until + n;
         Ok(n)
     }

@@ -77,7 +77,8 @@ returns-in-Err-clause-writes g c =
     let many = c.requires.ready.rows in
     let within : n * r ≤ length p.rows = omega (arith, ends, many) in
     let cut = rw so_far.picture at c.in-Err.ensures.writes in
-    let few : sent < n = omega (arith, cut.within, row_len n (n * r) p.rows (omega (arith, ends, many))) in
+    let inside : sent < length (row_at p r) = cut.within in
+    let few : sent < n = omega (arith, inside, row_len n (n * r) p.rows (omega (arith, ends, many))) in
     let fewer : sent ≤ n = omega (arith, few) in
     record {
       all = tt;
@@ -98,5 +99,6 @@ returns-in-Err-clause-bound g c =
     let ends = row_ends p.frame.width p.frame.height r below in
     let few = few_bytes p.frame.width p.frame.height c.requires.ready.frame.width_high c.requires.ready.height in
     let cut = rw so_far.picture at c.in-Err.ensures.writes in
+    let inside : c.in-Err.cut.sent < length (row_at p r) = cut.within in
     let long = row_len n (n * r) p.rows (omega (arith, ends, c.requires.ready.rows)) in
-    omega (arith, so_far.sent, ends, few, cut.within, long)
+    omega (arith, so_far.sent, ends, few, inside, long)

@@ -1,7 +1,7 @@
 use Rattle.std.proofs.Common.{arith, length-take-le}
 use borrow.Rule.Slice.PartMut.{take_put}
 use Rattle.tt_render_run.proofs.Known.{consumes_in_place}
-use Rattle.tt_render_run.proofs.reading.read_behind.Goals as goal
+use Rattle.tt_render_run.proofs.reading.read_after.Goals as goal
 
 pub returns-clause-front : goal.returns-clause-front
 returns-clause-front g c = take_put _ _ c.args.buf.now _ (omega (arith, c.requires))

@@ -1,7 +1,7 @@
 use Rattle.std.proofs.Common.{ap, arith}
 use Rattle.std.proofs.lemmas.Int.{ints}
 use Rattle.tt_test_answers.proofs.Near.{near_of}
-use Rattle.tt_test_answers.proofs.outlines.chords_twice.Goals as goal
+use Rattle.tt_test_answers.proofs.outlines.tape_of.Goals as goal
 
 pub chords-requires : goal.chords-requires
 chords-requires c = record {
