@@ -17,7 +17,7 @@ returns-then-known-clause-outcome g c =
     let left = g.R.Source.left in
     let r = c.pieces.self in
     let text = c.pieces.invariant.text in
-    let taken = length-take-le r.until r.buf.items r.within in
+    let taken = length-take-le r.until r.buf.items (omega (arith, r.within)) in
     let long : line_limit + 1 < length (held r) =
     omega (arith, length-drop r.from (take r.until r.buf.items), taken, c.if-known.true) in
     let begins = begins_long (text_left c.args.self.now (left c.args.source.now)) (left c.pieces.source) (held r) text
@@ -34,7 +34,7 @@ returns-then-known-eq0-clause-outcome g c =
     let n = c.in_ok-read_more.field-0 in
     let more = c.in_ok-read_more.ensures.more in
     let same = holds_the_same (left c.pieces.source) after (held r) new n more c.if-branch-eq0.true in
-    let taken = length-take-le r.until r.buf.items r.within in
+    let taken = length-take-le r.until r.buf.items (omega (arith, r.within)) in
     let none : length new ≡ 0 =
     rw same (omega (arith, length-drop r.from (take r.until r.buf.items), taken, c.if-known-eq0.true)) in
     no_more_lines before after new
@@ -52,7 +52,7 @@ returns-then-branch-eq0-clause-outcome g c =
     let more = c.in_ok-read_more.ensures.more in
     let given = c.give_rest.ensures in
     let same = holds_the_same (left c.pieces.source) after (held r) new n more c.if-branch-eq0.true in
-    let taken = length-take-le r.until r.buf.items r.within in
+    let taken = length-take-le r.until r.buf.items (omega (arith, r.within)) in
     let some : 0 < length new =
     rw same (omega (arith, length-drop r.from (take r.until r.buf.items), taken, c.if-known-eq0.false)) in
     let none : All (λ x. x ≢ 10) new = rw same c.in_default.ensures in
