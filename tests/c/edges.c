@@ -31,17 +31,15 @@ static struct tt_answer answer_to(const struct call *call, struct room with, str
   return answer;
 }
 
-/* Each call that takes a text, and whether it takes a job. */
-static const struct call *const with_text[] = {&maps, &draws, &draws_band, &measures, &characters};
-#define CALLS (sizeof with_text / sizeof *with_text)
-
-/* All calls refuse it with that status and number; those that take no job only if `all` says so. */
+/* All calls of a text refuse it with that status and number; those that take no job only if `all` says so. */
 static void all_refuse(const char *name, struct room with, struct room text, struct tt_job job, bool all,
                        uint32_t status, uint32_t number) {
-  for (size_t i = all ? 0 : 1; i < CALLS; i++) {
-    struct tt_answer answer = answer_to(with_text[i], with, text, job);
-    expect(answer.status == status && answer.number == number, "%s: status %u, number %u", with_text[i]->name,
-           answer.status, answer.number);
+  for (const struct call *const *it = every_call; *it; it++) {
+    const struct call *call = *it;
+    if (!call->has_text || (!call->has_job && !all)) continue;
+    struct tt_answer answer = answer_to(call, with, text, job);
+    expect(answer.status == status && answer.number == number, "%s: status %u, number %u", call->name, answer.status,
+           answer.number);
   }
   struct question q = question_of(with, text, job);
   uint64_t end = text.size;

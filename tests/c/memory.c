@@ -14,7 +14,7 @@
 /* So many refusals may be done without, and of lines so many a line. */
 #define SPARED 5
 
-/* A call asks for so many blocks at the least. */
+/* tt_draw_lines asks for so many blocks at the least. */
 #define LEAST 5
 
 static struct room read_font(const char *name) {
@@ -37,7 +37,7 @@ static void count_them(long asked_for, long least, long spared, long most) {
   expect(spared <= most, "%ld refusals were done without", spared);
 }
 
-static void refuse_each(const struct call *call, const struct question *q, long least, const char *of) {
+static void refuse_each(const struct call *call, const struct question *q, const char *of) {
   struct outcome whole = tried(call, q);
   long nth = 0, spared = 0;
   for (;; nth++) {
@@ -55,7 +55,7 @@ static void refuse_each(const struct call *call, const struct question *q, long 
     forget(it);
     if (blocks_refused == 0) break;
   }
-  count_them(nth, least, spared, SPARED);
+  count_them(nth, call->blocks, spared, SPARED);
   forget(whole);
   verdict("%s%s, with each of %ld blocks refused", call->name, of, nth);
 }
@@ -96,7 +96,7 @@ static void refuse_to_messages(void) {
       {.status = TT_MEMORY}};
   for (size_t i = 0; i < sizeof answers / sizeof *answers; i++) {
     struct question q = {.told = held(&answers[i], sizeof answers[i])};
-    refuse_each(&messages, &q, 1, "");
+    refuse_each(&messages, &q, "");
     give_up(q.told);
   }
 }
@@ -124,10 +124,9 @@ int main(int count, char **words) {
       struct tt_job job = {.size = 16, .margin = 0, .fit = fit, .grow = grow};
       struct question q = question_of(font, texts[0], job);
       q.count = UINT32_MAX;
-      refuse_each(&draws, &q, LEAST, of);
-      refuse_each(&draws_band, &q, LEAST, of);
-      refuse_each(&measures, &q, LEAST, of);
-      refuse_each(&characters, &q, LEAST, of);
+      for (const struct call *const *it = every_call; *it; it++) {
+        if ((*it)->has_job) refuse_each(*it, &q, of);
+      }
       give_up(q.ends);
       q.text = together;
       q.ends = held(ends, lines * sizeof *ends);
@@ -137,14 +136,17 @@ int main(int count, char **words) {
     }
   }
   struct question q = question_of(font, texts[0], (struct tt_job){16, 0, TT_FULL, 0});
-  refuse_each(&opens, &q, 0, "");
-  refuse_each(&maps, &q, 0, "");
-  blocks_granted = 0;
-  forget(tried(&opens, &q));
-  forget(tried(&maps, &q));
-  expect(blocks_granted == 0, "tt_open or tt_map asks for a block");
-  blocks_granted = -1;
-  verdict("tt_open and tt_map take no memory");
+  for (const struct call *const *it = every_call; *it; it++) {
+    if ((*it)->blocks == 0) refuse_each(*it, &q, "");
+  }
+  for (const struct call *const *it = every_call; *it; it++) {
+    if ((*it)->blocks > 0) continue;
+    blocks_granted = 0;
+    forget(tried(*it, &q));
+    expect(blocks_granted == 0, "%s asks for a block", (*it)->name);
+    blocks_granted = -1;
+  }
+  verdict("calls that take no memory ask for no block");
   refuse_to_messages();
   give_up(nothing);
   return 0;

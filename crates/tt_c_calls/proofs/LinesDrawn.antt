@@ -23,7 +23,7 @@ use Rattle.tt_c_calls.specs.Answers.{job_answer}
 use Rattle.tt_c_calls.specs.Refusals.{Refusal, as_call}
 use Rattle.tt_c_calls.specs.Lines.{AreAffordable, cost_asked, cost_taken, first_taken, lines_taken, AreEnds, AreLinesDrawn, DrawsLines, EndsWith, IsLineDrawn, IsLineWritten, IsTextStopped, line_between, line_bytes, line_told, lines_by, lines_bytes, start_of, stopped_answer}
 use Rattle.tt_c_calls.specs.Pictures.{IsPictureOf, IsWritten}
-use Rattle.tt_render.specs.Texts.{IsMadeBy}
+use Rattle.tt_render.specs.Products.{IsMadeBy}
 use Rattle.tt_picture.specs.Pictures.{Picture}
 
 -- equal lists have equal parts

@@ -177,6 +177,16 @@ abbrev pub LineDefectStands : (Fault → Type 0) → CAnswer → Type 0
 LineDefectStands IsOne a = a.status ≡ 1 → (f : Fault)
     × (a ≡ record (fault_answer f) { bytes = a.bytes; count = a.count }) × IsOne f
 
+-- a call drew lines, or says which line stopped it, or why there is none
+pub record DrawsTexts (j : CJob) (font texts ends rows_before rows : List ℕ) (lines_before lines : List CLine)
+    (a : CAnswer) : Type 0 where
+  pub order : AnswersInOrder (lines_wanted j font) (length lines_before) (length ends) a
+  pub kept : length lines_before < length ends → (rows ≡ rows_before) × (lines ≡ lines_before)
+  pub drawn : length ends ≤ length lines_before → (used : ℕ)
+      × DrawsLines j font texts ends rows_before rows lines_before lines used a.count
+      × EndsWith j font texts ends (length rows_before) used a
+  pub stands : LineDefectStands (IsLinesDefect j font texts ends a.count) a
+
 -- worked values
 an_unknown_fit_comes_before_the_room : AnswersInOrder (Err unknown_fit) 0 1 (plain_answer 2 66)
 an_unknown_fit_comes_before_the_room = refl

@@ -1,15 +1,16 @@
 -- No part of the standard: the characters of a text in a font, for C (profile).
-use Rattle.std.specs.Prelude.{◌≡◌, ℕ, List, ◌++◌, chars, length, drop, map, Result, Ok}
+use Rattle.std.specs.Prelude.{◌≡◌, ◌≢◌, ℕ, List, ◌++◌, chars, length, drop, map, Result, Ok}
 use Rattle.tt_cmap.specs.Lookup.{Cmap, glyph_of}
 use Rattle.tt_core.specs.Outcomes.{◌>>=◌}
 use Rattle.tt_metrics.specs.Metrics.{Metrics, advance_of}
 use Rattle.tt_render_run.specs.Outcome.{of_font}
 use Rattle.tt_strike.specs.Job.{text_tested}
 use Rattle.tt_strike.specs.Refusals.{as_font, as_job}
+use Rattle.tt_face.specs.Defects.{IsFaceDefect}
 use Rattle.tt_face.specs.Faces.{face_of}
 use Rattle.tt_c_calls.specs.declared.answer.CAnswer.{CAnswer}
 use Rattle.tt_c_calls.specs.declared.mapping.CGlyph.{CGlyph}
-use Rattle.tt_c_calls.specs.Answers.{done_answer}
+use Rattle.tt_c_calls.specs.Answers.{DefectStands, TellsRefusal, done_answer}
 use Rattle.tt_c_calls.specs.Asked.{text_asked}
 use Rattle.tt_c_calls.specs.Measures.{IsEntriesSmall}
 use Rattle.tt_c_calls.specs.Refusals.{Refusal, as_call}
@@ -42,3 +43,12 @@ AreGlyphsOf text font old new a =
 abbrev pub IsGlyphsSmall : List ℕ → List ℕ → ℕ → CAnswer → Type 0
 IsGlyphsSmall text font room a =
     (glyphs : List CGlyph) × (glyphs_wanted text font ≡ Ok glyphs) × IsEntriesSmall (length glyphs) room a
+
+-- a call wrote the characters of a text at the front of a room, or says why not; it took no memory
+pub record MapsText (text font : List ℕ) (before room : List CGlyph) (a : CAnswer) : Type 0 where
+  pub done : a.status ≡ 0 → AreGlyphsOf text font before room a
+  pub refused : a.status ≢ 0 → a.status ≢ 7 → TellsRefusal (glyphs_wanted text font) a
+  pub small : a.status ≡ 7 → IsGlyphsSmall text font (length before) a
+  pub memory : a.status ≢ 5
+  pub kept : a.status ≢ 0 → room ≡ before
+  pub stands : DefectStands (IsFaceDefect font) a

@@ -1,7 +1,7 @@
 -- No part of the standard: the measure of a text, for C (profile).
-use Rattle.std.specs.Prelude.{◌≡◌, ℕ, ◌<◌, pos, List, ◌++◌, length, drop, map, Option, Some, None, Result, Ok, IsOkAnd}
+use Rattle.std.specs.Prelude.{◌≡◌, ◌≢◌, ℕ, ◌<◌, pos, List, ◌++◌, length, drop, map, Option, Some, None, Result, Ok, IsOkAnd}
 use Rattle.tt_core.specs.Outcomes.{◌>>=◌}
-use Rattle.tt_render.specs.Texts.{measure_by}
+use Rattle.tt_render.specs.Products.{measure_by}
 use Rattle.tt_strike.specs.Measures.{Measure}
 use Rattle.tt_strike.specs.Report.{report_by}
 use Rattle.tt_face.specs.Faces.{face_of}
@@ -13,8 +13,8 @@ use Rattle.tt_c_calls.specs.declared.asked.CJob.{CJob}
 use Rattle.tt_c_calls.specs.declared.measuring.CBox.{CBox}
 use Rattle.tt_c_calls.specs.declared.measuring.CCharacter.{CCharacter}
 use Rattle.tt_c_calls.specs.declared.measuring.CMeasure.{CMeasure}
-use Rattle.tt_c_calls.specs.Answers.{done_answer, room_answer}
-use Rattle.tt_c_calls.specs.Asked.{asked, grows}
+use Rattle.tt_c_calls.specs.Answers.{DefectStands, TellsRefusal, done_answer, room_answer}
+use Rattle.tt_c_calls.specs.Asked.{IsAskedDefect, asked, grows}
 use Rattle.tt_c_calls.specs.Pictures.{made_of}
 use Rattle.tt_c_calls.specs.Refusals.{Refusal, as_call}
 
@@ -62,6 +62,13 @@ IsMeasureTold j text font told a =
     (m : Measure) × (unfitted : List Unfitted) × IsMeasureOf j text font m unfitted
     × (told ≡ measure_told m (length unfitted)) × (a ≡ done_answer 0 0)
 
+-- a call measured a text, or says why not
+pub record MeasuresText (j : CJob) (text font : List ℕ) (before told : CMeasure) (a : CAnswer) : Type 0 where
+  pub done : a.status ≡ 0 → IsMeasureTold j text font told a
+  pub refused : a.status ≢ 0 → TellsRefusal (measure_wanted j text font) a
+  pub kept : a.status ≢ 0 → told ≡ before
+  pub stands : DefectStands (IsAskedDefect j text font) a
+
 -- some characters were written at the front of a room
 abbrev pub AreCharactersTold : List CharacterMeasure → List CCharacter → List CCharacter → CAnswer → Type 0
 AreCharactersTold measured old new a =
@@ -79,3 +86,12 @@ AreCharactersOf j text font old new a =
 abbrev pub IsCharactersSmall : CJob → List ℕ → List ℕ → ℕ → CAnswer → Type 0
 IsCharactersSmall j text font room a =
     (m : Measure) × (measure_wanted j text font ≡ Ok m) × IsEntriesSmall (length m.characters) room a
+
+-- a call wrote the characters of a measured text at the front of a room, or says why not
+pub record PlacesCharacters (j : CJob) (text font : List ℕ) (before room : List CCharacter) (a : CAnswer) : Type 0
+  where
+    pub done : a.status ≡ 0 → AreCharactersOf j text font before room a
+    pub refused : a.status ≢ 0 → a.status ≢ 7 → TellsRefusal (measure_wanted j text font) a
+    pub small : a.status ≡ 7 → IsCharactersSmall j text font (length before) a
+    pub kept : a.status ≢ 0 → room ≡ before
+    pub stands : DefectStands (IsAskedDefect j text font) a

@@ -1,5 +1,5 @@
 -- No part of the standard: the message of a call's answer, for a person (profile).
-use Rattle.std.specs.Prelude.{◌≡◌, refl, ℕ, ◌+◌, ◌<◌, ◌==◌, if◌then◌else◌, List, [], ◌∷◌, ◌++◌, codes, decimal, drop, length, Option, Some, None}
+use Rattle.std.specs.Prelude.{◌≡◌, ◌≢◌, refl, ℕ, ◌+◌, ◌<◌, ◌==◌, if◌then◌else◌, List, [], ◌∷◌, ◌++◌, codes, decimal, drop, length, Option, Some, None}
 use Rattle.std.specs.Fmt.{digits}
 use Rattle.tt_core.specs.declared.fault.JobFault.{JobFault}
 use Rattle.tt_core.specs.declared.fault.JobFault.TheVariants as job
@@ -9,7 +9,7 @@ use Rattle.tt_core.specs.Faults.{Fault, fault_at, is_ascii, why_name, why_number
 use Rattle.tt_render_run.specs.Messages.{font_line, job_line, line_of}
 use Rattle.tt_render_run.specs.declared.fault.RunFault.TheVariants as run
 use Rattle.tt_c_calls.specs.declared.answer.CAnswer.{CAnswer}
-use Rattle.tt_c_calls.specs.Answers.{done_answer, fault_answer, job_answer, plain_answer, room_answer}
+use Rattle.tt_c_calls.specs.Answers.{done_answer, fault_answer, job_answer, memory_answer, plain_answer, room_answer}
 
 -- a defect at a table and an offset, if the tag is ASCII
 abbrev pub ascii_fault : List ℕ → ℕ → Why → Option Fault
@@ -69,6 +69,13 @@ IsTextWritten text old new a =
 -- a text and a zero are more than a room has, and the answer reports their size
 abbrev pub IsTextSmall : List ℕ → ℕ → CAnswer → Type 0
 IsTextSmall text room a = (room < length text + 1) × (a ≡ room_answer (length text + 1) 0)
+
+-- a call wrote the message of an answer at the front of a room, or says why not
+pub record WritesMessage (told : CAnswer) (before room : List ℕ) (a : CAnswer) : Type 0 where
+  pub done : a.status ≡ 0 → IsTextWritten (message_of told) before room a
+  pub refused : a.status ≢ 0 → a.status ≢ 7 → a ≡ memory_answer
+  pub small : a.status ≡ 7 → IsTextSmall (message_of told) (length before) a
+  pub kept : a.status ≢ 0 → room ≡ before
 
 -- worked values
 an_instruction : message_of (fault_answer (fault_at (codes "glyf") 14 why.DivZero))

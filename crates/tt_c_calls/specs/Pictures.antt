@@ -1,10 +1,10 @@
 -- No part of the standard: the rows of a picture, for C (profile). Netpbm, "PBM", format P4, has the bytes of a row;
 -- each row begins with a new byte.
-use Rattle.std.specs.Prelude.{◌≡◌, refl, ℕ, ◌*◌, ◌-◌, ◌<◌, min, pos, ◌+ℤ◌, List, ◌++◌, length, take, drop, Result, Ok, IsOkAnd}
+use Rattle.std.specs.Prelude.{◌≡◌, ◌≢◌, refl, ℕ, ◌*◌, ◌-◌, ◌<◌, min, pos, ◌+ℤ◌, List, ◌++◌, length, take, drop, Result, Ok, IsOkAnd}
 use Rattle.tt_core.specs.Bits.{stride}
 use Rattle.tt_core.specs.Outcomes.{◌>>=◌}
 use Rattle.tt_render_run.specs.Outcome.{of_font}
-use Rattle.tt_render.specs.Texts.{IsMadeBy, picture_by}
+use Rattle.tt_render.specs.Products.{IsMadeBy, picture_by}
 use Rattle.tt_strike.specs.Job.{Job, tested}
 use Rattle.tt_picture.specs.Pictures.{Image, IsReady, Picture, image_of}
 use Rattle.tt_strike.specs.Refusals.{Refused, as_font, as_job}
@@ -12,8 +12,8 @@ use Rattle.tt_face.specs.Faces.{Face, face_of}
 use Rattle.tt_c_calls.specs.declared.answer.CAnswer.{CAnswer}
 use Rattle.tt_c_calls.specs.declared.asked.CJob.{CJob}
 use Rattle.tt_c_calls.specs.declared.pictures.CPicture.{CPicture}
-use Rattle.tt_c_calls.specs.Answers.{done_answer, room_answer}
-use Rattle.tt_c_calls.specs.Asked.{asked, grows}
+use Rattle.tt_c_calls.specs.Answers.{DefectStands, TellsRefusal, done_answer, room_answer}
+use Rattle.tt_c_calls.specs.Asked.{IsAskedDefect, asked, grows}
 use Rattle.tt_c_calls.specs.Refusals.{Refusal, as_call}
 
 -- a result made from a font's tables, after the tests of the job and then of the font's size
@@ -75,6 +75,16 @@ IsBandSmall p first count room a =
 abbrev pub IsRoomSmall : CJob → List ℕ → List ℕ → ℕ → ℕ → List ℕ → CAnswer → Type 0
 IsRoomSmall j text font first count room a =
     (p : Picture) × IsPictureOf j text font p × IsBandSmall p first count room a
+
+-- a call drew a band of the picture of a text into a room and described the picture, or says why not
+pub record DrawsBand (j : CJob) (text font : List ℕ) (first count : ℕ) (rows_before rows : List ℕ)
+    (told_before told : CPicture) (a : CAnswer) : Type 0 where
+  pub done : a.status ≡ 0 → IsBandDrawn j text font first count rows_before rows told a
+  pub refused : a.status ≢ 0 → a.status ≢ 7 → TellsRefusal (picture_wanted j text font) a
+  pub small : a.status ≡ 7 → IsRoomSmall j text font first count rows_before a
+  pub kept : a.status ≢ 0 → rows ≡ rows_before
+  pub told_kept : a.status ≢ 0 → told ≡ told_before
+  pub stands : DefectStands (IsAskedDefect j text font) a
 
 -- worked values
 the_whole_of_three_rows : band_rows 3 0 4096 ≡ 3

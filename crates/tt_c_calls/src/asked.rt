@@ -27,6 +27,14 @@ pub struct CJob {
     pub grow: u32,
 }
 
+/// A request: a text, the font that draws it, and how.
+#[derive(Clone, Copy)]
+pub struct TextRequest<'a> {
+    pub font: &'a [u8],
+    pub text: &'a [u8],
+    pub job: &'a CJob,
+}
+
 impl CJob {
     /// Whether the picture is enlarged where ink would be cut.
     pub(crate) fn grows(&self) -> bool

@@ -1,12 +1,9 @@
 //! A text drawn into a caller's room.
 
-ghost use Rattle.std.specs.Prelude.{◌≡◌, ◌≢◌};
-ghost use Rattle.tt_c_calls.specs.Answers.{DefectStands, TellsRefusal};
-ghost use Rattle.tt_c_calls.specs.Asked.{IsAskedDefect};
-ghost use Rattle.tt_c_calls.specs.Pictures.{IsBandDrawn, IsRoomSmall, picture_wanted};
+ghost use Rattle.tt_c_calls.specs.Pictures.{DrawsBand};
 
 use crate::answer::{CAnswer, answer_of};
-use crate::asked::CJob;
+use crate::asked::TextRequest;
 use crate::pictures::{Band, CPicture, picture_of, write_band};
 use std::alloc::Global;
 
@@ -20,21 +17,14 @@ use std::alloc::Global;
 /// `rows` and `told` are unchanged.
 pub fn draw_band(
     alloc: Global,
-    font: &[u8],
-    text: &[u8],
-    job: &CJob,
+    request: TextRequest,
     band: Band,
     rows: &mut [u8],
     told: &mut CPicture,
 ) -> CAnswer
-    ensures done { result.status ≡ 0 → IsBandDrawn job.now text.now font.now band.first band.count rows.old rows.new told.new result }
-    ensures refused { result.status ≢ 0 → result.status ≢ 7 → TellsRefusal (picture_wanted job.now text.now font.now) result }
-    ensures small { result.status ≡ 7 → IsRoomSmall job.now text.now font.now band.first band.count rows.old result }
-    ensures kept { result.status ≢ 0 → rows.new ≡ rows.old }
-    ensures told_kept { result.status ≢ 0 → told.new ≡ told.old }
-    ensures stands { DefectStands (IsAskedDefect job.now text.now font.now) result }
+    ensures { DrawsBand request.job.now request.text.now request.font.now band.first band.count rows.old rows.new told.old told.new result }
 {
-    let mut picture = match picture_of(alloc, font, text, job) {
+    let mut picture = match picture_of(alloc, request) {
         Ok(picture) => picture,
         Err(fault) => return answer_of(fault),
     };

@@ -3,7 +3,7 @@
 ghost use Rattle.std.specs.Prelude.{◌≡◌, ◌≢◌, ◌+◌, ◌<◌, ◌≤◌, ℕ, List, length};
 ghost use Rattle.tt_c_calls.specs.Answers.{DefectStands};
 ghost use Rattle.tt_c_calls.specs.Asked.{IsAskedDefect};
-ghost use Rattle.tt_c_calls.specs.Lines.{AnswersInOrder, DrawsLines, EndsWith, IsLineWritten, IsLinesDefect, IsStrikeFor, IsTextStopped, LineDefectStands, lines_wanted, stopped_answer};
+ghost use Rattle.tt_c_calls.specs.Lines.{DrawsLines, DrawsTexts, EndsWith, IsLineWritten, IsLinesDefect, IsStrikeFor, IsTextStopped, LineDefectStands, stopped_answer};
 
 use crate::answer::{CAnswer, answer_of, done, wants_room};
 use crate::asked::{CJob, fit_of, text_of};
@@ -151,10 +151,7 @@ pub fn draw_lines(
     rows: &mut [u8],
     lines: &mut [CLine],
 ) -> (CAnswer, usize)
-    ensures order { AnswersInOrder (lines_wanted job.now font.now) (length lines.old) (length texts.ends.now) result.0 }
-    ensures kept { length lines.old < length texts.ends.now → (rows.new ≡ rows.old) × (lines.new ≡ lines.old) }
-    ensures drawn { length texts.ends.now ≤ length lines.old → (used : ℕ) × DrawsLines job.now font.now texts.bytes.now texts.ends.now rows.old rows.new lines.old lines.new used result.0.count × EndsWith job.now font.now texts.bytes.now texts.ends.now (length rows.old) used result.0 }
-    ensures stands { LineDefectStands (IsLinesDefect job.now font.now texts.bytes.now texts.ends.now result.0.count) result.0 }
+    ensures draws { DrawsTexts job.now font.now texts.bytes.now texts.ends.now rows.old rows.new lines.old lines.new result.0 }
     ensures cached { result.1 ≤ keep }
 {
     let ends = texts.ends;

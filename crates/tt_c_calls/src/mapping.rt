@@ -1,10 +1,7 @@
 //! The glyphs of a text's characters.
 
 ghost use Rattle.std.specs.Prelude.{◌≡◌, ◌≢◌, length, chars, map};
-ghost use Rattle.tt_core.specs.Outcomes.{GivesUnless};
-ghost use Rattle.tt_face.specs.Defects.{IsFaceDefect};
-ghost use Rattle.tt_c_calls.specs.Answers.{DefectStands, TellsRefusal};
-ghost use Rattle.tt_c_calls.specs.Maps.{AreGlyphsOf, AreGlyphsTold, IsGlyphsSmall, glyph_told, glyphs_wanted};
+ghost use Rattle.tt_c_calls.specs.Maps.{AreGlyphsTold, MapsText, glyph_told};
 ghost use Rattle.tt_c_calls.specs.Measures.{IsEntriesSmall};
 
 use crate::answer::{CAnswer, answer_of, done, wants_room};
@@ -58,12 +55,7 @@ fn write_glyphs(face: &Face, text: &str, room: &mut [CGlyph]) -> CAnswer
 /// number of characters; the font is refused, too large, or the text too long; the text is not UTF-8; the room is too
 /// small. Unless the answer is done, `room` is unchanged. It takes no memory.
 pub fn map(font: &[u8], text: &[u8], room: &mut [CGlyph]) -> CAnswer
-    ensures done { result.status ≡ 0 → AreGlyphsOf text.now font.now room.old room.new result }
-    ensures refused { result.status ≢ 0 → result.status ≢ 7 → TellsRefusal (glyphs_wanted text.now font.now) result }
-    ensures small { result.status ≡ 7 → IsGlyphsSmall text.now font.now (length room.old) result }
-    ensures memory { result.status ≢ 5 }
-    ensures kept { result.status ≢ 0 → room.new ≡ room.old }
-    ensures stands { DefectStands (IsFaceDefect font.now) result }
+    ensures { MapsText text.now font.now room.old room.new result }
 {
     let text = match text_of(text) {
         Ok(text) => text,

@@ -1,16 +1,15 @@
 //! A text measured.
 
-ghost use Rattle.std.specs.Prelude.{◌≡◌, ◌≢◌, ◌<◌, length, IfOk};
+ghost use Rattle.std.specs.Prelude.{◌≡◌, ◌≢◌, length, IfOk};
 ghost use Rattle.tt_core.specs.Outcomes.{GivesUnless};
 ghost use Rattle.tt_strike.specs.Defects.{TellsDefects};
 ghost use Rattle.tt_strike.specs.Measures.{measure_view};
-ghost use Rattle.tt_c_calls.specs.Answers.{DefectStands, TellsRefusal};
 ghost use Rattle.tt_c_calls.specs.Asked.{IsAskedDefect};
-ghost use Rattle.tt_c_calls.specs.Measures.{AreCharactersOf, AreCharactersTold, IsCharactersSmall, IsEntriesSmall, IsMeasureOf, IsMeasureTold, box_told, character_told, measure_told, measure_wanted};
+ghost use Rattle.tt_c_calls.specs.Measures.{AreCharactersTold, IsEntriesSmall, IsMeasureOf, MeasuresText, PlacesCharacters, box_told, character_told, measure_told, measure_wanted};
 ghost use Rattle.tt_c_calls.specs.Refusals.{call_font_fault, call_refusal};
 
 use crate::answer::{CAnswer, answer_of, done, wants_room};
-use crate::asked::{CJob, job_of};
+use crate::asked::{TextRequest, job_of};
 use crate::fault::CallFault;
 use crate::opening::face_of;
 use std::alloc::Global;
@@ -108,29 +107,26 @@ fn measure_of(measure: &Measure) -> CMeasure
 /// The measure of a text by a font file. Errors, the first of: UnknownFit, NotUtf8; SizeRange, MarginRange, TextLong;
 /// FontLarge; those of the tables that every text needs; those of `make_measure`.
 #[tactic(auto, unfolding(crate::specs::Measures::measure_wanted))]
-fn measured(alloc: Global, font: &[u8], text: &[u8], job: &CJob) -> Result<Measure, CallFault>
-    ensures exact { GivesUnless call_refusal measure_view result (measure_wanted job.now text.now font.now) }
-    ensures measure { IfOk result (λ m. IsMeasureOf job.now text.now font.now (measure_view m) m.report.unfitted.items) }
-    ensures defects { TellsDefects call_font_fault (IsAskedDefect job.now text.now font.now) result }
+fn measured(alloc: Global, request: TextRequest) -> Result<Measure, CallFault>
+    ensures exact { GivesUnless call_refusal measure_view result (measure_wanted request.job.now request.text.now request.font.now) }
+    ensures measure { IfOk result (λ m. IsMeasureOf request.job.now request.text.now request.font.now (measure_view m) m.report.unfitted.items) }
+    ensures defects { TellsDefects call_font_fault (IsAskedDefect request.job.now request.text.now request.font.now) result }
 {
-    let asked = job_of(job, text)?;
+    let asked = job_of(request.job, request.text)?;
     test_job(&asked)?;
-    let face = face_of(font)?;
+    let face = face_of(request.font)?;
     let mut strike = Strike::new(alloc, &face, asked.ppem, asked.fit, 0)?;
-    let measure = make_measure(&mut strike, job.grows(), asked.text, asked.margin)?;
+    let measure = make_measure(&mut strike, request.job.grows(), asked.text, asked.margin)?;
     Ok(measure)
 }
 
 /// Measures a text: the size of its picture, its base line, and the box of its ink. Answers: done; the font is refused,
 /// too large, or the job refused; memory was refused; the text is not UTF-8. Unless the answer is done, `told` is
 /// unchanged.
-pub fn measure(alloc: Global, font: &[u8], text: &[u8], job: &CJob, told: &mut CMeasure) -> CAnswer
-    ensures done { result.status ≡ 0 → IsMeasureTold job.now text.now font.now told.new result }
-    ensures refused { result.status ≢ 0 → TellsRefusal (measure_wanted job.now text.now font.now) result }
-    ensures kept { result.status ≢ 0 → told.new ≡ told.old }
-    ensures stands { DefectStands (IsAskedDefect job.now text.now font.now) result }
+pub fn measure(alloc: Global, request: TextRequest, told: &mut CMeasure) -> CAnswer
+    ensures { MeasuresText request.job.now request.text.now request.font.now told.old told.new result }
 {
-    match measured(alloc, font, text, job) {
+    match measured(alloc, request) {
         Ok(measure) => {
             *told = measure_of(&measure);
             done(0, 0)
@@ -159,20 +155,10 @@ fn write_characters(measured: &[CharacterMeasure], room: &mut [CCharacter]) -> C
 /// Writes the place of each character of a text in its picture, in the order of the text. Answers: done, with the
 /// number of characters; the font is refused, too large, or the job refused; memory was refused; the text is not UTF-8;
 /// the room is too small. Unless the answer is done, `room` is unchanged.
-pub fn characters(
-    alloc: Global,
-    font: &[u8],
-    text: &[u8],
-    job: &CJob,
-    room: &mut [CCharacter],
-) -> CAnswer
-    ensures done { result.status ≡ 0 → AreCharactersOf job.now text.now font.now room.old room.new result }
-    ensures refused { result.status ≢ 0 → result.status ≢ 7 → TellsRefusal (measure_wanted job.now text.now font.now) result }
-    ensures small { result.status ≡ 7 → IsCharactersSmall job.now text.now font.now (length room.old) result }
-    ensures kept { result.status ≢ 0 → room.new ≡ room.old }
-    ensures stands { DefectStands (IsAskedDefect job.now text.now font.now) result }
+pub fn characters(alloc: Global, request: TextRequest, room: &mut [CCharacter]) -> CAnswer
+    ensures { PlacesCharacters request.job.now request.text.now request.font.now room.old room.new result }
 {
-    match measured(alloc, font, text, job) {
+    match measured(alloc, request) {
         Ok(measure) => write_characters(&measure.characters, room),
         Err(fault) => answer_of(fault),
     }

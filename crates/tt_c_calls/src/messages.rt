@@ -2,8 +2,7 @@
 
 ghost use Rattle.std.specs.Prelude.{◌≡◌, ◌≢◌, ◌+◌, ◌<◌, length, string_bytes, IfOk};
 ghost use Rattle.tt_core.specs.Faults.{is_ascii};
-ghost use Rattle.tt_c_calls.specs.Answers.{memory_answer};
-ghost use Rattle.tt_c_calls.specs.Messages.{IsTextSmall, IsTextWritten, defect_message, defect_of, job_message, message_of};
+ghost use Rattle.tt_c_calls.specs.Messages.{IsTextSmall, IsTextWritten, WritesMessage, defect_message, defect_of, job_message, message_of};
 
 use crate::answer::{CAnswer, answer_of, done, wants_room};
 use crate::fault::CallFault;
@@ -93,10 +92,7 @@ fn write_text(text: &[u8], room: &mut [u8]) -> CAnswer
 /// Writes an answer's message, which is the program's line where there is one, and a zero. Answers: done, with the
 /// bytes, the zero included; memory was refused; the room is too small. Unless the answer is done, `room` is unchanged.
 pub fn message(alloc: Global, told: &CAnswer, room: &mut [u8]) -> CAnswer
-    ensures done { result.status ≡ 0 → IsTextWritten (message_of told.now) room.old room.new result }
-    ensures refused { result.status ≢ 0 → result.status ≢ 7 → result ≡ memory_answer }
-    ensures small { result.status ≡ 7 → IsTextSmall (message_of told.now) (length room.old) result }
-    ensures kept { result.status ≢ 0 → room.new ≡ room.old }
+    ensures { WritesMessage told.now room.old room.new result }
 {
     match text_of(alloc, told) {
         Ok(text) => write_text(text.as_bytes(), room),

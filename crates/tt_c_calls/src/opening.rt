@@ -1,12 +1,10 @@
 //! A font opened.
 
-ghost use Rattle.std.specs.Prelude.{◌≡◌, ◌≢◌, ◌≤◌, length, IfOk, IfErr};
-ghost use Rattle.tt_core.specs.Limits.{font_limit};
+ghost use Rattle.std.specs.Prelude.{◌≢◌, IfErr};
 ghost use Rattle.tt_core.specs.Outcomes.{GivesUnless};
 ghost use Rattle.tt_face.specs.Defects.{IsFaceDefect};
 ghost use Rattle.tt_strike.specs.Defects.{TellsDefects};
-ghost use Rattle.tt_c_calls.specs.Answers.{DefectStands, TellsRefusal, done_answer};
-ghost use Rattle.tt_c_calls.specs.Fonts.{IsFontOf, face_wanted};
+ghost use Rattle.tt_c_calls.specs.Fonts.{OpensFont, face_wanted};
 ghost use Rattle.tt_c_calls.specs.declared.fault.CallFault.TheVariants as call;
 ghost use Rattle.tt_c_calls.specs.Refusals.{call_font_fault, call_refusal};
 
@@ -49,11 +47,7 @@ pub(crate) fn face_of<'a>(font: &'a [u8]) -> Result<Face<'a>, CallFault>
 /// Tests the tables of a font that every text needs, and writes the font's figures. Answers: done; the font is refused,
 /// or too large. It takes no memory.
 pub fn open(font: &[u8], told: &mut CFont) -> CAnswer
-    ensures done { result.status ≡ 0 → IsFontOf font.now told.new × (result ≡ done_answer 0 0) }
-    ensures refused { result.status ≢ 0 → TellsRefusal (face_wanted font.now) result }
-    ensures memory { result.status ≢ 5 }
-    ensures kept { result.status ≢ 0 → told.new ≡ told.old }
-    ensures stands { DefectStands (IsFaceDefect font.now) result }
+    ensures { OpensFont font.now told.old told.new result }
 {
     let face = match face_of(font) {
         Ok(face) => face,

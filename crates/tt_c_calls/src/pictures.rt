@@ -11,7 +11,7 @@ ghost use Rattle.tt_c_calls.specs.Answers.{room_answer};
 ghost use Rattle.tt_c_calls.specs.Refusals.{call_font_fault, call_refusal};
 
 use crate::answer::{CAnswer, done, wants_room};
-use crate::asked::{CJob, job_of};
+use crate::asked::{TextRequest, job_of};
 use crate::fault::CallFault;
 use crate::opening::face_of;
 use std::alloc::Global;
@@ -57,21 +57,16 @@ pub(crate) fn told_of(picture: &Picture) -> CPicture
 /// The picture of a text by a font file. Errors, the first of: UnknownFit, NotUtf8; SizeRange, MarginRange, TextLong;
 /// FontLarge; those of the tables that every text needs; those of `make_picture`.
 #[tactic(auto, unfolding(crate::specs::Pictures::picture_wanted))]
-pub(crate) fn picture_of(
-    alloc: Global,
-    font: &[u8],
-    text: &[u8],
-    job: &CJob,
-) -> Result<Picture, CallFault>
-    ensures exact { GivesUnless call_refusal image_of result (picture_wanted job.now text.now font.now) }
-    ensures picture { IfOk result (IsPictureOf job.now text.now font.now) }
-    ensures defects { TellsDefects call_font_fault (IsAskedDefect job.now text.now font.now) result }
+pub(crate) fn picture_of(alloc: Global, request: TextRequest) -> Result<Picture, CallFault>
+    ensures exact { GivesUnless call_refusal image_of result (picture_wanted request.job.now request.text.now request.font.now) }
+    ensures picture { IfOk result (IsPictureOf request.job.now request.text.now request.font.now) }
+    ensures defects { TellsDefects call_font_fault (IsAskedDefect request.job.now request.text.now request.font.now) result }
 {
-    let asked = job_of(job, text)?;
+    let asked = job_of(request.job, request.text)?;
     test_job(&asked)?;
-    let face = face_of(font)?;
+    let face = face_of(request.font)?;
     let mut strike = Strike::new(alloc, &face, asked.ppem, asked.fit, 0)?;
-    let picture = make_picture(&mut strike, job.grows(), asked.text, asked.margin)?;
+    let picture = make_picture(&mut strike, request.job.grows(), asked.text, asked.margin)?;
     Ok(picture)
 }
 

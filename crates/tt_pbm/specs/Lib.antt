@@ -1,1 +1,2 @@
 pub mod P4
+pub mod Writing

@@ -1,7 +1,7 @@
 //! Writing all bytes.
 
-ghost use Rattle.std.specs.Prelude.{◌≡◌, ◌<◌, false, is_err, length, take, OnOk, IfErr};
-ghost use Rattle.std.specs.Io.KnownBytes.{Appends};
+ghost use Rattle.std.specs.Prelude.{◌≡◌, false};
+ghost use Rattle.tt_pbm.specs.Writing.{Writes};
 
 use tt_core::Sink;
 
@@ -14,10 +14,7 @@ pub struct Cut {
 /// Writes all of the bytes. Error: a Cut if a write fails; the sink has then failed.
 pub fn write_all_of<W: Sink>(out: &mut W, bytes: &[u8]) -> Result<(), Cut>
     requires { W.has_failed out.old ≡ false }
-    ensures all { OnOk result (Appends (W.written out.old) (W.written out.new) bytes.now) }
-    ensures part { IfErr result (λ cut. Appends (W.written out.old) (W.written out.new) (take cut.sent bytes.now)) }
-    ensures within { IfErr result (λ cut. cut.sent < length bytes.now) }
-    ensures failure { W.has_failed out.new ≡ is_err result }
+    ensures { Writes result (W.written out.old) (W.written out.new) (W.has_failed out.new) bytes.now }
 {
     let mut sent = 0;
     while sent < bytes.len() {

@@ -48,13 +48,8 @@ fn measure_command<'a>(alloc: Global) -> Result<Command<'a>, AllocError> {
 }
 
 /// Adds the options that `draw` and `measure` share.
-fn drawing<'a>(
-    alloc: Global,
-    command: Command<'a>,
-    each: &'a str,
-) -> Result<Command<'a>, AllocError> {
-    command
-        .arg(size(alloc))?
+fn drawing<'a>(alloc: Global, to: Command<'a>, each: &'a str) -> Result<Command<'a>, AllocError> {
+    to.arg(size(alloc))?
         .arg(margin(alloc))?
         .arg(fit(alloc))?
         .arg(missing(alloc))?

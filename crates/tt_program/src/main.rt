@@ -16,15 +16,11 @@ use tt_core::Device;
 use tt_program_decisions::{Stop, perform, stop_of_open, stop_of_words, tell_stop};
 
 fn main(rt: HostRuntime) -> ExitCode {
-    ExitCode::from(program(&rt, rt.stdin(), rt.stderr()))
+    ExitCode::from(serve(&rt, rt.stdin(), rt.stderr()))
 }
 
 /// Reads the command line and does what it asks for; answers the exit status.
-fn program<R: Files + Env + Print + Eprint + AllocGlobal>(
-    rt: &R,
-    stdin: Stdin,
-    stderr: Stderr,
-) -> u8
+fn serve<R: Files + Env + Print + Eprint + AllocGlobal>(rt: &R, stdin: Stdin, stderr: Stderr) -> u8
     ensures { result ≤ 5 }
 {
     let mut errors = Device::new(stderr);

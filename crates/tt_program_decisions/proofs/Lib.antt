@@ -1,2 +1,1 @@
-mod Reports
 pub mod Statuses

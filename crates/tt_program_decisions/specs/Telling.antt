@@ -8,23 +8,22 @@ use Rattle.tt_render_run.specs.Defects.{TellsDefectsOf}
 use Rattle.tt_render_run.specs.Outcome.{CallGives, Traffic, Wanted}
 use Rattle.tt_render.specs.Printing.{Errors, Prints, PrintsNothing}
 use Rattle.tt_render.specs.TextsMessages.{texts_line_of, texts_status_of}
-use Rattle.tt_render.specs.declared.refusal.Refusal.TheVariants as reason
 use Rattle.tt_render.specs.declared.refusal.TextsFault.{TextsFault}
-use Rattle.tt_render.specs.Views.{before_lines}
 use Rattle.tt_render_run.specs.Messages.{line_of, status_of}
 
 -- the status and the line of one fault
 abbrev pub TellsFault : RunFault → ℕ → Errors → Type 0
 TellsFault fault status e = (status ≡ status_of fault) × Prints e (line_of fault ++ codes "\n")
 
--- a fault is reported by status and line; if memory is refused for that line, the program reports that instead
-abbrev pub TellsFailure : RunFault → ℕ → Errors → Type 0
-TellsFailure fault status e = TellsFault fault status e ⊎ TellsFault run.Memory status e
+-- a line is printed, with this status; if memory is refused for the line, the program reports that instead
+abbrev pub TellsLine : List ℕ → ℕ → ℕ → Errors → Type 0
+TellsLine line status_then status e =
+    ((status ≡ status_then) × Prints e (line ++ codes "\n")) ⊎ TellsFault run.Memory status e
 
 -- an answer of `map` is reported; nothing is printed where it is Ok
 abbrev pub Tells : {V : Type 0} → Result V RunFault → ℕ → Errors → Type 0
 Tells (Ok v) status e = (status ≡ 0) × PrintsNothing e
-Tells (Err fault) status e = TellsFailure fault status e
+Tells (Err fault) status e = TellsLine (line_of fault) (status_of fault) status e
 
 -- a call gave some answer, with its contract about the devices, and the program reported that answer
 pub record Does (wanted : Wanted) (IsDefect : List ℕ → Fault → Type 0) (t : Traffic) (e : Errors) (status : ℕ)
@@ -35,15 +34,10 @@ pub record Does (wanted : Wanted) (IsDefect : List ℕ → Fault → Type 0) (t 
     pub defects : TellsDefectsOf t.left_before IsDefect answer
     pub told : Tells answer status e
 
--- the status and the line of one fault of a call that draws texts
-abbrev pub TellsTextsFault : TextsFault → ℕ → Errors → Type 0
-TellsTextsFault fault status e = (status ≡ texts_status_of fault) × Prints e (texts_line_of fault ++ codes "\n")
-
--- a fault of a call that draws texts is reported by status and line; if memory is refused for the line, the program
--- reports that instead. By the status alone, where standard error had failed before
+-- a fault of a call that draws texts is reported by status and line; by the status alone, where standard error had
+-- failed before
 abbrev pub TellsTextsFailure : Bool → TextsFault → ℕ → Errors → Type 0
-TellsTextsFailure false fault status e =
-    TellsTextsFault fault status e ⊎ TellsTextsFault (before_lines reason.Memory) status e
+TellsTextsFailure false fault status e = TellsLine (texts_line_of fault) (texts_status_of fault) status e
 TellsTextsFailure true fault status e =
     (status ≡ texts_status_of fault) × Keeps e.before e.after × (e.failed ≡ true)
 

@@ -8,5 +8,8 @@ mod telling;
 mod telling_texts;
 
 pub use performing::perform;
-pub use request::{Arguments, DRAW, FITS, FULL, MISSING_WORDS, Request, request_of, setting_of};
+pub use request::{
+    Arguments, DRAW, FITS, FULL, GLYPHS_KEPT, MISSING_WORDS, Request, fit_named, missing_named,
+    request_of,
+};
 pub use stopping::{Stop, stop_of_open, stop_of_words, tell_stop};

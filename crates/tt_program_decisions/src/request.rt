@@ -142,11 +142,11 @@ fn text_or_lines<'a>(
 
 /// The limit of the cache of glyphs from line to line, in bytes. All letters of a Latin font at the largest size fit,
 /// and some thousand glyphs at a usual one.
-const GLYPHS_KEPT: usize = 4_194_304;
+pub const GLYPHS_KEPT: usize = 4_194_304;
 
 /// The setting of `--size SIZE --margin MARGIN --fit FIT --missing MISSING` for a product, where all are present. None
 /// where the name of the way to fit, or of the treatment of missing glyphs, is unknown.
-pub fn setting_of(
+fn setting_of(
     size: Option<u32>,
     margin: Option<u32>,
     fit: Option<&str>,
@@ -159,8 +159,8 @@ pub fn setting_of(
     Some(Setting {
         ppem: size?,
         margin: margin?,
-        fit: way_of(fit?)?,
-        missing: missing_of(missing?)?,
+        fit: fit_named(fit?)?,
+        missing: missing_named(missing?)?,
         grow,
         product,
         most: GLYPHS_KEPT,
@@ -180,7 +180,7 @@ const BEST: &str = "best";
 pub static FITS: [&str; 4] = [FULL, NONE, FALLBACK, BEST];
 
 /// The way to fit that has this name.
-fn way_of(name: &str) -> Option<Fit>
+pub fn fit_named(name: &str) -> Option<Fit>
     ensures { result ≡ fit_named name.now }
 {
     match name {
@@ -203,7 +203,7 @@ const REFUSE: &str = "refuse";
 pub static MISSING_WORDS: [&str; 3] = [DRAW, TELL, REFUSE];
 
 /// The treatment of characters without a glyph that has this name.
-fn missing_of(name: &str) -> Option<Missing>
+pub fn missing_named(name: &str) -> Option<Missing>
     ensures { result ≡ missing_named name.now }
 {
     match name {

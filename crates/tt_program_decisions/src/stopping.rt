@@ -4,9 +4,10 @@ ghost use Rattle.std.specs.Prelude.{◌≡◌, ◌≤◌, false};
 ghost use Rattle.tt_program_decisions.specs.Stops.{stop_at_open, stop_at_words, stop_status, stop_text};
 ghost use Rattle.tt_render.specs.Printing.{Prints, errors_of};
 
-use crate::telling::{NO_MEMORY, print};
+use crate::telling::NO_MEMORY;
 use std::io::ErrorKind;
 use tt_core::Sink;
+use tt_render::print_text;
 
 /// The reason why there is no request to perform.
 #[derive(Clone, Copy)]
@@ -55,7 +56,7 @@ pub fn tell_stop<E: Sink>(stop: Stop, error: &mut E) -> u8
     ensures status { result ≡ stop_status stop }
     ensures text { Prints (errors_of E.written E.has_failed error.old error.new) (stop_text stop) }
 {
-    print(error, text_of(stop));
+    print_text(error, text_of(stop));
     status_of(stop)
 }
 

@@ -19,7 +19,8 @@ use Rattle.tt_render.specs.TextsOutcome.{Draws, HasLine, SendsDrawn, SendsFirstL
 use Rattle.tt_render_run.specs.Outcome.{Traffic}
 use Rattle.tt_render.specs.Printing.{Errors, Prints, PrintsBehind}
 use Rattle.tt_render.specs.Reports.{told_of}
-use Rattle.tt_render.specs.Texts.{TextAnswer, TextRefusal, not_utf8, product_of, refused, text_answer}
+use Rattle.tt_render.specs.Products.{product_of}
+use Rattle.tt_render.specs.Texts.{TextAnswer, TextRefusal, not_utf8, refused, text_answer}
 use Rattle.tt_render.proofs.Printed.{appends_nothing, nothing_printed, printed_behind}
 use Rattle.tt_render_run.proofs.Sent.{appends_more}
 

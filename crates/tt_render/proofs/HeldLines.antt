@@ -6,8 +6,8 @@ use Rattle.std.proofs.lemmas.List.Edits.{take-paste}
 use Rattle.std.proofs.lemmas.List.Elements.{All-head, All-tail, All-append}
 use Rattle.std.specs.Io.BufRead.{ends_with_byte}
 use Rattle.std.specs.Io.KnownBytes.{IsAtEnd, Keeps, prepend_known}
-use Rattle.tt_render.specs.LineReading.{BeginsLong, GetsMore, IsFirstFeed, LosesLine}
-use Rattle.tt_render.specs.Lines.{line_limit, before_feed, last_lines, lines_after, lines_of}
+use Rattle.tt_render.specs.LineReading.{BeginsLong, GetsMore, LosesLine}
+use Rattle.tt_render.specs.Lines.{IsFirstFeed, line_limit, before_feed, last_lines, lines_after, lines_of}
 use lib.Seq.{paste}
 
 -- a part of a buffer moved to its front

@@ -1,7 +1,7 @@
 pub mod DrawnLines
 mod StoppedLines
 pub mod HeldLines
-mod Printed
+pub mod Printed
 mod FontLines
 mod MeasureLines
 mod DefectLines

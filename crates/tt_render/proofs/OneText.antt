@@ -17,7 +17,8 @@ use Rattle.tt_render_run.specs.Reading.{FontIsRead, ReadFails}
 use Rattle.tt_render.specs.Reports.{told_of}
 use Rattle.tt_render.specs.Settings.{job_by, strike_of}
 use Rattle.tt_render.specs.TextsOutcome.{FontTextGives, IsNotReady, IsOfText, IsAtFont, IsAtText, IsSilent, ReadiesText, TextTellsDefects, TextTellsDefectsOf, reader_in, refusal_font_fault, told}
-use Rattle.tt_render.specs.Texts.{TextAnswer, TextRefusal, product_of, text_answer}
+use Rattle.tt_render.specs.Products.{product_of}
+use Rattle.tt_render.specs.Texts.{TextAnswer, TextRefusal, text_answer}
 use Rattle.tt_render.specs.Views.{before_lines, refusal_of_draw, refusal_of_run}
 use Rattle.tt_render.proofs.FontLines.{size_passes}
 use Rattle.tt_render.proofs.Printed.{keeps_itself}

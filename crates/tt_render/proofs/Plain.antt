@@ -32,8 +32,8 @@ use Rattle.tt_render.specs.declared.setting.Missing.{Missing}
 use Rattle.tt_render.specs.declared.setting.Missing.TheVariants as how
 use Rattle.tt_render.specs.declared.setting.Setting.{Setting}
 use Rattle.tt_render.specs.Printing.{Errors}
-use Rattle.tt_render.specs.RunLaws.{GivesAsRun, IsPlain, PlainCallsAreRuns, PlainReportsAreRuns, PlainTextsAreRuns, bytes_of}
-use Rattle.tt_render.specs.Settings.{job_by, strike_by, strike_of}
+use Rattle.tt_render.specs.RunLaws.{GivesAsRun, PlainCallsAreRuns, PlainReportsAreRuns, PlainTextsAreRuns, bytes_of}
+use Rattle.tt_render.specs.Settings.{IsPlain, job_by, strike_by, strike_of}
 use Rattle.tt_render.specs.Texts.{TextAnswer, TextRefusal, answer_of, as_text, missing, missing_tested, not_utf8, refused, text_answer}
 use Rattle.tt_render.specs.TextsOutcome.{IsSilent, StopsAtFont, StopsFor, TextFails, TextGives, reader_in, told}
 use Rattle.tt_render.proofs.DefectLines.{if_some_more}
@@ -65,7 +65,7 @@ of_strike : (a : Setting) (text file : List ℕ) (s : Strike) → IsPlain a → 
     → bytes_of (text_answer a s text) ≡ as_text (run_outcome (job_by a text) file)
 of_strike a text file s plain opened =
     let none = none_refused s.face.cmap a.missing text plain.drawn in
-    texts_are_runs a file text s plain.picture plain.whole opened
+    texts_are_runs a file text s plain.as_it_is opened
     ∙ kept_as_run (run_outcome (job_by a text) file) (missing_tested s.face.cmap a.missing text) none.0 none.1
 
 -- a font that is refused is refused alike

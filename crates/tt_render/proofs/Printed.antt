@@ -1,9 +1,17 @@
 -- Printing text after text, on a device that may fail.
-use Rattle.std.proofs.Common.{◌≡◌, ℕ, ◌+◌, ◌<◌, ◌≤◌, Bool, true, false, List, [], ◌++◌, length, take, Option, Some, None, ◌∙◌, sym, refl, arith, append-nil, length-append}
+use Rattle.std.proofs.Common.{◌≡◌, ℕ, ◌+◌, ◌<◌, ◌≤◌, Bool, true, false, List, [], ◌++◌, length, take, Option, Some, None, Result, Ok, Err, ◌∙◌, sym, refl, arith, append-nil, length-append}
 use Rattle.std.proofs.lemmas.List.{take-append-le}
 use Rattle.std.specs.Io.KnownBytes.{Appends, Keeps}
+use Rattle.tt_pbm.specs.declared.writing.Cut.{Cut}
+use Rattle.tt_pbm.specs.Writing.{Writes}
 use Rattle.tt_render.specs.Printing.{PrintsBehind, PrintsUnless}
 use Rattle.tt_render_run.proofs.Sent.{appends_both, appends_more}
+
+-- a text that was written is printed
+pub printed : (r : Result (Unit {0}) Cut) (failed : Bool) (before after : Option (List ℕ)) (text : List ℕ)
+    → Writes r before after failed text → PrintsUnless failed before after text
+printed (Ok v) failed before after text out = rw out.failure out.all
+printed (Err cut) failed before after text out = rw out.failure (cut.sent, out.within, out.part)
 
 pub keeps_itself : (a : Option (List ℕ)) → Keeps a a
 keeps_itself None = tt

@@ -21,7 +21,6 @@ use Rattle.tt_picture.specs.Unfitted.{unfitted_among}
 use Rattle.tt_strike.specs.Report.{line_report, report_by}
 use Rattle.tt_strike.specs.Strikes.{Strike, job_of}
 use Rattle.tt_face.specs.Faces.{Face, face_of}
-use Rattle.tt_render.specs.declared.setting.Product.TheVariants as product
 use Rattle.tt_render.specs.declared.setting.Setting.{Setting}
 use Rattle.tt_render.specs.Lines.{line_drawn, line_limit}
 use Rattle.tt_render_run.specs.Outcome.{of_font}
@@ -29,8 +28,9 @@ use Rattle.tt_render_run.specs.Run.{run_outcome}
 use Rattle.tt_render_run.specs.File.{as_file, file_pictured}
 use Rattle.tt_render_run.proofs.Files.{file_made}
 use Rattle.tt_render.specs.RunLaws.{LinesAreRuns, LinesAreTexts, TextsAreRuns, bytes_of}
-use Rattle.tt_render.specs.Settings.{job_by, strike_by, strike_of}
-use Rattle.tt_render.specs.Texts.{TextAnswer, TextRefusal, answer_of, as_text, missing_tested, not_utf8, picture_by, product_of, refused, text_answer}
+use Rattle.tt_render.specs.Settings.{DrawsAsItIs, job_by, strike_by, strike_of}
+use Rattle.tt_render.specs.Products.{picture_by, product_of}
+use Rattle.tt_render.specs.Texts.{TextAnswer, TextRefusal, answer_of, as_text, missing_tested, not_utf8, refused, text_answer}
 
 -- a text with a picture has a report
 report_is : (face : Face) (a : Job) (line : Placement) (s : Fitter) (shapes : List Shape)
@@ -124,15 +124,15 @@ is_run a file text s opened =
     ∙ file_after (as_job (tested j)) (pictured_by face j)
     ∙ ap (λ (r : Result (List ℕ) Refused). as_job (tested j) >>= λ u. r) made
 
-picture_of : (a : Setting) (s : Strike) (text : List ℕ) → a.product ≡ product.Picture → a.grow ≡ false
+picture_of : (a : Setting) (s : Strike) (text : List ℕ) → DrawsAsItIs a
     → product_of a s text ≡ as_file (line_outcome s.face (job_of s text a.margin))
 unfolding product_of picture_by
-picture_of a s text is plain = rw (is, plain) refl
+picture_of a s text is = rw (is.picture, is.whole) refl
 
 pub texts_are_runs : TextsAreRuns
 unfolding text_answer
-texts_are_runs a file text s is plain opened =
-    let drawn = picture_of a s text is plain in
+texts_are_runs a file text s is opened =
+    let drawn = picture_of a s text is in
     let picture = drawn ∙ is_run a file text s opened in
     let j = job_of s text a.margin in
     let lacking = missing_tested s.face.cmap a.missing text in
@@ -162,10 +162,10 @@ line_passes a line s t was =
     utf8_answer (is_utf8 line) (text_answer a s line) t short.1
 
 pub lines_are_runs : LinesAreRuns
-lines_are_runs a file line s t is plain opened was =
+lines_are_runs a file line s t is opened was =
     let drawn : text_answer a s line ≡ Ok t = line_passes a line s t was in
     was_run (run_outcome (job_by a line) file) (missing_tested s.face.cmap a.missing line) t.bytes
-    (sym (texts_are_runs a file line s is plain opened) ∙ ap bytes_of drawn)
+    (sym (texts_are_runs a file line s is opened) ∙ ap bytes_of drawn)
 
 pub lines_are_texts : LinesAreTexts
 unfolding line_drawn

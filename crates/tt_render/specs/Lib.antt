@@ -3,6 +3,7 @@ pub mod Lines
 pub mod LinesDefects
 pub mod MeasureText
 pub mod Printing
+pub mod Products
 pub mod Reports
 pub mod RunLaws
 pub mod Settings

@@ -1,5 +1,5 @@
 -- The promises of reading the lines of a text.
-use Rattle.std.specs.Prelude.{◌≡◌, ◌≢◌, ℕ, ◌-◌, ◌<◌, ◌≤◌, List, [], ◌∷◌, ◌++◌, length, take, drop, slice_index, vec_len, All, Option, Some, None, IfSome, Result, Ok, Err, ⊤}
+use Rattle.std.specs.Prelude.{◌≡◌, ℕ, ◌-◌, ◌<◌, ◌≤◌, List, [], ◌∷◌, ◌++◌, length, take, drop, Option, Some, None, IfSome, Result, Ok, Err, ⊤}
 use Rattle.std.specs.Io.KnownBytes.{Consumes, IsAtEnd, Keeps, prepend_known}
 use Rattle.tt_render.specs.declared.lines.LinePlace.{LinePlace}
 use Rattle.tt_render.specs.declared.lines.LineReader.{LineReader}
@@ -7,28 +7,13 @@ use Rattle.tt_render.specs.declared.lines.NextLine.{NextLine}
 use Rattle.tt_render.specs.declared.lines.NextLine.TheVariants as next
 use Rattle.tt_render.specs.Lines.{line_limit, lines_of}
 
--- the bytes of a reader's buffer
-abbrev pub line_room : ℕ
-line_room = 81922
-
 -- the bytes read and not yet given out
 abbrev pub held : LineReader → List ℕ
 held r = drop r.from (take r.until r.buf.items)
 
-pub record IsReader (r : LineReader) : Type 0 where
-  pub front : r.from ≤ r.until
-  pub back : r.until ≤ vec_len r.buf
-  pub room : vec_len r.buf ≡ line_room
-
 -- the bytes of a line that was given out
 abbrev pub line_at : LineReader → LinePlace → List ℕ
 line_at r place = take (place.until - place.from) (drop place.from r.buf.items)
-
--- the first line feed of some bytes
-pub record IsFirstFeed (bytes : List ℕ) (at : ℕ) : Type 0 where
-  pub within : at < length bytes
-  pub feed : slice_index bytes at ≡ 10
-  pub before : All (λ x. x ≢ 10) (take at bytes)
 
 -- a reader holds n bytes more, taken from its source
 abbrev pub GetsMore : List ℕ → List ℕ → Option (List ℕ) → Option (List ℕ) → ℕ → Type 0
@@ -49,13 +34,9 @@ LosesLine (Some text) (Some rest) line = lines_of text ≡ line ∷ lines_of res
 abbrev pub BeginsLong : List ℕ → Type 0
 BeginsLong text = (line : List ℕ) × (rest : List (List ℕ)) × (lines_of text ≡ line ∷ rest) × (line_limit < length line)
 
--- the place of a line lies in the buffer
-abbrev pub IsPlace : LineReader → LinePlace → Type 0
-IsPlace r place = (place.from ≤ place.until) × (place.until ≤ vec_len r.buf)
-
 -- the remaining text after reading a line; a line that is too long, and a failed read, leave the text unchanged
 abbrev pub ReadsLine : {E : Type 0} → LineReader → Result NextLine E → Option (List ℕ) → Option (List ℕ) → Type 0
-ReadsLine r (Ok (next.Line place)) before after = IsPlace r place × LosesLine before after (line_at r place)
+ReadsLine r (Ok (next.Line place)) before after = LosesLine before after (line_at r place)
 ReadsLine r (Ok next.Long) before after = IfSome before BeginsLong × Keeps before after
 ReadsLine r (Ok next.End) before after = IfSome before (λ text. lines_of text ≡ []) × IsAtEnd after
 ReadsLine r (Err e) before after = Keeps before after

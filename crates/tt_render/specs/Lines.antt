@@ -1,5 +1,5 @@
 -- No part of the standard: the lines of a text, and their drawing in order (profile).
-use Rattle.std.specs.Prelude.{◌≡◌, refl, ℕ, ◌+◌, ◌*◌, ◌<◌, ◌≤◌, ◌==◌, nat_lt, if◌then◌else◌, List, [], ◌∷◌, ◌++◌, length, take, get_or, codes, Option, Some, None, Result, Ok, Err}
+use Rattle.std.specs.Prelude.{◌≡◌, ◌≢◌, refl, ℕ, ◌+◌, ◌*◌, ◌<◌, ◌≤◌, ◌==◌, nat_lt, if◌then◌else◌, List, [], ◌∷◌, ◌++◌, length, take, get_or, slice_index, All, codes, Option, Some, None, Result, Ok, Err}
 use Rattle.std.specs.List.{sum_by}
 use Rattle.std.specs.Io.BufRead.{strip_last}
 use Rattle.std.specs.Fmt.{digits}
@@ -15,9 +15,19 @@ use Rattle.tt_render.specs.Texts.{TextAnswer, TextRefusal, not_utf8, refused, te
 abbrev pub line_limit : ℕ
 line_limit = 16384
 
+-- the bytes of the buffer of a reader of lines: a line with its end, and one read
+abbrev pub line_room : ℕ
+line_room = 81922
+
 -- lines of a text
 abbrev pub lines_limit : ℕ
 lines_limit = 4294967295
+
+-- the first line feed of some bytes
+pub record IsFirstFeed (bytes : List ℕ) (at : ℕ) : Type 0 where
+  pub within : at < length bytes
+  pub feed : slice_index bytes at ≡ 10
+  pub before : All (λ x. x ≢ 10) (take at bytes)
 
 -- a line without the carriage return before its line feed
 abbrev pub before_feed : List ℕ → List ℕ

@@ -1,9 +1,8 @@
 -- Laws of texts and lines: the picture of each is what `run` gives for that text alone.
-use Rattle.std.specs.Prelude.{◌≡◌, ◌≢◌, refl, ℕ, ◌≤◌, true, false, List, [], length, codes, Result, Ok, Err}
+use Rattle.std.specs.Prelude.{◌≡◌, refl, ℕ, ◌≤◌, true, List, [], length, codes, Result, Ok, Err}
 use Rattle.std.specs.Str.{is_utf8}
 use Rattle.tt_core.specs.declared.fault.JobFault.TheVariants as fault
 use Rattle.tt_core.specs.Outcomes.{◌>>=◌}
-use Rattle.tt_fit.specs.declared.programs.Fit.{Fit}
 use Rattle.tt_picture.specs.Unfitted.{ListsOnce}
 use Rattle.tt_strike.specs.Job.{tested}
 use Rattle.tt_strike.specs.Refusals.{as_job, job}
@@ -11,14 +10,13 @@ use Rattle.tt_strike.specs.Report.{report_of}
 use Rattle.tt_strike.specs.Strikes.{Strike}
 use Rattle.tt_render.specs.declared.refusal.TextsFault.{TextsFault}
 use Rattle.tt_render.specs.declared.setting.Missing.TheVariants as how
-use Rattle.tt_render.specs.declared.setting.Product.TheVariants as product
 use Rattle.tt_render.specs.declared.setting.Setting.{Setting}
 use Rattle.tt_render.specs.Lines.{line_drawn, line_limit}
 use Rattle.tt_render.specs.Printing.{Errors}
 use Rattle.tt_render_run.specs.declared.fault.RunFault.{RunFault}
 use Rattle.tt_render_run.specs.Outcome.{CallFails, CallGives, Traffic, Wanted}
 use Rattle.tt_render_run.specs.Run.{run_outcome, run_wanted}
-use Rattle.tt_render.specs.Settings.{job_by, plain_setting, strike_of}
+use Rattle.tt_render.specs.Settings.{DrawsAsItIs, IsPlain, job_by, strike_of}
 use Rattle.tt_render.specs.Texts.{TextAnswer, TextRefusal, as_text, missing, missing_tested, refused, text_answer}
 use Rattle.tt_render.specs.TextsOutcome.{FontTextGives}
 use Rattle.tt_render.specs.Views.{before_lines, refusal_of_run}
@@ -36,14 +34,13 @@ run_for a s file text =
 
 -- the picture of a text is what `run` gives for it, and the text is refused for the same reason
 abbrev pub TextsAreRuns : Type 0
-TextsAreRuns = (a : Setting) (file text : List ℕ) (s : Strike) → a.product ≡ product.Picture → a.grow ≡ false
-    → strike_of a file ≡ Ok s → bytes_of (text_answer a s text) ≡ run_for a s file text
+TextsAreRuns = (a : Setting) (file text : List ℕ) (s : Strike) → DrawsAsItIs a → strike_of a file ≡ Ok s
+    → bytes_of (text_answer a s text) ≡ run_for a s file text
 
 -- the picture of each line is what `run` gives for that line alone
 abbrev pub LinesAreRuns : Type 0
-LinesAreRuns = (a : Setting) (file line : List ℕ) (s : Strike) (t : TextAnswer) → a.product ≡ product.Picture
-    → a.grow ≡ false → strike_of a file ≡ Ok s → line_drawn a s line ≡ Ok t
-    → run_outcome (job_by a line) file ≡ Ok t.bytes
+LinesAreRuns = (a : Setting) (file line : List ℕ) (s : Strike) (t : TextAnswer) → DrawsAsItIs a
+    → strike_of a file ≡ Ok s → line_drawn a s line ≡ Ok t → run_outcome (job_by a line) file ≡ Ok t.bytes
 
 -- a line of at most 16,384 bytes of UTF-8 has the answer of a text, whatever the product
 abbrev pub LinesAreTexts : Type 0
@@ -57,13 +54,7 @@ drawn_text a text file =
     as_text (strike_of a file) >>= λ s.
     text_answer a s text
 
--- a setting for the picture of a text as it is, with glyph 0 for each character without a glyph
-pub record IsPlain (a : Setting) : Type 0 where
-  pub picture : a.product ≡ product.Picture
-  pub whole : a.grow ≡ false
-  pub drawn : a.missing ≢ how.Refuse
-
--- by such a setting a text has the bytes of `run` for its job, or the same refusal
+-- by a plain setting a text has the bytes of `run` for its job, or the same refusal
 abbrev pub PlainTextsAreRuns : Type 0
 PlainTextsAreRuns = (a : Setting) (text file : List ℕ) → IsPlain a
     → bytes_of (drawn_text a text file) ≡ as_text (run_outcome (job_by a text) file)
@@ -83,10 +74,7 @@ abbrev pub PlainCallsAreRuns : Type 0
 PlainCallsAreRuns = (a : Setting) (text : List ℕ) (r : Result (Unit {0}) TextsFault) (t : Traffic) (e : Errors)
     → IsPlain a → FontTextGives a text r t e → GivesAsRun r t (run_wanted (job_by a text))
 
--- worked values: the setting of `run`; the bytes of a drawn text, and of a refused one
-run_is_plain : (ppem margin : ℕ) (f : Fit) → IsPlain (plain_setting ppem margin f)
-run_is_plain ppem margin f = record { picture = refl; whole = refl; drawn = λ is. cc }
-
+-- worked values: the bytes of a drawn text, and of a refused one
 drawn_bytes : bytes_of (Ok (record { bytes = codes "P4"; unfitted = []; lacking = codes "A"; cost = 12 })) ≡ Ok (codes "P4")
 drawn_bytes = refl
 

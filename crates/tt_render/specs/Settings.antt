@@ -1,5 +1,5 @@
 -- No part of the standard: the tests of a setting before the font is read, its jobs, and its strike (profile).
-use Rattle.std.specs.Prelude.{◌≡◌, refl, ℕ, false, List, [], Result, Ok, Err}
+use Rattle.std.specs.Prelude.{◌≡◌, ◌≢◌, refl, ℕ, false, List, [], Result, Ok, Err}
 use Rattle.tt_core.specs.declared.fault.JobFault.{JobFault}
 use Rattle.tt_core.specs.declared.fault.JobFault.TheVariants as fault
 use Rattle.tt_core.specs.Outcomes.{◌>>=◌}
@@ -30,6 +30,16 @@ plain_setting ppem margin f = record {
   most = 0;
 }
 
+-- the output of a text is its picture as it is
+pub record DrawsAsItIs (a : Setting) : Type 0 where
+  pub picture : a.product ≡ product.Picture
+  pub whole : a.grow ≡ false
+
+-- a setting for the picture of a text as it is, with glyph 0 for each character without a glyph
+pub record IsPlain (a : Setting) : Type 0 where
+  pub as_it_is : DrawsAsItIs a
+  pub drawn : a.missing ≢ how.Refuse
+
 -- the job of a text
 abbrev pub job_by : Setting → List ℕ → Job
 job_by a text = record { text = text; ppem = a.ppem; margin = a.margin; fit = a.fit }
@@ -57,3 +67,6 @@ margin_alone = refl
 within_both : setting_tested (sized 300 64) ≡ Ok tt
 unfolding sized setting_tested size_tested margin_tested
 within_both = refl
+
+run_is_plain : (ppem margin : ℕ) (f : Fit) → IsPlain (plain_setting ppem margin f)
+run_is_plain ppem margin f = record { as_it_is = record { picture = refl; whole = refl }; drawn = λ is. cc }

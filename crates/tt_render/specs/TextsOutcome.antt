@@ -3,31 +3,26 @@ use Rattle.std.specs.Prelude.{◌≡◌, ◌⊎◌, ℕ, ◌+◌, ◌<◌, ◌�
 use Rattle.std.specs.Io.KnownBytes.{Appends, IsAtEnd}
 use Rattle.tt_core.specs.declared.fault.JobFault.{JobFault}
 use Rattle.tt_core.specs.declared.fault.JobFault.TheVariants as job_fault
-use Rattle.tt_core.specs.Bits.{stride}
 use Rattle.tt_core.specs.Directory.{HasNo}
 use Rattle.tt_core.specs.Faults.{Fault}
 use Rattle.tt_core.specs.Limits.{font_limit}
 use Rattle.tt_render.specs.declared.setting.Setting.{Setting}
 use Rattle.tt_render.specs.declared.text_answers.ReadyText.{ReadyText}
-use Rattle.tt_render.specs.declared.products.Output.{Output}
-use Rattle.tt_render.specs.declared.products.Output.TheVariants as output
 use Rattle.tt_render.specs.declared.refusal.Refusal.{Refusal}
 use Rattle.tt_render.specs.declared.refusal.Refusal.TheVariants as reason
 use Rattle.tt_render.specs.declared.refusal.TextsFault.{TextsFault}
 use Rattle.tt_render.specs.declared.lines.LinePlace.{LinePlace}
 use Rattle.tt_render.specs.declared.lines.LineReader.{LineReader}
-use Rattle.tt_render.specs.LineReading.{BeginsLong, IsPlace, LosesLine, line_at}
+use Rattle.tt_render.specs.LineReading.{BeginsLong, LosesLine, line_at}
 use Rattle.tt_render.specs.Lines.{AreAffordable, drawn_from, line_drawn, line_limit, lines_budget, lines_cost, lines_limit, lines_of, text_drawn}
-use Rattle.tt_render_run.specs.File.{picture_bytes}
 use Rattle.tt_render_run.specs.Outcome.{Traffic, SendsAll, SendsFirst, ReadsNothing, ReadsToEnd, WritesNothing, WriterServes, WriterFails}
 use Rattle.tt_render.specs.Printing.{Errors, Prints, PrintsNothing}
+use Rattle.tt_render.specs.Products.{bytes_in, cost_in, unfitted_in}
 use Rattle.tt_render_run.specs.Reading.{FontReader, FontFails, FontIsBegun, FontIsRead, FontIsUnread}
 use Rattle.tt_render.specs.Reports.{report_text_of, told_of}
 use Rattle.tt_render.specs.Settings.{job_by, setting_tested, strike_of}
 use Rattle.tt_render.specs.Texts.{TextAnswer, TextRefusal, missing, not_utf8, refused, text_answer}
-use Rattle.tt_picture.specs.declared.report.Unfitted.{Unfitted}
 use Rattle.tt_strike.specs.Job.{tested}
-use Rattle.tt_picture.specs.Pictures.{IsReady}
 use Rattle.tt_strike.specs.Refusals.{Refused, font, job}
 use Rattle.tt_strike.specs.Strikes.{Strike}
 
@@ -62,25 +57,6 @@ IsOfText (Err (reason.Write sent)) = ⊥
 IsOfText (Err reason.Many) = ⊥
 IsOfText r = ⊤
 
--- the bytes of an output, its unfitted glyphs, and what it takes of the budget of many lines
-abbrev pub bytes_in : Output → List ℕ
-bytes_in (output.Picture drawn) = picture_bytes drawn.picture
-bytes_in (output.Text text report) = string_bytes text
-
-abbrev pub unfitted_in : Output → List Unfitted
-unfitted_in (output.Picture drawn) = drawn.picture.unfitted
-unfitted_in (output.Text text report) = report.unfitted.items
-
-abbrev pub cost_in : Output → ℕ
-cost_in (output.Picture drawn) = drawn.picture.cost
-cost_in (output.Text text report) = report.cost
-
--- a picture with no row made yet, and memory for one
-abbrev pub CanGoOut : Output → Type 0
-CanGoOut (output.Picture drawn) =
-    IsReady drawn.picture × (length drawn.row.items ≡ stride drawn.picture.frame.width)
-CanGoOut (output.Text text report) = ⊤
-
 -- the answer that is ready to be written
 abbrev pub answer_view : ReadyText → TextAnswer
 answer_view r = record {
@@ -111,7 +87,7 @@ IsNotBegun drawn used why before =
 abbrev pub FindsLine : LineReader → ℕ → ℕ → Result (Option LinePlace) Refusal → Option (List ℕ) → Option (List ℕ)
     → Type 0
 FindsLine r drawn used (Ok (Some place)) before after =
-    IsPlace r place × LosesLine before after (line_at r place) × (length (line_at r place) ≤ line_limit)
+    LosesLine before after (line_at r place) × (length (line_at r place) ≤ line_limit)
     × (used ≤ lines_budget drawn)
 FindsLine r drawn used (Ok None) before after = IfSome before (λ text. lines_of text ≡ []) × IsAtEnd after
 FindsLine r drawn used (Err reason.Read) before after = ⊤

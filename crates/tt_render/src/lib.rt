@@ -14,6 +14,7 @@ mod text_drawing;
 mod texts_messages;
 
 pub use line_drawing::{draw_lines, lines_budget};
+pub use printing::print_text;
 pub use products::{make_measure, make_picture};
 pub use refusal::{Refusal, TextsFault};
 pub use setting::{Missing, Product, Setting};

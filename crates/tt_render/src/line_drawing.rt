@@ -2,13 +2,14 @@
 
 ghost use Rattle.std.specs.Prelude.{◌≡◌, ◌≤◌, false, length, Some, IfOk};
 ghost use Rattle.tt_core.specs.Outcomes.{GivesUnless, IfTold};
-ghost use Rattle.tt_render.specs.LineReading.{IsReader, text_left};
+ghost use Rattle.tt_render.specs.LineReading.{text_left};
 ghost use Rattle.tt_render.specs.Lines.{line_drawn, line_limit, lines_budget};
 ghost use Rattle.tt_render.specs.LinesDefects.{IsDefectBy, LinesTell, LinesTellDefectsOf};
 ghost use Rattle.tt_render_run.specs.Outcome.{traffic_of};
 ghost use Rattle.tt_render.specs.Printing.{errors_of};
 ghost use Rattle.tt_render_run.specs.Reading.{font_reader_of};
-ghost use Rattle.tt_render.specs.TextsOutcome.{CanGoOut, FailsByStop, FindsLine, FontLinesGive, IsOfText, LinesGive, TellsOf, answer_view, refusal_font_fault, told, without_line};
+ghost use Rattle.tt_render.specs.Products.{CanGoOut};
+ghost use Rattle.tt_render.specs.TextsOutcome.{FailsByStop, FindsLine, FontLinesGive, IsOfText, LinesGive, TellsOf, answer_view, refusal_font_fault, told, without_line};
 
 use crate::lines::{LINE_LIMIT, LinePlace, LineReader, NextLine};
 use crate::printing::print_text;
@@ -62,9 +63,7 @@ fn next_line<R: Source>(
     drawn: u32,
     used: u128,
 ) -> Result<Option<LinePlace>, TextsFault>
-    requires valid { IsReader reader.old }
-    requires source { R.has_failed lines.old ≡ false }
-    ensures valid { IsReader reader.new }
+    requires { R.has_failed lines.old ≡ false }
     ensures outcome { FindsLine reader.new drawn used (without_line result) (text_left reader.old (R.left lines.old)) (text_left reader.new (R.left lines.new)) }
     ensures failure { FailsByStop (R.has_failed lines.new) (without_line result) }
 {

@@ -1,14 +1,13 @@
 //! Reads the lines of a text in order.
 
+ghost use Rattle.std.specs.Io.KnownBytes.{IsAtEnd, Keeps};
 ghost use Rattle.std.specs.Prelude.{◌≡◌, ◌≢◌, ℕ, ◌+◌, ◌-◌, ◌<◌, ◌≤◌, [], false, is_err, length, take, drop, vec_len, All, IfOk, OnErr, MatchOption};
 ghost use Rattle.tt_core.specs.Device.{RemembersFailure};
-ghost use Rattle.tt_render.specs.LineReading.{IsReader, IsFirstFeed, GetsMore, ReadsLine, held, line_at, line_room, text_left};
-ghost use Rattle.tt_render.specs.Lines.{before_feed};
-ghost use Rattle.std.specs.Io.KnownBytes.{IsAtEnd, Keeps};
+ghost use Rattle.tt_render.specs.Lines.{IsFirstFeed, before_feed, line_room};
 
 use std::alloc::{AllocError, Global};
 use tt_core::{IoFailed, Source};
-use tt_render_run::read_behind;
+use tt_render_run::read_after;
 
 /// The longest line, in bytes.
 pub(crate) const LINE_LIMIT: usize = 16_384;
@@ -22,6 +21,9 @@ pub(crate) struct LineReader {
     buf: Vec<u8>,
     from: usize,
     until: usize,
+    ghost order: { from ≤ until },
+    ghost within: { until ≤ vec_len buf },
+    ghost whole: { vec_len buf ≡ line_room },
 }
 
 /// The place of a line in its reader's buffer.
@@ -29,6 +31,8 @@ pub(crate) struct LineReader {
 pub(crate) struct LinePlace {
     from: usize,
     until: usize,
+    ghost order: { from ≤ until },
+    ghost within: { until ≤ line_room },
 }
 
 /// What follows in a text.
@@ -66,10 +70,11 @@ fn len_before_feed(line: &[u8]) -> usize
 }
 
 impl LineReader {
+    ghost use Rattle.tt_render.specs.LineReading.{GetsMore, ReadsLine, held, line_at, text_left};
+
     /// A reader that has read nothing yet.
     pub(crate) fn new(alloc: Global) -> Result<LineReader, AllocError>
-        ensures valid { IfOk result IsReader }
-        ensures empty { IfOk result (λ r. held r ≡ []) }
+        ensures { IfOk result (λ r. held r ≡ []) }
     {
         Ok(LineReader {
             buf: vec![in alloc; 0u8; LINE_ROOM]?,
@@ -80,8 +85,6 @@ impl LineReader {
 
     /// Moves the held bytes to the front of the buffer.
     fn move_to_front(&mut self)
-        requires valid { IsReader self.old }
-        ensures valid { IsReader self.new }
         ensures front { self.new.from ≡ 0 }
         ensures held { held self.new ≡ held self.old }
     {
@@ -92,9 +95,7 @@ impl LineReader {
 
     /// Reads more bytes into the buffer, and returns how many: 0 only at the end.
     fn read_more<R: Source>(&mut self, source: &mut R) -> Result<usize, IoFailed>
-        requires valid { IsReader self.old }
         requires room { length (held self.old) < line_room }
-        ensures valid { IsReader self.new }
         ensures more { IfOk result (GetsMore (held self.old) (held self.new) (R.left source.old) (R.left source.new)) }
         ensures end { IfOk result (λ n. n ≡ 0 → IsAtEnd (R.left source.new)) }
         ensures same { OnErr result (held self.new ≡ held self.old) }
@@ -103,18 +104,14 @@ impl LineReader {
     {
         self.move_to_front();
         let until = self.until;
-        let n = read_behind(source, &mut self.buf, until)?;
+        let n = read_after(source, &mut self.buf, until)?;
         self.until = until + n;
         Ok(n)
     }
 
     /// Gives out a line of `len` bytes before its line feed.
     fn give_line(&mut self, len: usize) -> LinePlace
-        requires valid { IsReader self.old }
-        requires within { len < length (held self.old) }
-        ensures valid { IsReader self.new }
-        ensures place { result.from ≤ result.until }
-        ensures within { result.until ≤ vec_len self.new.buf }
+        requires { len < length (held self.old) }
         ensures line { line_at self.new result ≡ before_feed (take len (held self.old)) }
         ensures rest { held self.new ≡ drop (len + 1) (held self.old) }
     {
@@ -130,10 +127,6 @@ impl LineReader {
 
     /// Gives out all held bytes as a line without a line feed.
     fn give_rest(&mut self) -> LinePlace
-        requires valid { IsReader self.old }
-        ensures valid { IsReader self.new }
-        ensures place { result.from ≤ result.until }
-        ensures within { result.until ≤ vec_len self.new.buf }
         ensures line { line_at self.new result ≡ held self.old }
         ensures rest { held self.new ≡ [] }
     {
@@ -147,7 +140,6 @@ impl LineReader {
 
     /// The first line feed among the held bytes, behind the first `known`, which have none.
     fn feed_behind(&self, known: usize) -> Option<usize>
-        requires valid { IsReader self.now }
         requires within { known ≤ length (held self.now) }
         requires none { All (λ x. x ≢ 10) (take known (held self.now)) }
         ensures { MatchOption result (All (λ x. x ≢ 10) (held self.now)) (IsFirstFeed (held self.now)) }
@@ -158,9 +150,7 @@ impl LineReader {
 
     /// The next line, if there is one. Error: the device failed.
     pub(crate) fn read_line<R: Source>(&mut self, source: &mut R) -> Result<NextLine, IoFailed>
-        requires valid { IsReader self.old }
-        requires source { R.has_failed source.old ≡ false }
-        ensures valid { IsReader self.new }
+        requires { R.has_failed source.old ≡ false }
         ensures outcome { ReadsLine self.new result (text_left self.old (R.left source.old)) (text_left self.new (R.left source.new)) }
         ensures failure { R.has_failed source.new ≡ is_err result }
     {
@@ -184,8 +174,6 @@ impl LineReader {
 
     /// The bytes of the line given out last.
     pub(crate) fn line(&self, place: LinePlace) -> &[u8]
-        requires place { place.from ≤ place.until }
-        requires within { place.until ≤ vec_len self.now.buf }
         ensures { result.now ≡ line_at self.now place }
     {
         &self.buf[place.from..place.until]

@@ -49,18 +49,14 @@ fn picture_text(alloc: Global, measure: &Measure) -> Result<String, AllocError>
     format!(in alloc; "picture {width} {height} baseline {baseline} ink {ink}\n")
 }
 
-fn character_text(
-    alloc: Global,
-    c: char,
-    character: &CharacterMeasure,
-) -> Result<String, AllocError>
-    ensures { IfOk result (λ text. string_bytes text ≡ character_text c character.now) }
+fn character_text(alloc: Global, c: char, place: &CharacterMeasure) -> Result<String, AllocError>
+    ensures { IfOk result (λ text. string_bytes text ≡ character_text c place.now) }
 {
     let code = c as u32;
-    let glyph = character.glyph;
-    let pen = character.pen;
-    let advance = character.advance;
-    let ink = box_text(alloc, character.ink)?;
+    let glyph = place.glyph;
+    let pen = place.pen;
+    let advance = place.advance;
+    let ink = box_text(alloc, place.ink)?;
     format!(in alloc; "U+{code:04X} {glyph} {pen} {advance} {ink}\n")
 }
 

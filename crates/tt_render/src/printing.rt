@@ -6,7 +6,8 @@ use tt_core::Sink;
 use tt_pbm::write_all_of;
 
 /// Prints a text, unless the device has failed. A new failure is not reported, for lack of another device.
-pub(crate) fn print_text<E: Sink>(error: &mut E, text: &str)
+#[tactic(auto, using(crate::proofs::Printed::printed))]
+pub fn print_text<E: Sink>(error: &mut E, text: &str)
     ensures { PrintsBehind (E.has_failed error.old) (errors_of E.written E.has_failed error.old error.new) text.now }
 {
     if !error.failed() {

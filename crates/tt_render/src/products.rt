@@ -1,12 +1,11 @@
 //! The product of a text: its output, and how it is written.
 
-ghost use Rattle.std.specs.Io.KnownBytes.{Appends};
-ghost use Rattle.std.specs.Prelude.{◌≡◌, ◌<◌, false, is_err, length, take, Ok, IfOk, IfErr, OnOk};
+ghost use Rattle.std.specs.Prelude.{◌≡◌, false, Ok, IfOk};
 ghost use Rattle.tt_core.specs.Outcomes.{GivesUnless, draw_font_fault};
 ghost use Rattle.tt_line.specs.Layout.{text_glyphs};
+ghost use Rattle.tt_pbm.specs.Writing.{Writes};
 ghost use Rattle.tt_picture.specs.Pictures.{IsReady, image_of};
-ghost use Rattle.tt_render.specs.Texts.{IsMadeBy, measure_by, picture_by, product_of};
-ghost use Rattle.tt_render.specs.TextsOutcome.{CanGoOut, bytes_in, cost_in, unfitted_in};
+ghost use Rattle.tt_render.specs.Products.{CanGoOut, IsMadeBy, bytes_in, cost_in, measure_by, picture_by, product_of, unfitted_in};
 ghost use Rattle.tt_strike.specs.Costs.{cost_by};
 ghost use Rattle.tt_strike.specs.Defects.{IsLineDefect, TellsDefects};
 ghost use Rattle.tt_strike.specs.Measures.{measure_view};
@@ -55,7 +54,7 @@ impl Output {
 
 /// The picture of a text by a strike: as it is, or with `grow` enlarged so that no ink is cut. Errors: those of
 /// `Strike::line` or `Strike::grown_line`.
-#[tactic(auto, unfolding(crate::specs::Texts::picture_by))]
+#[tactic(auto, unfolding(crate::specs::Products::picture_by))]
 pub fn make_picture(
     strike: &mut Strike,
     grow: bool,
@@ -76,7 +75,7 @@ pub fn make_picture(
 }
 
 /// The measure of the picture that `make_picture` makes. Errors: those of `Strike::measure` or `Strike::grown_measure`.
-#[tactic(auto, unfolding(crate::specs::Texts::measure_by))]
+#[tactic(auto, unfolding(crate::specs::Products::measure_by))]
 pub fn make_measure(
     strike: &mut Strike,
     grow: bool,
@@ -97,7 +96,7 @@ pub fn make_measure(
 }
 
 /// A text's output by a strike. Errors: those of `make_picture` or `make_measure`.
-#[tactic(auto, unfolding(crate::specs::Texts::product_of))]
+#[tactic(auto, unfolding(crate::specs::Products::product_of))]
 pub(crate) fn make_output(
     alloc: Global,
     strike: &mut Strike,
@@ -131,10 +130,7 @@ pub(crate) fn make_output(
 pub(crate) fn write_output<W: Sink>(out: &mut W, output: &mut Output) -> Result<(), Cut>
     requires out { W.has_failed out.old ≡ false }
     requires ready { CanGoOut output.old }
-    ensures all { OnOk result (Appends (W.written out.old) (W.written out.new) (bytes_in output.old)) }
-    ensures part { IfErr result (λ cut. Appends (W.written out.old) (W.written out.new) (take cut.sent (bytes_in output.old))) }
-    ensures within { IfErr result (λ cut. cut.sent < length (bytes_in output.old)) }
-    ensures failure { W.has_failed out.new ≡ is_err result }
+    ensures { Writes result (W.written out.old) (W.written out.new) (W.has_failed out.new) (bytes_in output.old) }
 {
     match output {
         Output::Picture(drawn) => write_picture(out, drawn),

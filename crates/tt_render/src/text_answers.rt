@@ -3,15 +3,16 @@
 ghost use Rattle.std.specs.Prelude.{◌≡◌, IfOk};
 ghost use Rattle.tt_core.specs.Outcomes.{GivesUnless, IfTold};
 ghost use Rattle.tt_line.specs.Layout.{text_glyphs};
+ghost use Rattle.tt_render.specs.Products.{CanGoOut};
 ghost use Rattle.tt_render.specs.Texts.{missing_tested, text_answer};
-ghost use Rattle.tt_render.specs.TextsOutcome.{CanGoOut, IsOfText, TellsOf, answer_view, refusal_font_fault, told, without_line};
+ghost use Rattle.tt_render.specs.TextsOutcome.{IsOfText, TellsOf, answer_view, refusal_font_fault, told, without_line};
 ghost use Rattle.tt_strike.specs.Defects.{IsLineDefect, TellsDefects};
 ghost use Rattle.tt_strike.specs.Strikes.{job_of};
 
 use crate::products::{Output, make_output};
 use crate::refusal::{Refusal, TextsFault, texts_fault};
 use crate::setting::{Missing, Setting};
-use crate::texts_messages::report_text;
+use crate::texts_messages::Messages;
 use std::alloc::Global;
 use tt_cmap::{Cmap, lacking};
 use tt_strike::Strike;
@@ -27,17 +28,12 @@ pub(crate) struct ReadyText {
 /// The characters of a text without a glyph that are reported. Error: Missing, the first, where they are refused. The
 /// caller knows the line.
 #[tactic(auto, unfolding(crate::specs::Texts::missing_tested))]
-fn missing_of(
-    alloc: Global,
-    cmap: &Cmap,
-    missing: Missing,
-    text: &str,
-) -> Result<Vec<char>, TextsFault>
-    ensures exact { GivesUnless told (λ v. v.items) (without_line result) (missing_tested cmap.now missing text.now) }
+fn missing_of(alloc: Global, cmap: &Cmap, how: Missing, text: &str) -> Result<Vec<char>, TextsFault>
+    ensures exact { GivesUnless told (λ v. v.items) (without_line result) (missing_tested cmap.now how text.now) }
     ensures font { IfTold refusal_font_fault (without_line result) (λ _. ⊥) }
     ensures serves { IsOfText (without_line result) }
 {
-    match missing {
+    match how {
         Missing::Draw => Ok(Vec::new(alloc)),
         Missing::Tell => Ok(lacking(alloc, cmap, text)?),
         Missing::Refuse => {
@@ -70,7 +66,7 @@ pub(crate) fn answer_text(
     let face = strike.face();
     let output = make_output(alloc, strike, setting, text)?;
     let lacking = missing_of(alloc, face.cmap(), setting.missing, text)?;
-    let report = report_text(alloc, number, output.unfitted(), &lacking)?;
+    let report = Messages { alloc, number }.report(output.unfitted(), &lacking)?;
     Ok(ReadyText {
         output,
         lacking,

@@ -4,9 +4,10 @@ ghost use Rattle.std.specs.Prelude.{◌≡◌, ◌≤◌, false, length, Ok, Non
 ghost use Rattle.tt_core.specs.Limits.{font_limit};
 ghost use Rattle.tt_render_run.specs.Outcome.{traffic_of};
 ghost use Rattle.tt_render.specs.Printing.{errors_of};
+ghost use Rattle.tt_render.specs.Products.{CanGoOut};
 ghost use Rattle.tt_render.specs.Settings.{job_by, strike_of};
 ghost use Rattle.tt_render.specs.Texts.{text_answer};
-ghost use Rattle.tt_render.specs.TextsOutcome.{CanGoOut, FontTextGives, ReadiesText, TellsOf, TextTellsDefects, TextTellsDefectsOf};
+ghost use Rattle.tt_render.specs.TextsOutcome.{FontTextGives, ReadiesText, TellsOf, TextTellsDefects, TextTellsDefectsOf};
 ghost use Rattle.tt_strike.specs.Defects.{IsRunDefect};
 ghost use Rattle.tt_strike.specs.Job.{tested};
 
@@ -22,12 +23,7 @@ use tt_strike::{Face, Strike, test_job};
 
 /// The answer of the one text by a font file. Errors, the first of: Font, of the tables needed for every text; those of
 /// `answer_text`. Memory may come at any allocation.
-fn ready_text(
-    alloc: Global,
-    file: &[u8],
-    text: &str,
-    setting: &Setting,
-) -> Result<ReadyText, TextsFault>
+fn draw(alloc: Global, file: &[u8], text: &str, setting: &Setting) -> Result<ReadyText, TextsFault>
     requires size { length file.now ≤ font_limit }
     requires tested { tested (job_by setting.now text.now) ≡ Ok tt }
     ensures outcome { ReadiesText (λ s. text_answer setting.now s text.now) (strike_of setting.now file.now) result }
@@ -71,7 +67,7 @@ pub fn draw_text<R: Source, W: Sink, E: Sink>(
 {
     test_job(&setting.job(text))?;
     let file = read_font(alloc, font)?;
-    let mut ready = ready_text(alloc, &file, text, setting)?;
+    let mut ready = draw(alloc, &file, text, setting)?;
     match write_output(out, &mut ready.output) {
         Ok(()) => {
             print_text(error, &ready.report);

@@ -40,7 +40,11 @@ fn named_line(fault: &TextsFault) -> Option<u32>
 pub fn texts_line(alloc: Global, fault: &TextsFault) -> Result<String, AllocError>
     ensures { IfOk result (λ text. string_bytes text ≡ texts_line_of fault.now) }
 {
-    let head = head(alloc, named_line(fault))?;
+    let about = Messages {
+        alloc,
+        number: named_line(fault),
+    };
+    let head = about.head()?;
     match &fault.refusal {
         Refusal::Font(fault) => {
             let table = fault.tag();
@@ -68,83 +72,77 @@ pub fn texts_line(alloc: Global, fault: &TextsFault) -> Result<String, AllocErro
     }
 }
 
-/// The start of a message about the one text, or about the line with this number.
-fn head(alloc: Global, number: Option<u32>) -> Result<String, AllocError>
-    ensures { IfOk result (λ text. string_bytes text ≡ head_of number) }
-{
-    match number {
-        None => String::from_str(alloc, "tt_render: "),
-        Some(number) => format!(in alloc; "tt_render: line {number}: "),
+/// The messages about the one text, or about the line with this number.
+#[derive(Clone, Copy)]
+pub(crate) struct Messages {
+    pub(crate) alloc: Global,
+    pub(crate) number: Option<u32>,
+}
+
+impl Messages {
+    /// The start of a message.
+    fn head(self) -> Result<String, AllocError>
+        ensures { IfOk result (λ text. string_bytes text ≡ head_of self.number) }
+    {
+        match self.number {
+            None => String::from_str(self.alloc, "tt_render: "),
+            Some(number) => format!(in self.alloc; "tt_render: line {number}: "),
+        }
     }
-}
 
-/// The report of a drawn text; `number` is that of a line. A line, with its line feed, for each unfitted glyph, and
-/// then one for each character without a glyph. An empty report takes no memory.
-#[tactic(auto, unfolding(crate::specs::Reports::report_text_of))]
-pub(crate) fn report_text(
-    alloc: Global,
-    number: Option<u32>,
-    unfitted: &[Unfitted],
-    lacking: &[char],
-) -> Result<String, AllocError>
-    ensures exact { IfOk result (λ text. string_bytes text ≡ report_text_of number unfitted.now lacking.now) }
-    ensures memory { length unfitted.now ≡ 0 → length lacking.now ≡ 0 → IsOk result }
-{
-    let mut text = String::new(alloc);
-    push_unfitted(alloc, &mut text, number, unfitted)?;
-    push_lacking(alloc, &mut text, number, lacking)?;
-    Ok(text)
-}
-
-/// Appends a line for each unfitted glyph.
-fn push_unfitted(
-    alloc: Global,
-    text: &mut String,
-    number: Option<u32>,
-    unfitted: &[Unfitted],
-) -> Result<(), AllocError>
-    ensures exact { OnOk result (string_bytes text.new ≡ string_bytes text.old ++ flat_map (unfitted_told number) unfitted.now) }
-    ensures memory { length unfitted.now ≡ 0 → IsOk result }
-{
-    for entry in unfitted {
-        text.push_str(&glyph_line(alloc, number, entry)?)?;
+    /// The report of the text. A line, with its line feed, for each unfitted glyph, and then one for each character
+    /// without a glyph. An empty report takes no memory.
+    #[tactic(auto, unfolding(crate::specs::Reports::report_text_of))]
+    pub(crate) fn report(self, glyphs: &[Unfitted], lacking: &[char]) -> Result<String, AllocError>
+        ensures exact { IfOk result (λ text. string_bytes text ≡ report_text_of self.number glyphs.now lacking.now) }
+        ensures memory { length glyphs.now ≡ 0 → length lacking.now ≡ 0 → IsOk result }
+    {
+        let mut text = String::new(self.alloc);
+        self.push_unfitted(&mut text, glyphs)?;
+        self.push_lacking(&mut text, lacking)?;
+        Ok(text)
     }
-    Ok(())
-}
 
-/// Appends a line for each character without a glyph.
-fn push_lacking(
-    alloc: Global,
-    text: &mut String,
-    number: Option<u32>,
-    lacking: &[char],
-) -> Result<(), AllocError>
-    ensures exact { OnOk result (string_bytes text.new ≡ string_bytes text.old ++ flat_map (lacking_told number) lacking.now) }
-    ensures memory { length lacking.now ≡ 0 → IsOk result }
-{
-    for c in lacking {
-        text.push_str(&character_line(alloc, number, *c)?)?;
+    /// Appends a line for each unfitted glyph.
+    fn push_unfitted(self, text: &mut String, unfitted: &[Unfitted]) -> Result<(), AllocError>
+        ensures exact { OnOk result (string_bytes text.new ≡ string_bytes text.old ++ flat_map (unfitted_told self.number) unfitted.now) }
+        ensures memory { length unfitted.now ≡ 0 → IsOk result }
+    {
+        for entry in unfitted {
+            text.push_str(&self.glyph_line(entry)?)?;
+        }
+        Ok(())
     }
-    Ok(())
-}
 
-fn glyph_line(alloc: Global, number: Option<u32>, unfitted: &Unfitted) -> Result<String, AllocError>
-    ensures { IfOk result (λ text. string_bytes text ≡ unfitted_told number unfitted.now) }
-{
-    let head = head(alloc, number)?;
-    let glyph = unfitted.glyph;
-    let fault = unfitted.fault;
-    let table = fault.tag();
-    let offset = fault.offset;
-    let code = fault.why.number();
-    let name = fault.why.name();
-    format!(in alloc; "{head}glyph {glyph} unfitted: {table}+{offset}: {code} {name}\n")
-}
+    /// Appends a line for each character without a glyph.
+    fn push_lacking(self, text: &mut String, lacking: &[char]) -> Result<(), AllocError>
+        ensures exact { OnOk result (string_bytes text.new ≡ string_bytes text.old ++ flat_map (lacking_told self.number) lacking.now) }
+        ensures memory { length lacking.now ≡ 0 → IsOk result }
+    {
+        for c in lacking {
+            text.push_str(&self.character_line(*c)?)?;
+        }
+        Ok(())
+    }
 
-fn character_line(alloc: Global, number: Option<u32>, c: char) -> Result<String, AllocError>
-    ensures { IfOk result (λ text. string_bytes text ≡ lacking_told number c) }
-{
-    let head = head(alloc, number)?;
-    let code = c as u32;
-    format!(in alloc; "{head}U+{code:04X} has no glyph\n")
+    fn glyph_line(self, unfitted: &Unfitted) -> Result<String, AllocError>
+        ensures { IfOk result (λ text. string_bytes text ≡ unfitted_told self.number unfitted.now) }
+    {
+        let head = self.head()?;
+        let glyph = unfitted.glyph;
+        let fault = unfitted.fault;
+        let table = fault.tag();
+        let offset = fault.offset;
+        let code = fault.why.number();
+        let name = fault.why.name();
+        format!(in self.alloc; "{head}glyph {glyph} unfitted: {table}+{offset}: {code} {name}\n")
+    }
+
+    fn character_line(self, c: char) -> Result<String, AllocError>
+        ensures { IfOk result (λ text. string_bytes text ≡ lacking_told self.number c) }
+    {
+        let head = self.head()?;
+        let code = c as u32;
+        format!(in self.alloc; "{head}U+{code:04X} has no glyph\n")
+    }
 }

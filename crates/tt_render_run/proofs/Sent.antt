@@ -1,5 +1,5 @@
 -- Lists of bytes written one after the other.
-use Rattle.std.proofs.Common.{◌≡◌, ℕ, ◌+◌, ◌*◌, ◌^◌, ◌<◌, ◌≤◌, zero, suc, List, [], ◌∷◌, ◌++◌, length, take, drop, Option, Some, None, ap, append_assoc, append-nil, refl, sym, arith}
+use Rattle.std.proofs.Common.{◌≡◌, ℕ, ◌+◌, ◌*◌, ◌^◌, ◌<◌, ◌≤◌, zero, suc, List, [], ◌∷◌, ◌++◌, length, take, drop, Option, Some, None, ap, append_assoc, append-nil, length-drop, refl, sym, arith}
 use Rattle.std.proofs.Math.Seq.{take-append-add}
 use Rattle.std.proofs.lemmas.List.{length-take-le, take-append-drop}
 use Rattle.std.proofs.lemmas.Nat.{mul-le}
@@ -36,6 +36,10 @@ row_ends w h r below =
     let least : stride w * (r + 1) ≤ stride w * h = mul-le (stride w) (r + 1) (stride w) h (omega arith) (omega arith)
     in
     omega (arith, least)
+
+-- the length of a row among the rows
+pub row_len : (n at : ℕ) (bytes : List ℕ) → at + n ≤ length bytes → length (take n (drop at bytes)) ≡ n
+row_len n at bytes within = length-take-le n (drop at bytes) (omega (arith, length-drop at bytes, within))
 
 -- the first bytes, and then n of those after them
 pub next_part : (m n : ℕ) (bytes : List ℕ) → m ≤ length bytes → take m bytes ++ take n (drop m bytes) ≡ take (m + n) bytes

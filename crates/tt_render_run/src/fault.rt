@@ -1,10 +1,9 @@
 //! Why a call fails.
 
 ghost use Rattle.std.specs.Prelude.{◌≡◌};
-ghost use Rattle.tt_render_run.specs.declared.fault.RunFault.TheVariants.{Job, Memory, Write};
+ghost use Rattle.tt_render_run.specs.declared.fault.RunFault.TheVariants.{Job, Write};
 ghost use Rattle.tt_render_run.specs.Views.{run_fault_of_font, run_fault_of_draw};
 
-use std::alloc::AllocError;
 use thiserror::Error;
 use tt_core::{Fault, FontFault, JobFault};
 use tt_pbm::Cut;
@@ -69,13 +68,5 @@ impl From<Cut> for RunFault {
 
     fn from(cut: Cut) -> RunFault {
         RunFault::Write { sent: cut.sent }
-    }
-}
-
-impl From<AllocError> for RunFault {
-    ghost from_gives = { λ _ e. e ≡ Memory };
-
-    fn from(_e: AllocError) -> RunFault {
-        RunFault::Memory
     }
 }

@@ -14,6 +14,6 @@ pub use drawing::Drawn;
 pub use fault::RunFault;
 pub use mapping::map;
 pub use messages::{line, status, unfitted_line};
-pub use reading::{read_behind, read_font};
+pub use reading::{read_after, read_font};
 pub use running::run;
 pub use writing::write_picture;

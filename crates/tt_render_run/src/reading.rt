@@ -34,12 +34,8 @@ fn make_room(file: &mut Vec<u8>, filled: usize) -> Result<(), AllocError>
     file.resize(wanted, 0)
 }
 
-/// One read, to the place behind the filled front.
-pub fn read_behind<R: Source>(
-    font: &mut R,
-    buf: &mut [u8],
-    filled: usize,
-) -> Result<usize, IoFailed>
+/// One read, to the place after the filled front.
+pub fn read_after<R: Source>(font: &mut R, buf: &mut [u8], filled: usize) -> Result<usize, IoFailed>
     requires { filled < length buf.old }
     ensures front { take filled buf.new ≡ take filled buf.old }
     ensures bound { IfOk result (λ n. filled + n ≤ length buf.new) }
@@ -59,8 +55,10 @@ pub fn read_font<R: Source>(alloc: Global, font: &mut R) -> Result<Vec<u8>, RunF
     let mut file = Vec::new(alloc);
     let mut filled = 0;
     'pieces: loop {
-        make_room(&mut file, filled)?;
-        match read_behind(font, &mut file, filled) {
+        if let Err(AllocError) = make_room(&mut file, filled) {
+            return Err(RunFault::Memory);
+        }
+        match read_after(font, &mut file, filled) {
             Ok(0) => {
                 file.truncate(filled);
                 return Ok(file);

@@ -1,8 +1,8 @@
 //! Writes a picture: its header, and then each row, which is made once the rows before it are written.
 
-ghost use Rattle.std.specs.Prelude.{◌≡◌, ◌+◌, ◌*◌, ◌^◌, ◌<◌, ◌≤◌, false, is_err, length, take, IfErr, OnOk};
-ghost use Rattle.std.specs.Io.KnownBytes.{Appends};
+ghost use Rattle.std.specs.Prelude.{◌≡◌, ◌+◌, ◌^◌, ◌<◌, false, length, IfErr};
 ghost use Rattle.tt_core.specs.Bits.{stride};
+ghost use Rattle.tt_pbm.specs.Writing.{Writes};
 ghost use Rattle.tt_picture.specs.Pictures.{IsReady, row_at};
 ghost use Rattle.tt_render_run.specs.File.{picture_bytes};
 
@@ -16,10 +16,7 @@ pub fn write_picture<W: Sink>(out: &mut W, drawn: &mut Drawn) -> Result<(), Cut>
     requires out { W.has_failed out.old ≡ false }
     requires ready { IsReady drawn.old.picture }
     requires row { length drawn.old.row.items ≡ stride drawn.old.picture.frame.width }
-    ensures all { OnOk result (Appends (W.written out.old) (W.written out.new) (picture_bytes drawn.old.picture)) }
-    ensures part { IfErr result (λ cut. Appends (W.written out.old) (W.written out.new) (take cut.sent (picture_bytes drawn.old.picture))) }
-    ensures within { IfErr result (λ cut. cut.sent < length (picture_bytes drawn.old.picture)) }
-    ensures failure { W.has_failed out.new ≡ is_err result }
+    ensures writes { Writes result (W.written out.old) (W.written out.new) (W.has_failed out.new) (picture_bytes drawn.old.picture) }
     ensures report { drawn.new.picture.unfitted ≡ drawn.old.picture.unfitted }
 {
     let header = p4_header(drawn.picture.width(), drawn.picture.height());
@@ -38,11 +35,8 @@ fn write_rows<W: Sink>(out: &mut W, picture: &mut Picture, row: &mut [u8]) -> Re
     requires out { W.has_failed out.old ≡ false }
     requires ready { IsReady picture.old }
     requires row { length row.old ≡ stride picture.old.frame.width }
-    ensures all { OnOk result (Appends (W.written out.old) (W.written out.new) picture.old.rows) }
-    ensures part { IfErr result (λ cut. Appends (W.written out.old) (W.written out.new) (take cut.sent picture.old.rows)) }
-    ensures within { IfErr result (λ cut. cut.sent < length picture.old.rows) }
+    ensures writes { Writes result (W.written out.old) (W.written out.new) (W.has_failed out.new) picture.old.rows }
     ensures bound { IfErr result (λ cut. cut.sent < 2 ^ 32) }
-    ensures failure { W.has_failed out.new ≡ is_err result }
     ensures report { picture.new.unfitted ≡ picture.old.unfitted }
 {
     let mut sent = 0;
@@ -62,10 +56,7 @@ fn write_row<W: Sink>(out: &mut W, picture: &mut Picture, row: &mut [u8]) -> Res
     requires out { W.has_failed out.old ≡ false }
     requires within { picture.old.made < picture.old.frame.height }
     requires row { length row.old ≡ stride picture.old.frame.width }
-    ensures all { OnOk result (Appends (W.written out.old) (W.written out.new) (row_at picture.old picture.old.made)) }
-    ensures part { IfErr result (λ cut. Appends (W.written out.old) (W.written out.new) (take cut.sent (row_at picture.old picture.old.made))) }
-    ensures within { IfErr result (λ cut. cut.sent < stride picture.old.frame.width) }
-    ensures failure { W.has_failed out.new ≡ is_err result }
+    ensures writes { Writes result (W.written out.old) (W.written out.new) (W.has_failed out.new) (row_at picture.old picture.old.made) }
     ensures same { picture.new ≡ record picture.old { made = picture.old.made + 1 } }
     ensures row { length row.new ≡ stride picture.old.frame.width }
 {

@@ -135,14 +135,20 @@ fn table_named(line: &mut Line, word: &str) -> [u8; 4]
 type Definitions<'a> = (Functions<'a>, Functions<'a>);
 
 /// Runs a program on these parts, after the font program has defined its functions and instructions.
-fn run<'a>(alloc: Global, line: &mut Line, font: Code<'a>, code: Code<'a>, parts: Parts<'a>)
+fn run<'a>(alloc: Global, line: &mut Line, font: Code<'a>, code: Code<'a>, mut parts: Parts<'a>)
     requires size { parts.ppem ≤ size_limit }
     requires scale { IsScale parts.scale }
     requires zones { IsZones (zones_view parts.zones) }
 {
-    match definitions_of(alloc, &parts, font) {
-        Some(definitions) => run_defined(alloc, line, code, parts, definitions),
-        None => line.refuse("the font program stops, or memory is refused"),
+    let Some(mut definitions) = definitions_of(alloc, &parts, font) else {
+        line.refuse("the font program stops, or memory is refused");
+        return;
+    };
+    swap(&mut parts.functions, &mut definitions.0);
+    swap(&mut parts.instructions, &mut definitions.1);
+    match started(alloc, &parts) {
+        Some(machine) => put_run(line, machine, code, &parts),
+        None => line.refuse("out of memory"),
     }
 }
 
@@ -174,26 +180,6 @@ fn left_by<'a>(mut machine: Machine<'a>, code: Code<'a>) -> Option<Parts<'a>> {
     match machine.run(code) {
         Ok(_) => machine.into_parts(),
         Err(_) => None,
-    }
-}
-
-/// Runs a program on these parts with other functions and instructions.
-fn run_defined<'a>(
-    alloc: Global,
-    line: &mut Line,
-    code: Code<'a>,
-    mut parts: Parts<'a>,
-    mut definitions: Definitions<'a>,
-)
-    requires size { parts.ppem ≤ size_limit }
-    requires scale { IsScale parts.scale }
-    requires zones { IsZones (zones_view parts.zones) }
-{
-    swap(&mut parts.functions, &mut definitions.0);
-    swap(&mut parts.instructions, &mut definitions.1);
-    match started(alloc, &parts) {
-        Some(machine) => put_run(line, machine, code, &parts),
-        None => line.refuse("out of memory"),
     }
 }
 

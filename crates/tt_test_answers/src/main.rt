@@ -78,27 +78,22 @@ fn answer_lines(rt: &HostRuntime, what: &str) -> Result<()> {
     for text in input.lines(rt.alloc()) {
         let text = text?;
         number = number.wrapping_add(1);
-        answer_line(rt, what, text.as_str(), number, &mut kept)?;
+        let mut line = Line::new(rt.alloc(), text.as_str());
+        answer_line(rt, what, &mut line, &mut kept)?;
+        line.print(rt, number)?;
     }
     Ok(())
 }
 
 /// Answers a line of standard input.
-fn answer_line(
-    rt: &HostRuntime,
-    what: &str,
-    text: &str,
-    number: u64,
-    kept: &mut Kept,
-) -> Result<()> {
-    let mut line = Line::new(rt.alloc(), text);
+fn answer_line(rt: &HostRuntime, what: &str, line: &mut Line, kept: &mut Kept) -> Result<()> {
     let what = if what == "any" { line.word() } else { what };
     match what {
-        "pixels" => pixels::answer(rt.alloc(), &mut line),
-        "dropouts" => dropouts::answer(rt.alloc(), &mut line),
-        "machine" => machine::answer(rt.alloc(), &mut line, &mut kept.program),
-        "fonts" => fonts::answer(rt, &mut line, &mut kept.asked)?,
+        "pixels" => pixels::answer(rt.alloc(), line),
+        "dropouts" => dropouts::answer(rt.alloc(), line),
+        "machine" => machine::answer(rt.alloc(), line, &mut kept.program),
+        "fonts" => fonts::answer(rt, line, &mut kept.asked)?,
         _ => line.refuse("no such table"),
     }
-    line.print(rt, number)
+    Ok(())
 }

@@ -161,7 +161,7 @@ fn put_pixels(alloc: Global, line: &mut Line, fitter: &Fitter, g: u16, frame: Fr
 {
     match fitted_twice(line, fitter, g) {
         Ok(outline) => {
-            let Some(mut tape) = chords_twice(alloc, line, g, &outline, frame) else {
+            let Some(mut tape) = tape_of(alloc, line, g, &outline, frame) else {
                 line.refuse("no chords");
                 return;
             };
@@ -178,13 +178,7 @@ fn put_pixels(alloc: Global, line: &mut Line, fitter: &Fitter, g: u16, frame: Fr
 }
 
 /// The edges of an outline whose left phantom point is moved to 0, requested once more where memory was refused.
-fn chords_twice(
-    alloc: Global,
-    line: &mut Line,
-    g: u16,
-    outline: &Outline,
-    frame: Frame,
-) -> Option<Tape>
+fn tape_of(alloc: Global, line: &mut Line, g: u16, outline: &Outline, frame: Frame) -> Option<Tape>
     requires frame { FrameFits frame }
     requires coordinates { All IsPoint outline.now.points.items }
     requires ends { AreEnds (length outline.now.points.items) outline.now.ends.items }

@@ -6,8 +6,8 @@ use super::devices::{Given, Manner, Written};
 use std::alloc::Global;
 use std::str;
 use tt_core::Device;
-use tt_program_decisions::{DRAW, Request, perform, setting_of};
-use tt_render::{Product, Setting};
+use tt_program_decisions::{DRAW, GLYPHS_KEPT, Request, fit_named, missing_named, perform};
+use tt_render::Setting;
 use tt_test_words::Line;
 
 /// The font, and how it is read and the answer is taken.
@@ -155,13 +155,10 @@ fn manner_in(line: &mut Line) -> Manner {
 fn setting_in(line: &mut Line, missing: &str) -> Option<Setting> {
     let size = line.number(0, u32::MAX as i64) as u32;
     let margin = line.number(0, u32::MAX as i64) as u32;
-    let fit = line.word();
-    setting_of(
-        Some(size),
-        Some(margin),
-        Some(fit),
-        Some(missing),
-        false,
-        Product::Picture,
-    )
+    let fit = fit_named(line.word())?;
+    Some(Setting {
+        missing: missing_named(missing)?,
+        most: GLYPHS_KEPT,
+        ..Setting::plain(size, margin, fit)
+    })
 }

@@ -1,4 +1,4 @@
-use Rattle.std.proofs.Common.{◌≡◌, List, ℕ, chars, map, Result, Ok, Err, refl, ◌∙◌, arith}
+use Rattle.std.proofs.Common.{◌≡◌, ◌≢◌, List, ℕ, chars, map, Result, Ok, Err, refl, ◌∙◌, arith}
 use Rattle.std.specs.Prelude.{IfSome}
 use Rattle.std.proofs.lemmas.List.{length-map}
 use Rattle.tt_face.specs.Defects.{IsFaceDefect}
@@ -12,7 +12,7 @@ use Rattle.tt_c_calls.specs.Fonts.{face_wanted}
 use Rattle.tt_c_calls.specs.Refusals.{as_call, call_refusal, refused}
 use Rattle.tt_c_calls.specs.Maps.{glyph_told, glyphs_wanted}
 use Rattle.tt_c_calls.specs.declared.mapping.CGlyph.{CGlyph}
-use Rattle.tt_c_calls.proofs.Answered.{by_face, by_test, first_stops, serves, stands, tells}
+use Rattle.tt_c_calls.proofs.Answered.{by_face, by_test, fails, first_stops, serves, stands, tells, wants_none}
 use Rattle.tt_c_calls.proofs.mapping.map.Goals as goal
 
 abbrev told_by : List ℕ → Face → Result (List CGlyph) Refused
@@ -33,56 +33,61 @@ of_tables : (text font : List ℕ) (t : List ℕ) → text_asked text ≡ Ok t �
 unfolding glyphs_wanted
 of_tables text font t is passes = rw is (by_face (text_tested t) (told_by t) font passes)
 
-pub returns-in-Err-clause-refused : goal.returns-in-Err-clause-refused
-returns-in-Err-clause-refused c =
+pub returns-in-Err : goal.returns-in-Err
+returns-in-Err c =
     let text = c.args.text.now in
     let font = c.args.font.now in
-    rw c.answer_of.ensures
-    (λ _ _. tells (glyphs_wanted text font) c.in-Err.fault (not_text text font c.in-Err.fault c.in-Err.ensures.exact))
+    let fault = c.in-Err.fault in
+    rw c.answer_of.ensures (record {
+      done = λ h. absurd (fails fault h);
+      refused = λ _ _. tells (glyphs_wanted text font) fault (not_text text font fault c.in-Err.ensures.exact);
+      small = λ h. absurd (wants_none fault h);
+      memory = rw c.in-Err.ensures.refused (λ h. omega (arith, h));
+      kept = λ _. refl;
+      stands = rw c.in-Err.ensures.refused (λ h. absurd (omega (arith, h)));
+    })
 
-pub returns-in-Err-clause-memory : goal.returns-in-Err-clause-memory
-returns-in-Err-clause-memory c = rw (c.answer_of.ensures, c.in-Err.ensures.refused) (λ h. omega (arith, h))
-
-pub returns-in-Err-clause-stands : goal.returns-in-Err-clause-stands
-returns-in-Err-clause-stands c = rw (c.answer_of.ensures, c.in-Err.ensures.refused) (λ h. absurd (omega (arith, h)))
-
-pub returns-in-Err-test_text-clause-refused : goal.returns-in-Err-test_text-clause-refused
-returns-in-Err-test_text-clause-refused c =
+pub returns-in-Err-test_text : goal.returns-in-Err-test_text
+returns-in-Err-test_text c =
     let fault = c.in-Err-test_text.fault in
     let is = too_long c.args.text.now c.args.font.now c.in-Ok.text.now fault c.in-Ok.ensures.exact c.in-Err-test_text.ensures.exact in
-    rw c.answer_of-in-Err-test_text.ensures
-    (λ _ _. tells (glyphs_wanted c.args.text.now c.args.font.now) (call.Job fault) is)
+    rw c.answer_of-in-Err-test_text.ensures (record {
+      done = λ h. absurd (fails (call.Job fault) h);
+      refused = λ _ _. tells (glyphs_wanted c.args.text.now c.args.font.now) (call.Job fault) is;
+      small = λ h. absurd (wants_none (call.Job fault) h);
+      memory = λ h. omega (arith, h);
+      kept = λ _. refl;
+      stands = λ h. absurd (omega (arith, h));
+    })
 
-pub returns-in-Ok-face_of-clause-done : goal.returns-in-Ok-face_of-clause-done
-returns-in-Ok-face_of-clause-done c =
-    let text = c.in-Ok.text.now in
-    let face = c.in-Ok-face_of.face in
-    let is = of_tables c.args.text.now c.args.font.now text c.in-Ok.ensures.exact c.in_default.ensures.exact in
-    λ h. (map (glyph_told face.metrics face.cmap) (chars text), is ∙ rw c.in-Ok-face_of.ensures.exact refl, c.write_glyphs.ensures.done h)
-
-pub returns-in-Ok-face_of-clause-small : goal.returns-in-Ok-face_of-clause-small
-returns-in-Ok-face_of-clause-small c =
+pub returns-in-Ok-face_of : goal.returns-in-Ok-face_of
+returns-in-Ok-face_of c =
     let text = c.in-Ok.text.now in
     let face = c.in-Ok-face_of.face in
     let told = map (glyph_told face.metrics face.cmap) (chars text) in
     let is = of_tables c.args.text.now c.args.font.now text c.in-Ok.ensures.exact c.in_default.ensures.exact in
-    λ h. (told, is ∙ rw c.in-Ok-face_of.ensures.exact refl, rw length-map (c.write_glyphs.ensures.small (λ none. omega (arith, h, none))))
+    let own = c.write_glyphs in
+    let seven : own.result.status ≢ 0 → own.result.status ≡ 7 = λ other. rw (own.ensures.small other).1 refl in
+    record {
+      done = λ h. (told, is ∙ rw c.in-Ok-face_of.ensures.exact refl, own.ensures.done h);
+      refused = λ other not_seven. absurd (not_seven (seven other));
+      small = λ h. (told, is ∙ rw c.in-Ok-face_of.ensures.exact refl, rw length-map (own.ensures.small (λ none. omega (arith, h, none))));
+      memory = λ five. omega (arith, five, seven (λ zero. omega (arith, five, zero)));
+      kept = own.ensures.kept;
+      stands = λ one. absurd (omega (arith, one, seven (λ zero. omega (arith, one, zero))));
+    }
 
-pub returns-in-Err-face_of-clause-refused : goal.returns-in-Err-face_of-clause-refused
-returns-in-Err-face_of-clause-refused c =
+pub returns-in-Err-face_of : goal.returns-in-Err-face_of
+returns-in-Err-face_of c =
     let text = c.in-Ok.text.now in
     let font = c.args.font.now in
-    let wanted = glyphs_wanted c.args.text.now font in
     let fault = c.in-Err-face_of.fault in
     let is = of_tables c.args.text.now font text c.in-Ok.ensures.exact c.in_default.ensures.exact in
-    rw c.answer_of-in-Err-face_of.ensures
-    (λ _ _. tells wanted fault (rw is (first_stops (face_wanted font) _ fault c.in-Err-face_of.ensures.exact)))
-
-pub returns-in-Err-face_of-clause-memory : goal.returns-in-Err-face_of-clause-memory
-returns-in-Err-face_of-clause-memory c =
-    rw c.answer_of-in-Err-face_of.ensures (serves c.in-Err-face_of.fault c.in-Err-face_of.ensures.memory)
-
-pub returns-in-Err-face_of-clause-stands : goal.returns-in-Err-face_of-clause-stands
-returns-in-Err-face_of-clause-stands c =
-    rw c.answer_of-in-Err-face_of.ensures
-    (stands (IsFaceDefect c.args.font.now) c.in-Err-face_of.fault c.in-Err-face_of.ensures.defects)
+    rw c.answer_of-in-Err-face_of.ensures (record {
+      done = λ h. absurd (fails fault h);
+      refused = λ _ _. tells (glyphs_wanted c.args.text.now font) fault (rw is (first_stops (face_wanted font) _ fault c.in-Err-face_of.ensures.exact));
+      small = λ h. absurd (wants_none fault h);
+      memory = serves fault c.in-Err-face_of.ensures.memory;
+      kept = λ _. refl;
+      stands = stands (IsFaceDefect font) fault c.in-Err-face_of.ensures.defects;
+    })

@@ -1,29 +1,29 @@
 use Rattle.std.proofs.Common.{◌≡◌, ◌≢◌, arith, refl}
+use Rattle.tt_strike.specs.Measures.{measure_view}
 use Rattle.tt_c_calls.specs.Measures.{measure_wanted}
 use Rattle.tt_c_calls.proofs.Answered.{fails, stands, tells, wants_none}
 use Rattle.tt_c_calls.proofs.measuring.characters.Goals as goal
 
-pub returns-in-Ok-clause-refused : goal.returns-in-Ok-clause-refused
-returns-in-Ok-clause-refused c =
-    λ not_done not_seven. absurd (not_seven (rw (c.write_characters.ensures.small not_done).1 refl))
+pub returns-in-Ok : goal.returns-in-Ok
+returns-in-Ok c =
+    let m = measure_view c.in-Ok.measure in
+    let own = c.write_characters in
+    let seven : own.result.status ≢ 0 → own.result.status ≡ 7 = λ other. rw (own.ensures.small other).1 refl in
+    record {
+      done = λ h. (m, c.in-Ok.ensures.exact, own.ensures.done h);
+      refused = λ other not_seven. absurd (not_seven (seven other));
+      small = λ h. (m, c.in-Ok.ensures.exact, own.ensures.small (λ zero. omega (arith, h, zero)));
+      kept = own.ensures.kept;
+      stands = λ one. absurd (omega (arith, one, seven (λ zero. omega (arith, one, zero))));
+    }
 
-pub returns-in-Ok-clause-stands : goal.returns-in-Ok-clause-stands
-returns-in-Ok-clause-stands c =
-    λ one.
-    let other : c.write_characters.result.status ≢ 0 = λ zero. omega (arith, one, zero) in
-    let seven : c.write_characters.result.status ≡ 7 = rw (c.write_characters.ensures.small other).1 refl in
-    absurd (omega (arith, one, seven))
-
-pub returns-in-Err-clause-done : goal.returns-in-Err-clause-done
-returns-in-Err-clause-done c = rw c.answer_of.ensures (λ h. absurd (fails c.in-Err.fault h))
-
-pub returns-in-Err-clause-refused : goal.returns-in-Err-clause-refused
-returns-in-Err-clause-refused c =
-    rw c.answer_of.ensures
-    (λ _ _. tells (measure_wanted c.args.job.now c.args.text.now c.args.font.now) c.in-Err.fault c.in-Err.ensures.exact)
-
-pub returns-in-Err-clause-small : goal.returns-in-Err-clause-small
-returns-in-Err-clause-small c = rw c.answer_of.ensures (λ h. absurd (wants_none c.in-Err.fault h))
-
-pub returns-in-Err-clause-stands : goal.returns-in-Err-clause-stands
-returns-in-Err-clause-stands c = rw c.answer_of.ensures (stands _ c.in-Err.fault c.in-Err.ensures.defects)
+pub returns-in-Err : goal.returns-in-Err
+returns-in-Err c =
+    let fault = c.in-Err.fault in
+    rw c.answer_of.ensures (record {
+      done = λ h. absurd (fails fault h);
+      refused = λ _ _. tells (measure_wanted c.args.request.job.now c.args.request.text.now c.args.request.font.now) fault c.in-Err.ensures.exact;
+      small = λ h. absurd (wants_none fault h);
+      kept = λ _. refl;
+      stands = stands _ fault c.in-Err.ensures.defects;
+    })

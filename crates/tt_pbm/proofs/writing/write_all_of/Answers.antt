@@ -1,4 +1,5 @@
-use Rattle.std.proofs.Common.{rules, arith}
+use Rattle.std.proofs.Common.{◌≡◌, length, rules, arith}
+use Rattle.std.proofs.lemmas.List.{take_all}
 use Rattle.tt_pbm.proofs.Appended.{appends_more}
 use Rattle.tt_pbm.proofs.writing.write_all_of.Goals as goal
 
@@ -13,5 +14,21 @@ loop-sent-preserved g c =
       sound = search rules;
     }
 
-pub returns-in-Err-clause-part : goal.returns-in-Err-clause-part
-returns-in-Err-clause-part g c = grind (arith, c.in-Err.ensures.bytes, c.loop-sent.invariant.part)
+pub returns-in-Err : goal.returns-in-Err
+returns-in-Err g c = record {
+  all = tt;
+  part = grind (arith, c.in-Err.ensures.bytes, c.loop-sent.invariant.part);
+  within = c.loop-sent-test.true;
+  failure = search rules;
+}
+
+pub returns : goal.returns
+returns g c =
+    let so_far = c.loop-sent.invariant in
+    let all : c.loop-sent.sent ≡ length c.args.bytes.now = omega (arith, so_far.within, c.loop-sent-test.false) in
+    record {
+      all = rw (take_all c.loop-sent.sent c.args.bytes.now (omega (arith, all))) at so_far.part;
+      part = tt;
+      within = tt;
+      failure = so_far.sound;
+    }

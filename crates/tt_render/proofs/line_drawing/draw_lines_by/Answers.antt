@@ -34,14 +34,13 @@ loop-before-init g c =
     let left = g.R.Source.left c.args.lines.now in
     let reader = c.in_ok-reader in
     record {
-      valid = reader.ensures.valid;
       strike = refl;
       reads = c.requires.lines;
       few = omega arith;
       writes = c.requires.out;
       so_far = none_so_far (line_drawn c.args.setting.now c.args.strike.now) left (text_left reader.reader left)
           (g.W.Sink.written c.args.out.now) (g.E.Sink.written c.args.error.now)
-          (g.E.Sink.has_failed c.args.error.now) (whole_text (held reader.reader) left reader.ensures.empty)
+          (g.E.Sink.has_failed c.args.error.now) (whole_text (held reader.reader) left reader.ensures)
           c.requires.error;
     }
 
@@ -87,7 +86,7 @@ returns-in-Err-draw_line-clause-outcome g c =
     let fails = stopped_in (line_drawn a c.args.strike.now) (line_drawn a c.loop-before.strike) c.in-Err-draw_line.fault.refusal
     (text_left c.loop-before.reader (left c.loop-before.lines))
     (text_left c.next_line.new.reader (left c.next_line.new.lines)) t e c.loop-before.before c.loop-before.used
-    (line_at c.next_line.new.reader c.in-Ok-Some.place) same so_far.so_far found.1 found.3 is
+    (line_at c.next_line.new.reader c.in-Ok-Some.place) same so_far.so_far found.0 found.2 is
     c.in-Err-draw_line.ensures.serves c.in-Ok-Some.ensures.failure so_far.writes in
     rw c.texts_fault-in-Err-draw_line.ensures fails
 
@@ -110,7 +109,7 @@ returns-in-Err-write_output-clause-outcome g c =
     let e = errors_of g.E.Sink.written g.E.Sink.has_failed c.args.error.now c.loop-before.error in
     let sends = cut_sent draw (text_left c.loop-before.reader (left c.loop-before.lines))
     (text_left c.next_line.new.reader (left c.next_line.new.lines)) (written c.loop-before.out) t e
-    c.loop-before.before c.loop-before.used cut.cut.sent line (answer_view c.in-Ok.ready) so_far.so_far found.1 found.3 is
+    c.loop-before.before c.loop-before.used cut.cut.sent line (answer_view c.in-Ok.ready) so_far.so_far found.0 found.2 is
     cut.ensures.within cut.ensures.part in
     (sends, c.in-Ok-Some.ensures.failure, cut.ensures.failure)
 
@@ -141,7 +140,6 @@ loop-before-preserved g c =
     let used : c.loop-before.used + answer.cost ≡ c.loop-before.used + c.from-used.result =
     omega (arith, c.from-used.ensures, c.cost.ensures) in
     record {
-      valid = c.in-Ok-Some.ensures.valid;
       strike = kept_alone c.args.strike.now c.loop-before.strike c.draw_line.new.strike so_far.strike
           c.in-Ok.ensures.same;
       reads = c.in-Ok-Some.ensures.failure;
@@ -153,7 +151,7 @@ loop-before-preserved g c =
           (written c.loop-before.out) (written c.write_output.new.out) (told c.args.error.now)
           (told c.loop-before.error) (told c.print_text.new.error) (failed c.loop-before.error)
           (failed c.print_text.new.error) c.loop-before.before line answer c.loop-before.used so_far.so_far
-          found.1 found.3 is c.in_default.ensures.all printed);
+          found.0 found.2 is c.in_default.ensures.all printed);
     }
 
 pub returns-clause-outcome : goal.returns-clause-outcome
@@ -198,7 +196,7 @@ returns-in-Err-draw_line-clause-defects g c =
     rw c.texts_fault-in-Err-draw_line.ensures (stop_tells IsOne (line_drawn a c.args.strike.now)
     (left c.args.lines.now) rest (g.W.Sink.written c.args.out.now) (g.W.Sink.written c.loop-before.out)
     (errors_of g.E.Sink.written g.E.Sink.has_failed c.args.error.now c.loop-before.error) c.loop-before.before
-    c.loop-before.used why so_far.so_far (next_tells IsOne rest after line why found.1 is))
+    c.loop-before.used why so_far.so_far (next_tells IsOne rest after line why found.0 is))
 
 pub returns-in-Ok-None-clause-kept : goal.returns-in-Ok-None-clause-kept
 returns-in-Ok-None-clause-kept g c = omega (

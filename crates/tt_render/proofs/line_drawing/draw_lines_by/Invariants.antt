@@ -1,5 +1,5 @@
 use Rattle.std.proofs.Common.{◌≡◌, ◌*◌, ◌≤◌, false}
-use Rattle.tt_render.specs.LineReading.{IsReader, text_left}
+use Rattle.tt_render.specs.LineReading.{text_left}
 use Rattle.tt_render.specs.Lines.{line_drawn}
 use Rattle.tt_render.specs.Printing.{errors_of}
 use Rattle.tt_render.proofs.DrawnLines.{SoFar}
@@ -8,7 +8,6 @@ use Rattle.tt_render.proofs.line_drawing.draw_lines_by.Given as goal
 -- the earlier lines were written with their reports, and the remaining text has the others
 abbrev pub invariant-loop-before : goal.invariant-loop-before
 invariant-loop-before g l = record {
-  valid : IsReader l.reader;
   strike : l.strike ≡ record l.fn.strike { kept = l.strike.kept };
   reads : g.R.Source.has_failed l.lines ≡ false;
   few : l.used ≤ 18446744073709551615 * l.before;

@@ -7,24 +7,24 @@ use Rattle.tt_render_run.proofs.reading.read_font.Goals as goal
 pub returns-then-filled-gt-FONT_LIMIT : goal.returns-then-filled-gt-FONT_LIMIT
 returns-then-filled-gt-FONT_LIMIT g c =
     let left = g.R.Source.left in
-    let buf = c.read_behind.new.buf in
+    let buf = c.read_after.new.buf in
     let filled = c.pieces.filled + c.in-Ok.n in
-    let front = rw c.deref_mut.ensures.value at c.read_behind.ensures.front in
-    let known = consumes_filled (left c.args.font.now) (left c.pieces.font) (left c.read_behind.new.font)
+    let front = rw c.deref_mut.ensures.value at c.read_after.ensures.front in
+    let known = consumes_filled (left c.args.font.now) (left c.pieces.font) (left c.read_after.new.font)
     c.pieces.file.items buf c.pieces.filled c.in-Ok.n (front ∙ c.make_room.ensures.front)
     c.pieces.invariant.bytes c.in-Ok.ensures.bytes in
     let long = length-take-le filled buf c.in-Ok.ensures.bound in
     let large : font_limit < length (take filled buf) = omega (arith, long, c.if-filled-gt-FONT_LIMIT.true) in
-    let larger = consumes_larger (left c.args.font.now) (left c.read_behind.new.font) (take filled buf) font_limit known
+    let larger = consumes_larger (left c.args.font.now) (left c.read_after.new.font) (take filled buf) font_limit known
     large in
     (larger, (take filled buf, known), search rules)
 
 pub pieces-preserved : goal.pieces-preserved
 pieces-preserved g c =
     let left = g.R.Source.left in
-    let buf = c.read_behind.new.buf in
-    let front = rw c.deref_mut.ensures.value at c.read_behind.ensures.front in
-    let known = consumes_filled (left c.args.font.now) (left c.pieces.font) (left c.read_behind.new.font)
+    let buf = c.read_after.new.buf in
+    let front = rw c.deref_mut.ensures.value at c.read_after.ensures.front in
+    let known = consumes_filled (left c.args.font.now) (left c.pieces.font) (left c.read_after.new.font)
     c.pieces.file.items buf c.pieces.filled c.in-Ok.n (front ∙ c.make_room.ensures.front)
     c.pieces.invariant.bytes c.in-Ok.ensures.bytes in
     let long : length buf ≡ c.make_room.new.file.len = search (rules, places) in
@@ -41,11 +41,11 @@ pieces-preserved g c =
 pub returns-in-Ok-eq0 : goal.returns-in-Ok-eq0
 returns-in-Ok-eq0 g c =
     let left = g.R.Source.left in
-    let buf = c.read_behind.new.buf in
+    let buf = c.read_after.new.buf in
     let filled = c.pieces.filled in
-    let front = rw c.deref_mut.ensures.value at c.read_behind.ensures.front in
+    let front = rw c.deref_mut.ensures.value at c.read_after.ensures.front in
     let none : filled + c.in-Ok-eq0.field-0 ≡ filled = omega (arith, c.in-Ok-eq0.field-0-test) in
-    let known = rw none at (consumes_filled (left c.args.font.now) (left c.pieces.font) (left c.read_behind.new.font)
+    let known = rw none at (consumes_filled (left c.args.font.now) (left c.pieces.font) (left c.read_after.new.font)
     c.pieces.file.items buf filled c.in-Ok-eq0.field-0 (front ∙ c.make_room.ensures.front)
     c.pieces.invariant.bytes c.in-Ok-eq0.ensures.bytes) in
     let long : length buf ≡ c.make_room.new.file.len = search (rules, places) in

@@ -115,7 +115,7 @@ returns-in_err-write_picture-clause-outcome g c =
     let p = err_from_is_err_and c.from_residual-in_err-write_picture.result
     c.from_residual-in_err-write_picture.ensures.1 in
     rw (p.1, p.2)
-    (of_font.tested, with_bytes (run_wanted a) (file_pictured a) of_font Q (left c.args.font.now) (left c.read_font.new.font) file.file.items bytes file.ensures.0 file.ensures.1 file.ensures.2 made (cut.ensures.within, cut.ensures.part), (file.ensures.1, file.ensures.3), cut.ensures.failure)
+    (of_font.tested, with_bytes (run_wanted a) (file_pictured a) of_font Q (left c.args.font.now) (left c.read_font.new.font) file.file.items bytes file.ensures.0 file.ensures.1 file.ensures.2 made (cut.ensures.writes.within, cut.ensures.writes.part), (file.ensures.1, file.ensures.3), cut.ensures.writes.failure)
 
 pub returns-in_err-write_picture-clause-defects : goal.returns-in_err-write_picture-clause-defects
 returns-in_err-write_picture-clause-defects g c =
@@ -137,7 +137,7 @@ returns-clause-outcome g c =
     let bytes = picture_bytes c.in_ok-picture.picture.picture in
     let made = ap as_file (rw c.deref.ensures.value at c.in_ok-picture.ensures.exact) in
     let Q : List ℕ → Type 0 = Appends (written c.args.out.now) (written c.write_picture.new.out) in
-    (of_font.tested, with_bytes (run_wanted a) (file_pictured a) of_font Q (left c.args.font.now) (left c.read_font.new.font) file.file.items bytes file.ensures.0 file.ensures.1 file.ensures.2 made c.in_ok-write_picture.ensures.all, (file.ensures.1, file.ensures.3), c.in_ok-write_picture.ensures.failure)
+    (of_font.tested, with_bytes (run_wanted a) (file_pictured a) of_font Q (left c.args.font.now) (left c.read_font.new.font) file.file.items bytes file.ensures.0 file.ensures.1 file.ensures.2 made c.in_ok-write_picture.ensures.writes.all, (file.ensures.1, file.ensures.3), c.in_ok-write_picture.ensures.writes.failure)
 
 pub returns-clause-defects : goal.returns-clause-defects
 returns-clause-defects g c =

@@ -1,8 +1,8 @@
-use Rattle.std.proofs.Common.{◌≡◌, ◌∙◌, ◌+◌, ◌*◌, ◌≤◌, length, take, refl, ap, arith}
+use Rattle.std.proofs.Common.{◌≡◌, ◌∙◌, ◌+◌, ◌*◌, ◌<◌, ◌≤◌, length, take, refl, ap, arith}
 use Rattle.std.proofs.lemmas.List.{take_all}
 use Rattle.tt_core.specs.Bits.{stride}
 use Rattle.tt_picture.specs.Pictures.{row_at}
-use Rattle.tt_render_run.proofs.Sent.{appends_none, appends_more, next_part, part_of_next, row_ends, few_bytes}
+use Rattle.tt_render_run.proofs.Sent.{appends_none, appends_more, next_part, part_of_next, row_ends, row_len, few_bytes}
 use Rattle.tt_render_run.proofs.writing.write_rows.Goals as goal
 
 pub loop-r-init : goal.loop-r-init
@@ -35,7 +35,7 @@ loop-r-preserved g c =
     let ends = row_ends p.frame.width p.frame.height r below in
     let many = c.requires.ready.rows in
     let within : n * r ≤ length p.rows = omega (arith, ends, many) in
-    let all = rw so_far.picture at c.in-Ok.ensures.all in
+    let all = rw so_far.picture at c.in-Ok.ensures.writes.all in
     let len : length c.write_row.new.row ≡ n = rw so_far.picture at c.in-Ok.ensures.row in
     let next : n * r + n ≡ n * (r + 1) = omega arith in
     record {
@@ -46,21 +46,26 @@ loop-r-preserved g c =
       out = appends_more (written c.args.out.now) (written c.loop-r.out) (written c.write_row.new.out)
           (take (n * r) p.rows) (row_at p r) (take (n * (r + 1)) p.rows) so_far.out all
           (next_part (n * r) n p.rows within ∙ ap (λ m. take m p.rows) next);
-      serves = c.in-Ok.ensures.failure;
+      serves = c.in-Ok.ensures.writes.failure;
     }
 
-pub returns-clause-all : goal.returns-clause-all
-returns-clause-all g c =
+pub returns-clause-writes : goal.returns-clause-writes
+returns-clause-writes g c =
     let so_far = c.loop-r.invariant in
     let p = c.args.picture.now in
     let done : c.loop-r._r ≡ p.frame.height = omega (arith, c.loop-r.auto._r-end, c.loop-r-test.false, so_far.end) in
     let many = c.requires.ready.rows in
     let whole : take (stride p.frame.width * c.loop-r._r) p.rows ≡ p.rows =
     take_all (stride p.frame.width * c.loop-r._r) p.rows (rw (done, many) (omega arith)) in
-    rw whole at so_far.out
+    record {
+      all = rw whole at so_far.out;
+      part = tt;
+      within = tt;
+      failure = so_far.serves;
+    }
 
-pub returns-in-Err-clause-part : goal.returns-in-Err-clause-part
-returns-in-Err-clause-part g c =
+pub returns-in-Err-clause-writes : goal.returns-in-Err-clause-writes
+returns-in-Err-clause-writes g c =
     let written = g.W.Sink.written in
     let so_far = c.loop-r.invariant in
     let r = c.loop-r._r in
@@ -71,28 +76,29 @@ returns-in-Err-clause-part g c =
     let ends = row_ends p.frame.width p.frame.height r below in
     let many = c.requires.ready.rows in
     let within : n * r ≤ length p.rows = omega (arith, ends, many) in
-    let part = rw so_far.picture at c.in-Err.ensures.part in
-    let few = rw so_far.picture at c.in-Err.ensures.within in
+    let cut = rw so_far.picture at c.in-Err.ensures.writes in
+    let inside : sent < length (row_at p r) = cut.within in
+    let few : sent < n = omega (arith, inside, row_len n (n * r) p.rows (omega (arith, ends, many))) in
     let fewer : sent ≤ n = omega (arith, few) in
-    rw so_far.sent (appends_more (written c.args.out.now) (written c.loop-r.out) (written c.write_row.new.out)
-    (take (n * r) p.rows) (take sent (row_at p r)) (take (n * r + sent) p.rows)
-    so_far.out part (part_of_next (n * r) n sent p.rows within fewer))
-
-pub returns-in-Err-clause-within : goal.returns-in-Err-clause-within
-returns-in-Err-clause-within g c =
-    let so_far = c.loop-r.invariant in
-    let f = c.args.picture.now.frame in
-    let below = rw so_far.end at c.loop-r-test.true in
-    let ends = row_ends f.width f.height c.loop-r._r below in
-    let within = rw so_far.picture at c.in-Err.ensures.within in
-    omega (arith, so_far.sent, ends, within, c.requires.ready.rows)
+    record {
+      all = tt;
+      part = rw so_far.sent (appends_more (written c.args.out.now) (written c.loop-r.out) (written c.write_row.new.out)
+          (take (n * r) p.rows) (take sent (row_at p r)) (take (n * r + sent) p.rows)
+          so_far.out cut.part (part_of_next (n * r) n sent p.rows within fewer));
+      within = omega (arith, so_far.sent, ends, few, many);
+      failure = cut.failure;
+    }
 
 pub returns-in-Err-clause-bound : goal.returns-in-Err-clause-bound
 returns-in-Err-clause-bound g c =
     let so_far = c.loop-r.invariant in
-    let f = c.args.picture.now.frame in
+    let p = c.args.picture.now in
+    let n = stride p.frame.width in
+    let r = c.loop-r._r in
     let below = rw so_far.end at c.loop-r-test.true in
-    let ends = row_ends f.width f.height c.loop-r._r below in
-    let few = few_bytes f.width f.height c.requires.ready.frame.width_high c.requires.ready.height in
-    let within = rw so_far.picture at c.in-Err.ensures.within in
-    omega (arith, so_far.sent, ends, few, within)
+    let ends = row_ends p.frame.width p.frame.height r below in
+    let few = few_bytes p.frame.width p.frame.height c.requires.ready.frame.width_high c.requires.ready.height in
+    let cut = rw so_far.picture at c.in-Err.ensures.writes in
+    let inside : c.in-Err.cut.sent < length (row_at p r) = cut.within in
+    let long = row_len n (n * r) p.rows (omega (arith, ends, c.requires.ready.rows)) in
+    omega (arith, so_far.sent, ends, few, inside, long)

@@ -7,10 +7,9 @@ pub returns-in_err-at : goal.returns-in_err-at
 returns-in_err-at c =
     let r = c.args.self.now in
     let known = c.args.known in
-    let valid = c.requires.valid in
-    let long = length-take-le r.until r.buf.items (omega (arith, valid.back)) in
+    let long = length-take-le r.until r.buf.items (omega (arith, r.within)) in
     let part = part_held r.from r.until known r.buf.items
-    (omega (arith, c.requires.within, length-drop r.from (take r.until r.buf.items), long, valid.front)) in
+    (omega (arith, c.requires.within, length-drop r.from (take r.until r.buf.items), long, r.order)) in
     rw c.from_residual.ensures (none_in_both known (held r) c.requires.none
     (rw part (rw c.deref.ensures.value at c.in_err-at.ensures)))
 
@@ -18,9 +17,8 @@ pub returns : goal.returns
 returns c =
     let r = c.args.self.now in
     let known = c.args.known in
-    let valid = c.requires.valid in
-    let long = length-take-le r.until r.buf.items (omega (arith, valid.back)) in
+    let long = length-take-le r.until r.buf.items (omega (arith, r.within)) in
     let part = part_held r.from r.until known r.buf.items
-    (omega (arith, c.requires.within, length-drop r.from (take r.until r.buf.items), long, valid.front)) in
+    (omega (arith, c.requires.within, length-drop r.from (take r.until r.buf.items), long, r.order)) in
     first_feed_behind known c.in_ok-at.at (held r) c.requires.within c.requires.none
     (rw part (rw c.deref.ensures.value at c.in_ok-at.ensures))

@@ -6,4 +6,4 @@ pub returns-clause-held : goal.returns-clause-held
 returns-clause-held c =
     let r = c.args.self.now in
     ap (take (r.until - r.from)) c.copy_within.ensures.items
-    ∙ moved_to_front r.from r.until r.buf.items c.requires.valid.front (omega (arith, c.requires.valid.back))
+    ∙ moved_to_front r.from r.until r.buf.items r.order (omega (arith, r.within))

@@ -1,12 +1,12 @@
 use Rattle.std.proofs.Common.{◌≡◌, ◌≢◌, ◌-◌, ◌≤◌, length, take, All, false}
 use Rattle.std.specs.Io.KnownBytes.{Keeps}
-use Rattle.tt_render.specs.LineReading.{IsReader, held, line_room, text_left}
+use Rattle.tt_render.specs.LineReading.{held, text_left}
+use Rattle.tt_render.specs.Lines.{line_room}
 use Rattle.tt_render.proofs.lines.LineReader.read_line.Given as goal
 
 -- the first held bytes are no line feeds, and the remaining text is unchanged
 abbrev pub invariant-pieces : goal.invariant-pieces
 invariant-pieces g l = record {
-  valid : IsReader l.self;
   within : l.known ≤ length (held l.self);
   none : All (λ x. x ≢ 10) (take l.known (held l.self));
   text : Keeps (text_left l.fn.self (g.R.Source.left l.fn.source)) (text_left l.self (g.R.Source.left l.source));

@@ -1,5 +1,0 @@
-use Rattle.std.proofs.Common.{refl}
-use Rattle.tt_program_decisions.proofs.telling.ended_line.Goals as goal
-
-pub returns : goal.returns
-returns c = rw (c.in_ok-push_str.ensures.bytes, c.in_ok-text.ensures) refl
