@@ -12,8 +12,8 @@ ghost use Rattle.tt_fit.specs.Fallback.{where_refused};
 ghost use Rattle.tt_fit.specs.Fitting.{IsFitter, with_hinting, outline_at, glyph_work, unfitted_fault, fitted_outline, after_glyph, charged_fitter};
 ghost use Rattle.tt_fit.specs.Preparation.{fitter_of};
 ghost use Rattle.tt_fit_outline.specs.Hinting.{IsHinting};
-ghost use Rattle.tt_fit_outline.specs.Outline.{outline_of, phantom_of, IsPoint, ArePhantom, AreEnds, IsOutline};
-ghost use Rattle.tt_fit_outline.specs.Views.{hinting_view};
+ghost use Rattle.tt_fit_outline.specs.Outline.{phantom_of, IsPoint, ArePhantom, AreEnds, IsOutline};
+ghost use Rattle.tt_fit_outline.specs.Views.{hinting_view, outline_of};
 ghost use Rattle.tt_fit_outline.specs.Work.{RefusalLeaves, outline_fault};
 ghost use Rattle.tt_metrics.specs.Metrics.{loca_format_of, glyphs_of};
 
@@ -209,7 +209,6 @@ impl<'a> Fitter<'a> {
         requires work { work.old.left ≡ self.now.work }
         ensures exact { FontGives outline_of result (fitted_outline self.now g) }
         ensures unfitted { IfOk result (λ o. o.unfitted ≡ unfitted_fault self.now g) }
-        ensures valid { IfOk result (λ o. IsOutline (outline_of o)) }
         ensures left { OnOk result (work.new.left ≡ (after_glyph self.now g).work) }
     {
         match self.fallback {
@@ -217,10 +216,10 @@ impl<'a> Fitter<'a> {
             Fallback::Everywhere(fault) => self.marked(machine, &Hinting::Off, g, Some(fault)),
             Fallback::WhereRefused => {
                 match self.outline(machine, &self.hinting, self.levels, g, work) {
-                    Ok(outline) => Ok(Outline {
-                        unfitted: None,
-                        ..outline
-                    }),
+                    Ok(mut outline) => {
+                        outline.unfitted = None;
+                        Ok(outline)
+                    }
                     Err(refusal) => self.refused(g, refusal, machine, work),
                 }
             }
@@ -243,7 +242,6 @@ impl<'a> Fitter<'a> {
         requires fault { IfSome (outline_fault refusal) (λ f. outline_at (with_hinting self.now self.now.hinting) self.now.levels g ≡ Err f) }
         ensures exact { FontGives outline_of result (fitted_outline self.now g) }
         ensures unfitted { IfOk result (λ o. o.unfitted ≡ unfitted_fault self.now g) }
-        ensures valid { IfOk result (λ o. IsOutline (outline_of o)) }
         ensures left { OnOk result (work.new.left ≡ (after_glyph self.now g).work) }
     {
         match refusal {
@@ -273,14 +271,13 @@ impl<'a> Fitter<'a> {
         requires known { g < self.now.tables.glyphs }
         ensures exact { FontGives outline_of result (outline_at (with_hinting self.now (hinting_view hinting.now)) self.now.levels g) }
         ensures unfitted { IfOk result (λ o. o.unfitted ≡ unfitted) }
-        ensures valid { IfOk result (λ o. IsOutline (outline_of o)) }
     {
         let mut work = Work::unbounded();
         match self.outline(machine, hinting, self.levels, g, &mut work) {
-            Ok(outline) => Ok(Outline {
-                unfitted,
-                ..outline
-            }),
+            Ok(mut outline) => {
+                outline.unfitted = unfitted;
+                Ok(outline)
+            }
             Err(refusal) => Err(unbounded(refusal)),
         }
     }

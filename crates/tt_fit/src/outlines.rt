@@ -1,15 +1,14 @@
 //! The outline of a glyph with its components, by the state after the font's programs. OpenType, "The 'glyf' table".
 
-ghost use Rattle.std.specs.Prelude.{◌≡◌, ◌+◌, ◌<◌, ◌^◌, Err, IfOk, length, option_map, All};
+ghost use Rattle.std.specs.Prelude.{◌≡◌, ◌+◌, ◌<◌, ◌^◌, Err, length, option_map, All};
 ghost use Rattle.tt_core.specs.Outcomes.{Gives};
 ghost use Rattle.tt_glyf.specs.Meaning.{HasArguments};
 ghost use Rattle.tt_fit_outline.specs.Joining.{placed};
 ghost use Rattle.tt_fit.specs.Fitting.{with_hinting, size_of, start, glyph_program, joined, added, outline_at, added_work, outline_work};
-ghost use Rattle.tt_fit_outline.specs.Outline.{outline_of, IsOutline};
 ghost use Rattle.tt_fit_outline.specs.Hinting.{IsHinting};
 ghost use Rattle.tt_fit_outline.specs.Scaling.{phantom_units};
 ghost use Rattle.tt_fit_outline.specs.Units.{units_by};
-ghost use Rattle.tt_fit_outline.specs.Views.{hinting_view, size_view, program_view, units_view};
+ghost use Rattle.tt_fit_outline.specs.Views.{hinting_view, outline_of, size_view, program_view, units_view};
 ghost use Rattle.tt_fit_outline.specs.Work.{Makes, WorkGives};
 ghost use Rattle.tt_fit.specs.Work.{joined_work};
 
@@ -33,7 +32,6 @@ impl<'a> Fitter<'a> {
     fn start(&self, x_min: i16, g: u16) -> Result<Outline, Fault>
         requires { g < self.now.tables.glyphs }
         ensures exact { Gives outline_of result (start self.now x_min g) }
-        ensures valid { IfOk result (λ o. IsOutline (outline_of o)) }
     {
         let phantom = phantom_points(self.size(), &self.metrics, x_min, g);
         blank(self.alloc, self.glyf.start(g), phantom)
@@ -86,7 +84,6 @@ impl<'a> Fitter<'a> {
         requires known { g < self.now.tables.glyphs }
         ensures exact { Makes outline_of result (outline_at (with_hinting self.now (hinting_view hinting.now)) levels g) }
         ensures work { WorkGives result work.new.left (outline_work (with_hinting self.now (hinting_view hinting.now)) levels g work.old.left) }
-        ensures valid { IfOk result (λ o. IsOutline (outline_of o)) }
     {
         match self.glyf.read(self.alloc, g)? {
             Raw::Empty => Ok(self.start(0, g)?),
@@ -139,10 +136,8 @@ impl<'a> Fitter<'a> {
         requires hinting { IsHinting (hinting_view hinting.now) }
         requires known { All (λ r. r.glyph < self.now.tables.glyphs) records.now }
         requires arguments { All HasArguments records.now }
-        requires start { IsOutline (outline_of start) }
         ensures exact { Makes outline_of result (joined (added (with_hinting self.now (hinting_view hinting.now)) levels) records.now (outline_of start)) }
         ensures work { WorkGives result work.new.left (joined_work (added (with_hinting self.now (hinting_view hinting.now)) levels) (added_work (with_hinting self.now (hinting_view hinting.now)) levels) records.now (outline_of start) work.old.left) }
-        ensures valid { IfOk result (λ o. IsOutline (outline_of o)) }
     {
         let mut so_far = start;
         for part in records {
@@ -166,10 +161,8 @@ impl<'a> Fitter<'a> {
         requires hinting { IsHinting (hinting_view hinting.now) }
         requires known { part.glyph < self.now.tables.glyphs }
         requires arguments { HasArguments part }
-        requires so_far { IsOutline (outline_of so_far) }
         ensures exact { Makes outline_of result (added (with_hinting self.now (hinting_view hinting.now)) levels part (outline_of so_far)) }
         ensures work { WorkGives result work.new.left (added_work (with_hinting self.now (hinting_view hinting.now)) levels part work.old.left) }
-        ensures valid { IfOk result (λ o. IsOutline (outline_of o)) }
     {
         if levels == 0 {
             return Err(OutlineFault::Font(glyf_fault(part.at, Why::ComponentDepth)));

@@ -5,10 +5,10 @@ ghost use Rattle.std.specs.Prelude.{◌≡◌, ◌+◌, ◌++◌, ◌∷◌, [],
 ghost use Rattle.tt_core.specs.Outcomes.{Gives};
 ghost use Rattle.tt_points_zones.specs.Zones.{IsPoint as IsZonePoint};
 ghost use Rattle.tt_fit_outline.specs.GlyphZone.{on_grid_at, untouched, outline_point, glyph_zone, contours_from, place_of, seen, left_outline};
-ghost use Rattle.tt_fit_outline.specs.Outline.{outline_of, phantom_of, IsCoordinate, IsPoint, IsPosition, ArePhantom, IsOutline};
+ghost use Rattle.tt_fit_outline.specs.Outline.{phantom_of, IsCoordinate, IsPoint, IsPosition, ArePhantom};
 ghost use Rattle.tt_fit_outline.specs.Scaling.{coordinate_fault, is_coordinate, to_grid};
 ghost use Rattle.tt_fit_outline.specs.Units.{IsNear, with_units};
-ghost use Rattle.tt_fit_outline.specs.Views.{units_view};
+ghost use Rattle.tt_fit_outline.specs.Views.{outline_of, units_view};
 
 use crate::outline::Outline;
 use crate::places::{phantom_places, places_of, put_units, with_units};
@@ -129,7 +129,6 @@ pub(crate) fn glyph_zone(
     outline: &Outline,
     grid: &[(i32, i32); 4],
 ) -> Result<Vec<Point>, AllocError>
-    requires outline { IsOutline (outline_of outline.now) }
     requires grid { ArePhantom (phantom_of grid.now) }
     ensures exact { IfOk result (λ v. v.items ≡ glyph_zone (option_map units_view units.entry) (outline_of outline.now) (phantom_of grid.now)) }
     ensures valid { IfOk result (λ v. All IsZonePoint v.items) }
@@ -215,11 +214,9 @@ pub(crate) fn left_outline(
     zone: &[Point],
     scan: ScanControl,
 ) -> Result<Outline, AllocError>
-    requires outline { IsOutline (outline_of outline) }
     requires count { length zone.now ≡ length outline.points.items + 4 }
     requires zone { All IsZonePoint zone.now }
     ensures exact { IfOk result (λ o. outline_of o ≡ left_outline (outline_of outline) zone.now scan) }
-    ensures valid { IfOk result (λ o. IsOutline (outline_of o)) }
 {
     let (own, phantom) = zone.split_at(outline.points.len());
     let points = seen_points(outline.points, own)?;

@@ -7,9 +7,9 @@ ghost use Rattle.tt_exec.specs.Work.{copied_of};
 ghost use Rattle.tt_exec_step.specs.Views.{code_of};
 ghost use Rattle.tt_fit_outline.specs.GlyphZone.{program_in_glyf};
 ghost use Rattle.tt_fit_outline.specs.Hinting.{IsHinting, by_program, hinted, run_of};
-ghost use Rattle.tt_fit_outline.specs.Outline.{outline_of, phantom_of, ArePhantom, IsOutline};
+ghost use Rattle.tt_fit_outline.specs.Outline.{phantom_of, ArePhantom};
 ghost use Rattle.tt_fit_outline.specs.Parts.{AreParts, parts_with};
-ghost use Rattle.tt_fit_outline.specs.Views.{hinting_view, program_view, units_view};
+ghost use Rattle.tt_fit_outline.specs.Views.{hinting_view, outline_of, program_view, units_view};
 ghost use Rattle.tt_fit_outline.specs.Work.{Makes, WorkGives, code_work, hinted_work, program_work};
 ghost use Rattle.tt_points_zones.specs.Zones.{IsZones, SameShape};
 
@@ -106,7 +106,6 @@ fn put_glyph<'a>(
     copies: &mut Copies,
 ) -> Result<(), AllocError>
     requires parts { AreParts (parts_of parts.now) }
-    requires outline { IsOutline (outline_of outline.now) }
     requires grid { ArePhantom (phantom_of grid.now) }
     requires paid { copies.old.left ≡ copied_of (parts_of parts.now) }
     ensures exact { OnOk result (machine.new ≡ begun_again (parts_with (parts_of parts.now) (option_map units_view units.entry) (outline_of outline.now) (phantom_of grid.now))) }
@@ -130,10 +129,8 @@ fn by_program<'a>(
     work: &mut Work,
 ) -> Result<Outline, OutlineFault>
     requires parts { AreParts (parts_of parts.now) }
-    requires outline { IsOutline (outline_of outline) }
     ensures exact { Makes outline_of result (by_program (parts_of parts.now) (program_view program.entry) (outline_of outline)) }
     ensures work { WorkGives result work.new.left (program_work (parts_of parts.now) (program_view program.entry) (outline_of outline) work.old.left) }
-    ensures valid { IfOk result (λ o. IsOutline (outline_of o)) }
 {
     let grid = on_grid(program.glyph_at, &outline.phantom)?;
     let Some(mut copies) = parts.pay(work) else {
@@ -165,10 +162,8 @@ pub fn hinted<'a>(
     work: &mut Work,
 ) -> Result<Outline, OutlineFault>
     requires hinting { IsHinting (hinting_view hinting.now) }
-    requires outline { IsOutline (outline_of outline) }
     ensures exact { Makes outline_of result (hinted (hinting_view hinting.now) (program_view program.entry) (outline_of outline)) }
     ensures work { WorkGives result work.new.left (hinted_work (hinting_view hinting.now) (program_view program.entry) (outline_of outline) work.old.left) }
-    ensures valid { IfOk result (λ o. IsOutline (outline_of o)) }
 {
     match hinting {
         Hinting::Off => Ok(outline),

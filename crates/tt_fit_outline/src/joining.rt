@@ -1,13 +1,13 @@
 //! Joins a component with the points assembled so far. OpenType, "The 'glyf' table", "Composite Glyph Description".
 
-ghost use Rattle.std.specs.Prelude.{◌≡◌, ◌+◌, ◌<◌, ◌≤◌, ◌++◌, length, All, IfOk, OnOk};
+ghost use Rattle.std.specs.Prelude.{◌≡◌, ◌+◌, ◌≤◌, ◌++◌, length, All, OnOk};
 ghost use Rattle.tt_core.specs.Limits.{point_limit};
 ghost use Rattle.tt_core.specs.Outcomes.{after_each, FontGives, Leaves};
 ghost use Rattle.tt_glyf.specs.Meaning.{HasArguments};
 ghost use Rattle.tt_fit_outline.specs.Component.{placed_point};
 ghost use Rattle.tt_fit_outline.specs.Joining.{ends_after, scan_after, appended, placed};
-ghost use Rattle.tt_fit_outline.specs.Outline.{outline_of, IsPoint, IsOutline};
-ghost use Rattle.tt_fit_outline.specs.Views.{size_view, shift_view};
+ghost use Rattle.tt_fit_outline.specs.Outline.{IsPoint};
+ghost use Rattle.tt_fit_outline.specs.Views.{outline_of, size_view, shift_view};
 
 use crate::component::{placed_point, shift_of};
 use crate::outline::Outline;
@@ -69,10 +69,7 @@ fn appended(
     component: &Outline,
     so_far: Outline,
 ) -> Result<Outline, FontFault>
-    requires component { IsOutline (outline_of component.now) }
-    requires so_far { IsOutline (outline_of so_far) }
     ensures exact { FontGives outline_of result (appended part (shift_view by) (outline_of component.now) (outline_of so_far)) }
-    ensures valid { IfOk result (λ o. IsOutline (outline_of o)) }
 {
     let Outline {
         mut points,
@@ -110,10 +107,7 @@ pub fn placed(
     so_far: Outline,
 ) -> Result<Outline, FontFault>
     requires arguments { HasArguments part }
-    requires component { IsOutline (outline_of component.now) }
-    requires so_far { IsOutline (outline_of so_far) }
     ensures exact { FontGives outline_of result (placed (size_view size) part (outline_of component.now) (outline_of so_far)) }
-    ensures valid { IfOk result (λ o. IsOutline (outline_of o)) }
 {
     let by = shift_of(size, part, &component.points, &so_far.points)?;
     appended(part, by, component, so_far)

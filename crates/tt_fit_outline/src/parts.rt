@@ -3,10 +3,10 @@
 
 ghost use Rattle.std.specs.Prelude.{◌≡◌, ◌+◌, ◌*◌, ◌≤◌, length, option_map, IfOk};
 ghost use Rattle.tt_exec.specs.Parts.{parts_of};
-ghost use Rattle.tt_fit_outline.specs.Outline.{outline_of, phantom_of, ArePhantom, IsOutline};
+ghost use Rattle.tt_fit_outline.specs.Outline.{phantom_of, ArePhantom};
 ghost use Rattle.tt_core.specs.Limits.{size_limit};
 ghost use Rattle.tt_fit_outline.specs.Parts.{AreParts, begun_parts, control_value, control_values, glyph_state, left_to_glyphs, originals_by, parts_with, pointers_set_back, without_glyph};
-ghost use Rattle.tt_fit_outline.specs.Views.{size_view, units_view};
+ghost use Rattle.tt_fit_outline.specs.Views.{outline_of, size_view, units_view};
 ghost use Rattle.tt_points_zones.specs.Zones.{zones_view, IsZones};
 
 use crate::glyph_zone::{contours, glyph_zone, untouched};
@@ -171,7 +171,6 @@ pub(crate) fn glyph_zones(
     copies: &mut Copies,
 ) -> Result<Zones, AllocError>
     requires parts { AreParts (parts_of parts.now) }
-    requires outline { IsOutline (outline_of outline.now) }
     requires grid { ArePhantom (phantom_of grid.now) }
     requires paid { length parts.now.zones.twilight.items ≤ copies.old.left }
     ensures exact { IfOk result (λ z. zones_view z ≡ (parts_with (parts_of parts.now) (option_map units_view units.entry) (outline_of outline.now) (phantom_of grid.now)).zones) }

@@ -6,9 +6,9 @@ ghost use Rattle.tt_core.specs.Limits.{point_limit};
 ghost use Rattle.tt_core.specs.Outcomes.{each, FontGives, Gives};
 ghost use Rattle.tt_metrics.specs.Metrics.{glyphs_of};
 ghost use Rattle.tt_glyf.specs.Meaning.{AreEnds as EndContours};
-ghost use Rattle.tt_fit_outline.specs.Outline.{Outline, outline_of, IsCoordinate, IsPoint, IsOutline};
+ghost use Rattle.tt_fit_outline.specs.Outline.{Outline, IsCoordinate, IsPoint};
 ghost use Rattle.tt_fit_outline.specs.Scaling.{is_coordinate, glyf_fault, coordinate_fault, settled, scaled_position, scaled_by_scale, scaled_point, phantom_points, phantom_units, blank, scaled_outline};
-ghost use Rattle.tt_fit_outline.specs.Views.{size_view, landing_view, phantom_view, phantom_units_view};
+ghost use Rattle.tt_fit_outline.specs.Views.{size_view, landing_view, outline_of, phantom_view, phantom_units_view};
 
 use crate::outline::Outline;
 use crate::size::{FontSize, PowerScale};
@@ -179,7 +179,6 @@ pub fn phantom_points(size: FontSize, metrics: &Metrics, x_min: i16, g: u16) -> 
 #[tactic(auto, unfolding(crate::specs::Scaling::blank))]
 pub fn blank(alloc: Global, at: u32, phantom: Phantom) -> Result<Outline, Fault>
     ensures exact { Gives outline_of result (blank at (phantom_view phantom)) }
-    ensures valid { IfOk result (λ o. IsOutline (outline_of o)) }
 {
     let left = coordinate(at, phantom.left)?;
     let right = coordinate(at, phantom.right)?;
@@ -206,9 +205,7 @@ pub fn scaled_outline(
 ) -> Result<Outline, FontFault>
     requires few { length points.now ≤ point_limit }
     requires ends { EndContours (length points.now) last_points.now }
-    requires start { IsOutline (outline_of start) }
     ensures exact { FontGives outline_of result (scaled_outline (size_view size) at points.now last_points.now (outline_of start)) }
-    ensures valid { IfOk result (λ o. IsOutline (outline_of o)) }
 {
     let points = scaled_points(alloc, size, at, points)?;
     let ends = contour_ends(alloc, last_points)?;

@@ -7,8 +7,8 @@ use Rattle.tt_exec.specs.Work.{work_within}
 use Rattle.tt_exec_step.specs.Views.{code_of}
 use Rattle.tt_fit_outline.proofs.Paid.{copies-spent, copies-paid, program-refused, refusal-leaves}
 use Rattle.tt_fit_outline.proofs.Zones.{zone-length}
-use Rattle.tt_fit_outline.specs.Outline.{outline_of, phantom_of}
-use Rattle.tt_fit_outline.specs.Views.{program_view, units_view}
+use Rattle.tt_fit_outline.specs.Outline.{phantom_of}
+use Rattle.tt_fit_outline.specs.Views.{outline_of, program_view, units_view}
 use Rattle.tt_fit_outline.specs.Hinting.{by_program, run_of}
 use Rattle.tt_fit_outline.proofs.hinting.by_program.Goals as goal
 

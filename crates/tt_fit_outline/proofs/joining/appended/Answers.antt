@@ -1,19 +1,20 @@
 use Rattle.std.proofs.Common.{rules, arith}
-use Rattle.tt_fit_outline.specs.Outline.{outline_of, phantom_of, ArePhantom}
+use Rattle.tt_fit_outline.specs.Outline.{phantom_of, ArePhantom}
+use Rattle.tt_fit_outline.specs.Views.{outline_of}
 use Rattle.tt_fit_outline.specs.Joining.{appended, within_point_limit}
 use Rattle.tt_fit_outline.proofs.Outlines.{joined-is}
 use Rattle.tt_fit_outline.proofs.joining.appended.Goals as goal
 use Rattle.tt_fit_outline.proofs.joining.appended.Goals.{then-has, else-has}
 
-pub returns-clause-valid : goal.returns-clause-valid
-returns-clause-valid c =
+pub invariant_of-result-clause-valid : goal.invariant_of-result-clause-valid
+invariant_of-result-clause-valid c =
     let phantoms : ArePhantom (phantom_of c.if-has.phantom) = elim c.if-has.branch [
-      | then-has w ↦ rw w.phantom-is c.requires.component.phantom
+      | then-has w ↦ rw w.phantom-is c.args.component.now.valid.phantom
       | else-has w ↦ rw w.phantom-is
-          c.requires.so_far.phantom
+          c.args.so_far.valid.phantom
     ] in
     joined-is (outline_of c.args.so_far) (outline_of c.args.component.now) c.push_placed.new.points.items
-    c.push_ends.new.ends.items (phantom_of c.if-has.phantom) c.scan_after.result c.requires.so_far c.requires.component (search rules)
+    c.push_ends.new.ends.items (phantom_of c.if-has.phantom) c.scan_after.result c.args.so_far.valid c.args.component.now.valid (search rules)
     (search rules) c.in_ok-push_placed.ensures.coordinates (search rules) phantoms
 
 pub returns-clause-exact : goal.returns-clause-exact

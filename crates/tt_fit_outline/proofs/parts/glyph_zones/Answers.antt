@@ -1,6 +1,6 @@
 use Rattle.std.specs.Prelude.{option_map}
-use Rattle.tt_fit_outline.specs.Views.{units_view}
-use Rattle.tt_fit_outline.specs.Outline.{outline_of, phantom_of}
+use Rattle.tt_fit_outline.specs.Views.{outline_of, units_view}
+use Rattle.tt_fit_outline.specs.Outline.{phantom_of}
 use Rattle.tt_fit_outline.proofs.Zones.{zones-are}
 use Rattle.tt_fit_outline.proofs.parts.glyph_zones.Goals as goal
 
@@ -13,4 +13,4 @@ returns-clause-valid c =
     c.args.parts.now.scale units (outline_of c.args.outline.now) (phantom_of c.args.grid.now)
     (rw twilight c.requires.parts.zones.twilight) glyph.ensures.exact glyph.ensures.valid
     (rw c.deref-2.ensures.value at c.in_ok-contours.ensures) c.originals_by.ensures c.requires.parts.scale
-    c.requires.outline
+    c.args.outline.now.valid

@@ -5,9 +5,8 @@ use Rattle.tt_glyf.specs.GlyphData.{glyph_data_of}
 use Rattle.tt_glyf.specs.Loca.{glyph_offset}
 use Rattle.tt_glyf.specs.Raw.{CompositeGlyph, SimpleGlyph, composite, simple}
 use Rattle.tt_fit.specs.Fitting.{with_hinting, size_of, start, added, added_work}
-use Rattle.tt_fit_outline.specs.Outline.{outline_of}
 use Rattle.tt_fit_outline.specs.Scaling.{scaled_outline}
-use Rattle.tt_fit_outline.specs.Views.{hinting_view}
+use Rattle.tt_fit_outline.specs.Views.{hinting_view, outline_of}
 use Rattle.tt_fit.proofs.Levels.{one_record_more, one_record_paid, one_record_refused, one_level_done, one_level_work, composite_made, simple_made, simple_refused, simple_unpaid}
 use Rattle.tt_fit.proofs.fitting.Fitter.+outlines.Goals as goal
 
@@ -22,7 +21,6 @@ joined-loop-part-preserved t c =
       work = one_record_paid add work c.args.records.now c.loop-part.part-index _ (outline_of c.loop-part.so_far)
           (outline_of c.in_ok-so_far.so_far) _ _ c.loop-part-test.true c.in_ok-so_far.ensures.exact
           c.in_ok-so_far.ensures.work ∙ c.loop-part.invariant.work;
-      valid = c.in_ok-so_far.ensures.valid;
     }
 
 pub joined-returns-in_err-so_far-clause-work : goal.joined-returns-in_err-so_far-clause-work
@@ -139,7 +137,7 @@ outline-joined-requires t c =
         c.requires.hinting,
         (
           rw (c.as_slice.ensures.value, ← c.self.view_is) records.known,
-          (rw c.as_slice.ensures.value arguments, c.in_ok-start-in-Composite.ensures.valid),
+          rw c.as_slice.ensures.value arguments,
         ),
       ),
     )

@@ -3,7 +3,7 @@ use Rattle.std.proofs.lemmas.Result.{err_from_is_err_and}
 use Rattle.tt_core.specs.Chains.{if-told}
 use Rattle.tt_fit.specs.Defects.{IsOutlineDefect}
 use Rattle.tt_fit.specs.Fitting.{Fitter, fitted_outline}
-use Rattle.tt_fit_outline.specs.Outline.{outline_of}
+use Rattle.tt_fit_outline.specs.Views.{outline_of}
 use Rattle.tt_fit.proofs.Falling.{after-is}
 use Rattle.tt_fit.proofs.Standing.{outlines-whole, faults-stand}
 use Rattle.tt_fit.proofs.fitting.Fitter.fit.Goals as goal
