@@ -1,8 +1,8 @@
 //! The outlines of a font at a size.
 
-ghost use Rattle.std.specs.Prelude.{◌≡◌, ◌<◌, ◌≤◌, Err, IfOk, IfSome, OnOk, OnErr, length, All};
+ghost use Rattle.std.specs.Prelude.{◌≡◌, ◌<◌, ◌≤◌, Err, IfOk, IfSome, OnOk, OnErr, length};
 ghost use Rattle.tt_core.specs.Directory.{HasNo};
-ghost use Rattle.tt_core.specs.Limits.{font_limit, point_limit, size_limit};
+ghost use Rattle.tt_core.specs.Limits.{font_limit, size_limit};
 ghost use Rattle.tt_core.specs.Outcomes.{FontGives, IfTold, font_fault};
 ghost use Rattle.tt_face.specs.Programs.{program_tables};
 ghost use Rattle.tt_fit.specs.Counting.{points_asked, counted};
@@ -12,7 +12,6 @@ ghost use Rattle.tt_fit.specs.Fallback.{where_refused};
 ghost use Rattle.tt_fit.specs.Fitting.{IsFitter, with_hinting, outline_at, glyph_work, unfitted_fault, fitted_outline, after_glyph, charged_fitter};
 ghost use Rattle.tt_fit.specs.Preparation.{fitter_of};
 ghost use Rattle.tt_fit_outline.specs.Hinting.{IsHinting};
-ghost use Rattle.tt_fit_outline.specs.Outline.{phantom_of, IsPoint, ArePhantom, AreEnds, IsOutline};
 ghost use Rattle.tt_fit_outline.specs.Views.{hinting_view, outline_of};
 ghost use Rattle.tt_fit_outline.specs.Work.{RefusalLeaves, outline_fault};
 ghost use Rattle.tt_metrics.specs.Metrics.{loca_format_of, glyphs_of};
@@ -133,11 +132,6 @@ impl<'a> Fitter<'a> {
         // Ok means that the glyph and its components have no defect; a fault names a defect they have.
         ensures sound { OnOk result (HasNo (IsOutlineDefect self.now g)) }
         ensures fault { IfTold font_fault result (IsOutlineDefect self.now g) }
-        ensures few { IfOk result (λ o. length o.points.items ≤ point_limit) }
-        ensures coordinates { IfOk result (λ o. All IsPoint o.points.items) }
-        ensures phantom { IfOk result (λ o. ArePhantom (phantom_of o.phantom)) }
-        ensures ends { IfOk result (λ o. AreEnds (length o.points.items) o.ends.items) }
-        ensures outline { IfOk result (λ o. IsOutline (outline_of o)) }
     {
         let mut work = self.work;
         self.fitted_within(g, &mut None, &mut work)
@@ -151,11 +145,6 @@ impl<'a> Fitter<'a> {
         // Ok means that the glyph and its components have no defect; a fault names a defect they have.
         ensures sound { OnOk result (HasNo (IsOutlineDefect self.old g)) }
         ensures fault { IfTold font_fault result (IsOutlineDefect self.old g) }
-        ensures few { IfOk result (λ o. length o.points.items ≤ point_limit) }
-        ensures coordinates { IfOk result (λ o. All IsPoint o.points.items) }
-        ensures phantom { IfOk result (λ o. ArePhantom (phantom_of o.phantom)) }
-        ensures ends { IfOk result (λ o. AreEnds (length o.points.items) o.ends.items) }
-        ensures outline { IfOk result (λ o. IsOutline (outline_of o)) }
         ensures after { OnOk result (self.new ≡ after_glyph self.old g) }
         ensures kept { OnErr result (self.new ≡ self.old) }
     {
