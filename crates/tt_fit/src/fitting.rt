@@ -19,8 +19,8 @@ ghost use Rattle.tt_metrics.specs.Metrics.{loca_format_of, glyphs_of};
 use crate::counting::left_after;
 use crate::dropouts::{DropoutRules, DropoutsBy, program_rules};
 use crate::fallback::{Fallback, is_program_fault};
-use crate::preparation::{Preparation, prepared};
-use crate::programs::Fit;
+use crate::preparation::Preparation;
+use crate::programs::{Fit, ProgramsAtSize};
 use crate::rules::{dropouts_by, levels_of, rules_of};
 use std::alloc::{AllocError, Global};
 use std::marker::Model;
@@ -88,11 +88,17 @@ impl<'a> Fitter<'a> {
         ensures metrics { IfOk result (λ f. f.metrics ≡ metrics.now) }
         ensures ppem { IfOk result (λ f. f.ppem ≡ ppem) }
     {
+        let sized = ProgramsAtSize {
+            metrics,
+            programs,
+            ppem,
+            fit,
+        };
         let Preparation {
             hinting,
             fallback,
             work,
-        } = prepared(alloc, metrics, programs, ppem, fit)?;
+        } = sized.prepared(alloc)?;
         Ok(Fitter {
             alloc,
             metrics: metrics.copy(),
