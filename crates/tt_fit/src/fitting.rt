@@ -16,7 +16,7 @@ ghost use Rattle.tt_fit_outline.specs.Views.{hinting_view, outline_of};
 ghost use Rattle.tt_fit_outline.specs.Work.{RefusalLeaves, outline_fault};
 ghost use Rattle.tt_metrics.specs.Metrics.{loca_format_of, glyphs_of};
 
-use crate::counting::left_after;
+use crate::counting::Counter;
 use crate::dropouts::{DropoutRules, DropoutsBy, program_rules};
 use crate::fallback::{Fallback, is_program_fault};
 use crate::preparation::Preparation;
@@ -121,7 +121,11 @@ impl<'a> Fitter<'a> {
         requires { g < self.now.tables.glyphs }
         ensures exact { IfOk result (λ n. n ≡ counted most (points_asked self.now.tables self.now.levels g)) }
     {
-        match left_after(self.alloc, &self.glyf, self.levels, g, most)? {
+        let counter = Counter {
+            alloc: self.alloc,
+            glyf: &self.glyf,
+        };
+        match counter.left(self.levels, g, most)? {
             Some(left) => Ok(Some(most - left)),
             None => Ok(None),
         }
