@@ -33,17 +33,12 @@ impl Counter<'_, '_> {
             return Ok(Some(most - own));
         }
         let parts = self.glyf.components(self.alloc, g)?;
-        self.left_by_all(levels - 1, parts.as_slice(), most - own)
+        self.left_all(levels - 1, parts.as_slice(), most - own)
     }
 
     /// What remains of `most` after the points of some components; None where they have more.
     #[cycle(counting)]
-    fn left_by_all(
-        &self,
-        levels: u32,
-        parts: &[Record],
-        most: u64,
-    ) -> Result<Option<u64>, AllocError>
+    fn left_all(&self, levels: u32, parts: &[Record], most: u64) -> Result<Option<u64>, AllocError>
         requires { All (λ r. r.glyph < self.now.glyf.now.glyphs) parts.now }
         ensures { IfOk result (λ left. left ≡ left_of most (points_of_all self.now.glyf.now levels parts.now)) }
     {
