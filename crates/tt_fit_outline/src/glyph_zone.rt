@@ -12,8 +12,8 @@ ghost use Rattle.tt_fit_outline.specs.Views.{outline_of, units_view};
 
 use crate::outline::Outline;
 use crate::places::{phantom_places, places_of, put_units, with_units};
+use crate::ready_glyph::ReadyGlyph;
 use crate::scaling::coordinate;
-use crate::units::Units;
 use std::alloc::AllocError;
 use tt_core::Fault;
 use tt_state::{Point, Round, ScanControl};
@@ -51,11 +51,11 @@ fn along_y(at: u32, p: (i32, i32)) -> Result<(i32, i32), Fault>
 /// The phantom points on the grid: the ends of the advance along x, the ascent and the descent along y. Error:
 /// CoordRange, at this offset in glyf.
 #[tactic(auto, unfolding(crate::specs::GlyphZone::on_grid_at))]
-pub(crate) fn on_grid(at: u32, phantom: &[(i32, i32); 4]) -> Result<[(i32, i32); 4], Fault>
-    requires { ArePhantom (phantom_of phantom.now) }
-    ensures exact { Gives phantom_of result (on_grid_at at (phantom_of phantom.now)) }
+pub(crate) fn on_grid(at: u32, outline: &Outline) -> Result<[(i32, i32); 4], Fault>
+    ensures exact { Gives phantom_of result (on_grid_at at (phantom_of outline.now.phantom)) }
     ensures valid { IfOk result (λ p. ArePhantom (phantom_of p)) }
 {
+    let phantom = &outline.phantom;
     let left = along_x(at, phantom[0])?;
     let right = along_x(at, phantom[1])?;
     let ascent = along_y(at, phantom[2])?;
@@ -123,20 +123,15 @@ fn push_phantom(
 }
 
 /// The points of an outline, followed by its phantom points on the grid, in the given memory.
-pub(crate) fn glyph_zone(
-    room: Vec<Point>,
-    units: Option<Units>,
-    outline: &Outline,
-    grid: &[(i32, i32); 4],
-) -> Result<Vec<Point>, AllocError>
-    requires grid { ArePhantom (phantom_of grid.now) }
-    ensures exact { IfOk result (λ v. v.items ≡ glyph_zone (option_map units_view units.entry) (outline_of outline.now) (phantom_of grid.now)) }
+pub(crate) fn glyph_zone(room: Vec<Point>, glyph: &ReadyGlyph) -> Result<Vec<Point>, AllocError>
+    ensures exact { IfOk result (λ v. v.items ≡ glyph_zone (option_map units_view glyph.now.units) (outline_of glyph.now.outline.now) (phantom_of glyph.now.grid)) }
     ensures valid { IfOk result (λ v. All IsZonePoint v.items) }
 {
-    let mut zone = outline_points(room, &outline.points)?;
-    put_units(&mut zone, places_of(units));
-    let places = phantom_places(units);
-    let was = &outline.phantom;
+    let mut zone = outline_points(room, &glyph.outline.points)?;
+    put_units(&mut zone, places_of(glyph.units));
+    let places = phantom_places(glyph.units);
+    let was = &glyph.outline.phantom;
+    let grid = &glyph.grid;
     push_phantom(&mut zone, (places.left, 0), was[0], grid[0])?;
     push_phantom(&mut zone, (places.right, 0), was[1], grid[1])?;
     push_phantom(&mut zone, (0, i32::from(places.ascent)), was[2], grid[2])?;

@@ -7,7 +7,7 @@ ghost use Rattle.tt_exec.specs.Work.{copied_of};
 ghost use Rattle.tt_exec_step.specs.Views.{code_of};
 ghost use Rattle.tt_fit_outline.specs.GlyphZone.{program_in_glyf};
 ghost use Rattle.tt_fit_outline.specs.Hinting.{IsHinting, by_program, hinted, run_of};
-ghost use Rattle.tt_fit_outline.specs.Outline.{phantom_of, ArePhantom};
+ghost use Rattle.tt_fit_outline.specs.Outline.{phantom_of};
 ghost use Rattle.tt_fit_outline.specs.Parts.{AreParts, parts_with};
 ghost use Rattle.tt_fit_outline.specs.Views.{hinting_view, outline_of, program_view, units_view};
 ghost use Rattle.tt_fit_outline.specs.Work.{Makes, WorkGives, code_work, hinted_work, program_work};
@@ -18,8 +18,8 @@ use crate::glyph_zone::{left_outline, on_grid};
 use crate::outline::Outline;
 use crate::outline_fault::{OutlineFault, refusal_of};
 use crate::parts::{glyph_zones, without_contents};
+use crate::ready_glyph::ReadyGlyph;
 use crate::scaling::glyf_fault;
-use crate::units::Units;
 use std::alloc::{AllocError, Global};
 use tt_core::Why;
 use tt_exec::{Code, Copies, Machine, Parts, Work};
@@ -100,20 +100,17 @@ fn put_glyph<'a>(
     alloc: Global,
     machine: &mut Machine<'a>,
     parts: &Parts<'a>,
-    units: Option<Units>,
-    outline: &Outline,
-    grid: &[(i32, i32); 4],
+    glyph: &ReadyGlyph,
     copies: &mut Copies,
 ) -> Result<(), AllocError>
     requires parts { AreParts (parts_of parts.now) }
-    requires grid { ArePhantom (phantom_of grid.now) }
     requires paid { copies.old.left ≡ copied_of (parts_of parts.now) }
-    ensures exact { OnOk result (machine.new ≡ begun_again (parts_with (parts_of parts.now) (option_map units_view units.entry) (outline_of outline.now) (phantom_of grid.now))) }
+    ensures exact { OnOk result (machine.new ≡ begun_again (parts_with (parts_of parts.now) (option_map units_view glyph.now.units) (outline_of glyph.now.outline.now) (phantom_of glyph.now.grid))) }
     ensures valid { OnOk result (IsZones machine.new.state.zones) }
     ensures rest { copies.new.rest ≡ copies.old.rest }
 {
     let room = machine.take_zones(alloc);
-    let zones = glyph_zones(room, parts, units, outline, grid, copies)?;
+    let zones = glyph_zones(room, parts, glyph, copies)?;
     machine.begin_again(parts, zones, copies)
 }
 
@@ -132,19 +129,16 @@ fn by_program<'a>(
     ensures exact { Makes outline_of result (by_program (parts_of parts.now) (program_view program.entry) (outline_of outline)) }
     ensures work { WorkGives result work.new.left (program_work (parts_of parts.now) (program_view program.entry) (outline_of outline) work.old.left) }
 {
-    let grid = on_grid(program.glyph_at, &outline.phantom)?;
+    let grid = on_grid(program.glyph_at, &outline)?;
     let Some(mut copies) = parts.pay(work) else {
         return Err(OutlineFault::Spent(glyf_fault(program.code_at, Why::StepLimit)));
     };
-    put_glyph(
-        alloc,
-        machine,
-        parts,
-        program.units,
-        &outline,
-        &grid,
-        &mut copies,
-    )?;
+    let glyph = ReadyGlyph {
+        outline: &outline,
+        grid,
+        units: program.units,
+    };
+    put_glyph(alloc, machine, parts, &glyph, &mut copies)?;
     match machine.run_paid(code_in_glyf(program), copies, work) {
         Ok(_) => Ok(left_outline(outline, machine.glyph_points(), machine.scan())?),
         Err(fault) => Err(refusal_of(fault)),

@@ -10,6 +10,7 @@ mod outline;
 mod outline_fault;
 mod parts;
 mod places;
+mod ready_glyph;
 mod rules;
 mod scaling;
 mod shift;

@@ -3,14 +3,14 @@
 
 ghost use Rattle.std.specs.Prelude.{◌≡◌, ◌+◌, ◌*◌, ◌≤◌, length, option_map, IfOk};
 ghost use Rattle.tt_exec.specs.Parts.{parts_of};
-ghost use Rattle.tt_fit_outline.specs.Outline.{phantom_of, ArePhantom};
+ghost use Rattle.tt_fit_outline.specs.Outline.{phantom_of};
 ghost use Rattle.tt_core.specs.Limits.{size_limit};
 ghost use Rattle.tt_fit_outline.specs.Parts.{AreParts, begun_parts, control_value, control_values, glyph_state, left_to_glyphs, originals_by, parts_with, pointers_set_back, without_glyph};
 ghost use Rattle.tt_fit_outline.specs.Views.{outline_of, size_view, units_view};
 ghost use Rattle.tt_points_zones.specs.Zones.{zones_view, IsZones};
 
 use crate::glyph_zone::{contours, glyph_zone, untouched};
-use crate::outline::Outline;
+use crate::ready_glyph::ReadyGlyph;
 use crate::rules::OutlineRules;
 use crate::size::FontSize;
 use crate::units::Units;
@@ -165,15 +165,12 @@ fn originals_by(scale: Scale, units: Option<Units>) -> Originals
 pub(crate) fn glyph_zones(
     room: Zones,
     parts: &Parts,
-    units: Option<Units>,
-    outline: &Outline,
-    grid: &[(i32, i32); 4],
+    glyph: &ReadyGlyph,
     copies: &mut Copies,
 ) -> Result<Zones, AllocError>
     requires parts { AreParts (parts_of parts.now) }
-    requires grid { ArePhantom (phantom_of grid.now) }
     requires paid { length parts.now.zones.twilight.items ≤ copies.old.left }
-    ensures exact { IfOk result (λ z. zones_view z ≡ (parts_with (parts_of parts.now) (option_map units_view units.entry) (outline_of outline.now) (phantom_of grid.now)).zones) }
+    ensures exact { IfOk result (λ z. zones_view z ≡ (parts_with (parts_of parts.now) (option_map units_view glyph.now.units) (outline_of glyph.now.outline.now) (phantom_of glyph.now.grid)).zones) }
     ensures valid { IfOk result (λ z. IsZones (zones_view z)) }
     ensures used { copies.new.left + length parts.now.zones.twilight.items ≡ copies.old.left }
     ensures rest { copies.new.rest ≡ copies.old.rest }
@@ -181,8 +178,8 @@ pub(crate) fn glyph_zones(
     let twilight = copies.copy_points(room.twilight, &parts.zones.twilight)?;
     Ok(Zones {
         twilight,
-        glyph: glyph_zone(room.glyph, units, outline, grid)?,
-        contours: contours(room.contours, &outline.ends)?,
-        originals: originals_by(parts.scale, units),
+        glyph: glyph_zone(room.glyph, glyph)?,
+        contours: contours(room.contours, &glyph.outline.ends)?,
+        originals: originals_by(parts.scale, glyph.units),
     })
 }

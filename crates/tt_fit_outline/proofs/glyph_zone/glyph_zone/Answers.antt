@@ -10,7 +10,7 @@ use Rattle.tt_fit_outline.proofs.glyph_zone.glyph_zone.Goals as goal
 pub returns-clause-exact : goal.returns-clause-exact
 returns-clause-exact c =
     let placed : c.put_units.new.zone.items
-    ≡ in_units (places_of (option_map units_view c.args.units)) (map outline_point c.args.outline.now.points.items) = rw
+    ≡ in_units (places_of (option_map units_view c.args.glyph.now.units)) (map outline_point c.args.glyph.now.outline.now.points.items) = rw
     (c.put_units.ensures.exact, c.places_of.ensures, c.in_ok-zone.ensures.exact, c.deref.ensures.value) refl in
     let places = c.phantom_places-places.result in
     let left : SFits w32 places.left = search rules in
