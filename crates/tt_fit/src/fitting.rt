@@ -27,7 +27,7 @@ use std::marker::Model;
 use tt_core::{Fault, FontFault};
 use tt_exec::Work;
 use tt_face::Programs;
-use tt_fit_outline::{GlyphMachine, Hinting, Outline, OutlineFault, Scaling, unbounded};
+use tt_fit_outline::{GlyphMachine, Hinting, Outline, OutlineFault, Runner, Scaling, unbounded};
 use tt_glyf::Glyf;
 use tt_metrics::Metrics;
 
@@ -143,8 +143,12 @@ impl<'a> Fitter<'a> {
         ensures sound { OnOk result (HasNo (IsOutlineDefect self.now g)) }
         ensures fault { IfTold font_fault result (IsOutlineDefect self.now g) }
     {
-        let mut work = self.work;
-        self.fitted_within(g, &mut None, &mut work)
+        let mut runner = Runner {
+            alloc: self.alloc,
+            machine: None,
+            work: self.work,
+        };
+        self.fitted_within(g, &mut runner)
     }
 
     /// As `fitted`, and charges the work of the programs to the job, where work is bounded.
@@ -158,11 +162,14 @@ impl<'a> Fitter<'a> {
         ensures after { OnOk result (self.new ≡ after_glyph self.old g) }
         ensures kept { OnErr result (self.new ≡ self.old) }
     {
-        let mut work = self.work;
-        let mut machine = self.machine.take();
-        let outline = self.fitted_within(g, &mut machine, &mut work)?;
-        self.machine = machine;
-        self.work = work;
+        let mut runner = Runner {
+            alloc: self.alloc,
+            machine: self.machine.take(),
+            work: self.work,
+        };
+        let outline = self.fitted_within(g, &mut runner)?;
+        self.machine = runner.machine;
+        self.work = runner.work;
         Ok(outline)
     }
 
@@ -198,28 +205,23 @@ impl<'a> Fitter<'a> {
 
     /// The outline of a glyph within the job's remaining work, with the fault of a program that makes it unfitted.
     #[tactic(auto, unfolding(crate::specs::Fitting::fitted_outline, crate::specs::Fitting::unfitted_fault))]
-    fn fitted_within(
-        &self,
-        g: u16,
-        machine: &mut GlyphMachine<'a>,
-        work: &mut Work,
-    ) -> Result<Outline, FontFault>
+    fn fitted_within(&self, g: u16, runner: &mut Runner<'a>) -> Result<Outline, FontFault>
         requires known { g < self.now.tables.glyphs }
-        requires work { work.old.left ≡ self.now.work }
+        requires work { runner.old.work.left ≡ self.now.work }
         ensures exact { FontGives outline_of result (fitted_outline self.now g) }
         ensures unfitted { IfOk result (λ o. o.unfitted ≡ unfitted_fault self.now g) }
-        ensures left { OnOk result (work.new.left ≡ (after_glyph self.now g).work) }
+        ensures left { OnOk result (runner.new.work.left ≡ (after_glyph self.now g).work) }
     {
         match self.fallback {
-            Fallback::Never => self.marked(machine, &self.hinting, g, None),
-            Fallback::Everywhere(fault) => self.marked(machine, &Hinting::Off, g, Some(fault)),
+            Fallback::Never => self.marked(&mut runner.machine, &self.hinting, g, None),
+            Fallback::Everywhere(fault) => self.marked(&mut None, &Hinting::Off, g, Some(fault)),
             Fallback::WhereRefused => {
-                match self.outline(machine, &self.hinting, self.levels, g, work) {
+                match self.outline(&self.hinting, self.levels, g, runner) {
                     Ok(mut outline) => {
                         outline.unfitted = None;
                         Ok(outline)
                     }
-                    Err(refusal) => self.refused(g, refusal, machine, work),
+                    Err(refusal) => self.refused(g, refusal, &mut runner.work),
                 }
             }
         }
@@ -228,13 +230,7 @@ impl<'a> Fitter<'a> {
     /// After a refusal with programs: the outline without them if a program is at fault or exceeds the work, else the
     /// refusal.
     #[tactic(auto, unfolding(crate::specs::Fitting::fitted_outline, crate::specs::Fitting::unfitted_fault))]
-    fn refused(
-        &self,
-        g: u16,
-        refusal: OutlineFault,
-        machine: &mut GlyphMachine<'a>,
-        work: &mut Work,
-    ) -> Result<Outline, FontFault>
+    fn refused(&self, g: u16, refusal: OutlineFault, work: &mut Work) -> Result<Outline, FontFault>
         requires known { g < self.now.tables.glyphs }
         requires fallback { self.now.fallback ≡ where_refused }
         requires work { RefusalLeaves refusal work.old.left (glyph_work self.now g self.now.work) }
@@ -248,12 +244,12 @@ impl<'a> Fitter<'a> {
                 if !is_program_fault(fault) {
                     return Err(FontFault::Font(fault));
                 }
-                self.marked(machine, &Hinting::Off, g, Some(fault))
+                self.marked(&mut None, &Hinting::Off, g, Some(fault))
             }
             OutlineFault::Memory => Err(FontFault::Memory),
             OutlineFault::Spent(over) => {
                 *work = Work::of(0);
-                self.marked(machine, &Hinting::Off, g, Some(over))
+                self.marked(&mut None, &Hinting::Off, g, Some(over))
             }
         }
     }
@@ -271,9 +267,15 @@ impl<'a> Fitter<'a> {
         ensures exact { FontGives outline_of result (outline_at (with_hinting self.now (hinting_view hinting.now)) self.now.levels g) }
         ensures unfitted { IfOk result (λ o. o.unfitted ≡ unfitted) }
     {
-        let mut work = Work::unbounded();
-        match self.outline(machine, hinting, self.levels, g, &mut work) {
+        let work = Work::unbounded();
+        let mut runner = Runner {
+            alloc: self.alloc,
+            machine: machine.take(),
+            work,
+        };
+        match self.outline(hinting, self.levels, g, &mut runner) {
             Ok(mut outline) => {
+                *machine = runner.machine;
                 outline.unfitted = unfitted;
                 Ok(outline)
             }

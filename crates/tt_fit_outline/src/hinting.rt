@@ -80,20 +80,6 @@ fn first_machine<'a>(alloc: Global, parts: &Parts<'a>) -> Result<Box<Machine<'a>
     Ok(Box::new(alloc, Machine::new(alloc, parts)?)?)
 }
 
-/// The machine of the glyphs before, or a first one.
-fn machine_of_all<'a>(
-    alloc: Global,
-    machine: GlyphMachine<'a>,
-    parts: &Parts<'a>,
-) -> Result<Box<Machine<'a>>, AllocError>
-    requires { AreParts (parts_of parts.now) }
-{
-    match machine {
-        Some(machine) => Ok(machine),
-        None => first_machine(alloc, parts),
-    }
-}
-
 /// Puts a glyph into a machine, which then equals a new machine made of the parts with this glyph. An allowance that
 /// covers all copies of the parts is used up.
 fn put_glyph<'a>(
@@ -114,61 +100,72 @@ fn put_glyph<'a>(
     machine.begin_again(parts, zones, copies)
 }
 
-/// The outline after a glyph's program, run on a machine into which the glyph is put first. Without work for the copies
-/// nothing is copied. Errors: CoordRange of a phantom point, those of the program, Memory, Spent.
-#[tactic(auto, unfolding(crate::specs::Hinting::by_program, crate::specs::Work::program_work))]
-fn by_program<'a>(
-    alloc: Global,
-    machine: &mut Machine<'a>,
-    parts: &Parts<'a>,
-    program: GlyphProgram<'a, '_>,
-    outline: Outline,
-    work: &mut Work,
-) -> Result<Outline, OutlineFault>
-    requires parts { AreParts (parts_of parts.now) }
-    ensures exact { Makes outline_of result (by_program (parts_of parts.now) (program_view program.entry) (outline_of outline)) }
-    ensures work { WorkGives result work.new.left (program_work (parts_of parts.now) (program_view program.entry) (outline_of outline) work.old.left) }
-{
-    let grid = on_grid(program.glyph_at, &outline)?;
-    let Some(mut copies) = parts.pay(work) else {
-        return Err(OutlineFault::Spent(glyf_fault(program.code_at, Why::StepLimit)));
-    };
-    let glyph = ReadyGlyph {
-        outline: &outline,
-        grid,
-        units: program.units,
-    };
-    put_glyph(alloc, machine, parts, &glyph, &mut copies)?;
-    match machine.run_paid(code_in_glyf(program), copies, work) {
-        Ok(_) => Ok(left_outline(outline, machine.glyph_points(), machine.scan())?),
-        Err(fault) => Err(refusal_of(fault)),
-    }
+/// Runs the programs of glyphs. They share one machine and the job's work.
+#[derive(Drop)]
+pub struct Runner<'a> {
+    pub alloc: Global,
+    pub machine: GlyphMachine<'a>,
+    /// The job's remaining work.
+    pub work: Work,
 }
 
-/// The outline after a glyph's program, from scaled points or joined components. The machine is reused for each glyph.
-/// Errors: CoordRange of a phantom point, those of the program, Memory, Spent.
-pub fn hinted<'a>(
-    alloc: Global,
-    machine: &mut GlyphMachine<'a>,
-    hinting: &Hinting<'a>,
-    program: GlyphProgram<'a, '_>,
-    outline: Outline,
-    work: &mut Work,
-) -> Result<Outline, OutlineFault>
-    requires hinting { IsHinting (hinting_view hinting.now) }
-    ensures exact { Makes outline_of result (hinted (hinting_view hinting.now) (program_view program.entry) (outline_of outline)) }
-    ensures work { WorkGives result work.new.left (hinted_work (hinting_view hinting.now) (program_view program.entry) (outline_of outline) work.old.left) }
-{
-    match hinting {
-        Hinting::Off => Ok(outline),
-        Hinting::Ready(parts) => {
-            if parts.skip_glyphs || program.code.is_empty() {
-                return Ok(outline);
+impl<'a> Runner<'a> {
+    /// The outline after a glyph's program, run on a machine into which the glyph is put first. Without work for the
+    /// copies nothing is copied. Errors: CoordRange of a phantom point, those of the program, Memory, Spent.
+    #[tactic(auto, unfolding(crate::specs::Hinting::by_program, crate::specs::Work::program_work))]
+    fn by_program(
+        &mut self,
+        machine: &mut Machine<'a>,
+        parts: &Parts<'a>,
+        program: GlyphProgram<'a, '_>,
+        outline: Outline,
+    ) -> Result<Outline, OutlineFault>
+        requires { AreParts (parts_of parts.now) }
+        ensures exact { Makes outline_of result (by_program (parts_of parts.now) (program_view program.entry) (outline_of outline)) }
+        ensures work { WorkGives result self.new.work.left (program_work (parts_of parts.now) (program_view program.entry) (outline_of outline) self.old.work.left) }
+    {
+        let grid = on_grid(program.glyph_at, &outline)?;
+        let Some(mut copies) = parts.pay(&mut self.work) else {
+            return Err(OutlineFault::Spent(glyf_fault(program.code_at, Why::StepLimit)));
+        };
+        let glyph = ReadyGlyph {
+            outline: &outline,
+            grid,
+            units: program.units,
+        };
+        put_glyph(self.alloc, machine, parts, &glyph, &mut copies)?;
+        match machine.run_paid(code_in_glyf(program), copies, &mut self.work) {
+            Ok(_) => Ok(left_outline(outline, machine.glyph_points(), machine.scan())?),
+            Err(fault) => Err(refusal_of(fault)),
+        }
+    }
+
+    /// The outline after a glyph's program, from scaled points or joined components. The machine is reused for each
+    /// glyph. Errors: CoordRange of a phantom point, those of the program, Memory, Spent.
+    pub fn hinted(
+        &mut self,
+        hinting: &Hinting<'a>,
+        program: GlyphProgram<'a, '_>,
+        outline: Outline,
+    ) -> Result<Outline, OutlineFault>
+        requires { IsHinting (hinting_view hinting.now) }
+        ensures exact { Makes outline_of result (hinted (hinting_view hinting.now) (program_view program.entry) (outline_of outline)) }
+        ensures work { WorkGives result self.new.work.left (hinted_work (hinting_view hinting.now) (program_view program.entry) (outline_of outline) self.old.work.left) }
+    {
+        match hinting {
+            Hinting::Off => Ok(outline),
+            Hinting::Ready(parts) => {
+                if parts.skip_glyphs || program.code.is_empty() {
+                    return Ok(outline);
+                }
+                let mut own = match self.machine.take() {
+                    Some(own) => own,
+                    None => first_machine(self.alloc, parts)?,
+                };
+                let made = self.by_program(own.as_mut(), parts, program, outline);
+                self.machine = Some(own);
+                made
             }
-            let mut own = machine_of_all(alloc, machine.take(), parts)?;
-            let made = by_program(alloc, own.as_mut(), parts, program, outline, work);
-            *machine = Some(own);
-            made
         }
     }
 }

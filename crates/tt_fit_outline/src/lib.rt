@@ -18,7 +18,7 @@ mod size;
 mod units;
 
 pub use glyph_program::GlyphProgram;
-pub use hinting::{GlyphMachine, Hinting, hinted, run};
+pub use hinting::{GlyphMachine, Hinting, Runner, run};
 pub use joining::placed;
 pub use outline::Outline;
 pub use outline_fault::{OutlineFault, unbounded};

@@ -37,13 +37,13 @@ added-returns-in_err-component-clause-work t c =
     let s = with_hinting c.args.self.now (hinting_view c.args.hinting.now) in
     let some : 0 < c.args.levels = omega (arith, c.if-levels-eq0.false) in
     let e = err_from_is_err_and c.from_residual.result c.from_residual.ensures.1 in
-    rw (e.1, e.2, one_level_work s c.args.levels c.args.part c.args.work.now.left some) c.in_err-component.ensures.work
+    rw (e.1, e.2, one_level_work s c.args.levels c.args.part c.args.runner.now.work.left some) c.in_err-component.ensures.work
 
 pub added-returns-clause-work : goal.added-returns-clause-work
 added-returns-clause-work t c =
     let s = with_hinting c.args.self.now (hinting_view c.args.hinting.now) in
     let some : 0 < c.args.levels = omega (arith, c.if-levels-eq0.false) in
-    rw (one_level_work s c.args.levels c.args.part c.args.work.now.left some) c.in_ok-component.ensures.work
+    rw (one_level_work s c.args.levels c.args.part c.args.runner.now.work.left some) c.in_ok-component.ensures.work
 
 pub added-returns-clause-exact : goal.added-returns-clause-exact
 added-returns-clause-exact t c =
@@ -126,7 +126,7 @@ outline-returns-in_err-scaled-in-Simple-clause-work t c =
     c.in_err-scaled-in-Simple.ensures.exact in
     let told = c.from_residual-in_err-scaled-in-Simple in
     let e = err_from_is_err_and told.result told.ensures.1 in
-    rw (e.1, e.2) (simple_unpaid s c.args.levels c.args.g glyph o c.in_err-scaled-in-Simple.field-0.0 c.args.work.now.left read begun fails)
+    rw (e.1, e.2) (simple_unpaid s c.args.levels c.args.g glyph o c.in_err-scaled-in-Simple.field-0.0 c.args.runner.now.work.left read begun fails)
 
 pub outline-joined-requires : goal.outline-joined-requires
 outline-joined-requires t c =

@@ -20,8 +20,8 @@ invariant-joined-loop-part l = record {
       (outline_of l.fn.start);
   work : joined_work (added (with_hinting l.self (hinting_view l.hinting)) l.levels)
       (added_work (with_hinting l.self (hinting_view l.hinting)) l.levels) (drop l.part-index l.records)
-      (outline_of l.so_far) l.work.left
+      (outline_of l.so_far) l.runner.work.left
       ≡ joined_work (added (with_hinting l.self (hinting_view l.hinting)) l.levels)
       (added_work (with_hinting l.self (hinting_view l.hinting)) l.levels) l.records (outline_of l.fn.start)
-      l.fn.work.left;
+      l.fn.runner.work.left;
 }

@@ -23,6 +23,6 @@ returns-clause-sound c =
 
 pub returns-clause-after : goal.returns-clause-after
 returns-clause-after c =
-    let left = c.fitted_within.new.work.left in
+    let left = c.fitted_within.new.runner.work.left in
     ap {A = Fitter} (λ s. record s { work = left }) c.self.view_is
     ∙ after-is c.args.self.now c.args.g left (rw c.self.view_is at c.in_ok-outline.ensures.left)

@@ -10,7 +10,7 @@ use Rattle.tt_fit_outline.proofs.Zones.{zone-length}
 use Rattle.tt_fit_outline.specs.Outline.{phantom_of}
 use Rattle.tt_fit_outline.specs.Views.{outline_of, program_view, units_view}
 use Rattle.tt_fit_outline.specs.Hinting.{by_program, run_of}
-use Rattle.tt_fit_outline.proofs.hinting.by_program.Goals as goal
+use Rattle.tt_fit_outline.proofs.hinting.Runner.by_program.Goals as goal
 
 pub returns-in-Err-clause-exact : goal.returns-in-Err-clause-exact
 returns-in-Err-clause-exact c =
@@ -43,14 +43,14 @@ left_outline-requires-clause-count c =
 pub returns-in_default-clause-work : goal.returns-in_default-clause-work
 returns-in_default-clause-work c =
     copies-spent (parts_of c.args.parts.now) (program_view c.args.program) (outline_of c.args.outline)
-    (phantom_of c.in_ok-grid.grid) c.args.work.now.left c.glyf_fault.result c.in_ok-grid.ensures.exact
+    (phantom_of c.in_ok-grid.grid) c.args.self.now.work.left c.glyf_fault.result c.in_ok-grid.ensures.exact
     c.in_default.ensures.0 c.glyf_fault.ensures.exact
 
 pub returns-in-Err-clause-work : goal.returns-in-Err-clause-work
 returns-in-Err-clause-work c =
     let works =
     copies-paid (parts_of c.args.parts.now) (program_view c.args.program) (outline_of c.args.outline)
-    (phantom_of c.in_ok-grid.grid) c.args.work.now.left c.pay.new.work.left (code_of c.code_in_glyf.result)
+    (phantom_of c.in_ok-grid.grid) c.args.self.now.work.left c.pay.new.work.left (code_of c.code_in_glyf.result)
     c.put_glyph.new.machine c.in_ok-grid.ensures.exact c.in-Some.ensures.2 c.code_in_glyf.ensures
     c.in_ok-put_glyph.ensures.exact in
     rw works
@@ -62,7 +62,7 @@ pub returns-in_ok-left_outline-in-Ok-clause-work : goal.returns-in_ok-left_outli
 returns-in_ok-left_outline-in-Ok-clause-work c =
     let works =
     copies-paid (parts_of c.args.parts.now) (program_view c.args.program) (outline_of c.args.outline)
-    (phantom_of c.in_ok-grid.grid) c.args.work.now.left c.pay.new.work.left (code_of c.code_in_glyf.result)
+    (phantom_of c.in_ok-grid.grid) c.args.self.now.work.left c.pay.new.work.left (code_of c.code_in_glyf.result)
     c.put_glyph.new.machine c.in_ok-grid.ensures.exact c.in-Some.ensures.2 c.code_in_glyf.ensures
     c.in_ok-put_glyph.ensures.exact in
     works ∙ c.in-Ok.ensures.work
