@@ -1,9 +1,8 @@
 //! A machine and its runs. Apple TrueType Reference Manual, "Instructing TrueType Glyphs".
 
-ghost use Rattle.std.specs.Prelude.{◌≡◌, ◌+◌, ◌≤◌, length, reverse, true, All, IfOk, IfSome, OnErr, OnOk};
+ghost use Rattle.std.specs.Prelude.{◌≡◌, ◌+◌, ◌≤◌, length, reverse, true, All, IfOk, OnErr, OnOk};
 ghost use Rattle.std.specs.Option.{option_map};
-ghost use Rattle.tt_core.specs.Limits.{size_limit, stack_limit, step_limit};
-ghost use Rattle.tt_core.specs.Scales.{IsScale};
+ghost use Rattle.tt_core.specs.Limits.{stack_limit, step_limit};
 ghost use Rattle.tt_exec_points.specs.Zones.{no_zones};
 ghost use Rattle.tt_points_zones.specs.Zones.{zones_view, IsPoint, IsZones, SameShape};
 ghost use Rattle.tt_exec_step.specs.Runs.{run_outcome};
@@ -70,8 +69,6 @@ fn begin_again<'a>(
     zones: Zones,
     copies: &mut Copies,
 ) -> Result<(), AllocError>
-    requires size { parts.now.ppem ≤ size_limit }
-    requires scale { IsScale parts.now.scale }
     requires zones { IsZones (zones_view zones) }
     requires paid { copies.old.left + length parts.now.zones.twilight.items ≡ copied_of (parts_of parts.now) }
     ensures exact { OnOk result (state_of state.new ≡ fresh (record (parts_of parts.now) { zones = zones_view zones })) }
@@ -95,9 +92,6 @@ impl<'a> Machine<'a> {
     /// A machine with these parts. It allocates the whole stack. Error: no memory.
     #[inline(never)]
     pub fn new(alloc: Global, parts: Parts<'a>) -> Result<Machine<'a>, AllocError>
-        requires size { parts.ppem ≤ size_limit }
-        requires scale { IsScale parts.scale }
-        requires zones { IsZones (zones_view parts.zones) }
         ensures { IfOk result (λ m. m ≡ begun_again (parts_of parts.entry)) }
     {
         let state = MachineState {
@@ -140,8 +134,6 @@ impl<'a> Machine<'a> {
         zones: Zones,
         copies: &mut Copies,
     ) -> Result<(), AllocError>
-        requires size { parts.now.ppem ≤ size_limit }
-        requires scale { IsScale parts.now.scale }
         requires zones { IsZones (zones_view zones) }
         requires paid { copies.old.left + length parts.now.zones.twilight.items ≡ copied_of (parts_of parts.now) }
         ensures exact { OnOk result (self.new ≡ begun_again (record (parts_of parts.now) { zones = zones_view zones })) }
@@ -255,10 +247,7 @@ impl<'a> Machine<'a> {
 
     /// The machine's parts after its runs; None if the machine has failed.
     pub fn into_parts(self) -> Option<Parts<'a>>
-        ensures exact { GivesParts self.entry (option_map parts_of result) }
-        ensures size { IfSome result (λ p. p.ppem ≤ size_limit) }
-        ensures scale { IfSome result (λ p. IsScale p.scale) }
-        ensures zones { IfSome result (λ p. IsZones (zones_view p.zones)) }
+        ensures { GivesParts self.entry (option_map parts_of result) }
     {
         if self.failed {
             return None;
