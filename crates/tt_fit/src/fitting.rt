@@ -11,7 +11,6 @@ ghost use Rattle.tt_fit.specs.Dropouts.{dropouts_of};
 ghost use Rattle.tt_fit.specs.Fallback.{where_refused};
 ghost use Rattle.tt_fit.specs.Fitting.{IsFitter, with_hinting, outline_at, glyph_work, unfitted_fault, fitted_outline, after_glyph, charged_fitter};
 ghost use Rattle.tt_fit.specs.Preparation.{fitter_of};
-ghost use Rattle.tt_fit_outline.specs.Hinting.{IsHinting};
 ghost use Rattle.tt_fit_outline.specs.Views.{hinting_view, outline_of};
 ghost use Rattle.tt_fit_outline.specs.Work.{RefusalLeaves, outline_fault};
 ghost use Rattle.tt_metrics.specs.Metrics.{loca_format_of, glyphs_of};
@@ -67,7 +66,7 @@ impl<'a> Fitter<'a> {
     /// Takes a font's metrics, glyph data and programs. `Fit::Full` runs the font program and the control value program
     /// at this size, in pixels per em. `Fit::None` ignores them. Errors: those of the two programs, Memory. With
     /// `Fit::Fallback` and `Fit::Best` a fault of the two programs makes every glyph unfitted.
-    #[tactic(auto, unfolding(crate::specs::Preparation::fitter_of))]
+    #[tactic(auto, using(crate::proofs::Hintings::is-hinting), unfolding(crate::specs::Preparation::fitter_of))]
     pub fn new(
         alloc: Global,
         metrics: &Metrics<'a>,
@@ -262,7 +261,6 @@ impl<'a> Fitter<'a> {
         g: u16,
         unfitted: Option<Fault>,
     ) -> Result<Outline, FontFault>
-        requires hinting { IsHinting (hinting_view hinting.now) }
         requires known { g < self.now.tables.glyphs }
         ensures exact { FontGives outline_of result (outline_at (with_hinting self.now (hinting_view hinting.now)) self.now.levels g) }
         ensures unfitted { IfOk result (λ o. o.unfitted ≡ unfitted) }

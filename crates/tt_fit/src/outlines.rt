@@ -5,7 +5,6 @@ ghost use Rattle.tt_core.specs.Outcomes.{Gives};
 ghost use Rattle.tt_glyf.specs.Meaning.{HasArguments};
 ghost use Rattle.tt_fit_outline.specs.Joining.{placed};
 ghost use Rattle.tt_fit.specs.Fitting.{with_hinting, size_of, start, glyph_program, joined, added, outline_at, added_work, outline_work};
-ghost use Rattle.tt_fit_outline.specs.Hinting.{IsHinting};
 ghost use Rattle.tt_fit_outline.specs.Scaling.{phantom_units};
 ghost use Rattle.tt_fit_outline.specs.Units.{units_by};
 ghost use Rattle.tt_fit_outline.specs.Views.{hinting_view, outline_of, size_view, program_view, units_view};
@@ -78,7 +77,6 @@ impl<'a> Fitter<'a> {
         g: u16,
         runner: &mut Runner<'a>,
     ) -> Result<Outline, OutlineFault>
-        requires hinting { IsHinting (hinting_view hinting.now) }
         requires known { g < self.now.tables.glyphs }
         ensures exact { Makes outline_of result (outline_at (with_hinting self.now (hinting_view hinting.now)) levels g) }
         ensures work { WorkGives result runner.new.work.left (outline_work (with_hinting self.now (hinting_view hinting.now)) levels g runner.old.work.left) }
@@ -123,7 +121,6 @@ impl<'a> Fitter<'a> {
         start: Outline,
         runner: &mut Runner<'a>,
     ) -> Result<Outline, OutlineFault>
-        requires hinting { IsHinting (hinting_view hinting.now) }
         requires known { All (λ r. r.glyph < self.now.tables.glyphs) records.now }
         requires arguments { All HasArguments records.now }
         ensures exact { Makes outline_of result (joined (added (with_hinting self.now (hinting_view hinting.now)) levels) records.now (outline_of start)) }
@@ -147,7 +144,6 @@ impl<'a> Fitter<'a> {
         so_far: Outline,
         runner: &mut Runner<'a>,
     ) -> Result<Outline, OutlineFault>
-        requires hinting { IsHinting (hinting_view hinting.now) }
         requires known { part.glyph < self.now.tables.glyphs }
         requires arguments { HasArguments part }
         ensures exact { Makes outline_of result (added (with_hinting self.now (hinting_view hinting.now)) levels part (outline_of so_far)) }

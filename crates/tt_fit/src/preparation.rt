@@ -1,7 +1,7 @@
 //! Runs the font program and the control value program before the first glyph. Apple TrueType Reference Manual,
 //! "Instructing TrueType Glyphs".
 
-ghost use Rattle.std.specs.Prelude.{◌≡◌, ◌≤◌, length, Ok, IfOk, IsTrue};
+ghost use Rattle.std.specs.Prelude.{◌≡◌, ◌≤◌, length, Ok, IsTrue};
 ghost use Rattle.tt_core.specs.Faults.{is_ascii};
 ghost use Rattle.tt_core.specs.Limits.{font_limit};
 ghost use Rattle.tt_core.specs.Outcomes.{FontGives};
@@ -9,7 +9,7 @@ ghost use Rattle.tt_exec_step.specs.Views.{code_of};
 ghost use Rattle.tt_face.specs.Programs.{program_tables};
 ghost use Rattle.tt_fit.specs.Preparation.{programs_work, without_fallback, within_work, begun_at, left_at, work_at, prepared};
 ghost use Rattle.tt_fit.specs.Fallback.{everywhere};
-ghost use Rattle.tt_fit_outline.specs.Hinting.{IsHinting, off};
+ghost use Rattle.tt_fit_outline.specs.Hinting.{off};
 ghost use Rattle.tt_fit.specs.Rules.{rules_of, work_of};
 ghost use Rattle.tt_fit_outline.specs.Views.{hinting_view};
 ghost use Rattle.tt_fit.specs.Views.{preparation_view};
@@ -47,9 +47,7 @@ fn whole_table<'a>(table: [u8; 4], bytes: &'a [u8]) -> Code<'a>
 
 /// No glyph is unfitted.
 fn without_fallback<'a>(hinting: Hinting<'a>) -> Preparation<'a>
-    requires { IsHinting (hinting_view hinting) }
-    ensures exact { preparation_view result ≡ without_fallback (hinting_view hinting.entry) }
-    ensures valid { IsHinting (hinting_view result.hinting) }
+    ensures { preparation_view result ≡ without_fallback (hinting_view hinting.entry) }
 {
     Preparation {
         hinting,
@@ -60,8 +58,7 @@ fn without_fallback<'a>(hinting: Hinting<'a>) -> Preparation<'a>
 
 /// Every glyph is unfitted, for this fault.
 fn all_unfitted<'a>(fault: Fault, work: Work) -> Preparation<'a>
-    ensures exact { preparation_view result ≡ record { hinting = off; fallback = everywhere fault; work = work.left } }
-    ensures valid { IsHinting (hinting_view result.hinting) }
+    ensures { preparation_view result ≡ record { hinting = off; fallback = everywhere fault; work = work.left } }
 {
     Preparation {
         hinting: Hinting::Off,
@@ -77,7 +74,6 @@ impl<'a> ProgramsAtSize<'_, 'a> {
         ensures exact { Makes hinting_view result (left_at self.now.metrics.now (program_tables self.now.programs) self.now.ppem self.now.fit) }
         ensures work { let tables = program_tables self.now.programs in
             WorkGives result work.new.left (programs_work (begun_at self.now.metrics.now tables self.now.ppem self.now.fit) tables work.old.left) }
-        ensures valid { IfOk result (λ h. IsHinting (hinting_view h)) }
     {
         let rules = rules_of(self.fit);
         let cvt = cvt_read(self.fit, self.programs.cvt);
@@ -96,7 +92,6 @@ impl<'a> ProgramsAtSize<'_, 'a> {
     fn with_fallback(&self, alloc: Global) -> Result<Preparation<'a>, FontFault>
         ensures exact { let tables = program_tables self.now.programs in
             FontGives preparation_view result (Ok (within_work (work_at self.now.metrics.now tables self.now.ppem self.now.fit) (left_at self.now.metrics.now tables self.now.ppem self.now.fit))) }
-        ensures valid { IfOk result (λ p. IsHinting (hinting_view p.hinting)) }
     {
         let mut work = work_of(self.fit);
         match self.left(alloc, &mut work) {
@@ -118,7 +113,6 @@ impl<'a> ProgramsAtSize<'_, 'a> {
     #[tactic(auto, unfolding(crate::specs::Preparation::prepared))]
     pub(crate) fn prepared(&self, alloc: Global) -> Result<Preparation<'a>, FontFault>
         ensures exact { FontGives preparation_view result (prepared self.now.metrics.now (program_tables self.now.programs) self.now.ppem self.now.fit) }
-        ensures valid { IfOk result (λ p. IsHinting (hinting_view p.hinting)) }
     {
         match self.fit {
             Fit::Full => {

@@ -1,17 +1,16 @@
 //! Runs a glyph's program over its outline. Apple TrueType Reference Manual, "Instructing TrueType Glyphs".
 
-ghost use Rattle.std.specs.Prelude.{◌≡◌, option_map, IfOk, OnOk};
+ghost use Rattle.std.specs.Prelude.{◌≡◌, option_map, OnOk};
 ghost use Rattle.tt_exec.specs.Machines.{begun_again};
 ghost use Rattle.tt_exec.specs.Parts.{parts_of};
 ghost use Rattle.tt_exec.specs.Work.{copied_of};
 ghost use Rattle.tt_exec_step.specs.Views.{code_of};
 ghost use Rattle.tt_fit_outline.specs.GlyphZone.{program_in_glyf};
-ghost use Rattle.tt_fit_outline.specs.Hinting.{IsHinting, by_program, hinted, run_of};
+ghost use Rattle.tt_fit_outline.specs.Hinting.{by_program, hinted, run_of};
 ghost use Rattle.tt_fit_outline.specs.Outline.{phantom_of};
-ghost use Rattle.tt_fit_outline.specs.Parts.{AreParts, parts_with};
+ghost use Rattle.tt_fit_outline.specs.Parts.{parts_with};
 ghost use Rattle.tt_fit_outline.specs.Views.{hinting_view, outline_of, program_view, units_view};
 ghost use Rattle.tt_fit_outline.specs.Work.{Makes, WorkGives, code_work, hinted_work, program_work};
-ghost use Rattle.tt_points_zones.specs.Zones.{IsZones, SameShape};
 
 use crate::glyph_program::GlyphProgram;
 use crate::glyph_zone::{left_outline, on_grid};
@@ -44,11 +43,8 @@ pub fn run<'a>(
     code: Code<'a>,
     work: &mut Work,
 ) -> Result<Parts<'a>, OutlineFault>
-    requires { AreParts (parts_of parts) }
     ensures exact { Makes parts_of result (run_of (code_of code.entry) (parts_of parts.entry)) }
     ensures work { WorkGives result work.new.left (code_work (code_of code.entry) (parts_of parts.entry) work.old.left) }
-    ensures valid { IfOk result (λ p. AreParts (parts_of p)) }
-    ensures shape { IfOk result (λ p. SameShape (parts_of parts.entry).zones (parts_of p).zones) }
 {
     let mut machine = Machine::new(alloc, parts)?;
     if let Err(fault) = machine.run_within(code, work) {
@@ -73,9 +69,7 @@ fn code_in_glyf<'a>(program: GlyphProgram<'a, '_>) -> Code<'a>
 /// A machine for the programs of all glyphs. It copies nothing: the first glyph is put into it like each later one. Not
 /// inline: a machine takes 100 kB, and each glyph's frame would have room for one.
 #[inline(never)]
-fn first_machine<'a>(alloc: Global, parts: &Parts<'a>) -> Result<Box<Machine<'a>>, AllocError>
-    requires { AreParts (parts_of parts.now) }
-{
+fn first_machine<'a>(alloc: Global, parts: &Parts<'a>) -> Result<Box<Machine<'a>>, AllocError> {
     let parts = without_contents(alloc, parts)?;
     Ok(Box::new(alloc, Machine::new(alloc, parts)?)?)
 }
@@ -89,10 +83,8 @@ fn put_glyph<'a>(
     glyph: &ReadyGlyph,
     copies: &mut Copies,
 ) -> Result<(), AllocError>
-    requires parts { AreParts (parts_of parts.now) }
-    requires paid { copies.old.left ≡ copied_of (parts_of parts.now) }
+    requires { copies.old.left ≡ copied_of (parts_of parts.now) }
     ensures exact { OnOk result (machine.new ≡ begun_again (parts_with (parts_of parts.now) (option_map units_view glyph.now.units) (outline_of glyph.now.outline.now) (phantom_of glyph.now.grid))) }
-    ensures valid { OnOk result (IsZones machine.new.state.zones) }
     ensures rest { copies.new.rest ≡ copies.old.rest }
 {
     let room = machine.take_zones(alloc);
@@ -120,7 +112,6 @@ impl<'a> Runner<'a> {
         program: GlyphProgram<'a, '_>,
         outline: Outline,
     ) -> Result<Outline, OutlineFault>
-        requires { AreParts (parts_of parts.now) }
         ensures exact { Makes outline_of result (by_program (parts_of parts.now) (program_view program.entry) (outline_of outline)) }
         ensures work { WorkGives result self.new.work.left (program_work (parts_of parts.now) (program_view program.entry) (outline_of outline) self.old.work.left) }
     {
@@ -148,7 +139,6 @@ impl<'a> Runner<'a> {
         program: GlyphProgram<'a, '_>,
         outline: Outline,
     ) -> Result<Outline, OutlineFault>
-        requires { IsHinting (hinting_view hinting.now) }
         ensures exact { Makes outline_of result (hinted (hinting_view hinting.now) (program_view program.entry) (outline_of outline)) }
         ensures work { WorkGives result self.new.work.left (hinted_work (hinting_view hinting.now) (program_view program.entry) (outline_of outline) self.old.work.left) }
     {

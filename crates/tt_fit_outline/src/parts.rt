@@ -5,7 +5,7 @@ ghost use Rattle.std.specs.Prelude.{◌≡◌, ◌+◌, ◌*◌, ◌≤◌, leng
 ghost use Rattle.tt_exec.specs.Parts.{parts_of};
 ghost use Rattle.tt_fit_outline.specs.Outline.{phantom_of};
 ghost use Rattle.tt_core.specs.Limits.{size_limit};
-ghost use Rattle.tt_fit_outline.specs.Parts.{AreParts, begun_parts, control_value, control_values, glyph_state, left_to_glyphs, originals_by, parts_with, pointers_set_back, without_glyph};
+ghost use Rattle.tt_fit_outline.specs.Parts.{begun_parts, control_value, control_values, glyph_state, left_to_glyphs, originals_by, parts_with, pointers_set_back, without_glyph};
 ghost use Rattle.tt_fit_outline.specs.Views.{outline_of, size_view, units_view};
 ghost use Rattle.tt_points_zones.specs.Zones.{zones_view, IsZones};
 
@@ -65,8 +65,7 @@ pub fn begun_parts<'a>(
     rules: OutlineRules,
 ) -> Result<Parts<'a>, AllocError>
     requires { ppem ≤ size_limit }
-    ensures exact { IfOk result (λ p. parts_of p ≡ begun_parts metrics.now cvt.now ppem rules) }
-    ensures valid { IfOk result (λ p. AreParts (parts_of p)) }
+    ensures { IfOk result (λ p. parts_of p ≡ begun_parts metrics.now cvt.now ppem rules) }
 {
     let size = FontSize::of(metrics, ppem, rules.scaling);
     Ok(Parts {
@@ -88,10 +87,7 @@ pub fn begun_parts<'a>(
 pub(crate) fn without_contents<'a>(
     alloc: Global,
     parts: &Parts<'a>,
-) -> Result<Parts<'a>, AllocError>
-    requires { AreParts (parts_of parts.now) }
-    ensures { IfOk result (λ p. AreParts (parts_of p)) }
-{
+) -> Result<Parts<'a>, AllocError> {
     Ok(Parts {
         scale: parts.scale,
         ppem: parts.ppem,
@@ -139,12 +135,11 @@ fn glyph_state(by_default: bool, state: &GraphicsState) -> GraphicsState
 
 /// The parts that the control value program gives to the glyphs.
 pub fn left_to_glyphs<'a>(left: Parts<'a>) -> Parts<'a>
-    requires { AreParts (parts_of left) }
-    ensures exact { parts_of result ≡ left_to_glyphs (parts_of left.entry) }
-    ensures valid { AreParts (parts_of result) }
+    ensures { parts_of result ≡ left_to_glyphs (parts_of left.entry) }
 {
-    let state = glyph_state(left.default_state, &left.state);
-    Parts { state, ..left }
+    let mut parts = left;
+    parts.state = glyph_state(parts.default_state, &parts.state);
+    parts
 }
 
 /// The unit of a glyph's originals.
@@ -168,8 +163,7 @@ pub(crate) fn glyph_zones(
     glyph: &ReadyGlyph,
     copies: &mut Copies,
 ) -> Result<Zones, AllocError>
-    requires parts { AreParts (parts_of parts.now) }
-    requires paid { length parts.now.zones.twilight.items ≤ copies.old.left }
+    requires { length parts.now.zones.twilight.items ≤ copies.old.left }
     ensures exact { IfOk result (λ z. zones_view z ≡ (parts_with (parts_of parts.now) (option_map units_view glyph.now.units) (outline_of glyph.now.outline.now) (phantom_of glyph.now.grid)).zones) }
     ensures valid { IfOk result (λ z. IsZones (zones_view z)) }
     ensures used { copies.new.left + length parts.now.zones.twilight.items ≡ copies.old.left }

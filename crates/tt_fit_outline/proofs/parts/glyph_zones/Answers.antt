@@ -11,6 +11,6 @@ returns-clause-valid c =
     let twilight = rw c.deref.ensures.value at c.in_ok-twilight.ensures.exact in
     zones-are c.in_ok-twilight.twilight.items glyph.field-0.items c.in_ok-contours.field-0.items c.originals_by.result
     c.args.parts.now.scale units (outline_of c.args.glyph.now.outline.now) (phantom_of c.args.glyph.now.grid)
-    (rw twilight c.requires.parts.zones.twilight) glyph.ensures.exact glyph.ensures.valid
-    (rw c.deref-2.ensures.value at c.in_ok-contours.ensures) c.originals_by.ensures c.requires.parts.scale
+    (rw twilight c.args.parts.now.placed.twilight) glyph.ensures.exact glyph.ensures.valid
+    (rw c.deref-2.ensures.value at c.in_ok-contours.ensures) c.originals_by.ensures c.args.parts.now.scaled
     c.args.glyph.now.outline.now.valid

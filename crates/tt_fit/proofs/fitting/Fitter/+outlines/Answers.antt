@@ -134,11 +134,8 @@ outline-joined-requires t c =
     let arguments = rw c.in-Composite.is at c.in_ok-read.ensures.arguments in (
       omega arith,
       (
-        c.requires.hinting,
-        (
-          rw (c.as_slice.ensures.value, ← c.self.view_is) records.known,
-          rw c.as_slice.ensures.value arguments,
-        ),
+        rw (c.as_slice.ensures.value, ← c.self.view_is) records.known,
+        rw c.as_slice.ensures.value arguments,
       ),
     )
 
