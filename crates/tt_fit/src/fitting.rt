@@ -66,7 +66,7 @@ impl<'a> Fitter<'a> {
     /// Takes a font's metrics, glyph data and programs. `Fit::Full` runs the font program and the control value program
     /// at this size, in pixels per em. `Fit::None` ignores them. Errors: those of the two programs, Memory. With
     /// `Fit::Fallback` and `Fit::Best` a fault of the two programs makes every glyph unfitted.
-    #[tactic(auto, using(crate::proofs::Hintings::is-hinting), unfolding(crate::specs::Preparation::fitter_of))]
+    #[tactic(auto, using(crate::proofs::Hintings::is_hinting), unfolding(crate::specs::Preparation::fitter_of))]
     pub fn new(
         alloc: Global,
         metrics: &Metrics<'a>,
