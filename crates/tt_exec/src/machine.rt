@@ -9,7 +9,7 @@ ghost use Rattle.tt_exec_step.specs.Runs.{run_outcome};
 ghost use Rattle.tt_exec_step.specs.Sizes.{SameSizes};
 ghost use Rattle.tt_exec_step.specs.States.{state_of};
 ghost use Rattle.tt_exec_step.specs.Views.{code_of};
-ghost use Rattle.tt_exec.specs.Machines.{begun_again, fresh, kind_of, run_from, GivesParts, OutcomeIs, RunGives};
+ghost use Rattle.tt_exec.specs.Machines.{begun_again, kind_of, run_from, GivesParts, OutcomeIs, RunGives};
 ghost use Rattle.tt_exec.specs.Parts.{parts_of};
 ghost use Rattle.tt_exec.specs.Work.{copied_of, run_work, work_within};
 ghost use Rattle.tt_exec.specs.Worked.{OutcomeWithin, Paid, RunsWithin, WorkIs};
@@ -59,33 +59,6 @@ fn kind_of(table: [u8; 4]) -> Kind
     } else {
         Kind::Glyph
     }
-}
-
-/// Makes a state that of a new machine of these parts and zones, reusing its memory. The points of the twilight zone
-/// have been copied by the same allowance.
-fn begin_again<'a>(
-    state: &mut MachineState<'a>,
-    parts: &Parts<'a>,
-    zones: Zones,
-    copies: &mut Copies,
-) -> Result<(), AllocError>
-    requires zones { IsZones (zones_view zones) }
-    requires paid { copies.old.left + length parts.now.zones.twilight.items ≡ copied_of (parts_of parts.now) }
-    ensures exact { OnOk result (state_of state.new ≡ fresh (record (parts_of parts.now) { zones = zones_view zones })) }
-    ensures rest { copies.new.rest ≡ copies.old.rest }
-{
-    state.begin(CallFrame::idle().code, Kind::Glyph);
-    copies.copy_table(&mut state.functions, &parts.functions)?;
-    copies.copy_table(&mut state.instructions, &parts.instructions)?;
-    copies.copy_values(&mut state.storage, &parts.storage)?;
-    copies.copy_values(&mut state.cvt, &parts.cvt)?;
-    state.graphics = parts.state;
-    state.tolerance = parts.tolerance;
-    state.points = Points::new(zones);
-    state.skip_glyphs = parts.skip_glyphs;
-    state.default_state = parts.default_state;
-    state.size = Size::new(parts.ppem, parts.scale);
-    Ok(())
 }
 
 impl<'a> Machine<'a> {
@@ -140,9 +113,20 @@ impl<'a> Machine<'a> {
         ensures refused { OnErr result (self.new.failed ≡ true) }
         ensures rest { copies.new.rest ≡ copies.old.rest }
     {
-        let begun = begin_again(&mut self.state, parts, zones, copies);
-        self.failed = begun.is_err();
-        begun
+        self.failed = true;
+        self.state.begin(CallFrame::idle().code, Kind::Glyph);
+        copies.copy_table(&mut self.state.functions, &parts.functions)?;
+        copies.copy_table(&mut self.state.instructions, &parts.instructions)?;
+        copies.copy_values(&mut self.state.storage, &parts.storage)?;
+        copies.copy_values(&mut self.state.cvt, &parts.cvt)?;
+        self.state.graphics = parts.state;
+        self.state.tolerance = parts.tolerance;
+        self.state.points = Points::new(zones);
+        self.state.skip_glyphs = parts.skip_glyphs;
+        self.state.default_state = parts.default_state;
+        self.state.size = Size::new(parts.ppem, parts.scale);
+        self.failed = false;
+        Ok(())
     }
 
     /// Runs a program from its first byte, with an empty stack and all else unchanged. Gives the count of steps. The
