@@ -2,7 +2,7 @@
 //! up what it copies, so nothing is copied twice or before it is paid for. No clause sees a copy that is made without
 //! these methods.
 
-ghost use Rattle.std.specs.Prelude.{◌≡◌, ◌+◌, ◌≤◌, length, IfOk, OnOk};
+ghost use Rattle.std.specs.Prelude.{◌≡◌, ◌+◌, ◌≤◌, length, OnOk};
 ghost use Rattle.tt_exec.specs.Copies.{PaysFor};
 ghost use Rattle.tt_exec.specs.Parts.{parts_of};
 ghost use Rattle.tt_exec.specs.Work.{copied, copied_of};
@@ -42,22 +42,16 @@ impl Copies {
         self.left -= count as u128;
     }
 
-    /// Copies points into the given memory, whose contents are dropped.
-    pub fn copy_points(
-        &mut self,
-        room: Vec<Point>,
-        points: &[Point],
-    ) -> Result<Vec<Point>, AllocError>
+    /// Copies points, reusing memory.
+    pub fn copy_points(&mut self, room: &mut Vec<Point>, points: &[Point]) -> Result<(), AllocError>
         requires { length points.now ≤ self.old.left }
-        ensures exact { IfOk result (λ v. v.items ≡ points.now) }
+        ensures exact { OnOk result (room.new.items ≡ points.now) }
         ensures used { self.new.left + length points.now ≡ self.old.left }
         ensures rest { self.new.rest ≡ self.old.rest }
     {
         self.take(points.len());
-        let mut copy = room;
-        copy.clear();
-        copy.extend_from_slice(points)?;
-        Ok(copy)
+        room.clear();
+        room.extend_from_slice(points)
     }
 
     /// Copies values, reusing memory.

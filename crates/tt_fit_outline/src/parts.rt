@@ -169,7 +169,8 @@ pub(crate) fn glyph_zones(
     ensures used { copies.new.left + length parts.now.zones.twilight.items ≡ copies.old.left }
     ensures rest { copies.new.rest ≡ copies.old.rest }
 {
-    let twilight = copies.copy_points(room.twilight, &parts.zones.twilight)?;
+    let mut twilight = room.twilight;
+    copies.copy_points(&mut twilight, &parts.zones.twilight)?;
     Ok(Zones {
         twilight,
         glyph: glyph_zone(room.glyph, glyph)?,
