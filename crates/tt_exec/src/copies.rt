@@ -14,7 +14,6 @@ use crate::work::Work;
 use std::alloc::AllocError;
 use std::marker::Model;
 use tt_exec_step::{Functions, MachineState};
-use tt_state::Point;
 
 /// An allowance of copies. A clause sees how many things may still be copied, and the work that remained after the
 /// payment.
@@ -42,32 +41,16 @@ impl Copies {
         self.left -= count as u128;
     }
 
-    /// Copies points, reusing memory.
-    pub fn copy_points(&mut self, room: &mut Vec<Point>, points: &[Point]) -> Result<(), AllocError>
-        requires { length points.now ≤ self.old.left }
-        ensures exact { OnOk result (room.new.items ≡ points.now) }
-        ensures used { self.new.left + length points.now ≡ self.old.left }
+    /// Copies points or values, reusing memory.
+    pub fn copy<T: Copy>(&mut self, room: &mut Vec<T>, given: &[T]) -> Result<(), AllocError>
+        requires { length given.now ≤ self.old.left }
+        ensures exact { OnOk result (room.new.items ≡ given.now) }
+        ensures used { self.new.left + length given.now ≡ self.old.left }
         ensures rest { self.new.rest ≡ self.old.rest }
     {
-        self.take(points.len());
+        self.take(given.len());
         room.clear();
-        room.extend_from_slice(points)
-    }
-
-    /// Copies values, reusing memory.
-    pub(crate) fn copy_values(
-        &mut self,
-        room: &mut Vec<i32>,
-        values: &[i32],
-    ) -> Result<(), AllocError>
-        requires { length values.now ≤ self.old.left }
-        ensures exact { OnOk result (room.new.items ≡ values.now) }
-        ensures used { self.new.left + length values.now ≡ self.old.left }
-        ensures rest { self.new.rest ≡ self.old.rest }
-    {
-        self.take(values.len());
-        room.clear();
-        room.extend_from_slice(values)
+        room.extend_from_slice(given)
     }
 
     /// Copies a table of functions, reusing memory.

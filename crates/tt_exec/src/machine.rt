@@ -117,8 +117,8 @@ impl<'a> Machine<'a> {
         self.state.begin(CallFrame::idle().code, Kind::Glyph);
         copies.copy_table(&mut self.state.functions, &parts.functions)?;
         copies.copy_table(&mut self.state.instructions, &parts.instructions)?;
-        copies.copy_values(&mut self.state.storage, &parts.storage)?;
-        copies.copy_values(&mut self.state.cvt, &parts.cvt)?;
+        copies.copy(&mut self.state.storage, &parts.storage)?;
+        copies.copy(&mut self.state.cvt, &parts.cvt)?;
         self.state.graphics = parts.state;
         self.state.tolerance = parts.tolerance;
         self.state.points = Points::new(zones);

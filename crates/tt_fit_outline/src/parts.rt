@@ -170,7 +170,7 @@ pub(crate) fn glyph_zones(
     ensures rest { copies.new.rest ≡ copies.old.rest }
 {
     let mut twilight = room.twilight;
-    copies.copy_points(&mut twilight, &parts.zones.twilight)?;
+    copies.copy(&mut twilight, &parts.zones.twilight)?;
     Ok(Zones {
         twilight,
         glyph: glyph_zone(room.glyph, glyph)?,

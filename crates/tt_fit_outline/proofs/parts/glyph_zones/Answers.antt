@@ -8,8 +8,8 @@ pub returns-clause-valid : goal.returns-clause-valid
 returns-clause-valid c =
     let units = option_map units_view c.args.glyph.now.units in
     let glyph = c.in_ok-glyph_zone in
-    let twilight = rw c.deref.ensures.value at c.in_ok-copy_points.ensures.exact in
-    zones-are c.copy_points.new.room.items glyph.field-0.items c.in_ok-contours.field-0.items c.originals_by.result
+    let twilight = rw c.deref.ensures.value at c.in_ok-copy.ensures.exact in
+    zones-are c.copy.new.room.items glyph.field-0.items c.in_ok-contours.field-0.items c.originals_by.result
     c.args.parts.now.scale units (outline_of c.args.glyph.now.outline.now) (phantom_of c.args.glyph.now.grid)
     (rw twilight c.args.parts.now.placed.twilight) glyph.ensures.exact glyph.ensures.valid
     (rw c.deref-2.ensures.value at c.in_ok-contours.ensures) c.originals_by.ensures c.args.parts.now.scaled
