@@ -1,7 +1,7 @@
 //! The points that a glyph's program works on. Apple TrueType Reference Manual, "Instructing TrueType Glyphs" (zones,
 //! phantom points).
 
-ghost use Rattle.std.specs.Prelude.{◌≡◌, ◌+◌, ◌++◌, ◌∷◌, [], true, false, length, map, option_map, All, IfOk, IfErr, OnOk};
+ghost use Rattle.std.specs.Prelude.{◌≡◌, ◌+◌, true, false, length, map, option_map, All, IfOk, IfErr};
 ghost use Rattle.tt_core.specs.Outcomes.{Gives};
 ghost use Rattle.tt_points_zones.specs.Zones.{IsPoint as IsZonePoint};
 ghost use Rattle.tt_fit_outline.specs.GlyphZone.{on_grid_at, untouched, outline_point, glyph_zone, contours_from, place_of, seen, left_outline};
@@ -88,26 +88,19 @@ fn outline_points(room: Vec<Point>, points: &[(i32, i32, bool)]) -> Result<Vec<P
     Ok(zone)
 }
 
-/// Appends a phantom point to a zone: in font units, its original place, and its current place.
-#[tactic(auto, using(crate::proofs::Zones::one_more))]
-fn push_phantom(
-    zone: &mut Vec<Point>,
-    units: (i32, i32),
-    was: (i32, i32),
-    now: (i32, i32),
-) -> Result<(), AllocError>
-    requires zone { All IsZonePoint zone.old.items }
+/// A phantom point: in font units, its original place, and its current place.
+fn phantom_point(units: (i32, i32), was: (i32, i32), now: (i32, i32)) -> Point
     requires units { IsNear units }
     requires was { IsPosition was }
     requires now { IsPosition now }
-    ensures exact { OnOk result (zone.new.items ≡ zone.old.items ++ with_units units (untouched was now true) ∷ []) }
-    ensures valid { OnOk result (All IsZonePoint zone.new.items) }
+    ensures exact { result ≡ with_units units (untouched was now true) }
+    ensures valid { IsZonePoint result }
 {
-    zone.push(with_units(units, untouched(was, now, true)))?;
-    Ok(())
+    with_units(units, untouched(was, now, true))
 }
 
 /// The points of an outline, followed by its phantom points on the grid, in the given memory.
+#[tactic(auto, using(crate::proofs::Zones::one_more))]
 pub(crate) fn glyph_zone(room: Vec<Point>, glyph: &ReadyGlyph) -> Result<Vec<Point>, AllocError>
     ensures exact { IfOk result (λ v. v.items ≡ glyph_zone (option_map units_view glyph.now.units) (outline_of glyph.now.outline.now) (phantom_of glyph.now.grid)) }
     ensures valid { IfOk result (λ v. All IsZonePoint v.items) }
@@ -117,10 +110,12 @@ pub(crate) fn glyph_zone(room: Vec<Point>, glyph: &ReadyGlyph) -> Result<Vec<Poi
     let places = phantom_places(glyph.units);
     let was = &glyph.outline.phantom;
     let grid = &glyph.grid;
-    push_phantom(&mut zone, (places.left, 0), was[0], grid[0])?;
-    push_phantom(&mut zone, (places.right, 0), was[1], grid[1])?;
-    push_phantom(&mut zone, (0, i32::from(places.ascent)), was[2], grid[2])?;
-    push_phantom(&mut zone, (0, i32::from(places.descent)), was[3], grid[3])?;
+    let ascent = (0, i32::from(places.ascent));
+    let descent = (0, i32::from(places.descent));
+    zone.push(phantom_point((places.left, 0), was[0], grid[0]))?;
+    zone.push(phantom_point((places.right, 0), was[1], grid[1]))?;
+    zone.push(phantom_point(ascent, was[2], grid[2]))?;
+    zone.push(phantom_point(descent, was[3], grid[3]))?;
     Ok(zone)
 }
 

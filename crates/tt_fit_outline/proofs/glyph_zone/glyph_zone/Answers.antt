@@ -22,8 +22,9 @@ returns-clause-exact c =
     let ascent_is = simp to_z-of_z at c.from.ensures in
     let descent_is = simp to_z-of_z at c.from-2.ensures in
     rw (← c.phantom_places-places.ensures, ← placed)
-    (four_pushed c.put_units.new.zone.items c.push_phantom.new.zone.items c.push_phantom-2.new.zone.items
-    c.push_phantom-3.new.zone.items c.push_phantom-4.new.zone.items _ _ _ _
-    (simp to_z-of_z at c.in_ok-push_phantom.ensures.exact) (simp to_z-of_z at c.in_ok-push_phantom-2.ensures.exact)
-    (rw ascent_is at simp to_z-of_z at c.in_ok-push_phantom-3.ensures.exact)
-    (rw descent_is at simp to_z-of_z at c.in_ok-push_phantom-4.ensures.exact))
+    (four_pushed c.put_units.new.zone.items c.push.new.self.items c.push-2.new.self.items c.push-3.new.self.items
+    c.push-4.new.self.items _ _ _ _
+    (simp to_z-of_z at (rw c.phantom_point.ensures.exact at c.in_ok-push.ensures.items))
+    (simp to_z-of_z at (rw c.phantom_point-2.ensures.exact at c.in_ok-push-2.ensures.items))
+    (rw ascent_is at simp to_z-of_z at (rw c.phantom_point-3.ensures.exact at c.in_ok-push-3.ensures.items))
+    (rw descent_is at simp to_z-of_z at (rw c.phantom_point-4.ensures.exact at c.in_ok-push-4.ensures.items)))
