@@ -92,7 +92,6 @@ impl<'a> Machine<'a> {
     /// Takes the zones out, so that the next glyph's zones can have their memory. The machine then has none.
     pub fn take_zones(&mut self, alloc: Global) -> Zones
         ensures exact { zones_view result ≡ self.old.state.zones }
-        ensures valid { IsZones (zones_view result) }
         ensures none { self.new ≡ record self.old { state = record self.old.state { zones = no_zones } } }
     {
         replace(&mut self.state.points, Points::none(alloc)).into_zones()
