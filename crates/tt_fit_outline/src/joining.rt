@@ -9,9 +9,9 @@ ghost use Rattle.tt_fit_outline.specs.Joining.{ends_after, scan_after, placed};
 ghost use Rattle.tt_fit_outline.specs.Outline.{IsPoint};
 ghost use Rattle.tt_fit_outline.specs.Views.{outline_of, size_view, shift_view};
 
-use crate::component::{placed_point, shift_of};
+use crate::component::{landed, shift_of};
 use crate::outline::Outline;
-use crate::scaling::glyf_fault;
+use crate::scaling::{glyf_fault, settled};
 use crate::shift::Shift;
 use crate::size::FontSize;
 use std::alloc::AllocError;
@@ -34,7 +34,7 @@ fn push_placed(
 {
     points.reserve(component.len())?;
     for point in component {
-        points.push(placed_point(part, by, *point)?)?;
+        points.push(settled(part.at, landed(part, by, *point))?)?;
     }
     Ok(())
 }

@@ -59,6 +59,7 @@ pub(crate) fn settled(at: u32, landing: Landing) -> Result<(i32, i32, bool), Fau
     Ok((x, y, landing.on))
 }
 
+/// A point scaled, not yet tested against the limit.
 fn scaled_position(size: FontSize, point: RawPoint) -> Landing
     ensures { landing_view result ≡ scaled_position (size_view size) point }
 {
@@ -67,14 +68,6 @@ fn scaled_position(size: FontSize, point: RawPoint) -> Landing
         y: size.scale.scaled(i32::from(point.y)),
         on: point.on,
     }
-}
-
-/// Scales one point. Error: CoordRange.
-fn scaled_point(size: FontSize, at: u32, point: RawPoint) -> Result<(i32, i32, bool), Fault>
-    ensures exact { Gives (λ p. p) result (scaled_point (size_view size) at point) }
-    ensures within { IfOk result IsPoint }
-{
-    settled(at, scaled_position(size, point))
 }
 
 /// Scales points by a shift, where no coordinate can exceed the limit.
@@ -109,7 +102,7 @@ fn tested_points(
 {
     let mut scaled = Vec::with_capacity(alloc, points.len())?;
     for point in points {
-        scaled.push(scaled_point(size, at, *point)?)?;
+        scaled.push(settled(at, scaled_position(size, *point))?)?;
     }
     Ok(scaled)
 }
