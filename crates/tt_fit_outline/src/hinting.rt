@@ -1,15 +1,11 @@
 //! Runs a glyph's program over its outline. Apple TrueType Reference Manual, "Instructing TrueType Glyphs".
 
-ghost use Rattle.std.specs.Prelude.{◌≡◌, option_map, OnOk};
-ghost use Rattle.tt_exec.specs.Machines.{begun_again};
+ghost use Rattle.std.specs.Prelude.{◌≡◌};
 ghost use Rattle.tt_exec.specs.Parts.{parts_of};
-ghost use Rattle.tt_exec.specs.Work.{copied_of};
 ghost use Rattle.tt_exec_step.specs.Views.{code_of};
 ghost use Rattle.tt_fit_outline.specs.GlyphZone.{program_in_glyf};
 ghost use Rattle.tt_fit_outline.specs.Hinting.{by_program, hinted, run_of};
-ghost use Rattle.tt_fit_outline.specs.Outline.{phantom_of};
-ghost use Rattle.tt_fit_outline.specs.Parts.{parts_with};
-ghost use Rattle.tt_fit_outline.specs.Views.{hinting_view, outline_of, program_view, units_view};
+ghost use Rattle.tt_fit_outline.specs.Views.{hinting_view, outline_of, program_view};
 ghost use Rattle.tt_fit_outline.specs.Work.{Makes, WorkGives, code_work, hinted_work, program_work};
 
 use crate::glyph_program::GlyphProgram;
@@ -21,7 +17,7 @@ use crate::ready_glyph::ReadyGlyph;
 use crate::scaling::glyf_fault;
 use std::alloc::{AllocError, Global};
 use tt_core::Why;
-use tt_exec::{Code, Copies, Machine, Parts, Work};
+use tt_exec::{Code, Machine, Parts, Work};
 
 /// The machine that runs the programs of all glyphs in turn; None before the first.
 pub type GlyphMachine<'a> = Option<Box<Machine<'a>>>;
@@ -74,24 +70,6 @@ fn first_machine<'a>(alloc: Global, parts: &Parts<'a>) -> Result<Box<Machine<'a>
     Ok(Box::new(alloc, Machine::new(alloc, parts)?)?)
 }
 
-/// Puts a glyph into a machine, which then equals a new machine made of the parts with this glyph. An allowance that
-/// covers all copies of the parts is used up.
-fn put_glyph<'a>(
-    alloc: Global,
-    machine: &mut Machine<'a>,
-    parts: &Parts<'a>,
-    glyph: &ReadyGlyph,
-    copies: &mut Copies,
-) -> Result<(), AllocError>
-    requires { copies.old.left ≡ copied_of (parts_of parts.now) }
-    ensures exact { OnOk result (machine.new ≡ begun_again (parts_with (parts_of parts.now) (option_map units_view glyph.now.units) (outline_of glyph.now.outline.now) (phantom_of glyph.now.grid))) }
-    ensures rest { copies.new.rest ≡ copies.old.rest }
-{
-    let room = machine.take_zones(alloc);
-    let zones = glyph_zones(room, parts, glyph, copies)?;
-    machine.begin_again(parts, zones, copies)
-}
-
 /// Runs the programs of glyphs. They share one machine and the job's work.
 #[derive(Drop)]
 pub struct Runner<'a> {
@@ -102,8 +80,8 @@ pub struct Runner<'a> {
 }
 
 impl<'a> Runner<'a> {
-    /// The outline after a glyph's program, run on a machine into which the glyph is put first. Without work for the
-    /// copies nothing is copied. Errors: CoordRange of a phantom point, those of the program, Memory, Spent.
+    /// The outline after a glyph's program. The machine is first begun again with the parts and the glyph. Without work
+    /// for the copies nothing is copied. Errors: CoordRange of a phantom point, those of the program, Memory, Spent.
     #[tactic(auto, unfolding(crate::specs::Hinting::by_program, crate::specs::Work::program_work))]
     fn by_program(
         &mut self,
@@ -124,7 +102,9 @@ impl<'a> Runner<'a> {
             grid,
             units: program.units,
         };
-        put_glyph(self.alloc, machine, parts, &glyph, &mut copies)?;
+        let room = machine.take_zones(self.alloc);
+        let zones = glyph_zones(room, parts, &glyph, &mut copies)?;
+        machine.begin_again(parts, zones, &mut copies)?;
         match machine.run_paid(code_in_glyf(program), copies, &mut self.work) {
             Ok(_) => Ok(left_outline(outline, machine.glyph_points(), machine.scan())?),
             Err(fault) => Err(refusal_of(fault)),
