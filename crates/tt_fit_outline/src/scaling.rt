@@ -87,27 +87,9 @@ fn shifted_points(
     Ok(scaled)
 }
 
-/// Scales points and tests each. Errors: CoordRange, Memory.
+/// Scales points, by a shift where possible. Otherwise each is tested. Errors: CoordRange, Memory.
 #[inline(never)]
 #[tactic(auto, using(crate::proofs::Lists::points, crate::proofs::Lists::from_nothing))]
-fn tested_points(
-    alloc: Global,
-    size: FontSize,
-    at: u32,
-    points: &[RawPoint],
-) -> Result<Vec<(i32, i32, bool)>, FontFault>
-    ensures exact { FontGives (λ v. v.items) result (each (scaled_point (size_view size) at) points.now) }
-    ensures count { IfOk result (λ v. length v.items ≡ length points.now) }
-    ensures coordinates { IfOk result (λ v. All IsPoint v.items) }
-{
-    let mut scaled = Vec::with_capacity(alloc, points.len())?;
-    for point in points {
-        scaled.push(settled(at, scaled_position(size, *point))?)?;
-    }
-    Ok(scaled)
-}
-
-/// Scales points, by a shift where possible. Errors: CoordRange, Memory.
 fn scaled_points(
     alloc: Global,
     size: FontSize,
@@ -118,10 +100,14 @@ fn scaled_points(
     ensures count { IfOk result (λ v. length v.items ≡ length points.now) }
     ensures coordinates { IfOk result (λ v. All IsPoint v.items) }
 {
-    match size.shift() {
-        Some(shift) => Ok(shifted_points(alloc, shift, points)?),
-        None => tested_points(alloc, size, at, points),
+    if let Some(shift) = size.shift() {
+        return Ok(shifted_points(alloc, shift, points)?);
     }
+    let mut scaled = Vec::with_capacity(alloc, points.len())?;
+    for point in points {
+        scaled.push(settled(at, scaled_position(size, *point))?)?;
+    }
+    Ok(scaled)
 }
 
 /// For each contour the number one past its last point.
