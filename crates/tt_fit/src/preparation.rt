@@ -70,7 +70,7 @@ fn all_unfitted<'a>(fault: Fault, work: Work) -> Preparation<'a>
 impl<'a> ProgramsAtSize<'_, 'a> {
     /// The state after both programs. Errors: theirs, Memory, Spent.
     #[tactic(auto, unfolding(crate::specs::Preparation::left_by_programs, crate::specs::Preparation::programs_work))]
-    fn left(&self, alloc: Global, work: &mut Work) -> Result<Hinting<'a>, OutlineFault>
+    fn left_by_programs(&self, alloc: Global, work: &mut Work) -> Result<Hinting<'a>, OutlineFault>
         ensures exact { Makes hinting_view result (left_at self.now.metrics.now (program_tables self.now.programs) self.now.ppem self.now.fit) }
         ensures work { let tables = program_tables self.now.programs in
             WorkGives result work.new.left (programs_work (begun_at self.now.metrics.now tables self.now.ppem self.now.fit) tables work.old.left) }
@@ -94,7 +94,7 @@ impl<'a> ProgramsAtSize<'_, 'a> {
             FontGives preparation_view result (Ok (within_work (work_at self.now.metrics.now tables self.now.ppem self.now.fit) (left_at self.now.metrics.now tables self.now.ppem self.now.fit))) }
     {
         let mut work = work_of(self.fit);
-        match self.left(alloc, &mut work) {
+        match self.left_by_programs(alloc, &mut work) {
             Ok(hinting) => Ok(Preparation {
                 hinting,
                 fallback: Fallback::WhereRefused,
@@ -117,7 +117,7 @@ impl<'a> ProgramsAtSize<'_, 'a> {
         match self.fit {
             Fit::Full => {
                 let mut work = Work::unbounded();
-                match self.left(alloc, &mut work) {
+                match self.left_by_programs(alloc, &mut work) {
                     Ok(hinting) => Ok(without_fallback(hinting)),
                     Err(refusal) => Err(unbounded(refusal)),
                 }
