@@ -2,6 +2,7 @@ pub mod Copies
 pub mod Examples
 pub mod Halting
 pub mod Machines
+pub mod OneProof
 pub mod Parts
 pub mod Work
 pub mod WorkExamples

@@ -2,7 +2,7 @@
 //! up what it copies, so nothing is copied twice or before it is paid for. No clause sees a copy that is made without
 //! these methods.
 
-ghost use Rattle.std.specs.Prelude.{◌≡◌, ◌+◌, ◌≤◌, length, IfOk, OnOk};
+ghost use Rattle.std.specs.Prelude.{◌≡◌, ◌+◌, ◌≤◌, length, OnOk};
 ghost use Rattle.tt_exec.specs.Copies.{PaysFor};
 ghost use Rattle.tt_exec.specs.Parts.{parts_of};
 ghost use Rattle.tt_exec.specs.Work.{copied, copied_of};
@@ -14,7 +14,6 @@ use crate::work::Work;
 use std::alloc::AllocError;
 use std::marker::Model;
 use tt_exec_step::{Functions, MachineState};
-use tt_state::Point;
 
 /// An allowance of copies. A clause sees how many things may still be copied, and the work that remained after the
 /// payment.
@@ -42,38 +41,16 @@ impl Copies {
         self.left -= count as u128;
     }
 
-    /// Copies points into the given memory, whose contents are dropped.
-    pub fn copy_points(
-        &mut self,
-        room: Vec<Point>,
-        points: &[Point],
-    ) -> Result<Vec<Point>, AllocError>
-        requires { length points.now ≤ self.old.left }
-        ensures exact { IfOk result (λ v. v.items ≡ points.now) }
-        ensures used { self.new.left + length points.now ≡ self.old.left }
+    /// Copies points or values, reusing memory.
+    pub fn copy<T: Copy>(&mut self, room: &mut Vec<T>, given: &[T]) -> Result<(), AllocError>
+        requires { length given.now ≤ self.old.left }
+        ensures exact { OnOk result (room.new.items ≡ given.now) }
+        ensures used { self.new.left + length given.now ≡ self.old.left }
         ensures rest { self.new.rest ≡ self.old.rest }
     {
-        self.take(points.len());
-        let mut copy = room;
-        copy.clear();
-        copy.extend_from_slice(points)?;
-        Ok(copy)
-    }
-
-    /// Copies values, reusing memory.
-    pub(crate) fn copy_values(
-        &mut self,
-        room: &mut Vec<i32>,
-        values: &[i32],
-    ) -> Result<(), AllocError>
-        requires { length values.now ≤ self.old.left }
-        ensures exact { OnOk result (room.new.items ≡ values.now) }
-        ensures used { self.new.left + length values.now ≡ self.old.left }
-        ensures rest { self.new.rest ≡ self.old.rest }
-    {
-        self.take(values.len());
+        self.take(given.len());
         room.clear();
-        room.extend_from_slice(values)
+        room.extend_from_slice(given)
     }
 
     /// Copies a table of functions, reusing memory.

@@ -1,16 +1,15 @@
 //! A machine and its runs. Apple TrueType Reference Manual, "Instructing TrueType Glyphs".
 
-ghost use Rattle.std.specs.Prelude.{◌≡◌, ◌+◌, ◌≤◌, length, reverse, true, All, IfOk, IfSome, OnErr, OnOk};
+ghost use Rattle.std.specs.Prelude.{◌≡◌, ◌+◌, ◌≤◌, length, reverse, true, All, IfOk, OnErr, OnOk};
 ghost use Rattle.std.specs.Option.{option_map};
-ghost use Rattle.tt_core.specs.Limits.{size_limit, stack_limit, step_limit};
-ghost use Rattle.tt_core.specs.Scales.{IsScale};
+ghost use Rattle.tt_core.specs.Limits.{stack_limit, step_limit};
 ghost use Rattle.tt_exec_points.specs.Zones.{no_zones};
 ghost use Rattle.tt_points_zones.specs.Zones.{zones_view, IsPoint, IsZones, SameShape};
 ghost use Rattle.tt_exec_step.specs.Runs.{run_outcome};
 ghost use Rattle.tt_exec_step.specs.Sizes.{SameSizes};
 ghost use Rattle.tt_exec_step.specs.States.{state_of};
 ghost use Rattle.tt_exec_step.specs.Views.{code_of};
-ghost use Rattle.tt_exec.specs.Machines.{begun_again, fresh, kind_of, run_from, GivesParts, OutcomeIs, RunGives};
+ghost use Rattle.tt_exec.specs.Machines.{begun_again, kind_of, run_from, GivesParts, OutcomeIs, RunGives};
 ghost use Rattle.tt_exec.specs.Parts.{parts_of};
 ghost use Rattle.tt_exec.specs.Work.{copied_of, run_work, work_within};
 ghost use Rattle.tt_exec.specs.Worked.{OutcomeWithin, Paid, RunsWithin, WorkIs};
@@ -62,42 +61,10 @@ fn kind_of(table: [u8; 4]) -> Kind
     }
 }
 
-/// Makes a state that of a new machine of these parts and zones, reusing its memory. The points of the twilight zone
-/// have been copied by the same allowance.
-fn begin_again<'a>(
-    state: &mut MachineState<'a>,
-    parts: &Parts<'a>,
-    zones: Zones,
-    copies: &mut Copies,
-) -> Result<(), AllocError>
-    requires size { parts.now.ppem ≤ size_limit }
-    requires scale { IsScale parts.now.scale }
-    requires zones { IsZones (zones_view zones) }
-    requires paid { copies.old.left + length parts.now.zones.twilight.items ≡ copied_of (parts_of parts.now) }
-    ensures exact { OnOk result (state_of state.new ≡ fresh (record (parts_of parts.now) { zones = zones_view zones })) }
-    ensures rest { copies.new.rest ≡ copies.old.rest }
-{
-    state.begin(CallFrame::idle().code, Kind::Glyph);
-    copies.copy_table(&mut state.functions, &parts.functions)?;
-    copies.copy_table(&mut state.instructions, &parts.instructions)?;
-    copies.copy_values(&mut state.storage, &parts.storage)?;
-    copies.copy_values(&mut state.cvt, &parts.cvt)?;
-    state.graphics = parts.state;
-    state.tolerance = parts.tolerance;
-    state.points = Points::new(zones);
-    state.skip_glyphs = parts.skip_glyphs;
-    state.default_state = parts.default_state;
-    state.size = Size::new(parts.ppem, parts.scale);
-    Ok(())
-}
-
 impl<'a> Machine<'a> {
     /// A machine with these parts. It allocates the whole stack. Error: no memory.
     #[inline(never)]
     pub fn new(alloc: Global, parts: Parts<'a>) -> Result<Machine<'a>, AllocError>
-        requires size { parts.ppem ≤ size_limit }
-        requires scale { IsScale parts.scale }
-        requires zones { IsZones (zones_view parts.zones) }
         ensures { IfOk result (λ m. m ≡ begun_again (parts_of parts.entry)) }
     {
         let state = MachineState {
@@ -125,7 +92,6 @@ impl<'a> Machine<'a> {
     /// Takes the zones out, so that the next glyph's zones can have their memory. The machine then has none.
     pub fn take_zones(&mut self, alloc: Global) -> Zones
         ensures exact { zones_view result ≡ self.old.state.zones }
-        ensures valid { IsZones (zones_view result) }
         ensures none { self.new ≡ record self.old { state = record self.old.state { zones = no_zones } } }
     {
         replace(&mut self.state.points, Points::none(alloc)).into_zones()
@@ -140,17 +106,26 @@ impl<'a> Machine<'a> {
         zones: Zones,
         copies: &mut Copies,
     ) -> Result<(), AllocError>
-        requires size { parts.now.ppem ≤ size_limit }
-        requires scale { IsScale parts.now.scale }
         requires zones { IsZones (zones_view zones) }
         requires paid { copies.old.left + length parts.now.zones.twilight.items ≡ copied_of (parts_of parts.now) }
         ensures exact { OnOk result (self.new ≡ begun_again (record (parts_of parts.now) { zones = zones_view zones })) }
         ensures refused { OnErr result (self.new.failed ≡ true) }
         ensures rest { copies.new.rest ≡ copies.old.rest }
     {
-        let begun = begin_again(&mut self.state, parts, zones, copies);
-        self.failed = begun.is_err();
-        begun
+        self.failed = true;
+        self.state.begin(CallFrame::idle().code, Kind::Glyph);
+        copies.copy_table(&mut self.state.functions, &parts.functions)?;
+        copies.copy_table(&mut self.state.instructions, &parts.instructions)?;
+        copies.copy(&mut self.state.storage, &parts.storage)?;
+        copies.copy(&mut self.state.cvt, &parts.cvt)?;
+        self.state.graphics = parts.state;
+        self.state.tolerance = parts.tolerance;
+        self.state.points = Points::new(zones);
+        self.state.skip_glyphs = parts.skip_glyphs;
+        self.state.default_state = parts.default_state;
+        self.state.size = Size::new(parts.ppem, parts.scale);
+        self.failed = false;
+        Ok(())
     }
 
     /// Runs a program from its first byte, with an empty stack and all else unchanged. Gives the count of steps. The
@@ -255,10 +230,7 @@ impl<'a> Machine<'a> {
 
     /// The machine's parts after its runs; None if the machine has failed.
     pub fn into_parts(self) -> Option<Parts<'a>>
-        ensures exact { GivesParts self.entry (option_map parts_of result) }
-        ensures size { IfSome result (λ p. p.ppem ≤ size_limit) }
-        ensures scale { IfSome result (λ p. IsScale p.scale) }
-        ensures zones { IfSome result (λ p. IsZones (zones_view p.zones)) }
+        ensures { GivesParts self.entry (option_map parts_of result) }
     {
         if self.failed {
             return None;

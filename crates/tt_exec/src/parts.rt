@@ -3,9 +3,7 @@
 ghost use Rattle.std.specs.Prelude.{◌≡◌, ◌≤◌, IfOk};
 ghost use Rattle.tt_core.specs.Limits.{size_limit};
 ghost use Rattle.tt_core.specs.Scales.{IsScale};
-ghost use Rattle.tt_exec.specs.Machines.{parts_in};
-ghost use Rattle.tt_exec.specs.Parts.{parts_of};
-ghost use Rattle.tt_exec_step.specs.States.{state_of};
+ghost use Rattle.tt_exec.specs.OneProof.{zones-prop};
 ghost use Rattle.tt_points_zones.specs.Zones.{zones_view, IsZones};
 
 use std::alloc::AllocError;
@@ -36,15 +34,19 @@ pub struct Parts<'a> {
     pub skip_glyphs: bool,
     /// Whether the control value program wants the default graphics state for glyph programs.
     pub default_state: bool,
+    pub ghost limit: { ppem ≤ size_limit },
+    pub ghost scaled: { IsScale scale },
+    pub ghost placed: { IsZones (zones_view zones) } by { zones-prop (zones_view zones) },
 }
 
 impl<'a> Parts<'a> {
+    ghost use Rattle.tt_exec.specs.Machines.{parts_in};
+    ghost use Rattle.tt_exec.specs.Parts.{parts_of};
+    ghost use Rattle.tt_exec_step.specs.States.{state_of};
+
     /// The parts of a machine in this state.
     pub(crate) fn of(state: MachineState<'a>) -> Parts<'a>
-        ensures exact { parts_of result ≡ parts_in (state_of state.entry) }
-        ensures size { result.ppem ≤ size_limit }
-        ensures scale { IsScale result.scale }
-        ensures zones { IsZones (zones_view result.zones) }
+        ensures { parts_of result ≡ parts_in (state_of state.entry) }
     {
         Parts {
             scale: state.size.scale,

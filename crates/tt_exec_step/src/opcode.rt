@@ -6,8 +6,8 @@ ghost use Rattle.tt_exec_points.specs.declared.instruction.OnPoints.TheVariants 
 ghost use Rattle.tt_exec_step.specs.Opcodes as table;
 ghost use Rattle.tt_exec_step.specs.Operation as operation;
 ghost use Rattle.tt_exec_step.specs.States.{state_of};
-ghost use Rattle.tt_exec_step.specs.Step as is;
-ghost use Rattle.tt_exec_step.specs.Outcome.{ComesTo, wants_memory};
+ghost use Rattle.tt_exec_step.specs.Step.{Operates};
+ghost use Rattle.tt_exec_step.specs.Outcome.{wants_memory};
 
 use crate::machine_state::MachineState;
 use crate::outcome::Outcome;
@@ -47,8 +47,7 @@ impl MachineState<'_> {
     /// OffProfile without the whole instruction set.
     fn on_lines(&mut self, op: OnLines, at: usize) -> Outcome
         requires { at < length self.old.frame.code.bytes.now }
-        ensures exact { let given = is.operate (operation.beyond (operation.on_points (on.OnLines op))) at
-            (state_of self.old) in ComesTo given at (state_of self.new) result }
+        ensures exact { Operates (operation.beyond (operation.on_points (on.OnLines op))) at (state_of self.old) (state_of self.new) result }
         ensures memory { wants_memory result ≡ false }
     {
         if self.graphics.whole {
@@ -60,8 +59,7 @@ impl MachineState<'_> {
     /// DEBUG[], 0x4F; S45ROUND[], 0x77. Error: OffProfile without the whole instruction set.
     fn set_beyond(&mut self, op: GraphicsSetting, at: usize) -> Outcome
         requires { at < length self.old.frame.code.bytes.now }
-        ensures exact { let given = is.operate (operation.beyond (operation.set_state op)) at (state_of self.old) in
-            ComesTo given at (state_of self.new) result }
+        ensures exact { Operates (operation.beyond (operation.set_state op)) at (state_of self.old) (state_of self.new) result }
         ensures memory { wants_memory result ≡ false }
     {
         if !self.graphics.whole {
@@ -73,8 +71,7 @@ impl MachineState<'_> {
     /// IDEF[], 0x89. Error: OffProfile without the whole instruction set.
     fn define_instruction(&mut self, at: usize) -> Outcome
         requires { at < length self.old.frame.code.bytes.now }
-        ensures { let given = is.operate (operation.beyond operation.idef) at (state_of self.old) in
-            ComesTo given at (state_of self.new) result }
+        ensures { Operates (operation.beyond operation.idef) at (state_of self.old) (state_of self.new) result }
     {
         if !self.graphics.whole {
             return Outcome::Refused(Why::OffProfile);
@@ -89,7 +86,7 @@ impl MachineState<'_> {
     #[tactic(auto, unfolding(crate::specs::Opcodes::apart))]
     fn operate_apart(&mut self, op: u8, at: usize) -> Outcome
         requires { at < length self.old.frame.code.bytes.now }
-        ensures { ComesTo (is.operate (table.apart op) at (state_of self.old)) at (state_of self.new) result }
+        ensures { Operates (table.apart op) at (state_of self.old) (state_of self.new) result }
     {
         match op {
             0x06 => self.on_lines(OnLines::Spvtl { turned: false }, at),
@@ -111,8 +108,7 @@ impl MachineState<'_> {
     #[inline(always)]
     fn operate_00(&mut self, op: u8, at: usize) -> Outcome
         requires { at < length self.old.frame.code.bytes.now }
-        ensures { let given = is.operate (table.named op table.opcodes_00) at (state_of self.old) in
-            ComesTo given at (state_of self.new) result }
+        ensures { Operates (table.named op table.opcodes_00) at (state_of self.old) (state_of self.new) result }
     {
         match op {
             0x00 => self.access_vectors(Vectors::Svtca(Axis::Y), at),
@@ -150,8 +146,7 @@ impl MachineState<'_> {
     #[inline(always)]
     fn operate_20(&mut self, op: u8, at: usize) -> Outcome
         requires { at < length self.old.frame.code.bytes.now }
-        ensures { let given = is.operate (table.named op table.opcodes_20) at (state_of self.old) in
-            ComesTo given at (state_of self.new) result }
+        ensures { Operates (table.named op table.opcodes_20) at (state_of self.old) (state_of self.new) result }
     {
         match op {
             0x20 => self.manage(Managing::Dup, at),
@@ -192,8 +187,7 @@ impl MachineState<'_> {
     #[inline(always)]
     fn operate_40(&mut self, op: u8, at: usize) -> Outcome
         requires { at < length self.old.frame.code.bytes.now }
-        ensures { let given = is.operate (table.named op table.opcodes_40) at (state_of self.old) in
-            ComesTo given at (state_of self.new) result }
+        ensures { Operates (table.named op table.opcodes_40) at (state_of self.old) (state_of self.new) result }
     {
         match op {
             0x42 => self.access_values(StoredValues::Ws, at),
@@ -233,8 +227,7 @@ impl MachineState<'_> {
     #[inline(always)]
     fn operate_60(&mut self, op: u8, at: usize) -> Outcome
         requires { at < length self.old.frame.code.bytes.now }
-        ensures { let given = is.operate (table.named op table.opcodes_60) at (state_of self.old) in
-            ComesTo given at (state_of self.new) result }
+        ensures { Operates (table.named op table.opcodes_60) at (state_of self.old) (state_of self.new) result }
     {
         match op {
             0x60 => self.compute(Arithmetic::Add, at),
@@ -275,8 +268,7 @@ impl MachineState<'_> {
     #[inline(always)]
     fn operate_80(&mut self, op: u8, at: usize) -> Outcome
         requires { at < length self.old.frame.code.bytes.now }
-        ensures { let given = is.operate (table.named op table.opcodes_80) at (state_of self.old) in
-            ComesTo given at (state_of self.new) result }
+        ensures { Operates (table.named op table.opcodes_80) at (state_of self.old) (state_of self.new) result }
     {
         match op {
             0x80 => self.on_points(OnPoints::InTurn(InTurn::Flippt), at),
@@ -298,7 +290,7 @@ impl MachineState<'_> {
     #[inline(always)]
     pub(crate) fn operate(&mut self, op: u8, at: usize) -> Outcome
         requires { at < length self.old.frame.code.bytes.now }
-        ensures { ComesTo (is.operate (table.operation_of op) at (state_of self.old)) at (state_of self.new) result }
+        ensures { Operates (table.operation_of op) at (state_of self.old) (state_of self.new) result }
     {
         match op {
             0x00..=0x1F => self.operate_00(op, at),

@@ -1,8 +1,8 @@
 //! The outlines of a font at a size.
 
-ghost use Rattle.std.specs.Prelude.{◌≡◌, ◌<◌, ◌≤◌, Err, IfOk, IfSome, OnOk, OnErr, length, All};
+ghost use Rattle.std.specs.Prelude.{◌≡◌, ◌<◌, ◌≤◌, Err, IfOk, IfSome, OnOk, OnErr, length};
 ghost use Rattle.tt_core.specs.Directory.{HasNo};
-ghost use Rattle.tt_core.specs.Limits.{font_limit, point_limit, size_limit};
+ghost use Rattle.tt_core.specs.Limits.{font_limit, size_limit};
 ghost use Rattle.tt_core.specs.Outcomes.{FontGives, IfTold, font_fault};
 ghost use Rattle.tt_face.specs.Programs.{program_tables};
 ghost use Rattle.tt_fit.specs.Counting.{points_asked, counted};
@@ -11,24 +11,22 @@ ghost use Rattle.tt_fit.specs.Dropouts.{dropouts_of};
 ghost use Rattle.tt_fit.specs.Fallback.{where_refused};
 ghost use Rattle.tt_fit.specs.Fitting.{IsFitter, with_hinting, outline_at, glyph_work, unfitted_fault, fitted_outline, after_glyph, charged_fitter};
 ghost use Rattle.tt_fit.specs.Preparation.{fitter_of};
-ghost use Rattle.tt_fit_outline.specs.Hinting.{IsHinting};
-ghost use Rattle.tt_fit_outline.specs.Outline.{outline_of, phantom_of, IsPoint, ArePhantom, AreEnds, IsOutline};
-ghost use Rattle.tt_fit_outline.specs.Views.{hinting_view};
+ghost use Rattle.tt_fit_outline.specs.Views.{hinting_view, outline_of};
 ghost use Rattle.tt_fit_outline.specs.Work.{RefusalLeaves, outline_fault};
 ghost use Rattle.tt_metrics.specs.Metrics.{loca_format_of, glyphs_of};
 
-use crate::counting::left_after;
+use crate::counting::Counter;
 use crate::dropouts::{DropoutRules, DropoutsBy, program_rules};
 use crate::fallback::{Fallback, is_program_fault};
-use crate::preparation::{Preparation, prepared};
-use crate::programs::Fit;
+use crate::preparation::Preparation;
+use crate::programs::{Fit, ProgramsAtSize};
 use crate::rules::{dropouts_by, levels_of, rules_of};
 use std::alloc::{AllocError, Global};
 use std::marker::Model;
 use tt_core::{Fault, FontFault};
 use tt_exec::Work;
 use tt_face::Programs;
-use tt_fit_outline::{GlyphMachine, Hinting, Outline, OutlineFault, Scaling, unbounded};
+use tt_fit_outline::{GlyphMachine, Hinting, Outline, OutlineFault, Runner, Scaling, unbounded};
 use tt_glyf::Glyf;
 use tt_metrics::Metrics;
 
@@ -68,7 +66,7 @@ impl<'a> Fitter<'a> {
     /// Takes a font's metrics, glyph data and programs. `Fit::Full` runs the font program and the control value program
     /// at this size, in pixels per em. `Fit::None` ignores them. Errors: those of the two programs, Memory. With
     /// `Fit::Fallback` and `Fit::Best` a fault of the two programs makes every glyph unfitted.
-    #[tactic(auto, unfolding(crate::specs::Preparation::fitter_of))]
+    #[tactic(auto, using(crate::proofs::Hintings::is_hinting), unfolding(crate::specs::Preparation::fitter_of))]
     pub fn new(
         alloc: Global,
         metrics: &Metrics<'a>,
@@ -89,11 +87,17 @@ impl<'a> Fitter<'a> {
         ensures metrics { IfOk result (λ f. f.metrics ≡ metrics.now) }
         ensures ppem { IfOk result (λ f. f.ppem ≡ ppem) }
     {
+        let sized = ProgramsAtSize {
+            metrics,
+            programs,
+            ppem,
+            fit,
+        };
         let Preparation {
             hinting,
             fallback,
             work,
-        } = prepared(alloc, metrics, programs, ppem, fit)?;
+        } = sized.prepared(alloc)?;
         Ok(Fitter {
             alloc,
             metrics: metrics.copy(),
@@ -116,7 +120,11 @@ impl<'a> Fitter<'a> {
         requires { g < self.now.tables.glyphs }
         ensures exact { IfOk result (λ n. n ≡ counted most (points_asked self.now.tables self.now.levels g)) }
     {
-        match left_after(self.alloc, &self.glyf, self.levels, g, most)? {
+        let counter = Counter {
+            alloc: self.alloc,
+            glyf: &self.glyf,
+        };
+        match counter.left(self.levels, g, most)? {
             Some(left) => Ok(Some(most - left)),
             None => Ok(None),
         }
@@ -133,14 +141,13 @@ impl<'a> Fitter<'a> {
         // Ok means that the glyph and its components have no defect; a fault names a defect they have.
         ensures sound { OnOk result (HasNo (IsOutlineDefect self.now g)) }
         ensures fault { IfTold font_fault result (IsOutlineDefect self.now g) }
-        ensures few { IfOk result (λ o. length o.points.items ≤ point_limit) }
-        ensures coordinates { IfOk result (λ o. All IsPoint o.points.items) }
-        ensures phantom { IfOk result (λ o. ArePhantom (phantom_of o.phantom)) }
-        ensures ends { IfOk result (λ o. AreEnds (length o.points.items) o.ends.items) }
-        ensures outline { IfOk result (λ o. IsOutline (outline_of o)) }
     {
-        let mut work = self.work;
-        self.fitted_within(g, &mut None, &mut work)
+        let mut runner = Runner {
+            alloc: self.alloc,
+            machine: None,
+            work: self.work,
+        };
+        self.fitted_within(g, &mut runner)
     }
 
     /// As `fitted`, and charges the work of the programs to the job, where work is bounded.
@@ -151,19 +158,17 @@ impl<'a> Fitter<'a> {
         // Ok means that the glyph and its components have no defect; a fault names a defect they have.
         ensures sound { OnOk result (HasNo (IsOutlineDefect self.old g)) }
         ensures fault { IfTold font_fault result (IsOutlineDefect self.old g) }
-        ensures few { IfOk result (λ o. length o.points.items ≤ point_limit) }
-        ensures coordinates { IfOk result (λ o. All IsPoint o.points.items) }
-        ensures phantom { IfOk result (λ o. ArePhantom (phantom_of o.phantom)) }
-        ensures ends { IfOk result (λ o. AreEnds (length o.points.items) o.ends.items) }
-        ensures outline { IfOk result (λ o. IsOutline (outline_of o)) }
         ensures after { OnOk result (self.new ≡ after_glyph self.old g) }
         ensures kept { OnErr result (self.new ≡ self.old) }
     {
-        let mut work = self.work;
-        let mut machine = self.machine.take();
-        let outline = self.fitted_within(g, &mut machine, &mut work)?;
-        self.machine = machine;
-        self.work = work;
+        let mut runner = Runner {
+            alloc: self.alloc,
+            machine: self.machine.take(),
+            work: self.work,
+        };
+        let outline = self.fitted_within(g, &mut runner)?;
+        self.machine = runner.machine;
+        self.work = runner.work;
         Ok(outline)
     }
 
@@ -199,29 +204,23 @@ impl<'a> Fitter<'a> {
 
     /// The outline of a glyph within the job's remaining work, with the fault of a program that makes it unfitted.
     #[tactic(auto, unfolding(crate::specs::Fitting::fitted_outline, crate::specs::Fitting::unfitted_fault))]
-    fn fitted_within(
-        &self,
-        g: u16,
-        machine: &mut GlyphMachine<'a>,
-        work: &mut Work,
-    ) -> Result<Outline, FontFault>
+    fn fitted_within(&self, g: u16, runner: &mut Runner<'a>) -> Result<Outline, FontFault>
         requires known { g < self.now.tables.glyphs }
-        requires work { work.old.left ≡ self.now.work }
+        requires work { runner.old.work.left ≡ self.now.work }
         ensures exact { FontGives outline_of result (fitted_outline self.now g) }
         ensures unfitted { IfOk result (λ o. o.unfitted ≡ unfitted_fault self.now g) }
-        ensures valid { IfOk result (λ o. IsOutline (outline_of o)) }
-        ensures left { OnOk result (work.new.left ≡ (after_glyph self.now g).work) }
+        ensures left { OnOk result (runner.new.work.left ≡ (after_glyph self.now g).work) }
     {
         match self.fallback {
-            Fallback::Never => self.marked(machine, &self.hinting, g, None),
-            Fallback::Everywhere(fault) => self.marked(machine, &Hinting::Off, g, Some(fault)),
+            Fallback::Never => self.marked(&mut runner.machine, &self.hinting, g, None),
+            Fallback::Everywhere(fault) => self.marked(&mut None, &Hinting::Off, g, Some(fault)),
             Fallback::WhereRefused => {
-                match self.outline(machine, &self.hinting, self.levels, g, work) {
-                    Ok(outline) => Ok(Outline {
-                        unfitted: None,
-                        ..outline
-                    }),
-                    Err(refusal) => self.refused(g, refusal, machine, work),
+                match self.outline(&self.hinting, self.levels, g, runner) {
+                    Ok(mut outline) => {
+                        outline.unfitted = None;
+                        Ok(outline)
+                    }
+                    Err(refusal) => self.refused(g, refusal, &mut runner.work),
                 }
             }
         }
@@ -230,20 +229,13 @@ impl<'a> Fitter<'a> {
     /// After a refusal with programs: the outline without them if a program is at fault or exceeds the work, else the
     /// refusal.
     #[tactic(auto, unfolding(crate::specs::Fitting::fitted_outline, crate::specs::Fitting::unfitted_fault))]
-    fn refused(
-        &self,
-        g: u16,
-        refusal: OutlineFault,
-        machine: &mut GlyphMachine<'a>,
-        work: &mut Work,
-    ) -> Result<Outline, FontFault>
+    fn refused(&self, g: u16, refusal: OutlineFault, work: &mut Work) -> Result<Outline, FontFault>
         requires known { g < self.now.tables.glyphs }
         requires fallback { self.now.fallback ≡ where_refused }
         requires work { RefusalLeaves refusal work.old.left (glyph_work self.now g self.now.work) }
         requires fault { IfSome (outline_fault refusal) (λ f. outline_at (with_hinting self.now self.now.hinting) self.now.levels g ≡ Err f) }
         ensures exact { FontGives outline_of result (fitted_outline self.now g) }
         ensures unfitted { IfOk result (λ o. o.unfitted ≡ unfitted_fault self.now g) }
-        ensures valid { IfOk result (λ o. IsOutline (outline_of o)) }
         ensures left { OnOk result (work.new.left ≡ (after_glyph self.now g).work) }
     {
         match refusal {
@@ -251,12 +243,12 @@ impl<'a> Fitter<'a> {
                 if !is_program_fault(fault) {
                     return Err(FontFault::Font(fault));
                 }
-                self.marked(machine, &Hinting::Off, g, Some(fault))
+                self.marked(&mut None, &Hinting::Off, g, Some(fault))
             }
             OutlineFault::Memory => Err(FontFault::Memory),
             OutlineFault::Spent(over) => {
                 *work = Work::of(0);
-                self.marked(machine, &Hinting::Off, g, Some(over))
+                self.marked(&mut None, &Hinting::Off, g, Some(over))
             }
         }
     }
@@ -269,18 +261,22 @@ impl<'a> Fitter<'a> {
         g: u16,
         unfitted: Option<Fault>,
     ) -> Result<Outline, FontFault>
-        requires hinting { IsHinting (hinting_view hinting.now) }
         requires known { g < self.now.tables.glyphs }
         ensures exact { FontGives outline_of result (outline_at (with_hinting self.now (hinting_view hinting.now)) self.now.levels g) }
         ensures unfitted { IfOk result (λ o. o.unfitted ≡ unfitted) }
-        ensures valid { IfOk result (λ o. IsOutline (outline_of o)) }
     {
-        let mut work = Work::unbounded();
-        match self.outline(machine, hinting, self.levels, g, &mut work) {
-            Ok(outline) => Ok(Outline {
-                unfitted,
-                ..outline
-            }),
+        let work = Work::unbounded();
+        let mut runner = Runner {
+            alloc: self.alloc,
+            machine: machine.take(),
+            work,
+        };
+        match self.outline(hinting, self.levels, g, &mut runner) {
+            Ok(mut outline) => {
+                *machine = runner.machine;
+                outline.unfitted = unfitted;
+                Ok(outline)
+            }
             Err(refusal) => Err(unbounded(refusal)),
         }
     }

@@ -1,24 +1,21 @@
 //! The outline of a glyph with its components, by the state after the font's programs. OpenType, "The 'glyf' table".
 
-ghost use Rattle.std.specs.Prelude.{◌≡◌, ◌+◌, ◌<◌, ◌^◌, Err, IfOk, length, option_map, All};
+ghost use Rattle.std.specs.Prelude.{◌≡◌, ◌+◌, ◌<◌, ◌^◌, Err, length, option_map, All};
 ghost use Rattle.tt_core.specs.Outcomes.{Gives};
 ghost use Rattle.tt_glyf.specs.Meaning.{HasArguments};
 ghost use Rattle.tt_fit_outline.specs.Joining.{placed};
 ghost use Rattle.tt_fit.specs.Fitting.{with_hinting, size_of, start, glyph_program, joined, added, outline_at, added_work, outline_work};
-ghost use Rattle.tt_fit_outline.specs.Outline.{outline_of, IsOutline};
-ghost use Rattle.tt_fit_outline.specs.Hinting.{IsHinting};
 ghost use Rattle.tt_fit_outline.specs.Scaling.{phantom_units};
 ghost use Rattle.tt_fit_outline.specs.Units.{units_by};
-ghost use Rattle.tt_fit_outline.specs.Views.{hinting_view, size_view, program_view, units_view};
+ghost use Rattle.tt_fit_outline.specs.Views.{hinting_view, outline_of, size_view, program_view, units_view};
 ghost use Rattle.tt_fit_outline.specs.Work.{Makes, WorkGives};
 ghost use Rattle.tt_fit.specs.Work.{joined_work};
 
 use crate::fitting::Fitter;
 use tt_core::{Fault, Why};
-use tt_exec::Work;
 use tt_fit_outline::{
-    FontSize, GlyphMachine, GlyphProgram, Hinting, Outline, OutlineFault, Scaling, Units, blank,
-    glyf_fault, hinted, phantom_points, phantom_units, placed, scaled_outline,
+    FontSize, GlyphProgram, Hinting, Outline, OutlineFault, Runner, Scaling, Units, blank,
+    glyf_fault, phantom_points, phantom_units, placed, scaled_outline,
 };
 use tt_glyf::{Raw, RawPoint, Record};
 
@@ -33,7 +30,6 @@ impl<'a> Fitter<'a> {
     fn start(&self, x_min: i16, g: u16) -> Result<Outline, Fault>
         requires { g < self.now.tables.glyphs }
         ensures exact { Gives outline_of result (start self.now x_min g) }
-        ensures valid { IfOk result (λ o. IsOutline (outline_of o)) }
     {
         let phantom = phantom_points(self.size(), &self.metrics, x_min, g);
         blank(self.alloc, self.glyf.start(g), phantom)
@@ -76,17 +72,14 @@ impl<'a> Fitter<'a> {
     #[cycle(outlines)]
     pub(crate) fn outline(
         &self,
-        machine: &mut GlyphMachine<'a>,
         hinting: &Hinting<'a>,
         levels: u32,
         g: u16,
-        work: &mut Work,
+        runner: &mut Runner<'a>,
     ) -> Result<Outline, OutlineFault>
-        requires hinting { IsHinting (hinting_view hinting.now) }
         requires known { g < self.now.tables.glyphs }
         ensures exact { Makes outline_of result (outline_at (with_hinting self.now (hinting_view hinting.now)) levels g) }
-        ensures work { WorkGives result work.new.left (outline_work (with_hinting self.now (hinting_view hinting.now)) levels g work.old.left) }
-        ensures valid { IfOk result (λ o. IsOutline (outline_of o)) }
+        ensures work { WorkGives result runner.new.work.left (outline_work (with_hinting self.now (hinting_view hinting.now)) levels g runner.old.work.left) }
     {
         match self.glyf.read(self.alloc, g)? {
             Raw::Empty => Ok(self.start(0, g)?),
@@ -102,7 +95,7 @@ impl<'a> Fitter<'a> {
                 let scaled = scaled_outline(self.alloc, self.size(), at, &points, &ends, start)?;
                 let units = self.units(g, x_min, &points);
                 let program = self.program(g, code, code_at, units);
-                hinted(self.alloc, machine, hinting, program, scaled, work)
+                runner.hinted(hinting, program, scaled)
             }
             Raw::Composite {
                 x_min,
@@ -111,16 +104,9 @@ impl<'a> Fitter<'a> {
                 code_at,
             } => {
                 let start = self.start(x_min, g)?;
-                let joined = self.joined(
-                    machine,
-                    hinting,
-                    levels,
-                    records.as_slice(),
-                    start,
-                    work,
-                )?;
+                let joined = self.joined(hinting, levels, records.as_slice(), start, runner)?;
                 let program = self.program(g, code, code_at, None);
-                hinted(self.alloc, machine, hinting, program, joined, work)
+                runner.hinted(hinting, program, joined)
             }
         }
     }
@@ -129,24 +115,20 @@ impl<'a> Fitter<'a> {
     #[cycle(outlines)]
     fn joined(
         &self,
-        machine: &mut GlyphMachine<'a>,
         hinting: &Hinting<'a>,
         levels: u32,
         records: &[Record],
         start: Outline,
-        work: &mut Work,
+        runner: &mut Runner<'a>,
     ) -> Result<Outline, OutlineFault>
-        requires hinting { IsHinting (hinting_view hinting.now) }
         requires known { All (λ r. r.glyph < self.now.tables.glyphs) records.now }
         requires arguments { All HasArguments records.now }
-        requires start { IsOutline (outline_of start) }
         ensures exact { Makes outline_of result (joined (added (with_hinting self.now (hinting_view hinting.now)) levels) records.now (outline_of start)) }
-        ensures work { WorkGives result work.new.left (joined_work (added (with_hinting self.now (hinting_view hinting.now)) levels) (added_work (with_hinting self.now (hinting_view hinting.now)) levels) records.now (outline_of start) work.old.left) }
-        ensures valid { IfOk result (λ o. IsOutline (outline_of o)) }
+        ensures work { WorkGives result runner.new.work.left (joined_work (added (with_hinting self.now (hinting_view hinting.now)) levels) (added_work (with_hinting self.now (hinting_view hinting.now)) levels) records.now (outline_of start) runner.old.work.left) }
     {
         let mut so_far = start;
         for part in records {
-            so_far = self.added(machine, hinting, levels, *part, so_far, work)?;
+            so_far = self.added(hinting, levels, *part, so_far, runner)?;
         }
         Ok(so_far)
     }
@@ -156,25 +138,21 @@ impl<'a> Fitter<'a> {
     #[tactic(auto, using(crate::proofs::Levels::one_level, crate::proofs::Levels::one_level_work), unfolding(crate::specs::Fitting::added, crate::specs::Fitting::added_work))]
     fn added(
         &self,
-        machine: &mut GlyphMachine<'a>,
         hinting: &Hinting<'a>,
         levels: u32,
         part: Record,
         so_far: Outline,
-        work: &mut Work,
+        runner: &mut Runner<'a>,
     ) -> Result<Outline, OutlineFault>
-        requires hinting { IsHinting (hinting_view hinting.now) }
         requires known { part.glyph < self.now.tables.glyphs }
         requires arguments { HasArguments part }
-        requires so_far { IsOutline (outline_of so_far) }
         ensures exact { Makes outline_of result (added (with_hinting self.now (hinting_view hinting.now)) levels part (outline_of so_far)) }
-        ensures work { WorkGives result work.new.left (added_work (with_hinting self.now (hinting_view hinting.now)) levels part work.old.left) }
-        ensures valid { IfOk result (λ o. IsOutline (outline_of o)) }
+        ensures work { WorkGives result runner.new.work.left (added_work (with_hinting self.now (hinting_view hinting.now)) levels part runner.old.work.left) }
     {
         if levels == 0 {
             return Err(OutlineFault::Font(glyf_fault(part.at, Why::ComponentDepth)));
         }
-        let component = self.outline(machine, hinting, levels - 1, part.glyph, work)?;
+        let component = self.outline(hinting, levels - 1, part.glyph, runner)?;
         Ok(placed(self.size(), part, &component, so_far)?)
     }
 }

@@ -1,30 +1,28 @@
 //! Runs the font program and the control value program before the first glyph. Apple TrueType Reference Manual,
 //! "Instructing TrueType Glyphs".
 
-ghost use Rattle.std.specs.Prelude.{◌≡◌, ◌≤◌, length, Ok, IfOk, IsTrue};
+ghost use Rattle.std.specs.Prelude.{◌≡◌, ◌≤◌, length, Ok, IsTrue};
 ghost use Rattle.tt_core.specs.Faults.{is_ascii};
-ghost use Rattle.tt_core.specs.Limits.{font_limit, size_limit};
+ghost use Rattle.tt_core.specs.Limits.{font_limit};
 ghost use Rattle.tt_core.specs.Outcomes.{FontGives};
 ghost use Rattle.tt_exec_step.specs.Views.{code_of};
 ghost use Rattle.tt_face.specs.Programs.{program_tables};
 ghost use Rattle.tt_fit.specs.Preparation.{programs_work, without_fallback, within_work, begun_at, left_at, work_at, prepared};
 ghost use Rattle.tt_fit.specs.Fallback.{everywhere};
-ghost use Rattle.tt_fit_outline.specs.Hinting.{IsHinting, off};
+ghost use Rattle.tt_fit_outline.specs.Hinting.{off};
 ghost use Rattle.tt_fit.specs.Rules.{rules_of, work_of};
 ghost use Rattle.tt_fit_outline.specs.Views.{hinting_view};
 ghost use Rattle.tt_fit.specs.Views.{preparation_view};
 ghost use Rattle.tt_fit_outline.specs.Work.{Makes, WorkGives};
 
 use crate::fallback::Fallback;
-use crate::programs::Fit;
+use crate::programs::{Fit, ProgramsAtSize};
 use crate::rules::{cvt_read, rules_of, work_of};
 use std::alloc::Global;
 use std::mem::swap;
 use tt_core::{Fault, FontFault};
 use tt_exec::{Code, Work};
-use tt_face::Programs;
 use tt_fit_outline::{Hinting, OutlineFault, begun_parts, left_to_glyphs, run, unbounded};
-use tt_metrics::Metrics;
 
 /// The state for glyph programs, which glyphs are unfitted, and the job's remaining work.
 #[derive(Drop)]
@@ -47,41 +45,9 @@ fn whole_table<'a>(table: [u8; 4], bytes: &'a [u8]) -> Code<'a>
     }
 }
 
-/// The state after both programs. Errors: theirs, Memory, Spent.
-#[tactic(auto, unfolding(crate::specs::Preparation::left_by_programs, crate::specs::Preparation::programs_work))]
-fn left_by_programs<'a>(
-    alloc: Global,
-    metrics: &Metrics,
-    programs: Programs<'a>,
-    ppem: u32,
-    fit: Fit,
-    work: &mut Work,
-) -> Result<Hinting<'a>, OutlineFault>
-    requires ppem { ppem ≤ size_limit }
-    requires fpgm { length programs.fpgm.now ≤ font_limit }
-    requires prep { length programs.prep.now ≤ font_limit }
-    ensures exact { Makes hinting_view result (left_at metrics.now (program_tables programs.entry) ppem fit) }
-    ensures work { let tables = program_tables programs.entry in
-        WorkGives result work.new.left (programs_work (begun_at metrics.now tables ppem fit) tables work.old.left) }
-    ensures valid { IfOk result (λ h. IsHinting (hinting_view h)) }
-{
-    let rules = rules_of(fit);
-    let cvt = cvt_read(fit, programs.cvt);
-    let begun = begun_parts(alloc, metrics, cvt, ppem, rules)?;
-    let mut font = run(alloc, begun, whole_table(*b"fpgm", programs.fpgm), work)?;
-    let mut prep_parts = begun_parts(alloc, metrics, cvt, ppem, rules)?;
-    swap(&mut prep_parts.functions, &mut font.functions);
-    swap(&mut prep_parts.instructions, &mut font.instructions);
-    let prep = whole_table(*b"prep", programs.prep);
-    let left = run(alloc, prep_parts, prep, work)?;
-    Ok(Hinting::Ready(left_to_glyphs(left)))
-}
-
 /// No glyph is unfitted.
 fn without_fallback<'a>(hinting: Hinting<'a>) -> Preparation<'a>
-    requires { IsHinting (hinting_view hinting) }
-    ensures exact { preparation_view result ≡ without_fallback (hinting_view hinting.entry) }
-    ensures valid { IsHinting (hinting_view result.hinting) }
+    ensures { preparation_view result ≡ without_fallback (hinting_view hinting.entry) }
 {
     Preparation {
         hinting,
@@ -92,8 +58,7 @@ fn without_fallback<'a>(hinting: Hinting<'a>) -> Preparation<'a>
 
 /// Every glyph is unfitted, for this fault.
 fn all_unfitted<'a>(fault: Fault, work: Work) -> Preparation<'a>
-    ensures exact { preparation_view result ≡ record { hinting = off; fallback = everywhere fault; work = work.left } }
-    ensures valid { IsHinting (hinting_view result.hinting) }
+    ensures { preparation_view result ≡ record { hinting = off; fallback = everywhere fault; work = work.left } }
 {
     Preparation {
         hinting: Hinting::Off,
@@ -102,61 +67,63 @@ fn all_unfitted<'a>(fault: Fault, work: Work) -> Preparation<'a>
     }
 }
 
-/// The state after both programs. After a fault of either, every glyph is unfitted. Error: Memory.
-fn with_fallback<'a>(
-    alloc: Global,
-    metrics: &Metrics,
-    programs: Programs<'a>,
-    ppem: u32,
-    fit: Fit,
-) -> Result<Preparation<'a>, FontFault>
-    requires ppem { ppem ≤ size_limit }
-    requires fpgm { length programs.fpgm.now ≤ font_limit }
-    requires prep { length programs.prep.now ≤ font_limit }
-    ensures exact { let tables = program_tables programs.entry in
-        FontGives preparation_view result (Ok (within_work (work_at metrics.now tables ppem fit) (left_at metrics.now tables ppem fit))) }
-    ensures valid { IfOk result (λ p. IsHinting (hinting_view p.hinting)) }
-{
-    let mut work = work_of(fit);
-    match left_by_programs(alloc, metrics, programs, ppem, fit, &mut work) {
-        Ok(hinting) => Ok(Preparation {
-            hinting,
-            fallback: Fallback::WhereRefused,
-            work,
-        }),
-        Err(refusal) => match refusal {
-            OutlineFault::Font(fault) => Ok(all_unfitted(fault, work)),
-            OutlineFault::Memory => Err(FontFault::Memory),
-            OutlineFault::Spent(fault) => Ok(all_unfitted(fault, Work::of(0))),
-        },
+impl<'a> ProgramsAtSize<'_, 'a> {
+    /// The state after both programs. Errors: theirs, Memory, Spent.
+    #[tactic(auto, unfolding(crate::specs::Preparation::left_by_programs, crate::specs::Preparation::programs_work))]
+    fn left_by_programs(&self, alloc: Global, work: &mut Work) -> Result<Hinting<'a>, OutlineFault>
+        ensures exact { Makes hinting_view result (left_at self.now.metrics.now (program_tables self.now.programs) self.now.ppem self.now.fit) }
+        ensures work { let tables = program_tables self.now.programs in
+            WorkGives result work.new.left (programs_work (begun_at self.now.metrics.now tables self.now.ppem self.now.fit) tables work.old.left) }
+    {
+        let rules = rules_of(self.fit);
+        let cvt = cvt_read(self.fit, self.programs.cvt);
+        let begun = begun_parts(alloc, self.metrics, cvt, self.ppem, rules)?;
+        let fpgm = whole_table(*b"fpgm", self.programs.fpgm);
+        let mut font = run(alloc, begun, fpgm, work)?;
+        let mut prep_parts = begun_parts(alloc, self.metrics, cvt, self.ppem, rules)?;
+        swap(&mut prep_parts.functions, &mut font.functions);
+        swap(&mut prep_parts.instructions, &mut font.instructions);
+        let prep = whole_table(*b"prep", self.programs.prep);
+        let left = run(alloc, prep_parts, prep, work)?;
+        Ok(Hinting::Ready(left_to_glyphs(left)))
     }
-}
 
-/// The preparation for the glyphs at a size. Errors: those of the programs, except with `Fit::Fallback` and
-/// `Fit::Best`; Memory.
-#[tactic(auto, unfolding(crate::specs::Preparation::prepared))]
-pub(crate) fn prepared<'a>(
-    alloc: Global,
-    metrics: &Metrics,
-    programs: Programs<'a>,
-    ppem: u32,
-    fit: Fit,
-) -> Result<Preparation<'a>, FontFault>
-    requires ppem { ppem ≤ size_limit }
-    requires fpgm { length programs.fpgm.now ≤ font_limit }
-    requires prep { length programs.prep.now ≤ font_limit }
-    ensures exact { FontGives preparation_view result (prepared metrics.now (program_tables programs.entry) ppem fit) }
-    ensures valid { IfOk result (λ p. IsHinting (hinting_view p.hinting)) }
-{
-    match fit {
-        Fit::Full => {
-            let mut work = Work::unbounded();
-            match left_by_programs(alloc, metrics, programs, ppem, fit, &mut work) {
-                Ok(hinting) => Ok(without_fallback(hinting)),
-                Err(refusal) => Err(unbounded(refusal)),
-            }
+    /// The state after both programs. After a fault of either, every glyph is unfitted. Error: Memory.
+    fn with_fallback(&self, alloc: Global) -> Result<Preparation<'a>, FontFault>
+        ensures exact { let tables = program_tables self.now.programs in
+            FontGives preparation_view result (Ok (within_work (work_at self.now.metrics.now tables self.now.ppem self.now.fit) (left_at self.now.metrics.now tables self.now.ppem self.now.fit))) }
+    {
+        let mut work = work_of(self.fit);
+        match self.left_by_programs(alloc, &mut work) {
+            Ok(hinting) => Ok(Preparation {
+                hinting,
+                fallback: Fallback::WhereRefused,
+                work,
+            }),
+            Err(refusal) => match refusal {
+                OutlineFault::Font(fault) => Ok(all_unfitted(fault, work)),
+                OutlineFault::Memory => Err(FontFault::Memory),
+                OutlineFault::Spent(fault) => Ok(all_unfitted(fault, Work::of(0))),
+            },
         }
-        Fit::None => Ok(without_fallback(Hinting::Off)),
-        Fit::Fallback | Fit::Best => with_fallback(alloc, metrics, programs, ppem, fit),
+    }
+
+    /// The preparation for the glyphs at this size. Errors: those of the programs, except with `Fit::Fallback` and
+    /// `Fit::Best`; Memory.
+    #[tactic(auto, unfolding(crate::specs::Preparation::prepared))]
+    pub(crate) fn prepared(&self, alloc: Global) -> Result<Preparation<'a>, FontFault>
+        ensures exact { FontGives preparation_view result (prepared self.now.metrics.now (program_tables self.now.programs) self.now.ppem self.now.fit) }
+    {
+        match self.fit {
+            Fit::Full => {
+                let mut work = Work::unbounded();
+                match self.left_by_programs(alloc, &mut work) {
+                    Ok(hinting) => Ok(without_fallback(hinting)),
+                    Err(refusal) => Err(unbounded(refusal)),
+                }
+            }
+            Fit::None => Ok(without_fallback(Hinting::Off)),
+            Fit::Fallback | Fit::Best => self.with_fallback(alloc),
+        }
     }
 }

@@ -1,5 +1,11 @@
 //! How a font's programs are run.
 
+ghost use Rattle.std.specs.Prelude.{◌≤◌, length};
+ghost use Rattle.tt_core.specs.Limits.{font_limit, size_limit};
+
+use tt_face::Programs;
+use tt_metrics::Metrics;
+
 /// How outlines are fitted to the grid.
 #[derive(Clone, Copy, Debug, PartialEq, Eq)]
 pub enum Fit {
@@ -11,4 +17,17 @@ pub enum Fit {
     Fallback,
     /// As `Fallback`, with the whole instruction set, tolerance of missing things, and deeper nesting of components.
     Best,
+}
+
+/// A font's programs at a size.
+#[derive(Clone, Copy)]
+pub(crate) struct ProgramsAtSize<'m, 'a> {
+    pub(crate) metrics: &'m Metrics<'a>,
+    pub(crate) programs: Programs<'a>,
+    /// Pixels per em.
+    pub(crate) ppem: u32,
+    pub(crate) fit: Fit,
+    pub(crate) ghost limit: { ppem ≤ size_limit },
+    pub(crate) ghost fpgm: { length programs.fpgm.now ≤ font_limit },
+    pub(crate) ghost prep: { length programs.prep.now ≤ font_limit },
 }

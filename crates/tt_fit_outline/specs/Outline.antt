@@ -2,7 +2,6 @@
 use Rattle.std.specs.Prelude.{◌≡◌, ℕ, ◌-◌, ◌<◌, ◌≤◌, Bool, ℤ, pos, unsigned_abs, List, length, get_or, slice_index, Option, All}
 use Rattle.tt_core.specs.Limits.{coordinate_limit, point_limit}
 use Rattle.tt_state.specs.declared.graphics_state.ScanControl.{ScanControl}
-use Rattle.tt_fit_outline.specs.declared.outline.Outline as declared
 
 -- the left and right ends of the advance, the ascent and the descent, each as a position
 pub record PhantomPoints : Type 0 where
@@ -27,9 +26,6 @@ pub record Outline : Type 0 where
   pub ends : List ℕ
   pub phantom : PhantomPoints
   pub scan : Option ScanControl
-
-abbrev pub outline_of : declared.Outline → Outline
-outline_of o = record { points = o.points.items; ends = o.ends.items; phantom = phantom_of o.phantom; scan = o.scan }
 
 -- a coordinate is within the limit
 abbrev pub IsCoordinate : ℤ → Type 0

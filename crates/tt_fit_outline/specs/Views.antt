@@ -6,16 +6,20 @@ use Rattle.tt_fit_outline.specs.declared.shift.Shift as shift
 use Rattle.tt_fit_outline.specs.declared.hinting.Hinting as hinting
 use Rattle.tt_fit_outline.specs.declared.hinting.Hinting.TheVariants as state
 use Rattle.tt_fit_outline.specs.declared.glyph_program.GlyphProgram as program
+use Rattle.tt_fit_outline.specs.declared.outline.Outline as outline
 use Rattle.tt_fit_outline.specs.declared.scaling.Landing as landing
 use Rattle.tt_fit_outline.specs.declared.scaling.Phantom as phantom
 use Rattle.tt_fit_outline.specs.declared.size.FontSize as size
 use Rattle.tt_fit_outline.specs.declared.units.PhantomUnits as phantom_units
 use Rattle.tt_fit_outline.specs.declared.units.Units as units
-use Rattle.tt_fit_outline.specs.Outline.{PhantomPoints}
+use Rattle.tt_fit_outline.specs.Outline.{PhantomPoints, Outline, phantom_of}
 use Rattle.tt_fit_outline.specs.GlyphZone.{GlyphProgram}
 use Rattle.tt_fit_outline.specs.Hinting.{Hinting, off, ready}
 use Rattle.tt_fit_outline.specs.Size.{FontSize}
 use Rattle.tt_fit_outline.specs.Units.{Units}
+
+abbrev pub outline_of : outline.Outline → Outline
+outline_of o = record { points = o.points.items; ends = o.ends.items; phantom = phantom_of o.phantom; scan = o.scan }
 
 abbrev pub size_view : size.FontSize → FontSize
 size_view z = record { ppem = z.ppem; scale = z.scale; control_values = z.control_values }

@@ -1,15 +1,14 @@
 //! The places of a component's points. OpenType, "The 'glyf' table", "Composite Glyph Description".
 
-ghost use Rattle.std.specs.Prelude.{◌≡◌, ◌<◌, ◌≤◌, ◌^◌, ◌+ℤ◌, ◌*ℤ◌, unsigned_abs, IfOk};
+ghost use Rattle.std.specs.Prelude.{◌≡◌, ◌<◌, ◌≤◌, ◌^◌, ◌+ℤ◌, ◌*ℤ◌, unsigned_abs};
 ghost use Rattle.tt_core.specs.Numbers.{rounded_quotient};
 ghost use Rattle.tt_core.specs.Outcomes.{Gives};
 ghost use Rattle.tt_glyf.specs.Composite.{one};
 ghost use Rattle.tt_glyf.specs.Meaning.{HasArguments};
-ghost use Rattle.tt_fit_outline.specs.Component.{transformed, offset_along, offset_of, point_of, onto, shift_of, landed, placed_point};
-ghost use Rattle.tt_fit_outline.specs.Outline.{IsPoint};
+ghost use Rattle.tt_fit_outline.specs.Component.{transformed, offset_along, offset_of, point_of, onto, shift_of, landed};
 ghost use Rattle.tt_fit_outline.specs.Views.{size_view, landing_view, component_point_view, shift_view};
 
-use crate::scaling::{Landing, glyf_fault, settled};
+use crate::scaling::{Landing, glyf_fault};
 use crate::shift::{ComponentPoint, Shift};
 use crate::size::FontSize;
 use tt_core::{Fault, Why, rq};
@@ -123,7 +122,8 @@ pub(crate) fn shift_of(
     }
 }
 
-fn landed(part: Record, by: Shift, point: (i32, i32, bool)) -> Landing
+/// A point of a component in its place, not yet tested against the limit.
+pub(crate) fn landed(part: Record, by: Shift, point: (i32, i32, bool)) -> Landing
     ensures { landing_view result ≡ landed part (shift_view by) point }
 {
     let to = transformed(part, point);
@@ -132,16 +132,4 @@ fn landed(part: Record, by: Shift, point: (i32, i32, bool)) -> Landing
         y: to.y + by.y,
         on: point.2,
     }
-}
-
-/// A point of a component in its place. Error: CoordRange, at the record.
-pub(crate) fn placed_point(
-    part: Record,
-    by: Shift,
-    point: (i32, i32, bool),
-) -> Result<(i32, i32, bool), Fault>
-    ensures exact { Gives (λ p. p) result (placed_point part (shift_view by) point) }
-    ensures within { IfOk result IsPoint }
-{
-    settled(part.at, landed(part, by, point))
 }

@@ -1,19 +1,19 @@
 //! The points that a glyph's program works on. Apple TrueType Reference Manual, "Instructing TrueType Glyphs" (zones,
 //! phantom points).
 
-ghost use Rattle.std.specs.Prelude.{◌≡◌, ◌+◌, ◌++◌, ◌∷◌, [], true, false, length, map, option_map, All, IfOk, IfErr, OnOk};
+ghost use Rattle.std.specs.Prelude.{◌≡◌, ◌+◌, true, false, length, map, option_map, All, IfOk, IfErr};
 ghost use Rattle.tt_core.specs.Outcomes.{Gives};
 ghost use Rattle.tt_points_zones.specs.Zones.{IsPoint as IsZonePoint};
 ghost use Rattle.tt_fit_outline.specs.GlyphZone.{on_grid_at, untouched, outline_point, glyph_zone, contours_from, place_of, seen, left_outline};
-ghost use Rattle.tt_fit_outline.specs.Outline.{outline_of, phantom_of, IsCoordinate, IsPoint, IsPosition, ArePhantom, IsOutline};
+ghost use Rattle.tt_fit_outline.specs.Outline.{phantom_of, IsCoordinate, IsPoint, IsPosition, ArePhantom};
 ghost use Rattle.tt_fit_outline.specs.Scaling.{coordinate_fault, is_coordinate, to_grid};
 ghost use Rattle.tt_fit_outline.specs.Units.{IsNear, with_units};
-ghost use Rattle.tt_fit_outline.specs.Views.{units_view};
+ghost use Rattle.tt_fit_outline.specs.Views.{outline_of, units_view};
 
 use crate::outline::Outline;
 use crate::places::{phantom_places, places_of, put_units, with_units};
+use crate::ready_glyph::ReadyGlyph;
 use crate::scaling::coordinate;
-use crate::units::Units;
 use std::alloc::AllocError;
 use tt_core::Fault;
 use tt_state::{Point, Round, ScanControl};
@@ -28,39 +28,24 @@ fn to_grid(at: u32, v: i32) -> Result<i32, Fault>
     coordinate(at, Round::Grid.round(i64::from(v)))
 }
 
-/// A position with x rounded to the grid. Error: CoordRange.
-fn along_x(at: u32, p: (i32, i32)) -> Result<(i32, i32), Fault>
-    requires { IsPosition p }
-    ensures ok { IfOk result (λ q. (q ≡ (to_grid p.0, p.1)) × (is_coordinate (to_grid p.0) ≡ true)) }
-    ensures within { IfOk result IsPosition }
-    ensures err { IfErr result (λ f. (f ≡ coordinate_fault at) × (is_coordinate (to_grid p.0) ≡ false)) }
-{
-    Ok((to_grid(at, p.0)?, p.1))
-}
-
-/// A position with y rounded to the grid. Error: CoordRange.
-fn along_y(at: u32, p: (i32, i32)) -> Result<(i32, i32), Fault>
-    requires { IsPosition p }
-    ensures ok { IfOk result (λ q. (q ≡ (p.0, to_grid p.1)) × (is_coordinate (to_grid p.1) ≡ true)) }
-    ensures within { IfOk result IsPosition }
-    ensures err { IfErr result (λ f. (f ≡ coordinate_fault at) × (is_coordinate (to_grid p.1) ≡ false)) }
-{
-    Ok((p.0, to_grid(at, p.1)?))
-}
-
 /// The phantom points on the grid: the ends of the advance along x, the ascent and the descent along y. Error:
 /// CoordRange, at this offset in glyf.
 #[tactic(auto, unfolding(crate::specs::GlyphZone::on_grid_at))]
-pub(crate) fn on_grid(at: u32, phantom: &[(i32, i32); 4]) -> Result<[(i32, i32); 4], Fault>
-    requires { ArePhantom (phantom_of phantom.now) }
-    ensures exact { Gives phantom_of result (on_grid_at at (phantom_of phantom.now)) }
+pub(crate) fn on_grid(at: u32, outline: &Outline) -> Result<[(i32, i32); 4], Fault>
+    ensures exact { Gives phantom_of result (on_grid_at at (phantom_of outline.now.phantom)) }
     ensures valid { IfOk result (λ p. ArePhantom (phantom_of p)) }
 {
-    let left = along_x(at, phantom[0])?;
-    let right = along_x(at, phantom[1])?;
-    let ascent = along_y(at, phantom[2])?;
-    let descent = along_y(at, phantom[3])?;
-    Ok([left, right, ascent, descent])
+    let was = &outline.phantom;
+    let left = to_grid(at, was[0].0)?;
+    let right = to_grid(at, was[1].0)?;
+    let ascent = to_grid(at, was[2].1)?;
+    let descent = to_grid(at, was[3].1)?;
+    Ok([
+        (left, was[0].1),
+        (right, was[1].1),
+        (was[2].0, ascent),
+        (was[3].0, descent),
+    ])
 }
 
 /// A point not yet touched.
@@ -103,45 +88,34 @@ fn outline_points(room: Vec<Point>, points: &[(i32, i32, bool)]) -> Result<Vec<P
     Ok(zone)
 }
 
-/// Appends a phantom point to a zone: in font units, its original place, and its current place.
-#[tactic(auto, using(crate::proofs::Zones::one_more))]
-fn push_phantom(
-    zone: &mut Vec<Point>,
-    units: (i32, i32),
-    was: (i32, i32),
-    now: (i32, i32),
-) -> Result<(), AllocError>
-    requires zone { All IsZonePoint zone.old.items }
+/// A phantom point: in font units, its original place, and its current place.
+fn phantom_point(units: (i32, i32), was: (i32, i32), now: (i32, i32)) -> Point
     requires units { IsNear units }
     requires was { IsPosition was }
     requires now { IsPosition now }
-    ensures exact { OnOk result (zone.new.items ≡ zone.old.items ++ with_units units (untouched was now true) ∷ []) }
-    ensures valid { OnOk result (All IsZonePoint zone.new.items) }
+    ensures exact { result ≡ with_units units (untouched was now true) }
+    ensures valid { IsZonePoint result }
 {
-    zone.push(with_units(units, untouched(was, now, true)))?;
-    Ok(())
+    with_units(units, untouched(was, now, true))
 }
 
 /// The points of an outline, followed by its phantom points on the grid, in the given memory.
-pub(crate) fn glyph_zone(
-    room: Vec<Point>,
-    units: Option<Units>,
-    outline: &Outline,
-    grid: &[(i32, i32); 4],
-) -> Result<Vec<Point>, AllocError>
-    requires outline { IsOutline (outline_of outline.now) }
-    requires grid { ArePhantom (phantom_of grid.now) }
-    ensures exact { IfOk result (λ v. v.items ≡ glyph_zone (option_map units_view units.entry) (outline_of outline.now) (phantom_of grid.now)) }
+#[tactic(auto, using(crate::proofs::Zones::one_more))]
+pub(crate) fn glyph_zone(room: Vec<Point>, glyph: &ReadyGlyph) -> Result<Vec<Point>, AllocError>
+    ensures exact { IfOk result (λ v. v.items ≡ glyph_zone (option_map units_view glyph.now.units) (outline_of glyph.now.outline.now) (phantom_of glyph.now.grid)) }
     ensures valid { IfOk result (λ v. All IsZonePoint v.items) }
 {
-    let mut zone = outline_points(room, &outline.points)?;
-    put_units(&mut zone, places_of(units));
-    let places = phantom_places(units);
-    let was = &outline.phantom;
-    push_phantom(&mut zone, (places.left, 0), was[0], grid[0])?;
-    push_phantom(&mut zone, (places.right, 0), was[1], grid[1])?;
-    push_phantom(&mut zone, (0, i32::from(places.ascent)), was[2], grid[2])?;
-    push_phantom(&mut zone, (0, i32::from(places.descent)), was[3], grid[3])?;
+    let mut zone = outline_points(room, &glyph.outline.points)?;
+    put_units(&mut zone, places_of(glyph.units));
+    let places = phantom_places(glyph.units);
+    let was = &glyph.outline.phantom;
+    let grid = &glyph.grid;
+    let ascent = (0, i32::from(places.ascent));
+    let descent = (0, i32::from(places.descent));
+    zone.push(phantom_point((places.left, 0), was[0], grid[0]))?;
+    zone.push(phantom_point((places.right, 0), was[1], grid[1]))?;
+    zone.push(phantom_point(ascent, was[2], grid[2]))?;
+    zone.push(phantom_point(descent, was[3], grid[3]))?;
     Ok(zone)
 }
 
@@ -215,11 +189,9 @@ pub(crate) fn left_outline(
     zone: &[Point],
     scan: ScanControl,
 ) -> Result<Outline, AllocError>
-    requires outline { IsOutline (outline_of outline) }
     requires count { length zone.now ≡ length outline.points.items + 4 }
     requires zone { All IsZonePoint zone.now }
     ensures exact { IfOk result (λ o. outline_of o ≡ left_outline (outline_of outline) zone.now scan) }
-    ensures valid { IfOk result (λ o. IsOutline (outline_of o)) }
 {
     let (own, phantom) = zone.split_at(outline.points.len());
     let points = seen_points(outline.points, own)?;

@@ -1,28 +1,23 @@
 //! Runs a glyph's program over its outline. Apple TrueType Reference Manual, "Instructing TrueType Glyphs".
 
-ghost use Rattle.std.specs.Prelude.{◌≡◌, option_map, IfOk, OnOk};
-ghost use Rattle.tt_exec.specs.Machines.{begun_again};
+ghost use Rattle.std.specs.Prelude.{◌≡◌};
 ghost use Rattle.tt_exec.specs.Parts.{parts_of};
-ghost use Rattle.tt_exec.specs.Work.{copied_of};
 ghost use Rattle.tt_exec_step.specs.Views.{code_of};
 ghost use Rattle.tt_fit_outline.specs.GlyphZone.{program_in_glyf};
-ghost use Rattle.tt_fit_outline.specs.Hinting.{IsHinting, by_program, hinted, run_of};
-ghost use Rattle.tt_fit_outline.specs.Outline.{outline_of, phantom_of, ArePhantom, IsOutline};
-ghost use Rattle.tt_fit_outline.specs.Parts.{AreParts, parts_with};
-ghost use Rattle.tt_fit_outline.specs.Views.{hinting_view, program_view, units_view};
+ghost use Rattle.tt_fit_outline.specs.Hinting.{by_program, hinted, run_of};
+ghost use Rattle.tt_fit_outline.specs.Views.{hinting_view, outline_of, program_view};
 ghost use Rattle.tt_fit_outline.specs.Work.{Makes, WorkGives, code_work, hinted_work, program_work};
-ghost use Rattle.tt_points_zones.specs.Zones.{IsZones, SameShape};
 
 use crate::glyph_program::GlyphProgram;
 use crate::glyph_zone::{left_outline, on_grid};
 use crate::outline::Outline;
 use crate::outline_fault::{OutlineFault, refusal_of};
 use crate::parts::{glyph_zones, without_contents};
+use crate::ready_glyph::ReadyGlyph;
 use crate::scaling::glyf_fault;
-use crate::units::Units;
 use std::alloc::{AllocError, Global};
 use tt_core::Why;
-use tt_exec::{Code, Copies, Machine, Parts, Work};
+use tt_exec::{Code, Machine, Parts, Work};
 
 /// The machine that runs the programs of all glyphs in turn; None before the first.
 pub type GlyphMachine<'a> = Option<Box<Machine<'a>>>;
@@ -44,11 +39,8 @@ pub fn run<'a>(
     code: Code<'a>,
     work: &mut Work,
 ) -> Result<Parts<'a>, OutlineFault>
-    requires { AreParts (parts_of parts) }
     ensures exact { Makes parts_of result (run_of (code_of code.entry) (parts_of parts.entry)) }
     ensures work { WorkGives result work.new.left (code_work (code_of code.entry) (parts_of parts.entry) work.old.left) }
-    ensures valid { IfOk result (λ p. AreParts (parts_of p)) }
-    ensures shape { IfOk result (λ p. SameShape (parts_of parts.entry).zones (parts_of p).zones) }
 {
     let mut machine = Machine::new(alloc, parts)?;
     if let Err(fault) = machine.run_within(code, work) {
@@ -73,113 +65,77 @@ fn code_in_glyf<'a>(program: GlyphProgram<'a, '_>) -> Code<'a>
 /// A machine for the programs of all glyphs. It copies nothing: the first glyph is put into it like each later one. Not
 /// inline: a machine takes 100 kB, and each glyph's frame would have room for one.
 #[inline(never)]
-fn first_machine<'a>(alloc: Global, parts: &Parts<'a>) -> Result<Box<Machine<'a>>, AllocError>
-    requires { AreParts (parts_of parts.now) }
-{
+fn first_machine<'a>(alloc: Global, parts: &Parts<'a>) -> Result<Box<Machine<'a>>, AllocError> {
     let parts = without_contents(alloc, parts)?;
     Ok(Box::new(alloc, Machine::new(alloc, parts)?)?)
 }
 
-/// The machine of the glyphs before, or a first one.
-fn machine_of_all<'a>(
-    alloc: Global,
-    machine: GlyphMachine<'a>,
-    parts: &Parts<'a>,
-) -> Result<Box<Machine<'a>>, AllocError>
-    requires { AreParts (parts_of parts.now) }
-{
-    match machine {
-        Some(machine) => Ok(machine),
-        None => first_machine(alloc, parts),
+/// Runs the programs of glyphs. They share one machine and the job's work.
+#[derive(Drop)]
+pub struct Runner<'a> {
+    pub alloc: Global,
+    pub machine: GlyphMachine<'a>,
+    /// The job's remaining work.
+    pub work: Work,
+}
+
+impl<'a> Runner<'a> {
+    /// The outline after a glyph's program. The machine is first begun again with the parts and the glyph. Without work
+    /// for the copies nothing is copied. Errors: CoordRange of a phantom point, those of the program, Memory, Spent.
+    #[tactic(auto, unfolding(crate::specs::Hinting::by_program, crate::specs::Work::program_work))]
+    fn by_program(
+        &mut self,
+        machine: &mut Machine<'a>,
+        parts: &Parts<'a>,
+        program: GlyphProgram<'a, '_>,
+        outline: Outline,
+    ) -> Result<Outline, OutlineFault>
+        ensures exact { Makes outline_of result (by_program (parts_of parts.now) (program_view program.entry) (outline_of outline)) }
+        ensures work { WorkGives result self.new.work.left (program_work (parts_of parts.now) (program_view program.entry) (outline_of outline) self.old.work.left) }
+    {
+        let grid = on_grid(program.glyph_at, &outline)?;
+        let Some(mut copies) = parts.pay(&mut self.work) else {
+            return Err(OutlineFault::Spent(glyf_fault(program.code_at, Why::StepLimit)));
+        };
+        let glyph = ReadyGlyph {
+            outline: &outline,
+            grid,
+            units: program.units,
+        };
+        let room = machine.take_zones(self.alloc);
+        let zones = glyph_zones(room, parts, &glyph, &mut copies)?;
+        machine.begin_again(parts, zones, &mut copies)?;
+        match machine.run_paid(code_in_glyf(program), copies, &mut self.work) {
+            Ok(_) => Ok(left_outline(outline, machine.glyph_points(), machine.scan())?),
+            Err(fault) => Err(refusal_of(fault)),
+        }
     }
-}
 
-/// Puts a glyph into a machine, which then equals a new machine made of the parts with this glyph. An allowance that
-/// covers all copies of the parts is used up.
-fn put_glyph<'a>(
-    alloc: Global,
-    machine: &mut Machine<'a>,
-    parts: &Parts<'a>,
-    units: Option<Units>,
-    outline: &Outline,
-    grid: &[(i32, i32); 4],
-    copies: &mut Copies,
-) -> Result<(), AllocError>
-    requires parts { AreParts (parts_of parts.now) }
-    requires outline { IsOutline (outline_of outline.now) }
-    requires grid { ArePhantom (phantom_of grid.now) }
-    requires paid { copies.old.left ≡ copied_of (parts_of parts.now) }
-    ensures exact { OnOk result (machine.new ≡ begun_again (parts_with (parts_of parts.now) (option_map units_view units.entry) (outline_of outline.now) (phantom_of grid.now))) }
-    ensures valid { OnOk result (IsZones machine.new.state.zones) }
-    ensures rest { copies.new.rest ≡ copies.old.rest }
-{
-    let room = machine.take_zones(alloc);
-    let zones = glyph_zones(room, parts, units, outline, grid, copies)?;
-    machine.begin_again(parts, zones, copies)
-}
-
-/// The outline after a glyph's program, run on a machine into which the glyph is put first. Without work for the copies
-/// nothing is copied. Errors: CoordRange of a phantom point, those of the program, Memory, Spent.
-#[tactic(auto, unfolding(crate::specs::Hinting::by_program, crate::specs::Work::program_work))]
-fn by_program<'a>(
-    alloc: Global,
-    machine: &mut Machine<'a>,
-    parts: &Parts<'a>,
-    program: GlyphProgram<'a, '_>,
-    outline: Outline,
-    work: &mut Work,
-) -> Result<Outline, OutlineFault>
-    requires parts { AreParts (parts_of parts.now) }
-    requires outline { IsOutline (outline_of outline) }
-    ensures exact { Makes outline_of result (by_program (parts_of parts.now) (program_view program.entry) (outline_of outline)) }
-    ensures work { WorkGives result work.new.left (program_work (parts_of parts.now) (program_view program.entry) (outline_of outline) work.old.left) }
-    ensures valid { IfOk result (λ o. IsOutline (outline_of o)) }
-{
-    let grid = on_grid(program.glyph_at, &outline.phantom)?;
-    let Some(mut copies) = parts.pay(work) else {
-        return Err(OutlineFault::Spent(glyf_fault(program.code_at, Why::StepLimit)));
-    };
-    put_glyph(
-        alloc,
-        machine,
-        parts,
-        program.units,
-        &outline,
-        &grid,
-        &mut copies,
-    )?;
-    match machine.run_paid(code_in_glyf(program), copies, work) {
-        Ok(_) => Ok(left_outline(outline, machine.glyph_points(), machine.scan())?),
-        Err(fault) => Err(refusal_of(fault)),
-    }
-}
-
-/// The outline after a glyph's program, from scaled points or joined components. The machine is reused for each glyph.
-/// Errors: CoordRange of a phantom point, those of the program, Memory, Spent.
-pub fn hinted<'a>(
-    alloc: Global,
-    machine: &mut GlyphMachine<'a>,
-    hinting: &Hinting<'a>,
-    program: GlyphProgram<'a, '_>,
-    outline: Outline,
-    work: &mut Work,
-) -> Result<Outline, OutlineFault>
-    requires hinting { IsHinting (hinting_view hinting.now) }
-    requires outline { IsOutline (outline_of outline) }
-    ensures exact { Makes outline_of result (hinted (hinting_view hinting.now) (program_view program.entry) (outline_of outline)) }
-    ensures work { WorkGives result work.new.left (hinted_work (hinting_view hinting.now) (program_view program.entry) (outline_of outline) work.old.left) }
-    ensures valid { IfOk result (λ o. IsOutline (outline_of o)) }
-{
-    match hinting {
-        Hinting::Off => Ok(outline),
-        Hinting::Ready(parts) => {
-            if parts.skip_glyphs || program.code.is_empty() {
-                return Ok(outline);
+    /// The outline after a glyph's program, from scaled points or joined components. The machine is reused for each
+    /// glyph. Errors: CoordRange of a phantom point, those of the program, Memory, Spent.
+    pub fn hinted(
+        &mut self,
+        hinting: &Hinting<'a>,
+        program: GlyphProgram<'a, '_>,
+        outline: Outline,
+    ) -> Result<Outline, OutlineFault>
+        ensures exact { Makes outline_of result (hinted (hinting_view hinting.now) (program_view program.entry) (outline_of outline)) }
+        ensures work { WorkGives result self.new.work.left (hinted_work (hinting_view hinting.now) (program_view program.entry) (outline_of outline) self.old.work.left) }
+    {
+        match hinting {
+            Hinting::Off => Ok(outline),
+            Hinting::Ready(parts) => {
+                if parts.skip_glyphs || program.code.is_empty() {
+                    return Ok(outline);
+                }
+                let mut own = match self.machine.take() {
+                    Some(own) => own,
+                    None => first_machine(self.alloc, parts)?,
+                };
+                let made = self.by_program(own.as_mut(), parts, program, outline);
+                self.machine = Some(own);
+                made
             }
-            let mut own = machine_of_all(alloc, machine.take(), parts)?;
-            let made = by_program(alloc, own.as_mut(), parts, program, outline, work);
-            *machine = Some(own);
-            made
         }
     }
 }

@@ -1,17 +1,17 @@
 //! Joins a component with the points assembled so far. OpenType, "The 'glyf' table", "Composite Glyph Description".
 
-ghost use Rattle.std.specs.Prelude.{◌≡◌, ◌+◌, ◌<◌, ◌≤◌, ◌++◌, length, All, IfOk, OnOk};
+ghost use Rattle.std.specs.Prelude.{◌≡◌, ◌+◌, ◌≤◌, ◌++◌, length, All, OnOk};
 ghost use Rattle.tt_core.specs.Limits.{point_limit};
 ghost use Rattle.tt_core.specs.Outcomes.{after_each, FontGives, Leaves};
 ghost use Rattle.tt_glyf.specs.Meaning.{HasArguments};
 ghost use Rattle.tt_fit_outline.specs.Component.{placed_point};
-ghost use Rattle.tt_fit_outline.specs.Joining.{ends_after, scan_after, appended, placed};
-ghost use Rattle.tt_fit_outline.specs.Outline.{outline_of, IsPoint, IsOutline};
-ghost use Rattle.tt_fit_outline.specs.Views.{size_view, shift_view};
+ghost use Rattle.tt_fit_outline.specs.Joining.{ends_after, scan_after, placed};
+ghost use Rattle.tt_fit_outline.specs.Outline.{IsPoint};
+ghost use Rattle.tt_fit_outline.specs.Views.{outline_of, size_view, shift_view};
 
-use crate::component::{placed_point, shift_of};
+use crate::component::{landed, shift_of};
 use crate::outline::Outline;
-use crate::scaling::glyf_fault;
+use crate::scaling::{glyf_fault, settled};
 use crate::shift::Shift;
 use crate::size::FontSize;
 use std::alloc::AllocError;
@@ -34,7 +34,7 @@ fn push_placed(
 {
     points.reserve(component.len())?;
     for point in component {
-        points.push(placed_point(part, by, *point)?)?;
+        points.push(settled(part.at, landed(part, by, *point))?)?;
     }
     Ok(())
 }
@@ -61,19 +61,18 @@ fn scan_after(component: Option<ScanControl>, so_far: Option<ScanControl>) -> Op
     }
 }
 
-/// Appends a component, moved by a shift. Errors: CoordRange, PointLimit, Memory.
-#[tactic(auto, unfolding(crate::specs::Joining::appended, crate::specs::Joining::within_point_limit))]
-fn appended(
+/// Places a component and appends it. Errors: MatchPoint, CoordRange, PointLimit, Memory.
+#[tactic(auto, unfolding(crate::specs::Joining::placed, crate::specs::Joining::appended, crate::specs::Joining::within_point_limit))]
+pub fn placed(
+    size: FontSize,
     part: Record,
-    by: Shift,
     component: &Outline,
     so_far: Outline,
 ) -> Result<Outline, FontFault>
-    requires component { IsOutline (outline_of component.now) }
-    requires so_far { IsOutline (outline_of so_far) }
-    ensures exact { FontGives outline_of result (appended part (shift_view by) (outline_of component.now) (outline_of so_far)) }
-    ensures valid { IfOk result (λ o. IsOutline (outline_of o)) }
+    requires arguments { HasArguments part }
+    ensures exact { FontGives outline_of result (placed (size_view size) part (outline_of component.now) (outline_of so_far)) }
 {
+    let by = shift_of(size, part, &component.points, &so_far.points)?;
     let Outline {
         mut points,
         mut ends,
@@ -99,22 +98,4 @@ fn appended(
         unfitted: None,
         scan: scan_after(component.scan, scan),
     })
-}
-
-/// Places a component and appends it. Errors: MatchPoint, CoordRange, PointLimit, Memory.
-#[tactic(auto, unfolding(crate::specs::Joining::placed))]
-pub fn placed(
-    size: FontSize,
-    part: Record,
-    component: &Outline,
-    so_far: Outline,
-) -> Result<Outline, FontFault>
-    requires arguments { HasArguments part }
-    requires component { IsOutline (outline_of component.now) }
-    requires so_far { IsOutline (outline_of so_far) }
-    ensures exact { FontGives outline_of result (placed (size_view size) part (outline_of component.now) (outline_of so_far)) }
-    ensures valid { IfOk result (λ o. IsOutline (outline_of o)) }
-{
-    let by = shift_of(size, part, &component.points, &so_far.points)?;
-    appended(part, by, component, so_far)
 }

@@ -10,6 +10,7 @@ mod outline;
 mod outline_fault;
 mod parts;
 mod places;
+mod ready_glyph;
 mod rules;
 mod scaling;
 mod shift;
@@ -17,7 +18,7 @@ mod size;
 mod units;
 
 pub use glyph_program::GlyphProgram;
-pub use hinting::{GlyphMachine, Hinting, hinted, run};
+pub use hinting::{GlyphMachine, Hinting, Runner, run};
 pub use joining::placed;
 pub use outline::Outline;
 pub use outline_fault::{OutlineFault, unbounded};

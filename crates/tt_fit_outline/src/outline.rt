@@ -1,5 +1,7 @@
 //! The outline of a glyph at a size.
 
+ghost use Rattle.tt_fit_outline.specs.Outline.{phantom_of, IsOutline};
+
 use tt_core::Fault;
 use tt_state::ScanControl;
 
@@ -16,4 +18,5 @@ pub struct Outline {
     pub unfitted: Option<Fault>,
     /// The scan control after the last program run for the glyph or its components; None where none was run.
     pub scan: Option<ScanControl>,
+    pub ghost valid: { IsOutline (record { points = points.items; ends = ends.items; phantom = phantom_of phantom; scan = scan }) },
 }

@@ -3,14 +3,14 @@
 
 ghost use Rattle.std.specs.Prelude.{◌≡◌, ◌+◌, ◌*◌, ◌≤◌, length, option_map, IfOk};
 ghost use Rattle.tt_exec.specs.Parts.{parts_of};
-ghost use Rattle.tt_fit_outline.specs.Outline.{outline_of, phantom_of, ArePhantom, IsOutline};
+ghost use Rattle.tt_fit_outline.specs.Outline.{phantom_of};
 ghost use Rattle.tt_core.specs.Limits.{size_limit};
-ghost use Rattle.tt_fit_outline.specs.Parts.{AreParts, begun_parts, control_value, control_values, glyph_state, left_to_glyphs, originals_by, parts_with, pointers_set_back, without_glyph};
-ghost use Rattle.tt_fit_outline.specs.Views.{size_view, units_view};
+ghost use Rattle.tt_fit_outline.specs.Parts.{begun_parts, control_value, control_values, glyph_state, left_to_glyphs, originals_by, parts_with, pointers_set_back, without_glyph};
+ghost use Rattle.tt_fit_outline.specs.Views.{outline_of, size_view, units_view};
 ghost use Rattle.tt_points_zones.specs.Zones.{zones_view, IsZones};
 
 use crate::glyph_zone::{contours, glyph_zone, untouched};
-use crate::outline::Outline;
+use crate::ready_glyph::ReadyGlyph;
 use crate::rules::OutlineRules;
 use crate::size::FontSize;
 use crate::units::Units;
@@ -65,8 +65,7 @@ pub fn begun_parts<'a>(
     rules: OutlineRules,
 ) -> Result<Parts<'a>, AllocError>
     requires { ppem ≤ size_limit }
-    ensures exact { IfOk result (λ p. parts_of p ≡ begun_parts metrics.now cvt.now ppem rules) }
-    ensures valid { IfOk result (λ p. AreParts (parts_of p)) }
+    ensures { IfOk result (λ p. parts_of p ≡ begun_parts metrics.now cvt.now ppem rules) }
 {
     let size = FontSize::of(metrics, ppem, rules.scaling);
     Ok(Parts {
@@ -88,10 +87,7 @@ pub fn begun_parts<'a>(
 pub(crate) fn without_contents<'a>(
     alloc: Global,
     parts: &Parts<'a>,
-) -> Result<Parts<'a>, AllocError>
-    requires { AreParts (parts_of parts.now) }
-    ensures { IfOk result (λ p. AreParts (parts_of p)) }
-{
+) -> Result<Parts<'a>, AllocError> {
     Ok(Parts {
         scale: parts.scale,
         ppem: parts.ppem,
@@ -139,12 +135,11 @@ fn glyph_state(by_default: bool, state: &GraphicsState) -> GraphicsState
 
 /// The parts that the control value program gives to the glyphs.
 pub fn left_to_glyphs<'a>(left: Parts<'a>) -> Parts<'a>
-    requires { AreParts (parts_of left) }
-    ensures exact { parts_of result ≡ left_to_glyphs (parts_of left.entry) }
-    ensures valid { AreParts (parts_of result) }
+    ensures { parts_of result ≡ left_to_glyphs (parts_of left.entry) }
 {
-    let state = glyph_state(left.default_state, &left.state);
-    Parts { state, ..left }
+    let mut parts = left;
+    parts.state = glyph_state(parts.default_state, &parts.state);
+    parts
 }
 
 /// The unit of a glyph's originals.
@@ -165,25 +160,21 @@ fn originals_by(scale: Scale, units: Option<Units>) -> Originals
 pub(crate) fn glyph_zones(
     room: Zones,
     parts: &Parts,
-    units: Option<Units>,
-    outline: &Outline,
-    grid: &[(i32, i32); 4],
+    glyph: &ReadyGlyph,
     copies: &mut Copies,
 ) -> Result<Zones, AllocError>
-    requires parts { AreParts (parts_of parts.now) }
-    requires outline { IsOutline (outline_of outline.now) }
-    requires grid { ArePhantom (phantom_of grid.now) }
-    requires paid { length parts.now.zones.twilight.items ≤ copies.old.left }
-    ensures exact { IfOk result (λ z. zones_view z ≡ (parts_with (parts_of parts.now) (option_map units_view units.entry) (outline_of outline.now) (phantom_of grid.now)).zones) }
+    requires { length parts.now.zones.twilight.items ≤ copies.old.left }
+    ensures exact { IfOk result (λ z. zones_view z ≡ (parts_with (parts_of parts.now) (option_map units_view glyph.now.units) (outline_of glyph.now.outline.now) (phantom_of glyph.now.grid)).zones) }
     ensures valid { IfOk result (λ z. IsZones (zones_view z)) }
     ensures used { copies.new.left + length parts.now.zones.twilight.items ≡ copies.old.left }
     ensures rest { copies.new.rest ≡ copies.old.rest }
 {
-    let twilight = copies.copy_points(room.twilight, &parts.zones.twilight)?;
+    let mut twilight = room.twilight;
+    copies.copy(&mut twilight, &parts.zones.twilight)?;
     Ok(Zones {
         twilight,
-        glyph: glyph_zone(room.glyph, units, outline, grid)?,
-        contours: contours(room.contours, &outline.ends)?,
-        originals: originals_by(parts.scale, units),
+        glyph: glyph_zone(room.glyph, glyph)?,
+        contours: contours(room.contours, &glyph.outline.ends)?,
+        originals: originals_by(parts.scale, glyph.units),
     })
 }

@@ -6,9 +6,9 @@ ghost use Rattle.tt_core.specs.Limits.{point_limit};
 ghost use Rattle.tt_core.specs.Outcomes.{each, FontGives, Gives};
 ghost use Rattle.tt_metrics.specs.Metrics.{glyphs_of};
 ghost use Rattle.tt_glyf.specs.Meaning.{AreEnds as EndContours};
-ghost use Rattle.tt_fit_outline.specs.Outline.{Outline, outline_of, IsCoordinate, IsPoint, IsOutline};
+ghost use Rattle.tt_fit_outline.specs.Outline.{Outline, IsCoordinate, IsPoint};
 ghost use Rattle.tt_fit_outline.specs.Scaling.{is_coordinate, glyf_fault, coordinate_fault, settled, scaled_position, scaled_by_scale, scaled_point, phantom_points, phantom_units, blank, scaled_outline};
-ghost use Rattle.tt_fit_outline.specs.Views.{size_view, landing_view, phantom_view, phantom_units_view};
+ghost use Rattle.tt_fit_outline.specs.Views.{size_view, landing_view, outline_of, phantom_view, phantom_units_view};
 
 use crate::outline::Outline;
 use crate::size::{FontSize, PowerScale};
@@ -59,6 +59,7 @@ pub(crate) fn settled(at: u32, landing: Landing) -> Result<(i32, i32, bool), Fau
     Ok((x, y, landing.on))
 }
 
+/// A point scaled, not yet tested against the limit.
 fn scaled_position(size: FontSize, point: RawPoint) -> Landing
     ensures { landing_view result ≡ scaled_position (size_view size) point }
 {
@@ -67,14 +68,6 @@ fn scaled_position(size: FontSize, point: RawPoint) -> Landing
         y: size.scale.scaled(i32::from(point.y)),
         on: point.on,
     }
-}
-
-/// Scales one point. Error: CoordRange.
-fn scaled_point(size: FontSize, at: u32, point: RawPoint) -> Result<(i32, i32, bool), Fault>
-    ensures exact { Gives (λ p. p) result (scaled_point (size_view size) at point) }
-    ensures within { IfOk result IsPoint }
-{
-    settled(at, scaled_position(size, point))
 }
 
 /// Scales points by a shift, where no coordinate can exceed the limit.
@@ -94,27 +87,9 @@ fn shifted_points(
     Ok(scaled)
 }
 
-/// Scales points and tests each. Errors: CoordRange, Memory.
+/// Scales points, by a shift where possible. Otherwise each is tested. Errors: CoordRange, Memory.
 #[inline(never)]
 #[tactic(auto, using(crate::proofs::Lists::points, crate::proofs::Lists::from_nothing))]
-fn tested_points(
-    alloc: Global,
-    size: FontSize,
-    at: u32,
-    points: &[RawPoint],
-) -> Result<Vec<(i32, i32, bool)>, FontFault>
-    ensures exact { FontGives (λ v. v.items) result (each (scaled_point (size_view size) at) points.now) }
-    ensures count { IfOk result (λ v. length v.items ≡ length points.now) }
-    ensures coordinates { IfOk result (λ v. All IsPoint v.items) }
-{
-    let mut scaled = Vec::with_capacity(alloc, points.len())?;
-    for point in points {
-        scaled.push(scaled_point(size, at, *point)?)?;
-    }
-    Ok(scaled)
-}
-
-/// Scales points, by a shift where possible. Errors: CoordRange, Memory.
 fn scaled_points(
     alloc: Global,
     size: FontSize,
@@ -125,10 +100,14 @@ fn scaled_points(
     ensures count { IfOk result (λ v. length v.items ≡ length points.now) }
     ensures coordinates { IfOk result (λ v. All IsPoint v.items) }
 {
-    match size.shift() {
-        Some(shift) => Ok(shifted_points(alloc, shift, points)?),
-        None => tested_points(alloc, size, at, points),
+    if let Some(shift) = size.shift() {
+        return Ok(shifted_points(alloc, shift, points)?);
     }
+    let mut scaled = Vec::with_capacity(alloc, points.len())?;
+    for point in points {
+        scaled.push(settled(at, scaled_position(size, *point))?)?;
+    }
+    Ok(scaled)
 }
 
 /// For each contour the number one past its last point.
@@ -179,7 +158,6 @@ pub fn phantom_points(size: FontSize, metrics: &Metrics, x_min: i16, g: u16) -> 
 #[tactic(auto, unfolding(crate::specs::Scaling::blank))]
 pub fn blank(alloc: Global, at: u32, phantom: Phantom) -> Result<Outline, Fault>
     ensures exact { Gives outline_of result (blank at (phantom_view phantom)) }
-    ensures valid { IfOk result (λ o. IsOutline (outline_of o)) }
 {
     let left = coordinate(at, phantom.left)?;
     let right = coordinate(at, phantom.right)?;
@@ -206,9 +184,7 @@ pub fn scaled_outline(
 ) -> Result<Outline, FontFault>
     requires few { length points.now ≤ point_limit }
     requires ends { EndContours (length points.now) last_points.now }
-    requires start { IsOutline (outline_of start) }
     ensures exact { FontGives outline_of result (scaled_outline (size_view size) at points.now last_points.now (outline_of start)) }
-    ensures valid { IfOk result (λ o. IsOutline (outline_of o)) }
 {
     let points = scaled_points(alloc, size, at, points)?;
     let ends = contour_ends(alloc, last_points)?;

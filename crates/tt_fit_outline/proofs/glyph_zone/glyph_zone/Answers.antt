@@ -10,7 +10,7 @@ use Rattle.tt_fit_outline.proofs.glyph_zone.glyph_zone.Goals as goal
 pub returns-clause-exact : goal.returns-clause-exact
 returns-clause-exact c =
     let placed : c.put_units.new.zone.items
-    ≡ in_units (places_of (option_map units_view c.args.units)) (map outline_point c.args.outline.now.points.items) = rw
+    ≡ in_units (places_of (option_map units_view c.args.glyph.now.units)) (map outline_point c.args.glyph.now.outline.now.points.items) = rw
     (c.put_units.ensures.exact, c.places_of.ensures, c.in_ok-zone.ensures.exact, c.deref.ensures.value) refl in
     let places = c.phantom_places-places.result in
     let left : SFits w32 places.left = search rules in
@@ -22,8 +22,9 @@ returns-clause-exact c =
     let ascent_is = simp to_z-of_z at c.from.ensures in
     let descent_is = simp to_z-of_z at c.from-2.ensures in
     rw (← c.phantom_places-places.ensures, ← placed)
-    (four_pushed c.put_units.new.zone.items c.push_phantom.new.zone.items c.push_phantom-2.new.zone.items
-    c.push_phantom-3.new.zone.items c.push_phantom-4.new.zone.items _ _ _ _
-    (simp to_z-of_z at c.in_ok-push_phantom.ensures.exact) (simp to_z-of_z at c.in_ok-push_phantom-2.ensures.exact)
-    (rw ascent_is at simp to_z-of_z at c.in_ok-push_phantom-3.ensures.exact)
-    (rw descent_is at simp to_z-of_z at c.in_ok-push_phantom-4.ensures.exact))
+    (four_pushed c.put_units.new.zone.items c.push.new.self.items c.push-2.new.self.items c.push-3.new.self.items
+    c.push-4.new.self.items _ _ _ _
+    (simp to_z-of_z at (rw c.phantom_point.ensures.exact at c.in_ok-push.ensures.items))
+    (simp to_z-of_z at (rw c.phantom_point-2.ensures.exact at c.in_ok-push-2.ensures.items))
+    (rw ascent_is at simp to_z-of_z at (rw c.phantom_point-3.ensures.exact at c.in_ok-push-3.ensures.items))
+    (rw descent_is at simp to_z-of_z at (rw c.phantom_point-4.ensures.exact at c.in_ok-push-4.ensures.items)))

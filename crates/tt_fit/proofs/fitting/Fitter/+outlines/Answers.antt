@@ -5,9 +5,8 @@ use Rattle.tt_glyf.specs.GlyphData.{glyph_data_of}
 use Rattle.tt_glyf.specs.Loca.{glyph_offset}
 use Rattle.tt_glyf.specs.Raw.{CompositeGlyph, SimpleGlyph, composite, simple}
 use Rattle.tt_fit.specs.Fitting.{with_hinting, size_of, start, added, added_work}
-use Rattle.tt_fit_outline.specs.Outline.{outline_of}
 use Rattle.tt_fit_outline.specs.Scaling.{scaled_outline}
-use Rattle.tt_fit_outline.specs.Views.{hinting_view}
+use Rattle.tt_fit_outline.specs.Views.{hinting_view, outline_of}
 use Rattle.tt_fit.proofs.Levels.{one_record_more, one_record_paid, one_record_refused, one_level_done, one_level_work, composite_made, simple_made, simple_refused, simple_unpaid}
 use Rattle.tt_fit.proofs.fitting.Fitter.+outlines.Goals as goal
 
@@ -22,7 +21,6 @@ joined-loop-part-preserved t c =
       work = one_record_paid add work c.args.records.now c.loop-part.part-index _ (outline_of c.loop-part.so_far)
           (outline_of c.in_ok-so_far.so_far) _ _ c.loop-part-test.true c.in_ok-so_far.ensures.exact
           c.in_ok-so_far.ensures.work ∙ c.loop-part.invariant.work;
-      valid = c.in_ok-so_far.ensures.valid;
     }
 
 pub joined-returns-in_err-so_far-clause-work : goal.joined-returns-in_err-so_far-clause-work
@@ -39,13 +37,13 @@ added-returns-in_err-component-clause-work t c =
     let s = with_hinting c.args.self.now (hinting_view c.args.hinting.now) in
     let some : 0 < c.args.levels = omega (arith, c.if-levels-eq0.false) in
     let e = err_from_is_err_and c.from_residual.result c.from_residual.ensures.1 in
-    rw (e.1, e.2, one_level_work s c.args.levels c.args.part c.args.work.now.left some) c.in_err-component.ensures.work
+    rw (e.1, e.2, one_level_work s c.args.levels c.args.part c.args.runner.now.work.left some) c.in_err-component.ensures.work
 
 pub added-returns-clause-work : goal.added-returns-clause-work
 added-returns-clause-work t c =
     let s = with_hinting c.args.self.now (hinting_view c.args.hinting.now) in
     let some : 0 < c.args.levels = omega (arith, c.if-levels-eq0.false) in
-    rw (one_level_work s c.args.levels c.args.part c.args.work.now.left some) c.in_ok-component.ensures.work
+    rw (one_level_work s c.args.levels c.args.part c.args.runner.now.work.left some) c.in_ok-component.ensures.work
 
 pub added-returns-clause-exact : goal.added-returns-clause-exact
 added-returns-clause-exact t c =
@@ -128,7 +126,7 @@ outline-returns-in_err-scaled-in-Simple-clause-work t c =
     c.in_err-scaled-in-Simple.ensures.exact in
     let told = c.from_residual-in_err-scaled-in-Simple in
     let e = err_from_is_err_and told.result told.ensures.1 in
-    rw (e.1, e.2) (simple_unpaid s c.args.levels c.args.g glyph o c.in_err-scaled-in-Simple.field-0.0 c.args.work.now.left read begun fails)
+    rw (e.1, e.2) (simple_unpaid s c.args.levels c.args.g glyph o c.in_err-scaled-in-Simple.field-0.0 c.args.runner.now.work.left read begun fails)
 
 pub outline-joined-requires : goal.outline-joined-requires
 outline-joined-requires t c =
@@ -136,11 +134,8 @@ outline-joined-requires t c =
     let arguments = rw c.in-Composite.is at c.in_ok-read.ensures.arguments in (
       omega arith,
       (
-        c.requires.hinting,
-        (
-          rw (c.as_slice.ensures.value, ← c.self.view_is) records.known,
-          (rw c.as_slice.ensures.value arguments, c.in_ok-start-in-Composite.ensures.valid),
-        ),
+        rw (c.as_slice.ensures.value, ← c.self.view_is) records.known,
+        rw c.as_slice.ensures.value arguments,
       ),
     )
 

@@ -1,7 +1,6 @@
 use Rattle.std.proofs.Common.{◌≡◌, ◌+◌, ◌*◌, drop}
 use Rattle.tt_fit.specs.Fitting.{with_hinting, joined, added, added_work}
-use Rattle.tt_fit_outline.specs.Outline.{outline_of, IsOutline}
-use Rattle.tt_fit_outline.specs.Views.{hinting_view}
+use Rattle.tt_fit_outline.specs.Views.{hinting_view, outline_of}
 use Rattle.tt_fit.specs.Work.{joined_work}
 use Rattle.tt_fit.proofs.fitting.Fitter.+outlines.Given as goal
 
@@ -21,9 +20,8 @@ invariant-joined-loop-part l = record {
       (outline_of l.fn.start);
   work : joined_work (added (with_hinting l.self (hinting_view l.hinting)) l.levels)
       (added_work (with_hinting l.self (hinting_view l.hinting)) l.levels) (drop l.part-index l.records)
-      (outline_of l.so_far) l.work.left
+      (outline_of l.so_far) l.runner.work.left
       ≡ joined_work (added (with_hinting l.self (hinting_view l.hinting)) l.levels)
       (added_work (with_hinting l.self (hinting_view l.hinting)) l.levels) l.records (outline_of l.fn.start)
-      l.fn.work.left;
-  valid : IsOutline (outline_of l.so_far);
+      l.fn.runner.work.left;
 }

@@ -3,7 +3,7 @@ use Rattle.std.proofs.lemmas.Result.{err_from_is_err_and}
 use Rattle.tt_core.specs.Chains.{if-told}
 use Rattle.tt_fit.specs.Defects.{IsOutlineDefect}
 use Rattle.tt_fit.specs.Fitting.{Fitter, fitted_outline}
-use Rattle.tt_fit_outline.specs.Outline.{outline_of}
+use Rattle.tt_fit_outline.specs.Views.{outline_of}
 use Rattle.tt_fit.proofs.Falling.{after-is}
 use Rattle.tt_fit.proofs.Standing.{outlines-whole, faults-stand}
 use Rattle.tt_fit.proofs.fitting.Fitter.fit.Goals as goal
@@ -23,6 +23,6 @@ returns-clause-sound c =
 
 pub returns-clause-after : goal.returns-clause-after
 returns-clause-after c =
-    let left = c.fitted_within.new.work.left in
+    let left = c.fitted_within.new.runner.work.left in
     ap {A = Fitter} (λ s. record s { work = left }) c.self.view_is
     ∙ after-is c.args.self.now c.args.g left (rw c.self.view_is at c.in_ok-outline.ensures.left)

@@ -2,7 +2,7 @@ use Rattle.tt_core.specs.Chains.{on-given, if-told}
 use Rattle.tt_core.specs.Directory.{HasNo}
 use Rattle.tt_fit.specs.Defects.{IsOutlineDefect}
 use Rattle.tt_fit.specs.Fitting.{fitted_outline}
-use Rattle.tt_fit_outline.specs.Outline.{outline_of}
+use Rattle.tt_fit_outline.specs.Views.{outline_of}
 use Rattle.tt_fit.proofs.Standing.{outlines-whole, faults-stand}
 use Rattle.tt_fit.proofs.fitting.Fitter.fitted.Goals as goal
 

@@ -3,7 +3,7 @@ use Rattle.tt_fit_outline.specs.Outline.{IsPoint}
 use Rattle.tt_core.specs.Outcomes.{each, after_each}
 use Rattle.tt_fit_outline.specs.Scaling.{scaled_point}
 use Rattle.tt_fit_outline.specs.Views.{size_view}
-use Rattle.tt_fit_outline.proofs.scaling.tested_points.Given as goal
+use Rattle.tt_fit_outline.proofs.scaling.scaled_points.Given as goal
 
 abbrev pub invariant-loop-point : goal.invariant-loop-point
 invariant-loop-point l = record {
