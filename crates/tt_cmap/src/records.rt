@@ -108,11 +108,12 @@ impl<'a> Records<'a> {
         requires { i < record_count self.now }
         ensures { result ≡ is_for platform format self.now i }
     {
+        let table = self.table;
         let place = 4 + 8 * i;
-        let number = u16_at(self.table, place).unwrap();
+        let number = u16_at(table, place).unwrap();
         match platform {
             Platform::Windows => {
-                number == 3 && u16_at(self.table, place + 2).unwrap() == windows_encoding(format)
+                number == 3 && u16_at(table, place + 2).unwrap() == windows_encoding(format)
             }
             Platform::Unicode => number == 0,
         }

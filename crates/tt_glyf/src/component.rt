@@ -3,7 +3,7 @@
 ghost use Rattle.std.specs.Prelude.{◌≡◌, ◌+◌, ◌*◌, ◌≤◌, length, unsigned_abs, IsTrue, IfOk, IfErr};
 ghost use Rattle.tt_core.specs.Limits.{font_limit};
 ghost use Rattle.tt_core.specs.Outcomes.{Gives};
-ghost use Rattle.tt_glyf.specs.Composite.{signed8, argument_at, transform_at, scales_offsets, asks_scaled_offset, record_at};
+ghost use Rattle.tt_glyf.specs.Composite.{signed8, argument_at, transform_at, scales_offsets, is_identity, transform_of, has_arguments_zero, asks_scaled_offset, record_at};
 ghost use Rattle.tt_glyf.specs.Format.{argument_size, transform_size, record_size};
 ghost use Rattle.tt_glyf.specs.Meaning.{HasArguments, IsArgument};
 ghost use Rattle.tt_glyf.specs.Views.{transform_view};
@@ -146,13 +146,23 @@ fn scales_offsets(flags: u16) -> bool
         && has_flag(flags, ComponentFlags::ARGS_ARE_XY_VALUES)
 }
 
+fn is_identity(part: Record) -> bool
+    ensures { result ≡ is_identity (transform_of part) }
+{
+    part.xx == ONE && part.yx == 0 && part.xy == 0 && part.yy == ONE
+}
+
+fn has_arguments_zero(part: Record) -> bool
+    ensures { result ≡ has_arguments_zero part }
+{
+    part.arg1 == 0 && part.arg2 == 0
+}
+
 /// Whether a record requests a transform of its offset, and the transform would change the offset.
 fn asks_scaled_offset(part: Record) -> bool
     ensures { result ≡ asks_scaled_offset part }
 {
-    let is_identity = part.xx == ONE && part.yx == 0 && part.xy == 0 && part.yy == ONE;
-    let has_arguments_zero = part.arg1 == 0 && part.arg2 == 0;
-    scales_offsets(part.flags) && !is_identity && !has_arguments_zero
+    scales_offsets(part.flags) && !is_identity(part) && !has_arguments_zero(part)
 }
 
 /// The component record at an offset. A record that requests a transform of its offset is refused, unless the transform

@@ -4,7 +4,8 @@
 ghost use Rattle.std.specs.Prelude.{◌≡◌, ◌<◌, ◌≤◌, ◌^◌, All, IfOk, length, vec_len};
 ghost use Rattle.tt_core.specs.Limits.{component_limit};
 ghost use Rattle.tt_glyf.specs.Loca.{glyph_bytes_of};
-ghost use Rattle.tt_glyf.specs.Told.{told_contours, told_in, told_size, tells_composite, components_of};
+ghost use Rattle.tt_glyf.specs.Raw.{raw_view};
+ghost use Rattle.tt_glyf.specs.Told.{told_contours, told_in, told_size, tells_composite, records_in, components_of};
 
 use crate::format::{HEADER_SIZE, NUMBER_OF_CONTOURS_OFFSET, WORD_SIZE};
 use crate::glyf::Glyf;
@@ -39,8 +40,7 @@ impl<'a> Glyf<'a> {
             return Ok(Vec::new(alloc));
         }
         match self.read(alloc, g) {
-            Ok(Raw::Composite { records, .. }) => Ok(records),
-            Ok(_) => Ok(Vec::new(alloc)),
+            Ok(raw) => Ok(records_in(alloc, raw)),
             Err(FontFault::Font(_)) => Ok(Vec::new(alloc)),
             Err(FontFault::Memory) => Err(AllocError),
         }
@@ -54,6 +54,17 @@ impl<'a> Glyf<'a> {
             Ok(bytes) => told_contours(bytes) < 0,
             Err(_) => false,
         }
+    }
+}
+
+/// The component records of a composite glyph; other glyphs give none.
+fn records_in(alloc: Global, raw: Raw) -> Vec<Record>
+    ensures { result.items ≡ records_in (raw_view raw.entry) }
+{
+    match raw {
+        Raw::Empty => Vec::new(alloc),
+        Raw::Simple { .. } => Vec::new(alloc),
+        Raw::Composite { records, .. } => records,
     }
 }
 

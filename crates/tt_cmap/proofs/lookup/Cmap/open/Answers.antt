@@ -9,7 +9,7 @@ use Rattle.tt_cmap.specs.Subtables.{chosen_subtable, chosen_serves, none_chosen}
 use Rattle.tt_cmap.proofs.Whole.{cmap-whole}
 use Rattle.tt_cmap.proofs.lookup.Cmap.open.Goals as goal
 
-chosen-of : (c : goal.After-chosen) → c.chosen.result ≡ chosen_subtable c.args.table.now
+chosen-of : (c : goal.After-by_subtable) → c.chosen.result ≡ chosen_subtable c.args.table.now
 chosen-of c = rw c.in_ok-records.ensures.whole at c.chosen.ensures.exact
 
 pub returns-clause-exact : goal.returns-clause-exact

@@ -10,6 +10,7 @@ use Rattle.tt_metrics.proofs.metrics.Metrics.open.Goals as goal
 pub returns-clause-exact : goal.returns-clause-exact
 unfolding metrics_of head_of maxp_of hhea_of hmtx_of
 returns-clause-exact c =
+    let long = rw c.from.ensures at c.in_ok-test_length.ensures.exact in
     rw (
       c.in_ok-needed.ensures.exact,
       c.in_ok-head.ensures.exact,
@@ -18,7 +19,7 @@ returns-clause-exact c =
       c.in_ok-needed-3.ensures.exact,
       c.in_ok-hhea.ensures.exact,
       c.in_ok-hmtx.ensures.exact,
-      c.in_ok-test_length.ensures.exact,
+      long,
     )
     refl
 
