@@ -6,7 +6,7 @@ ghost use Rattle.tt_exec_points.specs.Instruction as is;
 ghost use Rattle.tt_exec_stack.specs.Stack.{Does};
 
 use crate::points::Points;
-use crate::popping::popped;
+use crate::popping::{popped, unless_missing};
 use tt_core::Why;
 use tt_exec_stack::Stack;
 use tt_points::lines::{Ends, alignpts, isect, sdpvtl, sfvtl, spvtl};

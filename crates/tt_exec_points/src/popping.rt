@@ -20,11 +20,11 @@ macro_rules! unless_missing {
 }
 
 /// Pops the values that an instruction takes, the top first, and does its work with them. A tolerant machine passes over
-/// a missing thing.
+/// a missing thing. The caller imports `unless_missing` too.
 macro_rules! popped {
     ($tolerance:ident, $stack:ident, $($value:ident),+ => $done:expr) => {{
         $(let $value = $stack.pop()?;)+
-        $crate::popping::unless_missing!($tolerance, $done, ())
+        unless_missing!($tolerance, $done, ())
     }};
 }
 

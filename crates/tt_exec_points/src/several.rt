@@ -9,7 +9,7 @@ ghost use Rattle.tt_exec_stack.specs.Stack.{Does};
 ghost use Rattle.tt_points_iup.specs.Interpolation as interpolation;
 
 use crate::points::Points;
-use crate::popping::{pairs_counted, pairs_there, popped};
+use crate::popping::{pairs_counted, pairs_there, popped, unless_missing};
 use tt_core::Why;
 use tt_exec_stack::Stack;
 use tt_points_iup::iup;
