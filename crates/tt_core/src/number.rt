@@ -41,7 +41,6 @@ fn nearest(n: i64, d: i64) -> i64
     requires denominator { unsigned_abs d < 2 ^ 61 }
     requires positive { pos 0 <ℤ d }
     ensures exact { result ≡ nearest_quotient n d }
-    ensures bound { unsigned_abs result ≤ unsigned_abs n }
     ensures within { (most : ℕ) → unsigned_abs n ≤ unsigned_abs d * most → unsigned_abs result ≤ most }
 {
     (2 * n + d).div_euclid(2 * d)

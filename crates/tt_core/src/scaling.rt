@@ -2,7 +2,7 @@
 
 ghost use Rattle.std.specs.Prelude.{◌≡◌, ◌*◌, ◌≤◌, unsigned_abs};
 ghost use Rattle.tt_core.specs.Limits.{size_limit};
-ghost use Rattle.tt_core.specs.Scales.{IsScale, control_value_scale, exact_scale, factor, rounded_scale, scaled_by};
+ghost use Rattle.tt_core.specs.Scales.{IsScale, control_value_scale, exact_scale, rounded_scale, scaled_by};
 
 use crate::halves::{Halves, quotient};
 use crate::number::rq;
@@ -13,16 +13,6 @@ pub struct Scale {
     pub pixels: u32,
     pub units: u32,
     pub halves: Halves,
-}
-
-/// 64 `ppem` / `em` in 16.16.
-fn factor(ppem: u32, em: u16) -> u32
-    requires size { ppem ≤ size_limit }
-    requires units { 16 ≤ em }
-    ensures exact { result ≡ factor ppem em }
-    ensures bound { result ≤ 1200 * 65536 }
-{
-    rq(i64::from(ppem) << 22, i64::from(em)) as u32
 }
 
 impl Scale {
@@ -54,7 +44,7 @@ impl Scale {
         )
     }
 
-    /// The scale by a factor in 16.16 that is rounded once, with halves away from zero.
+    /// The scale by the factor 64 `ppem` / `em` in 16.16, which is rounded once, with halves away from zero.
     pub fn rounded(ppem: u32, em: u16) -> Scale
         requires size { ppem ≤ size_limit }
         requires units { 16 ≤ em }
@@ -62,7 +52,7 @@ impl Scale {
         ensures valid { IsScale result }
     {
         Scale {
-            pixels: factor(ppem, em),
+            pixels: rq(i64::from(ppem) << 22, i64::from(em)) as u32,
             units: 65536,
             halves: Halves::AwayFromZero,
         }

@@ -1,7 +1,7 @@
 use Rattle.std.proofs.Common.{pos, ◌+ℤ◌, ◌*ℤ◌, SFits, w64, rules, arith}
 use Rattle.std.proofs.lemmas.Int.{ints, to_z-of_z}
 use Rattle.tt_core.proofs.number.nearest.Goals as goal
-use Rattle.tt_core.proofs.Quotients.{nearest_at_most, nearest_within}
+use Rattle.tt_core.proofs.Quotients.{nearest_at_most}
 
 pub returns-clause-exact : goal.returns-clause-exact
 returns-clause-exact c =
@@ -12,11 +12,6 @@ returns-clause-exact c =
     let divisor : SFits w64 (pos 2 *ℤ c.args.d) = omega (arith, ints) in
     let result : SFits w64 c.div_euclid.result = search rules in
     simp to_z-of_z (simp to_z-of_z at c.div_euclid.ensures)
-
-pub returns-clause-bound : goal.returns-clause-bound
-returns-clause-bound c =
-    let exact = returns-clause-exact c in
-    rw exact (nearest_within c.args.n c.args.d c.requires.positive)
 
 pub returns-clause-within : goal.returns-clause-within
 returns-clause-within c = λ most few.
