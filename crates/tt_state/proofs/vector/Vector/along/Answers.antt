@@ -21,5 +21,5 @@ returns c =
           let product_y = rw w.y.ensures.exact at (simp to_z-of_z at w.product-in-Off.ensures.exact) in
           let x = rw product_x at (simp to_z-of_z at w.rounded.ensures.exact) in
           let y = rw product_y at (simp to_z-of_z at w.rounded-in-Off.ensures.exact) in
-          rw (w.result-is, w.in-Off.is, x, y) (simp to_z-of_z))
+          rw w.result-is (simp to_z-of_z (rw (w.in-Off.is, x, y) refl)))
     ]
