@@ -23,8 +23,8 @@ loop-i-preserved-in-Ok c =
     went_on step (pairs_of pairs) c.loop-i.i i (pos 0, pos 0) _ _ _
     left there c.loop-i.invariant came
 
-pub loop-i-preserved-then-passes_over : goal.loop-i-preserved-then-passes_over
-loop-i-preserved-then-passes_over c =
+pub loop-i-preserved : goal.loop-i-preserved
+loop-i-preserved c =
     let by = c.args.by in
     let pairs = c.args.pairs.now in
     let i = c.loop-i.i - 1 in
@@ -37,17 +37,20 @@ loop-i-preserved-then-passes_over c =
     went_on step (pairs_of pairs) c.loop-i.i i (pos 0, pos 0) _ _ _
     left there c.loop-i.invariant came
 
-pub returns-else-passes_over : goal.returns-else-passes_over
-returns-else-passes_over c =
+pub returns-in-Err-2 : goal.returns-in-Err-2
+returns-in-Err-2 c =
     let by = c.args.by in
     let pairs = c.args.pairs.now in
     let i = c.loop-i.i - 1 in
     let left : c.loop-i.i ≡ c.loop-i.i - 1 + 1 = omega arith in
     let there : c.loop-i.i - 1 < length (pairs_of c.args.pairs.now) = omega (arith, pairs_count c.args.pairs.now) in
     let step = change by.tolerance by.range by.ppem c.args.state.now in
-    let stays = sym c.passes_over.ensures ∙ c.if-passes_over.false in
-    let came : step (get_or (pairs_of pairs) i (pos 0, pos 0)) c.loop-i.cvt ≡ Err c.in-Err.why =
-    rw (← c.pair_at.ensures, c.in-Err.ensures.exact, stays) refl in
+    let one = c.in-Err.is in
+    let other = c.in-Err-2.is in
+    let same : c.in-Err.why ≡ c.in-Err-2.why = cc in
+    let stays = rw same at (sym c.passes_over.ensures ∙ c.if-passes_over.false) in
+    let came : step (get_or (pairs_of pairs) i (pos 0, pos 0)) c.loop-i.cvt ≡ Err c.in-Err-2.why =
+    rw (← c.pair_at.ensures, c.in-Err-2.ensures.exact, stays) refl in
     broke_off step (pairs_of pairs) c.loop-i.i i (pos 0, pos 0) _ _ _
     left there c.loop-i.invariant came
 

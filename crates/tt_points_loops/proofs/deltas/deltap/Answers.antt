@@ -28,8 +28,8 @@ loop-i-preserved-in-Ok c =
       zones = c.in-Ok.ensures.zones;
     }
 
-pub loop-i-preserved-then-passes_over : goal.loop-i-preserved-then-passes_over
-loop-i-preserved-then-passes_over c =
+pub loop-i-preserved : goal.loop-i-preserved
+loop-i-preserved c =
     let by = c.args.by in
     let pairs = c.args.pairs.now in
     let i = c.loop-i.i - 1 in
@@ -46,17 +46,20 @@ loop-i-preserved-then-passes_over c =
       zones = c.in-Err.ensures.zones;
     }
 
-pub returns-else-passes_over-clause-exact : goal.returns-else-passes_over-clause-exact
-returns-else-passes_over-clause-exact c =
+pub returns-in-Err-2-clause-exact : goal.returns-in-Err-2-clause-exact
+returns-in-Err-2-clause-exact c =
     let by = c.args.by in
     let pairs = c.args.pairs.now in
     let i = c.loop-i.i - 1 in
     let left : c.loop-i.i ≡ c.loop-i.i - 1 + 1 = omega arith in
     let there : c.loop-i.i - 1 < length (pairs_of c.args.pairs.now) = omega (arith, pairs_count c.args.pairs.now) in
     let step = passing_over by.tolerance (except by.tolerance by.range by.ppem c.args.state.now) in
-    let stays = sym c.passes_over.ensures ∙ c.if-passes_over.false in
-    let came : step (get_or (pairs_of pairs) i (pos 0, pos 0)) (zones_view c.loop-i.zones) ≡ Err c.in-Err.why =
-    rw (← c.pair_at.ensures, c.in-Err.ensures.exact, stays) refl in
+    let one = c.in-Err.is in
+    let other = c.in-Err-2.is in
+    let same : c.in-Err.why ≡ c.in-Err-2.why = cc in
+    let stays = rw same at (sym c.passes_over.ensures ∙ c.if-passes_over.false) in
+    let came : step (get_or (pairs_of pairs) i (pos 0, pos 0)) (zones_view c.loop-i.zones) ≡ Err c.in-Err-2.why =
+    rw (← c.pair_at.ensures, c.in-Err-2.ensures.exact, stays) refl in
     broke_off step (pairs_of pairs) c.loop-i.i i (pos 0, pos 0) _ _ _
     left there c.loop-i.invariant.same came
 
