@@ -32,7 +32,7 @@ fn is_closed(edges: &[Edge]) -> bool
 
 /// Whether all contours of an outline are closed.
 pub(crate) fn are_closed(contours: Contours) -> bool
-    ensures { result ≡ true → All IsClosed (contours_at contours.edges.now contours.ends.now) }
+    ensures { result ≡ true → All IsClosed (contours_at contours.entry.edges.now contours.entry.ends.now) }
 {
     let Contours { edges, ends } = contours;
     let mut from = 0;

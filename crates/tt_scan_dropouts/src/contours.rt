@@ -32,8 +32,8 @@ impl<'a> Outlined<'a> {
     /// The glyph's contours.
     #[inline(always)]
     pub(crate) fn contours(self) -> Contours<'a>
-        ensures edges { result.edges.now ≡ self.tape.now.edges }
-        ensures ends { result.ends.now ≡ self.ends.now }
+        ensures edges { result.edges.now ≡ self.entry.tape.now.edges }
+        ensures ends { result.ends.now ≡ self.entry.ends.now }
     {
         Contours {
             edges: self.tape.lend(),

@@ -37,8 +37,8 @@ fn all_turned_round(alloc: Global, edges: &[Edge]) -> Result<Vec<Edge>, AllocErr
 
 /// The pixels that a pass adds, by contours as the pass sees them. Error: memory ran out.
 fn pass_over(alloc: Global, pass: Pass, contours: Contours) -> Result<Vec<Pixel>, AllocError>
-    ensures { IfOk result (λ v. (p j : ℤ) → has_pixel v.items p j ≡ row_adds pass.rules
-        (contours_at contours.edges.now contours.ends.now) (is_black_by pass.over pass.ink.now) p j) }
+    ensures { IfOk result (λ v. (p j : ℤ) → has_pixel v.items p j ≡ row_adds pass.entry.rules
+        (contours_at contours.entry.edges.now contours.entry.ends.now) (is_black_by pass.entry.over pass.entry.ink.now) p j) }
 {
     let mut marks = free_marks(alloc, pass, contours)?;
     sort_marks(&mut marks);
@@ -51,7 +51,7 @@ fn pass_over(alloc: Global, pass: Pass, contours: Contours) -> Result<Vec<Pixel>
 #[inline(always)]
 fn is_in_free_gap(pass: Pass, edge: &Edge) -> bool
     requires { EdgeFits edge.now }
-    ensures { result ≡ is_in_free_gap pass.rules.stubs (is_black_by pass.over pass.ink.now) (seen_by pass.over edge.now) }
+    ensures { result ≡ is_in_free_gap pass.entry.rules.stubs (is_black_by pass.entry.over pass.entry.ink.now) (seen_by pass.entry.over edge.now) }
 {
     // Most edges are short and meet no line.
     if !meets(pass.over, pass.rules.stubs, edge) {
@@ -98,8 +98,8 @@ fn added(
 ) -> Result<Vec<Pixel>, AllocError>
     requires { some ≡ false → list_any (is_in_free_gap pass.rules.stubs (is_black_by pass.over pass.ink.now))
         contours.edges.now ≡ false }
-    ensures { IfOk result (λ v. (p j : ℤ) → has_pixel v.items p j ≡ row_adds pass.rules
-        (contours_at contours.edges.now contours.ends.now) (is_black_by pass.over pass.ink.now) p j) }
+    ensures { IfOk result (λ v. (p j : ℤ) → has_pixel v.items p j ≡ row_adds pass.entry.rules
+        (contours_at contours.entry.edges.now contours.entry.ends.now) (is_black_by pass.entry.over pass.entry.ink.now) p j) }
 {
     if !some {
         return Ok(Vec::new(alloc));
@@ -116,8 +116,8 @@ fn added_turned(
 ) -> Result<Vec<Pixel>, AllocError>
     requires { some ≡ false → list_any (is_in_free_gap pass.rules.stubs (is_black_by pass.over pass.ink.now))
         (map turned_round contours.edges.now) ≡ false }
-    ensures { IfOk result (λ v. (p j : ℤ) → has_pixel v.items p j ≡ row_adds pass.rules
-        (contours_at (map turned_round contours.edges.now) contours.ends.now) (is_black_by pass.over pass.ink.now) p j) }
+    ensures { IfOk result (λ v. (p j : ℤ) → has_pixel v.items p j ≡ row_adds pass.entry.rules
+        (contours_at (map turned_round contours.entry.edges.now) contours.entry.ends.now) (is_black_by pass.entry.over pass.entry.ink.now) p j) }
 {
     if !some {
         return Ok(Vec::new(alloc));
@@ -178,7 +178,7 @@ fn push_within(
 pub fn dropouts(alloc: Global, glyph: Outlined, window: Window) -> Result<Vec<Pixel>, AllocError>
     requires { WindowFits (widened 2 window) }
     ensures exact { IfOk result (λ v. (c j : ℤ) → has_pixel v.items c j
-        ≡ (has window c j && is_dropout glyph.rules (contours_at glyph.tape.now.edges glyph.ends.now) c j)) }
+        ≡ (has window c j && is_dropout glyph.entry.rules (contours_at glyph.entry.tape.now.edges glyph.entry.ends.now) c j)) }
 {
     let contours = glyph.contours();
     let (columns, rows) = box_of(contours.edges);
@@ -217,7 +217,7 @@ pub(crate) fn closed_dropouts(
     requires closed { All IsClosed (contours_at glyph.tape.now.edges glyph.ends.now) }
     requires window { WindowFits (widened 2 window) }
     ensures exact { IfOk result (λ v. (c j : ℤ) → has_pixel v.items c j
-        ≡ (has window c j && is_dropout glyph.rules (contours_at glyph.tape.now.edges glyph.ends.now) c j)) }
+        ≡ (has window c j && is_dropout glyph.entry.rules (contours_at glyph.entry.tape.now.edges glyph.entry.ends.now) c j)) }
 {
     if !closed_may_have_dropouts(glyph.rules.stubs, glyph.contours()) {
         return Ok(Vec::new(alloc));

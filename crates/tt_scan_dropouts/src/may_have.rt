@@ -32,7 +32,7 @@ fn some_end_on_line(edges: &[Edge]) -> bool
 pub(crate) fn closed_may_have_dropouts(stubs: bool, contours: Contours) -> bool
     requires { All IsClosed (contours_at contours.edges.now contours.ends.now) }
     ensures { result ≡ false → (rules : Rules) → rules.stubs ≡ stubs → (c j : ℤ)
-        → is_dropout rules (contours_at contours.edges.now contours.ends.now) c j ≡ false }
+        → is_dropout rules (contours_at contours.entry.edges.now contours.entry.ends.now) c j ≡ false }
 {
     if stubs && some_end_on_line(contours.edges) {
         return true;

@@ -15,7 +15,7 @@ use tt_scan_gaps::{Columns, Mark, group_end, pixel_of, some_asks};
 /// The pixel that the gap of these marks needs.
 fn asked(pass: Pass, columns: Columns, marks: &[Mark]) -> Option<i64>
     requires { 0 < length marks.now }
-    ensures { (d : Mark) → result ≡ asked_by pass.rules columns (is_black_by pass.over pass.ink.now)
+    ensures { (d : Mark) → result ≡ asked_by pass.entry.rules columns (is_black_by pass.entry.over pass.entry.ink.now)
         (get_or marks.now 0 d).at.line (get_or marks.now 0 d).at.gap marks.now }
 {
     let at = marks[0].at;
@@ -82,7 +82,7 @@ pub(crate) fn added_by(
 ) -> Result<Vec<Pixel>, AllocError>
     requires { IsInOrder marks.now }
     ensures { IfOk result (λ v. (p j : ℤ)
-        → has_pixel v.items p j ≡ is_added pass.rules columns marks.now (is_black_by pass.over pass.ink.now) p j) }
+        → has_pixel v.items p j ≡ is_added pass.entry.rules columns marks.now (is_black_by pass.entry.over pass.entry.ink.now) p j) }
 {
     let mut added = Vec::new(alloc);
     let mut last = None;

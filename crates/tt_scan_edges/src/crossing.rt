@@ -93,17 +93,16 @@ pub(crate) fn risen(up: RisingEdge, at: RowAt, stands: Quotient) -> Cross
 {
     let touch = touched(stands);
     if at.y < i64::from(up.edge.by) {
-        Cross {
+        return Cross {
             touch,
             turn: 1,
             first: stands.whole + 1,
-        }
-    } else {
-        Cross {
-            touch,
-            turn: 0,
-            first: 0,
-        }
+        };
+    }
+    Cross {
+        touch,
+        turn: 0,
+        first: 0,
     }
 }
 

@@ -3,6 +3,7 @@ use Rattle.std.specs.Prelude.{◌≡◌, refl, ◌^◌, ◌<◌, Bool, ◌&&◌,
 use Rattle.std.specs.Int.{int_max, int_min}
 use Rattle.tt_scan_edges.specs.declared.edge.Edge.{Edge}
 use Rattle.tt_scan_gaps.specs.Crossings.{gap_at, line_from}
+use Rattle.tt_scan_gaps.specs.declared.columns.Extent.{Extent}
 use Rattle.tt_scan_gaps.specs.declared.mark.Columns.{Columns}
 
 -- the columns of a glyph's box: those with a centre from the least to the greatest x. Where there is none, the column
@@ -33,6 +34,11 @@ columns_of (e ∷ es) = columns_between (least_x e.ax (e ∷ es)) (greatest_x e.
 pub record ColumnsFit (b : Columns) : Type 0 where
   pub first : unsigned_abs b.first < 2 ^ 19
   pub last : unsigned_abs b.last < 2 ^ 19
+
+-- limits on an extent
+pub record ExtentFits (e : Extent) : Type 0 where
+  pub low : unsigned_abs e.low < 2 ^ 30
+  pub high : unsigned_abs e.high < 2 ^ 30
 
 -- one of the columns of a box, or of its rows
 abbrev pub is_column_of : Columns → ℤ → Bool

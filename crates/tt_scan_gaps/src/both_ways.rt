@@ -59,7 +59,7 @@ fn mark_crossings(
     ensures kept { (s : ℕ) → get_or table.old s false ≡ true → get_or table.new s false ≡ true }
     ensures taken { result ≡ false → (k : ℕ) → k < lines_crossed edge
         → get_or other.now (slot (line_crossed edge k) (crossing edge (line_crossed edge k)).gap) false ≡ true
-        → is_free (is_black_seen pass.over pass.edges.now) (crossing edge (line_crossed edge k)).gap
+        → is_free (is_black_seen pass.entry.over pass.entry.edges.now) (crossing edge (line_crossed edge k)).gap
         (line_crossed edge k) ≡ false }
     ensures fewer { looks.new ≤ looks.old }
 {
@@ -85,8 +85,8 @@ fn mark_edge(
 ) -> bool
     requires { EdgeFits edge.now }
     ensures told { result ≡ false → (es : List Edge)
-        → AreTold (is_black_seen pass.over pass.edges.now) es rising.old falling.old
-        → AreTold (is_black_seen pass.over pass.edges.now) (es ++ seen_by pass.over edge.now ∷ []) rising.new falling.new }
+        → AreTold (is_black_seen pass.entry.over pass.entry.edges.now) es rising.old falling.old
+        → AreTold (is_black_seen pass.entry.over pass.entry.edges.now) (es ++ seen_by pass.entry.over edge.now ∷ []) rising.new falling.new }
     ensures fewer { looks.new ≤ looks.old }
 {
     // Most edges are short and meet no line.

@@ -3,7 +3,7 @@
 ghost use Rattle.std.specs.Prelude.{◌≡◌, ◌^◌, ◌<◌, map, unsigned_abs, All};
 ghost use Rattle.std.specs.Int.{int_max, int_min};
 ghost use Rattle.tt_scan_edges.specs.Winding.{EdgeFits};
-ghost use Rattle.tt_scan_gaps.specs.Boxes.{ColumnsFit, columns_between, columns_of, greatest_x, least_x};
+ghost use Rattle.tt_scan_gaps.specs.Boxes.{ColumnsFit, ExtentFits, columns_between, columns_of, greatest_x, least_x};
 ghost use Rattle.tt_scan_gaps.specs.Seen.{turned_round};
 
 use crate::crossings::{PIXEL, gap_at, line_from};
@@ -33,17 +33,17 @@ fn columns_between(low: i32, high: i32) -> Columns
 struct Extent {
     low: i32,
     high: i32,
-    ghost low_fits: { unsigned_abs low < 2 ^ 30 },
-    ghost high_fits: { unsigned_abs high < 2 ^ 30 },
 }
 
 /// An extent with two places more.
 #[inline(always)]
 fn with(extent: Extent, a: i32, b: i32) -> Extent
+    requires extent { ExtentFits extent }
     requires a { unsigned_abs a < 2 ^ 30 }
     requires b { unsigned_abs b < 2 ^ 30 }
     ensures low { result.low ≡ int_min extent.low (int_min a b) }
     ensures high { result.high ≡ int_max extent.high (int_max a b) }
+    ensures fits { ExtentFits result }
 {
     Extent {
         low: extent.low.min(a.min(b)),
@@ -60,6 +60,7 @@ fn extents(x: i32, y: i32, edges: &[Edge]) -> (Extent, Extent)
     ensures right { result.0.high ≡ greatest_x x edges.now }
     ensures bottom { result.1.low ≡ least_x y (map turned_round edges.now) }
     ensures top { result.1.high ≡ greatest_x y (map turned_round edges.now) }
+    ensures fit { ExtentFits result.0 × ExtentFits result.1 }
 {
     let mut across = Extent { low: x, high: x };
     let mut up = Extent { low: y, high: y };

@@ -49,7 +49,7 @@ impl Looks {
 fn is_wound_round(pass: PassEdges, pixel: i64, line: i64) -> bool
     requires pixel { unsigned_abs pixel < 2 ^ 18 }
     requires line { unsigned_abs line < 2 ^ 18 }
-    ensures { result ≡ true → is_black_seen pass.over pass.edges.now pixel line ≡ true }
+    ensures { result ≡ true → is_black_seen pass.entry.over pass.entry.edges.now pixel line ≡ true }
 {
     match pass.over {
         Over::Rows => winding(pass.edges, centre(pixel), centre(line)) != 0,
@@ -62,7 +62,7 @@ fn is_wound_round(pass: PassEdges, pixel: i64, line: i64) -> bool
 fn may_be_free(pass: PassEdges, gap: i64, line: i64) -> bool
     requires gap { unsigned_abs gap + 1 < 2 ^ 18 }
     requires line { unsigned_abs line < 2 ^ 18 }
-    ensures { result ≡ false → is_free (is_black_seen pass.over pass.edges.now) gap line ≡ false }
+    ensures { result ≡ false → is_free (is_black_seen pass.entry.over pass.entry.edges.now) gap line ≡ false }
 {
     !is_wound_round(pass, gap, line) && !is_wound_round(pass, gap + 1, line)
 }
@@ -74,7 +74,7 @@ fn may_be_free(pass: PassEdges, gap: i64, line: i64) -> bool
 pub(crate) fn look(pass: PassEdges, looks: &mut Looks, gap: i64, line: i64) -> bool
     requires gap { unsigned_abs gap + 1 < 2 ^ 18 }
     requires line { unsigned_abs line < 2 ^ 18 }
-    ensures free { result ≡ false → is_free (is_black_seen pass.over pass.edges.now) gap line ≡ false }
+    ensures free { result ≡ false → is_free (is_black_seen pass.entry.over pass.entry.edges.now) gap line ≡ false }
     ensures none { looks.old ≡ 0 → (result ≡ true) × (looks.new ≡ 0) }
     ensures one { 0 < looks.old → looks.new + 1 ≡ looks.old }
     ensures fewer { looks.new ≤ looks.old }

@@ -70,7 +70,7 @@ fn windows_ink(
     requires columns { AreNear columns }
     requires rows { AreNear rows }
     ensures { IfOk result (IsInk (shown columns rows.first (count_of rows)
-        (is_dropout glyph.rules (contours_at glyph.tape.now.edges glyph.ends.now)))) }
+        (is_dropout glyph.entry.rules (contours_at glyph.entry.tape.now.edges glyph.entry.ends.now)))) }
 {
     let count = count_of(rows);
     let mut ink = None;

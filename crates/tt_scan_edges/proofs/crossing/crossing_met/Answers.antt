@@ -19,3 +19,7 @@ rising-requires-then-edge-2-clause-high c =
 
 pub flat-requires-clause-here : goal.flat-requires-clause-here
 flat-requires-clause-here c = level_here c.args.edge.ay c.args.edge.by c.args.at.y (omega (arith, ints)) c.requires.met
+
+pub returns-then-edge-2 : goal.returns-then-edge-2
+returns-then-edge-2 c =
+    c.turned_back.ensures c.args.edge c.args.at.frame.margin c.args.at.y (rw c.reversed-edge.ensures at c.rising-then-edge-2.ensures)

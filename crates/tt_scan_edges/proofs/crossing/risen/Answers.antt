@@ -16,8 +16,8 @@ returns-then-at-from c =
     (λ k. right_there c.args.up.edge c.args.at.frame.margin c.args.at.y k c.args.stands c.requires.stands)
     c.touched-touch.ensures.exact c.touched-touch.ensures.order refl (simp to_z-of_z refl)
 
-pub returns-else-at-from : goal.returns-else-at-from
-returns-else-at-from c =
+pub returns : goal.returns
+returns c =
     top_cross c.args.up.edge c.args.at.frame.margin c.args.at.y _ (λ (k : ℤ). is_zero c.args.stands.rest && is_zero (c.args.stands.whole -ℤ k)) c.args.up.rises
     (omega (arith, ints, c.requires.low, c.requires.high))
     (λ k. on_there c.args.up.edge c.args.at.frame.margin c.args.at.y k c.args.stands c.requires.stands)

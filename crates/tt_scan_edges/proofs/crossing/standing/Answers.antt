@@ -26,6 +26,17 @@ divided-requires c =
     let divisor : SFits w64 (pos 8192 *ℤ c.rise-rise.result) = omega (arith, ints, c.rise-rise.ensures.bound) in
     record { divisor = simp to_z-of_z (rw c.rise-rise.ensures.exact p.above) }
 
+pub product-requires-clause-right : goal.product-requires-clause-right
+product-requires-clause-right c =
+    let p : Computed c.args.up.edge c.args.at.y =
+    computed c.args.up.edge c.args.at.y c.args.up.fits c.args.up.rises c.requires.low c.requires.high in
+    let ay : SFits w32 c.args.up.edge.ay = search rules in
+    let y : SFits w64 c.args.at.y = search rules in
+    let from : SFits w64 c.from.result = search rules in
+    let is_from = simp to_z-of_z at c.from.ensures in
+    let height : SFits w64 (c.args.at.y -ℤ c.from.result) = rw is_from p.height in
+    simp to_z-of_z (rw is_from (omega (arith, ints, c.requires.low, c.requires.high, c.args.up.fits.ay, c.args.up.fits.by)))
+
 -- the dividend and the divisor
 abbrev number : goal.After-divided → ℤ
 number c = c.product.result +ℤ c.product-2.result

@@ -12,8 +12,8 @@ returns-clause-columns c =
     let none : Edge = record { ax = pos 0; ay = pos 0; bx = pos 0; by = pos 0 } in
     let some : 0 < length es = search rules in
     let x : SFits w32 (get_or es 0 none).ax = omega (arith, ints, (c.requires 0 none some).ax) in
-    let low : SFits w32 c.extents.result.0.low = omega (arith, ints, c.extents.result.0.low_fits) in
-    let high : SFits w32 c.extents.result.0.high = omega (arith, ints, c.extents.result.0.high_fits) in
+    let low : SFits w32 c.extents.result.0.low = omega (arith, ints, c.extents.ensures.fit.0.low) in
+    let high : SFits w32 c.extents.result.0.high = omega (arith, ints, c.extents.ensures.fit.0.high) in
     let found = c.extents.ensures in
     let left : c.extents.result.0.low ≡ least_x (get_or es 0 none).ax es = simp to_z-of_z at found.left in
     let right : c.extents.result.0.high ≡ greatest_x (get_or es 0 none).ax es = simp to_z-of_z at found.right in
@@ -26,8 +26,8 @@ returns-clause-rows c =
     let none : Edge = record { ax = pos 0; ay = pos 0; bx = pos 0; by = pos 0 } in
     let some : 0 < length es = search rules in
     let y : SFits w32 (get_or es 0 none).ay = omega (arith, ints, (c.requires 0 none some).ay) in
-    let low : SFits w32 c.extents.result.1.low = omega (arith, ints, c.extents.result.1.low_fits) in
-    let high : SFits w32 c.extents.result.1.high = omega (arith, ints, c.extents.result.1.high_fits) in
+    let low : SFits w32 c.extents.result.1.low = omega (arith, ints, c.extents.ensures.fit.1.low) in
+    let high : SFits w32 c.extents.result.1.high = omega (arith, ints, c.extents.ensures.fit.1.high) in
     let found = c.extents.ensures in
     let turned = map turned_round es in
     let bottom : c.extents.result.1.low ≡ least_x (get_or es 0 none).ay turned = simp to_z-of_z at found.bottom in

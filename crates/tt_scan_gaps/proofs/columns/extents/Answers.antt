@@ -43,4 +43,6 @@ loop-edge-preserved c =
       right = rw high (sym (greatest_over across.high es i none below) ∙ so_far.right);
       bottom = rw bottom (sym (least_over_turned up.low es i none below) ∙ so_far.bottom);
       top = rw top (sym (greatest_over_turned up.high es i none below) ∙ so_far.top);
+      across = wide.ensures.fits;
+      up = tall.ensures.fits;
     }

@@ -1,5 +1,5 @@
 use Rattle.std.proofs.Common.{◌≡◌, drop, map}
-use Rattle.tt_scan_gaps.specs.Boxes.{greatest_x, least_x}
+use Rattle.tt_scan_gaps.specs.Boxes.{ExtentFits, greatest_x, least_x}
 use Rattle.tt_scan_gaps.specs.Seen.{turned_round}
 use Rattle.tt_scan_gaps.proofs.columns.extents.Given as goal
 
@@ -12,4 +12,6 @@ invariant-loop-edge l = record {
       ≡ least_x l.fn.y (map turned_round l.edges);
   top : greatest_x l.up.high (map turned_round (drop l.edge-index l.edges))
       ≡ greatest_x l.fn.y (map turned_round l.edges);
+  across : ExtentFits l.across;
+  up : ExtentFits l.up;
 }

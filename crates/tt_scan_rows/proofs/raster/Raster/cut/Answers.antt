@@ -1,4 +1,5 @@
-use Rattle.std.proofs.Common.{◌≡◌, ◌+◌, ◌≤◌, ◌-ℤ◌, ◌+ℤ◌, pos, false, length, unsigned_abs, ℤ, SFits, w32, refl, rules, arith}
+use Rattle.std.proofs.Common.{◌≡◌, ◌+◌, ◌*◌, ◌≤◌, ◌-ℤ◌, ◌+ℤ◌, pos, false, length, unsigned_abs, ℤ, SFits, w32, refl, rules, arith}
+use Rattle.std.proofs.Math.Nat.{mul-le-mul_right}
 use Rattle.std.proofs.lemmas.Int.{to_z-of_z}
 use Rattle.tt_scan_edges.specs.Crossing.{has_row}
 use Rattle.tt_scan_edges.specs.Winding.{is_black}
@@ -9,8 +10,15 @@ use Rattle.tt_scan_rows.proofs.Large.{many_in_lines, many_spans}
 use Rattle.tt_scan_rows.proofs.Lines.{lines_of_rows, rows_are_lines}
 use Rattle.tt_scan_rows.proofs.raster.Raster.cut.Goals as goal
 
-pub returns-in-Some-clause-black : goal.returns-in-Some-clause-black
-returns-in-Some-clause-black c =
+pub cut-requires-clause-count : goal.cut-requires-clause-count
+cut-requires-clause-count c =
+    let es = c.args.list.edges in
+    let fits = c.frame_of.ensures.fits in
+    let all : c.frame_of.result.height * length es ≤ 4100 * length es = mul-le-mul_right (length es) fits.height_high in
+    rw c.in_ok-tape.ensures (omega (arith, all, c.requires))
+
+pub returns-in-Some-2-clause-black : goal.returns-in-Some-2-clause-black
+returns-in-Some-2-clause-black c =
     let first : SFits w32 c.in-Some.first = search rules in
     let last : SFits w32 c.in-Some.last = search rules in
     let f = c.frame_of.result in
