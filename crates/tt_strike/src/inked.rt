@@ -1,5 +1,6 @@
 //! The glyphs of a line with their inks.
 
+ghost use Rattle.std.proofs.Props.{props};
 ghost use Rattle.std.specs.Prelude.{◌≡◌, map, All, IfSome};
 ghost use Rattle.tt_picture.specs.Glyphs.{ArePlaces, ink_standing, numbers_of};
 ghost use Rattle.tt_scan_ink.specs.Least.{IsNear};
@@ -14,5 +15,5 @@ pub(crate) struct InkedGlyphs {
     pub(crate) inks: Vec<Option<GlyphInk>>,
     pub(crate) ghost places: { ArePlaces glyphs.places.items (numbers_of glyphs.made.items) },
     pub(crate) ghost inked: { inks.items ≡ map ink_standing glyphs.made.items },
-    pub(crate) ghost near: { All (λ ink. IfSome ink IsNear) inks.items },
+    pub(crate) ghost near: { All (λ ink. IfSome ink IsNear) inks.items } by { Prim.hlevel props },
 }

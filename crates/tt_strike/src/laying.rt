@@ -28,15 +28,16 @@ impl<'f, 'a> SizedFace<'f, 'a> {
         ensures font { IfTold draw_font_fault result (λ _. ⊥) }
         ensures job { IfTold draw_job_fault result (IsLineRefusal self.now.face (job_by self.now text.now margin)) }
     {
+        let source = self.source;
         test_margin(margin)?;
         test_text(text)?;
-        let face = self.source.face;
+        let face = source.face;
         let line = lay(
-            self.source.alloc,
+            source.alloc,
             face.metrics(),
             face.cmap(),
             text,
-            self.source.ppem,
+            source.ppem,
             margin,
         )?;
         Ok(Laid { line, margin })

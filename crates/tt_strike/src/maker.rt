@@ -29,10 +29,10 @@ impl<'f, 'a> FitterSource<'f, 'a> {
     /// The fitter. Errors, the first of: those of loca and glyf; TableRange of the control values and the two programs;
     /// those of running the two. Memory may come at any allocation.
     #[tactic(auto, unfolding(crate::specs::Picture::setting))]
-    fn open(self) -> Result<Fitter<'a>, FontFault>
-        ensures exact { FontGives (λ f. f) result (setting self.face.now self.ppem self.fit) }
-        ensures setting { IfOk result (IsSetting self.face.now self.ppem self.fit) }
-        ensures defects { TellsDefects font_fault (IsSettingDefect self.face.now (job_at self.ppem self.fit)) result }
+    fn open(&self) -> Result<Fitter<'a>, FontFault>
+        ensures exact { FontGives (λ f. f) result (setting self.now.face.now self.now.ppem self.now.fit) }
+        ensures setting { IfOk result (IsSetting self.now.face.now self.now.ppem self.now.fit) }
+        ensures defects { TellsDefects font_fault (IsSettingDefect self.now.face.now (job_at self.now.ppem self.now.fit)) result }
     {
         tt_fit::laws::work_unfits();
         let glyf = self.face.glyf()?;
@@ -44,12 +44,12 @@ impl<'f, 'a> FitterSource<'f, 'a> {
 
 impl<'a> Maker<'a> {
     /// Takes the fitter out, and opens it first if it is missing. Errors: as `open`. A defect of the font is recorded.
-    pub(crate) fn take(&mut self, source: FitterSource<'_, 'a>) -> Result<Fitter<'a>, FontFault>
-        requires maker { IsMaker source.face.now source.ppem source.fit self.old }
-        ensures exact { FontGives (λ f. f) result (setting source.face.now source.ppem source.fit) }
-        ensures setting { IfOk result (IsSetting source.face.now source.ppem source.fit) }
-        ensures defects { TellsDefects font_fault (IsSettingDefect source.face.now (job_at source.ppem source.fit)) result }
-        ensures maker { IsMaker source.face.now source.ppem source.fit self.new }
+    pub(crate) fn take(&mut self, source: &FitterSource<'_, 'a>) -> Result<Fitter<'a>, FontFault>
+        requires maker { IsMaker source.now.face.now source.now.ppem source.now.fit self.old }
+        ensures exact { FontGives (λ f. f) result (setting source.now.face.now source.now.ppem source.now.fit) }
+        ensures setting { IfOk result (IsSetting source.now.face.now source.now.ppem source.now.fit) }
+        ensures defects { TellsDefects font_fault (IsSettingDefect source.now.face.now (job_at source.now.ppem source.now.fit)) result }
+        ensures maker { IsMaker source.now.face.now source.now.ppem source.now.fit self.new }
     {
         match mem::replace(self, Maker::Unmade) {
             Maker::Ready(fitter) => Ok(fitter),

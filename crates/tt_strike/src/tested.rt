@@ -41,7 +41,7 @@ impl<'f, 'a> SizedFace<'f, 'a> {
     {
         tt_fit::laws::work_unfits();
         let source = self.source;
-        let mut fitter = self.maker.take(source)?;
+        let mut fitter = self.maker.take(&source)?;
         let count = source.face.metrics().glyphs();
         let line = &laid.line;
         charge_points(source.alloc, source.fit, &mut fitter, count, &line.glyphs)?;

@@ -34,14 +34,14 @@ glyphs_then c =
     ap length c.move_pens.ensures ∙ length-map c.deref_mut.result.now f ∙ c.deref_mut.ensures.len in
     with_items_is c.args.line.glyphs c.move_pens.new.glyphs count ∙ new
 
-pub returns-clause-exact : goal.returns-clause-exact
-returns-clause-exact c =
+pub returns : goal.returns
+returns c =
     let line = placement_of c.args.line in
     let b = c.in-Some.ink in
     let sides : c.lacking-sides.result ≡ lacking line.width line.height b = c.lacking-sides.ensures in
     let wide = rw sides at c.in_ok-width.ensures.exact in
     let high = rw sides at c.in_ok-height.ensures.exact in
-    let glyphs = glyphs_then (goal.at.returns-clause-exact c).After-move_pens in
+    let glyphs = glyphs_then (goal.at.returns c).After-move_pens in
     let old : SFits w32 c.args.line.rise = search rules in
     let few : c.lacking-sides.result.top ≤ height_limit = omega (arith, c.in_ok-height.ensures.exact, c.in_ok-height.ensures.within) in
     let top : to_z w32 c.lacking-sides.result.top ≡ pos c.lacking-sides.result.top = to_z_pos w32 c.lacking-sides.result.top (omega arith) in

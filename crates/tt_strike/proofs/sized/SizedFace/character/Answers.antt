@@ -1,4 +1,4 @@
-use Rattle.std.proofs.Common.{◌≡◌, ◌∙◌, ap, ℕ, ◌+◌, ◌<◌, List, length, map, slice_index, slice_index_or, pos, SFits, w64, Option, arith}
+use Rattle.std.proofs.Common.{◌≡◌, ◌∙◌, ap, ℕ, ◌+◌, ◌<◌, List, length, map, slice_index, slice_index_or, pos, SFits, w64, Option, arith, rules}
 use Rattle.std.proofs.lemmas.Int.{ints, to_z-of_z}
 use Rattle.std.proofs.lemmas.List.{get_or-map, length-map}
 use Rattle.tt_scan_ink.specs.declared.ink.GlyphInk.{GlyphInk}
@@ -46,4 +46,7 @@ pub advance-requires-clause-known : goal.advance-requires-clause-known
 advance-requires-clause-known c = rw (c.metrics.ensures, c.face.ensures) c.requires.known
 
 pub index-requires : goal.index-requires
-index-requires c = rw (c.args.inked.now.inked, length-map) c.in-Some.ensures.found.0
+index-requires c =
+    let below : c.in-Some.i < length c.args.inked.now.inks.items =
+    rw (c.args.inked.now.inked, length-map) c.in-Some.ensures.found.0 in
+    search rules

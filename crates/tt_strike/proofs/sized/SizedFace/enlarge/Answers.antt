@@ -67,7 +67,7 @@ returns-in_err-line-clause-stops c =
     let made = rw c.absent-none.ensures at c.in_ok-glyphs.ensures.made in
     let p = err_from_is_err_and c.from_residual-in_err-line.result c.from_residual-in_err-line.ensures.1 in
     rw (p.1, p.2) (not_grown face a l (measure_view c.in_ok-measure.measure) c.in_err-line.field-0.0
-    (measured_then (goal.at.returns-in_err-line-clause-stops c).In_ok-measure made) c.in_err-line.ensures.exact)
+    (measured_then (goal.at.returns-in_err-line-clause-stops c).In_ok-measure made) c.in_err-line.ensures)
 
 pub returns-clause-enlarged : goal.returns-clause-enlarged
 returns-clause-enlarged c =
@@ -77,13 +77,13 @@ returns-clause-enlarged c =
     let larger = placement_of c.in_ok-line.line in
     let m = measure_view c.in_ok-measure.measure in
     let made = rw c.absent-none.ensures at c.in_ok-glyphs.ensures.made in
-    let moved = grown_moves l larger m.ink c.in_ok-line.ensures.exact in
+    let moved = grown_moves l larger m.ink c.in_ok-line.ensures in
     record {
       made = made;
       left = moved.0;
       moved = moved.1;
       exact = grown_as_measured face a l larger m
-          (measured_then (goal.at.returns-clause-enlarged c).In_ok-measure made) c.in_ok-line.ensures.exact;
+          (measured_then (goal.at.returns-clause-enlarged c).In_ok-measure made) c.in_ok-line.ensures;
     }
 
 pub returns-in_err-glyphs-clause-defects : goal.returns-in_err-glyphs-clause-defects
