@@ -48,7 +48,7 @@ pub extern "C" fn tt_measure(
     ensures measures { MeasuresText job.now text.now font.now told.old told.new answer.new }
 {
     let request = TextRequest { font, text, job };
-    *answer = tt_c_calls::measure(alloc, request, told);
+    *answer = tt_c_calls::measure(alloc, &request, told);
     answer.status
 }
 
@@ -66,7 +66,7 @@ pub extern "C" fn tt_characters(
     ensures places { PlacesCharacters job.now text.now font.now characters.old characters.new answer.new }
 {
     let request = TextRequest { font, text, job };
-    *answer = tt_c_calls::characters(alloc, request, characters);
+    *answer = tt_c_calls::characters(alloc, &request, characters);
     answer.status
 }
 
@@ -89,7 +89,7 @@ pub extern "C" fn tt_draw(
         count: 4096,
     };
     let request = TextRequest { font, text, job };
-    *answer = tt_c_calls::draw_band(alloc, request, whole, rows, told);
+    *answer = tt_c_calls::draw_band(alloc, &request, whole, rows, told);
     answer.status
 }
 
@@ -111,7 +111,7 @@ pub extern "C" fn tt_draw_band(
 {
     let band = Band { first, count };
     let request = TextRequest { font, text, job };
-    *answer = tt_c_calls::draw_band(alloc, request, band, rows, told);
+    *answer = tt_c_calls::draw_band(alloc, &request, band, rows, told);
     answer.status
 }
 
@@ -132,7 +132,7 @@ pub extern "C" fn tt_draw_lines(
     ensures draws { DrawsTexts job.now font.now texts.now ends.now rows.old rows.new lines.old lines.new answer.new }
 {
     let all = Texts { bytes: texts, ends };
-    *answer = tt_c_calls::draw_lines(alloc, font, all, job, keep, rows, lines).0;
+    *answer = tt_c_calls::draw_lines(alloc, font, &all, job, keep, rows, lines).0;
     answer.status
 }
 

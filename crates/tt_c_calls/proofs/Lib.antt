@@ -3,7 +3,7 @@ pub mod Answered
 pub mod AskedTables
 mod Lines
 mod Plain
-pub mod Texts
+pub mod TextTaken
 pub mod Rows
 pub mod LinesDrawn
 pub mod LinesStopped

@@ -17,12 +17,12 @@ use std::alloc::Global;
 /// `rows` and `told` are unchanged.
 pub fn draw_band(
     alloc: Global,
-    request: TextRequest,
+    request: &TextRequest,
     band: Band,
     rows: &mut [u8],
     told: &mut CPicture,
 ) -> CAnswer
-    ensures { DrawsBand request.job.now request.text.now request.font.now band.first band.count rows.old rows.new told.old told.new result }
+    ensures { DrawsBand request.now.job.now request.now.text.now request.now.font.now band.first band.count rows.old rows.new told.old told.new result }
 {
     let mut picture = match picture_of(alloc, request) {
         Ok(picture) => picture,

@@ -145,13 +145,13 @@ fn draw_by(
 pub fn draw_lines(
     alloc: Global,
     font: &[u8],
-    texts: Texts<'_>,
+    texts: &Texts<'_>,
     job: &CJob,
     keep: usize,
     rows: &mut [u8],
     lines: &mut [CLine],
 ) -> (CAnswer, usize)
-    ensures draws { DrawsTexts job.now font.now texts.bytes.now texts.ends.now rows.old rows.new lines.old lines.new result.0 }
+    ensures draws { DrawsTexts job.now font.now texts.now.bytes.now texts.now.ends.now rows.old rows.new lines.old lines.new result.0 }
     ensures cached { result.1 ≤ keep }
 {
     let ends = texts.ends;

@@ -107,10 +107,10 @@ fn measure_of(measure: &Measure) -> CMeasure
 /// The measure of a text by a font file. Errors, the first of: UnknownFit, NotUtf8; SizeRange, MarginRange, TextLong;
 /// FontLarge; those of the tables that every text needs; those of `make_measure`.
 #[tactic(auto, unfolding(crate::specs::Measures::measure_wanted))]
-fn measured(alloc: Global, request: TextRequest) -> Result<Measure, CallFault>
-    ensures exact { GivesUnless call_refusal measure_view result (measure_wanted request.job.now request.text.now request.font.now) }
-    ensures measure { IfOk result (λ m. IsMeasureOf request.job.now request.text.now request.font.now (measure_view m) m.report.unfitted.items) }
-    ensures defects { TellsDefects call_font_fault (IsAskedDefect request.job.now request.text.now request.font.now) result }
+fn measured(alloc: Global, request: &TextRequest) -> Result<Measure, CallFault>
+    ensures exact { GivesUnless call_refusal measure_view result (measure_wanted request.now.job.now request.now.text.now request.now.font.now) }
+    ensures measure { IfOk result (λ m. IsMeasureOf request.now.job.now request.now.text.now request.now.font.now (measure_view m) m.report.unfitted.items) }
+    ensures defects { TellsDefects call_font_fault (IsAskedDefect request.now.job.now request.now.text.now request.now.font.now) result }
 {
     let asked = job_of(request.job, request.text)?;
     test_job(&asked)?;
@@ -123,8 +123,8 @@ fn measured(alloc: Global, request: TextRequest) -> Result<Measure, CallFault>
 /// Measures a text: the size of its picture, its base line, and the box of its ink. Answers: done; the font is refused,
 /// too large, or the job refused; memory was refused; the text is not UTF-8. Unless the answer is done, `told` is
 /// unchanged.
-pub fn measure(alloc: Global, request: TextRequest, told: &mut CMeasure) -> CAnswer
-    ensures { MeasuresText request.job.now request.text.now request.font.now told.old told.new result }
+pub fn measure(alloc: Global, request: &TextRequest, told: &mut CMeasure) -> CAnswer
+    ensures { MeasuresText request.now.job.now request.now.text.now request.now.font.now told.old told.new result }
 {
     match measured(alloc, request) {
         Ok(measure) => {
@@ -155,8 +155,8 @@ fn write_characters(measured: &[CharacterMeasure], room: &mut [CCharacter]) -> C
 /// Writes the place of each character of a text in its picture, in the order of the text. Answers: done, with the
 /// number of characters; the font is refused, too large, or the job refused; memory was refused; the text is not UTF-8;
 /// the room is too small. Unless the answer is done, `room` is unchanged.
-pub fn characters(alloc: Global, request: TextRequest, room: &mut [CCharacter]) -> CAnswer
-    ensures { PlacesCharacters request.job.now request.text.now request.font.now room.old room.new result }
+pub fn characters(alloc: Global, request: &TextRequest, room: &mut [CCharacter]) -> CAnswer
+    ensures { PlacesCharacters request.now.job.now request.now.text.now request.now.font.now room.old room.new result }
 {
     match measured(alloc, request) {
         Ok(measure) => write_characters(&measure.characters, room),

@@ -57,10 +57,10 @@ pub(crate) fn told_of(picture: &Picture) -> CPicture
 /// The picture of a text by a font file. Errors, the first of: UnknownFit, NotUtf8; SizeRange, MarginRange, TextLong;
 /// FontLarge; those of the tables that every text needs; those of `make_picture`.
 #[tactic(auto, unfolding(crate::specs::Pictures::picture_wanted))]
-pub(crate) fn picture_of(alloc: Global, request: TextRequest) -> Result<Picture, CallFault>
-    ensures exact { GivesUnless call_refusal image_of result (picture_wanted request.job.now request.text.now request.font.now) }
-    ensures picture { IfOk result (IsPictureOf request.job.now request.text.now request.font.now) }
-    ensures defects { TellsDefects call_font_fault (IsAskedDefect request.job.now request.text.now request.font.now) result }
+pub(crate) fn picture_of(alloc: Global, request: &TextRequest) -> Result<Picture, CallFault>
+    ensures exact { GivesUnless call_refusal image_of result (picture_wanted request.now.job.now request.now.text.now request.now.font.now) }
+    ensures picture { IfOk result (IsPictureOf request.now.job.now request.now.text.now request.now.font.now) }
+    ensures defects { TellsDefects call_font_fault (IsAskedDefect request.now.job.now request.now.text.now request.now.font.now) result }
 {
     let asked = job_of(request.job, request.text)?;
     test_job(&asked)?;

@@ -1,4 +1,4 @@
-use Rattle.tt_c_calls.proofs.Texts.{no_text_is_refused, text_is_taken}
+use Rattle.tt_c_calls.proofs.TextTaken.{no_text_is_refused, text_is_taken}
 use Rattle.tt_c_calls.proofs.asked.text_of.Goals as goal
 
 pub returns-in-Ok-clause-exact : goal.returns-in-Ok-clause-exact

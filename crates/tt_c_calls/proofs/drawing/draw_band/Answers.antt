@@ -8,7 +8,7 @@ returns-in-Err c =
     let fault = c.in-Err.fault in
     rw c.answer_of.ensures (record {
       done = λ h. absurd (fails fault h);
-      refused = λ _ _. tells (picture_wanted c.args.request.job.now c.args.request.text.now c.args.request.font.now) fault c.in-Err.ensures.exact;
+      refused = λ _ _. tells (picture_wanted c.args.request.now.job.now c.args.request.now.text.now c.args.request.now.font.now) fault c.in-Err.ensures.exact;
       small = λ h. absurd (wants_none fault h);
       kept = λ _. refl;
       told_kept = λ _. refl;

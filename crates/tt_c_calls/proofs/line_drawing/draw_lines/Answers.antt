@@ -90,8 +90,8 @@ pub returns-clause-draws : goal.returns-clause-draws
 returns-clause-draws c =
     let j = c.args.job.now in
     let font = c.args.font.now in
-    let texts = c.args.texts.bytes.now in
-    let ends = c.args.texts.ends.now in
+    let texts = c.args.texts.now.bytes.now in
+    let ends = c.args.texts.now.ends.now in
     let own = c.draw_by-answer in
     let passed = of_setting j c.in-Ok.fit _ _ _ c.job.ensures c.plain.ensures c.in_default.ensures.exact in
     let face = c.in-Ok-face_of.face in

@@ -7,13 +7,14 @@ use Rattle.tt_c_calls.proofs.measuring.characters.Goals as goal
 pub returns-in-Ok : goal.returns-in-Ok
 returns-in-Ok c =
     let m = measure_view c.in-Ok.measure in
-    let own = c.write_characters in
-    let seven : own.result.status ≢ 0 → own.result.status ≡ 7 = λ other. rw (own.ensures.small other).1 refl in
+    let own = rw c.deref.ensures.value at c.write_characters.ensures in
+    let status = c.write_characters.result.status in
+    let seven : status ≢ 0 → status ≡ 7 = λ other. rw (own.small other).1 refl in
     record {
-      done = λ h. (m, c.in-Ok.ensures.exact, own.ensures.done h);
+      done = λ h. (m, c.in-Ok.ensures.exact, own.done h);
       refused = λ other not_seven. absurd (not_seven (seven other));
-      small = λ h. (m, c.in-Ok.ensures.exact, own.ensures.small (λ zero. omega (arith, h, zero)));
-      kept = own.ensures.kept;
+      small = λ h. (m, c.in-Ok.ensures.exact, own.small (λ zero. omega (arith, h, zero)));
+      kept = own.kept;
       stands = λ one. absurd (omega (arith, one, seven (λ zero. omega (arith, one, zero))));
     }
 
@@ -22,7 +23,7 @@ returns-in-Err c =
     let fault = c.in-Err.fault in
     rw c.answer_of.ensures (record {
       done = λ h. absurd (fails fault h);
-      refused = λ _ _. tells (measure_wanted c.args.request.job.now c.args.request.text.now c.args.request.font.now) fault c.in-Err.ensures.exact;
+      refused = λ _ _. tells (measure_wanted c.args.request.now.job.now c.args.request.now.text.now c.args.request.now.font.now) fault c.in-Err.ensures.exact;
       small = λ h. absurd (wants_none fault h);
       kept = λ _. refl;
       stands = stands _ fault c.in-Err.ensures.defects;

@@ -19,7 +19,7 @@ returns-in-Err c =
     let fault = c.in-Err.fault in
     rw c.answer_of.ensures (record {
       done = λ h. absurd (fails fault h);
-      refused = λ _. tells (measure_wanted c.args.request.job.now c.args.request.text.now c.args.request.font.now) fault c.in-Err.ensures.exact;
+      refused = λ _. tells (measure_wanted c.args.request.now.job.now c.args.request.now.text.now c.args.request.now.font.now) fault c.in-Err.ensures.exact;
       kept = λ _. refl;
       stands = stands _ fault c.in-Err.ensures.defects;
     })

@@ -41,25 +41,25 @@ is_measure j text font a face (Err e) is read gives told = tt
 pub returns-in_err-asked-clause-defects : goal.returns-in_err-asked-clause-defects
 returns-in_err-asked-clause-defects c =
     let p = err_from_is_err_and c.from_residual.result c.from_residual.ensures.1 in
-    let job = c.args.request.job.now in
-    let text = c.args.request.text.now in
-    rw (p.1, p.2) (asked_tells (IsAskedDefect job text c.args.request.font.now) job text c.in_err-asked.field-0.0 c.in_err-asked.ensures)
+    let job = c.args.request.now.job.now in
+    let text = c.args.request.now.text.now in
+    rw (p.1, p.2) (asked_tells (IsAskedDefect job text c.args.request.now.font.now) job text c.in_err-asked.field-0.0 c.in_err-asked.ensures)
 
 pub returns-in_err-face-clause-exact : goal.returns-in_err-face-clause-exact
 returns-in_err-face-clause-exact c =
     let p = err_from_is_err_and c.from_residual-in_err-face.result c.from_residual-in_err-face.ensures.1 in
-    let font = c.args.request.font.now in
+    let font = c.args.request.now.font.now in
     let fault = c.in_err-face.field-0.0 in
-    let is = by_tables c.args.request.job.now c.args.request.text.now font (job_view c.in_ok-asked.asked) c.in_ok-asked.ensures c.in_ok-test_job.ensures.exact in
+    let is = by_tables c.args.request.now.job.now c.args.request.now.text.now font (job_view c.in_ok-asked.asked) c.in_ok-asked.ensures c.in_ok-test_job.ensures.exact in
     rw (p.1, p.2, is) (first_stops (face_wanted font) _ fault c.in_err-face.ensures.exact)
 
 pub returns-in_err-measure-clause-exact : goal.returns-in_err-measure-clause-exact
 returns-in_err-measure-clause-exact c =
     let p = err_from_is_err_and c.from_residual-in_err-measure.result c.from_residual-in_err-measure.ensures.1 in
-    let j = c.args.request.job.now in
+    let j = c.args.request.now.job.now in
     let a = job_view c.in_ok-asked.asked in
     let face = c.in_ok-face.face in
-    let is = by_face j c.args.request.text.now c.args.request.font.now a face c.in_ok-asked.ensures c.in_ok-test_job.ensures.exact
+    let is = by_face j c.args.request.now.text.now c.args.request.now.font.now a face c.in_ok-asked.ensures c.in_ok-test_job.ensures.exact
     c.in_ok-face.ensures.exact in
     rw (p.1, p.2, is) (draw_refused (measure_by (grows j) face a) c.in_err-measure.field-0.0
     (rw (c.in_ok-strike.ensures.exact, c.grows.ensures) at c.in_err-measure.ensures.exact))
@@ -69,21 +69,21 @@ returns-in_err-measure-clause-defects c =
     let p = err_from_is_err_and c.from_residual-in_err-measure.result c.from_residual-in_err-measure.ensures.1 in
     let d = c.in_err-measure.field-0.0 in
     let tells = rw c.in_ok-strike.ensures.exact at c.in_err-measure.ensures.defects in
-    rw (p.1, p.2) (asked_defects {V = Measure} c.args.request.job.now c.args.request.text.now c.args.request.font.now
+    rw (p.1, p.2) (asked_defects {V = Measure} c.args.request.now.job.now c.args.request.now.text.now c.args.request.now.font.now
     (job_view c.in_ok-asked.asked) c.in_ok-face.face (Err (call_of_draw d)) c.in_ok-asked.ensures
     c.in_ok-face.ensures.exact c.in_ok-face.ensures.defects (draw_tells _ d tells))
 
 pub returns-clause-exact : goal.returns-clause-exact
 returns-clause-exact c =
-    let is = by_face c.args.request.job.now c.args.request.text.now c.args.request.font.now (job_view c.in_ok-asked.asked) c.in_ok-face.face
+    let is = by_face c.args.request.now.job.now c.args.request.now.text.now c.args.request.now.font.now (job_view c.in_ok-asked.asked) c.in_ok-face.face
     c.in_ok-asked.ensures c.in_ok-test_job.ensures.exact c.in_ok-face.ensures.exact in
     rw is (drawn_too _ _ (rw (c.in_ok-strike.ensures.exact, c.grows.ensures) at c.in_ok-measure.ensures.exact))
 
 pub returns-clause-measure : goal.returns-clause-measure
 returns-clause-measure c =
-    let job = c.args.request.job.now in
-    let text = c.args.request.text.now in
-    let font = c.args.request.font.now in
+    let job = c.args.request.now.job.now in
+    let text = c.args.request.now.text.now in
+    let font = c.args.request.now.font.now in
     let a = job_view c.in_ok-asked.asked in
     let face = c.in_ok-face.face in
     let is = by_face job text font a face c.in_ok-asked.ensures c.in_ok-test_job.ensures.exact c.in_ok-face.ensures.exact in
@@ -93,6 +93,6 @@ returns-clause-measure c =
 
 pub returns-clause-defects : goal.returns-clause-defects
 returns-clause-defects c =
-    asked_defects {V = Measure} c.args.request.job.now c.args.request.text.now c.args.request.font.now (job_view c.in_ok-asked.asked)
+    asked_defects {V = Measure} c.args.request.now.job.now c.args.request.now.text.now c.args.request.now.font.now (job_view c.in_ok-asked.asked)
     c.in_ok-face.face (Ok c.in_ok-measure.measure) c.in_ok-asked.ensures c.in_ok-face.ensures.exact
     c.in_ok-face.ensures.defects (rw c.in_ok-strike.ensures.exact at c.in_ok-measure.ensures.defects)
