@@ -4,7 +4,8 @@ ghost use Rattle.std.specs.Prelude.{◌≡◌, ◌+◌, ◌≤◌, length, rever
 ghost use Rattle.std.specs.Option.{option_map};
 ghost use Rattle.tt_core.specs.Limits.{stack_limit, step_limit};
 ghost use Rattle.tt_exec_points.specs.Zones.{no_zones};
-ghost use Rattle.tt_points_zones.specs.Zones.{zones_view, IsPoint, IsZones, SameShape};
+ghost use Rattle.tt_points_zones.specs.Views.{zones_view};
+ghost use Rattle.tt_points_zones.specs.Zones.{IsPoint, IsZones, SameShape};
 ghost use Rattle.tt_exec_step.specs.Runs.{run_outcome};
 ghost use Rattle.tt_exec_step.specs.Sizes.{SameSizes};
 ghost use Rattle.tt_exec_step.specs.States.{state_of};

@@ -4,7 +4,8 @@ ghost use Rattle.std.specs.Prelude.{◌≡◌, ◌≤◌, IfOk};
 ghost use Rattle.tt_core.specs.Limits.{size_limit};
 ghost use Rattle.tt_core.specs.Scales.{IsScale};
 ghost use Rattle.tt_exec.specs.OneProof.{zones-prop};
-ghost use Rattle.tt_points_zones.specs.Zones.{zones_view, IsZones};
+ghost use Rattle.tt_points_zones.specs.Views.{zones_view};
+ghost use Rattle.tt_points_zones.specs.Zones.{IsZones};
 
 use std::alloc::AllocError;
 use tt_core::Scale;

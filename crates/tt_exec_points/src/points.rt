@@ -2,7 +2,8 @@
 
 ghost use Rattle.std.specs.Prelude.{◌≡◌, ◌^◌, ◌<◌, length, All};
 ghost use Rattle.tt_exec_points.specs.Zones.{no_zones};
-ghost use Rattle.tt_points_zones.specs.Zones.{zones_view, IsPoint, IsZones};
+ghost use Rattle.tt_points_zones.specs.Views.{zones_view};
+ghost use Rattle.tt_points_zones.specs.Zones.{IsPoint, IsZones};
 
 use std::alloc::Global;
 use std::marker::Model;
@@ -18,7 +19,8 @@ pub struct Points {
 }
 
 impl Model for Points {
-    ghost use Rattle.tt_points_zones.specs.Zones.{ZoneLists, zones_view, IsZones};
+    ghost use Rattle.tt_points_zones.specs.Views.{zones_view};
+    ghost use Rattle.tt_points_zones.specs.Zones.{ZoneLists, IsZones};
 
     ghost Value = { ZoneLists };
 

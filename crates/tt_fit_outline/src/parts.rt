@@ -7,7 +7,8 @@ ghost use Rattle.tt_fit_outline.specs.Outline.{phantom_of};
 ghost use Rattle.tt_core.specs.Limits.{size_limit};
 ghost use Rattle.tt_fit_outline.specs.Parts.{begun_parts, control_value, control_values, glyph_state, left_to_glyphs, originals_by, parts_with, pointers_set_back, without_glyph};
 ghost use Rattle.tt_fit_outline.specs.Views.{outline_of, size_view, units_view};
-ghost use Rattle.tt_points_zones.specs.Zones.{zones_view, IsZones};
+ghost use Rattle.tt_points_zones.specs.Views.{zones_view};
+ghost use Rattle.tt_points_zones.specs.Zones.{IsZones};
 
 use crate::glyph_zone::{contours, glyph_zone, untouched};
 use crate::ready_glyph::ReadyGlyph;

@@ -2,7 +2,7 @@
 
 ghost use Rattle.std.specs.Prelude.{◌≡◌, ◌*◌, ◌≤◌, length, IfOk};
 ghost use Rattle.tt_core.specs.Outcomes.{Gives};
-ghost use Rattle.tt_points_zones.specs.Zones.{IsZones, zones_view};
+ghost use Rattle.tt_points_zones.specs.Views.{zones_view};
 ghost use Rattle.tt_points_iup.specs.Interpolation as is;
 ghost use Rattle.tt_points_iup.specs.Readings.{of_contours};
 
@@ -14,9 +14,7 @@ use tt_state::Axis;
 
 /// Does IUP as `iup` does. Returns the count of touches read, at most three for each point. Error: ValueRange.
 pub fn interpolate(zones: &mut Zones, axis: Axis) -> Result<u64, Why>
-    requires { IsZones (zones_view zones.old) }
     ensures exact { Gives (λ n. zones_view zones.new) result (is.iup axis (zones_view zones.old)) }
-    ensures zones { IsZones (zones_view zones.new) }
     ensures count { IfOk result (λ n. n ≡ of_contours axis zones.old.contours.items zones.old.glyph.items) }
     ensures few { IfOk result (λ n. n ≤ 3 * length zones.old.glyph.items) }
 {
@@ -31,9 +29,7 @@ pub fn interpolate(zones: &mut Zones, axis: Axis) -> Result<u64, Why>
 /// touched points on both sides. Phantom points and touches are unchanged. Error: ValueRange for a point that would go
 /// past the limit of coordinates. Apart from `interpolate` (for the prover): its callers have no facts of the count.
 pub fn iup(zones: &mut Zones, axis: Axis) -> Result<(), Why>
-    requires { IsZones (zones_view zones.old) }
     ensures exact { Gives (λ u. zones_view zones.new) result (is.iup axis (zones_view zones.old)) }
-    ensures zones { IsZones (zones_view zones.new) }
 {
     interpolate(zones, axis)?;
     Ok(())

@@ -1,3 +1,2 @@
 pub mod Contours
-pub mod Kept
 pub mod Ranges

@@ -5,7 +5,7 @@ ghost use Rattle.std.specs.Prelude.{◌≡◌, Some, get_or, ◌*◌, ◌+◌, �
 ghost use Rattle.std.specs.Prelude.{IfErr, IfOk, IfSome, length};
 ghost use Rattle.tt_core.specs.Outcomes.{Gives};
 ghost use Rattle.tt_points_loops.specs.Deltas as is;
-ghost use Rattle.tt_points_zones.specs.Zones.{IsZones, zones_view};
+ghost use Rattle.tt_points_zones.specs.Views.{zones_view};
 
 use tt_core::Why;
 use tt_points_zones::{Motion, Zones, may_move};
@@ -136,9 +136,7 @@ pub fn delta_of(by: Deltas, argument: i32, state: &GraphicsState) -> Result<Opti
 
 /// Moves a point of zp0 by `d`. Errors: PointRange, Perpendicular, ValueRange.
 fn move_by(zones: &mut Zones, state: &GraphicsState, d: i32, n: i32) -> Result<(), Why>
-    requires zones { IsZones (zones_view zones.old) }
     ensures exact { Gives (λ u. zones_view zones.new) result (is.move_by (Some d) state.now n (zones_view zones.old)) }
-    ensures zones { IsZones (zones_view zones.new) }
     ensures kept { IfErr result (λ why. zones_view zones.new ≡ zones_view zones.old) }
 {
     let p = zones.point(state.zp0, n)?;
@@ -151,10 +149,8 @@ fn move_by(zones: &mut Zones, state: &GraphicsState, d: i32, n: i32) -> Result<(
 
 /// Moves the point of a pair as its argument requests. Errors: BadArgument, PointRange, Perpendicular, ValueRange.
 fn except(zones: &mut Zones, state: &GraphicsState, by: Deltas, pair: Pair) -> Result<(), Why>
-    requires zones { IsZones (zones_view zones.old) }
     ensures exact { Gives (λ u. zones_view zones.new) result
         (is.except by.tolerance by.range by.ppem state.now (pair.argument, pair.number) (zones_view zones.old)) }
-    ensures zones { IsZones (zones_view zones.new) }
     ensures kept { IfErr result (λ why. zones_view zones.new ≡ zones_view zones.old) }
 {
     match delta_of(by, pair.argument, state)? {
@@ -172,10 +168,8 @@ pub fn deltap(
     by: Deltas,
     pairs: &[i32],
 ) -> Result<(), Why>
-    requires zones { IsZones (zones_view zones.old) }
     ensures exact { Gives (λ u. zones_view zones.new) result
         (is.deltap by.tolerance by.range by.ppem pairs.now (zones_view zones.old) state.now) }
-    ensures zones { IsZones (zones_view zones.new) }
 {
     for i in (0..pairs.len() / 2).rev() {
         match except(zones, state, by, pair_at(pairs, i)) {

@@ -5,7 +5,8 @@ ghost use Rattle.std.specs.Prelude.{◌≡◌, ◌≤◌, Ok, All, IfErr, length
 ghost use Rattle.tt_core.specs.Outcomes.{Gives};
 ghost use Rattle.tt_points_loops.specs.Flipping as is;
 ghost use Rattle.tt_points_loops.specs.Series.{each_from_to};
-ghost use Rattle.tt_points_zones.specs.Zones.{IsPoint, IsZones, zones_view};
+ghost use Rattle.tt_points_zones.specs.Views.{zones_view};
+ghost use Rattle.tt_points_zones.specs.Zones.{IsPoint};
 
 use crate::in_turn::{Change, in_turn};
 use tt_core::Why;
@@ -14,9 +15,7 @@ use tt_state::{GraphicsState, Point, Tolerance, Zone};
 
 /// Flips a point of the glyph between on and off the curve. Error: PointRange.
 pub(crate) fn flip(zones: &mut Zones, n: i32) -> Result<(), Why>
-    requires { IsZones (zones_view zones.old) }
     ensures exact { Gives (λ u. zones_view zones.new) result (is.flip n (zones_view zones.old)) }
-    ensures zones { IsZones (zones_view zones.new) }
     ensures kept { IfErr result (λ why. zones_view zones.new ≡ zones_view zones.old) }
 {
     let p = zones.point(Zone::Glyph, n)?;
@@ -32,10 +31,8 @@ pub fn flippt(
     tolerance: Tolerance,
     numbers: &[i32],
 ) -> Result<(), Why>
-    requires zones { IsZones (zones_view zones.old) }
     ensures exact { Gives (λ u. (zones_view zones.new, state.new)) result
         (is.flippt tolerance numbers.now (zones_view zones.old) state.old) }
-    ensures zones { IsZones (zones_view zones.new) }
 {
     in_turn(zones, state, tolerance, Change::Flip, numbers)
 }
@@ -63,9 +60,7 @@ fn put_all_on(points: &mut [Point], low: usize, past: usize, on: bool)
 /// FLIPRGON[], 0x81, and FLIPRGOFF[], 0x82: low, high -> puts the points of the range on the curve or off it. Both ends
 /// have to exist, in either order. Error: PointRange.
 pub fn flip_range(zones: &mut Zones, low: i32, high: i32, on: bool) -> Result<(), Why>
-    requires { IsZones (zones_view zones.old) }
     ensures exact { Gives (λ u. zones_view zones.new) result (is.flip_range on low high (zones_view zones.old)) }
-    ensures zones { IsZones (zones_view zones.new) }
     ensures kept { IfErr result (λ why. zones_view zones.new ≡ zones_view zones.old) }
 {
     zones.point(Zone::Glyph, high)?;

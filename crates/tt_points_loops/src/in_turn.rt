@@ -6,7 +6,7 @@ ghost use Rattle.tt_core.specs.Outcomes.{Gives};
 ghost use Rattle.tt_points_loops.specs.InTurn as is;
 ghost use Rattle.tt_points_loops.specs.InTurn.{IsChange};
 ghost use Rattle.tt_points_loops.specs.Series.{looped};
-ghost use Rattle.tt_points_zones.specs.Zones.{IsZones, zones_view};
+ghost use Rattle.tt_points_zones.specs.Views.{zones_view};
 
 use crate::flipping::flip;
 use crate::moving::{align, interpolate, push};
@@ -32,10 +32,8 @@ pub(crate) enum Change {
 
 /// Changes a point. Errors: PointRange, Perpendicular, ValueRange.
 fn change_one(zones: &mut Zones, state: &GraphicsState, change: Change, n: i32) -> Result<(), Why>
-    requires zones { IsZones (zones_view zones.old) }
     requires change { IsChange change }
     ensures exact { Gives (λ u. zones_view zones.new) result (is.changed change state.now n (zones_view zones.old)) }
-    ensures zones { IsZones (zones_view zones.new) }
     ensures kept { IfErr result (λ why. zones_view zones.new ≡ zones_view zones.old) }
 {
     match change {
@@ -56,11 +54,9 @@ pub(crate) fn in_turn(
     change: Change,
     numbers: &[i32],
 ) -> Result<(), Why>
-    requires zones { IsZones (zones_view zones.old) }
     requires change { IsChange change }
     ensures exact { Gives (λ u. (zones_view zones.new, state.new)) result
         (looped tolerance (is.changed change state.old) numbers.now (zones_view zones.old) state.old) }
-    ensures zones { IsZones (zones_view zones.new) }
 {
     for i in (0..numbers.len()).rev() {
         match change_one(zones, state, change, numbers[i]) {

@@ -6,7 +6,8 @@ ghost use Rattle.tt_core.specs.Outcomes.{Gives};
 ghost use Rattle.tt_core.specs.Scales.{IsScale};
 ghost use Rattle.tt_points_loops.specs.Moving as is;
 ghost use Rattle.tt_points_zones.specs.Motions as motion;
-ghost use Rattle.tt_points_zones.specs.Zones.{IsPoint, IsZones, zones_view};
+ghost use Rattle.tt_points_zones.specs.Views.{zones_view};
+ghost use Rattle.tt_points_zones.specs.Zones.{IsPoint};
 
 use crate::in_turn::{Change, in_turn};
 use tt_core::{Scale, Why, quotient};
@@ -39,9 +40,7 @@ fn aligned(p: Point, r: Point, state: &GraphicsState) -> Result<Point, Why>
 
 /// Moves a point of zp1 to the current coordinate of rp0. Errors: PointRange, Perpendicular, ValueRange.
 pub(crate) fn align(zones: &mut Zones, state: &GraphicsState, n: i32) -> Result<(), Why>
-    requires { IsZones (zones_view zones.old) }
     ensures exact { Gives (λ u. zones_view zones.new) result (is.align state.now n (zones_view zones.old)) }
-    ensures zones { IsZones (zones_view zones.new) }
     ensures kept { IfErr result (λ why. zones_view zones.new ≡ zones_view zones.old) }
 {
     let p = zones.point(state.zp1, n)?;
@@ -60,10 +59,8 @@ pub fn alignrp(
     tolerance: Tolerance,
     numbers: &[i32],
 ) -> Result<(), Why>
-    requires zones { IsZones (zones_view zones.old) }
     ensures exact { Gives (λ u. (zones_view zones.new, state.new)) result
         (is.alignrp tolerance numbers.now (zones_view zones.old) state.old) }
-    ensures zones { IsZones (zones_view zones.new) }
 {
     in_turn(zones, state, tolerance, Change::Align, numbers)
 }
@@ -141,7 +138,6 @@ fn other_end(
     tolerance: Tolerance,
     a: Point,
 ) -> Result<Point, Why>
-    requires zones { IsZones (zones_view zones.now) }
     requires a { IsPoint a }
     ensures exact { Gives (λ b. b) result (is.other_end tolerance state.now (zones_view zones.now) a) }
     ensures valid { IfOk result IsPoint }
@@ -154,7 +150,6 @@ fn other_end(
 
 /// The measure of the original places among the points of three zones: in 26.6 if one of these is the twilight zone.
 fn originals_among(zones: &Zones, state: &GraphicsState) -> Originals
-    requires { IsZones (zones_view zones.now) }
     ensures scale { result.units ≡ is.scale_among state.now (zones_view zones.now) }
     ensures halves { result.halves ≡ zones.now.originals.halves }
     ensures valid { IfSome result.units IsScale }
@@ -177,10 +172,8 @@ pub(crate) fn interpolate(
     tolerance: Tolerance,
     n: i32,
 ) -> Result<(), Why>
-    requires { IsZones (zones_view zones.old) }
     ensures exact { Gives (λ u. zones_view zones.new) result
         (is.interpolate tolerance state.now n (zones_view zones.old)) }
-    ensures zones { IsZones (zones_view zones.new) }
     ensures kept { IfErr result (λ why. zones_view zones.new ≡ zones_view zones.old) }
 {
     let p = zones.point(state.zp2, n)?;
@@ -204,10 +197,8 @@ pub fn ip(
     tolerance: Tolerance,
     numbers: &[i32],
 ) -> Result<(), Why>
-    requires zones { IsZones (zones_view zones.old) }
     ensures exact { Gives (λ u. (zones_view zones.new, state.new)) result
         (is.ip tolerance numbers.now (zones_view zones.old) state.old) }
-    ensures zones { IsZones (zones_view zones.new) }
 {
     let change = Change::Interpolate(tolerance);
     in_turn(zones, state, tolerance, change, numbers)
@@ -230,10 +221,8 @@ pub(crate) fn push(
     by: Distance,
     n: i32,
 ) -> Result<(), Why>
-    requires zones { IsZones (zones_view zones.old) }
     requires small { unsigned_abs by.0 ≤ 2 ^ 32 }
     ensures exact { Gives (λ u. zones_view zones.new) result (is.push by.0 state.now n (zones_view zones.old)) }
-    ensures zones { IsZones (zones_view zones.new) }
     ensures kept { IfErr result (λ why. zones_view zones.new ≡ zones_view zones.old) }
 {
     let p = zones.point(state.zp2, n)?;
@@ -251,10 +240,8 @@ pub fn shpix(
     numbers: &[i32],
     amount: i32,
 ) -> Result<(), Why>
-    requires zones { IsZones (zones_view zones.old) }
     ensures exact { Gives (λ u. (zones_view zones.new, state.new)) result
         (is.shpix tolerance numbers.now amount (zones_view zones.old) state.old) }
-    ensures zones { IsZones (zones_view zones.new) }
 {
     let by = Distance(i64::from(amount));
     in_turn(zones, state, tolerance, Change::Push(by), numbers)

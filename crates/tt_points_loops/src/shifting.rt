@@ -6,7 +6,8 @@ ghost use Rattle.tt_core.specs.Outcomes.{Gives};
 ghost use Rattle.tt_points_loops.specs.Series.{each_from_to};
 ghost use Rattle.tt_points_loops.specs.Shifting as is;
 ghost use Rattle.tt_points_zones.specs.Points.{points_in};
-ghost use Rattle.tt_points_zones.specs.Zones.{AreContours, IsPoint, IsZones, zones_view};
+ghost use Rattle.tt_points_zones.specs.Views.{zones_view};
+ghost use Rattle.tt_points_zones.specs.Zones.{AreContours, IsPoint};
 ghost use Rattle.tt_state.specs.Tolerance.{is_missing};
 ghost use Rattle.tt_state.specs.declared.graphics_state.Zone.TheVariants as zone;
 
@@ -46,7 +47,6 @@ pub fn reference_number(state: &GraphicsState, which: ReferencePoint) -> i32
 
 /// The reference point itself. Error: PointRange.
 fn reference(zones: &Zones, state: &GraphicsState, which: ReferencePoint) -> Result<Point, Why>
-    requires { IsZones (zones_view zones.now) }
     ensures exact { Gives (λ p. p) result (is.reference which state.now (zones_view zones.now)) }
     ensures valid { IfOk result IsPoint }
     ensures sign { IfOk result (λ p. pos 0 ≤ℤ is.reference_number which state.now) }
@@ -79,10 +79,8 @@ pub(crate) fn shift(
     before: Result<Point, Why>,
     n: i32,
 ) -> Result<(), Why>
-    requires zones { IsZones (zones_view zones.old) }
     requires before { IfOk before IsPoint }
     ensures exact { Gives (λ u. zones_view zones.new) result (is.shift state.now before n (zones_view zones.old)) }
-    ensures zones { IsZones (zones_view zones.new) }
     ensures kept { IfErr result (λ why. zones_view zones.new ≡ zones_view zones.old) }
 {
     let p = zones.point(state.zp2, n)?;
@@ -101,10 +99,8 @@ pub fn shp(
     which: ReferencePoint,
     numbers: &[i32],
 ) -> Result<(), Why>
-    requires zones { IsZones (zones_view zones.old) }
     ensures exact { Gives (λ u. (zones_view zones.new, state.new)) result
         (is.shp tolerance which numbers.now (zones_view zones.old) state.old) }
-    ensures zones { IsZones (zones_view zones.new) }
 {
     let before = reference(zones, state, which);
     in_turn(zones, state, tolerance, Change::Follow(before), numbers)
@@ -175,11 +171,9 @@ fn shift_range(
     range: Range,
     touch: bool,
 ) -> Result<(), Why>
-    requires zones { IsZones (zones_view zones.old) }
     requires past { range.past ≤ length (points_in range.zone (zones_view zones.old)) }
     ensures exact { Gives (λ u. zones_view zones.new) result
         (is.shift_range touch which range.zone (range.first, range.past) (zones_view zones.old) state.now) }
-    ensures zones { IsZones (zones_view zones.new) }
     ensures kept { IfErr result (λ why. is_missing why ≡ true → zones_view zones.new ≡ zones_view zones.old) }
 {
     let reference = reference(zones, state, which)?;
@@ -213,7 +207,6 @@ fn contour_at(contours: &[(u32, u32)], c: i32) -> Result<(usize, usize), Why>
 
 /// The range of points of a contour of a zone. The twilight zone is contour 0 (profile). Error: ContourRange.
 fn contour_in(zones: &Zones, zone: Zone, c: i32) -> Result<Range, Why>
-    requires { IsZones (zones_view zones.now) }
     ensures exact { Gives (λ r. (r.first, r.past)) result (is.contour_in zone c (zones_view zones.now)) }
     ensures zone { IfOk result (λ r. r.zone ≡ zone) }
     ensures past { IfOk result (λ r. r.past ≤ length (points_in zone (zones_view zones.now))) }
@@ -240,9 +233,7 @@ pub fn shc(
     which: ReferencePoint,
     contour: i32,
 ) -> Result<(), Why>
-    requires zones { IsZones (zones_view zones.old) }
     ensures exact { Gives (λ u. zones_view zones.new) result (is.shc which contour (zones_view zones.old) state.now) }
-    ensures zones { IsZones (zones_view zones.new) }
     ensures kept { IfErr result (λ why. is_missing why ≡ true → zones_view zones.new ≡ zones_view zones.old) }
 {
     let range = contour_in(zones, state.zp2, contour)?;
@@ -262,7 +253,6 @@ fn contours_end(contours: &[(u32, u32)]) -> usize
 
 /// The points of a zone without its phantom points.
 fn outline_in(zones: &Zones, zone: Zone) -> Range
-    requires { IsZones (zones_view zones.now) }
     ensures exact { (result.first, result.past) ≡ is.outline_in zone (zones_view zones.now) }
     ensures zone { result.zone ≡ zone }
     ensures past { result.past ≤ length (points_in zone (zones_view zones.now)) }
@@ -288,9 +278,7 @@ pub fn shz(
     which: ReferencePoint,
     zone: i32,
 ) -> Result<(), Why>
-    requires zones { IsZones (zones_view zones.old) }
     ensures exact { Gives (λ u. zones_view zones.new) result (is.shz which zone (zones_view zones.old) state.now) }
-    ensures zones { IsZones (zones_view zones.new) }
     ensures kept { IfErr result (λ why. is_missing why ≡ true → zones_view zones.new ≡ zones_view zones.old) }
 {
     let zone = zone_of(zone)?;

@@ -3,7 +3,8 @@
 ghost use Rattle.std.specs.Prelude.{◌<◌, ◌≤◌, ◌^◌, All, length, unsigned_abs, IfSome};
 ghost use Rattle.tt_core.specs.Limits.{coordinate_limit, size_limit};
 ghost use Rattle.tt_core.specs.Scales.{IsScale};
-ghost use Rattle.tt_points_zones.specs.Zones.{AreContours, IsPoint, IsZones, zones_view};
+ghost use Rattle.tt_points_zones.specs.Views.{zones_view};
+ghost use Rattle.tt_points_zones.specs.Zones.{AreContours, IsPoint, IsZones};
 
 use std::alloc::Global;
 use tt_core::{COORDINATE_LIMIT, Halves, SIZE_LIMIT, Scale};

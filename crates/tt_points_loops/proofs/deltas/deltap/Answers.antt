@@ -1,5 +1,5 @@
 use Rattle.std.proofs.Common.{◌≡◌, ◌∙◌, ◌+◌, ◌*◌, ◌-◌, ◌/◌, ◌<◌, ◌≤◌, Ok, Err, refl, sym, length, get_or, pos, arith, take_all}
-use Rattle.tt_points_zones.specs.Zones.{zones_view}
+use Rattle.tt_points_zones.specs.Views.{zones_view}
 use Rattle.tt_points_loops.specs.Deltas.{except, pairs_of}
 use Rattle.tt_points_loops.specs.Series.{passing_over}
 use Rattle.tt_points_loops.specs.Turns.{went_on, broke_off, pairs_count}
@@ -9,7 +9,7 @@ pub loop-i-init : goal.loop-i-init
 loop-i-init c =
     let pairs = c.args.pairs.now in
     let few : length (pairs_of c.args.pairs.now) ≤ length c.args.pairs.now / 2 = omega (arith, pairs_count pairs) in
-    record { same = rw (take_all (length pairs / 2) (pairs_of pairs) few) refl; zones = c.requires.zones }
+    record { same = rw (take_all (length pairs / 2) (pairs_of pairs) few) refl }
 
 pub loop-i-preserved-in-Ok : goal.loop-i-preserved-in-Ok
 loop-i-preserved-in-Ok c =
@@ -25,7 +25,6 @@ loop-i-preserved-in-Ok c =
     record {
       same = went_on step (pairs_of pairs) c.loop-i.i i (pos 0, pos 0) _ _ _
           left there c.loop-i.invariant.same came;
-      zones = c.in-Ok.ensures.zones;
     }
 
 pub loop-i-preserved : goal.loop-i-preserved
@@ -43,7 +42,6 @@ loop-i-preserved c =
     record {
       same = went_on step (pairs_of pairs) c.loop-i.i i (pos 0, pos 0) _ _ _
           left there c.loop-i.invariant.same came;
-      zones = c.in-Err.ensures.zones;
     }
 
 pub returns-in-Err-2-clause-exact : goal.returns-in-Err-2-clause-exact

@@ -1,8 +1,7 @@
-use Rattle.std.proofs.Common.{◌∙◌, refl, SFits, w32}
+use Rattle.std.proofs.Common.{◌∙◌, refl, subst, sym, SFits, w32}
 use Rattle.std.proofs.lemmas.Int.{to_z-of_z}
 use Rattle.std.proofs.lemmas.List.{with_items_is}
-use Rattle.tt_points_zones.specs.Zones.{zones_view}
-use Rattle.tt_points_loops.proofs.Kept.{glyph_kept}
+use Rattle.tt_points_zones.specs.Zones.{AreContours}
 use Rattle.tt_points_loops.proofs.flipping.flip_range.Goals as goal
 
 pub returns-clause-exact : goal.returns-clause-exact
@@ -16,10 +15,10 @@ returns-clause-exact c =
     let made = simp to_z-of_z at (rw c.deref_mut.ensures.value at c.put_all_on.ensures.exact) in
     rw (written, last, first, made) refl
 
-pub returns-clause-zones : goal.returns-clause-zones
-returns-clause-zones c =
+-- the contours fit a glyph with as many points
+pub invariant_of-zones-clause-ranges : goal.invariant_of-zones-clause-ranges
+invariant_of-zones-clause-ranges c =
     let same = rw c.deref_mut.ensures.value at c.put_all_on.ensures.count in
     let written = with_items_is c.args.zones.now.glyph c.put_all_on.new.points
     (c.put_all_on.ensures.count ∙ c.deref_mut.ensures.len) in
-    rw written
-    (glyph_kept (zones_view c.args.zones.now) c.put_all_on.new.points c.requires c.put_all_on.ensures.valid same)
+    rw written (subst (AreContours 0 c.args.zones.now.contours.items) (sym same) c.args.zones.now.ranges)

@@ -1,7 +1,7 @@
 use Rattle.std.proofs.Common.{◌≡◌, reverse, take}
 use Rattle.tt_points_loops.specs.InTurn.{changed}
 use Rattle.tt_points_loops.specs.Series.{one_by_one, passing_over}
-use Rattle.tt_points_zones.specs.Zones.{IsZones, zones_view}
+use Rattle.tt_points_zones.specs.Views.{zones_view}
 use Rattle.tt_points_loops.proofs.in_turn.in_turn.Given as goal
 
 -- the remaining steps, applied to the present state, give the whole result
@@ -11,5 +11,4 @@ invariant-loop-i l = record {
       (zones_view l.zones)
       ≡ one_by_one (passing_over l.tolerance (changed l.change l.state)) (reverse l.numbers)
       (zones_view l.fn.zones);
-  zones : IsZones (zones_view l.zones);
 }

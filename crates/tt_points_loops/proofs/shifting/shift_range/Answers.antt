@@ -1,14 +1,13 @@
-use Rattle.std.proofs.Common.{◌∙◌}
+use Rattle.std.proofs.Common.{◌∙◌, subst, sym}
 use Rattle.std.proofs.lemmas.List.{with_items_is}
-use Rattle.tt_points_zones.specs.Zones.{zones_view}
-use Rattle.tt_points_loops.proofs.Kept.{glyph_kept}
+use Rattle.tt_points_zones.specs.Zones.{AreContours}
 use Rattle.tt_points_loops.proofs.shifting.shift_range.Goals as goal
 
-pub returns-in-Glyph-clause-zones : goal.returns-in-Glyph-clause-zones
-returns-in-Glyph-clause-zones c =
+-- the contours fit a glyph with as many points
+pub invariant_of-zones-in-Glyph-clause-ranges : goal.invariant_of-zones-in-Glyph-clause-ranges
+invariant_of-zones-in-Glyph-clause-ranges c =
     let wrote = c.lead-in-Glyph.ensures in
     let same = rw c.deref_mut-in-Glyph.ensures.value at wrote.count in
     let written = with_items_is c.args.zones.now.glyph c.lead-in-Glyph.new.points
     (wrote.count ∙ c.deref_mut-in-Glyph.ensures.len) in
-    rw written
-    (glyph_kept (zones_view c.args.zones.now) c.lead-in-Glyph.new.points c.requires.zones wrote.valid same)
+    rw written (subst (AreContours 0 c.args.zones.now.contours.items) (sym same) c.args.zones.now.ranges)
