@@ -1,5 +1,5 @@
 -- The definitions' views of the code's values.
-use Rattle.std.specs.Prelude.{ℕ, List}
+use Rattle.std.specs.Prelude.{ℕ}
 use Rattle.tt_glyf.specs.declared.composite.Program as program
 use Rattle.tt_glyf.specs.declared.composite.RecordList as record_list
 use Rattle.tt_glyf.specs.declared.component.Transform as transform
