@@ -19,6 +19,12 @@ quotient_within (negsuc a) b m high low =
 pub times_one_or_more : (d m : ℕ) → 0 < d → m ≤ d * m
 times_one_or_more d m h = grind arith
 
+pub nearest_within : (n d : ℤ) → pos 0 <ℤ d → unsigned_abs (nearest_quotient n d) ≤ unsigned_abs n
+nearest_within n (pos d) h =
+    let more = times_one_or_more d (unsigned_abs n) (omega (arith, ints)) in
+    quotient_within (pos 2 *ℤ n +ℤ pos d) (2 * d) (unsigned_abs n) (omega (arith, ints)) (omega (arith, ints))
+nearest_within n (negsuc d) h = absurd (omega (arith, ints))
+
 -- in magnitude, a quotient is at most `most` if the numerator is at most `most` times the denominator
 pub nearest_at_most : (n d : ℤ) (most : ℕ) → pos 0 <ℤ d → unsigned_abs n ≤ unsigned_abs d * most
     → unsigned_abs (nearest_quotient n d) ≤ most

@@ -6,14 +6,23 @@ use Rattle.std.proofs.lemmas.List.Elements.{All-rest}
 use Rattle.tt_core.specs.Chains.{came-through}
 use Rattle.tt_core.specs.Faults.{Fault}
 use Rattle.tt_core.specs.Outcomes.{◌>>=◌}
+use Rattle.tt_glyf.specs.declared.coordinates.DeltaAxis.{DeltaAxis}
+use Rattle.tt_glyf.specs.declared.coordinates.DeltaAxis.TheVariants as axis
 use Rattle.tt_glyf.specs.declared.raw.RawPoint.{RawPoint}
 use Rattle.tt_glyf.specs.Bytes.{GlyphBytes, Listing, after}
 use Rattle.tt_glyf.specs.Coordinates.{AxisFlags, Coordinate, coordinate_at, coordinates_from, coordinates_of, origin, x_axis, y_axis}
 use Rattle.tt_glyf.specs.Flags.{flags_of}
 use Rattle.tt_glyf.specs.Format.{has, on_curve_point}
 use Rattle.tt_glyf.specs.Simple.{points_from, points_of}
-use Rattle.tt_glyf.specs.InPlace.{all_held, held, held_flag, held_of, HoldsFlag, placed_from, placed_of, put_x, put_y, with_x, with_y}
+use Rattle.tt_glyf.specs.InPlace.{all_held, held, held_flag, held_of, HoldsFlag, placed_from, placed_of, put_along, put_x, put_y}
 use Rattle.tt_glyf.proofs.Chains.{after-after, came-after}
+
+-- points after their x, or their y, are put in
+abbrev with_x : GlyphBytes → List RawPoint → ℕ → Result (Listing RawPoint) Fault
+with_x g points at = placed_from g x_axis put_x points (origin at)
+
+abbrev with_y : GlyphBytes → List RawPoint → ℕ → Result (Listing RawPoint) Fault
+with_y g points at = placed_from g y_axis put_y points (origin at)
 
 pub turn : (g : GlyphBytes) (a : AxisFlags) (put : RawPoint → ℤ → RawPoint) (before ps : List RawPoint) (i : ℕ)
     (d : RawPoint)
@@ -116,6 +125,10 @@ others-hold ps i v below all =
     let one : i < i + 1 = omega arith in
     rw (drop-set-lt (i + 1) ps i v one) (All-rest HoldsFlag (get_or ps i (held 0)) (drop (i + 1) ps) (drop i ps)
     (drop_more ps i (held 0) below) all)
+
+-- a point still holds its flag after its x is put in
+pub still-holds : (a : DeltaAxis) (p : RawPoint) (v : ℤ) → a ≡ axis.X → HoldsFlag p → HoldsFlag (put_along a p v)
+still-holds a p v is holds = rw is holds
 
 -- as many coordinates as flags
 coordinates-many : (g : GlyphBytes) (a : AxisFlags) (flags : List ℕ) (before : Coordinate) (read : Listing ℤ)

@@ -3,6 +3,8 @@
 use Rattle.std.specs.Prelude.{◌≡◌, ℕ, ◌<◌, ℤ, pos, unsigned_abs, List, [], ◌∷◌, map, Result, Ok}
 use Rattle.tt_core.specs.Faults.{Fault}
 use Rattle.tt_core.specs.Outcomes.{◌>>=◌}
+use Rattle.tt_glyf.specs.declared.coordinates.DeltaAxis.{DeltaAxis}
+use Rattle.tt_glyf.specs.declared.coordinates.DeltaAxis.TheVariants as axis
 use Rattle.tt_glyf.specs.declared.raw.RawPoint.{RawPoint}
 use Rattle.tt_glyf.specs.Bytes.{GlyphBytes, Listing, after}
 use Rattle.tt_glyf.specs.Coordinates.{AxisFlags, Coordinate, coordinate_at, origin, x_axis, y_axis}
@@ -43,16 +45,23 @@ placed_from g a put (p ∷ ps) before = do
   c ← coordinate_at g a (held_flag p) before
   after (put p c.value ∷ []) (placed_from g a put ps c)
 
-abbrev pub with_x : GlyphBytes → List RawPoint → ℕ → Result (Listing RawPoint) Fault
-with_x g points at = placed_from g x_axis put_x points (origin at)
+-- the flags of the deltas along an axis, and where their sums are put
+abbrev pub flags_along : DeltaAxis → AxisFlags
+flags_along axis.X = x_axis
+flags_along axis.Y = y_axis
 
-abbrev pub with_y : GlyphBytes → List RawPoint → ℕ → Result (Listing RawPoint) Fault
-with_y g points at = placed_from g y_axis put_y points (origin at)
+abbrev pub put_along : DeltaAxis → RawPoint → ℤ → RawPoint
+put_along axis.X = put_x
+put_along axis.Y = put_y
+
+-- points that hold flags, after their coordinates along an axis are put in
+abbrev pub along : GlyphBytes → DeltaAxis → Listing RawPoint → Result (Listing RawPoint) Fault
+along g a list = placed_from g (flags_along a) (put_along a) list.items (origin list.next)
 
 -- equal to points_of
 unfoldable pub placed_of : GlyphBytes → ℕ → ℕ → Result (List RawPoint) Fault
 placed_of g at points = do
   begun ← held_of g at points
-  xs ← with_x g begun.items begun.next
-  ys ← with_y g xs.items xs.next
+  xs ← along g axis.X begun
+  ys ← along g axis.Y xs
   Ok ys.items

@@ -1,5 +1,5 @@
 -- The definitions' views of the code's values.
-use Rattle.std.specs.Prelude.{ℕ, List}
+use Rattle.std.specs.Prelude.{ℕ}
 use Rattle.tt_glyf.specs.declared.composite.Program as program
 use Rattle.tt_glyf.specs.declared.composite.RecordList as record_list
 use Rattle.tt_glyf.specs.declared.component.Transform as transform
@@ -34,10 +34,6 @@ sum_of s = record { value = s.value; next = s.next }
 
 abbrev pub coordinate_of : coordinate.Coordinate → Coordinate
 coordinate_of c = record { value = c.value; next = c.next }
-
--- points after their coordinates along an axis are put in, and the offset after these coordinates
-abbrev pub placed_listing : List RawPoint → ℕ → Listing RawPoint
-placed_listing points next = record { items = points; next = next }
 
 abbrev pub ends_listing : end_list.EndList → Listing ℕ
 ends_listing e = record { items = e.ends.items; next = e.next }

@@ -3,11 +3,12 @@
 ghost use Rattle.std.specs.Prelude.{◌≡◌, ◌+◌, ◌<◌, ◌≤◌, length, unsigned_abs, ◌+ℤ◌, All, IsTrue, IfOk, IfErr, OnOk};
 ghost use Rattle.tt_core.specs.Outcomes.{Gives};
 ghost use Rattle.tt_glyf.specs.Coordinates.{short_delta, delta_at, summed, within_words, coordinate_at};
-ghost use Rattle.tt_glyf.specs.Views.{axis_of, delta_of, sum_of, coordinate_of, placed_listing};
-ghost use Rattle.tt_glyf.specs.InPlace.{HoldsFlag, with_x, with_y};
+ghost use Rattle.tt_glyf.specs.declared.coordinates.DeltaAxis.TheVariants.{X};
+ghost use Rattle.tt_glyf.specs.Views.{axis_of, delta_of, sum_of, coordinate_of, held_listing};
+ghost use Rattle.tt_glyf.specs.InPlace.{HoldsFlag, along, flags_along, put_along};
 
 use crate::bytes::GlyphBytes;
-use crate::flags::{PointFlags, has_flag, held_flag};
+use crate::flags::{FlagList, PointFlags, has_flag, held_flag};
 use crate::format::WORD_SIZE;
 use crate::raw::RawPoint;
 use tt_core::{Fault, Why};
@@ -28,6 +29,36 @@ const Y_AXIS: AxisFlags = AxisFlags {
     short: PointFlags::Y_SHORT_VECTOR,
     same: PointFlags::Y_IS_SAME_OR_POSITIVE,
 };
+
+/// The axis of a coordinate.
+#[derive(Clone, Copy)]
+pub(crate) enum DeltaAxis {
+    X,
+    Y,
+}
+
+impl DeltaAxis {
+    #[inline(always)]
+    fn flags(self) -> AxisFlags
+        ensures { axis_of result ≡ flags_along self }
+    {
+        match self {
+            DeltaAxis::X => X_AXIS,
+            DeltaAxis::Y => Y_AXIS,
+        }
+    }
+
+    /// A point with this coordinate along the axis.
+    #[inline(always)]
+    fn put(self, point: RawPoint, value: i16) -> RawPoint
+        ensures { result ≡ put_along self point value }
+    {
+        match self {
+            DeltaAxis::X => RawPoint { x: value, ..point },
+            DeltaAxis::Y => RawPoint { y: value, ..point },
+        }
+    }
+}
 
 /// A delta, and the offset after it.
 #[derive(Clone, Copy)]
@@ -130,37 +161,29 @@ impl Coordinate {
     }
 }
 
-/// Sets the x of points that hold their flags. Returns the offset of the y deltas. Errors: GlyphShort, CoordRange.
-#[inline(never)]
-#[tactic(auto, using(crate::proofs::InPlace::turn, crate::proofs::InPlace::breaks, crate::proofs::InPlace::done))]
-pub(crate) fn read_x(glyph: &GlyphBytes, points: &mut [RawPoint], at: usize) -> Result<usize, Fault>
-    requires place { at ≤ length glyph.now.bytes }
-    requires held { All HoldsFlag points.old }
-    ensures exact { Gives (placed_listing points.new) result (with_x glyph.now points.old at) }
-    ensures held { OnOk result (All HoldsFlag points.new) }
-    ensures room { IfOk result (λ n. n ≤ length glyph.now.bytes) }
-{
-    let mut last = Coordinate { value: 0, next: at };
-    for i in 0..points.len() {
-        last = last.after(glyph, X_AXIS, held_flag(points[i]))?;
-        points[i].x = last.value;
+impl FlagList {
+    /// Reads the coordinates along an axis into the points. A y takes the place of its point's flag. Errors: GlyphShort,
+    /// CoordRange.
+    #[inline(never)]
+    #[tactic(auto, using(crate::proofs::InPlace::turn, crate::proofs::InPlace::breaks, crate::proofs::InPlace::done))]
+    pub(crate) fn read_along(&mut self, glyph: &GlyphBytes, axis: DeltaAxis) -> Result<(), Fault>
+        requires place { self.old.next ≤ length glyph.now.bytes }
+        requires held { All HoldsFlag self.old.points.items }
+        ensures exact { Gives (λ _. held_listing self.new) result (along glyph.now axis (held_listing self.old)) }
+        ensures held { OnOk result (axis ≡ X → All HoldsFlag self.new.points.items) }
+        ensures room { OnOk result (self.new.next ≤ length glyph.now.bytes) }
+    {
+        let flags = axis.flags();
+        let mut last = Coordinate {
+            value: 0,
+            next: self.next,
+        };
+        for i in 0..self.points.len() {
+            let point = self.points[i];
+            last = last.after(glyph, flags, held_flag(point))?;
+            self.points[i] = axis.put(point, last.value);
+        }
+        self.next = last.next;
+        Ok(())
     }
-    Ok(last.next)
-}
-
-/// Sets the y of points, in place of the flags that they hold. Returns the offset after the deltas. Errors:
-/// GlyphShort, CoordRange.
-#[inline(never)]
-#[tactic(auto, using(crate::proofs::InPlace::turn, crate::proofs::InPlace::breaks, crate::proofs::InPlace::done))]
-pub(crate) fn read_y(glyph: &GlyphBytes, points: &mut [RawPoint], at: usize) -> Result<usize, Fault>
-    requires place { at ≤ length glyph.now.bytes }
-    requires held { All HoldsFlag points.old }
-    ensures exact { Gives (placed_listing points.new) result (with_y glyph.now points.old at) }
-{
-    let mut last = Coordinate { value: 0, next: at };
-    for i in 0..points.len() {
-        last = last.after(glyph, Y_AXIS, held_flag(points[i]))?;
-        points[i].y = last.value;
-    }
-    Ok(last.next)
 }

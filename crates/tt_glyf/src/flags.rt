@@ -83,12 +83,11 @@ pub(crate) fn held_flag(point: RawPoint) -> u8
     point.y as u8
 }
 
-/// The points, each with its flag, and the offset after the flags.
+/// Points that are read, each with its flag until its y is there, and the offset after what is read.
 #[derive(Drop)]
 pub(crate) struct FlagList {
     /// A repeated flag occurs here once for each of its points.
     pub(crate) points: Vec<RawPoint>,
-    /// The offset of the x coordinates in the glyph.
     pub(crate) next: usize,
 }
 

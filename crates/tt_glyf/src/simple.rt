@@ -4,14 +4,13 @@ ghost use Rattle.std.specs.Prelude.{◌≡◌, ◌+◌, ◌*◌, ◌^◌, ◌<�
 ghost use Rattle.tt_core.specs.Limits.{point_limit};
 ghost use Rattle.tt_core.specs.Outcomes.{Gives, FontGives};
 ghost use Rattle.tt_glyf.specs.Format.{end_place, header_size, word_size};
-ghost use Rattle.tt_glyf.specs.InPlace.{placed_of};
 ghost use Rattle.tt_glyf.specs.Meaning.{HasArguments, IfComposite};
 ghost use Rattle.tt_glyf.specs.Raw.{raw_view};
 ghost use Rattle.tt_glyf.specs.Simple.{end_at, ends_of, points_of, simple_of};
 ghost use Rattle.tt_glyf.specs.Views.{ends_listing};
 
 use crate::bytes::GlyphBytes;
-use crate::coordinates::{read_x, read_y};
+use crate::coordinates::DeltaAxis;
 use crate::flags::read_flags;
 use crate::format::{HEADER_SIZE, WORD_SIZE};
 use crate::raw::{Raw, RawPoint};
@@ -61,27 +60,15 @@ fn read_ends(glyph: &GlyphBytes, contours: usize) -> Result<EndList, FontFault>
 }
 
 /// The `count` points from an offset on, read in one list. Errors: those of flags and coordinates, Memory.
-#[tactic(auto, unfolding(crate::specs::InPlace::placed_of))]
-fn placed_points(glyph: &GlyphBytes, at: usize, count: usize) -> Result<Vec<RawPoint>, FontFault>
-    requires place { at ≤ length glyph.now.bytes }
-    requires few { count ≤ point_limit }
-    ensures exact { FontGives (λ p. p.items) result (placed_of glyph.now at count) }
-{
-    let list = read_flags(glyph, at, count)?;
-    let mut points = list.points;
-    let after_x = read_x(glyph, &mut points, list.next)?;
-    read_y(glyph, &mut points, after_x)?;
-    Ok(points)
-}
-
-/// The `count` points from an offset on. Errors: those of `placed_points`. Apart from `placed_points` (for the prover):
-/// a lemma shows that its points are those of the definition.
 fn read_points(glyph: &GlyphBytes, at: usize, count: usize) -> Result<Vec<RawPoint>, FontFault>
     requires place { at ≤ length glyph.now.bytes }
     requires few { count ≤ point_limit }
     ensures exact { FontGives (λ p. p.items) result (points_of glyph.now at count) }
 {
-    placed_points(glyph, at, count)
+    let mut list = read_flags(glyph, at, count)?;
+    list.read_along(glyph, DeltaAxis::X)?;
+    list.read_along(glyph, DeltaAxis::Y)?;
+    Ok(list.points)
 }
 
 impl<'a> GlyphBytes<'a> {
