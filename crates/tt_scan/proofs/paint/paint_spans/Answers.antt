@@ -1,5 +1,6 @@
-use Rattle.std.proofs.Common.{◌≡◌, ◌+ℤ◌, ◌-ℤ◌, nat_lt, pos, SFits, w64, rules, arith}
+use Rattle.std.proofs.Common.{◌≡◌, ◌∙◌, ◌||◌, ◌&&◌, Bool, true, false, refl, ◌+ℤ◌, ◌-ℤ◌, nat_lt, pos, SFits, w64, rules, arith}
 use Rattle.std.proofs.lemmas.Int.{ints, to_z-of_z}
+use Rattle.std.proofs.lemmas.List.{drop_all}
 use Rattle.tt_core.specs.Bits.{bit}
 use Rattle.tt_scan_edges.proofs.Visits.{span_more}
 use Rattle.tt_scan.proofs.paint.paint_spans.Goals as goal
@@ -16,5 +17,17 @@ loop-i-preserved c =
       len = search rules;
     }
 
+nothing_more : (b w : Bool) → b ≡ (b || (w && false))
+nothing_more true w = refl
+nothing_more false true = refl
+nothing_more false false = refl
+
 pub returns : goal.returns
-returns c = record { bits = search rules; len = search rules }
+returns c =
+    let shift : SFits w64 c.args.shift = c.ranges.shift in
+    record {
+      bits = λ k.
+          let all = simp to_z-of_z at (c.loop-i.invariant.bits k) in
+          nothing_more (bit c.loop-i.row k) (nat_lt k c.args.width) ∙ (rw (drop_all c.loop-i.i c.args.spans.now c.loop-i-test.false) at all);
+      len = c.loop-i.invariant.len;
+    }

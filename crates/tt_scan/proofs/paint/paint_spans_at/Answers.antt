@@ -1,5 +1,6 @@
 use Rattle.std.proofs.Common.{◌∙◌, nat_lt, SFits, w64, rules}
 use Rattle.std.proofs.lemmas.Int.{to_z-of_z}
+use Rattle.std.proofs.lemmas.List.{take_all}
 use Rattle.tt_core.specs.Bits.{bit}
 use Rattle.tt_scan.proofs.Pens.{one_pen_painted}
 use Rattle.tt_scan.proofs.paint.paint_spans_at.Goals as goal
@@ -18,4 +19,7 @@ loop-pen-preserved c =
     }
 
 pub returns : goal.returns
-returns c = record { bits = search rules; len = search rules }
+returns c = record {
+  bits = λ k. rw (take_all c.loop-pen.pen-index c.args.pens.now c.loop-pen-test.false) at (c.loop-pen.invariant.bits k);
+  len = c.loop-pen.invariant.len;
+}

@@ -1,4 +1,5 @@
-use Rattle.std.proofs.Common.{◌∙◌, nat_lt, refl, rules}
+use Rattle.std.proofs.Common.{◌∙◌, nat_lt, refl}
+use Rattle.std.proofs.lemmas.List.{take_all}
 use Rattle.tt_core.specs.Bits.{bit}
 use Rattle.tt_scan.proofs.Pens.{no_spans, none_painted, one_span_painted}
 use Rattle.tt_scan.proofs.stamp.paint_each.Goals as goal
@@ -19,4 +20,7 @@ loop-i-preserved c = record {
 }
 
 pub returns : goal.returns
-returns c = record { bits = search rules; len = search rules }
+returns c = record {
+  bits = λ k. rw (take_all c.loop-i.i c.args.spans.now c.loop-i-test.false) at (c.loop-i.invariant.bits k);
+  len = c.loop-i.invariant.len;
+}

@@ -1,4 +1,4 @@
-use Rattle.std.proofs.Common.{◌≡◌, ◌≤◌, ◌∙◌, ap, refl, ℕ, Bool, ◌||◌, ◌+◌, ◌-◌, ◌*◌, pos, ◌+ℤ◌, ◌-ℤ◌, length, drop, SFits, w32, w64, rules, arith}
+use Rattle.std.proofs.Common.{◌≡◌, ◌≤◌, ◌∙◌, ap, refl, ℕ, Bool, ◌||◌, ◌+◌, ◌-◌, ◌*◌, pos, ◌+ℤ◌, ◌-ℤ◌, length, drop, take, SFits, w32, w64, rules, arith}
 use Rattle.std.proofs.lemmas.Int.{ints, to_z-of_z}
 use Rattle.std.proofs.lemmas.List.{length-drop, length-take-le}
 use Rattle.tt_core.specs.Bits.{bit, stride}
@@ -59,7 +59,7 @@ returns-clause-black c = λ column row inside.
     let part : count ≤ length (drop start bits) = omega (arith, long, length-drop start bits) in
     let filled = c.paint.ensures.len ∙ length-take-le count (drop start bits) part in
     row_inked w (λ x y. is_black c.args.tape.now.edges (centre x) (centre y)) c.args.r start count bits
-    c.paint.new.row column row c.requires.within at bytes (omega (arith, long)) filled (λ k. painted k ∙ ap (λ (b : Bool). bit _ k || b)
+    c.paint.new.row column row c.requires.within at bytes (omega (arith, long)) filled (λ k. painted k ∙ ap (λ (b : Bool). bit (take count (drop start bits)) k || b)
     (row_painted w tape.frame tape.edges c.cut.new.self.spans c.args.r k c.requires.window fits black)) inside
 
 pub returns-clause-crosses : goal.returns-clause-crosses
