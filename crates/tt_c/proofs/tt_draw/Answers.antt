@@ -1,4 +1,0 @@
-use Rattle.tt_c.proofs.tt_draw.Goals as goal
-
-pub returns-clause-draws : goal.returns-clause-draws
-returns-clause-draws c = c.draw_band.ensures
