@@ -115,7 +115,6 @@ fn phantom_point(units: (i32, i32), was: (i32, i32), now: (i32, i32)) -> Point
 }
 
 /// The points of an outline, followed by its phantom points on the grid, in the given memory.
-#[tactic(auto, using(crate::proofs::Zones::one_more))]
 pub(crate) fn glyph_zone(room: Vec<Point>, glyph: &ReadyGlyph) -> Result<Vec<Point>, AllocError>
     ensures exact { IfOk result (λ v. v.items ≡ glyph_zone (option_map units_view glyph.now.units) (outline_of glyph.now.outline.now) (phantom_of glyph.now.grid)) }
     ensures valid { IfOk result (λ v. All IsZonePoint v.items) }

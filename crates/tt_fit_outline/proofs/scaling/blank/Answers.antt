@@ -3,8 +3,8 @@ use Rattle.std.proofs.lemmas.Int.{to_z-of_z}
 use Rattle.tt_fit_outline.proofs.Outlines.{blank-is}
 use Rattle.tt_fit_outline.proofs.scaling.blank.Goals as goal
 
-pub invariant_of-result-clause-valid : goal.invariant_of-result-clause-valid
-invariant_of-result-clause-valid c =
+pub invariant_of-result : goal.invariant_of-result
+invariant_of-result c =
     let left : SFits w32 c.in_ok-left.left = search rules in
     let right : SFits w32 c.in_ok-right.right = search rules in
     let ascent : SFits w32 c.in_ok-ascent.ascent = search rules in

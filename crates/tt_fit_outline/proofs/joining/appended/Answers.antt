@@ -1,13 +1,13 @@
 use Rattle.std.proofs.Common.{rules, arith}
 use Rattle.tt_fit_outline.specs.Outline.{phantom_of, ArePhantom}
 use Rattle.tt_fit_outline.specs.Views.{outline_of}
-use Rattle.tt_fit_outline.specs.Joining.{placed, appended, within_point_limit}
+use Rattle.tt_fit_outline.specs.Joining.{appended, within_point_limit}
 use Rattle.tt_fit_outline.proofs.Outlines.{joined-is}
-use Rattle.tt_fit_outline.proofs.joining.placed.Goals as goal
-use Rattle.tt_fit_outline.proofs.joining.placed.Goals.{then-has, else-has}
+use Rattle.tt_fit_outline.proofs.joining.appended.Goals as goal
+use Rattle.tt_fit_outline.proofs.joining.appended.Goals.{then-has, else-has}
 
-pub invariant_of-result-clause-valid : goal.invariant_of-result-clause-valid
-invariant_of-result-clause-valid c =
+pub invariant_of-result : goal.invariant_of-result
+invariant_of-result c =
     let phantoms : ArePhantom (phantom_of c.if-has.phantom) = elim c.if-has.branch [
       | then-has w ↦ rw w.phantom-is c.args.component.now.valid.phantom
       | else-has w ↦ rw w.phantom-is
@@ -18,11 +18,10 @@ invariant_of-result-clause-valid c =
     (search rules) c.in_ok-push_placed.ensures.coordinates (search rules) phantoms
 
 pub returns-clause-exact : goal.returns-clause-exact
-unfolding placed appended within_point_limit
+unfolding appended within_point_limit
 returns-clause-exact c =
     grind (
       arith,
-      c.in_ok-by.ensures.exact,
       c.in_ok-push_placed.ensures.exact,
       c.in_ok-push_ends.ensures,
       c.if-len-gt-POINT_LIMIT.false,
@@ -31,8 +30,6 @@ returns-clause-exact c =
       c.scan_after.ensures,
       c.has.ensures,
       c.if-has.branch,
-      c.deref-4.ensures.value,
-      c.deref-3.ensures.value,
       c.deref-2.ensures.value,
       c.deref.ensures.value,
     )
