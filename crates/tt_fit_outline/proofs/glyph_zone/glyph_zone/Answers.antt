@@ -31,8 +31,7 @@ returns-clause-exact c =
 
 pub returns-clause-valid : goal.returns-clause-valid
 returns-clause-valid c =
-    let one = rw c.in_ok-push.ensures.items
-    (one_more _ _ c.put_units.ensures.valid c.phantom_point.ensures.valid) in
-    let two = rw c.in_ok-push-2.ensures.items (one_more _ _ one c.phantom_point-2.ensures.valid) in
-    let three = rw c.in_ok-push-3.ensures.items (one_more _ _ two c.phantom_point-3.ensures.valid) in
-    rw c.in_ok-push-4.ensures.items (one_more _ _ three c.phantom_point-4.ensures.valid)
+    let one = one_more _ _ _ c.in_ok-push.ensures.items c.put_units.ensures.valid c.phantom_point.ensures.valid in
+    let two = one_more _ _ _ c.in_ok-push-2.ensures.items one c.phantom_point-2.ensures.valid in
+    let three = one_more _ _ _ c.in_ok-push-3.ensures.items two c.phantom_point-3.ensures.valid in
+    one_more _ _ _ c.in_ok-push-4.ensures.items three c.phantom_point-4.ensures.valid

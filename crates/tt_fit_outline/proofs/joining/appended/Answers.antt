@@ -13,23 +13,27 @@ invariant_of-result c =
       | else-has w ↦ rw w.phantom-is
           c.args.so_far.valid.phantom
     ] in
-    joined-is (outline_of c.args.so_far) (outline_of c.args.component.now) c.push_placed.new.points.items
-    c.push_ends.new.ends.items (phantom_of c.if-has.phantom) c.scan_after.result c.args.so_far.valid c.args.component.now.valid (search rules)
-    (search rules) c.in_ok-push_placed.ensures.coordinates (search rules) phantoms
+    record {
+      valid = joined-is (outline_of c.args.so_far) (outline_of c.args.component.now) c.push_placed.new.points.items
+          c.push_ends.new.ends.items (phantom_of c.if-has.phantom) c.scan_after.result c.args.so_far.valid c.args.component.now.valid (search rules)
+          (search rules) c.in_ok-push_placed.ensures.coordinates (search rules) phantoms;
+    }
 
-pub returns-clause-exact : goal.returns-clause-exact
+pub returns : goal.returns
 unfolding appended within_point_limit
-returns-clause-exact c =
-    grind (
-      arith,
-      c.in_ok-push_placed.ensures.exact,
-      c.in_ok-push_ends.ensures,
-      c.if-len-gt-POINT_LIMIT.false,
-      c.len.ensures,
-      c.len-before.ensures,
-      c.scan_after.ensures,
-      c.has.ensures,
-      c.if-has.branch,
-      c.deref-2.ensures.value,
-      c.deref.ensures.value,
-    )
+returns c =
+    record {
+      exact = grind (
+        arith,
+        c.in_ok-push_placed.ensures.exact,
+        c.in_ok-push_ends.ensures,
+        c.if-len-gt-POINT_LIMIT.false,
+        c.len.ensures,
+        c.len-before.ensures,
+        c.scan_after.ensures,
+        c.has.ensures,
+        c.if-has.branch,
+        c.deref-2.ensures.value,
+        c.deref.ensures.value,
+      );
+    }
