@@ -24,6 +24,8 @@ use Rattle.tt_exec_step.specs.Numbered.{function_at}
 use Rattle.tt_exec_step.specs.MachineState.{MachineState, fault_in}
 use Rattle.tt_exec_step.specs.OnPoints.{on_points}
 use Rattle.tt_exec_step.specs.Opcodes.{operation_of}
+use Rattle.tt_exec_step.specs.Outcome.{ComesTo}
+use Rattle.tt_exec_step.specs.declared.outcome.Outcome.{Outcome}
 use Rattle.tt_exec_step.specs.Operation.{Operation, takes}
 use Rattle.tt_exec_step.specs.Operation as op
 
@@ -74,6 +76,10 @@ operate (op.on_points o) at m = on_points o at m
 operate op.idef at m = idef at m
 operate (op.beyond o) at m = if m.graphics.whole then operate o at m else Err (fault_in m.frame at why.OffProfile)
 operate (op.unnamed opcode) at m = instruction_called at m (function_at (pos opcode) m.instructions)
+
+-- an operation did as defined, or is refused, from one state to another
+abbrev pub Operates : Operation → ℕ → MachineState → MachineState → Outcome → Type 0
+Operates o at old new outcome = ComesTo (operate o at old) at new outcome
 
 -- the values that an instruction takes: if a tolerant machine has fewer, all of them are 0 (profile)
 abbrev pub filled : Operation → MachineState → MachineState

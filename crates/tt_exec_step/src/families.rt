@@ -5,7 +5,7 @@ ghost use Rattle.std.specs.Prelude.{◌≡◌, ◌<◌, ◌≤◌, length, false
 ghost use Rattle.tt_exec_step.specs.OnPoints.{on_points};
 ghost use Rattle.tt_exec_step.specs.Operation as operation;
 ghost use Rattle.tt_exec_step.specs.States.{state_of};
-ghost use Rattle.tt_exec_step.specs.Step as is;
+ghost use Rattle.tt_exec_step.specs.Step.{push, Operates};
 ghost use Rattle.tt_exec_step.specs.Outcome.{ComesTo, wants_memory};
 
 use crate::machine_state::MachineState;
@@ -33,7 +33,7 @@ impl MachineState<'_> {
     #[inline(always)]
     pub(crate) fn push(&mut self, op: u8, args: &[u8], at: usize) -> Outcome
         requires { at ≤ length self.old.frame.code.bytes.now }
-        ensures exact { ComesTo (is.push op args.now at (state_of self.old)) at (state_of self.new) result }
+        ensures exact { ComesTo (push op args.now at (state_of self.old)) at (state_of self.new) result }
         ensures memory { wants_memory result ≡ false }
     {
         match op {
@@ -44,8 +44,7 @@ impl MachineState<'_> {
 
     pub(crate) fn access_vectors(&mut self, op: Vectors, at: usize) -> Outcome
         requires { at ≤ length self.old.frame.code.bytes.now }
-        ensures exact { let given = is.operate (operation.access_vectors op) at (state_of self.old) in
-            ComesTo given at (state_of self.new) result }
+        ensures exact { Operates (operation.access_vectors op) at (state_of self.old) (state_of self.new) result }
         ensures memory { wants_memory result ≡ false }
     {
         outcome!(access_vectors(op, &mut self.stack, &mut self.graphics))
@@ -54,8 +53,7 @@ impl MachineState<'_> {
     #[inline(always)]
     pub(crate) fn set_state(&mut self, op: GraphicsSetting, at: usize) -> Outcome
         requires { at ≤ length self.old.frame.code.bytes.now }
-        ensures exact { let given = is.operate (operation.set_state op) at (state_of self.old) in
-            ComesTo given at (state_of self.new) result }
+        ensures exact { Operates (operation.set_state op) at (state_of self.old) (state_of self.new) result }
         ensures memory { wants_memory result ≡ false }
     {
         outcome!(set_state(
@@ -70,8 +68,7 @@ impl MachineState<'_> {
     #[inline(always)]
     pub(crate) fn manage(&mut self, op: Managing, at: usize) -> Outcome
         requires { at ≤ length self.old.frame.code.bytes.now }
-        ensures exact { let given = is.operate (operation.manage op) at (state_of self.old) in
-            ComesTo given at (state_of self.new) result }
+        ensures exact { Operates (operation.manage op) at (state_of self.old) (state_of self.new) result }
         ensures memory { wants_memory result ≡ false }
     {
         outcome!(manage(op, self.tolerance, &mut self.stack))
@@ -80,8 +77,7 @@ impl MachineState<'_> {
     #[inline(always)]
     pub(crate) fn evaluate(&mut self, op: Logic, at: usize) -> Outcome
         requires { at ≤ length self.old.frame.code.bytes.now }
-        ensures exact { let given = is.operate (operation.evaluate op) at (state_of self.old) in
-            ComesTo given at (state_of self.new) result }
+        ensures exact { Operates (operation.evaluate op) at (state_of self.old) (state_of self.new) result }
         ensures memory { wants_memory result ≡ false }
     {
         let round = self.graphics.round;
@@ -91,8 +87,7 @@ impl MachineState<'_> {
     #[inline(always)]
     pub(crate) fn compute(&mut self, op: Arithmetic, at: usize) -> Outcome
         requires { at ≤ length self.old.frame.code.bytes.now }
-        ensures exact { let given = is.operate (operation.compute op) at (state_of self.old) in
-            ComesTo given at (state_of self.new) result }
+        ensures exact { Operates (operation.compute op) at (state_of self.old) (state_of self.new) result }
         ensures memory { wants_memory result ≡ false }
     {
         let round = self.graphics.round;
@@ -102,8 +97,7 @@ impl MachineState<'_> {
     #[inline(always)]
     pub(crate) fn access_values(&mut self, op: StoredValues, at: usize) -> Outcome
         requires { at ≤ length self.old.frame.code.bytes.now }
-        ensures exact { let given = is.operate (operation.access_values op) at (state_of self.old) in
-            ComesTo given at (state_of self.new) result }
+        ensures exact { Operates (operation.access_values op) at (state_of self.old) (state_of self.new) result }
         ensures memory { wants_memory result ≡ false }
     {
         outcome!(access_values(
@@ -119,8 +113,7 @@ impl MachineState<'_> {
     #[inline(always)]
     pub(crate) fn answer(&mut self, op: Query, at: usize) -> Outcome
         requires { at ≤ length self.old.frame.code.bytes.now }
-        ensures exact { let given = is.operate (operation.answer op) at (state_of self.old) in
-            ComesTo given at (state_of self.new) result }
+        ensures exact { Operates (operation.answer op) at (state_of self.old) (state_of self.new) result }
         ensures memory { wants_memory result ≡ false }
     {
         outcome!(answer(op, self.size, &mut self.stack))

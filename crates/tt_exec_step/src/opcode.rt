@@ -5,8 +5,8 @@ ghost use Rattle.std.specs.Prelude.{◌≡◌, ◌<◌, length, false};
 ghost use Rattle.tt_exec_step.specs.Opcodes as table;
 ghost use Rattle.tt_exec_step.specs.Operation as operation;
 ghost use Rattle.tt_exec_step.specs.States.{state_of};
-ghost use Rattle.tt_exec_step.specs.Step as is;
-ghost use Rattle.tt_exec_step.specs.Outcome.{ComesTo, wants_memory};
+ghost use Rattle.tt_exec_step.specs.Step.{Operates};
+ghost use Rattle.tt_exec_step.specs.Outcome.{wants_memory};
 
 use crate::machine_state::MachineState;
 use crate::outcome::Outcome;
@@ -46,8 +46,7 @@ impl MachineState<'_> {
     /// OffProfile without the whole instruction set.
     fn on_lines(&mut self, op: PointInstruction, at: usize) -> Outcome
         requires { at < length self.old.frame.code.bytes.now }
-        ensures exact { let given = is.operate (operation.beyond (operation.on_points op)) at (state_of self.old) in
-            ComesTo given at (state_of self.new) result }
+        ensures exact { Operates (operation.beyond (operation.on_points op)) at (state_of self.old) (state_of self.new) result }
         ensures memory { wants_memory result ≡ false }
     {
         if self.graphics.whole {
@@ -59,8 +58,7 @@ impl MachineState<'_> {
     /// DEBUG[], 0x4F; S45ROUND[], 0x77. Error: OffProfile without the whole instruction set.
     fn set_beyond(&mut self, op: GraphicsSetting, at: usize) -> Outcome
         requires { at < length self.old.frame.code.bytes.now }
-        ensures exact { let given = is.operate (operation.beyond (operation.set_state op)) at (state_of self.old) in
-            ComesTo given at (state_of self.new) result }
+        ensures exact { Operates (operation.beyond (operation.set_state op)) at (state_of self.old) (state_of self.new) result }
         ensures memory { wants_memory result ≡ false }
     {
         if !self.graphics.whole {
@@ -72,8 +70,7 @@ impl MachineState<'_> {
     /// IDEF[], 0x89. Error: OffProfile without the whole instruction set.
     fn define_instruction(&mut self, at: usize) -> Outcome
         requires { at < length self.old.frame.code.bytes.now }
-        ensures { let given = is.operate (operation.beyond operation.idef) at (state_of self.old) in
-            ComesTo given at (state_of self.new) result }
+        ensures { Operates (operation.beyond operation.idef) at (state_of self.old) (state_of self.new) result }
     {
         if !self.graphics.whole {
             return Outcome::Refused(Why::OffProfile);
@@ -88,7 +85,7 @@ impl MachineState<'_> {
     #[tactic(auto, unfolding(crate::specs::Opcodes::apart))]
     fn operate_apart(&mut self, op: u8, at: usize) -> Outcome
         requires { at < length self.old.frame.code.bytes.now }
-        ensures { ComesTo (is.operate (table.apart op) at (state_of self.old)) at (state_of self.new) result }
+        ensures { Operates (table.apart op) at (state_of self.old) (state_of self.new) result }
     {
         match op {
             0x06 => self.on_lines(PointInstruction::Spvtl { turned: false }, at),
@@ -110,8 +107,7 @@ impl MachineState<'_> {
     #[inline(always)]
     fn operate_00(&mut self, op: u8, at: usize) -> Outcome
         requires { at < length self.old.frame.code.bytes.now }
-        ensures { let given = is.operate (table.named op table.opcodes_00) at (state_of self.old) in
-            ComesTo given at (state_of self.new) result }
+        ensures { Operates (table.named op table.opcodes_00) at (state_of self.old) (state_of self.new) result }
     {
         match op {
             0x00 => self.access_vectors(Vectors::Svtca(Axis::Y), at),
@@ -149,8 +145,7 @@ impl MachineState<'_> {
     #[inline(always)]
     fn operate_20(&mut self, op: u8, at: usize) -> Outcome
         requires { at < length self.old.frame.code.bytes.now }
-        ensures { let given = is.operate (table.named op table.opcodes_20) at (state_of self.old) in
-            ComesTo given at (state_of self.new) result }
+        ensures { Operates (table.named op table.opcodes_20) at (state_of self.old) (state_of self.new) result }
     {
         match op {
             0x20 => self.manage(Managing::Dup, at),
@@ -191,8 +186,7 @@ impl MachineState<'_> {
     #[inline(always)]
     fn operate_40(&mut self, op: u8, at: usize) -> Outcome
         requires { at < length self.old.frame.code.bytes.now }
-        ensures { let given = is.operate (table.named op table.opcodes_40) at (state_of self.old) in
-            ComesTo given at (state_of self.new) result }
+        ensures { Operates (table.named op table.opcodes_40) at (state_of self.old) (state_of self.new) result }
     {
         match op {
             0x42 => self.access_values(StoredValues::Ws, at),
@@ -232,8 +226,7 @@ impl MachineState<'_> {
     #[inline(always)]
     fn operate_60(&mut self, op: u8, at: usize) -> Outcome
         requires { at < length self.old.frame.code.bytes.now }
-        ensures { let given = is.operate (table.named op table.opcodes_60) at (state_of self.old) in
-            ComesTo given at (state_of self.new) result }
+        ensures { Operates (table.named op table.opcodes_60) at (state_of self.old) (state_of self.new) result }
     {
         match op {
             0x60 => self.compute(Arithmetic::Add, at),
@@ -274,8 +267,7 @@ impl MachineState<'_> {
     #[inline(always)]
     fn operate_80(&mut self, op: u8, at: usize) -> Outcome
         requires { at < length self.old.frame.code.bytes.now }
-        ensures { let given = is.operate (table.named op table.opcodes_80) at (state_of self.old) in
-            ComesTo given at (state_of self.new) result }
+        ensures { Operates (table.named op table.opcodes_80) at (state_of self.old) (state_of self.new) result }
     {
         match op {
             0x80 => self.on_points(PointInstruction::Flippt, at),
@@ -297,7 +289,7 @@ impl MachineState<'_> {
     #[inline(always)]
     pub(crate) fn operate(&mut self, op: u8, at: usize) -> Outcome
         requires { at < length self.old.frame.code.bytes.now }
-        ensures { ComesTo (is.operate (table.operation_of op) at (state_of self.old)) at (state_of self.new) result }
+        ensures { Operates (table.operation_of op) at (state_of self.old) (state_of self.new) result }
     {
         match op {
             0x00..=0x1F => self.operate_00(op, at),
