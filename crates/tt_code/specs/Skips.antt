@@ -1,7 +1,7 @@
 -- Apple TrueType Reference Manual, "Instruction Set" (IF, ELSE, EIF, FDEF, ENDF). An IF (58) with a false condition
 -- continues after its ELSE (1B) or EIF (59). An ELSE that is reached continues after its EIF, and an FDEF after the
 -- first ENDF (2D). A skip goes instruction by instruction, and passes inner IFs with their EIFs.
-use Rattle.std.specs.Prelude.{◌≡◌, ℕ, zero, suc, ◌+◌, ◌-◌, ◌<◌, ◌==◌, ◌||◌, ◌&&◌, ◌⊎◌, nat_le, Bool, true, false, if◌then◌else◌, List, [], ◌∷◌, length, count_by, Result, Ok, Err, MatchResult, refl}
+use Rattle.std.specs.Prelude.{◌≡◌, ℕ, zero, suc, ◌+◌, ◌-◌, ◌<◌, ◌≤◌, ◌==◌, ◌||◌, ◌&&◌, ◌⊎◌, nat_le, Bool, true, false, if◌then◌else◌, List, [], ◌∷◌, length, count_by, Result, Ok, Err, MatchResult, refl}
 use Rattle.tt_core.specs.Outcomes.{◌>>=◌}
 use Rattle.tt_core.specs.declared.fault.Why.{Why}
 use Rattle.tt_core.specs.declared.fault.Why.TheVariants as why
@@ -41,6 +41,11 @@ else_end code at = skip_end sought.Eif code at why.IfOpen
 
 abbrev pub definition_end : List ℕ → ℕ → Result ℕ Halt
 definition_end code at = skip_end sought.Endf code at why.NoEndf
+
+-- a skip ends after its own opcode, in the program or at the program's end; a refusal is in the program
+abbrev pub StaysIn : List ℕ → ℕ → Result ℕ Halt → Type 0
+StaysIn code at (Ok place) = (at < place) × (place ≤ length code)
+StaysIn code at (Err halt) = halt.at < length code
 
 -- The end of a skip without a walk. It is the least offset reached, instruction by instruction, with a sought opcode
 -- and all inner IFs closed. Lists of passed opcodes have the latest first.

@@ -5,7 +5,7 @@ ghost use Rattle.std.specs.Prelude.{◌≡◌, ℕ, ◌+◌, ◌^◌, ◌<◌, �
 ghost use Rattle.tt_core.specs.Outcomes.{Gives};
 ghost use Rattle.tt_code.specs.Decoding.{head_length, data_length, instruction_at};
 ghost use Rattle.tt_code.specs.Views.{instr_view};
-ghost use Rattle.tt_code.specs.Skips.{ends, depth_after, skip_end, if_end, else_end, definition_end, IsSkip};
+ghost use Rattle.tt_code.specs.Skips.{ends, depth_after, skip_end, if_end, else_end, definition_end, IsSkip, StaysIn};
 ghost use Rattle.tt_code.specs.declared.skips.Sought.{Sought};
 ghost use Rattle.tt_code.specs.declared.skips.Sought.TheVariants as sought;
 
@@ -106,10 +106,7 @@ fn next<'a>(code: &'a [u8], at: usize) -> Result<Instr<'a>, Halt>
 fn skip(sought: Sought, code: &[u8], at: usize, lost: Why) -> Result<usize, Halt>
     requires { at < length code.now }
     ensures exact { Gives (λ j. j) result (skip_end sought code.now at lost) }
-    ensures after { IfOk result (λ j. at < j) }
-    ensures within { IfOk result (λ j. j ≤ length code.now) }
-    ensures fits { IfOk result (λ j. j < 2 ^ 64) }
-    ensures place { IfErr result (λ h. h.at < length code.now) }
+    ensures stays { StaysIn code.now at result }
 {
     let mut place = at + 1;
     let mut depth = 0;
@@ -138,10 +135,7 @@ pub fn skip_if(code: &[u8], at: usize) -> Result<usize, Halt>
     ensures exact { Gives (λ j. j) result (if_end code.now at) }
     // The end is the least reached place with an ELSE or EIF where all inner IFs are closed.
     ensures least { IsSkip sought.ElseOrEif code.now at Why.IfOpen result }
-    ensures after { IfOk result (λ j. at < j) }
-    ensures within { IfOk result (λ j. j ≤ length code.now) }
-    ensures fits { IfOk result (λ j. j < 2 ^ 64) }
-    ensures place { IfErr result (λ h. h.at < length code.now) }
+    ensures stays { StaysIn code.now at result }
 {
     skip(Sought::ElseOrEif, code, at, Why::IfOpen)
 }
@@ -155,10 +149,7 @@ pub fn skip_else(code: &[u8], at: usize) -> Result<usize, Halt>
     ensures exact { Gives (λ j. j) result (else_end code.now at) }
     // The end is the least reached place with an EIF where all inner IFs are closed.
     ensures least { IsSkip sought.Eif code.now at Why.IfOpen result }
-    ensures after { IfOk result (λ j. at < j) }
-    ensures within { IfOk result (λ j. j ≤ length code.now) }
-    ensures fits { IfOk result (λ j. j < 2 ^ 64) }
-    ensures place { IfErr result (λ h. h.at < length code.now) }
+    ensures stays { StaysIn code.now at result }
 {
     skip(Sought::Eif, code, at, Why::IfOpen)
 }
@@ -170,10 +161,7 @@ pub fn skip_def(code: &[u8], at: usize) -> Result<usize, Halt>
     ensures exact { Gives (λ j. j) result (definition_end code.now at) }
     // The end is the least reached place with an ENDF.
     ensures least { IsSkip sought.Endf code.now at Why.NoEndf result }
-    ensures after { IfOk result (λ j. at < j) }
-    ensures within { IfOk result (λ j. j ≤ length code.now) }
-    ensures fits { IfOk result (λ j. j < 2 ^ 64) }
-    ensures place { IfErr result (λ h. h.at < length code.now) }
+    ensures stays { StaysIn code.now at result }
 {
     skip(Sought::Endf, code, at, Why::NoEndf)
 }

@@ -1,6 +1,7 @@
 //! The work of each step, if its job has a budget (profile).
 
-ghost use Rattle.std.specs.Prelude.{◌≡◌, ◌≢◌, ◌+◌, ◌^◌, ◌<◌, ◌≤◌, length, IfOk};
+ghost use Rattle.std.specs.Prelude.{◌≡◌, ◌≢◌, ◌^◌, ◌<◌, ◌≤◌, length};
+ghost use Rattle.tt_code.specs.Skips.{StaysIn};
 ghost use Rattle.tt_exec_step.specs.MachineState as machine;
 ghost use Rattle.tt_exec_step.specs.States.{state_of};
 ghost use Rattle.tt_exec.specs.Work as is;
@@ -101,8 +102,7 @@ fn gone_over(state: &MachineState<'_>, op: u8) -> u64
 /// The count of bytes skipped after the opcode at the frame's place.
 fn passed_by(state: &MachineState<'_>, end: Result<usize, Halt>) -> u64
     requires stands { state.now.frame.place < length state.now.frame.code.bytes.now }
-    requires after { IfOk end (λ j. state.now.frame.place < j) }
-    requires within { IfOk end (λ j. j ≤ length state.now.frame.code.bytes.now) }
+    requires stays { StaysIn state.now.frame.code.bytes.now state.now.frame.place end }
     ensures exact { result ≡ is.passed_by (state_of state.now) end }
     ensures few { result < 2 ^ 32 }
 {
