@@ -2,7 +2,7 @@ pub mod Falling
 pub mod Fewer
 mod Filling
 pub mod GlyphPrograms
-mod Hintings
+pub mod Hintings
 pub mod Levels
 pub mod Bounds
 pub mod Counts

@@ -86,8 +86,8 @@ contours-are units o grid is =
     (rw zone-length (omega arith)) few
 
 -- one point more within the limit
-pub one_more : (ps : List Point) (p : Point) → All IsPoint ps → IsPoint p → All IsPoint (ps ++ p ∷ [])
-one_more ps p all one = All-push IsPoint ps p all one
+pub one_more : (ps more : List Point) (p : Point) → more ≡ ps ++ p ∷ [] → All IsPoint ps → IsPoint p → All IsPoint more
+one_more ps more p is all one = rw is (All-push IsPoint ps p all one)
 
 scale-is : (s : Scale) (units : Option Units) → IsScale s → IfSome (originals_by s units).units IsScale
 scale-is s None is = tt

@@ -28,6 +28,26 @@ fn to_grid(at: u32, v: i32) -> Result<i32, Fault>
     coordinate(at, Round::Grid.round(i64::from(v)))
 }
 
+/// A position with x rounded to the grid. Error: CoordRange.
+fn along_x(at: u32, p: (i32, i32)) -> Result<(i32, i32), Fault>
+    requires { IsPosition p }
+    ensures ok { IfOk result (λ q. (q ≡ (to_grid p.0, p.1)) × (is_coordinate (to_grid p.0) ≡ true)) }
+    ensures within { IfOk result IsPosition }
+    ensures err { IfErr result (λ f. (f ≡ coordinate_fault at) × (is_coordinate (to_grid p.0) ≡ false)) }
+{
+    Ok((to_grid(at, p.0)?, p.1))
+}
+
+/// A position with y rounded to the grid. Error: CoordRange.
+fn along_y(at: u32, p: (i32, i32)) -> Result<(i32, i32), Fault>
+    requires { IsPosition p }
+    ensures ok { IfOk result (λ q. (q ≡ (p.0, to_grid p.1)) × (is_coordinate (to_grid p.1) ≡ true)) }
+    ensures within { IfOk result IsPosition }
+    ensures err { IfErr result (λ f. (f ≡ coordinate_fault at) × (is_coordinate (to_grid p.1) ≡ false)) }
+{
+    Ok((p.0, to_grid(at, p.1)?))
+}
+
 /// The phantom points on the grid: the ends of the advance along x, the ascent and the descent along y. Error:
 /// CoordRange, at this offset in glyf.
 #[tactic(auto, unfolding(crate::specs::GlyphZone::on_grid_at))]
@@ -35,17 +55,12 @@ pub(crate) fn on_grid(at: u32, outline: &Outline) -> Result<[(i32, i32); 4], Fau
     ensures exact { Gives phantom_of result (on_grid_at at (phantom_of outline.now.phantom)) }
     ensures valid { IfOk result (λ p. ArePhantom (phantom_of p)) }
 {
-    let was = &outline.phantom;
-    let left = to_grid(at, was[0].0)?;
-    let right = to_grid(at, was[1].0)?;
-    let ascent = to_grid(at, was[2].1)?;
-    let descent = to_grid(at, was[3].1)?;
-    Ok([
-        (left, was[0].1),
-        (right, was[1].1),
-        (was[2].0, ascent),
-        (was[3].0, descent),
-    ])
+    let phantom = &outline.phantom;
+    let left = along_x(at, phantom[0])?;
+    let right = along_x(at, phantom[1])?;
+    let ascent = along_y(at, phantom[2])?;
+    let descent = along_y(at, phantom[3])?;
+    Ok([left, right, ascent, descent])
 }
 
 /// A point not yet touched.
@@ -100,7 +115,6 @@ fn phantom_point(units: (i32, i32), was: (i32, i32), now: (i32, i32)) -> Point
 }
 
 /// The points of an outline, followed by its phantom points on the grid, in the given memory.
-#[tactic(auto, using(crate::proofs::Zones::one_more))]
 pub(crate) fn glyph_zone(room: Vec<Point>, glyph: &ReadyGlyph) -> Result<Vec<Point>, AllocError>
     ensures exact { IfOk result (λ v. v.items ≡ glyph_zone (option_map units_view glyph.now.units) (outline_of glyph.now.outline.now) (phantom_of glyph.now.grid)) }
     ensures valid { IfOk result (λ v. All IsZonePoint v.items) }

@@ -5,7 +5,7 @@ ghost use Rattle.tt_core.specs.Limits.{point_limit};
 ghost use Rattle.tt_core.specs.Outcomes.{after_each, FontGives, Leaves};
 ghost use Rattle.tt_glyf.specs.Meaning.{HasArguments};
 ghost use Rattle.tt_fit_outline.specs.Component.{placed_point};
-ghost use Rattle.tt_fit_outline.specs.Joining.{ends_after, scan_after, placed};
+ghost use Rattle.tt_fit_outline.specs.Joining.{ends_after, scan_after, appended, placed};
 ghost use Rattle.tt_fit_outline.specs.Outline.{IsPoint};
 ghost use Rattle.tt_fit_outline.specs.Views.{outline_of, size_view, shift_view};
 
@@ -61,18 +61,16 @@ fn scan_after(component: Option<ScanControl>, so_far: Option<ScanControl>) -> Op
     }
 }
 
-/// Places a component and appends it. Errors: MatchPoint, CoordRange, PointLimit, Memory.
-#[tactic(auto, unfolding(crate::specs::Joining::placed, crate::specs::Joining::appended, crate::specs::Joining::within_point_limit))]
-pub fn placed(
-    size: FontSize,
+/// Appends a component, moved by a shift. Errors: CoordRange, PointLimit, Memory.
+#[tactic(auto, unfolding(crate::specs::Joining::appended, crate::specs::Joining::within_point_limit))]
+fn appended(
     part: Record,
+    by: Shift,
     component: &Outline,
     so_far: Outline,
 ) -> Result<Outline, FontFault>
-    requires arguments { HasArguments part }
-    ensures exact { FontGives outline_of result (placed (size_view size) part (outline_of component.now) (outline_of so_far)) }
+    ensures exact { FontGives outline_of result (appended part (shift_view by) (outline_of component.now) (outline_of so_far)) }
 {
-    let by = shift_of(size, part, &component.points, &so_far.points)?;
     let Outline {
         mut points,
         mut ends,
@@ -98,4 +96,19 @@ pub fn placed(
         unfitted: None,
         scan: scan_after(component.scan, scan),
     })
+}
+
+/// Places a component and appends it. Errors: MatchPoint, CoordRange, PointLimit, Memory.
+#[tactic(auto, unfolding(crate::specs::Joining::placed))]
+pub fn placed(
+    size: FontSize,
+    part: Record,
+    component: &Outline,
+    so_far: Outline,
+) -> Result<Outline, FontFault>
+    requires arguments { HasArguments part }
+    ensures exact { FontGives outline_of result (placed (size_view size) part (outline_of component.now) (outline_of so_far)) }
+{
+    let by = shift_of(size, part, &component.points, &so_far.points)?;
+    appended(part, by, component, so_far)
 }

@@ -70,6 +70,14 @@ fn scaled_position(size: FontSize, point: RawPoint) -> Landing
     }
 }
 
+/// Scales one point. Error: CoordRange.
+fn scaled_point(size: FontSize, at: u32, point: RawPoint) -> Result<(i32, i32, bool), Fault>
+    ensures exact { Gives (λ p. p) result (scaled_point (size_view size) at point) }
+    ensures within { IfOk result IsPoint }
+{
+    settled(at, scaled_position(size, point))
+}
+
 /// Scales points by a shift, where no coordinate can exceed the limit.
 #[inline(never)]
 fn shifted_points(
@@ -105,7 +113,7 @@ fn scaled_points(
     }
     let mut scaled = Vec::with_capacity(alloc, points.len())?;
     for point in points {
-        scaled.push(settled(at, scaled_position(size, *point))?)?;
+        scaled.push(scaled_point(size, at, *point)?)?;
     }
     Ok(scaled)
 }

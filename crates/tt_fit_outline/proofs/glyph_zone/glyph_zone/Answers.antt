@@ -4,7 +4,7 @@ use Rattle.std.proofs.lemmas.Int.{to_z-of_z}
 use Rattle.tt_fit_outline.specs.GlyphZone.{outline_point}
 use Rattle.tt_fit_outline.specs.Units.{in_units, places_of}
 use Rattle.tt_fit_outline.specs.Views.{units_view}
-use Rattle.tt_fit_outline.proofs.Zones.{four_pushed}
+use Rattle.tt_fit_outline.proofs.Zones.{four_pushed, one_more}
 use Rattle.tt_fit_outline.proofs.glyph_zone.glyph_zone.Goals as goal
 
 pub returns-clause-exact : goal.returns-clause-exact
@@ -28,3 +28,10 @@ returns-clause-exact c =
     (simp to_z-of_z at (rw c.phantom_point-2.ensures.exact at c.in_ok-push-2.ensures.items))
     (rw ascent_is at simp to_z-of_z at (rw c.phantom_point-3.ensures.exact at c.in_ok-push-3.ensures.items))
     (rw descent_is at simp to_z-of_z at (rw c.phantom_point-4.ensures.exact at c.in_ok-push-4.ensures.items)))
+
+pub returns-clause-valid : goal.returns-clause-valid
+returns-clause-valid c =
+    let one = one_more _ _ _ c.in_ok-push.ensures.items c.put_units.ensures.valid c.phantom_point.ensures.valid in
+    let two = one_more _ _ _ c.in_ok-push-2.ensures.items one c.phantom_point-2.ensures.valid in
+    let three = one_more _ _ _ c.in_ok-push-3.ensures.items two c.phantom_point-3.ensures.valid in
+    one_more _ _ _ c.in_ok-push-4.ensures.items three c.phantom_point-4.ensures.valid
