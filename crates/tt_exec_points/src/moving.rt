@@ -2,7 +2,7 @@
 //! missing, MIAP, MDRP and MIRP of a tolerant machine still set the reference points (profile). Apple TrueType Reference
 //! Manual, "Instruction set": managing outlines.
 
-ghost use Rattle.std.specs.Prelude.{◌≡◌, IfErr};
+ghost use Rattle.std.specs.Prelude.{◌≡◌};
 ghost use Rattle.tt_core.specs.Outcomes.{Gives};
 ghost use Rattle.tt_exec_points.specs.Instruction as is;
 ghost use Rattle.tt_exec_stack.specs.Stack.{Does};
@@ -65,34 +65,6 @@ fn refer_to(graphics: &mut GraphicsState, p: i32)
 }
 
 impl Points {
-    /// MIAP with a control value, if it exists. Errors: that of `c`; PointRange, Perpendicular, ValueRange.
-    fn miap_by(
-        &mut self,
-        round: bool,
-        p: i32,
-        c: Result<i32, Why>,
-        graphics: &mut GraphicsState,
-    ) -> Result<(), Why>
-        ensures exact { Gives (λ u. (self.new, graphics.new)) result (is.miap_by round p c self.old graphics.old) }
-        ensures kept { IfErr result (λ why. (self.new ≡ self.old) × (graphics.new ≡ graphics.old)) }
-    {
-        miap(&mut self.zones, graphics, round, p, c?)
-    }
-
-    /// MIRP with a control value, if it exists. Errors: that of `c`; PointRange, Perpendicular, ValueRange.
-    fn mirp_by(
-        &mut self,
-        keeping: Keeping,
-        p: i32,
-        c: Result<i32, Why>,
-        graphics: &mut GraphicsState,
-    ) -> Result<(), Why>
-        ensures exact { Gives (λ u. (self.new, graphics.new)) result (is.mirp_by keeping p c self.old graphics.old) }
-        ensures kept { IfErr result (λ why. (self.new ≡ self.old) × (graphics.new ≡ graphics.old)) }
-    {
-        mirp(&mut self.zones, graphics, keeping, p, c?)
-    }
-
     /// Executes an instruction on one point. Errors: StackShort; PointRange of a strict machine, and CvtRange of its
     /// MIAP and MIRP; Perpendicular and ValueRange of all but UTP.
     pub(crate) fn on_one(
@@ -119,13 +91,19 @@ impl Points {
             OnOne::Miap { round } => {
                 let n = stack.pop()?;
                 let p = stack.pop()?;
-                let done = self.miap_by(round, p, control_value(n, cvt), graphics);
+                let done = match control_value(n, cvt) {
+                    Ok(c) => miap(&mut self.zones, graphics, round, p, c),
+                    Err(why) => Err(why),
+                };
                 unless_missing!(tolerance, done, refer_to(graphics, p))
             }
             OnOne::Mirp(keeping) => {
                 let n = stack.pop()?;
                 let p = stack.pop()?;
-                let done = self.mirp_by(keeping, p, mirp_value(tolerance, n, cvt), graphics);
+                let done = match mirp_value(tolerance, n, cvt) {
+                    Ok(c) => mirp(&mut self.zones, graphics, keeping, p, c),
+                    Err(why) => Err(why),
+                };
                 unless_missing!(tolerance, done, refer(graphics, keeping.set_rp0, p))
             }
             OnOne::Scfs => popped!(tolerance, stack, v, p => scfs(&mut self.zones, graphics, p, v)),

@@ -1,4 +1,4 @@
-use Rattle.std.proofs.Common.{◌≡◌, ◌∙◌, ◌+◌, ◌*◌, ◌-◌, ◌/◌, ◌<◌, ◌≤◌, Ok, Err, refl, sym, length, get_or, pos, arith, take_all}
+use Rattle.std.proofs.Common.{◌≡◌, ◌∙◌, ◌+◌, ◌-◌, ◌/◌, ◌<◌, ◌≤◌, Ok, Err, refl, sym, length, get_or, pos, arith, take_all}
 use Rattle.tt_points_loops.specs.Deltas.{pairs_of}
 use Rattle.tt_points_loops.specs.Turns.{went_on, broke_off, pairs_count}
 use Rattle.tt_exec_points.specs.ControlValues.{change}
@@ -45,12 +45,9 @@ returns-in-Err-2 c =
     let left : c.loop-i.i ≡ c.loop-i.i - 1 + 1 = omega arith in
     let there : c.loop-i.i - 1 < length (pairs_of c.args.pairs.now) = omega (arith, pairs_count c.args.pairs.now) in
     let step = change by.tolerance by.range by.ppem c.args.state.now in
-    let one = c.in-Err.is in
-    let other = c.in-Err-2.is in
-    let same : c.in-Err.why ≡ c.in-Err-2.why = cc in
-    let stays = rw same at (sym c.passes_over.ensures ∙ c.if-passes_over.false) in
-    let came : step (get_or (pairs_of pairs) i (pos 0, pos 0)) c.loop-i.cvt ≡ Err c.in-Err-2.why =
-    rw (← c.pair_at.ensures, c.in-Err-2.ensures.exact, stays) refl in
+    let stays = sym c.passes_over.ensures ∙ c.if-passes_over.false in
+    let came : step (get_or (pairs_of pairs) i (pos 0, pos 0)) c.loop-i.cvt ≡ Err c.in-Err.why =
+    rw (← c.pair_at.ensures, c.in-Err.ensures.exact, stays) refl in
     broke_off step (pairs_of pairs) c.loop-i.i i (pos 0, pos 0) _ _ _
     left there c.loop-i.invariant came
 

@@ -1,4 +1,4 @@
-use Rattle.std.proofs.Common.{◌≡◌, ◌∙◌, ◌+◌, ◌*◌, ◌-◌, ◌/◌, ◌<◌, ◌≤◌, Ok, Err, refl, sym, length, get_or, pos, arith, take_all}
+use Rattle.std.proofs.Common.{◌≡◌, ◌∙◌, ◌+◌, ◌-◌, ◌/◌, ◌<◌, ◌≤◌, Ok, Err, refl, sym, length, get_or, pos, arith, take_all}
 use Rattle.tt_points_zones.specs.Views.{zones_view}
 use Rattle.tt_points_loops.specs.Deltas.{except, pairs_of}
 use Rattle.tt_points_loops.specs.Series.{passing_over}
@@ -52,12 +52,9 @@ returns-in-Err-2-clause-exact c =
     let left : c.loop-i.i ≡ c.loop-i.i - 1 + 1 = omega arith in
     let there : c.loop-i.i - 1 < length (pairs_of c.args.pairs.now) = omega (arith, pairs_count c.args.pairs.now) in
     let step = passing_over by.tolerance (except by.tolerance by.range by.ppem c.args.state.now) in
-    let one = c.in-Err.is in
-    let other = c.in-Err-2.is in
-    let same : c.in-Err.why ≡ c.in-Err-2.why = cc in
-    let stays = rw same at (sym c.passes_over.ensures ∙ c.if-passes_over.false) in
-    let came : step (get_or (pairs_of pairs) i (pos 0, pos 0)) (zones_view c.loop-i.zones) ≡ Err c.in-Err-2.why =
-    rw (← c.pair_at.ensures, c.in-Err-2.ensures.exact, stays) refl in
+    let stays = sym c.passes_over.ensures ∙ c.if-passes_over.false in
+    let came : step (get_or (pairs_of pairs) i (pos 0, pos 0)) (zones_view c.loop-i.zones) ≡ Err c.in-Err.why =
+    rw (← c.pair_at.ensures, c.in-Err.ensures.exact, stays) refl in
     broke_off step (pairs_of pairs) c.loop-i.i i (pos 0, pos 0) _ _ _
     left there c.loop-i.invariant.same came
 
