@@ -42,11 +42,11 @@ impl Points {
     {
         match op {
             OnLines::Spvtl { turned } => popped!(tolerance, stack, p1, p2 =>
-                spvtl(&self.zones, graphics, turned, p1, p2)),
+                spvtl(&self.zones, graphics, turned, Ends { from: p1, to: p2 })),
             OnLines::Sfvtl { turned } => popped!(tolerance, stack, p1, p2 =>
-                sfvtl(&self.zones, graphics, turned, p1, p2)),
+                sfvtl(&self.zones, graphics, turned, Ends { from: p1, to: p2 })),
             OnLines::Sdpvtl { turned } => popped!(tolerance, stack, p1, p2 =>
-                sdpvtl(&self.zones, graphics, turned, p1, p2)),
+                sdpvtl(&self.zones, graphics, turned, Ends { from: p1, to: p2 })),
             OnLines::Isect => popped!(tolerance, stack, b1, b0, a1, a0, p => {
                 let (a, b) = (Ends { from: a0, to: a1 }, Ends { from: b0, to: b1 });
                 isect(&mut self.zones, graphics, p, a, b)

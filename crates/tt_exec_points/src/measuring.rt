@@ -9,6 +9,7 @@ use crate::points::Points;
 use crate::popping::unless_missing;
 use tt_core::Why;
 use tt_exec_stack::Stack;
+use tt_points::lines::Ends;
 use tt_points::measuring::{Position, gc, md};
 use tt_state::{GraphicsState, Tolerance};
 
@@ -43,7 +44,7 @@ impl Points {
                 let p2 = stack.pop()?;
                 let measured = unless_missing!(
                     tolerance,
-                    md(&self.zones, graphics, between, p2, p1),
+                    md(&self.zones, graphics, between, Ends { from: p1, to: p2 }),
                     0
                 );
                 stack.push(i64::from(measured?))
