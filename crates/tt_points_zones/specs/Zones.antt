@@ -1,7 +1,8 @@
 -- Apple TrueType Reference Manual, "Instructing TrueType Glyphs" (zones): the points of both zones and the contours of
 -- the glyph. Coordinates are in 26.6 pixels; their limit is this project's own (profile).
 use Rattle.std.specs.Prelude.{◌≡◌, ℕ, ◌^◌, ◌≤◌, List, [], ◌∷◌, length, All, unsigned_abs, None, Result, IfOk, IfSome}
-use Rattle.std.specs.Coded.{×_prop, le_prop, Coded-set, coded_ℕ}
+use Rattle.std.specs.Coded.{le_prop, Coded-set, coded_ℕ}
+use mathlib.Core.HLevel.{×₃_prop}
 use Rattle.tt_core.specs.Limits.{coordinate_limit}
 use Rattle.tt_state.specs.declared.point.Point.{Point}
 use Rattle.tt_core.specs.Scales.{IsScale}
@@ -37,7 +38,7 @@ AreContours from (contour ∷ contours) points =
 pub AreContours-prop : (from : ℕ) (contours : List (ℕ × ℕ)) (points : ℕ) → IsProp (AreContours from contours points)
 AreContours-prop from [] points = le_prop
 AreContours-prop from (contour ∷ contours) points =
-    ×_prop (Coded-set coded_ℕ contour.0 from) (×_prop le_prop (AreContours-prop contour.1 contours points))
+    ×₃_prop (Coded-set coded_ℕ contour.0 from) le_prop (AreContours-prop contour.1 contours points)
 
 pub record IsZones (z : ZoneLists) : Type 0 where
   pub twilight : All IsPoint z.twilight

@@ -65,7 +65,16 @@ fn are_parallel(a: Way, b: Way) -> bool
     19 * cross(a, b).unsigned_abs() <= dot(a, b).unsigned_abs()
 }
 
-/// `n / d` rounded to the nearest whole number, a half upwards. It may exceed 64 bits.
+/// `n * d`, which may exceed 64 bits.
+fn long_product(n: i64, d: Distance) -> i128
+    requires n { unsigned_abs n < 2 ^ 47 }
+    requires d { unsigned_abs d.0 < 2 ^ 22 }
+    ensures exact { result ≡ n *ℤ d.0 }
+    ensures few { unsigned_abs result < 2 ^ 69 }
+{
+    i128::from(n) * i128::from(d.0)
+}
+
 fn long_nearest(n: i128, d: i128) -> i128
     requires numerator { unsigned_abs n < 2 ^ 69 }
     requires denominator { unsigned_abs d < 2 ^ 47 }
@@ -76,14 +85,14 @@ fn long_nearest(n: i128, d: i128) -> i128
     (2 * n + d).div_euclid(2 * d)
 }
 
-/// A fraction of a way's length along an axis. Its numerator times the length may exceed 64 bits.
-fn part_of(way: Distance, part: Fraction) -> i128
-    requires { unsigned_abs way.0 < 2 ^ 22 }
-    ensures exact { result ≡ rounded_quotient (part.n *ℤ way.0) part.d }
-    ensures few { unsigned_abs result < 2 ^ 69 }
+/// `n / d` rounded to the nearest whole number, a half upwards. It may exceed 64 bits.
+fn long_rq(n: i128, d: i128) -> i128
+    requires numerator { unsigned_abs n < 2 ^ 69 }
+    requires denominator { unsigned_abs d < 2 ^ 47 }
+    requires nonzero { d ≢ pos 0 }
+    ensures exact { result ≡ rounded_quotient n d }
+    ensures few { unsigned_abs result ≤ unsigned_abs n }
 {
-    let n = i128::from(part.n) * i128::from(way.0);
-    let d = i128::from(part.d);
     if d < 0 {
         long_nearest(-n, -d)
     } else {
@@ -91,13 +100,30 @@ fn part_of(way: Distance, part: Fraction) -> i128
     }
 }
 
+/// A fraction of a way's length along an axis.
+fn part_of(way: Distance, part: Fraction) -> i128
+    requires { unsigned_abs way.0 < 2 ^ 22 }
+    ensures exact { result ≡ rounded_quotient (part.n *ℤ way.0) part.d }
+    ensures few { unsigned_abs result < 2 ^ 69 }
+{
+    long_rq(long_product(part.n, way), i128::from(part.d))
+}
+
+/// `from + by`.
+fn further(from: i32, by: i128) -> i128
+    requires { unsigned_abs by < 2 ^ 69 }
+    ensures { result ≡ from +ℤ by }
+{
+    i128::from(from) + by
+}
+
 /// The place at a fraction of a way from `from`.
 fn gone(from: Place, way: Way, part: Fraction) -> FarPlace
     ensures { far_view result ≡ is.gone from (way_view way) part.n part.d }
 {
     FarPlace {
-        x: i128::from(from.x) + part_of(way.x, part),
-        y: i128::from(from.y) + part_of(way.y, part),
+        x: further(from.x, part_of(way.x, part)),
+        y: further(from.y, part_of(way.y, part)),
     }
 }
 

@@ -56,6 +56,16 @@ fn pushed_to(part: i32, by: i64, at: i32) -> Result<i32, Why>
     Ok(to as i32)
 }
 
+/// A distance times a part of a unit vector.
+fn scaled(d: i64, part: i64) -> i64
+    requires d { unsigned_abs d < 2 ^ 47 }
+    requires part { unsigned_abs part ≤ 2 ^ 14 }
+    ensures exact { result ≡ d *ℤ part }
+    ensures bound { unsigned_abs result < 2 ^ 61 }
+{
+    d * part
+}
+
 /// The move along an axis, for a move `d` along the projection vector. `part` is the freedom vector's part along the
 /// axis, and `whole` the dot product of both vectors.
 fn step(d: i64, part: i32, whole: i32) -> i64
@@ -65,7 +75,7 @@ fn step(d: i64, part: i32, whole: i32) -> i64
     ensures exact { result ≡ rounded_quotient (d *ℤ part) whole }
     ensures bound { unsigned_abs result < 2 ^ 61 }
 {
-    rq(d * i64::from(part), i64::from(whole))
+    rq(scaled(d, i64::from(part)), i64::from(whole))
 }
 
 fn is_same(v: &Vector, w: &Vector) -> bool
