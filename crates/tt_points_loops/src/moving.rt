@@ -213,16 +213,6 @@ pub fn ip(
     in_turn(zones, state, tolerance, change, numbers)
 }
 
-/// The point moved along the freedom vector. Error: ValueRange.
-fn pushed(p: Point, by: Distance, state: &GraphicsState) -> Result<Point, Why>
-    requires point { IsPoint p }
-    requires small { unsigned_abs by.0 ≤ 2 ^ 32 }
-    ensures exact { Gives (λ q. q) result (motion.moved_along state.now.free by.0 p) }
-    ensures valid { IfOk result IsPoint }
-{
-    Motion::of(state).moved_along(p, by.0)
-}
-
 /// Moves a point of zp2 along the freedom vector. Errors: PointRange, ValueRange.
 pub(crate) fn push(
     zones: &mut Zones,
@@ -237,8 +227,8 @@ pub(crate) fn push(
     ensures kept { IfErr result (λ why. zones_view zones.new ≡ zones_view zones.old) }
 {
     let p = zones.point(state.zp2, n)?;
-    let moved = pushed(p, by, state)?;
-    zones.set(state.zp2, n, moved);
+    let q = Motion::of(state).moved_along(p, by.0)?;
+    zones.set(state.zp2, n, q);
     Ok(())
 }
 
