@@ -13,17 +13,6 @@ use tt_core::{Scale, Why, quotient};
 use tt_points_zones::{Distance, Motion, Originals, Zones, may_move, product};
 use tt_state::{GraphicsState, Point, Tolerance, Zone};
 
-/// The point moved by a distance along the projection vector. Error: ValueRange. It takes a `Distance` (for the
-/// prover): then no number of 64 bits is in the goals of its callers.
-fn moved_by(p: Point, m: &Motion, by: Distance) -> Result<Point, Why>
-    requires point { IsPoint p }
-    requires small { unsigned_abs by.0 < 2 ^ 47 }
-    ensures exact { Gives (λ q. q) result (motion.moved m.now by.0 p) }
-    ensures valid { IfOk result IsPoint }
-{
-    m.moved(p, by.0)
-}
-
 /// The point `p` moved to the current coordinate of `r`, by the vectors of the graphics state. Errors: Perpendicular,
 /// ValueRange.
 fn aligned(p: Point, r: Point, state: &GraphicsState) -> Result<Point, Why>
@@ -34,7 +23,7 @@ fn aligned(p: Point, r: Point, state: &GraphicsState) -> Result<Point, Why>
 {
     may_move(state)?;
     let motion = Motion::of(state);
-    moved_by(p, &motion, motion.current_distance(p, r))
+    motion.moved(p, motion.current_distance(p, r).0)
 }
 
 /// Moves a point of zp1 to the current coordinate of rp0. Errors: PointRange, Perpendicular, ValueRange.
@@ -130,7 +119,7 @@ fn kept_between(p: Point, between: Between, state: &GraphicsState) -> Result<Poi
     let motion = Motion::of(state);
     let wanted = interpolated(p, between, &motion);
     let way = difference(wanted, motion.current_distance(between.from, p));
-    moved_by(p, &motion, way)
+    motion.moved(p, way.0)
 }
 
 /// The second end of IP's range, rp2 in zp1. A tolerant machine takes the first end, `a`, in place of a missing point.
