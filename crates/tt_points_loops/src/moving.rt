@@ -70,15 +70,6 @@ fn unscaled(scale: Option<Scale>, m: &Motion, from: Point, to: Point) -> Distanc
     }
 }
 
-fn difference(a: Distance, b: Distance) -> Distance
-    requires a { unsigned_abs a.0 < 2 ^ 46 }
-    requires b { unsigned_abs b.0 < 2 ^ 23 }
-    ensures exact { result.0 ≡ a.0 -ℤ b.0 }
-    ensures bound { unsigned_abs result.0 < 2 ^ 47 }
-{
-    Distance(a.0 - b.0)
-}
-
 /// The range of IP: both ends, and the measure of original places.
 #[derive(Clone, Copy)]
 struct Between {
@@ -118,8 +109,8 @@ fn kept_between(p: Point, between: Between, state: &GraphicsState) -> Result<Poi
     may_move(state)?;
     let motion = Motion::of(state);
     let wanted = interpolated(p, between, &motion);
-    let way = difference(wanted, motion.current_distance(between.from, p));
-    motion.moved(p, way.0)
+    let now = motion.current_distance(between.from, p);
+    motion.moved(p, wanted.0 - now.0)
 }
 
 /// The second end of IP's range, rp2 in zp1. A tolerant machine takes the first end, `a`, in place of a missing point.
