@@ -19,7 +19,7 @@ use tt_exec_state::Size;
 use tt_points_loops::deltas::{DeltaRange, Deltas};
 use tt_state::{Axis, GraphicsState, Tolerance};
 
-/// An instruction on points, or DELTAC. Those of one family take the same and leave the same.
+/// An instruction on points, or DELTAC. Those of a family work on the same parts of a machine.
 #[derive(Clone, Copy)]
 pub enum OnPoints {
     OnOne(OnOne),

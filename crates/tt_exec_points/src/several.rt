@@ -98,10 +98,10 @@ impl Points {
                     alignrp(&mut self.zones, graphics, tolerance, numbers)),
             InTurn::Ip =>
                 looped!(tolerance, self.zones.has(graphics.zp0, graphics.rp1), stack, graphics, numbers =>
-                ip(&mut self.zones, graphics, tolerance, numbers)),
+                    ip(&mut self.zones, graphics, tolerance, numbers)),
             InTurn::Shp(which) =>
                 looped!(tolerance, self.has_reference(which, graphics), stack, graphics, numbers =>
-                shp(&mut self.zones, graphics, tolerance, which, numbers)),
+                    shp(&mut self.zones, graphics, tolerance, which, numbers)),
             InTurn::Shpix => {
                 let amount = stack.pop()?;
                 looped!(tolerance, true, stack, graphics, numbers =>

@@ -73,21 +73,7 @@ impl PlainPoint {
     }
 }
 
-impl<'a> Contour<'a> {
-    fn over(points: &'a mut [Point], along: Along) -> Contour<'a>
-        requires { All IsPoint points.old }
-        ensures same_reference { result.points.ghost_name ≡ points.entry.ghost_name }
-        ensures points { result.points.now ≡ points.old }
-        ensures along { result.along ≡ along }
-        ensures count { result.reads ≡ 0 }
-    {
-        Contour {
-            points,
-            along,
-            reads: 0,
-        }
-    }
-
+impl Contour<'_> {
     pub(crate) fn along(&self) -> Along
         ensures { result ≡ self.now.along }
     {
@@ -148,7 +134,11 @@ fn one_contour(points: &mut [Point], along: Along) -> Result<u64, Why>
     ensures few { IfOk result (λ n. n ≤ 3 * length points.old) }
     ensures valid { All IsPoint points.new }
 {
-    let mut contour = Contour::over(points, along);
+    let mut contour = Contour {
+        points,
+        along,
+        reads: 0,
+    };
     interpolate_contour(&mut contour)?;
     Ok(contour.reads)
 }

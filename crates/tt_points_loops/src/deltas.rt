@@ -92,22 +92,12 @@ fn step_of(state: &GraphicsState) -> i32
     }
 }
 
-fn product(steps: i32, step: i32) -> i32
-    requires steps { unsigned_abs steps ≤ 8 }
-    requires low { pos 1 ≤ℤ step }
-    requires high { step ≤ℤ pos 64 }
-    ensures exact { result ≡ steps *ℤ step }
-    ensures bound { unsigned_abs result ≤ 512 }
-{
-    steps * step
-}
-
 /// The move that a byte requests at its size.
 fn exception(argument: u8, state: &GraphicsState) -> i32
     ensures exact { result ≡ is.steps_of argument *ℤ is.step_of state.now }
     ensures bound { unsigned_abs result ≤ 512 }
 {
-    product(steps_of(argument), step_of(state))
+    steps_of(argument) * step_of(state)
 }
 
 /// An argument as a byte. A tolerant machine takes the low byte. Error: BadArgument, for an argument that is no byte.

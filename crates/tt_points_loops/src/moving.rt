@@ -14,17 +14,6 @@ use tt_core::{Scale, Why, quotient};
 use tt_points_zones::{Distance, Motion, Originals, Zones, may_move, product};
 use tt_state::{GraphicsState, Point, Tolerance, Zone};
 
-/// The point moved by a distance along the projection vector. Error: ValueRange. It takes a `Distance` (for the
-/// prover): then no number of 64 bits is in the goals of its callers.
-fn moved_by(p: Point, m: &Motion, by: Distance) -> Result<Point, Why>
-    requires point { IsPoint p }
-    requires small { unsigned_abs by.0 < 2 ^ 47 }
-    ensures exact { Gives (λ q. q) result (motion.moved m.now by.0 p) }
-    ensures valid { IfOk result IsPoint }
-{
-    m.moved(p, by.0)
-}
-
 /// The point `p` moved to the current coordinate of `r`, by the vectors of the graphics state. Errors: Perpendicular,
 /// ValueRange.
 fn aligned(p: Point, r: Point, state: &GraphicsState) -> Result<Point, Why>
@@ -35,7 +24,7 @@ fn aligned(p: Point, r: Point, state: &GraphicsState) -> Result<Point, Why>
 {
     may_move(state)?;
     let motion = Motion::of(state);
-    moved_by(p, &motion, motion.current_distance(p, r))
+    motion.moved(p, motion.current_distance(p, r).0)
 }
 
 /// Moves a point of zp1 to the current coordinate of rp0. Errors: PointRange, Perpendicular, ValueRange.
@@ -78,15 +67,6 @@ fn unscaled(scale: Option<Scale>, m: &Motion, from: Point, to: Point) -> Distanc
     }
 }
 
-fn difference(a: Distance, b: Distance) -> Distance
-    requires a { unsigned_abs a.0 < 2 ^ 46 }
-    requires b { unsigned_abs b.0 < 2 ^ 23 }
-    ensures exact { result.0 ≡ a.0 -ℤ b.0 }
-    ensures bound { unsigned_abs result.0 < 2 ^ 47 }
-{
-    Distance(a.0 - b.0)
-}
-
 /// The range of IP: both ends, and the measure of original places.
 #[derive(Clone, Copy)]
 struct Between {
@@ -126,8 +106,8 @@ fn kept_between(p: Point, between: Between, state: &GraphicsState) -> Result<Poi
     may_move(state)?;
     let motion = Motion::of(state);
     let wanted = interpolated(p, between, &motion);
-    let way = difference(wanted, motion.current_distance(between.from, p));
-    moved_by(p, &motion, way)
+    let now = motion.current_distance(between.from, p);
+    motion.moved(p, wanted.0 - now.0)
 }
 
 /// The second end of IP's range, rp2 in zp1. A tolerant machine takes the first end, `a`, in place of a missing point.
@@ -204,16 +184,6 @@ pub fn ip(
     in_turn(zones, state, tolerance, change, numbers)
 }
 
-/// The point moved along the freedom vector. Error: ValueRange.
-fn pushed(p: Point, by: Distance, state: &GraphicsState) -> Result<Point, Why>
-    requires point { IsPoint p }
-    requires small { unsigned_abs by.0 ≤ 2 ^ 32 }
-    ensures exact { Gives (λ q. q) result (motion.moved_along state.now.free by.0 p) }
-    ensures valid { IfOk result IsPoint }
-{
-    Motion::of(state).moved_along(p, by.0)
-}
-
 /// Moves a point of zp2 along the freedom vector. Errors: PointRange, ValueRange.
 pub(crate) fn push(
     zones: &mut Zones,
@@ -226,8 +196,8 @@ pub(crate) fn push(
     ensures kept { IfErr result (λ why. zones_view zones.new ≡ zones_view zones.old) }
 {
     let p = zones.point(state.zp2, n)?;
-    let moved = pushed(p, by, state)?;
-    zones.set(state.zp2, n, moved);
+    let q = Motion::of(state).moved_along(p, by.0)?;
+    zones.set(state.zp2, n, q);
     Ok(())
 }
 
