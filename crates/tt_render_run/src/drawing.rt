@@ -4,14 +4,14 @@ ghost use Rattle.std.specs.Prelude.{◌≡◌, ◌≤◌, length, Ok, IfOk, IsOk
 ghost use Rattle.tt_core.specs.Bits.{stride};
 ghost use Rattle.tt_core.specs.Limits.{font_limit};
 ghost use Rattle.tt_core.specs.Outcomes.{GivesUnless, IfTold, draw_font_fault, draw_job_fault};
+ghost use Rattle.tt_face.specs.Faces.{face_of};
+ghost use Rattle.tt_picture.specs.Pictures.{IsReady, image_of};
+ghost use Rattle.tt_picture.specs.Unfitted.{ListsOnce};
 ghost use Rattle.tt_strike.specs.Defects.{IsFontRefusal, IsRunDefect, TellsDefects};
 ghost use Rattle.tt_strike.specs.Job.{job_view, tested, IsJob};
 ghost use Rattle.tt_strike.specs.Picture.{pictured};
-ghost use Rattle.tt_picture.specs.Pictures.{IsReady, image_of};
 ghost use Rattle.tt_strike.specs.Refusals.{refusal};
-ghost use Rattle.tt_picture.specs.Unfitted.{ListsOnce};
 ghost use Rattle.tt_strike.specs.Report.{report_of};
-ghost use Rattle.tt_face.specs.Faces.{face_of};
 
 use std::alloc::Global;
 use tt_strike::{DrawFault, Face, Job, Picture, Strike};
