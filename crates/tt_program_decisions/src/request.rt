@@ -2,7 +2,7 @@
 
 ghost use Rattle.std.specs.Prelude.{◌≡◌, ◌≢◌, ℕ, Bool, List, Option, None, codes, option_map};
 ghost use Rattle.tt_render.specs.declared.setting.Product.TheVariants.{Measure, Picture};
-ghost use Rattle.tt_program_decisions.specs.Requests.{AsksDrawing, asked_of, draw_asked, fit_named, font_of, map_asked, missing_named, options_asked};
+ghost use Rattle.tt_program_decisions.specs.Requests.{AsksDrawing, AsksSetting, asked_of, draw_asked, fit_named, font_of, map_asked, missing_named};
 
 use tt_fit::Fit;
 use tt_render::{Missing, Product, Setting};
@@ -88,14 +88,7 @@ fn drawing_of<'a, A: Arguments<'a>>(arguments: &A, product: Product) -> Option<R
         arguments.text_for("FONT"),
         arguments.text_for("TEXT"),
         arguments.is_set("lines"),
-        setting_of(
-            arguments.number_for("size"),
-            arguments.number_for("margin"),
-            arguments.text_for("fit"),
-            arguments.text_for("missing"),
-            arguments.is_set("grow"),
-            product,
-        ),
+        setting_of(arguments, product),
     )
 }
 
@@ -146,16 +139,14 @@ pub const GLYPHS_KEPT: usize = 4_194_304;
 
 /// The setting of `--size SIZE --margin MARGIN --fit FIT --missing MISSING` for a product, where all are present. None
 /// where the name of the way to fit, or of the treatment of missing glyphs, is unknown.
-fn setting_of(
-    size: Option<u32>,
-    margin: Option<u32>,
-    fit: Option<&str>,
-    missing: Option<&str>,
-    grow: bool,
-    product: Product,
-) -> Option<Setting>
-    ensures { result ≡ options_asked size margin (option_map (λ s. s.now) fit.entry) (option_map (λ s. s.now) missing.entry) grow product }
+fn setting_of<'a, A: Arguments<'a>>(arguments: &A, product: Product) -> Option<Setting>
+    ensures { AsksSetting (A.text arguments.now) (A.IsNumber arguments.now) (A.IsFlag arguments.now) product result }
 {
+    let size = arguments.number_for("size");
+    let margin = arguments.number_for("margin");
+    let fit = arguments.text_for("fit");
+    let missing = arguments.text_for("missing");
+    let grow = arguments.is_set("grow");
     Some(Setting {
         ppem: size?,
         margin: margin?,
