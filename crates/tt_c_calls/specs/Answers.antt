@@ -21,13 +21,17 @@ plain_answer status number = record {
   count = 0;
 }
 
+-- the answer of a call about `bytes` bytes and `count` rows, entries or lines
+abbrev pub sized_answer : ℕ → ℕ → ℕ → CAnswer
+sized_answer status bytes count = record (plain_answer status 0) { bytes = bytes; count = count }
+
 -- the answer of a call that wrote `bytes` bytes and `count` rows, entries or lines
 abbrev pub done_answer : ℕ → ℕ → CAnswer
-done_answer bytes count = record (plain_answer 0 0) { bytes = bytes; count = count }
+done_answer bytes count = sized_answer 0 bytes count
 
 -- the answer of a call that needs room for `bytes` bytes and `count` rows or entries
 abbrev pub room_answer : ℕ → ℕ → CAnswer
-room_answer bytes count = record (plain_answer 7 0) { bytes = bytes; count = count }
+room_answer bytes count = sized_answer 7 bytes count
 
 abbrev pub fault_answer : Fault → CAnswer
 fault_answer f = record (plain_answer 1 (why_number f.why)) { table = f.table; offset = f.offset }

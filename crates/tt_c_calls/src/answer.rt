@@ -1,7 +1,7 @@
 //! The answer of a call.
 
 ghost use Rattle.std.specs.Prelude.{◌≡◌};
-ghost use Rattle.tt_c_calls.specs.Answers.{call_answer, done_answer, fault_answer, job_answer, plain_answer, room_answer};
+ghost use Rattle.tt_c_calls.specs.Answers.{call_answer, fault_answer, job_answer, plain_answer, sized_answer};
 
 use crate::fault::CallFault;
 use tt_core::{Fault, JobFault};
@@ -26,6 +26,12 @@ pub struct CAnswer {
     pub count: u64,
 }
 
+/// The call is done.
+pub(crate) const DONE: u32 = 0;
+
+/// The caller's room is too small.
+pub(crate) const ROOM: u32 = 7;
+
 /// An answer with nothing but a status and the number of a refusal.
 fn plain(status: u32, number: u32) -> CAnswer
     ensures { result ≡ plain_answer status number }
@@ -40,25 +46,15 @@ fn plain(status: u32, number: u32) -> CAnswer
     }
 }
 
-/// The answer of a call that wrote `bytes` bytes and `count` rows, entries or lines.
-pub(crate) fn done(bytes: u64, count: u64) -> CAnswer
-    ensures { result ≡ done_answer bytes count }
+/// The answer of a call about `bytes` bytes and `count` rows, entries or lines. With DONE they are written; with ROOM the
+/// caller's room is too small for them.
+pub(crate) fn sized(status: u32, bytes: u64, count: u64) -> CAnswer
+    ensures { result ≡ sized_answer status bytes count }
 {
     CAnswer {
         bytes,
         count,
-        ..plain(0, 0)
-    }
-}
-
-/// The answer of a call that needs room for `bytes` bytes and `count` rows or entries.
-pub(crate) fn wants_room(bytes: u64, count: u64) -> CAnswer
-    ensures { result ≡ room_answer bytes count }
-{
-    CAnswer {
-        bytes,
-        count,
-        ..plain(7, 0)
+        ..plain(status, 0)
     }
 }
 

@@ -5,7 +5,7 @@ ghost use Rattle.tt_c_calls.specs.Answers.{DefectStands};
 ghost use Rattle.tt_c_calls.specs.Asked.{IsAskedDefect};
 ghost use Rattle.tt_c_calls.specs.Lines.{DrawsLines, DrawsTexts, EndsWith, IsLineWritten, IsLinesDefect, IsStrikeFor, IsTextStopped, LineDefectStands, stopped_answer};
 
-use crate::answer::{CAnswer, answer_of, done, wants_room};
+use crate::answer::{CAnswer, DONE, ROOM, answer_of, sized};
 use crate::asked::{CJob, fit_of, text_of};
 use crate::fault::CallFault;
 use crate::opening::face_of;
@@ -124,7 +124,7 @@ fn draw_by(
         taken += u128::from(cost);
         from = end as usize;
     }
-    done(used as u64, ends.len() as u64)
+    sized(DONE, used as u64, ends.len() as u64)
 }
 
 /// Draws lines one after the other, each as `draw_band` draws its whole picture. The font is opened once and its
@@ -168,7 +168,7 @@ pub fn draw_lines(
         Err(fault) => return (answer_of(fault), 0),
     };
     if lines.len() < ends.len() {
-        return (wants_room(0, ends.len() as u64), 0);
+        return (sized(ROOM, 0, ends.len() as u64), 0);
     }
     let mut strike = match Strike::new(alloc, &face, job.size, fit, keep) {
         Ok(strike) => strike,

@@ -4,7 +4,7 @@ ghost use Rattle.std.specs.Prelude.{◌≡◌, ◌≢◌, length, chars, map};
 ghost use Rattle.tt_c_calls.specs.Maps.{AreGlyphsTold, MapsText, glyph_told};
 ghost use Rattle.tt_c_calls.specs.Measures.{IsEntriesSmall};
 
-use crate::answer::{CAnswer, answer_of, done, wants_room};
+use crate::answer::{CAnswer, DONE, ROOM, answer_of, sized};
 use crate::asked::text_of;
 use crate::fault::CallFault;
 use crate::opening::face_of;
@@ -41,14 +41,14 @@ fn write_glyphs(face: &Face, text: &str, room: &mut [CGlyph]) -> CAnswer
 {
     let count = text.chars().count();
     if count > room.len() {
-        return wants_room(0, count as u64);
+        return sized(ROOM, 0, count as u64);
     }
     let mut i = 0;
     for c in text.chars() {
         room[i] = glyph_of(face, c);
         i += 1;
     }
-    done(0, count as u64)
+    sized(DONE, 0, count as u64)
 }
 
 /// Writes the glyph and the advance of each character of a text, in the order of the text. Answers: done, with the

@@ -8,7 +8,7 @@ ghost use Rattle.tt_c_calls.specs.Asked.{IsAskedDefect};
 ghost use Rattle.tt_c_calls.specs.Measures.{AreCharactersTold, IsEntriesSmall, IsMeasureOf, MeasuresText, PlacesCharacters, box_told, character_told, measure_told, measure_wanted};
 ghost use Rattle.tt_c_calls.specs.Refusals.{call_font_fault, call_refusal};
 
-use crate::answer::{CAnswer, answer_of, done, wants_room};
+use crate::answer::{CAnswer, DONE, ROOM, answer_of, sized};
 use crate::asked::{TextRequest, job_of};
 use crate::fault::CallFault;
 use crate::opening::face_of;
@@ -129,7 +129,7 @@ pub fn measure(alloc: Global, request: &TextRequest, told: &mut CMeasure) -> CAn
     match measured(alloc, request) {
         Ok(measure) => {
             *told = measure_of(&measure);
-            done(0, 0)
+            sized(DONE, 0, 0)
         }
         Err(fault) => answer_of(fault),
     }
@@ -144,12 +144,12 @@ fn write_characters(measured: &[CharacterMeasure], room: &mut [CCharacter]) -> C
 {
     let count = measured.len();
     if count > room.len() {
-        return wants_room(0, count as u64);
+        return sized(ROOM, 0, count as u64);
     }
     for i in 0..count {
         room[i] = character_of(&measured[i]);
     }
-    done(0, count as u64)
+    sized(DONE, 0, count as u64)
 }
 
 /// Writes the place of each character of a text in its picture, in the order of the text. Answers: done, with the

@@ -4,7 +4,7 @@ ghost use Rattle.std.specs.Prelude.{◌≡◌, ◌≢◌, ◌+◌, ◌<◌, leng
 ghost use Rattle.tt_core.specs.Faults.{is_ascii};
 ghost use Rattle.tt_c_calls.specs.Messages.{IsTextSmall, IsTextWritten, WritesMessage, defect_message, defect_of, job_message, message_of};
 
-use crate::answer::{CAnswer, answer_of, done, wants_room};
+use crate::answer::{CAnswer, DONE, ROOM, answer_of, sized};
 use crate::fault::CallFault;
 use std::alloc::{AllocError, Global};
 use tt_core::{Fault, JobFault, Why};
@@ -82,11 +82,11 @@ fn write_text(text: &[u8], room: &mut [u8]) -> CAnswer
 {
     let count = text.len();
     if count >= room.len() {
-        return wants_room(count as u64 + 1, 0);
+        return sized(ROOM, count as u64 + 1, 0);
     }
     room[..count].copy_from_slice(text);
     room[count] = 0;
-    done(count as u64 + 1, 0)
+    sized(DONE, count as u64 + 1, 0)
 }
 
 /// Writes an answer's message, which is the program's line where there is one, and a zero. Answers: done, with the

@@ -8,7 +8,7 @@ ghost use Rattle.tt_c_calls.specs.Fonts.{OpensFont, face_wanted};
 ghost use Rattle.tt_c_calls.specs.declared.fault.CallFault.TheVariants as call;
 ghost use Rattle.tt_c_calls.specs.Refusals.{call_font_fault, call_refusal};
 
-use crate::answer::{CAnswer, answer_of, done};
+use crate::answer::{CAnswer, DONE, answer_of, sized};
 use crate::fault::CallFault;
 use tt_core::FONT_LIMIT;
 use tt_strike::Face;
@@ -60,5 +60,5 @@ pub fn open(font: &[u8], told: &mut CFont) -> CAnswer
         descent: i32::from(metrics.descent()),
         glyphs: u32::from(metrics.glyphs()),
     };
-    done(0, 0)
+    sized(DONE, 0, 0)
 }

@@ -10,7 +10,7 @@ ghost use Rattle.tt_c_calls.specs.Pictures.{IsBandSmall, IsBandWritten, IsPictur
 ghost use Rattle.tt_c_calls.specs.Answers.{room_answer};
 ghost use Rattle.tt_c_calls.specs.Refusals.{call_font_fault, call_refusal};
 
-use crate::answer::{CAnswer, done, wants_room};
+use crate::answer::{CAnswer, DONE, ROOM, sized};
 use crate::asked::{TextRequest, job_of};
 use crate::fault::CallFault;
 use crate::opening::face_of;
@@ -116,12 +116,12 @@ pub(crate) fn write_band(
     let count = count.min(picture.height().saturating_sub(first));
     let wanted = bytes * count as usize;
     if wanted > room.len() {
-        return wants_room(wanted as u64, u64::from(count));
+        return sized(ROOM, wanted as u64, u64::from(count));
     }
     *told = told_of(picture);
     if count > 0 {
         skip_rows(picture, first, &mut room[..bytes]);
         make_rows(picture, count, &mut room[..wanted]);
     }
-    done(wanted as u64, u64::from(count))
+    sized(DONE, wanted as u64, u64::from(count))
 }

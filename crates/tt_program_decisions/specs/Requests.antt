@@ -82,15 +82,23 @@ draw_asked (Some font) (Some text) false (Some s) = Some (draw_text font text s)
 draw_asked (Some font) None true (Some s) = Some (draw_lines font s)
 draw_asked font text lines s = None
 
--- the request of `draw`, or of `measure`, by its arguments: a name's text, its number, and whether its flag is set
+-- the setting of `draw`, or of `measure`, by its arguments: a name's text, its number, and whether its flag is set
+abbrev pub AsksSetting
+    : (List ℕ → Option (List ℕ)) → (List ℕ → Option ℕ → Type 0) → (List ℕ → Bool → Type 0) → Product
+    → Option Setting → Type 0
+AsksSetting text IsNumber IsFlag wanted answer =
+    (size margin : Option ℕ) × (grows : Bool) × IsNumber (codes "size") size × IsNumber (codes "margin") margin
+    × IsFlag (codes "grow") grows
+    × (answer ≡ options_asked size margin (text (codes "fit")) (text (codes "missing")) grows wanted)
+
+-- the request of `draw`, or of `measure`, by its arguments
 abbrev pub AsksDrawing
     : (List ℕ → Option (List ℕ)) → (List ℕ → Option ℕ → Type 0) → (List ℕ → Bool → Type 0) → Product → Option Asked
     → Type 0
 AsksDrawing text IsNumber IsFlag wanted answer =
-    (size margin : Option ℕ) × (lines grows : Bool) × IsNumber (codes "size") size × IsNumber (codes "margin") margin
-    × IsFlag (codes "lines") lines × IsFlag (codes "grow") grows
-    × (answer ≡ draw_asked (text (codes "FONT")) (text (codes "TEXT")) lines
-    (options_asked size margin (text (codes "fit")) (text (codes "missing")) grows wanted))
+    (setting : Option Setting) × (lines : Bool) × AsksSetting text IsNumber IsFlag wanted setting
+    × IsFlag (codes "lines") lines
+    × (answer ≡ draw_asked (text (codes "FONT")) (text (codes "TEXT")) lines setting)
 
 -- the path of a request's font
 abbrev pub font_of : Request → List ℕ

@@ -2,7 +2,7 @@
 
 ghost use Rattle.std.specs.Prelude.{◌≡◌, ◌≢◌, ℕ, Bool, List, Option, None, codes, option_map};
 ghost use Rattle.tt_render.specs.declared.setting.Product.TheVariants.{Measure, Picture};
-ghost use Rattle.tt_program_decisions.specs.Requests.{AsksDrawing, asked_of, draw_asked, fit_named, font_of, map_asked, missing_named, options_asked};
+ghost use Rattle.tt_program_decisions.specs.Requests.{AsksDrawing, AsksSetting, asked_of, fit_named, font_of, map_asked, missing_named};
 
 use tt_fit::Fit;
 use tt_render::{Missing, Product, Setting};
@@ -80,45 +80,15 @@ pub fn request_of<'a, A: Arguments<'a>>(subcommand: &str, arguments: &A) -> Opti
     }
 }
 
-/// The request of `draw`, or of `measure`, by its arguments.
+/// The request `draw OPTION.. FONT TEXT` or `draw OPTION.. --lines FONT`, or the same of `measure`, where its words and
+/// options are present.
 fn drawing_of<'a, A: Arguments<'a>>(arguments: &A, product: Product) -> Option<Request<'a>>
     ensures { AsksDrawing (A.text arguments.now) (A.IsNumber arguments.now) (A.IsFlag arguments.now) product (option_map asked_of result) }
 {
-    text_or_lines(
-        arguments.text_for("FONT"),
-        arguments.text_for("TEXT"),
-        arguments.is_set("lines"),
-        setting_of(
-            arguments.number_for("size"),
-            arguments.number_for("margin"),
-            arguments.text_for("fit"),
-            arguments.text_for("missing"),
-            arguments.is_set("grow"),
-            product,
-        ),
-    )
-}
-
-/// The request `map FONT TEXT`, where both words are present.
-fn map_of<'a>(font: Option<&'a str>, text: Option<&'a str>) -> Option<Request<'a>>
-    ensures { option_map asked_of result ≡ map_asked (option_map (λ s. s.now) font.entry) (option_map (λ s. s.now) text.entry) }
-{
-    Some(Request::Map {
-        font: font?,
-        text: text?,
-    })
-}
-
-/// The request `draw OPTION.. FONT TEXT` or `draw OPTION.. --lines FONT`, where its words and options are present.
-fn text_or_lines<'a>(
-    font: Option<&'a str>,
-    text: Option<&'a str>,
-    lines: bool,
-    setting: Option<Setting>,
-) -> Option<Request<'a>>
-    ensures { option_map asked_of result ≡ draw_asked (option_map (λ s. s.now) font.entry) (option_map (λ s. s.now) text.entry) lines setting }
-{
-    let font = font?;
+    let text = arguments.text_for("TEXT");
+    let lines = arguments.is_set("lines");
+    let setting = setting_of(arguments, product);
+    let font = arguments.text_for("FONT")?;
     let setting = setting?;
     match text {
         Some(text) => {
@@ -140,22 +110,30 @@ fn text_or_lines<'a>(
     }
 }
 
+/// The request `map FONT TEXT`, where both words are present.
+fn map_of<'a>(font: Option<&'a str>, text: Option<&'a str>) -> Option<Request<'a>>
+    ensures { option_map asked_of result ≡ map_asked (option_map (λ s. s.now) font.entry) (option_map (λ s. s.now) text.entry) }
+{
+    Some(Request::Map {
+        font: font?,
+        text: text?,
+    })
+}
+
 /// The limit of the cache of glyphs from line to line, in bytes. All letters of a Latin font at the largest size fit,
 /// and some thousand glyphs at a usual one.
 pub const GLYPHS_KEPT: usize = 4_194_304;
 
 /// The setting of `--size SIZE --margin MARGIN --fit FIT --missing MISSING` for a product, where all are present. None
 /// where the name of the way to fit, or of the treatment of missing glyphs, is unknown.
-fn setting_of(
-    size: Option<u32>,
-    margin: Option<u32>,
-    fit: Option<&str>,
-    missing: Option<&str>,
-    grow: bool,
-    product: Product,
-) -> Option<Setting>
-    ensures { result ≡ options_asked size margin (option_map (λ s. s.now) fit.entry) (option_map (λ s. s.now) missing.entry) grow product }
+fn setting_of<'a, A: Arguments<'a>>(arguments: &A, product: Product) -> Option<Setting>
+    ensures { AsksSetting (A.text arguments.now) (A.IsNumber arguments.now) (A.IsFlag arguments.now) product result }
 {
+    let size = arguments.number_for("size");
+    let margin = arguments.number_for("margin");
+    let fit = arguments.text_for("fit");
+    let missing = arguments.text_for("missing");
+    let grow = arguments.is_set("grow");
     Some(Setting {
         ppem: size?,
         margin: margin?,

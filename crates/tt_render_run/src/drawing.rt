@@ -4,15 +4,14 @@ ghost use Rattle.std.specs.Prelude.{◌≡◌, ◌≤◌, length, Ok, IfOk, IsOk
 ghost use Rattle.tt_core.specs.Bits.{stride};
 ghost use Rattle.tt_core.specs.Limits.{font_limit};
 ghost use Rattle.tt_core.specs.Outcomes.{GivesUnless, IfTold, draw_font_fault, draw_job_fault};
-ghost use Rattle.tt_line.specs.Layout.{text_glyphs};
-ghost use Rattle.tt_strike.specs.Defects.{IsLineDefect, IsRunDefect, IsFontRefusal, IsLineRefusal, TellsDefects};
-ghost use Rattle.tt_strike.specs.Job.{job_view, tested, IsJob};
-ghost use Rattle.tt_strike.specs.Picture.{line_outcome, pictured};
-ghost use Rattle.tt_picture.specs.Pictures.{IsReady, image_of};
-ghost use Rattle.tt_strike.specs.Refusals.{refusal};
-ghost use Rattle.tt_picture.specs.Unfitted.{ListsOnce};
-ghost use Rattle.tt_strike.specs.Report.{report_of, report_by};
 ghost use Rattle.tt_face.specs.Faces.{face_of};
+ghost use Rattle.tt_picture.specs.Pictures.{IsReady, image_of};
+ghost use Rattle.tt_picture.specs.Unfitted.{ListsOnce};
+ghost use Rattle.tt_strike.specs.Defects.{IsFontRefusal, IsRunDefect, TellsDefects};
+ghost use Rattle.tt_strike.specs.Job.{job_view, tested, IsJob};
+ghost use Rattle.tt_strike.specs.Picture.{pictured};
+ghost use Rattle.tt_strike.specs.Refusals.{refusal};
+ghost use Rattle.tt_strike.specs.Report.{report_of};
 
 use std::alloc::Global;
 use tt_strike::{DrawFault, Face, Job, Picture, Strike};
@@ -22,19 +21,6 @@ use tt_strike::{DrawFault, Face, Job, Picture, Strike};
 pub struct Drawn {
     pub picture: Picture,
     pub row: Vec<u8>,
-}
-
-/// The picture of a job by the tables of a font. Errors: as `Strike::new` and `Strike::line`.
-fn draw_by(alloc: Global, face: &Face, job: &Job) -> Result<Picture, DrawFault>
-    ensures exact { GivesUnless refusal image_of result (line_outcome face.now (job_view job.now)) }
-    ensures valid { IfOk result IsReady }
-    ensures report { IfOk result (λ p. report_by face.now (job_view job.now) ≡ Ok p.unfitted) }
-    ensures once { IfOk result (λ p. ListsOnce p.unfitted) }
-    ensures defects { TellsDefects draw_font_fault (IsLineDefect face.now (job_view job.now) (text_glyphs face.now.cmap job.now.text.now)) result }
-    ensures job { IfTold draw_job_fault result (IsLineRefusal face.now (job_view job.now)) }
-{
-    let mut strike = Strike::new(alloc, face, job.ppem, job.fit, 0)?;
-    strike.line(job.text, job.margin)
 }
 
 /// The picture of a job by a font file, and memory for one of its rows. Errors, the first of: those of the tables
@@ -54,7 +40,8 @@ pub(crate) fn draw(alloc: Global, file: &[u8], job: &Job) -> Result<Drawn, DrawF
     ensures job { IfTold draw_job_fault result (λ j. IsOkAnd (face_of file.now) (λ face. IsFontRefusal face (job_view job.now) j)) }
 {
     let face = Face::open(file)?;
-    let picture = draw_by(alloc, &face, job)?;
+    let mut strike = Strike::new(alloc, &face, job.ppem, job.fit, 0)?;
+    let picture = strike.line(job.text, job.margin)?;
     let row = vec![in alloc; 0u8; picture.row_bytes()]?;
     Ok(Drawn { picture, row })
 }

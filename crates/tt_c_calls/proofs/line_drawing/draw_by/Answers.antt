@@ -42,7 +42,7 @@ pub returns-clause-drawn : goal.returns-clause-drawn
 returns-clause-drawn g c =
     let so_far = c.loop-i.invariant.drawn.so_far in
     let all : c.loop-i.i ≡ length c.args.ends.now = omega arith in
-    rw c.done.ensures (c.loop-i.used, rw all at so_far, inl (c.args.strike.now.face, c.requires.0.face, refl))
+    rw c.sized.ensures (c.loop-i.used, rw all at so_far, inl (c.args.strike.now.face, c.requires.0.face, refl))
 
 pub returns-then-answer-ne0-clause-strike : goal.returns-then-answer-ne0-clause-strike
 returns-then-answer-ne0-clause-strike g c =

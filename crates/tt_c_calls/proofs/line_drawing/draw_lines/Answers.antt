@@ -57,10 +57,10 @@ returns-then-lines-ends-clause-draws c =
     let face = c.in-Ok-face_of.face in
     let opened = lines_opened j font c.in-Ok.fit face c.in-Ok.ensures.exact passed c.in-Ok-face_of.ensures.exact in
     record {
-      order = opened_first (lines_wanted j font) face _ _ _ opened (λ few. c.wants_room.ensures);
+      order = opened_first (lines_wanted j font) face _ _ _ opened (λ few. c.sized.ensures);
       kept = λ _. (refl, refl);
       drawn = λ room. absurd (omega (arith, room, c.if-lines-ends.true));
-      stands = rw c.wants_room.ensures (room_names_none _ _ _);
+      stands = rw c.sized.ensures (room_names_none _ _ _);
     }
 
 pub returns-in-Err-new-clause-draws : goal.returns-in-Err-new-clause-draws

@@ -11,7 +11,7 @@ returns-then-count-room-clause-small c =
     let all : c.count-count.result ≡ length (chars c.args.text.now) =
     count_from_yields_List c.chars.result c.count-count.result c.count-count.ensures.ran
     (YieldsList-from_chars c.args.text.now c.utf8.text c.chars.ensures.rest) in
-    λ h. (omega arith, rw (← all) c.wants_room.ensures)
+    λ h. (omega arith, rw (← all) c.sized.ensures)
 
 pub bounds-room-i : goal.bounds-room-i
 bounds-room-i c =
@@ -54,5 +54,5 @@ returns-clause-done c =
     (YieldsList-from_chars c.args.text.now c.utf8.text c.chars.ensures.rest) in
     λ h. (
       rw (← every, length-map, ← so_far.count) so_far.room,
-      rw (length-map, ← all) c.done.ensures,
+      rw (length-map, ← all) c.sized-2.ensures,
     )

@@ -7,7 +7,7 @@ use Rattle.tt_c_calls.proofs.measuring.measure.Goals as goal
 pub returns-in-Ok : goal.returns-in-Ok
 returns-in-Ok c =
     let m = c.in-Ok.measure in
-    rw c.done.ensures (record {
+    rw c.sized.ensures (record {
       done = λ h. (measure_view m, m.report.unfitted.items, c.in-Ok.ensures.measure, c.measure_of.ensures, refl);
       refused = λ h. absurd (h refl);
       kept = λ h. absurd (h refl);

@@ -14,7 +14,7 @@ returns-in-Err c = rw c.answer_of.ensures (record {
 })
 
 pub returns : goal.returns
-returns c = rw c.done.ensures (record {
+returns c = rw c.sized.ensures (record {
   done = λ _. (search rules, refl);
   refused = λ h. absurd (h refl);
   memory = λ h. omega (arith, h);

@@ -16,7 +16,7 @@ returns-clause-done c =
     let count : c.min-count.result ≡ band_rows p.frame.height first c.args.count =
     rw (c.saturating_sub.ensures, c.height.ensures.exact) at c.min-count.ensures in
     let long = band_long n first c.args.count p.frame.height p.rows c.requires.rows in
-    let answer = rw (bytes, c.from-2.ensures, count, ← long) at c.done.ensures in
+    let answer = rw (bytes, c.from-2.ensures, count, ← long) at c.sized-2.ensures in
     λ done. elim c.if-count-gt0.branch [
       | then-count-gt0 w ↦
           let made = rw (w.skip_rows.ensures.picture, count) at w.make_rows.ensures.rows in
@@ -48,4 +48,4 @@ returns-then-wanted-room-clause-small c =
     let count : c.min-count.result ≡ band_rows p.frame.height first c.args.count =
     rw (c.saturating_sub.ensures, c.height.ensures.exact) at c.min-count.ensures in
     let long = band_long (stride p.frame.width) first c.args.count p.frame.height p.rows c.requires.rows in
-    λ _. (rw (bytes, count, ← long) at c.if-wanted-room.true, rw (bytes, c.from.ensures, count, ← long) at c.wants_room.ensures)
+    λ _. (rw (bytes, count, ← long) at c.if-wanted-room.true, rw (bytes, c.from.ensures, count, ← long) at c.sized.ensures)

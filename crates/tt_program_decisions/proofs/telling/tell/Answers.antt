@@ -3,4 +3,4 @@ use Rattle.tt_program_decisions.proofs.telling.tell.Goals as goal
 
 pub returns-in-Err-clause-told : goal.returns-in-Err-clause-told
 returns-in-Err-clause-told g c =
-    rw c.in-Err.is (rw c.status.ensures at (c.tell_line.ensures.told (line_of c.in-Err.fault.now) c.line.ensures))
+    rw c.in-Err.is (rw c.status.ensures at (c.tell_line.ensures.told (line_of c.in-Err.fault) c.line.ensures))

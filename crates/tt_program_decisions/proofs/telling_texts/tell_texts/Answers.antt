@@ -2,8 +2,8 @@ use Rattle.std.proofs.Common.{◌≡◌, false, rules}
 use Rattle.tt_render.specs.TextsMessages.{texts_line_of}
 use Rattle.tt_program_decisions.proofs.telling_texts.tell_texts.Goals as goal
 
-pub returns-in-Err-clause-told : goal.returns-in-Err-clause-told
-returns-in-Err-clause-told g c =
+pub returns-else-failed-clause-told : goal.returns-else-failed-clause-told
+returns-else-failed-clause-told g c =
     let serves : g.E.Sink.has_failed c.args.error.now ≡ false = search rules in
     rw (c.in-Err.is, serves)
-    (rw c.texts_status.ensures at (c.tell_line.ensures.told (texts_line_of c.in-Err.fault.now) c.texts_line.ensures))
+    (rw c.texts_status-in-Err.ensures at (c.tell_line.ensures.told (texts_line_of c.in-Err.fault) c.texts_line.ensures))
