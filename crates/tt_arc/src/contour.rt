@@ -3,7 +3,7 @@
 ghost use Rattle.std.specs.Prelude.{◌≡◌, ◌<◌, ◌++◌, All, map, OnOk};
 ghost use Rattle.tt_arc.specs.Chords.{PointFits, IsNear, EdgeEndFits, moved, edge_end_of, number_after, edges_of, contour_edges};
 
-use crate::point::{Offset, PlacedPoint, moved};
+use crate::point::{Corner, Offset, PlacedPoint, moved};
 use crate::quadratic::{EdgeEnd, edge_between, push_chords, quadratic_of};
 use std::alloc::AllocError;
 use tt_scan::EdgeList;
@@ -21,26 +21,18 @@ fn edge_end_of(p: PlacedPoint) -> EdgeEnd
     }
 }
 
-/// Adds the edges of a point to a list, between its neighbours `before` and `after`. Error: memory ran out.
+/// Adds the edges of a point to a list. Error: memory ran out.
 #[inline(always)]
 #[tactic(auto, unfolding(crate::specs::Chords::edges_of))]
-fn push_edges(
-    list: &mut EdgeList,
-    before: PlacedPoint,
-    p: PlacedPoint,
-    after: PlacedPoint,
-) -> Result<(), AllocError>
-    requires before { PointFits before }
-    requires point { PointFits p }
-    requires after { PointFits after }
-    ensures exact { OnOk result (list.new.edges ≡ list.old.edges ++ edges_of before p after) }
+fn push_edges(list: &mut EdgeList, corner: Corner) -> Result<(), AllocError>
+    ensures exact { OnOk result (list.new.edges ≡ list.old.edges ++ edges_of corner.before corner.point corner.after) }
 {
-    if !p.on {
-        return push_chords(list, quadratic_of(before, p, after));
+    if !corner.point.on {
+        return push_chords(list, quadratic_of(corner));
     }
-    if after.on {
+    if corner.after.on {
         list.reserve(1)?;
-        list.push_reserved(edge_between(edge_end_of(p), edge_end_of(after)));
+        list.push_reserved(edge_between(edge_end_of(corner.point), edge_end_of(corner.after)));
     }
     Ok(())
 }
@@ -69,12 +61,17 @@ pub(crate) fn push_contour(
         return Ok(());
     }
     let mut before = moved(points[points.len() - 1], by);
-    let mut p = moved(points[0], by);
+    let mut point = moved(points[0], by);
     for i in 0..points.len() {
         let after = moved(points[number_after(points.len(), i)], by);
-        push_edges(list, before, p, after)?;
-        before = p;
-        p = after;
+        let corner = Corner {
+            before,
+            point,
+            after,
+        };
+        push_edges(list, corner)?;
+        before = point;
+        point = after;
     }
     Ok(())
 }

@@ -1,7 +1,7 @@
 //! The points of an outline, moved to the glyph's position.
 
 ghost use Rattle.std.specs.Prelude.{◌≡◌};
-ghost use Rattle.tt_arc.specs.Chords.{moved, IsNear};
+ghost use Rattle.tt_arc.specs.Chords.{moved, IsNear, PointFits};
 
 /// A point of a glyph at its position, in 26.6.
 #[derive(Clone, Copy)]
@@ -10,6 +10,17 @@ pub(crate) struct PlacedPoint {
     pub(crate) y: i64,
     /// Whether the point is on the curve.
     pub(crate) on: bool,
+}
+
+/// A point of a contour, between its neighbours.
+#[derive(Clone, Copy)]
+pub(crate) struct Corner {
+    pub(crate) before: PlacedPoint,
+    pub(crate) point: PlacedPoint,
+    pub(crate) after: PlacedPoint,
+    pub(crate) ghost before_fits: { PointFits before },
+    pub(crate) ghost point_fits: { PointFits point },
+    pub(crate) ghost after_fits: { PointFits after },
 }
 
 /// The offset of a glyph from its outline's own position, in 26.6.

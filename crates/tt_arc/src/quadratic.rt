@@ -16,7 +16,7 @@ ghost use Rattle.std.specs.Prelude.{◌≡◌, ◌^◌, ◌<◌, ◌≤◌, ◌+
 ghost use Rattle.tt_scan_edges.specs.Winding.{EdgeFits};
 ghost use Rattle.tt_arc.specs.Chords.{PointFits, CurveEndFits, QuadraticFits, CoordinatesFit, EdgeEndFits, AreDifferences, along_x, along_y, curve_end_of, quadratic_of, edge_between, first_chords};
 
-use crate::point::PlacedPoint;
+use crate::point::{Corner, PlacedPoint};
 use std::alloc::AllocError;
 use tt_scan::{Edge, EdgeList};
 
@@ -59,17 +59,14 @@ fn curve_end_of(neighbour: PlacedPoint, p: PlacedPoint) -> CurveEnd
 
 /// The quadratic of a point off the curve, between its neighbours.
 #[inline(always)]
-pub(crate) fn quadratic_of(before: PlacedPoint, p: PlacedPoint, after: PlacedPoint) -> Quadratic
-    requires before { PointFits before }
-    requires point { PointFits p }
-    requires after { PointFits after }
-    ensures exact { result ≡ quadratic_of before p after }
+pub(crate) fn quadratic_of(corner: Corner) -> Quadratic
+    ensures exact { result ≡ quadratic_of corner.before corner.point corner.after }
     ensures valid { QuadraticFits result }
 {
     Quadratic {
-        from: curve_end_of(before, p),
-        control: p,
-        to: curve_end_of(after, p),
+        from: curve_end_of(corner.before, corner.point),
+        control: corner.point,
+        to: curve_end_of(corner.after, corner.point),
     }
 }
 

@@ -1,9 +1,8 @@
 -- Apple TrueType Reference Manual, "Instructing TrueType Glyphs" (zones, phantom points): the places of a simple
 -- glyph's points in font units. Measuring a program's originals in them is profile.
-use Rattle.std.specs.Prelude.{◌≡◌, ◌≤◌, ◌^◌, unsigned_abs, refl, true, ℤ, pos, List, [], ◌∷◌, Option, Some, None}
+use Rattle.std.specs.Prelude.{◌≡◌, ◌≤◌, ◌^◌, unsigned_abs, refl, true, false, ℤ, pos, List, [], ◌∷◌, Option, Some, None}
 use Rattle.tt_glyf.specs.declared.raw.RawPoint.{RawPoint}
 use Rattle.tt_state.specs.declared.point.Point.{Point}
-use Rattle.tt_points_zones.specs.Points.{origin}
 use Rattle.tt_fit_outline.specs.Outline.{PhantomPoints}
 use Rattle.tt_fit_outline.specs.declared.rules.Scaling.{Scaling}
 use Rattle.tt_fit_outline.specs.declared.rules.Scaling.TheVariants as scaling
@@ -43,7 +42,17 @@ phantom_places (Some u) = u.phantom
 
 -- worked value: the second of two points has no place
 abbrev its_point : ℤ → Point
-its_point x = record origin { org_x = x; x = x }
+its_point x = record {
+  units_x = pos 0;
+  units_y = pos 0;
+  org_x = x;
+  org_y = pos 0;
+  x = x;
+  y = pos 0;
+  touched_x = false;
+  touched_y = false;
+  on = true;
+}
 
 one_of_two : in_units (record { x = pos 7; y = pos 9; on = true } ∷ []) (its_point (pos 1) ∷ its_point (pos 2) ∷ [])
     ≡ record (its_point (pos 1)) { units_x = pos 7; units_y = pos 9 } ∷ its_point (pos 2) ∷ []

@@ -5,4 +5,5 @@ pub mod Examples
 pub mod Laws
 pub mod Passes
 pub mod Pictures
+pub mod Seen
 pub mod Windows

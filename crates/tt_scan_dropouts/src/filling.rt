@@ -9,6 +9,7 @@ ghost use Rattle.tt_scan_edges.specs.Winding.{EdgeFits};
 ghost use Rattle.tt_scan_gaps.specs.Seen.{seen_by, turned_round};
 ghost use Rattle.tt_scan_dropouts.specs.Dropouts.{is_dropout, row_adds};
 ghost use Rattle.tt_scan_dropouts.specs.Passes.{has_pixel};
+ghost use Rattle.tt_scan_dropouts.specs.Seen.{is_black_to};
 ghost use Rattle.tt_scan_gaps.specs.Walk.{is_in_free_gap};
 ghost use Rattle.tt_scan_dropouts.specs.Windows.{WindowFits, has, has_pixel_by, is_black_by, widened};
 ghost use Rattle.tt_scan_gaps.specs.declared.seen.Over.TheVariants as over;
@@ -38,7 +39,7 @@ fn all_turned_round(alloc: Global, edges: &[Edge]) -> Result<Vec<Edge>, AllocErr
 /// The pixels that a pass adds, by contours as the pass sees them. Error: memory ran out.
 fn pass_over(alloc: Global, pass: Pass, contours: Contours) -> Result<Vec<Pixel>, AllocError>
     ensures { IfOk result (λ v. (p j : ℤ) → has_pixel v.items p j ≡ row_adds pass.entry.rules
-        (contours_at contours.entry.edges.now contours.entry.ends.now) (is_black_by pass.entry.over pass.entry.ink.now) p j) }
+        (contours_at contours.entry.edges.now contours.entry.ends.now) (is_black_to pass.entry) p j) }
 {
     let mut marks = free_marks(alloc, pass, contours)?;
     sort_marks(&mut marks);
@@ -51,7 +52,7 @@ fn pass_over(alloc: Global, pass: Pass, contours: Contours) -> Result<Vec<Pixel>
 #[inline(always)]
 fn is_in_free_gap(pass: Pass, edge: &Edge) -> bool
     requires { EdgeFits edge.now }
-    ensures { result ≡ is_in_free_gap pass.entry.rules.stubs (is_black_by pass.entry.over pass.entry.ink.now) (seen_by pass.entry.over edge.now) }
+    ensures { result ≡ is_in_free_gap pass.entry.rules.stubs (is_black_to pass.entry) (seen_by pass.entry.over edge.now) }
 {
     // Most edges are short and meet no line.
     if !meets(pass.over, pass.rules.stubs, edge) {
@@ -96,10 +97,10 @@ fn added(
     some: bool,
     contours: Contours,
 ) -> Result<Vec<Pixel>, AllocError>
-    requires { some ≡ false → list_any (is_in_free_gap pass.rules.stubs (is_black_by pass.over pass.ink.now))
+    requires { some ≡ false → list_any (is_in_free_gap pass.rules.stubs (is_black_to pass))
         contours.edges.now ≡ false }
     ensures { IfOk result (λ v. (p j : ℤ) → has_pixel v.items p j ≡ row_adds pass.entry.rules
-        (contours_at contours.entry.edges.now contours.entry.ends.now) (is_black_by pass.entry.over pass.entry.ink.now) p j) }
+        (contours_at contours.entry.edges.now contours.entry.ends.now) (is_black_to pass.entry) p j) }
 {
     if !some {
         return Ok(Vec::new(alloc));
@@ -114,10 +115,10 @@ fn added_turned(
     some: bool,
     contours: Contours,
 ) -> Result<Vec<Pixel>, AllocError>
-    requires { some ≡ false → list_any (is_in_free_gap pass.rules.stubs (is_black_by pass.over pass.ink.now))
+    requires { some ≡ false → list_any (is_in_free_gap pass.rules.stubs (is_black_to pass))
         (map turned_round contours.edges.now) ≡ false }
     ensures { IfOk result (λ v. (p j : ℤ) → has_pixel v.items p j ≡ row_adds pass.entry.rules
-        (contours_at (map turned_round contours.entry.edges.now) contours.entry.ends.now) (is_black_by pass.entry.over pass.entry.ink.now) p j) }
+        (contours_at (map turned_round contours.entry.edges.now) contours.entry.ends.now) (is_black_to pass.entry) p j) }
 {
     if !some {
         return Ok(Vec::new(alloc));

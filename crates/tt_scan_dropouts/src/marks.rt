@@ -7,7 +7,7 @@ ghost use Rattle.tt_scan_edges.specs.Winding.{EdgeFits};
 ghost use Rattle.tt_scan_gaps.specs.Crossings.{crossings, touches};
 ghost use Rattle.tt_scan_gaps.specs.Gaps.{free_marks, is_free};
 ghost use Rattle.tt_scan_gaps.specs.Walk.{contour_marks, edge_marks, mark_of, marks, some_in_free_gap, step_marks, walk_marks};
-ghost use Rattle.tt_scan_dropouts.specs.Windows.{is_black_by};
+ghost use Rattle.tt_scan_dropouts.specs.Seen.{is_black_to};
 
 use crate::bitmap::Bitmap;
 use crate::contours::Contours;
@@ -29,7 +29,7 @@ pub(crate) struct Pass<'a> {
 /// Whether the gap of a crossing is free.
 #[inline(always)]
 pub(crate) fn is_free(pass: Pass, at: Crossing) -> bool
-    ensures { result ≡ is_free (is_black_by pass.entry.over pass.entry.ink.now) at.gap at.line }
+    ensures { result ≡ is_free (is_black_to pass.entry) at.gap at.line }
 {
     pass.ink
         .is_free(pass.over, i64::from(at.gap), i64::from(at.line))
@@ -38,7 +38,7 @@ pub(crate) fn is_free(pass: Pass, at: Crossing) -> bool
 /// Whether an edge crosses a free gap.
 pub(crate) fn crosses_free_gap(pass: Pass, edge: Edge) -> bool
     requires { EdgeFits edge }
-    ensures { result ≡ some_in_free_gap (is_black_by pass.entry.over pass.entry.ink.now) (crossings edge) }
+    ensures { result ≡ some_in_free_gap (is_black_to pass.entry) (crossings edge) }
 {
     for k in 0..lines_crossed(edge) {
         if pass
@@ -54,7 +54,7 @@ pub(crate) fn crosses_free_gap(pass: Pass, edge: Edge) -> bool
 /// Whether an end of an edge touches a line in a free gap.
 pub(crate) fn touches_free_gap(pass: Pass, edge: Edge) -> bool
     requires { EdgeFits edge }
-    ensures { result ≡ some_in_free_gap (is_black_by pass.entry.over pass.entry.ink.now) (touches edge) }
+    ensures { result ≡ some_in_free_gap (is_black_to pass.entry) (touches edge) }
 {
     match touch(edge) {
         Some(at) => is_free(pass, at),
@@ -66,7 +66,7 @@ pub(crate) fn touches_free_gap(pass: Pass, edge: Edge) -> bool
 #[inline(always)]
 fn push_asking(marks: &mut Vec<Mark>, pass: Pass, at: Crossing) -> Result<(), AllocError>
     ensures { OnOk result (marks.new.items
-        ≡ marks.old.items ++ free_marks (is_black_by pass.entry.over pass.entry.ink.now) (mark_of true at ∷ [])) }
+        ≡ marks.old.items ++ free_marks (is_black_to pass.entry) (mark_of true at ∷ [])) }
 {
     if is_free(pass, at) {
         marks.push(Mark { at, asks: true })?;
@@ -83,7 +83,7 @@ fn push_step_marks(
 ) -> Result<(), AllocError>
     requires { k < length steps.now }
     ensures { OnOk result (marks.new.items
-        ≡ marks.old.items ++ free_marks (is_black_by pass.entry.over pass.entry.ink.now) (step_marks steps.now k)) }
+        ≡ marks.old.items ++ free_marks (is_black_to pass.entry) (step_marks steps.now k)) }
 {
     if let Step::Cross(at) = steps[k] {
         if is_free(pass, at) {
@@ -99,7 +99,7 @@ fn push_step_marks(
 /// Adds the marks of a walk, where stubs are not drawn. Error: memory ran out.
 fn push_walk_marks(marks: &mut Vec<Mark>, pass: Pass, steps: &[Step]) -> Result<(), AllocError>
     ensures { OnOk result (marks.new.items
-        ≡ marks.old.items ++ free_marks (is_black_by pass.entry.over pass.entry.ink.now) (walk_marks steps.now)) }
+        ≡ marks.old.items ++ free_marks (is_black_to pass.entry) (walk_marks steps.now)) }
 {
     for k in 0..steps.len() {
         push_step_marks(marks, pass, steps, k)?;
@@ -111,7 +111,7 @@ fn push_walk_marks(marks: &mut Vec<Mark>, pass: Pass, steps: &[Step]) -> Result<
 fn push_crossings(marks: &mut Vec<Mark>, pass: Pass, edge: Edge) -> Result<(), AllocError>
     requires { EdgeFits edge }
     ensures { OnOk result (marks.new.items
-        ≡ marks.old.items ++ free_marks (is_black_by pass.entry.over pass.entry.ink.now) (map (mark_of true) (crossings edge))) }
+        ≡ marks.old.items ++ free_marks (is_black_to pass.entry) (map (mark_of true) (crossings edge))) }
 {
     for k in 0..lines_crossed(edge) {
         push_asking(marks, pass, crossing(edge, k))?;
@@ -122,8 +122,7 @@ fn push_crossings(marks: &mut Vec<Mark>, pass: Pass, edge: Edge) -> Result<(), A
 /// Adds the marks of an edge, where stubs are drawn. Error: memory ran out.
 fn push_edge_marks(marks: &mut Vec<Mark>, pass: Pass, edge: Edge) -> Result<(), AllocError>
     requires { EdgeFits edge }
-    ensures { OnOk result (marks.new.items
-        ≡ marks.old.items ++ free_marks (is_black_by pass.entry.over pass.entry.ink.now) (edge_marks edge)) }
+    ensures { OnOk result (marks.new.items ≡ marks.old.items ++ free_marks (is_black_to pass.entry) (edge_marks edge)) }
 {
     push_crossings(marks, pass, edge)?;
     if let Some(at) = touch(edge) {
@@ -136,7 +135,7 @@ fn push_edge_marks(marks: &mut Vec<Mark>, pass: Pass, edge: Edge) -> Result<(), 
 fn push_all_edge_marks(marks: &mut Vec<Mark>, pass: Pass, edges: &[Edge]) -> Result<(), AllocError>
     requires { All EdgeFits edges.now }
     ensures { OnOk result (marks.new.items
-        ≡ marks.old.items ++ free_marks (is_black_by pass.entry.over pass.entry.ink.now) (contour_marks true edges.now)) }
+        ≡ marks.old.items ++ free_marks (is_black_to pass.entry) (contour_marks true edges.now)) }
 {
     for i in 0..edges.len() {
         push_edge_marks(marks, pass, edges[i])?;
@@ -153,7 +152,7 @@ fn push_contour_marks(
 ) -> Result<(), AllocError>
     requires { All EdgeFits edges.now }
     ensures { OnOk result (marks.new.items
-        ≡ marks.old.items ++ free_marks (is_black_by pass.entry.over pass.entry.ink.now) (contour_marks pass.entry.rules.stubs edges.now)) }
+        ≡ marks.old.items ++ free_marks (is_black_to pass.entry) (contour_marks pass.entry.rules.stubs edges.now)) }
 {
     if pass.rules.stubs {
         return push_all_edge_marks(marks, pass, edges);
@@ -168,7 +167,7 @@ pub(crate) fn free_marks(
     pass: Pass,
     contours: Contours,
 ) -> Result<Vec<Mark>, AllocError>
-    ensures { IfOk result (λ v. v.items ≡ free_marks (is_black_by pass.entry.over pass.entry.ink.now)
+    ensures { IfOk result (λ v. v.items ≡ free_marks (is_black_to pass.entry)
         (marks pass.entry.rules.stubs (contours_at contours.entry.edges.now contours.entry.ends.now))) }
 {
     let Contours { edges, ends } = contours;

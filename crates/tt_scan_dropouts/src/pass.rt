@@ -4,7 +4,7 @@ ghost use Rattle.std.specs.Prelude.{◌≡◌, ℤ, ◌<◌, not, ◌&&◌, ◌|
 ghost use Rattle.std.specs.Ordering.{int_eq};
 ghost use Rattle.tt_scan_gaps.specs.Gaps.{IsInOrder, asked_by, is_added};
 ghost use Rattle.tt_scan_dropouts.specs.Passes.{gives_way, has_pixel};
-ghost use Rattle.tt_scan_dropouts.specs.Windows.{is_black_by};
+ghost use Rattle.tt_scan_dropouts.specs.Seen.{is_black_to};
 ghost use Rattle.tt_scan_gaps.specs.declared.mark.Mark.{Mark};
 
 use crate::marks::{Pass, is_free};
@@ -15,7 +15,7 @@ use tt_scan_gaps::{Columns, Mark, group_end, pixel_of, some_asks};
 /// The pixel that the gap of these marks needs.
 fn asked(pass: Pass, columns: Columns, marks: &[Mark]) -> Option<i64>
     requires { 0 < length marks.now }
-    ensures { (d : Mark) → result ≡ asked_by pass.entry.rules columns (is_black_by pass.entry.over pass.entry.ink.now)
+    ensures { (d : Mark) → result ≡ asked_by pass.entry.rules columns (is_black_to pass.entry)
         (get_or marks.now 0 d).at.line (get_or marks.now 0 d).at.gap marks.now }
 {
     let at = marks[0].at;
@@ -82,7 +82,7 @@ pub(crate) fn added_by(
 ) -> Result<Vec<Pixel>, AllocError>
     requires { IsInOrder marks.now }
     ensures { IfOk result (λ v. (p j : ℤ)
-        → has_pixel v.items p j ≡ is_added pass.entry.rules columns marks.now (is_black_by pass.entry.over pass.entry.ink.now) p j) }
+        → has_pixel v.items p j ≡ is_added pass.entry.rules columns marks.now (is_black_to pass.entry) p j) }
 {
     let mut added = Vec::new(alloc);
     let mut last = None;

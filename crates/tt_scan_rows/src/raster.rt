@@ -18,7 +18,7 @@ use crate::rows::Rows;
 use std::alloc::{AllocError, Global};
 use std::marker::Model;
 use tt_core::HEIGHT_LIMIT;
-use tt_scan::{EdgeList, Frame, Sweep, Tape};
+use tt_scan::{EdgeList, Frame, Tape};
 
 /// The most rows of a frame: those of a picture, and two more on each side.
 const MOST_ROWS: u32 = HEIGHT_LIMIT + 4;
@@ -160,8 +160,7 @@ impl Raster {
             return Ok(CutGlyph::Edges(list));
         }
         let mut tape = Tape::of(alloc, frame_of(count, last), list)?;
-        let mut sweep = Sweep::new(alloc, tape.edges())?;
-        match Rows::cut(alloc, &mut tape, &mut sweep, most_spans.min(MANY_SPANS))? {
+        match Rows::cut(alloc, &mut tape, most_spans.min(MANY_SPANS))? {
             Some(rows) => Ok(CutGlyph::Raster(Raster { rows, top: last })),
             None => Ok(CutGlyph::Edges(tape.into_list())),
         }

@@ -73,28 +73,26 @@ impl Rows {
         self.spans.shrink_to_fit();
     }
 
-    /// Cuts all rows of a tape's frame, each once. None, if they have more than `most` spans. The sweep decides the
-    /// number of spans of a row: at most twice the number of edges that it has room for, plus one. Error: memory ran
-    /// out. Whatever the result, the tape's edges and the sweep's room are unchanged.
+    /// Cuts all rows of a tape's frame, each once. None, if they have more than `most` spans. A row has at most twice as
+    /// many spans as the tape has edges, plus one. Error: memory ran out. Whatever the result, the tape's edges are
+    /// unchanged.
     pub(crate) fn cut(
         alloc: Global,
         tape: &mut Tape,
-        sweep: &mut Sweep,
         most: usize,
     ) -> Result<Option<Rows>, AllocError>
-        requires count { tape.old.crosses + tape.old.frame.height * length tape.old.edges ≤ 2 ^ 63 }
-        requires room { length tape.old.edges ≤ sweep.old.room }
+        requires { tape.old.crosses + tape.old.frame.height * length tape.old.edges ≤ 2 ^ 63 }
         ensures rows { IfOk result (λ found. IfSome found (λ rows. AreRowsOf tape.old.edges tape.old.frame rows.rows)) }
         ensures held { IfOk result (λ found. IfSome found (λ rows. spans_in rows.rows ≤ most)) }
-        ensures none { IfOk result (λ found. IfNone found (most < tape.old.frame.height * (2 * sweep.old.room + 1))) }
+        ensures none { IfOk result (λ found. IfNone found (most < tape.old.frame.height * (2 * length tape.old.edges + 1))) }
         ensures tape { tape.new ≡ record tape.old { crosses = tape.new.crosses } }
         // Each edge is crossed once in each row that it meets, and in no other row.
         ensures crosses { IfOk result (λ found. IfSome found (λ _. tape.new.crosses
             ≡ tape.old.crosses + crossings_of tape.old.frame tape.old.edges)) }
         ensures most_crosses { tape.new.crosses ≤ tape.old.crosses + crossings_of tape.old.frame tape.old.edges }
-        ensures room { sweep.new.room ≡ sweep.old.room }
     {
         let height = tape.frame().height;
+        let mut sweep = Sweep::new(alloc, tape.edges())?;
         let mut rows = Rows::empty(alloc, height)?;
         for r in 0..height {
             sweep.cut(tape, i64::from(r));

@@ -16,9 +16,9 @@ loop-i-init c =
     record {
       walked = ap (λ es. c.args.list.now.edges ++ es) (all_onward (map f ps) (omega (arith, long, c.if-points-lt2.false)));
       before = rw c.moved-before.ensures (point_is f ps (length ps - 1) nowhere (omega (arith, c.if-points-lt2.false)));
-      p = λ below. rw c.moved-p.ensures (point_is f ps 0 nowhere below);
+      point = λ below. rw c.moved-point.ensures (point_is f ps 0 nowhere below);
       before_fits = rw c.moved-before.ensures (c.requires (length ps - 1) nowhere (omega (arith, c.if-points-lt2.false)));
-      p_fits = rw c.moved-p.ensures (c.requires 0 nowhere (omega (arith, c.if-points-lt2.false)));
+      point_fits = rw c.moved-point.ensures (c.requires 0 nowhere (omega (arith, c.if-points-lt2.false)));
     }
 
 pub loop-i-preserved : goal.loop-i-preserved
@@ -35,11 +35,11 @@ loop-i-preserved c =
     let after : c.moved-after.result ≡ point_at (map f ps) (number_after (length ps) i) =
     rw (c.moved-after.ensures, ← next) (point_is f ps c.number_after.result nowhere within) in
     record {
-      walked = one_point_more (map f ps) c.loop-i.list.edges c.push_edges.new.list.edges i c.loop-i.before c.loop-i.p
-          c.moved-after.result (omega (arith, long, below)) (rw long inv.before) (inv.p below) (rw long after)
+      walked = one_point_more (map f ps) c.loop-i.list.edges c.push_edges.new.list.edges i c.loop-i.before c.loop-i.point
+          c.moved-after.result (omega (arith, long, below)) (rw long inv.before) (inv.point below) (rw long after)
           c.in_ok-push_edges.ensures.exact ∙ inv.walked;
-      before = rw add-one (inv.p below);
-      p = λ more. rw (← after_inner (length ps) i more) after;
-      before_fits = inv.p_fits;
-      p_fits = rw c.moved-after.ensures (c.requires c.number_after.result nowhere within);
+      before = rw add-one (inv.point below);
+      point = λ more. rw (← after_inner (length ps) i more) after;
+      before_fits = inv.point_fits;
+      point_fits = rw c.moved-after.ensures (c.requires c.number_after.result nowhere within);
     }

@@ -8,7 +8,7 @@ invariant-loop-i l = record {
   walked : l.list.edges ++ edges_onward (map (moved l.by.dx l.by.dy) l.points) l.i
       ≡ l.fn.list.edges ++ contour_edges (map (moved l.by.dx l.by.dy) l.points);
   before : l.before ≡ point_at (map (moved l.by.dx l.by.dy) l.points) (number_before (length l.points) l.i);
-  p : l.i < length l.points → l.p ≡ point_at (map (moved l.by.dx l.by.dy) l.points) l.i;
+  point : l.i < length l.points → l.point ≡ point_at (map (moved l.by.dx l.by.dy) l.points) l.i;
   before_fits : PointFits l.before;
-  p_fits : PointFits l.p;
+  point_fits : PointFits l.point;
 }

@@ -10,8 +10,8 @@ use Rattle.tt_scan_rows.proofs.Large.{many_in_lines, many_spans}
 use Rattle.tt_scan_rows.proofs.Lines.{lines_of_rows, rows_are_lines}
 use Rattle.tt_scan_rows.proofs.raster.Raster.cut.Goals as goal
 
-pub cut-requires-clause-count : goal.cut-requires-clause-count
-cut-requires-clause-count c =
+pub cut-requires : goal.cut-requires
+cut-requires c =
     let es = c.args.list.edges in
     let fits = c.frame_of.ensures.fits in
     let all : c.frame_of.result.height * length es ≤ 4100 * length es = mul-le-mul_right (length es) fits.height_high in
@@ -45,9 +45,8 @@ returns-in-None-clause-large c =
     simp to_z-of_z at c.count_of-count.ensures.exact in
     let height : f.height ≡ c.count_of-count.result = rw c.frame_of.ensures.exact refl in
     let few : f.height ≤ lines_in (heights_of es) = omega (arith, count, height, c.in-Some.ensures.few) in
-    let edges : c.edges.result ≡ length es = rw c.in_ok-tape.ensures at c.edges.ensures.exact in
     let given_up = rw c.in-None.is at c.in_ok-rows.ensures.none in
-    let none = rw (c.in_ok-tape.ensures, c.in_ok-sweep.ensures, edges) at given_up in
+    let none = rw c.in_ok-tape.ensures at given_up in
     let fits = c.frame_of.ensures.fits in
     let many = many_spans c.args.most_spans c.min.result f.height (length es) c.min.ensures none fits.height_high c.requires in
     many_in_lines es c.args.most_rows c.args.most_spans f.height many few

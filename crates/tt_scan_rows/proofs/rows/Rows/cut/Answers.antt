@@ -21,7 +21,7 @@ loop-r-init c =
       tape = refl;
       crosses = rw whole refl;
       few = omega arith;
-      room = refl;
+      room = rw c.in_ok-sweep.ensures c.edges.ensures.exact;
     }
 
 pub cut-requires-clause-row_high : goal.cut-requires-clause-row_high
@@ -49,7 +49,7 @@ loop-r-preserved c =
     let held : spans_in c.push.new.self.rows ≡ spans_in c.loop-r.rows.rows + length c.cut.new.self.spans =
     ap spans_in pushed ∙ held_more c.loop-r.rows.rows c.cut.new.self.spans in
     let cut = ap length c.spans-in-loop-r.ensures.exact in
-    let few : length c.spans-in-loop-r.result.now ≤ 2 * c.args.sweep.now.room + 1 =
+    let few : length c.spans-in-loop-r.result.now ≤ 2 * length c.args.tape.now.edges + 1 =
     rw (c.cut.ensures.room, so_far.room) at c.spans-in-loop-r.ensures.few in
     let rest = rest_more (λ row. rows_met es (row_y f (pos row))) r h below in
     record {
@@ -71,9 +71,9 @@ returns-then-most-spans-clause-none c =
     let so_far = c.loop-r.invariant in
     let height = c.args.tape.now.frame.height in
     let below : c.loop-r.r < height = omega (arith, c.loop-r-test.true, so_far.height) in
-    let few : length c.spans-in-loop-r.result.now ≤ 2 * c.args.sweep.now.room + 1 =
+    let few : length c.spans-in-loop-r.result.now ≤ 2 * length c.args.tape.now.edges + 1 =
     rw (c.cut.ensures.room, so_far.room) at c.spans-in-loop-r.ensures.few in
-    let most = row_fits c.loop-r.r height (2 * c.args.sweep.now.room + 1) below in
+    let most = row_fits c.loop-r.r height (2 * length c.args.tape.now.edges + 1) below in
     omega (arith, most, few, c.spans.ensures, c.if-most-spans.true, so_far.bound)
 
 pub returns-then-most-spans-clause-most_crosses : goal.returns-then-most-spans-clause-most_crosses

@@ -13,10 +13,10 @@ invariant-loop-r l = record {
   black : (i : ℕ) → i < l.r → (c : ℤ) → c <ℤ pos (2 ^ 63) → covers (row_at l.rows.rows i) c
       ≡ is_black l.fn.tape.edges (column_x l.fn.tape.frame.margin c) (row_y l.fn.tape.frame (pos i));
   held : spans_in l.rows.rows ≤ l.most;
-  bound : spans_in l.rows.rows ≤ l.r * (2 * l.fn.sweep.room + 1);
+  bound : spans_in l.rows.rows ≤ l.r * (2 * length l.fn.tape.edges + 1);
   tape : l.tape ≡ record l.fn.tape { crosses = l.tape.crosses };
   crosses : l.tape.crosses + sum_by (λ row. rows_met l.fn.tape.edges (row_y l.fn.tape.frame (pos row)))
       (range_with_len l.r (l.fn.tape.frame.height - l.r)) ≡ l.fn.tape.crosses + crossings_of l.fn.tape.frame l.fn.tape.edges;
   few : l.tape.crosses ≤ l.fn.tape.crosses + l.r * length l.fn.tape.edges;
-  room : l.sweep.room ≡ l.fn.sweep.room;
+  room : l.sweep.room ≡ length l.fn.tape.edges;
 }

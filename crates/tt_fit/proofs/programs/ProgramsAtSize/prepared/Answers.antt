@@ -1,7 +1,7 @@
 use Rattle.tt_face.specs.Programs.{program_tables}
 use Rattle.tt_fit.specs.Preparation.{begun_at}
 use Rattle.tt_fit.proofs.Unbounded.{of-programs, never-spent, prepared-falling}
-use Rattle.tt_fit.proofs.preparation.ProgramsAtSize.prepared.Goals as goal
+use Rattle.tt_fit.proofs.programs.ProgramsAtSize.prepared.Goals as goal
 
 pub unbounded-requires : goal.unbounded-requires
 unbounded-requires c =
@@ -11,8 +11,10 @@ unbounded-requires c =
     never-spent c.in-Err.refusal _ _ (of-programs parts tables)
     (rw c.unbounded-work.ensures at c.in-Err.ensures.work)
 
-pub returns-in-Fallback-clause-exact : goal.returns-in-Fallback-clause-exact
-returns-in-Fallback-clause-exact c =
+pub returns-in-Fallback : goal.returns-in-Fallback
+returns-in-Fallback c =
     let sized = c.args.self.now in
-    rw (prepared-falling sized.metrics.now (program_tables sized.programs) sized.ppem sized.fit c.in-Fallback.is)
-    c.with_fallback.ensures.exact
+    record {
+      exact = rw (prepared-falling sized.metrics.now (program_tables sized.programs) sized.ppem sized.fit c.in-Fallback.is)
+          c.with_fallback.ensures.exact;
+    }
