@@ -4,7 +4,8 @@ ghost use Rattle.std.specs.Prelude.{◌≡◌, ◌+◌, ◌*◌, ◌<◌, ◌≤
 ghost use Rattle.tt_core.specs.Limits.{margin_limit, width_limit};
 ghost use Rattle.tt_core.specs.Outcomes.{IfTold, font_fault};
 ghost use Rattle.tt_fit.specs.Fitting.{Fitter, fitted_outline, after_glyph};
-ghost use Rattle.tt_fit_outline.specs.Outline.{IsOutline, outline_of};
+ghost use Rattle.tt_fit_outline.specs.Outline.{IsOutline};
+ghost use Rattle.tt_fit_outline.specs.Views.{outline_of};
 ghost use Rattle.tt_scan.specs.Contours.{AreEnds, contours_at};
 ghost use Rattle.tt_scan_edges.specs.Winding.{FrameFits};
 ghost use Rattle.tt_scan_rows.specs.Raster.{IsRasterOf, Raster};

@@ -18,7 +18,7 @@ use crate::pictures::{HEIGHT, WIDTH, frame_in};
 use crate::pixels::edge_in;
 use std::alloc::Global;
 use tt_scan::Tape;
-use tt_scan_dropouts::{Pixel, Rules, Window, dropouts, may_have_dropouts};
+use tt_scan_dropouts::{Outlined, Pixel, Rules, Window, dropouts, may_have_dropouts};
 use tt_test_words::{Line, MOST};
 
 /// The left and the lower side of a window stay less than this from 0, in pixels.
@@ -132,7 +132,15 @@ pub(crate) fn answer(alloc: Global, line: &mut Line) {
         put_window(line, &[], window);
         return;
     }
-    match dropouts(alloc, rules, &tape, &ends, window) {
+    match dropouts(
+        alloc,
+        Outlined {
+            rules,
+            tape: &tape,
+            ends: &ends,
+        },
+        window,
+    ) {
         Ok(pixels) => put_window(line, &pixels, window),
         Err(_) => line.refuse("out of memory"),
     }

@@ -1,6 +1,6 @@
 use Rattle.std.proofs.Common.{pos, ◌-ℤ◌}
 use Rattle.std.proofs.lemmas.Result.{IfOk-weaker}
-use Rattle.tt_fit_outline.specs.Outline.{outline_of}
+use Rattle.tt_fit_outline.specs.Views.{outline_of}
 use Rattle.tt_picture.specs.Shapes.{origin_of}
 use Rattle.tt_picture.proofs.glyph.ends_of.Goals as goal
 

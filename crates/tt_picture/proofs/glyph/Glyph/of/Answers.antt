@@ -1,5 +1,5 @@
 use Rattle.std.proofs.Common.{◌≡◌, true, length, refl, sym}
-use Rattle.tt_fit_outline.specs.Outline.{outline_of}
+use Rattle.tt_fit_outline.specs.Views.{outline_of}
 use Rattle.tt_scan.specs.Contours.{AreEnds, contours_at}
 use Rattle.tt_scan_rows.specs.Raster.{IsRasterOf, Raster}
 use Rattle.tt_picture.specs.Glyphs.{IsBodyOf}
