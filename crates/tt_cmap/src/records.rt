@@ -2,9 +2,8 @@
 
 ghost use Rattle.std.specs.Prelude.{◌≡◌, ◌+◌, ◌<◌, ◌≤◌, length, IsTrue, IfOk, IfErr, IfSome};
 ghost use Rattle.tt_core.specs.Limits.{font_limit};
-ghost use Rattle.std.specs.Bool.{OnTrue};
 ghost use Rattle.tt_core.specs.Outcomes.{Gives};
-ghost use Rattle.tt_cmap.specs.Subtables.{records_of, record_count, record_place, format_number, windows_encoding, is_for, has_format, first_subtable, first_of, chosen_subtable};
+ghost use Rattle.tt_cmap.specs.Subtables.{records_of, record_count, record_place, format_number, windows_encoding, is_for, first_subtable, first_of, chosen_subtable};
 ghost use Rattle.tt_cmap.specs.Defects.{IsBadRecords};
 
 use std::marker::Model;
@@ -55,13 +54,6 @@ fn windows_encoding(format: Format) -> u16
         Format::Segments => 1,
         Format::Groups => 10,
     }
-}
-
-fn has_format(format: Format, table: &[u8], at: usize) -> bool
-    ensures exact { result ≡ has_format format table.now at }
-    ensures within { OnTrue result (at + 2 ≤ length table.now) }
-{
-    u16_at(table, at) == Some(format_number(format))
 }
 
 /// The encoding records of cmap. Clauses see the bytes of cmap.
@@ -126,7 +118,8 @@ impl<'a> Records<'a> {
     {
         for i in 0..self.count {
             let at = u32_at(self.table, 8 + 8 * i).unwrap() as usize;
-            if self.is_meant_for(platform, format, i) && has_format(format, self.table, at) {
+            let number = u16_at(self.table, at);
+            if self.is_meant_for(platform, format, i) && number == Some(format_number(format)) {
                 return Some(at);
             }
         }

@@ -6,7 +6,6 @@ use Rattle.tt_glyf.specs.declared.component.Transform as transform
 use Rattle.tt_glyf.specs.declared.coordinates.AxisFlags as axis
 use Rattle.tt_glyf.specs.declared.coordinates.Coordinate as coordinate
 use Rattle.tt_glyf.specs.declared.coordinates.Delta as delta
-use Rattle.tt_glyf.specs.declared.coordinates.Sum as sum
 use Rattle.tt_glyf.specs.declared.flags.FlagList as flag_list
 use Rattle.tt_glyf.specs.declared.flags.Run as run
 use Rattle.tt_glyf.specs.declared.raw.RawPoint.{RawPoint}
@@ -28,9 +27,6 @@ axis_of a = record { short = a.short.0; same = a.same.0 }
 
 abbrev pub delta_of : delta.Delta → Delta
 delta_of d = record { by = d.by; next = d.next }
-
-abbrev pub sum_of : sum.Sum → Coordinate
-sum_of s = record { value = s.value; next = s.next }
 
 abbrev pub coordinate_of : coordinate.Coordinate → Coordinate
 coordinate_of c = record { value = c.value; next = c.next }

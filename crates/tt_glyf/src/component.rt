@@ -1,9 +1,9 @@
 //! A component record. OpenType, "The 'glyf' table", "Composite Glyph Description".
 
-ghost use Rattle.std.specs.Prelude.{◌≡◌, ◌+◌, ◌*◌, ◌≤◌, length, unsigned_abs, IsTrue, IfOk, IfErr};
+ghost use Rattle.std.specs.Prelude.{◌≡◌, ◌+◌, ◌*◌, ◌≤◌, length, IsTrue, IfOk, IfErr};
 ghost use Rattle.tt_core.specs.Limits.{font_limit};
 ghost use Rattle.tt_core.specs.Outcomes.{Gives};
-ghost use Rattle.tt_glyf.specs.Composite.{signed8, argument_at, transform_at, scales_offsets, is_identity, transform_of, has_arguments_zero, asks_scaled_offset, record_at};
+ghost use Rattle.tt_glyf.specs.Composite.{argument_at, transform_at, scales_offsets, is_identity, transform_of, has_arguments_zero, asks_scaled_offset, record_at};
 ghost use Rattle.tt_glyf.specs.Format.{argument_size, transform_size, record_size};
 ghost use Rattle.tt_glyf.specs.Meaning.{HasArguments, IsArgument};
 ghost use Rattle.tt_glyf.specs.Views.{transform_view};
@@ -53,18 +53,6 @@ pub(crate) fn record_size(flags: u16) -> usize
     ARGUMENTS_OFFSET + 2 * argument_size(flags) + transform_size(flags)
 }
 
-/// 8 bits read as two's complement.
-fn signed_byte(byte: u8) -> i32
-    ensures exact { result ≡ signed8 byte }
-    ensures bound { unsigned_abs result ≤ 128 }
-{
-    if byte < 128 {
-        i32::from(byte)
-    } else {
-        i32::from(byte) - 256
-    }
-}
-
 /// An argument of a record with these flags. Error: GlyphShort.
 #[tactic(auto, unfolding(crate::specs::Composite::argument_at))]
 fn argument_at(glyph: &GlyphBytes, flags: u16, at: usize) -> Result<i32, Fault>
@@ -79,12 +67,11 @@ fn argument_at(glyph: &GlyphBytes, flags: u16, at: usize) -> Result<i32, Fault>
         }
         return Ok(i32::from(glyph.word(at)?));
     }
-    let byte = glyph.byte(at)?;
-    if signed {
-        Ok(signed_byte(byte))
-    } else {
-        Ok(i32::from(byte))
+    let byte = i32::from(glyph.byte(at)?);
+    if signed && byte >= 128 {
+        return Ok(byte - 256);
     }
+    Ok(byte)
 }
 
 /// x' = xx x + xy y and y' = yx x + yy y.

@@ -2,9 +2,9 @@
 
 ghost use Rattle.std.specs.Prelude.{◌≡◌, ◌+◌, ◌<◌, ◌≤◌, length, unsigned_abs, ◌+ℤ◌, All, IsTrue, IfOk, IfErr, OnOk};
 ghost use Rattle.tt_core.specs.Outcomes.{Gives};
-ghost use Rattle.tt_glyf.specs.Coordinates.{short_delta, delta_at, summed, within_words, coordinate_at};
+ghost use Rattle.tt_glyf.specs.Coordinates.{delta_at, coordinate_at};
 ghost use Rattle.tt_glyf.specs.declared.coordinates.DeltaAxis.TheVariants.{X};
-ghost use Rattle.tt_glyf.specs.Views.{axis_of, delta_of, sum_of, coordinate_of, held_listing};
+ghost use Rattle.tt_glyf.specs.Views.{axis_of, delta_of, coordinate_of, held_listing};
 ghost use Rattle.tt_glyf.specs.InPlace.{HoldsFlag, along, flags_along, put_along};
 
 use crate::bytes::GlyphBytes;
@@ -67,18 +67,6 @@ struct Delta {
     next: usize,
 }
 
-#[inline(always)]
-fn short(positive: bool, byte: u8) -> i32
-    ensures exact { result ≡ short_delta positive byte }
-    ensures bound { unsigned_abs result ≤ 255 }
-{
-    if positive {
-        i32::from(byte)
-    } else {
-        -i32::from(byte)
-    }
-}
-
 /// The delta of a point with this flag. Error: GlyphShort.
 #[inline(always)]
 #[tactic(auto, unfolding(crate::specs::Coordinates::delta_at))]
@@ -90,11 +78,9 @@ fn delta_at(glyph: &GlyphBytes, axis: AxisFlags, flag: u8, at: usize) -> Result<
 {
     let same = has_flag(flag, axis.same);
     if has_flag(flag, axis.short) {
-        let byte = glyph.byte(at)?;
-        return Ok(Delta {
-            by: short(same, byte),
-            next: at + 1,
-        });
+        let byte = i32::from(glyph.byte(at)?);
+        let by = if same { byte } else { -byte };
+        return Ok(Delta { by, next: at + 1 });
     }
     if same {
         return Ok(Delta { by: 0, next: at });
@@ -106,13 +92,6 @@ fn delta_at(glyph: &GlyphBytes, axis: AxisFlags, flag: u8, at: usize) -> Result<
     })
 }
 
-/// The candidate for the next coordinate, and the offset after its delta.
-#[derive(Clone, Copy)]
-struct Sum {
-    value: i32,
-    next: usize,
-}
-
 /// A coordinate, and the offset after its delta.
 #[derive(Clone, Copy)]
 struct Coordinate {
@@ -120,51 +99,30 @@ struct Coordinate {
     next: usize,
 }
 
-#[inline(always)]
-fn summed(before: Coordinate, delta: Delta) -> Sum
-    requires { unsigned_abs delta.by ≤ 32768 }
-    ensures { sum_of result ≡ summed (coordinate_of before) (delta_of delta) }
-{
-    Sum {
-        value: i32::from(before.value) + delta.by,
-        next: delta.next,
-    }
-}
-
-/// The sum as a coordinate of 16 bits. Error: CoordRange, at the glyph's first byte.
-#[inline(always)]
-#[tactic(auto, unfolding(crate::specs::Coordinates::within_words))]
-fn within_words(glyph: &GlyphBytes, sum: Sum) -> Result<Coordinate, Fault>
-    ensures exact { Gives coordinate_of result (within_words glyph.now (sum_of sum)) }
-    ensures next { IfOk result (λ c. c.next ≡ sum.next) }
-{
-    match i16::try_from(sum.value) {
-        Ok(value) => Ok(Coordinate {
-            value,
-            next: sum.next,
-        }),
-        Err(_) => Err(glyph.fault(0, Why::CoordRange)),
-    }
-}
-
 impl Coordinate {
-    /// The coordinate after this one. Errors: GlyphShort, CoordRange.
+    /// The coordinate after this one. Errors: GlyphShort; CoordRange, at the glyph's first byte.
     #[inline(always)]
-    #[tactic(auto, unfolding(crate::specs::Coordinates::coordinate_at))]
+    #[tactic(auto, unfolding(crate::specs::Coordinates::coordinate_at, crate::specs::Coordinates::within_words))]
     fn after(self, glyph: &GlyphBytes, axis: AxisFlags, flag: u8) -> Result<Coordinate, Fault>
         requires { self.next ≤ length glyph.now.bytes }
         ensures exact { Gives coordinate_of result (coordinate_at glyph.now (axis_of axis) flag (coordinate_of self)) }
         ensures room { IfOk result (λ c. c.next ≤ length glyph.now.bytes) }
     {
         let delta = delta_at(glyph, axis, flag, self.next)?;
-        within_words(glyph, summed(self, delta))
+        match i16::try_from(i32::from(self.value) + delta.by) {
+            Ok(value) => Ok(Coordinate {
+                value,
+                next: delta.next,
+            }),
+            Err(_) => Err(glyph.fault(0, Why::CoordRange)),
+        }
     }
 }
 
 impl FlagList {
     /// Reads the coordinates along an axis into the points. A y takes the place of its point's flag. Errors: GlyphShort,
     /// CoordRange.
-    #[inline(never)]
+    #[inline(always)]
     #[tactic(auto, using(crate::proofs::InPlace::turn, crate::proofs::InPlace::breaks, crate::proofs::InPlace::done))]
     pub(crate) fn read_along(&mut self, glyph: &GlyphBytes, axis: DeltaAxis) -> Result<(), Fault>
         requires place { self.old.next ≤ length glyph.now.bytes }

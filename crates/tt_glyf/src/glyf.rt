@@ -95,17 +95,6 @@ impl<'a> Glyf<'a> {
         Ok(&self.glyf[start..next.min(self.glyf.len())])
     }
 
-    /// Whether the glyph has no bytes, because loca's entries are equal.
-    fn has_no_bytes(&self, g: u16) -> bool
-        requires { g < self.now.glyphs }
-        ensures exact { result ≡ has_no_bytes self.now g }
-        ensures limit { length self.now.glyf ≤ font_limit }
-    {
-        let start = self.loca.offset(usize::from(g));
-        let next = self.loca.offset(usize::from(g) + 1);
-        start == next
-    }
-
     /// The data of a glyph as in the file. Errors: GlyphRange, those of a simple glyph or of a composite, Memory. Apart
     /// from `read_whole` (for the prover): the other clauses follow from what `read_whole` gives.
     pub fn read(&self, alloc: Global, g: u16) -> Result<Raw<'a>, FontFault>
@@ -136,7 +125,7 @@ impl<'a> Glyf<'a> {
         ensures arguments { IfOk result (λ r. IfComposite (raw_view r) (λ c. All HasArguments c.records)) }
         ensures limit { length self.now.glyf ≤ font_limit }
     {
-        if self.has_no_bytes(g) {
+        if self.loca.offset(usize::from(g)) == self.loca.offset(usize::from(g) + 1) {
             return Ok(Raw::Empty);
         }
         let bytes = self.bytes(g)?;

@@ -3,7 +3,6 @@
 
 mod head;
 mod hhea;
-mod hmtx;
 pub mod laws;
 mod maxp;
 mod metrics;

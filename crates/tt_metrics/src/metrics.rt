@@ -8,11 +8,12 @@ ghost use Rattle.tt_metrics.specs.Metrics.{metrics_of, units_per_em_of, loca_for
 
 use crate::head::{HEAD, Head, LocaFormat};
 use crate::hhea::{HHEA, Hhea};
-use crate::hmtx::{HMTX, advance_at, bearing_at};
 use crate::maxp::{MAXP, Maxp};
 use crate::table::{Fields, test_length};
 use std::marker::Model;
-use tt_core::{Dir, Fault};
+use tt_core::{Dir, Fault, i16_at, u16_at};
+
+const HMTX: [u8; 4] = *b"hmtx";
 
 /// The fields of head, maxp and hhea, and the bytes of hmtx. Clauses see the tables' fields.
 #[derive(Drop)]
@@ -121,20 +122,26 @@ impl<'a> Metrics<'a> {
         self.maxp.twilight
     }
 
-    /// The advance of a glyph, in font units. Apart from `advance_at` (for the prover), which needs no invariant.
+    /// The advance of a glyph, in font units.
     pub fn advance(&self, g: u16) -> u16
         requires { g < glyphs_of self.now }
         ensures { result ≡ advance_of self.now g }
     {
-        advance_at(self.hmtx, self.hhea.long_metrics, g)
+        let last = self.hhea.long_metrics - 1;
+        u16_at(self.hmtx, 4 * usize::from(g.min(last))).unwrap()
     }
 
-    /// The left side bearing of a glyph, in font units. Apart from `bearing_at` (for the prover), which needs no
-    /// invariant.
+    /// The left side bearing of a glyph, in font units.
     pub fn lsb(&self, g: u16) -> i16
         requires { g < glyphs_of self.now }
         ensures { result ≡ left_side_bearing_of self.now g }
     {
-        bearing_at(self.hmtx, self.hhea.long_metrics, g)
+        let n = self.hhea.long_metrics;
+        let place = if g < n {
+            4 * usize::from(g) + 2
+        } else {
+            4 * usize::from(n) + 2 * usize::from(g - n)
+        };
+        i16_at(self.hmtx, place).unwrap_or(0)
     }
 }

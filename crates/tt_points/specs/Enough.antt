@@ -207,7 +207,7 @@ isect_enough p a b z g =
     enough_after (line_through g.zp0 b z) _ (line_enough g.zp0 b z) (λ other.
     enough_after (line_through g.zp1 a z) _ (line_enough g.zp1 a z) (λ one.
     enough_after (point_in g.zp2 p z) _ (point_enough g.zp2 p z) (λ q.
-    enough_after (met one.from one.to other.from other.to) _ (met_enough one.from one.to other.from other.to)
+    enough_after (met (one.0) (one.1) (other.0) (other.1)) _ (met_enough (one.0) (one.1) (other.0) (other.1))
     (λ place. record {}))))
 
 move_by_enough : (zone : Zone) (p : ℤ) (m : Motion) (d : ℤ) (z : ZoneLists) → Enough (move_by zone p m d z)

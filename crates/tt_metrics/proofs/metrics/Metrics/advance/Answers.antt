@@ -1,8 +1,9 @@
 use Rattle.std.proofs.Common.{◌-◌, ◌*◌, ◌∙◌, min, sym}
 use Rattle.tt_core.proofs.Numbers.{number_told}
-use Rattle.tt_metrics.proofs.hmtx.advance_at.Goals as goal
+use Rattle.tt_metrics.proofs.metrics.Metrics.advance.Goals as goal
 
 pub returns : goal.returns
 returns c =
     let told = rw (c.from.ensures, c.min.ensures) at (sym c.u16_at.ensures ∙ c.unwrap.ensures) in
-    sym (number_told c.args.hmtx.now (4 * min c.args.g (c.args.n - 1)) 2 c.unwrap.result told)
+    let m = c.self.inside in
+    rw (← c.self.view_is) (sym (number_told m.hmtx.now (4 * min c.args.g (m.hhea.long_metrics - 1)) 2 c.unwrap.result told))
