@@ -1,7 +1,7 @@
 //! Points moved one by one: ALIGNRP, IP, SHPIX. Apple TrueType Reference Manual, "Instruction set": managing outlines.
 //! Distances are in 26.6 pixels.
 
-ghost use Rattle.std.specs.Prelude.{◌≡◌, ◌^◌, ◌<◌, ◌≤◌, unsigned_abs, IfErr, IfOk, IfSome, ◌-ℤ◌};
+ghost use Rattle.std.specs.Prelude.{◌≡◌, ◌^◌, ◌<◌, ◌≤◌, unsigned_abs, IfErr, IfOk, IfSome};
 ghost use Rattle.tt_core.specs.Outcomes.{Gives};
 ghost use Rattle.tt_core.specs.Scales.{IsScale};
 ghost use Rattle.tt_points_loops.specs.Moving as is;
