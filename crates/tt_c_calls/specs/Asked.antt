@@ -6,7 +6,7 @@ use Rattle.tt_core.specs.Outcomes.{◌>>=◌}
 use Rattle.tt_fit.specs.declared.programs.Fit.{Fit}
 use Rattle.tt_fit.specs.declared.programs.Fit.TheVariants as fit
 use Rattle.tt_strike.specs.Defects.{IsRunDefect}
-use Rattle.tt_strike.specs.Job.{Job}
+use Rattle.tt_strike.specs.Job.{Job, job_for}
 use Rattle.tt_c_calls.specs.declared.asked.CJob.{CJob}
 use Rattle.tt_c_calls.specs.Refusals.{Refusal, not_utf8, unknown_fit}
 
@@ -28,7 +28,7 @@ unfoldable pub asked : CJob → List ℕ → Result Job Refusal
 asked j text =
     fit_asked j.fit >>= λ f.
     text_asked text >>= λ t.
-    Ok (record { text = t; ppem = j.size; margin = j.margin; fit = f })
+    Ok (job_for j.size f t j.margin)
 
 -- whether the picture is to be enlarged so that no ink is cut
 abbrev pub grows : CJob → Bool

@@ -8,9 +8,9 @@ use Rattle.tt_render.specs.Lines.{lines_budget}
 use Rattle.tt_strike.specs.Costs.{cost_by}
 use Rattle.tt_face.specs.Defects.{IsFaceDefect}
 use Rattle.tt_picture.specs.Pictures.{Picture}
-use Rattle.tt_strike.specs.Refusals.{as_font}
+use Rattle.tt_strike.specs.Job.{by_face}
 use Rattle.tt_strike.specs.Strikes.{Strike}
-use Rattle.tt_face.specs.Faces.{Face, face_of}
+use Rattle.tt_face.specs.Faces.{Face}
 use Rattle.tt_c_calls.specs.declared.answer.CAnswer.{CAnswer}
 use Rattle.tt_c_calls.specs.declared.asked.CJob.{CJob}
 use Rattle.tt_c_calls.specs.declared.line_drawing.CLine.{CLine}
@@ -35,7 +35,7 @@ AreEnds bytes from (end ∷ ends) = (from ≤ end) × (end ≤ bytes) × AreEnds
 
 -- what a line takes of the budget of a call
 abbrev pub cost_asked : CJob → List ℕ → List ℕ → Result ℕ Refusal
-cost_asked j font line = asked j line >>= λ a. as_call (as_font (face_of font) >>= λ face. cost_by face a)
+cost_asked j font line = asked j line >>= λ a. as_call (by_face cost_by a font)
 
 -- a refused line takes nothing
 abbrev pub cost_taken : Result ℕ Refusal → ℕ

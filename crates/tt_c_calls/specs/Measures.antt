@@ -2,9 +2,9 @@
 use Rattle.std.specs.Prelude.{◌≡◌, ◌≢◌, ℕ, ◌<◌, pos, List, ◌++◌, length, drop, map, Option, Some, None, Result, Ok, IsOkAnd}
 use Rattle.tt_core.specs.Outcomes.{◌>>=◌}
 use Rattle.tt_render.specs.Products.{measure_by}
+use Rattle.tt_strike.specs.Job.{ByFace}
 use Rattle.tt_strike.specs.Measures.{Measure}
 use Rattle.tt_strike.specs.Report.{report_by}
-use Rattle.tt_face.specs.Faces.{face_of}
 use Rattle.tt_picture.specs.declared.ink_box.InkBox.{InkBox}
 use Rattle.tt_strike.specs.declared.measuring.CharacterMeasure.{CharacterMeasure}
 use Rattle.tt_picture.specs.declared.report.Unfitted.{Unfitted}
@@ -25,7 +25,7 @@ measure_wanted j text font = asked j text >>= λ a. as_call (made_of (λ face. m
 -- a measure is that of a text by a font file, and these of its glyphs are unfitted
 pub record IsMeasureOf (j : CJob) (text font : List ℕ) (m : Measure) (entries : List Unfitted) : Type 0 where
   pub measure : measure_wanted j text font ≡ Ok m
-  pub unfitted : IsOkAnd (asked j text) (λ a. IsOkAnd (face_of font) (λ face. report_by face a ≡ Ok entries))
+  pub unfitted : IsOkAnd (asked j text) (λ a. ByFace (λ face a. report_by face a ≡ Ok entries) a font)
 
 -- whether there is ink, and its box
 abbrev pub ink_told : Option InkBox → ℕ

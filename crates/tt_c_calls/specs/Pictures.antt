@@ -5,10 +5,10 @@ use Rattle.tt_core.specs.Bits.{stride}
 use Rattle.tt_core.specs.Outcomes.{◌>>=◌}
 use Rattle.tt_render_run.specs.Outcome.{of_font}
 use Rattle.tt_render.specs.Products.{IsMadeBy, picture_by}
-use Rattle.tt_strike.specs.Job.{Job, tested}
+use Rattle.tt_strike.specs.Job.{ByFace, Job, by_face, tested}
 use Rattle.tt_picture.specs.Pictures.{Image, IsReady, Picture, image_of}
-use Rattle.tt_strike.specs.Refusals.{Refused, as_font, as_job}
-use Rattle.tt_face.specs.Faces.{Face, face_of}
+use Rattle.tt_strike.specs.Refusals.{Refused, as_job}
+use Rattle.tt_face.specs.Faces.{Face}
 use Rattle.tt_c_calls.specs.declared.answer.CAnswer.{CAnswer}
 use Rattle.tt_c_calls.specs.declared.asked.CJob.{CJob}
 use Rattle.tt_c_calls.specs.declared.pictures.CPicture.{CPicture}
@@ -18,7 +18,7 @@ use Rattle.tt_c_calls.specs.Refusals.{Refusal, as_call}
 
 -- a result made from a font's tables, after the tests of the job and then of the font's size
 abbrev pub made_of : {X : Type 0} → (Face → Result X Refused) → Job → List ℕ → Result X Refused
-made_of make a font = as_job (tested a) >>= λ u. of_font (λ file. as_font (face_of file) >>= make) font
+made_of make a font = as_job (tested a) >>= λ u. of_font (by_face (λ face j. make face) a) font
 
 -- the image of the picture of a text by a font file
 unfoldable pub picture_wanted : CJob → List ℕ → List ℕ → Result Image Refusal
@@ -28,7 +28,7 @@ picture_wanted j text font = asked j text >>= λ a. as_call (made_of (λ face. p
 pub record IsPictureOf (j : CJob) (text font : List ℕ) (p : Picture) : Type 0 where
   pub image : picture_wanted j text font ≡ Ok (image_of p)
   pub ready : IsReady p
-  pub made : IsOkAnd (asked j text) (λ a. IsOkAnd (face_of font) (IsMadeBy (grows j) a p))
+  pub made : IsOkAnd (asked j text) (λ a. ByFace (λ face a. IsMadeBy (grows j) a p face) a font)
 
 -- a picture for C
 abbrev pub picture_told : Picture → CPicture

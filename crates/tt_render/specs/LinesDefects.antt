@@ -1,5 +1,5 @@
 -- What a call that draws lines claims about the defects of a font.
-use Rattle.std.specs.Prelude.{◌≡◌, refl, ℕ, ◌-◌, List, [], ◌∷◌, get_or, codes, Option, Some, None, IfSome, Result, Ok, Err, IsOkAnd, ⊤}
+use Rattle.std.specs.Prelude.{◌≡◌, refl, ℕ, ◌-◌, List, [], ◌∷◌, get_or, codes, Option, Some, None, IfSome, Result, Ok, Err, ⊤}
 use Rattle.tt_core.specs.Faults.{Fault}
 use Rattle.tt_line.specs.Layout.{text_glyphs}
 use Rattle.tt_render.specs.declared.setting.Setting.{Setting}
@@ -10,8 +10,8 @@ use Rattle.tt_render.specs.Lines.{lines_of}
 use Rattle.tt_render.specs.Settings.{job_by}
 use Rattle.tt_face.specs.Defects.{IsFaceDefect}
 use Rattle.tt_strike.specs.Defects.{IsLineDefect}
+use Rattle.tt_strike.specs.Job.{ByFace}
 use Rattle.tt_strike.specs.Strikes.{Strike, job_of}
-use Rattle.tt_face.specs.Faces.{face_of}
 
 -- the line of a text with this number, counted from 1
 abbrev pub line_numbered : List ℕ → ℕ → List ℕ
@@ -24,7 +24,7 @@ IsDefectBy a s line f = IsLineDefect s.face (job_of s line a.margin) (text_glyph
 -- a defect of the font that a line is drawn from, by the font's file
 abbrev pub IsDefectIn : Setting → List ℕ → List ℕ → Fault → Type 0
 IsDefectIn a file line f =
-    IsOkAnd (face_of file) (λ face. IsLineDefect face (job_by a line) (text_glyphs face.cmap line) f)
+    ByFace (λ face j. IsLineDefect face j (text_glyphs face.cmap line) f) (job_by a line) file
 
 -- the first line of a text has a defect
 abbrev pub BeginsDefective : (List ℕ → Fault → Type 0) → Fault → List ℕ → Type 0

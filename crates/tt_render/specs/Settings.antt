@@ -5,7 +5,7 @@ use Rattle.tt_core.specs.declared.fault.JobFault.TheVariants as fault
 use Rattle.tt_core.specs.Outcomes.{◌>>=◌}
 use Rattle.tt_fit.specs.declared.programs.Fit.{Fit}
 use Rattle.tt_fit.specs.declared.programs.Fit.TheVariants as fit
-use Rattle.tt_strike.specs.Job.{Job, margin_tested, size_tested}
+use Rattle.tt_strike.specs.Job.{Job, job_for, margin_tested, size_tested}
 use Rattle.tt_strike.specs.Refusals.{Refused, as_font}
 use Rattle.tt_strike.specs.Strikes.{Strike}
 use Rattle.tt_face.specs.Faces.{Face, face_of}
@@ -42,7 +42,7 @@ pub record IsPlain (a : Setting) : Type 0 where
 
 -- the job of a text
 abbrev pub job_by : Setting → List ℕ → Job
-job_by a text = record { text = text; ppem = a.ppem; margin = a.margin; fit = a.fit }
+job_by a text = job_for a.ppem a.fit text a.margin
 
 -- the strike of a setting, by a font's tables, before its first line
 abbrev pub strike_by : Setting → Face → Strike

@@ -1,12 +1,11 @@
 -- What a call claims about the defects of a font, and why it refuses a job.
-use Rattle.std.specs.Prelude.{List, ℕ, Option, Some, None, Result, Ok, Err, IsOkAnd, IfSome, Bool, true, false, ⊤}
+use Rattle.std.specs.Prelude.{List, ℕ, Option, Some, None, Result, Ok, Err, IfSome, Bool, true, false, ⊤}
 use Rattle.tt_core.specs.Directory.{HasNo}
 use Rattle.tt_core.specs.Faults.{Fault}
 use Rattle.tt_core.specs.declared.fault.JobFault.{JobFault}
 use Rattle.tt_strike.specs.Defects.{IsFontRefusal}
-use Rattle.tt_strike.specs.Job.{Job, IsTestRefusal}
+use Rattle.tt_strike.specs.Job.{ByFace, Job, IsTestRefusal}
 use Rattle.tt_strike.specs.Refusals.{needs_font}
-use Rattle.tt_face.specs.Faces.{face_of}
 use Rattle.tt_render_run.specs.declared.fault.RunFault.{RunFault}
 use Rattle.tt_render_run.specs.declared.fault.RunFault.TheVariants as run
 
@@ -24,7 +23,7 @@ TellsDefectsOf (Some file) IsOne result = CallTellsDefects (IsOne file) result
 
 -- the fact that refuses a job, alone or by a font file: the font comes second
 abbrev pub IsRefusedBy : Bool → Job → Option (List ℕ) → JobFault → Type 0
-IsRefusedBy true a left j = IfSome left (λ file. IsOkAnd (face_of file) (λ face. IsFontRefusal face a j))
+IsRefusedBy true a left j = IfSome left (ByFace (λ face a. IsFontRefusal face a j) a)
 IsRefusedBy false a left j = IsTestRefusal a j
 
 abbrev pub IsJobRefusal : Job → Option (List ℕ) → JobFault → Type 0

@@ -1,14 +1,13 @@
 //! The picture of a job by a font file.
 
-ghost use Rattle.std.specs.Prelude.{◌≡◌, ◌≤◌, length, Ok, IfOk, IsOkAnd};
+ghost use Rattle.std.specs.Prelude.{◌≡◌, ◌≤◌, length, Ok, IfOk};
 ghost use Rattle.tt_core.specs.Bits.{stride};
 ghost use Rattle.tt_core.specs.Limits.{font_limit};
 ghost use Rattle.tt_core.specs.Outcomes.{GivesUnless, IfTold, draw_font_fault, draw_job_fault};
-ghost use Rattle.tt_face.specs.Faces.{face_of};
 ghost use Rattle.tt_picture.specs.Pictures.{IsReady, image_of};
 ghost use Rattle.tt_picture.specs.Unfitted.{ListsOnce};
 ghost use Rattle.tt_strike.specs.Defects.{IsFontRefusal, IsRunDefect, TellsDefects};
-ghost use Rattle.tt_strike.specs.Job.{job_view, tested, IsJob};
+ghost use Rattle.tt_strike.specs.Job.{job_view, tested, ByFace, IsJob};
 ghost use Rattle.tt_strike.specs.Picture.{pictured};
 ghost use Rattle.tt_strike.specs.Refusals.{refusal};
 ghost use Rattle.tt_strike.specs.Report.{report_of};
@@ -37,7 +36,7 @@ pub(crate) fn draw(alloc: Global, file: &[u8], job: &Job) -> Result<Drawn, DrawF
     ensures report { IfOk result (λ d. report_of (job_view job.now) file.now ≡ Ok d.picture.unfitted) }
     ensures once { IfOk result (λ d. ListsOnce d.picture.unfitted) }
     ensures defects { TellsDefects draw_font_fault (IsRunDefect (job_view job.now) file.now) result }
-    ensures job { IfTold draw_job_fault result (λ j. IsOkAnd (face_of file.now) (λ face. IsFontRefusal face (job_view job.now) j)) }
+    ensures job { IfTold draw_job_fault result (λ j. ByFace (λ face a. IsFontRefusal face a j) (job_view job.now) file.now) }
 {
     let face = Face::open(file)?;
     let mut strike = Strike::new(alloc, &face, job.ppem, job.fit, 0)?;

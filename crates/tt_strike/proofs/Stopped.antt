@@ -13,7 +13,7 @@ use Rattle.tt_fit.specs.Fitting.{Fitter}
 use Rattle.tt_line.specs.declared.line.Line.{Line}
 use Rattle.tt_line.specs.Layout.{Placement, placement}
 use Rattle.tt_line.specs.Outcome.{placement_of}
-use Rattle.tt_strike.specs.Job.{Job, margin_tested, tested, text_tested}
+use Rattle.tt_strike.specs.Job.{Job, margin_tested, size_tested, tested, text_tested}
 use Rattle.tt_strike.specs.Defects.{IsTooMuchWork, IsExtentRefusal, IsLineRefusal}
 use Rattle.tt_face.specs.Faces.{Face}
 use Rattle.tt_strike.specs.Refusals.{Refused, as_font, as_job, job, refusal}

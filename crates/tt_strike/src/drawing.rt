@@ -1,13 +1,16 @@
-//! Draws a line that is laid out.
+//! Makes and tests the glyphs of a line that is laid out, and draws them.
 
-ghost use Rattle.std.specs.Prelude.{◌≡◌, ◌<◌, map, All, IfOk};
+ghost use Rattle.std.specs.Prelude.{◌≡◌, ◌<◌, map, All, Ok, Err, IfOk};
 ghost use Rattle.tt_core.specs.declared.fault.JobFault.TheVariants.{WorkLarge};
 ghost use Rattle.tt_core.specs.Outcomes.{GivesUnless, IfTold, draw_font_fault, draw_job_fault};
 ghost use Rattle.tt_line.specs.Outcome.{placement_of};
 ghost use Rattle.tt_metrics.specs.Metrics.{glyphs_of};
-ghost use Rattle.tt_picture.specs.Cached.{limit_of};
+ghost use Rattle.tt_picture.specs.Cached.{is_there, limit_of};
+ghost use Rattle.tt_picture.specs.Glyphs.{AreSeated};
 ghost use Rattle.tt_picture.specs.Pictures.{image_of};
+ghost use Rattle.tt_strike.specs.Costs.{line_cost};
 ghost use Rattle.tt_strike.specs.Defects.{IsLineDefect, IsTooMuchWork, TellsDefects};
+ghost use Rattle.tt_strike.specs.Made.{AreMade, shapes_made};
 ghost use Rattle.tt_strike.specs.Picture.{drawn, frame_of};
 ghost use Rattle.tt_strike.specs.Refusals.{refusal};
 ghost use Rattle.tt_strike.specs.Reported.{IsReported};
@@ -15,10 +18,46 @@ ghost use Rattle.tt_strike.specs.Strikes.{IsCacheOf, job_with};
 
 use crate::laid::Laid;
 use crate::sized::SizedFace;
+use crate::work::{charge_points, cost_of, crossings_allowed, test_crossings};
 use tt_core::DrawFault;
-use tt_picture::{Cache, Picture};
+use tt_picture::{Cache, Glyphs, Picture, line_glyphs};
 
 impl<'f, 'a> SizedFace<'f, 'a> {
+    /// The glyphs of a laid-out line. Errors: those of loca and glyf, of the programs; WorkLarge of its points; those
+    /// of the glyphs in the order of the line; WorkLarge of its crossings; Memory.
+    pub(crate) fn tested_glyphs(
+        &mut self,
+        laid: &Laid,
+        cache: &mut Cache,
+    ) -> Result<Glyphs, DrawFault>
+        requires known { All (λ g. g.0 < glyphs_of self.old.face.metrics) laid.now.line.glyphs.items }
+        requires cache { IsCacheOf self.old cache.old }
+        ensures made { IfOk result (λ g. AreMade (is_there cache.old) self.old.face (job_with self.old laid.now.margin) (placement_of laid.now.line) g.made.items) }
+        ensures valid { IfOk result (λ g. AreSeated (glyphs_of self.old.face.metrics) g.places.items g.made.items) }
+        ensures cost { IfOk result (λ g. line_cost self.old.face (job_with self.old laid.now.margin) (placement_of laid.now.line) ≡ Ok g.cost) }
+        ensures stops { IfTold refusal result (λ r. shapes_made self.old.face (job_with self.old laid.now.margin) (placement_of laid.now.line) ≡ Err r) }
+        ensures cache { IsCacheOf self.old cache.new }
+        ensures limit { limit_of cache.new ≡ limit_of cache.old }
+        ensures same { self.new ≡ self.old }
+        ensures defects { TellsDefects draw_font_fault (IsLineDefect self.old.face (job_with self.old laid.now.margin) (map (λ g. g.0) laid.now.line.glyphs.items)) result }
+        ensures work { IfTold draw_job_fault result (λ j. (j ≡ WorkLarge) × IsTooMuchWork self.old.face (job_with self.old laid.now.margin) (placement_of laid.now.line)) }
+    {
+        tt_fit::laws::work_unfits();
+        let source = self.source;
+        let mut fitter = self.maker.take(&source)?;
+        let count = source.face.metrics().glyphs();
+        let line = &laid.line;
+        charge_points(source.alloc, source.fit, &mut fitter, count, &line.glyphs)?;
+        let frame = laid.frame();
+        let mut glyphs = line_glyphs(source.alloc, &mut fitter, count, &line.glyphs, frame, cache)?;
+        let left = fitter.work();
+        let most = crossings_allowed(left);
+        let crossings = test_crossings(source.fit, most, &glyphs.made)?;
+        glyphs.cost = cost_of(left, crossings);
+        self.maker.give_back(fitter, source.fit);
+        Ok(glyphs)
+    }
+
     /// The picture of a line that is laid out. Errors: as `tested_glyphs`.
     #[tactic(auto, unfolding(crate::specs::Picture::drawn, crate::specs::Report::line_report))]
     pub(crate) fn draw_line(&mut self, laid: &Laid, cache: &mut Cache) -> Result<Picture, DrawFault>

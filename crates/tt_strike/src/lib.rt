@@ -16,7 +16,6 @@ mod programs;
 mod sized;
 mod source;
 mod strike;
-mod tested;
 mod work;
 
 pub use job::{Job, test_job, test_text};

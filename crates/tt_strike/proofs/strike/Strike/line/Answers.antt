@@ -91,7 +91,7 @@ pub returns-clause-job : goal.returns-clause-job
 returns-clause-job c =
     let z = c.self.inside.sized in
     rw (← c.self.view_is) (work_refuses c.draw_line.result (job_by z c.args.text.now c.args.margin) z.face
-    (placement_of c.in_ok-laid.laid.line) c.in_ok-laid.ensures.laid (rw c.in_ok-laid.ensures.margin at c.draw_line.ensures.work))
+    (placement_of c.in_ok-laid.laid.line) c.in_ok-laid.ensures.laid c.draw_line.ensures.work)
 
 pub invariant_of-self : goal.invariant_of-self
 invariant_of-self c =

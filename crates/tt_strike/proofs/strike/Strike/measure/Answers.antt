@@ -56,7 +56,7 @@ pub returns-clause-job : goal.returns-clause-job
 returns-clause-job c =
     let z = c.self.inside.sized in
     rw (← c.self.view_is) (work_refuses c.measure_line.result (job_by z c.args.text.now c.args.margin) z.face
-    (placement_of c.in_ok-laid.laid.line) c.in_ok-laid.ensures.laid (rw c.in_ok-laid.ensures.margin at c.measure_line.ensures.work))
+    (placement_of c.in_ok-laid.laid.line) c.in_ok-laid.ensures.laid c.measure_line.ensures.work)
 
 pub returns-clause-same : goal.returns-clause-same
 returns-clause-same c = rw c.measure_line.ensures.same c.self.view_is
