@@ -45,7 +45,7 @@ fn mark(table: &mut [bool; PLACES], other: &[bool; PLACES], at: usize) -> bool
 
 /// Marks in one of two tables the gaps where an edge crosses lines. Returns whether such a gap is in the other table
 /// and may be free.
-#[inline(never)]
+#[inline(always)]
 fn mark_crossings(
     table: &mut [bool; PLACES],
     other: &[bool; PLACES],
@@ -75,6 +75,29 @@ fn mark_crossings(
 
 /// Marks the gaps where an edge, as a pass sees it, crosses lines. Returns whether one of them is crossed the other way
 /// too and may be free.
+#[inline(never)]
+fn mark_ways(
+    rising: &mut [bool; PLACES],
+    falling: &mut [bool; PLACES],
+    pass: PassEdges,
+    looks: &mut Looks,
+    edge: &Edge,
+) -> bool
+    requires { EdgeFits edge.now }
+    ensures told { result ≡ false → (es : List Edge)
+        → AreTold (is_black_seen pass.entry.over pass.entry.edges.now) es rising.old falling.old
+        → AreTold (is_black_seen pass.entry.over pass.entry.edges.now) (es ++ seen_by pass.entry.over edge.now ∷ []) rising.new falling.new }
+    ensures fewer { looks.new ≤ looks.old }
+{
+    let edge = seen_by(pass.over, *edge);
+    if edge.ay < edge.by {
+        mark_crossings(rising, falling, pass, looks, edge)
+    } else {
+        mark_crossings(falling, rising, pass, looks, edge)
+    }
+}
+
+/// `mark_ways` with a quick test first: most edges are short and meet no line.
 #[inline(always)]
 fn mark_edge(
     rising: &mut [bool; PLACES],
@@ -89,16 +112,7 @@ fn mark_edge(
         → AreTold (is_black_seen pass.entry.over pass.entry.edges.now) (es ++ seen_by pass.entry.over edge.now ∷ []) rising.new falling.new }
     ensures fewer { looks.new ≤ looks.old }
 {
-    // Most edges are short and meet no line.
-    if !meets(pass.over, false, edge) {
-        return false;
-    }
-    let edge = seen_by(pass.over, *edge);
-    if edge.ay < edge.by {
-        mark_crossings(rising, falling, pass, looks, edge)
-    } else {
-        mark_crossings(falling, rising, pass, looks, edge)
-    }
+    meets(pass.over, false, edge) && mark_ways(rising, falling, pass, looks, edge)
 }
 
 /// Whether edges may cross some free gap of a row or of a column both rising and falling. False means that they do not.
