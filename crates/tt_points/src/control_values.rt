@@ -45,6 +45,7 @@ fn miap_distance(round: bool, state: &GraphicsState, at: Unrounded, c: Unrounded
 /// point is placed there first (profile). With `round`, the point's own coordinate replaces a control value further
 /// away than the cut-in, and the result is rounded. Reference points 0 and 1 become p. Errors: PointRange,
 /// Perpendicular, ValueRange.
+#[inline(always)]
 #[tactic(auto, unfolding(crate::specs::ControlValues::miap))]
 pub fn miap(
     zones: &mut Zones,
@@ -86,6 +87,7 @@ fn chosen(keeping: Keeping, state: &GraphicsState, d: Unrounded, c: Unrounded) -
 }
 
 /// The distance that MIRP sets, for the original distance `d` and the control value `c` after the single width.
+#[inline(always)]
 #[tactic(auto, unfolding(crate::specs::ControlValues::mirp_distance))]
 fn mirp_distance(keeping: Keeping, state: &GraphicsState, d: Unrounded, c: Unrounded) -> Distance
     ensures exact { result.0 ≡ is.mirp_distance keeping state.now d.distance c.distance }
@@ -100,6 +102,7 @@ fn mirp_distance(keeping: Keeping, state: &GraphicsState, d: Unrounded, c: Unrou
 /// placed there first (profile). With rounding, and within one zone, the original distance replaces a control value
 /// that differs by more than the cut-in. Reference point 1 becomes reference point 0, and reference point 2 becomes p.
 /// Errors: PointRange, Perpendicular, ValueRange.
+#[inline(always)]
 #[tactic(auto, unfolding(crate::specs::ControlValues::mirp))]
 pub fn mirp(
     zones: &mut Zones,

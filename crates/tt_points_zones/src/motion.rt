@@ -233,6 +233,7 @@ impl Motion {
 
     /// The point moved along the freedom vector, by `d` along the projection vector. Its touches are unchanged. Error:
     /// ValueRange past the limit of coordinates.
+    #[inline(always)]
     pub fn shifted(&self, p: Point, d: i64) -> Result<Point, Why>
         requires point { IsPoint p }
         requires small { unsigned_abs d < 2 ^ 47 }
