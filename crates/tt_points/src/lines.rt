@@ -1,7 +1,7 @@
 //! Lines through points: vectors along them, their meeting point, and aligned points. Apple TrueType Reference Manual,
 //! "Instruction Set" (SPVTL, SFVTL, SDPVTL, ISECT, ALIGNPTS). Coordinates are in 26.6 pixels.
 
-ghost use Rattle.std.specs.Prelude.{◌≡◌, ◌<◌, ◌≤◌, ◌*◌, ◌^◌, unsigned_abs, IfErr};
+ghost use Rattle.std.specs.Prelude.{◌≡◌, ◌<◌, ◌≤◌, ◌*◌, ◌^◌, neg_ℤ, unsigned_abs, IfErr};
 ghost use Rattle.tt_core.specs.Limits.{coordinate_limit};
 ghost use Rattle.tt_core.specs.Outcomes.{Gives};
 ghost use Rattle.tt_points_zones.specs.Meeting.{IsPlace};
@@ -127,6 +127,14 @@ fn half(d: Distance) -> Distance
     Distance(d.0 / 2)
 }
 
+fn opposite(d: Distance) -> Distance
+    requires { unsigned_abs d.0 < 2 ^ 23 }
+    ensures exact { result.0 ≡ neg_ℤ d.0 }
+    ensures bound { unsigned_abs result.0 < 2 ^ 23 }
+{
+    Distance(-d.0)
+}
+
 /// ALIGNPTS[], 0x27: p2, p1 -> moves point p1 of zone pointer 1 and point p2 of zone pointer 0 to the middle between
 /// them, along the projection vector. Each moves by half the distance, cut toward 0 (profile). Errors: PointRange of
 /// p1, of p2; Perpendicular, ValueRange.
@@ -141,7 +149,7 @@ pub fn alignpts(zones: &mut Zones, state: &GraphicsState, p1: i32, p2: i32) -> R
     let motion = Motion::of(state);
     let h = half(motion.current_distance(a, b));
     let a = motion.moved(a, h.0)?;
-    let b = motion.moved(seen(state, p2, b, p1, a), -h.0)?;
+    let b = motion.moved(seen(state, p2, b, p1, a), opposite(h).0)?;
     zones.set(state.zp1, p1, a);
     zones.set(state.zp0, p2, b);
     Ok(())

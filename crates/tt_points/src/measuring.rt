@@ -1,16 +1,18 @@
 //! Coordinates read and set, distances measured, and a touch removed. Apple TrueType Reference Manual, "Instruction
 //! Set" (GC, SCFS, MD, UTP). Coordinates are in 26.6 pixels.
 
-ghost use Rattle.std.specs.Prelude.{◌≡◌, ◌<◌, ◌^◌, unsigned_abs, IfErr};
+ghost use Rattle.std.specs.Prelude.{◌≡◌, ◌-ℤ◌, ◌<◌, ◌^◌, unsigned_abs, IfErr};
 ghost use Rattle.tt_core.specs.Outcomes.{Gives};
+ghost use Rattle.tt_points_zones.specs.Motions as motion;
 ghost use Rattle.tt_points_zones.specs.Views.{zones_view};
+ghost use Rattle.tt_points_zones.specs.Zones.{IsPoint};
 ghost use Rattle.tt_points.specs.Measuring as is;
 
 use crate::lines::Ends;
 use crate::twilight::settled_in;
 use tt_core::Why;
 use tt_points_zones::{Distance, Motion, Zones, may_move};
-use tt_state::GraphicsState;
+use tt_state::{GraphicsState, Point};
 
 /// The place of a point that GC or MD measures.
 #[derive(Clone, Copy)]
@@ -60,6 +62,15 @@ pub fn md(zones: &Zones, state: &GraphicsState, between: Position, ends: Ends) -
     }
 }
 
+/// The distance from a point's coordinate to `v`.
+fn short_of(v: i32, q: Point, m: &Motion) -> i64
+    requires { IsPoint q }
+    ensures exact { result ≡ v -ℤ motion.cur m.now q }
+    ensures bound { unsigned_abs result < 2 ^ 33 }
+{
+    i64::from(v) - i64::from(m.cur(q))
+}
+
 /// SCFS[], 0x48: p, v -> moves point p of zone pointer 2 to the coordinate v. For a twilight point the new place is the
 /// original place too (profile). Errors: PointRange, Perpendicular, ValueRange.
 #[tactic(auto, unfolding(crate::specs::Measuring::scfs))]
@@ -70,8 +81,7 @@ pub fn scfs(zones: &mut Zones, state: &GraphicsState, p: i32, v: i32) -> Result<
     let q = zones.point(state.zp2, p)?;
     may_move(state)?;
     let motion = Motion::of(state);
-    let by = i64::from(v) - i64::from(motion.cur(q));
-    let q = motion.moved(q, by)?;
+    let q = motion.moved(q, short_of(v, q, &motion))?;
     zones.set(state.zp2, p, settled_in(state.zp2, q));
     Ok(())
 }

@@ -1,8 +1,9 @@
 //! Instructions that move a point along the projection vector without a control value. Apple TrueType Reference Manual,
 //! "Instruction Set" (MDAP, MSIRP, MDRP). Coordinates are in 26.6 pixels.
 
-ghost use Rattle.std.specs.Prelude.{◌≡◌, ◌<◌, ◌^◌, unsigned_abs, IfOk, IfErr};
+ghost use Rattle.std.specs.Prelude.{◌≡◌, ◌-ℤ◌, ◌<◌, ◌^◌, unsigned_abs, IfOk, IfErr};
 ghost use Rattle.tt_core.specs.Outcomes.{Gives};
+ghost use Rattle.tt_points_zones.specs.Motions as motion;
 ghost use Rattle.tt_points_zones.specs.Views.{zones_view};
 ghost use Rattle.tt_points_zones.specs.Zones.{IsPoint};
 ghost use Rattle.tt_points.specs.Moving as is;
@@ -15,6 +16,17 @@ use tt_core::Why;
 use tt_points_zones::{Distance, Motion, Zones, may_move};
 use tt_state::{GraphicsState, Point};
 
+/// The difference between `d` and the current distance from `r` to `q`.
+fn short_of(d: Distance, q: Point, r: Point, m: &Motion) -> i64
+    requires q { IsPoint q }
+    requires r { IsPoint r }
+    requires small { unsigned_abs d.0 < 2 ^ 33 }
+    ensures exact { result ≡ d.0 -ℤ motion.current_distance m.now r q }
+    ensures bound { unsigned_abs result < 2 ^ 34 }
+{
+    d.0 - m.current_distance(r, q).0
+}
+
 /// The point `q`, moved so that its distance from `r` is `d`. Error: ValueRange.
 #[tactic(auto, unfolding(crate::specs::Moving::kept))]
 pub(crate) fn kept(q: Point, m: &Motion, d: Distance, r: Point) -> Result<Point, Why>
@@ -24,7 +36,7 @@ pub(crate) fn kept(q: Point, m: &Motion, d: Distance, r: Point) -> Result<Point,
     ensures exact { Gives (λ p. p) result (is.kept m.now d.0 q r) }
     ensures valid { IfOk result IsPoint }
 {
-    m.moved(q, d.0 - m.current_distance(r, q).0)
+    m.moved(q, short_of(d, q, r, m))
 }
 
 /// Sets the reference points after MSIRP, MDRP or MIRP: 1 to the old 0, 2 to p, and with `rp0` also 0 to p.

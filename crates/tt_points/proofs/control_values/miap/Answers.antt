@@ -1,5 +1,5 @@
-use Rattle.std.proofs.Common.{SFits, w32, w64, rules}
-use Rattle.std.proofs.lemmas.Int.{to_z-of_z}
+use Rattle.std.proofs.Common.{SFits, w32, w64, rules, arith}
+use Rattle.std.proofs.lemmas.Int.{ints, to_z-of_z}
 use Rattle.tt_points.specs.ControlValues.{miap, set_at}
 use Rattle.tt_points.proofs.control_values.miap.Goals as goal
 
@@ -12,7 +12,11 @@ returns-in_err-q-3-clause-exact c =
     let q = simp to_z-of_z at c.in_ok-q.ensures.exact in
     let by = simp to_z-of_z at c.given-c.ensures in
     let placed = rw (by, c.of-motion.ensures) at c.in_ok-q-2.ensures.exact in
-    let at = rw (simp to_z-of_z at c.from.ensures, c.cur.ensures.exact, c.of-motion.ensures, by) at c.miap_distance.ensures.exact in
+    let near : SFits w32 c.cur.result = omega (arith, ints, c.cur.ensures.bound) in
+    let wide : SFits w64 c.from.result = search rules in
+    let from = simp to_z-of_z at c.from.ensures in
+    let move = simp to_z-of_z at c.miap_distance.ensures.exact in
+    let at = rw (from, c.cur.ensures.exact, c.of-motion.ensures, by) at move in
     let moved = rw (at, c.of-motion.ensures) at (simp to_z-of_z at c.in_err-q-3.ensures.exact) in
     rw (miap, q, c.in_ok-may_move.ensures, placed, set_at, moved) (search rules)
 
@@ -25,6 +29,10 @@ returns-clause-exact c =
     let q = simp to_z-of_z at c.in_ok-q.ensures.exact in
     let by = simp to_z-of_z at c.given-c.ensures in
     let placed = rw (by, c.of-motion.ensures) at c.in_ok-q-2.ensures.exact in
-    let at = rw (simp to_z-of_z at c.from.ensures, c.cur.ensures.exact, c.of-motion.ensures, by) at c.miap_distance.ensures.exact in
+    let near : SFits w32 c.cur.result = omega (arith, ints, c.cur.ensures.bound) in
+    let wide : SFits w64 c.from.result = search rules in
+    let from = simp to_z-of_z at c.from.ensures in
+    let move = simp to_z-of_z at c.miap_distance.ensures.exact in
+    let at = rw (from, c.cur.ensures.exact, c.of-motion.ensures, by) at move in
     let moved = rw (at, c.of-motion.ensures) at (simp to_z-of_z at c.in_ok-q-3.ensures.exact) in
     rw (miap, q, c.in_ok-may_move.ensures, placed, set_at, moved) (search rules)

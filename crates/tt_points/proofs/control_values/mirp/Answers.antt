@@ -1,5 +1,5 @@
-use Rattle.std.proofs.Common.{SFits, w32, rules}
-use Rattle.std.proofs.lemmas.Int.{to_z-of_z}
+use Rattle.std.proofs.Common.{SFits, w32, w64, rules, arith}
+use Rattle.std.proofs.lemmas.Int.{ints, to_z-of_z}
 use Rattle.tt_points_zones.specs.Views.{zones_view}
 use Rattle.tt_points.specs.ControlValues.{mirp}
 use Rattle.tt_points.proofs.TwoSteps.{mirp_once}
@@ -40,7 +40,8 @@ returns-in_err-kept-clause-exact c =
     let placed = rw (d, c.of-motion.ensures) at c.in_ok-q-2.ensures.exact in
     let seen = simp to_z-of_z at c.seen-r.ensures.exact in
     let original = rw (seen, c.of-motion.ensures) at c.original_distance.ensures.exact in
-    let size = rw (original, d) at c.mirp_distance-d.ensures.exact in
+    let fits : SFits w64 c.original_distance.result.0 = omega (arith, ints, c.original_distance.ensures.few) in
+    let size = rw (original, d) at (simp to_z-of_z at c.mirp_distance-d.ensures.exact) in
     let kept = rw (size, seen, c.of-motion.ensures) at c.in_err-kept.ensures.exact in
     let once =
     mirp_once c.args.keeping c.args.p c.args.c (zones_view c.args.zones.now) c.args.state.now _ _ _ q r
@@ -59,7 +60,8 @@ returns-clause-exact c =
     let placed = rw (d, c.of-motion.ensures) at c.in_ok-q-2.ensures.exact in
     let seen = simp to_z-of_z at c.seen-r.ensures.exact in
     let original = rw (seen, c.of-motion.ensures) at c.original_distance.ensures.exact in
-    let size = rw (original, d) at c.mirp_distance-d.ensures.exact in
+    let fits : SFits w64 c.original_distance.result.0 = omega (arith, ints, c.original_distance.ensures.few) in
+    let size = rw (original, d) at (simp to_z-of_z at c.mirp_distance-d.ensures.exact) in
     let kept = rw (size, seen, c.of-motion.ensures) at c.in_ok-kept.ensures.exact in
     let once =
     mirp_once c.args.keeping c.args.p c.args.c (zones_view c.args.zones.now) c.args.state.now _ _ _ q r

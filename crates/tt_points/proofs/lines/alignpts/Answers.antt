@@ -1,5 +1,5 @@
-use Rattle.std.proofs.Common.{neg_ℤ, SFits, w32, w64, refl, rules, arith}
-use Rattle.std.proofs.lemmas.Int.{ints, to_z-of_z}
+use Rattle.std.proofs.Common.{SFits, w32, w64, refl, rules}
+use Rattle.std.proofs.lemmas.Int.{to_z-of_z}
 use Rattle.tt_points_zones.specs.Views.{zones_view}
 use Rattle.tt_points.specs.Lines.{alignpts}
 use Rattle.tt_points.proofs.TwoSteps.{alignpts_once, still_there}
@@ -34,13 +34,14 @@ returns-in_err-b-2-clause-exact c =
     let p1 : SFits w32 c.args.p1 = c.ranges.p1 in
     let p2 : SFits w32 c.args.p2 = c.ranges.p2 in
     let far : SFits w64 c.half-h.result.0 = search rules in
-    let back : SFits w64 (neg_ℤ c.half-h.result.0) = omega (arith, ints, c.half-h.ensures.bound) in
+    let back : SFits w64 c.opposite.result.0 = search rules in
     let a = simp to_z-of_z at c.in_ok-a.ensures.exact in
     let b = simp to_z-of_z at c.in_ok-b.ensures.exact in
     let h = rw c.current_distance.ensures.exact at c.half-h.ensures.exact in
     let moved = rw (h, c.of-motion.ensures) at (simp to_z-of_z at c.in_ok-a-2.ensures.exact) in
     let seen = simp to_z-of_z at c.seen.ensures.exact in
-    let other = rw (seen, h, c.of-motion.ensures) at (simp to_z-of_z at c.in_err-b-2.ensures.exact) in
+    let opposite = rw h at c.opposite.ensures.exact in
+    let other = rw (seen, opposite, c.of-motion.ensures) at (simp to_z-of_z at c.in_err-b-2.ensures.exact) in
     let once =
     alignpts_once c.args.p1 c.args.p2 (zones_view c.args.zones.now) c.args.state.now _ _ _ a b
     c.in_ok-may_move.ensures
@@ -57,13 +58,14 @@ returns-clause-exact c =
     let p1 : SFits w32 c.args.p1 = c.ranges.p1 in
     let p2 : SFits w32 c.args.p2 = c.ranges.p2 in
     let far : SFits w64 c.half-h.result.0 = search rules in
-    let back : SFits w64 (neg_ℤ c.half-h.result.0) = omega (arith, ints, c.half-h.ensures.bound) in
+    let back : SFits w64 c.opposite.result.0 = search rules in
     let a = simp to_z-of_z at c.in_ok-a.ensures.exact in
     let b = simp to_z-of_z at c.in_ok-b.ensures.exact in
     let h = rw c.current_distance.ensures.exact at c.half-h.ensures.exact in
     let moved = rw (h, c.of-motion.ensures) at (simp to_z-of_z at c.in_ok-a-2.ensures.exact) in
     let seen = simp to_z-of_z at c.seen.ensures.exact in
-    let other = rw (seen, h, c.of-motion.ensures) at (simp to_z-of_z at c.in_ok-b-2.ensures.exact) in
+    let opposite = rw h at c.opposite.ensures.exact in
+    let other = rw (seen, opposite, c.of-motion.ensures) at (simp to_z-of_z at c.in_ok-b-2.ensures.exact) in
     let once =
     alignpts_once c.args.p1 c.args.p2 (zones_view c.args.zones.now) c.args.state.now _ _ _ a b
     c.in_ok-may_move.ensures

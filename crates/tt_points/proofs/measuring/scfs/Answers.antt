@@ -9,8 +9,8 @@ returns-in_err-q-2-clause-exact c =
     let p : SFits w32 c.args.p = c.ranges.p in
     let v : SFits w32 c.args.v = c.ranges.v in
     let q = simp to_z-of_z at c.in_ok-q.ensures.exact in
-    let far : SFits w64 (c.from.result -ℤ c.from-2.result) = omega (arith, ints, c.from.ensures, c.from-2.ensures, c.cur.ensures.bound) in
-    let short = rw (c.from.ensures, c.from-2.ensures, c.cur.ensures.exact) refl in
+    let far : SFits w64 c.short_of.result = search rules in
+    let short = simp to_z-of_z at c.short_of.ensures.exact in
     let moved = rw (short, c.of-motion.ensures) at (simp to_z-of_z at c.in_err-q-2.ensures.exact) in
     rw (scfs, q, c.in_ok-may_move.ensures, moved) (search rules)
 
@@ -20,7 +20,7 @@ returns-clause-exact c =
     let p : SFits w32 c.args.p = c.ranges.p in
     let v : SFits w32 c.args.v = c.ranges.v in
     let q = simp to_z-of_z at c.in_ok-q.ensures.exact in
-    let far : SFits w64 (c.from.result -ℤ c.from-2.result) = omega (arith, ints, c.from.ensures, c.from-2.ensures, c.cur.ensures.bound) in
-    let short = rw (c.from.ensures, c.from-2.ensures, c.cur.ensures.exact) refl in
+    let far : SFits w64 c.short_of.result = search rules in
+    let short = simp to_z-of_z at c.short_of.ensures.exact in
     let moved = rw (short, c.of-motion.ensures) at (simp to_z-of_z at c.in_ok-q-2.ensures.exact) in
     rw (scfs, q, c.in_ok-may_move.ensures, moved) (search rules)

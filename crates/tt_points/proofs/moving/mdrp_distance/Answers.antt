@@ -8,5 +8,6 @@ unfolding mdrp_distance
 returns-clause-exact c =
     let d : SFits w64 c.single_width-d.result.distance = search rules in
     let near : SFits w64 c.rounded_by.result = search rules in
-    let rounded = c.rounded_by.ensures.exact in
-    rw (← c.single_width-d.ensures, ← rounded) (simp to_z-of_z at c.spaced_by.ensures.exact)
+    let fits : SFits w64 c.spaced_by.result = search rules in
+    let spaced = simp to_z-of_z at c.spaced_by.ensures.exact in
+    simp to_z-of_z (rw (c.rounded_by.ensures.exact, c.single_width-d.ensures) at spaced)

@@ -1,4 +1,4 @@
-use Rattle.std.proofs.Common.{SFits, w32, rules}
+use Rattle.std.proofs.Common.{SFits, w32, w64, rules}
 use Rattle.std.proofs.lemmas.Int.{to_z-of_z}
 use Rattle.tt_points_zones.specs.Views.{zones_view}
 use Rattle.tt_points.specs.Moving.{msirp}
@@ -39,7 +39,8 @@ returns-in_err-kept-clause-exact c =
     let d = simp to_z-of_z at c.given-d.ensures in
     let placed = rw (d, c.of-motion.ensures) at c.in_ok-q-2.ensures.exact in
     let seen = simp to_z-of_z at c.seen-r.ensures.exact in
-    let kept = rw (d, seen, c.of-motion.ensures) at c.in_err-kept.ensures.exact in
+    let fits : SFits w64 c.given-d.result.distance = search rules in
+    let kept = rw (d, seen, c.of-motion.ensures) at (simp to_z-of_z at c.in_err-kept.ensures.exact) in
     let once =
     msirp_once c.args.set_rp0 c.args.p c.args.d (zones_view c.args.zones.now) c.args.state.now _ _ _ q r
     c.in_ok-may_move.ensures
@@ -56,7 +57,8 @@ returns-clause-exact c =
     let d = simp to_z-of_z at c.given-d.ensures in
     let placed = rw (d, c.of-motion.ensures) at c.in_ok-q-2.ensures.exact in
     let seen = simp to_z-of_z at c.seen-r.ensures.exact in
-    let kept = rw (d, seen, c.of-motion.ensures) at c.in_ok-kept.ensures.exact in
+    let fits : SFits w64 c.given-d.result.distance = search rules in
+    let kept = rw (d, seen, c.of-motion.ensures) at (simp to_z-of_z at c.in_ok-kept.ensures.exact) in
     let once =
     msirp_once c.args.set_rp0 c.args.p c.args.d (zones_view c.args.zones.now) c.args.state.now _ _ _ q r
     c.in_ok-may_move.ensures

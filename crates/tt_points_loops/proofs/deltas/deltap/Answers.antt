@@ -44,8 +44,8 @@ loop-i-preserved c =
           left there c.loop-i.invariant.same came;
     }
 
-pub returns-in-Err-2-clause-exact : goal.returns-in-Err-2-clause-exact
-returns-in-Err-2-clause-exact c =
+pub returns-in-Err-2 : goal.returns-in-Err-2
+returns-in-Err-2 c =
     let by = c.args.by in
     let pairs = c.args.pairs.now in
     let i = c.loop-i.i - 1 in
@@ -55,10 +55,11 @@ returns-in-Err-2-clause-exact c =
     let stays = sym c.passes_over.ensures ∙ c.if-passes_over.false in
     let came : step (get_or (pairs_of pairs) i (pos 0, pos 0)) (zones_view c.loop-i.zones) ≡ Err c.in-Err.why =
     rw (← c.pair_at.ensures, c.in-Err.ensures.exact, stays) refl in
-    broke_off step (pairs_of pairs) c.loop-i.i i (pos 0, pos 0) _ _ _
-    left there c.loop-i.invariant.same came
+    let whole = broke_off step (pairs_of pairs) c.loop-i.i i (pos 0, pos 0) _ _ _
+    left there c.loop-i.invariant.same came in
+    record { exact = whole }
 
-pub returns-clause-exact : goal.returns-clause-exact
-returns-clause-exact c =
+pub returns : goal.returns
+returns c =
     let done : c.loop-i.i ≡ 0 = omega arith in
-    sym (rw done at c.loop-i.invariant.same)
+    record { exact = sym (rw done at c.loop-i.invariant.same) }

@@ -1,4 +1,4 @@
-use Rattle.std.proofs.Common.{◌∙◌, refl, subst, sym, SFits, w32}
+use Rattle.std.proofs.Common.{◌∙◌, refl, SFits, w32, subst, sym}
 use Rattle.std.proofs.lemmas.Int.{to_z-of_z}
 use Rattle.std.proofs.lemmas.List.{with_items_is}
 use Rattle.tt_points_zones.specs.Zones.{AreContours}
@@ -14,6 +14,12 @@ returns-clause-exact c =
     let first = simp to_z-of_z at c.in_ok-point-2.ensures.exact in
     let made = simp to_z-of_z at (rw c.deref_mut.ensures.value at c.put_all_on.ensures.exact) in
     rw (written, last, first, made) refl
+
+pub invariant_of-zones-clause-glyph_points : goal.invariant_of-zones-clause-glyph_points
+invariant_of-zones-clause-glyph_points c =
+    let written = with_items_is c.args.zones.now.glyph c.put_all_on.new.points
+    (c.put_all_on.ensures.count ∙ c.deref_mut.ensures.len) in
+    rw written c.put_all_on.ensures.valid
 
 -- the contours fit a glyph with as many points
 pub invariant_of-zones-clause-ranges : goal.invariant_of-zones-clause-ranges

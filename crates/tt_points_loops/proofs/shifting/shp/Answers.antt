@@ -6,7 +6,7 @@ same_result : {X E : Type 0} (r wanted : Result X E) → Gives (λ x. x) r wante
 same_result (Ok x) wanted is = sym is
 same_result (Err e) wanted is = sym is
 
-pub returns-clause-exact : goal.returns-clause-exact
-returns-clause-exact c =
+pub returns : goal.returns
+returns c =
     let before = same_result c.reference-before.result _ c.reference-before.ensures.exact in
-    rw before at c.in_turn.ensures.exact
+    record { exact = rw before at c.in_turn.ensures.exact }
