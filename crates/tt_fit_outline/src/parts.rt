@@ -8,7 +8,6 @@ ghost use Rattle.tt_core.specs.Limits.{size_limit};
 ghost use Rattle.tt_fit_outline.specs.Parts.{begun_parts, control_value, control_values, glyph_state, left_to_glyphs, originals_by, parts_with, pointers_set_back, without_glyph};
 ghost use Rattle.tt_fit_outline.specs.Views.{outline_of, size_view, units_view};
 ghost use Rattle.tt_points_zones.specs.Views.{zones_view};
-ghost use Rattle.tt_points_zones.specs.Zones.{IsZones};
 
 use crate::glyph_zone::{contours, glyph_zone, untouched};
 use crate::ready_glyph::ReadyGlyph;
@@ -47,7 +46,6 @@ fn control_values(alloc: Global, size: FontSize, cvt: &[u8]) -> Result<Vec<i32>,
 /// The zones of a program without a glyph: `twilight` twilight points, all at the origin.
 fn without_glyph(alloc: Global, halves: Halves, twilight: u16) -> Result<Zones, AllocError>
     ensures exact { IfOk result (λ z. zones_view z ≡ without_glyph halves twilight) }
-    ensures valid { IfOk result (λ z. IsZones (zones_view z)) }
 {
     Ok(Zones {
         twilight: vec![in alloc; untouched((0, 0), (0, 0), true); usize::from(twilight)]?,
@@ -166,7 +164,6 @@ pub(crate) fn glyph_zones(
 ) -> Result<Zones, AllocError>
     requires { length parts.now.zones.twilight.items ≤ copies.old.left }
     ensures exact { IfOk result (λ z. zones_view z ≡ (parts_with (parts_of parts.now) (option_map units_view glyph.now.units) (outline_of glyph.now.outline.now) (phantom_of glyph.now.grid)).zones) }
-    ensures valid { IfOk result (λ z. IsZones (zones_view z)) }
     ensures used { copies.new.left + length parts.now.zones.twilight.items ≡ copies.old.left }
     ensures rest { copies.new.rest ≡ copies.old.rest }
 {
