@@ -8,11 +8,11 @@ use Rattle.tt_core.specs.Limits.{font_limit}
 use Rattle.tt_core.specs.Outcomes.{◌>>=◌}
 use Rattle.tt_fit.specs.declared.programs.Fit.TheVariants as fit
 use Rattle.tt_line.specs.Layout.{text_glyphs}
-use Rattle.tt_face.specs.Defects.{IsFaceDefect}
+use Rattle.tt_face.specs.Files.{face_of, IsFaceDefect}
 use Rattle.tt_strike.specs.Defects.{IsLineDefect, TellsDefects}
 use Rattle.tt_strike.specs.Job.{Job, tested}
 use Rattle.tt_strike.specs.Refusals.{Refused, as_font, font, large}
-use Rattle.tt_face.specs.Faces.{Face, face_of}
+use Rattle.tt_face.specs.Faces.{Face}
 use Rattle.tt_c_calls.specs.declared.asked.CJob.{CJob}
 use Rattle.tt_c_calls.specs.declared.fault.CallFault.{CallFault}
 use Rattle.tt_c_calls.specs.declared.fault.CallFault.TheVariants as call

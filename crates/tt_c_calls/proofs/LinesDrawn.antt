@@ -14,7 +14,8 @@ use Rattle.tt_render.specs.Lines.{lines_budget}
 use Rattle.tt_strike.specs.Costs.{cost_by}
 use Rattle.tt_strike.specs.Job.{Job}
 use Rattle.tt_strike.specs.Refusals.{as_font}
-use Rattle.tt_face.specs.Faces.{Face, face_of}
+use Rattle.tt_face.specs.Faces.{Face}
+use Rattle.tt_face.specs.Files.{face_of}
 use Rattle.tt_c_calls.specs.declared.answer.CAnswer.{CAnswer}
 use Rattle.tt_c_calls.specs.declared.asked.CJob.{CJob}
 use Rattle.tt_c_calls.specs.declared.line_drawing.CLine.{CLine}

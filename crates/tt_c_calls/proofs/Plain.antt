@@ -11,7 +11,8 @@ use Rattle.tt_render_run.specs.Run.{run_outcome}
 use Rattle.tt_strike.specs.Job.{Job, tested}
 use Rattle.tt_strike.specs.Picture.{line_outcome, pictured, pictured_by}
 use Rattle.tt_strike.specs.Refusals.{Refused, as_font, large}
-use Rattle.tt_face.specs.Faces.{Face, face_of}
+use Rattle.tt_face.specs.Faces.{Face}
+use Rattle.tt_face.specs.Files.{face_of}
 use Rattle.tt_c_calls.specs.Laws.{PlainIsRun}
 use Rattle.tt_c_calls.specs.Pictures.{made_of, picture_wanted}
 use Rattle.tt_c_calls.specs.Refusals.{as_call}

@@ -15,7 +15,8 @@ use Rattle.tt_strike.specs.Picture.{line_outcome}
 use Rattle.tt_picture.specs.Pictures.{IsReady, Picture, image_of}
 use Rattle.tt_strike.specs.Refusals.{Refused, as_font, as_job, font, job, large}
 use Rattle.tt_strike.specs.Strikes.{Strike, job_of}
-use Rattle.tt_face.specs.Faces.{Face, face_of}
+use Rattle.tt_face.specs.Faces.{Face}
+use Rattle.tt_face.specs.Files.{face_of}
 use Rattle.tt_c_calls.specs.declared.answer.CAnswer.{CAnswer}
 use Rattle.tt_c_calls.specs.declared.asked.CJob.{CJob}
 use Rattle.tt_c_calls.specs.declared.fault.CallFault.{CallFault}

@@ -6,7 +6,7 @@ use Rattle.tt_core.specs.Faults.{Fault, job_number}
 use Rattle.tt_core.specs.Outcomes.{◌>>=◌}
 use Rattle.tt_render.specs.Lines.{lines_budget}
 use Rattle.tt_strike.specs.Costs.{cost_by}
-use Rattle.tt_face.specs.Defects.{IsFaceDefect}
+use Rattle.tt_face.specs.Files.{IsFaceDefect}
 use Rattle.tt_picture.specs.Pictures.{Picture}
 use Rattle.tt_strike.specs.Job.{by_face}
 use Rattle.tt_strike.specs.Strikes.{Strike}

@@ -6,8 +6,7 @@ use Rattle.tt_metrics.specs.Metrics.{Metrics, advance_of}
 use Rattle.tt_render_run.specs.Outcome.{of_font}
 use Rattle.tt_strike.specs.Job.{text_tested}
 use Rattle.tt_strike.specs.Refusals.{as_font, as_job}
-use Rattle.tt_face.specs.Defects.{IsFaceDefect}
-use Rattle.tt_face.specs.Faces.{face_of}
+use Rattle.tt_face.specs.Files.{face_of, IsFaceDefect}
 use Rattle.tt_c_calls.specs.declared.answer.CAnswer.{CAnswer}
 use Rattle.tt_c_calls.specs.declared.mapping.CGlyph.{CGlyph}
 use Rattle.tt_c_calls.specs.Answers.{DefectStands, TellsRefusal, done_answer}

@@ -2,7 +2,7 @@
 
 ghost use Rattle.std.specs.Prelude.{◌≢◌, IfErr};
 ghost use Rattle.tt_core.specs.Outcomes.{GivesUnless};
-ghost use Rattle.tt_face.specs.Defects.{IsFaceDefect};
+ghost use Rattle.tt_face.specs.Files.{IsFaceDefect};
 ghost use Rattle.tt_strike.specs.Defects.{TellsDefects};
 ghost use Rattle.tt_c_calls.specs.Fonts.{OpensFont, face_wanted};
 ghost use Rattle.tt_c_calls.specs.declared.fault.CallFault.TheVariants as call;

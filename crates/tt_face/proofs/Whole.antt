@@ -15,8 +15,9 @@ use Rattle.tt_glyf.proofs.Locations.{locations-whole}
 use Rattle.tt_metrics.specs.Metrics.{metrics_of, glyphs_of}
 use Rattle.tt_metrics.proofs.Whole.{metrics-whole}
 use Rattle.tt_face.specs.Defects.{IsDefectAt, IsGlyphTableDefect}
-use Rattle.tt_face.specs.Faces.{Face, cmap_tag, face_of, cvt_tag, fpgm_tag, prep_tag, optional_table, programs_of, glyphs_in}
-use Rattle.tt_face.specs.Laws.{FacesAreWhole, GlyphTablesAreWhole, ProgramsAreWhole}
+use Rattle.tt_face.specs.Faces.{Face, cmap_tag, cvt_tag, fpgm_tag, prep_tag, optional_table, programs_of, glyphs_in}
+use Rattle.tt_face.specs.Laws.{GlyphTablesAreWhole, ProgramsAreWhole}
+use Rattle.tt_face.specs.Files.{face_of, FacesAreWhole}
 
 -- the directory of a font that gives a face is at its file's start
 pub face-directory : (file : List ℕ) (face : Face) → face_of file ≡ Ok face → face.directory ≡ file_directory file

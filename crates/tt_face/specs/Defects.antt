@@ -1,7 +1,7 @@
 -- The defects of a face's tables, whatever the order of reading. OpenType, "Font Tables".
-use Rattle.std.specs.Prelude.{ℕ, List, ◌⊎◌}
+use Rattle.std.specs.Prelude.{◌⊎◌}
 use Rattle.tt_cmap.specs.Defects.{IsBadCmap}
-use Rattle.tt_core.specs.Directory.{Directory, file_directory, IsDefectIn, PassesEnd, IsTableDefect, IsDirectoryDefect}
+use Rattle.tt_core.specs.Directory.{Directory, IsDefectIn, PassesEnd, IsTableDefect, IsDirectoryDefect}
 use Rattle.tt_core.specs.Faults.{Fault}
 use Rattle.tt_glyf.specs.Bytes.{glyf_tag}
 use Rattle.tt_glyf.specs.Loca.{loca_tag, IsLocaDefect}
@@ -12,10 +12,6 @@ use Rattle.tt_face.specs.Faces.{Face, cmap_tag, cvt_tag, fpgm_tag, prep_tag}
 abbrev pub IsDefectAt : Directory → Fault → Type 0
 IsDefectAt directory fault = IsDirectoryDefect directory fault ⊎ IsMetricsDefect directory fault
     ⊎ IsDefectIn directory cmap_tag IsBadCmap fault
-
--- such a defect of a file with one font
-abbrev pub IsFaceDefect : List ℕ → Fault → Type 0
-IsFaceDefect file fault = IsDefectAt (file_directory file) fault
 
 -- a defect of loca, or of glyf's place in the file
 abbrev pub IsGlyphTableDefect : Face → Fault → Type 0

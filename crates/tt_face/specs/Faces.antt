@@ -1,15 +1,15 @@
--- The tables of a face, in the order of reading (profile): those needed for every text, the glyphs' data, and the
--- programs. Apple TrueType Reference Manual, "The Font Directory", "The 'cvt ' table", "The 'fpgm' table", "The 'prep'
--- table"; OpenType, "cmap", "loca", "glyf". A font may lack each of the last three.
+-- A face, and the tables of its glyphs and programs, in the order of reading (profile). Apple TrueType Reference Manual,
+-- "The 'cvt ' table", "The 'fpgm' table", "The 'prep' table"; OpenType, "cmap", "loca", "glyf". A font may lack each of
+-- the tables of the programs.
 use Rattle.std.specs.Prelude.{◌≡◌, refl, ℕ, List, [], ◌∷◌, take, codes, Option, Some, None, Result, Ok, Err}
-use Rattle.tt_cmap.specs.Lookup.{Cmap, cmap_of}
+use Rattle.tt_cmap.specs.Lookup.{Cmap}
 use Rattle.tt_core.specs.declared.fault.Why.TheVariants as why
-use Rattle.tt_core.specs.Directory.{Directory, directory_of, file_directory, read_directory, table_of, needed_table}
+use Rattle.tt_core.specs.Directory.{Directory, file_directory, table_of, needed_table}
 use Rattle.tt_core.specs.Faults.{Fault, file_fault}
 use Rattle.tt_core.specs.Outcomes.{◌>>=◌}
 use Rattle.tt_glyf.specs.Bytes.{glyf_tag}
 use Rattle.tt_glyf.specs.Loca.{Glyf, loca_tag, loca_of, with_glyf}
-use Rattle.tt_metrics.specs.Metrics.{Metrics, metrics_of, glyphs_of}
+use Rattle.tt_metrics.specs.Metrics.{Metrics}
 use Rattle.tt_face.specs.Programs.{ProgramTables}
 
 -- the directory, the metrics and the character map of a font
@@ -21,15 +21,6 @@ pub record Face : Type 0 where
 -- 'cmap'
 abbrev pub cmap_tag : List ℕ
 cmap_tag = codes "cmap"
-
--- the face of a file with one font, or the file's first fault in the order of reading
-unfoldable pub face_of : List ℕ → Result Face Fault
-face_of file = do
-  directory ← directory_of file
-  metrics ← metrics_of directory
-  table ← needed_table directory cmap_tag
-  cmap ← cmap_of table (glyphs_of metrics)
-  Ok (record { directory = directory; metrics = metrics; cmap = cmap })
 
 -- loca and glyf; a short loca is reported before a missing glyf
 unfoldable pub glyphs_in : Face → Result Glyf Fault
@@ -84,7 +75,3 @@ control_values_elsewhere : programs_of (record { file = 1 ∷ two_bytes; at = 1 
     ≡ Ok (record { cvt = 2 ∷ 7 ∷ []; fpgm = []; prep = [] })
 unfolding programs_of optional_table table_of
 control_values_elsewhere = refl
-
-a_short_file : face_of (take 11 two_bytes) ≡ Err (file_fault 11 why.DirShort)
-unfolding face_of read_directory
-a_short_file = refl

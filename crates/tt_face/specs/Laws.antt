@@ -1,14 +1,10 @@
 -- Lemmas about the definitions: a result has no defect. OpenType, "Font Tables".
-use Rattle.std.specs.Prelude.{◌≡◌, ℕ, List, Ok}
+use Rattle.std.specs.Prelude.{◌≡◌, Ok}
 use Rattle.tt_core.specs.Directory.{Directory, HasNo}
 use Rattle.tt_glyf.specs.Loca.{Glyf}
-use Rattle.tt_face.specs.Defects.{IsFaceDefect, IsGlyphTableDefect, HasProgramPastEnd}
-use Rattle.tt_face.specs.Faces.{Face, face_of, glyphs_in, programs_of}
+use Rattle.tt_face.specs.Defects.{IsGlyphTableDefect, HasProgramPastEnd}
+use Rattle.tt_face.specs.Faces.{Face, glyphs_in, programs_of}
 use Rattle.tt_face.specs.Programs.{ProgramTables}
-
--- a font file that gives a face has no defect in the tables needed for every text
-abbrev pub FacesAreWhole : Type 0
-FacesAreWhole = (file : List ℕ) (face : Face) → face_of file ≡ Ok face → HasNo (IsFaceDefect file)
 
 -- a face that gives loca and glyf has no defect in them
 abbrev pub GlyphTablesAreWhole : Type 0

@@ -1,4 +1,5 @@
 pub mod Defects
 pub mod Faces
+pub mod Files
 pub mod Laws
 pub mod Programs

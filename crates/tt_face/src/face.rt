@@ -5,9 +5,10 @@ ghost use Rattle.tt_core.specs.Directory.{file_directory, HasNo, PassesEnd};
 ghost use Rattle.tt_core.specs.Limits.{font_limit};
 ghost use Rattle.tt_core.specs.Outcomes.{Gives};
 ghost use Rattle.tt_metrics.specs.Metrics.{loca_format_of, glyphs_of};
-ghost use Rattle.tt_face.specs.Defects.{IsFaceDefect, IsGlyphTableDefect, HasProgramPastEnd};
-ghost use Rattle.tt_face.specs.Faces.{face_of, glyphs_in, optional_table, programs_of};
+ghost use Rattle.tt_face.specs.Defects.{IsGlyphTableDefect, HasProgramPastEnd};
+ghost use Rattle.tt_face.specs.Faces.{glyphs_in, optional_table, programs_of};
 ghost use Rattle.tt_face.specs.Programs.{program_tables};
+ghost use Rattle.tt_face.specs.Files.{face_of, IsFaceDefect};
 
 use crate::programs::Programs;
 use std::marker::Model;
@@ -39,7 +40,7 @@ impl<'a> Model for Face<'a> {
 impl<'a> Face<'a> {
     /// Opens the tables of a font file of at most 67,108,864 bytes. The glyphs' data and the programs are read when a
     /// line is drawn. Errors: those of the directory, of head, maxp, hhea and hmtx, and of cmap.
-    #[tactic(auto, unfolding(crate::specs::Faces::face_of))]
+    #[tactic(auto, unfolding(crate::specs::Files::face_of))]
     pub fn open(file: &'a [u8]) -> Result<Face<'a>, Fault>
         requires { length file.now ≤ font_limit }
         ensures exact { Gives (λ f. f) result (face_of file.now) }

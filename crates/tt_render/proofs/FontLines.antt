@@ -9,7 +9,8 @@ use Rattle.tt_core.specs.declared.draw_fault.DrawFault.{DrawFault}
 use Rattle.tt_core.specs.declared.draw_fault.DrawFault.TheVariants as draw
 use Rattle.tt_strike.specs.Job.{size_tested}
 use Rattle.tt_strike.specs.Refusals.{Refused, as_job, font, refusal}
-use Rattle.tt_face.specs.Faces.{Face, face_of}
+use Rattle.tt_face.specs.Faces.{Face}
+use Rattle.tt_face.specs.Files.{face_of}
 use Rattle.tt_render_run.specs.declared.fault.RunFault.{RunFault}
 use Rattle.tt_render_run.specs.declared.fault.RunFault.TheVariants as run
 use Rattle.tt_render.specs.declared.setting.Setting.{Setting}

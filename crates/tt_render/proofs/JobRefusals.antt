@@ -14,7 +14,8 @@ use Rattle.tt_metrics.specs.Metrics.{Metrics}
 use Rattle.tt_strike.specs.Job.{Job, margin_tested, size_tested, tested, text_tested}
 use Rattle.tt_strike.specs.Picture.{crossings_tested, drawn, line_shapes, pictured, pictured_by, points_tested, setting_in, shapes_in}
 use Rattle.tt_strike.specs.Refusals.{Refused, as_font, as_job, job, large, needs_font}
-use Rattle.tt_face.specs.Faces.{Face, face_of}
+use Rattle.tt_face.specs.Faces.{Face}
+use Rattle.tt_face.specs.Files.{face_of}
 use Rattle.tt_strike.specs.Work.{is_bounded, work_tested}
 use Rattle.tt_render_run.specs.File.{as_file}
 use Rattle.tt_render_run.specs.Run.{run_outcome}

@@ -30,7 +30,8 @@ use Rattle.tt_strike.specs.Job.{Job, size_tested, tested}
 use Rattle.tt_strike.specs.Refusals.{Refused, as_job}
 use Rattle.tt_strike.specs.Refusals as drawing
 use Rattle.tt_strike.specs.Strikes.{Strike}
-use Rattle.tt_face.specs.Faces.{Face, face_of}
+use Rattle.tt_face.specs.Faces.{Face}
+use Rattle.tt_face.specs.Files.{face_of}
 
 -- the answer of a text does not depend on the cache's limit
 pub most_aside : (a : Setting) (s : Strike) (most : ℕ) (text : List ℕ)

@@ -17,7 +17,8 @@ use Rattle.tt_strike.specs.Picture.{line_shapes, pictured, pictured_by, setting_
 use Rattle.tt_strike.specs.Refusals.{Refused, as_font, as_job, font, job, large}
 use Rattle.tt_strike.specs.Report.{line_report, report_by, report_of}
 use Rattle.tt_strike.specs.Strikes.{Strike, job_of}
-use Rattle.tt_face.specs.Faces.{Face, face_of}
+use Rattle.tt_face.specs.Faces.{Face}
+use Rattle.tt_face.specs.Files.{face_of}
 use Rattle.tt_strike.specs.Work.{line_fitter}
 use Rattle.tt_render_run.specs.declared.fault.RunFault.TheVariants as run
 use Rattle.tt_render_run.specs.File.{as_file, file_pictured}

@@ -20,7 +20,8 @@ use Rattle.tt_strike.specs.Refusals.{Refused, as_font, as_job, job, large}
 use Rattle.tt_picture.specs.Unfitted.{unfitted_among}
 use Rattle.tt_strike.specs.Report.{line_report, report_by}
 use Rattle.tt_strike.specs.Strikes.{Strike, job_of}
-use Rattle.tt_face.specs.Faces.{Face, face_of}
+use Rattle.tt_face.specs.Faces.{Face}
+use Rattle.tt_face.specs.Files.{face_of}
 use Rattle.tt_render.specs.declared.setting.Setting.{Setting}
 use Rattle.tt_render.specs.Lines.{line_drawn, line_limit}
 use Rattle.tt_render_run.specs.Outcome.{of_font}

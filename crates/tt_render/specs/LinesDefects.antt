@@ -8,7 +8,7 @@ use Rattle.tt_render.specs.declared.refusal.Refusal.TheVariants as reason
 use Rattle.tt_render.specs.declared.refusal.TextsFault.{TextsFault}
 use Rattle.tt_render.specs.Lines.{lines_of}
 use Rattle.tt_render.specs.Settings.{job_by}
-use Rattle.tt_face.specs.Defects.{IsFaceDefect}
+use Rattle.tt_face.specs.Files.{IsFaceDefect}
 use Rattle.tt_strike.specs.Defects.{IsLineDefect}
 use Rattle.tt_strike.specs.Job.{ByFace}
 use Rattle.tt_strike.specs.Strikes.{Strike, job_of}

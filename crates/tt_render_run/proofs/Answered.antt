@@ -16,7 +16,8 @@ use Rattle.tt_render_run.specs.declared.fault.RunFault.TheVariants as run
 use Rattle.tt_strike.specs.Job.{Job}
 use Rattle.tt_render_run.specs.Defects.{TellsDefectsOf, IsJobRefusal}
 use Rattle.tt_strike.specs.Defects.{IsFontRefusal}
-use Rattle.tt_face.specs.Faces.{Face, face_of}
+use Rattle.tt_face.specs.Faces.{Face}
+use Rattle.tt_face.specs.Files.{face_of}
 use Rattle.tt_strike.specs.Refusals.{Refused, as_font, needs_font, refusal}
 use Rattle.tt_render_run.specs.Outcome.{Wanted, CallFails, IfJob, IfLarge}
 use Rattle.tt_render_run.specs.Reading.{ReadFails}

@@ -7,13 +7,13 @@ use Rattle.tt_core.specs.Directory.{HasNo}
 use Rattle.tt_core.specs.Faults.{Fault}
 use Rattle.tt_core.specs.Outcomes.{◌>>=◌, draw_font_fault, draw_job_fault}
 use Rattle.tt_line.specs.Layout.{text_glyphs}
-use Rattle.tt_face.specs.Defects.{IsFaceDefect}
+use Rattle.tt_face.specs.Files.{face_of, IsFaceDefect}
 use Rattle.tt_strike.specs.Defects.{IsFontRefusal, IsLineDefect, IsLineRefusal, IsRunDefect}
 use Rattle.tt_strike.specs.Job.{Job, IsJob, IsSizeRefusal, size_tested, tested}
 use Rattle.tt_strike.specs.Picture.{line_outcome, pictured_by}
 use Rattle.tt_strike.specs.Refusals.{Refused, as_job, refusal, job}
 use Rattle.tt_strike.specs.Refusals as outcome
-use Rattle.tt_face.specs.Faces.{Face, face_of}
+use Rattle.tt_face.specs.Faces.{Face}
 use Rattle.tt_core.specs.declared.draw_fault.DrawFault.{DrawFault}
 use Rattle.tt_core.specs.declared.draw_fault.DrawFault.TheVariants as draw
 

@@ -5,13 +5,11 @@ use Rattle.tt_core.specs.Chains.{came-through, passed-on}
 use Rattle.tt_core.specs.Directory.{HasNo}
 use Rattle.tt_core.specs.Faults.{Fault}
 use Rattle.tt_core.specs.Limits.{font_limit}
-use Rattle.tt_face.specs.Defects.{IsFaceDefect}
+use Rattle.tt_face.specs.Files.{face_of, FacesAreWhole, IsFaceDefect}
 use Rattle.tt_strike.specs.Job.{tested, text_tested}
-use Rattle.tt_face.specs.Laws.{FacesAreWhole}
 use Rattle.tt_strike.specs.Laws.{DrawnFontsAreWhole, OthersDrawByEdges}
 use Rattle.tt_strike.specs.Picture.{pictured}
 use Rattle.tt_strike.specs.Refusals.{Refused, as_font, as_job}
-use Rattle.tt_face.specs.Faces.{face_of}
 use Rattle.tt_render_run.specs.File.{file_pictured}
 use Rattle.tt_render_run.specs.Laws.{WrittenFontsAreWhole, MappedFontsAreWhole, OthersWriteByEdges}
 use Rattle.tt_render_run.specs.MapLines.{lines_of, map_outcome}

@@ -2,9 +2,9 @@
 use Rattle.std.specs.Prelude.{◌≡◌, ◌≢◌, ℕ, List, Ok}
 use Rattle.tt_core.specs.Directory.{HasNo}
 use Rattle.tt_fit.specs.declared.programs.Fit.TheVariants as fit
-use Rattle.tt_face.specs.Defects.{IsFaceDefect}
+use Rattle.tt_face.specs.Files.{IsFaceDefect}
 use Rattle.tt_strike.specs.Defects.{IsRunDefect}
-use Rattle.tt_strike.specs.Job.{Job}
+use Rattle.tt_strike.specs.Job.{Job, ByFace}
 use Rattle.tt_strike.specs.Laws.{IsByEdges}
 use Rattle.tt_picture.specs.Pictures.{Image}
 use Rattle.tt_render_run.specs.File.{p4}
@@ -21,7 +21,7 @@ MappedFontsAreWhole = (text file bytes : List ℕ) → map_outcome text file ≡
 
 -- these bytes are the file of the image of a job without dropout control
 abbrev pub IsWrittenByEdges : Job → List ℕ → List ℕ → Type 0
-IsWrittenByEdges a file bytes = (i : Image) × (bytes ≡ p4 i) × IsByEdges a file i
+IsWrittenByEdges a file bytes = (i : Image) × (bytes ≡ p4 i) × ByFace (λ face a. IsByEdges a face i) a file
 
 -- with every fit but Best a picture is written as without dropout control
 abbrev pub OthersWriteByEdges : Type 0

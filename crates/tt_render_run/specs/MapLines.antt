@@ -6,7 +6,7 @@ use Rattle.tt_core.specs.Outcomes.{◌>>=◌}
 use Rattle.tt_cmap.specs.Lookup.{Cmap, glyph_of}
 use Rattle.tt_metrics.specs.Metrics.{Metrics, advance_of}
 use Rattle.tt_strike.specs.Job.{text_tested}
-use Rattle.tt_face.specs.Faces.{face_of}
+use Rattle.tt_face.specs.Files.{face_of}
 use Rattle.tt_strike.specs.Refusals.{Refused, as_font}
 use Rattle.tt_render_run.specs.Outcome.{Wanted, outcome_of}
 

@@ -5,7 +5,7 @@ ghost use Rattle.std.specs.Prelude.{◌≡◌, ◌+◌, ◌^◌, ◌<◌, ◌≤
 ghost use Rattle.tt_core.specs.declared.fault.JobFault.TheVariants.{TextLong};
 ghost use Rattle.tt_core.specs.Limits.{font_limit, text_limit};
 ghost use Rattle.tt_core.specs.Outcomes.{FontGives, font_fault};
-ghost use Rattle.tt_face.specs.Defects.{IsFaceDefect};
+ghost use Rattle.tt_face.specs.Files.{IsFaceDefect};
 ghost use Rattle.tt_metrics.specs.Metrics.{glyphs_of};
 ghost use Rattle.tt_render_run.specs.Defects.{TellsDefectsOf};
 ghost use Rattle.tt_render_run.specs.MapLines.{code_point, line_text, lines_of, map_lines, map_wanted};

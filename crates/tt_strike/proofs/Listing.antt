@@ -16,7 +16,8 @@ use Rattle.tt_strike.specs.Laws.{OthersListNothing}
 use Rattle.tt_strike.specs.Picture.{line_shapes, setting, setting_in}
 use Rattle.tt_strike.specs.Refusals.{Refused, as_font, as_job}
 use Rattle.tt_strike.specs.Report.{line_report, report_by, report_of}
-use Rattle.tt_face.specs.Faces.{Face, face_of, glyphs_in}
+use Rattle.tt_face.specs.Faces.{Face, glyphs_in}
+use Rattle.tt_face.specs.Files.{face_of}
 use Rattle.tt_strike.specs.Programs.{programs_in}
 use Rattle.tt_strike.specs.Work.{line_fitter, point_work, points_in, started}
 use Rattle.tt_strike.proofs.Whole.{of-font}

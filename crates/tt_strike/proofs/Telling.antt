@@ -15,10 +15,11 @@ use Rattle.tt_glyf.specs.Loca.{Glyf}
 use Rattle.tt_line.specs.Layout.{text_glyphs}
 use Rattle.tt_metrics.specs.Metrics.{Metrics}
 use Rattle.tt_strike.specs.Job.{Job}
-use Rattle.tt_face.specs.Defects.{IsFaceDefect, IsGlyphTableDefect}
+use Rattle.tt_face.specs.Defects.{IsGlyphTableDefect}
+use Rattle.tt_face.specs.Files.{face_of, IsFaceDefect}
 use Rattle.tt_strike.specs.Defects.{IsProgramTableDefect, IsSettingDefect, IsGlyphDefect, IsLineDefect, IsRunDefect}
 use Rattle.tt_strike.specs.Work.{line_fitter}
-use Rattle.tt_face.specs.Faces.{Face, face_of}
+use Rattle.tt_face.specs.Faces.{Face}
 use Rattle.tt_strike.specs.Programs.{programs_in}
 use Rattle.tt_picture.specs.Shapes.{glyph_shape}
 use Rattle.tt_strike.specs.Picture.{setting_in}

@@ -1,5 +1,6 @@
 -- With every fit but Best no dropouts of a line's glyphs are filled, and its picture is by edges alone.
 use Rattle.std.proofs.Common.{◌≡◌, ◌≢◌, ◌∙◌, refl, sym, ap, subst, ℕ, ◌==◌, Bool, true, false, List, [], ◌∷◌, map, pos, Option, None, Result, Ok}
+use Rattle.std.specs.Prelude.{IsOkAnd}
 use Rattle.std.proofs.lemmas.List.Elements.{All-nil, All-cons}
 use Rattle.tt_core.specs.Chains.{came-through}
 use Rattle.tt_core.specs.Faults.{Fault}
@@ -20,7 +21,8 @@ use Rattle.tt_picture.specs.Pictures.{Image, picture}
 use Rattle.tt_picture.specs.Shapes.{shape_at, glyph_shape}
 use Rattle.tt_strike.specs.Picture.{setting, setting_in, frame_of, shapes_in, points_tested, crossings_tested, line_shapes, drawn, pictured, pictured_by}
 use Rattle.tt_picture.specs.Pixels.{Shape, is_black_pixel, some_black}
-use Rattle.tt_face.specs.Faces.{Face, face_of, glyphs_in}
+use Rattle.tt_face.specs.Faces.{Face, glyphs_in}
+use Rattle.tt_face.specs.Files.{face_of}
 use Rattle.tt_strike.specs.Programs.{programs_in}
 use Rattle.tt_strike.specs.Work.{line_fitter, started}
 use Rattle.tt_picture.proofs.Alike.{image_alike}
@@ -87,11 +89,11 @@ same_by_edges f glyphs none = image_alike f (is_black_pixel f glyphs)
     (λ c r. some_black glyphs (column_x f.margin (pos c)) (row_y f (pos r)))
     (λ c r column row. unfilled_are_edges f glyphs c r none)
 
-line_by_edges : FillLaws → (a : Job) (file : List ℕ) (i : Image) (face : Face) (line : Placement) → a.fit ≢ fit.Best
-    → face_of file ≡ Ok face → placement face.metrics face.cmap a.text a.ppem a.margin ≡ Ok line
-    → drawn face a line ≡ Ok i → IsByEdges a file i
+line_by_edges : FillLaws → (a : Job) (i : Image) (face : Face) (line : Placement) → a.fit ≢ fit.Best
+    → placement face.metrics face.cmap a.text a.ppem a.margin ≡ Ok line → drawn face a line ≡ Ok i
+    → IsByEdges a face i
 unfolding drawn
-line_by_edges laws a file i face line other read laid was =
+line_by_edges laws a i face line other laid was =
     let by_setting = came-through (as_font (setting_in face a)) _ i was in
     let s = by_setting.value in
     let made = of-font (setting_in face a) s by_setting.first in
@@ -106,11 +108,9 @@ line_by_edges laws a file i face line other read laid was =
     let same = ok_same glyphs by_edges.value by_crossings.rest in
     let whole = ok_same (picture f by_edges.value) i by_edges.rest in
     record {
-      face = face;
       line = line;
       setting = s;
       glyphs = glyphs;
-      read = read;
       laid = laid;
       made = made;
       fitted = fitted;
@@ -127,5 +127,6 @@ others_draw_by_edges laws a file i other was =
     by_face.rest in
     let line = by_line.value in
     let read = of-font (face_of file) face by_face.first in
+    let P : Result Face Fault → Type 0 = λ opened. IsOkAnd opened (λ face. IsByEdges a face i) in
     let laid = of-job (placement face.metrics face.cmap a.text a.ppem a.margin) line by_line.first in
-    line_by_edges laws a file i face line other read laid by_line.rest
+    subst P (sym read) (line_by_edges laws a i face line other laid by_line.rest)

@@ -5,8 +5,9 @@ use Rattle.tt_core.specs.Chains.{came-through}
 use Rattle.tt_core.specs.Directory.{HasNo}
 use Rattle.tt_core.specs.Faults.{Fault}
 use Rattle.tt_core.specs.Outcomes.{◌>>=◌}
-use Rattle.tt_face.specs.Faces.{Face, face_of, glyphs_in}
+use Rattle.tt_face.specs.Faces.{Face, glyphs_in}
 use Rattle.tt_face.specs.Programs.{ProgramTables}
+use Rattle.tt_face.specs.Files.{face_of}
 use Rattle.tt_face.proofs.Whole.{face-whole, glyph-tables-whole, programs-whole}
 use Rattle.tt_fit.specs.declared.programs.Fit.{Fit}
 use Rattle.tt_fit.specs.declared.programs.Fit.TheVariants as fit

@@ -12,9 +12,8 @@ use Rattle.tt_scan_edges.specs.declared.edge.Edge.{Edge}
 use Rattle.tt_scan_edges.specs.declared.edge.Frame.{Frame}
 use Rattle.tt_scan_edges.specs.Winding.{column_x, row_y}
 use Rattle.tt_scan_gaps.specs.declared.mark.Rules.{Rules}
-use Rattle.tt_strike.specs.Job.{Job}
+use Rattle.tt_strike.specs.Job.{Job, ByFace}
 use Rattle.tt_picture.specs.declared.report.Unfitted.{Unfitted}
-use Rattle.tt_face.specs.Defects.{IsFaceDefect}
 use Rattle.tt_strike.specs.Defects.{IsRunDefect}
 use Rattle.tt_strike.specs.Grown.{grown_outcome, with_sides}
 use Rattle.tt_strike.specs.declared.growing.Sides.{Sides}
@@ -26,7 +25,7 @@ use Rattle.tt_strike.specs.Measures.{measured}
 use Rattle.tt_strike.specs.Refusals.{Refused, job}
 use Rattle.tt_picture.specs.Pixels.{Shape, some_black, is_black_pixel}
 use Rattle.tt_strike.specs.Report.{report_of}
-use Rattle.tt_face.specs.Faces.{Face, face_of}
+use Rattle.tt_face.specs.Faces.{Face}
 
 -- a font file that gives a job's picture has no defect for the job
 abbrev pub DrawnFontsAreWhole : Type 0
@@ -88,13 +87,11 @@ OthersFillNone = (face : Face) (a : Job) (line : Placement) (s : Fitter) (glyphs
 abbrev pub edges_picture : Frame → List Shape → Image
 edges_picture f glyphs = image f (λ c r. some_black glyphs (column_x f.margin (pos c)) (row_y f (pos r)))
 
--- this image is that for a job, a font file and the glyphs of the definition
-pub record IsByEdges (a : Job) (file : List ℕ) (i : Image) : Type 0 where
-  pub face : Face
+-- this image is that for a job, a face and the glyphs of the definition
+pub record IsByEdges (a : Job) (face : Face) (i : Image) : Type 0 where
   pub line : Placement
   pub setting : Fitter
   pub glyphs : List Shape
-  pub read : face_of file ≡ Ok face
   pub laid : placement face.metrics face.cmap a.text a.ppem a.margin ≡ Ok line
   pub made : setting_in face a ≡ Ok setting
   pub fitted : shapes_in setting line ≡ Ok glyphs
@@ -103,7 +100,7 @@ pub record IsByEdges (a : Job) (file : List ℕ) (i : Image) : Type 0 where
 
 abbrev pub OthersDrawByEdges : Type 0
 OthersDrawByEdges = (a : Job) (file : List ℕ) (i : Image) → a.fit ≢ fit.Best → pictured a file ≡ Ok i
-    → IsByEdges a file i
+    → ByFace (λ face a. IsByEdges a face i) a file
 
 -- worked values: a stem between the centres of two columns, with its dropouts filled by scan type 0 and without
 stem_edge : ℕ → ℕ → ℕ → ℕ → Edge

@@ -1,6 +1,6 @@
 //! Laws of the definitions. Each function is a lemma: its clauses hold of all jobs, files and glyphs, and no code runs.
 
-ghost use Rattle.tt_face.specs.Laws.{FacesAreWhole};
+ghost use Rattle.tt_face.specs.Files.{FacesAreWhole};
 ghost use Rattle.tt_strike.specs.Laws.{DrawnFontsAreWhole, OthersListNothing, MarginMoves, MeasuredAsDrawn, GlyphsByThemselves, UnfilledAreEdges, OthersFillNone, OthersDrawByEdges, GrownRefusals, SidesMove, SidesRefuseNothing};
 ghost use Rattle.tt_strike.specs.InkLaws.{GrownAddsFewest, GrownCutsNone, GrownMeasuredAsDrawn, InkIsDrawn, MeasureHoldsInk};
 

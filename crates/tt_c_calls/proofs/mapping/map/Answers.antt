@@ -1,7 +1,7 @@
 use Rattle.std.proofs.Common.{◌≡◌, ◌≢◌, List, ℕ, chars, map, Result, Ok, Err, refl, ◌∙◌, arith}
 use Rattle.std.specs.Prelude.{IfSome}
 use Rattle.std.proofs.lemmas.List.{length-map}
-use Rattle.tt_face.specs.Defects.{IsFaceDefect}
+use Rattle.tt_face.specs.Files.{IsFaceDefect}
 use Rattle.tt_strike.specs.Job.{text_tested}
 use Rattle.tt_face.specs.Faces.{Face}
 use Rattle.tt_strike.specs.Refusals.{Refused, job}

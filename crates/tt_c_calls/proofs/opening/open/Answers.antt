@@ -1,5 +1,5 @@
 use Rattle.std.proofs.Common.{arith, refl, rules}
-use Rattle.tt_face.specs.Defects.{IsFaceDefect}
+use Rattle.tt_face.specs.Files.{IsFaceDefect}
 use Rattle.tt_c_calls.specs.Fonts.{face_wanted}
 use Rattle.tt_c_calls.proofs.Answered.{fails, serves, stands, tells}
 use Rattle.tt_c_calls.proofs.opening.open.Goals as goal

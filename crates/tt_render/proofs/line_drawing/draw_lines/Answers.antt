@@ -9,7 +9,7 @@ use Rattle.tt_render.proofs.DefectLines.{lines_tell, reading_tells, setting_tell
 use Rattle.tt_render.proofs.FontLines.{font_opened, font_refused, idle, reading_stops, strike_stops}
 use Rattle.tt_render.proofs.Printed.{keeps_itself}
 use Rattle.tt_render.proofs.line_drawing.draw_lines.Goals as goal
-use Rattle.tt_face.specs.Defects.{IsFaceDefect}
+use Rattle.tt_face.specs.Files.{IsFaceDefect}
 use Rattle.tt_strike.specs.Strikes.{Strike}
 
 pub returns-in_err-test_setting-clause-outcome : goal.returns-in_err-test_setting-clause-outcome

@@ -1,7 +1,7 @@
 use Rattle.std.proofs.Common.{◌≡◌, ◌<◌, List, ℕ, length, take, Result, Ok, refl}
 use Rattle.std.proofs.lemmas.Result.{err_from_is_err_and}
 use Rattle.std.specs.Io.KnownBytes.{Appends}
-use Rattle.tt_face.specs.Defects.{IsFaceDefect}
+use Rattle.tt_face.specs.Files.{IsFaceDefect}
 use Rattle.tt_render_run.specs.MapLines.{lines_of, map_wanted}
 use Rattle.tt_strike.specs.Refusals.{Refused, as_font}
 use Rattle.tt_render_run.proofs.Answered.{reading_job, reading_large, reading_defects, lines_fail, lines_job, lines_large, lines_defects}
