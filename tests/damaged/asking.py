@@ -11,6 +11,7 @@ from typing import NamedTuple
 
 ROOT = Path(__file__).resolve().parent.parent.parent
 ROWS = ROOT / "tests" / "rows"
+HEADER = ROOT / "include" / "tt_render.h"
 
 # Each way to fit, as ../common.sh names them; `draw` is asked with all of them.
 FITS = os.environ["TT_FITS"].split()
@@ -18,43 +19,31 @@ FITS = os.environ["TT_FITS"].split()
 FACE = ("head", "maxp", "hhea", "hmtx", "cmap")
 GLYPHS = ("loca", "glyf")
 PROGRAMS = ("fpgm", "prep", "glyf")
-# Each number of a font's refusals: its name, and the tables at which it may stand.
-REFUSALS = {
-    1: ("BadVersion", ["file"]),
-    2: ("DirShort", ["file"]),
-    3: ("NoTable", [*FACE, *GLYPHS]),
-    4: ("TableRange", ["file"]),
-    5: ("HeadMagic", ["head"]),
-    6: ("EmRange", ["head"]),
-    7: ("LocaFormat", ["head"]),
-    8: ("MaxpVersion", ["maxp"]),
-    9: ("MetricsShort", ["head", "maxp", "hhea", "hmtx"]),
-    10: ("NoCmap", ["cmap"]),
-    11: ("CmapShape", ["cmap"]),
-    12: ("LocaShort", ["loca"]),
-    13: ("GlyphRange", ["loca"]),
-    **{
-        number: (name, ["glyf"])
-        for number, name in enumerate(
-            (
-                "GlyphShort ContourOrder FlagRun ComponentDepth ComponentCount ComponentGlyph MatchPoint ScaledOffset "
-                "PointLimit CoordRange"
-            ).split(),
-            14,
-        )
-    },
-    **{
-        number: (name, PROGRAMS)
-        for number, name in enumerate(
-            (
-                "StepLimit StackFull StackShort CallDepth BadOpcode OffProfile JumpRange CodeShort NoFunction "
-                "DefinitionPlace IfOpen NoEndf PointRange ContourRange ZoneRange CvtRange StorageRange DivZero "
-                "ValueRange Perpendicular BadArgument"
-            ).split(),
-            30,
-        )
-    },
+# The tables at which the refusals of a face may stand, by number. Those of glyphs stand at glyf.
+PLACES_OF_FACE = {
+    **dict.fromkeys((1, 2, 4), ("file",)),
+    3: (*FACE, *GLYPHS),
+    **dict.fromkeys((5, 6, 7), ("head",)),
+    8: ("maxp",),
+    9: ("head", "maxp", "hhea", "hmtx"),
+    **dict.fromkeys((10, 11), ("cmap",)),
+    **dict.fromkeys((12, 13), ("loca",)),
 }
+# The first number of the refusals of programs, and that of the refusals of requests.
+FIRST_OF_PROGRAMS, FIRST_OF_REQUESTS = 30, 60
+
+
+def read_refusals():
+    """Returns each number of a font's refusals: its name in the header's table, and the tables at which it may stand."""
+    found = {}
+    for number, name in re.findall(r"^ +X\((\d+), (\w+)\)", HEADER.read_text(encoding="utf-8"), re.M):
+        places = PROGRAMS if int(number) >= FIRST_OF_PROGRAMS else PLACES_OF_FACE.get(int(number), ("glyf",))
+        if int(number) < FIRST_OF_REQUESTS:
+            found[int(number)] = name, places
+    return found
+
+
+REFUSALS = read_refusals()
 # The numbers whose place is one alone, whatever the font.
 PLACES = {1: 0, 3: 0, 5: 12, 6: 18, 7: 50, 8: 0, 10: 0}
 
@@ -125,13 +114,16 @@ def is_place(font, table, offset, number, tables=None):
 
 
 # The numbers of a program's refusals.
-OF_PROGRAMS = range(30, 51)
+OF_PROGRAMS = [it for it in REFUSALS if it >= FIRST_OF_PROGRAMS]
 # Those with which best refuses no program: what is beyond the profile, and what is not there.
 NOT_OF_BEST = 32, 35, 42, 43, 44, 45, 46, 49
 # The numbers that may be told of a glyph that is drawn without programs, by the way to fit.
 TOLD = {"fallback": OF_PROGRAMS, "best": [it for it in OF_PROGRAMS if it not in NOT_OF_BEST]}
 # The numbers of refusals that may come, by the word of the question, which is `map` or a way to fit.
-NUMBERS = {"map": range(1, 12), **{fit: [*range(1, 24)] for fit in FITS}}
+NUMBERS = {
+    "map": [number for number, (_, tables) in REFUSALS.items() if {"file", *FACE}.intersection(tables)],
+    **{fit: [it for it in REFUSALS if it < FIRST_OF_PROGRAMS] for fit in FITS},
+}
 NUMBERS["full"] += OF_PROGRAMS
 
 
