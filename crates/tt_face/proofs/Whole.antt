@@ -7,7 +7,6 @@ use Rattle.tt_cmap.proofs.Whole.{cmap-whole}
 use Rattle.tt_core.specs.Chains.{came-through}
 use Rattle.tt_core.specs.Directory.{Directory, file_directory, directory_of, table_of, needed_table, HasNo, PassesEnd, IsDirectoryDefect, IsTableDefect, IsDefectIn}
 use Rattle.tt_core.specs.Faults.{Fault}
-use Rattle.tt_core.specs.Outcomes.{◌>>=◌}
 use Rattle.tt_core.proofs.Whole as directories
 use Rattle.tt_glyf.specs.Bytes.{glyf_tag}
 use Rattle.tt_glyf.specs.Loca.{loca_tag, loca_of, IsLocaDefect}
