@@ -176,6 +176,7 @@ impl<'a> Machine<'a> {
 
     /// Runs a program as `run_within` does, on a machine whose copies are paid for. The allowance says so: the work is
     /// what remained after that payment.
+    #[inline(always)]
     pub fn run_paid(
         &mut self,
         code: Code<'a>,

@@ -46,7 +46,8 @@ fn deltas(range: DeltaRange, size: Size, tolerance: Tolerance) -> Deltas
 }
 
 /// Executes an instruction. Errors: StackShort; those of the instruction. A tolerant machine has none for a missing
-/// thing.
+/// thing. Inlined where an opcode is matched, because no second match remains there.
+#[inline(always)]
 pub fn on_points(
     tolerance: Tolerance,
     op: OnPoints,

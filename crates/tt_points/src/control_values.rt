@@ -75,6 +75,7 @@ pub fn miap(
 
 /// A control value after auto flip and, where MIRP rounds and both points are in one zone, the cut-in. Both go by the
 /// original distance `d`.
+#[inline(always)]
 fn chosen(keeping: Keeping, state: &GraphicsState, d: Unrounded, c: Unrounded) -> Unrounded
     ensures { result.distance ≡ is.chosen keeping state.now d.distance c.distance }
 {

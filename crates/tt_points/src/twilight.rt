@@ -58,6 +58,7 @@ fn further(p: Point, m: &Motion, along: AlongVector, d: Unrounded) -> Result<Poi
 
 /// A twilight point placed at the distance `d` from the original place of `r`. The new place becomes its original place
 /// too. A glyph point is unchanged. Error: ValueRange.
+#[inline(always)]
 #[tactic(auto, unfolding(crate::specs::Twilight::placed, crate::specs::Twilight::placed_in))]
 pub(crate) fn placed_in(
     zone: Zone,

@@ -13,7 +13,7 @@ ghost use Rattle.tt_points_iup.specs.Readings.{of_contour, of_contours};
 use crate::contour::interpolate_contour;
 use crate::place::{Along, AxisPosition, PixelCoordinate};
 use tt_core::Why;
-use tt_points_zones::{cur, is_touched, org, put};
+use tt_points_zones::{cur, is_touched, org};
 use tt_state::{Axis, Point};
 
 /// The points of a contour along an axis, and the count of touches read.
@@ -121,7 +121,10 @@ impl Contour<'_> {
         ensures along { self.new.along ≡ self.old.along }
         ensures same_reference { self.new.points.ghost_name ≡ self.old.points.ghost_name }
     {
-        self.points[i] = put(self.points[i], self.along.axis, to.0);
+        match self.along.axis {
+            Axis::X => self.points[i].x = to.0 as i32,
+            Axis::Y => self.points[i].y = to.0 as i32,
+        }
     }
 }
 

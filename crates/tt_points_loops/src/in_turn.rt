@@ -31,6 +31,7 @@ pub(crate) enum Change {
 }
 
 /// Changes a point. Errors: PointRange, Perpendicular, ValueRange.
+#[inline(always)]
 fn change_one(zones: &mut Zones, state: &GraphicsState, change: Change, n: i32) -> Result<(), Why>
     requires change { IsChange change }
     ensures exact { Gives (λ u. zones_view zones.new) result (is.changed change state.now n (zones_view zones.old)) }
@@ -47,6 +48,7 @@ fn change_one(zones: &mut Zones, state: &GraphicsState, change: Change, n: i32) 
 
 /// Changes the points with these numbers, the last one first, and resets the loop variable. A tolerant machine passes
 /// over each point where something is missing. Errors: PointRange, Perpendicular, ValueRange.
+#[inline(always)]
 pub(crate) fn in_turn(
     zones: &mut Zones,
     state: &mut GraphicsState,

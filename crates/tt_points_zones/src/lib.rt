@@ -14,7 +14,7 @@ mod zones;
 pub use distances::{Distance, distance_between, product};
 pub use meeting::{Place, met};
 pub use motion::{Motion, may_move};
-pub use points::{cur, is_coordinate, is_touched, org, put};
+pub use points::{cur, is_coordinate, is_touched, org};
 pub use straight_line::StraightLine;
 pub use zone_numbers::zone_of;
 pub use zones::{Originals, Zones};

@@ -78,6 +78,7 @@ fn step(d: i64, part: i32, whole: i32) -> i64
     rq(scaled(d, i64::from(part)), i64::from(whole))
 }
 
+#[inline(always)]
 fn is_same(v: &Vector, w: &Vector) -> bool
     ensures { result ≡ is.is_same v.now w.now }
 {
@@ -86,6 +87,7 @@ fn is_same(v: &Vector, w: &Vector) -> bool
 
 /// Whether the vectors of `Motion::of` may move points. Without the whole instruction set, the freedom vector has to be
 /// the projection vector. Error: Perpendicular (profile).
+#[inline(always)]
 #[tactic(auto, unfolding(crate::specs::Motions::direction))]
 pub fn may_move(state: &GraphicsState) -> Result<(), Why>
     ensures { Gives (λ u. is.vectors_of state.now) result (is.direction state.now) }
@@ -256,6 +258,7 @@ impl Motion {
 
     /// The point moved along the freedom vector, by `d` along the projection vector, and touched. Error: ValueRange
     /// past the limit of coordinates.
+    #[inline(always)]
     pub fn moved(&self, p: Point, d: i64) -> Result<Point, Why>
         requires point { IsPoint p }
         requires small { unsigned_abs d < 2 ^ 47 }

@@ -49,16 +49,3 @@ pub fn is_coordinate(v: i64) -> bool
     let limit = i64::from(COORDINATE_LIMIT);
     -limit <= v && v <= limit
 }
-
-/// The point at another coordinate on an axis. Its touches are unchanged.
-pub fn put(p: Point, axis: Axis, v: i64) -> Point
-    requires point { IsPoint p }
-    requires limit { unsigned_abs v ≤ coordinate_limit }
-    ensures exact { result ≡ is.put axis v p }
-    ensures valid { IsPoint result }
-{
-    match axis {
-        Axis::X => Point { x: v as i32, ..p },
-        Axis::Y => Point { y: v as i32, ..p },
-    }
-}

@@ -21,12 +21,8 @@
 //! projection and the freedom vector, each as its parts `x,y` in 2.14, and after the functions stand the instructions as
 //! OPCODE TABLE START.
 
-ghost use Rattle.std.specs.Prelude.{◌≤◌, IsTrue};
+ghost use Rattle.std.specs.Prelude.{IsTrue};
 ghost use Rattle.tt_core.specs.Faults.{is_ascii};
-ghost use Rattle.tt_core.specs.Limits.{size_limit};
-ghost use Rattle.tt_core.specs.Scales.{IsScale};
-ghost use Rattle.tt_points_zones.specs.Views.{zones_view};
-ghost use Rattle.tt_points_zones.specs.Zones.{IsZones};
 
 mod parts;
 mod state;
@@ -136,11 +132,7 @@ fn table_named(line: &mut Line, word: &str) -> [u8; 4]
 type Definitions<'a> = (Functions<'a>, Functions<'a>);
 
 /// Runs a program on these parts, after the font program has defined its functions and instructions.
-fn run<'a>(alloc: Global, line: &mut Line, font: Code<'a>, code: Code<'a>, mut parts: Parts<'a>)
-    requires size { parts.ppem ≤ size_limit }
-    requires scale { IsScale parts.scale }
-    requires zones { IsZones (zones_view parts.zones) }
-{
+fn run<'a>(alloc: Global, line: &mut Line, font: Code<'a>, code: Code<'a>, mut parts: Parts<'a>) {
     let Some(mut definitions) = definitions_of(alloc, &parts, font) else {
         line.refuse("the font program stops, or memory is refused");
         return;
@@ -154,22 +146,14 @@ fn run<'a>(alloc: Global, line: &mut Line, font: Code<'a>, code: Code<'a>, mut p
 }
 
 /// The functions that the font program defines, and the instructions; None where the program stops.
-fn definitions_of<'a>(alloc: Global, parts: &Parts<'a>, font: Code<'a>) -> Option<Definitions<'a>>
-    requires size { parts.now.ppem ≤ size_limit }
-    requires scale { IsScale parts.now.scale }
-    requires zones { IsZones (zones_view parts.now.zones) }
-{
+fn definitions_of<'a>(alloc: Global, parts: &Parts<'a>, font: Code<'a>) -> Option<Definitions<'a>> {
     let machine = started(alloc, parts)?;
     let parts = left_by(machine, font)?;
     Some((parts.functions, parts.instructions))
 }
 
 /// A machine of the same parts.
-fn started<'a>(alloc: Global, parts: &Parts<'a>) -> Option<Machine<'a>>
-    requires size { parts.now.ppem ≤ size_limit }
-    requires scale { IsScale parts.now.scale }
-    requires zones { IsZones (zones_view parts.now.zones) }
-{
+fn started<'a>(alloc: Global, parts: &Parts<'a>) -> Option<Machine<'a>> {
     match parts.copy() {
         Ok(copy) => Machine::new(alloc, copy).ok(),
         Err(_) => None,

@@ -5,8 +5,7 @@
 //! point at 0. Of a glyph that falls back the outline's line has `unfitted TABLE+OFFSET: NUMBER NAME` behind the number,
 //! and a picture has the line `GLYPH unfitted TABLE+OFFSET: NUMBER NAME` before it.
 
-ghost use Rattle.std.specs.Prelude.{◌≡◌, ◌<◌, length, All, IfOk, IfSome};
-ghost use Rattle.tt_fit_outline.specs.Outline.{AreEnds, IsPoint};
+ghost use Rattle.std.specs.Prelude.{◌≡◌, ◌<◌, IfSome};
 ghost use Rattle.tt_scan_edges.specs.Winding.{FrameFits};
 
 use crate::pictures::{frame_in, put_picture};
@@ -111,8 +110,6 @@ fn put_glyph(line: &mut Line, fitter: &Fitter, g: u16)
 /// Requests an outline, and once more where memory was refused.
 fn fitted_twice(line: &mut Line, fitter: &Fitter, g: u16) -> Result<Outline, FontFault>
     requires { g < fitter.now.tables.glyphs }
-    ensures coordinates { IfOk result (λ o. All IsPoint o.points.items) }
-    ensures ends { IfOk result (λ o. AreEnds (length o.points.items) o.ends.items) }
 {
     let first = fitter.fitted(g);
     if let Err(FontFault::Memory) = first {
@@ -179,9 +176,7 @@ fn put_pixels(alloc: Global, line: &mut Line, fitter: &Fitter, g: u16, frame: Fr
 
 /// The edges of an outline whose left phantom point is moved to 0, requested once more where memory was refused.
 fn tape_of(alloc: Global, line: &mut Line, g: u16, outline: &Outline, frame: Frame) -> Option<Tape>
-    requires frame { FrameFits frame }
-    requires coordinates { All IsPoint outline.now.points.items }
-    requires ends { AreEnds (length outline.now.points.items) outline.now.ends.items }
+    requires { FrameFits frame }
     ensures { IfSome result (λ t. t.frame ≡ frame) }
 {
     let (left, _) = outline.phantom[0];

@@ -1,10 +1,8 @@
 //! The parts that a question gives.
 
 ghost use Rattle.std.specs.Prelude.{◌<◌, ◌≤◌, ◌^◌, All, length, unsigned_abs, IfSome};
-ghost use Rattle.tt_core.specs.Limits.{coordinate_limit, size_limit};
-ghost use Rattle.tt_core.specs.Scales.{IsScale};
-ghost use Rattle.tt_points_zones.specs.Views.{zones_view};
-ghost use Rattle.tt_points_zones.specs.Zones.{AreContours, IsPoint, IsZones};
+ghost use Rattle.tt_core.specs.Limits.{coordinate_limit};
+ghost use Rattle.tt_points_zones.specs.Zones.{AreContours, IsPoint};
 
 use std::alloc::Global;
 use tt_core::{COORDINATE_LIMIT, Halves, SIZE_LIMIT, Scale};
@@ -85,9 +83,7 @@ fn contours_in(alloc: Global, line: &mut Line, points: u32) -> Option<Vec<(u32, 
 }
 
 /// The points of both zones, and the contours; none of them where memory runs out.
-fn zones_in(alloc: Global, line: &mut Line) -> Zones
-    ensures { IsZones (zones_view result) }
-{
+fn zones_in(alloc: Global, line: &mut Line) -> Zones {
     let twilight = points_in(alloc, line);
     let glyph = points_in(alloc, line);
     if glyph.len() <= MOST {
@@ -138,11 +134,7 @@ impl Rules {
 }
 
 /// The parts that the next words are, of a machine by these rules.
-pub(crate) fn parts_in<'a>(alloc: Global, line: &mut Line, rules: Rules) -> Parts<'a>
-    ensures zones { IsZones (zones_view result.zones) }
-    ensures scale { IsScale result.scale }
-    ensures ppem { result.ppem ≤ size_limit }
-{
+pub(crate) fn parts_in<'a>(alloc: Global, line: &mut Line, rules: Rules) -> Parts<'a> {
     let em = line.number(16, 16384) as u16;
     let ppem = line.number(1, SIZE) as u32;
     let cvt = numbers_in(alloc, line);
