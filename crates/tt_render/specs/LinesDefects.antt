@@ -8,9 +8,8 @@ use Rattle.tt_render.specs.declared.refusal.Refusal.TheVariants as reason
 use Rattle.tt_render.specs.declared.refusal.TextsFault.{TextsFault}
 use Rattle.tt_render.specs.Lines.{lines_of}
 use Rattle.tt_render.specs.Settings.{job_by}
-use Rattle.tt_face.specs.Files.{IsFaceDefect}
 use Rattle.tt_strike.specs.Defects.{IsLineDefect}
-use Rattle.tt_strike.specs.Job.{ByFace}
+use Rattle.tt_strike.specs.Job.{ByFace, IsJobFaceDefect}
 use Rattle.tt_strike.specs.Strikes.{Strike, job_of}
 
 -- the line of a text with this number, counted from 1
@@ -46,7 +45,7 @@ LinesTell IsOne text (Ok v) = ⊤
 abbrev pub LineTellsDefect : Setting → Option (List ℕ) → Refusal → Option ℕ → List ℕ → Type 0
 LineTellsDefect a text (reason.Font f) (Some number) file =
     IfSome text (λ all. IsDefectIn a file (line_numbered all number) f)
-LineTellsDefect a text (reason.Font f) None file = IsFaceDefect file f
+LineTellsDefect a text (reason.Font f) None file = IsJobFaceDefect (job_by a []) file f
 LineTellsDefect a text why line file = ⊤
 
 abbrev pub LinesTellDefects : {V : Type 0} → Setting → Option (List ℕ) → Result V TextsFault → List ℕ → Type 0

@@ -1,8 +1,8 @@
 //! Draws texts by a font, from a reader to a writer. The calls `run` and `map` are those of tt_render_run.
 #![tactic(auto)]
 
+mod drawing;
 pub mod laws;
-mod line_drawing;
 mod lines;
 mod measure_text;
 mod printing;
@@ -10,15 +10,13 @@ mod products;
 mod refusal;
 mod setting;
 mod text_answers;
-mod text_drawing;
 mod texts_messages;
 
-pub use line_drawing::{draw_lines, lines_budget};
+pub use drawing::{draw_lines, draw_text, lines_budget};
 pub use printing::print_text;
 pub use products::{make_measure, make_picture};
 pub use refusal::{Refusal, TextsFault};
 pub use setting::{Missing, Product, Setting};
-pub use text_drawing::draw_text;
 pub use texts_messages::{texts_line, texts_status};
 pub use tt_render_run::{RunFault, line, map, run, status, unfitted_line};
 pub use tt_strike::{Job, Report, Unfitted};

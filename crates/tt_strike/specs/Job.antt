@@ -59,17 +59,25 @@ IsTestRefusal a fault.MarginRange = margin_limit < a.margin
 IsTestRefusal a fault.TextLong = text_limit < length (chars a.text)
 IsTestRefusal a j = ⊥
 
--- what a job makes of the face of a font file, or the file's first fault
+-- the face that a job draws from: its font file's only one, or the file's first fault
+abbrev pub job_face : Job → List ℕ → Result Face Fault
+job_face a file = face_of file
+
+-- a defect of that face's directory, or of its tables needed for every text
+abbrev pub IsJobFaceDefect : Job → List ℕ → Fault → Type 0
+IsJobFaceDefect a file fault = IsFaceDefect file fault
+
+-- what a job makes of its face
 abbrev pub by_face : {X : Type 0} → (Face → Job → Result X Refused) → Job → List ℕ → Result X Refused
-by_face make a file = as_font (face_of file) >>= λ face. make face a
+by_face make a file = as_font (job_face a file) >>= λ face. make face a
 
--- a fact of a job by the face of a font file, if the file gives one
+-- a fact of a job by its face, if the file gives one
 abbrev pub ByFace : (Face → Job → Type 0) → Job → List ℕ → Type 0
-ByFace P a file = IsOkAnd (face_of file) (λ face. P face a)
+ByFace P a file = IsOkAnd (job_face a file) (λ face. P face a)
 
--- a defect of a font file for a job: of the tables needed for every text, or one of this kind by the face
+-- a defect of a font file for a job: one of its face, or one of this kind by the face
 abbrev pub IsFontDefect : (Face → Job → Fault → Type 0) → Job → List ℕ → Fault → Type 0
-IsFontDefect IsOne a file fault = IsFaceDefect file fault ⊎ ByFace (λ face a. IsOne face a fault) a file
+IsFontDefect IsOne a file fault = IsJobFaceDefect a file fault ⊎ ByFace (λ face a. IsOne face a fault) a file
 
 -- worked values
 of_size : ℕ → Job

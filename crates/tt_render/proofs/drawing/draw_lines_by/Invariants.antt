@@ -3,7 +3,7 @@ use Rattle.tt_render.specs.LineReading.{text_left}
 use Rattle.tt_render.specs.Lines.{line_drawn}
 use Rattle.tt_render.specs.Printing.{errors_of}
 use Rattle.tt_render.proofs.DrawnLines.{SoFar}
-use Rattle.tt_render.proofs.line_drawing.draw_lines_by.Given as goal
+use Rattle.tt_render.proofs.drawing.draw_lines_by.Given as goal
 
 -- the earlier lines were written with their reports, and the remaining text has the others
 abbrev pub invariant-loop-before : goal.invariant-loop-before

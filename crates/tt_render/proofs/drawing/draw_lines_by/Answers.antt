@@ -12,7 +12,7 @@ use Rattle.tt_render.proofs.DefectLines.{begun_tells, next_tells, stop_tells}
 use Rattle.tt_render.proofs.DrawnLines.{SoFar, all_drawn, drawn_alike, drawn_too, kept_alone, many_sent, none_so_far, one_more, reader_at_end, same_most, some_sent, whole_text}
 use Rattle.tt_render.proofs.StoppedLines.{cut_sent, stopped_before, stopped_in}
 use Rattle.tt_render.proofs.Printed.{keeps_itself}
-use Rattle.tt_render.proofs.line_drawing.draw_lines_by.Goals as goal
+use Rattle.tt_render.proofs.drawing.draw_lines_by.Goals as goal
 
 pub returns-in_err-reader-clause-outcome : goal.returns-in_err-reader-clause-outcome
 returns-in_err-reader-clause-outcome g c =

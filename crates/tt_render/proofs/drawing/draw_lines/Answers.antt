@@ -8,7 +8,7 @@ use Rattle.tt_render.proofs.DrawnLines.{kept_within}
 use Rattle.tt_render.proofs.DefectLines.{lines_tell, reading_tells, setting_tells, strike_tells}
 use Rattle.tt_render.proofs.FontLines.{font_opened, font_refused, idle, reading_stops, strike_stops}
 use Rattle.tt_render.proofs.Printed.{keeps_itself}
-use Rattle.tt_render.proofs.line_drawing.draw_lines.Goals as goal
+use Rattle.tt_render.proofs.drawing.draw_lines.Goals as goal
 use Rattle.tt_face.specs.Files.{IsFaceDefect}
 use Rattle.tt_strike.specs.Strikes.{Strike}
 

@@ -14,7 +14,7 @@ use Rattle.tt_render_run.proofs.Calls.{known_of}
 use Rattle.tt_render.proofs.FontLines.{reading_stops}
 use Rattle.tt_render.proofs.OneText.{job_tells, reading_tells, silent, text_cut, text_fails, text_written}
 use Rattle.tt_render.proofs.Printed.{keeps_itself}
-use Rattle.tt_render.proofs.text_drawing.draw_text.Goals as goal
+use Rattle.tt_render.proofs.drawing.draw_text.Goals as goal
 
 pub returns-in_err-test_job-clause-outcome : goal.returns-in_err-test_job-clause-outcome
 returns-in_err-test_job-clause-outcome g c =

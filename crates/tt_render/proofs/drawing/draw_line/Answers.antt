@@ -1,7 +1,7 @@
 use Rattle.tt_render.specs.TextsOutcome.{without_line}
 use Rattle.tt_render.proofs.DefectLines.{told_of_text}
 use Rattle.tt_render.proofs.DrawnLines.{line_of_no_text, line_of_text}
-use Rattle.tt_render.proofs.line_drawing.draw_line.Goals as goal
+use Rattle.tt_render.proofs.drawing.draw_line.Goals as goal
 
 pub returns-in_default-clause-exact : goal.returns-in_default-clause-exact
 returns-in_default-clause-exact c =

@@ -5,7 +5,7 @@ use Rattle.tt_render.specs.Texts.{text_answer}
 use Rattle.tt_render_run.proofs.Faces.{no_defect}
 use Rattle.tt_render.proofs.FontLines.{font_opened, font_refused}
 use Rattle.tt_render.proofs.OneText.{most_aside, strike_stops, strike_tells, text_stops, text_tells}
-use Rattle.tt_render.proofs.text_drawing.draw.Goals as goal
+use Rattle.tt_render.proofs.drawing.draw.Goals as goal
 use Rattle.tt_strike.specs.Defects.{IsRunDefect}
 
 pub returns-in_err-face-clause-outcome : goal.returns-in_err-face-clause-outcome
