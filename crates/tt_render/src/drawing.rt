@@ -20,7 +20,7 @@ use crate::lines::{LINE_LIMIT, LinePlace, LineReader, NextLine};
 use crate::printing::print_text;
 use crate::products::write_output;
 use crate::refusal::{Refusal, TextsFault, texts_fault};
-use crate::setting::{Setting, Setting, test_setting};
+use crate::setting::{Setting, test_setting};
 use crate::text_answers::{ReadyText, answer_text};
 use std::alloc::Global;
 use std::str;
