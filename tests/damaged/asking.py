@@ -197,7 +197,7 @@ def why_not_alike(answers):
         if not re.search(other, full):
             wrong = falling != full and not (kind == "best" and are_pictures(falling, full))
         else:
-            wrong = not falling.startswith("0 ") and not re.search(r": (1?[0-9]|2[0-3]) ", falling)
+            wrong = not falling.startswith("0 ") and not re.search(r": [12]?[0-9] ", falling)
         if wrong:
             return f"has '{falling}' as {kind}, and '{full}'"
     without = answers["none"]
