@@ -1,4 +1,4 @@
-//! The ranges of characters of a subtable. OpenType, "cmap", formats 4 and 12.
+//! The ranges of characters of a subtable. OpenType, "cmap", formats of ranges.
 
 ghost use Rattle.std.specs.Prelude.{◌≡◌, ◌+◌, ◌^◌, ◌<◌, ◌≤◌, length};
 ghost use Rattle.tt_cmap.specs.Defects.{range_end_size};

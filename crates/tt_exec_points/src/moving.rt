@@ -67,7 +67,6 @@ fn refer_to(graphics: &mut GraphicsState, p: i32)
 impl Points {
     /// Executes an instruction on one point. Errors: StackShort; PointRange of a strict machine, and CvtRange of its
     /// MIAP and MIRP; Perpendicular and ValueRange of all but UTP.
-    #[inline(always)]
     pub(crate) fn on_one(
         &mut self,
         tolerance: Tolerance,

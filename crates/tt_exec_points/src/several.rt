@@ -82,7 +82,6 @@ impl Points {
 
     /// Executes an instruction on points in turn. Errors: StackShort and PointRange of a strict machine; StackShort of
     /// SHPIX; ValueRange of all but FLIPPT; Perpendicular of ALIGNRP, IP and SHP.
-    #[inline(always)]
     pub(crate) fn in_turn(
         &mut self,
         tolerance: Tolerance,
