@@ -174,9 +174,10 @@ impl Glyphs {
         requires few { All (λ g. length (edges_of g.body) ≤ 2 ^ 17) self.made.items }
         requires places { ArePlaces self.places.items (numbers_of self.made.items) }
         requires known { All (λ g. g.0 < length self.places.items) line.now }
-        requires numbers { numbers_of self.made.items ≡ distinct (map (λ g. g.0) line.now) }
+        requires among { All (λ g. is_among g.0 (numbers_of self.made.items) ≡ true) line.now }
         requires pens { All (λ g. g.1 ≤ width_limit) line.now }
-        ensures { IfOk result (λ v. (maker : ℕ → Fitter) (f : Frame) → AreDrawn false maker f self.made.items → AreOfLine false maker frame line.now v.items) }
+        ensures { IfOk result (λ v. (maker : ℕ → Fitter) (f : Frame) → AreDrawn false maker f self.made.items
+            → numbers_of self.made.items ≡ distinct (map (λ g. g.0) line.now) → AreOfLine false maker frame line.now v.items) }
     {
         let Glyphs {
             places,

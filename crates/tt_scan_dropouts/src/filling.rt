@@ -6,6 +6,7 @@ ghost use Rattle.std.specs.List.{list_any};
 ghost use Rattle.std.specs.Ordering.{int_eq};
 ghost use Rattle.tt_scan.specs.Contours.{IsClosed, contours_at};
 ghost use Rattle.tt_scan_edges.specs.Winding.{EdgeFits};
+ghost use Rattle.tt_scan_gaps.specs.Boxes.{columns_of};
 ghost use Rattle.tt_scan_gaps.specs.Seen.{seen_by, turned_round};
 ghost use Rattle.tt_scan_dropouts.specs.Dropouts.{is_dropout, row_adds};
 ghost use Rattle.tt_scan_dropouts.specs.Passes.{has_pixel};
@@ -23,7 +24,7 @@ use crate::pixel::Pixel;
 use crate::window::{Window, clipped, has, widened};
 use std::alloc::{AllocError, Global};
 use tt_scan::Edge;
-use tt_scan_gaps::{Over, Rules, box_of, meets, seen_by, sort_marks, turned_round};
+use tt_scan_gaps::{Columns, Over, box_of, meets, seen_by, sort_marks, turned_round};
 
 /// Edges with x and y exchanged. Error: memory ran out.
 fn all_turned_round(alloc: Global, edges: &[Edge]) -> Result<Vec<Edge>, AllocError>
@@ -36,62 +37,56 @@ fn all_turned_round(alloc: Global, edges: &[Edge]) -> Result<Vec<Edge>, AllocErr
     Ok(turned)
 }
 
-/// The pixels that a pass adds, by contours as the pass sees them. Error: memory ran out.
-fn pass_over(alloc: Global, pass: Pass, contours: Contours) -> Result<Vec<Pixel>, AllocError>
+/// The pixels that a pass adds, by contours as the pass sees them and the columns of their box. Error: memory ran out.
+fn pass_over(
+    alloc: Global,
+    pass: Pass,
+    columns: Columns,
+    contours: Contours,
+) -> Result<Vec<Pixel>, AllocError>
+    requires { columns ≡ columns_of contours.edges.now }
     ensures { IfOk result (λ v. (p j : ℤ) → has_pixel v.items p j ≡ row_adds pass.entry.rules
         (contours_at contours.entry.edges.now contours.entry.ends.now) (is_black_to pass.entry) p j) }
 {
     let mut marks = free_marks(alloc, pass, contours)?;
     sort_marks(&mut marks);
-    let (columns, _) = box_of(contours.edges);
     added_by(alloc, pass, columns, &marks)
 }
 
 /// Whether an edge, as a pass sees it, makes a mark in a free gap: a crossing, or, where stubs are drawn, an end that
 /// touches a line. A pass in one value would be copied for each edge.
 #[inline(never)]
-fn makes_mark(rules: Rules, over: Over, ink: &Bitmap, edge: &Edge) -> bool
+fn makes_mark(ink: &Bitmap, over: Over, stubs: bool, edge: &Edge) -> bool
     requires { EdgeFits edge.now }
-    ensures { result ≡ is_in_free_gap rules.stubs (is_black_by over ink.now) (seen_by over edge.now) }
+    ensures { result ≡ is_in_free_gap stubs (is_black_by over ink.now) (seen_by over edge.now) }
 {
-    let pass = Pass { rules, over, ink };
     let edge = seen_by(over, *edge);
-    crosses_free_gap(pass, edge) || (rules.stubs && touches_free_gap(pass, edge))
+    crosses_free_gap(ink, over, edge) || (stubs && touches_free_gap(ink, over, edge))
 }
 
 /// `makes_mark` with a quick test first: most edges are short and meet no line.
 #[inline(always)]
-fn is_in_free_gap(pass: Pass, edge: &Edge) -> bool
+fn is_in_free_gap(ink: &Bitmap, over: Over, stubs: bool, edge: &Edge) -> bool
     requires { EdgeFits edge.now }
-    ensures { result ≡ is_in_free_gap pass.entry.rules.stubs (is_black_to pass.entry) (seen_by pass.entry.over edge.now) }
+    ensures { result ≡ is_in_free_gap stubs (is_black_by over ink.now) (seen_by over edge.now) }
 {
-    meets(pass.over, pass.rules.stubs, edge) && makes_mark(pass.rules, pass.over, pass.ink, edge)
+    meets(over, stubs, edge) && makes_mark(ink, over, stubs, edge)
 }
 
 /// Whether some edge makes a mark in a free gap by rows, and whether some edge does by columns. Where none does, the
 /// pass adds nothing, and its walk is not needed.
 #[inline(never)]
-fn some_in_free_gap(rules: Rules, ink: &Bitmap, edges: &[Edge]) -> (bool, bool)
+fn some_in_free_gap(ink: &Bitmap, stubs: bool, edges: &[Edge]) -> (bool, bool)
     requires { All EdgeFits edges.now }
-    ensures rows { result.0 ≡ list_any (is_in_free_gap rules.stubs (is_black_by over.Rows ink.now)) edges.now }
+    ensures rows { result.0 ≡ list_any (is_in_free_gap stubs (is_black_by over.Rows ink.now)) edges.now }
     ensures columns { result.1
-        ≡ list_any (is_in_free_gap rules.stubs (is_black_by over.Columns ink.now)) (map turned_round edges.now) }
+        ≡ list_any (is_in_free_gap stubs (is_black_by over.Columns ink.now)) (map turned_round edges.now) }
 {
-    let across = Pass {
-        rules,
-        over: Over::Rows,
-        ink,
-    };
-    let along = Pass {
-        rules,
-        over: Over::Columns,
-        ink,
-    };
     let mut rows = false;
     let mut columns = false;
     for edge in edges {
-        rows = is_in_free_gap(across, edge) || rows;
-        columns = is_in_free_gap(along, edge) || columns;
+        rows = is_in_free_gap(ink, Over::Rows, stubs, edge) || rows;
+        columns = is_in_free_gap(ink, Over::Columns, stubs, edge) || columns;
     }
     (rows, columns)
 }
@@ -101,9 +96,11 @@ fn added(
     alloc: Global,
     pass: Pass,
     some: bool,
+    columns: Columns,
     contours: Contours,
 ) -> Result<Vec<Pixel>, AllocError>
-    requires { some ≡ false → list_any (is_in_free_gap pass.rules.stubs (is_black_to pass))
+    requires columns { columns ≡ columns_of contours.edges.now }
+    requires some { some ≡ false → list_any (is_in_free_gap pass.rules.stubs (is_black_to pass))
         contours.edges.now ≡ false }
     ensures { IfOk result (λ v. (p j : ℤ) → has_pixel v.items p j ≡ row_adds pass.entry.rules
         (contours_at contours.entry.edges.now contours.entry.ends.now) (is_black_to pass.entry) p j) }
@@ -111,7 +108,7 @@ fn added(
     if !some {
         return Ok(Vec::new(alloc));
     }
-    pass_over(alloc, pass, contours)
+    pass_over(alloc, pass, columns, contours)
 }
 
 /// `added` for contours with x and y exchanged, which take memory only where the pass is needed.
@@ -119,9 +116,11 @@ fn added_turned(
     alloc: Global,
     pass: Pass,
     some: bool,
+    rows: Columns,
     contours: Contours,
 ) -> Result<Vec<Pixel>, AllocError>
-    requires { some ≡ false → list_any (is_in_free_gap pass.rules.stubs (is_black_to pass))
+    requires rows { rows ≡ columns_of (map turned_round contours.edges.now) }
+    requires some { some ≡ false → list_any (is_in_free_gap pass.rules.stubs (is_black_to pass))
         (map turned_round contours.edges.now) ≡ false }
     ensures { IfOk result (λ v. (p j : ℤ) → has_pixel v.items p j ≡ row_adds pass.entry.rules
         (contours_at (map turned_round contours.entry.edges.now) contours.entry.ends.now) (is_black_to pass.entry) p j) }
@@ -134,7 +133,7 @@ fn added_turned(
         edges: &turned,
         ends: contours.ends,
     };
-    pass_over(alloc, pass, contours)
+    pass_over(alloc, pass, rows, contours)
 }
 
 /// The pixel of a pass, by its column and its row.
@@ -194,13 +193,13 @@ pub fn dropouts(alloc: Global, glyph: Outlined, window: Window) -> Result<Vec<Pi
         None => return Ok(Vec::new(alloc)),
     };
     let mut ink = Bitmap::inked(alloc, glyph.tape, widened(part))?;
-    let (some_by_rows, some_by_columns) = some_in_free_gap(glyph.rules, &ink, contours.edges);
+    let (some_by_rows, some_by_columns) = some_in_free_gap(&ink, glyph.rules.stubs, contours.edges);
     let across = Pass {
         rules: glyph.rules,
         over: Over::Rows,
         ink: &ink,
     };
-    let by_rows = added(alloc, across, some_by_rows, contours)?;
+    let by_rows = added(alloc, across, some_by_rows, columns, contours)?;
     // The pixels that are black now make no further gap free, so the test by columns remains true.
     ink.blacken_all(&by_rows);
     let along = Pass {
@@ -208,7 +207,7 @@ pub fn dropouts(alloc: Global, glyph: Outlined, window: Window) -> Result<Vec<Pi
         over: Over::Columns,
         ink: &ink,
     };
-    let by_columns = added_turned(alloc, along, some_by_columns, contours)?;
+    let by_columns = added_turned(alloc, along, some_by_columns, rows, contours)?;
     let mut found = Vec::new(alloc);
     push_within(&mut found, part, Over::Rows, &by_rows)?;
     push_within(&mut found, part, Over::Columns, &by_columns)?;

@@ -8,6 +8,7 @@ ghost use Rattle.tt_scan_gaps.specs.Crossings.{crossings, touches};
 ghost use Rattle.tt_scan_gaps.specs.Gaps.{free_marks, is_free};
 ghost use Rattle.tt_scan_gaps.specs.Walk.{contour_marks, edge_marks, mark_of, marks, some_in_free_gap, step_marks, walk_marks};
 ghost use Rattle.tt_scan_dropouts.specs.Seen.{is_black_to};
+ghost use Rattle.tt_scan_dropouts.specs.Windows.{is_black_by};
 
 use crate::bitmap::Bitmap;
 use crate::contours::Contours;
@@ -36,15 +37,12 @@ pub(crate) fn is_free(pass: Pass, at: Crossing) -> bool
 }
 
 /// Whether an edge crosses a free gap.
-pub(crate) fn crosses_free_gap(pass: Pass, edge: Edge) -> bool
+pub(crate) fn crosses_free_gap(ink: &Bitmap, over: Over, edge: Edge) -> bool
     requires { EdgeFits edge }
-    ensures { result ≡ some_in_free_gap (is_black_to pass.entry) (crossings edge) }
+    ensures { result ≡ some_in_free_gap (is_black_by over ink.now) (crossings edge) }
 {
     for k in 0..lines_crossed(edge) {
-        if pass
-            .ink
-            .is_free(pass.over, gap_crossed(edge, k), line_crossed(edge, k))
-        {
+        if ink.is_free(over, gap_crossed(edge, k), line_crossed(edge, k)) {
             return true;
         }
     }
@@ -52,12 +50,12 @@ pub(crate) fn crosses_free_gap(pass: Pass, edge: Edge) -> bool
 }
 
 /// Whether an end of an edge touches a line in a free gap.
-pub(crate) fn touches_free_gap(pass: Pass, edge: Edge) -> bool
+pub(crate) fn touches_free_gap(ink: &Bitmap, over: Over, edge: Edge) -> bool
     requires { EdgeFits edge }
-    ensures { result ≡ some_in_free_gap (is_black_to pass.entry) (touches edge) }
+    ensures { result ≡ some_in_free_gap (is_black_by over ink.now) (touches edge) }
 {
     match touch(edge) {
-        Some(at) => is_free(pass, at),
+        Some(at) => ink.is_free(over, i64::from(at.gap), i64::from(at.line)),
         None => false,
     }
 }

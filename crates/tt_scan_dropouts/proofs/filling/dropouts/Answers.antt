@@ -25,11 +25,11 @@ returns-in-None c =
           c.args.window col row (edges_at es c.args.glyph.ends.now c.args.glyph.are_ends) (none col row)));
     }
 
-pub added-requires : goal.added-requires
-added-requires c = λ none. sym c.some_in_free_gap-some_by_rows.ensures.rows ∙ none
+pub added-requires-clause-some : goal.added-requires-clause-some
+added-requires-clause-some c = λ none. sym c.some_in_free_gap-some_by_rows.ensures.rows ∙ none
 
-pub added_turned-requires : goal.added_turned-requires
-added_turned-requires c = λ none.
+pub added_turned-requires-clause-some : goal.added_turned-requires-clause-some
+added_turned-requires-clause-some c = λ none.
     let before = c.in_ok-ink.ink in
     let after = c.blacken_all.new.self in
     let kept : (p j : ℤ) → is_black_by over.Columns before p j ≡ true → is_black_by over.Columns after p j ≡ true =

@@ -8,4 +8,4 @@ pub returns : goal.returns
 returns c =
     IfOk-weaker c.added_by.result _ _ (λ v by. pass_adds c.args.pass.rules c.args.contours.edges.now c.args.contours.ends.now
     (is_black_by c.args.pass.over c.args.pass.ink.now) (λ p j. has_pixel v.items p j) c.in_ok-marks.marks.items
-    c.sort_marks.new.marks.items c.args.contours.are_ends c.in_ok-marks.ensures c.sort_marks.ensures.same by) (simp (c.box_of.ensures.columns, c.deref.ensures.value) at c.added_by.ensures)
+    c.sort_marks.new.marks.items c.args.contours.are_ends c.in_ok-marks.ensures c.sort_marks.ensures.same by) (simp (c.requires, c.deref.ensures.value) at c.added_by.ensures)

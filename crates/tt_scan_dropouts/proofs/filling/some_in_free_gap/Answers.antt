@@ -23,8 +23,8 @@ loop-edge-preserved c =
     let d : Edge = record { ax = pos 0; ay = pos 0; bx = pos 0; by = pos 0 } in
     let below : i < length es = c.loop-edge-test.true in
     let turned : i < length (map turned_round es) = rw length-map below in
-    let by_rows = is_in_free_gap c.args.rules.stubs (is_black_by over.Rows c.args.ink.now) in
-    let by_columns = is_in_free_gap c.args.rules.stubs (is_black_by over.Columns c.args.ink.now) in
+    let by_rows = is_in_free_gap c.args.stubs (is_black_by over.Rows c.args.ink.now) in
+    let by_columns = is_in_free_gap c.args.stubs (is_black_by over.Columns c.args.ink.now) in
     let first : list_any by_rows (take (i + 1) es) ≡ (c.is_in_free_gap.result || c.loop-edge.rows) =
     list_any_more by_rows es i d below
     ∙ ap₂ (λ a b. a || b) (sym c.loop-edge.invariant.rows) (sym c.is_in_free_gap.ensures)

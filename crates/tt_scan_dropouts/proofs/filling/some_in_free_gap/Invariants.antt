@@ -9,7 +9,7 @@ use Rattle.tt_scan_dropouts.proofs.filling.some_in_free_gap.Given as goal
 -- whether one of the edges so far makes a mark in a free gap
 abbrev pub invariant-loop-edge : goal.invariant-loop-edge
 invariant-loop-edge l = record {
-  rows : l.rows ≡ list_any (is_in_free_gap l.fn.rules.stubs (is_black_by over.Rows l.ink)) (take l.edge-index l.edges);
+  rows : l.rows ≡ list_any (is_in_free_gap l.stubs (is_black_by over.Rows l.ink)) (take l.edge-index l.edges);
   columns : l.columns
-      ≡ list_any (is_in_free_gap l.fn.rules.stubs (is_black_by over.Columns l.ink)) (take l.edge-index (map turned_round l.edges));
+      ≡ list_any (is_in_free_gap l.stubs (is_black_by over.Columns l.ink)) (take l.edge-index (map turned_round l.edges));
 }

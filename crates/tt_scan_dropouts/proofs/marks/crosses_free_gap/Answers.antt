@@ -7,7 +7,7 @@ use Rattle.tt_scan_dropouts.proofs.marks.crosses_free_gap.Goals as goal
 
 pub returns-then-is_free : goal.returns-then-is_free
 returns-then-is_free c =
-    let black = is_black_by c.args.pass.over c.args.pass.ink.now in
+    let black = is_black_by c.args.over c.args.ink.now in
     let within : c.loop-k.k < lines_crossed c.args.edge =
     rw (← c.lines_crossed-k-end.ensures.exact) c.loop-k-test.true in
     let gap : SFits w64 c.gap_crossed.result = omega (arith, ints, c.gap_crossed.ensures.small) in
@@ -17,7 +17,7 @@ returns-then-is_free c =
 
 pub loop-k-preserved : goal.loop-k-preserved
 loop-k-preserved c =
-    let black = is_black_by c.args.pass.over c.args.pass.ink.now in
+    let black = is_black_by c.args.over c.args.ink.now in
     let gap : SFits w64 c.gap_crossed.result = omega (arith, ints, c.gap_crossed.ensures.small) in
     let line : SFits w64 c.line_crossed.result = omega (arith, ints, c.line_crossed.ensures.small) in
     let out = rw (c.gap_crossed.ensures.exact, c.line_crossed.ensures.exact) at (simp to_z-of_z at (sym c.is_free.ensures ∙ c.if-is_free.false)) in

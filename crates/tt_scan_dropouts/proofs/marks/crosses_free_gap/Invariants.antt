@@ -8,5 +8,5 @@ use Rattle.tt_scan_dropouts.proofs.marks.crosses_free_gap.Given as goal
 -- none of the crossings so far lies in a free gap
 abbrev pub invariant-loop-k : goal.invariant-loop-k
 invariant-loop-k l =
-    some_in_free_gap (is_black_by l.pass.over l.pass.ink.now)
+    some_in_free_gap (is_black_by l.over l.ink)
     (map (λ k. crossing l.edge (line_crossed l.edge k)) (range_with_len 0 l.k)) ≡ false

@@ -11,7 +11,7 @@ use Rattle.tt_strike.specs.Strikes.{job_with}
 use Rattle.tt_picture.specs.Pictures.{image_of, picture}
 use Rattle.tt_strike.specs.Picture.{drawn, frame_of}
 use Rattle.tt_picture.specs.Unfitted.{unfitted_standing}
-use Rattle.tt_picture.proofs.Among.{of_same_glyphs}
+use Rattle.tt_picture.proofs.Among.{all_among, of_same_glyphs}
 use Rattle.tt_strike.proofs.Enlarged.{larger_drawn, larger_made, larger_reported, numbers_kept, same_cost, ungrown_stops}
 use Rattle.tt_picture.proofs.Filled.{can_be_filled, tapes_few}
 use Rattle.tt_strike.proofs.GrownStops.{same_report}
@@ -63,22 +63,26 @@ reframed-requires-clause-known c =
     c.in_ok-enlarged.enlarged.line.glyphs.items (numbers_kept c.in_ok-enlarged.ensures.enlarged) c.requires.known in
     rw (c.deref.ensures.value, c.in_ok-enlarged.ensures.valid.room) known
 
-pub reframed-requires-clause-numbers : goal.reframed-requires-clause-numbers
-reframed-requires-clause-numbers c =
-    let e = c.in_ok-enlarged.ensures.enlarged in rw c.deref.ensures.value (rw (numbers_kept e) e.made.numbers)
+pub reframed-requires-clause-among : goal.reframed-requires-clause-among
+reframed-requires-clause-among c =
+    let e = c.in_ok-enlarged.ensures.enlarged in
+    rw c.deref.ensures.value (all_among c.in_ok-enlarged.enlarged.line.glyphs.items
+    (numbers_of c.in_ok-enlarged.enlarged.inked.glyphs.made.items) (rw (numbers_kept e) e.made.numbers))
 
 pub new-requires-clause-glyphs : goal.new-requires-clause-glyphs
 new-requires-clause-glyphs c =
-    let made = c.in_ok-enlarged.ensures.enlarged.made in
-    let maker = line_fitter made.setting (map (λ g. g.0) c.args.laid.line.glyphs.items) in
-    let moved = c.in_ok-moved.ensures maker (frame_of (placement_of c.args.laid.line) c.args.laid.margin) made.drawn in
+    let e = c.in_ok-enlarged.ensures.enlarged in
+    let maker = line_fitter e.made.setting (map (λ g. g.0) c.args.laid.line.glyphs.items) in
+    let moved = c.in_ok-moved.ensures maker (frame_of (placement_of c.args.laid.line) c.args.laid.margin) e.made.drawn
+    (rw c.deref.ensures.value (rw (numbers_kept e) e.made.numbers)) in
     can_be_filled maker c.in_ok-moved.moved.items moved.drawn moved.pens
 
 pub new-requires-clause-bodies : goal.new-requires-clause-bodies
 new-requires-clause-bodies c = λ k d below.
-    let made = c.in_ok-enlarged.ensures.enlarged.made in
-    let maker = line_fitter made.setting (map (λ g. g.0) c.args.laid.line.glyphs.items) in
-    ((c.in_ok-moved.ensures maker (frame_of (placement_of c.args.laid.line) c.args.laid.margin) made.drawn).drawn k d below).fits
+    let e = c.in_ok-enlarged.ensures.enlarged in
+    let maker = line_fitter e.made.setting (map (λ g. g.0) c.args.laid.line.glyphs.items) in
+    ((c.in_ok-moved.ensures maker (frame_of (placement_of c.args.laid.line) c.args.laid.margin) e.made.drawn
+    (rw c.deref.ensures.value (rw (numbers_kept e) e.made.numbers))).drawn k d below).fits
 
 pub returns-clause-exact : goal.returns-clause-exact
 returns-clause-exact c =
@@ -96,7 +100,7 @@ returns-clause-exact c =
     let made = larger_made face a l larger e.left gs e.made e.moved in
     let fitted = rw (numbers_kept e) at made.fitted in
     let places = rw (c.deref.ensures.value, c.frame-frame.ensures.exact) at
-    (c.in_ok-moved.ensures maker (frame_of l a.margin) e.made.drawn).stand in
+    (c.in_ok-moved.ensures maker (frame_of l a.margin) e.made.drawn (rw c.deref.ensures.value (rw (numbers_kept e) e.made.numbers))).stand in
     let stand : Stand false f hs made.shapes = rw fitted at places in
     let drawn = rw c.frame-frame.ensures.exact at c.in_ok-new.ensures.exact in
     let image : image_of p ≡ picture f made.shapes = drawn false made.shapes stand in
@@ -140,7 +144,8 @@ returns-clause-reported c =
     let maker = line_fitter s (map (λ g. g.0) l.glyphs) in
     let hs = c.in_ok-moved.moved.items in
     let p = c.in_ok-new.field-0 in
-    let moved = c.in_ok-moved.ensures maker (frame_of l a.margin) e.made.drawn in
+    let moved = c.in_ok-moved.ensures maker (frame_of l a.margin) e.made.drawn
+    (rw c.deref.ensures.value (rw (numbers_kept e) e.made.numbers)) in
     let there = moved.drawn in
     let numbers : numbers_of hs ≡ distinct (map (λ g. g.0) larger.glyphs) = rw c.deref.ensures.value at moved.numbers in
     let same : numbers_of hs ≡ numbers_of gs = numbers ∙ rw (numbers_kept e) (sym e.made.numbers) in
