@@ -4,6 +4,7 @@
 mod component;
 mod glyph_program;
 mod glyph_zone;
+mod grid;
 mod hinting;
 mod joining;
 mod outline;
@@ -15,9 +16,12 @@ mod rules;
 mod scaling;
 mod shift;
 mod size;
+mod steps;
 mod units;
 
 pub use glyph_program::GlyphProgram;
+pub use glyph_zone::settled_ends;
+pub use grid::{Grid, GridRule};
 pub use hinting::{GlyphMachine, Hinting, Runner, run};
 pub use joining::placed;
 pub use outline::Outline;
