@@ -171,7 +171,7 @@ pub fallback-fits : FallbackFits
 unfolding fitter_of prepared
 fallback-fits m tables programs ppem how s g o falls is ready has made =
     let left = left_at m programs ppem how in
-    let who = dropouts_by how programs.fpgm programs.prep in
+    let who = dropouts_by how in
     let by = falling m tables ppem how who s (work_at m programs ppem how) left ready.0 falls ready.1 is in
     fits-by m tables ppem how who s g o left by.0 by.1 has made
 
@@ -196,7 +196,7 @@ pub fallback-scales : FallbackScales
 unfolding fitter_of prepared
 fallback-scales m tables programs ppem how s g f falls is ready has fails of_program =
     let left = left_at m programs ppem how in
-    let who = dropouts_by how programs.fpgm programs.prep in
+    let who = dropouts_by how in
     let by = falling m tables ppem how who s (work_at m programs ppem how) left ready.0 falls ready.1 is in
     scales-by m tables ppem how who s g f left by.0 by.1 has fails of_program
 
@@ -218,7 +218,7 @@ pub fallback-refuses : FallbackRefuses
 unfolding fitter_of prepared
 fallback-refuses m tables programs ppem how alone s g f falls is ready has made fails of_table =
     let left = left_at m programs ppem how in
-    let who = dropouts_by how programs.fpgm programs.prep in
+    let who = dropouts_by how in
     let by = falling m tables ppem how who s (work_at m programs ppem how) left ready.0 falls ready.1 is in
     refuses-by m tables ppem how who alone s g f left by.0 by.1 has made fails of_table
 
@@ -239,7 +239,7 @@ pub fallback-unfits-all : FallbackUnfitsAll
 unfolding fitter_of prepared
 fallback-unfits-all m tables programs ppem how s g f falls is ready fails =
     let left = left_at m programs ppem how in
-    let who = dropouts_by how programs.fpgm programs.prep in
+    let who = dropouts_by how in
     let by = falling m tables ppem how who s (work_at m programs ppem how) left ready.0 falls ready.1 is in
     unfits-by m tables ppem how who s g f left by.0 by.1 fails
 
@@ -259,7 +259,7 @@ others-by m tables ppem fit.Best who s g worked left other is = absurd cc
 pub others-never-fall-back : OthersNeverFallBack
 unfolding fitter_of prepared
 others-never-fall-back m tables programs ppem how s g other is =
-    let who = dropouts_by how programs.fpgm programs.prep in
+    let who = dropouts_by how in
     others-by m tables ppem how who s g (work_at m programs ppem how) (left_at m programs ppem how) other is
 
 full-by : (m : Metrics) (tables : Glyf) (ppem : ℕ) (worked : Worked) (left : Result Hinting Fault)
@@ -300,7 +300,7 @@ programs-unbounded : (m : Metrics) (programs : ProgramTables) (ppem : ℕ) (how 
 programs-unbounded m programs ppem fit.Full other =
     (None, of-programs (begun_at m programs ppem fit.Full) programs)
 programs-unbounded m programs ppem fit.None other =
-    (None, of-programs (begun_at m programs ppem fit.None) programs)
+    (None, refl)
 programs-unbounded m programs ppem fit.Fallback other =
     (None, of-programs (begun_at m programs ppem fit.Fallback) programs)
 programs-unbounded m programs ppem fit.Best other = absurd (other refl)
@@ -308,7 +308,7 @@ programs-unbounded m programs ppem fit.Best other = absurd (other refl)
 pub others-are-unbounded : OthersAreUnbounded
 unfolding fitter_of prepared
 others-are-unbounded m tables programs ppem how s other is =
-    let who = dropouts_by how programs.fpgm programs.prep in
+    let who = dropouts_by how in
     let worked = work_at m programs ppem how in (
       unbounded-by m tables ppem how who s worked (left_at m programs ppem how) other is,
       programs-unbounded m programs ppem how other,
@@ -355,5 +355,5 @@ spent-programs-unfit-all m tables programs ppem fit.None s g f falls is over = a
 spent-programs-unfit-all m tables programs ppem fit.Fallback s g f falls is over =
     let free = of-programs (begun_at m programs ppem fit.Fallback) programs in absurd cc
 spent-programs-unfit-all m tables programs ppem fit.Best s g f falls is over =
-    let who = dropouts_by fit.Best programs.fpgm programs.prep in
+    let who = dropouts_by fit.Best in
     over-by m tables ppem who s g f (work_at m programs ppem fit.Best) (left_at m programs ppem fit.Best) over is

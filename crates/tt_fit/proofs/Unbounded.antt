@@ -15,13 +15,14 @@ use Rattle.tt_fit.specs.declared.programs.Fit.{Fit}
 use Rattle.tt_fit.specs.declared.programs.Fit.TheVariants as fit
 use Rattle.tt_fit_outline.specs.declared.outline_fault.OutlineFault.{OutlineFault}
 use Rattle.tt_fit_outline.specs.declared.outline_fault.OutlineFault.TheVariants as outline
-use Rattle.tt_fit.specs.Fitting.{Fitter, size_of, start, composite_program, simple_program, joined, added, simple_work, composite_work, made_work, work_by, added_work, outline_work}
+use Rattle.tt_fit.specs.Fitting.{Fitter, size_of, start, simple_start, composite_program, simple_program, joined, added, simple_work, composite_work, made_work, work_by, added_work, outline_work}
 use Rattle.tt_fit_outline.specs.GlyphZone.{GlyphProgram, program_in_glyf, on_grid_at}
 use Rattle.tt_fit_outline.specs.Hinting.{Hinting, off, ready, is_run, run_of}
 use Rattle.tt_fit_outline.specs.Outline.{Outline}
 use Rattle.tt_fit_outline.specs.Parts.{parts_with}
 use Rattle.tt_face.specs.Programs.{ProgramTables}
-use Rattle.tt_fit.specs.Preparation.{font_program, control_value_program, with_definitions, programs_work, with_fallback, within_work, begun_at, left_at, work_at, prepared}
+use Rattle.tt_fit.specs.Preparation.{font_program, control_value_program, with_definitions, programs_work, with_fallback, within_work, begun_at, left_at, work_from, work_at, prepared}
+use Rattle.tt_fit.specs.Rules.{runs_programs}
 use Rattle.tt_fit_outline.specs.Scaling.{scaled_outline}
 use Rattle.tt_fit_outline.specs.Work.{IsUnbounded, RefusalLeaves, if_ok, code_work, program_work, hinted_work}
 use Rattle.tt_fit.specs.Work.{joined_work}
@@ -41,7 +42,7 @@ of-code program parts = unbounded (run_from program (fresh parts))
 of-program : (parts : Parts) (p : GlyphProgram) (o : Outline) → program_work parts p o None ≡ enough None
 unfolding program_work
 of-program parts p o =
-    after-ok (on_grid_at p.glyph_at o.phantom) (λ grid. code_work (program_in_glyf p) (parts_with parts p.units o grid))
+    after-ok (on_grid_at p.grid p.glyph_at o.phantom) (λ grid. code_work (program_in_glyf p) (parts_with parts p.units o grid))
     (λ grid. of-code (program_in_glyf p) (parts_with parts p.units o grid))
 
 where-run : (is : Bool) (worked : Worked) → worked ≡ enough None → (if is then worked else enough None) ≡ enough None
@@ -50,7 +51,7 @@ where-run false worked free = refl
 
 of-hinted : (hinting : Hinting) (p : GlyphProgram) (o : Outline) → hinted_work hinting p o None ≡ enough None
 of-hinted off p o = refl
-of-hinted (ready parts) p o = where-run (is_run parts p) (program_work parts p o None) (of-program parts p o)
+of-hinted (ready parts) p o = where-run (is_run p) (program_work parts p o None) (of-program parts p o)
 
 of-joined : (add : Record → Outline → Result Outline Fault) (work : Record → Option ℕ → Worked)
     → ((r : Record) → work r None ≡ enough None) → (rs : List Record) (o : Outline)
@@ -65,7 +66,7 @@ of-made : (s : Fitter) (add : Record → Outline → Result Outline Fault) (work
 of-made s add work free g empty = refl
 of-made s add work free g (simple d) =
     let program = simple_program s g d in
-    after-ok (start s d.x_min g) (simple_work s g d.points d.ends program)
+    after-ok (simple_start s d.x_min g d.code) (simple_work s g d.points d.ends program)
     (λ o. after-ok (scaled_outline (size_of s) (glyph_offset s.tables g) d.points d.ends o)
     (hinted_work s.hinting program) (of-hinted s.hinting program))
 of-made s add work free g (composite d) =
@@ -97,6 +98,13 @@ of-programs parts programs =
     (after-ok (run_of (font_program programs.fpgm) parts)
     (λ font. code_work (control_value_program programs.prep) (with_definitions parts font))
     (λ font. of-code (control_value_program programs.prep) (with_definitions parts font)))
+
+pub of-left : (m : Metrics) (programs : ProgramTables) (ppem : ℕ) (how : Fit)
+    → work_from m programs ppem how None ≡ enough None
+of-left m programs ppem how =
+    let parts = begun_at m programs ppem how in
+    where-run (runs_programs how programs.fpgm programs.prep) (programs_work parts programs None)
+    (of-programs parts programs)
 
 within : (left : Result Hinting Fault) → with_fallback left ≡ within_work (enough None) left
 within (Ok hinting) = refl

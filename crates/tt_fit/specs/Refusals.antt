@@ -30,6 +30,7 @@ use Rattle.tt_fit.specs.Rules.{of_profile}
 use Rattle.tt_fit_outline.specs.Hinting.{off, ready, run_of, by_program}
 use Rattle.tt_fit_outline.specs.Scaling.{blank, scaled_outline, settled}
 use Rattle.tt_fit_outline.specs.Work.{program_work}
+use Rattle.tt_fit_outline.specs.declared.grid.GridRule.TheVariants as grid_rule
 use Rattle.tt_fit_outline.specs.declared.rules.Scaling.TheVariants as scaling
 
 abbrev its_metrics : Metrics
@@ -52,6 +53,7 @@ its_fitter fallback = record {
   metrics = its_metrics;
   ppem = 16;
   scaling = scaling.Exact;
+  grid = grid_rule.Always;
   hinting = ready (begun_parts its_metrics [] 16 of_profile);
   fallback = fallback;
   levels = level_limit;

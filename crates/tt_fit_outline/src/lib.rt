@@ -7,6 +7,7 @@ mod glyph_zone;
 mod grid;
 mod hinting;
 mod joining;
+pub mod laws;
 mod outline;
 mod outline_fault;
 mod parts;
