@@ -33,7 +33,7 @@ off-within (enough after) left is = rw is refl
 off-within (spent f) left is = refl
 
 -- where both programs are empty
-left-where-empty : (m : Metrics) (programs : ProgramTables) (ppem : ℕ) → AreEmpty programs
+pub left-where-empty : (m : Metrics) (programs : ProgramTables) (ppem : ℕ) → AreEmpty programs
     → left_at m programs ppem fit.Best ≡ Ok off
 left-where-empty m programs ppem are = rw (are.fpgm, are.prep) refl
 

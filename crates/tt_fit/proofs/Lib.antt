@@ -5,6 +5,7 @@ mod Filling
 pub mod GlyphPrograms
 pub mod Hinted
 pub mod Hintings
+mod Leftovers
 pub mod Levels
 pub mod Bounds
 pub mod Counts

@@ -40,7 +40,12 @@ abbrev pub EmptyIsOff : Type 0
 EmptyIsOff = (m : Metrics) (tables : Glyf) (programs : ProgramTables) (ppem : ℕ) (s : Fitter) (g : ℕ)
     → AreEmpty programs → fitter_of m tables programs ppem fit.Best ≡ Ok s → is_hinted s g ≡ false
 
--- likewise where the control value program switched glyph programs off
+-- and no glyph of such a font is unfitted
+abbrev pub LeftoversFit : Type 0
+LeftoversFit = (m : Metrics) (tables : Glyf) (programs : ProgramTables) (ppem : ℕ) (s : Fitter) (g : ℕ)
+    → AreEmpty programs → fitter_of m tables programs ppem fit.Best ≡ Ok s → unfitted_fault s g ≡ None
+
+-- hinting is off where the control value program switched glyph programs off
 abbrev pub SwitchedIsOff : Type 0
 SwitchedIsOff = (m : Metrics) (tables : Glyf) (programs : ProgramTables) (ppem : ℕ) (s : Fitter) (g : ℕ)
     → SwitchedOff m programs ppem → fitter_of m tables programs ppem fit.Best ≡ Ok s → is_hinted s g ≡ false

@@ -7,6 +7,7 @@ pub mod Hinted
 pub mod Laws
 pub mod Preparation
 pub mod Refusals
+pub mod Rounding
 pub mod Rules
 pub mod Views
 pub mod Work

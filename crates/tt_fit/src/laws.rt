@@ -2,7 +2,7 @@
 
 ghost use Rattle.tt_fit.specs.Laws.{OutlinesAreWhole, OutlineFaultsStand, FallbackFits, FallbackScales, FallbackRefuses, FallbackUnfitsAll, OthersNeverFallBack, FullIsByPrograms, NoneIsWithoutPrograms, UnboundedIsEnough, OthersAreUnbounded, UnboundedStays, SpentWorkUnfits, SpentProgramsUnfitAll, BestIsBounded, WorkFalls, OriginalsAreScaled, OthersMeasureInPixels, OthersFillNone, RulesStay, UnfittedByTypeOne, EmptyByTypeOne, SkippedByTypeOne, FittedByScan, OffFillsNone, OtherTypesFillNone};
 ghost use Rattle.tt_fit.specs.Counting.{OutlinesAreCounted};
-ghost use Rattle.tt_fit.specs.Hinted.{BestRoundsWhereHinted, OthersRoundAlways, EmptyIsOff, SwitchedIsOff, UnfittedIsOff, OffIsPlain, EndsAreWhole, SimpleStepsAreWhole};
+ghost use Rattle.tt_fit.specs.Hinted.{BestRoundsWhereHinted, OthersRoundAlways, EmptyIsOff, LeftoversFit, SwitchedIsOff, UnfittedIsOff, OffIsPlain, EndsAreWhole, SimpleStepsAreWhole};
 
 /// Lemma: an outline means that the glyph and its components have no defect, and a fault names a defect they have.
 pub fn outlines_are_whole()
@@ -60,10 +60,11 @@ pub fn others_fill_none()
 {}
 
 /// Lemma: with `Fit::Best` hinting is off for every glyph where the font program and the control value program are both
-/// empty, or glyph programs are switched off. For an unfitted glyph it is off too. Where it is off, the outline is the
-/// one that all programs empty and no ROUND_XY_TO_GRID would give.
+/// empty, or glyph programs are switched off. Where both are empty no glyph is unfitted. For an unfitted glyph hinting is
+/// off too. Where it is off, the outline is the one that all programs empty and no ROUND_XY_TO_GRID would give.
 pub fn hinting_is_off()
     ensures empty { EmptyIsOff }
+    ensures leftovers { LeftoversFit }
     ensures switched { SwitchedIsOff }
     ensures unfitted { UnfittedIsOff }
     ensures plain { OffIsPlain }

@@ -1,0 +1,187 @@
+-- Without programs no glyph is unfitted: all faults are those of the font's tables.
+use Rattle.std.proofs.Common.{◌≡◌, ◌∙◌, sym, ap, subst, ℕ, zero, suc, false, List, Option, Some, None, Result, Ok, Err, inl, inr, refl}
+use Rattle.std.specs.Prelude.{IsOkAnd, ◌⊎◌}
+use Rattle.tt_core.specs.Faults.{Fault, fault_at, why_number}
+use Rattle.tt_core.specs.declared.fault.Why.{Why}
+use Rattle.tt_core.specs.declared.fault.Why.TheVariants as why
+use Rattle.tt_core.specs.Limits.{work_limit}
+use Rattle.tt_exec.specs.Work.{Worked, enough}
+use Rattle.tt_face.specs.Programs.{ProgramTables}
+use Rattle.tt_glyf.specs.Bytes.{GlyphBytes}
+use Rattle.tt_glyf.specs.Defects.{IsCut, IsBadRun, IsFlagDefect, IsCoordinateDefect, IsSimpleDefect, IsBadRecord, IsCompositeDefect, IsBadGlyph, IsGlyphDefect}
+use Rattle.tt_glyf.specs.GlyphData.{glyph_data_of}
+use Rattle.tt_glyf.specs.Loca.{Glyf, glyph_offset}
+use Rattle.tt_glyf.specs.Raw.{Raw, empty, simple, composite}
+use Rattle.tt_glyf.specs.declared.raw.Record.{Record}
+use Rattle.tt_metrics.specs.Metrics.{Metrics}
+use Rattle.tt_fit.specs.declared.programs.Fit.TheVariants as fit
+use Rattle.tt_fit.specs.Defects.{IsEndsDefect, IsGridDefect, IsHintingDefect, IsPlacingDefect, IsMakingDefect, IsDefectBy, IsBadComponent, IsDefectAt, IsOutlineDefect}
+use Rattle.tt_fit.specs.Fallback.{Fallback, where_refused, hinting_for, is_program_fault}
+use Rattle.tt_fit.specs.Fitting.{Fitter, with_hinting, size_of, start, glyph_grid, simple_start, simple_program, composite_program, joined, added, outline_at, glyph_fitter, unfitted_fault, fitted_outline}
+use Rattle.tt_fit.specs.Hinted.{LeftoversFit}
+use Rattle.tt_fit.specs.Laws.{AreEmpty, HasWork}
+use Rattle.tt_fit.specs.Preparation.{within_work, left_at, work_at, prepared, fitter_of}
+use Rattle.tt_fit_outline.specs.declared.grid.Grid.{Grid}
+use Rattle.tt_fit_outline.specs.Hinting.{Hinting, off}
+use Rattle.tt_fit_outline.specs.Outline.{Outline, PhantomPoints}
+use Rattle.tt_fit_outline.specs.Scaling.{glyf_fault}
+use Rattle.tt_fit.proofs.Falling.{fitted-where-made, fitted-where-short, never-unfitted, made-fitted}
+use Rattle.tt_fit.proofs.Hinted.{left-where-empty, off-where-empty}
+use Rattle.tt_fit.proofs.Standing.{faults-stand}
+use Rattle.tt_fit.proofs.Unbounded.{off-is-free}
+
+-- a fault of a table
+abbrev IsTables : Fault → Type 0
+IsTables f = is_program_fault f ≡ false
+
+by-why : (f told : Fault) → f ≡ told → IsTables told → IsTables f
+by-why f told same of_table = rw same of_table
+
+cut : (g : GlyphBytes) (end : ℕ) (f : Fault) → IsCut g end f → IsTables f
+unfolding is_program_fault why_number
+cut g end f bad = rw (bad.1) refl
+
+bad-run : (g : GlyphBytes) (at left : ℕ) (f : Fault) → IsBadRun g at left f → IsTables f
+unfolding is_program_fault why_number
+bad-run g at left f (inl short) = cut g _ f short
+bad-run g at left f (inr long) = rw (long.1) refl
+
+bad-simple : (g : GlyphBytes) (contours : ℕ) (f : Fault) → IsSimpleDefect g contours f → IsTables f
+unfolding is_program_fault why_number
+bad-simple g contours f (inl short) = cut g _ f short
+bad-simple g contours f (inr (inl falls)) = rw (falls.4) refl
+bad-simple g contours f (inr (inr (inl many))) = rw (many.2) refl
+bad-simple g contours f (inr (inr (inr (inl flags)))) = bad-run g _ _ f flags.2
+bad-simple g contours f (inr (inr (inr (inr places)))) = elim (places.2) [
+  | inl short ↦ cut g _ f short
+  | inr leaves ↦ rw (leaves.1) refl
+]
+
+bad-record : (glyphs : ℕ) (g : GlyphBytes) (at : ℕ) (f : Fault) → IsBadRecord glyphs g at f → IsTables f
+unfolding is_program_fault why_number
+bad-record glyphs g at f (inl short) = cut g _ f short
+bad-record glyphs g at f (inr (inl unknown)) = rw (unknown.1) refl
+bad-record glyphs g at f (inr (inr scaled)) = rw (scaled.1) refl
+
+bad-composite : (glyphs : ℕ) (g : GlyphBytes) (f : Fault) → IsCompositeDefect glyphs g f → IsTables f
+unfolding is_program_fault why_number
+bad-composite glyphs g f (inl (inl one)) = bad-record glyphs g _ f one.3
+bad-composite glyphs g f (inl (inr many)) = rw (many.1) refl
+bad-composite glyphs g f (inr (n, goes, last, has, short)) = cut g _ f short
+
+bad-glyph : (glyphs : ℕ) (g : GlyphBytes) (f : Fault) → IsBadGlyph glyphs g f → IsTables f
+bad-glyph glyphs g f (inl short) = cut g _ f short
+bad-glyph glyphs g f (inr (inl of_simple)) = bad-simple g _ f of_simple.2
+bad-glyph glyphs g f (inr (inr of_composite)) = bad-composite glyphs g f of_composite.2
+
+bad-data : (t : Glyf) (g : ℕ) (f : Fault) → IsGlyphDefect t g f → IsTables f
+unfolding is_program_fault why_number
+bad-data t g f (inl range) = rw (range.2) refl
+bad-data t g f (inr bytes) = bad-glyph t.glyphs _ f bytes.1
+
+-- a glyph that can be read
+within : {X : Type 0} (x : Result X Fault) (P : X → Type 0) (f : Fault) → ((y : X) → P y → IsTables f) → IsOkAnd x P
+    → IsTables f
+within (Ok y) P f each holds = each y holds
+within (Err e) P f each holds = absurd holds
+
+bad-start : (at : ℕ) (f : Fault) → f ≡ glyf_fault at why.CoordRange → IsTables f
+unfolding is_program_fault why_number
+bad-start at f is = rw is refl
+
+bad-place : (s : Fitter) (r : Record) (component o : Outline) (f : Fault)
+    → IsPlacingDefect (glyph_grid s) (size_of s) r component o f → IsTables f
+unfolding is_program_fault why_number
+bad-place s r component o f (inl unmatched) = rw (unmatched.2) refl
+bad-place s r component o f (inr (inl landing)) = within _ _ f (λ by bad. bad-start r.at f bad.4) landing
+bad-place s r component o f (inr (inr many)) = rw (many.1) refl
+
+bad-ends : (by : Grid) (at : ℕ) (code : List ℕ) (o : Outline) (f : Fault) → IsEndsDefect by at code o f → IsTables f
+bad-ends by at code o f (up, none, exceeds) = bad-start at f exceeds.1
+
+abbrev OnlyTables : (Record → Result Outline Fault → Fault → Type 0) → Type 0
+OnlyTables IsOne = (r : Record) (before : Result Outline Fault) (f : Fault) → IsOne r before f → IsTables f
+
+-- a fitter whose hinting is off
+abbrev unhinted : Fitter → Fitter
+unhinted s = with_hinting s off
+
+bad-making : (s : Fitter) (IsOne : Record → Result Outline Fault → Fault → Type 0) → OnlyTables IsOne
+    → (add : Record → Outline → Result Outline Fault) (g : ℕ) (d : Raw) (f : Fault)
+    → IsMakingDefect (unhinted s) add IsOne g d f → IsTables f
+bad-making s IsOne only add g empty f bad = bad-start (glyph_offset s.tables g) f bad.1
+bad-making s IsOne only add g (simple d) f (inl of_start) = bad-start (glyph_offset s.tables g) f of_start.1
+bad-making s IsOne only add g (simple d) f (inr (inl ends)) =
+    within _ _ f (λ o bad. bad-ends _ (glyph_offset s.tables g) d.code o f bad) ends
+bad-making s IsOne only add g (simple d) f (inr (inr (inl point))) =
+    bad-start (glyph_offset s.tables g) f point.4
+bad-making s IsOne only add g (simple d) f (inr (inr (inr program))) = within _ _ f (λ o bad. absurd bad) program
+bad-making s IsOne only add g (composite d) f (inl of_start) = bad-start (glyph_offset s.tables g) f of_start.1
+bad-making s IsOne only add g (composite d) f (inr (inl one)) = only one.1 _ f one.3
+bad-making s IsOne only add g (composite d) f (inr (inr program)) = within _ _ f (λ o bad. absurd bad) program
+
+bad-by : (s : Fitter) (IsOne : Record → Result Outline Fault → Fault → Type 0) → OnlyTables IsOne
+    → (add : Record → Outline → Result Outline Fault) (g : ℕ) (f : Fault)
+    → IsDefectBy (unhinted s) add IsOne g f → IsTables f
+bad-by s IsOne only add g f (inl unread) = bad-data s.tables g f unread
+bad-by s IsOne only add g f (inr making) =
+    within (glyph_data_of s.tables g) _ f (λ d bad. bad-making s IsOne only add g d f bad) making
+
+bad-component : (s : Fitter) (levels : ℕ) → OnlyTables (IsBadComponent (unhinted s) levels)
+unfolding IsBadComponent is_program_fault why_number
+bad-component s zero = λ r before f bad. rw bad refl
+bad-component s (suc levels) = λ r before f bad. elim bad [
+  | inl own ↦ bad-by s (IsBadComponent (unhinted s) levels) (bad-component s levels) _ r.glyph f own
+  | inr placing ↦
+      within before _ f (λ o there. within _ _ f (λ component at. bad-place (unhinted s) r component o f at) there)
+      placing
+]
+
+-- the outline without programs is refused for a fault of a table
+off-refused : (s : Fitter) (g : ℕ) (f : Fault) → outline_at (unhinted s) s.levels g ≡ Err f → IsTables f
+unfolding IsOutlineDefect
+off-refused s g f was =
+    let t = unhinted s in
+    let fitted = made-fitted t g (never-unfitted t g refl) in
+    let stands : IsDefectAt (glyph_fitter t g) s.levels g f = faults-stand t g f (fitted ∙ was) in
+    let P : Option Fault → Type 0 = λ u. IsDefectAt (with_hinting t (hinting_for u off)) s.levels g f in
+    bad-by s (IsBadComponent t s.levels) (bad-component s s.levels) (added t s.levels) g f
+    (subst P (never-unfitted t g refl) stands)
+
+-- the fitter of a font without programs
+of-fitter : (t s : Fitter) → ◌≡◌ {A = Result Fitter Fault} (Ok t) (Ok s) → s.fallback ≡ t.fallback
+of-fitter t s is = let same : t ≡ s = cc in ap (λ (x : Fitter). x.fallback) (sym same)
+
+fallback-of : (m : Metrics) (tables : Glyf) (programs : ProgramTables) (ppem : ℕ) (s : Fitter)
+    → fitter_of m tables programs ppem fit.Best ≡ Ok s
+    → s.fallback ≡ (within_work (work_at m programs ppem fit.Best) (left_at m programs ppem fit.Best)).fallback
+unfolding fitter_of prepared
+fallback-of m tables programs ppem s is = of-fitter _ s is
+
+falls-back : (worked : Worked) (left : Result Hinting Fault) (rest : Option ℕ) → worked ≡ enough rest → left ≡ Ok off
+    → (within_work worked left).fallback ≡ where_refused
+falls-back worked left rest pays is = rw (pays, is) refl
+
+nothing-spent : (m : Metrics) (programs : ProgramTables) (ppem : ℕ) → AreEmpty programs
+    → work_at m programs ppem fit.Best ≡ enough (Some work_limit)
+nothing-spent m programs ppem are = rw (are.fpgm, are.prep) refl
+
+-- by its outline a glyph is fitted
+by-outline : (s : Fitter) (g : ℕ) → s.fallback ≡ where_refused → s.hinting ≡ off → HasWork s g
+    → (x : Result Outline Fault) → outline_at (with_hinting s s.hinting) s.levels g ≡ x → unfitted_fault s g ≡ None
+by-outline s g falls is has (Ok o) made = fitted-where-made s g o falls has made
+by-outline s g falls is has (Err f) fails =
+    let P : Hinting → Type 0 = λ h. outline_at (with_hinting s h) s.levels g ≡ Err f in
+    fitted-where-short s g f falls has fails (off-refused s g f (subst P is fails))
+
+fitted-off : (s : Fitter) (g : ℕ) → s.fallback ≡ where_refused → s.hinting ≡ off → unfitted_fault s g ≡ None
+fitted-off s g falls is =
+    by-outline s g falls is (s.work, off-is-free (with_hinting s s.hinting) s.levels g s.work is)
+    (outline_at (with_hinting s s.hinting) s.levels g) refl
+
+pub leftovers-fit : LeftoversFit
+leftovers-fit m tables programs ppem s g are is =
+    let falls = fallback-of m tables programs ppem s is
+    ∙ falls-back (work_at m programs ppem fit.Best) (left_at m programs ppem fit.Best) (Some work_limit)
+    (nothing-spent m programs ppem are) (left-where-empty m programs ppem are) in
+    fitted-off s g falls (off-where-empty m tables programs ppem s are is)
