@@ -54,9 +54,14 @@ near (negsuc n) low = absurd (omega (arith, ints))
 pub steps-are-near : StepsAreNear
 steps-are-near o low = near (advance_left o) low
 
+none-below : (n : ℤ) → n ≤ℤ pos 0 → at_least_zero n ≡ 0
+none-below (pos n) low = omega (arith, ints)
+none-below (negsuc n) low = refl
+
 forward : (v : ℤ) → v <ℤ pos 0 → pixels_of v ≡ 0
-forward (pos n) low = absurd (omega (arith, ints))
-forward (negsuc n) low = ?
+forward v low =
+    let below = floor-below (v +ℤ pos 32) in
+    none-below (int_div_euclid (v +ℤ pos 32) (pos 64)) (omega (arith, ints, below, low))
 
 pub steps-are-forward : StepsAreForward
 steps-are-forward o low = forward (advance_left o) low
