@@ -1,26 +1,26 @@
 -- With hinting on, the ends of a simple glyph's advance are whole pixels.
-use Rattle.std.proofs.Common.{◌≡◌, ◌∙◌, sym, ap, subst, ℕ, ◌==◌, Bool, true, false, if◌then◌else◌, List, [], Option, Result, Ok, ℤ, pos, negsuc, ◌+ℤ◌, ◌-ℤ◌, ◌*ℤ◌, refl, arith}
+use Rattle.std.proofs.Common.{◌≡◌, ◌∙◌, ap, subst, ℕ, ◌==◌, true, if◌then◌else◌, List, [], length, Result, Ok, ℤ, pos, ◌+ℤ◌, ◌-ℤ◌, ◌*ℤ◌, refl, arith}
 use Rattle.std.specs.Int.{int_div_euclid}
 use Rattle.std.proofs.lemmas.Int.{ints}
 use Rattle.tt_core.specs.Chains.{came-through, passed-else}
 use Rattle.tt_core.specs.Faults.{Fault}
-use Rattle.tt_core.specs.Outcomes.{◌>>=◌, each}
-use Rattle.tt_glyf.specs.GlyphData.{glyph_data_of}
+use Rattle.tt_core.specs.Outcomes.{each}
 use Rattle.tt_glyf.specs.Loca.{glyph_offset}
-use Rattle.tt_glyf.specs.Raw.{Raw, SimpleGlyph, simple}
+use Rattle.tt_glyf.specs.Raw.{simple}
 use Rattle.tt_glyf.specs.declared.raw.RawPoint.{RawPoint}
-use Rattle.tt_fit.specs.Fitting.{Fitter, size_of, start, glyph_grid, simple_start, simple_program, simple_outline, made, added, glyph_fitter, fitted_outline}
+use Rattle.tt_fit.specs.Fitting.{Fitter, size_of, start, glyph_grid, simple_start, simple_program, made, added, glyph_fitter, fitted_outline}
 use Rattle.tt_fit.specs.Hinted.{IsWhole, EndsAreWhole, HasWholeStep, SimpleStepsAreWhole}
+use Rattle.tt_fit_outline.specs.declared.grid.Grid.{Grid}
 use Rattle.tt_fit_outline.specs.declared.grid.Grid.TheVariants as rounding
 use Rattle.tt_fit_outline.specs.declared.grid.GridRule.{GridRule}
 use Rattle.tt_fit_outline.specs.declared.grid.GridRule.TheVariants as grid_rule
 use Rattle.tt_fit_outline.specs.GlyphZone.{GlyphProgram, on_grid, are_on_grid, on_grid_at, settled_ends}
 use Rattle.tt_fit_outline.specs.Grid.{up}
-use Rattle.tt_fit_outline.specs.Hinting.{Hinting, off, ready, is_on, is_run, grid_by, hinted}
+use Rattle.tt_fit_outline.specs.Hinting.{Hinting, off, ready, is_on, grid_by, hinted}
 use Rattle.tt_fit_outline.specs.Outline.{Outline, PhantomPoints}
 use Rattle.tt_fit_outline.specs.Scaling.{scaled_point, scaled_outline}
 use Rattle.tt_fit_outline.specs.Size.{FontSize}
-use Rattle.tt_fit_outline.specs.Steps.{at_least_zero, pixels_of, step_of}
+use Rattle.tt_fit_outline.specs.Steps.{at_least_zero, pixels_of}
 
 -- on the grid
 abbrev whole_pixels : ℤ → ℤ
@@ -53,12 +53,17 @@ settled-ends at o begun was =
     let P : Outline → Type 0 = λ x. IsWhole x.phantom.left.0 × IsWhole x.phantom.right.0 in
     subst P same (ends-are-whole at o.phantom grid.value grid.first)
 
+settled-by : (by : Grid) (at : ℕ) (code : List ℕ) (o begun : Outline) → by ≡ rounding.Up → code ≡ []
+    → (if length code == 0 then settled_ends by at o else Ok o) ≡ Ok begun
+    → IsWhole begun.phantom.left.0 × IsWhole begun.phantom.right.0
+settled-by by at code o begun up none was = settled-ends at o begun (rw (up, none) at was)
+
 started-ends : (s : Fitter) (x_min : ℤ) (g : ℕ) (code : List ℕ) (begun : Outline) → glyph_grid s ≡ rounding.Up
     → code ≡ [] → simple_start s x_min g code ≡ Ok begun
     → IsWhole begun.phantom.left.0 × IsWhole begun.phantom.right.0
 started-ends s x_min g code begun up none was =
     let first = came-through (start s x_min g) _ begun was in
-    settled-ends (glyph_offset s.tables g) first.value begun (rw (none, up) at first.rest)
+    settled-by (glyph_grid s) (glyph_offset s.tables g) code first.value begun up none first.rest
 
 -- neither scaling nor an empty program moves them
 scaled-ends : (z : FontSize) (at : ℕ) (ds : List RawPoint) (ends : List ℕ) (begun o : Outline)

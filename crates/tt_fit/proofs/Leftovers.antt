@@ -1,29 +1,28 @@
 -- Without programs no glyph is unfitted: all faults are those of the font's tables.
 use Rattle.std.proofs.Common.{◌≡◌, ◌∙◌, sym, ap, subst, ℕ, zero, suc, false, List, Option, Some, None, Result, Ok, Err, inl, inr, refl}
-use Rattle.std.specs.Prelude.{IsOkAnd, ◌⊎◌}
-use Rattle.tt_core.specs.Faults.{Fault, fault_at, why_number}
-use Rattle.tt_core.specs.declared.fault.Why.{Why}
+use Rattle.std.specs.Prelude.{IsOkAnd}
+use Rattle.tt_core.specs.Faults.{Fault, why_number}
 use Rattle.tt_core.specs.declared.fault.Why.TheVariants as why
 use Rattle.tt_core.specs.Limits.{work_limit}
 use Rattle.tt_exec.specs.Work.{Worked, enough}
 use Rattle.tt_face.specs.Programs.{ProgramTables}
 use Rattle.tt_glyf.specs.Bytes.{GlyphBytes}
-use Rattle.tt_glyf.specs.Defects.{IsCut, IsBadRun, IsFlagDefect, IsCoordinateDefect, IsSimpleDefect, IsBadRecord, IsCompositeDefect, IsBadGlyph, IsGlyphDefect}
+use Rattle.tt_glyf.specs.Defects.{IsCut, IsBadRun, IsSimpleDefect, IsBadRecord, IsCompositeDefect, IsBadGlyph, IsGlyphDefect}
 use Rattle.tt_glyf.specs.GlyphData.{glyph_data_of}
 use Rattle.tt_glyf.specs.Loca.{Glyf, glyph_offset}
 use Rattle.tt_glyf.specs.Raw.{Raw, empty, simple, composite}
 use Rattle.tt_glyf.specs.declared.raw.Record.{Record}
 use Rattle.tt_metrics.specs.Metrics.{Metrics}
 use Rattle.tt_fit.specs.declared.programs.Fit.TheVariants as fit
-use Rattle.tt_fit.specs.Defects.{IsEndsDefect, IsGridDefect, IsHintingDefect, IsPlacingDefect, IsMakingDefect, IsDefectBy, IsBadComponent, IsDefectAt, IsOutlineDefect}
-use Rattle.tt_fit.specs.Fallback.{Fallback, where_refused, hinting_for, is_program_fault}
-use Rattle.tt_fit.specs.Fitting.{Fitter, with_hinting, size_of, start, glyph_grid, simple_start, simple_program, composite_program, joined, added, outline_at, glyph_fitter, unfitted_fault, fitted_outline}
+use Rattle.tt_fit.specs.Defects.{IsEndsDefect, IsPlacingDefect, IsMakingDefect, IsDefectBy, IsBadComponent, IsDefectAt, IsOutlineDefect}
+use Rattle.tt_fit.specs.Fallback.{where_refused, hinting_for, is_program_fault}
+use Rattle.tt_fit.specs.Fitting.{Fitter, with_hinting, size_of, glyph_grid, added, outline_at, glyph_fitter, unfitted_fault}
 use Rattle.tt_fit.specs.Hinted.{LeftoversFit}
 use Rattle.tt_fit.specs.Laws.{AreEmpty, HasWork}
 use Rattle.tt_fit.specs.Preparation.{within_work, left_at, work_at, prepared, fitter_of}
 use Rattle.tt_fit_outline.specs.declared.grid.Grid.{Grid}
 use Rattle.tt_fit_outline.specs.Hinting.{Hinting, off}
-use Rattle.tt_fit_outline.specs.Outline.{Outline, PhantomPoints}
+use Rattle.tt_fit_outline.specs.Outline.{Outline}
 use Rattle.tt_fit_outline.specs.Scaling.{glyf_fault}
 use Rattle.tt_fit.proofs.Falling.{fitted-where-made, fitted-where-short, never-unfitted, made-fitted}
 use Rattle.tt_fit.proofs.Hinted.{left-where-empty, off-where-empty}

@@ -1,6 +1,6 @@
 -- OpenType, "The 'glyf' table": the outline of a glyph at a size, with its components made first, in the order of their
 -- records.
-use Rattle.std.specs.Prelude.{◌≡◌, ℕ, zero, suc, ◌-◌, ◌≤◌, ◌==◌, Bool, true, if◌then◌else◌, ℤ, pos, neg_ℤ, ◌+ℤ◌, codes, List, [], ◌∷◌, Option, Some, None, Result, Ok, Err, refl}
+use Rattle.std.specs.Prelude.{◌≡◌, ℕ, zero, suc, ◌-◌, ◌≤◌, ◌==◌, Bool, true, if◌then◌else◌, ℤ, pos, neg_ℤ, ◌+ℤ◌, codes, List, [], ◌∷◌, length, Option, Some, None, Result, Ok, Err, refl}
 use Rattle.tt_core.specs.Faults.{Fault}
 use Rattle.tt_core.specs.declared.fault.Why.TheVariants as why
 use Rattle.tt_core.specs.Faults.{fault_at}

@@ -33,8 +33,8 @@ use tt_glyf::Glyf;
 use tt_metrics::Metrics;
 
 /// Makes the outlines of a font at a size. Clauses see the glyph data, the metrics, the size, when distances are rounded
-/// to whole pixels, and what the font's programs gave. They also see which glyphs are unfitted, the depth limit of components, the job's remaining work, and
-/// the source of the dropout rules.
+/// to whole pixels, and what the font's programs gave. They also see which glyphs are unfitted, the depth limit of
+/// components, the job's remaining work, and the source of the dropout rules.
 #[derive(Drop)]
 pub struct Fitter<'a> {
     pub(crate) alloc: Global,
