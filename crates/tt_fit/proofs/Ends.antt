@@ -14,13 +14,14 @@ use Rattle.tt_fit_outline.specs.declared.grid.Grid.{Grid}
 use Rattle.tt_fit_outline.specs.declared.grid.Grid.TheVariants as rounding
 use Rattle.tt_fit_outline.specs.declared.grid.GridRule.{GridRule}
 use Rattle.tt_fit_outline.specs.declared.grid.GridRule.TheVariants as grid_rule
-use Rattle.tt_fit_outline.specs.GlyphZone.{GlyphProgram, on_grid, are_on_grid, on_grid_at, settled_ends}
+use Rattle.tt_fit_outline.specs.GlyphZone.{GlyphProgram, on_grid, are_on_grid, on_grid_at, ends_on_grid}
 use Rattle.tt_fit_outline.specs.Grid.{up}
 use Rattle.tt_fit_outline.specs.Hinting.{Hinting, off, ready, is_on, grid_by, hinted}
 use Rattle.tt_fit_outline.specs.Outline.{Outline, PhantomPoints}
 use Rattle.tt_fit_outline.specs.Scaling.{scaled_point, scaled_outline}
 use Rattle.tt_fit_outline.specs.Size.{FontSize}
 use Rattle.tt_fit_outline.specs.Steps.{at_least_zero, pixels_of}
+use Rattle.tt_fit_outline.proofs.Pixels.{floor-below, floor-above}
 
 -- on the grid
 abbrev whole_pixels : ℤ → ℤ
@@ -37,7 +38,10 @@ ends-are-whole at p q was =
 
 -- the step between whole pixels
 floor-of : (n : ℤ) → int_div_euclid (pos 64 *ℤ n +ℤ pos 32) (pos 64) ≡ n
-floor-of n = omega (arith, ints)
+floor-of n =
+    let below = floor-below (pos 64 *ℤ n +ℤ pos 32) in
+    let above = floor-above (pos 64 *ℤ n +ℤ pos 32) in
+    omega (arith, ints, below, above)
 
 step-whole : (a b n k : ℤ) → a ≡ pos 64 *ℤ n → b ≡ pos 64 *ℤ k → pixels_of (b -ℤ a) ≡ at_least_zero (k -ℤ n)
 step-whole a b n k of_a of_b =
@@ -45,7 +49,7 @@ step-whole a b n k of_a of_b =
     rw apart (ap at_least_zero (floor-of (k -ℤ n)))
 
 -- the ends of a simple glyph without a program
-settled-ends : (at : ℕ) (o begun : Outline) → settled_ends rounding.Up at o ≡ Ok begun
+settled-ends : (at : ℕ) (o begun : Outline) → ends_on_grid rounding.Up at o ≡ Ok begun
     → IsWhole begun.phantom.left.0 × IsWhole begun.phantom.right.0
 settled-ends at o begun was =
     let grid = came-through (on_grid_at rounding.Up at o.phantom) _ begun was in
@@ -54,7 +58,7 @@ settled-ends at o begun was =
     subst P same (ends-are-whole at o.phantom grid.value grid.first)
 
 settled-by : (by : Grid) (at : ℕ) (code : List ℕ) (o begun : Outline) → by ≡ rounding.Up → code ≡ []
-    → (if length code == 0 then settled_ends by at o else Ok o) ≡ Ok begun
+    → (if length code == 0 then ends_on_grid by at o else Ok o) ≡ Ok begun
     → IsWhole begun.phantom.left.0 × IsWhole begun.phantom.right.0
 settled-by by at code o begun up none was = settled-ends at o begun (rw (up, none) at was)
 

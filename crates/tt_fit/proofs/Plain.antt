@@ -16,7 +16,7 @@ use Rattle.tt_fit_outline.specs.declared.grid.GridRule.{GridRule}
 use Rattle.tt_fit_outline.specs.declared.grid.GridRule.TheVariants as grid_rule
 use Rattle.tt_fit_outline.specs.Component.{offset_along, offset_of, point_of, matched_by, shift_of, placed_point}
 use Rattle.tt_fit_outline.specs.Grid.{rounded_to}
-use Rattle.tt_fit_outline.specs.GlyphZone.{settled_ends}
+use Rattle.tt_fit_outline.specs.GlyphZone.{ends_on_grid}
 use Rattle.tt_fit_outline.specs.Hinting.{Hinting, off, ready, is_on, grid_by, hinted}
 use Rattle.tt_fit_outline.specs.Joining.{within_point_limit, phantom_with, scan_after, ends_after, placed, appended}
 use Rattle.tt_fit_outline.specs.Outline.{Outline, PhantomPoints}
@@ -132,17 +132,17 @@ joined-plain add plain_add same (r ∷ rs) o =
 abbrev off_by : Fitter → GridRule → Fitter
 off_by s how = record (with_hinting s off) { grid = how }
 
-settled-off : (how : GridRule) (at : ℕ) (o : Outline) → settled_ends (grid_by how off) at o ≡ Ok o
+settled-off : (how : GridRule) (at : ℕ) (o : Outline) → ends_on_grid (grid_by how off) at o ≡ Ok o
 settled-off grid_rule.Always at o = refl
 settled-off grid_rule.WhereHinted at o = refl
 
 bare-start : (bare : Bool) (how : GridRule) (at : ℕ) (o : Outline)
-    → (if bare then settled_ends (grid_by how off) at o else Ok o) ≡ Ok o
+    → (if bare then ends_on_grid (grid_by how off) at o else Ok o) ≡ Ok o
 bare-start true how at o = settled-off how at o
 bare-start false how at o = refl
 
 started-by : (x : Result Outline Fault) (how : GridRule) (at : ℕ) (code : List ℕ)
-    → (x >>= λ o. if length code == 0 then settled_ends (grid_by how off) at o else Ok o) ≡ x
+    → (x >>= λ o. if length code == 0 then ends_on_grid (grid_by how off) at o else Ok o) ≡ x
 started-by (Ok o) how at code = bare-start (length code == 0) how at o
 started-by (Err f) how at code = refl
 

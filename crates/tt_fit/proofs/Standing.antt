@@ -15,7 +15,7 @@ use Rattle.tt_fit.specs.Defects.{IsStartDefect, IsPlacingDefect, assembled_befor
 use Rattle.tt_fit.specs.Fitting.{Fitter, size_of, start, glyph_grid, simple_start, joined, composite_program, simple_program, made, outline_by, added, glyph_fitter, fitted_outline}
 use Rattle.tt_fit_outline.specs.declared.grid.Grid.{Grid}
 use Rattle.tt_fit_outline.specs.declared.grid.Grid.TheVariants as rounding
-use Rattle.tt_fit_outline.specs.GlyphZone.{GlyphProgram, on_grid_at, settled_ends}
+use Rattle.tt_fit_outline.specs.GlyphZone.{GlyphProgram, on_grid_at, ends_on_grid}
 use Rattle.tt_fit.specs.Laws.{OutlinesAreWhole, OutlineFaultsStand}
 use Rattle.tt_fit_outline.specs.Outline.{Outline}
 use Rattle.tt_fit_outline.specs.Hinting.{Hinting, hinted}
@@ -97,7 +97,7 @@ start-whole s x_min g o f was bad =
 
 -- the ends of a simple glyph without a program
 ends-broke : (by : Grid) (at : ℕ) (code : List ℕ) (o : Outline) (f : Fault)
-    → (if length code == 0 then settled_ends by at o else Ok o) ≡ Err f → IsEndsDefect by at code o f
+    → (if length code == 0 then ends_on_grid by at o else Ok o) ≡ Err f → IsEndsDefect by at code o f
 ends-broke rounding.Up at [] o f was = elim (was-err (on_grid_at rounding.Up at o.phantom) _ f was) [
   | inl here ↦ (refl, refl, grid-broke rounding.Up at o.phantom f here)
   | inr whole ↦ let done = whole.rest in absurd cc
@@ -109,9 +109,9 @@ ends-broke by at (b ∷ bs) o f was =
     let same : ◌≡◌ {A = Result Outline Fault} (Ok o) (Err f) = rw some at was in absurd cc
 
 ends-whole : (by : Grid) (at : ℕ) (code : List ℕ) (o begun : Outline) (f : Fault)
-    → (if length code == 0 then settled_ends by at o else Ok o) ≡ Ok begun → IsEndsDefect by at code o f → ⊥
+    → (if length code == 0 then ends_on_grid by at o else Ok o) ≡ Ok begun → IsEndsDefect by at code o f → ⊥
 ends-whole by at code o begun f was (up, none, bad) =
-    let settled : settled_ends rounding.Up at o ≡ Ok begun = rw (up, none) at was in
+    let settled : ends_on_grid rounding.Up at o ≡ Ok begun = rw (up, none) at was in
     let grid = came-through (on_grid_at rounding.Up at o.phantom) _ begun settled in
     grid-whole rounding.Up at o.phantom grid.value f grid.first bad
 

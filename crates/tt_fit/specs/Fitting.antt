@@ -28,7 +28,7 @@ use Rattle.tt_fit_outline.specs.Outline.{PhantomPoints, Outline}
 use Rattle.tt_fit_outline.specs.declared.grid.Grid.{Grid}
 use Rattle.tt_fit_outline.specs.declared.grid.GridRule.{GridRule}
 use Rattle.tt_fit_outline.specs.declared.grid.GridRule.TheVariants as grid_rule
-use Rattle.tt_fit_outline.specs.GlyphZone.{GlyphProgram, settled_ends}
+use Rattle.tt_fit_outline.specs.GlyphZone.{GlyphProgram, ends_on_grid}
 use Rattle.tt_fit_outline.specs.Hinting.{Hinting, off, IsHinting, is_on, grid_by, hinted}
 use Rattle.tt_fit_outline.specs.Scaling.{glyf_fault, phantom_points, phantom_units, blank, scaled_outline, settled}
 use Rattle.tt_fit_outline.specs.Size.{FontSize, size_by}
@@ -84,7 +84,7 @@ glyph_grid s = grid_by s.grid s.hinting
 -- a simple glyph without points, by its program; without a program its phantom points may be on the grid
 abbrev pub simple_start : Fitter → ℤ → ℕ → List ℕ → Result Outline Fault
 simple_start s x_min g code = start s x_min g >>= λ o.
-    if length code == 0 then settled_ends (glyph_grid s) (glyph_offset s.tables g) o else Ok o
+    if length code == 0 then ends_on_grid (glyph_grid s) (glyph_offset s.tables g) o else Ok o
 
 abbrev pub glyph_program : Fitter → ℕ → List ℕ → ℕ → Option Units → GlyphProgram
 glyph_program s g code code_at units =

@@ -15,7 +15,7 @@ use crate::fitting::Fitter;
 use tt_core::{Fault, Why};
 use tt_fit_outline::{
     FontSize, GlyphProgram, Grid, Hinting, Outline, OutlineFault, Runner, Scaling, Units, blank,
-    glyf_fault, phantom_points, phantom_units, placed, scaled_outline, settled_ends,
+    ends_on_grid, glyf_fault, phantom_points, phantom_units, placed, scaled_outline,
 };
 use tt_glyf::{Raw, RawPoint, Record};
 
@@ -56,7 +56,7 @@ impl<'a> Fitter<'a> {
     {
         let start = self.start(x_min, g)?;
         if code.is_empty() {
-            return settled_ends(self.glyph_grid(hinting), self.glyf.start(g), start);
+            return ends_on_grid(self.glyph_grid(hinting), self.glyf.start(g), start);
         }
         Ok(start)
     }

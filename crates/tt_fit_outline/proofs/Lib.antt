@@ -2,6 +2,6 @@ pub mod Contours
 pub mod Lists
 pub mod Outlines
 pub mod Paid
-mod Pixels
+pub mod Pixels
 pub mod Shifts
 pub mod Zones

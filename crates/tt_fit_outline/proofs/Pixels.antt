@@ -7,11 +7,11 @@ use Rattle.tt_fit_outline.specs.Outline.{IsOutline, Outline}
 use Rattle.tt_fit_outline.specs.Steps.{advance_left, at_least_zero, moved_ends, pixels_of, step_of, StepsAreBounded, StepsAreForward, StepsAreNear, StepsStay}
 
 -- 64 times a floor is at most the number, and less than 64 below it
-floor-below : (v : ℤ) → (pos 64 *ℤ int_div_euclid v (pos 64)) ≤ℤ v
+pub floor-below : (v : ℤ) → (pos 64 *ℤ int_div_euclid v (pos 64)) ≤ℤ v
 floor-below (pos a) = omega (arith, ints)
 floor-below (negsuc a) = omega (arith, ints)
 
-floor-above : (v : ℤ) → v <ℤ (pos 64 *ℤ int_div_euclid v (pos 64) +ℤ pos 64)
+pub floor-above : (v : ℤ) → v <ℤ (pos 64 *ℤ int_div_euclid v (pos 64) +ℤ pos 64)
 floor-above (pos a) = omega (arith, ints)
 floor-above (negsuc a) = omega (arith, ints)
 

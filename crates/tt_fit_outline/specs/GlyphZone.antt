@@ -47,10 +47,10 @@ on_grid_at by at p = if are_on_grid (on_grid by p) then Ok (on_grid by p) else E
 
 -- The outline of a simple glyph without a program that begins at this offset in glyf. Where halves go up, its phantom
 -- points are on the grid too (profile)
-abbrev pub settled_ends : Grid → ℕ → Outline → Result Outline Fault
-settled_ends rounding.Away at o = Ok o
-settled_ends rounding.Up at o = on_grid_at rounding.Up at o.phantom >>= λ p. Ok (record o { phantom = p })
-settled_ends rounding.Unrounded at o = Ok o
+abbrev pub ends_on_grid : Grid → ℕ → Outline → Result Outline Fault
+ends_on_grid rounding.Away at o = Ok o
+ends_on_grid rounding.Up at o = on_grid_at rounding.Up at o.phantom >>= λ p. Ok (record o { phantom = p })
+ends_on_grid rounding.Unrounded at o = Ok o
 
 -- a point not yet touched: its original place, and its current place
 abbrev pub untouched : ℤ × ℤ → ℤ × ℤ → Bool → Point
@@ -137,12 +137,12 @@ unfolding on_grid_at
 past_the_limit = refl
 
 -- without a program, the left end goes from -32 to 0
-without_a_program : settled_ends rounding.Up 0 (record its_shape { phantom = from_a_half }) ≡ Ok
+without_a_program : ends_on_grid rounding.Up 0 (record its_shape { phantom = from_a_half }) ≡ Ok
     (record its_shape { phantom = record { left = (pos 0, pos 0); right = (pos 128, pos 0); ascent = (pos 0, pos 64); descent = (pos 0, pos 0) } })
 unfolding on_grid_at
 without_a_program = refl
 
-with_hinting_off : settled_ends rounding.Unrounded 0 (record its_shape { phantom = from_a_half })
+with_hinting_off : ends_on_grid rounding.Unrounded 0 (record its_shape { phantom = from_a_half })
     ≡ Ok (record its_shape { phantom = from_a_half })
 with_hinting_off = refl
 

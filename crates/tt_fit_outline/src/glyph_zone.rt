@@ -5,7 +5,7 @@ ghost use Rattle.std.specs.Prelude.{◌≡◌, ◌+◌, true, false, length, map
 ghost use Rattle.tt_core.specs.Outcomes.{Gives};
 ghost use Rattle.tt_points_zones.specs.Zones.{IsPoint as IsZonePoint};
 ghost use Rattle.tt_fit_outline.specs.Grid.{rounded_to};
-ghost use Rattle.tt_fit_outline.specs.GlyphZone.{on_grid_at, settled_ends, untouched, outline_point, glyph_zone, contours_from, place_of, seen, left_outline};
+ghost use Rattle.tt_fit_outline.specs.GlyphZone.{on_grid_at, ends_on_grid, untouched, outline_point, glyph_zone, contours_from, place_of, seen, left_outline};
 ghost use Rattle.tt_fit_outline.specs.Outline.{phantom_of, IsCoordinate, IsPoint, IsPosition, ArePhantom};
 ghost use Rattle.tt_fit_outline.specs.Scaling.{coordinate_fault, is_coordinate};
 ghost use Rattle.tt_fit_outline.specs.Units.{IsNear, with_units};
@@ -67,8 +67,8 @@ pub(crate) fn on_grid(grid: Grid, at: u32, outline: &Outline) -> Result<[(i32, i
 
 /// The outline of a simple glyph without a program, which begins at this offset in glyf. Where halves go up, its
 /// phantom points are put on the grid. Error: CoordRange.
-pub fn settled_ends(grid: Grid, at: u32, outline: Outline) -> Result<Outline, Fault>
-    ensures exact { Gives outline_of result (settled_ends grid at (outline_of outline)) }
+pub fn ends_on_grid(grid: Grid, at: u32, outline: Outline) -> Result<Outline, Fault>
+    ensures exact { Gives outline_of result (ends_on_grid grid at (outline_of outline)) }
 {
     match grid {
         Grid::Away | Grid::Unrounded => Ok(outline),

@@ -21,7 +21,7 @@ mod steps;
 mod units;
 
 pub use glyph_program::GlyphProgram;
-pub use glyph_zone::settled_ends;
+pub use glyph_zone::ends_on_grid;
 pub use grid::{Grid, GridRule};
 pub use hinting::{GlyphMachine, Hinting, Runner, run};
 pub use joining::placed;
