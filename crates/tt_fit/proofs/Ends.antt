@@ -1,12 +1,13 @@
 -- With hinting on, the ends of a simple glyph's advance are whole pixels.
-use Rattle.std.proofs.Common.{◌≡◌, ◌∙◌, ap, subst, ℕ, ◌==◌, true, if◌then◌else◌, List, [], length, Result, Ok, ℤ, pos, ◌+ℤ◌, ◌-ℤ◌, ◌*ℤ◌, refl, arith}
+use Rattle.std.proofs.Common.{◌≡◌, ◌∙◌, ap, subst, ℕ, ◌==◌, if◌then◌else◌, List, [], length, Result, Ok, ℤ, pos, ◌+ℤ◌, ◌-ℤ◌, ◌*ℤ◌, ◌≤ℤ◌, ◌<ℤ◌, true, refl, arith}
 use Rattle.std.specs.Int.{int_div_euclid}
 use Rattle.std.proofs.lemmas.Int.{ints}
 use Rattle.tt_core.specs.Chains.{came-through, passed-else}
 use Rattle.tt_core.specs.Faults.{Fault}
-use Rattle.tt_core.specs.Outcomes.{each}
+use Rattle.tt_core.specs.Outcomes.{◌>>=◌, each}
 use Rattle.tt_glyf.specs.Loca.{glyph_offset}
-use Rattle.tt_glyf.specs.Raw.{simple}
+use Rattle.tt_glyf.specs.GlyphData.{glyph_data_of}
+use Rattle.tt_glyf.specs.Raw.{Raw, simple}
 use Rattle.tt_glyf.specs.declared.raw.RawPoint.{RawPoint}
 use Rattle.tt_fit.specs.Fitting.{Fitter, size_of, start, glyph_grid, simple_start, simple_program, made, added, glyph_fitter, fitted_outline}
 use Rattle.tt_fit.specs.Hinted.{IsWhole, EndsAreWhole, HasWholeStep, SimpleStepsAreWhole}
@@ -37,16 +38,18 @@ ends-are-whole at p q was =
     ((whole_pixels p.left.0, rw (← same) refl), (whole_pixels p.right.0, rw (← same) refl))
 
 -- the step between whole pixels
+floor-by : (v q n : ℤ) → v ≡ pos 64 *ℤ n +ℤ pos 32 → (pos 64 *ℤ q) ≤ℤ v → v <ℤ (pos 64 *ℤ q +ℤ pos 64) → q ≡ n
+floor-by v q n is below above = omega (arith, ints, is, below, above)
+
 floor-of : (n : ℤ) → int_div_euclid (pos 64 *ℤ n +ℤ pos 32) (pos 64) ≡ n
 floor-of n =
-    let below = floor-below (pos 64 *ℤ n +ℤ pos 32) in
-    let above = floor-above (pos 64 *ℤ n +ℤ pos 32) in
-    omega (arith, ints, below, above)
+    let v = pos 64 *ℤ n +ℤ pos 32 in
+    floor-by v (int_div_euclid v (pos 64)) n refl (floor-below v) (floor-above v)
 
 step-whole : (a b n k : ℤ) → a ≡ pos 64 *ℤ n → b ≡ pos 64 *ℤ k → pixels_of (b -ℤ a) ≡ at_least_zero (k -ℤ n)
 step-whole a b n k of_a of_b =
     let apart : b -ℤ a ≡ pos 64 *ℤ (k -ℤ n) = omega (arith, ints, of_a, of_b) in
-    rw apart (ap at_least_zero (floor-of (k -ℤ n)))
+    ap pixels_of apart ∙ ap at_least_zero (floor-of (k -ℤ n))
 
 -- the ends of a simple glyph without a program
 settled-ends : (at : ℕ) (o begun : Outline) → ends_on_grid rounding.Up at o ≡ Ok begun
@@ -92,10 +95,15 @@ steps-by : (o : Outline) (phantom : PhantomPoints) → phantom ≡ o.phantom
 steps-by o phantom same (left, right) = record {
   left = left.0;
   right = right.0;
-  from = rw (← same) left.1;
-  to = rw (← same) right.1;
-  step = rw (← same) (step-whole phantom.left.0 phantom.right.0 left.0 right.0 left.1 right.1);
+  from = subst (λ (p : PhantomPoints). p.left.0 ≡ pos 64 *ℤ left.0) same left.1;
+  to = subst (λ (p : PhantomPoints). p.right.0 ≡ pos 64 *ℤ right.0) same right.1;
+  step = subst (λ (p : PhantomPoints). pixels_of (p.right.0 -ℤ p.left.0) ≡ at_least_zero (right.0 -ℤ left.0)) same
+      (step-whole phantom.left.0 phantom.right.0 left.0 right.0 left.1 right.1);
 }
+
+read-as : (x : Result Raw Fault) (d : Raw) (rest : Raw → Result Outline Fault) (o : Outline) → x ≡ Ok d
+    → (x >>= rest) ≡ Ok o → rest d ≡ Ok o
+read-as x d rest o read was = rw read at was
 
 pub simple-steps-are-whole : SimpleStepsAreWhole
 unfolding fitted_outline
@@ -104,7 +112,7 @@ simple-steps-are-whole s g d o grid on read none was =
     let z = size_of t in
     let at = glyph_offset t.tables g in
     let up = up-where-on s.grid t.hinting grid on in
-    let by_start : made t (added t s.levels) g (simple d) ≡ Ok o = rw read at was in
+    let by_start = read-as (glyph_data_of s.tables g) (simple d) (made t (added t s.levels) g) o read was in
     let begun = came-through (simple_start t d.x_min g d.code) _ o by_start in
     let scaled = came-through (scaled_outline z at d.points d.ends begun.value) _ o begun.rest in
     let whole = started-ends t d.x_min g d.code begun.value up none begun.first in

@@ -1,5 +1,5 @@
 -- A refused outline has a defect, and an outline has none.
-use Rattle.std.proofs.Common.{◌≡◌, ℕ, zero, suc, ◌==◌, false, if◌then◌else◌, List, [], ◌∷◌, length, take, arith, Some, Result, Ok, Err, inl, inr, ℤ, pos, refl, subst, sym}
+use Rattle.std.proofs.Common.{◌≡◌, ◌≢◌, ℕ, zero, suc, ◌==◌, false, if◌then◌else◌, List, [], ◌∷◌, length, take, arith, Some, Result, Ok, Err, inl, inr, ℤ, pos, refl, subst, sym}
 use Rattle.std.specs.Prelude.{IsOkAnd, ◌⊎◌}
 use Rattle.std.proofs.lemmas.Bool.Decides.{nat_tests}
 use Rattle.std.specs.List.{slice_get}
@@ -82,8 +82,11 @@ records-whole add IsOne spares begun o all records f begins was bad =
     let P : Result Outline Fault → Type 0 = λ x. IsOne bad.1 x f in
     spares bad.1 came.0 came.1 f came.3 (subst P before bad.3)
 
+not-same : (n k : ℕ) → n ≢ k → (n == k) ≡ false
+not-same n k other = grind (arith, nat_tests)
+
 not-zero : (n : ℕ) → (suc n == 0) ≡ false
-not-zero n = grind (arith, nat_tests)
+not-zero n = not-same (suc n) 0 (λ e. absurd (omega (arith, e)))
 
 -- a glyph that can be read
 start-broke : (s : Fitter) (x_min : ℤ) (g : ℕ) (f : Fault) → start s x_min g ≡ Err f → IsStartDefect s x_min g f
