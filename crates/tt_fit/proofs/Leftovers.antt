@@ -1,9 +1,11 @@
 -- Without programs no glyph is unfitted: all faults are those of the font's tables.
-use Rattle.std.proofs.Common.{◌≡◌, ◌∙◌, sym, ap, subst, ℕ, zero, suc, false, List, Option, Some, None, Result, Ok, Err, inl, inr, refl}
+use Rattle.std.proofs.Common.{◌≡◌, ◌∙◌, sym, ap, subst, ℕ, zero, suc, ℤ, Bool, false, List, Option, Some, None, Result, Ok, Err, inl, inr, refl}
 use Rattle.std.specs.Prelude.{IsOkAnd}
+use Rattle.std.specs.List.{slice_get}
 use Rattle.tt_core.specs.Faults.{Fault, why_number}
 use Rattle.tt_core.specs.declared.fault.Why.TheVariants as why
 use Rattle.tt_core.specs.Limits.{work_limit}
+use Rattle.tt_core.specs.Outcomes.{◌>>=◌}
 use Rattle.tt_exec.specs.Work.{Worked, enough}
 use Rattle.tt_face.specs.Programs.{ProgramTables}
 use Rattle.tt_glyf.specs.Bytes.{GlyphBytes}
@@ -14,16 +16,18 @@ use Rattle.tt_glyf.specs.Raw.{Raw, empty, simple, composite}
 use Rattle.tt_glyf.specs.declared.raw.Record.{Record}
 use Rattle.tt_metrics.specs.Metrics.{Metrics}
 use Rattle.tt_fit.specs.declared.programs.Fit.TheVariants as fit
-use Rattle.tt_fit.specs.Defects.{IsEndsDefect, IsPlacingDefect, IsMakingDefect, IsDefectBy, IsBadComponent, IsDefectAt, IsOutlineDefect}
+use Rattle.tt_fit.specs.Defects.{LeavesLimit, IsEndsDefect, IsHintingDefect, IsPlacingDefect, IsMakingDefect, IsDefectBy, IsBadComponent, IsDefectAt, IsOutlineDefect}
 use Rattle.tt_fit.specs.Fallback.{where_refused, hinting_for, is_program_fault}
-use Rattle.tt_fit.specs.Fitting.{Fitter, with_hinting, size_of, glyph_grid, added, outline_at, glyph_fitter, unfitted_fault}
+use Rattle.tt_fit.specs.Fitting.{Fitter, with_hinting, size_of, start, glyph_grid, simple_start, simple_program, composite_program, joined, added, outline_at, glyph_fitter, unfitted_fault}
 use Rattle.tt_fit.specs.Hinted.{LeftoversFit}
 use Rattle.tt_fit.specs.Laws.{AreEmpty, HasWork}
 use Rattle.tt_fit.specs.Preparation.{within_work, left_at, work_at, prepared, fitter_of}
 use Rattle.tt_fit_outline.specs.declared.grid.Grid.{Grid}
+use Rattle.tt_fit_outline.specs.Component.{shift_of, landed}
+use Rattle.tt_fit_outline.specs.GlyphZone.{GlyphProgram}
 use Rattle.tt_fit_outline.specs.Hinting.{Hinting, off}
 use Rattle.tt_fit_outline.specs.Outline.{Outline}
-use Rattle.tt_fit_outline.specs.Scaling.{glyf_fault}
+use Rattle.tt_fit_outline.specs.Scaling.{glyf_fault, coordinate_fault, scaled_outline}
 use Rattle.tt_fit.proofs.Falling.{fitted-where-made, fitted-where-short, never-unfitted, made-fitted}
 use Rattle.tt_fit.proofs.Hinted.{left-where-empty, off-where-empty}
 use Rattle.tt_fit.proofs.Standing.{faults-stand}
@@ -32,9 +36,6 @@ use Rattle.tt_fit.proofs.Unbounded.{off-is-free}
 -- a fault of a table
 abbrev IsTables : Fault → Type 0
 IsTables f = is_program_fault f ≡ false
-
-by-why : (f told : Fault) → f ≡ told → IsTables told → IsTables f
-by-why f told same of_table = rw same of_table
 
 cut : (g : GlyphBytes) (end : ℕ) (f : Fault) → IsCut g end f → IsTables f
 unfolding is_program_fault why_number
@@ -92,11 +93,22 @@ bad-place : (s : Fitter) (r : Record) (component o : Outline) (f : Fault)
     → IsPlacingDefect (glyph_grid s) (size_of s) r component o f → IsTables f
 unfolding is_program_fault why_number
 bad-place s r component o f (inl unmatched) = rw (unmatched.2) refl
-bad-place s r component o f (inr (inl landing)) = within _ _ f (λ by bad. bad-start r.at f bad.4) landing
+bad-place s r component o f (inr (inl landing)) =
+    let P : ℤ × ℤ → Type 0 = λ by.
+    (i : ℕ) × (p : ℤ × ℤ × Bool) × (slice_get component.points i ≡ Some p)
+    × LeavesLimit (landed r by p).0 (landed r by p).1 × (f ≡ coordinate_fault r.at) in
+    within (shift_of (glyph_grid s) (size_of s) r component.points o.points) P f (λ by bad. bad-start r.at f bad.4)
+    landing
 bad-place s r component o f (inr (inr many)) = rw (many.1) refl
 
 bad-ends : (by : Grid) (at : ℕ) (code : List ℕ) (o : Outline) (f : Fault) → IsEndsDefect by at code o f → IsTables f
 bad-ends by at code o f (up, none, exceeds) = bad-start at f exceeds.1
+
+-- no program is a defect where hinting is off
+no-program : (p : GlyphProgram) (f : Fault) (x : Result Outline Fault) → IsOkAnd x (λ o. IsHintingDefect off p o f)
+    → IsTables f
+no-program p f (Ok o) bad = absurd bad
+no-program p f (Err e) bad = absurd bad
 
 abbrev OnlyTables : (Record → Result Outline Fault → Fault → Type 0) → Type 0
 OnlyTables IsOne = (r : Record) (before : Result Outline Fault) (f : Fault) → IsOne r before f → IsTables f
@@ -111,28 +123,43 @@ bad-making : (s : Fitter) (IsOne : Record → Result Outline Fault → Fault →
 bad-making s IsOne only add g empty f bad = bad-start (glyph_offset s.tables g) f bad.1
 bad-making s IsOne only add g (simple d) f (inl of_start) = bad-start (glyph_offset s.tables g) f of_start.1
 bad-making s IsOne only add g (simple d) f (inr (inl ends)) =
-    within _ _ f (λ o bad. bad-ends _ (glyph_offset s.tables g) d.code o f bad) ends
+    let by = glyph_grid (unhinted s) in
+    let at = glyph_offset s.tables g in
+    within (start s d.x_min g) (λ o. IsEndsDefect by at d.code o f) f (λ o bad. bad-ends by at d.code o f bad) ends
 bad-making s IsOne only add g (simple d) f (inr (inr (inl point))) =
     bad-start (glyph_offset s.tables g) f point.4
-bad-making s IsOne only add g (simple d) f (inr (inr (inr program))) = within _ _ f (λ o bad. absurd bad) program
+bad-making s IsOne only add g (simple d) f (inr (inr (inr program))) =
+    let t = unhinted s in
+    no-program (simple_program t g d) f
+    (simple_start t d.x_min g d.code >>= scaled_outline (size_of t) (glyph_offset t.tables g) d.points d.ends) program
 bad-making s IsOne only add g (composite d) f (inl of_start) = bad-start (glyph_offset s.tables g) f of_start.1
 bad-making s IsOne only add g (composite d) f (inr (inl one)) = only one.1 _ f one.3
-bad-making s IsOne only add g (composite d) f (inr (inr program)) = within _ _ f (λ o bad. absurd bad) program
+bad-making s IsOne only add g (composite d) f (inr (inr program)) =
+    let t = unhinted s in
+    no-program (composite_program t g d) f (start t d.x_min g >>= joined add d.records) program
 
 bad-by : (s : Fitter) (IsOne : Record → Result Outline Fault → Fault → Type 0) → OnlyTables IsOne
     → (add : Record → Outline → Result Outline Fault) (g : ℕ) (f : Fault)
     → IsDefectBy (unhinted s) add IsOne g f → IsTables f
 bad-by s IsOne only add g f (inl unread) = bad-data s.tables g f unread
 bad-by s IsOne only add g f (inr making) =
-    within (glyph_data_of s.tables g) _ f (λ d bad. bad-making s IsOne only add g d f bad) making
+    let t = unhinted s in
+    within (glyph_data_of s.tables g) (λ d. IsMakingDefect t add IsOne g d f) f
+    (λ d bad. bad-making s IsOne only add g d f bad) making
 
 bad-component : (s : Fitter) (levels : ℕ) → OnlyTables (IsBadComponent (unhinted s) levels)
 unfolding IsBadComponent is_program_fault why_number
 bad-component s zero = λ r before f bad. rw bad refl
 bad-component s (suc levels) = λ r before f bad. elim bad [
-  | inl own ↦ bad-by s (IsBadComponent (unhinted s) levels) (bad-component s levels) _ r.glyph f own
+  | inl own ↦
+      let t = unhinted s in
+      bad-by s (IsBadComponent t levels) (bad-component s levels) (added t levels) r.glyph f own
   | inr placing ↦
-      within before _ f (λ o there. within _ _ f (λ component at. bad-place (unhinted s) r component o f at) there)
+      let t = unhinted s in
+      let P : Outline → Outline → Type 0 = λ o component.
+      IsPlacingDefect (glyph_grid t) (size_of t) r component o f in
+      within before (λ o. IsOkAnd (outline_at t levels r.glyph) (P o)) f
+      (λ o there. within (outline_at t levels r.glyph) (P o) f (λ component at. bad-place t r component o f at) there)
       placing
 ]
 
