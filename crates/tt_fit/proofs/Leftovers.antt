@@ -1,15 +1,17 @@
 -- Without programs no glyph is unfitted: all faults are those of the font's tables.
-use Rattle.std.proofs.Common.{◌≡◌, ◌∙◌, sym, ap, subst, ℕ, zero, suc, ℤ, Bool, false, List, Option, Some, None, Result, Ok, Err, inl, inr, refl}
+use Rattle.std.proofs.Common.{◌≡◌, ◌∙◌, sym, ap, subst, ℕ, zero, suc, ◌-◌, ℤ, unsigned_abs, Bool, false, List, length, Option, Some, None, Result, Ok, Err, inl, inr, refl}
 use Rattle.std.specs.Prelude.{IsOkAnd}
 use Rattle.std.specs.List.{slice_get}
 use Rattle.tt_core.specs.Faults.{Fault, why_number}
 use Rattle.tt_core.specs.declared.fault.Why.TheVariants as why
-use Rattle.tt_core.specs.Limits.{work_limit}
+use Rattle.tt_core.specs.Limits.{component_limit, work_limit}
 use Rattle.tt_core.specs.Outcomes.{◌>>=◌}
 use Rattle.tt_exec.specs.Work.{Worked, enough}
 use Rattle.tt_face.specs.Programs.{ProgramTables}
-use Rattle.tt_glyf.specs.Bytes.{GlyphBytes}
-use Rattle.tt_glyf.specs.Defects.{IsCut, IsBadRun, IsSimpleDefect, IsBadRecord, IsCompositeDefect, IsBadGlyph, IsGlyphDefect}
+use Rattle.tt_glyf.specs.Bytes.{GlyphBytes, short}
+use Rattle.tt_glyf.specs.Defects.{written_points, record_place, IsFallingEnd, IsBadRun, IsFlagDefect, IsCoordinateDefect, IsSimpleDefect, IsBadRecord, IsRecordsDefect, IsCompositeDefect, IsBadGlyph, IsGlyphDefect}
+use Rattle.tt_glyf.specs.Format.{header_size}
+use Rattle.tt_glyf.specs.Meaning.{glyph_bytes_at, contour_count, flags_place, runs_end, written_flags}
 use Rattle.tt_glyf.specs.GlyphData.{glyph_data_of}
 use Rattle.tt_glyf.specs.Loca.{Glyf, glyph_offset}
 use Rattle.tt_glyf.specs.Raw.{Raw, empty, simple, composite}
@@ -37,47 +39,65 @@ use Rattle.tt_fit.proofs.Unbounded.{off-is-free}
 abbrev IsTables : Fault → Type 0
 IsTables f = is_program_fault f ≡ false
 
-cut : (g : GlyphBytes) (end : ℕ) (f : Fault) → IsCut g end f → IsTables f
+cut : (g : GlyphBytes) (f : Fault) → f ≡ short g → IsTables f
 unfolding is_program_fault why_number
-cut g end f bad = rw (bad.1) refl
+cut g f is = rw is refl
 
 bad-run : (g : GlyphBytes) (at left : ℕ) (f : Fault) → IsBadRun g at left f → IsTables f
 unfolding is_program_fault why_number
-bad-run g at left f (inl short) = cut g _ f short
+bad-run g at left f (inl ended) = cut g f ended.1
 bad-run g at left f (inr long) = rw (long.1) refl
+
+bad-flags : (g : GlyphBytes) (at points : ℕ) (f : Fault) → IsFlagDefect g at points f → IsTables f
+bad-flags g at points f (k, few, run) =
+    bad-run g (runs_end g.bytes at k) (points - length (written_flags g.bytes at k)) f run
+
+bad-places : (g : GlyphBytes) (at points : ℕ) (f : Fault) → IsCoordinateDefect g at points f → IsTables f
+unfolding is_program_fault why_number
+bad-places g at points f (k, many, inl ended) = cut g f ended.1
+bad-places g at points f (k, many, inr leaves) = rw (leaves.1) refl
+
+bad-end : (g : GlyphBytes) (contours : ℕ) (f : Fault) → IsFallingEnd g contours f → IsTables f
+unfolding is_program_fault why_number
+bad-end g contours f (i, below, there, falls, is) = rw is refl
 
 bad-simple : (g : GlyphBytes) (contours : ℕ) (f : Fault) → IsSimpleDefect g contours f → IsTables f
 unfolding is_program_fault why_number
-bad-simple g contours f (inl short) = cut g _ f short
-bad-simple g contours f (inr (inl falls)) = rw (falls.4) refl
+bad-simple g contours f (inl ended) = cut g f ended.1
+bad-simple g contours f (inr (inl falls)) = bad-end g contours f falls
 bad-simple g contours f (inr (inr (inl many))) = rw (many.2) refl
-bad-simple g contours f (inr (inr (inr (inl flags)))) = bad-run g _ _ f flags.2
-bad-simple g contours f (inr (inr (inr (inr places)))) = elim (places.2) [
-  | inl short ↦ cut g _ f short
-  | inr leaves ↦ rw (leaves.1) refl
-]
+bad-simple g contours f (inr (inr (inr (inl flags)))) =
+    bad-flags g (flags_place g.bytes contours) (written_points g.bytes contours) f flags
+bad-simple g contours f (inr (inr (inr (inr places)))) =
+    bad-places g (flags_place g.bytes contours) (written_points g.bytes contours) f places
 
 bad-record : (glyphs : ℕ) (g : GlyphBytes) (at : ℕ) (f : Fault) → IsBadRecord glyphs g at f → IsTables f
 unfolding is_program_fault why_number
-bad-record glyphs g at f (inl short) = cut g _ f short
+bad-record glyphs g at f (inl ended) = cut g f ended.1
 bad-record glyphs g at f (inr (inl unknown)) = rw (unknown.1) refl
 bad-record glyphs g at f (inr (inr scaled)) = rw (scaled.1) refl
 
-bad-composite : (glyphs : ℕ) (g : GlyphBytes) (f : Fault) → IsCompositeDefect glyphs g f → IsTables f
+bad-records : (glyphs : ℕ) (g : GlyphBytes) (at allowed : ℕ) (f : Fault) → IsRecordsDefect glyphs g at allowed f
+    → IsTables f
 unfolding is_program_fault why_number
-bad-composite glyphs g f (inl (inl one)) = bad-record glyphs g _ f one.3
-bad-composite glyphs g f (inl (inr many)) = rw (many.1) refl
-bad-composite glyphs g f (inr (n, goes, last, has, short)) = cut g _ f short
+bad-records glyphs g at allowed f (inl (n, below, goes, one)) =
+    bad-record glyphs g (record_place g.bytes at n) f one
+bad-records glyphs g at allowed f (inr many) = rw (many.1) refl
+
+bad-composite : (glyphs : ℕ) (g : GlyphBytes) (f : Fault) → IsCompositeDefect glyphs g f → IsTables f
+bad-composite glyphs g f (inl records) = bad-records glyphs g header_size component_limit f records
+bad-composite glyphs g f (inr (n, goes, last, has, ended)) = cut g f ended.1
 
 bad-glyph : (glyphs : ℕ) (g : GlyphBytes) (f : Fault) → IsBadGlyph glyphs g f → IsTables f
-bad-glyph glyphs g f (inl short) = cut g _ f short
-bad-glyph glyphs g f (inr (inl of_simple)) = bad-simple g _ f of_simple.2
-bad-glyph glyphs g f (inr (inr of_composite)) = bad-composite glyphs g f of_composite.2
+bad-glyph glyphs g f (inl ended) = cut g f ended.1
+bad-glyph glyphs g f (inr (inl (there, some, of_simple))) =
+    bad-simple g (unsigned_abs (contour_count g.bytes)) f of_simple
+bad-glyph glyphs g f (inr (inr (there, some, of_composite))) = bad-composite glyphs g f of_composite
 
 bad-data : (t : Glyf) (g : ℕ) (f : Fault) → IsGlyphDefect t g f → IsTables f
 unfolding is_program_fault why_number
-bad-data t g f (inl range) = rw (range.2) refl
-bad-data t g f (inr bytes) = bad-glyph t.glyphs _ f bytes.1
+bad-data t g f (inl (differ, range, is)) = rw is refl
+bad-data t g f (inr (there, bytes)) = bad-glyph t.glyphs (glyph_bytes_at t g) f bytes
 
 -- a glyph that can be read
 within : {X : Type 0} (x : Result X Fault) (P : X → Type 0) (f : Fault) → ((y : X) → P y → IsTables f) → IsOkAnd x P
