@@ -2,7 +2,7 @@
 -- square (64,0), (64,128), (192,128), (192,0) without a program. Its bearing is 72, so its advance begins at -8 units,
 -- half a pixel left of 0. Glyph 2 is glyph 1 moved by 8 and -8 units, with the flags of its one record. Its own advance
 -- begins at -4 units.
-use Rattle.std.specs.Prelude.{◌≡◌, ℕ, Bool, true, ℤ, pos, neg_ℤ, ◌+ℤ◌, List, [], ◌∷◌, ◌++◌, None, Ok, Err, refl}
+use Rattle.std.specs.Prelude.{◌≡◌, ℕ, Bool, true, ℤ, pos, neg_ℤ, ◌+ℤ◌, List, [], ◌∷◌, ◌++◌, Some, None, Ok, Err, refl}
 use Rattle.tt_glyf.specs.Bytes.{byte_in, word_in, signed_in, slice_in}
 use Rattle.tt_glyf.specs.Composite.{transform_at, argument_at, arguments_at, unscaled, known_glyph, record_at, records_from, program_of, composite_of}
 use Rattle.tt_glyf.specs.Coordinates.{delta_at, within_words, coordinate_at, coordinates_from}
@@ -14,8 +14,9 @@ use Rattle.tt_metrics.specs.declared.head.LocaFormat.TheVariants.{Short}
 use Rattle.tt_metrics.specs.Metrics.{Metrics}
 use Rattle.tt_fit.specs.declared.programs.Fit.TheVariants as fit
 use Rattle.tt_fit.specs.declared.dropouts.DropoutsBy.TheVariants as by
-use Rattle.tt_fit.specs.Fallback.{never}
+use Rattle.tt_fit.specs.Fallback.{never, where_refused}
 use Rattle.tt_fit.specs.Fitting.{Fitter, added, fitted_outline, unfitted_fault}
+use Rattle.tt_fit.specs.Preparation.{prepared}
 use Rattle.tt_fit.specs.Rules.{rules_of}
 use Rattle.tt_fit_outline.specs.declared.grid.GridRule.{GridRule}
 use Rattle.tt_fit_outline.specs.declared.grid.GridRule.TheVariants as grid_rule
@@ -149,3 +150,9 @@ unfolding wide fitted_outline unfitted_fault glyph_data_of glyph_bytes_of header
     points_within points_of flags_from run_at coordinates_from coordinate_at within_words delta_at byte_in word_in
     signed_in slice_in blank scaled_outline settled on_grid_at
 past_the_limit = refl
+
+-- without a font program and a control value program, hinting is off, and no work is used
+nothing_is_run : prepared (its_metrics 1 0) (record { cvt = []; fpgm = []; prep = [] }) 16 fit.Best
+    ≡ Ok (record { hinting = off; fallback = where_refused; work = Some 100000000 })
+unfolding prepared
+nothing_is_run = refl
