@@ -3,6 +3,7 @@
 -- half a pixel left of 0. Glyph 2 is glyph 1 moved by 8 and -8 units, with the flags of its one record. Its own advance
 -- begins at -4 units.
 use Rattle.std.specs.Prelude.{◌≡◌, ℕ, Bool, true, ℤ, pos, neg_ℤ, ◌+ℤ◌, List, [], ◌∷◌, ◌++◌, Some, None, Ok, Err, refl}
+use Rattle.tt_face.specs.Programs.{no_programs}
 use Rattle.tt_glyf.specs.Bytes.{byte_in, word_in, signed_in, slice_in}
 use Rattle.tt_glyf.specs.Composite.{transform_at, argument_at, arguments_at, unscaled, known_glyph, record_at, records_from, program_of, composite_of}
 use Rattle.tt_glyf.specs.Coordinates.{delta_at, within_words, coordinate_at, coordinates_from}
@@ -152,7 +153,7 @@ unfolding wide fitted_outline unfitted_fault glyph_data_of glyph_bytes_of header
 past_the_limit = refl
 
 -- without a font program and a control value program, hinting is off, and no work is used
-nothing_is_run : prepared (its_metrics 1 0) (record { cvt = []; fpgm = []; prep = [] }) 16 fit.Best
+nothing_is_run : prepared (its_metrics 1 0) no_programs 16 fit.Best
     ≡ Ok (record { hinting = off; fallback = where_refused; work = Some 100000000 })
 unfolding prepared
 nothing_is_run = refl
