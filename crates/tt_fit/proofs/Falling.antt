@@ -17,7 +17,7 @@ use Rattle.tt_face.specs.Programs.{ProgramTables}
 use Rattle.tt_fit.specs.Preparation.{with_fallback, begun_at, left_at, work_at, prepared_by, prepared, fitter_with, fitter_of}
 use Rattle.tt_fit_outline.specs.Hinting.{Hinting, off}
 use Rattle.tt_fit.specs.Rules.{falls_back, levels_of, dropouts_by}
-use Rattle.tt_fit.proofs.Unbounded.{of-outline, of-programs}
+use Rattle.tt_fit.proofs.Unbounded.{of-outline, of-left}
 
 -- for no glyph
 pub never-unfitted : (s : Fitter) (g : ℕ) → s.fallback ≡ never → unfitted_fault s g ≡ None
@@ -297,12 +297,9 @@ unbounded-by m tables ppem fit.Best who s worked left other is = absurd (other r
 
 programs-unbounded : (m : Metrics) (programs : ProgramTables) (ppem : ℕ) (how : Fit) → how ≢ fit.Best
     → ProgramsHaveWork m programs ppem how
-programs-unbounded m programs ppem fit.Full other =
-    (None, of-programs (begun_at m programs ppem fit.Full) programs)
-programs-unbounded m programs ppem fit.None other =
-    (None, refl)
-programs-unbounded m programs ppem fit.Fallback other =
-    (None, of-programs (begun_at m programs ppem fit.Fallback) programs)
+programs-unbounded m programs ppem fit.Full other = (None, of-left m programs ppem fit.Full)
+programs-unbounded m programs ppem fit.None other = (None, of-left m programs ppem fit.None)
+programs-unbounded m programs ppem fit.Fallback other = (None, of-left m programs ppem fit.Fallback)
 programs-unbounded m programs ppem fit.Best other = absurd (other refl)
 
 pub others-are-unbounded : OthersAreUnbounded
@@ -353,7 +350,7 @@ unfolding fitter_of prepared
 spent-programs-unfit-all m tables programs ppem fit.Full s g f falls is over = absurd cc
 spent-programs-unfit-all m tables programs ppem fit.None s g f falls is over = absurd cc
 spent-programs-unfit-all m tables programs ppem fit.Fallback s g f falls is over =
-    let free = of-programs (begun_at m programs ppem fit.Fallback) programs in absurd cc
+    let free : work_at m programs ppem fit.Fallback ≡ enough None = of-left m programs ppem fit.Fallback in absurd cc
 spent-programs-unfit-all m tables programs ppem fit.Best s g f falls is over =
     let who = dropouts_by fit.Best in
     over-by m tables ppem who s g f (work_at m programs ppem fit.Best) (left_at m programs ppem fit.Best) over is
