@@ -14,7 +14,7 @@ use Rattle.tt_fit.specs.Fitting.{Fitter, with_hinting, outline_at, outline_work,
 use Rattle.tt_fit.specs.Laws.{HasWork, ProgramsHaveWork, FallbackFits, FallbackScales, FallbackRefuses, FallbackUnfitsAll, OthersNeverFallBack, FullIsByPrograms, NoneIsWithoutPrograms, UnboundedIsEnough, OthersAreUnbounded, UnboundedStays, SpentWorkUnfits, SpentProgramsUnfitAll}
 use Rattle.tt_fit_outline.specs.Outline.{Outline}
 use Rattle.tt_face.specs.Programs.{ProgramTables}
-use Rattle.tt_fit.specs.Preparation.{with_fallback, begun_at, left_at, work_at, prepared_by, prepared, fitter_with, fitter_of}
+use Rattle.tt_fit.specs.Preparation.{with_fallback, left_at, work_at, prepared_by, prepared, fitter_with, fitter_of}
 use Rattle.tt_fit_outline.specs.Hinting.{Hinting, off}
 use Rattle.tt_fit.specs.Rules.{falls_back, levels_of, dropouts_by}
 use Rattle.tt_fit.proofs.Unbounded.{of-outline, of-left}
