@@ -21,7 +21,7 @@ use Rattle.tt_fit_outline.specs.Hinting.{Hinting, off, ready, is_run, run_of}
 use Rattle.tt_fit_outline.specs.Outline.{Outline}
 use Rattle.tt_fit_outline.specs.Parts.{parts_with}
 use Rattle.tt_face.specs.Programs.{ProgramTables}
-use Rattle.tt_fit.specs.Preparation.{font_program, control_value_program, with_definitions, programs_work, with_fallback, within_work, begun_at, left_at, work_from, work_at, prepared}
+use Rattle.tt_fit.specs.Preparation.{Preparation, font_program, control_value_program, with_definitions, programs_work, with_fallback, within_work, begun_at, left_at, work_from, work_at, prepared}
 use Rattle.tt_fit.specs.Rules.{runs_programs}
 use Rattle.tt_fit_outline.specs.Scaling.{scaled_outline}
 use Rattle.tt_fit_outline.specs.Work.{IsUnbounded, RefusalLeaves, if_ok, code_work, program_work, hinted_work}
@@ -130,14 +130,18 @@ within : (left : Result Hinting Fault) → with_fallback left ≡ within_work (e
 within (Ok hinting) = refl
 within (Err f) = refl
 
+told-free : (worked : Worked) (left : Result Hinting Fault) → worked ≡ enough None
+    → ◌≡◌ {A = Result Preparation Fault} (Ok (with_fallback left)) (Ok (within_work worked left))
+told-free worked left free = rw free (ap Ok (within left))
+
 -- Fallback prepares the same result whether work is counted or not
 pub prepared-falling : (m : Metrics) (programs : ProgramTables) (ppem : ℕ) (how : Fit)
     → (how ≡ fit.Fallback) ⊎ (how ≡ fit.Best)
     → prepared m programs ppem how ≡ Ok (within_work (work_at m programs ppem how) (left_at m programs ppem how))
 unfolding prepared
 prepared-falling m programs ppem fit.Fallback is =
-    rw (of-programs (begun_at m programs ppem fit.Fallback) programs)
-    (ap Ok (within (left_at m programs ppem fit.Fallback)))
+    told-free (work_at m programs ppem fit.Fallback) (left_at m programs ppem fit.Fallback)
+    (of-left m programs ppem fit.Fallback)
 prepared-falling m programs ppem fit.Best is = refl
 prepared-falling m programs ppem fit.Full is = elim is [
   | inl fallback ↦ absurd cc
