@@ -169,7 +169,8 @@ bad-by s IsOne only add g f (inr making) =
 
 bad-component : (s : Fitter) (levels : ℕ) → OnlyTables (IsBadComponent (unhinted s) levels)
 unfolding IsBadComponent is_program_fault why_number
-bad-component s zero = λ r before f bad. rw bad refl
+bad-component s zero = λ r before f bad.
+    let is : f ≡ glyf_fault r.at why.ComponentDepth = bad in rw is refl
 bad-component s (suc levels) = λ r before f bad. elim bad [
   | inl own ↦
       let t = unhinted s in

@@ -102,13 +102,24 @@ joined_with points phantom component o = record {
   scan = scan_after component.scan o.scan;
 }
 
+abbrev ended : Record → Outline → Outline → List (ℤ × ℤ × Bool) → Result Outline Fault
+ended r component o points = Ok (joined_with points (phantom_with r component o) component o)
+
+ended-alike : (points : List (ℤ × ℤ × Bool)) (a b : PhantomPoints) (component o : Outline) → a ≡ b
+    → ◌≡◌ {A = Result Outline Fault} (Ok (joined_with points a component o)) (Ok (joined_with points b component o))
+ended-alike points a b component o same = rw same refl
+
 appended-plain : (r : Record) (by : ℤ × ℤ) (component o : Outline)
     → appended r by component o ≡ appended (without_rounding r) by component o
 unfolding appended
 appended-plain r by component o =
-    bind-same (each (placed_point r by) component.points) _ _ (λ landed.
-    bind-same (within_point_limit r.at (o.points ++ landed)) _ _ (λ points.
-    ap (λ phantom. Ok (joined_with points phantom component o)) (phantom-plain r component o)))
+    let p = without_rounding r in
+    bind-same (each (placed_point r by) component.points)
+    (λ landed. within_point_limit r.at (o.points ++ landed) >>= ended r component o)
+    (λ landed. within_point_limit r.at (o.points ++ landed) >>= ended p component o)
+    (λ landed. bind-same (within_point_limit r.at (o.points ++ landed)) (ended r component o) (ended p component o)
+    (λ points. ended-alike points (phantom_with r component o) (phantom_with p component o) component o
+    (phantom-plain r component o)))
 
 placed-plain : (z : FontSize) (by : Grid) (r : Record) (component o : Outline)
     → placed rounding.Unrounded z r component o ≡ placed by z (without_rounding r) component o
