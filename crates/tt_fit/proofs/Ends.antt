@@ -68,6 +68,7 @@ settled-by by at code o begun up none was = settled-ends at o begun (rw (up, non
 started-ends : (s : Fitter) (x_min : ℤ) (g : ℕ) (code : List ℕ) (begun : Outline) → glyph_grid s ≡ rounding.Up
     → code ≡ [] → simple_start s x_min g code ≡ Ok begun
     → IsWhole begun.phantom.left.0 × IsWhole begun.phantom.right.0
+unfolding simple_start
 started-ends s x_min g code begun up none was =
     let first = came-through (start s x_min g) _ begun was in
     settled-by (glyph_grid s) (glyph_offset s.tables g) code first.value begun up none first.rest

@@ -159,6 +159,7 @@ started-by (Err f) how at code = refl
 
 started : (s : Fitter) (how : GridRule) (x_min : ℤ) (g : ℕ) (code : List ℕ)
     → simple_start (off_by s how) x_min g code ≡ start s x_min g
+unfolding simple_start
 started s how x_min g code = started-by (start s x_min g) how (glyph_offset s.tables g) code
 
 made-plain : (s : Fitter) (how : GridRule) (add plain_add : Record → Outline → Result Outline Fault)

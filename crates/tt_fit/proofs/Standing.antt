@@ -124,6 +124,7 @@ IsBareDefect s g code f x = IsOkAnd x (λ o. IsEndsDefect (glyph_grid s) (glyph_
 
 simple-broke : (s : Fitter) (x_min : ℤ) (g : ℕ) (code : List ℕ) (f : Fault) → simple_start s x_min g code ≡ Err f
     → IsStartDefect s x_min g f ⊎ IsBareDefect s g code f (start s x_min g)
+unfolding simple_start
 simple-broke s x_min g code f was = elim (was-err (start s x_min g) _ f was) [
   | inl here ↦ inl (start-broke s x_min g f here)
   | inr begun ↦
@@ -134,6 +135,7 @@ simple-broke s x_min g code f was = elim (was-err (start s x_min g) _ f was) [
 simple-whole : (s : Fitter) (x_min : ℤ) (g : ℕ) (code : List ℕ) (begun : Outline) (f : Fault)
     → simple_start s x_min g code ≡ Ok begun
     → IsStartDefect s x_min g f ⊎ IsBareDefect s g code f (start s x_min g) → ⊥
+unfolding simple_start
 simple-whole s x_min g code begun f was bad =
     let first = came-through (start s x_min g) _ begun was in
     elim bad [

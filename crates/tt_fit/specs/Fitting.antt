@@ -82,7 +82,7 @@ abbrev pub glyph_grid : Fitter → Grid
 glyph_grid s = grid_by s.grid s.hinting
 
 -- a simple glyph without points, by its program; without a program its phantom points may be on the grid
-abbrev pub simple_start : Fitter → ℤ → ℕ → List ℕ → Result Outline Fault
+unfoldable pub simple_start : Fitter → ℤ → ℕ → List ℕ → Result Outline Fault
 simple_start s x_min g code = start s x_min g >>= λ o.
     if length code == 0 then ends_on_grid (glyph_grid s) (glyph_offset s.tables g) o else Ok o
 
@@ -258,7 +258,7 @@ square_is_scaled : fitted_outline (its_fitter []) 1 ≡ Ok (record {
 })
 unfolding fitted_outline unfitted_fault glyph_data_of glyph_bytes_of header_of described simple_of ends_from end_at points_within
     points_of flags_from run_at coordinates_from coordinate_at within_words delta_at byte_in word_in signed_in slice_in
-    blank scaled_outline settled
+    blank simple_start scaled_outline settled
 square_is_scaled = refl
 
 -- two components of glyph 1, the second moved by 64 to the right; the second gives its metrics
@@ -275,7 +275,7 @@ squares_are_joined : fitted_outline (its_fitter two_squares) 2 ≡ Ok (record {
 unfolding fitted_outline unfitted_fault added placed appended shift_of within_point_limit glyph_data_of glyph_bytes_of header_of described
     composite_of records_from record_at known_glyph arguments_at argument_at transform_at unscaled program_of simple_of
     ends_from end_at points_within points_of flags_from run_at coordinates_from coordinate_at within_words delta_at
-    byte_in word_in signed_in slice_in blank scaled_outline settled
+    byte_in word_in signed_in slice_in blank simple_start scaled_outline settled
 squares_are_joined = refl
 
 -- one component, which is the glyph itself

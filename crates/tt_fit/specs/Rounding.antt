@@ -16,7 +16,7 @@ use Rattle.tt_metrics.specs.Metrics.{Metrics}
 use Rattle.tt_fit.specs.declared.programs.Fit.TheVariants as fit
 use Rattle.tt_fit.specs.declared.dropouts.DropoutsBy.TheVariants as by
 use Rattle.tt_fit.specs.Fallback.{never, where_refused}
-use Rattle.tt_fit.specs.Fitting.{Fitter, added, fitted_outline, unfitted_fault}
+use Rattle.tt_fit.specs.Fitting.{Fitter, simple_start, added, fitted_outline, unfitted_fault}
 use Rattle.tt_fit.specs.Preparation.{prepared}
 use Rattle.tt_fit.specs.Rules.{rules_of}
 use Rattle.tt_fit_outline.specs.declared.grid.GridRule.{GridRule}
@@ -88,7 +88,7 @@ ends_on_the_grid : fitted_outline (its_fitter 0 2 grid_rule.WhereHinted its_hint
     ≡ Ok (square (pos 0) (pos 0) (from_to (pos 0) (pos 1024)))
 unfolding fitted_outline unfitted_fault glyph_data_of glyph_bytes_of header_of described simple_of ends_from end_at points_within
     points_of flags_from run_at coordinates_from coordinate_at within_words delta_at byte_in word_in signed_in slice_in
-    blank scaled_outline settled on_grid_at
+    blank simple_start scaled_outline settled on_grid_at
 ends_on_the_grid = refl
 
 -- with hinting off, and with another fit
@@ -96,14 +96,14 @@ ends_stay : fitted_outline (its_fitter 0 2 grid_rule.WhereHinted off) 1
     ≡ Ok (square (pos 0) (pos 0) (from_to (neg_ℤ (pos 32)) (pos 992)))
 unfolding fitted_outline unfitted_fault glyph_data_of glyph_bytes_of header_of described simple_of ends_from end_at points_within
     points_of flags_from run_at coordinates_from coordinate_at within_words delta_at byte_in word_in signed_in slice_in
-    blank scaled_outline settled
+    blank simple_start scaled_outline settled
 ends_stay = refl
 
 ends_stay_with_others : fitted_outline (its_fitter 0 2 grid_rule.Always its_hinting) 1
     ≡ Ok (square (pos 0) (pos 0) (from_to (neg_ℤ (pos 32)) (pos 992)))
 unfolding fitted_outline unfitted_fault glyph_data_of glyph_bytes_of header_of described simple_of ends_from end_at points_within
     points_of flags_from run_at coordinates_from coordinate_at within_words delta_at byte_in word_in signed_in slice_in
-    blank scaled_outline settled
+    blank simple_start scaled_outline settled
 ends_stay_with_others = refl
 
 -- ROUND_XY_TO_GRID with hinting on: 32 goes up to 64, and -32 to 0. The composite keeps its own scaled ends
@@ -112,7 +112,7 @@ offsets_go_up : fitted_outline (its_fitter 0 6 grid_rule.WhereHinted its_hinting
 unfolding fitted_outline unfitted_fault added placed appended shift_of within_point_limit glyph_data_of glyph_bytes_of
     header_of described composite_of records_from record_at known_glyph arguments_at argument_at transform_at unscaled
     program_of simple_of ends_from end_at points_within points_of flags_from run_at coordinates_from coordinate_at
-    within_words delta_at byte_in word_in signed_in slice_in blank scaled_outline settled on_grid_at
+    within_words delta_at byte_in word_in signed_in slice_in blank simple_start scaled_outline settled on_grid_at
 offsets_go_up = refl
 
 -- with hinting off the flag has no effect; with another fit halves go away from zero
@@ -121,7 +121,7 @@ offsets_stay : fitted_outline (its_fitter 0 6 grid_rule.WhereHinted off) 2
 unfolding fitted_outline unfitted_fault added placed appended shift_of within_point_limit glyph_data_of glyph_bytes_of
     header_of described composite_of records_from record_at known_glyph arguments_at argument_at transform_at unscaled
     program_of simple_of ends_from end_at points_within points_of flags_from run_at coordinates_from coordinate_at
-    within_words delta_at byte_in word_in signed_in slice_in blank scaled_outline settled
+    within_words delta_at byte_in word_in signed_in slice_in blank simple_start scaled_outline settled
 offsets_stay = refl
 
 offsets_go_away : fitted_outline (its_fitter 0 6 grid_rule.Always off) 2
@@ -129,7 +129,7 @@ offsets_go_away : fitted_outline (its_fitter 0 6 grid_rule.Always off) 2
 unfolding fitted_outline unfitted_fault added placed appended shift_of within_point_limit glyph_data_of glyph_bytes_of
     header_of described composite_of records_from record_at known_glyph arguments_at argument_at transform_at unscaled
     program_of simple_of ends_from end_at points_within points_of flags_from run_at coordinates_from coordinate_at
-    within_words delta_at byte_in word_in signed_in slice_in blank scaled_outline settled
+    within_words delta_at byte_in word_in signed_in slice_in blank simple_start scaled_outline settled
 offsets_go_away = refl
 
 -- USE_MY_METRICS: the ends of the component, which has no program
@@ -138,7 +138,7 @@ ends_of_the_component : fitted_outline (its_fitter 2 2 grid_rule.WhereHinted its
 unfolding fitted_outline unfitted_fault added placed appended shift_of within_point_limit glyph_data_of glyph_bytes_of
     header_of described composite_of records_from record_at known_glyph arguments_at argument_at transform_at unscaled
     program_of simple_of ends_from end_at points_within points_of flags_from run_at coordinates_from coordinate_at
-    within_words delta_at byte_in word_in signed_in slice_in blank scaled_outline settled on_grid_at
+    within_words delta_at byte_in word_in signed_in slice_in blank simple_start scaled_outline settled on_grid_at
 ends_of_the_component = refl
 
 -- At 300 pixels a unit is 75. An advance of 27970 units ends at 27962, which is 2097150: within the limit, but not on
@@ -149,7 +149,7 @@ wide hinting = record (its_fitter 0 2 grid_rule.WhereHinted hinting) { ppem = 30
 past_the_limit : fitted_outline (wide its_hinting) 1 ≡ Err (coordinate_fault 0)
 unfolding wide fitted_outline unfitted_fault glyph_data_of glyph_bytes_of header_of described simple_of ends_from end_at
     points_within points_of flags_from run_at coordinates_from coordinate_at within_words delta_at byte_in word_in
-    signed_in slice_in blank scaled_outline settled on_grid_at
+    signed_in slice_in blank simple_start scaled_outline settled on_grid_at
 past_the_limit = refl
 
 -- without a font program and a control value program, hinting is off, and no work is used

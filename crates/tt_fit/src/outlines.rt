@@ -44,6 +44,7 @@ impl<'a> Fitter<'a> {
 
     /// A simple glyph's outline without points. Without a program its phantom points may be on the grid. Error:
     /// CoordRange.
+    #[tactic(auto, unfolding(crate::specs::Fitting::simple_start))]
     fn simple_start(
         &self,
         hinting: &Hinting<'a>,
