@@ -59,7 +59,7 @@ off-where-switched m tables programs ppem s switched is =
     hinting-of m tables programs ppem s is
     ∙ off-within (work_at m programs ppem fit.Best) (left_at m programs ppem fit.Best)
     (left-where-switched (runs_programs fit.Best programs.fpgm programs.prep) (begun_at m programs ppem fit.Best)
-    programs switched.font switched.left switched.by_font switched.by_values switched.off)
+    programs switched.font switched.left switched.by_font switched.by_values switched.skips)
 
 -- for each glyph
 off-for : (unfitted : Option Fault) (hinting : Hinting) → hinting ≡ off → is_on (hinting_for unfitted hinting) ≡ false

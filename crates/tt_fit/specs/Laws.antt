@@ -203,7 +203,7 @@ pub record SwitchedOff (m : Metrics) (programs : ProgramTables) (ppem : ℕ) : T
   pub by_font : run_of (font_program programs.fpgm) (begun_at m programs ppem fit.Best) ≡ Ok font
   pub by_values : run_of (control_value_program programs.prep)
       (with_definitions (begun_at m programs ppem fit.Best) font) ≡ Ok left
-  pub off : left.skip_glyphs ≡ true
+  pub skips : left.skip_glyphs ≡ true
 
 -- then every glyph has these rules too
 abbrev pub SkippedByTypeOne : Type 0
