@@ -49,7 +49,7 @@ fn mark(table: &mut [bool; PLACES], other: &[bool; PLACES], at: usize) -> bool
 fn mark_crossings(
     table: &mut [bool; PLACES],
     other: &[bool; PLACES],
-    pass: PassEdges,
+    pass: &PassEdges,
     looks: &mut Looks,
     edge: Edge,
 ) -> bool
@@ -59,14 +59,14 @@ fn mark_crossings(
     ensures kept { (s : ℕ) → get_or table.old s false ≡ true → get_or table.new s false ≡ true }
     ensures taken { result ≡ false → (k : ℕ) → k < lines_crossed edge
         → get_or other.now (slot (line_crossed edge k) (crossing edge (line_crossed edge k)).gap) false ≡ true
-        → is_free (is_black_seen pass.entry.over pass.entry.edges.now) (crossing edge (line_crossed edge k)).gap
+        → is_free (is_black_seen pass.now.over pass.now.edges.now) (crossing edge (line_crossed edge k)).gap
         (line_crossed edge k) ≡ false }
     ensures fewer { looks.new ≤ looks.old }
 {
     for k in 0..lines_crossed(edge) {
         let line = line_crossed(edge, k);
         let gap = gap_crossed(edge, k);
-        if mark(table, other, slot(line, gap)) && look(pass, looks, gap, line) {
+        if mark(table, other, slot(line, gap)) && look(*pass, looks, gap, line) {
             return true;
         }
     }
@@ -74,19 +74,19 @@ fn mark_crossings(
 }
 
 /// Marks the gaps where an edge, as a pass sees it, crosses lines. Returns whether one of them is crossed the other way
-/// too and may be free.
+/// too and may be free. The pass is lent, since each call would copy it.
 #[inline(never)]
 fn mark_ways(
     rising: &mut [bool; PLACES],
     falling: &mut [bool; PLACES],
-    pass: PassEdges,
+    pass: &PassEdges,
     looks: &mut Looks,
     edge: &Edge,
 ) -> bool
     requires { EdgeFits edge.now }
     ensures told { result ≡ false → (es : List Edge)
-        → AreTold (is_black_seen pass.entry.over pass.entry.edges.now) es rising.old falling.old
-        → AreTold (is_black_seen pass.entry.over pass.entry.edges.now) (es ++ seen_by pass.entry.over edge.now ∷ []) rising.new falling.new }
+        → AreTold (is_black_seen pass.now.over pass.now.edges.now) es rising.old falling.old
+        → AreTold (is_black_seen pass.now.over pass.now.edges.now) (es ++ seen_by pass.now.over edge.now ∷ []) rising.new falling.new }
     ensures fewer { looks.new ≤ looks.old }
 {
     let edge = seen_by(pass.over, *edge);
@@ -95,24 +95,6 @@ fn mark_ways(
     } else {
         mark_crossings(falling, rising, pass, looks, edge)
     }
-}
-
-/// `mark_ways` with a quick test first: most edges are short and meet no line.
-#[inline(always)]
-fn mark_edge(
-    rising: &mut [bool; PLACES],
-    falling: &mut [bool; PLACES],
-    pass: PassEdges,
-    looks: &mut Looks,
-    edge: &Edge,
-) -> bool
-    requires { EdgeFits edge.now }
-    ensures told { result ≡ false → (es : List Edge)
-        → AreTold (is_black_seen pass.entry.over pass.entry.edges.now) es rising.old falling.old
-        → AreTold (is_black_seen pass.entry.over pass.entry.edges.now) (es ++ seen_by pass.entry.over edge.now ∷ []) rising.new falling.new }
-    ensures fewer { looks.new ≤ looks.old }
-{
-    meets(pass.over, false, edge) && mark_ways(rising, falling, pass, looks, edge)
 }
 
 /// Whether edges may cross some free gap of a row or of a column both rising and falling. False means that they do not.
@@ -138,16 +120,21 @@ pub(crate) fn mark_edges(edges: &[Edge], looks: &mut Looks) -> bool
     let mut column_rising = [false; PLACES];
     let mut column_falling = [false; PLACES];
     for edge in edges {
-        if mark_edge(&mut row_rising, &mut row_falling, rows, looks, edge) {
+        // Most edges are short and meet no line.
+        if meets(Over::Rows, false, edge)
+            && mark_ways(&mut row_rising, &mut row_falling, &rows, looks, edge)
+        {
             return true;
         }
-        if mark_edge(
-            &mut column_rising,
-            &mut column_falling,
-            columns,
-            looks,
-            edge,
-        ) {
+        if meets(Over::Columns, false, edge)
+            && mark_ways(
+                &mut column_rising,
+                &mut column_falling,
+                &columns,
+                looks,
+                edge,
+            )
+        {
             return true;
         }
     }

@@ -12,7 +12,7 @@ returns-then-edge-clause-told c = λ none es told.
     let by : SFits w32 e.by = omega (arith, ints, c.seen_by-edge.ensures.fits.by) in
     let rises : is_rising e ≡ true = simp to_z-of_z at c.if-edge.true in
     let here = c.mark_crossings.ensures in
-    rw (← c.seen_by-edge.ensures.exact) (one_rises (is_black_seen c.args.pass.over c.args.pass.edges.now) es e
+    rw (← c.seen_by-edge.ensures.exact) (one_rises (is_black_seen c.args.pass.now.over c.args.pass.now.edges.now) es e
     c.args.rising.now c.mark_crossings.new.table c.args.falling.now rises here.kept (here.marked none)
     (here.taken none) told)
 
@@ -23,6 +23,6 @@ returns-else-edge-clause-told c = λ none es told.
     let by : SFits w32 e.by = omega (arith, ints, c.seen_by-edge.ensures.fits.by) in
     let falls : is_rising e ≡ false = simp to_z-of_z at c.if-edge.false in
     let here = c.mark_crossings-else-edge.ensures in
-    rw (← c.seen_by-edge.ensures.exact) (one_falls (is_black_seen c.args.pass.over c.args.pass.edges.now) es e
+    rw (← c.seen_by-edge.ensures.exact) (one_falls (is_black_seen c.args.pass.now.over c.args.pass.now.edges.now) es e
     c.args.rising.now c.args.falling.now c.mark_crossings-else-edge.new.table falls here.kept (here.marked none)
     (here.taken none) told)
