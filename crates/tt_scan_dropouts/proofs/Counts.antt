@@ -24,11 +24,6 @@ use Rattle.tt_scan_dropouts.proofs.Moved.{contour_turned}
 use Rattle.tt_scan_dropouts.proofs.MovedGaps.{box_moved, columns_moved}
 use Rattle.tt_scan_dropouts.proofs.MovedLines.{apart_moved, line_from_moved}
 
--- rows and columns are counted apart
-pub both_crossed : (es : List Edge) → crossed es ≡ rows_crossed es + rows_crossed (map turned_round es)
-both_crossed [] = refl
-both_crossed (e ∷ es) = let rest = both_crossed es in omega arith
-
 -- whether a row meets an edge, as a count
 meets : Frame → Edge → ℕ → ℕ
 meets f e row = if is_between e.ay e.by (row_y f (pos row)) then 1 else 0

@@ -1,13 +1,13 @@
 //! What the edges of one glyph count where a job's work is bounded. The count knows no picture and no pen.
 
-ghost use Rattle.std.specs.Prelude.{◌≡◌, ◌^◌, ◌*◌, ◌+◌, ◌<◌, ◌≤◌, length, map, All};
+ghost use Rattle.std.specs.Prelude.{◌≡◌, ◌^◌, ◌*◌, ◌+◌, ◌<◌, ◌≤◌, length, All};
 ghost use Rattle.tt_scan_edges.specs.Winding.{EdgeFits};
 ghost use Rattle.tt_scan_dropouts.specs.Counted.{bands, bands_bytes, edges_counted, filling_counted, numbers_in, rows_crossed};
+ghost use Rattle.tt_scan_dropouts.specs.Dropouts.{crossed};
 ghost use Rattle.tt_scan_gaps.specs.Boxes.{ColumnsFit};
-ghost use Rattle.tt_scan_gaps.specs.Seen.{seen_by};
 
 use tt_scan::Edge;
-use tt_scan_gaps::{Columns, Over, box_of, lines_crossed, seen_by};
+use tt_scan_gaps::{Columns, box_of, lines_crossed, turned_round};
 
 /// The most rows that are worked on at once where a glyph may have more rows than a picture.
 pub const BAND_ROWS: u32 = 2048;
@@ -40,16 +40,30 @@ fn in_each_band(bands: u64, edges: usize) -> u64
     bands * edges as u64
 }
 
-/// How many lines each edge crosses, as a pass sees it, all together.
-fn crossed_by(over: Over, edges: &[Edge]) -> u64
+/// How many rows each edge crosses, all together.
+fn rows_crossed(edges: &[Edge]) -> u64
     requires edges { All EdgeFits edges.now }
     requires few { length edges.now ≤ 2 ^ 32 }
-    ensures exact { result ≡ rows_crossed (map (seen_by over) edges.now) }
+    ensures exact { result ≡ rows_crossed edges.now }
     ensures bound { result ≤ 2 ^ 20 * length edges.now }
 {
     let mut all = 0;
     for edge in edges {
-        all += lines_crossed(seen_by(over, *edge));
+        all += lines_crossed(*edge);
+    }
+    all
+}
+
+/// How many rows and columns each edge crosses, all together.
+fn crossed(edges: &[Edge]) -> u64
+    requires edges { All EdgeFits edges.now }
+    requires few { length edges.now ≤ 2 ^ 32 }
+    ensures exact { result ≡ crossed edges.now }
+    ensures bound { result ≤ 2 ^ 21 * length edges.now }
+{
+    let mut all = 0;
+    for edge in edges {
+        all += lines_crossed(*edge) + lines_crossed(turned_round(*edge));
     }
     all
 }
@@ -75,7 +89,7 @@ pub fn edges_counted(edges: &[Edge]) -> u64
 {
     let (_, rows) = box_of(edges);
     let rows = numbers_in(rows);
-    in_each_band(bands(rows), edges.len()) + (5 * crossed_by(Over::Rows, edges) + rows)
+    in_each_band(bands(rows), edges.len()) + (5 * rows_crossed(edges) + rows)
 }
 
 /// What the search for dropouts counts for the rows and columns that edges cross: three for each, and one for each band.
@@ -99,6 +113,5 @@ pub fn filling_counted(edges: &[Edge]) -> u64
 {
     let (columns, rows) = box_of(edges);
     let rows = numbers_in(rows);
-    let crossed = crossed_by(Over::Rows, edges) + crossed_by(Over::Columns, edges);
-    searched(bands(rows), crossed) + bands_bytes(numbers_in(columns), rows) / 64
+    searched(bands(rows), crossed(edges)) + bands_bytes(numbers_in(columns), rows) / 64
 }
