@@ -212,15 +212,15 @@ impl<'a> Fitter<'a> {
         ensures left { OnOk result (runner.new.work.left ≡ (after_glyph self.now g).work) }
     {
         match self.fallback {
-            Fallback::Never => self.marked(&mut runner.machine, &self.hinting, g, None),
-            Fallback::Everywhere(fault) => self.marked(&mut None, &Hinting::Off, g, Some(fault)),
+            Fallback::Never => self.marked(&self.hinting, g, None, runner),
+            Fallback::Everywhere(fault) => self.marked(&Hinting::Off, g, Some(fault), runner),
             Fallback::WhereRefused => {
                 match self.outline(&self.hinting, self.levels, g, runner) {
                     Ok(mut outline) => {
                         outline.unfitted = None;
                         Ok(outline)
                     }
-                    Err(refusal) => self.refused(g, refusal, &mut runner.work),
+                    Err(refusal) => self.refused(g, refusal, runner),
                 }
             }
         }
@@ -228,52 +228,58 @@ impl<'a> Fitter<'a> {
 
     /// After a refusal with programs: the outline without them if a program is at fault or exceeds the work, else the
     /// refusal.
+    #[cold]
+    #[inline(never)]
     #[tactic(auto, unfolding(crate::specs::Fitting::fitted_outline, crate::specs::Fitting::unfitted_fault))]
-    fn refused(&self, g: u16, refusal: OutlineFault, work: &mut Work) -> Result<Outline, FontFault>
+    fn refused(
+        &self,
+        g: u16,
+        refusal: OutlineFault,
+        runner: &mut Runner<'a>,
+    ) -> Result<Outline, FontFault>
         requires known { g < self.now.tables.glyphs }
         requires fallback { self.now.fallback ≡ where_refused }
-        requires work { RefusalLeaves refusal work.old.left (glyph_work self.now g self.now.work) }
+        requires work { RefusalLeaves refusal runner.old.work.left (glyph_work self.now g self.now.work) }
         requires fault { IfSome (outline_fault refusal) (λ f. outline_at (with_hinting self.now self.now.hinting) self.now.levels g ≡ Err f) }
         ensures exact { FontGives outline_of result (fitted_outline self.now g) }
         ensures unfitted { IfOk result (λ o. o.unfitted ≡ unfitted_fault self.now g) }
-        ensures left { OnOk result (work.new.left ≡ (after_glyph self.now g).work) }
+        ensures left { OnOk result (runner.new.work.left ≡ (after_glyph self.now g).work) }
     {
         match refusal {
             OutlineFault::Font(fault) => {
                 if !is_program_fault(fault) {
                     return Err(FontFault::Font(fault));
                 }
-                self.marked(&mut None, &Hinting::Off, g, Some(fault))
+                self.marked(&Hinting::Off, g, Some(fault), runner)
             }
             OutlineFault::Memory => Err(FontFault::Memory),
             OutlineFault::Spent(over) => {
-                *work = Work::of(0);
-                self.marked(&mut None, &Hinting::Off, g, Some(over))
+                runner.work = Work::of(0);
+                self.marked(&Hinting::Off, g, Some(over), runner)
             }
         }
     }
 
-    /// The outline of a glyph by `hinting`, marked with the fault that makes it unfitted. Work is not bounded.
+    /// The outline of a glyph by `hinting`, marked with the fault that makes it unfitted. Work is not bounded meanwhile.
+    #[inline(never)]
     fn marked(
         &self,
-        machine: &mut GlyphMachine<'a>,
         hinting: &Hinting<'a>,
         g: u16,
         unfitted: Option<Fault>,
+        runner: &mut Runner<'a>,
     ) -> Result<Outline, FontFault>
         requires known { g < self.now.tables.glyphs }
         ensures exact { FontGives outline_of result (outline_at (with_hinting self.now (hinting_view hinting.now)) self.now.levels g) }
         ensures unfitted { IfOk result (λ o. o.unfitted ≡ unfitted) }
+        ensures left { runner.new.work.left ≡ runner.old.work.left }
     {
-        let work = Work::unbounded();
-        let mut runner = Runner {
-            alloc: self.alloc,
-            machine: machine.take(),
-            work,
-        };
-        match self.outline(hinting, self.levels, g, &mut runner) {
+        let left = runner.work;
+        runner.work = Work::unbounded();
+        let made = self.outline(hinting, self.levels, g, runner);
+        runner.work = left;
+        match made {
             Ok(mut outline) => {
-                *machine = runner.machine;
                 outline.unfitted = unfitted;
                 Ok(outline)
             }

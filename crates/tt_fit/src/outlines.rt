@@ -35,6 +35,7 @@ impl<'a> Fitter<'a> {
         blank(self.alloc, self.glyf.start(g), phantom)
     }
 
+    #[inline(always)]
     fn program<'u>(
         &self,
         g: u16,
@@ -55,6 +56,7 @@ impl<'a> Fitter<'a> {
     }
 
     /// The places of a simple glyph's points, where its program measures originals in font units.
+    #[inline(always)]
     fn units<'u>(&self, g: u16, x_min: i16, points: &'u [RawPoint]) -> Option<Units<'u>>
         requires { g < self.now.tables.glyphs }
         ensures { option_map units_view result ≡ units_by self.now.scaling points.now (phantom_units self.now.metrics x_min g) }

@@ -13,14 +13,15 @@ returns-in-Everywhere-clause-unfitted c =
 pub returns-in-Never-clause-left : goal.returns-in-Never-clause-left
 returns-in-Never-clause-left c =
     let never_so : c.args.self.now.fallback ≡ never = grind (arith, c.self.view_is, c.in-Never.is) in
-    on-ok c.marked.result _ (c.requires.work ∙ sym (left-where-never c.args.self.now c.args.g never_so))
+    on-ok c.marked.result _
+    (c.marked.ensures.left ∙ c.requires.work ∙ sym (left-where-never c.args.self.now c.args.g never_so))
 
 pub returns-in-Everywhere-clause-left : goal.returns-in-Everywhere-clause-left
 returns-in-Everywhere-clause-left c =
     let fault = c.in-Everywhere.fault in
     let everywhere_so : c.args.self.now.fallback ≡ everywhere fault = grind (arith, c.self.view_is, c.in-Everywhere.is) in
     on-ok c.marked-in-Everywhere.result _
-    (c.requires.work ∙ sym (left-where-everywhere c.args.self.now c.args.g fault everywhere_so))
+    (c.marked-in-Everywhere.ensures.left ∙ c.requires.work ∙ sym (left-where-everywhere c.args.self.now c.args.g fault everywhere_so))
 
 pub returns-in-Ok-clause-exact : goal.returns-in-Ok-clause-exact
 returns-in-Ok-clause-exact c =

@@ -8,7 +8,7 @@ returns-else-not-is_program_fault-clause-exact c =
     let f = c.in-Font.fault in
     let pays = rw c.in-Font.is at c.requires.work in
     let fails = rw c.in-Font.is at c.requires.fault in
-    let some = unfitted-where-refused s c.args.g f c.requires.fallback (c.args.work.now.left, pays) fails
+    let some = unfitted-where-refused s c.args.g f c.requires.fallback (c.args.runner.now.work.left, pays) fails
     (sym c.if-not-is_program_fault.ensures) in
     rw (made-unfitted s c.args.g f some) c.marked.ensures.exact
 
@@ -16,10 +16,10 @@ pub returns-else-not-is_program_fault-clause-left : goal.returns-else-not-is_pro
 returns-else-not-is_program_fault-clause-left c =
     let pays = rw c.in-Font.is at c.requires.work in
     on-ok c.marked.result _
-    (sym (left-where-enough c.args.self.now c.args.g c.args.work.now.left c.requires.fallback pays))
+    (c.marked.ensures.left ∙ sym (left-where-enough c.args.self.now c.args.g c.args.runner.now.work.left c.requires.fallback pays))
 
 pub returns-in-Spent-clause-left : goal.returns-in-Spent-clause-left
 returns-in-Spent-clause-left c =
     let over = rw c.in-Spent.is at c.requires.work in
     on-ok c.marked-in-Spent.result _
-    (c.of.ensures ∙ sym (left-where-spent c.args.self.now c.args.g c.in-Spent.over c.requires.fallback over))
+    (c.marked-in-Spent.ensures.left ∙ c.of.ensures ∙ sym (left-where-spent c.args.self.now c.args.g c.in-Spent.over c.requires.fallback over))
