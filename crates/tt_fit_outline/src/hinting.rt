@@ -81,7 +81,9 @@ pub struct Runner<'a> {
 
 impl<'a> Runner<'a> {
     /// The outline after a glyph's program. The machine is first begun again with the parts and the glyph. Without work
-    /// for the copies nothing is copied. Errors: CoordRange of a phantom point, those of the program, Memory, Spent.
+    /// for the copies nothing is copied. Errors: CoordRange of a phantom point, those of the program, Memory, Spent. Not
+    /// inline: its caller does little where no program is run.
+    #[inline(never)]
     #[tactic(auto, unfolding(crate::specs::Hinting::by_program, crate::specs::Work::program_work))]
     fn by_program(
         &mut self,

@@ -96,7 +96,6 @@ fn shifted_points(
 }
 
 /// Scales points, by a shift where possible. Otherwise each is tested. Errors: CoordRange, Memory.
-#[inline(never)]
 #[tactic(auto, using(crate::proofs::Lists::points, crate::proofs::Lists::from_nothing))]
 fn scaled_points(
     alloc: Global,
