@@ -48,18 +48,24 @@ fn pass_over(alloc: Global, pass: Pass, contours: Contours) -> Result<Vec<Pixel>
 }
 
 /// Whether an edge, as a pass sees it, makes a mark in a free gap: a crossing, or, where stubs are drawn, an end that
-/// touches a line.
+/// touches a line. A pass in one value would be copied for each edge.
+#[inline(never)]
+fn makes_mark(rules: Rules, over: Over, ink: &Bitmap, edge: &Edge) -> bool
+    requires { EdgeFits edge.now }
+    ensures { result ≡ is_in_free_gap rules.stubs (is_black_by over ink.now) (seen_by over edge.now) }
+{
+    let pass = Pass { rules, over, ink };
+    let edge = seen_by(over, *edge);
+    crosses_free_gap(pass, edge) || (rules.stubs && touches_free_gap(pass, edge))
+}
+
+/// `makes_mark` with a quick test first: most edges are short and meet no line.
 #[inline(always)]
 fn is_in_free_gap(pass: Pass, edge: &Edge) -> bool
     requires { EdgeFits edge.now }
     ensures { result ≡ is_in_free_gap pass.entry.rules.stubs (is_black_to pass.entry) (seen_by pass.entry.over edge.now) }
 {
-    // Most edges are short and meet no line.
-    if !meets(pass.over, pass.rules.stubs, edge) {
-        return false;
-    }
-    let edge = seen_by(pass.over, *edge);
-    crosses_free_gap(pass, edge) || (pass.rules.stubs && touches_free_gap(pass, edge))
+    meets(pass.over, pass.rules.stubs, edge) && makes_mark(pass.rules, pass.over, pass.ink, edge)
 }
 
 /// Whether some edge makes a mark in a free gap by rows, and whether some edge does by columns. Where none does, the
