@@ -8,7 +8,7 @@ pub unbounded-requires : goal.unbounded-requires
 unbounded-requires c =
     let s = with_hinting c.args.self.now (hinting_view c.args.hinting.now) in
     let free = of-outline s c.self.inside.levels c.args.g in
-    never-spent c.in-Err.refusal _ _ free (rw c.unbounded.ensures at c.in-Err.ensures.work)
+    never-spent c.in-Err.refusal _ _ free (rw c.unbounded-runner.ensures at c.in-Err.ensures.work)
 
 pub returns-in-Ok-clause-exact : goal.returns-in-Ok-clause-exact
 returns-in-Ok-clause-exact c =

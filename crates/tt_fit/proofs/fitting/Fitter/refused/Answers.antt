@@ -22,4 +22,4 @@ pub returns-in-Spent-clause-left : goal.returns-in-Spent-clause-left
 returns-in-Spent-clause-left c =
     let over = rw c.in-Spent.is at c.requires.work in
     on-ok c.marked-in-Spent.result _
-    (c.marked-in-Spent.ensures.left ∙ c.of.ensures ∙ sym (left-where-spent c.args.self.now c.args.g c.in-Spent.over c.requires.fallback over))
+    (c.marked-in-Spent.ensures.left ∙ c.of-runner.ensures ∙ sym (left-where-spent c.args.self.now c.args.g c.in-Spent.over c.requires.fallback over))
