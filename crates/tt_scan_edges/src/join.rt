@@ -1,0 +1,105 @@
+//! Joining the edges of a contour that meet no line. Most of a curve's chords are short and meet none, so a glyph has
+//! far fewer edges afterwards. What is black and where edges cross lines is as before.
+
+ghost use Rattle.std.specs.Prelude.{◌≡◌, ◌≤◌, ◌++◌, length, take, drop};
+ghost use Rattle.tt_scan_edges.specs.Joined.{goes_on, is_clear, join, joined, joins, leads_to, lies_on_line, line_below, meets_none};
+
+use crate::edge::Edge;
+use crate::quotient::{HALF, PIXEL};
+
+/// The last line at or below a place.
+#[inline(always)]
+fn line_below(v: i32) -> i64
+    ensures { result ≡ line_below v }
+{
+    (i64::from(v) - HALF) >> 13
+}
+
+/// Whether a place is on a line.
+#[inline(always)]
+fn lies_on_line(v: i32) -> bool
+    ensures { result ≡ lies_on_line v }
+{
+    (i64::from(v) - HALF).rem_euclid(PIXEL) == 0
+}
+
+/// Whether no line lies between two places, both included.
+#[inline(always)]
+fn meets_none(a: i32, b: i32) -> bool
+    ensures { result ≡ meets_none a b }
+{
+    line_below(a) == line_below(b) && (!lies_on_line(a) && !lies_on_line(b))
+}
+
+/// Whether an edge ends where another begins.
+#[inline(always)]
+fn leads_to(edge: Edge, next: Edge) -> bool
+    ensures { result ≡ leads_to edge next }
+{
+    edge.bx == next.ax && edge.by == next.ay
+}
+
+/// Whether an edge meets no line of rows and no line of columns.
+#[inline(always)]
+fn is_clear(edge: Edge) -> bool
+    ensures { result ≡ is_clear edge }
+{
+    meets_none(edge.ax, edge.bx) && meets_none(edge.ay, edge.by)
+}
+
+/// The edge from the start of an edge to the end of the next.
+#[inline(always)]
+fn join(edge: Edge, next: Edge) -> Edge
+    ensures { result ≡ join edge next }
+{
+    Edge {
+        ax: edge.ax,
+        ay: edge.ay,
+        bx: next.bx,
+        by: next.by,
+    }
+}
+
+/// Whether x and y of an edge's end lie between those of its start and those of the next edge's end.
+#[inline(always)]
+fn goes_on(edge: Edge, next: Edge) -> bool
+    ensures { result ≡ goes_on edge next }
+{
+    ((edge.ax <= edge.bx && edge.bx <= next.bx) || (next.bx <= edge.bx && edge.bx <= edge.ax))
+        && ((edge.ay <= edge.by && edge.by <= next.by)
+            || (next.by <= edge.by && edge.by <= edge.ay))
+}
+
+/// Whether an edge and the next are joined.
+#[inline(always)]
+fn joins(edge: Edge, next: Edge) -> bool
+    ensures { result ≡ joins edge next }
+{
+    leads_to(edge, next) && (is_clear(join(edge, next)) && goes_on(edge, next))
+}
+
+/// Joins the edges from edge `start` on, and moves them up. Returns how many edges there are then; those after them are
+/// left over.
+pub(crate) fn join_all(edges: &mut [Edge], start: usize) -> usize
+    requires { start ≤ length edges.old }
+    ensures joined { take result edges.new ≡ take start edges.old ++ joined (drop start edges.old) }
+    ensures within { result ≤ length edges.new }
+{
+    if start == edges.len() {
+        return start;
+    }
+    let mut kept = start;
+    let mut last = edges[start];
+    for i in start + 1..edges.len() {
+        let next = edges[i];
+        if joins(last, next) {
+            last = join(last, next);
+        } else {
+            edges[kept] = last;
+            kept += 1;
+            last = next;
+        }
+    }
+    edges[kept] = last;
+    kept + 1
+}
