@@ -10,7 +10,7 @@ returns-then-not-some c = λ p j.
     let es = map turned_round c.args.contours.edges.now in
     let ends = ends_turned c.args.contours.edges.now c.args.contours.ends.now c.args.contours.are_ends in
     let none = c.requires c.if-not-some.true in
-    rw c.new.ensures.items (sym (nothing_added c.args.pass.rules (is_black_by c.args.pass.over c.args.pass.ink.now) es c.args.contours.ends.now
+    rw c.new.ensures.items (sym (nothing_added c.args.pass.rules c.args.columns (is_black_by c.args.pass.over c.args.pass.ink.now) es c.args.contours.ends.now
     ends none p j))
 
 pub invariant_of-contours-clause-are_ends : goal.invariant_of-contours-clause-are_ends
