@@ -5,8 +5,8 @@ use Rattle.std.proofs.lemmas.Int.{clamps, ints}
 use Rattle.tt_scan_edges.specs.Winding.{EdgeFits}
 use Rattle.tt_scan_edges.specs.declared.edge.Edge.{Edge}
 use Rattle.tt_scan_gaps.specs.declared.mark.Columns.{Columns}
-use Rattle.tt_scan_gaps.specs.declared.mark.Rules.{Rules}
-use Rattle.tt_scan_ink.proofs.Near.{columns_near, lines_near}
+use Rattle.tt_scan_dropouts.specs.declared.boxed.BoxedRules.{BoxedRules}
+use Rattle.tt_scan_ink.proofs.Near.{box_near, columns_near, lines_near}
 use Rattle.tt_scan_ink.specs.Ink.{count_of, dropouts_ink, edges_ink, ink_in, joined, line_ink, lines_ink, pixel_box}
 use Rattle.tt_scan_ink.specs.Least.{AreNear, IsNear}
 use Rattle.tt_scan_ink.specs.declared.ink.GlyphInk.{GlyphInk}
@@ -59,6 +59,8 @@ ink_near black columns rows across up =
 pub edges_near : (es : List Edge) → All EdgeFits es → IfSome (edges_ink es) IsNear
 edges_near es fits = ink_near _ _ _ (columns_near es fits) (lines_near es fits)
 
-pub dropouts_near : (rules : Rules) (contours : List (List Edge)) (es : List Edge) → All EdgeFits es
-    → IfSome (dropouts_ink rules contours es) IsNear
-dropouts_near rules contours es fits = ink_near _ _ _ (columns_near es fits) (lines_near es fits)
+pub dropouts_near : (rules : BoxedRules) (contours : List (List Edge)) → unsigned_abs rules.extents.across.low < 2 ^ 30
+    → unsigned_abs rules.extents.across.high < 2 ^ 30 → unsigned_abs rules.extents.up.low < 2 ^ 30
+    → unsigned_abs rules.extents.up.high < 2 ^ 30 → IfSome (dropouts_ink rules contours) IsNear
+dropouts_near rules contours left right bottom top =
+    let near = box_near rules.extents left right bottom top in ink_near _ _ _ near.0 near.1
