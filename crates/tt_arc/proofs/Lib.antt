@@ -1,10 +1,12 @@
+mod ChordEnds
 pub mod Closed
 pub mod Contours
-mod EdgeCounts
-pub mod Eighths
+mod Counts
 mod EndsOfContours
 mod Few
 pub mod Moves
+pub mod Places
 mod Points
 mod Turns
 pub mod Walks
+mod Weights
