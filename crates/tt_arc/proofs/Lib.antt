@@ -1,12 +1,15 @@
+mod BoxMoves
 mod ChordEnds
 pub mod Closed
 pub mod Contours
 mod Counts
 mod EndsOfContours
 mod Few
+mod Joints
 pub mod Moves
 pub mod Places
 mod Points
+pub mod PointsBox
 mod Turns
 pub mod Walks
 mod Weights

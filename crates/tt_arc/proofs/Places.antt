@@ -1,5 +1,5 @@
 -- The places of a quadratic at the ends of its chords, rounded to 1/8192 pixel, and the code's sums for them.
-use Rattle.std.proofs.Common.{◌≡◌, ◌∙◌, sym, refl, ap, ap₂, ℕ, suc, ◌+◌, ◌-◌, ◌*◌, ◌/◌, ◌%◌, ◌^◌, ◌<◌, ◌≤◌, ℤ, pos, negsuc, ◌+ℤ◌, ◌-ℤ◌, ◌*ℤ◌, unsigned_abs, List, [], ◌∷◌, ◌++◌, arith, add-one, append-nil, div-add-mod', mod-lt}
+use Rattle.std.proofs.Common.{◌≡◌, ◌∙◌, sym, refl, ap, ap₂, ℕ, suc, ◌+◌, ◌-◌, ◌*◌, ◌/◌, ◌%◌, ◌^◌, ◌<◌, ◌≤◌, ℤ, pos, negsuc, ◌+ℤ◌, ◌-ℤ◌, ◌*ℤ◌, unsigned_abs, List, [], ◌∷◌, ◌++◌, arith, add-one, append-nil, div-add-mod', mod-lt, mul-le-mul_left}
 use Rattle.std.specs.Prelude.{◌≤ℤ◌, ◌<ℤ◌}
 use Rattle.std.specs.Int.{int_div_euclid}
 use Rattle.std.proofs.lemmas.Int.{ints}
@@ -12,7 +12,7 @@ use Rattle.tt_arc.specs.declared.quadratic.EdgeEnd.{EdgeEnd}
 use Rattle.tt_arc.specs.declared.quadratic.Quadratic.{Quadratic}
 use Rattle.tt_arc.specs.declared.rule.ChordRule.{ChordRule}
 use Rattle.tt_arc.specs.Chords.{AreDifferences, CoordinatesFit, EdgeEndFits, QuadraticFits, along_x, along_y, chord_count, chord_end, chord_place, edge_between, first_chords, signed_bend, weighed}
-use Rattle.tt_arc.proofs.Counts.{by_count}
+use Rattle.tt_arc.proofs.Counts.{by_count, divides, few_chords}
 use Rattle.tt_arc.proofs.Weights.{bend_within, bent_by, part_within, same_times, second_of, weighed_finer, weighed_within}
 
 -- the floor of a quotient by a positive divisor
@@ -190,6 +190,32 @@ one_on b h k s t fits within le is value first second =
 pub value_within : (b : Coordinates) (h k : ℕ) (s : Differences) → CoordinatesFit b → h * k ≤ 32 → AreDifferences b h k s
     → unsigned_abs s.value + 2 ^ 11 ≤ 2 ^ 34
 value_within b h k s fits le is = rw is.value (weighed_within (h * k) b fits le)
+
+-- in the code's loop
+pub room : (r : ChordRule) (c : Quadratic) (k : ℕ) → k ≤ chord_count r c → 32 / chord_count r c * k ≤ 32
+room r c k le = omega (arith, divides r c, mul-le-mul_left (32 / chord_count r c) le)
+
+pub step_few : (r : ChordRule) (c : Quadratic) → 32 / chord_count r c ≤ 32
+step_few = by_count (λ n. 32 / n ≤ 32) (omega arith) (omega arith) (omega arith) (omega arith) (omega arith) (omega arith)
+
+pub value_ok : (r : ChordRule) (c : Quadratic) (k : ℕ) (b : Coordinates) (s : Differences) → CoordinatesFit b → k < chord_count r c
+    → AreDifferences b (32 / chord_count r c) k s → unsigned_abs s.value < 2 ^ 34
+value_ok r c k b s fits below is =
+    let least = value_within b (32 / chord_count r c) k s fits (room r c k (omega (arith, below))) is in omega (arith, least)
+
+pub first_ok : (r : ChordRule) (c : Quadratic) (k : ℕ) (b : Coordinates) (s : Differences) → k < chord_count r c
+    → AreDifferences b (32 / chord_count r c) k s → unsigned_abs s.first < 2 ^ 43
+first_ok r c k b s below is = let few = few_chords r c in let small = is.small in omega (arith, below, few, small)
+
+pub second_ok : (r : ChordRule) (c : Quadratic) (k : ℕ) (b : Coordinates) (s : Differences) → CoordinatesFit b
+    → AreDifferences b (32 / chord_count r c) k s → unsigned_abs s.second ≤ 2 ^ 37
+second_ok r c k b s fits is = rw is.second (second_within b (32 / chord_count r c) fits (step_few r c))
+
+pub next_ok : (r : ChordRule) (c : Quadratic) (k : ℕ) (b : Coordinates) (s t : Differences) → CoordinatesFit b → k < chord_count r c
+    → AreDifferences b (32 / chord_count r c) k s → t.value ≡ s.value +ℤ s.first → t.first ≡ s.first +ℤ s.second → t.second ≡ s.second
+    → AreDifferences b (32 / chord_count r c) (k + 1) t
+next_ok r c k b s t fits below is value first second =
+    one_on b (32 / chord_count r c) k s t fits (room r c (k + 1) (omega (arith, below))) (step_few r c) is value first second
 
 pub coordinates_x : (c : Quadratic) → QuadraticFits c → CoordinatesFit (along_x c)
 coordinates_x c fits = record { from = fits.from.x; control = fits.control.x; to = fits.to.x }

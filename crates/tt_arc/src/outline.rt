@@ -1,10 +1,10 @@
 //! The edges of an outline, as a list and on a tape.
 
-ghost use Rattle.std.specs.Prelude.{◌≡◌, ◌*◌, ◌≤◌, true, [], length, map, All, IfOk, OnOk};
+ghost use Rattle.std.specs.Prelude.{◌≡◌, ◌+◌, ◌*◌, ◌^◌, ◌≤◌, ◌++◌, true, [], ◌∷◌, length, map, if◌then◌else◌, All, IfOk, OnOk};
 ghost use Rattle.tt_fit_outline.specs.Outline.{AreEnds};
 ghost use Rattle.tt_scan.specs.Contours.{contours_at, AreEnds as AreEdgeEnds};
 ghost use Rattle.tt_scan_edges.specs.Winding.{FrameFits};
-ghost use Rattle.tt_arc.specs.Chords.{IsNear, moved, outline_edges, outline_contours, chords_of, chord_edges, chord_contours, chords_counted};
+ghost use Rattle.tt_arc.specs.Chords.{IsNear, moved, contour_chords, contour_edges, outline_edges, outline_contours, chords_of, chord_edges, chord_contours, chords_counted};
 ghost use Rattle.tt_arc.specs.Ends.{ends_from};
 
 use crate::contour::push_contour;
@@ -24,8 +24,31 @@ pub struct OutlineEdges {
     pub chords: usize,
 }
 
+/// Adds the edges of a contour to those made so far. Error: memory ran out.
+fn push_one(
+    made: &mut OutlineEdges,
+    points: &[(i32, i32, bool)],
+    by: Offset,
+    rule: ChordRule,
+    with_ends: bool,
+) -> Result<(), AllocError>
+    requires near { All (IsNear by.dx by.dy) points.now }
+    requires few { made.old.chords ≤ 2 ^ 37 }
+    ensures exact { OnOk result (made.new.list.edges ≡ made.old.list.edges ++ contour_edges rule (map (moved by.dx by.dy) points.now)) }
+    ensures ends { OnOk result (made.new.ends.items
+        ≡ (if with_ends then made.old.ends.items ++ length made.new.list.edges ∷ [] else made.old.ends.items)) }
+    ensures chords { OnOk result (made.new.chords ≡ made.old.chords + length (contour_chords rule (map (moved by.dx by.dy) points.now))) }
+{
+    made.chords += push_contour(&mut made.list, points, by, rule)?;
+    if with_ends {
+        made.ends.push(made.list.len())?;
+    }
+    Ok(())
+}
+
 /// Adds the edges of all contours to those made so far, which are none. An entry of `ends` is one past its contour's
 /// last point. Error: memory ran out.
+#[tactic(auto, using(crate::proofs::Contours::none_left, crate::proofs::Few::none_counted))]
 fn push_contours(
     made: &mut OutlineEdges,
     points: &[(i32, i32, bool)],
@@ -47,10 +70,7 @@ fn push_contours(
     let mut from = 0;
     for end in ends {
         let to = *end as usize;
-        made.chords += push_contour(&mut made.list, &points[from..to], by, rule)?;
-        if with_ends {
-            made.ends.push(made.list.len())?;
-        }
+        push_one(made, &points[from..to], by, rule, with_ends)?;
         from = to;
     }
     Ok(())

@@ -4,6 +4,7 @@ use Rattle.std.specs.Prelude.{All, ℤ, pos, ◌+ℤ◌, ◌-ℤ◌, ◌*ℤ◌}
 use Rattle.std.specs.List.{range_with_len}
 use Rattle.std.proofs.lemmas.Bool.{cases_Bool}
 use Rattle.std.proofs.lemmas.Int.{ints}
+use Rattle.std.proofs.lemmas.List.Sums.{sum_by-cons}
 use Rattle.std.proofs.lemmas.List.Elements.{All-cons, All-head, All-nil, All-tail}
 use Rattle.tt_scan_edges.specs.declared.edge.Edge.{Edge}
 use Rattle.tt_scan_edges.specs.declared.edge.Frame.{Frame}
@@ -68,7 +69,7 @@ met_folded (e ∷ es) y = ap (λ n. (if is_between e.ay e.by y then 1 else 0) + 
 met_joint : (k : ℤ) (e f : Edge) (a : ℕ) → joins e f ≡ true
     → more_met (line_at k) e (more_met (line_at k) f a) ≡ more_met (line_at k) (join e f) a
 unfolding more_met
-met_joint k e f a is = let out = off_rows e f k is in rw (out.first, out.second, out.whole) refl
+met_joint k e f a is = let out = off_rows e f k is in rw (out.first, out.second, out.whole) (omega arith)
 
 pub meet_alike : JoinedMeetAlike
 meet_alike es k = met_folded (joined es) (line_at k)
@@ -76,7 +77,8 @@ meet_alike es k = met_folded (joined es) (line_at k)
 
 same_sums : (g h : ℕ → ℕ) → ((n : ℕ) → g n ≡ h n) → (ns : List ℕ) → sum_by g ns ≡ sum_by h ns
 same_sums g h same [] = refl
-same_sums g h same (n ∷ ns) = ap₂ (λ a b. a + b) (same n) (same_sums g h same ns)
+same_sums g h same (n ∷ ns) =
+    sum_by-cons g n ns ∙ ap₂ (λ a b. a + b) (same n) (same_sums g h same ns) ∙ sym (sum_by-cons h n ns)
 
 row_is_line : (f : Frame) (row : ℤ) → row_y f row ≡ line_at (((f.rise +ℤ pos f.margin) -ℤ row) -ℤ pos 1)
 row_is_line f row = omega (arith, ints)
@@ -96,7 +98,7 @@ fit_from e (f ∷ fs) fit =
     elim (cases_Bool (joins e f)) [
       | inl is ↦ rw is (fit_from (join e f) fs (All-cons EdgeFits (join e f) fs
           (record { ax = one.ax; ay = one.ay; bx = two.bx; by = two.by }) (All-tail EdgeFits f fs rest)))
-      | inr no ↦ rw no (All-cons EdgeFits e (joined_from f fs) one (fit_from f fs rest))
+      | inr other ↦ rw other (All-cons EdgeFits e (joined_from f fs) one (fit_from f fs rest))
     ]
 
 pub joined_fit : (es : List Edge) → All EdgeFits es → All EdgeFits (joined es)
@@ -108,7 +110,7 @@ fewer_from : (e : Edge) (fs : List Edge) → length (joined_from e fs) ≤ suc (
 fewer_from e [] = omega arith
 fewer_from e (f ∷ fs) = elim (cases_Bool (joins e f)) [
   | inl is ↦ rw is (let rest = fewer_from (join e f) fs in omega (arith, rest))
-  | inr no ↦ rw no (let rest = fewer_from f fs in omega (arith, rest))
+  | inr other ↦ rw other (let rest = fewer_from f fs in omega (arith, rest))
 ]
 
 pub joined_fewer : (es : List Edge) → length (joined es) ≤ length es

@@ -17,7 +17,7 @@ mapped_from : (E : Edge → Edge) → ((e f : Edge) → joins (E e) (E f) ≡ jo
 mapped_from E same joint e [] = refl
 mapped_from E same joint e (f ∷ fs) = elim (cases_Bool (joins e f)) [
   | inl is ↦ rw (same e f, is, joint e f) (mapped_from E same joint (join e f) fs)
-  | inr no ↦ rw (same e f, no) (ap (λ es. E e ∷ es) (mapped_from E same joint f fs))
+  | inr other ↦ rw (same e f, other) (ap (λ es. E e ∷ es) (mapped_from E same joint f fs))
 ]
 
 joined_mapped : (E : Edge → Edge) → ((e f : Edge) → joins (E e) (E f) ≡ joins e f) → ((e f : Edge) → join (E e) (E f) ≡ E (join e f))

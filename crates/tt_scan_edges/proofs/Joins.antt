@@ -109,6 +109,9 @@ under a b z one two = grind (arith, ints)
 over : (a b z : ℤ) → a <ℤ z → b <ℤ z → is_between a b z ≡ false
 over a b z one two = grind (arith, ints)
 
+positive : (r : ℤ) → pos 0 ≤ℤ r → r ≢ pos 0 → pos 1 ≤ℤ r
+positive r low off = by_lt_z (pos 0) r (λ more. omega (arith, ints, more)) (λ less. absurd (off (omega (arith, ints, low, less))))
+
 -- places with one line below them, and on none
 apart : (a b q r s k : ℤ) → IsPast a q r → IsPast b q s → r ≢ pos 0 → s ≢ pos 0 → is_between a b (line_at k) ≡ false
 apart a b q r s k is_a is_b off_a off_b =
@@ -126,6 +129,28 @@ none_between a b k is =
     let same = eq_of (line_below a) (line_below b) one.0 in
     let at_b : IsPast b (line_below a) (int_rem_euclid (b -ℤ pos 4096) (pos 8192)) = rw same (past b) in
     apart a b (line_below a) _ _ k (past a) at_b (off a two.0) (off b two.1)
+
+-- places that meet none, strictly between a line and the next
+pub record AreBeside (a b q : ℤ) : Type 0 where
+  pub a_low : (pos 8192 *ℤ q +ℤ pos 4096) <ℤ a
+  pub a_high : a <ℤ (pos 8192 *ℤ q +ℤ pos 12288)
+  pub b_low : (pos 8192 *ℤ q +ℤ pos 4096) <ℤ b
+  pub b_high : b <ℤ (pos 8192 *ℤ q +ℤ pos 12288)
+
+pub beside : (a b : ℤ) → meets_none a b ≡ true → AreBeside a b (line_below a)
+beside a b is =
+    let one = both_true (int_eq (line_below a) (line_below b)) (not (lies_on_line a) && not (lies_on_line b)) is in
+    let two = both_true (not (lies_on_line a)) (not (lies_on_line b)) one.1 in
+    let same = eq_of (line_below a) (line_below b) one.0 in
+    let is_a = past a in
+    let is_b : IsPast b (line_below a) (int_rem_euclid (b -ℤ pos 4096) (pos 8192)) = rw same (past b) in
+    let some_a = positive _ is_a.low (off a two.0) in
+    let some_b = positive _ is_b.low (off b two.1) in record {
+      a_low = omega (arith, ints, is_a.is, some_a);
+      a_high = omega (arith, ints, is_a.is, is_a.high);
+      b_low = omega (arith, ints, is_b.is, some_b);
+      b_high = omega (arith, ints, is_b.is, is_b.high);
+    }
 
 -- what a joint of two edges is like
 pub record AreJoint (e f : Edge) : Type 0 where
@@ -193,7 +218,7 @@ pub folded_from : {A : Type 0} (g : Edge → A → A) → ((e f : Edge) (a : A) 
 folded_from g same z e [] = refl
 folded_from g same z e (f ∷ fs) = elim (cases_Bool (joins e f)) [
   | inl is ↦ rw is (folded_from g same z (join e f) fs ∙ sym (same e f (folded g z fs) is))
-  | inr no ↦ rw no (ap (g e) (folded_from g same z f fs))
+  | inr other ↦ rw other (ap (g e) (folded_from g same z f fs))
 ]
 
 pub folded_joined : {A : Type 0} (g : Edge → A → A) → ((e f : Edge) (a : A) → joins e f ≡ true → g e (g f a) ≡ g (join e f) a)

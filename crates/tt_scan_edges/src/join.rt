@@ -2,6 +2,7 @@
 //! far fewer edges afterwards. What is black and where edges cross lines is as before.
 
 ghost use Rattle.std.specs.Prelude.{◌≡◌, ◌≤◌, ◌++◌, length, take, drop};
+ghost use Rattle.tt_scan_edges.specs.Winding.{is_between};
 ghost use Rattle.tt_scan_edges.specs.Joined.{goes_on, is_clear, join, joined, joins, leads_to, lies_on_line, line_below, meets_none};
 
 use crate::edge::Edge;
@@ -60,14 +61,28 @@ fn join(edge: Edge, next: Edge) -> Edge
     }
 }
 
-/// Whether x and y of an edge's end lie between those of its start and those of the next edge's end.
+/// Whether x of an edge's end lies between that of its start and that of the next edge's end.
+#[inline(always)]
+fn goes_on_across(edge: Edge, next: Edge) -> bool
+    ensures { result ≡ is_between edge.ax next.bx edge.bx }
+{
+    (edge.ax <= edge.bx && edge.bx <= next.bx) || (next.bx <= edge.bx && edge.bx <= edge.ax)
+}
+
+/// Whether y of an edge's end does.
+#[inline(always)]
+fn goes_on_up(edge: Edge, next: Edge) -> bool
+    ensures { result ≡ is_between edge.ay next.by edge.by }
+{
+    (edge.ay <= edge.by && edge.by <= next.by) || (next.by <= edge.by && edge.by <= edge.ay)
+}
+
+/// Whether both do.
 #[inline(always)]
 fn goes_on(edge: Edge, next: Edge) -> bool
     ensures { result ≡ goes_on edge next }
 {
-    ((edge.ax <= edge.bx && edge.bx <= next.bx) || (next.bx <= edge.bx && edge.bx <= edge.ax))
-        && ((edge.ay <= edge.by && edge.by <= next.by)
-            || (next.by <= edge.by && edge.by <= edge.ay))
+    goes_on_across(edge, next) && goes_on_up(edge, next)
 }
 
 /// Whether an edge and the next are joined.

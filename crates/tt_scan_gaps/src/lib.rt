@@ -14,6 +14,7 @@
 //! extent.rt     a glyph's box
 //! columns.rt    the columns and the rows of a box
 //! gaps.rt       which pixel a gap needs
+//! laws.rt       edges that are joined cross and touch the same lines
 //! ```
 //!
 //! tt_scan_dropouts passes over the gaps of all rows, and over those of all columns. The text speaks of rows. Columns
@@ -25,6 +26,7 @@ mod columns;
 mod crossings;
 mod extent;
 mod gaps;
+pub mod laws;
 mod looks;
 mod mark;
 mod point;

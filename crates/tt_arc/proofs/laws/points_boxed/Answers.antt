@@ -1,4 +1,5 @@
-use Rattle.tt_arc.proofs.PointsBox.{box_holds_edges, box_moved}
+use Rattle.tt_arc.proofs.BoxMoves.{box_moved}
+use Rattle.tt_arc.proofs.PointsBox.{box_holds_edges}
 use Rattle.tt_arc.proofs.laws.points_boxed.Goals as goal
 
 pub returns-clause-held : goal.returns-clause-held
