@@ -1,5 +1,6 @@
 mod BoxMoves
 mod ChordEnds
+mod ChordsNear
 pub mod Closed
 pub mod Contours
 mod Counts

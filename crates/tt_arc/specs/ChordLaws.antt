@@ -7,7 +7,7 @@ use Rattle.tt_arc.specs.declared.quadratic.Quadratic.{Quadratic}
 use Rattle.tt_arc.specs.declared.point.PlacedPoint.{PlacedPoint}
 use Rattle.tt_arc.specs.declared.rule.ChordRule.{ChordRule}
 use Rattle.tt_arc.specs.declared.rule.ChordRule.TheVariants as rule
-use Rattle.tt_arc.specs.Chords.{along_x, along_y, bend_of, chord_count, chord_end, chord_place, chords_by, chords_of_bend, weighed}
+use Rattle.tt_arc.specs.Chords.{along_x, along_y, bend_of, chord_count, chord_end, chord_place, chords_by, chords_of_bend, signed_bend, weighed}
 
 -- a number of chords is one of six, and the least of them that suffices; 32 where none does
 pub record IsLeastCount (bend n : ℕ) : Type 0 where
@@ -63,6 +63,19 @@ abbrev pub EndsAreNear : Type 0
 EndsAreNear = (r : ChordRule) (c : Quadratic) (k : ℕ) (b : Coordinates) → k ≤ chord_count r c
     → 2 * unsigned_abs (pos (chord_count r c * chord_count r c) *ℤ chord_place (chord_count r c) k b -ℤ pos 64 *ℤ weighed (chord_count r c) k b)
     ≤ chord_count r c * chord_count r c
+
+-- of n chords, chord k after i of i + j parts is within 1/1024 + 1/16384 pixel of the quadratic's own place there, which
+-- is a place of n (i + j) chords
+abbrev pub IsNearAlong : ℕ → ℕ → ℕ → ℕ → Coordinates → Type 0
+IsNearAlong n k i j b =
+    2 * unsigned_abs (pos (n * n * (i + j)) *ℤ (pos j *ℤ chord_place n k b +ℤ pos i *ℤ chord_place n (k + 1) b)
+    -ℤ pos 64 *ℤ weighed (n * (i + j)) (k * (i + j) + i) b)
+    ≤ 17 * (n * n * ((i + j) * (i + j)))
+
+-- where there are fewer than 32 chords, each place of a chord is as near, along either axis
+abbrev pub ChordsAreNear : Type 0
+ChordsAreNear = (c : Quadratic) (k i j : ℕ) (b : Coordinates) → unsigned_abs (signed_bend b) ≤ bend_of c
+    → chord_count rule.ByBend c < 32 → k < chord_count rule.ByBend c → IsNearAlong (chord_count rule.ByBend c) k i j b
 
 -- where a quadratic never falls along an axis, the ends of its chords do not fall
 abbrev pub EndsRise : Type 0

@@ -1,7 +1,7 @@
 //! Lemmas about the definitions, for all outlines. No code runs.
 
 ghost use Rattle.tt_arc.specs.Bounds.{BoxHoldsEdges, BoxMoved};
-ghost use Rattle.tt_arc.specs.ChordLaws.{ChordsJoin, ChordsMove, ChordsNest, ChordsTurned, CountsAreLeast, EightAreExact, EightByBend, EndsAreNear, EndsRise};
+ghost use Rattle.tt_arc.specs.ChordLaws.{ChordsAreNear, ChordsJoin, ChordsMove, ChordsNest, ChordsTurned, CountsAreLeast, EightAreExact, EightByBend, EndsAreNear, EndsRise};
 ghost use Rattle.tt_arc.specs.Laws.{OnByPoints, BlackByPoints, SidesAgree, OutlineMoved, ContoursJoined, ContoursAreClosed, ContoursMoved, ContoursRaised};
 
 /// Lemma: a place is on an outline exactly if it is on an edge of a single point. A place is black exactly if it is
@@ -52,6 +52,7 @@ pub fn chords_placed()
     ensures nested { ChordsNest }
     ensures turned { ChordsTurned }
     ensures near { EndsAreNear }
+    ensures along { ChordsAreNear }
     ensures rising { EndsRise }
     ensures exact { EightAreExact }
 {}

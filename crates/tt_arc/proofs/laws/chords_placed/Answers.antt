@@ -1,4 +1,5 @@
 use Rattle.tt_arc.proofs.ChordEnds.{chords_join, chords_move, chords_nest, chords_turned, eight_are_exact, ends_are_near, ends_rise}
+use Rattle.tt_arc.proofs.ChordsNear.{chords_are_near}
 use Rattle.tt_arc.proofs.laws.chords_placed.Goals as goal
 
 pub returns-clause-moved : goal.returns-clause-moved
@@ -21,3 +22,6 @@ returns-clause-rising c = ends_rise
 
 pub returns-clause-exact : goal.returns-clause-exact
 returns-clause-exact c = eight_are_exact
+
+pub returns-clause-along : goal.returns-clause-along
+returns-clause-along c = chords_are_near
