@@ -1,10 +1,11 @@
 -- The box of an outline's points moves with the outline.
-use Rattle.std.proofs.Common.{◌≡◌, ◌∙◌, refl, ap, ap₂, Bool, ℤ, pos, ◌+ℤ◌, ◌*ℤ◌, List, [], ◌∷◌, map, arith}
+use Rattle.std.proofs.Common.{◌≡◌, ◌∙◌, refl, ap, ap₂, ℕ, ◌+◌, ◌<◌, ◌≤◌, Bool, ℤ, pos, ◌+ℤ◌, ◌*ℤ◌, List, [], ◌∷◌, length, map, drop, get_or, arith, add-one, drop-cons}
+use Rattle.std.proofs.lemmas.List.{drop_all}
 use Rattle.std.specs.Int.{int_max, int_min}
 use Rattle.std.proofs.lemmas.Int.{clamps, ints}
 use Rattle.tt_scan_gaps.specs.declared.extent.Extents.{Extents}
 use Rattle.tt_arc.specs.declared.point.PlacedPoint.{PlacedPoint}
-use Rattle.tt_arc.specs.Bounds.{BoxMoved, box_at, box_from, box_of, box_with}
+use Rattle.tt_arc.specs.Bounds.{BoxMoved, box_at, box_from, box_of, box_with, points_box}
 use Rattle.tt_arc.specs.Chords.{edge_end_of, moved}
 
 point_by : (x y : ℤ) → PlacedPoint → PlacedPoint
@@ -56,3 +57,18 @@ box_moved p points dx dy x y =
     ap box_of (points_by dx dy x y (p ∷ points))
     ∙ ap (λ a. box_from a (map (point_by x y) (map (moved dx dy) points))) (at_by x y (moved dx dy p))
     ∙ all_by x y (box_at (edge_end_of (moved dx dy p))) (map (moved dx dy) points)
+
+-- the box point by point, in the order of the code
+pub first_boxed : (dx dy : ℤ) (ps : List (ℤ × ℤ × Bool)) (d : ℤ × ℤ × Bool) → 0 < length ps
+    → box_from (box_at (edge_end_of (moved dx dy (get_or ps 0 d)))) (map (moved dx dy) (drop 1 ps)) ≡ points_box ps dx dy
+first_boxed dx dy [] d some = absurd (omega (arith, some))
+first_boxed dx dy (p ∷ ps) d some = refl
+
+pub one_boxed : (dx dy : ℤ) (ps : List (ℤ × ℤ × Bool)) (d : ℤ × ℤ × Bool) (i : ℕ) (b : Extents) → i < length ps
+    → box_from (box_with (edge_end_of (moved dx dy (get_or ps i d))) b) (map (moved dx dy) (drop (i + 1) ps))
+    ≡ box_from b (map (moved dx dy) (drop i ps))
+one_boxed dx dy ps d i b below = rw (add-one, drop-cons ps i d below) refl
+
+pub all_boxed : (dx dy : ℤ) (ps : List (ℤ × ℤ × Bool)) (i : ℕ) (b whole : Extents) → length ps ≤ i
+    → box_from b (map (moved dx dy) (drop i ps)) ≡ whole → b ≡ whole
+all_boxed dx dy ps i b whole past is = rw (drop_all i ps past) at is

@@ -1,8 +1,7 @@
 //! Joining the edges of a contour that meet no line. Most of a curve's chords are short and meet none, so a glyph has
 //! far fewer edges afterwards. What is black and where edges cross lines is as before.
 
-ghost use Rattle.std.specs.Prelude.{◌≡◌, ◌≤◌, ◌++◌, length, take, drop};
-ghost use Rattle.tt_scan_edges.specs.Winding.{is_between};
+ghost use Rattle.std.specs.Prelude.{◌≡◌, ◌≤◌, ◌++◌, ◌&&◌, int_le, length, take, drop};
 ghost use Rattle.tt_scan_edges.specs.Joined.{goes_on, is_clear, join, joined, joins, leads_to, lies_on_line, line_below, meets_none};
 
 use crate::edge::Edge;
@@ -61,28 +60,45 @@ fn join(edge: Edge, next: Edge) -> Edge
     }
 }
 
-/// Whether x of an edge's end lies between that of its start and that of the next edge's end.
+/// Whether x rises from an edge's start to its end and on to the next edge's end.
 #[inline(always)]
-fn goes_on_across(edge: Edge, next: Edge) -> bool
-    ensures { result ≡ is_between edge.ax next.bx edge.bx }
+fn goes_right(edge: Edge, next: Edge) -> bool
+    ensures { result ≡ (int_le edge.ax edge.bx && int_le edge.bx next.bx) }
 {
-    (edge.ax <= edge.bx && edge.bx <= next.bx) || (next.bx <= edge.bx && edge.bx <= edge.ax)
+    edge.ax <= edge.bx && edge.bx <= next.bx
 }
 
-/// Whether y of an edge's end does.
+/// Whether x falls so.
 #[inline(always)]
-fn goes_on_up(edge: Edge, next: Edge) -> bool
-    ensures { result ≡ is_between edge.ay next.by edge.by }
+fn goes_left(edge: Edge, next: Edge) -> bool
+    ensures { result ≡ (int_le next.bx edge.bx && int_le edge.bx edge.ax) }
 {
-    (edge.ay <= edge.by && edge.by <= next.by) || (next.by <= edge.by && edge.by <= edge.ay)
+    next.bx <= edge.bx && edge.bx <= edge.ax
 }
 
-/// Whether both do.
+/// Whether y rises so.
+#[inline(always)]
+fn goes_up(edge: Edge, next: Edge) -> bool
+    ensures { result ≡ (int_le edge.ay edge.by && int_le edge.by next.by) }
+{
+    edge.ay <= edge.by && edge.by <= next.by
+}
+
+/// Whether y falls so.
+#[inline(always)]
+fn goes_down(edge: Edge, next: Edge) -> bool
+    ensures { result ≡ (int_le next.by edge.by && int_le edge.by edge.ay) }
+{
+    next.by <= edge.by && edge.by <= edge.ay
+}
+
+/// Whether x and y of an edge's end lie between those of its start and those of the next edge's end.
 #[inline(always)]
 fn goes_on(edge: Edge, next: Edge) -> bool
     ensures { result ≡ goes_on edge next }
 {
-    goes_on_across(edge, next) && goes_on_up(edge, next)
+    (goes_right(edge, next) || goes_left(edge, next))
+        && (goes_up(edge, next) || goes_down(edge, next))
 }
 
 /// Whether an edge and the next are joined.
@@ -99,6 +115,7 @@ pub(crate) fn join_all(edges: &mut [Edge], start: usize) -> usize
     requires { start ≤ length edges.old }
     ensures joined { take result edges.new ≡ take start edges.old ++ joined (drop start edges.old) }
     ensures within { result ≤ length edges.new }
+    ensures len { length edges.new ≡ length edges.old }
 {
     if start == edges.len() {
         return start;
