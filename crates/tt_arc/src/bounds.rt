@@ -1,6 +1,7 @@
 //! The box of an outline's points.
 
 ghost use Rattle.std.specs.Prelude.{◌≡◌, All};
+ghost use Rattle.tt_scan_gaps.specs.Boxes.{ExtentsFit};
 ghost use Rattle.tt_arc.specs.Bounds.{box_at, box_with, points_box};
 ghost use Rattle.tt_arc.specs.Chords.{EdgeEndFits, IsNear};
 
@@ -13,7 +14,8 @@ use tt_scan_gaps::{Extent, Extents};
 /// The box of a place.
 fn box_at(place: EdgeEnd) -> Extents
     requires { EdgeEndFits place }
-    ensures { result ≡ box_at place }
+    ensures exact { result ≡ box_at place }
+    ensures fits { ExtentsFit result }
 {
     let x = place.x as i32;
     let y = place.y as i32;
@@ -26,8 +28,10 @@ fn box_at(place: EdgeEnd) -> Extents
 /// A box with one more place.
 #[inline(always)]
 fn box_with(place: EdgeEnd, extents: Extents) -> Extents
-    requires { EdgeEndFits place }
-    ensures { result ≡ box_with place extents }
+    requires place { EdgeEndFits place }
+    requires extents { ExtentsFit extents }
+    ensures exact { result ≡ box_with place extents }
+    ensures fits { ExtentsFit result }
 {
     let x = place.x as i32;
     let y = place.y as i32;
@@ -47,7 +51,8 @@ fn box_with(place: EdgeEnd, extents: Extents) -> Extents
 /// Phantom points do not count.
 pub fn points_box(outline: &Outline, dx: i64, dy: i64) -> Extents
     requires { All (IsNear dx dy) outline.now.points.items }
-    ensures { result ≡ points_box outline.now.points.items dx dy }
+    ensures exact { result ≡ points_box outline.now.points.items dx dy }
+    ensures fits { ExtentsFit result }
 {
     let by = Offset { dx, dy };
     if outline.points.is_empty() {

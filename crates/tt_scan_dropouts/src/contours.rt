@@ -3,7 +3,7 @@
 ghost use Rattle.std.specs.Prelude.{◌≡◌, ◌^◌, ◌≤◌, length, All};
 ghost use Rattle.tt_scan.specs.Contours.{AreEnds};
 ghost use Rattle.tt_scan_edges.specs.Winding.{EdgeFits};
-ghost use Rattle.tt_scan_gaps.specs.Boxes.{HoldsEdges};
+ghost use Rattle.tt_scan_gaps.specs.Boxes.{IsBoxOf};
 ghost use Rattle.tt_scan_dropouts.specs.Ends.{AreEnds-prop};
 
 use crate::boxed::BoxedRules;
@@ -25,7 +25,7 @@ pub struct Outlined<'a> {
     pub rules: BoxedRules,
     pub tape: &'a Tape,
     pub ends: &'a [usize],
-    pub ghost held: { HoldsEdges rules.extents tape.now.edges },
+    pub ghost boxed: { IsBoxOf rules.extents tape.now.edges },
     pub ghost few: { length tape.now.edges ≤ 2 ^ 32 },
     pub ghost are_ends: { AreEnds (length tape.now.edges) ends.now } by { AreEnds-prop 0 (length tape.now.edges) ends.now },
 }

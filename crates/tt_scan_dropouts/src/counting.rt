@@ -4,7 +4,7 @@ ghost use Rattle.std.specs.Prelude.{◌≡◌, ◌^◌, ◌*◌, ◌+◌, ◌<�
 ghost use Rattle.tt_scan_edges.specs.Winding.{EdgeFits};
 ghost use Rattle.tt_scan_dropouts.specs.Counted.{bands, bands_bytes, edges_counted, filling_counted, numbers_in, rows_crossed};
 ghost use Rattle.tt_scan_dropouts.specs.Dropouts.{crossed};
-ghost use Rattle.tt_scan_gaps.specs.Boxes.{ColumnsFit};
+ghost use Rattle.tt_scan_gaps.specs.Boxes.{ColumnsFit, ExtentsFit};
 
 use tt_scan::Edge;
 use tt_scan_gaps::{Columns, Extents, box_of, lines_crossed, pixels_in, turned_round};
@@ -106,6 +106,7 @@ fn searched(bands: u64, crossed: u64) -> u64
 /// each band; and one for each 64 bytes of the bitmaps of the glyph's box.
 #[tactic(auto, unfolding(crate::specs::Counted::filling_counted))]
 pub fn filling_counted(extents: Extents, edges: &[Edge]) -> u64
+    requires box { ExtentsFit extents }
     requires edges { All EdgeFits edges.now }
     requires few { length edges.now ≤ 2 ^ 32 }
     ensures exact { result ≡ filling_counted extents edges.now }

@@ -41,6 +41,10 @@ pub record ExtentFits (e : Extent) : Type 0 where
   pub low : unsigned_abs e.low < 2 ^ 30
   pub high : unsigned_abs e.high < 2 ^ 30
 
+pub record ExtentsFit (b : Extents) : Type 0 where
+  pub across : ExtentFits b.across
+  pub up : ExtentFits b.up
+
 -- the columns and the rows of a box
 abbrev pub columns_in : Extents → Columns
 columns_in b = columns_between b.across.low b.across.high
@@ -62,6 +66,11 @@ pub record EdgeWithin (low_x high_x low_y high_y : ℤ) (e : Edge) : Type 0 wher
 -- a box holds all of some edges
 abbrev pub HoldsEdges : Extents → List Edge → Type 0
 HoldsEdges b es = All (EdgeWithin b.across.low b.across.high b.up.low b.up.high) es
+
+-- a box within the limits that holds some edges
+pub record IsBoxOf (b : Extents) (es : List Edge) : Type 0 where
+  pub fits : ExtentsFit b
+  pub held : HoldsEdges b es
 
 -- one of the columns of a box, or of its rows
 abbrev pub is_column_of : Columns → ℤ → Bool

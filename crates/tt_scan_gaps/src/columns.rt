@@ -3,7 +3,7 @@
 ghost use Rattle.std.specs.Prelude.{◌≡◌, ◌^◌, ◌<◌, map, unsigned_abs, All};
 ghost use Rattle.std.specs.Int.{int_max, int_min};
 ghost use Rattle.tt_scan_edges.specs.Winding.{EdgeFits};
-ghost use Rattle.tt_scan_gaps.specs.Boxes.{ColumnsFit, ExtentFits, columns_between, columns_in, columns_of, extents_turned, greatest_x, least_x, rows_in};
+ghost use Rattle.tt_scan_gaps.specs.Boxes.{ColumnsFit, ExtentFits, ExtentsFit, columns_between, columns_in, columns_of, extents_turned, greatest_x, least_x, rows_in};
 ghost use Rattle.tt_scan_gaps.specs.Seen.{turned_round};
 
 use crate::crossings::{PIXEL, gap_at, line_from};
@@ -68,6 +68,7 @@ fn extents(x: i32, y: i32, edges: &[Edge]) -> (Extent, Extent)
 /// The columns and the rows of a box: those with a centre in it. Where there is none, the column or row nearer to the
 /// middle.
 pub fn pixels_in(extents: Extents) -> (Columns, Columns)
+    requires { ExtentsFit extents }
     ensures columns { result.0 ≡ columns_in extents }
     ensures rows { result.1 ≡ rows_in extents }
     ensures small { ColumnsFit result.0 × ColumnsFit result.1 }

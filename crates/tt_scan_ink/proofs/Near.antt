@@ -7,7 +7,7 @@ use Rattle.std.proofs.lemmas.List.Elements.{All-head, All-map, All-tail, All-wea
 use Rattle.tt_scan_edges.specs.Winding.{EdgeFits}
 use Rattle.tt_scan_edges.specs.declared.edge.Edge.{Edge}
 use Rattle.tt_scan_gaps.specs.Crossings.{gap_at, line_from}
-use Rattle.tt_scan_gaps.specs.Boxes.{columns_between, columns_in, columns_of, greatest_x, least_x, rows_in}
+use Rattle.tt_scan_gaps.specs.Boxes.{ExtentsFit, columns_between, columns_in, columns_of, greatest_x, least_x, rows_in}
 use Rattle.tt_scan_gaps.specs.Seen.{turned_round}
 use Rattle.tt_scan_gaps.specs.declared.extent.Extents.{Extents}
 use Rattle.tt_scan_gaps.specs.declared.mark.Columns.{Columns}
@@ -95,7 +95,6 @@ lines_near es fits =
     (All-map EdgeFits turned_round es (All-weaker EdgeFits (λ e. EdgeFits (turned_round e)) turned_fits es fits))
 
 -- the columns and the rows of a box that fits
-pub box_near : (b : Extents) → unsigned_abs b.across.low < 2 ^ 30 → unsigned_abs b.across.high < 2 ^ 30
-    → unsigned_abs b.up.low < 2 ^ 30 → unsigned_abs b.up.high < 2 ^ 30 → AreNear (columns_in b) × AreNear (rows_in b)
-box_near b left right bottom top =
-    (between_near b.across.low b.across.high left right, between_near b.up.low b.up.high bottom top)
+pub box_near : (b : Extents) → ExtentsFit b → AreNear (columns_in b) × AreNear (rows_in b)
+box_near b fits =
+    (between_near b.across.low b.across.high fits.across.low fits.across.high, between_near b.up.low b.up.high fits.up.low fits.up.high)

@@ -4,6 +4,7 @@ use Rattle.std.specs.Prelude.{IfSome, unsigned_abs}
 use Rattle.std.proofs.lemmas.Int.{clamps, ints}
 use Rattle.tt_scan_edges.specs.Winding.{EdgeFits}
 use Rattle.tt_scan_edges.specs.declared.edge.Edge.{Edge}
+use Rattle.tt_scan_gaps.specs.Boxes.{ExtentsFit}
 use Rattle.tt_scan_gaps.specs.declared.mark.Columns.{Columns}
 use Rattle.tt_scan_dropouts.specs.declared.boxed.BoxedRules.{BoxedRules}
 use Rattle.tt_scan_ink.proofs.Near.{box_near, columns_near, lines_near}
@@ -59,8 +60,6 @@ ink_near black columns rows across up =
 pub edges_near : (es : List Edge) → All EdgeFits es → IfSome (edges_ink es) IsNear
 edges_near es fits = ink_near _ _ _ (columns_near es fits) (lines_near es fits)
 
-pub dropouts_near : (rules : BoxedRules) (contours : List (List Edge)) → unsigned_abs rules.extents.across.low < 2 ^ 30
-    → unsigned_abs rules.extents.across.high < 2 ^ 30 → unsigned_abs rules.extents.up.low < 2 ^ 30
-    → unsigned_abs rules.extents.up.high < 2 ^ 30 → IfSome (dropouts_ink rules contours) IsNear
-dropouts_near rules contours left right bottom top =
-    let near = box_near rules.extents left right bottom top in ink_near _ _ _ near.0 near.1
+pub dropouts_near : (rules : BoxedRules) (contours : List (List Edge)) → ExtentsFit rules.extents
+    → IfSome (dropouts_ink rules contours) IsNear
+dropouts_near rules contours fits = let near = box_near rules.extents fits in ink_near _ _ _ near.0 near.1

@@ -3,7 +3,7 @@
 ghost use Rattle.std.specs.Prelude.{◌≡◌, ◌+◌, ◌^◌, ◌<◌, ◌≤◌, [], ◌∷◌, length, unsigned_abs, IfOk, IfSome};
 ghost use Rattle.tt_core.specs.Limits.{height_limit};
 ghost use Rattle.tt_scan.specs.Contours.{AreEnds, contours_at};
-ghost use Rattle.tt_scan_gaps.specs.Boxes.{HoldsEdges};
+ghost use Rattle.tt_scan_gaps.specs.Boxes.{IsBoxOf};
 ghost use Rattle.tt_scan_dropouts.specs.Dropouts.{is_dropout};
 ghost use Rattle.tt_scan_dropouts.specs.Passes.{has_pixel};
 ghost use Rattle.tt_scan_dropouts.specs.Windows.{WindowFits, widened};
@@ -96,7 +96,7 @@ pub fn dropouts_ink(
     ends: &[usize],
 ) -> Result<Option<GlyphInk>, AllocError>
     requires few { length tape.now.edges ≤ 2 ^ 32 }
-    requires held { HoldsEdges rules.extents tape.now.edges }
+    requires boxed { IsBoxOf rules.extents tape.now.edges }
     requires ends { AreEnds (length tape.now.edges) ends.now }
     ensures exact { IfOk result (λ ink. ink ≡ dropouts_ink rules (contours_at tape.now.edges ends.now)) }
     ensures near { IfOk result (λ ink. IfSome ink IsNear) }

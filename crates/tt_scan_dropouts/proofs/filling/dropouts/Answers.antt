@@ -22,7 +22,7 @@ returns-in-None c =
     simp (c.pixels_in.ensures.columns, c.pixels_in.ensures.rows) at c.in-None.ensures.none in
     record {
       exact = λ col row. rw c.new.ensures.items (sym (clipped_away c.args.glyph.rules (contours_at es c.args.glyph.ends.now)
-          c.args.window col row (rw (edges_at es c.args.glyph.ends.now c.args.glyph.are_ends) c.args.glyph.held) (none col row)));
+          c.args.window col row (rw (edges_at es c.args.glyph.ends.now c.args.glyph.are_ends) c.args.glyph.boxed.held) (none col row)));
     }
 
 pub added-requires : goal.added-requires
@@ -66,5 +66,5 @@ returns c =
             c.deref-2.ensures.value,
             c.deref-3.ensures.value,
           ) (together passes col row ∙ clipped_alike c.args.glyph.rules contours c.args.window part col row
-          (rw (edges_at es ends c.args.glyph.are_ends) c.args.glyph.held) (cut col row));
+          (rw (edges_at es ends c.args.glyph.are_ends) c.args.glyph.boxed.held) (cut col row));
     }

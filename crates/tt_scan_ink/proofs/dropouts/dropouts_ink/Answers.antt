@@ -17,17 +17,17 @@ returns-then-not-may_have_dropouts-clause-exact c =
     let black : ℤ → ℤ → Bool = is_dropout c.args.rules (contours_at c.args.tape.now.edges c.args.ends.now) in
     let none : (k j : ℤ) → black k j ≡ false = λ k j.
     rw c.lend-edges.ensures.exact at (c.may_have_dropouts.ensures c.if-not-may_have_dropouts.true c.args.rules refl k j) in
-    none_is black (columns_in b) (rows_in b) (box_near b b.left b.right b.bottom b.top).0 none
+    none_is black (columns_in b) (rows_in b) (box_near b c.requires.boxed.fits).0 none
 
 pub windows_ink-requires-clause-columns : goal.windows_ink-requires-clause-columns
 windows_ink-requires-clause-columns c =
     let b = c.args.rules.extents in
-    rw c.pixels_in.ensures.columns (box_near b b.left b.right b.bottom b.top).0
+    rw c.pixels_in.ensures.columns (box_near b c.requires.boxed.fits).0
 
 pub windows_ink-requires-clause-rows : goal.windows_ink-requires-clause-rows
 windows_ink-requires-clause-rows c =
     let b = c.args.rules.extents in
-    rw c.pixels_in.ensures.rows (box_near b b.left b.right b.bottom b.top).1
+    rw c.pixels_in.ensures.rows (box_near b c.requires.boxed.fits).1
 
 pub returns-clause-exact : goal.returns-clause-exact
 returns-clause-exact c =
@@ -36,12 +36,11 @@ returns-clause-exact c =
     IfOk-weaker c.windows_ink.result
     (IsInk (shown (columns_in b) (rows_in b).first (count_of (rows_in b)) black))
     (λ ink. ink ≡ ink_in black (columns_in b) (rows_in b))
-    (λ ink is. found_is black (columns_in b) (rows_in b) ink (box_near b b.left b.right b.bottom b.top).0 is)
+    (λ ink is. found_is black (columns_in b) (rows_in b) ink (box_near b c.requires.boxed.fits).0 is)
     (rw (c.pixels_in.ensures.columns, c.pixels_in.ensures.rows) at c.windows_ink.ensures)
 
 pub returns-clause-near : goal.returns-clause-near
 returns-clause-near c =
-    let b = c.args.rules.extents in
     let contours = contours_at c.args.tape.now.edges c.args.ends.now in
     IfOk-weaker c.windows_ink.result (λ ink. ink ≡ dropouts_ink c.args.rules contours) (λ ink. IfSome ink IsNear)
-    (λ ink is. rw is (dropouts_near c.args.rules contours b.left b.right b.bottom b.top)) (returns-clause-exact c)
+    (λ ink is. rw is (dropouts_near c.args.rules contours c.requires.boxed.fits)) (returns-clause-exact c)
