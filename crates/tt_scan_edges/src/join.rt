@@ -1,7 +1,7 @@
 //! Joining the edges of a contour that meet no line. Most of a curve's chords are short and meet none, so a glyph has
 //! far fewer edges afterwards. What is black and where edges cross lines is as before.
 
-ghost use Rattle.std.specs.Prelude.{◌≡◌, ◌≤◌, ◌++◌, ◌&&◌, int_le, length, take, drop};
+ghost use Rattle.std.specs.Prelude.{◌≡◌, ◌+◌, ◌<◌, ◌≤◌, ◌++◌, ◌&&◌, true, false, int_le, length, take, drop, slice_set};
 ghost use Rattle.tt_scan_edges.specs.Joined.{goes_on, is_clear, join, joined, joins, leads_to, lies_on_line, line_below, meets_none};
 
 use crate::edge::Edge;
@@ -109,6 +109,35 @@ fn joins(edge: Edge, next: Edge) -> bool
     leads_to(edge, next) && (is_clear(join(edge, next)) && goes_on(edge, next))
 }
 
+/// Edges of a contour, joined so far: how many are done, and the last, which the next may be joined to.
+#[derive(Clone, Copy)]
+struct SoFar {
+    done: usize,
+    last: Edge,
+}
+
+/// Joins the next edge to the last, or puts the last behind those that are done.
+#[inline(always)]
+fn with_next(edges: &mut [Edge], so_far: SoFar, next: Edge) -> SoFar
+    requires { so_far.done < length edges.old }
+    ensures joined { joins so_far.last next ≡ true → result ≡ record { done = so_far.done; last = join so_far.last next } }
+    ensures kept { joins so_far.last next ≡ false → result ≡ record { done = so_far.done + 1; last = next } }
+    ensures same { joins so_far.last next ≡ true → edges.new ≡ edges.old }
+    ensures put { joins so_far.last next ≡ false → edges.new ≡ slice_set edges.old so_far.done so_far.last }
+{
+    if joins(so_far.last, next) {
+        return SoFar {
+            done: so_far.done,
+            last: join(so_far.last, next),
+        };
+    }
+    edges[so_far.done] = so_far.last;
+    SoFar {
+        done: so_far.done + 1,
+        last: next,
+    }
+}
+
 /// Joins the edges from edge `start` on, and moves them up. Returns how many edges there are then; those after them are
 /// left over.
 pub(crate) fn join_all(edges: &mut [Edge], start: usize) -> usize
@@ -120,18 +149,14 @@ pub(crate) fn join_all(edges: &mut [Edge], start: usize) -> usize
     if start == edges.len() {
         return start;
     }
-    let mut kept = start;
-    let mut last = edges[start];
+    let mut so_far = SoFar {
+        done: start,
+        last: edges[start],
+    };
     for i in start + 1..edges.len() {
         let next = edges[i];
-        if joins(last, next) {
-            last = join(last, next);
-        } else {
-            edges[kept] = last;
-            kept += 1;
-            last = next;
-        }
+        so_far = with_next(edges, so_far, next);
     }
-    edges[kept] = last;
-    kept + 1
+    edges[so_far.done] = so_far.last;
+    so_far.done + 1
 }

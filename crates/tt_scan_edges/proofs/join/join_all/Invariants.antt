@@ -4,8 +4,8 @@ use Rattle.tt_scan_edges.proofs.join.join_all.Given as goal
 
 abbrev pub invariant-loop-i : goal.invariant-loop-i
 invariant-loop-i l = record {
-  joined : take l.kept l.edges ++ joined_from l.last (drop l.i l.edges)
+  joined : take l.so_far.done l.edges ++ joined_from l.so_far.last (drop l.i l.edges)
       ≡ take l.start l.fn.edges ++ joined (drop l.start l.fn.edges);
-  below : l.kept < l.i;
+  below : l.so_far.done < l.i;
   len : length l.edges ≡ length l.fn.edges;
 }
