@@ -123,7 +123,7 @@ leads_join : (s t : EdgeEnd) (e : Edge) (fs : List Edge) → Leads s (e ∷ fs) 
 leads_join s t e [] leads = leads
 leads_join s t e (f ∷ fs) leads = elim (cases_Bool (joins e f)) [
   | inl is ↦ rw is (leads_join s t (join e f) fs (leads.0, leads.1.1))
-  | inr no ↦ rw no (leads.0, leads_join (record { x = e.bx; y = e.by }) t f fs leads.1)
+  | inr other ↦ rw other (leads.0, leads_join (record { x = e.bx; y = e.by }) t f fs leads.1)
 ]
 
 leads_joined : (r : ChordRule) (s t : EdgeEnd) (es : List Edge) → Leads s es t → Leads s (joined_by r es) t

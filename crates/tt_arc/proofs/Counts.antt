@@ -43,18 +43,18 @@ more a b is = grind arith
 pub counts_are_least : CountsAreLeast
 counts_are_least bend =
     either (IsLeastCount bend) (nat_le (2 * bend) 1) 1 _
-    (λ yes. let few = at_most (2 * bend) 1 yes in record { one_of = (0, omega arith, refl); enough = λ less. omega (arith, few); least = λ some. absurd (omega (arith, some)) })
-    (λ no. let more_1 = more (2 * bend) 1 no in
+    (λ is. let few = at_most (2 * bend) 1 is in record { one_of = (0, omega arith, refl); enough = λ less. omega (arith, few); least = λ some. absurd (omega (arith, some)) })
+    (λ out. let more_1 = more (2 * bend) 1 out in
     either (IsLeastCount bend) (nat_le (2 * bend) 4) 2 _
-    (λ yes. let few = at_most (2 * bend) 4 yes in record { one_of = (1, omega arith, refl); enough = λ less. omega (arith, few); least = λ some. omega (arith, more_1) })
-    (λ no. let more_2 = more (2 * bend) 4 no in
+    (λ is. let few = at_most (2 * bend) 4 is in record { one_of = (1, omega arith, refl); enough = λ less. omega (arith, few); least = λ some. omega (arith, more_1) })
+    (λ out. let more_2 = more (2 * bend) 4 out in
     either (IsLeastCount bend) (nat_le (2 * bend) 16) 4 _
-    (λ yes. let few = at_most (2 * bend) 16 yes in record { one_of = (2, omega arith, refl); enough = λ less. omega (arith, few); least = λ some. omega (arith, more_2) })
-    (λ no. let more_4 = more (2 * bend) 16 no in
+    (λ is. let few = at_most (2 * bend) 16 is in record { one_of = (2, omega arith, refl); enough = λ less. omega (arith, few); least = λ some. omega (arith, more_2) })
+    (λ out. let more_4 = more (2 * bend) 16 out in
     either (IsLeastCount bend) (nat_le (2 * bend) 64) 8 _
-    (λ yes. let few = at_most (2 * bend) 64 yes in record { one_of = (3, omega arith, refl); enough = λ less. omega (arith, few); least = λ some. omega (arith, more_4) })
-    (λ no. let more_8 = more (2 * bend) 64 no in
+    (λ is. let few = at_most (2 * bend) 64 is in record { one_of = (3, omega arith, refl); enough = λ less. omega (arith, few); least = λ some. omega (arith, more_4) })
+    (λ out. let more_8 = more (2 * bend) 64 out in
     either (IsLeastCount bend) (nat_le (2 * bend) 256) 16 _
-    (λ yes. let few = at_most (2 * bend) 256 yes in record { one_of = (4, omega arith, refl); enough = λ less. omega (arith, few); least = λ some. omega (arith, more_8) })
-    (λ no. let more_16 = more (2 * bend) 256 no in
+    (λ is. let few = at_most (2 * bend) 256 is in record { one_of = (4, omega arith, refl); enough = λ less. omega (arith, few); least = λ some. omega (arith, more_8) })
+    (λ out. let more_16 = more (2 * bend) 256 out in
     record { one_of = (5, omega arith, refl); enough = λ less. absurd (omega (arith, less)); least = λ some. omega (arith, more_16) })))))

@@ -293,7 +293,7 @@ from_held b e (f ∷ fs) held =
     elim (cases_Bool (joins e f)) [
       | inl is ↦ rw is (from_held b (join e f) fs (All-cons (HoldsEdge b) (join e f) fs (join_held b e f one two)
           (All-tail (HoldsEdge b) f fs rest)))
-      | inr no ↦ rw no (All-cons (HoldsEdge b) e (joined_from f fs) one (from_held b f fs rest))
+      | inr other ↦ rw other (All-cons (HoldsEdge b) e (joined_from f fs) one (from_held b f fs rest))
     ]
 
 joined_held : (r : ChordRule) (b : Extents) (es : List Edge) → HoldsEdges b es → HoldsEdges b (joined_by r es)

@@ -213,7 +213,7 @@ turns_from : (y : ℤ) (e : Edge) (fs : List Edge) → turns y (joined_from e fs
 turns_from y e [] = refl
 turns_from y e (f ∷ fs) = elim (cases_Bool (joins e f)) [
   | inl is ↦ rw is (turns_from y (join e f) fs ∙ sym (turn_joint y e f (turns y fs) is))
-  | inr no ↦ rw no (ap (λ z. (over y e.by -ℤ over y e.ay) +ℤ z) (turns_from y f fs))
+  | inr other ↦ rw other (ap (λ z. (over y e.by -ℤ over y e.ay) +ℤ z) (turns_from y f fs))
 ]
 
 turns_joined : (r : ChordRule) (y : ℤ) (es : List Edge) → turns y (joined_by r es) ≡ turns y es
