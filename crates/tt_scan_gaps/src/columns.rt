@@ -3,7 +3,7 @@
 ghost use Rattle.std.specs.Prelude.{◌≡◌, ◌^◌, ◌<◌, map, unsigned_abs, All};
 ghost use Rattle.std.specs.Int.{int_max, int_min};
 ghost use Rattle.tt_scan_edges.specs.Winding.{EdgeFits};
-ghost use Rattle.tt_scan_gaps.specs.Boxes.{ColumnsFit, ExtentFits, ExtentsFit, columns_between, columns_in, columns_of, extents_turned, greatest_x, least_x, rows_in};
+ghost use Rattle.tt_scan_gaps.specs.Boxes.{ColumnsFit, ExtentFits, ExtentsFit, columns_between, columns_in, columns_of, greatest_x, least_x, rows_in};
 ghost use Rattle.tt_scan_gaps.specs.Seen.{turned_round};
 
 use crate::crossings::{PIXEL, gap_at, line_from};
@@ -77,17 +77,6 @@ pub fn pixels_in(extents: Extents) -> (Columns, Columns)
         columns_between(extents.across.low, extents.across.high),
         columns_between(extents.up.low, extents.up.high),
     )
-}
-
-/// A box with x and y exchanged.
-#[inline(always)]
-pub fn extents_turned(extents: Extents) -> Extents
-    ensures { result ≡ extents_turned extents }
-{
-    Extents {
-        across: extents.up,
-        up: extents.across,
-    }
 }
 
 /// The columns and the rows of the box of edges: those with a centre from the least to the greatest x and y. Where

@@ -34,7 +34,7 @@ mod seen;
 mod steps;
 mod stub;
 
-pub use columns::{box_of, extents_turned, pixels_in};
+pub use columns::{box_of, pixels_in};
 pub use crossings::{crossing, gap_crossed, has_end_on_line, line_crossed, lines_crossed, touch};
 pub use extent::{Extent, Extents};
 pub use gaps::{group_end, pixel_of, some_asks, sort_marks};
