@@ -45,7 +45,7 @@ by_tests true right first last k = refl
 by_tests false true first last k = refl
 by_tests false false first last k = refl
 
-between_moved : (k low high : ℤ)
+pub between_moved : (k low high : ℤ)
     → columns_between (low +ℤ pos 8192 *ℤ k) (high +ℤ pos 8192 *ℤ k) ≡ columns_moved k (columns_between low high)
 between_moved k low high =
     rw (
