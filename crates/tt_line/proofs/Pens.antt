@@ -1,7 +1,7 @@
 -- Pens and their sums, character by character.
-use Rattle.std.proofs.Common.{◌≡◌, ℕ, ◌+◌, ◌<◌, ◌≤◌, List, [], ◌∷◌, ◌++◌, All, length, take, map, sum, slice_index, refl, sym, ap, ap₂, ◌∙◌, arith}
+use Rattle.std.proofs.Common.{◌≡◌, ℕ, ◌+◌, ◌<◌, ◌≤◌, List, [], ◌∷◌, ◌++◌, All, length, take, map, sum, slice_index, set, drop, get_or, refl, sym, ap, ap₂, ◌∙◌, arith}
 use Rattle.std.specs.List.{range_with_len}
-use Rattle.std.proofs.lemmas.List.{get_or-map, map_push, length_push, length-map, take-map, get_or_append_left, get_or_push, take-append-le, take_at}
+use Rattle.std.proofs.lemmas.List.{append_assoc, drop_more, get_or-map, get_or_at, length-take-le, map_push, set_at, take_more, length_push, length-map, take-map, get_or_append_left, get_or_push, take-append-le, take_at}
 use Rattle.std.proofs.lemmas.List.FromFn.{map-range_with_len_more, length-map-range_with_len, get_or-map-range_with_len, fill_by_all}
 use Rattle.std.proofs.lemmas.Grind.{same_number_lists}
 use Rattle.std.proofs.lemmas.List.Sums.{sum_by_push, sum_by-take-le}
@@ -88,3 +88,52 @@ next_placed f g cs c glyph pen before after is_pen is_before is_glyph pushed =
 -- the glyphs of the placed list are the given ones
 pub glyphs_of_placed : (f : ℕ → ℕ) (gs : List ℕ) → map (λ p. p.0) (placed f gs) ≡ gs
 glyphs_of_placed f gs = glyphs_by_steps gs (map f gs)
+
+-- one more of some glyphs, each with its step, is put at its pen
+abbrev pub at_pens : List (ℕ × ℕ) → List (ℕ × ℕ)
+at_pens gs = glyphs_at_pens (map (λ p. p.0) gs) (map (λ p. p.1) gs)
+
+length-pairs : (gs : List (ℕ × ℕ)) → length (map (λ (p : ℕ × ℕ). p.0) gs) ≡ length (map (λ (p : ℕ × ℕ). p.1) gs)
+length-pairs gs = length-map gs (λ (p : ℕ × ℕ). p.0) ∙ sym (length-map gs (λ (p : ℕ × ℕ). p.1))
+
+at_pens_more : (gs : List (ℕ × ℕ)) (g : ℕ × ℕ)
+    → at_pens (gs ++ g ∷ []) ≡ at_pens gs ++ (g.0, sum (map (λ (p : ℕ × ℕ). p.1) gs)) ∷ []
+at_pens_more gs g =
+    rw (map_push (λ (p : ℕ × ℕ). p.0) gs g, map_push (λ (p : ℕ × ℕ). p.1) gs g)
+    (pens_more (map (λ (p : ℕ × ℕ). p.0) gs) (map (λ (p : ℕ × ℕ). p.1) gs) g.0 g.1 (length-pairs gs))
+
+pub one_placed : (gs : List (ℕ × ℕ)) (i : ℕ) → i < length gs
+    → set (at_pens (take i gs) ++ drop i gs) i (
+      (get_or (at_pens (take i gs) ++ drop i gs) i (0, 0)).0,
+      sum (map (λ (p : ℕ × ℕ). p.1) (take i gs)),
+    )
+    ≡ at_pens (take (i + 1) gs) ++ drop (i + 1) gs
+one_placed gs i within =
+    let front = at_pens (take i gs) in
+    let g = get_or gs i (0, 0) in
+    let rest = drop (i + 1) gs in
+    let pen = sum (map (λ (p : ℕ × ℕ). p.1) (take i gs)) in
+    let here : drop i gs ≡ g ∷ rest = drop_more gs i (0, 0) within in
+    let many : length front ≡ i = length-at_pens (map (λ (p : ℕ × ℕ). p.0) (take i gs)) (map (λ (p : ℕ × ℕ). p.1) (take i gs))
+    ∙ length-map (take i gs) (λ (p : ℕ × ℕ). p.0) ∙ length-take-le i gs (omega arith) in
+    let read : get_or (front ++ g ∷ rest) i (0, 0) ≡ g = get_or_at front g rest (0, 0) i many in
+    rw (here, read, set_at front g rest (g.0, pen) i many, take_more gs i (0, 0) within, at_pens_more (take i gs) g)
+    (sym (append_assoc front ((g.0, pen) ∷ []) rest))
+
+-- a step that is not read yet is unchanged
+pub step_read : (gs : List (ℕ × ℕ)) (i : ℕ) → i < length gs
+    → get_or (at_pens (take i gs) ++ drop i gs) i (0, 0) ≡ get_or gs i (0, 0)
+step_read gs i within =
+    let front = at_pens (take i gs) in
+    let many : length front ≡ i = length-at_pens (map (λ (p : ℕ × ℕ). p.0) (take i gs)) (map (λ (p : ℕ × ℕ). p.1) (take i gs))
+    ∙ length-map (take i gs) (λ (p : ℕ × ℕ). p.0) ∙ length-take-le i gs (omega arith) in
+    rw (drop_more gs i (0, 0) within)
+    (get_or_at front (get_or gs i (0, 0)) (drop (i + 1) gs) (0, 0) i many)
+
+pub length-of_pairs : (gs : List (ℕ × ℕ)) → length (at_pens gs) ≡ length gs
+length-of_pairs gs = length-at_pens (map (λ (p : ℕ × ℕ). p.0) gs) (map (λ (p : ℕ × ℕ). p.1) gs) ∙ length-map gs (λ (p : ℕ × ℕ). p.0)
+
+-- glyphs, each with its own value, are the glyphs
+pub firsts : (f : ℕ → ℕ) (gs : List ℕ) → map (λ (p : ℕ × ℕ). p.0) (map (λ (g : ℕ). (g, f g)) gs) ≡ gs
+firsts f [] = refl
+firsts f (g ∷ gs) = ap (λ (hs : List ℕ). g ∷ hs) (firsts f gs)

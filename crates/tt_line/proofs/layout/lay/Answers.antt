@@ -1,4 +1,7 @@
-use Rattle.std.proofs.Common.{◌≡◌, sum, rules}
+use Rattle.std.proofs.Common.{◌≡◌, ap, ℕ, ◌≤◌, sum, arith, rules}
+use Rattle.std.proofs.lemmas.List.Elements.{All-weaker}
+use Rattle.std.specs.Prelude.{All}
+use Rattle.tt_line.specs.declared.extent.PictureExtent.{PictureExtent}
 use Rattle.tt_line.specs.Layout.{text_glyphs, advances_of}
 use Rattle.tt_line.proofs.layout.lay.Goals as goal
 
@@ -8,3 +11,15 @@ returns-in_err-extent-clause-fault c =
     let advances : c.sum_of_advances-advances.result ≡ sum (advances_of c.args.metrics.now c.args.ppem glyphs) =
     rw c.new-known.ensures at c.sum_of_advances-advances.ensures.exact in
     search rules
+
+pub invariant_of-result-clause-pens : goal.invariant_of-result-clause-pens
+invariant_of-result-clause-pens c =
+    let steps = advances_of c.args.metrics.now c.args.ppem (text_glyphs c.args.cmap.now c.args.text.now) in
+    let all : c.sum_of_advances-advances.result ≡ sum steps = rw c.new-known.ensures at c.sum_of_advances-advances.ensures.exact in
+    let same : c.in_ok-extent.extent.width ≡ c.with_margins.result.width =
+    ap (λ (e : PictureExtent). e.width) c.in_ok-extent.ensures.same in
+    let wide = c.with_margins.ensures.width in
+    let pens : All (λ (p : ℕ × ℕ). p.1 ≤ sum steps) c.in_ok-glyphs.glyphs.items =
+    rw (c.sum_of_advances-advances.ensures.same, c.new-known.ensures) at c.in_ok-glyphs.ensures.pens in
+    All-weaker (λ (p : ℕ × ℕ). p.1 ≤ sum steps) (λ (p : ℕ × ℕ). p.1 ≤ c.in_ok-extent.extent.width)
+    (λ p low. omega (arith, all, same, wide, low)) c.in_ok-glyphs.glyphs.items pens
