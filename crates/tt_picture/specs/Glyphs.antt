@@ -1,11 +1,13 @@
 -- No part of the standard: the distinct glyphs of a line, each with its edges at pen 0, and with its pens.
 use Rattle.std.specs.Prelude.{◌≡◌, ℕ, ◌<◌, ◌≤◌, ◌-◌, ◌+◌, ◌*◌, ◌^◌, Bool, false, ◌||◌, List, [], ◌∷◌, length, map, slice_index, pos, All, IfSome, IsOkAnd, Option, Ok, ⊤}
+use Rattle.std.specs.List.{sum_by}
 use Rattle.tt_core.specs.Bits.{stride}
 use Rattle.tt_core.specs.Faults.{Fault}
 use Rattle.tt_core.specs.Limits.{margin_limit, width_limit}
 use Rattle.tt_core.specs.Outcomes.{each}
 use Rattle.tt_fit.specs.Fitting.{Fitter, fitted_outline, unfitted_fault}
 use Rattle.tt_fit_outline.specs.Outline.{Outline}
+use Rattle.tt_fit_outline.specs.Steps.{step_of}
 use Rattle.tt_scan.specs.Contours.{AreEnds, IsClosed, contours_at}
 use Rattle.tt_scan_edges.specs.declared.edge.Edge.{Edge}
 use Rattle.tt_scan_edges.specs.declared.edge.Frame.{Frame}
@@ -21,6 +23,7 @@ use Rattle.tt_picture.specs.Distinct.{IsNext, distinct, with_glyph}
 use Rattle.tt_picture.specs.Ink.{ink_by}
 use Rattle.tt_picture.specs.Rows.{rows}
 use Rattle.tt_picture.specs.Shapes.{contours_of, crossings_in, edges_at, filled_by, filling_crossings, glyph_shape}
+use Rattle.tt_picture.specs.Steps.{chords_of}
 use Rattle.tt_picture.specs.Pixels as pixels
 use Rattle.tt_picture.specs.Pixels.{Drawn, Shape, Stamp, TapeFits, cut_from, is_black_by, is_filled, is_filled_by, some_black, some_filled}
 
@@ -46,10 +49,13 @@ abbrev pub left_of : Frame → GlyphBody → ℕ
 left_of f (tape t) = 0
 left_of f (raster k) = f.margin
 
--- a glyph by its number in the font: its body, its dropout rules, and the ends of its contours among the edges if
--- dropouts are filled. Then the number added to its pens, the pens, and the fault that makes it unfitted
+-- A glyph by its number in the font: its step, its chords, its body, its dropout rules, and the ends of its contours
+-- among the edges if dropouts are filled. Then the number added to its pens, the pens, and the fault that makes it
+-- unfitted
 pub record Glyph : Type 0 where
   pub number : ℕ
+  pub step : ℕ
+  pub chords : ℕ
   pub body : GlyphBody
   pub filled : Option Rules
   pub ends : List ℕ
@@ -97,7 +103,7 @@ crosses_in [] = 0
 crosses_in (g ∷ gs) = body_crosses g.body + crosses_in gs
 
 -- a glyph has the body of its outline, dropouts by its contours, and the fault that makes it unfitted; without a cache
--- it is a tape
+-- it is a tape, and its step and its chords are those of the outline
 pub record IsDrawn (cached : Bool) (s : Fitter) (f : Frame) (g : Glyph) : Type 0 where
   pub shape : Outline
   pub unfitted : g.unfitted ≡ unfitted_fault s g.number
@@ -105,6 +111,8 @@ pub record IsDrawn (cached : Bool) (s : Fitter) (f : Frame) (g : Glyph) : Type 0
   pub body : IsBodyOf (edges_at 0 shape) g.body
   pub left : g.left ≡ left_of f g.body
   pub tape : cached ≡ false → IsTape g.body
+  pub step : cached ≡ false → g.step ≡ step_of shape
+  pub chords : cached ≡ false → g.chords ≡ chords_of shape
   pub filled : g.filled ≡ filled_by s g.number shape
   pub of_tape : IfSome g.filled (λ rules. IsTape g.body)
   pub contours : IfSome g.filled (λ rules. contours_at (edges_of g.body) g.ends ≡ contours_of 0 shape)
@@ -188,6 +196,10 @@ pub record AreSeated (glyphs : ℕ) (table : List ℕ) (gs : List Glyph) : Type 
   pub room : length table ≡ glyphs
   pub places : ArePlaces table (numbers_of gs)
   pub lefts : All (λ g. g.left ≤ margin_limit) gs
+
+-- the chords of some glyphs
+abbrev pub all_chords : List Glyph → ℕ
+all_chords gs = sum_by (λ g. g.chords) gs
 
 -- glyphs before and after a glyph was found among them, or was made by this fitter and added without a pen
 pub record HasGlyph (cached : Bool) (s : Fitter) (f : Frame) (number : ℕ) (before after : List Glyph) : Type 0 where

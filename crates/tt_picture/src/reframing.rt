@@ -35,6 +35,8 @@ impl Glyph {
     {
         let Glyph {
             number,
+            step,
+            chords,
             body,
             filled,
             ends,
@@ -47,6 +49,8 @@ impl Glyph {
         let body = tape_of(alloc, list, frame)?;
         Ok(Glyph {
             number,
+            step,
+            chords,
             body,
             filled,
             ends,

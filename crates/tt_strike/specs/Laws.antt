@@ -7,7 +7,7 @@ use Rattle.tt_core.specs.declared.fault.JobFault.TheVariants as fault
 use Rattle.tt_fit.specs.declared.programs.Fit.TheVariants as fit
 use Rattle.tt_fit.specs.Fitting.{Fitter}
 use Rattle.tt_fit.specs.Rules.{falls_back}
-use Rattle.tt_line.specs.Layout.{Placement, placement}
+use Rattle.tt_line.specs.Layout.{Placement}
 use Rattle.tt_scan_edges.specs.declared.edge.Edge.{Edge}
 use Rattle.tt_scan_edges.specs.declared.edge.Frame.{Frame}
 use Rattle.tt_scan_edges.specs.Winding.{column_x, row_y}
@@ -21,7 +21,7 @@ use Rattle.tt_strike.specs.declared.growing.Sides.{Sides}
 use Rattle.tt_strike.specs.Picture as pictures
 use Rattle.tt_picture.specs.Pictures.{Image, image, picture}
 use Rattle.tt_picture.specs.Shapes.{glyph_shape}
-use Rattle.tt_strike.specs.Picture.{setting_in, frame_of, line_outcome, pictured, shapes_in}
+use Rattle.tt_strike.specs.Picture.{setting_in, frame_of, line_outcome, pictured, shapes_in, text_placed}
 use Rattle.tt_strike.specs.Measures.{measured}
 use Rattle.tt_strike.specs.Refusals.{Refused, job}
 use Rattle.tt_picture.specs.Pixels.{Shape, some_black, is_black_pixel}
@@ -95,7 +95,7 @@ pub record IsByEdges (a : Job) (file : List ℕ) (i : Image) : Type 0 where
   pub setting : Fitter
   pub glyphs : List Shape
   pub read : face_of file ≡ Ok face
-  pub laid : placement face.metrics face.cmap a.text a.ppem a.margin ≡ Ok line
+  pub laid : text_placed face a ≡ Ok line
   pub made : setting_in face a ≡ Ok setting
   pub fitted : shapes_in setting line ≡ Ok glyphs
   pub unfilled : AreUnfilled glyphs

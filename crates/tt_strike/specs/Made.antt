@@ -6,7 +6,7 @@ use Rattle.tt_line.specs.Layout.{Placement}
 use Rattle.tt_picture.specs.Distinct.{distinct}
 use Rattle.tt_picture.specs.Glyphs.{AreDrawn, AreWithin, Glyph, Stand, numbers_of}
 use Rattle.tt_strike.specs.Job.{Job}
-use Rattle.tt_strike.specs.Picture.{crossings_tested, frame_of, line_shapes, points_tested, setting_in, shapes_in}
+use Rattle.tt_strike.specs.Picture.{edges_tested, frame_of, line_shapes, points_tested, setting_in, shapes_in}
 use Rattle.tt_picture.specs.Pixels.{Shape}
 use Rattle.tt_strike.specs.Refusals.{Refused, as_font, as_job}
 use Rattle.tt_face.specs.Faces.{Face}
@@ -23,7 +23,7 @@ pub record AreMade (cached : Bool) (face : Face) (a : Job) (line : Placement) (g
   pub opened : setting_in face a ≡ Ok setting
   pub few : as_job (points_tested setting a line) ≡ Ok tt
   pub fitted : shapes_in setting line ≡ Ok shapes
-  pub seldom : crossings_tested setting a line shapes ≡ Ok tt
+  pub seldom : edges_tested setting a line shapes ≡ Ok tt
   pub drawn : AreDrawn cached (line_fitter setting (map (λ g. g.0) line.glyphs)) (frame_of line a.margin) gs
   pub numbers : numbers_of gs ≡ distinct (map (λ g. g.0) line.glyphs)
   pub within : AreWithin gs

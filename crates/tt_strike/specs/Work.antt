@@ -7,6 +7,7 @@ use Rattle.tt_core.specs.Limits.{crossing_limit}
 use Rattle.tt_fit.specs.Counting.{points_asked}
 use Rattle.tt_fit.specs.Fitting.{Fitter, charged_fitter}
 use Rattle.tt_picture.specs.Distinct.{distinct, each_fitter, fitter_after}
+use Rattle.tt_picture.specs.Steps.{glyph_chords}
 use Rattle.tt_fit.specs.declared.programs.Fit.{Fit}
 use Rattle.tt_fit.specs.declared.programs.Fit.TheVariants as fit
 
@@ -16,6 +17,10 @@ is_bounded fit.Full = false
 is_bounded fit.None = false
 is_bounded fit.Fallback = false
 is_bounded fit.Best = true
+
+-- the fits that lay a line out by the steps of its glyphs. The glyphs are made before, and their work is bounded
+abbrev pub lays_after_glyphs : Fit → Bool
+lays_after_glyphs how = is_bounded how
 
 -- tests an amount of work against its limit
 unfoldable pub work_tested : Fit → ℕ → ℕ → Result (Unit {0}) JobFault
@@ -41,6 +46,14 @@ line_fitter s gs g = each_fitter (started s gs) gs g
 abbrev pub work_left : Fitter → List ℕ → Option ℕ
 work_left s gs = (fitter_after (started s gs) (distinct gs)).work
 
+-- the chords of a line's glyphs, each glyph once
+abbrev pub chords_in : Fitter → List ℕ → ℕ
+chords_in s gs = sum_by (λ g. glyph_chords (line_fitter s gs g) g) (distinct gs)
+
+-- a line's glyphs may have this many chords
+abbrev pub chord_limit : ℕ
+chord_limit = 32000000
+
 -- how many crossings the remaining work allows: each takes 4, and 500,000 are free
 abbrev pub crossings_allowed : Option ℕ → ℕ
 crossings_allowed None = crossing_limit
@@ -58,6 +71,14 @@ too_little_for_one = refl
 
 none_remains : crossings_allowed (Some 0) ≡ 500000
 none_remains = refl
+
+as_many_chords_as_may_be : work_tested fit.Best chord_limit 32000000 ≡ Ok tt
+unfolding work_tested
+as_many_chords_as_may_be = refl
+
+one_chord_more : work_tested fit.Best chord_limit 32000001 ≡ Err fault.WorkLarge
+unfolding work_tested
+one_chord_more = refl
 
 at_the_limit : work_tested fit.Best crossing_limit 16000000 ≡ Ok tt
 unfolding work_tested

@@ -1,4 +1,5 @@
-use Rattle.std.proofs.Common.{◌≡◌, ap, ℕ, ◌≤◌, sum, arith, rules}
+use Rattle.std.proofs.Common.{◌≡◌, ap, ℕ, ◌≤◌, sum, SFits, w32, of_z, to_z, arith, rules}
+use Rattle.std.proofs.lemmas.Int.{ints, to_z-of_z}
 use Rattle.std.proofs.lemmas.List.Elements.{All-weaker}
 use Rattle.std.specs.Prelude.{All}
 use Rattle.tt_line.specs.declared.extent.PictureExtent.{PictureExtent}
@@ -23,3 +24,11 @@ invariant_of-result-clause-pens c =
     rw (c.sum_of_advances-advances.ensures.same, c.new-known.ensures) at c.in_ok-glyphs.ensures.pens in
     All-weaker (λ (p : ℕ × ℕ). p.1 ≤ sum steps) (λ (p : ℕ × ℕ). p.1 ≤ c.in_ok-extent.extent.width)
     (λ p low. omega (arith, all, same, wide, low)) c.in_ok-glyphs.glyphs.items pens
+
+pub invariant_of-result-clause-risen : goal.invariant_of-result-clause-risen
+invariant_of-result-clause-risen c =
+    let bound = c.rise-rise.ensures.bound in
+    let fits : SFits w32 c.rise-rise.result = omega (arith, ints, bound) in
+    -- by an equation of its own: once unsigned_abs is unfolded, simp finds neither to_z nor of_z
+    let same : to_z w32 (of_z w32 c.rise-rise.result) ≡ c.rise-rise.result = simp to_z-of_z refl in
+    rw same (omega (arith, bound))

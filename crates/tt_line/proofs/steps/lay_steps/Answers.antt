@@ -1,5 +1,6 @@
-use Rattle.std.proofs.Common.{◌≡◌, ◌∙◌, ap, ℕ, ◌≤◌, length, map, sum, arith, rules}
+use Rattle.std.proofs.Common.{◌≡◌, ◌∙◌, ap, ℕ, ◌≤◌, length, map, sum, SFits, w32, of_z, to_z, arith, rules}
 use Rattle.std.proofs.lemmas.List.{with_items_is}
+use Rattle.std.proofs.lemmas.Int.{ints, to_z-of_z}
 use Rattle.std.proofs.lemmas.List.Elements.{All-weaker}
 use Rattle.std.specs.Vec.{with_items}
 use Rattle.tt_line.specs.declared.extent.PictureExtent.{PictureExtent}
@@ -48,3 +49,11 @@ invariant_of-result-clause-pens c =
 pub invariant_of-result-clause-few : goal.invariant_of-result-clause-few
 invariant_of-result-clause-few c =
     rw (glyphs_then (goal.at.invariant_of-result-clause-few c).After-place, length-of_pairs c.args.steps.items) c.requires.few
+
+pub invariant_of-result-clause-risen : goal.invariant_of-result-clause-risen
+invariant_of-result-clause-risen c =
+    let bound = c.rise-rise.ensures.bound in
+    let fits : SFits w32 c.rise-rise.result = omega (arith, ints, bound) in
+    -- by an equation of its own: once unsigned_abs is unfolded, simp finds neither to_z nor of_z
+    let same : to_z w32 (of_z w32 c.rise-rise.result) ≡ c.rise-rise.result = simp to_z-of_z refl in
+    rw same (omega (arith, bound))
