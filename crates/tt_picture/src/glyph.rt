@@ -179,6 +179,13 @@ impl Glyph {
         self.body.edges()
     }
 
+    /// Its number in the font.
+    pub fn number(&self) -> u16
+        ensures { result ≡ self.now.number }
+    {
+        self.number
+    }
+
     /// The pixels from its pen to the next, for a glyph that is not cached.
     pub fn step(&self) -> u32
         ensures { result ≡ self.now.step }

@@ -9,8 +9,6 @@ use Rattle.tt_fit.specs.declared.programs.Fit.TheVariants as fit
 use Rattle.tt_fit.specs.Defects.{IsOutlineDefect}
 use Rattle.tt_fit.specs.Fitting.{Fitter}
 use Rattle.tt_fit.specs.Preparation.{prepared}
-use Rattle.tt_fit_outline.specs.Outline.{Outline}
-use Rattle.tt_fit_outline.specs.Steps.{step_of}
 use Rattle.tt_line.specs.declared.extent.PictureExtent.{PictureExtent}
 use Rattle.tt_line.specs.Layout.{Placement, depth_of, extent_by, extent_of, rise_of, text_glyphs, IsRefusal}
 use Rattle.tt_core.specs.declared.fault.JobFault.{JobFault}
@@ -19,7 +17,7 @@ use Rattle.tt_core.specs.Limits.{point_work_limit}
 use Rattle.tt_strike.specs.Job.{Job, IsFontDefect, IsTestRefusal}
 use Rattle.tt_strike.specs.Programs.{programs_in}
 use Rattle.tt_strike.specs.Refusals.{needs_font}
-use Rattle.tt_strike.specs.Picture.{outlines_in, setting_in, shapes_in, text_placed}
+use Rattle.tt_strike.specs.Picture.{outlines_in, setting_in, shapes_in, steps_in, text_placed}
 use Rattle.tt_picture.specs.Shapes.{crossings_in}
 use Rattle.tt_strike.specs.Work.{chord_limit, chords_in, crossings_allowed, is_bounded, lays_after_glyphs, line_fitter, points_in, work_left}
 
@@ -61,16 +59,16 @@ TellsDefects told IsOne (Ok v) = HasNo IsOne
 TellsDefects told IsOne (Err e) = IfSome (told e) IsOne
 
 -- the extent of a text's picture by the steps of its glyphs
-abbrev pub steps_extent : Face → Job → List Outline → PictureExtent
-steps_extent face a outlines =
-    extent_by (map step_of outlines) a.margin (rise_of face.metrics a.ppem) (depth_of face.metrics a.ppem)
+abbrev pub steps_extent : Face → Job → Fitter → List ℕ → PictureExtent
+steps_extent face a s gs =
+    extent_by (steps_in s gs) a.margin (rise_of face.metrics a.ppem) (depth_of face.metrics a.ppem)
 
 -- the fact that refuses the extent of a picture
 abbrev pub IsExtentRefusal : Face → Job → JobFault → Type 0
 IsExtentRefusal face a j =
     let gs = text_glyphs face.cmap a.text in
     if lays_after_glyphs a.fit
-    then IsOkAnd (setting_in face a) (λ s. IsOkAnd (outlines_in s gs) (λ outlines. IsRefusal (steps_extent face a outlines) j))
+    then IsOkAnd (setting_in face a) (λ s. IsOkAnd (outlines_in s gs) (λ outlines. IsRefusal (steps_extent face a s gs) j))
     else IsRefusal (extent_of face.metrics a.ppem a.margin gs) j
 
 -- some glyphs have too many points

@@ -4,6 +4,9 @@ use Rattle.std.specs.Prelude.{ℕ, ◌+◌, if◌then◌else◌, ℤ, pos, ◌+�
 use Rattle.tt_core.specs.Outcomes.{◌>>=◌}
 use Rattle.tt_fit.specs.Fitting.{Fitter}
 use Rattle.tt_line.specs.Layout.{Placement, advance_in_pixels}
+use Rattle.tt_metrics.specs.Metrics.{Metrics}
+use Rattle.tt_fit.specs.declared.programs.Fit.{Fit}
+use Rattle.tt_picture.specs.Glyphs.{Glyph}
 use Rattle.tt_scan_edges.specs.declared.edge.Frame.{Frame}
 use Rattle.tt_scan_ink.specs.declared.ink.GlyphInk.{GlyphInk}
 use Rattle.tt_picture.specs.Ink.{all_joined, glyph_ink, ink_at}
@@ -68,6 +71,10 @@ line_ink s line g = glyph_ink (line_fitter s (map (λ g. g.0) line.glyphs) g) g
 abbrev pub line_step : Face → Job → Fitter → Placement → ℕ → ℕ
 line_step face a s line g = if lays_after_glyphs a.fit then glyph_step (line_fitter s (map (λ g. g.0) line.glyphs) g) g
     else advance_in_pixels face.metrics a.ppem g
+
+-- the step of a made glyph: its own, or its advance
+abbrev pub made_step : Metrics → ℕ → Fit → Glyph → ℕ
+made_step m ppem how g = if lays_after_glyphs how then g.step else advance_in_pixels m ppem g.number
 
 -- the measure of a laid-out line; it is refused exactly where its picture is
 unfoldable pub measured_line : Face → Job → Placement → Result Measure Refused

@@ -10,18 +10,18 @@ use Rattle.tt_fit.specs.Fitting.{Fitter}
 use Rattle.tt_fit.specs.Preparation.{fitter_of}
 use Rattle.tt_fit.specs.declared.programs.Fit.{Fit}
 use Rattle.tt_fit_outline.specs.Outline.{Outline}
-use Rattle.tt_fit_outline.specs.Steps.{step_of}
 use Rattle.tt_line.specs.Layout.{Placement, laid_at, placement, text_glyphs}
 use Rattle.tt_scan_edges.specs.declared.edge.Frame.{Frame}
 use Rattle.tt_strike.specs.Job.{Job, by_face, tested}
 use Rattle.tt_strike.specs.Refusals.{Refused, as_font, as_job}
+use Rattle.tt_picture.specs.Distinct.{distinct}
 use Rattle.tt_picture.specs.Pictures.{Image, picture}
 use Rattle.tt_picture.specs.Pixels.{Shape}
 use Rattle.tt_picture.specs.Shapes.{crossings_in, glyph_shape}
-use Rattle.tt_picture.specs.Steps.{outlines_by}
+use Rattle.tt_picture.specs.Steps.{glyph_step, outlines_by}
 use Rattle.tt_face.specs.Faces.{Face, glyphs_in}
 use Rattle.tt_strike.specs.Programs.{programs_in}
-use Rattle.tt_strike.specs.Work.{chord_limit, chords_in, crossings_allowed, lays_after_glyphs, line_fitter, points_in, work_left, work_tested}
+use Rattle.tt_strike.specs.Work.{chords_in, edges_limited, lays_after_glyphs, line_fitter, points_in, work_left, work_tested}
 
 -- the fitter: the glyph data, and the state after the font's programs at the size
 unfoldable pub setting : Face → ℕ → Fit → Result Fitter Fault
@@ -37,27 +37,32 @@ setting_in face a = setting face a.ppem a.fit
 abbrev pub frame_of : Placement → ℕ → Frame
 frame_of line margin = record { width = line.width; height = line.height; margin = margin; rise = line.rise }
 
--- the outlines of some glyphs, made in order
+-- the outlines of some glyphs, each glyph once, made in order
 abbrev pub outlines_in : Fitter → List ℕ → Result (List Outline) Fault
-outlines_in s gs = outlines_by (line_fitter s gs) gs
+outlines_in s gs = outlines_by (line_fitter s gs) (distinct gs)
+
+-- the step of each of some glyphs
+abbrev pub steps_in : Fitter → List ℕ → List ℕ
+steps_in s gs = map (λ g. glyph_step (line_fitter s gs g) g) gs
 
 -- the glyphs of a laid-out line, made in order
 abbrev pub shapes_in : Fitter → Placement → Result (List Shape) Fault
 shapes_in s line = each (glyph_shape (line_fitter s (map (λ g. g.0) line.glyphs))) line.glyphs
 
--- some glyphs have few enough points for the job
-abbrev pub glyph_points_tested : Fitter → Job → List ℕ → Result (Unit {0}) JobFault
-glyph_points_tested s a gs = work_tested a.fit point_work_limit (points_in s gs)
-
+-- a line's glyphs have few enough points for the job
 abbrev pub points_tested : Fitter → Job → Placement → Result (Unit {0}) JobFault
-points_tested s a line = glyph_points_tested s a (map (λ g. g.0) line.glyphs)
+points_tested s a line = work_tested a.fit point_work_limit (points_in s (map (λ g. g.0) line.glyphs))
+
+-- the outlines of some glyphs, once their points are tested, or the first refusal
+abbrev pub outlines_tested : Fitter → Fit → List ℕ → Result (List Outline) Refused
+outlines_tested s how gs = as_job (work_tested how point_work_limit (points_in s gs)) >>= λ u. as_font (outlines_in s gs)
 
 -- a line's glyphs have few enough chords, and then few enough crossings, in its picture and outside, for the work that
 -- remains
-unfoldable pub edges_tested : Fitter → Job → Placement → List Shape → Result (Unit {0}) JobFault
+abbrev pub edges_tested : Fitter → Job → Placement → List Shape → Result (Unit {0}) JobFault
 edges_tested s a line glyphs =
-    work_tested a.fit chord_limit (chords_in s (map (λ g. g.0) line.glyphs)) >>= λ u.
-    work_tested a.fit (crossings_allowed (work_left s (map (λ g. g.0) line.glyphs))) (crossings_in glyphs)
+    let gs = map (λ g. g.0) line.glyphs in
+    edges_limited a.fit (work_left s gs) (chords_in s gs) (crossings_in glyphs)
 
 -- the glyphs that are drawn for a job, or its first refusal
 abbrev pub line_shapes : Fitter → Job → Placement → Result (List Shape) Refused
@@ -79,9 +84,8 @@ unfoldable pub placed_by_steps : Face → Job → Result Placement Refused
 placed_by_steps face a =
     let gs = text_glyphs face.cmap a.text in
     as_font (setting_in face a) >>= λ s.
-    as_job (glyph_points_tested s a gs) >>= λ u.
-    as_font (outlines_in s gs) >>= λ outlines.
-    as_job (laid_at face.metrics a.ppem a.margin gs (map step_of outlines))
+    outlines_tested s a.fit gs >>= λ outlines.
+    as_job (laid_at face.metrics a.ppem a.margin gs (steps_in s gs))
 
 -- a text laid out by a font's tables, or the first refusal
 unfoldable pub text_placed : Face → Job → Result Placement Refused

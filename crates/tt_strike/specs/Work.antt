@@ -4,6 +4,7 @@ use Rattle.std.specs.List.{sum_by}
 use Rattle.tt_core.specs.declared.fault.JobFault.{JobFault}
 use Rattle.tt_core.specs.declared.fault.JobFault.TheVariants as fault
 use Rattle.tt_core.specs.Limits.{crossing_limit}
+use Rattle.tt_core.specs.Outcomes.{◌>>=◌}
 use Rattle.tt_fit.specs.Counting.{points_asked}
 use Rattle.tt_fit.specs.Fitting.{Fitter, charged_fitter}
 use Rattle.tt_picture.specs.Distinct.{distinct, each_fitter, fitter_after}
@@ -59,6 +60,11 @@ abbrev pub crossings_allowed : Option ℕ → ℕ
 crossings_allowed None = crossing_limit
 crossings_allowed (Some left) = min crossing_limit (left / 4 + 500000)
 
+-- tests the chords of a line's glyphs, and then their crossings, by the work that remains
+unfoldable pub edges_limited : Fit → Option ℕ → ℕ → ℕ → Result (Unit {0}) JobFault
+edges_limited how left chords crossings =
+    work_tested how chord_limit chords >>= λ u. work_tested how (crossings_allowed left) crossings
+
 -- worked values: all work remains, some, three, and none
 all_remains : crossings_allowed (Some 100000000) ≡ 16000000
 all_remains = refl
@@ -79,6 +85,18 @@ as_many_chords_as_may_be = refl
 one_chord_more : work_tested fit.Best chord_limit 32000001 ≡ Err fault.WorkLarge
 unfolding work_tested
 one_chord_more = refl
+
+no_crossing_but_too_many_chords : edges_limited fit.Best None 32000001 0 ≡ Err fault.WorkLarge
+unfolding edges_limited work_tested
+no_crossing_but_too_many_chords = refl
+
+few_chords_but_too_many_crossings : edges_limited fit.Best (Some 3) 8 500001 ≡ Err fault.WorkLarge
+unfolding edges_limited work_tested
+few_chords_but_too_many_crossings = refl
+
+few_of_both : edges_limited fit.Best (Some 3) 32000000 500000 ≡ Ok tt
+unfolding edges_limited work_tested
+few_of_both = refl
 
 at_the_limit : work_tested fit.Best crossing_limit 16000000 ≡ Ok tt
 unfolding work_tested
