@@ -1,5 +1,5 @@
 -- Lemmas about the definitions. Apple TrueType Reference Manual, "The 'hmtx' table": a line of text.
-use Rattle.std.specs.Prelude.{◌≡◌, ℕ, ◌+◌, ◌*◌, ◌<◌, ◌≤◌, ℤ, List, length, map, slice_index, Ok}
+use Rattle.std.specs.Prelude.{◌≡◌, ℕ, ◌+◌, ◌*◌, ◌<◌, ◌≤◌, ℤ, List, get_or, length, map, slice_index, Ok}
 use Rattle.tt_cmap.specs.Lookup.{Cmap}
 use Rattle.tt_metrics.specs.Metrics.{Metrics}
 use Rattle.tt_line.specs.Layout.{Placement, advances_of, depth_of, glyph_placement, laid, pen_at, placement, rise_of, text_glyphs}
@@ -15,7 +15,7 @@ pub record ArePens (steps : List ℕ) (margin : ℕ) (line : Placement) : Type 0
   pub first : pen_at steps 0 ≡ 0
   pub next : (i : ℕ) → i < length steps → pen_at steps (i + 1) ≡ pen_at steps i + slice_index steps i
   pub last : line.width ≡ pen_at steps (length steps) + 2 * margin
-  pub pens : (i : ℕ) → i < length line.glyphs → (slice_index line.glyphs i).1 ≡ pen_at steps i
+  pub pens : (i : ℕ) → i < length line.glyphs → (get_or line.glyphs i (0, 0)).1 ≡ pen_at steps i
   pub rising : (i j : ℕ) → i ≤ j → pen_at steps i ≤ pen_at steps j
 
 -- each line that is laid out by some steps has these pens

@@ -1,4 +1,4 @@
-use Rattle.std.proofs.Common.{◌≡◌, ◌∙◌, ◌++◌, ap, ℕ, ◌+◌, ◌<◌, ◌≤◌, [], drop, get_or, length, map, refl, sum, sym, take, arith}
+use Rattle.std.proofs.Common.{◌≡◌, ◌∙◌, ℕ, ◌<◌, ◌≤◌, get_or, length, map, refl, take, arith}
 use Rattle.std.proofs.lemmas.List.{append-nil, drop_all, map_more, take_all}
 use Rattle.std.proofs.lemmas.List.Sums.{sum-map, sum_by_more_le, sum_by_push}
 use Rattle.tt_line.proofs.Pens.{at_pens, one_placed, step_read}
