@@ -14,6 +14,7 @@ ghost use Rattle.tt_picture.specs.Cached.{IsCacheFor, IsCached, is_there, limit_
 ghost use Rattle.tt_picture.specs.Fitted.{IsFitted};
 ghost use Rattle.tt_picture.specs.Glyphs.{BodyFits, IsBodyOf, IsDrawn, IsTape};
 ghost use Rattle.tt_picture.specs.Shapes.{contours_of, edges_at};
+ghost use Rattle.tt_picture.specs.Steps.{chords_of};
 ghost use Rattle.tt_picture.specs.Views.{body_view};
 
 use crate::cache::Cache;
@@ -86,6 +87,7 @@ impl FittedGlyph {
         ensures number { IfOk result (λ g. g.number ≡ self.number) }
         ensures pens { IfOk result (λ g. g.pens ≡ []) }
         ensures left { IfOk result (λ g. g.left ≤ margin_limit) }
+        ensures plain { IfOk result (λ g. is_there cache.old ≡ false → (g.left ≡ 0) × (g.chords ≡ chords_of self.outline)) }
         ensures valid { IfOk result (λ g. (s : Fitter) → IsFitted s self → IsDrawn (is_there cache.old) s frame g) }
         ensures cached { (s : Fitter) → IsFitted s self → IsCacheFor s cache.old → IsCacheFor s cache.new }
         ensures limit { limit_of cache.new ≡ limit_of cache.old }
@@ -101,10 +103,11 @@ impl FittedGlyph {
         let caches = can_be_cached(cache, filled);
         let body = body_of(alloc, list, frame, number, unfitted, cache, caches)?;
         let left = body.left(frame);
+        let step = outline.step();
         let chords = body.edges();
         Ok(Glyph {
             number,
-            step: outline.step(),
+            step,
             chords,
             body,
             filled,
