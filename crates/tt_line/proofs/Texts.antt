@@ -11,7 +11,7 @@ use Rattle.tt_core.specs.Chains.{came-through}
 use Rattle.tt_line.specs.Laws.{AdvancesAreSteps, PlacesGlyphs, StepsLead}
 use Rattle.tt_line.specs.declared.extent.PictureExtent.{PictureExtent}
 use Rattle.tt_line.specs.Layout.{advance_in_pixels, advances_of, extent_by, extent_of, pen_at, placed_in, rise_of, text_glyphs, within_limits, placement}
-use Rattle.tt_line.proofs.Pens.{glyphs_of_placed, length-at_pens}
+use Rattle.tt_line.proofs.Pens.{glyphs_by_steps, glyphs_of_placed, length-at_pens}
 
 pub glyphs-are-placed : PlacesGlyphs
 unfolding placement
@@ -46,6 +46,7 @@ steps-lead glyphs steps margin rise depth line was =
     let is : placed_in glyphs steps rise by_extent.value ≡ line = let rest = by_extent.rest in cc in
     let same = within_same (extent_by steps margin rise depth) by_extent.value by_extent.first in
     rw (← is, same) (record {
+      numbers = glyphs_by_steps glyphs steps;
       first = refl;
       next = λ i within. sum_by_more (λ n. n) steps i 0 within;
       last = rw (take_all (length steps) steps (omega arith)) refl;

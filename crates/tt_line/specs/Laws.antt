@@ -9,9 +9,10 @@ abbrev pub PlacesGlyphs : Type 0
 PlacesGlyphs = (m : Metrics) (cmap : Cmap) (text : List ℕ) (ppem margin : ℕ) (line : Placement)
     → placement m cmap text ppem margin ≡ Ok line → map (λ g. g.0) line.glyphs ≡ text_glyphs cmap text
 
--- the pens of a line are the sums of the steps before them: the first is 0, each step leads to the next, and the last
+-- each character has its glyph, and the pens of a line are the sums of the steps before them: the first is 0, each step leads to the next, and the last
 -- step leads to the right margin
-pub record ArePens (steps : List ℕ) (margin : ℕ) (line : Placement) : Type 0 where
+pub record ArePens (gs steps : List ℕ) (margin : ℕ) (line : Placement) : Type 0 where
+  pub numbers : map (λ g. g.0) line.glyphs ≡ gs
   pub first : pen_at steps 0 ≡ 0
   pub next : (i : ℕ) → i < length steps → pen_at steps (i + 1) ≡ pen_at steps i + slice_index steps i
   pub last : line.width ≡ pen_at steps (length steps) + 2 * margin
@@ -21,7 +22,7 @@ pub record ArePens (steps : List ℕ) (margin : ℕ) (line : Placement) : Type 0
 -- each line that is laid out by some steps has these pens
 abbrev pub StepsLead : Type 0
 StepsLead = (glyphs steps : List ℕ) (margin : ℕ) (rise depth : ℤ) (line : Placement)
-    → laid glyphs steps margin rise depth ≡ Ok line → ArePens steps margin line
+    → laid glyphs steps margin rise depth ≡ Ok line → ArePens glyphs steps margin line
 
 -- the layout by advances is the layout by steps, with the advances as the steps
 abbrev pub AdvancesAreSteps : Type 0

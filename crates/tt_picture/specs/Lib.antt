@@ -3,6 +3,7 @@ pub mod Distinct
 pub mod Fitted
 pub mod Glyphs
 pub mod Ink
+pub mod OutlineSteps
 pub mod Pictures
 pub mod Pixels
 pub mod Rows

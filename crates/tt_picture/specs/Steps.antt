@@ -4,7 +4,7 @@ use Rattle.tt_core.specs.Faults.{Fault}
 use Rattle.tt_core.specs.Outcomes.{each}
 use Rattle.tt_fit.specs.Fitting.{Fitter, fitted_outline}
 use Rattle.tt_fit_outline.specs.Outline.{Outline}
-use Rattle.tt_fit_outline.specs.Steps.{step_of}
+use Rattle.tt_picture.specs.OutlineSteps.{step_of}
 use Rattle.tt_picture.specs.Shapes.{edges_at}
 
 -- the outlines of some glyphs, made in order, by the fitter of each

@@ -7,7 +7,7 @@ use Rattle.tt_strike.specs.Costs.{cost_of, line_cost}
 use Rattle.tt_picture.specs.Glyphs.{Glyph}
 use Rattle.tt_strike.specs.Job.{Job}
 use Rattle.tt_strike.specs.Made.{AreMade}
-use Rattle.tt_strike.specs.Picture.{crossings_tested, points_tested, setting_in, shapes_in}
+use Rattle.tt_strike.specs.Picture.{edges_tested, points_tested, setting_in, shapes_in}
 use Rattle.tt_picture.specs.Pixels.{Shape}
 use Rattle.tt_strike.specs.Refusals.{as_job}
 use Rattle.tt_face.specs.Faces.{Face}
@@ -16,7 +16,7 @@ use Rattle.tt_strike.specs.Work.{is_bounded, work_left}
 
 -- the cost of a line that is not refused
 pub costed : (face : Face) (a : Job) (l : Placement) (s : Fitter) (shapes : List Shape) → setting_in face a ≡ Ok s
-    → as_job (points_tested s a l) ≡ Ok tt → shapes_in s l ≡ Ok shapes → crossings_tested s a l shapes ≡ Ok tt
+    → as_job (points_tested s a l) ≡ Ok tt → shapes_in s l ≡ Ok shapes → edges_tested s a l shapes ≡ Ok tt
     → line_cost face a l ≡ Ok (cost_of (work_left s (map (λ g. g.0) l.glyphs)) (crossings_in shapes))
 unfolding line_cost
 costed face a l s shapes opened few fitted seldom = rw (opened, few, fitted, seldom) refl

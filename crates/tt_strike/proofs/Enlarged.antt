@@ -21,7 +21,7 @@ use Rattle.tt_strike.specs.Made.{AreMade, shapes_made}
 use Rattle.tt_strike.specs.Measures.{Measure, line_ink, measure_by, measured_line}
 use Rattle.tt_picture.specs.Pictures.{picture}
 use Rattle.tt_picture.specs.Shapes.{glyph_shape, shape_at, crossings_in}
-use Rattle.tt_strike.specs.Picture.{crossings_tested, drawn, frame_of, points_tested, setting_in, shapes_in}
+use Rattle.tt_strike.specs.Picture.{edges_tested, drawn, frame_of, points_tested, setting_in, shapes_in}
 use Rattle.tt_picture.specs.Pixels.{Shape}
 use Rattle.tt_strike.specs.Refusals.{Refused, as_job, job, refusal}
 use Rattle.tt_picture.specs.Unfitted.{ListsOnce, unfitted_standing}
@@ -142,7 +142,7 @@ pub record IsMade (face : Face) (a : Job) (line : Placement) (s : Fitter) : Type
   pub opened : setting_in face a ≡ Ok s
   pub few : as_job (points_tested s a line) ≡ Ok tt
   pub fitted : shapes_in s line ≡ Ok shapes
-  pub seldom : crossings_tested s a line shapes ≡ Ok tt
+  pub seldom : edges_tested s a line shapes ≡ Ok tt
 
 pub larger_made : (face : Face) (a : Job) (l larger : Placement) (left : ℕ) (gs : List Glyph)
     → (made : AreMade false face a l gs) → larger.glyphs ≡ rightwards left l.glyphs → IsMade face a larger made.setting

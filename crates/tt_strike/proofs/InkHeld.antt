@@ -39,7 +39,7 @@ use Rattle.tt_strike.specs.declared.measuring.CharacterMeasure.{CharacterMeasure
 use Rattle.tt_picture.proofs.Blackened.{or_false, or_or}
 use Rattle.tt_strike.proofs.Larger.{first_of}
 use Rattle.tt_picture.proofs.Standings.{contours_at_pen, from_pen}
-use Rattle.tt_strike.proofs.Whole.{of-font}
+use Rattle.tt_strike.proofs.Placed.{of-font}
 
 -- the laws of the crates below about boxes and contours
 pub record BoxLaws : Type 0 where

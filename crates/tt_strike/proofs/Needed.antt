@@ -21,7 +21,7 @@ use Rattle.tt_picture.specs.Distinct.{distinct, distinct_after, is_among, with_g
 use Rattle.tt_picture.specs.Glyphs.{GlyphBody, tape, raster, AreDrawn, Glyph, IsBodyOf, IsDrawn, drawn_of, edges_cut, numbers_of}
 use Rattle.tt_strike.specs.Job.{Job}
 use Rattle.tt_picture.specs.Shapes.{edges_at, glyph_shape, shape_at, crossings_in}
-use Rattle.tt_strike.specs.Picture.{crossings_tested, shapes_in}
+use Rattle.tt_strike.specs.Picture.{edges_tested, shapes_in}
 use Rattle.tt_picture.specs.Pictures.{rows_crossings}
 use Rattle.tt_picture.specs.Pixels.{Shape, crossings_up_to, cut_from}
 use Rattle.tt_strike.specs.Work.{crossings_allowed, is_bounded, line_fitter, work_left, work_tested}
@@ -134,7 +134,7 @@ allowed_few (Some left) = omega arith
 pub tested_crossings : {cached : Bool} (a : Job) (l : Placement) (s : Fitter) (f : Frame) (gs : List Glyph)
     (shapes : List Shape) → AreDrawn cached (line_fitter s (map (λ g. g.0) l.glyphs)) f gs
     → numbers_of gs ≡ distinct (map (λ g. g.0) l.glyphs) → shapes_in s l ≡ Ok shapes
-    → crossings_tested s a l shapes ≡ Ok tt → is_bounded a.fit ≡ true
+    → edges_tested s a l shapes ≡ Ok tt → is_bounded a.fit ≡ true
     → rows_crossings f f.height (edges_cut gs) ≤ crossing_limit
 tested_crossings {cached} a l s f gs shapes drawn each_once made seldom bounded =
     let numbers = map (λ (g : ℕ × ℕ). g.0) l.glyphs in

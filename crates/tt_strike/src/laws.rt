@@ -11,6 +11,7 @@ pub fn fonts_are_whole()
     ensures picture { DrawnFontsAreWhole }
 {
     tt_line::laws::glyphs_are_placed();
+    tt_line::laws::steps_lead();
 }
 
 /// Lemma: a defined report is empty unless the job's fit is `Fit::Fallback` or `Fit::Best`.

@@ -48,7 +48,7 @@ returns-clause-valid c = λ s is.
       body = has;
       left = c.left-left.ensures.exact;
       tape = λ off. body.tape (plain.off off);
-      step = λ off. c.step-step.ensures.exact;
+      step = λ off. c.step_of-step.ensures.exact;
       chords = λ off. c.edges-chords.ensures
           ∙ ap (λ es. length es) (edges_are b (edges_at 0 o) (body.tape (plain.off off)) has);
       filled = own.filled;
