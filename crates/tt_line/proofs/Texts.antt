@@ -52,7 +52,7 @@ steps-lead glyphs steps margin rise depth line was =
       last = rw (take_all (length steps) steps (omega arith)) refl;
       pens = λ i within.
           let below : i < length glyphs = let n = length-at_pens glyphs steps in omega arith in
-          ap (λ p. p.1) (get_or-map-range_with_len (λ k. (slice_index glyphs k, pen_at steps k)) 0 (length glyphs) i i (0, 0) below (omega arith));
+          ap (λ (p : ℕ × ℕ). p.1) (get_or-map-range_with_len (λ k. (slice_index glyphs k, pen_at steps k)) 0 (length glyphs) i i (0, 0) below (omega arith));
       rising = rising_pens steps;
     })
 

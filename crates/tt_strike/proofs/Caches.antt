@@ -71,3 +71,8 @@ bytes_within most bytes (Some k) is low least = omega (arith, low, least)
 pub no_bytes : (z : SizedFace) (c : Option Kept) → IsCacheOf z c → is_bounded z.fit ≡ true → bytes_in (entries_of c) ≡ 0
 no_bytes z None own bounded = refl
 no_bytes z (Some k) own bounded = absurd (let other = own.0 in let wrong = rw bounded at other in cc)
+
+-- where the work is bounded there is no cache
+pub no_cache : (z : SizedFace) (c : Option Kept) → IsCacheOf z c → is_bounded z.fit ≡ true → is_there c ≡ false
+no_cache z None own bounded = refl
+no_cache z (Some k) own bounded = absurd (let other = own.0 in let wrong = rw bounded at other in cc)

@@ -1,5 +1,5 @@
 -- A line enlarged by the glyphs of the line: its refusals, its picture and its measure.
-use Rattle.std.proofs.Common.{◌≡◌, ◌∙◌, refl, ap, sym, ℕ, ◌+◌, Bool, true, false, ◌||◌, nat_lt, if◌then◌else◌, List, [], ◌∷◌, map, Option, Some, None, Result, Ok, Err, arith}
+use Rattle.std.proofs.Common.{◌≡◌, ◌∙◌, refl, ap, ap₂, sym, ℕ, ◌+◌, Bool, true, false, ◌||◌, nat_lt, if◌then◌else◌, List, [], ◌∷◌, map, Option, Some, None, Result, Ok, Err, arith}
 use Rattle.std.specs.Prelude.{IfSome}
 use Rattle.tt_core.specs.Limits.{height_limit, width_limit}
 use Rattle.tt_core.specs.Outcomes.{◌>>=◌, each}
@@ -7,10 +7,11 @@ use Rattle.tt_core.specs.declared.fault.JobFault.{JobFault}
 use Rattle.tt_core.specs.declared.fault.JobFault.TheVariants as fault
 use Rattle.tt_fit.specs.Fitting.{Fitter}
 use Rattle.tt_fit_outline.specs.Outline.{Outline}
-use Rattle.tt_line.specs.Layout.{Placement}
+use Rattle.tt_line.specs.Layout.{Placement, advance_in_pixels}
+use Rattle.tt_picture.specs.Steps.{glyph_step}
 use Rattle.tt_scan_edges.specs.declared.edge.Frame.{Frame}
 use Rattle.tt_scan_ink.specs.declared.ink.GlyphInk.{GlyphInk}
-use Rattle.tt_strike.specs.Work.{line_fitter, work_left}
+use Rattle.tt_strike.specs.Work.{line_fitter, work_left, lays_after_glyphs}
 use Rattle.tt_strike.specs.Costs.{cost_of, line_cost}
 use Rattle.tt_picture.specs.Glyphs.{AreDrawn, Glyph, numbers_of}
 use Rattle.tt_strike.specs.Enlarged.{IsEnlarged}
@@ -18,7 +19,7 @@ use Rattle.tt_strike.specs.Grown.{grown, grown_line, lacking, not_large, with_si
 use Rattle.tt_picture.specs.Ink.{glyph_ink}
 use Rattle.tt_strike.specs.Job.{Job}
 use Rattle.tt_strike.specs.Made.{AreMade, shapes_made}
-use Rattle.tt_strike.specs.Measures.{Measure, line_ink, measure_by, measured_line}
+use Rattle.tt_strike.specs.Measures.{Measure, line_ink, line_step, measure_by, measured_line}
 use Rattle.tt_picture.specs.Pictures.{picture}
 use Rattle.tt_picture.specs.Shapes.{glyph_shape, shape_at, crossings_in}
 use Rattle.tt_strike.specs.Picture.{edges_tested, drawn, frame_of, points_tested, setting_in, shapes_in}
@@ -186,18 +187,27 @@ same_inks s l larger numbers =
     let by : List ℕ → ℕ → Option GlyphInk = λ ns g. glyph_ink (line_fitter s ns g) g in
     ap by numbers
 
+-- and by the steps of the line's glyphs
+same_steps : (face : Face) (a : Job) (s : Fitter) (l larger : Placement) → map (λ g. g.0) larger.glyphs ≡ map (λ g. g.0) l.glyphs
+    → line_step face a s larger ≡ line_step face a s l
+same_steps face a s l larger numbers =
+    let by : List ℕ → ℕ → ℕ = λ ns g. if lays_after_glyphs a.fit then glyph_step (line_fitter s ns g) g
+    else advance_in_pixels face.metrics a.ppem g in
+    ap by numbers
+
 measured_anew : (face : Face) (a : Job) (larger : Placement) (s : Fitter) → IsMade face a larger s
-    → measured_line face a larger ≡ Ok (measure_by face.metrics a.ppem a.margin (line_ink s larger) larger)
+    → measured_line face a larger ≡ Ok (measure_by (line_step face a s larger) a.margin (line_ink s larger) larger)
 unfolding measured_line
 measured_anew face a larger s made = rw (made.opened, made.few, made.fitted, made.seldom) refl
 
 pub larger_measured : (face : Face) (a : Job) (l larger : Placement) (s : Fitter)
     → map (λ g. g.0) larger.glyphs ≡ map (λ g. g.0) l.glyphs → IsMade face a larger s
-    → measured_line face a larger ≡ Ok (measure_by face.metrics a.ppem a.margin (line_ink s l) larger)
+    → measured_line face a larger ≡ Ok (measure_by (line_step face a s l) a.margin (line_ink s l) larger)
 larger_measured face a l larger s numbers made =
-    let by : (ℕ → Option GlyphInk) → Measure = λ inked. measure_by face.metrics a.ppem a.margin inked larger in
+    let by : (ℕ → ℕ) → (ℕ → Option GlyphInk) → Measure = λ step inked. measure_by step a.margin inked larger in
     measured_anew face a larger s made
-    ∙ ap Ok {x = by (line_ink s larger)} {y = by (line_ink s l)} (ap by (same_inks s l larger numbers))
+    ∙ ap Ok {x = by (line_step face a s larger) (line_ink s larger)} {y = by (line_step face a s l) (line_ink s l)}
+    (ap₂ by (same_steps face a s l larger numbers) (same_inks s l larger numbers))
 
 -- glyphs in another frame have the same faults, so the report is that of the line
 same_unfitted : (maker : ℕ → Fitter) (f h : Frame) (gs hs : List Glyph) → AreDrawn false maker f gs

@@ -1,5 +1,5 @@
 -- Every fit but Best leaves the fitter unchanged.
-use Rattle.std.proofs.Common.{◌≡◌, ◌≢◌, ◌∙◌, ℕ, ◌*◌, Bool, true, false, List, Option, None, Ok, ap, refl}
+use Rattle.std.proofs.Common.{◌≡◌, ◌≢◌, ◌∙◌, ℕ, ◌*◌, Bool, true, false, List, Option, None, Ok, ap, refl, sym}
 use Rattle.tt_fit.specs.Fitting.{Fitter}
 use Rattle.tt_fit.specs.Laws.{OthersAreUnbounded, UnboundedStays}
 use Rattle.tt_face.specs.Programs.{ProgramTables}
@@ -30,6 +30,10 @@ unspent stays s t u gs numbers begun after none =
     let same : t ≡ s = begun ∙ uncharged s (point_work * points_in s gs) none in
     let then : u ≡ fitter_after s numbers = rw same at after in
     then ∙ unchanged stays s numbers none
+
+-- nothing is charged to unbounded work
+pub not_started : (s : Fitter) (gs : List ℕ) → s.work ≡ None → s ≡ started s gs
+not_started s gs none = sym (uncharged s (point_work * points_in s gs) none)
 
 -- the work that remains after the line's glyphs
 pub work_remains : (s t u : Fitter) (gs numbers : List ℕ) (left : Option ℕ) → left ≡ u.work → u ≡ fitter_after t numbers

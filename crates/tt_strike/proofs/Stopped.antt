@@ -107,6 +107,16 @@ edges_tell face a l s glyphs j there placed made refused =
           (parts.0, parts.1, inr (rw placed (inr (rw (there, made) parts.2))))
     ]
 
+-- unbounded work passes each test
+pub unbounded_points : (s : Fitter) (a : Job) (l : Placement) → is_bounded a.fit ≡ false → as_job (points_tested s a l) ≡ Ok tt
+unfolding work_tested
+unbounded_points s a l other = rw other refl
+
+pub unbounded_edges : (s : Fitter) (a : Job) (l : Placement) (glyphs : List Shape) → is_bounded a.fit ≡ false
+    → edges_tested s a l glyphs ≡ Ok tt
+unfolding edges_limited work_tested
+unbounded_edges s a l glyphs other = rw other refl
+
 -- a refused extent is a refusal of the line by its font
 pub extent_tells : (face : Face) (a : Job) (j : JobFault) → is_bounded a.fit ≡ false
     → IsRefusal (extent_of face.metrics a.ppem a.margin (text_glyphs face.cmap a.text)) j → IsLineRefusal face a j
@@ -222,3 +232,18 @@ pub no_defect_told : (P : Fault → Type 0) (e : DrawFault) → IfSome (draw_fon
 no_defect_told P (draw.Font f) never = absurd never
 no_defect_told P (draw.Job j) never = tt
 no_defect_told P draw.Memory never = tt
+
+pub no_job_told : (P : JobFault → Type 0) (e : DrawFault) → IfSome (draw_job_fault e) (λ j. ⊥) → IfSome (draw_job_fault e) P
+no_job_told P (draw.Font f) never = tt
+no_job_told P (draw.Job j) never = absurd never
+no_job_told P draw.Memory never = tt
+
+-- a text that is not laid out has no line, and a stop in the glyphs of its line stops the line
+pub laid_stops : (face : Face) (a : Job) (e : DrawFault) → IfSome (refusal e) (λ r. laid_out face a ≡ Err r)
+    → IfSome (refusal e) (λ r. text_shapes face a ≡ Err r)
+laid_stops face a e stopped = stops e (laid_out face a) (text_shapes face a) (λ r fails. rw fails refl) stopped
+
+pub shapes_stop : (face : Face) (a : Job) (l : Placement) (e : DrawFault) → laid_out face a ≡ Ok l
+    → IfSome (refusal e) (λ r. shapes_made face a l ≡ Err r) → IfSome (refusal e) (λ r. text_shapes face a ≡ Err r)
+shapes_stop face a l e laid stopped =
+    stops e (shapes_made face a l) (text_shapes face a) (λ r fails. rw laid fails) stopped

@@ -89,7 +89,8 @@ impl<'f, 'a> SizedFace<'f, 'a> {
         ensures defects { TellsDefects draw_font_fault (IsLineDefect self.old.face (job_by self.old text.now margin) (text_glyphs self.old.face.cmap text.now)) result }
         ensures job { IfTold draw_job_fault result (IsLineRefusal self.old.face (job_by self.old text.now margin)) }
     {
-        let MadeLine { laid, glyphs } = self.make_line(text, margin, cache)?;
+        let made = self.make_line(text, margin, cache)?;
+        let MadeLine { laid, glyphs } = made;
         let frame = laid.frame();
         Ok(Picture::new(self.alloc(), frame, glyphs.made, glyphs.cost)?)
     }

@@ -62,7 +62,8 @@ impl<'f, 'a> SizedFace<'f, 'a> {
         ensures defects { TellsDefects draw_font_fault (IsLineDefect self.old.face (job_by self.old text.now margin) (text_glyphs self.old.face.cmap text.now)) result }
     {
         let mut none = Cache::absent();
-        let MadeLine { laid, glyphs } = self.make_line(text, margin, &mut none)?;
+        let made = self.make_line(text, margin, &mut none)?;
+        let MadeLine { laid, glyphs } = made;
         let inks = glyph_inks(self.alloc(), &glyphs.made)?;
         let inked = InkedGlyphs { glyphs, inks };
         let measure = self.measure_by(&laid, &inked)?;

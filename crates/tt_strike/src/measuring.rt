@@ -173,7 +173,8 @@ impl<'f, 'a> SizedFace<'f, 'a> {
         ensures job { IfTold draw_job_fault result (IsLineRefusal self.old.face (job_by self.old text.now margin)) }
     {
         let mut none = Cache::absent();
-        let MadeLine { laid, glyphs } = self.make_line(text, margin, &mut none)?;
+        let made = self.make_line(text, margin, &mut none)?;
+        let MadeLine { laid, glyphs } = made;
         let inks = glyph_inks(self.alloc(), &glyphs.made)?;
         let inked = InkedGlyphs { glyphs, inks };
         Ok(self.measure_by(&laid, &inked)?)
