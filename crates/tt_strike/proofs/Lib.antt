@@ -21,3 +21,5 @@ mod Costed
 mod Needed
 mod Placed
 mod Stepped
+mod Limited
+mod Reported

@@ -14,19 +14,21 @@ use Rattle.tt_core.specs.declared.font_fault.FontFault.{FontFault}
 use Rattle.tt_core.specs.declared.font_fault.FontFault.TheVariants as font
 use Rattle.tt_core.specs.Faults.{Fault}
 use Rattle.tt_core.specs.Limits.{point_work_limit}
-use Rattle.tt_core.specs.Outcomes.{◌>>=◌, FontGives, each, draw_fault_of_font, draw_font_fault, draw_job_fault}
+use Rattle.tt_core.specs.Outcomes.{◌>>=◌, FontGives, each, draw_fault_of_font, draw_font_fault, draw_job_fault, font_fault}
 use Rattle.tt_core.proofs.Each.{each-failed}
 use Rattle.tt_face.specs.Faces.{Face}
 use Rattle.tt_fit.proofs.Standing.{faults-stand}
 use Rattle.tt_fit.specs.Fitting.{Fitter, fitted_outline}
+use Rattle.tt_fit.specs.declared.programs.Fit.{Fit}
 use Rattle.tt_fit_outline.specs.Outline.{Outline}
 use Rattle.tt_line.specs.Layout.{Placement, laid_at, text_glyphs, IsRefusal}
 use Rattle.tt_picture.specs.Distinct.{distinct, distinct_after, is_among, with_glyph}
-use Rattle.tt_picture.specs.Fitted.{AreFitted, FittedGlyph, fitted_chords, fitted_numbers}
+use Rattle.tt_picture.specs.Fitted.{AreFitted, FittedGlyph, fitted_chords, fitted_numbers, outlines_of}
 use Rattle.tt_picture.specs.Steps.{glyph_chords, outlines_by}
 use Rattle.tt_picture.specs.Pixels.{Shape}
-use Rattle.tt_picture.specs.Shapes.{crossings_in}
-use Rattle.tt_picture.proofs.Fitted.{chords_are}
+use Rattle.tt_picture.specs.Shapes.{crossings_in, glyph_shape}
+use Rattle.tt_picture.proofs.Among.{all_among}
+use Rattle.tt_picture.proofs.Fitted.{chords_are, shapes_of_line}
 use Rattle.tt_strike.specs.Defects.{IsGlyphDefect, IsLineDefect, IsLineRefusal, steps_extent}
 use Rattle.tt_strike.specs.Job.{Job, tested}
 use Rattle.tt_strike.specs.Made.{text_shapes}
@@ -34,8 +36,8 @@ use Rattle.tt_strike.specs.Picture.{edges_tested, laid_out, outlines_in, outline
 use Rattle.tt_strike.specs.Refusals.{Refused, as_font, as_job, job, refusal}
 use Rattle.tt_strike.specs.Refusals as outcome
 use Rattle.tt_strike.specs.Work.{chords_in, edges_limited, is_bounded, line_fitter, points_in, work_left, work_tested}
-use Rattle.tt_strike.proofs.Placed.{placed_by_its_steps}
-use Rattle.tt_strike.proofs.Stopped.{edges_stop, too_much}
+use Rattle.tt_strike.proofs.Placed.{placed_by_its_steps, placed_of}
+use Rattle.tt_strike.proofs.Stopped.{edges_stop, edges_tell, too_much}
 
 -- a text that is tested is laid out by its steps
 laid_by : (face : Face) (a : Job) → tested a ≡ Ok tt → is_bounded a.fit ≡ true → laid_out face a ≡ placed_by_steps face a
@@ -220,3 +222,80 @@ outlines_pass s a gs os few made = rw (few, made) refl
 
 pub no_font_told : (P : Fault → Type 0) (j : JobFault) → IfSome (draw_font_fault (draw.Job j)) P
 no_font_told P j = tt
+
+-- a text that is laid out by the steps of its outlines, with the work that they left
+pub record IsOutlinedLine (face : Face) (a : Job) (s : Fitter) (l : Placement) (fs : List FittedGlyph) (left : Option ℕ) : Type 0 where
+  pub passes : tested a ≡ Ok tt
+  pub bounded : is_bounded a.fit ≡ true
+  pub there : setting_in face a ≡ Ok s
+  pub points : work_tested a.fit point_work_limit (points_in s (text_glyphs face.cmap a.text)) ≡ Ok tt
+  pub outlines : outlines_in s (text_glyphs face.cmap a.text) ≡ Ok (outlines_of fs)
+  pub fitted : AreFitted (line_fitter s (text_glyphs face.cmap a.text)) fs
+  pub numbers : fitted_numbers fs ≡ distinct (text_glyphs face.cmap a.text)
+  pub glyphs : map (λ g. g.0) l.glyphs ≡ text_glyphs face.cmap a.text
+  pub laid : laid_at face.metrics a.ppem a.margin (text_glyphs face.cmap a.text) (steps_in s (text_glyphs face.cmap a.text)) ≡ Ok l
+  pub work : left ≡ work_left s (text_glyphs face.cmap a.text)
+
+pub line_laid : {left : Option ℕ} (face : Face) (a : Job) (s : Fitter) (l : Placement) (fs : List FittedGlyph)
+    → IsOutlinedLine face a s l fs left → laid_out face a ≡ Ok l
+line_laid face a s l fs is =
+    laid_out_by_steps face a s (outlines_of fs) l is.passes is.bounded is.there
+    (outlines_pass s a (text_glyphs face.cmap a.text) (outlines_of fs) is.points is.outlines) is.laid
+
+pub line_points : {left : Option ℕ} (face : Face) (a : Job) (s : Fitter) (l : Placement) (fs : List FittedGlyph)
+    → IsOutlinedLine face a s l fs left → as_job (points_tested s a l) ≡ Ok tt
+line_points face a s l fs is = rw (is.glyphs, is.points) refl
+
+pub line_made : {left : Option ℕ} (face : Face) (a : Job) (s : Fitter) (l : Placement) (fs : List FittedGlyph)
+    → IsOutlinedLine face a s l fs left
+    → (shapes : List Shape) × (each (glyph_shape (line_fitter s (text_glyphs face.cmap a.text))) l.glyphs ≡ Ok shapes)
+line_made face a s l fs is =
+    shapes_of_line (line_fitter s (text_glyphs face.cmap a.text)) fs l.glyphs is.fitted
+    (all_among l.glyphs (fitted_numbers fs) (is.numbers ∙ ap distinct (sym is.glyphs)))
+
+pub line_edges : {left : Option ℕ} (face : Face) (a : Job) (s : Fitter) (l : Placement) (fs : List FittedGlyph) (shapes : List Shape)
+    → IsOutlinedLine face a s l fs left
+    → edges_limited a.fit left (fitted_chords fs) (crossings_in shapes) ≡ edges_tested s a l shapes
+line_edges face a s l fs shapes is =
+    rw (is.glyphs, is.work, chords_made s (text_glyphs face.cmap a.text) fs is.fitted is.numbers) refl
+
+-- a stop at the edges of the line
+pub line_stops_text : {left : Option ℕ} (face : Face) (a : Job) (s : Fitter) (l : Placement) (fs : List FittedGlyph)
+    (shapes : List Shape) (e : DrawFault) → IsOutlinedLine face a s l fs left → shapes_in s l ≡ Ok shapes
+    → IfSome (refusal e) (λ r. as_job (edges_tested s a l shapes) ≡ Err r) → IfSome (refusal e) (λ r. text_shapes face a ≡ Err r)
+line_stops_text face a s l fs shapes (draw.Font f) is made fails = absurd (not_of_job (edges_tested s a l shapes) f fails)
+line_stops_text face a s l fs shapes (draw.Job j) is made fails =
+    edges_stop_text face a l s shapes j (line_laid face a s l fs is) is.there (line_points face a s l fs is) made
+    (job_of_test (edges_tested s a l shapes) j fails)
+line_stops_text face a s l fs shapes draw.Memory is made fails = tt
+
+pub line_tells_no_defect : (P : Fault → Type 0) (r : Result (Unit {0}) JobFault) (e : DrawFault)
+    → IfSome (refusal e) (λ x. as_job r ≡ Err x) → IfSome (draw_font_fault e) P
+line_tells_no_defect P r (draw.Font f) fails = absurd (not_of_job r f fails)
+line_tells_no_defect P r (draw.Job j) fails = tt
+line_tells_no_defect P r draw.Memory fails = tt
+
+pub line_tells_refusal : {left : Option ℕ} (face : Face) (a : Job) (s : Fitter) (l : Placement) (fs : List FittedGlyph)
+    (shapes : List Shape) (e : DrawFault) → IsOutlinedLine face a s l fs left → shapes_in s l ≡ Ok shapes
+    → IfSome (refusal e) (λ r. as_job (edges_tested s a l shapes) ≡ Err r) → IfSome (draw_job_fault e) (IsLineRefusal face a)
+line_tells_refusal face a s l fs shapes (draw.Font f) is made fails = tt
+line_tells_refusal face a s l fs shapes (draw.Job j) is made fails =
+    let told = edges_tell face a l s shapes j is.there (placed_of face a l (line_laid face a s l fs is)) made
+    (job_of_test (edges_tested s a l shapes) j fails) in
+    rw told.0 told.1
+line_tells_refusal face a s l fs shapes draw.Memory is made fails = tt
+
+-- a stop at the points, or at an outline
+pub points_stop_outlines : (s : Fitter) (how : Fit) (gs : List ℕ) (e : DrawFault)
+    → IfSome (refusal e) (λ r. as_job (work_tested how point_work_limit (points_in s gs)) ≡ Err r)
+    → IfSome (refusal e) (λ r. outlines_tested s how gs ≡ Err r)
+points_stop_outlines s how gs (draw.Font f) fails = rw fails refl
+points_stop_outlines s how gs (draw.Job j) fails = rw fails refl
+points_stop_outlines s how gs draw.Memory fails = tt
+
+pub outline_stops_outlines : (s : Fitter) (how : Fit) (gs : List ℕ) (e : FontFault)
+    → as_job (work_tested how point_work_limit (points_in s gs)) ≡ Ok tt
+    → IfSome (font_fault e) (λ f. outlines_in s gs ≡ Err f)
+    → IfSome (refusal (draw_fault_of_font e)) (λ r. outlines_tested s how gs ≡ Err r)
+outline_stops_outlines s how gs (font.Font f) few fails = rw (few, fails) refl
+outline_stops_outlines s how gs font.Memory few fails = tt

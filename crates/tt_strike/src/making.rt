@@ -48,6 +48,7 @@ fn tested_edges(
     left: Option<u64>,
 ) -> Result<Glyphs, DrawFault>
     requires bounded { is_bounded fit ≡ true }
+    requires made { (maker : ℕ → Fitter) × AreFitted maker fitted.items }
     requires places { ArePlaces places.items (fitted_numbers fitted.items) }
     requires known { All (λ g. g.0 < length places.items) laid.now.line.glyphs.items }
     requires numbers { fitted_numbers fitted.items ≡ distinct (map (λ g. g.0) laid.now.line.glyphs.items) }
@@ -88,11 +89,11 @@ impl<'f, 'a> SizedFace<'f, 'a> {
         let mut fitter = self.maker.take(&source)?;
         let outlined = source.outlined(&mut fitter, text)?;
         let OutlinedText {
-            line,
+            steps,
             places,
             fitted,
         } = outlined;
-        let line = lay_steps(source.face.metrics(), line, source.ppem, margin)?;
+        let line = lay_steps(source.face.metrics(), steps, source.ppem, margin)?;
         let laid = Laid { line, margin };
         let left = fitter.work();
         let glyphs = tested_edges(source.alloc, source.fit, places, fitted, &laid, left)?;

@@ -23,7 +23,7 @@ use tt_picture::{FittedGlyph, fit_glyphs, put_steps};
 #[derive(Drop)]
 pub(crate) struct OutlinedText {
     /// The glyph of each character, with its step.
-    pub(crate) line: Vec<(u16, u32)>,
+    pub(crate) steps: Vec<(u16, u32)>,
     /// For each glyph of the font 0, or one more than its place in `fitted`.
     pub(crate) places: Vec<u16>,
     /// The distinct glyphs, in order of first appearance.
@@ -41,23 +41,23 @@ impl<'f, 'a> FitterSource<'f, 'a> {
         requires text { length (chars text.now) ≤ text_limit }
         requires glyphs { fitter.old.tables.glyphs ≡ glyphs_of self.now.face.now.metrics }
         requires bounded { is_bounded self.now.fit ≡ true }
-        ensures outlined { IfOk result (λ t. AreOutlined fitter.old (text_glyphs self.now.face.now.cmap text.now) t.line.items t.places.items t.fitted.items) }
+        ensures outlined { IfOk result (λ t. AreOutlined fitter.old (text_glyphs self.now.face.now.cmap text.now) t.steps.items t.places.items t.fitted.items) }
         ensures points { IfOk result (λ t. work_tested self.now.fit point_work_limit (points_in fitter.old (text_glyphs self.now.face.now.cmap text.now)) ≡ Ok tt) }
-        ensures known { IfOk result (λ t. All (λ g. g.0 < glyphs_of self.now.face.now.metrics) t.line.items) }
-        ensures few { IfOk result (λ t. length t.line.items ≤ text_limit) }
+        ensures known { IfOk result (λ t. All (λ g. g.0 < glyphs_of self.now.face.now.metrics) t.steps.items) }
+        ensures few { IfOk result (λ t. length t.steps.items ≤ text_limit) }
         ensures after { IfOk result (λ t. fitter.new ≡ fitter_after (started fitter.old (text_glyphs self.now.face.now.cmap text.now)) (distinct (text_glyphs self.now.face.now.cmap text.now))) }
         ensures stops { IfTold refusal result (λ r. outlines_tested fitter.old self.now.fit (text_glyphs self.now.face.now.cmap text.now) ≡ Err r) }
     {
         let metrics = self.face.metrics();
         let cmap = self.face.cmap();
-        let mut line = advance_steps(self.alloc, metrics, cmap, text, self.ppem)?;
-        let met = distinct(self.alloc, metrics.glyphs(), &line)?;
+        let mut steps = advance_steps(self.alloc, metrics, cmap, text, self.ppem)?;
+        let met = distinct(self.alloc, metrics.glyphs(), &steps)?;
         let DistinctGlyphs { places, numbers } = met;
         charge_points(self.fit, fitter, &numbers)?;
         let fitted = fit_glyphs(self.alloc, fitter, &numbers)?;
-        put_steps(&places, &fitted, &mut line);
+        put_steps(&places, &fitted, &mut steps);
         Ok(OutlinedText {
-            line,
+            steps,
             places,
             fitted,
         })
