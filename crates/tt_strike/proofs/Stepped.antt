@@ -103,9 +103,9 @@ last_or_before n g [] is = elim (or_either (g == n) false is) [
 last_or_before n g (h ∷ hs) is = elim (or_either (h == n) (is_among n (hs ++ g ∷ [])) is) [
   | inl here ↦ inl (rw here refl)
   | inr later ↦ elim (last_or_before n g hs later) [
-      | inl among ↦ inl (rw among (or_last (h == n)))
-      | inr last ↦ inr last
-    ]
+    | inl among ↦ inl (rw among (or_last (h == n)))
+    | inr last ↦ inr last
+  ]
 ]
 
 with_or_before : (there : Bool) (n g : ℕ) (before : List ℕ) → is_among g before ≡ there → is_among n (with_glyph before g) ≡ true
@@ -123,9 +123,9 @@ met_at : (n : ℕ) (before gs : List ℕ) → is_among n (distinct_after before 
 met_at n before [] is = inl is
 met_at n before (g ∷ gs) is = elim (met_at n (with_glyph before g) gs is) [
   | inl among ↦ elim (with_or_before (is_among g before) n g before refl among) [
-      | inl earlier ↦ inl earlier
-      | inr here ↦ inr (first_at n g gs here)
-    ]
+    | inl earlier ↦ inl earlier
+    | inr here ↦ inr (first_at n g gs here)
+  ]
   | inr at ↦ inr (later_at n g gs at)
 ]
 

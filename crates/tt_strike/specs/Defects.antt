@@ -63,13 +63,13 @@ abbrev pub steps_extent : Face → Job → Fitter → List ℕ → PictureExtent
 steps_extent face a s gs =
     extent_by (steps_in s gs) a.margin (rise_of face.metrics a.ppem) (depth_of face.metrics a.ppem)
 
--- the fact that refuses the extent of a picture
-abbrev pub IsExtentRefusal : Face → Job → JobFault → Type 0
-IsExtentRefusal face a j =
+-- a fact of the extent of a text's picture, which with best is known once the glyphs are made
+abbrev pub HasExtent : Face → Job → (PictureExtent → Type 0) → Type 0
+HasExtent face a P =
     let gs = text_glyphs face.cmap a.text in
     if lays_after_glyphs a.fit
-    then IsOkAnd (setting_in face a) (λ s. IsOkAnd (outlines_in s gs) (λ outlines. IsRefusal (steps_extent face a s gs) j))
-    else IsRefusal (extent_of face.metrics a.ppem a.margin gs) j
+    then IsOkAnd (setting_in face a) (λ s. IsOkAnd (outlines_in s gs) (λ outlines. P (steps_extent face a s gs)))
+    else P (extent_of face.metrics a.ppem a.margin gs)
 
 -- some glyphs have too many points
 abbrev pub HasTooManyPoints : Face → Job → List ℕ → Type 0
@@ -96,8 +96,10 @@ IsTooMuchWork face a = (is_bounded a.fit ≡ true) × (HasTooManyPoints face a (
 
 -- the fact by the font that refuses a job: the extent of its picture, or the work of its glyphs
 abbrev pub IsFontRefusal : Face → Job → JobFault → Type 0
+IsFontRefusal face a fault.EmptyPicture = HasExtent face a (λ e. IsRefusal e fault.EmptyPicture)
+IsFontRefusal face a fault.PictureLarge = HasExtent face a (λ e. IsRefusal e fault.PictureLarge)
 IsFontRefusal face a fault.WorkLarge = IsTooMuchWork face a
-IsFontRefusal face a j = IsExtentRefusal face a j
+IsFontRefusal face a j = ⊥
 
 -- the fact that refuses a line, with its font or without
 abbrev pub IsRefusedLine : Bool → Face → Job → JobFault → Type 0

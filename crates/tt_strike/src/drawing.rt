@@ -78,7 +78,12 @@ impl<'f, 'a> SizedFace<'f, 'a> {
 
     /// The picture of a text. Errors: as `make_line`.
     #[tactic(auto, unfolding(crate::specs::Picture::line_outcome, crate::specs::Picture::pictured_by, crate::specs::Picture::drawn))]
-    pub(crate) fn draw(&mut self, text: &str, margin: u32, cache: &mut Cache) -> Result<Picture, DrawFault>
+    pub(crate) fn draw(
+        &mut self,
+        text: &str,
+        margin: u32,
+        cache: &mut Cache,
+    ) -> Result<Picture, DrawFault>
         requires cache { IsCacheOf self.old cache.old }
         ensures exact { GivesUnless refusal image_of result (line_outcome self.old.face (job_by self.old text.now margin)) }
         ensures frame { IfOk result (λ p. IsOkAnd (laid_out self.old.face (job_by self.old text.now margin)) (λ l. p.frame ≡ frame_of l margin)) }

@@ -61,7 +61,8 @@ fn tested_edges(
 {
     let frame = laid.frame();
     let line = &laid.line.glyphs;
-    let Some(mut glyphs) = Glyphs::of_fitted(alloc, places, fitted, frame, line, CHORD_LIMIT)? else {
+    let Some(mut glyphs) = Glyphs::of_fitted(alloc, places, fitted, frame, line, CHORD_LIMIT)?
+    else {
         return Err(DrawFault::Job(JobFault::WorkLarge));
     };
     let crossings = test_crossings(fit, crossings_allowed(left), &glyphs.made)?;

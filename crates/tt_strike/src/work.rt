@@ -41,11 +41,7 @@ pub(crate) fn is_bounded(fit: Fit) -> bool
 /// Charges the points of a line's distinct glyphs to its work, which is bounded. Errors: WorkLarge, where they are too
 /// many; Memory.
 #[tactic(auto, unfolding(crate::specs::Work::work_tested))]
-pub(crate) fn charge_points(
-    fit: Fit,
-    fitter: &mut Fitter,
-    numbers: &[u16],
-) -> Result<(), DrawFault>
+pub(crate) fn charge_points(fit: Fit, fitter: &mut Fitter, numbers: &[u16]) -> Result<(), DrawFault>
     requires known { All (λ g. g < fitter.old.tables.glyphs) numbers.now }
     requires bounded { is_bounded fit ≡ true }
     ensures exact { GivesUnless refusal (λ u. u) result (as_job (work_tested fit point_work_limit (sum_by (points_asked fitter.old.tables fitter.old.levels) numbers.now))) }

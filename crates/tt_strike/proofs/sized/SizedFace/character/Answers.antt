@@ -33,9 +33,9 @@ returns c = λ step inked steps same.
       | in-Some w ↦
           let at = w.in-Some.ensures.found in (
             w.step-is ∙ (w.step_of.ensures ∙ step_found (made_step z.face.metrics z.ppem z.fit) step gs w.in-Some.i
-            c.args.placed.0 w.index.result.now steps at.0 at.1 w.index.ensures),
+                c.args.placed.0 w.index.result.now steps at.0 at.1 w.index.ensures),
             w.ink-is ∙ (w.index-2.ensures
-            ∙ box_found inked c.args.inked.now.inks.items gs w.in-Some.i c.args.placed.0 w.index-2.result.now same at.0 at.1),
+                ∙ box_found inked c.args.inked.now.inks.items gs w.in-Some.i c.args.placed.0 w.index-2.result.now same at.0 at.1),
           )
       | in-None w ↦
           let none = is_not_there (numbers_of gs) c.args.placed.0 w.in-None.ensures.absent in

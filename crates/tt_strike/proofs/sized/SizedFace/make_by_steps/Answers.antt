@@ -278,9 +278,10 @@ pub tested_edges-requires-clause-bounded : goal.tested_edges-requires-clause-bou
 tested_edges-requires-clause-bounded c = rw (← c.self.view_is) at c.requires.bounded
 
 pub tested_edges-requires-clause-made : goal.tested_edges-requires-clause-made
-tested_edges-requires-clause-made c =
-    (line_fitter c.in_ok-fitter.fitter (text_glyphs c.self.inside.source.face.now.cmap c.args.text.now),
-    c.in_ok-outlined.ensures.outlined.fitted)
+tested_edges-requires-clause-made c = (
+  line_fitter c.in_ok-fitter.fitter (text_glyphs c.self.inside.source.face.now.cmap c.args.text.now),
+  c.in_ok-outlined.ensures.outlined.fitted,
+)
 
 pub tested_edges-requires-clause-places : goal.tested_edges-requires-clause-places
 tested_edges-requires-clause-places c = c.in_ok-outlined.ensures.outlined.places

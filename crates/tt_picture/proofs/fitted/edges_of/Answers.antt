@@ -1,7 +1,7 @@
 use Rattle.std.proofs.Common.{◌≤◌, ◌-ℤ◌, pos, unsigned_abs, SFits, w32, w64, get_or, rules, arith}
 use Rattle.std.proofs.lemmas.Int.{ints, to_z-of_z}
 use Rattle.tt_core.specs.Limits.{coordinate_limit}
-use Rattle.tt_picture.proofs.glyph.edges_of.Goals as goal
+use Rattle.tt_picture.proofs.fitted.edges_of.Goals as goal
 
 pub returns-clause-exact : goal.returns-clause-exact
 returns-clause-exact c =

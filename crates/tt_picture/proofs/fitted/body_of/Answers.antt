@@ -1,6 +1,6 @@
 use Rattle.std.proofs.Common.{◌≡◌, ◌∙◌}
 use Rattle.tt_scan_rows.specs.Raster.{IsRasterOf}
-use Rattle.tt_picture.proofs.glyph.body_of.Goals as goal
+use Rattle.tt_picture.proofs.fitted.body_of.Goals as goal
 
 pub returns-in_ok-clone-in-Raster-clause-cached : goal.returns-in_ok-clone-in-Raster-clause-cached
 returns-in_ok-clone-in-Raster-clause-cached c = λ s one own.

@@ -2,7 +2,7 @@ use Rattle.std.proofs.Common.{pos, ◌-ℤ◌}
 use Rattle.std.proofs.lemmas.Result.{IfOk-weaker}
 use Rattle.tt_fit_outline.specs.Views.{outline_of}
 use Rattle.tt_picture.specs.Shapes.{origin_of}
-use Rattle.tt_picture.proofs.glyph.ends_of.Goals as goal
+use Rattle.tt_picture.proofs.fitted.ends_of.Goals as goal
 
 pub returns-in-Some-clause-ends : goal.returns-in-Some-clause-ends
 returns-in-Some-clause-ends c =
