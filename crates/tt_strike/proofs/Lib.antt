@@ -23,3 +23,5 @@ mod Placed
 mod Stepped
 mod Limited
 mod Reported
+mod StepLaws
+mod MeasuredSteps

@@ -13,5 +13,6 @@ pub mod Measures
 pub mod Picture
 pub mod Report
 pub mod Reported
+pub mod StepLaws
 pub mod Strikes
 pub mod Work

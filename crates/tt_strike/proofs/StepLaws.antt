@@ -1,0 +1,64 @@
+-- Laws of steps.
+use Rattle.std.proofs.Common.{◌≡◌, ◌≢◌, ◌∙◌, refl, sym, ap, ap₂, ℕ, ◌+◌, ◌*◌, ◌<◌, ◌≤◌, Bool, true, false, if◌then◌else◌, ℤ, pos, ◌+ℤ◌, ◌-ℤ◌, List, [], ◌∷◌, get_or, length, map, slice_index, take, None, Result, Ok, Err, arith}
+use Rattle.std.proofs.lemmas.Int.{ints}
+use Rattle.std.proofs.lemmas.List.{get_or-map, length-map}
+use Rattle.std.specs.List.{range_with_len}
+use Rattle.tt_arc.specs.declared.point.PlacedPoint.{PlacedPoint}
+use Rattle.tt_scan_edges.specs.declared.edge.Edge.{Edge}
+use Rattle.tt_arc.specs.Chords.{moved, outline_edges, contour_at, contour_edges}
+use Rattle.tt_core.specs.Chains.{came-through}
+use Rattle.tt_core.specs.Outcomes.{◌>>=◌}
+use Rattle.tt_face.specs.Faces.{Face}
+use Rattle.tt_fit.specs.Fitting.{Fitter}
+use Rattle.tt_fit.specs.declared.programs.Fit.{Fit}
+use Rattle.tt_fit.specs.declared.programs.Fit.TheVariants as fit
+use Rattle.tt_fit_outline.specs.Outline.{Outline}
+use Rattle.tt_line.specs.Layout.{Placement, placement, text_glyphs}
+use Rattle.tt_picture.specs.OutlineSteps.{advance_left, pixels_of, step_of}
+use Rattle.tt_picture.specs.Shapes.{contours_of, edges_at, origin_of}
+use Rattle.tt_strike.specs.Job.{Job}
+use Rattle.tt_strike.specs.Picture.{outlines_in, placed_by_steps, setting_in, text_placed}
+use Rattle.tt_strike.specs.Refusals.{as_job}
+use Rattle.tt_strike.specs.StepLaws.{AreAlike, BestLaysBySteps, GlyphsBeforeExtent, MovedOutlinesAgree, OthersLayByAdvances, moved_right}
+use Rattle.tt_strike.specs.Work.{is_bounded}
+use Rattle.tt_strike.proofs.Placed.{placed_by_advances, placed_by_its_steps}
+
+others : (how : Fit) → how ≢ fit.Best → is_bounded how ≡ false
+others fit.Full other = refl
+others fit.None other = refl
+others fit.Fallback other = refl
+others fit.Best other = absurd (other refl)
+
+pub others_lay_by_advances : OthersLayByAdvances
+others_lay_by_advances face a other = placed_by_advances face a (others a.fit other)
+
+pub best_lays_by_steps : BestLaysBySteps
+best_lays_by_steps face a best = placed_by_its_steps face a (ap is_bounded best)
+
+pub glyphs_before_extent : GlyphsBeforeExtent
+unfolding placed_by_steps
+glyphs_before_extent face a s f best there few fails =
+    best_lays_by_steps face a best ∙ rw (there, few, fails) refl
+
+-- a point of a moved outline, at a pen
+same_place : (x v l k : ℤ) → (x +ℤ v) +ℤ (k -ℤ (l +ℤ v)) ≡ x +ℤ (k -ℤ l)
+same_place x v l k = omega (arith, ints)
+
+points_alike : (v l k : ℤ) (ps : List (ℤ × ℤ × Bool))
+    → map (moved (k -ℤ (l +ℤ v)) (pos 0)) (map (λ (p : ℤ × ℤ × Bool). (p.0 +ℤ v, p.1, p.2)) ps) ≡ map (moved (k -ℤ l) (pos 0)) ps
+points_alike v l k [] = refl
+points_alike v l k (p ∷ ps) = rw (same_place p.0 v l k, points_alike v l k ps) refl
+
+same_step : (l r v : ℤ) → (r +ℤ v) -ℤ (l +ℤ v) ≡ r -ℤ l
+same_step l r v = omega (arith, ints)
+
+contours_by : List PlacedPoint → List ℕ → List (List Edge)
+contours_by ps ends = map (λ c. contour_edges (contour_at ps ends c)) (range_with_len 0 (length ends))
+
+pub moved_outlines_agree : MovedOutlinesAgree
+unfolding contours_by
+moved_outlines_agree o v = record {
+  step = ap pixels_of (same_step o.phantom.left.0 o.phantom.right.0 v);
+  edges = λ pen. ap (λ ps. outline_edges ps o.ends) (points_alike v (origin_of o) (pos (64 * pen)) o.points);
+  contours = λ pen. ap (λ ps. contours_by ps o.ends) (points_alike v (origin_of o) (pos (64 * pen)) o.points);
+}
