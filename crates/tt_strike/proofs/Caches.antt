@@ -8,16 +8,9 @@ use Rattle.tt_picture.specs.Cached.{AreCachedFor, IsCacheFor, entries_of, is_the
 use Rattle.tt_strike.specs.Makers.{IsSetting}
 use Rattle.tt_strike.specs.Picture.{setting}
 use Rattle.tt_strike.specs.Strikes.{IsCacheOf, IsFresh, SizedFace}
-use Rattle.tt_strike.specs.Work.{is_bounded, work_tested}
+use Rattle.tt_strike.specs.Work.{is_bounded}
 use Rattle.tt_strike_kept.specs.Glyph.{KeptGlyph}
 use Rattle.tt_strike_kept.specs.Kept.{Kept, bytes_in}
-
--- unbounded work allows any number of crossings
-pub work_alike : (there : Bool) (how : Fit) (limit these those : ℕ) → (there ≡ true → is_bounded how ≡ false)
-    → (there ≡ false → these ≡ those) → work_tested how limit these ≡ work_tested how limit those
-unfolding work_tested
-work_alike true how limit these those unbounded same = rw (unbounded refl) refl
-work_alike false how limit these those unbounded same = rw (same refl) refl
 
 -- glyphs cached for one fitter of a font are cached for the fitter of the definition
 pub kept_for : (made : Result Fitter Fault) (t : Fitter) (es : List (ℕ × KeptGlyph)) → made ≡ Ok t → AreCachedFor t es

@@ -1,6 +1,5 @@
 -- A line enlarged by the glyphs of the line: its refusals, its picture and its measure.
 use Rattle.std.proofs.Common.{◌≡◌, ◌∙◌, refl, ap, ap₂, sym, ℕ, ◌+◌, Bool, true, false, ◌||◌, nat_lt, if◌then◌else◌, List, [], ◌∷◌, map, Option, Some, None, Result, Ok, Err, arith}
-use Rattle.std.specs.Prelude.{IfSome}
 use Rattle.tt_core.specs.Limits.{height_limit, width_limit}
 use Rattle.tt_core.specs.Outcomes.{◌>>=◌, each}
 use Rattle.tt_core.specs.declared.fault.JobFault.{JobFault}
@@ -18,17 +17,16 @@ use Rattle.tt_strike.specs.Enlarged.{IsEnlarged}
 use Rattle.tt_strike.specs.Grown.{grown, grown_line, lacking, not_large, with_sides}
 use Rattle.tt_picture.specs.Ink.{glyph_ink}
 use Rattle.tt_strike.specs.Job.{Job}
-use Rattle.tt_strike.specs.Made.{AreMade, shapes_made}
+use Rattle.tt_strike.specs.Made.{AreMade}
 use Rattle.tt_strike.specs.Measures.{Measure, line_ink, line_step, measure_by, measured_line}
 use Rattle.tt_picture.specs.Pictures.{picture}
 use Rattle.tt_picture.specs.Shapes.{glyph_shape, shape_at, crossings_in}
 use Rattle.tt_strike.specs.Picture.{edges_tested, drawn, frame_of, points_tested, setting_in, shapes_in}
 use Rattle.tt_picture.specs.Pixels.{Shape}
-use Rattle.tt_strike.specs.Refusals.{Refused, as_job, job, refusal}
+use Rattle.tt_strike.specs.Refusals.{Refused, as_job, job}
 use Rattle.tt_picture.specs.Unfitted.{ListsOnce, unfitted_standing}
 use Rattle.tt_strike.specs.Report.{line_report}
 use Rattle.tt_face.specs.Faces.{Face}
-use Rattle.tt_core.specs.declared.draw_fault.DrawFault.{DrawFault}
 use Rattle.tt_picture.specs.declared.ink_box.InkBox.{InkBox}
 use Rattle.tt_picture.specs.declared.report.Unfitted.{Unfitted}
 use Rattle.tt_strike.proofs.Costed.{costed, costed_as_made}
@@ -36,7 +34,6 @@ use Rattle.tt_strike.proofs.Larger.{first_of}
 use Rattle.tt_picture.proofs.Listing.{standing_listed}
 use Rattle.tt_strike.proofs.Made.{reported_as_made}
 use Rattle.tt_picture.proofs.Standings.{counts_from_pen, filling_from_pen}
-use Rattle.tt_strike.proofs.Stopped.{measuring_stops, stops}
 
 -- glyphs moved to the right
 abbrev pub rightwards : ℕ → List (ℕ × ℕ) → List (ℕ × ℕ)
@@ -88,19 +85,6 @@ grown_as_measured face a l larger m measured is = by_measure face a l m measured
 pub not_grown : (face : Face) (a : Job) (l : Placement) (m : Measure) (j : JobFault) → measured_line face a l ≡ Ok m
     → grown l m.ink ≡ Err j → grown_line face a l ≡ Err (job j)
 not_grown face a l m j measured is = by_measure face a l m measured ∙ rw is refl
-
--- a stop in the line's glyphs stops the enlarged line
-pub unmade_stops : (face : Face) (a : Job) (l : Placement) (e : DrawFault)
-    → IfSome (refusal e) (λ r. shapes_made face a l ≡ Err r) → IfSome (refusal e) (λ r. grown_line face a l ≡ Err r)
-unfolding grown_line
-unmade_stops face a l e stopped =
-    stops e (measured_line face a l) (grown_line face a l) (λ r fails. rw fails refl) (measuring_stops face a l e stopped)
-
--- a stop in the enlarged line stops what is made of it
-pub ungrown_stops : {X : Type 0} (face : Face) (a : Job) (l : Placement) (e : DrawFault) (f : Placement → Result X Refused)
-    → IfSome (refusal e) (λ r. grown_line face a l ≡ Err r) → IfSome (refusal e) (λ r. (grown_line face a l >>= f) ≡ Err r)
-ungrown_stops face a l e f stopped =
-    stops e (grown_line face a l) (grown_line face a l >>= f) (λ r fails. rw fails refl) stopped
 
 -- the same glyphs further to the right: they are made, and have as many crossings
 record AreMoved (maker : ℕ → Fitter) (left : ℕ) (gs : List (ℕ × ℕ)) (shapes : List Shape) : Type 0 where

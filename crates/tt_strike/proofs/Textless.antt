@@ -1,9 +1,11 @@
 -- What is made of a line that is laid out does not depend on the text of its job.
-use Rattle.std.proofs.Common.{◌≡◌, ℕ, Bool, List, refl}
+use Rattle.std.proofs.Common.{◌≡◌, ℕ, List, refl}
 use Rattle.tt_line.specs.Layout.{Placement}
 use Rattle.tt_picture.specs.Glyphs.{Glyph}
 use Rattle.tt_strike.specs.Costs.{line_cost}
 use Rattle.tt_strike.specs.Made.{AreMade, shapes_made}
+use Rattle.tt_strike.specs.Picture.{drawn}
+use Rattle.tt_strike.specs.Report.{line_report}
 use Rattle.tt_strike.specs.Strikes.{SizedFace, job_by, job_with}
 
 pub shapes_textless : (z : SizedFace) (text : List ℕ) (margin : ℕ) (l : Placement)
@@ -29,3 +31,13 @@ pub cost_textless : (z : SizedFace) (text : List ℕ) (margin : ℕ) (l : Placem
     → line_cost z.face (job_by z text margin) l ≡ line_cost z.face (job_with z margin) l
 unfolding line_cost
 cost_textless z text margin l = refl
+
+pub drawn_textless : (z : SizedFace) (text : List ℕ) (margin : ℕ) (l : Placement)
+    → drawn z.face (job_by z text margin) l ≡ drawn z.face (job_with z margin) l
+unfolding drawn
+drawn_textless z text margin l = refl
+
+pub report_textless : (z : SizedFace) (text : List ℕ) (margin : ℕ) (l : Placement)
+    → line_report z.face (job_by z text margin) l ≡ line_report z.face (job_with z margin) l
+unfolding line_report
+report_textless z text margin l = refl

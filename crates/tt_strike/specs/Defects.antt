@@ -1,5 +1,5 @@
 -- The defects that a call can meet in a font.
-use Rattle.std.specs.Prelude.{◌≡◌, ◌<◌, List, ℕ, length, map, slice_index, Option, Result, Ok, Err, IsOkAnd, IfSome, Bool, true, false, if◌then◌else◌, ◌⊎◌}
+use Rattle.std.specs.Prelude.{◌≡◌, ◌<◌, List, ℕ, length, map, slice_index, Option, Result, Ok, Err, IsOkAnd, IfSome, Bool, true, false, ◌⊎◌}
 use Rattle.tt_core.specs.Faults.{Fault}
 use Rattle.tt_core.specs.Directory.{HasNo}
 use Rattle.tt_face.specs.Defects.{IsGlyphTableDefect, HasProgramPastEnd}
@@ -63,13 +63,15 @@ abbrev pub steps_extent : Face → Job → Fitter → List ℕ → PictureExtent
 steps_extent face a s gs =
     extent_by (steps_in s gs) a.margin (rise_of face.metrics a.ppem) (depth_of face.metrics a.ppem)
 
--- a fact of the extent of a text's picture, which with best is known once the glyphs are made
-abbrev pub HasExtent : Face → Job → (PictureExtent → Type 0) → Type 0
-HasExtent face a P =
+-- a fact of the extent of a text's picture: by the steps of its glyphs, once they are made, or by advances
+abbrev pub HasExtentBy : Bool → Face → Job → (PictureExtent → Type 0) → Type 0
+HasExtentBy true face a P =
     let gs = text_glyphs face.cmap a.text in
-    if lays_after_glyphs a.fit
-    then IsOkAnd (setting_in face a) (λ s. IsOkAnd (outlines_in s gs) (λ outlines. P (steps_extent face a s gs)))
-    else P (extent_of face.metrics a.ppem a.margin gs)
+    IsOkAnd (setting_in face a) (λ s. IsOkAnd (outlines_in s gs) (λ outlines. P (steps_extent face a s gs)))
+HasExtentBy false face a P = P (extent_of face.metrics a.ppem a.margin (text_glyphs face.cmap a.text))
+
+abbrev pub HasExtent : Face → Job → (PictureExtent → Type 0) → Type 0
+HasExtent face a P = HasExtentBy (lays_after_glyphs a.fit) face a P
 
 -- some glyphs have too many points
 abbrev pub HasTooManyPoints : Face → Job → List ℕ → Type 0

@@ -9,10 +9,11 @@ use Rattle.tt_strike.specs.Work.{line_fitter}
 use Rattle.tt_picture.specs.Glyphs.{AreDrawn, Stand, numbers_of}
 use Rattle.tt_strike.specs.Enlarged.{IsEnlarged}
 use Rattle.tt_strike.specs.Grown.{grown_outcome}
-use Rattle.tt_strike.specs.Job.{Job}
 use Rattle.tt_strike.specs.Reported.{IsReported}
-use Rattle.tt_strike.specs.Strikes.{job_by}
-use Rattle.tt_picture.specs.Pictures.{image_of, picture}
+use Rattle.tt_strike.specs.Strikes.{job_by, job_with}
+use Rattle.std.specs.Prelude.{IsOkAnd}
+use Rattle.tt_picture.specs.Pictures.{Picture, image_of, picture}
+use Rattle.tt_strike.proofs.Textless.{cost_textless, drawn_textless, report_textless}
 use Rattle.tt_strike.specs.Picture.{frame_of, laid_out}
 use Rattle.tt_picture.specs.Unfitted.{unfitted_standing}
 use Rattle.tt_picture.proofs.Places.{ok_and}
@@ -68,13 +69,46 @@ pub draw_line-requires-clause-unbounded : goal.draw_line-requires-clause-unbound
 draw_line-requires-clause-unbounded c = ?
 
 pub returns-then-not-is_bounded-clause-exact : goal.returns-then-not-is_bounded-clause-exact
-returns-then-not-is_bounded-clause-exact c = ?
+unfolding grown_outcome
+returns-then-not-is_bounded-clause-exact c =
+    let z = c.args.self.now in
+    let a = job_by z c.args.text.now c.args.margin in
+    let its = plain (goal.at.returns-then-not-is_bounded-clause-exact c).In_ok-enlarged in
+    let drawn = rw (c.enlarge.ensures.same, c.into_laid-laid.ensures, c.in_ok-enlarged.ensures.margin) at c.draw_line.ensures.exact in
+    rw (placed_as_laid z.face a its.0 its.1, its.2.exact,
+    drawn_textless z c.args.text.now c.args.margin (placement_of c.in_ok-enlarged.enlarged.laid.line)) drawn
 
 pub returns-then-not-is_bounded-clause-frame : goal.returns-then-not-is_bounded-clause-frame
-returns-then-not-is_bounded-clause-frame c = ?
+returns-then-not-is_bounded-clause-frame c =
+    let z = c.args.self.now in
+    let a = job_by z c.args.text.now c.args.margin in
+    let its = plain (goal.at.returns-then-not-is_bounded-clause-frame c).In_ok-enlarged in
+    let framed = rw (c.into_laid-laid.ensures, c.in_ok-enlarged.ensures.margin) at c.draw_line.ensures.frame in
+    rw (placed_as_laid z.face a its.0 its.1, its.2.exact) framed
 
 pub returns-then-not-is_bounded-clause-reported : goal.returns-then-not-is_bounded-clause-reported
-returns-then-not-is_bounded-clause-reported c = ?
+returns-then-not-is_bounded-clause-reported c =
+    let z = c.args.self.now in
+    let face = z.face in
+    let a = job_by z c.args.text.now c.args.margin in
+    let b = job_with z c.args.margin in
+    let its = plain (goal.at.returns-then-not-is_bounded-clause-reported c).In_ok-enlarged in
+    let l = its.0 in
+    let e = its.2 in
+    let larger = placement_of c.in_ok-enlarged.enlarged.laid.line in
+    let gs = c.in_ok-enlarged.enlarged.inked.glyphs.made.items in
+    let told = reported_as_made face a l gs (unfitted_standing gs) e.made refl in
+    let same = same_cost face a l larger e.left gs e.made e.moved in
+    let anew = rw (c.enlarge.ensures.same, c.into_laid-laid.ensures, c.in_ok-enlarged.ensures.margin) at c.draw_line.ensures.reported in
+    IfOk-weaker c.draw_line.result (IsReported face b larger) (λ (p : Picture). IsOkAnd (laid_out face a) (λ l. IsReported face a l p))
+    (λ p is. rw its.1 (record {
+      ready = is.ready;
+      report = same_report face a l larger (unfitted_standing gs) p.unfitted (numbers_kept e) told.0
+          (report_textless z c.args.text.now c.args.margin larger ∙ is.report);
+      once = is.once;
+      cost = sym same ∙ cost_textless z c.args.text.now c.args.margin larger ∙ is.cost;
+      few = is.few;
+    })) anew
 
 pub returns-then-not-is_bounded-clause-defects : goal.returns-then-not-is_bounded-clause-defects
 returns-then-not-is_bounded-clause-defects c =
