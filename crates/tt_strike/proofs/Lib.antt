@@ -23,5 +23,6 @@ mod Placed
 mod Stepped
 mod Limited
 mod Reported
+mod Seated
 mod StepLaws
 mod MeasuredSteps
