@@ -299,3 +299,15 @@ pub outline_stops_outlines : (s : Fitter) (how : Fit) (gs : List ℕ) (e : FontF
     → IfSome (refusal (draw_fault_of_font e)) (λ r. outlines_tested s how gs ≡ Err r)
 outline_stops_outlines s how gs (font.Font f) few fails = rw (few, fails) refl
 outline_stops_outlines s how gs font.Memory few fails = tt
+
+-- the steps of some glyphs are put beside them
+abbrev pub stepped : (ℕ → ℕ) → List (ℕ × ℕ) → List (ℕ × ℕ)
+stepped step line = map (λ (g : ℕ × ℕ). (g.0, step g.0)) line
+
+pub firsts_stay : (step : ℕ → ℕ) (line : List (ℕ × ℕ)) → map (λ (g : ℕ × ℕ). g.0) (stepped step line) ≡ map (λ (g : ℕ × ℕ). g.0) line
+firsts_stay step [] = refl
+firsts_stay step (g ∷ gs) = ap (λ (ns : List ℕ). g.0 ∷ ns) (firsts_stay step gs)
+
+pub steps_put : (step : ℕ → ℕ) (line : List (ℕ × ℕ)) → map (λ (g : ℕ × ℕ). g.1) (stepped step line) ≡ map step (map (λ (g : ℕ × ℕ). g.0) line)
+steps_put step [] = refl
+steps_put step (g ∷ gs) = ap (λ (ns : List ℕ). step g.0 ∷ ns) (steps_put step gs)

@@ -47,7 +47,12 @@ returns c = λ step inked steps same.
     rw (c.from.ensures, found.0, c.ink_at.ensures, found.1) (simp to_z-of_z)
 
 pub step_of-requires-clause-known : goal.step_of-requires-clause-known
-step_of-requires-clause-known c = ?
+step_of-requires-clause-known c =
+    let gs = c.args.inked.now.glyphs.made.items in
+    let at = c.in-Some.ensures.found in
+    let here : c.index.result.now.number ≡ c.args.placed.0 = ap (λ (t : Glyph). t.number) c.index.ensures
+    ∙ sym (get_or-map (λ (t : Glyph). t.number) gs c.in-Some.i c.index.result.now 0 at.0) ∙ at.1 in
+    rw here c.requires.known
 
 pub index-2-requires : goal.index-2-requires
 index-2-requires c =

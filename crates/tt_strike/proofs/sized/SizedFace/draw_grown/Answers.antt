@@ -66,7 +66,7 @@ draw_line-requires-clause-known c =
     (known_there (goal.at.draw_line-requires-clause-known c).In_ok-enlarged)
 
 pub draw_line-requires-clause-unbounded : goal.draw_line-requires-clause-unbounded
-draw_line-requires-clause-unbounded c = ?
+draw_line-requires-clause-unbounded c = rw (c.fit.ensures, c.is_bounded.ensures) at c.if-not-is_bounded.true
 
 pub returns-then-not-is_bounded-clause-exact : goal.returns-then-not-is_bounded-clause-exact
 unfolding grown_outcome
