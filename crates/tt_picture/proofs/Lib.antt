@@ -3,7 +3,7 @@ pub mod Among
 pub mod Blackened
 pub mod Crossed
 pub mod Filled
-pub mod Fitted
+pub mod Outlines
 pub mod FirstMet
 pub mod Inked
 pub mod Keeping

@@ -28,7 +28,7 @@ use Rattle.tt_picture.specs.Steps.{glyph_chords, outlines_by}
 use Rattle.tt_picture.specs.Pixels.{Shape}
 use Rattle.tt_picture.specs.Shapes.{crossings_in, glyph_shape}
 use Rattle.tt_picture.proofs.Among.{all_among}
-use Rattle.tt_picture.proofs.Fitted.{chords_are, shapes_of_line}
+use Rattle.tt_picture.proofs.Outlines.{chords_are, shapes_of_line}
 use Rattle.tt_strike.specs.Defects.{IsGlyphDefect, IsLineDefect, IsLineRefusal, steps_extent}
 use Rattle.tt_strike.specs.Job.{Job, tested}
 use Rattle.tt_strike.specs.Made.{text_shapes}

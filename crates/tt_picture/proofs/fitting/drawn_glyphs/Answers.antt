@@ -8,7 +8,7 @@ use Rattle.tt_picture.specs.Fitted.{AreFitted, FittedGlyph, IsFitted, fitted_cho
 use Rattle.tt_picture.specs.Glyphs.{Glyph, IsDrawn}
 use Rattle.tt_picture.specs.Steps.{chords_of}
 use Rattle.tt_picture.proofs.Cached.{same_there}
-use Rattle.tt_picture.proofs.Fitted.{one_chord_more, too_many_chords}
+use Rattle.tt_picture.proofs.Outlines.{one_chord_more, too_many_chords}
 use Rattle.tt_picture.proofs.Reframed.{IsBare, nothing_left}
 use Rattle.tt_picture.proofs.fitting.drawn_glyphs.Goals as goal
 

@@ -6,7 +6,7 @@ use Rattle.tt_core.specs.Outcomes.{each}
 use Rattle.tt_fit.specs.Fitting.{Fitter, fitted_outline}
 use Rattle.tt_picture.specs.Distinct.{IsNext, fitter_after, fitter_for, is_among}
 use Rattle.tt_picture.specs.Fitted.{FittedGlyph, IsFitted, outlines_of}
-use Rattle.tt_picture.proofs.Fitted.{all_new, not_yet, stuck_there}
+use Rattle.tt_picture.proofs.Outlines.{all_new, not_yet, stuck_there}
 use Rattle.tt_picture.proofs.Places.{one_more_made}
 use Rattle.tt_picture.proofs.Reframed.{none_left}
 use Rattle.tt_picture.proofs.Turns.{next_is, none_before, pushed, same_tables}

@@ -10,7 +10,7 @@ use Rattle.tt_picture.specs.Distinct.{distinct}
 use Rattle.tt_picture.specs.Fitted.{AreFitted, fitted_numbers, outlines_of}
 use Rattle.tt_picture.specs.Steps.{glyph_step}
 use Rattle.tt_picture.proofs.Among.{all_among, of_same_glyphs}
-use Rattle.tt_picture.proofs.Fitted.{steps_are}
+use Rattle.tt_picture.proofs.Outlines.{steps_are}
 use Rattle.tt_picture.proofs.Listing.{distinct_differ}
 use Rattle.tt_strike.specs.Picture.{outlines_in}
 use Rattle.tt_strike.specs.Work.{line_fitter, points_in, started, work_tested}
