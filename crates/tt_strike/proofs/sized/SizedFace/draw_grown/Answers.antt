@@ -75,8 +75,11 @@ returns-then-not-is_bounded-clause-exact c =
     let a = job_by z c.args.text.now c.args.margin in
     let its = plain (goal.at.returns-then-not-is_bounded-clause-exact c).In_ok-enlarged in
     let drawn = rw (c.enlarge.ensures.same, c.into_laid-laid.ensures, c.in_ok-enlarged.ensures.margin) at c.draw_line.ensures.exact in
-    rw (placed_as_laid z.face a its.0 its.1, its.2.exact,
-    drawn_textless z c.args.text.now c.args.margin (placement_of c.in_ok-enlarged.enlarged.laid.line)) drawn
+    rw (
+      placed_as_laid z.face a its.0 its.1,
+      its.2.exact,
+      drawn_textless z c.args.text.now c.args.margin (placement_of c.in_ok-enlarged.enlarged.laid.line),
+    ) drawn
 
 pub returns-then-not-is_bounded-clause-frame : goal.returns-then-not-is_bounded-clause-frame
 returns-then-not-is_bounded-clause-frame c =
