@@ -1,5 +1,5 @@
 -- What a line takes of the budget of a call of many lines.
-use Rattle.std.proofs.Common.{◌≡◌, ◌∙◌, refl, ap, ℕ, List, map, None, Ok}
+use Rattle.std.proofs.Common.{◌≡◌, ◌∙◌, refl, ap, Bool, ℕ, List, map, None, Ok}
 use Rattle.tt_fit.specs.Fitting.{Fitter}
 use Rattle.tt_fit.specs.Laws.{UnboundedStays}
 use Rattle.tt_line.specs.Layout.{Placement}

@@ -1,15 +1,13 @@
 -- The edges of a line's glyphs, within their limits and past them.
-use Rattle.std.proofs.Common.{◌≡◌, ◌∙◌, refl, ℕ, ◌<◌, ◌≤◌, nat_lt, Bool, true, false, List, Option, Result, Ok, Err, arith}
+use Rattle.std.proofs.Common.{◌≡◌, refl, ℕ, ◌<◌, ◌≤◌, nat_lt, true, false, List, Option, Ok, Err, arith}
 use Rattle.std.proofs.lemmas.Bool.Decides.{nat_tests}
-use Rattle.tt_core.specs.declared.fault.JobFault.{JobFault}
 use Rattle.tt_core.specs.declared.fault.JobFault.TheVariants as fault
 use Rattle.tt_core.specs.Outcomes.{each}
 use Rattle.tt_fit.specs.Fitting.{Fitter}
 use Rattle.tt_fit.specs.declared.programs.Fit.{Fit}
-use Rattle.tt_picture.specs.Glyphs.{AreOfLine, Glyph, Stand, crossings_standing}
+use Rattle.tt_picture.specs.Glyphs.{AreOfLine, Glyph, crossings_standing}
 use Rattle.tt_picture.specs.Pixels.{Shape}
 use Rattle.tt_picture.specs.Shapes.{crossings_in, glyph_shape}
-use Rattle.tt_picture.proofs.Places.{ok_and}
 use Rattle.tt_scan_edges.specs.declared.edge.Frame.{Frame}
 use Rattle.tt_strike.specs.Refusals.{as_job, job}
 use Rattle.tt_strike.specs.Work.{chord_limit, crossings_allowed, edges_limited, is_bounded, work_tested}

@@ -14,7 +14,7 @@ use Rattle.tt_picture.proofs.Unbounded.{uncharged}
 use Rattle.tt_strike.specs.Job.{Job}
 use Rattle.tt_strike.specs.Laws.{OthersListNothing}
 use Rattle.tt_strike.specs.Picture.{line_shapes, setting, setting_in, text_placed}
-use Rattle.tt_strike.specs.Refusals.{Refused, as_font, as_job}
+use Rattle.tt_strike.specs.Refusals.{Refused, as_font}
 use Rattle.tt_strike.specs.Report.{line_report, report_by, report_of}
 use Rattle.tt_face.specs.Faces.{Face, face_of, glyphs_in}
 use Rattle.tt_strike.specs.Programs.{programs_in}

@@ -1,18 +1,17 @@
 -- The steps that a measure tells are those by which its text was laid out.
-use Rattle.std.proofs.Common.{◌≡◌, ◌∙◌, refl, sym, ap, ℕ, ◌+◌, ◌<◌, ◌≤◌, Bool, true, false, pos, ◌+ℤ◌, List, get_or, length, map, slice_index, None, Result, Ok, arith}
+use Rattle.std.proofs.Common.{◌≡◌, ◌∙◌, refl, sym, ap, ℕ, ◌+◌, ◌<◌, Bool, true, false, pos, ◌+ℤ◌, get_or, length, map, slice_index, None, Result, Ok, arith}
 use Rattle.std.proofs.lemmas.Int.{ints}
 use Rattle.std.proofs.lemmas.List.{get_or-map, length-map}
 use Rattle.tt_core.specs.Chains.{came-through}
-use Rattle.tt_core.specs.Outcomes.{◌>>=◌}
 use Rattle.tt_face.specs.Faces.{Face}
 use Rattle.tt_fit.specs.Fitting.{Fitter}
 use Rattle.tt_line.specs.Laws.{ArePens, StepsLead}
-use Rattle.tt_line.specs.Layout.{Placement, advances_of, depth_of, laid_at, placement, pen_at, rise_of, text_glyphs}
+use Rattle.tt_line.specs.Layout.{Placement, advances_of, depth_of, laid_at, placement, rise_of, text_glyphs}
 use Rattle.tt_strike.specs.declared.measuring.CharacterMeasure.{CharacterMeasure}
 use Rattle.tt_strike.specs.Job.{Job}
 use Rattle.tt_strike.specs.Measures.{Measure, character_at, line_ink, line_step, measure_by, measured, measured_line}
 use Rattle.tt_strike.specs.Picture.{frame_of, laid_out, line_shapes, outlines_tested, placed_by_steps, setting_in, steps_in, text_placed}
-use Rattle.tt_strike.specs.Refusals.{as_font, as_job}
+use Rattle.tt_strike.specs.Refusals.{as_font}
 use Rattle.tt_strike.specs.StepLaws.{EqualGlyphsStepAlike, MeasureTellsSteps, character_in}
 use Rattle.tt_strike.specs.Work.{is_bounded}
 use Rattle.tt_strike.proofs.Placed.{of-font, of-job, placed_by_advances, placed_by_its_steps, placed_of}

@@ -1,15 +1,14 @@
 -- The line of a text: laid out by the steps of its glyphs where work is bounded, and by advances elsewhere.
-use Rattle.std.proofs.Common.{◌≡◌, ◌∙◌, refl, ℕ, Bool, true, false, List, map, Result, Ok, Err}
+use Rattle.std.proofs.Common.{◌≡◌, refl, Bool, true, false, map, Result, Ok, Err}
 use Rattle.tt_core.specs.Chains.{came-through}
 use Rattle.tt_core.specs.Faults.{Fault}
-use Rattle.tt_core.specs.Outcomes.{◌>>=◌}
 use Rattle.tt_core.specs.declared.fault.JobFault.{JobFault}
 use Rattle.tt_face.specs.Faces.{Face}
 use Rattle.tt_line.specs.Laws.{PlacesGlyphs, StepsLead}
 use Rattle.tt_line.specs.Layout.{Placement, depth_of, laid_at, placement, rise_of, text_glyphs}
 use Rattle.tt_strike.specs.Job.{Job, tested}
 use Rattle.tt_strike.specs.Picture.{laid_out, outlines_tested, placed_by_steps, setting_in, steps_in, text_placed}
-use Rattle.tt_strike.specs.Refusals.{Refused, as_font, as_job}
+use Rattle.tt_strike.specs.Refusals.{as_font, as_job}
 use Rattle.tt_strike.specs.Work.{is_bounded}
 
 -- a result of a font or of a job was not refused

@@ -14,7 +14,7 @@ use Rattle.tt_core.specs.declared.font_fault.FontFault.{FontFault}
 use Rattle.tt_core.specs.declared.font_fault.FontFault.TheVariants as font
 use Rattle.tt_core.specs.Faults.{Fault}
 use Rattle.tt_core.specs.Limits.{point_work_limit}
-use Rattle.tt_core.specs.Outcomes.{◌>>=◌, FontGives, each, draw_fault_of_font, draw_font_fault, draw_job_fault, font_fault}
+use Rattle.tt_core.specs.Outcomes.{FontGives, each, draw_fault_of_font, draw_font_fault, draw_job_fault, font_fault}
 use Rattle.tt_core.proofs.Each.{each-failed}
 use Rattle.tt_face.specs.Faces.{Face}
 use Rattle.tt_fit.proofs.Standing.{faults-stand}
@@ -32,8 +32,8 @@ use Rattle.tt_picture.proofs.Outlines.{chords_are, shapes_of_line}
 use Rattle.tt_strike.specs.Defects.{IsGlyphDefect, IsLineDefect, IsLineRefusal, steps_extent}
 use Rattle.tt_strike.specs.Job.{Job, tested}
 use Rattle.tt_strike.specs.Made.{text_shapes}
-use Rattle.tt_strike.specs.Picture.{edges_tested, laid_out, outlines_in, outlines_tested, placed_by_steps, points_tested, setting_in, shapes_in, steps_in, text_placed}
-use Rattle.tt_strike.specs.Refusals.{Refused, as_font, as_job, job, refusal}
+use Rattle.tt_strike.specs.Picture.{edges_tested, laid_out, outlines_in, outlines_tested, placed_by_steps, points_tested, setting_in, shapes_in, steps_in}
+use Rattle.tt_strike.specs.Refusals.{as_font, as_job, job, refusal}
 use Rattle.tt_strike.specs.Refusals as outcome
 use Rattle.tt_strike.specs.Work.{chords_in, edges_limited, is_bounded, line_fitter, points_in, work_left, work_tested}
 use Rattle.tt_strike.proofs.Placed.{placed_by_its_steps, placed_of}

@@ -1,5 +1,5 @@
 -- What is made of a line that is laid out does not depend on the text of its job.
-use Rattle.std.proofs.Common.{◌≡◌, ℕ, List, refl}
+use Rattle.std.proofs.Common.{◌≡◌, Bool, ℕ, List, refl}
 use Rattle.tt_line.specs.Layout.{Placement}
 use Rattle.tt_picture.specs.Glyphs.{Glyph}
 use Rattle.tt_strike.specs.Costs.{line_cost}

@@ -1,9 +1,7 @@
 -- A font that gives a picture has no defect.
-use Rattle.std.proofs.Common.{◌≡◌, ℕ, List, map, Result, Ok, Err}
+use Rattle.std.proofs.Common.{◌≡◌, map, Ok}
 use Rattle.tt_core.specs.Chains.{came-through}
 use Rattle.tt_core.specs.Directory.{HasNo}
-use Rattle.tt_core.specs.Faults.{Fault}
-use Rattle.tt_core.specs.Outcomes.{◌>>=◌}
 use Rattle.tt_face.specs.Faces.{Face, face_of, glyphs_in}
 use Rattle.tt_face.specs.Programs.{ProgramTables}
 use Rattle.tt_face.proofs.Whole.{face-whole, glyph-tables-whole, programs-whole}

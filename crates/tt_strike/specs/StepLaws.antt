@@ -1,6 +1,6 @@
 -- Laws of steps. With best a character's step is that of its glyph, and the measure of a text tells it. With any other
 -- fit a line is laid out by advances.
-use Rattle.std.specs.Prelude.{◌≡◌, ◌≢◌, refl, ℕ, ◌+◌, ◌<◌, true, ℤ, pos, ◌+ℤ◌, List, [], ◌∷◌, length, map, get_or, None, Ok, Err}
+use Rattle.std.specs.Prelude.{◌≡◌, ◌≢◌, refl, ℕ, ◌+◌, ◌<◌, true, ℤ, pos, ◌+ℤ◌, [], ◌∷◌, length, map, get_or, None, Ok, Err}
 use Rattle.tt_core.specs.Faults.{Fault}
 use Rattle.tt_face.specs.Faces.{Face}
 use Rattle.tt_fit.specs.declared.programs.Fit.TheVariants as fit

@@ -1,12 +1,9 @@
-use Rattle.std.proofs.Common.{◌≡◌, ◌∙◌, ◌∷◌, [], ◌++◌, ◌+◌, ◌<◌, ◌≤◌, ℕ, List, Some, false, length, refl, sym, ap, subst, append_assoc, append-nil, arith}
+use Rattle.std.proofs.Common.{◌≡◌, ◌∙◌, ◌∷◌, [], ◌++◌, ◌+◌, ◌<◌, ◌≤◌, List, Some, false, length, refl, sym, ap, subst, append_assoc, append-nil, arith}
 use Rattle.std.specs.Vec.Iter.{into_iter_items}
 use Rattle.std.proofs.lemmas.List.{map-append}
 use Rattle.std.proofs.lemmas.List.Elements.{All-pop, All-push}
-use Rattle.tt_fit.specs.Fitting.{Fitter}
-use Rattle.tt_picture.specs.Cached.{is_there}
 use Rattle.tt_picture.specs.Fitted.{AreFitted, FittedGlyph, IsFitted, fitted_chords, fitted_numbers}
 use Rattle.tt_picture.specs.Glyphs.{Glyph, IsDrawn}
-use Rattle.tt_picture.specs.Steps.{chords_of}
 use Rattle.tt_picture.proofs.Cached.{same_there}
 use Rattle.tt_picture.proofs.Outlines.{one_chord_more, too_many_chords}
 use Rattle.tt_picture.proofs.Reframed.{IsBare, nothing_left}

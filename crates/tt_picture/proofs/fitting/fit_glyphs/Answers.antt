@@ -1,10 +1,10 @@
-use Rattle.std.proofs.Common.{◌≡◌, ◌∙◌, ◌++◌, ◌∷◌, [], ◌<◌, ◌≤◌, ℕ, false, ap, drop, get_or, length, refl, suc, sym, take, Ok, arith}
+use Rattle.std.proofs.Common.{◌≡◌, ◌∙◌, ◌∷◌, [], ◌<◌, ◌≤◌, false, ap, drop, get_or, length, refl, suc, sym, take, Ok, arith}
 use Rattle.std.proofs.lemmas.List.{append-nil, map-append, take_all, take_more}
 use Rattle.std.proofs.lemmas.List.Elements.{All-push}
 use Rattle.std.proofs.lemmas.Result.{err_from_is_err_and}
 use Rattle.tt_core.specs.Outcomes.{each}
-use Rattle.tt_fit.specs.Fitting.{Fitter, fitted_outline}
-use Rattle.tt_picture.specs.Distinct.{IsNext, fitter_after, fitter_for, is_among}
+use Rattle.tt_fit.specs.Fitting.{fitted_outline}
+use Rattle.tt_picture.specs.Distinct.{IsNext, fitter_after, fitter_for}
 use Rattle.tt_picture.specs.Fitted.{FittedGlyph, IsFitted, outlines_of}
 use Rattle.tt_picture.proofs.Outlines.{all_new, not_yet, stuck_there}
 use Rattle.tt_picture.proofs.Places.{one_more_made}

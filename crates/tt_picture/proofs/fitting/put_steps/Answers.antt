@@ -1,9 +1,5 @@
-use Rattle.std.proofs.Common.{◌≡◌, ◌∙◌, ◌++◌, ◌+◌, ◌<◌, ◌≤◌, ℕ, add-one, List, ap, drop, get_or, length, map, refl, set, sym, take, true, arith}
-use Rattle.std.proofs.lemmas.List.{append-nil, drop_all, get_or_default, length-map, take_all}
-use Rattle.tt_picture.specs.Distinct.{is_among}
-use Rattle.tt_picture.specs.Fitted.{FittedGlyph, fitted_numbers}
-use Rattle.tt_picture.proofs.Outlines.{numbers_kept, one_more_step, same_number, step_at}
-use Rattle.tt_picture.proofs.Reframed.{seated}
+use Rattle.std.proofs.Common.{◌≡◌, ◌∙◌, ◌≤◌, ℕ, List, ap, length, map, refl, sym, arith}
+use Rattle.std.proofs.lemmas.List.{append-nil, drop_all, length-map, take_all}
 use Rattle.tt_picture.proofs.fitting.put_steps.Goals as goal
 
 -- as many glyphs as at first

@@ -1,4 +1,4 @@
-use Rattle.std.proofs.Common.{◌≡◌, ◌<◌, ◌≤◌, ℕ, drop, length, map, All}
+use Rattle.std.proofs.Common.{◌≡◌, ◌<◌, ◌≤◌, drop, length, map, All}
 use Rattle.tt_picture.specs.Distinct.{distinct, distinct_after}
 use Rattle.tt_picture.specs.Glyphs.{ArePlaces}
 use Rattle.tt_strike.proofs.distinct.distinct.Given as goal

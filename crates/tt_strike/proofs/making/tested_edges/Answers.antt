@@ -1,13 +1,9 @@
-use Rattle.std.proofs.Common.{◌≡◌, ◌∙◌, ◌<◌, ◌≤◌, ℕ, All, ap, false, map, refl, sym, Ok, arith}
+use Rattle.std.proofs.Common.{◌∙◌, ◌≤◌, ℕ, All, ap, refl, arith}
 use Rattle.std.proofs.lemmas.Result.{err_from_is_err_and}
 use Rattle.tt_core.specs.Limits.{width_limit}
-use Rattle.tt_core.specs.Outcomes.{each}
-use Rattle.tt_line.specs.Outcome.{placement_of}
-use Rattle.tt_picture.specs.Glyphs.{Stand, crossings_standing}
-use Rattle.tt_picture.specs.Shapes.{crossings_in, glyph_shape}
+use Rattle.tt_picture.specs.Shapes.{crossings_in}
 use Rattle.tt_picture.proofs.Filled.{tapes_few}
 use Rattle.tt_strike.specs.Costs.{cost_of}
-use Rattle.tt_strike.specs.Picture.{frame_of}
 use Rattle.tt_strike.proofs.Limited.{few_chords, standing_counts, too_many_chords}
 use Rattle.tt_strike.proofs.making.tested_edges.Goals as goal
 

@@ -1,7 +1,7 @@
-use Rattle.std.proofs.Common.{◌≡◌, ◌∙◌, map, Ok}
+use Rattle.std.proofs.Common.{◌∙◌}
 use Rattle.std.proofs.lemmas.Result.{err_from_is_err_and}
 use Rattle.tt_line.specs.Outcome.{placement_of}
-use Rattle.tt_strike.specs.Strikes.{job_by, job_with}
+use Rattle.tt_strike.specs.Strikes.{job_by}
 use Rattle.tt_strike.proofs.Stopped.{laid_stops, no_defect_told, no_job_told, shapes_stop}
 use Rattle.tt_strike.proofs.Textless.{cost_textless, made_textless, shapes_textless}
 use Rattle.tt_strike.proofs.sized.SizedFace.make_by_advances.Goals as goal

@@ -1,4 +1,4 @@
-use Rattle.std.proofs.Common.{◌∙◌, refl}
+use Rattle.std.proofs.Common.{refl}
 use Rattle.tt_strike.proofs.sized.SizedFace.step_of.Goals as goal
 
 pub returns-then-is_bounded : goal.returns-then-is_bounded

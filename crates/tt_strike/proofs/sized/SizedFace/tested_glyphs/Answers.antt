@@ -1,4 +1,4 @@
-use Rattle.std.proofs.Common.{◌≡◌, ◌∙◌, false, List, ap, sym, map, Ok}
+use Rattle.std.proofs.Common.{◌≡◌, List, map}
 use Rattle.std.proofs.lemmas.Result.{err_from_is_err_and}
 use Rattle.tt_core.specs.Outcomes.{each}
 use Rattle.tt_line.specs.Outcome.{placement_of}

@@ -1,18 +1,16 @@
-use Rattle.std.proofs.Common.{◌≡◌, ◌∙◌, ap, ℕ, ◌<◌, ◌≤◌, ◌*◌, All, List, length, map, refl, sym, Ok}
+use Rattle.std.proofs.Common.{◌≡◌, ◌∙◌, ap, ℕ, ◌<◌, All, List, length, map, refl, sym, Ok}
 use Rattle.std.proofs.lemmas.List.{length-map, with_items_is}
 use Rattle.std.proofs.lemmas.Result.{err_from_is_err_and}
 use Rattle.std.specs.Vec.{with_items}
 use Rattle.tt_core.specs.Limits.{point_work_limit}
-use Rattle.tt_fit.specs.Fitting.{Fitter, charged_fitter}
+use Rattle.tt_fit.specs.Fitting.{Fitter}
 use Rattle.tt_line.specs.Layout.{text_glyphs}
 use Rattle.tt_metrics.specs.Metrics.{glyphs_of}
 use Rattle.tt_picture.specs.Distinct.{distinct}
-use Rattle.tt_picture.specs.Fitted.{AreFitted, fitted_numbers, outlines_of}
+use Rattle.tt_picture.specs.Fitted.{AreFitted, fitted_numbers}
 use Rattle.tt_picture.specs.Steps.{glyph_step}
-use Rattle.tt_picture.proofs.Among.{all_among, of_same_glyphs}
+use Rattle.tt_picture.proofs.Among.{of_same_glyphs}
 use Rattle.tt_picture.proofs.Outlines.{steps_are}
-use Rattle.tt_picture.proofs.Listing.{distinct_differ}
-use Rattle.tt_strike.specs.Picture.{outlines_in}
 use Rattle.tt_strike.specs.Work.{line_fitter, points_in, started, work_tested}
 use Rattle.tt_strike.proofs.Placed.{of-job}
 use Rattle.tt_strike.proofs.Stepped.{firsts_stay, outline_stops_outlines, points_stop_outlines, stepped, steps_put}

@@ -1,4 +1,4 @@
-use Rattle.std.proofs.Common.{◌≡◌, ◌≤◌, true, Ok, refl}
+use Rattle.std.proofs.Common.{◌≡◌, ◌≤◌, Ok, refl}
 use Rattle.std.proofs.lemmas.Result.{IfOk-weaker}
 use Rattle.tt_core.specs.Limits.{crossing_limit}
 use Rattle.std.specs.Prelude.{IsOkAnd}
