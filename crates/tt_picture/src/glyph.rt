@@ -1,17 +1,13 @@
 //! A glyph of a line, made once however often it appears. For painting see painting.rt.
 
-ghost use Rattle.std.specs.Prelude.{◌≡◌, ◌+◌, ◌*◌, ◌<◌, ◌≤◌, ◌^◌, true, false, ◌++◌, [], ◌∷◌, length, IfOk, IfSome, IfNone, OnOk, Some, None, Err};
+ghost use Rattle.std.specs.Prelude.{◌≡◌, ◌+◌, ◌<◌, ◌≤◌, ◌^◌, true, ◌++◌, [], ◌∷◌, length, IfOk, IfSome, IfNone, OnOk, Some, None, Err};
 ghost use Rattle.tt_core.specs.Limits.{margin_limit, width_limit};
 ghost use Rattle.tt_core.specs.Outcomes.{IfTold, font_fault};
 ghost use Rattle.tt_fit.specs.Fitting.{Fitter, fitted_outline, after_glyph};
-ghost use Rattle.tt_fit_outline.specs.Outline.{IsOutline};
-ghost use Rattle.tt_fit_outline.specs.Views.{outline_of};
-ghost use Rattle.tt_scan.specs.Contours.{AreEnds, contours_at};
 ghost use Rattle.tt_scan_edges.specs.Winding.{FrameFits};
-ghost use Rattle.tt_scan_rows.specs.Raster.{IsRasterOf, Raster};
+ghost use Rattle.tt_scan_rows.specs.Raster.{Raster};
 ghost use Rattle.tt_picture.specs.Glyphs.{BodyFits, IsBodyOf, IsDrawn, IsTape, edges_of, left_of};
 ghost use Rattle.tt_picture.specs.Cached.{IsCacheFor, IsCached, is_there, limit_of};
-ghost use Rattle.tt_picture.specs.Shapes.{contours_of, edges_at};
 ghost use Rattle.tt_picture.specs.Views.{body_view};
 
 use crate::cache::Cache;

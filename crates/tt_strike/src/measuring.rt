@@ -23,7 +23,7 @@ use crate::laid::Laid;
 use crate::making::MadeLine;
 use crate::sized::SizedFace;
 use crate::work::is_bounded;
-use std::alloc::{AllocError, Global};
+use std::alloc::AllocError;
 use tt_core::DrawFault;
 use tt_line::advance;
 use tt_picture::{Cache, Glyph, InkBox, Report, glyph_inks, ink_at, joined, report_on};
