@@ -1,6 +1,5 @@
 -- No part of the standard: the distinct glyphs of a line, each with its edges at pen 0, and with its pens.
 use Rattle.std.specs.Prelude.{◌≡◌, ℕ, ◌<◌, ◌≤◌, ◌-◌, ◌+◌, ◌*◌, ◌^◌, Bool, false, ◌||◌, List, [], ◌∷◌, length, map, slice_index, pos, All, IfSome, IsOkAnd, Option, Ok, ⊤}
-use Rattle.std.specs.List.{sum_by}
 use Rattle.tt_core.specs.Bits.{stride}
 use Rattle.tt_core.specs.Faults.{Fault}
 use Rattle.tt_core.specs.Limits.{margin_limit, width_limit}
@@ -196,10 +195,6 @@ pub record AreSeated (glyphs : ℕ) (table : List ℕ) (gs : List Glyph) : Type 
   pub room : length table ≡ glyphs
   pub places : ArePlaces table (numbers_of gs)
   pub lefts : All (λ g. g.left ≤ margin_limit) gs
-
--- the chords of some glyphs
-abbrev pub all_chords : List Glyph → ℕ
-all_chords gs = sum_by (λ g. g.chords) gs
 
 -- glyphs before and after a glyph was found among them, or was made by this fitter and added without a pen
 pub record HasGlyph (cached : Bool) (s : Fitter) (f : Frame) (number : ℕ) (before after : List Glyph) : Type 0 where

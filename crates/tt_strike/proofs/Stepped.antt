@@ -220,9 +220,6 @@ pub outlines_pass : (s : Fitter) (a : Job) (gs : List ℕ) (os : List Outline)
     → outlines_tested s a.fit gs ≡ Ok os
 outlines_pass s a gs os few made = rw (few, made) refl
 
-pub no_font_told : (P : Fault → Type 0) (j : JobFault) → IfSome (draw_font_fault (draw.Job j)) P
-no_font_told P j = tt
-
 -- a text that is laid out by the steps of its outlines, with the work that they left
 pub record IsOutlinedLine (face : Face) (a : Job) (s : Fitter) (l : Placement) (fs : List FittedGlyph) (left : Option ℕ) : Type 0 where
   pub passes : tested a ≡ Ok tt
