@@ -18,8 +18,8 @@ use tt_core::DrawFault;
 use tt_line::lay;
 
 impl<'f, 'a> SizedFace<'f, 'a> {
-    /// Tests a margin and a text, and lays the text out by advances; only where work is not bounded. Errors, the first of: MarginRange, TextLong; EmptyPicture,
-    /// PictureLarge. Memory may come at any allocation.
+    /// Tests a margin and a text, and lays the text out by advances; only where work is not bounded. Errors, the first
+    /// of: MarginRange, TextLong; EmptyPicture, PictureLarge. Memory may come at any allocation.
     pub(crate) fn lay_out(&self, text: &str, margin: u32) -> Result<Laid, DrawFault>
         requires unbounded { is_bounded self.now.fit ≡ false }
         ensures exact { GivesUnless refusal (λ l. placement_of l.line) result (laid_out self.now.face (job_by self.now text.now margin)) }
