@@ -9,8 +9,8 @@ abbrev pub PlacesGlyphs : Type 0
 PlacesGlyphs = (m : Metrics) (cmap : Cmap) (text : List ℕ) (ppem margin : ℕ) (line : Placement)
     → placement m cmap text ppem margin ≡ Ok line → map (λ g. g.0) line.glyphs ≡ text_glyphs cmap text
 
--- each character has its glyph, and the pens of a line are the sums of the steps before them: the first is 0, each step leads to the next, and the last
--- step leads to the right margin
+-- each character has its glyph, and the pens of a line are the sums of the steps before them: the first is 0, each step
+-- leads to the next, and the last step leads to the right margin
 pub record ArePens (gs steps : List ℕ) (margin : ℕ) (line : Placement) : Type 0 where
   pub numbers : map (λ g. g.0) line.glyphs ≡ gs
   pub first : pen_at steps 0 ≡ 0
