@@ -26,3 +26,4 @@ mod Reported
 mod Seated
 mod StepLaws
 mod MeasuredSteps
+mod UnhintedSteps

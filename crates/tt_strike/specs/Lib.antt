@@ -16,3 +16,4 @@ pub mod Reported
 pub mod StepLaws
 pub mod Strikes
 pub mod Work
+pub mod UnhintedSteps

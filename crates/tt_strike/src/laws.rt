@@ -3,6 +3,7 @@
 ghost use Rattle.tt_face.specs.Laws.{FacesAreWhole};
 ghost use Rattle.tt_strike.specs.Laws.{DrawnFontsAreWhole, OthersListNothing, MarginMoves, MeasuredAsDrawn, GlyphsByThemselves, UnfilledAreEdges, OthersFillNone, OthersDrawByEdges, GrownRefusals, SidesMove, SidesRefuseNothing};
 ghost use Rattle.tt_strike.specs.StepLaws.{BestLaysBySteps, EqualGlyphsStepAlike, GlyphsBeforeExtent, MeasureTellsSteps, MovedOutlinesAgree, OthersLayByAdvances};
+ghost use Rattle.tt_strike.specs.UnhintedSteps.{UnhintedStepsAreNear};
 ghost use Rattle.tt_strike.specs.InkLaws.{GrownAddsFewest, GrownCutsNone, GrownMeasuredAsDrawn, InkIsDrawn, MeasureHoldsInk};
 
 /// Lemma: where the definitions give a font's tables, these have no defect. Where they give a job's picture, the font
@@ -27,6 +28,14 @@ pub fn best_lays_by_steps()
 pub fn moved_outlines_agree()
     ensures { MovedOutlinesAgree }
 {}
+
+/// Lemma: the step of a glyph whose hinting is off is at most a pixel off its advance, and equal to it unless the exact
+/// advance is within 1/32 pixel of a half.
+pub fn unhinted_steps_are_near()
+    ensures { UnhintedStepsAreNear }
+{
+    tt_core::laws::scales_keep_order();
+}
 
 /// Lemma: a measure tells the step from each pen to the next, and equal glyphs have equal steps.
 pub fn measures_tell_steps()
