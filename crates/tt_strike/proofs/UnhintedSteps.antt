@@ -1,12 +1,12 @@
 -- The step of a glyph whose hinting is off is nearly its advance in pixels.
-use Rattle.std.proofs.Common.{◌≡◌, ◌≢◌, ◌∙◌, ap, subst, sym, Bool, false, if◌then◌else◌, ℕ, zero, suc, ◌+◌, ◌*◌, ◌/◌, ◌<◌, ◌≤◌, ℤ, pos, negsuc, neg_ℤ, ◌+ℤ◌, ◌-ℤ◌, int_lt, unsigned_abs, inl, inr, ◌⊎◌, arith, mul-le-mul_left}
+use Rattle.std.proofs.Common.{◌≡◌, ◌≢◌, ◌∙◌, ap, subst, sym, Bool, false, if◌then◌else◌, ℕ, zero, suc, ◌+◌, ◌*◌, ◌/◌, ◌<◌, ◌≤◌, ℤ, pos, negsuc, neg_ℤ, ◌+ℤ◌, ◌-ℤ◌, int_lt, unsigned_abs, inl, inr, arith, mul-le-mul_left}
 use Rattle.std.proofs.Math.Nat.{lt_of_mul-lt-mul_left}
 use Rattle.std.proofs.lemmas.Bool.{cases_lt}
 use Rattle.std.proofs.lemmas.Int.{ints}
 use Rattle.tt_core.specs.Numbers.{nearest_quotient, rounded_quotient}
 use Rattle.tt_core.specs.Scales.{ScalesKeepDifferences, away_quotient, factor, rounded_scale, scaled_by}
 use Rattle.tt_picture.specs.OutlineSteps.{pixels_of}
-use Rattle.tt_strike.specs.UnhintedSteps.{IsNearHalf, UnhintedStepsAreNear, linear_step, unhinted_step}
+use Rattle.tt_strike.specs.UnhintedSteps.{IsNearHalf, UnhintedStepsAreNear, linear_step}
 
 -- a quotient of natural numbers, rounded to the nearest
 abbrev nearest : ℕ → ℕ → ℕ

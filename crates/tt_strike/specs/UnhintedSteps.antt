@@ -1,6 +1,6 @@
 -- The step of a glyph whose hinting is off: both ends of its advance are scaled, so it is nearly the advance in pixels
 -- (Apple TrueType Reference Manual, "Digitizing Letterform Designs").
-use Rattle.std.specs.Prelude.{◌≡◌, ◌≢◌, refl, ℕ, ◌+◌, ◌*◌, ◌<◌, ◌≤◌, ℤ, pos, negsuc, ◌+ℤ◌, ◌-ℤ◌, unsigned_abs}
+use Rattle.std.specs.Prelude.{◌≡◌, ◌≢◌, refl, ℕ, ◌+◌, ◌*◌, ◌<◌, ◌≤◌, ℤ, pos, ◌+ℤ◌, ◌-ℤ◌, unsigned_abs}
 use Rattle.tt_core.specs.Numbers.{rounded_quotient}
 use Rattle.tt_core.specs.Scales.{IsScale, rounded_scale, scaled_by}
 use Rattle.tt_picture.specs.OutlineSteps.{pixels_of}
