@@ -5,21 +5,25 @@ use Rattle.tt_core.specs.Faults.{Fault}
 use Rattle.tt_fit.specs.Fitting.{Fitter, fitted_outline, unfitted_fault}
 use Rattle.tt_fit_outline.specs.Outline.{Outline}
 use Rattle.tt_picture.specs.OutlineSteps.{step_of}
-use Rattle.tt_scan_gaps.specs.declared.mark.Rules.{Rules}
-use Rattle.tt_picture.specs.Shapes.{filled_by}
+use Rattle.tt_arc.specs.declared.rule.ChordRule.{ChordRule}
+use Rattle.tt_scan_dropouts.specs.declared.boxed.BoxedRules.{BoxedRules}
+use Rattle.tt_picture.specs.Shapes.{chords_with, filled_by}
 use Rattle.tt_picture.specs.Steps.{chords_of}
 
--- a glyph by its number in the font: its outline, its dropout rules, and the fault that makes it unfitted
+-- a glyph by its number in the font: its outline, its chord rule, its dropout rules at pen 0, and the fault that makes
+-- it unfitted
 pub record FittedGlyph : Type 0 where
   pub number : ℕ
   pub outline : Outline
-  pub filled : Option Rules
+  pub rule : ChordRule
+  pub filled : Option BoxedRules
   pub unfitted : Option Fault
 
 -- a glyph has the outline that its fitter makes
 pub record IsFitted (s : Fitter) (g : FittedGlyph) : Type 0 where
   pub outline : fitted_outline s g.number ≡ Ok g.outline
-  pub filled : g.filled ≡ filled_by s g.number g.outline
+  pub rule : g.rule ≡ chords_with s
+  pub filled : g.filled ≡ filled_by s g.number 0 g.outline
   pub unfitted : g.unfitted ≡ unfitted_fault s g.number
 
 -- the numbers, the outlines and the chords of some glyphs, in their order
@@ -30,7 +34,7 @@ abbrev pub outlines_of : List FittedGlyph → List Outline
 outlines_of gs = map (λ g. g.outline) gs
 
 abbrev pub fitted_chords : List FittedGlyph → ℕ
-fitted_chords gs = sum_by (λ g. chords_of g.outline) gs
+fitted_chords gs = sum_by (λ g. chords_of g.rule g.outline) gs
 
 -- each glyph is made by its fitter
 abbrev pub AreFitted : (ℕ → Fitter) → List FittedGlyph → Type 0

@@ -13,7 +13,7 @@ ghost use Rattle.tt_scan_rows.specs.Raster.{IsRasterOf, Raster};
 ghost use Rattle.tt_picture.specs.Cached.{IsCacheFor, IsCached, is_there, limit_of};
 ghost use Rattle.tt_picture.specs.Fitted.{IsFitted};
 ghost use Rattle.tt_picture.specs.Glyphs.{BodyFits, IsBodyOf, IsDrawn, IsTape};
-ghost use Rattle.tt_picture.specs.Shapes.{contours_of, edges_at};
+ghost use Rattle.tt_picture.specs.Shapes.{contours_of, edges_at, extents_at, rule_by};
 ghost use Rattle.tt_picture.specs.Steps.{chords_of};
 ghost use Rattle.tt_picture.specs.Views.{body_view};
 
@@ -23,11 +23,11 @@ use crate::glyph::{Glyph, GlyphBody, tape_of};
 use std::alloc::{AllocError, Global};
 use std::marker::Model;
 use std::rc::Rc;
-use tt_arc::{contour_ends, edges};
+use tt_arc::{ChordRule, OutlineEdges, edges, points_box};
 use tt_core::{Fault, FontFault};
 use tt_fit::{Fitter, Outline};
 use tt_scan::{EdgeList, Frame};
-use tt_scan_dropouts::Rules;
+use tt_scan_dropouts::{BoxedRules, Extents};
 use tt_scan_rows::{CutGlyph, Raster};
 use tt_strike_kept::KeptGlyph;
 
@@ -36,7 +36,9 @@ use tt_strike_kept::KeptGlyph;
 pub struct FittedGlyph {
     number: u16,
     outline: Outline,
-    filled: Option<Rules>,
+    rule: ChordRule,
+    /// The rules for filling its dropouts, with its box at pen 0.
+    filled: Option<BoxedRules>,
 }
 
 impl Model for FittedGlyph {
@@ -45,7 +47,7 @@ impl Model for FittedGlyph {
 
     ghost Value = { fitted.FittedGlyph };
 
-    ghost view = { λ g. record { number = g.number; outline = outline_of g.outline; filled = g.filled; unfitted = g.outline.unfitted } };
+    ghost view = { λ g. record { number = g.number; outline = outline_of g.outline; rule = g.rule; filled = g.filled; unfitted = g.outline.unfitted } };
 }
 
 impl FittedGlyph {
@@ -57,11 +59,13 @@ impl FittedGlyph {
         ensures after { OnOk result (fitter.new ≡ after_glyph fitter.old number) }
         ensures fault { IfTold font_fault result (λ f. fitted_outline fitter.old number ≡ Err f) }
     {
+        let rule = rule_by(fitter.work());
         let outline = fitter.fit(number)?;
-        let filled = rules_for(fitter.dropouts(&outline));
+        let filled = rules_for(extents_of(&outline), fitter.dropouts(&outline));
         Ok(FittedGlyph {
             number,
             outline,
+            rule,
             filled,
         })
     }
@@ -87,7 +91,7 @@ impl FittedGlyph {
         ensures number { IfOk result (λ g. g.number ≡ self.number) }
         ensures pens { IfOk result (λ g. g.pens ≡ []) }
         ensures left { IfOk result (λ g. g.left ≤ margin_limit) }
-        ensures plain { IfOk result (λ g. is_there cache.old ≡ false → (g.left ≡ 0) × (g.chords ≡ chords_of self.outline)) }
+        ensures plain { IfOk result (λ g. is_there cache.old ≡ false → (g.left ≡ 0) × (g.chords ≡ chords_of self.rule self.outline)) }
         ensures valid { IfOk result (λ g. (s : Fitter) → IsFitted s self → IsDrawn (is_there cache.old) s frame g) }
         ensures cached { (s : Fitter) → IsFitted s self → IsCacheFor s cache.old → IsCacheFor s cache.new }
         ensures limit { limit_of cache.new ≡ limit_of cache.old }
@@ -95,16 +99,16 @@ impl FittedGlyph {
         let FittedGlyph {
             number,
             outline,
+            rule,
             filled,
         } = self;
-        let list = edges_of(alloc, &outline)?;
-        let ends = ends_of(alloc, &outline, filled)?;
+        let made = edges_of(alloc, &outline, rule, filled)?;
+        let OutlineEdges { list, ends, chords } = made;
         let unfitted = outline.unfitted;
         let caches = can_be_cached(cache, filled);
         let body = body_of(alloc, list, frame, number, unfitted, cache, caches)?;
         let left = body.left(frame);
         let step = step_of(&outline);
-        let chords = body.edges();
         Ok(Glyph {
             number,
             step,
@@ -138,7 +142,7 @@ fn step_of(outline: &Outline) -> u32
 }
 
 /// Whether a glyph may be cached. A glyph with filled dropouts may not, since its dropouts are found by its edges.
-fn can_be_cached(cache: &Cache, filled: Option<Rules>) -> bool
+fn can_be_cached(cache: &Cache, filled: Option<BoxedRules>) -> bool
     ensures cached { result ≡ true → (is_there cache.now ≡ true) × (filled ≡ None) }
     ensures off { is_there cache.now ≡ false → result ≡ false }
     ensures filled { IfSome filled (λ _. result ≡ false) }
@@ -149,14 +153,42 @@ fn can_be_cached(cache: &Cache, filled: Option<Rules>) -> bool
     }
 }
 
-/// The edges of an outline whose first phantom point is at the left end of the line.
-fn edges_of(alloc: Global, outline: &Outline) -> Result<EdgeList, AllocError>
+/// How many chords curves have, by the job's remaining work: with best, whose work is bounded, by their bend.
+fn rule_by(work: Option<u64>) -> ChordRule
+    ensures { result ≡ rule_by work }
+{
+    match work {
+        None => ChordRule::Eight,
+        Some(_) => ChordRule::ByBend,
+    }
+}
+
+/// The box of an outline's points, where its first phantom point is at the left end of the line.
+fn extents_of(outline: &Outline) -> Extents
     requires outline { IsOutline (outline_of outline.now) }
-    ensures exact { IfOk result (λ l. l.edges ≡ edges_at 0 (outline_of outline.now)) }
-    ensures few { IfOk result (λ l. length l.edges ≤ 2 ^ 17) }
+    ensures { result ≡ extents_at 0 (outline_of outline.now) }
 {
     let origin = outline.phantom[0].0;
-    edges(alloc, outline, -i64::from(origin), 0)
+    points_box(outline, -i64::from(origin), 0)
+}
+
+/// The edges of an outline whose first phantom point is at the left end of the line. The ends of its contours are told
+/// if its dropouts are filled.
+fn edges_of(
+    alloc: Global,
+    outline: &Outline,
+    rule: ChordRule,
+    filled: Option<BoxedRules>,
+) -> Result<OutlineEdges, AllocError>
+    requires outline { IsOutline (outline_of outline.now) }
+    ensures exact { IfOk result (λ e. e.list.edges ≡ edges_at rule 0 (outline_of outline.now)) }
+    ensures few { IfOk result (λ e. length e.list.edges ≤ 2 ^ 19) }
+    ensures chords { IfOk result (λ e. e.chords ≡ chords_of rule (outline_of outline.now)) }
+    ensures contours { IfOk result (λ e. IfSome filled (λ rules. contours_at e.list.edges e.ends.items ≡ contours_of rule 0 (outline_of outline.now))) }
+    ensures ends { IfOk result (λ e. IfSome filled (λ rules. AreEnds (length e.list.edges) e.ends.items)) }
+{
+    let origin = outline.phantom[0].0;
+    edges(alloc, outline, rule, -i64::from(origin), 0, filled.is_some())
 }
 
 /// The body of a glyph with these edges. If the glyph may be cached: a raster, which is cached for later lines. Else, and
@@ -171,7 +203,7 @@ fn body_of(
     caches: bool,
 ) -> Result<GlyphBody, AllocError>
     requires frame { FrameFits frame }
-    requires few { length list.edges ≤ 2 ^ 17 }
+    requires few { length list.edges ≤ 2 ^ 19 }
     ensures body { IfOk result (λ b. IsBodyOf list.edges (body_view b) × BodyFits frame 0 (body_view b)) }
     ensures tape { IfOk result (λ b. caches ≡ false → IsTape (body_view b)) }
     ensures cached { (s : Fitter) → (caches ≡ true → (k : Raster) → IsRasterOf list.edges k → IsCached s number (record { raster = k; unfitted = unfitted })) → IsCacheFor s cache.old → IsCacheFor s cache.new }
@@ -193,21 +225,5 @@ fn body_of(
             Ok(GlyphBody::Raster(raster))
         }
         CutGlyph::Edges(list) => tape_of(alloc, list, frame),
-    }
-}
-
-/// The number of an outline's edges up to the end of each contour, if its dropouts are filled. Error: Memory.
-fn ends_of(
-    alloc: Global,
-    outline: &Outline,
-    filled: Option<Rules>,
-) -> Result<Vec<usize>, AllocError>
-    requires outline { IsOutline (outline_of outline.now) }
-    ensures contours { IfOk result (λ v. IfSome filled (λ rules. contours_at (edges_at 0 (outline_of outline.now)) v.items ≡ contours_of 0 (outline_of outline.now))) }
-    ensures ends { IfOk result (λ v. IfSome filled (λ rules. AreEnds (length (edges_at 0 (outline_of outline.now))) v.items)) }
-{
-    match filled {
-        Some(_) => contour_ends(alloc, outline),
-        None => Ok(Vec::new(alloc)),
     }
 }

@@ -19,7 +19,7 @@ use std::rc::Rc;
 use tt_core::{Fault, FontFault};
 use tt_fit::Fitter;
 use tt_scan::{EdgeList, Frame, Tape};
-use tt_scan_dropouts::Rules;
+use tt_scan_dropouts::BoxedRules;
 use tt_scan_rows::Raster;
 use tt_strike_kept::KeptGlyph;
 
@@ -64,8 +64,8 @@ pub struct Glyph {
     /// The number of its chords and straight edges. 0 for a cached glyph.
     pub(crate) chords: usize,
     pub(crate) body: GlyphBody,
-    /// The rules for filling its dropouts.
-    pub(crate) filled: Option<Rules>,
+    /// The rules for filling its dropouts, with its box at pen 0.
+    pub(crate) filled: Option<BoxedRules>,
     /// The number of edges up to the end of each contour; empty where no dropouts are filled.
     pub(crate) ends: Vec<usize>,
     /// Added to every pen: 0 for a tape, the margin for a raster.
@@ -193,7 +193,7 @@ impl Glyph {
 /// A tape of edges. Each row is cut when it is made.
 pub(crate) fn tape_of(alloc: Global, list: EdgeList, frame: Frame) -> Result<GlyphBody, AllocError>
     requires frame { FrameFits frame }
-    requires few { length list.edges ≤ 2 ^ 17 }
+    requires few { length list.edges ≤ 2 ^ 19 }
     ensures body { IfOk result (λ b. IsBodyOf list.edges (body_view b) × IsTape (body_view b) × BodyFits frame 0 (body_view b)) }
 {
     Ok(GlyphBody::Tape(Tape::of(alloc, frame, list)?))

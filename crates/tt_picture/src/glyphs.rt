@@ -191,7 +191,7 @@ impl Glyphs {
         line: &[(u16, u32)],
     ) -> Result<Vec<Glyph>, AllocError>
         requires frame { FrameFits frame }
-        requires few { All (λ g. length (edges_of g.body) ≤ 2 ^ 17) self.made.items }
+        requires few { All (λ g. length (edges_of g.body) ≤ 2 ^ 19) self.made.items }
         requires places { ArePlaces self.places.items (numbers_of self.made.items) }
         requires known { All (λ g. g.0 < length self.places.items) line.now }
         requires numbers { numbers_of self.made.items ≡ distinct (map (λ g. g.0) line.now) }

@@ -1,10 +1,13 @@
 -- Laws of steps.
 use Rattle.std.proofs.Common.{◌≡◌, ◌≢◌, ◌∙◌, refl, ap, ℕ, ◌+◌, ◌*◌, Bool, false, ℤ, pos, ◌+ℤ◌, ◌-ℤ◌, List, [], ◌∷◌, length, map, None, arith}
 use Rattle.std.proofs.lemmas.Int.{ints}
-use Rattle.std.specs.List.{range_with_len}
-use Rattle.tt_arc.specs.declared.point.PlacedPoint.{PlacedPoint}
-use Rattle.tt_scan_edges.specs.declared.edge.Edge.{Edge}
-use Rattle.tt_arc.specs.Chords.{moved, outline_edges, contour_at, contour_edges}
+use Rattle.std.proofs.lemmas.List.{get_or-map, length-map}
+use Rattle.tt_arc.specs.Bounds.{box_of}
+use Rattle.tt_arc.specs.Chords.{moved, outline_contours, outline_edges}
+use Rattle.tt_core.specs.Chains.{came-through}
+use Rattle.tt_core.specs.Outcomes.{◌>>=◌}
+use Rattle.tt_face.specs.Faces.{Face}
+use Rattle.tt_fit.specs.Fitting.{Fitter}
 use Rattle.tt_fit.specs.declared.programs.Fit.{Fit}
 use Rattle.tt_fit.specs.declared.programs.Fit.TheVariants as fit
 use Rattle.tt_picture.specs.OutlineSteps.{pixels_of}
@@ -43,13 +46,10 @@ points_alike v l k (p ∷ ps) = rw (same_place p.0 v l k, points_alike v l k ps)
 same_step : (l r v : ℤ) → (r +ℤ v) -ℤ (l +ℤ v) ≡ r -ℤ l
 same_step l r v = omega (arith, ints)
 
-contours_by : List PlacedPoint → List ℕ → List (List Edge)
-contours_by ps ends = map (λ c. contour_edges (contour_at ps ends c)) (range_with_len 0 (length ends))
-
 pub moved_outlines_agree : MovedOutlinesAgree
-unfolding contours_by
 moved_outlines_agree o v = record {
   step = ap pixels_of (same_step o.phantom.left.0 o.phantom.right.0 v);
-  edges = λ pen. ap (λ ps. outline_edges ps o.ends) (points_alike v (origin_of o) (pos (64 * pen)) o.points);
-  contours = λ pen. ap (λ ps. contours_by ps o.ends) (points_alike v (origin_of o) (pos (64 * pen)) o.points);
+  edges = λ r pen. ap (λ ps. outline_edges r ps o.ends) (points_alike v (origin_of o) (pos (64 * pen)) o.points);
+  contours = λ r pen. ap (λ ps. outline_contours r ps o.ends) (points_alike v (origin_of o) (pos (64 * pen)) o.points);
+  extents = λ pen. ap box_of (points_alike v (origin_of o) (pos (64 * pen)) o.points);
 }
