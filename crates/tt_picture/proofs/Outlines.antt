@@ -81,13 +81,13 @@ unfolding glyph_step
 steps_are maker fs fitted = λ k d below. rw ((fitted k d below).outline) refl
 
 pub chords_are : (maker : ℕ → Fitter) (fs : List FittedGlyph) → AreFitted maker fs
-    → map (λ g. chords_of g.outline) fs ≡ map (λ g. glyph_chords (maker g) g) (fitted_numbers fs)
+    → map (λ g. chords_of g.rule g.outline) fs ≡ map (λ g. glyph_chords (maker g) g) (fitted_numbers fs)
 unfolding glyph_chords
 chords_are maker [] fitted = refl
 chords_are maker (f ∷ fs) fitted =
     let P : FittedGlyph → Type 0 = λ g. IsFitted (maker g.number) g in
-    let one = (All-head P f fs fitted).outline in
-    rw (one, chords_are maker fs (All-tail P f fs fitted)) refl
+    let one = All-head P f fs fitted in
+    rw (one.rule, one.outline, chords_are maker fs (All-tail P f fs fitted)) refl
 
 -- where outlines are made, those of a line's glyphs give its shapes
 abbrev HasOutline : (ℕ → Fitter) → ℕ → Type 0
@@ -158,14 +158,14 @@ step_at step fs i n f steps below number is =
 
 -- one more of some glyphs and its chords
 pub one_chord_more : (fs : List FittedGlyph) (f : FittedGlyph) (left most n : ℕ) → left + fitted_chords fs ≡ most
-    → n ≡ chords_of f.outline → n ≤ left → (left - n) + fitted_chords (fs ++ f ∷ []) ≡ most
+    → n ≡ chords_of f.rule f.outline → n ≤ left → (left - n) + fitted_chords (fs ++ f ∷ []) ≡ most
 one_chord_more fs f left most n so_far is fits =
-    let sum = sum_by_push (λ (g : FittedGlyph). chords_of g.outline) fs f in
+    let sum = sum_by_push (λ (g : FittedGlyph). chords_of g.rule g.outline) fs f in
     omega (arith, so_far, is, fits, sum)
 
 pub too_many_chords : (fs gs : List FittedGlyph) (f : FittedGlyph) (left most n : ℕ) → left + fitted_chords fs ≡ most
-    → n ≡ chords_of f.outline → left < n → most < fitted_chords (fs ++ f ∷ gs)
+    → n ≡ chords_of f.rule f.outline → left < n → most < fitted_chords (fs ++ f ∷ gs)
 too_many_chords fs gs f left most n so_far is over =
-    let sum = sum_by-append (λ (g : FittedGlyph). chords_of g.outline) fs (f ∷ gs) in
-    let first = sum_by-cons (λ (g : FittedGlyph). chords_of g.outline) f gs in
+    let sum = sum_by-append (λ (g : FittedGlyph). chords_of g.rule g.outline) fs (f ∷ gs) in
+    let first = sum_by-cons (λ (g : FittedGlyph). chords_of g.rule g.outline) f gs in
     omega (arith, so_far, is, over, sum, first)

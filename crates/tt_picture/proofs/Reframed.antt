@@ -8,10 +8,10 @@ use Rattle.tt_core.specs.Limits.{margin_limit}
 use Rattle.tt_core.specs.Outcomes.{each, after_each}
 use Rattle.tt_fit.specs.Fitting.{Fitter}
 use Rattle.tt_scan_edges.specs.declared.edge.Frame.{Frame}
-use Rattle.tt_scan_gaps.specs.declared.mark.Rules.{Rules}
+use Rattle.tt_scan_dropouts.specs.declared.boxed.BoxedRules.{BoxedRules}
 use Rattle.tt_picture.specs.Distinct.{is_among}
 use Rattle.tt_picture.specs.Glyphs.{ArePlaces, AreWithin, GlyphBody, tape, raster, BodyFits, Glyph, IsBodyOf, IsDrawn, IsTape, Stand, crossings_standing, edges_of, left_of, stamps_in}
-use Rattle.tt_picture.specs.Shapes.{edges_at}
+use Rattle.tt_picture.specs.Shapes.{chords_with, edges_at}
 use Rattle.tt_picture.specs.Pixels.{is_black_by, is_filled_by}
 use Rattle.tt_picture.proofs.Inked.{edges_are}
 
@@ -20,7 +20,7 @@ pub tape_left : (f : Frame) (body : GlyphBody) → IsTape body → left_of f bod
 tape_left f (tape t) is = refl
 tape_left f (raster k) is = absurd is
 
-where_filled : (filled : Option Rules) (P : Type 0) → P → IfSome filled (λ rules. P)
+where_filled : (filled : Option BoxedRules) (P : Type 0) → P → IfSome filled (λ rules. P)
 where_filled None P holds = tt
 where_filled (Some rules) P holds = holds
 
@@ -31,7 +31,7 @@ pub drawn_in : (s : Fitter) (f frame : Frame) (g h : Glyph) → h.number ≡ g.n
 drawn_in s f frame g h number filled ends unfitted step chords left is of fits drawn =
     let o = drawn.shape in
     let edges : edges_of h.body ≡ edges_of g.body = edges_are h.body (edges_of g.body) is of in
-    let outlined : edges_of g.body ≡ edges_at 0 o = edges_are g.body (edges_at 0 o) (drawn.tape refl) drawn.body in
+    let outlined : edges_of g.body ≡ edges_at (chords_with s) 0 o = edges_are g.body (edges_at (chords_with s) 0 o) (drawn.tape refl) drawn.body in
     record {
       shape = o;
       unfitted = rw (unfitted, number) drawn.unfitted;
@@ -43,6 +43,7 @@ drawn_in s f frame g h number filled ends unfitted step chords left is of fits d
       chords = λ off. chords ∙ drawn.chords off;
       filled = rw (filled, number) drawn.filled;
       of_tape = where_filled h.filled (IsTape h.body) is;
+      boxed = rw filled drawn.boxed;
       contours = rw (filled, edges, ends) drawn.contours;
       ends = rw (filled, edges, ends) drawn.ends;
       fits = fits;

@@ -14,7 +14,7 @@ pub record IsCached (s : Fitter) (number : ℕ) (g : KeptGlyph) : Type 0 where
   pub outline : fitted_outline s number ≡ Ok shape
   pub raster : IsRasterOf (edges_at (chords_with s) 0 shape) g.raster
   pub unfitted : g.unfitted ≡ unfitted_fault s number
-  pub filled : filled_by s number 0 shape ≡ None
+  pub filled : filled_by s number shape ≡ None
   pub unbounded : s.work ≡ None
 
 -- all cached glyphs equal those made anew

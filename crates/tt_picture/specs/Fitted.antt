@@ -1,5 +1,5 @@
 -- No part of the standard: the glyphs of a line whose outlines are made, before their edges are.
-use Rattle.std.specs.Prelude.{◌≡◌, ℕ, All, List, map, Option, Ok}
+use Rattle.std.specs.Prelude.{◌≡◌, ℕ, All, IfSome, List, map, Option, Ok}
 use Rattle.std.specs.List.{sum_by}
 use Rattle.tt_core.specs.Faults.{Fault}
 use Rattle.tt_fit.specs.Fitting.{Fitter, fitted_outline, unfitted_fault}
@@ -7,6 +7,7 @@ use Rattle.tt_fit_outline.specs.Outline.{Outline}
 use Rattle.tt_picture.specs.OutlineSteps.{step_of}
 use Rattle.tt_arc.specs.declared.rule.ChordRule.{ChordRule}
 use Rattle.tt_scan_dropouts.specs.declared.boxed.BoxedRules.{BoxedRules}
+use Rattle.tt_scan_gaps.specs.Boxes.{ExtentsFit}
 use Rattle.tt_picture.specs.Shapes.{chords_with, filled_by}
 use Rattle.tt_picture.specs.Steps.{chords_of}
 
@@ -23,8 +24,9 @@ pub record FittedGlyph : Type 0 where
 pub record IsFitted (s : Fitter) (g : FittedGlyph) : Type 0 where
   pub outline : fitted_outline s g.number ≡ Ok g.outline
   pub rule : g.rule ≡ chords_with s
-  pub filled : g.filled ≡ filled_by s g.number 0 g.outline
+  pub filled : g.filled ≡ filled_by s g.number g.outline
   pub unfitted : g.unfitted ≡ unfitted_fault s g.number
+  pub fits : IfSome g.filled (λ rules. ExtentsFit rules.extents)
 
 -- the numbers, the outlines and the chords of some glyphs, in their order
 abbrev pub fitted_numbers : List FittedGlyph → List ℕ

@@ -15,7 +15,7 @@ use Rattle.tt_scan_edges.specs.Winding.{is_black, column_x, row_y}
 use Rattle.tt_scan_dropouts.specs.Counted.{edges_counted}
 use Rattle.tt_scan_dropouts.specs.Pictures.{column_at, is_among, line_at}
 use Rattle.tt_scan_dropouts.specs.declared.boxed.BoxedRules.{BoxedRules}
-use Rattle.tt_scan_gaps.specs.Boxes.{HoldsEdges}
+use Rattle.tt_scan_gaps.specs.Boxes.{ExtentsFit, IsBoxOf}
 use Rattle.tt_scan_dropouts.specs.declared.picture.Dropout.{Dropout}
 use Rattle.tt_scan_rows.specs.Raster.{IsRasterOf, Raster}
 use Rattle.tt_scan_ink.specs.declared.ink.GlyphInk.{GlyphInk}
@@ -113,8 +113,9 @@ pub record IsDrawn (cached : Bool) (s : Fitter) (f : Frame) (g : Glyph) : Type 0
   pub tape : cached ≡ false → IsTape g.body
   pub step : cached ≡ false → g.step ≡ step_of shape
   pub chords : cached ≡ false → g.chords ≡ chords_of (chords_with s) shape
-  pub filled : g.filled ≡ filled_by s g.number 0 shape
+  pub filled : g.filled ≡ filled_by s g.number shape
   pub of_tape : IfSome g.filled (λ rules. IsTape g.body)
+  pub boxed : IfSome g.filled (λ rules. ExtentsFit rules.extents)
   pub contours : IfSome g.filled (λ rules. contours_at (edges_of g.body) g.ends ≡ contours_of (chords_with s) 0 shape)
   pub ends : IfSome g.filled (λ rules. AreEnds (length (edges_of g.body)) g.ends)
   pub fits : BodyFits f 0 g.body
@@ -129,7 +130,7 @@ pub record CanBeFilled (g : Glyph) : Type 0 where
   pub few : length (edges_of g.body) ≤ 2 ^ 19
   pub tape : IfSome g.filled (λ rules. IsTape g.body)
   pub ends : IfSome g.filled (λ rules. AreEnds (length (edges_of g.body)) g.ends)
-  pub held : IfSome g.filled (λ rules. HoldsEdges rules.extents (edges_of g.body))
+  pub boxed : IfSome g.filled (λ rules. IsBoxOf rules.extents (edges_of g.body))
   pub closed : IfSome g.filled (λ rules. All IsClosed (contours_at (edges_of g.body) g.ends))
   pub pens : IfSome g.filled (λ rules. All (λ pen. pen ≤ width_limit) g.pens)
 

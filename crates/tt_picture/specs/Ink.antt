@@ -25,7 +25,7 @@ ink_by es contours filled = ink.joined (edges_ink es) (filled_ink filled contour
 
 -- the box at pen 0, by its fitter; a glyph without an outline has none
 abbrev pub outline_ink : Fitter → ℕ → Result Outline Fault → Option GlyphInk
-outline_ink s g (Ok o) = ink_by (edges_at (chords_with s) 0 o) (contours_of (chords_with s) 0 o) (filled_by s g 0 o)
+outline_ink s g (Ok o) = ink_by (edges_at (chords_with s) 0 o) (contours_of (chords_with s) 0 o) (filled_by s g o)
 outline_ink s g (Err fault) = None
 
 unfoldable pub glyph_ink : Fitter → ℕ → Option GlyphInk

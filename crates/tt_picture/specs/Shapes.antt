@@ -14,6 +14,7 @@ use Rattle.tt_fit.specs.declared.dropouts.DropoutRules.{DropoutRules}
 use Rattle.tt_picture.specs.Pixels.{Shape}
 use Rattle.tt_scan_edges.specs.declared.edge.Edge.{Edge}
 use Rattle.tt_scan_dropouts.specs.Counted.{edges_counted, filling_counted}
+use Rattle.tt_scan_dropouts.specs.Laws.{rules_moved}
 use Rattle.tt_scan_dropouts.specs.declared.boxed.BoxedRules.{BoxedRules}
 use Rattle.tt_scan_gaps.specs.declared.extent.Extents.{Extents}
 
@@ -41,25 +42,30 @@ edges_at r pen o = chord_edges r o.points o.ends (offset_at pen o) (pos 0)
 abbrev pub contours_of : ChordRule → ℕ → Outline → List (List Edge)
 contours_of r pen o = chord_contours r o.points o.ends (offset_at pen o) (pos 0)
 
--- the box of an outline's points at a pen
-abbrev pub extents_at : ℕ → Outline → Extents
-extents_at pen o = points_box o.points (offset_at pen o) (pos 0)
+-- the box of an outline's points at pen 0
+abbrev pub extents_of : Outline → Extents
+extents_of o = points_box o.points (offset_at 0 o) (pos 0)
 
 -- the dropout rules in the scan converter's type, with the glyph's box
 abbrev pub rules_for : Extents → Option DropoutRules → Option BoxedRules
 rules_for b None = None
 rules_for b (Some rules) = Some (record { rules = record { stubs = rules.stubs; smart = rules.smart }; extents = b })
 
--- the dropout rules of a character's glyph at a pen
-abbrev pub filled_by : Fitter → ℕ → ℕ → Outline → Option BoxedRules
-filled_by s g pen o = rules_for (extents_at pen o) (dropouts_of s (unfitted_fault s g) o)
+-- the dropout rules of a glyph at pen 0
+abbrev pub filled_by : Fitter → ℕ → Outline → Option BoxedRules
+filled_by s g o = rules_for (extents_of o) (dropouts_of s (unfitted_fault s g) o)
+
+-- the same at a pen, to which the box is moved
+abbrev pub filled_at : ℕ → Option BoxedRules → Option BoxedRules
+filled_at pen None = None
+filled_at pen (Some rules) = Some (rules_moved (pos pen) (pos 0) rules)
 
 -- a glyph at its pen, by its fitter
 abbrev pub shape_at : Fitter → ℕ × ℕ → Outline → Shape
 shape_at s g o = record {
   edges = edges_at (chords_with s) g.1 o;
   contours = contours_of (chords_with s) g.1 o;
-  filled = filled_by s g.0 g.1 o;
+  filled = filled_at g.1 (filled_by s g.0 o);
 }
 
 abbrev pub glyph_shape : (ℕ → Fitter) → ℕ × ℕ → Result Shape Fault

@@ -9,11 +9,12 @@ ghost use Rattle.tt_picture.specs.OutlineSteps.{pixels_of, step_of};
 ghost use Rattle.tt_fit_outline.specs.Views.{outline_of};
 ghost use Rattle.tt_scan.specs.Contours.{AreEnds, contours_at};
 ghost use Rattle.tt_scan_edges.specs.Winding.{FrameFits};
+ghost use Rattle.tt_scan_gaps.specs.Boxes.{ExtentsFit};
 ghost use Rattle.tt_scan_rows.specs.Raster.{IsRasterOf, Raster};
 ghost use Rattle.tt_picture.specs.Cached.{IsCacheFor, IsCached, is_there, limit_of};
 ghost use Rattle.tt_picture.specs.Fitted.{IsFitted};
 ghost use Rattle.tt_picture.specs.Glyphs.{BodyFits, IsBodyOf, IsDrawn, IsTape};
-ghost use Rattle.tt_picture.specs.Shapes.{contours_of, edges_at, extents_at, rule_by};
+ghost use Rattle.tt_picture.specs.Shapes.{contours_of, edges_at, extents_of, rule_by};
 ghost use Rattle.tt_picture.specs.Steps.{chords_of};
 ghost use Rattle.tt_picture.specs.Views.{body_view};
 
@@ -166,7 +167,8 @@ fn rule_by(work: Option<u64>) -> ChordRule
 /// The box of an outline's points, where its first phantom point is at the left end of the line.
 fn extents_of(outline: &Outline) -> Extents
     requires outline { IsOutline (outline_of outline.now) }
-    ensures { result ≡ extents_at 0 (outline_of outline.now) }
+    ensures exact { result ≡ extents_of (outline_of outline.now) }
+    ensures fits { ExtentsFit result }
 {
     let origin = outline.phantom[0].0;
     points_box(outline, -i64::from(origin), 0)
