@@ -20,7 +20,7 @@ use Rattle.tt_strike.specs.Job.{Job}
 use Rattle.tt_strike.specs.Made.{AreMade}
 use Rattle.tt_strike.specs.Measures.{Measure, line_ink, line_step, measure_by, measured_line}
 use Rattle.tt_picture.specs.Pictures.{picture}
-use Rattle.tt_picture.specs.Shapes.{glyph_shape, shape_at, crossings_in}
+use Rattle.tt_picture.specs.Shapes.{chords_with, crossings_in, filled_by, glyph_shape, shape_at}
 use Rattle.tt_strike.specs.Picture.{edges_tested, drawn, frame_of, points_tested, setting_in, shapes_in}
 use Rattle.tt_picture.specs.Pixels.{Shape}
 use Rattle.tt_strike.specs.Refusals.{Refused, as_job, job}
@@ -96,13 +96,14 @@ one_moved : (s : Fitter) (g : ℕ × ℕ) (left : ℕ) (o : Outline) (these thos
     → crossings_in those ≡ crossings_in these
     → crossings_in (shape_at s (g.0, g.1 + left) o ∷ those) ≡ crossings_in (shape_at s g o ∷ these)
 one_moved s g left o these those same =
-    let filled = (shape_at s g o).filled in
+    let way = chords_with s in
+    let filled = filled_by s g.0 o in
     rw (
       same,
-      counts_from_pen o (g.1 + left),
-      counts_from_pen o g.1,
-      filling_from_pen filled o (g.1 + left),
-      filling_from_pen filled o g.1,
+      counts_from_pen way o (g.1 + left),
+      counts_from_pen way o g.1,
+      filling_from_pen filled way o (g.1 + left),
+      filling_from_pen filled way o g.1,
     ) refl
 
 moved_shapes : (maker : ℕ → Fitter) (left : ℕ) (gs : List (ℕ × ℕ)) (shapes : List Shape)

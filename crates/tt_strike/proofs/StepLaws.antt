@@ -51,5 +51,5 @@ moved_outlines_agree o v = record {
   step = ap pixels_of (same_step o.phantom.left.0 o.phantom.right.0 v);
   edges = λ r pen. ap (λ ps. outline_edges r ps o.ends) (points_alike v (origin_of o) (pos (64 * pen)) o.points);
   contours = λ r pen. ap (λ ps. outline_contours r ps o.ends) (points_alike v (origin_of o) (pos (64 * pen)) o.points);
-  extents = λ pen. ap box_of (points_alike v (origin_of o) (pos (64 * pen)) o.points);
+  extents = ap box_of (points_alike v (origin_of o) (pos (64 * 0)) o.points);
 }

@@ -11,7 +11,7 @@ use Rattle.tt_line.specs.Layout.{Placement}
 use Rattle.tt_scan_edges.specs.declared.edge.Edge.{Edge}
 use Rattle.tt_scan_edges.specs.declared.edge.Frame.{Frame}
 use Rattle.tt_scan_edges.specs.Winding.{column_x, row_y}
-use Rattle.tt_scan_gaps.specs.declared.mark.Rules.{Rules}
+use Rattle.tt_scan_dropouts.specs.declared.boxed.BoxedRules.{BoxedRules}
 use Rattle.tt_strike.specs.Job.{Job}
 use Rattle.tt_picture.specs.declared.report.Unfitted.{Unfitted}
 use Rattle.tt_strike.specs.Defects.{IsRunDefect}
@@ -112,11 +112,14 @@ stem_edges : List Edge
 stem_edges = stem_edge 5120 0 5120 16384 ∷ stem_edge 5120 16384 7168 16384 ∷ stem_edge 7168 16384 7168 0
     ∷ stem_edge 7168 0 5120 0 ∷ []
 
-stem : Option Rules → Shape
+stem : Option BoxedRules → Shape
 stem filled = record { edges = stem_edges; contours = stem_edges ∷ []; filled = filled }
 
-by_type_zero : Option Rules
-by_type_zero = Some (record { stubs = true; smart = false })
+by_type_zero : Option BoxedRules
+by_type_zero = Some (record {
+  rules = record { stubs = true; smart = false };
+  extents = record { across = record { low = pos 5120; high = pos 7168 }; up = record { low = pos 0; high = pos 16384 } };
+})
 
 two_rows : Frame
 two_rows = record { width = 2; height = 2; margin = 0; rise = pos 2 }

@@ -9,7 +9,7 @@ use Rattle.tt_fit_outline.specs.Outline.{Outline}
 use Rattle.tt_line.specs.Layout.{placement, text_glyphs}
 use Rattle.tt_picture.specs.OutlineSteps.{step_of}
 use Rattle.tt_arc.specs.declared.rule.ChordRule.{ChordRule}
-use Rattle.tt_picture.specs.Shapes.{contours_of, edges_at, extents_at}
+use Rattle.tt_picture.specs.Shapes.{contours_of, edges_at, extents_of}
 use Rattle.tt_strike.specs.Job.{Job}
 use Rattle.tt_strike.specs.Measures.{Measure, measured}
 use Rattle.tt_strike.specs.Picture.{outlines_in, placed_by_steps, setting_in, text_placed}
@@ -62,7 +62,7 @@ pub record AreAlike (o p : Outline) : Type 0 where
   pub step : step_of o ≡ step_of p
   pub edges : (r : ChordRule) (pen : ℕ) → edges_at r pen o ≡ edges_at r pen p
   pub contours : (r : ChordRule) (pen : ℕ) → contours_of r pen o ≡ contours_of r pen p
-  pub extents : (pen : ℕ) → extents_at pen o ≡ extents_at pen p
+  pub extents : extents_of o ≡ extents_of p
 
 abbrev pub MovedOutlinesAgree : Type 0
 MovedOutlinesAgree = (o : Outline) (v : ℤ) → AreAlike (moved_right v o) o
