@@ -1,5 +1,5 @@
 -- The dropouts of glyphs, one glyph more, and the glyphs with findable dropouts.
-use Rattle.std.proofs.Common.{◌≡◌, refl, ap, ℕ, zero, suc, ◌+◌, ◌^◌, ◌<◌, ◌≤◌, pos, ◌-ℤ◌, Bool, false, ◌||◌, List, [], ◌∷◌, length, take, get_or, Option, None, Some, arith}
+use Rattle.std.proofs.Common.{◌≡◌, refl, ap, ℕ, zero, suc, ◌+◌, ◌^◌, ◌<◌, ◌≤◌, pos, Bool, false, ◌||◌, List, [], ◌∷◌, length, take, get_or, Option, None, Some, arith}
 use Rattle.std.specs.Prelude.{All, IfSome}
 use Rattle.tt_arc.proofs.Closed.{all_closed}
 use Rattle.tt_arc.proofs.PointsBox.{box_holds_edges}
