@@ -11,7 +11,7 @@ use Rattle.tt_core.specs.Faults.{Fault}
 use Rattle.tt_core.specs.Outcomes.{after_each, each, font_fault}
 use Rattle.tt_fit.specs.Fitting.{Fitter, fitted_outline}
 use Rattle.tt_fit_outline.specs.Outline.{Outline}
-use Rattle.tt_picture.specs.OutlineSteps.{step_of}
+use Rattle.tt_fit_outline.specs.Steps.{step_of}
 use Rattle.tt_picture.specs.Distinct.{distinct_after, is_among}
 use Rattle.tt_picture.specs.Fitted.{AreFitted, AreSteps, FittedGlyph, IsFitted, fitted_chords, fitted_numbers}
 use Rattle.tt_picture.specs.Pixels.{Shape}

@@ -4,7 +4,7 @@ use Rattle.std.specs.List.{sum_by}
 use Rattle.tt_core.specs.Faults.{Fault}
 use Rattle.tt_fit.specs.Fitting.{Fitter, fitted_outline, unfitted_fault}
 use Rattle.tt_fit_outline.specs.Outline.{Outline}
-use Rattle.tt_picture.specs.OutlineSteps.{step_of}
+use Rattle.tt_fit_outline.specs.Steps.{step_of}
 use Rattle.tt_arc.specs.declared.rule.ChordRule.{ChordRule}
 use Rattle.tt_scan_dropouts.specs.declared.boxed.BoxedRules.{BoxedRules}
 use Rattle.tt_scan_gaps.specs.Boxes.{ExtentsFit}

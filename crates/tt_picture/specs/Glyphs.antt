@@ -6,7 +6,7 @@ use Rattle.tt_core.specs.Limits.{margin_limit, width_limit}
 use Rattle.tt_core.specs.Outcomes.{each}
 use Rattle.tt_fit.specs.Fitting.{Fitter, fitted_outline, unfitted_fault}
 use Rattle.tt_fit_outline.specs.Outline.{Outline}
-use Rattle.tt_picture.specs.OutlineSteps.{step_of}
+use Rattle.tt_fit_outline.specs.Steps.{step_of}
 use Rattle.tt_scan.specs.Contours.{AreEnds, IsClosed, contours_at}
 use Rattle.tt_scan_edges.specs.declared.edge.Edge.{Edge}
 use Rattle.tt_scan_edges.specs.declared.edge.Frame.{Frame}

@@ -3,7 +3,6 @@ pub mod Distinct
 pub mod Fitted
 pub mod Glyphs
 pub mod Ink
-pub mod OutlineSteps
 pub mod Pictures
 pub mod Pixels
 pub mod Rows

@@ -4,7 +4,7 @@ use Rattle.tt_core.specs.Faults.{Fault}
 use Rattle.tt_core.specs.Outcomes.{each}
 use Rattle.tt_fit.specs.Fitting.{Fitter, fitted_outline}
 use Rattle.tt_fit_outline.specs.Outline.{Outline}
-use Rattle.tt_picture.specs.OutlineSteps.{step_of}
+use Rattle.tt_fit_outline.specs.Steps.{step_of}
 use Rattle.tt_arc.specs.Chords.{chords_counted}
 use Rattle.tt_arc.specs.declared.rule.ChordRule.{ChordRule}
 use Rattle.tt_picture.specs.Shapes.{chords_with, offset_at}

@@ -1,11 +1,11 @@
 //! A glyph of a line whose outline is made, before its edges are.
 
-ghost use Rattle.std.specs.Prelude.{◌≡◌, ◌<◌, ◌≤◌, ◌^◌, true, false, [], length, unsigned_abs, IfOk, IfSome, OnOk, None, Err};
+ghost use Rattle.std.specs.Prelude.{◌≡◌, ◌<◌, ◌≤◌, ◌^◌, true, false, [], length, IfOk, IfSome, OnOk, None, Err};
 ghost use Rattle.tt_core.specs.Limits.{margin_limit};
 ghost use Rattle.tt_core.specs.Outcomes.{IfTold, font_fault};
 ghost use Rattle.tt_fit.specs.Fitting.{Fitter, fitted_outline, after_glyph};
 ghost use Rattle.tt_fit_outline.specs.Outline.{IsOutline};
-ghost use Rattle.tt_picture.specs.OutlineSteps.{pixels_of, step_of};
+ghost use Rattle.tt_fit_outline.specs.Steps.{step_of};
 ghost use Rattle.tt_fit_outline.specs.Views.{outline_of};
 ghost use Rattle.tt_scan.specs.Contours.{AreEnds, contours_at};
 ghost use Rattle.tt_scan_edges.specs.Winding.{FrameFits};
@@ -76,7 +76,7 @@ impl FittedGlyph {
         ensures exact { result ≡ step_of self.now.outline }
         ensures bound { result ≤ 65536 }
     {
-        step_of(&self.outline)
+        self.outline.step()
     }
 
     /// The glyph with its edges, without a pen, with room for `room` pens. It is cached if it is small enough. Error:
@@ -109,7 +109,7 @@ impl FittedGlyph {
         let caches = can_be_cached(cache, filled);
         let body = body_of(alloc, list, frame, number, unfitted, cache, caches)?;
         let left = body.left(frame);
-        let step = step_of(&outline);
+        let step = outline.step();
         Ok(Glyph {
             number,
             step,
@@ -122,24 +122,6 @@ impl FittedGlyph {
             unfitted,
         })
     }
-}
-
-/// A distance in whole pixels, a half up, and at least 0.
-fn pixels_of(v: i32) -> u32
-    requires { unsigned_abs v ≤ 4194302 }
-    ensures exact { result ≡ pixels_of v }
-    ensures bound { result ≤ 65536 }
-{
-    (v + 32).max(0) as u32 / 64
-}
-
-/// The distance from the pen to the next, in whole pixels: that of the advance's two ends, a half up. No step is
-/// negative.
-fn step_of(outline: &Outline) -> u32
-    ensures exact { result ≡ step_of (outline_of outline.now) }
-    ensures bound { result ≤ 65536 }
-{
-    pixels_of(outline.phantom[1].0 - outline.phantom[0].0)
 }
 
 /// Whether a glyph may be cached. A glyph with filled dropouts may not, since its dropouts are found by its edges.
@@ -190,7 +172,14 @@ fn edges_of(
     ensures ends { IfOk result (λ e. IfSome filled (λ rules. AreEnds (length e.list.edges) e.ends.items)) }
 {
     let origin = outline.phantom[0].0;
-    edges(alloc, outline, rule, -i64::from(origin), 0, filled.is_some())
+    edges(
+        alloc,
+        outline,
+        rule,
+        -i64::from(origin),
+        0,
+        filled.is_some(),
+    )
 }
 
 /// The body of a glyph with these edges. If the glyph may be cached: a raster, which is cached for later lines. Else, and
