@@ -1,23 +1,14 @@
 -- Laws of steps.
-use Rattle.std.proofs.Common.{◌≡◌, ◌≢◌, ◌∙◌, refl, ap, ℕ, ◌+◌, ◌*◌, Bool, false, ℤ, pos, ◌+ℤ◌, ◌-ℤ◌, List, [], ◌∷◌, length, map, None, arith}
+use Rattle.std.proofs.Common.{◌≡◌, ◌≢◌, ◌∙◌, refl, ap, ◌+◌, ◌*◌, Bool, false, ℤ, pos, ◌+ℤ◌, ◌-ℤ◌, List, [], ◌∷◌, map, None, arith}
 use Rattle.std.proofs.lemmas.Int.{ints}
-use Rattle.std.proofs.lemmas.List.{get_or-map, length-map}
 use Rattle.tt_arc.specs.Bounds.{box_of}
 use Rattle.tt_arc.specs.Chords.{moved, outline_contours, outline_edges}
-use Rattle.tt_core.specs.Chains.{came-through}
-use Rattle.tt_core.specs.Outcomes.{◌>>=◌}
-use Rattle.tt_face.specs.Faces.{Face}
-use Rattle.tt_fit.specs.Fitting.{Fitter}
 use Rattle.tt_fit.specs.declared.programs.Fit.{Fit}
 use Rattle.tt_fit.specs.declared.programs.Fit.TheVariants as fit
-use Rattle.tt_fit_outline.specs.Outline.{Outline}
-use Rattle.tt_line.specs.Layout.{Placement, placement, text_glyphs}
-use Rattle.tt_fit_outline.specs.Steps.{advance_left, pixels_of, step_of}
-use Rattle.tt_picture.specs.Shapes.{contours_of, edges_at, origin_of}
-use Rattle.tt_strike.specs.Job.{Job}
-use Rattle.tt_strike.specs.Picture.{outlines_in, placed_by_steps, setting_in, text_placed}
-use Rattle.tt_strike.specs.Refusals.{as_job}
-use Rattle.tt_strike.specs.StepLaws.{AreAlike, BestLaysBySteps, GlyphsBeforeExtent, MovedOutlinesAgree, OthersLayByAdvances, moved_right}
+use Rattle.tt_fit_outline.specs.Steps.{pixels_of}
+use Rattle.tt_picture.specs.Shapes.{origin_of}
+use Rattle.tt_strike.specs.Picture.{placed_by_steps}
+use Rattle.tt_strike.specs.StepLaws.{BestLaysBySteps, GlyphsBeforeExtent, MovedOutlinesAgree, OthersLayByAdvances}
 use Rattle.tt_strike.specs.Work.{is_bounded}
 use Rattle.tt_strike.proofs.Placed.{placed_by_advances, placed_by_its_steps}
 

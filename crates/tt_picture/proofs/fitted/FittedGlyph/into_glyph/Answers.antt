@@ -1,11 +1,11 @@
-use Rattle.std.proofs.Common.{◌≡◌, ◌∙◌, true, length, refl}
+use Rattle.std.proofs.Common.{◌≡◌, ◌∙◌, true, length}
 use Rattle.tt_fit.specs.Fitting.{Fitter}
 use Rattle.tt_fit_outline.specs.Views.{outline_of}
 use Rattle.tt_scan.specs.Contours.{AreEnds, contours_at}
 use Rattle.tt_scan_rows.specs.Raster.{IsRasterOf, Raster}
 use Rattle.tt_picture.specs.Cached.{IsCacheFor, IsCached}
 use Rattle.tt_picture.specs.Fitted.{FittedGlyph, IsFitted}
-use Rattle.tt_picture.specs.Glyphs.{IsBodyOf, left_of}
+use Rattle.tt_picture.specs.Glyphs.{IsBodyOf}
 use Rattle.tt_picture.specs.Shapes.{chords_with, contours_of, edges_at}
 use Rattle.tt_picture.specs.Views.{body_view}
 use Rattle.tt_picture.proofs.Cached.{of_edges, one_made, tape_where, unbounded_with}
