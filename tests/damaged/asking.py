@@ -16,6 +16,10 @@ HEADER = ROOT / "include" / "tt_render.h"
 # Each way to fit, as ../common.sh names them; `draw` is asked with all of them.
 FITS = os.environ["TT_FITS"].split()
 
+# Whether best lays lines by the steps of its glyphs, with finer chords and a box of all points. ../PICTURE is `before`
+# until it does, and then `now`.
+IS_NOW = (ROOT / "tests" / "PICTURE").read_text(encoding="utf-8").strip() == "now"
+
 FACE = ("head", "maxp", "hhea", "hmtx", "cmap")
 GLYPHS = ("loca", "glyf")
 PROGRAMS = ("fpgm", "prep", "glyf")
@@ -183,21 +187,39 @@ def are_pictures(one, other):
     return all(it and it[1] == "0" and not it[4] for it in (one, other)) and one[2] == other[2]
 
 
+def is_size(answer):
+    """Tells whether an answer is the refusal of a picture's size."""
+    return bool(re.search(r"tt_render: 6[23] ", answer))
+
+
+def is_by_steps(best, full):
+    """Tells whether best may answer so beside full, where no program is refused. Its picture may be as wide as the
+    programs say, and so empty or too large, and phantom points are rounded to the grid, and may so pass the limit; and
+    what full refuses for the size comes behind what is refused of glyphs."""
+    if is_size(full):
+        return True
+    drawn = re.fullmatch(r"0 [0-9]+ [0-9]+\|", best)
+    return bool(full.startswith("0 ") and (drawn or is_size(best) or ": 23 CoordRange" in best))
+
+
 def why_not_alike(answers):
     """Says what is wrong with the answers to a font and a text, by their kinds, or returns None. What `map` refuses,
     and a picture's size, are refused alike by all; and what is refused without programs is refused with them, but for
     coordinates, which programs may bring back, and the depth of components, of which best allows more. The ways to fit
     that fall back do so where a program is refused; where none is, they answer as full does, but for the pixels that
-    best adds, where strokes would vanish, to a picture of the same length."""
+    best adds, where strokes would vanish, to a picture of the same length. Once best lays lines by steps, its picture
+    may be another wherever full has one, and its size is refused by its own width."""
     for kind, other in (("fallback", r": (3[0-9]|4[0-9]|50) "), ("best", r": (17|3[0-9]|4[0-9]|50) ")):
         if kind not in answers:
             continue
         full, falling = answers["full"], answers[kind]
         # What a program does is not refused: a glyph is drawn without it, or refused for another reason.
         if not re.search(other, full):
-            wrong = falling != full and not (kind == "best" and are_pictures(falling, full))
+            may_differ = is_by_steps if IS_NOW else are_pictures
+            wrong = falling != full and not (kind == "best" and may_differ(falling, full))
         else:
             wrong = not falling.startswith("0 ") and not re.search(r": [12]?[0-9] ", falling)
+            wrong = wrong and not (kind == "best" and IS_NOW and is_size(falling))
         if wrong:
             return f"has '{falling}' as {kind}, and '{full}'"
     without = answers["none"]
@@ -205,9 +227,10 @@ def why_not_alike(answers):
     if "map" in answers and answers["map"].startswith("1 "):
         without, alike = answers["map"], True
     if not without.startswith("0 ") and "23 CoordRange" not in without:
-        deep = ("map", "best") if "17 ComponentDepth" in without else ("map",)
+        by_others = "17 ComponentDepth" in without or IS_NOW and is_size(without)
+        apart = ("map", "best") if by_others else ("map",)
         for kind, answer in answers.items():
-            if kind not in deep and (answer != without if alike else not answer.startswith("1 ")):
+            if kind not in apart and (answer != without if alike else not answer.startswith("1 ")):
                 return f"has '{answer}' as {kind}, and '{without}'"
     return None
 
@@ -247,8 +270,58 @@ def test_font():
     return bytes.fromhex(next(it for it in lines if it.startswith("font ")).split(" ")[1])
 
 
+class Asked(NamedTuple):
+    """A row of picture.txt: the words before the font, those behind it, standard input, and what is answered."""
+
+    name: str
+    words: list
+    font: bytes
+    behind: list
+    stdin: bytes
+    status: int
+    stdout: bytes
+    stderr: bytes
+
+
+def lines_of(words):
+    """Returns what the last field of a row names on standard error."""
+    line = " ".join(words)
+    return b"" if line == "-" else line.replace(" | ", "\n").encode() + b"\n"
+
+
+def rows_of_picture():
+    """Yields the rows of picture.txt; none before best draws so."""
+    lines = (ROWS / "picture.txt").read_text(encoding="utf-8").splitlines() if IS_NOW else []
+    for words in (it.split(" ") for it in lines if not it.startswith("#")):
+        name, command, font, text, size, margin, status, stdout, *stderr = words
+        shape = [] if size == "-" else ["--size", size, "--margin", margin]
+        alone = "--lines" not in command
+        behind, stdin = (["--", field(text)], b"") if alone else ([], field(text))
+        answer = int(status), field(stdout), lines_of(stderr)
+        yield Asked(name, [*command.split(","), *shape], field(font), behind, stdin, *answer)
+
+
 def rows():
-    """Yields the rows of tests/rows."""
+    """Yields the rows of tests/rows, of those in picture.txt the ones of `map` and of pictures without another option,
+    by small fonts."""
+    yield from rows_of_tables()
+    for it in rows_of_picture():
+        kind = it.words[0] if it.words[0] == "map" else it.words[2]
+        shape = (16, 0) if kind == "map" else (int(it.words[-3]), int(it.words[-1]))
+        if it.words[0] in ("map", "draw") and len(it.words) in (1, 7) and len(it.font) < 2000:
+            yield Row(it.name, kind, it.font, it.behind[1], shape, *it[5:])
+
+
+def changed():
+    """Returns of each row of best.txt that changes with the picture its status, standard output and error."""
+    lines = (ROWS / "changed.txt").read_text(encoding="utf-8").splitlines() if IS_NOW else []
+    rows = (it.split(" ") for it in lines if not it.startswith("#"))
+    return {tuple(it[:4]): (int(it[4]), field(it[5]), lines_of(it[6:])) for it in rows}
+
+
+def rows_of_tables():
+    """Yields the rows of the five tables of tests/rows."""
+    others = changed()
     for table, kind in KINDS.items():
         whole = b""
         for line in (ROWS / f"{table}.txt").read_text(encoding="utf-8").split("\n"):
@@ -263,9 +336,12 @@ def rows():
                     font = whole if font == "whole" else field(font)
                 # Of `map` neither is asked, and these are for other questions.
                 shape = (16, 0) if kind == "map" else (int(rest.pop(0)), int(rest.pop(0)))
-                stderr = " ".join(rest[2:]).replace(" | ", "\n")
-                stderr = b"" if stderr == "-" else stderr.encode() + b"\n"
-                yield Row(name, kind, font, field(text), shape, int(rest[0]), field(rest[1]), stderr)
+                answer = int(rest[0]), field(rest[1]), lines_of(rest[2:])
+                if kind == "best":
+                    answer = others.pop((name, text, *map(str, shape)), answer)
+                yield Row(name, kind, font, field(text), shape, *answer)
+    if others:
+        raise SystemExit(f"changed.txt names what best.txt has not: {', '.join(it[0] for it in others)}")
 
 
 def question(kind, text, shape, size, changes=()):

@@ -5,6 +5,7 @@ from itertools import chain
 
 from asking import (
     FITS,
+    IS_NOW,
     NOTHING,
     ROOT,
     answer_of,
@@ -14,6 +15,7 @@ from asking import (
     question,
     report,
     rows,
+    rows_of_tables,
     why_not_added,
     why_not_alike,
     why_wrong,
@@ -54,9 +56,13 @@ def is_asked(row):
 
 
 def fonts():
-    """Returns a row of each font that is damaged, the test font first; where there is one, a row with a picture."""
+    """Returns a row of each font that is damaged, the test font first; where there is one, a row with a picture. A case
+    whose font is another one for best has this one."""
     found = {}
-    for row in filter(is_asked, rows()):
+    of_best = {row.name: row.font for row in rows_of_tables() if row.kind == "best"}
+    for row in filter(is_asked, rows_of_tables()):
+        if of_best.get(row.name, row.font) != row.font:
+            continue
         if row.font not in found or row.kind != "map" and found[row.font].kind == "map":
             found[row.font] = row
     return list(found.values())
@@ -114,7 +120,8 @@ def one_font(number, row):
         if why:
             failures.append(f"{row.name}, {size} bytes with {changes or 'no change'}, {why}")
         elif (
-            row.name not in OF_ORIGINALS
+            not IS_NOW
+            and row.name not in OF_ORIGINALS
             and are_pictures(of_kind["full"], of_kind["best"])
             and of_kind["full"] != of_kind["best"]
         ):
@@ -178,6 +185,7 @@ BAD = [
 REFUSED = f"1 {NOTHING}|tt_render: glyf+22: 14 GlyphShort|"
 OFF_PROFILE = f"1 {NOTHING}|tt_render: glyf+14: 35 OffProfile|"
 TOO_DEEP = f"1 {NOTHING}|tt_render: glyf+32: 17 ComponentDepth|"
+TOO_LARGE = f"2 {NOTHING}|tt_render: 63 PictureLarge|"
 UNFITTED = "tt_render: glyph 1 unfitted: glyf+14: 35 OffProfile|"
 UNFITTED_BY_BEST = "tt_render: glyph 1 unfitted: glyf+15: 47 DivZero|"
 ALIKE = [
@@ -198,7 +206,11 @@ ALIKE = [
     ({"none": "0 11 1|", "full": OFF_PROFILE, "best": f"0 11 1|{UNFITTED_BY_BEST}"}, True),
     ({"none": "0 11 1|", "full": OFF_PROFILE, "best": OFF_PROFILE}, False),
     ({"none": "0 11 1|", "full": "0 11 2|", "best": "0 11 1|"}, True),
-    ({"none": "0 11 1|", "full": "0 11 2|", "best": "0 12 1|"}, False),
+    ({"none": "0 11 1|", "full": "0 11 2|", "best": "0 12 1|"}, IS_NOW),
+    ({"none": "0 11 1|", "full": "0 11 2|", "best": f"2 {NOTHING}|tt_render: 63 PictureLarge|"}, IS_NOW),
+    ({"none": TOO_LARGE, "full": TOO_LARGE, "best": "0 12 1|"}, IS_NOW),
+    ({"none": TOO_LARGE, "full": TOO_LARGE, "best": REFUSED}, IS_NOW),
+    ({"none": TOO_LARGE, "full": TOO_LARGE, "fallback": REFUSED}, False),
     ({"none": "0 11 1|", "full": "0 11 2|", "best": REFUSED}, False),
     ({"none": "0 11 1|", "full": "0 11 2|", "best": f"0 11 1|{UNFITTED_BY_BEST}"}, False),
     ({"none": TOO_DEEP, "full": TOO_DEEP, "best": "0 11 1|"}, True),
