@@ -9,3 +9,4 @@ pub mod Pairs
 pub mod Shapes
 pub mod WithAll
 pub mod Enough
+pub mod Halves

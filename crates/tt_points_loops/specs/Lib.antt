@@ -10,3 +10,4 @@ pub mod WithAll
 pub mod Shapes
 pub mod Total
 pub mod Loosened
+pub mod Halves

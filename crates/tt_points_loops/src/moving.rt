@@ -24,7 +24,7 @@ fn aligned(p: Point, r: Point, state: &GraphicsState) -> Result<Point, Why>
 {
     may_move(state)?;
     let motion = Motion::of(state);
-    motion.moved(p, motion.current_distance(p, r).0)
+    motion.moved(p, -motion.current_distance(r, p).0)
 }
 
 /// Moves a point of zp1 to the current coordinate of rp0. Errors: PointRange, Perpendicular, ValueRange.
