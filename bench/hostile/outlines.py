@@ -2,11 +2,9 @@
 import random
 
 import small_fonts as small
-from hostile.parts import POINTS, PROGRAM, Hostile, again, composite_of, dotted, line_of, one_of
+from hostile.parts import PLAIN, POINTS, PROGRAM, Hostile, again, composite_of, dotted, line_of, one_of
 from hostile.sizes import WORK, largest, most_glyphs
 
-# A prep that sets vectors alone: the font has programs, and asks for no dropouts.
-PLAIN = {"prep": b"\x01"}
 # At 300 pixels per em and 64 units: nearly the largest picture, 16,383 columns and 4,092 rows; nearly as far as a
 # coordinate goes, 32,765 pixels; and a line of such glyphs.
 EM, WIDTH, HEIGHT, FAR = 64, 3495, 873, 6990
