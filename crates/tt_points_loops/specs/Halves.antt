@@ -1,7 +1,7 @@
 -- Worked values at exact halves, for instructions that measure along a line that rises by 2 in 1. A point 128 pixels to
 -- the right of another one is 3663 1/2 away along that line, in 26.6 pixels, and one to the left -3663 1/2. Halves go
 -- up, to 3664 and -3663.
-use Rattle.std.specs.Prelude.{◌≡◌, ℤ, pos, negsuc, ◌×◌, Bool, true, false, List, [], ◌∷◌, map, Result, Ok, refl}
+use Rattle.std.specs.Prelude.{◌≡◌, ℤ, pos, negsuc, Bool, true, false, List, [], ◌∷◌, map, Ok, refl}
 use Rattle.tt_core.specs.declared.halves.Halves.TheVariants as halves
 use Rattle.tt_state.specs.declared.graphics_state.GraphicsState.{GraphicsState}
 use Rattle.tt_state.specs.declared.point.Point.{Point}

@@ -1,6 +1,6 @@
 -- Apple TrueType Reference Manual, "Instruction set": managing outlines (ALIGNRP, IP, SHPIX). Distances are in 26.6
 -- pixels.
-use Rattle.std.specs.Prelude.{◌≡◌, ℤ, pos, negsuc, ◌-ℤ◌, ◌*ℤ◌, neg_ℤ, Bool, true, false, if◌then◌else◌, List, [], ◌∷◌, Option, Some, None, Result, Ok, Err, refl}
+use Rattle.std.specs.Prelude.{◌≡◌, ℤ, pos, negsuc, ◌-ℤ◌, ◌*ℤ◌, Bool, true, false, if◌then◌else◌, List, [], ◌∷◌, Option, Some, None, Result, Ok, Err, refl}
 use Rattle.std.specs.Ordering.{int_eq}
 use Rattle.tt_core.specs.Outcomes.{◌>>=◌}
 use Rattle.tt_core.specs.Scales.{quotient, rounded_scale}
@@ -28,7 +28,7 @@ use Rattle.tt_points_loops.specs.Slanted.{point, moved_to, rising, slanted, dual
 
 -- ALIGNRP: moves points of zp1 by minus their current distance from rp0, in zp0
 abbrev pub aligned : GraphicsState → Point → Point → Result Point Why
-aligned g r p = direction g >>= λ m. moved m (neg_ℤ (current_distance m r p)) p
+aligned g r p = direction g >>= λ m. moved m (pos 0 -ℤ current_distance m r p) p
 
 abbrev pub align : GraphicsState → ℤ → ZoneLists → Result ZoneLists Why
 align g n z =

@@ -1,6 +1,6 @@
 -- No part of the standard: no instruction on several points is refused for too few values. A tolerant machine never
 -- refuses an instruction on points or pairs in turn for a missing thing.
-use Rattle.std.proofs.Common.{◌≡◌, ℕ, suc, ◌+◌, nat_le, nat_lt, ℤ, pos, int_lt, unsigned_abs, slice_get, ◌-ℤ◌, neg_ℤ, Bool, true, false, ◌&&◌, ◌||◌, if◌then◌else◌, List, [], ◌∷◌, length, reverse, Option, Some, None, Result, Ok, Err, refl}
+use Rattle.std.proofs.Common.{◌≡◌, ℕ, suc, ◌+◌, nat_le, nat_lt, ℤ, pos, int_lt, unsigned_abs, slice_get, ◌-ℤ◌, Bool, true, false, ◌&&◌, ◌||◌, if◌then◌else◌, List, [], ◌∷◌, length, reverse, Option, Some, None, Result, Ok, Err, refl}
 use Rattle.std.specs.Option.{ok_or}
 use Rattle.std.specs.Ordering.{int_eq}
 use Rattle.tt_core.specs.Outcomes.{◌>>=◌}
@@ -105,8 +105,8 @@ align_enough g n z =
     enough_after (point_in g.zp1 n z) _ (point_enough g.zp1 n z) (λ p.
     enough_after (point_in g.zp0 g.rp0 z) _ (point_enough g.zp0 g.rp0 z) (λ r.
     put_enough g.zp1 n z (aligned g r p) (enough_of (aligned g r p)
-    (by_vectors_total g (λ m. moved m (neg_ℤ (current_distance m r p)) p)
-    (λ m. moved_total m (neg_ℤ (current_distance m r p)) p)))))
+    (by_vectors_total g (λ m. moved m (pos 0 -ℤ current_distance m r p) p)
+    (λ m. moved_total m (pos 0 -ℤ current_distance m r p) p)))))
 
 kept_enough : (by : Halves) (s : Option Scale) (g : GraphicsState) (a b p : Point)
     → Enough (kept_between by s g a b p)

@@ -1,6 +1,6 @@
 -- No part of the standard: the whole instruction set changes no result of an instruction on several points, except for
 -- the refusals of the profile.
-use Rattle.std.proofs.Common.{ℕ, suc, nat_le, nat_lt, ℤ, ◌-ℤ◌, neg_ℤ, Bool, true, false, ◌&&◌, if◌then◌else◌, List, [], ◌∷◌, reverse, Option, Some, None, Result, Ok, refl}
+use Rattle.std.proofs.Common.{ℕ, suc, nat_le, nat_lt, ℤ, pos, ◌-ℤ◌, Bool, true, false, ◌&&◌, if◌then◌else◌, List, [], ◌∷◌, reverse, Option, Some, None, Result, Ok, refl}
 use Rattle.tt_core.specs.Outcomes.{◌>>=◌}
 use Rattle.tt_core.specs.declared.fault.Why.{Why}
 use Rattle.tt_state.specs.declared.graphics_state.GraphicsState.{GraphicsState}
@@ -92,7 +92,7 @@ aligns : (g : GraphicsState) (n : ℤ) (z : ZoneLists) → StaysSame (align g n 
 aligns g n z =
     after (λ w. w) (point_in g.zp1 n z) _ _ (λ p.
     after (λ w. w) (point_in g.zp0 g.rp0 z) _ _ (λ r.
-    put g.zp1 n z (aligned g r p) (aligned (with_all g) r p) (by_vectors g (λ m. moved m (neg_ℤ (current_distance m r p)) p))))
+    put g.zp1 n z (aligned g r p) (aligned (with_all g) r p) (by_vectors g (λ m. moved m (pos 0 -ℤ current_distance m r p) p))))
 
 interpolates : (t : Tolerance) (g : GraphicsState) (n : ℤ) (z : ZoneLists)
     → StaysSame (interpolate t g n z) (interpolate t (with_all g) n z)

@@ -24,7 +24,8 @@ fn aligned(p: Point, r: Point, state: &GraphicsState) -> Result<Point, Why>
 {
     may_move(state)?;
     let motion = Motion::of(state);
-    motion.moved(p, -motion.current_distance(r, p).0)
+    let now = motion.current_distance(r, p);
+    motion.moved(p, 0 - now.0)
 }
 
 /// Moves a point of zp1 to the current coordinate of rp0. Errors: PointRange, Perpendicular, ValueRange.

@@ -14,24 +14,25 @@ ghost use Rattle.std.specs.Prelude.{◌≡◌, ◌≤◌, ◌^◌, length, IfSom
 ghost use Rattle.tt_scan.specs.Contours.{AreEnds};
 ghost use Rattle.tt_scan_dropouts.specs.Windows.{WindowFits, widened};
 
-use crate::pictures::{HEIGHT, WIDTH, frame_in};
+use crate::pictures::frame_in;
 use crate::pixels::edge_in;
 use std::alloc::Global;
+use tt_core::{HEIGHT_LIMIT, WIDTH_LIMIT};
 use tt_scan::Tape;
 use tt_scan_dropouts::{Outlined, Pixel, Rules, Window, dropouts, may_have_dropouts};
 use tt_test_words::{Line, MOST};
 
 /// The left and the lower side of a window stay less than this from 0, in pixels.
-const FAR: i64 = 1 << 18;
+const FAR: i32 = 1 << 18;
 
 fn window_in(line: &mut Line) -> Window
     ensures { WindowFits (widened 2 result) }
 {
     Window {
-        left: line.number(1 - FAR, FAR - 1) as i32,
-        bottom: line.number(1 - FAR, FAR - 1) as i32,
-        width: line.number(1, WIDTH) as u32,
-        height: line.number(1, HEIGHT) as u32,
+        left: line.near_zero(FAR),
+        bottom: line.near_zero(FAR),
+        width: line.natural(1, WIDTH_LIMIT),
+        height: line.natural(1, HEIGHT_LIMIT),
     }
 }
 

@@ -14,14 +14,13 @@ use std::alloc::Global;
 use tt_arc::chords;
 use tt_core::{COORDINATE_LIMIT, FontFault, SIZE_LIMIT};
 use tt_fit::{Fit, Fitter, Outline};
+use tt_program_decisions::fit_named;
 use tt_scan::{Frame, Tape};
 use tt_test_words::Line;
 
-const SIZE: i64 = SIZE_LIMIT as i64;
-
 /// Puts the outlines that the words request. The first two words are the size and the way to fit.
 pub(crate) fn put_table(alloc: Global, line: &mut Line, font: &[u8]) {
-    let size = line.number(1, SIZE) as u32;
+    let size = line.natural(1, SIZE_LIMIT);
     let fit = fit_in(line);
     let (Some((metrics, glyphs)), Some(programs)) = (tables_of(font), programs_of(font)) else {
         line.refuse("the font is refused");
@@ -38,12 +37,10 @@ pub(crate) fn put_table(alloc: Global, line: &mut Line, font: &[u8]) {
 
 /// The next word, how outlines are fitted.
 fn fit_in(line: &mut Line) -> Fit {
-    match line.word() {
-        "full" => Fit::Full,
-        "none" => Fit::None,
-        "fallback" => Fit::Fallback,
-        "best" => Fit::Best,
-        word => {
+    let word = line.word();
+    match fit_named(word) {
+        Some(fit) => fit,
+        None => {
             line.note(word);
             line.refuse(" is no way to fit");
             Fit::None

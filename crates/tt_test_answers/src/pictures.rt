@@ -7,14 +7,8 @@ use tt_core::{HEIGHT_LIMIT, MARGIN_LIMIT, WIDTH_LIMIT};
 use tt_scan::{Frame, Tape};
 use tt_test_words::{Line, MOST};
 
-pub(crate) const WIDTH: i64 = WIDTH_LIMIT as i64;
-
-pub(crate) const HEIGHT: i64 = HEIGHT_LIMIT as i64;
-
-const MARGIN: i64 = MARGIN_LIMIT as i64;
-
 /// The rise of a frame stays less than this from 0.
-const RISE: i64 = 1 << 20;
+const RISE: i32 = 1 << 20;
 
 /// More crossings than any question requests.
 pub(crate) const MOST_CROSSES: u64 = 1 << 40;
@@ -24,10 +18,10 @@ pub(crate) fn frame_in(line: &mut Line) -> Frame
     ensures { FrameFits result }
 {
     Frame {
-        width: line.number(1, WIDTH) as u32,
-        height: line.number(1, HEIGHT) as u32,
-        margin: line.number(0, MARGIN) as u32,
-        rise: line.number(1 - RISE, RISE - 1) as i32,
+        width: line.natural(1, WIDTH_LIMIT),
+        height: line.natural(1, HEIGHT_LIMIT),
+        margin: line.natural(0, MARGIN_LIMIT),
+        rise: line.near_zero(RISE),
     }
 }
 

@@ -18,7 +18,7 @@ use tt_scan::{Edge, Frame, Tape};
 use tt_test_words::Line;
 
 /// The ends of an edge stay less than this from 0.
-const REACH: i64 = 1 << 30;
+const REACH: i32 = 1 << 30;
 
 /// Answers a question.
 pub(crate) fn answer(alloc: Global, line: &mut Line) {
@@ -42,10 +42,10 @@ pub(crate) fn edge_in(line: &mut Line) -> Edge
     ensures { EdgeFits result }
 {
     Edge {
-        ax: line.number(1 - REACH, REACH - 1) as i32,
-        ay: line.number(1 - REACH, REACH - 1) as i32,
-        bx: line.number(1 - REACH, REACH - 1) as i32,
-        by: line.number(1 - REACH, REACH - 1) as i32,
+        ax: line.near_zero(REACH),
+        ay: line.near_zero(REACH),
+        bx: line.near_zero(REACH),
+        by: line.near_zero(REACH),
     }
 }
 

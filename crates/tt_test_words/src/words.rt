@@ -1,6 +1,6 @@
 //! The words of a question.
 
-ghost use Rattle.std.specs.Prelude.{◌≤◌, ◌<◌, ◌≤ℤ◌, ◌^◌};
+ghost use Rattle.std.specs.Prelude.{◌≤◌, ◌<◌, ◌≤ℤ◌, ◌<ℤ◌, ◌^◌, pos, unsigned_abs};
 
 use crate::line::Line;
 use std::alloc::Global;
@@ -40,6 +40,25 @@ impl<'a> Line<'a> {
             return low;
         }
         number
+    }
+
+    /// The next word, a natural number from `low` to `high`. If it is no such number, the line is refused, and the answer
+    /// is `low`.
+    pub fn natural(&mut self, low: u32, high: u32) -> u32
+        requires { low ≤ high }
+        ensures low { low ≤ result }
+        ensures high { result ≤ high }
+    {
+        self.number(i64::from(low), i64::from(high)) as u32
+    }
+
+    /// The next word, a number nearer to 0 than `limit`. If it is no such number, the line is refused, and the answer is
+    /// the least one.
+    pub fn near_zero(&mut self, limit: i32) -> i32
+        requires { pos 1 ≤ℤ limit }
+        ensures { pos (unsigned_abs result) <ℤ limit }
+    {
+        self.number(1 - i64::from(limit), i64::from(limit) - 1) as i32
     }
 
     /// The next word, a number. If it is none, the line is refused.

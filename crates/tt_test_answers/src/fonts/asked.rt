@@ -153,8 +153,8 @@ fn manner_in(line: &mut Line) -> Manner {
 
 /// The next three words, size, margin and way to fit.
 fn setting_in(line: &mut Line, missing: &str) -> Option<Setting> {
-    let size = line.number(0, u32::MAX as i64) as u32;
-    let margin = line.number(0, u32::MAX as i64) as u32;
+    let size = line.natural(0, u32::MAX);
+    let margin = line.natural(0, u32::MAX);
     let fit = fit_named(line.word())?;
     Some(Setting {
         missing: missing_named(missing)?,

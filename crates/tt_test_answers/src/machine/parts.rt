@@ -11,8 +11,6 @@ use tt_points_zones::{Originals, Zones};
 use tt_state::{GraphicsState, Point, Tolerance};
 use tt_test_words::{Line, MOST};
 
-const SIZE: i64 = SIZE_LIMIT as i64;
-
 const REACH: i64 = COORDINATE_LIMIT as i64;
 
 fn numbers_in(alloc: Global, line: &mut Line) -> Vec<i32> {
@@ -135,8 +133,8 @@ impl Rules {
 
 /// The parts that the next words are, of a machine by these rules.
 pub(crate) fn parts_in<'a>(alloc: Global, line: &mut Line, rules: Rules) -> Parts<'a> {
-    let em = line.number(16, 16384) as u16;
-    let ppem = line.number(1, SIZE) as u32;
+    let em = line.natural(16, 16384) as u16;
+    let ppem = line.natural(1, SIZE_LIMIT);
     let cvt = numbers_in(alloc, line);
     let storage = numbers_in(alloc, line);
     let zones = zones_in(alloc, line);
