@@ -60,9 +60,9 @@ empty-by-type-one m tables programs ppem s unfitted o are is =
     (off_by s.hinting unfitted o.scan (off-where-empty m tables programs ppem s are is))
 
 pub skipped-by-type-one : SkippedByTypeOne
-skipped-by-type-one m tables programs ppem s unfitted o off is =
+skipped-by-type-one m tables programs ppem s unfitted o switched is =
     rw (says m tables programs ppem fit.Best s is)
-    (off_by s.hinting unfitted o.scan (off-where-switched m tables programs ppem s off is))
+    (off_by s.hinting unfitted o.scan (off-where-switched m tables programs ppem s switched is))
 
 pub fitted-by-scan : FittedByScan
 fitted-by-scan m tables programs ppem s o scan c =

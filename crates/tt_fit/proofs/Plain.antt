@@ -68,7 +68,7 @@ both-same a b c d first second = rw (first, second) refl
 
 if-same : {X : Type 0} (p q : Bool) (a b c d : X) → p ≡ q → a ≡ b → c ≡ d
     → (if p then a else c) ≡ (if q then b else d)
-if-same p q a b c d test yes no = rw (test, yes, no) refl
+if-same p q a b c d test first second = rw (test, first, second) refl
 
 matched-plain : (r : Record) (p q : Option (ℤ × ℤ × Bool)) → matched_by r p q ≡ matched_by (without_rounding r) p q
 matched-plain r (Some p) (Some q) = refl

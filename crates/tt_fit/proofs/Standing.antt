@@ -43,9 +43,9 @@ joined-broke add (r ∷ rs) o f was = elim (was-err (add r o) (joined add rs) f 
       (suc there.0, there.1, there.2, there.3, rw later.first there.4, there.5)
 ]
 
-through : (x : Result Outline Fault) (rest : Outline → Result Outline Fault) (o made : Outline) → x ≡ Ok o → rest o ≡ Ok made
-    → (x >>= rest) ≡ Ok made
-through x rest o made first then = rw first then
+through : (x : Result Outline Fault) (rest : Outline → Result Outline Fault) (o all : Outline) → x ≡ Ok o
+    → rest o ≡ Ok all → (x >>= rest) ≡ Ok all
+through x rest o all first second = rw first second
 
 joined-made : (add : Record → Outline → Result Outline Fault) (rs : List Record) (o all : Outline) (i : ℕ) (r : Record)
     → joined add rs o ≡ Ok all → slice_get rs i ≡ Some r

@@ -96,7 +96,7 @@ IsGridDefect at p fault =
     (PassesLimit p.left.0 ⊎ PassesLimit p.right.0 ⊎ PassesLimit p.ascent.1 ⊎ PassesLimit p.descent.1)
     × (fault ≡ coordinate_fault at)
 
--- a simple glyph has no program, its phantom points are on the grid where halves go up, and one exceeds the limit there
+-- a simple glyph without a program: halves go up, and a phantom point exceeds the limit on the grid
 abbrev pub IsEndsDefect : Grid → ℕ → List ℕ → Outline → Fault → Type 0
 IsEndsDefect by at code o fault =
     (by ≡ rounding.Up) × (code ≡ []) × IsGridDefect at (on_grid rounding.Up o.phantom) fault

@@ -35,7 +35,7 @@ abbrev pub OthersRoundAlways : Type 0
 OthersRoundAlways = (m : Metrics) (tables : Glyf) (programs : ProgramTables) (ppem : ℕ) (how : Fit) (s : Fitter)
     → how ≢ fit.Best → fitter_of m tables programs ppem how ≡ Ok s → glyph_grid s ≡ rounding.Away
 
--- with Best, hinting is off for every glyph where the font program and the control value program are both empty
+-- with Best, hinting is off for every glyph of a font whose two programs are both empty
 abbrev pub EmptyIsOff : Type 0
 EmptyIsOff = (m : Metrics) (tables : Glyf) (programs : ProgramTables) (ppem : ℕ) (s : Fitter) (g : ℕ)
     → AreEmpty programs → fitter_of m tables programs ppem fit.Best ≡ Ok s → is_hinted s g ≡ false
@@ -64,7 +64,7 @@ plain empty = empty
 plain (simple d) = simple (record d { code = [] })
 plain (composite d) = composite (record d { records = map without_rounding d.records; code = [] })
 
--- the outline of a glyph of a font whose glyphs are all like this, by how a record extends the outline so far
+-- a glyph's outline where all glyphs are like this, by how a record extends the outline so far
 abbrev pub plain_by : Fitter → (Record → Outline → Result Outline Fault) → ℕ → Result Outline Fault
 plain_by s add g = glyph_data_of s.tables g >>= λ d. made s add g (plain d)
 
@@ -77,8 +77,8 @@ plain_added s (suc levels) r o = plain_by s (plain_added s levels) r.glyph >>= �
 abbrev pub plain_outline : Fitter → ℕ → ℕ → Result Outline Fault
 plain_outline s levels g = plain_by s (plain_added s levels) g
 
--- Where hinting is off, the outline is the one that all programs empty and no ROUND_XY_TO_GRID would give, by either
--- rule for whole pixels.
+-- Where hinting is off, the outline is the one that all programs empty and no ROUND_XY_TO_GRID would give. Either rule
+-- for whole pixels gives it.
 abbrev pub OffIsPlain : Type 0
 OffIsPlain = (s : Fitter) (g : ℕ) (how : GridRule) → s.grid ≡ grid_rule.WhereHinted → is_hinted s g ≡ false
     → fitted_outline s g ≡ plain_outline (record (with_hinting s off) { grid = how }) s.levels g

@@ -32,9 +32,9 @@ use tt_fit_outline::{
 use tt_glyf::Glyf;
 use tt_metrics::Metrics;
 
-/// Makes the outlines of a font at a size. Clauses see the glyph data, the metrics, the size, when distances are rounded
-/// to whole pixels, and what the font's programs gave. They also see which glyphs are unfitted, the depth limit of
-/// components, the job's remaining work, and the source of the dropout rules.
+/// Makes the outlines of a font at a size. Clauses see the glyph data, the metrics, the size, and when distances are
+/// rounded to whole pixels. They see what the font's programs gave, and which glyphs are unfitted. They also see the
+/// depth limit of components, the job's remaining work, and the source of the dropout rules.
 #[derive(Drop)]
 pub struct Fitter<'a> {
     pub(crate) alloc: Global,

@@ -59,9 +59,9 @@ pub fn others_fill_none()
     ensures stay { RulesStay }
 {}
 
-/// Lemma: with `Fit::Best` hinting is off for every glyph where the font program and the control value program are both
-/// empty, or glyph programs are switched off. Where both are empty no glyph is unfitted. For an unfitted glyph hinting is
-/// off too. Where it is off, the outline is the one that all programs empty and no ROUND_XY_TO_GRID would give.
+/// Lemma: with `Fit::Best` hinting is off for every glyph where glyph programs are switched off. Hinting is off too where
+/// the font program and the control value program are both empty, and no glyph is unfitted there. For an unfitted glyph
+/// hinting is off. Then the outline is the one that all programs empty and no ROUND_XY_TO_GRID would give.
 pub fn hinting_is_off()
     ensures empty { EmptyIsOff }
     ensures leftovers { LeftoversFit }
@@ -71,7 +71,7 @@ pub fn hinting_is_off()
 {}
 
 /// Lemma: with `Fit::Best` distances are rounded to whole pixels where hinting is on. The ends of a simple glyph's
-/// advance are then whole pixels before its program, and without a program its step is their difference. With every
+/// advance are then whole pixels before its program. Without a program the glyph's step is their difference. With every
 /// other fit halves go away from zero.
 pub fn distances_are_rounded_where_hinted()
     ensures best { BestRoundsWhereHinted }

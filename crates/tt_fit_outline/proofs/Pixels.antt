@@ -1,10 +1,9 @@
 -- Whole pixels with halves up, and the step between the two ends of an advance.
-use Rattle.std.proofs.Common.{◌≡◌, ℕ, ◌*◌, ◌≤◌, ℤ, pos, negsuc, ◌+ℤ◌, ◌-ℤ◌, ◌*ℤ◌, ◌≤ℤ◌, ◌<ℤ◌, unsigned_abs, ap, refl, arith}
+use Rattle.std.proofs.Common.{◌≡◌, ◌*◌, ◌≤◌, ℤ, pos, negsuc, ◌+ℤ◌, ◌-ℤ◌, ◌*ℤ◌, ◌≤ℤ◌, ◌<ℤ◌, unsigned_abs, ap, refl, arith}
 use Rattle.std.specs.Int.{int_div_euclid}
 use Rattle.std.proofs.lemmas.Int.{ints}
-use Rattle.tt_fit_outline.specs.Grid.{up, UpIsNear, UpKeepsOrder, UpMovesByPixels}
-use Rattle.tt_fit_outline.specs.Outline.{IsOutline, Outline}
-use Rattle.tt_fit_outline.specs.Steps.{advance_left, at_least_zero, moved_ends, pixels_of, step_of, StepsAreBounded, StepsAreForward, StepsAreNear, StepsStay}
+use Rattle.tt_fit_outline.specs.Grid.{UpIsNear, UpKeepsOrder, UpMovesByPixels}
+use Rattle.tt_fit_outline.specs.Steps.{advance_left, at_least_zero, pixels_of, StepsAreBounded, StepsAreForward, StepsAreNear, StepsStay}
 
 -- 64 times a floor is at most the number, and less than 64 below it
 pub floor-below : (v : ℤ) → (pos 64 *ℤ int_div_euclid v (pos 64)) ≤ℤ v

@@ -15,8 +15,8 @@ use Rattle.tt_fit_outline.specs.Outline.{PhantomPoints, phantom_of, Outline}
 use Rattle.tt_fit_outline.specs.Scaling.{is_coordinate, coordinate_fault}
 use Rattle.tt_fit_outline.specs.Units.{Units, in_units, phantom_places, places_of, with_units}
 
--- a glyph's program, its offset in glyf, the offset of the glyph's first byte, the grid of its phantom points, and the
--- unit of its originals
+-- A glyph's program, its offset in glyf, and the offset of the glyph's first byte. Then the grid of its phantom points,
+-- and the unit of its originals
 pub record GlyphProgram : Type 0 where
   pub code : List ℕ
   pub code_at : ℕ

@@ -25,11 +25,12 @@ step_of o = pixels_of (advance_left o)
 abbrev pub StepsAreBounded : Type 0
 StepsAreBounded = (o : Outline) → IsOutline o → step_of o ≤ 65536
 
--- where the right end is not left of the left one, a step is at most half a pixel off their distance; else the step is 0
+-- where the right end is not left of the left one, step and distance differ by at most half a pixel
 abbrev pub StepsAreNear : Type 0
 StepsAreNear = (o : Outline) → pos 0 ≤ℤ advance_left o
     → unsigned_abs (pos (64 * step_of o) -ℤ advance_left o) ≤ 32
 
+-- else the step is 0
 abbrev pub StepsAreForward : Type 0
 StepsAreForward = (o : Outline) → advance_left o <ℤ pos 0 → step_of o ≡ 0
 

@@ -11,8 +11,8 @@ pub fn halves_go_up()
     ensures near { UpIsNear }
 {}
 
-/// Lemma: a step is at most 65536 pixels, and at most half a pixel off the distance of the advance's two ends. Where the
-/// right end is left of the left one, the step is 0. Moving both ends alike does not change the step.
+/// Lemma: a step is at most 65536 pixels. Step and distance of an advance's two ends differ by at most half a pixel. Where
+/// the right end is left of the left one, the step is 0. Moving both ends alike does not change the step.
 pub fn steps_are_near()
     ensures bounded { StepsAreBounded }
     ensures near { StepsAreNear }
