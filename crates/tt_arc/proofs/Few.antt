@@ -32,7 +32,7 @@ few_by : (r : ChordRule) (c : Quadratic) → length (chords_by r c) ≤ 32
 few_by r c = rw (many_chords (chord_count r c) c (chord_count r c)) (few_chords r c)
 
 few_of : (r : ChordRule) (before p after : PlacedPoint) → length (edges_of r before p after) ≤ 32
-unfolding edges_of r
+unfolding edges_of
 few_of r before p after = one_of p.on after.on _ _ (few_by r _)
 
 few_points : (r : ChordRule) (all : List PlacedPoint) (k m : ℕ) → length (flat_map (edges_at r all) (range_with_len k m)) ≤ 32 * m
