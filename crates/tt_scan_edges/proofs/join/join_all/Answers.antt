@@ -1,4 +1,4 @@
-use Rattle.std.proofs.Common.{◌≡◌, ◌∙◌, ◌+◌, ◌<◌, true, false, length, get_or, pos, inl, inr, refl, arith, length-set}
+use Rattle.std.proofs.Common.{◌∙◌, ◌<◌, length, get_or, pos, inl, inr, refl, arith, length-set}
 use Rattle.std.proofs.lemmas.Bool.{cases_Bool}
 use Rattle.tt_scan_edges.specs.Joined.{joins}
 use Rattle.tt_scan_edges.specs.declared.edge.Edge.{Edge}
