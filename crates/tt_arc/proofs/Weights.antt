@@ -65,7 +65,9 @@ finer_by h j k x y z =
 
 pub weighed_finer : (h n k : ℕ) (b : Coordinates) → k ≤ n → weighed (h * n) (h * k) b ≡ pos (h * h) *ℤ weighed n k b
 weighed_finer h n k b le =
-    let less : h * n - h * k ≡ h * (n - k) = omega (arith, mul-le-mul_left h le) in
+    let parts : n ≡ (n - k) + k = omega (arith, le) in
+    let whole : h * n ≡ h * ((n - k) + k) = ap (λ (m : ℕ). h * m) parts in
+    let less : h * n - h * k ≡ h * (n - k) = omega (arith, whole) in
     rw less (finer_by h (n - k) k b.from b.control b.to)
 
 -- the second difference is the same all along
