@@ -1,12 +1,12 @@
 -- A chord is near its quadratic all along, where there are fewer than 32 chords.
-use Rattle.std.proofs.Common.{◌≡◌, ◌∙◌, sym, refl, ap, ap₂, inl, inr, ℕ, suc, ◌+◌, ◌-◌, ◌*◌, ◌<◌, ◌≤◌, max, ℤ, pos, ◌+ℤ◌, ◌-ℤ◌, ◌*ℤ◌, unsigned_abs, arith, mul-le-mul_left, mul-le-mul_right}
+use Rattle.std.proofs.Common.{◌≡◌, ◌∙◌, sym, refl, ap, ap₂, inl, inr, ℕ, suc, ◌+◌, ◌-◌, ◌*◌, ◌<◌, ◌≤◌, ℤ, pos, ◌+ℤ◌, ◌-ℤ◌, ◌*ℤ◌, unsigned_abs, arith, mul-le-mul_left, mul-le-mul_right}
 use Rattle.std.proofs.lemmas.Bool.{cases_lt}
 use Rattle.std.proofs.lemmas.Int.{ints, unsigned_abs-mul}
 use Rattle.tt_core.specs.Products.{mul_assoc_z, mul_diff, mul_sum}
 use Rattle.tt_arc.specs.declared.quadratic.Coordinates.{Coordinates}
 use Rattle.tt_arc.specs.declared.quadratic.Quadratic.{Quadratic}
 use Rattle.tt_arc.specs.declared.rule.ChordRule.TheVariants as rule
-use Rattle.tt_arc.specs.Chords.{along_x, along_y, bend_of, chord_count, chord_place, chords_of_bend, signed_bend, weighed}
+use Rattle.tt_arc.specs.Chords.{bend_of, chord_count, chord_place, signed_bend, weighed}
 use Rattle.tt_arc.specs.ChordLaws.{ChordsAreNear}
 use Rattle.tt_arc.proofs.ChordEnds.{ends_are_near}
 use Rattle.tt_arc.proofs.Counts.{counts_are_least}

@@ -1,10 +1,9 @@
 -- A statement about 1, 2, 4, 8, 16 and 32 holds for the number of chords of each quadratic.
-use Rattle.std.proofs.Common.{◌≡◌, ◌∙◌, sym, refl, ap, ap₂, ℕ, ◌*◌, ◌/◌, ◌<◌, ◌≤◌, nat_le, max, Bool, true, false, if◌then◌else◌, List, [], ◌∷◌, arith}
-use Rattle.std.specs.Prelude.{Contains, unsigned_abs}
+use Rattle.std.proofs.Common.{◌≡◌, refl, ℕ, ◌*◌, ◌/◌, ◌<◌, ◌≤◌, nat_le, Bool, true, false, if◌then◌else◌, arith}
 use Rattle.tt_arc.specs.declared.quadratic.Quadratic.{Quadratic}
 use Rattle.tt_arc.specs.declared.rule.ChordRule.{ChordRule}
 use Rattle.tt_arc.specs.declared.rule.ChordRule.TheVariants as rule
-use Rattle.tt_arc.specs.Chords.{along_x, along_y, bend_of, chord_count, chords_of_bend, signed_bend}
+use Rattle.tt_arc.specs.Chords.{bend_of, chord_count, chords_of_bend}
 use Rattle.tt_arc.specs.ChordLaws.{IsLeastCount, CountsAreLeast}
 
 if_either : (P : ℕ → Type 0) (t : Bool) (a b : ℕ) → P a → P b → P (if t then a else b)

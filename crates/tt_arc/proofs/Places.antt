@@ -1,5 +1,5 @@
 -- The places of a quadratic at the ends of its chords, rounded to 1/8192 pixel, and the code's sums for them.
-use Rattle.std.proofs.Common.{◌≡◌, ◌∙◌, sym, refl, ap, ap₂, ℕ, suc, ◌+◌, ◌-◌, ◌*◌, ◌/◌, ◌%◌, ◌^◌, ◌<◌, ◌≤◌, ℤ, pos, negsuc, ◌+ℤ◌, ◌-ℤ◌, ◌*ℤ◌, unsigned_abs, List, [], ◌∷◌, ◌++◌, arith, add-one, append-nil, div-add-mod', mod-lt, mul-le-mul_left}
+use Rattle.std.proofs.Common.{◌≡◌, ◌∙◌, sym, refl, ap, ℕ, ◌+◌, ◌-◌, ◌*◌, ◌/◌, ◌^◌, ◌<◌, ◌≤◌, ℤ, pos, negsuc, ◌+ℤ◌, ◌-ℤ◌, ◌*ℤ◌, unsigned_abs, List, [], ◌∷◌, ◌++◌, arith, add-one, append-nil, div-add-mod', mod-lt, mul-le-mul_left}
 use Rattle.std.specs.Prelude.{◌≤ℤ◌, ◌<ℤ◌}
 use Rattle.std.specs.Int.{int_div_euclid}
 use Rattle.std.proofs.lemmas.Int.{ints}
@@ -11,7 +11,7 @@ use Rattle.tt_arc.specs.declared.quadratic.Differences.{Differences}
 use Rattle.tt_arc.specs.declared.quadratic.EdgeEnd.{EdgeEnd}
 use Rattle.tt_arc.specs.declared.quadratic.Quadratic.{Quadratic}
 use Rattle.tt_arc.specs.declared.rule.ChordRule.{ChordRule}
-use Rattle.tt_arc.specs.Chords.{AreDifferences, CoordinatesFit, EdgeEndFits, QuadraticFits, along_x, along_y, chord_count, chord_end, chord_place, edge_between, first_chords, signed_bend, weighed}
+use Rattle.tt_arc.specs.Chords.{AreDifferences, CoordinatesFit, QuadraticFits, along_x, along_y, chord_count, chord_end, chord_place, edge_between, first_chords, signed_bend, weighed}
 use Rattle.tt_arc.proofs.Counts.{by_count, divides, few_chords}
 use Rattle.tt_arc.proofs.Weights.{bend_within, bent_by, part_within, same_times, second_of, weighed_finer, weighed_within}
 

@@ -1,4 +1,4 @@
-use Rattle.std.proofs.Common.{◌≡◌, ◌<◌, ℤ, pos, Bool, false, length, ◌∙◌, arith}
+use Rattle.std.proofs.Common.{◌<◌, ℤ, pos, Bool, false, length, ◌∙◌, arith}
 use Rattle.std.proofs.lemmas.Bool.Decides.{nat_tests}
 use Rattle.tt_arc.proofs.BoxMoves.{all_boxed, first_boxed, one_boxed}
 use Rattle.tt_arc.proofs.bounds.box_of.Goals as goal

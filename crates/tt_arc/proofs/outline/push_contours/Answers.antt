@@ -1,5 +1,5 @@
-use Rattle.std.proofs.Common.{◌≡◌, ◌+◌, ◌^◌, ◌<◌, ◌≤◌, ◌++◌, true, if◌then◌else◌, ◌∷◌, [], length, map, Fits, w32, refl, sym, ap, ◌∙◌, rules, arith, add-one}
-use Rattle.std.specs.List.{slice_index, slice_range}
+use Rattle.std.proofs.Common.{◌≤◌, length, map, Fits, w32, refl, sym, ap, ◌∙◌, rules, arith, add-one}
+use Rattle.std.specs.List.{slice_index}
 use Rattle.tt_arc.specs.Chords.{IsNear, contour_chords, moved}
 use Rattle.tt_arc.specs.Ends.{ends_from}
 use Rattle.tt_arc.proofs.Contours.{all_left, all_of_slice, one_contour_more, slice_of_map, start_within}
