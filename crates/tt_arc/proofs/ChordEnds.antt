@@ -1,5 +1,5 @@
 -- Where the ends of chords are: the laws of chords.
-use Rattle.std.proofs.Common.{◌≡◌, ◌∙◌, refl, ap, ap₂, ℕ, suc, ◌+◌, ◌-◌, ◌*◌, ◌/◌, ◌<◌, ◌≤◌, max, nat_le, true, false, ℤ, pos, ◌+ℤ◌, ◌-ℤ◌, ◌*ℤ◌, unsigned_abs, arith}
+use Rattle.std.proofs.Common.{◌≡◌, ◌∙◌, refl, ap, ap₂, ℕ, suc, ◌+◌, ◌-◌, ◌*◌, ◌<◌, ◌≤◌, max, nat_le, true, false, ℤ, pos, ◌+ℤ◌, ◌-ℤ◌, ◌*ℤ◌, unsigned_abs, arith}
 use Rattle.std.specs.Prelude.{◌≤ℤ◌}
 use Rattle.std.proofs.lemmas.Int.{ints}
 use Rattle.tt_core.specs.Numbers.{nearest_quotient}
@@ -10,7 +10,7 @@ use Rattle.tt_arc.specs.declared.rule.ChordRule.{ChordRule}
 use Rattle.tt_arc.specs.declared.rule.ChordRule.TheVariants as rule
 use Rattle.tt_arc.specs.Chords.{along_x, along_y, bend_of, chord_count, chord_place, chords_of_bend, first_chords, signed_bend, weighed}
 use Rattle.tt_arc.specs.ChordLaws.{ChordsJoin, ChordsMove, ChordsNest, ChordsTurned, EightAreExact, EightByBend, EndsAreNear, EndsRise, curve_back, curve_moved}
-use Rattle.tt_arc.proofs.Counts.{by_count, divides}
+use Rattle.tt_arc.proofs.Counts.{by_count}
 use Rattle.tt_arc.proofs.Places.{end_among, near}
 use Rattle.tt_arc.proofs.Weights.{coordinates_back, coordinates_moved, weighed_back, weighed_moved}
 
@@ -134,9 +134,7 @@ chords_move r c dx dy k le = (
 
 -- among the ends of 32 chords
 pub chords_nest : ChordsNest
-chords_nest r c k le =
-    let all : 32 / chord_count r c * chord_count r c ≡ 32 = divides r c in
-    end_among r c k le
+chords_nest r c k le = end_among r c k le
 
 -- walked back
 bend_back : (b : Coordinates) → signed_bend (coordinates_back b) ≡ signed_bend b

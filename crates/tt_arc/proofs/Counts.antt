@@ -22,9 +22,6 @@ by_count P a b c d e f rule.ByBend q = by_bend P a b c d e f (bend_of q)
 pub few_chords : (r : ChordRule) (c : Quadratic) → chord_count r c ≤ 32
 few_chords = by_count (λ n. n ≤ 32) (omega arith) (omega arith) (omega arith) (omega arith) (omega arith) (omega arith)
 
-pub some_chord : (r : ChordRule) (c : Quadratic) → 1 ≤ chord_count r c
-some_chord = by_count (λ n. 1 ≤ n) (omega arith) (omega arith) (omega arith) (omega arith) (omega arith) (omega arith)
-
 pub divides : (r : ChordRule) (c : Quadratic) → 32 / chord_count r c * chord_count r c ≡ 32
 divides = by_count (λ n. 32 / n * n ≡ 32) refl refl refl refl refl refl
 

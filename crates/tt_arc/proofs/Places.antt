@@ -88,10 +88,6 @@ among = by_count IsAmong
     (λ k b le. nested_16 (weighed 16 k b) ∙ ap (λ w. nearest_quotient (pos 64 *ℤ w) (pos 1024)) (sym (weighed_finer 2 16 k b le)))
     (λ k b le. nested_32 (weighed 32 k b) ∙ ap (λ w. nearest_quotient (pos 64 *ℤ w) (pos 1024)) (sym (weighed_finer 1 32 k b le)))
 
-pub place_among : (r : ChordRule) (c : Quadratic) (k : ℕ) (b : Coordinates) → k ≤ chord_count r c
-    → chord_place (chord_count r c) k b ≡ nearest_quotient (pos 64 *ℤ weighed 32 (32 / chord_count r c * k) b) (pos 1024)
-place_among r c k b le = among r c k b le
-
 pub end_among : (r : ChordRule) (c : Quadratic) (k : ℕ) → k ≤ chord_count r c → chord_end (chord_count r c) c k ≡ record {
   x = nearest_quotient (pos 64 *ℤ weighed 32 (32 / chord_count r c * k) (along_x c)) (pos 1024);
   y = nearest_quotient (pos 64 *ℤ weighed 32 (32 / chord_count r c * k) (along_y c)) (pos 1024);
