@@ -1,18 +1,16 @@
 -- Where the ends of chords are: the laws of chords.
-use Rattle.std.proofs.Common.{◌≡◌, ◌∙◌, sym, refl, ap, ap₂, subst, ℕ, zero, suc, ◌+◌, ◌-◌, ◌*◌, ◌/◌, ◌<◌, ◌≤◌, max, nat_le, Bool, true, false, if◌then◌else◌, ℤ, pos, ◌+ℤ◌, ◌-ℤ◌, ◌*ℤ◌, unsigned_abs, List, [], ◌∷◌, ◌++◌, arith}
-use Rattle.std.specs.Prelude.{◌≤ℤ◌, ◌<ℤ◌}
+use Rattle.std.proofs.Common.{◌≡◌, ◌∙◌, refl, ap, ap₂, ℕ, suc, ◌+◌, ◌-◌, ◌*◌, ◌<◌, ◌≤◌, max, nat_le, true, false, ℤ, pos, ◌+ℤ◌, ◌-ℤ◌, ◌*ℤ◌, unsigned_abs, arith}
+use Rattle.std.specs.Prelude.{◌≤ℤ◌}
 use Rattle.std.proofs.lemmas.Int.{ints}
 use Rattle.tt_core.specs.Numbers.{nearest_quotient}
-use Rattle.tt_core.specs.Products.{mul_mono, mul_sum, mul_diff, mul_assoc_z}
-use Rattle.tt_scan_edges.specs.declared.edge.Edge.{Edge}
+use Rattle.tt_core.specs.Products.{mul_mono, mul_assoc_z}
 use Rattle.tt_arc.specs.declared.quadratic.Coordinates.{Coordinates}
-use Rattle.tt_arc.specs.declared.quadratic.EdgeEnd.{EdgeEnd}
 use Rattle.tt_arc.specs.declared.quadratic.Quadratic.{Quadratic}
 use Rattle.tt_arc.specs.declared.rule.ChordRule.{ChordRule}
 use Rattle.tt_arc.specs.declared.rule.ChordRule.TheVariants as rule
-use Rattle.tt_arc.specs.Chords.{along_x, along_y, bend_of, chord_count, chord_end, chord_place, chords_by, chords_of_bend, first_chords, signed_bend, weighed}
+use Rattle.tt_arc.specs.Chords.{along_x, along_y, bend_of, chord_count, chord_place, chords_of_bend, first_chords, signed_bend, weighed}
 use Rattle.tt_arc.specs.ChordLaws.{ChordsJoin, ChordsMove, ChordsNest, ChordsTurned, EightAreExact, EightByBend, EndsAreNear, EndsRise, curve_back, curve_moved}
-use Rattle.tt_arc.proofs.Counts.{by_count, divides}
+use Rattle.tt_arc.proofs.Counts.{by_count}
 use Rattle.tt_arc.proofs.Places.{end_among, near}
 use Rattle.tt_arc.proofs.Weights.{coordinates_back, coordinates_moved, weighed_back, weighed_moved}
 
@@ -136,9 +134,7 @@ chords_move r c dx dy k le = (
 
 -- among the ends of 32 chords
 pub chords_nest : ChordsNest
-chords_nest r c k le =
-    let all : 32 / chord_count r c * chord_count r c ≡ 32 = divides r c in
-    end_among r c k le
+chords_nest r c k le = end_among r c k le
 
 -- walked back
 bend_back : (b : Coordinates) → signed_bend (coordinates_back b) ≡ signed_bend b

@@ -1,12 +1,12 @@
 -- A chord is near its quadratic all along, where there are fewer than 32 chords.
-use Rattle.std.proofs.Common.{◌≡◌, ◌∙◌, sym, refl, ap, ap₂, inl, inr, ℕ, suc, ◌+◌, ◌-◌, ◌*◌, ◌<◌, ◌≤◌, max, ℤ, pos, ◌+ℤ◌, ◌-ℤ◌, ◌*ℤ◌, unsigned_abs, arith, mul-le-mul_left, mul-le-mul_right}
+use Rattle.std.proofs.Common.{◌≡◌, ◌∙◌, sym, refl, ap, ap₂, inl, inr, ℕ, suc, ◌+◌, ◌-◌, ◌*◌, ◌<◌, ◌≤◌, ℤ, pos, ◌+ℤ◌, ◌-ℤ◌, ◌*ℤ◌, unsigned_abs, arith, mul-le-mul_left, mul-le-mul_right}
 use Rattle.std.proofs.lemmas.Bool.{cases_lt}
 use Rattle.std.proofs.lemmas.Int.{ints, unsigned_abs-mul}
 use Rattle.tt_core.specs.Products.{mul_assoc_z, mul_diff, mul_sum}
 use Rattle.tt_arc.specs.declared.quadratic.Coordinates.{Coordinates}
 use Rattle.tt_arc.specs.declared.quadratic.Quadratic.{Quadratic}
 use Rattle.tt_arc.specs.declared.rule.ChordRule.TheVariants as rule
-use Rattle.tt_arc.specs.Chords.{along_x, along_y, bend_of, chord_count, chord_place, chords_of_bend, signed_bend, weighed}
+use Rattle.tt_arc.specs.Chords.{bend_of, chord_count, chord_place, signed_bend, weighed}
 use Rattle.tt_arc.specs.ChordLaws.{ChordsAreNear}
 use Rattle.tt_arc.proofs.ChordEnds.{ends_are_near}
 use Rattle.tt_arc.proofs.Counts.{counts_are_least}
@@ -146,7 +146,8 @@ rounded_by q m i j e f v w is near_e near_f =
     let whole : pos (q * m) *ℤ (pos j *ℤ e +ℤ pos i *ℤ f) -ℤ pos 64 *ℤ (pos m *ℤ (pos j *ℤ v +ℤ pos i *ℤ w))
     ≡ pos (m * j) *ℤ (pos q *ℤ e -ℤ pos 64 *ℤ v) +ℤ pos (m * i) *ℤ (pos q *ℤ f -ℤ pos 64 *ℤ w) =
     omega (arith, ints, is_one, is_two, ends, first, second, places, third, fourth, same_e, same_f) in
-    rw whole (together _ _ _ _ _ one two sum)
+    rw whole (together (pos (m * j) *ℤ (pos q *ℤ e -ℤ pos 64 *ℤ v)) (pos (m * i) *ℤ (pos q *ℤ f -ℤ pos 64 *ℤ w))
+    (m * j * q) (m * i * q) (q * (m * m)) one two sum)
 
 pub chords_are_near : ChordsAreNear
 chords_are_near c k i j b few less below =
@@ -157,4 +158,6 @@ chords_are_near c k i j b few less below =
     let there = ends_are_near rule.ByBend c (k + 1) b (omega (arith, below)) in
     let ends = rounded_by q m i j (chord_place n k b) (chord_place n (k + 1) b) (weighed n k b) (weighed n (k + 1) b) refl here there in
     let bent = bounded_bend n i j (signed_bend b) (enough c (signed_bend b) few less) in
-    near_enough q m _ _ (weighed (n * m) (k * m + i) b) (pos (i * j) *ℤ signed_bend b) (leaves n k i j b below) ends bent
+    near_enough q m (pos (q * m) *ℤ (pos j *ℤ chord_place n k b +ℤ pos i *ℤ chord_place n (k + 1) b))
+    (pos m *ℤ (pos j *ℤ weighed n k b +ℤ pos i *ℤ weighed n (k + 1) b))
+    (weighed (n * m) (k * m + i) b) (pos (i * j) *ℤ signed_bend b) (leaves n k i j b below) ends bent

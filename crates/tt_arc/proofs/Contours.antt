@@ -6,7 +6,7 @@ use Rattle.tt_scan_edges.specs.declared.edge.Edge.{Edge}
 use Rattle.tt_arc.specs.declared.point.PlacedPoint.{PlacedPoint}
 use Rattle.tt_arc.specs.declared.rule.ChordRule.{ChordRule}
 use Rattle.tt_fit_outline.specs.Outline.{AreEnds}
-use Rattle.tt_arc.specs.Chords.{contour_edges, contour_start, contour_at}
+use Rattle.tt_arc.specs.Chords.{contour_edges, contour_start, contour_at, outline_edges}
 
 pub slice_of_map : {X : Type 0} (f : X → PlacedPoint) (ps : List X) (a b : ℕ) → slice_range (map f ps) a b
     ≡ map f (slice_range ps a b)
@@ -21,6 +21,9 @@ all_of_slice P ps a b all k d below =
 -- the edges of the contours from contour c on
 abbrev pub edges_from : ChordRule → List PlacedPoint → List ℕ → ℕ → List Edge
 edges_from r ps ends c = flat_map (λ c. contour_edges r (contour_at ps ends c)) (range_with_len c (length ends - c))
+
+pub all_left : (r : ChordRule) (ps : List PlacedPoint) (ends : List ℕ) → edges_from r ps ends 0 ≡ outline_edges r ps ends
+all_left r ps ends = let whole : length ends - 0 ≡ length ends = omega arith in rw whole refl
 
 pub none_left : (r : ChordRule) (ps : List PlacedPoint) (ends : List ℕ) → edges_from r ps ends (length ends) ≡ []
 none_left r ps ends = let none : length ends - length ends ≡ 0 = omega arith in rw none refl

@@ -1,10 +1,9 @@
 -- A statement about 1, 2, 4, 8, 16 and 32 holds for the number of chords of each quadratic.
-use Rattle.std.proofs.Common.{◌≡◌, ◌∙◌, sym, refl, ap, ap₂, ℕ, ◌*◌, ◌/◌, ◌<◌, ◌≤◌, nat_le, max, Bool, true, false, if◌then◌else◌, List, [], ◌∷◌, arith}
-use Rattle.std.specs.Prelude.{Contains, unsigned_abs}
+use Rattle.std.proofs.Common.{◌≡◌, refl, ℕ, ◌*◌, ◌/◌, ◌<◌, ◌≤◌, nat_le, Bool, true, false, if◌then◌else◌, arith}
 use Rattle.tt_arc.specs.declared.quadratic.Quadratic.{Quadratic}
 use Rattle.tt_arc.specs.declared.rule.ChordRule.{ChordRule}
 use Rattle.tt_arc.specs.declared.rule.ChordRule.TheVariants as rule
-use Rattle.tt_arc.specs.Chords.{along_x, along_y, bend_of, chord_count, chords_of_bend, signed_bend}
+use Rattle.tt_arc.specs.Chords.{bend_of, chord_count, chords_of_bend}
 use Rattle.tt_arc.specs.ChordLaws.{IsLeastCount, CountsAreLeast}
 
 if_either : (P : ℕ → Type 0) (t : Bool) (a b : ℕ) → P a → P b → P (if t then a else b)
@@ -22,9 +21,6 @@ by_count P a b c d e f rule.ByBend q = by_bend P a b c d e f (bend_of q)
 
 pub few_chords : (r : ChordRule) (c : Quadratic) → chord_count r c ≤ 32
 few_chords = by_count (λ n. n ≤ 32) (omega arith) (omega arith) (omega arith) (omega arith) (omega arith) (omega arith)
-
-pub some_chord : (r : ChordRule) (c : Quadratic) → 1 ≤ chord_count r c
-some_chord = by_count (λ n. 1 ≤ n) (omega arith) (omega arith) (omega arith) (omega arith) (omega arith) (omega arith)
 
 pub divides : (r : ChordRule) (c : Quadratic) → 32 / chord_count r c * chord_count r c ≡ 32
 divides = by_count (λ n. 32 / n * n ≡ 32) refl refl refl refl refl refl

@@ -1,5 +1,5 @@
 -- The ends of an outline's contours among its edges.
-use Rattle.std.proofs.Common.{◌≡◌, ℕ, suc, ◌+◌, ◌-◌, ◌<◌, ◌≤◌, Bool, ℤ, List, [], ◌∷◌, ◌++◌, length, map, refl, sym, ap, ◌∙◌, arith, append_assoc, append-nil, length-append}
+use Rattle.std.proofs.Common.{◌≡◌, ℕ, suc, ◌+◌, ◌-◌, ◌<◌, ◌≤◌, Bool, ℤ, List, [], ◌∷◌, ◌++◌, length, map, refl, sym, ◌∙◌, arith, append_assoc, append-nil, length-append}
 use Rattle.std.specs.List.{slice_index, slice_range, flat_map, range_with_len}
 use Rattle.std.proofs.lemmas.List.{take_at, drop_at}
 use Rattle.std.proofs.lemmas.List.Folds.{flat_map-map}
@@ -8,7 +8,7 @@ use Rattle.tt_arc.specs.declared.point.PlacedPoint.{PlacedPoint}
 use Rattle.tt_arc.specs.declared.rule.ChordRule.{ChordRule}
 use Rattle.tt_arc.specs.Ends.{ends_from}
 use Rattle.tt_scan.specs.Contours.{contours_from, contours_at, AreEndsFrom, AreEnds}
-use Rattle.tt_arc.specs.Chords.{moved, contour_edges, contour_start, contour_at, chord_edges, chord_contours}
+use Rattle.tt_arc.specs.Chords.{moved, contour_edges, contour_start, contour_at, outline_contours, chord_edges, chord_contours}
 use Rattle.tt_arc.proofs.Contours.{slice_of_map}
 use Rattle.tt_arc.specs.Laws.{ContoursJoined}
 
@@ -20,6 +20,9 @@ joined r points ends dx dy =
 -- the contours from contour i on
 abbrev pub contours_left : ChordRule → List PlacedPoint → List ℕ → ℕ → List (List Edge)
 contours_left r ps ends i = map (λ c. contour_edges r (contour_at ps ends c)) (range_with_len i (length ends - i))
+
+pub all_contours_left : (r : ChordRule) (ps : List PlacedPoint) (ends : List ℕ) → contours_left r ps ends 0 ≡ outline_contours r ps ends
+all_contours_left r ps ends = let whole : length ends - 0 ≡ length ends = omega arith in rw whole refl
 
 none_is_left : (r : ChordRule) (ps : List PlacedPoint) (ends : List ℕ) (i : ℕ) → length ends ≤ i → contours_left r ps ends i ≡ []
 none_is_left r ps ends i all = let none : length ends - i ≡ 0 = omega (arith, all) in rw none refl

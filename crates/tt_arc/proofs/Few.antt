@@ -9,7 +9,7 @@ use Rattle.tt_arc.specs.declared.quadratic.Quadratic.{Quadratic}
 use Rattle.tt_arc.specs.declared.point.PlacedPoint.{PlacedPoint}
 use Rattle.tt_arc.specs.declared.rule.ChordRule.{ChordRule}
 use Rattle.tt_arc.specs.declared.rule.ChordRule.TheVariants as rule
-use Rattle.tt_arc.specs.Chords.{chord_count, chord_end, chords_by, edge_between, first_chords, edges_of, edges_at, contour_chords, joined_by, contour_edges, contour_start, contour_at, chord_edges, chords_counted, moved}
+use Rattle.tt_arc.specs.Chords.{chord_count, chord_end, chords_by, edge_between, first_chords, edges_of, edges_at, contour_chords, joined_by, contour_edges, contour_start, contour_at, chords_of, chord_edges, chords_counted, moved}
 use Rattle.tt_scan_edges.proofs.JoinedKept.{joined_fewer}
 use Rattle.tt_arc.proofs.Contours.{slice_of_map, start_within}
 use Rattle.tt_arc.proofs.Counts.{few_chords}
@@ -32,7 +32,7 @@ few_by : (r : ChordRule) (c : Quadratic) → length (chords_by r c) ≤ 32
 few_by r c = rw (many_chords (chord_count r c) c (chord_count r c)) (few_chords r c)
 
 few_of : (r : ChordRule) (before p after : PlacedPoint) → length (edges_of r before p after) ≤ 32
-unfolding edges_of r
+unfolding edges_of
 few_of r before p after = one_of p.on after.on _ _ (few_by r _)
 
 few_points : (r : ChordRule) (all : List PlacedPoint) (k m : ℕ) → length (flat_map (edges_at r all) (range_with_len k m)) ≤ 32 * m
@@ -53,6 +53,12 @@ few_in_contour r ps = if_any (nat_lt 1 (length ps)) _ (32 * length ps) (few_poin
 -- the chords of the contours from contour c on
 abbrev pub chords_from : ChordRule → List PlacedPoint → List ℕ → ℕ → ℕ
 chords_from r ps ends c = sum_by (λ c. length (contour_chords r (contour_at ps ends c))) (range_with_len c (length ends - c))
+
+pub all_counted : (r : ChordRule) (ps : List PlacedPoint) (ends : List ℕ) → 0 + chords_from r ps ends 0 ≡ chords_of r ps ends
+all_counted r ps ends =
+    let whole : length ends - 0 ≡ length ends = omega arith in
+    let same : chords_from r ps ends 0 ≡ chords_of r ps ends = rw whole refl in
+    omega (arith, same)
 
 few_in_contours : (r : ChordRule) (n : ℕ) (ends : List ℕ) (ps : List PlacedPoint) → AreEnds n ends → (c m : ℕ) → c + m ≡ length ends
     → sum_by (λ c. length (contour_chords r (contour_at ps ends c))) (range_with_len c m) ≤ 32 *

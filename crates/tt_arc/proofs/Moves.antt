@@ -98,7 +98,7 @@ one_of E false next l line cs chords is_line are = are
 
 edges_moved : (r : ChordRule) (d : ℤ) (before p after : PlacedPoint) → edges_of r (point_moved d before) (point_moved d p) (point_moved d after)
     ≡ along d (edges_of r before p after)
-unfolding edges_of r
+unfolding edges_of
 edges_moved r d before p after =
     let line = edge_is d _ _ (edge_end_of p) (edge_end_of after) (edge_end_is d p) (edge_end_is d after) in
     let chords : chords_by r (quadratic_of (point_moved d before) (point_moved d p) (point_moved d after))
@@ -248,7 +248,7 @@ all_exchanged r c = ap (λ n. first_chords n (quadratic_exchanged c) n) (count_e
     ∙ chords_exchanged (chord_count r c) c (chord_count r c)
 
 edges_exchanged : (r : ChordRule) → Changes r exchanged edge_exchanged
-unfolding edges_of r
+unfolding edges_of
 edges_exchanged r before p after =
     let c = quadratic_of before p after in
     let from : curve_end_of (exchanged before) (exchanged p) ≡ curve_end_exchanged c.from = curve_end_exchanged_by

@@ -1,5 +1,5 @@
 -- The places of a quadratic at the ends of its chords, rounded to 1/8192 pixel, and the code's sums for them.
-use Rattle.std.proofs.Common.{◌≡◌, ◌∙◌, sym, refl, ap, ap₂, ℕ, suc, ◌+◌, ◌-◌, ◌*◌, ◌/◌, ◌%◌, ◌^◌, ◌<◌, ◌≤◌, ℤ, pos, negsuc, ◌+ℤ◌, ◌-ℤ◌, ◌*ℤ◌, unsigned_abs, List, [], ◌∷◌, ◌++◌, arith, add-one, append-nil, div-add-mod', mod-lt, mul-le-mul_left}
+use Rattle.std.proofs.Common.{◌≡◌, ◌∙◌, sym, refl, ap, ℕ, ◌+◌, ◌-◌, ◌*◌, ◌/◌, ◌^◌, ◌<◌, ◌≤◌, ℤ, pos, negsuc, ◌+ℤ◌, ◌-ℤ◌, ◌*ℤ◌, unsigned_abs, List, [], ◌∷◌, ◌++◌, arith, add-one, append-nil, div-add-mod', mod-lt, mul-le-mul_left}
 use Rattle.std.specs.Prelude.{◌≤ℤ◌, ◌<ℤ◌}
 use Rattle.std.specs.Int.{int_div_euclid}
 use Rattle.std.proofs.lemmas.Int.{ints}
@@ -11,7 +11,7 @@ use Rattle.tt_arc.specs.declared.quadratic.Differences.{Differences}
 use Rattle.tt_arc.specs.declared.quadratic.EdgeEnd.{EdgeEnd}
 use Rattle.tt_arc.specs.declared.quadratic.Quadratic.{Quadratic}
 use Rattle.tt_arc.specs.declared.rule.ChordRule.{ChordRule}
-use Rattle.tt_arc.specs.Chords.{AreDifferences, CoordinatesFit, EdgeEndFits, QuadraticFits, along_x, along_y, chord_count, chord_end, chord_place, edge_between, first_chords, signed_bend, weighed}
+use Rattle.tt_arc.specs.Chords.{AreDifferences, CoordinatesFit, QuadraticFits, along_x, along_y, chord_count, chord_end, chord_place, edge_between, first_chords, signed_bend, weighed}
 use Rattle.tt_arc.proofs.Counts.{by_count, divides, few_chords}
 use Rattle.tt_arc.proofs.Weights.{bend_within, bent_by, part_within, same_times, second_of, weighed_finer, weighed_within}
 
@@ -87,10 +87,6 @@ among = by_count IsAmong
     (λ k b le. nested_8 (weighed 8 k b) ∙ ap (λ w. nearest_quotient (pos 64 *ℤ w) (pos 1024)) (sym (weighed_finer 4 8 k b le)))
     (λ k b le. nested_16 (weighed 16 k b) ∙ ap (λ w. nearest_quotient (pos 64 *ℤ w) (pos 1024)) (sym (weighed_finer 2 16 k b le)))
     (λ k b le. nested_32 (weighed 32 k b) ∙ ap (λ w. nearest_quotient (pos 64 *ℤ w) (pos 1024)) (sym (weighed_finer 1 32 k b le)))
-
-pub place_among : (r : ChordRule) (c : Quadratic) (k : ℕ) (b : Coordinates) → k ≤ chord_count r c
-    → chord_place (chord_count r c) k b ≡ nearest_quotient (pos 64 *ℤ weighed 32 (32 / chord_count r c * k) b) (pos 1024)
-place_among r c k b le = among r c k b le
 
 pub end_among : (r : ChordRule) (c : Quadratic) (k : ℕ) → k ≤ chord_count r c → chord_end (chord_count r c) c k ≡ record {
   x = nearest_quotient (pos 64 *ℤ weighed 32 (32 / chord_count r c * k) (along_x c)) (pos 1024);

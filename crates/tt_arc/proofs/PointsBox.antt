@@ -1,28 +1,25 @@
 -- The box of an outline's points holds all edges.
-use Rattle.std.proofs.Common.{◌≡◌, ◌∙◌, sym, refl, ap, ap₂, subst, ℕ, zero, suc, ◌+◌, ◌-◌, ◌*◌, ◌<◌, ◌≤◌, Bool, true, false, nat_lt, if◌then◌else◌, ℤ, pos, ◌+ℤ◌, ◌-ℤ◌, ◌*ℤ◌, List, [], ◌∷◌, ◌++◌, length, map, drop, inl, inr, arith}
-use Rattle.std.specs.Prelude.{All, ◌≤ℤ◌, ◌<ℤ◌}
+use Rattle.std.proofs.Common.{◌≡◌, refl, ℕ, zero, suc, ◌+◌, ◌-◌, ◌*◌, ◌<◌, ◌≤◌, Bool, true, false, nat_lt, if◌then◌else◌, ℤ, pos, ◌+ℤ◌, ◌*ℤ◌, List, [], ◌∷◌, length, map, drop, inl, inr, arith}
+use Rattle.std.specs.Prelude.{All, ◌≤ℤ◌}
 use Rattle.std.specs.List.{flat_map, range_with_len, slice_index, slice_range}
-use Rattle.std.specs.Int.{int_max, int_min}
 use Rattle.std.proofs.lemmas.Bool.{cases_Bool, cases_lt}
 use Rattle.std.proofs.lemmas.Int.{clamps, ints}
 use Rattle.std.proofs.lemmas.List.{get_or-take, get_or-drop, length-take, length-drop}
 use Rattle.std.proofs.lemmas.List.Elements.{All-append, All-cons, All-head, All-nil, All-tail}
 use Rattle.tt_core.specs.Numbers.{nearest_quotient}
 use Rattle.tt_core.specs.Products.{mul_assoc_z, mul_mono}
-use Rattle.tt_scan_edges.specs.Joined.{join, joined, joined_from, joins}
+use Rattle.tt_scan_edges.specs.Joined.{join, joined_from, joins}
 use Rattle.tt_scan_edges.specs.declared.edge.Edge.{Edge}
 use Rattle.tt_scan_gaps.specs.Boxes.{EdgeWithin, HoldsEdges}
-use Rattle.tt_scan_gaps.specs.declared.extent.Extent.{Extent}
 use Rattle.tt_scan_gaps.specs.declared.extent.Extents.{Extents}
 use Rattle.tt_arc.specs.declared.point.PlacedPoint.{PlacedPoint}
 use Rattle.tt_arc.specs.declared.quadratic.Coordinates.{Coordinates}
-use Rattle.tt_arc.specs.declared.quadratic.CurveEnd.{CurveEnd}
 use Rattle.tt_arc.specs.declared.quadratic.EdgeEnd.{EdgeEnd}
 use Rattle.tt_arc.specs.declared.quadratic.Quadratic.{Quadratic}
 use Rattle.tt_arc.specs.declared.rule.ChordRule.{ChordRule}
 use Rattle.tt_arc.specs.declared.rule.ChordRule.TheVariants as rule
 use Rattle.tt_arc.specs.Bounds.{BoxHoldsEdges, box_at, box_from, box_of, box_with}
-use Rattle.tt_arc.specs.Chords.{along_x, along_y, chord_count, chord_edges, chord_end, chord_place, chords_by, contour_at, contour_chords, contour_edges, contour_start, curve_end_of, edge_between, edge_end_of, edges_at, edges_of, first_chords, joined_by, moved, number_after, number_before, outline_edges, point_at, quadratic_of, weighed}
+use Rattle.tt_arc.specs.Chords.{along_x, along_y, chord_count, chord_end, chord_place, contour_at, contour_chords, contour_edges, contour_start, curve_end_of, edge_between, edge_end_of, edges_at, edges_of, first_chords, joined_by, moved, number_after, number_before, point_at, quadratic_of, weighed}
 use Rattle.tt_arc.proofs.Counts.{by_count}
 use Rattle.tt_arc.proofs.Places.{near}
 use Rattle.tt_arc.proofs.Weights.{weights}

@@ -146,15 +146,15 @@ quadratic_ends p after false off on =
 
 pub straight : (r : ChordRule) (before p after : PlacedPoint) → p.on ≡ true → after.on ≡ true → edges_of r before p after ≡ edge_between (edge_end_of p)
     (edge_end_of after) ∷ []
-unfolding edges_of r
+unfolding edges_of
 straight r before p after on next = rw (on, next) refl
 
 pub no_edge : (r : ChordRule) (before p after : PlacedPoint) → p.on ≡ true → after.on ≡ false → edges_of r before p after ≡ []
-unfolding edges_of r
+unfolding edges_of
 no_edge r before p after on next = rw (on, next) refl
 
 pub curved : (r : ChordRule) (before p after : PlacedPoint) → p.on ≡ false → edges_of r before p after ≡ chords_by r (quadratic_of before p after)
-unfolding edges_of r
+unfolding edges_of
 curved r before p after off = rw off refl
 
 between : (y a b c d : ℤ) (es fs : List Edge) → es ≡ fs → turns y fs ≡ over y c -ℤ over y d → c ≡ a → d ≡ b → turns y es

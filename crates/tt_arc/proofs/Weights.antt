@@ -1,5 +1,5 @@
 -- The weights of a quadratic's coordinates at k / n: their sum, their second difference, and places by more chords.
-use Rattle.std.proofs.Common.{◌≡◌, ◌∙◌, sym, refl, ap, ℕ, ◌+◌, ◌-◌, ◌*◌, ◌^◌, ◌<◌, ◌≤◌, ℤ, pos, ◌+ℤ◌, ◌-ℤ◌, ◌*ℤ◌, unsigned_abs, arith, mul-le-mul_left}
+use Rattle.std.proofs.Common.{◌≡◌, ◌∙◌, sym, ap, ℕ, ◌+◌, ◌-◌, ◌*◌, ◌^◌, ◌≤◌, ℤ, pos, ◌+ℤ◌, ◌-ℤ◌, ◌*ℤ◌, unsigned_abs, arith, mul-le-mul_left}
 use Rattle.std.proofs.lemmas.Int.{ints, unsigned_abs-mul}
 use Rattle.tt_core.specs.Products.{mul_assoc_z, mul_diff, mul_sum}
 use Rattle.tt_arc.specs.declared.quadratic.Coordinates.{Coordinates}
@@ -65,7 +65,9 @@ finer_by h j k x y z =
 
 pub weighed_finer : (h n k : ℕ) (b : Coordinates) → k ≤ n → weighed (h * n) (h * k) b ≡ pos (h * h) *ℤ weighed n k b
 weighed_finer h n k b le =
-    let less : h * n - h * k ≡ h * (n - k) = omega (arith, mul-le-mul_left h le) in
+    let parts : n ≡ (n - k) + k = omega (arith, le) in
+    let whole : h * n ≡ h * ((n - k) + k) = ap (λ (m : ℕ). h * m) parts in
+    let less : h * n - h * k ≡ h * (n - k) = omega (arith, whole) in
     rw less (finer_by h (n - k) k b.from b.control b.to)
 
 -- the second difference is the same all along

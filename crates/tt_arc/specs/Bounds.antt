@@ -2,7 +2,6 @@
 -- since a quadratic lies in the hull of its points.
 use Rattle.std.specs.Prelude.{◌≡◌, refl, ℕ, Bool, true, false, ℤ, pos, negsuc, ◌+ℤ◌, ◌*ℤ◌, List, [], ◌∷◌, map}
 use Rattle.std.specs.Int.{int_max, int_min}
-use Rattle.tt_scan_edges.specs.declared.edge.Edge.{Edge}
 use Rattle.tt_scan_gaps.specs.Boxes.{HoldsEdges}
 use Rattle.tt_scan_gaps.specs.declared.extent.Extent.{Extent}
 use Rattle.tt_scan_gaps.specs.declared.extent.Extents.{Extents}

@@ -1,10 +1,8 @@
 -- Laws of chords: how many a quadratic has, and where their ends are.
-use Rattle.std.specs.Prelude.{◌≡◌, ℕ, ◌+◌, ◌-◌, ◌*◌, ◌/◌, ◌<◌, ◌≤◌, ℤ, pos, ◌+ℤ◌, ◌-ℤ◌, ◌*ℤ◌, ◌≤ℤ◌, unsigned_abs, Contains, List, [], ◌∷◌}
+use Rattle.std.specs.Prelude.{◌≡◌, ℕ, ◌+◌, ◌-◌, ◌*◌, ◌/◌, ◌<◌, ◌≤◌, ℤ, pos, ◌+ℤ◌, ◌-ℤ◌, ◌*ℤ◌, ◌≤ℤ◌, unsigned_abs, Contains, [], ◌∷◌}
 use Rattle.tt_arc.specs.declared.quadratic.Coordinates.{Coordinates}
 use Rattle.tt_arc.specs.declared.quadratic.CurveEnd.{CurveEnd}
-use Rattle.tt_arc.specs.declared.quadratic.EdgeEnd.{EdgeEnd}
 use Rattle.tt_arc.specs.declared.quadratic.Quadratic.{Quadratic}
-use Rattle.tt_arc.specs.declared.point.PlacedPoint.{PlacedPoint}
 use Rattle.tt_arc.specs.declared.rule.ChordRule.{ChordRule}
 use Rattle.tt_arc.specs.declared.rule.ChordRule.TheVariants as rule
 use Rattle.tt_arc.specs.Chords.{along_x, along_y, bend_of, chord_count, chord_end, chord_place, chords_by, chords_of_bend, signed_bend, weighed}

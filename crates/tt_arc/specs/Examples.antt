@@ -5,7 +5,7 @@ use Rattle.tt_scan_edges.specs.declared.edge.Edge.{Edge}
 use Rattle.tt_arc.specs.declared.quadratic.EdgeEnd.{EdgeEnd}
 use Rattle.tt_arc.specs.declared.quadratic.Quadratic.{Quadratic}
 use Rattle.tt_arc.specs.declared.rule.ChordRule.TheVariants as rule
-use Rattle.tt_arc.specs.Chords.{along_x, along_y, signed_bend, bend_of, chords_of_bend, chord_count, chord_end, first_chords, chords_by, edges_of, chord_edges, chord_contours, chords_counted}
+use Rattle.tt_arc.specs.Chords.{chords_of_bend, chord_count, chord_end, first_chords, chords_by, edges_of, chord_edges, chord_contours, chords_counted}
 
 -- the number of chords at each threshold and past it
 counts_at_the_thresholds : map chords_of_bend (0 ∷ 1 ∷ 2 ∷ 3 ∷ 8 ∷ 9 ∷ 32 ∷ 33 ∷ 128 ∷ 129 ∷ 67108864 ∷ [])

@@ -1,6 +1,6 @@
 //! The edges of a closed contour.
 
-ghost use Rattle.std.specs.Prelude.{◌≡◌, ◌<◌, ◌≤◌, ◌++◌, All, length, map, take, drop, IfOk, OnOk};
+ghost use Rattle.std.specs.Prelude.{◌≡◌, ◌^◌, ◌<◌, ◌≤◌, ◌++◌, All, length, map, take, drop, IfOk, OnOk};
 ghost use Rattle.tt_arc.specs.Chords.{PointFits, IsNear, EdgeEndFits, moved, edge_end_of, number_after, edges_of, contour_chords, joined_by, contour_edges};
 
 use crate::point::{Corner, Offset, PlacedPoint, moved};
@@ -102,6 +102,7 @@ pub(crate) fn push_contour(
     requires { All (IsNear by.dx by.dy) points.now }
     ensures exact { OnOk result (list.new.edges ≡ list.old.edges ++ contour_edges rule (map (moved by.dx by.dy) points.now)) }
     ensures counted { IfOk result (λ n. n ≡ length (contour_chords rule (map (moved by.dx by.dy) points.now))) }
+    ensures small { IfOk result (λ n. n < 2 ^ 63) }
 {
     let start = list.len();
     push_contour_chords(list, points, by, rule)?;

@@ -9,10 +9,10 @@
 //!    a               b
 //! ```
 //!
-//! There are 1, 2, 4, 8, 16 or 32 chords. So each of their ends is one of 33 places of the curve. Along an axis these
-//! places are values of a polynomial of degree 2, which are whole in 1/131072 pixel, and are rounded to 1/8192 pixel.
-//! Each value follows from the preceding one by sums alone: by its first difference, and by the second difference, which
-//! is constant (`Differences`).
+//! There are 1, 2, 4, 8, 16 or 32 chords. So each end of a chord is one of 33 places of the curve. Along an axis these
+//! places are values of a polynomial of degree 2. The values are whole in 1/131072 pixel, and are rounded to 1/8192 pixel.
+//! Each value follows from the preceding one by sums alone. The sums take its first difference, and the second
+//! difference, which is constant (`Differences`).
 
 ghost use Rattle.std.specs.Prelude.{◌≡◌, ◌+◌, ◌*◌, ◌^◌, ◌<◌, ◌≤◌, ◌++◌, pos, ◌+ℤ◌, ◌-ℤ◌, ◌*ℤ◌, unsigned_abs, OnOk};
 ghost use Rattle.tt_core.specs.Numbers.{nearest_quotient};

@@ -1,15 +1,15 @@
 -- Joined edges blacken what the edges blacken, and meet the rows that the edges meet. They fit, and are no more.
-use Rattle.std.proofs.Common.{◌≡◌, ◌∙◌, sym, refl, ap, ap₂, ℕ, suc, ◌+◌, ◌<◌, ◌≤◌, Bool, true, false, ◌||◌, not, if◌then◌else◌, List, [], ◌∷◌, length, map, inl, inr, sum_by, arith}
-use Rattle.std.specs.Prelude.{All, ℤ, pos, ◌+ℤ◌, ◌-ℤ◌, ◌*ℤ◌}
+use Rattle.std.proofs.Common.{◌≡◌, ◌∙◌, sym, refl, ap, ap₂, ℕ, suc, ◌+◌, ◌≤◌, Bool, true, false, ◌||◌, not, if◌then◌else◌, List, [], ◌∷◌, length, inl, inr, sum_by, arith}
+use Rattle.std.specs.Prelude.{All, ℤ, pos, ◌+ℤ◌, ◌-ℤ◌}
 use Rattle.std.specs.List.{range_with_len}
 use Rattle.std.proofs.lemmas.Bool.{cases_Bool}
 use Rattle.std.proofs.lemmas.Int.{ints}
 use Rattle.std.proofs.lemmas.List.Sums.{sum_by-cons}
-use Rattle.std.proofs.lemmas.List.Elements.{All-cons, All-head, All-nil, All-tail}
+use Rattle.std.proofs.lemmas.List.Elements.{All-cons, All-head, All-tail}
 use Rattle.tt_scan_edges.specs.declared.edge.Edge.{Edge}
 use Rattle.tt_scan_edges.specs.declared.edge.Frame.{Frame}
 use Rattle.tt_scan_edges.specs.Joined.{join, joined, joined_from, joins, line_at}
-use Rattle.tt_scan_edges.specs.Winding.{EdgeFits, crossings_of, is_between, is_black, is_zero, lies_on, lies_on_one, row_y, rows_met, turned, winding}
+use Rattle.tt_scan_edges.specs.Winding.{EdgeFits, is_between, is_zero, lies_on, lies_on_one, row_y, rows_met, turned, winding}
 use Rattle.tt_scan_edges.specs.Laws.{JoinedBlackenAlike, JoinedMeetAlike, JoinedCrossAlike}
 use Rattle.tt_scan_edges.proofs.Joins.{folded, folded_joined, not_on, not_turned, off_rows}
 

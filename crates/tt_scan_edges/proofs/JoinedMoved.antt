@@ -1,12 +1,12 @@
 -- Edges moved by whole pixels, or with x and y exchanged, are joined alike.
-use Rattle.std.proofs.Common.{◌≡◌, ◌∙◌, sym, refl, ap, ap₂, Bool, true, false, ◌&&◌, not, List, [], ◌∷◌, map, inl, inr, arith}
-use Rattle.std.specs.Prelude.{ℤ, pos, negsuc, ◌+ℤ◌, ◌-ℤ◌, ◌*ℤ◌, ◌≤ℤ◌, ◌<ℤ◌, int_le}
-use Rattle.std.specs.Int.{int_div_euclid, int_rem_euclid}
+use Rattle.std.proofs.Common.{◌≡◌, ◌∙◌, refl, ap, ap₂, ◌&&◌, not, List, [], ◌∷◌, map, inl, inr, arith}
+use Rattle.std.specs.Prelude.{ℤ, pos, ◌+ℤ◌, ◌-ℤ◌, ◌*ℤ◌}
+use Rattle.std.specs.Int.{int_rem_euclid}
 use Rattle.std.specs.Ordering.{int_eq}
 use Rattle.std.proofs.lemmas.Bool.{cases_Bool}
 use Rattle.std.proofs.lemmas.Int.{ints}
 use Rattle.tt_scan_edges.specs.declared.edge.Edge.{Edge}
-use Rattle.tt_scan_edges.specs.Joined.{goes_on, is_clear, join, joined, joined_from, joins, leads_to, lies_on_line, line_below, meets_none}
+use Rattle.tt_scan_edges.specs.Joined.{join, joined, joined_from, joins, lies_on_line, line_below, meets_none}
 use Rattle.tt_scan_edges.specs.Winding.{is_between, moved_edge}
 use Rattle.tt_scan_edges.proofs.Joins.{parts, rest_high, rest_low}
 use Rattle.tt_scan_edges.proofs.Ranges.{and_turned}

@@ -10,13 +10,6 @@ use Rattle.tt_scan_edges.specs.declared.edge.Edge.{Edge}
 use Rattle.tt_scan_edges.specs.Joined.{goes_on, is_clear, join, joined, joined_from, joins, leads_to, lies_on_line, line_at, line_below, meets_none}
 use Rattle.tt_scan_edges.specs.Winding.{is_between, is_zero, lies_on, side, turned}
 
--- a conjunction of three by its last part, and by its second
-pub last_decides : (a b y r : Bool) → a ≡ true → b ≡ true → r ≡ y → r ≡ (a && (b && y))
-last_decides a b y r is_a is_b is = rw (is_a, is_b) is
-
-pub second_decides : (a b y r : Bool) → a ≡ true → b ≡ false → r ≡ b → r ≡ (a && (b && y))
-second_decides a b y r is_a is_b is = rw (is_a, is_b) (is ∙ is_b)
-
 next_joined : (e f : Edge) (fs : List Edge) → joins e f ≡ true → joined_from e (f ∷ fs) ≡ joined_from (join e f) fs
 next_joined e f fs is = rw is refl
 
@@ -183,7 +176,7 @@ first_part a b c z middle out = grind (arith, ints)
 second_part : (a b c z : ℤ) → is_between a c b ≡ true → is_between a c z ≡ false → is_between b c z ≡ false
 second_part a b c z middle out = grind (arith, ints)
 
--- the three ranges of a joint along y, and along x, without the line
+-- the three ranges of a joint along y, without the line
 pub record AreOff (a b c d z : ℤ) : Type 0 where
   pub first : is_between a b z ≡ false
   pub second : is_between c d z ≡ false
@@ -196,9 +189,6 @@ off_by a b c d k same clear middle =
 
 pub off_rows : (e f : Edge) (k : ℤ) → joins e f ≡ true → AreOff e.ay e.by f.ay f.by (line_at k)
 off_rows e f k is = let j = joint e f is in off_by e.ay e.by f.ay f.by k j.same_y j.up j.between_y
-
-pub off_columns : (e f : Edge) (k : ℤ) → joins e f ≡ true → AreOff e.ax e.bx f.ax f.bx (line_at k)
-off_columns e f k is = let j = joint e f is in off_by e.ax e.bx f.ax f.bx k j.same_x j.across j.between_x
 
 -- an edge out of reach of a height adds nothing there
 pub not_on : (e : Edge) (x y : ℤ) → is_between e.ay e.by y ≡ false → lies_on e x y ≡ false

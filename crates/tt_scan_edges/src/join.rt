@@ -1,9 +1,11 @@
-//! Joining the edges of a contour that meet no line. Most of a curve's chords are short and meet none, so a glyph has
-//! far fewer edges afterwards. What is black and where edges cross lines is as before.
+//! Joining the edges of a contour that meet no line. Most chords of a curve are short and meet no line, so far fewer
+//! edges are left. The black places at the heights of lines remain, and so do the crossings of lines.
 
-ghost use Rattle.std.specs.Prelude.{◌≡◌, ◌+◌, ◌<◌, ◌≤◌, ◌++◌, ◌&&◌, true, false, int_le, length, take, drop, slice_set};
+ghost use Rattle.std.specs.Prelude.{◌≡◌, ◌+◌, ◌<◌, ◌≤◌, ◌++◌, true, false, length, take, drop, slice_set};
+ghost use Rattle.tt_scan_edges.specs.Winding.{is_between};
 ghost use Rattle.tt_scan_edges.specs.Joined.{goes_on, is_clear, join, joined, joins, leads_to, lies_on_line, line_below, meets_none};
 
+use crate::crossing::is_between;
 use crate::edge::Edge;
 use crate::quotient::{HALF, PIXEL};
 
@@ -60,36 +62,12 @@ fn join(edge: Edge, next: Edge) -> Edge
     }
 }
 
-/// Whether x rises from an edge's start to its end and on to the next edge's end.
+/// Whether a place along an axis lies between two others, both included.
 #[inline(always)]
-fn goes_right(edge: Edge, next: Edge) -> bool
-    ensures { result ≡ (int_le edge.ax edge.bx && int_le edge.bx next.bx) }
+fn lies_between(a: i32, b: i32, z: i32) -> bool
+    ensures { result ≡ is_between a b z }
 {
-    edge.ax <= edge.bx && edge.bx <= next.bx
-}
-
-/// Whether x falls so.
-#[inline(always)]
-fn goes_left(edge: Edge, next: Edge) -> bool
-    ensures { result ≡ (int_le next.bx edge.bx && int_le edge.bx edge.ax) }
-{
-    next.bx <= edge.bx && edge.bx <= edge.ax
-}
-
-/// Whether y rises so.
-#[inline(always)]
-fn goes_up(edge: Edge, next: Edge) -> bool
-    ensures { result ≡ (int_le edge.ay edge.by && int_le edge.by next.by) }
-{
-    edge.ay <= edge.by && edge.by <= next.by
-}
-
-/// Whether y falls so.
-#[inline(always)]
-fn goes_down(edge: Edge, next: Edge) -> bool
-    ensures { result ≡ (int_le next.by edge.by && int_le edge.by edge.ay) }
-{
-    next.by <= edge.by && edge.by <= edge.ay
+    is_between(i64::from(a), i64::from(b), i64::from(z))
 }
 
 /// Whether x and y of an edge's end lie between those of its start and those of the next edge's end.
@@ -97,8 +75,7 @@ fn goes_down(edge: Edge, next: Edge) -> bool
 fn goes_on(edge: Edge, next: Edge) -> bool
     ensures { result ≡ goes_on edge next }
 {
-    (goes_right(edge, next) || goes_left(edge, next))
-        && (goes_up(edge, next) || goes_down(edge, next))
+    lies_between(edge.ax, next.bx, edge.bx) && lies_between(edge.ay, next.by, edge.by)
 }
 
 /// Whether an edge and the next are joined.
@@ -138,7 +115,7 @@ fn with_next(edges: &mut [Edge], so_far: SoFar, next: Edge) -> SoFar
     }
 }
 
-/// Joins the edges from edge `start` on, and moves them up. Returns how many edges there are then; those after them are
+/// Joins the edges from edge `start` on, and moves them up. Returns the number of edges then. The edges behind these are
 /// left over.
 pub(crate) fn join_all(edges: &mut [Edge], start: usize) -> usize
     requires { start ≤ length edges.old }

@@ -13,7 +13,7 @@ pub returns-clause-exact : goal.returns-clause-exact
 returns-clause-exact c =
     let dx : SFits w64 c.args.dx = c.ranges.dx in
     let dy : SFits w64 c.args.dy = c.ranges.dy in
-    let made = simp to_z-of_z at c.in_ok-edges.ensures.exact in
+    let made = simp to_z-of_z at c.in_ok-list.ensures.exact in
     rw made at c.in_ok-tape.ensures
 
 pub returns-clause-few : goal.returns-clause-few

@@ -1,7 +1,5 @@
-use Rattle.std.proofs.Common.{◌≡◌, true, SFits, w64, refl, length, arith}
+use Rattle.std.proofs.Common.{SFits, w64, refl}
 use Rattle.std.proofs.lemmas.Int.{to_z-of_z}
-use Rattle.tt_arc.specs.Chords.{chord_contours, chord_edges}
-use Rattle.tt_arc.specs.Ends.{ends_from}
 use Rattle.tt_arc.proofs.EndsOfContours.{cut_at_ends, ends_are}
 use Rattle.tt_arc.proofs.Few.{few_counted, fewer_edges}
 use Rattle.tt_arc.proofs.outline.edges.Goals as goal

@@ -1,9 +1,10 @@
-use Rattle.std.proofs.Common.{◌≡◌, ◌+◌, ◌^◌, ◌<◌, ◌≤◌, ◌++◌, true, if◌then◌else◌, ◌∷◌, [], length, map, Fits, w32, refl, sym, ap, ◌∙◌, rules, arith, add-one}
-use Rattle.std.specs.List.{slice_index, slice_range}
+use Rattle.std.proofs.Common.{◌≤◌, length, map, Fits, w32, refl, sym, ap, ◌∙◌, rules, arith, add-one}
+use Rattle.std.specs.List.{slice_index}
 use Rattle.tt_arc.specs.Chords.{IsNear, contour_chords, moved}
-use Rattle.tt_arc.proofs.Contours.{all_of_slice, one_contour_more, slice_of_map, start_within}
-use Rattle.tt_arc.proofs.EndsOfContours.{all_ended, one_end_more}
-use Rattle.tt_arc.proofs.Few.{counted_within, one_counted_more}
+use Rattle.tt_arc.specs.Ends.{ends_from}
+use Rattle.tt_arc.proofs.Contours.{all_left, all_of_slice, one_contour_more, slice_of_map, start_within}
+use Rattle.tt_arc.proofs.EndsOfContours.{all_contours_left, all_ended, one_end_more}
+use Rattle.tt_arc.proofs.Few.{all_counted, counted_within, one_counted_more}
 use Rattle.tt_arc.proofs.outline.push_contours.Goals as goal
 
 pub slice_bounds-push_one-count : goal.slice_bounds-push_one-count
@@ -23,14 +24,18 @@ pub push_one-requires-clause-few : goal.push_one-requires-clause-few
 push_one-requires-clause-few c = omega (arith, c.loop-end.invariant.few, c.loop-end.invariant.small)
 
 pub loop-end-init : goal.loop-end-init
-loop-end-init c = record {
-  walked = rw c.requires.edges refl;
-  ends = λ with. rw (c.requires.edges, c.requires.none) refl;
-  counted = rw c.requires.zero (omega arith);
-  few = rw c.requires.zero (omega arith);
-  small = omega arith;
-  from = refl;
-}
+loop-end-init c =
+    let ps = map (moved c.args.by.dx c.args.by.dy) c.args.points.now in
+    let ends = c.args.ends.now in
+    record {
+      walked = rw c.requires.edges (all_left c.args.rule ps ends);
+      ends = λ with. rw (c.requires.edges, c.requires.none)
+          (ap (λ ess. ends_from 0 ess) (all_contours_left c.args.rule ps ends));
+      counted = rw c.requires.zero (all_counted c.args.rule ps ends);
+      few = rw c.requires.zero (omega arith);
+      small = omega arith;
+      from = refl;
+    }
 
 pub loop-end-preserved : goal.loop-end-preserved
 loop-end-preserved c =

@@ -1,7 +1,6 @@
-use Rattle.std.proofs.Common.{◌≡◌, ℕ, ◌+◌, ◌/◌, ◌<◌, ◌≤◌, refl, sym, ap, ◌∙◌, arith, length-append}
+use Rattle.std.proofs.Common.{◌+◌, ◌/◌, ◌<◌, refl, arith, length-append}
 use Rattle.tt_arc.specs.Chords.{AreDifferences, along_x, along_y, chord_count}
-use Rattle.tt_arc.proofs.Counts.{some_chord}
-use Rattle.tt_arc.proofs.Places.{coordinates_x, coordinates_y, end_is, first_ok, next_ok, no_chord, room, second_ok, step_few, value_ok, value_within}
+use Rattle.tt_arc.proofs.Places.{coordinates_x, coordinates_y, end_is, first_ok, next_ok, no_chord, room, second_ok, value_ok, value_within}
 use Rattle.tt_arc.proofs.Walks.{one_chord_pushed}
 use Rattle.tt_arc.proofs.quadratic.push_chords.Goals as goal
 

@@ -1,4 +1,4 @@
-use Rattle.std.proofs.Common.{◌≡◌, ◌≤◌, ◌^◌, ℤ, pos, ◌*ℤ◌, unsigned_abs, SFits, w64, refl, rules, arith}
+use Rattle.std.proofs.Common.{◌≤◌, ◌^◌, ◌*ℤ◌, unsigned_abs, SFits, w64, refl, rules, arith}
 use Rattle.std.proofs.lemmas.Int.{fits_signed_mul, to_z-of_z}
 use Rattle.tt_arc.proofs.Weights.{part_within}
 use Rattle.tt_arc.proofs.quadratic.times.Goals as goal

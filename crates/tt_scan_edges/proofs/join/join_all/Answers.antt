@@ -1,4 +1,4 @@
-use Rattle.std.proofs.Common.{◌≡◌, ◌∙◌, ◌+◌, ◌<◌, true, false, length, get_or, pos, inl, inr, refl, arith, length-set}
+use Rattle.std.proofs.Common.{◌∙◌, ◌<◌, length, get_or, pos, inl, inr, refl, arith, length-set}
 use Rattle.std.proofs.lemmas.Bool.{cases_Bool}
 use Rattle.tt_scan_edges.specs.Joined.{joins}
 use Rattle.tt_scan_edges.specs.declared.edge.Edge.{Edge}
@@ -9,7 +9,7 @@ pub loop-i-init : goal.loop-i-init
 loop-i-init c =
     let blank : Edge = record { ax = pos 0; ay = pos 0; bx = pos 0; by = pos 0 } in
     record {
-      joined = begun c.args.edges.now c.args.start blank (omega (arith, c.requires, c.if-start-eq-edges.false));
+      joined = begun c.args.edges.now c.args.start blank (omega (arith, c.requires, c.if-start-edges.false));
       below = omega arith;
       len = refl;
     }

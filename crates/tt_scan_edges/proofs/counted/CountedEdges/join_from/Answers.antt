@@ -1,4 +1,4 @@
-use Rattle.std.proofs.Common.{◌≡◌, ◌∙◌, ◌++◌, All, take, drop, length, arith}
+use Rattle.std.proofs.Common.{◌≡◌, ◌∙◌, All, take, drop, length, arith}
 use Rattle.std.proofs.lemmas.List.Elements.{All-append, All-drop, All-take}
 use Rattle.tt_scan_edges.specs.Joined.{joined}
 use Rattle.tt_scan_edges.specs.Winding.{EdgeFits}
