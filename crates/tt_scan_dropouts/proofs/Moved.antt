@@ -1,5 +1,5 @@
 -- Dropouts move with their outline.
-use Rattle.std.proofs.Common.{◌≡◌, refl, sym, ◌∙◌, ap, ap₂, Bool, true, false, not, ◌&&◌, ◌||◌, List, [], ◌∷◌, ◌++◌, arith}
+use Rattle.std.proofs.Common.{◌≡◌, refl, sym, ◌∙◌, ap, ap₂, Bool, not, ◌&&◌, ◌||◌, List, [], ◌∷◌, ◌++◌, arith}
 use Rattle.std.specs.Prelude.{ℤ, pos, ◌+ℤ◌, ◌*ℤ◌, map}
 use Rattle.std.proofs.lemmas.Int.{ints}
 use Rattle.std.proofs.lemmas.List.{map-append}
@@ -15,7 +15,7 @@ use Rattle.tt_scan_gaps.specs.Walk.{marks}
 use Rattle.tt_scan_dropouts.specs.declared.boxed.BoxedRules.{BoxedRules}
 use Rattle.tt_scan_dropouts.proofs.MovedGaps.{IsMoved, added_moved, between_moved, up_to_moved}
 use Rattle.tt_scan_dropouts.proofs.MovedLines.{apart_moved, centre_moved, less_moved}
-use Rattle.tt_scan_dropouts.proofs.MovedMarks.{mark_moved, marks_moved}
+use Rattle.tt_scan_dropouts.proofs.MovedMarks.{marks_moved}
 
 -- blackness by rules 1 and 2
 

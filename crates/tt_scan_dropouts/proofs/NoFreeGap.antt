@@ -11,6 +11,7 @@ use Rattle.std.proofs.lemmas.Int.{ints}
 use Rattle.tt_scan.specs.Contours.{AreEnds, contours_at}
 use Rattle.tt_scan_edges.specs.declared.edge.Edge.{Edge}
 use Rattle.tt_scan_gaps.specs.Crossings.{crossing, crossings, is_on_line, line_crossed, line_from, lines_crossed, meets_line, touches}
+use Rattle.tt_scan_dropouts.specs.Dropouts.{edges_of}
 use Rattle.tt_scan_gaps.specs.Gaps.{asked, free_marks, is_added, is_free}
 use Rattle.tt_scan_gaps.specs.Walk.{contour_marks, edge_marks, is_in_free_gap, mark_of, marks, marks_of_step, some_in_free_gap, step_marks, steps_of, walk}
 use Rattle.tt_scan_gaps.specs.declared.mark.Columns.{Columns}

@@ -1,6 +1,6 @@
 -- The two passes together: the pixels that they add in a window are the dropouts there, if the black pixels up to two
 -- pixels round the window are known.
-use Rattle.std.proofs.Common.{◌≡◌, refl, sym, ap, ap₂, ◌∙◌, ℕ, Bool, true, false, ◌&&◌, ◌||◌, List, arith}
+use Rattle.std.proofs.Common.{◌≡◌, refl, sym, ap, ap₂, ◌∙◌, Bool, true, false, ◌&&◌, ◌||◌, List, arith}
 use Rattle.std.specs.Prelude.{ℤ, pos, ◌+ℤ◌, ◌-ℤ◌, ◌≤ℤ◌, ◌<ℤ◌, int_le, int_lt}
 use Rattle.std.proofs.lemmas.Int.{ints}
 use Rattle.tt_scan_edges.specs.declared.edge.Edge.{Edge}
@@ -18,13 +18,13 @@ use Rattle.tt_scan_dropouts.proofs.FreeMarks.{added_kept}
 use Rattle.tt_scan_dropouts.proofs.Locality.{added_alike}
 
 -- a pass by the sorted marks in free gaps adds the pixels that a pass by all marks adds
-pub pass_adds : (rules : Rules) (b : Columns) (contours : List (List Edge)) (black adds : ℤ → ℤ → Bool) (free sorted : List Mark)
+pub free_marks_add : (rules : Rules) (b : Columns) (contours : List (List Edge)) (black adds : ℤ → ℤ → Bool) (free sorted : List Mark)
     → free ≡ free_marks black (marks rules.stubs contours)
     → ((rules : Rules) (b : Columns) (black : ℤ → ℤ → Bool) (p j : ℤ)
     → is_added rules b sorted black p j ≡ is_added rules b free black p j)
     → ((p j : ℤ) → adds p j ≡ is_added rules b sorted black p j)
     → (p j : ℤ) → adds p j ≡ is_added rules b (marks rules.stubs contours) black p j
-pass_adds rules b contours black adds free sorted is same by p j =
+free_marks_add rules b contours black adds free sorted is same by p j =
     by p j ∙ same rules b black p j ∙ ap (λ ms. is_added rules b ms black p j) is
     ∙ added_kept rules b black (marks rules.stubs contours) p j
 

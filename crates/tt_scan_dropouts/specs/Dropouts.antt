@@ -10,6 +10,8 @@ use Rattle.tt_scan_gaps.specs.Boxes.{columns_in, extents_turned}
 use Rattle.tt_scan_gaps.specs.Gaps.{is_added}
 use Rattle.tt_scan_gaps.specs.Seen.{turned_round}
 use Rattle.tt_scan_gaps.specs.Walk.{marks}
+use Rattle.tt_scan_gaps.specs.declared.mark.Columns.{Columns}
+use Rattle.tt_scan_gaps.specs.declared.mark.Rules.{Rules}
 use Rattle.tt_scan_dropouts.specs.declared.boxed.BoxedRules.{BoxedRules}
 
 -- x and y exchanged
@@ -24,10 +26,13 @@ edges_of contours = flat_map (λ es. es) contours
 abbrev pub rules_turned : BoxedRules → BoxedRules
 rules_turned rules = record { rules = rules.rules; extents = extents_turned rules.extents }
 
--- the pass over an outline's rows adds a pixel, by the pixels that are black before
+-- a pass over an outline's rows adds a pixel, by the columns of a box and the pixels that are black before
+abbrev pub pass_adds : Rules → Columns → List (List Edge) → (ℤ → ℤ → Bool) → ℤ → ℤ → Bool
+pass_adds rules columns contours black c j = is_added rules columns (marks rules.stubs contours) black c j
+
+-- the columns are those of the glyph's box
 abbrev pub row_adds : BoxedRules → List (List Edge) → (ℤ → ℤ → Bool) → ℤ → ℤ → Bool
-row_adds rules contours black c j =
-    is_added rules.rules (columns_in rules.extents) (marks rules.rules.stubs contours) black c j
+row_adds rules contours black c j = pass_adds rules.rules (columns_in rules.extents) contours black c j
 
 -- black by rules 1 and 2
 abbrev pub is_inked : List (List Edge) → ℤ → ℤ → Bool

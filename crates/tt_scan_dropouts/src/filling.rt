@@ -7,11 +7,10 @@ ghost use Rattle.std.specs.Ordering.{int_eq};
 ghost use Rattle.tt_scan.specs.Contours.{IsClosed, contours_at};
 ghost use Rattle.tt_scan_edges.specs.Winding.{EdgeFits};
 ghost use Rattle.tt_scan_gaps.specs.Seen.{seen_by, turned_round};
-ghost use Rattle.tt_scan_dropouts.specs.Dropouts.{is_dropout};
-ghost use Rattle.tt_scan_gaps.specs.Gaps.{is_added};
+ghost use Rattle.tt_scan_dropouts.specs.Dropouts.{is_dropout, pass_adds};
 ghost use Rattle.tt_scan_dropouts.specs.Passes.{has_pixel};
 ghost use Rattle.tt_scan_dropouts.specs.Seen.{is_black_to};
-ghost use Rattle.tt_scan_gaps.specs.Walk.{is_in_free_gap, marks};
+ghost use Rattle.tt_scan_gaps.specs.Walk.{is_in_free_gap};
 ghost use Rattle.tt_scan_dropouts.specs.Windows.{WindowFits, has, has_pixel_by, is_black_by, widened};
 ghost use Rattle.tt_scan_gaps.specs.declared.seen.Over.TheVariants as over;
 
@@ -45,8 +44,8 @@ fn pass_over(
     columns: Columns,
     contours: Contours,
 ) -> Result<Vec<Pixel>, AllocError>
-    ensures { IfOk result (λ v. (p j : ℤ) → has_pixel v.items p j ≡ is_added pass.entry.rules columns
-        (marks pass.entry.rules.stubs (contours_at contours.entry.edges.now contours.entry.ends.now)) (is_black_to pass.entry) p j) }
+    ensures { IfOk result (λ v. (p j : ℤ) → has_pixel v.items p j ≡ pass_adds pass.entry.rules columns
+        (contours_at contours.entry.edges.now contours.entry.ends.now) (is_black_to pass.entry) p j) }
 {
     let mut marks = free_marks(alloc, pass, contours)?;
     sort_marks(&mut marks);
@@ -101,8 +100,8 @@ fn added(
 ) -> Result<Vec<Pixel>, AllocError>
     requires { some ≡ false → list_any (is_in_free_gap pass.rules.stubs (is_black_to pass))
         contours.edges.now ≡ false }
-    ensures { IfOk result (λ v. (p j : ℤ) → has_pixel v.items p j ≡ is_added pass.entry.rules columns
-        (marks pass.entry.rules.stubs (contours_at contours.entry.edges.now contours.entry.ends.now)) (is_black_to pass.entry) p j) }
+    ensures { IfOk result (λ v. (p j : ℤ) → has_pixel v.items p j ≡ pass_adds pass.entry.rules columns
+        (contours_at contours.entry.edges.now contours.entry.ends.now) (is_black_to pass.entry) p j) }
 {
     if !some {
         return Ok(Vec::new(alloc));
@@ -120,8 +119,8 @@ fn added_turned(
 ) -> Result<Vec<Pixel>, AllocError>
     requires { some ≡ false → list_any (is_in_free_gap pass.rules.stubs (is_black_to pass))
         (map turned_round contours.edges.now) ≡ false }
-    ensures { IfOk result (λ v. (p j : ℤ) → has_pixel v.items p j ≡ is_added pass.entry.rules columns
-        (marks pass.entry.rules.stubs (contours_at (map turned_round contours.entry.edges.now) contours.entry.ends.now)) (is_black_to pass.entry) p j) }
+    ensures { IfOk result (λ v. (p j : ℤ) → has_pixel v.items p j ≡ pass_adds pass.entry.rules columns
+        (contours_at (map turned_round contours.entry.edges.now) contours.entry.ends.now) (is_black_to pass.entry) p j) }
 {
     if !some {
         return Ok(Vec::new(alloc));

@@ -1,17 +1,17 @@
 -- Edges that are joined cross and touch no line, and reach no further.
-use Rattle.std.proofs.Common.{◌≡◌, ◌∙◌, sym, refl, ap, ap₂, ℕ, Bool, true, false, List, [], ◌∷◌, ◌++◌, map, inl, inr, arith}
-use Rattle.std.specs.Prelude.{◌≢◌, ℤ, pos, negsuc, int_lt, unsigned_abs, ◌+ℤ◌, ◌-ℤ◌, ◌*ℤ◌, ◌≤ℤ◌, ◌<ℤ◌}
+use Rattle.std.proofs.Common.{◌≡◌, ◌∙◌, sym, refl, ap, ap₂, true, List, [], ◌∷◌, ◌++◌, map, inl, inr, arith}
+use Rattle.std.specs.Prelude.{◌≢◌, ℤ, pos, negsuc, int_lt, ◌+ℤ◌, ◌-ℤ◌, ◌*ℤ◌, ◌≤ℤ◌, ◌<ℤ◌}
 use Rattle.std.specs.List.{flat_map, range_with_len}
 use Rattle.std.specs.Int.{int_div_euclid, int_max, int_min, int_rem_euclid}
 use Rattle.std.proofs.lemmas.Bool.{cases_Bool}
 use Rattle.std.proofs.lemmas.Int.{by_lt_z, clamps, ints}
 use Rattle.tt_scan_edges.specs.declared.edge.Edge.{Edge}
-use Rattle.tt_scan_edges.specs.Joined.{join, joined, joined_from, joins, line_below, meets_none}
+use Rattle.tt_scan_edges.specs.Joined.{join, joined, joined_from, joins, line_below}
 use Rattle.tt_scan_edges.specs.Winding.{is_between}
-use Rattle.tt_scan_edges.proofs.Joins.{AreBeside, beside, folded, folded_joined, joint}
+use Rattle.tt_scan_edges.proofs.Joins.{beside, folded, folded_joined, joint}
 use Rattle.tt_scan_edges.proofs.JoinedMoved.{joined_exchanged}
 use Rattle.tt_scan_gaps.specs.Boxes.{greatest_x, least_x}
-use Rattle.tt_scan_gaps.specs.Crossings.{crossing, crossings, line_crossed, line_from, lines_crossed, touches, upward}
+use Rattle.tt_scan_gaps.specs.Crossings.{crossing, crossings, line_crossed, line_from, lines_crossed, touches}
 use Rattle.tt_scan_gaps.specs.Laws.{JoinedCrossAlike, JoinedMarkAlike, JoinedReachAlike, JoinedTouchAlike, JoinedTurnAlike}
 use Rattle.tt_scan_gaps.specs.declared.mark.Crossing.{Crossing}
 use Rattle.tt_scan_gaps.specs.declared.mark.Mark.{Mark}

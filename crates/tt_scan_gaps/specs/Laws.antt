@@ -1,6 +1,6 @@
 -- Lemmas about the definitions: edges that are joined cross and touch the lines that they did, at the same places.
-use Rattle.std.specs.Prelude.{◌≡◌, true, Bool, ℤ, List, map}
-use Rattle.std.specs.List.{flat_map, list_any}
+use Rattle.std.specs.Prelude.{◌≡◌, true, ℤ, List, map}
+use Rattle.std.specs.List.{flat_map}
 use Rattle.tt_scan_edges.specs.declared.edge.Edge.{Edge}
 use Rattle.tt_scan_edges.specs.Joined.{joined}
 use Rattle.tt_scan_gaps.specs.Boxes.{greatest_x, least_x}

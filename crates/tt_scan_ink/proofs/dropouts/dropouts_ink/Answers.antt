@@ -1,11 +1,11 @@
-use Rattle.std.proofs.Common.{◌≡◌, ◌×◌, refl, false, Bool, ℤ}
+use Rattle.std.proofs.Common.{◌≡◌, refl, false, Bool, ℤ}
 use Rattle.std.specs.Prelude.{IfSome}
 use Rattle.std.proofs.lemmas.Result.{IfOk-weaker}
 use Rattle.tt_scan.specs.Contours.{contours_at}
 use Rattle.tt_scan_gaps.specs.Boxes.{columns_in, rows_in}
 use Rattle.tt_scan_dropouts.specs.Dropouts.{is_dropout}
 use Rattle.tt_scan_ink.specs.Ink.{count_of, dropouts_ink, ink_in}
-use Rattle.tt_scan_ink.specs.Least.{AreNear, IsInk, IsNear, shown}
+use Rattle.tt_scan_ink.specs.Least.{IsInk, IsNear, shown}
 use Rattle.tt_scan_ink.proofs.Near.{box_near}
 use Rattle.tt_scan_ink.proofs.NearInk.{dropouts_near}
 use Rattle.tt_scan_ink.proofs.Regions.{found_is, none_is}
