@@ -177,19 +177,26 @@ def why_wrong(font, kind, answer, tables=None):
     return "has a status or a line that cannot come here"
 
 
+# What an answer says of a coordinate past the limit.
+FAR = ": 23 CoordRange"
+
+
 def is_size(answer):
     """Tells whether an answer is the refusal of a picture's size."""
     return bool(re.search(r"tt_render: 6[23] ", answer))
 
 
-def is_by_steps(best, full):
-    """Tells whether best may answer so beside full, where no program is refused. Its picture may be as wide as the
-    programs say, and so empty or too large, and phantom points are rounded to the grid, and may so pass the limit; and
-    what full refuses for the size comes behind what is refused of glyphs."""
+def may_differ(best, full, without):
+    """Tells whether best may answer so beside full, and beside the answer without programs, where no program is refused.
+    Its picture may be as wide as the programs say, and so empty or too large, and phantom points are rounded to the
+    grid, and may so pass the limit; and what full refuses for the size comes behind what is refused of glyphs. In a font
+    with neither fpgm nor prep best runs no glyph's program, so none moves a point past the limit."""
     if is_size(full):
         return True
-    drawn = re.fullmatch(r"0 [0-9]+ [0-9]+\|", best)
-    return bool(full.startswith("0 ") and (drawn or is_size(best) or ": 23 CoordRange" in best))
+    drawn = re.fullmatch(r"0 [0-9]+ [0-9]+\|", best) or is_size(best)
+    if FAR in full:
+        return bool(drawn and FAR not in without)
+    return bool(full.startswith("0 ") and (drawn or FAR in best))
 
 
 def why_not_alike(answers):
@@ -197,14 +204,14 @@ def why_not_alike(answers):
     refused alike by all, and a picture's size by all but best, whose lines have a width of their own; and what is
     refused without programs is refused with them, but for coordinates, which programs may bring back, and the depth of
     components, of which best allows more. The ways to fit that fall back do so where a program is refused. Where none
-    is, fallback answers as full does, and best as is_by_steps says."""
+    is, fallback answers as full does, and best as may_differ says."""
     for kind, other in (("fallback", r": (3[0-9]|4[0-9]|50) "), ("best", r": (17|3[0-9]|4[0-9]|50) ")):
         if kind not in answers:
             continue
         full, falling = answers["full"], answers[kind]
         # What a program does is not refused: a glyph is drawn without it, or refused for another reason.
         if not re.search(other, full):
-            wrong = falling != full and not (kind == "best" and is_by_steps(falling, full))
+            wrong = falling != full and not (kind == "best" and may_differ(falling, full, answers["none"]))
         else:
             wrong = not falling.startswith("0 ") and not re.search(r": [12]?[0-9] ", falling)
             wrong = wrong and not (kind == "best" and is_size(falling))
@@ -214,7 +221,7 @@ def why_not_alike(answers):
     alike = without.startswith("2 ")
     if "map" in answers and answers["map"].startswith("1 "):
         without, alike = answers["map"], True
-    if not without.startswith("0 ") and "23 CoordRange" not in without:
+    if not without.startswith("0 ") and FAR not in without:
         by_others = "17 ComponentDepth" in without or is_size(without)
         apart = ("map", "best") if by_others else ("map",)
         for kind, answer in answers.items():

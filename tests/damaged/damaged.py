@@ -168,12 +168,13 @@ REFUSED = f"1 {NOTHING}|tt_render: glyf+22: 14 GlyphShort|"
 OFF_PROFILE = f"1 {NOTHING}|tt_render: glyf+14: 35 OffProfile|"
 TOO_DEEP = f"1 {NOTHING}|tt_render: glyf+32: 17 ComponentDepth|"
 TOO_LARGE = f"2 {NOTHING}|tt_render: 63 PictureLarge|"
+TOO_FAR = f"1 {NOTHING}|tt_render: glyf+22: 23 CoordRange|"
 UNFITTED = "tt_render: glyph 1 unfitted: glyf+14: 35 OffProfile|"
 UNFITTED_BY_BEST = "tt_render: glyph 1 unfitted: glyf+15: 47 DivZero|"
 ALIKE = [
     ({"map": "0 13 1|", "none": "0 11 1|", "full": REFUSED}, True),
     ({"map": "0 13 1|", "none": REFUSED, "full": OFF_PROFILE}, True),
-    ({"none": REFUSED.replace("14 GlyphShort", "23 CoordRange"), "full": "0 11 1|"}, True),
+    ({"none": TOO_FAR, "full": "0 11 1|"}, True),
     ({"map": "0 13 1|", "none": REFUSED, "full": "0 11 1|"}, False),
     ({"map": REFUSED, "none": REFUSED, "full": "0 11 1|"}, False),
     ({"map": REFUSED, "none": "0 11 1|", "full": REFUSED}, False),
@@ -194,6 +195,11 @@ ALIKE = [
     ({"none": TOO_LARGE, "full": TOO_LARGE, "best": REFUSED}, True),
     ({"none": TOO_LARGE, "full": TOO_LARGE, "fallback": REFUSED}, False),
     ({"none": "0 11 1|", "full": "0 11 2|", "best": REFUSED}, False),
+    ({"none": "0 11 1|", "full": "0 11 2|", "best": TOO_FAR}, True),
+    ({"none": "0 11 1|", "full": TOO_FAR, "best": "0 11 1|"}, True),
+    ({"none": "0 11 1|", "full": TOO_FAR, "fallback": "0 11 1|"}, False),
+    ({"none": "0 11 1|", "full": TOO_FAR, "best": REFUSED}, False),
+    ({"none": TOO_FAR, "full": TOO_FAR, "best": "0 11 1|"}, False),
     ({"none": "0 11 1|", "full": "0 11 2|", "best": f"0 11 1|{UNFITTED_BY_BEST}"}, False),
     ({"none": TOO_DEEP, "full": TOO_DEEP, "best": "0 11 1|"}, True),
     ({"none": REFUSED, "full": REFUSED, "best": "0 11 1|"}, False),
