@@ -29,7 +29,7 @@ def two_and_rectangles():
 
 
 def two_and_tall():
-    """60 glyphs of 131,072 edges: nearly 1,000,000 points."""
+    """60 glyphs of 16,384 points, all off the curve: nearly 1,000,000 points."""
     return beside([outlines.up_and_down(POINTS, 0), *again(59)], **LARGE)
 
 

@@ -10,17 +10,16 @@
    pen. A glyph that is not the same number of points and contours here and there ends the run.
 
    The picture is that of `tt_render draw` with a margin of 4 pixels, where 4 spaces follow each glyph, so that none
-   stands on another. The first glyph of the file is the space. Advances are those of the table hmtx, and with STEPS
-   what lies between the first two phantom points of the file, in whole pixels. CELLS gets a line for each glyph: the
-   first column that is its, 4 before its pen, and how many are its, to 4 behind its advance; the glyph; and how many
-   rows lie between the base line and the margin above. */
+   stands on another. The first glyph of the file is the space. An advance is what lies between the first two phantom
+   points of the file, in whole pixels. CELLS gets a line for each glyph: the first column that is its, 4 before its pen,
+   and how many are its, to 4 behind its advance; the glyph; and how many rows lie between the base line and the margin
+   above. */
 #include <stdio.h>
 #include <stdlib.h>
 #include <string.h>
 
 #include <ft2build.h>
 #include FT_FREETYPE_H
-#include FT_ADVANCES_H
 #include FT_BITMAP_H
 #include FT_MODULE_H
 #include FT_OUTLINE_H
@@ -82,7 +81,6 @@ static void fill_no_dropout(FT_Outline *outline) {
 
 /* The advance of the glyph of a line of the file. */
 static long advance(char *at) {
-#ifdef STEPS
   long left, right;
   number(&at);
   pass(&at, "phantom");
@@ -91,11 +89,6 @@ static long advance(char *at) {
   right = number(&at);
   right = divided(right - left + 32, 64);
   return right < 0 ? 0 : right;
-#else
-  FT_Fixed units;
-  need(FT_Get_Advance(face, atol(at), FT_LOAD_NO_SCALE, &units), "no advance");
-  return divided(2 * units * size + face->units_per_EM, 2 * face->units_per_EM);
-#endif
 }
 
 /* Tells how wide 4 spaces are, of which the file's first line is one. */

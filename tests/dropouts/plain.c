@@ -26,8 +26,8 @@
  *   For which pixel. It asks for its left pixel. With smart rules it asks for the right one where the least place of
  *   the crossings upward and that of those downward make 65/64 of a pixel or more, each counted from the left centre,
  *   and none as a pixel. Where that pixel is outside the glyph's box, it is the other one. The box has the columns whose
- *   centres lie from the least to the greatest x of the edge ends, or else the nearer one to their middle, of two the
- *   right one. With POINTS the two are told with the question, since points off the curve lie outside of the edges.
+ *   centres lie from the least to the greatest x of all points, or else the nearer one to their middle, of two the right
+ *   one. The two are told with the question, since points off the curve may lie outside of the edges.
  *
  *   What is added. A gap gives way where the gap left of it asks for the pixel that they have in common. First all rows
  *   add what their gaps ask for, and then all columns, for which those pixels are black.
@@ -307,9 +307,7 @@ static void write_case(FILE *out, Rules rules, const Case *it) {
   }
   fprintf(out, " %d", o->contours);
   for (int k = 0; k < o->contours; k++) fprintf(out, " %d", o->ends[k]);
-#ifdef POINTS
   fprintf(out, " %" PRId64 " %" PRId64 " %" PRId64 " %" PRId64, o->least.x, o->least.y, o->most.x, o->most.y);
-#endif
   putc('\n', out);
 }
 
@@ -460,22 +458,18 @@ static void widen(Outline *o, Point p) {
   if (p.y > o->most.y) o->most.y = p.y;
 }
 
-/* The box of the edges, or with POINTS at times a greater one: a point lies off the curve, near the edges. */
+/* The box of the edges, or at times a greater one: a point lies off the curve, near the edges. */
 static void add_box_of_points(Outline *o, Ground g) {
   o->least = o->most = o->count > 0 ? o->edges[0].a : (Point){0, 0};
   for (int i = 0; i < o->count; i++) {
     widen(o, o->edges[i].a);
     widen(o, o->edges[i].b);
   }
-#ifdef POINTS
   while (o->count > 0 && !one_in(3)) {
     Point at = o->edges[pick(0, o->count - 1)].a;
     widen(o, (Point){clamped(at.x + on_grid(g, pick(-2 * PIXEL, 2 * PIXEL))),
       clamped(at.y + on_grid(g, pick(-2 * PIXEL, 2 * PIXEL)))});
   }
-#else
-  (void)g;
-#endif
 }
 
 /* Half of the frames have all rows of the window and of two pixels round it, on which the code answers by the tape that

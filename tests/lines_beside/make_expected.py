@@ -4,12 +4,11 @@ with steps of its own.
 
   apt-get install fonts-dejavu-core fonts-liberation fonts-noto-core fonts-lato fonts-open-sans libfreetype-dev \\
     pkg-config
-  /usr/bin/python3 tests/lines_beside/make_expected.py [before]
+  /usr/bin/python3 tests/lines_beside/make_expected.py
 
 The table in the repository was made with FreeType 2.12.1 (Debian's libfreetype-dev 2.12.1+dfsg-5+deb12u4) from
 fonts-dejavu-core 2.37-6, fonts-liberation 1:1.07.4-11, fonts-noto-core 20201225-1, fonts-lato 2.0-2.1 and
-fonts-open-sans 1.11-2. by_freetype.c draws, also by our rules; so the table does not depend on tt_render. With `before`
-it makes before.txt: the same, but that our rules are eight chords for each curve and a box of the edges.
+fonts-open-sans 1.11-2. by_freetype.c draws, also by our rules; so the table does not depend on tt_render.
 """
 import hashlib
 import pathlib
@@ -29,7 +28,6 @@ HEAD = """\
 # two differ without dropouts too, else `dropouts`, and SUM is that of ours without white columns on the right. Where
 # KIND is `hdmx`, FreeType has an advance from the table hdmx, and SUM is the programs', in pixels."""
 DIGITS = "0123456789abcdefghijklmnopqrstuvwxyz"
-WORDS = sys.argv[1:]
 
 
 def compiled(program):
@@ -40,7 +38,7 @@ def compiled(program):
 
 
 def asked(program, font, size, way, lines):
-    words = [program, font, str(size), str(MARGIN), way, *WORDS]
+    words = [program, font, str(size), str(MARGIN), way]
     return subprocess.run(words, input=text_of(lines), stdout=subprocess.PIPE, check=True).stdout
 
 
@@ -62,8 +60,7 @@ def line_of(program, font, size):
 
 
 def main():
-    to = HERE / ("before.txt" if WORDS else "expected.txt")
-    with tempfile.TemporaryDirectory() as room, open(to, "w", encoding="utf-8") as out:
+    with tempfile.TemporaryDirectory() as room, open(HERE / "expected.txt", "w", encoding="utf-8") as out:
         program = compiled(pathlib.Path(room) / "by_freetype")
         print(HEAD, file=out)
         for font in FONTS:

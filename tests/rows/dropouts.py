@@ -14,19 +14,17 @@ is a crossing, or where an edge that is not level ends on the line in the gap, w
 types 0 and 1 it is the left pixel, by 4 and 5 the right one where the least place of a crossing upward and the least of
 one downward are 8320 or more together. A pixel outside the columns of the glyph's box is not taken, but the other one:
 these are the columns with centres in it, or where there is none, the one nearer to its middle, and of two the right
-one. The box is that of the edges, and once ../PICTURE says `now` that of all points, those off the curve too. A gap
-adds its pixel unless the gap on its left asks for the pixel in common.
+one. The box is that of all points, those off the curve too. A gap adds its pixel unless the gap on its left asks for
+the pixel in common.
 
 First all rows are filled, then all columns, for which what the rows added is black.
 """
-import pathlib
 from itertools import accumulate
 
 from make_expected import TTFont, Outlines, extent, glyphs_of, nearest
 from outlines import chords, is_black
 
 PIXEL, HALF = 8192, 4096
-IS_NOW = (pathlib.Path(__file__).parents[1] / "PICTURE").read_text(encoding="utf-8").strip() == "now"
 
 
 def crossings(edges):
@@ -94,8 +92,7 @@ def filled(contours, points, scan_type):
     edges = [edge for each in contours for edge in each]
     if not edges:
         return {}
-    places = points if IS_NOW else [place for edge in edges for place in edge]
-    (left, right), (low, high) = columns_of(places), columns_of([it[::-1] for it in places])
+    (left, right), (low, high) = columns_of(points), columns_of([it[::-1] for it in points])
     spots = [(column, row) for column in range(left - 1, right + 2) for row in range(low - 1, high + 2)]
     black = {spot for spot in spots if is_black(edges, *(PIXEL * it + HALF for it in spot))}
     rows, columns = set(), set()
@@ -112,7 +109,7 @@ def drawn_by_types(file, text, size, margin, types, outline=None):
     font = TTFont(file)
     outlines, glyphs = Outlines(font, size), glyphs_of(font, text)
     widths = [nearest(font["hmtx"][font.getGlyphName(it)][0] * size, font["head"].unitsPerEm) for it in glyphs]
-    if IS_NOW and not outline:
+    if not outline:
         # What lies between the first two phantom points, to the nearest pixel, and from halves the upper.
         phantoms = [outlines.outline(it)[2] for it in glyphs]
         widths = [max(0, (right[0] - left[0] + 32) // 64) for left, right, *_ in phantoms]
@@ -120,7 +117,7 @@ def drawn_by_types(file, text, size, margin, types, outline=None):
     rows = [["."] * (sum(widths) + 2 * margin) for _ in range(rise + depth + 2 * margin)]
     for pen, glyph, scan_type in zip(pens, glyphs, types, strict=False):
         points, ends, phantom = outline or outlines.outline(glyph)
-        contours = [chords(points[start:end], -phantom[0][0], IS_NOW) for start, end in zip([0, *ends], ends)]
+        contours = [chords(points[start:end], -phantom[0][0], True) for start, end in zip([0, *ends], ends)]
         places = [(128 * (x - phantom[0][0]), 128 * y) for x, y, _ in points]
         for (column, row), sign in filled([it for it in contours if it], places, scan_type).items():
             r, c = rise + margin - 1 - row, pen + column

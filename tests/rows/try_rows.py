@@ -4,8 +4,8 @@ each answer of map.txt and each refusal of its cmap again, by the plain search o
 code with tt_render. The pictures of fallback.txt with lines beside them are put together: of a glyph that is told by
 fontTools, and of another one from the picture in fitted.txt. Where cases.txt says by which scan types a picture of best
 is drawn, it is drawn again by fontTools and the rules of dropouts.py, and each pixel has to be added by rows or by
-columns as is said there; and so it is where ../hinted/originals.txt says what its outline is. Once ../PICTURE says `now`
-so are the pictures of picture.txt whose fonts have no programs and no composites. Says where an answer is another.
+columns as is said there; and so it is where ../hinted/originals.txt says what its outline is. So are the pictures of
+picture.txt whose fonts have no programs and no composites. Says where an answer is another.
 
   apt-get install python3-fonttools
   /usr/bin/python3 tests/rows/try_rows.py
@@ -21,7 +21,7 @@ from itertools import takewhile
 HERE = pathlib.Path(__file__).parent
 sys.path.insert(0, str(HERE.parent / "real_lines"))
 sys.path.insert(1, str(HERE.parent / "characters"))
-from dropouts import IS_NOW, TTFont, drawn_by_types
+from dropouts import TTFont, drawn_by_types
 from make_expected import drawn
 from make_rows import FILES, font_of, text_of
 from make_rows import cases as worked_cases
@@ -124,7 +124,7 @@ def other_picture():
     """Returns how many pictures of picture.txt were drawn again, of those whose fonts have no programs and no composites,
     and the names of those that are others."""
     count, others = 0, []
-    lines = (HERE / "picture.txt").read_text(encoding="utf-8").splitlines() if IS_NOW else []
+    lines = (HERE / "picture.txt").read_text(encoding="utf-8").splitlines()
     for line in (it for it in lines if not it.startswith("#")):
         name, words, font, text, size, margin, status, stdout, *_ = line.split(" ")
         if words != "draw,--fit,best" or status != "0" or "*" in font + text + stdout:
