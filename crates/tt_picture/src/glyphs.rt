@@ -171,10 +171,11 @@ impl Glyphs {
         requires bare { All (λ g. (g.left ≡ 0) × (g.pens ≡ [])) self.made.items }
         requires places { ArePlaces self.places.items (numbers_of self.made.items) }
         requires known { All (λ g. g.0 < length self.places.items) line.now }
-        requires numbers { numbers_of self.made.items ≡ distinct (map (λ g. g.0) line.now) }
+        requires among { All (λ g. is_among g.0 (numbers_of self.made.items) ≡ true) line.now }
         requires pens { All (λ g. g.1 ≤ width_limit) line.now }
         ensures valid { IfOk result (λ g. AreSeated (length self.places.items) g.places.items g.made.items) }
-        ensures line { IfOk result (λ g. (maker : ℕ → Fitter) (f : Frame) → AreDrawn false maker f self.made.items → AreOfLine false maker f line.now g.made.items) }
+        ensures line { IfOk result (λ g. (maker : ℕ → Fitter) (f : Frame) → AreDrawn false maker f self.made.items
+            → numbers_of self.made.items ≡ distinct (map (λ g. g.0) line.now) → AreOfLine false maker f line.now g.made.items) }
     {
         let mut glyphs = self;
         for place in line {

@@ -1,8 +1,7 @@
 use Rattle.std.proofs.Common.{◌∙◌, ◌<◌, ◌≤◌, ◌++◌, ◌∷◌, [], false, length, get_or, refl, arith}
 use Rattle.tt_core.specs.Outcomes.{each}
-use Rattle.tt_picture.specs.Glyphs.{Stand, numbers_of}
+use Rattle.tt_picture.specs.Glyphs.{Stand}
 use Rattle.tt_picture.specs.Shapes.{glyph_shape}
-use Rattle.tt_picture.proofs.Among.{all_among}
 use Rattle.tt_picture.proofs.Places.{one_more_made}
 use Rattle.tt_picture.proofs.Reframed.{all_made, bare_lefts, bare_stand, bare_within}
 use Rattle.tt_picture.proofs.Standings.{made_at, one_place_more}
@@ -46,13 +45,13 @@ loop-place-preserved c =
     }
 
 pub returns-clause-line : goal.returns-clause-line
-returns-clause-line c = λ maker f drawn.
+returns-clause-line c = λ maker f drawn numbers.
     let so_far = c.loop-place.invariant in
     let line = c.args.line.now in
     let stood = so_far.stand maker f drawn in
     let over : length line ≤ c.loop-place.place-index = omega (arith, c.loop-place-test.false) in
     record {
-      numbers = so_far.numbers ∙ c.requires.numbers;
+      numbers = so_far.numbers ∙ numbers;
       drawn = so_far.drawn maker f drawn;
       pens = so_far.pens;
       stand = all_made (glyph_shape maker) line c.loop-place.place-index stood.0
@@ -66,8 +65,7 @@ stand-requires-clause-known c =
 
 pub stand-requires-clause-among : goal.stand-requires-clause-among
 stand-requires-clause-among c =
-    rw c.loop-place.invariant.numbers (all_among c.args.line.now (numbers_of c.args.self.made.items) c.requires.numbers
-    c.loop-place.place-index (0, 0) c.loop-place-test.true)
+    rw c.loop-place.invariant.numbers (c.requires.among c.loop-place.place-index (0, 0) c.loop-place-test.true)
 
 pub stand-requires-clause-valid : goal.stand-requires-clause-valid
 stand-requires-clause-valid c =

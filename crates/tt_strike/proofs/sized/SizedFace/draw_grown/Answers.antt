@@ -16,6 +16,7 @@ use Rattle.tt_picture.specs.Pictures.{Picture, image_of, picture}
 use Rattle.tt_strike.proofs.Textless.{cost_textless, drawn_textless, report_textless}
 use Rattle.tt_strike.specs.Picture.{frame_of, laid_out}
 use Rattle.tt_picture.specs.Unfitted.{unfitted_standing}
+use Rattle.tt_picture.proofs.Among.{all_among}
 use Rattle.tt_picture.proofs.Places.{ok_and}
 use Rattle.tt_strike.proofs.Enlarged.{larger_drawn, larger_made, larger_reported, numbers_kept, same_cost}
 use Rattle.tt_picture.proofs.Filled.{can_be_filled, tapes_few}
@@ -134,25 +135,28 @@ reframed-requires-clause-known c =
     rw (c.deref.ensures.value, c.in_ok-enlarged.ensures.valid.room)
     (known_there (goal.at.reframed-requires-clause-known c).In_ok-enlarged)
 
-pub reframed-requires-clause-numbers : goal.reframed-requires-clause-numbers
-reframed-requires-clause-numbers c =
-    let e = (plain (goal.at.reframed-requires-clause-numbers c).In_ok-enlarged).2 in
-    rw c.deref.ensures.value (e.made.numbers ∙ ap distinct (sym (numbers_kept e)))
+pub reframed-requires-clause-among : goal.reframed-requires-clause-among
+reframed-requires-clause-among c =
+    let e = (plain (goal.at.reframed-requires-clause-among c).In_ok-enlarged).2 in
+    rw c.deref.ensures.value (all_among c.in_ok-enlarged.enlarged.laid.line.glyphs.items
+    (numbers_of c.in_ok-enlarged.enlarged.inked.glyphs.made.items) (e.made.numbers ∙ ap distinct (sym (numbers_kept e))))
 
 pub new-requires-clause-glyphs : goal.new-requires-clause-glyphs
 new-requires-clause-glyphs c =
     let l = plain (goal.at.new-requires-clause-glyphs c).In_ok-enlarged in
-    let made = l.2.made in
-    let maker = line_fitter made.setting (map (λ g. g.0) l.0.glyphs) in
-    let moved = c.in_ok-moved.ensures maker (frame_of l.0 c.args.margin) made.drawn in
+    let e = l.2 in
+    let maker = line_fitter e.made.setting (map (λ g. g.0) l.0.glyphs) in
+    let moved = c.in_ok-moved.ensures maker (frame_of l.0 c.args.margin) e.made.drawn
+    (rw c.deref.ensures.value (e.made.numbers ∙ ap distinct (sym (numbers_kept e)))) in
     can_be_filled maker c.in_ok-moved.moved.items moved.drawn moved.pens
 
 pub new-requires-clause-bodies : goal.new-requires-clause-bodies
 new-requires-clause-bodies c = λ k d below.
     let l = plain (goal.at.new-requires-clause-bodies c).In_ok-enlarged in
-    let made = l.2.made in
-    let maker = line_fitter made.setting (map (λ g. g.0) l.0.glyphs) in
-    ((c.in_ok-moved.ensures maker (frame_of l.0 c.args.margin) made.drawn).drawn k d below).fits
+    let e = l.2 in
+    let maker = line_fitter e.made.setting (map (λ g. g.0) l.0.glyphs) in
+    ((c.in_ok-moved.ensures maker (frame_of l.0 c.args.margin) e.made.drawn
+    (rw c.deref.ensures.value (e.made.numbers ∙ ap distinct (sym (numbers_kept e))))).drawn k d below).fits
 
 pub returns-clause-exact : goal.returns-clause-exact
 unfolding grown_outcome
@@ -172,7 +176,8 @@ returns-clause-exact c =
     let made = larger_made face a l larger e.left gs e.made e.moved in
     let fitted = rw (numbers_kept e) at made.fitted in
     let places = rw (c.deref.ensures.value, c.frame-frame.ensures.exact, c.in_ok-enlarged.ensures.margin) at
-    (c.in_ok-moved.ensures maker (frame_of l a.margin) e.made.drawn).stand in
+    (c.in_ok-moved.ensures maker (frame_of l a.margin) e.made.drawn
+    (rw c.deref.ensures.value (e.made.numbers ∙ ap distinct (sym (numbers_kept e))))).stand in
     let stand : Stand false f hs made.shapes = rw fitted at places in
     let drawn = rw (c.frame-frame.ensures.exact, c.in_ok-enlarged.ensures.margin) at c.in_ok-new.ensures.exact in
     let image : image_of p ≡ picture f made.shapes = drawn false made.shapes stand in
@@ -201,7 +206,7 @@ returns-clause-reported c =
     let hs = c.in_ok-moved.moved.items in
     let p = c.in_ok-new.field-0 in
     let moved = c.in_ok-moved.ensures maker (frame_of l a.margin) e.made.drawn
-    (rw c.deref.ensures.value (rw (numbers_kept e) e.made.numbers)) in
+    (rw c.deref.ensures.value (e.made.numbers ∙ ap distinct (sym (numbers_kept e)))) in
     let there = moved.drawn in
     let numbers : numbers_of hs ≡ distinct (map (λ g. g.0) larger.glyphs) = rw c.deref.ensures.value at moved.numbers in
     let same : numbers_of hs ≡ numbers_of gs = numbers ∙ rw (numbers_kept e) (sym e.made.numbers) in
