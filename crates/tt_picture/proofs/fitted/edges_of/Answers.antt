@@ -30,21 +30,27 @@ origin_is c =
 pub returns-clause-exact : goal.returns-clause-exact
 returns-clause-exact c =
     let all = (goal.at.returns-clause-exact c).After-edges in
-    let fits = origin_fits all in
-    rw (origin_is all) at (simp to_z-of_z at c.edges.ensures.exact)
+    let origin : SFits w64 c.from.result = search rules in
+    let fits : SFits w64 (pos 0 -ℤ c.from.result) = origin_fits all in
+    let is : c.from.result ≡ (get_or c.args.outline.now.phantom 0 (pos 0, pos 0)).0 = origin_is all in
+    rw is at (simp to_z-of_z at c.edges.ensures.exact)
 
 pub returns-clause-chords : goal.returns-clause-chords
 returns-clause-chords c =
     let all = (goal.at.returns-clause-chords c).After-edges in
-    let fits = origin_fits all in
-    rw (origin_is all) at (simp to_z-of_z at c.edges.ensures.chords)
+    let origin : SFits w64 c.from.result = search rules in
+    let fits : SFits w64 (pos 0 -ℤ c.from.result) = origin_fits all in
+    let is : c.from.result ≡ (get_or c.args.outline.now.phantom 0 (pos 0, pos 0)).0 = origin_is all in
+    rw is at (simp to_z-of_z at c.edges.ensures.chords)
 
 pub returns-clause-contours : goal.returns-clause-contours
 returns-clause-contours c =
     let all = (goal.at.returns-clause-contours c).After-edges in
-    let fits = origin_fits all in
+    let origin : SFits w64 c.from.result = search rules in
+    let fits : SFits w64 (pos 0 -ℤ c.from.result) = origin_fits all in
+    let is : c.from.result ≡ (get_or c.args.outline.now.phantom 0 (pos 0, pos 0)).0 = origin_is all in
     IfOk-weaker c.edges.result _ _ (λ e told. where_filled c.args.filled c.is_some.result _ c.is_some.ensures told)
-    (rw (origin_is all) at (simp to_z-of_z at c.edges.ensures.contours))
+    (rw is at (simp to_z-of_z at c.edges.ensures.contours))
 
 pub returns-clause-ends : goal.returns-clause-ends
 returns-clause-ends c =

@@ -10,7 +10,7 @@ use Rattle.tt_picture.proofs.Outlines.{all_new, not_yet, stuck_there}
 use Rattle.tt_picture.proofs.Places.{one_more_made}
 use Rattle.tt_picture.proofs.Reframed.{none_left}
 use Rattle.tt_picture.proofs.Turns.{next_is, none_before, pushed, same_tables}
-use Rattle.tt_picture.proofs.fitting.fit_glyphs.Goals.{After-of-glyph}
+use Rattle.tt_picture.proofs.fitting.fit_glyphs.Goals.{After-of}
 use Rattle.tt_picture.proofs.fitting.fit_glyphs.Goals as goal
 
 pub loop-number-init : goal.loop-number-init
@@ -27,7 +27,7 @@ loop-number-init c =
     }
 
 -- the fitter of the next glyph is the present one
-maker_is : (c : After-of-glyph) → fitter_for c.args.fitter.now c.args.numbers.now
+maker_is : (c : After-of) → fitter_for c.args.fitter.now c.args.numbers.now
     (get_or c.args.numbers.now c.loop-number.number-index 0) ≡ c.loop-number.fitter
 maker_is c =
     let ns = c.args.numbers.now in
@@ -38,9 +38,10 @@ maker_is c =
     (all_new ns i below c.requires.differ) c.loop-number.invariant.after in
     next (not_yet ns i below c.requires.differ)
 
-pub of-requires-clause-known : goal.of-requires-clause-known
-of-requires-clause-known c =
-    rw c.loop-number.invariant.tables (c.requires.known c.loop-number.number-index 0 c.loop-number-test.true)
+pub of-requires : goal.of-requires
+of-requires c = record {
+  known = rw c.loop-number.invariant.tables (c.requires.known c.loop-number.number-index 0 c.loop-number-test.true);
+}
 
 pub loop-number-preserved : goal.loop-number-preserved
 loop-number-preserved c =
@@ -51,7 +52,7 @@ loop-number-preserved c =
     let n = get_or ns i 0 in
     let below : i < length ns = c.loop-number-test.true in
     let so_far = c.loop-number.invariant in
-    let from = maker_is (goal.at.loop-number-preserved c).After-of-glyph in
+    let from = maker_is (goal.at.loop-number-preserved c).After-of in
     let made = c.loop-number.made.items in
     let h = c.in_ok-glyph.glyph in
     let one = c.in_ok-glyph.ensures in
@@ -77,7 +78,7 @@ returns-in_err-glyph-clause-fault c =
     let maker = fitter_for c.args.fitter.now ns in
     let i = c.loop-number.number-index in
     let below : i < length ns = c.loop-number-test.true in
-    let from = maker_is (goal.at.returns-in_err-glyph-clause-fault c).After-of-glyph in
+    let from = maker_is (goal.at.returns-in_err-glyph-clause-fault c).After-of in
     let fails = rw (← from) at c.in_err-glyph.ensures.fault in
     let p = err_from_is_err_and c.from_residual-in_err-glyph.result c.from_residual-in_err-glyph.ensures.1 in
     rw (p.1, p.2) (stuck_there c.in_err-glyph.field-0.0 (λ g. fitted_outline (maker g) g) ns i
