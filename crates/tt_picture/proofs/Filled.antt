@@ -14,7 +14,7 @@ use Rattle.tt_scan_edges.specs.declared.edge.Edge.{Edge}
 use Rattle.tt_scan_edges.specs.declared.edge.Frame.{Frame}
 use Rattle.tt_scan_dropouts.specs.Pictures.{is_dropout_from}
 use Rattle.tt_scan_dropouts.specs.declared.boxed.BoxedRules.{BoxedRules}
-use Rattle.tt_picture.specs.Glyphs.{GlyphBody, tape, raster, BodyFits, IsBodyOf, IsTape, edges_of, left_of, AreDrawn, AreWithin, CanBeFilled, Glyph, IsDrawn}
+use Rattle.tt_picture.specs.Glyphs.{AreDrawn, AreWithin, BodyFits, CanBeCounted, CanBeFilled, Glyph, GlyphBody, IsBodyOf, IsDrawn, IsTape, edges_of, left_of, raster, tape}
 use Rattle.tt_picture.specs.Shapes.{chords_with, contours_of, edges_at, extents_of, offset_at, rules_for}
 use Rattle.tt_picture.specs.Pixels.{Stamp, is_filled_by, is_filled_from}
 use Rattle.tt_picture.proofs.Blackened.{or_false, or_or}
@@ -94,6 +94,13 @@ pub can_be_filled : {cached : Bool} (maker : ℕ → Fitter) {f : Frame} (gs : L
     → All CanBeFilled gs
 can_be_filled maker {f} gs drawn within = λ k d below.
     let g = get_or gs k d in one_can_be_filled (maker g.number) f g (drawn k d below) (within k d below)
+
+-- the crossings of drawn glyphs can be counted
+pub can_be_counted : {cached : Bool} (maker : ℕ → Fitter) {f : Frame} (gs : List Glyph) → AreDrawn cached maker f gs
+    → All CanBeCounted gs
+can_be_counted maker {f} gs drawn = λ k d below.
+    let g = get_or gs k d in
+    record { few = few_edges f g.body (drawn k d below).fits; boxed = (drawn k d below).boxed }
 
 -- the edges of drawn glyphs are few
 pub tapes_few : {cached : Bool} (maker : ℕ → Fitter) {f : Frame} (gs : List Glyph) → AreDrawn cached maker f gs

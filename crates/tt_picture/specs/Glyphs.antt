@@ -134,6 +134,11 @@ pub record CanBeFilled (g : Glyph) : Type 0 where
   pub closed : IfSome g.filled (λ rules. All IsClosed (contours_at (edges_of g.body) g.ends))
   pub pens : IfSome g.filled (λ rules. All (λ pen. pen ≤ width_limit) g.pens)
 
+-- a glyph whose crossings can be counted: it has few edges, and where dropouts are filled, its box is within the limits
+pub record CanBeCounted (g : Glyph) : Type 0 where
+  pub few : length (edges_of g.body) ≤ 2 ^ 19
+  pub boxed : IfSome g.filled (λ rules. ExtentsFit rules.extents)
+
 -- the box of a glyph's black pixels at pen 0
 abbrev pub ink_standing : Glyph → Option GlyphInk
 ink_standing g = ink_by (edges_of g.body) (contours_at (edges_of g.body) g.ends) g.filled

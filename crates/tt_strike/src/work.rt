@@ -7,7 +7,7 @@ ghost use Rattle.tt_core.specs.Outcomes.{Gives, GivesUnless};
 ghost use Rattle.tt_fit.specs.Counting.{left_of, points_asked};
 ghost use Rattle.tt_fit.specs.Fitting.{charged_fitter};
 ghost use Rattle.tt_strike.specs.Costs.{cost_of};
-ghost use Rattle.tt_picture.specs.Glyphs.{crossings_standing, edges_of};
+ghost use Rattle.tt_picture.specs.Glyphs.{CanBeCounted, crossings_standing};
 ghost use Rattle.tt_strike.specs.Refusals.{as_job, refusal};
 ghost use Rattle.tt_strike.specs.Work.{crossings_allowed, is_bounded, point_work, work_tested};
 
@@ -86,7 +86,7 @@ fn points_left(fitter: &Fitter, glyphs: &[u16], most: u64) -> Result<Option<u64>
 /// more than `most`.
 #[tactic(auto, unfolding(crate::specs::Work::work_tested))]
 pub(crate) fn test_crossings(fit: Fit, most: u64, glyphs: &[Glyph]) -> Result<u64, JobFault>
-    requires tapes { All (λ g. length (edges_of g.body) ≤ 2 ^ 19) glyphs.now }
+    requires glyphs { All CanBeCounted glyphs.now }
     requires most { most < 2 ^ 64 - 1 }
     ensures exact { Gives (λ n. tt) result (work_tested fit most (crossings_standing glyphs.now)) }
     ensures count { is_bounded fit ≡ true → IfOk result (λ n. n ≡ crossings_standing glyphs.now) }

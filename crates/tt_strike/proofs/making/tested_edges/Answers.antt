@@ -2,7 +2,7 @@ use Rattle.std.proofs.Common.{◌∙◌, ◌≤◌, ℕ, All, ap, refl, arith}
 use Rattle.std.proofs.lemmas.Result.{err_from_is_err_and}
 use Rattle.tt_core.specs.Limits.{width_limit}
 use Rattle.tt_picture.specs.Shapes.{crossings_in}
-use Rattle.tt_picture.proofs.Filled.{tapes_few}
+use Rattle.tt_picture.proofs.Filled.{can_be_counted}
 use Rattle.tt_strike.specs.Costs.{cost_of}
 use Rattle.tt_strike.proofs.Limited.{few_chords, standing_counts, too_many_chords}
 use Rattle.tt_strike.proofs.making.tested_edges.Goals as goal
@@ -14,10 +14,10 @@ of_fitted-requires-clause-pens c =
     let wide = line.wide.1 in omega (arith, line.pens k d below, wide) in
     rw c.deref.ensures.value within
 
-pub test_crossings-requires-clause-tapes : goal.test_crossings-requires-clause-tapes
-test_crossings-requires-clause-tapes c =
+pub test_crossings-requires-clause-glyphs : goal.test_crossings-requires-clause-glyphs
+test_crossings-requires-clause-glyphs c =
     let by = c.requires.made in
-    rw c.deref-2.ensures.value (tapes_few by.0 c.in-Some.glyphs.made.items (c.in-Some.ensures.line by.0 by.1).drawn)
+    rw c.deref-2.ensures.value (can_be_counted by.0 c.in-Some.glyphs.made.items (c.in-Some.ensures.line by.0 by.1).drawn)
 
 pub returns-in_default-clause-exact : goal.returns-in_default-clause-exact
 returns-in_default-clause-exact c = λ maker shapes fitted made.
