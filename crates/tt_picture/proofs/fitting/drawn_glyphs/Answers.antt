@@ -19,7 +19,8 @@ loop-outline-preserved c =
     let pushed = c.in_ok-push.ensures.items in
     let plain = one.plain so_far.none in
     let steps : into_iter_items at.outline-iterator ≡ g ∷ into_iter_items c.next.new.self = c.in-Some.ensures.steps.0 in
-    let fits : h.chords ≤ at.left = omega (arith, c.if-glyph.false) in
+    let same : c.glyph.inside.chords ≡ h.chords = ap (λ (g : Glyph). g.chords) c.glyph.view_is in
+    let fits : c.glyph.inside.chords ≤ at.left = omega (arith, c.if-glyph-left.false) in
     record {
       all = append_assoc at.yielded (g ∷ []) _ ∙ rw (← steps) so_far.all;
       count = let was = so_far.count in
@@ -38,7 +39,7 @@ loop-outline-preserved c =
           let here : IsDrawn false (maker h.number) c.args.frame h = rw from valid in
           rw pushed (All-push (λ (g : Glyph). IsDrawn false (maker g.number) c.args.frame g) at.made.items h
           (so_far.drawn maker parts.0) here);
-      left = one_chord_more at.yielded g at.left c.args.most h.chords so_far.left plain.1 fits;
+      left = one_chord_more at.yielded g at.left c.args.most c.glyph.inside.chords so_far.left (same ∙ plain.1) fits;
     }
 
 -- the glyphs that are left are none
@@ -67,8 +68,8 @@ returns-clause-few c =
     omega (arith, left)
 
 -- one glyph has more chords than are left
-pub returns-then-glyph-clause-many : goal.returns-then-glyph-clause-many
-returns-then-glyph-clause-many c =
+pub returns-then-glyph-left-clause-many : goal.returns-then-glyph-left-clause-many
+returns-then-glyph-left-clause-many c =
     let at = c.loop-outline in
     let g = c.in-Some.outline in
     let h = c.in_ok-glyph.glyph in
@@ -76,5 +77,6 @@ returns-then-glyph-clause-many c =
     let rest = into_iter_items c.next.new.self in
     let steps : into_iter_items at.outline-iterator ≡ g ∷ rest = c.in-Some.ensures.steps.0 in
     let all : at.yielded ++ g ∷ rest ≡ c.args.fitted.items = rw (← steps) at.invariant.all in
-    let over : at.left < h.chords = omega (arith, c.if-glyph.true) in
+    let same : c.glyph.inside.chords ≡ h.chords = ap (λ (g : Glyph). g.chords) c.glyph.view_is in
+    let over : at.left < h.chords = omega (arith, same, c.if-glyph-left.true) in
     rw (← all) (too_many_chords at.yielded rest g at.left c.args.most h.chords at.invariant.left plain.1 over)
