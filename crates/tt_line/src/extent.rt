@@ -9,9 +9,9 @@ use tt_core::{HEIGHT_LIMIT, JobFault, WIDTH_LIMIT};
 
 /// Width and height of a picture, in pixels, before the limits are tested. The height may be negative.
 #[derive(Clone, Copy)]
-pub(crate) struct PictureExtent {
-    pub(crate) width: u64,
-    pub(crate) height: i32,
+pub struct PictureExtent {
+    pub width: u64,
+    pub height: i32,
 }
 
 /// The extent of a line with its margins: the sum of steps, and the rise plus the depth.

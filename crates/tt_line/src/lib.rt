@@ -9,6 +9,7 @@ mod line;
 mod pixels;
 mod steps;
 
+pub use extent::PictureExtent;
 pub use layout::lay;
 pub use line::Line;
 pub use pixels::advance;
