@@ -39,9 +39,9 @@ def skip(name, why):
     print(f"skipped {name}: {why}")
 
 
-def run(words):
-    """Runs a command without input, and returns its status, standard output and standard error."""
-    ran = subprocess.run(words, stdin=subprocess.DEVNULL, capture_output=True)
+def run(words, stdin=b""):
+    """Runs a command, without input where none is given, and returns its status, standard output and standard error."""
+    ran = subprocess.run(words, input=stdin, capture_output=True)
     return ran.returncode, ran.stdout, ran.stderr
 
 

@@ -154,7 +154,7 @@ refuses() {
 
 # spaced TEXT: prints it with 4 spaces behind each character.
 spaced() {
-  sed 's/./&    /g' <<<"$1"
+  LC_ALL=C.UTF-8 sed 's/./&    /g' <<<"$1"
 }
 
 # is_made_of NAME TABLE FONT: whether a table was made from this file of a font; else the case failed.

@@ -5,7 +5,7 @@ from functools import partial
 
 import small_fonts as small
 from hostile import copies, outlines, programs
-from hostile.parts import POINTS, RECORDS, Hostile, again, calls, composite_of, dotted, line_of, one_of, pushes
+from hostile.parts import PLAIN, POINTS, RECORDS, Hostile, again, calls, composite_of, dotted, line_of, one_of, pushes
 from hostile.sizes import most_glyphs
 
 LONG = programs.LONG
@@ -19,7 +19,7 @@ def beside(glyphs, size, bearing=0, **sizes):
     return Hostile(font, small.line_text(count), size)
 
 
-LARGE = {**outlines.LARGE, "others": outlines.PLAIN}
+LARGE = {**outlines.LARGE, "others": PLAIN}
 
 
 def two_and_rectangles():
@@ -29,7 +29,7 @@ def two_and_rectangles():
 
 
 def two_and_tall():
-    """60 glyphs of 131,072 edges: nearly 1,000,000 points."""
+    """60 glyphs of 16,384 points, all off the curve: nearly 1,000,000 points."""
     return beside([outlines.up_and_down(POINTS, 0), *again(59)], **LARGE)
 
 
@@ -48,7 +48,7 @@ def two_and_far():
 def two_by_ten():
     """Ten glyphs that each are `two`, one a line: no line comes again."""
     inner = [composite_of([12] * RECORDS, LONG), dotted(LONG)]
-    font = small.line_font([composite_of([11] * RECORDS, LONG)] * 10, hidden=inner)
+    font = small.line_font([composite_of([11] * RECORDS, LONG)] * 10, hidden=inner, others=PLAIN)
     text = small.line_text(10)
     return Hostile(font, text[0], lines=tuple(text))
 
@@ -56,7 +56,7 @@ def two_by_ten():
 def quarters():
     """Ten glyphs that each spend some 28 % of the work, one a line."""
     inner = [composite_of([12] * 8, LONG), dotted(LONG)]
-    font = small.line_font([composite_of([11] * 3, LONG)] * 10, hidden=inner)
+    font = small.line_font([composite_of([11] * 3, LONG)] * 10, hidden=inner, others=PLAIN)
     text = small.line_text(10)
     return Hostile(font, text[0], lines=tuple(text))
 
@@ -78,7 +78,7 @@ def copies_and_corners(count=4096):
 def eight_levels():
     """A composite of two composites, eight levels deep, each with a long program."""
     glyphs = [composite_of([it + 2] * 2, LONG) for it in range(8)]
-    return one_of([*glyphs, dotted(LONG)])
+    return one_of([*glyphs, dotted(LONG)], others=PLAIN)
 
 
 # Pushes 255 bytes and clears the stack; and calls of this function 0.

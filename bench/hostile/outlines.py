@@ -2,11 +2,9 @@
 import random
 
 import small_fonts as small
-from hostile.parts import POINTS, PROGRAM, Hostile, again, composite_of, dotted, line_of, one_of
+from hostile.parts import PLAIN, POINTS, PROGRAM, Hostile, again, composite_of, dotted, line_of, one_of
 from hostile.sizes import WORK, largest, most_glyphs
 
-# A prep that sets vectors alone: the font has programs, and asks for no dropouts.
-PLAIN = {"prep": b"\x01"}
 # At 300 pixels per em and 64 units: nearly the largest picture, 16,383 columns and 4,092 rows; nearly as far as a
 # coordinate goes, 32,765 pixels; and a line of such glyphs.
 EM, WIDTH, HEIGHT, FAR = 64, 3495, 873, 6990
@@ -30,7 +28,7 @@ def as_many(on):
 
 
 def many_large(count, size=300):
-    """So many glyphs of 131,072 edges, of which each row crosses some 33,000."""
+    """So many glyphs of 131,072 edges, or 524,288 with best; each row crosses 16,384 of them."""
     return line_of([up_and_down(POINTS, 0), *again(count - 1)], **{**LARGE, "size": size})
 
 
@@ -182,13 +180,13 @@ COARSE = {"em": 1024, "ascent": 1024, "advance": 1024}
 
 
 def flat(count=243, others=()):
-    """131,072 edges for each glyph that meet no row."""
+    """131,072 edges for each glyph that meet no row; best joins them to 129."""
     glyph = small.simple([(it % 256, it % 2, 0) for it in range(POINTS)])
     return line_of([glyph, *again(count - 1)], others=others, **FINE)
 
 
 def with_looks(count=240, size=16, **sizes):
-    """As many edges, and 20 gaps within black that are crossed both ways: each is a look at all edges."""
+    """Curves that meet no row, and 20 gaps within black that are crossed both ways: each is a look at all edges."""
     zigzag = [(100 + it // 2 * 40 + it % 2 * 4, 900 if it % 2 else 100) for it in range(80)]
     square = small.square(0, 0, 1024, 1024)
     points = POINTS - len(square) - len(zigzag)
@@ -235,7 +233,7 @@ def slivers(count=180, **sizes):
 
 
 def far_short():
-    """131,072 edges that meet no row, and specks 65,530 rows apart: many bands, and in each all edges."""
+    """114,653 edges within three rows, and specks 65,530 rows apart: many bands, and in each all edges."""
     short = [(it % 2, it % 2, 0) for it in range(POINTS - 6)]
     glyph = small.simple(speck(-FAR, -FAR), short, speck(FAR, FAR, -1))
     return line_of([glyph], bearing=-FAR, **DISTANT)

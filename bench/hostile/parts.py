@@ -12,6 +12,9 @@ TEXT = 4096
 # As many bytes as the program of a glyph may have.
 CODE = 65535
 
+# A prep that sets vectors alone: the font has programs, so those of its glyphs are run, and asks for no dropouts.
+PLAIN = {"prep": b"\x01"}
+
 # SPVTL and SFVTL of the points 0 and 1, which lie at a slant; reference points 1 and 2 are 0 and 2.
 SLANTED = bytes.fromhex("B10001 06 B10001 08 B000 11 B002 12")
 

@@ -1,6 +1,6 @@
 """Fonts whose programs run as long as they may: 1,000,000 steps each, in up to 32 components at each of some depths."""
 import small_fonts as small
-from hostile.parts import POINTS, SLANTED
+from hostile.parts import PLAIN, POINTS, SLANTED
 from hostile.parts import composite_of, dotted, function, looping, one_of, pushes, spread, spread_contours, touch, tree
 
 # PUSHW -3, JMPR
@@ -18,7 +18,7 @@ LONG = rounds(32767) * 5 + rounds(2826)
 
 def of_trees(depths, code):
     """Composites with a program, so many deep, and a point with the same program."""
-    return one_of(tree(depths, dotted(code), code))
+    return one_of(tree(depths, dotted(code), code), others=PLAIN)
 
 
 def four():
@@ -26,7 +26,8 @@ def four():
     # The glyphs 2, 3 and 4 are empty at one, two and three depths; so are 6, 7 and 8, of which half has the point, 5.
     parts = [composite_of([it] * 32, LONG) for it in (0, 2, 3)]
     dots = [dotted(LONG), composite_of([5] * 32, LONG), composite_of([6] * 32, LONG)]
-    return one_of([composite_of([4] * 31 + [8], LONG), *parts, *dots, composite_of([3] * 16 + [7] * 16, LONG)])
+    glyphs = [composite_of([4] * 31 + [8], LONG), *parts, *dots, composite_of([3] * 16 + [7] * 16, LONG)]
+    return one_of(glyphs, others=PLAIN)
 
 
 def points():
@@ -34,13 +35,13 @@ def points():
     turn = b"\x31" * 65000
     # The way back is -65,000, for which a word is too short: -32,500 and -32,507, and an ADD.
     back = bytes.fromhex("B001 61 20") + b"\xb9" + small.words(-32500, -32511) + bytes.fromhex("60 23 78")
-    return one_of([dotted(bytes.fromhex("01 B00F B000 2E") + turn + back + b"\x21", POINTS)])
+    return one_of([dotted(bytes.fromhex("01 B00F B000 2E") + turn + back + b"\x21", POINTS)], others=PLAIN)
 
 
 def skips():
     """PUSHB 0, IF, 65,000 bytes that are skipped, EIF, and back, without end."""
     back = b"\xb9" + small.words(-32500, -32510) + bytes.fromhex("60 1C")
-    return one_of([dotted(bytes.fromhex("B000 58") + b"\x4f" * 65000 + b"\x59" + back)])
+    return one_of([dotted(bytes.fromhex("B000 58") + b"\x4f" * 65000 + b"\x59" + back)], others=PLAIN)
 
 
 def of_code(text, rounds=1, tail="22", **more):

@@ -1,7 +1,7 @@
 """How large a font may be before it is refused: what its glyphs count, by the definitions that tests/work has."""
 from bisect import bisect_left
 
-from counting import counted, edges_of
+from counting import counted
 from hostile.parts import TEXT
 
 # What a line may have: the points of its glyphs, each once, and their crossings at all places.
@@ -23,8 +23,8 @@ def counts(contours, size=16, em=1024, others=(), **_):
     a font without a prep.
     """
     points = sum(map(len, contours)) + len(contours) + 2 * PHANTOMS
-    edges = [edge for contour in contours for edge in edges_of(in_pixels(contour, size, em))]
-    return points, counted(edges, "prep" not in dict(others))
+    placed = [in_pixels(contour, size, em) for contour in contours]
+    return points, counted(placed, "prep" not in dict(others))
 
 
 def is_allowed(points, crossings, work):

@@ -177,37 +177,55 @@ def why_wrong(font, kind, answer, tables=None):
     return "has a status or a line that cannot come here"
 
 
-def are_pictures(one, other):
-    """Tells whether two answers are pictures of the same length, about which nothing is said."""
-    one, other = ANSWER.fullmatch(one), ANSWER.fullmatch(other)
-    return all(it and it[1] == "0" and not it[4] for it in (one, other)) and one[2] == other[2]
+# What an answer says of a coordinate past the limit.
+FAR = ": 23 CoordRange"
+
+
+def is_size(answer):
+    """Tells whether an answer is the refusal of a picture's size."""
+    return bool(re.search(r"tt_render: 6[23] ", answer))
+
+
+def may_differ(best, full, without):
+    """Tells whether best may answer so beside full, and beside the answer without programs, where no program is refused.
+    Its picture may be as wide as the programs say, and so empty or too large, and phantom points are rounded to the
+    grid, and may so pass the limit; and what full refuses for the size comes behind what is refused of glyphs. In a font
+    with neither fpgm nor prep best runs no glyph's program, so none moves a point past the limit."""
+    if is_size(full):
+        return True
+    drawn = re.fullmatch(r"0 [0-9]+ [0-9]+\|", best) or is_size(best)
+    if FAR in full:
+        return bool(drawn and FAR not in without)
+    return bool(full.startswith("0 ") and (drawn or FAR in best))
 
 
 def why_not_alike(answers):
-    """Says what is wrong with the answers to a font and a text, by their kinds, or returns None. What `map` refuses,
-    and a picture's size, are refused alike by all; and what is refused without programs is refused with them, but for
-    coordinates, which programs may bring back, and the depth of components, of which best allows more. The ways to fit
-    that fall back do so where a program is refused; where none is, they answer as full does, but for the pixels that
-    best adds, where strokes would vanish, to a picture of the same length."""
+    """Says what is wrong with the answers to a font and a text, by their kinds, or returns None. What `map` refuses is
+    refused alike by all, and a picture's size by all but best, whose lines have a width of their own; and what is
+    refused without programs is refused with them, but for coordinates, which programs may bring back, and the depth of
+    components, of which best allows more. The ways to fit that fall back do so where a program is refused. Where none
+    is, fallback answers as full does, and best as may_differ says."""
     for kind, other in (("fallback", r": (3[0-9]|4[0-9]|50) "), ("best", r": (17|3[0-9]|4[0-9]|50) ")):
         if kind not in answers:
             continue
         full, falling = answers["full"], answers[kind]
         # What a program does is not refused: a glyph is drawn without it, or refused for another reason.
         if not re.search(other, full):
-            wrong = falling != full and not (kind == "best" and are_pictures(falling, full))
+            wrong = falling != full and not (kind == "best" and may_differ(falling, full, answers["none"]))
         else:
             wrong = not falling.startswith("0 ") and not re.search(r": [12]?[0-9] ", falling)
+            wrong = wrong and not (kind == "best" and is_size(falling))
         if wrong:
             return f"has '{falling}' as {kind}, and '{full}'"
     without = answers["none"]
     alike = without.startswith("2 ")
     if "map" in answers and answers["map"].startswith("1 "):
         without, alike = answers["map"], True
-    if not without.startswith("0 ") and "23 CoordRange" not in without:
-        deep = ("map", "best") if "17 ComponentDepth" in without else ("map",)
+    if not without.startswith("0 ") and FAR not in without:
+        by_others = "17 ComponentDepth" in without or is_size(without)
+        apart = ("map", "best") if by_others else ("map",)
         for kind, answer in answers.items():
-            if kind not in deep and (answer != without if alike else not answer.startswith("1 ")):
+            if kind not in apart and (answer != without if alike else not answer.startswith("1 ")):
                 return f"has '{answer}' as {kind}, and '{without}'"
     return None
 
@@ -247,8 +265,50 @@ def test_font():
     return bytes.fromhex(next(it for it in lines if it.startswith("font ")).split(" ")[1])
 
 
+class Asked(NamedTuple):
+    """A row of picture.txt: the words before the font, those behind it, standard input, and what is answered."""
+
+    name: str
+    words: list
+    font: bytes
+    behind: list
+    stdin: bytes
+    status: int
+    stdout: bytes
+    stderr: bytes
+
+
+def lines_of(words):
+    """Returns what the last field of a row names on standard error."""
+    line = " ".join(words)
+    return b"" if line == "-" else line.replace(" | ", "\n").encode() + b"\n"
+
+
+def rows_of_picture():
+    """Yields the rows of picture.txt."""
+    lines = (ROWS / "picture.txt").read_text(encoding="utf-8").splitlines()
+    for words in (it.split(" ") for it in lines if not it.startswith("#")):
+        name, command, font, text, size, margin, status, stdout, *stderr = words
+        shape = [] if size == "-" else ["--size", size, "--margin", margin]
+        alone = "--lines" not in command
+        behind, stdin = (["--", field(text)], b"") if alone else ([], field(text))
+        answer = int(status), field(stdout), lines_of(stderr)
+        yield Asked(name, [*command.split(","), *shape], field(font), behind, stdin, *answer)
+
+
 def rows():
-    """Yields the rows of tests/rows."""
+    """Yields the rows of tests/rows, of those in picture.txt the ones of `map` and of pictures without another option,
+    by small fonts."""
+    yield from rows_of_tables()
+    for it in rows_of_picture():
+        kind = it.words[0] if it.words[0] == "map" else it.words[2]
+        shape = (16, 0) if kind == "map" else (int(it.words[-3]), int(it.words[-1]))
+        if it.words[0] in ("map", "draw") and len(it.words) in (1, 7) and len(it.font) < 2000:
+            yield Row(it.name, kind, it.font, it.behind[1], shape, *it[5:])
+
+
+def rows_of_tables():
+    """Yields the rows of the five tables of tests/rows."""
     for table, kind in KINDS.items():
         whole = b""
         for line in (ROWS / f"{table}.txt").read_text(encoding="utf-8").split("\n"):
@@ -263,9 +323,8 @@ def rows():
                     font = whole if font == "whole" else field(font)
                 # Of `map` neither is asked, and these are for other questions.
                 shape = (16, 0) if kind == "map" else (int(rest.pop(0)), int(rest.pop(0)))
-                stderr = " ".join(rest[2:]).replace(" | ", "\n")
-                stderr = b"" if stderr == "-" else stderr.encode() + b"\n"
-                yield Row(name, kind, font, field(text), shape, int(rest[0]), field(rest[1]), stderr)
+                answer = int(rest[0]), field(rest[1]), lines_of(rest[2:])
+                yield Row(name, kind, font, field(text), shape, *answer)
 
 
 def question(kind, text, shape, size, changes=()):
@@ -321,26 +380,6 @@ def answer_of_program(kind, font, text, shape):
             timeout=60,
         )
     return answer_of(ended.returncode, ended.stdout, ended.stderr)
-
-
-def why_not_added(font, text, shape):
-    """Says how the picture of best is another than that of full with pixels added, or returns None."""
-    with font_in_file(font) as file:
-        full, best = (
-            subprocess.run(
-                words_of_program(kind, file.name, text, shape), stdin=subprocess.DEVNULL, capture_output=True, timeout=60
-            )
-            for kind in ("full", "best")
-        )
-    if full.returncode or best.returncode or len(full.stdout) != len(best.stdout):
-        return "are not two pictures of one length"
-    head = b"\n".join(full.stdout.split(b"\n", 2)[:2]) + b"\n"
-    if not best.stdout.startswith(head):
-        return "have other heads"
-    pairs = list(zip(full.stdout[len(head) :], best.stdout[len(head) :]))
-    if any(black & ~filled for black, filled in pairs):
-        return "lack pixels that full has"
-    return None if any(black != filled for black, filled in pairs) else "are the same picture"
 
 
 def report(name, passed, failures):

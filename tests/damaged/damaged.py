@@ -6,15 +6,13 @@ from itertools import chain
 from asking import (
     FITS,
     NOTHING,
-    ROOT,
     answer_of,
     answer_of_program,
-    are_pictures,
     asked,
     question,
     report,
     rows,
-    why_not_added,
+    rows_of_tables,
     why_not_alike,
     why_wrong,
     words_of,
@@ -28,8 +26,7 @@ LEAST = 300_000
 EACH = 2503
 
 # Of the many fonts of dropouts only these. The others differ by an outline or by a few bytes of a program, and would
-# take as long as all fonts without dropouts: in most of their pictures best has pixels that full has not, which is seen
-# by two runs of tt_render for each.
+# take as long as all fonts without dropouts.
 OF_DROPOUTS = {
     "dropouts_a_thin_corner_by_type_4",
     "dropouts_at_each_pen",
@@ -37,12 +34,6 @@ OF_DROPOUTS = {
     "dropouts_by_the_type_that_one_glyph_sets",
     "dropouts_of_a_glyph_that_is_refused",
     "dropouts_of_a_composite_by_its_own_program",
-}
-# The fonts in which best measures and scales otherwise than full, so that it may lack pixels that full has.
-OF_ORIGINALS = {
-    line.split()[0]
-    for line in (ROOT / "tests/hinted/originals.txt").read_text(encoding="utf-8").splitlines()
-    if not line.startswith("#")
 }
 
 
@@ -54,9 +45,13 @@ def is_asked(row):
 
 
 def fonts():
-    """Returns a row of each font that is damaged, the test font first; where there is one, a row with a picture."""
+    """Returns a row of each font that is damaged, the test font first; where there is one, a row with a picture. A case
+    whose font is another one for best has this one."""
     found = {}
-    for row in filter(is_asked, rows()):
+    of_best = {row.name: row.font for row in rows_of_tables() if row.kind == "best"}
+    for row in filter(is_asked, rows_of_tables()):
+        if of_best.get(row.name, row.font) != row.font:
+            continue
         if row.font not in found or row.kind != "map" and found[row.font].kind == "map":
             found[row.font] = row
     return list(found.values())
@@ -85,14 +80,14 @@ def wrong_cut(size, answer):
 
 
 def one_font(number, row):
-    """Asks about the damages of a row's font; returns how many answers pass, the failures, what tt_render is to be asked
-    too, and the questions to which best answers another picture than full."""
+    """Asks about the damages of a row's font; returns how many answers pass, the failures, and what tt_render is to be
+    asked too."""
     kinds = ("map", *FITS)
     cases = [(size, changes, kind) for size, changes in damages(row.font) for kind in kinds]
     lines = [f"font {words_of(row.font)}"]
     lines += [question(kind, row.text, row.shape, size, changes) for size, changes, kind in cases]
     answers, wrong = asked(lines)
-    passed, failures, again, added = 0, [], [], []
+    passed, failures, again = 0, [], []
     for at, ((size, changes, kind), answer) in enumerate(zip(cases, answers)):
         data = damaged(row.font, size, changes)
         why = why_wrong(data, kind, answer)
@@ -113,16 +108,10 @@ def one_font(number, row):
         why = why_not_alike(of_kind)
         if why:
             failures.append(f"{row.name}, {size} bytes with {changes or 'no change'}, {why}")
-        elif (
-            row.name not in OF_ORIGINALS
-            and are_pictures(of_kind["full"], of_kind["best"])
-            and of_kind["full"] != of_kind["best"]
-        ):
-            added.append((damaged(row.font, size, changes), row.text, row.shape))
     if wrong or len(answers) != len(cases):
         at = min(len(answers), len(cases) - 1)
         failures.append(f"{row.name}: {wrong or 'too few or too many answers'}, at '{lines[at + 1]}'")
-    return passed, failures, again, added
+    return passed, failures, again
 
 
 def whole_rows():
@@ -178,12 +167,14 @@ BAD = [
 REFUSED = f"1 {NOTHING}|tt_render: glyf+22: 14 GlyphShort|"
 OFF_PROFILE = f"1 {NOTHING}|tt_render: glyf+14: 35 OffProfile|"
 TOO_DEEP = f"1 {NOTHING}|tt_render: glyf+32: 17 ComponentDepth|"
+TOO_LARGE = f"2 {NOTHING}|tt_render: 63 PictureLarge|"
+TOO_FAR = f"1 {NOTHING}|tt_render: glyf+22: 23 CoordRange|"
 UNFITTED = "tt_render: glyph 1 unfitted: glyf+14: 35 OffProfile|"
 UNFITTED_BY_BEST = "tt_render: glyph 1 unfitted: glyf+15: 47 DivZero|"
 ALIKE = [
     ({"map": "0 13 1|", "none": "0 11 1|", "full": REFUSED}, True),
     ({"map": "0 13 1|", "none": REFUSED, "full": OFF_PROFILE}, True),
-    ({"none": REFUSED.replace("14 GlyphShort", "23 CoordRange"), "full": "0 11 1|"}, True),
+    ({"none": TOO_FAR, "full": "0 11 1|"}, True),
     ({"map": "0 13 1|", "none": REFUSED, "full": "0 11 1|"}, False),
     ({"map": REFUSED, "none": REFUSED, "full": "0 11 1|"}, False),
     ({"map": REFUSED, "none": "0 11 1|", "full": REFUSED}, False),
@@ -198,8 +189,17 @@ ALIKE = [
     ({"none": "0 11 1|", "full": OFF_PROFILE, "best": f"0 11 1|{UNFITTED_BY_BEST}"}, True),
     ({"none": "0 11 1|", "full": OFF_PROFILE, "best": OFF_PROFILE}, False),
     ({"none": "0 11 1|", "full": "0 11 2|", "best": "0 11 1|"}, True),
-    ({"none": "0 11 1|", "full": "0 11 2|", "best": "0 12 1|"}, False),
+    ({"none": "0 11 1|", "full": "0 11 2|", "best": "0 12 1|"}, True),
+    ({"none": "0 11 1|", "full": "0 11 2|", "best": f"2 {NOTHING}|tt_render: 63 PictureLarge|"}, True),
+    ({"none": TOO_LARGE, "full": TOO_LARGE, "best": "0 12 1|"}, True),
+    ({"none": TOO_LARGE, "full": TOO_LARGE, "best": REFUSED}, True),
+    ({"none": TOO_LARGE, "full": TOO_LARGE, "fallback": REFUSED}, False),
     ({"none": "0 11 1|", "full": "0 11 2|", "best": REFUSED}, False),
+    ({"none": "0 11 1|", "full": "0 11 2|", "best": TOO_FAR}, True),
+    ({"none": "0 11 1|", "full": TOO_FAR, "best": "0 11 1|"}, True),
+    ({"none": "0 11 1|", "full": TOO_FAR, "fallback": "0 11 1|"}, False),
+    ({"none": "0 11 1|", "full": TOO_FAR, "best": REFUSED}, False),
+    ({"none": TOO_FAR, "full": TOO_FAR, "best": "0 11 1|"}, False),
     ({"none": "0 11 1|", "full": "0 11 2|", "best": f"0 11 1|{UNFITTED_BY_BEST}"}, False),
     ({"none": TOO_DEEP, "full": TOO_DEEP, "best": "0 11 1|"}, True),
     ({"none": REFUSED, "full": REFUSED, "best": "0 11 1|"}, False),
@@ -224,13 +224,6 @@ def same_as_program(cases):
     return len(cases) - len(failures), failures
 
 
-def only_added(cases):
-    """Sees that tt_render's picture of best is that of full with pixels added; returns how many are, and the failures."""
-    found = [(data, why_not_added(data, text, shape)) for data, text, shape in cases]
-    failures = [f"full and best of {data.hex()} {why}" for data, why in found if why]
-    return len(cases) - len(failures), failures
-
-
 def pieces(cases):
     """Returns the cases in as many parts as there are processors."""
     return [cases[at :: os.cpu_count()] for at in range(os.cpu_count())]
@@ -244,13 +237,11 @@ def main():
         by_font = list(pool.map(one_font, range(len(cases)), cases))
         answers = sum(it[0] + len(it[1]) for it in by_font)
         again = list(chain.from_iterable(it[2] for it in by_font))
-        added = list(chain.from_iterable(it[3] for it in by_font))
-        ended += [*by_font, *pool.map(same_as_program, pieces(again)), *pool.map(only_added, pieces(added))]
+        ended += [*by_font, *pool.map(same_as_program, pieces(again))]
     for it in ended:
         passed += it[0]
         failures += it[1]
     print(f"damaged fonts: {len(cases)} fonts, {answers} answers, {len(again)} of them asked of tt_render too")
-    print(f"  in {len(added)} pictures best has pixels that full has not")
     if answers < LEAST or len(again) < LEAST // EACH:
         failures.append(f"only {answers} answers, and {len(again)} of tt_render")
     report("damaged fonts", passed, failures)

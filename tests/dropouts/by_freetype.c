@@ -10,15 +10,16 @@
    pen. A glyph that is not the same number of points and contours here and there ends the run.
 
    The picture is that of `tt_render draw` with a margin of 4 pixels, where 4 spaces follow each glyph, so that none
-   stands on another. CELLS gets a line for each glyph: the first column that is its, 4 before its pen, and how many are
-   its, to 4 behind its advance; the glyph; and how many rows lie between the base line and the margin above. */
+   stands on another. The first glyph of the file is the space. An advance is what lies between the first two phantom
+   points of the file, in whole pixels. CELLS gets a line for each glyph: the first column that is its, 4 before its pen,
+   and how many are its, to 4 behind its advance; the glyph; and how many rows lie between the base line and the margin
+   above. */
 #include <stdio.h>
 #include <stdlib.h>
 #include <string.h>
 
 #include <ft2build.h>
 #include FT_FREETYPE_H
-#include FT_ADVANCES_H
 #include FT_BITMAP_H
 #include FT_MODULE_H
 #include FT_OUTLINE_H
@@ -78,13 +79,27 @@ static void fill_no_dropout(FT_Outline *outline) {
   for (int i = 0; i < outline->n_points; i++) outline->tags[i] &= 3;
 }
 
-/* A length in font units as whole pixels, the nearest, and from halves the upper. */
-static long pixels(long units) { return divided(2 * units * size + face->units_per_EM, 2 * face->units_per_EM); }
+/* The advance of the glyph of a line of the file. */
+static long advance(char *at) {
+  long left, right;
+  number(&at);
+  pass(&at, "phantom");
+  left = number(&at);
+  number(&at);
+  right = number(&at);
+  right = divided(right - left + 32, 64);
+  return right < 0 ? 0 : right;
+}
 
-static long advance(FT_UInt glyph) {
-  FT_Fixed units;
-  need(FT_Get_Advance(face, glyph, FT_LOAD_NO_SCALE, &units), "no advance");
-  return pixels(units);
+/* Tells how wide 4 spaces are, of which the file's first line is one. */
+static long spaces(FILE *outlines) {
+  static char line[LINE];
+  long wide;
+  need(!fgets(line, LINE, outlines), "no glyph");
+  wide = SPACES * advance(line);
+  rewind(outlines);
+  need(wide < 2 * MARGIN, "the spaces are too narrow");
+  return wide;
 }
 
 /* A length in font units as pixels, rounded up. */
@@ -93,10 +108,9 @@ static long whole(long units) { return -divided(-units * size, face->units_per_E
 /* Tells the cell of each glyph of the file; how far the line goes, in pixels. */
 static long lay(FILE *outlines, FILE *cells, long rise) {
   static char line[LINE];
-  long end = 0, space = SPACES * advance(FT_Get_Char_Index(face, ' '));
-  need(space < 2 * MARGIN, "the spaces are too narrow");
+  long end = 0, space = spaces(outlines);
   while (fgets(line, LINE, outlines)) {
-    long wide = advance(atol(line));
+    long wide = advance(line);
     fprintf(cells, "%ld %ld %ld %ld\n", end, wide + 2 * MARGIN, atol(line), rise);
     end += wide + space;
   }
@@ -132,7 +146,7 @@ static void add(FT_Bitmap *to, const FT_Bitmap *from, long column, long row) {
    of its bitmap. */
 static void draw(FILE *outlines, int plain, FT_Bitmap *picture, long rise) {
   static char line[LINE];
-  long pen = MARGIN, space = SPACES * advance(FT_Get_Char_Index(face, ' '));
+  long pen = MARGIN, space = spaces(outlines);
   FT_GlyphSlot slot = face->glyph;
   while (fgets(line, LINE, outlines)) {
     char *at = line;
@@ -142,7 +156,7 @@ static void draw(FILE *outlines, int plain, FT_Bitmap *picture, long rise) {
     if (plain) fill_no_dropout(&slot->outline);
     need(FT_Render_Glyph(slot, FT_RENDER_MODE_MONO), "a glyph is not drawn");
     add(picture, &slot->bitmap, pen + slot->bitmap_left, rise + MARGIN - slot->bitmap_top);
-    pen += advance(glyph) + space;
+    pen += advance(line) + space;
   }
 }
 

@@ -26,8 +26,8 @@
  *   For which pixel. It asks for its left pixel. With smart rules it asks for the right one where the least place of
  *   the crossings upward and that of those downward make 65/64 of a pixel or more, each counted from the left centre,
  *   and none as a pixel. Where that pixel is outside the glyph's box, it is the other one. The box has the columns whose
- *   centres lie from the least to the greatest x of the edge ends, or else the nearer one to their middle, of two the
- *   right one.
+ *   centres lie from the least to the greatest x of all points, or else the nearer one to their middle, of two the right
+ *   one. The two are told with the question, since points off the curve may lie outside of the edges.
  *
  *   What is added. A gap gives way where the gap left of it asks for the pixel that they have in common. First all rows
  *   add what their gaps ask for, and then all columns, for which those pixels are black.
@@ -48,6 +48,8 @@ typedef struct {
   /* Each contour ends before the edge of a number. */
   int ends[CONTOURS];
   int contours;
+  /* The box of all points, those off the curve too. */
+  Point least, most;
 } Outline;
 
 typedef struct {
@@ -233,16 +235,9 @@ static int is_added(const Pass *it, int64_t p, int64_t j) { return adds(it, p, j
 
 static void find_box(Pass *it) {
   const Outline *o = it->outline;
+  int64_t low = o->least.x, high = o->most.x;
   it->first = it->last = 0;
   if (o->count == 0) return;
-  int64_t low = o->edges[0].a.x, high = low;
-  for (int i = 0; i < o->count; i++) {
-    int64_t xs[] = {o->edges[i].a.x, o->edges[i].b.x};
-    for (int k = 0; k < 2; k++) {
-      if (xs[k] < low) low = xs[k];
-      if (xs[k] > high) high = xs[k];
-    }
-  }
   it->first = line_from(low);
   it->last = gap_of(high);
   if (it->first <= it->last) return;
@@ -257,6 +252,8 @@ static Outline turned_round(const Outline *o) {
     Edge e = o->edges[i];
     it.edges[i] = (Edge){{e.a.y, e.a.x}, {e.b.y, e.b.x}};
   }
+  it.least = (Point){o->least.y, o->least.x};
+  it.most = (Point){o->most.y, o->most.x};
   return it;
 }
 
@@ -310,6 +307,7 @@ static void write_case(FILE *out, Rules rules, const Case *it) {
   }
   fprintf(out, " %d", o->contours);
   for (int k = 0; k < o->contours; k++) fprintf(out, " %d", o->ends[k]);
+  fprintf(out, " %" PRId64 " %" PRId64 " %" PRId64 " %" PRId64, o->least.x, o->least.y, o->most.x, o->most.y);
   putc('\n', out);
 }
 
@@ -453,6 +451,27 @@ static void random_outline(Outline *o, Ground g) {
   if (o->contours < CONTOURS && one_in(40)) o->ends[o->contours++] = o->count;
 }
 
+static void widen(Outline *o, Point p) {
+  if (p.x < o->least.x) o->least.x = p.x;
+  if (p.y < o->least.y) o->least.y = p.y;
+  if (p.x > o->most.x) o->most.x = p.x;
+  if (p.y > o->most.y) o->most.y = p.y;
+}
+
+/* The box of the edges, or at times a greater one: a point lies off the curve, near the edges. */
+static void add_box_of_points(Outline *o, Ground g) {
+  o->least = o->most = o->count > 0 ? o->edges[0].a : (Point){0, 0};
+  for (int i = 0; i < o->count; i++) {
+    widen(o, o->edges[i].a);
+    widen(o, o->edges[i].b);
+  }
+  while (o->count > 0 && !one_in(3)) {
+    Point at = o->edges[pick(0, o->count - 1)].a;
+    widen(o, (Point){clamped(at.x + on_grid(g, pick(-2 * PIXEL, 2 * PIXEL))),
+      clamped(at.y + on_grid(g, pick(-2 * PIXEL, 2 * PIXEL)))});
+  }
+}
+
 /* Half of the frames have all rows of the window and of two pixels round it, on which the code answers by the tape that
  * it was given; for others it makes one. */
 static Frame random_frame(Window w) {
@@ -471,6 +490,7 @@ static void random_case(Case *it) {
   int64_t x = one_in(20) ? pick(-100000, 100000) : pick(-8, 8), y = one_in(20) ? pick(-100000, 100000) : pick(-8, 8);
   random_outline(&it->outline, g);
   move(&it->outline, x * PIXEL, y * PIXEL);
+  add_box_of_points(&it->outline, g);
   it->window = (Window){x - 1, y - 1, g.width + 2, g.height + 2};
   if (one_in(5)) it->window = (Window){x + pick(-2, g.width), y + pick(-2, g.height), pick(1, 12), pick(1, 12)};
   if (one_in(100)) it->window.left += pick(-100, 100);

@@ -5,7 +5,7 @@
 # with a margin of `margin` pixels. For each glyph and size of the table prints a line, SIZE GLYPH and whether the
 # outline, and the picture, is `same` or `other`.
 what == "table" && $1 == "units" { em = $2; ascent = $3; next }
-what == "table" { glyph[++glyphs] = $1; advance[glyphs] = $2; sums[glyphs] = $0 }
+what == "table" { glyph[++glyphs] = $1; sums[glyphs] = $0 }
 what == "answers" { outline[$1 " " $2] = sum_of_outline() }
 what == "picture" && $1 == "size" { begin($2, $3); next }
 what == "picture" { for (i = 1; i <= NF; i++) take($i) }
@@ -40,22 +40,17 @@ function sum_of_outline(    sum, i) {
   return sum
 }
 
-# A length in font units as whole pixels, the nearest, and from halves the upper.
-function pixels(units) { return int((2 * units * ppem + em) / (2 * em)) }
-
-# Begins a picture: finds the pen of each glyph, and of each column whose it is; the spaces behind a glyph are half its,
-# and half those of the next.
-function begin(of_size, of_width,    g, end, space) {
+# Begins a picture: takes the pen of each glyph, and finds of each column whose it is; of what lies between the advance
+# of a glyph and the next pen, half is its, and half the next one's.
+function begin(of_size, of_width,    g, between) {
   ppem = of_size
   width = of_width
   base = int((ascent * ppem + em - 1) / em) + margin - 1
-  space = 4 * pixels(advance[1])
-  end = margin
   column = row = last = 0
   for (g = 1; g <= glyphs; g++) {
-    pen[g] = end
-    end += pixels(advance[g]) + space
-    while (last < (g < glyphs ? end - space / 2 : width)) owner[last++] = g
+    pen[g] = $(2 * g + 2)
+    between = g < glyphs ? (pen[g] + $(2 * g + 3) + $(2 * g + 4)) / 2 : width
+    while (last < between) owner[last++] = g
     picture[ppem " " g] = 0
   }
 }

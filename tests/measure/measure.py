@@ -76,13 +76,16 @@ def touches_edge(picture):
     return box and (box[0] == 0 or box[1] == 0 or box[2] == picture[0] - 1 or box[3] == picture[1] - 1)
 
 
-def advances_of(font, size, text):
-    """Returns glyph and advance in pixels of each character, by `map` and the font's units."""
+def advances_of(font, size, fit, text):
+    """Returns glyph and advance in pixels of each character: by `map` and the font's units, or with best by the width
+    of its picture, since there the advance is what the glyph's program makes of it."""
     _, stdout, _ = run("map", font, text)
     _, measured, _ = run("measure", "--size", size, "--fit", "none", font, text)
     em = int(measured.split()[1])
     pairs = [tuple(map(int, line.split()[1:])) for line in stdout.decode().splitlines()]
-    return [(glyph, (2 * advance * size + em) // (2 * em)) for glyph, advance in pairs], em
+    if fit == "best":
+        return [(glyph, wide(font, size, fit, it)[0] - 2 * WIDE) for it, (glyph, _) in zip(text, pairs)]
+    return [(glyph, (2 * advance * size + em) // (2 * em)) for glyph, advance in pairs]
 
 
 def try_measure(font, size, fit, text, margin):
@@ -92,7 +95,7 @@ def try_measure(font, size, fit, text, margin):
     status, stdout, stderr = run("measure", "--size", size, "--fit", fit, "--margin", margin, font, text)
     if whole is None or touches_edge(whole):
         return
-    glyphs, em = advances_of(font, size, text)
+    glyphs = advances_of(font, size, fit, text)
     lines = stdout.decode().splitlines()
     wanted = []
     width, height = whole[0] - 2 * WIDE + 2 * margin, whole[1] - 2 * WIDE + 2 * margin

@@ -138,8 +138,15 @@ def whole(v):
     return int(v * 16384)
 
 
-def chords(points, dx):
-    """Returns the edges of a contour moved by dx, in 1/8192 pixel: a curve is eight chords, a straight line is one."""
+def chord_count(ends, control):
+    """Returns the fewest chords of 1, 2, 4, 8 and 16 that leave a curve by 1/1024 pixel at most, or else 32."""
+    bend = max(abs(q - 4 * c + r) for q, c, r in zip(ends[0], control, ends[1]))
+    return next((n for n in (1, 2, 4, 8, 16) if 2 * bend <= n * n), 32)
+
+
+def chords(points, dx, by_bend=False):
+    """Returns the edges of a contour moved by dx, in 1/8192 pixel. A straight line is one; a curve is eight chords, or
+    as many as it bends, with ends at the nearest place, and from halves at the upper."""
     points = [(x + dx, y, on) for x, y, on in points]
     edges = []
     for it, (x, y, on) in enumerate(points if len(points) > 1 else []):
@@ -149,10 +156,14 @@ def chords(points, dx):
         if on:
             continue
         # Twice where the curve begins and ends: a neighbour on the curve, or midway to one off it.
-        (qx, qy), (rx, ry) = [(2 * p[0], 2 * p[1]) if p[2] else (p[0] + x, p[1] + y) for p in (before, after)]
+        between = [(2 * p[0], 2 * p[1]) if p[2] else (p[0] + x, p[1] + y) for p in (before, after)]
+        n = chord_count(between, (x, y)) if by_bend else 8
         ends = [
-            ((8 - k) ** 2 * qx + 4 * k * (8 - k) * x + k * k * rx, (8 - k) ** 2 * qy + 4 * k * (8 - k) * y + k * k * ry)
-            for k in range(9)
+            tuple(
+                nearest(64 * ((n - k) ** 2 * q + 4 * k * (n - k) * c + k * k * r), n * n)
+                for q, c, r in zip(between[0], (x, y), between[1])
+            )
+            for k in range(n + 1)
         ]
         edges += zip(ends, ends[1:])
     return edges

@@ -13,7 +13,8 @@ import markdown
 EXAMPLES = {
     "An opcode on the stack": (r"\b(ROLL|Roll|roll)\b",),
     "An opcode on points": (r"\b(SHPIX|Shpix|shpix)\b|shpix_",),
-    "The value of a limit": (r"67[,_]?108[,_]?864",),
+    # The greatest bend of a curve, in 1/128 pixel, is the same number.
+    "The value of a limit": (r"67[,_]?108[,_]?864", "crates/tt_arc/specs/Examples.antt"),
     "A format of cmap": (r"[Ff]ormat ?12|format12",),
     "A member of `Fit`": (r'Fit::Best|\bBest\b|TT_BEST|"best"|fit best|FITS',),
     "A refusal of a font": (r"ScaledOffset|scaled_offset",),

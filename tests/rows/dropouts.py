@@ -14,7 +14,8 @@ is a crossing, or where an edge that is not level ends on the line in the gap, w
 types 0 and 1 it is the left pixel, by 4 and 5 the right one where the least place of a crossing upward and the least of
 one downward are 8320 or more together. A pixel outside the columns of the glyph's box is not taken, but the other one:
 these are the columns with centres in it, or where there is none, the one nearer to its middle, and of two the right
-one. A gap adds its pixel unless the gap on its left asks for the pixel in common.
+one. The box is that of all points, those off the curve too. A gap adds its pixel unless the gap on its left asks for
+the pixel in common.
 
 First all rows are filled, then all columns, for which what the rows added is black.
 """
@@ -64,18 +65,17 @@ def marks(contours, stubs):
     return found
 
 
-def columns_of(contours):
-    xs = [x for edges in contours for edge in edges for x, _ in edge]
+def columns_of(places):
+    xs = [x for x, _ in places]
     first, last = -((HALF - min(xs)) // PIXEL), (max(xs) - HALF) // PIXEL
     if first > last:
         first = last = first if 2 * PIXEL * first <= min(xs) + max(xs) else last
     return first, last
 
 
-def added(contours, black, stubs, smart):
+def added(contours, columns, black, stubs, smart):
     """Returns the pixels, as (column, row), that the gaps of all rows add."""
-    first, last = columns_of(contours)
-    asks = {}
+    (first, last), asks = columns, {}
     for (line, gap), (is_asked, up, down) in marks(contours, stubs).items():
         if is_asked and (gap, line) not in black and (gap + 1, line) not in black:
             column = gap + 1 if smart and min(up) + min(down) >= 8320 else gap
@@ -87,19 +87,19 @@ def exchanged(contours):
     return [[tuple((y, x) for x, y in edge) for edge in edges] for edges in contours]
 
 
-def filled(contours, scan_type):
+def filled(contours, points, scan_type):
     """Returns what is black of a glyph, by its pixels: `#` without dropouts, `r` by rows and `c` by columns."""
     edges = [edge for each in contours for edge in each]
     if not edges:
         return {}
-    (left, right), (low, high) = columns_of(contours), columns_of(exchanged(contours))
+    (left, right), (low, high) = columns_of(points), columns_of([it[::-1] for it in points])
     spots = [(column, row) for column in range(left - 1, right + 2) for row in range(low - 1, high + 2)]
     black = {spot for spot in spots if is_black(edges, *(PIXEL * it + HALF for it in spot))}
     rows, columns = set(), set()
     if scan_type in "0145":
         rules = scan_type in "04", scan_type in "45"
-        rows = added(contours, black, *rules)
-        columns = added(exchanged(contours), {spot[::-1] for spot in black | rows}, *rules)
+        rows = added(contours, (left, right), black, *rules)
+        columns = added(exchanged(contours), (low, high), {spot[::-1] for spot in black | rows}, *rules)
     return {**{spot[::-1]: "c" for spot in columns}, **dict.fromkeys(rows, "r"), **dict.fromkeys(black, "#")}
 
 
@@ -109,12 +109,17 @@ def drawn_by_types(file, text, size, margin, types, outline=None):
     font = TTFont(file)
     outlines, glyphs = Outlines(font, size), glyphs_of(font, text)
     widths = [nearest(font["hmtx"][font.getGlyphName(it)][0] * size, font["head"].unitsPerEm) for it in glyphs]
+    if not outline:
+        # What lies between the first two phantom points, to the nearest pixel, and from halves the upper.
+        phantoms = [outlines.outline(it)[2] for it in glyphs]
+        widths = [max(0, (right[0] - left[0] + 32) // 64) for left, right, *_ in phantoms]
     pens, (rise, depth) = accumulate(widths, initial=margin), extent(font, size)
     rows = [["."] * (sum(widths) + 2 * margin) for _ in range(rise + depth + 2 * margin)]
     for pen, glyph, scan_type in zip(pens, glyphs, types, strict=False):
         points, ends, phantom = outline or outlines.outline(glyph)
-        contours = [chords(points[start:end], -phantom[0][0]) for start, end in zip([0, *ends], ends)]
-        for (column, row), sign in filled([it for it in contours if it], scan_type).items():
+        contours = [chords(points[start:end], -phantom[0][0], True) for start, end in zip([0, *ends], ends)]
+        places = [(128 * (x - phantom[0][0]), 128 * y) for x, y, _ in points]
+        for (column, row), sign in filled([it for it in contours if it], places, scan_type).items():
             r, c = rise + margin - 1 - row, pen + column
             if 0 <= r < len(rows) and 0 <= c < len(rows[0]):
                 rows[r][c] = min(rows[r][c], sign, key="#rc.".index)

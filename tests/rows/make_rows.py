@@ -15,7 +15,9 @@ character repeated, and a case need not say it; of another text it must.
 
 With best it is the answer to `fallback`, unless a program is refused that the whole instruction set may run, or where
 something is not there, or components are nested too deep for the others, or where dropouts are filled: such a case says
-what it is.
+what it is. Best runs no glyph's program in a font that has neither a font program nor a control value program: so for
+best such a font gets a control value program, where a glyph has a program and the case has no line `alone`. It asks for
+the scan type that glyphs have where no program is run.
 """
 import ast
 import pathlib
@@ -62,6 +64,8 @@ OF_FULL = (
 )
 # Of the letters of a test font whose cmap is its own.
 GLYPHS = {'"A"': 1, '"B"': 2, '"AA"': 1}
+# A control value program that asks for scan type 1.
+TYPE_1 = bytes.fromhex("B801FF85B0018D")
 # By these scan types dropouts are filled.
 SCAN_TYPES = ["0", "1", "4", "5"]
 
@@ -89,6 +93,18 @@ def simple_glyph(contours, code):
     head = [len(contours), min(xs), min(ys), max(xs), max(ys), *ends, len(code)]
     steps = [after - before for each in (xs, ys) for before, after in zip((0, *each), each)]
     return b"".join(map(two, head)) + code + bytes(flags) + b"".join(map(two, steps))
+
+
+def has_code(glyph):
+    """Tells whether the bytes of a glyph have a program."""
+    contours = int.from_bytes(glyph[:2], "big")
+    if contours < 0x8000:
+        return any(glyph[10 + 2 * contours : 12 + 2 * contours]) and contours > 0
+    at, flags = 10, 0x20
+    while flags & 0x20 and at < len(glyph):
+        flags = int.from_bytes(glyph[at : at + 2], "big")
+        at += 4 + (4 if flags & 1 else 2) + (2 if flags & 0x8 else 4 if flags & 0x40 else 8 if flags & 0x80 else 0)
+    return bool(flags & 0x100)
 
 
 class Font:
@@ -133,6 +149,15 @@ class Font:
             loca += two(len(glyf) // 2)
             hmtx += two(self.advances[number]) + two(bearing)
         return {"glyf": glyf, "loca": loca, "hmtx": hmtx}
+
+    def with_programs_run(self):
+        """Returns the font, or where no glyph's program would be run the one with a control value program."""
+        codes = [has_code(it) for it in self.glyphs.values()] + [bool(self.codes.get(it)) for it in self.outlines]
+        if self.tables.get("fpgm") or self.tables.get("prep") or not any(codes):
+            return self
+        other = Font(self)
+        other.tables["prep"] = TYPE_1
+        return other
 
     def file(self):
         tables = {**self.made_of_glyphs(), **self.tables}
@@ -213,17 +238,19 @@ def cases():
             yield lines, base
 
 
-def font_of(lines, base):
-    """Returns the file of a case, and how many of its bytes are there, or None."""
-    font, cut = Font(base), None
+def font_of(lines, base, table="best"):
+    """Returns the file that a case has in a table, and how many of its bytes are there, or None."""
+    font, cut, is_alone = Font(base), None, False
     for words in lines[1:]:
         if words[0] in FILES:
             break
         if words[0] == "cut":
             cut = int(words[1])
+        elif words[0] == "alone":
+            is_alone = True
         else:
             font.change(words[0], words[1:])
-    return font.file(), cut
+    return (font.with_programs_run() if table == "best" and cut is None and not is_alone else font).file(), cut
 
 
 def asked(lines):
@@ -287,16 +314,16 @@ def rows_of_cuts(lines):
 
 def rows_of_case(lines, base, whole):
     """Yields the rows of a case, with the file that each stands in."""
-    name, (file, cut) = lines[0][1], font_of(lines, base)
-    place = f"cut:{cut}" if cut is not None else "whole" if file == whole else file.hex()
-    questions = list(asked(lines))
+    name, questions = lines[0][1], list(asked(lines))
     questions += fallen_back(questions)
     others = [it for it in questions if it[0] != "best"]
     for command, words, answered in [*others, *by_best(name, questions)]:
         status, stdout, line = answer(command, answered)
-        fields = [name, place, hexadecimal(text_of(words[0])), *words[1:], status, hexadecimal(stdout), line]
+        fields = [hexadecimal(text_of(words[0])), *words[1:], status, hexadecimal(stdout), line]
         for table in FILES[command]:
-            yield table, " ".join(fields)
+            file, cut = font_of(lines, base, table)
+            place = f"cut:{cut}" if cut is not None else "whole" if file == whole else file.hex()
+            yield table, " ".join([name, place, *fields])
 
 
 def main():

@@ -4,8 +4,8 @@ each answer of map.txt and each refusal of its cmap again, by the plain search o
 code with tt_render. The pictures of fallback.txt with lines beside them are put together: of a glyph that is told by
 fontTools, and of another one from the picture in fitted.txt. Where cases.txt says by which scan types a picture of best
 is drawn, it is drawn again by fontTools and the rules of dropouts.py, and each pixel has to be added by rows or by
-columns as is said there; and so it is where ../hinted/originals.txt says what its outline is. Says where an answer is
-another.
+columns as is said there; and so it is where ../hinted/originals.txt says what its outline is. So are the pictures of
+picture.txt whose fonts have no programs and no composites. Says where an answer is another.
 
   apt-get install python3-fonttools
   /usr/bin/python3 tests/rows/try_rows.py
@@ -21,7 +21,7 @@ from itertools import takewhile
 HERE = pathlib.Path(__file__).parent
 sys.path.insert(0, str(HERE.parent / "real_lines"))
 sys.path.insert(1, str(HERE.parent / "characters"))
-from dropouts import drawn_by_types
+from dropouts import TTFont, drawn_by_types
 from make_expected import drawn
 from make_rows import FILES, font_of, text_of
 from make_rows import cases as worked_cases
@@ -120,6 +120,26 @@ def other_originals():
     return count, others
 
 
+def other_picture():
+    """Returns how many pictures of picture.txt were drawn again, of those whose fonts have no programs and no composites,
+    and the names of those that are others."""
+    count, others = 0, []
+    lines = (HERE / "picture.txt").read_text(encoding="utf-8").splitlines()
+    for line in (it for it in lines if not it.startswith("#")):
+        name, words, font, text, size, margin, status, stdout, *_ = line.split(" ")
+        if words != "draw,--fit,best" or status != "0" or "*" in font + text + stdout:
+            continue
+        file, text = io.BytesIO(bytes.fromhex(font)), "" if text == "-" else bytes.fromhex(text).decode()
+        opened = TTFont(file)
+        if {"fpgm", "prep"} & {*opened.keys()} or any(it.isComposite() for it in opened["glyf"].glyphs.values()):
+            continue
+        rows = drawn_by_types(file, text, int(size), int(margin), "1" * len(text))
+        count += 1
+        if ["".join("01"[it in "#rc"] for it in row) for row in rows] != rows_of(bytes.fromhex(stdout)):
+            others.append(name)
+    return count, others
+
+
 def told(count, what, others):
     print(f"{count} {what}; other ones: {' '.join(others) or 'none'}")
     return bool(others)
@@ -139,6 +159,8 @@ def main():
     failed |= told(count, "pictures drawn again by scan types", others)
     count, others = other_originals()
     failed |= told(count, "pictures drawn of originals.txt", others)
+    count, others = other_picture()
+    failed |= told(count, "pictures of picture.txt drawn again", others)
     answers = [it for it in cases("map.txt") if it[0][3] == "0" or it[0][6].startswith("cmap+")]
     others = [words[0] for words, font, text in answers if looked_up(font, text) != words[4:]]
     sys.exit(told(len(answers), "answers and refusals of cmap looked up again", others) | failed)

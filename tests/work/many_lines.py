@@ -1,9 +1,9 @@
 """Lines of one call: the lines before a line may take no more than the budget of the call."""
 import small_fonts as small
 from asking import told
-from charging import Machine
-from counting import counted, edges_of
-from programs import POINTS, filler, pointed
+from charging import Machine, code_of, work_of
+from counting import counted
+from programs import POINTS, PREP, filler, pointed
 
 # What the lines before a line may take, by how many they are.
 FIRST, EACH = 20_000_000, 8_000_000
@@ -19,11 +19,11 @@ def budget(before):
 
 def costing(cost):
     """A glyph such that a line of it alone takes this much: its points, the copies for both programs of the font and
-    for its own, the steps of its own, and its crossings.
+    for its own, the steps of prep and of its own, and its crossings.
     """
-    edges = edges_of([(0, 0, 1)] * POINTS)
-    taken = pointed(POINTS) + 2 * MACHINE.begun() + MACHINE.copied() + CROSSING * counted(edges, True)
-    return filler(cost - taken)
+    crossings = counted([[(0, 0, 1)] * POINTS], True)
+    copies = 2 * MACHINE.begun() + MACHINE.copied()
+    return filler(cost - pointed(POINTS) - copies - work_of(PREP) - CROSSING * crossings)
 
 
 def refused(asked, name, text, number, size=16, options=(), why="65 WorkLarge", status=2):
@@ -44,7 +44,7 @@ def lines(asked):
     second, fifth, each = budget(1), budget(4) // 4, EACH
     costs = [second, second + 1, fifth, fifth + 1, each, each + FIRST // 20]
     glyphs = [*map(costing, costs), small.with_program(small.dots(1), b"\x00")]
-    asked.font.write_bytes(small.line_font(glyphs))
+    asked.font.write_bytes(small.line_font(glyphs, others={"prep": code_of(PREP)}))
     at_two, past_two, at_five, past_five, even, dear, cheap = (
         f"{it}\n".encode() for it in small.line_text(len(glyphs))
     )

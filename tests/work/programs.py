@@ -7,6 +7,8 @@ from charging import Machine, code_of, definition, number, push, refused_at, ste
 # Three steps a round, which stand at 0, 3 and 4: PUSHW -4, DUP, JROT.
 ROUND, PLACES = bytes.fromhex("B8FFFC 20 78"), (0, 3, 4)
 FDEF, IDEF = 0x2C, 0x89
+# A control value program of one step: with neither this one nor a font program, no glyph's program would be run.
+PREP = [step(0x00)]
 # Where the program of a simple glyph of one contour begins.
 CODE = 14
 
@@ -19,13 +21,13 @@ def pointed(*points):
 def endless_font(count):
     """So many glyphs of a point, each with a program without end; and where each program stands in glyf."""
     glyphs = [small.with_program(small.dots(1), ROUND)] * count
-    return small.line_font(glyphs), [it + CODE for it in places_of(glyphs)]
+    return small.line_font(glyphs, others={"prep": code_of(PREP)}), [it + CODE for it in places_of(glyphs)]
 
 
 def stopped_at(count):
     """The step at which each of so many programs without end is refused."""
     copied = Machine().copied()
-    left = WORK - pointed(*[1] * count) - 2 * copied
+    left = WORK - pointed(*[1] * count) - 2 * copied - work_of(PREP)
     for _ in range(count):
         steps = min(STEPS, left - copied) if left >= copied else 0
         left = left - copied - STEPS if left - copied >= STEPS else 0
@@ -69,7 +71,7 @@ SQUARE_POINTS = 4 + PHANTOMS
 
 def tables_of(machine, glyphs, fpgm):
     """The tables that a run of such a machine is begun with."""
-    tables = {"cvt ": bytes(2 * machine.values), "fpgm": code_of(fpgm)}
+    tables = {"cvt ": bytes(2 * machine.values), "fpgm": code_of(fpgm), "prep": code_of(PREP)}
     return {"maxp": small.maxp(glyphs + 1, machine.twilight, machine.storage)} | {k: v for k, v in tables.items() if v}
 
 
@@ -77,7 +79,7 @@ def exactly(asked, name, machine, steps, fpgm=()):
     """Two cases of one glyph: what is left of the work is just enough for it, or 1 too little. Before it in the line
     comes a glyph that leaves this much.
     """
-    asked_for = pointed(POINTS, 4) + machine.begun() + work_of(fpgm) + 3 * machine.copied() + work_of(steps)
+    asked_for = pointed(POINTS, 4) + machine.begun() + work_of([*fpgm, *PREP]) + 3 * machine.copied() + work_of(steps)
     for short, kind in enumerate(("enough", "1 too little")):
         glyphs = [filler(WORK - asked_for + short), small.with_program(SQUARE, code_of(steps))]
         asked.font.write_bytes(small.line_font(glyphs, others=tables_of(machine, 2, fpgm)))
@@ -93,7 +95,7 @@ def fitted_until(asked, name, machine, fpgm=(), count=4095):
     asked.font.write_bytes(small.line_font(glyphs, others=tables_of(machine, count, fpgm)))
     text = small.line_text(count)
     status, picture, _ = asked.draw("none", 16, text)
-    left = WORK - pointed(*[1] * count) - machine.begun() - work_of(fpgm) - machine.copied()
+    left = WORK - pointed(*[1] * count) - machine.begun() - work_of([*fpgm, *PREP]) - machine.copied()
     fitted = left // (machine.copied() + 1)
     lines = [unfitted(it + 1, place + CODE) for it, place in enumerate(places_of(glyphs)) if it >= fitted]
     told(f"{name}: {min(fitted, count)} of {count} glyphs", asked.draw("best", 16, text), (status, picture, lines))
@@ -247,7 +249,7 @@ def values(asked):
             value = [*number(index), RCVT]
             stored = code_of([push(0), *value, WS])
             for kind, tables, code in (
-                ("by a glyph", {}, raised(*value)),
+                ("by a glyph", {"prep": code_of(PREP)}, raised(*value)),
                 ("by prep", {"prep": stored}, raised(push(0), RS)),
             ):
                 asked.font.write_bytes(tall_font(4, code, **{"cvt ": table, **tables}))

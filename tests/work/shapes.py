@@ -1,11 +1,11 @@
 """Lines whose outlines have as many points or crossings as a line may have, or more."""
 import small_fonts as small
 from asking import DRAWN, REFUSED, told
-from counting import counted, edges_of
+from counting import counted
 
 POINTS, CROSSINGS = 1_000_000, 16_000_000
-# A glyph that makes up the rest of the crossings has about as many edges, or fewer.
-MOST_EDGES = 100_000
+# A glyph that makes up the rest of the crossings has as many points, or fewer.
+MOST_POINTS = 16_000
 
 
 def composite_of(*glyphs):
@@ -46,58 +46,51 @@ def points(asked):
     told(f"{name}, and 1, without a bound", asked.draw("fallback", 16, more), DRAWN)
 
 
-def edges_alone(count):
-    """Contours of this many edges in one point, at least two: off the curve, eight for each of its points."""
-    curves, rest = divmod(count - 2, 8)
-    if curves == 1:
-        curves, rest = 0, rest + 8
-    contours = [[(0, 0, 0)] * curves, [(0, 0, 1)] * (rest + 2)]
-    return [it for it in contours if it]
+def flickering(points):
+    """A contour of this many edges, an even number: by turns a unit to the right and back."""
+    return [(it % 2, 0) for it in range(points)]
 
 
-def counted_in(contours, filled):
-    """What the edges of some contours count together."""
-    return counted([it for contour in contours for it in edges_of(contour)], filled)
-
-
-def made_up(count, filled):
-    """How many of the first glyph, and glyphs of edges in one point. So many of the first and one of the second count
-    together as asked; the third and the fourth count one more than the second.
+def made_up(count, counts):
+    """What counts this much together: how many glyphs of MOST_POINTS flickering edges, the edges of one more such glyph,
+    if there is one, and how many glyphs of a point, each of which counts one. `counts` tells what such edges count.
     """
-    places = -(-count // MOST_EDGES)
-    # Each edge counts one, and so does the row of each glyph.
-    each, rest = divmod(count - places, places)
-    last = each + rest
-    glyphs = [edges_alone(it) for it in (each, last, last // 2, last - last // 2)]
-    counts = [counted_in(it, filled) for it in glyphs]
-    assert (places - 1) * counts[0] + counts[1] == count and counts[2] + counts[3] == counts[1] + 1
-    return places - 1, glyphs
+    rests, left = divmod(count, counts(MOST_POINTS))
+    each = (counts(4) - counts(2)) // 2
+    points = max(2 + (left - counts(2)) // each // 2 * 2, 0) if left >= counts(2) else 0
+    return rests, points, left - (counts(points) if points else 0)
 
 
 class Crossing:
-    """A font whose glyph crosses rows often. Four other glyphs make up the rest of the crossings, or one more. A prep
-    that sets vectors alone asks for no dropouts; without one they are filled.
+    """A font whose glyph crosses rows often. Three other glyphs make up the rest of the crossings. A prep that sets
+    vectors alone asks for no dropouts; without one they are filled.
     """
 
     def __init__(self, contours, size, em, advance, ascent, filled=False):
         scale = size * 64 // em
         assert scale * em == size * 64
-        scaled = [[(x * scale, y * scale, on) for x, y, on in contour] for contour in map(with_flags, contours)]
-        self.size, self.count = size, counted_in(scaled, filled)
+
+        def counts(contours):
+            return counted([[(x * scale, y * scale, on) for x, y, on in it] for it in map(with_flags, contours)], filled)
+
+        self.size, self.count = size, counts(contours)
         self.most = (CROSSINGS - 100) // self.count
-        self.rests, others = made_up(CROSSINGS - self.most * self.count, filled)
+        rest = CROSSINGS - self.most * self.count
+        self.rests, points, self.dots = made_up(rest, lambda points: counts([flickering(points)]))
+        self.last = points > 0
         left = min(x for contour in contours for x, *_ in contour)
         glyph = small.simple(*contours)
-        glyphs = [b"", glyph, glyph, *[small.simple(*it) for it in others]]
-        metrics = [(0, 0), (advance, left), (0, left), (0, 0), (0, 0), (0, 0), (0, 0)]
-        tables = {"cmap": small.line_cmap(6)} if filled else {"cmap": small.line_cmap(6), "prep": b"\x00"}
+        others = [small.simple(flickering(it)) for it in (MOST_POINTS, points or 2)]
+        glyphs = [b"", glyph, glyph, *others, small.dots(1)]
+        metrics = [(0, 0), (advance, left), (0, left), (0, 0), (0, 0), (0, 0)]
+        tables = {"cmap": small.line_cmap(5)} if filled else {"cmap": small.line_cmap(5), "prep": b"\x00"}
         self.data = small.font(glyphs, metrics, em=em, ascent=ascent, others=tables, long_loca=True)
 
     def lines(self, one_place=True):
         """A line with all the crossings that are allowed, one more, and a place of the glyph more."""
-        wide, narrow, rest, last, one, two = small.line_text(6)
-        places = (narrow if one_place else wide) * (self.most - 1) + rest * self.rests
-        return places + last + wide, places + one + two + wide, places + last + narrow + wide
+        wide, narrow, rest, last, dot = small.line_text(5)
+        places = (narrow if one_place else wide) * (self.most - 1) + rest * self.rests + last * self.last + dot * self.dots
+        return places + wide, places + dot + wide, places + narrow + wide
 
 
 def with_flags(contour):
@@ -127,7 +120,7 @@ def zigzag(low, high, points=160):
 
 
 def flat(rows, points=16384):
-    """131,055 edges that meet no row, and two sides that are so many rows high, at a pixel for each unit."""
+    """Curves that meet no row, and two sides that are so many rows high, at a pixel for each unit."""
     return [(0, 0), (0, rows)] + [(it % 2, 0, 0) for it in range(points - 2)]
 
 
@@ -144,9 +137,9 @@ def crossings(asked):
     assert filled.count == 800_359 + 4 * (159_840 + 80) + 94 == 1_440_133
     at_the_limit(asked, "with dropouts", filled)
     for rows in 0, 2048, 2049:
-        at_the_limit(asked, f"131,057 edges, {rows:,} rows", Crossing([flat(rows)], 16, 16, 4, 2050), same=True)
+        at_the_limit(asked, f"16,382 curves, {rows:,} rows", Crossing([flat(rows)], 16, 16, 4, 2050), same=True)
     banded = Crossing([flat(2049)], 16, 16, 4, 2050, filled=True)
-    at_the_limit(asked, "131,057 edges, 2,049 rows, with dropouts", banded)
+    at_the_limit(asked, "16,382 curves, 2,049 rows, with dropouts", banded)
     # Two specks at the corners of a box: 300 units of 26.6 for each of the font's.
     specks = [(0, 0), (1, 0), (0, 0)], [(1746, 872), (1747, 872), (1746, 872)]
     at_the_limit(asked, "a bitmap of 8,189 pixels by 4,088", Crossing(specks, 300, 64, 1750, 873, filled=True))

@@ -1,18 +1,23 @@
 -- The edges of a closed contour lead from one to the next, and from the last to the first.
-use Rattle.std.proofs.Common.{◌≡◌, ℕ, zero, suc, Bool, true, false, ℤ, pos, ◌+ℤ◌, ◌*ℤ◌, if◌then◌else◌, List, [], ◌∷◌, ◌++◌, length, map, refl, sym, ap, ◌∙◌, arith}
+use Rattle.std.proofs.Common.{◌≡◌, ℕ, zero, suc, Bool, true, false, ℤ, pos, ◌+ℤ◌, ◌*ℤ◌, if◌then◌else◌, List, [], ◌∷◌, ◌++◌, length, map, inl, inr, refl, sym, ap, ◌∙◌, arith}
 use Rattle.std.specs.Prelude.{All}
+use Rattle.std.proofs.lemmas.Bool.{cases_Bool}
 use Rattle.std.specs.List.{range_with_len}
 use Rattle.std.proofs.lemmas.Int.{ints}
 use Rattle.std.proofs.lemmas.List.Elements.{All-cons}
 use Rattle.tt_scan.specs.Contours.{GoesRound, IsClosed}
+use Rattle.tt_scan_edges.specs.Joined.{join, joined_from, joins}
 use Rattle.tt_scan_edges.specs.declared.edge.Edge.{Edge}
 use Rattle.tt_arc.specs.declared.quadratic.Quadratic.{Quadratic}
 use Rattle.tt_arc.specs.declared.quadratic.CurveEnd.{CurveEnd}
 use Rattle.tt_arc.specs.declared.quadratic.EdgeEnd.{EdgeEnd}
 use Rattle.tt_arc.specs.declared.point.PlacedPoint.{PlacedPoint}
-use Rattle.tt_arc.specs.Chords.{moved, edge_end_of, curve_end_of, quadratic_of, along_x, along_y, chord_end, edge_between, first_chords, edges_of, contour_edges, contour_at}
+use Rattle.tt_arc.specs.declared.rule.ChordRule.{ChordRule}
+use Rattle.tt_arc.specs.declared.rule.ChordRule.TheVariants as rule
+use Rattle.tt_arc.specs.Chords.{moved, edge_end_of, curve_end_of, quadratic_of, along_x, along_y, chord_count, chord_end, chords_by, edge_between, first_chords, edges_of, contour_chords, joined_by, contour_edges, contour_at}
 use Rattle.tt_arc.specs.Laws.{ContoursAreClosed}
-use Rattle.tt_arc.proofs.Turns.{first_eighth, last_eighth, straight, no_edge, curved}
+use Rattle.tt_arc.proofs.ChordEnds.{first_place, last_place}
+use Rattle.tt_arc.proofs.Turns.{straight, no_edge, curved}
 use Rattle.tt_arc.proofs.Walks.{edges_along, last_of, contour_whole}
 
 -- edges lead from one place to another, each from the end of the preceding edge
@@ -36,12 +41,12 @@ closed s [] leads = tt
 closed s (e ∷ es) leads =
     goes_round e e es (rw leads.0 at leads.1)
 
-of_chords : (c : Quadratic) (n : ℕ) → Leads (chord_end c 0) (first_chords c n) (chord_end c n)
+of_chords : (m : ℕ) (c : Quadratic) (n : ℕ) → Leads (chord_end m c 0) (first_chords m c n) (chord_end m c n)
 unfolding first_chords
-of_chords c zero = refl
-of_chords c (suc k) =
-    leads_on (chord_end c 0) (chord_end c k) (chord_end c (suc k)) (first_chords c k)
-    (edge_between (chord_end c k) (chord_end c (suc k)) ∷ []) (of_chords c k) (refl, refl)
+of_chords m c zero = refl
+of_chords m c (suc k) =
+    leads_on (chord_end m c 0) (chord_end m c k) (chord_end m c (suc k)) (first_chords m c k)
+    (edge_between (chord_end m c k) (chord_end m c (suc k)) ∷ []) (of_chords m c k) (refl, refl)
 
 -- the end of a quadratic as an end of an edge
 abbrev whole_end : CurveEnd → EdgeEnd
@@ -53,11 +58,11 @@ end_at x y = record { x = x; y = y }
 same_end : (a b c d : ℤ) → a ≡ b → c ≡ d → end_at a c ≡ end_at b d
 same_end a b c d is_x is_y = rw (is_x, is_y) refl
 
-from_start : (c : Quadratic) → chord_end c 0 ≡ whole_end c.from
-from_start c = rw (first_eighth (along_x c), first_eighth (along_y c)) refl
+from_start : (r : ChordRule) (c : Quadratic) → chord_end (chord_count r c) c 0 ≡ whole_end c.from
+from_start r c = rw (first_place r c (along_x c), first_place r c (along_y c)) refl
 
-to_end : (c : Quadratic) → chord_end c 8 ≡ whole_end c.to
-to_end c = rw (last_eighth (along_x c), last_eighth (along_y c)) refl
+to_end : (r : ChordRule) (c : Quadratic) → chord_end (chord_count r c) c (chord_count r c) ≡ whole_end c.to
+to_end r c = rw (last_place r c (along_x c), last_place r c (along_y c)) refl
 
 -- the start of a point's edges, from the preceding point
 abbrev start : PlacedPoint → PlacedPoint → EdgeEnd
@@ -85,46 +90,62 @@ curve_end_midway n p n_off p_off =
 leads_by : (s t u v : EdgeEnd) (es fs : List Edge) → es ≡ fs → Leads s fs t → s ≡ u → t ≡ v → Leads u es v
 leads_by s t u v es fs same leads is_s is_t = rw (same, ← is_s, ← is_t) leads
 
-of_point_by : (before p after : PlacedPoint) (on next : Bool) → p.on ≡ on → after.on ≡ next
-    → Leads (start before p) (edges_of before p after) (start p after)
-of_point_by before p after true true is_on is_next =
-    leads_by (edge_end_of p) (edge_end_of after) (start before p) (start p after) (edges_of before p after)
-    (edge_between (edge_end_of p) (edge_end_of after) ∷ []) (straight before p after is_on is_next) (refl, refl)
+of_point_by : (r : ChordRule) (before p after : PlacedPoint) (on next : Bool) → p.on ≡ on → after.on ≡ next
+    → Leads (start before p) (edges_of r before p after) (start p after)
+of_point_by r before p after true true is_on is_next =
+    leads_by (edge_end_of p) (edge_end_of after) (start before p) (start p after) (edges_of r before p after)
+    (edge_between (edge_end_of p) (edge_end_of after) ∷ []) (straight r before p after is_on is_next) (refl, refl)
     (sym (start_on before p is_on)) (sym (start_on p after is_next))
-of_point_by before p after true false is_on is_next =
-    leads_by (edge_end_of p) (edge_end_of p) (start before p) (start p after) (edges_of before p after) []
-    (no_edge before p after is_on is_next) refl (sym (start_on before p is_on))
+of_point_by r before p after true false is_on is_next =
+    leads_by (edge_end_of p) (edge_end_of p) (start before p) (start p after) (edges_of r before p after) []
+    (no_edge r before p after is_on is_next) refl (sym (start_on before p is_on))
     (sym (start_off p after is_next ∙ curve_end_on p after is_on))
-of_point_by before p after false true is_on is_next =
+of_point_by r before p after false true is_on is_next =
     let c = quadratic_of before p after in
-    leads_by (chord_end c 0) (chord_end c 8) (start before p) (start p after) (edges_of before p after) (first_chords c 8)
-    (curved before p after is_on) (of_chords c 8) (from_start c ∙ sym (start_off before p is_on))
-    (to_end c ∙ curve_end_on after p is_next ∙ sym (start_on p after is_next))
-of_point_by before p after false false is_on is_next =
+    leads_by (chord_end (chord_count r c) c 0) (chord_end (chord_count r c) c (chord_count r c)) (start before p) (start p after) (edges_of r before p after) (chords_by r c)
+    (curved r before p after is_on) (of_chords (chord_count r c) c (chord_count r c)) (from_start r c ∙ sym (start_off before p is_on))
+    (to_end r c ∙ curve_end_on after p is_next ∙ sym (start_on p after is_next))
+of_point_by r before p after false false is_on is_next =
     let c = quadratic_of before p after in
-    leads_by (chord_end c 0) (chord_end c 8) (start before p) (start p after) (edges_of before p after) (first_chords c 8)
-    (curved before p after is_on) (of_chords c 8) (from_start c ∙ sym (start_off before p is_on))
-    (to_end c ∙ ap whole_end (curve_end_midway after p is_next is_on) ∙ sym (start_off p after is_next))
+    leads_by (chord_end (chord_count r c) c 0) (chord_end (chord_count r c) c (chord_count r c)) (start before p) (start p after) (edges_of r before p after) (chords_by r c)
+    (curved r before p after is_on) (of_chords (chord_count r c) c (chord_count r c)) (from_start r c ∙ sym (start_off before p is_on))
+    (to_end r c ∙ ap whole_end (curve_end_midway after p is_next is_on) ∙ sym (start_off p after is_next))
 
-along : (before p : PlacedPoint) (ps : List PlacedPoint) (following : PlacedPoint)
-    → Leads (start before p) (edges_along before p ps following) (start (last_of p ps) following)
-along before p [] following = of_point_by before p following p.on following.on refl refl
-along before p (q ∷ ps) following =
-    leads_on (start before p) (start p q) (start (last_of q ps) following) (edges_of before p q)
-    (edges_along p q ps following) (of_point_by before p q p.on q.on refl refl) (along p q ps following)
+along : (r : ChordRule) (before p : PlacedPoint) (ps : List PlacedPoint) (following : PlacedPoint)
+    → Leads (start before p) (edges_along r before p ps following) (start (last_of p ps) following)
+along r before p [] following = of_point_by r before p following p.on following.on refl refl
+along r before p (q ∷ ps) following =
+    leads_on (start before p) (start p q) (start (last_of q ps) following) (edges_of r before p q)
+    (edges_along r p q ps following) (of_point_by r before p q p.on q.on refl refl) (along r p q ps following)
 
-contour_closed : (ps : List PlacedPoint) → IsClosed (contour_edges ps)
-contour_closed [] = tt
-contour_closed (p ∷ []) = tt
-contour_closed (p ∷ q ∷ ps) =
-    rw (← contour_whole p q ps)
-    (closed (start (last_of q ps) p) (edges_along (last_of q ps) p (q ∷ ps) p) (along (last_of q ps) p (q ∷ ps) p))
+-- edges joined lead from the first to the last
+leads_join : (s t : EdgeEnd) (e : Edge) (fs : List Edge) → Leads s (e ∷ fs) t → Leads s (joined_from e fs) t
+leads_join s t e [] leads = leads
+leads_join s t e (f ∷ fs) leads = elim (cases_Bool (joins e f)) [
+  | inl is ↦ rw is (leads_join s t (join e f) fs (leads.0, leads.1.1))
+  | inr other ↦ rw other (leads.0, leads_join (record { x = e.bx; y = e.by }) t f fs leads.1)
+]
+
+leads_joined : (r : ChordRule) (s t : EdgeEnd) (es : List Edge) → Leads s es t → Leads s (joined_by r es) t
+leads_joined rule.Eight s t es leads = leads
+leads_joined rule.ByBend s t [] leads = leads
+leads_joined rule.ByBend s t (e ∷ es) leads = leads_join s t e es leads
+
+contour_closed : (r : ChordRule) (ps : List PlacedPoint) → IsClosed (contour_edges r ps)
+contour_closed rule.Eight [] = tt
+contour_closed rule.ByBend [] = tt
+contour_closed rule.Eight (p ∷ []) = tt
+contour_closed rule.ByBend (p ∷ []) = tt
+contour_closed r (p ∷ q ∷ ps) =
+    let s = start (last_of q ps) p in
+    let leads : Leads s (contour_chords r (p ∷ q ∷ ps)) s = rw (← contour_whole r p q ps) (along r (last_of q ps) p (q ∷ ps) p) in
+    closed s (contour_edges r (p ∷ q ∷ ps)) (leads_joined r s s (contour_chords r (p ∷ q ∷ ps)) leads)
 
 all_of : (f : ℕ → List Edge) → ((c : ℕ) → IsClosed (f c)) → (cs : List ℕ) → All IsClosed (map f cs)
 all_of f each [] = λ k d within. absurd (omega (arith, within))
 all_of f each (c ∷ cs) = All-cons IsClosed (f c) (map f cs) (each c) (all_of f each cs)
 
 pub all_closed : ContoursAreClosed
-all_closed points ends dx dy =
-    all_of (λ c. contour_edges (contour_at (map (moved dx dy) points) ends c))
-    (λ c. contour_closed (contour_at (map (moved dx dy) points) ends c)) (range_with_len 0 (length ends))
+all_closed r points ends dx dy =
+    all_of (λ c. contour_edges r (contour_at (map (moved dx dy) points) ends c))
+    (λ c. contour_closed r (contour_at (map (moved dx dy) points) ends c)) (range_with_len 0 (length ends))

@@ -4,8 +4,9 @@ use Rattle.std.specs.List.{slice_index, slice_range, flat_map, range_with_len}
 use Rattle.std.proofs.lemmas.List.{get_or-take, get_or-drop, length-take, length-drop, take-map, drop-map}
 use Rattle.tt_scan_edges.specs.declared.edge.Edge.{Edge}
 use Rattle.tt_arc.specs.declared.point.PlacedPoint.{PlacedPoint}
+use Rattle.tt_arc.specs.declared.rule.ChordRule.{ChordRule}
 use Rattle.tt_fit_outline.specs.Outline.{AreEnds}
-use Rattle.tt_arc.specs.Chords.{contour_edges, contour_start, contour_at}
+use Rattle.tt_arc.specs.Chords.{contour_edges, contour_start, contour_at, outline_edges}
 
 pub slice_of_map : {X : Type 0} (f : X → PlacedPoint) (ps : List X) (a b : ℕ) → slice_range (map f ps) a b
     ≡ map f (slice_range ps a b)
@@ -18,16 +19,19 @@ all_of_slice P ps a b all k d below =
     rw (get_or-take (b - a) (drop a ps) k d shorter, get_or-drop a ps k d) (all (a + k) d within)
 
 -- the edges of the contours from contour c on
-abbrev pub edges_from : List PlacedPoint → List ℕ → ℕ → List Edge
-edges_from ps ends c = flat_map (λ c. contour_edges (contour_at ps ends c)) (range_with_len c (length ends - c))
+abbrev pub edges_from : ChordRule → List PlacedPoint → List ℕ → ℕ → List Edge
+edges_from r ps ends c = flat_map (λ c. contour_edges r (contour_at ps ends c)) (range_with_len c (length ends - c))
 
-pub none_left : (ps : List PlacedPoint) (ends : List ℕ) → edges_from ps ends (length ends) ≡ []
-none_left ps ends = let none : length ends - length ends ≡ 0 = omega arith in rw none refl
+pub all_left : (r : ChordRule) (ps : List PlacedPoint) (ends : List ℕ) → edges_from r ps ends 0 ≡ outline_edges r ps ends
+all_left r ps ends = let whole : length ends - 0 ≡ length ends = omega arith in rw whole refl
 
-pub one_contour_more : {X : Type 0} (f : X → PlacedPoint) (ps : List X) (ends : List ℕ) (out new : List Edge) (from i to : ℕ)
-    → i < length ends → from ≡ contour_start ends i → to ≡ slice_index ends i → new ≡ out ++ contour_edges
-    (map f (slice_range ps from to)) → new ++ edges_from (map f ps) ends (i + 1) ≡ out ++ edges_from (map f ps) ends i
-one_contour_more f ps ends out new from i to below is_from is_to is_new =
+pub none_left : (r : ChordRule) (ps : List PlacedPoint) (ends : List ℕ) → edges_from r ps ends (length ends) ≡ []
+none_left r ps ends = let none : length ends - length ends ≡ 0 = omega arith in rw none refl
+
+pub one_contour_more : (r : ChordRule) {X : Type 0} (f : X → PlacedPoint) (ps : List X) (ends : List ℕ) (out new : List Edge) (from i to : ℕ)
+    → i < length ends → from ≡ contour_start ends i → to ≡ slice_index ends i → new ≡ out ++ contour_edges r
+    (map f (slice_range ps from to)) → new ++ edges_from r (map f ps) ends (i + 1) ≡ out ++ edges_from r (map f ps) ends i
+one_contour_more r f ps ends out new from i to below is_from is_to is_new =
     let more : length ends - i ≡ suc (length ends - (i + 1)) = omega arith in
     rw (is_new, more, is_from, is_to, slice_of_map f ps (contour_start ends i) (slice_index ends i), append_assoc) refl
 

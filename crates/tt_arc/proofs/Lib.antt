@@ -1,10 +1,16 @@
+mod BoxMoves
+mod ChordEnds
+mod ChordsNear
 pub mod Closed
 pub mod Contours
-mod EdgeCounts
-pub mod Eighths
+mod Counts
 mod EndsOfContours
 mod Few
+mod Joints
 pub mod Moves
+pub mod Places
 mod Points
+pub mod PointsBox
 mod Turns
 pub mod Walks
+mod Weights

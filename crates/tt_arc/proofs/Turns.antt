@@ -1,16 +1,21 @@
 -- The turns of closed contours cancel out at each height, so the winding is equal from either side.
-use Rattle.std.proofs.Common.{◌≡◌, ℕ, zero, suc, Bool, true, false, ◌&&◌, if◌then◌else◌, ℤ, pos, negsuc, neg_ℤ, ◌+ℤ◌, ◌-ℤ◌, ◌*ℤ◌, ◌≤ℤ◌, ◌<ℤ◌, int_lt, int_le, List, [], ◌∷◌, ◌++◌, length, map, refl, sym, ap, ◌∙◌, arith}
+use Rattle.std.proofs.Common.{◌≡◌, ℕ, zero, suc, Bool, true, false, ◌&&◌, if◌then◌else◌, ℤ, pos, negsuc, neg_ℤ, ◌+ℤ◌, ◌-ℤ◌, ◌*ℤ◌, ◌≤ℤ◌, ◌<ℤ◌, int_lt, int_le, List, [], ◌∷◌, ◌++◌, length, map, inl, inr, refl, sym, ap, ◌∙◌, arith}
 use Rattle.std.specs.List.{flat_map, range_with_len}
+use Rattle.std.proofs.lemmas.Bool.{cases_Bool}
 use Rattle.std.proofs.lemmas.Int.{ints, by_lt_z}
+use Rattle.tt_scan_edges.specs.Joined.{join, joined_from, joins}
 use Rattle.tt_scan_edges.specs.declared.edge.Edge.{Edge}
 use Rattle.tt_scan_edges.specs.Winding.{side, is_zero, is_between, lies_on, lies_on_one, turned, winding}
+use Rattle.tt_scan_edges.proofs.Joins.{joint}
 use Rattle.tt_scan_edges.proofs.Ranges.{between_turned}
 use Rattle.tt_scan_edges.proofs.Sides.{on_rising, side_reversed}
-use Rattle.tt_arc.specs.declared.quadratic.Coordinates.{Coordinates}
 use Rattle.tt_arc.specs.declared.quadratic.Quadratic.{Quadratic}
 use Rattle.tt_arc.specs.declared.point.PlacedPoint.{PlacedPoint}
-use Rattle.tt_arc.specs.Chords.{moved, edge_end_of, curve_end_of, quadratic_of, eighth, along_y, chord_end, edge_between, first_chords, edges_of, contour_edges, contour_at, chord_edges}
+use Rattle.tt_arc.specs.declared.rule.ChordRule.{ChordRule}
+use Rattle.tt_arc.specs.declared.rule.ChordRule.TheVariants as rule
+use Rattle.tt_arc.specs.Chords.{moved, edge_end_of, curve_end_of, quadratic_of, along_y, chord_count, chord_end, chords_by, edge_between, first_chords, edges_of, contour_chords, joined_by, contour_edges, contour_at, chord_edges}
 use Rattle.tt_arc.specs.Laws.{turned_right, winding_right, SidesAgree}
+use Rattle.tt_arc.proofs.ChordEnds.{first_place, last_place}
 use Rattle.tt_arc.proofs.Walks.{edges_along, last_of, contour_whole}
 
 -- whether a height is above y
@@ -101,20 +106,14 @@ turns-append : (y : ℤ) (es fs : List Edge) → turns y (es ++ fs) ≡ turns y 
 turns-append y [] fs = omega (arith, ints)
 turns-append y (e ∷ es) fs = let more = turns-append y es fs in omega (arith, ints, more)
 
-of_chords : (y : ℤ) (c : Quadratic) (n : ℕ) → turns y (first_chords c n) ≡ over y (chord_end c n).y -ℤ over y
-    (chord_end c 0).y
+of_chords : (y : ℤ) (m : ℕ) (c : Quadratic) (n : ℕ) → turns y (first_chords m c n) ≡ over y (chord_end m c n).y -ℤ over y
+    (chord_end m c 0).y
 unfolding first_chords
-of_chords y c zero = omega (arith, ints)
-of_chords y c (suc k) =
-    let more = of_chords y c k in
-    let both = turns-append y (first_chords c k) (edge_between (chord_end c k) (chord_end c (suc k)) ∷ []) in
+of_chords y m c zero = omega (arith, ints)
+of_chords y m c (suc k) =
+    let more = of_chords y m c k in
+    let both = turns-append y (first_chords m c k) (edge_between (chord_end m c k) (chord_end m c (suc k)) ∷ []) in
     omega (arith, ints, more, both)
-
-pub first_eighth : (b : Coordinates) → eighth 0 b ≡ pos 64 *ℤ b.from
-first_eighth b = omega (arith, ints)
-
-pub last_eighth : (b : Coordinates) → eighth 8 b ≡ pos 64 *ℤ b.to
-last_eighth b = omega (arith, ints)
 
 -- the height of the start of a point's edges
 abbrev height : PlacedPoint → PlacedPoint → ℤ
@@ -145,18 +144,18 @@ quadratic_ends p after false off on =
     let other = curve_end_off p after off in
     omega (arith, ints, here, there, other)
 
-pub straight : (before p after : PlacedPoint) → p.on ≡ true → after.on ≡ true → edges_of before p after ≡ edge_between (edge_end_of p)
+pub straight : (r : ChordRule) (before p after : PlacedPoint) → p.on ≡ true → after.on ≡ true → edges_of r before p after ≡ edge_between (edge_end_of p)
     (edge_end_of after) ∷ []
 unfolding edges_of
-straight before p after on next = rw (on, next) refl
+straight r before p after on next = rw (on, next) refl
 
-pub no_edge : (before p after : PlacedPoint) → p.on ≡ true → after.on ≡ false → edges_of before p after ≡ []
+pub no_edge : (r : ChordRule) (before p after : PlacedPoint) → p.on ≡ true → after.on ≡ false → edges_of r before p after ≡ []
 unfolding edges_of
-no_edge before p after on next = rw (on, next) refl
+no_edge r before p after on next = rw (on, next) refl
 
-pub curved : (before p after : PlacedPoint) → p.on ≡ false → edges_of before p after ≡ first_chords (quadratic_of before p after) 8
+pub curved : (r : ChordRule) (before p after : PlacedPoint) → p.on ≡ false → edges_of r before p after ≡ chords_by r (quadratic_of before p after)
 unfolding edges_of
-curved before p after off = rw off refl
+curved r before p after off = rw off refl
 
 between : (y a b c d : ℤ) (es fs : List Edge) → es ≡ fs → turns y fs ≡ over y c -ℤ over y d → c ≡ a → d ≡ b → turns y es
     ≡ over y a -ℤ over y b
@@ -168,60 +167,83 @@ one_turn y a b = omega (arith, ints)
 no_turn : (y a : ℤ) → pos 0 ≡ over y a -ℤ over y a
 no_turn y a = omega (arith, ints)
 
-of_point_by : (y : ℤ) (before p after : PlacedPoint) (on next : Bool) → p.on ≡ on → after.on ≡ next
-    → turns y (edges_of before p after) ≡ over y (height p after) -ℤ over y (height before p)
-of_point_by y before p after true true is_on is_next =
-    between y (height p after) (height before p) (pos 128 *ℤ after.y) (pos 128 *ℤ p.y) (edges_of before p after)
-    (edge_between (edge_end_of p) (edge_end_of after) ∷ []) (straight before p after is_on is_next)
+of_point_by : (r : ChordRule) (y : ℤ) (before p after : PlacedPoint) (on next : Bool) → p.on ≡ on → after.on ≡ next
+    → turns y (edges_of r before p after) ≡ over y (height p after) -ℤ over y (height before p)
+of_point_by r y before p after true true is_on is_next =
+    between y (height p after) (height before p) (pos 128 *ℤ after.y) (pos 128 *ℤ p.y) (edges_of r before p after)
+    (edge_between (edge_end_of p) (edge_end_of after) ∷ []) (straight r before p after is_on is_next)
     (one_turn y (pos 128 *ℤ after.y) (pos 128 *ℤ p.y)) (sym (height_on p after is_next))
     (sym (height_on before p is_on))
-of_point_by y before p after true false is_on is_next =
+of_point_by r y before p after true false is_on is_next =
     let here = height_on before p is_on in
     let there = height_off p after is_next in
     let end = curve_end_on p after is_on in
     let same : height before p ≡ height p after = omega (arith, ints, here, there, end) in
-    between y (height p after) (height before p) (height before p) (height before p) (edges_of before p after) []
-    (no_edge before p after is_on is_next) (no_turn y (height before p)) same refl
-of_point_by y before p after false next is_on is_next =
+    between y (height p after) (height before p) (height before p) (height before p) (edges_of r before p after) []
+    (no_edge r before p after is_on is_next) (no_turn y (height before p)) same refl
+of_point_by r y before p after false next is_on is_next =
     let c = quadratic_of before p after in
-    let last = last_eighth (along_y c) ∙ quadratic_ends p after next is_on is_next in
-    let first = first_eighth (along_y c) ∙ sym (height_off before p is_on) in
-    between y (height p after) (height before p) (chord_end c 8).y (chord_end c 0).y (edges_of before p after)
-    (first_chords c 8) (curved before p after is_on) (of_chords y c 8) last first
+    let n = chord_count r c in
+    let last = last_place r c (along_y c) ∙ quadratic_ends p after next is_on is_next in
+    let first = first_place r c (along_y c) ∙ sym (height_off before p is_on) in
+    between y (height p after) (height before p) (chord_end n c n).y (chord_end n c 0).y (edges_of r before p after)
+    (chords_by r c) (curved r before p after is_on) (of_chords y n c n) last first
 
-of_point : (y : ℤ) (before p after : PlacedPoint) → turns y (edges_of before p after) ≡ over y (height p after) -ℤ over y
+of_point : (r : ChordRule) (y : ℤ) (before p after : PlacedPoint) → turns y (edges_of r before p after) ≡ over y (height p after) -ℤ over y
     (height before p)
-of_point y before p after = of_point_by y before p after p.on after.on refl refl
+of_point r y before p after = of_point_by r y before p after p.on after.on refl refl
 
-along : (y : ℤ) (before p : PlacedPoint) (ps : List PlacedPoint) (following : PlacedPoint) → turns y (edges_along before p ps following)
+along : (r : ChordRule) (y : ℤ) (before p : PlacedPoint) (ps : List PlacedPoint) (following : PlacedPoint) → turns y (edges_along r before p ps following)
     ≡ over y (height (last_of p ps) following) -ℤ over y (height before p)
-along y before p [] following = of_point y before p following
-along y before p (q ∷ ps) following =
-    let one = of_point y before p q in
-    let more = along y p q ps following in
-    let both = turns-append y (edges_of before p q) (edges_along p q ps following) in
+along r y before p [] following = of_point r y before p following
+along r y before p (q ∷ ps) following =
+    let one = of_point r y before p q in
+    let more = along r y p q ps following in
+    let both = turns-append y (edges_of r before p q) (edges_along r p q ps following) in
     omega (arith, ints, one, more, both)
 
-round_contour : (y : ℤ) (ps : List PlacedPoint) → turns y (contour_edges ps) ≡ pos 0
-round_contour y [] = refl
-round_contour y (p ∷ []) = refl
-round_contour y (p ∷ q ∷ ps) =
-    let whole = ap (turns y) (sym (contour_whole p q ps)) in
-    let turn = along y (last_of q ps) p (q ∷ ps) p in
+-- edges joined turn as far
+turn_joint : (y : ℤ) (e f : Edge) (a : ℤ) → joins e f ≡ true
+    → (over y e.by -ℤ over y e.ay) +ℤ ((over y f.by -ℤ over y f.ay) +ℤ a) ≡ (over y f.by -ℤ over y e.ay) +ℤ a
+turn_joint y e f a is =
+    let same = ap (over y) (joint e f is).same_y in
+    omega (arith, ints, same)
+
+turns_from : (y : ℤ) (e : Edge) (fs : List Edge) → turns y (joined_from e fs) ≡ turns y (e ∷ fs)
+turns_from y e [] = refl
+turns_from y e (f ∷ fs) = elim (cases_Bool (joins e f)) [
+  | inl is ↦ rw is (turns_from y (join e f) fs ∙ sym (turn_joint y e f (turns y fs) is))
+  | inr other ↦ rw other (ap (λ z. (over y e.by -ℤ over y e.ay) +ℤ z) (turns_from y f fs))
+]
+
+turns_joined : (r : ChordRule) (y : ℤ) (es : List Edge) → turns y (joined_by r es) ≡ turns y es
+turns_joined rule.Eight y es = refl
+turns_joined rule.ByBend y [] = refl
+turns_joined rule.ByBend y (e ∷ es) = turns_from y e es
+
+round_chords : (r : ChordRule) (y : ℤ) (ps : List PlacedPoint) → turns y (contour_chords r ps) ≡ pos 0
+round_chords r y [] = refl
+round_chords r y (p ∷ []) = refl
+round_chords r y (p ∷ q ∷ ps) =
+    let whole = ap (turns y) (sym (contour_whole r p q ps)) in
+    let turn = along r y (last_of q ps) p (q ∷ ps) p in
     omega (arith, ints, whole, turn)
 
-round_all : (y : ℤ) (f : ℕ → List PlacedPoint) (cs : List ℕ) → turns y (flat_map (λ c. contour_edges (f c)) cs) ≡ pos 0
-round_all y f [] = refl
-round_all y f (c ∷ cs) =
-    let one = round_contour y (f c) in
-    let more = round_all y f cs in
-    let both = turns-append y (contour_edges (f c)) (flat_map (λ c. contour_edges (f c)) cs) in
+round_contour : (r : ChordRule) (y : ℤ) (ps : List PlacedPoint) → turns y (contour_edges r ps) ≡ pos 0
+round_contour r y ps = turns_joined r y (contour_chords r ps) ∙ round_chords r y ps
+
+round_all : (r : ChordRule) (y : ℤ) (f : ℕ → List PlacedPoint) (cs : List ℕ) → turns y (flat_map (λ c. contour_edges r (f c)) cs) ≡ pos 0
+round_all r y f [] = refl
+round_all r y f (c ∷ cs) =
+    let one = round_contour r y (f c) in
+    let more = round_all r y f cs in
+    let both = turns-append y (contour_edges r (f c)) (flat_map (λ c. contour_edges r (f c)) cs) in
     omega (arith, ints, one, more, both)
 
 -- off the edges, the winding is equal from either side
 pub both_sides : SidesAgree
-both_sides points ends dx dy x y off =
+both_sides r points ends dx dy x y off =
     let ps = map (moved dx dy) points in
-    let turn = round_all y (λ c. contour_at ps ends c) (range_with_len 0 (length ends)) in
-    let by = differ (chord_edges points ends dx dy) x y off in
+    let turn = round_all r y (λ c. contour_at ps ends c) (range_with_len 0 (length ends)) in
+    let by = differ (chord_edges r points ends dx dy) x y off in
     omega (arith, ints, turn, by)

@@ -1,10 +1,14 @@
 -- Apple TrueType Reference Manual, "Digitizing Letterform Designs". A contour is closed and runs from point to point.
 -- Two points on the curve give a straight line, and a point off the curve gives a quadratic curve. Midway between two
--- points off the curve there is an implied point on it. Cutting a quadratic into eight chords is profile. Points are in
--- 26.6, ends of quadratics in 1/128 pixel, edges in 1/8192 pixel.
-use Rattle.std.specs.Prelude.{◌≡◌, ℕ, zero, suc, ◌+◌, ◌-◌, ◌*◌, ◌^◌, ◌<◌, ◌≤◌, Bool, true, false, nat_lt, if◌then◌else◌, ℤ, pos, ◌+ℤ◌, ◌-ℤ◌, ◌*ℤ◌, unsigned_abs, List, [], ◌∷◌, ◌++◌, length, map, take, get_or, refl}
-use Rattle.std.specs.List.{slice_index, slice_range, flat_map, range_with_len}
+-- points off the curve there is an implied point on it. Cutting a quadratic into chords is profile: into eight, or into
+-- as many as its bend asks for. Points are in 26.6, ends of quadratics in 1/128 pixel, edges in 1/8192 pixel.
+use Rattle.std.specs.Prelude.{◌≡◌, ℕ, zero, suc, ◌+◌, ◌-◌, ◌*◌, ◌^◌, ◌<◌, ◌≤◌, Bool, false, nat_lt, nat_le, max, if◌then◌else◌, ℤ, pos, ◌+ℤ◌, ◌-ℤ◌, ◌*ℤ◌, unsigned_abs, List, [], ◌∷◌, ◌++◌, length, map, get_or}
+use Rattle.std.specs.List.{slice_index, slice_range, sum_by, flat_map, range_with_len}
+use Rattle.tt_core.specs.Numbers.{nearest_quotient}
 use Rattle.tt_scan_edges.specs.declared.edge.Edge.{Edge}
+use Rattle.tt_scan_edges.specs.Joined.{joined}
+use Rattle.tt_arc.specs.declared.rule.ChordRule.{ChordRule}
+use Rattle.tt_arc.specs.declared.rule.ChordRule.TheVariants as rule
 use Rattle.tt_arc.specs.declared.quadratic.Coordinates.{Coordinates}
 use Rattle.tt_arc.specs.declared.quadratic.Quadratic.{Quadratic}
 use Rattle.tt_arc.specs.declared.quadratic.CurveEnd.{CurveEnd}
@@ -33,11 +37,15 @@ curve_end_of n p = if n.on then record { x = pos 2 *ℤ n.x; y = pos 2 *ℤ n.y 
 abbrev pub quadratic_of : PlacedPoint → PlacedPoint → PlacedPoint → Quadratic
 quadratic_of before p after = record { from = curve_end_of before p; control = p; to = curve_end_of after p }
 
--- one coordinate of a quadratic at t = k / 8, in 1/8192 pixel:
--- 64 times (1 - t)^2 from + 2 t (1 - t) 2 control + t^2 to.
+-- one coordinate of a quadratic at t = k / n, n n times in 1/128 pixel:
+-- (n - k)^2 from + 2 k (n - k) 2 control + k^2 to.
 -- The control point is in 26.6, the ends in 1/128 pixel
-abbrev pub eighth : ℕ → Coordinates → ℤ
-eighth k b = (pos ((8 - k) * (8 - k)) *ℤ b.from +ℤ pos (4 * k * (8 - k)) *ℤ b.control) +ℤ pos (k * k) *ℤ b.to
+abbrev pub weighed : ℕ → ℕ → Coordinates → ℤ
+weighed n k b = (pos ((n - k) * (n - k)) *ℤ b.from +ℤ pos (4 * k * (n - k)) *ℤ b.control) +ℤ pos (k * k) *ℤ b.to
+
+-- the same in 1/8192 pixel, rounded to the nearest whole number, a half upwards
+abbrev pub chord_place : ℕ → ℕ → Coordinates → ℤ
+chord_place n k b = nearest_quotient (pos 64 *ℤ weighed n k b) (pos (n * n))
 
 -- the coordinates of a quadratic along x and along y
 abbrev pub along_x : Quadratic → Coordinates
@@ -46,20 +54,41 @@ along_x c = record { from = c.from.x; control = c.control.x; to = c.to.x }
 abbrev pub along_y : Quadratic → Coordinates
 along_y c = record { from = c.from.y; control = c.control.y; to = c.to.y }
 
--- the start of chord k of a quadratic, and the end of chord k - 1
-abbrev pub chord_end : Quadratic → ℕ → EdgeEnd
-chord_end c k = record { x = eighth k (along_x c); y = eighth k (along_y c) }
+-- how far a quadratic bends along an axis, with its sign, and along the axis where it bends further; in 1/128 pixel
+abbrev pub signed_bend : Coordinates → ℤ
+signed_bend b = (b.from -ℤ pos 4 *ℤ b.control) +ℤ b.to
 
--- the first n chords of a quadratic
-unfoldable pub first_chords : Quadratic → ℕ → List Edge
-first_chords c zero = []
-first_chords c (suc k) = first_chords c k ++ edge_between (chord_end c k) (chord_end c (suc k)) ∷ []
+abbrev pub bend_of : Quadratic → ℕ
+bend_of c = max (unsigned_abs (signed_bend (along_x c))) (unsigned_abs (signed_bend (along_y c)))
+
+-- the least number of chords, from 1 by doubling to 16, that leave a quadratic by 1/1024 pixel at most; else 32
+abbrev pub chords_of_bend : ℕ → ℕ
+chords_of_bend bend = if nat_le (2 * bend) 1 then 1 else (if nat_le (2 * bend) 4 then 2 else
+    (if nat_le (2 * bend) 16 then 4 else (if nat_le (2 * bend) 64 then 8 else (if nat_le (2 * bend) 256 then 16 else 32))))
+
+-- how many chords a quadratic has
+abbrev pub chord_count : ChordRule → Quadratic → ℕ
+chord_count rule.Eight c = 8
+chord_count rule.ByBend c = chords_of_bend (bend_of c)
+
+-- of n chords, the start of chord k, and the end of chord k - 1
+abbrev pub chord_end : ℕ → Quadratic → ℕ → EdgeEnd
+chord_end n c k = record { x = chord_place n k (along_x c); y = chord_place n k (along_y c) }
+
+-- the first of n chords, this many
+unfoldable pub first_chords : ℕ → Quadratic → ℕ → List Edge
+first_chords n c zero = []
+first_chords n c (suc k) = first_chords n c k ++ edge_between (chord_end n c k) (chord_end n c (suc k)) ∷ []
+
+-- the chords of a quadratic
+abbrev pub chords_by : ChordRule → Quadratic → List Edge
+chords_by r c = first_chords (chord_count r c) c (chord_count r c)
 
 -- the edges of a point p, between the points before and after it
-unfoldable pub edges_of : PlacedPoint → PlacedPoint → PlacedPoint → List Edge
-edges_of before p after =
+unfoldable pub edges_of : ChordRule → PlacedPoint → PlacedPoint → PlacedPoint → List Edge
+edges_of r before p after =
     if p.on then (if after.on then edge_between (edge_end_of p) (edge_end_of after) ∷ [] else [])
-    else first_chords (quadratic_of before p after) 8
+    else chords_by r (quadratic_of before p after)
 
 -- a point of a contour by its number; past the last point, a point at 0
 abbrev pub point_at : List PlacedPoint → ℕ → PlacedPoint
@@ -74,12 +103,21 @@ abbrev pub number_after : ℕ → ℕ → ℕ
 number_after n i = if nat_lt (i + 1) n then i + 1 else 0
 
 -- the edges of point i of a closed contour
-abbrev pub edges_at : List PlacedPoint → ℕ → List Edge
-edges_at ps i = edges_of (point_at ps (number_before (length ps) i)) (point_at ps i) (point_at ps (number_after (length ps) i))
+abbrev pub edges_at : ChordRule → List PlacedPoint → ℕ → List Edge
+edges_at r ps i = edges_of r (point_at ps (number_before (length ps) i)) (point_at ps i) (point_at ps (number_after (length ps) i))
 
--- the edges of a closed contour, point by point; a single point has none
-abbrev pub contour_edges : List PlacedPoint → List Edge
-contour_edges ps = if nat_lt 1 (length ps) then flat_map (edges_at ps) (range_with_len 0 (length ps)) else []
+-- the chords and the straight edges of a closed contour, point by point; a single point has none
+abbrev pub contour_chords : ChordRule → List PlacedPoint → List Edge
+contour_chords r ps = if nat_lt 1 (length ps) then flat_map (edges_at r ps) (range_with_len 0 (length ps)) else []
+
+-- of chords by bend, those that meet no line are joined; eight chords remain as they are
+abbrev pub joined_by : ChordRule → List Edge → List Edge
+joined_by rule.Eight es = es
+joined_by rule.ByBend es = joined es
+
+-- the edges of a closed contour
+abbrev pub contour_edges : ChordRule → List PlacedPoint → List Edge
+contour_edges r ps = joined_by r (contour_chords r ps)
 
 -- the start of contour c: the end of the preceding contour
 abbrev pub contour_start : List ℕ → ℕ → ℕ
@@ -91,17 +129,26 @@ abbrev pub contour_at : List PlacedPoint → List ℕ → ℕ → List PlacedPoi
 contour_at ps ends c = slice_range ps (contour_start ends c) (slice_index ends c)
 
 -- the edges of all contours in sequence
-abbrev pub outline_edges : List PlacedPoint → List ℕ → List Edge
-outline_edges ps ends = flat_map (λ c. contour_edges (contour_at ps ends c)) (range_with_len 0 (length ends))
+abbrev pub outline_edges : ChordRule → List PlacedPoint → List ℕ → List Edge
+outline_edges r ps ends = flat_map (λ c. contour_edges r (contour_at ps ends c)) (range_with_len 0 (length ends))
 
--- the edges of an outline moved by dx and dy
-abbrev pub chord_edges : List (ℤ × ℤ × Bool) → List ℕ → ℤ → ℤ → List Edge
-chord_edges points ends dx dy = outline_edges (map (moved dx dy) points) ends
+-- the edges of the contours, as a list for each
+abbrev pub outline_contours : ChordRule → List PlacedPoint → List ℕ → List (List Edge)
+outline_contours r ps ends = map (λ c. contour_edges r (contour_at ps ends c)) (range_with_len 0 (length ends))
 
--- the edges of a moved outline, as a list for each contour
-abbrev pub chord_contours : List (ℤ × ℤ × Bool) → List ℕ → ℤ → ℤ → List (List Edge)
-chord_contours points ends dx dy =
-    map (λ c. contour_edges (contour_at (map (moved dx dy) points) ends c)) (range_with_len 0 (length ends))
+-- how many chords and straight edges all contours have before any are joined
+abbrev pub chords_of : ChordRule → List PlacedPoint → List ℕ → ℕ
+chords_of r ps ends = sum_by (λ c. length (contour_chords r (contour_at ps ends c))) (range_with_len 0 (length ends))
+
+-- the same for an outline moved by dx and dy
+abbrev pub chord_edges : ChordRule → List (ℤ × ℤ × Bool) → List ℕ → ℤ → ℤ → List Edge
+chord_edges r points ends dx dy = outline_edges r (map (moved dx dy) points) ends
+
+abbrev pub chord_contours : ChordRule → List (ℤ × ℤ × Bool) → List ℕ → ℤ → ℤ → List (List Edge)
+chord_contours r points ends dx dy = outline_contours r (map (moved dx dy) points) ends
+
+abbrev pub chords_counted : ChordRule → List (ℤ × ℤ × Bool) → List ℕ → ℤ → ℤ → ℕ
+chords_counted r points ends dx dy = chords_of r (map (moved dx dy) points) ends
 
 -- a moved point within the program's range
 pub record PointFits (p : PlacedPoint) : Type 0 where
@@ -129,62 +176,17 @@ pub record CoordinatesFit (b : Coordinates) : Type 0 where
   pub control : unsigned_abs b.control < 2 ^ 23
   pub to : unsigned_abs b.to + 2 ≤ 2 ^ 24
 
--- one coordinate of a quadratic at k eighths, its first difference there, and its second difference
-pub record AreDifferences (b : Coordinates) (k : ℕ) (s : Differences) : Type 0 where
-  pub value : s.value ≡ eighth k b
-  pub first : k < 8 → s.value +ℤ s.first ≡ eighth (k + 1) b
-  pub second : s.second ≡ (pos 2 *ℤ (b.from +ℤ b.to)) -ℤ (pos 8 *ℤ b.control)
-  pub small : unsigned_abs s.first ≤ 2 ^ 29 + 2 ^ 27 * k
+-- one coordinate of a quadratic at k chords of h thirty-seconds each, its first difference there, and its second
+-- difference, in 1/131072 pixel
+pub record AreDifferences (b : Coordinates) (h k : ℕ) (s : Differences) : Type 0 where
+  pub value : s.value ≡ weighed 32 (h * k) b
+  pub first : h * (k + 1) ≤ 32 → s.value +ℤ s.first ≡ weighed 32 (h * (k + 1)) b
+  pub second : s.second ≡ pos (2 * (h * h)) *ℤ signed_bend b
+  pub small : unsigned_abs s.first ≤ 2 ^ 37 + 2 ^ 37 * k
 
 -- an end of an edge within the program's range
 pub record EdgeEndFits (s : EdgeEnd) : Type 0 where
   pub x : unsigned_abs s.x < 2 ^ 30
   pub y : unsigned_abs s.y < 2 ^ 30
 
--- worked values, from points in 26.6
-point : ℕ → ℕ → Bool → ℤ × ℤ × Bool
-point x y on = (pos x, pos y, on)
-
-edge : ℕ → ℕ → ℕ → ℕ → Edge
-edge ax ay bx by = record { ax = pos ax; ay = pos ay; bx = pos bx; by = pos by }
-
-square_of_four_edges : chord_edges (point 0 0 true ∷ point 0 2 true ∷ point 2 2 true ∷ point 2 0 true ∷ []) (4 ∷ []) (pos 1)
-    (pos 3) ≡ edge 128 384 128 640 ∷ edge 128 640 384 640 ∷ edge 384 640 384 384 ∷ edge 384 384 128 384 ∷ []
-unfolding edges_of point edge
-square_of_four_edges = refl
-
-a_point_alone_has_no_edge : chord_edges (point 1 1 true ∷ []) (1 ∷ []) (pos 0) (pos 0) ≡ []
-unfolding point
-a_point_alone_has_no_edge = refl
-
--- the second contour has no points
-contours_do_not_touch : chord_edges (point 0 0 true ∷ point 0 1 true ∷ point 5 5 true ∷ point 5 6 true ∷ []) (2 ∷ 2 ∷ 4 ∷ [])
-    (pos 0) (pos 0) ≡ edge 0 0 0 128 ∷ edge 0 128 0 0 ∷ edge 640 640 640 768 ∷ edge 640 768 640 640 ∷ []
-unfolding edges_of point edge
-contours_do_not_touch = refl
-
-a_contour_of_one_point_is_empty : chord_contours (point 5 5 true ∷ point 0 0 true ∷ point 0 1 true ∷ []) (1 ∷ 3 ∷ [])
-    (pos 0) (pos 0) ≡ [] ∷ (edge 0 0 0 128 ∷ edge 0 128 0 0 ∷ []) ∷ []
-unfolding edges_of point edge
-a_contour_of_one_point_is_empty = refl
-
--- the edge before the curve, then the curve's first chord
-first_chord : take 2 (chord_edges (point 8 8 true ∷ point 0 0 true ∷ point 8 0 false ∷ []) (3 ∷ []) (pos 0) (pos 0))
-    ≡ edge 1024 1024 0 0 ∷ edge 0 0 240 16 ∷ []
-unfolding edges_of first_chords point edge
-first_chord = refl
-
--- four points off the curve, and the fourth chord of the first one, which ends halfway
-four_off : ℕ → ℕ → List (ℤ × ℤ × Bool)
-four_off a b = point a a false ∷ point b a false ∷ point b b false ∷ point a b false ∷ []
-
-halfway : List Edge → Edge
-halfway edges = get_or edges 3 (edge 0 0 0 0)
-
-halfway_from_0_to_256 : halfway (chord_edges (four_off 0 256) (4 ∷ []) (pos 0) (pos 0)) ≡ edge 2304 6400 4096 4096
-unfolding edges_of first_chords point edge four_off halfway
-halfway_from_0_to_256 = refl
-
-halfway_from_2_to_254 : halfway (chord_edges (four_off 2 254) (4 ∷ []) (pos 0) (pos 0)) ≡ edge 2524 6556 4288 4288
-unfolding edges_of first_chords point edge four_off halfway
-halfway_from_2_to_254 = refl
+-- worked values: Examples.antt

@@ -1,2 +1,6 @@
+pub mod Bounds
+pub mod ChordLaws
 pub mod Chords
+pub mod Ends
+pub mod Examples
 pub mod Laws

@@ -1,16 +1,17 @@
 //! The edges of a closed contour.
 
-ghost use Rattle.std.specs.Prelude.{◌≡◌, ◌<◌, ◌++◌, All, map, OnOk};
-ghost use Rattle.tt_arc.specs.Chords.{PointFits, IsNear, EdgeEndFits, moved, edge_end_of, number_after, edges_of, contour_edges};
+ghost use Rattle.std.specs.Prelude.{◌≡◌, ◌^◌, ◌<◌, ◌≤◌, ◌++◌, All, length, map, take, drop, IfOk, OnOk};
+ghost use Rattle.tt_arc.specs.Chords.{PointFits, IsNear, EdgeEndFits, moved, edge_end_of, number_after, edges_of, contour_chords, joined_by, contour_edges};
 
 use crate::point::{Corner, Offset, PlacedPoint, moved};
 use crate::quadratic::{EdgeEnd, edge_between, push_chords, quadratic_of};
+use crate::rule::ChordRule;
 use std::alloc::AllocError;
 use tt_scan::EdgeList;
 
 /// A point on the curve as an end of an edge.
 #[inline(always)]
-fn edge_end_of(p: PlacedPoint) -> EdgeEnd
+pub(crate) fn edge_end_of(p: PlacedPoint) -> EdgeEnd
     requires { PointFits p }
     ensures exact { result ≡ edge_end_of p }
     ensures valid { EdgeEndFits result }
@@ -24,11 +25,11 @@ fn edge_end_of(p: PlacedPoint) -> EdgeEnd
 /// Adds the edges of a point to a list. Error: memory ran out.
 #[inline(always)]
 #[tactic(auto, unfolding(crate::specs::Chords::edges_of))]
-fn push_edges(list: &mut EdgeList, corner: Corner) -> Result<(), AllocError>
-    ensures exact { OnOk result (list.new.edges ≡ list.old.edges ++ edges_of corner.before corner.point corner.after) }
+fn push_edges(list: &mut EdgeList, corner: Corner, rule: ChordRule) -> Result<(), AllocError>
+    ensures exact { OnOk result (list.new.edges ≡ list.old.edges ++ edges_of rule corner.before corner.point corner.after) }
 {
     if !corner.point.on {
-        return push_chords(list, quadratic_of(corner));
+        return push_chords(list, quadratic_of(corner), rule);
     }
     if corner.after.on {
         list.reserve(1)?;
@@ -47,15 +48,17 @@ fn number_after(n: usize, i: usize) -> usize
     if i + 1 < n { i + 1 } else { 0 }
 }
 
-/// Adds the edges of a contour to a list. A contour of one point has none. Error: memory ran out.
+/// Adds the chords and the straight edges of a contour to a list. A contour of one point has none. Error: memory ran
+/// out.
 #[inline(never)]
-pub(crate) fn push_contour(
+fn push_contour_chords(
     list: &mut EdgeList,
     points: &[(i32, i32, bool)],
     by: Offset,
+    rule: ChordRule,
 ) -> Result<(), AllocError>
     requires { All (IsNear by.dx by.dy) points.now }
-    ensures exact { OnOk result (list.new.edges ≡ list.old.edges ++ contour_edges (map (moved by.dx by.dy) points.now)) }
+    ensures exact { OnOk result (list.new.edges ≡ list.old.edges ++ contour_chords rule (map (moved by.dx by.dy) points.now)) }
 {
     if points.len() < 2 {
         return Ok(());
@@ -69,9 +72,41 @@ pub(crate) fn push_contour(
             point,
             after,
         };
-        push_edges(list, corner)?;
+        push_edges(list, corner, rule)?;
         before = point;
         point = after;
     }
     Ok(())
+}
+
+/// Of the edges from edge `start` on, which are those of a contour, joins those that the rule joins.
+#[inline(always)]
+fn join_by(list: &mut EdgeList, start: usize, rule: ChordRule)
+    requires { start ≤ length list.old.edges }
+    ensures { list.new.edges ≡ take start list.old.edges ++ joined_by rule (drop start list.old.edges) }
+{
+    match rule {
+        ChordRule::Eight => {}
+        ChordRule::ByBend => list.join_from(start),
+    }
+}
+
+/// Adds the edges of a contour to a list, and tells how many chords and straight edges there were before any were
+/// joined. Error: memory ran out.
+pub(crate) fn push_contour(
+    list: &mut EdgeList,
+    points: &[(i32, i32, bool)],
+    by: Offset,
+    rule: ChordRule,
+) -> Result<usize, AllocError>
+    requires { All (IsNear by.dx by.dy) points.now }
+    ensures exact { OnOk result (list.new.edges ≡ list.old.edges ++ contour_edges rule (map (moved by.dx by.dy) points.now)) }
+    ensures counted { IfOk result (λ n. n ≡ length (contour_chords rule (map (moved by.dx by.dy) points.now))) }
+    ensures small { IfOk result (λ n. n < 2 ^ 63) }
+{
+    let start = list.len();
+    push_contour_chords(list, points, by, rule)?;
+    let chords = list.len() - start;
+    join_by(list, start, rule);
+    Ok(chords)
 }

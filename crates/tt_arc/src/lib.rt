@@ -1,12 +1,14 @@
 //! Chords: the outline of a glyph as straight edges.
 #![tactic(auto)]
 
+mod bounds;
 mod contour;
-mod ends;
 pub mod laws;
 mod outline;
 mod point;
 mod quadratic;
+mod rule;
 
-pub use ends::contour_ends;
-pub use outline::{chords, edges};
+pub use bounds::points_box;
+pub use outline::{OutlineEdges, chords, edges};
+pub use rule::ChordRule;

@@ -1,22 +1,26 @@
-//! The quadratic curve of a point off the curve, cut into eight chords. Apple TrueType Reference Manual, "Digitizing
+//! The quadratic curve of a point off the curve, cut into chords. Apple TrueType Reference Manual, "Digitizing
 //! Letterform Designs".
 //!
 //! ```text
 //!            c            a, b    the ends of the quadratic (`CurveEnd`), in 1/128 pixel: the neighbours of point c,
 //!          .   .                  or midway between c and a neighbour that is off the curve too
 //!        _-------_        c       its control point, the point off the curve (`PlacedPoint`), in 26.6
-//!      /           \      chords  eight, between the places at t = 0, 1/8, .., 1 (`EdgeEnd`), in 1/8192 pixel
+//!      /           \      chords  n, between the places at t = 0, 1/n, .., 1 (`EdgeEnd`), in 1/8192 pixel
 //!    a               b
 //! ```
 //!
-//! Along an axis the nine places are values of a polynomial of degree 2. Each follows from the preceding one by sums
-//! alone: by its first difference, and by the second difference, which is constant (`Differences`).
+//! There are 1, 2, 4, 8, 16 or 32 chords. So each end of a chord is one of 33 places of the curve. Along an axis these
+//! places are values of a polynomial of degree 2. The values are whole in 1/131072 pixel, and are rounded to 1/8192 pixel.
+//! Each value follows from the preceding one by sums alone. The sums take its first difference, and the second
+//! difference, which is constant (`Differences`).
 
-ghost use Rattle.std.specs.Prelude.{◌≡◌, ◌^◌, ◌<◌, ◌≤◌, ◌++◌, ◌+ℤ◌, unsigned_abs, OnOk};
+ghost use Rattle.std.specs.Prelude.{◌≡◌, ◌+◌, ◌*◌, ◌^◌, ◌<◌, ◌≤◌, ◌++◌, pos, ◌+ℤ◌, ◌-ℤ◌, ◌*ℤ◌, unsigned_abs, OnOk};
+ghost use Rattle.tt_core.specs.Numbers.{nearest_quotient};
 ghost use Rattle.tt_scan_edges.specs.Winding.{EdgeFits};
-ghost use Rattle.tt_arc.specs.Chords.{PointFits, CurveEndFits, QuadraticFits, CoordinatesFit, EdgeEndFits, AreDifferences, along_x, along_y, curve_end_of, quadratic_of, edge_between, first_chords};
+ghost use Rattle.tt_arc.specs.Chords.{PointFits, CurveEndFits, QuadraticFits, CoordinatesFit, EdgeEndFits, AreDifferences, along_x, along_y, curve_end_of, quadratic_of, signed_bend, chords_of_bend, chord_count, chords_by, edge_between};
 
 use crate::point::{Corner, PlacedPoint};
+use crate::rule::ChordRule;
 use std::alloc::AllocError;
 use tt_scan::{Edge, EdgeList};
 
@@ -105,8 +109,56 @@ fn along_y(curve: Quadratic) -> Coordinates
     }
 }
 
+/// How far a quadratic bends along an axis, with its sign, in 1/128 pixel.
+#[inline(always)]
+fn signed_bend(coordinates: Coordinates) -> i64
+    requires { CoordinatesFit coordinates }
+    ensures exact { result ≡ signed_bend coordinates }
+    ensures bound { unsigned_abs result ≤ 2 ^ 26 }
+{
+    coordinates.from - 4 * coordinates.control + coordinates.to
+}
+
+/// The least number of chords that leave a quadratic by 1/1024 pixel at most, or 32, by its bend in 1/128 pixel.
+#[inline(always)]
+fn chords_of_bend(bend: u64) -> u32
+    requires { bend ≤ 2 ^ 26 }
+    ensures { result ≡ chords_of_bend bend }
+{
+    let twice = 2 * bend;
+    if twice <= 1 {
+        return 1;
+    }
+    if twice <= 4 {
+        return 2;
+    }
+    if twice <= 16 {
+        return 4;
+    }
+    if twice <= 64 {
+        return 8;
+    }
+    if twice <= 256 { 16 } else { 32 }
+}
+
+/// How many chords a quadratic has.
+#[inline(always)]
+fn chord_count(curve: Quadratic, rule: ChordRule) -> u32
+    requires { QuadraticFits curve }
+    ensures { result ≡ chord_count rule curve }
+{
+    match rule {
+        ChordRule::Eight => 8,
+        ChordRule::ByBend => {
+            let across = signed_bend(along_x(curve)).unsigned_abs();
+            let up = signed_bend(along_y(curve)).unsigned_abs();
+            chords_of_bend(across.max(up))
+        }
+    }
+}
+
 /// The end of a chord along one axis, the first difference to the next chord's end, and the second difference, in
-/// 1/8192 pixel.
+/// 1/131072 pixel.
 #[derive(Clone, Copy)]
 struct Differences {
     value: i64,
@@ -114,29 +166,48 @@ struct Differences {
     second: i64,
 }
 
-/// The coordinate and the differences at the start of a quadratic.
+/// `count * v`, with a contract that names the product of integers.
 #[inline(always)]
-fn differences_at_start(coordinates: Coordinates) -> Differences
-    requires { CoordinatesFit coordinates }
-    ensures { AreDifferences coordinates 0 result }
+fn times(count: u32, v: i64) -> i64
+    requires count { count ≤ 32 }
+    requires length { unsigned_abs v ≤ 2 ^ 33 }
+    ensures exact { result ≡ pos count *ℤ v }
+    ensures few { unsigned_abs result ≤ 32 * unsigned_abs v }
 {
-    let Coordinates { from, control, to } = coordinates;
-    // Shifts and sums alone; the plain form has two products.
-    let four = 4 * control;
-    let bend = from + to - four;
+    i64::from(count) * v
+}
+
+/// The rise of a quadratic at its start, by one thirty-second of it, without its bend.
+#[inline(always)]
+fn slope(coordinates: Coordinates) -> i64
+    requires { CoordinatesFit coordinates }
+    ensures exact { result ≡ pos 64 *ℤ (pos 2 *ℤ coordinates.control -ℤ coordinates.from) }
+    ensures bound { unsigned_abs result ≤ 2 ^ 31 }
+{
+    64 * (2 * coordinates.control - coordinates.from)
+}
+
+/// The coordinate and the differences at the start of a quadratic, for chords of `step` thirty-seconds of it.
+#[inline(always)]
+fn differences_at_start(coordinates: Coordinates, step: u32) -> Differences
+    requires coordinates { CoordinatesFit coordinates }
+    requires step { step ≤ 32 }
+    ensures { AreDifferences coordinates step 0 result }
+{
+    let part = times(step, signed_bend(coordinates));
     Differences {
-        value: 64 * from,
-        first: bend + 8 * (four - 2 * from),
-        second: 2 * bend,
+        value: 1024 * coordinates.from,
+        first: times(step, slope(coordinates) + part),
+        second: 2 * times(step, part),
     }
 }
 
 /// The differences one chord further.
 #[inline(always)]
 fn next(s: Differences) -> Differences
-    requires value { unsigned_abs s.value < 2 ^ 30 }
-    requires first { unsigned_abs s.first < 2 ^ 31 }
-    requires second { unsigned_abs s.second ≤ 2 ^ 27 }
+    requires value { unsigned_abs s.value < 2 ^ 34 }
+    requires first { unsigned_abs s.first < 2 ^ 43 }
+    requires second { unsigned_abs s.second ≤ 2 ^ 37 }
     ensures value { result.value ≡ s.value +ℤ s.first }
     ensures first { result.first ≡ s.first +ℤ s.second }
     ensures second { result.second ≡ s.second }
@@ -157,14 +228,30 @@ pub(crate) struct EdgeEnd {
     pub(crate) y: i64,
 }
 
+/// A place in 1/131072 pixel, rounded to 1/8192 pixel; a half goes up.
+#[inline(always)]
+fn rounded(place: i64) -> i64
+    requires { unsigned_abs place + 2 ^ 11 ≤ 2 ^ 34 }
+    ensures exact { result ≡ nearest_quotient (pos 64 *ℤ place) (pos 1024) }
+    ensures bound { unsigned_abs result < 2 ^ 30 }
+{
+    (place + 8).div_euclid(16)
+}
+
 /// The end of a chord.
 #[inline(always)]
 fn edge_end(x: Differences, y: Differences) -> EdgeEnd
-    ensures { result ≡ record { x = x.value; y = y.value } }
+    requires x { unsigned_abs x.value + 2 ^ 11 ≤ 2 ^ 34 }
+    requires y { unsigned_abs y.value + 2 ^ 11 ≤ 2 ^ 34 }
+    ensures exact { result ≡ record {
+      x = nearest_quotient (pos 64 *ℤ x.value) (pos 1024);
+      y = nearest_quotient (pos 64 *ℤ y.value) (pos 1024);
+    } }
+    ensures valid { EdgeEndFits result }
 {
     EdgeEnd {
-        x: x.value,
-        y: y.value,
+        x: rounded(x.value),
+        y: rounded(y.value),
     }
 }
 
@@ -184,18 +271,24 @@ pub(crate) fn edge_between(a: EdgeEnd, b: EdgeEnd) -> Edge
     }
 }
 
-/// Adds the eight chords of a quadratic to a list. Error: memory ran out.
+/// Adds the chords of a quadratic to a list. Error: memory ran out.
 #[inline(always)]
-#[tactic(auto, using(crate::proofs::Eighths::no_chord))]
-pub(crate) fn push_chords(list: &mut EdgeList, curve: Quadratic) -> Result<(), AllocError>
+#[tactic(auto, using(crate::proofs::Places::no_chord))]
+pub(crate) fn push_chords(
+    list: &mut EdgeList,
+    curve: Quadratic,
+    rule: ChordRule,
+) -> Result<(), AllocError>
     requires { QuadraticFits curve }
-    ensures exact { OnOk result (list.new.edges ≡ list.old.edges ++ first_chords curve 8) }
+    ensures exact { OnOk result (list.new.edges ≡ list.old.edges ++ chords_by rule curve) }
 {
-    list.reserve(8)?;
-    let mut x = differences_at_start(along_x(curve));
-    let mut y = differences_at_start(along_y(curve));
+    let n = chord_count(curve, rule);
+    let step = 32 / n;
+    list.reserve(n as usize)?;
+    let mut x = differences_at_start(along_x(curve), step);
+    let mut y = differences_at_start(along_y(curve), step);
     let mut from = edge_end(x, y);
-    for k in 0..8u32 {
+    for k in 0..n {
         x = next(x);
         y = next(y);
         let to = edge_end(x, y);

@@ -16,9 +16,10 @@ use Rattle.tt_glyf.specs.Loca.{Glyf, glyph_offset}
 use Rattle.tt_glyf.specs.Raw.{Raw, empty, simple, composite}
 use Rattle.tt_glyf.specs.Told.{told_size, records_in, components_of}
 use Rattle.tt_glyf.proofs.Headers.{sizes-told}
+use Rattle.tt_fit_outline.specs.declared.grid.Grid.{Grid}
 use Rattle.tt_fit_outline.specs.Component.{placed_point, shift_of}
 use Rattle.tt_fit.specs.Counting.{OutlinesAreCounted, outline_size, points_asked}
-use Rattle.tt_fit.specs.Fitting.{Fitter, size_of, start, composite_program, simple_program, joined, made, outline_by, added, glyph_fitter, fitted_outline}
+use Rattle.tt_fit.specs.Fitting.{Fitter, size_of, start, glyph_grid, simple_start, composite_program, simple_program, joined, made, outline_by, added, glyph_fitter, fitted_outline}
 use Rattle.tt_fit_outline.specs.GlyphZone.{GlyphProgram, program_in_glyf, on_grid_at, left_outline}
 use Rattle.tt_fit_outline.specs.Hinting.{Hinting, off, ready, is_run, run_of, by_program, hinted}
 use Rattle.tt_fit_outline.specs.Joining.{placed, appended, ends_after, within_point_limit}
@@ -33,7 +34,7 @@ run-size : (parts : Parts) (p : GlyphProgram) (o all : Outline) (run : Bool)
 unfolding by_program
 run-size parts p o all false was = let same : o ≡ all = cc in rw (← same) (omega arith)
 run-size parts p o all true was =
-    let by_grid = came-through (on_grid_at p.glyph_at o.phantom) _ all was in
+    let by_grid = came-through (on_grid_at p.grid p.glyph_at o.phantom) _ all was in
     let begun = parts_with parts p.units o by_grid.value in
     let by_run = came-through (run_of (program_in_glyf p) begun) _ all by_grid.rest in
     let same : left_outline o by_run.value.zones.glyph by_run.value.state.scan ≡ all = cc by_run.rest in
@@ -42,14 +43,14 @@ run-size parts p o all true was =
 hinted-size : (h : Hinting) (p : GlyphProgram) (o all : Outline) → hinted h p o ≡ Ok all
     → outline_size all ≤ outline_size o
 hinted-size off p o all was = let same : o ≡ all = cc in rw (← same) (omega arith)
-hinted-size (ready parts) p o all was = run-size parts p o all (is_run parts p) was
+hinted-size (ready parts) p o all was = run-size parts p o all (is_run p) was
 
 -- a component adds its own
-placed-size : (z : FontSize) (r : Record) (component o all : Outline) → placed z r component o ≡ Ok all
+placed-size : (grid : Grid) (z : FontSize) (r : Record) (component o all : Outline) → placed grid z r component o ≡ Ok all
     → outline_size all ≡ outline_size o + outline_size component
 unfolding placed appended within_point_limit
-placed-size z r component o all was =
-    let moved = came-through (shift_of z r component.points o.points) _ all was in
+placed-size grid z r component o all was =
+    let moved = came-through (shift_of grid z r component.points o.points) _ all was in
     let landed = came-through (each (placed_point r moved.value) component.points) _ all moved.rest in
     let few = came-through (within_point_limit r.at (o.points ++ landed.value)) _ all landed.rest in
     let same = (passed (nat_lt point_limit (length (o.points ++ landed.value))) _ (o.points ++ landed.value) few.value
@@ -104,7 +105,7 @@ made-size s add f adds g empty o was =
     let none = begun-size s (pos 0) g o was in
     omega arith
 made-size s add f adds g (simple d) o was =
-    let begun = came-through (start s d.x_min g) _ o was in
+    let begun = came-through (simple_start s d.x_min g d.code) _ o was in
     let scaled = came-through (scaled_outline (size_of s) (glyph_offset s.tables g) d.points d.ends begun.value) _ o
     begun.rest in
     let many = scaled-size (size_of s) (glyph_offset s.tables g) d.points d.ends begun.value scaled.value scaled.first in
@@ -161,7 +162,7 @@ added-size s (suc levels) r o all was =
     let one = came-through (outline_by s (added s levels) r.glyph) _ all was in
     let its = by-size s (added s levels) (asked s.tables levels) (added-size s levels) r.glyph one.value one.first in
     let asks = asked-by s.tables levels r.glyph in
-    let whole = placed-size (size_of s) r one.value o all one.rest in
+    let whole = placed-size (glyph_grid s) (size_of s) r one.value o all one.rest in
     omega arith
 
 pub outlines-counted : OutlinesAreCounted

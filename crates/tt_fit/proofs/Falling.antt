@@ -14,10 +14,10 @@ use Rattle.tt_fit.specs.Fitting.{Fitter, with_hinting, outline_at, outline_work,
 use Rattle.tt_fit.specs.Laws.{HasWork, ProgramsHaveWork, FallbackFits, FallbackScales, FallbackRefuses, FallbackUnfitsAll, OthersNeverFallBack, FullIsByPrograms, NoneIsWithoutPrograms, UnboundedIsEnough, OthersAreUnbounded, UnboundedStays, SpentWorkUnfits, SpentProgramsUnfitAll}
 use Rattle.tt_fit_outline.specs.Outline.{Outline}
 use Rattle.tt_face.specs.Programs.{ProgramTables}
-use Rattle.tt_fit.specs.Preparation.{with_fallback, begun_at, left_at, work_at, prepared_by, prepared, fitter_with, fitter_of}
+use Rattle.tt_fit.specs.Preparation.{with_fallback, left_at, work_at, prepared_by, prepared, fitter_with, fitter_of}
 use Rattle.tt_fit_outline.specs.Hinting.{Hinting, off}
 use Rattle.tt_fit.specs.Rules.{falls_back, levels_of, dropouts_by}
-use Rattle.tt_fit.proofs.Unbounded.{of-outline, of-programs}
+use Rattle.tt_fit.proofs.Unbounded.{of-outline, of-left}
 
 -- for no glyph
 pub never-unfitted : (s : Fitter) (g : ℕ) → s.fallback ≡ never → unfitted_fault s g ≡ None
@@ -171,7 +171,7 @@ pub fallback-fits : FallbackFits
 unfolding fitter_of prepared
 fallback-fits m tables programs ppem how s g o falls is ready has made =
     let left = left_at m programs ppem how in
-    let who = dropouts_by how programs.fpgm programs.prep in
+    let who = dropouts_by how in
     let by = falling m tables ppem how who s (work_at m programs ppem how) left ready.0 falls ready.1 is in
     fits-by m tables ppem how who s g o left by.0 by.1 has made
 
@@ -196,7 +196,7 @@ pub fallback-scales : FallbackScales
 unfolding fitter_of prepared
 fallback-scales m tables programs ppem how s g f falls is ready has fails of_program =
     let left = left_at m programs ppem how in
-    let who = dropouts_by how programs.fpgm programs.prep in
+    let who = dropouts_by how in
     let by = falling m tables ppem how who s (work_at m programs ppem how) left ready.0 falls ready.1 is in
     scales-by m tables ppem how who s g f left by.0 by.1 has fails of_program
 
@@ -218,7 +218,7 @@ pub fallback-refuses : FallbackRefuses
 unfolding fitter_of prepared
 fallback-refuses m tables programs ppem how alone s g f falls is ready has made fails of_table =
     let left = left_at m programs ppem how in
-    let who = dropouts_by how programs.fpgm programs.prep in
+    let who = dropouts_by how in
     let by = falling m tables ppem how who s (work_at m programs ppem how) left ready.0 falls ready.1 is in
     refuses-by m tables ppem how who alone s g f left by.0 by.1 has made fails of_table
 
@@ -239,7 +239,7 @@ pub fallback-unfits-all : FallbackUnfitsAll
 unfolding fitter_of prepared
 fallback-unfits-all m tables programs ppem how s g f falls is ready fails =
     let left = left_at m programs ppem how in
-    let who = dropouts_by how programs.fpgm programs.prep in
+    let who = dropouts_by how in
     let by = falling m tables ppem how who s (work_at m programs ppem how) left ready.0 falls ready.1 is in
     unfits-by m tables ppem how who s g f left by.0 by.1 fails
 
@@ -259,7 +259,7 @@ others-by m tables ppem fit.Best who s g worked left other is = absurd cc
 pub others-never-fall-back : OthersNeverFallBack
 unfolding fitter_of prepared
 others-never-fall-back m tables programs ppem how s g other is =
-    let who = dropouts_by how programs.fpgm programs.prep in
+    let who = dropouts_by how in
     others-by m tables ppem how who s g (work_at m programs ppem how) (left_at m programs ppem how) other is
 
 full-by : (m : Metrics) (tables : Glyf) (ppem : ℕ) (worked : Worked) (left : Result Hinting Fault)
@@ -297,18 +297,15 @@ unbounded-by m tables ppem fit.Best who s worked left other is = absurd (other r
 
 programs-unbounded : (m : Metrics) (programs : ProgramTables) (ppem : ℕ) (how : Fit) → how ≢ fit.Best
     → ProgramsHaveWork m programs ppem how
-programs-unbounded m programs ppem fit.Full other =
-    (None, of-programs (begun_at m programs ppem fit.Full) programs)
-programs-unbounded m programs ppem fit.None other =
-    (None, of-programs (begun_at m programs ppem fit.None) programs)
-programs-unbounded m programs ppem fit.Fallback other =
-    (None, of-programs (begun_at m programs ppem fit.Fallback) programs)
+programs-unbounded m programs ppem fit.Full other = (None, of-left m programs ppem fit.Full)
+programs-unbounded m programs ppem fit.None other = (None, of-left m programs ppem fit.None)
+programs-unbounded m programs ppem fit.Fallback other = (None, of-left m programs ppem fit.Fallback)
 programs-unbounded m programs ppem fit.Best other = absurd (other refl)
 
 pub others-are-unbounded : OthersAreUnbounded
 unfolding fitter_of prepared
 others-are-unbounded m tables programs ppem how s other is =
-    let who = dropouts_by how programs.fpgm programs.prep in
+    let who = dropouts_by how in
     let worked = work_at m programs ppem how in (
       unbounded-by m tables ppem how who s worked (left_at m programs ppem how) other is,
       programs-unbounded m programs ppem how other,
@@ -353,7 +350,7 @@ unfolding fitter_of prepared
 spent-programs-unfit-all m tables programs ppem fit.Full s g f falls is over = absurd cc
 spent-programs-unfit-all m tables programs ppem fit.None s g f falls is over = absurd cc
 spent-programs-unfit-all m tables programs ppem fit.Fallback s g f falls is over =
-    let free = of-programs (begun_at m programs ppem fit.Fallback) programs in absurd cc
+    let free : work_at m programs ppem fit.Fallback ≡ enough None = of-left m programs ppem fit.Fallback in absurd cc
 spent-programs-unfit-all m tables programs ppem fit.Best s g f falls is over =
-    let who = dropouts_by fit.Best programs.fpgm programs.prep in
+    let who = dropouts_by fit.Best in
     over-by m tables ppem who s g f (work_at m programs ppem fit.Best) (left_at m programs ppem fit.Best) over is

@@ -16,7 +16,7 @@ use Rattle.tt_metrics.specs.Metrics.{Metrics}
 use Rattle.tt_fit.specs.declared.dropouts.DropoutsBy.{DropoutsBy}
 use Rattle.tt_fit.specs.declared.programs.Fit.TheVariants as fit
 use Rattle.tt_fit.specs.Fallback.{Fallback, never, where_refused, everywhere}
-use Rattle.tt_fit.specs.Fitting.{Fitter, with_hinting, size_of, start, composite_program, simple_program, joined, added, simple_work, composite_work, made_work, work_by, added_work, outline_work, glyph_work, left_after_glyph, after_glyph}
+use Rattle.tt_fit.specs.Fitting.{Fitter, with_hinting, size_of, start, simple_start, composite_program, simple_program, joined, added, simple_work, composite_work, made_work, work_by, added_work, outline_work, glyph_work, left_after_glyph, after_glyph}
 use Rattle.tt_fit_outline.specs.GlyphZone.{GlyphProgram, program_in_glyf, on_grid_at}
 use Rattle.tt_fit_outline.specs.Hinting.{Hinting, off, ready, is_run, run_of}
 use Rattle.tt_fit.specs.Laws.{Fewer, WorkFalls, BestIsBounded}
@@ -24,7 +24,7 @@ use Rattle.tt_fit_outline.specs.Outline.{Outline}
 use Rattle.tt_fit_outline.specs.Parts.{parts_with}
 use Rattle.tt_face.specs.Programs.{ProgramTables}
 use Rattle.tt_fit.specs.Preparation.{font_program, control_value_program, with_definitions, programs_work, begun_at, left_at, work_at, prepared_by, prepared, fitter_with, fitter_of}
-use Rattle.tt_fit.specs.Rules.{dropouts_by}
+use Rattle.tt_fit.specs.Rules.{runs_programs, dropouts_by}
 use Rattle.tt_fit_outline.specs.Scaling.{scaled_outline}
 use Rattle.tt_fit_outline.specs.Work.{if_ok, code_work, program_work, hinted_work}
 use Rattle.tt_fit.specs.Work.{joined_work}
@@ -52,7 +52,7 @@ of-code program parts left after e = falls (run_from program (fresh parts)) left
 of-program : (parts : Parts) (p : GlyphProgram) (o : Outline) → Falls (program_work parts p o)
 unfolding program_work
 of-program parts p o =
-    after-ok (on_grid_at p.glyph_at o.phantom) (λ grid. code_work (program_in_glyf p) (parts_with parts p.units o grid))
+    after-ok (on_grid_at p.grid p.glyph_at o.phantom) (λ grid. code_work (program_in_glyf p) (parts_with parts p.units o grid))
     (λ grid. of-code (program_in_glyf p) (parts_with parts p.units o grid))
 
 where-run : (is : Bool) (worked : Option ℕ → Worked) → Falls worked
@@ -63,7 +63,7 @@ where-run false worked each left after e = (left, cc, omega arith)
 of-hinted : (hinting : Hinting) (p : GlyphProgram) (o : Outline) → Falls (hinted_work hinting p o)
 of-hinted off p o left after e = (left, cc, omega arith)
 of-hinted (ready parts) p o left after e =
-    where-run (is_run parts p) (program_work parts p o) (of-program parts p o) left after e
+    where-run (is_run p) (program_work parts p o) (of-program parts p o) left after e
 
 of-joined : (add : Record → Outline → Result Outline Fault) (work : Record → Option ℕ → Worked)
     → ((r : Record) → Falls (work r)) → (rs : List Record) (o : Outline) → Falls (joined_work add work rs o)
@@ -77,7 +77,7 @@ of-made : (s : Fitter) (add : Record → Outline → Result Outline Fault) (work
 of-made s add work each g empty left after e = (left, cc, omega arith)
 of-made s add work each g (simple d) left after e =
     let program = simple_program s g d in
-    after-ok (start s d.x_min g) (simple_work s g d.points d.ends program)
+    after-ok (simple_start s d.x_min g d.code) (simple_work s g d.points d.ends program)
     (λ o. after-ok (scaled_outline (size_of s) (glyph_offset s.tables g) d.points d.ends o)
     (hinted_work s.hinting program) (of-hinted s.hinting program)) left after e
 of-made s add work each g (composite d) left after e =
@@ -146,6 +146,8 @@ begun-by m tables ppem who s (spent f) left each is =
 pub best-is-bounded : BestIsBounded
 unfolding fitter_of prepared
 best-is-bounded m tables programs ppem s is =
-    let who = dropouts_by fit.Best programs.fpgm programs.prep in
+    let who = dropouts_by fit.Best in
+    let parts = begun_at m programs ppem fit.Best in
     begun-by m tables ppem who s (work_at m programs ppem fit.Best) (left_at m programs ppem fit.Best)
-    (of-programs (begun_at m programs ppem fit.Best) programs work_limit) is
+    (where-run (runs_programs fit.Best programs.fpgm programs.prep) (programs_work parts programs)
+    (of-programs parts programs) work_limit) is

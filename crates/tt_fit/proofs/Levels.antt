@@ -13,7 +13,7 @@ use Rattle.tt_glyf.specs.GlyphData.{glyph_data_of}
 use Rattle.tt_glyf.specs.Loca.{glyph_offset}
 use Rattle.tt_glyf.specs.Raw.{CompositeGlyph, SimpleGlyph, composite, simple}
 use Rattle.tt_fit_outline.specs.Hinting.{hinted}
-use Rattle.tt_fit.specs.Fitting.{Fitter, size_of, start, simple_program, composite_program, joined, added, outline_at, added_work, outline_work}
+use Rattle.tt_fit.specs.Fitting.{Fitter, size_of, start, glyph_grid, simple_start, simple_program, composite_program, joined, added, outline_at, added_work, outline_work}
 use Rattle.tt_fit_outline.specs.Outline.{Outline}
 use Rattle.tt_fit_outline.specs.Scaling.{scaled_outline}
 use Rattle.tt_fit_outline.specs.Work.{RefusalLeaves, outline_fault, outline_fault_of}
@@ -26,7 +26,7 @@ one_record_more add rs i d o next below gives = rw (add-one, drop-cons rs i d be
 
 -- with a level remaining, a record adds its component's outline
 pub one_level : (s : Fitter) (levels : ℕ) (r : Record) (o : Outline) → 0 < levels → added s levels r o
-    ≡ (outline_at s (levels - 1) r.glyph >>= λ component. placed (size_of s) r component o)
+    ≡ (outline_at s (levels - 1) r.glyph >>= λ component. placed (glyph_grid s) (size_of s) r component o)
 unfolding added
 one_level s zero r o some = absurd (omega arith)
 one_level s (suc levels) r o some =
@@ -35,26 +35,26 @@ one_level s (suc levels) r o some =
 
 -- its component's outline was made, and is placed
 pub one_level_done : (s : Fitter) (levels : ℕ) (r : Record) (o component : Outline) → 0 < levels
-    → outline_at s (levels - 1) r.glyph ≡ Ok component → added s levels r o ≡ placed (size_of s) r component o
+    → outline_at s (levels - 1) r.glyph ≡ Ok component → added s levels r o ≡ placed (glyph_grid s) (size_of s) r component o
 one_level_done s levels r o component some made = rw (one_level s levels r o some, made) refl
 
 -- a simple glyph that was read, begun without points, and scaled
 pub simple_made : (s : Fitter) (levels g : ℕ) (d : SimpleGlyph) (o scaled : Outline)
-    → glyph_data_of s.tables g ≡ Ok (simple d) → start s d.x_min g ≡ Ok o
+    → glyph_data_of s.tables g ≡ Ok (simple d) → simple_start s d.x_min g d.code ≡ Ok o
     → scaled_outline (size_of s) (glyph_offset s.tables g) d.points d.ends o ≡ Ok scaled
     → outline_at s levels g ≡ hinted s.hinting (simple_program s g d) scaled
 simple_made s levels g d o scaled read begun scales = rw (read, begun, scales) refl
 
 -- its points are not scaled: the fault is the answer, and no program runs
 pub simple_refused : (s : Fitter) (levels g : ℕ) (d : SimpleGlyph) (o : Outline) (fault : FontFault)
-    → glyph_data_of s.tables g ≡ Ok (simple d) → start s d.x_min g ≡ Ok o
+    → glyph_data_of s.tables g ≡ Ok (simple d) → simple_start s d.x_min g d.code ≡ Ok o
     → IfSome (font_fault fault) (λ f. scaled_outline (size_of s) (glyph_offset s.tables g) d.points d.ends o ≡ Err f)
     → IfSome (outline_fault (outline_fault_of fault)) (λ f. outline_at s levels g ≡ Err f)
 simple_refused s levels g d o (font.Font f) read begun fails = rw (read, begun, fails) refl
 simple_refused s levels g d o font.Memory read begun fails = tt
 
 pub simple_unpaid : (s : Fitter) (levels g : ℕ) (d : SimpleGlyph) (o : Outline) (fault : FontFault) (left : Option ℕ)
-    → glyph_data_of s.tables g ≡ Ok (simple d) → start s d.x_min g ≡ Ok o
+    → glyph_data_of s.tables g ≡ Ok (simple d) → simple_start s d.x_min g d.code ≡ Ok o
     → IfSome (font_fault fault) (λ f. scaled_outline (size_of s) (glyph_offset s.tables g) d.points d.ends o ≡ Err f)
     → RefusalLeaves (outline_fault_of fault) left (outline_work s levels g left)
 simple_unpaid s levels g d o (font.Font f) left read begun fails = rw (read, begun, fails) refl

@@ -14,6 +14,7 @@ use Rattle.tt_core.proofs.Each.{each-failed, each-made, length-each}
 use Rattle.tt_glyf.specs.Format.{args_are_xy_values, has}
 use Rattle.tt_glyf.specs.declared.raw.RawPoint.{RawPoint}
 use Rattle.tt_glyf.specs.declared.raw.Record.{Record}
+use Rattle.tt_fit_outline.specs.declared.grid.Grid.{Grid}
 use Rattle.tt_fit_outline.specs.Component.{offset_of, point_of, matched_by, shift_of, landed, placed_point}
 use Rattle.tt_fit_outline.specs.Joining.{within_point_limit, appended, placed}
 use Rattle.tt_fit.specs.Defects.{PassesLimit, LeavesLimit, IsPhantomDefect, IsScaledDefect, LacksPoint, IsMatchDefect, IsLandingDefect, IsCountDefect, IsPlacingDefect}
@@ -150,12 +151,12 @@ matched-broke r (Some p) (Some q) f was = absurd cc
 matched-broke r (Some p) None f was = (inr refl, cc)
 matched-broke r None q f was = (inl refl, cc)
 
-shift-broke-by : (z : FontSize) (r : Record) (component points : List (ℤ × ℤ × Bool)) (f : Fault) (by_offset : Bool)
+shift-broke-by : (grid : Grid) (z : FontSize) (r : Record) (component points : List (ℤ × ℤ × Bool)) (f : Fault) (by_offset : Bool)
     → has r.flags args_are_xy_values ≡ by_offset
-    → (if by_offset then Ok (offset_of z r) else matched_by r (point_of component r.arg2) (point_of points r.arg1))
+    → (if by_offset then Ok (offset_of grid z r) else matched_by r (point_of component r.arg2) (point_of points r.arg1))
     ≡ Err f → IsMatchDefect r component points f
-shift-broke-by z r component points f true is was = absurd cc
-shift-broke-by z r component points f false is was =
+shift-broke-by grid z r component points f true is was = absurd cc
+shift-broke-by grid z r component points f false is was =
     let broke = matched-broke r (point_of component r.arg2) (point_of points r.arg1) f was in (
       is,
       elim (broke.0) [
@@ -165,11 +166,11 @@ shift-broke-by z r component points f false is was =
       broke.1,
     )
 
-shift-broke : (z : FontSize) (r : Record) (component points : List (ℤ × ℤ × Bool)) (f : Fault)
-    → shift_of z r component points ≡ Err f → IsMatchDefect r component points f
+shift-broke : (grid : Grid) (z : FontSize) (r : Record) (component points : List (ℤ × ℤ × Bool)) (f : Fault)
+    → shift_of grid z r component points ≡ Err f → IsMatchDefect r component points f
 unfolding shift_of
-shift-broke z r component points f was =
-    shift-broke-by z r component points f (has r.flags args_are_xy_values) refl was
+shift-broke grid z r component points f was =
+    shift-broke-by grid z r component points f (has r.flags args_are_xy_values) refl was
 
 matched-made : (r : Record) (p q : Option (ℤ × ℤ × Bool)) (by : ℤ × ℤ) → matched_by r p q ≡ Ok by
     → (a : ℤ × ℤ × Bool) × (b : ℤ × ℤ × Bool) × (p ≡ Some a) × (q ≡ Some b)
@@ -177,23 +178,23 @@ matched-made r (Some p) (Some q) by was = (p, q, refl, refl)
 matched-made r (Some p) None by was = absurd cc
 matched-made r None q by was = absurd cc
 
-shift-whole-by : (z : FontSize) (r : Record) (component points : List (ℤ × ℤ × Bool)) (by : ℤ × ℤ) (f : Fault)
+shift-whole-by : (grid : Grid) (z : FontSize) (r : Record) (component points : List (ℤ × ℤ × Bool)) (by : ℤ × ℤ) (f : Fault)
     (by_offset : Bool) → has r.flags args_are_xy_values ≡ by_offset
-    → (if by_offset then Ok (offset_of z r) else matched_by r (point_of component r.arg2) (point_of points r.arg1))
+    → (if by_offset then Ok (offset_of grid z r) else matched_by r (point_of component r.arg2) (point_of points r.arg1))
     ≡ Ok by → IsMatchDefect r component points f → ⊥
-shift-whole-by z r component points by f true is was bad = let other = bad.0 in absurd cc
-shift-whole-by z r component points by f false is was bad =
+shift-whole-by grid z r component points by f true is was bad = let other = bad.0 in absurd cc
+shift-whole-by grid z r component points by f false is was bad =
     let found = matched-made r (point_of component r.arg2) (point_of points r.arg1) by was in
     elim (bad.1) [
       | inl lacking ↦ has-point component r.arg2 found.0 found.2 lacking
       | inr lacking ↦ has-point points r.arg1 found.1 found.3 lacking
     ]
 
-shift-whole : (z : FontSize) (r : Record) (component points : List (ℤ × ℤ × Bool)) (by : ℤ × ℤ) (f : Fault)
-    → shift_of z r component points ≡ Ok by → IsMatchDefect r component points f → ⊥
+shift-whole : (grid : Grid) (z : FontSize) (r : Record) (component points : List (ℤ × ℤ × Bool)) (by : ℤ × ℤ) (f : Fault)
+    → shift_of grid z r component points ≡ Ok by → IsMatchDefect r component points f → ⊥
 unfolding shift_of
-shift-whole z r component points by f was =
-    shift-whole-by z r component points by f (has r.flags args_are_xy_values) refl was
+shift-whole grid z r component points by f was =
+    shift-whole-by grid z r component points by f (has r.flags args_are_xy_values) refl was
 
 -- the number of points
 count-broke : (r : Record) (points landed component : List (ℤ × ℤ × Bool)) (f : Fault)
@@ -216,10 +217,10 @@ count-whole r points landed component all f many was bad =
     not-below point_limit (length points + length landed) fit (omega arith)
 
 -- a component's points in their places
-landing-broke : (z : FontSize) (r : Record) (component points : List (ℤ × ℤ × Bool)) (by : ℤ × ℤ) (f : Fault)
-    → shift_of z r component points ≡ Ok by → each (placed_point r by) component ≡ Err f
-    → IsLandingDefect z r component points f
-landing-broke z r component points by f shifted was =
+landing-broke : (grid : Grid) (z : FontSize) (r : Record) (component points : List (ℤ × ℤ × Bool)) (by : ℤ × ℤ) (f : Fault)
+    → shift_of grid z r component points ≡ Ok by → each (placed_point r by) component ≡ Err f
+    → IsLandingDefect grid z r component points f
+landing-broke grid z r component points by f shifted was =
     let point = each-failed (placed_point r by) component f was in
     let broke = settled-broke r.at (landed r by point.1) f point.3 in
     let P : Result (ℤ × ℤ) Fault → Type 0 = λ x. IsOkAnd x (λ by.
@@ -227,10 +228,10 @@ landing-broke z r component points by f shifted was =
     × LeavesLimit (landed r by p).0 (landed r by p).1 × (f ≡ coordinate_fault r.at)) in
     subst P (sym shifted) (point.0, point.1, point.2, broke.0, broke.1)
 
-landing-whole : (z : FontSize) (r : Record) (component points all : List (ℤ × ℤ × Bool)) (by : ℤ × ℤ) (f : Fault)
-    → shift_of z r component points ≡ Ok by → each (placed_point r by) component ≡ Ok all
-    → IsLandingDefect z r component points f → ⊥
-landing-whole z r component points all by f shifted was bad =
+landing-whole : (grid : Grid) (z : FontSize) (r : Record) (component points all : List (ℤ × ℤ × Bool)) (by : ℤ × ℤ) (f : Fault)
+    → shift_of grid z r component points ≡ Ok by → each (placed_point r by) component ≡ Ok all
+    → IsLandingDefect grid z r component points f → ⊥
+landing-whole grid z r component points all by f shifted was bad =
     let P : Result (ℤ × ℤ) Fault → Type 0 = λ x. IsOkAnd x (λ by.
     (i : ℕ) × (p : ℤ × ℤ × Bool) × (slice_get component i ≡ Some p)
     × LeavesLimit (landed r by p).0 (landed r by p).1 × (f ≡ coordinate_fault r.at)) in
@@ -238,13 +239,13 @@ landing-whole z r component points all by f shifted was bad =
     let one = each-made (placed_point r by) component all there.0 there.1 was there.2 in
     settled-stays r.at (landed r by there.1) one.0 one.1 there.3
 
-pub placing-broke : (z : FontSize) (r : Record) (component o : Outline) (f : Fault) → placed z r component o ≡ Err f
-    → IsPlacingDefect z r component o f
+pub placing-broke : (grid : Grid) (z : FontSize) (r : Record) (component o : Outline) (f : Fault) → placed grid z r component o ≡ Err f
+    → IsPlacingDefect grid z r component o f
 unfolding placed appended
-placing-broke z r component o f was = elim (was-err (shift_of z r component.points o.points) _ f was) [
-  | inl here ↦ inl (shift-broke z r component.points o.points f here)
+placing-broke grid z r component o f was = elim (was-err (shift_of grid z r component.points o.points) _ f was) [
+  | inl here ↦ inl (shift-broke grid z r component.points o.points f here)
   | inr moved ↦ elim (was-err (each (placed_point r moved.value) component.points) _ f moved.rest) [
-    | inl here ↦ inr (inl (landing-broke z r component.points o.points moved.value f moved.first here))
+    | inl here ↦ inr (inl (landing-broke grid z r component.points o.points moved.value f moved.first here))
     | inr all ↦ elim (was-err (within_point_limit r.at (o.points ++ all.value)) _ f all.rest) [
       | inl here ↦
           let many = length-each (placed_point r moved.value) component.points all.value all.first in
@@ -254,16 +255,16 @@ placing-broke z r component o f was = elim (was-err (shift_of z r component.poin
   ]
 ]
 
-pub placing-whole : (z : FontSize) (r : Record) (component o made : Outline) (f : Fault) → placed z r component o ≡ Ok made
-    → IsPlacingDefect z r component o f → ⊥
+pub placing-whole : (grid : Grid) (z : FontSize) (r : Record) (component o made : Outline) (f : Fault) → placed grid z r component o ≡ Ok made
+    → IsPlacingDefect grid z r component o f → ⊥
 unfolding placed appended
-placing-whole z r component o made f was bad =
-    let moved = came-through (shift_of z r component.points o.points) _ made was in
+placing-whole grid z r component o made f was bad =
+    let moved = came-through (shift_of grid z r component.points o.points) _ made was in
     let all = came-through (each (placed_point r moved.value) component.points) _ made moved.rest in
     let few = came-through (within_point_limit r.at (o.points ++ all.value)) _ made all.rest in
     elim bad [
-      | inl unmatched ↦ shift-whole z r component.points o.points moved.value f moved.first unmatched
-      | inr (inl past) ↦ landing-whole z r component.points o.points all.value moved.value f moved.first all.first past
+      | inl unmatched ↦ shift-whole grid z r component.points o.points moved.value f moved.first unmatched
+      | inr (inl past) ↦ landing-whole grid z r component.points o.points all.value moved.value f moved.first all.first past
       | inr (inr count) ↦
           let many = length-each (placed_point r moved.value) component.points all.value all.first in
           count-whole r o.points all.value component.points few.value f many few.first count

@@ -1,6 +1,6 @@
 -- The possible defects of a glyph's outline at a size, each with its fault, whatever the order of the tests. OpenType,
 -- "The 'glyf' table", "Composite Glyph Description"; the limits are profile.
-use Rattle.std.specs.Prelude.{◌≡◌, ℕ, zero, suc, ◌+◌, ◌<◌, Bool, true, false, ℤ, pos, unsigned_abs, ◌<ℤ◌, ◌≤ℤ◌, List, length, take, Some, Result, Err, IsOkAnd, ◌⊎◌}
+use Rattle.std.specs.Prelude.{◌≡◌, ℕ, zero, suc, ◌+◌, ◌<◌, Bool, true, false, ℤ, pos, unsigned_abs, ◌<ℤ◌, ◌≤ℤ◌, List, [], length, take, Some, Result, Err, IsOkAnd, ◌⊎◌}
 use Rattle.std.specs.List.{slice_get}
 use Rattle.tt_core.specs.Faults.{Fault}
 use Rattle.tt_core.specs.declared.fault.Why.TheVariants as why
@@ -15,7 +15,9 @@ use Rattle.tt_glyf.specs.Loca.{glyph_offset}
 use Rattle.tt_glyf.specs.Raw.{Raw, empty, simple, composite}
 use Rattle.tt_exec.specs.Parts.{Parts}
 use Rattle.tt_fit_outline.specs.Component.{shift_of, landed}
-use Rattle.tt_fit.specs.Fitting.{Fitter, size_of, start, composite_program, simple_program, joined, added, outline_at, glyph_fitter}
+use Rattle.tt_fit.specs.Fitting.{Fitter, size_of, start, glyph_grid, simple_start, composite_program, simple_program, joined, added, outline_at, glyph_fitter}
+use Rattle.tt_fit_outline.specs.declared.grid.Grid.{Grid}
+use Rattle.tt_fit_outline.specs.declared.grid.Grid.TheVariants as rounding
 use Rattle.tt_fit_outline.specs.GlyphZone.{GlyphProgram, program_in_glyf, on_grid, on_grid_at}
 use Rattle.tt_fit_outline.specs.Parts.{parts_with}
 use Rattle.tt_fit_outline.specs.Outline.{PhantomPoints, Outline}
@@ -60,8 +62,8 @@ IsMatchDefect r component points fault =
     × (fault ≡ glyf_fault r.at why.MatchPoint)
 
 -- a point of the component, transformed and moved, lies past the limit
-abbrev pub IsLandingDefect : FontSize → Record → List (ℤ × ℤ × Bool) → List (ℤ × ℤ × Bool) → Fault → Type 0
-IsLandingDefect z r component points fault = IsOkAnd (shift_of z r component points) (λ by.
+abbrev pub IsLandingDefect : Grid → FontSize → Record → List (ℤ × ℤ × Bool) → List (ℤ × ℤ × Bool) → Fault → Type 0
+IsLandingDefect grid z r component points fault = IsOkAnd (shift_of grid z r component points) (λ by.
     (i : ℕ) × (p : ℤ × ℤ × Bool) × (slice_get component i ≡ Some p)
     × LeavesLimit (landed r by p).0 (landed r by p).1 × (fault ≡ coordinate_fault r.at))
 
@@ -71,10 +73,10 @@ IsCountDefect r component points fault =
     (point_limit < length points + length component) × (fault ≡ glyf_fault r.at why.PointLimit)
 
 -- a component cannot be added to what is assembled so far
-abbrev pub IsPlacingDefect : FontSize → Record → Outline → Outline → Fault → Type 0
-IsPlacingDefect z r component o fault =
+abbrev pub IsPlacingDefect : Grid → FontSize → Record → Outline → Outline → Fault → Type 0
+IsPlacingDefect grid z r component o fault =
     IsMatchDefect r component.points o.points fault
-    ⊎ IsLandingDefect z r component.points o.points fault
+    ⊎ IsLandingDefect grid z r component.points o.points fault
     ⊎ IsCountDefect r component.points o.points fault
 
 -- the outline assembled before record i
@@ -94,10 +96,15 @@ IsGridDefect at p fault =
     (PassesLimit p.left.0 ⊎ PassesLimit p.right.0 ⊎ PassesLimit p.ascent.1 ⊎ PassesLimit p.descent.1)
     × (fault ≡ coordinate_fault at)
 
+-- a simple glyph without a program: halves go up, and a phantom point exceeds the limit on the grid
+abbrev pub IsEndsDefect : Grid → ℕ → List ℕ → Outline → Fault → Type 0
+IsEndsDefect by at code o fault =
+    (by ≡ rounding.Up) × (code ≡ []) × IsGridDefect at (on_grid rounding.Up o.phantom) fault
+
 -- a glyph's program is run, and a phantom point exceeds the limit on the grid, or the program has a fault
 abbrev pub IsProgramDefect : Parts → GlyphProgram → Outline → Fault → Type 0
-IsProgramDefect parts p o fault = (is_run parts p ≡ true) × (IsGridDefect p.glyph_at (on_grid o.phantom) fault
-    ⊎ IsOkAnd (on_grid_at p.glyph_at o.phantom) (λ grid.
+IsProgramDefect parts p o fault = (is_run p ≡ true) × (IsGridDefect p.glyph_at (on_grid p.grid o.phantom) fault
+    ⊎ IsOkAnd (on_grid_at p.grid p.glyph_at o.phantom) (λ grid.
     run_of (program_in_glyf p) (parts_with parts p.units o grid) ≡ Err fault))
 
 abbrev pub IsHintingDefect : Hinting → GlyphProgram → Outline → Fault → Type 0
@@ -109,8 +116,10 @@ abbrev pub IsMakingDefect : Fitter → (Record → Outline → Result Outline Fa
     → (Record → Result Outline Fault → Fault → Type 0) → ℕ → Raw → Fault → Type 0
 IsMakingDefect s add IsOne g empty fault = IsStartDefect s (pos 0) g fault
 IsMakingDefect s add IsOne g (simple d) fault =
-    IsStartDefect s d.x_min g fault ⊎ IsScaledDefect (size_of s) (glyph_offset s.tables g) d.points fault
-    ⊎ IsOkAnd (start s d.x_min g >>= scaled_outline (size_of s) (glyph_offset s.tables g) d.points d.ends) (λ o.
+    IsStartDefect s d.x_min g fault
+    ⊎ IsOkAnd (start s d.x_min g) (λ o. IsEndsDefect (glyph_grid s) (glyph_offset s.tables g) d.code o fault)
+    ⊎ IsScaledDefect (size_of s) (glyph_offset s.tables g) d.points fault
+    ⊎ IsOkAnd (simple_start s d.x_min g d.code >>= scaled_outline (size_of s) (glyph_offset s.tables g) d.points d.ends) (λ o.
     IsHintingDefect s.hinting (simple_program s g d) o fault)
 IsMakingDefect s add IsOne g (composite d) fault =
     IsStartDefect s d.x_min g fault ⊎ IsRecordsDefect add IsOne (start s d.x_min g) d.records fault
@@ -130,7 +139,7 @@ IsBadComponent s zero r before fault = fault ≡ glyf_fault r.at why.ComponentDe
 IsBadComponent s (suc levels) r before fault =
     IsDefectBy s (added s levels) (IsBadComponent s levels) r.glyph fault
     ⊎ IsOkAnd before (λ o. IsOkAnd (outline_at s levels r.glyph) (λ component.
-    IsPlacingDefect (size_of s) r component o fault))
+    IsPlacingDefect (glyph_grid s) (size_of s) r component o fault))
 
 -- a defect of a glyph, or of a component reached from it
 abbrev pub IsDefectAt : Fitter → ℕ → ℕ → Fault → Type 0

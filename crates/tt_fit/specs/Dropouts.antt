@@ -1,5 +1,5 @@
 -- Apple TrueType Reference Manual, "Instruction set" (SCANCTRL, SCANTYPE): the rules for filling the dropouts of a
--- character's glyph. Only Best fills dropouts. A glyph that is drawn without its programs has scan type 1 (profile).
+-- character's glyph. Only Best fills dropouts. A glyph whose hinting is off has scan type 1 (profile).
 use Rattle.std.specs.Prelude.{◌≡◌, ℕ, ◌==◌, true, false, if◌then◌else◌, codes, Option, Some, None, refl}
 use Rattle.tt_core.specs.Faults.{Fault, fault_at}
 use Rattle.tt_core.specs.declared.fault.Why.TheVariants as why
@@ -8,6 +8,7 @@ use Rattle.tt_state.specs.declared.graphics_state.ScanControl.{ScanControl}
 use Rattle.tt_fit.specs.declared.dropouts.DropoutRules.{DropoutRules}
 use Rattle.tt_fit.specs.declared.dropouts.DropoutsBy.{DropoutsBy}
 use Rattle.tt_fit.specs.declared.dropouts.DropoutsBy.TheVariants as by
+use Rattle.tt_fit.specs.Fallback.{hinting_for}
 use Rattle.tt_fit.specs.Fitting.{Fitter}
 use Rattle.tt_fit_outline.specs.Hinting.{Hinting, off, ready}
 use Rattle.tt_fit_outline.specs.Outline.{Outline}
@@ -32,17 +33,15 @@ abbrev pub scan_left : Option ScanControl → ScanControl → ScanControl
 scan_left (Some left) begun = left
 scan_left None begun = begun
 
+-- a glyph whose hinting is off has scan type 1
 abbrev pub program_rules : Hinting → Option ScanControl → Option DropoutRules
 program_rules off scan = Some default_rules
-program_rules (ready parts) scan =
-    if parts.skip_glyphs then Some default_rules else scan_rules (scan_left scan parts.state.scan)
+program_rules (ready parts) scan = scan_rules (scan_left scan parts.state.scan)
 
 -- by the source of the rules, the fault that makes the glyph unfitted, and its last scan control
 abbrev pub rules_by : DropoutsBy → Hinting → Option Fault → Option ScanControl → Option DropoutRules
 rules_by by.Nobody hinting unfitted scan = None
-rules_by by.Default hinting unfitted scan = Some default_rules
-rules_by by.Programs hinting (Some fault) scan = Some default_rules
-rules_by by.Programs hinting None scan = program_rules hinting scan
+rules_by by.Programs hinting unfitted scan = program_rules (hinting_for unfitted hinting) scan
 
 abbrev pub dropouts_of : Fitter → Option Fault → Outline → Option DropoutRules
 dropouts_of s unfitted o = rules_by s.dropouts s.hinting unfitted o.scan

@@ -1,6 +1,6 @@
 -- OpenType, "The 'glyf' table": the outline of a glyph at a size, with its components made first, in the order of their
 -- records.
-use Rattle.std.specs.Prelude.{◌≡◌, ℕ, zero, suc, ◌-◌, ◌≤◌, true, ℤ, pos, neg_ℤ, ◌+ℤ◌, codes, List, [], ◌∷◌, Option, Some, None, Result, Ok, Err, refl}
+use Rattle.std.specs.Prelude.{◌≡◌, ℕ, zero, suc, ◌-◌, ◌≤◌, ◌==◌, Bool, true, if◌then◌else◌, ℤ, pos, neg_ℤ, ◌+ℤ◌, codes, List, [], ◌∷◌, length, Option, Some, None, Result, Ok, Err, refl}
 use Rattle.tt_core.specs.Faults.{Fault}
 use Rattle.tt_core.specs.declared.fault.Why.TheVariants as why
 use Rattle.tt_core.specs.Faults.{fault_at}
@@ -25,8 +25,11 @@ use Rattle.tt_fit_outline.specs.Component.{shift_of}
 use Rattle.tt_fit_outline.specs.Joining.{placed, appended, within_point_limit}
 use Rattle.tt_fit.specs.Fallback.{Fallback, never, where_refused, everywhere, unfitted_by, hinting_for}
 use Rattle.tt_fit_outline.specs.Outline.{PhantomPoints, Outline}
-use Rattle.tt_fit_outline.specs.GlyphZone.{GlyphProgram}
-use Rattle.tt_fit_outline.specs.Hinting.{Hinting, off, IsHinting, hinted}
+use Rattle.tt_fit_outline.specs.declared.grid.Grid.{Grid}
+use Rattle.tt_fit_outline.specs.declared.grid.GridRule.{GridRule}
+use Rattle.tt_fit_outline.specs.declared.grid.GridRule.TheVariants as grid_rule
+use Rattle.tt_fit_outline.specs.GlyphZone.{GlyphProgram, ends_on_grid}
+use Rattle.tt_fit_outline.specs.Hinting.{Hinting, off, IsHinting, is_on, grid_by, hinted}
 use Rattle.tt_fit_outline.specs.Scaling.{glyf_fault, phantom_points, phantom_units, blank, scaled_outline, settled}
 use Rattle.tt_fit_outline.specs.Size.{FontSize, size_by}
 use Rattle.tt_fit_outline.specs.Units.{Units, units_by}
@@ -35,14 +38,15 @@ use Rattle.tt_fit_outline.specs.declared.rules.Scaling.TheVariants as scaling
 use Rattle.tt_fit_outline.specs.Work.{if_ok, hinted_work}
 use Rattle.tt_fit.specs.Work.{joined_work, left_in}
 
--- The inputs of outlines: a font's glyph data and metrics, the pixels per em and the scaling. Then the state after its
--- programs, which glyphs are unfitted, and the depth limit of components. Then the job's remaining work (None if
--- unbounded), and the source of the dropout rules.
+-- The inputs of outlines: a font's glyph data and metrics, the pixels per em, the scaling, and when distances are
+-- rounded to whole pixels. Then the state after its programs, which glyphs are unfitted, and the depth limit of
+-- components. Then the job's remaining work (None if unbounded), and the source of the dropout rules.
 pub record Fitter : Type 0 where
   pub tables : Glyf
   pub metrics : Metrics
   pub ppem : ℕ
   pub scaling : Scaling
+  pub grid : GridRule
   pub hinting : Hinting
   pub fallback : Fallback
   pub levels : ℕ
@@ -73,9 +77,18 @@ abbrev pub joined : (Record → Outline → Result Outline Fault) → List Recor
 joined add [] o = Ok o
 joined add (r ∷ rs) o = add r o >>= joined add rs
 
+-- the grid of a glyph and its components
+abbrev pub glyph_grid : Fitter → Grid
+glyph_grid s = grid_by s.grid s.hinting
+
+-- a simple glyph without points, by its program; without a program its phantom points may be on the grid
+unfoldable pub simple_start : Fitter → ℤ → ℕ → List ℕ → Result Outline Fault
+simple_start s x_min g code = start s x_min g >>= λ o.
+    if length code == 0 then ends_on_grid (glyph_grid s) (glyph_offset s.tables g) o else Ok o
+
 abbrev pub glyph_program : Fitter → ℕ → List ℕ → ℕ → Option Units → GlyphProgram
 glyph_program s g code code_at units =
-    record { code = code; code_at = code_at; glyph_at = glyph_offset s.tables g; units = units }
+    record { code = code; code_at = code_at; glyph_at = glyph_offset s.tables g; grid = glyph_grid s; units = units }
 
 -- the program of a simple glyph, whose originals may be measured in font units, and the program of a composite one
 abbrev pub simple_program : Fitter → ℕ → SimpleGlyph → GlyphProgram
@@ -93,7 +106,7 @@ simple_outline s g points ends program o = scaled_outline (size_of s) (glyph_off
 -- the outline of a glyph, by how a record extends the outline so far
 abbrev pub made : Fitter → (Record → Outline → Result Outline Fault) → ℕ → Raw → Result Outline Fault
 made s add g empty = start s (pos 0) g
-made s add g (simple d) = start s d.x_min g >>= simple_outline s g d.points d.ends (simple_program s g d)
+made s add g (simple d) = simple_start s d.x_min g d.code >>= simple_outline s g d.points d.ends (simple_program s g d)
 made s add g (composite d) = start s d.x_min g >>= joined add d.records >>= hinted s.hinting
     (composite_program s g d)
 
@@ -103,7 +116,7 @@ outline_by s add g = glyph_data_of s.tables g >>= made s add g
 -- the outline after one record with this many levels of components: its component's own outline is placed
 unfoldable pub added : Fitter → ℕ → Record → Outline → Result Outline Fault
 added s zero r o = Err (glyf_fault r.at why.ComponentDepth)
-added s (suc levels) r o = outline_by s (added s levels) r.glyph >>= λ component. placed (size_of s) r component o
+added s (suc levels) r o = outline_by s (added s levels) r.glyph >>= λ component. placed (glyph_grid s) (size_of s) r component o
 
 -- the outline of a glyph, with this many levels of components
 abbrev pub outline_at : Fitter → ℕ → ℕ → Result Outline Fault
@@ -123,7 +136,7 @@ composite_work s add work records program o left =
 abbrev pub made_work : Fitter → (Record → Outline → Result Outline Fault) → (Record → Option ℕ → Worked) → ℕ → Raw
     → Option ℕ → Worked
 made_work s add work g empty = enough
-made_work s add work g (simple d) = if_ok (start s d.x_min g)
+made_work s add work g (simple d) = if_ok (simple_start s d.x_min g d.code)
     (simple_work s g d.points d.ends (simple_program s g d))
 made_work s add work g (composite d) = if_ok (start s d.x_min g)
     (composite_work s add work d.records (composite_program s g d))
@@ -173,6 +186,11 @@ charged_fitter s cost = record s { work = work_less cost s.work }
 abbrev pub glyph_fitter : Fitter → ℕ → Fitter
 glyph_fitter s g = with_hinting s (hinting_for (unfitted_fault s g) s.hinting)
 
+-- Hinting is on for a character's glyph and its components: the glyph is fitted, and the font has programs that have
+-- not switched glyph programs off.
+abbrev pub is_hinted : Fitter → ℕ → Bool
+is_hinted s g = is_on (glyph_fitter s g).hinting
+
 -- the outline of a character's glyph, or the fault that comes first
 unfoldable pub fitted_outline : Fitter → ℕ → Result Outline Fault
 fitted_outline s g = outline_at (glyph_fitter s g) s.levels g
@@ -215,6 +233,7 @@ its_fitter third = record {
   metrics = its_metrics;
   ppem = 16;
   scaling = scaling.Exact;
+  grid = grid_rule.Always;
   hinting = off;
   fallback = never;
   levels = level_limit;
@@ -239,7 +258,7 @@ square_is_scaled : fitted_outline (its_fitter []) 1 ≡ Ok (record {
 })
 unfolding fitted_outline unfitted_fault glyph_data_of glyph_bytes_of header_of described simple_of ends_from end_at points_within
     points_of flags_from run_at coordinates_from coordinate_at within_words delta_at byte_in word_in signed_in slice_in
-    blank scaled_outline settled
+    blank simple_start scaled_outline settled
 square_is_scaled = refl
 
 -- two components of glyph 1, the second moved by 64 to the right; the second gives its metrics
@@ -256,7 +275,7 @@ squares_are_joined : fitted_outline (its_fitter two_squares) 2 ≡ Ok (record {
 unfolding fitted_outline unfitted_fault added placed appended shift_of within_point_limit glyph_data_of glyph_bytes_of header_of described
     composite_of records_from record_at known_glyph arguments_at argument_at transform_at unscaled program_of simple_of
     ends_from end_at points_within points_of flags_from run_at coordinates_from coordinate_at within_words delta_at
-    byte_in word_in signed_in slice_in blank scaled_outline settled
+    byte_in word_in signed_in slice_in blank simple_start scaled_outline settled
 squares_are_joined = refl
 
 -- one component, which is the glyph itself

@@ -21,11 +21,11 @@ use Rattle.tt_fit.specs.Defects.{IsOutlineDefect}
 use Rattle.tt_fit.specs.Dropouts.{default_rules, scan_rules, scan_left, dropouts_of}
 use Rattle.tt_fit.specs.Fallback.{never, where_refused, is_program_fault}
 use Rattle.tt_fit.specs.Fitting.{Fitter, with_hinting, size_of, start, simple_program, outline_at, glyph_work, unfitted_fault, fitted_outline, after_glyph}
-use Rattle.tt_fit_outline.specs.Hinting.{off, ready}
+use Rattle.tt_fit_outline.specs.Hinting.{off, ready, run_of}
 use Rattle.tt_fit_outline.specs.GlyphZone.{glyph_zone}
 use Rattle.tt_fit_outline.specs.Outline.{Outline, PhantomPoints}
 use Rattle.tt_face.specs.Programs.{ProgramTables}
-use Rattle.tt_fit.specs.Preparation.{left_at, work_at, fitter_with, fitter_of}
+use Rattle.tt_fit.specs.Preparation.{font_program, control_value_program, with_definitions, begun_at, left_at, work_at, fitter_with, fitter_of}
 use Rattle.tt_fit.specs.Rules.{falls_back}
 use Rattle.tt_fit_outline.specs.Scaling.{scaled_outline}
 use Rattle.tt_fit_outline.specs.declared.rules.Scaling.TheVariants as scaling
@@ -196,21 +196,28 @@ EmptyByTypeOne = (m : Metrics) (tables : Glyf) (programs : ProgramTables) (ppem 
     (unfitted : Option Fault) (o : Outline) → AreEmpty programs → fitter_of m tables programs ppem fit.Best ≡ Ok s
     → dropouts_of s unfitted o ≡ Some default_rules
 
--- where the control value program switched glyph programs off, every glyph has these rules too
-abbrev pub SkippedByTypeOne : Type 0
-SkippedByTypeOne = (m : Metrics) (tables : Glyf) (programs : ProgramTables) (ppem : ℕ) (s : Fitter) (parts : Parts)
-    (unfitted : Option Fault) (o : Outline) → fitter_of m tables programs ppem fit.Best ≡ Ok s
-    → s.hinting ≡ ready parts → parts.skip_glyphs ≡ true → dropouts_of s unfitted o ≡ Some default_rules
+-- with Best, the two programs run without a fault, and the control value program switches glyph programs off
+pub record SwitchedOff (m : Metrics) (programs : ProgramTables) (ppem : ℕ) : Type 0 where
+  pub font : Parts
+  pub left : Parts
+  pub by_font : run_of (font_program programs.fpgm) (begun_at m programs ppem fit.Best) ≡ Ok font
+  pub by_values : run_of (control_value_program programs.prep)
+      (with_definitions (begun_at m programs ppem fit.Best) font) ≡ Ok left
+  pub skips : left.skip_glyphs ≡ true
 
--- With Best, a font has at least one of the two programs, and glyph programs are switched on. The scan control of an
--- outline is that of the last program run for it, or else that of the control value program.
+-- then every glyph has these rules too
+abbrev pub SkippedByTypeOne : Type 0
+SkippedByTypeOne = (m : Metrics) (tables : Glyf) (programs : ProgramTables) (ppem : ℕ) (s : Fitter)
+    (unfitted : Option Fault) (o : Outline) → SwitchedOff m programs ppem
+    → fitter_of m tables programs ppem fit.Best ≡ Ok s → dropouts_of s unfitted o ≡ Some default_rules
+
+-- With Best, hinting is on. The scan control of an outline is that of the last program run for it, or else that of the
+-- control value program.
 pub record LeftScan (m : Metrics) (tables : Glyf) (programs : ProgramTables) (ppem : ℕ) (s : Fitter) (o : Outline)
     (scan : ScanControl) : Type 0 where
   pub made : fitter_of m tables programs ppem fit.Best ≡ Ok s
-  pub some : ¬ AreEmpty programs
   pub parts : Parts
   pub hinting : s.hinting ≡ ready parts
-  pub on : parts.skip_glyphs ≡ false
   pub left : scan_left o.scan parts.state.scan ≡ scan
 
 -- then a fitted glyph has the rules of the scan control

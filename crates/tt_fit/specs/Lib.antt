@@ -3,9 +3,11 @@ pub mod Defects
 pub mod Dropouts
 pub mod Fallback
 pub mod Fitting
+pub mod Hinted
 pub mod Laws
 pub mod Preparation
 pub mod Refusals
+pub mod Rounding
 pub mod Rules
 pub mod Views
 pub mod Work

@@ -2,7 +2,7 @@
 -- value program, before the first glyph. Without programs they are ignored. The control value program sees only the
 -- definitions of the font program. This, and which of its own results the glyphs see, is this project's choice
 -- (profile).
-use Rattle.std.specs.Prelude.{ℕ, List, codes, Option, Some, None, Result, Ok, Err}
+use Rattle.std.specs.Prelude.{ℕ, if◌then◌else◌, List, codes, Option, Some, None, Result, Ok, Err}
 use Rattle.tt_core.specs.Faults.{Fault}
 use Rattle.tt_core.specs.Outcomes.{◌>>=◌}
 use Rattle.tt_exec_step.specs.MachineState.{Code}
@@ -18,7 +18,7 @@ use Rattle.tt_fit.specs.Fallback.{Fallback, never, where_refused, everywhere}
 use Rattle.tt_fit.specs.Fitting.{Fitter}
 use Rattle.tt_fit_outline.specs.Hinting.{Hinting, off, ready, run_of}
 use Rattle.tt_fit_outline.specs.Parts.{begun_parts, left_to_glyphs}
-use Rattle.tt_fit.specs.Rules.{rules_of, levels_of, work_of, cvt_read, dropouts_by}
+use Rattle.tt_fit.specs.Rules.{rules_of, grid_of, runs_programs, levels_of, work_of, cvt_read, dropouts_by}
 use Rattle.tt_fit_outline.specs.Work.{if_ok, code_work}
 
 abbrev pub font_program : List ℕ → Code
@@ -31,11 +31,15 @@ control_value_program prep = record { table = codes "prep"; base = 0; bytes = pr
 abbrev pub with_definitions : Parts → Parts → Parts
 with_definitions parts font = record parts { functions = font.functions; instructions = font.instructions }
 
+-- what the control value program gives to the glyphs: nothing where it switched glyph programs off
+abbrev pub hinting_left : Parts → Hinting
+hinting_left left = if left.skip_glyphs then off else ready (left_to_glyphs left)
+
 -- the state after the two programs at a size, or their first fault
 unfoldable pub left_by_programs : Parts → ProgramTables → Result Hinting Fault
 left_by_programs parts programs = run_of (font_program programs.fpgm) parts >>= λ font.
     run_of (control_value_program programs.prep) (with_definitions parts font) >>= λ left. Ok
-    (ready (left_to_glyphs left))
+    (hinting_left left)
 
 -- the work of the two programs
 unfoldable pub programs_work : Parts → ProgramTables → Option ℕ → Worked
@@ -73,12 +77,18 @@ prepared_by fit.Best worked by_programs = Ok (within_work worked by_programs)
 abbrev pub begun_at : Metrics → ProgramTables → ℕ → Fit → Parts
 begun_at m programs ppem fit = begun_parts m (cvt_read fit programs.cvt) ppem (rules_of fit)
 
--- the state after the two programs
+-- the state after the two programs, where they are run
 abbrev pub left_at : Metrics → ProgramTables → ℕ → Fit → Result Hinting Fault
-left_at m programs ppem fit = left_by_programs (begun_at m programs ppem fit) programs
+left_at m programs ppem fit = if runs_programs fit programs.fpgm programs.prep then
+    left_by_programs (begun_at m programs ppem fit) programs else Ok off
+
+-- the work of the two programs from this work on, where they are run
+abbrev pub work_from : Metrics → ProgramTables → ℕ → Fit → Option ℕ → Worked
+work_from m programs ppem fit left = if runs_programs fit programs.fpgm programs.prep then
+    programs_work (begun_at m programs ppem fit) programs left else enough left
 
 abbrev pub work_at : Metrics → ProgramTables → ℕ → Fit → Worked
-work_at m programs ppem fit = programs_work (begun_at m programs ppem fit) programs (work_of fit)
+work_at m programs ppem fit = work_from m programs ppem fit (work_of fit)
 
 unfoldable pub prepared : Metrics → ProgramTables → ℕ → Fit → Result Preparation Fault
 prepared m programs ppem fit = prepared_by fit (work_at m programs ppem fit) (left_at m programs ppem fit)
@@ -90,6 +100,7 @@ fitter_with m tables ppem fit hinting fallback work = record {
   metrics = m;
   ppem = ppem;
   scaling = (rules_of fit).scaling;
+  grid = grid_of fit;
   hinting = hinting;
   fallback = fallback;
   levels = levels_of fit;
@@ -101,4 +112,4 @@ fitter_with m tables ppem fit hinting fallback work = record {
 unfoldable pub fitter_of : Metrics → Glyf → ProgramTables → ℕ → Fit → Result Fitter Fault
 fitter_of m tables programs ppem fit = do
   p ← prepared m programs ppem fit
-  Ok (record (fitter_with m tables ppem fit p.hinting p.fallback p.work) { dropouts = dropouts_by fit programs.fpgm programs.prep })
+  Ok (record (fitter_with m tables ppem fit p.hinting p.fallback p.work) { dropouts = dropouts_by fit })

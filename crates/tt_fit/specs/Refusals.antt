@@ -21,7 +21,7 @@ use Rattle.tt_fit.specs.declared.dropouts.DropoutsBy.TheVariants as by
 use Rattle.tt_fit_outline.specs.Component.{shift_of}
 use Rattle.tt_fit_outline.specs.Joining.{placed, appended, within_point_limit}
 use Rattle.tt_fit.specs.Fallback.{Fallback, never, where_refused, everywhere, is_program_fault}
-use Rattle.tt_fit.specs.Fitting.{Fitter, added, added_work, fitted_outline, unfitted_fault}
+use Rattle.tt_fit.specs.Fitting.{Fitter, simple_start, added, added_work, fitted_outline, unfitted_fault}
 use Rattle.tt_fit_outline.specs.GlyphZone.{on_grid_at}
 use Rattle.tt_face.specs.Programs.{ProgramTables}
 use Rattle.tt_fit.specs.Preparation.{left_by_programs, programs_work, prepared}
@@ -30,6 +30,7 @@ use Rattle.tt_fit.specs.Rules.{of_profile}
 use Rattle.tt_fit_outline.specs.Hinting.{off, ready, run_of, by_program}
 use Rattle.tt_fit_outline.specs.Scaling.{blank, scaled_outline, settled}
 use Rattle.tt_fit_outline.specs.Work.{program_work}
+use Rattle.tt_fit_outline.specs.declared.grid.GridRule.TheVariants as grid_rule
 use Rattle.tt_fit_outline.specs.declared.rules.Scaling.TheVariants as scaling
 
 abbrev its_metrics : Metrics
@@ -52,6 +53,7 @@ its_fitter fallback = record {
   metrics = its_metrics;
   ppem = 16;
   scaling = scaling.Exact;
+  grid = grid_rule.Always;
   hinting = ready (begun_parts its_metrics [] 16 of_profile);
   fallback = fallback;
   levels = level_limit;
@@ -65,20 +67,20 @@ its_fault = fault_at (codes "glyf") 14 why.OffProfile
 program_is_refused : fitted_outline (its_fitter never) 1 ≡ Err its_fault
 unfolding fitted_outline unfitted_fault glyph_data_of glyph_bytes_of header_of described simple_of ends_from end_at
     points_within points_of flags_from run_at coordinates_from coordinate_at within_words delta_at byte_in word_in
-    signed_in slice_in blank scaled_outline settled by_program on_grid_at run_of run_outcome run_within
+    signed_in slice_in blank simple_start scaled_outline settled by_program on_grid_at run_of run_outcome run_within
 program_is_refused = refl
 
 square_is_unfitted : unfitted_fault (its_fitter where_refused) 1 ≡ Some its_fault
 unfolding unfitted_fault glyph_data_of glyph_bytes_of header_of described simple_of ends_from end_at
     points_within points_of flags_from run_at coordinates_from coordinate_at within_words delta_at byte_in word_in
-    signed_in slice_in blank scaled_outline settled by_program on_grid_at run_of run_outcome run_within
+    signed_in slice_in blank simple_start scaled_outline settled by_program on_grid_at run_of run_outcome run_within
     is_program_fault why_number program_work run_work work_within
 square_is_unfitted = refl
 
 composite_is_unfitted : unfitted_fault (its_fitter where_refused) 2 ≡ Some its_fault
 unfolding unfitted_fault added glyph_data_of glyph_bytes_of header_of described simple_of ends_from end_at
     points_within points_of flags_from run_at coordinates_from coordinate_at within_words delta_at byte_in word_in
-    signed_in slice_in blank scaled_outline settled by_program on_grid_at run_of run_outcome run_within
+    signed_in slice_in blank simple_start scaled_outline settled by_program on_grid_at run_of run_outcome run_within
     composite_of records_from record_at known_glyph arguments_at argument_at transform_at unscaled program_of
     is_program_fault why_number added_work program_work run_work work_within
 composite_is_unfitted = refl
@@ -96,7 +98,7 @@ composite_is_scaled : fitted_outline (its_fitter where_refused) 2 ≡ Ok (record
 })
 unfolding fitted_outline unfitted_fault added placed appended shift_of within_point_limit glyph_data_of glyph_bytes_of
     header_of described simple_of ends_from end_at points_within points_of flags_from run_at coordinates_from
-    coordinate_at within_words delta_at byte_in word_in signed_in slice_in blank scaled_outline settled by_program
+    coordinate_at within_words delta_at byte_in word_in signed_in slice_in blank simple_start scaled_outline settled by_program
     on_grid_at run_of run_outcome run_within composite_of records_from record_at known_glyph arguments_at argument_at
     transform_at unscaled program_of is_program_fault why_number added_work program_work run_work work_within
 composite_is_scaled = refl

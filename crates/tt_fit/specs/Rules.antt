@@ -1,11 +1,13 @@
 -- No part of the standard: the rules of each fit (profile).
-use Rattle.std.specs.Prelude.{◌≡◌, ℕ, ◌*◌, ◌==◌, Bool, true, false, ◌&&◌, if◌then◌else◌, List, [], ◌∷◌, length, take, Option, Some, None, refl}
+use Rattle.std.specs.Prelude.{◌≡◌, ℕ, ◌*◌, ◌==◌, Bool, true, false, not, ◌&&◌, List, [], ◌∷◌, length, take, Option, Some, None, refl}
 use Rattle.tt_core.specs.Limits.{level_limit, best_level_limit, work_limit}
 use Rattle.tt_state.specs.declared.tolerance.Tolerance.TheVariants as tolerance
 use Rattle.tt_fit.specs.declared.dropouts.DropoutsBy.{DropoutsBy}
 use Rattle.tt_fit.specs.declared.dropouts.DropoutsBy.TheVariants as by
 use Rattle.tt_fit.specs.declared.programs.Fit.{Fit}
 use Rattle.tt_fit.specs.declared.programs.Fit.TheVariants as fit
+use Rattle.tt_fit_outline.specs.declared.grid.GridRule.{GridRule}
+use Rattle.tt_fit_outline.specs.declared.grid.GridRule.TheVariants as grid_rule
 use Rattle.tt_fit_outline.specs.declared.rules.OutlineRules.{OutlineRules}
 use Rattle.tt_fit_outline.specs.declared.rules.Scaling.TheVariants as scaling
 
@@ -26,6 +28,21 @@ rules_of fit.Full = of_profile
 rules_of fit.None = of_profile
 rules_of fit.Fallback = of_profile
 rules_of fit.Best = record { whole = true; tolerance = tolerance.Tolerant; scaling = scaling.Rounded }
+
+-- when component offsets and phantom points are rounded to whole pixels
+abbrev pub grid_of : Fit → GridRule
+grid_of fit.Full = grid_rule.Always
+grid_of fit.None = grid_rule.Always
+grid_of fit.Fallback = grid_rule.Always
+grid_of fit.Best = grid_rule.WhereHinted
+
+-- Whether the font's programs are run. With Best no program is run where the font program and the control value program
+-- are both empty: any glyph programs are left over from a font that had them (profile).
+abbrev pub runs_programs : Fit → List ℕ → List ℕ → Bool
+runs_programs fit.Full fpgm prep = true
+runs_programs fit.None fpgm prep = false
+runs_programs fit.Fallback fpgm prep = true
+runs_programs fit.Best fpgm prep = not (length fpgm == 0 && length prep == 0)
 
 -- how deep components may be nested
 abbrev pub levels_of : Fit → ℕ
@@ -53,13 +70,12 @@ cvt_read fit.None cvt = cvt
 cvt_read fit.Fallback cvt = cvt
 cvt_read fit.Best cvt = take (2 * cvt_limit) cvt
 
--- The source of the dropout rules: with Best the font's programs. Scan type 1 is the source where the font program and
--- the control value program are both empty (profile).
-abbrev pub dropouts_by : Fit → List ℕ → List ℕ → DropoutsBy
-dropouts_by fit.Full fpgm prep = by.Nobody
-dropouts_by fit.None fpgm prep = by.Nobody
-dropouts_by fit.Fallback fpgm prep = by.Nobody
-dropouts_by fit.Best fpgm prep = if length fpgm == 0 && length prep == 0 then by.Default else by.Programs
+-- the source of the dropout rules: with Best the font's programs
+abbrev pub dropouts_by : Fit → DropoutsBy
+dropouts_by fit.Full = by.Nobody
+dropouts_by fit.None = by.Nobody
+dropouts_by fit.Fallback = by.Nobody
+dropouts_by fit.Best = by.Programs
 
 -- worked values
 four_by_default : levels_of fit.Full ≡ 4
@@ -67,6 +83,16 @@ four_by_default = refl
 
 eight_with_best : levels_of fit.Best ≡ 8
 eight_with_best = refl
+
+-- a font program of one byte is enough
+left_over : runs_programs fit.Best [] [] ≡ false
+left_over = refl
+
+one_byte : runs_programs fit.Best (0x2D ∷ []) [] ≡ true
+one_byte = refl
+
+left_over_with_full : runs_programs fit.Full [] [] ≡ true
+left_over_with_full = refl
 
 best_is_bounded : work_of fit.Best ≡ Some 100000000
 best_is_bounded = refl

@@ -21,9 +21,7 @@ pub struct DropoutRules {
 pub(crate) enum DropoutsBy {
     /// No dropouts are filled.
     Nobody,
-    /// Scan type 1, because the font has no programs.
-    Default,
-    /// The scan control of the font's programs.
+    /// The scan control of the font's programs; scan type 1 where hinting is off.
     Programs,
 }
 
@@ -68,20 +66,15 @@ fn scan_rules(scan: ScanControl) -> Option<DropoutRules>
 }
 
 /// The rules by the scan control of the glyph's last program, or, where none was run, by that of the control value
-/// program. Scan type 1 where no glyph program may run.
+/// program. Scan type 1 where hinting is off.
 pub(crate) fn program_rules(hinting: &Hinting, scan: Option<ScanControl>) -> Option<DropoutRules>
     ensures { result ≡ program_rules (hinting_view hinting.now) scan }
 {
     match hinting {
         Hinting::Off => Some(DropoutRules::DEFAULT),
-        Hinting::Ready(parts) => {
-            if parts.skip_glyphs {
-                return Some(DropoutRules::DEFAULT);
-            }
-            match scan {
-                Some(left) => scan_rules(left),
-                None => scan_rules(parts.state.scan),
-            }
-        }
+        Hinting::Ready(parts) => match scan {
+            Some(left) => scan_rules(left),
+            None => scan_rules(parts.state.scan),
+        },
     }
 }

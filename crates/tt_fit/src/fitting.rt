@@ -20,19 +20,21 @@ use crate::dropouts::{DropoutRules, DropoutsBy, program_rules};
 use crate::fallback::{Fallback, is_program_fault};
 use crate::preparation::Preparation;
 use crate::programs::{Fit, ProgramsAtSize};
-use crate::rules::{dropouts_by, levels_of, rules_of};
+use crate::rules::{dropouts_by, grid_of, levels_of, rules_of};
 use std::alloc::{AllocError, Global};
 use std::marker::Model;
 use tt_core::{Fault, FontFault};
 use tt_exec::Work;
 use tt_face::Programs;
-use tt_fit_outline::{GlyphMachine, Hinting, Outline, OutlineFault, Runner, Scaling, unbounded};
+use tt_fit_outline::{
+    GlyphMachine, GridRule, Hinting, Outline, OutlineFault, Runner, Scaling, unbounded,
+};
 use tt_glyf::Glyf;
 use tt_metrics::Metrics;
 
-/// Makes the outlines of a font at a size. Clauses see the glyph data, the metrics, the size, and what the font's
-/// programs gave. They also see which glyphs are unfitted, the depth limit of components, the job's remaining work, and
-/// the source of the dropout rules.
+/// Makes the outlines of a font at a size. Clauses see the glyph data, the metrics, the size, and when distances are
+/// rounded to whole pixels. They see what the font's programs gave, and which glyphs are unfitted. They also see the
+/// depth limit of components, the job's remaining work, and the source of the dropout rules.
 #[derive(Drop)]
 pub struct Fitter<'a> {
     pub(crate) alloc: Global,
@@ -40,6 +42,7 @@ pub struct Fitter<'a> {
     pub(crate) glyf: Glyf<'a>,
     pub(crate) ppem: u32,
     pub(crate) scaling: Scaling,
+    pub(crate) grid: GridRule,
     pub(crate) hinting: Hinting<'a>,
     /// Reused for the program of each glyph; None before the first. Not visible to clauses.
     pub(crate) machine: GlyphMachine<'a>,
@@ -57,9 +60,9 @@ impl<'a> Model for Fitter<'a> {
 
     ghost Value = { fitting.Fitter };
 
-    ghost view = { λ f. record { tables = f.glyf; metrics = f.metrics; ppem = f.ppem; scaling = f.scaling; hinting = hinting_view f.hinting; fallback = fallback_view f.fallback; levels = f.levels; work = f.work.left; dropouts = f.dropouts } };
+    ghost view = { λ f. record { tables = f.glyf; metrics = f.metrics; ppem = f.ppem; scaling = f.scaling; grid = f.grid; hinting = hinting_view f.hinting; fallback = fallback_view f.fallback; levels = f.levels; work = f.work.left; dropouts = f.dropouts } };
 
-    ghost invariant = { λ f. IsFitter (record { tables = f.glyf; metrics = f.metrics; ppem = f.ppem; scaling = f.scaling; hinting = hinting_view f.hinting; fallback = fallback_view f.fallback; levels = f.levels; work = f.work.left; dropouts = f.dropouts }) };
+    ghost invariant = { λ f. IsFitter (record { tables = f.glyf; metrics = f.metrics; ppem = f.ppem; scaling = f.scaling; grid = f.grid; hinting = hinting_view f.hinting; fallback = fallback_view f.fallback; levels = f.levels; work = f.work.left; dropouts = f.dropouts }) };
 }
 
 impl<'a> Fitter<'a> {
@@ -104,12 +107,13 @@ impl<'a> Fitter<'a> {
             glyf,
             ppem,
             scaling: rules_of(fit).scaling,
+            grid: grid_of(fit),
             hinting,
             machine: None,
             fallback,
             levels: levels_of(fit),
             work,
-            dropouts: dropouts_by(fit, programs),
+            dropouts: dropouts_by(fit),
         })
     }
 
@@ -194,7 +198,6 @@ impl<'a> Fitter<'a> {
     {
         match self.dropouts {
             DropoutsBy::Nobody => None,
-            DropoutsBy::Default => Some(DropoutRules::DEFAULT),
             DropoutsBy::Programs => match outline.unfitted {
                 Some(_) => Some(DropoutRules::DEFAULT),
                 None => program_rules(&self.hinting, outline.scan),

@@ -2,6 +2,7 @@
 
 ghost use Rattle.tt_fit.specs.Laws.{OutlinesAreWhole, OutlineFaultsStand, FallbackFits, FallbackScales, FallbackRefuses, FallbackUnfitsAll, OthersNeverFallBack, FullIsByPrograms, NoneIsWithoutPrograms, UnboundedIsEnough, OthersAreUnbounded, UnboundedStays, SpentWorkUnfits, SpentProgramsUnfitAll, BestIsBounded, WorkFalls, OriginalsAreScaled, OthersMeasureInPixels, OthersFillNone, RulesStay, UnfittedByTypeOne, EmptyByTypeOne, SkippedByTypeOne, FittedByScan, OffFillsNone, OtherTypesFillNone};
 ghost use Rattle.tt_fit.specs.Counting.{OutlinesAreCounted};
+ghost use Rattle.tt_fit.specs.Hinted.{BestRoundsWhereHinted, OthersRoundAlways, EmptyIsOff, LeftoversFit, SwitchedIsOff, UnfittedIsOff, OffIsPlain, EndsAreWhole, SimpleStepsAreWhole};
 
 /// Lemma: an outline means that the glyph and its components have no defect, and a fault names a defect they have.
 pub fn outlines_are_whole()
@@ -56,6 +57,27 @@ pub fn originals_are_scaled()
 pub fn others_fill_none()
     ensures none { OthersFillNone }
     ensures stay { RulesStay }
+{}
+
+/// Lemma: with `Fit::Best` hinting is off for every glyph where glyph programs are switched off. Hinting is off too where
+/// the font program and the control value program are both empty, and no glyph is unfitted there. For an unfitted glyph
+/// hinting is off. Then the outline is the one that all programs empty and no ROUND_XY_TO_GRID would give.
+pub fn hinting_is_off()
+    ensures empty { EmptyIsOff }
+    ensures leftovers { LeftoversFit }
+    ensures switched { SwitchedIsOff }
+    ensures unfitted { UnfittedIsOff }
+    ensures plain { OffIsPlain }
+{}
+
+/// Lemma: with `Fit::Best` distances are rounded to whole pixels where hinting is on. The ends of a simple glyph's
+/// advance are then whole pixels before its program. Without a program the glyph's step is their difference. With every
+/// other fit halves go away from zero.
+pub fn distances_are_rounded_where_hinted()
+    ensures best { BestRoundsWhereHinted }
+    ensures others { OthersRoundAlways }
+    ensures ends { EndsAreWhole }
+    ensures steps { SimpleStepsAreWhole }
 {}
 
 /// Lemma: with `Fit::Best` an unfitted glyph has the rules of scan type 1. Every glyph has them where the font program

@@ -4,7 +4,7 @@ ghost use Rattle.std.specs.Prelude.{◌≡◌, ◌+◌, ◌<◌, ◌^◌, Err, l
 ghost use Rattle.tt_core.specs.Outcomes.{Gives};
 ghost use Rattle.tt_glyf.specs.Meaning.{HasArguments};
 ghost use Rattle.tt_fit_outline.specs.Joining.{placed};
-ghost use Rattle.tt_fit.specs.Fitting.{with_hinting, size_of, start, glyph_program, joined, added, outline_at, added_work, outline_work};
+ghost use Rattle.tt_fit.specs.Fitting.{with_hinting, size_of, start, glyph_grid, simple_start, glyph_program, joined, added, outline_at, added_work, outline_work};
 ghost use Rattle.tt_fit_outline.specs.Scaling.{phantom_units};
 ghost use Rattle.tt_fit_outline.specs.Units.{units_by};
 ghost use Rattle.tt_fit_outline.specs.Views.{hinting_view, outline_of, size_view, program_view, units_view};
@@ -14,8 +14,8 @@ ghost use Rattle.tt_fit.specs.Work.{joined_work};
 use crate::fitting::Fitter;
 use tt_core::{Fault, Why};
 use tt_fit_outline::{
-    FontSize, GlyphProgram, Hinting, Outline, OutlineFault, Runner, Scaling, Units, blank,
-    glyf_fault, phantom_points, phantom_units, placed, scaled_outline,
+    FontSize, GlyphProgram, Grid, Hinting, Outline, OutlineFault, Runner, Scaling, Units, blank,
+    ends_on_grid, glyf_fault, phantom_points, phantom_units, placed, scaled_outline,
 };
 use tt_glyf::{Raw, RawPoint, Record};
 
@@ -35,9 +35,37 @@ impl<'a> Fitter<'a> {
         blank(self.alloc, self.glyf.start(g), phantom)
     }
 
+    /// The grid of a glyph and its components.
+    fn glyph_grid(&self, hinting: &Hinting<'a>) -> Grid
+        ensures { result ≡ glyph_grid (with_hinting self.now (hinting_view hinting.now)) }
+    {
+        hinting.grid(self.grid)
+    }
+
+    /// A simple glyph's outline without points. Without a program its phantom points may be on the grid. Error:
+    /// CoordRange.
+    #[tactic(auto, unfolding(crate::specs::Fitting::simple_start))]
+    fn simple_start(
+        &self,
+        hinting: &Hinting<'a>,
+        x_min: i16,
+        g: u16,
+        code: &[u8],
+    ) -> Result<Outline, Fault>
+        requires { g < self.now.tables.glyphs }
+        ensures exact { Gives outline_of result (simple_start (with_hinting self.now (hinting_view hinting.now)) x_min g code.now) }
+    {
+        let start = self.start(x_min, g)?;
+        if code.is_empty() {
+            return ends_on_grid(self.glyph_grid(hinting), self.glyf.start(g), start);
+        }
+        Ok(start)
+    }
+
     #[inline(always)]
     fn program<'u>(
         &self,
+        hinting: &Hinting<'a>,
         g: u16,
         code: &'a [u8],
         code_at: u32,
@@ -45,12 +73,13 @@ impl<'a> Fitter<'a> {
     ) -> GlyphProgram<'a, 'u>
         requires known { g < self.now.tables.glyphs }
         requires fits { code_at + length code.now < 2 ^ 32 }
-        ensures { program_view result ≡ glyph_program self.now g code.now code_at (option_map units_view units.entry) }
+        ensures { program_view result ≡ glyph_program (with_hinting self.now (hinting_view hinting.now)) g code.now code_at (option_map units_view units.entry) }
     {
         GlyphProgram {
             code,
             code_at,
             glyph_at: self.glyf.start(g),
+            grid: self.glyph_grid(hinting),
             units,
         }
     }
@@ -92,11 +121,11 @@ impl<'a> Fitter<'a> {
                 code,
                 code_at,
             } => {
-                let start = self.start(x_min, g)?;
+                let start = self.simple_start(hinting, x_min, g, code)?;
                 let at = self.glyf.start(g);
                 let scaled = scaled_outline(self.alloc, self.size(), at, &points, &ends, start)?;
                 let units = self.units(g, x_min, &points);
-                let program = self.program(g, code, code_at, units);
+                let program = self.program(hinting, g, code, code_at, units);
                 runner.hinted(hinting, program, scaled)
             }
             Raw::Composite {
@@ -107,7 +136,7 @@ impl<'a> Fitter<'a> {
             } => {
                 let start = self.start(x_min, g)?;
                 let joined = self.joined(hinting, levels, records.as_slice(), start, runner)?;
-                let program = self.program(g, code, code_at, None);
+                let program = self.program(hinting, g, code, code_at, None);
                 runner.hinted(hinting, program, joined)
             }
         }
@@ -155,6 +184,7 @@ impl<'a> Fitter<'a> {
             return Err(OutlineFault::Font(glyf_fault(part.at, Why::ComponentDepth)));
         }
         let component = self.outline(hinting, levels - 1, part.glyph, runner)?;
-        Ok(placed(self.size(), part, &component, so_far)?)
+        let grid = self.glyph_grid(hinting);
+        Ok(placed(grid, self.size(), part, &component, so_far)?)
     }
 }

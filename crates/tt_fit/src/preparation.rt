@@ -5,9 +5,10 @@ ghost use Rattle.std.specs.Prelude.{◌≡◌, ◌≤◌, length, Ok, IsTrue};
 ghost use Rattle.tt_core.specs.Faults.{is_ascii};
 ghost use Rattle.tt_core.specs.Limits.{font_limit};
 ghost use Rattle.tt_core.specs.Outcomes.{FontGives};
+ghost use Rattle.tt_exec.specs.Parts.{parts_of};
 ghost use Rattle.tt_exec_step.specs.Views.{code_of};
 ghost use Rattle.tt_face.specs.Programs.{program_tables};
-ghost use Rattle.tt_fit.specs.Preparation.{programs_work, without_fallback, within_work, begun_at, left_at, work_at, prepared};
+ghost use Rattle.tt_fit.specs.Preparation.{hinting_left, left_by_programs, programs_work, without_fallback, within_work, begun_at, left_at, work_from, work_at, prepared};
 ghost use Rattle.tt_fit.specs.Fallback.{everywhere};
 ghost use Rattle.tt_fit_outline.specs.Hinting.{off};
 ghost use Rattle.tt_fit.specs.Rules.{rules_of, work_of};
@@ -17,11 +18,11 @@ ghost use Rattle.tt_fit_outline.specs.Work.{Makes, WorkGives};
 
 use crate::fallback::Fallback;
 use crate::programs::{Fit, ProgramsAtSize};
-use crate::rules::{cvt_read, rules_of, work_of};
+use crate::rules::{cvt_read, rules_of, runs_programs, work_of};
 use std::alloc::Global;
 use std::mem::swap;
 use tt_core::{Fault, FontFault};
-use tt_exec::{Code, Work};
+use tt_exec::{Code, Parts, Work};
 use tt_fit_outline::{Hinting, OutlineFault, begun_parts, left_to_glyphs, run, unbounded};
 
 /// The state for glyph programs, which glyphs are unfitted, and the job's remaining work.
@@ -43,6 +44,16 @@ fn whole_table<'a>(table: [u8; 4], bytes: &'a [u8]) -> Code<'a>
         base: 0,
         bytes,
     }
+}
+
+/// What the control value program gives to the glyphs: nothing where it switched glyph programs off.
+fn hinting_left<'a>(left: Parts<'a>) -> Hinting<'a>
+    ensures { hinting_view result ≡ hinting_left (parts_of left.entry) }
+{
+    if left.skip_glyphs {
+        return Hinting::Off;
+    }
+    Hinting::Ready(left_to_glyphs(left))
 }
 
 /// No glyph is unfitted.
@@ -71,7 +82,8 @@ impl<'a> ProgramsAtSize<'_, 'a> {
     /// The state after both programs. Errors: theirs, Memory, Spent.
     #[tactic(auto, unfolding(crate::specs::Preparation::left_by_programs, crate::specs::Preparation::programs_work))]
     fn left_by_programs(&self, alloc: Global, work: &mut Work) -> Result<Hinting<'a>, OutlineFault>
-        ensures exact { Makes hinting_view result (left_at self.now.metrics.now (program_tables self.now.programs) self.now.ppem self.now.fit) }
+        ensures exact { let tables = program_tables self.now.programs in
+            Makes hinting_view result (left_by_programs (begun_at self.now.metrics.now tables self.now.ppem self.now.fit) tables) }
         ensures work { let tables = program_tables self.now.programs in
             WorkGives result work.new.left (programs_work (begun_at self.now.metrics.now tables self.now.ppem self.now.fit) tables work.old.left) }
     {
@@ -85,7 +97,19 @@ impl<'a> ProgramsAtSize<'_, 'a> {
         swap(&mut prep_parts.instructions, &mut font.instructions);
         let prep = whole_table(*b"prep", self.programs.prep);
         let left = run(alloc, prep_parts, prep, work)?;
-        Ok(Hinting::Ready(left_to_glyphs(left)))
+        Ok(hinting_left(left))
+    }
+
+    /// The state after both programs, where they are run. Errors: theirs, Memory, Spent.
+    fn left(&self, alloc: Global, work: &mut Work) -> Result<Hinting<'a>, OutlineFault>
+        ensures exact { Makes hinting_view result (left_at self.now.metrics.now (program_tables self.now.programs) self.now.ppem self.now.fit) }
+        ensures work { WorkGives result work.new.left (work_from self.now.metrics.now (program_tables self.now.programs) self.now.ppem self.now.fit work.old.left) }
+    {
+        if runs_programs(self.fit, self.programs) {
+            self.left_by_programs(alloc, work)
+        } else {
+            Ok(Hinting::Off)
+        }
     }
 
     /// The state after both programs. After a fault of either, every glyph is unfitted. Error: Memory.
@@ -94,7 +118,7 @@ impl<'a> ProgramsAtSize<'_, 'a> {
             FontGives preparation_view result (Ok (within_work (work_at self.now.metrics.now tables self.now.ppem self.now.fit) (left_at self.now.metrics.now tables self.now.ppem self.now.fit))) }
     {
         let mut work = work_of(self.fit);
-        match self.left_by_programs(alloc, &mut work) {
+        match self.left(alloc, &mut work) {
             Ok(hinting) => Ok(Preparation {
                 hinting,
                 fallback: Fallback::WhereRefused,
@@ -117,7 +141,7 @@ impl<'a> ProgramsAtSize<'_, 'a> {
         match self.fit {
             Fit::Full => {
                 let mut work = Work::unbounded();
-                match self.left_by_programs(alloc, &mut work) {
+                match self.left(alloc, &mut work) {
                     Ok(hinting) => Ok(without_fallback(hinting)),
                     Err(refusal) => Err(unbounded(refusal)),
                 }

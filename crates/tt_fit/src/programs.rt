@@ -15,7 +15,9 @@ pub enum Fit {
     None,
     /// By the font's programs; points are only scaled where a program is refused.
     Fallback,
-    /// As `Fallback`, with the whole instruction set, tolerance of missing things, and deeper nesting of components.
+    /// As `Fallback`, with the whole instruction set, tolerance of missing things, and deeper nesting of components. No
+    /// program is run where the font program and the control value program are both empty. Distances are rounded to
+    /// whole pixels where hinting is on.
     Best,
 }
 

@@ -1,14 +1,14 @@
 //! The rules of each fit.
 
 ghost use Rattle.std.specs.Prelude.{◌≡◌};
-ghost use Rattle.tt_fit.specs.Rules.{rules_of, levels_of, work_of, cvt_read, dropouts_by};
+ghost use Rattle.tt_fit.specs.Rules.{rules_of, grid_of, runs_programs, levels_of, work_of, cvt_read, dropouts_by};
 
 use crate::dropouts::DropoutsBy;
 use crate::programs::Fit;
 use tt_core::{BEST_LEVEL_LIMIT, LEVEL_LIMIT, WORK_LIMIT};
 use tt_exec::Work;
 use tt_face::Programs;
-use tt_fit_outline::{OutlineRules, Scaling};
+use tt_fit_outline::{GridRule, OutlineRules, Scaling};
 use tt_state::Tolerance;
 
 /// Bytes of the control values that are read, if the job's work is bounded.
@@ -28,6 +28,27 @@ pub(crate) fn rules_of(fit: Fit) -> OutlineRules
             tolerance: Tolerance::Tolerant,
             scaling: Scaling::Rounded,
         },
+    }
+}
+
+/// When component offsets and phantom points are rounded to whole pixels.
+pub(crate) fn grid_of(fit: Fit) -> GridRule
+    ensures { result ≡ grid_of fit }
+{
+    match fit {
+        Fit::Full | Fit::None | Fit::Fallback => GridRule::Always,
+        Fit::Best => GridRule::WhereHinted,
+    }
+}
+
+/// Whether the font's programs are run. With `Fit::Best` glyph programs alone are left over, and are not run.
+pub(crate) fn runs_programs(fit: Fit, programs: Programs) -> bool
+    ensures { result ≡ runs_programs fit programs.entry.fpgm.now programs.entry.prep.now }
+{
+    match fit {
+        Fit::Full | Fit::Fallback => true,
+        Fit::None => false,
+        Fit::Best => !(programs.fpgm.is_empty() && programs.prep.is_empty()),
     }
 }
 
@@ -62,17 +83,11 @@ pub(crate) fn cvt_read(fit: Fit, cvt: &[u8]) -> &[u8]
 }
 
 /// The source of the dropout rules.
-pub(crate) fn dropouts_by(fit: Fit, programs: Programs) -> DropoutsBy
-    ensures { result ≡ dropouts_by fit programs.entry.fpgm.now programs.entry.prep.now }
+pub(crate) fn dropouts_by(fit: Fit) -> DropoutsBy
+    ensures { result ≡ dropouts_by fit }
 {
     match fit {
         Fit::Full | Fit::None | Fit::Fallback => DropoutsBy::Nobody,
-        Fit::Best => {
-            if programs.fpgm.is_empty() && programs.prep.is_empty() {
-                DropoutsBy::Default
-            } else {
-                DropoutsBy::Programs
-            }
-        }
+        Fit::Best => DropoutsBy::Programs,
     }
 }

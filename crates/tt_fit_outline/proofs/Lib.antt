@@ -2,5 +2,6 @@ pub mod Contours
 pub mod Lists
 pub mod Outlines
 pub mod Paid
+pub mod Pixels
 pub mod Shifts
 pub mod Zones

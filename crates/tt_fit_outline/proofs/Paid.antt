@@ -28,7 +28,7 @@ same-place : (p : GlyphProgram) → glyf_fault (p.code_at + 0) why.StepLimit ≡
 same-place p = let none : p.code_at + 0 ≡ p.code_at = omega arith in ap (λ at. glyf_fault at why.StepLimit) none
 
 pub copies-spent : (parts : Parts) (p : GlyphProgram) (o : Outline) (grid : PhantomPoints) (left : Option ℕ)
-    (told : Fault) → on_grid_at p.glyph_at o.phantom ≡ Ok grid
+    (told : Fault) → on_grid_at p.grid p.glyph_at o.phantom ≡ Ok grid
     → ((fault : Fault) → charged fault (copied_of parts) left ≡ spent fault) → told ≡ glyf_fault p.code_at why.StepLimit
     → program_work parts p o left ≡ spent told
 unfolding program_work
@@ -38,7 +38,7 @@ copies-spent parts p o grid left told on pays is =
 
 -- on a machine into which the glyph was put
 pub copies-paid : (parts : Parts) (p : GlyphProgram) (o : Outline) (grid : PhantomPoints) (left rest : Option ℕ)
-    (code : Code) (machine : Machine) → on_grid_at p.glyph_at o.phantom ≡ Ok grid
+    (code : Code) (machine : Machine) → on_grid_at p.grid p.glyph_at o.phantom ≡ Ok grid
     → ((fault : Fault) → charged fault (copied_of parts) left ≡ enough rest) → code ≡ program_in_glyf p
     → machine ≡ begun_again (parts_with parts p.units o grid)
     → program_work parts p o left ≡ work_within step_limit (run_from code machine.state) rest
@@ -48,7 +48,7 @@ copies-paid parts p o grid left rest code machine on pays is put =
 
 -- a run's refusal is the glyph's
 pub program-refused : (parts : Parts) (p : GlyphProgram) (o : Outline) (grid : PhantomPoints) (code : Code)
-    (machine new : Machine) (fault : WorkFault) (refusal : OutlineFault) → on_grid_at p.glyph_at o.phantom ≡ Ok grid
+    (machine new : Machine) (fault : WorkFault) (refusal : OutlineFault) → on_grid_at p.grid p.glyph_at o.phantom ≡ Ok grid
     → code ≡ program_in_glyf p → machine ≡ begun_again (parts_with parts p.units o grid)
     → fault ≡ work_fault refusal → OutcomeWithin (run_outcome (run_from code machine.state)) (Err fault) new
     → IfSome (outline_fault refusal) (λ f. by_program parts p o ≡ Err f)

@@ -8,7 +8,10 @@ use Rattle.tt_core.specs.Numbers.{rounded_quotient}
 use Rattle.tt_glyf.specs.Composite.{one}
 use Rattle.tt_glyf.specs.Format.{args_are_xy_values, round_xy_to_grid, has}
 use Rattle.tt_glyf.specs.declared.raw.Record.{Record}
-use Rattle.tt_fit_outline.specs.Scaling.{to_grid, glyf_fault, settled}
+use Rattle.tt_fit_outline.specs.declared.grid.Grid.{Grid}
+use Rattle.tt_fit_outline.specs.declared.grid.Grid.TheVariants as rounding
+use Rattle.tt_fit_outline.specs.Grid.{rounded_to}
+use Rattle.tt_fit_outline.specs.Scaling.{glyf_fault, settled}
 use Rattle.tt_fit_outline.specs.declared.rules.Scaling.TheVariants as scaling
 use Rattle.tt_fit_outline.specs.Size.{FontSize, scale, size_by}
 
@@ -16,12 +19,12 @@ use Rattle.tt_fit_outline.specs.Size.{FontSize, scale, size_by}
 abbrev pub transformed : Record → ℤ × ℤ × Bool → ℤ × ℤ
 transformed r p = (rounded_quotient (r.xx *ℤ p.0 +ℤ r.xy *ℤ p.1) one, rounded_quotient (r.yx *ℤ p.0 +ℤ r.yy *ℤ p.1) one)
 
--- an argument as an offset, rounded where the record says so
-abbrev pub offset_along : FontSize → Record → ℤ → ℤ
-offset_along z r v = if has r.flags round_xy_to_grid then to_grid (scale z v) else scale z v
+-- an argument as an offset, by the glyph's grid where the record says so
+abbrev pub offset_along : Grid → FontSize → Record → ℤ → ℤ
+offset_along by z r v = if has r.flags round_xy_to_grid then rounded_to by (scale z v) else scale z v
 
-abbrev pub offset_of : FontSize → Record → ℤ × ℤ
-offset_of z r = (offset_along z r r.arg1, offset_along z r r.arg2)
+abbrev pub offset_of : Grid → FontSize → Record → ℤ × ℤ
+offset_of by z r = (offset_along by z r r.arg1, offset_along by z r r.arg2)
 
 -- the point with this number, if there is one
 abbrev pub point_of : List (ℤ × ℤ × Bool) → ℤ → Option (ℤ × ℤ × Bool)
@@ -39,9 +42,9 @@ matched_by r (Some p) None = Err (glyf_fault r.at why.MatchPoint)
 matched_by r None q = Err (glyf_fault r.at why.MatchPoint)
 
 -- a component's shift, by its own points and the points assembled so far
-unfoldable pub shift_of : FontSize → Record → List (ℤ × ℤ × Bool) → List (ℤ × ℤ × Bool) → Result (ℤ × ℤ) Fault
-shift_of z r component points =
-    if has r.flags args_are_xy_values then Ok (offset_of z r)
+unfoldable pub shift_of : Grid → FontSize → Record → List (ℤ × ℤ × Bool) → List (ℤ × ℤ × Bool) → Result (ℤ × ℤ) Fault
+shift_of by z r component points =
+    if has r.flags args_are_xy_values then Ok (offset_of by z r)
     else matched_by r (point_of component r.arg2) (point_of points r.arg1)
 
 abbrev pub landed : Record → ℤ × ℤ → ℤ × ℤ × Bool → ℤ × ℤ × Bool
@@ -59,13 +62,35 @@ its_size = size_by scaling.Exact 16 256
 moved : ℕ → Record
 moved flags = record { at = 32; flags = flags; glyph = 1; arg1 = pos 10; arg2 = neg_ℤ (pos 10); xx = one; yx = pos 0; xy = pos 0; yy = one }
 
-an_offset : offset_of its_size (moved 0x2) ≡ (pos 40, neg_ℤ (pos 40))
+an_offset : offset_of rounding.Away its_size (moved 0x2) ≡ (pos 40, neg_ℤ (pos 40))
 unfolding its_size moved
 an_offset = refl
 
-a_rounded_offset : offset_of its_size (moved 0x6) ≡ (pos 64, neg_ℤ (pos 64))
+a_rounded_offset : offset_of rounding.Away its_size (moved 0x6) ≡ (pos 64, neg_ℤ (pos 64))
 unfolding its_size moved
 a_rounded_offset = refl
+
+-- moved by 8 and -8 units: half a pixel each
+by_a_half : Record
+by_a_half = record (moved 0x6) { arg1 = pos 8; arg2 = neg_ℤ (pos 8) }
+
+a_half_away : offset_of rounding.Away its_size by_a_half ≡ (pos 64, neg_ℤ (pos 64))
+unfolding its_size moved by_a_half
+a_half_away = refl
+
+a_half_up : offset_of rounding.Up its_size by_a_half ≡ (pos 64, pos 0)
+unfolding its_size moved by_a_half
+a_half_up = refl
+
+-- by -24 units: a pixel and a half
+more_than_a_pixel : offset_along rounding.Up its_size (moved 0x6) (neg_ℤ (pos 24)) ≡ neg_ℤ (pos 64)
+unfolding its_size moved
+more_than_a_pixel = refl
+
+-- where hinting is off, the flag has no effect
+unrounded : offset_of rounding.Unrounded its_size by_a_half ≡ (pos 32, neg_ℤ (pos 32))
+unfolding its_size moved by_a_half
+unrounded = refl
 
 -- turned by a quarter: x' = -y and y' = x; flagged for offsets, or its point 1 onto point 0
 turned : ℕ → Record

@@ -9,6 +9,8 @@ use Rattle.tt_state.specs.declared.graphics_state.ScanControl.{ScanControl}
 use Rattle.tt_glyf.specs.Composite.{one}
 use Rattle.tt_glyf.specs.Format.{has, use_my_metrics}
 use Rattle.tt_glyf.specs.declared.raw.Record.{Record}
+use Rattle.tt_fit_outline.specs.declared.grid.Grid.{Grid}
+use Rattle.tt_fit_outline.specs.declared.grid.Grid.TheVariants as rounding
 use Rattle.tt_fit_outline.specs.Component.{placed_point, shift_of}
 use Rattle.tt_fit_outline.specs.Outline.{PhantomPoints, Outline}
 use Rattle.tt_fit_outline.specs.Scaling.{glyf_fault, settled}
@@ -41,8 +43,8 @@ appended r by component o = do
   Ok (record { points = points; ends = o.ends ++ ends_after (length o.points) component.ends; phantom = phantom_with r component o; scan = scan_after component.scan o.scan })
 
 -- a component placed and added to what is assembled so far
-unfoldable pub placed : FontSize → Record → Outline → Outline → Result Outline Fault
-placed z r component o = shift_of z r component.points o.points >>= λ by. appended r by component o
+unfoldable pub placed : Grid → FontSize → Record → Outline → Outline → Result Outline Fault
+placed grid z r component o = shift_of grid z r component.points o.points >>= λ by. appended r by component o
 
 -- worked values: 256 units in an em, at 16 pixels
 its_size : FontSize
@@ -64,14 +66,14 @@ shape_of : List (ℤ × ℤ × Bool) → ℤ → Outline
 shape_of points advance = record { points = points; ends = length points ∷ []; phantom = phantom_after advance; scan = None }
 
 -- point 1 lands on point 0 of what is assembled so far
-a_matched_component : placed its_size (turned 0x200) (shape_of two_points (pos 5))
+a_matched_component : placed rounding.Away its_size (turned 0x200) (shape_of two_points (pos 5))
     (shape_of ((pos 1000, pos 2000, true) ∷ []) (pos 9))
     ≡ Ok (record { points = (pos 1000, pos 2000, true) ∷ (pos 1005, pos 1901, true) ∷ (pos 1000, pos 2000, false) ∷ []; ends = 1 ∷ 3 ∷ []; phantom = phantom_after (pos 5); scan = None })
 unfolding its_size turned two_points shape_of placed appended shift_of settled within_point_limit
 a_matched_component = refl
 
 -- no point 0 is assembled yet
-an_unmatched_component : placed its_size (turned 0) (shape_of two_points (pos 5)) (shape_of [] (pos 9))
+an_unmatched_component : placed rounding.Away its_size (turned 0) (shape_of two_points (pos 5)) (shape_of [] (pos 9))
     ≡ Err (glyf_fault 32 why.MatchPoint)
 unfolding its_size turned two_points shape_of placed appended shift_of settled within_point_limit
 an_unmatched_component = refl

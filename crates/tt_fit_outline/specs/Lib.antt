@@ -1,11 +1,13 @@
 pub mod Component
 pub mod GlyphZone
+pub mod Grid
 pub mod Hinting
 pub mod Joining
 pub mod Outline
 pub mod Parts
 pub mod Scaling
 pub mod Size
+pub mod Steps
 pub mod Units
 pub mod Views
 pub mod Work

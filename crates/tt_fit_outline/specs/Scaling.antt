@@ -12,15 +12,9 @@ use Rattle.tt_core.specs.declared.scaling.Scale.{Scale}
 use Rattle.tt_glyf.specs.Bytes.{glyf_tag}
 use Rattle.tt_glyf.specs.declared.raw.RawPoint.{RawPoint}
 use Rattle.tt_metrics.specs.Metrics.{Metrics, ascent_of, descent_of, advance_of, left_side_bearing_of}
-use Rattle.tt_state.specs.declared.rounding.Round.TheVariants as round
-use Rattle.tt_state.specs.Rounding.{rounded}
 use Rattle.tt_fit_outline.specs.Outline.{PhantomPoints, Outline}
 use Rattle.tt_fit_outline.specs.declared.rules.Scaling.TheVariants as scaling
 use Rattle.tt_fit_outline.specs.Size.{FontSize, scale, size_by}
-
--- a distance to whole pixels
-abbrev pub to_grid : ℤ → ℤ
-to_grid v = rounded round.Grid v
 
 -- IsCoordinate as a test
 abbrev pub is_coordinate : ℤ → Bool

@@ -46,7 +46,7 @@ units_view u = record { points = u.points.now; phantom = phantom_units_view u.ph
 
 abbrev pub program_view : program.GlyphProgram → GlyphProgram
 program_view p =
-    record { code = p.code.now; code_at = p.code_at; glyph_at = p.glyph_at; units = option_map units_view p.units }
+    record { code = p.code.now; code_at = p.code_at; glyph_at = p.glyph_at; grid = p.grid; units = option_map units_view p.units }
 
 abbrev pub hinting_view : hinting.Hinting → Hinting
 hinting_view state.Off = off

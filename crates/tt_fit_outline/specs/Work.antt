@@ -30,12 +30,12 @@ code_work program parts left = run_work (run_from program (fresh parts)) left
 
 -- the work of a glyph's program
 unfoldable pub program_work : Parts → GlyphProgram → Outline → Option ℕ → Worked
-program_work parts p o left = if_ok (on_grid_at p.glyph_at o.phantom)
+program_work parts p o left = if_ok (on_grid_at p.grid p.glyph_at o.phantom)
     (λ grid. code_work (program_in_glyf p) (parts_with parts p.units o grid)) left
 
 abbrev pub hinted_work : Hinting → GlyphProgram → Outline → Option ℕ → Worked
 hinted_work off p o left = enough left
-hinted_work (ready parts) p o left = if is_run parts p then program_work parts p o left else enough left
+hinted_work (ready parts) p o left = if is_run p then program_work parts p o left else enough left
 
 -- a refusal of a call whose work is not counted
 abbrev pub outline_fault_of : FontFault → OutlineFault

@@ -8,12 +8,12 @@ ghost use Rattle.tt_glyf.specs.Meaning.{HasArguments};
 ghost use Rattle.tt_fit_outline.specs.Component.{transformed, offset_along, offset_of, point_of, onto, shift_of, landed};
 ghost use Rattle.tt_fit_outline.specs.Views.{size_view, landing_view, component_point_view, shift_view};
 
+use crate::grid::Grid;
 use crate::scaling::{Landing, glyf_fault};
 use crate::shift::{ComponentPoint, Shift};
 use crate::size::FontSize;
 use tt_core::{Fault, Why, rq};
 use tt_glyf::{ComponentFlags, Record};
-use tt_state::Round;
 
 /// The number one in 2.14.
 const ONE: i64 = 16384;
@@ -58,27 +58,27 @@ fn transformed(part: Record, point: (i32, i32, bool)) -> ComponentPoint
 }
 
 /// An argument of a component as an offset.
-fn offset_along(size: FontSize, part: Record, v: i32) -> i64
+fn offset_along(grid: Grid, size: FontSize, part: Record, v: i32) -> i64
     requires { unsigned_abs v ≤ 2 ^ 15 }
-    ensures exact { result ≡ offset_along (size_view size) part v }
+    ensures exact { result ≡ offset_along grid (size_view size) part v }
     ensures bound { unsigned_abs result < 2 ^ 47 }
 {
     let offset = size.scale.scaled(v);
     if part.has(ComponentFlags::ROUND_XY_TO_GRID) {
-        Round::Grid.round(offset)
+        grid.rounded(offset)
     } else {
         offset
     }
 }
 
-fn offset_of(size: FontSize, part: Record) -> Shift
+fn offset_of(grid: Grid, size: FontSize, part: Record) -> Shift
     requires x { unsigned_abs part.arg1 ≤ 2 ^ 15 }
     requires y { unsigned_abs part.arg2 ≤ 2 ^ 15 }
-    ensures { shift_view result ≡ offset_of (size_view size) part }
+    ensures { shift_view result ≡ offset_of grid (size_view size) part }
 {
     Shift {
-        x: offset_along(size, part, part.arg1),
-        y: offset_along(size, part, part.arg2),
+        x: offset_along(grid, size, part, part.arg1),
+        y: offset_along(grid, size, part, part.arg2),
     }
 }
 
@@ -105,16 +105,17 @@ fn onto(part: Record, point: (i32, i32, bool), target: (i32, i32, bool)) -> Shif
 /// How far a component is moved, given the points assembled so far. Error: MatchPoint.
 #[tactic(auto, unfolding(crate::specs::Component::shift_of))]
 pub(crate) fn shift_of(
+    grid: Grid,
     size: FontSize,
     part: Record,
     component: &[(i32, i32, bool)],
     points: &[(i32, i32, bool)],
 ) -> Result<Shift, Fault>
     requires { HasArguments part }
-    ensures exact { Gives shift_view result (shift_of (size_view size) part component.now points.now) }
+    ensures exact { Gives shift_view result (shift_of grid (size_view size) part component.now points.now) }
 {
     if part.has(ComponentFlags::ARGS_ARE_XY_VALUES) {
-        return Ok(offset_of(size, part));
+        return Ok(offset_of(grid, size, part));
     }
     match (point_of(component, part.arg2), point_of(points, part.arg1)) {
         (Some(point), Some(target)) => Ok(onto(part, point, target)),

@@ -2,6 +2,7 @@
 
 ghost use Rattle.std.specs.Prelude.{◌+◌, ◌<◌, ◌^◌, length};
 
+use crate::grid::Grid;
 use crate::units::Units;
 
 /// A glyph's program.
@@ -12,6 +13,8 @@ pub struct GlyphProgram<'a, 'u> {
     pub code_at: u32,
     /// The offset of the glyph's first byte in glyf.
     pub glyph_at: u32,
+    /// The grid of the phantom points before the program.
+    pub grid: Grid,
     /// The font units in which originals are measured; None for 26.6.
     pub units: Option<Units<'u>>,
     pub ghost fits: { code_at + length code.now < 2 ^ 32 },

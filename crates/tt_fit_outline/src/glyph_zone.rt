@@ -4,63 +4,85 @@
 ghost use Rattle.std.specs.Prelude.{◌≡◌, ◌+◌, true, false, length, map, option_map, All, IfOk, IfErr};
 ghost use Rattle.tt_core.specs.Outcomes.{Gives};
 ghost use Rattle.tt_points_zones.specs.Zones.{IsPoint as IsZonePoint};
-ghost use Rattle.tt_fit_outline.specs.GlyphZone.{on_grid_at, untouched, outline_point, glyph_zone, contours_from, place_of, seen, left_outline};
+ghost use Rattle.tt_fit_outline.specs.Grid.{rounded_to};
+ghost use Rattle.tt_fit_outline.specs.GlyphZone.{on_grid_at, ends_on_grid, untouched, outline_point, glyph_zone, contours_from, place_of, seen, left_outline};
 ghost use Rattle.tt_fit_outline.specs.Outline.{phantom_of, IsCoordinate, IsPoint, IsPosition, ArePhantom};
-ghost use Rattle.tt_fit_outline.specs.Scaling.{coordinate_fault, is_coordinate, to_grid};
+ghost use Rattle.tt_fit_outline.specs.Scaling.{coordinate_fault, is_coordinate};
 ghost use Rattle.tt_fit_outline.specs.Units.{IsNear, with_units};
 ghost use Rattle.tt_fit_outline.specs.Views.{outline_of, units_view};
 
+use crate::grid::Grid;
 use crate::outline::Outline;
 use crate::places::{phantom_places, places_of, put_units, with_units};
 use crate::ready_glyph::ReadyGlyph;
 use crate::scaling::coordinate;
 use std::alloc::AllocError;
 use tt_core::Fault;
-use tt_state::{Point, Round, ScanControl};
+use tt_state::{Point, ScanControl};
 
-/// A coordinate rounded to the grid. Error: CoordRange, at this offset in glyf.
-fn to_grid(at: u32, v: i32) -> Result<i32, Fault>
+/// A coordinate rounded to a grid. Error: CoordRange, at this offset in glyf.
+fn to_grid(grid: Grid, at: u32, v: i32) -> Result<i32, Fault>
     requires { IsCoordinate v }
-    ensures ok { IfOk result (λ w. (w ≡ to_grid v) × (is_coordinate (to_grid v) ≡ true)) }
+    ensures ok { IfOk result (λ w. (w ≡ rounded_to grid v) × (is_coordinate (rounded_to grid v) ≡ true)) }
     ensures within { IfOk result IsCoordinate }
-    ensures err { IfErr result (λ f. (f ≡ coordinate_fault at) × (is_coordinate (to_grid v) ≡ false)) }
+    ensures err { IfErr result (λ f. (f ≡ coordinate_fault at) × (is_coordinate (rounded_to grid v) ≡ false)) }
 {
-    coordinate(at, Round::Grid.round(i64::from(v)))
+    coordinate(at, grid.rounded(i64::from(v)))
 }
 
-/// A position with x rounded to the grid. Error: CoordRange.
-fn along_x(at: u32, p: (i32, i32)) -> Result<(i32, i32), Fault>
+/// A position with x rounded to a grid. Error: CoordRange.
+fn along_x(grid: Grid, at: u32, p: (i32, i32)) -> Result<(i32, i32), Fault>
     requires { IsPosition p }
-    ensures ok { IfOk result (λ q. (q ≡ (to_grid p.0, p.1)) × (is_coordinate (to_grid p.0) ≡ true)) }
+    ensures ok { IfOk result (λ q. (q ≡ (rounded_to grid p.0, p.1)) × (is_coordinate (rounded_to grid p.0) ≡ true)) }
     ensures within { IfOk result IsPosition }
-    ensures err { IfErr result (λ f. (f ≡ coordinate_fault at) × (is_coordinate (to_grid p.0) ≡ false)) }
+    ensures err { IfErr result (λ f. (f ≡ coordinate_fault at) × (is_coordinate (rounded_to grid p.0) ≡ false)) }
 {
-    Ok((to_grid(at, p.0)?, p.1))
+    Ok((to_grid(grid, at, p.0)?, p.1))
 }
 
-/// A position with y rounded to the grid. Error: CoordRange.
-fn along_y(at: u32, p: (i32, i32)) -> Result<(i32, i32), Fault>
+/// A position with y rounded to a grid. Error: CoordRange.
+fn along_y(grid: Grid, at: u32, p: (i32, i32)) -> Result<(i32, i32), Fault>
     requires { IsPosition p }
-    ensures ok { IfOk result (λ q. (q ≡ (p.0, to_grid p.1)) × (is_coordinate (to_grid p.1) ≡ true)) }
+    ensures ok { IfOk result (λ q. (q ≡ (p.0, rounded_to grid p.1)) × (is_coordinate (rounded_to grid p.1) ≡ true)) }
     ensures within { IfOk result IsPosition }
-    ensures err { IfErr result (λ f. (f ≡ coordinate_fault at) × (is_coordinate (to_grid p.1) ≡ false)) }
+    ensures err { IfErr result (λ f. (f ≡ coordinate_fault at) × (is_coordinate (rounded_to grid p.1) ≡ false)) }
 {
-    Ok((p.0, to_grid(at, p.1)?))
+    Ok((p.0, to_grid(grid, at, p.1)?))
 }
 
-/// The phantom points on the grid: the ends of the advance along x, the ascent and the descent along y. Error:
+/// The phantom points on a grid: the ends of the advance along x, the ascent and the descent along y. Error:
 /// CoordRange, at this offset in glyf.
 #[tactic(auto, unfolding(crate::specs::GlyphZone::on_grid_at))]
-pub(crate) fn on_grid(at: u32, outline: &Outline) -> Result<[(i32, i32); 4], Fault>
-    ensures exact { Gives phantom_of result (on_grid_at at (phantom_of outline.now.phantom)) }
+pub(crate) fn on_grid(grid: Grid, at: u32, outline: &Outline) -> Result<[(i32, i32); 4], Fault>
+    ensures exact { Gives phantom_of result (on_grid_at grid at (phantom_of outline.now.phantom)) }
     ensures valid { IfOk result (λ p. ArePhantom (phantom_of p)) }
 {
     let phantom = &outline.phantom;
-    let left = along_x(at, phantom[0])?;
-    let right = along_x(at, phantom[1])?;
-    let ascent = along_y(at, phantom[2])?;
-    let descent = along_y(at, phantom[3])?;
+    let left = along_x(grid, at, phantom[0])?;
+    let right = along_x(grid, at, phantom[1])?;
+    let ascent = along_y(grid, at, phantom[2])?;
+    let descent = along_y(grid, at, phantom[3])?;
     Ok([left, right, ascent, descent])
+}
+
+/// The outline of a simple glyph without a program, which begins at this offset in glyf. Where halves go up, its
+/// phantom points are put on the grid. Error: CoordRange.
+pub fn ends_on_grid(grid: Grid, at: u32, outline: Outline) -> Result<Outline, Fault>
+    ensures exact { Gives outline_of result (ends_on_grid grid at (outline_of outline)) }
+{
+    match grid {
+        Grid::Away | Grid::Unrounded => Ok(outline),
+        Grid::Up => {
+            let phantom = on_grid(grid, at, &outline)?;
+            Ok(Outline {
+                points: outline.points,
+                ends: outline.ends,
+                phantom,
+                unfitted: outline.unfitted,
+                scan: outline.scan,
+            })
+        }
+    }
 }
 
 /// A point not yet touched.

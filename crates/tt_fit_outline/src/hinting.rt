@@ -4,12 +4,13 @@ ghost use Rattle.std.specs.Prelude.{◌≡◌};
 ghost use Rattle.tt_exec.specs.Parts.{parts_of};
 ghost use Rattle.tt_exec_step.specs.Views.{code_of};
 ghost use Rattle.tt_fit_outline.specs.GlyphZone.{program_in_glyf};
-ghost use Rattle.tt_fit_outline.specs.Hinting.{by_program, hinted, run_of};
+ghost use Rattle.tt_fit_outline.specs.Hinting.{by_program, grid_by, hinted, run_of};
 ghost use Rattle.tt_fit_outline.specs.Views.{hinting_view, outline_of, program_view};
 ghost use Rattle.tt_fit_outline.specs.Work.{Makes, WorkGives, code_work, hinted_work, program_work};
 
 use crate::glyph_program::GlyphProgram;
 use crate::glyph_zone::{left_outline, on_grid};
+use crate::grid::{Grid, GridRule};
 use crate::outline::Outline;
 use crate::outline_fault::{OutlineFault, refusal_of};
 use crate::parts::{glyph_zones, without_contents};
@@ -22,13 +23,28 @@ use tt_exec::{Code, Machine, Parts, Work};
 /// The machine that runs the programs of all glyphs in turn; None before the first.
 pub type GlyphMachine<'a> = Option<Box<Machine<'a>>>;
 
-/// What the font program and the control value program give to glyph programs.
+/// What the font program and the control value program give to a glyph and its components.
 #[derive(Drop)]
 pub enum Hinting<'a> {
-    /// No program is run.
+    /// Hinting is off: no glyph program is run.
     Off,
-    /// The parts of a machine for a glyph's program.
+    /// Hinting is on: the parts of a machine for a glyph's program.
     Ready(Parts<'a>),
+}
+
+impl Hinting<'_> {
+    /// The grid of a glyph and its components.
+    pub fn grid(&self, rule: GridRule) -> Grid
+        ensures { result ≡ grid_by rule (hinting_view self.now) }
+    {
+        match rule {
+            GridRule::Always => Grid::Away,
+            GridRule::WhereHinted => match self {
+                Hinting::Off => Grid::Unrounded,
+                Hinting::Ready(_) => Grid::Up,
+            },
+        }
+    }
 }
 
 /// A machine's parts after a program. Errors: those of the program, Memory, Spent.
@@ -95,7 +111,7 @@ impl<'a> Runner<'a> {
         ensures exact { Makes outline_of result (by_program (parts_of parts.now) (program_view program.entry) (outline_of outline)) }
         ensures work { WorkGives result self.new.work.left (program_work (parts_of parts.now) (program_view program.entry) (outline_of outline) self.old.work.left) }
     {
-        let grid = on_grid(program.glyph_at, &outline)?;
+        let grid = on_grid(program.grid, program.glyph_at, &outline)?;
         let Some(mut copies) = parts.pay(&mut self.work) else {
             return Err(OutlineFault::Spent(glyf_fault(program.code_at, Why::StepLimit)));
         };
@@ -127,7 +143,7 @@ impl<'a> Runner<'a> {
         match hinting {
             Hinting::Off => Ok(outline),
             Hinting::Ready(parts) => {
-                if parts.skip_glyphs || program.code.is_empty() {
+                if program.code.is_empty() {
                     return Ok(outline);
                 }
                 let mut own = match self.machine.take() {

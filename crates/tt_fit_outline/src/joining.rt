@@ -10,6 +10,7 @@ ghost use Rattle.tt_fit_outline.specs.Outline.{IsPoint};
 ghost use Rattle.tt_fit_outline.specs.Views.{outline_of, size_view, shift_view};
 
 use crate::component::{landed, shift_of};
+use crate::grid::Grid;
 use crate::outline::Outline;
 use crate::scaling::{glyf_fault, settled};
 use crate::shift::Shift;
@@ -101,14 +102,15 @@ fn appended(
 /// Places a component and appends it. Errors: MatchPoint, CoordRange, PointLimit, Memory.
 #[tactic(auto, unfolding(crate::specs::Joining::placed))]
 pub fn placed(
+    grid: Grid,
     size: FontSize,
     part: Record,
     component: &Outline,
     so_far: Outline,
 ) -> Result<Outline, FontFault>
     requires arguments { HasArguments part }
-    ensures exact { FontGives outline_of result (placed (size_view size) part (outline_of component.now) (outline_of so_far)) }
+    ensures exact { FontGives outline_of result (placed grid (size_view size) part (outline_of component.now) (outline_of so_far)) }
 {
-    let by = shift_of(size, part, &component.points, &so_far.points)?;
+    let by = shift_of(grid, size, part, &component.points, &so_far.points)?;
     appended(part, by, component, so_far)
 }

@@ -4,8 +4,10 @@
 mod component;
 mod glyph_program;
 mod glyph_zone;
+mod grid;
 mod hinting;
 mod joining;
+pub mod laws;
 mod outline;
 mod outline_fault;
 mod parts;
@@ -15,9 +17,12 @@ mod rules;
 mod scaling;
 mod shift;
 mod size;
+mod steps;
 mod units;
 
 pub use glyph_program::GlyphProgram;
+pub use glyph_zone::ends_on_grid;
+pub use grid::{Grid, GridRule};
 pub use hinting::{GlyphMachine, Hinting, Runner, run};
 pub use joining::placed;
 pub use outline::Outline;

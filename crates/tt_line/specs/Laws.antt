@@ -1,10 +1,30 @@
 -- Lemmas about the definitions. Apple TrueType Reference Manual, "The 'hmtx' table": a line of text.
-use Rattle.std.specs.Prelude.{◌≡◌, ℕ, List, map, Ok}
+use Rattle.std.specs.Prelude.{◌≡◌, ℕ, ◌+◌, ◌*◌, ◌<◌, ◌≤◌, ℤ, List, get_or, length, map, slice_index, Ok}
 use Rattle.tt_cmap.specs.Lookup.{Cmap}
 use Rattle.tt_metrics.specs.Metrics.{Metrics}
-use Rattle.tt_line.specs.Layout.{Placement, placement, text_glyphs}
+use Rattle.tt_line.specs.Layout.{Placement, advances_of, depth_of, glyph_placement, laid, pen_at, placement, rise_of, text_glyphs}
 
 -- the placed glyphs of a text after layout are those of its characters
 abbrev pub PlacesGlyphs : Type 0
 PlacesGlyphs = (m : Metrics) (cmap : Cmap) (text : List ℕ) (ppem margin : ℕ) (line : Placement)
     → placement m cmap text ppem margin ≡ Ok line → map (λ g. g.0) line.glyphs ≡ text_glyphs cmap text
+
+-- each character has its glyph, and the pens of a line are the sums of the steps before them: the first is 0, each step
+-- leads to the next, and the last step leads to the right margin
+pub record ArePens (gs steps : List ℕ) (margin : ℕ) (line : Placement) : Type 0 where
+  pub numbers : map (λ g. g.0) line.glyphs ≡ gs
+  pub first : pen_at steps 0 ≡ 0
+  pub next : (i : ℕ) → i < length steps → pen_at steps (i + 1) ≡ pen_at steps i + slice_index steps i
+  pub last : line.width ≡ pen_at steps (length steps) + 2 * margin
+  pub pens : (i : ℕ) → i < length line.glyphs → (get_or line.glyphs i (0, 0)).1 ≡ pen_at steps i
+  pub rising : (i j : ℕ) → i ≤ j → pen_at steps i ≤ pen_at steps j
+
+-- each line that is laid out by some steps has these pens
+abbrev pub StepsLead : Type 0
+StepsLead = (glyphs steps : List ℕ) (margin : ℕ) (rise depth : ℤ) (line : Placement)
+    → laid glyphs steps margin rise depth ≡ Ok line → ArePens glyphs steps margin line
+
+-- the layout by advances is the layout by steps, with the advances as the steps
+abbrev pub AdvancesAreSteps : Type 0
+AdvancesAreSteps = (m : Metrics) (ppem margin : ℕ) (glyphs : List ℕ) → glyph_placement m ppem margin glyphs
+    ≡ laid glyphs (advances_of m ppem glyphs) margin (rise_of m ppem) (depth_of m ppem)

@@ -1,5 +1,6 @@
 -- Apple TrueType Reference Manual, "The 'hhea' table" and "The 'hmtx' table": ascent, descent and advance widths in a
--- line of text. Layout in whole pixels and the size limits of a picture are this project's own rules (profile).
+-- line of text. Layout in whole pixels and the size limits of a picture are this project's own rules (profile). A line
+-- is laid out by the steps of its glyphs. Here they are the advances, rounded to whole pixels.
 use Rattle.std.specs.Prelude.{◌≡◌, ℕ, ◌+◌, ◌*◌, ◌<◌, ◌≤◌, ◌||◌, ◌==◌, nat_lt, if◌then◌else◌, ℤ, pos, negsuc, neg_ℤ, ◌+ℤ◌, ◌*ℤ◌, ◌<ℤ◌, ◌≤ℤ◌, int_lt, unsigned_abs, List, [], ◌∷◌, length, take, map, sum, slice_index, chars, Result, Ok, Err, ◌⊎◌, refl}
 use Rattle.std.specs.Int.{int_div_euclid}
 use Rattle.std.specs.List.{range_with_len}
@@ -37,20 +38,28 @@ text_glyphs cmap text = map (glyph_of cmap) (chars text)
 abbrev pub advances_of : Metrics → ℕ → List ℕ → List ℕ
 advances_of m ppem glyphs = map (advance_in_pixels m ppem) glyphs
 
--- the start of glyph i, in pixels: the sum of the advances of the i glyphs before it
-abbrev pub pen_of : Metrics → ℕ → List ℕ → ℕ → ℕ
-pen_of m ppem glyphs i = sum (take i (advances_of m ppem glyphs))
+-- the start of glyph i, in pixels: the sum of the steps of the i glyphs before it
+abbrev pub pen_at : List ℕ → ℕ → ℕ
+pen_at steps i = sum (take i steps)
 
--- each glyph with its pen
+-- each glyph with its pen, by the steps of the glyphs
+abbrev pub glyphs_at_pens : List ℕ → List ℕ → List (ℕ × ℕ)
+glyphs_at_pens glyphs steps = map (λ i. (slice_index glyphs i, pen_at steps i)) (range_with_len 0 (length glyphs))
+
+-- the same, by the advances of the glyphs
 abbrev pub placed_glyphs : Metrics → ℕ → List ℕ → List (ℕ × ℕ)
-placed_glyphs m ppem glyphs = map (λ i. (slice_index glyphs i, pen_of m ppem glyphs i)) (range_with_len 0 (length glyphs))
+placed_glyphs m ppem glyphs = glyphs_at_pens glyphs (advances_of m ppem glyphs)
 
--- the size of the picture of a line with its margins
-abbrev pub extent_of : Metrics → ℕ → ℕ → List ℕ → PictureExtent
-extent_of m ppem margin glyphs = record {
-  width = sum (advances_of m ppem glyphs) + 2 * margin;
-  height = rise_of m ppem +ℤ depth_of m ppem +ℤ pos (2 * margin);
+-- the size of the picture of a line with its margins, by the steps of its glyphs
+abbrev pub extent_by : List ℕ → ℕ → ℤ → ℤ → PictureExtent
+extent_by steps margin rise depth = record {
+  width = sum steps + 2 * margin;
+  height = rise +ℤ depth +ℤ pos (2 * margin);
 }
+
+-- the same, by the advances of its glyphs
+abbrev pub extent_of : Metrics → ℕ → ℕ → List ℕ → PictureExtent
+extent_of m ppem margin glyphs = extent_by (advances_of m ppem glyphs) margin (rise_of m ppem) (depth_of m ppem)
 
 -- a picture without a pixel is refused first, then one that is too large
 unfoldable pub within_limits : PictureExtent → Result PictureExtent JobFault
@@ -66,16 +75,27 @@ pub record Placement : Type 0 where
   pub rise : ℤ
   pub glyphs : List (ℕ × ℕ)
 
-abbrev pub placed_in : Metrics → ℕ → List ℕ → PictureExtent → Placement
-placed_in m ppem glyphs e = record {
+abbrev pub placed_in : List ℕ → List ℕ → ℤ → PictureExtent → Placement
+placed_in glyphs steps rise e = record {
   width = e.width;
   height = unsigned_abs e.height;
-  rise = rise_of m ppem;
-  glyphs = placed_glyphs m ppem glyphs;
+  rise = rise;
+  glyphs = glyphs_at_pens glyphs steps;
 }
 
+-- the layout of some glyphs by their steps, with a margin, between the base line's distances from the top and from the
+-- bottom, or the refusal
+abbrev pub laid : List ℕ → List ℕ → ℕ → ℤ → ℤ → Result Placement JobFault
+laid glyphs steps margin rise depth =
+    within_limits (extent_by steps margin rise depth) >>= λ e. Ok (placed_in glyphs steps rise e)
+
+-- the layout of some glyphs by any steps, at a size in pixels per em
+abbrev pub laid_at : Metrics → ℕ → ℕ → List ℕ → List ℕ → Result Placement JobFault
+laid_at m ppem margin glyphs steps = laid glyphs steps margin (rise_of m ppem) (depth_of m ppem)
+
+-- the layout of some glyphs by their advances
 abbrev pub glyph_placement : Metrics → ℕ → ℕ → List ℕ → Result Placement JobFault
-glyph_placement m ppem margin glyphs = within_limits (extent_of m ppem margin glyphs) >>= λ e. Ok (placed_in m ppem glyphs e)
+glyph_placement m ppem margin glyphs = laid_at m ppem margin glyphs (advances_of m ppem glyphs)
 
 -- the layout of a text at a size in pixels per em with a margin in pixels, or the refusal
 unfoldable pub placement : Metrics → Cmap → List ℕ → ℕ → ℕ → Result Placement JobFault
@@ -142,6 +162,47 @@ its_placement = refl
 no_glyph_and_no_margin : glyph_placement example 16 0 [] ≡ Err job.EmptyPicture
 unfolding example within_limits
 no_glyph_and_no_margin = refl
+
+-- worked values: any steps, in a picture of four rows
+by_steps : List ℕ → ℕ → Result Placement JobFault
+by_steps steps margin = laid (1 ∷ 2 ∷ 1 ∷ []) steps margin (pos 3) (pos 1)
+
+a_wider_step : by_steps (5 ∷ 4 ∷ 5 ∷ []) 0
+    ≡ Ok (record { width = 14; height = 4; rise = pos 3; glyphs = (1, 0) ∷ (2, 5) ∷ (1, 9) ∷ [] })
+unfolding by_steps within_limits
+a_wider_step = refl
+
+no_step_of_one : by_steps (0 ∷ 4 ∷ 0 ∷ []) 0
+    ≡ Ok (record { width = 4; height = 4; rise = pos 3; glyphs = (1, 0) ∷ (2, 0) ∷ (1, 4) ∷ [] })
+unfolding by_steps within_limits
+no_step_of_one = refl
+
+with_a_margin : by_steps (5 ∷ 4 ∷ 5 ∷ []) 2
+    ≡ Ok (record { width = 18; height = 8; rise = pos 3; glyphs = (1, 0) ∷ (2, 5) ∷ (1, 9) ∷ [] })
+unfolding by_steps within_limits
+with_a_margin = refl
+
+no_step_at_all : by_steps (0 ∷ 0 ∷ 0 ∷ []) 0 ≡ Err job.EmptyPicture
+unfolding by_steps within_limits
+no_step_at_all = refl
+
+no_step_but_a_margin : by_steps (0 ∷ 0 ∷ 0 ∷ []) 3
+    ≡ Ok (record { width = 6; height = 10; rise = pos 3; glyphs = (1, 0) ∷ (2, 0) ∷ (1, 0) ∷ [] })
+unfolding by_steps within_limits
+no_step_but_a_margin = refl
+
+as_wide_as_may_be : by_steps (8192 ∷ 8192 ∷ 0 ∷ []) 0
+    ≡ Ok (record { width = 16384; height = 4; rise = pos 3; glyphs = (1, 0) ∷ (2, 8192) ∷ (1, 16384) ∷ [] })
+unfolding by_steps within_limits
+as_wide_as_may_be = refl
+
+wider_by_its_margin : by_steps (8192 ∷ 8192 ∷ 0 ∷ []) 1 ≡ Err job.PictureLarge
+unfolding by_steps within_limits
+wider_by_its_margin = refl
+
+no_height_before_its_width : laid [] (20000 ∷ []) 0 (pos 3) (negsuc 2) ≡ Err job.EmptyPicture
+unfolding within_limits
+no_height_before_its_width = refl
 
 the_largest : within_limits (record { width = 16384; height = pos 4096 }) ≡ Ok (record { width = 16384; height = pos 4096 })
 unfolding within_limits

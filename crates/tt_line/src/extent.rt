@@ -9,23 +9,23 @@ use tt_core::{HEIGHT_LIMIT, JobFault, WIDTH_LIMIT};
 
 /// Width and height of a picture, in pixels, before the limits are tested. The height may be negative.
 #[derive(Clone, Copy)]
-pub(crate) struct PictureExtent {
-    pub(crate) width: u64,
-    pub(crate) height: i32,
+pub struct PictureExtent {
+    pub width: u64,
+    pub height: i32,
 }
 
-/// The extent of a line with its margins: the sum of advances, and the rise plus the depth.
-pub(crate) fn with_margins(advances: u64, rise: i32, depth: i32, margin: u32) -> PictureExtent
-    requires advances { advances < 2 ^ 40 }
+/// The extent of a line with its margins: the sum of steps, and the rise plus the depth.
+pub(crate) fn with_margins(steps: u64, rise: i32, depth: i32, margin: u32) -> PictureExtent
+    requires steps { steps < 2 ^ 45 }
     requires rise { unsigned_abs rise < 2 ^ 20 }
     requires depth { unsigned_abs depth < 2 ^ 20 }
     requires margin { margin ≤ margin_limit }
-    ensures width { result.width ≡ advances + 2 * margin }
+    ensures width { result.width ≡ steps + 2 * margin }
     ensures height { result.height ≡ rise +ℤ depth +ℤ pos (2 * margin) }
 {
     let margins = 2 * margin;
     PictureExtent {
-        width: advances + u64::from(margins),
+        width: steps + u64::from(margins),
         height: rise + depth + margins as i32,
     }
 }

@@ -1,8 +1,19 @@
 //! Lemmas about the definitions, for all texts. No code runs.
 
-ghost use Rattle.tt_line.specs.Laws.{PlacesGlyphs};
+ghost use Rattle.tt_line.specs.Laws.{AdvancesAreSteps, PlacesGlyphs, StepsLead};
 
 /// Lemma: if the definition lays out a text, each character has its glyph, in the text's order.
 pub fn glyphs_are_placed()
     ensures { PlacesGlyphs }
+{}
+
+/// Lemma: the first pen of a line is 0, each step leads to the next pen, and the last step leads to the right margin. No
+/// pen is left of a pen before it.
+pub fn steps_lead()
+    ensures { StepsLead }
+{}
+
+/// Lemma: the layout of a text by advances is the layout by steps, with the advances as the steps.
+pub fn advances_are_steps()
+    ensures { AdvancesAreSteps }
 {}

@@ -7,8 +7,11 @@ pub mod laws;
 mod layout;
 mod line;
 mod pixels;
+mod steps;
 
+pub use extent::PictureExtent;
 pub use layout::lay;
 pub use line::Line;
 pub use pixels::advance;
+pub use steps::{advance_steps, lay_steps};
 pub use tt_core::DrawFault as LineFault;

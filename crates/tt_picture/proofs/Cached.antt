@@ -5,14 +5,17 @@ use Rattle.std.specs.Map.{lookup, remove_entry}
 use Rattle.tt_core.specs.Faults.{Fault}
 use Rattle.tt_fit.specs.Fitting.{Fitter, charged_fitter, fitted_outline, unfitted_fault}
 use Rattle.tt_fit.specs.Laws.{UnboundedStays}
+use Rattle.tt_fit.specs.declared.dropouts.DropoutRules.{DropoutRules}
 use Rattle.tt_fit_outline.specs.Outline.{Outline}
 use Rattle.tt_picture.specs.Cached.{IsCacheFor, IsCached, entries_of, is_there, limit_of}
 use Rattle.tt_picture.specs.Distinct.{fitter_after}
 use Rattle.tt_picture.specs.Glyphs.{GlyphBody, tape, raster, IsBodyOf, IsTape, edges_of}
-use Rattle.tt_picture.specs.Shapes.{edges_at, filled_by}
+use Rattle.tt_picture.specs.Shapes.{chords_with, edges_at, filled_by, rules_for}
 use Rattle.tt_picture.proofs.Unbounded.{uncharged, unchanged}
 use Rattle.tt_scan_edges.specs.declared.edge.Edge.{Edge}
-use Rattle.tt_scan_gaps.specs.declared.mark.Rules.{Rules}
+use Rattle.tt_scan_gaps.specs.Boxes.{ExtentsFit}
+use Rattle.tt_scan_gaps.specs.declared.extent.Extents.{Extents}
+use Rattle.tt_scan_dropouts.specs.declared.boxed.BoxedRules.{BoxedRules}
 use Rattle.tt_scan_rows.specs.Raster.{IsRasterOf, Raster}
 use Rattle.tt_strike_kept.proofs.CallerLemmas.{all_found, all_kept}
 use Rattle.tt_strike_kept.specs.Glyph.{KeptGlyph}
@@ -48,8 +51,8 @@ same_there (Some k) None same = absurd cc
 same_there (Some k) (Some l) same = refl
 
 -- a made glyph with no filled dropouts
-pub one_made : (s : Fitter) (n : ℕ) (o : Outline) (es : List Edge) (unfitted : Option Fault) (filled : Option Rules)
-    → fitted_outline s n ≡ Ok o → es ≡ edges_at 0 o → unfitted ≡ unfitted_fault s n → filled ≡ filled_by s n o
+pub one_made : (s : Fitter) (n : ℕ) (o : Outline) (es : List Edge) (unfitted : Option Fault) (filled : Option BoxedRules)
+    → fitted_outline s n ≡ Ok o → es ≡ edges_at (chords_with s) 0 o → unfitted ≡ unfitted_fault s n → filled ≡ filled_by s n o
     → filled ≡ None → s.work ≡ None → (k : Raster) → IsRasterOf es k
     → IsCached s n (record { raster = k; unfitted = unfitted })
 one_made s n o es unfitted filled made edges fault by none unbounded k cut = record {
@@ -89,15 +92,21 @@ cache_before_a_cost s cost (Some j) None same old new = tt
 cache_before_a_cost s cost (Some j) (Some k) same old new = (old.0, rw (uncharged s cost old.0) at new.1)
 
 -- a glyph with filled dropouts is a tape
-pub tape_where : (filled : Option Rules) (body : GlyphBody) (plain : Bool) → IfSome filled (λ rules. plain ≡ false)
+pub tape_where : (filled : Option BoxedRules) (body : GlyphBody) (plain : Bool) → IfSome filled (λ rules. plain ≡ false)
     → (plain ≡ false → IsTape body) → IfSome filled (λ rules. IsTape body)
 tape_where None body plain off is = tt
 tape_where (Some rules) body plain off is = is off
 
 -- the tape has the edges of its outline
-pub of_edges : (filled : Option Rules) (body : GlyphBody) (es : List Edge) (P : List Edge → Type 0)
+pub of_edges : (filled : Option BoxedRules) (body : GlyphBody) (es : List Edge) (P : List Edge → Type 0)
     → IfSome filled (λ rules. IsTape body) → IsBodyOf es body → IfSome filled (λ rules. P es)
     → IfSome filled (λ rules. P (edges_of body))
 of_edges None body es P is has holds = tt
 of_edges (Some rules) (tape t) es P is has holds = rw has holds
 of_edges (Some rules) (raster k) es P is has holds = absurd is
+
+-- rules with a box within the limits
+pub rules_fit : (b : Extents) (rules : Option DropoutRules) → ExtentsFit b
+    → IfSome (rules_for b rules) (λ (boxed : BoxedRules). ExtentsFit boxed.extents)
+rules_fit b None fits = tt
+rules_fit b (Some rules) fits = fits

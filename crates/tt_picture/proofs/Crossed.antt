@@ -1,21 +1,21 @@
 -- The crossings of glyphs at their pens, one glyph or one pen more at a time.
 use Rattle.std.proofs.Common.{◌≡◌, ◌∙◌, refl, ℕ, zero, suc, ◌+◌, ◌<◌, ◌≤◌, min, Option, Some, None, List, [], ◌∷◌, ◌++◌, length, map, drop, get_or, set, arith, drop-cons, add-one, length-append}
-use Rattle.std.specs.Prelude.{ℤ}
+use Rattle.std.specs.Prelude.{pos}
 use Rattle.std.proofs.Math.Nat.{mul-suc}
 use Rattle.tt_scan_edges.specs.declared.edge.Edge.{Edge}
 use Rattle.tt_scan_dropouts.specs.Counted.{edges_counted}
 use Rattle.tt_scan_dropouts.specs.Laws.{moved}
-use Rattle.tt_scan_gaps.specs.declared.mark.Rules.{Rules}
+use Rattle.tt_scan_dropouts.specs.declared.boxed.BoxedRules.{BoxedRules}
 use Rattle.tt_scan_dropouts.proofs.Counts.{filling_stays}
 use Rattle.tt_picture.specs.Glyphs.{Glyph, crossings_standing, glyph_crossings, pen_crossings}
 use Rattle.tt_picture.specs.Pixels.{Shape}
-use Rattle.tt_picture.specs.Shapes.{crossings_in, filling_crossings}
+use Rattle.tt_picture.specs.Shapes.{crossings_in, filled_at, filling_crossings}
 
--- edges moved by whole pixels count as much where dropouts are filled
-pub filling_moved : (filled : Option Rules) (k m : ℤ) (es : List Edge)
-    → filling_crossings filled (map (moved k m) es) ≡ filling_crossings filled es
-filling_moved None k m es = refl
-filling_moved (Some rules) k m es = filling_stays k m es
+-- edges moved to a pen with their box count as much where dropouts are filled
+pub filling_moved : (filled : Option BoxedRules) (pen : ℕ) (es : List Edge)
+    → filling_crossings (filled_at pen filled) (map (moved (pos pen) (pos 0)) es) ≡ filling_crossings filled es
+filling_moved None pen es = refl
+filling_moved (Some rules) pen es = filling_stays (pos pen) (pos 0) rules.extents es
 
 -- a glyph without a pen crosses no row
 pub crosses_nowhere : (gs : List Glyph) (g : Glyph) → g.pens ≡ [] → crossings_standing (gs ++ g ∷ [])

@@ -5,13 +5,13 @@ use Rattle.std.proofs.lemmas.List.Elements.{All-head, All-tail}
 use Rattle.tt_fit.specs.Fitting.{Fitter}
 use Rattle.tt_picture.specs.Glyphs.{GlyphBody, tape, raster, AreDrawn, Glyph, IsBodyOf, IsDrawn, IsTape, edges_of, ink_standing, numbers_of}
 use Rattle.tt_picture.specs.Ink.{glyph_ink, ink_by}
-use Rattle.tt_picture.specs.Shapes.{contours_of, edges_at, filled_by}
+use Rattle.tt_picture.specs.Shapes.{chords_with, contours_of, edges_at, filled_by}
 use Rattle.tt_scan_edges.specs.declared.edge.Edge.{Edge}
 use Rattle.tt_scan_edges.specs.declared.edge.Frame.{Frame}
-use Rattle.tt_scan_gaps.specs.declared.mark.Rules.{Rules}
+use Rattle.tt_scan_dropouts.specs.declared.boxed.BoxedRules.{BoxedRules}
 
 -- the ink of a tape is that of its edges
-same_ink : (these filled : Option Rules) (es fs : List Edge) (cs ds : List (List Edge)) → these ≡ filled → es ≡ fs
+same_ink : (these filled : Option BoxedRules) (es fs : List Edge) (cs ds : List (List Edge)) → these ≡ filled → es ≡ fs
     → IfSome these (λ rules. cs ≡ ds) → ink_by es cs these ≡ ink_by fs ds filled
 same_ink None filled es fs cs ds is edges contours = rw (← is, edges) refl
 same_ink (Some rules) filled es fs cs ds is edges contours = rw (← is, edges, contours) refl
@@ -24,8 +24,9 @@ one_ink : (s : Fitter) (f : Frame) (g : Glyph) → IsDrawn false s f g → ink_s
 unfolding glyph_ink
 one_ink s f g drawn =
     let o = drawn.shape in
-    rw drawn.outline (same_ink g.filled (filled_by s g.number o) (edges_of g.body) (edges_at 0 o) _ (contours_of 0 o)
-    drawn.filled (edges_are g.body (edges_at 0 o) (drawn.tape refl) drawn.body) drawn.contours)
+    let es = edges_at (chords_with s) 0 o in
+    rw drawn.outline (same_ink g.filled (filled_by s g.number o) (edges_of g.body) es _ (contours_of (chords_with s) 0 o)
+    drawn.filled (edges_are g.body es (drawn.tape refl) drawn.body) drawn.contours)
 
 pub inks_are : (maker : ℕ → Fitter) (f : Frame) (gs : List Glyph) → AreDrawn false maker f gs
     → map ink_standing gs ≡ map (λ n. glyph_ink (maker n) n) (numbers_of gs)

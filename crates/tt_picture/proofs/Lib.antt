@@ -3,6 +3,7 @@ pub mod Among
 pub mod Blackened
 pub mod Crossed
 pub mod Filled
+pub mod Outlines
 pub mod FirstMet
 pub mod Inked
 pub mod Keeping
@@ -10,11 +11,11 @@ pub mod Cached
 pub mod Listing
 mod Pens
 pub mod Places
-mod Reframed
+pub mod Reframed
 mod RowBytes
 mod RowsCut
 pub mod RowsNeeded
-mod Seats
+pub mod Seats
 pub mod Standings
-mod Turns
+pub mod Turns
 pub mod Unbounded

@@ -54,7 +54,7 @@ with_by : (there : Bool) (gs : List ℕ) (g : ℕ) → is_among g gs ≡ there �
 with_by true gs g is differ = rw is differ
 with_by false gs g is differ = rw is (pushed_differ gs g is differ)
 
-distinct_differ : (before gs : List ℕ) → all_differ before ≡ true → all_differ (distinct_after before gs) ≡ true
+pub distinct_differ : (before gs : List ℕ) → all_differ before ≡ true → all_differ (distinct_after before gs) ≡ true
 distinct_differ before [] differ = differ
 distinct_differ before (g ∷ gs) differ =
     distinct_differ (with_glyph before g) gs (with_by (is_among g before) before g refl differ)

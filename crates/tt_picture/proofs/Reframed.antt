@@ -8,30 +8,30 @@ use Rattle.tt_core.specs.Limits.{margin_limit}
 use Rattle.tt_core.specs.Outcomes.{each, after_each}
 use Rattle.tt_fit.specs.Fitting.{Fitter}
 use Rattle.tt_scan_edges.specs.declared.edge.Frame.{Frame}
-use Rattle.tt_scan_gaps.specs.declared.mark.Rules.{Rules}
+use Rattle.tt_scan_dropouts.specs.declared.boxed.BoxedRules.{BoxedRules}
 use Rattle.tt_picture.specs.Distinct.{is_among}
 use Rattle.tt_picture.specs.Glyphs.{ArePlaces, AreWithin, GlyphBody, tape, raster, BodyFits, Glyph, IsBodyOf, IsDrawn, IsTape, Stand, crossings_standing, edges_of, left_of, stamps_in}
-use Rattle.tt_picture.specs.Shapes.{edges_at}
+use Rattle.tt_picture.specs.Shapes.{chords_with, edges_at}
 use Rattle.tt_picture.specs.Pixels.{is_black_by, is_filled_by}
 use Rattle.tt_picture.proofs.Inked.{edges_are}
 
 -- nothing is added to the pens of a tape
-tape_left : (f : Frame) (body : GlyphBody) → IsTape body → left_of f body ≡ 0
+pub tape_left : (f : Frame) (body : GlyphBody) → IsTape body → left_of f body ≡ 0
 tape_left f (tape t) is = refl
 tape_left f (raster k) is = absurd is
 
-where_filled : (filled : Option Rules) (P : Type 0) → P → IfSome filled (λ rules. P)
+where_filled : (filled : Option BoxedRules) (P : Type 0) → P → IfSome filled (λ rules. P)
 where_filled None P holds = tt
 where_filled (Some rules) P holds = holds
 
 -- a glyph with a tape of the same edges in another frame is drawn by the same fitter
 pub drawn_in : (s : Fitter) (f frame : Frame) (g h : Glyph) → h.number ≡ g.number → h.filled ≡ g.filled → h.ends ≡ g.ends
-    → h.unfitted ≡ g.unfitted → h.left ≡ 0 → IsTape h.body → IsBodyOf (edges_of g.body) h.body → BodyFits frame 0 h.body
+    → h.unfitted ≡ g.unfitted → h.step ≡ g.step → h.chords ≡ g.chords → h.left ≡ 0 → IsTape h.body → IsBodyOf (edges_of g.body) h.body → BodyFits frame 0 h.body
     → IsDrawn false s f g → IsDrawn false s frame h
-drawn_in s f frame g h number filled ends unfitted left is of fits drawn =
+drawn_in s f frame g h number filled ends unfitted step chords left is of fits drawn =
     let o = drawn.shape in
     let edges : edges_of h.body ≡ edges_of g.body = edges_are h.body (edges_of g.body) is of in
-    let outlined : edges_of g.body ≡ edges_at 0 o = edges_are g.body (edges_at 0 o) (drawn.tape refl) drawn.body in
+    let outlined : edges_of g.body ≡ edges_at (chords_with s) 0 o = edges_are g.body (edges_at (chords_with s) 0 o) (drawn.tape refl) drawn.body in
     record {
       shape = o;
       unfitted = rw (unfitted, number) drawn.unfitted;
@@ -39,8 +39,11 @@ drawn_in s f frame g h number filled ends unfitted left is of fits drawn =
       body = rw outlined at of;
       left = left ∙ sym (tape_left frame h.body is);
       tape = λ off. is;
+      step = λ off. step ∙ drawn.step off;
+      chords = λ off. chords ∙ drawn.chords off;
       filled = rw (filled, number) drawn.filled;
       of_tape = where_filled h.filled (IsTape h.body) is;
+      boxed = rw filled drawn.boxed;
       contours = rw (filled, edges, ends) drawn.contours;
       ends = rw (filled, edges, ends) drawn.ends;
       fits = fits;
@@ -96,7 +99,7 @@ there_at [] n is = absurd cc
 there_at (m ∷ ns) n is = there_by (m == n) m ns n refl is (there_at ns n)
 
 -- the table has a place for a number that is there
-seat_of : (table numbers : List ℕ) (n : ℕ) → ArePlaces table numbers → is_among n numbers ≡ true → 0 < slice_index table n
+pub seat_of : (table numbers : List ℕ) (n : ℕ) → ArePlaces table numbers → is_among n numbers ≡ true → 0 < slice_index table n
 seat_of table numbers n places among =
     let at = there_at numbers n among in
     let seat : slice_index table n ≡ at.0 + 1 = rw at.2 at (places.there at.0 at.1) in

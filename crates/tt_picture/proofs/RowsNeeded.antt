@@ -38,18 +38,18 @@ pub row_unmet : (f : Frame) (es : List Edge) (n : ℕ) → rows_met es (row_y f 
     → crossings_up_to f n es ≡ crossings_up_to f (n + 1) es
 row_unmet f es n none = let more = row_more f es n in omega (arith, more, none)
 
-few_more : (f : Frame) (n : ℕ) (es : List Edge) → length es ≤ 2 ^ 17 → crossings_up_to f n es ≤ n * 2 ^ 17
-    → crossings_up_to f (n + 1) es ≤ (n + 1) * 2 ^ 17
+few_more : (f : Frame) (n : ℕ) (es : List Edge) → length es ≤ 2 ^ 19 → crossings_up_to f n es ≤ n * 2 ^ 19
+    → crossings_up_to f (n + 1) es ≤ (n + 1) * 2 ^ 19
 few_more f n es few so_far =
     let more = row_more f es n in
     let met = met_few es (row_y f (pos n)) in
     omega (arith, more, met, few, so_far)
 
 -- few edges need few crossings
-pub crossings_few : (f : Frame) (n : ℕ) (es : List Edge) → length es ≤ 2 ^ 17 → crossings_up_to f n es ≤ n * 2 ^ 17
+pub crossings_few : (f : Frame) (n : ℕ) (es : List Edge) → length es ≤ 2 ^ 19 → crossings_up_to f n es ≤ n * 2 ^ 19
 crossings_few f zero es few = omega arith
 crossings_few f (suc n) es few =
-    subst (λ k. crossings_up_to f k es ≤ k * 2 ^ 17) (add-one n) (few_more f n es few (crossings_few f n es few))
+    subst (λ k. crossings_up_to f k es ≤ k * 2 ^ 19) (add-one n) (few_more f n es few (crossings_few f n es few))
 
 -- more rows need no fewer crossings
 more_rows : (f : Frame) (es : List Edge) (n k : ℕ) → crossings_up_to f n es ≤ crossings_up_to f (n + k) es

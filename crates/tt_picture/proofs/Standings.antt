@@ -18,14 +18,15 @@ use Rattle.tt_scan.proofs.Moved.{black_in_columns}
 use Rattle.tt_scan_edges.specs.Winding.{is_black, column_x, row_y, moved_edges}
 use Rattle.tt_scan_dropouts.specs.Counted.{edges_counted}
 use Rattle.tt_scan_dropouts.specs.Dropouts.{is_dropout}
-use Rattle.tt_scan_dropouts.specs.Laws.{moved, outline_moved}
+use Rattle.tt_scan_dropouts.specs.Laws.{moved, outline_moved, rules_moved}
 use Rattle.tt_scan_dropouts.proofs.Counts.{edges_stay}
 use Rattle.tt_scan_dropouts.proofs.Moved.{dropouts_move}
 use Rattle.tt_scan_dropouts.specs.Pictures.{column_at, line_at}
-use Rattle.tt_scan_gaps.specs.declared.mark.Rules.{Rules}
+use Rattle.tt_scan_dropouts.specs.declared.boxed.BoxedRules.{BoxedRules}
 use Rattle.tt_scan_rows.specs.Raster.{line_y}
 use Rattle.tt_picture.specs.Glyphs.{GlyphBody, tape, raster, IsBodyOf, IsTape, body_crossings, drawn_of, edges_of, left_of, Glyph, IsDrawn, AreDrawn, AreSeated, AreWithin, Adds, Stand, crossings_standing, stamps_in, numbers_of}
-use Rattle.tt_picture.specs.Shapes.{contours_of, origin_of, edges_at, filled_by, glyph_shape, filling_crossings}
+use Rattle.tt_arc.specs.declared.rule.ChordRule.{ChordRule}
+use Rattle.tt_picture.specs.Shapes.{chords_with, contours_of, origin_of, edges_at, filled_at, filled_by, glyph_shape, filling_crossings}
 use Rattle.tt_picture.specs.Pixels.{Drawn, Shape, is_drawn, is_black_from, is_black_by, is_filled, is_filled_from, is_filled_by, some_black, some_filled}
 use Rattle.tt_picture.proofs.Crossed.{crosses_at, crossings_more, filling_moved}
 use Rattle.tt_picture.proofs.Places.{ok_and}
@@ -63,7 +64,7 @@ pub fills_nowhere : (f : Frame) (gs : List Glyph) (g : Glyph) (c r : ℕ) → g.
 fills_nowhere f [] g c r none = rw none refl
 fills_nowhere f (h ∷ hs) g c r none = rw (fills_nowhere f hs g c r none) refl
 
-fills_one_pen_more : (f : Frame) (filled : Option Rules) (contours : List (List Edge)) (pens : List ℕ) (pen c r : ℕ)
+fills_one_pen_more : (f : Frame) (filled : Option BoxedRules) (contours : List (List Edge)) (pens : List ℕ) (pen c r : ℕ)
     → is_filled_from f filled contours (pens ++ pen ∷ []) c r
     ≡ (is_filled_from f filled contours pens c r || is_filled filled contours (column_at f pen c) (line_at f r))
 fills_one_pen_more f filled contours [] pen c r = or_false _
@@ -127,24 +128,24 @@ one_place_more cached f before after shapes new stand adds = record {
 }
 
 -- the edges of an outline at a pen are those at pen 0, moved
-at_pen : (o : Outline) (pen : ℕ) → edges_at pen o ≡ moved_edges (pos 8192 *ℤ pos pen) (edges_at 0 o)
-at_pen o pen =
+at_pen : (way : ChordRule) (o : Outline) (pen : ℕ) → edges_at way pen o ≡ moved_edges (pos 8192 *ℤ pos pen) (edges_at way 0 o)
+at_pen way o pen =
     let start : pos (64 * pen) -ℤ origin_of o ≡ (pos (64 * 0) -ℤ origin_of o) +ℤ pos 64 *ℤ pos pen = omega
     (arith, ints) in
-    ap (λ x. chord_edges o.points o.ends x (pos 0)) start
-    ∙ outline_at o.points o.ends (pos (64 * 0) -ℤ origin_of o) (pos 0) (pos pen)
+    ap (λ x. chord_edges way o.points o.ends x (pos 0)) start
+    ∙ outline_at way o.points o.ends (pos (64 * 0) -ℤ origin_of o) (pos 0) (pos pen)
 
 -- an outline at a pen blackens the points that it blackens at pen 0, moved right by the pen
-pub from_pen : (m : ℕ) (o : Outline) (pen : ℕ) (c y : ℤ) → is_black (edges_at pen o) (column_x m c) y
-    ≡ is_black (edges_at 0 o) (column_x m (c -ℤ pos pen)) y
-from_pen m o pen c y =
-    let edges = at_pen o pen in
+pub from_pen : (m : ℕ) (way : ChordRule) (o : Outline) (pen : ℕ) (c y : ℤ) → is_black (edges_at way pen o) (column_x m c) y
+    ≡ is_black (edges_at way 0 o) (column_x m (c -ℤ pos pen)) y
+from_pen m way o pen c y =
+    let edges = at_pen way o pen in
     let back : (c -ℤ pos pen) +ℤ pos pen ≡ c = omega (arith, ints) in
-    let moved = rw back at (black_in_columns (pos pen) (edges_at 0 o) m (c -ℤ pos pen) y) in
+    let moved = rw back at (black_in_columns (pos pen) (edges_at way 0 o) m (c -ℤ pos pen) y) in
     rw edges moved
 
 -- where dropouts are filled, equal contours have equal dropouts
-same_filled : (filled : Option Rules) (these those : List (List Edge)) (c j : ℤ) → IfSome filled (λ rules. these ≡ those)
+same_filled : (filled : Option BoxedRules) (these those : List (List Edge)) (c j : ℤ) → IfSome filled (λ rules. these ≡ those)
     → is_filled filled these c j ≡ is_filled filled those c j
 same_filled None these those c j same = refl
 same_filled (Some rules) these those c j same = rw same refl
@@ -155,73 +156,77 @@ edges_moved k [] = refl
 edges_moved k (e ∷ es) = let still : (y : ℤ) → y +ℤ pos 8192 *ℤ pos 0 ≡ y = λ y. omega (arith, ints) in rw (edges_moved k es, still e.ay, still e.by) refl
 
 -- an outline counts at a pen as much as at pen 0
-moved_there : (o : Outline) (pen : ℕ) → edges_at pen o ≡ map (moved (pos pen) (pos 0)) (edges_at 0 o)
-moved_there o pen = at_pen o pen ∙ edges_moved (pos pen) (edges_at 0 o)
+moved_there : (way : ChordRule) (o : Outline) (pen : ℕ) → edges_at way pen o ≡ map (moved (pos pen) (pos 0)) (edges_at way 0 o)
+moved_there way o pen = at_pen way o pen ∙ edges_moved (pos pen) (edges_at way 0 o)
 
-pub counts_from_pen : (o : Outline) (pen : ℕ) → edges_counted (edges_at pen o) ≡ edges_counted (edges_at 0 o)
-counts_from_pen o pen = ap edges_counted (moved_there o pen) ∙ edges_stay (pos pen) (pos 0) (edges_at 0 o)
+pub counts_from_pen : (way : ChordRule) (o : Outline) (pen : ℕ) → edges_counted (edges_at way pen o) ≡ edges_counted (edges_at way 0 o)
+counts_from_pen way o pen = ap edges_counted (moved_there way o pen) ∙ edges_stay (pos pen) (pos 0) (edges_at way 0 o)
 
-pub filling_from_pen : (filled : Option Rules) (o : Outline) (pen : ℕ)
-    → filling_crossings filled (edges_at pen o) ≡ filling_crossings filled (edges_at 0 o)
-filling_from_pen filled o pen = ap (filling_crossings filled) (moved_there o pen)
-    ∙ filling_moved filled (pos pen) (pos 0) (edges_at 0 o)
+pub filling_from_pen : (filled : Option BoxedRules) (way : ChordRule) (o : Outline) (pen : ℕ)
+    → filling_crossings (filled_at pen filled) (edges_at way pen o) ≡ filling_crossings filled (edges_at way 0 o)
+filling_from_pen filled way o pen = ap (filling_crossings (filled_at pen filled)) (moved_there way o pen)
+    ∙ filling_moved filled pen (edges_at way 0 o)
 
 all_moved : (k : ℤ) (contours : List (List Edge)) → map (moved_edges (pos 8192 *ℤ k)) contours ≡ outline_moved k (pos 0) contours
 all_moved k [] = refl
 all_moved k (es ∷ contours) = rw (edges_moved k es, all_moved k contours) refl
 
-pub contours_at_pen : (o : Outline) (pen : ℕ) → contours_of pen o ≡ outline_moved (pos pen) (pos 0) (contours_of 0 o)
-contours_at_pen o pen =
+pub contours_at_pen : (way : ChordRule) (o : Outline) (pen : ℕ)
+    → contours_of way pen o ≡ outline_moved (pos pen) (pos 0) (contours_of way 0 o)
+contours_at_pen way o pen =
     let start : pos (64 * pen) -ℤ origin_of o ≡ (pos (64 * 0) -ℤ origin_of o) +ℤ pos 64 *ℤ pos pen = omega
     (arith, ints) in
-    ap (λ x. chord_contours o.points o.ends x (pos 0)) start
-    ∙ contours_there o.points o.ends (pos (64 * 0) -ℤ origin_of o) (pos 0) (pos pen)
-    ∙ all_moved (pos pen) (contours_of 0 o)
+    ap (λ x. chord_contours way o.points o.ends x (pos 0)) start
+    ∙ contours_there way o.points o.ends (pos (64 * 0) -ℤ origin_of o) (pos 0) (pos pen)
+    ∙ all_moved (pos pen) (contours_of way 0 o)
 
-pub filled_from_pen : (filled : Option Rules) (f : Frame) (o : Outline) (pen c r : ℕ)
-    → is_filled filled (contours_of 0 o) (column_at f pen c) (line_at f r)
-    ≡ is_filled filled (contours_of pen o) (column_at f 0 c) (line_at f r)
-filled_from_pen None f o pen c r = refl
-filled_from_pen (Some rules) f o pen c r =
+pub filled_from_pen : (filled : Option BoxedRules) (f : Frame) (way : ChordRule) (o : Outline) (pen c r : ℕ)
+    → is_filled filled (contours_of way 0 o) (column_at f pen c) (line_at f r)
+    ≡ is_filled (filled_at pen filled) (contours_of way pen o) (column_at f 0 c) (line_at f r)
+filled_from_pen None f way o pen c r = refl
+filled_from_pen (Some rules) f way o pen c r =
     let column : column_at f 0 c ≡ column_at f pen c +ℤ pos pen = omega (arith, ints) in
     let line : line_at f r ≡ line_at f r +ℤ pos 0 = omega (arith, ints) in
-    sym (dropouts_move rules (contours_of 0 o) (pos pen) (pos 0) (column_at f pen c) (line_at f r))
-    ∙ rw (contours_at_pen o pen, column) (ap (is_dropout rules (outline_moved (pos pen) (pos 0) (contours_of 0 o)) (column_at f pen c +ℤ pos pen)) (sym line))
+    sym (dropouts_move rules (contours_of way 0 o) (pos pen) (pos 0) (column_at f pen c) (line_at f r))
+    ∙ rw (contours_at_pen way o pen, column) (ap (is_dropout (rules_moved (pos pen) (pos 0) rules)
+    (outline_moved (pos pen) (pos 0) (contours_of way 0 o)) (column_at f pen c +ℤ pos pen)) (sym line))
 
 -- the pixels that a glyph's body blackens at a pen
-black_at : (f : Frame) (o : Outline) (body : GlyphBody) (pen c r : ℕ) → pen ≤ width_limit → c < 2 ^ 62 → IsBodyOf (edges_at 0 o) body
+black_at : (f : Frame) (way : ChordRule) (o : Outline) (body : GlyphBody) (pen c r : ℕ) → pen ≤ width_limit → c < 2 ^ 62
+    → IsBodyOf (edges_at way 0 o) body
     → is_drawn f (drawn_of body) (pos c -ℤ pos (pen + left_of f body)) r
-    ≡ is_black (edges_at pen o) (column_x f.margin (pos c)) (row_y f (pos r))
-black_at f o (tape t) pen c r near small is =
+    ≡ is_black (edges_at way pen o) (column_x f.margin (pos c)) (row_y f (pos r))
+black_at f way o (tape t) pen c r near small is =
     let here : pen + 0 ≡ pen = omega arith in
-    rw (here, is) (sym (from_pen f.margin o pen (pos c) (row_y f (pos r))))
-black_at f o (raster k) pen c r near small is =
+    rw (here, is) (sym (from_pen f.margin way o pen (pos c) (row_y f (pos r))))
+black_at f way o (raster k) pen c r near small is =
     let at : ℤ = pos c -ℤ pos (pen + f.margin) in
     let low : at <ℤ pos (2 ^ 63) = omega (arith, ints, small) in
     let column : column_x 0 at ≡ column_x f.margin (pos c -ℤ pos pen) = omega (arith, ints) in
     let line : line_y (line_at f r) ≡ row_y f (pos r) = omega (arith, ints) in
-    is at (line_at f r) low ∙ rw (column, line) (sym (from_pen f.margin o pen (pos c) (row_y f (pos r))))
+    is at (line_at f r) low ∙ rw (column, line) (sym (from_pen f.margin way o pen (pos c) (row_y f (pos r))))
 
 -- the crossings of a glyph at a pen, where its body is a tape
-works_as : (o : Outline) (body : GlyphBody) (these filled : Option Rules) (pen : ℕ) → IsTape body → these ≡ filled
-    → IsBodyOf (edges_at 0 o) body
-    → body_crossings body these ≡ edges_counted (edges_at pen o) + filling_crossings filled (edges_at pen o)
-works_as o (tape t) these filled pen is same edges =
-    rw (same, edges, counts_from_pen o pen, filling_from_pen filled o pen) refl
-works_as o (raster k) these filled pen is same edges = absurd is
+works_as : (way : ChordRule) (o : Outline) (body : GlyphBody) (these filled : Option BoxedRules) (pen : ℕ) → IsTape body
+    → these ≡ filled → IsBodyOf (edges_at way 0 o) body
+    → body_crossings body these ≡ edges_counted (edges_at way pen o) + filling_crossings (filled_at pen filled) (edges_at way pen o)
+works_as way o (tape t) these filled pen is same edges =
+    rw (same, edges, counts_from_pen way o pen, filling_from_pen filled way o pen) refl
+works_as way o (raster k) these filled pen is same edges = absurd is
 
 -- the dropouts of a glyph at a pen: those of a raster are not filled
-fills_by : (f : Frame) (o : Outline) (body : GlyphBody) (these filled : Option Rules) (ends : List ℕ) (pen c r : ℕ) → these ≡ filled
-    → IfSome these (λ rules. IsTape body) → IfSome these (λ rules. contours_at (edges_of body) ends ≡ contours_of 0 o)
+fills_by : (f : Frame) (way : ChordRule) (o : Outline) (body : GlyphBody) (these filled : Option BoxedRules) (ends : List ℕ) (pen c r : ℕ)
+    → these ≡ filled
+    → IfSome these (λ rules. IsTape body) → IfSome these (λ rules. contours_at (edges_of body) ends ≡ contours_of way 0 o)
     → is_filled these (contours_at (edges_of body) ends) (column_at f (pen + left_of f body) c) (line_at f r)
-    ≡ is_filled filled (contours_of pen o) (column_at f 0 c) (line_at f r)
-fills_by f o (tape t) these filled ends pen c r is of_tape contours =
+    ≡ is_filled (filled_at pen filled) (contours_of way pen o) (column_at f 0 c) (line_at f r)
+fills_by f way o (tape t) these filled ends pen c r is of_tape contours =
     let here : pen + 0 ≡ pen = omega arith in
-    rw here (same_filled these (contours_at t.edges ends) (contours_of 0 o) (column_at f pen c) (line_at f r) contours)
-    ∙ filled_from_pen these f o pen c r
-    ∙ ap (λ filled. is_filled filled (contours_of pen o) (column_at f 0 c) (line_at f r)) is
-fills_by f o (raster k) None filled ends pen c r is of_tape contours = rw (← is) refl
-fills_by f o (raster k) (Some rules) filled ends pen c r is of_tape contours = absurd of_tape
+    rw here (same_filled these (contours_at t.edges ends) (contours_of way 0 o) (column_at f pen c) (line_at f r) contours)
+    ∙ filled_from_pen these f way o pen c r
+    ∙ ap (λ filled. is_filled (filled_at pen filled) (contours_of way pen o) (column_at f 0 c) (line_at f r)) is
+fills_by f way o (raster k) None filled ends pen c r is of_tape contours = rw (← is) refl
+fills_by f way o (raster k) (Some rules) filled ends pen c r is of_tape contours = absurd of_tape
 
 -- a drawn glyph with one pen more
 pub adds_at : (cached : Bool) (maker : ℕ → Fitter) (f : Frame) (before gs : List Glyph) (i : ℕ) (g : Glyph) (placed : ℕ × ℕ)
@@ -235,16 +240,19 @@ adds_at cached maker f before gs i g placed near same same_dropouts as_often bel
     let made : fitted_outline (maker placed.0) placed.0 ≡ Ok o = rw number at drawn.outline in
     let rules = filled_by (maker placed.0) placed.0 o in
     let filled : g.filled ≡ rules = rw number at drawn.filled in
+    let way = chords_with (maker placed.0) in
+    let body : IsBodyOf (edges_at way 0 o) g.body = rw number at drawn.body in
+    let contours : IfSome g.filled (λ rules. contours_at (edges_of g.body) g.ends ≡ contours_of way 0 o) = rw number at drawn.contours in
     rw made (record {
       black = λ c r small.
           stands_at f gs i g (placed.1 + g.left) c r below is
-          ∙ rw (same c r, drawn.left, black_at f o g.body placed.1 c r near small drawn.body) refl;
+          ∙ rw (same c r, drawn.left, black_at f way o g.body placed.1 c r near small body) refl;
       dropouts = λ c r.
           fills_at f gs i g (placed.1 + g.left) c r below is
-          ∙ rw (same_dropouts c r, drawn.left, fills_by f o g.body g.filled rules g.ends placed.1 c r filled drawn.of_tape drawn.contours) refl;
+          ∙ rw (same_dropouts c r, drawn.left, fills_by f way o g.body g.filled rules g.ends placed.1 c r filled drawn.of_tape contours) refl;
       crossings = λ none.
           crosses_at gs i g (placed.1 + g.left) below is
-          ∙ rw (as_often, works_as o g.body g.filled rules placed.1 (drawn.tape none) filled drawn.body) refl;
+          ∙ rw (as_often, works_as way o g.body g.filled rules placed.1 (drawn.tape none) filled body) refl;
     })
 
 -- a glyph with other pens has its number
@@ -274,9 +282,12 @@ drawn_stood cached maker f gs i g ps all below is =
       outline = drawn.outline;
       body = drawn.body;
       left = drawn.left;
+      step = drawn.step;
+      chords = drawn.chords;
       tape = drawn.tape;
       filled = drawn.filled;
       of_tape = drawn.of_tape;
+      boxed = drawn.boxed;
       contours = drawn.contours;
       ends = drawn.ends;
       fits = drawn.fits;

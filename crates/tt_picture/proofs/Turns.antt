@@ -62,7 +62,7 @@ next_is s now before all g gs are left absent =
     sym are ∙ rw absent (more.1 ∙ append_assoc before (g ∷ []) more.0) in
     rw all_is (after_those s before more.0 g absent) ∙ sym left
 
-pushed : (s : Fitter) (before : List ℕ) (g : ℕ) → fitter_after s (before ++ g ∷ []) ≡ after_glyph (fitter_after s before) g
+pub pushed : (s : Fitter) (before : List ℕ) (g : ℕ) → fitter_after s (before ++ g ∷ []) ≡ after_glyph (fitter_after s before) g
 pushed s [] g = refl
 pushed s (h ∷ hs) g = pushed (after_glyph s h) hs g
 

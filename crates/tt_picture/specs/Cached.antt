@@ -2,7 +2,7 @@
 use Rattle.std.specs.Prelude.{◌≡◌, ℕ, Bool, true, false, List, [], All, Option, None, Some, Ok, ⊤}
 use Rattle.tt_fit.specs.Fitting.{Fitter, fitted_outline, unfitted_fault}
 use Rattle.tt_fit_outline.specs.Outline.{Outline}
-use Rattle.tt_picture.specs.Shapes.{edges_at, filled_by}
+use Rattle.tt_picture.specs.Shapes.{chords_with, edges_at, filled_by}
 use Rattle.tt_scan_rows.specs.Raster.{IsRasterOf}
 use Rattle.tt_strike_kept.specs.Glyph.{KeptGlyph}
 use Rattle.tt_strike_kept.specs.Kept.{Kept}
@@ -12,7 +12,7 @@ use Rattle.tt_strike_kept.specs.Kept.{Kept}
 pub record IsCached (s : Fitter) (number : ℕ) (g : KeptGlyph) : Type 0 where
   pub shape : Outline
   pub outline : fitted_outline s number ≡ Ok shape
-  pub raster : IsRasterOf (edges_at 0 shape) g.raster
+  pub raster : IsRasterOf (edges_at (chords_with s) 0 shape) g.raster
   pub unfitted : g.unfitted ≡ unfitted_fault s number
   pub filled : filled_by s number shape ≡ None
   pub unbounded : s.work ≡ None

@@ -6,6 +6,7 @@ use Rattle.tt_core.specs.Limits.{margin_limit, width_limit}
 use Rattle.tt_core.specs.Outcomes.{each}
 use Rattle.tt_fit.specs.Fitting.{Fitter, fitted_outline, unfitted_fault}
 use Rattle.tt_fit_outline.specs.Outline.{Outline}
+use Rattle.tt_fit_outline.specs.Steps.{step_of}
 use Rattle.tt_scan.specs.Contours.{AreEnds, IsClosed, contours_at}
 use Rattle.tt_scan_edges.specs.declared.edge.Edge.{Edge}
 use Rattle.tt_scan_edges.specs.declared.edge.Frame.{Frame}
@@ -13,14 +14,16 @@ use Rattle.tt_scan.specs.Tape.{Tape}
 use Rattle.tt_scan_edges.specs.Winding.{is_black, column_x, row_y}
 use Rattle.tt_scan_dropouts.specs.Counted.{edges_counted}
 use Rattle.tt_scan_dropouts.specs.Pictures.{column_at, is_among, line_at}
-use Rattle.tt_scan_gaps.specs.declared.mark.Rules.{Rules}
+use Rattle.tt_scan_dropouts.specs.declared.boxed.BoxedRules.{BoxedRules}
+use Rattle.tt_scan_gaps.specs.Boxes.{ExtentsFit, IsBoxOf}
 use Rattle.tt_scan_dropouts.specs.declared.picture.Dropout.{Dropout}
 use Rattle.tt_scan_rows.specs.Raster.{IsRasterOf, Raster}
 use Rattle.tt_scan_ink.specs.declared.ink.GlyphInk.{GlyphInk}
 use Rattle.tt_picture.specs.Distinct.{IsNext, distinct, with_glyph}
 use Rattle.tt_picture.specs.Ink.{ink_by}
 use Rattle.tt_picture.specs.Rows.{rows}
-use Rattle.tt_picture.specs.Shapes.{contours_of, crossings_in, edges_at, filled_by, filling_crossings, glyph_shape}
+use Rattle.tt_picture.specs.Shapes.{chords_with, contours_of, crossings_in, edges_at, filled_by, filling_crossings, glyph_shape}
+use Rattle.tt_picture.specs.Steps.{chords_of}
 use Rattle.tt_picture.specs.Pixels as pixels
 use Rattle.tt_picture.specs.Pixels.{Drawn, Shape, Stamp, TapeFits, cut_from, is_black_by, is_filled, is_filled_by, some_black, some_filled}
 
@@ -46,12 +49,15 @@ abbrev pub left_of : Frame → GlyphBody → ℕ
 left_of f (tape t) = 0
 left_of f (raster k) = f.margin
 
--- a glyph by its number in the font: its body, its dropout rules, and the ends of its contours among the edges if
--- dropouts are filled. Then the number added to its pens, the pens, and the fault that makes it unfitted
+-- A glyph by its number in the font: its step, its chords, its body, its dropout rules, and the ends of its contours
+-- among the edges if dropouts are filled. Then the number added to its pens, the pens, and the fault that makes it
+-- unfitted
 pub record Glyph : Type 0 where
   pub number : ℕ
+  pub step : ℕ
+  pub chords : ℕ
   pub body : GlyphBody
-  pub filled : Option Rules
+  pub filled : Option BoxedRules
   pub ends : List ℕ
   pub left : ℕ
   pub pens : List ℕ
@@ -97,17 +103,20 @@ crosses_in [] = 0
 crosses_in (g ∷ gs) = body_crosses g.body + crosses_in gs
 
 -- a glyph has the body of its outline, dropouts by its contours, and the fault that makes it unfitted; without a cache
--- it is a tape
+-- it is a tape, and its step and its chords are those of the outline
 pub record IsDrawn (cached : Bool) (s : Fitter) (f : Frame) (g : Glyph) : Type 0 where
   pub shape : Outline
   pub unfitted : g.unfitted ≡ unfitted_fault s g.number
   pub outline : fitted_outline s g.number ≡ Ok shape
-  pub body : IsBodyOf (edges_at 0 shape) g.body
+  pub body : IsBodyOf (edges_at (chords_with s) 0 shape) g.body
   pub left : g.left ≡ left_of f g.body
   pub tape : cached ≡ false → IsTape g.body
+  pub step : cached ≡ false → g.step ≡ step_of shape
+  pub chords : cached ≡ false → g.chords ≡ chords_of (chords_with s) shape
   pub filled : g.filled ≡ filled_by s g.number shape
   pub of_tape : IfSome g.filled (λ rules. IsTape g.body)
-  pub contours : IfSome g.filled (λ rules. contours_at (edges_of g.body) g.ends ≡ contours_of 0 shape)
+  pub boxed : IfSome g.filled (λ rules. ExtentsFit rules.extents)
+  pub contours : IfSome g.filled (λ rules. contours_at (edges_of g.body) g.ends ≡ contours_of (chords_with s) 0 shape)
   pub ends : IfSome g.filled (λ rules. AreEnds (length (edges_of g.body)) g.ends)
   pub fits : BodyFits f 0 g.body
 
@@ -115,14 +124,20 @@ pub record IsDrawn (cached : Bool) (s : Fitter) (f : Frame) (g : Glyph) : Type 0
 abbrev pub AreWithin : List Glyph → Type 0
 AreWithin gs = All (λ g. All (λ pen. pen ≤ width_limit + g.left) g.pens) gs
 
--- a glyph's dropouts can be found: it is a tape, its contours end among the edges and are closed, and its pens lie
--- within the width of a picture
+-- a glyph's dropouts can be found: it is a tape, its box holds its edges, its contours end among the edges and are
+-- closed, and its pens lie within the width of a picture
 pub record CanBeFilled (g : Glyph) : Type 0 where
-  pub few : length (edges_of g.body) ≤ 2 ^ 17
+  pub few : length (edges_of g.body) ≤ 2 ^ 19
   pub tape : IfSome g.filled (λ rules. IsTape g.body)
   pub ends : IfSome g.filled (λ rules. AreEnds (length (edges_of g.body)) g.ends)
+  pub boxed : IfSome g.filled (λ rules. IsBoxOf rules.extents (edges_of g.body))
   pub closed : IfSome g.filled (λ rules. All IsClosed (contours_at (edges_of g.body) g.ends))
   pub pens : IfSome g.filled (λ rules. All (λ pen. pen ≤ width_limit) g.pens)
+
+-- a glyph whose crossings can be counted: it has few edges, and where dropouts are filled, its box is within the limits
+pub record CanBeCounted (g : Glyph) : Type 0 where
+  pub few : length (edges_of g.body) ≤ 2 ^ 19
+  pub boxed : IfSome g.filled (λ rules. ExtentsFit rules.extents)
 
 -- the box of a glyph's black pixels at pen 0
 abbrev pub ink_standing : Glyph → Option GlyphInk
@@ -137,7 +152,7 @@ abbrev pub all_rows : Frame → List Glyph → List Dropout → List ℕ
 all_rows f gs ds = rows f.width (shows_by f (stamps_in gs) ds) 0 (stride f.width * f.height)
 
 -- the crossings of a glyph at one pen and at all, in the picture and outside; a raster is cut already
-abbrev pub body_crossings : GlyphBody → Option Rules → ℕ
+abbrev pub body_crossings : GlyphBody → Option BoxedRules → ℕ
 body_crossings (tape t) filled = edges_counted t.edges + filling_crossings filled t.edges
 body_crossings (raster k) filled = 0
 

@@ -7,25 +7,25 @@ use Rattle.tt_fit.specs.Fitting.{Fitter, fitted_outline}
 use Rattle.tt_fit_outline.specs.Outline.{Outline}
 use Rattle.tt_scan_edges.specs.declared.edge.Edge.{Edge}
 use Rattle.tt_scan_edges.specs.declared.edge.Frame.{Frame}
-use Rattle.tt_scan_gaps.specs.declared.mark.Rules.{Rules}
+use Rattle.tt_scan_dropouts.specs.declared.boxed.BoxedRules.{BoxedRules}
 use Rattle.tt_scan_ink.specs.Ink as ink
 use Rattle.tt_scan_ink.specs.Ink.{dropouts_ink, edges_ink}
 use Rattle.tt_scan_ink.specs.declared.ink.GlyphInk.{GlyphInk}
-use Rattle.tt_picture.specs.Shapes.{contours_of, edges_at, filled_by}
+use Rattle.tt_picture.specs.Shapes.{chords_with, contours_of, edges_at, filled_by}
 use Rattle.tt_picture.specs.declared.ink_box.InkBox.{InkBox}
 
 -- the box of a glyph's dropouts, if they are filled
-abbrev pub filled_ink : Option Rules → List (List Edge) → List Edge → Option GlyphInk
-filled_ink None contours es = None
-filled_ink (Some rules) contours es = dropouts_ink rules contours es
+abbrev pub filled_ink : Option BoxedRules → List (List Edge) → Option GlyphInk
+filled_ink None contours = None
+filled_ink (Some rules) contours = dropouts_ink rules contours
 
 -- the box of all black pixels of a glyph
-abbrev pub ink_by : List Edge → List (List Edge) → Option Rules → Option GlyphInk
-ink_by es contours filled = ink.joined (edges_ink es) (filled_ink filled contours es)
+abbrev pub ink_by : List Edge → List (List Edge) → Option BoxedRules → Option GlyphInk
+ink_by es contours filled = ink.joined (edges_ink es) (filled_ink filled contours)
 
 -- the box at pen 0, by its fitter; a glyph without an outline has none
 abbrev pub outline_ink : Fitter → ℕ → Result Outline Fault → Option GlyphInk
-outline_ink s g (Ok o) = ink_by (edges_at 0 o) (contours_of 0 o) (filled_by s g o)
+outline_ink s g (Ok o) = ink_by (edges_at (chords_with s) 0 o) (contours_of (chords_with s) 0 o) (filled_by s g o)
 outline_ink s g (Err fault) = None
 
 unfoldable pub glyph_ink : Fitter → ℕ → Option GlyphInk

@@ -1,10 +1,12 @@
 pub mod Cached
 pub mod Distinct
+pub mod Fitted
 pub mod Glyphs
 pub mod Ink
 pub mod Pictures
 pub mod Pixels
 pub mod Rows
 pub mod Shapes
+pub mod Steps
 pub mod Unfitted
 pub mod Views

@@ -9,22 +9,22 @@ use Rattle.tt_scan.specs.Tape.{Tape}
 use Rattle.tt_scan_edges.specs.Winding.{is_black, column_x, row_y, crossings_of}
 use Rattle.tt_scan_dropouts.specs.Dropouts.{is_dropout}
 use Rattle.tt_scan_dropouts.specs.Pictures.{column_at, line_at}
-use Rattle.tt_scan_gaps.specs.declared.mark.Rules.{Rules}
+use Rattle.tt_scan_dropouts.specs.declared.boxed.BoxedRules.{BoxedRules}
 use Rattle.tt_scan_rows.specs.Raster.{Raster, shows}
 
 -- a glyph at its pen: its edges, also contour by contour, and its dropout rules, if dropouts are filled
 pub record Shape : Type 0 where
   pub edges : List Edge
   pub contours : List (List Edge)
-  pub filled : Option Rules
+  pub filled : Option BoxedRules
 
 -- the edges of some glyphs blacken a point
 abbrev pub some_black : List Shape → ℤ → ℤ → Bool
 some_black [] x y = false
 some_black (s ∷ ss) x y = is_black s.edges x y || some_black ss x y
 
--- contours have this pixel as a dropout, by these rules
-abbrev pub is_filled : Option Rules → List (List Edge) → ℤ → ℤ → Bool
+-- contours have this pixel as a dropout, by these rules and in this box
+abbrev pub is_filled : Option BoxedRules → List (List Edge) → ℤ → ℤ → Bool
 is_filled None contours c j = false
 is_filled (Some rules) contours c j = is_dropout rules contours c j
 
@@ -52,7 +52,7 @@ is_drawn f (raster k) c r = shows k c (line_at f r)
 -- a glyph's drawing data, its dropout rules, its contours where dropouts are filled, and its pens
 pub record Stamp : Type 0 where
   pub drawn : Drawn
-  pub filled : Option Rules
+  pub filled : Option BoxedRules
   pub contours : List (List Edge)
   pub pens : List ℕ
 
@@ -67,7 +67,7 @@ is_black_by f [] c r = false
 is_black_by f (g ∷ gs) c r = is_black_from f g.drawn g.pens c r || is_black_by f gs c r
 
 -- some pen of a glyph has it as a dropout
-abbrev pub is_filled_from : Frame → Option Rules → List (List Edge) → List ℕ → ℕ → ℕ → Bool
+abbrev pub is_filled_from : Frame → Option BoxedRules → List (List Edge) → List ℕ → ℕ → ℕ → Bool
 is_filled_from f filled contours [] c r = false
 is_filled_from f filled contours (pen ∷ pens) c r =
     is_filled filled contours (column_at f pen c) (line_at f r) || is_filled_from f filled contours pens c r
@@ -85,10 +85,10 @@ cut_from (raster k) = []
 abbrev pub crossings_up_to : Frame → ℕ → List Edge → ℕ
 crossings_up_to f count es = crossings_of (record f { height = count }) es
 
--- the tape has this frame and at most 2 ^ 17 edges, and it counts the crossings of the first rows, this many
+-- the tape has this frame and at most 2 ^ 19 edges, and it counts the crossings of the first rows, this many
 pub record TapeFits (f : Frame) (made : ℕ) (t : Tape) : Type 0 where
   pub frame : t.frame ≡ f
-  pub edges : length t.edges ≤ 2 ^ 17
+  pub edges : length t.edges ≤ 2 ^ 19
   pub crosses : t.crosses ≡ crossings_up_to f made t.edges
 
 -- row r of a picture within the limits, and bytes that have a bit for each of its pixels

@@ -1,7 +1,7 @@
 //! Counts the crossings of made glyphs at their pens.
 
-ghost use Rattle.std.specs.Prelude.{◌≡◌, ◌≤◌, ◌-◌, ◌^◌, min, length, All};
-ghost use Rattle.tt_picture.specs.Glyphs.{crossings_standing, edges_of, glyph_crossings, pen_crossings};
+ghost use Rattle.std.specs.Prelude.{◌≡◌, ◌-◌, ◌^◌, min, All};
+ghost use Rattle.tt_picture.specs.Glyphs.{CanBeCounted, crossings_standing, glyph_crossings, pen_crossings};
 
 use crate::glyph::{Glyph, GlyphBody};
 use tt_scan_dropouts::{edges_counted, filling_counted};
@@ -10,7 +10,7 @@ impl Glyph {
     /// The crossings of the glyph at one pen, in the picture and outside. Where dropouts are filled, the search for
     /// them counts too.
     fn pen_crossings(&self) -> u64
-        requires few { length (edges_of self.now.body) ≤ 2 ^ 17 }
+        requires { CanBeCounted self.now }
         ensures { result ≡ pen_crossings self.now }
     {
         let GlyphBody::Tape(tape) = &self.body else {
@@ -18,14 +18,14 @@ impl Glyph {
         };
         let edges = tape.lend();
         match self.filled {
-            Some(_) => edges_counted(edges) + filling_counted(edges),
+            Some(rules) => edges_counted(edges) + filling_counted(rules.extents, edges),
             None => edges_counted(edges),
         }
     }
 
     /// The crossings of the glyph at all its pens, or 2 ^ 64 - 1 if there are more.
     fn crossings(&self) -> u64
-        requires few { length (edges_of self.now.body) ≤ 2 ^ 17 }
+        requires { CanBeCounted self.now }
         ensures { result ≡ min (glyph_crossings self.now) (2 ^ 64 - 1) }
     {
         self.pen_crossings().saturating_mul(self.pens.len() as u64)
@@ -34,7 +34,7 @@ impl Glyph {
 
 /// The crossings of some glyphs at their pens, or 2 ^ 64 - 1 if there are more.
 pub fn crossings(glyphs: &[Glyph]) -> u64
-    requires tapes { All (λ g. length (edges_of g.body) ≤ 2 ^ 17) glyphs.now }
+    requires { All CanBeCounted glyphs.now }
     ensures { result ≡ min (crossings_standing glyphs.now) (2 ^ 64 - 1) }
 {
     let mut all: u64 = 0;

@@ -12,16 +12,19 @@ use crate::glyph::{Glyph, GlyphBody};
 use std::alloc::{AllocError, Global};
 use tt_fit::DropoutRules;
 use tt_scan::Frame;
-use tt_scan_dropouts::{Dropout, Rules, push_dropouts, sort_by_rows};
+use tt_scan_dropouts::{BoxedRules, Dropout, Extents, Rules, push_dropouts, sort_by_rows};
 
-/// The dropout rules in the scan converter's type.
-pub(crate) fn rules_for(rules: Option<DropoutRules>) -> Option<Rules>
-    ensures { result ≡ rules_for rules }
+/// The dropout rules in the scan converter's type, with the glyph's box.
+pub(crate) fn rules_for(extents: Extents, rules: Option<DropoutRules>) -> Option<BoxedRules>
+    ensures { result ≡ rules_for extents rules }
 {
     match rules {
-        Some(rules) => Some(Rules {
-            stubs: rules.stubs,
-            smart: rules.smart,
+        Some(rules) => Some(BoxedRules {
+            rules: Rules {
+                stubs: rules.stubs,
+                smart: rules.smart,
+            },
+            extents,
         }),
         None => None,
     }

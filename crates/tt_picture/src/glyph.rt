@@ -1,31 +1,26 @@
 //! A glyph of a line, made once however often it appears. For painting see painting.rt.
 
-ghost use Rattle.std.specs.Prelude.{◌≡◌, ◌+◌, ◌*◌, ◌<◌, ◌≤◌, ◌^◌, true, false, ◌++◌, [], ◌∷◌, length, IfOk, IfSome, IfNone, OnOk, Some, None, Err};
+ghost use Rattle.std.specs.Prelude.{◌≡◌, ◌+◌, ◌<◌, ◌≤◌, ◌^◌, true, ◌++◌, [], ◌∷◌, length, IfOk, IfSome, IfNone, OnOk, Some, None, Err};
 ghost use Rattle.tt_core.specs.Limits.{margin_limit, width_limit};
 ghost use Rattle.tt_core.specs.Outcomes.{IfTold, font_fault};
 ghost use Rattle.tt_fit.specs.Fitting.{Fitter, fitted_outline, after_glyph};
-ghost use Rattle.tt_fit_outline.specs.Outline.{IsOutline};
-ghost use Rattle.tt_fit_outline.specs.Views.{outline_of};
-ghost use Rattle.tt_scan.specs.Contours.{AreEnds, contours_at};
 ghost use Rattle.tt_scan_edges.specs.Winding.{FrameFits};
-ghost use Rattle.tt_scan_rows.specs.Raster.{IsRasterOf, Raster};
+ghost use Rattle.tt_scan_rows.specs.Raster.{Raster};
 ghost use Rattle.tt_picture.specs.Glyphs.{BodyFits, IsBodyOf, IsDrawn, IsTape, edges_of, left_of};
 ghost use Rattle.tt_picture.specs.Cached.{IsCacheFor, IsCached, is_there, limit_of};
-ghost use Rattle.tt_picture.specs.Shapes.{contours_of, edges_at};
 ghost use Rattle.tt_picture.specs.Views.{body_view};
 
 use crate::cache::Cache;
-use crate::dropouts::rules_for;
+use crate::fitted::FittedGlyph;
 use crate::report::Unfitted;
 use std::alloc::{AllocError, Global};
 use std::marker::Model;
 use std::rc::Rc;
-use tt_arc::{contour_ends, edges};
 use tt_core::{Fault, FontFault};
-use tt_fit::{Fitter, Outline};
+use tt_fit::Fitter;
 use tt_scan::{EdgeList, Frame, Tape};
-use tt_scan_dropouts::Rules;
-use tt_scan_rows::{CutGlyph, Raster};
+use tt_scan_dropouts::BoxedRules;
+use tt_scan_rows::Raster;
 use tt_strike_kept::KeptGlyph;
 
 /// The part of a glyph that blackens rows.
@@ -38,8 +33,18 @@ pub(crate) enum GlyphBody {
 }
 
 impl GlyphBody {
+    /// The number of its edges; 0 for a raster.
+    pub(crate) fn edges(&self) -> usize
+        ensures { result ≡ length (edges_of (body_view self.now)) }
+    {
+        match self {
+            GlyphBody::Tape(tape) => tape.edges(),
+            GlyphBody::Raster(_) => 0,
+        }
+    }
+
     /// Added to every pen: 0 for a tape, the margin for a raster.
-    fn left(&self, frame: Frame) -> u32
+    pub(crate) fn left(&self, frame: Frame) -> u32
         ensures exact { result ≡ left_of frame (body_view self.now) }
         ensures limit { frame.margin ≤ margin_limit → result ≤ margin_limit }
     {
@@ -54,9 +59,13 @@ impl GlyphBody {
 #[derive(Drop)]
 pub struct Glyph {
     pub(crate) number: u16,
+    /// The pixels from its pen to the next, by its outline. 0 for a cached glyph, whose step is not asked.
+    pub(crate) step: u32,
+    /// The number of its chords and straight edges. 0 for a cached glyph.
+    pub(crate) chords: usize,
     pub(crate) body: GlyphBody,
-    /// The rules for filling its dropouts.
-    pub(crate) filled: Option<Rules>,
+    /// The rules for filling its dropouts, with its box at pen 0.
+    pub(crate) filled: Option<BoxedRules>,
     /// The number of edges up to the end of each contour; empty where no dropouts are filled.
     pub(crate) ends: Vec<usize>,
     /// Added to every pen: 0 for a tape, the margin for a raster.
@@ -73,7 +82,7 @@ impl Model for Glyph {
 
     ghost Value = { glyphs.Glyph };
 
-    ghost view = { λ g. record { number = g.number; body = body_view g.body; filled = g.filled; ends = g.ends.items; left = g.left; pens = g.pens.items; unfitted = g.unfitted } };
+    ghost view = { λ g. record { number = g.number; step = g.step; chords = g.chords; body = body_view g.body; filled = g.filled; ends = g.ends.items; left = g.left; pens = g.pens.items; unfitted = g.unfitted } };
 }
 
 impl Glyph {
@@ -104,24 +113,9 @@ impl Glyph {
             tt_fit::laws::work_unfits();
             return Ok(Glyph::cached(alloc, number, glyph, frame, room)?);
         }
-        // The outline is dropped at the end, once its edges are made.
-        let outline = fitter.fit(number)?;
-        let filled = rules_for(fitter.dropouts(&outline));
-        let list = edges_of(alloc, &outline)?;
-        let ends = ends_of(alloc, &outline, filled)?;
-        let unfitted = outline.unfitted;
-        let caches = can_be_cached(cache, filled);
-        let body = body_of(alloc, list, frame, number, unfitted, cache, caches)?;
-        let left = body.left(frame);
-        Ok(Glyph {
-            number,
-            body,
-            filled,
-            ends,
-            left,
-            pens: Vec::with_capacity(alloc, room)?,
-            unfitted,
-        })
+        let fitted = FittedGlyph::of(fitter, number)?;
+        let made = fitted.into_glyph(alloc, frame, room, cache)?;
+        Ok(made)
     }
 
     /// A cached glyph, without a pen, with room for `room` pens. Error: Memory.
@@ -140,6 +134,8 @@ impl Glyph {
         let KeptGlyph { raster, unfitted } = glyph;
         Ok(Glyph {
             number,
+            step: 0,
+            chords: 0,
             body: GlyphBody::Raster(raster),
             filled: None,
             ends: Vec::new(alloc),
@@ -176,93 +172,29 @@ impl Glyph {
     pub(crate) fn edges(&self) -> usize
         ensures { result ≡ length (edges_of self.now.body) }
     {
-        match &self.body {
-            GlyphBody::Tape(tape) => tape.edges(),
-            GlyphBody::Raster(_) => 0,
-        }
+        self.body.edges()
     }
-}
 
-/// Whether a glyph may be cached. A glyph with filled dropouts may not, since its dropouts are found by its edges.
-fn can_be_cached(cache: &Cache, filled: Option<Rules>) -> bool
-    ensures cached { result ≡ true → (is_there cache.now ≡ true) × (filled ≡ None) }
-    ensures off { is_there cache.now ≡ false → result ≡ false }
-    ensures filled { IfSome filled (λ _. result ≡ false) }
-{
-    match filled {
-        Some(_) => false,
-        None => cache.is_there(),
+    /// Its number in the font.
+    pub fn number(&self) -> u16
+        ensures { result ≡ self.now.number }
+    {
+        self.number
     }
-}
 
-/// The edges of an outline whose first phantom point is at the left end of the line.
-fn edges_of(alloc: Global, outline: &Outline) -> Result<EdgeList, AllocError>
-    requires outline { IsOutline (outline_of outline.now) }
-    ensures exact { IfOk result (λ l. l.edges ≡ edges_at 0 (outline_of outline.now)) }
-    ensures few { IfOk result (λ l. length l.edges ≤ 2 ^ 17) }
-{
-    let origin = outline.phantom[0].0;
-    edges(alloc, outline, -i64::from(origin), 0)
+    /// The pixels from its pen to the next, for a glyph that is not cached.
+    pub fn step(&self) -> u32
+        ensures { result ≡ self.now.step }
+    {
+        self.step
+    }
 }
 
 /// A tape of edges. Each row is cut when it is made.
 pub(crate) fn tape_of(alloc: Global, list: EdgeList, frame: Frame) -> Result<GlyphBody, AllocError>
     requires frame { FrameFits frame }
-    requires few { length list.edges ≤ 2 ^ 17 }
+    requires few { length list.edges ≤ 2 ^ 19 }
     ensures body { IfOk result (λ b. IsBodyOf list.edges (body_view b) × IsTape (body_view b) × BodyFits frame 0 (body_view b)) }
 {
     Ok(GlyphBody::Tape(Tape::of(alloc, frame, list)?))
-}
-
-/// The body of a glyph with these edges. If the glyph may be cached: a raster, which is cached for later lines. Else, and
-/// where it has too many lines or too many black columns: a tape. Error: Memory.
-fn body_of(
-    alloc: Global,
-    list: EdgeList,
-    frame: Frame,
-    number: u16,
-    unfitted: Option<Fault>,
-    cache: &mut Cache,
-    caches: bool,
-) -> Result<GlyphBody, AllocError>
-    requires frame { FrameFits frame }
-    requires few { length list.edges ≤ 2 ^ 17 }
-    ensures body { IfOk result (λ b. IsBodyOf list.edges (body_view b) × BodyFits frame 0 (body_view b)) }
-    ensures tape { IfOk result (λ b. caches ≡ false → IsTape (body_view b)) }
-    ensures cached { (s : Fitter) → (caches ≡ true → (k : Raster) → IsRasterOf list.edges k → IsCached s number (record { raster = k; unfitted = unfitted })) → IsCacheFor s cache.old → IsCacheFor s cache.new }
-    ensures limit { limit_of cache.new ≡ limit_of cache.old }
-{
-    if !caches {
-        return tape_of(alloc, list, frame);
-    }
-    match Raster::cut(alloc, list, 2 * frame.height, cache.raster_limit())? {
-        CutGlyph::Raster(raster) => {
-            let raster = Rc::new(alloc, raster)?;
-            cache.put(
-                number,
-                KeptGlyph {
-                    raster: raster.clone()?,
-                    unfitted,
-                },
-            );
-            Ok(GlyphBody::Raster(raster))
-        }
-        CutGlyph::Edges(list) => tape_of(alloc, list, frame),
-    }
-}
-
-/// The number of an outline's edges up to the end of each contour, if its dropouts are filled. Error: Memory.
-fn ends_of(
-    alloc: Global,
-    outline: &Outline,
-    filled: Option<Rules>,
-) -> Result<Vec<usize>, AllocError>
-    requires outline { IsOutline (outline_of outline.now) }
-    ensures contours { IfOk result (λ v. IfSome filled (λ rules. contours_at (edges_at 0 (outline_of outline.now)) v.items ≡ contours_of 0 (outline_of outline.now))) }
-    ensures ends { IfOk result (λ v. IfSome filled (λ rules. AreEnds (length (edges_at 0 (outline_of outline.now))) v.items)) }
-{
-    match filled {
-        Some(_) => contour_ends(alloc, outline),
-        None => Ok(Vec::new(alloc)),
-    }
 }

@@ -7,11 +7,14 @@ ghost use Rattle.tt_fit.specs.Fitting.{Fitter, fitted_outline};
 ghost use Rattle.tt_scan_edges.specs.declared.edge.Frame.{Frame};
 ghost use Rattle.tt_scan_edges.specs.Winding.{FrameFits};
 ghost use Rattle.tt_picture.specs.Distinct.{distinct, each_fitter, fitter_after, fitter_past, is_among};
+ghost use Rattle.tt_picture.specs.Fitted.{AreFitted, fitted_chords, fitted_numbers};
 ghost use Rattle.tt_picture.specs.Glyphs.{AreDrawn, AreOfLine, AreSeated, AreWithin, Adds, ArePlaces, HasGlyph, HasPen, edges_of, numbers_of};
 ghost use Rattle.tt_picture.specs.Cached.{IsCacheFor, is_there, limit_of};
 ghost use Rattle.tt_picture.specs.Shapes.{glyph_shape};
 
 use crate::cache::Cache;
+use crate::fitted::FittedGlyph;
+use crate::fitting::drawn_glyphs;
 use crate::glyph::Glyph;
 use crate::reframing::reframed_glyphs;
 use std::alloc::{AllocError, Global};
@@ -41,7 +44,7 @@ impl Glyphs {
         Ok(Glyphs {
             places: vec![in alloc; 0u16; usize::from(glyphs)]?,
             made: Vec::new(alloc),
-            room: (count / 16).clamp(4, 64),
+            room: pens_room(count),
             cost: 0,
         })
     }
@@ -163,6 +166,24 @@ impl Glyphs {
         Ok(())
     }
 
+    /// Glyphs without a pen, at the places of a line. Error: Memory.
+    fn standing(self, line: &[(u16, u32)]) -> Result<Glyphs, AllocError>
+        requires bare { All (λ g. (g.left ≡ 0) × (g.pens ≡ [])) self.made.items }
+        requires places { ArePlaces self.places.items (numbers_of self.made.items) }
+        requires known { All (λ g. g.0 < length self.places.items) line.now }
+        requires among { All (λ g. is_among g.0 (numbers_of self.made.items) ≡ true) line.now }
+        requires pens { All (λ g. g.1 ≤ width_limit) line.now }
+        ensures valid { IfOk result (λ g. AreSeated (length self.places.items) g.places.items g.made.items) }
+        ensures line { IfOk result (λ g. (maker : ℕ → Fitter) (f : Frame) → AreDrawn false maker f self.made.items
+            → numbers_of self.made.items ≡ distinct (map (λ g. g.0) line.now) → AreOfLine false maker f line.now g.made.items) }
+    {
+        let mut glyphs = self;
+        for place in line {
+            glyphs.stand(*place)?;
+        }
+        Ok(glyphs)
+    }
+
     /// The glyphs in another frame, at the places of another line of the same glyphs. No edge is copied. Error: Memory.
     pub fn reframed(
         self,
@@ -171,7 +192,7 @@ impl Glyphs {
         line: &[(u16, u32)],
     ) -> Result<Vec<Glyph>, AllocError>
         requires frame { FrameFits frame }
-        requires few { All (λ g. length (edges_of g.body) ≤ 2 ^ 17) self.made.items }
+        requires few { All (λ g. length (edges_of g.body) ≤ 2 ^ 19) self.made.items }
         requires places { ArePlaces self.places.items (numbers_of self.made.items) }
         requires known { All (λ g. g.0 < length self.places.items) line.now }
         requires among { All (λ g. is_among g.0 (numbers_of self.made.items) ≡ true) line.now }
@@ -186,17 +207,54 @@ impl Glyphs {
             cost,
         } = self;
         let made = reframed_glyphs(alloc, frame, made)?;
-        let mut glyphs = Glyphs {
+        let moved = Glyphs {
             places,
             made,
             room,
             cost,
         };
-        for place in line {
-            glyphs.stand(*place)?;
-        }
+        let glyphs = moved.standing(line)?;
         Ok(glyphs.made)
     }
+
+    /// The glyphs of a line in its frame, by their outlines and the table of their places; None where they have more
+    /// than `most` chords. Error: Memory.
+    pub fn of_fitted(
+        alloc: Global,
+        places: Vec<u16>,
+        fitted: Vec<FittedGlyph>,
+        frame: Frame,
+        line: &[(u16, u32)],
+        most: usize,
+    ) -> Result<Option<Glyphs>, AllocError>
+        requires frame { FrameFits frame }
+        requires places { ArePlaces places.items (fitted_numbers fitted.items) }
+        requires known { All (λ g. g.0 < length places.items) line.now }
+        requires numbers { fitted_numbers fitted.items ≡ distinct (map (λ g. g.0) line.now) }
+        requires pens { All (λ g. g.1 ≤ width_limit) line.now }
+        ensures valid { IfOk result (λ o. IfSome o (λ g. AreSeated (length places.items) g.places.items g.made.items)) }
+        ensures line { IfOk result (λ o. IfSome o (λ g. (maker : ℕ → Fitter) → AreFitted maker fitted.items → AreOfLine false maker frame line.now g.made.items)) }
+        ensures few { IfOk result (λ o. IfSome o (λ g. fitted_chords fitted.items ≤ most)) }
+        ensures many { IfOk result (λ o. IfNone o (most < fitted_chords fitted.items)) }
+    {
+        let room = pens_room(line.len());
+        let Some(made) = drawn_glyphs(alloc, fitted, frame, room, most)? else {
+            return Ok(None);
+        };
+        let glyphs = Glyphs {
+            places,
+            made,
+            room,
+            cost: 0,
+        };
+        let stood = glyphs.standing(line)?;
+        Ok(Some(stood))
+    }
+}
+
+/// How many pens each glyph of a line of `count` characters has room for at first.
+fn pens_room(count: usize) -> usize {
+    (count / 16).clamp(4, 64)
 }
 
 /// The glyphs of a line, each once with all its pens. Errors: those of their outlines in the order of the line, Memory.

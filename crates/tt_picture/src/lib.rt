@@ -2,6 +2,8 @@
 //!
 //! ```text
 //! cache.rt      the cache of glyphs, which may be absent
+//! fitted.rt     a glyph of a line whose outline is made, before its edges are
+//! fitting.rt    the outlines of a line's distinct glyphs, and the steps of its characters
 //! glyph.rt      a glyph of a line: a tape of edges or a raster, its dropout rules and its pens
 //! glyphs.rt     the distinct glyphs of a line, made in order
 //! reframing.rt  glyphs moved into another frame
@@ -19,6 +21,8 @@
 mod cache;
 mod counting;
 mod dropouts;
+mod fitted;
+mod fitting;
 mod glyph;
 mod glyphs;
 mod ink_box;
@@ -31,6 +35,8 @@ mod rows;
 
 pub use cache::Cache;
 pub use counting::crossings;
+pub use fitted::FittedGlyph;
+pub use fitting::{fit_glyphs, put_steps};
 pub use glyph::Glyph;
 pub use glyphs::{Glyphs, line_glyphs};
 pub use ink_box::{InkBox, ink_at, joined};

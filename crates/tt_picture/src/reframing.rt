@@ -27,7 +27,7 @@ impl Glyph {
     /// The glyph in another frame, without a pen. Error: Memory.
     fn reframed(self, alloc: Global, frame: Frame) -> Result<Glyph, AllocError>
         requires frame { FrameFits frame }
-        requires few { length (edges_of self.body) ≤ 2 ^ 17 }
+        requires few { length (edges_of self.body) ≤ 2 ^ 19 }
         ensures number { IfOk result (λ g. g.number ≡ self.number) }
         ensures left { IfOk result (λ g. g.left ≡ 0) }
         ensures pens { IfOk result (λ g. g.pens ≡ []) }
@@ -35,6 +35,8 @@ impl Glyph {
     {
         let Glyph {
             number,
+            step,
+            chords,
             body,
             filled,
             ends,
@@ -47,6 +49,8 @@ impl Glyph {
         let body = tape_of(alloc, list, frame)?;
         Ok(Glyph {
             number,
+            step,
+            chords,
             body,
             filled,
             ends,
@@ -64,7 +68,7 @@ pub(crate) fn reframed_glyphs(
     glyphs: Vec<Glyph>,
 ) -> Result<Vec<Glyph>, AllocError>
     requires frame { FrameFits frame }
-    requires few { All (λ g. length (edges_of g.body) ≤ 2 ^ 17) glyphs.items }
+    requires few { All (λ g. length (edges_of g.body) ≤ 2 ^ 19) glyphs.items }
     ensures numbers { IfOk result (λ v. numbers_of v.items ≡ numbers_of glyphs.items) }
     ensures bare { IfOk result (λ v. All (λ g. (g.left ≡ 0) × (g.pens ≡ [])) v.items) }
     ensures drawn { IfOk result (λ v. (maker : ℕ → Fitter) (f : Frame) → AreDrawn false maker f glyphs.items → AreDrawn false maker frame v.items) }

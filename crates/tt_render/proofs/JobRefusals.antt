@@ -1,22 +1,24 @@
 -- Which refusals of a job need the font.
-use Rattle.std.proofs.Common.{◌≡◌, ℕ, ◌&&◌, ◌||◌, nat_lt, if◌then◌else◌, Bool, true, false, List, length, Result, Ok, Err, inl, inr, ap, refl}
+use Rattle.std.proofs.Common.{◌≡◌, ℕ, ◌&&◌, ◌||◌, nat_lt, if◌then◌else◌, Bool, true, false, List, length, map, Result, Ok, Err, inl, inr, ap, refl}
 use Rattle.tt_cmap.specs.Lookup.{Cmap}
 use Rattle.tt_core.specs.declared.fault.JobFault.{JobFault}
 use Rattle.tt_core.specs.declared.fault.JobFault.TheVariants as fault
 use Rattle.tt_core.specs.Chains.{was-err}
 use Rattle.tt_core.specs.Faults.{Fault}
-use Rattle.tt_core.specs.Limits.{font_limit, margin_limit, size_limit}
+use Rattle.tt_core.specs.Limits.{font_limit, margin_limit, point_work_limit, size_limit}
 use Rattle.tt_core.specs.Outcomes.{◌>>=◌}
 use Rattle.tt_fit.specs.declared.programs.Fit.{Fit}
 use Rattle.tt_fit.specs.Fitting.{Fitter}
-use Rattle.tt_line.specs.Layout.{Placement, extent_of, placement, text_glyphs, within_limits}
+use Rattle.tt_line.specs.Layout.{Placement, advances_of, depth_of, extent_by, laid_at, placement, rise_of, text_glyphs, within_limits}
+use Rattle.tt_line.specs.declared.extent.PictureExtent.{PictureExtent}
 use Rattle.tt_metrics.specs.Metrics.{Metrics}
+use Rattle.tt_picture.specs.Pixels.{Shape}
 use Rattle.tt_strike.specs.Job.{Job, margin_tested, size_tested, tested, text_tested}
-use Rattle.tt_strike.specs.Picture.{crossings_tested, drawn, line_shapes, pictured, pictured_by, points_tested, setting_in, shapes_in}
+use Rattle.tt_strike.specs.Picture.{drawn, edges_tested, line_shapes, outlines_in, outlines_tested, pictured, pictured_by, placed_by_steps, points_tested, setting_in, shapes_in, steps_in, text_placed}
 use Rattle.tt_strike.specs.Refusals.{Refused, as_font, as_job, job, large, needs_font}
 use Rattle.tt_face.specs.Faces.{Face}
 use Rattle.tt_face.specs.Files.{face_of}
-use Rattle.tt_strike.specs.Work.{is_bounded, work_tested}
+use Rattle.tt_strike.specs.Work.{chord_limit, chords_in, edges_limited, is_bounded, lays_after_glyphs, points_in, work_tested}
 use Rattle.tt_render_run.specs.File.{as_file}
 use Rattle.tt_render_run.specs.Run.{run_outcome}
 use Rattle.tt_render_run.proofs.Files.{no_image}
@@ -72,18 +74,34 @@ by_limits true tall e j refused = let same : fault.EmptyPicture ≡ j = cc in rw
 by_limits false true e j refused = let same : fault.PictureLarge ≡ j = cc in rw (← same) refl
 by_limits false false e j refused = absurd cc
 
-extent_late : (m : Metrics) (ppem margin : ℕ) (gs : List ℕ) (j : JobFault)
-    → within_limits (extent_of m ppem margin gs) ≡ Err j → needs_font j ≡ true
+extent_late : (e : PictureExtent) (j : JobFault) → within_limits e ≡ Err j → needs_font j ≡ true
 unfolding within_limits
-extent_late m ppem margin gs j refused = by_limits _ _ _ j refused
+extent_late e j refused = by_limits _ _ _ j refused
+
+laid_late : (m : Metrics) (ppem margin : ℕ) (gs steps : List ℕ) (j : JobFault) → laid_at m ppem margin gs steps ≡ Err j
+    → needs_font j ≡ true
+laid_late m ppem margin gs steps j refused =
+    let e = extent_by steps margin (rise_of m ppem) (depth_of m ppem) in
+    elim (was-err (within_limits e) _ j refused) [
+      | inl first ↦ extent_late e j first
+      | inr none ↦ let placed = none.rest in absurd cc
+    ]
 
 placement_late : (m : Metrics) (cmap : Cmap) (text : List ℕ) (ppem margin : ℕ) (j : JobFault)
     → placement m cmap text ppem margin ≡ Err j → needs_font j ≡ true
 unfolding placement
 placement_late m cmap text ppem margin j refused =
-    elim (was-err (within_limits (extent_of m ppem margin (text_glyphs cmap text))) _ j refused) [
-      | inl first ↦ extent_late m ppem margin (text_glyphs cmap text) j first
-      | inr none ↦ let placed = none.rest in absurd cc
+    let gs = text_glyphs cmap text in
+    laid_late m ppem margin gs (advances_of m ppem gs) j refused
+
+edges_late : (s : Fitter) (a : Job) (line : Placement) (glyphs : List Shape) (j : JobFault)
+    → as_job (edges_tested s a line glyphs) ≡ Err (job j) → needs_font j ≡ true
+unfolding edges_limited
+edges_late s a line glyphs j refused =
+    let gs = map (λ (g : ℕ × ℕ). g.0) line.glyphs in
+    elim (was-err (work_tested a.fit chord_limit (chords_in s gs)) _ j (job_alone _ j refused)) [
+      | inl first ↦ work_late _ _ _ j (ap as_job first)
+      | inr later ↦ work_late _ _ _ j (ap as_job later.rest)
     ]
 
 shapes_late : (s : Fitter) (a : Job) (line : Placement) (j : JobFault) → line_shapes s a line ≡ Err (job j)
@@ -92,8 +110,8 @@ shapes_late s a line j refused = elim (was-err (as_job (points_tested s a line))
   | inl first ↦ work_late _ _ _ j first
   | inr later ↦ elim (was-err (as_font (shapes_in s line)) _ (job j) later.rest) [
     | inl second ↦ absurd (no_font (shapes_in s line) j second)
-    | inr made ↦ elim (was-err (as_job (crossings_tested s a line made.value)) _ (job j) made.rest) [
-      | inl third ↦ work_late _ _ _ j third
+    | inr made ↦ elim (was-err (as_job (edges_tested s a line made.value)) _ (job j) made.rest) [
+      | inl third ↦ edges_late s a line made.value j third
       | inr none ↦ let made = none.rest in absurd cc
     ]
   ]
@@ -110,11 +128,39 @@ drawn_late face a line j refused = elim (was-err (as_font (setting_in face a)) _
   ]
 ]
 
+outlines_late : (s : Fitter) (how : Fit) (gs : List ℕ) (j : JobFault) → outlines_tested s how gs ≡ Err (job j)
+    → needs_font j ≡ true
+outlines_late s how gs j refused =
+    elim (was-err (as_job (work_tested how point_work_limit (points_in s gs))) _ (job j) refused) [
+      | inl first ↦ work_late _ _ _ j first
+      | inr later ↦ absurd (no_font (outlines_in s gs) j later.rest)
+    ]
+
+steps_late : (face : Face) (a : Job) (j : JobFault) → placed_by_steps face a ≡ Err (job j) → needs_font j ≡ true
+unfolding placed_by_steps
+steps_late face a j refused =
+    let gs = text_glyphs face.cmap a.text in
+    elim (was-err (as_font (setting_in face a)) _ (job j) refused) [
+      | inl first ↦ absurd (no_font (setting_in face a) j first)
+      | inr set ↦ elim (was-err (outlines_tested set.value a.fit gs) _ (job j) set.rest) [
+        | inl second ↦ outlines_late set.value a.fit gs j second
+        | inr made ↦ laid_late face.metrics a.ppem a.margin gs (steps_in set.value gs) j (job_alone _ j made.rest)
+      ]
+    ]
+
+placed_late : (bounded : Bool) (face : Face) (a : Job) (j : JobFault)
+    → (if bounded then placed_by_steps face a else as_job (placement face.metrics face.cmap a.text a.ppem a.margin)) ≡ Err (job j)
+    → needs_font j ≡ true
+placed_late true face a j refused = steps_late face a j refused
+placed_late false face a j refused =
+    placement_late face.metrics face.cmap a.text a.ppem a.margin j
+    (job_alone (placement face.metrics face.cmap a.text a.ppem a.margin) j refused)
+
 pictured_late : (face : Face) (a : Job) (j : JobFault) → pictured_by face a ≡ Err (job j) → needs_font j ≡ true
-unfolding pictured_by
+unfolding pictured_by text_placed
 pictured_late face a j refused =
-    let laid = placement face.metrics face.cmap a.text a.ppem a.margin in elim (was-err (as_job laid) _ (job j) refused) [
-      | inl first ↦ placement_late face.metrics face.cmap a.text a.ppem a.margin j (job_alone laid j first)
+    elim (was-err (text_placed face a) _ (job j) refused) [
+      | inl first ↦ placed_late (lays_after_glyphs a.fit) face a j first
       | inr later ↦ drawn_late face a later.value j later.rest
     ]
 

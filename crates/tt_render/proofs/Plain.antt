@@ -8,12 +8,11 @@ use Rattle.tt_core.specs.Chains.{came-through, passed-on}
 use Rattle.tt_core.specs.Limits.{font_limit}
 use Rattle.tt_core.specs.Outcomes.{◌>>=◌}
 use Rattle.tt_picture.specs.declared.report.Unfitted.{Unfitted}
-use Rattle.tt_line.specs.Layout.{placement}
 use Rattle.tt_picture.specs.Pictures.{Image}
 use Rattle.tt_picture.specs.Unfitted.{ListsOnce}
 use Rattle.tt_picture.proofs.Listing.{lists_once}
 use Rattle.tt_strike.specs.Job.{Job, tested}
-use Rattle.tt_strike.specs.Picture.{line_shapes, pictured, pictured_by, setting_in}
+use Rattle.tt_strike.specs.Picture.{line_shapes, pictured, pictured_by, setting_in, text_placed}
 use Rattle.tt_strike.specs.Refusals.{Refused, as_font, as_job, font, job, large}
 use Rattle.tt_strike.specs.Report.{line_report, report_by, report_of}
 use Rattle.tt_strike.specs.Strikes.{Strike, job_of}
@@ -135,7 +134,7 @@ report_of_file a text file s opened =
 listed_once : (face : Face) (a : Job) (entries : List Unfitted) → report_by face a ≡ Ok entries → ListsOnce entries
 unfolding report_by line_report
 listed_once face a entries is =
-    let by_line = came-through (as_job (placement face.metrics face.cmap a.text a.ppem a.margin)) _ entries is in
+    let by_line = came-through (text_placed face a) _ entries is in
     let by_setting = came-through (as_font (setting_in face a)) _ entries by_line.rest in
     let by_shapes = came-through (line_shapes by_setting.value a by_line.value) _ entries by_setting.rest in
     let numbers = map (λ (g : ℕ × ℕ). g.0) by_line.value.glyphs in

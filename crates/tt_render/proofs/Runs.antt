@@ -7,14 +7,14 @@ use Rattle.tt_core.specs.Chains.{came-through, passed-on}
 use Rattle.tt_core.specs.Limits.{font_limit}
 use Rattle.tt_core.specs.Outcomes.{◌>>=◌}
 use Rattle.tt_fit.specs.Fitting.{Fitter}
-use Rattle.tt_line.specs.Layout.{Placement, placement}
+use Rattle.tt_line.specs.Layout.{Placement}
 use Rattle.tt_strike.specs.Costs.{cost_by, line_cost}
 use Rattle.tt_picture.specs.declared.report.Unfitted.{Unfitted}
 use Rattle.tt_picture.specs.Distinct.{distinct}
 use Rattle.tt_picture.specs.Pictures.{Image}
 use Rattle.tt_strike.specs.Work.{line_fitter}
 use Rattle.tt_strike.specs.Job.{Job, tested}
-use Rattle.tt_strike.specs.Picture.{drawn, line_outcome, line_shapes, pictured, pictured_by, setting_in}
+use Rattle.tt_strike.specs.Picture.{drawn, line_outcome, line_shapes, pictured, pictured_by, setting_in, text_placed}
 use Rattle.tt_picture.specs.Pixels.{Shape}
 use Rattle.tt_strike.specs.Refusals.{Refused, as_font, as_job, job, large}
 use Rattle.tt_picture.specs.Unfitted.{unfitted_among}
@@ -35,7 +35,7 @@ use Rattle.tt_render.specs.Texts.{TextAnswer, TextRefusal, answer_of, as_text, m
 
 -- a text with a picture has a report
 report_is : (face : Face) (a : Job) (line : Placement) (s : Fitter) (shapes : List Shape)
-    → as_job (placement face.metrics face.cmap a.text a.ppem a.margin) ≡ Ok line
+    → text_placed face a ≡ Ok line
     → as_font (setting_in face a) ≡ Ok s → line_shapes s a line ≡ Ok shapes
     → report_by face a ≡ Ok (unfitted_among (line_fitter s (map (λ g. g.0) line.glyphs)) (distinct (map (λ g. g.0) line.glyphs)))
 unfolding report_by line_report
@@ -46,8 +46,7 @@ has_report : (face : Face) (a : Job) (i : Image) → line_outcome face a ≡ Ok 
 unfolding line_outcome pictured_by drawn
 has_report face a i was =
     let by_tests = came-through (as_job (tested a)) _ i was in
-    let by_line = came-through (as_job (placement face.metrics face.cmap a.text a.ppem a.margin)) _ i
-    by_tests.rest in
+    let by_line = came-through (text_placed face a) _ i by_tests.rest in
     let by_setting = came-through (as_font (setting_in face a)) _ i by_line.rest in
     let by_shapes = came-through (line_shapes by_setting.value a by_line.value) _ i by_setting.rest in
     let numbers = map (λ (g : ℕ × ℕ). g.0) by_line.value.glyphs in (
@@ -61,7 +60,7 @@ goes_on : {X : Type 0} (r : Result X Refused) (x : X) (f : X → Result ℕ Refu
 goes_on r x f is (n, last) = (n, rw is last)
 
 cost_is : (face : Face) (a : Job) (line : Placement) (s : Fitter) (shapes : List Shape)
-    → as_job (placement face.metrics face.cmap a.text a.ppem a.margin) ≡ Ok line
+    → text_placed face a ≡ Ok line
     → as_font (setting_in face a) ≡ Ok s → line_shapes s a line ≡ Ok shapes → (n : ℕ) × (cost_by face a ≡ Ok n)
 unfolding cost_by line_cost
 cost_is face a line s shapes laid made drawn = goes_on _ line _ laid (goes_on _ s _ made (goes_on _ shapes _ drawn (_, refl)))
@@ -71,8 +70,7 @@ has_cost : (face : Face) (a : Job) (i : Image) → line_outcome face a ≡ Ok i
 unfolding line_outcome pictured_by drawn
 has_cost face a i was =
     let by_tests = came-through (as_job (tested a)) _ i was in
-    let by_line = came-through (as_job (placement face.metrics face.cmap a.text a.ppem a.margin)) _ i
-    by_tests.rest in
+    let by_line = came-through (text_placed face a) _ i by_tests.rest in
     let by_setting = came-through (as_font (setting_in face a)) _ i by_line.rest in
     let by_shapes = came-through (line_shapes by_setting.value a by_line.value) _ i by_setting.rest in
     cost_is face a by_line.value by_setting.value by_shapes.value by_line.first by_setting.first by_shapes.first

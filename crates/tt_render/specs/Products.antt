@@ -2,7 +2,6 @@
 use Rattle.std.specs.Prelude.{◌≡◌, ℕ, Bool, true, false, List, chars, length, string_bytes, Result, Ok, IsOkAnd, ⊤}
 use Rattle.tt_core.specs.Bits.{stride}
 use Rattle.tt_core.specs.Outcomes.{◌>>=◌}
-use Rattle.tt_line.specs.Layout.{placement}
 use Rattle.tt_scan_edges.specs.declared.edge.Frame.{Frame}
 use Rattle.tt_picture.specs.declared.report.Unfitted.{Unfitted}
 use Rattle.tt_picture.specs.Pictures.{Image, IsReady, Picture}
@@ -10,7 +9,7 @@ use Rattle.tt_strike.specs.Costs.{cost_by}
 use Rattle.tt_strike.specs.Grown.{grown_measured, grown_outcome, grown_placement}
 use Rattle.tt_strike.specs.Job.{Job}
 use Rattle.tt_strike.specs.Measures.{Measure, measured}
-use Rattle.tt_strike.specs.Picture.{frame_of, line_outcome}
+use Rattle.tt_strike.specs.Picture.{frame_of, line_outcome, text_placed}
 use Rattle.tt_strike.specs.Refusals.{Refused}
 use Rattle.tt_strike.specs.Report.{report_by}
 use Rattle.tt_strike.specs.Strikes.{Strike, job_of}
@@ -30,8 +29,7 @@ picture_by true face j = grown_outcome face j
 
 -- the frame of that picture
 abbrev pub IsFramed : Bool → Face → Job → Frame → Type 0
-IsFramed false face j f =
-    IsOkAnd (placement face.metrics face.cmap j.text j.ppem j.margin) (λ l. f ≡ frame_of l j.margin)
+IsFramed false face j f = IsOkAnd (text_placed face j) (λ l. f ≡ frame_of l j.margin)
 IsFramed true face j f = IsOkAnd (grown_placement face j) (λ l. f ≡ frame_of l j.margin)
 
 -- a picture of a job by a font's tables: its frame, its unfitted glyphs, and what it takes of the budget of many lines

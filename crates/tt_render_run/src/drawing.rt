@@ -23,8 +23,10 @@ pub struct Drawn {
 }
 
 /// The picture of a job by a font file, and memory for one of its rows. Errors, the first of: those of the tables
-/// needed for every text; EmptyPicture, PictureLarge; those of loca and glyf; those of the programs; WorkLarge of its
-/// points; those of the glyphs in the order of the text; WorkLarge of its crossings. Memory may come at any allocation.
+/// needed for every text; EmptyPicture, PictureLarge; those of loca and glyf; those of the programs; those of the glyphs
+/// in the order of the text. With `Fit::Best` WorkLarge of the points comes before those of the glyphs. There
+/// EmptyPicture and PictureLarge come after the glyphs, then WorkLarge of the chords, and of the crossings. Memory may
+/// come at any allocation.
 #[tactic(auto, unfolding(tt_strike::specs::Picture::pictured, tt_strike::specs::Report::report_of))]
 pub(crate) fn draw(alloc: Global, file: &[u8], job: &Job) -> Result<Drawn, DrawFault>
     requires size { length file.now ≤ font_limit }

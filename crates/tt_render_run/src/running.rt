@@ -24,8 +24,9 @@ use tt_strike::{Job, Report, test_job};
 /// are made; from then on no memory is taken. The report lists the glyphs that could not be fitted.
 ///
 /// Errors, the first of: Job (SizeRange, MarginRange, TextLong), before the font is read; Read, FontLarge; Font and Job
-/// (EmptyPicture, PictureLarge), in reading order, with the picture's size known after cmap; Job (WorkLarge); Write.
-/// WorkLarge comes with `Fit::Best` alone: for too many points, before the glyphs are made, or for too many crossings
+/// (EmptyPicture, PictureLarge, WorkLarge), in reading order; Write. The picture's size is known after cmap, and with
+/// `Fit::Best` once the outlines of its glyphs are made. WorkLarge comes with `Fit::Best` alone: for too many points,
+/// before the outlines are made; and after the picture's size is tested, for too many chords, or for too many crossings
 /// of rows, in the picture and outside, with the search for dropouts. Memory may come at any allocation.
 pub fn run<R: Source, W: Sink>(
     alloc: Global,

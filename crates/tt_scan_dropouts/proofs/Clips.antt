@@ -1,15 +1,14 @@
 -- The part of a window that lies in a box. A glyph's dropouts need be sought in its box alone.
-use Rattle.std.proofs.Common.{◌≡◌, refl, sym, ◌∙◌, ℕ, Bool, true, false, ◌&&◌, List, map, subst, arith}
+use Rattle.std.proofs.Common.{◌≡◌, refl, sym, ◌∙◌, ℕ, Bool, true, false, ◌&&◌, List, arith}
 use Rattle.std.specs.Prelude.{ℤ, pos, ◌+ℤ◌, ◌-ℤ◌, ◌≤ℤ◌, ◌<ℤ◌, int_le, int_lt, unsigned_abs}
 use Rattle.std.specs.Int.{int_max, int_min}
 use Rattle.std.proofs.lemmas.Int.{clamps, ints}
 use Rattle.tt_scan_edges.specs.declared.edge.Edge.{Edge}
-use Rattle.tt_scan_gaps.specs.Boxes.{ColumnsFit, columns_of, is_column_of}
-use Rattle.tt_scan_gaps.specs.Seen.{turned_round}
+use Rattle.tt_scan_gaps.specs.Boxes.{ColumnsFit, HoldsEdges, columns_in, is_column_of, rows_in}
 use Rattle.tt_scan_dropouts.specs.Dropouts.{edges_of, is_dropout}
 use Rattle.tt_scan_dropouts.specs.Windows.{IsPart, WindowFits, box_has, has, is_within, widened}
 use Rattle.tt_scan_gaps.specs.declared.mark.Columns.{Columns}
-use Rattle.tt_scan_gaps.specs.declared.mark.Rules.{Rules}
+use Rattle.tt_scan_dropouts.specs.declared.boxed.BoxedRules.{BoxedRules}
 use Rattle.tt_scan_dropouts.specs.declared.window.Part.{Part}
 use Rattle.tt_scan_dropouts.specs.declared.window.Window.{Window}
 use Rattle.tt_scan_dropouts.proofs.InBox.{LiesInBox, dropout_in_box}
@@ -118,25 +117,23 @@ cut_alike cut window box is cuts within = grind (arith, cuts, within)
 cut_away : (window box is : Bool) → (window && box) ≡ false → (is ≡ true → box ≡ true) → (window && is) ≡ false
 cut_away window box is cuts within = grind (arith, cuts, within)
 
-dropout_boxed : (rules : Rules) (contours : List (List Edge)) (es : List Edge) (c j : ℤ) → edges_of contours ≡ es
-    → is_dropout rules contours c j ≡ true → box_has (columns_of es) (columns_of (map turned_round es)) c j ≡ true
-dropout_boxed rules contours es c j all is =
-    box_has_it (columns_of es) (columns_of (map turned_round es)) c j
-    (subst (λ es. LiesInBox (columns_of es) (columns_of (map turned_round es)) c j) all
-    (dropout_in_box rules contours c j is))
+pub dropout_boxed : (rules : BoxedRules) (contours : List (List Edge)) (c j : ℤ) → HoldsEdges rules.extents (edges_of contours)
+    → is_dropout rules contours c j ≡ true → box_has (columns_in rules.extents) (rows_in rules.extents) c j ≡ true
+dropout_boxed rules contours c j held is =
+    box_has_it (columns_in rules.extents) (rows_in rules.extents) c j (dropout_in_box rules contours c j held is)
 
-pub clipped_alike : (rules : Rules) (contours : List (List Edge)) (es : List Edge) (window w : Window) (c j : ℤ)
-    → edges_of contours ≡ es
-    → has w c j ≡ (has window c j && box_has (columns_of es) (columns_of (map turned_round es)) c j)
+pub clipped_alike : (rules : BoxedRules) (contours : List (List Edge)) (window w : Window) (c j : ℤ)
+    → HoldsEdges rules.extents (edges_of contours)
+    → has w c j ≡ (has window c j && box_has (columns_in rules.extents) (rows_in rules.extents) c j)
     → (has w c j && is_dropout rules contours c j) ≡ (has window c j && is_dropout rules contours c j)
-clipped_alike rules contours es window w c j all cuts =
-    cut_alike (has w c j) (has window c j) (box_has (columns_of es) (columns_of (map turned_round es)) c j)
-    (is_dropout rules contours c j) cuts (dropout_boxed rules contours es c j all)
+clipped_alike rules contours window w c j held cuts =
+    cut_alike (has w c j) (has window c j) (box_has (columns_in rules.extents) (rows_in rules.extents) c j)
+    (is_dropout rules contours c j) cuts (dropout_boxed rules contours c j held)
 
-pub clipped_away : (rules : Rules) (contours : List (List Edge)) (es : List Edge) (window : Window) (c j : ℤ)
-    → edges_of contours ≡ es
-    → (has window c j && box_has (columns_of es) (columns_of (map turned_round es)) c j) ≡ false
+pub clipped_away : (rules : BoxedRules) (contours : List (List Edge)) (window : Window) (c j : ℤ)
+    → HoldsEdges rules.extents (edges_of contours)
+    → (has window c j && box_has (columns_in rules.extents) (rows_in rules.extents) c j) ≡ false
     → (has window c j && is_dropout rules contours c j) ≡ false
-clipped_away rules contours es window c j all cuts =
-    cut_away (has window c j) (box_has (columns_of es) (columns_of (map turned_round es)) c j)
-    (is_dropout rules contours c j) cuts (dropout_boxed rules contours es c j all)
+clipped_away rules contours window c j held cuts =
+    cut_away (has window c j) (box_has (columns_in rules.extents) (rows_in rules.extents) c j)
+    (is_dropout rules contours c j) cuts (dropout_boxed rules contours c j held)

@@ -12,16 +12,17 @@ use Rattle.tt_scan_edges.specs.declared.edge.Edge.{Edge}
 use Rattle.tt_scan_edges.specs.declared.edge.Frame.{Frame}
 use Rattle.tt_scan_edges.specs.Winding.{crossings_of, is_between, row_y, rows_met}
 use Rattle.tt_scan_edges.proofs.Ranges.{between_from}
-use Rattle.tt_scan_dropouts.specs.Counted.{bands, bands_bytes, bitmap_bytes, box_columns, box_rows, edges_counted, filling_counted, numbers_in, rows_crossed, rows_of_band}
+use Rattle.tt_scan_dropouts.specs.Counted.{bands, bands_bytes, bitmap_bytes, box_rows, edges_counted, extent_columns, extent_rows, filling_counted, numbers_in, rows_crossed, rows_of_band}
 use Rattle.tt_scan_gaps.specs.Crossings.{line_from, lines_crossed}
-use Rattle.tt_scan_gaps.specs.Boxes.{columns_of}
+use Rattle.tt_scan_gaps.specs.Boxes.{columns_between, columns_of, rows_in}
 use Rattle.tt_scan_gaps.specs.Seen.{turned_round}
 use Rattle.tt_scan_dropouts.specs.Dropouts.{crossed}
-use Rattle.tt_scan_dropouts.specs.Laws.{BandsAreCounted, BitmapIsCounted, CountsStay, RowsAreCounted, moved}
+use Rattle.tt_scan_dropouts.specs.Laws.{BandsAreCounted, BitmapIsCounted, CountsStay, RowsAreCounted, extents_moved, moved}
+use Rattle.tt_scan_gaps.specs.declared.extent.Extents.{Extents}
 use Rattle.tt_scan_gaps.specs.declared.mark.Columns.{Columns}
 use Rattle.tt_scan_gaps.proofs.Lines.{floor_high, floor_low}
 use Rattle.tt_scan_dropouts.proofs.Moved.{contour_turned}
-use Rattle.tt_scan_dropouts.proofs.MovedGaps.{box_moved, columns_moved}
+use Rattle.tt_scan_dropouts.proofs.MovedGaps.{between_moved, box_moved, columns_moved}
 use Rattle.tt_scan_dropouts.proofs.MovedLines.{apart_moved, line_from_moved}
 
 -- whether a row meets an edge, as a count
@@ -135,11 +136,11 @@ within_bands c w r h narrow low =
 
 pub bitmap_is_counted : BitmapIsCounted
 unfolding filling_counted
-bitmap_is_counted es columns rows narrow low =
-    let b = columns_of (map turned_round es) in
-    counted_too (bitmap_bytes columns rows) (bands_bytes (box_columns es) (box_rows es))
-    ((bands (box_rows es) + 3) * crossed es)
-    (within_bands columns (box_columns es) rows (unsigned_abs (b.last -ℤ b.first)) narrow low)
+bitmap_is_counted b es columns rows narrow low =
+    let r = rows_in b in
+    counted_too (bitmap_bytes columns rows) (bands_bytes (extent_columns b) (extent_rows b))
+    ((bands (extent_rows b) + 3) * crossed es)
+    (within_bands columns (extent_columns b) rows (unsigned_abs (r.last -ℤ r.first)) narrow low)
 
 -- the rows of all bands are all rows
 one_more_band : (rows k n rest : ℕ) → rest ≡ min (2048 * n) (rows - 2048 * (k + 1))
@@ -175,21 +176,25 @@ wider c w rows narrow = mul-le-mul_right (rows + 4 * bands rows) (strides (c + 4
 
 pub bands_are_counted : BandsAreCounted
 unfolding filling_counted
-bands_are_counted es columns narrow =
-    let rows = box_rows es in
+bands_are_counted b es columns narrow =
+    let rows = extent_rows b in
     let bytes = bytes_of_bands columns rows 0 (bands rows)
     ∙ ap (λ m. stride (columns + 4) * (m + 4 * bands rows)) (all_rows rows) in
-    sum_counted _ (bands_bytes columns rows) (bands_bytes (box_columns es) rows) ((bands rows + 3) * crossed es) bytes
-    (wider columns (box_columns es) rows narrow)
+    sum_counted _ (bands_bytes columns rows) (bands_bytes (extent_columns b) rows) ((bands rows + 3) * crossed es) bytes
+    (wider columns (extent_columns b) rows narrow)
 
 -- edges moved by whole pixels
 
 numbers_moved : (k : ℤ) (b : Columns) → numbers_in (columns_moved k b) ≡ numbers_in b
 numbers_moved k b = ap (λ d. unsigned_abs d + 1) (apart_moved b.last b.first k)
 
-box_columns_stay : (k m : ℤ) (es : List Edge) → box_columns (map (moved k m) es) ≡ box_columns es
+box_columns_stay : (k m : ℤ) (es : List Edge) → numbers_in (columns_of (map (moved k m) es)) ≡ numbers_in (columns_of es)
 box_columns_stay k m [] = refl
 box_columns_stay k m (e ∷ es) = ap numbers_in (box_moved k m e es) ∙ numbers_moved k (columns_of (e ∷ es))
+
+extent_stays : (k low high : ℤ) → numbers_in (columns_between (low +ℤ pos 8192 *ℤ k) (high +ℤ pos 8192 *ℤ k))
+    ≡ numbers_in (columns_between low high)
+extent_stays k low high = ap numbers_in (between_moved k low high) ∙ numbers_moved k (columns_between low high)
 
 box_rows_stay : (k m : ℤ) (es : List Edge) → box_rows (map (moved k m) es) ≡ box_rows es
 box_rows_stay k m es = ap (λ turned. numbers_in (columns_of turned)) (contour_turned k m es)
@@ -223,12 +228,13 @@ filling_as : (c d w v h g : ℕ) → c ≡ d → w ≡ v → h ≡ g
     → (bands h + 3) * c + bands_bytes w h / 64 ≡ (bands g + 3) * d + bands_bytes v g / 64
 filling_as c d w v h g lines columns rows = rw (lines, columns, rows) refl
 
-pub filling_stays : (k m : ℤ) (es : List Edge) → filling_counted (map (moved k m) es) ≡ filling_counted es
+pub filling_stays : (k m : ℤ) (b : Extents) (es : List Edge)
+    → filling_counted (extents_moved k m b) (map (moved k m) es) ≡ filling_counted b es
 unfolding filling_counted
-filling_stays k m es =
-    filling_as (crossed (map (moved k m) es)) (crossed es) (box_columns (map (moved k m) es)) (box_columns es)
-    (box_rows (map (moved k m) es)) (box_rows es) (crossed_stay k m es) (box_columns_stay k m es)
-    (box_rows_stay k m es)
+filling_stays k m b es =
+    filling_as (crossed (map (moved k m) es)) (crossed es) (extent_columns (extents_moved k m b)) (extent_columns b)
+    (extent_rows (extents_moved k m b)) (extent_rows b) (crossed_stay k m es)
+    (extent_stays k b.across.low b.across.high) (extent_stays m b.up.low b.up.high)
 
 pub counts_stay : CountsStay
-counts_stay k m es = (edges_stay k m es, filling_stays k m es)
+counts_stay k m b es = (edges_stay k m es, filling_stays k m b es)

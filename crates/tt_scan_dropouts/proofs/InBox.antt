@@ -1,5 +1,5 @@
 -- The dropouts of an outline lie in its box, so they need be sought there alone.
-use Rattle.std.proofs.Common.{◌≡◌, refl, sym, ◌∙◌, ap, Bool, true, false, ◌&&◌, ◌||◌, List, [], ◌∷◌, ◌++◌, map, filter, if◌then◌else◌, inl, inr, subst, ◌⊎◌, arith}
+use Rattle.std.proofs.Common.{◌≡◌, refl, sym, ◌∙◌, ap, Bool, true, false, ◌&&◌, ◌||◌, List, [], ◌∷◌, ◌++◌, map, filter, if◌then◌else◌, inl, inr, ◌⊎◌, arith}
 use Rattle.std.specs.Prelude.{ℤ, pos, ◌+ℤ◌, ◌-ℤ◌, ◌*ℤ◌, ◌≤ℤ◌, ◌<ℤ◌, int_le, All}
 use Rattle.std.specs.Int.{int_max, int_min}
 use Rattle.std.specs.Ordering.{int_eq}
@@ -9,15 +9,17 @@ use Rattle.std.proofs.lemmas.List.{map-append}
 use Rattle.std.proofs.lemmas.List.Elements.{All-cons, All-head, All-nil, All-tail, All-weaker}
 use Rattle.tt_scan_edges.specs.declared.edge.Edge.{Edge}
 use Rattle.tt_scan_gaps.specs.Crossings.{centre, gap_at, line_from}
-use Rattle.tt_scan_gaps.specs.Boxes.{columns_between, columns_of, greatest_x, least_x}
+use Rattle.tt_scan_gaps.specs.Boxes.{EdgeWithin, HoldsEdges, columns_between, columns_in, columns_of, extents_turned, greatest_x, least_x, rows_in}
 use Rattle.tt_scan_gaps.specs.Seen.{turned_round}
 use Rattle.tt_scan_dropouts.specs.Dropouts.{edges_of, is_added_by_columns, is_added_by_rows, is_dropout, is_inked, outline_turned}
 use Rattle.tt_scan_gaps.specs.Gaps.{asked, boxed, gap_marks, in_gap, is_added, is_asked, is_free, leans_right, some_asks}
 use Rattle.tt_scan_gaps.specs.Walk.{marks}
 use Rattle.tt_scan_gaps.specs.declared.mark.Columns.{Columns}
 use Rattle.tt_scan_gaps.specs.declared.mark.Mark.{Mark}
+use Rattle.tt_scan_gaps.specs.declared.extent.Extents.{Extents}
 use Rattle.tt_scan_gaps.specs.declared.mark.Rules.{Rules}
-use Rattle.tt_scan_gaps.proofs.Bounds.{EdgeLeaves, EdgeWithin, IsWithin, edge_leaves_within}
+use Rattle.tt_scan_dropouts.specs.declared.boxed.BoxedRules.{BoxedRules}
+use Rattle.tt_scan_gaps.proofs.Bounds.{EdgeLeaves, IsWithin, edge_leaves_within}
 use Rattle.tt_scan_dropouts.proofs.Leaves.{outline_leaves}
 use Rattle.tt_scan_gaps.proofs.Lines.{floor_high, floor_low}
 
@@ -163,25 +165,21 @@ outline_within : (l r b t : ℤ) (stubs : Bool) (contours : List (List Edge))
 outline_within l r b t stubs contours h = outline_leaves (IsWithin l r b t) stubs contours
     (All-weaker (EdgeWithin l r b t) (EdgeLeaves (IsWithin l r b t)) (edge_leaves_within l r b t) (edges_of contours) h)
 
+-- the box of a glyph has a pixel
+abbrev pub LiesInExtents : Extents → ℤ → ℤ → Type 0
+LiesInExtents b c j = LiesInBox (columns_in b) (rows_in b) c j
+
+-- the pixels that a pass over the rows of an outline adds lie in a box that holds its edges
+added_in_box : (rules : Rules) (b : Extents) (contours : List (List Edge)) (black : ℤ → ℤ → Bool) (p j : ℤ)
+    → HoldsEdges b (edges_of contours) → is_added rules (columns_in b) (marks rules.stubs contours) black p j ≡ true
+    → LiesInExtents b p j
+added_in_box rules b contours black p j held is =
+    added_within rules b.across.low b.across.high b.up.low b.up.high (marks rules.stubs contours) black p j
+    (outline_within b.across.low b.across.high b.up.low b.up.high rules.stubs contours held) is
+
 -- the box of edges has a pixel
 abbrev pub LiesInBoxOf : List Edge → ℤ → ℤ → Type 0
 LiesInBoxOf es c j = LiesInBox (columns_of es) (columns_of (map turned_round es)) c j
-
--- the pixels that a pass over the rows of an outline adds lie in the box of its edges, whatever is black
-pub added_in_box : (rules : Rules) (contours : List (List Edge)) (es : List Edge) (black : ℤ → ℤ → Bool) (p j : ℤ)
-    → edges_of contours ≡ es → is_added rules (columns_of es) (marks rules.stubs contours) black p j ≡ true
-    → LiesInBoxOf es p j
-added_in_box rules contours [] black p j all is =
-    added_within rules (pos 4096) (pos 4096) (pos 4096) (pos 4096) (marks rules.stubs contours) black p j
-    (outline_within (pos 4096) (pos 4096) (pos 4096) (pos 4096) rules.stubs contours
-    (rw all (All-nil (EdgeWithin (pos 4096) (pos 4096) (pos 4096) (pos 4096))))) is
-added_in_box rules contours (e ∷ es) black p j all is =
-    let l = least_x e.ax (e ∷ es) in
-    let r = greatest_x e.ax (e ∷ es) in
-    let b = least_x e.ay (map turned_round (e ∷ es)) in
-    let t = greatest_x e.ay (map turned_round (e ∷ es)) in
-    added_within rules l r b t (marks rules.stubs contours) black p j
-    (outline_within l r b t rules.stubs contours (rw all (edges_within e.ax e.ay (e ∷ es)))) is
 
 -- the edges of the turned outline are the turned edges, and turned again the edges
 
@@ -195,33 +193,39 @@ pub turned_twice : (es : List Edge) → map turned_round (map turned_round es) �
 turned_twice [] = refl
 turned_twice (e ∷ es) = ap (λ rest. e ∷ rest) (turned_twice es)
 
+-- edges turned lie in the turned box
+held_turned : (b : Extents) (es : List Edge) → HoldsEdges b es → HoldsEdges (extents_turned b) (map turned_round es)
+held_turned b [] held = All-nil (EdgeWithin b.up.low b.up.high b.across.low b.across.high)
+held_turned b (e ∷ es) held =
+    let one = All-head (EdgeWithin b.across.low b.across.high b.up.low b.up.high) e es held in
+    let rest = All-tail (EdgeWithin b.across.low b.across.high b.up.low b.up.high) e es held in
+    All-cons (EdgeWithin b.up.low b.up.high b.across.low b.across.high) (turned_round e) (map turned_round es)
+    (record { left = one.bottom; right = one.top; bottom = one.left; top = one.right }) (held_turned b es rest)
+
 -- a dropout lies in the box
 
-by_rows_in_box : (rules : Rules) (contours : List (List Edge)) (c j : ℤ)
-    → is_added_by_rows rules contours c j ≡ true → LiesInBoxOf (edges_of contours) c j
-by_rows_in_box rules contours c j is = added_in_box rules contours (edges_of contours) (is_inked contours) c j refl is
+by_rows_in_box : (rules : BoxedRules) (contours : List (List Edge)) (c j : ℤ) → HoldsEdges rules.extents (edges_of contours)
+    → is_added_by_rows rules contours c j ≡ true → LiesInExtents rules.extents c j
+by_rows_in_box rules contours c j held is =
+    added_in_box rules.rules rules.extents contours (is_inked contours) c j held is
 
-by_columns_in_box : (rules : Rules) (contours : List (List Edge)) (c j : ℤ)
-    → is_added_by_columns rules contours c j ≡ true → LiesInBoxOf (edges_of contours) c j
-by_columns_in_box rules contours c j is =
-    let turned : LiesInBoxOf (map turned_round (edges_of contours)) j c =
-    added_in_box rules (outline_turned contours) (map turned_round (edges_of contours))
-    (λ j c. is_inked contours c j || is_added_by_rows rules contours c j) j c (edges_turned contours)
-    (ap (λ es. is_added rules (columns_of es) (marks rules.stubs (outline_turned contours))
-    (λ j c. is_inked contours c j || is_added_by_rows rules contours c j) j c) (sym (edges_turned contours)) ∙ is) in
-    record {
-      column = subst (λ es. IsColumnOf (columns_of es) c) (turned_twice (edges_of contours)) turned.row;
-      row = turned.column;
-    }
+by_columns_in_box : (rules : BoxedRules) (contours : List (List Edge)) (c j : ℤ) → HoldsEdges rules.extents (edges_of contours)
+    → is_added_by_columns rules contours c j ≡ true → LiesInExtents rules.extents c j
+by_columns_in_box rules contours c j held is =
+    let turned : HoldsEdges (extents_turned rules.extents) (edges_of (outline_turned contours)) =
+    rw (edges_turned contours) (held_turned rules.extents (edges_of contours) held) in
+    let at = added_in_box rules.rules (extents_turned rules.extents) (outline_turned contours)
+    (λ j c. is_inked contours c j || is_added_by_rows rules contours c j) j c turned is in
+    record { column = at.row; row = at.column }
 
 one_of_two : (a b : Bool) → (a || b) ≡ true → (a ≡ true) ⊎ (b ≡ true)
 one_of_two true b is = inl refl
 one_of_two false b is = inr is
 
-pub dropout_in_box : (rules : Rules) (contours : List (List Edge)) (c j : ℤ)
-    → is_dropout rules contours c j ≡ true → LiesInBoxOf (edges_of contours) c j
-dropout_in_box rules contours c j is =
+pub dropout_in_box : (rules : BoxedRules) (contours : List (List Edge)) (c j : ℤ) → HoldsEdges rules.extents (edges_of contours)
+    → is_dropout rules contours c j ≡ true → LiesInExtents rules.extents c j
+dropout_in_box rules contours c j held is =
     elim (one_of_two (is_added_by_rows rules contours c j) (is_added_by_columns rules contours c j) is) [
-      | inl rows ↦ by_rows_in_box rules contours c j rows
-      | inr columns ↦ by_columns_in_box rules contours c j columns
+      | inl rows ↦ by_rows_in_box rules contours c j held rows
+      | inr columns ↦ by_columns_in_box rules contours c j held columns
     ]

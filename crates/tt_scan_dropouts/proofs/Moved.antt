@@ -1,22 +1,21 @@
 -- Dropouts move with their outline.
-use Rattle.std.proofs.Common.{◌≡◌, refl, sym, ◌∙◌, ap, ap₂, Bool, true, false, not, ◌&&◌, ◌||◌, List, [], ◌∷◌, ◌++◌, arith}
+use Rattle.std.proofs.Common.{◌≡◌, refl, sym, ◌∙◌, ap, ap₂, Bool, not, ◌&&◌, ◌||◌, List, [], ◌∷◌, ◌++◌, arith}
 use Rattle.std.specs.Prelude.{ℤ, pos, ◌+ℤ◌, ◌*ℤ◌, map}
 use Rattle.std.proofs.lemmas.Int.{ints}
 use Rattle.std.proofs.lemmas.List.{map-append}
 use Rattle.tt_scan_edges.specs.declared.edge.Edge.{Edge}
 use Rattle.tt_scan_edges.specs.Winding.{is_between, is_black, is_zero, lies_on, lies_on_one, side, turned, winding}
 use Rattle.tt_scan_gaps.specs.Crossings.{centre}
-use Rattle.tt_scan_gaps.specs.Boxes.{columns_of}
+use Rattle.tt_scan_gaps.specs.Boxes.{columns_in}
 use Rattle.tt_scan_gaps.specs.Seen.{turned_round}
-use Rattle.tt_scan_dropouts.specs.Dropouts.{edges_of, is_added_by_columns, is_added_by_rows, is_inked, outline_turned, row_adds}
+use Rattle.tt_scan_dropouts.specs.Dropouts.{edges_of, is_added_by_columns, is_added_by_rows, is_inked, outline_turned, row_adds, rules_turned}
 use Rattle.tt_scan_gaps.specs.Gaps.{is_added}
-use Rattle.tt_scan_dropouts.specs.Laws.{DropoutsMoved, moved, outline_moved}
-use Rattle.tt_scan_gaps.specs.Walk.{contour_marks, marks}
-use Rattle.tt_scan_gaps.specs.declared.mark.Mark.{Mark}
-use Rattle.tt_scan_gaps.specs.declared.mark.Rules.{Rules}
-use Rattle.tt_scan_dropouts.proofs.MovedGaps.{IsMoved, added_moved, box_moved, none_added, up_to_moved}
+use Rattle.tt_scan_dropouts.specs.Laws.{DropoutsMoved, moved, outline_moved, rules_moved}
+use Rattle.tt_scan_gaps.specs.Walk.{marks}
+use Rattle.tt_scan_dropouts.specs.declared.boxed.BoxedRules.{BoxedRules}
+use Rattle.tt_scan_dropouts.proofs.MovedGaps.{IsMoved, added_moved, between_moved, up_to_moved}
 use Rattle.tt_scan_dropouts.proofs.MovedLines.{apart_moved, centre_moved, less_moved}
-use Rattle.tt_scan_dropouts.proofs.MovedMarks.{mark_moved, marks_moved}
+use Rattle.tt_scan_dropouts.proofs.MovedMarks.{marks_moved}
 
 -- blackness by rules 1 and 2
 
@@ -79,42 +78,20 @@ ink_moved k m contours c j =
     ∙ ap₂ (λ x y. is_black (map (moved k m) (edges_of contours)) x y) (centre_moved c k) (centre_moved j m)
     ∙ black_kept k m (edges_of contours) (centre c) (centre j)
 
--- a pass; an outline without edges has no box and no marks
-
-no_marks : (stubs : Bool) → contour_marks stubs [] ≡ []
-no_marks true = refl
-no_marks false = refl
-
-without_edges : (stubs : Bool) (contours : List (List Edge)) → edges_of contours ≡ [] → marks stubs contours ≡ []
-without_edges stubs [] none = refl
-without_edges stubs ([] ∷ contours) none = ap₂ (λ a b. a ++ b) (no_marks stubs) (without_edges stubs contours none)
-without_edges stubs ((e ∷ es) ∷ contours) none = absurd cc
-
-pass_by : (k m : ℤ) (black there : ℤ → ℤ → Bool) → IsMoved k m black there
-    → (rules : Rules) (es : List Edge) (ms : List Mark) (p j : ℤ) → (es ≡ [] → ms ≡ [])
-    → is_added rules (columns_of (map (moved k m) es)) (map (mark_moved k m) ms) there (p +ℤ k) (j +ℤ m)
-    ≡ is_added rules (columns_of es) ms black p j
-pass_by k m black there same rules [] ms p j none =
-    ap (λ ns. is_added rules (columns_of []) (map (mark_moved k m) ns) there (p +ℤ k) (j +ℤ m)) (none refl)
-    ∙ none_added rules (columns_of []) (columns_of []) there black (p +ℤ k) (j +ℤ m) p j
-    ∙ ap (λ ns. is_added rules (columns_of []) ns black p j) (sym (none refl))
-pass_by k m black there same rules (e ∷ es) ms p j none =
-    ap (λ b. is_added rules b (map (mark_moved k m) ms) there (p +ℤ k) (j +ℤ m)) (box_moved k m e es)
-    ∙ added_moved k m black there same rules (columns_of (e ∷ es)) ms p j
+-- a pass
 
 adds_moved : (k m : ℤ) (black there : ℤ → ℤ → Bool) → IsMoved k m black there
-    → (rules : Rules) (contours : List (List Edge))
-    → IsMoved k m (row_adds rules contours black) (row_adds rules (outline_moved k m contours) there)
+    → (rules : BoxedRules) (contours : List (List Edge))
+    → IsMoved k m (row_adds rules contours black) (row_adds (rules_moved k m rules) (outline_moved k m contours) there)
 adds_moved k m black there same rules contours p j =
-    ap₂ (λ es ms. is_added rules (columns_of es) ms there (p +ℤ k) (j +ℤ m)) (edges_moved k m contours)
-    (marks_moved k m rules.stubs contours)
-    ∙ pass_by k m black there same rules (edges_of contours) (marks rules.stubs contours) p j
-    (without_edges rules.stubs contours)
+    ap₂ (λ b ms. is_added rules.rules b ms there (p +ℤ k) (j +ℤ m))
+    (between_moved k rules.extents.across.low rules.extents.across.high) (marks_moved k m rules.rules.stubs contours)
+    ∙ added_moved k m black there same rules.rules (columns_in rules.extents) (marks rules.rules.stubs contours) p j
 
 -- both passes
 
-rows_moved : (k m : ℤ) (rules : Rules) (contours : List (List Edge))
-    → IsMoved k m (is_added_by_rows rules contours) (is_added_by_rows rules (outline_moved k m contours))
+rows_moved : (k m : ℤ) (rules : BoxedRules) (contours : List (List Edge))
+    → IsMoved k m (is_added_by_rows rules contours) (is_added_by_rows (rules_moved k m rules) (outline_moved k m contours))
 rows_moved k m rules contours = adds_moved k m (is_inked contours) (is_inked (outline_moved k m contours))
     (ink_moved k m contours) rules contours
 
@@ -128,15 +105,15 @@ turned_moved : (k m : ℤ) (contours : List (List Edge))
 turned_moved k m [] = refl
 turned_moved k m (es ∷ contours) = ap₂ (λ a b. a ∷ b) (contour_turned k m es) (turned_moved k m contours)
 
-columns_moved : (k m : ℤ) (rules : Rules) (contours : List (List Edge))
-    → IsMoved k m (is_added_by_columns rules contours) (is_added_by_columns rules (outline_moved k m contours))
+columns_moved : (k m : ℤ) (rules : BoxedRules) (contours : List (List Edge))
+    → IsMoved k m (is_added_by_columns rules contours) (is_added_by_columns (rules_moved k m rules) (outline_moved k m contours))
 columns_moved k m rules contours c j =
-    ap (λ all. row_adds rules all (λ q p. is_inked (outline_moved k m contours) p q
-    || is_added_by_rows rules (outline_moved k m contours) p q) (j +ℤ m) (c +ℤ k)) (turned_moved k m contours)
+    ap (λ all. row_adds (rules_turned (rules_moved k m rules)) all (λ q p. is_inked (outline_moved k m contours) p q
+    || is_added_by_rows (rules_moved k m rules) (outline_moved k m contours) p q) (j +ℤ m) (c +ℤ k)) (turned_moved k m contours)
     ∙ adds_moved m k (λ q p. is_inked contours p q || is_added_by_rows rules contours p q)
-    (λ q p. is_inked (outline_moved k m contours) p q || is_added_by_rows rules (outline_moved k m contours) p q)
+    (λ q p. is_inked (outline_moved k m contours) p q || is_added_by_rows (rules_moved k m rules) (outline_moved k m contours) p q)
     (λ q p. ap₂ (λ a b. a || b) (ink_moved k m contours p q) (rows_moved k m rules contours p q))
-    rules (outline_turned contours) j c
+    (rules_turned rules) (outline_turned contours) j c
 
 pub dropouts_move : DropoutsMoved
 dropouts_move rules contours k m c j =

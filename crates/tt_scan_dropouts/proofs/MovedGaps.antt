@@ -1,5 +1,5 @@
 -- A pass by moved marks adds the pixels moved as far.
-use Rattle.std.proofs.Common.{◌≡◌, refl, sym, ◌∙◌, ap, ap₂, ◌+◌, Bool, true, false, not, ◌&&◌, ◌||◌, nat_le, if◌then◌else◌, List, [], ◌∷◌, filter, inl, inr, arith}
+use Rattle.std.proofs.Common.{◌≡◌, refl, ◌∙◌, ap, ap₂, ◌+◌, Bool, true, false, not, ◌&&◌, ◌||◌, nat_le, if◌then◌else◌, List, [], ◌∷◌, filter, inl, inr, arith}
 use Rattle.std.proofs.lemmas.Bool.{cases_Bool}
 use Rattle.std.specs.Prelude.{ℤ, pos, ◌+ℤ◌, ◌-ℤ◌, ◌*ℤ◌, int_le, int_lt, map, Option, Some, None}
 use Rattle.std.specs.Int.{int_max, int_min}
@@ -45,7 +45,7 @@ by_tests true right first last k = refl
 by_tests false true first last k = refl
 by_tests false false first last k = refl
 
-between_moved : (k low high : ℤ)
+pub between_moved : (k low high : ℤ)
     → columns_between (low +ℤ pos 8192 *ℤ k) (high +ℤ pos 8192 *ℤ k) ≡ columns_moved k (columns_between low high)
 between_moved k low high =
     rw (
@@ -208,16 +208,3 @@ added_moved k m black there same rules b ms p j =
     ap₂ (λ x y. x || y) (adds_kept k m black there same rules b ms j p p)
     (ap (λ d. adds rules (columns_moved k b) (map (mark_moved k m) ms) there (j +ℤ m) d (p +ℤ k)) (last_moved p k)
     ∙ adds_kept k m black there same rules b ms j (p -ℤ pos 1) p)
-
--- without marks the box does not matter
-pub none_added : (rules : Rules) (b other : Columns) (black there : ℤ → ℤ → Bool) (p j q i : ℤ)
-    → is_added rules b [] black p j ≡ is_added rules other [] there q i
-none_added rules b other black there p j q i = none rules b black p j ∙ sym (none rules other there q i) where
-  nothing : (rules : Rules) (b : Columns) (black : ℤ → ℤ → Bool) (j c : ℤ) → asked rules b [] black j c ≡ None
-  nothing rules b black j c = not_both (is_free black c j) (pixel_of rules b c []) where
-    not_both : (free : Bool) (p : ℤ) → (if free && false then Some p else None) ≡ None
-    not_both true p = refl
-    not_both false p = refl
-
-  none : (rules : Rules) (b : Columns) (black : ℤ → ℤ → Bool) (p j : ℤ) → is_added rules b [] black p j ≡ false
-  none rules b black p j = rw (nothing rules b black j p, nothing rules b black j (p -ℤ pos 1)) refl

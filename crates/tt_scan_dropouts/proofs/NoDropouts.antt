@@ -14,11 +14,12 @@ use Rattle.tt_scan_edges.specs.declared.edge.Edge.{Edge}
 use Rattle.tt_scan_gaps.specs.BothWays.{NoneFreeBothWays, crosses_gap, goes_through, is_black_seen, is_through}
 use Rattle.tt_scan_gaps.specs.Crossings.{agree, centre, crossings, has_end_on_line, is_on_line}
 use Rattle.tt_scan_gaps.specs.Seen.{turned_round}
-use Rattle.tt_scan_dropouts.specs.Dropouts.{edges_of, is_added_by_columns, is_added_by_rows, is_dropout, is_inked, outline_turned, row_adds}
+use Rattle.tt_scan_dropouts.specs.Dropouts.{edges_of, is_added_by_columns, is_added_by_rows, is_dropout, is_inked, outline_turned, row_adds, rules_turned}
 use Rattle.tt_scan_gaps.specs.Gaps.{is_free}
 use Rattle.tt_scan_gaps.specs.Walk.{is_in_free_gap, some_in_free_gap}
 use Rattle.tt_scan_gaps.specs.declared.mark.Crossing.{Crossing}
-use Rattle.tt_scan_gaps.specs.declared.mark.Rules.{Rules}
+use Rattle.tt_scan_gaps.specs.Boxes.{columns_in, rows_in}
+use Rattle.tt_scan_dropouts.specs.declared.boxed.BoxedRules.{BoxedRules}
 use Rattle.tt_scan_gaps.specs.declared.seen.Over.TheVariants as over
 use Rattle.tt_scan_dropouts.proofs.BothWays.{rows_crossed}
 use Rattle.tt_scan_dropouts.proofs.NoFreeGap.{none_touched, nothing_added}
@@ -91,16 +92,16 @@ off_lines : (stubs : Bool) (e : Edge) → (stubs ≡ true → has_end_on_line e 
 off_lines false e off = (refl, refl)
 off_lines true e off = none_of_four (is_on_line e.ax) (is_on_line e.ay) (is_on_line e.bx) (is_on_line e.by) (off refl)
 
-no_rows : (rules : Rules) (es : List Edge) (ends : List ℕ) → AreEnds (length es) ends
+no_rows : (rules : BoxedRules) (es : List Edge) (ends : List ℕ) → AreEnds (length es) ends
     → NoneFreeBothWays (is_black_seen over.Rows es) es
-    → (rules.stubs ≡ true → list_any has_end_on_line es ≡ false)
+    → (rules.rules.stubs ≡ true → list_any has_end_on_line es ≡ false)
     → (c j : ℤ) → is_added_by_rows rules (contours_at es ends) c j ≡ false
 no_rows rules es ends fit none off c j =
     let black = is_black_seen over.Rows es in
-    let free = nothing_free rules.stubs black es (rows_crossed es) none (λ i d within.
-    (off_lines rules.stubs (get_or es i d) (λ stubs. not_one es i d within (off stubs))).1) in
+    let free = nothing_free rules.rules.stubs black es (rows_crossed es) none (λ i d within.
+    (off_lines rules.rules.stubs (get_or es i d) (λ stubs. not_one es i d within (off stubs))).1) in
     ap (λ all. row_adds rules (contours_at es ends) (λ c j. is_black all (centre c) (centre j)) c j) (edges_at es ends fit)
-    ∙ nothing_added rules black es ends fit free c j
+    ∙ nothing_added rules.rules (columns_in rules.extents) black es ends fit free c j
 
 -- a gap that is free where more is black is free
 freed : (a b more_a more_b : Bool) → (not (a || more_a) && not (b || more_b)) ≡ true → (not a && not b) ≡ true
@@ -116,9 +117,9 @@ not_freed false true true more_b is = refl
 not_freed false true false more_b is = refl
 not_freed false false more_a more_b is = absurd cc
 
-no_columns : (rules : Rules) (es : List Edge) (ends : List ℕ) → AreEnds (length es) ends
+no_columns : (rules : BoxedRules) (es : List Edge) (ends : List ℕ) → AreEnds (length es) ends
     → All IsClosed (contours_at es ends) → NoneFreeBothWays (is_black_seen over.Columns es) (map turned_round es)
-    → (rules.stubs ≡ true → list_any has_end_on_line es ≡ false)
+    → (rules.rules.stubs ≡ true → list_any has_end_on_line es ≡ false)
     → (c j : ℤ) → is_added_by_columns rules (contours_at es ends) c j ≡ false
 no_columns rules es ends fit closed none off c j =
     let contours = contours_at es ends in
@@ -133,22 +134,22 @@ no_columns rules es ends fit closed none off c j =
     (is_added_by_rows rules contours l (g +ℤ pos 1)) free in
     ap (λ es. crosses_gap true es l g) (sym all) ∙ columns_crossed contours l g closed inked
     ∙ ap (λ es. crosses_gap false es l g) all in
-    let off_turned : All (λ e. (rules.stubs && (is_on_line e.ay || is_on_line e.by)) ≡ false) turned =
-    All-map (λ e. (rules.stubs && (is_on_line e.ay || is_on_line e.by)) ≡ false) turned_round es (λ i d within.
-    (off_lines rules.stubs (get_or es i d) (λ stubs. not_one es i d within (off stubs))).0) in
+    let off_turned : All (λ e. (rules.rules.stubs && (is_on_line e.ay || is_on_line e.by)) ≡ false) turned =
+    All-map (λ e. (rules.rules.stubs && (is_on_line e.ay || is_on_line e.by)) ≡ false) turned_round es (λ i d within.
+    (off_lines rules.rules.stubs (get_or es i d) (λ stubs. not_one es i d within (off stubs))).0) in
     let inked : (j c : ℤ) → is_black_seen over.Columns es j c ≡ is_inked contours c j =
     λ j c. ap (λ es. is_black es (centre c) (centre j)) (sym (edges_at es ends fit)) in
     let none_more : NoneFreeBothWays black turned = λ g l two.
     not_freed (is_inked contours g l) (is_inked contours g (l +ℤ pos 1)) (is_added_by_rows rules contours g l)
     (is_added_by_rows rules contours g (l +ℤ pos 1))
     (ap₂ (λ a b. not a && not b) (sym (inked l g)) (sym (inked (l +ℤ pos 1) g)) ∙ none g l two) in
-    let free = nothing_free rules.stubs black turned balanced none_more off_turned in
-    ap (λ cs. row_adds rules cs black j c) (sym alike) ∙ nothing_added rules black turned ends fit_turned free j c
+    let free = nothing_free rules.rules.stubs black turned balanced none_more off_turned in
+    ap (λ cs. row_adds (rules_turned rules) cs black j c) (sym alike) ∙ nothing_added rules.rules (rows_in rules.extents) black turned ends fit_turned free j c
 
-pub no_dropout : (rules : Rules) (es : List Edge) (ends : List ℕ) → AreEnds (length es) ends
+pub no_dropout : (rules : BoxedRules) (es : List Edge) (ends : List ℕ) → AreEnds (length es) ends
     → All IsClosed (contours_at es ends) → NoneFreeBothWays (is_black_seen over.Rows es) es
     → NoneFreeBothWays (is_black_seen over.Columns es) (map turned_round es)
-    → (rules.stubs ≡ true → list_any has_end_on_line es ≡ false) → (c j : ℤ) → is_dropout rules (contours_at es ends) c j ≡ false
+    → (rules.rules.stubs ≡ true → list_any has_end_on_line es ≡ false) → (c j : ℤ) → is_dropout rules (contours_at es ends) c j ≡ false
 no_dropout rules es ends fit closed rows columns off c j =
     let by_rows = no_rows rules es ends fit rows off in
     let by_columns = no_columns rules es ends fit closed columns off in

@@ -11,8 +11,7 @@ use Rattle.std.proofs.lemmas.Int.{ints}
 use Rattle.tt_scan.specs.Contours.{AreEnds, contours_at}
 use Rattle.tt_scan_edges.specs.declared.edge.Edge.{Edge}
 use Rattle.tt_scan_gaps.specs.Crossings.{crossing, crossings, is_on_line, line_crossed, line_from, lines_crossed, meets_line, touches}
-use Rattle.tt_scan_gaps.specs.Boxes.{columns_of}
-use Rattle.tt_scan_dropouts.specs.Dropouts.{edges_of, row_adds}
+use Rattle.tt_scan_dropouts.specs.Dropouts.{edges_of}
 use Rattle.tt_scan_gaps.specs.Gaps.{asked, free_marks, is_added, is_free}
 use Rattle.tt_scan_gaps.specs.Walk.{contour_marks, edge_marks, is_in_free_gap, mark_of, marks, marks_of_step, some_in_free_gap, step_marks, steps_of, walk}
 use Rattle.tt_scan_gaps.specs.declared.mark.Columns.{Columns}
@@ -162,13 +161,11 @@ none_added rules b black p j =
     rw (here, left) refl
 
 -- a pass adds nothing
-pub nothing_added : (rules : Rules) (black : ℤ → ℤ → Bool) (es : List Edge) (ends : List ℕ) → AreEnds (length es) ends
+pub nothing_added : (rules : Rules) (b : Columns) (black : ℤ → ℤ → Bool) (es : List Edge) (ends : List ℕ) → AreEnds (length es) ends
     → list_any (is_in_free_gap rules.stubs black) es ≡ false
-    → (p j : ℤ) → row_adds rules (contours_at es ends) black p j ≡ false
-nothing_added rules black es ends fit none p j =
-    let contours = contours_at es ends in
-    let b = columns_of (edges_of contours) in
-    sym (added_kept rules b black (marks rules.stubs contours) p j)
+    → (p j : ℤ) → is_added rules b (marks rules.stubs (contours_at es ends)) black p j ≡ false
+nothing_added rules b black es ends fit none p j =
+    sym (added_kept rules b black (marks rules.stubs (contours_at es ends)) p j)
     ∙ ap (λ ms. is_added rules b ms black p j) (no_free_marks black rules.stubs es ends fit none)
     ∙ none_added rules b black p j
 

@@ -17,7 +17,7 @@ use Rattle.tt_scan_dropouts.specs.Passes.{has_pixel}
 use Rattle.tt_scan_dropouts.specs.Pictures.{column_at, is_among, is_at, is_dropout_from, line_at}
 use Rattle.tt_scan_dropouts.specs.Windows.{WindowFits, has, widened}
 use Rattle.tt_scan_dropouts.specs.declared.pixel.Pixel.{Pixel}
-use Rattle.tt_scan_gaps.specs.declared.mark.Rules.{Rules}
+use Rattle.tt_scan_dropouts.specs.declared.boxed.BoxedRules.{BoxedRules}
 use Rattle.tt_scan_dropouts.specs.declared.picture.Dropout.{Dropout}
 use Rattle.tt_scan_dropouts.specs.declared.window.Window.{Window}
 
@@ -206,7 +206,7 @@ pub seen_at : (w : Window) (ps : List Pixel) (is : ℤ → ℤ → Bool) (c j : 
     → ((c j : ℤ) → has_pixel ps c j ≡ (has w c j && is c j)) → has_pixel ps c j ≡ is c j
 seen_at w ps is c j inside are = are c j ∙ rw inside refl
 
-from_more : (f : Frame) (rules : Rules) (contours : List (List Edge)) (pens pen : List ℕ) (c r : ℕ)
+from_more : (f : Frame) (rules : BoxedRules) (contours : List (List Edge)) (pens pen : List ℕ) (c r : ℕ)
     → is_dropout_from f rules contours (pens ++ pen) c r
     ≡ (is_dropout_from f rules contours pens c r || is_dropout_from f rules contours pen c r)
 from_more f rules contours [] pen c r = refl
@@ -216,7 +216,7 @@ from_more f rules contours (p ∷ pens) pen c r =
     (is_dropout_from f rules contours pen c r))
 
 -- the pens so far, and one more
-pub one_pen_more : (f : Frame) (rules : Rules) (contours : List (List Edge)) (pens : List ℕ) (i c r : ℕ) (old : Bool)
+pub one_pen_more : (f : Frame) (rules : BoxedRules) (contours : List (List Edge)) (pens : List ℕ) (i c r : ℕ) (old : Bool)
     → i < length pens
     → ((old || is_dropout_from f rules contours (take i pens) c r)
     || is_dropout rules contours (column_at f (get_or pens i 0) c) (line_at f r))

@@ -1,36 +1,32 @@
 -- The two passes together: the pixels that they add in a window are the dropouts there, if the black pixels up to two
 -- pixels round the window are known.
-use Rattle.std.proofs.Common.{◌≡◌, refl, sym, ap, ap₂, ◌∙◌, ℕ, Bool, true, false, ◌&&◌, ◌||◌, List, length, arith}
+use Rattle.std.proofs.Common.{◌≡◌, refl, sym, ap, ap₂, ◌∙◌, Bool, true, false, ◌&&◌, ◌||◌, List, arith}
 use Rattle.std.specs.Prelude.{ℤ, pos, ◌+ℤ◌, ◌-ℤ◌, ◌≤ℤ◌, ◌<ℤ◌, int_le, int_lt}
 use Rattle.std.proofs.lemmas.Int.{ints}
-use Rattle.tt_scan.specs.Contours.{AreEnds, contours_at}
 use Rattle.tt_scan_edges.specs.declared.edge.Edge.{Edge}
-use Rattle.tt_scan_gaps.specs.Boxes.{columns_of}
-use Rattle.tt_scan_dropouts.specs.Dropouts.{edges_of, is_added_by_columns, is_added_by_rows, is_dropout, is_inked, outline_turned, row_adds}
+use Rattle.tt_scan_gaps.specs.Boxes.{columns_in, rows_in}
+use Rattle.tt_scan_dropouts.specs.Dropouts.{is_added_by_columns, is_added_by_rows, is_dropout, is_inked, outline_turned, row_adds, rules_turned}
 use Rattle.tt_scan_gaps.specs.Gaps.{free_marks, is_added}
 use Rattle.tt_scan_gaps.specs.Walk.{marks}
 use Rattle.tt_scan_dropouts.specs.Windows.{has, widened}
 use Rattle.tt_scan_gaps.specs.declared.mark.Columns.{Columns}
 use Rattle.tt_scan_gaps.specs.declared.mark.Mark.{Mark}
 use Rattle.tt_scan_gaps.specs.declared.mark.Rules.{Rules}
+use Rattle.tt_scan_dropouts.specs.declared.boxed.BoxedRules.{BoxedRules}
 use Rattle.tt_scan_dropouts.specs.declared.window.Window.{Window}
 use Rattle.tt_scan_dropouts.proofs.FreeMarks.{added_kept}
 use Rattle.tt_scan_dropouts.proofs.Locality.{added_alike}
-use Rattle.tt_scan_dropouts.proofs.Outlines.{edges_at}
 
 -- a pass by the sorted marks in free gaps adds the pixels that a pass by all marks adds
-pub pass_adds : (rules : Rules) (es : List Edge) (ends : List ℕ) (black adds : ℤ → ℤ → Bool) (free sorted : List Mark)
-    → AreEnds (length es) ends → free ≡ free_marks black (marks rules.stubs (contours_at es ends))
+pub free_marks_add : (rules : Rules) (b : Columns) (contours : List (List Edge)) (black adds : ℤ → ℤ → Bool) (free sorted : List Mark)
+    → free ≡ free_marks black (marks rules.stubs contours)
     → ((rules : Rules) (b : Columns) (black : ℤ → ℤ → Bool) (p j : ℤ)
     → is_added rules b sorted black p j ≡ is_added rules b free black p j)
-    → ((p j : ℤ) → adds p j ≡ is_added rules (columns_of es) sorted black p j)
-    → (p j : ℤ) → adds p j ≡ row_adds rules (contours_at es ends) black p j
-pass_adds rules es ends black adds free sorted fit is same by p j =
-    by p j ∙ same rules (columns_of es) black p j
-    ∙ ap (λ ms. is_added rules (columns_of es) ms black p j) is
-    ∙ added_kept rules (columns_of es) black (marks rules.stubs (contours_at es ends)) p j
-    ∙ ap (λ all. is_added rules (columns_of all) (marks rules.stubs (contours_at es ends)) black p j)
-    (sym (edges_at es ends fit))
+    → ((p j : ℤ) → adds p j ≡ is_added rules b sorted black p j)
+    → (p j : ℤ) → adds p j ≡ is_added rules b (marks rules.stubs contours) black p j
+free_marks_add rules b contours black adds free sorted is same by p j =
+    by p j ∙ same rules b black p j ∙ ap (λ ms. is_added rules b ms black p j) is
+    ∙ added_kept rules b black (marks rules.stubs contours) p j
 
 -- a pixel lies in a window, by its four sides
 pub record LiesIn (w : Window) (c j : ℤ) : Type 0 where
@@ -67,18 +63,18 @@ near w c j d k h left right bottom top = has_it (widened 2 w) d k (record {
 })
 
 -- the facts about a glyph in a window that both passes use
-pub record Passes (rules : Rules) (contours : List (List Edge)) (w : Window)
+pub record Passes (rules : BoxedRules) (contours : List (List Edge)) (w : Window)
     (inked after rows columns : ℤ → ℤ → Bool) : Type 0 where
   pub ink : (c j : ℤ) → has (widened 2 w) c j ≡ true → inked c j ≡ is_inked contours c j
   pub by_rows : (c j : ℤ) → rows c j ≡ row_adds rules contours inked c j
   pub also : (c j : ℤ) → after c j ≡ (inked c j || rows c j)
-  pub by_columns : (p j : ℤ) → columns p j ≡ row_adds rules (outline_turned contours) (λ q k. after k q) p j
+  pub by_columns : (p j : ℤ) → columns p j ≡ row_adds (rules_turned rules) (outline_turned contours) (λ q k. after k q) p j
 
-module _ {rules : Rules} {contours : List (List Edge)} {w : Window} {inked after rows columns : ℤ → ℤ → Bool}
+module _ {rules : BoxedRules} {contours : List (List Edge)} {w : Window} {inked after rows columns : ℤ → ℤ → Bool}
     (h : Passes rules contours w inked after rows columns) (c j : ℤ) (in_it : LiesIn w c j) where
   rows_are : (k : ℤ) → (j -ℤ pos 2) ≤ℤ k → k ≤ℤ (j +ℤ pos 2) → rows c k ≡ is_added_by_rows rules contours c k
   rows_are k low high = h.by_rows c k
-      ∙ added_alike rules (columns_of (edges_of contours)) (marks rules.stubs contours) inked (is_inked contours) c k
+      ∙ added_alike rules.rules (columns_in rules.extents) (marks rules.rules.stubs contours) inked (is_inked contours) c k
       (λ d left right. h.ink d k (near w c j d k in_it left (omega (arith, ints, right)) low high))
 
   after_is : (k : ℤ) → (j -ℤ pos 2) ≤ℤ k → k ≤ℤ (j +ℤ pos 2)
@@ -89,22 +85,21 @@ module _ {rules : Rules} {contours : List (List Edge)} {w : Window} {inked after
 
   columns_are : columns j c ≡ is_added_by_columns rules contours c j
   columns_are = h.by_columns j c
-      ∙ added_alike rules (columns_of (edges_of (outline_turned contours)))
-      (marks rules.stubs (outline_turned contours))
+      ∙ added_alike rules.rules (rows_in rules.extents) (marks rules.rules.stubs (outline_turned contours))
       (λ q k. after k q) (λ q k. is_inked contours k q || is_added_by_rows rules contours k q) j c
       (λ k low high. after_is k low (omega (arith, ints, high)))
 
   both_are : (rows c j || columns j c) ≡ is_dropout rules contours c j
   both_are = ap₂ (λ a b. a || b) (rows_are j (omega (arith, ints)) (omega (arith, ints))) columns_are
 
-in_window : {rules : Rules} {contours : List (List Edge)} {w : Window} {inked after rows columns : ℤ → ℤ → Bool}
+in_window : {rules : BoxedRules} {contours : List (List Edge)} {w : Window} {inked after rows columns : ℤ → ℤ → Bool}
     → Passes rules contours w inked after rows columns → (c j : ℤ) (inside : Bool) → has w c j ≡ inside
     → ((inside && rows c j) || (inside && columns j c)) ≡ (inside && is_dropout rules contours c j)
 in_window h c j true is = both_are h c j (lies_in _ c j is)
 in_window h c j false is = refl
 
 -- the pixels of the window that either pass adds are its dropouts
-pub together : {rules : Rules} {contours : List (List Edge)} {w : Window} {inked after rows columns : ℤ → ℤ → Bool}
+pub together : {rules : BoxedRules} {contours : List (List Edge)} {w : Window} {inked after rows columns : ℤ → ℤ → Bool}
     → Passes rules contours w inked after rows columns → (c j : ℤ)
     → ((has w c j && rows c j) || (has w c j && columns j c)) ≡ (has w c j && is_dropout rules contours c j)
 together {w = w} h c j = in_window h c j (has w c j) refl

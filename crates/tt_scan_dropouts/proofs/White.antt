@@ -5,8 +5,8 @@ use Rattle.std.specs.Prelude.{ℤ, pos, ◌+ℤ◌, ◌-ℤ◌, None}
 use Rattle.std.proofs.lemmas.Int.{ints}
 use Rattle.tt_scan_gaps.specs.Gaps.{asked, is_added, is_free}
 use Rattle.tt_scan_dropouts.specs.Laws.{AddedByColumnsWasWhite, AddedByRowsWasWhite, DropoutWasWhite}
-use Rattle.tt_scan_gaps.specs.Boxes.{columns_of}
-use Rattle.tt_scan_dropouts.specs.Dropouts.{edges_of, is_added_by_columns, is_added_by_rows, is_inked, outline_turned}
+use Rattle.tt_scan_gaps.specs.Boxes.{columns_in, rows_in}
+use Rattle.tt_scan_dropouts.specs.Dropouts.{is_added_by_columns, is_added_by_rows, is_inked, outline_turned}
 use Rattle.tt_scan_gaps.specs.Walk.{marks}
 use Rattle.tt_scan_gaps.specs.declared.mark.Columns.{Columns}
 use Rattle.tt_scan_gaps.specs.declared.mark.Mark.{Mark}
@@ -55,13 +55,12 @@ second_of false b is off = is
 
 pub by_rows : AddedByRowsWasWhite
 by_rows rules contours c j added =
-    added_was_white rules (columns_of (edges_of contours)) (marks rules.stubs contours) (is_inked contours) c j added
+    added_was_white rules.rules (columns_in rules.extents) (marks rules.rules.stubs contours) (is_inked contours) c j added
 
 pub by_columns : AddedByColumnsWasWhite
 by_columns rules contours c j added =
     neither_of (is_inked contours c j) (is_added_by_rows rules contours c j)
-    (added_was_white rules (columns_of (edges_of (outline_turned contours)))
-    (marks rules.stubs (outline_turned contours))
+    (added_was_white rules.rules (rows_in rules.extents) (marks rules.rules.stubs (outline_turned contours))
     (λ k q. is_inked contours q k || is_added_by_rows rules contours q k) j c added)
 
 pub by_both : DropoutWasWhite

@@ -1,12 +1,13 @@
 -- No part of the standard: what the edges of one glyph count where a job's work is bounded (profile). The count does
 -- not know the picture: rows inside and outside count, and a glyph counts the same at each pen.
-use Rattle.std.specs.Prelude.{◌≡◌, refl, ℕ, ◌+◌, ◌*◌, ◌/◌, ◌-◌, min, pos, negsuc, ◌-ℤ◌, unsigned_abs, List, [], ◌∷◌, length, map}
+use Rattle.std.specs.Prelude.{◌≡◌, refl, ℕ, ◌+◌, ◌*◌, ◌/◌, ◌-◌, min, ℤ, pos, negsuc, ◌-ℤ◌, unsigned_abs, List, [], ◌∷◌, length, map}
 use Rattle.tt_core.specs.Bits.{stride}
 use Rattle.tt_scan_edges.specs.declared.edge.Edge.{Edge}
 use Rattle.tt_scan_gaps.specs.Crossings.{lines_crossed}
-use Rattle.tt_scan_gaps.specs.Boxes.{columns_of}
+use Rattle.tt_scan_gaps.specs.Boxes.{columns_in, columns_of, rows_in}
 use Rattle.tt_scan_gaps.specs.Seen.{turned_round}
 use Rattle.tt_scan_dropouts.specs.Dropouts.{crossed}
+use Rattle.tt_scan_gaps.specs.declared.extent.Extents.{Extents}
 use Rattle.tt_scan_gaps.specs.declared.mark.Columns.{Columns}
 
 -- rows are worked on in bands of at most this many
@@ -21,12 +22,16 @@ bands rows = (rows + 2047) / band_rows
 abbrev pub numbers_in : Columns → ℕ
 numbers_in b = unsigned_abs (b.last -ℤ b.first) + 1
 
--- how many columns the box of some edges has, and how many rows
-abbrev pub box_columns : List Edge → ℕ
-box_columns es = numbers_in (columns_of es)
-
+-- how many rows the box of some edges has
 abbrev pub box_rows : List Edge → ℕ
 box_rows es = numbers_in (columns_of (map turned_round es))
+
+-- how many columns a box has, and how many rows
+abbrev pub extent_columns : Extents → ℕ
+extent_columns b = numbers_in (columns_in b)
+
+abbrev pub extent_rows : Extents → ℕ
+extent_rows b = numbers_in (rows_in b)
 
 -- how many rows each edge crosses, all together
 abbrev pub rows_crossed : List Edge → ℕ
@@ -47,9 +52,9 @@ abbrev pub bands_bytes : ℕ → ℕ → ℕ
 bands_bytes columns rows = stride (columns + 4) * (rows + 4 * bands rows)
 
 -- where dropouts are filled: for each row or column that an edge crosses three, and one for each band, since a band
--- reads them all; and one for each 64 bytes of the bitmaps of the box
-unfoldable pub filling_counted : List Edge → ℕ
-filling_counted es = (bands (box_rows es) + 3) * crossed es + bands_bytes (box_columns es) (box_rows es) / 64
+-- reads them all; and one for each 64 bytes of the bitmaps of the glyph's box
+unfoldable pub filling_counted : Extents → List Edge → ℕ
+filling_counted b es = (bands (extent_rows b) + 3) * crossed es + bands_bytes (extent_columns b) (extent_rows b) / 64
 
 -- the rows of band k
 abbrev pub rows_of_band : ℕ → ℕ → ℕ
@@ -79,8 +84,12 @@ no_edge_counts_one : edges_counted [] ≡ 1
 unfolding edges_counted
 no_edge_counts_one = refl
 
-no_edge_fills : filling_counted [] ≡ 0
-unfolding filling_counted
+-- a box from one place to another along each axis
+box : ℤ → ℤ → ℤ → ℤ → Extents
+box left bottom right top = record { across = record { low = left; high = right }; up = record { low = bottom; high = top } }
+
+no_edge_fills : filling_counted (box (pos 4096) (pos 4096) (pos 4096) (pos 4096)) [] ≡ 0
+unfolding filling_counted box
 no_edge_fills = refl
 
 -- from a pixel below the base line to a pixel above it, through the middle of the first column
@@ -105,14 +114,19 @@ a_level_edge_counts_two = refl
 at_a_corner : Edge
 at_a_corner = record { ax = pos 0; ay = pos 0; bx = pos 0; by = pos 0 }
 
-a_point_is_not_filled : filling_counted (at_a_corner ∷ []) ≡ 0
-unfolding filling_counted at_a_corner
+a_point_is_not_filled : filling_counted (box (pos 0) (pos 0) (pos 0) (pos 0)) (at_a_corner ∷ []) ≡ 0
+unfolding filling_counted box at_a_corner
 a_point_is_not_filled = refl
 
 -- the level edge crosses four columns, and the upright edge two rows: four times 6, and a byte for each of six rows
-both_are_filled : filling_counted (upright ∷ level ∷ []) ≡ 24
-unfolding filling_counted upright level
+both_are_filled : filling_counted (box (pos 0) (negsuc 8191) (pos 32768) (pos 8192)) (upright ∷ level ∷ []) ≡ 24
+unfolding filling_counted box upright level
 both_are_filled = refl
+
+-- the same edges in a box of 999 columns: 126 bytes for each of six rows
+a_wider_box_counts_more : filling_counted (box (pos 0) (negsuc 8191) (pos 8183808) (pos 8192)) (upright ∷ level ∷ []) ≡ 35
+unfolding filling_counted box upright level
+a_wider_box_counts_more = refl
 
 -- from the centre of row 0 to that of row 1: the edge meets both rows, which are its box, and crosses one
 between : Edge
@@ -131,6 +145,6 @@ unfolding edges_counted high
 two_bands_count = refl
 
 -- five for each row, and 2,057 bytes of bitmaps: 32 times 64, and nine
-their_bitmaps_count : filling_counted (high ∷ []) ≡ 10277
-unfolding filling_counted high
+their_bitmaps_count : filling_counted (box (pos 0) (pos 0) (pos 0) (pos 16785408)) (high ∷ []) ≡ 10277
+unfolding filling_counted box high
 their_bitmaps_count = refl

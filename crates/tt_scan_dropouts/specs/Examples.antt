@@ -5,7 +5,11 @@ use Rattle.std.specs.Prelude.{◌≡◌, refl, ℕ, ◌*◌, true, false, if◌t
 use Rattle.std.specs.List.{range_with_len}
 use Rattle.tt_scan_edges.specs.declared.edge.Edge.{Edge}
 use Rattle.tt_scan_dropouts.specs.Dropouts.{is_inked, is_added_by_rows, is_added_by_columns}
+use Rattle.tt_scan_gaps.specs.Boxes.{greatest_x, least_x}
+use Rattle.tt_scan_gaps.specs.Seen.{turned_round}
+use Rattle.tt_scan_gaps.specs.declared.extent.Extents.{Extents}
 use Rattle.tt_scan_gaps.specs.declared.mark.Rules.{Rules}
+use Rattle.tt_scan_dropouts.specs.declared.boxed.BoxedRules.{BoxedRules}
 
 -- the edge between two points
 line : ℕ × ℕ → ℕ × ℕ → Edge
@@ -20,7 +24,15 @@ polygon : List (ℕ × ℕ) → List Edge
 polygon [] = []
 polygon (p ∷ ps) = path p ps p
 
-shown : Rules → List Edge → ℕ → ℕ → List ℕ
+-- the box of edges
+extents_of : List Edge → Extents
+extents_of [] = record { across = record { low = pos 0; high = pos 0 }; up = record { low = pos 0; high = pos 0 } }
+extents_of (e ∷ es) = record {
+  across = record { low = least_x e.ax (e ∷ es); high = greatest_x e.ax (e ∷ es) };
+  up = record { low = least_x e.ay (map turned_round (e ∷ es)); high = greatest_x e.ay (map turned_round (e ∷ es)) };
+}
+
+shown : BoxedRules → List Edge → ℕ → ℕ → List ℕ
 shown rules es j c =
     if is_inked (es ∷ []) (pos c) (pos j) then codes "#" else (
     if is_added_by_rows rules (es ∷ []) (pos c) (pos j) then codes "r" else (
@@ -30,7 +42,7 @@ texts : List (List ℕ) → List ℕ
 texts [] = []
 texts (t ∷ ts) = t ++ texts ts
 
-row_shown : List Edge → ℕ → Rules → ℕ → List ℕ
+row_shown : List Edge → ℕ → BoxedRules → ℕ → List ℕ
 row_shown es width rules j = texts (map (shown rules es j) (range_with_len 0 width))
 
 type_0 : Rules
@@ -45,13 +57,19 @@ type_4 = record { stubs = true; smart = true }
 type_5 : Rules
 type_5 = record { stubs = false; smart = true }
 
-row_by_each : List Edge → ℕ → ℕ → List ℕ
-row_by_each es width j = row_shown es width type_0 j ++ (codes "  " ++ (row_shown es width type_1 j ++ (codes "  "
-    ++ (row_shown es width type_4 j ++ (codes "  " ++ row_shown es width type_5 j)))))
+in_box : Extents → Rules → BoxedRules
+in_box b rules = record { rules = rules; extents = b }
 
--- four rows
+row_by_each : Extents → List Edge → ℕ → ℕ → List ℕ
+row_by_each b es width j = row_shown es width (in_box b type_0) j ++ (codes "  " ++ (row_shown es width (in_box b type_1) j
+    ++ (codes "  " ++ (row_shown es width (in_box b type_4) j ++ (codes "  " ++ row_shown es width (in_box b type_5) j)))))
+
+-- four rows, in a box and in the box of the edges
+drawn_in : Extents → List Edge → ℕ → List (List ℕ)
+drawn_in b es width = map (row_by_each b es width) (3 ∷ 2 ∷ 1 ∷ 0 ∷ [])
+
 drawn : List Edge → ℕ → List (List ℕ)
-drawn es width = map (row_by_each es width) (3 ∷ 2 ∷ 1 ∷ 0 ∷ [])
+drawn es width = drawn_in (extents_of es) es width
 
 -- an upright stem; the box decides that the left pixel is taken
 upright_stem : List Edge
@@ -62,7 +80,7 @@ upright_stem_is_drawn : drawn upright_stem 3 ≡
     ∷ codes "r..  r..  r..  r.."
     ∷ codes "r..  r..  r..  r.."
     ∷ codes "r..  ...  r..  ..." ∷ []
-unfolding drawn row_by_each row_shown shown texts type_0 type_1 type_4 type_5 polygon path line upright_stem
+unfolding drawn drawn_in extents_of in_box row_by_each row_shown shown texts type_0 type_1 type_4 type_5 polygon path line upright_stem
 upright_stem_is_drawn = refl
 
 -- a stem nearer the right: the right pixel is taken
@@ -74,8 +92,20 @@ stem_nearer_the_right_is_drawn : drawn stem_nearer_the_right 3 ≡
     ∷ codes ".r.  .r.  .r.  .r."
     ∷ codes ".r.  .r.  .r.  .r."
     ∷ codes ".r.  ...  .r.  ..." ∷ []
-unfolding drawn row_by_each row_shown shown texts type_0 type_1 type_4 type_5 polygon path line stem_nearer_the_right
+unfolding drawn drawn_in extents_of in_box row_by_each row_shown shown texts type_0 type_1 type_4 type_5 polygon path line stem_nearer_the_right
 stem_nearer_the_right_is_drawn = refl
+
+-- the same stem with a point at 16 in 26.6, which widens the box: the left pixel is taken
+box_from_16 : Extents
+box_from_16 = record { across = record { low = pos 2048; high = pos 11264 }; up = record { low = pos 0; high = pos 32768 } }
+
+a_point_widens_the_box : drawn_in box_from_16 stem_nearer_the_right 3 ≡
+    codes "r..  ...  r..  ..."
+    ∷ codes "r..  r..  r..  r.."
+    ∷ codes "r..  r..  r..  r.."
+    ∷ codes "r..  ...  r..  ..." ∷ []
+unfolding drawn_in in_box row_by_each row_shown shown texts type_0 type_1 type_4 type_5 polygon path line stem_nearer_the_right box_from_16
+a_point_widens_the_box = refl
 
 -- a stem on a foot, so that the glyph's box is wider than the stem
 stem_on_a_foot : List Edge
@@ -86,7 +116,7 @@ stem_on_a_foot_is_drawn : drawn stem_on_a_foot 3 ≡
     ∷ codes "r..  r..  .r.  .r."
     ∷ codes "r..  r..  .r.  .r."
     ∷ codes "###  ###  ###  ###" ∷ []
-unfolding drawn row_by_each row_shown shown texts type_0 type_1 type_4 type_5 polygon path line stem_on_a_foot
+unfolding drawn drawn_in extents_of in_box row_by_each row_shown shown texts type_0 type_1 type_4 type_5 polygon path line stem_on_a_foot
 stem_on_a_foot_is_drawn = refl
 
 -- a stem exactly in the middle between two centres
@@ -98,7 +128,7 @@ stem_in_the_middle_is_drawn : drawn stem_in_the_middle 3 ≡
     ∷ codes "r..  r..  r..  r.."
     ∷ codes "r..  r..  r..  r.."
     ∷ codes "###  ###  ###  ###" ∷ []
-unfolding drawn row_by_each row_shown shown texts type_0 type_1 type_4 type_5 polygon path line stem_in_the_middle
+unfolding drawn drawn_in extents_of in_box row_by_each row_shown shown texts type_0 type_1 type_4 type_5 polygon path line stem_in_the_middle
 stem_in_the_middle_is_drawn = refl
 
 -- a stem 1/64 pixel right of the middle
@@ -110,7 +140,7 @@ stem_past_the_middle_is_drawn : drawn stem_past_the_middle 3 ≡
     ∷ codes "r..  r..  .r.  .r."
     ∷ codes "r..  r..  .r.  .r."
     ∷ codes "###  ###  ###  ###" ∷ []
-unfolding drawn row_by_each row_shown shown texts type_0 type_1 type_4 type_5 polygon path line stem_past_the_middle
+unfolding drawn drawn_in extents_of in_box row_by_each row_shown shown texts type_0 type_1 type_4 type_5 polygon path line stem_past_the_middle
 stem_past_the_middle_is_drawn = refl
 
 -- a stem left of all other centres, with a bar
@@ -122,7 +152,7 @@ stem_at_the_left_edge_is_drawn : drawn stem_at_the_left_edge 3 ≡
     ∷ codes ".##  .##  .##  .##"
     ∷ codes ".r.  .r.  .r.  .r."
     ∷ codes ".r.  ...  .r.  ..." ∷ []
-unfolding drawn row_by_each row_shown shown texts type_0 type_1 type_4 type_5 polygon path line stem_at_the_left_edge
+unfolding drawn drawn_in extents_of in_box row_by_each row_shown shown texts type_0 type_1 type_4 type_5 polygon path line stem_at_the_left_edge
 stem_at_the_left_edge_is_drawn = refl
 
 -- a level bar: the columns alone add pixels
@@ -134,7 +164,7 @@ level_bar_is_drawn : drawn level_bar 4 ≡
     ∷ codes "....  ....  ....  ...."
     ∷ codes "cccc  .cc.  cccc  .cc."
     ∷ codes "....  ....  ....  ...." ∷ []
-unfolding drawn row_by_each row_shown shown texts type_0 type_1 type_4 type_5 polygon path line level_bar
+unfolding drawn drawn_in extents_of in_box row_by_each row_shown shown texts type_0 type_1 type_4 type_5 polygon path line level_bar
 level_bar_is_drawn = refl
 
 -- a dot between four centres crosses no line
@@ -146,7 +176,7 @@ dot_between_centres_is_drawn : drawn dot_between_centres 4 ≡
     ∷ codes "....  ....  ....  ...."
     ∷ codes "....  ....  ....  ...."
     ∷ codes "....  ....  ....  ...." ∷ []
-unfolding drawn row_by_each row_shown shown texts type_0 type_1 type_4 type_5 polygon path line dot_between_centres
+unfolding drawn drawn_in extents_of in_box row_by_each row_shown shown texts type_0 type_1 type_4 type_5 polygon path line dot_between_centres
 dot_between_centres_is_drawn = refl
 
 -- a tip that reaches less than half a pixel beyond a line
@@ -166,7 +196,7 @@ stub_drawn =
     ∷ codes "####  ####  ####  ####" ∷ []
 
 both_tips_are_drawn : map (λ es. drawn es 4) (low_tip ∷ narrow_tip ∷ []) ≡ stub_drawn ∷ stub_drawn ∷ []
-unfolding drawn row_by_each row_shown shown texts type_0 type_1 type_4 type_5 polygon path line low_tip narrow_tip stub_drawn
+unfolding drawn drawn_in extents_of in_box row_by_each row_shown shown texts type_0 type_1 type_4 type_5 polygon path line low_tip narrow_tip stub_drawn
 both_tips_are_drawn = refl
 
 -- a tip that reaches further, and is more than half a pixel wide
@@ -178,7 +208,7 @@ wide_tip_is_drawn : drawn wide_tip 4 ≡
     ∷ codes ".r..  .r..  .r..  .r.."
     ∷ codes "####  ####  ####  ####"
     ∷ codes "####  ####  ####  ####" ∷ []
-unfolding drawn row_by_each row_shown shown texts type_0 type_1 type_4 type_5 polygon path line wide_tip
+unfolding drawn drawn_in extents_of in_box row_by_each row_shown shown texts type_0 type_1 type_4 type_5 polygon path line wide_tip
 wide_tip_is_drawn = refl
 
 -- a thin diagonal stroke
@@ -190,7 +220,7 @@ diagonal_is_drawn : drawn diagonal 4 ≡
     ∷ codes "..#.  ..#.  ..#.  ..#."
     ∷ codes ".r..  .r..  .r..  .r.."
     ∷ codes "r...  ....  r...  ...." ∷ []
-unfolding drawn row_by_each row_shown shown texts type_0 type_1 type_4 type_5 polygon path line diagonal
+unfolding drawn drawn_in extents_of in_box row_by_each row_shown shown texts type_0 type_1 type_4 type_5 polygon path line diagonal
 diagonal_is_drawn = refl
 
 -- a triangle whose tip touches a line
@@ -202,7 +232,7 @@ tip_on_a_line_is_drawn : drawn tip_on_a_line 3 ≡
     ∷ codes ".r.  ...  .r.  ..."
     ∷ codes ".r.  .r.  .r.  .r."
     ∷ codes ".r.  .r.  .r.  .r." ∷ []
-unfolding drawn row_by_each row_shown shown texts type_0 type_1 type_4 type_5 polygon path line tip_on_a_line
+unfolding drawn drawn_in extents_of in_box row_by_each row_shown shown texts type_0 type_1 type_4 type_5 polygon path line tip_on_a_line
 tip_on_a_line_is_drawn = refl
 
 -- a stem of no width
@@ -214,7 +244,7 @@ stem_of_no_width_is_drawn : drawn stem_of_no_width 3 ≡
     ∷ codes "r..  ...  r..  ..."
     ∷ codes "r..  r..  r..  r.."
     ∷ codes "r..  ...  r..  ..." ∷ []
-unfolding drawn row_by_each row_shown shown texts type_0 type_1 type_4 type_5 polygon path line stem_of_no_width
+unfolding drawn drawn_in extents_of in_box row_by_each row_shown shown texts type_0 type_1 type_4 type_5 polygon path line stem_of_no_width
 stem_of_no_width_is_drawn = refl
 
 -- a dot that crosses one line: a stub twice
@@ -226,7 +256,7 @@ dot_on_one_line_is_drawn : drawn dot_on_one_line 3 ≡
     ∷ codes "...  ...  ...  ..."
     ∷ codes "r..  ...  r..  ..."
     ∷ codes "...  ...  ...  ..." ∷ []
-unfolding drawn row_by_each row_shown shown texts type_0 type_1 type_4 type_5 polygon path line dot_on_one_line
+unfolding drawn drawn_in extents_of in_box row_by_each row_shown shown texts type_0 type_1 type_4 type_5 polygon path line dot_on_one_line
 dot_on_one_line_is_drawn = refl
 
 -- two stems; the left one gives way
@@ -239,5 +269,5 @@ two_stems_is_drawn : drawn two_stems 4 ≡
     ∷ codes "rr..  rr..  .r..  .r.."
     ∷ codes "rr..  rr..  .r..  .r.."
     ∷ codes "####  ####  ####  ####" ∷ []
-unfolding drawn row_by_each row_shown shown texts type_0 type_1 type_4 type_5 polygon path line two_stems
+unfolding drawn drawn_in extents_of in_box row_by_each row_shown shown texts type_0 type_1 type_4 type_5 polygon path line two_stems
 two_stems_is_drawn = refl

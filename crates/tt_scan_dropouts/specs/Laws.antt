@@ -6,27 +6,31 @@ use Rattle.tt_scan.specs.Contours.{IsClosed}
 use Rattle.tt_scan_edges.specs.Winding.{crossings_of, is_black}
 use Rattle.tt_scan_edges.specs.declared.edge.Edge.{Edge}
 use Rattle.tt_scan_edges.specs.declared.edge.Frame.{Frame}
-use Rattle.tt_scan_dropouts.specs.Counted.{bands, bitmap_bytes, box_columns, box_rows, edges_counted, filling_counted, rows_of_band}
+use Rattle.tt_scan_dropouts.specs.Counted.{bands, bitmap_bytes, edges_counted, extent_columns, extent_rows, filling_counted, rows_of_band}
 use Rattle.tt_scan_gaps.specs.BothWays.{crosses_gap}
+use Rattle.tt_scan_gaps.specs.Boxes.{HoldsEdges, columns_in, rows_in}
 use Rattle.tt_scan_gaps.specs.Crossings.{centre}
 use Rattle.tt_scan_dropouts.specs.Dropouts.{edges_of, is_added_by_columns, is_added_by_rows, is_dropout, is_inked, outline_turned}
+use Rattle.tt_scan_dropouts.specs.Windows.{box_has}
 use Rattle.tt_scan_gaps.specs.Gaps.{is_free}
-use Rattle.tt_scan_gaps.specs.declared.mark.Rules.{Rules}
+use Rattle.tt_scan_gaps.specs.declared.extent.Extent.{Extent}
+use Rattle.tt_scan_gaps.specs.declared.extent.Extents.{Extents}
+use Rattle.tt_scan_dropouts.specs.declared.boxed.BoxedRules.{BoxedRules}
 
 -- a pixel that the rows add is white by rules 1 and 2
 abbrev pub AddedByRowsWasWhite : Type 0
-AddedByRowsWasWhite = (rules : Rules) (contours : List (List Edge)) (c j : ℤ)
+AddedByRowsWasWhite = (rules : BoxedRules) (contours : List (List Edge)) (c j : ℤ)
     → is_added_by_rows rules contours c j ≡ true → is_inked contours c j ≡ false
 
 -- a pixel that the columns add is white by rules 1 and 2, and the rows do not add it
 abbrev pub AddedByColumnsWasWhite : Type 0
-AddedByColumnsWasWhite = (rules : Rules) (contours : List (List Edge)) (c j : ℤ)
+AddedByColumnsWasWhite = (rules : BoxedRules) (contours : List (List Edge)) (c j : ℤ)
     → is_added_by_columns rules contours c j ≡ true
     → (is_inked contours c j ≡ false) × (is_added_by_rows rules contours c j ≡ false)
 
 -- a dropout is white by rules 1 and 2
 abbrev pub DropoutWasWhite : Type 0
-DropoutWasWhite = (rules : Rules) (contours : List (List Edge)) (c j : ℤ)
+DropoutWasWhite = (rules : BoxedRules) (contours : List (List Edge)) (c j : ℤ)
     → is_dropout rules contours c j ≡ true → is_inked contours c j ≡ false
 
 -- an edge moved k pixels to the right and m up
@@ -41,10 +45,26 @@ moved k m e = record {
 abbrev pub outline_moved : ℤ → ℤ → List (List Edge) → List (List Edge)
 outline_moved k m contours = map (map (moved k m)) contours
 
--- an outline moved by whole pixels has its dropouts moved by as much
+-- an extent moved k pixels, and a box moved k pixels to the right and m up
+abbrev pub extent_moved : ℤ → Extent → Extent
+extent_moved k e = record { low = e.low +ℤ pos 8192 *ℤ k; high = e.high +ℤ pos 8192 *ℤ k }
+
+abbrev pub extents_moved : ℤ → ℤ → Extents → Extents
+extents_moved k m b = record { across = extent_moved k b.across; up = extent_moved m b.up }
+
+abbrev pub rules_moved : ℤ → ℤ → BoxedRules → BoxedRules
+rules_moved k m rules = record { rules = rules.rules; extents = extents_moved k m rules.extents }
+
+-- an outline moved by whole pixels with its box has its dropouts moved by as much
 abbrev pub DropoutsMoved : Type 0
-DropoutsMoved = (rules : Rules) (contours : List (List Edge)) (k m c j : ℤ)
-    → is_dropout rules (outline_moved k m contours) (c +ℤ k) (j +ℤ m) ≡ is_dropout rules contours c j
+DropoutsMoved = (rules : BoxedRules) (contours : List (List Edge)) (k m c j : ℤ)
+    → is_dropout (rules_moved k m rules) (outline_moved k m contours) (c +ℤ k) (j +ℤ m) ≡ is_dropout rules contours c j
+
+-- a dropout lies in the glyph's box, where the box holds the edges
+abbrev pub DropoutsLieInBox : Type 0
+DropoutsLieInBox = (rules : BoxedRules) (contours : List (List Edge)) (c j : ℤ) → HoldsEdges rules.extents (edges_of contours)
+    → is_dropout rules contours c j ≡ true
+    → box_has (columns_in rules.extents) (rows_in rules.extents) c j ≡ true
 
 -- some edge rises through a free gap of a row if and only if one falls through it, whatever the edges
 abbrev pub RowsCrossedBothWays : Type 0
@@ -62,20 +82,20 @@ ColumnsCrossedBothWays = (contours : List (List Edge)) (c j : ℤ) → All IsClo
 abbrev pub RowsAreCounted : Type 0
 RowsAreCounted = (f : Frame) (es : List Edge) → crossings_of f es ≤ edges_counted es
 
--- the bitmap of a part of the box of some edges is counted, and so are the bitmaps of all bands
+-- the bitmap of a part of a glyph's box is counted, and so are the bitmaps of all bands
 abbrev pub BitmapIsCounted : Type 0
-BitmapIsCounted = (es : List Edge) (columns rows : ℕ) → columns ≤ box_columns es → rows ≤ box_rows es
-    → bitmap_bytes columns rows / 64 ≤ filling_counted es
+BitmapIsCounted = (b : Extents) (es : List Edge) (columns rows : ℕ) → columns ≤ extent_columns b → rows ≤ extent_rows b
+    → bitmap_bytes columns rows / 64 ≤ filling_counted b es
 
 abbrev pub BandsAreCounted : Type 0
-BandsAreCounted = (es : List Edge) (columns : ℕ) → columns ≤ box_columns es
-    → sum_by (λ k. bitmap_bytes columns (rows_of_band (box_rows es) k)) (range_with_len 0 (bands (box_rows es))) / 64
-    ≤ filling_counted es
+BandsAreCounted = (b : Extents) (es : List Edge) (columns : ℕ) → columns ≤ extent_columns b
+    → sum_by (λ k. bitmap_bytes columns (rows_of_band (extent_rows b) k)) (range_with_len 0 (bands (extent_rows b))) / 64
+    ≤ filling_counted b es
 
 -- edges moved by whole pixels count the same
 abbrev pub CountsStay : Type 0
-CountsStay = (k m : ℤ) (es : List Edge) → (edges_counted (map (moved k m) es) ≡ edges_counted es)
-    × (filling_counted (map (moved k m) es) ≡ filling_counted es)
+CountsStay = (k m : ℤ) (b : Extents) (es : List Edge) → (edges_counted (map (moved k m) es) ≡ edges_counted es)
+    × (filling_counted (extents_moved k m b) (map (moved k m) es) ≡ filling_counted b es)
 
 -- worked values: a stem from below row 0 to above it, between the centres of columns 0 and 1
 stem : List Edge

@@ -5,7 +5,7 @@ use Rattle.std.specs.List.Sorted.{IsNonDecreasingBy}
 use Rattle.tt_scan_edges.specs.declared.edge.Edge.{Edge}
 use Rattle.tt_scan_edges.specs.declared.edge.Frame.{Frame}
 use Rattle.tt_scan_dropouts.specs.Dropouts.{is_dropout}
-use Rattle.tt_scan_gaps.specs.declared.mark.Rules.{Rules}
+use Rattle.tt_scan_dropouts.specs.declared.boxed.BoxedRules.{BoxedRules}
 use Rattle.tt_scan_dropouts.specs.declared.picture.Dropout.{Dropout}
 
 -- column c of a picture, counted rightwards from a pen, and row r, counted upwards from the base line
@@ -16,7 +16,7 @@ abbrev pub line_at : Frame → ℕ → ℤ
 line_at f r = ((f.rise +ℤ pos f.margin) -ℤ pos 1) -ℤ pos r
 
 -- contours made for pen 0 have a dropout at column c of row r, from some pen
-abbrev pub is_dropout_from : Frame → Rules → List (List Edge) → List ℕ → ℕ → ℕ → Bool
+abbrev pub is_dropout_from : Frame → BoxedRules → List (List Edge) → List ℕ → ℕ → ℕ → Bool
 is_dropout_from f rules contours [] c r = false
 is_dropout_from f rules contours (pen ∷ pens) c r =
     is_dropout rules contours (column_at f pen c) (line_at f r) || is_dropout_from f rules contours pens c r

@@ -3,10 +3,11 @@
 ghost use Rattle.std.specs.Prelude.{◌≡◌, ◌^◌, ◌≤◌, length, All};
 ghost use Rattle.tt_scan.specs.Contours.{AreEnds};
 ghost use Rattle.tt_scan_edges.specs.Winding.{EdgeFits};
+ghost use Rattle.tt_scan_gaps.specs.Boxes.{IsBoxOf};
 ghost use Rattle.tt_scan_dropouts.specs.Ends.{AreEnds-prop};
 
+use crate::boxed::BoxedRules;
 use tt_scan::{Edge, Tape};
-use tt_scan_gaps::Rules;
 
 /// The edges of an outline, contour by contour; `ends` has for each contour the number of its edges and of those before
 /// it.
@@ -18,12 +19,13 @@ pub(crate) struct Contours<'a> {
     pub(crate) ghost are_ends: { AreEnds (length edges.now) ends.now } by { AreEnds-prop 0 (length edges.now) ends.now },
 }
 
-/// A glyph whose dropouts are filled: the rules, its edges on a tape, and where its contours end among them.
+/// A glyph whose dropouts are filled: the rules and its box, its edges on a tape, and where its contours end among them.
 #[derive(Clone, Copy)]
 pub struct Outlined<'a> {
-    pub rules: Rules,
+    pub rules: BoxedRules,
     pub tape: &'a Tape,
     pub ends: &'a [usize],
+    pub ghost boxed: { IsBoxOf rules.extents tape.now.edges },
     pub ghost few: { length tape.now.edges ≤ 2 ^ 32 },
     pub ghost are_ends: { AreEnds (length tape.now.edges) ends.now } by { AreEnds-prop 0 (length tape.now.edges) ends.now },
 }

@@ -4,10 +4,10 @@ ghost use Rattle.std.specs.Prelude.{◌≡◌, ◌^◌, ◌*◌, ◌+◌, ◌<�
 ghost use Rattle.tt_scan_edges.specs.Winding.{EdgeFits};
 ghost use Rattle.tt_scan_dropouts.specs.Counted.{bands, bands_bytes, edges_counted, filling_counted, numbers_in, rows_crossed};
 ghost use Rattle.tt_scan_dropouts.specs.Dropouts.{crossed};
-ghost use Rattle.tt_scan_gaps.specs.Boxes.{ColumnsFit};
+ghost use Rattle.tt_scan_gaps.specs.Boxes.{ColumnsFit, ExtentsFit};
 
 use tt_scan::Edge;
-use tt_scan_gaps::{Columns, box_of, lines_crossed, turned_round};
+use tt_scan_gaps::{Columns, Extents, box_of, lines_crossed, pixels_in, turned_round};
 
 /// The most rows that are worked on at once where a glyph may have more rows than a picture.
 pub const BAND_ROWS: u32 = 2048;
@@ -103,15 +103,16 @@ fn searched(bands: u64, crossed: u64) -> u64
 }
 
 /// What edges count besides where dropouts are filled: for each row or column that an edge crosses three, and one for
-/// each band; and one for each 64 bytes of the bitmaps of their box.
+/// each band; and one for each 64 bytes of the bitmaps of the glyph's box.
 #[tactic(auto, unfolding(crate::specs::Counted::filling_counted))]
-pub fn filling_counted(edges: &[Edge]) -> u64
+pub fn filling_counted(extents: Extents, edges: &[Edge]) -> u64
+    requires extents { ExtentsFit extents }
     requires edges { All EdgeFits edges.now }
     requires few { length edges.now ≤ 2 ^ 32 }
-    ensures exact { result ≡ filling_counted edges.now }
+    ensures exact { result ≡ filling_counted extents edges.now }
     ensures bound { result ≤ 2 ^ 31 * length edges.now + 2 ^ 33 }
 {
-    let (columns, rows) = box_of(edges);
+    let (columns, rows) = pixels_in(extents);
     let rows = numbers_in(rows);
     searched(bands(rows), crossed(edges)) + bands_bytes(numbers_in(columns), rows) / 64
 }

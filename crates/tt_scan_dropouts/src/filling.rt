@@ -6,9 +6,8 @@ ghost use Rattle.std.specs.List.{list_any};
 ghost use Rattle.std.specs.Ordering.{int_eq};
 ghost use Rattle.tt_scan.specs.Contours.{IsClosed, contours_at};
 ghost use Rattle.tt_scan_edges.specs.Winding.{EdgeFits};
-ghost use Rattle.tt_scan_gaps.specs.Boxes.{columns_of};
 ghost use Rattle.tt_scan_gaps.specs.Seen.{seen_by, turned_round};
-ghost use Rattle.tt_scan_dropouts.specs.Dropouts.{is_dropout, row_adds};
+ghost use Rattle.tt_scan_dropouts.specs.Dropouts.{is_dropout, pass_adds};
 ghost use Rattle.tt_scan_dropouts.specs.Passes.{has_pixel};
 ghost use Rattle.tt_scan_dropouts.specs.Seen.{is_black_to};
 ghost use Rattle.tt_scan_gaps.specs.Walk.{is_in_free_gap};
@@ -24,7 +23,7 @@ use crate::pixel::Pixel;
 use crate::window::{Window, clipped, has, widened};
 use std::alloc::{AllocError, Global};
 use tt_scan::Edge;
-use tt_scan_gaps::{Columns, Over, box_of, meets, seen_by, sort_marks, turned_round};
+use tt_scan_gaps::{Columns, Over, meets, pixels_in, seen_by, sort_marks, turned_round};
 
 /// Edges with x and y exchanged. Error: memory ran out.
 fn all_turned_round(alloc: Global, edges: &[Edge]) -> Result<Vec<Edge>, AllocError>
@@ -37,15 +36,15 @@ fn all_turned_round(alloc: Global, edges: &[Edge]) -> Result<Vec<Edge>, AllocErr
     Ok(turned)
 }
 
-/// The pixels that a pass adds, by contours as the pass sees them and the columns of their box. Error: memory ran out.
+/// The pixels that a pass adds, by contours as the pass sees them and the columns of the glyph's box. Error: memory ran
+/// out.
 fn pass_over(
     alloc: Global,
     pass: Pass,
     columns: Columns,
     contours: Contours,
 ) -> Result<Vec<Pixel>, AllocError>
-    requires { columns ≡ columns_of contours.edges.now }
-    ensures { IfOk result (λ v. (p j : ℤ) → has_pixel v.items p j ≡ row_adds pass.entry.rules
+    ensures { IfOk result (λ v. (p j : ℤ) → has_pixel v.items p j ≡ pass_adds pass.entry.rules columns
         (contours_at contours.entry.edges.now contours.entry.ends.now) (is_black_to pass.entry) p j) }
 {
     let mut marks = free_marks(alloc, pass, contours)?;
@@ -99,10 +98,9 @@ fn added(
     columns: Columns,
     contours: Contours,
 ) -> Result<Vec<Pixel>, AllocError>
-    requires columns { columns ≡ columns_of contours.edges.now }
-    requires some { some ≡ false → list_any (is_in_free_gap pass.rules.stubs (is_black_to pass))
+    requires { some ≡ false → list_any (is_in_free_gap pass.rules.stubs (is_black_to pass))
         contours.edges.now ≡ false }
-    ensures { IfOk result (λ v. (p j : ℤ) → has_pixel v.items p j ≡ row_adds pass.entry.rules
+    ensures { IfOk result (λ v. (p j : ℤ) → has_pixel v.items p j ≡ pass_adds pass.entry.rules columns
         (contours_at contours.entry.edges.now contours.entry.ends.now) (is_black_to pass.entry) p j) }
 {
     if !some {
@@ -116,13 +114,12 @@ fn added_turned(
     alloc: Global,
     pass: Pass,
     some: bool,
-    rows: Columns,
+    columns: Columns,
     contours: Contours,
 ) -> Result<Vec<Pixel>, AllocError>
-    requires rows { rows ≡ columns_of (map turned_round contours.edges.now) }
-    requires some { some ≡ false → list_any (is_in_free_gap pass.rules.stubs (is_black_to pass))
+    requires { some ≡ false → list_any (is_in_free_gap pass.rules.stubs (is_black_to pass))
         (map turned_round contours.edges.now) ≡ false }
-    ensures { IfOk result (λ v. (p j : ℤ) → has_pixel v.items p j ≡ row_adds pass.entry.rules
+    ensures { IfOk result (λ v. (p j : ℤ) → has_pixel v.items p j ≡ pass_adds pass.entry.rules columns
         (contours_at (map turned_round contours.entry.edges.now) contours.entry.ends.now) (is_black_to pass.entry) p j) }
 {
     if !some {
@@ -133,7 +130,7 @@ fn added_turned(
         edges: &turned,
         ends: contours.ends,
     };
-    pass_over(alloc, pass, rows, contours)
+    pass_over(alloc, pass, columns, contours)
 }
 
 /// The pixel of a pass, by its column and its row.
@@ -187,15 +184,16 @@ pub fn dropouts(alloc: Global, glyph: Outlined, window: Window) -> Result<Vec<Pi
         ≡ (has window c j && is_dropout glyph.entry.rules (contours_at glyph.entry.tape.now.edges glyph.entry.ends.now) c j)) }
 {
     let contours = glyph.contours();
-    let (columns, rows) = box_of(contours.edges);
+    let rules = glyph.rules.rules;
+    let (columns, rows) = pixels_in(glyph.rules.extents);
     let part = match clipped(window, columns, rows) {
         Some(part) => part,
         None => return Ok(Vec::new(alloc)),
     };
     let mut ink = Bitmap::inked(alloc, glyph.tape, widened(part))?;
-    let (some_by_rows, some_by_columns) = some_in_free_gap(&ink, glyph.rules.stubs, contours.edges);
+    let (some_by_rows, some_by_columns) = some_in_free_gap(&ink, rules.stubs, contours.edges);
     let across = Pass {
-        rules: glyph.rules,
+        rules,
         over: Over::Rows,
         ink: &ink,
     };
@@ -203,7 +201,7 @@ pub fn dropouts(alloc: Global, glyph: Outlined, window: Window) -> Result<Vec<Pi
     // The pixels that are black now make no further gap free, so the test by columns remains true.
     ink.blacken_all(&by_rows);
     let along = Pass {
-        rules: glyph.rules,
+        rules,
         over: Over::Columns,
         ink: &ink,
     };
@@ -225,7 +223,7 @@ pub(crate) fn closed_dropouts(
     ensures exact { IfOk result (λ v. (c j : ℤ) → has_pixel v.items c j
         ≡ (has window c j && is_dropout glyph.entry.rules (contours_at glyph.entry.tape.now.edges glyph.entry.ends.now) c j)) }
 {
-    if !closed_may_have_dropouts(glyph.rules.stubs, glyph.contours()) {
+    if !closed_may_have_dropouts(glyph.rules.rules.stubs, glyph.contours()) {
         return Ok(Vec::new(alloc));
     }
     dropouts(alloc, glyph, window)

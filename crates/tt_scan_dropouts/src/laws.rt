@@ -1,6 +1,6 @@
 //! Lemmas about the definitions, for all outlines.
 
-ghost use Rattle.tt_scan_dropouts.specs.Laws.{AddedByColumnsWasWhite, AddedByRowsWasWhite, BandsAreCounted, BitmapIsCounted, ColumnsCrossedBothWays, CountsStay, DropoutWasWhite, DropoutsMoved, RowsAreCounted, RowsCrossedBothWays};
+ghost use Rattle.tt_scan_dropouts.specs.Laws.{AddedByColumnsWasWhite, AddedByRowsWasWhite, BandsAreCounted, BitmapIsCounted, ColumnsCrossedBothWays, CountsStay, DropoutWasWhite, DropoutsLieInBox, DropoutsMoved, RowsAreCounted, RowsCrossedBothWays};
 
 /// Lemma: the rows add only pixels that rules 1 and 2 leave white, and the columns only pixels that are still white
 /// then.
@@ -13,6 +13,11 @@ pub fn added_were_white()
 /// Lemma: an outline moved by whole pixels has its dropouts moved by as much.
 pub fn dropouts_moved()
     ensures { DropoutsMoved }
+{}
+
+/// Lemma: a dropout lies in the glyph's box, where the box holds the edges.
+pub fn dropouts_lie_in_box()
+    ensures { DropoutsLieInBox }
 {}
 
 /// Lemma: a free gap of a row is crossed both ways or not at all, whatever the edges. A free gap of a column is too, if

@@ -5,6 +5,7 @@
 //! Here are the passes over all rows and columns of a glyph, with worked pictures and lemmas, and the code:
 //!
 //! ```text
+//! boxed.rt      the rules for the dropouts of a glyph, with its box
 //! contours.rt   the contours of an outline, and a glyph whose dropouts are filled
 //! closed.rt     which contours are closed
 //! may_have.rt   whether a glyph may have dropouts
@@ -23,6 +24,7 @@
 #![tactic(auto)]
 
 mod bitmap;
+mod boxed;
 mod closed;
 mod contours;
 mod counting;
@@ -35,11 +37,12 @@ mod picture;
 mod pixel;
 mod window;
 
+pub use boxed::BoxedRules;
 pub use contours::Outlined;
 pub use counting::{BAND_ROWS, edges_counted, filling_counted};
 pub use filling::dropouts;
 pub use may_have::may_have_dropouts;
 pub use picture::{Dropout, blacken_dropouts, push_dropouts, sort_by_rows};
 pub use pixel::Pixel;
-pub use tt_scan_gaps::{Columns, Rules, box_of};
+pub use tt_scan_gaps::{Columns, Extent, Extents, Rules, box_of, pixels_in};
 pub use window::Window;

@@ -7,7 +7,7 @@ ghost use Rattle.std.specs.List.{list_any};
 ghost use Rattle.tt_scan.specs.Contours.{AreEnds, IsClosed, contours_at};
 ghost use Rattle.tt_scan_gaps.specs.Crossings.{has_end_on_line};
 ghost use Rattle.tt_scan_dropouts.specs.Dropouts.{is_dropout};
-ghost use Rattle.tt_scan_gaps.specs.declared.mark.Rules.{Rules};
+ghost use Rattle.tt_scan_dropouts.specs.declared.boxed.BoxedRules.{BoxedRules};
 
 use crate::closed::are_closed;
 use crate::contours::Contours;
@@ -31,7 +31,7 @@ fn some_end_on_line(edges: &[Edge]) -> bool
 /// rising and falling, and, where stubs are drawn, no edge ends on a line.
 pub(crate) fn closed_may_have_dropouts(stubs: bool, contours: Contours) -> bool
     requires { All IsClosed (contours_at contours.edges.now contours.ends.now) }
-    ensures { result ≡ false → (rules : Rules) → rules.stubs ≡ stubs → (c j : ℤ)
+    ensures { result ≡ false → (rules : BoxedRules) → rules.rules.stubs ≡ stubs → (c j : ℤ)
         → is_dropout rules (contours_at contours.entry.edges.now contours.entry.ends.now) c j ≡ false }
 {
     if stubs && some_end_on_line(contours.edges) {
@@ -46,7 +46,7 @@ pub(crate) fn closed_may_have_dropouts(stubs: bool, contours: Contours) -> bool
 pub fn may_have_dropouts(stubs: bool, edges: &[Edge], ends: &[usize]) -> bool
     requires edges { All EdgeFits edges.now }
     requires ends { AreEnds (length edges.now) ends.now }
-    ensures { result ≡ false → (rules : Rules) → rules.stubs ≡ stubs → (c j : ℤ)
+    ensures { result ≡ false → (rules : BoxedRules) → rules.rules.stubs ≡ stubs → (c j : ℤ)
         → is_dropout rules (contours_at edges.now ends.now) c j ≡ false }
 {
     let contours = Contours { edges, ends };

@@ -5,6 +5,9 @@ pub mod Edges
 pub mod Extents
 pub mod Floors
 pub mod Followed
+pub mod JoinedKept
+pub mod JoinedMoved
+pub mod Joins
 pub mod Orders
 pub mod Ranges
 pub mod RowOrder

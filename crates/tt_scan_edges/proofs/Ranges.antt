@@ -35,7 +35,7 @@ between_from a b z low high k is_low is_high =
     let two = shifted z (int_max a b) k high (omega (arith, ints)) in
     between_is a b z ∙ rw (one, two) refl
 
-and_turned : (p q : Bool) → (p && q) ≡ (q && p)
+pub and_turned : (p q : Bool) → (p && q) ≡ (q && p)
 and_turned true true = refl
 and_turned true false = refl
 and_turned false true = refl

@@ -2,6 +2,8 @@ pub mod Bounds
 pub mod Counted
 pub mod Crossing
 pub mod Entries
+pub mod Joined
+pub mod Laws
 pub mod Left
 pub mod Marks
 pub mod Walks

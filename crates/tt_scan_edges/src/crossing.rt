@@ -175,12 +175,12 @@ pub(crate) fn crossing_met(edge: Edge, at: RowAt) -> Cross
     }
 }
 
-/// Whether a height lies between two others, both included.
+/// Whether a place along an axis lies between two others, both included.
 #[inline(always)]
-fn is_between(a: i64, b: i64, y: i64) -> bool
-    ensures { result ≡ is_between a b y }
+pub(crate) fn is_between(a: i64, b: i64, z: i64) -> bool
+    ensures { result ≡ is_between a b z }
 {
-    (a <= y && y <= b) || (b <= y && y <= a)
+    (a <= z && z <= b) || (b <= z && z <= a)
 }
 
 /// Whether an edge reaches a height, its ends included.

@@ -15,6 +15,8 @@
 //! mark.rt        a mark, and a span
 //! stretch.rt     the marks in order of their columns, and black spans where their sum isn't 0 (rule 1)
 //! insertion.rt   sorting marks and walks, which are nearly in order
+//! join.rt        edges of a contour that meet no line, joined
+//! laws.rt        joined edges blacken what the edges do
 //! bounds.rt      the least and the greatest black column
 //! ```
 //!
@@ -27,6 +29,8 @@ mod crossing;
 mod edge;
 mod entry;
 mod insertion;
+mod join;
+pub mod laws;
 mod left;
 mod mark;
 mod pixel;

@@ -10,6 +10,7 @@ use Rattle.std.proofs.lemmas.List.FromFn.{get_or-map-range_with_len, length-map-
 use Rattle.tt_scan_edges.specs.Winding.{EdgeFits}
 use Rattle.tt_scan_edges.specs.declared.edge.Edge.{Edge}
 use Rattle.tt_scan_gaps.specs.Crossings.{centre, crossing, crossing_at, crossings, edge_x, gap_at, is_rising, line_crossed, lines_crossed, touches, upward}
+use Rattle.tt_scan_gaps.specs.Boxes.{EdgeWithin}
 use Rattle.tt_scan_gaps.specs.declared.mark.Crossing.{Crossing}
 use Rattle.tt_scan_gaps.proofs.Lines.{floor_high, floor_low, line_high, line_low}
 
@@ -19,13 +20,6 @@ pub record IsWithin (least_x greatest_x least_y greatest_y : ℤ) (c : Crossing)
   pub right : centre c.gap ≤ℤ greatest_x
   pub bottom : least_y ≤ℤ centre c.line
   pub top : centre c.line ≤ℤ greatest_y
-
--- an edge in a box
-pub record EdgeWithin (least_x greatest_x least_y greatest_y : ℤ) (e : Edge) : Type 0 where
-  pub left : least_x ≤ℤ int_min e.ax e.bx
-  pub right : int_max e.ax e.bx ≤ℤ greatest_x
-  pub bottom : least_y ≤ℤ int_min e.ay e.by
-  pub top : int_max e.ay e.by ≤ℤ greatest_y
 
 -- an edge's distance right of its lower end at a height is between 0 and its width
 

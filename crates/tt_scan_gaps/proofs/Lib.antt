@@ -1,6 +1,7 @@
 pub mod Bounds
 pub mod Boxes
 pub mod GapMarks
+mod JoinedLines
 pub mod Lines
 pub mod Points
 pub mod Tests

@@ -2,5 +2,6 @@ pub mod BothWays
 pub mod Boxes
 pub mod Crossings
 pub mod Gaps
+pub mod Laws
 pub mod Seen
 pub mod Walk

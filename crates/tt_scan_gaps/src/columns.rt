@@ -3,10 +3,11 @@
 ghost use Rattle.std.specs.Prelude.{◌≡◌, ◌^◌, ◌<◌, map, unsigned_abs, All};
 ghost use Rattle.std.specs.Int.{int_max, int_min};
 ghost use Rattle.tt_scan_edges.specs.Winding.{EdgeFits};
-ghost use Rattle.tt_scan_gaps.specs.Boxes.{ColumnsFit, ExtentFits, columns_between, columns_of, greatest_x, least_x};
+ghost use Rattle.tt_scan_gaps.specs.Boxes.{ColumnsFit, ExtentFits, ExtentsFit, columns_between, columns_in, columns_of, greatest_x, least_x, rows_in};
 ghost use Rattle.tt_scan_gaps.specs.Seen.{turned_round};
 
 use crate::crossings::{PIXEL, gap_at, line_from};
+use crate::extent::{Extent, Extents};
 use crate::mark::Columns;
 use tt_scan_edges::Edge;
 
@@ -26,13 +27,6 @@ fn columns_between(low: i32, high: i32) -> Columns
     } else {
         Columns { first: last, last }
     }
-}
-
-/// The least and the greatest of some places, in 1/8192 pixel.
-#[derive(Clone, Copy)]
-struct Extent {
-    low: i32,
-    high: i32,
 }
 
 /// An extent with two places more.
@@ -69,6 +63,20 @@ fn extents(x: i32, y: i32, edges: &[Edge]) -> (Extent, Extent)
         up = with(up, edge.ay, edge.by);
     }
     (across, up)
+}
+
+/// The columns and the rows of a box: those with a centre in it. Where there is none, the column or row nearer to the
+/// middle.
+pub fn pixels_in(extents: Extents) -> (Columns, Columns)
+    requires { ExtentsFit extents }
+    ensures columns { result.0 ≡ columns_in extents }
+    ensures rows { result.1 ≡ rows_in extents }
+    ensures small { ColumnsFit result.0 × ColumnsFit result.1 }
+{
+    (
+        columns_between(extents.across.low, extents.across.high),
+        columns_between(extents.up.low, extents.up.high),
+    )
 }
 
 /// The columns and the rows of the box of edges: those with a centre from the least to the greatest x and y. Where

@@ -11,8 +11,10 @@
 //! point.rt      how often edges wind round a point, by each edge
 //! looks.rt      whether a gap may be free, by each edge, and for how many gaps of a glyph that is asked
 //! both_ways.rt  whether some free gap is crossed both rising and falling
-//! columns.rt    the columns of a glyph's box
+//! extent.rt     a glyph's box
+//! columns.rt    the columns and the rows of a box
 //! gaps.rt       which pixel a gap needs
+//! laws.rt       edges that are joined cross and touch the same lines
 //! ```
 //!
 //! tt_scan_dropouts passes over the gaps of all rows, and over those of all columns. The text speaks of rows. Columns
@@ -22,7 +24,9 @@
 mod both_ways;
 mod columns;
 mod crossings;
+mod extent;
 mod gaps;
+pub mod laws;
 mod looks;
 mod mark;
 mod point;
@@ -30,8 +34,9 @@ mod seen;
 mod steps;
 mod stub;
 
-pub use columns::box_of;
+pub use columns::{box_of, pixels_in};
 pub use crossings::{crossing, gap_crossed, has_end_on_line, line_crossed, lines_crossed, touch};
+pub use extent::{Extent, Extents};
 pub use gaps::{group_end, pixel_of, some_asks, sort_marks};
 pub use looks::may_cross_both_ways;
 pub use mark::{Columns, Crossing, Mark, Rules, Step};

@@ -16,7 +16,7 @@ pub one_row_more : (r n old now one new : ℕ) → now ≤ old + r * n → new �
     → new ≤ old + (r + 1) * n
 one_row_more r n old now one new so_far is few = omega (arith, so_far, is, few)
 
-pub all_fit : (h n : ℕ) → h ≤ 4096 → n ≤ 2 ^ 17 → 0 + h * n ≤ 2 ^ 63
+pub all_fit : (h n : ℕ) → h ≤ 4096 → n ≤ 2 ^ 19 → 0 + h * n ≤ 2 ^ 63
 all_fit h n rows edges =
     let most : h * n ≤ 4096 * n = mul-le-mul_right n rows in
     omega (arith, most, edges)

@@ -8,17 +8,16 @@ use Rattle.tt_scan.specs.Contours.{IsClosed}
 use Rattle.tt_scan_edges.specs.Winding.{is_between, is_black, is_zero, lies_on, lies_on_one, side, winding}
 use Rattle.tt_scan_edges.specs.declared.edge.Edge.{Edge}
 use Rattle.tt_scan_gaps.specs.Crossings.{centre}
-use Rattle.tt_scan_gaps.specs.Boxes.{columns_of, greatest_x, is_column_of, least_x}
+use Rattle.tt_scan_gaps.specs.Boxes.{EdgeWithin, columns_in, columns_of, greatest_x, is_column_of, least_x, rows_in}
 use Rattle.tt_scan_gaps.specs.Seen.{turned_round}
 use Rattle.tt_scan_dropouts.specs.Dropouts.{edges_of, is_dropout, is_inked}
 use Rattle.tt_scan_gaps.specs.declared.mark.Columns.{Columns}
-use Rattle.tt_scan_gaps.proofs.Bounds.{EdgeWithin}
-use Rattle.tt_scan_dropouts.proofs.InBox.{IsColumnOf, LiesInBoxOf, dropout_in_box, edges_turned, edges_within, line_within, turned_twice}
+use Rattle.tt_scan_dropouts.proofs.InBox.{IsColumnOf, LiesInBox, LiesInBoxOf, dropout_in_box, edges_turned, edges_within, line_within, turned_twice}
 use Rattle.tt_scan_dropouts.proofs.TurnedWinding.{round_all}
 use Rattle.tt_scan_ink.specs.Ink.{count_of, ink_in}
 use Rattle.tt_scan_ink.specs.Laws.{DropoutsInkHoldsAll, EdgesInkHoldsAll}
 use Rattle.tt_scan_ink.specs.Least.{IsInk, shown}
-use Rattle.tt_scan_ink.proofs.Near.{columns_order}
+use Rattle.tt_scan_ink.proofs.Near.{InOrder, between_order, columns_order}
 use Rattle.tt_scan_ink.proofs.Regions.{counted, ink_is}
 use Rattle.tt_scan_ink.proofs.Together.{ink_alike}
 
@@ -36,19 +35,20 @@ is_column b c h =
     let last = h.last in
     grind (arith, ints, first, last)
 
-all_held : (black : ℤ → ℤ → Bool) (es : List Edge) → ((c j : ℤ) → black c j ≡ true → LiesInBoxOf es c j)
-    → IsInk black (ink_in black (columns_of es) (columns_of (map turned_round es)))
-all_held black es within =
-    let columns = columns_of es in
-    let rows = columns_of (map turned_round es) in
+all_held : (black : ℤ → ℤ → Bool) (columns rows : Columns) → InOrder columns → InOrder rows
+    → ((c j : ℤ) → black c j ≡ true → LiesInBox columns rows c j) → IsInk black (ink_in black columns rows)
+all_held black columns rows across up within =
     ink_alike (shown columns rows.first (count_of rows) black) black (ink_in black columns rows)
-    (λ c j. rw (counted rows j (columns_order (map turned_round es)))
+    (λ c j. rw (counted rows j up)
     (inside (is_column_of columns c) (is_column_of rows j) (black c j) (λ is.
     let at = within c j is in (is_column columns c at.column, is_column rows j at.row))))
-    (ink_is black columns rows (columns_order es))
+    (ink_is black columns rows across)
 
 pub dropouts_held : DropoutsInkHoldsAll
-dropouts_held rules contours = all_held (is_dropout rules contours) (edges_of contours) (dropout_in_box rules contours)
+dropouts_held rules contours held =
+    let b = rules.extents in
+    all_held (is_dropout rules contours) (columns_in b) (rows_in b) (between_order b.across.low b.across.high)
+    (between_order b.up.low b.up.high) (λ c j is. dropout_in_box rules contours c j held is)
 
 -- on an edge
 
@@ -194,4 +194,7 @@ inked_in_box contours closed c j is = elim (cases_Bool (lies_on_one (edges_of co
 ]
 
 pub edges_held : EdgesInkHoldsAll
-edges_held contours closed = all_held (is_inked contours) (edges_of contours) (inked_in_box contours closed)
+edges_held contours closed =
+    let es = edges_of contours in
+    all_held (is_inked contours) (columns_of es) (columns_of (map turned_round es)) (columns_order es)
+    (columns_order (map turned_round es)) (inked_in_box contours closed)

@@ -7,8 +7,9 @@ use Rattle.std.proofs.lemmas.List.Elements.{All-head, All-map, All-tail, All-wea
 use Rattle.tt_scan_edges.specs.Winding.{EdgeFits}
 use Rattle.tt_scan_edges.specs.declared.edge.Edge.{Edge}
 use Rattle.tt_scan_gaps.specs.Crossings.{gap_at, line_from}
-use Rattle.tt_scan_gaps.specs.Boxes.{columns_between, columns_of, greatest_x, least_x}
+use Rattle.tt_scan_gaps.specs.Boxes.{ExtentsFit, columns_between, columns_in, columns_of, greatest_x, least_x, rows_in}
 use Rattle.tt_scan_gaps.specs.Seen.{turned_round}
+use Rattle.tt_scan_gaps.specs.declared.extent.Extents.{Extents}
 use Rattle.tt_scan_gaps.specs.declared.mark.Columns.{Columns}
 use Rattle.tt_scan_gaps.proofs.Lines.{floor_high, floor_low}
 use Rattle.tt_scan_ink.specs.Least.{AreNear}
@@ -60,7 +61,7 @@ chosen_near first last false false low high order = record { first = high; last 
 in_order : (a b : ℤ) → int_le a b ≡ true → a ≤ℤ b
 in_order a b is = grind (arith, ints)
 
-between_near : (low high : ℤ) → unsigned_abs low < 2 ^ 30 → unsigned_abs high < 2 ^ 30
+pub between_near : (low high : ℤ) → unsigned_abs low < 2 ^ 30 → unsigned_abs high < 2 ^ 30
     → AreNear (columns_between low high)
 between_near low high is also =
     let first = line_from low in
@@ -69,7 +70,7 @@ between_near low high is also =
     (floor_near (low +ℤ pos 4095) (omega (arith, ints, is))) (floor_near (high -ℤ pos 4096) (omega (arith, ints, also)))
     (in_order first last)
 
-between_order : (low high : ℤ) → InOrder (columns_between low high)
+pub between_order : (low high : ℤ) → InOrder (columns_between low high)
 between_order low high =
     chosen_order (line_from low) (gap_at high) (int_le (line_from low) (gap_at high))
     (int_le (pos 16384 *ℤ line_from low) (low +ℤ high)) (in_order (line_from low) (gap_at high))
@@ -92,3 +93,8 @@ pub lines_near : (es : List Edge) → All EdgeFits es → AreNear (columns_of (m
 lines_near es fits =
     columns_near (map turned_round es)
     (All-map EdgeFits turned_round es (All-weaker EdgeFits (λ e. EdgeFits (turned_round e)) turned_fits es fits))
+
+-- the columns and the rows of a box that fits
+pub box_near : (b : Extents) → ExtentsFit b → AreNear (columns_in b) × AreNear (rows_in b)
+box_near b fits =
+    (between_near b.across.low b.across.high fits.across.low fits.across.high, between_near b.up.low b.up.high fits.up.low fits.up.high)

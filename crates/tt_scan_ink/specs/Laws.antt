@@ -3,7 +3,8 @@ use Rattle.std.specs.Prelude.{Bool, ◌||◌, ℤ, All, List, Option}
 use Rattle.tt_scan.specs.Contours.{IsClosed}
 use Rattle.tt_scan_edges.specs.declared.edge.Edge.{Edge}
 use Rattle.tt_scan_dropouts.specs.Dropouts.{edges_of, is_dropout, is_inked}
-use Rattle.tt_scan_gaps.specs.declared.mark.Rules.{Rules}
+use Rattle.tt_scan_gaps.specs.Boxes.{HoldsEdges}
+use Rattle.tt_scan_dropouts.specs.declared.boxed.BoxedRules.{BoxedRules}
 use Rattle.tt_scan_ink.specs.Ink.{dropouts_ink, edges_ink, joined}
 use Rattle.tt_scan_ink.specs.Least.{IsInk}
 use Rattle.tt_scan_ink.specs.declared.ink.GlyphInk.{GlyphInk}
@@ -13,10 +14,10 @@ abbrev pub EdgesInkHoldsAll : Type 0
 EdgesInkHoldsAll = (contours : List (List Edge)) → All IsClosed contours
     → IsInk (is_inked contours) (edges_ink (edges_of contours))
 
--- no dropout lies outside the box of the edges, whatever the contours
+-- no dropout lies outside the glyph's box, where the box holds the edges, whatever the contours
 abbrev pub DropoutsInkHoldsAll : Type 0
-DropoutsInkHoldsAll = (rules : Rules) (contours : List (List Edge))
-    → IsInk (is_dropout rules contours) (dropouts_ink rules contours (edges_of contours))
+DropoutsInkHoldsAll = (rules : BoxedRules) (contours : List (List Edge)) → HoldsEdges rules.extents (edges_of contours)
+    → IsInk (is_dropout rules contours) (dropouts_ink rules contours)
 
 -- two boxes joined are the box of the pixels that are black in either
 abbrev pub JoinedHoldsBoth : Type 0

@@ -3,6 +3,7 @@
 ghost use Rattle.std.specs.Prelude.{◌≡◌, ◌+◌, ◌^◌, ◌<◌, ◌≤◌, [], ◌∷◌, length, unsigned_abs, IfOk, IfSome};
 ghost use Rattle.tt_core.specs.Limits.{height_limit};
 ghost use Rattle.tt_scan.specs.Contours.{AreEnds, contours_at};
+ghost use Rattle.tt_scan_gaps.specs.Boxes.{IsBoxOf};
 ghost use Rattle.tt_scan_dropouts.specs.Dropouts.{is_dropout};
 ghost use Rattle.tt_scan_dropouts.specs.Passes.{has_pixel};
 ghost use Rattle.tt_scan_dropouts.specs.Windows.{WindowFits, widened};
@@ -14,7 +15,7 @@ use crate::lines::count_of;
 use std::alloc::{AllocError, Global};
 use tt_scan::Tape;
 use tt_scan_dropouts::{
-    BAND_ROWS, Columns, Outlined, Pixel, Rules, Window, box_of, dropouts, may_have_dropouts,
+    BAND_ROWS, BoxedRules, Columns, Outlined, Pixel, Window, dropouts, may_have_dropouts, pixels_in,
 };
 
 /// The box of one pixel.
@@ -85,24 +86,26 @@ fn windows_ink(
     Ok(ink)
 }
 
-/// The least box that holds all dropouts of a glyph; None where it has no dropout. The tape has the glyph's edges, and
-/// each contour ends before the edge of a number in `ends`. The tape's frame does not matter. Error: memory ran out.
+/// The least box that holds all dropouts of a glyph; None where it has no dropout. The tape has the glyph's edges, which
+/// lie in the rules' box. Each contour ends before the edge of a number in `ends`. The tape's frame does not matter.
+/// Error: memory ran out.
 pub fn dropouts_ink(
     alloc: Global,
-    rules: Rules,
+    rules: BoxedRules,
     tape: &Tape,
     ends: &[usize],
 ) -> Result<Option<GlyphInk>, AllocError>
     requires few { length tape.now.edges ≤ 2 ^ 32 }
+    requires boxed { IsBoxOf rules.extents tape.now.edges }
     requires ends { AreEnds (length tape.now.edges) ends.now }
-    ensures exact { IfOk result (λ ink. ink ≡ dropouts_ink rules (contours_at tape.now.edges ends.now) tape.now.edges) }
+    ensures exact { IfOk result (λ ink. ink ≡ dropouts_ink rules (contours_at tape.now.edges ends.now)) }
     ensures near { IfOk result (λ ink. IfSome ink IsNear) }
 {
     // The question reads all edges, and one answer holds for all windows.
     let edges = tape.lend();
-    if !may_have_dropouts(rules.stubs, edges, ends) {
+    if !may_have_dropouts(rules.rules.stubs, edges, ends) {
         return Ok(None);
     }
-    let (columns, rows) = box_of(edges);
+    let (columns, rows) = pixels_in(rules.extents);
     windows_ink(alloc, Outlined { rules, tape, ends }, columns, rows)
 }

@@ -90,7 +90,7 @@ fn band_ink(
     past: i64,
     height: u32,
 ) -> Result<(EdgeList, Option<GlyphInk>), AllocError>
-    requires edges { length list.edges ≤ 2 ^ 17 }
+    requires edges { length list.edges ≤ 2 ^ 19 }
     requires columns { AreNear columns }
     requires past { unsigned_abs past < 2 ^ 20 }
     requires some { 1 ≤ height }
@@ -113,7 +113,7 @@ fn bands_ink(
     columns: Columns,
     rows: Columns,
 ) -> Result<Option<GlyphInk>, AllocError>
-    requires edges { length list.edges ≤ 2 ^ 17 }
+    requires edges { length list.edges ≤ 2 ^ 19 }
     requires columns { AreNear columns }
     requires rows { AreNear rows }
     ensures { IfOk result (IsInk (shown columns rows.first (count_of rows) (is_inked_by list.edges))) }
@@ -137,7 +137,7 @@ fn bands_ink(
 /// edges; None where no pixel is black there. Closed contours blacken nothing outside the box of the edges. Edges are
 /// in 1/8192 pixel. Error: memory ran out.
 pub fn edges_ink(alloc: Global, list: EdgeList) -> Result<Option<GlyphInk>, AllocError>
-    requires few { length list.edges ≤ 2 ^ 17 }
+    requires few { length list.edges ≤ 2 ^ 19 }
     ensures exact { IfOk result (λ ink. ink ≡ edges_ink list.edges) }
     ensures near { IfOk result (λ ink. IfSome ink IsNear) }
 {

@@ -9,7 +9,7 @@ use Rattle.tt_scan_rows.specs.Raster.{lines_in}
 -- too many spans
 
 pub many_spans : (most n height edges : ℕ) → n ≡ min most (2 ^ 40) → n < height * (2 * edges + 1) → height ≤ 4100
-    → edges ≤ 2 ^ 17 → most < height * (2 * edges + 1)
+    → edges ≤ 2 ^ 19 → most < height * (2 * edges + 1)
 many_spans most n height edges least many rows few =
     let all : height * (2 * edges + 1) ≤ 4100 * (2 * edges + 1) = mul-le-mul_right (2 * edges + 1) rows in
     omega (arith, all, least, many, few)

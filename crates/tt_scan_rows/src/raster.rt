@@ -145,7 +145,7 @@ impl Raster {
         most_rows: u32,
         most_spans: usize,
     ) -> Result<CutGlyph, AllocError>
-        requires { length list.edges ≤ 2 ^ 17 }
+        requires { length list.edges ≤ 2 ^ 19 }
         ensures black { IfOk result (λ cut. IfRaster cut (IsRasterOf list.edges)) }
         ensures rows { IfOk result (λ cut. IfRaster cut (λ k. length k.rows ≤ most_rows)) }
         ensures held { IfOk result (λ cut. IfRaster cut (λ k. spans_in k.rows ≤ most_spans)) }

@@ -1,5 +1,5 @@
 -- The cache of a font at a size, between two lines.
-use Rattle.std.proofs.Common.{◌≡◌, ℕ, ◌≤◌, Bool, true, false, List, [], Option, None, Some, Result, Ok, refl, arith}
+use Rattle.std.proofs.Common.{◌≡◌, ℕ, ◌≤◌, true, false, List, [], Option, None, Some, Result, Ok, refl, arith}
 use Rattle.std.specs.Prelude.{IfSome}
 use Rattle.tt_core.specs.Faults.{Fault}
 use Rattle.tt_fit.specs.Fitting.{Fitter}
@@ -8,16 +8,9 @@ use Rattle.tt_picture.specs.Cached.{AreCachedFor, IsCacheFor, entries_of, is_the
 use Rattle.tt_strike.specs.Makers.{IsSetting}
 use Rattle.tt_strike.specs.Picture.{setting}
 use Rattle.tt_strike.specs.Strikes.{IsCacheOf, IsFresh, SizedFace}
-use Rattle.tt_strike.specs.Work.{is_bounded, work_tested}
+use Rattle.tt_strike.specs.Work.{is_bounded}
 use Rattle.tt_strike_kept.specs.Glyph.{KeptGlyph}
 use Rattle.tt_strike_kept.specs.Kept.{Kept, bytes_in}
-
--- unbounded work allows any number of crossings
-pub work_alike : (there : Bool) (how : Fit) (limit these those : ℕ) → (there ≡ true → is_bounded how ≡ false)
-    → (there ≡ false → these ≡ those) → work_tested how limit these ≡ work_tested how limit those
-unfolding work_tested
-work_alike true how limit these those unbounded same = rw (unbounded refl) refl
-work_alike false how limit these those unbounded same = rw (same refl) refl
 
 -- glyphs cached for one fitter of a font are cached for the fitter of the definition
 pub kept_for : (made : Result Fitter Fault) (t : Fitter) (es : List (ℕ × KeptGlyph)) → made ≡ Ok t → AreCachedFor t es
@@ -71,3 +64,8 @@ bytes_within most bytes (Some k) is low least = omega (arith, low, least)
 pub no_bytes : (z : SizedFace) (c : Option Kept) → IsCacheOf z c → is_bounded z.fit ≡ true → bytes_in (entries_of c) ≡ 0
 no_bytes z None own bounded = refl
 no_bytes z (Some k) own bounded = absurd (let other = own.0 in let wrong = rw bounded at other in cc)
+
+-- where the work is bounded there is no cache
+pub no_cache : (z : SizedFace) (c : Option Kept) → IsCacheOf z c → is_bounded z.fit ≡ true → is_there c ≡ false
+no_cache z None own bounded = refl
+no_cache z (Some k) own bounded = absurd (let other = own.0 in let wrong = rw bounded at other in cc)

@@ -1,33 +1,32 @@
 -- A line enlarged by the glyphs of the line: its refusals, its picture and its measure.
-use Rattle.std.proofs.Common.{◌≡◌, ◌∙◌, refl, ap, sym, ℕ, ◌+◌, Bool, true, false, ◌||◌, nat_lt, if◌then◌else◌, List, [], ◌∷◌, map, Option, Some, None, Result, Ok, Err, arith}
-use Rattle.std.specs.Prelude.{IfSome}
+use Rattle.std.proofs.Common.{◌≡◌, ◌∙◌, refl, ap, ap₂, sym, ℕ, ◌+◌, Bool, true, false, ◌||◌, nat_lt, if◌then◌else◌, List, [], ◌∷◌, map, Option, Some, None, Result, Ok, Err, arith}
 use Rattle.tt_core.specs.Limits.{height_limit, width_limit}
-use Rattle.tt_core.specs.Outcomes.{◌>>=◌, each}
+use Rattle.tt_core.specs.Outcomes.{each}
 use Rattle.tt_core.specs.declared.fault.JobFault.{JobFault}
 use Rattle.tt_core.specs.declared.fault.JobFault.TheVariants as fault
 use Rattle.tt_fit.specs.Fitting.{Fitter}
 use Rattle.tt_fit_outline.specs.Outline.{Outline}
-use Rattle.tt_line.specs.Layout.{Placement}
+use Rattle.tt_line.specs.Layout.{Placement, advance_in_pixels}
+use Rattle.tt_picture.specs.Steps.{glyph_step}
 use Rattle.tt_scan_edges.specs.declared.edge.Frame.{Frame}
 use Rattle.tt_scan_ink.specs.declared.ink.GlyphInk.{GlyphInk}
-use Rattle.tt_strike.specs.Work.{line_fitter, work_left}
+use Rattle.tt_strike.specs.Work.{line_fitter, work_left, lays_after_glyphs}
 use Rattle.tt_strike.specs.Costs.{cost_of, line_cost}
 use Rattle.tt_picture.specs.Glyphs.{AreDrawn, Glyph, numbers_of}
 use Rattle.tt_strike.specs.Enlarged.{IsEnlarged}
 use Rattle.tt_strike.specs.Grown.{grown, grown_line, lacking, not_large, with_sides}
 use Rattle.tt_picture.specs.Ink.{glyph_ink}
 use Rattle.tt_strike.specs.Job.{Job}
-use Rattle.tt_strike.specs.Made.{AreMade, shapes_made}
-use Rattle.tt_strike.specs.Measures.{Measure, line_ink, measure_by, measured_line}
+use Rattle.tt_strike.specs.Made.{AreMade}
+use Rattle.tt_strike.specs.Measures.{Measure, line_ink, line_step, measure_by, measured_line}
 use Rattle.tt_picture.specs.Pictures.{picture}
-use Rattle.tt_picture.specs.Shapes.{glyph_shape, shape_at, crossings_in}
-use Rattle.tt_strike.specs.Picture.{crossings_tested, drawn, frame_of, points_tested, setting_in, shapes_in}
+use Rattle.tt_picture.specs.Shapes.{chords_with, crossings_in, filled_by, glyph_shape, shape_at}
+use Rattle.tt_strike.specs.Picture.{edges_tested, drawn, frame_of, points_tested, setting_in, shapes_in}
 use Rattle.tt_picture.specs.Pixels.{Shape}
-use Rattle.tt_strike.specs.Refusals.{Refused, as_job, job, refusal}
+use Rattle.tt_strike.specs.Refusals.{Refused, as_job, job}
 use Rattle.tt_picture.specs.Unfitted.{ListsOnce, unfitted_standing}
 use Rattle.tt_strike.specs.Report.{line_report}
 use Rattle.tt_face.specs.Faces.{Face}
-use Rattle.tt_core.specs.declared.draw_fault.DrawFault.{DrawFault}
 use Rattle.tt_picture.specs.declared.ink_box.InkBox.{InkBox}
 use Rattle.tt_picture.specs.declared.report.Unfitted.{Unfitted}
 use Rattle.tt_strike.proofs.Costed.{costed, costed_as_made}
@@ -35,7 +34,6 @@ use Rattle.tt_strike.proofs.Larger.{first_of}
 use Rattle.tt_picture.proofs.Listing.{standing_listed}
 use Rattle.tt_strike.proofs.Made.{reported_as_made}
 use Rattle.tt_picture.proofs.Standings.{counts_from_pen, filling_from_pen}
-use Rattle.tt_strike.proofs.Stopped.{measuring_stops, stops}
 
 -- glyphs moved to the right
 abbrev pub rightwards : ℕ → List (ℕ × ℕ) → List (ℕ × ℕ)
@@ -88,19 +86,6 @@ pub not_grown : (face : Face) (a : Job) (l : Placement) (m : Measure) (j : JobFa
     → grown l m.ink ≡ Err j → grown_line face a l ≡ Err (job j)
 not_grown face a l m j measured is = by_measure face a l m measured ∙ rw is refl
 
--- a stop in the line's glyphs stops the enlarged line
-pub unmade_stops : (face : Face) (a : Job) (l : Placement) (e : DrawFault)
-    → IfSome (refusal e) (λ r. shapes_made face a l ≡ Err r) → IfSome (refusal e) (λ r. grown_line face a l ≡ Err r)
-unfolding grown_line
-unmade_stops face a l e stopped =
-    stops e (measured_line face a l) (grown_line face a l) (λ r fails. rw fails refl) (measuring_stops face a l e stopped)
-
--- a stop in the enlarged line stops what is made of it
-pub ungrown_stops : {X : Type 0} (face : Face) (a : Job) (l : Placement) (e : DrawFault) (f : Placement → Result X Refused)
-    → IfSome (refusal e) (λ r. grown_line face a l ≡ Err r) → IfSome (refusal e) (λ r. (grown_line face a l >>= f) ≡ Err r)
-ungrown_stops face a l e f stopped =
-    stops e (grown_line face a l) (grown_line face a l >>= f) (λ r fails. rw fails refl) stopped
-
 -- the same glyphs further to the right: they are made, and have as many crossings
 record AreMoved (maker : ℕ → Fitter) (left : ℕ) (gs : List (ℕ × ℕ)) (shapes : List Shape) : Type 0 where
   pub larger : List Shape
@@ -111,13 +96,14 @@ one_moved : (s : Fitter) (g : ℕ × ℕ) (left : ℕ) (o : Outline) (these thos
     → crossings_in those ≡ crossings_in these
     → crossings_in (shape_at s (g.0, g.1 + left) o ∷ those) ≡ crossings_in (shape_at s g o ∷ these)
 one_moved s g left o these those same =
-    let filled = (shape_at s g o).filled in
+    let way = chords_with s in
+    let filled = filled_by s g.0 o in
     rw (
       same,
-      counts_from_pen o (g.1 + left),
-      counts_from_pen o g.1,
-      filling_from_pen filled o (g.1 + left),
-      filling_from_pen filled o g.1,
+      counts_from_pen way o (g.1 + left),
+      counts_from_pen way o g.1,
+      filling_from_pen filled way o (g.1 + left),
+      filling_from_pen filled way o g.1,
     ) refl
 
 moved_shapes : (maker : ℕ → Fitter) (left : ℕ) (gs : List (ℕ × ℕ)) (shapes : List Shape)
@@ -142,7 +128,7 @@ pub record IsMade (face : Face) (a : Job) (line : Placement) (s : Fitter) : Type
   pub opened : setting_in face a ≡ Ok s
   pub few : as_job (points_tested s a line) ≡ Ok tt
   pub fitted : shapes_in s line ≡ Ok shapes
-  pub seldom : crossings_tested s a line shapes ≡ Ok tt
+  pub seldom : edges_tested s a line shapes ≡ Ok tt
 
 pub larger_made : (face : Face) (a : Job) (l larger : Placement) (left : ℕ) (gs : List Glyph)
     → (made : AreMade false face a l gs) → larger.glyphs ≡ rightwards left l.glyphs → IsMade face a larger made.setting
@@ -186,18 +172,27 @@ same_inks s l larger numbers =
     let by : List ℕ → ℕ → Option GlyphInk = λ ns g. glyph_ink (line_fitter s ns g) g in
     ap by numbers
 
+-- and by the steps of the line's glyphs
+same_steps : (face : Face) (a : Job) (s : Fitter) (l larger : Placement) → map (λ g. g.0) larger.glyphs ≡ map (λ g. g.0) l.glyphs
+    → line_step face a s larger ≡ line_step face a s l
+same_steps face a s l larger numbers =
+    let by : List ℕ → ℕ → ℕ = λ ns g. if lays_after_glyphs a.fit then glyph_step (line_fitter s ns g) g
+    else advance_in_pixels face.metrics a.ppem g in
+    ap by numbers
+
 measured_anew : (face : Face) (a : Job) (larger : Placement) (s : Fitter) → IsMade face a larger s
-    → measured_line face a larger ≡ Ok (measure_by face.metrics a.ppem a.margin (line_ink s larger) larger)
+    → measured_line face a larger ≡ Ok (measure_by (line_step face a s larger) a.margin (line_ink s larger) larger)
 unfolding measured_line
 measured_anew face a larger s made = rw (made.opened, made.few, made.fitted, made.seldom) refl
 
 pub larger_measured : (face : Face) (a : Job) (l larger : Placement) (s : Fitter)
     → map (λ g. g.0) larger.glyphs ≡ map (λ g. g.0) l.glyphs → IsMade face a larger s
-    → measured_line face a larger ≡ Ok (measure_by face.metrics a.ppem a.margin (line_ink s l) larger)
+    → measured_line face a larger ≡ Ok (measure_by (line_step face a s l) a.margin (line_ink s l) larger)
 larger_measured face a l larger s numbers made =
-    let by : (ℕ → Option GlyphInk) → Measure = λ inked. measure_by face.metrics a.ppem a.margin inked larger in
+    let by : (ℕ → ℕ) → (ℕ → Option GlyphInk) → Measure = λ step inked. measure_by step a.margin inked larger in
     measured_anew face a larger s made
-    ∙ ap Ok {x = by (line_ink s larger)} {y = by (line_ink s l)} (ap by (same_inks s l larger numbers))
+    ∙ ap Ok {x = by (line_step face a s larger) (line_ink s larger)} {y = by (line_step face a s l) (line_ink s l)}
+    (ap₂ by (same_steps face a s l larger numbers) (same_inks s l larger numbers))
 
 -- glyphs in another frame have the same faults, so the report is that of the line
 same_unfitted : (maker : ℕ → Fitter) (f h : Frame) (gs hs : List Glyph) → AreDrawn false maker f gs

@@ -17,7 +17,7 @@ use Rattle.tt_strike.specs.declared.growing.Sides.{Sides}
 use Rattle.tt_picture.specs.declared.ink_box.InkBox.{InkBox}
 use Rattle.tt_strike.proofs.GrownWhole.{line_ink, moved_black, not_too_large, same_glyphs}
 use Rattle.tt_strike.proofs.InkHeld.{BoxLaws, least_box, line_held, seen, shapes_black}
-use Rattle.tt_strike.proofs.Whole.{of-job}
+use Rattle.tt_strike.proofs.Placed.{of-job}
 
 at_first : (at : ℤ) → 0 < before at → pos 0 -ℤ pos (before at) ≡ at
 at_first (pos n) more = absurd (omega (arith, more))

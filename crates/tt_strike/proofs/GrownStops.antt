@@ -4,8 +4,7 @@ use Rattle.tt_core.specs.Outcomes.{◌>>=◌}
 use Rattle.tt_fit.specs.Fitting.{Fitter}
 use Rattle.tt_line.specs.Layout.{Placement}
 use Rattle.tt_picture.specs.Distinct.{distinct}
-use Rattle.tt_strike.specs.Enlarged.{drawn_grown}
-use Rattle.tt_strike.specs.Grown.{grown_line, grown_outcome, grown_placement}
+use Rattle.tt_strike.specs.Grown.{grown_line, grown_placement}
 use Rattle.tt_strike.specs.Job.{Job}
 use Rattle.tt_strike.specs.Picture.{laid_out, line_shapes, setting_in}
 use Rattle.tt_picture.specs.Pixels.{Shape}
@@ -16,16 +15,11 @@ use Rattle.tt_face.specs.Faces.{Face}
 use Rattle.tt_strike.specs.Work.{line_fitter}
 use Rattle.tt_picture.specs.declared.report.Unfitted.{Unfitted}
 
--- the line of a laid-out text is enlarged, and drawn
+-- the line of a laid-out text is enlarged
 pub placed_as_laid : (face : Face) (a : Job) (l : Placement) → laid_out face a ≡ Ok l
     → grown_placement face a ≡ grown_line face a l
 unfolding grown_placement
 placed_as_laid face a l laid = rw laid refl
-
-pub drawn_as_laid : (face : Face) (a : Job) (l : Placement) → laid_out face a ≡ Ok l
-    → grown_outcome face a ≡ drawn_grown face a l
-unfolding grown_outcome
-drawn_as_laid face a l laid = rw (placed_as_laid face a l laid) refl
 
 -- the report is that of the line
 

@@ -18,7 +18,7 @@ use Rattle.tt_picture.specs.Shapes.{glyph_shape}
 use Rattle.tt_strike.specs.Picture.{frame_of, laid_out}
 use Rattle.tt_picture.specs.declared.ink_box.InkBox.{InkBox}
 use Rattle.tt_strike.proofs.InkHeld.{BoxLaws, glyph_black, least_box, line_black, line_held, seen, shapes_black}
-use Rattle.tt_strike.proofs.Whole.{of-job}
+use Rattle.tt_strike.proofs.Placed.{of-job}
 
 -- a line with more columns on its left and more rows at its top
 pub moved_black : (maker : ℕ → Fitter) (f g : Frame) (left top : ℕ) (gs : List (ℕ × ℕ)) (c r : ℤ) → g.margin ≡ f.margin

@@ -1,25 +1,30 @@
 -- The box of a line's measure holds all ink of the line, and no smaller box does.
-use Rattle.std.proofs.Common.{◌≡◌, ◌∙◌, refl, ap, subst, sym, ℕ, ◌+◌, ◌*◌, Bool, true, false, ◌||◌, ℤ, pos, ◌+ℤ◌, ◌-ℤ◌, List, [], ◌∷◌, map, Option, Some, None, Result, Ok, Err, arith}
+use Rattle.std.proofs.Common.{◌≡◌, ◌∙◌, refl, ap, subst, sym, ℕ, ◌+◌, Bool, true, false, ◌||◌, ℤ, pos, ◌+ℤ◌, ◌-ℤ◌, List, [], ◌∷◌, map, Option, Some, None, Result, Ok, Err, arith}
+use Rattle.std.specs.Prelude.{IfSome}
 use Rattle.std.proofs.lemmas.Int.{ints}
+use Rattle.tt_arc.proofs.PointsBox.{box_holds_edges}
 use Rattle.tt_arc.specs.Laws.{ContoursAreClosed, ContoursJoined}
+use Rattle.tt_arc.specs.declared.rule.ChordRule.{ChordRule}
 use Rattle.tt_core.specs.Chains.{came-through}
 use Rattle.tt_core.specs.Faults.{Fault}
 use Rattle.tt_core.specs.Outcomes.{each}
 use Rattle.tt_fit.specs.Fitting.{Fitter, fitted_outline}
+use Rattle.tt_fit.specs.declared.dropouts.DropoutRules.{DropoutRules}
 use Rattle.tt_fit_outline.specs.Outline.{Outline}
 use Rattle.tt_line.specs.Layout.{Placement}
-use Rattle.tt_metrics.specs.Metrics.{Metrics}
 use Rattle.tt_scan_edges.specs.declared.edge.Edge.{Edge}
 use Rattle.tt_scan_edges.specs.declared.edge.Frame.{Frame}
 use Rattle.tt_scan_edges.specs.Winding.{column_x, is_black, row_y}
+use Rattle.tt_scan_gaps.specs.Boxes.{HoldsEdges}
 use Rattle.tt_scan_gaps.specs.Crossings.{centre}
+use Rattle.tt_scan_gaps.specs.declared.extent.Extents.{Extents}
 use Rattle.tt_scan_dropouts.specs.Dropouts.{is_dropout}
-use Rattle.tt_scan_dropouts.specs.Laws.{outline_moved}
+use Rattle.tt_scan_dropouts.specs.Laws.{outline_moved, rules_moved}
 use Rattle.tt_scan_dropouts.specs.Pictures.{column_at, line_at}
-use Rattle.tt_scan_gaps.specs.declared.mark.Rules.{Rules}
+use Rattle.tt_scan_dropouts.specs.declared.boxed.BoxedRules.{BoxedRules}
 use Rattle.tt_scan_dropouts.proofs.Moved.{dropouts_move}
 use Rattle.tt_scan_ink.specs.Ink as ink
-use Rattle.tt_scan_ink.specs.Ink.{dropouts_ink, edges_ink}
+use Rattle.tt_scan_ink.specs.Ink.{edges_ink}
 use Rattle.tt_scan_ink.specs.Laws.{DropoutsInkHoldsAll, EdgesInkHoldsAll}
 use Rattle.tt_scan_ink.specs.Least.{IsInk, IsLeastBox}
 use Rattle.tt_scan_ink.specs.declared.ink.GlyphInk.{GlyphInk}
@@ -28,8 +33,8 @@ use Rattle.tt_strike.specs.Work.{line_fitter}
 use Rattle.tt_picture.specs.Ink.{all_joined, box_at, column_of, filled_ink, glyph_ink, ink_at, ink_by, joined, outline_ink, row_of}
 use Rattle.tt_strike.specs.InkLaws.{InkIsDrawn, IsBoxOf, IsLeast, MeasureHoldsInk, is_ink, line_of, some_dropout}
 use Rattle.tt_strike.specs.Job.{Job}
-use Rattle.tt_strike.specs.Measures.{Measure, character_at, line_ink, measure_by, measured_line}
-use Rattle.tt_picture.specs.Shapes.{contours_of, edges_at, filled_by, glyph_shape, origin_of}
+use Rattle.tt_strike.specs.Measures.{Measure, character_at, line_ink, line_step, measure_by, measured_line}
+use Rattle.tt_picture.specs.Shapes.{chords_with, contours_of, edges_at, extents_of, filled_at, filled_by, glyph_shape, offset_at, rules_for}
 use Rattle.tt_strike.specs.Picture.{frame_of, line_shapes, setting_in}
 use Rattle.tt_picture.specs.Pixels.{Shape, is_filled, some_black, some_filled}
 use Rattle.tt_strike.specs.Refusals.{as_font}
@@ -39,7 +44,7 @@ use Rattle.tt_strike.specs.declared.measuring.CharacterMeasure.{CharacterMeasure
 use Rattle.tt_picture.proofs.Blackened.{or_false, or_or}
 use Rattle.tt_strike.proofs.Larger.{first_of}
 use Rattle.tt_picture.proofs.Standings.{contours_at_pen, from_pen}
-use Rattle.tt_strike.proofs.Whole.{of-font}
+use Rattle.tt_strike.proofs.Placed.{of-font}
 
 -- the laws of the crates below about boxes and contours
 pub record BoxLaws : Type 0 where
@@ -65,40 +70,49 @@ ink_is_drawn f glyphs c r =
 
 -- one glyph at pen 0
 
-abbrev outline_black : Option Rules → Outline → ℤ → ℤ → Bool
-outline_black filled o c j = is_black (edges_at 0 o) (centre c) (centre j) || is_filled filled (contours_of 0 o) c j
+abbrev outline_black : Option BoxedRules → ChordRule → Outline → ℤ → ℤ → Bool
+outline_black filled way o c j =
+    is_black (edges_at way 0 o) (centre c) (centre j) || is_filled filled (contours_of way 0 o) c j
 
-edges_held : BoxLaws → (o : Outline)
-    → IsInk (λ c j. is_black (edges_at 0 o) (centre c) (centre j)) (edges_ink (edges_at 0 o))
-edges_held laws o =
-    let from = pos (64 * 0) -ℤ origin_of o in
+edges_held : BoxLaws → (way : ChordRule) (o : Outline)
+    → IsInk (λ c j. is_black (edges_at way 0 o) (centre c) (centre j)) (edges_ink (edges_at way 0 o))
+edges_held laws way o =
+    let from = offset_at 0 o in
     let P : List Edge → Type 0 = λ es. IsInk (λ c j. is_black es (centre c) (centre j)) (edges_ink es) in
-    subst P (laws.joined o.points o.ends from (pos 0))
-    (laws.edges (contours_of 0 o) (laws.closed o.points o.ends from (pos 0)))
+    subst P (laws.joined way o.points o.ends from (pos 0))
+    (laws.edges (contours_of way 0 o) (laws.closed way o.points o.ends from (pos 0)))
 
-dropouts_held : BoxLaws → (o : Outline) (filled : Option Rules)
-    → IsInk (is_filled filled (contours_of 0 o)) (filled_ink filled (contours_of 0 o) (edges_at 0 o))
-dropouts_held laws o None = λ c j. refl
-dropouts_held laws o (Some rules) =
-    let from = pos (64 * 0) -ℤ origin_of o in
-    let P : List Edge → Type 0 =
-    λ es. IsInk (is_dropout rules (contours_of 0 o)) (dropouts_ink rules (contours_of 0 o) es) in
-    subst P (laws.joined o.points o.ends from (pos 0)) (laws.dropouts rules (contours_of 0 o))
+dropouts_held : BoxLaws → (way : ChordRule) (o : Outline) (filled : Option BoxedRules)
+    → IfSome filled (λ rules. HoldsEdges rules.extents (edges_at way 0 o))
+    → IsInk (is_filled filled (contours_of way 0 o)) (filled_ink filled (contours_of way 0 o))
+dropouts_held laws way o None held = λ c j. refl
+dropouts_held laws way o (Some rules) held =
+    laws.dropouts rules (contours_of way 0 o)
+    (subst (HoldsEdges rules.extents) (sym (laws.joined way o.points o.ends (offset_at 0 o) (pos 0))) held)
 
-outline_held : BoxLaws → (o : Outline) (filled : Option Rules)
-    → IsInk (outline_black filled o) (ink_by (edges_at 0 o) (contours_of 0 o) filled)
-outline_held laws o filled =
-    joined_is (λ c j. is_black (edges_at 0 o) (centre c) (centre j)) (is_filled filled (contours_of 0 o))
-    (outline_black filled o) (edges_ink (edges_at 0 o)) (filled_ink filled (contours_of 0 o) (edges_at 0 o))
-    (λ c j. refl) (edges_held laws o) (dropouts_held laws o filled)
+outline_held : BoxLaws → (way : ChordRule) (o : Outline) (filled : Option BoxedRules)
+    → IfSome filled (λ rules. HoldsEdges rules.extents (edges_at way 0 o))
+    → IsInk (outline_black filled way o) (ink_by (edges_at way 0 o) (contours_of way 0 o) filled)
+outline_held laws way o filled held =
+    joined_is (λ c j. is_black (edges_at way 0 o) (centre c) (centre j)) (is_filled filled (contours_of way 0 o))
+    (outline_black filled way o) (edges_ink (edges_at way 0 o)) (filled_ink filled (contours_of way 0 o))
+    (λ c j. refl) (edges_held laws way o) (dropouts_held laws way o filled held)
+
+-- the box of the points holds the edges
+held_by : (b : Extents) (rules : Option DropoutRules) (es : List Edge) → HoldsEdges b es
+    → IfSome (rules_for b rules) (λ (boxed : BoxedRules). HoldsEdges boxed.extents es)
+held_by b None es held = tt
+held_by b (Some rules) es held = held
 
 abbrev fitted_black : Fitter → ℕ → Result Outline Fault → ℤ → ℤ → Bool
-fitted_black s g (Ok o) c j = outline_black (filled_by s g o) o c j
+fitted_black s g (Ok o) c j = outline_black (filled_by s g o) (chords_with s) o c j
 fitted_black s g (Err fault) c j = false
 
 fitted_held : BoxLaws → (s : Fitter) (g : ℕ) (r : Result Outline Fault)
     → IsInk (fitted_black s g r) (outline_ink s g r)
-fitted_held laws s g (Ok o) = outline_held laws o (filled_by s g o)
+fitted_held laws s g (Ok o) =
+    outline_held laws (chords_with s) o (filled_by s g o) (held_by (extents_of o) _ (edges_at (chords_with s) 0 o)
+    (box_holds_edges (chords_with s) o.points o.ends (offset_at 0 o) (pos 0)))
 fitted_held laws s g (Err fault) = λ c j. refl
 
 -- the black pixels of a glyph, column c and line j from its pen
@@ -209,37 +223,39 @@ exchanged false true true d = refl
 exchanged false true false d = refl
 exchanged false false c d = refl
 
-filled_there : (f : Frame) (filled : Option Rules) (o : Outline) (pen : ℕ) (c r : ℤ)
-    → is_filled filled (contours_of pen o) (c -ℤ pos f.margin) (line_of f r)
-    ≡ is_filled filled (contours_of 0 o) (c -ℤ pos (pen + f.margin)) (line_of f r)
-filled_there f None o pen c r = refl
-filled_there f (Some rules) o pen c r =
-    let moved = outline_moved (pos pen) (pos 0) (contours_of 0 o) in
+filled_there : (f : Frame) (filled : Option BoxedRules) (way : ChordRule) (o : Outline) (pen : ℕ) (c r : ℤ)
+    → is_filled (filled_at pen filled) (contours_of way pen o) (c -ℤ pos f.margin) (line_of f r)
+    ≡ is_filled filled (contours_of way 0 o) (c -ℤ pos (pen + f.margin)) (line_of f r)
+filled_there f None way o pen c r = refl
+filled_there f (Some rules) way o pen c r =
+    let there = rules_moved (pos pen) (pos 0) rules in
+    let moved = outline_moved (pos pen) (pos 0) (contours_of way 0 o) in
     let column : c -ℤ pos f.margin ≡ (c -ℤ pos (pen + f.margin)) +ℤ pos pen = omega (arith, ints) in
     let line : line_of f r ≡ line_of f r +ℤ pos 0 = omega (arith, ints) in
-    ap (λ (es : List (List Edge)). is_dropout rules es (c -ℤ pos f.margin) (line_of f r)) (contours_at_pen o pen)
-    ∙ ap (λ k. is_dropout rules moved k (line_of f r)) column
-    ∙ ap (is_dropout rules moved ((c -ℤ pos (pen + f.margin)) +ℤ pos pen)) line
-    ∙ dropouts_move rules (contours_of 0 o) (pos pen) (pos 0) (c -ℤ pos (pen + f.margin)) (line_of f r)
+    ap (λ (es : List (List Edge)). is_dropout there es (c -ℤ pos f.margin) (line_of f r)) (contours_at_pen way o pen)
+    ∙ ap (λ k. is_dropout there moved k (line_of f r)) column
+    ∙ ap (is_dropout there moved ((c -ℤ pos (pen + f.margin)) +ℤ pos pen)) line
+    ∙ dropouts_move rules (contours_of way 0 o) (pos pen) (pos 0) (c -ℤ pos (pen + f.margin)) (line_of f r)
 
-edges_there : (f : Frame) (o : Outline) (pen : ℕ) (c r : ℤ)
-    → is_black (edges_at pen o) (column_x f.margin c) (row_y f r)
-    ≡ is_black (edges_at 0 o) (centre (c -ℤ pos (pen + f.margin))) (centre (line_of f r))
-edges_there f o pen c r =
+edges_there : (f : Frame) (way : ChordRule) (o : Outline) (pen : ℕ) (c r : ℤ)
+    → is_black (edges_at way pen o) (column_x f.margin c) (row_y f r)
+    ≡ is_black (edges_at way 0 o) (centre (c -ℤ pos (pen + f.margin))) (centre (line_of f r))
+edges_there f way o pen c r =
     let column : column_x f.margin (c -ℤ pos pen) ≡ centre (c -ℤ pos (pen + f.margin)) = omega (arith, ints) in
     let row : row_y f r ≡ centre (line_of f r) = omega (arith, ints) in
-    from_pen f.margin o pen c (row_y f r)
-    ∙ ap (λ x. is_black (edges_at 0 o) x (row_y f r)) column
-    ∙ ap (is_black (edges_at 0 o) (centre (c -ℤ pos (pen + f.margin)))) row
+    from_pen f.margin way o pen c (row_y f r)
+    ∙ ap (λ x. is_black (edges_at way 0 o) x (row_y f r)) column
+    ∙ ap (is_black (edges_at way 0 o) (centre (c -ℤ pos (pen + f.margin)))) row
 
-outline_there : (f : Frame) (filled : Option Rules) (o : Outline) (pen : ℕ) (c r : ℤ)
-    → (is_black (edges_at pen o) (column_x f.margin c) (row_y f r)
-    || is_filled filled (contours_of pen o) (c -ℤ pos f.margin) (line_of f r))
-    ≡ outline_black filled o (c -ℤ pos (pen + f.margin)) (line_of f r)
-outline_there f filled o pen c r =
-    ap (λ b. b || is_filled filled (contours_of pen o) (c -ℤ pos f.margin) (line_of f r)) (edges_there f o pen c r)
-    ∙ ap (λ b. is_black (edges_at 0 o) (centre (c -ℤ pos (pen + f.margin))) (centre (line_of f r)) || b)
-    (filled_there f filled o pen c r)
+outline_there : (f : Frame) (filled : Option BoxedRules) (way : ChordRule) (o : Outline) (pen : ℕ) (c r : ℤ)
+    → (is_black (edges_at way pen o) (column_x f.margin c) (row_y f r)
+    || is_filled (filled_at pen filled) (contours_of way pen o) (c -ℤ pos f.margin) (line_of f r))
+    ≡ outline_black filled way o (c -ℤ pos (pen + f.margin)) (line_of f r)
+outline_there f filled way o pen c r =
+    ap (λ b. b || is_filled (filled_at pen filled) (contours_of way pen o) (c -ℤ pos f.margin) (line_of f r))
+    (edges_there f way o pen c r)
+    ∙ ap (λ b. is_black (edges_at way 0 o) (centre (c -ℤ pos (pen + f.margin))) (centre (line_of f r)) || b)
+    (filled_there f filled way o pen c r)
 
 pub shapes_black : (maker : ℕ → Fitter) (f : Frame) (gs : List (ℕ × ℕ)) (glyphs : List Shape) (c r : ℤ)
     → each (glyph_shape maker) gs ≡ Ok glyphs → is_ink f glyphs c r ≡ line_black maker f gs c r
@@ -251,15 +267,16 @@ shapes_black maker f (g ∷ gs) glyphs c r made =
     let s = maker g.0 in
     let o = one.outline in
     let filled = filled_by s g.0 o in
+    let way = chords_with s in
     let k = c -ℤ pos f.margin in
     let at = c -ℤ pos (g.1 + f.margin) in
     let j = line_of f r in
     ap (λ (ss : List Shape). is_ink f ss c r) one.all
-    ∙ exchanged (is_black (edges_at g.1 o) (column_x f.margin c) (row_y f r))
-    (some_black one.rest (column_x f.margin c) (row_y f r)) (is_filled filled (contours_of g.1 o) k j)
+    ∙ exchanged (is_black (edges_at way g.1 o) (column_x f.margin c) (row_y f r))
+    (some_black one.rest (column_x f.margin c) (row_y f r)) (is_filled (filled_at g.1 filled) (contours_of way g.1 o) k j)
     (some_dropout one.rest k j)
-    ∙ ap (λ b. b || is_ink f one.rest c r) (outline_there f filled o g.1 c r)
-    ∙ ap (λ b. outline_black filled o at j || b) (shapes_black maker f gs one.rest c r one.others)
+    ∙ ap (λ b. b || is_ink f one.rest c r) (outline_there f filled way o g.1 c r)
+    ∙ ap (λ b. outline_black filled way o at j || b) (shapes_black maker f gs one.rest c r one.others)
     ∙ ap (λ (x : Result Outline Fault). fitted_black s g.0 x at j || line_black maker f gs c r) (sym one.fitted)
 
 -- the measure of a line
@@ -270,23 +287,23 @@ ok_same x y is = cc
 same_setting : {E : Type 0} (r : Result Fitter E) (s t : Fitter) → r ≡ Ok s → r ≡ Ok t → s ≡ t
 same_setting r s t one other = cc
 
-boxes_are : (m : Metrics) (ppem : ℕ) (f : Frame) (maker : ℕ → Fitter) (gs : List (ℕ × ℕ))
-    → map (λ (c : CharacterMeasure). c.ink) (map (character_at m ppem f (λ g. glyph_ink (maker g) g)) gs)
+boxes_are : (step : ℕ → ℕ) (f : Frame) (maker : ℕ → Fitter) (gs : List (ℕ × ℕ))
+    → map (λ (c : CharacterMeasure). c.ink) (map (character_at step f (λ g. glyph_ink (maker g) g)) gs)
     ≡ boxes maker f gs
-boxes_are m ppem f maker [] = refl
-boxes_are m ppem f maker (g ∷ gs) =
-    ap (λ (bs : List (Option InkBox)). ink_at f g.1 (glyph_ink (maker g.0) g.0) ∷ bs) (boxes_are m ppem f maker gs)
+boxes_are step f maker [] = refl
+boxes_are step f maker (g ∷ gs) =
+    ap (λ (bs : List (Option InkBox)). ink_at f g.1 (glyph_ink (maker g.0) g.0) ∷ bs) (boxes_are step f maker gs)
 
 measure_is : (face : Face) (a : Job) (line : Placement) (m : Measure) (s : Fitter) → setting_in face a ≡ Ok s
-    → measured_line face a line ≡ Ok m → measure_by face.metrics a.ppem a.margin (line_ink s line) line ≡ m
+    → measured_line face a line ≡ Ok m → measure_by (line_step face a s line) a.margin (line_ink s line) line ≡ m
 unfolding measured_line
 measure_is face a line m s made is =
     let by_setting = came-through (as_font (setting_in face a)) _ m is in
     let other = by_setting.value in
     let by_shapes = came-through (line_shapes other a line) _ m by_setting.rest in
     let same = same_setting (setting_in face a) s other made (of-font (setting_in face a) other by_setting.first) in
-    ap (λ (t : Fitter). measure_by face.metrics a.ppem a.margin (line_ink t line) line) same
-    ∙ ok_same (measure_by face.metrics a.ppem a.margin (line_ink other line) line) m by_shapes.rest
+    ap (λ (t : Fitter). measure_by (line_step face a t line) a.margin (line_ink t line) line) same
+    ∙ ok_same (measure_by (line_step face a other line) a.margin (line_ink other line) line) m by_shapes.rest
 
 -- the box of a measure is that of what the line's glyphs blacken
 pub line_held : BoxLaws → (face : Face) (a : Job) (line : Placement) (m : Measure) (s : Fitter)
@@ -297,7 +314,7 @@ line_held laws face a line m s made is =
     let f = frame_of line a.margin in
     let held = held_after laws maker f line.glyphs (λ c r. false) None (λ c r. refl) in
     let found : all_joined None (boxes maker f line.glyphs) ≡ m.ink =
-    ap (all_joined None) (sym (boxes_are face.metrics a.ppem f maker line.glyphs))
+    ap (all_joined None) (sym (boxes_are (line_step face a s line) f maker line.glyphs))
     ∙ ap (λ (m : Measure). m.ink) (measure_is face a line m s made is) in
     subst (λ (x : Option InkBox). IsInk (line_black maker f line.glyphs) (seen x)) found held
 

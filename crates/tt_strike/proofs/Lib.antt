@@ -12,7 +12,6 @@ mod Setting
 mod Caches
 mod Textless
 mod Made
-mod GrownMeasures
 mod GrownStops
 mod Larger
 mod Enlarged
@@ -20,3 +19,11 @@ mod Agreeing
 mod SidesRefuse
 mod Costed
 mod Needed
+mod Placed
+mod Stepped
+mod Limited
+mod Reported
+mod Seated
+mod StepLaws
+mod MeasuredSteps
+mod UnhintedSteps

@@ -6,21 +6,21 @@ use Rattle.tt_fit.specs.declared.programs.Fit.{Fit}
 use Rattle.tt_fit.specs.declared.programs.Fit.TheVariants as fit
 use Rattle.tt_fit.specs.Laws.{OthersNeverFallBack, OthersAreUnbounded, UnboundedStays}
 use Rattle.tt_fit.specs.Rules.{falls_back}
-use Rattle.tt_line.specs.Layout.{Placement, placement}
+use Rattle.tt_line.specs.Layout.{Placement}
 use Rattle.tt_picture.specs.declared.report.Unfitted.{Unfitted}
 use Rattle.tt_picture.specs.Distinct.{distinct, fitter_for}
 use Rattle.tt_picture.specs.Unfitted.{unfitted_among}
 use Rattle.tt_picture.proofs.Unbounded.{uncharged}
 use Rattle.tt_strike.specs.Job.{Job}
 use Rattle.tt_strike.specs.Laws.{OthersListNothing}
-use Rattle.tt_strike.specs.Picture.{line_shapes, setting, setting_in}
-use Rattle.tt_strike.specs.Refusals.{Refused, as_font, as_job}
+use Rattle.tt_strike.specs.Picture.{line_shapes, setting, setting_in, text_placed}
+use Rattle.tt_strike.specs.Refusals.{Refused, as_font}
 use Rattle.tt_strike.specs.Report.{line_report, report_by, report_of}
 use Rattle.tt_face.specs.Faces.{Face, glyphs_in}
 use Rattle.tt_face.specs.Files.{face_of}
 use Rattle.tt_strike.specs.Programs.{programs_in}
 use Rattle.tt_strike.specs.Work.{line_fitter, point_work, points_in, started}
-use Rattle.tt_strike.proofs.Whole.{of-font}
+use Rattle.tt_strike.proofs.Placed.{of-font}
 
 -- with no fault that makes a glyph unfitted, none is listed
 none_listed : (maker : ℕ → Fitter) (gs : List ℕ) → ((g : ℕ) → unfitted_fault (maker g) g ≡ None)
@@ -81,7 +81,6 @@ unfolding report_of report_by
 others_list_nothing laws a file entries was other =
     let by_face = came-through (as_font (face_of file)) _ entries was in
     let face = by_face.value in
-    let by_line = came-through (as_job (placement face.metrics face.cmap a.text a.ppem a.margin)) _ entries
-    by_face.rest in
+    let by_line = came-through (text_placed face a) _ entries by_face.rest in
     let line = by_line.value in
     line_lists_nothing laws face a line entries by_line.rest other

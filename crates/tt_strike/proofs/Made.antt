@@ -1,20 +1,28 @@
 -- The picture, the report and the measure of a line whose glyphs are made and not refused.
-use Rattle.std.proofs.Common.{◌≡◌, refl, Bool, false, List, map, Ok}
+use Rattle.std.proofs.Common.{◌≡◌, refl, ℕ, ◌<◌, Bool, true, false, if◌then◌else◌, List, get_or, length, map, slice_index, Ok, inl, inr, arith}
+use Rattle.std.proofs.lemmas.Bool.{cases_lt}
+use Rattle.std.proofs.lemmas.List.{get_or_past}
 use Rattle.std.specs.Prelude.{All}
-use Rattle.tt_line.specs.Layout.{Placement}
+use Rattle.tt_fit.specs.Fitting.{Fitter}
+use Rattle.tt_line.specs.Layout.{Placement, advance_in_pixels}
+use Rattle.tt_scan_edges.specs.declared.edge.Frame.{Frame}
+use Rattle.tt_picture.specs.Distinct.{distinct}
+use Rattle.tt_picture.specs.Steps.{glyph_step}
+use Rattle.tt_picture.proofs.Among.{all_among}
+use Rattle.tt_picture.proofs.Reframed.{seat_of}
 use Rattle.tt_picture.specs.declared.report.Unfitted.{Unfitted}
-use Rattle.tt_picture.specs.Glyphs.{Glyph, IsTape, ink_standing, numbers_of}
+use Rattle.tt_picture.specs.Glyphs.{AreSeated, Glyph, IsDrawn, IsTape, ink_standing, numbers_of}
 use Rattle.tt_picture.specs.Pictures.{picture}
 use Rattle.tt_picture.specs.Unfitted.{ListsOnce, unfitted_standing}
 use Rattle.tt_picture.proofs.Inked.{inks_are}
 use Rattle.tt_picture.proofs.Listing.{lists_once, of_line}
 use Rattle.tt_strike.specs.Job.{Job}
 use Rattle.tt_strike.specs.Made.{AreMade}
-use Rattle.tt_strike.specs.Measures.{line_ink, measure_by, measured_line}
+use Rattle.tt_strike.specs.Measures.{line_ink, line_step, made_step, measure_by, measured_line}
 use Rattle.tt_strike.specs.Picture.{drawn, frame_of}
 use Rattle.tt_strike.specs.Report.{line_report}
 use Rattle.tt_face.specs.Faces.{Face}
-use Rattle.tt_strike.specs.Work.{line_fitter}
+use Rattle.tt_strike.specs.Work.{is_bounded, line_fitter}
 
 pub drawn_as_made : {cached : Bool} (face : Face) (a : Job) (l : Placement) (gs : List Glyph)
     → (made : AreMade cached face a l gs) → drawn face a l ≡ Ok (picture (frame_of l a.margin) made.shapes)
@@ -23,7 +31,7 @@ drawn_as_made face a l gs made = rw (made.opened, made.few, made.fitted, made.se
 
 pub measured_as_made : {cached : Bool} (face : Face) (a : Job) (l : Placement) (gs : List Glyph)
     → (made : AreMade cached face a l gs)
-    → measured_line face a l ≡ Ok (measure_by face.metrics a.ppem a.margin (line_ink made.setting l) l)
+    → measured_line face a l ≡ Ok (measure_by (line_step face a made.setting l) a.margin (line_ink made.setting l) l)
 unfolding measured_line
 measured_as_made face a l gs made = rw (made.opened, made.few, made.fitted, made.seldom) refl
 
@@ -46,3 +54,32 @@ inks_as_made face a l gs made =
 pub tapes_as_made : (face : Face) (a : Job) (l : Placement) (gs : List Glyph) → AreMade false face a l gs
     → All (λ g. IsTape g.body) gs
 tapes_as_made face a l gs made = λ k d below. (made.drawn k d below).tape refl
+
+-- the step of each glyph is the one of the definition
+step_by : (bounded : Bool) (advance : ℕ) (s : Fitter) (f : Frame) (g : Glyph) → IsDrawn false s f g
+    → (if bounded then g.step else advance) ≡ (if bounded then glyph_step s g.number else advance)
+unfolding glyph_step
+step_by true advance s f g drawn = rw drawn.outline (drawn.step refl)
+step_by false advance s f g drawn = refl
+
+pub steps_as_made : (face : Face) (a : Job) (l : Placement) (gs : List Glyph) → (made : AreMade false face a l gs)
+    → All (λ g. made_step face.metrics a.ppem a.fit g ≡ line_step face a made.setting l g.number) gs
+steps_as_made face a l gs made = λ k d below.
+    let g = get_or gs k d in
+    step_by (is_bounded a.fit) (advance_in_pixels face.metrics a.ppem g.number)
+    (line_fitter made.setting (map (λ g. g.0) l.glyphs) g.number) (frame_of l a.margin) g (made.drawn k d below)
+
+-- a number with a place is within the table
+within_table : (table : List ℕ) (n glyphs : ℕ) → length table ≡ glyphs → 0 < slice_index table n → n < glyphs
+within_table table n glyphs room some = elim (cases_lt n (length table)) [
+  | inl below ↦ omega (arith, room, below)
+  | inr past ↦ absurd (let none = get_or_past table n 0 past in omega (arith, none, some))
+]
+
+-- each glyph of the line is one of the font
+pub known_as_made : {glyphs : ℕ} {table : List ℕ} {gs : List Glyph} (line : List (ℕ × ℕ)) → AreSeated glyphs table gs
+    → numbers_of gs ≡ distinct (map (λ g. g.0) line) → All (λ (g : ℕ × ℕ). g.0 < glyphs) line
+known_as_made {glyphs} {table} {gs} line seated numbers = λ k d below.
+    let n = (get_or line k d).0 in
+    let among = all_among line (numbers_of gs) numbers k d below in
+    within_table table n glyphs seated.room (seat_of table (numbers_of gs) n seated.places among)

@@ -20,8 +20,9 @@ use Rattle.tt_scan_dropouts.proofs.Counts.{rows_are_counted}
 use Rattle.tt_picture.specs.Distinct.{distinct, distinct_after, is_among, with_glyph}
 use Rattle.tt_picture.specs.Glyphs.{GlyphBody, tape, raster, AreDrawn, Glyph, IsBodyOf, IsDrawn, drawn_of, edges_cut, numbers_of}
 use Rattle.tt_strike.specs.Job.{Job}
-use Rattle.tt_picture.specs.Shapes.{edges_at, glyph_shape, shape_at, crossings_in}
-use Rattle.tt_strike.specs.Picture.{crossings_tested, shapes_in}
+use Rattle.tt_arc.specs.declared.rule.ChordRule.{ChordRule}
+use Rattle.tt_picture.specs.Shapes.{chords_with, edges_at, glyph_shape, shape_at, crossings_in}
+use Rattle.tt_strike.specs.Picture.{edges_tested, shapes_in}
 use Rattle.tt_picture.specs.Pictures.{rows_crossings}
 use Rattle.tt_picture.specs.Pixels.{Shape, crossings_up_to, cut_from}
 use Rattle.tt_strike.specs.Work.{crossings_allowed, is_bounded, line_fitter, work_left, work_tested}
@@ -53,16 +54,16 @@ distinct_few count before (g ∷ gs) =
 
 -- the count of a glyph's edges, by its outline
 
-abbrev outline_count : (List Edge → ℕ) → Result Outline Fault → ℕ
-outline_count count (Ok o) = count (edges_at 0 o)
-outline_count count (Err e) = 0
+abbrev outline_count : (List Edge → ℕ) → ChordRule → Result Outline Fault → ℕ
+outline_count count way (Ok o) = count (edges_at way 0 o)
+outline_count count way (Err e) = 0
 
 abbrev glyph_count : (List Edge → ℕ) → (ℕ → Fitter) → ℕ → ℕ
-glyph_count count maker g = outline_count count (fitted_outline (maker g) g)
+glyph_count count maker g = outline_count count (chords_with (maker g)) (fitted_outline (maker g) g)
 
 -- a count is the same at each pen
 abbrev StaysAtPens : (List Edge → ℕ) → Type 0
-StaysAtPens count = (pen : ℕ) (o : Outline) → count (edges_at pen o) ≡ count (edges_at 0 o)
+StaysAtPens count = (way : ChordRule) (pen : ℕ) (o : Outline) → count (edges_at way pen o) ≡ count (edges_at way 0 o)
 
 -- the shapes of a line count as much as the glyphs of its characters
 
@@ -74,10 +75,11 @@ both_made (Ok y) (Err e) zs is = absurd cc
 both_made (Err e) rest zs is = absurd cc
 
 one_shape : (count : List Edge → ℕ) → StaysAtPens count → (made : Result Outline Fault) (s : Fitter) (g : ℕ × ℕ)
-    (shape : Shape) → (made >>= λ o. Ok (shape_at s g o)) ≡ Ok shape → outline_count count made ≡ count shape.edges
+    (shape : Shape) → (made >>= λ o. Ok (shape_at s g o)) ≡ Ok shape
+    → outline_count count (chords_with s) made ≡ count shape.edges
 one_shape count stays (Ok o) s g shape is =
     let same : shape_at s g o ≡ shape = cc in
-    sym (stays g.1 o) ∙ ap (λ (shape : Shape). count shape.edges) same
+    sym (stays (chords_with s) g.1 o) ∙ ap (λ (shape : Shape). count shape.edges) same
 one_shape count stays (Err e) s g shape is = absurd cc
 
 shapes_count : (maker : ℕ → Fitter) (line : List (ℕ × ℕ)) (shapes : List Shape) → each (glyph_shape maker) line ≡ Ok shapes
@@ -85,7 +87,7 @@ shapes_count : (maker : ℕ → Fitter) (line : List (ℕ × ℕ)) (shapes : Lis
 shapes_count maker [] shapes made = omega arith
 shapes_count maker (g ∷ gs) shapes made =
     let parts = both_made (glyph_shape maker g) (each (glyph_shape maker) gs) shapes made in
-    let one = one_shape edges_counted (λ pen o. counts_from_pen o pen) (fitted_outline (maker g.0) g.0) (maker g.0) g parts.0 parts.2 in
+    let one = one_shape edges_counted (λ way pen o. counts_from_pen way o pen) (fitted_outline (maker g.0) g.0) (maker g.0) g parts.0 parts.2 in
     let rest = shapes_count maker gs parts.1 parts.3 in
     rw parts.4 (omega (arith, one, rest))
 
@@ -99,8 +101,8 @@ body_needs f count (raster k) es most is = let none : crossings_of f [] ≡ 0 = 
 
 one_needs : {cached : Bool} (f : Frame) (count : List Edge → ℕ) (s : Fitter) (g : Glyph)
     → ((those : List Edge) → crossings_of f those ≤ count those) → IsDrawn cached s f g
-    → crossings_of f (cut_from (drawn_of g.body)) ≤ outline_count count (fitted_outline s g.number)
-one_needs f count s g most drawn = rw drawn.outline (body_needs f count g.body (edges_at 0 drawn.shape) most drawn.body)
+    → crossings_of f (cut_from (drawn_of g.body)) ≤ outline_count count (chords_with s) (fitted_outline s g.number)
+one_needs f count s g most drawn = rw drawn.outline (body_needs f count g.body (edges_at (chords_with s) 0 drawn.shape) most drawn.body)
 
 glyphs_need : {cached : Bool} (f : Frame) (count : List Edge → ℕ) (maker : ℕ → Fitter) (gs : List Glyph)
     → ((those : List Edge) → crossings_of f those ≤ count those) → AreDrawn cached maker f gs
@@ -134,7 +136,7 @@ allowed_few (Some left) = omega arith
 pub tested_crossings : {cached : Bool} (a : Job) (l : Placement) (s : Fitter) (f : Frame) (gs : List Glyph)
     (shapes : List Shape) → AreDrawn cached (line_fitter s (map (λ g. g.0) l.glyphs)) f gs
     → numbers_of gs ≡ distinct (map (λ g. g.0) l.glyphs) → shapes_in s l ≡ Ok shapes
-    → crossings_tested s a l shapes ≡ Ok tt → is_bounded a.fit ≡ true
+    → edges_tested s a l shapes ≡ Ok tt → is_bounded a.fit ≡ true
     → rows_crossings f f.height (edges_cut gs) ≤ crossing_limit
 tested_crossings {cached} a l s f gs shapes drawn each_once made seldom bounded =
     let numbers = map (λ (g : ℕ × ℕ). g.0) l.glyphs in

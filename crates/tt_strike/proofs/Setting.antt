@@ -1,5 +1,5 @@
 -- Every fit but Best leaves the fitter unchanged.
-use Rattle.std.proofs.Common.{◌≡◌, ◌≢◌, ◌∙◌, ℕ, ◌*◌, Bool, true, false, List, Option, None, Ok, ap, refl}
+use Rattle.std.proofs.Common.{◌≡◌, ◌≢◌, ◌∙◌, ℕ, ◌*◌, Bool, true, false, List, None, Ok, refl, sym}
 use Rattle.tt_fit.specs.Fitting.{Fitter}
 use Rattle.tt_fit.specs.Laws.{OthersAreUnbounded, UnboundedStays}
 use Rattle.tt_face.specs.Programs.{ProgramTables}
@@ -8,11 +8,11 @@ use Rattle.tt_fit.specs.declared.programs.Fit.{Fit}
 use Rattle.tt_fit.specs.declared.programs.Fit.TheVariants as fit
 use Rattle.tt_glyf.specs.Loca.{Glyf}
 use Rattle.tt_metrics.specs.Metrics.{Metrics}
-use Rattle.tt_picture.specs.Distinct.{distinct, fitter_after}
+use Rattle.tt_picture.specs.Distinct.{fitter_after}
 use Rattle.tt_picture.proofs.Unbounded.{uncharged, unchanged}
 use Rattle.tt_strike.specs.Makers.{IsMaker, IsSetting}
 use Rattle.tt_face.specs.Faces.{Face}
-use Rattle.tt_strike.specs.Work.{crossings_allowed, is_bounded, point_work, points_in, started, work_left}
+use Rattle.tt_strike.specs.Work.{is_bounded, point_work, points_in, started}
 use Rattle.tt_strike.specs.declared.maker.Maker.{Maker}
 use Rattle.tt_strike.specs.declared.maker.Maker.TheVariants as maker
 
@@ -31,20 +31,9 @@ unspent stays s t u gs numbers begun after none =
     let then : u ≡ fitter_after s numbers = rw same at after in
     then ∙ unchanged stays s numbers none
 
--- the work that remains after the line's glyphs
-pub work_remains : (s t u : Fitter) (gs numbers : List ℕ) (left : Option ℕ) → left ≡ u.work → u ≡ fitter_after t numbers
-    → t ≡ started s gs → numbers ≡ distinct gs → left ≡ work_left s gs
-work_remains s t u gs numbers left is after begun each_once =
-    let these : fitter_after t numbers ≡ fitter_after (started s gs) (distinct gs) = rw (begun, each_once) refl in
-    let all : u ≡ fitter_after (started s gs) (distinct gs) = after ∙ these in
-    is ∙ ap (λ (f : Fitter). f.work) all
-
--- the crossings that this work allows
-pub crossings_most : (s t u : Fitter) (gs numbers : List ℕ) (most : ℕ) (left : Option ℕ) → most ≡ crossings_allowed left
-    → left ≡ u.work → u ≡ fitter_after t numbers → t ≡ started s gs → numbers ≡ distinct gs
-    → most ≡ crossings_allowed (work_left s gs)
-crossings_most s t u gs numbers most left allowed is after begun each_once =
-    allowed ∙ ap crossings_allowed (work_remains s t u gs numbers left is after begun each_once)
+-- nothing is charged to unbounded work
+pub not_started : (s : Fitter) (gs : List ℕ) → s.work ≡ None → s ≡ started s gs
+not_started s gs none = sym (uncharged s (point_work * points_in s gs) none)
 
 pub given_back : (face : Face) (ppem : ℕ) (how : Fit) (s t : Fitter) (before after : Maker) (bounded : Bool)
     → IsSetting face ppem how s → (bounded ≡ false → t ≡ s) → IsMaker face ppem how before

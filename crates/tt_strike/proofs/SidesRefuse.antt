@@ -14,7 +14,7 @@ use Rattle.tt_strike.specs.Job.{Job}
 use Rattle.tt_strike.specs.Laws.{GrownRefusals, SidesRefuseNothing}
 use Rattle.tt_strike.specs.Measures.{Measure, measured_line}
 use Rattle.tt_picture.specs.Pictures.{picture}
-use Rattle.tt_picture.specs.Shapes.{glyph_shape, shape_at, crossings_in}
+use Rattle.tt_picture.specs.Shapes.{chords_with, crossings_in, filled_by, glyph_shape, shape_at}
 use Rattle.tt_strike.specs.Picture.{drawn, frame_of, laid_out, line_shapes, points_tested, setting_in}
 use Rattle.tt_picture.specs.Pixels.{Shape}
 use Rattle.tt_strike.specs.Refusals.{Refused, as_font, as_job, job}
@@ -57,9 +57,10 @@ one_more : (s : Fitter) (g : ℕ × ℕ) (left : ℕ) (o : Outline) (these those
     → crossings_in these ≡ crossings_in those
     → crossings_in (shape_at s g o ∷ these) ≡ crossings_in (shape_at s (g.0, g.1 + left) o ∷ those)
 one_more s g left o these those same =
-    let filled = (shape_at s g o).filled in
-    summed _ _ _ _ _ _ (counts_from_pen o g.1 ∙ sym (counts_from_pen o (g.1 + left)))
-    (filling_from_pen filled o g.1 ∙ sym (filling_from_pen filled o (g.1 + left))) same
+    let way = chords_with s in
+    let filled = filled_by s g.0 o in
+    summed _ _ _ _ _ _ (counts_from_pen way o g.1 ∙ sym (counts_from_pen way o (g.1 + left)))
+    (filling_from_pen filled way o g.1 ∙ sym (filling_from_pen filled way o (g.1 + left))) same
 
 with_first : (s : Fitter) (g : ℕ × ℕ) (left : ℕ) (made : Result Outline Fault) (these those : Result (List Shape) Fault)
     → AreCountedAlike these those

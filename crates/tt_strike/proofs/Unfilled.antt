@@ -10,7 +10,7 @@ use Rattle.tt_fit.specs.Fitting.{Fitter, unfitted_fault, fitted_outline, after_g
 use Rattle.tt_fit.specs.Laws as fit_laws
 use Rattle.tt_fit_outline.specs.Outline.{Outline}
 use Rattle.tt_fit.specs.declared.programs.Fit.TheVariants as fit
-use Rattle.tt_line.specs.Layout.{Placement, placement}
+use Rattle.tt_line.specs.Layout.{Placement}
 use Rattle.tt_scan_edges.specs.declared.edge.Frame.{Frame}
 use Rattle.tt_scan_edges.specs.Winding.{column_x, row_y}
 use Rattle.tt_picture.specs.Distinct.{distinct, fitter_for}
@@ -19,7 +19,7 @@ use Rattle.tt_strike.specs.Laws.{AreUnfilled, OthersFillNone, IsByEdges, OthersD
 use Rattle.tt_strike.specs.Refusals.{as_font, as_job}
 use Rattle.tt_picture.specs.Pictures.{Image, picture}
 use Rattle.tt_picture.specs.Shapes.{shape_at, glyph_shape}
-use Rattle.tt_strike.specs.Picture.{setting, setting_in, frame_of, shapes_in, points_tested, crossings_tested, line_shapes, drawn, pictured, pictured_by}
+use Rattle.tt_strike.specs.Picture.{setting, setting_in, frame_of, shapes_in, points_tested, edges_tested, line_shapes, drawn, pictured, pictured_by, text_placed}
 use Rattle.tt_picture.specs.Pixels.{Shape, is_black_pixel, some_black}
 use Rattle.tt_face.specs.Faces.{Face, glyphs_in}
 use Rattle.tt_face.specs.Files.{face_of}
@@ -27,7 +27,7 @@ use Rattle.tt_strike.specs.Programs.{programs_in}
 use Rattle.tt_strike.specs.Work.{line_fitter, started}
 use Rattle.tt_picture.proofs.Alike.{image_alike}
 use Rattle.tt_strike.proofs.Beside.{unfilled_are_edges}
-use Rattle.tt_strike.proofs.Whole.{of-font, of-job}
+use Rattle.tt_strike.proofs.Placed.{of-font}
 
 -- the laws of tt_fit used here
 pub record FillLaws : Type 0 where
@@ -90,8 +90,7 @@ same_by_edges f glyphs none = image_alike f (is_black_pixel f glyphs)
     (λ c r column row. unfilled_are_edges f glyphs c r none)
 
 line_by_edges : FillLaws → (a : Job) (i : Image) (face : Face) (line : Placement) → a.fit ≢ fit.Best
-    → placement face.metrics face.cmap a.text a.ppem a.margin ≡ Ok line → drawn face a line ≡ Ok i
-    → IsByEdges a face i
+    → text_placed face a ≡ Ok line → drawn face a line ≡ Ok i → IsByEdges a face i
 unfolding drawn
 line_by_edges laws a i face line other laid was =
     let by_setting = came-through (as_font (setting_in face a)) _ i was in
@@ -101,7 +100,7 @@ line_by_edges laws a i face line other laid was =
     let by_points = came-through (as_job (points_tested s a line)) _ by_edges.value by_edges.first in
     let by_glyphs = came-through (as_font (shapes_in s line)) _ by_edges.value by_points.rest in
     let glyphs = by_glyphs.value in
-    let by_crossings = came-through (as_job (crossings_tested s a line glyphs)) _ by_edges.value by_glyphs.rest in
+    let by_crossings = came-through (as_job (edges_tested s a line glyphs)) _ by_edges.value by_glyphs.rest in
     let fitted = of-font (shapes_in s line) glyphs by_glyphs.first in
     let unfilled = others_fill_none laws face a line s glyphs other made fitted in
     let f = frame_of line a.margin in
@@ -123,10 +122,8 @@ unfolding pictured pictured_by
 others_draw_by_edges laws a file i other was =
     let by_face = came-through (as_font (face_of file)) _ i was in
     let face = by_face.value in
-    let by_line = came-through (as_job (placement face.metrics face.cmap a.text a.ppem a.margin)) _ i
-    by_face.rest in
+    let by_line = came-through (text_placed face a) _ i by_face.rest in
     let line = by_line.value in
     let read = of-font (face_of file) face by_face.first in
     let P : Result Face Fault → Type 0 = λ opened. IsOkAnd opened (λ face. IsByEdges a face i) in
-    let laid = of-job (placement face.metrics face.cmap a.text a.ppem a.margin) line by_line.first in
-    subst P (sym read) (line_by_edges laws a i face line other laid by_line.rest)
+    subst P (sym read) (line_by_edges laws a i face line other by_line.first by_line.rest)

@@ -1,10 +1,7 @@
 -- A font that gives a picture has no defect.
-use Rattle.std.proofs.Common.{◌≡◌, ℕ, List, map, Result, Ok, Err}
-use Rattle.tt_core.specs.declared.fault.JobFault.{JobFault}
+use Rattle.std.proofs.Common.{◌≡◌, map, Ok}
 use Rattle.tt_core.specs.Chains.{came-through}
 use Rattle.tt_core.specs.Directory.{HasNo}
-use Rattle.tt_core.specs.Faults.{Fault}
-use Rattle.tt_core.specs.Outcomes.{◌>>=◌}
 use Rattle.tt_face.specs.Faces.{Face, glyphs_in}
 use Rattle.tt_face.specs.Programs.{ProgramTables}
 use Rattle.tt_face.specs.Files.{face_of}
@@ -12,15 +9,16 @@ use Rattle.tt_face.proofs.Whole.{face-whole, glyph-tables-whole, programs-whole}
 use Rattle.tt_fit.specs.declared.programs.Fit.{Fit}
 use Rattle.tt_fit.specs.declared.programs.Fit.TheVariants as fit
 use Rattle.tt_fit.specs.Fitting.{Fitter}
-use Rattle.tt_line.specs.Laws.{PlacesGlyphs}
-use Rattle.tt_line.specs.Layout.{Placement, placement}
+use Rattle.tt_line.specs.Laws.{PlacesGlyphs, StepsLead}
+use Rattle.tt_line.specs.Layout.{Placement}
 use Rattle.tt_picture.specs.Pictures.{Image}
 use Rattle.tt_strike.specs.Job.{Job}
 use Rattle.tt_strike.specs.Defects.{IsProgramTableDefect, IsSettingDefect, IsLineDefect}
 use Rattle.tt_strike.specs.Programs.{programs_in}
 use Rattle.tt_strike.specs.Laws.{DrawnFontsAreWhole}
 use Rattle.tt_strike.specs.Refusals.{as_font, as_job}
-use Rattle.tt_strike.specs.Picture.{setting, setting_in, points_tested, shapes_in, line_shapes, drawn, pictured, pictured_by}
+use Rattle.tt_strike.specs.Picture.{setting, setting_in, points_tested, shapes_in, line_shapes, drawn, pictured, pictured_by, text_placed}
+use Rattle.tt_strike.proofs.Placed.{of-font, placed_glyphs}
 use Rattle.tt_strike.proofs.Telling.{no_setting_defect, no_line_defect, no_run_defect}
 
 -- without fitting no program is read
@@ -41,15 +39,6 @@ setting-whole face a s was =
     (glyph-tables-whole face by_tables.value by_tables.first)
     (fitting-programs-whole face a.fit by_programs.value by_programs.first) by_programs.first by_programs.rest
 
--- a result of a font or of a job was not refused
-pub of-font : {X : Type 0} (r : Result X Fault) (x : X) → as_font r ≡ Ok x → r ≡ Ok x
-of-font (Ok y) x was = cc
-of-font (Err f) x was = absurd cc
-
-pub of-job : {X : Type 0} (r : Result X JobFault) (x : X) → as_job r ≡ Ok x → r ≡ Ok x
-of-job (Ok y) x was = cc
-of-job (Err j) x was = absurd cc
-
 line-whole : (face : Face) (a : Job) (line : Placement) (i : Image) → drawn face a line ≡ Ok i
     → HasNo (IsLineDefect face a (map (λ g. g.0) line.glyphs))
 unfolding drawn
@@ -63,16 +52,14 @@ line-whole face a line i was =
     no_line_defect face a s line.glyphs by_glyphs.value there (setting-whole face a s there)
     (of-font (shapes_in s line) by_glyphs.value by_glyphs.first)
 
-pub drawn-whole : PlacesGlyphs → DrawnFontsAreWhole
+pub drawn-whole : PlacesGlyphs → StepsLead → DrawnFontsAreWhole
 unfolding pictured pictured_by
-drawn-whole places a file i was =
+drawn-whole places lead a file i was =
     let by_face = came-through (as_font (face_of file)) _ i was in
     let face = by_face.value in
-    let by_line = came-through (as_job (placement face.metrics face.cmap a.text a.ppem a.margin)) _ i
-    by_face.rest in
+    let by_line = came-through (text_placed face a) _ i by_face.rest in
     let line = by_line.value in
     let there = of-font (face_of file) face by_face.first in
-    let laid = of-job (placement face.metrics face.cmap a.text a.ppem a.margin) line by_line.first in
     no_run_defect a file face (map (λ g. g.0) line.glyphs) there (face-whole file face there)
-    (places face.metrics face.cmap a.text a.ppem a.margin line laid)
+    (placed_glyphs places lead face a line by_line.first)
     (line-whole face a line i by_line.rest)

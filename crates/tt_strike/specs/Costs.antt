@@ -3,10 +3,10 @@
 use Rattle.std.specs.Prelude.{◌≡◌, refl, ℕ, ◌+◌, ◌-◌, ◌*◌, map, Option, Some, None, Result, Ok}
 use Rattle.tt_core.specs.Limits.{work_limit}
 use Rattle.tt_core.specs.Outcomes.{◌>>=◌}
-use Rattle.tt_line.specs.Layout.{Placement, placement}
+use Rattle.tt_line.specs.Layout.{Placement}
 use Rattle.tt_strike.specs.Job.{Job}
-use Rattle.tt_strike.specs.Picture.{line_shapes, setting_in}
-use Rattle.tt_strike.specs.Refusals.{Refused, as_font, as_job}
+use Rattle.tt_strike.specs.Picture.{line_shapes, setting_in, text_placed}
+use Rattle.tt_strike.specs.Refusals.{Refused, as_font}
 use Rattle.tt_face.specs.Faces.{Face}
 use Rattle.tt_picture.specs.Shapes.{crossings_in}
 use Rattle.tt_strike.specs.Work.{work_left}
@@ -25,9 +25,7 @@ line_cost face a line =
 
 -- the cost of a text by a font's tables, or the first refusal
 unfoldable pub cost_by : Face → Job → Result ℕ Refused
-cost_by face a =
-    as_job (placement face.metrics face.cmap a.text a.ppem a.margin) >>= λ line.
-    line_cost face a line
+cost_by face a = text_placed face a >>= λ line. line_cost face a line
 
 -- worked values: a tenth of the work and a thousand crossings; all of the work; and a fit without a budget
 a_tenth : cost_of (Some 90000000) 1000 ≡ 10004000

@@ -9,16 +9,17 @@ use Rattle.tt_fit.specs.declared.programs.Fit.TheVariants as fit
 use Rattle.tt_fit.specs.Defects.{IsOutlineDefect}
 use Rattle.tt_fit.specs.Fitting.{Fitter}
 use Rattle.tt_fit.specs.Preparation.{prepared}
-use Rattle.tt_line.specs.Layout.{Placement, placement, text_glyphs, extent_of, IsRefusal}
+use Rattle.tt_line.specs.declared.extent.PictureExtent.{PictureExtent}
+use Rattle.tt_line.specs.Layout.{Placement, depth_of, extent_by, extent_of, rise_of, text_glyphs, IsRefusal}
 use Rattle.tt_core.specs.declared.fault.JobFault.{JobFault}
 use Rattle.tt_core.specs.declared.fault.JobFault.TheVariants as fault
 use Rattle.tt_core.specs.Limits.{point_work_limit}
 use Rattle.tt_strike.specs.Job.{Job, IsFontDefect, IsTestRefusal}
 use Rattle.tt_strike.specs.Programs.{programs_in}
 use Rattle.tt_strike.specs.Refusals.{needs_font}
-use Rattle.tt_strike.specs.Picture.{setting_in, shapes_in}
+use Rattle.tt_strike.specs.Picture.{outlines_in, setting_in, shapes_in, steps_in, text_placed}
 use Rattle.tt_picture.specs.Shapes.{crossings_in}
-use Rattle.tt_strike.specs.Work.{crossings_allowed, is_bounded, line_fitter, points_in, work_left}
+use Rattle.tt_strike.specs.Work.{chord_limit, chords_in, crossings_allowed, is_bounded, lays_after_glyphs, line_fitter, points_in, work_left}
 
 -- a defect of one of some glyphs, or of a component reached from it, by the fitter of each
 abbrev pub IsGlyphDefect : (ℕ → Fitter) → List ℕ → Fault → Type 0
@@ -57,14 +58,28 @@ abbrev pub TellsDefects : {V E : Type 0} → (E → Option Fault) → (Fault →
 TellsDefects told IsOne (Ok v) = HasNo IsOne
 TellsDefects told IsOne (Err e) = IfSome (told e) IsOne
 
--- the fact that refuses the extent of a picture
-abbrev pub IsExtentRefusal : Face → Job → JobFault → Type 0
-IsExtentRefusal face a j = IsRefusal (extent_of face.metrics a.ppem a.margin (text_glyphs face.cmap a.text)) j
+-- the extent of a text's picture by the steps of its glyphs
+abbrev pub steps_extent : Face → Job → Fitter → List ℕ → PictureExtent
+steps_extent face a s gs =
+    extent_by (steps_in s gs) a.margin (rise_of face.metrics a.ppem) (depth_of face.metrics a.ppem)
 
--- the glyphs of a line that is laid out have too many points
-abbrev pub HasTooManyPoints : Face → Job → Placement → Type 0
-HasTooManyPoints face a line = IsOkAnd (setting_in face a)
-    (λ s. point_work_limit < points_in s (map (λ g. g.0) line.glyphs))
+-- a fact of the extent of a text's picture: by the steps of its glyphs, once they are made, or by advances
+abbrev pub HasExtentBy : Bool → Face → Job → (PictureExtent → Type 0) → Type 0
+HasExtentBy true face a P =
+    let gs = text_glyphs face.cmap a.text in
+    IsOkAnd (setting_in face a) (λ s. IsOkAnd (outlines_in s gs) (λ outlines. P (steps_extent face a s gs)))
+HasExtentBy false face a P = P (extent_of face.metrics a.ppem a.margin (text_glyphs face.cmap a.text))
+
+abbrev pub HasExtent : Face → Job → (PictureExtent → Type 0) → Type 0
+HasExtent face a P = HasExtentBy (lays_after_glyphs a.fit) face a P
+
+-- some glyphs have too many points
+abbrev pub HasTooManyPoints : Face → Job → List ℕ → Type 0
+HasTooManyPoints face a gs = IsOkAnd (setting_in face a) (λ s. point_work_limit < points_in s gs)
+
+-- some glyphs have too many chords, each glyph once
+abbrev pub HasTooManyChords : Face → Job → List ℕ → Type 0
+HasTooManyChords face a gs = IsOkAnd (setting_in face a) (λ s. chord_limit < chords_in s gs)
 
 -- the glyphs of a line that is laid out have more crossings, in its picture and outside, than the work that remains
 -- allows
@@ -72,16 +87,21 @@ abbrev pub CrossesTooOften : Face → Job → Placement → Type 0
 CrossesTooOften face a line = IsOkAnd (setting_in face a) (λ s. IsOkAnd (shapes_in s line)
     (λ glyphs. crossings_allowed (work_left s (map (λ g. g.0) line.glyphs)) < crossings_in glyphs))
 
--- the job's work is bounded, and its line exceeds it
-abbrev pub IsTooMuchWork : Face → Job → Placement → Type 0
-IsTooMuchWork face a line =
-    (is_bounded a.fit ≡ true) × (HasTooManyPoints face a line ⊎ CrossesTooOften face a line)
+-- a line that is laid out has too many edges to be drawn, or these cross too often
+abbrev pub HasTooManyEdges : Face → Job → Placement → Type 0
+HasTooManyEdges face a line = HasTooManyChords face a (map (λ g. g.0) line.glyphs) ⊎ CrossesTooOften face a line
+
+-- the job's work is bounded, and its text exceeds it: the points of its glyphs, or the edges of its line
+abbrev pub IsTooMuchWork : Face → Job → Type 0
+IsTooMuchWork face a = (is_bounded a.fit ≡ true) × (HasTooManyPoints face a (text_glyphs face.cmap a.text)
+    ⊎ IsOkAnd (text_placed face a) (HasTooManyEdges face a))
 
 -- the fact by the font that refuses a job: the extent of its picture, or the work of its glyphs
 abbrev pub IsFontRefusal : Face → Job → JobFault → Type 0
-IsFontRefusal face a fault.WorkLarge = IsOkAnd (placement face.metrics face.cmap a.text a.ppem a.margin)
-    (IsTooMuchWork face a)
-IsFontRefusal face a j = IsExtentRefusal face a j
+IsFontRefusal face a fault.EmptyPicture = HasExtent face a (λ e. IsRefusal e fault.EmptyPicture)
+IsFontRefusal face a fault.PictureLarge = HasExtent face a (λ e. IsRefusal e fault.PictureLarge)
+IsFontRefusal face a fault.WorkLarge = IsTooMuchWork face a
+IsFontRefusal face a j = ⊥
 
 -- the fact that refuses a line, with its font or without
 abbrev pub IsRefusedLine : Bool → Face → Job → JobFault → Type 0

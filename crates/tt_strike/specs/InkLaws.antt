@@ -6,7 +6,7 @@ use Rattle.tt_line.specs.Layout.{Placement}
 use Rattle.tt_scan_edges.specs.declared.edge.Edge.{Edge}
 use Rattle.tt_scan_edges.specs.declared.edge.Frame.{Frame}
 use Rattle.tt_scan_edges.specs.Winding.{column_x, row_y}
-use Rattle.tt_scan_gaps.specs.declared.mark.Rules.{Rules}
+use Rattle.tt_scan_dropouts.specs.declared.boxed.BoxedRules.{BoxedRules}
 use Rattle.tt_strike.specs.Grown.{grown_measured, grown_outcome, grown_placement, with_sides}
 use Rattle.tt_strike.specs.Job.{Job}
 use Rattle.tt_strike.specs.Measures.{Measure, measured_line}
@@ -127,14 +127,20 @@ one_column_more = refl
 stem_side : ℕ → ℕ → ℕ → ℕ → Edge
 stem_side ax ay bx by = record { ax = pos ax; ay = pos ay; bx = pos bx; by = pos by }
 
-stem : Option Rules → List Shape
+stem : Option BoxedRules → List Shape
 stem filled =
     let edges : List Edge = stem_side 5120 8192 5120 24576 ∷ stem_side 5120 24576 7168 24576 ∷ stem_side 7168 24576 7168 8192
     ∷ stem_side 7168 8192 5120 8192 ∷ [] in
     record { edges = edges; contours = edges ∷ []; filled = filled } ∷ []
 
-dropout_above : is_ink one_pixel (stem (Some (record { stubs = true; smart = false }))) (pos 0) (negsuc 1) ≡ true
-unfolding one_pixel stem stem_side
+by_type_zero : Option BoxedRules
+by_type_zero = Some (record {
+  rules = record { stubs = true; smart = false };
+  extents = record { across = record { low = pos 5120; high = pos 7168 }; up = record { low = pos 8192; high = pos 24576 } };
+})
+
+dropout_above : is_ink one_pixel (stem by_type_zero) (pos 0) (negsuc 1) ≡ true
+unfolding one_pixel stem stem_side by_type_zero
 dropout_above = refl
 
 unfilled_above : is_ink one_pixel (stem None) (pos 0) (negsuc 1) ≡ false

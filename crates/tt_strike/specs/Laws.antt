@@ -7,11 +7,11 @@ use Rattle.tt_core.specs.declared.fault.JobFault.TheVariants as fault
 use Rattle.tt_fit.specs.declared.programs.Fit.TheVariants as fit
 use Rattle.tt_fit.specs.Fitting.{Fitter}
 use Rattle.tt_fit.specs.Rules.{falls_back}
-use Rattle.tt_line.specs.Layout.{Placement, placement}
+use Rattle.tt_line.specs.Layout.{Placement}
 use Rattle.tt_scan_edges.specs.declared.edge.Edge.{Edge}
 use Rattle.tt_scan_edges.specs.declared.edge.Frame.{Frame}
 use Rattle.tt_scan_edges.specs.Winding.{column_x, row_y}
-use Rattle.tt_scan_gaps.specs.declared.mark.Rules.{Rules}
+use Rattle.tt_scan_dropouts.specs.declared.boxed.BoxedRules.{BoxedRules}
 use Rattle.tt_strike.specs.Job.{Job, ByFace}
 use Rattle.tt_picture.specs.declared.report.Unfitted.{Unfitted}
 use Rattle.tt_strike.specs.Defects.{IsRunDefect}
@@ -20,7 +20,7 @@ use Rattle.tt_strike.specs.declared.growing.Sides.{Sides}
 use Rattle.tt_strike.specs.Picture as pictures
 use Rattle.tt_picture.specs.Pictures.{Image, image, picture}
 use Rattle.tt_picture.specs.Shapes.{glyph_shape}
-use Rattle.tt_strike.specs.Picture.{setting_in, frame_of, line_outcome, pictured, shapes_in}
+use Rattle.tt_strike.specs.Picture.{setting_in, frame_of, line_outcome, pictured, shapes_in, text_placed}
 use Rattle.tt_strike.specs.Measures.{measured}
 use Rattle.tt_strike.specs.Refusals.{Refused, job}
 use Rattle.tt_picture.specs.Pixels.{Shape, some_black, is_black_pixel}
@@ -92,7 +92,7 @@ pub record IsByEdges (a : Job) (face : Face) (i : Image) : Type 0 where
   pub line : Placement
   pub setting : Fitter
   pub glyphs : List Shape
-  pub laid : placement face.metrics face.cmap a.text a.ppem a.margin ≡ Ok line
+  pub laid : text_placed face a ≡ Ok line
   pub made : setting_in face a ≡ Ok setting
   pub fitted : shapes_in setting line ≡ Ok glyphs
   pub unfilled : AreUnfilled glyphs
@@ -110,11 +110,14 @@ stem_edges : List Edge
 stem_edges = stem_edge 5120 0 5120 16384 ∷ stem_edge 5120 16384 7168 16384 ∷ stem_edge 7168 16384 7168 0
     ∷ stem_edge 7168 0 5120 0 ∷ []
 
-stem : Option Rules → Shape
+stem : Option BoxedRules → Shape
 stem filled = record { edges = stem_edges; contours = stem_edges ∷ []; filled = filled }
 
-by_type_zero : Option Rules
-by_type_zero = Some (record { stubs = true; smart = false })
+by_type_zero : Option BoxedRules
+by_type_zero = Some (record {
+  rules = record { stubs = true; smart = false };
+  extents = record { across = record { low = pos 5120; high = pos 7168 }; up = record { low = pos 0; high = pos 16384 } };
+})
 
 two_rows : Frame
 two_rows = record { width = 2; height = 2; margin = 0; rise = pos 2 }

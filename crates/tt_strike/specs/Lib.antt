@@ -13,5 +13,7 @@ pub mod Measures
 pub mod Picture
 pub mod Report
 pub mod Reported
+pub mod StepLaws
 pub mod Strikes
 pub mod Work
+pub mod UnhintedSteps

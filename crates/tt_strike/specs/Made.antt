@@ -1,12 +1,15 @@
--- No part of the standard: the glyphs of a laid-out line, made and tested before they are drawn or measured.
-use Rattle.std.specs.Prelude.{◌≡◌, Bool, List, map, Result, Ok}
+-- No part of the standard: the glyphs of a line, made and tested before they are drawn or measured.
+use Rattle.std.specs.Prelude.{◌≡◌, ℕ, Bool, List, length, map, Result, Ok}
 use Rattle.tt_core.specs.Outcomes.{◌>>=◌}
 use Rattle.tt_fit.specs.Fitting.{Fitter}
-use Rattle.tt_line.specs.Layout.{Placement}
+use Rattle.tt_line.specs.Layout.{Placement, text_glyphs}
+use Rattle.tt_metrics.specs.Metrics.{glyphs_of}
 use Rattle.tt_picture.specs.Distinct.{distinct}
-use Rattle.tt_picture.specs.Glyphs.{AreDrawn, AreWithin, Glyph, Stand, numbers_of}
+use Rattle.tt_picture.specs.Fitted.{AreFitted, FittedGlyph, fitted_numbers, outlines_of}
+use Rattle.tt_picture.specs.Glyphs.{AreDrawn, ArePlaces, AreSeated, AreWithin, Glyph, Stand, numbers_of}
+use Rattle.tt_strike.specs.Costs.{line_cost}
 use Rattle.tt_strike.specs.Job.{Job}
-use Rattle.tt_strike.specs.Picture.{crossings_tested, frame_of, line_shapes, points_tested, setting_in, shapes_in}
+use Rattle.tt_strike.specs.Picture.{edges_tested, frame_of, laid_out, line_shapes, outlines_in, points_tested, setting_in, shapes_in, steps_in}
 use Rattle.tt_picture.specs.Pixels.{Shape}
 use Rattle.tt_strike.specs.Refusals.{Refused, as_font, as_job}
 use Rattle.tt_face.specs.Faces.{Face}
@@ -23,8 +26,32 @@ pub record AreMade (cached : Bool) (face : Face) (a : Job) (line : Placement) (g
   pub opened : setting_in face a ≡ Ok setting
   pub few : as_job (points_tested setting a line) ≡ Ok tt
   pub fitted : shapes_in setting line ≡ Ok shapes
-  pub seldom : crossings_tested setting a line shapes ≡ Ok tt
+  pub seldom : edges_tested setting a line shapes ≡ Ok tt
   pub drawn : AreDrawn cached (line_fitter setting (map (λ g. g.0) line.glyphs)) (frame_of line a.margin) gs
   pub numbers : numbers_of gs ≡ distinct (map (λ g. g.0) line.glyphs)
   pub within : AreWithin gs
   pub stand : Stand cached (frame_of line a.margin) gs shapes
+
+-- the glyphs of a text's line, or the first refusal
+abbrev pub text_shapes : Face → Job → Result (List Shape) Refused
+text_shapes face a = laid_out face a >>= λ line. shapes_made face a line
+
+-- a text is laid out, and the glyphs of its line are made: these, with this table of their places and at this cost
+pub record IsMadeLine (cached : Bool) (face : Face) (a : Job) (line : Placement) (table : List ℕ) (gs : List Glyph)
+    (n : ℕ) : Type 0 where
+  pub laid : laid_out face a ≡ Ok line
+  pub glyphs : map (λ g. g.0) line.glyphs ≡ text_glyphs face.cmap a.text
+  pub made : AreMade cached face a line gs
+  pub seated : AreSeated (glyphs_of face.metrics) table gs
+  pub cost : line_cost face a line ≡ Ok n
+
+-- the outlines of a text's distinct glyphs are made: these, with this table of their places. Each character has its
+-- glyph and the glyph's step
+pub record AreOutlined (s : Fitter) (gs : List ℕ) (line : List (ℕ × ℕ)) (table : List ℕ) (fs : List FittedGlyph) : Type 0 where
+  pub glyphs : map (λ g. g.0) line ≡ gs
+  pub steps : map (λ g. g.1) line ≡ steps_in s gs
+  pub room : length table ≡ s.tables.glyphs
+  pub places : ArePlaces table (fitted_numbers fs)
+  pub numbers : fitted_numbers fs ≡ distinct gs
+  pub fitted : AreFitted (line_fitter s gs) fs
+  pub made : outlines_in s gs ≡ Ok (outlines_of fs)

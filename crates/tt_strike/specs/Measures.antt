@@ -1,18 +1,21 @@
 -- No part of the standard: the measure of a line: its base line, its characters and their ink, in columns and rows of
 -- the picture.
-use Rattle.std.specs.Prelude.{ℕ, ◌+◌, ℤ, pos, ◌+ℤ◌, List, map, Option, None, Result, Ok}
+use Rattle.std.specs.Prelude.{ℕ, ◌+◌, if◌then◌else◌, ℤ, pos, ◌+ℤ◌, List, map, Option, None, Result, Ok}
 use Rattle.tt_core.specs.Outcomes.{◌>>=◌}
 use Rattle.tt_fit.specs.Fitting.{Fitter}
 use Rattle.tt_line.specs.Layout.{Placement, advance_in_pixels}
 use Rattle.tt_metrics.specs.Metrics.{Metrics}
+use Rattle.tt_fit.specs.declared.programs.Fit.{Fit}
+use Rattle.tt_picture.specs.Glyphs.{Glyph}
 use Rattle.tt_scan_edges.specs.declared.edge.Frame.{Frame}
 use Rattle.tt_scan_ink.specs.declared.ink.GlyphInk.{GlyphInk}
 use Rattle.tt_picture.specs.Ink.{all_joined, glyph_ink, ink_at}
+use Rattle.tt_picture.specs.Steps.{glyph_step}
 use Rattle.tt_strike.specs.Job.{Job}
 use Rattle.tt_strike.specs.Picture.{frame_of, laid_out, line_shapes, setting_in}
 use Rattle.tt_strike.specs.Refusals.{Refused, as_font}
 use Rattle.tt_face.specs.Faces.{Face}
-use Rattle.tt_strike.specs.Work.{line_fitter}
+use Rattle.tt_strike.specs.Work.{lays_after_glyphs, line_fitter}
 use Rattle.tt_picture.specs.declared.ink_box.InkBox.{InkBox}
 use Rattle.tt_strike.specs.declared.measuring.CharacterMeasure.{CharacterMeasure}
 use Rattle.tt_strike.specs.declared.measuring.Measure as declared
@@ -34,12 +37,12 @@ measure_view m = record {
   characters = m.characters.items;
 }
 
--- a glyph at its pen, by the ink of each glyph at pen 0
-abbrev pub character_at : Metrics → ℕ → Frame → (ℕ → Option GlyphInk) → ℕ × ℕ → CharacterMeasure
-character_at m ppem f inked g = record {
+-- a glyph at its pen, by the step and the ink of each glyph at pen 0
+abbrev pub character_at : (ℕ → ℕ) → Frame → (ℕ → Option GlyphInk) → ℕ × ℕ → CharacterMeasure
+character_at step f inked g = record {
   glyph = g.0;
   pen = pos (g.1 + f.margin);
-  advance = advance_in_pixels m ppem g.0;
+  advance = step g.0;
   ink = ink_at f g.1 (inked g.0);
 }
 
@@ -47,11 +50,11 @@ character_at m ppem f inked g = record {
 abbrev pub ink_of : List CharacterMeasure → Option InkBox
 ink_of characters = all_joined None (map (λ c. c.ink) characters)
 
--- the measure of a laid-out line, by the ink of each glyph
-abbrev pub measure_by : Metrics → ℕ → ℕ → (ℕ → Option GlyphInk) → Placement → Measure
-measure_by m ppem margin inked line =
+-- the measure of a laid-out line, by the step and the ink of each glyph
+abbrev pub measure_by : (ℕ → ℕ) → ℕ → (ℕ → Option GlyphInk) → Placement → Measure
+measure_by step margin inked line =
     let f = frame_of line margin in
-    let characters = map (character_at m ppem f inked) line.glyphs in
+    let characters = map (character_at step f inked) line.glyphs in
     record {
       width = line.width;
       height = line.height;
@@ -64,12 +67,21 @@ measure_by m ppem margin inked line =
 abbrev pub line_ink : Fitter → Placement → ℕ → Option GlyphInk
 line_ink s line g = glyph_ink (line_fitter s (map (λ g. g.0) line.glyphs) g) g
 
+-- the step of each glyph of a line: its own, by its fitter, or its advance
+abbrev pub line_step : Face → Job → Fitter → Placement → ℕ → ℕ
+line_step face a s line g = if lays_after_glyphs a.fit then glyph_step (line_fitter s (map (λ g. g.0) line.glyphs) g) g
+    else advance_in_pixels face.metrics a.ppem g
+
+-- the step of a made glyph: its own, or its advance
+abbrev pub made_step : Metrics → ℕ → Fit → Glyph → ℕ
+made_step m ppem how g = if lays_after_glyphs how then g.step else advance_in_pixels m ppem g.number
+
 -- the measure of a laid-out line; it is refused exactly where its picture is
 unfoldable pub measured_line : Face → Job → Placement → Result Measure Refused
 measured_line face a line =
     as_font (setting_in face a) >>= λ s.
     line_shapes s a line >>= λ glyphs.
-    Ok (measure_by face.metrics a.ppem a.margin (line_ink s line) line)
+    Ok (measure_by (line_step face a s line) a.margin (line_ink s line) line)
 
 -- the measure of a text by a font's tables, or the first refusal
 unfoldable pub measured : Face → Job → Result Measure Refused

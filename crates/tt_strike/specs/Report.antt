@@ -2,13 +2,13 @@
 -- program (profile).
 use Rattle.std.specs.Prelude.{ℕ, List, map, Result, Ok}
 use Rattle.tt_core.specs.Outcomes.{◌>>=◌}
-use Rattle.tt_line.specs.Layout.{Placement, placement}
+use Rattle.tt_line.specs.Layout.{Placement}
 use Rattle.tt_picture.specs.declared.report.Unfitted.{Unfitted}
 use Rattle.tt_picture.specs.Distinct.{distinct}
 use Rattle.tt_picture.specs.Unfitted.{unfitted_among}
 use Rattle.tt_strike.specs.Job.{Job, by_face}
-use Rattle.tt_strike.specs.Picture.{setting_in, line_shapes}
-use Rattle.tt_strike.specs.Refusals.{Refused, as_font, as_job}
+use Rattle.tt_strike.specs.Picture.{line_shapes, setting_in, text_placed}
+use Rattle.tt_strike.specs.Refusals.{Refused, as_font}
 use Rattle.tt_face.specs.Faces.{Face}
 use Rattle.tt_strike.specs.Work.{line_fitter}
 
@@ -21,9 +21,7 @@ line_report face a line =
 
 -- the unfitted glyphs of a text by a font's tables, or the first refusal
 unfoldable pub report_by : Face → Job → Result (List Unfitted) Refused
-report_by face a =
-    as_job (placement face.metrics face.cmap a.text a.ppem a.margin) >>= λ line.
-    line_report face a line
+report_by face a = text_placed face a >>= λ line. line_report face a line
 
 -- the unfitted glyphs of a text by a font file
 unfoldable pub report_of : Job → List ℕ → Result (List Unfitted) Refused

@@ -4,9 +4,11 @@ use Rattle.std.specs.List.{sum_by}
 use Rattle.tt_core.specs.declared.fault.JobFault.{JobFault}
 use Rattle.tt_core.specs.declared.fault.JobFault.TheVariants as fault
 use Rattle.tt_core.specs.Limits.{crossing_limit}
+use Rattle.tt_core.specs.Outcomes.{◌>>=◌}
 use Rattle.tt_fit.specs.Counting.{points_asked}
 use Rattle.tt_fit.specs.Fitting.{Fitter, charged_fitter}
 use Rattle.tt_picture.specs.Distinct.{distinct, each_fitter, fitter_after}
+use Rattle.tt_picture.specs.Steps.{glyph_chords}
 use Rattle.tt_fit.specs.declared.programs.Fit.{Fit}
 use Rattle.tt_fit.specs.declared.programs.Fit.TheVariants as fit
 
@@ -16,6 +18,10 @@ is_bounded fit.Full = false
 is_bounded fit.None = false
 is_bounded fit.Fallback = false
 is_bounded fit.Best = true
+
+-- the fits that lay a line out by the steps of its glyphs. The glyphs are made before, and their work is bounded
+abbrev pub lays_after_glyphs : Fit → Bool
+lays_after_glyphs how = is_bounded how
 
 -- tests an amount of work against its limit
 unfoldable pub work_tested : Fit → ℕ → ℕ → Result (Unit {0}) JobFault
@@ -41,10 +47,23 @@ line_fitter s gs g = each_fitter (started s gs) gs g
 abbrev pub work_left : Fitter → List ℕ → Option ℕ
 work_left s gs = (fitter_after (started s gs) (distinct gs)).work
 
+-- the chords of a line's glyphs, each glyph once
+abbrev pub chords_in : Fitter → List ℕ → ℕ
+chords_in s gs = sum_by (λ g. glyph_chords (line_fitter s gs g) g) (distinct gs)
+
+-- a line's glyphs may have this many chords
+abbrev pub chord_limit : ℕ
+chord_limit = 32000000
+
 -- how many crossings the remaining work allows: each takes 4, and 500,000 are free
 abbrev pub crossings_allowed : Option ℕ → ℕ
 crossings_allowed None = crossing_limit
 crossings_allowed (Some left) = min crossing_limit (left / 4 + 500000)
+
+-- tests the chords of a line's glyphs, and then their crossings, by the work that remains
+unfoldable pub edges_limited : Fit → Option ℕ → ℕ → ℕ → Result (Unit {0}) JobFault
+edges_limited how left chords crossings =
+    work_tested how chord_limit chords >>= λ u. work_tested how (crossings_allowed left) crossings
 
 -- worked values: all work remains, some, three, and none
 all_remains : crossings_allowed (Some 100000000) ≡ 16000000
@@ -58,6 +77,26 @@ too_little_for_one = refl
 
 none_remains : crossings_allowed (Some 0) ≡ 500000
 none_remains = refl
+
+as_many_chords_as_may_be : work_tested fit.Best chord_limit 32000000 ≡ Ok tt
+unfolding work_tested
+as_many_chords_as_may_be = refl
+
+one_chord_more : work_tested fit.Best chord_limit 32000001 ≡ Err fault.WorkLarge
+unfolding work_tested
+one_chord_more = refl
+
+no_crossing_but_too_many_chords : edges_limited fit.Best None 32000001 0 ≡ Err fault.WorkLarge
+unfolding edges_limited work_tested
+no_crossing_but_too_many_chords = refl
+
+few_chords_but_too_many_crossings : edges_limited fit.Best (Some 3) 8 500001 ≡ Err fault.WorkLarge
+unfolding edges_limited work_tested
+few_chords_but_too_many_crossings = refl
+
+few_of_both : edges_limited fit.Best (Some 3) 32000000 500000 ≡ Ok tt
+unfolding edges_limited work_tested
+few_of_both = refl
 
 at_the_limit : work_tested fit.Best crossing_limit 16000000 ≡ Ok tt
 unfolding work_tested

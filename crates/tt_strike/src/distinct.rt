@@ -1,28 +1,41 @@
 //! The distinct glyphs of a line.
 
-ghost use Rattle.std.specs.Prelude.{◌≡◌, ◌<◌, map, All, IfOk};
+ghost use Rattle.std.specs.Prelude.{◌≡◌, ◌<◌, ◌≤◌, length, map, All, IfOk};
+ghost use Rattle.tt_core.specs.Limits.{text_limit};
 ghost use Rattle.tt_picture.specs.Distinct.{distinct};
+ghost use Rattle.tt_picture.specs.Glyphs.{ArePlaces};
 
 use std::alloc::{AllocError, Global};
+
+/// The distinct glyphs of a line, in order of first appearance.
+#[derive(Drop)]
+pub(crate) struct DistinctGlyphs {
+    /// For each glyph of the font 0, or one more than its place in `numbers`.
+    pub(crate) places: Vec<u16>,
+    pub(crate) numbers: Vec<u16>,
+}
 
 /// The distinct glyphs of a line, in order of first appearance. Error: out of memory.
 pub(crate) fn distinct(
     alloc: Global,
     glyphs: u16,
     line: &[(u16, u32)],
-) -> Result<Vec<u16>, AllocError>
-    requires { All (λ g. g.0 < glyphs) line.now }
-    ensures numbers { IfOk result (λ v. v.items ≡ distinct (map (λ g. g.0) line.now)) }
-    ensures known { IfOk result (λ v. All (λ n. n < glyphs) v.items) }
+) -> Result<DistinctGlyphs, AllocError>
+    requires known { All (λ g. g.0 < glyphs) line.now }
+    requires few { length line.now ≤ text_limit }
+    ensures room { IfOk result (λ d. length d.places.items ≡ glyphs) }
+    ensures places { IfOk result (λ d. ArePlaces d.places.items d.numbers.items) }
+    ensures numbers { IfOk result (λ d. d.numbers.items ≡ distinct (map (λ g. g.0) line.now)) }
+    ensures known { IfOk result (λ d. All (λ n. n < glyphs) d.numbers.items) }
 {
-    let mut met = vec![in alloc; false; usize::from(glyphs)]?;
+    let mut places = vec![in alloc; 0u16; usize::from(glyphs)]?;
     let mut numbers = Vec::new(alloc);
     for placed in line {
         let (number, _) = *placed;
-        if !met[usize::from(number)] {
-            met[usize::from(number)] = true;
+        if places[usize::from(number)] == 0 {
             numbers.push(number)?;
+            places[usize::from(number)] = numbers.len() as u16;
         }
     }
-    Ok(numbers)
+    Ok(DistinctGlyphs { places, numbers })
 }

@@ -1,30 +1,31 @@
-//! Makes and tests the glyphs of a line that is laid out, and draws them.
+//! Makes the glyphs of a line that is laid out, and draws them.
 
-ghost use Rattle.std.specs.Prelude.{◌≡◌, ◌<◌, map, All, Ok, Err, IfOk};
-ghost use Rattle.tt_core.specs.declared.fault.JobFault.TheVariants.{WorkLarge};
+ghost use Rattle.std.specs.Prelude.{◌≡◌, ◌<◌, false, map, All, Ok, Err, IfOk, IsOkAnd};
 ghost use Rattle.tt_core.specs.Outcomes.{GivesUnless, IfTold, draw_font_fault, draw_job_fault};
+ghost use Rattle.tt_line.specs.Layout.{text_glyphs};
 ghost use Rattle.tt_line.specs.Outcome.{placement_of};
 ghost use Rattle.tt_metrics.specs.Metrics.{glyphs_of};
 ghost use Rattle.tt_picture.specs.Cached.{is_there, limit_of};
 ghost use Rattle.tt_picture.specs.Glyphs.{AreSeated};
 ghost use Rattle.tt_picture.specs.Pictures.{image_of};
 ghost use Rattle.tt_strike.specs.Costs.{line_cost};
-ghost use Rattle.tt_strike.specs.Defects.{IsLineDefect, IsTooMuchWork, TellsDefects};
+ghost use Rattle.tt_strike.specs.Defects.{IsLineDefect, IsLineRefusal, TellsDefects};
 ghost use Rattle.tt_strike.specs.Made.{AreMade, shapes_made};
-ghost use Rattle.tt_strike.specs.Picture.{drawn, frame_of};
+ghost use Rattle.tt_strike.specs.Picture.{drawn, frame_of, laid_out, line_outcome};
 ghost use Rattle.tt_strike.specs.Refusals.{refusal};
 ghost use Rattle.tt_strike.specs.Reported.{IsReported};
-ghost use Rattle.tt_strike.specs.Strikes.{IsCacheOf, job_with};
+ghost use Rattle.tt_strike.specs.Strikes.{IsCacheOf, job_by, job_with};
+ghost use Rattle.tt_strike.specs.Work.{is_bounded};
 
 use crate::laid::Laid;
+use crate::making::MadeLine;
 use crate::sized::SizedFace;
-use crate::work::{charge_points, cost_of, crossings_allowed, test_crossings};
 use tt_core::DrawFault;
 use tt_picture::{Cache, Glyphs, Picture, line_glyphs};
 
 impl<'f, 'a> SizedFace<'f, 'a> {
-    /// The glyphs of a laid-out line. Errors: those of loca and glyf, of the programs; WorkLarge of its points; those
-    /// of the glyphs in the order of the line; WorkLarge of its crossings; Memory.
+    /// The glyphs of a laid-out line; only where work is not bounded. Errors: those of loca and glyf, of the programs,
+    /// and of the glyphs in the order of the line; Memory.
     pub(crate) fn tested_glyphs(
         &mut self,
         laid: &Laid,
@@ -32,6 +33,7 @@ impl<'f, 'a> SizedFace<'f, 'a> {
     ) -> Result<Glyphs, DrawFault>
         requires known { All (λ g. g.0 < glyphs_of self.old.face.metrics) laid.now.line.glyphs.items }
         requires cache { IsCacheOf self.old cache.old }
+        requires unbounded { is_bounded self.old.fit ≡ false }
         ensures made { IfOk result (λ g. AreMade (is_there cache.old) self.old.face (job_with self.old laid.now.margin) (placement_of laid.now.line) g.made.items) }
         ensures valid { IfOk result (λ g. AreSeated (glyphs_of self.old.face.metrics) g.places.items g.made.items) }
         ensures cost { IfOk result (λ g. line_cost self.old.face (job_with self.old laid.now.margin) (placement_of laid.now.line) ≡ Ok g.cost) }
@@ -40,29 +42,26 @@ impl<'f, 'a> SizedFace<'f, 'a> {
         ensures limit { limit_of cache.new ≡ limit_of cache.old }
         ensures same { self.new ≡ self.old }
         ensures defects { TellsDefects draw_font_fault (IsLineDefect self.old.face (job_with self.old laid.now.margin) (map (λ g. g.0) laid.now.line.glyphs.items)) result }
-        ensures work { IfTold draw_job_fault result (λ j. (j ≡ WorkLarge) × IsTooMuchWork self.old.face (job_with self.old laid.now.margin) (placement_of laid.now.line)) }
+        ensures job { IfTold draw_job_fault result (λ j. ⊥) }
     {
         tt_fit::laws::work_unfits();
         let source = self.source;
         let mut fitter = self.maker.take(&source)?;
         let count = source.face.metrics().glyphs();
         let line = &laid.line;
-        charge_points(source.alloc, source.fit, &mut fitter, count, &line.glyphs)?;
         let frame = laid.frame();
         let mut glyphs = line_glyphs(source.alloc, &mut fitter, count, &line.glyphs, frame, cache)?;
-        let left = fitter.work();
-        let most = crossings_allowed(left);
-        let crossings = test_crossings(source.fit, most, &glyphs.made)?;
-        glyphs.cost = cost_of(left, crossings);
+        glyphs.cost = 0;
         self.maker.give_back(fitter, source.fit);
         Ok(glyphs)
     }
 
-    /// The picture of a line that is laid out. Errors: as `tested_glyphs`.
+    /// The picture of a line that is laid out; only where work is not bounded. Errors: as `tested_glyphs`.
     #[tactic(auto, unfolding(crate::specs::Picture::drawn, crate::specs::Report::line_report))]
     pub(crate) fn draw_line(&mut self, laid: &Laid, cache: &mut Cache) -> Result<Picture, DrawFault>
         requires known { All (λ g. g.0 < glyphs_of self.old.face.metrics) laid.now.line.glyphs.items }
         requires cache { IsCacheOf self.old cache.old }
+        requires unbounded { is_bounded self.old.fit ≡ false }
         ensures exact { GivesUnless refusal image_of result (drawn self.old.face (job_with self.old laid.now.margin) (placement_of laid.now.line)) }
         ensures frame { IfOk result (λ p. p.frame ≡ frame_of (placement_of laid.now.line) laid.now.margin) }
         ensures reported { IfOk result (IsReported self.old.face (job_with self.old laid.now.margin) (placement_of laid.now.line)) }
@@ -70,9 +69,33 @@ impl<'f, 'a> SizedFace<'f, 'a> {
         ensures limit { limit_of cache.new ≡ limit_of cache.old }
         ensures same { self.new ≡ self.old }
         ensures defects { TellsDefects draw_font_fault (IsLineDefect self.old.face (job_with self.old laid.now.margin) (map (λ g. g.0) laid.now.line.glyphs.items)) result }
-        ensures work { IfTold draw_job_fault result (λ j. (j ≡ WorkLarge) × IsTooMuchWork self.old.face (job_with self.old laid.now.margin) (placement_of laid.now.line)) }
+        ensures job { IfTold draw_job_fault result (λ j. ⊥) }
     {
         let glyphs = self.tested_glyphs(laid, cache)?;
+        let frame = laid.frame();
+        Ok(Picture::new(self.alloc(), frame, glyphs.made, glyphs.cost)?)
+    }
+
+    /// The picture of a text. Errors: as `make_line`.
+    #[tactic(auto, unfolding(crate::specs::Picture::line_outcome, crate::specs::Picture::pictured_by, crate::specs::Picture::drawn))]
+    pub(crate) fn draw(
+        &mut self,
+        text: &str,
+        margin: u32,
+        cache: &mut Cache,
+    ) -> Result<Picture, DrawFault>
+        requires cache { IsCacheOf self.old cache.old }
+        ensures exact { GivesUnless refusal image_of result (line_outcome self.old.face (job_by self.old text.now margin)) }
+        ensures frame { IfOk result (λ p. IsOkAnd (laid_out self.old.face (job_by self.old text.now margin)) (λ l. p.frame ≡ frame_of l margin)) }
+        ensures reported { IfOk result (λ p. IsOkAnd (laid_out self.old.face (job_by self.old text.now margin)) (λ l. IsReported self.old.face (job_by self.old text.now margin) l p)) }
+        ensures cache { IsCacheOf self.old cache.new }
+        ensures limit { limit_of cache.new ≡ limit_of cache.old }
+        ensures same { self.new ≡ self.old }
+        ensures defects { TellsDefects draw_font_fault (IsLineDefect self.old.face (job_by self.old text.now margin) (text_glyphs self.old.face.cmap text.now)) result }
+        ensures job { IfTold draw_job_fault result (IsLineRefusal self.old.face (job_by self.old text.now margin)) }
+    {
+        let made = self.make_line(text, margin, cache)?;
+        let MadeLine { laid, glyphs } = made;
         let frame = laid.frame();
         Ok(Picture::new(self.alloc(), frame, glyphs.made, glyphs.cost)?)
     }

@@ -2,6 +2,8 @@
 
 ghost use Rattle.tt_face.specs.Files.{FacesAreWhole};
 ghost use Rattle.tt_strike.specs.Laws.{DrawnFontsAreWhole, OthersListNothing, MarginMoves, MeasuredAsDrawn, GlyphsByThemselves, UnfilledAreEdges, OthersFillNone, OthersDrawByEdges, GrownRefusals, SidesMove, SidesRefuseNothing};
+ghost use Rattle.tt_strike.specs.StepLaws.{BestLaysBySteps, EqualGlyphsStepAlike, GlyphsBeforeExtent, MeasureTellsSteps, MovedOutlinesAgree, OthersLayByAdvances};
+ghost use Rattle.tt_strike.specs.UnhintedSteps.{UnhintedStepsAreNear};
 ghost use Rattle.tt_strike.specs.InkLaws.{GrownAddsFewest, GrownCutsNone, GrownMeasuredAsDrawn, InkIsDrawn, MeasureHoldsInk};
 
 /// Lemma: where the definitions give a font's tables, these have no defect. Where they give a job's picture, the font
@@ -11,6 +13,36 @@ pub fn fonts_are_whole()
     ensures picture { DrawnFontsAreWhole }
 {
     tt_line::laws::glyphs_are_placed();
+    tt_line::laws::steps_lead();
+}
+
+/// Lemma: with every fit but `Fit::Best` a text is laid out by advances. With `Fit::Best` it is laid out by the steps of
+/// its glyphs, and a defect of a glyph is told whatever the extent of the picture would be.
+pub fn best_lays_by_steps()
+    ensures advances { OthersLayByAdvances }
+    ensures steps { BestLaysBySteps }
+    ensures order { GlyphsBeforeExtent }
+{}
+
+/// Lemma: an outline that is moved right with both ends of its advance has the same step, and the same edges at each pen.
+pub fn moved_outlines_agree()
+    ensures { MovedOutlinesAgree }
+{}
+
+/// Lemma: the step of a glyph whose hinting is off is at most a pixel off its advance, and equal to it unless the exact
+/// advance is within 1/32 pixel of a half.
+pub fn unhinted_steps_are_near()
+    ensures { UnhintedStepsAreNear }
+{
+    tt_core::laws::scales_keep_order();
+}
+
+/// Lemma: a measure tells the step from each pen to the next, and equal glyphs have equal steps.
+pub fn measures_tell_steps()
+    ensures pens { MeasureTellsSteps }
+    ensures glyphs { EqualGlyphsStepAlike }
+{
+    tt_line::laws::steps_lead();
 }
 
 /// Lemma: a defined report is empty unless the job's fit is `Fit::Fallback` or `Fit::Best`.

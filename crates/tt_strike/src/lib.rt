@@ -11,10 +11,12 @@ mod laid;
 pub mod laws;
 mod laying;
 mod maker;
+mod making;
 mod measuring;
 mod programs;
 mod sized;
 mod source;
+mod stepping;
 mod strike;
 mod work;
 

@@ -1,9 +1,9 @@
-//! Measures a line that is laid out.
+//! Measures the line of a text.
 
 ghost use Rattle.std.specs.Prelude.{◌≡◌, ℕ, ◌<◌, ◌≤◌, pos, ◌+ℤ◌, true, length, map, All, IfOk, Ok, Option};
-ghost use Rattle.tt_core.specs.declared.fault.JobFault.TheVariants.{WorkLarge};
 ghost use Rattle.tt_core.specs.Limits.{width_limit};
 ghost use Rattle.tt_core.specs.Outcomes.{GivesUnless, IfTold, draw_font_fault, draw_job_fault};
+ghost use Rattle.tt_line.specs.Layout.{text_glyphs};
 ghost use Rattle.tt_line.specs.Outcome.{placement_of};
 ghost use Rattle.tt_metrics.specs.Metrics.{glyphs_of};
 ghost use Rattle.tt_picture.specs.Distinct.{is_among};
@@ -11,20 +11,22 @@ ghost use Rattle.tt_picture.specs.Glyphs.{numbers_of};
 ghost use Rattle.tt_picture.specs.Unfitted.{ListsOnce, unfitted_standing};
 ghost use Rattle.tt_scan_edges.specs.Winding.{FrameFits};
 ghost use Rattle.tt_scan_ink.specs.declared.ink.GlyphInk.{GlyphInk};
-ghost use Rattle.tt_strike.specs.Costs.{line_cost};
-ghost use Rattle.tt_strike.specs.Defects.{IsLineDefect, IsTooMuchWork, TellsDefects};
-ghost use Rattle.tt_strike.specs.Measures.{character_at, ink_of, measure_by, measure_view, measured_line};
+ghost use Rattle.tt_strike.specs.Costs.{cost_by};
+ghost use Rattle.tt_strike.specs.Defects.{IsLineDefect, IsLineRefusal, TellsDefects};
+ghost use Rattle.tt_strike.specs.Measures.{character_at, ink_of, made_step, measure_by, measure_view, measured};
 ghost use Rattle.tt_strike.specs.Refusals.{refusal};
-ghost use Rattle.tt_strike.specs.Report.{line_report};
-ghost use Rattle.tt_strike.specs.Strikes.{job_with};
+ghost use Rattle.tt_strike.specs.Report.{report_by};
+ghost use Rattle.tt_strike.specs.Strikes.{job_by};
 
 use crate::inked::InkedGlyphs;
 use crate::laid::Laid;
+use crate::making::MadeLine;
 use crate::sized::SizedFace;
-use std::alloc::{AllocError, Global};
+use crate::work::is_bounded;
+use std::alloc::AllocError;
 use tt_core::DrawFault;
 use tt_line::advance;
-use tt_picture::{Cache, InkBox, Report, glyph_inks, ink_at, joined, report_on};
+use tt_picture::{Cache, Glyph, InkBox, Report, glyph_inks, ink_at, joined, report_on};
 use tt_scan::Frame;
 
 /// The place of a character in its line's picture.
@@ -84,6 +86,17 @@ fn measure_of(frame: Frame, characters: Vec<CharacterMeasure>, report: Report) -
 }
 
 impl<'f, 'a> SizedFace<'f, 'a> {
+    /// The pixels from the pen of a glyph to the next: its own step, or its advance.
+    fn step_of(&self, glyph: &Glyph) -> u32
+        requires known { glyph.now.number < glyphs_of self.now.face.metrics }
+        ensures { result ≡ made_step self.now.face.metrics self.now.ppem self.now.fit glyph.now }
+    {
+        if is_bounded(self.fit()) {
+            return glyph.step();
+        }
+        advance(self.face().metrics(), self.ppem(), glyph.number())
+    }
+
     /// The measure of a character, whose glyph is one of these.
     fn character(&self, frame: Frame, placed: (u16, u32), inked: &InkedGlyphs) -> CharacterMeasure
         requires frame { FrameFits frame }
@@ -91,18 +104,19 @@ impl<'f, 'a> SizedFace<'f, 'a> {
         requires pen { placed.1 ≤ width_limit }
         requires room { length inked.now.glyphs.places.items ≡ glyphs_of self.now.face.metrics }
         requires among { is_among placed.0 (numbers_of inked.now.glyphs.made.items) ≡ true }
-        ensures { (ink : ℕ → Option GlyphInk) → inked.now.inks.items ≡ map ink (numbers_of inked.now.glyphs.made.items)
-            → result ≡ character_at self.now.face.metrics self.now.ppem frame ink placed }
+        ensures { (step : ℕ → ℕ) (ink : ℕ → Option GlyphInk) → All (λ g. made_step self.now.face.metrics self.now.ppem self.now.fit g ≡ step g.number) inked.now.glyphs.made.items
+            → inked.now.inks.items ≡ map ink (numbers_of inked.now.glyphs.made.items)
+            → result ≡ character_at step frame ink placed }
     {
         let (glyph, pen) = placed;
-        let ink = match inked.glyphs.find(glyph) {
-            Some(i) => inked.inks[i],
-            None => None,
+        let (step, ink) = match inked.glyphs.find(glyph) {
+            Some(i) => (self.step_of(&inked.glyphs.made[i]), inked.inks[i]),
+            None => (0, None),
         };
         CharacterMeasure {
             glyph,
             pen: i64::from(pen + frame.margin),
-            advance: advance(self.face().metrics(), self.ppem(), glyph),
+            advance: step,
             ink: ink_at(frame, pen, ink),
         }
     }
@@ -119,8 +133,9 @@ impl<'f, 'a> SizedFace<'f, 'a> {
         requires pens { All (λ g. g.1 ≤ width_limit) line.now }
         requires room { length inked.now.glyphs.places.items ≡ glyphs_of self.now.face.metrics }
         requires among { All (λ g. is_among g.0 (numbers_of inked.now.glyphs.made.items) ≡ true) line.now }
-        ensures { IfOk result (λ v. (ink : ℕ → Option GlyphInk) → inked.now.inks.items ≡ map ink (numbers_of inked.now.glyphs.made.items)
-            → v.items ≡ map (character_at self.now.face.metrics self.now.ppem frame ink) line.now) }
+        ensures { IfOk result (λ v. (step : ℕ → ℕ) (ink : ℕ → Option GlyphInk) → All (λ g. made_step self.now.face.metrics self.now.ppem self.now.fit g ≡ step g.number) inked.now.glyphs.made.items
+            → inked.now.inks.items ≡ map ink (numbers_of inked.now.glyphs.made.items)
+            → v.items ≡ map (character_at step frame ink) line.now) }
     {
         let mut measured = Vec::with_capacity(self.alloc(), line.len())?;
         for placed in line {
@@ -134,8 +149,9 @@ impl<'f, 'a> SizedFace<'f, 'a> {
         requires known { All (λ g. g.0 < glyphs_of self.now.face.metrics) laid.now.line.glyphs.items }
         requires room { length inked.now.glyphs.places.items ≡ glyphs_of self.now.face.metrics }
         requires among { All (λ g. is_among g.0 (numbers_of inked.now.glyphs.made.items) ≡ true) laid.now.line.glyphs.items }
-        ensures exact { IfOk result (λ m. (ink : ℕ → Option GlyphInk) → inked.now.inks.items ≡ map ink (numbers_of inked.now.glyphs.made.items)
-            → measure_view m ≡ measure_by self.now.face.metrics self.now.ppem laid.now.margin ink (placement_of laid.now.line)) }
+        ensures exact { IfOk result (λ m. (step : ℕ → ℕ) (ink : ℕ → Option GlyphInk) → All (λ g. made_step self.now.face.metrics self.now.ppem self.now.fit g ≡ step g.number) inked.now.glyphs.made.items
+            → inked.now.inks.items ≡ map ink (numbers_of inked.now.glyphs.made.items)
+            → measure_view m ≡ measure_by step laid.now.margin ink (placement_of laid.now.line)) }
         ensures unfitted { IfOk result (λ m. m.report.unfitted.items ≡ unfitted_standing inked.now.glyphs.made.items) }
         ensures cost { IfOk result (λ m. m.report.cost ≡ inked.now.glyphs.cost) }
     {
@@ -145,22 +161,22 @@ impl<'f, 'a> SizedFace<'f, 'a> {
         Ok(measure_of(frame, characters, report))
     }
 
-    /// The measure of a line that is laid out. Errors: as `tested_glyphs`. No glyph is cached.
-    #[tactic(auto, unfolding(crate::specs::Measures::measured_line, crate::specs::Report::line_report))]
-    pub(crate) fn measure_line(&mut self, laid: &Laid) -> Result<Measure, DrawFault>
-        requires known { All (λ g. g.0 < glyphs_of self.old.face.metrics) laid.now.line.glyphs.items }
-        ensures exact { GivesUnless refusal measure_view result (measured_line self.old.face (job_with self.old laid.now.margin) (placement_of laid.now.line)) }
-        ensures report { IfOk result (λ m. line_report self.old.face (job_with self.old laid.now.margin) (placement_of laid.now.line) ≡ Ok m.report.unfitted.items) }
+    /// The measure of a text. Errors: as `make_line`. No glyph is cached.
+    #[tactic(auto, unfolding(crate::specs::Measures::measured, crate::specs::Measures::measured_line, crate::specs::Report::report_by, crate::specs::Report::line_report, crate::specs::Costs::cost_by))]
+    pub(crate) fn measure(&mut self, text: &str, margin: u32) -> Result<Measure, DrawFault>
+        ensures exact { GivesUnless refusal measure_view result (measured self.old.face (job_by self.old text.now margin)) }
+        ensures report { IfOk result (λ m. report_by self.old.face (job_by self.old text.now margin) ≡ Ok m.report.unfitted.items) }
         ensures once { IfOk result (λ m. ListsOnce m.report.unfitted.items) }
-        ensures cost { IfOk result (λ m. line_cost self.old.face (job_with self.old laid.now.margin) (placement_of laid.now.line) ≡ Ok m.report.cost) }
+        ensures cost { IfOk result (λ m. cost_by self.old.face (job_by self.old text.now margin) ≡ Ok m.report.cost) }
         ensures same { self.new ≡ self.old }
-        ensures defects { TellsDefects draw_font_fault (IsLineDefect self.old.face (job_with self.old laid.now.margin) (map (λ g. g.0) laid.now.line.glyphs.items)) result }
-        ensures work { IfTold draw_job_fault result (λ j. (j ≡ WorkLarge) × IsTooMuchWork self.old.face (job_with self.old laid.now.margin) (placement_of laid.now.line)) }
+        ensures defects { TellsDefects draw_font_fault (IsLineDefect self.old.face (job_by self.old text.now margin) (text_glyphs self.old.face.cmap text.now)) result }
+        ensures job { IfTold draw_job_fault result (IsLineRefusal self.old.face (job_by self.old text.now margin)) }
     {
         let mut none = Cache::absent();
-        let glyphs = self.tested_glyphs(laid, &mut none)?;
+        let made = self.make_line(text, margin, &mut none)?;
+        let MadeLine { laid, glyphs } = made;
         let inks = glyph_inks(self.alloc(), &glyphs.made)?;
         let inked = InkedGlyphs { glyphs, inks };
-        Ok(self.measure_by(laid, &inked)?)
+        Ok(self.measure_by(&laid, &inked)?)
     }
 }

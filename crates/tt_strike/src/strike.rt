@@ -3,7 +3,7 @@
 ghost use Rattle.std.specs.Prelude.{◌≡◌, ◌≤◌, true, [], Ok, IfOk, IsOkAnd};
 ghost use Rattle.tt_core.specs.Limits.{crossing_limit};
 ghost use Rattle.tt_core.specs.Outcomes.{GivesUnless, IfTold, draw_font_fault, draw_job_fault};
-ghost use Rattle.tt_line.specs.Layout.{placement, text_glyphs};
+ghost use Rattle.tt_line.specs.Layout.{text_glyphs};
 ghost use Rattle.tt_picture.specs.Pictures.{IsReady, all_crossings, image_of};
 ghost use Rattle.tt_picture.specs.Unfitted.{ListsOnce};
 ghost use Rattle.tt_strike.specs.Costs.{cost_by};
@@ -11,7 +11,7 @@ ghost use Rattle.tt_strike.specs.Defects.{IsLineDefect, IsLineRefusal, TellsDefe
 ghost use Rattle.tt_strike.specs.Grown.{grown_measured, grown_outcome, grown_placement};
 ghost use Rattle.tt_strike.specs.Job.{size_tested, IsSizeRefusal};
 ghost use Rattle.tt_strike.specs.Measures.{measure_view, measured};
-ghost use Rattle.tt_strike.specs.Picture.{frame_of, line_outcome};
+ghost use Rattle.tt_strike.specs.Picture.{frame_of, line_outcome, text_placed};
 ghost use Rattle.tt_strike.specs.Refusals.{as_job, refusal};
 ghost use Rattle.tt_strike.specs.Report.{report_by};
 ghost use Rattle.tt_strike.specs.Strikes.{IsFresh, job_of};
@@ -91,13 +91,15 @@ impl<'f, 'a> Strike<'f, 'a> {
 
     /// The picture of a text of at most 4,096 characters, with a margin of 0 to 64 pixels: the picture that `run` would
     /// write for this font and job. Errors, the first of: MarginRange, TextLong; EmptyPicture, PictureLarge; those of
-    /// loca and glyf; those of the programs; WorkLarge of the points; those of the glyphs in the order of the text;
-    /// WorkLarge of the crossings. Memory may come at any allocation. A refused line too may change the cached glyphs.
-    #[tactic(auto, unfolding(crate::specs::Picture::line_outcome, crate::specs::Picture::pictured_by, crate::specs::Report::report_by, crate::specs::Costs::cost_by))]
+    /// loca and glyf; those of the programs; those of the glyphs in the order of the text. With `Fit::Best` EmptyPicture
+    /// and PictureLarge come after those of the glyphs. Before the glyphs comes WorkLarge of their points, and at the end
+    /// WorkLarge of their chords and of their crossings. Memory may come at any allocation. A refused line too may change
+    /// the cached glyphs.
+    #[tactic(auto, unfolding(crate::specs::Report::report_by, crate::specs::Costs::cost_by))]
     pub fn line(&mut self, text: &str, margin: u32) -> Result<Picture, DrawFault>
         ensures exact { GivesUnless refusal image_of result (line_outcome self.old.face (job_of self.old text.now margin)) }
         ensures valid { IfOk result IsReady }
-        ensures frame { IfOk result (λ p. IsOkAnd (placement self.old.face.metrics self.old.face.cmap text.now self.old.ppem margin) (λ l. p.frame ≡ frame_of l margin)) }
+        ensures frame { IfOk result (λ p. IsOkAnd (text_placed self.old.face (job_of self.old text.now margin)) (λ l. p.frame ≡ frame_of l margin)) }
         ensures report { IfOk result (λ p. report_by self.old.face (job_of self.old text.now margin) ≡ Ok p.unfitted) }
         ensures once { IfOk result (λ p. ListsOnce p.unfitted) }
         ensures cost { IfOk result (λ p. cost_by self.old.face (job_of self.old text.now margin) ≡ Ok p.cost) }
@@ -106,13 +108,11 @@ impl<'f, 'a> Strike<'f, 'a> {
         ensures job { IfTold draw_job_fault result (IsLineRefusal self.old.face (job_of self.old text.now margin)) }
         ensures same { self.new ≡ record self.old { kept = self.new.kept } }
     {
-        let laid = self.sized.lay_out(text, margin)?;
-        self.sized.draw_line(&laid, &mut self.cache)
+        self.sized.draw(text, margin, &mut self.cache)
     }
 
     /// The base line, the ink and the characters' places of a text's picture, without the picture. Errors as those of
     /// `line`. No glyph is cached, and the strike is unchanged.
-    #[tactic(auto, unfolding(crate::specs::Measures::measured, crate::specs::Report::report_by, crate::specs::Costs::cost_by))]
     pub fn measure(&mut self, text: &str, margin: u32) -> Result<Measure, DrawFault>
         ensures exact { GivesUnless refusal measure_view result (measured self.old.face (job_of self.old text.now margin)) }
         ensures report { IfOk result (λ m. report_by self.old.face (job_of self.old text.now margin) ≡ Ok m.report.unfitted.items) }
@@ -122,14 +122,13 @@ impl<'f, 'a> Strike<'f, 'a> {
         ensures job { IfTold draw_job_fault result (IsLineRefusal self.old.face (job_of self.old text.now margin)) }
         ensures same { self.new ≡ self.old }
     {
-        let laid = self.sized.lay_out(text, margin)?;
-        self.sized.measure_line(&laid)
+        self.sized.measure(text, margin)
     }
 
     /// The picture of a text with the fewest added columns and rows such that no ink is cut; equal to that of `line`
     /// where none is. Errors: those of `line`, and PictureLarge of the larger picture. A refused line too may change the
     /// cached glyphs.
-    #[tactic(auto, unfolding(crate::specs::Grown::grown_outcome, crate::specs::Grown::grown_placement))]
+    #[tactic(auto, unfolding(crate::specs::Report::report_by, crate::specs::Costs::cost_by))]
     pub fn grown_line(&mut self, text: &str, margin: u32) -> Result<Picture, DrawFault>
         ensures exact { GivesUnless refusal image_of result (grown_outcome self.old.face (job_of self.old text.now margin)) }
         ensures valid { IfOk result IsReady }
@@ -141,13 +140,11 @@ impl<'f, 'a> Strike<'f, 'a> {
         ensures defects { TellsDefects draw_font_fault (IsLineDefect self.old.face (job_of self.old text.now margin) (text_glyphs self.old.face.cmap text.now)) result }
         ensures same { self.new ≡ record self.old { kept = self.new.kept } }
     {
-        let laid = self.sized.lay_out(text, margin)?;
-        self.sized.draw_grown(laid, &mut self.cache)
+        self.sized.draw_grown(text, margin, &mut self.cache)
     }
 
     /// The measure of the picture that `grown_line` makes. Errors: those of `measure`, and PictureLarge of the larger
     /// picture. No glyph is cached, and the strike is unchanged.
-    #[tactic(auto, unfolding(crate::specs::Grown::grown_measured, crate::specs::Grown::grown_placement))]
     pub fn grown_measure(&mut self, text: &str, margin: u32) -> Result<Measure, DrawFault>
         ensures exact { GivesUnless refusal measure_view result (grown_measured self.old.face (job_of self.old text.now margin)) }
         ensures report { IfOk result (λ m. report_by self.old.face (job_of self.old text.now margin) ≡ Ok m.report.unfitted.items) }
@@ -156,8 +153,7 @@ impl<'f, 'a> Strike<'f, 'a> {
         ensures defects { TellsDefects draw_font_fault (IsLineDefect self.old.face (job_of self.old text.now margin) (text_glyphs self.old.face.cmap text.now)) result }
         ensures same { self.new ≡ self.old }
     {
-        let laid = self.sized.lay_out(text, margin)?;
-        self.sized.measure_grown(laid)
+        self.sized.measure_grown(text, margin)
     }
 
     /// The bytes of the cached glyphs: for each those of its black columns, and 128. With `Fit::None`, `Fit::Full` and

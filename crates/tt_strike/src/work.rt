@@ -1,23 +1,26 @@
 //! The work of a job, which is bounded with `Fit::Best`.
 
 ghost use Rattle.std.specs.List.{sum_by};
-ghost use Rattle.std.specs.Prelude.{◌≡◌, ◌<◌, ◌≤◌, ◌-◌, ◌^◌, true, false, None, min, length, map, All, IfOk, OnOk};
+ghost use Rattle.std.specs.Prelude.{◌≡◌, ◌<◌, ◌≤◌, ◌-◌, ◌*◌, ◌^◌, true, min, length, All, IfOk, OnOk};
 ghost use Rattle.tt_core.specs.Limits.{crossing_limit, point_work_limit};
 ghost use Rattle.tt_core.specs.Outcomes.{Gives, GivesUnless};
 ghost use Rattle.tt_fit.specs.Counting.{left_of, points_asked};
+ghost use Rattle.tt_fit.specs.Fitting.{charged_fitter};
 ghost use Rattle.tt_strike.specs.Costs.{cost_of};
-ghost use Rattle.tt_picture.specs.Glyphs.{crossings_standing, edges_of};
+ghost use Rattle.tt_picture.specs.Glyphs.{CanBeCounted, crossings_standing};
 ghost use Rattle.tt_strike.specs.Refusals.{as_job, refusal};
-ghost use Rattle.tt_strike.specs.Work.{crossings_allowed, is_bounded, points_in, started, work_tested};
+ghost use Rattle.tt_strike.specs.Work.{crossings_allowed, is_bounded, point_work, work_tested};
 
-use crate::distinct::distinct;
-use std::alloc::{AllocError, Global};
+use std::alloc::AllocError;
 use tt_core::{CROSSING_LIMIT, DrawFault, JobFault, POINT_WORK_LIMIT, WORK_LIMIT};
 use tt_fit::{Fit, Fitter};
 use tt_picture::{Glyph, crossings};
 
 /// The work that each point of a line's glyphs takes.
 const POINT_WORK: u64 = 40;
+
+/// The chords that a line's glyphs may have, each glyph once.
+pub(crate) const CHORD_LIMIT: usize = 32_000_000;
 
 /// The work that each crossing takes.
 const CROSSING_WORK: u64 = 4;
@@ -35,27 +38,16 @@ pub(crate) fn is_bounded(fit: Fit) -> bool
     }
 }
 
-/// Charges the points of a line's distinct glyphs to its work. Errors: WorkLarge, where work is bounded and they are
-/// too many; Memory.
+/// Charges the points of a line's distinct glyphs to its work, which is bounded. Errors: WorkLarge, where they are too
+/// many; Memory.
 #[tactic(auto, unfolding(crate::specs::Work::work_tested))]
-pub(crate) fn charge_points(
-    alloc: Global,
-    fit: Fit,
-    fitter: &mut Fitter,
-    glyphs: u16,
-    line: &[(u16, u32)],
-) -> Result<(), DrawFault>
-    requires glyphs { glyphs ≡ fitter.old.tables.glyphs }
-    requires known { All (λ g. g.0 < glyphs) line.now }
-    requires unbounded { is_bounded fit ≡ false → fitter.old.work ≡ None }
-    ensures exact { GivesUnless refusal (λ u. u) result (as_job (work_tested fit point_work_limit (points_in fitter.old (map (λ g. g.0) line.now)))) }
-    ensures charged { OnOk result (fitter.new ≡ started fitter.old (map (λ g. g.0) line.now)) }
+pub(crate) fn charge_points(fit: Fit, fitter: &mut Fitter, numbers: &[u16]) -> Result<(), DrawFault>
+    requires known { All (λ g. g < fitter.old.tables.glyphs) numbers.now }
+    requires bounded { is_bounded fit ≡ true }
+    ensures exact { GivesUnless refusal (λ u. u) result (as_job (work_tested fit point_work_limit (sum_by (points_asked fitter.old.tables fitter.old.levels) numbers.now))) }
+    ensures charged { OnOk result (fitter.new ≡ charged_fitter fitter.old (point_work * sum_by (points_asked fitter.old.tables fitter.old.levels) numbers.now)) }
 {
-    if !is_bounded(fit) {
-        return Ok(());
-    }
-    let numbers = distinct(alloc, glyphs, line)?;
-    match points_left(fitter, numbers.as_slice(), POINT_WORK_LIMIT)? {
+    match points_left(fitter, numbers, POINT_WORK_LIMIT)? {
         Some(left) => {
             fitter.charge(POINT_WORK * (POINT_WORK_LIMIT - left));
             Ok(())
@@ -94,7 +86,7 @@ fn points_left(fitter: &Fitter, glyphs: &[u16], most: u64) -> Result<Option<u64>
 /// more than `most`.
 #[tactic(auto, unfolding(crate::specs::Work::work_tested))]
 pub(crate) fn test_crossings(fit: Fit, most: u64, glyphs: &[Glyph]) -> Result<u64, JobFault>
-    requires tapes { All (λ g. length (edges_of g.body) ≤ 2 ^ 17) glyphs.now }
+    requires glyphs { All CanBeCounted glyphs.now }
     requires most { most < 2 ^ 64 - 1 }
     ensures exact { Gives (λ n. tt) result (work_tested fit most (crossings_standing glyphs.now)) }
     ensures count { is_bounded fit ≡ true → IfOk result (λ n. n ≡ crossings_standing glyphs.now) }

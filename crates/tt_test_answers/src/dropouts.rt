@@ -1,25 +1,29 @@
 //! Prints the dropouts of outlines, to be compared with those of another program. A line of standard input is a
 //! question, in whole numbers with blanks between:
 //!
-//!     STUBS SMART LEFT BOTTOM WIDTH HEIGHT COLUMNS ROWS MARGIN RISE COUNT AX AY BX BY .. CONTOURS END ..
+//!     STUBS SMART LEFT BOTTOM WIDTH HEIGHT COLUMNS ROWS MARGIN RISE COUNT AX AY BX BY .. CONTOURS END .. BOX
 //!
 //! STUBS and SMART, 0 or 1, are the rules. The next four numbers are the window, in pixels. The four after them are the
 //! frame of the tape that holds the edges, in pixels too. No answer depends on this frame. The ends of the COUNT edges
-//! are in 1/8192 pixel. END is for each contour the count of its edges and of all edges before it.
+//! are in 1/8192 pixel. END is for each contour the count of its edges and of all edges before it. BOX is the glyph's
+//! box, which holds all edges: LEAST_X LEAST_Y MOST_X MOST_Y, in 1/8192 pixel.
 //!
 //! The answer is a line too: the window from its top row down, '#' for a dropout and '.' for any other pixel, and '/'
 //! after each row.
 
-ghost use Rattle.std.specs.Prelude.{◌≡◌, ◌≤◌, ◌^◌, length, IfSome};
+ghost use Rattle.std.specs.Prelude.{◌≡◌, ◌≤◌, ◌^◌, length, true, ◌&&◌, int_le, IfSome};
 ghost use Rattle.tt_scan.specs.Contours.{AreEnds};
 ghost use Rattle.tt_scan_dropouts.specs.Windows.{WindowFits, widened};
+ghost use Rattle.tt_scan_gaps.specs.Boxes.{EdgeWithin, ExtentsFit, HoldsEdges};
 
 use crate::pictures::frame_in;
-use crate::pixels::edge_in;
+use crate::pixels::{REACH, edge_in};
 use std::alloc::Global;
 use tt_core::{HEIGHT_LIMIT, WIDTH_LIMIT};
-use tt_scan::Tape;
-use tt_scan_dropouts::{Outlined, Pixel, Rules, Window, dropouts, may_have_dropouts};
+use tt_scan::{Edge, Tape};
+use tt_scan_dropouts::{
+    BoxedRules, Extent, Extents, Outlined, Pixel, Rules, Window, dropouts, may_have_dropouts,
+};
 use tt_test_words::{Line, MOST};
 
 /// The left and the lower side of a window stay less than this from 0, in pixels.
@@ -82,6 +86,53 @@ fn ends_in(alloc: Global, line: &mut Line, edges: usize) -> Option<Vec<usize>>
     Some(ends)
 }
 
+/// The next four words, a glyph's box.
+fn box_in(line: &mut Line) -> Extents
+    ensures { ExtentsFit result }
+{
+    let (left, bottom) = (line.near_zero(REACH), line.near_zero(REACH));
+    let (right, top) = (line.near_zero(REACH), line.near_zero(REACH));
+    Extents {
+        across: Extent {
+            low: left,
+            high: right,
+        },
+        up: Extent {
+            low: bottom,
+            high: top,
+        },
+    }
+}
+
+/// Whether an extent holds a coordinate.
+fn is_within(extent: Extent, at: i32) -> bool
+    ensures { result ≡ (int_le extent.low at && int_le at extent.high) }
+{
+    extent.low <= at && at <= extent.high
+}
+
+/// Whether a box holds an edge.
+fn holds(extents: Extents, edge: &Edge) -> bool
+    ensures { result ≡ true → EdgeWithin extents.across.low extents.across.high extents.up.low extents.up.high edge.now }
+{
+    is_within(extents.across, edge.ax)
+        && is_within(extents.across, edge.bx)
+        && is_within(extents.up, edge.ay)
+        && is_within(extents.up, edge.by)
+}
+
+/// Whether a box holds all of some edges.
+fn holds_all(extents: Extents, edges: &[Edge]) -> bool
+    ensures { result ≡ true → HoldsEdges extents edges.now }
+{
+    for edge in edges {
+        if !holds(extents, edge) {
+            return false;
+        }
+    }
+    true
+}
+
 /// Whether a pixel is among some.
 fn is_among(pixels: &[Pixel], column: i64, row: i64) -> bool {
     for pixel in pixels {
@@ -125,8 +176,13 @@ pub(crate) fn answer(alloc: Global, line: &mut Line) {
     let Some(ends) = ends_in(alloc, line, tape.edges()) else {
         return;
     };
+    let extents = box_in(line);
     line.end();
     if line.is_refused() {
+        return;
+    }
+    if !holds_all(extents, tape.lend()) {
+        line.refuse("the box does not hold the edges");
         return;
     }
     if !may_have_dropouts(rules.stubs, tape.lend(), &ends) {
@@ -136,7 +192,7 @@ pub(crate) fn answer(alloc: Global, line: &mut Line) {
     match dropouts(
         alloc,
         Outlined {
-            rules,
+            rules: BoxedRules { rules, extents },
             tape: &tape,
             ends: &ends,
         },

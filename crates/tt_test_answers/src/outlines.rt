@@ -11,7 +11,7 @@ ghost use Rattle.tt_scan_edges.specs.Winding.{FrameFits};
 use crate::pictures::{frame_in, put_picture};
 use crate::tables::{note_glyph, programs_of, put_fault, tables_of};
 use std::alloc::Global;
-use tt_arc::chords;
+use tt_arc::{ChordRule, chords};
 use tt_core::{COORDINATE_LIMIT, FontFault, SIZE_LIMIT};
 use tt_fit::{Fit, Fitter, Outline};
 use tt_program_decisions::fit_named;
@@ -155,7 +155,8 @@ fn put_pixels(alloc: Global, line: &mut Line, fitter: &Fitter, g: u16, frame: Fr
 {
     match fitted_twice(line, fitter, g) {
         Ok(outline) => {
-            let Some(mut tape) = tape_of(alloc, line, g, &outline, frame) else {
+            let rule = rule_of(fitter);
+            let Some(mut tape) = tape_of(alloc, line, g, &outline, rule, frame) else {
                 line.refuse("no chords");
                 return;
             };
@@ -171,8 +172,23 @@ fn put_pixels(alloc: Global, line: &mut Line, fitter: &Fitter, g: u16, frame: Fr
     }
 }
 
+/// How many chords a curve has by the way to fit: with bounded work, by its bend.
+fn rule_of(fitter: &Fitter) -> ChordRule {
+    match fitter.work() {
+        None => ChordRule::Eight,
+        Some(_) => ChordRule::ByBend,
+    }
+}
+
 /// The edges of an outline whose left phantom point is moved to 0, requested once more where memory was refused.
-fn tape_of(alloc: Global, line: &mut Line, g: u16, outline: &Outline, frame: Frame) -> Option<Tape>
+fn tape_of(
+    alloc: Global,
+    line: &mut Line,
+    g: u16,
+    outline: &Outline,
+    rule: ChordRule,
+    frame: Frame,
+) -> Option<Tape>
     requires { FrameFits frame }
     ensures { IfSome result (λ t. t.frame ≡ frame) }
 {
@@ -181,11 +197,11 @@ fn tape_of(alloc: Global, line: &mut Line, g: u16, outline: &Outline, frame: Fra
         return None;
     }
     let dx = -i64::from(left);
-    match chords(alloc, outline, dx, 0, frame) {
+    match chords(alloc, outline, rule, dx, 0, frame) {
         Ok(tape) => Some(tape),
         Err(_) => {
             note_glyph(line, g);
-            chords(alloc, outline, dx, 0, frame).ok()
+            chords(alloc, outline, rule, dx, 0, frame).ok()
         }
     }
 }

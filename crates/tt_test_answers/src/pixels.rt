@@ -18,7 +18,7 @@ use tt_scan::{Edge, Frame, Tape};
 use tt_test_words::Line;
 
 /// The ends of an edge stay less than this from 0.
-const REACH: i32 = 1 << 30;
+pub(crate) const REACH: i32 = 1 << 30;
 
 /// Answers a question.
 pub(crate) fn answer(alloc: Global, line: &mut Line) {

@@ -1,45 +1,28 @@
-use Rattle.std.proofs.Common.{◌≡◌, ◌-◌, ◌++◌, ℤ, pos, Bool, false, length, map, ap, arith, add-one, ◌∙◌}
-use Rattle.std.proofs.lemmas.List.{length-map}
-use Rattle.tt_arc.specs.Chords.{moved, number_after, point_at}
-use Rattle.tt_arc.proofs.Walks.{all_onward, one_point_more, point_is, after_inner}
+use Rattle.std.proofs.Common.{map, refl}
+use Rattle.tt_arc.specs.Chords.{contour_chords, moved}
+use Rattle.tt_arc.proofs.Joints.{begins_within, joined_behind, many_behind}
 use Rattle.tt_arc.proofs.contour.push_contour.Goals as goal
 
-nowhere : ℤ × ℤ × Bool
-nowhere = (pos 0, pos 0, false)
+pub overflow_sub-chords : goal.overflow_sub-chords
+overflow_sub-chords c =
+    let es = contour_chords c.args.rule (map (moved c.args.by.dx c.args.by.dy) c.args.points.now) in
+    rw c.len.ensures.exact (begins_within c.args.list.now.edges es c.push_contour_chords.new.list.edges c.len-start.result
+    c.len-start.ensures.exact c.in_ok-push_contour_chords.ensures.exact)
 
-pub loop-i-init : goal.loop-i-init
-unfolding nowhere
-loop-i-init c =
-    let ps = c.args.points.now in
-    let f = moved c.args.by.dx c.args.by.dy in
-    let long = length-map ps f in
-    record {
-      walked = ap (λ es. c.args.list.now.edges ++ es) (all_onward (map f ps) (omega (arith, long, c.if-points-lt2.false)));
-      before = rw c.moved-before.ensures (point_is f ps (length ps - 1) nowhere (omega (arith, c.if-points-lt2.false)));
-      point = λ below. rw c.moved-point.ensures (point_is f ps 0 nowhere below);
-      before_fits = rw c.moved-before.ensures (c.requires (length ps - 1) nowhere (omega (arith, c.if-points-lt2.false)));
-      point_fits = rw c.moved-point.ensures (c.requires 0 nowhere (omega (arith, c.if-points-lt2.false)));
-    }
+pub join_by-requires : goal.join_by-requires
+join_by-requires c =
+    let es = contour_chords c.args.rule (map (moved c.args.by.dx c.args.by.dy) c.args.points.now) in
+    begins_within c.args.list.now.edges es c.push_contour_chords.new.list.edges c.len-start.result
+    c.len-start.ensures.exact c.in_ok-push_contour_chords.ensures.exact
 
-pub loop-i-preserved : goal.loop-i-preserved
-unfolding nowhere
-loop-i-preserved c =
-    let ps = c.args.points.now in
-    let f = moved c.args.by.dx c.args.by.dy in
-    let i = c.loop-i.i in
-    let inv = c.loop-i.invariant in
-    let long = length-map ps f in
-    let below = c.loop-i-test.true in
-    let next = c.number_after.ensures.exact in
-    let within = c.number_after.ensures.within in
-    let after : c.moved-after.result ≡ point_at (map f ps) (number_after (length ps) i) =
-    rw (c.moved-after.ensures, ← next) (point_is f ps c.number_after.result nowhere within) in
-    record {
-      walked = one_point_more (map f ps) c.loop-i.list.edges c.push_edges.new.list.edges i c.loop-i.before c.loop-i.point
-          c.moved-after.result (omega (arith, long, below)) (rw long inv.before) (inv.point below) (rw long after)
-          c.in_ok-push_edges.ensures.exact ∙ inv.walked;
-      before = rw add-one (inv.point below);
-      point = λ more. rw (← after_inner (length ps) i more) after;
-      before_fits = inv.point_fits;
-      point_fits = rw c.moved-after.ensures (c.requires c.number_after.result nowhere within);
-    }
+pub returns-clause-exact : goal.returns-clause-exact
+returns-clause-exact c =
+    let es = contour_chords c.args.rule (map (moved c.args.by.dx c.args.by.dy) c.args.points.now) in
+    joined_behind c.args.rule c.args.list.now.edges es c.push_contour_chords.new.list.edges c.join_by.new.list.edges
+    c.len-start.result c.len-start.ensures.exact c.in_ok-push_contour_chords.ensures.exact c.join_by.ensures
+
+pub returns-clause-counted : goal.returns-clause-counted
+returns-clause-counted c =
+    let es = contour_chords c.args.rule (map (moved c.args.by.dx c.args.by.dy) c.args.points.now) in
+    many_behind c.args.list.now.edges es c.push_contour_chords.new.list.edges c.len-start.result _
+    c.len-start.ensures.exact c.in_ok-push_contour_chords.ensures.exact (rw c.len.ensures.exact refl)

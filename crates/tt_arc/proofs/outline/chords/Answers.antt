@@ -1,6 +1,6 @@
-use Rattle.std.proofs.Common.{SFits, w64}
+use Rattle.std.proofs.Common.{SFits, w64, arith}
 use Rattle.std.proofs.lemmas.Int.{to_z-of_z}
-use Rattle.tt_arc.proofs.Few.{few_edges}
+use Rattle.tt_arc.proofs.Few.{few_counted, fewer_edges}
 use Rattle.tt_arc.proofs.outline.chords.Goals as goal
 
 pub edges-requires-clause-near : goal.edges-requires-clause-near
@@ -19,5 +19,8 @@ returns-clause-exact c =
 pub returns-clause-few : goal.returns-clause-few
 returns-clause-few c =
     let whole = returns-clause-exact c in
-    rw whole (few_edges c.args.outline.now.points.items c.args.outline.now.ends.items c.args.dx c.args.dy
-    c.requires.ends)
+    let points = c.args.outline.now.points.items in
+    let ends = c.args.outline.now.ends.items in
+    let few = fewer_edges c.args.rule points ends c.args.dx c.args.dy in
+    let most = few_counted c.args.rule points ends c.args.dx c.args.dy c.requires.ends in
+    rw whole (omega (arith, few, most))

@@ -1,62 +1,115 @@
-use Rattle.std.proofs.Common.{◌+◌, refl, arith, length-append}
-use Rattle.tt_arc.specs.Chords.{along_x, along_y, AreDifferences}
-use Rattle.tt_arc.proofs.Eighths.{no_chord, value_within, first_within, second_within, coordinates_x, coordinates_y, one_on, end_is, end_fits}
+use Rattle.std.proofs.Common.{◌+◌, ◌/◌, ◌<◌, refl, arith, length-append}
+use Rattle.tt_arc.specs.Chords.{AreDifferences, along_x, along_y, chord_count}
+use Rattle.tt_arc.proofs.Places.{coordinates_x, coordinates_y, end_is, first_ok, next_ok, no_chord, room, second_ok, value_ok, value_within}
 use Rattle.tt_arc.proofs.Walks.{one_chord_pushed}
 use Rattle.tt_arc.proofs.quadratic.push_chords.Goals as goal
 
 pub next-x-requires-clause-value : goal.next-x-requires-clause-value
-next-x-requires-clause-value c = value_within (along_x c.args.curve) c.loop-k.k c.loop-k.x (coordinates_x c.args.curve c.requires) (omega (arith, c.loop-k-test.true)) c.loop-k.invariant.x
+next-x-requires-clause-value c =
+    let r = c.args.rule in
+    let q = c.args.curve in
+    let below : c.loop-k.k < chord_count r q = rw c.chord_count-n.ensures at c.loop-k-test.true in
+    value_ok r q c.loop-k.k (along_x q) c.loop-k.x (coordinates_x q c.requires) below c.loop-k.invariant.x
 
 pub next-x-requires-clause-first : goal.next-x-requires-clause-first
-next-x-requires-clause-first c = first_within (along_x c.args.curve) c.loop-k.k c.loop-k.x (omega (arith, c.loop-k-test.true)) c.loop-k.invariant.x
+next-x-requires-clause-first c =
+    let r = c.args.rule in
+    let q = c.args.curve in
+    let below : c.loop-k.k < chord_count r q = rw c.chord_count-n.ensures at c.loop-k-test.true in
+    first_ok r q c.loop-k.k (along_x q) c.loop-k.x below c.loop-k.invariant.x
 
 pub next-x-requires-clause-second : goal.next-x-requires-clause-second
-next-x-requires-clause-second c = second_within (along_x c.args.curve) c.loop-k.k c.loop-k.x (coordinates_x c.args.curve c.requires) c.loop-k.invariant.x
+next-x-requires-clause-second c =
+    second_ok c.args.rule c.args.curve c.loop-k.k (along_x c.args.curve) c.loop-k.x (coordinates_x c.args.curve c.requires) c.loop-k.invariant.x
+
+pub edge_end-to-requires-clause-x : goal.edge_end-to-requires-clause-x
+edge_end-to-requires-clause-x c =
+    let r = c.args.rule in
+    let q = c.args.curve in
+    let below : c.loop-k.k < chord_count r q = rw c.chord_count-n.ensures at c.loop-k-test.true in
+    let fits = coordinates_x q c.requires in
+    let on = next_ok r q c.loop-k.k (along_x q) c.loop-k.x c.next-x.result fits below c.loop-k.invariant.x
+    c.next-x.ensures.value c.next-x.ensures.first c.next-x.ensures.second in
+    value_within (along_x q) (32 / chord_count r q) (c.loop-k.k + 1) c.next-x.result fits (room r q (c.loop-k.k + 1) (omega (arith, below))) on
+
+pub differences_at_start-x-requires-clause-coordinates : goal.differences_at_start-x-requires-clause-coordinates
+differences_at_start-x-requires-clause-coordinates c = rw c.along_x.ensures (coordinates_x c.args.curve c.requires)
+
+pub edge_end-from-requires-clause-x : goal.edge_end-from-requires-clause-x
+edge_end-from-requires-clause-x c =
+    let h = 32 / c.chord_count-n.result in
+    let at : AreDifferences (along_x c.args.curve) h 0 c.differences_at_start-x.result = rw c.along_x.ensures at c.differences_at_start-x.ensures in
+    value_within (along_x c.args.curve) h 0 c.differences_at_start-x.result (coordinates_x c.args.curve c.requires) (omega arith) at
 
 pub next-y-requires-clause-value : goal.next-y-requires-clause-value
-next-y-requires-clause-value c = value_within (along_y c.args.curve) c.loop-k.k c.loop-k.y (coordinates_y c.args.curve c.requires) (omega (arith, c.loop-k-test.true)) c.loop-k.invariant.y
+next-y-requires-clause-value c =
+    let r = c.args.rule in
+    let q = c.args.curve in
+    let below : c.loop-k.k < chord_count r q = rw c.chord_count-n.ensures at c.loop-k-test.true in
+    value_ok r q c.loop-k.k (along_y q) c.loop-k.y (coordinates_y q c.requires) below c.loop-k.invariant.y
 
 pub next-y-requires-clause-first : goal.next-y-requires-clause-first
-next-y-requires-clause-first c = first_within (along_y c.args.curve) c.loop-k.k c.loop-k.y (omega (arith, c.loop-k-test.true)) c.loop-k.invariant.y
+next-y-requires-clause-first c =
+    let r = c.args.rule in
+    let q = c.args.curve in
+    let below : c.loop-k.k < chord_count r q = rw c.chord_count-n.ensures at c.loop-k-test.true in
+    first_ok r q c.loop-k.k (along_y q) c.loop-k.y below c.loop-k.invariant.y
 
 pub next-y-requires-clause-second : goal.next-y-requires-clause-second
-next-y-requires-clause-second c = second_within (along_y c.args.curve) c.loop-k.k c.loop-k.y (coordinates_y c.args.curve c.requires) c.loop-k.invariant.y
+next-y-requires-clause-second c =
+    second_ok c.args.rule c.args.curve c.loop-k.k (along_y c.args.curve) c.loop-k.y (coordinates_y c.args.curve c.requires) c.loop-k.invariant.y
 
-pub edge_between-requires-clause-b : goal.edge_between-requires-clause-b
-edge_between-requires-clause-b c = end_fits c.args.curve (c.loop-k.k + 1) c.next-x.result c.next-y.result c.edge_end-to.result c.requires (omega (arith, c.loop-k-test.true))
-    (one_on (along_x c.args.curve) c.loop-k.k c.loop-k.x c.next-x.result (coordinates_x c.args.curve c.requires) c.loop-k-test.true c.loop-k.invariant.x c.next-x.ensures.value c.next-x.ensures.first c.next-x.ensures.second)
-    (one_on (along_y c.args.curve) c.loop-k.k c.loop-k.y c.next-y.result (coordinates_y c.args.curve c.requires) c.loop-k-test.true c.loop-k.invariant.y c.next-y.ensures.value c.next-y.ensures.first c.next-y.ensures.second)
-    c.edge_end-to.ensures
+pub edge_end-to-requires-clause-y : goal.edge_end-to-requires-clause-y
+edge_end-to-requires-clause-y c =
+    let r = c.args.rule in
+    let q = c.args.curve in
+    let below : c.loop-k.k < chord_count r q = rw c.chord_count-n.ensures at c.loop-k-test.true in
+    let fits = coordinates_y q c.requires in
+    let on = next_ok r q c.loop-k.k (along_y q) c.loop-k.y c.next-y.result fits below c.loop-k.invariant.y
+    c.next-y.ensures.value c.next-y.ensures.first c.next-y.ensures.second in
+    value_within (along_y q) (32 / chord_count r q) (c.loop-k.k + 1) c.next-y.result fits (room r q (c.loop-k.k + 1) (omega (arith, below))) on
 
-pub differences_at_start-x-requires : goal.differences_at_start-x-requires
-differences_at_start-x-requires c = rw c.along_x.ensures (coordinates_x c.args.curve c.requires)
+pub differences_at_start-y-requires-clause-coordinates : goal.differences_at_start-y-requires-clause-coordinates
+differences_at_start-y-requires-clause-coordinates c = rw c.along_y.ensures (coordinates_y c.args.curve c.requires)
 
-pub differences_at_start-y-requires : goal.differences_at_start-y-requires
-differences_at_start-y-requires c = rw c.along_y.ensures (coordinates_y c.args.curve c.requires)
+pub edge_end-from-requires-clause-y : goal.edge_end-from-requires-clause-y
+edge_end-from-requires-clause-y c =
+    let h = 32 / c.chord_count-n.result in
+    let at : AreDifferences (along_y c.args.curve) h 0 c.differences_at_start-y.result = rw c.along_y.ensures at c.differences_at_start-y.ensures in
+    value_within (along_y c.args.curve) h 0 c.differences_at_start-y.result (coordinates_y c.args.curve c.requires) (omega arith) at
 
 pub loop-k-init : goal.loop-k-init
 loop-k-init c =
-    let x : AreDifferences (along_x c.args.curve) 0 c.differences_at_start-x.result = rw c.along_x.ensures at c.differences_at_start-x.ensures in
-    let y : AreDifferences (along_y c.args.curve) 0 c.differences_at_start-y.result = rw c.along_y.ensures at c.differences_at_start-y.ensures in record {
-      pushed = rw (no_chord c.args.curve c.args.list.now.edges) c.reserve.ensures.edges;
+    let r = c.args.rule in
+    let q = c.args.curve in
+    let is = c.chord_count-n.ensures in
+    let x : AreDifferences (along_x q) (32 / chord_count r q) 0 c.differences_at_start-x.result = rw (c.along_x.ensures, is) at c.differences_at_start-x.ensures in
+    let y : AreDifferences (along_y q) (32 / chord_count r q) 0 c.differences_at_start-y.result = rw (c.along_y.ensures, is) at c.differences_at_start-y.ensures in record {
+      pushed = rw (no_chord (chord_count r q) q c.args.list.now.edges) c.reserve.ensures.edges;
       room = omega (arith, c.in_ok-reserve.ensures.room);
       x = x;
       y = y;
-      at = end_is c.args.curve 0 c.differences_at_start-x.result c.differences_at_start-y.result c.edge_end-from.result x y c.edge_end-from.ensures;
-      fits = end_fits c.args.curve 0 c.differences_at_start-x.result c.differences_at_start-y.result c.edge_end-from.result c.requires (omega arith) x y c.edge_end-from.ensures;
+      from = end_is r q 0 c.differences_at_start-x.result c.differences_at_start-y.result c.edge_end-from.result (omega arith) x y c.edge_end-from.ensures.exact;
+      fits = c.edge_end-from.ensures.valid;
     }
 
 pub loop-k-preserved : goal.loop-k-preserved
 loop-k-preserved c =
-    let x = one_on (along_x c.args.curve) c.loop-k.k c.loop-k.x c.next-x.result (coordinates_x c.args.curve c.requires) c.loop-k-test.true c.loop-k.invariant.x c.next-x.ensures.value c.next-x.ensures.first c.next-x.ensures.second in
-    let y = one_on (along_y c.args.curve) c.loop-k.k c.loop-k.y c.next-y.result (coordinates_y c.args.curve c.requires) c.loop-k-test.true c.loop-k.invariant.y c.next-y.ensures.value c.next-y.ensures.first c.next-y.ensures.second in
-    let at = end_is c.args.curve (c.loop-k.k + 1) c.next-x.result c.next-y.result c.edge_end-to.result x y c.edge_end-to.ensures in record {
-      pushed = one_chord_pushed c.args.list.now.edges c.loop-k.list.edges c.push_reserved.new.self.edges c.args.curve
-          c.loop-k.k c.loop-k.from c.edge_end-to.result c.edge_between.result c.loop-k.invariant.pushed
-          c.loop-k.invariant.at at c.edge_between.ensures.exact (rw c.push_reserved.ensures refl);
-      room = rw c.push_reserved.ensures (simp length-append (omega (arith, c.loop-k.invariant.room)));
+    let r = c.args.rule in
+    let q = c.args.curve in
+    let below : c.loop-k.k < chord_count r q = rw c.chord_count-n.ensures at c.loop-k-test.true in
+    let inv = c.loop-k.invariant in
+    let x = next_ok r q c.loop-k.k (along_x q) c.loop-k.x c.next-x.result (coordinates_x q c.requires) below inv.x
+    c.next-x.ensures.value c.next-x.ensures.first c.next-x.ensures.second in
+    let y = next_ok r q c.loop-k.k (along_y q) c.loop-k.y c.next-y.result (coordinates_y q c.requires) below inv.y
+    c.next-y.ensures.value c.next-y.ensures.first c.next-y.ensures.second in
+    let at = end_is r q (c.loop-k.k + 1) c.next-x.result c.next-y.result c.edge_end-to.result (omega (arith, below)) x y c.edge_end-to.ensures.exact in record {
+      pushed = one_chord_pushed c.args.list.now.edges c.loop-k.list.edges c.push_reserved.new.self.edges (chord_count r q) q
+          c.loop-k.k c.loop-k.from c.edge_end-to.result c.edge_between.result inv.pushed
+          inv.from at c.edge_between.ensures.exact (rw c.push_reserved.ensures refl);
+      room = rw c.push_reserved.ensures (simp length-append (omega (arith, inv.room)));
       x = x;
       y = y;
-      at = at;
-      fits = end_fits c.args.curve (c.loop-k.k + 1) c.next-x.result c.next-y.result c.edge_end-to.result c.requires (omega (arith, c.loop-k-test.true)) x y c.edge_end-to.ensures;
+      from = at;
+      fits = c.edge_end-to.ensures.valid;
     }

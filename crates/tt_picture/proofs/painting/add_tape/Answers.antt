@@ -58,7 +58,7 @@ returns-clause-tape c =
     let crosses : c.cut.new.tape.crosses ≡ t.crosses + rows_met t.edges (row_y c.args.frame (pos c.args.r)) =
     rw (fits.frame, c.from.ensures) at (simp to_z-of_z at c.cut.ensures.crosses) in
     let edges : c.cut.new.tape.edges ≡ t.edges = ap (λ (t : Tape). t.edges) c.cut.ensures.tape in
-    let many : length t.edges ≤ 2 ^ 17 = fits.edges in
+    let many : length t.edges ≤ 2 ^ 19 = fits.edges in
     let after : c.cut.new.tape.crosses ≡ crossings_up_to c.args.frame (c.args.r + 1) t.edges =
     crosses ∙ ap (λ n. n + rows_met t.edges (row_y c.args.frame (pos c.args.r))) fits.crosses
     ∙ sym (row_more c.args.frame t.edges c.args.r) in

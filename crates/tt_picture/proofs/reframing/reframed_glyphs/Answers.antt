@@ -12,7 +12,7 @@ reframed-requires-clause-few c =
     let g = c.in-Some.glyph in
     let steps : into_iter_items at.glyph-iterator ≡ g ∷ into_iter_items c.next.new.self = c.in-Some.ensures.steps.0 in
     let all = rw steps at at.invariant.all in
-    of_middle (λ (g : Glyph). length (edges_of g.body) ≤ 2 ^ 17) at.yielded (into_iter_items c.next.new.self) g
+    of_middle (λ (g : Glyph). length (edges_of g.body) ≤ 2 ^ 19) at.yielded (into_iter_items c.next.new.self) g
     (rw all c.requires.few)
 
 pub loop-glyph-preserved : goal.loop-glyph-preserved

@@ -9,8 +9,8 @@ pub returns-then-not-some : goal.returns-then-not-some
 returns-then-not-some c = λ p j.
     let es = map turned_round c.args.contours.edges.now in
     let ends = ends_turned c.args.contours.edges.now c.args.contours.ends.now c.args.contours.are_ends in
-    let none = c.requires.some c.if-not-some.true in
-    rw c.new.ensures.items (sym (nothing_added c.args.pass.rules (is_black_by c.args.pass.over c.args.pass.ink.now) es c.args.contours.ends.now
+    let none = c.requires c.if-not-some.true in
+    rw c.new.ensures.items (sym (nothing_added c.args.pass.rules c.args.columns (is_black_by c.args.pass.over c.args.pass.ink.now) es c.args.contours.ends.now
     ends none p j))
 
 pub invariant_of-contours-clause-are_ends : goal.invariant_of-contours-clause-are_ends
@@ -20,9 +20,6 @@ invariant_of-contours-clause-are_ends c =
 pub invariant_of-contours-clause-fit : goal.invariant_of-contours-clause-fit
 invariant_of-contours-clause-fit c =
     rw (c.deref.ensures.value, c.in_ok-turned.ensures) (fits_turned c.args.contours.edges.now c.args.contours.fit)
-
-pub pass_over-requires : goal.pass_over-requires
-pass_over-requires c = rw (c.deref.ensures.value, c.in_ok-turned.ensures) c.requires.rows
 
 pub returns : goal.returns
 returns c = simp (c.deref.ensures.value, c.in_ok-turned.ensures) at c.pass_over.ensures

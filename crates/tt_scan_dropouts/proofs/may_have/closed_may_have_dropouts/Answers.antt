@@ -15,7 +15,7 @@ returns c = λ last rules same k j.
     let rows : NoneFreeBothWays (is_black_seen over.Rows es) es = rw seen_by_rows at (c.may_cross_both_ways.ensures.rows last) in
     let columns : NoneFreeBothWays (is_black_seen over.Columns es) (map turned_round es) =
     rw seen_by_columns at (c.may_cross_both_ways.ensures.columns last) in
-    let off : rules.stubs ≡ true → list_any has_end_on_line es ≡ false = λ stubs. elim c.else-stubs.branch [
+    let off : rules.rules.stubs ≡ true → list_any has_end_on_line es ≡ false = λ stubs. elim c.else-stubs.branch [
       | goal.else-stubs-via-then-stubs+else-some_end_on_line w ↦ sym w.some_end_on_line.ensures ∙ w.if-some_end_on_line.false
       | goal.else-stubs-via-else-stubs w ↦ let bad : true ≡ false = sym stubs ∙ same ∙ w.if-stubs.false in absurd cc
     ] in

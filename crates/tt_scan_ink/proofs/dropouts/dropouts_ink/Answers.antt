@@ -1,54 +1,46 @@
-use Rattle.std.proofs.Common.{◌≡◌, ◌∙◌, ap, refl, false, Bool, ℤ, map, All}
+use Rattle.std.proofs.Common.{◌≡◌, refl, false, Bool, ℤ}
 use Rattle.std.specs.Prelude.{IfSome}
 use Rattle.std.proofs.lemmas.Result.{IfOk-weaker}
 use Rattle.tt_scan.specs.Contours.{contours_at}
-use Rattle.tt_scan_edges.specs.Winding.{EdgeFits}
-use Rattle.tt_scan_gaps.specs.Boxes.{columns_of}
-use Rattle.tt_scan_gaps.specs.Seen.{turned_round}
+use Rattle.tt_scan_gaps.specs.Boxes.{columns_in, rows_in}
 use Rattle.tt_scan_dropouts.specs.Dropouts.{is_dropout}
 use Rattle.tt_scan_ink.specs.Ink.{count_of, dropouts_ink, ink_in}
 use Rattle.tt_scan_ink.specs.Least.{IsInk, IsNear, shown}
-use Rattle.tt_scan_ink.proofs.Near.{columns_near, lines_near}
+use Rattle.tt_scan_ink.proofs.Near.{box_near}
 use Rattle.tt_scan_ink.proofs.NearInk.{dropouts_near}
 use Rattle.tt_scan_ink.proofs.Regions.{found_is, none_is}
 use Rattle.tt_scan_ink.proofs.dropouts.dropouts_ink.Goals as goal
 
 pub returns-then-not-may_have_dropouts-clause-exact : goal.returns-then-not-may_have_dropouts-clause-exact
 returns-then-not-may_have_dropouts-clause-exact c =
-    let es = c.args.tape.now.edges in
-    let fits : All EdgeFits es = rw c.lend-edges.ensures.exact at c.lend-edges.ensures.fits in
-    let black : ℤ → ℤ → Bool = is_dropout c.args.rules (contours_at es c.args.ends.now) in
+    let b = c.args.rules.extents in
+    let black : ℤ → ℤ → Bool = is_dropout c.args.rules (contours_at c.args.tape.now.edges c.args.ends.now) in
     let none : (k j : ℤ) → black k j ≡ false = λ k j.
     rw c.lend-edges.ensures.exact at (c.may_have_dropouts.ensures c.if-not-may_have_dropouts.true c.args.rules refl k j) in
-    none_is black (columns_of es) (columns_of (map turned_round es)) (columns_near es fits) none
+    none_is black (columns_in b) (rows_in b) (box_near b c.requires.boxed.fits).0 none
 
 pub windows_ink-requires-clause-columns : goal.windows_ink-requires-clause-columns
 windows_ink-requires-clause-columns c =
-    rw c.box_of.ensures.columns (columns_near c.lend-edges.result.now c.lend-edges.ensures.fits)
+    let b = c.args.rules.extents in
+    rw c.pixels_in.ensures.columns (box_near b c.requires.boxed.fits).0
 
 pub windows_ink-requires-clause-rows : goal.windows_ink-requires-clause-rows
 windows_ink-requires-clause-rows c =
-    rw c.box_of.ensures.rows (lines_near c.lend-edges.result.now c.lend-edges.ensures.fits)
+    let b = c.args.rules.extents in
+    rw c.pixels_in.ensures.rows (box_near b c.requires.boxed.fits).1
 
 pub returns-clause-exact : goal.returns-clause-exact
 returns-clause-exact c =
-    let es = c.args.tape.now.edges in
-    let fits : All EdgeFits es = rw c.lend-edges.ensures.exact at c.lend-edges.ensures.fits in
-    let columns : c.box_of.result.0 ≡ columns_of es =
-    c.box_of.ensures.columns ∙ ap columns_of c.lend-edges.ensures.exact in
-    let rows : c.box_of.result.1 ≡ columns_of (map turned_round es) =
-    c.box_of.ensures.rows ∙ ap (λ es. columns_of (map turned_round es)) c.lend-edges.ensures.exact in
-    let black : ℤ → ℤ → Bool = is_dropout c.args.rules (contours_at es c.args.ends.now) in
+    let b = c.args.rules.extents in
+    let black : ℤ → ℤ → Bool = is_dropout c.args.rules (contours_at c.args.tape.now.edges c.args.ends.now) in
     IfOk-weaker c.windows_ink.result
-    (IsInk (shown (columns_of es) (columns_of (map turned_round es)).first (count_of (columns_of (map turned_round es)))
-    black))
-    (λ ink. ink ≡ ink_in black (columns_of es) (columns_of (map turned_round es)))
-    (λ ink is. found_is black (columns_of es) (columns_of (map turned_round es)) ink (columns_near es fits) is)
-    (rw (columns, rows) at c.windows_ink.ensures)
+    (IsInk (shown (columns_in b) (rows_in b).first (count_of (rows_in b)) black))
+    (λ ink. ink ≡ ink_in black (columns_in b) (rows_in b))
+    (λ ink is. found_is black (columns_in b) (rows_in b) ink (box_near b c.requires.boxed.fits).0 is)
+    (rw (c.pixels_in.ensures.columns, c.pixels_in.ensures.rows) at c.windows_ink.ensures)
 
 pub returns-clause-near : goal.returns-clause-near
 returns-clause-near c =
-    let es = c.args.tape.now.edges in
-    let fits : All EdgeFits es = rw c.lend-edges.ensures.exact at c.lend-edges.ensures.fits in
-    IfOk-weaker c.windows_ink.result (λ ink. ink ≡ dropouts_ink c.args.rules (contours_at es c.args.ends.now) es) (λ ink. IfSome ink IsNear) (λ ink is. rw is (dropouts_near c.args.rules (contours_at es c.args.ends.now) es fits))
-    (returns-clause-exact c)
+    let contours = contours_at c.args.tape.now.edges c.args.ends.now in
+    IfOk-weaker c.windows_ink.result (λ ink. ink ≡ dropouts_ink c.args.rules contours) (λ ink. IfSome ink IsNear)
+    (λ ink is. rw is (dropouts_near c.args.rules contours c.requires.boxed.fits)) (returns-clause-exact c)

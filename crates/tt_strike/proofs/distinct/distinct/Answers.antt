@@ -1,39 +1,46 @@
-use Rattle.std.proofs.Common.{◌∙◌, ◌≡◌, ◌<◌, true, false, length, get_or, map, arith}
+use Rattle.std.proofs.Common.{◌≡◌, ◌∙◌, ◌+◌, ◌<◌, true, false, length, get_or, map, slice_index, [], ◌∷◌, arith, length-append}
 use Rattle.std.proofs.lemmas.List.{get_or_default, length-set}
 use Rattle.std.proofs.lemmas.List.Elements.{All-push}
 use Rattle.tt_picture.specs.Distinct.{distinct, is_among}
-use Rattle.tt_picture.proofs.FirstMet.{marked_more, met_again, met_first}
+use Rattle.tt_picture.proofs.FirstMet.{met_again, met_first}
+use Rattle.tt_picture.proofs.Seats.{places_more}
+use Rattle.tt_strike.proofs.Seated.{is_seated, none_of, not_seated}
 use Rattle.tt_strike.proofs.distinct.distinct.Goals as goal
-use Rattle.tt_strike.proofs.distinct.distinct.Goals.{then-not-index+in_ok-push, else-not-index}
+use Rattle.tt_strike.proofs.distinct.distinct.Goals.{then-index-eq0+in_ok-push, else-index-eq0}
 
 pub loop-placed-preserved : goal.loop-placed-preserved
 loop-placed-preserved c =
     let so_far = c.loop-placed.invariant in
     let line = c.args.line.now in
     let i = c.loop-placed.placed-index in
-    let met = c.loop-placed.met.items in
+    let table = c.loop-placed.places.items in
     let numbers = c.loop-placed.numbers.items in
     let all = distinct (map (λ g. g.0) line) in
     let below : i < length line = c.loop-placed-test.true in
     let g = (get_or line i (0, 0)).0 in
-    let known : g < length met = rw so_far.room (c.requires i (0, 0) below) in
-    let is : get_or met g false ≡ is_among g numbers = so_far.met g (c.requires i (0, 0) below) in
-    let same : get_or met g c.index.result.now ≡ get_or met g false = get_or_default met g c.index.result.now false known in
-    elim c.if-not-index.branch [
-      | then-not-index+in_ok-push w ↦
-          let absent : is_among g numbers ≡ false = grind (arith, c.index.ensures, c.from-in-loop-placed.ensures, w.if-not-index.true, is) in
-          rw (w.met-is, w.from-then-not-index.ensures, w.numbers-is, w.in_ok-push.ensures.items) (record {
-            room = length-set met g true ∙ so_far.room;
-            known = All-push (λ n. n < c.args.glyphs) numbers g so_far.known (c.requires i (0, 0) below);
-            met = λ n fits. marked_more met numbers g n known (so_far.met n fits);
+    let known : g < length table = rw so_far.room (c.requires.known i (0, 0) below) in
+    let seat : c.index.result.now ≡ slice_index table g = rw c.from-in-loop-placed.ensures at c.index.ensures
+    ∙ get_or_default table g c.index.result.now 0 known in
+    elim c.if-index-eq0.branch [
+      | then-index-eq0+in_ok-push w ↦
+          let none : slice_index table g ≡ 0 = omega (arith, seat, w.if-index-eq0.true) in
+          let absent : is_among g numbers ≡ false = not_seated table numbers g so_far.places none in
+          let more = places_more table numbers g known (none_of numbers g absent) so_far.places in
+          rw (w.places-is, w.from-then-index-eq0.ensures, w.numbers-is, w.in_ok-push.ensures.items) (record {
+            room = length-set table g (length numbers + 1) ∙ so_far.room;
+            known = All-push (λ n. n < c.args.glyphs) numbers g so_far.known (c.requires.known i (0, 0) below);
+            few = omega (arith, so_far.few, length-append numbers (g ∷ []));
+            places = more;
             numbers = met_first numbers all line i below absent so_far.numbers;
           })
-      | else-not-index w ↦
-          let there : is_among g numbers ≡ true = grind (arith, c.index.ensures, c.from-in-loop-placed.ensures, w.if-not-index.false, same, is) in
-          rw (w.met-is, w.numbers-is) (record {
+      | else-index-eq0 w ↦
+          let some : 0 < slice_index table g = omega (arith, seat, w.if-index-eq0.false) in
+          let there : is_among g numbers ≡ true = is_seated table numbers g so_far.places some in
+          rw (w.places-is, w.numbers-is) (record {
             room = so_far.room;
             known = so_far.known;
-            met = so_far.met;
+            few = omega (arith, so_far.few);
+            places = so_far.places;
             numbers = met_again numbers all line i below there so_far.numbers;
           })
     ]

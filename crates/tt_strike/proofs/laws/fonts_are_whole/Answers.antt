@@ -3,7 +3,7 @@ use Rattle.tt_strike.proofs.Whole.{drawn-whole}
 use Rattle.tt_strike.proofs.laws.fonts_are_whole.Goals as goal
 
 pub returns-clause-picture : goal.returns-clause-picture
-returns-clause-picture c = drawn-whole c.glyphs_are_placed.ensures
+returns-clause-picture c = drawn-whole c.glyphs_are_placed.ensures c.steps_lead.ensures
 
 pub returns-clause-tables : goal.returns-clause-tables
 returns-clause-tables c = face-whole

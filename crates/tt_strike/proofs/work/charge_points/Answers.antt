@@ -1,9 +1,10 @@
-use Rattle.std.proofs.Common.{◌≡◌, ◌∙◌, ℕ, ◌-◌, ◌*◌, ◌≤◌, nat_le, Bool, true, false, if◌then◌else◌, Option, Some, None, ap, arith, map, refl, sym}
+use Rattle.std.proofs.Common.{◌≡◌, ◌∙◌, ℕ, ◌-◌, ◌*◌, ◌≤◌, nat_le, Bool, true, false, if◌then◌else◌, Option, Some, None, ap, arith, refl, sym}
+use Rattle.std.specs.List.{sum_by}
 use Rattle.std.proofs.lemmas.Bool.Decides.{nat_tests}
 use Rattle.tt_core.specs.Limits.{point_work_limit}
-use Rattle.tt_fit.specs.Counting.{left_of}
+use Rattle.tt_fit.specs.Counting.{left_of, points_asked}
 use Rattle.tt_fit.specs.Fitting.{charged_fitter}
-use Rattle.tt_strike.specs.Work.{point_work, points_in}
+use Rattle.tt_strike.specs.Work.{point_work}
 use Rattle.tt_strike.proofs.work.charge_points.Goals as goal
 
 -- what was subtracted
@@ -20,7 +21,7 @@ counted most n left is = by_test most n left (nat_le n most) refl is
 
 pub returns-in-Some-clause-charged : goal.returns-in-Some-clause-charged
 returns-in-Some-clause-charged c =
-    let points = points_in c.args.fitter.now (map (λ g. g.0) c.args.line.now) in
-    let left = rw (c.in-Some.is, c.as_slice.ensures.value, c.in_ok-numbers.ensures.numbers) at c.in_ok-left.ensures in
+    let points = sum_by (points_asked c.args.fitter.now.tables c.args.fitter.now.levels) c.args.numbers.now in
+    let left = rw c.in-Some.is at c.in_ok-left.ensures in
     let used = counted point_work_limit points c.in-Some.left (sym left) in
     c.charge.ensures ∙ ap (λ (n : ℕ). charged_fitter c.args.fitter.now (point_work * n)) used

@@ -4,7 +4,7 @@ use Rattle.std.proofs.lemmas.Result.{err_from_is_err_and}
 use Rattle.tt_glyf.specs.GlyphData.{glyph_data_of}
 use Rattle.tt_glyf.specs.Loca.{glyph_offset}
 use Rattle.tt_glyf.specs.Raw.{CompositeGlyph, SimpleGlyph, composite, simple}
-use Rattle.tt_fit.specs.Fitting.{with_hinting, size_of, start, added, added_work}
+use Rattle.tt_fit.specs.Fitting.{with_hinting, size_of, start, simple_start, added, added_work}
 use Rattle.tt_fit_outline.specs.Scaling.{scaled_outline}
 use Rattle.tt_fit_outline.specs.Views.{hinting_view, outline_of}
 use Rattle.tt_fit.proofs.Levels.{one_record_more, one_record_paid, one_record_refused, one_level_done, one_level_work, composite_made, simple_made, simple_refused, simple_unpaid}
@@ -49,7 +49,7 @@ pub added-returns-clause-exact : goal.added-returns-clause-exact
 added-returns-clause-exact t c =
     let s = with_hinting c.args.self.now (hinting_view c.args.hinting.now) in
     let some : 0 < c.args.levels = omega (arith, c.if-levels-eq0.false) in
-    let placed = rw c.size.ensures at c.in_ok-placed.ensures.exact in
+    let placed = rw (c.glyph_grid-grid.ensures, c.size.ensures) at c.in_ok-placed.ensures.exact in
     rw (one_level_done s c.args.levels c.args.part (outline_of c.args.so_far)
     (outline_of c.in_ok-component.component) some c.in_ok-component.ensures.exact) placed
 
@@ -72,7 +72,8 @@ outline-returns-in_ok-scaled-in-Simple-clause-exact t c =
     (arith, c.self.view_is, c.in_ok-read.ensures.exact, d.is) in
     let o = outline_of c.in_ok-start-in-Simple.start in
     let x_min : SFits w16 d.x_min = search rules in
-    let begun : start s d.x_min c.args.g ≡ Ok o = simp to_z-of_z at c.in_ok-start-in-Simple.ensures.exact in
+    let begun : simple_start s d.x_min c.args.g d.code.now ≡ Ok o = simp to_z-of_z at
+    c.in_ok-start-in-Simple.ensures.exact in
     let place : c.start-at.result ≡ glyph_offset s.tables c.args.g = grind (arith, c.self.view_is, c.start-at.ensures) in
     let scaled = outline_of c.in_ok-scaled-in-Simple.scaled in
     let scales : scaled_outline (size_of s) (glyph_offset s.tables c.args.g) d.points.items d.ends.items o ≡ Ok scaled =
@@ -97,7 +98,8 @@ outline-returns-in_err-scaled-in-Simple-clause-exact t c =
     (arith, c.self.view_is, c.in_ok-read.ensures.exact, d.is) in
     let o = outline_of c.in_ok-start-in-Simple.start in
     let x_min : SFits w16 d.x_min = search rules in
-    let begun : start s d.x_min c.args.g ≡ Ok o = simp to_z-of_z at c.in_ok-start-in-Simple.ensures.exact in
+    let begun : simple_start s d.x_min c.args.g d.code.now ≡ Ok o = simp to_z-of_z at
+    c.in_ok-start-in-Simple.ensures.exact in
     let place : c.start-at.result ≡ glyph_offset s.tables c.args.g = grind (arith, c.self.view_is, c.start-at.ensures) in
     let fails = rw (c.size.ensures, place, c.deref.ensures.value, c.deref-in-Simple.ensures.value) at
     c.in_err-scaled-in-Simple.ensures.exact in
@@ -120,7 +122,8 @@ outline-returns-in_err-scaled-in-Simple-clause-work t c =
     (arith, c.self.view_is, c.in_ok-read.ensures.exact, d.is) in
     let o = outline_of c.in_ok-start-in-Simple.start in
     let x_min : SFits w16 d.x_min = search rules in
-    let begun : start s d.x_min c.args.g ≡ Ok o = simp to_z-of_z at c.in_ok-start-in-Simple.ensures.exact in
+    let begun : simple_start s d.x_min c.args.g d.code.now ≡ Ok o = simp to_z-of_z at
+    c.in_ok-start-in-Simple.ensures.exact in
     let place : c.start-at.result ≡ glyph_offset s.tables c.args.g = grind (arith, c.self.view_is, c.start-at.ensures) in
     let fails = rw (c.size.ensures, place, c.deref.ensures.value, c.deref-in-Simple.ensures.value) at
     c.in_err-scaled-in-Simple.ensures.exact in

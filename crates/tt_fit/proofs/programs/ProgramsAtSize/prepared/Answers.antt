@@ -1,14 +1,12 @@
 use Rattle.tt_face.specs.Programs.{program_tables}
-use Rattle.tt_fit.specs.Preparation.{begun_at}
-use Rattle.tt_fit.proofs.Unbounded.{of-programs, never-spent, prepared-falling}
+use Rattle.tt_fit.proofs.Unbounded.{of-left, never-spent, prepared-falling}
 use Rattle.tt_fit.proofs.programs.ProgramsAtSize.prepared.Goals as goal
 
 pub unbounded-requires : goal.unbounded-requires
 unbounded-requires c =
     let sized = c.args.self.now in
     let tables = program_tables sized.programs in
-    let parts = begun_at sized.metrics.now tables sized.ppem sized.fit in
-    never-spent c.in-Err.refusal _ _ (of-programs parts tables)
+    never-spent c.in-Err.refusal _ _ (of-left sized.metrics.now tables sized.ppem sized.fit)
     (rw c.unbounded-work.ensures at c.in-Err.ensures.work)
 
 pub returns-in-Fallback : goal.returns-in-Fallback

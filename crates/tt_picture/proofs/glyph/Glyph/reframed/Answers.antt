@@ -9,6 +9,8 @@ returns-clause-drawn c = λ s f drawn.
     let i = c.self.inside in
     let g : Glyph = record {
       number = i.number;
+      step = i.step;
+      chords = i.chords;
       body = body_view i.body;
       filled = i.filled;
       ends = i.ends.items;
@@ -18,4 +20,4 @@ returns-clause-drawn c = λ s f drawn.
     } in
     let h : Glyph = record g { body = body_view c.in_ok-body.body; left = 0; pens = c.clear.new.self.items } in
     let body = rw c.into_list-list.ensures at c.in_ok-body.ensures.body in
-    drawn_in s f c.args.frame g h refl refl refl refl refl body.1 body.0 body.2 (rw c.self.view_is drawn)
+    drawn_in s f c.args.frame g h refl refl refl refl refl refl refl body.1 body.0 body.2 (rw c.self.view_is drawn)

@@ -1,9 +1,10 @@
-use Rattle.std.proofs.Common.{◌≡◌, ◌∙◌, ap, ℕ, ◌+◌, ◌<◌, List, length, map, slice_index, slice_index_or, pos, SFits, w64, Option, arith, rules}
+use Rattle.std.proofs.Common.{◌≡◌, ◌∙◌, sym, ap, get_or, All, ℕ, ◌+◌, ◌<◌, List, length, map, slice_index, slice_index_or, pos, SFits, w64, Option, arith, rules}
 use Rattle.std.proofs.lemmas.Int.{ints, to_z-of_z}
 use Rattle.std.proofs.lemmas.List.{get_or-map, length-map}
 use Rattle.tt_scan_ink.specs.declared.ink.GlyphInk.{GlyphInk}
 use Rattle.tt_picture.specs.Glyphs.{Glyph, numbers_of}
 use Rattle.tt_picture.proofs.Keeping.{is_not_there}
+use Rattle.tt_strike.specs.Measures.{made_step}
 use Rattle.tt_strike.proofs.sized.SizedFace.character.Goals.{in-Some, in-None}
 use Rattle.tt_strike.proofs.sized.SizedFace.character.Goals as goal
 
@@ -16,15 +17,26 @@ box_found inked boxes gs i n d are below is =
     let here : i < length (numbers_of gs) = omega (arith, count, below) in
     rw are (get_or-map inked (numbers_of gs) i 0 d here ∙ ap inked is)
 
+-- the step at a place
+step_found : (made : Glyph → ℕ) (step : ℕ → ℕ) (gs : List Glyph) (i n : ℕ) (g : Glyph) → All (λ g. made g ≡ step g.number) gs
+    → i < length gs → slice_index (numbers_of gs) i ≡ n → g ≡ get_or gs i g → made g ≡ step n
+step_found made step gs i n g steps below number is =
+    let own : made g ≡ step g.number = rw (← is) at (steps i g below) in
+    own ∙ ap step (ap (λ (t : Glyph). t.number) is ∙ sym (get_or-map (λ (t : Glyph). t.number) gs i g 0 below) ∙ number)
+
 pub returns : goal.returns
-returns c = λ inked same.
+returns c = λ step inked steps same.
     let gs = c.args.inked.now.glyphs.made.items in
-    let found : c.match-find.ink ≡ inked c.args.placed.0 =
+    let z = c.args.self.now in
+    let found : (c.match-find.step ≡ step c.args.placed.0) × (c.match-find.ink ≡ inked c.args.placed.0) =
     elim c.match-find.branch [
       | in-Some w ↦
-          let at = w.in-Some.ensures.found in
-          w.ink-is ∙ (w.index.ensures
-          ∙ box_found inked c.args.inked.now.inks.items gs w.in-Some.i c.args.placed.0 w.index.result.now same at.0 at.1)
+          let at = w.in-Some.ensures.found in (
+            w.step-is ∙ (w.step_of.ensures ∙ step_found (made_step z.face.metrics z.ppem z.fit) step gs w.in-Some.i
+                c.args.placed.0 w.index.result.now steps at.0 at.1 w.index.ensures),
+            w.ink-is ∙ (w.index-2.ensures
+                ∙ box_found inked c.args.inked.now.inks.items gs w.in-Some.i c.args.placed.0 w.index-2.result.now same at.0 at.1),
+          )
       | in-None w ↦
           let none = is_not_there (numbers_of gs) c.args.placed.0 w.in-None.ensures.absent in
           let there = c.requires.among in
@@ -32,21 +44,18 @@ returns c = λ inked same.
     ] in
     let fits : SFits w64 (pos (c.args.placed.1 + c.args.frame.margin)) =
     omega (arith, ints, c.requires.pen, c.requires.frame.margin) in
-    rw (
-      c.from.ensures,
-      c.advance.ensures.exact,
-      c.metrics.ensures,
-      c.face.ensures,
-      c.ppem.ensures.exact,
-      c.ink_at.ensures,
-      found,
-    ) (simp to_z-of_z)
+    rw (c.from.ensures, found.0, c.ink_at.ensures, found.1) (simp to_z-of_z)
 
-pub advance-requires-clause-known : goal.advance-requires-clause-known
-advance-requires-clause-known c = rw (c.metrics.ensures, c.face.ensures) c.requires.known
+pub step_of-requires-clause-known : goal.step_of-requires-clause-known
+step_of-requires-clause-known c =
+    let gs = c.args.inked.now.glyphs.made.items in
+    let at = c.in-Some.ensures.found in
+    let here : c.index.result.now.number ≡ c.args.placed.0 = ap (λ (t : Glyph). t.number) c.index.ensures
+    ∙ sym (get_or-map (λ (t : Glyph). t.number) gs c.in-Some.i c.index.result.now 0 at.0) ∙ at.1 in
+    rw here c.requires.known
 
-pub index-requires : goal.index-requires
-index-requires c =
+pub index-2-requires : goal.index-2-requires
+index-2-requires c =
     let below : c.in-Some.i < length c.args.inked.now.inks.items =
     rw (c.args.inked.now.inked, length-map) c.in-Some.ensures.found.0 in
     search rules

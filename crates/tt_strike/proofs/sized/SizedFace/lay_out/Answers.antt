@@ -2,6 +2,7 @@ use Rattle.std.proofs.Common.{◌≡◌, ◌∙◌, Ok, Err, refl}
 use Rattle.std.proofs.lemmas.Result.{err_from_is_err_and}
 use Rattle.tt_strike.specs.Job.{tested}
 use Rattle.tt_strike.specs.Strikes.{SizedFace, job_by}
+use Rattle.tt_strike.proofs.Placed.{placed_by_advances}
 use Rattle.tt_strike.proofs.Stopped.{laid_as_placed, laying_tells, laying_tells_no_defect, tested_at}
 use Rattle.tt_strike.proofs.sized.SizedFace.lay_out.Goals as goal
 
@@ -50,7 +51,7 @@ returns-in_err-line-clause-exact c =
     let p = err_from_is_err_and c.from_residual-in_err-line.result c.from_residual-in_err-line.ensures.1 in
     let gives = rw (c.metrics.ensures, c.cmap.ensures.exact) at c.in_err-line.ensures.exact in
     rw (p.1, p.2, ← c.self.view_is) (laid_as_placed (job_by z c.args.text.now c.args.margin) z.face
-    (Err c.in_err-line.field-0.0) passes gives)
+    (Err c.in_err-line.field-0.0) passes (rw (← c.self.view_is) at c.requires.unbounded) gives)
 
 pub returns-in_err-line-clause-font : goal.returns-in_err-line-clause-font
 returns-in_err-line-clause-font c =
@@ -63,7 +64,7 @@ returns-in_err-line-clause-job c =
     let p = err_from_is_err_and c.from_residual-in_err-line.result c.from_residual-in_err-line.ensures.1 in
     let fault = rw (c.metrics.ensures, c.cmap.ensures.exact) at c.in_err-line.ensures.fault in
     rw (p.1, p.2, ← c.self.view_is) (laying_tells (job_by z c.args.text.now c.args.margin) z.face
-    (Err c.in_err-line.field-0.0) fault)
+    (Err c.in_err-line.field-0.0) (rw (← c.self.view_is) at c.requires.unbounded) fault)
 
 pub returns-clause-exact : goal.returns-clause-exact
 returns-clause-exact c =
@@ -72,10 +73,8 @@ returns-clause-exact c =
     let passes : tested (job_by z c.args.text.now c.args.margin) ≡ Ok tt =
     at ∙ rw (c.in_ok-test_margin.ensures.exact, c.in_ok-test_text.ensures.exact) refl in
     let laid = rw (c.metrics.ensures, c.cmap.ensures.exact) at c.in_ok-line.ensures.exact in
-    rw (← c.self.view_is, passes, laid) refl
-
-pub returns-clause-laid : goal.returns-clause-laid
-returns-clause-laid c = rw (← c.self.view_is) (rw (c.metrics.ensures, c.cmap.ensures.exact) at c.in_ok-line.ensures.exact)
+    let other = rw (← c.self.view_is) at c.requires.unbounded in
+    rw (← c.self.view_is, passes, placed_by_advances z.face (job_by z c.args.text.now c.args.margin) other, laid) refl
 
 pub returns-clause-glyphs : goal.returns-clause-glyphs
 returns-clause-glyphs c = rw (← c.self.view_is) (rw c.cmap.ensures.exact at c.in_ok-line.ensures.glyphs)

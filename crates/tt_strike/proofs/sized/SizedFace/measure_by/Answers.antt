@@ -10,8 +10,8 @@ characters-requires-clause-pens c =
     rw c.deref-2.ensures.value within
 
 pub returns-clause-exact : goal.returns-clause-exact
-returns-clause-exact c = λ ink same.
-    let characters = rw (c.frame-frame.ensures.exact, c.deref-2.ensures.value) at c.in_ok-characters.ensures ink same in
+returns-clause-exact c = λ step ink steps same.
+    let characters = rw (c.frame-frame.ensures.exact, c.deref-2.ensures.value) at c.in_ok-characters.ensures step ink steps same in
     rw (c.measure_of.ensures.exact, c.frame-frame.ensures.exact, characters) refl
 
 pub returns-clause-unfitted : goal.returns-clause-unfitted

@@ -1,0 +1,14 @@
+use Rattle.std.proofs.Common.{◌≡◌, ◌<◌, ◌++◌, length, map}
+use Rattle.tt_arc.specs.Chords.{PointFits, moved, point_at, number_before, contour_chords}
+use Rattle.tt_arc.proofs.Walks.{edges_onward}
+use Rattle.tt_arc.proofs.contour.push_contour_chords.Given as goal
+
+abbrev pub invariant-loop-i : goal.invariant-loop-i
+invariant-loop-i l = record {
+  walked : l.list.edges ++ edges_onward l.fn.rule (map (moved l.by.dx l.by.dy) l.points) l.i
+      ≡ l.fn.list.edges ++ contour_chords l.fn.rule (map (moved l.by.dx l.by.dy) l.points);
+  before : l.before ≡ point_at (map (moved l.by.dx l.by.dy) l.points) (number_before (length l.points) l.i);
+  point : l.i < length l.points → l.point ≡ point_at (map (moved l.by.dx l.by.dy) l.points) l.i;
+  before_fits : PointFits l.before;
+  point_fits : PointFits l.point;
+}

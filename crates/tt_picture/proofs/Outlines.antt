@@ -1,0 +1,171 @@
+-- Outlines made in order: each glyph once, with the fitter after those before it.
+use Rattle.std.proofs.Common.{◌≡◌, ◌∙◌, refl, sym, ap, ℕ, zero, suc, ◌+◌, ◌<◌, ◌≤◌, ◌-◌, Bool, true, false, not, ◌&&◌, ◌||◌, ◌==◌, List, [], ◌∷◌, ◌++◌, length, map, drop, get_or, set, slice_index, take, Result, Ok, Err, append_assoc, append-nil, drop-cons, arith}
+use Rattle.std.specs.Prelude.{All, IfSome}
+use Rattle.std.proofs.lemmas.Bool.Decides.{nat_tests}
+use Rattle.std.proofs.lemmas.List.{get_or-map, take-append-drop}
+use Rattle.std.proofs.lemmas.List.Elements.{All-head, All-tail}
+use Rattle.std.proofs.lemmas.List.Sums.{sum_by-append, sum_by-cons, sum_by_push}
+use Rattle.tt_core.specs.declared.font_fault.FontFault.{FontFault}
+use Rattle.tt_core.specs.declared.font_fault.FontFault.TheVariants as font
+use Rattle.tt_core.specs.Faults.{Fault}
+use Rattle.tt_core.specs.Outcomes.{after_each, each, font_fault}
+use Rattle.tt_fit.specs.Fitting.{Fitter, fitted_outline}
+use Rattle.tt_fit_outline.specs.Outline.{Outline}
+use Rattle.tt_fit_outline.specs.Steps.{step_of}
+use Rattle.tt_picture.specs.Distinct.{distinct_after, is_among}
+use Rattle.tt_picture.specs.Fitted.{AreFitted, AreSteps, FittedGlyph, IsFitted, fitted_chords, fitted_numbers}
+use Rattle.tt_picture.specs.Pixels.{Shape}
+use Rattle.tt_picture.specs.Shapes.{glyph_shape, shape_at}
+use Rattle.tt_picture.specs.Steps.{chords_of, glyph_chords, glyph_step}
+use Rattle.tt_picture.specs.Unfitted.{all_differ}
+
+both_true : (a b : Bool) → (a && b) ≡ true → (a ≡ true) × (b ≡ true)
+both_true true b is = (refl, is)
+both_true false b is = absurd cc
+
+both_false : (a b : Bool) → (a || b) ≡ false → (a ≡ false) × (b ≡ false)
+both_false true b is = absurd cc
+both_false false b is = (refl, is)
+
+not_true : (a : Bool) → not a ≡ true → a ≡ false
+not_true true is = absurd cc
+not_true false is = refl
+
+other_way : (g h : ℕ) → (h == g) ≡ false → (g == h) ≡ false
+other_way g h is = grind (arith, nat_tests)
+
+-- a number that is not among some is none of them
+not_that_one : (b g : ℕ) (bs gs : List ℕ) → is_among b (bs ++ g ∷ gs) ≡ false → (g == b) ≡ false
+not_that_one b g [] gs is = (both_false (g == b) (is_among b gs) is).0
+not_that_one b g (h ∷ bs) gs is = not_that_one b g bs gs (both_false (h == b) (is_among b (bs ++ g ∷ gs)) is).1
+
+-- where all numbers differ, none is among those before it
+absent_before : (before gs : List ℕ) (g : ℕ) → all_differ (before ++ g ∷ gs) ≡ true → is_among g before ≡ false
+absent_before [] gs g differ = refl
+absent_before (b ∷ bs) gs g differ =
+    let parts = both_true (not (is_among b (bs ++ g ∷ gs))) (all_differ (bs ++ g ∷ gs)) differ in
+    let apart = other_way b g (not_that_one b g bs gs (not_true (is_among b (bs ++ g ∷ gs)) parts.0)) in
+    rw (apart, absent_before bs gs g parts.1) refl
+
+each_new : (before gs : List ℕ) → all_differ (before ++ gs) ≡ true → distinct_after before gs ≡ before ++ gs
+each_new before [] differ = sym (append-nil before)
+each_new before (g ∷ gs) differ =
+    let absent = absent_before before gs g differ in
+    let same : all_differ ((before ++ g ∷ []) ++ gs) ≡ true = rw (append_assoc before (g ∷ []) gs) differ in
+    rw absent (each_new (before ++ g ∷ []) gs same ∙ append_assoc before (g ∷ []) gs)
+
+in_parts : (ns : List ℕ) (i : ℕ) → i < length ns → take i ns ++ (get_or ns i 0 ∷ drop (suc i) ns) ≡ ns
+in_parts ns i below = rw (← drop-cons ns i 0 below) (take-append-drop i ns)
+
+pub not_yet : (ns : List ℕ) (i : ℕ) → i < length ns → all_differ ns ≡ true → is_among (get_or ns i 0) (take i ns) ≡ false
+not_yet ns i below differ =
+    absent_before (take i ns) (drop (suc i) ns) (get_or ns i 0) (ap all_differ (in_parts ns i below) ∙ differ)
+
+pub all_new : (ns : List ℕ) (i : ℕ) → i < length ns → all_differ ns ≡ true
+    → distinct_after (take i ns) (get_or ns i 0 ∷ drop (suc i) ns) ≡ ns
+all_new ns i below differ =
+    each_new (take i ns) (get_or ns i 0 ∷ drop (suc i) ns) (ap all_differ (in_parts ns i below) ∙ differ)
+    ∙ in_parts ns i below
+
+-- the fault of an outline is that of all
+pub stuck_there : (e : FontFault) (make : ℕ → Result Outline Fault) (ns : List ℕ) (i : ℕ) (os : List Outline) → i < length ns
+    → after_each make (drop i ns) os ≡ each make ns → IfSome (font_fault e) (λ f. make (get_or ns i 0) ≡ Err f)
+    → IfSome (font_fault e) (λ f. each make ns ≡ Err f)
+stuck_there (font.Font f) make ns i os below so_far fails = sym so_far ∙ rw (drop-cons ns i 0 below, fails) refl
+stuck_there font.Memory make ns i os below so_far fails = tt
+
+-- fitted glyphs have the steps and the chords of the definition
+pub steps_are : (maker : ℕ → Fitter) (fs : List FittedGlyph) → AreFitted maker fs
+    → AreSteps (λ g. glyph_step (maker g) g) fs
+unfolding glyph_step
+steps_are maker fs fitted = λ k d below. rw ((fitted k d below).outline) refl
+
+pub chords_are : (maker : ℕ → Fitter) (fs : List FittedGlyph) → AreFitted maker fs
+    → map (λ g. chords_of g.rule g.outline) fs ≡ map (λ g. glyph_chords (maker g) g) (fitted_numbers fs)
+unfolding glyph_chords
+chords_are maker [] fitted = refl
+chords_are maker (f ∷ fs) fitted =
+    let P : FittedGlyph → Type 0 = λ g. IsFitted (maker g.number) g in
+    let one = All-head P f fs fitted in
+    rw (one.rule, one.outline, chords_are maker fs (All-tail P f fs fitted)) refl
+
+-- where outlines are made, those of a line's glyphs give its shapes
+abbrev HasOutline : (ℕ → Fitter) → ℕ → Type 0
+HasOutline maker n = (o : Outline) × (fitted_outline (maker n) n ≡ Ok o)
+
+found_by : (here : Bool) (maker : ℕ → Fitter) (f : FittedGlyph) (fs : List FittedGlyph) (n : ℕ) → (f.number == n) ≡ here
+    → (here || is_among n (fitted_numbers fs)) ≡ true → IsFitted (maker f.number) f
+    → (is_among n (fitted_numbers fs) ≡ true → HasOutline maker n) → HasOutline maker n
+found_by true maker f fs n same is one more =
+    let first : f.number ≡ n = grind (arith, nat_tests) in
+    let own : HasOutline maker f.number = (f.outline, one.outline) in
+    rw first at own
+found_by false maker f fs n other is one more = more is
+
+has_outline : (maker : ℕ → Fitter) (fs : List FittedGlyph) (n : ℕ) → AreFitted maker fs
+    → is_among n (fitted_numbers fs) ≡ true → HasOutline maker n
+has_outline maker [] n fitted among = absurd cc
+has_outline maker (f ∷ fs) n fitted among =
+    let P : FittedGlyph → Type 0 = λ g. IsFitted (maker g.number) g in
+    found_by (f.number == n) maker f fs n refl among (All-head P f fs fitted)
+    (has_outline maker fs n (All-tail P f fs fitted))
+
+pub shapes_of_line : (maker : ℕ → Fitter) (fs : List FittedGlyph) (line : List (ℕ × ℕ)) → AreFitted maker fs
+    → All (λ (g : ℕ × ℕ). is_among g.0 (fitted_numbers fs) ≡ true) line
+    → (shapes : List Shape) × (each (glyph_shape maker) line ≡ Ok shapes)
+shapes_of_line maker fs [] fitted among = ([], refl)
+shapes_of_line maker fs (g ∷ gs) fitted among =
+    let P : ℕ × ℕ → Type 0 = λ g. is_among g.0 (fitted_numbers fs) ≡ true in
+    let one = has_outline maker fs g.0 fitted (All-head P g gs among) in
+    let rest = shapes_of_line maker fs gs fitted (All-tail P g gs among) in
+    (shape_at (maker g.0) g one.0 ∷ rest.0, rw (one.1, rest.1) refl)
+
+-- one more step is put beside its glyph
+pub one_more_step : (step : ℕ → ℕ) (gs : List (ℕ × ℕ)) (i : ℕ) → i < length gs
+    → set (map (λ (g : ℕ × ℕ). (g.0, step g.0)) (take i gs) ++ drop i gs) i (
+      (get_or (map (λ (g : ℕ × ℕ). (g.0, step g.0)) (take i gs) ++ drop i gs) i (0, 0)).0,
+      step (get_or gs i (0, 0)).0,
+    )
+    ≡ map (λ (g : ℕ × ℕ). (g.0, step g.0)) (take (suc i) gs) ++ drop (suc i) gs
+one_more_step step [] i below = absurd (omega arith)
+one_more_step step (g ∷ gs) zero below = refl
+one_more_step step (g ∷ gs) (suc i) below =
+    ap (λ (hs : List (ℕ × ℕ)). (g.0, step g.0) ∷ hs) (one_more_step step gs i (omega arith))
+
+-- a glyph keeps its number where its step is put
+pub numbers_kept : (gs : List (ℕ × ℕ)) (i n : ℕ) → i < length gs
+    → map (λ (g : ℕ × ℕ). g.0) (set gs i ((get_or gs i (0, 0)).0, n)) ≡ map (λ (g : ℕ × ℕ). g.0) gs
+numbers_kept [] i n below = absurd (omega arith)
+numbers_kept (g ∷ gs) zero n below = refl
+numbers_kept (g ∷ gs) (suc i) n below =
+    ap (λ (hs : List ℕ). g.0 ∷ hs) (numbers_kept gs i n (omega arith))
+
+-- lists of glyphs with the same numbers have the same number at each place
+pub same_number : (gs hs : List (ℕ × ℕ)) (i : ℕ) → map (λ (g : ℕ × ℕ). g.0) gs ≡ map (λ (g : ℕ × ℕ). g.0) hs → i < length gs
+    → i < length hs → (get_or gs i (0, 0)).0 ≡ (get_or hs i (0, 0)).0
+same_number gs hs i same below under =
+    sym (get_or-map (λ (g : ℕ × ℕ). g.0) gs i (0, 0) 0 below) ∙ ap (λ ns. get_or ns i 0) same
+    ∙ get_or-map (λ (g : ℕ × ℕ). g.0) hs i (0, 0) 0 under
+
+-- the step of the glyph at this place
+pub step_at : (step : ℕ → ℕ) (fs : List FittedGlyph) (i n : ℕ) (f : FittedGlyph) → AreSteps step fs → i < length fs
+    → slice_index (fitted_numbers fs) i ≡ n → f ≡ get_or fs i f → step_of f.outline ≡ step n
+step_at step fs i n f steps below number is =
+    let own : step f.number ≡ step_of f.outline = rw (← is) at (steps i f below) in
+    let here : f.number ≡ n = ap (λ (g : FittedGlyph). g.number) is
+    ∙ sym (get_or-map (λ (g : FittedGlyph). g.number) fs i f 0 below) ∙ number in
+    sym own ∙ ap step here
+
+-- one more of some glyphs and its chords
+pub one_chord_more : (fs : List FittedGlyph) (f : FittedGlyph) (left most n : ℕ) → left + fitted_chords fs ≡ most
+    → n ≡ chords_of f.rule f.outline → n ≤ left → (left - n) + fitted_chords (fs ++ f ∷ []) ≡ most
+one_chord_more fs f left most n so_far is fits =
+    let sum = sum_by_push (λ (g : FittedGlyph). chords_of g.rule g.outline) fs f in
+    omega (arith, so_far, is, fits, sum)
+
+pub too_many_chords : (fs gs : List FittedGlyph) (f : FittedGlyph) (left most n : ℕ) → left + fitted_chords fs ≡ most
+    → n ≡ chords_of f.rule f.outline → left < n → most < fitted_chords (fs ++ f ∷ gs)
+too_many_chords fs gs f left most n so_far is over =
+    let sum = sum_by-append (λ (g : FittedGlyph). chords_of g.rule g.outline) fs (f ∷ gs) in
+    let first = sum_by-cons (λ (g : FittedGlyph). chords_of g.rule g.outline) f gs in
+    omega (arith, so_far, is, over, sum, first)

@@ -1,0 +1,104 @@
+use Rattle.std.proofs.Common.{◌≡◌, ◌∙◌, ◌∷◌, [], ◌<◌, ◌≤◌, false, ap, drop, get_or, length, refl, suc, sym, take, Ok, arith}
+use Rattle.std.proofs.lemmas.List.{append-nil, map-append, take_all, take_more}
+use Rattle.std.proofs.lemmas.List.Elements.{All-push}
+use Rattle.std.proofs.lemmas.Result.{err_from_is_err_and}
+use Rattle.tt_core.specs.Outcomes.{each}
+use Rattle.tt_fit.specs.Fitting.{fitted_outline}
+use Rattle.tt_picture.specs.Distinct.{IsNext, fitter_after, fitter_for}
+use Rattle.tt_picture.specs.Fitted.{FittedGlyph, IsFitted, outlines_of}
+use Rattle.tt_picture.proofs.Outlines.{all_new, not_yet, stuck_there}
+use Rattle.tt_picture.proofs.Places.{one_more_made}
+use Rattle.tt_picture.proofs.Reframed.{none_left}
+use Rattle.tt_picture.proofs.Turns.{next_is, none_before, pushed, same_tables}
+use Rattle.tt_picture.proofs.fitting.fit_glyphs.Goals.{After-of}
+use Rattle.tt_picture.proofs.fitting.fit_glyphs.Goals as goal
+
+pub loop-number-init : goal.loop-number-init
+loop-number-init c =
+    let ns = c.args.numbers.now in
+    let maker = fitter_for c.args.fitter.now ns in
+    let none = c.in_ok-made.ensures.items in
+    record {
+      numbers = rw none refl;
+      fitted = rw none (λ k d below. absurd (omega (arith, below)));
+      outlines = rw none (none_before (each (λ g. fitted_outline (maker g) g) ns));
+      after = refl;
+      tables = refl;
+    }
+
+-- the fitter of the next glyph is the present one
+maker_is : (c : After-of) → fitter_for c.args.fitter.now c.args.numbers.now
+    (get_or c.args.numbers.now c.loop-number.number-index 0) ≡ c.loop-number.fitter
+maker_is c =
+    let ns = c.args.numbers.now in
+    let i = c.loop-number.number-index in
+    let below : i < length ns = c.loop-number-test.true in
+    let next : IsNext (fitter_for c.args.fitter.now ns) c.loop-number.fitter (take i ns) (get_or ns i 0) =
+    next_is c.args.fitter.now c.loop-number.fitter (take i ns) ns (get_or ns i 0) (drop (suc i) ns)
+    (all_new ns i below c.requires.differ) c.loop-number.invariant.after in
+    next (not_yet ns i below c.requires.differ)
+
+pub of-requires : goal.of-requires
+of-requires c = record {
+  known = rw c.loop-number.invariant.tables (c.requires.known c.loop-number.number-index 0 c.loop-number-test.true);
+}
+
+pub loop-number-preserved : goal.loop-number-preserved
+loop-number-preserved c =
+    let ns = c.args.numbers.now in
+    let s = c.args.fitter.now in
+    let maker = fitter_for s ns in
+    let i = c.loop-number.number-index in
+    let n = get_or ns i 0 in
+    let below : i < length ns = c.loop-number-test.true in
+    let so_far = c.loop-number.invariant in
+    let from = maker_is (goal.at.loop-number-preserved c).After-of in
+    let made = c.loop-number.made.items in
+    let h = c.in_ok-glyph.glyph in
+    let one = c.in_ok-glyph.ensures in
+    let items = c.in_ok-push.ensures.items in
+    let number : h.number ≡ n = one.number in
+    let own : maker h.number ≡ c.loop-number.fitter = ap maker number ∙ from in
+    let fitted : IsFitted (maker h.number) h = rw own one.fitted in
+    let outline : fitted_outline (maker n) n ≡ Ok h.outline = rw number at fitted.outline in
+    record {
+      numbers = rw (items, map-append (λ (g : FittedGlyph). g.number) made (h ∷ []), so_far.numbers, number)
+          (sym (take_more ns i 0 below));
+      fitted = rw items (All-push (λ (g : FittedGlyph). IsFitted (maker g.number) g) made h so_far.fitted fitted);
+      outlines = rw (items, map-append (λ (g : FittedGlyph). g.outline) made (h ∷ []))
+          (one_more_made (λ g. fitted_outline (maker g) g) ns i 0 (outlines_of made) h.outline below outline
+          ∙ so_far.outlines);
+      after = one.after ∙ rw (take_more ns i 0 below, so_far.after) (sym (pushed s (take i ns) n));
+      tables = rw one.after (same_tables c.loop-number.fitter n) ∙ so_far.tables;
+    }
+
+pub returns-in_err-glyph-clause-fault : goal.returns-in_err-glyph-clause-fault
+returns-in_err-glyph-clause-fault c =
+    let ns = c.args.numbers.now in
+    let maker = fitter_for c.args.fitter.now ns in
+    let i = c.loop-number.number-index in
+    let below : i < length ns = c.loop-number-test.true in
+    let from = maker_is (goal.at.returns-in_err-glyph-clause-fault c).After-of in
+    let fails = rw (← from) at c.in_err-glyph.ensures.fault in
+    let p = err_from_is_err_and c.from_residual-in_err-glyph.result c.from_residual-in_err-glyph.ensures.1 in
+    rw (p.1, p.2) (stuck_there c.in_err-glyph.field-0.0 (λ g. fitted_outline (maker g) g) ns i
+    (outlines_of c.loop-number.made.items) below c.loop-number.invariant.outlines fails)
+
+pub returns-clause-numbers : goal.returns-clause-numbers
+returns-clause-numbers c =
+    let ns = c.args.numbers.now in
+    let over : length ns ≤ c.loop-number.number-index = omega (arith, c.loop-number-test.false) in
+    c.loop-number.invariant.numbers ∙ take_all c.loop-number.number-index ns over
+
+pub returns-clause-made : goal.returns-clause-made
+returns-clause-made c =
+    let ns = c.args.numbers.now in
+    let over : length ns ≤ c.loop-number.number-index = omega (arith, c.loop-number-test.false) in
+    let all = rw (none_left ns c.loop-number.number-index over) at c.loop-number.invariant.outlines in
+    sym all ∙ rw (append-nil (outlines_of c.loop-number.made.items)) refl
+
+pub returns-clause-after : goal.returns-clause-after
+returns-clause-after c =
+    let ns = c.args.numbers.now in
+    let over : length ns ≤ c.loop-number.number-index = omega (arith, c.loop-number-test.false) in
+    c.loop-number.invariant.after ∙ ap (fitter_after c.args.fitter.now) (take_all c.loop-number.number-index ns over)

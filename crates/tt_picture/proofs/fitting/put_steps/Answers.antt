@@ -1,0 +1,83 @@
+use Rattle.std.proofs.Common.{◌≡◌, ◌∙◌, ◌<◌, ◌≤◌, ◌-◌, ℕ, List, add-one, ap, get_or, length, map, refl, sym, arith}
+use Rattle.std.specs.List.{slice_index}
+use Rattle.std.proofs.lemmas.List.{append-nil, drop_all, get_or_default, length-map, take_all}
+use Rattle.tt_picture.specs.Fitted.{FittedGlyph, fitted_numbers}
+use Rattle.tt_picture.proofs.Outlines.{numbers_kept, one_more_step, same_number, step_at}
+use Rattle.tt_picture.proofs.Reframed.{seated}
+use Rattle.tt_picture.proofs.fitting.put_steps.Goals.{After-from-place}
+use Rattle.tt_picture.proofs.fitting.put_steps.Goals as goal
+
+-- as many glyphs as at first
+as_many : (gs hs : List (ℕ × ℕ)) → map (λ (g : ℕ × ℕ). g.0) gs ≡ map (λ (g : ℕ × ℕ). g.0) hs → length gs ≡ length hs
+as_many gs hs same = sym (length-map gs (λ (g : ℕ × ℕ). g.0)) ∙ ap length same ∙ length-map hs (λ (g : ℕ × ℕ). g.0)
+
+-- the number of the glyph at a place is that at first
+as_at_first : (line gs : List (ℕ × ℕ)) (i n : ℕ) → map (λ (g : ℕ × ℕ). g.0) line ≡ map (λ (g : ℕ × ℕ). g.0) gs
+    → i < length gs → n ≡ (get_or line i (0, 0)).0 → n ≡ (get_or gs i (0, 0)).0
+as_at_first line gs i n same below is =
+    let many = as_many line gs same in
+    let under : i < length line = omega (arith, below, many) in
+    is ∙ same_number line gs i same under below
+
+-- the place of that glyph among those with outlines
+place_is : (c : After-from-place) → (0 < c.from-place.result) × (c.from-place.result - 1 < length (fitted_numbers c.args.fitted.now))
+    × (slice_index (fitted_numbers c.args.fitted.now) (c.from-place.result - 1) ≡ (get_or c.args.line.now c.loop-i.i (0, 0)).0)
+place_is c =
+    let gs = c.args.line.now in
+    let i = c.loop-i.i in
+    let n = (get_or gs i (0, 0)).0 in
+    let table = c.args.places.now in
+    let seat = c.from-place.result in
+    let below : i < length gs = c.loop-i-test.true in
+    let number : c.from.result ≡ n = as_at_first c.loop-i.line gs i c.from.result c.loop-i.invariant.numbers below c.from.ensures in
+    let known : n < length table = c.requires.known i (0, 0) below in
+    let read : seat ≡ get_or table n seat =
+    c.from-place.ensures ∙ ap (λ m. get_or table m 0) number ∙ sym (get_or_default table n seat 0 known) in
+    seated table (fitted_numbers c.args.fitted.now) n seat known read c.requires.places (c.requires.among i (0, 0) below)
+
+pub bounds-places-from : goal.bounds-places-from
+bounds-places-from c =
+    let number = as_at_first c.loop-i.line c.args.line.now c.loop-i.i c.from.result c.loop-i.invariant.numbers
+    c.loop-i-test.true c.from.ensures in
+    rw number (c.requires.known c.loop-i.i (0, 0) c.loop-i-test.true)
+
+pub overflow_sub-place : goal.overflow_sub-place
+overflow_sub-place c =
+    let some = (place_is (goal.at.overflow_sub-place c).After-from-place).0 in omega (arith, some)
+
+pub bounds-fitted-place : goal.bounds-fitted-place
+bounds-fitted-place c =
+    let below = (place_is (goal.at.bounds-fitted-place c).After-from-place).1 in
+    let many = length-map c.args.fitted.now (λ (g : FittedGlyph). g.number) in
+    omega (arith, below, many)
+
+pub loop-i-preserved : goal.loop-i-preserved
+loop-i-preserved c =
+    let gs = c.args.line.now in
+    let line = c.loop-i.line in
+    let i = c.loop-i.i in
+    let n = (get_or gs i (0, 0)).0 in
+    let place = c.from-place.result - 1 in
+    let below : i < length gs = c.loop-i-test.true in
+    let many = as_many line gs c.loop-i.invariant.numbers in
+    let under : i < length line = omega (arith, below, many) in
+    let seat = place_is (goal.at.loop-i-preserved c).After-from-place in
+    let found : slice_index (fitted_numbers c.args.fitted.now) place ≡ n = seat.2 in
+    let inside : place < length (fitted_numbers c.args.fitted.now) = seat.1 in
+    let as_long = length-map c.args.fitted.now (λ (g : FittedGlyph). g.number) in
+    let within : place < length c.args.fitted.now = omega (arith, inside, as_long) in
+    record {
+      numbers = numbers_kept line i c.step.result under ∙ c.loop-i.invariant.numbers;
+      steps = λ step steps.
+          let its : c.step.result ≡ step n = c.step.ensures.exact
+          ∙ step_at step c.args.fitted.now place n c.index-fitted-place.result steps within found c.index-fitted-place.is in
+          rw (add-one, its, c.loop-i.invariant.steps step steps) (one_more_step step gs i below);
+    }
+
+pub returns : goal.returns
+returns c = λ step steps.
+    let gs = c.args.line.now in
+    let many = as_many c.loop-i.line gs c.loop-i.invariant.numbers in
+    let over : length gs ≤ c.loop-i.i = omega (arith, c.loop-i-test.false, many) in
+    let none = append-nil {A = ℕ × ℕ} (map (λ (g : ℕ × ℕ). (g.0, step g.0)) gs) in
+    c.loop-i.invariant.steps step steps ∙ rw (take_all c.loop-i.i gs over, drop_all c.loop-i.i gs over, none) refl

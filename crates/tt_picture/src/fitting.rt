@@ -1,0 +1,84 @@
+//! The outlines of a line's distinct glyphs, made in order, and what follows from them: steps, then edges.
+
+ghost use Rattle.std.specs.Prelude.{◌≡◌, ℕ, ◌<◌, ◌≤◌, true, false, [], length, map, All, IfOk, IfSome, IfNone, Ok, Err};
+ghost use Rattle.tt_core.specs.Outcomes.{IfTold, font_fault};
+ghost use Rattle.tt_fit.specs.Fitting.{Fitter};
+ghost use Rattle.tt_scan_edges.specs.Winding.{FrameFits};
+ghost use Rattle.tt_picture.specs.Distinct.{fitter_after, fitter_for, is_among};
+ghost use Rattle.tt_picture.specs.Fitted.{AreFitted, AreSteps, fitted_chords, fitted_numbers, outlines_of};
+ghost use Rattle.tt_picture.specs.Glyphs.{AreDrawn, ArePlaces, numbers_of};
+ghost use Rattle.tt_picture.specs.Steps.{outlines_by};
+ghost use Rattle.tt_picture.specs.Unfitted.{all_differ};
+
+use crate::cache::Cache;
+use crate::fitted::FittedGlyph;
+use crate::glyph::Glyph;
+use std::alloc::{AllocError, Global};
+use tt_core::FontFault;
+use tt_fit::Fitter;
+use tt_scan::Frame;
+
+/// The outlines of some glyphs, made in order. Errors: those of the outlines, Memory.
+pub fn fit_glyphs(
+    alloc: Global,
+    fitter: &mut Fitter,
+    numbers: &[u16],
+) -> Result<Vec<FittedGlyph>, FontFault>
+    requires known { All (λ n. n < fitter.old.tables.glyphs) numbers.now }
+    requires differ { all_differ numbers.now ≡ true }
+    ensures numbers { IfOk result (λ v. fitted_numbers v.items ≡ numbers.now) }
+    ensures fitted { IfOk result (λ v. AreFitted (fitter_for fitter.old numbers.now) v.items) }
+    ensures made { IfOk result (λ v. outlines_by (fitter_for fitter.old numbers.now) numbers.now ≡ Ok (outlines_of v.items)) }
+    ensures after { IfOk result (λ v. fitter.new ≡ fitter_after fitter.old numbers.now) }
+    ensures fault { IfTold font_fault result (λ f. outlines_by (fitter_for fitter.old numbers.now) numbers.now ≡ Err f) }
+{
+    let mut made = Vec::with_capacity(alloc, numbers.len())?;
+    for number in numbers {
+        let glyph = FittedGlyph::of(fitter, *number)?;
+        made.push(glyph)?;
+    }
+    Ok(made)
+}
+
+/// Puts the step of each character's glyph beside the glyph. The glyphs are among these, whose places the table has.
+pub fn put_steps(places: &[u16], fitted: &[FittedGlyph], line: &mut [(u16, u32)])
+    requires places { ArePlaces places.now (fitted_numbers fitted.now) }
+    requires known { All (λ g. g.0 < length places.now) line.old }
+    requires among { All (λ g. is_among g.0 (fitted_numbers fitted.now) ≡ true) line.old }
+    ensures { (step : ℕ → ℕ) → AreSteps step fitted.now → line.new ≡ map (λ g. (g.0, step g.0)) line.old }
+{
+    for i in 0..line.len() {
+        let place = usize::from(places[usize::from(line[i].0)]) - 1;
+        line[i].1 = fitted[place].step();
+    }
+}
+
+/// The glyphs of some outlines in a frame, without a pen; None where they have more than `most` chords. As soon as they
+/// have more, no further edge is made. Error: Memory.
+pub(crate) fn drawn_glyphs(
+    alloc: Global,
+    fitted: Vec<FittedGlyph>,
+    frame: Frame,
+    room: usize,
+    most: usize,
+) -> Result<Option<Vec<Glyph>>, AllocError>
+    requires frame { FrameFits frame }
+    ensures numbers { IfOk result (λ o. IfSome o (λ v. numbers_of v.items ≡ fitted_numbers fitted.items)) }
+    ensures bare { IfOk result (λ o. IfSome o (λ v. All (λ g. (g.left ≡ 0) × (g.pens ≡ [])) v.items)) }
+    ensures drawn { IfOk result (λ o. IfSome o (λ v. (maker : ℕ → Fitter) → AreFitted maker fitted.items → AreDrawn false maker frame v.items)) }
+    ensures few { IfOk result (λ o. IfSome o (λ v. fitted_chords fitted.items ≤ most)) }
+    ensures many { IfOk result (λ o. IfNone o (most < fitted_chords fitted.items)) }
+{
+    let mut none = Cache::absent();
+    let mut left = most;
+    let mut made = Vec::with_capacity(alloc, fitted.len())?;
+    for outline in fitted {
+        let glyph = outline.into_glyph(alloc, frame, room, &mut none)?;
+        if glyph.chords > left {
+            return Ok(None);
+        }
+        left -= glyph.chords;
+        made.push(glyph)?;
+    }
+    Ok(Some(made))
+}

@@ -1,0 +1,60 @@
+use Rattle.std.proofs.Common.{◌∙◌}
+use Rattle.std.proofs.lemmas.Result.{err_from_is_err_and}
+use Rattle.tt_line.specs.Outcome.{placement_of}
+use Rattle.tt_strike.specs.Strikes.{job_by}
+use Rattle.tt_strike.proofs.Stopped.{laid_stops, no_defect_told, no_job_told, shapes_stop}
+use Rattle.tt_strike.proofs.Textless.{cost_textless, made_textless, shapes_textless}
+use Rattle.tt_strike.proofs.sized.SizedFace.make_by_advances.Goals as goal
+
+pub returns-in_err-laid-clause-stops : goal.returns-in_err-laid-clause-stops
+returns-in_err-laid-clause-stops c =
+    let p = err_from_is_err_and c.from_residual.result c.from_residual.ensures.1 in
+    rw (p.1, p.2) (laid_stops c.args.self.now.face (job_by c.args.self.now c.args.text.now c.args.margin)
+    c.in_err-laid.field-0.0 c.in_err-laid.ensures.exact)
+
+pub returns-in_err-laid-clause-defects : goal.returns-in_err-laid-clause-defects
+returns-in_err-laid-clause-defects c =
+    let p = err_from_is_err_and c.from_residual.result c.from_residual.ensures.1 in
+    rw (p.1, p.2) (no_defect_told _ c.in_err-laid.field-0.0 c.in_err-laid.ensures.font)
+
+pub returns-in_err-laid-clause-job : goal.returns-in_err-laid-clause-job
+returns-in_err-laid-clause-job c =
+    let p = err_from_is_err_and c.from_residual.result c.from_residual.ensures.1 in
+    rw (p.1, p.2) c.in_err-laid.ensures.job
+
+pub returns-in_err-glyphs-clause-stops : goal.returns-in_err-glyphs-clause-stops
+returns-in_err-glyphs-clause-stops c =
+    let z = c.args.self.now in
+    let l = placement_of c.in_ok-laid.laid.line in
+    let p = err_from_is_err_and c.from_residual-in_err-glyphs.result c.from_residual-in_err-glyphs.ensures.1 in
+    let stops = rw c.in_ok-laid.ensures.margin at c.in_err-glyphs.ensures.stops in
+    rw (p.1, p.2) (shapes_stop z.face (job_by z c.args.text.now c.args.margin) l c.in_err-glyphs.field-0.0
+    c.in_ok-laid.ensures.exact (rw (← shapes_textless z c.args.text.now c.args.margin l) at stops))
+
+pub returns-in_err-glyphs-clause-defects : goal.returns-in_err-glyphs-clause-defects
+returns-in_err-glyphs-clause-defects c =
+    let p = err_from_is_err_and c.from_residual-in_err-glyphs.result c.from_residual-in_err-glyphs.ensures.1 in
+    rw (p.1, p.2, ← c.in_ok-laid.ensures.glyphs) (rw c.in_ok-laid.ensures.margin at c.in_err-glyphs.ensures.defects)
+
+pub returns-in_err-glyphs-clause-job : goal.returns-in_err-glyphs-clause-job
+returns-in_err-glyphs-clause-job c =
+    let p = err_from_is_err_and c.from_residual-in_err-glyphs.result c.from_residual-in_err-glyphs.ensures.1 in
+    rw (p.1, p.2) (no_job_told _ c.in_err-glyphs.field-0.0 c.in_err-glyphs.ensures.job)
+
+pub returns-clause-made : goal.returns-clause-made
+returns-clause-made c =
+    let z = c.args.self.now in
+    let l = placement_of c.in_ok-laid.laid.line in
+    let made = rw c.in_ok-laid.ensures.margin at c.in_ok-glyphs.ensures.made in
+    let cost = rw c.in_ok-laid.ensures.margin at c.in_ok-glyphs.ensures.cost in
+    record {
+      laid = c.in_ok-laid.ensures.exact;
+      glyphs = c.in_ok-laid.ensures.glyphs;
+      made = made_textless z c.args.text.now c.args.margin l made;
+      seated = c.in_ok-glyphs.ensures.valid;
+      cost = cost_textless z c.args.text.now c.args.margin l ∙ cost;
+    }
+
+pub returns-clause-defects : goal.returns-clause-defects
+returns-clause-defects c =
+    rw (← c.in_ok-laid.ensures.glyphs) (rw c.in_ok-laid.ensures.margin at c.in_ok-glyphs.ensures.defects)

@@ -1,0 +1,300 @@
+use Rattle.std.proofs.Common.{◌≡◌, ◌∙◌, ◌<◌, ℕ, List, ap, length, map, refl, sym, Ok}
+use Rattle.std.proofs.lemmas.Result.{err_from_is_err_and}
+use Rattle.tt_face.specs.Faces.{Face}
+use Rattle.tt_fit.specs.Fitting.{Fitter}
+use Rattle.tt_fit.specs.declared.programs.Fit.{Fit}
+use Rattle.tt_line.specs.Layout.{text_glyphs}
+use Rattle.tt_line.specs.Outcome.{placement_of}
+use Rattle.tt_metrics.specs.Metrics.{glyphs_of}
+use Rattle.tt_picture.specs.Distinct.{distinct}
+use Rattle.tt_picture.specs.Fitted.{outlines_of}
+use Rattle.tt_picture.specs.Shapes.{crossings_in}
+use Rattle.tt_picture.proofs.Among.{of_same_glyphs}
+use Rattle.tt_strike.specs.Costs.{cost_of}
+use Rattle.tt_strike.specs.Defects.{IsLineDefect}
+use Rattle.tt_strike.specs.Job.{Job, tested}
+use Rattle.tt_strike.specs.Picture.{edges_tested, shapes_in}
+use Rattle.tt_strike.specs.Strikes.{SizedFace, job_by}
+use Rattle.tt_strike.specs.Work.{line_fitter, work_left}
+use Rattle.tt_strike.proofs.Costed.{costed}
+use Rattle.tt_strike.proofs.Placed.{of-job}
+use Rattle.tt_strike.proofs.Stopped.{drawing_refuses_no_job, font_tells, tested_at}
+use Rattle.tt_strike.proofs.Stepped.{IsOutlinedLine, extent_by_steps_tells, extent_stops_text, line_edges, line_laid, line_made, line_points, line_stops_text, line_tells_no_defect, line_tells_refusal, outlines_pass, outlines_stop_text, outlines_tell_defect, outlines_tell_refusal, setting_stops_text}
+use Rattle.tt_strike.proofs.Telling.{no_line_defect, setting_tells}
+use Rattle.tt_strike.proofs.sized.SizedFace.make_by_steps.Goals.{After-work-left, In_ok-test_text}
+use Rattle.tt_strike.proofs.sized.SizedFace.make_by_steps.Goals as goal
+
+-- the job of a text at this place
+abbrev job_here : Face → ℕ → Fit → List ℕ → ℕ → Job
+job_here face ppem how text margin = job_by (record { face = face; ppem = ppem; fit = how }) text margin
+
+-- the text and its margin are tested
+passed : (c : In_ok-test_text) → tested (job_here c.self.inside.source.face.now c.self.inside.source.ppem c.self.inside.source.fit
+    c.args.text.now c.args.margin) ≡ Ok tt
+passed c =
+    let z : SizedFace = record { face = c.self.inside.source.face.now; ppem = c.self.inside.source.ppem; fit = c.self.inside.source.fit } in
+    tested_at z c.args.text.now c.args.margin c.self.inside.source.low c.self.inside.source.high
+    ∙ rw (c.in_ok-test_margin.ensures.exact, c.in_ok-test_text.ensures.exact) refl
+
+pub returns-in_err-test_margin-clause-stops : goal.returns-in_err-test_margin-clause-stops
+returns-in_err-test_margin-clause-stops c =
+    let z : SizedFace = record { face = c.self.inside.source.face.now; ppem = c.self.inside.source.ppem; fit = c.self.inside.source.fit } in
+    let p = err_from_is_err_and c.from_residual.result c.from_residual.ensures.1 in
+    let at = tested_at z c.args.text.now c.args.margin c.self.inside.source.low c.self.inside.source.high in
+    rw (p.1, p.2, ← c.self.view_is, at, c.in_err-test_margin.ensures.exact) refl
+
+pub returns-in_err-test_margin-clause-defects : goal.returns-in_err-test_margin-clause-defects
+returns-in_err-test_margin-clause-defects c =
+    let p = err_from_is_err_and c.from_residual.result c.from_residual.ensures.1 in
+    rw (p.1, p.2) tt
+
+pub returns-in_err-test_margin-clause-job : goal.returns-in_err-test_margin-clause-job
+returns-in_err-test_margin-clause-job c =
+    let p = err_from_is_err_and c.from_residual.result c.from_residual.ensures.1 in
+    let refused = c.in_err-test_margin.ensures.refused in
+    rw (p.1, p.2, refused.0) refused.1
+
+pub returns-in_err-test_text-clause-stops : goal.returns-in_err-test_text-clause-stops
+returns-in_err-test_text-clause-stops c =
+    let z : SizedFace = record { face = c.self.inside.source.face.now; ppem = c.self.inside.source.ppem; fit = c.self.inside.source.fit } in
+    let p = err_from_is_err_and c.from_residual-in_err-test_text.result c.from_residual-in_err-test_text.ensures.1 in
+    let at = tested_at z c.args.text.now c.args.margin c.self.inside.source.low c.self.inside.source.high in
+    rw (p.1, p.2, ← c.self.view_is, at, c.in_ok-test_margin.ensures.exact, c.in_err-test_text.ensures.exact) refl
+
+pub returns-in_err-test_text-clause-defects : goal.returns-in_err-test_text-clause-defects
+returns-in_err-test_text-clause-defects c =
+    let p = err_from_is_err_and c.from_residual-in_err-test_text.result c.from_residual-in_err-test_text.ensures.1 in
+    rw (p.1, p.2) tt
+
+pub returns-in_err-test_text-clause-job : goal.returns-in_err-test_text-clause-job
+returns-in_err-test_text-clause-job c =
+    let p = err_from_is_err_and c.from_residual-in_err-test_text.result c.from_residual-in_err-test_text.ensures.1 in
+    let refused = c.in_err-test_text.ensures.refused in
+    rw (p.1, p.2, refused.0) refused.1
+
+pub returns-in_err-fitter-clause-stops : goal.returns-in_err-fitter-clause-stops
+returns-in_err-fitter-clause-stops c =
+    let z : SizedFace = record { face = c.self.inside.source.face.now; ppem = c.self.inside.source.ppem; fit = c.self.inside.source.fit } in
+    let a = job_by z c.args.text.now c.args.margin in
+    let bounded = rw (← c.self.view_is) at c.requires.bounded in
+    let p = err_from_is_err_and c.from_residual-in_err-fitter.result c.from_residual-in_err-fitter.ensures.1 in
+    rw (p.1, p.2, ← c.self.view_is) (setting_stops_text z.face a c.in_err-fitter.field-0.0
+    (passed (goal.at.returns-in_err-fitter-clause-stops c).In_ok-test_text) bounded c.in_err-fitter.ensures.exact)
+
+pub returns-in_err-fitter-clause-defects : goal.returns-in_err-fitter-clause-defects
+returns-in_err-fitter-clause-defects c =
+    let z : SizedFace = record { face = c.self.inside.source.face.now; ppem = c.self.inside.source.ppem; fit = c.self.inside.source.fit } in
+    let face = z.face in
+    let a = job_by z c.args.text.now c.args.margin in
+    let gs = text_glyphs face.cmap c.args.text.now in
+    let p = err_from_is_err_and c.from_residual-in_err-fitter.result c.from_residual-in_err-fitter.ensures.1 in
+    rw (p.1, p.2, ← c.self.view_is) (font_tells (IsLineDefect face a gs) c.in_err-fitter.field-0.0
+    (setting_tells face a gs c.in_err-fitter.field-0.0 c.in_err-fitter.ensures.defects))
+
+pub returns-in_err-fitter-clause-job : goal.returns-in_err-fitter-clause-job
+returns-in_err-fitter-clause-job c =
+    let p = err_from_is_err_and c.from_residual-in_err-fitter.result c.from_residual-in_err-fitter.ensures.1 in
+    rw (p.1, p.2) (drawing_refuses_no_job _ c.in_err-fitter.field-0.0)
+
+pub returns-in_err-outlined-clause-stops : goal.returns-in_err-outlined-clause-stops
+returns-in_err-outlined-clause-stops c =
+    let z : SizedFace = record { face = c.self.inside.source.face.now; ppem = c.self.inside.source.ppem; fit = c.self.inside.source.fit } in
+    let a = job_by z c.args.text.now c.args.margin in
+    let bounded = rw (← c.self.view_is) at c.requires.bounded in
+    let p = err_from_is_err_and c.from_residual-in_err-outlined.result c.from_residual-in_err-outlined.ensures.1 in
+    rw (p.1, p.2, ← c.self.view_is) (outlines_stop_text z.face a c.in_ok-fitter.fitter c.in_err-outlined.field-0.0
+    (passed (goal.at.returns-in_err-outlined-clause-stops c).In_ok-test_text) bounded c.in_ok-fitter.ensures.exact
+    c.in_err-outlined.ensures.stops)
+
+pub returns-in_err-outlined-clause-defects : goal.returns-in_err-outlined-clause-defects
+returns-in_err-outlined-clause-defects c =
+    let z : SizedFace = record { face = c.self.inside.source.face.now; ppem = c.self.inside.source.ppem; fit = c.self.inside.source.fit } in
+    let a = job_by z c.args.text.now c.args.margin in
+    let p = err_from_is_err_and c.from_residual-in_err-outlined.result c.from_residual-in_err-outlined.ensures.1 in
+    rw (p.1, p.2, ← c.self.view_is) (outlines_tell_defect z.face a c.in_ok-fitter.fitter
+    (text_glyphs z.face.cmap c.args.text.now) c.in_err-outlined.field-0.0 c.in_ok-fitter.ensures.exact
+    c.in_err-outlined.ensures.stops)
+
+pub returns-in_err-outlined-clause-job : goal.returns-in_err-outlined-clause-job
+returns-in_err-outlined-clause-job c =
+    let z : SizedFace = record { face = c.self.inside.source.face.now; ppem = c.self.inside.source.ppem; fit = c.self.inside.source.fit } in
+    let a = job_by z c.args.text.now c.args.margin in
+    let p = err_from_is_err_and c.from_residual-in_err-outlined.result c.from_residual-in_err-outlined.ensures.1 in
+    rw (p.1, p.2, ← c.self.view_is) (outlines_tell_refusal z.face a c.in_ok-fitter.fitter c.in_err-outlined.field-0.0
+    c.in_ok-fitter.ensures.exact c.in_err-outlined.ensures.stops)
+
+pub returns-in_err-line-clause-stops : goal.returns-in_err-line-clause-stops
+returns-in_err-line-clause-stops c =
+    let z : SizedFace = record { face = c.self.inside.source.face.now; ppem = c.self.inside.source.ppem; fit = c.self.inside.source.fit } in
+    let a = job_by z c.args.text.now c.args.margin in
+    let gs = text_glyphs z.face.cmap c.args.text.now in
+    let s = c.in_ok-fitter.fitter in
+    let o = c.in_ok-outlined.ensures.outlined in
+    let os = outlines_of c.in_ok-outlined.outlined.fitted.items in
+    let bounded = rw (← c.self.view_is) at c.requires.bounded in
+    let refused = rw (c.metrics.ensures, o.glyphs, o.steps) at c.in_err-line.ensures.exact in
+    let p = err_from_is_err_and c.from_residual-in_err-line.result c.from_residual-in_err-line.ensures.1 in
+    rw (p.1, p.2, ← c.self.view_is) (extent_stops_text z.face a s os c.in_err-line.field-0.0
+    (passed (goal.at.returns-in_err-line-clause-stops c).In_ok-test_text) bounded c.in_ok-fitter.ensures.exact
+    (outlines_pass s a gs os c.in_ok-outlined.ensures.points o.made) refused)
+
+pub returns-in_err-line-clause-defects : goal.returns-in_err-line-clause-defects
+returns-in_err-line-clause-defects c =
+    let p = err_from_is_err_and c.from_residual-in_err-line.result c.from_residual-in_err-line.ensures.1 in
+    rw (p.1, p.2) tt
+
+pub returns-in_err-line-clause-job : goal.returns-in_err-line-clause-job
+returns-in_err-line-clause-job c =
+    let z : SizedFace = record { face = c.self.inside.source.face.now; ppem = c.self.inside.source.ppem; fit = c.self.inside.source.fit } in
+    let a = job_by z c.args.text.now c.args.margin in
+    let s = c.in_ok-fitter.fitter in
+    let o = c.in_ok-outlined.ensures.outlined in
+    let bounded = rw (← c.self.view_is) at c.requires.bounded in
+    let refused = rw (c.metrics.ensures, o.steps) at c.in_err-line.ensures.fault in
+    let p = err_from_is_err_and c.from_residual-in_err-line.result c.from_residual-in_err-line.ensures.1 in
+    rw (p.1, p.2, ← c.self.view_is) (extent_by_steps_tells z.face a s (outlines_of c.in_ok-outlined.outlined.fitted.items)
+    c.in_err-line.field-0.0 bounded c.in_ok-fitter.ensures.exact o.made refused)
+
+-- the line by the outlines of its glyphs
+outlined_then : (c : After-work-left) → IsOutlinedLine c.self.inside.source.face.now (job_here c.self.inside.source.face.now c.self.inside.source.ppem c.self.inside.source.fit c.args.text.now c.args.margin) c.in_ok-fitter.fitter
+    (placement_of c.in_ok-line.line) c.in_ok-outlined.outlined.fitted.items c.work-left.result
+outlined_then c =
+    let o = c.in_ok-outlined.ensures.outlined in
+    record {
+      passes = passed c.In_ok-test_text;
+      bounded = rw (← c.self.view_is) at c.requires.bounded;
+      there = c.in_ok-fitter.ensures.exact;
+      points = c.in_ok-outlined.ensures.points;
+      outlines = o.made;
+      fitted = o.fitted;
+      numbers = o.numbers;
+      glyphs = c.in_ok-line.ensures.glyphs ∙ o.glyphs;
+      laid = rw (c.metrics.ensures, o.glyphs, o.steps) at c.in_ok-line.ensures.exact;
+      work = c.work-left.ensures ∙ ap (λ (f : Fitter). f.work) c.in_ok-outlined.ensures.after;
+    }
+
+pub returns-in_err-glyphs-clause-stops : goal.returns-in_err-glyphs-clause-stops
+returns-in_err-glyphs-clause-stops c =
+    let z : SizedFace = record { face = c.self.inside.source.face.now; ppem = c.self.inside.source.ppem; fit = c.self.inside.source.fit } in
+    let a = job_by z c.args.text.now c.args.margin in
+    let s = c.in_ok-fitter.fitter in
+    let l = placement_of c.in_ok-line.line in
+    let fs = c.in_ok-outlined.outlined.fitted.items in
+    let is = outlined_then (goal.at.returns-in_err-glyphs-clause-stops c).After-work-left in
+    let shapes = line_made z.face a s l fs is in
+    let fails = rw (line_edges z.face a s l fs shapes.0 is) at
+    (c.in_err-glyphs.ensures.exact (line_fitter s (text_glyphs z.face.cmap c.args.text.now)) shapes.0 is.fitted shapes.1) in
+    let p = err_from_is_err_and c.from_residual-in_err-glyphs.result c.from_residual-in_err-glyphs.ensures.1 in
+    rw (p.1, p.2, ← c.self.view_is) (line_stops_text z.face a s l fs shapes.0 c.in_err-glyphs.field-0.0 is
+    (rw is.glyphs shapes.1) fails)
+
+pub returns-in_err-glyphs-clause-defects : goal.returns-in_err-glyphs-clause-defects
+returns-in_err-glyphs-clause-defects c =
+    let z : SizedFace = record { face = c.self.inside.source.face.now; ppem = c.self.inside.source.ppem; fit = c.self.inside.source.fit } in
+    let a = job_by z c.args.text.now c.args.margin in
+    let s = c.in_ok-fitter.fitter in
+    let l = placement_of c.in_ok-line.line in
+    let fs = c.in_ok-outlined.outlined.fitted.items in
+    let is = outlined_then (goal.at.returns-in_err-glyphs-clause-defects c).After-work-left in
+    let shapes = line_made z.face a s l fs is in
+    let fails = c.in_err-glyphs.ensures.exact (line_fitter s (text_glyphs z.face.cmap c.args.text.now)) shapes.0 is.fitted shapes.1 in
+    let p = err_from_is_err_and c.from_residual-in_err-glyphs.result c.from_residual-in_err-glyphs.ensures.1 in
+    rw (p.1, p.2) (line_tells_no_defect _ _ c.in_err-glyphs.field-0.0 fails)
+
+pub returns-in_err-glyphs-clause-job : goal.returns-in_err-glyphs-clause-job
+returns-in_err-glyphs-clause-job c =
+    let z : SizedFace = record { face = c.self.inside.source.face.now; ppem = c.self.inside.source.ppem; fit = c.self.inside.source.fit } in
+    let a = job_by z c.args.text.now c.args.margin in
+    let s = c.in_ok-fitter.fitter in
+    let l = placement_of c.in_ok-line.line in
+    let fs = c.in_ok-outlined.outlined.fitted.items in
+    let is = outlined_then (goal.at.returns-in_err-glyphs-clause-job c).After-work-left in
+    let shapes = line_made z.face a s l fs is in
+    let fails = rw (line_edges z.face a s l fs shapes.0 is) at
+    (c.in_err-glyphs.ensures.exact (line_fitter s (text_glyphs z.face.cmap c.args.text.now)) shapes.0 is.fitted shapes.1) in
+    let p = err_from_is_err_and c.from_residual-in_err-glyphs.result c.from_residual-in_err-glyphs.ensures.1 in
+    rw (p.1, p.2, ← c.self.view_is) (line_tells_refusal z.face a s l fs shapes.0 c.in_err-glyphs.field-0.0 is
+    (rw is.glyphs shapes.1) fails)
+
+pub returns-clause-made : goal.returns-clause-made
+returns-clause-made c =
+    let z : SizedFace = record { face = c.self.inside.source.face.now; ppem = c.self.inside.source.ppem; fit = c.self.inside.source.fit } in
+    let a = job_by z c.args.text.now c.args.margin in
+    let s = c.in_ok-fitter.fitter in
+    let gs = text_glyphs z.face.cmap c.args.text.now in
+    let maker = line_fitter s gs in
+    let l = placement_of c.in_ok-line.line in
+    let fs = c.in_ok-outlined.outlined.fitted.items in
+    let o = c.in_ok-outlined.ensures.outlined in
+    let is = outlined_then (goal.at.returns-clause-made c).After-work-left in
+    let shapes = line_made z.face a s l fs is in
+    let fitted : shapes_in s l ≡ Ok shapes.0 = rw is.glyphs shapes.1 in
+    let few = line_points z.face a s l fs is in
+    let passes = c.in_ok-glyphs.ensures.exact maker shapes.0 is.fitted shapes.1 in
+    let seldom : edges_tested s a l shapes.0 ≡ Ok tt = of-job (edges_tested s a l shapes.0) tt
+    (rw (line_edges z.face a s l fs shapes.0 is) at passes) in
+    let of = c.in_ok-glyphs.ensures.line maker is.fitted in
+    let room : length c.in_ok-outlined.outlined.places.items ≡ glyphs_of z.face.metrics = o.room ∙ c.in_ok-fitter.ensures.setting.glyphs in
+    let cost : c.in_ok-glyphs.glyphs.cost ≡ cost_of (work_left s (map (λ g. g.0) l.glyphs)) (crossings_in shapes.0) =
+    c.in_ok-glyphs.ensures.cost maker shapes.0 is.fitted shapes.1 ∙ rw (is.glyphs, is.work) refl in
+    rw (← c.self.view_is) (record {
+      laid = line_laid z.face a s l fs is;
+      glyphs = is.glyphs;
+      made = record {
+        setting = s;
+        shapes = shapes.0;
+        opened = is.there;
+        few = few;
+        fitted = fitted;
+        seldom = seldom;
+        drawn = rw is.glyphs of.drawn;
+        numbers = of.numbers;
+        within = of.pens;
+        stand = rw shapes.1 at of.stand;
+      };
+      seated = rw room at c.in_ok-glyphs.ensures.valid;
+      cost = costed z.face a l s shapes.0 is.there few fitted seldom ∙ ap Ok (sym cost);
+    })
+
+pub returns-clause-defects : goal.returns-clause-defects
+returns-clause-defects c =
+    let z : SizedFace = record { face = c.self.inside.source.face.now; ppem = c.self.inside.source.ppem; fit = c.self.inside.source.fit } in
+    let a = job_by z c.args.text.now c.args.margin in
+    let s = c.in_ok-fitter.fitter in
+    let l = placement_of c.in_ok-line.line in
+    let fs = c.in_ok-outlined.outlined.fitted.items in
+    let is = outlined_then (goal.at.returns-clause-defects c).After-work-left in
+    let shapes = line_made z.face a s l fs is in
+    rw (← c.self.view_is, ← is.glyphs) (no_line_defect z.face a s l.glyphs shapes.0 is.there c.in_ok-fitter.ensures.defects
+    (rw is.glyphs shapes.1))
+
+pub outlined-requires-clause-bounded : goal.outlined-requires-clause-bounded
+outlined-requires-clause-bounded c = rw (← c.self.view_is) at c.requires.bounded
+
+pub outlined-requires-clause-glyphs : goal.outlined-requires-clause-glyphs
+outlined-requires-clause-glyphs c = c.in_ok-fitter.ensures.setting.glyphs
+
+pub tested_edges-requires-clause-bounded : goal.tested_edges-requires-clause-bounded
+tested_edges-requires-clause-bounded c = rw (← c.self.view_is) at c.requires.bounded
+
+pub tested_edges-requires-clause-made : goal.tested_edges-requires-clause-made
+tested_edges-requires-clause-made c = (
+  line_fitter c.in_ok-fitter.fitter (text_glyphs c.self.inside.source.face.now.cmap c.args.text.now),
+  c.in_ok-outlined.ensures.outlined.fitted,
+)
+
+pub tested_edges-requires-clause-places : goal.tested_edges-requires-clause-places
+tested_edges-requires-clause-places c = c.in_ok-outlined.ensures.outlined.places
+
+pub tested_edges-requires-clause-numbers : goal.tested_edges-requires-clause-numbers
+tested_edges-requires-clause-numbers c =
+    let o = c.in_ok-outlined.ensures.outlined in
+    o.numbers ∙ ap distinct (sym (c.in_ok-line.ensures.glyphs ∙ o.glyphs))
+
+pub tested_edges-requires-clause-known : goal.tested_edges-requires-clause-known
+tested_edges-requires-clause-known c =
+    let o = c.in_ok-outlined.ensures.outlined in
+    let room : length c.in_ok-outlined.outlined.places.items ≡ glyphs_of c.self.inside.source.face.now.metrics =
+    o.room ∙ c.in_ok-fitter.ensures.setting.glyphs in
+    rw room (of_same_glyphs (λ n. n < glyphs_of c.self.inside.source.face.now.metrics) c.in_ok-outlined.outlined.steps.items
+    c.in_ok-line.line.glyphs.items c.in_ok-line.ensures.glyphs c.in_ok-outlined.ensures.known)

@@ -1,0 +1,151 @@
+//! Lays out the line of a text, and makes and tests its glyphs.
+
+ghost use Rattle.std.specs.Prelude.{◌≡◌, ℕ, ◌<◌, length, map, true, false, All, List, Ok, Err, IfOk};
+ghost use Rattle.tt_core.specs.Outcomes.{GivesUnless, IfTold, draw_font_fault, draw_job_fault, each};
+ghost use Rattle.tt_fit.specs.Fitting.{Fitter};
+ghost use Rattle.tt_line.specs.Layout.{text_glyphs};
+ghost use Rattle.tt_line.specs.Outcome.{placement_of};
+ghost use Rattle.tt_picture.specs.Cached.{is_there, limit_of};
+ghost use Rattle.tt_picture.specs.Distinct.{distinct};
+ghost use Rattle.tt_picture.specs.Fitted.{AreFitted, fitted_chords, fitted_numbers};
+ghost use Rattle.tt_picture.specs.Glyphs.{AreOfLine, ArePlaces, AreSeated};
+ghost use Rattle.tt_picture.specs.Pixels.{Shape};
+ghost use Rattle.tt_picture.specs.Shapes.{crossings_in, glyph_shape};
+ghost use Rattle.tt_strike.specs.Costs.{cost_of};
+ghost use Rattle.tt_strike.specs.Defects.{IsLineDefect, IsLineRefusal, TellsDefects};
+ghost use Rattle.tt_strike.specs.Made.{IsMadeLine, text_shapes};
+ghost use Rattle.tt_strike.specs.Picture.{frame_of};
+ghost use Rattle.tt_strike.specs.Refusals.{as_job, refusal};
+ghost use Rattle.tt_strike.specs.Strikes.{IsCacheOf, job_by};
+ghost use Rattle.tt_strike.specs.Work.{edges_limited, is_bounded};
+
+use crate::job::{test_margin, test_text};
+use crate::laid::Laid;
+use crate::sized::SizedFace;
+use crate::stepping::OutlinedText;
+use crate::work::{CHORD_LIMIT, cost_of, crossings_allowed, is_bounded, test_crossings};
+use std::alloc::Global;
+use tt_core::{DrawFault, JobFault};
+use tt_fit::Fit;
+use tt_line::lay_steps;
+use tt_picture::{Cache, FittedGlyph, Glyphs};
+
+/// A line that is laid out, and its glyphs, which are made and tested.
+#[derive(Drop)]
+pub(crate) struct MadeLine {
+    pub(crate) laid: Laid,
+    pub(crate) glyphs: Glyphs,
+}
+
+/// The glyphs of a line by their outlines and the table of their places, where work is bounded. Errors: WorkLarge of
+/// their chords, and then of their crossings by the work that is left; Memory.
+fn tested_edges(
+    alloc: Global,
+    fit: Fit,
+    places: Vec<u16>,
+    fitted: Vec<FittedGlyph>,
+    laid: &Laid,
+    left: Option<u64>,
+) -> Result<Glyphs, DrawFault>
+    requires bounded { is_bounded fit ≡ true }
+    requires made { (maker : ℕ → Fitter) × AreFitted maker fitted.items }
+    requires places { ArePlaces places.items (fitted_numbers fitted.items) }
+    requires known { All (λ g. g.0 < length places.items) laid.now.line.glyphs.items }
+    requires numbers { fitted_numbers fitted.items ≡ distinct (map (λ g. g.0) laid.now.line.glyphs.items) }
+    ensures valid { IfOk result (λ g. AreSeated (length places.items) g.places.items g.made.items) }
+    ensures line { IfOk result (λ g. (maker : ℕ → Fitter) → AreFitted maker fitted.items → AreOfLine false maker (frame_of (placement_of laid.now.line) laid.now.margin) laid.now.line.glyphs.items g.made.items) }
+    ensures exact { (maker : ℕ → Fitter) (shapes : List Shape) → AreFitted maker fitted.items → each (glyph_shape maker) laid.now.line.glyphs.items ≡ Ok shapes
+        → GivesUnless refusal (λ g. tt) result (as_job (edges_limited fit left (fitted_chords fitted.items) (crossings_in shapes))) }
+    ensures cost { (maker : ℕ → Fitter) (shapes : List Shape) → AreFitted maker fitted.items → each (glyph_shape maker) laid.now.line.glyphs.items ≡ Ok shapes
+        → IfOk result (λ g. g.cost ≡ cost_of left (crossings_in shapes)) }
+{
+    let frame = laid.frame();
+    let line = &laid.line.glyphs;
+    let Some(mut glyphs) = Glyphs::of_fitted(alloc, places, fitted, frame, line, CHORD_LIMIT)?
+    else {
+        return Err(DrawFault::Job(JobFault::WorkLarge));
+    };
+    let crossings = test_crossings(fit, crossings_allowed(left), &glyphs.made)?;
+    glyphs.cost = cost_of(left, crossings);
+    Ok(glyphs)
+}
+
+impl<'f, 'a> SizedFace<'f, 'a> {
+    /// The line of a text laid out by the steps of its glyphs, which are made first; only where work is bounded. Errors,
+    /// the first of: MarginRange, TextLong; those of loca and glyf, of the programs; WorkLarge of the points; those of
+    /// the glyphs in the order of the text; EmptyPicture, PictureLarge; WorkLarge of the chords, and of the crossings.
+    /// Memory may come at any allocation.
+    fn make_by_steps(&mut self, text: &str, margin: u32) -> Result<MadeLine, DrawFault>
+        requires bounded { is_bounded self.old.fit ≡ true }
+        ensures made { IfOk result (λ m. IsMadeLine false self.old.face (job_by self.old text.now margin) (placement_of m.laid.line) m.glyphs.places.items m.glyphs.made.items m.glyphs.cost) }
+        ensures margin { IfOk result (λ m. m.laid.margin ≡ margin) }
+        ensures stops { IfTold refusal result (λ r. text_shapes self.old.face (job_by self.old text.now margin) ≡ Err r) }
+        ensures defects { TellsDefects draw_font_fault (IsLineDefect self.old.face (job_by self.old text.now margin) (text_glyphs self.old.face.cmap text.now)) result }
+        ensures job { IfTold draw_job_fault result (IsLineRefusal self.old.face (job_by self.old text.now margin)) }
+        ensures same { self.new ≡ self.old }
+    {
+        test_margin(margin)?;
+        test_text(text)?;
+        let source = self.source;
+        let mut fitter = self.maker.take(&source)?;
+        let outlined = source.outlined(&mut fitter, text)?;
+        let OutlinedText {
+            steps,
+            places,
+            fitted,
+        } = outlined;
+        let line = lay_steps(source.face.metrics(), steps, source.ppem, margin)?;
+        let laid = Laid { line, margin };
+        let left = fitter.work();
+        let glyphs = tested_edges(source.alloc, source.fit, places, fitted, &laid, left)?;
+        Ok(MadeLine { laid, glyphs })
+    }
+
+    /// The line of a text laid out by advances, and then its glyphs; only where work is not bounded. Errors, the first
+    /// of: MarginRange, TextLong; EmptyPicture, PictureLarge; those of `tested_glyphs`. Memory may come at any
+    /// allocation.
+    fn make_by_advances(
+        &mut self,
+        text: &str,
+        margin: u32,
+        cache: &mut Cache,
+    ) -> Result<MadeLine, DrawFault>
+        requires cache { IsCacheOf self.old cache.old }
+        requires unbounded { is_bounded self.old.fit ≡ false }
+        ensures made { IfOk result (λ m. IsMadeLine (is_there cache.old) self.old.face (job_by self.old text.now margin) (placement_of m.laid.line) m.glyphs.places.items m.glyphs.made.items m.glyphs.cost) }
+        ensures margin { IfOk result (λ m. m.laid.margin ≡ margin) }
+        ensures stops { IfTold refusal result (λ r. text_shapes self.old.face (job_by self.old text.now margin) ≡ Err r) }
+        ensures defects { TellsDefects draw_font_fault (IsLineDefect self.old.face (job_by self.old text.now margin) (text_glyphs self.old.face.cmap text.now)) result }
+        ensures job { IfTold draw_job_fault result (IsLineRefusal self.old.face (job_by self.old text.now margin)) }
+        ensures same { self.new ≡ self.old }
+        ensures cache { IsCacheOf self.old cache.new }
+        ensures limit { limit_of cache.new ≡ limit_of cache.old }
+    {
+        let laid = self.lay_out(text, margin)?;
+        let glyphs = self.tested_glyphs(&laid, cache)?;
+        Ok(MadeLine { laid, glyphs })
+    }
+
+    /// The line of a text, with its glyphs. Errors: those of its fit.
+    pub(crate) fn make_line(
+        &mut self,
+        text: &str,
+        margin: u32,
+        cache: &mut Cache,
+    ) -> Result<MadeLine, DrawFault>
+        requires cache { IsCacheOf self.old cache.old }
+        ensures made { IfOk result (λ m. IsMadeLine (is_there cache.old) self.old.face (job_by self.old text.now margin) (placement_of m.laid.line) m.glyphs.places.items m.glyphs.made.items m.glyphs.cost) }
+        ensures margin { IfOk result (λ m. m.laid.margin ≡ margin) }
+        ensures stops { IfTold refusal result (λ r. text_shapes self.old.face (job_by self.old text.now margin) ≡ Err r) }
+        ensures defects { TellsDefects draw_font_fault (IsLineDefect self.old.face (job_by self.old text.now margin) (text_glyphs self.old.face.cmap text.now)) result }
+        ensures job { IfTold draw_job_fault result (IsLineRefusal self.old.face (job_by self.old text.now margin)) }
+        ensures same { self.new ≡ self.old }
+        ensures cache { IsCacheOf self.old cache.new }
+        ensures limit { limit_of cache.new ≡ limit_of cache.old }
+    {
+        if is_bounded(self.fit()) {
+            return self.make_by_steps(text, margin);
+        }
+        self.make_by_advances(text, margin, cache)
+    }
+}

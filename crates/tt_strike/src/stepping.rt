@@ -1,0 +1,65 @@
+//! Makes the outlines of a text's glyphs, by whose steps the text is laid out.
+
+ghost use Rattle.std.specs.Prelude.{◌≡◌, ◌<◌, ◌≤◌, true, length, chars, All, Ok, Err, IfOk};
+ghost use Rattle.tt_core.specs.Limits.{point_work_limit, text_limit};
+ghost use Rattle.tt_core.specs.Outcomes.{IfTold};
+ghost use Rattle.tt_line.specs.Layout.{text_glyphs};
+ghost use Rattle.tt_metrics.specs.Metrics.{glyphs_of};
+ghost use Rattle.tt_picture.specs.Distinct.{distinct, fitter_after};
+ghost use Rattle.tt_strike.specs.Made.{AreOutlined};
+ghost use Rattle.tt_strike.specs.Picture.{outlines_tested};
+ghost use Rattle.tt_strike.specs.Refusals.{refusal};
+ghost use Rattle.tt_strike.specs.Work.{is_bounded, points_in, started, work_tested};
+
+use crate::distinct::{DistinctGlyphs, distinct};
+use crate::source::FitterSource;
+use crate::work::charge_points;
+use tt_core::DrawFault;
+use tt_fit::Fitter;
+use tt_line::advance_steps;
+use tt_picture::{FittedGlyph, fit_glyphs, put_steps};
+
+/// A text whose glyphs have their outlines.
+#[derive(Drop)]
+pub(crate) struct OutlinedText {
+    /// The glyph of each character, with its step.
+    pub(crate) steps: Vec<(u16, u32)>,
+    /// For each glyph of the font 0, or one more than its place in `fitted`.
+    pub(crate) places: Vec<u16>,
+    /// The distinct glyphs, in order of first appearance.
+    pub(crate) fitted: Vec<FittedGlyph>,
+}
+
+impl<'f, 'a> FitterSource<'f, 'a> {
+    /// The outlines of a text's glyphs, where work is bounded. Errors, the first of: WorkLarge of their points; those of
+    /// the glyphs in the order of the text. Memory may come at any allocation.
+    pub(crate) fn outlined(
+        &self,
+        fitter: &mut Fitter,
+        text: &str,
+    ) -> Result<OutlinedText, DrawFault>
+        requires text { length (chars text.now) ≤ text_limit }
+        requires glyphs { fitter.old.tables.glyphs ≡ glyphs_of self.now.face.now.metrics }
+        requires bounded { is_bounded self.now.fit ≡ true }
+        ensures outlined { IfOk result (λ t. AreOutlined fitter.old (text_glyphs self.now.face.now.cmap text.now) t.steps.items t.places.items t.fitted.items) }
+        ensures points { IfOk result (λ t. work_tested self.now.fit point_work_limit (points_in fitter.old (text_glyphs self.now.face.now.cmap text.now)) ≡ Ok tt) }
+        ensures known { IfOk result (λ t. All (λ g. g.0 < glyphs_of self.now.face.now.metrics) t.steps.items) }
+        ensures few { IfOk result (λ t. length t.steps.items ≤ text_limit) }
+        ensures after { IfOk result (λ t. fitter.new ≡ fitter_after (started fitter.old (text_glyphs self.now.face.now.cmap text.now)) (distinct (text_glyphs self.now.face.now.cmap text.now))) }
+        ensures stops { IfTold refusal result (λ r. outlines_tested fitter.old self.now.fit (text_glyphs self.now.face.now.cmap text.now) ≡ Err r) }
+    {
+        let metrics = self.face.metrics();
+        let cmap = self.face.cmap();
+        let mut steps = advance_steps(self.alloc, metrics, cmap, text, self.ppem)?;
+        let met = distinct(self.alloc, metrics.glyphs(), &steps)?;
+        let DistinctGlyphs { places, numbers } = met;
+        charge_points(self.fit, fitter, &numbers)?;
+        let fitted = fit_glyphs(self.alloc, fitter, &numbers)?;
+        put_steps(&places, &fitted, &mut steps);
+        Ok(OutlinedText {
+            steps,
+            places,
+            fitted,
+        })
+    }
+}
