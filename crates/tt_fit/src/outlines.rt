@@ -35,7 +35,7 @@ impl<'a> Fitter<'a> {
         blank(self.alloc, self.glyf.start(g), phantom)
     }
 
-    /// The grid of a glyph and its components.
+    /// The grid of a glyph and its components. Apart (for the prover): its callers see the grid by its definition alone.
     fn glyph_grid(&self, hinting: &Hinting<'a>) -> Grid
         ensures { result ≡ glyph_grid (with_hinting self.now (hinting_view hinting.now)) }
     {

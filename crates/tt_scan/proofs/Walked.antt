@@ -11,7 +11,8 @@ use Rattle.tt_scan_edges.specs.declared.edge.Frame.{Frame}
 use Rattle.tt_scan_edges.specs.declared.entry.Entry.{Entry}
 use Rattle.tt_scan_edges.specs.declared.walk.Walk.{Walk}
 use Rattle.tt_scan_edges.specs.Crossing.{AreRows}
-use Rattle.tt_scan_edges.specs.Entries.{IsInOrder, edge_of}
+use Rattle.tt_scan_edges.specs.Entries.{edge_of}
+use Rattle.tt_scan_order.specs.Orders.{IsInOrder}
 use Rattle.tt_scan.specs.EdgeTable.{AreWalked, IsWalkAt, edges_of, if_on, is_long, meets_row}
 use Rattle.tt_scan_edges.specs.Left.{Left, HasLeft, IsLeftBy}
 use Rattle.tt_scan_edges.specs.Walks.{GoesBelow, IsWalk}

@@ -7,7 +7,8 @@ use Rattle.tt_scan.specs.declared.edge_table.EdgeTable.{EdgeTable}
 use Rattle.tt_scan_edges.specs.declared.entry.Entry.{Entry}
 use Rattle.tt_scan_edges.specs.declared.walk.Walk.{Walk}
 use Rattle.tt_scan_edges.specs.Crossing.{AreRows, has_row}
-use Rattle.tt_scan_edges.specs.Entries.{IsInOrder, edge_of}
+use Rattle.tt_scan_edges.specs.Entries.{edge_of}
+use Rattle.tt_scan_order.specs.Orders.{IsInOrder}
 use Rattle.tt_scan_edges.specs.Walks.{IsWalk}
 use Rattle.tt_scan_edges.specs.Winding.{row_y, is_between}
 

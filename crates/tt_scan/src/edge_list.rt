@@ -79,7 +79,8 @@ impl EdgeList {
         self.edges.len()
     }
 
-    /// Joins the edges from edge `start` on, where they meet no line. They are the edges of one contour.
+    /// Joins the edges from edge `start` on, where they meet no line. They are the edges of one contour. A method (for the
+    /// prover): it keeps the invariant, so no caller proves it.
     pub fn join_from(&mut self, start: usize)
         requires { start ≤ length self.old.edges }
         ensures { self.new.edges ≡ take start self.old.edges ++ joined (drop start self.old.edges) }

@@ -27,5 +27,5 @@ pub fn row_into(tape: &mut Tape, sweep: &mut Sweep, r: i64, row: &mut [u8])
     ensures room { sweep.new.room ≡ sweep.old.room }
 {
     sweep.cut(tape, r);
-    sweep.paint(0, tape.width(), row);
+    sweep.paint(0, tape.frame().width, row);
 }

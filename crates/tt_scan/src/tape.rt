@@ -1,7 +1,7 @@
 //! The edges of one glyph, in the frame of its picture. `CountedEdges` stores them, so that each crossing is counted.
 
 ghost use Rattle.std.specs.Prelude.{◌≡◌, ℤ, false, int_lt, if◌then◌else◌, ◌+◌, ◌*◌, ◌^◌, ◌<◌, ◌≤◌, ◌<ℤ◌, ◌≤ℤ◌, pos, List, length, [], ◌∷◌, ◌++◌, unsigned_abs, All, IfOk, OnOk, OnErr};
-ghost use Rattle.tt_core.specs.Limits.{width_limit, height_limit};
+ghost use Rattle.tt_core.specs.Limits.{height_limit};
 ghost use Rattle.tt_scan.specs.EdgeList.{AreEntered};
 ghost use Rattle.tt_scan.specs.EdgeTable.{HasRoom};
 ghost use Rattle.tt_scan_edges.specs.Counted.{edge_at};
@@ -189,14 +189,6 @@ impl Tape {
         ensures fits { FrameFits result }
     {
         self.frame
-    }
-
-    /// The picture's width in columns.
-    pub fn width(&self) -> u32
-        ensures exact { result ≡ self.now.frame.width }
-        ensures limit { result ≤ width_limit }
-    {
-        self.frame.width
     }
 
     /// The number of edges.

@@ -10,7 +10,6 @@ pub mod JoinedMoved
 pub mod Joins
 pub mod Orders
 pub mod Ranges
-pub mod RowOrder
 pub mod Sides
 pub mod Stretches
 pub mod Visits

@@ -10,7 +10,7 @@
 //! walk.rt        an edge from row to row, by sums alone
 //! counted.rt     the edges of a glyph; each crossing is counted
 //! pixel.rt       one pixel by all edges
-//! entry.rt       an edge by its number, with its rows; row_order.rt sorts entries by their first rows
+//! entry.rt       an edge by its number, with its rows
 //! left.rt        what crossings leave in a row: black spans, where edges touch centres (rule 2), and marks of turns
 //! mark.rt        a mark, and a span
 //! stretch.rt     the marks in order of their columns, and black spans where their sum isn't 0 (rule 1)
@@ -20,7 +20,7 @@
 //! bounds.rt      the least and the greatest black column
 //! ```
 //!
-//! tt_scan has all edges of a glyph together, and its rows.
+//! tt_scan_order sorts entries. tt_scan has all edges of a glyph together, and its rows.
 #![tactic(auto)]
 
 mod bounds;
@@ -37,7 +37,6 @@ mod pixel;
 mod quotient;
 mod rising;
 mod row_at;
-mod row_order;
 mod stretch;
 mod walk;
 
@@ -48,5 +47,4 @@ pub use entry::Entry;
 pub use left::RowLeft;
 pub use mark::Span;
 pub use row_at::RowAt;
-pub use row_order::sort_by_first_row;
 pub use walk::{Walk, add_walk, settle_walks};

@@ -9,7 +9,7 @@ ghost use Rattle.tt_core.specs.Limits.{height_limit};
 ghost use Rattle.tt_scan_edges.specs.Bounds.{AreBounds};
 ghost use Rattle.tt_scan_edges.specs.Crossing.{has_row, spans};
 ghost use Rattle.tt_scan.specs.EdgeList.{heights_of};
-ghost use Rattle.tt_scan_edges.specs.Winding.{FrameFits, column_x, is_black};
+ghost use Rattle.tt_scan_edges.specs.Winding.{FrameFits, is_black};
 ghost use Rattle.tt_scan_rows.specs.Raster.{IsRasterOf, line_y, lines_in, shows, shows_from, spans_at};
 ghost use Rattle.tt_scan_rows.specs.Rows.{row_at, spans_in};
 ghost use Rattle.tt_scan_rows.specs.Cut.{IfEdges, IfRaster, IsLarge};

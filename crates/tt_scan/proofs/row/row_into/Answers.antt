@@ -14,8 +14,8 @@ returns-clause-bits c = λ k.
     let width = c.args.tape.now.frame.width in
     let at : pos k -ℤ pos 0 ≡ pos k = omega (arith, ints) in
     let painted : bit c.paint.new.row k ≡ (bit c.args.row.now k || (nat_lt k width && covers c.cut.new.self.spans (pos k))) =
-    rw (at, c.width.ensures.exact, c.cut.ensures.tape) at (c.paint.ensures.bits k) in
-    let limit : width ≤ width_limit = rw (c.width.ensures.exact, c.cut.ensures.tape) at c.width.ensures.limit in
+    rw (at, c.frame.ensures.exact, c.cut.ensures.tape) at (c.paint.ensures.bits k) in
+    let limit : width ≤ width_limit = rw (c.frame.ensures.exact, c.cut.ensures.tape) at c.frame.ensures.fits.width_high in
     let black = simp to_z-of_z at (c.cut.ensures.black (pos k)) in
     painted ∙ ap (λ (b : Bool). bit c.args.row.now k || b) (within_width k width _ (is_black c.args.tape.now.edges (centre_x c.args.tape.now k) (centre_y c.args.tape.now c.args.r)) (λ inside. black (omega (arith, ints, limit))))
 

@@ -1,6 +1,6 @@
 use Rattle.std.proofs.Common.{◌≡◌, refl, pos, get_or, take, SFits, w64, to_z, ◌+ℤ◌, rules, arith}
 use Rattle.std.proofs.lemmas.Int.{ints, to_z-of_z}
-use Rattle.tt_scan_edges.specs.Winding.{EdgeFits, turned}
+use Rattle.tt_scan_edges.specs.Winding.{turned}
 use Rattle.tt_scan_edges.specs.Winding as is
 use Rattle.tt_scan_edges.specs.declared.edge.Edge.{Edge}
 use Rattle.tt_scan_gaps.proofs.Points.{winding_more}
