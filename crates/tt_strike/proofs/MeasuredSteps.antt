@@ -1,19 +1,20 @@
 -- The steps that a measure tells are those by which its text was laid out.
-use Rattle.std.proofs.Common.{◌≡◌, ◌∙◌, refl, sym, ap, ℕ, ◌+◌, ◌<◌, Bool, true, false, pos, ◌+ℤ◌, get_or, length, map, slice_index, None, Result, Ok, arith}
+use Rattle.std.proofs.Common.{◌≡◌, ◌∙◌, refl, sym, ap, ℕ, ◌+◌, ◌<◌, Bool, true, false, if◌then◌else◌, pos, ◌+ℤ◌, get_or, length, List, map, slice_index, None, Result, Ok, arith}
 use Rattle.std.proofs.lemmas.Int.{ints}
 use Rattle.std.proofs.lemmas.List.{get_or-map, length-map}
 use Rattle.tt_core.specs.Chains.{came-through}
 use Rattle.tt_face.specs.Faces.{Face}
 use Rattle.tt_fit.specs.Fitting.{Fitter}
 use Rattle.tt_line.specs.Laws.{ArePens, StepsLead}
-use Rattle.tt_line.specs.Layout.{Placement, advances_of, depth_of, laid_at, placement, rise_of, text_glyphs}
+use Rattle.tt_line.specs.Layout.{Placement, advance_in_pixels, advances_of, depth_of, laid_at, placement, rise_of, text_glyphs}
 use Rattle.tt_strike.specs.declared.measuring.CharacterMeasure.{CharacterMeasure}
 use Rattle.tt_strike.specs.Job.{Job}
 use Rattle.tt_strike.specs.Measures.{Measure, character_at, line_ink, line_step, measure_by, measured, measured_line}
 use Rattle.tt_strike.specs.Picture.{frame_of, laid_out, line_shapes, outlines_tested, placed_by_steps, setting_in, steps_in, text_placed}
 use Rattle.tt_strike.specs.Refusals.{as_font}
 use Rattle.tt_strike.specs.StepLaws.{EqualGlyphsStepAlike, MeasureTellsSteps, character_in}
-use Rattle.tt_strike.specs.Work.{is_bounded}
+use Rattle.tt_picture.specs.Steps.{glyph_step}
+use Rattle.tt_strike.specs.Work.{is_bounded, line_fitter}
 use Rattle.tt_strike.proofs.Placed.{of-font, of-job, placed_by_advances, placed_by_its_steps, placed_of}
 
 ok_same : {X E : Type 0} (x y : X) → ◌≡◌ {A = Result X E} (Ok x) (Ok y) → x ≡ y
@@ -46,6 +47,17 @@ is_measured face a m was =
       is = sym (ok_same (measure_by (line_step face a s l) a.margin (line_ink s l) l) m by_shapes.rest);
     }
 
+-- each glyph's own step, where work is bounded; else its advance
+own_steps : (bounded : Bool) (own advance : ℕ → ℕ) (gs : List ℕ) → bounded ≡ true
+    → map (λ g. if bounded then own g else advance g) gs ≡ map own gs
+own_steps true own advance gs is = refl
+own_steps false own advance gs is = absurd cc
+
+advance_steps : (bounded : Bool) (own advance : ℕ → ℕ) (gs : List ℕ) → bounded ≡ false
+    → map (λ g. if bounded then own g else advance g) gs ≡ map advance gs
+advance_steps true own advance gs is = absurd cc
+advance_steps false own advance gs is = refl
+
 -- the pens of a line by the step of each of its glyphs
 abbrev HasPens : Face → Job → Fitter → Placement → Type 0
 HasPens face a s l =
@@ -62,7 +74,10 @@ pens_by_steps lead face a s l bounded there was =
     let by_outlines = came-through (outlines_tested t a.fit gs) _ l by_setting.rest in
     let laid = of-job (laid_at face.metrics a.ppem a.margin gs (steps_in t gs)) l by_outlines.rest in
     let pens = lead gs (steps_in t gs) a.margin (rise_of face.metrics a.ppem) (depth_of face.metrics a.ppem) l laid in
-    let steps : map (line_step face a s l) gs ≡ steps_in t gs = rw (same, bounded, pens.numbers) refl in
+    let own : ℕ → ℕ = λ g. glyph_step (line_fitter s (map (λ g. g.0) l.glyphs) g) g in
+    let those : map own gs ≡ steps_in t gs = rw (same, pens.numbers) refl in
+    let steps : map (line_step face a s l) gs ≡ steps_in t gs =
+    own_steps (is_bounded a.fit) own (advance_in_pixels face.metrics a.ppem) gs bounded ∙ those in
     rw steps pens
 
 pens_by_advances : StepsLead → (face : Face) (a : Job) (s : Fitter) (l : Placement) → is_bounded a.fit ≡ false
@@ -72,7 +87,9 @@ pens_by_advances lead face a s l other laid =
     let gs = text_glyphs face.cmap a.text in
     let advances = advances_of face.metrics a.ppem gs in
     let pens = lead gs advances a.margin (rise_of face.metrics a.ppem) (depth_of face.metrics a.ppem) l laid in
-    let steps : map (line_step face a s l) gs ≡ advances = rw other refl in
+    let own : ℕ → ℕ = λ g. glyph_step (line_fitter s (map (λ g. g.0) l.glyphs) g) g in
+    let steps : map (line_step face a s l) gs ≡ advances =
+    advance_steps (is_bounded a.fit) own (advance_in_pixels face.metrics a.ppem) gs other in
     rw steps pens
 
 pens_by : StepsLead → (bounded : Bool) (face : Face) (a : Job) (s : Fitter) (l : Placement) → is_bounded a.fit ≡ bounded
@@ -130,4 +147,4 @@ measure_tells_steps lead face a m i was below =
     let led : h.1 ≡ g.1 + step g.0 = pens.pens (i + 1) next.0 ∙ pens.next i within
     ∙ rw (sym (pens.pens i one.0), its) refl in
     ap (λ (c : CharacterMeasure). c.pen) next.1 ∙ next_column g.1 h.1 (step g.0) a.margin led
-    ∙ rw (sym (ap (λ (c : CharacterMeasure). c.pen) one.1), sym (ap (λ (c : CharacterMeasure). c.advance) one.1)) refl
+    ∙ rw (ap (λ (c : CharacterMeasure). c.pen) one.1, ap (λ (c : CharacterMeasure). c.advance) one.1) refl

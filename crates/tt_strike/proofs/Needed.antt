@@ -25,7 +25,8 @@ use Rattle.tt_picture.specs.Shapes.{chords_with, edges_at, glyph_shape, shape_at
 use Rattle.tt_strike.specs.Picture.{edges_tested, shapes_in}
 use Rattle.tt_picture.specs.Pictures.{rows_crossings}
 use Rattle.tt_picture.specs.Pixels.{Shape, crossings_up_to, cut_from}
-use Rattle.tt_strike.specs.Work.{crossings_allowed, is_bounded, line_fitter, work_left, work_tested}
+use Rattle.tt_core.specs.Chains.{came-through}
+use Rattle.tt_strike.specs.Work.{chord_limit, chords_in, crossings_allowed, edges_limited, is_bounded, line_fitter, work_left, work_tested}
 use Rattle.tt_picture.proofs.RowsNeeded.{no_edge_crossed}
 use Rattle.tt_picture.proofs.Standings.{counts_from_pen}
 
@@ -138,6 +139,7 @@ pub tested_crossings : {cached : Bool} (a : Job) (l : Placement) (s : Fitter) (f
     → numbers_of gs ≡ distinct (map (λ g. g.0) l.glyphs) → shapes_in s l ≡ Ok shapes
     → edges_tested s a l shapes ≡ Ok tt → is_bounded a.fit ≡ true
     → rows_crossings f f.height (edges_cut gs) ≤ crossing_limit
+unfolding edges_limited
 tested_crossings {cached} a l s f gs shapes drawn each_once made seldom bounded =
     let numbers = map (λ (g : ℕ × ℕ). g.0) l.glyphs in
     let maker = line_fitter s numbers in
@@ -149,6 +151,7 @@ tested_crossings {cached} a l s f gs shapes drawn each_once made seldom bounded 
     rw each_once (omega (arith, least)) in
     let all = shapes_count maker l.glyphs shapes made in
     let allowed = crossings_allowed (work_left s numbers) in
-    let most : crossings_in shapes ≤ allowed = within_limit a.fit allowed (crossings_in shapes) bounded seldom in
+    let passed = (came-through (work_tested a.fit chord_limit (chords_in s numbers)) _ tt seldom).rest in
+    let most : crossings_in shapes ≤ allowed = within_limit a.fit allowed (crossings_in shapes) bounded passed in
     let limit : allowed ≤ crossing_limit = allowed_few (work_left s numbers) in
     omega (arith, needed, few, all, most, limit)

@@ -19,7 +19,7 @@ use Rattle.tt_strike.specs.Picture.{drawn, frame_of, laid_out, line_shapes, poin
 use Rattle.tt_picture.specs.Pixels.{Shape}
 use Rattle.tt_strike.specs.Refusals.{Refused, as_font, as_job, job}
 use Rattle.tt_face.specs.Faces.{Face}
-use Rattle.tt_strike.specs.Work.{crossings_allowed, line_fitter, work_left, work_tested}
+use Rattle.tt_strike.specs.Work.{chords_in, edges_limited, line_fitter, work_left}
 use Rattle.tt_strike.specs.declared.growing.Sides.{Sides}
 use Rattle.tt_picture.specs.declared.ink_box.InkBox.{InkBox}
 use Rattle.tt_strike.proofs.Agreeing.{measured_so_drawn}
@@ -90,16 +90,17 @@ after_test : {A B : Type 0} (t : Result (Unit {0}) JobFault) (x : Result A Refus
 after_test (Ok u) x y alike = alike
 after_test (Err j) x y alike = refl
 
-after_shapes : (a : Job) (most : ℕ) (these those : Result (List Shape) Fault) → AreCountedAlike these those
+after_shapes : (a : Job) (left : Option ℕ) (chords : ℕ) (these those : Result (List Shape) Fault)
+    → AreCountedAlike these those
     → AreRefusedAlike
-    (as_font these >>= λ glyphs. as_job (work_tested a.fit most (crossings_in glyphs)) >>= λ u. Ok glyphs)
-    (as_font those >>= λ glyphs. as_job (work_tested a.fit most (crossings_in glyphs)) >>= λ u. Ok glyphs)
-after_shapes a most (Ok these) (Ok those) alike =
+    (as_font these >>= λ glyphs. as_job (edges_limited a.fit left chords (crossings_in glyphs)) >>= λ u. Ok glyphs)
+    (as_font those >>= λ glyphs. as_job (edges_limited a.fit left chords (crossings_in glyphs)) >>= λ u. Ok glyphs)
+after_shapes a left chords (Ok these) (Ok those) alike =
     let same : crossings_in these ≡ crossings_in those = alike in
-    rw same (after_test (work_tested a.fit most (crossings_in those)) (Ok these) (Ok those) tt)
-after_shapes a most (Ok these) (Err f) alike = absurd alike
-after_shapes a most (Err e) (Ok those) alike = absurd alike
-after_shapes a most (Err e) (Err f) alike = let same : e ≡ f = alike in rw same refl
+    rw same (after_test (edges_limited a.fit left chords (crossings_in those)) (Ok these) (Ok those) tt)
+after_shapes a left chords (Ok these) (Err f) alike = absurd alike
+after_shapes a left chords (Err e) (Ok those) alike = absurd alike
+after_shapes a left chords (Err e) (Err f) alike = let same : e ≡ f = alike in rw same refl
 
 line_alike : (s : Fitter) (a : Job) (line : Placement) (sides : Sides)
     → AreRefusedAlike (line_shapes s a line) (line_shapes s a (with_sides line sides))
@@ -108,7 +109,7 @@ line_alike s a line sides =
     let maker = line_fitter s numbers in
     let larger = map (λ (g : ℕ × ℕ). (g.0, g.1 + sides.left)) line.glyphs in
     rw (numbers_stay sides.left line.glyphs) (after_test (points_tested s a line) _ _
-    (after_shapes a (crossings_allowed (work_left s numbers)) (each (glyph_shape maker) line.glyphs) (each (glyph_shape maker) larger)
+    (after_shapes a (work_left s numbers) (chords_in s numbers) (each (glyph_shape maker) line.glyphs) (each (glyph_shape maker) larger)
     (counted_alike maker sides.left line.glyphs)))
 
 shown_alike : {A B C D E : Type 0} (x : Result A E) (y : Result B E) (p : A → C) (q : B → D) → AreRefusedAlike x y

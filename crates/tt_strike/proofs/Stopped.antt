@@ -101,10 +101,10 @@ edges_tell face a l s glyphs j there placed made refused =
     elim (was-err chords _ j refused) [
       | inl first ↦
           let parts = too_much a.fit chord_limit (chords_in s gs) j first in
-          (parts.0, parts.1, inr (rw placed (inl (rw there parts.2))))
+          (parts.0, (parts.1, inr (rw placed (inl (rw there parts.2)))))
       | inr later ↦
           let parts = too_much a.fit most (crossings_in glyphs) j later.rest in
-          (parts.0, parts.1, inr (rw placed (inr (rw (there, made) parts.2))))
+          (parts.0, (parts.1, inr (rw placed (inr (rw (there, made) parts.2)))))
     ]
 
 -- unbounded work passes each test

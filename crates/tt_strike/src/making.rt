@@ -84,9 +84,9 @@ impl<'f, 'a> SizedFace<'f, 'a> {
         ensures job { IfTold draw_job_fault result (IsLineRefusal self.old.face (job_by self.old text.now margin)) }
         ensures same { self.new ≡ self.old }
     {
+        let source = self.source;
         test_margin(margin)?;
         test_text(text)?;
-        let source = self.source;
         let mut fitter = self.maker.take(&source)?;
         let outlined = source.outlined(&mut fitter, text)?;
         let OutlinedText {

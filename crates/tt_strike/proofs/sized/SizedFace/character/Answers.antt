@@ -28,14 +28,14 @@ pub returns : goal.returns
 returns c = λ step inked steps same.
     let gs = c.args.inked.now.glyphs.made.items in
     let z = c.args.self.now in
-    let found : (c.match-find.step ≡ step c.args.placed.0) × (c.match-find.ink ≡ inked c.args.placed.0) =
+    let found : (c.match-find.step.0 ≡ step c.args.placed.0) × (c.match-find.step.1 ≡ inked c.args.placed.0) =
     elim c.match-find.branch [
       | in-Some w ↦
           let at = w.in-Some.ensures.found in (
-            w.step-is ∙ (w.step_of.ensures ∙ step_found (made_step z.face.metrics z.ppem z.fit) step gs w.in-Some.i
+            ap (λ (p : ℕ × Option GlyphInk). p.0) w.step-is ∙ (w.step_of.ensures ∙ step_found (made_step z.face.metrics z.ppem z.fit) step gs w.in-Some.i
                 c.args.placed.0 w.index.result.now steps at.0 at.1 w.index.ensures),
-            w.ink-is ∙ (w.index-2.ensures
-                ∙ box_found inked c.args.inked.now.inks.items gs w.in-Some.i c.args.placed.0 w.index-2.result.now same at.0 at.1),
+            ap (λ (p : ℕ × Option GlyphInk). p.1) w.step-is ∙ (w.index-in-Some.ensures
+                ∙ box_found inked c.args.inked.now.inks.items gs w.in-Some.i c.args.placed.0 w.index-in-Some.result.now same at.0 at.1),
           )
       | in-None w ↦
           let none = is_not_there (numbers_of gs) c.args.placed.0 w.in-None.ensures.absent in
@@ -46,16 +46,16 @@ returns c = λ step inked steps same.
     omega (arith, ints, c.requires.pen, c.requires.frame.margin) in
     rw (c.from.ensures, found.0, c.ink_at.ensures, found.1) (simp to_z-of_z)
 
-pub step_of-requires-clause-known : goal.step_of-requires-clause-known
-step_of-requires-clause-known c =
+pub step_of-requires : goal.step_of-requires
+step_of-requires c =
     let gs = c.args.inked.now.glyphs.made.items in
     let at = c.in-Some.ensures.found in
     let here : c.index.result.now.number ≡ c.args.placed.0 = ap (λ (t : Glyph). t.number) c.index.ensures
     ∙ sym (get_or-map (λ (t : Glyph). t.number) gs c.in-Some.i c.index.result.now 0 at.0) ∙ at.1 in
     rw here c.requires.known
 
-pub index-2-requires : goal.index-2-requires
-index-2-requires c =
+pub index-requires-in-Some : goal.index-requires-in-Some
+index-requires-in-Some c =
     let below : c.in-Some.i < length c.args.inked.now.inks.items =
     rw (c.args.inked.now.inked, length-map) c.in-Some.ensures.found.0 in
     search rules

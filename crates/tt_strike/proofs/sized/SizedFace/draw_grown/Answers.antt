@@ -7,6 +7,7 @@ use Rattle.tt_metrics.specs.Metrics.{glyphs_of}
 use Rattle.tt_picture.specs.Distinct.{distinct}
 use Rattle.tt_strike.specs.Work.{line_fitter}
 use Rattle.tt_picture.specs.Glyphs.{AreDrawn, Stand, numbers_of}
+use Rattle.tt_strike.specs.Costs.{cost_by}
 use Rattle.tt_strike.specs.Enlarged.{IsEnlarged}
 use Rattle.tt_strike.specs.Grown.{grown_outcome}
 use Rattle.tt_strike.specs.Reported.{IsReported}
@@ -25,7 +26,7 @@ use Rattle.tt_strike.proofs.Made.{known_as_made, reported_as_made}
 use Rattle.tt_strike.proofs.Needed.{tested_crossings}
 use Rattle.tt_strike.proofs.Costed.{cost_of_line}
 use Rattle.tt_strike.proofs.Stopped.{grown_stops}
-use Rattle.tt_strike.proofs.sized.SizedFace.draw_grown.Goals.{In_ok-enlarged}
+use Rattle.tt_strike.proofs.sized.SizedFace.draw_grown.Goals.{After-frame-frame, In_ok-enlarged}
 use Rattle.tt_strike.proofs.sized.SizedFace.draw_grown.Goals as goal
 
 pub returns-in_err-enlarged-clause-exact : goal.returns-in_err-enlarged-clause-exact
@@ -57,6 +58,12 @@ known_there c =
     known_as_made c.in_ok-enlarged.enlarged.laid.line.glyphs.items c.in_ok-enlarged.ensures.valid
     (e.made.numbers ∙ ap distinct (sym (numbers_kept e)))
 
+-- the frame is that of the enlarged line
+frame_is : (c : After-frame-frame) → c.frame-frame.result
+    ≡ frame_of (placement_of c.in_ok-enlarged.enlarged.laid.line) c.args.margin
+frame_is c =
+    c.frame-frame.ensures.exact ∙ ap (frame_of (placement_of c.in_ok-enlarged.enlarged.laid.line)) c.in_ok-enlarged.ensures.margin
+
 -- without a bound the enlarged line is drawn anew
 pub draw_line-requires-clause-cache : goal.draw_line-requires-clause-cache
 draw_line-requires-clause-cache c = rw c.enlarge.ensures.same c.requires.cache
@@ -67,7 +74,7 @@ draw_line-requires-clause-known c =
     (known_there (goal.at.draw_line-requires-clause-known c).In_ok-enlarged)
 
 pub draw_line-requires-clause-unbounded : goal.draw_line-requires-clause-unbounded
-draw_line-requires-clause-unbounded c = rw (c.fit.ensures, c.is_bounded.ensures) at c.if-not-is_bounded.true
+draw_line-requires-clause-unbounded c = rw (c.is_bounded.ensures, c.fit.ensures) at c.if-not-is_bounded.true
 
 pub returns-then-not-is_bounded-clause-exact : goal.returns-then-not-is_bounded-clause-exact
 unfolding grown_outcome
@@ -175,11 +182,12 @@ returns-clause-exact c =
     let p = c.in_ok-new.field-0 in
     let made = larger_made face a l larger e.left gs e.made e.moved in
     let fitted = rw (numbers_kept e) at made.fitted in
-    let places = rw (c.deref.ensures.value, c.frame-frame.ensures.exact, c.in_ok-enlarged.ensures.margin) at
+    let framed = frame_is (goal.at.returns-clause-exact c).After-frame-frame in
+    let places = rw (c.deref.ensures.value, framed) at
     (c.in_ok-moved.ensures maker (frame_of l a.margin) e.made.drawn
     (rw c.deref.ensures.value (e.made.numbers ∙ ap distinct (sym (numbers_kept e))))).stand in
     let stand : Stand false f hs made.shapes = rw fitted at places in
-    let drawn = rw (c.frame-frame.ensures.exact, c.in_ok-enlarged.ensures.margin) at c.in_ok-new.ensures.exact in
+    let drawn = rw framed at c.in_ok-new.ensures.exact in
     let image : image_of p ≡ picture f made.shapes = drawn false made.shapes stand in
     rw (placed_as_laid face a l its.1, e.exact)
     (larger_drawn face a larger s made ∙ ap Ok {x = picture f made.shapes} {y = image_of p} (sym image))
@@ -189,7 +197,7 @@ returns-clause-frame c =
     let face = c.args.self.now.face in
     let a = job_by c.args.self.now c.args.text.now c.args.margin in
     let its = plain (goal.at.returns-clause-frame c).In_ok-enlarged in
-    let frame = rw c.in_ok-enlarged.ensures.margin at c.frame-frame.ensures.exact in
+    let frame = frame_is (goal.at.returns-clause-frame c).After-frame-frame in
     rw (placed_as_laid face a its.0 its.1, its.2.exact) (c.in_ok-new.ensures.frame ∙ frame)
 
 pub returns-clause-reported : goal.returns-clause-reported
@@ -213,12 +221,12 @@ returns-clause-reported c =
     let told = larger_reported face a l c.frame-frame.result gs hs p.unfitted e.made there same
     c.in_ok-new.ensures.unfitted in
     let made = larger_made face a l larger e.left gs e.made e.moved in
-    let its_frame = rw c.in_ok-enlarged.ensures.margin at c.frame-frame.ensures.exact in
+    let its_frame = frame_is (goal.at.returns-clause-reported c).After-frame-frame in
     let drawn = rw its_frame at there in
     let frame : p.frame ≡ frame_of larger a.margin = c.in_ok-new.ensures.frame ∙ its_frame in
     let own : AreDrawn false (line_fitter s (map (λ g. g.0) larger.glyphs)) (frame_of larger a.margin) hs =
     rw (numbers_kept e) drawn in
-    let cost = rw c.in_ok-new.ensures.cost c.in_ok-enlarged.ensures.cost in
+    let cost : cost_by face a ≡ Ok p.cost = rw c.in_ok-new.ensures.cost c.in_ok-enlarged.ensures.cost in
     rw its.1 (record {
       ready = c.in_ok-new.ensures.valid;
       report = told.0;

@@ -29,8 +29,8 @@ returns-in_err-made-clause-defects c =
     let p = err_from_is_err_and c.from_residual.result c.from_residual.ensures.1 in
     rw (p.1, p.2) c.in_err-made.ensures.defects
 
-pub make_line-requires-clause-cache : goal.make_line-requires-clause-cache
-make_line-requires-clause-cache c = rw c.absent-none.ensures tt
+pub make_line-requires : goal.make_line-requires
+make_line-requires c = rw c.absent-none.ensures tt
 
 pub glyph_inks-requires-clause-tapes : goal.glyph_inks-requires-clause-tapes
 glyph_inks-requires-clause-tapes c =
@@ -84,9 +84,11 @@ returns-in_err-line-clause-stops c =
     (measured_then (goal.at.returns-in_err-line-clause-stops c).In_ok-measure is.made) c.in_err-line.ensures)
 
 -- the line that holds its ink
-enlarged_then : (c : In_ok-line) → IsEnlarged c.args.self.now.face (job_by c.args.self.now c.args.text.now c.args.margin)
+enlarged_then : (c : In_ok-line) → measured_line c.args.self.now.face
+    (job_by c.args.self.now c.args.text.now c.args.margin) (placement_of c.in_ok-made.made.laid.line)
+    ≡ Ok (measure_view c.in_ok-measure.measure) → IsEnlarged c.args.self.now.face (job_by c.args.self.now c.args.text.now c.args.margin)
     (placement_of c.in_ok-made.made.laid.line) (placement_of c.in_ok-line.line) c.in_ok-made.made.glyphs.made.items
-enlarged_then c =
+enlarged_then c measured =
     let face = c.args.self.now.face in
     let a = job_by c.args.self.now c.args.text.now c.args.margin in
     let l = placement_of c.in_ok-made.made.laid.line in
@@ -98,16 +100,20 @@ enlarged_then c =
       made = is.made;
       left = moved.0;
       moved = moved.1;
-      exact = grown_as_measured face a l larger m (measured_then c.In_ok-measure is.made) c.in_ok-line.ensures;
+      exact = grown_as_measured face a l larger m measured c.in_ok-line.ensures;
     }
 
 pub returns-clause-enlarged : goal.returns-clause-enlarged
 returns-clause-enlarged c =
-    rw c.in_ok-made.ensures.made.laid (enlarged_then (goal.at.returns-clause-enlarged c).In_ok-line)
+    let all = goal.at.returns-clause-enlarged c in
+    let is = rw c.absent-none.ensures at c.in_ok-made.ensures.made in
+    rw c.in_ok-made.ensures.made.laid (enlarged_then all.In_ok-line (measured_then all.In_ok-measure is.made))
 
 pub returns-clause-glyphs : goal.returns-clause-glyphs
 returns-clause-glyphs c =
-    numbers_kept (enlarged_then (goal.at.returns-clause-glyphs c).In_ok-line) ∙ c.in_ok-made.ensures.made.glyphs
+    let all = goal.at.returns-clause-glyphs c in
+    let is = rw c.absent-none.ensures at c.in_ok-made.ensures.made in
+    numbers_kept (enlarged_then all.In_ok-line (measured_then all.In_ok-measure is.made)) ∙ c.in_ok-made.ensures.made.glyphs
 
 pub returns-clause-cost : goal.returns-clause-cost
 unfolding cost_by

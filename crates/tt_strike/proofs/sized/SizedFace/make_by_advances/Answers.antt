@@ -27,9 +27,8 @@ returns-in_err-glyphs-clause-stops c =
     let z = c.args.self.now in
     let l = placement_of c.in_ok-laid.laid.line in
     let p = err_from_is_err_and c.from_residual-in_err-glyphs.result c.from_residual-in_err-glyphs.ensures.1 in
-    let stops = rw c.in_ok-laid.ensures.margin at c.in_err-glyphs.ensures.stops in
     rw (p.1, p.2) (shapes_stop z.face (job_by z c.args.text.now c.args.margin) l c.in_err-glyphs.field-0.0
-    c.in_ok-laid.ensures.exact (rw (← shapes_textless z c.args.text.now c.args.margin l) at stops))
+    c.in_ok-laid.ensures.exact (rw (← shapes_textless z c.args.text.now c.args.margin l) at c.in_err-glyphs.ensures.stops))
 
 pub returns-in_err-glyphs-clause-defects : goal.returns-in_err-glyphs-clause-defects
 returns-in_err-glyphs-clause-defects c =
@@ -57,4 +56,4 @@ returns-clause-made c =
 
 pub returns-clause-defects : goal.returns-clause-defects
 returns-clause-defects c =
-    rw (← c.in_ok-laid.ensures.glyphs) (rw c.in_ok-laid.ensures.margin at c.in_ok-glyphs.ensures.defects)
+    rw (← c.in_ok-laid.ensures.glyphs) c.in_ok-glyphs.ensures.defects

@@ -20,8 +20,8 @@ returns-in_err-made-clause-exact c =
     rw (p.1, p.2) (measure_stops c.args.self.now.face (job_by c.args.self.now c.args.text.now c.args.margin)
     c.in_err-made.field-0.0 c.in_err-made.ensures.stops)
 
-pub make_line-requires-clause-cache : goal.make_line-requires-clause-cache
-make_line-requires-clause-cache c = rw c.absent-none.ensures tt
+pub make_line-requires : goal.make_line-requires
+make_line-requires c = rw c.absent-none.ensures tt
 
 pub glyph_inks-requires-clause-tapes : goal.glyph_inks-requires-clause-tapes
 glyph_inks-requires-clause-tapes c =

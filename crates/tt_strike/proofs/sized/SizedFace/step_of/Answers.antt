@@ -3,12 +3,12 @@ use Rattle.tt_strike.proofs.sized.SizedFace.step_of.Goals as goal
 
 pub returns-then-is_bounded : goal.returns-then-is_bounded
 returns-then-is_bounded c =
-    let bounded = rw (c.fit.ensures, c.is_bounded.ensures) at c.if-is_bounded.true in
+    let bounded = rw (c.is_bounded.ensures, c.fit.ensures) at c.if-is_bounded.true in
     rw bounded c.step.ensures
 
 pub returns : goal.returns
 returns c =
-    let other = rw (c.fit.ensures, c.is_bounded.ensures) at c.if-is_bounded.false in
+    let other = rw (c.is_bounded.ensures, c.fit.ensures) at c.if-is_bounded.false in
     rw (other, c.advance.ensures.exact, c.metrics.ensures, c.face.ensures, c.ppem.ensures.exact, c.number.ensures) refl
 
 pub advance-requires-clause-known : goal.advance-requires-clause-known

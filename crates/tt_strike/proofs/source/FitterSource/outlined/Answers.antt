@@ -4,6 +4,7 @@ use Rattle.std.proofs.lemmas.Result.{err_from_is_err_and}
 use Rattle.std.specs.Vec.{with_items}
 use Rattle.tt_core.specs.Limits.{point_work_limit}
 use Rattle.tt_fit.specs.Fitting.{Fitter}
+use Rattle.tt_cmap.specs.Lookup.{Cmap}
 use Rattle.tt_line.specs.Layout.{text_glyphs}
 use Rattle.tt_metrics.specs.Metrics.{glyphs_of}
 use Rattle.tt_picture.specs.Distinct.{distinct}
@@ -20,45 +21,55 @@ use Rattle.tt_strike.proofs.source.FitterSource.outlined.Goals as goal
 -- the distinct glyphs are those of the text
 glyphs_are : (c : In_ok-met) → map (λ (g : ℕ × ℕ). g.0) c.in_ok-steps.steps.items
     ≡ text_glyphs c.args.self.now.face.now.cmap c.args.text.now
-glyphs_are c = rw c.cmap-cmap.ensures at c.in_ok-steps.ensures.glyphs
+glyphs_are c = rw c.cmap-cmap.ensures.exact at c.in_ok-steps.ensures.glyphs
 
 numbers_are : (c : In_ok-met) → c.in_ok-met.met.numbers.items
     ≡ distinct (text_glyphs c.args.self.now.face.now.cmap c.args.text.now)
 numbers_are c = rw c.deref.ensures.value at c.in_ok-met.ensures.numbers ∙ ap distinct (glyphs_are c)
 
+-- the distinct glyphs of the text
+abbrev glyphs_of_text : Cmap → List ℕ → List ℕ
+glyphs_of_text map text = distinct (text_glyphs map text)
+
 -- their points are few, and charged
-few_points : (c : In_ok-charge_points) → work_tested c.args.self.now.fit point_work_limit
+few_points : (c : In_ok-charge_points)
+    → c.in_ok-met.met.numbers.items ≡ glyphs_of_text c.args.self.now.face.now.cmap c.args.text.now
+    → work_tested c.args.self.now.fit point_work_limit
     (points_in c.args.fitter.now (text_glyphs c.args.self.now.face.now.cmap c.args.text.now)) ≡ Ok tt
-few_points c =
+few_points c are =
     of-job (work_tested c.args.self.now.fit point_work_limit
     (points_in c.args.fitter.now (text_glyphs c.args.self.now.face.now.cmap c.args.text.now))) tt
-    (rw (c.deref-2.ensures.value, numbers_are c.In_ok-met) at c.in_ok-charge_points.ensures.exact)
+    (rw (c.deref-2.ensures.value, are) at c.in_ok-charge_points.ensures.exact)
 
-charged_is : (c : In_ok-charge_points) → c.charge_points.new.fitter
-    ≡ started c.args.fitter.now (text_glyphs c.args.self.now.face.now.cmap c.args.text.now)
-charged_is c = rw (c.deref-2.ensures.value, numbers_are c.In_ok-met) at c.in_ok-charge_points.ensures.charged
+charged_is : (c : In_ok-charge_points)
+    → c.in_ok-met.met.numbers.items ≡ glyphs_of_text c.args.self.now.face.now.cmap c.args.text.now
+    → c.charge_points.new.fitter ≡ started c.args.fitter.now (text_glyphs c.args.self.now.face.now.cmap c.args.text.now)
+charged_is c are = rw (c.deref-2.ensures.value, are) at c.in_ok-charge_points.ensures.charged
 
 -- the outlines are made, and the steps are theirs
-fitted_are : (c : In_ok-fitted) → AreFitted
-    (line_fitter c.args.fitter.now (text_glyphs c.args.self.now.face.now.cmap c.args.text.now)) c.in_ok-fitted.fitted.items
-fitted_are c =
-    rw (c.deref-3.ensures.value, numbers_are c.In_ok-met, charged_is c.In_ok-charge_points) at c.in_ok-fitted.ensures.fitted
+fitted_are : (c : In_ok-fitted)
+    → c.in_ok-met.met.numbers.items ≡ glyphs_of_text c.args.self.now.face.now.cmap c.args.text.now
+    → c.charge_points.new.fitter ≡ started c.args.fitter.now (text_glyphs c.args.self.now.face.now.cmap c.args.text.now)
+    → AreFitted (line_fitter c.args.fitter.now (text_glyphs c.args.self.now.face.now.cmap c.args.text.now)) c.in_ok-fitted.fitted.items
+fitted_are c are charged = rw (c.deref-3.ensures.value, are, charged) at c.in_ok-fitted.ensures.fitted
 
-fitted_numbers_are : (c : In_ok-fitted) → fitted_numbers c.in_ok-fitted.fitted.items
-    ≡ distinct (text_glyphs c.args.self.now.face.now.cmap c.args.text.now)
-fitted_numbers_are c = rw (c.deref-3.ensures.value, numbers_are c.In_ok-met) at c.in_ok-fitted.ensures.numbers
+fitted_numbers_are : (c : In_ok-fitted)
+    → c.in_ok-met.met.numbers.items ≡ glyphs_of_text c.args.self.now.face.now.cmap c.args.text.now
+    → fitted_numbers c.in_ok-fitted.fitted.items ≡ glyphs_of_text c.args.self.now.face.now.cmap c.args.text.now
+fitted_numbers_are c are = rw (c.deref-3.ensures.value, are) at c.in_ok-fitted.ensures.numbers
 
 abbrev step_of_text : Fitter → List ℕ → ℕ → ℕ
 step_of_text s gs g = glyph_step (line_fitter s gs g) g
 
-steps_then : (c : After-put_steps) → (with_items c.in_ok-steps.steps c.put_steps.new.line).items
+steps_then : (c : After-put_steps)
+    → AreFitted (line_fitter c.args.fitter.now (text_glyphs c.args.self.now.face.now.cmap c.args.text.now)) c.in_ok-fitted.fitted.items
+    → (with_items c.in_ok-steps.steps c.put_steps.new.line).items
     ≡ stepped (step_of_text c.args.fitter.now (text_glyphs c.args.self.now.face.now.cmap c.args.text.now)) c.in_ok-steps.steps.items
-steps_then c =
+steps_then c fitted =
     let gs = text_glyphs c.args.self.now.face.now.cmap c.args.text.now in
     let step = step_of_text c.args.fitter.now gs in
     let fs = c.in_ok-fitted.fitted.items in
-    let put = rw c.deref-5.ensures.value at (c.put_steps.ensures step) (steps_are (line_fitter c.args.fitter.now gs) fs
-    (fitted_are c.In_ok-fitted)) in
+    let put = (rw c.deref-5.ensures.value at (c.put_steps.ensures step)) (steps_are (line_fitter c.args.fitter.now gs) fs fitted) in
     let count : length c.put_steps.new.line ≡ c.in_ok-steps.steps.len =
     ap length put ∙ length-map c.deref_mut.result.now _ ∙ c.deref_mut.ensures.len in
     with_items_is c.in_ok-steps.steps c.put_steps.new.line count ∙ put ∙ ap (stepped step) c.deref_mut.ensures.value
@@ -75,9 +86,9 @@ pub returns-in_err-fitted-clause-stops : goal.returns-in_err-fitted-clause-stops
 returns-in_err-fitted-clause-stops c =
     let gs = text_glyphs c.args.self.now.face.now.cmap c.args.text.now in
     let all = goal.at.returns-in_err-fitted-clause-stops c in
-    let few = few_points all.In_ok-charge_points in
-    let fails = rw (c.deref-3.ensures.value, numbers_are all.In_ok-met, charged_is all.In_ok-charge_points) at
-    c.in_err-fitted.ensures.fault in
+    let numbers = numbers_are all.In_ok-met in
+    let few = few_points all.In_ok-charge_points numbers in
+    let fails = rw (c.deref-3.ensures.value, numbers, charged_is all.In_ok-charge_points numbers) at c.in_err-fitted.ensures.fault in
     let p = err_from_is_err_and c.from_residual-in_err-fitted.result c.from_residual-in_err-fitted.ensures.1 in
     rw (p.1, p.2) (outline_stops_outlines c.args.fitter.now c.args.self.now.fit gs c.in_err-fitted.field-0.0 (rw few refl) fails)
 
@@ -89,23 +100,28 @@ returns-clause-outlined c =
     let step = step_of_text s gs in
     let line = c.in_ok-steps.steps.items in
     let numbers = numbers_are all.In_ok-met in
+    let charged = charged_is all.In_ok-charge_points numbers in
+    let fitted = fitted_are all.In_ok-fitted numbers charged in
     record {
-      glyphs = rw (steps_then all.After-put_steps) (firsts_stay step line ∙ glyphs_are all.In_ok-met);
-      steps = rw (steps_then all.After-put_steps) (steps_put step line ∙ ap (map step) (glyphs_are all.In_ok-met));
-      room = c.in_ok-met.ensures.room ∙ rw c.metrics-metrics.ensures (sym c.requires.glyphs);
-      places = rw (fitted_numbers_are all.In_ok-fitted, ← numbers) c.in_ok-met.ensures.places;
-      numbers = fitted_numbers_are all.In_ok-fitted;
-      fitted = fitted_are all.In_ok-fitted;
-      made = rw (c.deref-3.ensures.value, numbers, charged_is all.In_ok-charge_points) at c.in_ok-fitted.ensures.made;
+      glyphs = rw (steps_then all.After-put_steps fitted) (firsts_stay step line ∙ glyphs_are all.In_ok-met);
+      steps = rw (steps_then all.After-put_steps fitted) (steps_put step line ∙ ap (map step) (glyphs_are all.In_ok-met));
+      room = c.in_ok-met.ensures.room ∙ rw c.metrics-metrics.ensures at c.glyphs.ensures.exact ∙ sym c.requires.glyphs;
+      places = rw (fitted_numbers_are all.In_ok-fitted numbers, ← numbers) c.in_ok-met.ensures.places;
+      numbers = fitted_numbers_are all.In_ok-fitted numbers;
+      fitted = fitted;
+      made = rw (c.deref-3.ensures.value, numbers, charged) at c.in_ok-fitted.ensures.made;
     }
 
 pub returns-clause-points : goal.returns-clause-points
-returns-clause-points c = few_points (goal.at.returns-clause-points c).In_ok-charge_points
+returns-clause-points c =
+    let all = goal.at.returns-clause-points c in
+    few_points all.In_ok-charge_points (numbers_are all.In_ok-met)
 
 pub returns-clause-after : goal.returns-clause-after
 returns-clause-after c =
     let all = goal.at.returns-clause-after c in
-    rw (c.deref-3.ensures.value, numbers_are all.In_ok-met, charged_is all.In_ok-charge_points) at c.in_ok-fitted.ensures.after
+    let numbers = numbers_are all.In_ok-met in
+    rw (c.deref-3.ensures.value, numbers, charged_is all.In_ok-charge_points numbers) at c.in_ok-fitted.ensures.after
 
 pub returns-clause-known : goal.returns-clause-known
 returns-clause-known c =
@@ -113,12 +129,16 @@ returns-clause-known c =
     let gs = text_glyphs c.args.self.now.face.now.cmap c.args.text.now in
     let step = step_of_text c.args.fitter.now gs in
     let line = c.in_ok-steps.steps.items in
+    let numbers = numbers_are all.In_ok-met in
+    let fitted = fitted_are all.In_ok-fitted numbers (charged_is all.In_ok-charge_points numbers) in
     let known : All (λ (g : ℕ × ℕ). g.0 < glyphs_of c.args.self.now.face.now.metrics) line =
     rw c.metrics-metrics.ensures at c.in_ok-steps.ensures.known in
-    rw (steps_then all.After-put_steps)
+    rw (steps_then all.After-put_steps fitted)
     (of_same_glyphs (λ n. n < glyphs_of c.args.self.now.face.now.metrics) line (stepped step line) (firsts_stay step line) known)
 
 pub returns-clause-few : goal.returns-clause-few
 returns-clause-few c =
     let all = goal.at.returns-clause-few c in
-    rw (steps_then all.After-put_steps, length-map) c.in_ok-steps.ensures.few
+    let numbers = numbers_are all.In_ok-met in
+    let fitted = fitted_are all.In_ok-fitted numbers (charged_is all.In_ok-charge_points numbers) in
+    rw (steps_then all.After-put_steps fitted, length-map) c.in_ok-steps.ensures.few
