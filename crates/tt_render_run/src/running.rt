@@ -20,8 +20,9 @@ use tt_strike::{Job, Report, test_job};
 
 /// Draws a line of text and writes its picture as binary PBM (P4). A pixel is black where its centre lies on, or
 /// inside, the chord outline of some glyph of the line. Each curve is eight chords. With `Fit::Best` a curve is 1 to 32
-/// chords by its bend, and a glyph's dropouts, by the scan type of the font's programs, are black too. Nothing is written before the edges of all glyphs
-/// are made; from then on no memory is taken. The report lists the glyphs that could not be fitted.
+/// chords by its bend, and a glyph's dropouts, by the scan type of the font's programs, are black too. Nothing is
+/// written before the edges of all glyphs are made; from then on no memory is taken. The report lists the glyphs that
+/// could not be fitted.
 ///
 /// Errors, the first of: Job (SizeRange, MarginRange, TextLong), before the font is read; Read, FontLarge; Font and Job
 /// (EmptyPicture, PictureLarge, WorkLarge), in reading order; Write. The picture's size is known after cmap, and with

@@ -95,6 +95,7 @@ impl<'f, 'a> Strike<'f, 'a> {
     /// and PictureLarge come after those of the glyphs. Before the glyphs comes WorkLarge of their points, and at the end
     /// WorkLarge of their chords and of their crossings. Memory may come at any allocation. A refused line too may change
     /// the cached glyphs.
+    /// `SizedFace::draw` is apart (for the prover): that function has the face and the cache one by one.
     #[tactic(auto, unfolding(crate::specs::Report::report_by, crate::specs::Costs::cost_by))]
     pub fn line(&mut self, text: &str, margin: u32) -> Result<Picture, DrawFault>
         ensures exact { GivesUnless refusal image_of result (line_outcome self.old.face (job_of self.old text.now margin)) }
@@ -113,6 +114,7 @@ impl<'f, 'a> Strike<'f, 'a> {
 
     /// The base line, the ink and the characters' places of a text's picture, without the picture. Errors as those of
     /// `line`. No glyph is cached, and the strike is unchanged.
+    /// `SizedFace::measure` is apart (for the prover): that function has no cache.
     pub fn measure(&mut self, text: &str, margin: u32) -> Result<Measure, DrawFault>
         ensures exact { GivesUnless refusal measure_view result (measured self.old.face (job_of self.old text.now margin)) }
         ensures report { IfOk result (λ m. report_by self.old.face (job_of self.old text.now margin) ≡ Ok m.report.unfitted.items) }
@@ -128,6 +130,7 @@ impl<'f, 'a> Strike<'f, 'a> {
     /// The picture of a text with the fewest added columns and rows such that no ink is cut; equal to that of `line`
     /// where none is. Errors: those of `line`, and PictureLarge of the larger picture. A refused line too may change the
     /// cached glyphs.
+    /// `SizedFace::draw_grown` is apart (for the prover): that function has the face and the cache one by one.
     #[tactic(auto, unfolding(crate::specs::Report::report_by, crate::specs::Costs::cost_by))]
     pub fn grown_line(&mut self, text: &str, margin: u32) -> Result<Picture, DrawFault>
         ensures exact { GivesUnless refusal image_of result (grown_outcome self.old.face (job_of self.old text.now margin)) }
@@ -145,6 +148,7 @@ impl<'f, 'a> Strike<'f, 'a> {
 
     /// The measure of the picture that `grown_line` makes. Errors: those of `measure`, and PictureLarge of the larger
     /// picture. No glyph is cached, and the strike is unchanged.
+    /// `SizedFace::measure_grown` is apart (for the prover): that function has no cache.
     pub fn grown_measure(&mut self, text: &str, margin: u32) -> Result<Measure, DrawFault>
         ensures exact { GivesUnless refusal measure_view result (grown_measured self.old.face (job_of self.old text.now margin)) }
         ensures report { IfOk result (λ m. report_by self.old.face (job_of self.old text.now margin) ≡ Ok m.report.unfitted.items) }
