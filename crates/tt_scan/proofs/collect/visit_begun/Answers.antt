@@ -3,7 +3,8 @@ use Rattle.std.proofs.lemmas.Int.{to_z-of_z}
 use Rattle.std.proofs.lemmas.List.{get_or_default, take_all, drop_all, length-map}
 use Rattle.tt_scan_edges.specs.declared.entry.Entry.{Entry}
 use Rattle.tt_scan_edges.specs.Entries.{edge_of}
-use Rattle.tt_scan_edges.proofs.Orders.{no_entry, is_less, reached}
+use Rattle.tt_scan_edges.proofs.Orders.{is_less, reached}
+use Rattle.tt_scan_order.proofs.Sorted.{no_entry}
 use Rattle.tt_scan.specs.EdgeTable.{meets_row}
 use Rattle.tt_scan.proofs.Walked.{all_met, none_after, met_from, room_for_mark, room_for_walk, walked_more, met_more}
 use Rattle.tt_scan.proofs.collect.visit_begun.Goals as goal
