@@ -1,5 +1,5 @@
 -- Laws of steps.
-use Rattle.std.proofs.Common.{◌≡◌, ◌≢◌, ◌∙◌, refl, ap, ◌+◌, ◌*◌, Bool, false, ℤ, pos, ◌+ℤ◌, ◌-ℤ◌, List, [], ◌∷◌, map, None, arith}
+use Rattle.std.proofs.Common.{◌≡◌, ◌≢◌, ◌∙◌, refl, ap, ◌*◌, Bool, false, ℤ, pos, ◌+ℤ◌, ◌-ℤ◌, List, [], ◌∷◌, map, arith}
 use Rattle.std.proofs.lemmas.Int.{ints}
 use Rattle.tt_arc.specs.Bounds.{box_of}
 use Rattle.tt_arc.specs.Chords.{moved, outline_contours, outline_edges}

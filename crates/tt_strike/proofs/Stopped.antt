@@ -19,7 +19,6 @@ use Rattle.tt_strike.specs.Job.{Job, margin_tested, size_tested, tested, text_te
 use Rattle.tt_strike.specs.Defects.{IsTooMuchWork, IsLineRefusal}
 use Rattle.tt_face.specs.Faces.{Face}
 use Rattle.tt_strike.specs.Refusals.{Refused, as_font, as_job, job, refusal}
-use Rattle.tt_strike.specs.Refusals as outcome
 use Rattle.tt_strike.specs.Picture.{edges_tested, drawn, laid_out, line_outcome, line_shapes, pictured_by, shapes_in, points_tested, setting_in, text_placed}
 use Rattle.tt_core.specs.declared.draw_fault.DrawFault.{DrawFault}
 use Rattle.tt_core.specs.declared.draw_fault.DrawFault.TheVariants as draw

@@ -1,4 +1,4 @@
-use Rattle.std.proofs.Common.{◌≡◌, ◌∙◌, ◌+◌, ◌<◌, true, false, length, get_or, map, slice_index, [], ◌∷◌, arith, length-append}
+use Rattle.std.proofs.Common.{◌≡◌, ◌∙◌, ap, ◌+◌, ◌<◌, true, false, length, get_or, map, slice_index, [], ◌∷◌, arith, length-append}
 use Rattle.std.proofs.lemmas.List.{get_or_default, length-set}
 use Rattle.std.proofs.lemmas.List.Elements.{All-push}
 use Rattle.tt_picture.specs.Distinct.{distinct, is_among}
@@ -26,7 +26,8 @@ loop-placed-preserved c =
           let none : slice_index table g ≡ 0 = omega (arith, seat, w.if-index-eq0.true) in
           let absent : is_among g numbers ≡ false = not_seated table numbers g so_far.places none in
           let more = places_more table numbers g known (none_of numbers g absent) so_far.places in
-          let count : w.len.result ≡ length numbers + 1 = rw (w.len.ensures, w.in_ok-push.ensures.items) (length-append numbers (g ∷ [])) in
+          let count : w.len.result ≡ length numbers + 1 = w.len.ensures ∙ w.push.new.self.ok.0
+          ∙ ap length w.in_ok-push.ensures.items ∙ length-append numbers (g ∷ []) in
           rw (w.places-is, w.from-then-index-eq0.ensures, w.numbers-is, w.in_ok-push.ensures.items, count) (record {
             room = length-set table g (length numbers + 1) ∙ so_far.room;
             known = All-push (λ n. n < c.args.glyphs) numbers g so_far.known (c.requires.known i (0, 0) below);

@@ -1,4 +1,4 @@
-use Rattle.std.proofs.Common.{◌≡◌, ◌∙◌, refl, ap, ℕ, ◌+◌, ◌≤◌, List, [], ◌∷◌, length, map, nat_lt, false, pos, ℤ, ◌+ℤ◌, SFits, w32, to_z, of_z, Some, Ok, arith, rules}
+use Rattle.std.proofs.Common.{◌≡◌, ◌∙◌, refl, ap, ℕ, ◌+◌, ◌≤◌, length, map, nat_lt, false, pos, ℤ, ◌+ℤ◌, SFits, w32, to_z, of_z, Some, Ok, arith, rules}
 use Rattle.std.specs.Prelude.{All, unsigned_abs}
 use Rattle.std.proofs.lemmas.Bool.Decides.{nat_tests}
 use Rattle.std.proofs.lemmas.Int.{ints, to_z-of_z, to_z_pos}

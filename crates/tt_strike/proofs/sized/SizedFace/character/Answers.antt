@@ -52,7 +52,7 @@ step_of-requires c =
     let at = c.in-Some.ensures.found in
     let here : c.index.result.now.number ≡ c.args.placed.0 = ap (λ (t : Glyph). t.number) c.index.ensures
     ∙ sym (get_or-map (λ (t : Glyph). t.number) gs c.in-Some.i c.index.result.now 0 at.0) ∙ at.1 in
-    rw here c.requires.known
+    rw here (record { known = c.requires.known })
 
 pub index-requires-in-Some : goal.index-requires-in-Some
 index-requires-in-Some c =

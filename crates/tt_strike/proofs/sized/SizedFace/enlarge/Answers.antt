@@ -30,7 +30,7 @@ returns-in_err-made-clause-defects c =
     rw (p.1, p.2) c.in_err-made.ensures.defects
 
 pub make_line-requires : goal.make_line-requires
-make_line-requires c = rw c.absent-none.ensures tt
+make_line-requires c = rw c.absent-none.ensures (record { cache = tt })
 
 pub glyph_inks-requires-clause-tapes : goal.glyph_inks-requires-clause-tapes
 glyph_inks-requires-clause-tapes c =

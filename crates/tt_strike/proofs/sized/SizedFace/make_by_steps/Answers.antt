@@ -156,12 +156,13 @@ returns-in_err-line-clause-job c =
     c.in_err-line.field-0.0 bounded c.in_ok-fitter.ensures.exact o.made refused)
 
 -- the line by the outlines of its glyphs
-outlined_then : (c : After-work-left) → IsOutlinedLine c.self.inside.source.face.now (job_here c.self.inside.source.face.now c.self.inside.source.ppem c.self.inside.source.fit c.args.text.now c.args.margin) c.in_ok-fitter.fitter
+outlined_then : (c : After-work-left) → tested (job_here c.self.inside.source.face.now c.self.inside.source.ppem
+    c.self.inside.source.fit c.args.text.now c.args.margin) ≡ Ok tt → IsOutlinedLine c.self.inside.source.face.now (job_here c.self.inside.source.face.now c.self.inside.source.ppem c.self.inside.source.fit c.args.text.now c.args.margin) c.in_ok-fitter.fitter
     (placement_of c.in_ok-line.line) c.in_ok-outlined.outlined.fitted.items c.work-left.result
-outlined_then c =
+outlined_then c passes =
     let o = c.in_ok-outlined.ensures.outlined in
     record {
-      passes = passed c.In_ok-test_text;
+      passes = passes;
       bounded = rw (← c.self.view_is) at c.requires.bounded;
       there = c.in_ok-fitter.ensures.exact;
       points = c.in_ok-outlined.ensures.points;
@@ -180,7 +181,8 @@ returns-in_err-glyphs-clause-stops c =
     let s = c.in_ok-fitter.fitter in
     let l = placement_of c.in_ok-line.line in
     let fs = c.in_ok-outlined.outlined.fitted.items in
-    let is = outlined_then (goal.at.returns-in_err-glyphs-clause-stops c).After-work-left in
+    let all = goal.at.returns-in_err-glyphs-clause-stops c in
+    let is = outlined_then all.After-work-left (passed all.In_ok-test_text) in
     let shapes = line_made z.face a s l fs is in
     let fails = rw (line_edges z.face a s l fs shapes.0 is) at
     (c.in_err-glyphs.ensures.exact (line_fitter s (text_glyphs z.face.cmap c.args.text.now)) shapes.0 is.fitted shapes.1) in
@@ -195,7 +197,8 @@ returns-in_err-glyphs-clause-defects c =
     let s = c.in_ok-fitter.fitter in
     let l = placement_of c.in_ok-line.line in
     let fs = c.in_ok-outlined.outlined.fitted.items in
-    let is = outlined_then (goal.at.returns-in_err-glyphs-clause-defects c).After-work-left in
+    let all = goal.at.returns-in_err-glyphs-clause-defects c in
+    let is = outlined_then all.After-work-left (passed all.In_ok-test_text) in
     let shapes = line_made z.face a s l fs is in
     let fails = c.in_err-glyphs.ensures.exact (line_fitter s (text_glyphs z.face.cmap c.args.text.now)) shapes.0 is.fitted shapes.1 in
     let p = err_from_is_err_and c.from_residual-in_err-glyphs.result c.from_residual-in_err-glyphs.ensures.1 in
@@ -208,7 +211,8 @@ returns-in_err-glyphs-clause-job c =
     let s = c.in_ok-fitter.fitter in
     let l = placement_of c.in_ok-line.line in
     let fs = c.in_ok-outlined.outlined.fitted.items in
-    let is = outlined_then (goal.at.returns-in_err-glyphs-clause-job c).After-work-left in
+    let all = goal.at.returns-in_err-glyphs-clause-job c in
+    let is = outlined_then all.After-work-left (passed all.In_ok-test_text) in
     let shapes = line_made z.face a s l fs is in
     let fails = rw (line_edges z.face a s l fs shapes.0 is) at
     (c.in_err-glyphs.ensures.exact (line_fitter s (text_glyphs z.face.cmap c.args.text.now)) shapes.0 is.fitted shapes.1) in
@@ -226,7 +230,8 @@ returns-clause-made c =
     let l = placement_of c.in_ok-line.line in
     let fs = c.in_ok-outlined.outlined.fitted.items in
     let o = c.in_ok-outlined.ensures.outlined in
-    let is = outlined_then (goal.at.returns-clause-made c).After-work-left in
+    let all = goal.at.returns-clause-made c in
+    let is = outlined_then all.After-work-left (passed all.In_ok-test_text) in
     let shapes = line_made z.face a s l fs is in
     let fitted : shapes_in s l ≡ Ok shapes.0 = rw is.glyphs shapes.1 in
     let few = line_points z.face a s l fs is in
@@ -236,7 +241,8 @@ returns-clause-made c =
     let of = c.in_ok-glyphs.ensures.line maker is.fitted in
     let room : length c.in_ok-outlined.outlined.places.items ≡ glyphs_of z.face.metrics = o.room ∙ c.in_ok-fitter.ensures.setting.glyphs in
     let cost : c.in_ok-glyphs.glyphs.cost ≡ cost_of (work_left s (map (λ g. g.0) l.glyphs)) (crossings_in shapes.0) =
-    c.in_ok-glyphs.ensures.cost maker shapes.0 is.fitted shapes.1 ∙ rw (is.glyphs, is.work) refl in
+    c.in_ok-glyphs.ensures.cost maker shapes.0 is.fitted shapes.1
+    ∙ ap (λ left. cost_of left (crossings_in shapes.0)) (is.work ∙ ap (work_left s) (sym is.glyphs)) in
     rw (← c.self.view_is) (record {
       laid = line_laid z.face a s l fs is;
       glyphs = is.glyphs;
@@ -263,7 +269,8 @@ returns-clause-defects c =
     let s = c.in_ok-fitter.fitter in
     let l = placement_of c.in_ok-line.line in
     let fs = c.in_ok-outlined.outlined.fitted.items in
-    let is = outlined_then (goal.at.returns-clause-defects c).After-work-left in
+    let all = goal.at.returns-clause-defects c in
+    let is = outlined_then all.After-work-left (passed all.In_ok-test_text) in
     let shapes = line_made z.face a s l fs is in
     rw (← c.self.view_is, ← is.glyphs) (no_line_defect z.face a s l.glyphs shapes.0 is.there c.in_ok-fitter.ensures.defects
     (rw is.glyphs shapes.1))

@@ -8,7 +8,7 @@ returns-then-is_bounded-clause-made c =
     rw (no_cache c.args.self.now c.args.cache.now c.requires.cache bounded) c.make_by_steps.ensures.made
 
 pub make_by_steps-requires : goal.make_by_steps-requires
-make_by_steps-requires c = rw (c.is_bounded.ensures, c.fit.ensures) at c.if-is_bounded.true
+make_by_steps-requires c = record { bounded = rw (c.is_bounded.ensures, c.fit.ensures) at c.if-is_bounded.true }
 
 pub make_by_advances-requires-clause-unbounded : goal.make_by_advances-requires-clause-unbounded
 make_by_advances-requires-clause-unbounded c = rw (c.is_bounded.ensures, c.fit.ensures) at c.if-is_bounded.false

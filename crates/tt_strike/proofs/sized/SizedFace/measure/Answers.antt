@@ -21,7 +21,7 @@ returns-in_err-made-clause-exact c =
     c.in_err-made.field-0.0 c.in_err-made.ensures.stops)
 
 pub make_line-requires : goal.make_line-requires
-make_line-requires c = rw c.absent-none.ensures tt
+make_line-requires c = rw c.absent-none.ensures (record { cache = tt })
 
 pub glyph_inks-requires-clause-tapes : goal.glyph_inks-requires-clause-tapes
 glyph_inks-requires-clause-tapes c =

@@ -1,4 +1,4 @@
-use Rattle.std.proofs.Common.{◌≡◌, ◌∙◌, ap, ℕ, ◌<◌, All, List, length, map, refl, sym, Ok}
+use Rattle.std.proofs.Common.{◌≡◌, ◌∙◌, ap, ℕ, ◌<◌, All, List, [], length, map, refl, sym, Ok}
 use Rattle.std.proofs.lemmas.List.{length-map, with_items_is}
 use Rattle.std.proofs.lemmas.Result.{err_from_is_err_and}
 use Rattle.std.specs.Vec.{with_items}
@@ -10,7 +10,8 @@ use Rattle.tt_metrics.specs.Metrics.{glyphs_of}
 use Rattle.tt_picture.specs.Distinct.{distinct}
 use Rattle.tt_picture.specs.Fitted.{AreFitted, fitted_numbers}
 use Rattle.tt_picture.specs.Steps.{glyph_step}
-use Rattle.tt_picture.proofs.Among.{of_same_glyphs}
+use Rattle.tt_picture.proofs.Among.{all_among, of_same_glyphs}
+use Rattle.tt_picture.proofs.Listing.{distinct_differ}
 use Rattle.tt_picture.proofs.Outlines.{steps_are}
 use Rattle.tt_strike.specs.Work.{line_fitter, points_in, started, work_tested}
 use Rattle.tt_strike.proofs.Placed.{of-job}
@@ -73,6 +74,19 @@ steps_then c fitted =
     let count : length c.put_steps.new.line ≡ c.in_ok-steps.steps.len =
     ap length put ∙ length-map c.deref_mut.result.now _ ∙ c.deref_mut.ensures.len in
     with_items_is c.in_ok-steps.steps c.put_steps.new.line count ∙ put ∙ ap (stepped step) c.deref_mut.ensures.value
+
+pub fit_glyphs-requires-clause-differ : goal.fit_glyphs-requires-clause-differ
+fit_glyphs-requires-clause-differ c =
+    let numbers = numbers_are (goal.at.fit_glyphs-requires-clause-differ c).In_ok-met in
+    rw (c.deref-3.ensures.value, numbers)
+    (distinct_differ [] (text_glyphs c.args.self.now.face.now.cmap c.args.text.now) refl)
+
+pub put_steps-requires-clause-among : goal.put_steps-requires-clause-among
+put_steps-requires-clause-among c =
+    let all = goal.at.put_steps-requires-clause-among c in
+    let numbers = fitted_numbers_are all.In_ok-fitted (numbers_are all.In_ok-met) in
+    rw (c.deref-5.ensures.value, c.deref_mut.ensures.value) (all_among c.in_ok-steps.steps.items
+    (fitted_numbers c.in_ok-fitted.fitted.items) (numbers ∙ ap distinct (sym (glyphs_are all.In_ok-met))))
 
 pub returns-in_err-charge_points-clause-stops : goal.returns-in_err-charge_points-clause-stops
 returns-in_err-charge_points-clause-stops c =
