@@ -11,7 +11,8 @@
 //! The answer is a line too: the window from its top row down, '#' for a dropout and '.' for any other pixel, and '/'
 //! after each row.
 
-ghost use Rattle.std.specs.Prelude.{◌≡◌, ◌≤◌, ◌^◌, length, true, ◌&&◌, int_le, IfSome};
+ghost use Rattle.std.specs.Int.{int_max, int_min};
+ghost use Rattle.std.specs.Prelude.{◌≡◌, ◌≤◌, ◌^◌, length, true, ◌≤ℤ◌, IfSome};
 ghost use Rattle.tt_scan.specs.Contours.{AreEnds};
 ghost use Rattle.tt_scan_dropouts.specs.Windows.{WindowFits, widened};
 ghost use Rattle.tt_scan_gaps.specs.Boxes.{EdgeWithin, ExtentsFit, HoldsEdges};
@@ -104,21 +105,24 @@ fn box_in(line: &mut Line) -> Extents
     }
 }
 
-/// Whether an extent holds a coordinate.
-fn is_within(extent: Extent, at: i32) -> bool
-    ensures { result ≡ (int_le extent.low at && int_le at extent.high) }
+/// Whether an extent holds two coordinates.
+fn holds_both(extent: Extent, a: i32, b: i32) -> bool
+    ensures { result ≡ true → (extent.low ≤ℤ int_min a b) × (int_max a b ≤ℤ extent.high) }
 {
-    extent.low <= at && at <= extent.high
+    if a.min(b) < extent.low {
+        return false;
+    }
+    a.max(b) <= extent.high
 }
 
 /// Whether a box holds an edge.
 fn holds(extents: Extents, edge: &Edge) -> bool
     ensures { result ≡ true → EdgeWithin extents.across.low extents.across.high extents.up.low extents.up.high edge.now }
 {
-    is_within(extents.across, edge.ax)
-        && is_within(extents.across, edge.bx)
-        && is_within(extents.up, edge.ay)
-        && is_within(extents.up, edge.by)
+    if !holds_both(extents.across, edge.ax, edge.bx) {
+        return false;
+    }
+    holds_both(extents.up, edge.ay, edge.by)
 }
 
 /// Whether a box holds all of some edges.
