@@ -14,3 +14,4 @@ pub mod PointsBox
 mod Turns
 pub mod Walks
 mod Weights
+mod Whole

@@ -2,7 +2,7 @@
 -- Two points on the curve give a straight line, and a point off the curve gives a quadratic curve. Midway between two
 -- points off the curve there is an implied point on it. Cutting a quadratic into chords is profile: into eight, or into
 -- as many as its bend asks for. Points are in 26.6, ends of quadratics in 1/128 pixel, edges in 1/8192 pixel.
-use Rattle.std.specs.Prelude.{◌≡◌, ℕ, zero, suc, ◌+◌, ◌-◌, ◌*◌, ◌^◌, ◌<◌, ◌≤◌, Bool, false, nat_lt, nat_le, max, if◌then◌else◌, ℤ, pos, ◌+ℤ◌, ◌-ℤ◌, ◌*ℤ◌, unsigned_abs, List, [], ◌∷◌, ◌++◌, length, map, get_or}
+use Rattle.std.specs.Prelude.{◌≡◌, ℕ, zero, suc, ◌+◌, ◌-◌, ◌*◌, ◌^◌, ◌<◌, ◌≤◌, Bool, false, ◌||◌, nat_eq, nat_lt, nat_le, max, if◌then◌else◌, ℤ, pos, ◌+ℤ◌, ◌-ℤ◌, ◌*ℤ◌, unsigned_abs, List, [], ◌∷◌, ◌++◌, length, map, get_or}
 use Rattle.std.specs.List.{slice_index, slice_range, sum_by, flat_map, range_with_len}
 use Rattle.tt_core.specs.Numbers.{nearest_quotient}
 use Rattle.tt_scan_edges.specs.declared.edge.Edge.{Edge}
@@ -183,6 +183,14 @@ pub record AreDifferences (b : Coordinates) (h k : ℕ) (s : Differences) : Type
   pub first : h * (k + 1) ≤ 32 → s.value +ℤ s.first ≡ weighed 32 (h * (k + 1)) b
   pub second : s.second ≡ pos (2 * (h * h)) *ℤ signed_bend b
   pub small : unsigned_abs s.first ≤ 2 ^ 37 + 2 ^ 37 * k
+
+-- a part of a quadratic in eighths of it, such that the parts are 1, 2, 4 or 8; and such a number of parts
+abbrev pub is_part : ℕ → Bool
+is_part n = nat_eq n 1 || (nat_eq n 2 || (nat_eq n 4 || nat_eq n 8))
+
+-- a coordinate in 1/8192 pixel with its differences, in 1/131072 pixel
+abbrev pub sixteenfold : Differences → Differences
+sixteenfold s = record { value = pos 16 *ℤ s.value; first = pos 16 *ℤ s.first; second = pos 16 *ℤ s.second }
 
 -- an end of an edge within the program's range
 pub record EdgeEndFits (s : EdgeEnd) : Type 0 where

@@ -3,8 +3,9 @@
 ghost use Rattle.std.specs.Prelude.{◌≡◌, ◌^◌, ◌<◌, ◌≤◌, ◌++◌, All, length, map, take, drop, IfOk, OnOk};
 ghost use Rattle.tt_arc.specs.Chords.{PointFits, IsNear, EdgeEndFits, moved, edge_end_of, number_after, edges_of, contour_chords, joined_by, contour_edges};
 
+use crate::exact::push_chords;
 use crate::point::{Corner, Offset, PlacedPoint, moved};
-use crate::quadratic::{EdgeEnd, edge_between, push_chords, quadratic_of};
+use crate::quadratic::{EdgeEnd, edge_between, quadratic_of};
 use crate::rule::ChordRule;
 use std::alloc::AllocError;
 use tt_scan::EdgeList;

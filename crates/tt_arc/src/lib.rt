@@ -3,6 +3,7 @@
 
 mod bounds;
 mod contour;
+mod exact;
 pub mod laws;
 mod outline;
 mod point;

@@ -12,7 +12,7 @@
 //! There are 1, 2, 4, 8, 16 or 32 chords. So each end of a chord is one of 33 places of the curve. Along an axis these
 //! places are values of a polynomial of degree 2. The values are whole in 1/131072 pixel, and are rounded to 1/8192 pixel.
 //! Each value follows from the preceding one by sums alone. The sums take its first difference, and the second
-//! difference, which is constant (`Differences`).
+//! difference, which is constant (`Differences`). The ends of up to eight chords need no rounding: exact.rt.
 
 ghost use Rattle.std.specs.Prelude.{◌≡◌, ◌+◌, ◌*◌, ◌^◌, ◌<◌, ◌≤◌, ◌++◌, pos, ◌+ℤ◌, ◌-ℤ◌, ◌*ℤ◌, unsigned_abs, OnOk};
 ghost use Rattle.tt_core.specs.Numbers.{nearest_quotient};
@@ -76,18 +76,18 @@ pub(crate) fn quadratic_of(corner: Corner) -> Quadratic
 
 /// The coordinates of a quadratic along one axis.
 #[derive(Clone, Copy)]
-struct Coordinates {
+pub(crate) struct Coordinates {
     /// Of its start, in 1/128 pixel.
-    from: i64,
+    pub(crate) from: i64,
     /// Of its control point, in 26.6.
-    control: i64,
+    pub(crate) control: i64,
     /// Of its end, in 1/128 pixel.
     to: i64,
 }
 
 /// The coordinates of a quadratic along x.
 #[inline(always)]
-fn along_x(curve: Quadratic) -> Coordinates
+pub(crate) fn along_x(curve: Quadratic) -> Coordinates
     ensures { result ≡ along_x curve }
 {
     Coordinates {
@@ -99,7 +99,7 @@ fn along_x(curve: Quadratic) -> Coordinates
 
 /// The coordinates of a quadratic along y.
 #[inline(always)]
-fn along_y(curve: Quadratic) -> Coordinates
+pub(crate) fn along_y(curve: Quadratic) -> Coordinates
     ensures { result ≡ along_y curve }
 {
     Coordinates {
@@ -111,7 +111,7 @@ fn along_y(curve: Quadratic) -> Coordinates
 
 /// How far a quadratic bends along an axis, with its sign, in 1/128 pixel.
 #[inline(always)]
-fn signed_bend(coordinates: Coordinates) -> i64
+pub(crate) fn signed_bend(coordinates: Coordinates) -> i64
     requires { CoordinatesFit coordinates }
     ensures exact { result ≡ signed_bend coordinates }
     ensures bound { unsigned_abs result ≤ 2 ^ 26 }
@@ -143,7 +143,7 @@ fn chords_of_bend(bend: u64) -> u32
 
 /// How many chords a quadratic has.
 #[inline(always)]
-fn chord_count(curve: Quadratic, rule: ChordRule) -> u32
+pub(crate) fn chord_count(curve: Quadratic, rule: ChordRule) -> u32
     requires { QuadraticFits curve }
     ensures { result ≡ chord_count rule curve }
 {
@@ -157,18 +157,18 @@ fn chord_count(curve: Quadratic, rule: ChordRule) -> u32
     }
 }
 
-/// The end of a chord along one axis, the first difference to the next chord's end, and the second difference, in
-/// 1/131072 pixel.
+/// The end of a chord along one axis, the first difference to the next chord's end, and the second difference. They are
+/// in 1/131072 pixel, and of an exact end in 1/8192 pixel.
 #[derive(Clone, Copy)]
-struct Differences {
-    value: i64,
-    first: i64,
-    second: i64,
+pub(crate) struct Differences {
+    pub(crate) value: i64,
+    pub(crate) first: i64,
+    pub(crate) second: i64,
 }
 
 /// `count * v`, with a contract that names the product of integers.
 #[inline(always)]
-fn times(count: u32, v: i64) -> i64
+pub(crate) fn times(count: u32, v: i64) -> i64
     requires count { count ≤ 32 }
     requires length { unsigned_abs v ≤ 2 ^ 33 }
     ensures exact { result ≡ pos count *ℤ v }
@@ -204,7 +204,7 @@ fn differences_at_start(coordinates: Coordinates, step: u32) -> Differences
 
 /// The differences one chord further.
 #[inline(always)]
-fn next(s: Differences) -> Differences
+pub(crate) fn next(s: Differences) -> Differences
     requires value { unsigned_abs s.value < 2 ^ 34 }
     requires first { unsigned_abs s.first < 2 ^ 43 }
     requires second { unsigned_abs s.second ≤ 2 ^ 37 }
@@ -238,7 +238,7 @@ fn rounded(place: i64) -> i64
     (place + 8).div_euclid(16)
 }
 
-/// The end of a chord.
+/// The rounded end of a chord.
 #[inline(always)]
 fn edge_end(x: Differences, y: Differences) -> EdgeEnd
     requires x { unsigned_abs x.value + 2 ^ 11 ≤ 2 ^ 34 }
@@ -271,18 +271,19 @@ pub(crate) fn edge_between(a: EdgeEnd, b: EdgeEnd) -> Edge
     }
 }
 
-/// Adds the chords of a quadratic to a list. Error: memory ran out.
+/// Adds the chords of a quadratic to a list, with rounded ends. Error: memory ran out.
 #[inline(always)]
 #[tactic(auto, using(crate::proofs::Places::no_chord))]
-pub(crate) fn push_chords(
+pub(crate) fn push_rounded(
     list: &mut EdgeList,
     curve: Quadratic,
     rule: ChordRule,
+    n: u32,
 ) -> Result<(), AllocError>
-    requires { QuadraticFits curve }
+    requires curve { QuadraticFits curve }
+    requires count { n ≡ chord_count rule curve }
     ensures exact { OnOk result (list.new.edges ≡ list.old.edges ++ chords_by rule curve) }
 {
-    let n = chord_count(curve, rule);
     let step = 32 / n;
     list.reserve(n as usize)?;
     let mut x = differences_at_start(along_x(curve), step);

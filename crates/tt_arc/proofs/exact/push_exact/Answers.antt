@@ -1,0 +1,115 @@
+use Rattle.std.proofs.Common.{◌≡◌, ◌+◌, ◌*◌, ◌/◌, ◌^◌, ◌<◌, refl, arith, length-append}
+use Rattle.tt_arc.specs.Chords.{AreDifferences, along_x, along_y, chord_count, sixteenfold}
+use Rattle.tt_arc.proofs.Whole.{end_fits, exact_end, exact_next, part_of_count, sixteen_less, sixteen_within, step_of_count, value_small}
+use Rattle.tt_arc.proofs.Places.{coordinates_x, coordinates_y, first_ok, no_chord, room, second_ok}
+use Rattle.tt_arc.proofs.Walks.{one_chord_pushed}
+use Rattle.tt_arc.proofs.exact.push_exact.Goals as goal
+
+pub next-x-requires-clause-value : goal.next-x-requires-clause-value
+next-x-requires-clause-value c =
+    let r = c.args.rule in
+    let q = c.args.curve in
+    let below : c.loop-k.k < chord_count r q = rw c.requires.count at c.loop-k-test.true in
+    let few = value_small (along_x q) (32 / chord_count r q) c.loop-k.k c.loop-k.x (coordinates_x q c.requires.curve)
+    (room r q c.loop-k.k (omega (arith, below))) c.loop-k.invariant.x in
+    omega (arith, few)
+
+pub next-x-requires-clause-first : goal.next-x-requires-clause-first
+next-x-requires-clause-first c =
+    let r = c.args.rule in
+    let q = c.args.curve in
+    let below : c.loop-k.k < chord_count r q = rw c.requires.count at c.loop-k-test.true in
+    sixteen_less c.loop-k.x.first (2 ^ 43) (first_ok r q c.loop-k.k (along_x q) (sixteenfold c.loop-k.x) below c.loop-k.invariant.x)
+
+pub next-x-requires-clause-second : goal.next-x-requires-clause-second
+next-x-requires-clause-second c =
+    sixteen_within c.loop-k.x.second (2 ^ 37) (second_ok c.args.rule c.args.curve c.loop-k.k (along_x c.args.curve)
+    (sixteenfold c.loop-k.x) (coordinates_x c.args.curve c.requires.curve) c.loop-k.invariant.x)
+
+pub differences_at_start-x-requires-clause-coordinates : goal.differences_at_start-x-requires-clause-coordinates
+differences_at_start-x-requires-clause-coordinates c = rw c.along_x.ensures (coordinates_x c.args.curve c.requires.curve)
+
+pub differences_at_start-x-requires-clause-part : goal.differences_at_start-x-requires-clause-part
+differences_at_start-x-requires-clause-part c = part_of_count c.args.n c.requires.few
+
+pub next-y-requires-clause-value : goal.next-y-requires-clause-value
+next-y-requires-clause-value c =
+    let r = c.args.rule in
+    let q = c.args.curve in
+    let below : c.loop-k.k < chord_count r q = rw c.requires.count at c.loop-k-test.true in
+    let few = value_small (along_y q) (32 / chord_count r q) c.loop-k.k c.loop-k.y (coordinates_y q c.requires.curve)
+    (room r q c.loop-k.k (omega (arith, below))) c.loop-k.invariant.y in
+    omega (arith, few)
+
+pub next-y-requires-clause-first : goal.next-y-requires-clause-first
+next-y-requires-clause-first c =
+    let r = c.args.rule in
+    let q = c.args.curve in
+    let below : c.loop-k.k < chord_count r q = rw c.requires.count at c.loop-k-test.true in
+    sixteen_less c.loop-k.y.first (2 ^ 43) (first_ok r q c.loop-k.k (along_y q) (sixteenfold c.loop-k.y) below c.loop-k.invariant.y)
+
+pub next-y-requires-clause-second : goal.next-y-requires-clause-second
+next-y-requires-clause-second c =
+    sixteen_within c.loop-k.y.second (2 ^ 37) (second_ok c.args.rule c.args.curve c.loop-k.k (along_y c.args.curve)
+    (sixteenfold c.loop-k.y) (coordinates_y c.args.curve c.requires.curve) c.loop-k.invariant.y)
+
+pub differences_at_start-y-requires-clause-coordinates : goal.differences_at_start-y-requires-clause-coordinates
+differences_at_start-y-requires-clause-coordinates c = rw c.along_y.ensures (coordinates_y c.args.curve c.requires.curve)
+
+pub differences_at_start-y-requires-clause-part : goal.differences_at_start-y-requires-clause-part
+differences_at_start-y-requires-clause-part c = part_of_count c.args.n c.requires.few
+
+pub edge_between-requires-clause-b : goal.edge_between-requires-clause-b
+edge_between-requires-clause-b c =
+    let r = c.args.rule in
+    let q = c.args.curve in
+    let below : c.loop-k.k < chord_count r q = rw c.requires.count at c.loop-k-test.true in
+    let inv = c.loop-k.invariant in
+    let x = exact_next r q c.loop-k.k (along_x q) c.loop-k.x c.next-x.result (coordinates_x q c.requires.curve) below inv.x
+    c.next-x.ensures.value c.next-x.ensures.first c.next-x.ensures.second in
+    let y = exact_next r q c.loop-k.k (along_y q) c.loop-k.y c.next-y.result (coordinates_y q c.requires.curve) below inv.y
+    c.next-y.ensures.value c.next-y.ensures.first c.next-y.ensures.second in
+    end_fits (along_x q) (along_y q) (32 / chord_count r q) (c.loop-k.k + 1) c.next-x.result c.next-y.result c.edge_end-to.result
+    (coordinates_x q c.requires.curve) (coordinates_y q c.requires.curve) (room r q (c.loop-k.k + 1) (omega (arith, below))) x y
+    c.edge_end-to.ensures
+
+pub loop-k-init : goal.loop-k-init
+loop-k-init c =
+    let r = c.args.rule in
+    let q = c.args.curve in
+    let step : 4 * (8 / c.args.n) ≡ 32 / chord_count r q = rw (step_of_count c.args.n c.requires.few, c.requires.count) refl in
+    let x : AreDifferences (along_x q) (32 / chord_count r q) 0 (sixteenfold c.differences_at_start-x.result) =
+    rw (c.along_x.ensures, step) at c.differences_at_start-x.ensures in
+    let y : AreDifferences (along_y q) (32 / chord_count r q) 0 (sixteenfold c.differences_at_start-y.result) =
+    rw (c.along_y.ensures, step) at c.differences_at_start-y.ensures in record {
+      pushed = rw (no_chord (chord_count r q) q c.args.list.now.edges) c.reserve.ensures.edges;
+      room = omega (arith, c.in_ok-reserve.ensures.room);
+      x = x;
+      y = y;
+      from = exact_end r q 0 c.differences_at_start-x.result c.differences_at_start-y.result c.edge_end-from.result (omega arith) x y c.edge_end-from.ensures;
+      fits = end_fits (along_x q) (along_y q) (32 / chord_count r q) 0 c.differences_at_start-x.result c.differences_at_start-y.result
+          c.edge_end-from.result (coordinates_x q c.requires.curve) (coordinates_y q c.requires.curve) (omega arith) x y c.edge_end-from.ensures;
+    }
+
+pub loop-k-preserved : goal.loop-k-preserved
+loop-k-preserved c =
+    let r = c.args.rule in
+    let q = c.args.curve in
+    let below : c.loop-k.k < chord_count r q = rw c.requires.count at c.loop-k-test.true in
+    let inv = c.loop-k.invariant in
+    let x = exact_next r q c.loop-k.k (along_x q) c.loop-k.x c.next-x.result (coordinates_x q c.requires.curve) below inv.x
+    c.next-x.ensures.value c.next-x.ensures.first c.next-x.ensures.second in
+    let y = exact_next r q c.loop-k.k (along_y q) c.loop-k.y c.next-y.result (coordinates_y q c.requires.curve) below inv.y
+    c.next-y.ensures.value c.next-y.ensures.first c.next-y.ensures.second in
+    let at = exact_end r q (c.loop-k.k + 1) c.next-x.result c.next-y.result c.edge_end-to.result (omega (arith, below)) x y c.edge_end-to.ensures in record {
+      pushed = one_chord_pushed c.args.list.now.edges c.loop-k.list.edges c.push_reserved.new.self.edges (chord_count r q) q
+          c.loop-k.k c.loop-k.from c.edge_end-to.result c.edge_between.result inv.pushed
+          inv.from at c.edge_between.ensures.exact (rw c.push_reserved.ensures refl);
+      room = rw c.push_reserved.ensures (simp length-append (omega (arith, inv.room)));
+      x = x;
+      y = y;
+      from = at;
+      fits = end_fits (along_x q) (along_y q) (32 / chord_count r q) (c.loop-k.k + 1) c.next-x.result c.next-y.result
+          c.edge_end-to.result (coordinates_x q c.requires.curve) (coordinates_y q c.requires.curve)
+          (room r q (c.loop-k.k + 1) (omega (arith, below))) x y c.edge_end-to.ensures;
+    }
