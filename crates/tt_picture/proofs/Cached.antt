@@ -104,9 +104,3 @@ pub of_edges : (filled : Option BoxedRules) (body : GlyphBody) (es : List Edge) 
 of_edges None body es P is has holds = tt
 of_edges (Some rules) (tape t) es P is has holds = rw has holds
 of_edges (Some rules) (raster k) es P is has holds = absurd is
-
--- rules with a box within the limits
-pub rules_fit : (b : Extents) (rules : Option DropoutRules) → ExtentsFit b
-    → IfSome (rules_for b rules) (λ (boxed : BoxedRules). ExtentsFit boxed.extents)
-rules_fit b None fits = tt
-rules_fit b (Some rules) fits = fits

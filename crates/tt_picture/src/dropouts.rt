@@ -4,31 +4,13 @@ ghost use Rattle.std.specs.Prelude.{◌≡◌, ℕ, ◌<◌, ◌||◌, All, IfOk
 ghost use Rattle.tt_picture.specs.Glyphs.{CanBeFilled, edges_of, stamps_in};
 ghost use Rattle.tt_picture.specs.Pictures.{IsPictureFrame};
 ghost use Rattle.tt_picture.specs.Pixels.{is_filled_by, is_filled_from};
-ghost use Rattle.tt_picture.specs.Shapes.{rules_for};
 ghost use Rattle.tt_scan.specs.Contours.{contours_at};
 ghost use Rattle.tt_scan_dropouts.specs.Pictures.{AreDropouts, AreInColumns, is_among};
 
 use crate::glyph::{Glyph, GlyphBody};
 use std::alloc::{AllocError, Global};
-use tt_fit::DropoutRules;
 use tt_scan::Frame;
-use tt_scan_dropouts::{BoxedRules, Dropout, Extents, Rules, push_dropouts, sort_by_rows};
-
-/// The dropout rules in the scan converter's type, with the glyph's box.
-pub(crate) fn rules_for(extents: Extents, rules: Option<DropoutRules>) -> Option<BoxedRules>
-    ensures { result ≡ rules_for extents rules }
-{
-    match rules {
-        Some(rules) => Some(BoxedRules {
-            rules: Rules {
-                stubs: rules.stubs,
-                smart: rules.smart,
-            },
-            extents,
-        }),
-        None => None,
-    }
-}
+use tt_scan_dropouts::{Dropout, push_dropouts, sort_by_rows};
 
 /// Adds a glyph's dropouts at its pens, as far as the picture has them. Error: Memory.
 fn push_glyph(

@@ -14,21 +14,20 @@ ghost use Rattle.tt_scan_rows.specs.Raster.{IsRasterOf, Raster};
 ghost use Rattle.tt_picture.specs.Cached.{IsCacheFor, IsCached, is_there, limit_of};
 ghost use Rattle.tt_picture.specs.Fitted.{IsFitted};
 ghost use Rattle.tt_picture.specs.Glyphs.{BodyFits, IsBodyOf, IsDrawn, IsTape};
-ghost use Rattle.tt_picture.specs.Shapes.{contours_of, edges_at, extents_of, rule_by};
+ghost use Rattle.tt_picture.specs.Shapes.{contours_of, edges_at, extents_of, rule_by, rules_for};
 ghost use Rattle.tt_picture.specs.Steps.{chords_of};
 ghost use Rattle.tt_picture.specs.Views.{body_view};
 
 use crate::cache::Cache;
-use crate::dropouts::rules_for;
 use crate::glyph::{Glyph, GlyphBody, tape_of};
 use std::alloc::{AllocError, Global};
 use std::marker::Model;
 use std::rc::Rc;
 use tt_arc::{ChordRule, OutlineEdges, edges, points_box};
 use tt_core::{Fault, FontFault};
-use tt_fit::{Fitter, Outline};
+use tt_fit::{DropoutRules, Fitter, Outline};
 use tt_scan::{EdgeList, Frame};
-use tt_scan_dropouts::{BoxedRules, Extents};
+use tt_scan_dropouts::{BoxedRules, Extents, Rules};
 use tt_scan_rows::{CutGlyph, Raster};
 use tt_strike_kept::KeptGlyph;
 
@@ -62,7 +61,7 @@ impl FittedGlyph {
     {
         let rule = rule_by(fitter.work());
         let outline = fitter.fit(number)?;
-        let filled = rules_for(extents_of(&outline), fitter.dropouts(&outline));
+        let filled = rules_for(&outline, fitter.dropouts(&outline));
         Ok(FittedGlyph {
             number,
             outline,
@@ -154,6 +153,24 @@ fn extents_of(outline: &Outline) -> Extents
 {
     let origin = outline.phantom[0].0;
     points_box(outline, -i64::from(origin), 0)
+}
+
+/// The dropout rules in the scan converter's type, with the outline's box, which is needed only there.
+fn rules_for(outline: &Outline, rules: Option<DropoutRules>) -> Option<BoxedRules>
+    requires outline { IsOutline (outline_of outline.now) }
+    ensures exact { result ≡ rules_for (extents_of (outline_of outline.now)) rules }
+    ensures fits { IfSome result (λ b. ExtentsFit b.extents) }
+{
+    match rules {
+        Some(rules) => Some(BoxedRules {
+            rules: Rules {
+                stubs: rules.stubs,
+                smart: rules.smart,
+            },
+            extents: extents_of(outline),
+        }),
+        None => None,
+    }
 }
 
 /// The edges of an outline whose first phantom point is at the left end of the line. The ends of its contours are told

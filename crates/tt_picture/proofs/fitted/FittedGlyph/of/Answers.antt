@@ -1,6 +1,5 @@
 use Rattle.std.proofs.Common.{refl}
 use Rattle.tt_fit_outline.specs.Views.{outline_of}
-use Rattle.tt_picture.proofs.Cached.{rules_fit}
 use Rattle.tt_picture.proofs.Turns.{same_dropouts}
 use Rattle.tt_picture.proofs.fitted.FittedGlyph.of.Goals as goal
 
@@ -11,13 +10,12 @@ returns-clause-fitted c =
       outline = made.exact;
       rule = rw (c.rule_by-rule.ensures, c.work.ensures) refl;
       filled = rw (
-        c.rules_for-filled.ensures,
-        c.extents_of.ensures.exact,
+        c.rules_for-filled.ensures.exact,
         c.dropouts.ensures,
         made.after,
         made.unfitted,
         same_dropouts c.args.fitter.now c.args.number _ (outline_of c.in_ok-outline.outline),
       ) refl;
       unfitted = made.unfitted;
-      fits = rw c.rules_for-filled.ensures (rules_fit c.extents_of.result c.dropouts.result c.extents_of.ensures.fits);
+      fits = c.rules_for-filled.ensures.fits;
     }
