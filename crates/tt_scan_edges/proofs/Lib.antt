@@ -8,6 +8,7 @@ pub mod Followed
 pub mod JoinedKept
 pub mod JoinedMoved
 pub mod Joins
+pub mod Lines
 pub mod Orders
 pub mod Ranges
 pub mod Sides

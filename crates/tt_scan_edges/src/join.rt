@@ -1,28 +1,30 @@
 //! Joining the edges of a contour that meet no line. Most chords of a curve are short and meet no line, so far fewer
 //! edges are left. The black places at the heights of lines remain, and so do the crossings of lines.
 
-ghost use Rattle.std.specs.Prelude.{◌≡◌, ◌+◌, ◌<◌, ◌≤◌, ◌++◌, true, false, length, take, drop, slice_set};
+ghost use Rattle.std.specs.Prelude.{◌≡◌, ◌&&◌, ◌+◌, ◌^◌, ◌<◌, ◌≤◌, ◌++◌, ◌+ℤ◌, pos, int_lt, unsigned_abs, true, false, length, take, drop, slice_set};
 ghost use Rattle.tt_scan_edges.specs.Winding.{is_between};
-ghost use Rattle.tt_scan_edges.specs.Joined.{goes_on, is_clear, join, joined, joins, leads_to, lies_on_line, line_below, meets_none};
+ghost use Rattle.tt_scan_edges.specs.Joined.{goes_on, is_clear, join, joined, joins, leads_to, line_at, line_below, meets_none};
 
 use crate::crossing::is_between;
 use crate::edge::Edge;
 use crate::quotient::{HALF, PIXEL};
 
-/// The last line at or below a place.
+/// The place of the last line at or below a place.
 #[inline(always)]
 fn line_below(v: i32) -> i64
-    ensures { result ≡ line_below v }
+    ensures exact { result ≡ line_at (line_below v) }
+    ensures small { unsigned_abs result < 2 ^ 33 }
 {
-    (i64::from(v) - HALF) >> 13
+    PIXEL * ((i64::from(v) - HALF) >> 13) + HALF
 }
 
-/// Whether a place is on a line.
+/// Whether a place is past a line and before the next line.
 #[inline(always)]
-fn lies_on_line(v: i32) -> bool
-    ensures { result ≡ lies_on_line v }
+fn is_past(v: i32, line: i64) -> bool
+    requires { unsigned_abs line < 2 ^ 33 }
+    ensures { result ≡ (int_lt line v && int_lt v (line +ℤ pos 8192)) }
 {
-    (i64::from(v) - HALF).rem_euclid(PIXEL) == 0
+    line < i64::from(v) && i64::from(v) < line + PIXEL
 }
 
 /// Whether no line lies between two places, both included.
@@ -30,7 +32,8 @@ fn lies_on_line(v: i32) -> bool
 fn meets_none(a: i32, b: i32) -> bool
     ensures { result ≡ meets_none a b }
 {
-    line_below(a) == line_below(b) && (!lies_on_line(a) && !lies_on_line(b))
+    let line = line_below(a);
+    is_past(a, line) && is_past(b, line)
 }
 
 /// Whether an edge ends where another begins.
