@@ -4,6 +4,7 @@
 ghost use Rattle.std.specs.Prelude.{◌≤◌};
 
 mod command;
+mod plain;
 
 use crate::command::request;
 use clap::Error;
