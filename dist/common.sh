@@ -35,10 +35,11 @@ is_made_of() {
   sum=$(sum_of_sources "$1") && [ -n "$sum" ] && [ "$sum" = "$(proved sources)" ]
 }
 
-# find_compiler ROOM [FLAG..]: leaves as ${cc[@]} and ${flags[@]} the C compiler and its flags, those of CC and CFLAGS
-# where they are given, and as $machine the folder of the processor that it compiles for; tries it with the flags.
+# find_compiler ROOM [static|dynamic]: leaves as ${cc[@]} and ${flags[@]} the C compiler and its flags, those of CC and
+# CFLAGS where they are given; as $machine the folder of the processor that it compiles for; and as ${link[@]} the flag
+# for a program that is static or dynamic. Without a word the program is static, if the C library has the files.
 find_compiler() {
-  local target tool tried
+  local target tool way tried
   read -ra cc <<<"${CC:-cc}"
   read -ra flags <<<"${CFLAGS--O2}"
   command -v "${cc[0]}" >/dev/null ||
@@ -55,9 +56,13 @@ find_compiler() {
   esac
   [ -n "$machine" ] || stop "${cc[*]} compiles for $target, for which there is no text"
   echo 'int main(void) { return 0; }' >"$1/tried.c"
-  tried=("${cc[@]}" "${flags[@]}" "${@:2}")
-  "${tried[@]}" -o "$1/tried" "$1/tried.c" 2>/dev/null ||
-    stop "${tried[*]} makes no program here: an assembler, a linker or the C library's files lack"
+  for way in ${2:-static dynamic}; do
+    link=()
+    [ "$way" = dynamic ] || link=(-static)
+    tried=("${cc[@]}" "${flags[@]}" "${link[@]}")
+    ! "${tried[@]}" -o "$1/tried" "$1/tried.c" 2>/dev/null || return 0
+  done
+  stop "${tried[*]} makes no program here: an assembler, a linker or the C library's files lack"
 }
 
 # text_of NAME FILE: unpacks the assembler text of the program or the library.
@@ -71,10 +76,10 @@ compile() {
   "${cc[@]}" "${flags[@]}" "$@" || stop "${cc[*]} failed, as it says above"
 }
 
-# link_program ROOM FILE [FLAG..]: makes the program, in a folder for what stands between.
+# link_program ROOM FILE: makes the program, in a folder for what stands between.
 link_program() {
   text_of tt_render "$1/tt_render.s"
-  compile "${@:3}" -o "$2" "$1/tt_render.s" "$dist/host.c" "$dist/heap.c" -Wl,--gc-sections -Wl,--wrap=main
+  compile "${link[@]}" -o "$2" "$1/tt_render.s" "$dist/host.c" "$dist/heap.c" -Wl,--gc-sections -Wl,--wrap=main
 }
 
 # archive_library ROOM HEAP [FLAG..]: makes of the library's text, in the room, and of a heap in C the archive. It has two

@@ -4,13 +4,52 @@ ghost use Rattle.std.specs.Prelude.{◌≡◌, ℕ, Bool, true, false, List, Som
 ghost use Rattle.std.specs.Str.Parse.{ParsesUnsigned, ExplainsUnsignedError, HasUnsignedDigitsIfOk};
 ghost use Rattle.clap.specs.Words.{ReadsOne, first_value, found_of, one_text};
 
-use clap::{Arg, ArgAction, ArgMatches, Command, value_parser};
+use crate::plain::read_plain;
+use clap::{Arg, ArgAction, ArgMatches, Command, Error, value_parser};
 use std::alloc::{AllocError, Global};
 use tt_program_decisions::{Arguments, DRAW, FITS, FULL, MISSING_WORDS, Request, request_of};
 
+/// The request of a subcommand and of the words after it, where these are plain. `map` takes a font and a text alone.
+fn plain_request<'a>(subcommand: &str, words: &'a [String]) -> Option<Request<'a>> {
+    if subcommand == "map" && words.len() != 2 {
+        return None;
+    }
+    request_of(subcommand, &read_plain(words)?)
+}
+
+/// The request that the words make. None where a required argument is absent. Where clap reads the words, one
+/// description is built: that of the subcommand. Without a subcommand it is that of the whole program, and help, the
+/// version or a fault is the error.
+pub(crate) fn request<'a>(
+    alloc: Global,
+    words: &'a [String],
+) -> Result<Option<Request<'a>>, Error> {
+    let name = match words.get(1) {
+        Some(word) => word.as_str(),
+        None => "",
+    };
+    if words.len() > 2 {
+        let request = plain_request(name, &words[2..]);
+        if request.is_some() {
+            return Ok(request);
+        }
+    }
+    let asked = match name {
+        "draw" => draw_command(alloc)?.bin_name("tt_render draw")?,
+        "measure" => measure_command(alloc)?.bin_name("tt_render measure")?,
+        "map" => map_command(alloc)?.bin_name("tt_render map")?,
+        _ => {
+            program(alloc)?.try_get_matches_from(words)?;
+            return Ok(None);
+        }
+    };
+    let matches = asked.try_get_matches_from(&words[1..])?;
+    Ok(request_of(name, &Found { matches: &matches }))
+}
+
 /// Describes `tt_render map FONT TEXT`, and `draw` and `measure` with `--size N [--margin N]
 /// [--fit full|none|fallback|best] [--missing draw|tell|refuse] [--grow]` and `FONT TEXT` or `--lines FONT`.
-pub(crate) fn command<'a>(alloc: Global) -> Result<Command<'a>, AllocError> {
+fn program<'a>(alloc: Global) -> Result<Command<'a>, AllocError> {
     Command::new(alloc, "tt_render")
         .bin_name("tt_render")?
         .about("Draws lines of text from a TrueType font")
@@ -171,10 +210,4 @@ impl<'m, 'a> Arguments<'a> for Found<'m, 'a> {
     fn is_set(&self, name: &str) -> bool {
         self.matches.get_flag(name)
     }
-}
-
-/// Makes a request of what clap found; None where a required argument is absent.
-pub(crate) fn request<'a>(matches: &ArgMatches<'a>) -> Option<Request<'a>> {
-    let (subcommand, matches) = matches.subcommand()?;
-    request_of(subcommand, &Found { matches })
 }

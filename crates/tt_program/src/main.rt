@@ -4,11 +4,11 @@
 ghost use Rattle.std.specs.Prelude.{◌≤◌};
 
 mod command;
+mod plain;
 
-use crate::command::{command, request};
+use crate::command::request;
+use clap::Error;
 use clap::error::ErrorKind;
-use clap::{ArgMatches, Error};
-use std::alloc::Global;
 use std::process::ExitCode;
 use std::rt::{Env, Files, Stderr, Stdin};
 use std::{env, fs, io};
@@ -28,12 +28,10 @@ fn serve<R: Files + Env + Print + Eprint + AllocGlobal>(rt: &R, stdin: Stdin, st
         Ok(words) => words,
         Err(error) => return tell_stop(stop_of_words(error.kind()), &mut errors),
     };
-    let matches = match matches(rt.alloc(), words.as_slice()) {
-        Ok(matches) => matches,
+    let request = match request(rt.alloc(), words.as_slice()) {
+        Ok(Some(request)) => request,
+        Ok(None) => return tell_stop(Stop::Incomplete, &mut errors),
         Err(error) => return tell_stop(stop_of_error(rt, &error), &mut errors),
-    };
-    let Some(request) = request(&matches) else {
-        return tell_stop(Stop::Incomplete, &mut errors);
     };
     let file = match fs::open(rt, request.font()) {
         Ok(file) => file,
@@ -55,10 +53,6 @@ fn serve<R: Files + Env + Print + Eprint + AllocGlobal>(rt: &R, stdin: Stdin, st
 fn words<R: Env + AllocGlobal>(rt: &R) -> io::Result<Vec<String>> {
     let words = env::args(rt)?.collect(rt.alloc())?;
     Ok(words)
-}
-
-fn matches<'a>(alloc: Global, words: &'a [String]) -> Result<ArgMatches<'a>, Error> {
-    command(alloc)?.try_get_matches_from(words)
 }
 
 /// Prints what clap says: help and the version on standard output, all else on standard error.

@@ -13,6 +13,18 @@ use tt_core::{FONT_LIMIT, IoFailed, Source};
 /// The bytes of one read.
 const PIECE: usize = 131_072;
 
+/// The first request of memory, in bytes, which is enough for most fonts. The system gives pages only as they are
+/// written.
+const FIRST: usize = 1_048_576;
+
+/// The bytes of the read at this place. Zeros past the font's end are in vain, so the first reads are short.
+fn piece_at(filled: usize) -> usize
+    ensures some { 0 < result }
+    ensures few { result ≤ 131072 }
+{
+    if filled < 2 * PIECE { PIECE / 4 } else { PIECE }
+}
+
 /// Extends the vector with zeros past its filled front, so that the next read finds room. The memory doubles, up to one
 /// byte more than the limit, so the last growth begins at half of it. Error: Memory.
 fn make_room(file: &mut Vec<u8>, filled: usize) -> Result<(), AllocError>
@@ -27,9 +39,10 @@ fn make_room(file: &mut Vec<u8>, filled: usize) -> Result<(), AllocError>
     if filled < file.len() {
         return Ok(());
     }
-    let wanted = (filled + PIECE).min(FONT_LIMIT + 1);
+    let wanted = (filled + piece_at(filled)).min(FONT_LIMIT + 1);
     if file.capacity() < wanted {
-        file.reserve_exact((2 * filled + 1).clamp(wanted, FONT_LIMIT + 1) - filled)?;
+        let memory = (2 * filled + 1).max(FIRST).clamp(wanted, FONT_LIMIT + 1);
+        file.reserve_exact(memory - filled)?;
     }
     file.resize(wanted, 0)
 }

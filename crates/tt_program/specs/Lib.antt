@@ -1,0 +1,2 @@
+-- Definitions of the program's own.
+pub mod Plain
