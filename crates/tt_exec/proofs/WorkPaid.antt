@@ -19,7 +19,7 @@ unfolding work_within
 none_left m left = refl
 
 -- the work of a step, followed by the rest
-goes_on : (n : ℕ) (m : MachineState) (left : Option ℕ) → is_ended m ≡ false
+pub goes_on : (n : ℕ) (m : MachineState) (left : Option ℕ) → is_ended m ≡ false
     → work_within (suc n) m left
     ≡ then_work (charged (over_at m) (step_cost m) left) (work_after (work_within n) (step m))
 unfolding work_within
@@ -40,7 +40,7 @@ pub step_spent : (n : ℕ) (m : MachineState) (fault : Fault) (left : Option ℕ
     → StepPays m left (spent fault) → work_within (suc n) m left ≡ spent fault
 step_spent n m fault left open_at pays = goes_on n m left open_at ∙ rw pays refl
 
-begins : (m : MachineState) (left : Option ℕ)
+pub begins : (m : MachineState) (left : Option ℕ)
     → run_work m left ≡ then_work (charged (over_at m) (copied m) left) (work_within step_limit m)
 unfolding run_work
 begins m left = refl
