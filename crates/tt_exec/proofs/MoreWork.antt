@@ -1,13 +1,12 @@
 -- A run with more work remaining is the same run, and as much more remains after it.
-use Rattle.std.proofs.Common.{◌≡◌, ℕ, ◌+◌, Bool, Option, Some, None, Ok, Err, sym, ◌∙◌, ap, refl}
+use Rattle.std.proofs.Common.{◌≡◌, ℕ, ◌+◌, Bool, Option, Some, Ok, Err, sym, ◌∙◌, ap, refl}
 use Rattle.tt_core.specs.Faults.{Fault}
 use Rattle.tt_exec.specs.declared.fault.ExecFault.TheVariants as exec
 use Rattle.tt_exec.specs.declared.work.WorkFault.TheVariants as work
 use Rattle.tt_exec.specs.Machines.{Machine, run_from}
 use Rattle.tt_exec.specs.MoreWork.{IsMore, EndsStay, FaultsStay}
-use Rattle.tt_exec.specs.RunCost.{Costs}
-use Rattle.tt_exec.specs.Work.{Worked, enough, spent, run_work}
-use Rattle.tt_exec.proofs.RunCosts.{of_run, grows}
+use Rattle.tt_exec.specs.Work.{enough, spent, run_work}
+use Rattle.tt_exec.proofs.RunCosts.{of_run, rest_is, grows}
 use Rattle.tt_exec_step.specs.MachineState.{MachineState}
 use Rattle.tt_exec_step.proofs.Single.{outcome}
 
@@ -20,18 +19,11 @@ of_same s t f g state failed = rw (state, failed) refl
 same_machine : (a b : Machine) → a.state ≡ b.state → a.failed ≡ b.failed → a ≡ b
 same_machine a b state failed = of_same a.state b.state a.failed b.failed state failed
 
--- a number remains
-rest_by : (cost left : ℕ) (worked : Worked) (after : Option ℕ) → Costs cost left worked → worked ≡ enough after
-    → (rest : ℕ) × (after ≡ Some rest)
-rest_by cost left (enough (Some k)) after is e = (k, cc)
-rest_by cost left (enough None) after is e = absurd is
-rest_by cost left (spent f) after is e = absurd cc
-
 with_more : (m : MachineState) (left more : ℕ) (after : Option ℕ) → run_work m (Some left) ≡ enough after
     → (rest : ℕ) × (after ≡ Some rest) × (run_work m (Some (left + more)) ≡ enough (Some (rest + more)))
 with_more m left more after one =
     let has = of_run m in
-    let (rest, is) = rest_by has.cost left (run_work m (Some left)) after (has.each left) one in
+    let (rest, is, sum) = rest_is has.cost left (run_work m (Some left)) after (has.each left) one in
     (rest, is, grows (run_work m) has left rest more (one ∙ ap enough is))
 
 more_remains : (m : MachineState) (left more : ℕ) (after longer : Option ℕ) → run_work m (Some left) ≡ enough after

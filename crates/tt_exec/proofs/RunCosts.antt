@@ -8,7 +8,8 @@ use Rattle.tt_exec_step.specs.MachineState.{MachineState}
 use Rattle.tt_exec_step.specs.Step.{step, is_ended}
 use Rattle.tt_exec.specs.RunCost.{Costs, HasCost, IsCost, RunsHaveCosts, Grows, RunsGrow}
 use Rattle.tt_exec.specs.Work.{Worked, enough, spent, then_work, charged, step_cost, copied, over_at, work_after, work_within, run_work}
-use Rattle.tt_exec.proofs.WorkPaid.{at_end, none_left, goes_on, begins}
+use Rattle.tt_exec.specs.Worked.{SpentWork, WorkFalls}
+use Rattle.tt_exec.proofs.WorkPaid.{at_end, none_left, goes_on, begins, unbounded}
 
 -- no work
 pub free : HasCost enough
@@ -103,6 +104,12 @@ told_rest : (cost left rest : ℕ) (worked : Worked) → Costs cost left worked 
     → rest + cost ≡ left
 told_rest cost left rest worked is e = subst (λ w. Costs cost left w) e is
 
+pub rest_is : (cost left : ℕ) (worked : Worked) (after : Option ℕ) → Costs cost left worked → worked ≡ enough after
+    → (rest : ℕ) × (after ≡ Some rest) × (rest + cost ≡ left)
+rest_is cost left (enough (Some k)) after is e = (k, cc, is)
+rest_is cost left (enough None) after is e = absurd is
+rest_is cost left (spent f) after is e = absurd cc
+
 pub paid : (worked : Option ℕ → Worked) (has : HasCost worked) (left rest : ℕ)
     → worked (Some left) ≡ enough (Some rest) → rest + has.cost ≡ left
 paid worked has left rest e = told_rest has.cost left rest (worked (Some left)) (has.each left) e
@@ -115,6 +122,13 @@ pub limited : (worked : Option ℕ → Worked) → HasCost worked → (left : �
     → fault.why ≡ why.StepLimit
 limited worked has left fault e = told_limit has.cost left fault (worked (Some left)) (has.each left) e
 
+-- what remains is at most what there was
+pub falls : (worked : Option ℕ → Worked) → HasCost worked → (left : ℕ) (after : Option ℕ)
+    → worked (Some left) ≡ enough after → (rest : ℕ) × (after ≡ Some rest) × (rest ≤ left)
+falls worked has left after e =
+    let (rest, is, sum) = rest_is has.cost left (worked (Some left)) after (has.each left) e in
+    (rest, is, omega arith)
+
 pub grows : (worked : Option ℕ → Worked) → HasCost worked → Grows worked
 grows worked has left rest more e =
     let sum = paid worked has left rest e in
@@ -126,3 +140,10 @@ runs_have_costs m = (_, is_cost (run_work m) (of_run m))
 
 pub runs_grow : RunsGrow
 runs_grow m = grows (run_work m) (of_run m)
+
+pub spent_work : SpentWork
+spent_work m None fault e = let none = unbounded m in absurd cc
+spent_work m (Some left) fault e = limited (run_work m) (of_run m) left fault e
+
+pub work_falls : WorkFalls
+work_falls m left after e = falls (run_work m) (of_run m) left after e
