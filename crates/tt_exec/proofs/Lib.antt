@@ -1,3 +1,5 @@
 pub mod Costs
+pub mod MoreWork
+pub mod RunCosts
 pub mod StepsPaid
 pub mod WorkPaid

@@ -3,7 +3,9 @@ pub mod Examples
 pub mod Halting
 pub mod Machines
 pub mod OneProof
+pub mod MoreWork
 pub mod Parts
+pub mod RunCost
 pub mod Work
 pub mod WorkExamples
 pub mod Worked

@@ -173,6 +173,10 @@ left_after_glyph (everywhere fault) worked left = left
 unfoldable pub after_glyph : Fitter → ℕ → Fitter
 after_glyph s g = record s { work = left_after_glyph s.fallback (glyph_work s g s.work) s.work }
 
+-- this fitter with other work remaining
+abbrev pub with_work : Fitter → Option ℕ → Fitter
+with_work s left = record s { work = left }
+
 -- a job's remaining work after a cost; none remains where there was less
 abbrev pub work_less : ℕ → Option ℕ → Option ℕ
 work_less cost None = None

@@ -3,6 +3,7 @@ pub mod Defects
 pub mod Dropouts
 pub mod Fallback
 pub mod Fitting
+pub mod GlyphCost
 pub mod Hinted
 pub mod Laws
 pub mod Preparation

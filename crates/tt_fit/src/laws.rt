@@ -2,6 +2,7 @@
 
 ghost use Rattle.tt_fit.specs.Laws.{OutlinesAreWhole, OutlineFaultsStand, FallbackFits, FallbackScales, FallbackRefuses, FallbackUnfitsAll, OthersNeverFallBack, FullIsByPrograms, NoneIsWithoutPrograms, UnboundedIsEnough, OthersAreUnbounded, UnboundedStays, SpentWorkUnfits, SpentProgramsUnfitAll, BestIsBounded, WorkFalls, OriginalsAreScaled, OthersMeasureInPixels, OthersFillNone, RulesStay, UnfittedByTypeOne, EmptyByTypeOne, SkippedByTypeOne, FittedByScan, OffFillsNone, OtherTypesFillNone};
 ghost use Rattle.tt_fit.specs.Counting.{OutlinesAreCounted};
+ghost use Rattle.tt_fit.specs.GlyphCost.{ChargesTakeWorkAlone, CostsStay, FittersRenew, GlyphsAreMadeFor, GlyphsHaveCosts, GlyphsTakeWorkAlone, PaidIsMade, WorkIsApart};
 ghost use Rattle.tt_fit.specs.Hinted.{BestRoundsWhereHinted, OthersRoundAlways, EmptyIsOff, LeftoversFit, SwitchedIsOff, UnfittedIsOff, OffIsPlain, EndsAreWhole, SimpleStepsAreWhole};
 
 /// Lemma: an outline means that the glyph and its components have no defect, and a fault names a defect they have.
@@ -90,4 +91,23 @@ pub fn best_fills_by_scan()
     ensures fitted { FittedByScan }
     ensures off { OffFillsNone }
     ensures others { OtherTypesFillNone }
+{}
+
+/// Lemma: the work of a glyph's programs has one cost, whatever remains. A glyph that did not lack work is made the same
+/// wherever its cost remains, and leaves the rest. Glyphs made before change nothing of this. So where the cost is paid,
+/// the glyph need not be made anew.
+pub fn glyphs_have_costs()
+    ensures cost { GlyphsHaveCosts }
+    ensures made { GlyphsAreMadeFor }
+    ensures stay { CostsStay }
+    ensures paid { PaidIsMade }
+{}
+
+/// Lemma: a glyph and a charge change nothing of a fitter but its remaining work. Fitters that differ in their remaining
+/// work alone have the same glyph data, size, levels and dropout rules. With its work set back, a fitter is the same again.
+pub fn only_work_changes()
+    ensures glyphs { GlyphsTakeWorkAlone }
+    ensures charges { ChargesTakeWorkAlone }
+    ensures renewed { FittersRenew }
+    ensures alike { WorkIsApart }
 {}

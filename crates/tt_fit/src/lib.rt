@@ -7,12 +7,14 @@ mod fallback;
 mod fitting;
 pub mod laws;
 mod outlines;
+mod paying;
 mod preparation;
 mod programs;
 mod rules;
 
 pub use dropouts::DropoutRules;
 pub use fitting::Fitter;
+pub use paying::OutlineAtCost;
 pub use programs::Fit;
 /// The refusals of an outline, by this crate's name for them.
 pub use tt_core::FontFault as FitFault;

@@ -3,5 +3,6 @@ pub mod Lists
 pub mod Outlines
 pub mod Paid
 pub mod Pixels
+pub mod ProgramCosts
 pub mod Shifts
 pub mod Zones

@@ -11,3 +11,4 @@ pub mod Steps
 pub mod Units
 pub mod Views
 pub mod Work
+pub mod WorkLaws

@@ -1,5 +1,5 @@
-use Rattle.tt_exec.proofs.WorkPaid.{falls}
+use Rattle.tt_exec.proofs.RunCosts.{work_falls}
 use Rattle.tt_exec.proofs.laws.work_falls.Goals as goal
 
 pub returns : goal.returns
-returns c = λ m left after e. falls m left after e
+returns c = work_falls
