@@ -25,9 +25,9 @@
  *
  * A call reports the first refusal in this order: the way to fit, UTF-8, size, margin, the text's length; the font's
  * size, its tables; the picture's size; loca and glyf, the font's programs, the points (65), the glyphs, the crossings
- * (65). With grow, the size of the enlarged picture follows. The room comes last. tt_draw_lines tests the way to fit,
- * size, margin and font once, then lines_room, and then the rest line by line, first the line's ends, then the work of
- * the lines before it (65).
+ * (65). With TT_BEST the picture's size comes after the glyphs. With grow, the size of the enlarged picture follows. The
+ * room comes last. tt_draw_lines tests the way to fit, size, margin and font once, then lines_room, and then the rest
+ * line by line, first the line's ends, then the work of the lines before it (65).
  *
  * Cost: tt_open and tt_map read tables alone. tt_measure, tt_characters, tt_draw and tt_draw_band each fit all glyphs
  * of the text, which is most of the cost of a drawing. This is so even where the room is too small.
