@@ -1,4 +1,5 @@
 pub mod CutRows
 pub mod Large
 pub mod Lines
+pub mod Stamps
 pub mod Starts

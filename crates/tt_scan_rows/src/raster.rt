@@ -222,10 +222,10 @@ impl Raster {
         (past - self.rows.height() as i64, past)
     }
 
-    /// The bytes that the rows occupy: 16 for each span, and 8 for each row.
+    /// The bytes that the rows occupy: 16 for each span, and 40 for each row with its stamp.
     pub fn bytes(&self) -> usize
-        ensures { result ≡ 16 * spans_in self.now.rows + 8 * length self.now.rows }
+        ensures { result ≡ 16 * spans_in self.now.rows + 40 * length self.now.rows }
     {
-        16 * self.rows.spans() + 8 * self.rows.height()
+        16 * self.rows.spans() + 40 * self.rows.height()
     }
 }
