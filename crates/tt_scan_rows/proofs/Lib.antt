@@ -1,3 +1,4 @@
+pub mod Bands
 pub mod CutRows
 pub mod Large
 pub mod Lines
