@@ -112,12 +112,12 @@ impl Glyph {
     {
         match &mut self.body {
             GlyphBody::Tape(tape) => {
-                add_tape_rows(tape, sweep, &self.pens, frame, from, count, band)
+                add_tape_rows(tape, sweep, self.pens.as_slice(), frame, from, count, band)
             }
             GlyphBody::Raster(raster) => raster.paint_lines(
                 line_of(frame, from),
                 count,
-                &self.pens,
+                self.pens.as_slice(),
                 frame.width,
                 row_bytes(frame),
                 band,

@@ -7,7 +7,7 @@ use Rattle.tt_picture.proofs.rows.add_dropouts.Goals as goal
 
 pub returns-then-is_empty : goal.returns-then-is_empty
 returns-then-is_empty c =
-    no_dropout_painted c.args.frame c.args.dropouts.now c.args.from c.args.count c.args.band.now (c.if-is_empty.true ∙ c.is_empty.ensures)
+    no_dropout_painted c.args.frame c.args.dropouts.now c.args.from c.args.count c.args.band.now (sym c.if-is_empty.true ∙ c.is_empty.ensures)
 
 pub loop-i-init : goal.loop-i-init
 loop-i-init c = record {

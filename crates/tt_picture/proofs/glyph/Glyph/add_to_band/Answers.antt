@@ -14,13 +14,13 @@ returns-clause-painted c =
     elim c.match-self.branch [
       | in-Tape w ↦
           let is : g.body ≡ glyphs.tape w.in-Tape.tape = sym body ∙ ap body_view w.in-Tape.is in
-          let its : w.deref.result.now ≡ g.pens = w.deref.ensures.value ∙ pens in
+          let its : w.as_slice.result.now ≡ g.pens = w.as_slice.ensures ∙ pens in
           rw (w.band-is, is, ← its) w.add_tape_rows.ensures.painted
       | in-Raster w ↦
           let is : g.body ≡ glyphs.raster w.in-Raster.raster.value = sym body ∙ ap body_view w.in-Raster.is in
-          let its : w.deref-in-Raster-2.result.now ≡ g.pens = w.deref-in-Raster-2.ensures.value ∙ pens in
+          let its : w.as_slice-in-Raster.result.now ≡ g.pens = w.as_slice-in-Raster.ensures ∙ pens in
           let line : SFits w64 w.line_of.result = search rules in
           let painted = simp to_z-of_z at w.paint_lines.ensures in
           rw (w.band-is, is) (lines_shown c.args.frame w.in-Raster.raster.value g.pens c.args.from c.args.count c.args.band.now _
-          (rw (w.deref-in-Raster.ensures, its, w.line_of.ensures.exact, w.row_bytes.ensures) at painted))
+          (rw (w.deref.ensures, its, w.line_of.ensures.exact, w.row_bytes.ensures) at painted))
     ]
