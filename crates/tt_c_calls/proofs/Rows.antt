@@ -1,44 +1,9 @@
 -- Rows of a picture in a room.
-use Rattle.std.proofs.Common.{◌≡◌, ℕ, ◌+◌, ◌-◌, ◌*◌, ◌<◌, ◌≤◌, List, [], ◌∷◌, ◌++◌, length, take, drop, min, ap, sym, ◌∙◌, arith, drop-drop, inl, inr, length-drop, length-take-le}
+use Rattle.std.proofs.Common.{◌≡◌, ℕ, ◌+◌, ◌-◌, ◌*◌, ◌<◌, ◌≤◌, List, [], ◌∷◌, ◌++◌, length, take, drop, min, ap, sym, ◌∙◌, arith, inl, inr, length-drop, length-take-le}
 use Rattle.std.proofs.Math.Nat.{min-le_right}
-use Rattle.std.proofs.Math.Seq.{take-add}
 use Rattle.std.proofs.lemmas.Bool.{cases_lt}
 use Rattle.std.proofs.lemmas.Nat.{mul-le}
-use Rattle.std.proofs.lemmas.Slice.{drop-append-drop, take-put_mid}
-use borrow.Rule.Slice.PartMut.{put_mid, same_len_mid}
-
--- a row written into a room does not change the length of the room
-pub room_stays : (at n k : ℕ) (room row : List ℕ) → at + n ≤ length room → k ≡ n → length row ≡ n
-    → length (put_mid at k room row) ≡ length room
-room_stays at n k room row within whole long =
-    same_len_mid at k room row (omega (arith, length-take-le k (drop at room) (omega (arith, length-drop at room, whole)), whole, long))
-
--- one row more is in its place
-pub one_row_more : (n m r k : ℕ) (room rows row : List ℕ) → n * r + n ≤ length room → length row ≡ n
-    → take (n * r) room ≡ take (n * r) (drop (n * m) rows) → row ≡ take n (drop (n * (m + r)) rows)
-    → take (n * (r + 1)) (put_mid (n * r) k room row) ≡ take (n * (r + 1)) (drop (n * m) rows)
-one_row_more n m r k room rows row within long so_far is =
-    let next : n * (r + 1) ≡ n * r + n = omega arith in
-    let place : n * m + n * r ≡ n * (m + r) = omega arith in
-    let before : n * r ≤ length room = omega arith in
-    let front : take (n * (r + 1)) (put_mid (n * r) k room row) ≡ take (n * r) room ++ row =
-    take-put_mid (n * r) k room row (n * (r + 1)) (omega (arith, next, long)) before in
-    let back : take n (drop (n * r) (drop (n * m) rows)) ≡ row =
-    ap (take n) (drop-drop (n * r) (n * m) rows ∙ ap (λ p. drop p rows) place) ∙ sym is in
-    front ∙ ap (λ xs. xs ++ row) so_far ∙ ap (λ xs. take (n * r) (drop (n * m) rows) ++ xs) (sym back)
-    ∙ sym (take-add (n * r) n (drop (n * m) rows)) ∙ ap (λ p. take p (drop (n * m) rows)) (sym next)
-
--- a row of a picture ends within all of them
-pub row_ends : (n r height : ℕ) → r < height → n * r + n ≤ n * height
-row_ends n r height below =
-    let least : n * (r + 1) ≤ n * height = mul-le n (r + 1) n height (omega arith) (omega arith) in
-    omega (arith, least)
-
--- each row has `n` bytes
-pub row_long : (n r height : ℕ) (rows : List ℕ) → r < height → length rows ≡ n * height
-    → length (take n (drop (n * r) rows)) ≡ n
-row_long n r height rows below whole =
-    length-take-le n (drop (n * r) rows) (omega (arith, length-drop (n * r) rows, row_ends n r height below, whole))
+use Rattle.std.proofs.lemmas.Slice.{drop-append-drop}
 
 -- the number of bytes of a band of a picture's rows
 part_fits : (n k first height : ℕ) → k ≤ height - first → n * k ≤ n * height - n * first

@@ -79,21 +79,7 @@ fn skip_rows(picture: &mut Picture, count: u32, row: &mut [u8])
     ensures row { length row.new ≡ length row.old }
 {
     for _r in 0..count {
-        picture.next_row(row);
-    }
-}
-
-/// Makes the next rows of a picture; `rows` has room for exactly these.
-fn make_rows(picture: &mut Picture, count: u32, rows: &mut [u8])
-    requires within { picture.old.made + count ≤ picture.old.frame.height }
-    requires whole { length picture.old.rows ≡ stride picture.old.frame.width * picture.old.frame.height }
-    requires room { length rows.old ≡ stride picture.old.frame.width * count }
-    ensures rows { rows.new ≡ take (stride picture.old.frame.width * count) (drop (stride picture.old.frame.width * picture.old.made) picture.old.rows) }
-{
-    let bytes = picture.row_bytes();
-    for r in 0..count as usize {
-        let at = bytes * r;
-        picture.next_row(&mut rows[at..at + bytes]);
+        picture.next_rows(1, row);
     }
 }
 
@@ -121,7 +107,7 @@ pub(crate) fn write_band(
     *told = told_of(picture);
     if count > 0 {
         skip_rows(picture, first, &mut room[..bytes]);
-        make_rows(picture, count, &mut room[..wanted]);
+        picture.next_rows(count, &mut room[..wanted]);
     }
     sized(DONE, wanted as u64, u64::from(count))
 }

@@ -29,10 +29,10 @@ struct KnownAdvance {
     step: GlyphAdvance,
 }
 
-/// The steps of recent characters, one for each remainder of their codes by 128. Clauses see the source of the steps:
-/// the tables and the size.
+/// The glyphs and the advances of recent characters, one for each remainder of their codes by 128. Text after text is
+/// laid out by them. Clauses see their source: the tables and the size.
 #[derive(Drop)]
-pub(crate) struct KnownAdvances<'t, 'a> {
+pub struct KnownAdvances<'t, 'a> {
     metrics: &'t Metrics<'a>,
     cmap: &'t Cmap<'a>,
     ppem: u32,
@@ -70,7 +70,7 @@ fn found(metrics: &Metrics, cmap: &Cmap, ppem: u32, c: char) -> GlyphAdvance
 
 impl<'t, 'a> KnownAdvances<'t, 'a> {
     /// The characters of a font at a size. At first the cache has only the step of U+0000.
-    pub(crate) fn new(metrics: &'t Metrics<'a>, cmap: &'t Cmap<'a>, ppem: u32) -> Self
+    pub fn new(metrics: &'t Metrics<'a>, cmap: &'t Cmap<'a>, ppem: u32) -> Self
         requires size { ppem ≤ size_limit }
         requires glyphs { cmap.now.glyphs ≡ glyphs_of metrics.now }
         ensures { result ≡ record { metrics = metrics.now; cmap = cmap.now; ppem = ppem } }
@@ -85,6 +85,21 @@ impl<'t, 'a> KnownAdvances<'t, 'a> {
             ppem,
             known: [first; KEPT],
         }
+    }
+
+    /// The metrics of the font.
+    pub(crate) fn metrics(&self) -> &'t Metrics<'a>
+        ensures { result.now ≡ self.now.metrics }
+    {
+        self.metrics
+    }
+
+    /// The size in pixels per em.
+    pub(crate) fn ppem(&self) -> u32
+        ensures exact { result ≡ self.now.ppem }
+        ensures limit { result ≤ size_limit }
+    {
+        self.ppem
     }
 
     /// The step of a character.

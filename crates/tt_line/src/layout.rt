@@ -1,7 +1,7 @@
 //! Lays out a line of text.
 
 ghost use Rattle.std.specs.Prelude.{◌≡◌, ◌<◌, ◌≤◌, ◌^◌, length, map, chars, sum, All, IsOk, IfOk, IfErr, IfNone};
-ghost use Rattle.tt_core.specs.Limits.{size_limit, margin_limit, text_limit, width_limit};
+ghost use Rattle.tt_core.specs.Limits.{margin_limit, text_limit, width_limit};
 ghost use Rattle.tt_core.specs.Outcomes.{IfTold, JobGives, draw_job_fault};
 ghost use Rattle.tt_line.specs.Layout.{text_glyphs, advances_of, placed_glyphs, extent_of, placement, IsRefusal};
 ghost use Rattle.tt_line.specs.Outcome.{placement_of};
@@ -12,12 +12,10 @@ use crate::known::KnownAdvances;
 use crate::line::Line;
 use crate::pixels::{depth, rise};
 use std::alloc::{AllocError, Global};
-use tt_cmap::Cmap;
 use tt_core::DrawFault;
-use tt_metrics::Metrics;
 
-/// Lays out a text at `ppem` pixels per em, with margins of `margin` pixels. Each advance is rounded to the nearest
-/// pixel; ascent and descent are rounded up. A refused line takes no memory.
+/// Lays out a text at the size of its characters' advances, with margins of `margin` pixels. Each advance is rounded to
+/// the nearest pixel; ascent and descent are rounded up. A refused line takes no memory.
 ///
 /// The first of these errors is returned:
 ///
@@ -27,30 +25,28 @@ use tt_metrics::Metrics;
 #[tactic(auto, unfolding(crate::specs::Layout::placement))]
 pub fn lay(
     alloc: Global,
-    metrics: &Metrics,
-    cmap: &Cmap,
+    known: &mut KnownAdvances,
     text: &str,
-    ppem: u32,
     margin: u32,
 ) -> Result<Line, DrawFault>
-    requires size { ppem ≤ size_limit }
     requires margin { margin ≤ margin_limit }
     requires text { length (chars text.now) ≤ text_limit }
-    requires glyphs { cmap.now.glyphs ≡ glyphs_of metrics.now }
-    ensures exact { JobGives placement_of result (placement metrics.now cmap.now text.now ppem margin) }
-    ensures glyphs { IfOk result (λ l. map (λ p. p.0) l.glyphs.items ≡ text_glyphs cmap.now text.now) }
-    ensures known { IfOk result (λ l. All (λ p. p.0 < glyphs_of metrics.now) l.glyphs.items) }
+    ensures exact { JobGives placement_of result (placement known.old.metrics known.old.cmap text.now known.old.ppem margin) }
+    ensures glyphs { IfOk result (λ l. map (λ p. p.0) l.glyphs.items ≡ text_glyphs known.old.cmap text.now) }
+    ensures known { IfOk result (λ l. All (λ p. p.0 < glyphs_of known.old.metrics) l.glyphs.items) }
     // Only the glyphs of an accepted line take memory.
     ensures memory { IfErr result (λ e. IfNone (draw_job_fault e)
-        (IsOk (placement metrics.now cmap.now text.now ppem margin) × (0 < length (chars text.now)))) }
-    ensures fault { IfTold draw_job_fault result (IsRefusal (extent_of metrics.now ppem margin (text_glyphs cmap.now text.now))) }
+        (IsOk (placement known.old.metrics known.old.cmap text.now known.old.ppem margin) × (0 < length (chars text.now)))) }
+    ensures fault { IfTold draw_job_fault result (IsRefusal (extent_of known.old.metrics known.old.ppem margin (text_glyphs known.old.cmap text.now))) }
+    ensures same { known.new ≡ known.old }
 {
+    let metrics = known.metrics();
+    let ppem = known.ppem();
     let rise = rise(metrics, ppem);
     // A first walk over the text finds its width, so that a refused line takes no memory.
-    let mut known = KnownAdvances::new(metrics, cmap, ppem);
-    let advances = sum_of_advances(&mut known, text);
+    let advances = sum_of_advances(known, text);
     let extent = test_limits(with_margins(advances, rise, depth(metrics, ppem), margin))?;
-    let glyphs = placed_glyphs(alloc, &mut known, text)?;
+    let glyphs = placed_glyphs(alloc, known, text)?;
     Ok(Line {
         width: extent.width as u32,
         height: extent.height as u32,
@@ -86,6 +82,7 @@ fn placed_glyphs(
     ensures glyphs { IfOk result (λ v. map (λ p. p.0) v.items ≡ text_glyphs known.old.cmap text.now) }
     ensures known { IfOk result (λ v. All (λ p. p.0 < glyphs_of known.old.metrics) v.items) }
     ensures pens { IfOk result (λ v. All (λ p. p.1 ≤ sum (advances_of known.old.metrics known.old.ppem (text_glyphs known.old.cmap text.now))) v.items) }
+    ensures same { known.new ≡ known.old }
 {
     let mut glyphs = Vec::new(alloc);
     let mut pen = 0;

@@ -10,6 +10,7 @@ mod pixels;
 mod steps;
 
 pub use extent::PictureExtent;
+pub use known::KnownAdvances;
 pub use layout::lay;
 pub use line::Line;
 pub use pixels::advance;

@@ -12,27 +12,22 @@ use crate::known::KnownAdvances;
 use crate::line::Line;
 use crate::pixels::{depth, rise};
 use std::alloc::{AllocError, Global};
-use tt_cmap::Cmap;
 use tt_core::JobFault;
 use tt_metrics::Metrics;
 
 /// The glyph of each character of a text, with its advance as its step. Error: Memory.
 pub fn advance_steps(
     alloc: Global,
-    metrics: &Metrics,
-    cmap: &Cmap,
+    known: &mut KnownAdvances,
     text: &str,
-    ppem: u32,
 ) -> Result<Vec<(u16, u32)>, AllocError>
-    requires size { ppem ≤ size_limit }
     requires text { length (chars text.now) ≤ text_limit }
-    requires glyphs { cmap.now.glyphs ≡ glyphs_of metrics.now }
-    ensures exact { IfOk result (λ v. v.items ≡ map (λ g. (g, advance_in_pixels metrics.now ppem g)) (text_glyphs cmap.now text.now)) }
-    ensures glyphs { IfOk result (λ v. map (λ p. p.0) v.items ≡ text_glyphs cmap.now text.now) }
-    ensures known { IfOk result (λ v. All (λ p. p.0 < glyphs_of metrics.now) v.items) }
+    ensures exact { IfOk result (λ v. v.items ≡ map (λ g. (g, advance_in_pixels known.old.metrics known.old.ppem g)) (text_glyphs known.old.cmap text.now)) }
+    ensures glyphs { IfOk result (λ v. map (λ p. p.0) v.items ≡ text_glyphs known.old.cmap text.now) }
+    ensures known { IfOk result (λ v. All (λ p. p.0 < glyphs_of known.old.metrics) v.items) }
     ensures few { IfOk result (λ v. length v.items ≤ text_limit) }
+    ensures same { known.new ≡ known.old }
 {
-    let mut known = KnownAdvances::new(metrics, cmap, ppem);
     let mut glyphs = Vec::new(alloc);
     for c in text.chars() {
         let step = known.step(c);

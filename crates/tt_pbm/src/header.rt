@@ -1,18 +1,18 @@
 //! The header of a picture. Netpbm, "PBM", format P4.
 
-ghost use Rattle.std.specs.Prelude.{◌≡◌, ◌≤◌, take};
+ghost use Rattle.std.specs.Prelude.{◌≡◌, ◌≤◌, length, take};
 ghost use Rattle.tt_core.specs.Limits.{width_limit, height_limit};
 ghost use Rattle.tt_pbm.specs.P4.{p4_header_of};
 
 use crate::ascii::Ascii;
 
 /// Room for a header: two numbers of at most 5 digits, and 5 bytes around them.
-const ROOM: usize = 16;
+pub const HEADER_ROOM: usize = 16;
 
 /// A picture's header: the first `len` of these bytes.
 #[derive(Clone, Copy, Debug)]
 pub struct Header {
-    pub bytes: [u8; ROOM],
+    pub bytes: [u8; HEADER_ROOM],
     pub len: usize,
 }
 
@@ -23,6 +23,7 @@ pub fn p4_header(w: u32, h: u32) -> Header
     requires some_rows { 1 ≤ h }
     requires rows { h ≤ height_limit }
     ensures exact { take result.len result.bytes ≡ p4_header_of w h }
+    ensures len { length (p4_header_of w h) ≡ result.len }
     ensures bound { result.len ≤ 16 }
 {
     let mut text = Ascii::new();
@@ -34,7 +35,7 @@ pub fn p4_header(w: u32, h: u32) -> Header
     text.push(b'4');
     text.push(b'P');
     let text = text.as_bytes();
-    let mut bytes = [0; ROOM];
+    let mut bytes = [0; HEADER_ROOM];
     bytes[..text.len()].copy_from_slice(text);
     Header {
         bytes,

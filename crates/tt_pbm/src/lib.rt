@@ -6,5 +6,5 @@ mod header;
 mod writing;
 
 pub use ascii::Ascii;
-pub use header::{Header, p4_header};
+pub use header::{HEADER_ROOM, Header, p4_header};
 pub use writing::{Cut, write_all_of};

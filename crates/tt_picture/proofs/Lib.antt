@@ -1,5 +1,6 @@
 pub mod Alike
 pub mod Among
+mod Bands
 pub mod Blackened
 pub mod Crossed
 pub mod Filled

@@ -68,51 +68,13 @@ by_test : (n : ℕ) (b : Bool) → n < 2 → (n == 1) ≡ b → n ≡ (if b then
 by_test n true small holds = grind (arith, nat_tests)
 by_test n false small fails = grind (arith, nat_tests)
 
-byte_is : (b : ℕ) (is_black : ℕ → Bool) → b < 256 → ((j : ℕ) → j < 8 → (bit_at b (7 - j) == 1) ≡ is_black j) → b
+pub byte_is : (b : ℕ) (is_black : ℕ → Bool) → b < 256 → ((j : ℕ) → j < 8 → (bit_at b (7 - j) == 1) ≡ is_black j) → b
     ≡ columns 8 is_black
 byte_is b is_black small same =
     same_from_bits_below 8 b (columns 8 is_black) small (columns_below 8 is_black) (λ i within.
     let place : 7 - (7 - i) ≡ i = omega arith in
     let test : (bit_at b i == 1) ≡ is_black (7 - i) = rw place at (same (7 - i) (omega arith)) in
     by_test (bit_at b i) (is_black (7 - i)) (bit_at-lt b i) test ∙ sym (columns_bit 8 i is_black within))
-
-bit_in : (w r : ℕ) (black : ℕ → ℕ → Bool) (row : List ℕ) → ((k : ℕ) → bit row k ≡ (nat_lt k w && black k r)) → (i j : ℕ)
-    → j < 8 → (bit_at (slice_index row i) (7 - j) == 1) ≡ shows w black r (8 * i + j)
-bit_in w r black row bits i j small =
-    let byte : (8 * i + j) / 8 ≡ i = omega arith in
-    let place : (8 * i + j) % 8 ≡ j = omega arith in
-    rw (byte, place) at (bits (8 * i + j))
-
-row_byte : (w r : ℕ) (black : ℕ → ℕ → Bool) (i : ℕ) → i < stride w → slice_index
-    (rows w black (stride w * r) (stride w)) i ≡ byte_of w black r i
-row_byte w r black i inside =
-    let place : stride w * r + i ≡ r * stride w + i = omega arith in
-    let row : (stride w * r + i) / stride w ≡ r = rw place (div-mul-add r (stride w) i inside) in
-    let byte : (stride w * r + i) % stride w ≡ i = rw place (mod-mul-add r (stride w) i inside) in
-    let same : byte_at w black (stride w * r + i) ≡ byte_of w black r i = rw (row, byte) refl in
-    get_or-map-range_with_len (byte_at w black) (stride w * r) (stride w) i (stride w * r + i) 0 inside refl ∙ same
-
--- a row of bytes is row r if its bits are the pixels of row r
-pub row_is : (w r : ℕ) (black : ℕ → ℕ → Bool) (row : List ℕ) → length row ≡ stride w
-    → ((i : ℕ) → i < length row → slice_index row i < 256) → ((k : ℕ) → bit row k ≡ (nat_lt k w && black k r)) → row
-    ≡ rows w black (stride w * r) (stride w)
-row_is w r black row whole bytes bits =
-    let length_is : length row ≡ length (rows w black (stride w * r) (stride w)) = whole
-    ∙ sym (length-rows w black (stride w * r) (stride w)) in
-    same_number_lists row (rows w black (stride w * r) (stride w)) length_is (λ i within.
-    let inside : i < stride w = omega arith in
-    let byte : slice_index row i ≡ byte_of w black r i = byte_is (slice_index row i) (λ j. shows w black r (8 * i + j))
-    (bytes i within) (λ j small. bit_in w r black row bits i j small) in
-    byte ∙ sym (row_byte w r black i inside))
-
--- the rows before row r, followed by row r
-pub rows_next : (w r : ℕ) (black : ℕ → ℕ → Bool) (row : List ℕ) → row ≡ rows w black (stride w * r) (stride w)
-    → rows w black 0 (stride w * r) ++ row ≡ rows w black 0 (stride w * (r + 1))
-rows_next w r black row same =
-    let more : stride w * (r + 1) ≡ stride w * r + stride w = omega arith in
-    let split : rows w black 0 (stride w * r + stride w) ≡ rows w black 0 (stride w * r) ++ rows w black (stride w * r)
-    (stride w) = rw zero-add at (rows_more w black 0 (stride w * r) (stride w)) in
-    rw (same, more) (sym split)
 
 zero_everywhere : (n i : ℕ) → slice_index (replicate n 0) i ≡ 0
 zero_everywhere zero i = refl

@@ -1,5 +1,5 @@
 -- A picture whose rows are made one after the other, and its image.
-use Rattle.std.specs.Prelude.{◌≡◌, refl, ℕ, ◌+◌, ◌*◌, ◌^◌, ◌≤◌, Bool, List, [], ◌∷◌, length, take, drop, pos, unsigned_abs}
+use Rattle.std.specs.Prelude.{◌≡◌, refl, ℕ, ◌+◌, ◌*◌, ◌/◌, ◌^◌, ◌≤◌, Bool, List, [], ◌∷◌, length, take, drop, min, pos, unsigned_abs}
 use Rattle.tt_core.specs.Bits.{stride}
 use Rattle.tt_core.specs.Limits.{height_limit}
 use Rattle.tt_scan_edges.specs.declared.edge.Edge.{Edge}
@@ -19,9 +19,13 @@ pub record Picture : Type 0 where
   pub edges : List (List Edge)
   pub cost : ℕ
 
--- the bytes of row r
-abbrev pub row_at : Picture → ℕ → List ℕ
-row_at p r = take (stride p.frame.width) (drop (stride p.frame.width * r) p.rows)
+-- the bytes of this many rows from row r on
+abbrev pub rows_at : Picture → ℕ → ℕ → List ℕ
+rows_at p r count = take (stride p.frame.width * count) (drop (stride p.frame.width * r) p.rows)
+
+-- the most rows that 65,536 bytes hold, or all rows of a smaller picture
+abbrev pub band_rows : Frame → ℕ
+band_rows f = min f.height (65536 / stride f.width)
 
 -- what a picture shows: its frame, and the bytes of its rows
 pub record Image : Type 0 where
@@ -78,9 +82,16 @@ nine_wide = record {
   cost = 0;
 }
 
-its_row_in_the_middle : row_at nine_wide 1 ≡ 2 ∷ 0 ∷ []
+its_row_in_the_middle : rows_at nine_wide 1 1 ≡ 2 ∷ 0 ∷ []
 unfolding nine_wide
 its_row_in_the_middle = refl
+
+its_lower_rows : rows_at nine_wide 1 2 ≡ 2 ∷ 0 ∷ 4 ∷ 128 ∷ []
+unfolding nine_wide
+its_lower_rows = refl
+
+the_largest_goes_out_by_32_rows : band_rows (record { width = 16384; height = 4096; margin = 0; rise = pos 0 }) ≡ 32
+the_largest_goes_out_by_32_rows = refl
 
 before_its_rows_no_crossing : crossings_made nine_wide ≡ 0
 unfolding nine_wide

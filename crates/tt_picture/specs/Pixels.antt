@@ -1,7 +1,8 @@
 -- The black pixels of a line: OpenType, "TrueType Fundamentals", the scan converter's rules 1 and 2, for each glyph by
 -- itself. One glyph's winding does not count for another. The dropouts of each glyph, by its own rules, are added where
 -- they are filled.
-use Rattle.std.specs.Prelude.{◌≡◌, ℕ, ◌*◌, ◌<◌, ◌≤◌, ◌^◌, Bool, false, ◌||◌, ℤ, pos, ◌-ℤ◌, List, [], ◌∷◌, length, Option, Some, None}
+use Rattle.std.specs.Prelude.{◌≡◌, ℕ, ◌+◌, ◌*◌, ◌<◌, ◌≤◌, ◌^◌, Bool, false, ◌||◌, ℤ, pos, ◌-ℤ◌, List, [], ◌∷◌, length, Option, Some, None}
+use Rattle.tt_core.specs.Bits.{stride}
 use Rattle.tt_core.specs.Limits.{height_limit}
 use Rattle.tt_scan_edges.specs.declared.edge.Edge.{Edge}
 use Rattle.tt_scan_edges.specs.declared.edge.Frame.{Frame}
@@ -96,3 +97,9 @@ pub record IsRowOf (f : Frame) (r : ℕ) (row : List ℕ) : Type 0 where
   pub height : f.height ≤ height_limit
   pub within : r < f.height
   pub width : f.width ≤ 8 * length row
+
+-- rows of a picture within the limits, this many from row `from` on, and their bytes
+pub record IsBandOf (f : Frame) (from count : ℕ) (band : List ℕ) : Type 0 where
+  pub height : f.height ≤ height_limit
+  pub within : from + count ≤ f.height
+  pub len : length band ≡ stride f.width * count

@@ -28,7 +28,15 @@ fn push_glyph(
 {
     match (glyph.filled, &glyph.body) {
         (Some(rules), GlyphBody::Tape(tape)) => {
-            push_dropouts(alloc, found, frame, rules, tape, &glyph.ends, &glyph.pens)
+            push_dropouts(
+                alloc,
+                found,
+                frame,
+                rules,
+                tape,
+                &glyph.ends,
+                glyph.pens.as_slice(),
+            )
         }
         _ => Ok(()),
     }

@@ -20,6 +20,7 @@ ghost use Rattle.tt_picture.specs.Views.{body_view};
 
 use crate::cache::Cache;
 use crate::glyph::{Glyph, GlyphBody, tape_of};
+use smallvec::SmallVec;
 use std::alloc::{AllocError, Global};
 use std::marker::Model;
 use std::rc::Rc;
@@ -117,7 +118,7 @@ impl FittedGlyph {
             filled,
             ends,
             left,
-            pens: Vec::with_capacity(alloc, room)?,
+            pens: SmallVec::with_capacity(alloc, room)?,
             unfitted,
         })
     }

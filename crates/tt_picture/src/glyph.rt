@@ -13,6 +13,7 @@ ghost use Rattle.tt_picture.specs.Views.{body_view};
 use crate::cache::Cache;
 use crate::fitted::FittedGlyph;
 use crate::report::Unfitted;
+use smallvec::SmallVec;
 use std::alloc::{AllocError, Global};
 use std::marker::Model;
 use std::rc::Rc;
@@ -22,6 +23,9 @@ use tt_scan::{EdgeList, Frame, Tape};
 use tt_scan_dropouts::BoxedRules;
 use tt_scan_rows::Raster;
 use tt_strike_kept::KeptGlyph;
+
+/// How many pens of a glyph take no memory of their own. Most glyphs of a label have no more.
+const INLINE_PENS: usize = 4;
 
 /// The part of a glyph that blackens rows.
 #[derive(Drop)]
@@ -71,7 +75,7 @@ pub struct Glyph {
     /// Added to every pen: 0 for a tape, the margin for a raster.
     pub(crate) left: u32,
     /// Its pens in the line, in pixels from the left end, with `left` added.
-    pub(crate) pens: Vec<u32>,
+    pub(crate) pens: SmallVec<u32, INLINE_PENS>,
     /// The fault that makes it unfitted.
     pub(crate) unfitted: Option<Fault>,
 }
@@ -140,7 +144,7 @@ impl Glyph {
             filled: None,
             ends: Vec::new(alloc),
             left: frame.margin,
-            pens: Vec::with_capacity(alloc, room)?,
+            pens: SmallVec::with_capacity(alloc, room)?,
             unfitted,
         })
     }

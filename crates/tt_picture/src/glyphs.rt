@@ -22,6 +22,9 @@ use tt_core::FontFault;
 use tt_fit::Fitter;
 use tt_scan::Frame;
 
+/// How many distinct glyphs a line has room for at first, at most.
+const MADE: usize = 32;
+
 /// Distinct glyphs, in order of first appearance.
 #[derive(Drop)]
 pub struct Glyphs {
@@ -43,7 +46,7 @@ impl Glyphs {
     {
         Ok(Glyphs {
             places: vec![in alloc; 0u16; usize::from(glyphs)]?,
-            made: Vec::new(alloc),
+            made: Vec::with_capacity(alloc, count.min(MADE))?,
             room: pens_room(count),
             cost: 0,
         })

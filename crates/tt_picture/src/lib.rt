@@ -1,4 +1,4 @@
-//! The picture of glyphs at their pens, made row by row. Glyphs come from a fitter, or from a cache.
+//! The picture of glyphs at their pens, made band by band. Glyphs come from a fitter, or from a cache.
 //!
 //! ```text
 //! cache.rt      the cache of glyphs, which may be absent
@@ -12,8 +12,8 @@
 //! inks.rt       the boxes of glyphs' black pixels
 //! ink_box.rt    such a box in a picture
 //! dropouts.rt   the dropouts of a line
-//! painting.rt   one row of a glyph
-//! rows.rt       the glyphs of one row
+//! painting.rt   rows of a glyph
+//! rows.rt       the glyphs and the dropouts of rows
 //! picture.rt    the picture
 //! ```
 #![tactic(auto)]

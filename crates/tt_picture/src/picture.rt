@@ -1,21 +1,24 @@
 //! The picture of a line, whose rows are made in order.
 
-ghost use Rattle.std.specs.Prelude.{◌≡◌, ◌+ℤ◌, ◌+◌, ◌-◌, ◌^◌, ◌<◌, ◌≤◌, Bool, List, min, pos, length, All, IfOk};
+ghost use Rattle.std.specs.Prelude.{◌≡◌, ◌+ℤ◌, ◌+◌, ◌-◌, ◌*◌, ◌^◌, ◌≤◌, Bool, List, min, pos, length, All, IfOk};
 ghost use Rattle.tt_core.specs.Bits.{stride};
 ghost use Rattle.tt_core.specs.Limits.{width_limit, height_limit};
 ghost use Rattle.tt_picture.specs.Glyphs.{BodyFits, CanBeFilled, Stand, edges_cut};
-ghost use Rattle.tt_picture.specs.Pictures.{IsPictureFrame, IsReady, all_crossings, crossings_made, image_of, picture, row_at};
+ghost use Rattle.tt_picture.specs.Pictures.{IsPictureFrame, IsReady, all_crossings, band_rows, crossings_made, image_of, picture, rows_at};
 ghost use Rattle.tt_picture.specs.Pixels.{Shape};
 ghost use Rattle.tt_picture.specs.Unfitted.{unfitted_standing};
 
 use crate::dropouts::line_dropouts;
 use crate::glyph::Glyph;
 use crate::report::{Report, Unfitted, report_on};
-use crate::rows::{add_glyphs, crosses, most_edges, whiten};
+use crate::rows::{add_dropouts, add_glyphs, crosses, most_edges, row_bytes, whiten};
 use std::alloc::{AllocError, Global};
 use std::marker::Model;
 use tt_scan::{Frame, Sweep};
-use tt_scan_dropouts::{Dropout, blacken_dropouts};
+use tt_scan_dropouts::Dropout;
+
+/// The most bytes of a band, in which some rows are made at once.
+const BAND_BYTES: u32 = 65536;
 
 /// The picture of a line: its size, its base line, its rows, which are made in order, and its report. It already has
 /// all the memory that its rows need.
@@ -104,11 +107,18 @@ impl Picture {
         i64::from(self.frame.rise) + i64::from(self.frame.margin)
     }
 
+    /// The rows that were not made yet.
+    pub fn rows_left(&self) -> u32
+        ensures { result ≡ self.now.frame.height - self.now.made }
+    {
+        self.frame.height - self.made
+    }
+
     /// The bytes of a row: a bit for each pixel, and up to seven bits more.
     pub fn row_bytes(&self) -> usize
         ensures { result ≡ stride self.now.frame.width }
     {
-        (self.frame.width as usize).div_ceil(8)
+        row_bytes(self.frame)
     }
 
     /// The glyphs of the line that are not fitted.
@@ -141,19 +151,38 @@ impl Picture {
         crosses(&self.glyphs)
     }
 
-    /// Makes the next row, the highest first, and overwrites `row`. The leftmost pixel is the highest bit of the first
-    /// byte; 1 is black; the bits after the last pixel are 0. It takes no memory.
-    pub fn next_row(&mut self, row: &mut [u8])
-        requires within { self.old.made < self.old.frame.height }
-        requires len { length row.old ≡ stride self.old.frame.width }
-        ensures row { row.new ≡ row_at self.old self.old.made }
-        ensures same { self.new ≡ record self.old { made = self.old.made + 1 } }
+    /// The most rows that a band of at most 65,536 bytes has: all rows of a small picture.
+    pub fn band_rows(&self) -> u32
+        ensures exact { result ≡ band_rows self.now.frame }
+        ensures some { 1 ≤ result }
+        ensures within { result ≤ self.now.frame.height }
+    {
+        self.frame
+            .height
+            .min(BAND_BYTES / row_bytes(self.frame) as u32)
+    }
+
+    /// The bytes of so many rows.
+    pub fn band_bytes(&self) -> usize
+        ensures exact { result ≡ stride self.now.frame.width * band_rows self.now.frame }
+        ensures limit { result ≤ 65536 }
+    {
+        self.row_bytes() * self.band_rows() as usize
+    }
+
+    /// Makes the next `count` rows, the highest first, and overwrites `band`. The leftmost pixel of a row is the highest
+    /// bit of its first byte; 1 is black; the bits after the last pixel are 0. It takes no memory.
+    pub fn next_rows(&mut self, count: u32, band: &mut [u8])
+        requires within { self.old.made + count ≤ self.old.frame.height }
+        requires len { length band.old ≡ stride self.old.frame.width * count }
+        ensures rows { band.new ≡ rows_at self.old self.old.made count }
+        ensures same { self.new ≡ record self.old { made = self.old.made + count } }
     {
         let frame = self.frame;
-        let r = self.made;
-        whiten(row);
-        add_glyphs(&mut self.glyphs, &mut self.sweep, frame, r, row);
-        blacken_dropouts(&self.dropouts, frame.width, r, row);
-        self.made += 1;
+        let from = self.made;
+        whiten(band);
+        add_glyphs(&mut self.glyphs, &mut self.sweep, frame, from, count, band);
+        add_dropouts(&self.dropouts, frame, from, count, band);
+        self.made += count;
     }
 }

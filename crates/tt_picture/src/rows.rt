@@ -1,12 +1,15 @@
-//! What some glyphs give to a row of their picture.
+//! What some glyphs and dropouts give to some rows of their picture.
 
-ghost use Rattle.std.specs.Prelude.{◌≡◌, ℕ, ◌+◌, ◌-◌, ◌^◌, ◌≤◌, ◌||◌, ◌&&◌, min, nat_lt, length, replicate, All};
-ghost use Rattle.tt_core.specs.Bits.{bit};
+ghost use Rattle.std.specs.Prelude.{◌≡◌, ℕ, ◌+◌, ◌-◌, ◌^◌, ◌≤◌, ◌&&◌, min, nat_lt, length, replicate, All};
+ghost use Rattle.tt_core.specs.Bits.{stride};
+ghost use Rattle.tt_scan_dropouts.specs.Pictures.{AreDropouts, is_among};
+ghost use Rattle.tt_scan_rows.specs.Bands.{IsBandBlackened};
 ghost use Rattle.tt_picture.specs.Glyphs.{GlyphFits, crosses_in, edges_of, stamps_in};
-ghost use Rattle.tt_picture.specs.Pixels.{IsRowOf, is_black_by};
+ghost use Rattle.tt_picture.specs.Pixels.{IsBandOf, is_black_by};
 
 use crate::glyph::Glyph;
 use tt_scan::{Frame, Sweep};
+use tt_scan_dropouts::{Dropout, blacken_dropouts};
 
 /// The greatest number of edges of any of the glyphs.
 pub(crate) fn most_edges(glyphs: &[Glyph]) -> usize
@@ -30,30 +33,60 @@ pub(crate) fn crosses(glyphs: &[Glyph]) -> u64
     all
 }
 
-/// Makes each pixel of a row white.
-pub(crate) fn whiten(row: &mut [u8])
-    ensures { row.new ≡ replicate (length row.old) 0 }
+/// The bytes of a row: a bit for each pixel, and up to seven bits more.
+pub(crate) fn row_bytes(frame: Frame) -> usize
+    ensures { result ≡ stride frame.width }
 {
-    row.fill(0);
+    (frame.width as usize).div_ceil(8)
 }
 
-/// Blackens the pixels of a row that some glyph covers; all others are unchanged.
+/// Makes each pixel of some rows white.
+pub(crate) fn whiten(band: &mut [u8])
+    ensures { band.new ≡ replicate (length band.old) 0 }
+{
+    band.fill(0);
+}
+
+/// Blackens the pixels of `count` rows from row `from` on that some glyph covers; all others are unchanged.
 pub(crate) fn add_glyphs(
     glyphs: &mut [Glyph],
     sweep: &mut Sweep,
     frame: Frame,
-    r: u32,
-    row: &mut [u8],
+    from: u32,
+    count: u32,
+    band: &mut [u8],
 )
-    requires glyphs { All (GlyphFits frame r sweep.old.room) glyphs.old }
-    requires row { IsRowOf frame r row.old }
-    ensures bits { (k : ℕ) → bit row.new k ≡ (bit row.old k || (nat_lt k frame.width && is_black_by frame (stamps_in glyphs.old) k r)) }
-    ensures len { length row.new ≡ length row.old }
-    ensures glyphs { All (GlyphFits frame (r + 1) sweep.new.room) glyphs.new }
+    requires glyphs { All (GlyphFits frame from sweep.old.room) glyphs.old }
+    requires band { IsBandOf frame from count band.old }
+    ensures painted { IsBandBlackened (stride frame.width) count (λ i c. nat_lt c frame.width && is_black_by frame (stamps_in glyphs.old) c (from + i)) band.old band.new }
+    ensures glyphs { All (GlyphFits frame (from + count) sweep.new.room) glyphs.new }
     ensures stamps { stamps_in glyphs.new ≡ stamps_in glyphs.old }
     ensures room { sweep.new.room ≡ sweep.old.room }
 {
     for i in 0..glyphs.len() {
-        glyphs[i].add_to_row(sweep, frame, r, row);
+        glyphs[i].add_to_band(sweep, frame, from, count, band);
+    }
+}
+
+/// Blackens the dropouts of `count` rows from row `from` on; all other pixels are unchanged.
+pub(crate) fn add_dropouts(
+    dropouts: &[Dropout],
+    frame: Frame,
+    from: u32,
+    count: u32,
+    band: &mut [u8],
+)
+    requires dropouts { AreDropouts frame.width dropouts.now }
+    requires band { IsBandOf frame from count band.old }
+    ensures { IsBandBlackened (stride frame.width) count (λ i c. nat_lt c frame.width && is_among dropouts.now c (from + i)) band.old band.new }
+{
+    // Most pictures have no dropouts.
+    if dropouts.is_empty() {
+        return;
+    }
+    let bytes = row_bytes(frame);
+    for i in 0..count {
+        let at = bytes * i as usize;
+        blacken_dropouts(dropouts, frame.width, from + i, &mut band[at..at + bytes]);
     }
 }

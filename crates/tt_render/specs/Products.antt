@@ -1,6 +1,5 @@
 -- No part of the standard: the products of a text, by a font at a size (profile).
 use Rattle.std.specs.Prelude.{◌≡◌, ℕ, Bool, true, false, List, chars, length, string_bytes, Result, Ok, IsOkAnd, ⊤}
-use Rattle.tt_core.specs.Bits.{stride}
 use Rattle.tt_core.specs.Outcomes.{◌>>=◌}
 use Rattle.tt_scan_edges.specs.declared.edge.Frame.{Frame}
 use Rattle.tt_picture.specs.declared.report.Unfitted.{Unfitted}
@@ -20,7 +19,7 @@ use Rattle.tt_render.specs.declared.setting.Product.{Product}
 use Rattle.tt_render.specs.declared.setting.Product.TheVariants as product
 use Rattle.tt_render.specs.declared.setting.Setting.{Setting}
 use Rattle.tt_render.specs.MeasureText.{measure_text}
-use Rattle.tt_render_run.specs.File.{as_file, picture_bytes}
+use Rattle.tt_render_run.specs.File.{as_file, picture_bytes, piece_bytes}
 
 -- the image of the picture of a job by a font's tables: as it is, or enlarged so that no ink is cut
 unfoldable pub picture_by : Bool → Face → Job → Result Image Refused
@@ -65,8 +64,8 @@ abbrev pub cost_in : Output → ℕ
 cost_in (output.Picture drawn) = drawn.picture.cost
 cost_in (output.Text text report) = report.cost
 
--- a picture with no row made yet, and memory for one
+-- a picture with no row made yet, and memory for writing it
 abbrev pub CanGoOut : Output → Type 0
 CanGoOut (output.Picture drawn) =
-    IsReady drawn.picture × (length drawn.row.items ≡ stride drawn.picture.frame.width)
+    IsReady drawn.picture × (length drawn.piece.items ≡ piece_bytes drawn.picture)
 CanGoOut (output.Text text report) = ⊤

@@ -18,13 +18,13 @@ use crate::setting::{Product, Setting};
 use std::alloc::Global;
 use tt_core::Sink;
 use tt_pbm::{Cut, write_all_of};
-use tt_render_run::{Drawn, write_picture};
+use tt_render_run::{Drawn, piece_for, write_picture};
 use tt_strike::{DrawFault, Measure, Picture, Report, Strike, Unfitted};
 
 /// A text's output, ready to be written.
 #[derive(Drop)]
 pub(crate) enum Output {
-    /// A picture with memory for one of its rows.
+    /// A picture with memory for writing it.
     Picture(Drawn),
     /// Lines of text, and the report.
     Text(String, Report),
@@ -113,8 +113,8 @@ pub(crate) fn make_output(
     match setting.product {
         Product::Picture => {
             let picture = make_picture(strike, setting.grow, text, setting.margin)?;
-            let row = vec![in alloc; 0u8; picture.row_bytes()]?;
-            Ok(Output::Picture(Drawn { picture, row }))
+            let piece = piece_for(alloc, &picture)?;
+            Ok(Output::Picture(Drawn { picture, piece }))
         }
         Product::Measure => {
             let face = strike.face();

@@ -5,4 +5,5 @@ pub mod Sent
 pub mod Text
 mod Answered
 mod Made
+mod Pieces
 pub mod Faces

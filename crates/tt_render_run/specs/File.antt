@@ -1,9 +1,11 @@
 -- The file of a picture (Netpbm, "PBM", format P4): its header, and then its rows from the top.
-use Rattle.std.specs.Prelude.{◌≡◌, refl, ℕ, Bool, ◌&&◌, nat_le, nat_lt, pos, List, [], ◌∷◌, ◌++◌, codes, Result, Ok}
+use Rattle.std.specs.Prelude.{◌≡◌, refl, ℕ, ◌+◌, ◌*◌, ◌≤◌, Bool, ◌&&◌, nat_le, nat_lt, pos, List, [], ◌∷◌, ◌++◌, codes, length, Result, Ok}
 use Rattle.std.specs.Fmt.{digits}
+use Rattle.tt_core.specs.Bits.{stride}
+use Rattle.tt_core.specs.Limits.{height_limit, width_limit}
 use Rattle.tt_core.specs.Outcomes.{◌>>=◌}
 use Rattle.tt_pbm.specs.P4.{p4_header_of}
-use Rattle.tt_picture.specs.Pictures.{Image, Picture, image, image_of}
+use Rattle.tt_picture.specs.Pictures.{Image, Picture, band_rows, image, image_of}
 use Rattle.tt_strike.specs.Job.{Job}
 use Rattle.tt_strike.specs.Picture.{pictured}
 use Rattle.tt_strike.specs.Refusals.{Refused}
@@ -22,6 +24,18 @@ as_file made = made >>= λ i. Ok (p4 i)
 -- the file of the picture of a job by a font file
 abbrev pub file_pictured : Job → List ℕ → Result (List ℕ) Refused
 file_pictured a file = as_file (pictured a file)
+
+-- the bytes of the header of a picture, at most 16, and of a band of its rows
+abbrev pub piece_bytes : Picture → ℕ
+piece_bytes p = 16 + stride p.frame.width * band_rows p.frame
+
+-- a picture within the limits, of which some rows may be made
+pub record IsBegun (p : Picture) : Type 0 where
+  pub width : p.frame.width ≤ width_limit
+  pub height : p.frame.height ≤ height_limit
+  pub some : 1 ≤ p.frame.width
+  pub rows : length p.rows ≡ stride p.frame.width * p.frame.height
+  pub made : p.made ≤ p.frame.height
 
 -- worked value: columns 1 and 2 of rows 2 and 3
 a_square : ℕ → ℕ → Bool

@@ -1,28 +1,36 @@
 //! The picture of a job by a font file.
 
 ghost use Rattle.std.specs.Prelude.{◌≡◌, ◌≤◌, length, Ok, IfOk};
-ghost use Rattle.tt_core.specs.Bits.{stride};
 ghost use Rattle.tt_core.specs.Limits.{font_limit};
 ghost use Rattle.tt_core.specs.Outcomes.{GivesUnless, IfTold, draw_font_fault, draw_job_fault};
 ghost use Rattle.tt_picture.specs.Pictures.{IsReady, image_of};
 ghost use Rattle.tt_picture.specs.Unfitted.{ListsOnce};
+ghost use Rattle.tt_render_run.specs.File.{piece_bytes};
 ghost use Rattle.tt_strike.specs.Defects.{IsFontRefusal, IsRunDefect, TellsDefects};
 ghost use Rattle.tt_strike.specs.Job.{job_view, tested, ByFace, IsJob};
 ghost use Rattle.tt_strike.specs.Picture.{pictured};
 ghost use Rattle.tt_strike.specs.Refusals.{refusal};
 ghost use Rattle.tt_strike.specs.Report.{report_of};
 
-use std::alloc::Global;
+use std::alloc::{AllocError, Global};
+use tt_pbm::HEADER_ROOM;
 use tt_strike::{DrawFault, Face, Job, Picture, Strike};
 
-/// A picture, and memory for one of its rows.
+/// A picture, and memory for its header and a band of its rows.
 #[derive(Drop)]
 pub struct Drawn {
     pub picture: Picture,
-    pub row: Vec<u8>,
+    pub piece: Vec<u8>,
 }
 
-/// The picture of a job by a font file, and memory for one of its rows. Errors, the first of: those of the tables
+/// Memory for the header of a picture and a band of its rows. Error: Memory.
+pub fn piece_for(alloc: Global, picture: &Picture) -> Result<Vec<u8>, AllocError>
+    ensures { IfOk result (λ v. length v.items ≡ piece_bytes picture.now) }
+{
+    vec![in alloc; 0u8; HEADER_ROOM + picture.band_bytes()]
+}
+
+/// The picture of a job by a font file, and memory for writing it. Errors, the first of: those of the tables
 /// needed for every text; EmptyPicture, PictureLarge; those of loca and glyf; those of the programs; those of the glyphs
 /// in the order of the text. With `Fit::Best` WorkLarge of the points comes before those of the glyphs. There
 /// EmptyPicture and PictureLarge come after the glyphs, then WorkLarge of the chords, and of the crossings. Memory may
@@ -34,7 +42,7 @@ pub(crate) fn draw(alloc: Global, file: &[u8], job: &Job) -> Result<Drawn, DrawF
     requires tested { tested (job_view job.now) ≡ Ok tt }
     ensures exact { GivesUnless refusal (λ d. image_of d.picture) result (pictured (job_view job.now) file.now) }
     ensures valid { IfOk result (λ d. IsReady d.picture) }
-    ensures row { IfOk result (λ d. length d.row.items ≡ stride d.picture.frame.width) }
+    ensures piece { IfOk result (λ d. length d.piece.items ≡ piece_bytes d.picture) }
     ensures report { IfOk result (λ d. report_of (job_view job.now) file.now ≡ Ok d.picture.unfitted) }
     ensures once { IfOk result (λ d. ListsOnce d.picture.unfitted) }
     ensures defects { TellsDefects draw_font_fault (IsRunDefect (job_view job.now) file.now) result }
@@ -43,6 +51,6 @@ pub(crate) fn draw(alloc: Global, file: &[u8], job: &Job) -> Result<Drawn, DrawF
     let face = Face::open(file)?;
     let mut strike = Strike::new(alloc, &face, job.ppem, job.fit, 0)?;
     let picture = strike.line(job.text, job.margin)?;
-    let row = vec![in alloc; 0u8; picture.row_bytes()]?;
-    Ok(Drawn { picture, row })
+    let piece = piece_for(alloc, &picture)?;
+    Ok(Drawn { picture, piece })
 }

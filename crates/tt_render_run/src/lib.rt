@@ -10,7 +10,7 @@ mod reading;
 mod running;
 mod writing;
 
-pub use drawing::Drawn;
+pub use drawing::{Drawn, piece_for};
 pub use fault::RunFault;
 pub use mapping::map;
 pub use messages::{line, status, unfitted_line};

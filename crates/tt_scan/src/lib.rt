@@ -34,3 +34,4 @@ pub use stamp::paint_columns;
 pub use sweep::Sweep;
 pub use tape::Tape;
 pub use tt_scan_edges::{Cross, Edge, Frame, Span, bounds_of};
+pub use word::Stamp;

@@ -2,7 +2,6 @@
 
 ghost use Rattle.std.specs.Prelude.{◌≡◌, ℕ, ℤ, ◌+◌, ◌-◌, ◌*◌, ◌/◌, ◌%◌, ◌^◌, ◌<◌, ◌≤◌, ◌+ℤ◌, ◌-ℤ◌, ◌<ℤ◌, ◌≤ℤ◌, ◌&&◌, ◌||◌, ◌==◌, true, false, nat_le, nat_lt, int_le, pos, [], ◌∷◌, length, take, slice_index, unsigned_abs, IfSome};
 ghost use Rattle.std.specs.Int.{bit_at};
-ghost use Rattle.tt_core.specs.Bits.{bit};
 ghost use Rattle.tt_scan.specs.Blackened.{IsBlackened};
 ghost use Rattle.tt_scan_edges.specs.Marks.{covers, covers_from};
 ghost use Rattle.tt_scan.specs.Stamps.{in_word, shows, IsStampOf};
@@ -316,15 +315,11 @@ fn paint_each(spans: &[Span], pens: &[u32], width: u32, row: &mut [u8])
     }
 }
 
-/// Blackens the columns of all spans from each pen: by their stamp, or span by span where they have no stamp.
+/// Blackens the pixels that spans cover from each pen of a glyph, moved to the right by the pen's columns: by their
+/// stamp, or span by span where they have no stamp. The row has `width` pixels, the leftmost in the highest bit of the
+/// first byte. All other bits are unchanged. It takes no memory.
 #[inline(always)]
-pub(crate) fn paint_from(
-    stamp: Option<Stamp>,
-    spans: &[Span],
-    pens: &[u32],
-    width: u32,
-    row: &mut [u8],
-)
+pub fn paint_columns(stamp: Option<Stamp>, spans: &[Span], pens: &[u32], width: u32, row: &mut [u8])
     requires stamp { IfSome stamp (IsStampOf spans.now) }
     requires width { width ≤ 8 * length row.old }
     ensures { IsBlackened (λ k. nat_lt k width && covers_from spans.now pens.now k) row.old row.new }
@@ -333,16 +328,4 @@ pub(crate) fn paint_from(
         Some(stamp) => paint_stamps(stamp, spans, pens, width, row),
         None => paint_each(spans, pens, width, row),
     }
-}
-
-/// Blackens the pixels that spans cover from each pen of a glyph, moved to the right by the pen's columns. The row has
-/// `width` pixels, the leftmost in the highest bit of the first byte. All other bits are unchanged. It takes no memory.
-/// It is `Sweep::paint_all` of spans that a caller stored.
-#[inline(never)]
-pub fn paint_columns(spans: &[Span], pens: &[u32], width: u32, row: &mut [u8])
-    requires width { width ≤ 8 * length row.old }
-    ensures bits { (k : ℕ) → bit row.new k ≡ (bit row.old k || (nat_lt k width && covers_from spans.now pens.now k)) }
-    ensures len { length row.new ≡ length row.old }
-{
-    paint_from(stamped(spans), spans, pens, width, row);
 }

@@ -1,13 +1,14 @@
 //! The sweep of a row: its black columns, cut once from the edges of a tape, then painted wherever the glyph is.
 
-ghost use Rattle.std.specs.Prelude.{◌≡◌, ℕ, ℤ, ◌+◌, ◌-ℤ◌, ◌*◌, ◌^◌, ◌<◌, ◌≤◌, ◌<ℤ◌, ◌≤ℤ◌, ◌&&◌, ◌||◌, nat_lt, pos, [], length, unsigned_abs, IfOk};
+ghost use Rattle.std.specs.Prelude.{◌≡◌, ℕ, ℤ, ◌+◌, ◌-ℤ◌, ◌*◌, ◌^◌, ◌<◌, ◌≤◌, ◌<ℤ◌, ◌≤ℤ◌, ◌&&◌, ◌||◌, nat_lt, pos, [], length, unsigned_abs, IfOk, IfSome};
 ghost use Rattle.tt_core.specs.Bits.{bit};
 ghost use Rattle.tt_scan_edges.specs.Bounds.{AreBounds};
 ghost use Rattle.tt_scan_edges.specs.Marks.{covers, covers_from};
 ghost use Rattle.tt_scan_edges.specs.Winding.{is_black, column_x, row_y, rows_met};
+ghost use Rattle.tt_scan.specs.Stamps.{IsStampOf};
 
 use crate::paint::paint_spans;
-use crate::stamp::{paint_from, paint_stamp, stamped};
+use crate::stamp::{paint_columns, paint_stamp, stamped};
 use crate::tape::Tape;
 use crate::word::Stamp;
 use std::alloc::{AllocError, Global};
@@ -88,7 +89,7 @@ impl Sweep {
             ≡ (bit row.old k || (nat_lt k width && covers_from self.now.spans pens.now k)) }
         ensures len { length row.new ≡ length row.old }
     {
-        paint_from(self.stamp, self.left.black(), pens, width, row);
+        paint_columns(self.stamp, self.left.black(), pens, width, row);
     }
 
     /// The black columns of the row cut last, in no order; some may occur twice. `paint_columns` paints them.
@@ -97,6 +98,13 @@ impl Sweep {
         ensures few { length result.now ≤ 2 * self.now.room + 1 }
     {
         self.left.black()
+    }
+
+    /// The black columns of the row cut last as one word, where they are few.
+    pub fn stamp(&self) -> Option<Stamp>
+        ensures { IfSome result (IsStampOf self.now.spans) }
+    {
+        self.stamp
     }
 
     /// The least and the greatest black column of the row cut last, both included; None where no column is black.

@@ -1,8 +1,9 @@
 -- The lines of a raster, and their black columns.
-use Rattle.std.proofs.Common.{◌≡◌, ◌∙◌, ap, sym, refl, ℕ, ◌+◌, ◌≤◌, true, false, ◌&&◌, List, [], ◌∷◌, length, ℤ, pos, ◌+ℤ◌, ◌-ℤ◌, ◌*ℤ◌, ◌≤ℤ◌, ◌<ℤ◌, int_le, inl, inr, arith}
+use Rattle.std.proofs.Common.{◌≡◌, ◌∙◌, ap, sym, refl, ℕ, ◌+◌, ◌<◌, ◌≤◌, Bool, true, false, ◌&&◌, List, [], ◌∷◌, length, ℤ, pos, ◌+ℤ◌, ◌-ℤ◌, ◌*ℤ◌, ◌≤ℤ◌, ◌<ℤ◌, int_le, inl, inr, arith}
 use Rattle.std.specs.Prelude.{unsigned_abs}
 use Rattle.std.proofs.lemmas.Bool.{cases_lt}
-use Rattle.std.proofs.lemmas.Int.{by_lt_z, ints}
+use Rattle.std.specs.Int.{int_max, int_min}
+use Rattle.std.proofs.lemmas.Int.{by_lt_z, clamps, ints}
 use Rattle.std.proofs.lemmas.List.{get_or_past}
 use Rattle.tt_scan_edges.specs.Crossing.{has_row}
 use Rattle.tt_scan_edges.specs.Marks.{covers, covers_from}
@@ -116,3 +117,31 @@ pub from_pens : (k : Raster) (pens : List ℕ) (n : ℕ) (j : ℤ)
     → shows_from k pens (pos n) j ≡ covers_from (spans_at k j) pens n
 from_pens k [] n j = refl
 from_pens k (pen ∷ pens) n j = rw (from_pens k pens n j) refl
+
+-- how far one line is above another, at least 0 and at most a number of rows
+
+pub few_far : (from to z : ℤ) (most : ℕ) → z ≡ int_max (pos 0) (int_min (to -ℤ from) (pos most)) → unsigned_abs z ≤ most
+few_far from to z most is = omega (arith, ints, clamps, is)
+
+pub far_before : (from to z : ℤ) (most i : ℕ) → z ≡ int_max (pos 0) (int_min (to -ℤ from) (pos most)) → i < unsigned_abs z
+    → (from +ℤ pos i) <ℤ to
+far_before from to z most i is below = omega (arith, ints, clamps, is, below)
+
+pub far_past : (from to z : ℤ) (most i : ℕ) → z ≡ int_max (pos 0) (int_min (to -ℤ from) (pos most)) → unsigned_abs z ≤ i
+    → i < most → to ≤ℤ (from +ℤ pos i)
+far_past from to z most i is past below = omega (arith, ints, clamps, is, past, below)
+
+-- lines without a row
+
+pub above_row : (low past line : ℤ) (i : ℕ) → (past +ℤ pos i) <ℤ (line +ℤ pos 1) → has_row (low, past) (line -ℤ pos i) ≡ false
+above_row low past line i is = grind (arith, ints)
+
+pub below_row : (low past line : ℤ) (i : ℕ) → (line +ℤ pos 1) ≤ℤ (low +ℤ pos i) → has_row (low, past) (line -ℤ pos i) ≡ false
+below_row low past line i is = grind (arith, ints)
+
+-- a line that is blank is blank from all pens
+pub blank_from : (k : Raster) (pens : List ℕ) (c j : ℤ) (inside : Bool) → ((c : ℤ) → shows k c j ≡ false)
+    → (inside && shows_from k pens c j) ≡ false
+blank_from k pens c j false blank = refl
+blank_from k [] c j true blank = refl
+blank_from k (pen ∷ pens) c j true blank = rw (blank (c -ℤ pos pen)) (blank_from k pens c j true blank)

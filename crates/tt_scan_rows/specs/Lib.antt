@@ -1,3 +1,4 @@
+pub mod Bands
 pub mod Cut
 pub mod Raster
 pub mod Rows

@@ -1,7 +1,9 @@
 -- No part of the standard: the black columns of the rows of a glyph, one row after the other.
-use Rattle.std.specs.Prelude.{◌≡◌, refl, ℕ, ◌^◌, ◌<◌, true, false, ℤ, pos, ◌<ℤ◌, List, [], ◌∷◌, length, get_or}
+use Rattle.std.specs.Prelude.{◌≡◌, refl, ⊤, ℕ, ◌^◌, ◌<◌, true, false, ℤ, pos, ◌<ℤ◌, List, [], ◌∷◌, length, get_or, Option, IfSome}
 use Rattle.std.specs.List.{slice_range, sum_by}
 use Rattle.tt_scan.specs.Contours.{AreEndsFrom}
+use Rattle.tt_scan.specs.Stamps.{IsStampOf}
+use Rattle.tt_scan.specs.declared.word.Stamp.{Stamp}
 use Rattle.tt_scan_edges.specs.Marks.{covers}
 use Rattle.tt_scan_edges.specs.Winding.{column_x, is_black, row_y}
 use Rattle.tt_scan_edges.specs.declared.edge.Edge.{Edge}
@@ -40,6 +42,13 @@ rows_at ss (start ∷ ends) = rows_from start ss ends
 abbrev pub AreStarts : ℕ → List ℕ → Type 0
 AreStarts count [] = ⊥
 AreStarts count (start ∷ ends) = (start ≡ 0) × AreEndsFrom start count ends
+
+-- the stamps of rows, row by row; where a row has one, it shows the row's columns
+abbrev pub AreStampsOf : List (List Span) → List (Option Stamp) → Type 0
+AreStampsOf [] [] = ⊤
+AreStampsOf [] (stamp ∷ stamps) = ⊥
+AreStampsOf (row ∷ rows) [] = ⊥
+AreStampsOf (row ∷ rows) (stamp ∷ stamps) = IfSome stamp (IsStampOf row) × AreStampsOf rows stamps
 
 -- worked values: of three rows the one in the middle is blank
 span : ℕ → ℕ → Span

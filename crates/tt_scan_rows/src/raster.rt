@@ -10,6 +10,7 @@ ghost use Rattle.tt_scan_edges.specs.Bounds.{AreBounds};
 ghost use Rattle.tt_scan_edges.specs.Crossing.{has_row, spans};
 ghost use Rattle.tt_scan.specs.EdgeList.{heights_of};
 ghost use Rattle.tt_scan_edges.specs.Winding.{FrameFits, is_black};
+ghost use Rattle.tt_scan_rows.specs.Bands.{IsBandBlackened};
 ghost use Rattle.tt_scan_rows.specs.Raster.{IsRasterOf, line_y, lines_in, shows, shows_from, spans_at};
 ghost use Rattle.tt_scan_rows.specs.Rows.{row_at, spans_in};
 ghost use Rattle.tt_scan_rows.specs.Cut.{IfEdges, IfRaster, IsLarge};
@@ -125,6 +126,17 @@ fn frame_of(count: u32, last: i32) -> Frame
     }
 }
 
+/// How far `to` is above `from`: 0 where `to` is below, and at most `most`.
+fn distance(from: i64, to: i64, most: u32) -> u32
+    requires from { unsigned_abs from < 2 ^ 41 }
+    requires to { unsigned_abs to < 2 ^ 41 }
+    ensures most { result ≤ most }
+    ensures before { (i : ℕ) → i < result → (from +ℤ pos i) <ℤ to }
+    ensures past { (i : ℕ) → result ≤ i → i < most → to ≤ℤ (from +ℤ pos i) }
+{
+    (to - from).clamp(0, i64::from(most)) as u32
+}
+
 impl Raster {
     /// The raster of a glyph that is blank. Error: memory ran out.
     fn blank(alloc: Global) -> Result<Raster, AllocError>
@@ -188,6 +200,7 @@ impl Raster {
     /// Blackens the pixels of the black columns of a line from each pen of the glyph, moved to the right by the pen's
     /// columns. The row has `width` pixels, the leftmost in the highest bit of the first byte. All other bits are
     /// unchanged. It takes no memory.
+    #[inline(always)]
     pub fn paint(&self, line: i64, pens: &[u32], width: u32, row: &mut [u8])
         requires { width ≤ 8 * length row.old }
         ensures bits { (k : ℕ) → bit row.new k
@@ -196,6 +209,45 @@ impl Raster {
     {
         if let Some(r) = self.row_of(line) {
             self.rows.paint(r, pens, width, row);
+        }
+    }
+
+    /// The rows of a band that may be black, from one up to another; the band's first row has the line `line`, and each
+    /// row is one line below the row before it. All other rows of `rows` are blank.
+    fn rows_shown(&self, line: i64, rows: u32) -> (u32, u32)
+        requires { unsigned_abs line < 2 ^ 40 }
+        ensures order { result.0 ≤ result.1 }
+        ensures within { result.1 ≤ rows }
+        ensures above { (i : ℕ) (c : ℤ) → i < result.0 → shows self.now c (line -ℤ pos i) ≡ false }
+        ensures below { (i : ℕ) (c : ℤ) → result.1 ≤ i → i < rows → shows self.now c (line -ℤ pos i) ≡ false }
+    {
+        let (low, past) = self.lines();
+        let from = distance(past, line + 1, rows);
+        let to = distance(low, line + 1, rows);
+        (from, to.max(from))
+    }
+
+    /// Blackens the pixels of the black columns from each pen of the glyph, moved to the right by the pen's columns, in
+    /// `rows` rows of `bytes` bytes. The first row has the line `line`, and each row is one line below the row before
+    /// it. A row has `width` pixels, the leftmost in the highest bit of the first byte. All other bits are unchanged.
+    pub fn paint_lines(
+        &self,
+        line: i64,
+        rows: u32,
+        pens: &[u32],
+        width: u32,
+        bytes: usize,
+        band: &mut [u8],
+    )
+        requires line { unsigned_abs line < 2 ^ 40 }
+        requires width { width ≤ 8 * bytes }
+        requires band { length band.old ≡ bytes * rows }
+        ensures { IsBandBlackened bytes rows (λ i c. nat_lt c width && shows_from self.now pens.now (pos c) (line -ℤ pos i)) band.old band.new }
+    {
+        let (from, to) = self.rows_shown(line, rows);
+        for i in from..to {
+            let at = bytes * i as usize;
+            self.paint(line - i64::from(i), pens, width, &mut band[at..at + bytes]);
         }
     }
 
@@ -222,10 +274,10 @@ impl Raster {
         (past - self.rows.height() as i64, past)
     }
 
-    /// The bytes that the rows occupy: 16 for each span, and 8 for each row.
+    /// The bytes that the rows occupy: 16 for each span, and 40 for each row with its stamp.
     pub fn bytes(&self) -> usize
-        ensures { result ≡ 16 * spans_in self.now.rows + 8 * length self.now.rows }
+        ensures { result ≡ 16 * spans_in self.now.rows + 40 * length self.now.rows }
     {
-        16 * self.rows.spans() + 8 * self.rows.height()
+        16 * self.rows.spans() + 40 * self.rows.height()
     }
 }

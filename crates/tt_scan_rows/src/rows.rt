@@ -5,11 +5,12 @@ ghost use Rattle.tt_core.specs.Bits.{bit};
 ghost use Rattle.tt_scan_edges.specs.Bounds.{AreBounds};
 ghost use Rattle.tt_scan_edges.specs.Marks.{covers_from};
 ghost use Rattle.tt_scan_edges.specs.Winding.{crossings_of};
+ghost use Rattle.tt_scan.specs.Stamps.{IsStampOf};
 ghost use Rattle.tt_scan_rows.specs.Rows.{AreRowsOf, row_at, spans_in};
 
 use std::alloc::{AllocError, Global};
 use std::marker::Model;
-use tt_scan::{Span, Sweep, Tape, bounds_of, paint_columns};
+use tt_scan::{Span, Stamp, Sweep, Tape, bounds_of, paint_columns};
 
 /// The black columns of all rows of a glyph, row by row from the top of its frame.
 #[derive(Drop)]
@@ -18,18 +19,21 @@ pub(crate) struct Rows {
     spans: Vec<Span>,
     /// The number of the first span of each row, and then the number of all spans.
     starts: Vec<usize>,
+    /// The black columns of each row as one word, where they are few.
+    stamps: Vec<Option<Stamp>>,
 }
 
 impl Model for Rows {
     ghost use Rattle.std.specs.Prelude.{length};
     ghost use Rattle.tt_scan_rows.specs.Rows as rows;
-    ghost use Rattle.tt_scan_rows.specs.Rows.{AreStarts, rows_at};
+    ghost use Rattle.tt_scan_rows.specs.Rows.{AreStampsOf, AreStarts, rows_at};
 
     ghost Value = { rows.Rows };
 
     ghost view = { λ r. record { rows = rows_at r.spans.items r.starts.items } };
 
-    ghost invariant = { λ r. AreStarts (length r.spans.items) r.starts.items };
+    ghost invariant = { λ r. AreStarts (length r.spans.items) r.starts.items
+        × AreStampsOf (rows_at r.spans.items r.starts.items) r.stamps.items };
 }
 
 /// The spans from a number up to another.
@@ -43,7 +47,7 @@ fn part(spans: &[Span], from: usize, to: usize) -> &[Span]
 }
 
 impl Rows {
-    /// No row yet, and memory for the starts of `height` rows. Error: memory ran out.
+    /// No row yet, and memory for the starts and the stamps of `height` rows. Error: memory ran out.
     pub(crate) fn empty(alloc: Global, height: u32) -> Result<Rows, AllocError>
         ensures { IfOk result (λ rows. rows ≡ record { rows = [] }) }
     {
@@ -52,17 +56,21 @@ impl Rows {
         Ok(Rows {
             spans: Vec::new(alloc),
             starts,
+            stamps: Vec::with_capacity(alloc, height as usize)?,
         })
     }
 
-    /// Adds a row below the others. After an error the rows are unchanged.
-    fn push(&mut self, row: &[Span]) -> Result<(), AllocError>
+    /// Adds a row below the others, with its stamp. After an error the rows are unchanged.
+    fn push(&mut self, row: &[Span], stamp: Option<Stamp>) -> Result<(), AllocError>
+        requires { IfSome stamp (IsStampOf row.now) }
         ensures added { OnOk result (self.new.rows ≡ self.old.rows ++ row.now ∷ []) }
         ensures kept { OnErr result (self.new ≡ self.old) }
     {
         self.starts.reserve(1)?;
+        self.stamps.reserve(1)?;
         self.spans.extend_from_slice(row)?;
         self.starts.push_reserved(self.spans.len());
+        self.stamps.push_reserved(stamp);
         Ok(())
     }
 
@@ -99,7 +107,7 @@ impl Rows {
             if most - rows.spans() < sweep.spans().len() {
                 return Ok(None);
             }
-            rows.push(sweep.spans())?;
+            rows.push(sweep.spans(), sweep.stamp())?;
         }
         rows.shrink();
         Ok(Some(rows))
@@ -112,7 +120,7 @@ impl Rows {
         self.starts.len() - 1
     }
 
-    /// The number of spans of all rows together. A span takes 16 bytes, a row 8 more.
+    /// The number of spans of all rows together. A span takes 16 bytes, a row 40 more: its start and its stamp.
     pub(crate) fn spans(&self) -> usize
         ensures { result ≡ spans_in self.now.rows }
     {
@@ -125,6 +133,15 @@ impl Rows {
         ensures { result.now ≡ row_at self.now.rows r }
     {
         part(&self.spans, self.starts[r], self.starts[r + 1])
+    }
+
+    /// The black columns of row `r` as one word, where they are few.
+    #[inline(always)]
+    fn stamp(&self, r: usize) -> Option<Stamp>
+        requires { r < length self.now.rows }
+        ensures { IfSome result (IsStampOf (row_at self.now.rows r)) }
+    {
+        self.stamps[r]
     }
 
     /// Blackens the pixels of the black columns of row `r` from each pen of the glyph, moved to the right by the pen's
@@ -140,7 +157,7 @@ impl Rows {
         let spans = self.row(r);
         // Many rows of a line are blank.
         if !spans.is_empty() {
-            paint_columns(spans, pens, width, row);
+            paint_columns(self.stamp(r), spans, pens, width, row);
         }
     }
 

@@ -3,6 +3,7 @@
 use Rattle.std.specs.Prelude.{◌≡◌, ℕ, false, List, [], Option, None, Some, Ok, ⊤}
 use Rattle.tt_fit.specs.declared.programs.Fit.{Fit}
 use Rattle.tt_fit.specs.Fitting.{Fitter}
+use Rattle.tt_line.specs.Known.{Source}
 use Rattle.tt_picture.specs.Cached.{AreCachedFor}
 use Rattle.tt_strike.specs.Job.{Job, job_for}
 use Rattle.tt_strike.specs.Picture.{setting}
@@ -27,6 +28,10 @@ pub record SizedFace : Type 0 where
   pub face : Face
   pub ppem : ℕ
   pub fit : Fit
+
+-- the source of glyphs and advances at a size
+abbrev pub advances_of : Face → ℕ → Source
+advances_of face ppem = record { metrics = face.metrics; cmap = face.cmap; ppem = ppem }
 
 abbrev pub job_by : SizedFace → List ℕ → ℕ → Job
 job_by z text margin = job_for z.ppem z.fit text margin

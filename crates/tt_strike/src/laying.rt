@@ -20,27 +20,20 @@ use tt_line::lay;
 impl<'f, 'a> SizedFace<'f, 'a> {
     /// Tests a margin and a text, and lays the text out by advances; only where work is not bounded. Errors, the first
     /// of: MarginRange, TextLong; EmptyPicture, PictureLarge. Memory may come at any allocation.
-    pub(crate) fn lay_out(&self, text: &str, margin: u32) -> Result<Laid, DrawFault>
-        requires unbounded { is_bounded self.now.fit ≡ false }
-        ensures exact { GivesUnless refusal (λ l. placement_of l.line) result (laid_out self.now.face (job_by self.now text.now margin)) }
+    pub(crate) fn lay_out(&mut self, text: &str, margin: u32) -> Result<Laid, DrawFault>
+        requires unbounded { is_bounded self.old.fit ≡ false }
+        ensures exact { GivesUnless refusal (λ l. placement_of l.line) result (laid_out self.old.face (job_by self.old text.now margin)) }
         ensures margin { IfOk result (λ l. l.margin ≡ margin) }
-        ensures glyphs { IfOk result (λ l. map (λ g. g.0) l.line.glyphs.items ≡ text_glyphs self.now.face.cmap text.now) }
-        ensures known { IfOk result (λ l. All (λ g. g.0 < glyphs_of self.now.face.metrics) l.line.glyphs.items) }
+        ensures glyphs { IfOk result (λ l. map (λ g. g.0) l.line.glyphs.items ≡ text_glyphs self.old.face.cmap text.now) }
+        ensures known { IfOk result (λ l. All (λ g. g.0 < glyphs_of self.old.face.metrics) l.line.glyphs.items) }
         ensures font { IfTold draw_font_fault result (λ _. ⊥) }
-        ensures job { IfTold draw_job_fault result (IsLineRefusal self.now.face (job_by self.now text.now margin)) }
+        ensures job { IfTold draw_job_fault result (IsLineRefusal self.old.face (job_by self.old text.now margin)) }
+        ensures same { self.new ≡ self.old }
     {
-        let source = self.source;
+        let alloc = self.source.alloc;
         test_margin(margin)?;
         test_text(text)?;
-        let face = source.face;
-        let line = lay(
-            source.alloc,
-            face.metrics(),
-            face.cmap(),
-            text,
-            source.ppem,
-            margin,
-        )?;
+        let line = lay(alloc, &mut self.known, text, margin)?;
         Ok(Laid { line, margin })
     }
 }

@@ -88,7 +88,7 @@ impl<'f, 'a> SizedFace<'f, 'a> {
         test_margin(margin)?;
         test_text(text)?;
         let mut fitter = self.maker.take(&source)?;
-        let outlined = source.outlined(&mut fitter, text)?;
+        let outlined = source.outlined(&mut fitter, &mut self.known, text)?;
         let OutlinedText {
             steps,
             places,

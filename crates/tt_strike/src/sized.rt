@@ -13,15 +13,20 @@ use std::marker::Model;
 use tt_core::JobFault;
 use tt_face::Face;
 use tt_fit::Fit;
+use tt_line::KnownAdvances;
 
-/// A face at a size, with a fit. Clauses see these three. They do not see the fitter, which changes no answer.
+/// A face at a size, with a fit. Clauses see these three. They do not see the fitter and the
+/// recent characters, which change no answer.
 #[derive(Drop)]
 pub(crate) struct SizedFace<'f, 'a> {
     pub(crate) source: FitterSource<'f, 'a>,
     pub(crate) maker: Maker<'a>,
+    /// The glyphs and the advances of recent characters.
+    pub(crate) known: KnownAdvances<'f, 'a>,
 }
 
 impl<'f, 'a> Model for SizedFace<'f, 'a> {
+    ghost use Rattle.std.specs.Prelude.{◌≡◌};
     ghost use Rattle.tt_strike.specs.Makers.{IsMaker};
     ghost use Rattle.tt_strike.specs.Strikes as strikes;
 
@@ -29,7 +34,8 @@ impl<'f, 'a> Model for SizedFace<'f, 'a> {
 
     ghost view = { λ z. record { face = z.source.face.now; ppem = z.source.ppem; fit = z.source.fit } };
 
-    ghost invariant = { λ z. IsMaker z.source.face.now z.source.ppem z.source.fit z.maker };
+    ghost invariant = { λ z. IsMaker z.source.face.now z.source.ppem z.source.fit z.maker
+        × (z.known ≡ strikes.advances_of z.source.face.now z.source.ppem) };
 }
 
 impl<'f, 'a> SizedFace<'f, 'a> {
@@ -54,6 +60,7 @@ impl<'f, 'a> SizedFace<'f, 'a> {
         Ok(SizedFace {
             source,
             maker: Maker::Unmade,
+            known: KnownAdvances::new(face.metrics(), face.cmap(), ppem),
         })
     }
 

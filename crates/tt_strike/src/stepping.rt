@@ -9,6 +9,7 @@ ghost use Rattle.tt_picture.specs.Distinct.{distinct, fitter_after};
 ghost use Rattle.tt_strike.specs.Made.{AreOutlined};
 ghost use Rattle.tt_strike.specs.Picture.{outlines_tested};
 ghost use Rattle.tt_strike.specs.Refusals.{refusal};
+ghost use Rattle.tt_strike.specs.Strikes.{advances_of};
 ghost use Rattle.tt_strike.specs.Work.{is_bounded, points_in, started, work_tested};
 
 use crate::distinct::{DistinctGlyphs, distinct};
@@ -16,7 +17,7 @@ use crate::source::FitterSource;
 use crate::work::charge_points;
 use tt_core::DrawFault;
 use tt_fit::Fitter;
-use tt_line::advance_steps;
+use tt_line::{KnownAdvances, advance_steps};
 use tt_picture::{FittedGlyph, fit_glyphs, put_steps};
 
 /// A text whose glyphs have their outlines.
@@ -36,8 +37,10 @@ impl<'f, 'a> FitterSource<'f, 'a> {
     pub(crate) fn outlined(
         &self,
         fitter: &mut Fitter,
+        known: &mut KnownAdvances,
         text: &str,
     ) -> Result<OutlinedText, DrawFault>
+        requires known { known.old ≡ advances_of self.now.face.now self.now.ppem }
         requires text { length (chars text.now) ≤ text_limit }
         requires glyphs { fitter.old.tables.glyphs ≡ glyphs_of self.now.face.now.metrics }
         requires bounded { is_bounded self.now.fit ≡ true }
@@ -46,12 +49,11 @@ impl<'f, 'a> FitterSource<'f, 'a> {
         ensures known { IfOk result (λ t. All (λ g. g.0 < glyphs_of self.now.face.now.metrics) t.steps.items) }
         ensures few { IfOk result (λ t. length t.steps.items ≤ text_limit) }
         ensures after { IfOk result (λ t. fitter.new ≡ fitter_after (started fitter.old (text_glyphs self.now.face.now.cmap text.now)) (distinct (text_glyphs self.now.face.now.cmap text.now))) }
+        ensures same { known.new ≡ known.old }
         ensures stops { IfTold refusal result (λ r. outlines_tested fitter.old self.now.fit (text_glyphs self.now.face.now.cmap text.now) ≡ Err r) }
     {
-        let metrics = self.face.metrics();
-        let cmap = self.face.cmap();
-        let mut steps = advance_steps(self.alloc, metrics, cmap, text, self.ppem)?;
-        let met = distinct(self.alloc, metrics.glyphs(), &steps)?;
+        let mut steps = advance_steps(self.alloc, known, text)?;
+        let met = distinct(self.alloc, self.face.metrics().glyphs(), &steps)?;
         let DistinctGlyphs { places, numbers } = met;
         charge_points(self.fit, fitter, &numbers)?;
         let fitted = fit_glyphs(self.alloc, fitter, &numbers)?;

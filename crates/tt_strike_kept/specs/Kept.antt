@@ -10,9 +10,9 @@ pub record Kept : Type 0 where
   pub entries : List (ℕ × KeptGlyph)
   pub most : ℕ
 
--- the bytes of a glyph: 16 each span and 8 each row of its raster, and 128 for its place
+-- the bytes of a glyph: 16 each span and 40 each row of its raster, and 128 for its place
 abbrev pub bytes_of : KeptGlyph → ℕ
-bytes_of g = 16 * spans_in g.raster.rows + 8 * length g.raster.rows + 128
+bytes_of g = 16 * spans_in g.raster.rows + 40 * length g.raster.rows + 128
 
 -- the bytes of all glyphs of a list
 abbrev pub bytes_in : List (ℕ × KeptGlyph) → ℕ
@@ -40,22 +40,22 @@ a_blank_glyph_takes_its_place_alone : bytes_of blank ≡ 128
 unfolding blank
 a_blank_glyph_takes_its_place_alone = refl
 
-a_dot_takes_a_span_and_a_row_more : bytes_of dot ≡ 152
+a_dot_takes_a_span_and_a_row_more : bytes_of dot ≡ 184
 unfolding dot
 a_dot_takes_a_span_and_a_row_more = refl
 
-three_take_all_their_bytes : bytes_in three ≡ 432
+three_take_all_their_bytes : bytes_in three ≡ 496
 unfolding three dot blank
 three_take_all_their_bytes = refl
 
-all_stay_where_they_just_fit : fitting 432 three ≡ three
+all_stay_where_they_just_fit : fitting 496 three ≡ three
 unfolding three dot blank
 all_stay_where_they_just_fit = refl
 
-the_oldest_goes_where_a_byte_lacks : fitting 431 three ≡ (7, dot) ∷ (3, blank) ∷ []
+the_oldest_goes_where_a_byte_lacks : fitting 495 three ≡ (7, dot) ∷ (3, blank) ∷ []
 unfolding three dot blank
 the_oldest_goes_where_a_byte_lacks = refl
 
-no_smaller_one_stays_behind_one_that_goes : fitting 151 three ≡ []
+no_smaller_one_stays_behind_one_that_goes : fitting 183 three ≡ []
 unfolding three dot blank
 no_smaller_one_stays_behind_one_that_goes = refl

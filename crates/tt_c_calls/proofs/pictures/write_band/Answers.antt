@@ -19,7 +19,7 @@ returns-clause-done c =
     let answer = rw (bytes, c.from-2.ensures, count, ← long) at c.sized-2.ensures in
     λ done. elim c.if-count-gt0.branch [
       | then-count-gt0 w ↦
-          let made = rw (w.skip_rows.ensures.picture, count) at w.make_rows.ensures.rows in
+          let made = rw (w.skip_rows.ensures.picture, count) at w.next_rows.ensures.rows in
           let some : 0 < band_rows p.frame.height first c.args.count = rw count at w.if-count-gt0.true in
           let fits : n * band_rows p.frame.height first c.args.count ≤ length c.args.room.now =
           rw (bytes, count) at c.if-wanted-room.false in

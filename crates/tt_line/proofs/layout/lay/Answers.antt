@@ -8,20 +8,20 @@ use Rattle.tt_line.proofs.layout.lay.Goals as goal
 
 pub returns-in_err-extent-clause-fault : goal.returns-in_err-extent-clause-fault
 returns-in_err-extent-clause-fault c =
-    let glyphs = text_glyphs c.args.cmap.now c.args.text.now in
-    let advances : c.sum_of_advances-advances.result ≡ sum (advances_of c.args.metrics.now c.args.ppem glyphs) =
-    rw c.new-known.ensures at c.sum_of_advances-advances.ensures.exact in
+    let glyphs = text_glyphs c.args.known.now.cmap c.args.text.now in
+    let advances : c.sum_of_advances-advances.result ≡ sum (advances_of c.args.known.now.metrics c.args.known.now.ppem glyphs) =
+    c.sum_of_advances-advances.ensures.exact in
     search rules
 
 pub invariant_of-result-clause-pens : goal.invariant_of-result-clause-pens
 invariant_of-result-clause-pens c =
-    let steps = advances_of c.args.metrics.now c.args.ppem (text_glyphs c.args.cmap.now c.args.text.now) in
-    let all : c.sum_of_advances-advances.result ≡ sum steps = rw c.new-known.ensures at c.sum_of_advances-advances.ensures.exact in
+    let steps = advances_of c.args.known.now.metrics c.args.known.now.ppem (text_glyphs c.args.known.now.cmap c.args.text.now) in
+    let all : c.sum_of_advances-advances.result ≡ sum steps = c.sum_of_advances-advances.ensures.exact in
     let same : c.in_ok-extent.extent.width ≡ c.with_margins.result.width =
     ap (λ (e : PictureExtent). e.width) c.in_ok-extent.ensures.same in
     let wide = c.with_margins.ensures.width in
     let pens : All (λ (p : ℕ × ℕ). p.1 ≤ sum steps) c.in_ok-glyphs.glyphs.items =
-    rw (c.sum_of_advances-advances.ensures.same, c.new-known.ensures) at c.in_ok-glyphs.ensures.pens in
+    rw c.sum_of_advances-advances.ensures.same at c.in_ok-glyphs.ensures.pens in
     All-weaker (λ (p : ℕ × ℕ). p.1 ≤ sum steps) (λ (p : ℕ × ℕ). p.1 ≤ c.in_ok-extent.extent.width)
     (λ p low. omega (arith, all, same, wide, low)) c.in_ok-glyphs.glyphs.items pens
 

@@ -11,17 +11,17 @@ use Rattle.tt_line.proofs.steps.advance_steps.Goals as goal
 
 pub loop-c-preserved : goal.loop-c-preserved
 loop-c-preserved c =
-    let g = glyph_of c.args.cmap.now in
-    let f : ℕ → ℕ × ℕ = λ n. (n, advance_in_pixels c.args.metrics.now c.args.ppem n) in
+    let g = glyph_of c.args.known.now.cmap in
+    let f : ℕ → ℕ × ℕ = λ n. (n, advance_in_pixels c.args.known.now.metrics c.args.known.now.ppem n) in
     let was = c.loop-c.invariant.same in
     let items : c.push.new.self.items ≡ c.loop-c.glyphs.items ++ (c.step-step.result.glyph, c.step-step.result.advance) ∷ [] = c.in_ok-push.ensures.items in
     let glyph : c.step-step.result.glyph ≡ g c.in-Some.c = rw was at c.step-step.ensures.glyph in
-    let within : c.step-step.result.glyph < glyphs_of c.args.metrics.now = rw was at c.step-step.ensures.known in
-    let advance : c.step-step.result.advance ≡ advance_in_pixels c.args.metrics.now c.args.ppem c.step-step.result.glyph = rw was at c.step-step.ensures.advance in
+    let within : c.step-step.result.glyph < glyphs_of c.args.known.now.metrics = rw was at c.step-step.ensures.known in
+    let advance : c.step-step.result.advance ≡ advance_in_pixels c.args.known.now.metrics c.args.known.now.ppem c.step-step.result.glyph = rw was at c.step-step.ensures.advance in
     record {
       same = c.step-step.ensures.same ∙ was;
       steps = rw (items, advance, glyph, c.loop-c.invariant.steps, map_push g c.loop-c.yielded c.in-Some.c, map_push f (map g c.loop-c.yielded) (g c.in-Some.c)) refl;
-      known = rw items (All-push (λ (p : ℕ × ℕ). p.0 < glyphs_of c.args.metrics.now) c.loop-c.glyphs.items (c.step-step.result.glyph, c.step-step.result.advance) c.loop-c.invariant.known within);
+      known = rw items (All-push (λ (p : ℕ × ℕ). p.0 < glyphs_of c.args.known.now.metrics) c.loop-c.glyphs.items (c.step-step.result.glyph, c.step-step.result.advance) c.loop-c.invariant.known within);
     }
 
 pub returns-clause-exact : goal.returns-clause-exact
@@ -32,11 +32,11 @@ returns-clause-exact c =
 
 pub returns-clause-glyphs : goal.returns-clause-glyphs
 returns-clause-glyphs c =
-    rw (returns-clause-exact c) (firsts (advance_in_pixels c.args.metrics.now c.args.ppem) (text_glyphs c.args.cmap.now c.args.text.now))
+    rw (returns-clause-exact c) (firsts (advance_in_pixels c.args.known.now.metrics c.args.known.now.ppem) (text_glyphs c.args.known.now.cmap c.args.text.now))
 
 pub returns-clause-few : goal.returns-clause-few
 returns-clause-few c =
-    let glyphs = text_glyphs c.args.cmap.now c.args.text.now in
-    let f : ℕ → ℕ × ℕ = λ n. (n, advance_in_pixels c.args.metrics.now c.args.ppem n) in
-    let many = ap length (returns-clause-exact c) ∙ length-map glyphs f ∙ length-map (chars c.args.text.now) (glyph_of c.args.cmap.now) in
+    let glyphs = text_glyphs c.args.known.now.cmap c.args.text.now in
+    let f : ℕ → ℕ × ℕ = λ n. (n, advance_in_pixels c.args.known.now.metrics c.args.known.now.ppem n) in
+    let many = ap length (returns-clause-exact c) ∙ length-map glyphs f ∙ length-map (chars c.args.text.now) (glyph_of c.args.known.now.cmap) in
     rw many c.requires.text

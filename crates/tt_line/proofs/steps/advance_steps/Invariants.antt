@@ -7,7 +7,7 @@ use Rattle.tt_line.proofs.steps.advance_steps.Given as goal
 -- the characters so far
 abbrev pub invariant-loop-c : goal.invariant-loop-c
 invariant-loop-c l = record {
-  steps : l.glyphs.items ≡ map (λ g. (g, advance_in_pixels l.fn.metrics l.fn.ppem g)) (map (glyph_of l.fn.cmap) l.yielded);
-  same : l.known ≡ record { metrics = l.fn.metrics; cmap = l.fn.cmap; ppem = l.fn.ppem };
-  known : All (λ p. p.0 < glyphs_of l.fn.metrics) l.glyphs.items;
+  steps : l.glyphs.items ≡ map (λ g. (g, advance_in_pixels l.fn.known.metrics l.fn.known.ppem g)) (map (glyph_of l.fn.known.cmap) l.yielded);
+  same : l.known ≡ l.fn.known;
+  known : All (λ p. p.0 < glyphs_of l.fn.known.metrics) l.glyphs.items;
 }

@@ -19,8 +19,8 @@ returns-in-Some-Tape-clause-added c =
     sym (ap (λ (g : glyphs.Glyph). g.body) c.glyph.view_is) ∙ ap body_view c.in-Some-Tape.is-1 in
     let edges : c.in-Some-Tape.tape.edges ≡ edges_of g.body = sym (ap edges_of body) in
     let ends : c.deref.result.now ≡ g.ends = c.deref.ensures.value ∙ ap (λ (g : glyphs.Glyph). g.ends) c.glyph.view_is in
-    let pens : c.deref-in-Some-Tape.result.now ≡ g.pens =
-    c.deref-in-Some-Tape.ensures.value ∙ ap (λ (g : glyphs.Glyph). g.pens) c.glyph.view_is in
+    let pens : c.as_slice.result.now ≡ g.pens =
+    c.as_slice.ensures ∙ ap (λ (g : glyphs.Glyph). g.pens) c.glyph.view_is in
     on_ok_weaker c.push_dropouts.result
     (λ added k r column row. added k r column row
     ∙ ap (λ b. is_among c.args.found.now.items k r || b) (rw (edges, ends, pens, filled) (filled_from f rules

@@ -1,64 +1,81 @@
-use Rattle.std.proofs.Common.{◌≡◌, ◌∙◌, ◌+◌, ◌*◌, ◌<◌, ◌≤◌, length, take, refl, ap, arith}
+use Rattle.std.proofs.Common.{◌≡◌, ◌∙◌, ℕ, List, ◌++◌, ◌+◌, ◌-◌, ◌*◌, ◌<◌, ◌≤◌, drop, length, take, refl, ap, sym, arith, drop-drop, length-drop, min}
 use Rattle.std.proofs.lemmas.List.{take_all}
+use Rattle.std.proofs.lemmas.Nat.{mul-le}
 use Rattle.tt_core.specs.Bits.{stride}
-use Rattle.tt_picture.specs.Pictures.{row_at}
-use Rattle.tt_render_run.proofs.Sent.{appends_none, appends_more, next_part, part_of_next, row_ends, row_len, few_bytes}
+use Rattle.tt_picture.specs.Pictures.{band_rows, rows_at}
+use Rattle.tt_render_run.proofs.Pieces.{piece_stays, rows_end, rows_long}
+use Rattle.tt_render_run.proofs.Sent.{appends_none, appends_more, next_part, part_of_next, few_bytes}
 use Rattle.tt_render_run.proofs.writing.write_rows.Goals as goal
 
-pub loop-r-init : goal.loop-r-init
-loop-r-init g c = record {
-  end = c.height-r-end.ensures.exact;
-  row = c.requires.row;
-  picture = rw (← c.requires.ready.made) refl;
-  sent = omega arith;
-  out = appends_none (g.W.Sink.written c.args.out.now) c.args.picture.now.rows _ (omega arith);
+pub loop-picture-init : goal.loop-picture-init
+loop-picture-init g c = record {
+  picture = refl;
+  within = c.requires.begun.made;
+  piece = refl;
+  sent = refl;
+  out = appends_none (g.W.Sink.written c.args.out.now) _ 0 refl;
   serves = c.requires.out;
 }
 
-pub write_row-requires : goal.write_row-requires
-write_row-requires g c =
-    let so_far = c.loop-r.invariant in
-    record {
-      out = so_far.serves;
-      within = rw so_far.picture (rw so_far.end at c.loop-r-test.true);
-      row = rw so_far.picture so_far.row;
-    }
+-- the bytes that are left, from the first that was not written
+here_is : (n sent first made : ℕ) (rows : List ℕ) → sent + n * first ≡ n * made
+    → drop sent (drop (n * first) rows) ≡ drop (n * made) rows
+here_is n sent first made rows is =
+    let place : n * first + sent ≡ n * made = omega (arith, is) in
+    drop-drop sent (n * first) rows ∙ ap (λ k. drop k rows) place
 
-pub loop-r-preserved : goal.loop-r-preserved
-loop-r-preserved g c =
+pub loop-picture-preserved : goal.loop-picture-preserved
+loop-picture-preserved g c =
     let written = g.W.Sink.written in
-    let so_far = c.loop-r.invariant in
-    let r = c.loop-r._r in
+    let so_far = c.loop-picture.invariant in
     let p = c.args.picture.now in
     let n = stride p.frame.width in
-    let below = rw so_far.end at c.loop-r-test.true in
-    let ends = row_ends p.frame.width p.frame.height r below in
-    let many = c.requires.ready.rows in
-    let within : n * r ≤ length p.rows = omega (arith, ends, many) in
+    let made = c.loop-picture.picture.made in
+    let count = c.min-count.result in
+    let rest = drop (n * p.made) p.rows in
+    let left : c.rows_left-2.result ≡ p.frame.height - made = rw so_far.picture at c.rows_left-2.ensures in
+    let few : made + count ≤ p.frame.height = omega (arith, left, c.min-count.ensures, so_far.within) in
     let all = rw so_far.picture at c.in-Ok.ensures.writes.all in
-    let len : length c.write_row.new.row ≡ n = rw so_far.picture at c.in-Ok.ensures.row in
-    let next : n * r + n ≡ n * (r + 1) = omega arith in
-    record {
-      end = so_far.end;
-      row = len;
-      picture = rw so_far.picture at c.in-Ok.ensures.same;
-      sent = omega (arith, so_far.sent, len);
-      out = appends_more (written c.args.out.now) (written c.loop-r.out) (written c.write_row.new.out)
-          (take (n * r) p.rows) (row_at p r) (take (n * (r + 1)) p.rows) so_far.out all
-          (next_part (n * r) n p.rows within ∙ ap (λ m. take m p.rows) next);
+    let here = here_is n c.loop-picture.sent p.made made p.rows so_far.sent in
+    let ends = rows_end n made count p.frame.height p.rows few c.requires.begun.rows in
+    let within : c.loop-picture.sent ≤ length rest = omega (arith, length-drop (n * p.made) p.rows, ends, so_far.sent) in
+    let joined : take c.loop-picture.sent rest ++ rows_at p made count ≡ take (c.loop-picture.sent + n * count) rest =
+    ap (λ xs. take c.loop-picture.sent rest ++ take (n * count) xs) (sym here)
+    ∙ next_part c.loop-picture.sent (n * count) rest within in
+    let same : c.write_band.new.picture ≡ record p { made = made + count } = rw so_far.picture at c.in-Ok.ensures.same in
+    let bytes : c.row_bytes.result ≡ n = rw so_far.picture at c.row_bytes.ensures in
+    let band = rw bytes at c.write_band.ensures.band in
+    let rows : n * count ≤ length c.loop-picture.piece =
+    omega (
+      arith,
+      so_far.piece,
+      c.requires.piece,
+      mul-le n count n (band_rows p.frame) (omega arith)
+          (rw so_far.picture at (omega (arith, c.min-count.ensures, c.band_rows.ensures.exact))),
+    ) in
+    rw (same, bytes) (record {
+      picture = refl;
+      within = few;
+      piece = piece_stays (n * count) c.loop-picture.piece c.write_band.new.band rows band ∙ so_far.piece;
+      sent = omega (arith, so_far.sent);
+      out = appends_more (written c.args.out.now) (written c.loop-picture.out) (written c.write_band.new.out)
+          (take c.loop-picture.sent rest) (rows_at p made count) (take (c.loop-picture.sent + n * count) rest) so_far.out all joined;
       serves = c.in-Ok.ensures.writes.failure;
-    }
+    })
 
 pub returns-clause-writes : goal.returns-clause-writes
 returns-clause-writes g c =
-    let so_far = c.loop-r.invariant in
+    let so_far = c.loop-picture.invariant in
     let p = c.args.picture.now in
-    let done : c.loop-r._r ≡ p.frame.height = omega (arith, c.loop-r.auto._r-end, c.loop-r-test.false, so_far.end) in
-    let many = c.requires.ready.rows in
-    let whole : take (stride p.frame.width * c.loop-r._r) p.rows ≡ p.rows =
-    take_all (stride p.frame.width * c.loop-r._r) p.rows (rw (done, many) (omega arith)) in
+    let n = stride p.frame.width in
+    let rest = drop (n * p.made) p.rows in
+    let left : c.rows_left.result ≡ p.frame.height - c.loop-picture.picture.made = rw so_far.picture at c.rows_left.ensures in
+    let done : c.loop-picture.picture.made ≡ p.frame.height = omega (arith, left, c.loop-picture-test.false, so_far.within) in
+    let sent = rw done at so_far.sent in
+    let long : length rest ≤ c.loop-picture.sent =
+    omega (arith, length-drop (n * p.made) p.rows, c.requires.begun.rows, sent) in
     record {
-      all = rw whole at so_far.out;
+      all = rw (take_all c.loop-picture.sent rest long) at so_far.out;
       part = tt;
       within = tt;
       failure = so_far.serves;
@@ -67,38 +84,44 @@ returns-clause-writes g c =
 pub returns-in-Err-clause-writes : goal.returns-in-Err-clause-writes
 returns-in-Err-clause-writes g c =
     let written = g.W.Sink.written in
-    let so_far = c.loop-r.invariant in
-    let r = c.loop-r._r in
-    let sent = c.in-Err.cut.sent in
+    let so_far = c.loop-picture.invariant in
     let p = c.args.picture.now in
     let n = stride p.frame.width in
-    let below = rw so_far.end at c.loop-r-test.true in
-    let ends = row_ends p.frame.width p.frame.height r below in
-    let many = c.requires.ready.rows in
-    let within : n * r ≤ length p.rows = omega (arith, ends, many) in
+    let made = c.loop-picture.picture.made in
+    let count = c.min-count.result in
+    let sent = c.in-Err.cut.sent in
+    let rest = drop (n * p.made) p.rows in
+    let left : c.rows_left-2.result ≡ p.frame.height - made = rw so_far.picture at c.rows_left-2.ensures in
+    let few : made + count ≤ p.frame.height = omega (arith, left, c.min-count.ensures, so_far.within) in
     let cut = rw so_far.picture at c.in-Err.ensures.writes in
-    let inside : sent < length (row_at p r) = cut.within in
-    let few : sent < n = omega (arith, inside, row_len n (n * r) p.rows (omega (arith, ends, many))) in
-    let fewer : sent ≤ n = omega (arith, few) in
+    let here = here_is n c.loop-picture.sent p.made made p.rows so_far.sent in
+    let ends = rows_end n made count p.frame.height p.rows few c.requires.begun.rows in
+    let within : c.loop-picture.sent ≤ length rest = omega (arith, length-drop (n * p.made) p.rows, ends, so_far.sent) in
+    let long = rows_long n made count p.frame.height p.rows few c.requires.begun.rows in
+    let inside : sent < length (rows_at p made count) = cut.within in
+    let fewer : sent ≤ n * count = omega (arith, inside, long) in
     record {
       all = tt;
-      part = rw so_far.sent (appends_more (written c.args.out.now) (written c.loop-r.out) (written c.write_row.new.out)
-          (take (n * r) p.rows) (take sent (row_at p r)) (take (n * r + sent) p.rows)
-          so_far.out cut.part (part_of_next (n * r) n sent p.rows within fewer));
-      within = omega (arith, so_far.sent, ends, few, many);
+      part = appends_more (written c.args.out.now) (written c.loop-picture.out) (written c.write_band.new.out)
+          (take c.loop-picture.sent rest) (take sent (rows_at p made count)) (take (c.loop-picture.sent + sent) rest) so_far.out cut.part
+          (ap (λ xs. take c.loop-picture.sent rest ++ take sent (take (n * count) xs)) (sym here)
+          ∙ part_of_next c.loop-picture.sent (n * count) sent rest within fewer);
+      within = omega (arith, inside, long, ends, length-drop (n * p.made) p.rows, so_far.sent);
       failure = cut.failure;
     }
 
 pub returns-in-Err-clause-bound : goal.returns-in-Err-clause-bound
 returns-in-Err-clause-bound g c =
-    let so_far = c.loop-r.invariant in
+    let so_far = c.loop-picture.invariant in
     let p = c.args.picture.now in
     let n = stride p.frame.width in
-    let r = c.loop-r._r in
-    let below = rw so_far.end at c.loop-r-test.true in
-    let ends = row_ends p.frame.width p.frame.height r below in
-    let few = few_bytes p.frame.width p.frame.height c.requires.ready.frame.width_high c.requires.ready.height in
+    let made = c.loop-picture.picture.made in
+    let count = c.min-count.result in
+    let left : c.rows_left-2.result ≡ p.frame.height - made = rw so_far.picture at c.rows_left-2.ensures in
+    let few : made + count ≤ p.frame.height = omega (arith, left, c.min-count.ensures, so_far.within) in
+    let ends = rows_end n made count p.frame.height p.rows few c.requires.begun.rows in
+    let long = rows_long n made count p.frame.height p.rows few c.requires.begun.rows in
     let cut = rw so_far.picture at c.in-Err.ensures.writes in
-    let inside : c.in-Err.cut.sent < length (row_at p r) = cut.within in
-    let long = row_len n (n * r) p.rows (omega (arith, ends, c.requires.ready.rows)) in
-    omega (arith, so_far.sent, ends, few, inside, long)
+    let inside : c.in-Err.cut.sent < length (rows_at p made count) = cut.within in
+    let all = few_bytes p.frame.width p.frame.height c.requires.begun.width c.requires.begun.height in
+    omega (arith, so_far.sent, ends, c.requires.begun.rows, inside, long, all)

@@ -1,5 +1,7 @@
 use Rattle.std.proofs.Common.{◌≡◌, ◌∙◌, ap, ◌+◌, ◌++◌, ◌∷◌, [], length, vec_len, refl, arith}
 use Rattle.std.proofs.lemmas.List.{length-append}
+use Rattle.tt_scan_rows.specs.Rows.{rows_at}
+use Rattle.tt_scan_rows.proofs.Stamps.{stamps_pushed}
 use Rattle.tt_scan_rows.proofs.Starts.{rows_pushed, starts_pushed}
 use Rattle.tt_scan_rows.proofs.rows.Rows.push.Goals as goal
 
@@ -14,8 +16,17 @@ invariant_of-self-2 c =
     c.push_reserved.ensures.items ∙ rw (c.reserve.ensures.items, count) refl in
     let more : length c.extend_from_slice.new.self.items ≡ length rows.spans.items + length row =
     ap length spans ∙ length-append rows.spans.items row in
-    rw starts (starts_pushed (length rows.spans.items) (length c.extend_from_slice.new.self.items) rows.starts.items
-    (omega (arith, more)) c.self.invariant)
+    let stamps : c.push_reserved-2.new.self.items ≡ rows.stamps.items ++ c.args.stamp ∷ [] =
+    c.push_reserved-2.ensures.items ∙ rw c.reserve-2.ensures.items refl in
+    let pushed : rows_at c.extend_from_slice.new.self.items (rows.starts.items ++ length c.extend_from_slice.new.self.items ∷ [])
+    ≡ rows_at rows.spans.items rows.starts.items ++ row ∷ [] =
+    rw (more, spans) (rows_pushed rows.spans.items row rows.starts.items c.self.invariant.0) in
+    rw starts (
+      starts_pushed (length rows.spans.items) (length c.extend_from_slice.new.self.items) rows.starts.items
+          (omega (arith, more)) c.self.invariant.0,
+      rw (pushed, stamps)
+          (stamps_pushed (rows_at rows.spans.items rows.starts.items) row rows.stamps.items c.args.stamp c.self.invariant.1 c.requires),
+    )
 
 pub returns-clause-added : goal.returns-clause-added
 returns-clause-added c =
@@ -27,4 +38,4 @@ returns-clause-added c =
     c.len.ensures ∙ long ∙ ap length spans ∙ length-append rows.spans.items row in
     let starts : c.push_reserved.new.self.items ≡ rows.starts.items ++ (length rows.spans.items + length row) ∷ [] =
     c.push_reserved.ensures.items ∙ rw (c.reserve.ensures.items, count) refl in
-    rw (spans, starts, ← c.self.view_is) (rows_pushed rows.spans.items row rows.starts.items c.self.invariant)
+    rw (spans, starts, ← c.self.view_is) (rows_pushed rows.spans.items row rows.starts.items c.self.invariant.0)

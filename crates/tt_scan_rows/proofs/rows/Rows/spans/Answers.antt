@@ -6,4 +6,4 @@ pub returns : goal.returns
 returns c =
     let rows = c.self.inside in
     let long : vec_len rows.spans ≡ length rows.spans.items = rows.spans.ok.0 in
-    rw (← c.self.view_is) (c.len.ensures ∙ long ∙ sym (held_is rows.spans.items rows.starts.items c.self.invariant))
+    rw (← c.self.view_is) (c.len.ensures ∙ long ∙ sym (held_is rows.spans.items rows.starts.items c.self.invariant.0))

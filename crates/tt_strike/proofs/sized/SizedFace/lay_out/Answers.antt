@@ -49,7 +49,7 @@ returns-in_err-line-clause-exact c =
     let passes : tested (job_by z c.args.text.now c.args.margin) ≡ Ok tt =
     at ∙ rw (c.in_ok-test_margin.ensures.exact, c.in_ok-test_text.ensures.exact) refl in
     let p = err_from_is_err_and c.from_residual-in_err-line.result c.from_residual-in_err-line.ensures.1 in
-    let gives = rw (c.metrics.ensures, c.cmap.ensures.exact) at c.in_err-line.ensures.exact in
+    let gives = rw c.self.invariant.1 at c.in_err-line.ensures.exact in
     rw (p.1, p.2, ← c.self.view_is) (laid_as_placed (job_by z c.args.text.now c.args.margin) z.face
     (Err c.in_err-line.field-0.0) passes (rw (← c.self.view_is) at c.requires.unbounded) gives)
 
@@ -62,7 +62,7 @@ pub returns-in_err-line-clause-job : goal.returns-in_err-line-clause-job
 returns-in_err-line-clause-job c =
     let z : SizedFace = record { face = c.self.inside.source.face.now; ppem = c.self.inside.source.ppem; fit = c.self.inside.source.fit } in
     let p = err_from_is_err_and c.from_residual-in_err-line.result c.from_residual-in_err-line.ensures.1 in
-    let fault = rw (c.metrics.ensures, c.cmap.ensures.exact) at c.in_err-line.ensures.fault in
+    let fault = rw c.self.invariant.1 at c.in_err-line.ensures.fault in
     rw (p.1, p.2, ← c.self.view_is) (laying_tells (job_by z c.args.text.now c.args.margin) z.face
     (Err c.in_err-line.field-0.0) (rw (← c.self.view_is) at c.requires.unbounded) fault)
 
@@ -72,12 +72,12 @@ returns-clause-exact c =
     let at = tested_at z c.args.text.now c.args.margin c.self.inside.source.low c.self.inside.source.high in
     let passes : tested (job_by z c.args.text.now c.args.margin) ≡ Ok tt =
     at ∙ rw (c.in_ok-test_margin.ensures.exact, c.in_ok-test_text.ensures.exact) refl in
-    let laid = rw (c.metrics.ensures, c.cmap.ensures.exact) at c.in_ok-line.ensures.exact in
+    let laid = rw c.self.invariant.1 at c.in_ok-line.ensures.exact in
     let other = rw (← c.self.view_is) at c.requires.unbounded in
     rw (← c.self.view_is, passes, placed_by_advances z.face (job_by z c.args.text.now c.args.margin) other, laid) refl
 
 pub returns-clause-glyphs : goal.returns-clause-glyphs
-returns-clause-glyphs c = rw (← c.self.view_is) (rw c.cmap.ensures.exact at c.in_ok-line.ensures.glyphs)
+returns-clause-glyphs c = rw (← c.self.view_is) (rw c.self.invariant.1 at c.in_ok-line.ensures.glyphs)
 
 pub returns-clause-known : goal.returns-clause-known
-returns-clause-known c = rw (← c.self.view_is) (rw c.metrics.ensures at c.in_ok-line.ensures.known)
+returns-clause-known c = rw (← c.self.view_is) (rw c.self.invariant.1 at c.in_ok-line.ensures.known)

@@ -28,12 +28,12 @@ returns-in_err-glyphs-clause-stops c =
     let l = placement_of c.in_ok-laid.laid.line in
     let p = err_from_is_err_and c.from_residual-in_err-glyphs.result c.from_residual-in_err-glyphs.ensures.1 in
     rw (p.1, p.2) (shapes_stop z.face (job_by z c.args.text.now c.args.margin) l c.in_err-glyphs.field-0.0
-    c.in_ok-laid.ensures.exact (rw (← shapes_textless z c.args.text.now c.args.margin l) at c.in_err-glyphs.ensures.stops))
+    c.in_ok-laid.ensures.exact (rw (c.lay_out.ensures.same, ← shapes_textless z c.args.text.now c.args.margin l) at c.in_err-glyphs.ensures.stops))
 
 pub returns-in_err-glyphs-clause-defects : goal.returns-in_err-glyphs-clause-defects
 returns-in_err-glyphs-clause-defects c =
     let p = err_from_is_err_and c.from_residual-in_err-glyphs.result c.from_residual-in_err-glyphs.ensures.1 in
-    rw (p.1, p.2, ← c.in_ok-laid.ensures.glyphs) (rw c.in_ok-laid.ensures.margin at c.in_err-glyphs.ensures.defects)
+    rw (p.1, p.2, ← c.in_ok-laid.ensures.glyphs) (rw (c.lay_out.ensures.same, c.in_ok-laid.ensures.margin) at c.in_err-glyphs.ensures.defects)
 
 pub returns-in_err-glyphs-clause-job : goal.returns-in_err-glyphs-clause-job
 returns-in_err-glyphs-clause-job c =
@@ -44,16 +44,31 @@ pub returns-clause-made : goal.returns-clause-made
 returns-clause-made c =
     let z = c.args.self.now in
     let l = placement_of c.in_ok-laid.laid.line in
-    let made = rw c.in_ok-laid.ensures.margin at c.in_ok-glyphs.ensures.made in
-    let cost = rw c.in_ok-laid.ensures.margin at c.in_ok-glyphs.ensures.cost in
+    let made = rw (c.lay_out.ensures.same, c.in_ok-laid.ensures.margin) at c.in_ok-glyphs.ensures.made in
+    let cost = rw (c.lay_out.ensures.same, c.in_ok-laid.ensures.margin) at c.in_ok-glyphs.ensures.cost in
     record {
       laid = c.in_ok-laid.ensures.exact;
       glyphs = c.in_ok-laid.ensures.glyphs;
       made = made_textless z c.args.text.now c.args.margin l made;
-      seated = c.in_ok-glyphs.ensures.valid;
+      seated = rw c.lay_out.ensures.same at c.in_ok-glyphs.ensures.valid;
       cost = cost_textless z c.args.text.now c.args.margin l ∙ cost;
     }
 
 pub returns-clause-defects : goal.returns-clause-defects
 returns-clause-defects c =
-    rw (← c.in_ok-laid.ensures.glyphs) c.in_ok-glyphs.ensures.defects
+    rw (← c.in_ok-laid.ensures.glyphs) (rw c.lay_out.ensures.same at c.in_ok-glyphs.ensures.defects)
+
+pub tested_glyphs-requires-clause-known : goal.tested_glyphs-requires-clause-known
+tested_glyphs-requires-clause-known c = rw c.lay_out.ensures.same c.in_ok-laid.ensures.known
+
+pub tested_glyphs-requires-clause-cache : goal.tested_glyphs-requires-clause-cache
+tested_glyphs-requires-clause-cache c = rw c.lay_out.ensures.same c.requires.cache
+
+pub tested_glyphs-requires-clause-unbounded : goal.tested_glyphs-requires-clause-unbounded
+tested_glyphs-requires-clause-unbounded c = rw c.lay_out.ensures.same c.requires.unbounded
+
+pub returns-in_err-glyphs-clause-cache : goal.returns-in_err-glyphs-clause-cache
+returns-in_err-glyphs-clause-cache c = rw c.lay_out.ensures.same at c.tested_glyphs.ensures.cache
+
+pub returns-clause-cache : goal.returns-clause-cache
+returns-clause-cache c = rw c.lay_out.ensures.same at c.tested_glyphs.ensures.cache

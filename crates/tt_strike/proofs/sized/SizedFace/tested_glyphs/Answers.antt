@@ -134,13 +134,15 @@ pub invariant_of-self-2 : goal.invariant_of-self-2
 invariant_of-self-2 c =
     let s = c.in_ok-fitter.fitter in
     let setting = c.in_ok-fitter.ensures.setting in
-    let gs = map (λ g. g.0) c.args.laid.now.line.glyphs.items in
-    given_back c.self.inside.source.face.now c.self.inside.source.ppem c.self.inside.source.fit s c.line_glyphs.new.fitter
-    c.take.new.self c.give_back.new.self (is_bounded c.self.inside.source.fit) setting
-    (λ other. unspent c.work_unfits.ensures.stays s s c.line_glyphs.new.fitter gs
-    (numbers_of c.in_ok-glyphs.glyphs.made.items) (not_started s gs (setting.unbounded other)) c.in_ok-glyphs.ensures.after
-    (setting.unbounded other))
-    c.take.ensures.maker c.give_back.ensures.kept c.give_back.ensures.same
+    let gs = map (λ g. g.0) c.args.laid.now.line.glyphs.items in (
+      given_back c.self.inside.source.face.now c.self.inside.source.ppem c.self.inside.source.fit s c.line_glyphs.new.fitter
+          c.take.new.self c.give_back.new.self (is_bounded c.self.inside.source.fit) setting
+          (λ other. unspent c.work_unfits.ensures.stays s s c.line_glyphs.new.fitter gs
+          (numbers_of c.in_ok-glyphs.glyphs.made.items) (not_started s gs (setting.unbounded other)) c.in_ok-glyphs.ensures.after
+          (setting.unbounded other))
+          c.take.ensures.maker c.give_back.ensures.kept c.give_back.ensures.same,
+      c.self.invariant.1,
+    )
 
 pub line_glyphs-requires-clause-cache : goal.line_glyphs-requires-clause-cache
 line_glyphs-requires-clause-cache c =

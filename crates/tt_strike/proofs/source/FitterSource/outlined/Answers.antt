@@ -22,7 +22,7 @@ use Rattle.tt_strike.proofs.source.FitterSource.outlined.Goals as goal
 -- the distinct glyphs are those of the text
 glyphs_are : (c : In_ok-met) → map (λ (g : ℕ × ℕ). g.0) c.in_ok-steps.steps.items
     ≡ text_glyphs c.args.self.now.face.now.cmap c.args.text.now
-glyphs_are c = rw c.cmap-cmap.ensures.exact at c.in_ok-steps.ensures.glyphs
+glyphs_are c = rw c.requires.known at c.in_ok-steps.ensures.glyphs
 
 numbers_are : (c : In_ok-met) → c.in_ok-met.met.numbers.items
     ≡ distinct (text_glyphs c.args.self.now.face.now.cmap c.args.text.now)
@@ -119,7 +119,7 @@ returns-clause-outlined c =
     record {
       glyphs = rw (steps_then all.After-put_steps fitted) (firsts_stay step line ∙ glyphs_are all.In_ok-met);
       steps = rw (steps_then all.After-put_steps fitted) (steps_put step line ∙ ap (map step) (glyphs_are all.In_ok-met));
-      room = c.in_ok-met.ensures.room ∙ rw c.metrics-metrics.ensures at c.glyphs.ensures.exact ∙ sym c.requires.glyphs;
+      room = c.in_ok-met.ensures.room ∙ rw c.metrics.ensures at c.glyphs.ensures.exact ∙ sym c.requires.glyphs;
       places = rw (fitted_numbers_are all.In_ok-fitted numbers, ← numbers) c.in_ok-met.ensures.places;
       numbers = fitted_numbers_are all.In_ok-fitted numbers;
       fitted = fitted;
@@ -146,7 +146,7 @@ returns-clause-known c =
     let numbers = numbers_are all.In_ok-met in
     let fitted = fitted_are all.In_ok-fitted numbers (charged_is all.In_ok-charge_points numbers) in
     let known : All (λ (g : ℕ × ℕ). g.0 < glyphs_of c.args.self.now.face.now.metrics) line =
-    rw c.metrics-metrics.ensures at c.in_ok-steps.ensures.known in
+    rw c.requires.known at c.in_ok-steps.ensures.known in
     rw (steps_then all.After-put_steps fitted)
     (of_same_glyphs (λ n. n < glyphs_of c.args.self.now.face.now.metrics) line (stepped step line) (firsts_stay step line) known)
 
