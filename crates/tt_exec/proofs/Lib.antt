@@ -1,3 +1,4 @@
 pub mod Costs
+pub mod PaidSteps
 pub mod StepsPaid
 pub mod WorkPaid

@@ -3,6 +3,7 @@ pub mod Examples
 pub mod Halting
 pub mod Machines
 pub mod OneProof
+pub mod PaidSteps
 pub mod Parts
 pub mod Work
 pub mod WorkExamples
