@@ -1,12 +1,17 @@
 -- The work of a step by its opcode, as in the table.
-use Rattle.std.proofs.Common.{◌≡◌, ◌≢◌, ℕ, zero, suc, ◌+◌, ◌%◌, ◌<◌, ◌==◌, ◌||◌, ◌&&◌, Bool, true, false, if◌then◌else◌, not, List, [], ◌∷◌, length, slice_index, Option, None, inl, inr, refl, sym, ap, subst, ◌∙◌, arith}
+use Rattle.std.proofs.Common.{◌≡◌, ◌≢◌, ℕ, zero, suc, ◌+◌, ◌%◌, ◌<◌, ◌==◌, ◌||◌, ◌&&◌, Bool, true, false, if◌then◌else◌, not, List, [], ◌∷◌, length, slice_index, ℤ, pos, Option, None, Result, Ok, Err, inl, inr, refl, sym, ap, subst, ◌∙◌, arith}
 use Rattle.std.proofs.lemmas.Bool.Decides.{nat_tests}
 use Rattle.std.proofs.lemmas.Bool.{cases_lt}
 use Rattle.std.proofs.lemmas.List.{get_or_past}
+use Rattle.tt_code.specs.Skips.{if_end, else_end}
+use Rattle.tt_code.specs.declared.decoding.Halt.{Halt}
+use Rattle.tt_core.specs.Outcomes.{Gives}
+use Rattle.tt_exec_stack.specs.Logic.{is_true}
 use Rattle.tt_exec_step.specs.FixedWork.{fixed_work, works}
+use Rattle.tt_exec_step.specs.Flow.{skips_if}
 use Rattle.tt_exec_step.specs.MachineState.{MachineState}
 use Rattle.tt_exec.specs.Worked.{Pays}
-use Rattle.tt_exec.specs.Work.{charged, cost_by, over_at, step_cost, gone_over, passed, is_looped, is_counted, is_of_glyph, is_of_flags, is_of_zone, is_push_of_many, moves_one, is_relative, is_of_lines, finds_two, is_of_distance, is_slow, is_push, is_quick, slowness}
+use Rattle.tt_exec.specs.Work.{charged, cost_by, over_at, passed_by, step_cost, top_of, gone_over, passed, is_looped, is_counted, is_of_glyph, is_of_flags, is_of_zone, is_push_of_many, moves_one, is_relative, is_of_lines, finds_two, is_of_distance, is_slow, is_push, is_quick, slowness}
 
 -- whether an opcode's work depends on more than the opcode
 abbrev skips : ℕ → Bool
@@ -155,6 +160,48 @@ end_cost m past =
     get_or_past m.frame.code.bytes m.frame.place 0 (omega arith)
     in
     ap (λ op. cost_by op m) ended ∙ past_the_end m
+
+-- skips
+
+given : (r w : Result ℕ Halt) → Gives (λ j. j) r w → w ≡ r
+given (Ok place) w is = is
+given (Err halt) w is = is
+
+not_true : (b : Bool) → not b ≡ true → b ≡ false
+not_true true h = absurd cc
+not_true false h = refl
+
+top_is_false : (s : List ℤ) → skips_if s ≡ true → is_true (top_of s) ≡ false
+top_is_false [] h = refl
+top_is_false (v ∷ s) h = not_true (is_true v) h
+
+pub zero_skips : (s : List ℤ) → top_of s ≡ pos 0 → skips_if s ≡ true
+zero_skips [] h = refl
+zero_skips (v ∷ s) h = rw h refl
+
+passed_at_if : (m : MachineState) (end : Result ℕ Halt) → is_true (top_of m.stack) ≡ false
+    → if_end m.frame.code.bytes m.frame.place ≡ end → cost_by 0x58 m ≡ 2 + passed_by m end
+unfolding slowness
+passed_at_if m end condition is =
+    let own : gone_over 0x58 m ≡ 1 = refl in
+    rw (condition, is, own) (omega arith)
+
+passed_at_else : (m : MachineState) (end : Result ℕ Halt) → else_end m.frame.code.bytes m.frame.place ≡ end
+    → cost_by 0x1B m ≡ 2 + passed_by m end
+unfolding slowness
+passed_at_else m end is =
+    let own : gone_over 0x1B m ≡ 1 = refl in
+    rw (is, own) (omega arith)
+
+pub if_cost : (m : MachineState) (end : Result ℕ Halt) → slice_index m.frame.code.bytes m.frame.place ≡ 0x58
+    → skips_if m.stack ≡ true → Gives (λ j. j) end (if_end m.frame.code.bytes m.frame.place)
+    → step_cost m ≡ 2 + passed_by m end
+if_cost m end op skips gives =
+    ap (λ o. cost_by o m) op ∙ passed_at_if m end (top_is_false m.stack skips) (given end _ gives)
+
+pub else_cost : (m : MachineState) (end : Result ℕ Halt) → slice_index m.frame.code.bytes m.frame.place ≡ 0x1B
+    → Gives (λ j. j) end (else_end m.frame.code.bytes m.frame.place) → step_cost m ≡ 2 + passed_by m end
+else_cost m end op gives = ap (λ o. cost_by o m) op ∙ passed_at_else m end (given end _ gives)
 
 -- payments
 

@@ -1,8 +1,9 @@
 //! The work of each step, if its job has a budget (profile).
 
-ghost use Rattle.std.specs.Prelude.{◌≡◌, ◌≢◌, ◌^◌, ◌<◌, ◌≤◌, length, slice_index};
+ghost use Rattle.std.specs.Prelude.{◌≡◌, ◌≢◌, ◌^◌, ◌<◌, ◌≤◌, length, slice_index, true};
 ghost use Rattle.tt_core.specs.Faults.{Fault};
 ghost use Rattle.tt_code.specs.Skips.{StaysIn};
+ghost use Rattle.tt_exec_step.specs.Flow.{skips_if};
 ghost use Rattle.tt_exec_step.specs.States.{state_of};
 ghost use Rattle.tt_exec.specs.Work as is;
 ghost use Rattle.tt_exec.specs.PaidSteps.{IsPaid};
@@ -148,6 +149,35 @@ fn charge(cost: u64, work: &mut Work) -> bool
     true
 }
 
+/// Pays for the IF at the frame's place, whose condition is false, and executes it. One skip serves both.
+#[inline(never)]
+fn paid_if(state: &mut MachineState<'_>, work: &mut Work) -> Payment
+    requires there { state.old.frame.place < length state.old.frame.code.bytes.now }
+    requires opcode { slice_index state.old.frame.code.bytes.now state.old.frame.place ≡ 0x58 }
+    requires condition { skips_if state.old.stack ≡ true }
+    ensures { IsPaid (state_of state.old) work.old.left result (state_of state.new) work.new.left }
+{
+    let end = skip_if(state.frame.code.bytes, state.frame.place);
+    if !charge(2 + passed_by(state, end), work) {
+        return Payment::Spent;
+    }
+    Payment::Stepped(state.step_if(end))
+}
+
+/// Pays for the ELSE at the frame's place, and executes it. One skip serves both.
+#[inline(never)]
+fn paid_else(state: &mut MachineState<'_>, work: &mut Work) -> Payment
+    requires there { state.old.frame.place < length state.old.frame.code.bytes.now }
+    requires opcode { slice_index state.old.frame.code.bytes.now state.old.frame.place ≡ 0x1B }
+    ensures { IsPaid (state_of state.old) work.old.left result (state_of state.new) work.new.left }
+{
+    let end = skip_else(state.frame.code.bytes, state.frame.place);
+    if !charge(2 + passed_by(state, end), work) {
+        return Payment::Spent;
+    }
+    Payment::Stepped(state.step_else(end))
+}
+
 /// Pays for the step at the frame's place, whose work this opcode alone doesn't decide, and executes it.
 #[inline(never)]
 fn paid_apart(state: &mut MachineState<'_>, op: u8, work: &mut Work) -> Payment
@@ -155,6 +185,12 @@ fn paid_apart(state: &mut MachineState<'_>, op: u8, work: &mut Work) -> Payment
     requires opcode { op ≡ slice_index state.old.frame.code.bytes.now state.old.frame.place }
     ensures { IsPaid (state_of state.old) work.old.left result (state_of state.new) work.new.left }
 {
+    if op == 0x58 && top_of_stack(state) == 0 {
+        return paid_if(state, work);
+    }
+    if op == 0x1B {
+        return paid_else(state, work);
+    }
     if !charge(cost_by(state, op), work) {
         return Payment::Spent;
     }

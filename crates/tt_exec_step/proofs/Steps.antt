@@ -1,15 +1,18 @@
 -- Steps that lead on, states without a step, and steps at opcodes without data.
-use Rattle.std.proofs.Common.{◌≡◌, ℕ, ◌+◌, ◌-◌, ◌<◌, ◌≤◌, add-one, ◌⊎◌, Bool, true, false, ◌==◌, ◌||◌, ◌&&◌, nat_le, List, [], ◌∷◌, length, slice_index, slice_range, Result, Ok, refl, arith}
+use Rattle.std.proofs.Common.{◌≡◌, ℕ, ◌+◌, ◌-◌, ◌<◌, ◌≤◌, add-one, ◌⊎◌, Bool, true, false, if◌then◌else◌, ◌==◌, ◌||◌, ◌&&◌, nat_le, nat_lt, List, [], ◌∷◌, length, slice_index, slice_range, ℤ, Result, Ok, refl, arith}
 use Rattle.std.proofs.lemmas.Bool.Decides.{nat_tests}
 use Rattle.tt_core.specs.Faults.{Fault}
 use Rattle.tt_exec_step.specs.MachineState.{MachineState}
 use Rattle.tt_exec_step.specs.Runs.{Leads, IsStuck, IsOver}
 use Rattle.tt_code.specs.Decoding.{Instr, head_length, data_length, takes_data, taken, instruction_at}
-use Rattle.tt_exec_step.specs.Flow.{goes_to}
+use Rattle.tt_exec_stack.specs.Stack.{padded}
+use Rattle.tt_exec_step.specs.Flow.{goes_to, skips_if}
 use Rattle.tt_exec_step.specs.Opcodes.{operation_of}
 use Rattle.tt_exec_step.specs.Outcome.{ComesTo}
+use Rattle.tt_exec_step.specs.Operation as op
 use Rattle.tt_exec_step.specs.Step.{step, is_ended, filled, operate, push}
 use Rattle.tt_exec_step.specs.declared.outcome.Outcome.{Outcome}
+use Rattle.tt_state.specs.Tolerance.{is_tolerant}
 
 pub one_more : (n : ℕ) (s m t : MachineState) → Leads n s m → step m ≡ Ok t → Leads (n + 1) s t
 one_more n s m t leads made = rw add-one (m, leads, made)
@@ -95,3 +98,22 @@ data_step m at i place inside there carries =
 pub comes_to : (old given : Result MachineState Fault) (place at : ℕ) (new : MachineState) (o : Outcome) → place ≡ at
     → old ≡ given → ComesTo given at new o → ComesTo old place new o
 comes_to old given place at new o here same comes = rw (here, same) comes
+
+-- an IF that skips does so with the values that it takes, too
+
+enough_stays : (n : ℕ) (s : List ℤ) → nat_lt (length s) n ≡ false → padded n s ≡ s
+enough_stays n s enough = rw enough refl
+
+skips_padded : (s : List ℤ) → skips_if s ≡ true → skips_if (padded 1 s) ≡ true
+skips_padded [] h = refl
+skips_padded (v ∷ s) h =
+    let enough : nat_lt (length (v ∷ s)) 1 ≡ false = grind (arith, nat_tests) in
+    rw (enough_stays 1 (v ∷ s) enough) h
+
+filled_by : (b : Bool) (m : MachineState) → skips_if m.stack ≡ true
+    → skips_if (if b then record m { stack = padded 1 m.stack } else m).stack ≡ true
+filled_by true m h = skips_padded m.stack h
+filled_by false m h = h
+
+pub skips_filled : (m : MachineState) → skips_if m.stack ≡ true → skips_if (filled op.if_from m).stack ≡ true
+skips_filled m h = filled_by (is_tolerant m.tolerance) m h

@@ -1,6 +1,9 @@
 //! One step. Apple TrueType Reference Manual, "Instructing TrueType Glyphs".
 
-ghost use Rattle.std.specs.Prelude.{◌≡◌, ◌<◌, length, slice_index};
+ghost use Rattle.std.specs.Prelude.{◌≡◌, ◌<◌, length, slice_index, true};
+ghost use Rattle.tt_code.specs.Skips.{if_end, else_end, StaysIn};
+ghost use Rattle.tt_core.specs.Outcomes.{Gives};
+ghost use Rattle.tt_exec_step.specs.Flow.{skips_if};
 ghost use Rattle.tt_exec_step.specs.Opcodes.{operation_of};
 ghost use Rattle.tt_exec_step.specs.States.{state_of};
 ghost use Rattle.tt_exec_step.specs.Step as is;
@@ -9,7 +12,7 @@ ghost use Rattle.tt_exec_step.specs.Outcome.{ComesTo};
 use crate::machine_state::MachineState;
 use crate::outcome::Outcome;
 use crate::table::{taken_by, takes_data};
-use tt_code::decode;
+use tt_code::{Halt, decode};
 use tt_core::Why;
 
 impl MachineState<'_> {
@@ -58,6 +61,36 @@ impl MachineState<'_> {
             }
             Err(halt) => Outcome::Refused(halt.why),
         }
+    }
+
+    /// Executes the IF at the frame's place, whose condition is false and whose skip ends at `end`. Errors: those of the
+    /// step.
+    pub fn step_if(&mut self, end: Result<usize, Halt>) -> Outcome
+        requires there { self.old.frame.place < length self.old.frame.code.bytes.now }
+        requires opcode { slice_index self.old.frame.code.bytes.now self.old.frame.place ≡ 0x58 }
+        requires condition { skips_if self.old.stack ≡ true }
+        requires end { Gives (λ j. j) end (if_end self.old.frame.code.bytes.now self.old.frame.place) }
+        requires stays { StaysIn self.old.frame.code.bytes.now self.old.frame.place end }
+        ensures { ComesTo (is.step (state_of self.old)) self.old.frame.place (state_of self.new) result }
+    {
+        let at = self.frame.place;
+        self.frame.place = at + 1;
+        self.fill_stack(0x58);
+        self.if_to(at, end)
+    }
+
+    /// Executes the ELSE at the frame's place, whose skip ends at `end`. Errors: those of the step.
+    pub fn step_else(&mut self, end: Result<usize, Halt>) -> Outcome
+        requires there { self.old.frame.place < length self.old.frame.code.bytes.now }
+        requires opcode { slice_index self.old.frame.code.bytes.now self.old.frame.place ≡ 0x1B }
+        requires end { Gives (λ j. j) end (else_end self.old.frame.code.bytes.now self.old.frame.place) }
+        requires stays { StaysIn self.old.frame.code.bytes.now self.old.frame.place end }
+        ensures { ComesTo (is.step (state_of self.old)) self.old.frame.place (state_of self.new) result }
+    {
+        let at = self.frame.place;
+        self.frame.place = at + 1;
+        self.fill_stack(0x1B);
+        self.else_to(at, end)
     }
 
     /// Whether the program has ended.
