@@ -5,7 +5,6 @@ ghost use Rattle.std.specs.Prelude.{◌≡◌, ◌+◌, ◌<◌, ◌≤◌, ◌+
 ghost use Rattle.tt_scan_edges.specs.Winding.{is_between};
 ghost use Rattle.tt_scan_edges.specs.Joined.{goes_on, is_clear, join, joined, joins, leads_to, lies_on_line, line_below, meets_none};
 
-use crate::crossing::is_between;
 use crate::edge::Edge;
 use crate::quotient::{HALF, PIXEL};
 
@@ -22,7 +21,8 @@ fn line_below(v: i32) -> i64
 fn lies_on_line(v: i32) -> bool
     ensures { result ≡ lies_on_line v }
 {
-    (i64::from(v) - HALF).rem_euclid(PIXEL) == 0
+    let from = i64::from(v) - HALF;
+    PIXEL * (from >> 13) == from
 }
 
 /// Whether no line lies between two places, both included.
@@ -67,7 +67,11 @@ fn join(edge: Edge, next: Edge) -> Edge
 fn lies_between(a: i32, b: i32, z: i32) -> bool
     ensures { result ≡ is_between a b z }
 {
-    is_between(i64::from(a), i64::from(b), i64::from(z))
+    if a <= b {
+        a <= z && z <= b
+    } else {
+        b <= z && z <= a
+    }
 }
 
 /// Whether x and y of an edge's end lie between those of its start and those of the next edge's end.
