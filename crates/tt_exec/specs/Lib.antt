@@ -4,6 +4,7 @@ pub mod Halting
 pub mod Machines
 pub mod OneProof
 pub mod MoreWork
+pub mod PaidSteps
 pub mod Parts
 pub mod RunCost
 pub mod Work

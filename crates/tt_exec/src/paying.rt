@@ -1,35 +1,26 @@
 //! The work of each step, if its job has a budget (profile).
 
-ghost use Rattle.std.specs.Prelude.{◌≡◌, ◌≢◌, ◌^◌, ◌<◌, ◌≤◌, length};
+ghost use Rattle.std.specs.Prelude.{◌≡◌, ◌≢◌, ◌^◌, ◌<◌, ◌≤◌, length, slice_index, true};
+ghost use Rattle.tt_core.specs.Faults.{Fault};
 ghost use Rattle.tt_code.specs.Skips.{StaysIn};
-ghost use Rattle.tt_exec_step.specs.MachineState as machine;
+ghost use Rattle.tt_exec_step.specs.Flow.{skips_if};
 ghost use Rattle.tt_exec_step.specs.States.{state_of};
 ghost use Rattle.tt_exec.specs.Work as is;
+ghost use Rattle.tt_exec.specs.PaidSteps.{IsPaid};
 ghost use Rattle.tt_exec.specs.Worked.{Pays};
 
 use crate::work::Work;
 use tt_code::{Halt, skip_def, skip_else, skip_if};
-use tt_exec_step::MachineState;
+use tt_exec_step::{MachineState, Outcome, fixed_work};
 
-/// The work of a step by its opcode; 0 if the opcode alone doesn't decide it.
-const COSTS: [u8; 256] = [
-    1, 1, 1, 1, 1, 1, 33, 33, 33, 33, 33, 33, 2, 2, 1, 33, 2, 2, 2, 2, 2, 2, 2, 2, 1, 1, 2, 0, 2,
-    2, 2, 2, 1, 1, 1, 1, 2, 2, 0, 9, 2, 2, 2, 2, 0, 2, 5, 5, 0, 0, 0, 0, 0, 0, 0, 0, 0, 0, 5, 5, 0,
-    2, 5, 5, 0, 0, 2, 2, 2, 2, 3, 3, 5, 4, 4, 2, 2, 2, 2, 2, 2, 2, 2, 2, 2, 2, 2, 2, 0, 1, 2, 2, 2,
-    0, 2, 2, 2, 1, 3, 2, 2, 2, 2, 2, 2, 2, 2, 2, 2, 2, 2, 2, 2, 0, 0, 0, 0, 0, 2, 2, 1, 2, 2, 2, 2,
-    2, 2, 2, 0, 0, 0, 2, 2, 2, 49, 49, 2, 0, 2, 2, 2, 2, 2, 2, 2, 2, 2, 2, 2, 2, 2, 2, 2, 2, 2, 2,
-    2, 2, 2, 2, 2, 2, 2, 2, 2, 2, 2, 2, 2, 2, 2, 2, 2, 2, 2, 2, 1, 2, 3, 4, 5, 6, 7, 8, 1, 2, 3, 4,
-    5, 6, 7, 8, 8, 8, 8, 8, 8, 8, 8, 8, 8, 8, 8, 8, 8, 8, 8, 8, 8, 8, 8, 8, 8, 8, 8, 8, 8, 8, 8, 8,
-    8, 8, 8, 8, 5, 5, 5, 5, 5, 5, 5, 5, 5, 5, 5, 5, 5, 5, 5, 5, 5, 5, 5, 5, 5, 5, 5, 5, 5, 5, 5, 5,
-    5, 5, 5, 5,
-];
-
-/// The work of a step if its opcode alone decides it, as most do; 0 otherwise.
-#[inline(always)]
-fn fixed_cost(op: u8) -> u64
-    ensures { result ≢ 0 → (m : machine.MachineState) → is.cost_by op m ≡ result }
-{
-    u64::from(COSTS[usize::from(op)])
+/// How a step is paid for.
+pub(crate) enum Payment {
+    /// The step of this opcode is paid for, and is still to be executed.
+    Paid(u8),
+    /// The step is paid for and executed.
+    Stepped(Outcome),
+    /// The step needs more work than remains, so no work remains.
+    Spent,
 }
 
 /// The extra work of an opcode that covers no point or stack entry.
@@ -131,7 +122,7 @@ fn passed(state: &MachineState<'_>, op: u8) -> u64
 }
 
 /// The work of a step with this opcode.
-#[inline(never)]
+#[inline(always)]
 fn cost_by(state: &MachineState<'_>, op: u8) -> u64
     requires { state.now.frame.place < length state.now.frame.code.bytes.now }
     ensures { result ≡ is.cost_by op (state_of state.now) }
@@ -142,39 +133,104 @@ fn cost_by(state: &MachineState<'_>, op: u8) -> u64
     }
 }
 
-/// The work of the step at the frame's place. The program's end inside a call is 1.
+/// Takes a cost off the remaining work. False if the remaining work is less; then no work remains.
 #[inline(always)]
-fn step_cost(state: &MachineState<'_>) -> u64
-    ensures { result ≡ is.step_cost (state_of state.now) }
-{
-    let bytes = state.frame.code.bytes;
-    let at = state.frame.place;
-    if at == bytes.len() {
-        return 1;
-    }
-    let op = bytes[at];
-    let cost = fixed_cost(op);
-    if cost == 0 {
-        return cost_by(state, op);
-    }
-    cost
-}
-
-/// Pays for the step at the frame's place. False if the remaining work is less than its cost; then no work remains.
-/// A run without a budget spends one test on it.
-#[inline(always)]
-pub(crate) fn pay_step(state: &MachineState<'_>, work: &mut Work) -> bool
-    ensures { let m = state_of state.now in
-        Pays (is.over_at m) (is.charged (is.over_at m) (is.step_cost m) work.old.left) result work.new.left }
+fn charge(cost: u64, work: &mut Work) -> bool
+    ensures { (told : Fault) → Pays told (is.charged told cost work.old.left) result work.new.left }
 {
     let Some(left) = work.left else {
         return true;
     };
-    let cost = step_cost(state);
     if cost > left {
         work.left = Some(0);
         return false;
     }
     work.left = Some(left - cost);
     true
+}
+
+/// Pays for the IF at the frame's place, whose condition is false, and executes it. One skip serves both.
+#[inline(never)]
+fn paid_if(state: &mut MachineState<'_>, work: &mut Work) -> Payment
+    requires there { state.old.frame.place < length state.old.frame.code.bytes.now }
+    requires opcode { slice_index state.old.frame.code.bytes.now state.old.frame.place ≡ 0x58 }
+    requires condition { skips_if state.old.stack ≡ true }
+    ensures { IsPaid (state_of state.old) work.old.left result (state_of state.new) work.new.left }
+{
+    let end = skip_if(state.frame.code.bytes, state.frame.place);
+    if !charge(2 + passed_by(state, end), work) {
+        return Payment::Spent;
+    }
+    Payment::Stepped(state.step_if(end))
+}
+
+/// Pays for the ELSE at the frame's place, and executes it. One skip serves both.
+#[inline(never)]
+fn paid_else(state: &mut MachineState<'_>, work: &mut Work) -> Payment
+    requires there { state.old.frame.place < length state.old.frame.code.bytes.now }
+    requires opcode { slice_index state.old.frame.code.bytes.now state.old.frame.place ≡ 0x1B }
+    ensures { IsPaid (state_of state.old) work.old.left result (state_of state.new) work.new.left }
+{
+    let end = skip_else(state.frame.code.bytes, state.frame.place);
+    if !charge(2 + passed_by(state, end), work) {
+        return Payment::Spent;
+    }
+    Payment::Stepped(state.step_else(end))
+}
+
+/// Pays for the step at the frame's place, whose work this opcode alone doesn't decide, and executes it.
+#[inline(never)]
+fn paid_apart(state: &mut MachineState<'_>, op: u8, work: &mut Work) -> Payment
+    requires there { state.old.frame.place < length state.old.frame.code.bytes.now }
+    requires opcode { op ≡ slice_index state.old.frame.code.bytes.now state.old.frame.place }
+    ensures { IsPaid (state_of state.old) work.old.left result (state_of state.new) work.new.left }
+{
+    if op == 0x58 && top_of_stack(state) == 0 {
+        return paid_if(state, work);
+    }
+    if op == 0x1B {
+        return paid_else(state, work);
+    }
+    if !charge(cost_by(state, op), work) {
+        return Payment::Spent;
+    }
+    let at = state.frame.place;
+    Payment::Stepped(state.step_by(op, at))
+}
+
+/// Pays for the step at the frame's place, the program's end inside a call: its work is 1, and it is refused.
+#[cold]
+fn paid_end(state: &mut MachineState<'_>, work: &mut Work) -> Payment
+    requires { state.old.frame.place ≡ length state.old.frame.code.bytes.now }
+    ensures { IsPaid (state_of state.old) work.old.left result (state_of state.new) work.new.left }
+{
+    if !charge(1, work) {
+        return Payment::Spent;
+    }
+    Payment::Stepped(state.step())
+}
+
+/// Pays for the step at the frame's place; where its opcode alone doesn't decide its work, executes it too. A run without
+/// a budget spends one test on it.
+#[inline(always)]
+pub(crate) fn pay_step(state: &mut MachineState<'_>, work: &mut Work) -> Payment
+    ensures { IsPaid (state_of state.old) work.old.left result (state_of state.new) work.new.left }
+{
+    let at = state.frame.place;
+    let bytes = state.frame.code.bytes;
+    if at == bytes.len() {
+        return paid_end(state, work);
+    }
+    let op = bytes[at];
+    let cost = fixed_work(op);
+    if cost == 0 {
+        return match work.left {
+            Some(_) => paid_apart(state, op, work),
+            None => Payment::Paid(op),
+        };
+    }
+    if !charge(cost, work) {
+        return Payment::Spent;
+    }
+    Payment::Paid(op)
 }

@@ -11,7 +11,7 @@ ghost use Rattle.tt_exec.specs.Work.{over_at, work_within};
 ghost use Rattle.tt_exec.specs.Worked.{Paid, RunsTo, WorkIs};
 
 use crate::fault::ExecFault;
-use crate::paying::pay_step;
+use crate::paying::{Payment, pay_step};
 use crate::work::{Work, WorkFault};
 use tt_core::{Fault, STEP_LIMIT, Why};
 use tt_exec_step::{MachineState, Outcome};
@@ -63,11 +63,13 @@ pub(crate) fn go(state: &mut MachineState<'_>, work: &mut Work) -> Result<u32, W
         if n == STEP_LIMIT {
             return Err(WorkFault::Run(ExecFault::Font(at_limit(state))));
         }
-        if !pay_step(state, work) {
-            return Err(WorkFault::Spent(at_limit(state)));
-        }
         let at = state.frame.place;
-        match state.step() {
+        let outcome = match pay_step(state, work) {
+            Payment::Paid(op) => state.step_by(op, at),
+            Payment::Stepped(outcome) => outcome,
+            Payment::Spent => return Err(WorkFault::Spent(at_limit(state))),
+        };
+        match outcome {
             Outcome::Done => n += 1,
             outcome => return Err(WorkFault::Run(halted(state, at, outcome))),
         }

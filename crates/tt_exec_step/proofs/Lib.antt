@@ -2,6 +2,7 @@ pub mod Computed
 pub mod Entries
 pub mod Lacking
 pub mod Loosened
+pub mod OpcodeTable
 pub mod Single
 pub mod Sizes
 pub mod Slots

@@ -1,6 +1,6 @@
 -- Apple TrueType Reference Manual, "Instruction set": managing the flow of control. A state's place is after the
 -- instruction, which has a place of its own. The top of the stack comes first.
-use Rattle.std.specs.Prelude.{◌≡◌, ℕ, ℤ, pos, ◌+ℤ◌, int_le, unsigned_abs, ◌&&◌, if◌then◌else◌, List, [], ◌∷◌, length, Result, Ok, Err}
+use Rattle.std.specs.Prelude.{◌≡◌, ℕ, ℤ, pos, ◌+ℤ◌, int_le, unsigned_abs, Bool, true, not, ◌&&◌, if◌then◌else◌, List, [], ◌∷◌, length, Result, Ok, Err}
 use Rattle.tt_core.specs.Faults.{Fault}
 use Rattle.tt_core.specs.declared.fault.Why.{Why}
 use Rattle.tt_core.specs.declared.fault.Why.TheVariants as why
@@ -32,6 +32,11 @@ if_from (condition ∷ s) at m =
     if is_true condition then Ok (record m { stack = s })
     else skipped (record m { stack = s }) (if_end m.frame.code.bytes at)
 if_from [] at m = Err (fault_in m.frame at why.StackShort)
+
+-- whether an IF skips: the condition is 0, or there is none, which a tolerant machine takes as 0 (profile)
+abbrev pub skips_if : List ℤ → Bool
+skips_if (condition ∷ s) = not (is_true condition)
+skips_if [] = true
 
 -- an ELSE that the run reaches ends the part before it
 abbrev pub else_from : ℕ → MachineState → Result MachineState Fault

@@ -1,3 +1,4 @@
+pub mod FixedWork
 pub mod Flags
 pub mod Flow
 pub mod FunctionTable

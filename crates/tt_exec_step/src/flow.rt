@@ -1,7 +1,9 @@
 //! Managing the flow of control. Apple TrueType Reference Manual, "Instruction set". `at` is the instruction's place;
 //! the frame's place is after it.
 
-ghost use Rattle.std.specs.Prelude.{◌≡◌, ◌<◌, length, false};
+ghost use Rattle.std.specs.Prelude.{◌≡◌, ◌<◌, length, true, false};
+ghost use Rattle.tt_code.specs.Skips.{if_end, else_end, StaysIn};
+ghost use Rattle.tt_core.specs.Outcomes.{Gives};
 ghost use Rattle.tt_exec_step.specs.Flow as flow;
 ghost use Rattle.tt_exec_step.specs.Flags as flags;
 ghost use Rattle.tt_exec_step.specs.States.{state_of};
@@ -9,8 +11,24 @@ ghost use Rattle.tt_exec_step.specs.Outcome.{ComesTo, wants_memory};
 
 use crate::machine_state::{Kind, MachineState};
 use crate::outcome::Outcome;
-use tt_code::{skip_else, skip_if};
+use tt_code::{Halt, skip_else, skip_if};
 use tt_core::Why;
+
+/// Continues at the end of a skip, or refuses it.
+macro_rules! skipped {
+    ($self:ident, $end:expr) => {
+        match $end {
+            Ok(place) => {
+                $self.frame.place = place;
+                Outcome::Done
+            }
+            Err(halt) => {
+                $self.frame.place = halt.at;
+                Outcome::SkipRefused(halt.why)
+            }
+        }
+    };
+}
 
 impl MachineState<'_> {
     /// Takes the top of the stack. Error: StackShort. (For the prover: the clause is over the whole state, which callers
@@ -34,16 +52,7 @@ impl MachineState<'_> {
         if condition != 0 {
             return Outcome::Done;
         }
-        match skip_if(self.frame.code.bytes, at) {
-            Ok(place) => {
-                self.frame.place = place;
-                Outcome::Done
-            }
-            Err(halt) => {
-                self.frame.place = halt.at;
-                Outcome::SkipRefused(halt.why)
-            }
-        }
+        skipped!(self, skip_if(self.frame.code.bytes, at))
     }
 
     /// ELSE[], 0x1B: -> continues after its EIF. Reached at the end of a true IF's part. Errors: those of the skip.
@@ -52,16 +61,33 @@ impl MachineState<'_> {
         ensures exact { ComesTo (flow.else_from at (state_of self.old)) at (state_of self.new) result }
         ensures memory { wants_memory result ≡ false }
     {
-        match skip_else(self.frame.code.bytes, at) {
-            Ok(place) => {
-                self.frame.place = place;
-                Outcome::Done
-            }
-            Err(halt) => {
-                self.frame.place = halt.at;
-                Outcome::SkipRefused(halt.why)
-            }
+        skipped!(self, skip_else(self.frame.code.bytes, at))
+    }
+
+    /// An IF whose condition is false, by the end of its skip. Errors: StackShort, and that of the skip.
+    #[inline(always)]
+    pub(crate) fn if_to(&mut self, at: usize, end: Result<usize, Halt>) -> Outcome
+        requires there { at < length self.old.frame.code.bytes.now }
+        requires condition { flow.skips_if self.old.stack ≡ true }
+        requires end { Gives (λ j. j) end (if_end self.old.frame.code.bytes.now at) }
+        requires stays { StaysIn self.old.frame.code.bytes.now at end }
+        ensures { ComesTo (flow.if_from self.old.stack at (state_of self.old)) at (state_of self.new) result }
+    {
+        match self.popped() {
+            Ok(_) => skipped!(self, end),
+            Err(_) => Outcome::Refused(Why::StackShort),
         }
+    }
+
+    /// An ELSE by the end of its skip. Errors: that of the skip.
+    #[inline(always)]
+    pub(crate) fn else_to(&mut self, at: usize, end: Result<usize, Halt>) -> Outcome
+        requires there { at < length self.old.frame.code.bytes.now }
+        requires end { Gives (λ j. j) end (else_end self.old.frame.code.bytes.now at) }
+        requires stays { StaysIn self.old.frame.code.bytes.now at end }
+        ensures { ComesTo (flow.else_from at (state_of self.old)) at (state_of self.new) result }
+    {
+        skipped!(self, end)
     }
 
     /// Continues at `at + offset`. Error: JumpRange.

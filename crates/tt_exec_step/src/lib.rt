@@ -11,7 +11,7 @@
 //! flow.rt            those that change the place of the next instruction
 //! functions.rt       those that define and call functions
 //! opcode.rt          the instruction of each opcode
-//! taking.rt          the count of values that each opcode takes
+//! table.rt           what each opcode takes, and its work
 //! stepping.rt        one step
 //! laws.rt            laws of steps one after another
 //! ```
@@ -28,10 +28,11 @@ mod opcode;
 mod outcome;
 mod program;
 mod stepping;
-mod taking;
+mod table;
 
 pub use callers::Callers;
 pub use function_table::Functions;
 pub use machine_state::{Kind, MachineState};
 pub use outcome::Outcome;
 pub use program::{Body, CallFrame, Code};
+pub use table::fixed_work;

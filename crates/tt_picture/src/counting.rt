@@ -4,7 +4,7 @@ ghost use Rattle.std.specs.Prelude.{◌≡◌, ◌-◌, ◌^◌, min, All};
 ghost use Rattle.tt_picture.specs.Glyphs.{CanBeCounted, crossings_standing, glyph_crossings, pen_crossings};
 
 use crate::glyph::{Glyph, GlyphBody};
-use tt_scan_dropouts::{edges_counted, filling_counted};
+use tt_scan_dropouts::{all_counted, edges_counted};
 
 impl Glyph {
     /// The crossings of the glyph at one pen, in the picture and outside. Where dropouts are filled, the search for
@@ -18,7 +18,7 @@ impl Glyph {
         };
         let edges = tape.lend();
         match self.filled {
-            Some(rules) => edges_counted(edges) + filling_counted(rules.extents, edges),
+            Some(rules) => all_counted(rules.extents, edges),
             None => edges_counted(edges),
         }
     }

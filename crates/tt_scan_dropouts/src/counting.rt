@@ -54,18 +54,23 @@ fn rows_crossed(edges: &[Edge]) -> u64
     all
 }
 
-/// How many rows and columns each edge crosses, all together.
-fn crossed(edges: &[Edge]) -> u64
+/// How many rows each edge crosses, all together; and how many rows and columns.
+fn crossed(edges: &[Edge]) -> (u64, u64)
     requires edges { All EdgeFits edges.now }
     requires few { length edges.now ≤ 2 ^ 32 }
-    ensures exact { result ≡ crossed edges.now }
-    ensures bound { result ≤ 2 ^ 21 * length edges.now }
+    ensures rows { result.0 ≡ rows_crossed edges.now }
+    ensures both { result.1 ≡ crossed edges.now }
+    ensures rows_bound { result.0 ≤ 2 ^ 20 * length edges.now }
+    ensures both_bound { result.1 ≤ 2 ^ 21 * length edges.now }
 {
-    let mut all = 0;
+    let mut rows = 0;
+    let mut both = 0;
     for edge in edges {
-        all += lines_crossed(*edge) + lines_crossed(turned_round(*edge));
+        let across = lines_crossed(*edge);
+        rows += across;
+        both += across + lines_crossed(turned_round(*edge));
     }
-    all
+    (rows, both)
 }
 
 /// The bytes of the bitmaps of all bands of a box.
@@ -78,18 +83,30 @@ fn bands_bytes(columns: u64, rows: u64) -> u64
     (columns + 4).div_ceil(8) * (rows + 4 * bands(rows))
 }
 
-/// What edges count: one for each band of the rows of their box, and five for each row that they cross. Each row of the
-/// box counts one.
+/// What edges count by the rows that they cross: one for each band of the rows of their box, and five for each row that
+/// they cross. Each row of the box counts one.
 #[tactic(auto, unfolding(crate::specs::Counted::edges_counted))]
+fn counted_by(edges: &[Edge], rows_crossed: u64) -> u64
+    requires edges { All EdgeFits edges.now }
+    requires few { length edges.now ≤ 2 ^ 32 }
+    requires rows { rows_crossed ≡ rows_crossed edges.now }
+    requires bound { rows_crossed ≤ 2 ^ 20 * length edges.now }
+    ensures exact { result ≡ edges_counted edges.now }
+    ensures bound { result ≤ 2 ^ 23 * length edges.now + 2 ^ 20 }
+{
+    let (_, rows) = box_of(edges);
+    let rows = numbers_in(rows);
+    in_each_band(bands(rows), edges.len()) + (5 * rows_crossed + rows)
+}
+
+/// What edges count.
 pub fn edges_counted(edges: &[Edge]) -> u64
     requires edges { All EdgeFits edges.now }
     requires few { length edges.now ≤ 2 ^ 32 }
     ensures exact { result ≡ edges_counted edges.now }
     ensures bound { result ≤ 2 ^ 23 * length edges.now + 2 ^ 20 }
 {
-    let (_, rows) = box_of(edges);
-    let rows = numbers_in(rows);
-    in_each_band(bands(rows), edges.len()) + (5 * rows_crossed(edges) + rows)
+    counted_by(edges, rows_crossed(edges))
 }
 
 /// What the search for dropouts counts for the rows and columns that edges cross: three for each, and one for each band.
@@ -102,17 +119,30 @@ fn searched(bands: u64, crossed: u64) -> u64
     (bands + 3) * crossed
 }
 
-/// What edges count besides where dropouts are filled: for each row or column that an edge crosses three, and one for
+/// What the search for dropouts counts besides, by the rows and columns that edges cross: for each three, and one for
 /// each band; and one for each 64 bytes of the bitmaps of the glyph's box.
 #[tactic(auto, unfolding(crate::specs::Counted::filling_counted))]
-pub fn filling_counted(extents: Extents, edges: &[Edge]) -> u64
+fn filling_by(extents: Extents, edges: &[Edge], crossed: u64) -> u64
     requires extents { ExtentsFit extents }
-    requires edges { All EdgeFits edges.now }
     requires few { length edges.now ≤ 2 ^ 32 }
+    requires crossed { crossed ≡ crossed edges.now }
+    requires bound { crossed ≤ 2 ^ 21 * length edges.now }
     ensures exact { result ≡ filling_counted extents edges.now }
     ensures bound { result ≤ 2 ^ 31 * length edges.now + 2 ^ 33 }
 {
     let (columns, rows) = pixels_in(extents);
     let rows = numbers_in(rows);
-    searched(bands(rows), crossed(edges)) + bands_bytes(numbers_in(columns), rows) / 64
+    searched(bands(rows), crossed) + bands_bytes(numbers_in(columns), rows) / 64
+}
+
+/// What edges count where dropouts are filled, with the search for them. One walk over the edges serves both.
+pub fn all_counted(extents: Extents, edges: &[Edge]) -> u64
+    requires extents { ExtentsFit extents }
+    requires edges { All EdgeFits edges.now }
+    requires few { length edges.now ≤ 2 ^ 32 }
+    ensures exact { result ≡ edges_counted edges.now + filling_counted extents edges.now }
+    ensures bound { result ≤ 2 ^ 32 * length edges.now + 2 ^ 34 }
+{
+    let (rows, both) = crossed(edges);
+    counted_by(edges, rows) + filling_by(extents, edges, both)
 }

@@ -39,7 +39,7 @@ mod window;
 
 pub use boxed::BoxedRules;
 pub use contours::Outlined;
-pub use counting::{BAND_ROWS, edges_counted, filling_counted};
+pub use counting::{BAND_ROWS, all_counted, edges_counted};
 pub use filling::dropouts;
 pub use may_have::may_have_dropouts;
 pub use picture::{Dropout, blacken_dropouts, push_dropouts, sort_by_rows};

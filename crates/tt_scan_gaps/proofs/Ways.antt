@@ -8,7 +8,7 @@ use Rattle.std.proofs.lemmas.Int.{ints}
 use Rattle.std.proofs.lemmas.List.{map-append, take_more}
 use Rattle.std.proofs.lemmas.List.Folds.{list_any-append}
 use Rattle.tt_scan_edges.specs.declared.edge.Edge.{Edge}
-use Rattle.tt_scan_gaps.specs.BothWays.{AreMarked, AreTold, crosses_gap, goes_through, is_through, slot}
+use Rattle.tt_scan_gaps.specs.BothWays.{AreMarked, AreTold, crosses_gap, goes_through, has_mark, is_through, slot}
 use Rattle.tt_scan_gaps.specs.Crossings.{agree, crossing, crossings, is_rising, line_crossed, line_from, lines_crossed, meets_line}
 use Rattle.tt_scan_gaps.specs.Seen.{seen_by, turned_round}
 use Rattle.tt_scan_gaps.specs.Gaps.{is_free}
@@ -90,25 +90,25 @@ one_goes up es e j c some =
     ]
 
 -- marks remain, an edge's gaps are marked, and no gap of it that the other table has is free
-abbrev Kept : List Bool → List Bool → Type 0
-Kept old new = (s : ℕ) → get_or old s false ≡ true → get_or new s false ≡ true
+abbrev Kept : List ℕ → List ℕ → Type 0
+Kept old new = (s : ℕ) → has_mark old s ≡ true → has_mark new s ≡ true
 
-abbrev IsMarked : Edge → List Bool → Type 0
+abbrev IsMarked : Edge → List ℕ → Type 0
 IsMarked e table = (k : ℕ) → k < lines_crossed e
-    → get_or table (slot (line_crossed e k) (crossing e (line_crossed e k)).gap) false ≡ true
+    → has_mark table (slot (line_crossed e k) (crossing e (line_crossed e k)).gap) ≡ true
 
-abbrev NoneIsFree : (ℤ → ℤ → Bool) → Edge → List Bool → Type 0
+abbrev NoneIsFree : (ℤ → ℤ → Bool) → Edge → List ℕ → Type 0
 NoneIsFree black e other = (k : ℕ) → k < lines_crossed e
-    → get_or other (slot (line_crossed e k) (crossing e (line_crossed e k)).gap) false ≡ true
+    → has_mark other (slot (line_crossed e k) (crossing e (line_crossed e k)).gap) ≡ true
     → is_free black (crossing e (line_crossed e k)).gap (line_crossed e k) ≡ false
 
 -- one edge more is marked
-pub one_more : (up : Bool) (es : List Edge) (e : Edge) (old new : List Bool) → AreMarked up es old
+pub one_more : (up : Bool) (es : List Edge) (e : Edge) (old new : List ℕ) → AreMarked up es old
     → Kept old new → (is_rising e ≡ up → IsMarked e new) → AreMarked up (es ++ e ∷ []) new
 one_more up es e old new marked kept its = λ j c some.
     elim (one_goes up es e j c some) [
       | inl before ↦ kept (slot j c) (marked j c before)
-      | inr it ↦ ap (λ s. get_or new s false) (ap₂ slot (sym it.2) (sym it.3)) ∙ its it.4 it.0 it.1
+      | inr it ↦ ap (λ s. has_mark new s) (ap₂ slot (sym it.2) (sym it.3)) ∙ its it.4 it.0 it.1
     ]
 
 not_same : (up : Bool) → up ≡ not up → true ≡ false
@@ -128,7 +128,7 @@ other_before up es e j c way some = elim (one_goes up es e j c some) [
 ]
 
 -- a gap crossed both ways with one edge more is not free, if no gap of the edge in the other table is free
-by_one_more : (black : ℤ → ℤ → Bool) (up : Bool) (es : List Edge) (e : Edge) (other : List Bool) (j c : ℤ)
+by_one_more : (black : ℤ → ℤ → Bool) (up : Bool) (es : List Edge) (e : Edge) (other : List ℕ) (j c : ℤ)
     → is_rising e ≡ up → AreMarked (not up) es other → NoneIsFree black e other
     → (crosses_gap up es j c ≡ true → crosses_gap (not up) es j c ≡ true → is_free black c j ≡ false)
     → crosses_gap up (es ++ e ∷ []) j c ≡ true → crosses_gap (not up) (es ++ e ∷ []) j c ≡ true
@@ -138,12 +138,12 @@ by_one_more black up es e other j c way marked taken before one two =
     elim (one_goes up es e j c one) [
       | inl first ↦ before first back
       | inr it ↦
-          let has : get_or other (slot (line_crossed e it.0) (crossing e (line_crossed e it.0)).gap) false ≡ true =
-          ap (λ s. get_or other s false) (ap₂ slot it.2 it.3) ∙ marked j c back in
+          let has : has_mark other (slot (line_crossed e it.0) (crossing e (line_crossed e it.0)).gap) ≡ true =
+          ap (λ s. has_mark other s) (ap₂ slot it.2 it.3) ∙ marked j c back in
           ap₂ (is_free black) (sym it.3) (sym it.2) ∙ taken it.0 it.1 has
     ]
 
-pub one_rises : (black : ℤ → ℤ → Bool) (es : List Edge) (e : Edge) (old new falling : List Bool) → is_rising e ≡ true
+pub one_rises : (black : ℤ → ℤ → Bool) (es : List Edge) (e : Edge) (old new falling : List ℕ) → is_rising e ≡ true
     → Kept old new → IsMarked e new → NoneIsFree black e falling
     → AreTold black es old falling → AreTold black (es ++ e ∷ []) new falling
 one_rises black es e old new falling rises kept marked free told = record {
@@ -156,7 +156,7 @@ one_rises black es e old new falling rises kept marked free told = record {
       (λ one other. told.none j c (ap₂ (λ a b. a && b) one other)) b.0 b.1;
 }
 
-pub one_falls : (black : ℤ → ℤ → Bool) (es : List Edge) (e : Edge) (rising old new : List Bool) → is_rising e ≡ false
+pub one_falls : (black : ℤ → ℤ → Bool) (es : List Edge) (e : Edge) (rising old new : List ℕ) → is_rising e ≡ false
     → Kept old new → IsMarked e new → NoneIsFree black e rising
     → AreTold black es rising old → AreTold black (es ++ e ∷ []) rising new
 one_falls black es e rising old new falls kept marked free told = record {
@@ -170,7 +170,7 @@ one_falls black es e rising old new falls kept marked free told = record {
 }
 
 -- an edge that meets no line leaves the tables unchanged
-pub none_more : (black : ℤ → ℤ → Bool) (es : List Edge) (e : Edge) (rising falling : List Bool)
+pub none_more : (black : ℤ → ℤ → Bool) (es : List Edge) (e : Edge) (rising falling : List ℕ)
     → meets_line false e.ay e.by ≡ false → AreTold black es rising falling → AreTold black (es ++ e ∷ []) rising falling
 none_more black es e rising falling unmet told =
     let same : line_from e.ay ≡ line_from e.by = level e.ay e.by unmet in

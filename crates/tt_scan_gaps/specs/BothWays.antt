@@ -1,7 +1,7 @@
--- No part of the standard: where gaps are crossed rising and falling, in a table with a place for each of 32 lines
--- times 64 gaps.
-use Rattle.std.specs.Prelude.{◌≡◌, ℕ, ◌+◌, ◌*◌, Bool, true, false, ◌&&◌, ℤ, pos, negsuc, int_le, int_lt, if◌then◌else◌, get_or, unsigned_abs, List}
-use Rattle.std.specs.Int.{int_rem_euclid}
+-- No part of the standard: where gaps are crossed rising and falling, in a table with a place for each of 128 lines
+-- times 128 gaps, eight places a byte.
+use Rattle.std.specs.Prelude.{◌≡◌, ℕ, ◌+◌, ◌*◌, ◌/◌, ◌%◌, ◌==◌, Bool, true, false, ◌&&◌, ℤ, pos, negsuc, int_le, int_lt, if◌then◌else◌, slice_index, unsigned_abs, List}
+use Rattle.std.specs.Int.{bit_at, int_rem_euclid}
 use Rattle.std.specs.List.{list_any}
 use Rattle.std.specs.Ordering.{int_eq}
 use Rattle.tt_scan_edges.specs.declared.edge.Edge.{Edge}
@@ -40,14 +40,18 @@ NoneFreeBothWays black es = (j c : ℤ) → (crosses_gap true es j c && crosses_
 
 -- the place of a gap of a line in the table
 abbrev pub slot : ℤ → ℤ → ℕ
-slot j c = 64 * unsigned_abs (int_rem_euclid j (pos 32)) + unsigned_abs (int_rem_euclid c (pos 64))
+slot j c = 128 * unsigned_abs (int_rem_euclid j (pos 128)) + unsigned_abs (int_rem_euclid c (pos 128))
+
+-- a table has a mark at a place
+unfoldable pub has_mark : List ℕ → ℕ → Bool
+has_mark table s = bit_at (slice_index table (s / 8)) (s % 8) == 1
 
 -- a table has the gaps that edges cross one way
-abbrev pub AreMarked : Bool → List Edge → List Bool → Type 0
-AreMarked up es table = (j c : ℤ) → crosses_gap up es j c ≡ true → get_or table (slot j c) false ≡ true
+abbrev pub AreMarked : Bool → List Edge → List ℕ → Type 0
+AreMarked up es table = (j c : ℤ) → crosses_gap up es j c ≡ true → has_mark table (slot j c) ≡ true
 
 -- two tables have the gaps that edges cross rising and falling, and no gap that is crossed both ways is free
-pub record AreTold (black : ℤ → ℤ → Bool) (es : List Edge) (rising falling : List Bool) : Type 0 where
+pub record AreTold (black : ℤ → ℤ → Bool) (es : List Edge) (rising falling : List ℕ) : Type 0 where
   pub up : AreMarked true es rising
   pub down : AreMarked false es falling
   pub none : NoneFreeBothWays black es

@@ -2,9 +2,10 @@
 //! ways. So where no free gap is crossed both ways, no gap needs a pixel. Two tables show which gaps may be crossed
 //! both ways, and a look at all edges decides whether one of those may be free.
 
-ghost use Rattle.std.specs.Prelude.{◌≡◌, List, ℕ, ◌<◌, ◌≤◌, true, false, ◌∷◌, [], ◌+◌, ◌++◌, get_or, map, All};
+ghost use Rattle.std.specs.Prelude.{◌≡◌, List, ℕ, ◌<◌, ◌≤◌, ◌^◌, ◌≤ℤ◌, pos, true, false, ◌∷◌, [], ◌+◌, ◌++◌, map, All, unsigned_abs};
+ghost use Rattle.std.specs.Int.{int_div_euclid, int_rem_euclid};
 ghost use Rattle.tt_scan_edges.specs.Winding.{EdgeFits};
-ghost use Rattle.tt_scan_gaps.specs.BothWays.{AreTold, NoneFreeBothWays, is_black_seen, slot};
+ghost use Rattle.tt_scan_gaps.specs.BothWays.{AreTold, NoneFreeBothWays, has_mark, is_black_seen, slot};
 ghost use Rattle.tt_scan_gaps.specs.Crossings.{crossing, line_crossed, lines_crossed};
 ghost use Rattle.tt_scan_gaps.specs.Gaps.{is_free};
 ghost use Rattle.tt_scan_gaps.specs.Seen.{seen_by};
@@ -15,50 +16,70 @@ use crate::looks::{Looks, look};
 use crate::seen::{Over, PassEdges, meets, seen_by};
 use tt_scan_edges::Edge;
 
-/// A table distinguishes `LINES` lines and `GAPS` gaps of a line. Numbers that differ by a multiple share a place.
-const LINES: i64 = 32;
+/// The bytes of a table, which distinguishes 128 lines and 128 gaps of a line. Numbers that differ by a multiple share a
+/// place. Each byte has eight places.
+const BYTES: usize = 2048;
 
-const GAPS: i64 = 64;
+/// The whole tables of 128 in a number of lines or gaps: the floor.
+#[inline(always)]
+fn whole_tables(n: i64) -> i64
+    requires { unsigned_abs n < 2 ^ 40 }
+    ensures exact { result ≡ int_div_euclid n (pos 128) }
+    ensures small { unsigned_abs result < 2 ^ 40 }
+{
+    n >> 7
+}
 
-const PLACES: usize = 2048;
+/// What is left of a number of lines or gaps after whole tables.
+#[inline(always)]
+fn left_of(n: i64) -> i64
+    requires { unsigned_abs n < 2 ^ 40 }
+    ensures exact { result ≡ int_rem_euclid n (pos 128) }
+    ensures within { unsigned_abs result < 128 }
+    ensures low { pos 0 ≤ℤ result }
+{
+    n - 128 * whole_tables(n)
+}
 
 /// The place of a gap of a line in a table.
 #[inline(always)]
 fn slot(line: i64, gap: i64) -> usize
+    requires line { unsigned_abs line < 2 ^ 40 }
+    requires gap { unsigned_abs gap < 2 ^ 40 }
     ensures exact { result ≡ slot line gap }
-    ensures within { result < 2048 }
+    ensures within { result < 16384 }
 {
-    (GAPS * line.rem_euclid(LINES) + gap.rem_euclid(GAPS)) as usize
+    (128 * left_of(line) + left_of(gap)) as usize
 }
 
 /// Marks a place in one of two tables. Returns whether the other table has it.
 #[inline(always)]
-fn mark(table: &mut [bool; PLACES], other: &[bool; PLACES], at: usize) -> bool
-    requires { at < 2048 }
-    ensures marked { get_or table.new at false ≡ true }
-    ensures kept { (s : ℕ) → get_or table.old s false ≡ true → get_or table.new s false ≡ true }
-    ensures other { result ≡ get_or other.now at false }
+fn mark(table: &mut [u8; BYTES], other: &[u8; BYTES], at: usize) -> bool
+    requires { at < 16384 }
+    ensures marked { has_mark table.new at ≡ true }
+    ensures kept { (s : ℕ) → has_mark table.old s ≡ true → has_mark table.new s ≡ true }
+    ensures other { result ≡ has_mark other.now at }
 {
-    table[at] = true;
-    other[at]
+    table[at / 8] |= 1 << (at % 8);
+    (other[at / 8] >> (at % 8)) % 2 == 1
 }
 
 /// Marks in one of two tables the gaps where an edge crosses lines. Returns whether such a gap is in the other table
 /// and may be free.
 #[inline(always)]
 fn mark_crossings(
-    table: &mut [bool; PLACES],
-    other: &[bool; PLACES],
+    table: &mut [u8; BYTES],
+    other: &[u8; BYTES],
     pass: &PassEdges,
     looks: &mut Looks,
     edge: Edge,
 ) -> bool
     requires { EdgeFits edge }
     ensures marked { result ≡ false → (k : ℕ) → k < lines_crossed edge
-        → get_or table.new (slot (line_crossed edge k) (crossing edge (line_crossed edge k)).gap) false ≡ true }
-    ensures kept { (s : ℕ) → get_or table.old s false ≡ true → get_or table.new s false ≡ true }
+        → has_mark table.new (slot (line_crossed edge k) (crossing edge (line_crossed edge k)).gap) ≡ true }
+    ensures kept { (s : ℕ) → has_mark table.old s ≡ true → has_mark table.new s ≡ true }
     ensures taken { result ≡ false → (k : ℕ) → k < lines_crossed edge
-        → get_or other.now (slot (line_crossed edge k) (crossing edge (line_crossed edge k)).gap) false ≡ true
+        → has_mark other.now (slot (line_crossed edge k) (crossing edge (line_crossed edge k)).gap) ≡ true
         → is_free (is_black_seen pass.now.over pass.now.edges.now) (crossing edge (line_crossed edge k)).gap
         (line_crossed edge k) ≡ false }
     ensures fewer { looks.new ≤ looks.old }
@@ -77,8 +98,8 @@ fn mark_crossings(
 /// too and may be free. The pass is lent, since each call would copy it.
 #[inline(never)]
 fn mark_ways(
-    rising: &mut [bool; PLACES],
-    falling: &mut [bool; PLACES],
+    rising: &mut [u8; BYTES],
+    falling: &mut [u8; BYTES],
     pass: &PassEdges,
     looks: &mut Looks,
     edge: &Edge,
@@ -115,10 +136,10 @@ pub(crate) fn mark_edges(edges: &[Edge], looks: &mut Looks) -> bool
         over: Over::Columns,
         edges,
     };
-    let mut row_rising = [false; PLACES];
-    let mut row_falling = [false; PLACES];
-    let mut column_rising = [false; PLACES];
-    let mut column_falling = [false; PLACES];
+    let mut row_rising = [0u8; BYTES];
+    let mut row_falling = [0u8; BYTES];
+    let mut column_rising = [0u8; BYTES];
+    let mut column_falling = [0u8; BYTES];
     for edge in edges {
         // Most edges are short and meet no line.
         if meets(Over::Rows, false, edge)

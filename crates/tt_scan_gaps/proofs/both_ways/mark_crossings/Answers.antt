@@ -1,7 +1,7 @@
-use Rattle.std.proofs.Common.{◌≡◌, sym, ◌∙◌, ap, ap₂, ◌<◌, true, false, get_or, SFits, w64, arith, inl, inr}
+use Rattle.std.proofs.Common.{◌≡◌, sym, ◌∙◌, ap, ap₂, ◌<◌, true, false, SFits, w64, arith, inl, inr}
 use Rattle.std.proofs.lemmas.Bool.{cases_lt}
 use Rattle.std.proofs.lemmas.Int.{ints, to_z-of_z}
-use Rattle.tt_scan_gaps.specs.BothWays.{is_black_seen, slot}
+use Rattle.tt_scan_gaps.specs.BothWays.{has_mark, is_black_seen, slot}
 use Rattle.tt_scan_gaps.specs.Crossings.{crossing, line_crossed, lines_crossed}
 use Rattle.tt_scan_gaps.specs.Gaps.{is_free}
 use Rattle.tt_scan_gaps.proofs.Bounds.{crosses_near}
@@ -32,9 +32,9 @@ loop-k-preserved c =
     let in_gap = c.gap_crossed-gap.ensures.exact in
     let is : c.slot.result ≡ slot c.line_crossed-line.result c.gap_crossed-gap.result = simp to_z-of_z at c.slot.ensures.exact in
     let at : c.slot.result ≡ slot (line_crossed e k) (crossing e (line_crossed e k)).gap = is ∙ ap₂ slot on_line in_gap in
-    let here : get_or c.mark.new.table (slot (line_crossed e k) (crossing e (line_crossed e k)).gap) false ≡ true =
-    ap (λ s. get_or c.mark.new.table s false) (sym at) ∙ c.mark.ensures.marked in
-    let its : get_or c.args.other.now (slot (line_crossed e k) (crossing e (line_crossed e k)).gap) false ≡ true
+    let here : has_mark c.mark.new.table (slot (line_crossed e k) (crossing e (line_crossed e k)).gap) ≡ true =
+    ap (λ s. has_mark c.mark.new.table s) (sym at) ∙ c.mark.ensures.marked in
+    let its : has_mark c.args.other.now (slot (line_crossed e k) (crossing e (line_crossed e k)).gap) ≡ true
     → is_free black (crossing e (line_crossed e k)).gap (line_crossed e k) ≡ false =
     λ has. elim c.else-mark.branch [
       | else-mark-via-then-mark+else-look w ↦
@@ -43,7 +43,7 @@ loop-k-preserved c =
           ap₂ (is_free black) (sym in_gap) (sym on_line) ∙ not
       | else-mark-via-else-mark w ↦
           let bad : true ≡ false =
-          sym has ∙ ap (λ s. get_or c.args.other.now s false) (sym at) ∙ sym c.mark.ensures.other ∙ w.if-mark.false in
+          sym has ∙ ap (λ s. has_mark c.args.other.now s) (sym at) ∙ sym c.mark.ensures.other ∙ w.if-mark.false in
           absurd cc
     ] in
     record {

@@ -1,5 +1,5 @@
-use Rattle.std.proofs.Common.{◌≡◌, ℕ, ◌<◌, ◌≤◌, true, false, get_or}
-use Rattle.tt_scan_gaps.specs.BothWays.{is_black_seen, slot}
+use Rattle.std.proofs.Common.{◌≡◌, ℕ, ◌<◌, ◌≤◌, true, false}
+use Rattle.tt_scan_gaps.specs.BothWays.{has_mark, is_black_seen, slot}
 use Rattle.tt_scan_gaps.specs.Crossings.{crossing, line_crossed}
 use Rattle.tt_scan_gaps.specs.Gaps.{is_free}
 use Rattle.tt_scan_gaps.proofs.both_ways.mark_crossings.Given as goal
@@ -9,10 +9,10 @@ use Rattle.tt_scan_gaps.proofs.both_ways.mark_crossings.Given as goal
 abbrev pub invariant-loop-k : goal.invariant-loop-k
 invariant-loop-k l = record {
   marked : (m : ℕ) → m < l.k
-      → get_or l.table (slot (line_crossed l.edge m) (crossing l.edge (line_crossed l.edge m)).gap) false ≡ true;
-  kept : (s : ℕ) → get_or l.fn.table s false ≡ true → get_or l.table s false ≡ true;
+      → has_mark l.table (slot (line_crossed l.edge m) (crossing l.edge (line_crossed l.edge m)).gap) ≡ true;
+  kept : (s : ℕ) → has_mark l.fn.table s ≡ true → has_mark l.table s ≡ true;
   taken : (m : ℕ) → m < l.k
-      → get_or l.other (slot (line_crossed l.edge m) (crossing l.edge (line_crossed l.edge m)).gap) false ≡ true
+      → has_mark l.other (slot (line_crossed l.edge m) (crossing l.edge (line_crossed l.edge m)).gap) ≡ true
       → is_free (is_black_seen l.pass.over l.pass.edges.now) (crossing l.edge (line_crossed l.edge m)).gap (line_crossed l.edge m)
       ≡ false;
   fewer : l.looks ≤ l.fn.looks;
