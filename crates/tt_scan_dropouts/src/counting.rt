@@ -86,17 +86,17 @@ fn bands_bytes(columns: u64, rows: u64) -> u64
 /// What edges count by the rows that they cross: one for each band of the rows of their box, and five for each row that
 /// they cross. Each row of the box counts one.
 #[tactic(auto, unfolding(crate::specs::Counted::edges_counted))]
-fn counted_by(edges: &[Edge], rows_crossed: u64) -> u64
+fn counted_by(edges: &[Edge], met: u64) -> u64
     requires edges { All EdgeFits edges.now }
     requires few { length edges.now ≤ 2 ^ 32 }
-    requires rows { rows_crossed ≡ rows_crossed edges.now }
-    requires bound { rows_crossed ≤ 2 ^ 20 * length edges.now }
+    requires rows { met ≡ rows_crossed edges.now }
+    requires bound { met ≤ 2 ^ 20 * length edges.now }
     ensures exact { result ≡ edges_counted edges.now }
     ensures bound { result ≤ 2 ^ 23 * length edges.now + 2 ^ 20 }
 {
     let (_, rows) = box_of(edges);
     let rows = numbers_in(rows);
-    in_each_band(bands(rows), edges.len()) + (5 * rows_crossed + rows)
+    in_each_band(bands(rows), edges.len()) + (5 * met + rows)
 }
 
 /// What edges count.
@@ -122,17 +122,17 @@ fn searched(bands: u64, crossed: u64) -> u64
 /// What the search for dropouts counts besides, by the rows and columns that edges cross: for each three, and one for
 /// each band; and one for each 64 bytes of the bitmaps of the glyph's box.
 #[tactic(auto, unfolding(crate::specs::Counted::filling_counted))]
-fn filling_by(extents: Extents, edges: &[Edge], crossed: u64) -> u64
+fn filling_by(extents: Extents, edges: &[Edge], met: u64) -> u64
     requires extents { ExtentsFit extents }
     requires few { length edges.now ≤ 2 ^ 32 }
-    requires crossed { crossed ≡ crossed edges.now }
-    requires bound { crossed ≤ 2 ^ 21 * length edges.now }
+    requires crossed { met ≡ crossed edges.now }
+    requires bound { met ≤ 2 ^ 21 * length edges.now }
     ensures exact { result ≡ filling_counted extents edges.now }
     ensures bound { result ≤ 2 ^ 31 * length edges.now + 2 ^ 33 }
 {
     let (columns, rows) = pixels_in(extents);
     let rows = numbers_in(rows);
-    searched(bands(rows), crossed) + bands_bytes(numbers_in(columns), rows) / 64
+    searched(bands(rows), met) + bands_bytes(numbers_in(columns), rows) / 64
 }
 
 /// What edges count where dropouts are filled, with the search for them. One walk over the edges serves both.
