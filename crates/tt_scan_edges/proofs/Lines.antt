@@ -1,5 +1,5 @@
 -- Places past a line and before the next.
-use Rattle.std.proofs.Common.{◌≡◌, ◌∙◌, refl, Bool, true, false, not, ◌&&◌, ℤ, pos, ◌+ℤ◌, ◌-ℤ◌, ◌*ℤ◌, ◌<ℤ◌, ◌≤ℤ◌, int_lt, arith}
+use Rattle.std.proofs.Common.{◌≡◌, ◌∙◌, refl, ◌^◌, ◌≤◌, Bool, true, false, not, ◌&&◌, ℤ, pos, ◌+ℤ◌, ◌-ℤ◌, ◌*ℤ◌, ◌<ℤ◌, ◌≤ℤ◌, int_lt, unsigned_abs, arith}
 use Rattle.std.specs.Int.{int_rem_euclid}
 use Rattle.std.specs.Ordering.{int_eq}
 use Rattle.std.proofs.lemmas.Int.{ints, by_lt_z}
@@ -66,3 +66,23 @@ meets_none_is a b =
     let first : after (line_below a) a ≡ not (lies_on_line a) = after_is a (line_below a) ∙ rw own refl in
     rw (first, after_is b (line_below a))
     (swapped (not (lies_on_line a)) (int_eq (line_below a) (line_below b)) (not (lies_on_line b)))
+
+-- a test by the line below a place, and by a far line where the place is on a line
+within : (v : ℤ) → v <ℤ (line_at (line_below v) +ℤ pos 8192)
+within v =
+    let whole = parts (v -ℤ pos 4096) in
+    let high = rest_high (v -ℤ pos 4096) in
+    omega (arith, ints, whole, high)
+
+pub open_tells : (v b : ℤ) → int_lt (line_at (line_below v)) v ≡ true → after (line_below v) b ≡ meets_none v b
+open_tells v b past =
+    let close = within v in
+    let before : int_lt v (line_at (line_below v) +ℤ pos 8192) ≡ true = grind (arith, ints) in
+    let is : (true && after (line_below v) b) ≡ meets_none v b = rw (past, before) at (meets_none_is v b) in is
+
+pub far_tells : (v b : ℤ) → int_lt (line_at (line_below v)) v ≡ false → unsigned_abs b ≤ 2 ^ 31
+    → (int_lt (pos 1099511627776) b && int_lt b (pos 1099511627776 +ℤ pos 8192)) ≡ meets_none v b
+far_tells v b on few =
+    let far : int_lt (pos 1099511627776) b ≡ false = grind (arith, ints) in
+    let none : (false && after (line_below v) b) ≡ meets_none v b = rw on at (meets_none_is v b) in
+    rw far none

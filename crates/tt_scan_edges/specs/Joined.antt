@@ -1,6 +1,6 @@
 -- No part of the standard: edges that follow one another and meet no line are joined. A line runs through the centres
 -- of a row of pixels, or of a column. What edges blacken, and where they cross lines, remains as it was.
-use Rattle.std.specs.Prelude.{◌≡◌, refl, Bool, true, false, not, ◌&&◌, if◌then◌else◌, ℤ, pos, negsuc, ◌+ℤ◌, ◌-ℤ◌, ◌*ℤ◌, List, [], ◌∷◌}
+use Rattle.std.specs.Prelude.{◌≡◌, refl, ◌^◌, ◌<◌, ◌≤◌, Bool, true, false, not, ◌&&◌, if◌then◌else◌, int_lt, unsigned_abs, ℤ, pos, negsuc, ◌+ℤ◌, ◌-ℤ◌, ◌*ℤ◌, List, [], ◌∷◌}
 use Rattle.std.specs.Int.{int_div_euclid, int_rem_euclid}
 use Rattle.std.specs.Ordering.{int_eq}
 use Rattle.tt_scan_edges.specs.declared.edge.Edge.{Edge}
@@ -20,6 +20,11 @@ lies_on_line v = int_eq (int_rem_euclid (v -ℤ pos 4096) (pos 8192)) (pos 0)
 -- no line lies between two places, both included
 abbrev pub meets_none : ℤ → ℤ → Bool
 meets_none a b = int_eq (line_below a) (line_below b) && (not (lies_on_line a) && not (lies_on_line b))
+
+-- a line by which one sees whether a place and another meet none
+pub record IsTest (v line : ℤ) : Type 0 where
+  pub small : unsigned_abs line < 2 ^ 41
+  pub tells : (b : ℤ) → unsigned_abs b ≤ 2 ^ 31 → (int_lt line b && int_lt b (line +ℤ pos 8192)) ≡ meets_none v b
 
 -- an edge meets no line of rows and no line of columns
 abbrev pub is_clear : Edge → Bool

@@ -15,7 +15,7 @@
 //! mark.rt        a mark, and a span
 //! stretch.rt     the marks in order of their columns, and black spans where their sum isn't 0 (rule 1)
 //! insertion.rt   sorting marks and walks, which are nearly in order
-//! join.rt        edges of a contour that meet no line, joined
+//! join.rt        edges of a contour that meet no line, joined; last.rt has the last of them
 //! laws.rt        joined edges blacken what the edges do
 //! bounds.rt      the least and the greatest black column
 //! ```
@@ -30,6 +30,7 @@ mod edge;
 mod entry;
 mod insertion;
 mod join;
+mod last;
 pub mod laws;
 mod left;
 mod mark;

@@ -9,7 +9,7 @@ pub loop-i-init : goal.loop-i-init
 loop-i-init c =
     let blank : Edge = record { ax = pos 0; ay = pos 0; bx = pos 0; by = pos 0 } in
     record {
-      joined = begun c.args.edges.now c.args.start blank (omega (arith, c.requires, c.if-start-edges.false));
+      joined = rw c.new.ensures (begun c.args.edges.now c.args.start blank (omega (arith, c.requires, c.if-start-edges.false)));
       below = omega arith;
       len = refl;
     }
@@ -25,16 +25,16 @@ loop-i-preserved c =
     let within : i < length es = omega (arith, c.loop-i-test.true, inv.len) in
     elim (cases_Bool (joins s.last next)) [
       | inl is ↦
-          let to = c.with_next-so_far.ensures.joined is in
-          let same = c.with_next-so_far.ensures.same is in
+          let to = c.with_next.ensures.joined is in
+          let same = c.with_next.ensures.same is in
           rw (to, same) (record {
             joined = one_joined es _ s.done i s.last next blank within refl is inv.joined;
             below = omega (arith, inv.below);
             len = inv.len;
           })
       | inr other ↦
-          let to = c.with_next-so_far.ensures.kept other in
-          let put = c.with_next-so_far.ensures.put other in
+          let to = c.with_next.ensures.kept other in
+          let put = c.with_next.ensures.put other in
           rw (to, put) (record {
             joined = one_kept es _ s.done i s.last next blank within inv.below refl other inv.joined;
             below = omega (arith, inv.below);
@@ -44,6 +44,6 @@ loop-i-preserved c =
 
 pub returns-clause-joined : goal.returns-clause-joined
 returns-clause-joined c =
-    all_joined c.loop-i.edges _ c.loop-i.so_far.done c.loop-i.i c.loop-i.so_far.last
+    rw c.edge.ensures (all_joined c.loop-i.edges _ c.loop-i.so_far.done c.loop-i.i c.loop-i.so_far.last
     (omega (arith, c.loop-i-test.false, c.loop-i.invariant.len))
-    (omega (arith, c.loop-i.invariant.below, c.loop-i.auto.i-end, c.loop-i.invariant.len)) c.loop-i.invariant.joined
+    (omega (arith, c.loop-i.invariant.below, c.loop-i.auto.i-end, c.loop-i.invariant.len)) c.loop-i.invariant.joined)

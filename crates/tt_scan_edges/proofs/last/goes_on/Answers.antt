@@ -2,7 +2,7 @@ use Rattle.std.proofs.Common.{SFits, w32, rules}
 use Rattle.std.proofs.lemmas.Int.{to_z-of_z}
 use Rattle.tt_scan_edges.specs.Winding.{is_between}
 use Rattle.tt_scan_edges.proofs.Bools.{both_if, neither_if}
-use Rattle.tt_scan_edges.proofs.join.goes_on.Goals as goal
+use Rattle.tt_scan_edges.proofs.last.goes_on.Goals as goal
 
 pub returns-then-lies_between : goal.returns-then-lies_between
 returns-then-lies_between c =
