@@ -1,10 +1,9 @@
 -- The pieces that a picture's file is written by.
-use Rattle.std.proofs.Common.{◌≡◌, ◌∙◌, ℕ, zero, suc, ◌+◌, ◌-◌, ◌*◌, ◌<◌, ◌≤◌, List, [], ◌∷◌, ◌++◌, length, take, drop, drop-drop, ap, sym, refl, append_assoc, length-append, length-drop, length-take, length-take-le, arith, take_at}
+use Rattle.std.proofs.Common.{◌≡◌, ◌∙◌, ℕ, zero, suc, ◌+◌, ◌-◌, ◌*◌, ◌<◌, ◌≤◌, List, [], ◌∷◌, ◌++◌, length, take, drop, ap, sym, refl, append_assoc, length-append, length-drop, length-take, length-take-le, arith, take_at}
 use Rattle.std.proofs.Math.Seq.{take-append-add}
 use Rattle.std.proofs.lemmas.List.{take-append-drop}
 use Rattle.std.proofs.lemmas.Nat.{mul-le}
 use Rattle.std.proofs.lemmas.Slice.{take-put_mid}
-use Rattle.tt_core.specs.Bits.{stride}
 use borrow.Rule.Slice.PartMut.{put_mid}
 
 -- a header, and then rows, at the front of a piece

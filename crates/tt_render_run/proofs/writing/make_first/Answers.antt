@@ -1,4 +1,4 @@
-use Rattle.std.proofs.Common.{◌≡◌, ◌∙◌, ◌+◌, ◌-◌, ◌*◌, ◌≤◌, length, take, ap, refl, sym, arith}
+use Rattle.std.proofs.Common.{◌≡◌, ◌∙◌, ◌+◌, ◌≤◌, length, take, ap, refl, sym, arith}
 use Rattle.tt_core.specs.Bits.{stride}
 use Rattle.tt_pbm.specs.P4.{p4_header_of}
 use Rattle.tt_picture.specs.Pictures.{band_rows, rows_at}
@@ -16,7 +16,8 @@ returns-clause-bytes c =
     let len : length first ≡ h.len = rw (c.width.ensures.exact, c.height.ensures.exact) at c.p4_header-header.ensures.len in
     let head : c.copy_from_slice.new.self ≡ first = c.copy_from_slice.ensures.after ∙ header in
     let band : c.next_rows.new.band ≡ rows_at p 0 rows = rw (c.band_rows-rows.ensures.exact, c.requires.ready.made) at c.next_rows.ensures.rows in
-    let within : 0 + rows ≤ p.frame.height = rw c.band_rows-rows.ensures.exact at c.band_rows-rows.ensures.within in
+    let least : rows ≤ p.frame.height = rw c.band_rows-rows.ensures.exact at c.band_rows-rows.ensures.within in
+    let within : 0 + rows ≤ p.frame.height = omega (arith, least) in
     let size : length c.next_rows.new.band ≡ c.band_bytes.result =
     ap length band ∙ rows_long n 0 rows p.frame.height p.rows within c.requires.ready.rows ∙ sym c.band_bytes.ensures.exact in
     first_piece h.len (h.len + c.band_bytes.result) c.args.piece.now c.copy_from_slice.new.self c.next_rows.new.band

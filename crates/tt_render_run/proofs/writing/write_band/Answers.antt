@@ -1,4 +1,3 @@
-use Rattle.std.proofs.Common.{◌∙◌}
 use Rattle.tt_render_run.proofs.writing.write_band.Goals as goal
 
 pub returns-clause-writes : goal.returns-clause-writes

@@ -1,4 +1,4 @@
-use Rattle.std.proofs.Common.{◌≡◌, ◌∙◌, ℕ, List, ◌++◌, ◌+◌, ◌-◌, ◌*◌, ◌<◌, ◌≤◌, drop, length, take, refl, ap, sym, arith, drop-drop, length-drop, min}
+use Rattle.std.proofs.Common.{◌≡◌, ◌∙◌, ℕ, List, ◌++◌, ◌+◌, ◌-◌, ◌*◌, ◌<◌, ◌≤◌, drop, length, take, refl, ap, sym, arith, drop-drop, length-drop}
 use Rattle.std.proofs.lemmas.List.{take_all}
 use Rattle.std.proofs.lemmas.Nat.{mul-le}
 use Rattle.tt_core.specs.Bits.{stride}
@@ -12,8 +12,9 @@ loop-picture-init g c = record {
   picture = refl;
   within = c.requires.begun.made;
   piece = refl;
-  sent = refl;
-  out = appends_none (g.W.Sink.written c.args.out.now) _ 0 refl;
+  sent = omega arith;
+  out = appends_none (g.W.Sink.written c.args.out.now)
+      (drop (stride c.args.picture.now.frame.width * c.args.picture.now.made) c.args.picture.now.rows) 0 refl;
   serves = c.requires.out;
 }
 
@@ -33,7 +34,7 @@ loop-picture-preserved g c =
     let made = c.loop-picture.picture.made in
     let count = c.min-count.result in
     let rest = drop (n * p.made) p.rows in
-    let left : c.rows_left-2.result ≡ p.frame.height - made = rw so_far.picture at c.rows_left-2.ensures in
+    let left : c.rows_left-in-loop-picture.result ≡ p.frame.height - made = rw so_far.picture at c.rows_left-in-loop-picture.ensures in
     let few : made + count ≤ p.frame.height = omega (arith, left, c.min-count.ensures, so_far.within) in
     let all = rw so_far.picture at c.in-Ok.ensures.writes.all in
     let here = here_is n c.loop-picture.sent p.made made p.rows so_far.sent in
@@ -45,14 +46,11 @@ loop-picture-preserved g c =
     let same : c.write_band.new.picture ≡ record p { made = made + count } = rw so_far.picture at c.in-Ok.ensures.same in
     let bytes : c.row_bytes.result ≡ n = rw so_far.picture at c.row_bytes.ensures in
     let band = rw bytes at c.write_band.ensures.band in
-    let rows : n * count ≤ length c.loop-picture.piece =
-    omega (
-      arith,
-      so_far.piece,
-      c.requires.piece,
-      mul-le n count n (band_rows p.frame) (omega arith)
-          (rw so_far.picture at (omega (arith, c.min-count.ensures, c.band_rows.ensures.exact))),
-    ) in
+    let most : c.band_rows.result ≡ band_rows p.frame = rw so_far.picture at c.band_rows.ensures.exact in
+    let in_band : count ≤ band_rows p.frame = omega (arith, c.min-count.ensures, most) in
+    let own : n ≤ n = omega arith in
+    let product = mul-le n count n (band_rows p.frame) own in_band in
+    let rows : n * count ≤ length c.loop-picture.piece = omega (arith, so_far.piece, c.requires.piece, product) in
     rw (same, bytes) (record {
       picture = refl;
       within = few;
@@ -91,7 +89,7 @@ returns-in-Err-clause-writes g c =
     let count = c.min-count.result in
     let sent = c.in-Err.cut.sent in
     let rest = drop (n * p.made) p.rows in
-    let left : c.rows_left-2.result ≡ p.frame.height - made = rw so_far.picture at c.rows_left-2.ensures in
+    let left : c.rows_left-in-loop-picture.result ≡ p.frame.height - made = rw so_far.picture at c.rows_left-in-loop-picture.ensures in
     let few : made + count ≤ p.frame.height = omega (arith, left, c.min-count.ensures, so_far.within) in
     let cut = rw so_far.picture at c.in-Err.ensures.writes in
     let here = here_is n c.loop-picture.sent p.made made p.rows so_far.sent in
@@ -117,7 +115,7 @@ returns-in-Err-clause-bound g c =
     let n = stride p.frame.width in
     let made = c.loop-picture.picture.made in
     let count = c.min-count.result in
-    let left : c.rows_left-2.result ≡ p.frame.height - made = rw so_far.picture at c.rows_left-2.ensures in
+    let left : c.rows_left-in-loop-picture.result ≡ p.frame.height - made = rw so_far.picture at c.rows_left-in-loop-picture.ensures in
     let few : made + count ≤ p.frame.height = omega (arith, left, c.min-count.ensures, so_far.within) in
     let ends = rows_end n made count p.frame.height p.rows few c.requires.begun.rows in
     let long = rows_long n made count p.frame.height p.rows few c.requires.begun.rows in
