@@ -184,7 +184,7 @@ pub record AreDifferences (b : Coordinates) (h k : ℕ) (s : Differences) : Type
   pub second : s.second ≡ pos (2 * (h * h)) *ℤ signed_bend b
   pub small : unsigned_abs s.first ≤ 2 ^ 37 + 2 ^ 37 * k
 
--- a part of a quadratic in eighths of it, such that the parts are 1, 2, 4 or 8; and such a number of parts
+-- 1, 2, 4 or 8: a number of chords with exact ends, or how many eighths of a quadratic each chord is
 abbrev pub is_part : ℕ → Bool
 is_part n = nat_eq n 1 || (nat_eq n 2 || (nat_eq n 4 || nat_eq n 8))
 
