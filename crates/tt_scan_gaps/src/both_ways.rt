@@ -11,7 +11,7 @@ ghost use Rattle.tt_scan_gaps.specs.Gaps.{is_free};
 ghost use Rattle.tt_scan_gaps.specs.Seen.{seen_by};
 ghost use Rattle.tt_scan_gaps.specs.declared.seen.Over.TheVariants as over;
 
-use crate::crossings::{gap_crossed, line_crossed, lines_crossed};
+use crate::crossings::{gap_at, gap_crossed, line_crossed, lines_crossed};
 use crate::looks::{Looks, look};
 use crate::seen::{Over, PassEdges, meets, seen_by};
 use tt_scan_edges::Edge;
@@ -64,6 +64,32 @@ fn mark(table: &mut [u8; BYTES], other: &[u8; BYTES], at: usize) -> bool
     (other[at / 8] >> (at % 8)) % 2 == 1
 }
 
+/// Marks in one of two tables the gap where an edge crosses a line, after `k` others. Returns whether that gap is in the
+/// other table and may be free.
+#[inline(always)]
+fn mark_crossing(
+    table: &mut [u8; BYTES],
+    other: &[u8; BYTES],
+    pass: &PassEdges,
+    looks: &mut Looks,
+    edge: Edge,
+    k: u64,
+) -> bool
+    requires edge { EdgeFits edge }
+    requires within { k < lines_crossed edge }
+    ensures marked { has_mark table.new (slot (line_crossed edge k) (crossing edge (line_crossed edge k)).gap) ≡ true }
+    ensures kept { (s : ℕ) → has_mark table.old s ≡ true → has_mark table.new s ≡ true }
+    ensures taken { result ≡ false
+        → has_mark other.now (slot (line_crossed edge k) (crossing edge (line_crossed edge k)).gap) ≡ true
+        → is_free (is_black_seen pass.now.over pass.now.edges.now) (crossing edge (line_crossed edge k)).gap
+        (line_crossed edge k) ≡ false }
+    ensures fewer { looks.new ≤ looks.old }
+{
+    let line = line_crossed(edge, k);
+    let gap = gap_crossed(edge, k);
+    mark(table, other, slot(line, gap)) && look(*pass, looks, gap, line)
+}
+
 /// Marks in one of two tables the gaps where an edge crosses lines. Returns whether such a gap is in the other table
 /// and may be free.
 #[inline(always)]
@@ -85,9 +111,7 @@ fn mark_crossings(
     ensures fewer { looks.new ≤ looks.old }
 {
     for k in 0..lines_crossed(edge) {
-        let line = line_crossed(edge, k);
-        let gap = gap_crossed(edge, k);
-        if mark(table, other, slot(line, gap)) && look(*pass, looks, gap, line) {
+        if mark_crossing(table, other, pass, looks, edge, k) {
             return true;
         }
     }
@@ -118,6 +142,44 @@ fn mark_ways(
     }
 }
 
+/// Whether an edge crosses one line alone, and lies in one gap there.
+#[inline(always)]
+fn is_short(edge: Edge) -> bool
+    requires { EdgeFits edge }
+    ensures { result ≡ true → lines_crossed edge ≡ 1 }
+{
+    lines_crossed(edge) == 1 && gap_at(edge.ax) == gap_at(edge.bx)
+}
+
+/// Marks the gaps where an edge crosses lines, as `mark_ways` does. `seen` is the edge as the pass sees it. Most edges
+/// are short and need no call.
+#[inline(always)]
+fn mark_met(
+    rising: &mut [u8; BYTES],
+    falling: &mut [u8; BYTES],
+    pass: &PassEdges,
+    looks: &mut Looks,
+    edge: &Edge,
+    seen: Edge,
+) -> bool
+    requires edge { EdgeFits edge.now }
+    requires seen { seen ≡ seen_by pass.now.over edge.now }
+    requires fits { EdgeFits seen }
+    ensures told { result ≡ false → (es : List Edge)
+        → AreTold (is_black_seen pass.now.over pass.now.edges.now) es rising.old falling.old
+        → AreTold (is_black_seen pass.now.over pass.now.edges.now) (es ++ seen_by pass.now.over edge.now ∷ []) rising.new falling.new }
+    ensures fewer { looks.new ≤ looks.old }
+{
+    if !is_short(seen) {
+        return mark_ways(rising, falling, pass, looks, edge);
+    }
+    if seen.ay < seen.by {
+        mark_crossing(rising, falling, pass, looks, seen, 0)
+    } else {
+        mark_crossing(falling, rising, pass, looks, seen, 0)
+    }
+}
+
 /// Whether edges may cross some free gap of a row or of a column both rising and falling. False means that they do not.
 /// True also where more gaps need a look than remain.
 pub(crate) fn mark_edges(edges: &[Edge], looks: &mut Looks) -> bool
@@ -143,17 +205,25 @@ pub(crate) fn mark_edges(edges: &[Edge], looks: &mut Looks) -> bool
     for edge in edges {
         // Most edges are short and meet no line.
         if meets(Over::Rows, false, edge)
-            && mark_ways(&mut row_rising, &mut row_falling, &rows, looks, edge)
+            && mark_met(
+                &mut row_rising,
+                &mut row_falling,
+                &rows,
+                looks,
+                edge,
+                seen_by(Over::Rows, *edge),
+            )
         {
             return true;
         }
         if meets(Over::Columns, false, edge)
-            && mark_ways(
+            && mark_met(
                 &mut column_rising,
                 &mut column_falling,
                 &columns,
                 looks,
                 edge,
+                seen_by(Over::Columns, *edge),
             )
         {
             return true;

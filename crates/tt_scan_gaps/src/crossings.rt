@@ -43,6 +43,26 @@ pub(crate) fn line_from(y: i32) -> i64
     whole_pixels(i64::from(y) + (HALF - 1))
 }
 
+/// The whole pixels in a short length: the floor. In 32 bits the compiler takes several edges at once.
+#[inline(always)]
+fn whole_of_short(length: i32) -> i32
+    requires { unsigned_abs length < 2 ^ 31 }
+    ensures exact { result ≡ int_div_euclid length (pos 8192) }
+    ensures small { unsigned_abs result < 2 ^ 19 }
+{
+    length >> 13
+}
+
+/// The first line that is not below the height of an edge's end.
+#[inline(always)]
+fn line_of_end(y: i32) -> i32
+    requires { unsigned_abs y < 2 ^ 30 }
+    ensures exact { result ≡ line_from y }
+    ensures small { unsigned_abs result < 2 ^ 19 }
+{
+    whole_of_short(y + 4095)
+}
+
 /// The gap of a place: the last centre that is not right of it.
 #[inline(always)]
 pub(crate) fn gap_at(x: i32) -> i64
@@ -50,7 +70,7 @@ pub(crate) fn gap_at(x: i32) -> i64
     ensures exact { result ≡ gap_at x }
     ensures small { unsigned_abs result < 2 ^ 19 }
 {
-    whole_pixels(i64::from(x) - HALF)
+    i64::from(whole_of_short(x - 4096))
 }
 
 /// The edge from its lower end to its upper.
@@ -80,7 +100,7 @@ pub fn lines_crossed(edge: Edge) -> u64
     ensures exact { result ≡ lines_crossed edge }
     ensures small { result < 2 ^ 20 }
 {
-    line_from(edge.by).abs_diff(line_from(edge.ay))
+    u64::from(line_of_end(edge.by).abs_diff(line_of_end(edge.ay)))
 }
 
 /// Whether a height is that of a line.
@@ -108,7 +128,7 @@ pub(crate) fn meets_line(ends_count: bool, a: i32, b: i32) -> bool
     requires b { unsigned_abs b < 2 ^ 30 }
     ensures { result ≡ meets_line ends_count a b }
 {
-    line_from(a) != line_from(b) || (ends_count && (is_on_line(a) || is_on_line(b)))
+    line_of_end(a) != line_of_end(b) || (ends_count && (is_on_line(a) || is_on_line(b)))
 }
 
 /// The line that an edge crosses after `k` others.

@@ -5,7 +5,7 @@ use Rattle.tt_scan_gaps.specs.Seen.{seen_by}
 use Rattle.tt_scan_gaps.specs.declared.seen.Over.TheVariants as over
 use Rattle.tt_scan_gaps.proofs.Ways.{more_seen, none_more}
 use Rattle.tt_scan_gaps.proofs.both_ways.mark_edges.Goals as goal
-use Rattle.tt_scan_gaps.proofs.both_ways.mark_edges.Goals.{else-meets-via-then-meets+else-mark_ways, else-meets-via-else-meets, else-meets-2-via-then-meets-2+else-mark_ways-2, else-meets-2-via-else-meets-2}
+use Rattle.tt_scan_gaps.proofs.both_ways.mark_edges.Goals.{else-meets-via-then-meets+else-mark_met, else-meets-via-else-meets, else-meets-2-via-then-meets-2+else-mark_met-2, else-meets-2-via-else-meets-2}
 
 pub loop-edge-init : goal.loop-edge-init
 loop-edge-init c = record {
@@ -29,8 +29,8 @@ loop-edge-preserved c =
     record {
       rows = subst (λ xs. AreTold (is_black_seen over.Rows es) xs c.else-meets.row_rising c.else-meets.row_falling)
           (sym across) (elim c.else-meets.branch [
-            | else-meets-via-then-meets+else-mark_ways w ↦ rw (w.row_rising-is, w.row_falling-is)
-                (w.mark_ways.ensures.told w.if-mark_ways.false (map (seen_by over.Rows) seen) so_far.rows)
+            | else-meets-via-then-meets+else-mark_met w ↦ rw (w.row_rising-is, w.row_falling-is)
+                (w.mark_met.ensures.told w.if-mark_met.false (map (seen_by over.Rows) seen) so_far.rows)
             | else-meets-via-else-meets w ↦ rw (w.row_rising-is, w.row_falling-is)
                 (none_more (is_black_seen over.Rows es) (map (seen_by over.Rows) seen) (seen_by over.Rows e)
                 c.loop-edge.row_rising c.loop-edge.row_falling (sym c.meets.ensures ∙ w.if-meets.false) so_far.rows)
@@ -38,8 +38,8 @@ loop-edge-preserved c =
       columns = subst (λ xs. AreTold (is_black_seen over.Columns es) xs
           c.else-meets-2.column_rising c.else-meets-2.column_falling)
           (sym along) (elim c.else-meets-2.branch [
-            | else-meets-2-via-then-meets-2+else-mark_ways-2 w ↦ rw (w.column_rising-is, w.column_falling-is)
-                (w.mark_ways-then-meets-2.ensures.told w.if-mark_ways-2.false (map (seen_by over.Columns) seen) so_far.columns)
+            | else-meets-2-via-then-meets-2+else-mark_met-2 w ↦ rw (w.column_rising-is, w.column_falling-is)
+                (w.mark_met-then-meets-2.ensures.told w.if-mark_met-2.false (map (seen_by over.Columns) seen) so_far.columns)
             | else-meets-2-via-else-meets-2 w ↦ rw (w.column_rising-is, w.column_falling-is)
                 (none_more (is_black_seen over.Columns es) (map (seen_by over.Columns) seen) (seen_by over.Columns e)
                 c.loop-edge.column_rising c.loop-edge.column_falling
@@ -47,11 +47,11 @@ loop-edge-preserved c =
           ]);
       fewer =
           let first : c.else-meets.looks ≤ c.loop-edge.looks = elim c.else-meets.branch [
-            | else-meets-via-then-meets+else-mark_ways w ↦ rw w.looks-is w.mark_ways.ensures.fewer
+            | else-meets-via-then-meets+else-mark_met w ↦ rw w.looks-is w.mark_met.ensures.fewer
             | else-meets-via-else-meets w ↦ rw w.looks-is (omega arith)
           ] in
           let then_too : c.else-meets-2.looks ≤ c.else-meets.looks = elim c.else-meets-2.branch [
-            | else-meets-2-via-then-meets-2+else-mark_ways-2 w ↦ rw w.looks-is w.mark_ways-then-meets-2.ensures.fewer
+            | else-meets-2-via-then-meets-2+else-mark_met-2 w ↦ rw w.looks-is w.mark_met-then-meets-2.ensures.fewer
             | else-meets-2-via-else-meets-2 w ↦ rw w.looks-is (omega arith)
           ] in
           omega (arith, so_far.fewer, first, then_too);
