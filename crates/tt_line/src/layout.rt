@@ -85,6 +85,8 @@ fn placed_glyphs(
     ensures same { known.new ≡ known.old }
 {
     let mut glyphs = Vec::new(alloc);
+    // A character has at least a byte.
+    glyphs.reserve(text.len())?;
     let mut pen = 0;
     for c in text.chars() {
         let step = known.step(c);

@@ -1,4 +1,5 @@
-use Rattle.std.proofs.Common.{◌≡◌, ◌<◌, ◌≤◌, ℕ, [], ◌∷◌, ◌++◌, length, sum, chars, Result, Ok, Err, IfErr, sym, ap, ◌∙◌, arith}
+use Rattle.std.proofs.Common.{◌≡◌, ◌<◌, ◌≤◌, ℕ, IsUtf8, ◌⊎◌, inl, inr, refl, List, [], ◌∷◌, ◌++◌, length, sum, chars, Result, Ok, Err, IfErr, sym, ap, ◌∙◌, arith}
+use Rattle.std.proofs.lemmas.Str.{encodes-chars}
 use Rattle.std.proofs.lemmas.Iterator.{YieldsList-from_chars}
 use Rattle.std.proofs.lemmas.Iterator.Consumers.{YieldsList-so_far, YieldsList-turn, YieldsList-end}
 use Rattle.std.proofs.lemmas.List.{map-id, length-map}
@@ -41,7 +42,25 @@ pub returns-in_err-push-clause-memory : goal.returns-in_err-push-clause-memory
 returns-in_err-push-clause-memory c =
     let t = YieldsList-turn (YieldsList-from_chars c.args.text.now c.utf8.text cc) c.loop-c.yielded _ c.loop-c.yielded_by _ _ c.in-Some.c c.in-Some.is c.next.ensures.steps in
     let left : length c.loop-c.yielded < length (chars c.args.text.now) = t.0 in
-    some_characters c.from_residual.result (length (chars c.args.text.now)) (omega arith)
+    some_characters c.from_residual-in_err-push.result (length (chars c.args.text.now)) (omega arith)
+
+some_or_none : (cs : List ℕ) → (0 < length cs) ⊎ (cs ≡ [])
+some_or_none [] = inr refl
+some_or_none (c ∷ cs) = inl (omega arith)
+
+-- a text of some bytes has a character
+some_in_text : (t : List ℕ) → IsUtf8 t → 0 < length t → 0 < length (chars t)
+some_in_text t is some = elim (some_or_none (chars t)) [
+  | inl it ↦ it
+  | inr none ↦ let empty : [] ≡ t = rw none at (encodes-chars t is) in let bad : 0 < length {A = ℕ} [] = rw (sym empty) at some in absurd (omega (arith, bad))
+]
+
+pub returns-in_err-reserve-clause-memory : goal.returns-in_err-reserve-clause-memory
+returns-in_err-reserve-clause-memory c =
+    let t = c.args.text.now in
+    let bytes : 0 < length t = omega (arith, c.in_err-reserve.ensures.full) in
+    some_characters c.from_residual.result (length (chars t))
+    (some_in_text t c.utf8.text bytes)
 
 pub returns-clause-exact : goal.returns-clause-exact
 returns-clause-exact c =
