@@ -4,22 +4,12 @@ ghost use Rattle.std.specs.Prelude.{◌≡◌, ℕ, Bool, true, false, List, Som
 ghost use Rattle.std.specs.Str.Parse.{ParsesUnsigned, ExplainsUnsignedError, HasUnsignedDigitsIfOk};
 ghost use Rattle.clap.specs.Words.{ReadsOne, first_value, found_of, one_text};
 
-use crate::plain::read_plain;
 use clap::{Arg, ArgAction, ArgMatches, Command, Error, value_parser};
 use std::alloc::{AllocError, Global};
 use tt_program_decisions::{Arguments, DRAW, FITS, FULL, MISSING_WORDS, Request, request_of};
 
-/// The request of a subcommand and of the words after it, where these are plain. `map` takes a font and a text alone.
-fn plain_request<'a>(subcommand: &str, words: &'a [String]) -> Option<Request<'a>> {
-    if subcommand == "map" && words.len() != 2 {
-        return None;
-    }
-    request_of(subcommand, &read_plain(words)?)
-}
-
-/// The request that the words make. None where a required argument is absent. Where clap reads the words, one
-/// description is built: that of the subcommand. Without a subcommand it is that of the whole program, and help, the
-/// version or a fault is the error.
+/// The request that the words make. None where a required argument is absent. Only one description is built: that of
+/// the subcommand that is asked, or else that of the whole program, which then shows help, the version or a fault.
 pub(crate) fn request<'a>(
     alloc: Global,
     words: &'a [String],
@@ -28,12 +18,6 @@ pub(crate) fn request<'a>(
         Some(word) => word.as_str(),
         None => "",
     };
-    if words.len() > 2 {
-        let request = plain_request(name, &words[2..]);
-        if request.is_some() {
-            return Ok(request);
-        }
-    }
     let asked = match name {
         "draw" => draw_command(alloc)?.bin_name("tt_render draw")?,
         "measure" => measure_command(alloc)?.bin_name("tt_render measure")?,

@@ -4,7 +4,6 @@
 ghost use Rattle.std.specs.Prelude.{◌≤◌};
 
 mod command;
-mod plain;
 
 use crate::command::request;
 use clap::Error;

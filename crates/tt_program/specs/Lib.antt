@@ -1,2 +1,0 @@
--- Definitions of the program's own.
-pub mod Plain
