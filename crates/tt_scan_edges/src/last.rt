@@ -4,7 +4,6 @@ ghost use Rattle.std.specs.Prelude.{◌≡◌, ◌&&◌, ◌^◌, ◌<◌, ◌+�
 ghost use Rattle.tt_scan_edges.specs.Winding.{is_between};
 ghost use Rattle.tt_scan_edges.specs.Joined.{IsTest, goes_on, is_clear, join, joins, leads_to, line_at, line_below};
 
-use crate::crossing::is_between;
 use crate::edge::Edge;
 use crate::quotient::{HALF, PIXEL};
 use std::marker::Model;
@@ -36,7 +35,8 @@ fn is_past(v: i32, line: i64) -> bool
     requires { unsigned_abs line < 2 ^ 41 }
     ensures { result ≡ (int_lt line v && int_lt v (line +ℤ pos 8192)) }
 {
-    line < i64::from(v) && i64::from(v) < line + PIXEL
+    let past = i64::from(v) - line;
+    0 < past && past < PIXEL
 }
 
 /// Whether an edge ends where another begins.
@@ -65,7 +65,7 @@ fn join(edge: Edge, next: Edge) -> Edge
 fn lies_between(a: i32, b: i32, z: i32) -> bool
     ensures { result ≡ is_between a b z }
 {
-    is_between(i64::from(a), i64::from(b), i64::from(z))
+    a.min(b) <= z && z <= a.max(b)
 }
 
 /// Whether x and y of an edge's end lie between those of its start and those of the next edge's end.
