@@ -1,7 +1,7 @@
 //! The last edge of those joined so far, and whether the next is joined to it.
 
 ghost use Rattle.std.specs.Prelude.{◌≡◌, ◌&&◌, ◌^◌, ◌<◌, ◌+ℤ◌, pos, int_lt, unsigned_abs, true};
-ghost use Rattle.tt_scan_edges.specs.Winding.{is_between};
+ghost use Rattle.tt_scan_edges.specs.Winding.{EdgeFits, is_between};
 ghost use Rattle.tt_scan_edges.specs.Joined.{IsTest, goes_on, is_clear, join, joins, leads_to, line_at, line_below};
 
 use crate::edge::Edge;
@@ -78,7 +78,7 @@ fn goes_on(edge: Edge, next: Edge) -> bool
 
 /// An edge, with the lines below its start: two compares an axis then show whether the edge to another place meets none.
 #[derive(Drop)]
-pub(crate) struct Last {
+pub struct Last {
     edge: Edge,
     across: i64,
     up: i64,
@@ -86,18 +86,21 @@ pub(crate) struct Last {
 
 impl Model for Last {
     ghost use Rattle.tt_scan_edges.specs.Joined as joined;
+    ghost use Rattle.tt_scan_edges.specs.Winding.{EdgeFits};
     ghost use Rattle.tt_scan_edges.specs.declared.edge.Edge as declared;
 
     ghost Value = { declared.Edge };
 
     ghost view = { λ l. l.edge };
 
-    ghost invariant = { λ l. joined.IsTest l.edge.ax l.across × joined.IsTest l.edge.ay l.up };
+    ghost invariant = { λ l. joined.IsTest l.edge.ax l.across × joined.IsTest l.edge.ay l.up × EdgeFits l.edge };
 }
 
 impl Last {
+    /// An edge that the next one may be joined to.
     #[inline(always)]
-    pub(crate) fn new(edge: Edge) -> Last
+    pub fn new(edge: Edge) -> Last
+        requires { EdgeFits edge }
         ensures { result ≡ edge }
     {
         Last {
@@ -107,9 +110,11 @@ impl Last {
         }
     }
 
+    /// The edge.
     #[inline(always)]
-    pub(crate) fn edge(&self) -> Edge
-        ensures { result ≡ self.now }
+    pub fn edge(&self) -> Edge
+        ensures exact { result ≡ self.now }
+        ensures fits { EdgeFits result }
     {
         self.edge
     }
@@ -124,7 +129,7 @@ impl Last {
 
     /// Whether the next edge is joined to this one.
     #[inline(always)]
-    pub(crate) fn joins(&self, next: Edge) -> bool
+    pub fn joins(&self, next: Edge) -> bool
         ensures { result ≡ joins self.now next }
     {
         leads_to(self.edge, next) && (self.is_clear(next) && goes_on(self.edge, next))
@@ -132,9 +137,14 @@ impl Last {
 
     /// This edge with the next joined to it.
     #[inline(always)]
-    pub(crate) fn join(&mut self, next: Edge)
-        ensures { self.new ≡ join self.old next }
+    pub fn joined(self, next: Edge) -> Last
+        requires { EdgeFits next }
+        ensures { result ≡ join self next }
     {
-        self.edge = join(self.edge, next);
+        Last {
+            edge: join(self.edge, next),
+            across: self.across,
+            up: self.up,
+        }
     }
 }
