@@ -20,8 +20,8 @@ pub(crate) fn edge_end_of(p: PlacedPoint) -> EdgeEnd
     ensures valid { EdgeEndFits result }
 {
     EdgeEnd {
-        x: 128 * p.x,
-        y: 128 * p.y,
+        x: (128 * p.x) as i32,
+        y: (128 * p.y) as i32,
     }
 }
 

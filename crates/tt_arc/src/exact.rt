@@ -1,7 +1,7 @@
 //! The chords of a quadratic whose ends are whole in 1/8192 pixel: up to eight of them.
 
 ghost use Rattle.std.specs.Prelude.{◌≡◌, true, ◌+◌, ◌*◌, ◌^◌, ◌<◌, ◌≤◌, length, pos, ◌-ℤ◌, ◌*ℤ◌, unsigned_abs, OnOk};
-ghost use Rattle.tt_arc.specs.Chords.{QuadraticFits, CoordinatesFit, AreDifferences, is_part, sixteenfold, chord_count, chords_by};
+ghost use Rattle.tt_arc.specs.Chords.{QuadraticFits, CoordinatesFit, AreDifferences, EdgeEndFits, is_part, sixteenfold, chord_count, chords_by};
 ghost use Rattle.tt_arc.specs.Added.{AreAdded};
 
 use crate::joining::{SoFar, push_edge};
@@ -41,11 +41,14 @@ fn differences_at_start(coordinates: Coordinates, part: u32) -> Differences
 /// The end of a chord.
 #[inline(always)]
 fn edge_end(x: Differences, y: Differences) -> EdgeEnd
-    ensures { result ≡ record { x = x.value; y = y.value } }
+    requires x { unsigned_abs x.value < 2 ^ 30 }
+    requires y { unsigned_abs y.value < 2 ^ 30 }
+    ensures exact { result ≡ record { x = x.value; y = y.value } }
+    ensures valid { EdgeEndFits result }
 {
     EdgeEnd {
-        x: x.value,
-        y: y.value,
+        x: x.value as i32,
+        y: y.value as i32,
     }
 }
 

@@ -225,19 +225,19 @@ pub(crate) fn next(s: Differences) -> Differences
 #[derive(Clone, Copy)]
 pub(crate) struct EdgeEnd {
     /// To the right of the picture's left edge.
-    pub(crate) x: i64,
+    pub(crate) x: i32,
     /// Above the base line.
-    pub(crate) y: i64,
+    pub(crate) y: i32,
 }
 
 /// A place in 1/131072 pixel, rounded to 1/8192 pixel; a half goes up.
 #[inline(always)]
-fn rounded(place: i64) -> i64
+fn rounded(place: i64) -> i32
     requires { unsigned_abs place + 2 ^ 11 ≤ 2 ^ 34 }
     ensures exact { result ≡ nearest_quotient (pos 64 *ℤ place) (pos 1024) }
     ensures bound { unsigned_abs result < 2 ^ 30 }
 {
-    (place + 8).div_euclid(16)
+    ((place + 8) >> 4) as i32
 }
 
 /// The rounded end of a chord.
@@ -266,10 +266,10 @@ pub(crate) fn edge_between(a: EdgeEnd, b: EdgeEnd) -> Edge
     ensures valid { EdgeFits result }
 {
     Edge {
-        ax: a.x as i32,
-        ay: a.y as i32,
-        bx: b.x as i32,
-        by: b.y as i32,
+        ax: a.x,
+        ay: a.y,
+        bx: b.x,
+        by: b.y,
     }
 }
 
