@@ -132,7 +132,7 @@ impl Last {
     pub fn joins(&self, next: Edge) -> bool
         ensures { result ≡ joins self.now next }
     {
-        leads_to(self.edge, next) && (self.is_clear(next) && goes_on(self.edge, next))
+        self.is_clear(next) && (goes_on(self.edge, next) && leads_to(self.edge, next))
     }
 
     /// This edge with the next joined to it.
