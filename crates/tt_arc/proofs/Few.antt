@@ -22,6 +22,9 @@ many_chords m c (suc k) =
     let both = length-append (first_chords m c k) (edge_between (chord_end m c k) (chord_end m c (suc k)) ∷ []) in
     omega (arith, more, both)
 
+pub chords_counted_by : (r : ChordRule) (c : Quadratic) → length (chords_by r c) ≡ chord_count r c
+chords_counted_by r c = many_chords (chord_count r c) c (chord_count r c)
+
 one_of : (on next : Bool) (line : Edge) (chords : List Edge) → length chords ≤ 32
     → length (if on then (if next then line ∷ [] else []) else chords) ≤ 32
 one_of true true line chords few = omega arith
@@ -29,9 +32,9 @@ one_of true false line chords few = omega arith
 one_of false next line chords few = few
 
 few_by : (r : ChordRule) (c : Quadratic) → length (chords_by r c) ≤ 32
-few_by r c = rw (many_chords (chord_count r c) c (chord_count r c)) (few_chords r c)
+few_by r c = rw (chords_counted_by r c) (few_chords r c)
 
-few_of : (r : ChordRule) (before p after : PlacedPoint) → length (edges_of r before p after) ≤ 32
+pub few_of : (r : ChordRule) (before p after : PlacedPoint) → length (edges_of r before p after) ≤ 32
 unfolding edges_of
 few_of r before p after = one_of p.on after.on _ _ (few_by r _)
 

@@ -1,3 +1,4 @@
+mod Added
 mod BoxMoves
 mod ChordEnds
 mod ChordsNear
@@ -6,7 +7,6 @@ pub mod Contours
 mod Counts
 mod EndsOfContours
 mod Few
-mod Joints
 pub mod Moves
 pub mod Places
 mod Points

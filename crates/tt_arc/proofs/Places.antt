@@ -1,11 +1,10 @@
 -- The places of a quadratic at the ends of its chords, rounded to 1/8192 pixel, and the code's sums for them.
-use Rattle.std.proofs.Common.{◌≡◌, ◌∙◌, sym, refl, ap, ℕ, ◌+◌, ◌-◌, ◌*◌, ◌/◌, ◌^◌, ◌<◌, ◌≤◌, ℤ, pos, negsuc, ◌+ℤ◌, ◌-ℤ◌, ◌*ℤ◌, unsigned_abs, List, [], ◌∷◌, ◌++◌, arith, add-one, append-nil, div-add-mod', mod-lt, mul-le-mul_left}
+use Rattle.std.proofs.Common.{◌≡◌, ◌∙◌, sym, refl, ap, ℕ, ◌+◌, ◌-◌, ◌*◌, ◌/◌, ◌^◌, ◌<◌, ◌≤◌, ℤ, pos, negsuc, ◌+ℤ◌, ◌-ℤ◌, ◌*ℤ◌, unsigned_abs, [], ◌∷◌, ◌++◌, arith, add-one, div-add-mod', mod-lt, mul-le-mul_left}
 use Rattle.std.specs.Prelude.{◌≤ℤ◌, ◌<ℤ◌}
 use Rattle.std.specs.Int.{int_div_euclid}
 use Rattle.std.proofs.lemmas.Int.{ints}
 use Rattle.tt_core.specs.Numbers.{nearest_quotient}
 use Rattle.tt_core.specs.Products.{mul_assoc_z, mul_diff, mul_sum}
-use Rattle.tt_scan_edges.specs.declared.edge.Edge.{Edge}
 use Rattle.tt_arc.specs.declared.quadratic.Coordinates.{Coordinates}
 use Rattle.tt_arc.specs.declared.quadratic.Differences.{Differences}
 use Rattle.tt_arc.specs.declared.quadratic.EdgeEnd.{EdgeEnd}
@@ -229,7 +228,3 @@ pub one_chord_more : (n : ℕ) (c : Quadratic) (k : ℕ) → first_chords n c (k
     (chord_end n c (k + 1)) ∷ []
 unfolding first_chords
 one_chord_more n c k = rw add-one refl
-
-pub no_chord : (n : ℕ) (c : Quadratic) (es : List Edge) → es ++ first_chords n c 0 ≡ es
-unfolding first_chords
-no_chord n c es = append-nil es

@@ -1,21 +1,12 @@
 -- The edges of points on a tape, point by point.
-use Rattle.std.proofs.Common.{◌≡◌, ℕ, suc, ◌+◌, ◌-◌, ◌<◌, ◌≤◌, false, pos, List, [], ◌∷◌, ◌++◌, length, map, drop, get_or, refl, sym, ◌∙◌, arith, append_assoc, append-nil, length-drop, add-one, drop-cons}
+use Rattle.std.proofs.Common.{◌≡◌, ℕ, suc, ◌+◌, ◌-◌, ◌<◌, ◌≤◌, false, pos, List, [], ◌∷◌, ◌++◌, length, map, drop, get_or, refl, sym, ◌∙◌, arith, append-nil, length-drop, add-one, drop-cons}
 use Rattle.std.specs.List.{flat_map, range_with_len}
 use Rattle.std.proofs.lemmas.Bool.{lt-ltb}
 use Rattle.std.proofs.lemmas.List.{get_or-map}
 use Rattle.tt_scan_edges.specs.declared.edge.Edge.{Edge}
-use Rattle.tt_arc.specs.declared.quadratic.Quadratic.{Quadratic}
-use Rattle.tt_arc.specs.declared.quadratic.EdgeEnd.{EdgeEnd}
 use Rattle.tt_arc.specs.declared.point.PlacedPoint.{PlacedPoint}
 use Rattle.tt_arc.specs.declared.rule.ChordRule.{ChordRule}
-use Rattle.tt_arc.specs.Chords.{chord_end, edge_between, first_chords, edges_of, point_at, number_before, number_after, edges_at, contour_chords}
-use Rattle.tt_arc.proofs.Places.{one_chord_more}
-
-pub one_chord_pushed : (out old new : List Edge) (n : ℕ) (c : Quadratic) (k : ℕ) (from to : EdgeEnd) (e : Edge) → old
-    ≡ out ++ first_chords n c k → from ≡ chord_end n c k → to ≡ chord_end n c (k + 1) → e ≡ edge_between from to → new
-    ≡ old ++ e ∷ [] → new ≡ out ++ first_chords n c (k + 1)
-one_chord_pushed out old new n c k from to e before is_from is_to is_e after =
-    rw (after, before, is_e, is_from, is_to, one_chord_more n c k, append_assoc) refl
+use Rattle.tt_arc.specs.Chords.{edges_of, point_at, number_before, number_after, edges_at, contour_chords}
 
 -- the edges of a point and of the points after it, with one more point before them and one following
 abbrev pub edges_along : ChordRule → PlacedPoint → PlacedPoint → List PlacedPoint → PlacedPoint → List Edge
@@ -93,13 +84,13 @@ all_onward r ps two = let whole : length ps - 0 ≡ length ps = omega arith in r
 pub none_onward : (r : ChordRule) (ps : List PlacedPoint) (i : ℕ) → length ps ≤ i → edges_onward r ps i ≡ []
 none_onward r ps i past = let none : length ps - i ≡ 0 = omega arith in rw none refl
 
--- one point of a contour done
-pub one_point_more : (r : ChordRule) (ps : List PlacedPoint) (out new : List Edge) (i : ℕ) (before p after : PlacedPoint) → i < length ps → before
+-- the edges of one point, before those of the points after it
+pub one_point_first : (r : ChordRule) (ps : List PlacedPoint) (i : ℕ) (before p after : PlacedPoint) → i < length ps → before
     ≡ point_at ps (number_before (length ps) i) → p ≡ point_at ps i → after ≡ point_at ps (number_after (length ps) i)
-    → new ≡ out ++ edges_of r before p after → new ++ edges_onward r ps (i + 1) ≡ out ++ edges_onward r ps i
-one_point_more r ps out new i before p after below is_before is_p is_after is_new =
+    → edges_onward r ps i ≡ edges_of r before p after ++ edges_onward r ps (i + 1)
+one_point_first r ps i before p after below is_before is_p is_after =
     let more : length ps - i ≡ suc (length ps - (i + 1)) = omega arith in
-    rw (is_new, more, ← one_point r ps i before p after is_before is_p is_after, append_assoc) refl
+    rw (more, ← one_point r ps i before p after is_before is_p is_after) refl
 
 -- a point of a contour after its move
 pub point_is : {X : Type 0} (f : X → PlacedPoint) (xs : List X) (i : ℕ) (d : X) → i < length xs → f (get_or xs i d)

@@ -8,7 +8,7 @@ use Rattle.tt_arc.specs.declared.quadratic.Differences.{Differences}
 use Rattle.tt_arc.specs.declared.quadratic.EdgeEnd.{EdgeEnd}
 use Rattle.tt_arc.specs.declared.quadratic.Quadratic.{Quadratic}
 use Rattle.tt_arc.specs.declared.rule.ChordRule.{ChordRule}
-use Rattle.tt_arc.specs.Chords.{AreDifferences, CoordinatesFit, EdgeEndFits, along_x, along_y, chord_count, chord_end, is_part, signed_bend, sixteenfold}
+use Rattle.tt_arc.specs.Chords.{AreDifferences, CoordinatesFit, along_x, along_y, chord_count, chord_end, is_part, signed_bend, sixteenfold}
 use Rattle.tt_arc.proofs.Places.{begun, end_is, near, next_ok, value_within}
 
 past_eight : (n : ℕ) → 8 < n → is_part n ≡ true → ⊥
@@ -95,12 +95,6 @@ small v least = omega (arith, ints, least)
 pub value_small : (b : Coordinates) (h k : ℕ) (s : Differences) → CoordinatesFit b → h * k ≤ 32
     → AreDifferences b h k (sixteenfold s) → unsigned_abs s.value < 2 ^ 30
 value_small b h k s fits le is = small s.value (value_within b h k (sixteenfold s) fits le is)
-
-pub end_fits : (b d : Coordinates) (h k : ℕ) (x y : Differences) (s : EdgeEnd) → CoordinatesFit b → CoordinatesFit d
-    → h * k ≤ 32 → AreDifferences b h k (sixteenfold x) → AreDifferences d h k (sixteenfold y)
-    → s ≡ record { x = x.value; y = y.value } → EdgeEndFits s
-end_fits b d h k x y s fits also le is_x is_y is =
-    rw is (record { x = value_small b h k x fits le is_x; y = value_small d h k y also le is_y })
 
 pub sixteen_less : (v : ℤ) (most : ℕ) → unsigned_abs (pos 16 *ℤ v) < most → unsigned_abs v < most
 sixteen_less v most less = omega (arith, ints, less)

@@ -1,15 +1,17 @@
 //! The chords of a quadratic whose ends are whole in 1/8192 pixel: up to eight of them.
 
-ghost use Rattle.std.specs.Prelude.{◌≡◌, true, ◌+◌, ◌*◌, ◌^◌, ◌<◌, ◌≤◌, ◌++◌, pos, ◌-ℤ◌, ◌*ℤ◌, unsigned_abs, OnOk};
-ghost use Rattle.tt_arc.specs.Chords.{QuadraticFits, CoordinatesFit, AreDifferences, is_part, sixteenfold, chord_count, chords_by};
+ghost use Rattle.std.specs.Prelude.{◌≡◌, true, ◌+◌, ◌*◌, ◌^◌, ◌<◌, ◌≤◌, length, pos, ◌-ℤ◌, ◌*ℤ◌, unsigned_abs, OnOk};
+ghost use Rattle.tt_arc.specs.Chords.{QuadraticFits, CoordinatesFit, AreDifferences, EdgeEndFits, is_part, sixteenfold, chord_count, chords_by};
+ghost use Rattle.tt_arc.specs.Added.{AreAdded};
 
+use crate::joining::{SoFar, push_edge};
 use crate::quadratic::{
     Coordinates, Differences, EdgeEnd, Quadratic, along_x, along_y, chord_count, edge_between,
     next, push_rounded, signed_bend, times,
 };
 use crate::rule::ChordRule;
 use std::alloc::AllocError;
-use tt_scan::EdgeList;
+use tt_scan::{EdgeList, Last};
 
 /// The rise of a quadratic at its start, by an eighth of it, without its bend.
 #[inline(always)]
@@ -39,19 +41,22 @@ fn differences_at_start(coordinates: Coordinates, part: u32) -> Differences
 /// The end of a chord.
 #[inline(always)]
 fn edge_end(x: Differences, y: Differences) -> EdgeEnd
-    ensures { result ≡ record { x = x.value; y = y.value } }
+    requires x { unsigned_abs x.value < 2 ^ 30 }
+    requires y { unsigned_abs y.value < 2 ^ 30 }
+    ensures exact { result ≡ record { x = x.value; y = y.value } }
+    ensures valid { EdgeEndFits result }
 {
     EdgeEnd {
-        x: x.value,
-        y: y.value,
+        x: x.value as i32,
+        y: y.value as i32,
     }
 }
 
-/// Adds the chords of a quadratic, up to eight, to a list. Error: memory ran out.
+/// Adds the chords of a quadratic, up to eight, behind the last edge of a contour. Error: memory ran out.
 #[inline(always)]
-#[tactic(auto, using(crate::proofs::Places::no_chord))]
 fn push_exact(
     list: &mut EdgeList,
+    last: &mut Option<Last>,
     curve: Quadratic,
     rule: ChordRule,
     n: u32,
@@ -59,7 +64,7 @@ fn push_exact(
     requires curve { QuadraticFits curve }
     requires count { n ≡ chord_count rule curve }
     requires few { is_part n ≡ true }
-    ensures exact { OnOk result (list.new.edges ≡ list.old.edges ++ chords_by rule curve) }
+    ensures added { OnOk result (AreAdded rule list.old.edges last.old (chords_by rule curve) list.new.edges last.new) }
 {
     let part = 8 / n;
     list.reserve(n as usize)?;
@@ -70,29 +75,36 @@ fn push_exact(
         x = next(x);
         y = next(y);
         let to = edge_end(x, y);
-        list.push_reserved(edge_between(from, to));
+        push_edge(list, last, edge_between(from, to), rule);
         from = to;
     }
     Ok(())
 }
 
-/// Adds the chords of a quadratic to a list. Up to eight have exact ends, and the places of 16 and of 32 are rounded.
-/// Error: memory ran out.
+/// Adds the chords of a quadratic behind a contour's edges so far. Up to eight have exact ends, and the places of 16 and
+/// of 32 are rounded. Error: memory ran out.
 #[inline(always)]
+#[tactic(auto, using(crate::proofs::Few::chords_counted_by))]
 pub(crate) fn push_chords(
     list: &mut EdgeList,
+    so_far: &mut SoFar,
     curve: Quadratic,
     rule: ChordRule,
 ) -> Result<(), AllocError>
-    requires { QuadraticFits curve }
-    ensures exact { OnOk result (list.new.edges ≡ list.old.edges ++ chords_by rule curve) }
+    requires curve { QuadraticFits curve }
+    requires few { so_far.old.chords < 2 ^ 63 }
+    ensures added { OnOk result (AreAdded rule list.old.edges so_far.old.last (chords_by rule curve) list.new.edges so_far.new.last) }
+    ensures chords { OnOk result (so_far.new.chords ≡ so_far.old.chords + length (chords_by rule curve)) }
 {
+    let count = chord_count(curve, rule);
+    so_far.chords += count as usize;
+    let last = &mut so_far.last;
     // The counts are constants here, so that the compiler writes out each loop.
-    match chord_count(curve, rule) {
-        8 => push_exact(list, curve, rule, 8),
-        4 => push_exact(list, curve, rule, 4),
-        2 => push_exact(list, curve, rule, 2),
-        1 => push_exact(list, curve, rule, 1),
-        n => push_rounded(list, curve, rule, n),
+    match count {
+        8 => push_exact(list, last, curve, rule, 8),
+        4 => push_exact(list, last, curve, rule, 4),
+        2 => push_exact(list, last, curve, rule, 2),
+        1 => push_exact(list, last, curve, rule, 1),
+        n => push_rounded(list, last, curve, rule, n),
     }
 }

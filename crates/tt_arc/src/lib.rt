@@ -4,6 +4,7 @@
 mod bounds;
 mod contour;
 mod exact;
+mod joining;
 pub mod laws;
 mod outline;
 mod point;

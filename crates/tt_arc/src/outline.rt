@@ -1,6 +1,6 @@
 //! The edges of an outline, as a list and on a tape.
 
-ghost use Rattle.std.specs.Prelude.{◌≡◌, ◌+◌, ◌*◌, ◌^◌, ◌≤◌, ◌++◌, true, [], ◌∷◌, length, map, if◌then◌else◌, All, IfOk, OnOk};
+ghost use Rattle.std.specs.Prelude.{◌≡◌, ◌+◌, ◌*◌, ◌^◌, ◌<◌, ◌≤◌, ◌++◌, true, [], ◌∷◌, length, map, if◌then◌else◌, All, IfOk, OnOk};
 ghost use Rattle.tt_fit_outline.specs.Outline.{AreEnds};
 ghost use Rattle.tt_scan.specs.Contours.{contours_at, AreEnds as AreEdgeEnds};
 ghost use Rattle.tt_scan_edges.specs.Winding.{FrameFits};
@@ -33,6 +33,7 @@ fn push_one(
     with_ends: bool,
 ) -> Result<(), AllocError>
     requires near { All (IsNear by.dx by.dy) points.now }
+    requires points { length points.now < 2 ^ 32 }
     requires few { made.old.chords ≤ 2 ^ 37 }
     ensures exact { OnOk result (made.new.list.edges ≡ made.old.list.edges ++ contour_edges rule (map (moved by.dx by.dy) points.now)) }
     ensures ends { OnOk result (made.new.ends.items

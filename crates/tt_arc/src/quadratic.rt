@@ -14,15 +14,17 @@
 //! Each value follows from the preceding one by sums alone. The sums take its first difference, and the second
 //! difference, which is constant (`Differences`). The ends of up to eight chords need no rounding: exact.rt.
 
-ghost use Rattle.std.specs.Prelude.{◌≡◌, ◌+◌, ◌*◌, ◌^◌, ◌<◌, ◌≤◌, ◌++◌, pos, ◌+ℤ◌, ◌-ℤ◌, ◌*ℤ◌, unsigned_abs, OnOk};
+ghost use Rattle.std.specs.Prelude.{◌≡◌, ◌+◌, ◌*◌, ◌^◌, ◌<◌, ◌≤◌, pos, ◌+ℤ◌, ◌-ℤ◌, ◌*ℤ◌, unsigned_abs, OnOk};
 ghost use Rattle.tt_core.specs.Numbers.{nearest_quotient};
 ghost use Rattle.tt_scan_edges.specs.Winding.{EdgeFits};
 ghost use Rattle.tt_arc.specs.Chords.{PointFits, CurveEndFits, QuadraticFits, CoordinatesFit, EdgeEndFits, AreDifferences, along_x, along_y, curve_end_of, quadratic_of, signed_bend, chords_of_bend, chord_count, chords_by, edge_between};
+ghost use Rattle.tt_arc.specs.Added.{AreAdded};
 
+use crate::joining::push_edge;
 use crate::point::{Corner, PlacedPoint};
 use crate::rule::ChordRule;
 use std::alloc::AllocError;
-use tt_scan::{Edge, EdgeList};
+use tt_scan::{Edge, EdgeList, Last};
 
 /// An end of a quadratic, in 1/128 pixel.
 #[derive(Clone, Copy)]
@@ -223,19 +225,19 @@ pub(crate) fn next(s: Differences) -> Differences
 #[derive(Clone, Copy)]
 pub(crate) struct EdgeEnd {
     /// To the right of the picture's left edge.
-    pub(crate) x: i64,
+    pub(crate) x: i32,
     /// Above the base line.
-    pub(crate) y: i64,
+    pub(crate) y: i32,
 }
 
 /// A place in 1/131072 pixel, rounded to 1/8192 pixel; a half goes up.
 #[inline(always)]
-fn rounded(place: i64) -> i64
+fn rounded(place: i64) -> i32
     requires { unsigned_abs place + 2 ^ 11 ≤ 2 ^ 34 }
     ensures exact { result ≡ nearest_quotient (pos 64 *ℤ place) (pos 1024) }
     ensures bound { unsigned_abs result < 2 ^ 30 }
 {
-    (place + 8).div_euclid(16)
+    ((place + 8) >> 4) as i32
 }
 
 /// The rounded end of a chord.
@@ -264,25 +266,25 @@ pub(crate) fn edge_between(a: EdgeEnd, b: EdgeEnd) -> Edge
     ensures valid { EdgeFits result }
 {
     Edge {
-        ax: a.x as i32,
-        ay: a.y as i32,
-        bx: b.x as i32,
-        by: b.y as i32,
+        ax: a.x,
+        ay: a.y,
+        bx: b.x,
+        by: b.y,
     }
 }
 
-/// Adds the chords of a quadratic to a list, with rounded ends. Error: memory ran out.
+/// Adds the chords of a quadratic behind the last edge of a contour, with rounded ends. Error: memory ran out.
 #[inline(always)]
-#[tactic(auto, using(crate::proofs::Places::no_chord))]
 pub(crate) fn push_rounded(
     list: &mut EdgeList,
+    last: &mut Option<Last>,
     curve: Quadratic,
     rule: ChordRule,
     n: u32,
 ) -> Result<(), AllocError>
     requires curve { QuadraticFits curve }
     requires count { n ≡ chord_count rule curve }
-    ensures exact { OnOk result (list.new.edges ≡ list.old.edges ++ chords_by rule curve) }
+    ensures added { OnOk result (AreAdded rule list.old.edges last.old (chords_by rule curve) list.new.edges last.new) }
 {
     let step = 32 / n;
     list.reserve(n as usize)?;
@@ -293,7 +295,7 @@ pub(crate) fn push_rounded(
         x = next(x);
         y = next(y);
         let to = edge_end(x, y);
-        list.push_reserved(edge_between(from, to));
+        push_edge(list, last, edge_between(from, to), rule);
         from = to;
     }
     Ok(())

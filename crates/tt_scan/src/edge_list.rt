@@ -1,8 +1,7 @@
 //! The edges of one glyph while they are made. Their rows are not known yet: `Tape::of` finds the rows of all at once.
 
-ghost use Rattle.std.specs.Prelude.{◌≡◌, ℤ, false, ◌+◌, ◌^◌, ◌<◌, ◌≤◌, ◌≤ℤ◌, unsigned_abs, length, take, drop, [], ◌∷◌, ◌++◌, IfSome, OnOk};
+ghost use Rattle.std.specs.Prelude.{◌≡◌, ℤ, false, ◌+◌, ◌^◌, ◌<◌, ◌≤◌, ◌≤ℤ◌, unsigned_abs, length, [], ◌∷◌, ◌++◌, IfSome, OnOk};
 ghost use Rattle.tt_scan_edges.specs.Crossing.{spans};
-ghost use Rattle.tt_scan_edges.specs.Joined.{joined};
 ghost use Rattle.tt_scan.specs.EdgeList.{heights_of, heights_with};
 ghost use Rattle.tt_scan_edges.specs.Winding.{EdgeFits, is_black};
 
@@ -77,15 +76,6 @@ impl EdgeList {
         ensures small { result < 2 ^ 63 }
     {
         self.edges.len()
-    }
-
-    /// Joins the edges from edge `start` on, where they meet no line. They are the edges of one contour. A method (for the
-    /// prover): it keeps the invariant, so no caller proves it.
-    pub fn join_from(&mut self, start: usize)
-        requires { start ≤ length self.old.edges }
-        ensures { self.new.edges ≡ take start self.old.edges ++ joined (drop start self.old.edges) }
-    {
-        self.edges.join_from(start);
     }
 
     /// The least and the greatest height of the ends of all edges, in 1/8192 pixel; None where there are no edges.

@@ -33,5 +33,5 @@ pub use row::row_into;
 pub use stamp::paint_columns;
 pub use sweep::Sweep;
 pub use tape::Tape;
-pub use tt_scan_edges::{Cross, Edge, Frame, Span, bounds_of};
+pub use tt_scan_edges::{Cross, Edge, Frame, Last, Span, bounds_of};
 pub use word::Stamp;

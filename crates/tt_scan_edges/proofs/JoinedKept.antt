@@ -1,15 +1,14 @@
--- Joined edges blacken what the edges blacken, and meet the rows that the edges meet. They fit, and are no more.
+-- Joined edges blacken what the edges blacken, and meet the rows that the edges meet. There are no more of them.
 use Rattle.std.proofs.Common.{◌≡◌, ◌∙◌, sym, refl, ap, ap₂, ℕ, suc, ◌+◌, ◌≤◌, Bool, true, false, ◌||◌, not, if◌then◌else◌, List, [], ◌∷◌, length, inl, inr, sum_by, arith}
-use Rattle.std.specs.Prelude.{All, ℤ, pos, ◌+ℤ◌, ◌-ℤ◌}
+use Rattle.std.specs.Prelude.{ℤ, pos, ◌+ℤ◌, ◌-ℤ◌}
 use Rattle.std.specs.List.{range_with_len}
 use Rattle.std.proofs.lemmas.Bool.{cases_Bool}
 use Rattle.std.proofs.lemmas.Int.{ints}
 use Rattle.std.proofs.lemmas.List.Sums.{sum_by-cons}
-use Rattle.std.proofs.lemmas.List.Elements.{All-cons, All-head, All-tail}
 use Rattle.tt_scan_edges.specs.declared.edge.Edge.{Edge}
 use Rattle.tt_scan_edges.specs.declared.edge.Frame.{Frame}
 use Rattle.tt_scan_edges.specs.Joined.{join, joined, joined_from, joins, line_at}
-use Rattle.tt_scan_edges.specs.Winding.{EdgeFits, is_between, is_zero, lies_on, lies_on_one, row_y, rows_met, turned, winding}
+use Rattle.tt_scan_edges.specs.Winding.{is_between, is_zero, lies_on, lies_on_one, row_y, rows_met, turned, winding}
 use Rattle.tt_scan_edges.specs.Laws.{JoinedBlackenAlike, JoinedMeetAlike, JoinedCrossAlike}
 use Rattle.tt_scan_edges.proofs.Joins.{folded, folded_joined, not_on, not_turned, off_rows}
 
@@ -88,24 +87,7 @@ cross_alike f es = same_sums (λ row. rows_met (joined es) (row_y f (pos row))) 
     (λ row. let is = row_is_line f (pos row) in rw is (meet_alike es (((f.rise +ℤ pos f.margin) -ℤ pos row) -ℤ pos 1)))
     (range_with_len 0 f.height)
 
--- they fit
-fit_from : (e : Edge) (fs : List Edge) → All EdgeFits (e ∷ fs) → All EdgeFits (joined_from e fs)
-fit_from e [] fit = fit
-fit_from e (f ∷ fs) fit =
-    let one = All-head EdgeFits e (f ∷ fs) fit in
-    let rest = All-tail EdgeFits e (f ∷ fs) fit in
-    let two = All-head EdgeFits f fs rest in
-    elim (cases_Bool (joins e f)) [
-      | inl is ↦ rw is (fit_from (join e f) fs (All-cons EdgeFits (join e f) fs
-          (record { ax = one.ax; ay = one.ay; bx = two.bx; by = two.by }) (All-tail EdgeFits f fs rest)))
-      | inr other ↦ rw other (All-cons EdgeFits e (joined_from f fs) one (fit_from f fs rest))
-    ]
-
-pub joined_fit : (es : List Edge) → All EdgeFits es → All EdgeFits (joined es)
-joined_fit [] fit = fit
-joined_fit (e ∷ es) fit = fit_from e es fit
-
--- they are no more
+-- there are no more of them
 fewer_from : (e : Edge) (fs : List Edge) → length (joined_from e fs) ≤ suc (length fs)
 fewer_from e [] = omega arith
 fewer_from e (f ∷ fs) = elim (cases_Bool (joins e f)) [

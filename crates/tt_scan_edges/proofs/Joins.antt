@@ -1,11 +1,10 @@
 -- Edges of a contour joined, one after another, and what remains true of them.
-use Rattle.std.proofs.Common.{◌≡◌, ℕ, ◌+◌, ◌<◌, ◌≤◌, Bool, true, false, ◌&&◌, List, [], ◌∷◌, ◌++◌, length, take, drop, get_or, set, inl, inr, refl, sym, ap, ◌∙◌, arith, add-one, append_assoc, drop-cons}
+use Rattle.std.proofs.Common.{◌≡◌, Bool, true, false, ◌&&◌, List, [], ◌∷◌, inl, inr, refl, sym, ap, ◌∙◌, arith}
 use Rattle.std.specs.Prelude.{◌≢◌, not, if◌then◌else◌, ℤ, pos, negsuc, ◌+ℤ◌, ◌-ℤ◌, ◌*ℤ◌, ◌≤ℤ◌, ◌<ℤ◌, int_le, int_lt}
 use Rattle.std.specs.Int.{int_div_euclid, int_rem_euclid}
 use Rattle.std.specs.Ordering.{int_eq}
 use Rattle.std.proofs.lemmas.Bool.{cases_Bool}
 use Rattle.std.proofs.lemmas.Int.{ints, by_lt_z}
-use Rattle.std.proofs.lemmas.List.{take_more_set, drop-set-lt, drop_all}
 use Rattle.tt_scan_edges.specs.declared.edge.Edge.{Edge}
 use Rattle.tt_scan_edges.specs.Joined.{goes_on, is_clear, join, joined, joined_from, joins, leads_to, lies_on_line, line_at, line_below, meets_none}
 use Rattle.tt_scan_edges.specs.Winding.{is_between, is_zero, lies_on, side, turned}
@@ -25,39 +24,6 @@ none_of_three : (a b : Bool) → (a && b && false) ≡ false
 none_of_three true true = refl
 none_of_three true false = refl
 none_of_three false b = refl
-
--- the first edge is the last so far
-pub begun : (es : List Edge) (start : ℕ) (d : Edge) → start < length es
-    → take start es ++ joined_from (get_or es start d) (drop (start + 1) es) ≡ take start es ++ joined (drop start es)
-begun es start d below = rw (add-one, drop-cons es start d below) refl
-
--- the next edge is joined to the last, or the last is kept
-pub one_joined : (es whole : List Edge) (kept i : ℕ) (last next d : Edge) → i < length es → next ≡ get_or es i d
-    → joins last next ≡ true → take kept es ++ joined_from last (drop i es) ≡ whole
-    → take kept es ++ joined_from (join last next) (drop (i + 1) es) ≡ whole
-one_joined es whole kept i last next d below is_next is was =
-    let rest : drop i es ≡ next ∷ drop (i + 1) es = rw (is_next, add-one) (drop-cons es i d below) in
-    let step : joined_from last (drop i es) ≡ joined_from (join last next) (drop (i + 1) es) =
-    ap (joined_from last) rest ∙ next_joined last next (drop (i + 1) es) is in
-    ap (λ fs. take kept es ++ fs) (sym step) ∙ was
-
-pub one_kept : (es whole : List Edge) (kept i : ℕ) (last next d : Edge) → i < length es → kept < i → next ≡ get_or es i d
-    → joins last next ≡ false → take kept es ++ joined_from last (drop i es) ≡ whole
-    → take (kept + 1) (set es kept last) ++ joined_from next (drop (i + 1) (set es kept last)) ≡ whole
-one_kept es whole kept i last next d below before is_next is was =
-    let rest : drop i es ≡ next ∷ drop (i + 1) es = rw (is_next, add-one) (drop-cons es i d below) in
-    let step : joined_from last (drop i es) ≡ last ∷ joined_from next (drop (i + 1) es) =
-    ap (joined_from last) rest ∙ next_kept last next (drop (i + 1) es) is in
-    let front : take (kept + 1) (set es kept last) ≡ take kept es ++ last ∷ [] = take_more_set es kept last (omega arith) in
-    let back : drop (i + 1) (set es kept last) ≡ drop (i + 1) es = drop-set-lt (i + 1) es kept last (omega arith) in
-    rw (front, back, append_assoc) (ap (λ fs. take kept es ++ fs) (sym step) ∙ was)
-
--- no edge is left
-pub all_joined : (es whole : List Edge) (kept i : ℕ) (last : Edge) → length es ≤ i → kept < length es
-    → take kept es ++ joined_from last (drop i es) ≡ whole → take (kept + 1) (set es kept last) ≡ whole
-all_joined es whole kept i last past before was =
-    let none : drop i es ≡ [] = drop_all i es past in
-    take_more_set es kept last before ∙ (rw none at was)
 
 -- what a test says
 eq_of : (a b : ℤ) → int_eq a b ≡ true → a ≡ b

@@ -2,18 +2,16 @@
 //! edge's columns at a height, and each call counts. `lend` lends the edges to those who need their rows, and to dropout
 //! control.
 
-ghost use Rattle.std.specs.Prelude.{◌≡◌, true, ◌+◌, ◌^◌, ◌≢◌, pos, ◌<◌, ◌≤◌, length, take, drop, [], ◌∷◌, ◌++◌, All, IfOk, OnOk};
+ghost use Rattle.std.specs.Prelude.{◌≡◌, true, ◌+◌, ◌^◌, ◌≢◌, pos, ◌<◌, ◌≤◌, length, [], ◌∷◌, ◌++◌, All, IfOk, OnOk};
 ghost use Rattle.tt_scan_edges.specs.Counted.{edge_at};
 ghost use Rattle.tt_scan_edges.specs.Crossing.{IsCross};
 ghost use Rattle.tt_scan_edges.specs.Entries.{edge_of};
-ghost use Rattle.tt_scan_edges.specs.Joined.{joined};
 ghost use Rattle.tt_scan_edges.specs.Walks.{GoesBelow, IsWalk};
 ghost use Rattle.tt_scan_edges.specs.Winding.{EdgeFits, is_between};
 
 use crate::crossing::{crossing, crossing_met};
 use crate::edge::{Cross, Edge};
 use crate::entry::Entry;
-use crate::join::join_all;
 use crate::row_at::RowAt;
 use crate::walk::Walk;
 use std::alloc::{AllocError, Global};
@@ -68,16 +66,6 @@ impl CountedEdges {
         ensures { self.new ≡ record self.old { edges = self.old.edges ++ edge ∷ [] } }
     {
         self.edges.push_reserved(edge);
-    }
-
-    /// Joins the edges from edge `start` on, where they meet no line.
-    pub fn join_from(&mut self, start: usize)
-        requires { start ≤ length self.old.edges }
-        ensures edges { self.new.edges ≡ take start self.old.edges ++ joined (drop start self.old.edges) }
-        ensures crosses { self.new.crosses ≡ self.old.crosses }
-    {
-        let kept = join_all(&mut self.edges, start);
-        self.edges.truncate(kept);
     }
 
     /// A copy of the edges, with a count of 0. Error: memory ran out.

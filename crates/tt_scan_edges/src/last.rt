@@ -1,10 +1,9 @@
 //! The last edge of those joined so far, and whether the next is joined to it.
 
 ghost use Rattle.std.specs.Prelude.{◌≡◌, ◌&&◌, ◌^◌, ◌<◌, ◌+ℤ◌, pos, int_lt, unsigned_abs, true};
-ghost use Rattle.tt_scan_edges.specs.Winding.{is_between};
+ghost use Rattle.tt_scan_edges.specs.Winding.{EdgeFits, is_between};
 ghost use Rattle.tt_scan_edges.specs.Joined.{IsTest, goes_on, is_clear, join, joins, leads_to, line_at, line_below};
 
-use crate::crossing::is_between;
 use crate::edge::Edge;
 use crate::quotient::{HALF, PIXEL};
 use std::marker::Model;
@@ -36,7 +35,8 @@ fn is_past(v: i32, line: i64) -> bool
     requires { unsigned_abs line < 2 ^ 41 }
     ensures { result ≡ (int_lt line v && int_lt v (line +ℤ pos 8192)) }
 {
-    line < i64::from(v) && i64::from(v) < line + PIXEL
+    let past = i64::from(v) - line;
+    0 < past && past < PIXEL
 }
 
 /// Whether an edge ends where another begins.
@@ -65,7 +65,7 @@ fn join(edge: Edge, next: Edge) -> Edge
 fn lies_between(a: i32, b: i32, z: i32) -> bool
     ensures { result ≡ is_between a b z }
 {
-    is_between(i64::from(a), i64::from(b), i64::from(z))
+    a.min(b) <= z && z <= a.max(b)
 }
 
 /// Whether x and y of an edge's end lie between those of its start and those of the next edge's end.
@@ -78,7 +78,7 @@ fn goes_on(edge: Edge, next: Edge) -> bool
 
 /// An edge, with the lines below its start: two compares an axis then show whether the edge to another place meets none.
 #[derive(Drop)]
-pub(crate) struct Last {
+pub struct Last {
     edge: Edge,
     across: i64,
     up: i64,
@@ -86,18 +86,21 @@ pub(crate) struct Last {
 
 impl Model for Last {
     ghost use Rattle.tt_scan_edges.specs.Joined as joined;
+    ghost use Rattle.tt_scan_edges.specs.Winding.{EdgeFits};
     ghost use Rattle.tt_scan_edges.specs.declared.edge.Edge as declared;
 
     ghost Value = { declared.Edge };
 
     ghost view = { λ l. l.edge };
 
-    ghost invariant = { λ l. joined.IsTest l.edge.ax l.across × joined.IsTest l.edge.ay l.up };
+    ghost invariant = { λ l. joined.IsTest l.edge.ax l.across × joined.IsTest l.edge.ay l.up × EdgeFits l.edge };
 }
 
 impl Last {
+    /// An edge that the next one may be joined to.
     #[inline(always)]
-    pub(crate) fn new(edge: Edge) -> Last
+    pub fn new(edge: Edge) -> Last
+        requires { EdgeFits edge }
         ensures { result ≡ edge }
     {
         Last {
@@ -107,9 +110,11 @@ impl Last {
         }
     }
 
+    /// The edge.
     #[inline(always)]
-    pub(crate) fn edge(&self) -> Edge
-        ensures { result ≡ self.now }
+    pub fn edge(&self) -> Edge
+        ensures exact { result ≡ self.now }
+        ensures fits { EdgeFits result }
     {
         self.edge
     }
@@ -124,17 +129,22 @@ impl Last {
 
     /// Whether the next edge is joined to this one.
     #[inline(always)]
-    pub(crate) fn joins(&self, next: Edge) -> bool
+    pub fn joins(&self, next: Edge) -> bool
         ensures { result ≡ joins self.now next }
     {
-        leads_to(self.edge, next) && (self.is_clear(next) && goes_on(self.edge, next))
+        self.is_clear(next) && (goes_on(self.edge, next) && leads_to(self.edge, next))
     }
 
     /// This edge with the next joined to it.
     #[inline(always)]
-    pub(crate) fn join(&mut self, next: Edge)
-        ensures { self.new ≡ join self.old next }
+    pub fn joined(self, next: Edge) -> Last
+        requires { EdgeFits next }
+        ensures { result ≡ join self next }
     {
-        self.edge = join(self.edge, next);
+        Last {
+            edge: join(self.edge, next),
+            across: self.across,
+            up: self.up,
+        }
     }
 }

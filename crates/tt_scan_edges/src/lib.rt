@@ -15,7 +15,7 @@
 //! mark.rt        a mark, and a span
 //! stretch.rt     the marks in order of their columns, and black spans where their sum isn't 0 (rule 1)
 //! insertion.rt   sorting marks and walks, which are nearly in order
-//! join.rt        edges of a contour that meet no line, joined; last.rt has the last of them
+//! last.rt        the last edge of a contour so far, and whether the next is joined to it
 //! laws.rt        joined edges blacken what the edges do
 //! bounds.rt      the least and the greatest black column
 //! ```
@@ -29,7 +29,6 @@ mod crossing;
 mod edge;
 mod entry;
 mod insertion;
-mod join;
 mod last;
 pub mod laws;
 mod left;
@@ -45,6 +44,7 @@ pub use bounds::bounds_of;
 pub use counted::CountedEdges;
 pub use edge::{Cross, Edge, Frame};
 pub use entry::Entry;
+pub use last::Last;
 pub use left::RowLeft;
 pub use mark::Span;
 pub use row_at::RowAt;

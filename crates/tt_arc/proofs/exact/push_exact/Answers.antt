@@ -1,8 +1,8 @@
-use Rattle.std.proofs.Common.{◌≡◌, ◌+◌, ◌*◌, ◌/◌, ◌^◌, ◌<◌, refl, arith, length-append}
+use Rattle.std.proofs.Common.{◌≡◌, ◌+◌, ◌*◌, ◌/◌, ◌^◌, ◌<◌, refl, arith}
 use Rattle.tt_arc.specs.Chords.{AreDifferences, along_x, along_y, chord_count, sixteenfold}
-use Rattle.tt_arc.proofs.Whole.{end_fits, exact_end, exact_next, part_of_count, sixteen_less, sixteen_within, step_of_count, value_small}
-use Rattle.tt_arc.proofs.Places.{coordinates_x, coordinates_y, first_ok, no_chord, room, second_ok}
-use Rattle.tt_arc.proofs.Walks.{one_chord_pushed}
+use Rattle.tt_arc.proofs.Whole.{exact_end, exact_next, part_of_count, sixteen_less, sixteen_within, step_of_count, value_small}
+use Rattle.tt_arc.proofs.Places.{coordinates_x, coordinates_y, first_ok, room, second_ok}
+use Rattle.tt_arc.proofs.Added.{none_yet, one_chord_added}
 use Rattle.tt_arc.proofs.exact.push_exact.Goals as goal
 
 pub next-x-requires-clause-value : goal.next-x-requires-clause-value
@@ -59,19 +59,43 @@ differences_at_start-y-requires-clause-coordinates c = rw c.along_y.ensures (coo
 pub differences_at_start-y-requires-clause-part : goal.differences_at_start-y-requires-clause-part
 differences_at_start-y-requires-clause-part c = part_of_count c.args.n c.requires.few
 
-pub edge_between-requires-clause-b : goal.edge_between-requires-clause-b
-edge_between-requires-clause-b c =
+pub edge_end-from-requires-clause-x : goal.edge_end-from-requires-clause-x
+edge_end-from-requires-clause-x c =
+    let r = c.args.rule in
+    let q = c.args.curve in
+    let step : 4 * (8 / c.args.n) ≡ 32 / chord_count r q = rw (step_of_count c.args.n c.requires.few, c.requires.count) refl in
+    let at : AreDifferences (along_x q) (32 / chord_count r q) 0 (sixteenfold c.differences_at_start-x.result) =
+    rw (c.along_x.ensures, step) at c.differences_at_start-x.ensures in
+    value_small (along_x q) (32 / chord_count r q) 0 c.differences_at_start-x.result (coordinates_x q c.requires.curve) (omega arith) at
+
+pub edge_end-to-requires-clause-x : goal.edge_end-to-requires-clause-x
+edge_end-to-requires-clause-x c =
     let r = c.args.rule in
     let q = c.args.curve in
     let below : c.loop-k.k < chord_count r q = rw c.requires.count at c.loop-k-test.true in
-    let inv = c.loop-k.invariant in
-    let x = exact_next r q c.loop-k.k (along_x q) c.loop-k.x c.next-x.result (coordinates_x q c.requires.curve) below inv.x
+    let fits = coordinates_x q c.requires.curve in
+    let at = exact_next r q c.loop-k.k (along_x q) c.loop-k.x c.next-x.result fits below c.loop-k.invariant.x
     c.next-x.ensures.value c.next-x.ensures.first c.next-x.ensures.second in
-    let y = exact_next r q c.loop-k.k (along_y q) c.loop-k.y c.next-y.result (coordinates_y q c.requires.curve) below inv.y
+    value_small (along_x q) (32 / chord_count r q) (c.loop-k.k + 1) c.next-x.result fits (room r q (c.loop-k.k + 1) (omega (arith, below))) at
+
+pub edge_end-from-requires-clause-y : goal.edge_end-from-requires-clause-y
+edge_end-from-requires-clause-y c =
+    let r = c.args.rule in
+    let q = c.args.curve in
+    let step : 4 * (8 / c.args.n) ≡ 32 / chord_count r q = rw (step_of_count c.args.n c.requires.few, c.requires.count) refl in
+    let at : AreDifferences (along_y q) (32 / chord_count r q) 0 (sixteenfold c.differences_at_start-y.result) =
+    rw (c.along_y.ensures, step) at c.differences_at_start-y.ensures in
+    value_small (along_y q) (32 / chord_count r q) 0 c.differences_at_start-y.result (coordinates_y q c.requires.curve) (omega arith) at
+
+pub edge_end-to-requires-clause-y : goal.edge_end-to-requires-clause-y
+edge_end-to-requires-clause-y c =
+    let r = c.args.rule in
+    let q = c.args.curve in
+    let below : c.loop-k.k < chord_count r q = rw c.requires.count at c.loop-k-test.true in
+    let fits = coordinates_y q c.requires.curve in
+    let at = exact_next r q c.loop-k.k (along_y q) c.loop-k.y c.next-y.result fits below c.loop-k.invariant.y
     c.next-y.ensures.value c.next-y.ensures.first c.next-y.ensures.second in
-    end_fits (along_x q) (along_y q) (32 / chord_count r q) (c.loop-k.k + 1) c.next-x.result c.next-y.result c.edge_end-to.result
-    (coordinates_x q c.requires.curve) (coordinates_y q c.requires.curve) (room r q (c.loop-k.k + 1) (omega (arith, below))) x y
-    c.edge_end-to.ensures
+    value_small (along_y q) (32 / chord_count r q) (c.loop-k.k + 1) c.next-y.result fits (room r q (c.loop-k.k + 1) (omega (arith, below))) at
 
 pub loop-k-init : goal.loop-k-init
 loop-k-init c =
@@ -82,13 +106,12 @@ loop-k-init c =
     rw (c.along_x.ensures, step) at c.differences_at_start-x.ensures in
     let y : AreDifferences (along_y q) (32 / chord_count r q) 0 (sixteenfold c.differences_at_start-y.result) =
     rw (c.along_y.ensures, step) at c.differences_at_start-y.ensures in record {
-      pushed = rw (no_chord (chord_count r q) q c.args.list.now.edges) c.reserve.ensures.edges;
+      added = rw c.reserve.ensures.edges (none_yet r c.args.list.now.edges c.args.last.now (chord_count r q) q);
       room = omega (arith, c.in_ok-reserve.ensures.room);
       x = x;
       y = y;
-      from = exact_end r q 0 c.differences_at_start-x.result c.differences_at_start-y.result c.edge_end-from.result (omega arith) x y c.edge_end-from.ensures;
-      fits = end_fits (along_x q) (along_y q) (32 / chord_count r q) 0 c.differences_at_start-x.result c.differences_at_start-y.result
-          c.edge_end-from.result (coordinates_x q c.requires.curve) (coordinates_y q c.requires.curve) (omega arith) x y c.edge_end-from.ensures;
+      from = exact_end r q 0 c.differences_at_start-x.result c.differences_at_start-y.result c.edge_end-from.result (omega arith) x y c.edge_end-from.ensures.exact;
+      fits = c.edge_end-from.ensures.valid;
     }
 
 pub loop-k-preserved : goal.loop-k-preserved
@@ -101,15 +124,13 @@ loop-k-preserved c =
     c.next-x.ensures.value c.next-x.ensures.first c.next-x.ensures.second in
     let y = exact_next r q c.loop-k.k (along_y q) c.loop-k.y c.next-y.result (coordinates_y q c.requires.curve) below inv.y
     c.next-y.ensures.value c.next-y.ensures.first c.next-y.ensures.second in
-    let at = exact_end r q (c.loop-k.k + 1) c.next-x.result c.next-y.result c.edge_end-to.result (omega (arith, below)) x y c.edge_end-to.ensures in record {
-      pushed = one_chord_pushed c.args.list.now.edges c.loop-k.list.edges c.push_reserved.new.self.edges (chord_count r q) q
-          c.loop-k.k c.loop-k.from c.edge_end-to.result c.edge_between.result inv.pushed
-          inv.from at c.edge_between.ensures.exact (rw c.push_reserved.ensures refl);
-      room = rw c.push_reserved.ensures (simp length-append (omega (arith, inv.room)));
+    let at = exact_end r q (c.loop-k.k + 1) c.next-x.result c.next-y.result c.edge_end-to.result (omega (arith, below)) x y c.edge_end-to.ensures.exact in record {
+      added = one_chord_added r c.args.list.now.edges c.loop-k.list.edges c.push_edge.new.list.edges c.args.last.now c.loop-k.last
+          c.push_edge.new.last (chord_count r q) q c.loop-k.k c.loop-k.from c.edge_end-to.result c.edge_between.result inv.added
+          inv.from at c.edge_between.ensures.exact c.push_edge.ensures.added;
+      room = rw c.push_edge.ensures.capacity (omega (arith, inv.room, c.push_edge.ensures.one));
       x = x;
       y = y;
       from = at;
-      fits = end_fits (along_x q) (along_y q) (32 / chord_count r q) (c.loop-k.k + 1) c.next-x.result c.next-y.result
-          c.edge_end-to.result (coordinates_x q c.requires.curve) (coordinates_y q c.requires.curve)
-          (room r q (c.loop-k.k + 1) (omega (arith, below))) x y c.edge_end-to.ensures;
+      fits = c.edge_end-to.ensures.valid;
     }

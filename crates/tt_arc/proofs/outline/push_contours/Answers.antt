@@ -1,5 +1,6 @@
-use Rattle.std.proofs.Common.{◌≤◌, length, map, Fits, w32, refl, sym, ap, ◌∙◌, rules, arith, add-one}
+use Rattle.std.proofs.Common.{◌-◌, ◌≤◌, drop, length, map, Fits, w32, refl, sym, ap, ◌∙◌, rules, arith, add-one}
 use Rattle.std.specs.List.{slice_index}
+use Rattle.std.proofs.lemmas.List.{length-take}
 use Rattle.tt_arc.specs.Chords.{IsNear, contour_chords, moved}
 use Rattle.tt_arc.specs.Ends.{ends_from}
 use Rattle.tt_arc.proofs.Contours.{all_left, all_of_slice, one_contour_more, slice_of_map, start_within}
@@ -19,6 +20,14 @@ pub push_one-requires-clause-near : goal.push_one-requires-clause-near
 push_one-requires-clause-near c =
     all_of_slice (IsNear c.args.by.dx c.args.by.dy) c.args.points.now c.loop-end.from
     (slice_index c.args.ends.now c.loop-end.end-index) c.requires.near
+
+pub push_one-requires-clause-points : goal.push_one-requires-clause-points
+push_one-requires-clause-points c =
+    let from = c.loop-end.from in
+    let to = slice_index c.args.ends.now c.loop-end.end-index in
+    let small : Fits w32 to = search rules in
+    let short = length-take (to - from) (drop from c.args.points.now) in
+    omega (arith, small, short)
 
 pub push_one-requires-clause-few : goal.push_one-requires-clause-few
 push_one-requires-clause-few c = omega (arith, c.loop-end.invariant.few, c.loop-end.invariant.small)

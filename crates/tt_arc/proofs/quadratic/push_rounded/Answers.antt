@@ -1,7 +1,7 @@
-use Rattle.std.proofs.Common.{◌+◌, ◌/◌, ◌<◌, refl, arith, length-append}
+use Rattle.std.proofs.Common.{◌+◌, ◌/◌, ◌<◌, arith}
 use Rattle.tt_arc.specs.Chords.{AreDifferences, along_x, along_y, chord_count}
-use Rattle.tt_arc.proofs.Places.{coordinates_x, coordinates_y, end_is, first_ok, next_ok, no_chord, room, second_ok, value_ok, value_within}
-use Rattle.tt_arc.proofs.Walks.{one_chord_pushed}
+use Rattle.tt_arc.proofs.Places.{coordinates_x, coordinates_y, end_is, first_ok, next_ok, room, second_ok, value_ok, value_within}
+use Rattle.tt_arc.proofs.Added.{none_yet, one_chord_added}
 use Rattle.tt_arc.proofs.quadratic.push_rounded.Goals as goal
 
 pub next-x-requires-clause-value : goal.next-x-requires-clause-value
@@ -85,7 +85,7 @@ loop-k-init c =
     let is = c.requires.count in
     let x : AreDifferences (along_x q) (32 / chord_count r q) 0 c.differences_at_start-x.result = rw (c.along_x.ensures, is) at c.differences_at_start-x.ensures in
     let y : AreDifferences (along_y q) (32 / chord_count r q) 0 c.differences_at_start-y.result = rw (c.along_y.ensures, is) at c.differences_at_start-y.ensures in record {
-      pushed = rw (no_chord (chord_count r q) q c.args.list.now.edges) c.reserve.ensures.edges;
+      added = rw c.reserve.ensures.edges (none_yet r c.args.list.now.edges c.args.last.now (chord_count r q) q);
       room = omega (arith, c.in_ok-reserve.ensures.room);
       x = x;
       y = y;
@@ -104,10 +104,10 @@ loop-k-preserved c =
     let y = next_ok r q c.loop-k.k (along_y q) c.loop-k.y c.next-y.result (coordinates_y q c.requires.curve) below inv.y
     c.next-y.ensures.value c.next-y.ensures.first c.next-y.ensures.second in
     let at = end_is r q (c.loop-k.k + 1) c.next-x.result c.next-y.result c.edge_end-to.result (omega (arith, below)) x y c.edge_end-to.ensures.exact in record {
-      pushed = one_chord_pushed c.args.list.now.edges c.loop-k.list.edges c.push_reserved.new.self.edges (chord_count r q) q
-          c.loop-k.k c.loop-k.from c.edge_end-to.result c.edge_between.result inv.pushed
-          inv.from at c.edge_between.ensures.exact (rw c.push_reserved.ensures refl);
-      room = rw c.push_reserved.ensures (simp length-append (omega (arith, inv.room)));
+      added = one_chord_added r c.args.list.now.edges c.loop-k.list.edges c.push_edge.new.list.edges c.args.last.now c.loop-k.last
+          c.push_edge.new.last (chord_count r q) q c.loop-k.k c.loop-k.from c.edge_end-to.result c.edge_between.result inv.added
+          inv.from at c.edge_between.ensures.exact c.push_edge.ensures.added;
+      room = rw c.push_edge.ensures.capacity (omega (arith, inv.room, c.push_edge.ensures.one));
       x = x;
       y = y;
       from = at;
