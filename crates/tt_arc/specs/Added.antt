@@ -6,13 +6,13 @@ use Rattle.tt_scan_edges.specs.Joined.{joined, joined_from}
 use Rattle.tt_arc.specs.declared.rule.ChordRule.{ChordRule}
 use Rattle.tt_arc.specs.declared.rule.ChordRule.TheVariants as rule
 
--- what edges become behind a last edge, with it. Eight chords remain as they are, and there is none
+-- a last edge and the edges behind this edge, joined. Eight chords remain as they are, without a last edge
 abbrev pub joined_behind : ChordRule → Option Edge → List Edge → List Edge
 joined_behind rule.Eight last es = es
 joined_behind rule.ByBend None es = joined es
 joined_behind rule.ByBend (Some e) es = joined_from e es
 
--- edges are added to those that are done and a last one: whatever follows, they come before it
+-- edges are added behind those done and a last edge: they come before any edges that follow
 abbrev pub AreAdded : ChordRule → List Edge → Option Edge → List Edge → List Edge → Option Edge → Type 0
 AreAdded r done last es new_done new_last =
     (more : List Edge) → new_done ++ joined_behind r new_last more ≡ done ++ joined_behind r last (es ++ more)

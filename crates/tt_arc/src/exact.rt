@@ -81,8 +81,8 @@ fn push_exact(
     Ok(())
 }
 
-/// Adds the chords of a quadratic behind a contour's edges so far. Up to eight have exact ends, and the places of 16 and
-/// of 32 are rounded. Error: memory ran out.
+/// Adds the chords of a quadratic behind the edges so far. Up to eight have exact ends, and the places of 16 and of 32
+/// are rounded. Error: memory ran out.
 #[inline(always)]
 #[tactic(auto, using(crate::proofs::Few::chords_counted_by))]
 pub(crate) fn push_chords(

@@ -1,6 +1,6 @@
-//! The edges of a contour, joined as they are made. Most chords of a curve are short and meet no line, so far fewer edges
-//! are left. The last edge stands behind those in the list. The list gets that edge once an edge follows that is not
-//! joined to it.
+//! The edges of a contour, joined as they are made. Most chords of a curve are short and meet no line, so far fewer
+//! edges are left. The last edge stands behind those in the list. The list gets the last edge where the next is not
+//! joined.
 
 ghost use Rattle.std.specs.Prelude.{◌≡◌, ◌+◌, ◌<◌, ◌≤◌, [], ◌∷◌, ◌++◌, Some, length, OnOk};
 ghost use Rattle.tt_scan_edges.specs.Winding.{EdgeFits};
@@ -11,8 +11,8 @@ use crate::rule::ChordRule;
 use std::alloc::AllocError;
 use tt_scan::{Edge, EdgeList, Last};
 
-/// How far the edges of a contour are made: the last one, where the list does not have it yet, and how many chords and
-/// straight edges there were before any were joined.
+/// How far the edges of a contour are made: the last edge, where the list lacks this edge, and the number of chords and
+/// straight edges before any were joined.
 #[derive(Drop)]
 pub(crate) struct SoFar {
     pub(crate) last: Option<Last>,
@@ -59,7 +59,7 @@ pub(crate) fn push_edge(list: &mut EdgeList, last: &mut Option<Last>, edge: Edge
     }
 }
 
-/// Adds the last edge of a contour to a list, where the list does not have it yet. Error: memory ran out.
+/// Adds the last edge of a contour to a list that lacks this edge. Error: memory ran out.
 #[inline(always)]
 pub(crate) fn push_last(
     list: &mut EdgeList,
