@@ -11,6 +11,7 @@ ghost use Rattle.tt_exec.specs.Worked.{Pays};
 
 use crate::work::Work;
 use tt_code::{Halt, skip_def, skip_else, skip_if};
+use tt_core::Why;
 use tt_exec_step::{MachineState, Outcome, fixed_work};
 
 /// How a step is paid for.
@@ -178,7 +179,8 @@ fn paid_else(state: &mut MachineState<'_>, work: &mut Work) -> Payment
     Payment::Stepped(state.step_else(end))
 }
 
-/// Pays for the step at the frame's place, whose work this opcode alone doesn't decide, and executes it.
+/// Pays for the step at the frame's place, whose work this opcode alone doesn't decide. An IF that skips and an ELSE are
+/// executed too. Others are executed where all steps are, since the compiler writes out that code once.
 #[inline(never)]
 fn paid_apart(state: &mut MachineState<'_>, op: u8, work: &mut Work) -> Payment
     requires there { state.old.frame.place < length state.old.frame.code.bytes.now }
@@ -194,23 +196,22 @@ fn paid_apart(state: &mut MachineState<'_>, op: u8, work: &mut Work) -> Payment
     if !charge(cost_by(state, op), work) {
         return Payment::Spent;
     }
-    let at = state.frame.place;
-    Payment::Stepped(state.step_by(op, at))
+    Payment::Paid(op)
 }
 
 /// Pays for the step at the frame's place, the program's end inside a call: its work is 1, and it is refused.
 #[cold]
-fn paid_end(state: &mut MachineState<'_>, work: &mut Work) -> Payment
-    requires { state.old.frame.place ≡ length state.old.frame.code.bytes.now }
-    ensures { IsPaid (state_of state.old) work.old.left result (state_of state.new) work.new.left }
+fn paid_end(state: &MachineState<'_>, work: &mut Work) -> Payment
+    requires { state.now.frame.place ≡ length state.now.frame.code.bytes.now }
+    ensures { IsPaid (state_of state.now) work.old.left result (state_of state.now) work.new.left }
 {
     if !charge(1, work) {
         return Payment::Spent;
     }
-    Payment::Stepped(state.step())
+    Payment::Stepped(Outcome::Refused(Why::CodeShort))
 }
 
-/// Pays for the step at the frame's place; where its opcode alone doesn't decide its work, executes it too. A run without
+/// Pays for the step at the frame's place. An IF that skips, an ELSE and the program's end are executed too. A run without
 /// a budget spends one test on it.
 #[inline(always)]
 pub(crate) fn pay_step(state: &mut MachineState<'_>, work: &mut Work) -> Payment

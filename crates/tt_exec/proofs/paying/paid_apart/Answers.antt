@@ -14,4 +14,4 @@ pub returns : goal.returns
 returns c =
     let m = state_of c.args.state.now in
     let cost : step_cost m ≡ c.cost_by.result = ap (λ o. cost_by o m) (sym c.requires.opcode) ∙ sym c.cost_by.ensures in
-    (pays_by m _ true c.args.work.now.left c.charge.new.work.left cost (c.if-not-charge.ensures (over_at m)), c.step_by.ensures)
+    (pays_by m _ true c.args.work.now.left c.charge.new.work.left cost (c.if-not-charge.ensures (over_at m)), refl, (c.requires.there, c.requires.opcode))

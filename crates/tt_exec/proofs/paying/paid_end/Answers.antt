@@ -1,4 +1,4 @@
-use Rattle.std.proofs.Common.{refl, true, false}
+use Rattle.std.proofs.Common.{refl, true, false, rules, arith}
 use Rattle.tt_exec_step.specs.States.{state_of}
 use Rattle.tt_exec.specs.Work.{over_at}
 use Rattle.tt_exec.proofs.Costs.{end_cost, pays_by}
@@ -12,4 +12,4 @@ returns-then-not-charge c =
 pub returns : goal.returns
 returns c =
     let m = state_of c.args.state.now in
-    (pays_by m 1 true c.args.work.now.left c.charge.new.work.left (end_cost m c.requires) (c.if-not-charge.ensures (over_at m)), c.step.ensures)
+    (pays_by m 1 true c.args.work.now.left c.charge.new.work.left (end_cost m c.requires) (c.if-not-charge.ensures (over_at m)), (omega (arith, c.requires), search rules))
