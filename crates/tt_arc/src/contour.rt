@@ -64,8 +64,8 @@ fn number_after(n: usize, i: usize) -> usize
 
 /// Adds the edges of a contour to a list, and tells how many chords and straight edges there were before any were
 /// joined. A contour of one point has none. Error: memory ran out.
-#[inline(always)]
-fn push_joined(
+#[inline(never)]
+pub(crate) fn push_contour(
     list: &mut EdgeList,
     points: &[(i32, i32, bool)],
     by: Offset,
@@ -100,26 +100,4 @@ fn push_joined(
     let SoFar { last, chords } = so_far;
     push_last(list, last, rule)?;
     Ok(chords)
-}
-
-/// Adds the edges of a contour to a list, and tells how many chords and straight edges there were before any were
-/// joined. Error: memory ran out.
-#[inline(never)]
-pub(crate) fn push_contour(
-    list: &mut EdgeList,
-    points: &[(i32, i32, bool)],
-    by: Offset,
-    rule: ChordRule,
-) -> Result<usize, AllocError>
-    requires near { All (IsNear by.dx by.dy) points.now }
-    requires few { length points.now < 2 ^ 32 }
-    ensures exact { OnOk result (list.new.edges ≡ list.old.edges ++ contour_edges rule (map (moved by.dx by.dy) points.now)) }
-    ensures counted { IfOk result (λ n. n ≡ length (contour_chords rule (map (moved by.dx by.dy) points.now))) }
-    ensures small { IfOk result (λ n. n < 2 ^ 63) }
-{
-    // The rules are constants here, so that the compiler writes out a loop for each.
-    match rule {
-        ChordRule::Eight => push_joined(list, points, by, ChordRule::Eight),
-        ChordRule::ByBend => push_joined(list, points, by, ChordRule::ByBend),
-    }
 }

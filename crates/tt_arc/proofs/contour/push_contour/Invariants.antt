@@ -2,7 +2,7 @@ use Rattle.std.proofs.Common.{◌≡◌, ◌+◌, ◌*◌, ◌<◌, ◌≤◌, �
 use Rattle.tt_arc.specs.Chords.{PointFits, moved, point_at, number_before, contour_chords, contour_edges}
 use Rattle.tt_arc.specs.Added.{joined_behind}
 use Rattle.tt_arc.proofs.Walks.{edges_onward}
-use Rattle.tt_arc.proofs.contour.push_joined.Given as goal
+use Rattle.tt_arc.proofs.contour.push_contour.Given as goal
 
 abbrev pub invariant-loop-i : goal.invariant-loop-i
 invariant-loop-i l = record {

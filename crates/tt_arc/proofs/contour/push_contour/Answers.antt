@@ -4,7 +4,7 @@ use Rattle.tt_arc.specs.Chords.{edges_of, joined_by, moved, number_after, point_
 use Rattle.tt_arc.proofs.Few.{few_of}
 use Rattle.tt_arc.proofs.Added.{behind_none}
 use Rattle.tt_arc.proofs.Walks.{after_inner, all_onward, edges_onward, none_onward, one_point_first, point_is}
-use Rattle.tt_arc.proofs.contour.push_joined.Goals as goal
+use Rattle.tt_arc.proofs.contour.push_contour.Goals as goal
 
 nowhere : ℤ × ℤ × Bool
 nowhere = (pos 0, pos 0, false)
