@@ -44,6 +44,14 @@ pub one_put : (s : Fitter) (old new : Kept) (n : ℕ) (g : KeptGlyph) → (old.m
     → IsCached s n g → IsCacheFor s (Some old) → IsCacheFor s (Some new)
 one_put s old new n g larger entries one own = all_kept (IsAsMade s) old new n g larger entries one own
 
+-- the points of a glyph found in the cache
+pub points_found : (n : ℕ) (k : Kept) (c : Option Kept) (points : Option ℕ) → c ≡ Some k
+    → IfSome points (λ p. (g : KeptGlyph) × (lookup (nat_eq n) k.entries ≡ Some g) × (p ≡ g.points))
+    → IfSome points (λ p. (s : Fitter) → IsCacheFor s c → p ≡ points_asked s.tables s.levels n)
+points_found n k c None there found = tt
+points_found n k c (Some p) there found = λ s own.
+    let one = all_found (IsAsMade s) n k.entries found.0 (rw there at own) found.1 in found.2 ∙ one.points
+
 -- with one limit there is a cache before and after, or there is none
 pub same_there : (a b : Option Kept) → limit_of a ≡ limit_of b → is_there a ≡ is_there b
 same_there None None same = refl
@@ -105,103 +113,3 @@ pub one_cached : (cached : Bool) (s t : Fitter) (g : FittedGlyph) (old new : Opt
     → IsCacheFor s old → IsCacheFor s new
 one_cached cached s t g old new alike is puts own =
     cached_stays t s new (sym alike) (puts cached t is (cached_stays s t old alike own))
-
--- a glyph cut into pixels is that of its outline
-
-pub cut_shows : (cached : Bool) (s : Fitter) (n : ℕ) (o : Outline) (m : MadeOutline) (es : List Edge)
-    (contours : List (List Edge)) (facts : GlyphFacts) (k : KeptGlyph) → IsMadeOutline cached s n o m
-    → es ≡ edges_at m.rule 0 m.outline → IfSome m.filled (λ rules. contours ≡ contours_of m.rule 0 m.outline)
-    → facts.step ≡ step_of m.outline → facts.chords ≡ chords_of m.rule m.outline
-    → IsCutOf es contours m.filled k → HasFacts facts k → IsOfOutline s (filled_by s n o) o k
-cut_shows cached s n o m es contours facts k made edges lines step chords cut has =
-    let edged : es ≡ edges_at (chords_with s) 0 o = rw (made.rule, made.outline) at edges in
-    let lined : IfSome m.filled (λ rules. contours ≡ contours_of (chords_with s) 0 o) = rw (made.rule, made.outline) at lines in
-    let by : m.filled ≡ filled_by s n o = made.filled in
-    let crossed = rw (edged, by) at cut.crossings in
-    record {
-      cut = record {
-        raster = rw edged at cut.raster;
-        dropouts = λ c j. cut.dropouts c j ∙ same_filled m.filled contours (contours_of (chords_with s) 0 o) c j lined
-            ∙ ap (λ f. is_filled f (contours_of (chords_with s) 0 o) c j) by;
-        crossings = crossed;
-      };
-      step = has.step ∙ rw made.outline at step;
-      chords = has.chords ∙ rw (made.rule, made.outline) at chords;
-    }
-
--- and it may be cached, where the glyph's counts are known
-pub as_cached : (cached : Bool) (s : Fitter) (n : ℕ) (o : Outline) (m : MadeOutline) (counts : KeptCounts) (es : List Edge)
-    (contours : List (List Edge)) (facts : GlyphFacts) (k : KeptGlyph) → m.counts ≡ Some counts → facts.counts ≡ counts
-    → facts.unfitted ≡ m.unfitted → IsMadeOutline cached s n o m
-    → es ≡ edges_at m.rule 0 m.outline → IfSome m.filled (λ rules. contours ≡ contours_of m.rule 0 m.outline)
-    → facts.step ≡ step_of m.outline → facts.chords ≡ chords_of m.rule m.outline
-    → IsCutOf es contours m.filled k → HasFacts facts k → IsCached s n k
-as_cached cached s n o m counts es contours facts k some told fault made edges lines step chords cut has =
-    let shown = cut_shows cached s n o m es contours facts k made edges lines step chords cut has in
-    let points : counts.points ≡ points_asked s.tables s.levels n = rw some at made.points in
-    let paid : IsMadeFor s n counts.cost o m.unfitted = rw some at made.made in
-    let cost : k.cost ≡ counts.cost = has.cost ∙ ap (λ (c : KeptCounts). c.cost) told in
-    let reason : k.unfitted ≡ m.unfitted = has.unfitted ∙ fault in
-    let rules : filled_by s n o ≡ rules_for (extents_of o) (dropouts_of s k.unfitted o) =
-    ap (λ f. rules_for (extents_of o) (dropouts_of s f o)) (sym (reason ∙ made.unfitted)) in
-    record {
-      shape = o;
-      made = rw (cost, reason) paid;
-      shown = rw rules at shown;
-      points = has.points ∙ ap (λ (c : KeptCounts). c.points) told ∙ points;
-    }
-
--- a cached glyph whose cost is paid
-
-pub paid_is_fitted : (s new : Fitter) (n : ℕ) (k : KeptGlyph) (is : IsCached s n k)
-    → IsMade s n is.shape k.unfitted new → IsFittedBody true s n is.shape (kept k)
-paid_is_fitted s new n k is made =
-    let rules : rules_for (extents_of is.shape) (dropouts_of s k.unfitted is.shape) ≡ filled_by s n is.shape =
-    ap (λ f. rules_for (extents_of is.shape) (dropouts_of s f is.shape)) (sym made.unfitted) in
-    (refl, sym made.unfitted, rw rules at is.shown)
-
--- what a glyph counts
-
-pub counted_is : (most n p : ℕ) (within : Bool) → nat_le n most ≡ within → counted most n ≡ Some p → p ≡ n
-counted_is most n p true is some = let told : Some n ≡ Some p = rw is at some in cc
-counted_is most n p false is some = let told : ◌≡◌ {A = Option ℕ} None (Some p) = rw is at some in absurd cc
-
-none_used : (rest : Option ℕ) → all_used rest ≡ None → rest ≡ None
-none_used None is = refl
-none_used (Some n) is = absurd cc
-
--- where work is not bounded, a glyph takes nothing of it
-pub made_for_nothing : UnboundedStays → (s : Fitter) (n : ℕ) (o : Outline) (reason : Option Fault) → s.work ≡ None
-    → fitted_outline s n ≡ Ok o → reason ≡ unfitted_fault s n → IsMadeFor s n 0 o reason
-made_for_nothing stays s n o reason none made is rest alike =
-    let free : rest ≡ None = none_used rest (alike ∙ ap all_used none) in
-    let here : with_work s None ≡ s = own-work s None none in
-    rw (free, here) (record { outline = made; unfitted = sym is; after = (stays s n none).1 })
-
-cost_made : UnboundedStays → (s : Fitter) (n cost : ℕ) (o : Outline) (reason : Option Fault) (told : Option ℕ)
-    → fitted_outline s n ≡ Ok o → reason ≡ unfitted_fault s n → IfSome told (λ c. IsMadeFor s n c o reason)
-    → ((s.work ≡ None) × (cost ≡ 0)) ⊎ (told ≡ Some cost) → IsMadeFor s n cost o reason
-cost_made stays s n cost o reason told made is each (inl free) = rw free.1 (made_for_nothing stays s n o reason free.0 made is)
-cost_made stays s n cost o reason told made is each (inr some) = rw some at each
-
--- a cost that is told is the glyph's
-pub counts_made : UnboundedStays → (s : Fitter) (n : ℕ) (o : Outline) (reason : Option Fault) (counts : Option KeptCounts)
-    (cost told : Option ℕ) → fitted_outline s n ≡ Ok o → reason ≡ unfitted_fault s n
-    → IfSome told (λ c. IsMadeFor s n c o reason)
-    → IfSome cost (λ c. ((s.work ≡ None) × (c ≡ 0)) ⊎ (told ≡ Some c))
-    → IfSome counts (λ k. cost ≡ Some k.cost) → IfSome counts (λ k. IsMadeFor s n k.cost o reason)
-counts_made stays s n o reason None cost told made is each by some = tt
-counts_made stays s n o reason (Some k) cost told made is each by some =
-    let own = rw some at by in cost_made stays s n k.cost o reason told made is each own
-
-pub counts_points : (s : Fitter) (n : ℕ) (counts : Option KeptCounts) (points : Option ℕ)
-    → IfSome points (λ p. p ≡ points_asked s.tables s.levels n) → IfSome counts (λ k. points ≡ Some k.points)
-    → IfSome counts (λ k. k.points ≡ points_asked s.tables s.levels n)
-counts_points s n None points are some = tt
-counts_points s n (Some k) points are some = rw some at are
-
--- the tape of an outline has its edges
-pub of_edges : (filled : Option BoxedRules) (these those : List Edge) (P : List Edge → Type 0) → these ≡ those
-    → IfSome filled (λ rules. P those) → IfSome filled (λ rules. P these)
-of_edges None these those P same holds = tt
-of_edges (Some rules) these those P same holds = rw same holds

@@ -302,17 +302,17 @@ drawn_stood cached maker f gs i g ps all below is =
 
 pub kept_stood : (glyphs : ℕ) (table : List ℕ) (gs : List Glyph) (i : ℕ) (g : Glyph) (ps : List ℕ)
     → AreSeated glyphs table gs → i < length gs → g ≡ get_or gs i g → AreSeated glyphs table (set gs i (record g { pens = ps }))
-kept_stood glyphs table gs i g ps kept below is =
-    let own : g.left ≤ margin_limit = rw (← is) at (kept.lefts i g below) in
+kept_stood glyphs table gs i g ps seated below is =
+    let own : g.left ≤ margin_limit = rw (← is) at (seated.lefts i g below) in
     record {
-      room = kept.room;
-      places = rw (numbers_stood gs i g ps is) kept.places;
-      lefts = All-set (λ g. g.left ≤ margin_limit) gs i (record g { pens = ps }) own kept.lefts;
+      room = seated.room;
+      places = rw (numbers_stood gs i g ps is) seated.places;
+      lefts = All-set (λ g. g.left ≤ margin_limit) gs i (record g { pens = ps }) own seated.lefts;
     }
 
 pub left_is : (glyphs : ℕ) (table : List ℕ) (gs : List Glyph) (i : ℕ) (g : Glyph) → AreSeated glyphs table gs → i < length gs
     → g ≡ get_or gs i g → g.left ≤ margin_limit
-left_is glyphs table gs i g kept below is = rw (← is) at (kept.lefts i g below)
+left_is glyphs table gs i g seated below is = rw (← is) at (seated.lefts i g below)
 
 -- the pixels added by a place, at any pen equal to this one
 pub made_at : {pen : ℕ} (maker : ℕ → Fitter) (f : Frame) (before after : List Glyph) (g : ℕ × ℕ)

@@ -1,5 +1,5 @@
 -- No part of the standard: a glyph that is cut into pixels for the cache.
-use Rattle.std.specs.Prelude.{◌≡◌, List, Option}
+use Rattle.std.specs.Prelude.{◌≡◌, List, Option, Some}
 use Rattle.tt_scan_edges.specs.declared.edge.Edge.{Edge}
 use Rattle.tt_scan_dropouts.specs.declared.boxed.BoxedRules.{BoxedRules}
 use Rattle.tt_picture.specs.Cached.{IsCutOf}
@@ -11,8 +11,7 @@ use Rattle.tt_strike_kept.specs.Glyph.{KeptGlyph}
 pub record HasFacts (facts : GlyphFacts) (k : KeptGlyph) : Type 0 where
   pub step : k.step ≡ facts.step
   pub chords : k.chords ≡ facts.chords
-  pub points : k.points ≡ facts.counts.points
-  pub cost : k.cost ≡ facts.counts.cost
+  pub counts : facts.counts ≡ Some (record { points = k.points; cost = k.cost })
   pub unfitted : k.unfitted ≡ facts.unfitted
 
 -- a body has these edges, or it is a cached glyph with their pixels and these facts

@@ -1,17 +1,17 @@
 //! Cuts a glyph into pixels, which are cached.
 
-ghost use Rattle.std.specs.Prelude.{◌≡◌, ℕ, ℤ, ◌+◌, ◌^◌, ◌<◌, ◌≤◌, ◌+ℤ◌, ◌-ℤ◌, ◌≤ℤ◌, pos, true, length, unsigned_abs, IfOk, IfSome};
+ghost use Rattle.std.specs.Prelude.{◌≡◌, ℕ, ℤ, ◌+◌, ◌^◌, ◌<◌, ◌≤◌, ◌+ℤ◌, ◌-ℤ◌, ◌≤ℤ◌, pos, length, None, IfOk, IfSome};
 ghost use Rattle.tt_fit.specs.Fitting.{Fitter};
 ghost use Rattle.tt_scan.specs.Contours.{AreEnds, contours_at};
 ghost use Rattle.tt_scan_dropouts.specs.Counted.{edges_counted};
 ghost use Rattle.tt_scan_dropouts.specs.Dropouts.{is_dropout};
 ghost use Rattle.tt_scan_dropouts.specs.Passes.{has_pixel};
-ghost use Rattle.tt_scan_dropouts.specs.Windows.{WindowFits, box_has, has, widened};
-ghost use Rattle.tt_scan_gaps.specs.Boxes.{ExtentsFit, IsBoxOf, columns_in, rows_in};
+ghost use Rattle.tt_scan_dropouts.specs.Windows.{WindowFits, widened};
+ghost use Rattle.tt_scan_gaps.specs.Boxes.{ExtentsFit, IsBoxOf};
 ghost use Rattle.tt_scan_ink.specs.Least.{AreNear};
 ghost use Rattle.tt_picture.specs.Cached.{IsCacheFor, IsCached, IsCutOf, limit_of};
 ghost use Rattle.tt_picture.specs.Cut.{HasFacts, IsCutBody};
-ghost use Rattle.tt_picture.specs.Glyphs.{BodyFits};
+ghost use Rattle.tt_picture.specs.Glyphs.{BodyFits, IsTape};
 ghost use Rattle.tt_picture.specs.Pixels.{TapeFits, is_filled};
 ghost use Rattle.tt_picture.specs.Shapes.{filling_crossings};
 ghost use Rattle.tt_picture.specs.Views.{body_view};
@@ -25,7 +25,7 @@ use std::rc::Rc;
 use tt_core::{Fault, HEIGHT_LIMIT, WIDTH_LIMIT};
 use tt_scan::Tape;
 use tt_scan_dropouts::{
-    BoxedRules, Columns, Extents, Outlined, Pixel, Window, all_counted, dropouts, edges_counted,
+    BoxedRules, Columns, Outlined, Pixel, Window, all_counted, dropouts, edges_counted,
     may_have_dropouts, pixels_in,
 };
 use tt_scan_rows::{CutGlyph, Raster};
@@ -37,7 +37,8 @@ pub(crate) struct GlyphFacts {
     pub(crate) number: u16,
     pub(crate) step: u32,
     pub(crate) chords: usize,
-    pub(crate) counts: KeptCounts,
+    /// None where the glyph is not to be cached.
+    pub(crate) counts: Option<KeptCounts>,
     pub(crate) unfitted: Option<Fault>,
 }
 
@@ -52,12 +53,15 @@ fn count_within(numbers: Columns, most: u32) -> Option<u32>
 }
 
 /// The window of a box; None where the box has more rows or more columns than the greatest picture.
-fn window_of(extents: Extents) -> Option<Window>
-    requires { ExtentsFit extents }
+fn window_of(columns: Columns, rows: Columns) -> Option<Window>
+    requires columns { AreNear columns }
+    requires rows { AreNear rows }
+    ensures left { IfSome result (λ w. w.left ≡ columns.first) }
+    ensures bottom { IfSome result (λ w. w.bottom ≡ rows.first) }
+    ensures width { IfSome result (λ w. columns.first +ℤ pos w.width ≡ columns.last +ℤ pos 1) }
+    ensures height { IfSome result (λ w. rows.first +ℤ pos w.height ≡ rows.last +ℤ pos 1) }
     ensures fits { IfSome result (λ w. WindowFits (widened 2 w)) }
-    ensures has { IfSome result (λ w. (c j : ℤ) → box_has (columns_in extents) (rows_in extents) c j ≡ true → has w c j ≡ true) }
 {
-    let (columns, rows) = pixels_in(extents);
     let width = count_within(columns, WIDTH_LIMIT)?;
     let height = count_within(rows, HEIGHT_LIMIT)?;
     Some(Window {
@@ -71,12 +75,13 @@ fn window_of(extents: Extents) -> Option<Window>
 /// All dropouts of a glyph; None where its box is too large. Error: Memory.
 fn all_dropouts(alloc: Global, glyph: Outlined) -> Result<Option<Vec<Pixel>>, AllocError>
     ensures { IfOk result (λ o. IfSome o (λ v. (c j : ℤ) → has_pixel v.items c j
-        ≡ is_dropout glyph.rules (contours_at glyph.tape.now.edges glyph.ends.now) c j)) }
+        ≡ is_dropout glyph.entry.rules (contours_at glyph.entry.tape.now.edges glyph.entry.ends.now) c j)) }
 {
     if !may_have_dropouts(glyph.rules.rules.stubs, glyph.tape.lend(), glyph.ends) {
         return Ok(Some(Vec::new(alloc)));
     }
-    let Some(window) = window_of(glyph.rules.extents) else {
+    let (columns, rows) = pixels_in(glyph.rules.extents);
+    let Some(window) = window_of(columns, rows) else {
         return Ok(None);
     };
     Ok(Some(dropouts(alloc, glyph, window)?))
@@ -115,8 +120,8 @@ pub(crate) fn tape_crossings(tape: &Tape, filled: Option<BoxedRules>) -> u64
     }
 }
 
-/// The pixels of a tape's glyph, which are cached for later lines. The tape itself where the glyph has too many lines, too
-/// many black columns, or too large a box. Error: Memory.
+/// The pixels of a tape's glyph, which are cached for later lines. The tape itself where the glyph is not to be cached, or
+/// has too many lines, too many black columns, or too large a box. Error: Memory.
 pub(crate) fn body_of(
     alloc: Global,
     tape: Tape,
@@ -129,9 +134,13 @@ pub(crate) fn body_of(
     requires boxed { IfSome filled (λ rules. IsBoxOf rules.extents tape.edges) }
     requires ends { IfSome filled (λ rules. AreEnds (length tape.edges) ends.now) }
     ensures body { IfOk result (λ b. IsCutBody tape.edges (contours_at tape.edges ends.now) filled facts (body_view b) × BodyFits tape.frame 0 (body_view b)) }
+    ensures plain { facts.counts ≡ None → IfOk result (λ b. IsTape (body_view b)) }
     ensures cached { (s : Fitter) → ((k : KeptGlyph) → IsCutOf tape.edges (contours_at tape.edges ends.now) filled k → HasFacts facts k → IsCached s facts.number k) → IsCacheFor s cache.old → IsCacheFor s cache.new }
     ensures limit { limit_of cache.new ≡ limit_of cache.old }
 {
+    let Some(counts) = facts.counts else {
+        return Ok(GlyphBody::Tape(tape));
+    };
     let Some(dropouts) = tape_dropouts(alloc, &tape, ends, filled)? else {
         return Ok(GlyphBody::Tape(tape));
     };
@@ -150,8 +159,8 @@ pub(crate) fn body_of(
                 step: facts.step,
                 chords: facts.chords,
                 crossings,
-                points: facts.counts.points,
-                cost: facts.counts.cost,
+                points: counts.points,
+                cost: counts.cost,
                 unfitted: facts.unfitted,
             };
             cache.put(facts.number, kept.clone()?);

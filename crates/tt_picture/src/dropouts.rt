@@ -36,6 +36,24 @@ fn seen(frame: Frame, pen: u32, pixel: Pixel) -> Option<Dropout>
     Some(Dropout { row, column })
 }
 
+/// Adds a pixel of a glyph from a pen, if the picture has it. Error: Memory.
+fn push_pixel(
+    found: &mut Vec<Dropout>,
+    frame: Frame,
+    pixel: Pixel,
+    pen: u32,
+) -> Result<(), AllocError>
+    requires { AreInColumns frame.width found.old.items }
+    ensures added { OnOk result ((c r : ℕ) → c < frame.width → r < frame.height → is_among found.new.items c r
+        ≡ (is_among found.old.items c r || is_pixel_at frame pixel pen c r)) }
+    ensures within { OnOk result (AreInColumns frame.width found.new.items) }
+{
+    if let Some(dropout) = seen(frame, pen, pixel) {
+        found.push(dropout)?;
+    }
+    Ok(())
+}
+
 /// Adds some pixels of a glyph from a pen, as far as the picture has them. Error: Memory.
 fn push_from(
     found: &mut Vec<Dropout>,
@@ -49,9 +67,7 @@ fn push_from(
     ensures within { OnOk result (AreInColumns frame.width found.new.items) }
 {
     for pixel in pixels {
-        if let Some(dropout) = seen(frame, pen, *pixel) {
-            found.push(dropout)?;
-        }
+        push_pixel(found, frame, *pixel, pen)?;
     }
     Ok(())
 }

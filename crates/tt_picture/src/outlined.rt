@@ -5,7 +5,8 @@ ghost use Rattle.tt_core.specs.Limits.{margin_limit};
 ghost use Rattle.tt_core.specs.Outcomes.{IfTold, font_fault};
 ghost use Rattle.tt_fit.specs.Counting.{points_asked};
 ghost use Rattle.tt_fit.specs.Fitting.{Fitter, fitted_outline, after_glyph};
-ghost use Rattle.tt_fit_outline.specs.Outline.{IsOutline, Outline};
+ghost use Rattle.tt_fit_outline.specs.Outline as shape;
+ghost use Rattle.tt_fit_outline.specs.Outline.{IsOutline};
 ghost use Rattle.tt_fit_outline.specs.Views.{outline_of};
 ghost use Rattle.tt_scan.specs.Contours.{AreEnds, contours_at};
 ghost use Rattle.tt_scan_edges.specs.Winding.{FrameFits};
@@ -18,7 +19,7 @@ ghost use Rattle.tt_picture.specs.Steps.{chords_of};
 
 use crate::cache::Cache;
 use crate::cutting::{GlyphFacts, body_of};
-use crate::glyph::{Glyph, GlyphBody};
+use crate::glyph::Glyph;
 use smallvec::SmallVec;
 use std::alloc::{AllocError, Global};
 use std::marker::Model;
@@ -65,7 +66,7 @@ impl MadeOutline {
         cached: bool,
     ) -> Result<MadeOutline, FontFault>
         requires known { number < fitter.old.tables.glyphs }
-        ensures made { IfOk result (λ m. (o : Outline) × (fitted_outline fitter.old number ≡ Ok o) × IsMadeOutline cached fitter.old number o m) }
+        ensures made { IfOk result (λ m. (o : shape.Outline) × (fitted_outline fitter.old number ≡ Ok o) × IsMadeOutline cached fitter.old number o m) }
         ensures after { OnOk result (fitter.new ≡ after_glyph fitter.old number) }
         ensures fault { IfTold font_fault result (λ f. fitted_outline fitter.old number ≡ Err f) }
     {
@@ -93,13 +94,13 @@ impl MadeOutline {
         cache: &mut Cache,
     ) -> Result<Glyph, AllocError>
         requires frame { FrameFits frame }
-        requires made { (cached : Bool) × (s : Fitter) × (o : Outline) × IsMadeOutline cached s number o self }
+        requires made { (cached : Bool) × (s : Fitter) × (o : shape.Outline) × IsMadeOutline cached s number o self }
         ensures number { IfOk result (λ g. g.number ≡ number) }
         ensures pens { IfOk result (λ g. g.pens ≡ []) }
         ensures left { IfOk result (λ g. g.left ≤ margin_limit) }
         ensures chords { IfOk result (λ g. g.chords ≡ chords_of self.rule self.outline) }
-        ensures valid { IfOk result (λ g. (cached : Bool) (s : Fitter) (o : Outline) → fitted_outline s number ≡ Ok o → IsMadeOutline cached s number o self → IsDrawn cached s frame g) }
-        ensures cached { (cached : Bool) (s : Fitter) (o : Outline) → IsMadeOutline cached s number o self → IsCacheFor s cache.old → IsCacheFor s cache.new }
+        ensures valid { IfOk result (λ g. (cached : Bool) (s : Fitter) (o : shape.Outline) → fitted_outline s number ≡ Ok o → IsMadeOutline cached s number o self → IsDrawn cached s frame g) }
+        ensures cached { (cached : Bool) (s : Fitter) (o : shape.Outline) → IsMadeOutline cached s number o self → IsCacheFor s cache.old → IsCacheFor s cache.new }
         ensures limit { limit_of cache.new ≡ limit_of cache.old }
     {
         let MadeOutline {
@@ -113,19 +114,14 @@ impl MadeOutline {
         let step = outline.step();
         let unfitted = outline.unfitted;
         let tape = Tape::of(alloc, frame, list)?;
-        let body = match counts {
-            Some(counts) => {
-                let facts = GlyphFacts {
-                    number,
-                    step,
-                    chords,
-                    counts,
-                    unfitted,
-                };
-                body_of(alloc, tape, &ends, filled, facts, cache)?
-            }
-            None => GlyphBody::Tape(tape),
+        let facts = GlyphFacts {
+            number,
+            step,
+            chords,
+            counts,
+            unfitted,
         };
+        let body = body_of(alloc, tape, &ends, filled, facts, cache)?;
         let left = body.left(frame);
         let filled = body.filled(filled);
         Ok(Glyph {
@@ -167,7 +163,8 @@ fn cost_of(work: Option<u64>, cost: Option<u64>) -> Option<u64>
 /// What a glyph counts, where its points and its cost are known.
 fn counts_of(points: Option<u64>, cost: Option<u64>) -> Option<KeptCounts>
     ensures none { points ≡ None → result ≡ None }
-    ensures some { IfSome result (λ n. (points ≡ Some n.points) × (cost ≡ Some n.cost)) }
+    ensures points { IfSome result (λ n. points ≡ Some n.points) }
+    ensures cost { IfSome result (λ n. cost ≡ Some n.cost) }
 {
     match (points, cost) {
         (Some(points), Some(cost)) => Some(KeptCounts { points, cost }),
