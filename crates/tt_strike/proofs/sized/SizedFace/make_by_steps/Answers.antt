@@ -6,8 +6,8 @@ use Rattle.tt_fit.specs.declared.programs.Fit.{Fit}
 use Rattle.tt_line.specs.Layout.{text_glyphs}
 use Rattle.tt_line.specs.Outcome.{placement_of}
 use Rattle.tt_metrics.specs.Metrics.{glyphs_of}
+use Rattle.tt_picture.specs.Cached.{is_there}
 use Rattle.tt_picture.specs.Distinct.{distinct}
-use Rattle.tt_picture.specs.Fitted.{outlines_of}
 use Rattle.tt_picture.specs.Shapes.{crossings_in}
 use Rattle.tt_picture.proofs.Among.{of_same_glyphs}
 use Rattle.tt_strike.specs.Costs.{cost_of}
@@ -21,7 +21,7 @@ use Rattle.tt_strike.proofs.Placed.{of-job}
 use Rattle.tt_strike.proofs.Stopped.{drawing_refuses_no_job, font_tells, tested_at}
 use Rattle.tt_strike.proofs.Stepped.{IsOutlinedLine, extent_by_steps_tells, extent_stops_text, line_edges, line_laid, line_made, line_points, line_stops_text, line_tells_no_defect, line_tells_refusal, outlines_pass, outlines_stop_text, outlines_tell_defect, outlines_tell_refusal, setting_stops_text}
 use Rattle.tt_strike.proofs.Telling.{no_line_defect, setting_tells}
-use Rattle.tt_strike.proofs.sized.SizedFace.make_by_steps.Goals.{After-work-left, In_ok-test_text}
+use Rattle.tt_strike.proofs.sized.SizedFace.make_by_steps.Goals.{In_ok-line, In_ok-test_text}
 use Rattle.tt_strike.proofs.sized.SizedFace.make_by_steps.Goals as goal
 
 -- the job of a text at this place
@@ -130,13 +130,13 @@ returns-in_err-line-clause-stops c =
     let gs = text_glyphs z.face.cmap c.args.text.now in
     let s = c.in_ok-fitter.fitter in
     let o = c.in_ok-outlined.ensures.outlined in
-    let os = outlines_of c.in_ok-outlined.outlined.fitted.items in
+    let os = o.made.0 in
     let bounded = rw (← c.self.view_is) at c.requires.bounded in
     let refused = rw (c.metrics.ensures, o.glyphs, o.steps) at c.in_err-line.ensures.exact in
     let p = err_from_is_err_and c.from_residual-in_err-line.result c.from_residual-in_err-line.ensures.1 in
     rw (p.1, p.2, ← c.self.view_is) (extent_stops_text z.face a s os c.in_err-line.field-0.0
     (passed (goal.at.returns-in_err-line-clause-stops c).In_ok-test_text) bounded c.in_ok-fitter.ensures.exact
-    (outlines_pass s a gs os c.in_ok-outlined.ensures.points o.made) refused)
+    (outlines_pass s a gs os c.in_ok-outlined.ensures.points o.made.1) refused)
 
 pub returns-in_err-line-clause-defects : goal.returns-in_err-line-clause-defects
 returns-in_err-line-clause-defects c =
@@ -152,12 +152,12 @@ returns-in_err-line-clause-job c =
     let bounded = rw (← c.self.view_is) at c.requires.bounded in
     let refused = rw (c.metrics.ensures, o.steps) at c.in_err-line.ensures.fault in
     let p = err_from_is_err_and c.from_residual-in_err-line.result c.from_residual-in_err-line.ensures.1 in
-    rw (p.1, p.2, ← c.self.view_is) (extent_by_steps_tells z.face a s (outlines_of c.in_ok-outlined.outlined.fitted.items)
-    c.in_err-line.field-0.0 bounded c.in_ok-fitter.ensures.exact o.made refused)
+    rw (p.1, p.2, ← c.self.view_is) (extent_by_steps_tells z.face a s o.made.0
+    c.in_err-line.field-0.0 bounded c.in_ok-fitter.ensures.exact o.made.1 refused)
 
 -- the line by the outlines of its glyphs
-outlined_then : (c : After-work-left) → tested (job_here c.self.inside.source.face.now c.self.inside.source.ppem
-    c.self.inside.source.fit c.args.text.now c.args.margin) ≡ Ok tt → IsOutlinedLine c.self.inside.source.face.now (job_here c.self.inside.source.face.now c.self.inside.source.ppem c.self.inside.source.fit c.args.text.now c.args.margin) c.in_ok-fitter.fitter
+outlined_then : (c : In_ok-line) → tested (job_here c.self.inside.source.face.now c.self.inside.source.ppem
+    c.self.inside.source.fit c.args.text.now c.args.margin) ≡ Ok tt → IsOutlinedLine (is_there c.args.cache.now) c.self.inside.source.face.now (job_here c.self.inside.source.face.now c.self.inside.source.ppem c.self.inside.source.fit c.args.text.now c.args.margin) c.in_ok-fitter.fitter
     (placement_of c.in_ok-line.line) c.in_ok-outlined.outlined.fitted.items c.work-left.result
 outlined_then c passes =
     let o = c.in_ok-outlined.ensures.outlined in
@@ -182,10 +182,10 @@ returns-in_err-glyphs-clause-stops c =
     let l = placement_of c.in_ok-line.line in
     let fs = c.in_ok-outlined.outlined.fitted.items in
     let all = goal.at.returns-in_err-glyphs-clause-stops c in
-    let is = outlined_then all.After-work-left (passed all.In_ok-test_text) in
+    let is = outlined_then all.In_ok-line (passed all.In_ok-test_text) in
     let shapes = line_made z.face a s l fs is in
     let fails = rw (line_edges z.face a s l fs shapes.0 is) at
-    (c.in_err-glyphs.ensures.exact (line_fitter s (text_glyphs z.face.cmap c.args.text.now)) shapes.0 is.fitted shapes.1) in
+    (c.in_err-glyphs.ensures.exact (is_there c.args.cache.now) (line_fitter s (text_glyphs z.face.cmap c.args.text.now)) shapes.0 is.fitted shapes.1) in
     let p = err_from_is_err_and c.from_residual-in_err-glyphs.result c.from_residual-in_err-glyphs.ensures.1 in
     rw (p.1, p.2, ← c.self.view_is) (line_stops_text z.face a s l fs shapes.0 c.in_err-glyphs.field-0.0 is
     (rw is.glyphs shapes.1) fails)
@@ -198,9 +198,9 @@ returns-in_err-glyphs-clause-defects c =
     let l = placement_of c.in_ok-line.line in
     let fs = c.in_ok-outlined.outlined.fitted.items in
     let all = goal.at.returns-in_err-glyphs-clause-defects c in
-    let is = outlined_then all.After-work-left (passed all.In_ok-test_text) in
+    let is = outlined_then all.In_ok-line (passed all.In_ok-test_text) in
     let shapes = line_made z.face a s l fs is in
-    let fails = c.in_err-glyphs.ensures.exact (line_fitter s (text_glyphs z.face.cmap c.args.text.now)) shapes.0 is.fitted shapes.1 in
+    let fails = c.in_err-glyphs.ensures.exact (is_there c.args.cache.now) (line_fitter s (text_glyphs z.face.cmap c.args.text.now)) shapes.0 is.fitted shapes.1 in
     let p = err_from_is_err_and c.from_residual-in_err-glyphs.result c.from_residual-in_err-glyphs.ensures.1 in
     rw (p.1, p.2) (line_tells_no_defect _ _ c.in_err-glyphs.field-0.0 fails)
 
@@ -212,10 +212,10 @@ returns-in_err-glyphs-clause-job c =
     let l = placement_of c.in_ok-line.line in
     let fs = c.in_ok-outlined.outlined.fitted.items in
     let all = goal.at.returns-in_err-glyphs-clause-job c in
-    let is = outlined_then all.After-work-left (passed all.In_ok-test_text) in
+    let is = outlined_then all.In_ok-line (passed all.In_ok-test_text) in
     let shapes = line_made z.face a s l fs is in
     let fails = rw (line_edges z.face a s l fs shapes.0 is) at
-    (c.in_err-glyphs.ensures.exact (line_fitter s (text_glyphs z.face.cmap c.args.text.now)) shapes.0 is.fitted shapes.1) in
+    (c.in_err-glyphs.ensures.exact (is_there c.args.cache.now) (line_fitter s (text_glyphs z.face.cmap c.args.text.now)) shapes.0 is.fitted shapes.1) in
     let p = err_from_is_err_and c.from_residual-in_err-glyphs.result c.from_residual-in_err-glyphs.ensures.1 in
     rw (p.1, p.2, ← c.self.view_is) (line_tells_refusal z.face a s l fs shapes.0 c.in_err-glyphs.field-0.0 is
     (rw is.glyphs shapes.1) fails)
@@ -231,17 +231,17 @@ returns-clause-made c =
     let fs = c.in_ok-outlined.outlined.fitted.items in
     let o = c.in_ok-outlined.ensures.outlined in
     let all = goal.at.returns-clause-made c in
-    let is = outlined_then all.After-work-left (passed all.In_ok-test_text) in
+    let is = outlined_then all.In_ok-line (passed all.In_ok-test_text) in
     let shapes = line_made z.face a s l fs is in
     let fitted : shapes_in s l ≡ Ok shapes.0 = rw is.glyphs shapes.1 in
     let few = line_points z.face a s l fs is in
-    let passes = c.in_ok-glyphs.ensures.exact maker shapes.0 is.fitted shapes.1 in
+    let passes = c.in_ok-glyphs.ensures.exact (is_there c.args.cache.now) maker shapes.0 is.fitted shapes.1 in
     let seldom : edges_tested s a l shapes.0 ≡ Ok tt = of-job (edges_tested s a l shapes.0) tt
     (rw (line_edges z.face a s l fs shapes.0 is) at passes) in
-    let of = c.in_ok-glyphs.ensures.line maker is.fitted in
+    let of = c.in_ok-glyphs.ensures.line (is_there c.args.cache.now) maker is.fitted in
     let room : length c.in_ok-outlined.outlined.places.items ≡ glyphs_of z.face.metrics = o.room ∙ c.in_ok-fitter.ensures.setting.glyphs in
     let cost : c.in_ok-glyphs.glyphs.cost ≡ cost_of (work_left s (map (λ g. g.0) l.glyphs)) (crossings_in shapes.0) =
-    c.in_ok-glyphs.ensures.cost maker shapes.0 is.fitted shapes.1
+    c.in_ok-glyphs.ensures.cost (is_there c.args.cache.now) maker shapes.0 is.fitted shapes.1
     ∙ ap (λ left. cost_of left (crossings_in shapes.0)) (is.work ∙ ap (work_left s) (sym is.glyphs)) in
     rw (← c.self.view_is) (record {
       laid = line_laid z.face a s l fs is;
@@ -270,7 +270,7 @@ returns-clause-defects c =
     let l = placement_of c.in_ok-line.line in
     let fs = c.in_ok-outlined.outlined.fitted.items in
     let all = goal.at.returns-clause-defects c in
-    let is = outlined_then all.After-work-left (passed all.In_ok-test_text) in
+    let is = outlined_then all.In_ok-line (passed all.In_ok-test_text) in
     let shapes = line_made z.face a s l fs is in
     rw (← c.self.view_is, ← is.glyphs) (no_line_defect z.face a s l.glyphs shapes.0 is.there c.in_ok-fitter.ensures.defects
     (rw is.glyphs shapes.1))
@@ -286,6 +286,7 @@ tested_edges-requires-clause-bounded c = rw (← c.self.view_is) at c.requires.b
 
 pub tested_edges-requires-clause-made : goal.tested_edges-requires-clause-made
 tested_edges-requires-clause-made c = (
+  is_there c.args.cache.now,
   line_fitter c.in_ok-fitter.fitter (text_glyphs c.self.inside.source.face.now.cmap c.args.text.now),
   c.in_ok-outlined.ensures.outlined.fitted,
 )
