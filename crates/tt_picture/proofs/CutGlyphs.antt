@@ -76,6 +76,10 @@ as_cached cached s n o m es contours facts k told fault made edges lines step ch
 
 -- a cached glyph whose cost is paid
 
+pub same_cost : (s : Fitter) (n a b : ℕ) (o : Outline) (reason : Option Fault) → a ≡ b → IsMadeFor s n b o reason
+    → IsMadeFor s n a o reason
+same_cost s n a b o reason same is = rw same is
+
 pub paid_is_fitted : (s new : Fitter) (n : ℕ) (k : KeptGlyph) (is : IsCached s n k)
     → IsMade s n is.shape k.unfitted new → IsFittedBody true s n is.shape (kept k)
 paid_is_fitted s new n k is made =
@@ -122,6 +126,25 @@ pub counts_points : (s : Fitter) (n : ℕ) (counts : Option KeptCounts) (points 
     → IfSome counts (λ k. k.points ≡ points_asked s.tables s.levels n)
 counts_points s n None points are some = tt
 counts_points s n (Some k) points are some = rw some at are
+
+-- the edges, the contours, the step and the chords of an outline are those of its glyph
+
+pub made_edges : {cached : Bool} {s : Fitter} {n : ℕ} {o : Outline} (m : MadeOutline) (es : List Edge)
+    → IsMadeOutline cached s n o m → es ≡ edges_at m.rule 0 m.outline → es ≡ edges_at (chords_with s) 0 o
+made_edges m es made is = rw (made.rule, made.outline) at is
+
+pub made_lines : {cached : Bool} {s : Fitter} {n : ℕ} {o : Outline} (m : MadeOutline) (contours : List (List Edge))
+    → IsMadeOutline cached s n o m → IfSome m.filled (λ rules. contours ≡ contours_of m.rule 0 m.outline)
+    → IfSome m.filled (λ rules. contours ≡ contours_of (chords_with s) 0 o)
+made_lines m contours made is = rw (made.rule, made.outline) at is
+
+pub made_step : {cached : Bool} {s : Fitter} {n : ℕ} {o : Outline} (m : MadeOutline) (k : ℕ)
+    → IsMadeOutline cached s n o m → k ≡ step_of m.outline → k ≡ step_of o
+made_step m k made is = rw made.outline at is
+
+pub made_chords : {cached : Bool} {s : Fitter} {n : ℕ} {o : Outline} (m : MadeOutline) (k : ℕ)
+    → IsMadeOutline cached s n o m → k ≡ chords_of m.rule m.outline → k ≡ chords_of (chords_with s) o
+made_chords m k made is = rw (made.rule, made.outline) at is
 
 -- the body of a glyph that is made
 

@@ -3,7 +3,7 @@ use Rattle.tt_fit.specs.GlyphCost.{IsMade, IsMadeFor}
 use Rattle.tt_strike_kept.specs.Glyph.{KeptGlyph}
 use Rattle.tt_picture.specs.Cached.{IsCached}
 use Rattle.tt_picture.proofs.Cached.{one_found}
-use Rattle.tt_picture.proofs.CutGlyphs.{paid_is_fitted}
+use Rattle.tt_picture.proofs.CutGlyphs.{paid_is_fitted, same_cost}
 use Rattle.tt_picture.proofs.fitted.FittedGlyph.of.Goals.{After-pay}
 use Rattle.tt_picture.proofs.fitted.FittedGlyph.of.Goals as goal
 
@@ -19,7 +19,8 @@ returns-then-pay-clause-fitted c =
     let is = found (goal.at.returns-then-pay-clause-fitted c).After-pay in
     let there = (one_found s n k c.args.cache.now c.requires.cache c.in-Some.ensures).0 in
     let same : c.kept.inside.cost ≡ k.cost = ap (λ (k : KeptGlyph). k.cost) c.kept.view_is in
-    let cost : IsMadeFor s n c.kept.inside.cost is.shape k.unfitted = rw same is.made in
+    let cost : IsMadeFor s n c.kept.inside.cost is.shape k.unfitted =
+    same_cost s n c.kept.inside.cost k.cost is.shape k.unfitted same is.made in
     let made : IsMade s n is.shape k.unfitted c.pay.new.self = c.pay.ensures.made c.if-pay.true n is.shape k.unfitted cost in
     record { shape = is.shape; outline = made.outline; body = rw there (paid_is_fitted s c.pay.new.self n k is made) }
 
@@ -30,5 +31,6 @@ returns-then-pay-clause-after c =
     let k = c.in-Some.kept in
     let is = found (goal.at.returns-then-pay-clause-after c).After-pay in
     let same : c.kept.inside.cost ≡ k.cost = ap (λ (k : KeptGlyph). k.cost) c.kept.view_is in
-    let cost : IsMadeFor s n c.kept.inside.cost is.shape k.unfitted = rw same is.made in
+    let cost : IsMadeFor s n c.kept.inside.cost is.shape k.unfitted =
+    same_cost s n c.kept.inside.cost k.cost is.shape k.unfitted same is.made in
     sym (c.pay.ensures.made c.if-pay.true n is.shape k.unfitted cost).after

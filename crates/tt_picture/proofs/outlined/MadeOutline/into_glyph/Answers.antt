@@ -16,7 +16,7 @@ use Rattle.tt_picture.specs.Glyphs.{IsTape, edges_of}
 use Rattle.tt_picture.specs.Shapes.{chords_with, contours_of, edges_at}
 use Rattle.tt_picture.specs.Views.{body_view}
 use Rattle.tt_picture.specs.declared.cutting.GlyphFacts.{GlyphFacts}
-use Rattle.tt_picture.proofs.CutGlyphs.{as_cached, body_has, body_shows, made_boxed, tape_has, told_where}
+use Rattle.tt_picture.proofs.CutGlyphs.{as_cached, body_has, body_shows, made_boxed, made_chords, made_edges, made_lines, made_step, tape_has, told_where}
 use Rattle.tt_picture.proofs.outlined.MadeOutline.into_glyph.Goals.{After-of}
 use Rattle.tt_picture.proofs.outlined.MadeOutline.into_glyph.Goals as goal
 
@@ -42,8 +42,8 @@ returns-clause-valid c = λ cached s o outlined made.
     let lines = contours_at es ends in
     let way = chords_with s in
     let of_outline = c.in_ok-made.ensures in
-    let edged : es ≡ edges_at way 0 o = rw (own.rule, own.outline) at of_outline.exact in
-    let lined : IfSome i.filled (λ rules. lines ≡ contours_of way 0 o) = rw (own.rule, own.outline) at of_outline.contours in
+    let edged : es ≡ edges_at way 0 o = made_edges m es own of_outline.exact in
+    let lined : IfSome i.filled (λ rules. lines ≡ contours_of way 0 o) = made_lines m lines own of_outline.contours in
     let b = body_view c.in_ok-body.body in
     let facts : GlyphFacts = record { number = n; step = c.step-step.result; chords = c.in_ok-made.made.chords; counts = i.counts; unfitted = i.outline.unfitted } in
     let cut : IsCutBody es lines i.filled facts b = rw (c.in_ok-tape.ensures, c.deref.ensures.value) at c.in_ok-body.ensures.body.0 in
@@ -57,8 +57,8 @@ returns-clause-valid c = λ cached s o outlined made.
       body = body_has es (edges_at way 0 o) lines i.filled facts b edged cut;
       left = c.left-left.ensures.exact;
       tape = λ off. c.in_ok-body.ensures.plain (own.plain off);
-      step = rw own.outline at c.step-step.ensures.exact;
-      chords = rw (own.rule, own.outline) at of_outline.chords;
+      step = made_step m c.step-step.result own c.step-step.ensures.exact;
+      chords = made_chords m c.in_ok-made.made.chords own of_outline.chords;
       kept = body_shows cached s n o m es lines facts b own of_outline.exact of_outline.contours c.step-step.ensures.exact of_outline.chords cut;
       filled = λ is. told.tape is ∙ own.filled;
       of_tape = told.some;
