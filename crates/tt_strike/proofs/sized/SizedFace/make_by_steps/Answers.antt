@@ -13,15 +13,18 @@ use Rattle.tt_picture.proofs.Among.{of_same_glyphs}
 use Rattle.tt_strike.specs.Costs.{cost_of}
 use Rattle.tt_strike.specs.Defects.{IsLineDefect}
 use Rattle.tt_strike.specs.Job.{Job, tested}
+use Rattle.tt_strike.specs.Makers.{IsMaker}
 use Rattle.tt_strike.specs.Picture.{edges_tested, shapes_in}
-use Rattle.tt_strike.specs.Strikes.{SizedFace, job_by}
+use Rattle.tt_strike.specs.Strikes.{IsCacheOf, SizedFace, job_by}
 use Rattle.tt_strike.specs.Work.{line_fitter, work_left}
+use Rattle.tt_strike.proofs.Caches.{of_face, of_fitter}
 use Rattle.tt_strike.proofs.Costed.{costed}
+use Rattle.tt_strike.proofs.Setting.{given_back, line_alike, maker_alike}
 use Rattle.tt_strike.proofs.Placed.{of-job}
 use Rattle.tt_strike.proofs.Stopped.{drawing_refuses_no_job, font_tells, tested_at}
 use Rattle.tt_strike.proofs.Stepped.{IsOutlinedLine, extent_by_steps_tells, extent_stops_text, line_edges, line_laid, line_made, line_points, line_stops_text, line_tells_no_defect, line_tells_refusal, outlines_pass, outlines_stop_text, outlines_tell_defect, outlines_tell_refusal, setting_stops_text}
 use Rattle.tt_strike.proofs.Telling.{no_line_defect, setting_tells}
-use Rattle.tt_strike.proofs.sized.SizedFace.make_by_steps.Goals.{In_ok-line, In_ok-test_text}
+use Rattle.tt_strike.proofs.sized.SizedFace.make_by_steps.Goals.{After-give_back, After-tested_edges, In_ok-line, In_ok-test_text}
 use Rattle.tt_strike.proofs.sized.SizedFace.make_by_steps.Goals as goal
 
 -- the job of a text at this place
@@ -306,3 +309,54 @@ tested_edges-requires-clause-known c =
     o.room ∙ c.in_ok-fitter.ensures.setting.glyphs in
     rw room (of_same_glyphs (λ n. n < glyphs_of c.self.inside.source.face.now.metrics) c.in_ok-outlined.outlined.steps.items
     c.in_ok-line.line.glyphs.items c.in_ok-line.ensures.glyphs c.in_ok-outlined.ensures.known)
+
+pub outlined-requires-clause-cache : goal.outlined-requires-clause-cache
+outlined-requires-clause-cache c =
+    let z : SizedFace = record { face = c.self.inside.source.face.now; ppem = c.self.inside.source.ppem; fit = c.self.inside.source.fit } in
+    of_fitter z c.in_ok-fitter.fitter c.args.cache.now c.in_ok-fitter.ensures.setting (rw (← c.self.view_is) at c.requires.cache)
+
+-- the cache is then that of the font at the size
+cache_then : (c : After-tested_edges) → IsCacheOf c.args.self.now c.tested_edges.new.cache
+cache_then c =
+    let z : SizedFace = record { face = c.self.inside.source.face.now; ppem = c.self.inside.source.ppem; fit = c.self.inside.source.fit } in
+    let s = c.in_ok-fitter.fitter in
+    let gs = text_glyphs z.face.cmap c.args.text.now in
+    let before = rw (← c.self.view_is) at c.requires.cache in
+    let own = of_fitter z s c.args.cache.now c.in_ok-fitter.ensures.setting before in
+    let after = c.tested_edges.ensures.cached (is_there c.args.cache.now) (line_fitter s gs) s
+    c.in_ok-outlined.ensures.outlined.fitted (maker_alike s gs) own in
+    rw (← c.self.view_is) (of_face z s c.args.cache.now c.tested_edges.new.cache c.in_ok-fitter.ensures.exact
+    c.tested_edges.ensures.limit before after)
+
+pub returns-in_err-glyphs-clause-cache : goal.returns-in_err-glyphs-clause-cache
+returns-in_err-glyphs-clause-cache c = cache_then (goal.at.returns-in_err-glyphs-clause-cache c).After-tested_edges
+
+pub returns-clause-cache : goal.returns-clause-cache
+returns-clause-cache c = cache_then (goal.at.returns-clause-cache c).After-tested_edges
+
+-- the fitter that is given back is the one before the line
+maker_then : (c : After-give_back) → IsMaker c.self.inside.source.face.now c.self.inside.source.ppem c.self.inside.source.fit c.give_back.new.self
+maker_then c =
+    let s = c.in_ok-fitter.fitter in
+    let gs = text_glyphs c.self.inside.source.face.now.cmap c.args.text.now in
+    given_back c.self.inside.source.face.now c.self.inside.source.ppem c.self.inside.source.fit s c.outlined.new.fitter
+    c.work-begun.result c.give_back.new.self c.in_ok-fitter.ensures.setting
+    (rw c.in_ok-outlined.ensures.after (line_alike s gs (distinct gs))) c.work-begun.ensures c.give_back.ensures
+
+pub invariant_of-self-in_err-line : goal.invariant_of-self-in_err-line
+invariant_of-self-in_err-line c = (
+  maker_then (goal.at.invariant_of-self-in_err-line c).After-give_back,
+  c.outlined.ensures.same ∙ c.self.invariant.1,
+)
+
+pub invariant_of-self-in_err-glyphs : goal.invariant_of-self-in_err-glyphs
+invariant_of-self-in_err-glyphs c = (
+  maker_then (goal.at.invariant_of-self-in_err-glyphs c).After-give_back,
+  c.outlined.ensures.same ∙ c.self.invariant.1,
+)
+
+pub invariant_of-self-2 : goal.invariant_of-self-2
+invariant_of-self-2 c = (
+  maker_then (goal.at.invariant_of-self-2 c).After-give_back,
+  c.outlined.ensures.same ∙ c.self.invariant.1,
+)
