@@ -47,6 +47,7 @@ impl Model for FittedGlyph {
 impl FittedGlyph {
     /// A glyph from the cache, where its cost is left of the job's work: the cost is paid. Else the glyph is made. The
     /// fitter then serves later glyphs. Errors: those of its outline, Memory.
+    #[inline(always)]
     pub(crate) fn of(
         fitter: &mut Fitter,
         number: u16,
@@ -86,6 +87,7 @@ impl FittedGlyph {
 
     /// The glyph with its edges or its pixels, without a pen, with room for `room` pens. It is cached if it may be, and
     /// is small enough. Error: Memory. The outline is dropped.
+    #[inline(always)]
     pub(crate) fn into_glyph(
         self,
         alloc: Global,

@@ -103,6 +103,7 @@ impl Glyph {
     /// A glyph without a pen, with room for `room` pens, from the cache where its cost is left. Else it is made from its
     /// outline, and cached if it may be and is small enough. The fitter then serves later glyphs. Errors: those of its
     /// outline, Memory.
+    #[inline(always)]
     pub(crate) fn of(
         alloc: Global,
         fitter: &mut Fitter,
@@ -129,6 +130,7 @@ impl Glyph {
     }
 
     /// A cached glyph, without a pen, with room for `room` pens. Error: Memory.
+    #[inline(always)]
     pub(crate) fn cached(
         alloc: Global,
         number: u16,

@@ -60,6 +60,7 @@ impl Model for MadeOutline {
 impl MadeOutline {
     /// The outline of a glyph, with what the glyph counts if there is a cache. The fitter then serves later glyphs.
     /// Errors: those of the outline, Memory.
+    #[inline(never)]
     pub(crate) fn of(
         fitter: &mut Fitter,
         number: u16,
@@ -85,6 +86,7 @@ impl MadeOutline {
 
     /// The glyph with its edges or its pixels, without a pen, with room for `room` pens. It is cached if it may be, and
     /// is small enough. Error: Memory. The outline is dropped.
+    #[inline(never)]
     pub(crate) fn into_glyph(
         self,
         alloc: Global,
