@@ -56,8 +56,8 @@ pub image_alike : (f : Frame) (a b : ℕ → ℕ → Bool) → AreAlike f.width 
 image_alike f a b same = ap (with_rows f) (rows_alike f.width f.height a b same)
 
 -- glyphs and dropouts that blacken the same pixels as some shapes have the same image
-pub same_picture : {cached : Bool} (f : Frame) (gs : List Glyph) (ds : List Dropout) (shapes : List Shape)
-    → f.width < 2 ^ 62 → Stand cached f gs shapes
+pub same_picture : (f : Frame) (gs : List Glyph) (ds : List Dropout) (shapes : List Shape)
+    → f.width < 2 ^ 62 → Stand f gs shapes
     → AreAlike f.width f.height (is_among ds) (is_filled_by f (stamps_in gs))
     → image f (shows_by f (stamps_in gs) ds) ≡ picture f shapes
 same_picture f gs ds shapes wide stand drops = image_alike f (shows_by f (stamps_in gs) ds) (is_black_pixel f shapes)

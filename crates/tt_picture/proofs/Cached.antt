@@ -1,22 +1,28 @@
 -- Cached glyphs equal those made anew.
-use Rattle.std.proofs.Common.{◌≡◌, ◌∙◌, ℕ, ◌-◌, ◌<◌, ◌≤◌, Bool, true, false, nat_eq, List, ◌∷◌, Option, None, Some, Ok, ◌⊎◌, ap, refl, sym}
+use Rattle.std.proofs.Common.{◌≡◌, ◌∙◌, ℕ, ◌-◌, ◌<◌, ◌≤◌, Bool, true, false, ◌==◌, if◌then◌else◌, nat_eq, List, [], ◌∷◌, nat_le, Option, None, Some, Ok, ◌⊎◌, inl, inr, ap, refl, sym}
 use Rattle.std.specs.Prelude.{IfSome}
 use Rattle.std.specs.Map.{lookup, remove_entry}
 use Rattle.tt_core.specs.Faults.{Fault}
-use Rattle.tt_fit.specs.Fitting.{Fitter, charged_fitter, fitted_outline, unfitted_fault}
+use Rattle.tt_fit.proofs.WorkApart.{costs-stay, glyphs-take-work-alone, own-work, work-is-apart}
+use Rattle.tt_fit.specs.Counting.{counted, points_asked}
+use Rattle.tt_fit.specs.Dropouts.{dropouts_of}
+use Rattle.tt_fit.specs.Fitting.{Fitter, after_glyph, fitted_outline, unfitted_fault, with_work}
+use Rattle.tt_fit.specs.GlyphCost.{IsMade, IsMadeFor, all_used, without_work, work_more}
 use Rattle.tt_fit.specs.Laws.{UnboundedStays}
-use Rattle.tt_fit.specs.declared.dropouts.DropoutRules.{DropoutRules}
 use Rattle.tt_fit_outline.specs.Outline.{Outline}
-use Rattle.tt_picture.specs.Cached.{IsCacheFor, IsCached, entries_of, is_there, limit_of}
-use Rattle.tt_picture.specs.Distinct.{fitter_after}
-use Rattle.tt_picture.specs.Glyphs.{GlyphBody, tape, raster, IsBodyOf, IsTape, edges_of}
-use Rattle.tt_picture.specs.Shapes.{chords_with, edges_at, filled_by, rules_for}
-use Rattle.tt_picture.proofs.Unbounded.{uncharged, unchanged}
+use Rattle.tt_fit_outline.specs.Steps.{step_of}
+use Rattle.tt_picture.specs.Cached.{CachedStays, IsCacheFor, IsCached, IsCutOf, IsOfOutline, entries_of, is_there, limit_of}
+use Rattle.tt_picture.specs.Cut.{HasFacts}
+use Rattle.tt_picture.specs.Distinct.{fitter_after, fitter_for}
+use Rattle.tt_picture.specs.Fitted.{FittedBody, FittedGlyph, outlined, kept, IsFitted, IsFittedBody, IsMadeOutline, MadeOutline}
+use Rattle.tt_picture.specs.Pixels.{is_filled}
+use Rattle.tt_picture.specs.Shapes.{chords_with, contours_of, edges_at, extents_of, filled_by, rule_by, rules_for}
+use Rattle.tt_picture.specs.Steps.{chords_of}
+use Rattle.tt_picture.specs.declared.cutting.GlyphFacts.{GlyphFacts}
+use Rattle.tt_picture.specs.declared.outlined.KeptCounts.{KeptCounts}
+use Rattle.tt_picture.proofs.Standings.{same_filled}
 use Rattle.tt_scan_edges.specs.declared.edge.Edge.{Edge}
-use Rattle.tt_scan_gaps.specs.Boxes.{ExtentsFit}
-use Rattle.tt_scan_gaps.specs.declared.extent.Extents.{Extents}
 use Rattle.tt_scan_dropouts.specs.declared.boxed.BoxedRules.{BoxedRules}
-use Rattle.tt_scan_rows.specs.Raster.{IsRasterOf, Raster}
 use Rattle.tt_strike_kept.proofs.CallerLemmas.{all_found, all_kept}
 use Rattle.tt_strike_kept.specs.Glyph.{KeptGlyph}
 use Rattle.tt_strike_kept.specs.Kept.{Kept, bytes_of, fitting}
@@ -28,7 +34,7 @@ IsAsMade s e = IsCached s e.0 e.1
 pub one_found : (s : Fitter) (n : ℕ) (g : KeptGlyph) (c : Option Kept) → IsCacheFor s c
     → lookup (nat_eq n) (entries_of c) ≡ Some g → (is_there c ≡ true) × IsCached s n g
 one_found s n g None own found = absurd cc
-one_found s n g (Some k) own found = (refl, all_found (IsAsMade s) n k.entries g own.1 found)
+one_found s n g (Some k) own found = (refl, all_found (IsAsMade s) n k.entries g own found)
 
 -- a glyph put into the cache
 pub one_put : (s : Fitter) (old new : Kept) (n : ℕ) (g : KeptGlyph) → (old.most < bytes_of g → new ≡ old)
@@ -36,12 +42,15 @@ pub one_put : (s : Fitter) (old new : Kept) (n : ℕ) (g : KeptGlyph) → (old.m
     → (new.entries ≡ fitting old.most ((n, g) ∷ remove_entry (nat_eq n) old.entries))
     ⊎ (new.entries ≡ fitting (old.most - bytes_of g) (remove_entry (nat_eq n) old.entries)))
     → IsCached s n g → IsCacheFor s (Some old) → IsCacheFor s (Some new)
-one_put s old new n g larger entries one own = (own.0, all_kept (IsAsMade s) old new n g larger entries one own.1)
+one_put s old new n g larger entries one own = all_kept (IsAsMade s) old new n g larger entries one own
 
--- where there is a cache the work is not bounded
-pub unbounded_with : (s : Fitter) (c : Option Kept) → IsCacheFor s c → is_there c ≡ true → s.work ≡ None
-unbounded_with s None own there = absurd cc
-unbounded_with s (Some k) own there = own.0
+-- the points of a glyph found in the cache
+pub points_found : (n : ℕ) (k : Kept) (c : Option Kept) (points : Option ℕ) → c ≡ Some k
+    → IfSome points (λ p. (g : KeptGlyph) × (lookup (nat_eq n) k.entries ≡ Some g) × (p ≡ g.points))
+    → IfSome points (λ p. (s : Fitter) → IsCacheFor s c → p ≡ points_asked s.tables s.levels n)
+points_found n k c None there found = tt
+points_found n k c (Some p) there found = λ s own.
+    let one = all_found (IsAsMade s) n k.entries found.0 (rw there at own) found.1 in found.2 ∙ one.points
 
 -- with one limit there is a cache before and after, or there is none
 pub same_there : (a b : Option Kept) → limit_of a ≡ limit_of b → is_there a ≡ is_there b
@@ -50,57 +59,57 @@ same_there None (Some l) same = absurd cc
 same_there (Some k) None same = absurd cc
 same_there (Some k) (Some l) same = refl
 
--- a made glyph with no filled dropouts
-pub one_made : (s : Fitter) (n : ℕ) (o : Outline) (es : List Edge) (unfitted : Option Fault) (filled : Option BoxedRules)
-    → fitted_outline s n ≡ Ok o → es ≡ edges_at (chords_with s) 0 o → unfitted ≡ unfitted_fault s n → filled ≡ filled_by s n o
-    → filled ≡ None → s.work ≡ None → (k : Raster) → IsRasterOf es k
-    → IsCached s n (record { raster = k; unfitted = unfitted })
-one_made s n o es unfitted filled made edges fault by none unbounded k cut = record {
-  shape = o;
-  outline = made;
-  raster = rw edges at cut;
-  unfitted = fault;
-  filled = sym by ∙ none;
-  unbounded = unbounded;
-}
+-- the cache is that of every fitter that differs in its remaining work alone
 
--- the cache of a fitter is that of the fitter after other glyphs, since these leave unbounded work unchanged
-pub cache_after : UnboundedStays → (s : Fitter) (gs : List ℕ) (c : Option Kept) → IsCacheFor s c
-    → IsCacheFor (fitter_after s gs) c
-cache_after stays s gs None own = tt
-cache_after stays s gs (Some k) own = rw (unchanged stays s gs own.0) own
+same_rule : (a b : Option ℕ) → all_used b ≡ all_used a → rule_by b ≡ rule_by a
+same_rule None None same = refl
+same_rule None (Some n) same = absurd cc
+same_rule (Some m) None same = absurd cc
+same_rule (Some m) (Some n) same = refl
 
-pub cache_before : UnboundedStays → (s : Fitter) (gs : List ℕ) (before after : Option Kept)
-    → limit_of after ≡ limit_of before → IsCacheFor s before → IsCacheFor (fitter_after s gs) after → IsCacheFor s after
-cache_before stays s gs None None same old new = tt
-cache_before stays s gs None (Some k) same old new = absurd cc
-cache_before stays s gs (Some j) None same old new = tt
-cache_before stays s gs (Some j) (Some k) same old new = rw (unchanged stays s gs old.0) at new
+outline_stays : (s t : Fitter) (filled : Option BoxedRules) (o : Outline) (k : KeptGlyph) → chords_with t ≡ chords_with s
+    → IsOfOutline s filled o k → IsOfOutline t filled o k
+outline_stays s t filled o k way is = record { cut = rw way is.cut; step = is.step; chords = rw way is.chords }
 
--- and that of the fitter after a cost
-pub cache_at_a_cost : (s : Fitter) (cost : ℕ) (c : Option Kept) → IsCacheFor s c → IsCacheFor (charged_fitter s cost) c
-cache_at_a_cost s cost None own = tt
-cache_at_a_cost s cost (Some k) own =
-    let same = uncharged s cost own.0 in
-    (ap (λ (f : Fitter). f.work) same ∙ own.0, rw same own.1)
+one_stays : (s t : Fitter) (n : ℕ) (k : KeptGlyph) → without_work t ≡ without_work s → IsCached s n k → IsCached t n k
+one_stays s t n k same is =
+    let alike = work-is-apart s t same in
+    let way = same_rule s.work t.work alike.bound in
+    record {
+      shape = is.shape;
+      made = costs-stay s t n k.cost is.shape k.unfitted same is.made;
+      shown = rw (alike.dropouts k.unfitted is.shape) (outline_stays s t _ is.shape k way is.shown);
+      points = rw (alike.tables, alike.levels) is.points;
+    }
 
-pub cache_before_a_cost : (s : Fitter) (cost : ℕ) (before after : Option Kept) → limit_of after ≡ limit_of before
-    → IsCacheFor s before → IsCacheFor (charged_fitter s cost) after → IsCacheFor s after
-cache_before_a_cost s cost None None same old new = tt
-cache_before_a_cost s cost None (Some k) same old new = absurd cc
-cache_before_a_cost s cost (Some j) None same old new = tt
-cache_before_a_cost s cost (Some j) (Some k) same old new = (old.0, rw (uncharged s cost old.0) at new.1)
+pub cached_stays : CachedStays
+cached_stays s t None same own = tt
+cached_stays s t (Some k) same own = λ i d below. one_stays s t _ _ same (own i d below)
 
--- a glyph with filled dropouts is a tape
-pub tape_where : (filled : Option BoxedRules) (body : GlyphBody) (plain : Bool) → IfSome filled (λ rules. plain ≡ false)
-    → (plain ≡ false → IsTape body) → IfSome filled (λ rules. IsTape body)
-tape_where None body plain off is = tt
-tape_where (Some rules) body plain off is = is off
+-- glyphs change nothing but the remaining work
+pub after_alike : (s : Fitter) (gs : List ℕ) → without_work (fitter_after s gs) ≡ without_work s
+after_alike s [] = refl
+after_alike s (g ∷ gs) = after_alike (after_glyph s g) gs ∙ glyphs-take-work-alone s g
 
--- the tape has the edges of its outline
-pub of_edges : (filled : Option BoxedRules) (body : GlyphBody) (es : List Edge) (P : List Edge → Type 0)
-    → IfSome filled (λ rules. IsTape body) → IsBodyOf es body → IfSome filled (λ rules. P es)
-    → IfSome filled (λ rules. P (edges_of body))
-of_edges None body es P is has holds = tt
-of_edges (Some rules) (tape t) es P is has holds = rw has holds
-of_edges (Some rules) (raster k) es P is has holds = absurd is
+pub cache_after : (s : Fitter) (gs : List ℕ) (c : Option Kept) → IsCacheFor s c → IsCacheFor (fitter_after s gs) c
+cache_after s gs c own = cached_stays s (fitter_after s gs) c (after_alike s gs) own
+
+pub cache_before : (s : Fitter) (gs : List ℕ) (c : Option Kept) → IsCacheFor (fitter_after s gs) c → IsCacheFor s c
+cache_before s gs c own = cached_stays (fitter_after s gs) s c (sym (after_alike s gs)) own
+
+for_by : (here : Bool) (s t : Fitter) → without_work t ≡ without_work s
+    → without_work (if here then s else t) ≡ without_work s
+for_by true s t alike = refl
+for_by false s t alike = alike
+
+pub for_alike : (s : Fitter) (gs : List ℕ) (n : ℕ) → without_work (fitter_for s gs n) ≡ without_work s
+for_alike s [] n = refl
+for_alike s (g ∷ gs) n = for_by (g == n) s (fitter_for (after_glyph s g) gs n)
+    (for_alike (after_glyph s g) gs n ∙ glyphs-take-work-alone s g)
+
+-- the cache after a glyph, which another fitter makes
+pub one_cached : (cached : Bool) (s t : Fitter) (g : FittedGlyph) (old new : Option Kept) → without_work t ≡ without_work s
+    → IsFitted cached t g → ((cached : Bool) (s : Fitter) → IsFitted cached s g → IsCacheFor s old → IsCacheFor s new)
+    → IsCacheFor s old → IsCacheFor s new
+one_cached cached s t g old new alike is puts own =
+    cached_stays t s new (sym alike) (puts cached t is (cached_stays s t old alike own))

@@ -2,7 +2,9 @@ pub mod Alike
 pub mod Among
 mod Bands
 pub mod Blackened
+pub mod Boxed
 pub mod Crossed
+pub mod CutGlyphs
 pub mod Filled
 pub mod Outlines
 pub mod FirstMet
@@ -16,6 +18,7 @@ pub mod Reframed
 mod RowBytes
 mod RowsCut
 pub mod RowsNeeded
+pub mod Seen
 pub mod Seats
 pub mod Standings
 pub mod Turns

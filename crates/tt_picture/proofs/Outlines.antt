@@ -13,9 +13,9 @@ use Rattle.tt_fit.specs.Fitting.{Fitter, fitted_outline}
 use Rattle.tt_fit_outline.specs.Outline.{Outline}
 use Rattle.tt_fit_outline.specs.Steps.{step_of}
 use Rattle.tt_picture.specs.Distinct.{distinct_after, is_among}
-use Rattle.tt_picture.specs.Fitted.{AreFitted, AreSteps, FittedGlyph, IsFitted, fitted_chords, fitted_numbers}
+use Rattle.tt_picture.specs.Fitted.{AreFitted, AreSteps, FittedBody, FittedGlyph, IsFitted, IsFittedBody, body_chords, body_step, fitted_chords, fitted_numbers, kept, outlined}
 use Rattle.tt_picture.specs.Pixels.{Shape}
-use Rattle.tt_picture.specs.Shapes.{glyph_shape, shape_at}
+use Rattle.tt_picture.specs.Shapes.{chords_with, glyph_shape, shape_at}
 use Rattle.tt_picture.specs.Steps.{chords_of, glyph_chords, glyph_step}
 use Rattle.tt_picture.specs.Unfitted.{all_differ}
 
@@ -75,42 +75,54 @@ stuck_there (font.Font f) make ns i os below so_far fails = sym so_far ∙ rw (d
 stuck_there font.Memory make ns i os below so_far fails = tt
 
 -- fitted glyphs have the steps and the chords of the definition
-pub steps_are : (maker : ℕ → Fitter) (fs : List FittedGlyph) → AreFitted maker fs
+step_is : (cached : Bool) (s : Fitter) (n : ℕ) (o : Outline) (body : FittedBody) → IsFittedBody cached s n o body
+    → step_of o ≡ body_step body
+step_is cached s n o (outlined m) is = rw is.outline refl
+step_is cached s n o (kept k) is = sym is.2.step
+
+pub steps_are : {cached : Bool} (maker : ℕ → Fitter) (fs : List FittedGlyph) → AreFitted cached maker fs
     → AreSteps (λ g. glyph_step (maker g) g) fs
 unfolding glyph_step
-steps_are maker fs fitted = λ k d below. rw ((fitted k d below).outline) refl
+steps_are {cached} maker fs fitted = λ k d below.
+    let one = fitted k d below in rw one.outline (step_is cached _ _ one.shape _ one.body)
 
-pub chords_are : (maker : ℕ → Fitter) (fs : List FittedGlyph) → AreFitted maker fs
-    → map (λ g. chords_of g.rule g.outline) fs ≡ map (λ g. glyph_chords (maker g) g) (fitted_numbers fs)
+chord_is : (cached : Bool) (s : Fitter) (n : ℕ) (o : Outline) (body : FittedBody) → IsFittedBody cached s n o body
+    → body_chords body ≡ chords_of (chords_with s) o
+chord_is cached s n o (outlined m) is = rw (is.rule, is.outline) refl
+chord_is cached s n o (kept k) is = is.2.chords
+
+pub chords_are : {cached : Bool} (maker : ℕ → Fitter) (fs : List FittedGlyph) → AreFitted cached maker fs
+    → map (λ g. body_chords g.body) fs ≡ map (λ g. glyph_chords (maker g) g) (fitted_numbers fs)
 unfolding glyph_chords
 chords_are maker [] fitted = refl
-chords_are maker (f ∷ fs) fitted =
-    let P : FittedGlyph → Type 0 = λ g. IsFitted (maker g.number) g in
+chords_are {cached} maker (f ∷ fs) fitted =
+    let P : FittedGlyph → Type 0 = λ g. IsFitted cached (maker g.number) g in
     let one = All-head P f fs fitted in
-    rw (one.rule, one.outline, chords_are maker fs (All-tail P f fs fitted)) refl
+    let own = chord_is cached (maker f.number) f.number one.shape f.body one.body in
+    rw (own, one.outline, chords_are maker fs (All-tail P f fs fitted)) refl
 
 -- where outlines are made, those of a line's glyphs give its shapes
 abbrev HasOutline : (ℕ → Fitter) → ℕ → Type 0
 HasOutline maker n = (o : Outline) × (fitted_outline (maker n) n ≡ Ok o)
 
-found_by : (here : Bool) (maker : ℕ → Fitter) (f : FittedGlyph) (fs : List FittedGlyph) (n : ℕ) → (f.number == n) ≡ here
-    → (here || is_among n (fitted_numbers fs)) ≡ true → IsFitted (maker f.number) f
+found_by : {cached : Bool} (here : Bool) (maker : ℕ → Fitter) (f : FittedGlyph) (fs : List FittedGlyph) (n : ℕ) → (f.number == n) ≡ here
+    → (here || is_among n (fitted_numbers fs)) ≡ true → IsFitted cached (maker f.number) f
     → (is_among n (fitted_numbers fs) ≡ true → HasOutline maker n) → HasOutline maker n
 found_by true maker f fs n same is one more =
     let first : f.number ≡ n = grind (arith, nat_tests) in
-    let own : HasOutline maker f.number = (f.outline, one.outline) in
+    let own : HasOutline maker f.number = (one.shape, one.outline) in
     rw first at own
 found_by false maker f fs n other is one more = more is
 
-has_outline : (maker : ℕ → Fitter) (fs : List FittedGlyph) (n : ℕ) → AreFitted maker fs
+has_outline : {cached : Bool} (maker : ℕ → Fitter) (fs : List FittedGlyph) (n : ℕ) → AreFitted cached maker fs
     → is_among n (fitted_numbers fs) ≡ true → HasOutline maker n
 has_outline maker [] n fitted among = absurd cc
-has_outline maker (f ∷ fs) n fitted among =
-    let P : FittedGlyph → Type 0 = λ g. IsFitted (maker g.number) g in
+has_outline {cached} maker (f ∷ fs) n fitted among =
+    let P : FittedGlyph → Type 0 = λ g. IsFitted cached (maker g.number) g in
     found_by (f.number == n) maker f fs n refl among (All-head P f fs fitted)
     (has_outline maker fs n (All-tail P f fs fitted))
 
-pub shapes_of_line : (maker : ℕ → Fitter) (fs : List FittedGlyph) (line : List (ℕ × ℕ)) → AreFitted maker fs
+pub shapes_of_line : {cached : Bool} (maker : ℕ → Fitter) (fs : List FittedGlyph) (line : List (ℕ × ℕ)) → AreFitted cached maker fs
     → All (λ (g : ℕ × ℕ). is_among g.0 (fitted_numbers fs) ≡ true) line
     → (shapes : List Shape) × (each (glyph_shape maker) line ≡ Ok shapes)
 shapes_of_line maker fs [] fitted among = ([], refl)
@@ -149,23 +161,23 @@ same_number gs hs i same below under =
 
 -- the step of the glyph at this place
 pub step_at : (step : ℕ → ℕ) (fs : List FittedGlyph) (i n : ℕ) (f : FittedGlyph) → AreSteps step fs → i < length fs
-    → slice_index (fitted_numbers fs) i ≡ n → f ≡ get_or fs i f → step_of f.outline ≡ step n
+    → slice_index (fitted_numbers fs) i ≡ n → f ≡ get_or fs i f → body_step f.body ≡ step n
 step_at step fs i n f steps below number is =
-    let own : step f.number ≡ step_of f.outline = rw (← is) at (steps i f below) in
+    let own : step f.number ≡ body_step f.body = rw (← is) at (steps i f below) in
     let here : f.number ≡ n = ap (λ (g : FittedGlyph). g.number) is
     ∙ sym (get_or-map (λ (g : FittedGlyph). g.number) fs i f 0 below) ∙ number in
     sym own ∙ ap step here
 
 -- one more of some glyphs and its chords
 pub one_chord_more : (fs : List FittedGlyph) (f : FittedGlyph) (left most n : ℕ) → left + fitted_chords fs ≡ most
-    → n ≡ chords_of f.rule f.outline → n ≤ left → (left - n) + fitted_chords (fs ++ f ∷ []) ≡ most
+    → n ≡ body_chords f.body → n ≤ left → (left - n) + fitted_chords (fs ++ f ∷ []) ≡ most
 one_chord_more fs f left most n so_far is fits =
-    let sum = sum_by_push (λ (g : FittedGlyph). chords_of g.rule g.outline) fs f in
+    let sum = sum_by_push (λ (g : FittedGlyph). body_chords g.body) fs f in
     omega (arith, so_far, is, fits, sum)
 
 pub too_many_chords : (fs gs : List FittedGlyph) (f : FittedGlyph) (left most n : ℕ) → left + fitted_chords fs ≡ most
-    → n ≡ chords_of f.rule f.outline → left < n → most < fitted_chords (fs ++ f ∷ gs)
+    → n ≡ body_chords f.body → left < n → most < fitted_chords (fs ++ f ∷ gs)
 too_many_chords fs gs f left most n so_far is over =
-    let sum = sum_by-append (λ (g : FittedGlyph). chords_of g.rule g.outline) fs (f ∷ gs) in
-    let first = sum_by-cons (λ (g : FittedGlyph). chords_of g.rule g.outline) f gs in
+    let sum = sum_by-append (λ (g : FittedGlyph). body_chords g.body) fs (f ∷ gs) in
+    let first = sum_by-cons (λ (g : FittedGlyph). body_chords g.body) f gs in
     omega (arith, so_far, is, over, sum, first)

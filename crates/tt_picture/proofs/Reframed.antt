@@ -2,15 +2,16 @@
 use Rattle.std.proofs.Common.{◌≡◌, ◌∙◌, refl, sym, ℕ, zero, suc, ◌+◌, ◌<◌, ◌≤◌, Bool, true, false, ◌||◌, ◌==◌, List, [], ◌∷◌, ◌++◌, ◌-◌, length, drop, get_or, slice_index, Result, Ok, Option, None, Some, append-nil, arith}
 use Rattle.std.proofs.lemmas.Bool.Decides.{nat_tests}
 use Rattle.std.proofs.lemmas.List.{get_or_default}
-use Rattle.std.proofs.lemmas.List.Elements.{All-head, All-tail}
+use Rattle.std.proofs.lemmas.List.Elements.{All-cons, All-head, All-nil, All-tail}
 use Rattle.std.specs.Prelude.{All, IfSome, IsOkAnd}
 use Rattle.tt_core.specs.Limits.{margin_limit}
 use Rattle.tt_core.specs.Outcomes.{each, after_each}
 use Rattle.tt_fit.specs.Fitting.{Fitter}
+use Rattle.tt_fit_outline.specs.Outline.{Outline}
 use Rattle.tt_scan_edges.specs.declared.edge.Frame.{Frame}
 use Rattle.tt_scan_dropouts.specs.declared.boxed.BoxedRules.{BoxedRules}
 use Rattle.tt_picture.specs.Distinct.{is_among}
-use Rattle.tt_picture.specs.Glyphs.{ArePlaces, AreWithin, GlyphBody, tape, raster, BodyFits, Glyph, IsBodyOf, IsDrawn, IsTape, Stand, crossings_standing, edges_of, left_of, stamps_in}
+use Rattle.tt_picture.specs.Glyphs.{ArePlaces, AreWithin, GlyphBody, tape, kept, BodyFits, Glyph, IsBodyOf, IsDrawn, IsKeptOf, IsTape, Stand, crossings_standing, edges_of, left_of, stamps_in}
 use Rattle.tt_picture.specs.Shapes.{chords_with, edges_at}
 use Rattle.tt_picture.specs.Pixels.{is_black_by, is_filled_by}
 use Rattle.tt_picture.proofs.Inked.{edges_are}
@@ -18,7 +19,12 @@ use Rattle.tt_picture.proofs.Inked.{edges_are}
 -- nothing is added to the pens of a tape
 pub tape_left : (f : Frame) (body : GlyphBody) → IsTape body → left_of f body ≡ 0
 tape_left f (tape t) is = refl
-tape_left f (raster k) is = absurd is
+tape_left f (kept k) is = absurd is
+
+-- a tape is no cached glyph
+tape_kept : (s : Fitter) (filled : Option BoxedRules) (o : Outline) (body : GlyphBody) → IsTape body → IsKeptOf s filled o body
+tape_kept s filled o (tape t) is = tt
+tape_kept s filled o (kept k) is = absurd is
 
 where_filled : (filled : Option BoxedRules) (P : Type 0) → P → IfSome filled (λ rules. P)
 where_filled None P holds = tt
@@ -39,9 +45,10 @@ drawn_in s f frame g h number filled ends unfitted step chords left is of fits d
       body = rw outlined at of;
       left = left ∙ sym (tape_left frame h.body is);
       tape = λ off. is;
-      step = λ off. step ∙ drawn.step off;
-      chords = λ off. chords ∙ drawn.chords off;
-      filled = rw (filled, number) drawn.filled;
+      step = step ∙ drawn.step;
+      chords = chords ∙ drawn.chords;
+      kept = tape_kept s _ o h.body is;
+      filled = λ here. rw (filled, number) (drawn.filled (drawn.tape refl));
       of_tape = where_filled h.filled (IsTape h.body) is;
       boxed = rw filled drawn.boxed;
       contours = rw (filled, edges, ends) drawn.contours;
@@ -49,9 +56,9 @@ drawn_in s f frame g h number filled ends unfitted step chords left is of fits d
       fits = fits;
     }
 
--- a glyph without a pen, with nothing to be added to one
+-- a glyph without a pen, with at most a margin to be added to one
 abbrev pub IsBare : Glyph → Type 0
-IsBare g = (g.left ≡ 0) × (g.pens ≡ [])
+IsBare g = (g.left ≤ margin_limit) × (g.pens ≡ [])
 
 bare_black : (f : Frame) (gs : List Glyph) (c r : ℕ) → All IsBare gs → is_black_by f (stamps_in gs) c r ≡ false
 bare_black f [] c r bare = refl
@@ -69,15 +76,15 @@ bare_crossings (g ∷ gs) bare =
     rw ((All-head IsBare g gs bare).1, bare_crossings gs (All-tail IsBare g gs bare)) (omega arith)
 
 -- glyphs without a pen stand for no shape
-pub bare_stand : (f : Frame) (gs : List Glyph) → All IsBare gs → Stand false f gs []
+pub bare_stand : (f : Frame) (gs : List Glyph) → All IsBare gs → Stand f gs []
 bare_stand f gs bare = record {
   black = λ c r small. bare_black f gs c r bare;
   dropouts = λ c r. bare_filled f gs c r bare;
-  crossings = λ off. bare_crossings gs bare;
+  crossings = bare_crossings gs bare;
 }
 
 pub bare_lefts : (gs : List Glyph) → All IsBare gs → All (λ g. g.left ≤ margin_limit) gs
-bare_lefts gs bare = λ k d below. rw (bare k d below).0 (omega arith)
+bare_lefts gs bare = λ k d below. (bare k d below).0
 
 pub bare_within : (gs : List Glyph) → All IsBare gs → AreWithin gs
 bare_within gs bare = λ k d below. rw (bare k d below).1 (λ i e under. absurd (omega (arith, under)))
@@ -119,6 +126,11 @@ seated table numbers n seat known read places among =
 pub of_middle : {X : Type 0} (P : X → Type 0) (xs ys : List X) (x : X) → All P (xs ++ x ∷ ys) → P x
 of_middle P [] ys x all = All-head P x ys all
 of_middle P (z ∷ xs) ys x all = of_middle P xs ys x (All-tail P z (xs ++ x ∷ ys) all)
+
+-- those before some
+pub of_front : {X : Type 0} (P : X → Type 0) (xs ys : List X) → All P (xs ++ ys) → All P xs
+of_front P [] ys all = All-nil P
+of_front P (x ∷ xs) ys all = All-cons P x xs (All-head P x (xs ++ ys) all) (of_front P xs ys (All-tail P x (xs ++ ys) all))
 
 pub nothing_left : {X : Type 0} (xs : List X) → length xs ≡ 0 → xs ≡ []
 nothing_left [] none = refl

@@ -7,7 +7,7 @@ use Rattle.std.proofs.lemmas.List.Sums.{sum_by-cons}
 use Rattle.tt_scan_edges.specs.Winding.{row_y, rows_met}
 use Rattle.tt_scan_edges.specs.declared.edge.Edge.{Edge}
 use Rattle.tt_scan_edges.specs.declared.edge.Frame.{Frame}
-use Rattle.tt_picture.specs.Glyphs.{GlyphBody, tape, raster, BodyFits, Glyph, GlyphFits, body_crosses, crosses_in, drawn_of, edges_cut}
+use Rattle.tt_picture.specs.Glyphs.{GlyphBody, tape, kept, BodyFits, Glyph, GlyphFits, body_crosses, crosses_in, drawn_of, edges_cut}
 use Rattle.tt_picture.specs.Pictures.{rows_crossings}
 use Rattle.tt_picture.specs.Pixels.{crossings_up_to, cut_from}
 use Rattle.tt_picture.proofs.Crossed.{none_left}
@@ -86,7 +86,7 @@ no_edge_crossed f n = none_summed (range_with_len 0 n)
 body_made : (f : Frame) (made : ℕ) (body : GlyphBody) → BodyFits f made body
     → body_crosses body ≡ crossings_up_to f made (cut_from (drawn_of body))
 body_made f made (tape t) fits = fits.crosses
-body_made f made (raster k) fits = sym (no_edge_crossed f made)
+body_made f made (kept k) fits = sym (no_edge_crossed f made)
 
 pub all_made : (f : Frame) (made most : ℕ) (gs : List Glyph) → All (GlyphFits f made most) gs
     → crosses_in gs ≡ rows_crossings f made (edges_cut gs)

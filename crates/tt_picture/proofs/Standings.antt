@@ -24,10 +24,10 @@ use Rattle.tt_scan_dropouts.proofs.Moved.{dropouts_move}
 use Rattle.tt_scan_dropouts.specs.Pictures.{column_at, line_at}
 use Rattle.tt_scan_dropouts.specs.declared.boxed.BoxedRules.{BoxedRules}
 use Rattle.tt_scan_rows.specs.Raster.{line_y}
-use Rattle.tt_picture.specs.Glyphs.{GlyphBody, tape, raster, IsBodyOf, IsTape, body_crossings, drawn_of, edges_of, left_of, Glyph, IsDrawn, AreDrawn, AreSeated, AreWithin, Adds, Stand, crossings_standing, stamps_in, numbers_of}
+use Rattle.tt_picture.specs.Glyphs.{GlyphBody, tape, kept, IsBodyOf, IsKeptOf, IsTape, body_crossings, drawn_of, edges_of, fills_of, left_of, Glyph, IsDrawn, AreDrawn, AreSeated, AreWithin, Adds, Stand, crossings_standing, stamps_in, numbers_of}
 use Rattle.tt_arc.specs.declared.rule.ChordRule.{ChordRule}
 use Rattle.tt_picture.specs.Shapes.{chords_with, contours_of, origin_of, edges_at, filled_at, filled_by, glyph_shape, filling_crossings}
-use Rattle.tt_picture.specs.Pixels.{Drawn, Shape, is_drawn, is_black_from, is_black_by, is_filled, is_filled_from, is_filled_by, some_black, some_filled}
+use Rattle.tt_picture.specs.Pixels.{Drawn, Fills, Shape, is_drawn, is_filled_at, is_black_from, is_black_by, is_filled, is_filled_from, is_filled_by, some_black, some_filled}
 use Rattle.tt_picture.proofs.Crossed.{crosses_at, crossings_more, filling_moved}
 use Rattle.tt_picture.proofs.Places.{ok_and}
 
@@ -64,29 +64,25 @@ pub fills_nowhere : (f : Frame) (gs : List Glyph) (g : Glyph) (c r : ℕ) → g.
 fills_nowhere f [] g c r none = rw none refl
 fills_nowhere f (h ∷ hs) g c r none = rw (fills_nowhere f hs g c r none) refl
 
-fills_one_pen_more : (f : Frame) (filled : Option BoxedRules) (contours : List (List Edge)) (pens : List ℕ) (pen c r : ℕ)
-    → is_filled_from f filled contours (pens ++ pen ∷ []) c r
-    ≡ (is_filled_from f filled contours pens c r || is_filled filled contours (column_at f pen c) (line_at f r))
-fills_one_pen_more f filled contours [] pen c r = or_false _
-fills_one_pen_more f filled contours (p ∷ ps) pen c r =
-    rw (fills_one_pen_more f filled contours ps pen c r)
-    (or_or (is_filled filled contours (column_at f p c) (line_at f r)) (is_filled_from f filled contours ps c r)
-    (is_filled filled contours (column_at f pen c) (line_at f r)))
+fills_one_pen_more : (f : Frame) (fills : Fills) (pens : List ℕ) (pen c r : ℕ)
+    → is_filled_from f fills (pens ++ pen ∷ []) c r ≡ (is_filled_from f fills pens c r || is_filled_at f fills pen c r)
+fills_one_pen_more f fills [] pen c r = or_false _
+fills_one_pen_more f fills (p ∷ ps) pen c r =
+    rw (fills_one_pen_more f fills ps pen c r)
+    (or_or (is_filled_at f fills p c r) (is_filled_from f fills ps c r) (is_filled_at f fills pen c r))
 
 pub fills_at : (f : Frame) (gs : List Glyph) (i : ℕ) (g : Glyph) (pen c r : ℕ) → i < length gs → g ≡ get_or gs i g
     → is_filled_by f (stamps_in (set gs i (record g { pens = g.pens ++ pen ∷ [] }))) c r
-    ≡ (is_filled_by f (stamps_in gs) c r
-    || is_filled g.filled (contours_at (edges_of g.body) g.ends) (column_at f pen c) (line_at f r))
+    ≡ (is_filled_by f (stamps_in gs) c r || is_filled_at f (fills_of g.body g.filled g.ends) pen c r)
 fills_at f [] i g pen c r below is = absurd (omega arith)
 fills_at f (h ∷ hs) zero g pen c r below is =
-    let contours = contours_at (edges_of h.body) h.ends in
-    rw (is, fills_one_pen_more f h.filled contours h.pens pen c r)
-    (or_swap (is_filled_from f h.filled contours h.pens c r)
-    (is_filled h.filled contours (column_at f pen c) (line_at f r)) (is_filled_by f (stamps_in hs) c r))
+    let fills = fills_of h.body h.filled h.ends in
+    rw (is, fills_one_pen_more f fills h.pens pen c r)
+    (or_swap (is_filled_from f fills h.pens c r) (is_filled_at f fills pen c r) (is_filled_by f (stamps_in hs) c r))
 fills_at f (h ∷ hs) (suc i) g pen c r below is =
     rw (fills_at f hs i g pen c r (omega arith) is)
-    (or_or (is_filled_from f h.filled (contours_at (edges_of h.body) h.ends) h.pens c r) (is_filled_by f (stamps_in hs) c r)
-    (is_filled g.filled (contours_at (edges_of g.body) g.ends) (column_at f pen c) (line_at f r)))
+    (or_or (is_filled_from f (fills_of h.body h.filled h.ends) h.pens c r) (is_filled_by f (stamps_in hs) c r)
+    (is_filled_at f (fills_of g.body g.filled g.ends) pen c r))
 
 -- glyph i with one pen more
 pub stands_at : (f : Frame) (gs : List Glyph) (i : ℕ) (g : Glyph) (pen c r : ℕ) → i < length gs → g ≡ get_or gs
@@ -117,14 +113,13 @@ some_filled_more f (h ∷ hs) s c r =
     (is_filled s.filled s.contours (column_at f 0 c) (line_at f r)))
 
 -- the glyphs so far, and one place more
-pub one_place_more : (cached : Bool) (f : Frame) (before after : List Glyph) (shapes : List Shape) (new : Shape)
-    → Stand cached f before shapes → Adds cached f before after new → Stand cached f after (shapes ++ new ∷ [])
-one_place_more cached f before after shapes new stand adds = record {
+pub one_place_more : (f : Frame) (before after : List Glyph) (shapes : List Shape) (new : Shape)
+    → Stand f before shapes → Adds f before after new → Stand f after (shapes ++ new ∷ [])
+one_place_more f before after shapes new stand adds = record {
   black = λ c r small.
       rw (adds.black c r small, stand.black c r small) (sym (some_more shapes new (column_x f.margin (pos c)) (row_y f (pos r))));
   dropouts = λ c r. rw (adds.dropouts c r, stand.dropouts c r) (sym (some_filled_more f shapes new c r));
-  crossings = λ none. let more = crossings_more shapes new in
-      omega (arith, adds.crossings none, stand.crossings none, more);
+  crossings = let more = crossings_more shapes new in omega (arith, adds.crossings, stand.crossings, more);
 }
 
 -- the edges of an outline at a pen are those at pen 0, moved
@@ -145,7 +140,7 @@ from_pen m way o pen c y =
     rw edges moved
 
 -- where dropouts are filled, equal contours have equal dropouts
-same_filled : (filled : Option BoxedRules) (these those : List (List Edge)) (c j : ℤ) → IfSome filled (λ rules. these ≡ those)
+pub same_filled : (filled : Option BoxedRules) (these those : List (List Edge)) (c j : ℤ) → IfSome filled (λ rules. these ≡ those)
     → is_filled filled these c j ≡ is_filled filled those c j
 same_filled None these those c j same = refl
 same_filled (Some rules) these those c j same = rw same refl
@@ -199,34 +194,42 @@ black_at : (f : Frame) (way : ChordRule) (o : Outline) (body : GlyphBody) (pen c
 black_at f way o (tape t) pen c r near small is =
     let here : pen + 0 ≡ pen = omega arith in
     rw (here, is) (sym (from_pen f.margin way o pen (pos c) (row_y f (pos r))))
-black_at f way o (raster k) pen c r near small is =
+black_at f way o (kept k) pen c r near small is =
     let at : ℤ = pos c -ℤ pos (pen + f.margin) in
     let low : at <ℤ pos (2 ^ 63) = omega (arith, ints, small) in
     let column : column_x 0 at ≡ column_x f.margin (pos c -ℤ pos pen) = omega (arith, ints) in
     let line : line_y (line_at f r) ≡ row_y f (pos r) = omega (arith, ints) in
     is at (line_at f r) low ∙ rw (column, line) (sym (from_pen f.margin way o pen (pos c) (row_y f (pos r))))
 
--- the crossings of a glyph at a pen, where its body is a tape
-works_as : (way : ChordRule) (o : Outline) (body : GlyphBody) (these filled : Option BoxedRules) (pen : ℕ) → IsTape body
-    → these ≡ filled → IsBodyOf (edges_at way 0 o) body
-    → body_crossings body these ≡ edges_counted (edges_at way pen o) + filling_crossings (filled_at pen filled) (edges_at way pen o)
-works_as way o (tape t) these filled pen is same edges =
-    rw (same, edges, counts_from_pen way o pen, filling_from_pen filled way o pen) refl
-works_as way o (raster k) these filled pen is same edges = absurd is
+-- the crossings of a glyph at a pen
+works_as : (s : Fitter) (o : Outline) (body : GlyphBody) (these filled : Option BoxedRules) (pen : ℕ)
+    → (IsTape body → these ≡ filled) → IsBodyOf (edges_at (chords_with s) 0 o) body → IsKeptOf s filled o body
+    → body_crossings body these ≡ edges_counted (edges_at (chords_with s) pen o)
+    + filling_crossings (filled_at pen filled) (edges_at (chords_with s) pen o)
+works_as s o (tape t) these filled pen same edges shown =
+    let way = chords_with s in
+    rw (same tt, edges, counts_from_pen way o pen, filling_from_pen filled way o pen) refl
+works_as s o (kept k) these filled pen same black shown =
+    let way = chords_with s in
+    rw (shown.cut.crossings, counts_from_pen way o pen, filling_from_pen filled way o pen) refl
 
--- the dropouts of a glyph at a pen: those of a raster are not filled
-fills_by : (f : Frame) (way : ChordRule) (o : Outline) (body : GlyphBody) (these filled : Option BoxedRules) (ends : List ℕ) (pen c r : ℕ)
-    → these ≡ filled
-    → IfSome these (λ rules. IsTape body) → IfSome these (λ rules. contours_at (edges_of body) ends ≡ contours_of way 0 o)
-    → is_filled these (contours_at (edges_of body) ends) (column_at f (pen + left_of f body) c) (line_at f r)
-    ≡ is_filled (filled_at pen filled) (contours_of way pen o) (column_at f 0 c) (line_at f r)
-fills_by f way o (tape t) these filled ends pen c r is of_tape contours =
+-- the dropouts of a glyph at a pen
+fills_by : (s : Fitter) (f : Frame) (o : Outline) (body : GlyphBody) (these filled : Option BoxedRules) (ends : List ℕ) (pen c r : ℕ)
+    → (IsTape body → these ≡ filled)
+    → IfSome these (λ rules. contours_at (edges_of body) ends ≡ contours_of (chords_with s) 0 o)
+    → IsKeptOf s filled o body
+    → is_filled_at f (fills_of body these ends) (pen + left_of f body) c r
+    ≡ is_filled (filled_at pen filled) (contours_of (chords_with s) pen o) (column_at f 0 c) (line_at f r)
+fills_by s f o (tape t) these filled ends pen c r same contours shown =
+    let way = chords_with s in
     let here : pen + 0 ≡ pen = omega arith in
     rw here (same_filled these (contours_at t.edges ends) (contours_of way 0 o) (column_at f pen c) (line_at f r) contours)
     ∙ filled_from_pen these f way o pen c r
-    ∙ ap (λ filled. is_filled (filled_at pen filled) (contours_of way pen o) (column_at f 0 c) (line_at f r)) is
-fills_by f way o (raster k) None filled ends pen c r is of_tape contours = rw (← is) refl
-fills_by f way o (raster k) (Some rules) filled ends pen c r is of_tape contours = absurd of_tape
+    ∙ ap (λ filled. is_filled (filled_at pen filled) (contours_of way pen o) (column_at f 0 c) (line_at f r)) (same tt)
+fills_by s f o (kept k) these filled ends pen c r same contours shown =
+    let way = chords_with s in
+    let at : pos c -ℤ pos (pen + f.margin) ≡ column_at f pen c = omega (arith, ints) in
+    rw at (shown.cut.dropouts (column_at f pen c) (line_at f r)) ∙ filled_from_pen filled f way o pen c r
 
 -- a drawn glyph with one pen more
 pub adds_at : (cached : Bool) (maker : ℕ → Fitter) (f : Frame) (before gs : List Glyph) (i : ℕ) (g : Glyph) (placed : ℕ × ℕ)
@@ -234,13 +237,15 @@ pub adds_at : (cached : Bool) (maker : ℕ → Fitter) (f : Frame) (before gs : 
     → ((c r : ℕ) → is_filled_by f (stamps_in gs) c r ≡ is_filled_by f (stamps_in before) c r)
     → crossings_standing gs ≡ crossings_standing before → i < length gs
     → g ≡ get_or gs i g → IsDrawn cached (maker g.number) f g → g.number ≡ placed.0
-    → IsOkAnd (glyph_shape maker placed) (Adds cached f before (set gs i (record g { pens = g.pens ++ (placed.1 + g.left) ∷ [] })))
+    → IsOkAnd (glyph_shape maker placed) (Adds f before (set gs i (record g { pens = g.pens ++ (placed.1 + g.left) ∷ [] })))
 adds_at cached maker f before gs i g placed near same same_dropouts as_often below is drawn number =
     let o = drawn.shape in
-    let made : fitted_outline (maker placed.0) placed.0 ≡ Ok o = rw number at drawn.outline in
-    let rules = filled_by (maker placed.0) placed.0 o in
-    let filled : g.filled ≡ rules = rw number at drawn.filled in
-    let way = chords_with (maker placed.0) in
+    let s = maker placed.0 in
+    let made : fitted_outline s placed.0 ≡ Ok o = rw number at drawn.outline in
+    let rules = filled_by s placed.0 o in
+    let filled : IsTape g.body → g.filled ≡ rules = rw number at drawn.filled in
+    let shown : IsKeptOf s rules o g.body = rw number at drawn.kept in
+    let way = chords_with s in
     let body : IsBodyOf (edges_at way 0 o) g.body = rw number at drawn.body in
     let contours : IfSome g.filled (λ rules. contours_at (edges_of g.body) g.ends ≡ contours_of way 0 o) = rw number at drawn.contours in
     rw made (record {
@@ -249,10 +254,10 @@ adds_at cached maker f before gs i g placed near same same_dropouts as_often bel
           ∙ rw (same c r, drawn.left, black_at f way o g.body placed.1 c r near small body) refl;
       dropouts = λ c r.
           fills_at f gs i g (placed.1 + g.left) c r below is
-          ∙ rw (same_dropouts c r, drawn.left, fills_by f way o g.body g.filled rules g.ends placed.1 c r filled drawn.of_tape contours) refl;
-      crossings = λ none.
+          ∙ rw (same_dropouts c r, drawn.left, fills_by s f o g.body g.filled rules g.ends placed.1 c r filled contours shown) refl;
+      crossings =
           crosses_at gs i g (placed.1 + g.left) below is
-          ∙ rw (as_often, works_as way o g.body g.filled rules placed.1 (drawn.tape none) filled body) refl;
+          ∙ rw (as_often, works_as s o g.body g.filled rules placed.1 filled body shown) refl;
     })
 
 -- a glyph with other pens has its number
@@ -285,6 +290,7 @@ drawn_stood cached maker f gs i g ps all below is =
       step = drawn.step;
       chords = drawn.chords;
       tape = drawn.tape;
+      kept = drawn.kept;
       filled = drawn.filled;
       of_tape = drawn.of_tape;
       boxed = drawn.boxed;
@@ -296,25 +302,25 @@ drawn_stood cached maker f gs i g ps all below is =
 
 pub kept_stood : (glyphs : ℕ) (table : List ℕ) (gs : List Glyph) (i : ℕ) (g : Glyph) (ps : List ℕ)
     → AreSeated glyphs table gs → i < length gs → g ≡ get_or gs i g → AreSeated glyphs table (set gs i (record g { pens = ps }))
-kept_stood glyphs table gs i g ps kept below is =
-    let own : g.left ≤ margin_limit = rw (← is) at (kept.lefts i g below) in
+kept_stood glyphs table gs i g ps seated below is =
+    let own : g.left ≤ margin_limit = rw (← is) at (seated.lefts i g below) in
     record {
-      room = kept.room;
-      places = rw (numbers_stood gs i g ps is) kept.places;
-      lefts = All-set (λ g. g.left ≤ margin_limit) gs i (record g { pens = ps }) own kept.lefts;
+      room = seated.room;
+      places = rw (numbers_stood gs i g ps is) seated.places;
+      lefts = All-set (λ g. g.left ≤ margin_limit) gs i (record g { pens = ps }) own seated.lefts;
     }
 
 pub left_is : (glyphs : ℕ) (table : List ℕ) (gs : List Glyph) (i : ℕ) (g : Glyph) → AreSeated glyphs table gs → i < length gs
     → g ≡ get_or gs i g → g.left ≤ margin_limit
-left_is glyphs table gs i g kept below is = rw (← is) at (kept.lefts i g below)
+left_is glyphs table gs i g seated below is = rw (← is) at (seated.lefts i g below)
 
 -- the pixels added by a place, at any pen equal to this one
-pub made_at : {pen : ℕ} (cached : Bool) (maker : ℕ → Fitter) (f : Frame) (before after : List Glyph) (g : ℕ × ℕ)
-    → IsOkAnd (glyph_shape maker (g.0, pen)) (Adds cached f before after) → g ≡ (g.0, pen)
-    → (new : Shape) × (glyph_shape maker g ≡ Ok new) × Adds cached f before after new
-made_at {pen} cached maker f before after g black is =
+pub made_at : {pen : ℕ} (maker : ℕ → Fitter) (f : Frame) (before after : List Glyph) (g : ℕ × ℕ)
+    → IsOkAnd (glyph_shape maker (g.0, pen)) (Adds f before after) → g ≡ (g.0, pen)
+    → (new : Shape) × (glyph_shape maker g ≡ Ok new) × Adds f before after new
+made_at {pen} maker f before after g black is =
     let same : g.1 ≡ pen = ap (λ (g : ℕ × ℕ). g.1) is in
-    rw same (ok_and (glyph_shape maker (g.0, pen)) (Adds cached f before after) black)
+    rw same (ok_and (glyph_shape maker (g.0, pen)) (Adds f before after) black)
 
 -- a glyph whose pens lie within the width, with one pen more within it
 pub within_stood : (gs : List Glyph) (i : ℕ) (g : Glyph) (pen : ℕ) → i < length gs → g ≡ get_or gs i g → pen ≤ width_limit

@@ -1,23 +1,44 @@
--- No part of the standard: glyphs cached from line to line, in a cache that may be absent.
-use Rattle.std.specs.Prelude.{◌≡◌, ℕ, Bool, true, false, List, [], All, Option, None, Some, Ok, ⊤}
-use Rattle.tt_fit.specs.Fitting.{Fitter, fitted_outline, unfitted_fault}
+-- No part of the standard: glyphs cached from line to line, in a cache that may be absent. Where a glyph's cost is paid,
+-- the glyph equals the one made anew.
+use Rattle.std.specs.Prelude.{◌≡◌, ℕ, ◌+◌, Bool, true, false, ℤ, List, [], All, Option, None, Some, ⊤}
+use Rattle.tt_fit.specs.Counting.{points_asked}
+use Rattle.tt_fit.specs.Dropouts.{dropouts_of}
+use Rattle.tt_fit.specs.Fitting.{Fitter}
+use Rattle.tt_fit.specs.GlyphCost.{IsMadeFor, without_work}
 use Rattle.tt_fit_outline.specs.Outline.{Outline}
-use Rattle.tt_picture.specs.Shapes.{chords_with, edges_at, filled_by}
+use Rattle.tt_fit_outline.specs.Steps.{step_of}
+use Rattle.tt_picture.specs.Pixels.{is_filled}
+use Rattle.tt_picture.specs.Shapes.{chords_with, contours_of, edges_at, extents_of, filling_crossings, rules_for}
+use Rattle.tt_picture.specs.Steps.{chords_of}
+use Rattle.tt_scan_edges.specs.declared.edge.Edge.{Edge}
+use Rattle.tt_scan_dropouts.specs.Counted.{edges_counted}
+use Rattle.tt_scan_dropouts.specs.Passes.{has_pixel}
+use Rattle.tt_scan_dropouts.specs.declared.boxed.BoxedRules.{BoxedRules}
 use Rattle.tt_scan_rows.specs.Raster.{IsRasterOf}
 use Rattle.tt_strike_kept.specs.Glyph.{KeptGlyph}
 use Rattle.tt_strike_kept.specs.Kept.{Kept}
 
--- the cached glyph of this number equals the one made anew: its raster is that of its outline, none of its dropouts are
--- filled, and its work is not bounded
-pub record IsCached (s : Fitter) (number : ℕ) (g : KeptGlyph) : Type 0 where
-  pub shape : Outline
-  pub outline : fitted_outline s number ≡ Ok shape
-  pub raster : IsRasterOf (edges_at (chords_with s) 0 shape) g.raster
-  pub unfitted : g.unfitted ≡ unfitted_fault s number
-  pub filled : filled_by s number shape ≡ None
-  pub unbounded : s.work ≡ None
+-- a cached glyph has the black columns of some edges, the dropouts of some contours by these rules, and their crossings
+pub record IsCutOf (es : List Edge) (contours : List (List Edge)) (filled : Option BoxedRules) (k : KeptGlyph) : Type 0 where
+  pub raster : IsRasterOf es k.raster
+  pub dropouts : (c j : ℤ) → has_pixel k.dropouts c j ≡ is_filled filled contours c j
+  pub crossings : k.crossings ≡ edges_counted es + filling_crossings filled es
 
--- all cached glyphs equal those made anew
+-- it has those of an outline at pen 0, by these rules, and the outline's step and chords
+pub record IsOfOutline (s : Fitter) (filled : Option BoxedRules) (o : Outline) (k : KeptGlyph) : Type 0 where
+  pub cut : IsCutOf (edges_at (chords_with s) 0 o) (contours_of (chords_with s) 0 o) filled k
+  pub step : k.step ≡ step_of o
+  pub chords : k.chords ≡ chords_of (chords_with s) o
+
+-- the cached glyph of this number is made so wherever its cost is left of a job's work, and the rest is left then; its
+-- points are counted
+pub record IsCached (s : Fitter) (number : ℕ) (k : KeptGlyph) : Type 0 where
+  pub shape : Outline
+  pub made : IsMadeFor s number k.cost shape k.unfitted
+  pub shown : IsOfOutline s (rules_for (extents_of shape) (dropouts_of s k.unfitted shape)) shape k
+  pub points : k.points ≡ points_asked s.tables s.levels number
+
+-- all cached glyphs are
 abbrev pub AreCachedFor : Fitter → List (ℕ × KeptGlyph) → Type 0
 AreCachedFor s entries = All (λ e. IsCached s e.0 e.1) entries
 
@@ -34,7 +55,12 @@ abbrev pub limit_of : Option Kept → Option ℕ
 limit_of None = None
 limit_of (Some k) = Some k.most
 
--- a fitter may use the cache, if there is one: its work is not bounded, and it would make the cached glyphs anew
+-- a fitter may use the cache, if there is one
 abbrev pub IsCacheFor : Fitter → Option Kept → Type 0
 IsCacheFor s None = ⊤
-IsCacheFor s (Some k) = (s.work ≡ None) × AreCachedFor s k.entries
+IsCacheFor s (Some k) = AreCachedFor s k.entries
+
+-- The cache of a fitter is that of every fitter that differs in its remaining work alone: of the fitters before, within
+-- and after a line.
+abbrev pub CachedStays : Type 0
+CachedStays = (s t : Fitter) (c : Option Kept) → without_work t ≡ without_work s → IsCacheFor s c → IsCacheFor t c

@@ -1,47 +1,83 @@
--- No part of the standard: the glyphs of a line whose outlines are made, before their edges are.
-use Rattle.std.specs.Prelude.{◌≡◌, ℕ, All, IfSome, List, map, Option, Ok}
+-- No part of the standard: the glyphs of a line that are fitted, before their edges are made: each by its outline, or from
+-- the cache.
+use Rattle.std.specs.Prelude.{◌≡◌, ℕ, Bool, true, false, All, IfSome, List, map, Option, None, Ok}
 use Rattle.std.specs.List.{sum_by}
 use Rattle.tt_core.specs.Faults.{Fault}
+use Rattle.tt_fit.specs.Counting.{points_asked}
 use Rattle.tt_fit.specs.Fitting.{Fitter, fitted_outline, unfitted_fault}
+use Rattle.tt_fit.specs.GlyphCost.{IsMadeFor}
 use Rattle.tt_fit_outline.specs.Outline.{Outline}
 use Rattle.tt_fit_outline.specs.Steps.{step_of}
 use Rattle.tt_arc.specs.declared.rule.ChordRule.{ChordRule}
 use Rattle.tt_scan_dropouts.specs.declared.boxed.BoxedRules.{BoxedRules}
 use Rattle.tt_scan_gaps.specs.Boxes.{ExtentsFit}
+use Rattle.tt_picture.specs.Cached.{IsOfOutline}
 use Rattle.tt_picture.specs.Shapes.{chords_with, filled_by}
 use Rattle.tt_picture.specs.Steps.{chords_of}
+use Rattle.tt_picture.specs.declared.outlined.KeptCounts.{KeptCounts}
+use Rattle.tt_strike_kept.specs.Glyph.{KeptGlyph}
 
--- a glyph by its number in the font: its outline, its chord rule, its dropout rules at pen 0, and the fault that makes
+-- an outline, its chord rule, its dropout rules at pen 0, what it counts if it is to be cached, and the fault that makes
 -- it unfitted
-pub record FittedGlyph : Type 0 where
-  pub number : ℕ
+pub record MadeOutline : Type 0 where
   pub outline : Outline
   pub rule : ChordRule
   pub filled : Option BoxedRules
+  pub counts : Option KeptCounts
   pub unfitted : Option Fault
 
--- a glyph has the outline that its fitter makes
-pub record IsFitted (s : Fitter) (g : FittedGlyph) : Type 0 where
-  pub outline : fitted_outline s g.number ≡ Ok g.outline
-  pub rule : g.rule ≡ chords_with s
-  pub filled : g.filled ≡ filled_by s g.number g.outline
-  pub unfitted : g.unfitted ≡ unfitted_fault s g.number
-  pub fits : IfSome g.filled (λ rules. ExtentsFit rules.extents)
+-- the part of a fitted glyph that gives its edges or its pixels
+pub data FittedBody : Type 0 where
+  outlined : MadeOutline → FittedBody
+  kept : KeptGlyph → FittedBody
 
--- the numbers, the outlines and the chords of some glyphs, in their order
+-- a glyph by its number in the font
+pub record FittedGlyph : Type 0 where
+  pub number : ℕ
+  pub body : FittedBody
+
+abbrev pub body_step : FittedBody → ℕ
+body_step (outlined m) = step_of m.outline
+body_step (kept k) = k.step
+
+abbrev pub body_chords : FittedBody → ℕ
+body_chords (outlined m) = chords_of m.rule m.outline
+body_chords (kept k) = k.chords
+
+-- an outline is that of a glyph, and what it counts is what the glyph counts in the cache
+pub record IsMadeOutline (cached : Bool) (s : Fitter) (number : ℕ) (o : Outline) (m : MadeOutline) : Type 0 where
+  pub outline : m.outline ≡ o
+  pub rule : m.rule ≡ chords_with s
+  pub filled : m.filled ≡ filled_by s number o
+  pub unfitted : m.unfitted ≡ unfitted_fault s number
+  pub fits : IfSome m.filled (λ rules. ExtentsFit rules.extents)
+  pub plain : cached ≡ false → m.counts ≡ None
+  pub points : IfSome m.counts (λ n. n.points ≡ points_asked s.tables s.levels number)
+  pub made : IfSome m.counts (λ n. IsMadeFor s number n.cost o m.unfitted)
+
+-- a body gives the edges or the pixels of a glyph's outline; without a cache it is an outline
+abbrev pub IsFittedBody : Bool → Fitter → ℕ → Outline → FittedBody → Type 0
+IsFittedBody cached s number o (outlined m) = IsMadeOutline cached s number o m
+IsFittedBody cached s number o (kept k) =
+    (cached ≡ true) × (k.unfitted ≡ unfitted_fault s number) × IsOfOutline s (filled_by s number o) o k
+
+-- a glyph has the outline that its fitter makes
+pub record IsFitted (cached : Bool) (s : Fitter) (g : FittedGlyph) : Type 0 where
+  pub shape : Outline
+  pub outline : fitted_outline s g.number ≡ Ok shape
+  pub body : IsFittedBody cached s g.number shape g.body
+
+-- the numbers and the chords of some glyphs, in their order
 abbrev pub fitted_numbers : List FittedGlyph → List ℕ
 fitted_numbers gs = map (λ g. g.number) gs
 
-abbrev pub outlines_of : List FittedGlyph → List Outline
-outlines_of gs = map (λ g. g.outline) gs
-
 abbrev pub fitted_chords : List FittedGlyph → ℕ
-fitted_chords gs = sum_by (λ g. chords_of g.rule g.outline) gs
+fitted_chords gs = sum_by (λ g. body_chords g.body) gs
 
 -- each glyph is made by its fitter
-abbrev pub AreFitted : (ℕ → Fitter) → List FittedGlyph → Type 0
-AreFitted maker gs = All (λ g. IsFitted (maker g.number) g) gs
+abbrev pub AreFitted : Bool → (ℕ → Fitter) → List FittedGlyph → Type 0
+AreFitted cached maker gs = All (λ g. IsFitted cached (maker g.number) g) gs
 
 -- this is the step of each glyph
 abbrev pub AreSteps : (ℕ → ℕ) → List FittedGlyph → Type 0
-AreSteps step gs = All (λ g. step g.number ≡ step_of g.outline) gs
+AreSteps step gs = All (λ g. step g.number ≡ body_step g.body) gs

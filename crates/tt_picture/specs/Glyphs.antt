@@ -17,37 +17,44 @@ use Rattle.tt_scan_dropouts.specs.Pictures.{column_at, is_among, line_at}
 use Rattle.tt_scan_dropouts.specs.declared.boxed.BoxedRules.{BoxedRules}
 use Rattle.tt_scan_gaps.specs.Boxes.{ExtentsFit, IsBoxOf}
 use Rattle.tt_scan_dropouts.specs.declared.picture.Dropout.{Dropout}
-use Rattle.tt_scan_rows.specs.Raster.{IsRasterOf, Raster}
+use Rattle.tt_scan_rows.specs.Raster.{IsRasterOf}
 use Rattle.tt_scan_ink.specs.declared.ink.GlyphInk.{GlyphInk}
+use Rattle.tt_picture.specs.Cached.{IsOfOutline}
 use Rattle.tt_picture.specs.Distinct.{IsNext, distinct, with_glyph}
 use Rattle.tt_picture.specs.Ink.{ink_by}
 use Rattle.tt_picture.specs.Rows.{rows}
 use Rattle.tt_picture.specs.Shapes.{chords_with, contours_of, crossings_in, edges_at, filled_by, filling_crossings, glyph_shape}
 use Rattle.tt_picture.specs.Steps.{chords_of}
 use Rattle.tt_picture.specs.Pixels as pixels
-use Rattle.tt_picture.specs.Pixels.{Drawn, Shape, Stamp, TapeFits, cut_from, is_black_by, is_filled, is_filled_by, some_black, some_filled}
+use Rattle.tt_picture.specs.Pixels.{Drawn, Fills, Shape, Stamp, TapeFits, cut_from, is_black_by, is_filled, is_filled_by, some_black, some_filled}
+use Rattle.tt_strike_kept.specs.Glyph.{KeptGlyph}
 
--- the part of a glyph that blackens rows: a tape of its edges, or the black columns of its lines
+-- the part of a glyph that blackens rows: a tape of its edges, or a cached glyph's pixels
 pub data GlyphBody : Type 0 where
   tape : Tape → GlyphBody
-  raster : Raster → GlyphBody
+  kept : KeptGlyph → GlyphBody
 
 abbrev pub edges_of : GlyphBody → List Edge
 edges_of (tape t) = t.edges
-edges_of (raster k) = []
+edges_of (kept k) = []
 
 abbrev pub drawn_of : GlyphBody → Drawn
 drawn_of (tape t) = pixels.edges t.edges
-drawn_of (raster k) = pixels.raster k
+drawn_of (kept k) = pixels.raster k.raster
+
+-- the dropouts, by a tape's rules and the ends of its contours
+abbrev pub fills_of : GlyphBody → Option BoxedRules → List ℕ → Fills
+fills_of (tape t) filled ends = pixels.by_rules filled (contours_at t.edges ends)
+fills_of (kept k) filled ends = pixels.by_pixels k.dropouts
 
 abbrev pub IsTape : GlyphBody → Type 0
 IsTape (tape t) = ⊤
-IsTape (raster k) = ⊥
+IsTape (kept k) = ⊥
 
--- added to every pen: 0 for a tape, the margin for a raster
+-- added to every pen: 0 for a tape, the margin for a cached glyph
 abbrev pub left_of : Frame → GlyphBody → ℕ
 left_of f (tape t) = 0
-left_of f (raster k) = f.margin
+left_of f (kept k) = f.margin
 
 -- A glyph by its number in the font: its step, its chords, its body, its dropout rules, and the ends of its contours
 -- among the edges if dropouts are filled. Then the number added to its pens, the pens, and the fault that makes it
@@ -67,8 +74,7 @@ pub record Glyph : Type 0 where
 abbrev pub stamp_of : Glyph → Stamp
 stamp_of g = record {
   drawn = drawn_of g.body;
-  filled = g.filled;
-  contours = contours_at (edges_of g.body) g.ends;
+  fills = fills_of g.body g.filled g.ends;
   pens = g.pens;
 }
 
@@ -86,24 +92,29 @@ edges_cut gs = map (λ s. cut_from s.drawn) (stamps_in gs)
 -- a body has the edges of an outline, or their black columns
 abbrev pub IsBodyOf : List Edge → GlyphBody → Type 0
 IsBodyOf es (tape t) = t.edges ≡ es
-IsBodyOf es (raster k) = IsRasterOf es k
+IsBodyOf es (kept k) = IsRasterOf es k.raster
 
 -- a tape has this frame and few edges, and counts the crossings of the first rows, this many
 abbrev pub BodyFits : Frame → ℕ → GlyphBody → Type 0
 BodyFits f made (tape t) = TapeFits f made t
-BodyFits f made (raster k) = ⊤
+BodyFits f made (kept k) = ⊤
 
 -- the count of crossings made so far, of a glyph and of some
 abbrev pub body_crosses : GlyphBody → ℕ
 body_crosses (tape t) = t.crosses
-body_crosses (raster k) = 0
+body_crosses (kept k) = 0
 
 abbrev pub crosses_in : List Glyph → ℕ
 crosses_in [] = 0
 crosses_in (g ∷ gs) = body_crosses g.body + crosses_in gs
 
--- a glyph has the body of its outline, dropouts by its contours, and the fault that makes it unfitted; without a cache
--- it is a tape, and its step and its chords are those of the outline
+-- a cached glyph is that of an outline, by these dropout rules
+abbrev pub IsKeptOf : Fitter → Option BoxedRules → Outline → GlyphBody → Type 0
+IsKeptOf s filled o (tape t) = ⊤
+IsKeptOf s filled o (kept k) = IsOfOutline s filled o k
+
+-- a glyph has the body, the step and the chords of its outline, and the fault that makes it unfitted; a tape has its
+-- dropouts by its contours, and without a cache it is a tape
 pub record IsDrawn (cached : Bool) (s : Fitter) (f : Frame) (g : Glyph) : Type 0 where
   pub shape : Outline
   pub unfitted : g.unfitted ≡ unfitted_fault s g.number
@@ -111,9 +122,10 @@ pub record IsDrawn (cached : Bool) (s : Fitter) (f : Frame) (g : Glyph) : Type 0
   pub body : IsBodyOf (edges_at (chords_with s) 0 shape) g.body
   pub left : g.left ≡ left_of f g.body
   pub tape : cached ≡ false → IsTape g.body
-  pub step : cached ≡ false → g.step ≡ step_of shape
-  pub chords : cached ≡ false → g.chords ≡ chords_of (chords_with s) shape
-  pub filled : g.filled ≡ filled_by s g.number shape
+  pub step : g.step ≡ step_of shape
+  pub chords : g.chords ≡ chords_of (chords_with s) shape
+  pub kept : IsKeptOf s (filled_by s g.number shape) shape g.body
+  pub filled : IsTape g.body → g.filled ≡ filled_by s g.number shape
   pub of_tape : IfSome g.filled (λ rules. IsTape g.body)
   pub boxed : IfSome g.filled (λ rules. ExtentsFit rules.extents)
   pub contours : IfSome g.filled (λ rules. contours_at (edges_of g.body) g.ends ≡ contours_of (chords_with s) 0 shape)
@@ -124,15 +136,19 @@ pub record IsDrawn (cached : Bool) (s : Fitter) (f : Frame) (g : Glyph) : Type 0
 abbrev pub AreWithin : List Glyph → Type 0
 AreWithin gs = All (λ g. All (λ pen. pen ≤ width_limit + g.left) g.pens) gs
 
--- a glyph's dropouts can be found: it is a tape, its box holds its edges, its contours end among the edges and are
--- closed, and its pens lie within the width of a picture
+-- the dropouts of a tape's edges can be found: where they are filled, the box holds the edges, the contours end among the
+-- edges and are closed, and the pens lie within the width of a picture
+pub record CanBeSought (edges : List Edge) (ends_told : List ℕ) (filled : Option BoxedRules) (at : List ℕ) : Type 0 where
+  pub few : length edges ≤ 2 ^ 19
+  pub ends : IfSome filled (λ rules. AreEnds (length edges) ends_told)
+  pub boxed : IfSome filled (λ rules. IsBoxOf rules.extents edges)
+  pub closed : IfSome filled (λ rules. All IsClosed (contours_at edges ends_told))
+  pub pens : IfSome filled (λ rules. All (λ pen. pen ≤ width_limit) at)
+
+-- a glyph's dropouts can be found: where they are filled by rules it is a tape
 pub record CanBeFilled (g : Glyph) : Type 0 where
-  pub few : length (edges_of g.body) ≤ 2 ^ 19
   pub tape : IfSome g.filled (λ rules. IsTape g.body)
-  pub ends : IfSome g.filled (λ rules. AreEnds (length (edges_of g.body)) g.ends)
-  pub boxed : IfSome g.filled (λ rules. IsBoxOf rules.extents (edges_of g.body))
-  pub closed : IfSome g.filled (λ rules. All IsClosed (contours_at (edges_of g.body) g.ends))
-  pub pens : IfSome g.filled (λ rules. All (λ pen. pen ≤ width_limit) g.pens)
+  pub sought : CanBeSought (edges_of g.body) g.ends g.filled g.pens
 
 -- a glyph whose crossings can be counted: it has few edges, and where dropouts are filled, its box is within the limits
 pub record CanBeCounted (g : Glyph) : Type 0 where
@@ -151,10 +167,10 @@ shows_by f stamps ds c r = is_black_by f stamps c r || is_among ds c r
 abbrev pub all_rows : Frame → List Glyph → List Dropout → List ℕ
 all_rows f gs ds = rows f.width (shows_by f (stamps_in gs) ds) 0 (stride f.width * f.height)
 
--- the crossings of a glyph at one pen and at all, in the picture and outside; a raster is cut already
+-- the crossings of a glyph at one pen and at all, in the picture and outside
 abbrev pub body_crossings : GlyphBody → Option BoxedRules → ℕ
 body_crossings (tape t) filled = edges_counted t.edges + filling_crossings filled t.edges
-body_crossings (raster k) filled = 0
+body_crossings (kept k) filled = k.crossings
 
 abbrev pub pen_crossings : Glyph → ℕ
 pen_crossings g = body_crossings g.body g.filled
@@ -167,20 +183,20 @@ abbrev pub crossings_standing : List Glyph → ℕ
 crossings_standing [] = 0
 crossings_standing (g ∷ gs) = glyph_crossings g + crossings_standing gs
 
--- two lists of glyphs give the same picture and dropouts, and without a cache cost the same crossings
-pub record Stand (cached : Bool) (f : Frame) (gs : List Glyph) (shapes : List Shape) : Type 0 where
+-- two lists of glyphs give the same picture and dropouts, and cost the same crossings
+pub record Stand (f : Frame) (gs : List Glyph) (shapes : List Shape) : Type 0 where
   pub black : (c r : ℕ) → c < 2 ^ 62 → is_black_by f (stamps_in gs) c r
       ≡ some_black shapes (column_x f.margin (pos c)) (row_y f (pos r))
   pub dropouts : (c r : ℕ) → is_filled_by f (stamps_in gs) c r ≡ some_filled f shapes c r
-  pub crossings : cached ≡ false → crossings_standing gs ≡ crossings_in shapes
+  pub crossings : crossings_standing gs ≡ crossings_in shapes
 
 -- a list of glyphs adds one shape to the list before it
-pub record Adds (cached : Bool) (f : Frame) (before after : List Glyph) (s : Shape) : Type 0 where
+pub record Adds (f : Frame) (before after : List Glyph) (s : Shape) : Type 0 where
   pub black : (c r : ℕ) → c < 2 ^ 62 → is_black_by f (stamps_in after) c r
       ≡ (is_black_by f (stamps_in before) c r || is_black s.edges (column_x f.margin (pos c)) (row_y f (pos r)))
   pub dropouts : (c r : ℕ) → is_filled_by f (stamps_in after) c r
       ≡ (is_filled_by f (stamps_in before) c r || is_filled s.filled s.contours (column_at f 0 c) (line_at f r))
-  pub crossings : cached ≡ false → crossings_standing after
+  pub crossings : crossings_standing after
       ≡ crossings_standing before + (edges_counted s.edges + filling_crossings s.filled s.edges)
 
 -- for each glyph of the font 0, or one more than its place among some numbers
@@ -223,11 +239,11 @@ pub record HasPen (cached : Bool) (s : Fitter) (f : Frame) (placed : ℕ × ℕ)
       → AreDrawn cached maker f after
   pub pens : AreWithin before → AreWithin after
   pub adds : (maker : ℕ → Fitter) → IsNext maker s (numbers_of before) placed.0 → AreDrawn cached maker f before
-      → IsOkAnd (glyph_shape maker placed) (Adds cached f before after)
+      → IsOkAnd (glyph_shape maker placed) (Adds f before after)
 
 -- the glyphs of a line: each once, by its fitter, and at its pens
 pub record AreOfLine (cached : Bool) (maker : ℕ → Fitter) (f : Frame) (line : List (ℕ × ℕ)) (gs : List Glyph) : Type 0 where
   pub numbers : numbers_of gs ≡ distinct (map (λ g. g.0) line)
   pub drawn : AreDrawn cached maker f gs
   pub pens : AreWithin gs
-  pub stand : IsOkAnd (each (glyph_shape maker) line) (Stand cached f gs)
+  pub stand : IsOkAnd (each (glyph_shape maker) line) (Stand f gs)

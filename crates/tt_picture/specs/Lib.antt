@@ -1,4 +1,5 @@
 pub mod Cached
+pub mod Cut
 pub mod Distinct
 pub mod Fitted
 pub mod Glyphs

@@ -1,7 +1,8 @@
 -- The black pixels of a line: OpenType, "TrueType Fundamentals", the scan converter's rules 1 and 2, for each glyph by
 -- itself. One glyph's winding does not count for another. The dropouts of each glyph, by its own rules, are added where
 -- they are filled.
-use Rattle.std.specs.Prelude.{◌≡◌, ℕ, ◌+◌, ◌*◌, ◌<◌, ◌≤◌, ◌^◌, Bool, false, ◌||◌, ℤ, pos, ◌-ℤ◌, List, [], ◌∷◌, length, Option, Some, None}
+use Rattle.std.specs.Prelude.{◌≡◌, ℕ, ◌+◌, ◌*◌, ◌<◌, ◌≤◌, ◌^◌, Bool, false, ◌&&◌, ◌||◌, ℤ, pos, ◌-ℤ◌, List, [], ◌∷◌, length, Option, Some, None}
+use Rattle.std.specs.Ordering.{int_eq}
 use Rattle.tt_core.specs.Bits.{stride}
 use Rattle.tt_core.specs.Limits.{height_limit}
 use Rattle.tt_scan_edges.specs.declared.edge.Edge.{Edge}
@@ -9,8 +10,10 @@ use Rattle.tt_scan_edges.specs.declared.edge.Frame.{Frame}
 use Rattle.tt_scan.specs.Tape.{Tape}
 use Rattle.tt_scan_edges.specs.Winding.{is_black, column_x, row_y, crossings_of}
 use Rattle.tt_scan_dropouts.specs.Dropouts.{is_dropout}
+use Rattle.tt_scan_dropouts.specs.Passes.{has_pixel}
 use Rattle.tt_scan_dropouts.specs.Pictures.{column_at, line_at}
 use Rattle.tt_scan_dropouts.specs.declared.boxed.BoxedRules.{BoxedRules}
+use Rattle.tt_scan_dropouts.specs.declared.pixel.Pixel.{Pixel}
 use Rattle.tt_scan_rows.specs.Raster.{Raster, shows}
 
 -- a glyph at its pen: its edges, also contour by contour, and its dropout rules, if dropouts are filled
@@ -50,11 +53,24 @@ abbrev pub is_drawn : Frame → Drawn → ℤ → ℕ → Bool
 is_drawn f (edges es) c r = is_black es (column_x f.margin c) (row_y f (pos r))
 is_drawn f (raster k) c r = shows k c (line_at f r)
 
--- a glyph's drawing data, its dropout rules, its contours where dropouts are filled, and its pens
+-- what tells a glyph's dropouts: its rules, if dropouts are filled, and its contours; or the pixels themselves
+pub data Fills : Type 0 where
+  by_rules : Option BoxedRules → List (List Edge) → Fills
+  by_pixels : List Pixel → Fills
+
+-- column c of row r has a pixel of a glyph from a pen, which counts from the left end
+abbrev pub is_pixel_at : Frame → Pixel → ℕ → ℕ → ℕ → Bool
+is_pixel_at f p pen c r = int_eq p.column (pos c -ℤ pos pen) && int_eq p.row (line_at f r)
+
+-- column c of row r is a dropout at a pen. A pen of contours counts from the margin, a pen of pixels from the left end
+abbrev pub is_filled_at : Frame → Fills → ℕ → ℕ → ℕ → Bool
+is_filled_at f (by_rules filled contours) pen c r = is_filled filled contours (column_at f pen c) (line_at f r)
+is_filled_at f (by_pixels pixels) pen c r = has_pixel pixels (pos c -ℤ pos pen) (line_at f r)
+
+-- a glyph's drawing data, its dropouts, and its pens
 pub record Stamp : Type 0 where
   pub drawn : Drawn
-  pub filled : Option BoxedRules
-  pub contours : List (List Edge)
+  pub fills : Fills
   pub pens : List ℕ
 
 -- data made for pen 0 blackens column c of row r from some pen: column c minus the pen is black for pen 0
@@ -68,14 +84,13 @@ is_black_by f [] c r = false
 is_black_by f (g ∷ gs) c r = is_black_from f g.drawn g.pens c r || is_black_by f gs c r
 
 -- some pen of a glyph has it as a dropout
-abbrev pub is_filled_from : Frame → Option BoxedRules → List (List Edge) → List ℕ → ℕ → ℕ → Bool
-is_filled_from f filled contours [] c r = false
-is_filled_from f filled contours (pen ∷ pens) c r =
-    is_filled filled contours (column_at f pen c) (line_at f r) || is_filled_from f filled contours pens c r
+abbrev pub is_filled_from : Frame → Fills → List ℕ → ℕ → ℕ → Bool
+is_filled_from f fills [] c r = false
+is_filled_from f fills (pen ∷ pens) c r = is_filled_at f fills pen c r || is_filled_from f fills pens c r
 
 abbrev pub is_filled_by : Frame → List Stamp → ℕ → ℕ → Bool
 is_filled_by f [] c r = false
-is_filled_by f (g ∷ gs) c r = is_filled_from f g.filled g.contours g.pens c r || is_filled_by f gs c r
+is_filled_by f (g ∷ gs) c r = is_filled_from f g.fills g.pens c r || is_filled_by f gs c r
 
 -- the edges that rows are cut from; a raster is cut already
 abbrev pub cut_from : Drawn → List Edge

@@ -1,8 +1,15 @@
--- The definitions' view of a glyph's body.
+-- The definitions' views of a glyph's body.
+use Rattle.tt_picture.specs.declared.fitted.FittedBody as declared_fitted
+use Rattle.tt_picture.specs.declared.fitted.FittedBody.TheVariants as fitted_body
 use Rattle.tt_picture.specs.declared.glyph.GlyphBody.{GlyphBody}
 use Rattle.tt_picture.specs.declared.glyph.GlyphBody.TheVariants as body
+use Rattle.tt_picture.specs.Fitted as fitted
 use Rattle.tt_picture.specs.Glyphs as glyphs
 
 abbrev pub body_view : GlyphBody → glyphs.GlyphBody
 body_view (body.Tape t) = glyphs.tape t
-body_view (body.Raster k) = glyphs.raster k.value
+body_view (body.Kept k) = glyphs.kept k
+
+abbrev pub fitted_view : declared_fitted.FittedBody → fitted.FittedBody
+fitted_view (fitted_body.Outline m) = fitted.outlined m
+fitted_view (fitted_body.Kept k) = fitted.kept k

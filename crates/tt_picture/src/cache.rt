@@ -2,6 +2,7 @@
 
 ghost use Rattle.std.specs.Prelude.{◌≡◌, ◌≤◌, ◌/◌, [], nat_eq, IfOk, IfSome, None, Some};
 ghost use Rattle.std.specs.Map.{lookup};
+ghost use Rattle.tt_fit.specs.Counting.{points_asked};
 ghost use Rattle.tt_fit.specs.Fitting.{Fitter};
 ghost use Rattle.tt_picture.specs.Cached.{IsCacheFor, IsCached, entries_of, is_there, limit_of};
 ghost use Rattle.tt_strike_kept.specs.Kept.{bytes_in};
@@ -63,6 +64,16 @@ impl Cache {
         }
     }
 
+    /// The points of the glyph with this number; None where it is not cached.
+    pub fn points(&self, number: u16) -> Option<u64>
+        ensures { IfSome result (λ n. (s : Fitter) → IsCacheFor s self.now → n ≡ points_asked s.tables s.levels number) }
+    {
+        match &self.glyphs {
+            Some(glyphs) => glyphs.points(number),
+            None => None,
+        }
+    }
+
     /// Adds a glyph as the newest, where there is a cache. The oldest are dropped until all fit the limit.
     pub(crate) fn put(&mut self, number: u16, glyph: KeptGlyph)
         ensures cached { (s : Fitter) → IsCached s number glyph → IsCacheFor s self.old → IsCacheFor s self.new }
@@ -84,7 +95,7 @@ impl Cache {
         }
     }
 
-    /// The bytes of the cached glyphs: for each those of its raster, and 128.
+    /// The bytes of the cached glyphs: for each those of its raster and its dropouts, and 224.
     pub fn bytes(&self) -> usize
         ensures exact { result ≡ bytes_in (entries_of self.now) }
         ensures limit { IfSome (limit_of self.now) (λ most. result ≤ most) }

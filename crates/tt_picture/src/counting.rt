@@ -3,8 +3,8 @@
 ghost use Rattle.std.specs.Prelude.{◌≡◌, ◌-◌, ◌^◌, min, All};
 ghost use Rattle.tt_picture.specs.Glyphs.{CanBeCounted, crossings_standing, glyph_crossings, pen_crossings};
 
+use crate::cutting::tape_crossings;
 use crate::glyph::{Glyph, GlyphBody};
-use tt_scan_dropouts::{all_counted, edges_counted};
 
 impl Glyph {
     /// The crossings of the glyph at one pen, in the picture and outside. Where dropouts are filled, the search for
@@ -13,13 +13,9 @@ impl Glyph {
         requires { CanBeCounted self.now }
         ensures { result ≡ pen_crossings self.now }
     {
-        let GlyphBody::Tape(tape) = &self.body else {
-            return 0;
-        };
-        let edges = tape.lend();
-        match self.filled {
-            Some(rules) => all_counted(rules.extents, edges),
-            None => edges_counted(edges),
+        match &self.body {
+            GlyphBody::Tape(tape) => tape_crossings(tape, self.filled),
+            GlyphBody::Kept(kept) => kept.crossings,
         }
     }
 

@@ -1,11 +1,15 @@
-//! The outlines of a line's distinct glyphs, made in order, and what follows from them: steps, then edges.
+//! A line's distinct glyphs, fitted in order, and what follows from them: steps, then edges or pixels.
 
-ghost use Rattle.std.specs.Prelude.{◌≡◌, ℕ, ◌<◌, ◌≤◌, true, false, [], length, map, All, IfOk, IfSome, IfNone, Ok, Err};
+ghost use Rattle.std.specs.Prelude.{◌≡◌, ℕ, ◌<◌, ◌≤◌, Bool, true, [], length, map, All, IfOk, IfSome, IfNone, List, Ok, Err};
+ghost use Rattle.tt_core.specs.Limits.{margin_limit};
 ghost use Rattle.tt_core.specs.Outcomes.{IfTold, font_fault};
 ghost use Rattle.tt_fit.specs.Fitting.{Fitter};
+ghost use Rattle.tt_fit.specs.GlyphCost.{without_work};
+ghost use Rattle.tt_fit_outline.specs.Outline.{Outline};
 ghost use Rattle.tt_scan_edges.specs.Winding.{FrameFits};
+ghost use Rattle.tt_picture.specs.Cached.{IsCacheFor, is_there, limit_of};
 ghost use Rattle.tt_picture.specs.Distinct.{fitter_after, fitter_for, is_among};
-ghost use Rattle.tt_picture.specs.Fitted.{AreFitted, AreSteps, fitted_chords, fitted_numbers, outlines_of};
+ghost use Rattle.tt_picture.specs.Fitted.{AreFitted, AreSteps, fitted_chords, fitted_numbers};
 ghost use Rattle.tt_picture.specs.Glyphs.{AreDrawn, ArePlaces, numbers_of};
 ghost use Rattle.tt_picture.specs.Steps.{outlines_by};
 ghost use Rattle.tt_picture.specs.Unfitted.{all_differ};
@@ -18,23 +22,26 @@ use tt_core::FontFault;
 use tt_fit::Fitter;
 use tt_scan::Frame;
 
-/// The outlines of some glyphs, made in order. Errors: those of the outlines, Memory.
+/// Some glyphs, fitted in order: from the cache where their costs are left, else made. Errors: those of the outlines,
+/// Memory.
 pub fn fit_glyphs(
     alloc: Global,
     fitter: &mut Fitter,
     numbers: &[u16],
+    cache: &Cache,
 ) -> Result<Vec<FittedGlyph>, FontFault>
     requires known { All (λ n. n < fitter.old.tables.glyphs) numbers.now }
     requires differ { all_differ numbers.now ≡ true }
+    requires cache { IsCacheFor fitter.old cache.now }
     ensures numbers { IfOk result (λ v. fitted_numbers v.items ≡ numbers.now) }
-    ensures fitted { IfOk result (λ v. AreFitted (fitter_for fitter.old numbers.now) v.items) }
-    ensures made { IfOk result (λ v. outlines_by (fitter_for fitter.old numbers.now) numbers.now ≡ Ok (outlines_of v.items)) }
+    ensures fitted { IfOk result (λ v. AreFitted (is_there cache.now) (fitter_for fitter.old numbers.now) v.items) }
+    ensures made { IfOk result (λ v. (os : List Outline) × (outlines_by (fitter_for fitter.old numbers.now) numbers.now ≡ Ok os)) }
     ensures after { IfOk result (λ v. fitter.new ≡ fitter_after fitter.old numbers.now) }
     ensures fault { IfTold font_fault result (λ f. outlines_by (fitter_for fitter.old numbers.now) numbers.now ≡ Err f) }
 {
     let mut made = Vec::with_capacity(alloc, numbers.len())?;
     for number in numbers {
-        let glyph = FittedGlyph::of(fitter, *number)?;
+        let glyph = FittedGlyph::of(fitter, *number, cache)?;
         made.push(glyph)?;
     }
     Ok(made)
@@ -53,27 +60,31 @@ pub fn put_steps(places: &[u16], fitted: &[FittedGlyph], line: &mut [(u16, u32)]
     }
 }
 
-/// The glyphs of some outlines in a frame, without a pen; None where they have more than `most` chords. As soon as they
-/// have more, no further edge is made. Error: Memory.
+/// Some fitted glyphs in a frame, without a pen; None where they have more than `most` chords. As soon as they have more,
+/// no further edge is made. Those that may be and are small enough are cached. Error: Memory.
 pub(crate) fn drawn_glyphs(
     alloc: Global,
     fitted: Vec<FittedGlyph>,
     frame: Frame,
     room: usize,
     most: usize,
+    cache: &mut Cache,
 ) -> Result<Option<Vec<Glyph>>, AllocError>
     requires frame { FrameFits frame }
+    requires made { (cached : Bool) × (maker : ℕ → Fitter) × AreFitted cached maker fitted.items }
     ensures numbers { IfOk result (λ o. IfSome o (λ v. numbers_of v.items ≡ fitted_numbers fitted.items)) }
-    ensures bare { IfOk result (λ o. IfSome o (λ v. All (λ g. (g.left ≡ 0) × (g.pens ≡ [])) v.items)) }
-    ensures drawn { IfOk result (λ o. IfSome o (λ v. (maker : ℕ → Fitter) → AreFitted maker fitted.items → AreDrawn false maker frame v.items)) }
+    ensures bare { IfOk result (λ o. IfSome o (λ v. All (λ g. (g.left ≤ margin_limit) × (g.pens ≡ [])) v.items)) }
+    ensures drawn { IfOk result (λ o. IfSome o (λ v. (cached : Bool) (maker : ℕ → Fitter) → AreFitted cached maker fitted.items → AreDrawn cached maker frame v.items)) }
     ensures few { IfOk result (λ o. IfSome o (λ v. fitted_chords fitted.items ≤ most)) }
     ensures many { IfOk result (λ o. IfNone o (most < fitted_chords fitted.items)) }
+    ensures cached { (cached : Bool) (maker : ℕ → Fitter) (s : Fitter) → AreFitted cached maker fitted.items
+        → ((n : ℕ) → without_work (maker n) ≡ without_work s) → IsCacheFor s cache.old → IsCacheFor s cache.new }
+    ensures limit { limit_of cache.new ≡ limit_of cache.old }
 {
-    let mut none = Cache::absent();
     let mut left = most;
     let mut made = Vec::with_capacity(alloc, fitted.len())?;
-    for outline in fitted {
-        let glyph = outline.into_glyph(alloc, frame, room, &mut none)?;
+    for one in fitted {
+        let glyph = one.into_glyph(alloc, frame, room, cache)?;
         if glyph.chords > left {
             return Ok(None);
         }

@@ -1,13 +1,14 @@
 //! A glyph of a line, made once however often it appears. For painting see painting.rt.
 
-ghost use Rattle.std.specs.Prelude.{◌≡◌, ◌+◌, ◌<◌, ◌≤◌, ◌^◌, true, ◌++◌, [], ◌∷◌, length, IfOk, IfSome, IfNone, OnOk, Some, None, Err};
+ghost use Rattle.std.specs.Prelude.{◌≡◌, ◌+◌, ◌<◌, ◌≤◌, ◌^◌, Bool, true, ◌++◌, [], ◌∷◌, length, IfOk, IfSome, IfNone, OnOk, Some, None, Err};
 ghost use Rattle.tt_core.specs.Limits.{margin_limit, width_limit};
 ghost use Rattle.tt_core.specs.Outcomes.{IfTold, font_fault};
 ghost use Rattle.tt_fit.specs.Fitting.{Fitter, fitted_outline, after_glyph};
 ghost use Rattle.tt_scan_edges.specs.Winding.{FrameFits};
-ghost use Rattle.tt_scan_rows.specs.Raster.{Raster};
+ghost use Rattle.tt_picture.specs.Fitted as fitted;
+ghost use Rattle.tt_picture.specs.Fitted.{IsFitted};
 ghost use Rattle.tt_picture.specs.Glyphs.{BodyFits, IsBodyOf, IsDrawn, IsTape, edges_of, left_of};
-ghost use Rattle.tt_picture.specs.Cached.{IsCacheFor, IsCached, is_there, limit_of};
+ghost use Rattle.tt_picture.specs.Cached.{IsCacheFor, is_there, limit_of};
 ghost use Rattle.tt_picture.specs.Views.{body_view};
 
 use crate::cache::Cache;
@@ -16,12 +17,10 @@ use crate::report::Unfitted;
 use smallvec::SmallVec;
 use std::alloc::{AllocError, Global};
 use std::marker::Model;
-use std::rc::Rc;
 use tt_core::{Fault, FontFault};
 use tt_fit::Fitter;
 use tt_scan::{EdgeList, Frame, Tape};
 use tt_scan_dropouts::BoxedRules;
-use tt_scan_rows::Raster;
 use tt_strike_kept::KeptGlyph;
 
 /// How many pens of a glyph take no memory of their own. Most glyphs of a label have no more.
@@ -32,29 +31,40 @@ const INLINE_PENS: usize = 4;
 pub(crate) enum GlyphBody {
     /// Its edges at pen 0.
     Tape(Tape),
-    /// The black columns of its lines.
-    Raster(Rc<Raster>),
+    /// Its pixels.
+    Kept(KeptGlyph),
 }
 
 impl GlyphBody {
-    /// The number of its edges; 0 for a raster.
+    /// The number of its edges; 0 for a cached glyph.
     pub(crate) fn edges(&self) -> usize
         ensures { result ≡ length (edges_of (body_view self.now)) }
     {
         match self {
             GlyphBody::Tape(tape) => tape.edges(),
-            GlyphBody::Raster(_) => 0,
+            GlyphBody::Kept(_) => 0,
         }
     }
 
-    /// Added to every pen: 0 for a tape, the margin for a raster.
+    /// Added to every pen: 0 for a tape, the margin for a cached glyph.
     pub(crate) fn left(&self, frame: Frame) -> u32
         ensures exact { result ≡ left_of frame (body_view self.now) }
         ensures limit { frame.margin ≤ margin_limit → result ≤ margin_limit }
     {
         match self {
             GlyphBody::Tape(_) => 0,
-            GlyphBody::Raster(_) => frame.margin,
+            GlyphBody::Kept(_) => frame.margin,
+        }
+    }
+
+    /// The dropout rules of a tape. A cached glyph needs none.
+    pub(crate) fn filled(&self, rules: Option<BoxedRules>) -> Option<BoxedRules>
+        ensures tape { IsTape (body_view self.now) → result ≡ rules }
+        ensures some { IfSome result (λ _. IsTape (body_view self.now)) }
+    {
+        match self {
+            GlyphBody::Tape(_) => rules,
+            GlyphBody::Kept(_) => None,
         }
     }
 }
@@ -63,16 +73,16 @@ impl GlyphBody {
 #[derive(Drop)]
 pub struct Glyph {
     pub(crate) number: u16,
-    /// The pixels from its pen to the next, by its outline. 0 for a cached glyph, whose step is not asked.
+    /// The pixels from its pen to the next, by its outline.
     pub(crate) step: u32,
-    /// The number of its chords and straight edges. 0 for a cached glyph.
+    /// The number of its chords and straight edges.
     pub(crate) chords: usize,
     pub(crate) body: GlyphBody,
-    /// The rules for filling its dropouts, with its box at pen 0.
+    /// The rules for filling a tape's dropouts, with its box at pen 0.
     pub(crate) filled: Option<BoxedRules>,
-    /// The number of edges up to the end of each contour; empty where no dropouts are filled.
+    /// The number of edges up to the end of each contour; empty where a tape has no dropouts filled.
     pub(crate) ends: Vec<usize>,
-    /// Added to every pen: 0 for a tape, the margin for a raster.
+    /// Added to every pen: 0 for a tape, the margin for a cached glyph.
     pub(crate) left: u32,
     /// Its pens in the line, in pixels from the left end, with `left` added.
     pub(crate) pens: SmallVec<u32, INLINE_PENS>,
@@ -90,9 +100,10 @@ impl Model for Glyph {
 }
 
 impl Glyph {
-    /// A glyph without a pen, with room for `room` pens, from the cache if it is there. Else it is made from its
-    /// outline, and cached if it is small enough. The fitter then serves later glyphs. Errors: those of its outline,
-    /// Memory.
+    /// A glyph without a pen, with room for `room` pens, from the cache where its cost is left. Else it is made from its
+    /// outline, and cached if it may be and is small enough. The fitter then serves later glyphs. Errors: those of its
+    /// outline, Memory.
+    #[inline(always)]
     pub(crate) fn of(
         alloc: Global,
         fitter: &mut Fitter,
@@ -113,39 +124,36 @@ impl Glyph {
         ensures limit { limit_of cache.new ≡ limit_of cache.old }
         ensures fault { IfTold font_fault result (λ f. fitted_outline fitter.old number ≡ Err f) }
     {
-        if let Some(glyph) = cache.find(number) {
-            tt_fit::laws::work_unfits();
-            return Ok(Glyph::cached(alloc, number, glyph, frame, room)?);
-        }
-        let fitted = FittedGlyph::of(fitter, number)?;
+        let fitted = FittedGlyph::of(fitter, number, cache)?;
         let made = fitted.into_glyph(alloc, frame, room, cache)?;
         Ok(made)
     }
 
     /// A cached glyph, without a pen, with room for `room` pens. Error: Memory.
-    fn cached(
+    #[inline(always)]
+    pub(crate) fn cached(
         alloc: Global,
         number: u16,
-        glyph: KeptGlyph,
+        kept: KeptGlyph,
         frame: Frame,
         room: usize,
     ) -> Result<Glyph, AllocError>
         ensures number { IfOk result (λ g. g.number ≡ number) }
         ensures pens { IfOk result (λ g. g.pens ≡ []) }
         ensures left { IfOk result (λ g. g.left ≡ frame.margin) }
-        ensures valid { IfOk result (λ g. (s : Fitter) → IsCached s number glyph → IsDrawn true s frame g) }
+        ensures chords { IfOk result (λ g. g.chords ≡ kept.chords) }
+        ensures valid { IfOk result (λ g. (cached : Bool) (s : Fitter) → IsFitted cached s (record { number = number; body = fitted.kept kept }) → IsDrawn cached s frame g) }
     {
-        let KeptGlyph { raster, unfitted } = glyph;
         Ok(Glyph {
             number,
-            step: 0,
-            chords: 0,
-            body: GlyphBody::Raster(raster),
+            step: kept.step,
+            chords: kept.chords,
+            unfitted: kept.unfitted,
+            body: GlyphBody::Kept(kept),
             filled: None,
             ends: Vec::new(alloc),
             left: frame.margin,
             pens: SmallVec::with_capacity(alloc, room)?,
-            unfitted,
         })
     }
 
@@ -186,7 +194,7 @@ impl Glyph {
         self.number
     }
 
-    /// The pixels from its pen to the next, for a glyph that is not cached.
+    /// The pixels from its pen to the next.
     pub fn step(&self) -> u32
         ensures { result ≡ self.now.step }
     {

@@ -1,9 +1,10 @@
 //! The distinct glyphs of a line.
 
-ghost use Rattle.std.specs.Prelude.{◌≡◌, ◌≢◌, true, false, None, ℕ, ◌+◌, ◌-◌, ◌^◌, ◌<◌, ◌≤◌, ◌++◌, [], ◌∷◌, length, map, slice_index, All, IfOk, IfSome, IfNone, IsOkAnd, OnOk, Err};
-ghost use Rattle.tt_core.specs.Limits.{text_limit, width_limit};
+ghost use Rattle.std.specs.Prelude.{◌≡◌, ◌≢◌, Bool, true, false, None, ℕ, ◌+◌, ◌-◌, ◌^◌, ◌<◌, ◌≤◌, ◌++◌, [], ◌∷◌, length, map, slice_index, All, IfOk, IfSome, IfNone, IsOkAnd, OnOk, Err};
+ghost use Rattle.tt_core.specs.Limits.{margin_limit, text_limit, width_limit};
 ghost use Rattle.tt_core.specs.Outcomes.{IfTold, each, font_fault};
 ghost use Rattle.tt_fit.specs.Fitting.{Fitter, fitted_outline};
+ghost use Rattle.tt_fit.specs.GlyphCost.{without_work};
 ghost use Rattle.tt_scan_edges.specs.declared.edge.Frame.{Frame};
 ghost use Rattle.tt_scan_edges.specs.Winding.{FrameFits};
 ghost use Rattle.tt_picture.specs.Distinct.{distinct, each_fitter, fitter_after, fitter_past, is_among};
@@ -160,8 +161,8 @@ impl Glyphs {
         ensures valid { OnOk result (AreSeated (length self.old.places.items) self.new.places.items self.new.made.items) }
         ensures numbers { OnOk result (numbers_of self.new.made.items ≡ numbers_of self.old.made.items) }
         ensures pens { OnOk result (AreWithin self.old.made.items → AreWithin self.new.made.items) }
-        ensures drawn { OnOk result ((maker : ℕ → Fitter) (f : Frame) → AreDrawn false maker f self.old.made.items → AreDrawn false maker f self.new.made.items) }
-        ensures adds { OnOk result ((maker : ℕ → Fitter) (f : Frame) → AreDrawn false maker f self.old.made.items → IsOkAnd (glyph_shape maker placed) (Adds false f self.old.made.items self.new.made.items)) }
+        ensures drawn { OnOk result ((cached : Bool) (maker : ℕ → Fitter) (f : Frame) → AreDrawn cached maker f self.old.made.items → AreDrawn cached maker f self.new.made.items) }
+        ensures adds { OnOk result ((cached : Bool) (maker : ℕ → Fitter) (f : Frame) → AreDrawn cached maker f self.old.made.items → IsOkAnd (glyph_shape maker placed) (Adds f self.old.made.items self.new.made.items)) }
     {
         let (number, pen) = placed;
         let at = self.place_of(number);
@@ -171,14 +172,14 @@ impl Glyphs {
 
     /// Glyphs without a pen, at the places of a line. Error: Memory.
     fn standing(self, line: &[(u16, u32)]) -> Result<Glyphs, AllocError>
-        requires bare { All (λ g. (g.left ≡ 0) × (g.pens ≡ [])) self.made.items }
+        requires bare { All (λ g. (g.left ≤ margin_limit) × (g.pens ≡ [])) self.made.items }
         requires places { ArePlaces self.places.items (numbers_of self.made.items) }
         requires known { All (λ g. g.0 < length self.places.items) line.now }
         requires among { All (λ g. is_among g.0 (numbers_of self.made.items) ≡ true) line.now }
         requires pens { All (λ g. g.1 ≤ width_limit) line.now }
         ensures valid { IfOk result (λ g. AreSeated (length self.places.items) g.places.items g.made.items) }
-        ensures line { IfOk result (λ g. (maker : ℕ → Fitter) (f : Frame) → AreDrawn false maker f self.made.items
-            → numbers_of self.made.items ≡ distinct (map (λ g. g.0) line.now) → AreOfLine false maker f line.now g.made.items) }
+        ensures line { IfOk result (λ g. (cached : Bool) (maker : ℕ → Fitter) (f : Frame) → AreDrawn cached maker f self.made.items
+            → numbers_of self.made.items ≡ distinct (map (λ g. g.0) line.now) → AreOfLine cached maker f line.now g.made.items) }
     {
         let mut glyphs = self;
         for place in line {
@@ -220,8 +221,8 @@ impl Glyphs {
         Ok(glyphs.made)
     }
 
-    /// The glyphs of a line in its frame, by their outlines and the table of their places; None where they have more
-    /// than `most` chords. Error: Memory.
+    /// The glyphs of a line in its frame, by fitted glyphs and the table of their places; None where they have more than
+    /// `most` chords. Those that may be and are small enough are cached. Error: Memory.
     pub fn of_fitted(
         alloc: Global,
         places: Vec<u16>,
@@ -229,19 +230,24 @@ impl Glyphs {
         frame: Frame,
         line: &[(u16, u32)],
         most: usize,
+        cache: &mut Cache,
     ) -> Result<Option<Glyphs>, AllocError>
         requires frame { FrameFits frame }
+        requires made { (cached : Bool) × (maker : ℕ → Fitter) × AreFitted cached maker fitted.items }
         requires places { ArePlaces places.items (fitted_numbers fitted.items) }
         requires known { All (λ g. g.0 < length places.items) line.now }
         requires numbers { fitted_numbers fitted.items ≡ distinct (map (λ g. g.0) line.now) }
         requires pens { All (λ g. g.1 ≤ width_limit) line.now }
         ensures valid { IfOk result (λ o. IfSome o (λ g. AreSeated (length places.items) g.places.items g.made.items)) }
-        ensures line { IfOk result (λ o. IfSome o (λ g. (maker : ℕ → Fitter) → AreFitted maker fitted.items → AreOfLine false maker frame line.now g.made.items)) }
+        ensures line { IfOk result (λ o. IfSome o (λ g. (cached : Bool) (maker : ℕ → Fitter) → AreFitted cached maker fitted.items → AreOfLine cached maker frame line.now g.made.items)) }
         ensures few { IfOk result (λ o. IfSome o (λ g. fitted_chords fitted.items ≤ most)) }
         ensures many { IfOk result (λ o. IfNone o (most < fitted_chords fitted.items)) }
+        ensures cached { (cached : Bool) (maker : ℕ → Fitter) (s : Fitter) → AreFitted cached maker fitted.items
+            → ((n : ℕ) → without_work (maker n) ≡ without_work s) → IsCacheFor s cache.old → IsCacheFor s cache.new }
+        ensures limit { limit_of cache.new ≡ limit_of cache.old }
     {
         let room = pens_room(line.len());
-        let Some(made) = drawn_glyphs(alloc, fitted, frame, room, most)? else {
+        let Some(made) = drawn_glyphs(alloc, fitted, frame, room, most, cache)? else {
             return Ok(None);
         };
         let glyphs = Glyphs {
@@ -282,7 +288,6 @@ pub fn line_glyphs(
     ensures line { IfOk result (λ g. AreOfLine (is_there cache.old) (each_fitter fitter.old (map (λ g. g.0) line.now)) frame line.now g.made.items) }
     ensures fault { IfTold font_fault result (λ f. each (glyph_shape (each_fitter fitter.old (map (λ g. g.0) line.now))) line.now ≡ Err f) }
 {
-    tt_fit::laws::work_unfits();
     let mut distinct = Glyphs::new(alloc, glyphs, line.len())?;
     for placed in line {
         distinct.place(alloc, fitter, *placed, frame, cache)?;

@@ -2,9 +2,11 @@
 //!
 //! ```text
 //! cache.rt      the cache of glyphs, which may be absent
-//! fitted.rt     a glyph of a line whose outline is made, before its edges are
-//! fitting.rt    the outlines of a line's distinct glyphs, and the steps of its characters
-//! glyph.rt      a glyph of a line: a tape of edges or a raster, its dropout rules and its pens
+//! outlined.rt   the outline of a glyph that is made, before its edges are
+//! cutting.rt    a glyph cut into pixels, which are cached
+//! fitted.rt     a glyph of a line that is fitted: by its outline, or from the cache
+//! fitting.rt    a line's distinct glyphs, fitted, and the steps of its characters
+//! glyph.rt      a glyph of a line: a tape of edges or cached pixels, its dropout rules and its pens
 //! glyphs.rt     the distinct glyphs of a line, made in order
 //! reframing.rt  glyphs moved into another frame
 //! counting.rt   the crossings of glyphs at their pens
@@ -15,11 +17,13 @@
 //! painting.rt   rows of a glyph
 //! rows.rt       the glyphs and the dropouts of rows
 //! picture.rt    the picture
+//! laws.rt       the cache of a fitter is that of every fitter that differs in its remaining work alone
 //! ```
 #![tactic(auto)]
 
 mod cache;
 mod counting;
+mod cutting;
 mod dropouts;
 mod fitted;
 mod fitting;
@@ -27,6 +31,8 @@ mod glyph;
 mod glyphs;
 mod ink_box;
 mod inks;
+pub mod laws;
+mod outlined;
 mod painting;
 mod picture;
 mod reframing;

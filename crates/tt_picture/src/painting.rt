@@ -13,7 +13,7 @@ use crate::rows::row_bytes;
 use tt_scan::{Frame, Sweep, Tape};
 
 /// The line of row `r` of a picture, counted upwards from the base line.
-fn line_of(frame: Frame, r: u32) -> i64
+pub(crate) fn line_of(frame: Frame, r: u32) -> i64
     ensures exact { result ≡ line_at frame r }
     ensures near { unsigned_abs result < 2 ^ 40 }
 {
@@ -83,13 +83,13 @@ fn add_tape_rows(
 }
 
 impl Glyph {
-    /// How often rows crossed its edges so far; 0 for a raster, which is cut already.
+    /// How often rows crossed its edges so far; 0 for a cached glyph, which is cut already.
     pub(crate) fn crosses(&self) -> u64
         ensures { result ≡ body_crosses self.now.body }
     {
         match &self.body {
             GlyphBody::Tape(tape) => tape.crosses(),
-            GlyphBody::Raster(_) => 0,
+            GlyphBody::Kept(_) => 0,
         }
     }
 
@@ -114,7 +114,7 @@ impl Glyph {
             GlyphBody::Tape(tape) => {
                 add_tape_rows(tape, sweep, self.pens.as_slice(), frame, from, count, band)
             }
-            GlyphBody::Raster(raster) => raster.paint_lines(
+            GlyphBody::Kept(kept) => kept.raster.paint_lines(
                 line_of(frame, from),
                 count,
                 self.pens.as_slice(),

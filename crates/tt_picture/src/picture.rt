@@ -1,6 +1,6 @@
 //! The picture of a line, whose rows are made in order.
 
-ghost use Rattle.std.specs.Prelude.{◌≡◌, ◌+ℤ◌, ◌+◌, ◌-◌, ◌*◌, ◌^◌, ◌≤◌, Bool, List, min, pos, length, All, IfOk};
+ghost use Rattle.std.specs.Prelude.{◌≡◌, ◌+ℤ◌, ◌+◌, ◌-◌, ◌*◌, ◌^◌, ◌≤◌, List, min, pos, length, All, IfOk};
 ghost use Rattle.tt_core.specs.Bits.{stride};
 ghost use Rattle.tt_core.specs.Limits.{width_limit, height_limit};
 ghost use Rattle.tt_picture.specs.Glyphs.{BodyFits, CanBeFilled, Stand, edges_cut};
@@ -62,7 +62,7 @@ impl Picture {
         requires frame { IsPictureFrame frame }
         requires glyphs { All CanBeFilled glyphs.items }
         requires bodies { All (λ g. BodyFits frame 0 g.body) glyphs.items }
-        ensures exact { IfOk result (λ p. (keeps : Bool) (shapes : List Shape) → Stand keeps frame glyphs.items shapes → image_of p ≡ picture frame shapes) }
+        ensures exact { IfOk result (λ p. (shapes : List Shape) → Stand frame glyphs.items shapes → image_of p ≡ picture frame shapes) }
         ensures valid { IfOk result IsReady }
         ensures frame { IfOk result (λ p. p.frame ≡ frame) }
         ensures unfitted { IfOk result (λ p. p.unfitted ≡ unfitted_standing glyphs.items) }

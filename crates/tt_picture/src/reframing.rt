@@ -1,6 +1,7 @@
 //! Moves glyphs that are made into another frame, so that their programs run once.
 
 ghost use Rattle.std.specs.Prelude.{◌≡◌, ◌≤◌, ◌^◌, ℕ, false, [], length, All, IfOk};
+ghost use Rattle.tt_core.specs.Limits.{margin_limit};
 ghost use Rattle.tt_fit.specs.Fitting.{Fitter};
 ghost use Rattle.tt_scan_edges.specs.declared.edge.Frame.{Frame};
 ghost use Rattle.tt_scan_edges.specs.Winding.{FrameFits};
@@ -12,13 +13,13 @@ use std::alloc::{AllocError, Global};
 use tt_scan::{EdgeList, Frame};
 
 impl GlyphBody {
-    /// The edges of a tape, for a tape in another frame. A raster has none.
+    /// The edges of a tape, for a tape in another frame. A cached glyph has none.
     fn into_list(self, alloc: Global) -> EdgeList
         ensures { result.edges ≡ edges_of (body_view self) }
     {
         match self {
             GlyphBody::Tape(tape) => tape.into_list(),
-            GlyphBody::Raster(_) => EdgeList::new(alloc),
+            GlyphBody::Kept(_) => EdgeList::new(alloc),
         }
     }
 }
@@ -70,7 +71,7 @@ pub(crate) fn reframed_glyphs(
     requires frame { FrameFits frame }
     requires few { All (λ g. length (edges_of g.body) ≤ 2 ^ 19) glyphs.items }
     ensures numbers { IfOk result (λ v. numbers_of v.items ≡ numbers_of glyphs.items) }
-    ensures bare { IfOk result (λ v. All (λ g. (g.left ≡ 0) × (g.pens ≡ [])) v.items) }
+    ensures bare { IfOk result (λ v. All (λ g. (g.left ≤ margin_limit) × (g.pens ≡ [])) v.items) }
     ensures drawn { IfOk result (λ v. (maker : ℕ → Fitter) (f : Frame) → AreDrawn false maker f glyphs.items → AreDrawn false maker frame v.items) }
 {
     let mut made = Vec::with_capacity(alloc, glyphs.len())?;

@@ -1,5 +1,5 @@
 -- The edges of a line's glyphs, within their limits and past them.
-use Rattle.std.proofs.Common.{◌≡◌, refl, ℕ, ◌<◌, ◌≤◌, nat_lt, true, false, List, Option, Ok, Err, arith}
+use Rattle.std.proofs.Common.{◌≡◌, refl, ℕ, ◌<◌, ◌≤◌, nat_lt, true, false, Bool, List, Option, Ok, Err, arith}
 use Rattle.std.proofs.lemmas.Bool.Decides.{nat_tests}
 use Rattle.tt_core.specs.declared.fault.JobFault.TheVariants as fault
 use Rattle.tt_core.specs.Outcomes.{each}
@@ -36,9 +36,9 @@ unfolding edges_limited
 few_chords how left chords crossings bounded few = rw (in_limit how chord_limit chords bounded few) refl
 
 -- the glyphs of a line count as its shapes do
-pub standing_counts : (maker : ℕ → Fitter) (f : Frame) (line : List (ℕ × ℕ)) (gs : List Glyph) (shapes : List Shape)
-    → AreOfLine false maker f line gs → each (glyph_shape maker) line ≡ Ok shapes
+pub standing_counts : {cached : Bool} (maker : ℕ → Fitter) (f : Frame) (line : List (ℕ × ℕ)) (gs : List Glyph) (shapes : List Shape)
+    → AreOfLine cached maker f line gs → each (glyph_shape maker) line ≡ Ok shapes
     → crossings_standing gs ≡ crossings_in shapes
 standing_counts maker f line gs shapes of made =
     let stood = rw made at of.stand in
-    stood.crossings refl
+    stood.crossings

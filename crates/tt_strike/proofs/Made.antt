@@ -59,7 +59,7 @@ tapes_as_made face a l gs made = λ k d below. (made.drawn k d below).tape refl
 step_by : (bounded : Bool) (advance : ℕ) (s : Fitter) (f : Frame) (g : Glyph) → IsDrawn false s f g
     → (if bounded then g.step else advance) ≡ (if bounded then glyph_step s g.number else advance)
 unfolding glyph_step
-step_by true advance s f g drawn = rw drawn.outline (drawn.step refl)
+step_by true advance s f g drawn = rw drawn.outline drawn.step
 step_by false advance s f g drawn = refl
 
 pub steps_as_made : (face : Face) (a : Job) (l : Placement) (gs : List Glyph) → (made : AreMade false face a l gs)

@@ -18,7 +18,7 @@ use Rattle.tt_scan_edges.specs.declared.edge.Frame.{Frame}
 use Rattle.tt_scan_dropouts.specs.Counted.{edges_counted}
 use Rattle.tt_scan_dropouts.proofs.Counts.{rows_are_counted}
 use Rattle.tt_picture.specs.Distinct.{distinct, distinct_after, is_among, with_glyph}
-use Rattle.tt_picture.specs.Glyphs.{GlyphBody, tape, raster, AreDrawn, Glyph, IsBodyOf, IsDrawn, drawn_of, edges_cut, numbers_of}
+use Rattle.tt_picture.specs.Glyphs.{GlyphBody, tape, kept, AreDrawn, Glyph, IsBodyOf, IsDrawn, drawn_of, edges_cut, numbers_of}
 use Rattle.tt_strike.specs.Job.{Job}
 use Rattle.tt_arc.specs.declared.rule.ChordRule.{ChordRule}
 use Rattle.tt_picture.specs.Shapes.{chords_with, edges_at, glyph_shape, shape_at, crossings_in}
@@ -98,7 +98,7 @@ body_needs : (f : Frame) (count : List Edge → ℕ) (body : GlyphBody) (es : Li
     → ((those : List Edge) → crossings_of f those ≤ count those) → IsBodyOf es body
     → crossings_of f (cut_from (drawn_of body)) ≤ count es
 body_needs f count (tape t) es most is = rw is (most es)
-body_needs f count (raster k) es most is = let none : crossings_of f [] ≡ 0 = no_edge_crossed f f.height in omega (arith, none)
+body_needs f count (kept k) es most is = let none : crossings_of f [] ≡ 0 = no_edge_crossed f f.height in omega (arith, none)
 
 one_needs : {cached : Bool} (f : Frame) (count : List Edge → ℕ) (s : Fitter) (g : Glyph)
     → ((those : List Edge) → crossings_of f those ≤ count those) → IsDrawn cached s f g

@@ -1,6 +1,8 @@
--- Every fit but Best leaves the fitter unchanged.
-use Rattle.std.proofs.Common.{◌≡◌, ◌≢◌, ◌∙◌, ℕ, ◌*◌, Bool, true, false, List, None, Ok, refl, sym}
-use Rattle.tt_fit.specs.Fitting.{Fitter}
+-- A line changes nothing of a fitter but its work, which is then set back.
+use Rattle.std.proofs.Common.{◌≡◌, ◌≢◌, ◌∙◌, ℕ, ◌*◌, false, List, Option, None, Ok, refl, sym}
+use Rattle.tt_fit.proofs.WorkApart.{charges-take-work-alone, fitters-renew}
+use Rattle.tt_fit.specs.Fitting.{Fitter, with_work}
+use Rattle.tt_fit.specs.GlyphCost.{without_work}
 use Rattle.tt_fit.specs.Laws.{OthersAreUnbounded, UnboundedStays}
 use Rattle.tt_face.specs.Programs.{ProgramTables}
 use Rattle.tt_fit.specs.Preparation.{fitter_of}
@@ -8,11 +10,12 @@ use Rattle.tt_fit.specs.declared.programs.Fit.{Fit}
 use Rattle.tt_fit.specs.declared.programs.Fit.TheVariants as fit
 use Rattle.tt_glyf.specs.Loca.{Glyf}
 use Rattle.tt_metrics.specs.Metrics.{Metrics}
-use Rattle.tt_picture.specs.Distinct.{fitter_after}
+use Rattle.tt_picture.specs.Distinct.{distinct, fitter_after}
+use Rattle.tt_picture.proofs.Cached.{after_alike, for_alike}
 use Rattle.tt_picture.proofs.Unbounded.{uncharged, unchanged}
 use Rattle.tt_strike.specs.Makers.{IsMaker, IsSetting}
 use Rattle.tt_face.specs.Faces.{Face}
-use Rattle.tt_strike.specs.Work.{is_bounded, point_work, points_in, started}
+use Rattle.tt_strike.specs.Work.{is_bounded, line_fitter, point_work, points_in, started}
 use Rattle.tt_strike.specs.declared.maker.Maker.{Maker}
 use Rattle.tt_strike.specs.declared.maker.Maker.TheVariants as maker
 
@@ -35,8 +38,18 @@ unspent stays s t u gs numbers begun after none =
 pub not_started : (s : Fitter) (gs : List ℕ) → s.work ≡ None → s ≡ started s gs
 not_started s gs none = sym (uncharged s (point_work * points_in s gs) none)
 
-pub given_back : (face : Face) (ppem : ℕ) (how : Fit) (s t : Fitter) (before after : Maker) (bounded : Bool)
-    → IsSetting face ppem how s → (bounded ≡ false → t ≡ s) → IsMaker face ppem how before
-    → (bounded ≡ false → after ≡ maker.Ready t) → (bounded ≡ true → after ≡ before) → IsMaker face ppem how after
-given_back face ppem how s t before after true set same was kept stays = rw (stays refl) was
-given_back face ppem how s t before after false set same was kept stays = rw (kept refl, same refl) set
+-- the points and the glyphs of a line change nothing but the remaining work
+pub started_alike : (s : Fitter) (gs : List ℕ) → without_work (started s gs) ≡ without_work s
+started_alike s gs = charges-take-work-alone s (point_work * points_in s gs)
+
+pub line_alike : (s : Fitter) (gs numbers : List ℕ) → without_work (fitter_after (started s gs) numbers) ≡ without_work s
+line_alike s gs numbers = after_alike (started s gs) numbers ∙ started_alike s gs
+
+pub maker_alike : (s : Fitter) (gs : List ℕ) (n : ℕ) → without_work (line_fitter s gs n) ≡ without_work s
+maker_alike s gs n = for_alike (started s gs) (distinct gs) n ∙ started_alike s gs
+
+-- so a fitter that is given back with the work that it had is the one before the line
+pub given_back : (face : Face) (ppem : ℕ) (how : Fit) (s u : Fitter) (work : Option ℕ) (after : Maker)
+    → IsSetting face ppem how s → without_work u ≡ without_work s → work ≡ s.work
+    → after ≡ maker.Ready (with_work u work) → IsMaker face ppem how after
+given_back face ppem how s u work after set alike begun is = rw (is, begun, fitters-renew s u alike) set

@@ -2,10 +2,11 @@
 use Rattle.std.specs.Prelude.{◌≡◌, ℕ, Bool, List, length, map, Result, Ok}
 use Rattle.tt_core.specs.Outcomes.{◌>>=◌}
 use Rattle.tt_fit.specs.Fitting.{Fitter}
+use Rattle.tt_fit_outline.specs.Outline.{Outline}
 use Rattle.tt_line.specs.Layout.{Placement, text_glyphs}
 use Rattle.tt_metrics.specs.Metrics.{glyphs_of}
 use Rattle.tt_picture.specs.Distinct.{distinct}
-use Rattle.tt_picture.specs.Fitted.{AreFitted, FittedGlyph, fitted_numbers, outlines_of}
+use Rattle.tt_picture.specs.Fitted.{AreFitted, FittedGlyph, fitted_numbers}
 use Rattle.tt_picture.specs.Glyphs.{AreDrawn, ArePlaces, AreSeated, AreWithin, Glyph, Stand, numbers_of}
 use Rattle.tt_strike.specs.Costs.{line_cost}
 use Rattle.tt_strike.specs.Job.{Job}
@@ -30,7 +31,7 @@ pub record AreMade (cached : Bool) (face : Face) (a : Job) (line : Placement) (g
   pub drawn : AreDrawn cached (line_fitter setting (map (λ g. g.0) line.glyphs)) (frame_of line a.margin) gs
   pub numbers : numbers_of gs ≡ distinct (map (λ g. g.0) line.glyphs)
   pub within : AreWithin gs
-  pub stand : Stand cached (frame_of line a.margin) gs shapes
+  pub stand : Stand (frame_of line a.margin) gs shapes
 
 -- the glyphs of a text's line, or the first refusal
 abbrev pub text_shapes : Face → Job → Result (List Shape) Refused
@@ -45,13 +46,13 @@ pub record IsMadeLine (cached : Bool) (face : Face) (a : Job) (line : Placement)
   pub seated : AreSeated (glyphs_of face.metrics) table gs
   pub cost : line_cost face a line ≡ Ok n
 
--- the outlines of a text's distinct glyphs are made: these, with this table of their places. Each character has its
--- glyph and the glyph's step
-pub record AreOutlined (s : Fitter) (gs : List ℕ) (line : List (ℕ × ℕ)) (table : List ℕ) (fs : List FittedGlyph) : Type 0 where
+-- a text's distinct glyphs are fitted: these, with this table of their places. Each character has its glyph and the
+-- glyph's step
+pub record AreOutlined (cached : Bool) (s : Fitter) (gs : List ℕ) (line : List (ℕ × ℕ)) (table : List ℕ) (fs : List FittedGlyph) : Type 0 where
   pub glyphs : map (λ g. g.0) line ≡ gs
   pub steps : map (λ g. g.1) line ≡ steps_in s gs
   pub room : length table ≡ s.tables.glyphs
   pub places : ArePlaces table (fitted_numbers fs)
   pub numbers : fitted_numbers fs ≡ distinct gs
-  pub fitted : AreFitted (line_fitter s gs) fs
-  pub made : outlines_in s gs ≡ Ok (outlines_of fs)
+  pub fitted : AreFitted cached (line_fitter s gs) fs
+  pub made : (os : List Outline) × (outlines_in s gs ≡ Ok os)

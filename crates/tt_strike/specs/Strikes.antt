@@ -1,6 +1,6 @@
 -- No part of the standard: a font at a size, with a fit, its cache's limit in bytes and its cached glyphs with their
 -- numbers, the newest first; and the jobs of its lines.
-use Rattle.std.specs.Prelude.{◌≡◌, ℕ, false, List, [], Option, None, Some, Ok, ⊤}
+use Rattle.std.specs.Prelude.{◌≡◌, ℕ, List, [], Option, None, Some, Ok, ⊤}
 use Rattle.tt_fit.specs.declared.programs.Fit.{Fit}
 use Rattle.tt_fit.specs.Fitting.{Fitter}
 use Rattle.tt_line.specs.Known.{Source}
@@ -8,7 +8,6 @@ use Rattle.tt_picture.specs.Cached.{AreCachedFor}
 use Rattle.tt_strike.specs.Job.{Job, job_for}
 use Rattle.tt_strike.specs.Picture.{setting}
 use Rattle.tt_face.specs.Faces.{Face}
-use Rattle.tt_strike.specs.Work.{is_bounded}
 use Rattle.tt_strike_kept.specs.Glyph.{KeptGlyph}
 use Rattle.tt_strike_kept.specs.Kept.{Kept}
 
@@ -40,13 +39,12 @@ job_by z text margin = job_for z.ppem z.fit text margin
 abbrev pub job_with : SizedFace → ℕ → Job
 job_with z margin = job_by z [] margin
 
--- a cache for a font at a size, if there is one: lines use up no work, and each glyph equals the one made anew
+-- a cache for a font at a size, if there is one: each glyph equals the one made anew, where its cost is paid
 abbrev pub IsCacheOf : SizedFace → Option Kept → Type 0
 IsCacheOf z None = ⊤
-IsCacheOf z (Some k) = (is_bounded z.fit ≡ false)
-    × ((s : Fitter) → setting z.face z.ppem z.fit ≡ Ok s → AreCachedFor s k.entries)
+IsCacheOf z (Some k) = (s : Fitter) → setting z.face z.ppem z.fit ≡ Ok s → AreCachedFor s k.entries
 
 -- a new cache of at most this many bytes, if there is one
-abbrev pub IsFresh : Fit → ℕ → Option Kept → Type 0
-IsFresh how most None = ⊤
-IsFresh how most (Some k) = (is_bounded how ≡ false) × (k.entries ≡ []) × (k.most ≡ most)
+abbrev pub IsFresh : ℕ → Option Kept → Type 0
+IsFresh most None = ⊤
+IsFresh most (Some k) = (k.entries ≡ []) × (k.most ≡ most)

@@ -47,12 +47,13 @@ impl<'f, 'a> SizedFace<'f, 'a> {
         tt_fit::laws::work_unfits();
         let source = self.source;
         let mut fitter = self.maker.take(&source)?;
+        let begun = fitter.work();
         let count = source.face.metrics().glyphs();
         let line = &laid.line;
         let frame = laid.frame();
         let mut glyphs = line_glyphs(source.alloc, &mut fitter, count, &line.glyphs, frame, cache)?;
         glyphs.cost = 0;
-        self.maker.give_back(fitter, source.fit);
+        self.maker.give_back(fitter, begun);
         Ok(glyphs)
     }
 

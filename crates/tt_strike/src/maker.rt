@@ -1,19 +1,18 @@
 //! The fitter of a font at a size, opened when the first line is drawn.
 
-ghost use Rattle.std.specs.Prelude.{◌≡◌, true, false, IfOk};
+ghost use Rattle.std.specs.Prelude.{◌≡◌, IfOk};
+ghost use Rattle.tt_fit.specs.Fitting.{with_work};
 ghost use Rattle.tt_core.specs.Outcomes.{FontGives, font_fault};
 ghost use Rattle.tt_strike.specs.Defects.{IsSettingDefect, TellsDefects};
 ghost use Rattle.tt_strike.specs.Makers.{IsMaker, IsSetting, job_at};
 ghost use Rattle.tt_strike.specs.declared.maker.Maker.TheVariants.{Ready};
 ghost use Rattle.tt_strike.specs.Picture.{setting};
-ghost use Rattle.tt_strike.specs.Work.{is_bounded};
 
 use crate::programs::open_programs;
 use crate::source::FitterSource;
-use crate::work::is_bounded;
 use std::mem;
 use tt_core::{Fault, FontFault};
-use tt_fit::{Fit, Fitter};
+use tt_fit::Fitter;
 
 /// The state of a strike's fitter.
 #[derive(Drop)]
@@ -67,13 +66,12 @@ impl<'a> Maker<'a> {
         }
     }
 
-    /// Puts the fitter back for later lines, unless a line uses up some of its work.
-    pub(crate) fn give_back(&mut self, fitter: Fitter<'a>, fit: Fit)
-        ensures kept { is_bounded fit ≡ false → self.new ≡ Ready fitter.entry }
-        ensures same { is_bounded fit ≡ true → self.new ≡ self.old }
+    /// Puts the fitter back for later lines, with the work that it had before this line.
+    pub(crate) fn give_back(&mut self, fitter: Fitter<'a>, work: Option<u64>)
+        ensures { self.new ≡ Ready (with_work fitter.entry work) }
     {
-        if !is_bounded(fit) {
-            *self = Maker::Ready(fitter);
-        }
+        let mut fitter = fitter;
+        fitter.renew(work);
+        *self = Maker::Ready(fitter);
     }
 }

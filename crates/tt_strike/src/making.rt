@@ -1,11 +1,12 @@
 //! Lays out the line of a text, and makes and tests its glyphs.
 
-ghost use Rattle.std.specs.Prelude.{◌≡◌, ℕ, ◌<◌, length, map, true, false, All, List, Ok, Err, IfOk};
+ghost use Rattle.std.specs.Prelude.{◌≡◌, ℕ, ◌<◌, length, map, Bool, true, false, All, List, Ok, Err, IfOk};
 ghost use Rattle.tt_core.specs.Outcomes.{GivesUnless, IfTold, draw_font_fault, draw_job_fault, each};
 ghost use Rattle.tt_fit.specs.Fitting.{Fitter};
+ghost use Rattle.tt_fit.specs.GlyphCost.{without_work};
 ghost use Rattle.tt_line.specs.Layout.{text_glyphs};
 ghost use Rattle.tt_line.specs.Outcome.{placement_of};
-ghost use Rattle.tt_picture.specs.Cached.{is_there, limit_of};
+ghost use Rattle.tt_picture.specs.Cached.{IsCacheFor, is_there, limit_of};
 ghost use Rattle.tt_picture.specs.Distinct.{distinct};
 ghost use Rattle.tt_picture.specs.Fitted.{AreFitted, fitted_chords, fitted_numbers};
 ghost use Rattle.tt_picture.specs.Glyphs.{AreOfLine, ArePlaces, AreSeated};
@@ -37,8 +38,9 @@ pub(crate) struct MadeLine {
     pub(crate) glyphs: Glyphs,
 }
 
-/// The glyphs of a line by their outlines and the table of their places, where work is bounded. Errors: WorkLarge of
-/// their chords, and then of their crossings by the work that is left; Memory.
+/// The glyphs of a line, fitted before, by the table of their places, where work is bounded. Those that may be and are
+/// small enough are cached. Errors: WorkLarge of their chords, and then of their crossings by the work that is left;
+/// Memory.
 fn tested_edges(
     alloc: Global,
     fit: Fit,
@@ -46,23 +48,27 @@ fn tested_edges(
     fitted: Vec<FittedGlyph>,
     laid: &Laid,
     left: Option<u64>,
+    cache: &mut Cache,
 ) -> Result<Glyphs, DrawFault>
     requires bounded { is_bounded fit ≡ true }
-    requires made { (maker : ℕ → Fitter) × AreFitted maker fitted.items }
+    requires made { (cached : Bool) × (maker : ℕ → Fitter) × AreFitted cached maker fitted.items }
     requires places { ArePlaces places.items (fitted_numbers fitted.items) }
     requires known { All (λ g. g.0 < length places.items) laid.now.line.glyphs.items }
     requires numbers { fitted_numbers fitted.items ≡ distinct (map (λ g. g.0) laid.now.line.glyphs.items) }
     ensures valid { IfOk result (λ g. AreSeated (length places.items) g.places.items g.made.items) }
-    ensures line { IfOk result (λ g. (maker : ℕ → Fitter) → AreFitted maker fitted.items → AreOfLine false maker (frame_of (placement_of laid.now.line) laid.now.margin) laid.now.line.glyphs.items g.made.items) }
-    ensures exact { (maker : ℕ → Fitter) (shapes : List Shape) → AreFitted maker fitted.items → each (glyph_shape maker) laid.now.line.glyphs.items ≡ Ok shapes
+    ensures line { IfOk result (λ g. (cached : Bool) (maker : ℕ → Fitter) → AreFitted cached maker fitted.items → AreOfLine cached maker (frame_of (placement_of laid.now.line) laid.now.margin) laid.now.line.glyphs.items g.made.items) }
+    ensures exact { (cached : Bool) (maker : ℕ → Fitter) (shapes : List Shape) → AreFitted cached maker fitted.items → each (glyph_shape maker) laid.now.line.glyphs.items ≡ Ok shapes
         → GivesUnless refusal (λ g. tt) result (as_job (edges_limited fit left (fitted_chords fitted.items) (crossings_in shapes))) }
-    ensures cost { (maker : ℕ → Fitter) (shapes : List Shape) → AreFitted maker fitted.items → each (glyph_shape maker) laid.now.line.glyphs.items ≡ Ok shapes
+    ensures cost { (cached : Bool) (maker : ℕ → Fitter) (shapes : List Shape) → AreFitted cached maker fitted.items → each (glyph_shape maker) laid.now.line.glyphs.items ≡ Ok shapes
         → IfOk result (λ g. g.cost ≡ cost_of left (crossings_in shapes)) }
+    ensures cached { (cached : Bool) (maker : ℕ → Fitter) (s : Fitter) → AreFitted cached maker fitted.items
+        → ((n : ℕ) → without_work (maker n) ≡ without_work s) → IsCacheFor s cache.old → IsCacheFor s cache.new }
+    ensures limit { limit_of cache.new ≡ limit_of cache.old }
 {
     let frame = laid.frame();
     let line = &laid.line.glyphs;
-    let Some(mut glyphs) = Glyphs::of_fitted(alloc, places, fitted, frame, line, CHORD_LIMIT)?
-    else {
+    let made = Glyphs::of_fitted(alloc, places, fitted, frame, line, CHORD_LIMIT, cache)?;
+    let Some(mut glyphs) = made else {
         return Err(DrawFault::Job(JobFault::WorkLarge));
     };
     let crossings = test_crossings(fit, crossings_allowed(left), &glyphs.made)?;
@@ -75,20 +81,31 @@ impl<'f, 'a> SizedFace<'f, 'a> {
     /// the first of: MarginRange, TextLong; those of loca and glyf, of the programs; WorkLarge of the points; those of
     /// the glyphs in the order of the text; EmptyPicture, PictureLarge; WorkLarge of the chords, and of the crossings.
     /// Memory may come at any allocation.
-    fn make_by_steps(&mut self, text: &str, margin: u32) -> Result<MadeLine, DrawFault>
+    fn make_by_steps(
+        &mut self,
+        text: &str,
+        margin: u32,
+        cache: &mut Cache,
+    ) -> Result<MadeLine, DrawFault>
+        requires cache { IsCacheOf self.old cache.old }
         requires bounded { is_bounded self.old.fit ≡ true }
-        ensures made { IfOk result (λ m. IsMadeLine false self.old.face (job_by self.old text.now margin) (placement_of m.laid.line) m.glyphs.places.items m.glyphs.made.items m.glyphs.cost) }
+        ensures made { IfOk result (λ m. IsMadeLine (is_there cache.old) self.old.face (job_by self.old text.now margin) (placement_of m.laid.line) m.glyphs.places.items m.glyphs.made.items m.glyphs.cost) }
         ensures margin { IfOk result (λ m. m.laid.margin ≡ margin) }
         ensures stops { IfTold refusal result (λ r. text_shapes self.old.face (job_by self.old text.now margin) ≡ Err r) }
         ensures defects { TellsDefects draw_font_fault (IsLineDefect self.old.face (job_by self.old text.now margin) (text_glyphs self.old.face.cmap text.now)) result }
         ensures job { IfTold draw_job_fault result (IsLineRefusal self.old.face (job_by self.old text.now margin)) }
         ensures same { self.new ≡ self.old }
+        ensures cache { IsCacheOf self.old cache.new }
+        ensures limit { limit_of cache.new ≡ limit_of cache.old }
     {
         let source = self.source;
         test_margin(margin)?;
         test_text(text)?;
         let mut fitter = self.maker.take(&source)?;
-        let outlined = source.outlined(&mut fitter, &mut self.known, text)?;
+        let begun = fitter.work();
+        let outlined = source.outlined(&mut fitter, &mut self.known, text, cache)?;
+        let left = fitter.work();
+        self.maker.give_back(fitter, begun);
         let OutlinedText {
             steps,
             places,
@@ -96,8 +113,7 @@ impl<'f, 'a> SizedFace<'f, 'a> {
         } = outlined;
         let line = lay_steps(source.face.metrics(), steps, source.ppem, margin)?;
         let laid = Laid { line, margin };
-        let left = fitter.work();
-        let glyphs = tested_edges(source.alloc, source.fit, places, fitted, &laid, left)?;
+        let glyphs = tested_edges(source.alloc, source.fit, places, fitted, &laid, left, cache)?;
         Ok(MadeLine { laid, glyphs })
     }
 
@@ -144,7 +160,7 @@ impl<'f, 'a> SizedFace<'f, 'a> {
         ensures limit { limit_of cache.new ≡ limit_of cache.old }
     {
         if is_bounded(self.fit()) {
-            return self.make_by_steps(text, margin);
+            return self.make_by_steps(text, margin, cache);
         }
         self.make_by_advances(text, margin, cache)
     }

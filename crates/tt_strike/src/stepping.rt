@@ -1,10 +1,11 @@
-//! Makes the outlines of a text's glyphs, by whose steps the text is laid out.
+//! Fits a text's glyphs, by whose steps the text is laid out.
 
 ghost use Rattle.std.specs.Prelude.{◌≡◌, ◌<◌, ◌≤◌, true, length, chars, All, Ok, Err, IfOk};
 ghost use Rattle.tt_core.specs.Limits.{point_work_limit, text_limit};
 ghost use Rattle.tt_core.specs.Outcomes.{IfTold};
 ghost use Rattle.tt_line.specs.Layout.{text_glyphs};
 ghost use Rattle.tt_metrics.specs.Metrics.{glyphs_of};
+ghost use Rattle.tt_picture.specs.Cached.{IsCacheFor, is_there};
 ghost use Rattle.tt_picture.specs.Distinct.{distinct, fitter_after};
 ghost use Rattle.tt_strike.specs.Made.{AreOutlined};
 ghost use Rattle.tt_strike.specs.Picture.{outlines_tested};
@@ -18,9 +19,9 @@ use crate::work::charge_points;
 use tt_core::DrawFault;
 use tt_fit::Fitter;
 use tt_line::{KnownAdvances, advance_steps};
-use tt_picture::{FittedGlyph, fit_glyphs, put_steps};
+use tt_picture::{Cache, FittedGlyph, fit_glyphs, put_steps};
 
-/// A text whose glyphs have their outlines.
+/// A text whose glyphs are fitted.
 #[derive(Drop)]
 pub(crate) struct OutlinedText {
     /// The glyph of each character, with its step.
@@ -32,19 +33,22 @@ pub(crate) struct OutlinedText {
 }
 
 impl<'f, 'a> FitterSource<'f, 'a> {
-    /// The outlines of a text's glyphs, where work is bounded. Errors, the first of: WorkLarge of their points; those of
-    /// the glyphs in the order of the text. Memory may come at any allocation.
+    /// The glyphs of a text, fitted, where work is bounded: from the cache where their costs are left, else made. Errors,
+    /// the first of: WorkLarge of their points; those of the glyphs in the order of the text. Memory may come at any
+    /// allocation.
     pub(crate) fn outlined(
         &self,
         fitter: &mut Fitter,
         known: &mut KnownAdvances,
         text: &str,
+        cache: &Cache,
     ) -> Result<OutlinedText, DrawFault>
         requires known { known.old ≡ advances_of self.now.face.now self.now.ppem }
         requires text { length (chars text.now) ≤ text_limit }
         requires glyphs { fitter.old.tables.glyphs ≡ glyphs_of self.now.face.now.metrics }
         requires bounded { is_bounded self.now.fit ≡ true }
-        ensures outlined { IfOk result (λ t. AreOutlined fitter.old (text_glyphs self.now.face.now.cmap text.now) t.steps.items t.places.items t.fitted.items) }
+        requires cache { IsCacheFor fitter.old cache.now }
+        ensures outlined { IfOk result (λ t. AreOutlined (is_there cache.now) fitter.old (text_glyphs self.now.face.now.cmap text.now) t.steps.items t.places.items t.fitted.items) }
         ensures points { IfOk result (λ t. work_tested self.now.fit point_work_limit (points_in fitter.old (text_glyphs self.now.face.now.cmap text.now)) ≡ Ok tt) }
         ensures known { IfOk result (λ t. All (λ g. g.0 < glyphs_of self.now.face.now.metrics) t.steps.items) }
         ensures few { IfOk result (λ t. length t.steps.items ≤ text_limit) }
@@ -55,8 +59,8 @@ impl<'f, 'a> FitterSource<'f, 'a> {
         let mut steps = advance_steps(self.alloc, known, text)?;
         let met = distinct(self.alloc, self.face.metrics().glyphs(), &steps)?;
         let DistinctGlyphs { places, numbers } = met;
-        charge_points(self.fit, fitter, &numbers)?;
-        let fitted = fit_glyphs(self.alloc, fitter, &numbers)?;
+        charge_points(self.fit, fitter, &numbers, cache)?;
+        let fitted = fit_glyphs(self.alloc, fitter, &numbers, cache)?;
         put_steps(&places, &fitted, &mut steps);
         Ok(OutlinedText {
             steps,

@@ -20,7 +20,6 @@ ghost use Rattle.tt_strike_kept.specs.Kept.{bytes_in};
 
 use crate::measuring::Measure;
 use crate::sized::SizedFace;
-use crate::work::is_bounded;
 use std::alloc::{AllocError, Global};
 use std::marker::Model;
 use tt_core::DrawFault;
@@ -29,8 +28,8 @@ use tt_fit::Fit;
 use tt_picture::{Cache, Picture};
 
 /// A font at a size with a fit, which draws lines one after the other. The font's programs run once, when the first
-/// line is drawn. With `Fit::Best` they run anew for each line, since a line uses up some of their work. Glyphs are
-/// cached for later lines. Clauses see the font's tables, the size, the fit, the cache's limit in bytes and the cached
+/// line is drawn. Glyphs are cached for later lines. With `Fit::Best` a line pays from its own work for the font's
+/// programs and for cached glyphs. Clauses see the font's tables, the size, the fit, the cache's limit in bytes and the cached
 /// glyphs with their numbers, the newest first. A line changes the cached glyphs alone.
 #[derive(Drop)]
 pub struct Strike<'f, 'a> {
@@ -58,12 +57,11 @@ impl<'f, 'a> Model for Strike<'f, 'a> {
     ghost invariant = { λ s. strikes.IsCacheOf s.sized s.cache × IfSome (limit_of s.cache) (λ most. most ≤ s.most) };
 }
 
-/// A cache of at most `most` bytes for a font at a size. None where the limit is 0, and where each line uses up work of
-/// the fitter. Error: Memory.
-fn open_cache(alloc: Global, most: usize, fit: Fit) -> Result<Cache, AllocError>
-    ensures { IfOk result (IsFresh fit most) }
+/// A cache of at most `most` bytes for a font at a size. None where the limit is 0. Error: Memory.
+fn open_cache(alloc: Global, most: usize) -> Result<Cache, AllocError>
+    ensures { IfOk result (IsFresh most) }
 {
-    if most == 0 || is_bounded(fit) {
+    if most == 0 {
         return Ok(Cache::absent());
     }
     Cache::new(alloc, most)
@@ -85,7 +83,7 @@ impl<'f, 'a> Strike<'f, 'a> {
         ensures refused { IfTold draw_job_fault result (IsSizeRefusal ppem) }
     {
         let sized = SizedFace::new(alloc, face, ppem, fit)?;
-        let cache = open_cache(alloc, most, fit)?;
+        let cache = open_cache(alloc, most)?;
         Ok(Strike { sized, cache, most })
     }
 
@@ -160,12 +158,11 @@ impl<'f, 'a> Strike<'f, 'a> {
         self.sized.measure_grown(text, margin)
     }
 
-    /// The bytes of the cached glyphs: for each those of its black columns, and 128. With `Fit::None`, `Fit::Full` and
-    /// `Fit::Fallback` the newest glyphs are cached; with `Fit::Best` none.
+    /// The bytes of the cached glyphs: for each those of its black columns and its dropouts, and 224. The newest glyphs
+    /// are cached.
     pub fn kept_bytes(&self) -> usize
         ensures exact { result ≡ bytes_in self.now.kept }
         ensures most { result ≤ self.now.most }
-        ensures best { is_bounded self.now.fit ≡ true → result ≡ 0 }
     {
         self.cache.bytes()
     }

@@ -4,9 +4,10 @@ ghost use Rattle.std.specs.List.{sum_by};
 ghost use Rattle.std.specs.Prelude.{◌≡◌, ◌<◌, ◌≤◌, ◌-◌, ◌*◌, ◌^◌, true, min, length, All, IfOk, OnOk};
 ghost use Rattle.tt_core.specs.Limits.{crossing_limit, point_work_limit};
 ghost use Rattle.tt_core.specs.Outcomes.{Gives, GivesUnless};
-ghost use Rattle.tt_fit.specs.Counting.{left_of, points_asked};
+ghost use Rattle.tt_fit.specs.Counting.{counted, left_of, points_asked};
 ghost use Rattle.tt_fit.specs.Fitting.{charged_fitter};
 ghost use Rattle.tt_strike.specs.Costs.{cost_of};
+ghost use Rattle.tt_picture.specs.Cached.{IsCacheFor};
 ghost use Rattle.tt_picture.specs.Glyphs.{CanBeCounted, crossings_standing};
 ghost use Rattle.tt_strike.specs.Refusals.{as_job, refusal};
 ghost use Rattle.tt_strike.specs.Work.{crossings_allowed, is_bounded, point_work, work_tested};
@@ -14,7 +15,7 @@ ghost use Rattle.tt_strike.specs.Work.{crossings_allowed, is_bounded, point_work
 use std::alloc::AllocError;
 use tt_core::{CROSSING_LIMIT, DrawFault, JobFault, POINT_WORK_LIMIT, WORK_LIMIT};
 use tt_fit::{Fit, Fitter};
-use tt_picture::{Glyph, crossings};
+use tt_picture::{Cache, Glyph, crossings};
 
 /// The work that each point of a line's glyphs takes.
 const POINT_WORK: u64 = 40;
@@ -38,16 +39,22 @@ pub(crate) fn is_bounded(fit: Fit) -> bool
     }
 }
 
-/// Charges the points of a line's distinct glyphs to its work, which is bounded. Errors: WorkLarge, where they are too
-/// many; Memory.
+/// Charges the points of a line's distinct glyphs to its work, which is bounded. The cache has those of cached glyphs.
+/// Errors: WorkLarge, where they are too many; Memory.
 #[tactic(auto, unfolding(crate::specs::Work::work_tested))]
-pub(crate) fn charge_points(fit: Fit, fitter: &mut Fitter, numbers: &[u16]) -> Result<(), DrawFault>
+pub(crate) fn charge_points(
+    fit: Fit,
+    fitter: &mut Fitter,
+    numbers: &[u16],
+    cache: &Cache,
+) -> Result<(), DrawFault>
     requires known { All (λ g. g < fitter.old.tables.glyphs) numbers.now }
+    requires cache { IsCacheFor fitter.old cache.now }
     requires bounded { is_bounded fit ≡ true }
     ensures exact { GivesUnless refusal (λ u. u) result (as_job (work_tested fit point_work_limit (sum_by (points_asked fitter.old.tables fitter.old.levels) numbers.now))) }
     ensures charged { OnOk result (fitter.new ≡ charged_fitter fitter.old (point_work * sum_by (points_asked fitter.old.tables fitter.old.levels) numbers.now)) }
 {
-    match points_left(fitter, numbers, POINT_WORK_LIMIT)? {
+    match points_left(fitter, numbers, POINT_WORK_LIMIT, cache)? {
         Some(left) => {
             fitter.charge(POINT_WORK * (POINT_WORK_LIMIT - left));
             Ok(())
@@ -67,14 +74,39 @@ pub(crate) fn crossings_allowed(left: Option<u64>) -> u64
     }
 }
 
+/// The points of a glyph, from the cache if the glyph is there; None where there are more than `most`. Error: out of
+/// memory.
+fn points_of(
+    fitter: &Fitter,
+    glyph: u16,
+    most: u64,
+    cache: &Cache,
+) -> Result<Option<u64>, AllocError>
+    requires known { glyph < fitter.now.tables.glyphs }
+    requires cache { IsCacheFor fitter.now cache.now }
+    ensures { IfOk result (λ n. n ≡ counted most (points_asked fitter.now.tables fitter.now.levels glyph)) }
+{
+    match cache.points(glyph) {
+        Some(points) if points <= most => Ok(Some(points)),
+        Some(_) => Ok(None),
+        None => fitter.points(glyph, most),
+    }
+}
+
 /// What remains of `most` after the points of some glyphs; None where they have more. Error: out of memory.
-fn points_left(fitter: &Fitter, glyphs: &[u16], most: u64) -> Result<Option<u64>, AllocError>
-    requires { All (λ g. g < fitter.now.tables.glyphs) glyphs.now }
+fn points_left(
+    fitter: &Fitter,
+    glyphs: &[u16],
+    most: u64,
+    cache: &Cache,
+) -> Result<Option<u64>, AllocError>
+    requires known { All (λ g. g < fitter.now.tables.glyphs) glyphs.now }
+    requires cache { IsCacheFor fitter.now cache.now }
     ensures { IfOk result (λ left. left ≡ left_of most (sum_by (points_asked fitter.now.tables fitter.now.levels) glyphs.now)) }
 {
     let mut left = most;
     for glyph in glyphs {
-        match fitter.points(*glyph, left)? {
+        match points_of(fitter, *glyph, left, cache)? {
             Some(points) => left -= points,
             None => return Ok(None),
         }

@@ -17,7 +17,7 @@ pub bytes_more : (e : ℕ × KeptGlyph) (es : List (ℕ × KeptGlyph)) → bytes
 bytes_more e es = sum_by-cons bytes_of e.1 (values_of es)
 
 -- each glyph takes at least the bytes of its place
-pub places_within : (es : List (ℕ × KeptGlyph)) → 128 * length es ≤ bytes_in es
+pub places_within : (es : List (ℕ × KeptGlyph)) → 224 * length es ≤ bytes_in es
 places_within [] = omega arith
 places_within (e ∷ es) = omega (arith, bytes_more e es, places_within es)
 

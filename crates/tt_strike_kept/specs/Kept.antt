@@ -10,9 +10,9 @@ pub record Kept : Type 0 where
   pub entries : List (ℕ × KeptGlyph)
   pub most : ℕ
 
--- the bytes of a glyph: 16 each span and 40 each row of its raster, and 128 for its place
+-- the bytes of a glyph: 16 each span and 40 each row of its raster, 16 each dropout, and 224 for its place
 abbrev pub bytes_of : KeptGlyph → ℕ
-bytes_of g = 16 * spans_in g.raster.rows + 40 * length g.raster.rows + 128
+bytes_of g = 16 * spans_in g.raster.rows + 40 * length g.raster.rows + 16 * length g.dropouts + 224
 
 -- the bytes of all glyphs of a list
 abbrev pub bytes_in : List (ℕ × KeptGlyph) → ℕ
@@ -23,39 +23,48 @@ abbrev pub fitting : ℕ → List (ℕ × KeptGlyph) → List (ℕ × KeptGlyph)
 fitting room [] = []
 fitting room (e ∷ es) = if nat_le (bytes_of e.1) room then e ∷ fitting (room - bytes_of e.1) es else []
 
--- worked values: a blank glyph, and one that is black in a column of its only line
+-- worked values: a blank glyph, and one with a black column in its only line and a dropout
 blank : KeptGlyph
-blank = record { raster = record { top = pos 0; rows = [] }; unfitted = None }
+blank = record {
+  raster = record { top = pos 0; rows = [] };
+  dropouts = [];
+  step = 4;
+  chords = 0;
+  crossings = 0;
+  points = 4;
+  cost = 0;
+  unfitted = None;
+}
 
 dot : KeptGlyph
-dot = record {
+dot = record blank {
   raster = record { top = pos 0; rows = (record { first = pos 1; last = pos 1 } ∷ []) ∷ [] };
-  unfitted = None;
+  dropouts = record { column = pos 2; row = pos 0 } ∷ [];
 }
 
 three : List (ℕ × KeptGlyph)
 three = (7, dot) ∷ (3, blank) ∷ (9, dot) ∷ []
 
-a_blank_glyph_takes_its_place_alone : bytes_of blank ≡ 128
+a_blank_glyph_takes_its_place_alone : bytes_of blank ≡ 224
 unfolding blank
 a_blank_glyph_takes_its_place_alone = refl
 
-a_dot_takes_a_span_and_a_row_more : bytes_of dot ≡ 184
-unfolding dot
-a_dot_takes_a_span_and_a_row_more = refl
+a_dot_takes_a_span_a_row_and_a_dropout_more : bytes_of dot ≡ 296
+unfolding dot blank
+a_dot_takes_a_span_a_row_and_a_dropout_more = refl
 
-three_take_all_their_bytes : bytes_in three ≡ 496
+three_take_all_their_bytes : bytes_in three ≡ 816
 unfolding three dot blank
 three_take_all_their_bytes = refl
 
-all_stay_where_they_just_fit : fitting 496 three ≡ three
+all_stay_where_they_just_fit : fitting 816 three ≡ three
 unfolding three dot blank
 all_stay_where_they_just_fit = refl
 
-the_oldest_goes_where_a_byte_lacks : fitting 495 three ≡ (7, dot) ∷ (3, blank) ∷ []
+the_oldest_goes_where_a_byte_lacks : fitting 815 three ≡ (7, dot) ∷ (3, blank) ∷ []
 unfolding three dot blank
 the_oldest_goes_where_a_byte_lacks = refl
 
-no_smaller_one_stays_behind_one_that_goes : fitting 183 three ≡ []
+no_smaller_one_stays_behind_one_that_goes : fitting 295 three ≡ []
 unfolding three dot blank
 no_smaller_one_stays_behind_one_that_goes = refl

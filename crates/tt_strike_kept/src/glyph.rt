@@ -7,16 +7,30 @@ use std::alloc::AllocError;
 use std::marker::Model;
 use std::rc::Rc;
 use tt_core::Fault;
+use tt_scan_dropouts::Pixel;
 use tt_scan_rows::Raster;
 
-/// Roughly the bytes of a glyph without the rows of its raster: its place in the cache, and the raster itself.
-const PLACE: usize = 128;
+/// Roughly the bytes of a glyph without its rows and its dropouts: its place in the cache, and the owners of both.
+const PLACE: usize = 224;
 
-/// A cached glyph: its black columns, and the fault that makes it unfitted. Clauses see the raster itself.
+/// A cached glyph: its pixels, the counts for which a line need not make the glyph anew, and the fault that makes the
+/// glyph unfitted. Clauses see the raster and the dropouts themselves.
 #[derive(Drop)]
 pub struct KeptGlyph {
     /// The black columns, which may have other owners too.
     pub raster: Rc<Raster>,
+    /// The pixels that are black besides, for pen 0. They may have other owners too.
+    pub dropouts: Rc<Vec<Pixel>>,
+    /// The pixels from the glyph's pen to the next.
+    pub step: u32,
+    /// The chords and straight edges of its outline.
+    pub chords: usize,
+    /// Its crossings at one pen, in a picture and outside, with the search for dropouts.
+    pub crossings: u64,
+    /// Its points, those of components too.
+    pub points: u64,
+    /// What its programs take of a job's work.
+    pub cost: u64,
     /// The fault of the font for which it is not fitted, if it was to be.
     pub unfitted: Option<Fault>,
 }
@@ -26,16 +40,31 @@ impl Model for KeptGlyph {
 
     ghost Value = { glyph.KeptGlyph };
 
-    ghost view = { λ g. record { raster = g.raster.value; unfitted = g.unfitted } };
+    ghost view = { λ g. record {
+      raster = g.raster.value;
+      dropouts = g.dropouts.value.items;
+      step = g.step;
+      chords = g.chords;
+      crossings = g.crossings;
+      points = g.points;
+      cost = g.cost;
+      unfitted = g.unfitted;
+    } };
 }
 
 impl Clone for KeptGlyph {
     ghost is_clone = { λ g copy. copy ≡ g };
 
-    /// One more owner of the raster, which is not copied. Error: it has too many owners to be counted.
+    /// One more owner of the raster and of the dropouts, which are not copied. Error: too many owners to be counted.
     fn clone(&self) -> Result<KeptGlyph, AllocError> {
         Ok(KeptGlyph {
             raster: self.raster.clone()?,
+            dropouts: self.dropouts.clone()?,
+            step: self.step,
+            chords: self.chords,
+            crossings: self.crossings,
+            points: self.points,
+            cost: self.cost,
             unfitted: self.unfitted,
         })
     }
@@ -47,7 +76,10 @@ impl KeptGlyph {
         ensures left { IfSome result (λ n. n + bytes_of self.now ≡ bytes) }
         ensures larger { IfNone result (bytes < bytes_of self.now) }
     {
-        bytes.checked_sub(PLACE)?.checked_sub(self.raster.bytes())
+        bytes
+            .checked_sub(PLACE)?
+            .checked_sub(self.raster.bytes())?
+            .checked_sub(self.dropouts.len().checked_mul(16)?)
     }
 
     /// What remains of the bytes of some glyphs without this one.
@@ -55,6 +87,6 @@ impl KeptGlyph {
         requires { bytes_of self.now ≤ bytes }
         ensures { result ≡ bytes - bytes_of self.now }
     {
-        bytes - PLACE - self.raster.bytes()
+        bytes - PLACE - self.raster.bytes() - 16 * self.dropouts.len()
     }
 }

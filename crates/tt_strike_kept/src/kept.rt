@@ -1,7 +1,8 @@
 //! A cache of glyphs by their numbers, with a limit in bytes.
 
-ghost use Rattle.std.specs.Prelude.{◌≡◌, ◌+◌, ◌-◌, ◌∷◌, ◌<◌, ◌≤◌, ◌⊎◌, [], length, nat_eq, take, IfOk, IfSome};
+ghost use Rattle.std.specs.Prelude.{◌≡◌, ◌+◌, ◌-◌, ◌∷◌, ◌<◌, ◌≤◌, ◌⊎◌, [], length, nat_eq, take, IfOk, IfSome, Some};
 ghost use Rattle.std.specs.Map.{lookup, remove_entry};
+ghost use Rattle.tt_strike_kept.specs.Glyph.{KeptGlyph};
 ghost use Rattle.tt_strike_kept.specs.Kept.{bytes_in, bytes_of, fitting};
 
 use crate::glyph::KeptGlyph;
@@ -49,6 +50,13 @@ impl KeptGlyphs {
         ensures { IfSome result (λ g. lookup (nat_eq number) self.now.entries ≡ Some g) }
     {
         self.glyphs.peek(&number)?.clone().ok()
+    }
+
+    /// The points of the glyph with this number; None where the cache lacks the number.
+    pub fn points(&self, number: u16) -> Option<u64>
+        ensures { IfSome result (λ n. (g : KeptGlyph) × (lookup (nat_eq number) self.now.entries ≡ Some g) × (n ≡ g.points)) }
+    {
+        Some(self.glyphs.peek(&number)?.points)
     }
 
     /// Adds a glyph as the newest, in place of one with its number, and drops the oldest until all fit the limit. A
@@ -113,7 +121,7 @@ impl KeptGlyphs {
         }
     }
 
-    /// The bytes of all glyphs: for each those of its raster, and 128.
+    /// The bytes of all glyphs: for each those of its raster and its dropouts, and 224.
     pub fn bytes(&self) -> usize
         ensures exact { result ≡ bytes_in self.now.entries }
         ensures most { result ≤ self.now.most }

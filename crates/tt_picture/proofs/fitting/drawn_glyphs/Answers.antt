@@ -1,24 +1,37 @@
-use Rattle.std.proofs.Common.{◌≡◌, ◌∙◌, ◌∷◌, [], ◌++◌, ◌+◌, ◌<◌, ◌≤◌, List, Some, false, length, refl, sym, ap, subst, append_assoc, append-nil, arith}
+use Rattle.std.proofs.Common.{◌≡◌, ◌∙◌, ◌∷◌, [], ◌++◌, ◌+◌, ◌<◌, ◌≤◌, ℕ, List, Bool, Some, length, refl, sym, ap, subst, append_assoc, append-nil, arith}
 use Rattle.std.specs.Vec.Iter.{into_iter_items}
 use Rattle.std.proofs.lemmas.List.{map-append}
 use Rattle.std.proofs.lemmas.List.Elements.{All-pop, All-push}
+use Rattle.tt_fit.specs.Fitting.{Fitter}
 use Rattle.tt_picture.specs.Fitted.{AreFitted, FittedGlyph, IsFitted, fitted_chords, fitted_numbers}
 use Rattle.tt_picture.specs.Glyphs.{Glyph, IsDrawn}
-use Rattle.tt_picture.proofs.Cached.{same_there}
+use Rattle.tt_picture.proofs.Cached.{one_cached}
 use Rattle.tt_picture.proofs.Outlines.{one_chord_more, too_many_chords}
-use Rattle.tt_picture.proofs.Reframed.{IsBare, nothing_left}
+use Rattle.tt_picture.proofs.Reframed.{IsBare, nothing_left, of_front, of_middle}
 use Rattle.tt_picture.proofs.fitting.drawn_glyphs.Goals as goal
 
-pub loop-outline-preserved : goal.loop-outline-preserved
-loop-outline-preserved c =
-    let at = c.loop-outline in
+abbrev IsBy : Bool → (ℕ → Fitter) → FittedGlyph → Type 0
+IsBy cached maker g = IsFitted cached (maker g.number) g
+
+pub into_glyph-requires-clause-fitted : goal.into_glyph-requires-clause-fitted
+into_glyph-requires-clause-fitted c =
+    let at = c.loop-one in
+    let g = c.in-Some.one in
+    let (cached, maker, fitted) = c.requires.made in
+    let rest = into_iter_items c.next.new.self in
+    let steps : into_iter_items at.one-iterator ≡ g ∷ rest = c.in-Some.ensures.steps.0 in
+    let all : at.yielded ++ g ∷ rest ≡ c.args.fitted.items = rw (← steps) at.invariant.all in
+    (cached, maker g.number, of_middle (IsBy cached maker) at.yielded rest g (subst (AreFitted cached maker) (sym all) fitted))
+
+pub loop-one-preserved : goal.loop-one-preserved
+loop-one-preserved c =
+    let at = c.loop-one in
     let so_far = at.invariant in
-    let g = c.in-Some.outline in
+    let g = c.in-Some.one in
     let h = c.in_ok-glyph.glyph in
     let one = c.in_ok-glyph.ensures in
     let pushed = c.in_ok-push.ensures.items in
-    let plain = one.plain so_far.none in
-    let steps : into_iter_items at.outline-iterator ≡ g ∷ into_iter_items c.next.new.self = c.in-Some.ensures.steps.0 in
+    let steps : into_iter_items at.one-iterator ≡ g ∷ into_iter_items c.next.new.self = c.in-Some.ensures.steps.0 in
     let same : c.glyph.inside.chords ≡ h.chords = ap (λ (g : Glyph). g.chords) c.glyph.view_is in
     let fits : c.glyph.inside.chords ≤ at.left = omega (arith, c.if-glyph-left.false) in
     record {
@@ -27,19 +40,22 @@ loop-outline-preserved c =
           let gone = c.in-Some.ensures.steps.1 in
           let short = ap length steps in
           omega arith;
-      none = same_there c.into_glyph.new.cache at.none one.limit ∙ so_far.none;
       numbers = rw pushed (map-append (λ (g : Glyph). g.number) at.made.items (h ∷ [])
           ∙ rw (so_far.numbers, one.number) (sym (map-append (λ (g : FittedGlyph). g.number) at.yielded (g ∷ []))));
-      bare = rw pushed (All-push IsBare at.made.items h so_far.bare (plain.0, one.pens));
-      drawn = λ maker all.
-          let parts = All-pop (λ (g : FittedGlyph). IsFitted (maker g.number) g) (at.yielded ++ g ∷ []) at.yielded
-          (Some g) refl all in
+      bare = rw pushed (All-push IsBare at.made.items h so_far.bare (one.left, one.pens));
+      drawn = λ cached maker all.
+          let parts = All-pop (IsBy cached maker) (at.yielded ++ g ∷ []) at.yielded (Some g) refl all in
           let from : maker h.number ≡ maker g.number = ap maker one.number in
-          let valid : IsDrawn false (maker g.number) c.args.frame h = rw so_far.none at (one.valid (maker g.number) parts.1) in
-          let here : IsDrawn false (maker h.number) c.args.frame h = rw from valid in
-          rw pushed (All-push (λ (g : Glyph). IsDrawn false (maker g.number) c.args.frame g) at.made.items h
-          (so_far.drawn maker parts.0) here);
-      left = one_chord_more at.yielded g at.left c.args.most c.glyph.inside.chords so_far.left (same ∙ plain.1) fits;
+          let valid : IsDrawn cached (maker g.number) c.args.frame h = one.valid cached (maker g.number) parts.1 in
+          let here : IsDrawn cached (maker h.number) c.args.frame h = rw from valid in
+          rw pushed (All-push (λ (g : Glyph). IsDrawn cached (maker g.number) c.args.frame g) at.made.items h
+          (so_far.drawn cached maker parts.0) here);
+      left = one_chord_more at.yielded g at.left c.args.most c.glyph.inside.chords so_far.left (same ∙ one.chords) fits;
+      cached = λ cached maker s all alike own.
+          let parts = All-pop (IsBy cached maker) (at.yielded ++ g ∷ []) at.yielded (Some g) refl all in
+          one_cached cached s (maker g.number) g at.cache c.into_glyph.new.cache (alike g.number) parts.1 one.cached
+          (so_far.cached cached maker s parts.0 alike own);
+      limit = one.limit ∙ so_far.limit;
     }
 
 -- the glyphs that are left are none
@@ -48,20 +64,20 @@ all_yielded yielded rest all parts none = sym (append-nil yielded) ∙ rw none a
 
 pub returns-clause-numbers : goal.returns-clause-numbers
 returns-clause-numbers c =
-    let at = c.loop-outline in
+    let at = c.loop-one in
     let empty = nothing_left _ (sym at.invariant.count ∙ c.in-None.ensures.steps.0) in
     at.invariant.numbers ∙ ap fitted_numbers (all_yielded at.yielded _ c.args.fitted.items at.invariant.all empty)
 
 pub returns-clause-drawn : goal.returns-clause-drawn
-returns-clause-drawn c = λ maker fitted.
-    let at = c.loop-outline in
+returns-clause-drawn c = λ cached maker fitted.
+    let at = c.loop-one in
     let empty = nothing_left _ (sym at.invariant.count ∙ c.in-None.ensures.steps.0) in
     let all = all_yielded at.yielded _ c.args.fitted.items at.invariant.all empty in
-    at.invariant.drawn maker (subst (AreFitted maker) (sym all) fitted)
+    at.invariant.drawn cached maker (subst (AreFitted cached maker) (sym all) fitted)
 
 pub returns-clause-few : goal.returns-clause-few
 returns-clause-few c =
-    let at = c.loop-outline in
+    let at = c.loop-one in
     let empty = nothing_left _ (sym at.invariant.count ∙ c.in-None.ensures.steps.0) in
     let all = all_yielded at.yielded _ c.args.fitted.items at.invariant.all empty in
     let left : at.left + fitted_chords c.args.fitted.items ≡ c.args.most = rw all at at.invariant.left in
@@ -70,13 +86,56 @@ returns-clause-few c =
 -- one glyph has more chords than are left
 pub returns-then-glyph-left-clause-many : goal.returns-then-glyph-left-clause-many
 returns-then-glyph-left-clause-many c =
-    let at = c.loop-outline in
-    let g = c.in-Some.outline in
+    let at = c.loop-one in
+    let g = c.in-Some.one in
     let h = c.in_ok-glyph.glyph in
-    let plain = c.in_ok-glyph.ensures.plain at.invariant.none in
     let rest = into_iter_items c.next.new.self in
-    let steps : into_iter_items at.outline-iterator ≡ g ∷ rest = c.in-Some.ensures.steps.0 in
+    let steps : into_iter_items at.one-iterator ≡ g ∷ rest = c.in-Some.ensures.steps.0 in
     let all : at.yielded ++ g ∷ rest ≡ c.args.fitted.items = rw (← steps) at.invariant.all in
     let same : c.glyph.inside.chords ≡ h.chords = ap (λ (g : Glyph). g.chords) c.glyph.view_is in
     let over : at.left < h.chords = omega (arith, same, c.if-glyph-left.true) in
-    rw (← all) (too_many_chords at.yielded rest g at.left c.args.most h.chords at.invariant.left plain.1 over)
+    rw (← all) (too_many_chords at.yielded rest g at.left c.args.most h.chords at.invariant.left c.in_ok-glyph.ensures.chords over)
+
+-- the cache after the glyphs so far and one more
+pub returns-clause-cached : goal.returns-clause-cached
+returns-clause-cached c = λ cached maker s fitted alike own.
+    let at = c.loop-one in
+    let empty = nothing_left _ (sym at.invariant.count ∙ c.in-None.ensures.steps.0) in
+    let all = all_yielded at.yielded _ c.args.fitted.items at.invariant.all empty in
+    at.invariant.cached cached maker s (subst (AreFitted cached maker) (sym all) fitted) alike own
+
+pub returns-then-glyph-left-clause-cached : goal.returns-then-glyph-left-clause-cached
+returns-then-glyph-left-clause-cached c = λ cached maker s fitted alike own.
+    let at = c.loop-one in
+    let g = c.in-Some.one in
+    let rest = into_iter_items c.next.new.self in
+    let steps : into_iter_items at.one-iterator ≡ g ∷ rest = c.in-Some.ensures.steps.0 in
+    let all : at.yielded ++ g ∷ rest ≡ c.args.fitted.items = rw (← steps) at.invariant.all in
+    let parts : AreFitted cached maker (at.yielded ++ g ∷ rest) = subst (AreFitted cached maker) (sym all) fitted in
+    one_cached cached s (maker g.number) g at.cache c.into_glyph.new.cache (alike g.number)
+    (of_middle (IsBy cached maker) at.yielded rest g parts) c.in_ok-glyph.ensures.cached
+    (at.invariant.cached cached maker s (of_front (IsBy cached maker) at.yielded (g ∷ rest) parts) alike own)
+
+pub returns-in_err-push-clause-cached : goal.returns-in_err-push-clause-cached
+returns-in_err-push-clause-cached c = λ cached maker s fitted alike own.
+    let at = c.loop-one in
+    let g = c.in-Some.one in
+    let rest = into_iter_items c.next.new.self in
+    let steps : into_iter_items at.one-iterator ≡ g ∷ rest = c.in-Some.ensures.steps.0 in
+    let all : at.yielded ++ g ∷ rest ≡ c.args.fitted.items = rw (← steps) at.invariant.all in
+    let parts : AreFitted cached maker (at.yielded ++ g ∷ rest) = subst (AreFitted cached maker) (sym all) fitted in
+    one_cached cached s (maker g.number) g at.cache c.into_glyph.new.cache (alike g.number)
+    (of_middle (IsBy cached maker) at.yielded rest g parts) c.in_ok-glyph.ensures.cached
+    (at.invariant.cached cached maker s (of_front (IsBy cached maker) at.yielded (g ∷ rest) parts) alike own)
+
+pub returns-in_err-glyph-clause-cached : goal.returns-in_err-glyph-clause-cached
+returns-in_err-glyph-clause-cached c = λ cached maker s fitted alike own.
+    let at = c.loop-one in
+    let g = c.in-Some.one in
+    let rest = into_iter_items c.next.new.self in
+    let steps : into_iter_items at.one-iterator ≡ g ∷ rest = c.in-Some.ensures.steps.0 in
+    let all : at.yielded ++ g ∷ rest ≡ c.args.fitted.items = rw (← steps) at.invariant.all in
+    let parts : AreFitted cached maker (at.yielded ++ g ∷ rest) = subst (AreFitted cached maker) (sym all) fitted in
+    one_cached cached s (maker g.number) g at.cache c.into_glyph.new.cache (alike g.number)
+    (of_middle (IsBy cached maker) at.yielded rest g parts) c.in_err-glyph.ensures.cached
+    (at.invariant.cached cached maker s (of_front (IsBy cached maker) at.yielded (g ∷ rest) parts) alike own)

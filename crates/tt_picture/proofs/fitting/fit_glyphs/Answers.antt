@@ -1,11 +1,13 @@
-use Rattle.std.proofs.Common.{◌≡◌, ◌∙◌, ◌∷◌, [], ◌<◌, ◌≤◌, false, ap, drop, get_or, length, refl, suc, sym, take, Ok, arith}
+use Rattle.std.proofs.Common.{◌≡◌, ◌∙◌, ◌∷◌, [], ◌++◌, ◌<◌, ◌≤◌, false, ap, drop, get_or, length, refl, suc, sym, take, Ok, arith}
 use Rattle.std.proofs.lemmas.List.{append-nil, map-append, take_all, take_more}
 use Rattle.std.proofs.lemmas.List.Elements.{All-push}
 use Rattle.std.proofs.lemmas.Result.{err_from_is_err_and}
 use Rattle.tt_core.specs.Outcomes.{each}
 use Rattle.tt_fit.specs.Fitting.{fitted_outline}
 use Rattle.tt_picture.specs.Distinct.{IsNext, fitter_after, fitter_for}
-use Rattle.tt_picture.specs.Fitted.{FittedGlyph, IsFitted, outlines_of}
+use Rattle.tt_picture.specs.Cached.{is_there}
+use Rattle.tt_picture.specs.Fitted.{FittedGlyph, IsFitted}
+use Rattle.tt_picture.proofs.Cached.{cache_after}
 use Rattle.tt_picture.proofs.Outlines.{all_new, not_yet, stuck_there}
 use Rattle.tt_picture.proofs.Places.{one_more_made}
 use Rattle.tt_picture.proofs.Reframed.{none_left}
@@ -21,7 +23,7 @@ loop-number-init c =
     record {
       numbers = rw none refl;
       fitted = rw none (λ k d below. absurd (omega (arith, below)));
-      outlines = rw none (none_before (each (λ g. fitted_outline (maker g) g) ns));
+      outlines = ([], none_before (each (λ g. fitted_outline (maker g) g) ns));
       after = refl;
       tables = refl;
     }
@@ -38,10 +40,14 @@ maker_is c =
     (all_new ns i below c.requires.differ) c.loop-number.invariant.after in
     next (not_yet ns i below c.requires.differ)
 
-pub of-requires : goal.of-requires
-of-requires c = record {
-  known = rw c.loop-number.invariant.tables (c.requires.known c.loop-number.number-index 0 c.loop-number-test.true);
-}
+pub of-requires-clause-known : goal.of-requires-clause-known
+of-requires-clause-known c =
+    rw c.loop-number.invariant.tables (c.requires.known c.loop-number.number-index 0 c.loop-number-test.true)
+
+pub of-requires-clause-cache : goal.of-requires-clause-cache
+of-requires-clause-cache c =
+    rw c.loop-number.invariant.after (cache_after c.args.fitter.now (take c.loop-number.number-index c.args.numbers.now)
+    c.args.cache.now c.requires.cache)
 
 pub loop-number-preserved : goal.loop-number-preserved
 loop-number-preserved c =
@@ -59,15 +65,18 @@ loop-number-preserved c =
     let items = c.in_ok-push.ensures.items in
     let number : h.number ≡ n = one.number in
     let own : maker h.number ≡ c.loop-number.fitter = ap maker number ∙ from in
-    let fitted : IsFitted (maker h.number) h = rw own one.fitted in
-    let outline : fitted_outline (maker n) n ≡ Ok h.outline = rw number at fitted.outline in
+    let there = is_there c.args.cache.now in
+    let fitted : IsFitted there (maker h.number) h = rw own one.fitted in
+    let outline : fitted_outline (maker n) n ≡ Ok fitted.shape = rw number at fitted.outline in
     record {
       numbers = rw (items, map-append (λ (g : FittedGlyph). g.number) made (h ∷ []), so_far.numbers, number)
           (sym (take_more ns i 0 below));
-      fitted = rw items (All-push (λ (g : FittedGlyph). IsFitted (maker g.number) g) made h so_far.fitted fitted);
-      outlines = rw (items, map-append (λ (g : FittedGlyph). g.outline) made (h ∷ []))
-          (one_more_made (λ g. fitted_outline (maker g) g) ns i 0 (outlines_of made) h.outline below outline
-          ∙ so_far.outlines);
+      fitted = rw items (All-push (λ (g : FittedGlyph). IsFitted there (maker g.number) g) made h so_far.fitted fitted);
+      outlines = (
+        so_far.outlines.0 ++ fitted.shape ∷ [],
+        one_more_made (λ g. fitted_outline (maker g) g) ns i 0 so_far.outlines.0 fitted.shape below outline
+            ∙ so_far.outlines.1,
+      );
       after = one.after ∙ rw (take_more ns i 0 below, so_far.after) (sym (pushed s (take i ns) n));
       tables = rw one.after (same_tables c.loop-number.fitter n) ∙ so_far.tables;
     }
@@ -82,7 +91,7 @@ returns-in_err-glyph-clause-fault c =
     let fails = rw (← from) at c.in_err-glyph.ensures.fault in
     let p = err_from_is_err_and c.from_residual-in_err-glyph.result c.from_residual-in_err-glyph.ensures.1 in
     rw (p.1, p.2) (stuck_there c.in_err-glyph.field-0.0 (λ g. fitted_outline (maker g) g) ns i
-    (outlines_of c.loop-number.made.items) below c.loop-number.invariant.outlines fails)
+    c.loop-number.invariant.outlines.0 below c.loop-number.invariant.outlines.1 fails)
 
 pub returns-clause-numbers : goal.returns-clause-numbers
 returns-clause-numbers c =
@@ -94,8 +103,9 @@ pub returns-clause-made : goal.returns-clause-made
 returns-clause-made c =
     let ns = c.args.numbers.now in
     let over : length ns ≤ c.loop-number.number-index = omega (arith, c.loop-number-test.false) in
-    let all = rw (none_left ns c.loop-number.number-index over) at c.loop-number.invariant.outlines in
-    sym all ∙ rw (append-nil (outlines_of c.loop-number.made.items)) refl
+    let (os, so_far) = c.loop-number.invariant.outlines in
+    let all = rw (none_left ns c.loop-number.number-index over) at so_far in
+    (os, sym all ∙ rw (append-nil os) refl)
 
 pub returns-clause-after : goal.returns-clause-after
 returns-clause-after c =

@@ -69,7 +69,7 @@ loop-i-preserved c =
     record {
       numbers = numbers_kept line i c.step.result under ∙ c.loop-i.invariant.numbers;
       steps = λ step steps.
-          let its : c.step.result ≡ step n = c.step.ensures.exact
+          let its : c.step.result ≡ step n = c.step.ensures
           ∙ step_at step c.args.fitted.now place n c.index-fitted-place.result steps within found c.index-fitted-place.is in
           rw (add-one, its, c.loop-i.invariant.steps step steps) (one_more_step step gs i below);
     }

@@ -35,7 +35,7 @@ loop-placed-init c =
         [],
         none_before (each (glyph_shape maker) line),
         record
-            { black = rw none (λ k r small. refl); dropouts = rw none (λ k r. refl); crossings = λ off. rw none refl },
+            { black = rw none (λ k r small. refl); dropouts = rw none (λ k r. refl); crossings = rw none refl },
       );
     }
 
@@ -58,12 +58,11 @@ loop-placed-preserved c =
     (get_or line i (0, 0)).0 (map (λ g. g.0) (drop (suc i) line)) numbers so_far.left in
     let pen : HasPen there c.loop-placed.fitter c.args.frame (get_or line i (0, 0)) before after =
     rw (same_there c.loop-placed.cache c.args.cache.now so_far.limit) at one.pen in
-    let made = made_at there maker c.args.frame before after (get_or line i (0, 0))
+    let made = made_at maker c.args.frame before after (get_or line i (0, 0))
     (pen.adds maker next so_far.drawn) refl in
     let own = rw so_far.left at one.cache in
     record {
-      cache = cache_before c.work_unfits.ensures.stays c.args.fitter.now (numbers_of before) c.loop-placed.cache
-          c.place.new.cache one.limit so_far.cache own;
+      cache = cache_before c.args.fitter.now (numbers_of before) c.place.new.cache own;
       limit = one.limit ∙ so_far.limit;
       few = omega (arith, so_far.few, pen.few);
       valid = rw so_far.tables at one.valid;
@@ -77,7 +76,7 @@ loop-placed-preserved c =
         so_far.stand.0 ++ made.0 ∷ [],
         one_more_made make line i (0, 0) so_far.stand.0 made.0 below made.1
             ∙ so_far.stand.1,
-        one_place_more there c.args.frame before after so_far.stand.0 made.0 so_far.stand.2 made.2,
+        one_place_more c.args.frame before after so_far.stand.0 made.0 so_far.stand.2 made.2,
       );
     }
 
@@ -103,13 +102,12 @@ returns-in_err-place-clause-cache c =
     let before = c.loop-placed.distinct.made.items in
     let one = c.in_err-place.ensures in
     let own = rw so_far.left at one.cache in
-    cache_before c.work_unfits.ensures.stays c.args.fitter.now (numbers_of before) c.loop-placed.cache
-    c.place.new.cache one.limit so_far.cache own
+    cache_before c.args.fitter.now (numbers_of before) c.place.new.cache own
 
 pub place-requires-clause-cache : goal.place-requires-clause-cache
 place-requires-clause-cache c =
     let so_far = c.loop-placed.invariant in
-    rw so_far.left (cache_after c.work_unfits.ensures.stays c.args.fitter.now
+    rw so_far.left (cache_after c.args.fitter.now
     (numbers_of c.loop-placed.distinct.made.items) c.loop-placed.cache so_far.cache)
 
 -- at the end all places are made
@@ -124,5 +122,5 @@ returns-clause-line c =
       drawn = so_far.drawn;
       pens = so_far.pens;
       stand = all_made (glyph_shape maker) line c.loop-placed.placed-index so_far.stand.0
-          (Stand (is_there c.args.cache.now) c.args.frame c.loop-placed.distinct.made.items) over so_far.stand.1 so_far.stand.2;
+          (Stand c.args.frame c.loop-placed.distinct.made.items) over so_far.stand.1 so_far.stand.2;
     }

@@ -23,5 +23,5 @@ invariant-loop-placed l = record {
   stand : (shapes : List Shape)
       × (after_each (glyph_shape (each_fitter l.fn.fitter (map (λ g. g.0) l.line))) (drop l.placed-index l.line) shapes
       ≡ each (glyph_shape (each_fitter l.fn.fitter (map (λ g. g.0) l.line))) l.line)
-      × Stand (is_there l.fn.cache) l.frame l.distinct.made.items shapes;
+      × Stand l.frame l.distinct.made.items shapes;
 }

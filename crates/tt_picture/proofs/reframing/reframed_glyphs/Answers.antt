@@ -32,7 +32,7 @@ loop-glyph-preserved c =
           omega arith;
       numbers = rw pushed (map-append (λ (g : Glyph). g.number) at.made.items (h ∷ [])
           ∙ rw (so_far.numbers, one.number) (sym (map-append (λ (g : Glyph). g.number) at.yielded (g ∷ []))));
-      bare = rw pushed (All-push IsBare at.made.items h so_far.bare (one.left, one.pens));
+      bare = rw pushed (All-push IsBare at.made.items h so_far.bare (rw one.left (omega arith), one.pens));
       drawn = λ maker f all.
           let parts = All-pop (λ (g : Glyph). IsDrawn false (maker g.number) f g) (at.yielded ++ g ∷ []) at.yielded
           (Some g) refl all in

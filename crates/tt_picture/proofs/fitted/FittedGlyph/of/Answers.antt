@@ -1,21 +1,36 @@
-use Rattle.std.proofs.Common.{refl}
-use Rattle.tt_fit_outline.specs.Views.{outline_of}
-use Rattle.tt_picture.proofs.Turns.{same_dropouts}
+use Rattle.std.proofs.Common.{◌≡◌, ap, sym}
+use Rattle.tt_fit.specs.GlyphCost.{IsMade, IsMadeFor}
+use Rattle.tt_strike_kept.specs.Glyph.{KeptGlyph}
+use Rattle.tt_picture.specs.Cached.{IsCached}
+use Rattle.tt_picture.proofs.Cached.{one_found}
+use Rattle.tt_picture.proofs.CutGlyphs.{paid_is_fitted, same_cost}
+use Rattle.tt_picture.proofs.fitted.FittedGlyph.of.Goals.{After-pay}
 use Rattle.tt_picture.proofs.fitted.FittedGlyph.of.Goals as goal
 
-pub returns-clause-fitted : goal.returns-clause-fitted
-returns-clause-fitted c =
-    let made = c.in_ok-outline.ensures in
-    record {
-      outline = made.exact;
-      rule = rw (c.rule_by-rule.ensures, c.work.ensures) refl;
-      filled = rw (
-        c.rules_for-filled.ensures.exact,
-        c.dropouts.ensures,
-        made.after,
-        made.unfitted,
-        same_dropouts c.args.fitter.now c.args.number _ (outline_of c.in_ok-outline.outline),
-      ) refl;
-      unfitted = made.unfitted;
-      fits = c.rules_for-filled.ensures.fits;
-    }
+-- the cached glyph of this number
+found : (c : After-pay) → IsCached c.args.fitter.now c.args.number c.in-Some.kept
+found c = (one_found c.args.fitter.now c.args.number c.in-Some.kept c.args.cache.now c.requires.cache c.in-Some.ensures).1
+
+pub returns-then-pay-clause-fitted : goal.returns-then-pay-clause-fitted
+returns-then-pay-clause-fitted c =
+    let s = c.args.fitter.now in
+    let n = c.args.number in
+    let k = c.in-Some.kept in
+    let is = found (goal.at.returns-then-pay-clause-fitted c).After-pay in
+    let there = (one_found s n k c.args.cache.now c.requires.cache c.in-Some.ensures).0 in
+    let same : c.kept.inside.cost ≡ k.cost = ap (λ (k : KeptGlyph). k.cost) c.kept.view_is in
+    let cost : IsMadeFor s n c.kept.inside.cost is.shape k.unfitted =
+    same_cost s n c.kept.inside.cost k.cost is.shape k.unfitted same is.made in
+    let made : IsMade s n is.shape k.unfitted c.pay.new.self = c.pay.ensures.made c.if-pay.true n is.shape k.unfitted cost in
+    record { shape = is.shape; outline = made.outline; body = rw there (paid_is_fitted s c.pay.new.self n k is made) }
+
+pub returns-then-pay-clause-after : goal.returns-then-pay-clause-after
+returns-then-pay-clause-after c =
+    let s = c.args.fitter.now in
+    let n = c.args.number in
+    let k = c.in-Some.kept in
+    let is = found (goal.at.returns-then-pay-clause-after c).After-pay in
+    let same : c.kept.inside.cost ≡ k.cost = ap (λ (k : KeptGlyph). k.cost) c.kept.view_is in
+    let cost : IsMadeFor s n c.kept.inside.cost is.shape k.unfitted =
+    same_cost s n c.kept.inside.cost k.cost is.shape k.unfitted same is.made in
+    sym (c.pay.ensures.made c.if-pay.true n is.shape k.unfitted cost).after

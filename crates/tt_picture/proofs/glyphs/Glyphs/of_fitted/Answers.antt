@@ -1,4 +1,4 @@
-use Rattle.std.proofs.Common.{◌≡◌, ◌∙◌, ℕ, false}
+use Rattle.std.proofs.Common.{◌≡◌, ◌∙◌, ℕ, Bool}
 use Rattle.tt_fit.specs.Fitting.{Fitter}
 use Rattle.tt_picture.specs.Fitted.{AreFitted, fitted_numbers}
 use Rattle.tt_picture.specs.Glyphs.{AreDrawn, numbers_of}
@@ -6,11 +6,11 @@ use Rattle.tt_picture.proofs.Among.{all_among}
 use Rattle.tt_picture.proofs.glyphs.Glyphs.of_fitted.Goals as goal
 
 pub returns-clause-line : goal.returns-clause-line
-returns-clause-line c = λ maker fitted.
+returns-clause-line c = λ cached maker fitted.
     let numbers : numbers_of c.in-Some.made.items ≡ fitted_numbers c.args.fitted.items = rw c.in-Some.is at c.in_ok-made.ensures.numbers in
-    let drawn : (maker : ℕ → Fitter) → AreFitted maker c.args.fitted.items → AreDrawn false maker c.args.frame c.in-Some.made.items =
+    let drawn : (cached : Bool) (maker : ℕ → Fitter) → AreFitted cached maker c.args.fitted.items → AreDrawn cached maker c.args.frame c.in-Some.made.items =
     rw c.in-Some.is at c.in_ok-made.ensures.drawn in
-    c.in_ok-stood.ensures.line maker c.args.frame (drawn maker fitted) (numbers ∙ c.requires.numbers)
+    c.in_ok-stood.ensures.line cached maker c.args.frame (drawn cached maker fitted) (numbers ∙ c.requires.numbers)
 
 pub standing-requires-clause-places : goal.standing-requires-clause-places
 standing-requires-clause-places c =

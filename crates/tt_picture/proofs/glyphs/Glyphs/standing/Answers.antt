@@ -1,4 +1,4 @@
-use Rattle.std.proofs.Common.{◌∙◌, ◌<◌, ◌≤◌, ◌++◌, ◌∷◌, [], false, length, get_or, refl, arith}
+use Rattle.std.proofs.Common.{◌∙◌, ◌<◌, ◌≤◌, ◌++◌, ◌∷◌, [], length, get_or, refl, arith}
 use Rattle.tt_core.specs.Outcomes.{each}
 use Rattle.tt_picture.specs.Glyphs.{Stand}
 use Rattle.tt_picture.specs.Shapes.{glyph_shape}
@@ -16,8 +16,8 @@ loop-place-init c =
       valid = record { room = refl; places = c.requires.places; lefts = bare_lefts gs bare };
       numbers = refl;
       pens = bare_within gs bare;
-      drawn = λ maker f drawn. drawn;
-      stand = λ maker f drawn. ([], none_before (each (glyph_shape maker) c.args.line.now), bare_stand f gs bare);
+      drawn = λ cached maker f drawn. drawn;
+      stand = λ cached maker f drawn. ([], none_before (each (glyph_shape maker) c.args.line.now), bare_stand f gs bare);
     }
 
 pub loop-place-preserved : goal.loop-place-preserved
@@ -33,29 +33,29 @@ loop-place-preserved c =
       valid = rw so_far.valid.room at one.valid;
       numbers = one.numbers ∙ so_far.numbers;
       pens = one.pens so_far.pens;
-      drawn = λ maker f drawn. one.drawn maker f (so_far.drawn maker f drawn);
-      stand = λ maker f drawn.
-          let stood = so_far.stand maker f drawn in
-          let made = made_at false maker f before after (get_or line i (0, 0))
-          (one.adds maker f (so_far.drawn maker f drawn)) refl in (
+      drawn = λ cached maker f drawn. one.drawn cached maker f (so_far.drawn cached maker f drawn);
+      stand = λ cached maker f drawn.
+          let stood = so_far.stand cached maker f drawn in
+          let made = made_at maker f before after (get_or line i (0, 0))
+          (one.adds cached maker f (so_far.drawn cached maker f drawn)) refl in (
             stood.0 ++ made.0 ∷ [],
             one_more_made (glyph_shape maker) line i (0, 0) stood.0 made.0 below made.1 ∙ stood.1,
-            one_place_more false f before after stood.0 made.0 stood.2 made.2,
+            one_place_more f before after stood.0 made.0 stood.2 made.2,
           );
     }
 
 pub returns-clause-line : goal.returns-clause-line
-returns-clause-line c = λ maker f drawn numbers.
+returns-clause-line c = λ cached maker f drawn numbers.
     let so_far = c.loop-place.invariant in
     let line = c.args.line.now in
-    let stood = so_far.stand maker f drawn in
+    let stood = so_far.stand cached maker f drawn in
     let over : length line ≤ c.loop-place.place-index = omega (arith, c.loop-place-test.false) in
     record {
       numbers = so_far.numbers ∙ numbers;
-      drawn = so_far.drawn maker f drawn;
+      drawn = so_far.drawn cached maker f drawn;
       pens = so_far.pens;
       stand = all_made (glyph_shape maker) line c.loop-place.place-index stood.0
-          (Stand false f c.loop-place.glyphs.made.items) over stood.1 stood.2;
+          (Stand f c.loop-place.glyphs.made.items) over stood.1 stood.2;
     }
 
 -- a glyph of the line is known, and is one of these

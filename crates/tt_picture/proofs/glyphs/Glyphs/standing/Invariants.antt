@@ -1,4 +1,4 @@
-use Rattle.std.proofs.Common.{◌≡◌, ℕ, false, length, drop, List}
+use Rattle.std.proofs.Common.{◌≡◌, ℕ, Bool, length, drop, List}
 use Rattle.tt_core.specs.Outcomes.{each, after_each}
 use Rattle.tt_fit.specs.Fitting.{Fitter}
 use Rattle.tt_scan_edges.specs.declared.edge.Frame.{Frame}
@@ -13,10 +13,10 @@ invariant-loop-place l = record {
   valid : AreSeated (length l.fn.self.places.items) l.glyphs.places.items l.glyphs.made.items;
   numbers : numbers_of l.glyphs.made.items ≡ numbers_of l.fn.self.made.items;
   pens : AreWithin l.glyphs.made.items;
-  drawn : (maker : ℕ → Fitter) (f : Frame) → AreDrawn false maker f l.fn.self.made.items
-      → AreDrawn false maker f l.glyphs.made.items;
-  stand : (maker : ℕ → Fitter) (f : Frame) → AreDrawn false maker f l.fn.self.made.items
+  drawn : (cached : Bool) (maker : ℕ → Fitter) (f : Frame) → AreDrawn cached maker f l.fn.self.made.items
+      → AreDrawn cached maker f l.glyphs.made.items;
+  stand : (cached : Bool) (maker : ℕ → Fitter) (f : Frame) → AreDrawn cached maker f l.fn.self.made.items
       → (shapes : List Shape)
       × (after_each (glyph_shape maker) (drop l.place-index l.line) shapes ≡ each (glyph_shape maker) l.line)
-      × Stand false f l.glyphs.made.items shapes;
+      × Stand f l.glyphs.made.items shapes;
 }

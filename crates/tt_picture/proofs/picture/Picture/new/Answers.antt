@@ -6,7 +6,7 @@ use Rattle.tt_picture.proofs.RowBytes.{length-rows}
 use Rattle.tt_picture.proofs.picture.Picture.new.Goals as goal
 
 pub returns-clause-exact : goal.returns-clause-exact
-returns-clause-exact c = λ keeps shapes stand.
+returns-clause-exact c = λ shapes stand.
     let alike = rw c.deref.ensures.value at c.in_ok-dropouts.ensures.exact in
     same_picture c.args.frame c.args.glyphs.items c.in_ok-dropouts.dropouts.items shapes
     (omega (arith, c.requires.frame.fits.width_high)) stand alike

@@ -46,7 +46,7 @@ returns-clause-exact c =
     let made = is.made in
     let p = c.in_ok-new.field-0 in
     let drawn = rw (frame_is (goal.at.returns-clause-exact c).After-frame-frame) at c.in_ok-new.ensures.exact in
-    let image : image_of p ≡ picture (frame_of l a.margin) made.shapes = drawn _ made.shapes made.stand in
+    let image : image_of p ≡ picture (frame_of l a.margin) made.shapes = drawn made.shapes made.stand in
     line_as_laid face a ∙ rw is.laid (drawn_as_made face a l gs made
     ∙ ap Ok {x = picture (frame_of l a.margin) made.shapes} {y = image_of p} (sym image))
 

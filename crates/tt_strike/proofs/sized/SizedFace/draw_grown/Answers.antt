@@ -186,9 +186,9 @@ returns-clause-exact c =
     let places = rw (c.deref.ensures.value, framed) at
     (c.in_ok-moved.ensures maker (frame_of l a.margin) e.made.drawn
     (rw c.deref.ensures.value (e.made.numbers ∙ ap distinct (sym (numbers_kept e))))).stand in
-    let stand : Stand false f hs made.shapes = rw fitted at places in
+    let stand : Stand f hs made.shapes = rw fitted at places in
     let drawn = rw framed at c.in_ok-new.ensures.exact in
-    let image : image_of p ≡ picture f made.shapes = drawn false made.shapes stand in
+    let image : image_of p ≡ picture f made.shapes = drawn made.shapes stand in
     rw (placed_as_laid face a l its.1, e.exact)
     (larger_drawn face a larger s made ∙ ap Ok {x = picture f made.shapes} {y = image_of p} (sym image))
 

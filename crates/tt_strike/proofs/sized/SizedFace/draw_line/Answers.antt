@@ -33,7 +33,7 @@ returns-clause-exact c =
     let made = c.in_ok-glyphs.ensures.made in
     let p = c.in_ok-new.field-0 in
     let drawn = rw c.frame-frame.ensures.exact at c.in_ok-new.ensures.exact in
-    let image : image_of p ≡ picture (frame_of l a.margin) made.shapes = drawn _ made.shapes made.stand in
+    let image : image_of p ≡ picture (frame_of l a.margin) made.shapes = drawn made.shapes made.stand in
     drawn_as_made face a l gs made
     ∙ ap Ok {x = picture (frame_of l a.margin) made.shapes} {y = image_of p} (sym image)
 

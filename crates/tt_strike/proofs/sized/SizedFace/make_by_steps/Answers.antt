@@ -6,22 +6,25 @@ use Rattle.tt_fit.specs.declared.programs.Fit.{Fit}
 use Rattle.tt_line.specs.Layout.{text_glyphs}
 use Rattle.tt_line.specs.Outcome.{placement_of}
 use Rattle.tt_metrics.specs.Metrics.{glyphs_of}
+use Rattle.tt_picture.specs.Cached.{is_there}
 use Rattle.tt_picture.specs.Distinct.{distinct}
-use Rattle.tt_picture.specs.Fitted.{outlines_of}
 use Rattle.tt_picture.specs.Shapes.{crossings_in}
 use Rattle.tt_picture.proofs.Among.{of_same_glyphs}
 use Rattle.tt_strike.specs.Costs.{cost_of}
 use Rattle.tt_strike.specs.Defects.{IsLineDefect}
 use Rattle.tt_strike.specs.Job.{Job, tested}
+use Rattle.tt_strike.specs.Makers.{IsMaker}
 use Rattle.tt_strike.specs.Picture.{edges_tested, shapes_in}
-use Rattle.tt_strike.specs.Strikes.{SizedFace, job_by}
+use Rattle.tt_strike.specs.Strikes.{IsCacheOf, SizedFace, job_by}
 use Rattle.tt_strike.specs.Work.{line_fitter, work_left}
+use Rattle.tt_strike.proofs.Caches.{of_face, of_fitter}
 use Rattle.tt_strike.proofs.Costed.{costed}
+use Rattle.tt_strike.proofs.Setting.{given_back, line_alike, maker_alike}
 use Rattle.tt_strike.proofs.Placed.{of-job}
 use Rattle.tt_strike.proofs.Stopped.{drawing_refuses_no_job, font_tells, tested_at}
 use Rattle.tt_strike.proofs.Stepped.{IsOutlinedLine, extent_by_steps_tells, extent_stops_text, line_edges, line_laid, line_made, line_points, line_stops_text, line_tells_no_defect, line_tells_refusal, outlines_pass, outlines_stop_text, outlines_tell_defect, outlines_tell_refusal, setting_stops_text}
 use Rattle.tt_strike.proofs.Telling.{no_line_defect, setting_tells}
-use Rattle.tt_strike.proofs.sized.SizedFace.make_by_steps.Goals.{After-work-left, In_ok-test_text}
+use Rattle.tt_strike.proofs.sized.SizedFace.make_by_steps.Goals.{After-give_back, After-tested_edges, In_ok-line, In_ok-test_text}
 use Rattle.tt_strike.proofs.sized.SizedFace.make_by_steps.Goals as goal
 
 -- the job of a text at this place
@@ -130,13 +133,13 @@ returns-in_err-line-clause-stops c =
     let gs = text_glyphs z.face.cmap c.args.text.now in
     let s = c.in_ok-fitter.fitter in
     let o = c.in_ok-outlined.ensures.outlined in
-    let os = outlines_of c.in_ok-outlined.outlined.fitted.items in
+    let os = o.made.0 in
     let bounded = rw (← c.self.view_is) at c.requires.bounded in
     let refused = rw (c.metrics.ensures, o.glyphs, o.steps) at c.in_err-line.ensures.exact in
     let p = err_from_is_err_and c.from_residual-in_err-line.result c.from_residual-in_err-line.ensures.1 in
     rw (p.1, p.2, ← c.self.view_is) (extent_stops_text z.face a s os c.in_err-line.field-0.0
     (passed (goal.at.returns-in_err-line-clause-stops c).In_ok-test_text) bounded c.in_ok-fitter.ensures.exact
-    (outlines_pass s a gs os c.in_ok-outlined.ensures.points o.made) refused)
+    (outlines_pass s a gs os c.in_ok-outlined.ensures.points o.made.1) refused)
 
 pub returns-in_err-line-clause-defects : goal.returns-in_err-line-clause-defects
 returns-in_err-line-clause-defects c =
@@ -152,12 +155,12 @@ returns-in_err-line-clause-job c =
     let bounded = rw (← c.self.view_is) at c.requires.bounded in
     let refused = rw (c.metrics.ensures, o.steps) at c.in_err-line.ensures.fault in
     let p = err_from_is_err_and c.from_residual-in_err-line.result c.from_residual-in_err-line.ensures.1 in
-    rw (p.1, p.2, ← c.self.view_is) (extent_by_steps_tells z.face a s (outlines_of c.in_ok-outlined.outlined.fitted.items)
-    c.in_err-line.field-0.0 bounded c.in_ok-fitter.ensures.exact o.made refused)
+    rw (p.1, p.2, ← c.self.view_is) (extent_by_steps_tells z.face a s o.made.0
+    c.in_err-line.field-0.0 bounded c.in_ok-fitter.ensures.exact o.made.1 refused)
 
 -- the line by the outlines of its glyphs
-outlined_then : (c : After-work-left) → tested (job_here c.self.inside.source.face.now c.self.inside.source.ppem
-    c.self.inside.source.fit c.args.text.now c.args.margin) ≡ Ok tt → IsOutlinedLine c.self.inside.source.face.now (job_here c.self.inside.source.face.now c.self.inside.source.ppem c.self.inside.source.fit c.args.text.now c.args.margin) c.in_ok-fitter.fitter
+outlined_then : (c : In_ok-line) → tested (job_here c.self.inside.source.face.now c.self.inside.source.ppem
+    c.self.inside.source.fit c.args.text.now c.args.margin) ≡ Ok tt → IsOutlinedLine (is_there c.args.cache.now) c.self.inside.source.face.now (job_here c.self.inside.source.face.now c.self.inside.source.ppem c.self.inside.source.fit c.args.text.now c.args.margin) c.in_ok-fitter.fitter
     (placement_of c.in_ok-line.line) c.in_ok-outlined.outlined.fitted.items c.work-left.result
 outlined_then c passes =
     let o = c.in_ok-outlined.ensures.outlined in
@@ -182,10 +185,10 @@ returns-in_err-glyphs-clause-stops c =
     let l = placement_of c.in_ok-line.line in
     let fs = c.in_ok-outlined.outlined.fitted.items in
     let all = goal.at.returns-in_err-glyphs-clause-stops c in
-    let is = outlined_then all.After-work-left (passed all.In_ok-test_text) in
+    let is = outlined_then all.In_ok-line (passed all.In_ok-test_text) in
     let shapes = line_made z.face a s l fs is in
     let fails = rw (line_edges z.face a s l fs shapes.0 is) at
-    (c.in_err-glyphs.ensures.exact (line_fitter s (text_glyphs z.face.cmap c.args.text.now)) shapes.0 is.fitted shapes.1) in
+    (c.in_err-glyphs.ensures.exact (is_there c.args.cache.now) (line_fitter s (text_glyphs z.face.cmap c.args.text.now)) shapes.0 is.fitted shapes.1) in
     let p = err_from_is_err_and c.from_residual-in_err-glyphs.result c.from_residual-in_err-glyphs.ensures.1 in
     rw (p.1, p.2, ← c.self.view_is) (line_stops_text z.face a s l fs shapes.0 c.in_err-glyphs.field-0.0 is
     (rw is.glyphs shapes.1) fails)
@@ -198,9 +201,9 @@ returns-in_err-glyphs-clause-defects c =
     let l = placement_of c.in_ok-line.line in
     let fs = c.in_ok-outlined.outlined.fitted.items in
     let all = goal.at.returns-in_err-glyphs-clause-defects c in
-    let is = outlined_then all.After-work-left (passed all.In_ok-test_text) in
+    let is = outlined_then all.In_ok-line (passed all.In_ok-test_text) in
     let shapes = line_made z.face a s l fs is in
-    let fails = c.in_err-glyphs.ensures.exact (line_fitter s (text_glyphs z.face.cmap c.args.text.now)) shapes.0 is.fitted shapes.1 in
+    let fails = c.in_err-glyphs.ensures.exact (is_there c.args.cache.now) (line_fitter s (text_glyphs z.face.cmap c.args.text.now)) shapes.0 is.fitted shapes.1 in
     let p = err_from_is_err_and c.from_residual-in_err-glyphs.result c.from_residual-in_err-glyphs.ensures.1 in
     rw (p.1, p.2) (line_tells_no_defect _ _ c.in_err-glyphs.field-0.0 fails)
 
@@ -212,10 +215,10 @@ returns-in_err-glyphs-clause-job c =
     let l = placement_of c.in_ok-line.line in
     let fs = c.in_ok-outlined.outlined.fitted.items in
     let all = goal.at.returns-in_err-glyphs-clause-job c in
-    let is = outlined_then all.After-work-left (passed all.In_ok-test_text) in
+    let is = outlined_then all.In_ok-line (passed all.In_ok-test_text) in
     let shapes = line_made z.face a s l fs is in
     let fails = rw (line_edges z.face a s l fs shapes.0 is) at
-    (c.in_err-glyphs.ensures.exact (line_fitter s (text_glyphs z.face.cmap c.args.text.now)) shapes.0 is.fitted shapes.1) in
+    (c.in_err-glyphs.ensures.exact (is_there c.args.cache.now) (line_fitter s (text_glyphs z.face.cmap c.args.text.now)) shapes.0 is.fitted shapes.1) in
     let p = err_from_is_err_and c.from_residual-in_err-glyphs.result c.from_residual-in_err-glyphs.ensures.1 in
     rw (p.1, p.2, ← c.self.view_is) (line_tells_refusal z.face a s l fs shapes.0 c.in_err-glyphs.field-0.0 is
     (rw is.glyphs shapes.1) fails)
@@ -231,17 +234,17 @@ returns-clause-made c =
     let fs = c.in_ok-outlined.outlined.fitted.items in
     let o = c.in_ok-outlined.ensures.outlined in
     let all = goal.at.returns-clause-made c in
-    let is = outlined_then all.After-work-left (passed all.In_ok-test_text) in
+    let is = outlined_then all.In_ok-line (passed all.In_ok-test_text) in
     let shapes = line_made z.face a s l fs is in
     let fitted : shapes_in s l ≡ Ok shapes.0 = rw is.glyphs shapes.1 in
     let few = line_points z.face a s l fs is in
-    let passes = c.in_ok-glyphs.ensures.exact maker shapes.0 is.fitted shapes.1 in
+    let passes = c.in_ok-glyphs.ensures.exact (is_there c.args.cache.now) maker shapes.0 is.fitted shapes.1 in
     let seldom : edges_tested s a l shapes.0 ≡ Ok tt = of-job (edges_tested s a l shapes.0) tt
     (rw (line_edges z.face a s l fs shapes.0 is) at passes) in
-    let of = c.in_ok-glyphs.ensures.line maker is.fitted in
+    let of = c.in_ok-glyphs.ensures.line (is_there c.args.cache.now) maker is.fitted in
     let room : length c.in_ok-outlined.outlined.places.items ≡ glyphs_of z.face.metrics = o.room ∙ c.in_ok-fitter.ensures.setting.glyphs in
     let cost : c.in_ok-glyphs.glyphs.cost ≡ cost_of (work_left s (map (λ g. g.0) l.glyphs)) (crossings_in shapes.0) =
-    c.in_ok-glyphs.ensures.cost maker shapes.0 is.fitted shapes.1
+    c.in_ok-glyphs.ensures.cost (is_there c.args.cache.now) maker shapes.0 is.fitted shapes.1
     ∙ ap (λ left. cost_of left (crossings_in shapes.0)) (is.work ∙ ap (work_left s) (sym is.glyphs)) in
     rw (← c.self.view_is) (record {
       laid = line_laid z.face a s l fs is;
@@ -270,7 +273,7 @@ returns-clause-defects c =
     let l = placement_of c.in_ok-line.line in
     let fs = c.in_ok-outlined.outlined.fitted.items in
     let all = goal.at.returns-clause-defects c in
-    let is = outlined_then all.After-work-left (passed all.In_ok-test_text) in
+    let is = outlined_then all.In_ok-line (passed all.In_ok-test_text) in
     let shapes = line_made z.face a s l fs is in
     rw (← c.self.view_is, ← is.glyphs) (no_line_defect z.face a s l.glyphs shapes.0 is.there c.in_ok-fitter.ensures.defects
     (rw is.glyphs shapes.1))
@@ -286,6 +289,7 @@ tested_edges-requires-clause-bounded c = rw (← c.self.view_is) at c.requires.b
 
 pub tested_edges-requires-clause-made : goal.tested_edges-requires-clause-made
 tested_edges-requires-clause-made c = (
+  is_there c.args.cache.now,
   line_fitter c.in_ok-fitter.fitter (text_glyphs c.self.inside.source.face.now.cmap c.args.text.now),
   c.in_ok-outlined.ensures.outlined.fitted,
 )
@@ -305,3 +309,54 @@ tested_edges-requires-clause-known c =
     o.room ∙ c.in_ok-fitter.ensures.setting.glyphs in
     rw room (of_same_glyphs (λ n. n < glyphs_of c.self.inside.source.face.now.metrics) c.in_ok-outlined.outlined.steps.items
     c.in_ok-line.line.glyphs.items c.in_ok-line.ensures.glyphs c.in_ok-outlined.ensures.known)
+
+pub outlined-requires-clause-cache : goal.outlined-requires-clause-cache
+outlined-requires-clause-cache c =
+    let z : SizedFace = record { face = c.self.inside.source.face.now; ppem = c.self.inside.source.ppem; fit = c.self.inside.source.fit } in
+    of_fitter z c.in_ok-fitter.fitter c.args.cache.now c.in_ok-fitter.ensures.setting (rw (← c.self.view_is) at c.requires.cache)
+
+-- the cache is then that of the font at the size
+cache_then : (c : After-tested_edges) → IsCacheOf c.args.self.now c.tested_edges.new.cache
+cache_then c =
+    let z : SizedFace = record { face = c.self.inside.source.face.now; ppem = c.self.inside.source.ppem; fit = c.self.inside.source.fit } in
+    let s = c.in_ok-fitter.fitter in
+    let gs = text_glyphs z.face.cmap c.args.text.now in
+    let before = rw (← c.self.view_is) at c.requires.cache in
+    let own = of_fitter z s c.args.cache.now c.in_ok-fitter.ensures.setting before in
+    let after = c.tested_edges.ensures.cached (is_there c.args.cache.now) (line_fitter s gs) s
+    c.in_ok-outlined.ensures.outlined.fitted (maker_alike s gs) own in
+    rw (← c.self.view_is) (of_face z s c.args.cache.now c.tested_edges.new.cache c.in_ok-fitter.ensures.exact
+    c.tested_edges.ensures.limit before after)
+
+pub returns-in_err-glyphs-clause-cache : goal.returns-in_err-glyphs-clause-cache
+returns-in_err-glyphs-clause-cache c = cache_then (goal.at.returns-in_err-glyphs-clause-cache c).After-tested_edges
+
+pub returns-clause-cache : goal.returns-clause-cache
+returns-clause-cache c = cache_then (goal.at.returns-clause-cache c).After-tested_edges
+
+-- the fitter that is given back is the one before the line
+maker_then : (c : After-give_back) → IsMaker c.self.inside.source.face.now c.self.inside.source.ppem c.self.inside.source.fit c.give_back.new.self
+maker_then c =
+    let s = c.in_ok-fitter.fitter in
+    let gs = text_glyphs c.self.inside.source.face.now.cmap c.args.text.now in
+    given_back c.self.inside.source.face.now c.self.inside.source.ppem c.self.inside.source.fit s c.outlined.new.fitter
+    c.work-begun.result c.give_back.new.self c.in_ok-fitter.ensures.setting
+    (rw c.in_ok-outlined.ensures.after (line_alike s gs (distinct gs))) c.work-begun.ensures c.give_back.ensures
+
+pub invariant_of-self-in_err-line : goal.invariant_of-self-in_err-line
+invariant_of-self-in_err-line c = (
+  maker_then (goal.at.invariant_of-self-in_err-line c).After-give_back,
+  c.outlined.ensures.same ∙ c.self.invariant.1,
+)
+
+pub invariant_of-self-in_err-glyphs : goal.invariant_of-self-in_err-glyphs
+invariant_of-self-in_err-glyphs c = (
+  maker_then (goal.at.invariant_of-self-in_err-glyphs c).After-give_back,
+  c.outlined.ensures.same ∙ c.self.invariant.1,
+)
+
+pub invariant_of-self-2 : goal.invariant_of-self-2
+invariant_of-self-2 c = (
+  maker_then (goal.at.invariant_of-self-2 c).After-give_back,
+  c.outlined.ensures.same ∙ c.self.invariant.1,
+)

@@ -2,18 +2,18 @@ use Rattle.std.proofs.Common.{◌≡◌, List, map}
 use Rattle.std.proofs.lemmas.Result.{err_from_is_err_and}
 use Rattle.tt_core.specs.Outcomes.{each}
 use Rattle.tt_line.specs.Outcome.{placement_of}
-use Rattle.tt_picture.specs.Cached.{is_there}
 use Rattle.tt_picture.specs.Glyphs.{Stand, numbers_of}
 use Rattle.tt_picture.specs.Pixels.{Shape}
 use Rattle.tt_picture.specs.Shapes.{glyph_shape}
+use Rattle.tt_picture.proofs.Cached.{after_alike}
 use Rattle.tt_picture.proofs.Places.{ok_and}
 use Rattle.tt_strike.specs.Defects.{IsLineDefect}
 use Rattle.tt_strike.specs.Picture.{frame_of, shapes_in}
 use Rattle.tt_strike.specs.Strikes.{IsCacheOf, SizedFace, job_with}
-use Rattle.tt_strike.specs.Work.{is_bounded, line_fitter, started}
+use Rattle.tt_strike.specs.Work.{line_fitter, started}
 use Rattle.tt_strike.proofs.Caches.{of_face, of_fitter}
 use Rattle.tt_strike.proofs.Costed.{costs_nothing}
-use Rattle.tt_strike.proofs.Setting.{given_back, not_started, unspent}
+use Rattle.tt_strike.proofs.Setting.{given_back, not_started}
 use Rattle.tt_strike.proofs.Stopped.{drawing_refuses_no_job, font_tells, glyph_stops, setting_stops, unbounded_edges, unbounded_points}
 use Rattle.tt_strike.proofs.Telling.{glyph_tells, no_line_defect, setting_tells}
 use Rattle.tt_strike.proofs.sized.SizedFace.tested_glyphs.Goals.{After-line_glyphs}
@@ -82,7 +82,6 @@ returns-in_err-glyphs-clause-job c =
 
 pub returns-clause-made : goal.returns-clause-made
 returns-clause-made c =
-    let there = is_there c.args.cache.now in
     let z : SizedFace = record { face = c.self.inside.source.face.now; ppem = c.self.inside.source.ppem; fit = c.self.inside.source.fit } in
     let a = job_with z c.args.laid.now.margin in
     let l = placement_of c.args.laid.now.line in
@@ -90,7 +89,7 @@ returns-clause-made c =
     let other = rw (← c.self.view_is) at c.requires.unbounded in
     let at = begun (goal.at.returns-clause-made c).After-line_glyphs in
     let line = rw (c.deref.ensures.value, c.frame-frame.ensures.exact, at) at c.in_ok-glyphs.ensures.line in
-    let made = ok_and (shapes_in s l) (Stand there (frame_of l a.margin) c.in_ok-glyphs.glyphs.made.items) line.stand in
+    let made = ok_and (shapes_in s l) (Stand (frame_of l a.margin) c.in_ok-glyphs.glyphs.made.items) line.stand in
     rw (← c.self.view_is) (record {
       setting = s;
       shapes = made.0;
@@ -106,7 +105,6 @@ returns-clause-made c =
 
 pub returns-clause-cost : goal.returns-clause-cost
 returns-clause-cost c =
-    let there = is_there c.args.cache.now in
     let z : SizedFace = record { face = c.self.inside.source.face.now; ppem = c.self.inside.source.ppem; fit = c.self.inside.source.fit } in
     let a = job_with z c.args.laid.now.margin in
     let l = placement_of c.args.laid.now.line in
@@ -114,7 +112,7 @@ returns-clause-cost c =
     let other = rw (← c.self.view_is) at c.requires.unbounded in
     let at = begun (goal.at.returns-clause-cost c).After-line_glyphs in
     let line = rw (c.deref.ensures.value, c.frame-frame.ensures.exact, at) at c.in_ok-glyphs.ensures.line in
-    let made = ok_and (shapes_in s l) (Stand there (frame_of l a.margin) c.in_ok-glyphs.glyphs.made.items) line.stand in
+    let made = ok_and (shapes_in s l) (Stand (frame_of l a.margin) c.in_ok-glyphs.glyphs.made.items) line.stand in
     rw (← c.self.view_is) (costs_nothing c.work_unfits.ensures.stays z.face a l s made.0 c.in_ok-fitter.ensures.exact
     (unbounded_points s a l other) made.1 (unbounded_edges s a l made.0 other)
     (c.in_ok-fitter.ensures.setting.unbounded other))
@@ -133,14 +131,10 @@ returns-clause-defects c =
 pub invariant_of-self-2 : goal.invariant_of-self-2
 invariant_of-self-2 c =
     let s = c.in_ok-fitter.fitter in
-    let setting = c.in_ok-fitter.ensures.setting in
-    let gs = map (λ g. g.0) c.args.laid.now.line.glyphs.items in (
+    let numbers = numbers_of c.in_ok-glyphs.glyphs.made.items in (
       given_back c.self.inside.source.face.now c.self.inside.source.ppem c.self.inside.source.fit s c.line_glyphs.new.fitter
-          c.take.new.self c.give_back.new.self (is_bounded c.self.inside.source.fit) setting
-          (λ other. unspent c.work_unfits.ensures.stays s s c.line_glyphs.new.fitter gs
-          (numbers_of c.in_ok-glyphs.glyphs.made.items) (not_started s gs (setting.unbounded other)) c.in_ok-glyphs.ensures.after
-          (setting.unbounded other))
-          c.take.ensures.maker c.give_back.ensures.kept c.give_back.ensures.same,
+          c.work-begun.result c.give_back.new.self c.in_ok-fitter.ensures.setting
+          (rw c.in_ok-glyphs.ensures.after (after_alike s numbers)) c.work-begun.ensures c.give_back.ensures,
       c.self.invariant.1,
     )
 

@@ -7,14 +7,17 @@ use Rattle.tt_fit.specs.Fitting.{Fitter}
 use Rattle.tt_cmap.specs.Lookup.{Cmap}
 use Rattle.tt_line.specs.Layout.{text_glyphs}
 use Rattle.tt_metrics.specs.Metrics.{glyphs_of}
+use Rattle.tt_picture.specs.Cached.{is_there}
 use Rattle.tt_picture.specs.Distinct.{distinct}
 use Rattle.tt_picture.specs.Fitted.{AreFitted, fitted_numbers}
 use Rattle.tt_picture.specs.Steps.{glyph_step}
 use Rattle.tt_picture.proofs.Among.{all_among, of_same_glyphs}
+use Rattle.tt_picture.proofs.Cached.{cached_stays}
 use Rattle.tt_picture.proofs.Listing.{distinct_differ}
 use Rattle.tt_picture.proofs.Outlines.{steps_are}
 use Rattle.tt_strike.specs.Work.{line_fitter, points_in, started, work_tested}
 use Rattle.tt_strike.proofs.Placed.{of-job}
+use Rattle.tt_strike.proofs.Setting.{started_alike}
 use Rattle.tt_strike.proofs.Stepped.{firsts_stay, outline_stops_outlines, points_stop_outlines, stepped, steps_put}
 use Rattle.tt_strike.proofs.source.FitterSource.outlined.Goals.{After-put_steps, In_ok-charge_points, In_ok-fitted, In_ok-met}
 use Rattle.tt_strike.proofs.source.FitterSource.outlined.Goals as goal
@@ -51,7 +54,7 @@ charged_is c are = rw (c.deref-2.ensures.value, are) at c.in_ok-charge_points.en
 fitted_are : (c : In_ok-fitted)
     → c.in_ok-met.met.numbers.items ≡ glyphs_of_text c.args.self.now.face.now.cmap c.args.text.now
     → c.charge_points.new.fitter ≡ started c.args.fitter.now (text_glyphs c.args.self.now.face.now.cmap c.args.text.now)
-    → AreFitted (line_fitter c.args.fitter.now (text_glyphs c.args.self.now.face.now.cmap c.args.text.now)) c.in_ok-fitted.fitted.items
+    → AreFitted (is_there c.args.cache.now) (line_fitter c.args.fitter.now (text_glyphs c.args.self.now.face.now.cmap c.args.text.now)) c.in_ok-fitted.fitted.items
 fitted_are c are charged = rw (c.deref-3.ensures.value, are, charged) at c.in_ok-fitted.ensures.fitted
 
 fitted_numbers_are : (c : In_ok-fitted)
@@ -63,7 +66,7 @@ abbrev step_of_text : Fitter → List ℕ → ℕ → ℕ
 step_of_text s gs g = glyph_step (line_fitter s gs g) g
 
 steps_then : (c : After-put_steps)
-    → AreFitted (line_fitter c.args.fitter.now (text_glyphs c.args.self.now.face.now.cmap c.args.text.now)) c.in_ok-fitted.fitted.items
+    → AreFitted (is_there c.args.cache.now) (line_fitter c.args.fitter.now (text_glyphs c.args.self.now.face.now.cmap c.args.text.now)) c.in_ok-fitted.fitted.items
     → (with_items c.in_ok-steps.steps c.put_steps.new.line).items
     ≡ stepped (step_of_text c.args.fitter.now (text_glyphs c.args.self.now.face.now.cmap c.args.text.now)) c.in_ok-steps.steps.items
 steps_then c fitted =
@@ -74,6 +77,13 @@ steps_then c fitted =
     let count : length c.put_steps.new.line ≡ c.in_ok-steps.steps.len =
     ap length put ∙ length-map c.deref_mut.result.now _ ∙ c.deref_mut.ensures.len in
     with_items_is c.in_ok-steps.steps c.put_steps.new.line count ∙ put ∙ ap (stepped step) c.deref_mut.ensures.value
+
+pub fit_glyphs-requires-clause-cache : goal.fit_glyphs-requires-clause-cache
+fit_glyphs-requires-clause-cache c =
+    let all = goal.at.fit_glyphs-requires-clause-cache c in
+    let gs = text_glyphs c.args.self.now.face.now.cmap c.args.text.now in
+    rw (charged_is all.In_ok-charge_points (numbers_are all.In_ok-met)) (cached_stays c.args.fitter.now
+    (started c.args.fitter.now gs) c.args.cache.now (started_alike c.args.fitter.now gs) c.requires.cache)
 
 pub fit_glyphs-requires-clause-differ : goal.fit_glyphs-requires-clause-differ
 fit_glyphs-requires-clause-differ c =

@@ -7,9 +7,9 @@ invariant_of-result c =
     let fresh = c.in_ok-cache.ensures in (
       rw c.in_ok-sized.ensures.exact (fresh_of (record { face = c.args.face.now; ppem = c.args.ppem; fit = c.args.fit })
           c.args.most c.in_ok-cache.cache fresh),
-      fresh_limit c.args.fit c.args.most c.in_ok-cache.cache fresh,
+      fresh_limit c.args.most c.in_ok-cache.cache fresh,
     )
 
 pub returns-clause-exact : goal.returns-clause-exact
 returns-clause-exact c =
-    rw (c.in_ok-sized.ensures.exact, fresh_empty c.args.fit c.args.most c.in_ok-cache.cache c.in_ok-cache.ensures) refl
+    rw (c.in_ok-sized.ensures.exact, fresh_empty c.args.most c.in_ok-cache.cache c.in_ok-cache.ensures) refl

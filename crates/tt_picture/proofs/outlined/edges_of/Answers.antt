@@ -4,8 +4,8 @@ use Rattle.std.proofs.lemmas.Int.{ints, to_z-of_z}
 use Rattle.std.proofs.lemmas.Result.{IfOk-weaker}
 use Rattle.tt_core.specs.Limits.{coordinate_limit}
 use Rattle.tt_scan_dropouts.specs.declared.boxed.BoxedRules.{BoxedRules}
-use Rattle.tt_picture.proofs.fitted.edges_of.Goals.{After-edges}
-use Rattle.tt_picture.proofs.fitted.edges_of.Goals as goal
+use Rattle.tt_picture.proofs.outlined.edges_of.Goals.{After-edges}
+use Rattle.tt_picture.proofs.outlined.edges_of.Goals as goal
 
 -- what is told where it is asked for is told where dropouts are filled
 where_filled : (filled : Option BoxedRules) (asked : Bool) (P : Type 0) → asked ≡ is_some filled → (asked ≡ true → P)

@@ -1,0 +1,239 @@
+//! The outline of a glyph that is made, before its edges are.
+
+ghost use Rattle.std.specs.Prelude.{◌≡◌, ◌⊎◌, ◌<◌, ◌≤◌, ◌^◌, false, [], length, IfOk, IfSome, OnOk, None, Some, Err, ℕ, Bool};
+ghost use Rattle.tt_core.specs.Limits.{margin_limit};
+ghost use Rattle.tt_core.specs.Outcomes.{IfTold, font_fault};
+ghost use Rattle.tt_fit.specs.Counting.{points_asked};
+ghost use Rattle.tt_fit.specs.Fitting.{Fitter, fitted_outline, after_glyph};
+ghost use Rattle.tt_fit_outline.specs.Outline as shape;
+ghost use Rattle.tt_fit_outline.specs.Outline.{IsOutline};
+ghost use Rattle.tt_fit_outline.specs.Views.{outline_of};
+ghost use Rattle.tt_scan.specs.Contours.{AreEnds, contours_at};
+ghost use Rattle.tt_scan_edges.specs.Winding.{FrameFits};
+ghost use Rattle.tt_scan_gaps.specs.Boxes.{ExtentsFit};
+ghost use Rattle.tt_picture.specs.Cached.{IsCacheFor, limit_of};
+ghost use Rattle.tt_picture.specs.Fitted.{IsMadeOutline};
+ghost use Rattle.tt_picture.specs.Glyphs.{IsDrawn};
+ghost use Rattle.tt_picture.specs.Shapes.{contours_of, edges_at, extents_of, rule_by, rules_for};
+ghost use Rattle.tt_picture.specs.Steps.{chords_of};
+
+use crate::cache::Cache;
+use crate::cutting::{GlyphFacts, body_of};
+use crate::glyph::Glyph;
+use smallvec::SmallVec;
+use std::alloc::{AllocError, Global};
+use std::marker::Model;
+use tt_arc::{ChordRule, OutlineEdges, edges, points_box};
+use tt_core::{FontFault, POINT_WORK_LIMIT};
+use tt_fit::{DropoutRules, Fitter, Outline, OutlineAtCost};
+use tt_scan::{Frame, Tape};
+use tt_scan_dropouts::{BoxedRules, Extents, Rules};
+
+/// What a glyph counts of a line's work when it is taken from the cache.
+#[derive(Clone, Copy)]
+pub(crate) struct KeptCounts {
+    pub(crate) points: u64,
+    /// What its programs take.
+    pub(crate) cost: u64,
+}
+
+/// An outline with its chord rule and the rules for filling its dropouts.
+#[derive(Drop)]
+pub(crate) struct MadeOutline {
+    pub(crate) outline: Outline,
+    rule: ChordRule,
+    /// The rules for filling its dropouts, with its box at pen 0.
+    filled: Option<BoxedRules>,
+    /// None where the glyph is not to be cached.
+    counts: Option<KeptCounts>,
+}
+
+impl Model for MadeOutline {
+    ghost use Rattle.tt_fit_outline.specs.Views.{outline_of};
+    ghost use Rattle.tt_picture.specs.Fitted as fitted;
+
+    ghost Value = { fitted.MadeOutline };
+
+    ghost view = { λ m. record { outline = outline_of m.outline; rule = m.rule; filled = m.filled; counts = m.counts; unfitted = m.outline.unfitted } };
+}
+
+impl MadeOutline {
+    /// The outline of a glyph, with what the glyph counts if there is a cache. The fitter then serves later glyphs.
+    /// Errors: those of the outline, Memory.
+    #[inline(never)]
+    pub(crate) fn of(
+        fitter: &mut Fitter,
+        number: u16,
+        cached: bool,
+    ) -> Result<MadeOutline, FontFault>
+        requires known { number < fitter.old.tables.glyphs }
+        ensures made { IfOk result (λ m. (o : shape.Outline) × (fitted_outline fitter.old number ≡ Ok o) × IsMadeOutline cached fitter.old number o m) }
+        ensures after { OnOk result (fitter.new ≡ after_glyph fitter.old number) }
+        ensures fault { IfTold font_fault result (λ f. fitted_outline fitter.old number ≡ Err f) }
+    {
+        let points = points_of(fitter, number, cached)?;
+        let work = fitter.work();
+        let made = fitter.fit_with_cost(number)?;
+        let OutlineAtCost { outline, cost } = made;
+        let filled = rules_for(&outline, fitter.dropouts(&outline));
+        Ok(MadeOutline {
+            outline,
+            rule: rule_by(work),
+            filled,
+            counts: counts_of(points, cost_of(work, cost)),
+        })
+    }
+
+    /// The glyph with its edges or its pixels, without a pen, with room for `room` pens. It is cached if it may be, and
+    /// is small enough. Error: Memory. The outline is dropped.
+    #[inline(never)]
+    pub(crate) fn into_glyph(
+        self,
+        alloc: Global,
+        number: u16,
+        frame: Frame,
+        room: usize,
+        cache: &mut Cache,
+    ) -> Result<Glyph, AllocError>
+        requires frame { FrameFits frame }
+        requires made { (cached : Bool) × (s : Fitter) × (o : shape.Outline) × IsMadeOutline cached s number o self }
+        ensures number { IfOk result (λ g. g.number ≡ number) }
+        ensures pens { IfOk result (λ g. g.pens ≡ []) }
+        ensures left { IfOk result (λ g. g.left ≤ margin_limit) }
+        ensures chords { IfOk result (λ g. g.chords ≡ chords_of self.rule self.outline) }
+        ensures valid { IfOk result (λ g. (cached : Bool) (s : Fitter) (o : shape.Outline) → fitted_outline s number ≡ Ok o → IsMadeOutline cached s number o self → IsDrawn cached s frame g) }
+        ensures cached { (cached : Bool) (s : Fitter) (o : shape.Outline) → IsMadeOutline cached s number o self → IsCacheFor s cache.old → IsCacheFor s cache.new }
+        ensures limit { limit_of cache.new ≡ limit_of cache.old }
+    {
+        let MadeOutline {
+            outline,
+            rule,
+            filled,
+            counts,
+        } = self;
+        let made = edges_of(alloc, &outline, rule, filled)?;
+        let OutlineEdges { list, ends, chords } = made;
+        let step = outline.step();
+        let unfitted = outline.unfitted;
+        let tape = Tape::of(alloc, frame, list)?;
+        let facts = GlyphFacts {
+            number,
+            step,
+            chords,
+            counts,
+            unfitted,
+        };
+        let body = body_of(alloc, tape, &ends, filled, facts, cache)?;
+        let left = body.left(frame);
+        let filled = body.filled(filled);
+        Ok(Glyph {
+            number,
+            step,
+            chords,
+            body,
+            filled,
+            ends,
+            left,
+            pens: SmallVec::with_capacity(alloc, room)?,
+            unfitted,
+        })
+    }
+}
+
+/// The points of a glyph; None where there is no cache, or they are too many for a line. Error: Memory.
+fn points_of(fitter: &Fitter, number: u16, cached: bool) -> Result<Option<u64>, AllocError>
+    requires { number < fitter.now.tables.glyphs }
+    ensures exact { IfOk result (λ p. IfSome p (λ n. n ≡ points_asked fitter.now.tables fitter.now.levels number)) }
+    ensures none { cached ≡ false → IfOk result (λ p. p ≡ None) }
+{
+    if !cached {
+        return Ok(None);
+    }
+    fitter.points(number, POINT_WORK_LIMIT)
+}
+
+/// The cost of a glyph's programs: 0 where work is not bounded.
+fn cost_of(work: Option<u64>, cost: Option<u64>) -> Option<u64>
+    ensures { IfSome result (λ n. ((work ≡ None) × (n ≡ 0)) ⊎ (cost ≡ Some n)) }
+{
+    match work {
+        None => Some(0),
+        Some(_) => cost,
+    }
+}
+
+/// What a glyph counts, where its points and its cost are known.
+fn counts_of(points: Option<u64>, cost: Option<u64>) -> Option<KeptCounts>
+    ensures none { points ≡ None → result ≡ None }
+    ensures points { IfSome result (λ n. points ≡ Some n.points) }
+    ensures cost { IfSome result (λ n. cost ≡ Some n.cost) }
+{
+    match (points, cost) {
+        (Some(points), Some(cost)) => Some(KeptCounts { points, cost }),
+        _ => None,
+    }
+}
+
+/// How many chords curves have, by the job's remaining work: with best, whose work is bounded, by their bend.
+fn rule_by(work: Option<u64>) -> ChordRule
+    ensures { result ≡ rule_by work }
+{
+    match work {
+        None => ChordRule::Eight,
+        Some(_) => ChordRule::ByBend,
+    }
+}
+
+/// The box of an outline's points, where its first phantom point is at the left end of the line.
+fn extents_of(outline: &Outline) -> Extents
+    requires outline { IsOutline (outline_of outline.now) }
+    ensures exact { result ≡ extents_of (outline_of outline.now) }
+    ensures fits { ExtentsFit result }
+{
+    let origin = outline.phantom[0].0;
+    points_box(outline, -i64::from(origin), 0)
+}
+
+/// The dropout rules in the scan converter's type, with the outline's box, which is needed only there.
+fn rules_for(outline: &Outline, rules: Option<DropoutRules>) -> Option<BoxedRules>
+    requires outline { IsOutline (outline_of outline.now) }
+    ensures exact { result ≡ rules_for (extents_of (outline_of outline.now)) rules }
+    ensures fits { IfSome result (λ b. ExtentsFit b.extents) }
+{
+    match rules {
+        Some(rules) => Some(BoxedRules {
+            rules: Rules {
+                stubs: rules.stubs,
+                smart: rules.smart,
+            },
+            extents: extents_of(outline),
+        }),
+        None => None,
+    }
+}
+
+/// The edges of an outline whose first phantom point is at the left end of the line. The ends of its contours are told
+/// if its dropouts are filled.
+fn edges_of(
+    alloc: Global,
+    outline: &Outline,
+    rule: ChordRule,
+    filled: Option<BoxedRules>,
+) -> Result<OutlineEdges, AllocError>
+    requires outline { IsOutline (outline_of outline.now) }
+    ensures exact { IfOk result (λ e. e.list.edges ≡ edges_at rule 0 (outline_of outline.now)) }
+    ensures few { IfOk result (λ e. length e.list.edges ≤ 2 ^ 19) }
+    ensures chords { IfOk result (λ e. e.chords ≡ chords_of rule (outline_of outline.now)) }
+    ensures contours { IfOk result (λ e. IfSome filled (λ rules. contours_at e.list.edges e.ends.items ≡ contours_of rule 0 (outline_of outline.now))) }
+    ensures ends { IfOk result (λ e. IfSome filled (λ rules. AreEnds (length e.list.edges) e.ends.items)) }
+{
+    let origin = outline.phantom[0].0;
+    edges(
+        alloc,
+        outline,
+        rule,
+        -i64::from(origin),
+        0,
+        filled.is_some(),
+    )
+}
