@@ -181,8 +181,8 @@ uint32_t tt_draw_band(const uint8_t *font, size_t font_bytes, const uint8_t *tex
 
 /*
  * Draws lines one after the other, each as tt_draw does. The font is opened once and its programs run once. Between
- * lines at most keep bytes of glyphs are cached; 1 << 20 is enough for most fonts. With TT_BEST the programs run once a
- * line, no glyph is cached and keep has no effect, so each line costs about as much as a call of tt_draw.
+ * lines at most keep bytes of glyphs are cached; 1 << 20 is enough for most fonts. With TT_BEST a cached glyph takes its
+ * cost from each line's budget again, so that a line is drawn or refused as by tt_draw.
  *
  * Line i begins in texts where the line before it ends, and ends before ends[i]. rows gets the rows of all lines one
  * after the other, and lines[i] describes line i.

@@ -128,9 +128,9 @@ fn draw_by(
 }
 
 /// Draws lines one after the other, each as `draw_band` draws its whole picture. The font is opened once and its
-/// programs run once; with the way to fit `best` they run once a line. `rows` gets the rows of all lines one after the
-/// other, and `lines[i]` describes line i. Between lines at most `keep` bytes of glyphs are cached; with `best` none
-/// are. Beside the answer the call returns the bytes of the glyphs that are cached at its end.
+/// programs run once. `rows` gets the rows of all lines one after the other, and `lines[i]` describes line i. Between
+/// lines at most `keep` bytes of glyphs are cached. Beside the answer the call returns the bytes of the glyphs that are
+/// cached at its end.
 ///
 /// Answers, the first of these, where all bytes and entries after the drawn lines are unchanged:
 /// - the way to fit, the size or the margin is refused, or the font is too large or refused; no line is drawn;
