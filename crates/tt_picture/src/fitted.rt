@@ -11,11 +11,11 @@ ghost use Rattle.tt_picture.specs.Glyphs.{IsDrawn};
 
 use crate::cache::Cache;
 use crate::glyph::Glyph;
-use crate::outlined::MadeOutline;
+use crate::outlined::{MadeOutline, cost_of, counts_of, points_of, rule_by, rules_for};
 use std::alloc::{AllocError, Global};
 use std::marker::Model;
 use tt_core::FontFault;
-use tt_fit::Fitter;
+use tt_fit::{Fitter, OutlineAtCost};
 use tt_scan::Frame;
 use tt_strike_kept::KeptGlyph;
 
@@ -47,7 +47,6 @@ impl Model for FittedGlyph {
 impl FittedGlyph {
     /// A glyph from the cache, where its cost is left of the job's work: the cost is paid. Else the glyph is made. The
     /// fitter then serves later glyphs. Errors: those of its outline, Memory.
-    #[inline(always)]
     pub(crate) fn of(
         fitter: &mut Fitter,
         number: u16,
@@ -68,10 +67,20 @@ impl FittedGlyph {
                 });
             }
         }
-        let made = MadeOutline::of(fitter, number, cache.is_there())?;
+        let points = points_of(fitter, number, cache.is_there())?;
+        let work = fitter.work();
+        let made = fitter.fit_with_cost(number)?;
+        let OutlineAtCost { outline, cost } = made;
+        let filled = rules_for(&outline, fitter.dropouts(&outline));
+        let counts = counts_of(points, cost_of(work, cost));
         Ok(FittedGlyph {
             number,
-            body: FittedBody::Outline(made),
+            body: FittedBody::Outline(MadeOutline {
+                outline,
+                rule: rule_by(work),
+                filled,
+                counts,
+            }),
         })
     }
 

@@ -24,8 +24,8 @@ use smallvec::SmallVec;
 use std::alloc::{AllocError, Global};
 use std::marker::Model;
 use tt_arc::{ChordRule, OutlineEdges, edges, points_box};
-use tt_core::{FontFault, POINT_WORK_LIMIT};
-use tt_fit::{DropoutRules, Fitter, Outline, OutlineAtCost};
+use tt_core::POINT_WORK_LIMIT;
+use tt_fit::{DropoutRules, Fitter, Outline};
 use tt_scan::{Frame, Tape};
 use tt_scan_dropouts::{BoxedRules, Extents, Rules};
 
@@ -41,11 +41,11 @@ pub(crate) struct KeptCounts {
 #[derive(Drop)]
 pub(crate) struct MadeOutline {
     pub(crate) outline: Outline,
-    rule: ChordRule,
+    pub(crate) rule: ChordRule,
     /// The rules for filling its dropouts, with its box at pen 0.
-    filled: Option<BoxedRules>,
+    pub(crate) filled: Option<BoxedRules>,
     /// None where the glyph is not to be cached.
-    counts: Option<KeptCounts>,
+    pub(crate) counts: Option<KeptCounts>,
 }
 
 impl Model for MadeOutline {
@@ -58,32 +58,6 @@ impl Model for MadeOutline {
 }
 
 impl MadeOutline {
-    /// The outline of a glyph, with what the glyph counts if there is a cache. The fitter then serves later glyphs.
-    /// Errors: those of the outline, Memory.
-    #[inline(never)]
-    pub(crate) fn of(
-        fitter: &mut Fitter,
-        number: u16,
-        cached: bool,
-    ) -> Result<MadeOutline, FontFault>
-        requires known { number < fitter.old.tables.glyphs }
-        ensures made { IfOk result (λ m. (o : shape.Outline) × (fitted_outline fitter.old number ≡ Ok o) × IsMadeOutline cached fitter.old number o m) }
-        ensures after { OnOk result (fitter.new ≡ after_glyph fitter.old number) }
-        ensures fault { IfTold font_fault result (λ f. fitted_outline fitter.old number ≡ Err f) }
-    {
-        let points = points_of(fitter, number, cached)?;
-        let work = fitter.work();
-        let made = fitter.fit_with_cost(number)?;
-        let OutlineAtCost { outline, cost } = made;
-        let filled = rules_for(&outline, fitter.dropouts(&outline));
-        Ok(MadeOutline {
-            outline,
-            rule: rule_by(work),
-            filled,
-            counts: counts_of(points, cost_of(work, cost)),
-        })
-    }
-
     /// The glyph with its edges or its pixels, without a pen, with room for `room` pens. It is cached if it may be, and
     /// is small enough. Error: Memory. The outline is dropped.
     #[inline(never)]
@@ -141,7 +115,7 @@ impl MadeOutline {
 }
 
 /// The points of a glyph; None where there is no cache, or they are too many for a line. Error: Memory.
-fn points_of(fitter: &Fitter, number: u16, cached: bool) -> Result<Option<u64>, AllocError>
+pub(crate) fn points_of(fitter: &Fitter, number: u16, cached: bool) -> Result<Option<u64>, AllocError>
     requires { number < fitter.now.tables.glyphs }
     ensures exact { IfOk result (λ p. IfSome p (λ n. n ≡ points_asked fitter.now.tables fitter.now.levels number)) }
     ensures none { cached ≡ false → IfOk result (λ p. p ≡ None) }
@@ -153,7 +127,7 @@ fn points_of(fitter: &Fitter, number: u16, cached: bool) -> Result<Option<u64>, 
 }
 
 /// The cost of a glyph's programs: 0 where work is not bounded.
-fn cost_of(work: Option<u64>, cost: Option<u64>) -> Option<u64>
+pub(crate) fn cost_of(work: Option<u64>, cost: Option<u64>) -> Option<u64>
     ensures { IfSome result (λ n. ((work ≡ None) × (n ≡ 0)) ⊎ (cost ≡ Some n)) }
 {
     match work {
@@ -163,7 +137,7 @@ fn cost_of(work: Option<u64>, cost: Option<u64>) -> Option<u64>
 }
 
 /// What a glyph counts, where its points and its cost are known.
-fn counts_of(points: Option<u64>, cost: Option<u64>) -> Option<KeptCounts>
+pub(crate) fn counts_of(points: Option<u64>, cost: Option<u64>) -> Option<KeptCounts>
     ensures none { points ≡ None → result ≡ None }
     ensures points { IfSome result (λ n. points ≡ Some n.points) }
     ensures cost { IfSome result (λ n. cost ≡ Some n.cost) }
@@ -175,7 +149,7 @@ fn counts_of(points: Option<u64>, cost: Option<u64>) -> Option<KeptCounts>
 }
 
 /// How many chords curves have, by the job's remaining work: with best, whose work is bounded, by their bend.
-fn rule_by(work: Option<u64>) -> ChordRule
+pub(crate) fn rule_by(work: Option<u64>) -> ChordRule
     ensures { result ≡ rule_by work }
 {
     match work {
@@ -195,7 +169,7 @@ fn extents_of(outline: &Outline) -> Extents
 }
 
 /// The dropout rules in the scan converter's type, with the outline's box, which is needed only there.
-fn rules_for(outline: &Outline, rules: Option<DropoutRules>) -> Option<BoxedRules>
+pub(crate) fn rules_for(outline: &Outline, rules: Option<DropoutRules>) -> Option<BoxedRules>
     requires outline { IsOutline (outline_of outline.now) }
     ensures exact { result ≡ rules_for (extents_of (outline_of outline.now)) rules }
     ensures fits { IfSome result (λ b. ExtentsFit b.extents) }
