@@ -4,7 +4,8 @@ import re
 import subprocess
 import sys
 import tempfile
-from concurrent.futures import ThreadPoolExecutor
+from concurrent.futures import ProcessPoolExecutor
+from functools import partial
 from pathlib import Path
 
 sys.path.insert(0, str(Path(__file__).resolve().parent.parent / "damaged"))
@@ -12,13 +13,16 @@ from asking import rows
 
 PROGRAM = os.environ["TT_RENDER"]
 FONTS = "/usr/share/fonts/truetype"
-# A font, the way to fit, a size, and a margin. Of these Lato has no glyph that fallback fits.
+# Fonts, each with a size and a margin. Lato has no glyph that fallback fits, and no line that full draws.
 JOBS = (
-    ("dejavu/DejaVuSans.ttf", "none", 16, 0),
-    ("liberation/LiberationSans-Regular.ttf", "full", 12, 2),
-    ("lato/Lato-Regular.ttf", "fallback", 9, 0),
-    ("noto/NotoSerif-Italic.ttf", "best", 20, 1),
+    ("dejavu/DejaVuSans.ttf", 16, 0),
+    ("liberation/LiberationSans-Regular.ttf", 12, 2),
+    ("lato/Lato-Regular.ttf", 9, 0),
+    ("noto/NotoSerif-Italic.ttf", 20, 1),
+    ("freefont/FreeSans.ttf", 14, 0),
+    ("open-sans/OpenSans-Regular.ttf", 11, 3),
 )
+FITS = "none", "full", "fallback", "best"
 LINES = 2000
 WORDS = "jolly staff Wax Öl naïve §4 {x|y} 3/4 Σ=12 ÅNGSTRÖM fjord No7 quick, brown; fox! (über) «ñ» Жук λόγος ẞ".split()
 # A line with a carriage return before its end is left to the cases below.
@@ -101,23 +105,50 @@ def texts(seed):
     return lines
 
 
-def try_font(name, fit, size, margin, seed):
-    """2,000 lines at once, and one by one."""
+def text_of(lines):
+    return "".join(f"{it}\n" for it in lines).encode()
+
+
+def alone(words, font, text):
+    """What is answered for a text alone."""
+    return run([*words, font, text])
+
+
+def try_drawn(name, words, font, lines, every):
+    """Lines that are drawn alone, all at once: each has the picture and the reports of its text alone."""
+    status, stdout, stderr = run([*words, "--lines", font], text_of(lines))
+    verdict(f"{name}: status", None if status == 0 else f"status {status}: {stderr[:300]!r}")
+    at, told = 0, b""
+    for number, (line, one) in enumerate(zip(lines, every), 1):
+        told += told_of(number, one[2])
+        same = stdout.startswith(one[1], at)
+        verdict(f"{name}, line {number}: {line}", None if same else "is not the picture of its text alone")
+        at += len(one[1])
+    verdict(f"{name}: bytes", None if at == len(stdout) else f"{len(stdout)} bytes, and not {at}")
+    verdict(f"{name}: told", None if told == stderr else f"standard error has {stderr[:200]!r}, and not {told[:200]!r}")
+
+
+def try_refused(name, words, font, lines, every):
+    """Lines of which one is refused alone: that line ends the call, with the refusal of its text alone."""
+    first = next(number for number, one in enumerate(every) if one[0] != 0)
+    before = every[:first]
+    told = b"".join(told_of(number, one[2]) for number, one in enumerate(before, 1))
+    _, stdout, stderr = got = run([*words, "--lines", font], text_of(lines))
+    refusals = [told + every[first][2], told + told_of(first + 1, every[first][2])]
+    wanted = every[first][0], b"".join(one[1] for one in before), stderr if stderr in refusals else refusals[1]
+    verdict(f"{name}: line {first + 1} is refused", differs(got, wanted))
+
+
+def try_font(pool, name, fit, size, margin, seed):
+    """2,000 lines one by one, and at once."""
     font = f"{FONTS}/{name}"
     words = words_of(fit, size, margin)
     lines = texts(seed)
-    status, stdout, stderr = run([*words, "--lines", font], "".join(f"{it}\n" for it in lines).encode())
-    verdict(f"{name} {fit}: status", None if status == 0 else f"status {status}: {stderr[:300]!r}")
-    at, told = 0, b""
-    with ThreadPoolExecutor(os.cpu_count()) as pool:
-        every = [*pool.map(lambda it: run([*words, font, it]), lines)]
-    for number, (line, alone) in enumerate(zip(lines, every), 1):
-        told += told_of(number, alone[2])
-        same = alone[0] == 0 and stdout.startswith(alone[1], at)
-        verdict(f"{name} {fit}, line {number}: {line}", None if same else "is not the picture of its text alone")
-        at += len(alone[1])
-    verdict(f"{name} {fit}: bytes", None if at == len(stdout) else f"{len(stdout)} bytes, and not {at}")
-    verdict(f"{name} {fit}: told", None if told == stderr else f"standard error has {stderr[:200]!r}, and not {told[:200]!r}")
+    every = [*pool.map(partial(alone, words, font), lines, chunksize=50)]
+    if any(one[0] != 0 for one in every):
+        try_refused(f"{name} {fit}", words, font, lines, every)
+    drawn = [it for it in zip(lines, every) if it[1][0] == 0]
+    try_drawn(f"{name} {fit}", words, font, [line for line, _ in drawn], [one for _, one in drawn])
 
 
 def held(words, stdin):
@@ -131,23 +162,26 @@ def held(words, stdin):
         return started.returncode, usage.ru_maxrss
 
 
-def try_memory():
+def try_memory(fit):
     """Many lines hold no more memory than some."""
-    words = [*words_of("full", 16, 0), "--lines", f"{FONTS}/liberation/LiberationSans-Regular.ttf"]
-    lines = "".join(f"{it}\n" for it in texts(7)).encode()
+    words = [*words_of(fit, 16, 0), "--lines", f"{FONTS}/liberation/LiberationSans-Regular.ttf"]
+    lines = text_of(texts(7))
     some, many = held(words, lines), held(words, lines * 20)
     why = None
     if some[0] or many[0] or many[1] > some[1] + 256:
         why = f"2,000 lines end with {some[0]} and hold {some[1]} KiB, 40,000 with {many[0]} and {many[1]} KiB"
-    verdict("memory does not grow with the lines", why)
+    verdict(f"{fit}: memory does not grow with the lines", why)
 
 
 def main():
     with tempfile.TemporaryDirectory() as room:
         try_rows(Path(room))
-    for seed, (name, fit, size, margin) in enumerate(JOBS):
-        try_font(name, fit, size, margin, seed)
-    try_memory()
+    with ProcessPoolExecutor(len(os.sched_getaffinity(0))) as pool:
+        for seed, (name, size, margin) in enumerate(JOBS):
+            for fit in FITS:
+                try_font(pool, name, fit, size, margin, seed)
+    for fit in "full", "best":
+        try_memory(fit)
     print(f"lines: {passed} passed, {failed} failed")
     return failed != 0
 

@@ -57,11 +57,18 @@ def programs(asked):
 POINTS = 16384
 
 
-def filler(work):
-    """A glyph whose program needs this much work: FLIPRGON over all its points, time after time, and steps of 1."""
+def filling(work):
+    """A program for a glyph of so many points that needs this much work: FLIPRGON over all of them, time after time, and
+    steps of 1.
+    """
     flip = [push(0, 0), step(0x81, points=POINTS + PHANTOMS)]
     rounds, rest = divmod(work, work_of(flip))
-    return small.with_program(small.dots(POINTS), code_of(flip) * rounds + b"\x00" * rest)
+    return flip * rounds + [step(0x00)] * rest
+
+
+def filler(work):
+    """A glyph whose program needs this much work."""
+    return small.with_program(small.dots(POINTS), code_of(filling(work)))
 
 
 # A rectangle of one pixel by two at 16 pixels per em; no step of these parts moves its points.

@@ -9,11 +9,12 @@ sys.path.insert(0, str(Path(__file__).resolve().parent.parent / "outlines"))
 
 from asking import Asked
 from hostile_fonts import hostile
+from kept_glyphs import kept
 from many_lines import lines
 from programs import functions, programs, values, weights
 from shapes import crossings, points
 
-PARTS = programs, functions, weights, values, points, crossings, lines, hostile
+PARTS = programs, functions, weights, values, points, crossings, lines, kept, hostile
 
 
 def main():
