@@ -29,7 +29,7 @@ pub(crate) fn distinct(
     ensures known { IfOk result (λ d. All (λ n. n < glyphs) d.numbers.items) }
 {
     let mut places = vec![in alloc; 0u16; usize::from(glyphs)]?;
-    let mut numbers = Vec::new(alloc);
+    let mut numbers = Vec::with_capacity(alloc, line.len())?;
     for placed in line {
         let (number, _) = *placed;
         if places[usize::from(number)] == 0 {
