@@ -64,10 +64,15 @@ static void add(struct picture *to, const FT_Bitmap *from, long column, long row
 }
 
 /* Has no dropout of an outline filled. A flag says so; but the scan mode that a program of the font set stands in the
-   tag of a contour's first point and goes before the flag, so of each tag only the kind of the point is left. */
+   tag of a contour's first point and goes before the flag, so of each tag only the kind of the point is left. With
+   -DDROPOUTS dropouts are filled as the font says. */
 static void fill_no_dropout(FT_Outline *outline) {
+#ifndef DROPOUTS
   outline->flags |= FT_OUTLINE_IGNORE_DROPOUTS;
   for (int i = 0; i < outline->n_points; i++) outline->tags[i] &= 3;
+#else
+  (void)outline;
+#endif
 }
 
 static void draw(FT_Face face, FT_UInt glyph, struct picture *to, long left) {
