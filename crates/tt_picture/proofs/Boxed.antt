@@ -1,5 +1,5 @@
 -- All dropouts of a glyph lie in the window of its box.
-use Rattle.std.proofs.Common.{◌≡◌, ◌∙◌, refl, Bool, true, false, ◌&&◌, List, pos, ◌+ℤ◌, ℤ, arith}
+use Rattle.std.proofs.Common.{◌≡◌, refl, Bool, true, false, ◌&&◌, List, pos, ◌+ℤ◌, ℤ, arith}
 use Rattle.std.proofs.lemmas.Int.{ints}
 use Rattle.tt_scan.specs.Contours.{AreEnds, contours_at}
 use Rattle.tt_scan_dropouts.proofs.Clips.{dropout_boxed}

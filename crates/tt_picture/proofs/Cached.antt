@@ -1,27 +1,16 @@
 -- Cached glyphs equal those made anew.
-use Rattle.std.proofs.Common.{◌≡◌, ◌∙◌, ℕ, ◌-◌, ◌<◌, ◌≤◌, Bool, true, false, ◌==◌, if◌then◌else◌, nat_eq, List, [], ◌∷◌, nat_le, Option, None, Some, Ok, ◌⊎◌, inl, inr, ap, refl, sym}
+use Rattle.std.proofs.Common.{◌≡◌, ◌∙◌, ℕ, ◌-◌, ◌<◌, ◌≤◌, Bool, true, false, ◌==◌, if◌then◌else◌, nat_eq, List, [], ◌∷◌, Option, None, Some, ◌⊎◌, refl, sym}
 use Rattle.std.specs.Prelude.{IfSome}
 use Rattle.std.specs.Map.{lookup, remove_entry}
-use Rattle.tt_core.specs.Faults.{Fault}
-use Rattle.tt_fit.proofs.WorkApart.{costs-stay, glyphs-take-work-alone, own-work, work-is-apart}
-use Rattle.tt_fit.specs.Counting.{counted, points_asked}
-use Rattle.tt_fit.specs.Dropouts.{dropouts_of}
-use Rattle.tt_fit.specs.Fitting.{Fitter, after_glyph, fitted_outline, unfitted_fault, with_work}
-use Rattle.tt_fit.specs.GlyphCost.{IsMade, IsMadeFor, all_used, without_work, work_more}
-use Rattle.tt_fit.specs.Laws.{UnboundedStays}
+use Rattle.tt_fit.proofs.WorkApart.{costs-stay, glyphs-take-work-alone, work-is-apart}
+use Rattle.tt_fit.specs.Counting.{points_asked}
+use Rattle.tt_fit.specs.Fitting.{Fitter, after_glyph}
+use Rattle.tt_fit.specs.GlyphCost.{all_used, without_work}
 use Rattle.tt_fit_outline.specs.Outline.{Outline}
-use Rattle.tt_fit_outline.specs.Steps.{step_of}
-use Rattle.tt_picture.specs.Cached.{CachedStays, IsCacheFor, IsCached, IsCutOf, IsOfOutline, entries_of, is_there, limit_of}
-use Rattle.tt_picture.specs.Cut.{HasFacts}
+use Rattle.tt_picture.specs.Cached.{CachedStays, IsCacheFor, IsCached, IsOfOutline, entries_of, is_there, limit_of}
 use Rattle.tt_picture.specs.Distinct.{fitter_after, fitter_for}
-use Rattle.tt_picture.specs.Fitted.{FittedBody, FittedGlyph, outlined, kept, IsFitted, IsFittedBody, IsMadeOutline, MadeOutline}
-use Rattle.tt_picture.specs.Pixels.{is_filled}
-use Rattle.tt_picture.specs.Shapes.{chords_with, contours_of, edges_at, extents_of, filled_by, rule_by, rules_for}
-use Rattle.tt_picture.specs.Steps.{chords_of}
-use Rattle.tt_picture.specs.declared.cutting.GlyphFacts.{GlyphFacts}
-use Rattle.tt_picture.specs.declared.outlined.KeptCounts.{KeptCounts}
-use Rattle.tt_picture.proofs.Standings.{same_filled}
-use Rattle.tt_scan_edges.specs.declared.edge.Edge.{Edge}
+use Rattle.tt_picture.specs.Fitted.{FittedGlyph, IsFitted}
+use Rattle.tt_picture.specs.Shapes.{chords_with, rule_by}
 use Rattle.tt_scan_dropouts.specs.declared.boxed.BoxedRules.{BoxedRules}
 use Rattle.tt_strike_kept.proofs.CallerLemmas.{all_found, all_kept}
 use Rattle.tt_strike_kept.specs.Glyph.{KeptGlyph}

@@ -1,5 +1,5 @@
 -- Glyphs that are made, and cut into pixels for the cache.
-use Rattle.std.proofs.Common.{◌≡◌, ◌∙◌, ℕ, ◌-◌, ◌<◌, ◌≤◌, Bool, true, false, ◌==◌, if◌then◌else◌, nat_eq, List, [], ◌∷◌, nat_le, Option, None, Some, Ok, ◌⊎◌, inl, inr, ap, refl, sym}
+use Rattle.std.proofs.Common.{◌≡◌, ◌∙◌, ℕ, Bool, true, false, List, nat_le, Option, None, Some, Ok, ◌⊎◌, inl, inr, ap, refl, sym}
 use Rattle.std.specs.Prelude.{IfSome, pos}
 use Rattle.tt_core.specs.Faults.{Fault}
 use Rattle.tt_arc.proofs.PointsBox.{box_holds_edges}
@@ -7,15 +7,15 @@ use Rattle.tt_arc.specs.declared.rule.ChordRule.{ChordRule}
 use Rattle.tt_fit.proofs.WorkApart.{own-work}
 use Rattle.tt_fit.specs.Counting.{counted, points_asked}
 use Rattle.tt_fit.specs.Dropouts.{dropouts_of}
-use Rattle.tt_fit.specs.Fitting.{Fitter, after_glyph, fitted_outline, unfitted_fault, with_work}
-use Rattle.tt_fit.specs.GlyphCost.{IsMade, IsMadeFor, all_used, without_work, work_more}
+use Rattle.tt_fit.specs.Fitting.{Fitter, fitted_outline, unfitted_fault, with_work}
+use Rattle.tt_fit.specs.GlyphCost.{IsMade, IsMadeFor, all_used}
 use Rattle.tt_fit.specs.Laws.{UnboundedStays}
 use Rattle.tt_fit.specs.declared.dropouts.DropoutRules.{DropoutRules}
 use Rattle.tt_fit_outline.specs.Outline.{Outline}
 use Rattle.tt_fit_outline.specs.Steps.{step_of}
 use Rattle.tt_picture.specs.Cached.{IsCached, IsCutOf, IsOfOutline}
 use Rattle.tt_picture.specs.Cut.{HasFacts, IsCutBody}
-use Rattle.tt_picture.specs.Fitted.{FittedBody, FittedGlyph, outlined, kept, IsFitted, IsFittedBody, IsMadeOutline, MadeOutline}
+use Rattle.tt_picture.specs.Fitted.{kept, IsFittedBody, IsMadeOutline, MadeOutline}
 use Rattle.tt_picture.specs.Glyphs as glyphs
 use Rattle.tt_picture.specs.Glyphs.{GlyphBody, IsBodyOf, IsKeptOf, IsTape, edges_of}
 use Rattle.tt_picture.specs.Pixels.{is_filled}

@@ -115,7 +115,11 @@ impl MadeOutline {
 }
 
 /// The points of a glyph; None where there is no cache, or they are too many for a line. Error: Memory.
-pub(crate) fn points_of(fitter: &Fitter, number: u16, cached: bool) -> Result<Option<u64>, AllocError>
+pub(crate) fn points_of(
+    fitter: &Fitter,
+    number: u16,
+    cached: bool,
+) -> Result<Option<u64>, AllocError>
     requires { number < fitter.now.tables.glyphs }
     ensures exact { IfOk result (λ p. IfSome p (λ n. n ≡ points_asked fitter.now.tables fitter.now.levels number)) }
     ensures none { cached ≡ false → IfOk result (λ p. p ≡ None) }

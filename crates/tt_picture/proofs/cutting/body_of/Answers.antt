@@ -1,4 +1,4 @@
-use Rattle.std.proofs.Common.{◌≡◌, ◌∙◌, ℤ, refl}
+use Rattle.std.proofs.Common.{◌≡◌, ℤ, refl}
 use Rattle.tt_scan.specs.Contours.{contours_at}
 use Rattle.tt_scan_dropouts.specs.Passes.{has_pixel}
 use Rattle.tt_scan_rows.specs.Raster.{IsRasterOf}

@@ -1,4 +1,4 @@
-use Rattle.std.proofs.Common.{◌<◌, ◌∙◌, length, get_or}
+use Rattle.std.proofs.Common.{◌<◌, length}
 use Rattle.tt_scan_dropouts.specs.Pictures.{is_among}
 use Rattle.tt_picture.specs.Pixels.{by_pixels}
 use Rattle.tt_picture.proofs.Seen.{one_pen_more}

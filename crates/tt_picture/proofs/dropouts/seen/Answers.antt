@@ -1,4 +1,4 @@
-use Rattle.std.proofs.Common.{◌≡◌, ◌&&◌, ◌<◌, ◌^◌, ap₂, pos, ◌-ℤ◌, ◌+ℤ◌, SFits, w64, rules, arith}
+use Rattle.std.proofs.Common.{◌&&◌, ◌<◌, ◌^◌, ap₂, pos, ◌-ℤ◌, SFits, w64, rules, arith}
 use Rattle.std.proofs.lemmas.Int.{to_z-of_z}
 use Rattle.std.specs.Ordering.{int_eq}
 use Rattle.tt_scan_dropouts.specs.Pictures.{line_at}

@@ -1,4 +1,4 @@
-use Rattle.std.proofs.Common.{◌≡◌, ◌∙◌, sym, ℕ, Bool, ◌+◌, ◌-◌, ◌*◌, ◌<◌, ◌≤◌, ◌&&◌, nat_lt, [], length, take, drop, refl, arith, length-drop, length-take-le}
+use Rattle.std.proofs.Common.{◌≡◌, ◌∙◌, sym, ℕ, Bool, ◌+◌, ◌-◌, ◌*◌, ◌&&◌, nat_lt, length, take, drop, refl, arith, length-drop, length-take-le}
 use Rattle.tt_core.specs.Bits.{stride}
 use Rattle.tt_scan_dropouts.specs.Pictures.{is_among}
 use Rattle.tt_scan_rows.proofs.Bands.{all_rows_painted, no_row_painted, one_row_painted, row_ends, row_put}

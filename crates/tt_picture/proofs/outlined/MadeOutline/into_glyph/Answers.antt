@@ -2,14 +2,12 @@ use Rattle.std.proofs.Common.{◌≡◌, ◌∙◌, Bool, length, refl}
 use Rattle.std.specs.Prelude.{IfSome}
 use Rattle.tt_fit.specs.Fitting.{Fitter}
 use Rattle.tt_fit_outline.specs.Outline.{Outline}
-use Rattle.tt_fit_outline.specs.Steps.{step_of}
 use Rattle.tt_fit_outline.specs.Views.{outline_of}
 use Rattle.tt_scan.specs.Contours.{AreEnds, contours_at}
-use Rattle.tt_scan_edges.specs.declared.edge.Edge.{Edge}
 use Rattle.tt_scan_dropouts.specs.declared.boxed.BoxedRules.{BoxedRules}
 use Rattle.tt_scan_gaps.specs.Boxes.{ExtentsFit}
 use Rattle.tt_strike_kept.specs.Glyph.{KeptGlyph}
-use Rattle.tt_picture.specs.Cached.{IsCacheFor, IsCached, IsCutOf}
+use Rattle.tt_picture.specs.Cached.{IsCached, IsCutOf}
 use Rattle.tt_picture.specs.Cut.{HasFacts, IsCutBody}
 use Rattle.tt_picture.specs.Fitted.{IsMadeOutline, MadeOutline}
 use Rattle.tt_picture.specs.Glyphs.{IsTape, edges_of}

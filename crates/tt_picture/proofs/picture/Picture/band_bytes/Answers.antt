@@ -1,4 +1,4 @@
-use Rattle.std.proofs.Common.{◌≡◌, ◌*◌, ◌/◌, ◌≤◌, min, arith}
+use Rattle.std.proofs.Common.{◌*◌, ◌/◌, ◌≤◌, min}
 use Rattle.tt_core.specs.Bits.{stride}
 use Rattle.tt_picture.proofs.Bands.{band_few}
 use Rattle.tt_picture.proofs.picture.Picture.band_bytes.Goals as goal

@@ -1,4 +1,4 @@
-use Rattle.std.proofs.Common.{◌≡◌, ◌≤◌, ◌/◌, min, arith}
+use Rattle.std.proofs.Common.{◌≡◌, ◌/◌, min, arith}
 use Rattle.tt_core.specs.Bits.{stride}
 use Rattle.tt_picture.proofs.Bands.{band_some}
 use Rattle.tt_picture.proofs.picture.Picture.band_rows.Goals as goal

@@ -1,4 +1,4 @@
-use Rattle.std.proofs.Common.{◌≡◌, ◌∙◌, ◌*◌, ◌+◌, List, ap, length, map, nat_lt, refl, sym, vec_len, arith}
+use Rattle.std.proofs.Common.{◌≡◌, ◌∙◌, ◌*◌, ◌+◌, List, ap, length, map, nat_lt, refl, sym, vec_len}
 use Rattle.std.proofs.lemmas.List.{length-map, length-replicate, with_items_is}
 use Rattle.tt_core.specs.Bits.{stride}
 use Rattle.tt_scan_dropouts.specs.Pictures.{is_among}
