@@ -29,8 +29,10 @@
  * room comes last. tt_draw_lines tests the way to fit, size, margin and font once, then lines_room, and then the rest
  * line by line, first the line's ends, then the work of the lines before it (65).
  *
- * Cost: tt_open and tt_map read tables alone. tt_measure, tt_characters, tt_draw and tt_draw_band each fit all glyphs
- * of the text, which is most of the cost of a drawing. This is so even where the room is too small.
+ * Cost: tt_open and tt_map read tables alone. tt_measure, tt_characters, tt_draw and tt_draw_band each run the font's
+ * first two programs and fit all glyphs of the text: with hinting mostly some million instructions. This is so even
+ * where the room is too small. tt_draw_lines runs the two programs once, and fits no glyph that is cached: a label of 16
+ * letters then takes some 30,000 instructions. With keep 0 each line fits its glyphs anew.
  */
 #ifndef TT_RENDER_H
 #define TT_RENDER_H
@@ -181,8 +183,8 @@ uint32_t tt_draw_band(const uint8_t *font, size_t font_bytes, const uint8_t *tex
 
 /*
  * Draws lines one after the other, each as tt_draw does. The font is opened once and its programs run once. Between
- * lines at most keep bytes of glyphs are cached; 1 << 20 is enough for most fonts. With TT_BEST the programs run once a
- * line, no glyph is cached and keep has no effect, so each line costs about as much as a call of tt_draw.
+ * lines at most keep bytes of glyphs are cached; 1 << 20 is enough for most fonts. With TT_BEST a cached glyph takes its
+ * cost from each line's budget again, so that a line is drawn or refused as by tt_draw.
  *
  * Line i begins in texts where the line before it ends, and ends before ends[i]. rows gets the rows of all lines one
  * after the other, and lines[i] describes line i.
