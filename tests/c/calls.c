@@ -59,8 +59,8 @@ static uint32_t ask_message(const struct question *q, struct room room, void *to
 
 const struct call opens = {"tt_open", ask_open, 0, sizeof(struct tt_font), false, false, 0};
 const struct call maps = {"tt_map", ask_map, sizeof(struct tt_glyph), 0, true, false, 0};
-const struct call draws = {"tt_draw", ask_draw, 1, sizeof(struct tt_picture), true, true, 5};
-const struct call draws_band = {"tt_draw_band", ask_band, 1, sizeof(struct tt_picture), true, true, 5};
+const struct call draws = {"tt_draw", ask_draw, 1, sizeof(struct tt_picture), true, true, 4};
+const struct call draws_band = {"tt_draw_band", ask_band, 1, sizeof(struct tt_picture), true, true, 4};
 const struct call measures = {"tt_measure", ask_measure, 0, sizeof(struct tt_measure), true, true, 5};
 const struct call characters = {"tt_characters", ask_characters, sizeof(struct tt_character), 0, true, true, 5};
 const struct call messages = {"tt_message", ask_message, 1, 0, false, false, 1};
