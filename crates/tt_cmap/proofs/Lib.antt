@@ -1,3 +1,7 @@
+pub mod Firsts
 pub mod Halves
+mod RomanTable
+mod UnitLaws
+pub mod WideWhole
 pub mod Whole
 pub mod WithoutGlyphs
