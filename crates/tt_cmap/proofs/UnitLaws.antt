@@ -4,7 +4,7 @@ use Rattle.std.specs.Prelude.{map}
 use Rattle.std.specs.List.{All}
 use Rattle.std.proofs.lemmas.List.Elements.{All-nil, All-cons, All-head, All-tail}
 use Rattle.tt_cmap.specs.declared.units.TextUnit.{TextUnit}
-use Rattle.tt_cmap.specs.Units.{is_selector, plain_unit, selected_unit, waiting_unit, with_selector, followed, waiting_after, then_units, units_after, units}
+use Rattle.tt_cmap.specs.Units.{is_selector, plain_unit, selected_unit, waiting_unit, with_selector, waiting_after, then_units, units_after}
 use Rattle.tt_cmap.specs.WideLaws.{UnitsHaveCharacters, PlainTextsStay}
 
 abbrev IsPlain : TextUnit → Type 0

@@ -1,5 +1,5 @@
 -- The wide reading of cmap: a table that gives a map has no defect, and a map of the strict reading is extended.
-use Rattle.std.proofs.Common.{◌≡◌, ℕ, ◌+◌, ◌<◌, ◌≤◌, nat_lt, if◌then◌else◌, true, false, List, length, Option, Some, None, Result, Ok, Err, inl, inr, arith, refl, sym, subst, ◌∙◌}
+use Rattle.std.proofs.Common.{◌≡◌, ℕ, ◌+◌, ◌<◌, ◌≤◌, nat_lt, true, false, List, length, Option, Some, None, Result, Ok, inl, inr, arith, refl, sym, subst}
 use Rattle.std.proofs.lemmas.Bool.{cases_lt}
 use Rattle.std.proofs.lemmas.Bool.Decides.{nat_tests}
 use Rattle.tt_core.specs.Chains.{came-through, passed-on, not-below}
@@ -15,16 +15,16 @@ use Rattle.tt_cmap.specs.declared.wide_subtable.Readable.{Readable}
 use Rattle.tt_cmap.specs.declared.wide_subtable.Readable.TheVariants as readable
 use Rattle.tt_cmap.specs.Halves.{reached}
 use Rattle.tt_cmap.specs.Lists.{GlyphList, list_header, glyph_place, character_count, list_at}
-use Rattle.tt_cmap.specs.Lookup.{Cmap, by_subtable, cmap_of, glyph_of}
+use Rattle.tt_cmap.specs.Lookup.{Cmap, by_subtable, cmap_of}
 use Rattle.tt_cmap.specs.Format12.{groups_at}
 use Rattle.tt_cmap.specs.Ranges.{Subtable, subtable_with, subtable_at, range_count, range_of, reaches, by_range, by_found, falling_range, or_falling}
 use Rattle.tt_cmap.specs.Maps.{CharacterMap, map_by, IsBadMap}
 use Rattle.tt_cmap.specs.Subtables.{records_of, chosen_subtable}
 use Rattle.tt_cmap.specs.WideChoice.{plain_choice, wide_choice, variations_of}
-use Rattle.tt_cmap.specs.WideDefects.{IsBadList, IsBadWideShape, IsBadWideChoice, IsBadWideCmap}
+use Rattle.tt_cmap.specs.WideDefects.{IsBadList, IsBadWideShape, IsBadWideChoice}
 use Rattle.tt_cmap.specs.WideLaws.{WideCmapsAreWhole, Extends, WideExtendsStrict}
-use Rattle.tt_cmap.specs.WideLookup.{WideCmap, by_wide_choice, wide_cmap_of, wide_glyph_of}
-use Rattle.tt_cmap.specs.WideSubtables.{WideSubtable, ranged, wide_subtable_at, by_reached, glyph_of_code}
+use Rattle.tt_cmap.specs.WideLookup.{WideCmap, by_wide_choice, wide_cmap_of}
+use Rattle.tt_cmap.specs.WideSubtables.{WideSubtable, ranged, wide_subtable_at, by_reached}
 use Rattle.tt_cmap.proofs.Halves.{found, nothing-found}
 use Rattle.tt_cmap.proofs.Whole.{cmap-whole, records-whole, groups-whole, with-shaped, none-falls}
 

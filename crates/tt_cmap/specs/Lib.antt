@@ -17,4 +17,5 @@ pub mod WideChoice
 pub mod WideDefects
 pub mod WideLaws
 pub mod WideLookup
+pub mod WideRows
 pub mod WideSubtables

@@ -72,7 +72,7 @@ is_listed l c = nat_le (first_character l) c && nat_lt c (first_character l + ch
 abbrev pub by_list : GlyphList → ℕ → ℕ → ℕ
 by_list l glyphs c =
     if is_listed l c then
-      or_missing glyphs (unsigned_at l.table (glyph_place l (c - first_character l)) (number_size l.format))
+    or_missing glyphs (unsigned_at l.table (glyph_place l (c - first_character l)) (number_size l.format))
     else 0
 
 -- worked values: two glyphs from 0041 on, and two from 0001F600 on

@@ -1,6 +1,6 @@
 -- OpenType, "cmap", format 14: Unicode variation sequences. The subtable is optional: what of it does not fit in cmap is
 -- not there (profile). Its length word is not used.
-use Rattle.std.specs.Prelude.{◌≡◌, refl, ℕ, ◌+◌, ◌-◌, ◌*◌, ◌/◌, ◌≤◌, Bool, false, ◌==◌, min, nat_lt, nat_le, if◌then◌else◌, List, [], ◌∷◌, length, map, take, Option, Some, None}
+use Rattle.std.specs.Prelude.{◌≡◌, refl, ℕ, ◌+◌, ◌-◌, ◌*◌, ◌/◌, Bool, false, ◌==◌, min, nat_lt, nat_le, if◌then◌else◌, List, [], ◌∷◌, length, map, take, Option, Some, None}
 use Rattle.tt_core.specs.Numbers.{unsigned_at}
 use Rattle.tt_cmap.specs.declared.entries.EntryKind.{EntryKind}
 use Rattle.tt_cmap.specs.declared.entries.EntryKind.TheVariants.{Selectors, Defaults, Others}

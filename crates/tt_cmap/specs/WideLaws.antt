@@ -6,7 +6,6 @@ use Rattle.tt_core.specs.Search.{IsLeast}
 use Rattle.tt_cmap.specs.declared.records.wide.Way.TheVariants as way
 use Rattle.tt_cmap.specs.Halves.{reached, IsReached, NeverFallsBack}
 use Rattle.tt_cmap.specs.Lookup.{Cmap, cmap_of, glyph_of}
-use Rattle.tt_cmap.specs.declared.units.TextUnit.{TextUnit}
 use Rattle.tt_cmap.specs.Units.{is_selector, plain_unit, units}
 use Rattle.tt_cmap.specs.WideDefects.{IsBadWideCmap}
 use Rattle.tt_cmap.specs.WideLookup.{WideCmap, wide_cmap_of, wide_glyph_of}

@@ -1,6 +1,6 @@
 -- OpenType, "cmap": the subtables of the wide reading, and the glyph of a code. Formats 0, 4, 6, 10, 12 and 13 are read.
 -- Ends of ranges are not tested: the glyph is that of the range where a binary search ends (profile).
-use Rattle.std.specs.Prelude.{◌≡◌, refl, ℕ, ◌==◌, nat_lt, if◌then◌else◌, List, [], ◌∷◌, map, Option, Some, None, Result, Ok, Err}
+use Rattle.std.specs.Prelude.{◌≡◌, refl, ℕ, ◌==◌, nat_lt, if◌then◌else◌, List, [], ◌∷◌, map, Option, Some, None, Result, Ok}
 use Rattle.tt_core.specs.Faults.{Fault}
 use Rattle.tt_core.specs.Numbers.{number_at}
 use Rattle.tt_core.specs.Outcomes.{◌>>=◌}

@@ -84,7 +84,12 @@ impl<'a> Entries<'a> {
             None => 0,
         };
         let table = Table::new(table);
-        Entries { kind, table, at, count }
+        Entries {
+            kind,
+            table,
+            at,
+            count,
+        }
     }
 
     /// The offset of an entry in cmap.

@@ -27,4 +27,3 @@ pub use lookup::{Cmap, Lookup};
 pub use maps::CharacterMap;
 pub use missing::lacking;
 pub use units::{Pairing, TextUnit};
-

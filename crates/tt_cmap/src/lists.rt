@@ -102,7 +102,11 @@ impl<'a> Model for GlyphList<'a> {
 impl<'a> GlyphList<'a> {
     /// The subtable at an offset of cmap. Error: CmapShape.
     #[tactic(auto, unfolding(crate::specs::Lists::list_at))]
-    pub(crate) fn open(format: ListFormat, table: &'a [u8], at: usize) -> Result<GlyphList<'a>, Fault>
+    pub(crate) fn open(
+        format: ListFormat,
+        table: &'a [u8],
+        at: usize,
+    ) -> Result<GlyphList<'a>, Fault>
         requires size { length table.now ≤ font_limit }
         requires place { at ≤ length table.now }
         ensures exact { Gives (λ m. m) result (list_at format table.now at) }
@@ -117,7 +121,13 @@ impl<'a> GlyphList<'a> {
             return Err(short);
         }
         let table = Table::new(table);
-        Ok(GlyphList { format, table, at, first, count })
+        Ok(GlyphList {
+            format,
+            table,
+            at,
+            first,
+            count,
+        })
     }
 
     /// The glyph of a character.

@@ -46,8 +46,12 @@ impl<'a> CharacterMap<'a> {
         ensures fault { IfErr result (IsBadMap reading table.now) }
     {
         match reading {
-            Reading::Strict => Ok(CharacterMap { map: Map::Strict(Cmap::open(table, glyphs)?) }),
-            Reading::Wide { face: _ } => Ok(CharacterMap { map: Map::Wide(WideCmap::open(table, glyphs)?) }),
+            Reading::Strict => Ok(CharacterMap {
+                map: Map::Strict(Cmap::open(table, glyphs)?),
+            }),
+            Reading::Wide { face: _ } => Ok(CharacterMap {
+                map: Map::Wide(WideCmap::open(table, glyphs)?),
+            }),
         }
     }
 
@@ -55,7 +59,9 @@ impl<'a> CharacterMap<'a> {
     pub fn strict(map: Cmap<'a>) -> CharacterMap<'a>
         ensures { result ≡ strict map.entry }
     {
-        CharacterMap { map: Map::Strict(map) }
+        CharacterMap {
+            map: Map::Strict(map),
+        }
     }
 
     /// The glyph of a character. It is 0 if the map has no glyph, or gives one that the font lacks (profile).

@@ -49,14 +49,20 @@ pub(crate) enum WideSubtable<'a> {
 
 impl<'a> WideSubtable<'a> {
     /// The subtable of a format, if it fits. No end of a range is read. Error: CmapShape.
-    pub(crate) fn open(table: &'a [u8], format: Readable, at: usize) -> Result<WideSubtable<'a>, Fault>
+    pub(crate) fn open(
+        table: &'a [u8],
+        format: Readable,
+        at: usize,
+    ) -> Result<WideSubtable<'a>, Fault>
         requires size { length table.now ≤ font_limit }
         requires place { at ≤ length table.now }
         ensures exact { Gives wide_view result (wide_subtable_at format table.now at) }
         ensures fault { IfErr result (IsBadWideShape format table.now at) }
     {
         match format {
-            Readable::Listed(format) => Ok(WideSubtable::Listed(GlyphList::open(format, table, at)?)),
+            Readable::Listed(format) => Ok(WideSubtable::Listed(GlyphList::open(
+                format, table, at,
+            )?)),
             Readable::Ranged(format) => {
                 let choice = Choice { format, at };
                 Ok(WideSubtable::Ranged(Subtable::open(table, choice)?))

@@ -91,7 +91,11 @@ impl<'a> Records<'a> {
         }
         let at = u32_at(self.table, 4 + 8 * i + 4).unwrap() as usize;
         match self.readable(at) {
-            Some(format) => Some(WideChoice { format, at, way: way_of(encoding) }),
+            Some(format) => Some(WideChoice {
+                format,
+                at,
+                way: way_of(encoding),
+            }),
             None => None,
         }
     }
@@ -116,7 +120,11 @@ impl<'a> Records<'a> {
         ensures within { IfSome result (λ p. p.at + 2 ≤ length self.now) }
     {
         if let Some(choice) = self.chosen() {
-            return Some(WideChoice { format: Readable::Ranged(choice.format), at: choice.at, way: Way::Plain });
+            return Some(WideChoice {
+                format: Readable::Ranged(choice.format),
+                at: choice.at,
+                way: Way::Plain,
+            });
         }
         if let Some(choice) = self.first_choice(Encoding::Full) {
             return Some(choice);

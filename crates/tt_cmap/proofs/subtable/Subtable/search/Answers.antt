@@ -1,7 +1,7 @@
 use Rattle.std.proofs.Common.{◌<◌, ◌≤◌, sym, arith}
 use Rattle.tt_cmap.specs.Ranges.{subtable_view, range_count, reaches, ends_read}
 use Rattle.tt_cmap.specs.Halves.{reached}
-use Rattle.tt_cmap.proofs.Halves.{found, nothing-found, in-plane}
+use Rattle.tt_cmap.proofs.Halves.{found, nothing-found}
 use Rattle.tt_cmap.proofs.subtable.Subtable.search.Goals as goal
 
 pub returns-then-i-count-clause-exact : goal.returns-then-i-count-clause-exact
