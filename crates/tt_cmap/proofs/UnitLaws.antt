@@ -4,8 +4,8 @@ use Rattle.std.specs.Prelude.{map}
 use Rattle.std.specs.List.{All}
 use Rattle.std.proofs.lemmas.List.Elements.{All-nil, All-cons, All-head, All-tail}
 use Rattle.tt_cmap.specs.declared.units.TextUnit.{TextUnit}
-use Rattle.tt_cmap.specs.Units.{is_selector, plain_unit, selected_unit, waiting_unit, with_selector, waiting_after, then_units, units_after}
-use Rattle.tt_cmap.specs.WideLaws.{UnitsHaveCharacters, PlainTextsStay}
+use Rattle.tt_cmap.specs.Units.{UnitMaker, is_selector, plain_unit, selected_unit, waiting_unit, with_selector, maker_after, new_maker, then_units, units_after}
+use Rattle.tt_cmap.specs.WideLaws.{UnitsHaveCharacters, PlainTextsStay, CharactersAreUnits}
 
 abbrev IsPlain : TextUnit → Type 0
 IsPlain u = is_selector u.character ≡ false
@@ -32,17 +32,21 @@ next-waits : (is : Bool) (c : ℕ) → is_selector c ≡ is → Waits (if is the
 next-waits true c is = tt
 next-waits false c is = is
 
-after-plain : (w : Option ℕ) (cs : List ℕ) → Waits w → All IsPlain (units_after w cs)
+abbrev maker : Option ℕ → UnitMaker
+maker w = record { pairs = true; waiting = w }
+
+after-plain : (w : Option ℕ) (cs : List ℕ) → Waits w → All IsPlain (units_after (maker w) cs)
 after-plain w [] waits = waiting-plain w [] waits (All-nil IsPlain)
 after-plain w (c ∷ cs) waits =
-    step-plain (is_selector c) w c (units_after (waiting_after c) cs) waits
-    (after-plain (waiting_after c) cs (next-waits (is_selector c) c refl))
+    let next : Option ℕ = if is_selector c then None else Some c in
+    step-plain (is_selector c) w c (units_after (maker next) cs) waits
+    (after-plain next cs (next-waits (is_selector c) c refl))
 
 pub have-characters : UnitsHaveCharacters
 have-characters cs = after-plain None cs tt
 
 after-stay : (w : Option ℕ) (cs : List ℕ) → All (λ c. is_selector c ≡ false) cs
-    → units_after w cs ≡ then_units (waiting_unit w) (map plain_unit cs)
+    → units_after (maker w) cs ≡ then_units (waiting_unit w) (map plain_unit cs)
 after-stay w [] plain = refl
 after-stay w (d ∷ cs) plain =
     let first : is_selector d ≡ false = All-head (λ c. is_selector c ≡ false) d cs plain in
@@ -51,3 +55,11 @@ after-stay w (d ∷ cs) plain =
 
 pub plain-texts : PlainTextsStay
 plain-texts cs plain = after-stay None cs plain
+
+each-stays : (w : Option ℕ) (cs : List ℕ) → units_after (record { pairs = false; waiting = w }) cs
+    ≡ then_units (waiting_unit w) (map plain_unit cs)
+each-stays w [] = refl
+each-stays w (d ∷ cs) = ap (then_units (waiting_unit w)) (each-stays (Some d) cs)
+
+pub characters-are-units : CharactersAreUnits
+characters-are-units cs = each-stays None cs

@@ -1,5 +1,5 @@
 -- A character map by either reading, and the glyph of a unit of text. OpenType, "cmap".
-use Rattle.std.specs.Prelude.{ℕ, List, map, Result, Ok}
+use Rattle.std.specs.Prelude.{ℕ, Bool, true, false, List, map, Result, Ok}
 use Rattle.tt_core.specs.declared.collection.Reading.{Reading}
 use Rattle.tt_core.specs.declared.collection.Reading.TheVariants as reading
 use Rattle.tt_core.specs.Faults.{Fault}
@@ -27,10 +27,14 @@ abbrev pub glyph_count : CharacterMap → ℕ
 glyph_count (strict m) = m.glyphs
 glyph_count (wide m) = m.glyphs
 
--- the units of a text: with the strict reading, each character is one
+-- whether selectors belong to characters
+abbrev pub has_pairs : CharacterMap → Bool
+has_pairs (strict m) = false
+has_pairs (wide m) = true
+
+-- the units of a text
 abbrev pub units_by : CharacterMap → List ℕ → List TextUnit
-units_by (strict m) cs = map plain_unit cs
-units_by (wide m) cs = units cs
+units_by m cs = units (has_pairs m) cs
 
 -- the glyph of a character
 abbrev pub glyph_by : CharacterMap → ℕ → ℕ

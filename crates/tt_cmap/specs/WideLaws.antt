@@ -1,5 +1,5 @@
 -- Lemmas about the definitions of the wide reading. OpenType, "cmap: Character to Glyph Index Mapping Table".
-use Rattle.std.specs.Prelude.{◌≡◌, ℕ, ◌<◌, ◌≤◌, Bool, false, List, map, Ok}
+use Rattle.std.specs.Prelude.{◌≡◌, ℕ, ◌<◌, ◌≤◌, Bool, true, false, List, map, Ok}
 use Rattle.std.specs.List.{All}
 use Rattle.tt_core.specs.Directory.{HasNo}
 use Rattle.tt_core.specs.Search.{IsLeast}
@@ -42,10 +42,14 @@ abbrev pub SearchesMissNone : Type 0
 SearchesMissNone = (passes : ℕ → Bool) (n : ℕ) → NeverFallsBack passes n → n ≤ reached n passes → (j : ℕ) → j < n
     → passes j ≡ false
 
--- no unit's character is a selector
+-- no unit's character is a selector, if selectors belong to characters
 abbrev pub UnitsHaveCharacters : Type 0
-UnitsHaveCharacters = (cs : List ℕ) → All (λ u. is_selector u.character ≡ false) (units cs)
+UnitsHaveCharacters = (cs : List ℕ) → All (λ u. is_selector u.character ≡ false) (units true cs)
 
 -- each character of a text without selectors is a unit without a selector
 abbrev pub PlainTextsStay : Type 0
-PlainTextsStay = (cs : List ℕ) → All (λ c. is_selector c ≡ false) cs → units cs ≡ map plain_unit cs
+PlainTextsStay = (cs : List ℕ) → All (λ c. is_selector c ≡ false) cs → units true cs ≡ map plain_unit cs
+
+-- if selectors are characters like others, each character is a unit
+abbrev pub CharactersAreUnits : Type 0
+CharactersAreUnits = (cs : List ℕ) → units false cs ≡ map plain_unit cs

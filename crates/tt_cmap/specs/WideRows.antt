@@ -20,7 +20,7 @@ glyphs_by table cs = wide_cmap_of table 3 >>= λ m. Ok (map (wide_glyph_of m) cs
 
 -- the glyphs of a text's units
 abbrev text_by : List ℕ → List ℕ → Result (List ℕ) Fault
-text_by table cs = wide_cmap_of table 3 >>= λ m. Ok (map (wide_glyph_of_unit m) (units cs))
+text_by table cs = wide_cmap_of table 3 >>= λ m. Ok (map (wide_glyph_of_unit m) (units true cs))
 
 -- format 6 for platform 3, encoding 1
 abbrev trimmed_letters_table : List ℕ

@@ -1,14 +1,14 @@
 //! Lemmas about the definitions, for all tables. No code runs.
 
 ghost use Rattle.tt_cmap.specs.Laws.{CmapsAreWhole, FullTextsLackNothing};
-ghost use Rattle.tt_cmap.specs.WideLaws.{WideCmapsAreWhole, WideExtendsStrict, SearchesEnd, SearchesFindTheLeast, SearchesMissNone, UnitsHaveCharacters, PlainTextsStay};
+ghost use Rattle.tt_cmap.specs.WideLaws.{WideCmapsAreWhole, WideExtendsStrict, SearchesEnd, SearchesFindTheLeast, SearchesMissNone, UnitsHaveCharacters, PlainTextsStay, CharactersAreUnits};
 
 /// Lemma: if the definition gives a character map, then cmap has no defect.
 pub fn cmaps_are_whole()
     ensures { CmapsAreWhole }
 {}
 
-/// Lemma: the list of a text's characters without glyphs is empty if and only if all its characters have glyphs.
+/// Lemma: the list of a text's characters without glyphs is empty if and only if all its units have glyphs.
 pub fn full_texts_lack_nothing()
     ensures { FullTextsLackNothing }
 {}
@@ -28,8 +28,10 @@ pub fn searches_end()
     ensures none { SearchesMissNone }
 {}
 
-/// Lemma: no unit's character is a selector. In a text without selectors each character is a unit.
+/// Lemma: if selectors belong to characters, no unit's character is a selector, and in a text without selectors each
+/// character is a unit. Else each character is a unit in every text.
 pub fn units_have_characters()
     ensures characters { UnitsHaveCharacters }
     ensures plain { PlainTextsStay }
+    ensures each { CharactersAreUnits }
 {}

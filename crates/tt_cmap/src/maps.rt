@@ -4,11 +4,12 @@ ghost use Rattle.std.specs.Prelude.{◌≡◌, ◌<◌, ◌≤◌, length, IfOk,
 ghost use Rattle.tt_core.specs.Directory.{HasNo};
 ghost use Rattle.tt_core.specs.Limits.{font_limit};
 ghost use Rattle.tt_core.specs.Outcomes.{Gives};
-ghost use Rattle.tt_cmap.specs.Maps.{strict, map_by, glyph_count, glyph_by, glyph_of_unit, IsBadMap};
+ghost use Rattle.tt_cmap.specs.Units.{new_maker};
+ghost use Rattle.tt_cmap.specs.Maps.{strict, map_by, glyph_count, has_pairs, glyph_by, glyph_of_unit, IsBadMap};
 
 use crate::lookup::Cmap;
 use crate::lookup::wide::WideCmap;
-use crate::units::TextUnit;
+use crate::units::{TextUnit, UnitMaker};
 use std::marker::Model;
 use tt_core::{Fault, Reading};
 
@@ -61,6 +62,16 @@ impl<'a> CharacterMap<'a> {
     {
         CharacterMap {
             map: Map::Strict(map),
+        }
+    }
+
+    /// What makes the units of a text: with the strict reading, each character is a unit.
+    pub fn unit_maker(&self) -> UnitMaker
+        ensures { result ≡ new_maker (has_pairs self.now) }
+    {
+        match &self.map {
+            Map::Strict(_) => UnitMaker::new(false),
+            Map::Wide(_) => UnitMaker::new(true),
         }
     }
 

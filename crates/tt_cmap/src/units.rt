@@ -1,7 +1,7 @@
 //! The units of a text. Unicode, "Variation Selectors".
 
-ghost use Rattle.std.specs.Prelude.{◌≡◌, None};
-ghost use Rattle.tt_cmap.specs.Units.{is_selector, waiting_unit, followed, waiting_after};
+ghost use Rattle.std.specs.Prelude.{◌≡◌};
+ghost use Rattle.tt_cmap.specs.Units.{is_selector, waiting_unit, followed, maker_after, new_maker};
 
 use std::marker::Model;
 
@@ -19,33 +19,39 @@ fn is_selector(c: char) -> bool
     ('\u{FE00}'..='\u{FE0F}').contains(&c) || ('\u{E0100}'..='\u{E01EF}').contains(&c)
 }
 
-/// Makes the units of a text whose characters come one by one. Clauses see the character that waits for a selector.
+/// Makes the units of a text whose characters come one by one. Clauses see whether selectors belong to characters, and the
+/// character that waits for one.
 #[derive(Drop)]
-pub struct Pairing {
+pub struct UnitMaker {
+    pairs: bool,
     waiting: Option<char>,
 }
 
-impl Model for Pairing {
-    ghost use Rattle.std.specs.Prelude.{ℕ, Option};
+impl Model for UnitMaker {
+    ghost use Rattle.tt_cmap.specs.Units as units;
 
-    ghost Value = { Option ℕ };
+    ghost Value = { units.UnitMaker };
 
-    ghost view = { λ p. p.waiting };
+    ghost view = { λ m. record { pairs = m.pairs; waiting = m.waiting } };
 }
 
-impl Pairing {
-    pub fn new() -> Self
-        ensures { result ≡ None }
+impl UnitMaker {
+    /// At the start of a text. Without `pairs` each character is a unit.
+    pub(crate) fn new(pairs: bool) -> Self
+        ensures { result ≡ new_maker pairs }
     {
-        Pairing { waiting: None }
+        UnitMaker {
+            pairs,
+            waiting: None,
+        }
     }
 
     /// The unit that is complete when this character follows, if one is.
     pub fn follow(&mut self, c: char) -> Option<TextUnit>
         ensures unit { result ≡ followed self.old c }
-        ensures waiting { self.new ≡ waiting_after c }
+        ensures after { self.new ≡ maker_after self.old c }
     {
-        if is_selector(c) {
+        if self.pairs && is_selector(c) {
             let character = self.waiting.take()?;
             return Some(TextUnit {
                 character,
@@ -61,7 +67,7 @@ impl Pairing {
 
     /// The last unit, at the end of the text, if one is left.
     pub fn end(self) -> Option<TextUnit>
-        ensures { result ≡ waiting_unit self }
+        ensures { result ≡ waiting_unit self.waiting }
     {
         let character = self.waiting?;
         Some(TextUnit {
