@@ -1,5 +1,6 @@
 pub mod Firsts
 pub mod Halves
+pub mod PlainUnits
 mod RomanTable
 mod UnitLaws
 pub mod WideWhole

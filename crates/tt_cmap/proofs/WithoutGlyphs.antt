@@ -10,26 +10,26 @@ use Rattle.tt_cmap.specs.Laws.{FullTextsLackNothing}
 use Rattle.tt_cmap.specs.declared.units.TextUnit.{TextUnit}
 use Rattle.tt_cmap.specs.Lookup.{glyph_of}
 use Rattle.tt_cmap.specs.Maps.{CharacterMap, strict, wide, has_pairs, units_by, glyph_by, glyph_of_unit}
-use Rattle.tt_cmap.specs.Units.{UnitMaker, selects, plain_unit, selected_unit, waiting_unit, with_selector, followed, maker_after, then_units, units_after, new_maker}
+use Rattle.tt_cmap.specs.Units.{UnitMaker, character_of, selects, plain_unit, selected_unit, waiting_unit, with_selector, followed, maker_after, then_units, units_after, new_maker}
 use Rattle.tt_cmap.specs.WideLookup.{WideCmap, variation_in, wide_glyph_by, wide_glyph_of}
 use Rattle.tt_cmap.specs.Lacking.{is_among, with_character, distinct_after, distinct, lacks, lacking_of, with_unit, AllHaveGlyphs}
 
 -- one more unit
 unit-first : (m : CharacterMap) (is : Bool) (before : List ℕ) (u : TextUnit) (us : List TextUnit) → lacks m u ≡ is
-    → distinct_after before (map (λ u. u.character) (filter (lacks m) (u ∷ us)))
-    ≡ distinct_after (if is then with_character before u.character else before) (map (λ u. u.character) (filter (lacks m) us))
+    → distinct_after before (map character_of (filter (lacks m) (u ∷ us)))
+    ≡ distinct_after (if is then with_character before u.character else before) (map character_of (filter (lacks m) us))
 unit-first m true before u us is = rw is refl
 unit-first m false before u us is = rw is refl
 
 unit-then : (m : CharacterMap) (before : List ℕ) (o : Option TextUnit) (us : List TextUnit)
-    → distinct_after before (map (λ u. u.character) (filter (lacks m) (then_units o us)))
-    ≡ distinct_after (with_unit m before o) (map (λ u. u.character) (filter (lacks m) us))
+    → distinct_after before (map character_of (filter (lacks m) (then_units o us)))
+    ≡ distinct_after (with_unit m before o) (map character_of (filter (lacks m) us))
 unit-then m before None us = refl
 unit-then m before (Some u) us = unit-first m (lacks m u) before u us refl
 
 -- the list for a text whose rest is still to come, and whose units so far gave `before`
 unfoldable pub lacking_after : CharacterMap → List ℕ → UnitMaker → List ℕ → List ℕ
-lacking_after m before maker cs = distinct_after before (map (λ u. u.character) (filter (lacks m) (units_after maker cs)))
+lacking_after m before maker cs = distinct_after before (map character_of (filter (lacks m) (units_after maker cs)))
 
 pub one-more : (m : CharacterMap) (before : List ℕ) (maker : UnitMaker) (c : ℕ) (cs : List ℕ)
     → lacking_after m before maker (c ∷ cs)
@@ -86,8 +86,8 @@ lacking_missing m cs =
     let passed : All (λ u. lacks m u ≡ true) us = filter_passes (lacks m) (units_by m cs) in
     let zero : All (λ u. glyph_by m u.character ≡ 0) us =
     All-weaker (λ u. lacks m u ≡ true) (λ u. glyph_by m u.character ≡ 0) (own-missing m) us passed in
-    after-all (λ c. glyph_by m c ≡ 0) [] (map (λ u. u.character) us) (All-nil (λ c. glyph_by m c ≡ 0))
-    (All-map (λ c. glyph_by m c ≡ 0) (λ u. u.character) us zero)
+    after-all (λ c. glyph_by m c ≡ 0) [] (map character_of us) (All-nil (λ c. glyph_by m c ≡ 0))
+    (All-map (λ c. glyph_by m c ≡ 0) character_of us zero)
 
 -- a statement about all characters of a text holds for its units' characters
 abbrev Waiting : (ℕ → Type 0) → Option ℕ → Type 0
@@ -127,8 +127,8 @@ lacking_stand m cs =
     let us = units_by m cs in
     let stand : All (λ u. Contains cs u.character) us =
     units-all (Contains cs) (new_maker (has_pairs m)) cs tt (All-contains_itself cs) in
-    after-all (Contains cs) [] (map (λ u. u.character) (filter (lacks m) us)) (All-nil (Contains cs))
-    (All-map (Contains cs) (λ u. u.character) (filter (lacks m) us)
+    after-all (Contains cs) [] (map character_of (filter (lacks m) us)) (All-nil (Contains cs))
+    (All-map (Contains cs) character_of (filter (lacks m) us)
     (All-filter (lacks m) (λ u. Contains cs u.character) us stand))
 
 neither : (a b : Bool) → (a || b) ≡ false → (a ≡ false) × (b ≡ false)
@@ -172,7 +172,7 @@ none-differ = λ i j d below within. absurd (omega arith)
 
 pub lacking_once : (m : CharacterMap) (cs : List ℕ) → AllPairs (λ c d. c ≢ d) (lacking_of m cs)
 unfolding lacking_of
-lacking_once m cs = after-differ [] (map (λ u. u.character) (filter (lacks m) (units_by m cs))) none-differ
+lacking_once m cs = after-differ [] (map character_of (filter (lacks m) (units_by m cs))) none-differ
 
 -- each character of a list is among its distinct characters
 with-keeps : (there : Bool) (before : List ℕ) (c d : ℕ) → is_among c before ≡ there → Contains before d
@@ -200,18 +200,18 @@ after-every before (c ∷ cs) =
 
 -- each unit without a glyph gives its character
 given-first : (p : TextUnit → Bool) (u : TextUnit) (us : List TextUnit) → p u ≡ true
-    → Contains (map (λ u. u.character) (filter p (u ∷ us))) u.character
+    → Contains (map character_of (filter p (u ∷ us))) u.character
 given-first p u us is =
-    rw is (Contains-append_left (u.character ∷ []) (map (λ u. u.character) (filter p us)) u.character (Contains-push [] u.character))
+    rw is (Contains-append_left (u.character ∷ []) (map character_of (filter p us)) u.character (Contains-push [] u.character))
 
 given-after : (p : TextUnit → Bool) (by : Bool) (u : TextUnit) (d : ℕ) (us : List TextUnit) → p u ≡ by
-    → Contains (map (λ u. u.character) (filter p us)) d → Contains (map (λ u. u.character) (filter p (u ∷ us))) d
+    → Contains (map character_of (filter p us)) d → Contains (map character_of (filter p (u ∷ us))) d
 given-after p true u d us is stands =
-    rw is (Contains-append_right (u.character ∷ []) (map (λ u. u.character) (filter p us)) d stands)
+    rw is (Contains-append_right (u.character ∷ []) (map character_of (filter p us)) d stands)
 given-after p false u d us is stands = rw is stands
 
 abbrev IsGiven : (TextUnit → Bool) → List TextUnit → TextUnit → Type 0
-IsGiven p us v = p v ≡ true → Contains (map (λ u. u.character) (filter p us)) v.character
+IsGiven p us v = p v ≡ true → Contains (map character_of (filter p us)) v.character
 
 all-given : (p : TextUnit → Bool) (us : List TextUnit) → All (IsGiven p us) us
 all-given p [] = All-nil (IsGiven p [])
@@ -225,7 +225,7 @@ pub lacking_every : (m : CharacterMap) (cs : List ℕ) (u : TextUnit) → Contai
 unfolding lacking_of
 lacking_every m cs u stands missing =
     let is : lacks m u ≡ true = rw missing refl in
-    let given = map (λ u. u.character) (filter (lacks m) (units_by m cs)) in
+    let given = map character_of (filter (lacks m) (units_by m cs)) in
     All-contains (Contains (distinct given)) given u.character (after-every [] given)
     (All-contains (IsGiven (lacks m) (units_by m cs)) (units_by m cs) u (all-given (lacks m) (units_by m cs)) stands is)
 

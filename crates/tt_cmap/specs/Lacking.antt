@@ -3,6 +3,7 @@ use Rattle.std.specs.Prelude.{◌≡◌, refl, ◌<◌, ℕ, Bool, ◌==◌, if�
 use Rattle.std.specs.List.{All, filter, list_any}
 use Rattle.tt_cmap.specs.declared.units.TextUnit.{TextUnit}
 use Rattle.tt_cmap.specs.Lookup.{by_segments, by_groups}
+use Rattle.tt_cmap.specs.Units.{character_of}
 use Rattle.tt_cmap.specs.Maps.{CharacterMap, strict, units_by, glyph_of_unit}
 
 -- whether a character is in a list
@@ -27,7 +28,7 @@ lacks m u = glyph_of_unit m u == 0
 
 -- the distinct characters of a text's units without a glyph, in order of first appearance
 unfoldable pub lacking_of : CharacterMap → List ℕ → List ℕ
-lacking_of m cs = distinct (map (λ u. u.character) (filter (lacks m) (units_by m cs)))
+lacking_of m cs = distinct (map character_of (filter (lacks m) (units_by m cs)))
 
 -- a list of distinct characters with that of a unit, if the unit has no glyph
 abbrev pub with_unit : CharacterMap → List ℕ → Option TextUnit → List ℕ

@@ -7,6 +7,9 @@ use Rattle.tt_cmap.specs.declared.units.TextUnit.{TextUnit}
 abbrev pub is_selector : ℕ → Bool
 is_selector c = (nat_le 0xFE00 c && nat_le c 0xFE0F) || (nat_le 0xE0100 c && nat_le c 0xE01EF)
 
+abbrev pub character_of : TextUnit → ℕ
+character_of u = u.character
+
 abbrev pub plain_unit : ℕ → TextUnit
 plain_unit c = record { character = c; selector = None }
 

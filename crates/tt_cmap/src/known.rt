@@ -75,9 +75,9 @@ impl<'c, 'a> KnownGlyphs<'c, 'a> {
         ensures bound { result < glyph_count self.old }
         ensures same { self.new ≡ self.old }
     {
-        if unit.selector.is_some() {
-            return self.cmap.glyph_of_unit(unit);
+        match unit.selector {
+            Some(_) => self.cmap.glyph_of_unit(unit),
+            None => self.glyph(unit.character),
         }
-        self.glyph(unit.character)
     }
 }

@@ -53,8 +53,11 @@ impl<'a> Face<'a> {
         let dir = Dir::open(file)?;
         let metrics = Metrics::open(&dir)?;
         let cmap = Cmap::open(dir.needed(*b"cmap")?, metrics.glyphs())?;
-        let cmap = CharacterMap::strict(cmap);
-        Ok(Face { dir, metrics, cmap })
+        Ok(Face {
+            dir,
+            metrics,
+            cmap: CharacterMap::strict(cmap),
+        })
     }
 
     /// Opens the tables of the face that a reading asks for, in a file of at most 67,108,864 bytes. Errors: those of the
