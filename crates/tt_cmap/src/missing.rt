@@ -32,7 +32,11 @@ pub fn lacking(alloc: Global, cmap: &CharacterMap, text: &str) -> Result<Vec<cha
 }
 
 /// Lists a unit's character, unless the unit has a glyph or the character is listed already. Error: memory ran out.
-fn list_missing(listed: &mut Vec<char>, known: &mut KnownGlyphs, unit: Option<TextUnit>) -> Result<(), AllocError>
+fn list_missing(
+    listed: &mut Vec<char>,
+    known: &mut KnownGlyphs,
+    unit: Option<TextUnit>,
+) -> Result<(), AllocError>
     ensures exact { OnOk result (listed.new.items ≡ with_unit known.old listed.old.items unit) }
     ensures same { known.new ≡ known.old }
 {
