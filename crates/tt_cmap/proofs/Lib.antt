@@ -1,3 +1,8 @@
+pub mod Firsts
 pub mod Halves
+pub mod PlainUnits
+mod RomanTable
+mod UnitLaws
+pub mod WideWhole
 pub mod Whole
 pub mod WithoutGlyphs

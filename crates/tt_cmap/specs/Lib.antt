@@ -5,6 +5,17 @@ pub mod Glyphs
 pub mod Halves
 pub mod Lacking
 pub mod Laws
+pub mod Lists
 pub mod Lookup
+pub mod Maps
 pub mod Ranges
+pub mod Roman
 pub mod Subtables
+pub mod Units
+pub mod Variations
+pub mod WideChoice
+pub mod WideDefects
+pub mod WideLaws
+pub mod WideLookup
+pub mod WideRows
+pub mod WideSubtables
