@@ -2,7 +2,7 @@ pub mod Firsts
 pub mod Halves
 pub mod PlainUnits
 mod RomanTable
-mod UnitLaws
+pub mod UnitLaws
 pub mod WideWhole
 pub mod Whole
 pub mod WithoutGlyphs

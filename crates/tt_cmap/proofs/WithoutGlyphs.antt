@@ -1,6 +1,6 @@
 -- The distinct characters without a glyph: the effect of one more unit, and statements about all listed characters.
 use Rattle.std.proofs.Common.{◌≡◌, ◌≢◌, inl, inr, refl, ◌∙◌, ℕ, ◌<◌, Bool, true, false, ◌||◌, ◌==◌, List, [], ◌∷◌, ◌++◌, Option, Some, None, if◌then◌else◌, arith}
-use Rattle.std.specs.Prelude.{map}
+use Rattle.std.specs.Prelude.{map, ◌&&◌}
 use Rattle.std.specs.List.{All, AllPairs, Contains, filter}
 use Rattle.std.proofs.lemmas.Bool.{cases_eq}
 use Rattle.std.proofs.lemmas.Bool.Decides.{nat_tests}
@@ -10,7 +10,7 @@ use Rattle.tt_cmap.specs.Laws.{FullTextsLackNothing}
 use Rattle.tt_cmap.specs.declared.units.TextUnit.{TextUnit}
 use Rattle.tt_cmap.specs.Lookup.{glyph_of}
 use Rattle.tt_cmap.specs.Maps.{CharacterMap, strict, wide, has_pairs, units_by, glyph_by, glyph_of_unit}
-use Rattle.tt_cmap.specs.Units.{UnitMaker, character_of, selects, plain_unit, selected_unit, waiting_unit, with_selector, followed, maker_after, then_units, units_after, new_maker}
+use Rattle.tt_cmap.specs.Units.{character_of, is_selector, unit_before, units}
 use Rattle.tt_cmap.specs.WideLookup.{WideCmap, variation_in, wide_glyph_by, wide_glyph_of}
 use Rattle.tt_cmap.specs.Lacking.{is_among, with_character, distinct_after, distinct, lacks, lacking_of, with_unit, AllHaveGlyphs}
 
@@ -21,30 +21,13 @@ unit-first : (m : CharacterMap) (is : Bool) (before : List ℕ) (u : TextUnit) (
 unit-first m true before u us is = rw is refl
 unit-first m false before u us is = rw is refl
 
-unit-then : (m : CharacterMap) (before : List ℕ) (o : Option TextUnit) (us : List TextUnit)
-    → distinct_after before (map character_of (filter (lacks m) (then_units o us)))
-    ≡ distinct_after (with_unit m before o) (map character_of (filter (lacks m) us))
-unit-then m before None us = refl
-unit-then m before (Some u) us = unit-first m (lacks m u) before u us refl
+-- the list for the units that are left, after those so far gave `before`
+abbrev pub lacking_after : CharacterMap → List ℕ → List TextUnit → List ℕ
+lacking_after m before us = distinct_after before (map character_of (filter (lacks m) us))
 
--- the list for a text whose rest is still to come, and whose units so far gave `before`
-unfoldable pub lacking_after : CharacterMap → List ℕ → UnitMaker → List ℕ → List ℕ
-lacking_after m before maker cs = distinct_after before (map character_of (filter (lacks m) (units_after maker cs)))
-
-pub one-more : (m : CharacterMap) (before : List ℕ) (maker : UnitMaker) (c : ℕ) (cs : List ℕ)
-    → lacking_after m before maker (c ∷ cs)
-    ≡ lacking_after m (with_unit m before (followed maker c)) (maker_after maker c) cs
-unfolding lacking_after
-one-more m before maker c cs = unit-then m before (followed maker c) (units_after (maker_after maker c) cs)
-
-pub last-one : (m : CharacterMap) (before : List ℕ) (maker : UnitMaker)
-    → lacking_after m before maker [] ≡ with_unit m before (waiting_unit maker.waiting)
-unfolding lacking_after
-last-one m before maker = unit-then m before (waiting_unit maker.waiting) []
-
-pub at-first : (m : CharacterMap) (cs : List ℕ) → lacking_after m [] (new_maker (has_pairs m)) cs ≡ lacking_of m cs
-unfolding lacking_after lacking_of
-at-first m cs = refl
+pub one-more : (m : CharacterMap) (before : List ℕ) (u : TextUnit) (us : List TextUnit)
+    → lacking_after m before (u ∷ us) ≡ lacking_after m (with_unit m before u) us
+one-more m before u us = unit-first m (lacks m u) before u us refl
 
 -- a statement about all characters of a list holds for its distinct characters
 with-all : (P : ℕ → Type 0) (there : Bool) (before : List ℕ) (c : ℕ) → is_among c before ≡ there → All P before → P c
@@ -90,43 +73,23 @@ lacking_missing m cs =
     (All-map (λ c. glyph_by m c ≡ 0) character_of us zero)
 
 -- a statement about all characters of a text holds for its units' characters
-abbrev Waiting : (ℕ → Type 0) → Option ℕ → Type 0
-Waiting P None = Unit {0}
-Waiting P (Some c) = P c
+one-all : (P : ℕ → Type 0) (is : Bool) (u : TextUnit) (us : List TextUnit) → P u.character → All (λ u. P u.character) us
+    → All (λ u. P u.character) (if is then us else u ∷ us)
+one-all P true u us one all = all
+one-all P false u us one all = All-cons (λ u. P u.character) u us one all
 
-plain-all : (P : ℕ → Type 0) (w : Option ℕ) (us : List TextUnit) → Waiting P w → All (λ u. P u.character) us
-    → All (λ u. P u.character) (then_units (waiting_unit w) us)
-plain-all P None us waits all = all
-plain-all P (Some c) us waits all = All-cons (λ u. P u.character) (plain_unit c) us waits all
-
-selected-all : (P : ℕ → Type 0) (w : Option ℕ) (v : ℕ) (us : List TextUnit) → Waiting P w → All (λ u. P u.character) us
-    → All (λ u. P u.character) (then_units (with_selector w v) us)
-selected-all P None v us waits all = all
-selected-all P (Some c) v us waits all = All-cons (λ u. P u.character) (selected_unit c v) us waits all
-
-followed-all : (P : ℕ → Type 0) (is : Bool) (w : Option ℕ) (c : ℕ) (us : List TextUnit) → Waiting P w
-    → All (λ u. P u.character) us
-    → All (λ u. P u.character) (then_units (if is then with_selector w c else waiting_unit w) us)
-followed-all P true w c us waits all = selected-all P w c us waits all
-followed-all P false w c us waits all = plain-all P w us waits all
-
-next-waits : (P : ℕ → Type 0) (is : Bool) (c : ℕ) → P c → Waiting P (if is then None else Some c)
-next-waits P true c holds = tt
-next-waits P false c holds = holds
-
-units-all : (P : ℕ → Type 0) (maker : UnitMaker) (cs : List ℕ) → Waiting P maker.waiting → All P cs
-    → All (λ u. P u.character) (units_after maker cs)
-units-all P maker [] waits all = plain-all P maker.waiting [] waits (All-nil (λ u. P u.character))
-units-all P maker (c ∷ cs) waits all =
-    followed-all P (selects maker c) maker.waiting c (units_after (maker_after maker c) cs) waits
-    (units-all P (maker_after maker c) cs (next-waits P (selects maker c) c (All-head P c cs all)) (All-tail P c cs all))
+units-all : (P : ℕ → Type 0) (pairs : Bool) (cs : List ℕ) → All P cs → All (λ u. P u.character) (units pairs cs)
+units-all P pairs [] all = All-nil (λ u. P u.character)
+units-all P pairs (c ∷ cs) all =
+    one-all P (pairs && is_selector c) (unit_before pairs c cs) (units pairs cs) (All-head P c cs all)
+    (units-all P pairs cs (All-tail P c cs all))
 
 pub lacking_stand : (m : CharacterMap) (cs : List ℕ) → All (Contains cs) (lacking_of m cs)
 unfolding lacking_of
 lacking_stand m cs =
     let us = units_by m cs in
     let stand : All (λ u. Contains cs u.character) us =
-    units-all (Contains cs) (new_maker (has_pairs m)) cs tt (All-contains_itself cs) in
+    units-all (Contains cs) (has_pairs m) cs (All-contains_itself cs) in
     after-all (Contains cs) [] (map character_of (filter (lacks m) us)) (All-nil (Contains cs))
     (All-map (Contains cs) character_of (filter (lacks m) us)
     (All-filter (lacks m) (λ u. Contains cs u.character) us stand))

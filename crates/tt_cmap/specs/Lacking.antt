@@ -1,5 +1,5 @@
 -- Not from the standard: the characters of a text without a glyph in a font (profile).
-use Rattle.std.specs.Prelude.{◌≡◌, refl, ◌<◌, ℕ, Bool, ◌==◌, if◌then◌else◌, List, [], ◌∷◌, ◌++◌, map, Option, Some, None}
+use Rattle.std.specs.Prelude.{◌≡◌, refl, ◌<◌, ℕ, Bool, ◌==◌, if◌then◌else◌, List, [], ◌∷◌, ◌++◌, map}
 use Rattle.std.specs.List.{All, filter, list_any}
 use Rattle.tt_cmap.specs.declared.units.TextUnit.{TextUnit}
 use Rattle.tt_cmap.specs.Lookup.{by_segments, by_groups}
@@ -31,9 +31,8 @@ unfoldable pub lacking_of : CharacterMap → List ℕ → List ℕ
 lacking_of m cs = distinct (map character_of (filter (lacks m) (units_by m cs)))
 
 -- a list of distinct characters with that of a unit, if the unit has no glyph
-abbrev pub with_unit : CharacterMap → List ℕ → Option TextUnit → List ℕ
-with_unit m before None = before
-with_unit m before (Some u) = if lacks m u then with_character before u.character else before
+abbrev pub with_unit : CharacterMap → List ℕ → TextUnit → List ℕ
+with_unit m before u = if lacks m u then with_character before u.character else before
 
 -- all units have a glyph
 abbrev pub AllHaveGlyphs : CharacterMap → List ℕ → Type 0

@@ -16,54 +16,27 @@ plain_unit c = record { character = c; selector = None }
 abbrev pub selected_unit : ℕ → ℕ → TextUnit
 selected_unit c v = record { character = c; selector = Some v }
 
--- the character that waits for a selector, as a unit with one or without
-abbrev pub waiting_unit : Option ℕ → Option TextUnit
-waiting_unit None = None
-waiting_unit (Some c) = Some (plain_unit c)
+-- the selector at the start of a text
+abbrev pub first_selector : List ℕ → Option ℕ
+first_selector [] = None
+first_selector (v ∷ cs) = if is_selector v then Some v else None
 
-abbrev pub with_selector : Option ℕ → ℕ → Option TextUnit
-with_selector None v = None
-with_selector (Some c) v = Some (selected_unit c v)
+-- the selector that follows a character, by the text after that; without pairs, selectors are characters like others
+abbrev pub selector_before : Bool → List ℕ → Option ℕ
+selector_before false cs = None
+selector_before true cs = first_selector cs
 
--- what makes the units of a text whose characters come one by one: whether selectors belong to characters, and the
--- character that waits for one
-pub record UnitMaker : Type 0 where
-  pub pairs : Bool
-  pub waiting : Option ℕ
-
-abbrev pub selects : UnitMaker → ℕ → Bool
-selects m c = m.pairs && is_selector c
-
--- the unit that is complete when a character follows
-abbrev pub followed : UnitMaker → ℕ → Option TextUnit
-followed m c = if selects m c then with_selector m.waiting c else waiting_unit m.waiting
-
--- the character that waits after that
-abbrev pub waiting_after : UnitMaker → ℕ → Option ℕ
-waiting_after m c = if selects m c then None else Some c
-
-abbrev pub maker_after : UnitMaker → ℕ → UnitMaker
-maker_after m c = record { pairs = m.pairs; waiting = waiting_after m c }
-
-abbrev pub then_units : Option TextUnit → List TextUnit → List TextUnit
-then_units None us = us
-then_units (Some u) us = u ∷ us
-
--- the units of the rest of a text
-abbrev pub units_after : UnitMaker → List ℕ → List TextUnit
-units_after m [] = then_units (waiting_unit m.waiting) []
-units_after m (c ∷ cs) = then_units (followed m c) (units_after (maker_after m c) cs)
-
-abbrev pub new_maker : Bool → UnitMaker
-new_maker pairs = record { pairs = pairs; waiting = None }
+abbrev pub unit_before : Bool → ℕ → List ℕ → TextUnit
+unit_before pairs c cs = record { character = c; selector = selector_before pairs cs }
 
 -- the units of a text
 abbrev pub units : Bool → List ℕ → List TextUnit
-units pairs cs = units_after (new_maker pairs) cs
+units pairs [] = []
+units pairs (c ∷ cs) = if pairs && is_selector c then units pairs cs else unit_before pairs c cs ∷ units pairs cs
 
 -- worked values: A, B, and the selectors FE00, FE01 and E0100
-pairs : units true (65 ∷ 0xFE00 ∷ 66 ∷ 0xE0100 ∷ []) ≡ selected_unit 65 0xFE00 ∷ selected_unit 66 0xE0100 ∷ []
-pairs = refl
+with_their_selectors : units true (65 ∷ 0xFE00 ∷ 66 ∷ 0xE0100 ∷ []) ≡ selected_unit 65 0xFE00 ∷ selected_unit 66 0xE0100 ∷ []
+with_their_selectors = refl
 
 passed_over : units true (0xFE00 ∷ 65 ∷ 0xFE01 ∷ 0xFE01 ∷ 66 ∷ []) ≡ selected_unit 65 0xFE01 ∷ plain_unit 66 ∷ []
 passed_over = refl

@@ -1,5 +1,5 @@
 -- Lemmas about the definitions of the wide reading. OpenType, "cmap: Character to Glyph Index Mapping Table".
-use Rattle.std.specs.Prelude.{◌≡◌, ℕ, ◌<◌, ◌≤◌, Bool, true, false, List, map, Ok}
+use Rattle.std.specs.Prelude.{◌≡◌, ℕ, ◌<◌, ◌≤◌, Bool, true, false, List, length, map, Ok}
 use Rattle.std.specs.List.{All}
 use Rattle.tt_core.specs.Directory.{HasNo}
 use Rattle.tt_core.specs.Search.{IsLeast}
@@ -53,3 +53,7 @@ PlainTextsStay = (cs : List ℕ) → All (λ c. is_selector c ≡ false) cs → 
 -- if selectors are characters like others, each character is a unit
 abbrev pub CharactersAreUnits : Type 0
 CharactersAreUnits = (cs : List ℕ) → units false cs ≡ map plain_unit cs
+
+-- a text has at most as many units as characters
+abbrev pub UnitsAreFew : Type 0
+UnitsAreFew = (pairs : Bool) (cs : List ℕ) → length (units pairs cs) ≤ length cs

@@ -1,7 +1,7 @@
 //! Lemmas about the definitions, for all tables. No code runs.
 
 ghost use Rattle.tt_cmap.specs.Laws.{CmapsAreWhole, FullTextsLackNothing};
-ghost use Rattle.tt_cmap.specs.WideLaws.{WideCmapsAreWhole, WideExtendsStrict, SearchesEnd, SearchesFindTheLeast, SearchesMissNone, UnitsHaveCharacters, PlainTextsStay, CharactersAreUnits};
+ghost use Rattle.tt_cmap.specs.WideLaws.{WideCmapsAreWhole, WideExtendsStrict, SearchesEnd, SearchesFindTheLeast, SearchesMissNone, UnitsHaveCharacters, PlainTextsStay, CharactersAreUnits, UnitsAreFew};
 
 /// Lemma: if the definition gives a character map, then cmap has no defect.
 pub fn cmaps_are_whole()
@@ -29,9 +29,10 @@ pub fn searches_end()
 {}
 
 /// Lemma: if selectors belong to characters, no unit's character is a selector, and in a text without selectors each
-/// character is a unit. Else each character is a unit in every text.
+/// character is a unit. Else each character is a unit in every text. A text has at most as many units as characters.
 pub fn units_have_characters()
     ensures characters { UnitsHaveCharacters }
     ensures plain { PlainTextsStay }
     ensures each { CharactersAreUnits }
+    ensures few { UnitsAreFew }
 {}

@@ -26,4 +26,4 @@ pub use lookup::wide::WideCmap;
 pub use lookup::{Cmap, Lookup};
 pub use maps::CharacterMap;
 pub use missing::lacking;
-pub use units::{TextUnit, UnitMaker};
+pub use units::{TextUnit, TextUnits};

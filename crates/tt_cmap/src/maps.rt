@@ -1,15 +1,15 @@
 //! A character map by either reading.
 
-ghost use Rattle.std.specs.Prelude.{◌≡◌, ◌<◌, ◌≤◌, length, IfOk, IfErr, OnOk};
+ghost use Rattle.std.specs.Prelude.{◌≡◌, ◌<◌, ◌≤◌, chars, length, IfOk, IfErr, OnOk};
 ghost use Rattle.tt_core.specs.Directory.{HasNo};
 ghost use Rattle.tt_core.specs.Limits.{font_limit};
 ghost use Rattle.tt_core.specs.Outcomes.{Gives};
-ghost use Rattle.tt_cmap.specs.Units.{new_maker};
-ghost use Rattle.tt_cmap.specs.Maps.{strict, map_by, glyph_count, has_pairs, glyph_by, glyph_of_unit, IsBadMap};
+ghost use Rattle.tt_cmap.specs.Maps.{strict, map_by, glyph_count, glyph_by, glyph_of_unit, units_by, IsBadMap};
+ghost use Rattle.tt_cmap.specs.Texts.{units_left};
 
 use crate::lookup::Cmap;
 use crate::lookup::wide::WideCmap;
-use crate::units::{TextUnit, UnitMaker};
+use crate::units::{TextUnit, TextUnits};
 use std::marker::Model;
 use tt_core::{Fault, Reading};
 
@@ -65,14 +65,15 @@ impl<'a> CharacterMap<'a> {
         }
     }
 
-    /// What makes the units of a text: with the strict reading, each character is a unit.
-    pub fn unit_maker(&self) -> UnitMaker
-        ensures { result ≡ new_maker (has_pairs self.now) }
+    /// The units of a text. With the strict reading each character is a unit.
+    pub fn units<'t>(&self, text: &'t str) -> TextUnits<'t>
+        ensures { units_left result ≡ units_by self.now (chars text.now) }
     {
-        match &self.map {
-            Map::Strict(_) => UnitMaker::new(false),
-            Map::Wide(_) => UnitMaker::new(true),
-        }
+        let pairs = match &self.map {
+            Map::Strict(_) => false,
+            Map::Wide(_) => true,
+        };
+        TextUnits { pairs, text }
     }
 
     /// The glyph of a character. It is 0 if the map has no glyph, or gives one that the font lacks (profile).

@@ -23,11 +23,9 @@ pub fn lacking(alloc: Global, cmap: &CharacterMap, text: &str) -> Result<Vec<cha
 {
     let mut listed = Vec::new(alloc);
     let mut known = KnownGlyphs::new(cmap);
-    let mut maker = cmap.unit_maker();
-    for c in text.chars() {
-        list_missing(&mut listed, &mut known, maker.follow(c))?;
+    for unit in cmap.units(text) {
+        list_missing(&mut listed, &mut known, unit)?;
     }
-    list_missing(&mut listed, &mut known, maker.end())?;
     Ok(listed)
 }
 
@@ -35,14 +33,11 @@ pub fn lacking(alloc: Global, cmap: &CharacterMap, text: &str) -> Result<Vec<cha
 fn list_missing(
     listed: &mut Vec<char>,
     known: &mut KnownGlyphs,
-    unit: Option<TextUnit>,
+    unit: TextUnit,
 ) -> Result<(), AllocError>
     ensures exact { OnOk result (listed.new.items ≡ with_unit known.old listed.old.items unit) }
     ensures same { known.new ≡ known.old }
 {
-    let Some(unit) = unit else {
-        return Ok(());
-    };
     if known.glyph_of_unit(unit) == 0 && !listed.contains(&unit.character) {
         listed.push(unit.character)?;
     }

@@ -1,9 +1,7 @@
 //! The units of a text. Unicode, "Variation Selectors".
 
-ghost use Rattle.std.specs.Prelude.{◌≡◌};
-ghost use Rattle.tt_cmap.specs.Units.{is_selector, waiting_unit, followed, maker_after, new_maker};
-
-use std::marker::Model;
+ghost use Rattle.std.specs.Prelude.{◌≡◌, chars};
+ghost use Rattle.tt_cmap.specs.Units.{is_selector, first_selector};
 
 /// A character of a text, and the variation selector that directly follows, if one does.
 #[derive(Clone, Copy, Debug, PartialEq, Eq)]
@@ -19,60 +17,48 @@ fn is_selector(c: char) -> bool
     ('\u{FE00}'..='\u{FE0F}').contains(&c) || ('\u{E0100}'..='\u{E01EF}').contains(&c)
 }
 
-/// Makes the units of a text whose characters come one by one. Clauses see whether selectors belong to characters, and the
-/// character that waits for one.
+/// The variation selector at the start of a text, if the text starts with one.
+fn first_selector(text: &str) -> Option<char>
+    ensures { result ≡ first_selector (chars text.now) }
+{
+    let c = text.chars().next()?;
+    if is_selector(c) { Some(c) } else { None }
+}
+
+/// Gives the units of a text, one by one.
 #[derive(Drop)]
-pub struct UnitMaker {
-    pairs: bool,
-    waiting: Option<char>,
+pub struct TextUnits<'t> {
+    /// Whether selectors belong to characters. Else each character is a unit.
+    pub(crate) pairs: bool,
+    pub(crate) text: &'t str,
 }
 
-impl Model for UnitMaker {
-    ghost use Rattle.tt_cmap.specs.Units as units;
+impl<'t> Iterator for TextUnits<'t> {
+    ghost use Rattle.std.specs.Iterator.{YieldsFirst, item_count};
+    ghost use Rattle.tt_cmap.specs.Texts.{units_left};
 
-    ghost Value = { units.UnitMaker };
+    type Item = TextUnit;
 
-    ghost view = { λ m. record { pairs = m.pairs; waiting = m.waiting } };
-}
+    ghost next_gives = { YieldsFirst units_left };
 
-impl UnitMaker {
-    /// At the start of a text. Without `pairs` each character is a unit.
-    pub(crate) fn new(pairs: bool) -> Self
-        ensures { result ≡ new_maker pairs }
-    {
-        UnitMaker {
-            pairs,
-            waiting: None,
+    ghost remaining = { item_count units_left };
+
+    /// A selector that belongs to no character is passed over.
+    fn next(&mut self) -> Option<TextUnit> {
+        let mut rest = self.text.chars();
+        let mut character = rest.next()?;
+        'selectors: while self.pairs && is_selector(character) {
+            character = rest.next()?;
         }
-    }
-
-    /// The unit that is complete when this character follows, if one is.
-    pub fn follow(&mut self, c: char) -> Option<TextUnit>
-        ensures unit { result ≡ followed self.old c }
-        ensures after { self.new ≡ maker_after self.old c }
-    {
-        if self.pairs && is_selector(c) {
-            let character = self.waiting.take()?;
-            return Some(TextUnit {
-                character,
-                selector: Some(c),
-            });
-        }
-        let character = self.waiting.replace(c)?;
+        self.text = rest.as_str();
+        let selector = if self.pairs {
+            first_selector(self.text)
+        } else {
+            None
+        };
         Some(TextUnit {
             character,
-            selector: None,
-        })
-    }
-
-    /// The last unit, at the end of the text, if one is left.
-    pub fn end(self) -> Option<TextUnit>
-        ensures { result ≡ waiting_unit self.waiting }
-    {
-        let character = self.waiting?;
-        Some(TextUnit {
-            character,
-            selector: None,
+            selector,
         })
     }
 }

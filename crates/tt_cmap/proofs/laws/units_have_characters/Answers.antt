@@ -1,4 +1,4 @@
-use Rattle.tt_cmap.proofs.UnitLaws.{have-characters, plain-texts, characters-are-units}
+use Rattle.tt_cmap.proofs.UnitLaws.{have-characters, plain-texts, characters-are-units, units-are-few}
 use Rattle.tt_cmap.proofs.laws.units_have_characters.Goals as goal
 
 pub returns-clause-characters : goal.returns-clause-characters
@@ -9,3 +9,6 @@ returns-clause-plain c = plain-texts
 
 pub returns-clause-each : goal.returns-clause-each
 returns-clause-each c = characters-are-units
+
+pub returns-clause-few : goal.returns-clause-few
+returns-clause-few c = units-are-few
