@@ -9,7 +9,7 @@ ghost use Rattle.tt_cmap.specs.WideLookup.{wide_cmap_of, glyph_by_way, wide_glyp
 
 use crate::lookup::Lookup;
 use crate::lookup::reads::Reads;
-use crate::records::wide::Way;
+use crate::records::wide::CodeWay;
 use crate::records::{CMAP, Records};
 use crate::roman::roman_byte;
 use crate::variations::Variations;
@@ -23,7 +23,7 @@ use tt_core::{Fault, Why};
 pub struct WideCmap<'a> {
     table: &'a [u8],
     subtable: WideSubtable<'a>,
-    way: Way,
+    way: CodeWay,
     variations: Option<usize>,
     glyphs: u16,
 }
@@ -90,15 +90,15 @@ impl<'a> WideCmap<'a> {
         ensures few { reads.new ≤ reads.old + 54 }
     {
         match self.way {
-            Way::Plain => self.subtable.glyph(self.glyphs, c, reads),
-            Way::Symbol => {
+            CodeWay::Plain => self.subtable.glyph(self.glyphs, c, reads),
+            CodeWay::Symbol => {
                 let glyph = self.subtable.glyph(self.glyphs, c, reads);
                 if glyph == 0 && c < 256 {
                     return self.subtable.glyph(self.glyphs, 0xF000 + c, reads);
                 }
                 glyph
             }
-            Way::Roman => match roman_byte(c) {
+            CodeWay::Roman => match roman_byte(c) {
                 Some(byte) => self.subtable.glyph(self.glyphs, byte, reads),
                 None => 0,
             },
