@@ -33,6 +33,7 @@ fn first_selector(text: &str) -> Option<char>
 }
 
 /// The selector that belongs to the character before a text, if one does.
+#[inline(always)]
 fn selector_before(pairs: bool, text: &str) -> Option<char>
     ensures { result ≡ selector_before pairs (chars text.now) }
 {
@@ -41,6 +42,7 @@ fn selector_before(pairs: bool, text: &str) -> Option<char>
 
 impl<'t> TextUnits<'t> {
     /// Whether a character is passed over: a selector that belongs to a character before, or to none.
+    #[inline(always)]
     fn passes_over(&self, c: char) -> bool
         ensures { result ≡ (self.now.pairs && is_selector c) }
     {
@@ -58,6 +60,7 @@ impl<'t> Iterator for TextUnits<'t> {
 
     ghost remaining = { item_count units_left };
 
+    #[inline(always)]
     fn next(&mut self) -> Option<TextUnit> {
         let mut rest = self.text.chars();
         while let Some(character) = rest.next() {

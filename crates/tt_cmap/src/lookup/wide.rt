@@ -17,8 +17,8 @@ use crate::wide_subtable::WideSubtable;
 use std::marker::Model;
 use tt_core::{Fault, Why};
 
-/// A character map of the wide reading. Clauses see the bytes of cmap, the chosen subtable and its codes, the offset of the
-/// variation sequences, and the number of glyphs.
+/// A character map of the wide reading. Clauses see the bytes of cmap, the chosen subtable and its codes, the offset of
+/// the variation sequences, and the number of glyphs.
 #[derive(Drop)]
 pub struct WideCmap<'a> {
     table: &'a [u8],
@@ -56,8 +56,8 @@ impl<'a> WideCmap<'a> {
     /// - platform 3, encoding 0: symbols;
     /// - platform 1, encoding 0: Macintosh Roman;
     ///
-    /// with format 0, 4, 6, 10, 12 or 13. Among records of one kind the first counts. No range is read. Errors: CmapShape,
-    /// NoCmap.
+    /// with format 0, 4, 6, 10, 12 or 13. Among records of one kind the first counts. No range is read. Errors:
+    /// CmapShape, NoCmap.
     #[tactic(auto, unfolding(crate::specs::WideLookup::wide_cmap_of))]
     pub fn open(table: &'a [u8], glyphs: u16) -> Result<WideCmap<'a>, Fault>
         requires size { length table.now ≤ font_limit }
