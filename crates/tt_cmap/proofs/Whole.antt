@@ -17,7 +17,7 @@ use Rattle.tt_cmap.specs.Lookup.{Cmap, by_subtable, cmap_of}
 use Rattle.tt_cmap.specs.Ranges.{Subtable, segments, groups, read_as, subtable_with, subtable_at, range_count, falls, falling_range, or_falling}
 use Rattle.tt_cmap.specs.Subtables.{record_count, record_place, records_of, chosen_subtable}
 
-records-whole : (table : List ℕ) (n : ℕ) → records_of table ≡ Ok n → HasNo (IsBadRecords table)
+pub records-whole : (table : List ℕ) (n : ℕ) → records_of table ≡ Ok n → HasNo (IsBadRecords table)
 unfolding records_of
 records-whole table n was =
     let header = passed-on (nat_lt (length table) 4) _ _ n was in
@@ -51,7 +51,7 @@ segments-whole table at m was =
       ]
     ]
 
-groups-whole : (table : List ℕ) (at : ℕ) (m : Format12) → groups_at table at ≡ Ok m
+pub groups-whole : (table : List ℕ) (at : ℕ) (m : Format12) → groups_at table at ≡ Ok m
     → HasNo (IsBadFormat12 (record { table = table; at = at }))
 unfolding groups_at
 groups-whole table at m was =
@@ -95,7 +95,7 @@ is-groups : (m it : Format12) (s : Subtable) → ◌≡◌ {A = Result Subtable 
     → s ≡ groups it
 is-groups m it s was same = cc
 
-with-shaped : (f : Format) (table : List ℕ) (at : ℕ) (s : Subtable) → subtable_with f table at ≡ Ok s
+pub with-shaped : (f : Format) (table : List ℕ) (at : ℕ) (s : Subtable) → subtable_with f table at ≡ Ok s
     → IsShaped f table at s
 with-shaped format.Segments table at s was =
     let by_map = came-through (segments_at table at) _ s was in
@@ -107,7 +107,7 @@ with-shaped format.Groups table at s was =
     record { same = is-groups by_map.value (record { table = table; at = at }) s by_map.rest same; shape = groups-whole table at by_map.value by_map.first }
 
 -- if a subtable passes the test for falling ends, no end falls
-none-falls : (s t : Subtable) (found : Option ℕ) → or_falling s found ≡ Ok t → found ≡ None
+pub none-falls : (s t : Subtable) (found : Option ℕ) → or_falling s found ≡ Ok t → found ≡ None
 none-falls s t None was = refl
 none-falls s t (Some i) was = absurd cc
 

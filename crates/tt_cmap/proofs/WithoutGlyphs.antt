@@ -1,41 +1,33 @@
--- The distinct characters without a glyph: the effect of one more character, and statements about all listed
--- characters.
-use Rattle.std.proofs.Common.{◌≡◌, ◌≢◌, inl, inr, refl, ◌∙◌, ℕ, ◌<◌, Bool, true, false, ◌||◌, ◌==◌, List, [], ◌∷◌, ◌++◌, arith}
+-- The distinct characters without a glyph: the effect of one more unit, and statements about all listed characters.
+use Rattle.std.proofs.Common.{◌≡◌, ◌≢◌, inl, inr, refl, ◌∙◌, ℕ, ◌<◌, Bool, true, false, ◌||◌, ◌==◌, List, [], ◌∷◌, ◌++◌, Option, Some, None, if◌then◌else◌, arith}
+use Rattle.std.specs.Prelude.{map, ◌&&◌}
 use Rattle.std.specs.List.{All, AllPairs, Contains, filter}
 use Rattle.std.proofs.lemmas.Bool.{cases_eq}
 use Rattle.std.proofs.lemmas.Bool.Decides.{nat_tests}
-use Rattle.std.proofs.lemmas.List.Elements.{All-nil, All-cons, All-head, All-tail, All-push, All-weaker, All-filter, All-contains, All-contains_itself, filter-append, filter_passes, Contains-append_left, Contains-append_right, Contains-push}
+use Rattle.std.proofs.lemmas.List.Elements.{All-nil, All-cons, All-head, All-tail, All-push, All-weaker, All-filter, All-contains, All-contains_itself, All-map, filter_passes, Contains-append_left, Contains-append_right, Contains-push}
 use Rattle.std.proofs.lemmas.List.Quantifiers.{all_pairs_push}
 use Rattle.tt_cmap.specs.Laws.{FullTextsLackNothing}
-use Rattle.tt_cmap.specs.Lookup.{Cmap, glyph_of}
-use Rattle.tt_cmap.specs.Lacking.{is_among, with_character, distinct_after, distinct, lacks, lacking_of, AllHaveGlyphs}
+use Rattle.tt_cmap.specs.declared.units.TextUnit.{TextUnit}
+use Rattle.tt_cmap.specs.Lookup.{glyph_of}
+use Rattle.tt_cmap.specs.Maps.{CharacterMap, strict, wide, has_pairs, units_by, glyph_by, glyph_of_unit}
+use Rattle.tt_cmap.specs.Units.{character_of, is_selector, unit_before, units}
+use Rattle.tt_cmap.specs.WideLookup.{WideCmap, variation_in, wide_glyph_by, wide_glyph_of}
+use Rattle.tt_cmap.specs.Lacking.{is_among, with_character, distinct_after, distinct, lacks, lacking_of, with_unit, AllHaveGlyphs}
 
-after-append : (before cs ds : List ℕ) → distinct_after before (cs ++ ds)
-    ≡ distinct_after (distinct_after before cs) ds
-after-append before [] ds = refl
-after-append before (c ∷ cs) ds = after-append (with_character before c) cs ds
+-- one more unit
+unit-first : (m : CharacterMap) (is : Bool) (before : List ℕ) (u : TextUnit) (us : List TextUnit) → lacks m u ≡ is
+    → distinct_after before (map character_of (filter (lacks m) (u ∷ us)))
+    ≡ distinct_after (if is then with_character before u.character else before) (map character_of (filter (lacks m) us))
+unit-first m true before u us is = rw is refl
+unit-first m false before u us is = rw is refl
 
--- one more character, by whether it passes the filter
-kept : (p : ℕ → Bool) (cs : List ℕ) (c : ℕ) (one : List ℕ) → filter p (c ∷ []) ≡ one
-    → distinct (filter p (cs ++ c ∷ [])) ≡ distinct_after (distinct (filter p cs)) one
-kept p cs c one is = rw (filter-append p cs (c ∷ []), is) (after-append [] (filter p cs) one)
+-- the list for the units that are left, after those so far gave `before`
+abbrev pub lacking_after : CharacterMap → List ℕ → List TextUnit → List ℕ
+lacking_after m before us = distinct_after before (map character_of (filter (lacks m) us))
 
--- a character with a glyph is not listed
-pub glyph_stays : (m : Cmap) (cs : List ℕ) (c : ℕ) → lacks m c ≡ false
-    → lacking_of m (cs ++ c ∷ []) ≡ lacking_of m cs
-unfolding lacking_of
-glyph_stays m cs c has = kept (lacks m) cs c [] (rw has refl)
-
--- a character that is listed already is not listed again
-pub listed_stays : (m : Cmap) (cs : List ℕ) (c : ℕ) → lacks m c ≡ true → is_among c (lacking_of m cs) ≡ true
-    → lacking_of m (cs ++ c ∷ []) ≡ lacking_of m cs
-unfolding lacking_of
-listed_stays m cs c has there = kept (lacks m) cs c (c ∷ []) (rw has refl) ∙ rw there refl
-
-pub first_listed : (m : Cmap) (cs : List ℕ) (c : ℕ) → lacks m c ≡ true → is_among c (lacking_of m cs) ≡ false
-    → lacking_of m (cs ++ c ∷ []) ≡ lacking_of m cs ++ c ∷ []
-unfolding lacking_of
-first_listed m cs c has absent = kept (lacks m) cs c (c ∷ []) (rw has refl) ∙ rw absent refl
+pub one-more : (m : CharacterMap) (before : List ℕ) (u : TextUnit) (us : List TextUnit)
+    → lacking_after m before (u ∷ us) ≡ lacking_after m (with_unit m before u) us
+one-more m before u us = unit-first m (lacks m u) before u us refl
 
 -- a statement about all characters of a list holds for its distinct characters
 with-all : (P : ℕ → Type 0) (there : Bool) (before : List ℕ) (c : ℕ) → is_among c before ≡ there → All P before → P c
@@ -49,22 +41,58 @@ after-all P before (c ∷ cs) first rest =
     after-all P (with_character before c) cs
     (with-all P (is_among c before) before c refl first (All-head P c cs rest)) (All-tail P c cs rest)
 
-zero_by : (m : Cmap) (c : ℕ) → lacks m c ≡ true → glyph_of m c ≡ 0
-zero_by m c is = grind (arith, nat_tests, is)
+-- a unit without a glyph: its character has none by itself
+zero_by : (n : ℕ) → (n == 0) ≡ true → n ≡ 0
+zero_by n is = grind (arith, nat_tests, is)
 
-pub lacking_missing : (m : Cmap) (cs : List ℕ) → All (λ c. glyph_of m c ≡ 0) (lacking_of m cs)
+not-zero : (n : ℕ) → (n == 0) ≡ false → n ≡ 0 → ⊥
+not-zero n is zero = grind (arith, nat_tests, is, zero)
+
+own-missing-by : (is : Bool) (other own : ℕ) → (other == 0) ≡ is → (if is then own else other) ≡ 0 → own ≡ 0
+own-missing-by true other own is zero = zero
+own-missing-by false other own is zero = absurd (not-zero other is zero)
+
+own-missing-wide : (w : WideCmap) (c : ℕ) (o : Option ℕ) → wide_glyph_by w c o ≡ 0 → wide_glyph_of w c ≡ 0
+own-missing-wide w c None zero = zero
+own-missing-wide w c (Some v) zero =
+    own-missing-by (variation_in w.variations w.table w.glyphs c v == 0) (variation_in w.variations w.table w.glyphs c v)
+    (wide_glyph_of w c) refl zero
+
+own-missing : (m : CharacterMap) (u : TextUnit) → lacks m u ≡ true → glyph_by m u.character ≡ 0
+own-missing (strict m) u is = zero_by (glyph_of m u.character) is
+own-missing (wide m) u is = own-missing-wide m u.character u.selector (zero_by (wide_glyph_by m u.character u.selector) is)
+
+pub lacking_missing : (m : CharacterMap) (cs : List ℕ) → All (λ c. glyph_by m c ≡ 0) (lacking_of m cs)
 unfolding lacking_of
 lacking_missing m cs =
-    let passed : All (λ c. lacks m c ≡ true) (filter (lacks m) cs) = filter_passes (lacks m) cs in
-    let all : All (λ c. lacks m c ≡ true) (lacking_of m cs) = after-all (λ c. lacks m c ≡ true) [] (filter (lacks m) cs)
-    (All-nil (λ c. lacks m c ≡ true)) passed in
-    λ k d below. zero_by m _ (all k d below)
+    let us = filter (lacks m) (units_by m cs) in
+    let passed : All (λ u. lacks m u ≡ true) us = filter_passes (lacks m) (units_by m cs) in
+    let zero : All (λ u. glyph_by m u.character ≡ 0) us =
+    All-weaker (λ u. lacks m u ≡ true) (λ u. glyph_by m u.character ≡ 0) (own-missing m) us passed in
+    after-all (λ c. glyph_by m c ≡ 0) [] (map character_of us) (All-nil (λ c. glyph_by m c ≡ 0))
+    (All-map (λ c. glyph_by m c ≡ 0) character_of us zero)
 
-pub lacking_stand : (m : Cmap) (cs : List ℕ) → All (Contains cs) (lacking_of m cs)
+-- a statement about all characters of a text holds for its units' characters
+one-all : (P : ℕ → Type 0) (is : Bool) (u : TextUnit) (us : List TextUnit) → P u.character → All (λ u. P u.character) us
+    → All (λ u. P u.character) (if is then us else u ∷ us)
+one-all P true u us one all = all
+one-all P false u us one all = All-cons (λ u. P u.character) u us one all
+
+units-all : (P : ℕ → Type 0) (pairs : Bool) (cs : List ℕ) → All P cs → All (λ u. P u.character) (units pairs cs)
+units-all P pairs [] all = All-nil (λ u. P u.character)
+units-all P pairs (c ∷ cs) all =
+    one-all P (pairs && is_selector c) (unit_before pairs c cs) (units pairs cs) (All-head P c cs all)
+    (units-all P pairs cs (All-tail P c cs all))
+
+pub lacking_stand : (m : CharacterMap) (cs : List ℕ) → All (Contains cs) (lacking_of m cs)
 unfolding lacking_of
 lacking_stand m cs =
-    after-all (Contains cs) [] (filter (lacks m) cs) (All-nil (Contains cs))
-    (All-filter (lacks m) (Contains cs) cs (All-contains_itself cs))
+    let us = units_by m cs in
+    let stand : All (λ u. Contains cs u.character) us =
+    units-all (Contains cs) (has_pairs m) cs (All-contains_itself cs) in
+    after-all (Contains cs) [] (map character_of (filter (lacks m) us)) (All-nil (Contains cs))
+    (All-map (Contains cs) character_of (filter (lacks m) us)
+    (All-filter (lacks m) (λ u. Contains cs u.character) us stand))
 
 neither : (a b : Bool) → (a || b) ≡ false → (a ≡ false) × (b ≡ false)
 neither true b is = absurd cc
@@ -105,9 +133,9 @@ after-differ before (c ∷ cs) differ =
 none-differ : AllPairs (λ (c d : ℕ). c ≢ d) []
 none-differ = λ i j d below within. absurd (omega arith)
 
-pub lacking_once : (m : Cmap) (cs : List ℕ) → AllPairs (λ c d. c ≢ d) (lacking_of m cs)
+pub lacking_once : (m : CharacterMap) (cs : List ℕ) → AllPairs (λ c d. c ≢ d) (lacking_of m cs)
 unfolding lacking_of
-lacking_once m cs = after-differ [] (filter (lacks m) cs) none-differ
+lacking_once m cs = after-differ [] (map character_of (filter (lacks m) (units_by m cs))) none-differ
 
 -- each character of a list is among its distinct characters
 with-keeps : (there : Bool) (before : List ℕ) (c d : ℕ) → is_among c before ≡ there → Contains before d
@@ -133,52 +161,65 @@ after-every before (c ∷ cs) =
     (after-keeps (with_character before c) cs c (with-itself (is_among c before) before c refl))
     (after-every (with_character before c) cs)
 
-passing : (p : ℕ → Bool) (c : ℕ) (cs : List ℕ) → p c ≡ true → Contains (filter p (c ∷ cs)) c
-passing p c cs is = rw is (Contains-append_left (c ∷ []) (filter p cs) c (Contains-push [] c))
+-- each unit without a glyph gives its character
+given-first : (p : TextUnit → Bool) (u : TextUnit) (us : List TextUnit) → p u ≡ true
+    → Contains (map character_of (filter p (u ∷ us))) u.character
+given-first p u us is =
+    rw is (Contains-append_left (u.character ∷ []) (map character_of (filter p us)) u.character (Contains-push [] u.character))
 
-passing_after : (p : ℕ → Bool) (by : Bool) (c d : ℕ) (cs : List ℕ) → p c ≡ by → Contains (filter p cs) d
-    → Contains (filter p (c ∷ cs)) d
-passing_after p true c d cs is stands = rw is (Contains-append_right (c ∷ []) (filter p cs) d stands)
-passing_after p false c d cs is stands = rw is stands
+given-after : (p : TextUnit → Bool) (by : Bool) (u : TextUnit) (d : ℕ) (us : List TextUnit) → p u ≡ by
+    → Contains (map character_of (filter p us)) d → Contains (map character_of (filter p (u ∷ us))) d
+given-after p true u d us is stands =
+    rw is (Contains-append_right (u.character ∷ []) (map character_of (filter p us)) d stands)
+given-after p false u d us is stands = rw is stands
 
-passes : (p : ℕ → Bool) (cs : List ℕ) → All (λ d. p d ≡ true → Contains (filter p cs) d) cs
-passes p [] = All-nil (λ d. p d ≡ true → Contains (filter p []) d)
-passes p (c ∷ cs) =
-    All-cons (λ d. p d ≡ true → Contains (filter p (c ∷ cs)) d) c cs (passing p c cs)
-    (All-weaker (λ d. p d ≡ true → Contains (filter p cs) d) (λ d. p d ≡ true → Contains (filter p (c ∷ cs)) d)
-    (λ d stands is. passing_after p (p c) c d cs refl (stands is)) cs (passes p cs))
+abbrev IsGiven : (TextUnit → Bool) → List TextUnit → TextUnit → Type 0
+IsGiven p us v = p v ≡ true → Contains (map character_of (filter p us)) v.character
 
-pub lacking_every : (m : Cmap) (cs : List ℕ) (c : ℕ) → Contains cs c → glyph_of m c ≡ 0 → Contains (lacking_of m cs) c
+all-given : (p : TextUnit → Bool) (us : List TextUnit) → All (IsGiven p us) us
+all-given p [] = All-nil (IsGiven p [])
+all-given p (u ∷ us) =
+    All-cons (IsGiven p (u ∷ us)) u us (given-first p u us)
+    (All-weaker (IsGiven p us) (IsGiven p (u ∷ us))
+    (λ v stands is. given-after p (p u) u v.character us refl (stands is)) us (all-given p us))
+
+pub lacking_every : (m : CharacterMap) (cs : List ℕ) (u : TextUnit) → Contains (units_by m cs) u → glyph_of_unit m u ≡ 0
+    → Contains (lacking_of m cs) u.character
 unfolding lacking_of
-lacking_every m cs c stands missing =
-    let is : lacks m c ≡ true = rw missing refl in
-    All-contains (Contains (lacking_of m cs)) (filter (lacks m) cs) c (after-every [] (filter (lacks m) cs))
-    (All-contains (λ d. lacks m d ≡ true → Contains (filter (lacks m) cs) d) cs c (passes (lacks m) cs) stands is)
+lacking_every m cs u stands missing =
+    let is : lacks m u ≡ true = rw missing refl in
+    let given = map character_of (filter (lacks m) (units_by m cs)) in
+    All-contains (Contains (distinct given)) given u.character (after-every [] given)
+    (All-contains (IsGiven (lacks m) (units_by m cs)) (units_by m cs) u (all-given (lacks m) (units_by m cs)) stands is)
 
--- if all characters have glyphs, none is listed
-none_passes : (m : Cmap) (cs : List ℕ) → AllHaveGlyphs m cs → filter (lacks m) cs ≡ []
+some-is : (n : ℕ) → 0 < n → (n == 0) ≡ false
+some-is n some = grind (arith, nat_tests, some)
+
+-- if all units have glyphs, none is listed
+none_passes : (m : CharacterMap) (us : List TextUnit) → All (λ u. 0 < glyph_of_unit m u) us → filter (lacks m) us ≡ []
 none_passes m [] have = refl
-none_passes m (c ∷ cs) have =
-    let first : 0 < glyph_of m c = All-head (λ c. 0 < glyph_of m c) c cs have in
-    let is : lacks m c ≡ false = grind (arith, nat_tests, first) in
-    rw is (none_passes m cs (All-tail (λ c. 0 < glyph_of m c) c cs have))
+none_passes m (u ∷ us) have =
+    let first : 0 < glyph_of_unit m u = All-head (λ u. 0 < glyph_of_unit m u) u us have in
+    let is : lacks m u ≡ false = some-is (glyph_of_unit m u) first in
+    rw is (none_passes m us (All-tail (λ u. 0 < glyph_of_unit m u) u us have))
 
-all_have : (m : Cmap) (cs : List ℕ) → AllHaveGlyphs m cs → lacking_of m cs ≡ []
+all_have : (m : CharacterMap) (cs : List ℕ) → AllHaveGlyphs m cs → lacking_of m cs ≡ []
 unfolding lacking_of
-all_have m cs have = rw (none_passes m cs have) refl
+all_have m cs have = rw (none_passes m (units_by m cs) have) refl
 
--- if no character is listed, all have glyphs
-one_has : (m : Cmap) (cs : List ℕ) (c : ℕ) → lacking_of m cs ≡ [] → Contains cs c → 0 < glyph_of m c
-one_has m cs c none stands = elim (cases_eq (glyph_of m c) 0) [
+-- if no character is listed, all units have glyphs
+one_has : (m : CharacterMap) (cs : List ℕ) (u : TextUnit) → lacking_of m cs ≡ [] → Contains (units_by m cs) u
+    → 0 < glyph_of_unit m u
+one_has m cs u none stands = elim (cases_eq (glyph_of_unit m u) 0) [
   | inl missing ↦
-      let listed : Contains [] c = rw none at (lacking_every m cs c stands missing) in
+      let listed : Contains [] u.character = rw none at (lacking_every m cs u stands missing) in
       absurd (omega (arith, listed.1))
   | inr some ↦ omega (arith, some)
 ]
 
 pub full_texts : FullTextsLackNothing
 full_texts m cs = (
-  λ none. All-weaker (Contains cs) (λ c. 0 < glyph_of m c) (λ c stands. one_has m cs c none stands) cs
-      (All-contains_itself cs),
+  λ none. All-weaker (Contains (units_by m cs)) (λ u. 0 < glyph_of_unit m u) (λ u stands. one_has m cs u none stands)
+      (units_by m cs) (All-contains_itself (units_by m cs)),
   all_have m cs,
 )

@@ -105,6 +105,11 @@ abbrev pub most_ends : Subtable → ℕ
 most_ends (segments m) = 15
 most_ends (groups m) = 23
 
+-- a bound of all ends, which are uint16 or uint32
+abbrev pub most_character : Subtable → ℕ
+most_character (segments m) = 65535
+most_character (groups m) = 4294967295
+
 -- P holds for a subtable of format 4
 abbrev pub IfSegments : Subtable → Type 0 → Type 0
 IfSegments (segments m) P = P

@@ -1,11 +1,14 @@
 //! A subtable of format 12. OpenType, "cmap", format 12: segmented coverage.
 
-ghost use Rattle.std.specs.Prelude.{◌≡◌, ◌≤◌, length, IfOk, IfErr};
+ghost use Rattle.std.specs.Prelude.{◌≡◌, ◌+◌, ◌^◌, ◌<◌, ◌≤◌, length, IfOk, IfErr};
 ghost use Rattle.tt_core.specs.Limits.{font_limit};
 ghost use Rattle.tt_core.specs.Outcomes.{Gives};
 ghost use Rattle.tt_cmap.specs.Defects.{IsBadFormat12};
 ghost use Rattle.tt_cmap.specs.Format12.{groups_at};
+ghost use Rattle.tt_cmap.specs.Ranges.{groups};
+ghost use Rattle.tt_cmap.specs.WideSubtables.{by_reached, by_shared_group};
 
+use crate::ends::{RangeEnds, reach};
 use crate::glyphs::or_missing;
 use crate::lookup::reads::Reads;
 use crate::ranges::Ranges;
@@ -71,6 +74,46 @@ impl<'a> Format12<'a> {
         let table = Table::new(table);
         Ok(Format12 { table, at, count })
     }
+
+    /// The glyph of a character where all characters of a group have the group's glyph, as in format 13. The group is
+    /// the one where a binary search ends.
+    pub(crate) fn shared_glyph(&self, glyphs: u16, c: usize, reads: &mut Reads) -> u16
+        requires glyphs { 0 < glyphs }
+        requires room { reads.old + 2 ^ 31 < 2 ^ 32 }
+        ensures exact { result ≡ by_reached (groups self.now) (by_shared_group self.now glyphs c) c }
+        ensures bound { result < glyphs }
+        ensures few { reads.new ≤ reads.old + 27 }
+    {
+        let i = reach(self, c, reads);
+        if i == self.count {
+            return 0;
+        }
+        let group = self.at + GROUPS + GROUP * i;
+        if c < self.table.long(group, reads) {
+            return 0;
+        }
+        or_missing(glyphs, self.table.long(group + START_GLYPH_ID, reads))
+    }
+}
+
+impl<'a> RangeEnds for Format12<'a> {
+    ghost use Rattle.tt_cmap.specs.Ranges.{groups, range_count, range_end, most_character, most_ends};
+
+    ghost count_of = { λ s. range_count (groups s) };
+
+    ghost end_of = { λ s. range_end (groups s) };
+
+    ghost most_end = { λ s. most_character (groups s) };
+
+    ghost most_asked = { λ s. most_ends (groups s) };
+
+    fn count(&self) -> usize {
+        self.count
+    }
+
+    fn end(&self, i: usize, reads: &mut Reads) -> usize {
+        self.table.long(self.end_place(i) as usize, reads)
+    }
 }
 
 impl<'a> Ranges for Format12<'a> {
@@ -78,16 +121,8 @@ impl<'a> Ranges for Format12<'a> {
 
     ghost ranges_of = { groups };
 
-    fn count(&self) -> usize {
-        self.count
-    }
-
     fn end_place(&self, i: usize) -> u32 {
         (self.at + GROUPS + GROUP * i + END_CHAR_CODE) as u32
-    }
-
-    fn end(&self, i: usize, reads: &mut Reads) -> usize {
-        self.table.long(self.end_place(i) as usize, reads)
     }
 
     fn glyph_by(&self, glyphs: u16, c: usize, i: usize, reads: &mut Reads) -> u16 {

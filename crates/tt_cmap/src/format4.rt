@@ -6,6 +6,7 @@ ghost use Rattle.tt_core.specs.Outcomes.{Gives};
 ghost use Rattle.tt_cmap.specs.Defects.{IsBadFormat4};
 ghost use Rattle.tt_cmap.specs.Format4.{segments_at};
 
+use crate::ends::RangeEnds;
 use crate::glyphs::or_missing;
 use crate::lookup::reads::Reads;
 use crate::ranges::Ranges;
@@ -76,21 +77,33 @@ impl<'a> Format4<'a> {
     }
 }
 
-impl<'a> Ranges for Format4<'a> {
-    ghost use Rattle.tt_cmap.specs.Ranges.{segments};
+impl<'a> RangeEnds for Format4<'a> {
+    ghost use Rattle.tt_cmap.specs.Ranges.{segments, range_count, range_end, most_character, most_ends};
 
-    ghost ranges_of = { segments };
+    ghost count_of = { λ s. range_count (segments s) };
+
+    ghost end_of = { λ s. range_end (segments s) };
+
+    ghost most_end = { λ s. most_character (segments s) };
+
+    ghost most_asked = { λ s. most_ends (segments s) };
 
     fn count(&self) -> usize {
         self.list / WORD
     }
 
-    fn end_place(&self, i: usize) -> u32 {
-        (self.at + END_CODE + WORD * i) as u32
-    }
-
     fn end(&self, i: usize, reads: &mut Reads) -> usize {
         self.table.word(self.end_place(i) as usize, reads)
+    }
+}
+
+impl<'a> Ranges for Format4<'a> {
+    ghost use Rattle.tt_cmap.specs.Ranges.{segments};
+
+    ghost ranges_of = { segments };
+
+    fn end_place(&self, i: usize) -> u32 {
+        (self.at + END_CODE + WORD * i) as u32
     }
 
     fn glyph_by(&self, glyphs: u16, c: usize, i: usize, reads: &mut Reads) -> u16 {

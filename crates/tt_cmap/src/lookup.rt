@@ -11,6 +11,7 @@ ghost use Rattle.tt_cmap.specs.Subtables.{subtable_of, choice_of, Serves, NoneSe
 ghost use Rattle.tt_cmap.specs.Defects.{IsBadCmap, IsBadChoice};
 
 pub(crate) mod reads;
+pub(crate) mod wide;
 
 use crate::lookup::reads::Reads;
 use crate::ranges::Ranges;

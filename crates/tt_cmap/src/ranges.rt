@@ -2,7 +2,7 @@
 
 ghost use Rattle.std.specs.Prelude.{◌≡◌, ◌+◌, ◌^◌, ◌<◌, ◌≤◌, length};
 ghost use Rattle.tt_cmap.specs.Defects.{range_end_size};
-ghost use Rattle.tt_cmap.specs.Ranges.{Subtable, table_of, range_count, range_end, range_end_place, by_range, range_reads, most_ends, IfSegments};
+ghost use Rattle.tt_cmap.specs.Ranges.{Subtable, table_of, range_count, range_end_place, by_range, range_reads};
 
 use crate::lookup::reads::Reads;
 
@@ -11,24 +11,11 @@ pub(crate) trait Ranges {
     // The subtable of these ranges.
     ghost ranges_of: { Self → Subtable };
 
-    fn count(&self) -> usize
-        ensures exact { result ≡ range_count (ranges_of self.now) }
-        ensures bound { result < 2 ^ most_ends (ranges_of self.now) }
-        ensures few { result < 2 ^ 23 };
-
     /// The offset of a range's last character.
     fn end_place(&self, i: usize) -> u32
         requires { i < range_count (ranges_of self.now) }
         ensures exact { result ≡ range_end_place (ranges_of self.now) i }
         ensures fits { result + range_end_size (ranges_of self.now) ≤ length (table_of (ranges_of self.now)) };
-
-    /// The last character of a range.
-    fn end(&self, i: usize, reads: &mut Reads) -> usize
-        requires range { i < range_count (ranges_of self.now) }
-        requires room { reads.old + 1 < 2 ^ 32 }
-        ensures exact { result ≡ range_end (ranges_of self.now) i }
-        ensures plane { IfSegments (ranges_of self.now) (result ≤ 0xFFFF) }
-        ensures count { reads.new ≡ reads.old + 1 };
 
     /// The glyph of a character by a range that ends at the character or after it.
     fn glyph_by(&self, glyphs: u16, c: usize, i: usize, reads: &mut Reads) -> u16

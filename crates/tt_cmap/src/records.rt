@@ -6,6 +6,8 @@ ghost use Rattle.tt_core.specs.Outcomes.{Gives};
 ghost use Rattle.tt_cmap.specs.Subtables.{records_of, record_count, record_place, format_number, windows_encoding, is_for, first_subtable, first_of, chosen_subtable};
 ghost use Rattle.tt_cmap.specs.Defects.{IsBadRecords};
 
+pub(crate) mod wide;
+
 use std::marker::Model;
 use tt_core::{Fault, Why, u16_at, u32_at};
 

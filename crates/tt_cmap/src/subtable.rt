@@ -4,8 +4,10 @@ ghost use Rattle.std.specs.Prelude.{◌≡◌, ◌+◌, ◌-◌, ◌*◌, ◌^�
 ghost use Rattle.tt_core.specs.Limits.{font_limit};
 ghost use Rattle.tt_core.specs.Outcomes.{Gives};
 ghost use Rattle.tt_cmap.specs.Defects.{IsBadShape};
-ghost use Rattle.tt_cmap.specs.Ranges.{read_as, subtable_with, subtable_view, range_count, falls, falling_range, range_of, glyph_in, ends_read, reads_in, most_ends, IfSegments};
+ghost use Rattle.tt_cmap.specs.Ranges.{read_as, subtable_with, subtable_view, range_count, falls, falling_range, range_of, by_range, glyph_in, ends_read, reads_in, most_ends, IfSegments};
+ghost use Rattle.tt_cmap.specs.WideSubtables.{by_reached};
 
+use crate::ends::{RangeEnds, reach};
 use crate::format4::Format4;
 use crate::format12::Format12;
 use crate::lookup::reads::Reads;
@@ -20,10 +22,16 @@ pub(crate) enum Subtable<'a> {
     Groups(Format12<'a>),
 }
 
-impl<'a> Ranges for Subtable<'a> {
-    ghost use Rattle.tt_cmap.specs.Ranges.{subtable_view};
+impl<'a> RangeEnds for Subtable<'a> {
+    ghost use Rattle.tt_cmap.specs.Ranges.{subtable_view, range_count, range_end, most_character, most_ends};
 
-    ghost ranges_of = { subtable_view };
+    ghost count_of = { λ s. range_count (subtable_view s) };
+
+    ghost end_of = { λ s. range_end (subtable_view s) };
+
+    ghost most_end = { λ s. most_character (subtable_view s) };
+
+    ghost most_asked = { λ s. most_ends (subtable_view s) };
 
     fn count(&self) -> usize {
         match self {
@@ -32,17 +40,23 @@ impl<'a> Ranges for Subtable<'a> {
         }
     }
 
-    fn end_place(&self, i: usize) -> u32 {
-        match self {
-            Subtable::Segments(s) => s.end_place(i),
-            Subtable::Groups(g) => g.end_place(i),
-        }
-    }
-
     fn end(&self, i: usize, reads: &mut Reads) -> usize {
         match self {
             Subtable::Segments(s) => s.end(i, reads),
             Subtable::Groups(g) => g.end(i, reads),
+        }
+    }
+}
+
+impl<'a> Ranges for Subtable<'a> {
+    ghost use Rattle.tt_cmap.specs.Ranges.{subtable_view};
+
+    ghost ranges_of = { subtable_view };
+
+    fn end_place(&self, i: usize) -> u32 {
+        match self {
+            Subtable::Segments(s) => s.end_place(i),
+            Subtable::Groups(g) => g.end_place(i),
         }
     }
 
@@ -95,18 +109,25 @@ impl<'a> Subtable<'a> {
         ensures count { reads.new ≡ reads.old + ends_read (subtable_view self.now) c }
         ensures few { ends_read (subtable_view self.now) c ≤ most_ends (subtable_view self.now) }
     {
-        let count = self.count();
-        let mut low = 0;
-        let mut high = count;
-        while low < high {
-            let middle = low + (high - low) / 2;
-            if self.end(middle, reads) < c {
-                low = middle + 1;
-            } else {
-                high = middle;
-            }
+        let i = reach(self, c, reads);
+        if i < self.count() { Some(i) } else { None }
+    }
+
+    /// The glyph by the range where a binary search ends, whatever the order of the ends.
+    pub(crate) fn glyph_by_search(&self, glyphs: u16, c: usize, reads: &mut Reads) -> u16
+        requires character { c < 2 ^ 21 }
+        requires glyphs { 0 < glyphs }
+        requires room { reads.old + 2 ^ 31 < 2 ^ 32 }
+        ensures exact { result ≡ by_reached (subtable_view self.now) (by_range (subtable_view self.now) glyphs c) c }
+        ensures bound { result < glyphs }
+        ensures few { reads.new ≤ reads.old + 27 }
+    {
+        let i = reach(self, c, reads);
+        if i < self.count() {
+            self.glyph_by(glyphs, c, i, reads)
+        } else {
+            0
         }
-        if low < count { Some(low) } else { None }
     }
 
     /// The glyph of a character, below `glyphs`.

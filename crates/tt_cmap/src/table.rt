@@ -6,7 +6,7 @@ ghost use Rattle.tt_core.specs.Numbers.{unsigned_at, number_at};
 
 use crate::lookup::reads::Reads;
 use std::marker::Model;
-use tt_core::{u16_at, u32_at};
+use tt_core::{u16_at, u24_at, u32_at};
 
 /// The bytes of cmap. Clauses see a list.
 #[derive(Drop)]
@@ -39,6 +39,42 @@ impl<'a> Table<'a> {
     {
         reads.one_more();
         usize::from(u16_at(self.bytes, at).unwrap())
+    }
+
+    /// The uint8 at an offset.
+    pub(crate) fn byte(&self, at: usize, reads: &mut Reads) -> usize
+        requires fits { at + 1 ≤ length self.now }
+        requires room { reads.old + 1 < 2 ^ 32 }
+        ensures exact { result ≡ unsigned_at self.now at 1 }
+        ensures bound { result < 256 }
+        ensures count { reads.new ≡ reads.old + 1 }
+    {
+        reads.one_more();
+        usize::from(self.bytes[at])
+    }
+
+    /// The uint24 at an offset.
+    pub(crate) fn triple(&self, at: usize, reads: &mut Reads) -> usize
+        requires fits { at + 3 ≤ length self.now }
+        requires room { reads.old + 1 < 2 ^ 32 }
+        ensures exact { result ≡ unsigned_at self.now at 3 }
+        ensures bound { result < 2 ^ 32 }
+        ensures count { reads.new ≡ reads.old + 1 }
+    {
+        reads.one_more();
+        u24_at(self.bytes, at).unwrap() as usize
+    }
+
+    /// The sum of the uint24 at an offset and the uint8 after it. The four bytes are read as one number.
+    pub(crate) fn span_end(&self, at: usize, reads: &mut Reads) -> usize
+        requires fits { at + 4 ≤ length self.now }
+        requires room { reads.old + 1 < 2 ^ 32 }
+        ensures exact { result ≡ unsigned_at self.now at 3 + unsigned_at self.now (at + 3) 1 }
+        ensures bound { result ≤ 4294967550 }
+        ensures count { reads.new ≡ reads.old + 1 }
+    {
+        reads.one_more();
+        u24_at(self.bytes, at).unwrap() as usize + usize::from(self.bytes[at + 3])
     }
 
     /// The uint32 at an offset.

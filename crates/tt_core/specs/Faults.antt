@@ -58,6 +58,8 @@ why_in_messages why.MatchPoint = numbered 20 (codes "MatchPoint")
 why_in_messages why.ScaledOffset = numbered 21 (codes "ScaledOffset")
 why_in_messages why.PointLimit = numbered 22 (codes "PointLimit")
 why_in_messages why.CoordRange = numbered 23 (codes "CoordRange")
+why_in_messages why.CollectionVersion = numbered 24 (codes "CollectionVersion")
+why_in_messages why.NoFace = numbered 25 (codes "NoFace")
 why_in_messages why.StepLimit = numbered 30 (codes "StepLimit")
 why_in_messages why.StackFull = numbered 31 (codes "StackFull")
 why_in_messages why.StackShort = numbered 32 (codes "StackShort")
@@ -127,6 +129,8 @@ why_of n =
     else if n == 21 then Some why.ScaledOffset
     else if n == 22 then Some why.PointLimit
     else if n == 23 then Some why.CoordRange
+    else if n == 24 then Some why.CollectionVersion
+    else if n == 25 then Some why.NoFace
     else if n == 30 then Some why.StepLimit
     else if n == 31 then Some why.StackFull
     else if n == 32 then Some why.StackShort

@@ -1,5 +1,6 @@
 pub mod Bits
 pub mod Chains
+pub mod Collections
 pub mod Device
 pub mod Directory
 pub mod Faults

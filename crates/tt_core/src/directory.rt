@@ -1,17 +1,19 @@
 //! The table directory. Apple TrueType Reference Manual, "The Font Directory".
 
 ghost use Rattle.std.specs.Prelude.{◌≡◌, ◌<◌, ◌≤◌, false, ℕ, length, IsTrue, IfOk, IfErr, OnOk, IfSome, is_some, option_copied};
+ghost use Rattle.tt_core.specs.Collections.{directory_by, IsDirectoryDefectBy};
 ghost use Rattle.tt_core.specs.Directory.{Directory, directory_of, file_directory, read_directory, directory_end, record_count, record_of, has_tag, named_by, table_of, needed_table, HasNo, IsDirectoryDefect, RecordPassesEnd, PassesEnd, IsTableDefect};
 ghost use Rattle.tt_core.specs.Faults.{is_ascii};
 ghost use Rattle.tt_core.specs.Limits.{font_limit};
 ghost use Rattle.tt_core.specs.Outcomes.{Gives};
 ghost use Rattle.tt_core.specs.Search.{IsLeast};
 
+use crate::collection::{Reading, directory_offset};
 use crate::fault::{Fault, Why};
 use crate::number::{u16_at, u32_at};
 use std::marker::Model;
 
-const FILE: [u8; 4] = *b"file";
+pub(crate) const FILE: [u8; 4] = *b"file";
 
 /// A directory that fits in its font file. Clauses see the file's bytes and the directory's offset.
 #[derive(Drop)]
@@ -45,6 +47,19 @@ impl<'a> Dir<'a> {
         ensures fault { IfErr result (IsDirectoryDefect (file_directory file.now)) }
     {
         Dir::at(file, 0)
+    }
+
+    /// Opens the directory that a reading asks for. Errors: DirShort, NoFace, CollectionVersion, BadVersion.
+    #[tactic(auto, unfolding(crate::specs::Collections::directory_by))]
+    pub fn read(file: &'a [u8], reading: Reading) -> Result<Dir<'a>, Fault>
+        requires { length file.now ≤ font_limit }
+        ensures exact { Gives (λ d. d) result (directory_by file.now reading) }
+        ensures whole { IfOk result (λ d. d.file ≡ file.now) }
+        ensures sound { OnOk result (HasNo (IsDirectoryDefectBy file.now reading)) }
+        ensures fault { IfErr result (IsDirectoryDefectBy file.now reading) }
+    {
+        let at = directory_offset(file, reading)?;
+        Dir::at(file, at)
     }
 
     /// Opens a directory by its head at an offset in a file. Errors: DirShort, BadVersion.

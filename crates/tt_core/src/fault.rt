@@ -34,6 +34,8 @@ macro_rules! whys {
             21 ScaledOffset,
             22 PointLimit,
             23 CoordRange,
+            24 CollectionVersion,
+            25 NoFace,
             30 StepLimit,
             31 StackFull,
             32 StackShort,
@@ -148,6 +150,10 @@ pub enum Why {
     PointLimit,
     /// A coordinate is outside its range.
     CoordRange,
+    /// The collection's version is neither 1 nor 2.
+    CollectionVersion,
+    /// The file has no face with this number.
+    NoFace,
     /// A program makes too many steps.
     StepLimit,
     /// The stack is full.

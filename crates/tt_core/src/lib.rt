@@ -1,6 +1,7 @@
 //! The basis of every reader of a TrueType font: numbers, the table directory, faults and devices.
 #![tactic(auto)]
 
+mod collection;
 mod device;
 mod directory;
 mod draw_fault;
@@ -12,6 +13,7 @@ mod limits;
 mod number;
 mod scaling;
 
+pub use collection::{Reading, face_count};
 pub use device::{Device, IoFailed, Sink, Source};
 pub use directory::Dir;
 pub use draw_fault::DrawFault;
@@ -23,5 +25,5 @@ pub use limits::{
     HEIGHT_LIMIT, LEVEL_LIMIT, MARGIN_LIMIT, POINT_LIMIT, POINT_WORK_LIMIT, SIZE_LIMIT,
     STACK_LIMIT, STEP_LIMIT, TEXT_LIMIT, WIDTH_LIMIT, WORK_LIMIT,
 };
-pub use number::{i16_at, rq, u16_at, u32_at};
+pub use number::{i16_at, rq, u16_at, u24_at, u32_at};
 pub use scaling::Scale;

@@ -36,6 +36,16 @@ pub fn u32_at(b: &[u8], at: usize) -> Option<u32>
     Some(BigEndian::read_u32(&b[at..]))
 }
 
+/// The 24-bit number at an offset, or None if its bytes pass the end.
+pub fn u24_at(b: &[u8], at: usize) -> Option<u32>
+    ensures { result ≡ number_at b.now at 3 }
+{
+    if at > b.len() || b.len() - at < 3 {
+        return None;
+    }
+    Some(BigEndian::read_u24(&b[at..]))
+}
+
 fn nearest(n: i64, d: i64) -> i64
     requires numerator { unsigned_abs n < 2 ^ 61 }
     requires denominator { unsigned_abs d < 2 ^ 61 }

@@ -3,6 +3,7 @@ use Rattle.std.proofs.Common.{◌≡◌, ℕ, List, Result, Ok, Err, inl, inr, s
 use Rattle.std.specs.Prelude.{OnOk}
 use Rattle.tt_cmap.specs.Defects.{IsBadCmap}
 use Rattle.tt_cmap.specs.Lookup.{cmap_of}
+use Rattle.tt_cmap.specs.Maps.{strict}
 use Rattle.tt_cmap.proofs.Whole.{cmap-whole}
 use Rattle.tt_core.specs.Chains.{came-through}
 use Rattle.tt_core.specs.Directory.{Directory, file_directory, directory_of, table_of, needed_table, HasNo, PassesEnd, IsDirectoryDefect, IsTableDefect, IsDefectIn}
@@ -26,7 +27,7 @@ face-directory file face was =
     let by_metrics = came-through (metrics_of by_directory.value) _ face by_directory.rest in
     let by_table = came-through (needed_table by_directory.value cmap_tag) _ face by_metrics.rest in
     let by_lookup = came-through (cmap_of by_table.value (glyphs_of by_metrics.value)) _ face by_table.rest in
-    let same : record { directory = by_directory.value; metrics = by_metrics.value; cmap = by_lookup.value } ≡ face =
+    let same : record { directory = by_directory.value; metrics = by_metrics.value; cmap = strict by_lookup.value } ≡ face =
     let done = by_lookup.rest in cc in
     rw (← same) (directories.directory-kept (file_directory file) by_directory.value by_directory.first)
 

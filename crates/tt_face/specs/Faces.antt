@@ -2,7 +2,7 @@
 -- "The 'cvt ' table", "The 'fpgm' table", "The 'prep' table"; OpenType, "cmap", "loca", "glyf". A font may lack each of
 -- the tables of the programs.
 use Rattle.std.specs.Prelude.{◌≡◌, refl, ℕ, List, [], ◌∷◌, take, codes, Option, Some, None, Result, Ok, Err}
-use Rattle.tt_cmap.specs.Lookup.{Cmap}
+use Rattle.tt_cmap.specs.Maps.{CharacterMap}
 use Rattle.tt_core.specs.declared.fault.Why.TheVariants as why
 use Rattle.tt_core.specs.Directory.{Directory, file_directory, table_of, needed_table}
 use Rattle.tt_core.specs.Faults.{Fault, file_fault}
@@ -16,7 +16,7 @@ use Rattle.tt_face.specs.Programs.{ProgramTables}
 pub record Face : Type 0 where
   pub directory : Directory
   pub metrics : Metrics
-  pub cmap : Cmap
+  pub cmap : CharacterMap
 
 -- 'cmap'
 abbrev pub cmap_tag : List ℕ

@@ -1,4 +1,5 @@
 pub mod Defects
+pub mod FaceRows
 pub mod Faces
 pub mod Files
 pub mod Laws

@@ -4,16 +4,17 @@ ghost use Rattle.std.specs.Prelude.{◌≡◌, ◌≤◌, length, IsTrue, IfOk, 
 ghost use Rattle.tt_core.specs.Directory.{file_directory, HasNo, PassesEnd};
 ghost use Rattle.tt_core.specs.Limits.{font_limit};
 ghost use Rattle.tt_core.specs.Outcomes.{Gives};
+ghost use Rattle.tt_cmap.specs.Maps.{glyph_count};
 ghost use Rattle.tt_metrics.specs.Metrics.{loca_format_of, glyphs_of};
 ghost use Rattle.tt_face.specs.Defects.{IsGlyphTableDefect, HasProgramPastEnd};
 ghost use Rattle.tt_face.specs.Faces.{glyphs_in, optional_table, programs_of};
 ghost use Rattle.tt_face.specs.Programs.{program_tables};
-ghost use Rattle.tt_face.specs.Files.{face_of, IsFaceDefect};
+ghost use Rattle.tt_face.specs.Files.{face_of, face_by, IsFaceDefect, IsFaceDefectBy};
 
 use crate::programs::Programs;
 use std::marker::Model;
-use tt_cmap::Cmap;
-use tt_core::{Dir, Fault};
+use tt_cmap::{CharacterMap, Cmap};
+use tt_core::{Dir, Fault, Reading};
 use tt_glyf::{Glyf, Loca};
 use tt_metrics::Metrics;
 
@@ -22,11 +23,12 @@ use tt_metrics::Metrics;
 pub struct Face<'a> {
     dir: Dir<'a>,
     metrics: Metrics<'a>,
-    cmap: Cmap<'a>,
+    cmap: CharacterMap<'a>,
 }
 
 impl<'a> Model for Face<'a> {
     ghost use Rattle.std.specs.Prelude.{◌≡◌};
+    ghost use Rattle.tt_cmap.specs.Maps.{glyph_count};
     ghost use Rattle.tt_metrics.specs.Metrics.{glyphs_of};
     ghost use Rattle.tt_face.specs.Faces as faces;
 
@@ -34,7 +36,7 @@ impl<'a> Model for Face<'a> {
 
     ghost view = { λ f. record { directory = f.dir; metrics = f.metrics; cmap = f.cmap } };
 
-    ghost invariant = { λ f. f.cmap.glyphs ≡ glyphs_of f.metrics };
+    ghost invariant = { λ f. glyph_count f.cmap ≡ glyphs_of f.metrics };
 }
 
 impl<'a> Face<'a> {
@@ -51,6 +53,26 @@ impl<'a> Face<'a> {
         let dir = Dir::open(file)?;
         let metrics = Metrics::open(&dir)?;
         let cmap = Cmap::open(dir.needed(*b"cmap")?, metrics.glyphs())?;
+        Ok(Face {
+            dir,
+            metrics,
+            cmap: CharacterMap::strict(cmap),
+        })
+    }
+
+    /// Opens the tables of the face that a reading asks for, in a file of at most 67,108,864 bytes. Errors: those of
+    /// the directory and of its place, of head, maxp, hhea and hmtx, and of cmap.
+    #[tactic(auto, unfolding(crate::specs::Files::face_by, crate::specs::Files::face_at))]
+    pub fn read(file: &'a [u8], reading: Reading) -> Result<Face<'a>, Fault>
+        requires { length file.now ≤ font_limit }
+        ensures exact { Gives (λ f. f) result (face_by file.now reading) }
+        ensures sound { OnOk result (HasNo (IsFaceDefectBy file.now reading)) }
+        ensures fault { IfErr result (IsFaceDefectBy file.now reading) }
+    {
+        let dir = Dir::read(file, reading)?;
+        let metrics = Metrics::open(&dir)?;
+        let table = dir.needed(*b"cmap")?;
+        let cmap = CharacterMap::open(table, metrics.glyphs(), reading)?;
         Ok(Face { dir, metrics, cmap })
     }
 
@@ -62,9 +84,9 @@ impl<'a> Face<'a> {
     }
 
     /// The map from characters to glyphs.
-    pub fn cmap(&self) -> &Cmap<'a>
+    pub fn cmap(&self) -> &CharacterMap<'a>
         ensures exact { result.now ≡ self.now.cmap }
-        ensures glyphs { result.now.glyphs ≡ glyphs_of self.now.metrics }
+        ensures glyphs { glyph_count result.now ≡ glyphs_of self.now.metrics }
     {
         &self.cmap
     }

@@ -1,11 +1,20 @@
 //! Lemmas about the definitions, for all files. No code runs.
 
 ghost use Rattle.tt_face.specs.Laws.{GlyphTablesAreWhole, ProgramsAreWhole};
-ghost use Rattle.tt_face.specs.Files.{FacesAreWhole};
+ghost use Rattle.tt_face.specs.Files.{FacesAreWhole, ReadFacesAreWhole, StrictIsTheFace, FacesAreTheirFonts, WideFacesExtend};
 
 /// Lemma: if the definitions give a face, its glyph tables or its programs, then these have no defect.
 pub fn faces_are_whole()
     ensures face { FacesAreWhole }
     ensures glyphs { GlyphTablesAreWhole }
     ensures programs { ProgramsAreWhole }
+{}
+
+/// Lemma: if a reading gives a face, the face has no defect for that reading. The strict reading gives the file's only
+/// font. The wide reading extends the strict one. A face is its font, wherever the directory is.
+pub fn readings_give_faces()
+    ensures whole { ReadFacesAreWhole }
+    ensures strict { StrictIsTheFace }
+    ensures extends { WideFacesExtend }
+    ensures fonts { FacesAreTheirFonts }
 {}

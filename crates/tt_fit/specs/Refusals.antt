@@ -37,7 +37,7 @@ abbrev its_metrics : Metrics
 its_metrics = record {
   head = record { units_per_em = 256; loca_format = Short };
   maxp = record { glyphs = 4; twilight = 0; storage = 0 };
-  hhea = record { ascent = pos 256; descent = neg_ℤ (pos 64); long_metrics = 1 };
+  hhea = record { ascent = pos 256; descent = neg_ℤ (pos 64); line_gap = pos 0; long_metrics = 1 };
   hmtx = 1 ∷ 0 ∷ 0 ∷ 64 ∷ 0 ∷ 64 ∷ 0 ∷ 64 ∷ 0 ∷ 64 ∷ [];
 }
 

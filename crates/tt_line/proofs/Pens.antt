@@ -70,20 +70,24 @@ pens_within f gs = pens_by_steps gs (map f gs)
 pub length-placed : (f : ℕ → ℕ) (gs : List ℕ) → length (placed f gs) ≡ length gs
 length-placed f gs = length-at_pens gs (map f gs)
 
--- the first characters advance at most as far as all
-pub part_within : (f g : ℕ → ℕ) (part all : List ℕ) (n : ℕ) → part ≡ take n all → sum (map f (map g part)) ≤ sum (map f (map g all))
+-- the first units advance at most as far as all; g gives a unit's glyph
+pub part_within : {A : Type 0} (f : ℕ → ℕ) (g : A → ℕ) (part all : List A) (n : ℕ) → part ≡ take n all
+    → sum (map f (map g part)) ≤ sum (map f (map g all))
 part_within f g part all n e =
     let same : map f (map g part) ≡ take n (map f (map g all)) = rw (e, ← take-map g n all, ← take-map f n (map g all)) refl in
     rw same (sum_by-take-le (λ n. n) (map f (map g all)) n)
 
--- one more character; g gives its glyph
-pub next_pen : (f g : ℕ → ℕ) (cs : List ℕ) (c glyph pen advance : ℕ) → pen ≡ sum (map f (map g cs)) → glyph ≡ g c → advance ≡ f glyph → pen + advance ≡ sum (map f (map g (cs ++ c ∷ [])))
-next_pen f g cs c glyph pen advance before is_glyph is_advance =
-    rw (before, is_advance, is_glyph, map_push g cs c, map_push f (map g cs) (g c)) (sym (sum_by_push (λ n. n) (map f (map g cs)) (f (g c))))
+-- one more unit
+pub next_pen : {A : Type 0} (f : ℕ → ℕ) (g : A → ℕ) (us : List A) (u : A) (glyph pen advance : ℕ) → pen ≡ sum (map f (map g us))
+    → glyph ≡ g u → advance ≡ f glyph → pen + advance ≡ sum (map f (map g (us ++ u ∷ [])))
+next_pen f g us u glyph pen advance before is_glyph is_advance =
+    rw (before, is_advance, is_glyph, map_push g us u, map_push f (map g us) (g u)) (sym (sum_by_push (λ n. n) (map f (map g us)) (f (g u))))
 
-pub next_placed : (f g : ℕ → ℕ) (cs : List ℕ) (c glyph pen : ℕ) (before after : List (ℕ × ℕ)) → pen ≡ sum (map f (map g cs)) → before ≡ placed f (map g cs) → glyph ≡ g c → after ≡ before ++ (glyph, pen) ∷ [] → after ≡ placed f (map g (cs ++ c ∷ []))
-next_placed f g cs c glyph pen before after is_pen is_before is_glyph pushed =
-    rw (pushed, is_before, is_pen, is_glyph, map_push g cs c) (sym (placed_more f (map g cs) (g c)))
+pub next_placed : {A : Type 0} (f : ℕ → ℕ) (g : A → ℕ) (us : List A) (u : A) (glyph pen : ℕ) (before after : List (ℕ × ℕ))
+    → pen ≡ sum (map f (map g us)) → before ≡ placed f (map g us) → glyph ≡ g u → after ≡ before ++ (glyph, pen) ∷ []
+    → after ≡ placed f (map g (us ++ u ∷ []))
+next_placed f g us u glyph pen before after is_pen is_before is_glyph pushed =
+    rw (pushed, is_before, is_pen, is_glyph, map_push g us u) (sym (placed_more f (map g us) (g u)))
 
 -- the glyphs of the placed list are the given ones
 pub glyphs_of_placed : (f : ℕ → ℕ) (gs : List ℕ) → map (λ p. p.0) (placed f gs) ≡ gs

@@ -1,5 +1,5 @@
--- A text after layout has the glyphs of its characters, and a line's pens are the sums of its steps.
-use Rattle.std.proofs.Common.{◌≡◌, refl, sym, ap, ℕ, ◌<◌, ◌≤◌, Bool, true, false, ◌||◌, ◌==◌, if◌then◌else◌, nat_lt, pos, int_lt, List, length, slice_index, take, Result, Ok, Err, arith}
+-- A text after layout has the glyphs of its units, and a line's pens are the sums of its steps.
+use Rattle.std.proofs.Common.{◌≡◌, ◌∙◌, refl, sym, ap, ap₂, ℕ, ◌<◌, ◌≤◌, Bool, true, false, ◌||◌, ◌==◌, if◌then◌else◌, nat_lt, pos, int_lt, List, [], ◌∷◌, chars, length, map, slice_index, take, Result, Ok, Err, arith}
 use Rattle.std.proofs.lemmas.List.{take-take}
 use Rattle.std.proofs.lemmas.List.FromFn.{get_or-map-range_with_len}
 use Rattle.std.proofs.lemmas.List.Sums.{sum_by_more, sum_by-take-le}
@@ -8,7 +8,13 @@ use Rattle.tt_core.specs.declared.fault.JobFault.{JobFault}
 use Rattle.tt_core.specs.declared.fault.JobFault.TheVariants as job
 use Rattle.tt_core.specs.Limits.{height_limit, width_limit}
 use Rattle.tt_core.specs.Chains.{came-through}
-use Rattle.tt_line.specs.Laws.{AdvancesAreSteps, PlacesGlyphs, StepsLead}
+use Rattle.tt_cmap.specs.declared.units.TextUnit.{TextUnit}
+use Rattle.tt_cmap.specs.Lookup.{glyph_of}
+use Rattle.tt_cmap.specs.Maps.{strict, wide, glyph_of_unit}
+use Rattle.tt_cmap.specs.Units.{plain_unit}
+use Rattle.tt_cmap.specs.WideLookup.{wide_glyph_of}
+use Rattle.tt_cmap.proofs.UnitLaws.{plain-texts, characters-are-units}
+use Rattle.tt_line.specs.Laws.{AdvancesAreSteps, PlacesGlyphs, PlainTextsKeepGlyphs, StepsLead, StrictTexts}
 use Rattle.tt_line.specs.declared.extent.PictureExtent.{PictureExtent}
 use Rattle.tt_line.specs.Layout.{advance_in_pixels, advances_of, extent_by, extent_of, pen_at, placed_in, rise_of, text_glyphs, within_limits, placement}
 use Rattle.tt_line.proofs.Pens.{glyphs_by_steps, glyphs_of_placed, length-at_pens}
@@ -58,3 +64,26 @@ steps-lead glyphs steps margin rise depth line was =
 
 pub advances-are-steps : AdvancesAreSteps
 advances-are-steps m ppem margin glyphs = refl
+
+-- each character of a text is a unit
+mapped : (f : TextUnit → ℕ) (cs : List ℕ) → map f (map plain_unit cs) ≡ map (λ c. f (plain_unit c)) cs
+mapped f [] = refl
+mapped f (c ∷ cs) = ap (λ (gs : List ℕ). f (plain_unit c) ∷ gs) (mapped f cs)
+
+pub strict-texts : StrictTexts
+strict-texts m text =
+    let f = glyph_of_unit (strict m) in
+    ap (λ (us : List TextUnit). map f us) (characters-are-units (chars text)) ∙ mapped f (chars text)
+
+same-glyphs : (f g : ℕ → ℕ) (cs : List ℕ) → ((c : ℕ) → f c ≡ g c) → map f cs ≡ map g cs
+same-glyphs f g [] same = refl
+same-glyphs f g (c ∷ cs) same = ap₂ (λ (d : ℕ) (ds : List ℕ). d ∷ ds) (same c) (same-glyphs f g cs same)
+
+pub plain-texts-keep : PlainTextsKeepGlyphs
+plain-texts-keep m w text same plain =
+    let cs = chars text in
+    let f = glyph_of_unit (strict m) in
+    let g = glyph_of_unit (wide w) in
+    ap (λ (us : List TextUnit). map g us) (plain-texts cs plain) ∙ mapped g cs
+    ∙ same-glyphs (wide_glyph_of w) (glyph_of m) cs same ∙ sym (mapped f cs)
+    ∙ sym (ap (λ (us : List TextUnit). map f us) (characters-are-units cs))

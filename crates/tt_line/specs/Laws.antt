@@ -1,15 +1,18 @@
 -- Lemmas about the definitions. Apple TrueType Reference Manual, "The 'hmtx' table": a line of text.
-use Rattle.std.specs.Prelude.{◌≡◌, ℕ, ◌+◌, ◌*◌, ◌<◌, ◌≤◌, ℤ, List, get_or, length, map, slice_index, Ok}
-use Rattle.tt_cmap.specs.Lookup.{Cmap}
+use Rattle.std.specs.Prelude.{◌≡◌, ℕ, ◌+◌, ◌*◌, ◌<◌, ◌≤◌, ℤ, false, All, List, chars, get_or, length, map, slice_index, Ok}
+use Rattle.tt_cmap.specs.Lookup.{Cmap, glyph_of}
+use Rattle.tt_cmap.specs.Maps.{CharacterMap, strict, wide}
+use Rattle.tt_cmap.specs.Units.{is_selector}
+use Rattle.tt_cmap.specs.WideLookup.{WideCmap, wide_glyph_of}
 use Rattle.tt_metrics.specs.Metrics.{Metrics}
 use Rattle.tt_line.specs.Layout.{Placement, advances_of, depth_of, glyph_placement, laid, pen_at, placement, rise_of, text_glyphs}
 
--- the placed glyphs of a text after layout are those of its characters
+-- the placed glyphs of a text after layout are those of its units
 abbrev pub PlacesGlyphs : Type 0
-PlacesGlyphs = (m : Metrics) (cmap : Cmap) (text : List ℕ) (ppem margin : ℕ) (line : Placement)
+PlacesGlyphs = (m : Metrics) (cmap : CharacterMap) (text : List ℕ) (ppem margin : ℕ) (line : Placement)
     → placement m cmap text ppem margin ≡ Ok line → map (λ g. g.0) line.glyphs ≡ text_glyphs cmap text
 
--- each character has its glyph, and the pens of a line are the sums of the steps before them: the first is 0, each step
+-- each unit has its glyph, and the pens of a line are the sums of the steps before them: the first is 0, each step
 -- leads to the next, and the last step leads to the right margin
 pub record ArePens (gs steps : List ℕ) (margin : ℕ) (line : Placement) : Type 0 where
   pub numbers : map (λ g. g.0) line.glyphs ≡ gs
@@ -28,3 +31,12 @@ StepsLead = (glyphs steps : List ℕ) (margin : ℕ) (rise depth : ℤ) (line : 
 abbrev pub AdvancesAreSteps : Type 0
 AdvancesAreSteps = (m : Metrics) (ppem margin : ℕ) (glyphs : List ℕ) → glyph_placement m ppem margin glyphs
     ≡ laid glyphs (advances_of m ppem glyphs) margin (rise_of m ppem) (depth_of m ppem)
+
+-- with the strict reading, each character of a text has its glyph
+abbrev pub StrictTexts : Type 0
+StrictTexts = (m : Cmap) (text : List ℕ) → text_glyphs (strict m) text ≡ map (glyph_of m) (chars text)
+
+-- a map of the wide reading with the same glyph for each character gives the same glyphs for a text without selectors
+abbrev pub PlainTextsKeepGlyphs : Type 0
+PlainTextsKeepGlyphs = (m : Cmap) (w : WideCmap) (text : List ℕ) → ((c : ℕ) → wide_glyph_of w c ≡ glyph_of m c)
+    → All (λ c. is_selector c ≡ false) (chars text) → text_glyphs (wide w) text ≡ text_glyphs (strict m) text

@@ -9,7 +9,7 @@ use Rattle.tt_core.specs.declared.fault.JobFault.TheVariants as job
 use Rattle.tt_core.specs.Limits.{width_limit, height_limit}
 use Rattle.tt_core.specs.Numbers.{rounded_quotient}
 use Rattle.tt_core.specs.Outcomes.{◌>>=◌}
-use Rattle.tt_cmap.specs.Lookup.{Cmap, glyph_of}
+use Rattle.tt_cmap.specs.Maps.{CharacterMap, glyph_of_unit, units_by}
 use Rattle.tt_line.specs.declared.extent.PictureExtent.{PictureExtent}
 use Rattle.tt_metrics.specs.declared.head.LocaFormat.TheVariants.{Short}
 use Rattle.tt_metrics.specs.Metrics.{Metrics, units_per_em_of, ascent_of, descent_of, advance_of}
@@ -30,9 +30,9 @@ rise_of m ppem = ceiling_quotient (ascent_of m *ℤ pos ppem) (pos (units_per_em
 abbrev pub depth_of : Metrics → ℕ → ℤ
 depth_of m ppem = ceiling_quotient (neg_ℤ (descent_of m) *ℤ pos ppem) (pos (units_per_em_of m))
 
--- the glyph of each character of a text
-abbrev pub text_glyphs : Cmap → List ℕ → List ℕ
-text_glyphs cmap text = map (glyph_of cmap) (chars text)
+-- the glyph of each unit of a text
+abbrev pub text_glyphs : CharacterMap → List ℕ → List ℕ
+text_glyphs cmap text = map (glyph_of_unit cmap) (units_by cmap (chars text))
 
 -- the advances of glyphs, in pixels
 abbrev pub advances_of : Metrics → ℕ → List ℕ → List ℕ
@@ -68,7 +68,7 @@ within_limits e =
     else (if nat_lt width_limit e.width || int_lt (pos height_limit) e.height then Err job.PictureLarge else Ok e)
 
 -- a line after layout, in pixels: the picture's size, the distance of the base line below the upper margin, and each
--- character's glyph and pen
+-- unit's glyph and pen
 pub record Placement : Type 0 where
   pub width : ℕ
   pub height : ℕ
@@ -98,7 +98,7 @@ abbrev pub glyph_placement : Metrics → ℕ → ℕ → List ℕ → Result Pla
 glyph_placement m ppem margin glyphs = laid_at m ppem margin glyphs (advances_of m ppem glyphs)
 
 -- the layout of a text at a size in pixels per em with a margin in pixels, or the refusal
-unfoldable pub placement : Metrics → Cmap → List ℕ → ℕ → ℕ → Result Placement JobFault
+unfoldable pub placement : Metrics → CharacterMap → List ℕ → ℕ → ℕ → Result Placement JobFault
 placement m cmap text ppem margin = glyph_placement m ppem margin (text_glyphs cmap text)
 
 -- a picture without a pixel
@@ -127,7 +127,7 @@ example : Metrics
 example = record {
   head = record { units_per_em = 256; loca_format = Short };
   maxp = record { glyphs = 3; twilight = 0; storage = 0 };
-  hhea = record { ascent = pos 300; descent = negsuc 99; long_metrics = 3 };
+  hhea = record { ascent = pos 300; descent = negsuc 99; line_gap = pos 0; long_metrics = 3 };
   hmtx = 1 ∷ 0 ∷ 0 ∷ 0 ∷ 0 ∷ 250 ∷ 0 ∷ 0 ∷ 0 ∷ 8 ∷ 0 ∷ 0 ∷ [];
 }
 

@@ -1,14 +1,14 @@
 //! Lemmas about the definitions, for all texts. No code runs.
 
-ghost use Rattle.tt_line.specs.Laws.{AdvancesAreSteps, PlacesGlyphs, StepsLead};
+ghost use Rattle.tt_line.specs.Laws.{AdvancesAreSteps, PlacesGlyphs, PlainTextsKeepGlyphs, StepsLead, StrictTexts};
 
-/// Lemma: if the definition lays out a text, each character has its glyph, in the text's order.
+/// Lemma: if the definition lays out a text, each unit has its glyph, in the text's order.
 pub fn glyphs_are_placed()
     ensures { PlacesGlyphs }
 {}
 
-/// Lemma: the first pen of a line is 0, each step leads to the next pen, and the last step leads to the right margin. No
-/// pen is left of a pen before it.
+/// Lemma: the first pen of a line is 0, each step leads to the next pen, and the last step leads to the right margin.
+/// No pen is left of a pen before it.
 pub fn steps_lead()
     ensures { StepsLead }
 {}
@@ -16,4 +16,11 @@ pub fn steps_lead()
 /// Lemma: the layout of a text by advances is the layout by steps, with the advances as the steps.
 pub fn advances_are_steps()
     ensures { AdvancesAreSteps }
+{}
+
+/// Lemma: with the strict reading, each character of a text has its glyph. The wide reading gives the same glyphs for a
+/// text without selectors, if each character has the same glyph.
+pub fn readings_give_glyphs()
+    ensures strict { StrictTexts }
+    ensures wide { PlainTextsKeepGlyphs }
 {}

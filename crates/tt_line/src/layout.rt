@@ -14,7 +14,7 @@ use crate::pixels::{depth, rise};
 use std::alloc::{AllocError, Global};
 use tt_core::DrawFault;
 
-/// Lays out a text at the size of its characters' advances, with margins of `margin` pixels. Each advance is rounded to
+/// Lays out a text at the size of its units' advances, with margins of `margin` pixels. Each advance is rounded to
 /// the nearest pixel; ascent and descent are rounded up. A refused line takes no memory.
 ///
 /// The first of these errors is returned:
@@ -55,7 +55,7 @@ pub fn lay(
     })
 }
 
-/// The sum of the advances of a text's characters, in pixels. For 4,096 characters it can exceed 32 bits.
+/// The sum of the advances of a text's units, in pixels. For 4,096 characters the sum can exceed 32 bits.
 fn sum_of_advances(known: &mut KnownAdvances, text: &str) -> u64
     requires text { length (chars text.now) ≤ text_limit }
     ensures exact { result ≡ sum (advances_of known.old.metrics known.old.ppem (text_glyphs known.old.cmap text.now)) }
@@ -63,13 +63,13 @@ fn sum_of_advances(known: &mut KnownAdvances, text: &str) -> u64
     ensures same { known.new ≡ known.old }
 {
     let mut sum = 0;
-    for c in text.chars() {
-        sum += u64::from(known.step(c).advance);
+    for unit in known.cmap().units(text) {
+        sum += u64::from(known.step(unit).advance);
     }
     sum
 }
 
-/// The glyph of each character with its pen: the pixels from the left margin to the glyph's origin.
+/// The glyph of each unit with its pen: the pixels from the left margin to the glyph's origin.
 fn placed_glyphs(
     alloc: Global,
     known: &mut KnownAdvances,
@@ -78,18 +78,18 @@ fn placed_glyphs(
     requires fits { sum (advances_of known.old.metrics known.old.ppem (text_glyphs known.old.cmap text.now)) ≤ width_limit }
     ensures exact { IfOk result (λ v. v.items ≡ placed_glyphs known.old.metrics known.old.ppem (text_glyphs known.old.cmap text.now)) }
     ensures memory { IfErr result (λ e. 0 < length (chars text.now)) }
-    ensures count { IfOk result (λ v. length v.items ≡ length (chars text.now)) }
+    ensures few { IfOk result (λ v. length v.items ≤ length (chars text.now)) }
     ensures glyphs { IfOk result (λ v. map (λ p. p.0) v.items ≡ text_glyphs known.old.cmap text.now) }
     ensures known { IfOk result (λ v. All (λ p. p.0 < glyphs_of known.old.metrics) v.items) }
     ensures pens { IfOk result (λ v. All (λ p. p.1 ≤ sum (advances_of known.old.metrics known.old.ppem (text_glyphs known.old.cmap text.now))) v.items) }
     ensures same { known.new ≡ known.old }
 {
     let mut glyphs = Vec::new(alloc);
-    // A character has at least a byte.
+    // A unit has at least a byte.
     glyphs.reserve(text.len())?;
     let mut pen = 0;
-    for c in text.chars() {
-        let step = known.step(c);
+    for unit in known.cmap().units(text) {
+        let step = known.step(unit);
         glyphs.push((step.glyph, pen))?;
         pen += step.advance;
     }

@@ -12,7 +12,7 @@ pub struct Line {
     pub height: u32,
     /// Pixels from the base line up to the upper margin.
     pub rise: i32,
-    /// The glyph of each character, and the pixels from the left margin to the glyph's origin.
+    /// The glyph of each unit, and the pixels from the left margin to the glyph's origin.
     pub glyphs: Vec<(u16, u32)>,
     pub ghost wide: { (1 ≤ width) × (width ≤ width_limit) },
     pub ghost high: { (1 ≤ height) × (height ≤ height_limit) },

@@ -15,7 +15,7 @@ use std::alloc::{AllocError, Global};
 use tt_core::JobFault;
 use tt_metrics::Metrics;
 
-/// The glyph of each character of a text, with its advance as its step. Error: Memory.
+/// The glyph of each unit of a text, with its advance as its step. Error: Memory.
 pub fn advance_steps(
     alloc: Global,
     known: &mut KnownAdvances,
@@ -29,8 +29,8 @@ pub fn advance_steps(
     ensures same { known.new ≡ known.old }
 {
     let mut glyphs = Vec::new(alloc);
-    for c in text.chars() {
-        let step = known.step(c);
+    for unit in known.cmap().units(text) {
+        let step = known.step(unit);
         glyphs.push((step.glyph, step.advance))?;
     }
     Ok(glyphs)

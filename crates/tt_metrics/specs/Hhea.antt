@@ -13,11 +13,16 @@ use Rattle.tt_metrics.specs.Tables.{or_short, IsShort}
 abbrev pub hhea_tag : List ℕ
 hhea_tag = codes "hhea"
 
--- ascent at 4, descent at 6, numOfLongHorMetrics at 34
+-- ascent at 4, descent at 6, lineGap at 8, numOfLongHorMetrics at 34
 abbrev pub hhea_fields : List ℕ → Result Hhea Fault
 hhea_fields hhea =
     if unsigned_at hhea 34 2 == 0 then Err (fault_at hhea_tag 34 why.MetricsShort)
-    else Ok (record { ascent = signed16 (unsigned_at hhea 4 2); descent = signed16 (unsigned_at hhea 6 2); long_metrics = unsigned_at hhea 34 2 })
+    else Ok (record {
+      ascent = signed16 (unsigned_at hhea 4 2);
+      descent = signed16 (unsigned_at hhea 6 2);
+      line_gap = signed16 (unsigned_at hhea 8 2);
+      long_metrics = unsigned_at hhea 34 2;
+    })
 
 -- the fields of hhea, which needs 36 bytes
 unfoldable pub hhea_in : List ℕ → Result Hhea Fault

@@ -52,6 +52,10 @@ ascent_of m = m.hhea.ascent
 abbrev pub descent_of : Metrics → ℤ
 descent_of m = m.hhea.descent
 
+-- font units between the descent of a line and the ascent of the next
+abbrev pub line_gap_of : Metrics → ℤ
+line_gap_of m = m.hhea.line_gap
+
 abbrev pub advance_of : Metrics → ℕ → ℕ
 advance_of m g = advance_in m.hmtx m.hhea.long_metrics g
 

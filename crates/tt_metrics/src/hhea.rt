@@ -11,6 +11,8 @@ pub struct Hhea {
     pub ascent: i16,
     /// Font units above the base line, so usually negative.
     pub descent: i16,
+    /// Font units between the descent of a line and the ascent of the next.
+    pub line_gap: i16,
     /// The number of pairs at the start of hmtx.
     pub long_metrics: u16,
 }
@@ -36,6 +38,7 @@ impl Fields for Hhea {
         Ok(Hhea {
             ascent: i16_at(hhea, 4).unwrap(),
             descent: i16_at(hhea, 6).unwrap(),
+            line_gap: i16_at(hhea, 8).unwrap(),
             long_metrics,
         })
     }

@@ -4,7 +4,7 @@ ghost use Rattle.std.specs.Prelude.{◌≡◌, ◌<◌, ◌≤◌, IsTrue, IfOk,
 ghost use Rattle.tt_core.specs.Directory.{HasNo};
 ghost use Rattle.tt_core.specs.Outcomes.{Gives};
 ghost use Rattle.tt_metrics.specs.Head.{smallest_em, largest_em};
-ghost use Rattle.tt_metrics.specs.Metrics.{metrics_of, units_per_em_of, loca_format_of, glyphs_of, twilight_of, storage_of, ascent_of, descent_of, advance_of, left_side_bearing_of, IsInRange, IsMetricsDefect};
+ghost use Rattle.tt_metrics.specs.Metrics.{metrics_of, units_per_em_of, loca_format_of, glyphs_of, twilight_of, storage_of, ascent_of, descent_of, line_gap_of, advance_of, left_side_bearing_of, IsInRange, IsMetricsDefect};
 
 use crate::head::{HEAD, Head, LocaFormat};
 use crate::hhea::{HHEA, Hhea};
@@ -99,6 +99,13 @@ impl<'a> Metrics<'a> {
         ensures { result ≡ descent_of self.now }
     {
         self.hhea.descent
+    }
+
+    /// The line gap: font units between the descent of a line and the ascent of the next.
+    pub fn line_gap(&self) -> i16
+        ensures { result ≡ line_gap_of self.now }
+    {
+        self.hhea.line_gap
     }
 
     /// The format of loca's offsets.

@@ -1,10 +1,12 @@
-use Rattle.std.proofs.Common.{◌≡◌}
+use Rattle.std.proofs.Common.{◌≡◌, chars}
 use Rattle.tt_cmap.specs.Lacking.{lacking_of}
+use Rattle.tt_cmap.specs.Texts.{units_left}
+use Rattle.tt_cmap.proofs.WithoutGlyphs.{lacking_after}
 use Rattle.tt_cmap.proofs.missing.lacking.Given as goal
 
--- the list for the characters so far
-abbrev pub invariant-loop-c : goal.invariant-loop-c
-invariant-loop-c l = record {
-  listed : l.listed.items ≡ lacking_of l.fn.cmap l.yielded;
+-- the list so far, and then the units that are left
+abbrev pub invariant-loop-unit : goal.invariant-loop-unit
+invariant-loop-unit l = record {
   same : l.known ≡ l.fn.cmap;
+  listed : lacking_after l.fn.cmap l.listed.items (units_left l.unit-iterator) ≡ lacking_of l.fn.cmap (chars l.fn.text);
 }

@@ -1,37 +1,42 @@
 use Rattle.std.proofs.Common.{◌≡◌, ◌<◌, ◌≤◌, ℕ, IsUtf8, ◌⊎◌, inl, inr, refl, List, [], ◌∷◌, ◌++◌, length, sum, chars, Result, Ok, Err, IfErr, sym, ap, ◌∙◌, arith}
 use Rattle.std.proofs.lemmas.Str.{encodes-chars}
-use Rattle.std.proofs.lemmas.Iterator.{YieldsList-from_chars}
-use Rattle.std.proofs.lemmas.Iterator.Consumers.{YieldsList-so_far, YieldsList-turn, YieldsList-end}
+use Rattle.std.proofs.lemmas.Iterator.Consumers.{YieldsList-from_first, YieldsList-so_far, YieldsList-turn, YieldsList-end}
 use Rattle.std.proofs.lemmas.List.{map-id, length-map}
 use Rattle.std.proofs.lemmas.List.Elements.{All-push}
 use Rattle.tt_metrics.specs.Metrics.{glyphs_of}
-use Rattle.tt_cmap.specs.Lookup.{glyph_of}
+use Rattle.tt_cmap.specs.declared.units.TextUnit.{TextUnit}
+use Rattle.tt_cmap.specs.Maps.{glyph_of_unit, has_pairs, units_by}
+use Rattle.tt_cmap.specs.Texts.{units_left}
+use Rattle.tt_cmap.proofs.UnitLaws.{units-are-few}
 use Rattle.tt_line.specs.Layout.{advance_in_pixels, advances_of, text_glyphs}
 use Rattle.tt_line.proofs.Pens.{part_within, next_pen, next_placed, pens_within, length-placed, glyphs_of_placed}
 use Rattle.tt_line.proofs.layout.placed_glyphs.Goals as goal
 
 pub overflow_add-pen : goal.overflow_add-pen
 overflow_add-pen c =
-    let cs = chars c.args.text.now in
-    let part = sym (map-id c.loop-c.yielded) ∙ YieldsList-so_far (YieldsList-from_chars c.args.text.now c.utf8.text cc) c.loop-c.yielded _ c.loop-c.yielded_by in
-    let within = part_within (advance_in_pixels c.args.known.now.metrics c.args.known.now.ppem) (glyph_of c.args.known.now.cmap) c.loop-c.yielded cs (length c.loop-c.yielded) part in
-    let pen : c.loop-c.pen ≤ sum (advances_of c.args.known.now.metrics c.args.known.now.ppem (text_glyphs c.args.known.now.cmap c.args.text.now)) = rw c.loop-c.invariant.pen within in
+    let m = c.args.known.now.cmap in
+    let us = units_by m (chars c.args.text.now) in
+    let from : units_left c.units-unit-items.result ≡ us = rw c.cmap.ensures at c.units-unit-items.ensures in
+    let f = advance_in_pixels c.args.known.now.metrics c.args.known.now.ppem in
+    let part = sym (map-id c.loop-unit.yielded) ∙ YieldsList-so_far (YieldsList-from_first (λ (u : TextUnit). u) units_left us from) c.loop-unit.yielded _ c.loop-unit.yielded_by in
+    let within = part_within f (glyph_of_unit m) c.loop-unit.yielded us (length c.loop-unit.yielded) part in
+    let pen : c.loop-unit.pen ≤ sum (advances_of c.args.known.now.metrics c.args.known.now.ppem (text_glyphs m c.args.text.now)) = rw c.loop-unit.invariant.pen within in
     omega arith
 
-pub loop-c-preserved : goal.loop-c-preserved
-loop-c-preserved c =
+pub loop-unit-preserved : goal.loop-unit-preserved
+loop-unit-preserved c =
     let f = advance_in_pixels c.args.known.now.metrics c.args.known.now.ppem in
-    let g = glyph_of c.args.known.now.cmap in
-    let was = c.loop-c.invariant.same in
-    let items : c.push.new.self.items ≡ c.loop-c.glyphs.items ++ (c.step-step.result.glyph, c.loop-c.pen) ∷ [] = c.in_ok-push.ensures.items in
-    let glyph : c.step-step.result.glyph ≡ g c.in-Some.c = rw was at c.step-step.ensures.glyph in
+    let g = glyph_of_unit c.args.known.now.cmap in
+    let was = c.loop-unit.invariant.same in
+    let items : c.push.new.self.items ≡ c.loop-unit.glyphs.items ++ (c.step-step.result.glyph, c.loop-unit.pen) ∷ [] = c.in_ok-push.ensures.items in
+    let glyph : c.step-step.result.glyph ≡ g c.in-Some.unit = rw was at c.step-step.ensures.glyph in
     let within : c.step-step.result.glyph < glyphs_of c.args.known.now.metrics = rw was at c.step-step.ensures.known in
     let advance : c.step-step.result.advance ≡ f c.step-step.result.glyph = rw was at c.step-step.ensures.advance in
     record {
       same = c.step-step.ensures.same ∙ was;
-      pen = next_pen f g c.loop-c.yielded c.in-Some.c c.step-step.result.glyph c.loop-c.pen c.step-step.result.advance c.loop-c.invariant.pen glyph advance;
-      placed = next_placed f g c.loop-c.yielded c.in-Some.c c.step-step.result.glyph c.loop-c.pen c.loop-c.glyphs.items c.push.new.self.items c.loop-c.invariant.pen c.loop-c.invariant.placed glyph items;
-      known = rw items (All-push (λ (p : ℕ × ℕ). p.0 < glyphs_of c.args.known.now.metrics) c.loop-c.glyphs.items (c.step-step.result.glyph, c.loop-c.pen) c.loop-c.invariant.known (omega arith));
+      pen = next_pen f g c.loop-unit.yielded c.in-Some.unit c.step-step.result.glyph c.loop-unit.pen c.step-step.result.advance c.loop-unit.invariant.pen glyph advance;
+      placed = next_placed f g c.loop-unit.yielded c.in-Some.unit c.step-step.result.glyph c.loop-unit.pen c.loop-unit.glyphs.items c.push.new.self.items c.loop-unit.invariant.pen c.loop-unit.invariant.placed glyph items;
+      known = rw items (All-push (λ (p : ℕ × ℕ). p.0 < glyphs_of c.args.known.now.metrics) c.loop-unit.glyphs.items (c.step-step.result.glyph, c.loop-unit.pen) c.loop-unit.invariant.known (omega arith));
     }
 
 some_characters : {X E : Type 0} (r : Result X E) (n : ℕ) → 0 < n → IfErr r (λ e. 0 < n)
@@ -40,9 +45,13 @@ some_characters (Err e) n some = some
 
 pub returns-in_err-push-clause-memory : goal.returns-in_err-push-clause-memory
 returns-in_err-push-clause-memory c =
-    let t = YieldsList-turn (YieldsList-from_chars c.args.text.now c.utf8.text cc) c.loop-c.yielded _ c.loop-c.yielded_by _ _ c.in-Some.c c.in-Some.is c.next.ensures.steps in
-    let left : length c.loop-c.yielded < length (chars c.args.text.now) = t.0 in
-    some_characters c.from_residual-in_err-push.result (length (chars c.args.text.now)) (omega arith)
+    let m = c.args.known.now.cmap in
+    let us = units_by m (chars c.args.text.now) in
+    let from : units_left c.units-unit-items.result ≡ us = rw c.cmap.ensures at c.units-unit-items.ensures in
+    let t = YieldsList-turn (YieldsList-from_first (λ (u : TextUnit). u) units_left us from) c.loop-unit.yielded _ c.loop-unit.yielded_by _ _ c.in-Some.unit c.in-Some.is c.next.ensures.steps in
+    let left : length c.loop-unit.yielded < length us = t.0 in
+    let few = units-are-few (has_pairs m) (chars c.args.text.now) in
+    some_characters c.from_residual-in_err-push.result (length (chars c.args.text.now)) (omega (arith, left, few))
 
 some_or_none : (cs : List ℕ) → (0 < length cs) ⊎ (cs ≡ [])
 some_or_none [] = inr refl
@@ -64,14 +73,21 @@ returns-in_err-reserve-clause-memory c =
 
 pub returns-clause-exact : goal.returns-clause-exact
 returns-clause-exact c =
-    let e = YieldsList-end (YieldsList-from_chars c.args.text.now c.utf8.text cc) c.loop-c.yielded _ c.loop-c.yielded_by _ _ c.in-None.is c.next.ensures.steps in
-    let all : c.loop-c.yielded ≡ chars c.args.text.now = sym (map-id c.loop-c.yielded) ∙ e.0 in
-    rw (← all) c.loop-c.invariant.placed
+    let m = c.args.known.now.cmap in
+    let us = units_by m (chars c.args.text.now) in
+    let from : units_left c.units-unit-items.result ≡ us = rw c.cmap.ensures at c.units-unit-items.ensures in
+    let e = YieldsList-end (YieldsList-from_first (λ (u : TextUnit). u) units_left us from) c.loop-unit.yielded _ c.loop-unit.yielded_by _ _ c.in-None.is c.next.ensures.steps in
+    let all : c.loop-unit.yielded ≡ us = sym (map-id c.loop-unit.yielded) ∙ e.0 in
+    rw (← all) c.loop-unit.invariant.placed
 
-pub returns-clause-count : goal.returns-clause-count
-returns-clause-count c =
-    let glyphs = text_glyphs c.args.known.now.cmap c.args.text.now in
-    ap length (returns-clause-exact c) ∙ length-placed (advance_in_pixels c.args.known.now.metrics c.args.known.now.ppem) glyphs ∙ length-map (chars c.args.text.now) (glyph_of c.args.known.now.cmap)
+pub returns-clause-few : goal.returns-clause-few
+returns-clause-few c =
+    let m = c.args.known.now.cmap in
+    let us = units_by m (chars c.args.text.now) in
+    let many = ap length (returns-clause-exact c)
+    ∙ length-placed (advance_in_pixels c.args.known.now.metrics c.args.known.now.ppem) (text_glyphs m c.args.text.now)
+    ∙ length-map us (glyph_of_unit m) in
+    rw many (units-are-few (has_pairs m) (chars c.args.text.now))
 
 pub returns-clause-glyphs : goal.returns-clause-glyphs
 returns-clause-glyphs c =

@@ -1,12 +1,12 @@
 use Rattle.std.proofs.Common.{◌≡◌, ◌*◌, ◌^◌, ◌≤◌, length, sum, map}
-use Rattle.tt_cmap.specs.Lookup.{glyph_of}
+use Rattle.tt_cmap.specs.Maps.{glyph_of_unit}
 use Rattle.tt_line.specs.Layout.{advances_of}
 use Rattle.tt_line.proofs.layout.sum_of_advances.Given as goal
 
 -- the advances so far
-abbrev pub invariant-loop-c : goal.invariant-loop-c
-invariant-loop-c l = record {
-  sum : l.sum ≡ sum (advances_of l.fn.known.metrics l.fn.known.ppem (map (glyph_of l.fn.known.cmap) l.yielded));
+abbrev pub invariant-loop-unit : goal.invariant-loop-unit
+invariant-loop-unit l = record {
+  sum : l.sum ≡ sum (advances_of l.fn.known.metrics l.fn.known.ppem (map (glyph_of_unit l.fn.known.cmap) l.yielded));
   same : l.known ≡ l.fn.known;
   bound : l.sum ≤ length l.yielded * 2 ^ 25;
 }

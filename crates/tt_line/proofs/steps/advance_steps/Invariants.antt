@@ -1,13 +1,13 @@
 use Rattle.std.proofs.Common.{◌≡◌, ◌<◌, All, map}
-use Rattle.tt_cmap.specs.Lookup.{glyph_of}
+use Rattle.tt_cmap.specs.Maps.{glyph_of_unit}
 use Rattle.tt_line.specs.Layout.{advance_in_pixels}
 use Rattle.tt_metrics.specs.Metrics.{glyphs_of}
 use Rattle.tt_line.proofs.steps.advance_steps.Given as goal
 
--- the characters so far
-abbrev pub invariant-loop-c : goal.invariant-loop-c
-invariant-loop-c l = record {
-  steps : l.glyphs.items ≡ map (λ g. (g, advance_in_pixels l.fn.known.metrics l.fn.known.ppem g)) (map (glyph_of l.fn.known.cmap) l.yielded);
+-- the units so far
+abbrev pub invariant-loop-unit : goal.invariant-loop-unit
+invariant-loop-unit l = record {
+  steps : l.glyphs.items ≡ map (λ g. (g, advance_in_pixels l.fn.known.metrics l.fn.known.ppem g)) (map (glyph_of_unit l.fn.known.cmap) l.yielded);
   same : l.known ≡ l.fn.known;
   known : All (λ p. p.0 < glyphs_of l.fn.known.metrics) l.glyphs.items;
 }

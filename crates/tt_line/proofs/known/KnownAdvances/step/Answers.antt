@@ -1,12 +1,13 @@
-use Rattle.std.proofs.Common.{◌%◌}
-use Rattle.std.proofs.lemmas.List.Elements.{All-set}
-use Rattle.tt_line.specs.Known.{IsKnown, Source}
-use Rattle.tt_line.specs.declared.known.KnownAdvance.{KnownAdvance}
+use Rattle.std.proofs.Common.{◌≡◌, ◌∙◌, ap, sym, Option, None, ℕ}
+use Rattle.tt_cmap.specs.declared.units.TextUnit.{TextUnit}
+use Rattle.tt_cmap.specs.Maps.{glyph_of_unit}
+use Rattle.tt_cmap.specs.Units.{plain_unit}
 use Rattle.tt_line.proofs.known.KnownAdvances.step.Goals as goal
 
-pub invariant_of-self : goal.invariant_of-self
-invariant_of-self c =
-    let held = c.self.inside in
-    let source : Source = record { metrics = held.metrics.now; cmap = held.cmap.now; ppem = held.ppem } in
-    let was = c.self.invariant in
-    (was.0, was.1, All-set (λ (e : KnownAdvance). IsKnown source e.code e.step) held.known (c.args.c % 128) (record { code = c.args.c; step = c.found-step.result }) c.found-step.ensures was.2)
+-- a unit without a selector is its character
+is-plain : (u : TextUnit) → u.selector ≡ None → plain_unit u.character ≡ u
+is-plain u none = ap (λ (v : Option ℕ). record { character = u.character; selector = v }) (sym none)
+
+pub returns-in-None-clause-glyph : goal.returns-in-None-clause-glyph
+returns-in-None-clause-glyph c =
+    c.plain_step.ensures.glyph ∙ ap (glyph_of_unit c.args.self.now.cmap) (is-plain c.args.unit c.in-None.is)

@@ -14,6 +14,8 @@ returns-clause-exact c =
     let some : (c.unwrap-long_metrics.result == 0) ≡ false = search rules in
     let ascent = signed_told hhea 4 c.unwrap.result (sym c.i16_at.ensures ∙ c.unwrap.ensures) in
     let descent = signed_told hhea 6 c.unwrap-2.result (sym c.i16_at-2.ensures ∙ c.unwrap-2.ensures) in
+    let gap = signed_told hhea 8 c.unwrap-3.result (sym c.i16_at-3.ensures ∙ c.unwrap-3.ensures) in
     let up : SFits w16 c.unwrap.result = search rules in
     let down : SFits w16 c.unwrap-2.result = search rules in
-    simp to_z-of_z (rw (c.in_ok-test_length.ensures.exact, long, some, ascent, descent) refl)
+    let apart : SFits w16 c.unwrap-3.result = search rules in
+    simp to_z-of_z (rw (c.in_ok-test_length.ensures.exact, long, some, ascent, descent, gap) refl)
