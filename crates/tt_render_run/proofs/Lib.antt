@@ -6,5 +6,5 @@ pub mod Text
 mod Answered
 mod Made
 mod Pieces
-mod Readings
+pub mod Readings
 pub mod Faces

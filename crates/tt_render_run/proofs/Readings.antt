@@ -33,16 +33,16 @@ use Rattle.tt_render_run.specs.Run.{run_outcome}
 
 -- what a file's bytes give, by the face alone
 abbrev run_by : Job → Result Face Fault → Result (List ℕ) Refused
-run_by a face = as_file (as_font face >>= λ face. pictured_by face a)
+run_by a read = as_file (as_font read >>= λ face. pictured_by face a)
 
 abbrev map_by_face : List ℕ → Result Face Fault → Result (List ℕ) Refused
-map_by_face text face = as_font (face >>= λ face. Ok (map_lines face.metrics face.cmap text))
+map_by_face text read = as_font (read >>= λ face. Ok (map_lines face.metrics face.cmap text))
 
 -- the answer for a file by what its face gives
 abbrev answered : Result (Unit {0}) JobFault → (Result Face Fault → Result (List ℕ) Refused) → List ℕ → Result Face Fault
     → Result (List ℕ) Refused
-answered tests by file face =
-    as_job tests >>= λ u. if nat_lt font_limit (length file) then Err large else by face
+answered tests by file read =
+    as_job tests >>= λ u. if nat_lt font_limit (length file) then Err large else by read
 
 run_answered : (r : Reading) (a : Job) (file : List ℕ)
     → run_outcome r a file ≡ answered (tested a) (run_by a) file (face_by file r)
@@ -121,7 +121,7 @@ lines_alike m k l text plain same =
 
 -- the wide reading
 same_tables : (d e : Directory) → d ≡ e → SameTables d e
-same_tables d e is tag = ap (λ (x : Directory). table_of x tag) is
+same_tables d e is = λ tag. ap (λ (x : Directory). table_of x tag) is
 
 pub wide_runs : StrictIsTheFace → WideFacesExtend → FacesDrawAlike → WideRuns
 wide_runs first extends alike a file face was plain =
@@ -150,7 +150,7 @@ wide_maps first extends text file face was plain =
     ∙ sym (map_answered reading.Strict text file)
 
 -- a face's directory
-face_directory : (d : Directory) (r : Reading) (face : Face) → face_at d r ≡ Ok face → d ≡ face.directory
+pub face_directory : (d : Directory) (r : Reading) (face : Face) → face_at d r ≡ Ok face → d ≡ face.directory
 unfolding face_at
 face_directory d r face was =
     let by_metrics = came-through (metrics_of d) _ face was in
@@ -184,7 +184,9 @@ answered_alike : (tests : Result (Unit {0}) JobFault) (by : Result Face Fault �
 answered_alike tests by file font r s small small_too same =
     let fits : nat_lt font_limit (length file) ≡ false = grind (arith, nat_tests) in
     let fits_too : nat_lt font_limit (length font) ≡ false = grind (arith, nat_tests) in
-    rw (fits, fits_too, same) refl
+    ap (λ (b : Bool). as_job tests >>= λ u. if b then Err large else by r) fits
+    ∙ ap (λ (answer : Result (List ℕ) Refused). as_job tests >>= λ u. answer) same
+    ∙ sym (ap (λ (b : Bool). as_job tests >>= λ u. if b then Err large else by s) fits_too)
 
 face_of_file : (file : List ℕ) (r : Reading) (d : Directory) → directory_by file r ≡ Ok d → face_by file r ≡ face_at d r
 unfolding face_by
