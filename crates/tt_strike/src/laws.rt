@@ -1,20 +1,28 @@
 //! Laws of the definitions. Each function is a lemma: its clauses hold of all jobs, files and glyphs, and no code runs.
 
-ghost use Rattle.tt_face.specs.Files.{FacesAreWhole};
+ghost use Rattle.tt_face.specs.Files.{FacesAreWhole, ReadFacesAreWhole};
 ghost use Rattle.tt_strike.specs.Laws.{DrawnFontsAreWhole, OthersListNothing, MarginMoves, MeasuredAsDrawn, GlyphsByThemselves, UnfilledAreEdges, OthersFillNone, OthersDrawByEdges, GrownRefusals, SidesMove, SidesRefuseNothing};
+ghost use Rattle.tt_strike.specs.ReadingLaws.{FacesDrawAlike};
 ghost use Rattle.tt_strike.specs.StepLaws.{BestLaysBySteps, EqualGlyphsStepAlike, GlyphsBeforeExtent, MeasureTellsSteps, MovedOutlinesAgree, OthersLayByAdvances};
 ghost use Rattle.tt_strike.specs.UnhintedSteps.{UnhintedStepsAreNear};
 ghost use Rattle.tt_strike.specs.InkLaws.{GrownAddsFewest, GrownCutsNone, GrownMeasuredAsDrawn, InkIsDrawn, MeasureHoldsInk};
 
-/// Lemma: where the definitions give a font's tables, these have no defect. Where they give a job's picture, the font
-/// has no defect for the job.
+/// Lemma: where the definitions give a font's tables, by the file or by a reading, these have no defect. Where they give
+/// a job's picture, the font has no defect for the job and its reading.
 pub fn fonts_are_whole()
     ensures tables { FacesAreWhole }
+    ensures readings { ReadFacesAreWhole }
     ensures picture { DrawnFontsAreWhole }
 {
+    tt_face::laws::readings_give_faces();
     tt_line::laws::glyphs_are_placed();
     tt_line::laws::steps_lead();
 }
+
+/// Lemma: two faces with the same tables, the same metrics and the same glyphs for a text give the same picture.
+pub fn faces_draw_alike()
+    ensures { FacesDrawAlike }
+{}
 
 /// Lemma: with every fit but `Fit::Best` a text is laid out by advances. With `Fit::Best` it is laid out by the steps of
 /// its glyphs, and a defect of a glyph is told whatever the extent of the picture would be.

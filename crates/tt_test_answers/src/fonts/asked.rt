@@ -5,7 +5,7 @@ ghost use Rattle.std.specs.Prelude.{◌≤◌, ◌<◌, ◌^◌};
 use super::devices::{Given, Manner, Written};
 use std::alloc::Global;
 use std::str;
-use tt_core::Device;
+use tt_core::{Device, Reading};
 use tt_program_decisions::{DRAW, GLYPHS_KEPT, Request, fit_named, missing_named, perform};
 use tt_render::Setting;
 use tt_test_words::Line;
@@ -159,6 +159,6 @@ fn setting_in(line: &mut Line, missing: &str) -> Option<Setting> {
     Some(Setting {
         missing: missing_named(missing)?,
         most: GLYPHS_KEPT,
-        ..Setting::plain(size, margin, fit)
+        ..Setting::plain(size, margin, fit, Reading::Strict)
     })
 }
