@@ -1,1 +1,4 @@
+mod FaceCalls
+pub mod FacePlaces
+mod FaceTexts
 pub mod Statuses
