@@ -5,9 +5,9 @@ ghost use Rattle.std.specs.Prelude.{◌≤◌, ◌<◌, ◌^◌};
 use super::devices::{Given, Manner, Written};
 use std::alloc::Global;
 use std::str;
-use tt_core::Device;
+use tt_core::{Device, Reading};
 use tt_program_decisions::{DRAW, GLYPHS_KEPT, Request, fit_named, missing_named, perform};
-use tt_render::Setting;
+use tt_render::{Setting, fit_reading};
 use tt_test_words::Line;
 
 /// The font, and how it is read and the answer is taken.
@@ -49,7 +49,11 @@ impl Asked {
             lines_fail_at = size_in(line);
             missing = line.word();
         }
-        let mut request = Request::Map { font: "", text };
+        let mut request = Request::Map {
+            font: "",
+            text,
+            reading: Reading::Strict,
+        };
         if question != "map" {
             let Some(setting) = setting_in(line, missing) else {
                 line.refuse("no such way to fit, or to take missing characters");
@@ -157,6 +161,7 @@ fn setting_in(line: &mut Line, missing: &str) -> Option<Setting> {
     let margin = line.natural(0, u32::MAX);
     let fit = fit_named(line.word())?;
     Some(Setting {
+        reading: fit_reading(fit),
         missing: missing_named(missing)?,
         most: GLYPHS_KEPT,
         ..Setting::plain(size, margin, fit)
