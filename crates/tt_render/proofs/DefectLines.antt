@@ -25,7 +25,7 @@ use Rattle.tt_strike.specs.Defects.{TellsDefects}
 use Rattle.tt_core.specs.declared.draw_fault.DrawFault.{DrawFault}
 use Rattle.tt_core.specs.declared.draw_fault.DrawFault.TheVariants as draw
 use Rattle.tt_face.specs.Faces.{Face}
-use Rattle.tt_face.specs.Files.{face_of}
+use Rattle.tt_face.specs.Files.{face_by}
 
 pub if_some_more : {X : Type 0} (o : Option X) (P Q : X → Type 0) → ((x : X) → P x → Q x) → IfSome o P → IfSome o Q
 if_some_more None P Q more h = tt
@@ -97,7 +97,7 @@ begun_tells IsOne text left after r before used reason.Memory begun = tt
 
 -- a defect of a line by a font's tables is one by the font's file
 line_tells : (a : Setting) (file : List ℕ) (face : Face) (text : Option (List ℕ)) (why : Refusal) (line : Option ℕ)
-    → face_of file ≡ Ok face → LineTells (IsDefectBy a (strike_by a face)) text why line
+    → face_by file a.reading ≡ Ok face → LineTells (IsDefectBy a (strike_by a face)) text why line
     → LineTellsDefect a text why line file
 line_tells a file face text (reason.Font f) None there tells = absurd tells
 line_tells a file face text (reason.Font f) (Some n) there tells =
@@ -113,7 +113,7 @@ line_tells a file face text reason.Many line there tells = tt
 line_tells a file face text reason.Memory line there tells = tt
 
 pub lines_tell : {V : Type 0} (a : Setting) (file : List ℕ) (face : Face) (text : Option (List ℕ))
-    (r : Result V TextsFault) → face_of file ≡ Ok face → LinesTell (IsDefectBy a (strike_by a face)) text r
+    (r : Result V TextsFault) → face_by file a.reading ≡ Ok face → LinesTell (IsDefectBy a (strike_by a face)) text r
     → LinesTellDefects a text r file
 lines_tell a file face text (Ok v) there tells = tt
 lines_tell a file face text (Err fault) there tells = line_tells a file face text fault.refusal fault.line there tells

@@ -1,12 +1,18 @@
 -- The lines of a measured text, one more at a time.
-use Rattle.std.proofs.Common.{◌≡◌, ℕ, List, ◌++◌, append_assoc}
+use Rattle.std.proofs.Common.{◌≡◌, ◌∙◌, ℕ, List, ◌++◌, append_assoc, chars}
 use Rattle.std.specs.List.{zip}
-use Rattle.tt_metrics.specs.Metrics.{Metrics}
-use Rattle.tt_render.specs.MeasureText.{character_lines, font_text, measure_text, picture_text}
+use Rattle.tt_cmap.specs.Maps.{units_by}
+use Rattle.tt_core.specs.declared.collection.Reading.{Reading}
+use Rattle.tt_face.specs.Faces.{Face}
+use Rattle.tt_render.specs.MeasureText.{face_text, font_text, measure_text, picture_text, unit_lines}
 use Rattle.tt_strike.specs.Measures.{Measure}
 
--- the first two lines and those of the characters
-pub append_all : (font : Metrics) (cs : List ℕ) (m : Measure) → (font_text font ++ picture_text m)
-    ++ character_lines (zip cs m.characters) ≡ measure_text font cs m
+-- the first lines and those of the units
+pub append_all : (r : Reading) (file : List ℕ) (face : Face) (text : List ℕ) (m : Measure)
+    → ((face_text r file ++ font_text face.metrics) ++ picture_text m)
+    ++ unit_lines (zip (units_by face.cmap (chars text)) m.characters) ≡ measure_text r file face text m
 unfolding measure_text
-append_all font cs m = append_assoc (font_text font) (picture_text m) (character_lines (zip cs m.characters))
+append_all r file face text m =
+    let lines = unit_lines (zip (units_by face.cmap (chars text)) m.characters) in
+    append_assoc (face_text r file ++ font_text face.metrics) (picture_text m) lines
+    ∙ append_assoc (face_text r file) (font_text face.metrics) (picture_text m ++ lines)

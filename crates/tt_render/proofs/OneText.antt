@@ -1,6 +1,7 @@
 -- The steps of a call that draws one text, joined.
 use Rattle.std.proofs.Common.{◌≡◌, ℕ, Bool, false, List, Option, Some, None, Result, Ok, Err, inl, inr, refl}
 use Rattle.std.specs.Prelude.{IfSome}
+use Rattle.tt_core.specs.declared.collection.Reading.{Reading}
 use Rattle.tt_core.specs.declared.fault.JobFault.{JobFault}
 use Rattle.tt_core.specs.Faults.{Fault}
 use Rattle.tt_line.specs.Layout.{text_glyphs}
@@ -31,7 +32,7 @@ use Rattle.tt_strike.specs.Refusals.{Refused, as_job}
 use Rattle.tt_strike.specs.Refusals as drawing
 use Rattle.tt_strike.specs.Strikes.{Strike}
 use Rattle.tt_face.specs.Faces.{Face}
-use Rattle.tt_face.specs.Files.{face_of}
+use Rattle.tt_face.specs.Files.{face_by}
 
 -- the answer of a text does not depend on the cache's limit
 pub most_aside : (a : Setting) (s : Strike) (most : ℕ) (text : List ℕ)
@@ -151,20 +152,20 @@ strike_tells IsOne (draw.Job j) none = tt
 strike_tells IsOne draw.Memory none = tt
 
 -- a defect of a text by a font's tables is one by the font's file
-pub text_tells : (a : Job) (file : List ℕ) (face : Face) (why : Refusal) → face_of file ≡ Ok face
+pub text_tells : (r : Reading) (a : Job) (file : List ℕ) (face : Face) (why : Refusal) → face_by file r ≡ Ok face
     → IfSome (refusal_font_fault why) (IsLineDefect face a (text_glyphs face.cmap a.text))
     → IsOfText {V = ReadyText} (Err why)
-    → TextTellsDefects {V = ReadyText} (IsRunDefect a file) (Err (before_lines why))
-text_tells a file face (reason.Font f) there stands serves = inr (rw there stands)
-text_tells a file face (reason.Job j) there stands serves = tt
-text_tells a file face reason.NotUtf8 there stands serves = tt
-text_tells a file face (reason.Missing c) there stands serves = tt
-text_tells a file face reason.FontRead there stands serves = tt
-text_tells a file face reason.FontLarge there stands serves = tt
-text_tells a file face reason.Read there stands serves = tt
-text_tells a file face (reason.Write sent) there stands serves = absurd serves
-text_tells a file face reason.Many there stands serves = tt
-text_tells a file face reason.Memory there stands serves = tt
+    → TextTellsDefects {V = ReadyText} (IsRunDefect r a file) (Err (before_lines why))
+text_tells r a file face (reason.Font f) there stands serves = inr (rw there stands)
+text_tells r a file face (reason.Job j) there stands serves = tt
+text_tells r a file face reason.NotUtf8 there stands serves = tt
+text_tells r a file face (reason.Missing c) there stands serves = tt
+text_tells r a file face reason.FontRead there stands serves = tt
+text_tells r a file face reason.FontLarge there stands serves = tt
+text_tells r a file face reason.Read there stands serves = tt
+text_tells r a file face (reason.Write sent) there stands serves = absurd serves
+text_tells r a file face reason.Many there stands serves = tt
+text_tells r a file face reason.Memory there stands serves = tt
 
 -- a job that is refused at once names no defect
 pub job_tells : (before : Option (List ℕ)) (IsOne : List ℕ → Fault → Type 0) (j : JobFault)

@@ -1,6 +1,7 @@
 -- What a call that draws lines claims about the defects of a font.
 use Rattle.std.specs.Prelude.{◌≡◌, refl, ℕ, ◌-◌, List, [], ◌∷◌, get_or, codes, Option, Some, None, IfSome, Result, Ok, Err, ⊤}
 use Rattle.tt_core.specs.Faults.{Fault}
+use Rattle.tt_face.specs.Files.{IsFaceDefectBy}
 use Rattle.tt_line.specs.Layout.{text_glyphs}
 use Rattle.tt_render.specs.declared.setting.Setting.{Setting}
 use Rattle.tt_render.specs.declared.refusal.Refusal.{Refusal}
@@ -9,7 +10,7 @@ use Rattle.tt_render.specs.declared.refusal.TextsFault.{TextsFault}
 use Rattle.tt_render.specs.Lines.{lines_of}
 use Rattle.tt_render.specs.Settings.{job_by}
 use Rattle.tt_strike.specs.Defects.{IsLineDefect}
-use Rattle.tt_strike.specs.Job.{ByFace, IsJobFaceDefect}
+use Rattle.tt_strike.specs.Job.{ByFace}
 use Rattle.tt_strike.specs.Strikes.{Strike, job_of}
 
 -- the line of a text with this number, counted from 1
@@ -23,7 +24,7 @@ IsDefectBy a s line f = IsLineDefect s.face (job_of s line a.margin) (text_glyph
 -- a defect of the font that a line is drawn from, by the font's file
 abbrev pub IsDefectIn : Setting → List ℕ → List ℕ → Fault → Type 0
 IsDefectIn a file line f =
-    ByFace (λ face j. IsLineDefect face j (text_glyphs face.cmap line) f) (job_by a line) file
+    ByFace (λ face j. IsLineDefect face j (text_glyphs face.cmap line) f) a.reading (job_by a line) file
 
 -- the first line of a text has a defect
 abbrev pub BeginsDefective : (List ℕ → Fault → Type 0) → Fault → List ℕ → Type 0
@@ -45,7 +46,7 @@ LinesTell IsOne text (Ok v) = ⊤
 abbrev pub LineTellsDefect : Setting → Option (List ℕ) → Refusal → Option ℕ → List ℕ → Type 0
 LineTellsDefect a text (reason.Font f) (Some number) file =
     IfSome text (λ all. IsDefectIn a file (line_numbered all number) f)
-LineTellsDefect a text (reason.Font f) None file = IsJobFaceDefect (job_by a []) file f
+LineTellsDefect a text (reason.Font f) None file = IsFaceDefectBy file a.reading f
 LineTellsDefect a text why line file = ⊤
 
 abbrev pub LinesTellDefects : {V : Type 0} → Setting → Option (List ℕ) → Result V TextsFault → List ℕ → Type 0

@@ -1,5 +1,6 @@
 -- No part of the standard: the products of a text, by a font at a size (profile).
-use Rattle.std.specs.Prelude.{◌≡◌, ℕ, Bool, true, false, List, chars, length, string_bytes, Result, Ok, IsOkAnd, ⊤}
+use Rattle.std.specs.Prelude.{◌≡◌, ℕ, Bool, true, false, List, length, string_bytes, Result, Ok, IsOkAnd, ⊤}
+use Rattle.tt_core.specs.declared.collection.Reading.{Reading}
 use Rattle.tt_core.specs.Outcomes.{◌>>=◌}
 use Rattle.tt_scan_edges.specs.declared.edge.Frame.{Frame}
 use Rattle.tt_picture.specs.declared.report.Unfitted.{Unfitted}
@@ -41,15 +42,15 @@ unfoldable pub measure_by : Bool → Face → Job → Result Measure Refused
 measure_by false face j = measured face j
 measure_by true face j = grown_measured face j
 
--- the output of a job by a font's tables
-abbrev pub product_by : Product → Bool → Face → Job → Result (List ℕ) Refused
-product_by product.Picture grow face j = as_file (picture_by grow face j)
-product_by product.Measure grow face j =
-    measure_by grow face j >>= λ m. Ok (measure_text face.metrics (chars j.text) m)
+-- the output of a job by the tables of a face, and by the reading that gave the face
+abbrev pub product_by : Product → Bool → Reading → Face → Job → Result (List ℕ) Refused
+product_by product.Picture grow r face j = as_file (picture_by grow face j)
+product_by product.Measure grow r face j =
+    measure_by grow face j >>= λ m. Ok (measure_text r face.directory.file face j.text m)
 
 -- the output of a text that is drawn by a strike
 unfoldable pub product_of : Setting → Strike → List ℕ → Result (List ℕ) Refused
-product_of a s text = product_by a.product a.grow s.face (job_of s text a.margin)
+product_of a s text = product_by a.product a.grow a.reading s.face (job_of s text a.margin)
 
 -- the bytes of an output, its unfitted glyphs, and what it takes of the budget of many lines
 abbrev pub bytes_in : Output → List ℕ

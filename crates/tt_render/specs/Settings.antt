@@ -1,5 +1,7 @@
 -- No part of the standard: the tests of a setting before the font is read, its jobs, and its strike (profile).
 use Rattle.std.specs.Prelude.{◌≡◌, ◌≢◌, refl, ℕ, false, List, [], Result, Ok, Err}
+use Rattle.tt_core.specs.declared.collection.Reading.{Reading}
+use Rattle.tt_core.specs.declared.collection.Reading.TheVariants as reading
 use Rattle.tt_core.specs.declared.fault.JobFault.{JobFault}
 use Rattle.tt_core.specs.declared.fault.JobFault.TheVariants as fault
 use Rattle.tt_core.specs.Outcomes.{◌>>=◌}
@@ -9,7 +11,7 @@ use Rattle.tt_strike.specs.Job.{Job, job_for, margin_tested, size_tested}
 use Rattle.tt_strike.specs.Refusals.{Refused, as_font}
 use Rattle.tt_strike.specs.Strikes.{Strike}
 use Rattle.tt_face.specs.Faces.{Face}
-use Rattle.tt_face.specs.Files.{face_of}
+use Rattle.tt_face.specs.Files.{face_by}
 use Rattle.tt_render.specs.declared.setting.Missing.TheVariants as how
 use Rattle.tt_render.specs.declared.setting.Product.TheVariants as product
 use Rattle.tt_render.specs.declared.setting.Setting.{Setting}
@@ -20,11 +22,12 @@ unfoldable pub setting_tested : Setting → Result (Unit {0}) JobFault
 setting_tested a = size_tested a.ppem >>= λ u. margin_tested a.margin
 
 -- the setting by which `run` draws: glyph 0 in place of a missing one, the picture as it is, no cached glyphs
-abbrev pub plain_setting : ℕ → ℕ → Fit → Setting
-plain_setting ppem margin f = record {
+abbrev pub plain_setting : ℕ → ℕ → Fit → Reading → Setting
+plain_setting ppem margin f r = record {
   ppem = ppem;
   margin = margin;
   fit = f;
+  reading = r;
   missing = how.Draw;
   grow = false;
   product = product.Picture;
@@ -41,7 +44,7 @@ pub record IsPlain (a : Setting) : Type 0 where
   pub as_it_is : DrawsAsItIs a
   pub drawn : a.missing ≢ how.Refuse
 
--- the job of a text
+-- the job of a text; its reading is the setting's
 abbrev pub job_by : Setting → List ℕ → Job
 job_by a text = job_for a.ppem a.fit text a.margin
 
@@ -49,13 +52,14 @@ job_by a text = job_for a.ppem a.fit text a.margin
 abbrev pub strike_by : Setting → Face → Strike
 strike_by a face = record { face = face; ppem = a.ppem; fit = a.fit; most = a.most; kept = [] }
 
--- the strike by a font's file, if it is not too large, or the first fault of the tables needed for every text
+-- the strike by a font's file, if it is not too large, or the first fault of the tables needed for every text. The face
+-- is the one that the setting's reading gives
 unfoldable pub strike_of : Setting → List ℕ → Result Strike Refused
-strike_of a file = of_font (λ font. as_font (face_of font) >>= λ face. Ok (strike_by a face)) file
+strike_of a file = of_font (λ font. as_font (face_by font a.reading) >>= λ face. Ok (strike_by a face)) file
 
 -- worked values
 sized : ℕ → ℕ → Setting
-sized ppem margin = plain_setting ppem margin fit.None
+sized ppem margin = plain_setting ppem margin fit.None reading.Strict
 
 size_before_margin : setting_tested (sized 301 65) ≡ Err fault.SizeRange
 unfolding sized setting_tested size_tested
@@ -69,5 +73,5 @@ within_both : setting_tested (sized 300 64) ≡ Ok tt
 unfolding sized setting_tested size_tested margin_tested
 within_both = refl
 
-run_is_plain : (ppem margin : ℕ) (f : Fit) → IsPlain (plain_setting ppem margin f)
-run_is_plain ppem margin f = record { as_it_is = record { picture = refl; whole = refl }; drawn = λ is. cc }
+run_is_plain : (ppem margin : ℕ) (f : Fit) (r : Reading) → IsPlain (plain_setting ppem margin f r)
+run_is_plain ppem margin f r = record { as_it_is = record { picture = refl; whole = refl }; drawn = λ is. cc }

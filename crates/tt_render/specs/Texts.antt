@@ -1,7 +1,8 @@
 -- No part of the standard: the answer of a text, by a font at a size (profile).
 use Rattle.std.specs.Prelude.{◌≡◌, refl, ℕ, List, [], ◌∷◌, chars, codes, Result, Ok, Err}
 use Rattle.tt_cmap.specs.Lacking.{lacking_of}
-use Rattle.tt_cmap.specs.Lookup.{Cmap, by_segments}
+use Rattle.tt_cmap.specs.Lookup.{by_segments}
+use Rattle.tt_cmap.specs.Maps.{CharacterMap, strict}
 use Rattle.tt_core.specs.Outcomes.{◌>>=◌}
 use Rattle.tt_picture.specs.declared.report.Unfitted.{Unfitted}
 use Rattle.tt_strike.specs.Costs.{cost_by}
@@ -43,7 +44,7 @@ missing_among how.Tell cs = Ok cs
 missing_among how.Refuse cs = none_missing cs
 
 -- the reported ones of a text
-unfoldable pub missing_tested : Cmap → Missing → List ℕ → Result (List ℕ) TextRefusal
+unfoldable pub missing_tested : CharacterMap → Missing → List ℕ → Result (List ℕ) TextRefusal
 missing_tested m asked text = missing_among asked (lacking_of m (chars text))
 
 -- the answer of a text by its parts, or the first refusal: its output, its unfitted glyphs, its characters without a
@@ -64,17 +65,17 @@ text_answer a s text =
     (missing_tested s.face.cmap a.missing text) (cost_by s.face (job_of s text a.margin))
 
 -- worked values: A and B have glyphs, C and @ have none
-told_in_their_order : missing_among how.Tell (lacking_of (by_segments 3) (codes "CA@BC")) ≡ Ok (codes "C@")
+told_in_their_order : missing_among how.Tell (lacking_of (strict (by_segments 3)) (codes "CA@BC")) ≡ Ok (codes "C@")
 unfolding lacking_of
 told_in_their_order = refl
 
-refused_for_the_first : missing_among how.Refuse (lacking_of (by_segments 3) (codes "ACB@")) ≡ Err (missing 67)
+refused_for_the_first : missing_among how.Refuse (lacking_of (strict (by_segments 3)) (codes "ACB@")) ≡ Err (missing 67)
 unfolding lacking_of
 refused_for_the_first = refl
 
-none_to_refuse : missing_among how.Refuse (lacking_of (by_segments 3) (codes "AB")) ≡ Ok []
+none_to_refuse : missing_among how.Refuse (lacking_of (strict (by_segments 3)) (codes "AB")) ≡ Ok []
 unfolding lacking_of
 none_to_refuse = refl
 
-not_asked_for : missing_among how.Draw (lacking_of (by_segments 3) (codes "C")) ≡ Ok []
+not_asked_for : missing_among how.Draw (lacking_of (strict (by_segments 3)) (codes "C")) ≡ Ok []
 not_asked_for = refl

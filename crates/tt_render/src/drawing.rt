@@ -34,14 +34,14 @@ fn draw(alloc: Global, file: &[u8], text: &str, setting: &Setting) -> Result<Rea
     requires size { length file.now ≤ font_limit }
     requires tested { tested (job_by setting.now text.now) ≡ Ok tt }
     ensures outcome { ReadiesText (λ s. text_answer setting.now s text.now) (strike_of setting.now file.now) result }
-    ensures defects { TextTellsDefects (IsRunDefect (job_by setting.now text.now) file.now) result }
+    ensures defects { TextTellsDefects (IsRunDefect setting.now.reading (job_by setting.now text.now) file.now) result }
     ensures valid { IfOk result (λ r. CanGoOut r.output) }
     ensures report { IfOk result (TellsOf None) }
 {
-    let face = Face::open(file)?;
+    let face = Face::read(file, setting.reading)?;
     // There is no other line, so no glyph is cached.
     let mut strike = Strike::new(alloc, &face, setting.ppem, setting.fit, 0)?;
-    match answer_text(alloc, &mut strike, setting, None, text) {
+    match answer_text(alloc, &mut strike, file, setting, None, text) {
         Ok(ready) => Ok(ready),
         Err(fault) => Err(texts_fault(None, fault.refusal)),
     }
@@ -70,7 +70,7 @@ pub fn draw_text<R: Source, W: Sink, E: Sink>(
     // Either the call stopped before the text was drawn, and did nothing else. Or the font was read to its end and
     // opened, and the writing and printing are as defined for the text by that font.
     ensures outcome { FontTextGives setting.now text.now result (traffic_of R.left R.has_failed W.written W.has_failed font.old font.new out.old out.new) (errors_of E.written E.has_failed error.old error.new) }
-    ensures defects { TextTellsDefectsOf (R.left font.old) (IsRunDefect (job_by setting.now text.now)) result }
+    ensures defects { TextTellsDefectsOf (R.left font.old) (IsRunDefect setting.now.reading (job_by setting.now text.now)) result }
 {
     test_job(&setting.job(text))?;
     let file = read_font(alloc, font)?;
@@ -94,17 +94,19 @@ pub fn lines_budget(before: u64) -> u128
     20_000_000 + 8_000_000 * u128::from(before)
 }
 
-/// The answer of the line with this number. Errors, the first of: NotUtf8; those of a text. The caller puts the line
-/// into an error.
+/// The answer of the line with this number, by a strike whose face is of this file. Errors, the first of: NotUtf8; those
+/// of a text. The caller puts the line into an error.
 #[tactic(auto, unfolding(crate::specs::Lines::line_drawn))]
 fn draw_line(
     alloc: Global,
     strike: &mut Strike,
+    file: &[u8],
     setting: &Setting,
     number: u32,
     line: &[u8],
 ) -> Result<ReadyText, TextsFault>
     requires short { length line.now ≤ line_limit }
+    requires file { file.now ≡ strike.old.face.directory.file }
     ensures exact { GivesUnless told answer_view (without_line result) (line_drawn setting.now strike.old line.now) }
     ensures valid { IfOk result (λ r. CanGoOut r.output) }
     ensures report { IfOk result (TellsOf (Some number)) }
@@ -115,7 +117,7 @@ fn draw_line(
     let Ok(text) = str::from_utf8(line) else {
         return Err(texts_fault(None, Refusal::NotUtf8));
     };
-    answer_text(alloc, strike, setting, Some(number), text)
+    answer_text(alloc, strike, file, setting, Some(number), text)
 }
 
 /// The place of the next line, if there is one. The `drawn` lines before it took `used` of the budget. Errors, the first
@@ -148,10 +150,12 @@ fn next_line<R: Source>(
     Ok(Some(place))
 }
 
-/// Draws the lines of a text with a strike, as `draw_lines` does. Returns the bytes of the cached glyphs.
+/// Draws the lines of a text with a strike, as `draw_lines` does. The strike's face is of this file. Returns the bytes
+/// of the cached glyphs.
 fn draw_lines_by<R: Source, W: Sink, E: Sink>(
     alloc: Global,
     strike: &mut Strike,
+    file: &[u8],
     lines: &mut R,
     out: &mut W,
     error: &mut E,
@@ -160,6 +164,7 @@ fn draw_lines_by<R: Source, W: Sink, E: Sink>(
     requires lines { R.has_failed lines.old ≡ false }
     requires out { W.has_failed out.old ≡ false }
     requires error { E.has_failed error.old ≡ false }
+    requires file { file.now ≡ strike.old.face.directory.file }
     ensures outcome { LinesGive (line_drawn setting.now strike.old) result (traffic_of R.left R.has_failed W.written W.has_failed lines.old lines.new out.old out.new) (errors_of E.written E.has_failed error.old error.new) }
     ensures defects { LinesTell (IsDefectBy setting.now strike.old) (R.left lines.old) result }
     ensures kept { IfOk result (λ n. n ≤ strike.old.most) }
@@ -174,7 +179,7 @@ fn draw_lines_by<R: Source, W: Sink, E: Sink>(
             Err(stop) => return Err(texts_fault(Some(number), stop.refusal)),
         };
         let line = reader.line(place);
-        let mut ready = match draw_line(alloc, strike, setting, number, line) {
+        let mut ready = match draw_line(alloc, strike, file, setting, number, line) {
             Ok(ready) => ready,
             Err(fault) => return Err(texts_fault(Some(number), fault.refusal)),
         };
@@ -229,7 +234,7 @@ pub fn draw_lines<F: Source, R: Source, W: Sink, E: Sink>(
 {
     test_setting(setting)?;
     let file = read_font(alloc, font)?;
-    let face = Face::open(&file)?;
+    let face = Face::read(&file, setting.reading)?;
     let mut strike = Strike::new(alloc, &face, setting.ppem, setting.fit, setting.most)?;
-    draw_lines_by(alloc, &mut strike, lines, out, error, setting)
+    draw_lines_by(alloc, &mut strike, &file, lines, out, error, setting)
 }

@@ -95,14 +95,16 @@ pub fn make_measure(
     }
 }
 
-/// A text's output by a strike. Errors: those of `make_picture` or `make_measure`.
+/// A text's output by a strike whose face is of this file. Errors: those of `make_picture` or `make_measure`.
 #[tactic(auto, unfolding(crate::specs::Products::product_of))]
 pub(crate) fn make_output(
     alloc: Global,
     strike: &mut Strike,
+    file: &[u8],
     setting: &Setting,
     text: &str,
 ) -> Result<Output, DrawFault>
+    requires file { file.now ≡ strike.old.face.directory.file }
     ensures exact { GivesUnless refusal bytes_in result (product_of setting.now strike.old text.now) }
     ensures report { IfOk result (λ o. report_by strike.old.face (job_of strike.old text.now setting.now.margin) ≡ Ok (unfitted_in o)) }
     ensures cost { IfOk result (λ o. cost_by strike.old.face (job_of strike.old text.now setting.now.margin) ≡ Ok (cost_in o)) }
@@ -119,7 +121,7 @@ pub(crate) fn make_output(
         Product::Measure => {
             let face = strike.face();
             let measure = make_measure(strike, setting.grow, text, setting.margin)?;
-            let lines = measure_text(alloc, face.metrics(), text, &measure)?;
+            let lines = measure_text(alloc, setting.reading, file, face, text, &measure)?;
             let Measure { report, .. } = measure;
             Ok(Output::Text(lines, report))
         }

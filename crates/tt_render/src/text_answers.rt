@@ -14,7 +14,7 @@ use crate::refusal::{Refusal, TextsFault, texts_fault};
 use crate::setting::{Missing, Setting};
 use crate::texts_messages::Messages;
 use std::alloc::Global;
-use tt_cmap::{Cmap, lacking};
+use tt_cmap::{CharacterMap, lacking};
 use tt_strike::Strike;
 
 /// The output of a text, ready to be written; the reported characters without a glyph; and the report as it is printed.
@@ -28,7 +28,12 @@ pub(crate) struct ReadyText {
 /// The characters of a text without a glyph that are reported. Error: Missing, the first, where they are refused. The
 /// caller knows the line.
 #[tactic(auto, unfolding(crate::specs::Texts::missing_tested))]
-fn missing_of(alloc: Global, cmap: &Cmap, how: Missing, text: &str) -> Result<Vec<char>, TextsFault>
+fn missing_of(
+    alloc: Global,
+    cmap: &CharacterMap,
+    how: Missing,
+    text: &str,
+) -> Result<Vec<char>, TextsFault>
     ensures exact { GivesUnless told (λ v. v.items) (without_line result) (missing_tested cmap.now how text.now) }
     ensures font { IfTold refusal_font_fault (without_line result) (λ _. ⊥) }
     ensures serves { IsOfText (without_line result) }
@@ -46,16 +51,18 @@ fn missing_of(alloc: Global, cmap: &Cmap, how: Missing, text: &str) -> Result<Ve
     }
 }
 
-/// The answer of a text by a strike; `number` is that of a line. Errors, the first of: those of `make_output`; Missing.
-/// The caller puts the line into an error.
+/// The answer of a text by a strike whose face is of this file; `number` is that of a line. Errors, the first of: those
+/// of `make_output`; Missing. The caller puts the line into an error.
 #[tactic(auto, unfolding(crate::specs::Texts::text_answer))]
 pub(crate) fn answer_text(
     alloc: Global,
     strike: &mut Strike,
+    file: &[u8],
     setting: &Setting,
     number: Option<u32>,
     text: &str,
 ) -> Result<ReadyText, TextsFault>
+    requires file { file.now ≡ strike.old.face.directory.file }
     ensures exact { GivesUnless told answer_view (without_line result) (text_answer setting.now strike.old text.now) }
     ensures valid { IfOk result (λ r. CanGoOut r.output) }
     ensures report { IfOk result (TellsOf number) }
@@ -64,7 +71,7 @@ pub(crate) fn answer_text(
     ensures same { strike.new ≡ record strike.old { kept = strike.new.kept } }
 {
     let face = strike.face();
-    let output = make_output(alloc, strike, setting, text)?;
+    let output = make_output(alloc, strike, file, setting, text)?;
     let lacking = missing_of(alloc, face.cmap(), setting.missing, text)?;
     let report = Messages { alloc, number }.report(output.unfitted(), &lacking)?;
     Ok(ReadyText {

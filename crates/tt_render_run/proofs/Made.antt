@@ -1,11 +1,12 @@
 -- The written bytes were made of a file that is not too large.
 use Rattle.std.proofs.Common.{◌≡◌, ℕ, nat_lt, List, length, Result, Ok, Err}
+use Rattle.tt_core.specs.declared.collection.Reading.{Reading}
 use Rattle.tt_core.specs.declared.fault.JobFault.{JobFault}
 use Rattle.tt_core.specs.Chains.{came-through, passed-on}
 use Rattle.tt_core.specs.Directory.{HasNo}
 use Rattle.tt_core.specs.Faults.{Fault}
 use Rattle.tt_core.specs.Limits.{font_limit}
-use Rattle.tt_face.specs.Files.{face_of, FacesAreWhole, IsFaceDefect}
+use Rattle.tt_face.specs.Files.{face_by, ReadFacesAreWhole, IsFaceDefectBy}
 use Rattle.tt_strike.specs.Job.{tested, text_tested}
 use Rattle.tt_strike.specs.Laws.{DrawnFontsAreWhole, OthersDrawByEdges}
 use Rattle.tt_strike.specs.Picture.{pictured}
@@ -30,24 +31,25 @@ made-of tests made file bytes was =
 
 pub written-whole : DrawnFontsAreWhole → WrittenFontsAreWhole
 unfolding run_outcome
-written-whole law a file bytes was =
-    let made = file_made (pictured a file) bytes (made-of (tested a) (file_pictured a) file bytes was) in
-    law a file made.0 made.1
+written-whole law r a file bytes was =
+    let made = file_made (pictured r a file) bytes (made-of (tested a) (file_pictured r a) file bytes was) in
+    law r a file made.0 made.1
 
 pub written-by-edges : OthersDrawByEdges → OthersWriteByEdges
 unfolding run_outcome
-written-by-edges law a file bytes other was =
-    let made = file_made (pictured a file) bytes (made-of (tested a) (file_pictured a) file bytes was) in
-    (made.0, made.2, law a file made.0 other made.1)
+written-by-edges law r a file bytes other was =
+    let made = file_made (pictured r a file) bytes (made-of (tested a) (file_pictured r a) file bytes was) in
+    (made.0, made.2, law r a file made.0 other made.1)
 
-lines-whole : FacesAreWhole → (file text bytes : List ℕ) → lines_of file text ≡ Ok bytes → HasNo (IsFaceDefect file)
+lines-whole : ReadFacesAreWhole → (r : Reading) (file text bytes : List ℕ) → lines_of r file text ≡ Ok bytes
+    → HasNo (IsFaceDefectBy file r)
 unfolding lines_of
-lines-whole law file text bytes was =
-    let by_face = came-through (face_of file) _ bytes was in law file by_face.value by_face.first
+lines-whole law r file text bytes was =
+    let by_face = came-through (face_by file r) _ bytes was in law file r by_face.value by_face.first
 
-pub mapped-whole : FacesAreWhole → MappedFontsAreWhole
+pub mapped-whole : ReadFacesAreWhole → MappedFontsAreWhole
 unfolding map_outcome
-mapped-whole law text file bytes was =
-    lines-whole law file text bytes
-    (of-font (lines_of file text) bytes
-    (made-of (text_tested text) (λ font. as_font (lines_of font text)) file bytes was))
+mapped-whole law r text file bytes was =
+    lines-whole law r file text bytes
+    (of-font (lines_of r file text) bytes
+    (made-of (text_tested text) (λ font. as_font (lines_of r font text)) file bytes was))

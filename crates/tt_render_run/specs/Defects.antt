@@ -1,6 +1,7 @@
 -- What a call claims about the defects of a font, and why it refuses a job.
 use Rattle.std.specs.Prelude.{List, ℕ, Option, Some, None, Result, Ok, Err, IfSome, Bool, true, false, ⊤}
 use Rattle.tt_core.specs.Directory.{HasNo}
+use Rattle.tt_core.specs.declared.collection.Reading.{Reading}
 use Rattle.tt_core.specs.Faults.{Fault}
 use Rattle.tt_core.specs.declared.fault.JobFault.{JobFault}
 use Rattle.tt_strike.specs.Defects.{IsFontRefusal}
@@ -21,10 +22,10 @@ abbrev pub TellsDefectsOf : {V : Type 0} → Option (List ℕ) → (List ℕ →
 TellsDefectsOf None IsOne result = ⊤
 TellsDefectsOf (Some file) IsOne result = CallTellsDefects (IsOne file) result
 
--- the fact that refuses a job, alone or by a font file: the font comes second
-abbrev pub IsRefusedBy : Bool → Job → Option (List ℕ) → JobFault → Type 0
-IsRefusedBy true a left j = IfSome left (ByFace (λ face a. IsFontRefusal face a j) a)
-IsRefusedBy false a left j = IsTestRefusal a j
+-- the fact that refuses a job, alone or by a reading of a font file: the font comes second
+abbrev pub IsRefusedBy : Bool → Reading → Job → Option (List ℕ) → JobFault → Type 0
+IsRefusedBy true r a left j = IfSome left (ByFace (λ face a. IsFontRefusal face a j) r a)
+IsRefusedBy false r a left j = IsTestRefusal a j
 
-abbrev pub IsJobRefusal : Job → Option (List ℕ) → JobFault → Type 0
-IsJobRefusal a left j = IsRefusedBy (needs_font j) a left j
+abbrev pub IsJobRefusal : Reading → Job → Option (List ℕ) → JobFault → Type 0
+IsJobRefusal r a left j = IsRefusedBy (needs_font j) r a left j

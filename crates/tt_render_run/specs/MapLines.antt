@@ -1,12 +1,15 @@
--- The lines of `map`: for each character its code point, its glyph and the glyph's advance in font units.
-use Rattle.std.specs.Prelude.{ℕ, ◌-◌, List, ◌++◌, length, replicate, flat_map, true, chars, codes, decimal, Result, Ok, ◌≡◌, refl}
+-- The lines of `map`: for each unit its code points, its glyph and the glyph's advance in font units.
+use Rattle.std.specs.Prelude.{ℕ, ◌-◌, List, ◌++◌, length, replicate, flat_map, true, chars, codes, decimal, Option, Some, None, Result, Ok, ◌≡◌, refl}
 use Rattle.std.specs.Fmt.{digits}
+use Rattle.tt_core.specs.declared.collection.Reading.{Reading}
 use Rattle.tt_core.specs.Faults.{Fault}
 use Rattle.tt_core.specs.Outcomes.{◌>>=◌}
-use Rattle.tt_cmap.specs.Lookup.{Cmap, glyph_of}
+use Rattle.tt_cmap.specs.Maps.{CharacterMap, glyph_of_unit, units_by}
+use Rattle.tt_cmap.specs.declared.units.TextUnit.{TextUnit}
+use Rattle.tt_cmap.specs.Units.{plain_unit, selected_unit}
 use Rattle.tt_metrics.specs.Metrics.{Metrics, advance_of}
 use Rattle.tt_strike.specs.Job.{text_tested}
-use Rattle.tt_face.specs.Files.{face_of}
+use Rattle.tt_face.specs.Files.{face_by}
 use Rattle.tt_strike.specs.Refusals.{Refused, as_font}
 use Rattle.tt_render_run.specs.Outcome.{Wanted, outcome_of}
 
@@ -18,33 +21,49 @@ at_least_four ds = replicate (4 - length ds) 48 ++ ds
 abbrev pub code_point : ℕ → List ℕ
 code_point c = at_least_four (digits 16 true c)
 
+-- `U+NNNN` and a blank before a text
+abbrev pub named : ℕ → List ℕ → List ℕ
+named c text = codes "U+" ++ (code_point c ++ (codes " " ++ text))
+
 -- `U+NNNN glyph advance` and a line feed
 abbrev pub line_text : ℕ → ℕ → ℕ → List ℕ
-line_text c glyph advance = codes "U+" ++ (code_point c ++
-    (codes " " ++ (decimal glyph ++ (codes " " ++ (decimal advance ++ codes "\n")))))
+line_text c glyph advance = named c (decimal glyph ++ (codes " " ++ (decimal advance ++ codes "\n")))
 
-abbrev pub map_line : Metrics → Cmap → ℕ → List ℕ
-map_line m lookup c = line_text c (glyph_of lookup c) (advance_of m (glyph_of lookup c))
+-- the same after a character, if that has a selector
+abbrev pub selected_text : ℕ → Option ℕ → ℕ → ℕ → List ℕ
+selected_text c None glyph advance = line_text c glyph advance
+selected_text c (Some v) glyph advance = named c (line_text v glyph advance)
 
--- the lines of the characters of a text, in the order of the text
-abbrev pub map_lines : Metrics → Cmap → List ℕ → List ℕ
-map_lines m lookup text = flat_map (map_line m lookup) (chars text)
+-- the line of a unit: `U+NNNN glyph advance`, or with a selector `U+NNNN U+NNNN glyph advance`
+abbrev pub unit_text : TextUnit → ℕ → ℕ → List ℕ
+unit_text u glyph advance = selected_text u.character u.selector glyph advance
 
--- the lines by the tables of a file, or the file's first fault in the order of reading
-unfoldable pub lines_of : List ℕ → List ℕ → Result (List ℕ) Fault
-lines_of file text = face_of file >>= λ face. Ok (map_lines face.metrics face.cmap text)
+abbrev pub map_line : Metrics → CharacterMap → TextUnit → List ℕ
+map_line m cmap u = unit_text u (glyph_of_unit cmap u) (advance_of m (glyph_of_unit cmap u))
 
--- the bytes for a text and a font file, or the refusal: the text is tested first, then the file's size
-unfoldable pub map_outcome : List ℕ → List ℕ → Result (List ℕ) Refused
-map_outcome text file = outcome_of (text_tested text) (λ font. as_font (lines_of font text)) file
+-- the lines of the units of a text, in the order of the text
+abbrev pub map_lines : Metrics → CharacterMap → List ℕ → List ℕ
+map_lines m cmap text = flat_map (map_line m cmap) (units_by cmap (chars text))
 
-abbrev pub map_wanted : List ℕ → Wanted
-map_wanted text = record { tested = text_tested text; bytes = map_outcome text }
+-- the lines by the tables that a reading of a file gives, or the file's first fault in the order of reading
+unfoldable pub lines_of : Reading → List ℕ → List ℕ → Result (List ℕ) Fault
+lines_of r file text = face_by file r >>= λ face. Ok (map_lines face.metrics face.cmap text)
+
+-- the bytes for a text by a reading of a font file, or the refusal: the text is tested first, then the file's size
+unfoldable pub map_outcome : Reading → List ℕ → List ℕ → Result (List ℕ) Refused
+map_outcome r text file = outcome_of (text_tested text) (λ font. as_font (lines_of r font text)) file
+
+abbrev pub map_wanted : Reading → List ℕ → Wanted
+map_wanted r text = record { tested = text_tested text; bytes = map_outcome r text }
 
 -- worked values
-a_letter : line_text 65 1 256 ≡ codes "U+0041 1 256\n"
+a_letter : unit_text (plain_unit 65) 1 256 ≡ codes "U+0041 1 256\n"
 unfolding digits
 a_letter = refl
+
+a_letter_with_a_selector : unit_text (selected_unit 66 0xFE01) 1 256 ≡ codes "U+0042 U+FE01 1 256\n"
+unfolding digits
+a_letter_with_a_selector = refl
 
 past_the_first_plane : code_point 0x1F600 ≡ codes "1F600"
 unfolding digits

@@ -1,28 +1,30 @@
-//! Writes each character's glyph and advance as lines, by a font from a reader.
+//! Writes each unit's glyph and advance as lines, by a font from a reader.
 
 ghost use Rattle.std.specs.Fmt.{digit_glyph};
-ghost use Rattle.std.specs.Prelude.{◌≡◌, ◌+◌, ◌^◌, ◌<◌, ◌≤◌, ◌∷◌, ◌++◌, true, false, length, chars, IfOk, IfSome};
+ghost use Rattle.std.specs.Prelude.{◌≡◌, ◌+◌, ◌^◌, ◌<◌, ◌≤◌, [], ◌∷◌, ◌++◌, true, false, length, chars, IfOk, IfSome, OnOk};
+ghost use Rattle.tt_cmap.specs.Maps.{glyph_count};
 ghost use Rattle.tt_core.specs.declared.fault.JobFault.TheVariants.{TextLong};
 ghost use Rattle.tt_core.specs.Limits.{font_limit, text_limit};
 ghost use Rattle.tt_core.specs.Outcomes.{FontGives, font_fault};
-ghost use Rattle.tt_face.specs.Files.{IsFaceDefect};
+ghost use Rattle.tt_face.specs.Files.{IsFaceDefectBy};
 ghost use Rattle.tt_metrics.specs.Metrics.{glyphs_of};
 ghost use Rattle.tt_render_run.specs.Defects.{TellsDefectsOf};
-ghost use Rattle.tt_render_run.specs.MapLines.{code_point, line_text, lines_of, map_lines, map_wanted};
+ghost use Rattle.tt_render_run.specs.MapLines.{code_point, line_text, lines_of, map_lines, map_wanted, named, unit_text};
 ghost use Rattle.tt_render_run.specs.Outcome.{CallGives, IfJob, IfLarge, traffic_of};
 ghost use Rattle.tt_strike.specs.Defects.{TellsDefects};
 
 use crate::fault::RunFault;
 use crate::reading::read_font;
 use std::alloc::{AllocError, Global};
-use tt_cmap::{Cmap, KnownGlyphs};
-use tt_core::{FontFault, Sink, Source};
+use tt_cmap::{CharacterMap, KnownGlyphs, TextUnit};
+use tt_core::{FontFault, Reading, Sink, Source};
 use tt_metrics::Metrics;
 use tt_pbm::{Ascii, write_all_of};
 use tt_strike::{Face, test_text};
 
-/// Writes a line `U+NNNN glyph advance` for each character of the text: the code point in capital hexadecimal, the
-/// glyph's number and its advance in font units. Nothing is written before all lines are made.
+/// Writes a line `U+NNNN glyph advance` for each unit of the text: the code point in capital hexadecimal, the glyph's
+/// number and its advance in font units. With the wide reading a unit with a variation selector has
+/// `U+NNNN U+NNNN glyph advance`. Nothing is written before all lines are made.
 ///
 /// Errors, the first of: Job (TextLong), before the font is read; Read, FontLarge; Font, in the order in which the
 /// bytes are read; Write. Memory may come at any allocation.
@@ -31,47 +33,80 @@ pub fn map<R: Source, W: Sink>(
     font: &mut R,
     text: &str,
     out: &mut W,
+    reading: Reading,
 ) -> Result<(), RunFault>
     requires font { R.has_failed font.old ≡ false }
     requires out { W.has_failed out.old ≡ false }
-    ensures outcome { CallGives result (traffic_of R.left R.has_failed W.written W.has_failed font.old font.new out.old out.new) (map_wanted text.now) }
-    ensures defects { TellsDefectsOf (R.left font.old) IsFaceDefect result }
+    ensures outcome { CallGives result (traffic_of R.left R.has_failed W.written W.has_failed font.old font.new out.old out.new) (map_wanted reading text.now) }
+    ensures defects { TellsDefectsOf (R.left font.old) (λ file. IsFaceDefectBy file reading) result }
     ensures text { IfJob result (λ j. (j ≡ TextLong) × (text_limit < length (chars text.now))) }
     ensures large { IfLarge result (IfSome (R.left font.old) (λ file. font_limit < length file)) }
 {
     test_text(text)?;
     let file = read_font(alloc, font)?;
-    let lines = lines_by(alloc, &file, text)?;
+    let lines = lines_by(alloc, &file, text, reading)?;
     write_all_of(out, &lines)?;
     Ok(())
 }
 
-/// The lines by the tables of a font file.
+/// The lines by the tables that a reading of a font file gives.
 #[tactic(auto, unfolding(crate::specs::MapLines::lines_of))]
-fn lines_by(alloc: Global, file: &[u8], text: &str) -> Result<Vec<u8>, FontFault>
+fn lines_by(alloc: Global, file: &[u8], text: &str, reading: Reading) -> Result<Vec<u8>, FontFault>
     requires { length file.now ≤ font_limit }
-    ensures exact { FontGives (λ lines. lines.items) result (lines_of file.now text.now) }
-    ensures defects { TellsDefects font_fault (IsFaceDefect file.now) result }
+    ensures exact { FontGives (λ lines. lines.items) result (lines_of reading file.now text.now) }
+    ensures defects { TellsDefects font_fault (IsFaceDefectBy file.now reading) result }
 {
-    let face = Face::open(file)?;
+    let face = Face::read(file, reading)?;
     Ok(lines(alloc, face.metrics(), face.cmap(), text)?)
 }
 
-fn lines(alloc: Global, metrics: &Metrics, cmap: &Cmap, text: &str) -> Result<Vec<u8>, AllocError>
-    requires { cmap.now.glyphs ≡ glyphs_of metrics.now }
+fn lines(
+    alloc: Global,
+    metrics: &Metrics,
+    cmap: &CharacterMap,
+    text: &str,
+) -> Result<Vec<u8>, AllocError>
+    requires { glyph_count cmap.now ≡ glyphs_of metrics.now }
     ensures { IfOk result (λ lines. lines.items ≡ map_lines metrics.now cmap.now text.now) }
 {
     let mut lines = Vec::new(alloc);
-    let mut cmap = KnownGlyphs::new(cmap);
-    for c in text.chars() {
-        let glyph = cmap.glyph(c);
-        let line = line(c, glyph, metrics.advance(glyph));
-        lines.extend_from_slice(line.as_bytes())?;
+    let mut known = KnownGlyphs::new(cmap);
+    for unit in cmap.units(text) {
+        let glyph = known.glyph_of_unit(unit);
+        push_line(&mut lines, unit, glyph, metrics.advance(glyph))?;
     }
     Ok(lines)
 }
 
-/// The line of a character, made from its end.
+/// Adds the line of a unit. Error: memory ran out.
+fn push_line(
+    lines: &mut Vec<u8>,
+    unit: TextUnit,
+    glyph: u16,
+    advance: u16,
+) -> Result<(), AllocError>
+    ensures { OnOk result (lines.new.items ≡ lines.old.items ++ unit_text unit glyph advance) }
+{
+    let mut last = unit.character;
+    if let Some(selector) = unit.selector {
+        let name = name(unit.character);
+        lines.extend_from_slice(name.as_bytes())?;
+        last = selector;
+    }
+    let line = line(last, glyph, advance);
+    lines.extend_from_slice(line.as_bytes())
+}
+
+/// The name of a character, and a blank.
+fn name(c: char) -> Ascii
+    ensures { result ≡ named c [] }
+{
+    let mut name = Ascii::new();
+    push_name(&mut name, c);
+    name
+}
+
+/// The line of a character, or the rest of a unit's line from the selector on. The line is made from its end.
 fn line(c: char, glyph: u16, advance: u16) -> Ascii
     ensures { result ≡ line_text c glyph advance }
 {
@@ -80,11 +115,19 @@ fn line(c: char, glyph: u16, advance: u16) -> Ascii
     line.push_decimal(advance);
     line.push(b' ');
     line.push_decimal(glyph);
+    push_name(&mut line, c);
+    line
+}
+
+/// Puts the name of a character and a blank before a text.
+fn push_name(line: &mut Ascii, c: char)
+    requires room { length line.old + 9 ≤ 24 }
+    ensures { line.new ≡ named c line.old }
+{
     line.push(b' ');
-    push_code_point(&mut line, c as u32);
+    push_code_point(line, c as u32);
     line.push(b'+');
     line.push(b'U');
-    line
 }
 
 /// Puts a code point before a text, with at least four digits.

@@ -33,7 +33,7 @@ placed_by_advances face a other = rw other refl
 pub placed_of : (face : Face) (a : Job) (l : Placement) → laid_out face a ≡ Ok l → text_placed face a ≡ Ok l
 placed_of face a l laid = (came-through (as_job (tested a)) _ l laid).rest
 
--- each character of a placed text has its glyph
+-- each unit of a placed text has its glyph
 by_steps : StepsLead → (face : Face) (a : Job) (l : Placement) → placed_by_steps face a ≡ Ok l
     → map (λ g. g.0) l.glyphs ≡ text_glyphs face.cmap a.text
 unfolding placed_by_steps

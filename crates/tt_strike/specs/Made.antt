@@ -46,7 +46,7 @@ pub record IsMadeLine (cached : Bool) (face : Face) (a : Job) (line : Placement)
   pub seated : AreSeated (glyphs_of face.metrics) table gs
   pub cost : line_cost face a line ≡ Ok n
 
--- a text's distinct glyphs are fitted: these, with this table of their places. Each character has its glyph and the
+-- a text's distinct glyphs are fitted: these, with this table of their places. Each unit has its glyph and the
 -- glyph's step
 pub record AreOutlined (cached : Bool) (s : Fitter) (gs : List ℕ) (line : List (ℕ × ℕ)) (table : List ℕ) (fs : List FittedGlyph) : Type 0 where
   pub glyphs : map (λ g. g.0) line ≡ gs

@@ -1,6 +1,7 @@
 -- No part of the standard: the unfitted glyphs of a text, whose points are only scaled, each with the fault of a
 -- program (profile).
 use Rattle.std.specs.Prelude.{ℕ, List, map, Result, Ok}
+use Rattle.tt_core.specs.declared.collection.Reading.{Reading}
 use Rattle.tt_core.specs.Outcomes.{◌>>=◌}
 use Rattle.tt_line.specs.Layout.{Placement}
 use Rattle.tt_picture.specs.declared.report.Unfitted.{Unfitted}
@@ -23,6 +24,6 @@ line_report face a line =
 unfoldable pub report_by : Face → Job → Result (List Unfitted) Refused
 report_by face a = text_placed face a >>= λ line. line_report face a line
 
--- the unfitted glyphs of a text by a font file
-unfoldable pub report_of : Job → List ℕ → Result (List Unfitted) Refused
-report_of a file = by_face report_by a file
+-- the unfitted glyphs of a text by a reading of a font file
+unfoldable pub report_of : Reading → Job → List ℕ → Result (List Unfitted) Refused
+report_of r a file = by_face report_by r a file

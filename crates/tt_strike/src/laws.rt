@@ -1,17 +1,19 @@
 //! Laws of the definitions. Each function is a lemma: its clauses hold of all jobs, files and glyphs, and no code runs.
 
-ghost use Rattle.tt_face.specs.Files.{FacesAreWhole};
+ghost use Rattle.tt_face.specs.Files.{FacesAreWhole, ReadFacesAreWhole};
 ghost use Rattle.tt_strike.specs.Laws.{DrawnFontsAreWhole, OthersListNothing, MarginMoves, MeasuredAsDrawn, GlyphsByThemselves, UnfilledAreEdges, OthersFillNone, OthersDrawByEdges, GrownRefusals, SidesMove, SidesRefuseNothing};
 ghost use Rattle.tt_strike.specs.StepLaws.{BestLaysBySteps, EqualGlyphsStepAlike, GlyphsBeforeExtent, MeasureTellsSteps, MovedOutlinesAgree, OthersLayByAdvances};
 ghost use Rattle.tt_strike.specs.UnhintedSteps.{UnhintedStepsAreNear};
 ghost use Rattle.tt_strike.specs.InkLaws.{GrownAddsFewest, GrownCutsNone, GrownMeasuredAsDrawn, InkIsDrawn, MeasureHoldsInk};
 
-/// Lemma: where the definitions give a font's tables, these have no defect. Where they give a job's picture, the font
-/// has no defect for the job.
+/// Lemma: where the definitions give a font's tables, by the file or by a reading, these have no defect. Where they give
+/// a job's picture, the font has no defect for the job and its reading.
 pub fn fonts_are_whole()
     ensures tables { FacesAreWhole }
+    ensures readings { ReadFacesAreWhole }
     ensures picture { DrawnFontsAreWhole }
 {
+    tt_face::laws::readings_give_faces();
     tt_line::laws::glyphs_are_placed();
     tt_line::laws::steps_lead();
 }

@@ -52,7 +52,7 @@ pub struct Measure {
     pub baseline: i64,
     /// The box of the line's black pixels, if there are any.
     pub ink: Option<InkBox>,
-    /// In the order of the text.
+    /// One for each unit of the text, in order.
     pub characters: Vec<CharacterMeasure>,
     /// The line's report.
     pub report: Report,

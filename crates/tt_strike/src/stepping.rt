@@ -24,7 +24,7 @@ use tt_picture::{Cache, FittedGlyph, fit_glyphs, put_steps};
 /// A text whose glyphs are fitted.
 #[derive(Drop)]
 pub(crate) struct OutlinedText {
-    /// The glyph of each character, with its step.
+    /// The glyph of each unit, with its step.
     pub(crate) steps: Vec<(u16, u32)>,
     /// For each glyph of the font 0, or one more than its place in `fitted`.
     pub(crate) places: Vec<u16>,

@@ -164,6 +164,6 @@ fn setting_in(line: &mut Line, missing: &str) -> Option<Setting> {
         reading: fit_reading(fit),
         missing: missing_named(missing)?,
         most: GLYPHS_KEPT,
-        ..Setting::plain(size, margin, fit)
+        ..Setting::plain(size, margin, fit, Reading::Strict)
     })
 }

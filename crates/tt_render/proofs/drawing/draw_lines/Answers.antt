@@ -6,10 +6,10 @@ use Rattle.tt_render.specs.Settings.{strike_by, strike_of}
 use Rattle.tt_render_run.proofs.Calls.{known_of}
 use Rattle.tt_render.proofs.DrawnLines.{kept_within}
 use Rattle.tt_render.proofs.DefectLines.{lines_tell, reading_tells, setting_tells, strike_tells}
-use Rattle.tt_render.proofs.FontLines.{font_opened, font_refused, idle, reading_stops, strike_stops}
+use Rattle.tt_render.proofs.FontLines.{face_file, font_opened, font_refused, idle, reading_stops, strike_stops}
 use Rattle.tt_render.proofs.Printed.{keeps_itself}
 use Rattle.tt_render.proofs.drawing.draw_lines.Goals as goal
-use Rattle.tt_face.specs.Files.{IsFaceDefect}
+use Rattle.tt_face.specs.Files.{IsFaceDefectBy}
 use Rattle.tt_strike.specs.Strikes.{Strike}
 
 pub returns-in_err-test_setting-clause-outcome : goal.returns-in_err-test_setting-clause-outcome
@@ -95,7 +95,7 @@ returns-in_err-face-clause-defects g c =
     let file = c.in_ok-file in
     let fault = c.in_err-face.field-0.0 in
     let p = err_from_is_err_and c.from_residual-in_err-face.result c.from_residual-in_err-face.ensures.1 in
-    let Tells : List ℕ → Type 0 = λ bytes. IsFaceDefect bytes fault in
+    let Tells : List ℕ → Type 0 = λ bytes. IsFaceDefectBy bytes c.args.setting.now.reading fault in
     rw (p.1, p.2) (known_of (left c.args.font.now) (left c.read_font.new.font) file.file.items Tells file.ensures.0
     file.ensures.1 (subst Tells c.deref.ensures.value c.in_err-face.ensures.fault))
 
@@ -121,3 +121,9 @@ pub returns-clause-kept : goal.returns-clause-kept
 returns-clause-kept g c =
     kept_within c.draw_lines_by.result c.in_ok-strike.strike.most c.args.setting.now.most
     (ap (λ (s : Strike). s.most) c.in_ok-strike.ensures.exact) c.draw_lines_by.ensures.kept
+
+pub draw_lines_by-requires-clause-file : goal.draw_lines_by-requires-clause-file
+draw_lines_by-requires-clause-file g c =
+    rw (c.deref-2.ensures.value, c.in_ok-strike.ensures.exact)
+    (face_file c.in_ok-file.file.items c.args.setting.now.reading c.in_ok-face.face
+    (rw c.deref.ensures.value at c.in_ok-face.ensures.exact))

@@ -1,4 +1,4 @@
-use Rattle.std.proofs.Common.{◌≡◌, ℕ, ◌+◌, IfSome, Some, Ok, arith, refl, subst}
+use Rattle.std.proofs.Common.{◌≡◌, ◌∙◌, ap, sym, ℕ, ◌+◌, IfSome, Some, Ok, arith, refl, subst}
 use Rattle.std.proofs.lemmas.Result.{err_from_is_err_and}
 use Rattle.tt_strike.specs.Strikes.{Strike}
 use Rattle.tt_render.specs.LineReading.{held, line_at, text_left}
@@ -204,3 +204,7 @@ returns-in-Ok-None-clause-kept g c = omega (
   c.kept_bytes.ensures.most,
   same_most c.args.strike.now c.loop-before.strike c.loop-before.invariant.strike,
 )
+
+pub draw_line-requires-clause-file : goal.draw_line-requires-clause-file
+draw_line-requires-clause-file g c =
+    c.requires.file ∙ sym (ap (λ (s : Strike). s.face.directory.file) c.loop-before.invariant.strike)

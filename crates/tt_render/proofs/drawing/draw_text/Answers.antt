@@ -23,7 +23,7 @@ returns-in_err-test_job-clause-outcome g c =
     let stops : StopsAtFont {V = Unit {0}} (tested (job_by c.args.setting.now c.args.text.now))
     (strike_of c.args.setting.now) (Err (before_lines (reason.Job c.in_err-test_job.field-0.0)))
     (font_reader_of g.R.Source.left g.R.Source.has_failed c.args.font.now c.args.font.now)
-    = (subst (λ (j : Job). tested j ≡ Err c.in_err-test_job.field-0.0) c.job.ensures c.in_err-test_job.ensures.exact, (keeps_itself left, c.requires.font)) in
+    = (subst (λ (j : Job). tested j ≡ Err c.in_err-test_job.field-0.0) c.job.ensures.exact c.in_err-test_job.ensures.exact, (keeps_itself left, c.requires.font)) in
     rw (p.1, p.2)
     (inl (
       stops,
@@ -39,7 +39,7 @@ returns-in_err-file-clause-outcome g c =
     let failed = g.R.Source.has_failed font in
     let p = err_from_is_err_and c.from_residual-in_err-file.result c.from_residual-in_err-file.ensures.1 in
     let stops = reading_stops (Unit {0}) (tested (job_by a c.args.text.now)) (strike_of a) c.in_err-file.field-0.0
-    (left c.args.font.now) (left font) failed (subst (λ (j : Job). tested j ≡ Ok tt) c.job.ensures c.in_ok-test_job.ensures.exact) c.in_err-file.ensures in
+    (left c.args.font.now) (left font) failed (subst (λ (j : Job). tested j ≡ Ok tt) c.job.ensures.exact c.in_ok-test_job.ensures.exact) c.in_err-file.ensures in
     rw (p.1, p.2)
     (inl (
       stops,
@@ -63,7 +63,7 @@ returns-in_err-ready-clause-outcome g c =
     (text_fails a text file.file.items fault
     (traffic_of left g.R.Source.has_failed g.W.Sink.written g.W.Sink.has_failed c.args.font.now font c.args.out.now
     c.args.out.now) (errors_of g.E.Sink.written g.E.Sink.has_failed c.args.error.now c.args.error.now)
-    (subst (λ (j : Job). tested j ≡ Ok tt) c.job.ensures c.in_ok-test_job.ensures.exact) (file.ensures.0, file.ensures.1, file.ensures.3) why
+    (subst (λ (j : Job). tested j ≡ Ok tt) c.job.ensures.exact c.in_ok-test_job.ensures.exact) (file.ensures.0, file.ensures.1, file.ensures.3) why
     (silent (left c.args.font.now) (left font) (g.W.Sink.written c.args.out.now) (g.E.Sink.written c.args.error.now)
     failed _ _ c.requires.out c.requires.error))
 
@@ -77,7 +77,7 @@ returns-in-Ok-clause-outcome g c =
     (traffic_of g.R.Source.left g.R.Source.has_failed g.W.Sink.written g.W.Sink.has_failed c.args.font.now
     c.read_font.new.font c.args.out.now c.write_output.new.out)
     (errors_of g.E.Sink.written g.E.Sink.has_failed c.args.error.now c.print_text.new.error)
-    (subst (λ (j : Job). tested j ≡ Ok tt) c.job.ensures c.in_ok-test_job.ensures.exact) (file.ensures.0, file.ensures.1, file.ensures.3) made.1 made.2 c.in-Ok.ensures.all
+    (subst (λ (j : Job). tested j ≡ Ok tt) c.job.ensures.exact c.in_ok-test_job.ensures.exact) (file.ensures.0, file.ensures.1, file.ensures.3) made.1 made.2 c.in-Ok.ensures.all
     c.in-Ok.ensures.failure printed
 
 pub returns-clause-outcome : goal.returns-clause-outcome
@@ -91,14 +91,14 @@ returns-clause-outcome g c =
     (traffic_of g.R.Source.left g.R.Source.has_failed g.W.Sink.written g.W.Sink.has_failed c.args.font.now
     c.read_font.new.font c.args.out.now c.write_output.new.out)
     (errors_of g.E.Sink.written g.E.Sink.has_failed c.args.error.now c.args.error.now)
-    (subst (λ (j : Job). tested j ≡ Ok tt) c.job.ensures c.in_ok-test_job.ensures.exact) (file.ensures.0, file.ensures.1, file.ensures.3) made.1 made.2
+    (subst (λ (j : Job). tested j ≡ Ok tt) c.job.ensures.exact c.in_ok-test_job.ensures.exact) (file.ensures.0, file.ensures.1, file.ensures.3) made.1 made.2
     (cut.within, cut.part) cut.failure (keeps_itself (g.E.Sink.written c.args.error.now), c.requires.error)
 
 pub returns-in_err-test_job-clause-defects : goal.returns-in_err-test_job-clause-defects
 returns-in_err-test_job-clause-defects g c =
     let p = err_from_is_err_and c.from_residual.result c.from_residual.ensures.1 in
     rw (p.1, p.2) (job_tells (g.R.Source.left c.args.font.now)
-    (IsRunDefect (job_by c.args.setting.now c.args.text.now)) c.in_err-test_job.field-0.0)
+    (IsRunDefect c.args.setting.now.reading (job_by c.args.setting.now c.args.text.now)) c.in_err-test_job.field-0.0)
 
 pub returns-in_err-file-clause-defects : goal.returns-in_err-file-clause-defects
 returns-in_err-file-clause-defects g c =
@@ -106,7 +106,7 @@ returns-in_err-file-clause-defects g c =
     let font = c.read_font.new.font in
     let p = err_from_is_err_and c.from_residual-in_err-file.result c.from_residual-in_err-file.ensures.1 in
     rw (p.1, p.2) (reading_tells c.in_err-file.field-0.0 (left c.args.font.now) (left font)
-    (g.R.Source.has_failed font) (IsRunDefect (job_by c.args.setting.now c.args.text.now)) c.in_err-file.ensures)
+    (g.R.Source.has_failed font) (IsRunDefect c.args.setting.now.reading (job_by c.args.setting.now c.args.text.now)) c.in_err-file.ensures)
 
 pub returns-in_err-ready-clause-defects : goal.returns-in_err-ready-clause-defects
 returns-in_err-ready-clause-defects g c =
@@ -115,7 +115,7 @@ returns-in_err-ready-clause-defects g c =
     let a = job_by c.args.setting.now c.args.text.now in
     let fault = c.in_err-ready.field-0.0 in
     let p = err_from_is_err_and c.from_residual-in_err-ready.result c.from_residual-in_err-ready.ensures.1 in
-    let P : List ℕ → Type 0 = λ bytes. TextTellsDefects {V = Unit {0}} (IsRunDefect a bytes) (Err fault) in
+    let P : List ℕ → Type 0 = λ bytes. TextTellsDefects {V = Unit {0}} (IsRunDefect c.args.setting.now.reading a bytes) (Err fault) in
     let tells = subst P c.deref.ensures.value c.in_err-ready.ensures.defects in
     rw (p.1, p.2)
     (known_of (left c.args.font.now) (left c.read_font.new.font) file.file.items P file.ensures.0 file.ensures.1 tells)

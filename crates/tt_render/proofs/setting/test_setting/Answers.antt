@@ -21,4 +21,4 @@ pub returns : goal.returns
 unfolding setting_tested
 returns c =
     rw (← same_tests (job_by c.args.setting.now []) refl)
-    (subst (λ (j : Job). Gives (λ u. u) c.test_job.result (tested j)) c.job.ensures c.test_job.ensures.exact)
+    (subst (λ (j : Job). Gives (λ u. u) c.test_job.result (tested j)) c.job.ensures.exact c.test_job.ensures.exact)

@@ -1,26 +1,28 @@
 use Rattle.std.proofs.Common.{◌≡◌, [], chars, sym, ◌∙◌}
-use Rattle.std.proofs.lemmas.Iterator.{YieldsList-from_chars}
-use Rattle.std.proofs.lemmas.Iterator.Consumers.{YieldsList-end}
+use Rattle.std.proofs.lemmas.Iterator.Consumers.{YieldsList-from_first, YieldsList-end}
 use Rattle.std.proofs.lemmas.List.{flat_map_more, map-id}
-use Rattle.tt_cmap.specs.Lookup.{glyph_of}
+use Rattle.tt_cmap.specs.declared.units.TextUnit.{TextUnit}
+use Rattle.tt_cmap.specs.Maps.{glyph_of_unit, units_by}
+use Rattle.tt_cmap.specs.Texts.{units_left}
 use Rattle.tt_render_run.specs.MapLines.{map_line}
 use Rattle.tt_render_run.proofs.mapping.lines.Goals as goal
 
 pub returns : goal.returns
 returns c =
-    let e = YieldsList-end (YieldsList-from_chars c.args.text.now c.utf8.text cc) c.loop-c.yielded _ c.loop-c.yielded_by
-    _ _ c.in-None.is c.next.ensures.steps in
-    let all : c.loop-c.yielded ≡ chars c.args.text.now = sym (map-id c.loop-c.yielded) ∙ e.0 in
-    rw (← all) c.loop-c.invariant.lines
+    let us = units_by c.args.cmap.now (chars c.args.text.now) in
+    let e = YieldsList-end (YieldsList-from_first (λ (u : TextUnit). u) units_left us c.units.ensures) c.loop-unit.yielded _
+    c.loop-unit.yielded_by _ _ c.in-None.is c.next.ensures.steps in
+    let all : c.loop-unit.yielded ≡ us = sym (map-id c.loop-unit.yielded) ∙ e.0 in
+    rw (← all) c.loop-unit.invariant.lines
 
-pub loop-c-preserved : goal.loop-c-preserved
-loop-c-preserved c =
+pub loop-unit-preserved : goal.loop-unit-preserved
+loop-unit-preserved c =
     let line = map_line c.args.metrics.now c.args.cmap.now in
-    let glyph : c.glyph-glyph.result ≡ glyph_of c.args.cmap.now c.in-Some.c =
-    rw c.loop-c.invariant.same at c.glyph-glyph.ensures.exact in
+    let glyph : c.glyph_of_unit-glyph.result ≡ glyph_of_unit c.args.cmap.now c.in-Some.unit =
+    rw c.loop-unit.invariant.same at c.glyph_of_unit-glyph.ensures.exact in
     record {
-      lines = rw (c.in_ok-extend_from_slice.ensures.items, c.as_bytes.ensures.exact, c.line-line.ensures)
-          (rw (c.advance.ensures, glyph, c.loop-c.invariant.lines)
-          (flat_map_more line [] c.loop-c.yielded c.in-Some.c));
-      same = c.glyph-glyph.ensures.same ∙ c.loop-c.invariant.same;
+      lines = rw c.in_ok-push_line.ensures
+          (rw (c.advance.ensures, glyph, c.loop-unit.invariant.lines)
+          (flat_map_more line [] c.loop-unit.yielded c.in-Some.unit));
+      same = c.glyph_of_unit-glyph.ensures.same ∙ c.loop-unit.invariant.same;
     }

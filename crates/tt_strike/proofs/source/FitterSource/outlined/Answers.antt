@@ -4,7 +4,7 @@ use Rattle.std.proofs.lemmas.Result.{err_from_is_err_and}
 use Rattle.std.specs.Vec.{with_items}
 use Rattle.tt_core.specs.Limits.{point_work_limit}
 use Rattle.tt_fit.specs.Fitting.{Fitter}
-use Rattle.tt_cmap.specs.Lookup.{Cmap}
+use Rattle.tt_cmap.specs.Maps.{CharacterMap}
 use Rattle.tt_line.specs.Layout.{text_glyphs}
 use Rattle.tt_metrics.specs.Metrics.{glyphs_of}
 use Rattle.tt_picture.specs.Cached.{is_there}
@@ -32,7 +32,7 @@ numbers_are : (c : In_ok-met) → c.in_ok-met.met.numbers.items
 numbers_are c = rw c.deref.ensures.value at c.in_ok-met.ensures.numbers ∙ ap distinct (glyphs_are c)
 
 -- the distinct glyphs of the text
-abbrev glyphs_of_text : Cmap → List ℕ → List ℕ
+abbrev glyphs_of_text : CharacterMap → List ℕ → List ℕ
 glyphs_of_text map text = distinct (text_glyphs map text)
 
 -- their points are few, and charged
