@@ -2,7 +2,8 @@
 #![tactic(auto)]
 
 ghost use Rattle.std.specs.Prelude.{◌≡◌};
-ghost use Rattle.tt_c_calls.specs.Fonts.{OpensFont};
+ghost use Rattle.tt_core.specs.declared.collection.Reading.TheVariants as reading;
+ghost use Rattle.tt_c_calls.specs.Fonts.{CountsFaces, OpensFont};
 ghost use Rattle.tt_c_calls.specs.Lines.{DrawsTexts};
 ghost use Rattle.tt_c_calls.specs.Maps.{MapsText};
 ghost use Rattle.tt_c_calls.specs.Measures.{MeasuresText, PlacesCharacters};
@@ -13,24 +14,66 @@ use std::alloc::Global;
 use tt_c_calls::{
     Band, CAnswer, CCharacter, CFont, CGlyph, CJob, CLine, CMeasure, CPicture, TextRequest, Texts,
 };
+use tt_core::Reading;
 
-/// `tt_c_calls::open`.
+/// `tt_c_calls::faces`.
 #[unsafe(no_mangle)]
-pub extern "C" fn tt_open(font: &[u8], told: &mut CFont, answer: &mut CAnswer) -> u32
+pub extern "C" fn tt_faces(font: &[u8], answer: &mut CAnswer) -> u32
     ensures status { result ≡ answer.new.status }
-    ensures opens { OpensFont font.now told.old told.new answer.new }
+    ensures counts { CountsFaces font.now answer.new }
 {
-    *answer = tt_c_calls::open(font, told);
+    *answer = tt_c_calls::faces(font);
     answer.status
 }
 
-/// `tt_c_calls::map`.
+/// `tt_c_calls::open` with the strict reading.
+#[unsafe(no_mangle)]
+pub extern "C" fn tt_open(font: &[u8], told: &mut CFont, answer: &mut CAnswer) -> u32
+    ensures status { result ≡ answer.new.status }
+    ensures opens { OpensFont reading.Strict font.now told.old told.new answer.new }
+{
+    *answer = tt_c_calls::open(font, Reading::Strict, told);
+    answer.status
+}
+
+/// `tt_c_calls::open` with the wide reading of a face.
+#[unsafe(no_mangle)]
+pub extern "C" fn tt_open_face(
+    font: &[u8],
+    face: u32,
+    told: &mut CFont,
+    answer: &mut CAnswer,
+) -> u32
+    ensures status { result ≡ answer.new.status }
+    ensures opens { OpensFont (reading.Wide face) font.now told.old told.new answer.new }
+{
+    *answer = tt_c_calls::open(font, Reading::Wide { face }, told);
+    answer.status
+}
+
+/// `tt_c_calls::map` with the strict reading.
 #[unsafe(no_mangle)]
 pub extern "C" fn tt_map(font: &[u8], text: &[u8], room: &mut [CGlyph], answer: &mut CAnswer) -> u32
     ensures status { result ≡ answer.new.status }
-    ensures maps { MapsText text.now font.now room.old room.new answer.new }
+    ensures maps { MapsText reading.Strict text.now font.now room.old room.new answer.new }
 {
-    *answer = tt_c_calls::map(font, text, room);
+    *answer = tt_c_calls::map(font, Reading::Strict, text, room);
+    answer.status
+}
+
+/// `tt_c_calls::map` with the wide reading of a face.
+#[unsafe(no_mangle)]
+pub extern "C" fn tt_map_face(
+    font: &[u8],
+    face: u32,
+    text: &[u8],
+    room: &mut [CGlyph],
+    answer: &mut CAnswer,
+) -> u32
+    ensures status { result ≡ answer.new.status }
+    ensures maps { MapsText (reading.Wide face) text.now font.now room.old room.new answer.new }
+{
+    *answer = tt_c_calls::map(font, Reading::Wide { face }, text, room);
     answer.status
 }
 

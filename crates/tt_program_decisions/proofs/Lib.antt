@@ -1,4 +1,3 @@
 mod FaceCalls
-pub mod FacePlaces
 mod FaceTexts
 pub mod Statuses

@@ -73,7 +73,7 @@ pub data Asked : Type 0 where
   draw_lines : List ℕ → Setting → Asked
 
 abbrev pub asked_of : Request → Asked
-asked_of (Map font text reading) = map_text font.now text.now reading
+asked_of (Map font text r) = map_text font.now text.now r
 asked_of (Faces font) = tell_faces font.now
 asked_of (Text font text setting) = draw_text font.now text.now setting
 asked_of (Lines font setting) = draw_lines font.now setting
@@ -121,7 +121,7 @@ AsksDrawing text IsNumber IsFlag wanted answer =
 
 -- the path of a request's font
 abbrev pub font_of : Request → List ℕ
-font_of (Map font text reading) = font.now
+font_of (Map font text r) = font.now
 font_of (Faces font) = font.now
 font_of (Text font text setting) = font.now
 font_of (Lines font setting) = font.now
@@ -130,12 +130,12 @@ font_of (Lines font setting) = font.now
 -- tell faces: the bytes to write for a font file, and the defects for which it is refused. The second traffic is that of
 -- standard input, and of the writer again
 abbrev pub Performs : Request → Traffic → Traffic → Errors → ℕ → Type 0
-Performs (Map font text reading) t lines e status =
-    Does (map_wanted text.now reading) (λ file. IsFaceDefectBy file reading) t e status
+Performs (Map font text r) t lines e status =
+    Does (map_wanted r text.now) (λ file. IsFaceDefectBy file r) t e status
 Performs (Faces font) t lines e status = Does faces_wanted IsFacesDefect t e status
 Performs (Text font text setting) t lines e status =
     DoesTexts {V = Unit {0}} (λ answer told. FontTextGives setting text.now answer t told
-    × TextTellsDefectsOf t.left_before (IsRunDefect (job_by setting text.now)) answer) e status
+    × TextTellsDefectsOf t.left_before (IsRunDefect setting.reading (job_by setting text.now)) answer) e status
 Performs (Lines font setting) t lines e status =
     DoesTexts {V = ℕ} (λ answer told. FontLinesGive setting answer (reader_in t) lines told
     × LinesTellDefectsOf t.left_before setting lines.left_before answer) e status

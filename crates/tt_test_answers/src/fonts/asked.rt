@@ -161,9 +161,8 @@ fn setting_in(line: &mut Line, missing: &str) -> Option<Setting> {
     let margin = line.natural(0, u32::MAX);
     let fit = fit_named(line.word())?;
     Some(Setting {
-        reading: fit_reading(fit),
         missing: missing_named(missing)?,
         most: GLYPHS_KEPT,
-        ..Setting::plain(size, margin, fit, Reading::Strict)
+        ..Setting::plain(size, margin, fit, fit_reading(fit))
     })
 }

@@ -1,5 +1,5 @@
 use Rattle.std.proofs.Common.{arith, refl, rules}
-use Rattle.tt_face.specs.Files.{IsFaceDefect}
+use Rattle.tt_face.specs.Files.{IsFaceDefectBy}
 use Rattle.tt_c_calls.specs.Fonts.{face_wanted}
 use Rattle.tt_c_calls.proofs.Answered.{fails, serves, stands, tells}
 use Rattle.tt_c_calls.proofs.opening.open.Goals as goal
@@ -7,10 +7,10 @@ use Rattle.tt_c_calls.proofs.opening.open.Goals as goal
 pub returns-in-Err : goal.returns-in-Err
 returns-in-Err c = rw c.answer_of.ensures (record {
   done = λ h. absurd (fails c.in-Err.fault h);
-  refused = λ _. tells (face_wanted c.args.font.now) c.in-Err.fault c.in-Err.ensures.exact;
+  refused = λ _. tells (face_wanted c.args.reading c.args.font.now) c.in-Err.fault c.in-Err.ensures.exact;
   memory = serves c.in-Err.fault c.in-Err.ensures.memory;
   kept = λ _. refl;
-  stands = stands (IsFaceDefect c.args.font.now) c.in-Err.fault c.in-Err.ensures.defects;
+  stands = stands (IsFaceDefectBy c.args.font.now c.args.reading) c.in-Err.fault c.in-Err.ensures.defects;
 })
 
 pub returns : goal.returns

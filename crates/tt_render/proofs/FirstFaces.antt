@@ -3,12 +3,11 @@ use Rattle.std.proofs.Common.{◌≡◌, ℕ, ◌+◌, ◌<◌, ◌≤◌, nat_l
 use Rattle.std.specs.Prelude.{not, Result}
 use Rattle.std.proofs.lemmas.Bool.Decides.{nat_tests}
 use Rattle.tt_core.specs.Chains.{came-through, was-err}
-use Rattle.tt_core.specs.Collections.{is_collection, major_version, is_major_version, font_count, entry_place, collected_offset, count_of, face_offset, offset_of, only_offset, IsBadFace}
+use Rattle.tt_core.specs.Collections.{is_collection, major_version, is_major_version, font_count, entry_place, collected_offset, count_of, face_offset, offset_of, only_offset, IsBadFace, IsOffsetDefect}
 use Rattle.tt_core.specs.declared.collection.Reading.TheVariants as reading
 use Rattle.tt_core.specs.Directory.{HasNo}
 use Rattle.tt_core.specs.Faults.{Fault}
 use Rattle.tt_core.proofs.Offsets.{offset-whole}
-use Rattle.tt_program_decisions.specs.FaceLines.{IsFacesDefect}
 
 -- where a chain of tests failed: at the first test, or behind it
 stopped : {A : Type 0} (bad : Bool) (e : Fault) (x : Result A Fault) (f : Fault) → (if bad then Err e else x) ≡ Err f
@@ -54,21 +53,21 @@ face-stands : (file : List ℕ) (f : Fault) → face_offset file 0 ≡ Err f →
 unfolding face_offset
 face-stands file f was = face-stands-by (is_collection file) file f refl was
 
-offset-stands : (file : List ℕ) (f : Fault) → offset_of file (reading.Wide 0) ≡ Err f → IsFacesDefect file f
+offset-stands : (file : List ℕ) (f : Fault) → offset_of file (reading.Wide 0) ≡ Err f → IsOffsetDefect file (reading.Wide 0) f
 unfolding offset_of
 offset-stands file f was = elim (stopped (nat_lt (length file) 12) _ _ f was) [
   | inl short ↦ inl (is-below (length file) 12 short.0, short.1)
   | inr long ↦ inr (is-not-below (length file) 12 long.0, face-stands file f long.1)
 ]
 
-pub count-stands : (file : List ℕ) (f : Fault) → count_of file ≡ Err f → IsFacesDefect file f
+pub count-stands : (file : List ℕ) (f : Fault) → count_of file ≡ Err f → IsOffsetDefect file (reading.Wide 0) f
 unfolding count_of
 count-stands file f was = elim (was-err (offset_of file (reading.Wide 0)) _ f was) [
   | inl place ↦ offset-stands file f place
   | inr later ↦ absurd (no-fault _ f later.rest)
 ]
 
-pub count-whole : (file : List ℕ) (n : ℕ) → count_of file ≡ Ok n → HasNo (IsFacesDefect file)
+pub count-whole : (file : List ℕ) (n : ℕ) → count_of file ≡ Ok n → HasNo (IsOffsetDefect file (reading.Wide 0))
 unfolding count_of
 count-whole file n was =
     let by_offset = came-through (offset_of file (reading.Wide 0)) _ n was in
