@@ -76,7 +76,7 @@ fn count_of(font: &[u8]) -> Result<u32, CallFault>
     ensures defects { TellsDefects call_font_fault (IsOffsetDefect font.now (reading.Wide 0)) result }
     ensures memory { IfErr result (λ f. f ≢ call.Memory) }
 {
-    if font.len() > FONT_LIMIT {
+    if FONT_LIMIT < font.len() {
         return Err(CallFault::FontLarge);
     }
     match face_count(font) {
