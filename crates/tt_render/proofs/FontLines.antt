@@ -1,12 +1,11 @@
 -- A call that stops before it reads a line, and the font that lines are drawn by.
 use Rattle.std.proofs.Common.{◌≡◌, ◌∙◌, ap, sym, ℕ, ◌≤◌, Bool, false, nat_lt, List, length, Option, Result, Ok, Err, IfSome, refl, arith}
 use Rattle.std.proofs.lemmas.Bool.Decides.{nat_tests}
-use Rattle.tt_cmap.specs.Maps.{map_by}
 use Rattle.tt_core.specs.Chains.{came-through}
 use Rattle.tt_core.specs.Collections.{directory_at, directory_by, offset_of}
 use Rattle.tt_core.specs.declared.collection.Reading.{Reading}
 use Rattle.tt_core.specs.declared.fault.JobFault.{JobFault}
-use Rattle.tt_core.specs.Directory.{Directory, needed_table}
+use Rattle.tt_core.specs.Directory.{Directory}
 use Rattle.tt_core.specs.Faults.{Fault}
 use Rattle.tt_core.specs.Limits.{font_limit}
 use Rattle.tt_core.specs.Outcomes.{◌>>=◌}
@@ -15,10 +14,10 @@ use Rattle.tt_core.specs.declared.draw_fault.DrawFault.{DrawFault}
 use Rattle.tt_core.specs.declared.draw_fault.DrawFault.TheVariants as draw
 use Rattle.tt_strike.specs.Job.{size_tested}
 use Rattle.tt_strike.specs.Refusals.{Refused, as_job, font, refusal}
-use Rattle.tt_face.specs.Faces.{Face, cmap_tag}
-use Rattle.tt_face.specs.Files.{face_at, face_by}
-use Rattle.tt_metrics.specs.Metrics.{glyphs_of, metrics_of}
+use Rattle.tt_face.specs.Faces.{Face}
+use Rattle.tt_face.specs.Files.{face_by}
 use Rattle.tt_render_run.specs.declared.fault.RunFault.{RunFault}
+use Rattle.tt_render_run.proofs.Readings.{face_directory}
 use Rattle.tt_render_run.specs.declared.fault.RunFault.TheVariants as run
 use Rattle.tt_render.specs.declared.setting.Setting.{Setting}
 use Rattle.tt_render.specs.TextsOutcome.{IsIdle, StopsAtFont}
@@ -51,17 +50,13 @@ reading_stops V tests opened run.Memory before after failed passes fails = (pass
 
 -- the directory of a face is in the file that was read
 pub face_file : (file : List ℕ) (r : Reading) (face : Face) → face_by file r ≡ Ok face → file ≡ face.directory.file
-unfolding face_by face_at directory_by
+unfolding face_by directory_by
 face_file file r face was =
     let by_directory = came-through (directory_by file r) _ face was in
     let d = by_directory.value in
     let by_offset = came-through (offset_of file r) _ d by_directory.first in
     let kept = directory-kept (directory_at file by_offset.value) d by_offset.rest in
-    let by_metrics = came-through (metrics_of d) _ face by_directory.rest in
-    let by_table = came-through (needed_table d cmap_tag) _ face by_metrics.rest in
-    let by_map = came-through (map_by r by_table.value (glyphs_of by_metrics.value)) _ face by_table.rest in
-    let same : record { directory = d; metrics = by_metrics.value; cmap = by_map.value } ≡ face = let done = by_map.rest in cc in
-    ap (λ (e : Directory). e.file) (sym kept) ∙ ap (λ (f : Face). f.directory.file) same
+    ap (λ (e : Directory). e.file) (sym kept ∙ face_directory d r face by_directory.rest)
 
 -- the tables of a font that is not too large
 pub font_opened : (a : Setting) (file : List ℕ) (face : Face) → length file ≤ font_limit → face_by file a.reading ≡ Ok face

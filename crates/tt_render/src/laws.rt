@@ -2,7 +2,7 @@
 
 ghost use Rattle.tt_render.specs.RunLaws.{LinesAreRuns, LinesAreTexts, PlainCallsAreRuns, PlainReportsAreRuns, PlainTextsAreRuns, TextsAreRuns};
 
-pub use tt_render_run::laws::{fonts_are_whole, others_fill_none};
+pub use tt_render_run::laws::{fonts_are_whole, others_fill_none, readings_agree};
 
 /// Lemma: the picture of `draw_text`, and of each line of `draw_lines`, is what `run` gives for that text alone. A text
 /// that `run` refuses is refused for the same reason. A line of at most 16,384 bytes of UTF-8 has the answer of

@@ -51,9 +51,12 @@ fn fonts_in(file: &[u8]) -> Option<u32>
 fn face_text(alloc: Global, reading: Reading, file: &[u8]) -> Result<String, AllocError>
     ensures { IfOk result (λ text. string_bytes text ≡ face_text reading file.now) }
 {
-    match (reading, fonts_in(file)) {
-        (Reading::Wide { face }, Some(count)) => format!(in alloc; "face {face} {count}\n"),
-        _ => Ok(String::new(alloc)),
+    match reading {
+        Reading::Strict => Ok(String::new(alloc)),
+        Reading::Wide { face } => match fonts_in(file) {
+            None => Ok(String::new(alloc)),
+            Some(count) => format!(in alloc; "face {face} {count}\n"),
+        },
     }
 }
 

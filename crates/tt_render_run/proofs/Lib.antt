@@ -6,4 +6,5 @@ pub mod Text
 pub mod Answered
 mod Made
 mod Pieces
+pub mod Readings
 pub mod Faces

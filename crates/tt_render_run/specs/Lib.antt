@@ -5,5 +5,6 @@ pub mod MapLines
 pub mod Messages
 pub mod Outcome
 pub mod Reading
+pub mod ReadingLaws
 pub mod Run
 pub mod Views

@@ -1,6 +1,7 @@
 //! Laws of the definitions. Each function is a lemma: its clauses hold of all jobs and files, and no code runs.
 
 ghost use Rattle.tt_render_run.specs.Laws.{WrittenFontsAreWhole, MappedFontsAreWhole, OthersWriteByEdges};
+ghost use Rattle.tt_render_run.specs.ReadingLaws.{CharactersHaveLines, FacesMapAsFonts, FacesRunAsFonts, StrictMaps, StrictRuns, WideMaps, WideRuns};
 
 /// Lemma: where the definition of `run` or `map` gives bytes, the font has no defect for the call. So a call that ends
 /// with Ok or Write found none.
@@ -16,4 +17,20 @@ pub fn others_fill_none()
     ensures { OthersWriteByEdges }
 {
     tt_strike::laws::others_fill_none();
+}
+
+/// Lemma: with the strict reading `run` and `map` answer by the font that the file begins with, and `map` has a line for
+/// each character. Where the strict reading gives a face, the wide reading of the first face gives a text without
+/// selectors the same answers. A face of a file has the answers of a font with the face's tables.
+pub fn readings_agree()
+    ensures strict { StrictRuns }
+    ensures strict_map { StrictMaps }
+    ensures characters { CharactersHaveLines }
+    ensures wide { WideRuns }
+    ensures wide_map { WideMaps }
+    ensures fonts { FacesRunAsFonts }
+    ensures fonts_map { FacesMapAsFonts }
+{
+    tt_face::laws::readings_give_faces();
+    tt_strike::laws::faces_draw_alike();
 }

@@ -87,13 +87,13 @@ fn push_line(
 ) -> Result<(), AllocError>
     ensures { OnOk result (lines.new.items ≡ lines.old.items ++ unit_text unit glyph advance) }
 {
-    let mut last = unit.character;
-    if let Some(selector) = unit.selector {
-        let name = name(unit.character);
-        lines.extend_from_slice(name.as_bytes())?;
-        last = selector;
-    }
-    let line = line(last, glyph, advance);
+    let Some(selector) = unit.selector else {
+        let line = line(unit.character, glyph, advance);
+        return lines.extend_from_slice(line.as_bytes());
+    };
+    let name = name(unit.character);
+    lines.extend_from_slice(name.as_bytes())?;
+    let line = line(selector, glyph, advance);
     lines.extend_from_slice(line.as_bytes())
 }
 

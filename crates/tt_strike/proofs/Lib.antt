@@ -27,3 +27,4 @@ mod Seated
 mod StepLaws
 mod MeasuredSteps
 mod UnhintedSteps
+mod FacesAlike

@@ -11,6 +11,7 @@ pub mod Made
 pub mod Makers
 pub mod Measures
 pub mod Picture
+pub mod ReadingLaws
 pub mod Report
 pub mod Reported
 pub mod StepLaws

@@ -2,6 +2,7 @@
 
 ghost use Rattle.tt_face.specs.Files.{FacesAreWhole, ReadFacesAreWhole};
 ghost use Rattle.tt_strike.specs.Laws.{DrawnFontsAreWhole, OthersListNothing, MarginMoves, MeasuredAsDrawn, GlyphsByThemselves, UnfilledAreEdges, OthersFillNone, OthersDrawByEdges, GrownRefusals, SidesMove, SidesRefuseNothing};
+ghost use Rattle.tt_strike.specs.ReadingLaws.{FacesDrawAlike};
 ghost use Rattle.tt_strike.specs.StepLaws.{BestLaysBySteps, EqualGlyphsStepAlike, GlyphsBeforeExtent, MeasureTellsSteps, MovedOutlinesAgree, OthersLayByAdvances};
 ghost use Rattle.tt_strike.specs.UnhintedSteps.{UnhintedStepsAreNear};
 ghost use Rattle.tt_strike.specs.InkLaws.{GrownAddsFewest, GrownCutsNone, GrownMeasuredAsDrawn, InkIsDrawn, MeasureHoldsInk};
@@ -17,6 +18,11 @@ pub fn fonts_are_whole()
     tt_line::laws::glyphs_are_placed();
     tt_line::laws::steps_lead();
 }
+
+/// Lemma: two faces with the same tables, the same metrics and the same glyphs for a text give the same picture.
+pub fn faces_draw_alike()
+    ensures { FacesDrawAlike }
+{}
 
 /// Lemma: with every fit but `Fit::Best` a text is laid out by advances. With `Fit::Best` it is laid out by the steps of
 /// its glyphs, and a defect of a glyph is told whatever the extent of the picture would be.
