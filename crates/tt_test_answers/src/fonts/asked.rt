@@ -49,11 +49,7 @@ impl Asked {
             lines_fail_at = size_in(line);
             missing = line.word();
         }
-        let mut request = Request::Map {
-            font: "",
-            text,
-            reading: Reading::Strict,
-        };
+        let mut request = map_of(text);
         if question != "map" {
             let Some(setting) = setting_in(line, missing) else {
                 line.refuse("no such way to fit, or to take missing characters");
@@ -103,6 +99,14 @@ impl Asked {
             }
         }
         font
+    }
+}
+
+fn map_of(text: &str) -> Request<'_> {
+    Request::Map {
+        font: "",
+        text,
+        reading: Reading::Strict,
     }
 }
 
