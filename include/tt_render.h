@@ -26,9 +26,9 @@
  * A font file is read strictly or widely. Strictly the file has one font, whose cmap has format 4 or 12. Widely the
  * file may be a collection of faces, and more formats and kinds of cmap are read: formats 0, 6, 10 and 13, symbol
  * fonts, Macintosh Roman. What is accepted strictly has the same glyphs widely. tt_open and tt_map read strictly,
- * tt_open_face and tt_map_face widely. A job reads strictly where its face is 0, except that TT_BEST then reads face 0
- * widely; else it reads widely. Faces are numbered from 0, in the order of the file; a file that is no collection has
- * face 0 alone.
+ * as do tt_open_face, tt_map_face and a job where their face is 0, except that a job with TT_BEST then reads face 0
+ * widely. A face of n + 1 reads face n widely. Faces are numbered from 0, in the order of the file; a file that is no
+ * collection has face 0 alone.
  *
  * A unit of a text is a character. Read widely, a variation selector (U+FE00 to U+FE0F, U+E0100 to U+E01EF) is part of
  * the unit of the character before it, and chooses that unit's glyph where the font says so. Every other selector is
@@ -142,6 +142,7 @@ struct tt_glyph {
     uint32_t code_point; /* the character's */
     uint32_t glyph;      /* 0 where the font has none for the unit */
     uint32_t advance;    /* in font units */
+    uint32_t selector;   /* the unit's variation selector, 0 without one */
 };
 
 /* A line of tt_draw_lines. */
@@ -158,7 +159,7 @@ uint32_t tt_faces(const uint8_t *font, size_t font_bytes, struct tt_answer *answ
 
 /*
  * Tests the tables that every text needs, and fills told with the font's figures. It takes no memory. tt_open_face does
- * so for a face, read widely.
+ * so for a face: n + 1 for face n, as in a job.
  */
 uint32_t tt_open(const uint8_t *font, size_t font_bytes, struct tt_font *told, struct tt_answer *answer);
 uint32_t tt_open_face(const uint8_t *font, size_t font_bytes, uint32_t face, struct tt_font *told,
@@ -167,7 +168,7 @@ uint32_t tt_open_face(const uint8_t *font, size_t font_bytes, uint32_t face, str
 /*
  * The glyph and the advance of each unit of a text, in order. The room holds as many entries as the text has units,
  * which are at most as many as its bytes. It takes no memory. Of the refusals of a job only 61, a text that is too long,
- * occurs. tt_map_face does so for a face, read widely. count: units.
+ * occurs. tt_map_face does so for a face: n + 1 for face n, as in a job. count: units.
  */
 uint32_t tt_map(const uint8_t *font, size_t font_bytes, const uint8_t *text, size_t text_bytes,
                 struct tt_glyph *glyphs, size_t room, struct tt_answer *answer);

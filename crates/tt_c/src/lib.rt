@@ -3,6 +3,7 @@
 
 ghost use Rattle.std.specs.Prelude.{◌≡◌};
 ghost use Rattle.tt_core.specs.declared.collection.Reading.TheVariants as reading;
+ghost use Rattle.tt_c_calls.specs.Asked.{face_reading};
 ghost use Rattle.tt_c_calls.specs.Fonts.{CountsFaces, OpensFont};
 ghost use Rattle.tt_c_calls.specs.Lines.{DrawsTexts};
 ghost use Rattle.tt_c_calls.specs.Maps.{MapsText};
@@ -13,6 +14,7 @@ ghost use Rattle.tt_c_calls.specs.Pictures.{DrawsBand};
 use std::alloc::Global;
 use tt_c_calls::{
     Band, CAnswer, CCharacter, CFont, CGlyph, CJob, CLine, CMeasure, CPicture, TextRequest, Texts,
+    face_reading,
 };
 use tt_core::Reading;
 
@@ -36,7 +38,7 @@ pub extern "C" fn tt_open(font: &[u8], told: &mut CFont, answer: &mut CAnswer) -
     answer.status
 }
 
-/// `tt_c_calls::open` with the wide reading of a face.
+/// `tt_c_calls::open` with the reading of a face.
 #[unsafe(no_mangle)]
 pub extern "C" fn tt_open_face(
     font: &[u8],
@@ -45,9 +47,9 @@ pub extern "C" fn tt_open_face(
     answer: &mut CAnswer,
 ) -> u32
     ensures status { result ≡ answer.new.status }
-    ensures opens { OpensFont (reading.Wide face) font.now told.old told.new answer.new }
+    ensures opens { OpensFont (face_reading face) font.now told.old told.new answer.new }
 {
-    *answer = tt_c_calls::open(font, Reading::Wide { face }, told);
+    *answer = tt_c_calls::open(font, face_reading(face), told);
     answer.status
 }
 
@@ -61,7 +63,7 @@ pub extern "C" fn tt_map(font: &[u8], text: &[u8], room: &mut [CGlyph], answer: 
     answer.status
 }
 
-/// `tt_c_calls::map` with the wide reading of a face.
+/// `tt_c_calls::map` with the reading of a face.
 #[unsafe(no_mangle)]
 pub extern "C" fn tt_map_face(
     font: &[u8],
@@ -71,9 +73,9 @@ pub extern "C" fn tt_map_face(
     answer: &mut CAnswer,
 ) -> u32
     ensures status { result ≡ answer.new.status }
-    ensures maps { MapsText (reading.Wide face) text.now font.now room.old room.new answer.new }
+    ensures maps { MapsText (face_reading face) text.now font.now room.old room.new answer.new }
 {
-    *answer = tt_c_calls::map(font, Reading::Wide { face }, text, room);
+    *answer = tt_c_calls::map(font, face_reading(face), text, room);
     answer.status
 }
 

@@ -2,6 +2,7 @@
 use Rattle.std.specs.Prelude.{◌≡◌, refl, ℕ, ◌-◌, ◌==◌, if◌then◌else◌, Bool, not, List, [], ◌∷◌, map, Option, Some, None, Result, Ok, Err, IsOkAnd}
 use Rattle.std.specs.Str.{is_utf8}
 use Rattle.tt_core.specs.declared.collection.Reading.{Reading}
+use Rattle.tt_core.specs.declared.collection.Reading.TheVariants as reading
 use Rattle.tt_core.specs.Faults.{Fault}
 use Rattle.tt_core.specs.Outcomes.{◌>>=◌}
 use Rattle.tt_fit.specs.declared.programs.Fit.{Fit}
@@ -41,6 +42,10 @@ grows j = not (j.grow == 0)
 abbrev pub face_named : ℕ → Option ℕ
 face_named n = if n == 0 then None else Some (n - 1)
 
+-- the reading of a call that takes a face and no job
+abbrev pub face_reading : ℕ → Reading
+face_reading n = reading_asked (face_named n) reading.Strict
+
 -- the reading of a job with a way to fit
 abbrev pub job_reading : CJob → Fit → Reading
 job_reading j how = reading_asked (face_named j.face) (fit_reading how)
@@ -66,5 +71,5 @@ none_of_the_four : fit_asked 4 ≡ Err unknown_fit
 unfolding fit_asked
 none_of_the_four = refl
 
-no_face_and_the_first_two : map face_named (0 ∷ 1 ∷ 2 ∷ []) ≡ None ∷ Some 0 ∷ Some 1 ∷ []
+no_face_and_the_first_two : map face_reading (0 ∷ 1 ∷ 2 ∷ []) ≡ reading.Strict ∷ reading.Wide 0 ∷ reading.Wide 1 ∷ []
 no_face_and_the_first_two = refl

@@ -1,5 +1,5 @@
 -- No part of the standard: the units of a text in a font, for C (profile).
-use Rattle.std.specs.Prelude.{◌≡◌, ◌≢◌, ℕ, List, ◌++◌, chars, length, drop, map, Result, Ok}
+use Rattle.std.specs.Prelude.{◌≡◌, ◌≢◌, ℕ, List, ◌++◌, chars, length, drop, map, Option, Some, None, Result, Ok}
 use Rattle.tt_cmap.specs.declared.units.TextUnit.{TextUnit}
 use Rattle.tt_cmap.specs.Maps.{CharacterMap, glyph_of_unit, units_by}
 use Rattle.tt_core.specs.declared.collection.Reading.{Reading}
@@ -17,12 +17,18 @@ use Rattle.tt_c_calls.specs.Asked.{text_asked}
 use Rattle.tt_c_calls.specs.Measures.{IsEntriesSmall}
 use Rattle.tt_c_calls.specs.Refusals.{Refusal, as_call}
 
--- a unit in a font, named by its character
+-- the selector of a unit, 0 without one
+abbrev pub selector_told : Option ℕ → ℕ
+selector_told None = 0
+selector_told (Some v) = v
+
+-- a unit in a font
 abbrev pub glyph_told : Metrics → CharacterMap → TextUnit → CGlyph
 glyph_told m cmap u = record {
   code_point = u.character;
   glyph = glyph_of_unit cmap u;
   advance = advance_of m (glyph_of_unit cmap u);
+  selector = selector_told u.selector;
 }
 
 -- the units of a text in a face

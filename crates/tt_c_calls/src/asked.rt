@@ -3,7 +3,7 @@
 ghost use Rattle.std.specs.Prelude.{◌≡◌, ◌≢◌, not, ◌==◌, IfErr, IfOk};
 ghost use Rattle.tt_core.specs.Outcomes.{GivesUnless};
 ghost use Rattle.tt_strike.specs.Job.{job_view};
-ghost use Rattle.tt_c_calls.specs.Asked.{asked, face_named, fit_asked, grows, job_reading, text_asked};
+ghost use Rattle.tt_c_calls.specs.Asked.{asked, face_named, face_reading, fit_asked, grows, job_reading, text_asked};
 ghost use Rattle.tt_c_calls.specs.declared.fault.CallFault.TheVariants as call;
 ghost use Rattle.tt_c_calls.specs.Refusals.{call_refusal};
 
@@ -63,6 +63,13 @@ fn face_named(number: u32) -> Option<u32>
         return None;
     }
     Some(number - 1)
+}
+
+/// The reading of a call that takes a face and no job.
+pub fn face_reading(number: u32) -> Reading
+    ensures { result ≡ face_reading number }
+{
+    reading_asked(face_named(number), Reading::Strict)
 }
 
 /// The way to fit of a number. Error: UnknownFit.

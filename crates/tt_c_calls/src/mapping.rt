@@ -2,7 +2,7 @@
 
 ghost use Rattle.std.specs.Prelude.{◌≡◌, ◌≢◌, length, chars};
 ghost use Rattle.tt_cmap.specs.Maps.{units_by};
-ghost use Rattle.tt_c_calls.specs.Maps.{AreGlyphsTold, MapsText, glyph_told, text_told};
+ghost use Rattle.tt_c_calls.specs.Maps.{AreGlyphsTold, MapsText, glyph_told, selector_told, text_told};
 ghost use Rattle.tt_c_calls.specs.Measures.{IsEntriesSmall};
 
 use crate::answer::{CAnswer, DONE, ROOM, answer_of, sized};
@@ -23,6 +23,17 @@ pub struct CGlyph {
     pub glyph: u32,
     /// In font units.
     pub advance: u32,
+    /// The unit's variation selector, 0 without one.
+    pub selector: u32,
+}
+
+fn selector_of(selector: Option<char>) -> u32
+    ensures { result ≡ selector_told selector }
+{
+    match selector {
+        Some(selector) => selector as u32,
+        None => 0,
+    }
 }
 
 fn glyph_of(face: &Face, unit: TextUnit) -> CGlyph
@@ -33,6 +44,7 @@ fn glyph_of(face: &Face, unit: TextUnit) -> CGlyph
         code_point: unit.character as u32,
         glyph: u32::from(glyph),
         advance: u32::from(face.metrics().advance(glyph)),
+        selector: selector_of(unit.selector),
     }
 }
 
