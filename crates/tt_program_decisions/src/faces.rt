@@ -4,7 +4,7 @@ ghost use Rattle.std.specs.Prelude.{◌≡◌, ◌≤◌, ◌++◌, false, lengt
 ghost use Rattle.tt_core.specs.Limits.{font_limit};
 ghost use Rattle.tt_core.specs.Outcomes.{FontGives, font_fault};
 ghost use Rattle.tt_face.specs.Files.{face_by};
-ghost use Rattle.tt_program_decisions.specs.FaceLines.{IsFacesDefect, face_words, faces_of, faces_text, faces_wanted, fault_line, figures, read_words, wide};
+ghost use Rattle.tt_program_decisions.specs.FaceLines.{IsFacesDefect, behind_blank, face_words, faces_of, faces_text, faces_wanted, fault_line, figures, read_words, wide};
 ghost use Rattle.tt_render_run.specs.Defects.{TellsDefectsOf};
 ghost use Rattle.tt_render_run.specs.Outcome.{CallGives, traffic_of};
 ghost use Rattle.tt_strike.specs.Defects.{TellsDefects};
@@ -86,11 +86,18 @@ fn read_words(alloc: Global, n: u32, face: &Face) -> Result<Vec<u8>, AllocError>
     let figures = figures(alloc, n, face.metrics())?;
     words.extend_from_slice(figures.as_bytes())?;
     let name = face.name(alloc)?;
+    push_name(&mut words, &name)?;
+    Ok(words)
+}
+
+/// Appends a name behind a blank, and nothing without a name. Error: memory ran out.
+fn push_name(words: &mut Vec<u8>, name: &[u8]) -> Result<(), AllocError>
+    ensures { OnOk result (words.new.items ≡ words.old.items ++ behind_blank name.now) }
+{
     if !name.is_empty() {
         words.push(b' ')?;
     }
-    words.extend_from_slice(&name)?;
-    Ok(words)
+    words.extend_from_slice(name)
 }
 
 /// The words about a face that is refused.

@@ -1,4 +1,4 @@
-use Rattle.std.proofs.Common.{arith, refl}
+use Rattle.std.proofs.Common.{arith, refl, rules}
 use Rattle.tt_core.specs.Collections.{IsOffsetDefect}
 use Rattle.tt_core.specs.declared.collection.Reading.TheVariants as reading
 use Rattle.tt_c_calls.specs.Fonts.{count_wanted}
@@ -15,7 +15,7 @@ returns-in-Err c = rw c.answer_of.ensures (record {
 
 pub returns : goal.returns
 returns c = rw c.sized.ensures (record {
-  done = λ _. rw c.in-Ok.ensures.exact refl;
+  done = λ _. search rules;
   refused = λ h. absurd (h refl);
   memory = λ h. omega (arith, h);
   stands = λ h. absurd (omega (arith, h));
