@@ -157,16 +157,19 @@ fn setting_of<'a, A: Arguments<'a>>(arguments: &A, product: Product) -> Option<S
     let missing = arguments.text_for("missing");
     let grow = arguments.is_set("grow");
     let face = arguments.number_for("face");
-    let fit = fit_named(fit?)?;
-    Some(Setting {
+    let strict = Setting {
         ppem: size?,
         margin: margin?,
-        fit,
-        reading: reading_asked(face, fit_reading(fit)),
+        fit: fit_named(fit?)?,
+        reading: Reading::Strict,
         missing: missing_named(missing?)?,
         grow,
         product,
         most: GLYPHS_KEPT,
+    };
+    Some(Setting {
+        reading: reading_asked(face, fit_reading(strict.fit)),
+        ..strict
     })
 }
 
