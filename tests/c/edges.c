@@ -135,6 +135,31 @@ static void try_nothing(struct room text) {
   give_up(none);
 }
 
+/* A font that is no collection has face 0 alone, which the number 1 means. */
+static void try_faces(struct room text) {
+  struct tt_job second = {.size = 16, .margin = 0, .fit = TT_BEST, .grow = 0, .face = 2};
+  struct tt_answer answer;
+  struct tt_font told_font;
+  struct tt_glyph glyphs[4096];
+  expect(tt_faces(NULL, 0, &answer) == TT_FONT && answer.number == 2 && memcmp(answer.table, "file", 4) == 0,
+         "tt_faces, of no byte: status %u", answer.status);
+  expect(tt_faces(font.at, font.size, &answer) == TT_DONE && answer.count == 1, "tt_faces: status %u", answer.status);
+  for (uint32_t face = 0; face < 2; face++) {
+    expect(tt_open_face(font.at, font.size, face, &told_font, &answer) == TT_DONE, "tt_open_face: status %u",
+           answer.status);
+    expect(tt_map_face(font.at, font.size, face, text.at, text.size, glyphs, 4096, &answer) == TT_DONE &&
+               glyphs[0].selector == 0,
+           "tt_map_face: status %u", answer.status);
+  }
+  expect(tt_open_face(font.at, font.size, 2, &told_font, &answer) == TT_FONT && answer.number == 25,
+         "tt_open_face, of another face: status %u", answer.status);
+  expect(tt_map_face(font.at, font.size, UINT32_MAX, text.at, text.size, glyphs, 4096, &answer) == TT_FONT &&
+             answer.number == 25,
+         "tt_map_face, of another face: status %u", answer.status);
+  verdict("faces of a font that is no collection");
+  all_refuse("a face that the font lacks", font, text, second, false, TT_FONT, 25);
+}
+
 /* Draws lines that end there; so many are drawn before the status stops them. */
 static void try_ends(const char *name, struct room text, const uint64_t *ends, size_t count, struct tt_job job,
                      uint32_t status, uint32_t number, uint64_t drawn) {
@@ -198,6 +223,8 @@ static void try_sizes(struct room text) {
   answer = answer_to(&opens, more, text, usual);
   expect(answer.status == TT_FONT_LARGE, "tt_open: status %u", answer.status);
   verdict("opening a font of one byte too many");
+  expect(tt_faces(more.at, more.size, &answer) == TT_FONT_LARGE, "tt_faces: status %u", answer.status);
+  verdict("faces of a font of one byte too many");
   munmap(large, FONT_LIMIT + 1);
 }
 
@@ -212,6 +239,7 @@ int main(int count, char **words) {
   try_jobs();
   try_texts();
   try_nothing(text);
+  try_faces(text);
   try_all_ends();
   try_sizes(text);
   give_up(text);
