@@ -1,6 +1,6 @@
 -- The units of a text: no unit's character is a selector, and a text without selectors has a unit for each character.
-use Rattle.std.proofs.Common.{◌≡◌, ℕ, ◌+◌, ◌≤◌, true, false, Bool, List, [], ◌∷◌, None, if◌then◌else◌, length, refl, ap, arith}
-use Rattle.std.specs.Prelude.{◌&&◌}
+use Rattle.std.proofs.Common.{◌≡◌, ℕ, ◌≤◌, true, false, Bool, List, [], ◌∷◌, None, if◌then◌else◌, length, refl, ap, arith}
+use Rattle.std.specs.Prelude.{suc, ◌&&◌}
 use Rattle.std.specs.List.{All}
 use Rattle.std.proofs.lemmas.List.Elements.{All-nil, All-cons, All-head, All-tail}
 use Rattle.tt_cmap.specs.declared.units.TextUnit.{TextUnit}
@@ -37,7 +37,7 @@ characters-are-units [] = refl
 characters-are-units (c ∷ cs) = ap (λ (us : List TextUnit). plain_unit c ∷ us) (characters-are-units cs)
 
 one-more : (is : Bool) (u : TextUnit) (us : List TextUnit) (n : ℕ) → length us ≤ n
-    → length (if is then us else u ∷ us) ≤ n + 1
+    → length (if is then us else u ∷ us) ≤ suc n
 one-more true u us n few = omega (arith, few)
 one-more false u us n few = omega (arith, few)
 

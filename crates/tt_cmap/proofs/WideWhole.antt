@@ -9,7 +9,7 @@ use Rattle.tt_core.specs.Directory.{HasNo}
 use Rattle.tt_core.specs.Faults.{Fault}
 use Rattle.tt_cmap.specs.declared.lists.ListFormat.{ListFormat}
 use Rattle.tt_cmap.specs.declared.records.Choice.{Choice}
-use Rattle.tt_cmap.specs.declared.records.wide.Way.TheVariants as way
+use Rattle.tt_cmap.specs.declared.records.wide.CodeWay.TheVariants as way
 use Rattle.tt_cmap.specs.declared.records.wide.WideChoice.{WideChoice}
 use Rattle.tt_cmap.specs.declared.wide_subtable.Readable.{Readable}
 use Rattle.tt_cmap.specs.declared.wide_subtable.Readable.TheVariants as readable

@@ -9,8 +9,8 @@ use Rattle.tt_cmap.specs.declared.records.Choice.{Choice}
 use Rattle.tt_cmap.specs.declared.records.Format.TheVariants.{Segments, Groups}
 use Rattle.tt_cmap.specs.declared.records.wide.Encoding.{Encoding}
 use Rattle.tt_cmap.specs.declared.records.wide.Encoding.TheVariants as encoding
-use Rattle.tt_cmap.specs.declared.records.wide.Way.{Way}
-use Rattle.tt_cmap.specs.declared.records.wide.Way.TheVariants as way
+use Rattle.tt_cmap.specs.declared.records.wide.CodeWay.{CodeWay}
+use Rattle.tt_cmap.specs.declared.records.wide.CodeWay.TheVariants as way
 use Rattle.tt_cmap.specs.declared.records.wide.WideChoice.{WideChoice}
 use Rattle.tt_cmap.specs.declared.wide_subtable.Readable.{Readable}
 use Rattle.tt_cmap.specs.declared.wide_subtable.Readable.TheVariants as readable
@@ -26,7 +26,7 @@ has_encoding encoding.Symbol table i = (platform_of table i == 3) && (encoding_o
 has_encoding encoding.Roman table i = (platform_of table i == 1) && (encoding_of table i == 0)
 
 -- the codes of an encoding
-abbrev pub way_of : Encoding → Way
+abbrev pub way_of : Encoding → CodeWay
 way_of encoding.Full = way.Plain
 way_of encoding.Unicode = way.Plain
 way_of encoding.Basic = way.Plain

@@ -3,7 +3,7 @@ use Rattle.std.specs.Prelude.{◌≡◌, ℕ, ◌<◌, ◌≤◌, Bool, true, fa
 use Rattle.std.specs.List.{All}
 use Rattle.tt_core.specs.Directory.{HasNo}
 use Rattle.tt_core.specs.Search.{IsLeast}
-use Rattle.tt_cmap.specs.declared.records.wide.Way.TheVariants as way
+use Rattle.tt_cmap.specs.declared.records.wide.CodeWay.TheVariants as way
 use Rattle.tt_cmap.specs.Halves.{reached, IsReached, NeverFallsBack}
 use Rattle.tt_cmap.specs.Lookup.{Cmap, cmap_of, glyph_of}
 use Rattle.tt_cmap.specs.Units.{is_selector, plain_unit, units}

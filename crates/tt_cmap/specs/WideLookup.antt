@@ -4,8 +4,8 @@ use Rattle.std.specs.Prelude.{ℕ, ◌+◌, ◌&&◌, ◌==◌, nat_lt, if◌the
 use Rattle.tt_core.specs.Faults.{Fault}
 use Rattle.tt_core.specs.declared.fault.Why.TheVariants as why
 use Rattle.tt_core.specs.Outcomes.{◌>>=◌}
-use Rattle.tt_cmap.specs.declared.records.wide.Way.{Way}
-use Rattle.tt_cmap.specs.declared.records.wide.Way.TheVariants as way
+use Rattle.tt_cmap.specs.declared.records.wide.CodeWay.{CodeWay}
+use Rattle.tt_cmap.specs.declared.records.wide.CodeWay.TheVariants as way
 use Rattle.tt_cmap.specs.declared.records.wide.WideChoice.{WideChoice}
 use Rattle.tt_cmap.specs.Roman.{roman_byte}
 use Rattle.tt_cmap.specs.Subtables.{cmap_fault, records_of}
@@ -18,7 +18,7 @@ use Rattle.tt_cmap.specs.WideSubtables.{WideSubtable, wide_subtable_at, glyph_of
 pub record WideCmap : Type 0 where
   pub table : List ℕ
   pub subtable : WideSubtable
-  pub way : Way
+  pub way : CodeWay
   pub variations : Option ℕ
   pub glyphs : ℕ
 
@@ -47,7 +47,7 @@ abbrev pub byte_glyph : WideSubtable → ℕ → Option ℕ → ℕ
 byte_glyph s glyphs None = 0
 byte_glyph s glyphs (Some b) = glyph_of_code s glyphs b
 
-abbrev pub glyph_by_way : Way → WideSubtable → ℕ → ℕ → ℕ
+abbrev pub glyph_by_way : CodeWay → WideSubtable → ℕ → ℕ → ℕ
 glyph_by_way way.Plain s glyphs c = glyph_of_code s glyphs c
 glyph_by_way way.Symbol s glyphs c = symbol_glyph s glyphs c
 glyph_by_way way.Roman s glyphs c = byte_glyph s glyphs (roman_byte c)

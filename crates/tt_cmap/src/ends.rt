@@ -6,7 +6,7 @@ ghost use Rattle.tt_cmap.specs.Halves.{asked, reached};
 use crate::lookup::reads::Reads;
 
 /// Entries, each with a last character. The entries are numbered from 0.
-pub(crate) trait Ends {
+pub(crate) trait RangeEnds {
     ghost count_of: { Self → ℕ };
 
     // The last character of an entry.
@@ -33,7 +33,7 @@ pub(crate) trait Ends {
 }
 
 /// The entry where a binary search for an end at the character or after it ends; the count, if past all entries.
-pub(crate) fn reach<E: Ends>(ends: &E, c: usize, reads: &mut Reads) -> usize
+pub(crate) fn reach<E: RangeEnds>(ends: &E, c: usize, reads: &mut Reads) -> usize
     requires room { reads.old + 2 ^ 30 < 2 ^ 32 }
     ensures exact { result ≡ reached (E.count_of ends.now) (λ i. nat_le c (E.end_of ends.now i)) }
     ensures bound { result ≤ E.count_of ends.now }

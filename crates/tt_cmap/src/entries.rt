@@ -6,7 +6,7 @@ ghost use Rattle.tt_core.specs.Numbers.{unsigned_at};
 ghost use Rattle.tt_cmap.specs.Variations.{entry_offset, fitting, entry_count, entry_place, entry_start, entry_for, entry_glyph, default_offset, other_offset};
 ghost use Rattle.tt_cmap.specs.declared.entries.EntryKind.TheVariants.{Selectors, Others};
 
-use crate::ends::{Ends, reach};
+use crate::ends::{RangeEnds, reach};
 use crate::lookup::reads::Reads;
 use crate::table::Table;
 use std::marker::Model;
@@ -151,7 +151,7 @@ impl<'a> Entries<'a> {
     }
 }
 
-impl<'a> Ends for Entries<'a> {
+impl<'a> RangeEnds for Entries<'a> {
     ghost use Rattle.tt_cmap.specs.Variations.{entry_count, entry_end};
 
     ghost count_of = { entry_count };

@@ -8,7 +8,7 @@ ghost use Rattle.tt_cmap.specs.Format12.{groups_at};
 ghost use Rattle.tt_cmap.specs.Ranges.{groups};
 ghost use Rattle.tt_cmap.specs.WideSubtables.{by_reached, by_shared_group};
 
-use crate::ends::{Ends, reach};
+use crate::ends::{RangeEnds, reach};
 use crate::glyphs::or_missing;
 use crate::lookup::reads::Reads;
 use crate::ranges::Ranges;
@@ -96,7 +96,7 @@ impl<'a> Format12<'a> {
     }
 }
 
-impl<'a> Ends for Format12<'a> {
+impl<'a> RangeEnds for Format12<'a> {
     ghost use Rattle.tt_cmap.specs.Ranges.{groups, range_count, range_end, most_character, most_ends};
 
     ghost count_of = { λ s. range_count (groups s) };

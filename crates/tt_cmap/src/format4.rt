@@ -6,7 +6,7 @@ ghost use Rattle.tt_core.specs.Outcomes.{Gives};
 ghost use Rattle.tt_cmap.specs.Defects.{IsBadFormat4};
 ghost use Rattle.tt_cmap.specs.Format4.{segments_at};
 
-use crate::ends::Ends;
+use crate::ends::RangeEnds;
 use crate::glyphs::or_missing;
 use crate::lookup::reads::Reads;
 use crate::ranges::Ranges;
@@ -77,7 +77,7 @@ impl<'a> Format4<'a> {
     }
 }
 
-impl<'a> Ends for Format4<'a> {
+impl<'a> RangeEnds for Format4<'a> {
     ghost use Rattle.tt_cmap.specs.Ranges.{segments, range_count, range_end, most_character, most_ends};
 
     ghost count_of = { λ s. range_count (segments s) };

@@ -20,8 +20,8 @@ pub fn wide_extends_strict()
     ensures extends { WideExtendsStrict }
 {}
 
-/// Lemma: where a binary search ends, the number passes, and the number before fails. If no number falls back, the search
-/// ends at the least that passes, or past all.
+/// Lemma: where a binary search ends, the number passes, and the number before fails. If no number falls back, the
+/// search ends at the least that passes, or past all.
 pub fn searches_end()
     ensures ends { SearchesEnd }
     ensures least { SearchesFindTheLeast }

@@ -9,7 +9,8 @@ ghost use Rattle.tt_cmap.specs.Texts.{units_left};
 
 use crate::lookup::Cmap;
 use crate::lookup::wide::WideCmap;
-use crate::units::{TextUnit, TextUnits};
+use crate::texts::TextUnits;
+use crate::units::TextUnit;
 use std::marker::Model;
 use tt_core::{Fault, Reading};
 

@@ -7,7 +7,7 @@ ghost use Rattle.tt_cmap.specs.Defects.{IsBadShape};
 ghost use Rattle.tt_cmap.specs.Ranges.{read_as, subtable_with, subtable_view, range_count, falls, falling_range, range_of, by_range, glyph_in, ends_read, reads_in, most_ends, IfSegments};
 ghost use Rattle.tt_cmap.specs.WideSubtables.{by_reached};
 
-use crate::ends::{Ends, reach};
+use crate::ends::{RangeEnds, reach};
 use crate::format4::Format4;
 use crate::format12::Format12;
 use crate::lookup::reads::Reads;
@@ -22,7 +22,7 @@ pub(crate) enum Subtable<'a> {
     Groups(Format12<'a>),
 }
 
-impl<'a> Ends for Subtable<'a> {
+impl<'a> RangeEnds for Subtable<'a> {
     ghost use Rattle.tt_cmap.specs.Ranges.{subtable_view, range_count, range_end, most_character, most_ends};
 
     ghost count_of = { λ s. range_count (subtable_view s) };

@@ -1,7 +1,9 @@
 //! The units of a text. Unicode, "Variation Selectors".
 
-ghost use Rattle.std.specs.Prelude.{◌≡◌, chars};
-ghost use Rattle.tt_cmap.specs.Units.{is_selector, first_selector};
+ghost use Rattle.std.specs.Prelude.{◌≡◌, ◌&&◌, chars};
+ghost use Rattle.tt_cmap.specs.Units.{is_selector, first_selector, selector_before};
+
+use crate::texts::TextUnits;
 
 /// A character of a text, and the variation selector that directly follows, if one does.
 #[derive(Clone, Copy, Debug, PartialEq, Eq)]
@@ -21,16 +23,31 @@ fn is_selector(c: char) -> bool
 fn first_selector(text: &str) -> Option<char>
     ensures { result ≡ first_selector (chars text.now) }
 {
-    let c = text.chars().next()?;
-    if is_selector(c) { Some(c) } else { None }
+    let Some(c) = text.chars().next() else {
+        return None;
+    };
+    if is_selector(c) {
+        return Some(c);
+    }
+    None
 }
 
-/// Gives the units of a text, one by one.
-#[derive(Drop)]
-pub struct TextUnits<'t> {
-    /// Whether selectors belong to characters. Else each character is a unit.
-    pub(crate) pairs: bool,
-    pub(crate) text: &'t str,
+/// The selector that belongs to the character before a text, if one does.
+#[inline(always)]
+fn selector_before(pairs: bool, text: &str) -> Option<char>
+    ensures { result ≡ selector_before pairs (chars text.now) }
+{
+    if pairs { first_selector(text) } else { None }
+}
+
+impl<'t> TextUnits<'t> {
+    /// Whether a character is passed over: a selector that belongs to a character before, or to none.
+    #[inline(always)]
+    fn passes_over(&self, c: char) -> bool
+        ensures { result ≡ (self.now.pairs && is_selector c) }
+    {
+        self.pairs && is_selector(c)
+    }
 }
 
 impl<'t> Iterator for TextUnits<'t> {
@@ -43,22 +60,19 @@ impl<'t> Iterator for TextUnits<'t> {
 
     ghost remaining = { item_count units_left };
 
-    /// A selector that belongs to no character is passed over.
+    #[inline(always)]
     fn next(&mut self) -> Option<TextUnit> {
         let mut rest = self.text.chars();
-        let mut character = rest.next()?;
-        'selectors: while self.pairs && is_selector(character) {
-            character = rest.next()?;
+        while let Some(character) = rest.next() {
+            if !self.passes_over(character) {
+                self.text = rest.as_str();
+                let selector = selector_before(self.pairs, self.text);
+                return Some(TextUnit {
+                    character,
+                    selector,
+                });
+            }
         }
-        self.text = rest.as_str();
-        let selector = if self.pairs {
-            first_selector(self.text)
-        } else {
-            None
-        };
-        Some(TextUnit {
-            character,
-            selector,
-        })
+        None
     }
 }

@@ -9,8 +9,8 @@ use crate::glyphs::or_missing;
 use crate::lookup::reads::Reads;
 use std::marker::Model;
 
-/// A subtable at an offset of cmap. What of the subtable does not fit in cmap is not there (profile). Clauses see the bytes
-/// of cmap and the offset.
+/// A subtable at an offset of cmap. What of the subtable does not fit in cmap is not there (profile). Clauses see the
+/// bytes of cmap and the offset.
 #[derive(Drop)]
 pub(crate) struct Variations<'a> {
     table: &'a [u8],
@@ -78,8 +78,8 @@ impl<'a> Variations<'a> {
         or_missing(glyphs, list.glyph(i, reads))
     }
 
-    /// The glyph of a character with a selector; 0 where the subtable has no other glyph than the character's own. At most
-    /// 78 numbers are read.
+    /// The glyph of a character with a selector; 0 where the subtable has no other glyph than the character's own. At
+    /// most 78 numbers are read.
     #[tactic(auto, unfolding(crate::specs::Variations::variation))]
     pub(crate) fn glyph(&self, glyphs: u16, c: usize, selector: usize, reads: &mut Reads) -> u16
         requires glyphs { 0 < glyphs }

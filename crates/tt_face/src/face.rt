@@ -60,8 +60,8 @@ impl<'a> Face<'a> {
         })
     }
 
-    /// Opens the tables of the face that a reading asks for, in a file of at most 67,108,864 bytes. Errors: those of the
-    /// directory and of its place, of head, maxp, hhea and hmtx, and of cmap.
+    /// Opens the tables of the face that a reading asks for, in a file of at most 67,108,864 bytes. Errors: those of
+    /// the directory and of its place, of head, maxp, hhea and hmtx, and of cmap.
     #[tactic(auto, unfolding(crate::specs::Files::face_by, crate::specs::Files::face_at))]
     pub fn read(file: &'a [u8], reading: Reading) -> Result<Face<'a>, Fault>
         requires { length file.now ≤ font_limit }

@@ -10,8 +10,8 @@ pub fn faces_are_whole()
     ensures programs { ProgramsAreWhole }
 {}
 
-/// Lemma: if a reading gives a face, the face has no defect for that reading. The strict reading gives the file's only font.
-/// The wide reading extends the strict one. A face is its font, wherever the directory is.
+/// Lemma: if a reading gives a face, the face has no defect for that reading. The strict reading gives the file's only
+/// font. The wide reading extends the strict one. A face is its font, wherever the directory is.
 pub fn readings_give_faces()
     ensures whole { ReadFacesAreWhole }
     ensures strict { StrictIsTheFace }

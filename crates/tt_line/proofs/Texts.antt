@@ -11,7 +11,7 @@ use Rattle.tt_core.specs.Chains.{came-through}
 use Rattle.tt_cmap.specs.declared.units.TextUnit.{TextUnit}
 use Rattle.tt_cmap.specs.Lookup.{glyph_of}
 use Rattle.tt_cmap.specs.Maps.{strict, wide, glyph_of_unit}
-use Rattle.tt_cmap.specs.Units.{plain_unit, units}
+use Rattle.tt_cmap.specs.Units.{plain_unit}
 use Rattle.tt_cmap.specs.WideLookup.{wide_glyph_of}
 use Rattle.tt_cmap.proofs.UnitLaws.{plain-texts, characters-are-units}
 use Rattle.tt_line.specs.Laws.{AdvancesAreSteps, PlacesGlyphs, PlainTextsKeepGlyphs, StepsLead, StrictTexts}
@@ -72,8 +72,8 @@ mapped f (c ∷ cs) = ap (λ (gs : List ℕ). f (plain_unit c) ∷ gs) (mapped f
 
 pub strict-texts : StrictTexts
 strict-texts m text =
-    let cs = chars text in
-    rw (characters-are-units cs) (mapped (glyph_of_unit (strict m)) cs)
+    let f = glyph_of_unit (strict m) in
+    ap (λ (us : List TextUnit). map f us) (characters-are-units (chars text)) ∙ mapped f (chars text)
 
 same-glyphs : (f g : ℕ → ℕ) (cs : List ℕ) → ((c : ℕ) → f c ≡ g c) → map f cs ≡ map g cs
 same-glyphs f g [] same = refl
@@ -82,6 +82,8 @@ same-glyphs f g (c ∷ cs) same = ap₂ (λ (d : ℕ) (ds : List ℕ). d ∷ ds)
 pub plain-texts-keep : PlainTextsKeepGlyphs
 plain-texts-keep m w text same plain =
     let cs = chars text in
-    let all : units true cs ≡ map plain_unit cs = plain-texts cs plain in
-    rw (all, characters-are-units cs)
-    (mapped (glyph_of_unit (wide w)) cs ∙ same-glyphs (wide_glyph_of w) (glyph_of m) cs same ∙ sym (mapped (glyph_of_unit (strict m)) cs))
+    let f = glyph_of_unit (strict m) in
+    let g = glyph_of_unit (wide w) in
+    ap (λ (us : List TextUnit). map g us) (plain-texts cs plain) ∙ mapped g cs
+    ∙ same-glyphs (wide_glyph_of w) (glyph_of m) cs same ∙ sym (mapped f cs)
+    ∙ sym (ap (λ (us : List TextUnit). map f us) (characters-are-units cs))

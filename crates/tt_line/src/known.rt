@@ -31,7 +31,8 @@ struct KnownAdvance {
 }
 
 /// The glyphs and the advances of recent characters, one for each remainder of their codes by 128. Text after text is
-/// laid out by them. Steps of characters with selectors are not kept. Clauses see their source: the tables and the size.
+/// laid out by them. Steps of characters with selectors are not kept. Clauses see their source: the tables and the
+/// size.
 #[derive(Drop)]
 pub struct KnownAdvances<'t, 'a> {
     metrics: &'t Metrics<'a>,

@@ -7,8 +7,8 @@ pub fn glyphs_are_placed()
     ensures { PlacesGlyphs }
 {}
 
-/// Lemma: the first pen of a line is 0, each step leads to the next pen, and the last step leads to the right margin. No
-/// pen is left of a pen before it.
+/// Lemma: the first pen of a line is 0, each step leads to the next pen, and the last step leads to the right margin.
+/// No pen is left of a pen before it.
 pub fn steps_lead()
     ensures { StepsLead }
 {}
@@ -18,8 +18,8 @@ pub fn advances_are_steps()
     ensures { AdvancesAreSteps }
 {}
 
-/// Lemma: with the strict reading, each character of a text has its glyph. The wide reading gives the same glyphs for a text
-/// without selectors, if each character has the same glyph.
+/// Lemma: with the strict reading, each character of a text has its glyph. The wide reading gives the same glyphs for a
+/// text without selectors, if each character has the same glyph.
 pub fn readings_give_glyphs()
     ensures strict { StrictTexts }
     ensures wide { PlainTextsKeepGlyphs }

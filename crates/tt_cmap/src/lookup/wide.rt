@@ -9,7 +9,7 @@ ghost use Rattle.tt_cmap.specs.WideLookup.{wide_cmap_of, glyph_by_way, wide_glyp
 
 use crate::lookup::Lookup;
 use crate::lookup::reads::Reads;
-use crate::records::wide::Way;
+use crate::records::wide::CodeWay;
 use crate::records::{CMAP, Records};
 use crate::roman::roman_byte;
 use crate::variations::Variations;
@@ -17,13 +17,13 @@ use crate::wide_subtable::WideSubtable;
 use std::marker::Model;
 use tt_core::{Fault, Why};
 
-/// A character map of the wide reading. Clauses see the bytes of cmap, the chosen subtable and its codes, the offset of the
-/// variation sequences, and the number of glyphs.
+/// A character map of the wide reading. Clauses see the bytes of cmap, the chosen subtable and its codes, the offset of
+/// the variation sequences, and the number of glyphs.
 #[derive(Drop)]
 pub struct WideCmap<'a> {
     table: &'a [u8],
     subtable: WideSubtable<'a>,
-    way: Way,
+    way: CodeWay,
     variations: Option<usize>,
     glyphs: u16,
 }
@@ -56,8 +56,8 @@ impl<'a> WideCmap<'a> {
     /// - platform 3, encoding 0: symbols;
     /// - platform 1, encoding 0: Macintosh Roman;
     ///
-    /// with format 0, 4, 6, 10, 12 or 13. Among records of one kind the first counts. No range is read. Errors: CmapShape,
-    /// NoCmap.
+    /// with format 0, 4, 6, 10, 12 or 13. Among records of one kind the first counts. No range is read. Errors:
+    /// CmapShape, NoCmap.
     #[tactic(auto, unfolding(crate::specs::WideLookup::wide_cmap_of))]
     pub fn open(table: &'a [u8], glyphs: u16) -> Result<WideCmap<'a>, Fault>
         requires size { length table.now ≤ font_limit }
@@ -90,15 +90,15 @@ impl<'a> WideCmap<'a> {
         ensures few { reads.new ≤ reads.old + 54 }
     {
         match self.way {
-            Way::Plain => self.subtable.glyph(self.glyphs, c, reads),
-            Way::Symbol => {
+            CodeWay::Plain => self.subtable.glyph(self.glyphs, c, reads),
+            CodeWay::Symbol => {
                 let glyph = self.subtable.glyph(self.glyphs, c, reads);
                 if glyph == 0 && c < 256 {
                     return self.subtable.glyph(self.glyphs, 0xF000 + c, reads);
                 }
                 glyph
             }
-            Way::Roman => match roman_byte(c) {
+            CodeWay::Roman => match roman_byte(c) {
                 Some(byte) => self.subtable.glyph(self.glyphs, byte, reads),
                 None => 0,
             },

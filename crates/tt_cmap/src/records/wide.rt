@@ -26,7 +26,7 @@ pub(crate) enum Encoding {
 
 /// The codes of an encoding.
 #[derive(Clone, Copy)]
-pub(crate) enum Way {
+pub(crate) enum CodeWay {
     /// The code is the character.
     Plain,
     /// The code is the character; without a glyph, a character below U+0100 has that of U+F000 and more (profile).
@@ -40,16 +40,16 @@ pub(crate) enum Way {
 pub(crate) struct WideChoice {
     pub(crate) format: Readable,
     pub(crate) at: usize,
-    pub(crate) way: Way,
+    pub(crate) way: CodeWay,
 }
 
-fn way_of(encoding: Encoding) -> Way
+fn way_of(encoding: Encoding) -> CodeWay
     ensures { result ≡ way_of encoding }
 {
     match encoding {
-        Encoding::Full | Encoding::Unicode | Encoding::Basic => Way::Plain,
-        Encoding::Symbol => Way::Symbol,
-        Encoding::Roman => Way::Roman,
+        Encoding::Full | Encoding::Unicode | Encoding::Basic => CodeWay::Plain,
+        Encoding::Symbol => CodeWay::Symbol,
+        Encoding::Roman => CodeWay::Roman,
     }
 }
 
@@ -123,7 +123,7 @@ impl<'a> Records<'a> {
             return Some(WideChoice {
                 format: Readable::Ranged(choice.format),
                 at: choice.at,
-                way: Way::Plain,
+                way: CodeWay::Plain,
             });
         }
         if let Some(choice) = self.first_choice(Encoding::Full) {

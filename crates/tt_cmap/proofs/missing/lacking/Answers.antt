@@ -15,11 +15,11 @@ loop-unit-preserved c =
     rw was.same at c.in_ok-list_missing.ensures.exact in
     record {
       same = c.list_missing.ensures.same ∙ was.same;
-      listed = rw items (sym (one-more m c.loop-unit.listed.items c.in-Some.unit _) ∙ (rw c.next.ensures.steps at was.listed));
+      listed = rw items (sym (one-more m c.loop-unit.listed.items c.in-Some.unit _) ∙ (rw c.in-Some.ensures.steps at was.listed));
     }
 
 pub returns-clause-exact : goal.returns-clause-exact
-returns-clause-exact c = rw c.next.ensures.steps.0 at c.loop-unit.invariant.listed
+returns-clause-exact c = rw c.in-None.ensures.steps.0 at c.loop-unit.invariant.listed
 
 pub returns-clause-missing : goal.returns-clause-missing
 returns-clause-missing c = rw (returns-clause-exact c) (lacking_missing c.args.cmap.now (chars c.args.text.now))
