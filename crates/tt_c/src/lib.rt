@@ -14,9 +14,7 @@ ghost use Rattle.tt_c_calls.specs.Pictures.{DrawsBand};
 use std::alloc::Global;
 use tt_c_calls::{
     Band, CAnswer, CCharacter, CFont, CGlyph, CJob, CLine, CMeasure, CPicture, TextRequest, Texts,
-    face_reading,
 };
-use tt_core::Reading;
 
 /// `tt_c_calls::faces`.
 #[unsafe(no_mangle)]
@@ -28,17 +26,17 @@ pub extern "C" fn tt_faces(font: &[u8], answer: &mut CAnswer) -> u32
     answer.status
 }
 
-/// `tt_c_calls::open` with the strict reading.
+/// `tt_c_calls::open` without a face.
 #[unsafe(no_mangle)]
 pub extern "C" fn tt_open(font: &[u8], told: &mut CFont, answer: &mut CAnswer) -> u32
     ensures status { result ≡ answer.new.status }
     ensures opens { OpensFont reading.Strict font.now told.old told.new answer.new }
 {
-    *answer = tt_c_calls::open(font, Reading::Strict, told);
+    *answer = tt_c_calls::open(font, 0, told);
     answer.status
 }
 
-/// `tt_c_calls::open` with the reading of a face.
+/// `tt_c_calls::open`.
 #[unsafe(no_mangle)]
 pub extern "C" fn tt_open_face(
     font: &[u8],
@@ -49,21 +47,21 @@ pub extern "C" fn tt_open_face(
     ensures status { result ≡ answer.new.status }
     ensures opens { OpensFont (face_reading face) font.now told.old told.new answer.new }
 {
-    *answer = tt_c_calls::open(font, face_reading(face), told);
+    *answer = tt_c_calls::open(font, face, told);
     answer.status
 }
 
-/// `tt_c_calls::map` with the strict reading.
+/// `tt_c_calls::map` without a face.
 #[unsafe(no_mangle)]
 pub extern "C" fn tt_map(font: &[u8], text: &[u8], room: &mut [CGlyph], answer: &mut CAnswer) -> u32
     ensures status { result ≡ answer.new.status }
     ensures maps { MapsText reading.Strict text.now font.now room.old room.new answer.new }
 {
-    *answer = tt_c_calls::map(font, Reading::Strict, text, room);
+    *answer = tt_c_calls::map(font, 0, text, room);
     answer.status
 }
 
-/// `tt_c_calls::map` with the reading of a face.
+/// `tt_c_calls::map`.
 #[unsafe(no_mangle)]
 pub extern "C" fn tt_map_face(
     font: &[u8],
@@ -75,7 +73,7 @@ pub extern "C" fn tt_map_face(
     ensures status { result ≡ answer.new.status }
     ensures maps { MapsText (face_reading face) text.now font.now room.old room.new answer.new }
 {
-    *answer = tt_c_calls::map(font, face_reading(face), text, room);
+    *answer = tt_c_calls::map(font, face, text, room);
     answer.status
 }
 

@@ -66,7 +66,7 @@ fn face_named(number: u32) -> Option<u32>
 }
 
 /// The reading of a call that takes a face and no job.
-pub fn face_reading(number: u32) -> Reading
+pub(crate) fn face_reading(number: u32) -> Reading
     ensures { result ≡ face_reading number }
 {
     reading_asked(face_named(number), Reading::Strict)

@@ -14,7 +14,7 @@ mod opening;
 mod pictures;
 
 pub use answer::CAnswer;
-pub use asked::{CJob, TextRequest, face_reading};
+pub use asked::{CJob, TextRequest};
 pub use drawing::draw_band;
 pub use line_drawing::{CLine, Texts, draw_lines};
 pub use mapping::{CGlyph, map};

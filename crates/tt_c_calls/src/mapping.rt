@@ -2,15 +2,15 @@
 
 ghost use Rattle.std.specs.Prelude.{◌≡◌, ◌≢◌, length, chars};
 ghost use Rattle.tt_cmap.specs.Maps.{units_by};
+ghost use Rattle.tt_c_calls.specs.Asked.{face_reading};
 ghost use Rattle.tt_c_calls.specs.Maps.{AreGlyphsTold, MapsText, glyph_told, selector_told, text_told};
 ghost use Rattle.tt_c_calls.specs.Measures.{IsEntriesSmall};
 
 use crate::answer::{CAnswer, DONE, ROOM, answer_of, sized};
-use crate::asked::text_of;
+use crate::asked::{face_reading, text_of};
 use crate::fault::CallFault;
 use crate::opening::face_of;
 use tt_cmap::TextUnit;
-use tt_core::Reading;
 use tt_strike::{Face, test_text};
 
 /// A unit of a text in a font: a character, perhaps with a variation selector.
@@ -67,11 +67,11 @@ fn write_glyphs(face: &Face, text: &str, room: &mut [CGlyph]) -> CAnswer
     sized(DONE, 0, count as u64)
 }
 
-/// Writes the glyph and the advance of each unit of a text, in the order of the text, by a reading of a font file.
+/// Writes the glyph and the advance of each unit of a text, in the order of the text. The face is as in a job.
 /// Answers: done, with the number of units; the font is refused, too large, or the text too long; the text is not UTF-8;
 /// the room is too small. Unless the answer is done, `room` is unchanged. It takes no memory.
-pub fn map(font: &[u8], reading: Reading, text: &[u8], room: &mut [CGlyph]) -> CAnswer
-    ensures { MapsText reading text.now font.now room.old room.new result }
+pub fn map(font: &[u8], face: u32, text: &[u8], room: &mut [CGlyph]) -> CAnswer
+    ensures { MapsText (face_reading face) text.now font.now room.old room.new result }
 {
     let text = match text_of(text) {
         Ok(text) => text,
@@ -80,8 +80,8 @@ pub fn map(font: &[u8], reading: Reading, text: &[u8], room: &mut [CGlyph]) -> C
     if let Err(fault) = test_text(text) {
         return answer_of(CallFault::Job(fault));
     }
-    match face_of(font, reading) {
-        Ok(face) => write_glyphs(&face, text, room),
+    match face_of(font, face_reading(face)) {
+        Ok(opened) => write_glyphs(&opened, text, room),
         Err(fault) => answer_of(fault),
     }
 }

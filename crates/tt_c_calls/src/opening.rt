@@ -6,11 +6,13 @@ ghost use Rattle.tt_core.specs.declared.collection.Reading.TheVariants as readin
 ghost use Rattle.tt_core.specs.Outcomes.{GivesUnless};
 ghost use Rattle.tt_face.specs.Files.{IsFaceDefectBy};
 ghost use Rattle.tt_strike.specs.Defects.{TellsDefects};
+ghost use Rattle.tt_c_calls.specs.Asked.{face_reading};
 ghost use Rattle.tt_c_calls.specs.Fonts.{CountsFaces, OpensFont, count_wanted, face_wanted};
 ghost use Rattle.tt_c_calls.specs.declared.fault.CallFault.TheVariants as call;
 ghost use Rattle.tt_c_calls.specs.Refusals.{call_font_fault, call_refusal};
 
 use crate::answer::{CAnswer, DONE, answer_of, sized};
+use crate::asked::face_reading;
 use crate::fault::CallFault;
 use tt_core::{FONT_LIMIT, Reading, face_count};
 use tt_strike::Face;
@@ -48,16 +50,16 @@ pub(crate) fn face_of<'a>(font: &'a [u8], reading: Reading) -> Result<Face<'a>, 
     }
 }
 
-/// Tests the tables that every text needs, by a reading of a font file, and writes the font's figures. Answers: done; the
-/// font is refused, or too large. It takes no memory.
-pub fn open(font: &[u8], reading: Reading, told: &mut CFont) -> CAnswer
-    ensures { OpensFont reading font.now told.old told.new result }
+/// Tests the tables that every text needs, and writes the font's figures. The face is as in a job. Answers: done; the font
+/// is refused, or too large. It takes no memory.
+pub fn open(font: &[u8], face: u32, told: &mut CFont) -> CAnswer
+    ensures { OpensFont (face_reading face) font.now told.old told.new result }
 {
-    let face = match face_of(font, reading) {
-        Ok(face) => face,
+    let opened = match face_of(font, face_reading(face)) {
+        Ok(opened) => opened,
         Err(fault) => return answer_of(fault),
     };
-    let metrics = face.metrics();
+    let metrics = opened.metrics();
     *told = CFont {
         units_per_em: u32::from(metrics.units_per_em()),
         ascent: i32::from(metrics.ascent()),
