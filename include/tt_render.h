@@ -25,10 +25,10 @@
  *
  * A font file is read strictly or widely. Strictly the file has one font, whose cmap has format 4 or 12. Widely the
  * file may be a collection of faces, and more formats and kinds of cmap are read: formats 0, 6, 10 and 13, symbol
- * fonts, Macintosh Roman. What is accepted strictly has the same glyphs widely. tt_open and tt_map read strictly,
- * as do tt_open_face, tt_map_face and a job where their face is 0, except that a job with TT_BEST then reads face 0
- * widely. A face of n + 1 reads face n widely. Faces are numbered from 0, in the order of the file; a file that is no
- * collection has face 0 alone.
+ * fonts, Macintosh Roman. Where a font is accepted strictly, a text without variation selectors has the same glyphs
+ * widely. tt_open and tt_map read strictly, as do tt_open_face, tt_map_face and a job where their face is 0, except that
+ * a job with TT_BEST then reads face 0 widely. A face of n + 1 reads face n widely. Faces are numbered from 0, in the
+ * order of the file; a file that is no collection has face 0 alone.
  *
  * A unit of a text is a character. Read widely, a variation selector (U+FE00 to U+FE0F, U+E0100 to U+E01EF) is part of
  * the unit of the character before it, and chooses that unit's glyph where the font says so. Every other selector is
