@@ -135,7 +135,7 @@ fn map_of<'a, A: Arguments<'a>>(arguments: &A) -> Option<Request<'a>>
 }
 
 /// The request `faces FONT`, where the word is present.
-fn faces_of(font: Option<&str>) -> Option<Request<'_>>
+fn faces_of<'a>(font: Option<&'a str>) -> Option<Request<'a>>
     ensures { option_map asked_of result ≡ faces_asked (option_map (λ s. s.now) font.entry) }
 {
     Some(Request::Faces { font: font? })

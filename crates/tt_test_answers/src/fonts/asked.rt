@@ -102,7 +102,7 @@ impl Asked {
     }
 }
 
-fn map_of(text: &str) -> Request<'_> {
+fn map_of<'t>(text: &'t str) -> Request<'t> {
     Request::Map {
         font: "",
         text,
