@@ -1,5 +1,5 @@
 -- The answers of `run` and `map` by the strict reading, by the wide one, and by a face's own font.
-use Rattle.std.proofs.Common.{◌≡◌, ◌∙◌, ℕ, ◌≤◌, Bool, true, false, nat_lt, if◌then◌else◌, All, List, [], ◌∷◌, ◌++◌, length, map, flat_map, chars, None, Result, Ok, Err, refl, sym, ap, ap₂, subst, arith}
+use Rattle.std.proofs.Common.{◌≡◌, ◌∙◌, ℕ, ◌≤◌, Bool, false, nat_lt, if◌then◌else◌, All, List, [], ◌∷◌, ◌++◌, length, map, flat_map, chars, Result, Ok, Err, refl, sym, ap, ap₂, arith}
 use Rattle.std.proofs.lemmas.Bool.Decides.{nat_tests}
 use Rattle.tt_cmap.specs.declared.units.TextUnit.{TextUnit}
 use Rattle.tt_cmap.specs.Lookup.{Cmap, glyph_of}
@@ -17,7 +17,7 @@ use Rattle.tt_core.specs.Faults.{Fault}
 use Rattle.tt_core.specs.Limits.{font_limit}
 use Rattle.tt_core.specs.Outcomes.{◌>>=◌}
 use Rattle.tt_face.specs.Faces.{Face, cmap_tag}
-use Rattle.tt_face.specs.Files.{FacesAreTheirFonts, SameTables, StrictIsTheFace, WideFacesExtend, face_at, face_by, face_of}
+use Rattle.tt_face.specs.Files.{FacesAreTheirFonts, SameTables, StrictIsTheFace, WideFacesExtend, face_at, face_by}
 use Rattle.tt_line.specs.Layout.{text_glyphs}
 use Rattle.tt_metrics.specs.Metrics.{Metrics, advance_of, glyphs_of, metrics_of}
 use Rattle.tt_picture.specs.Pictures.{Image}
@@ -25,9 +25,8 @@ use Rattle.tt_strike.specs.Job.{Job, tested, text_tested}
 use Rattle.tt_strike.specs.Picture.{pictured, pictured_by}
 use Rattle.tt_strike.specs.ReadingLaws.{FacesDrawAlike}
 use Rattle.tt_strike.specs.Refusals.{Refused, as_font, as_job, large}
-use Rattle.tt_render_run.specs.File.{as_file, file_pictured}
+use Rattle.tt_render_run.specs.File.{as_file}
 use Rattle.tt_render_run.specs.MapLines.{line_text, lines_of, map_line, map_lines, map_outcome}
-use Rattle.tt_render_run.specs.Outcome.{of_font, outcome_of}
 use Rattle.tt_render_run.specs.ReadingLaws.{CharactersHaveLines, FacesMapAsFonts, FacesRunAsFonts, IsFontOf, IsPlainText, StrictMaps, StrictRuns, WideMaps, WideRuns}
 use Rattle.tt_render_run.specs.Run.{run_outcome}
 

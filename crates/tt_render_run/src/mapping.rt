@@ -87,14 +87,20 @@ fn push_line(
 ) -> Result<(), AllocError>
     ensures { OnOk result (lines.new.items ≡ lines.old.items ++ unit_text unit glyph advance) }
 {
-    let Some(selector) = unit.selector else {
-        let line = line(unit.character, glyph, advance);
-        return lines.extend_from_slice(line.as_bytes());
-    };
-    let name = name(unit.character);
-    lines.extend_from_slice(name.as_bytes())?;
-    let line = line(selector, glyph, advance);
-    lines.extend_from_slice(line.as_bytes())
+    match unit.selector {
+        None => {
+            let line = line(unit.character, glyph, advance);
+            lines.extend_from_slice(line.as_bytes())?;
+            Ok(())
+        }
+        Some(selector) => {
+            let name = name(unit.character);
+            let line = line(selector, glyph, advance);
+            lines.extend_from_slice(name.as_bytes())?;
+            lines.extend_from_slice(line.as_bytes())?;
+            Ok(())
+        }
+    }
 }
 
 /// The name of a character, and a blank.
