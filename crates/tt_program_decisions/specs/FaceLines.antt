@@ -89,3 +89,13 @@ no_header = refl
 no_tables : faces_of (0 ∷ 1 ∷ 0 ∷ 0 ∷ 0 ∷ 0 ∷ 0 ∷ 0 ∷ 0 ∷ 0 ∷ 0 ∷ 0 ∷ []) ≡ Ok (codes "faces 1\n0 head+0: 3 NoTable\n")
 unfolding faces_of count_of offset_of face_offset face_by face_at directory_by read_directory metrics_of head_of needed_table table_of digits why_number why_name
 no_tables = refl
+
+-- a collection of two faces: one without tables, and one whose directory is past the end
+two_faces : List ℕ
+two_faces =
+    116 ∷ 116 ∷ 99 ∷ 102 ∷ 0 ∷ 1 ∷ 0 ∷ 0 ∷ 0 ∷ 0 ∷ 0 ∷ 2 ∷ 0 ∷ 0 ∷ 0 ∷ 20 ∷ 0 ∷ 0 ∷ 0 ∷ 32
+    ∷ 0 ∷ 1 ∷ 0 ∷ 0 ∷ 0 ∷ 0 ∷ 0 ∷ 0 ∷ 0 ∷ 0 ∷ 0 ∷ 0 ∷ []
+
+each_refused : faces_of two_faces ≡ Ok (codes "faces 2\n0 head+0: 3 NoTable\n1 file+32: 2 DirShort\n")
+unfolding two_faces faces_of count_of offset_of face_offset face_by face_at directory_by read_directory metrics_of head_of needed_table table_of digits why_number why_name
+each_refused = refl
