@@ -13,9 +13,9 @@ use tt_strike::{CharacterMeasure, Face, InkBox, Measure};
 const COLLECTION: u32 = 0x7474_6366;
 
 /// The measure of a text by a face, line by line. First, for a face of a collection, `face`: its number and the count
-/// of fonts. Then `font`: units per em, ascent and descent in font units, the number of glyphs, the line gap in font
-/// units. Then `picture`: its width and height; `baseline`, the rows above it; `ink`, the box of all ink. Then for each
-/// unit `U+NNNN`: its glyph, the column of its origin, its advance in columns, the box of its ink. A box is its
+/// of fonts. Then `font`: units per em, ascent, descent, the number of glyphs, the line gap; all but the fourth are in
+/// font units. Then `picture`: its width and height; `baseline`, the rows above it; `ink`, the box of all ink. Then for
+/// each unit `U+NNNN`: its glyph, the column of its origin, its advance in columns, the box of its ink. A box is its
 /// leftmost column, highest row, rightmost column and lowest row, or `none`.
 #[tactic(auto, unfolding(crate::specs::MeasureText::measure_text))]
 pub(crate) fn measure_text(

@@ -1,7 +1,6 @@
 -- The answers of `run` and `map` by the strict reading, by the wide one, and by a face's own font.
 use Rattle.std.proofs.Common.{◌≡◌, ◌∙◌, ℕ, ◌≤◌, Bool, false, nat_lt, if◌then◌else◌, All, List, [], ◌∷◌, ◌++◌, length, map, flat_map, chars, Result, Ok, Err, refl, sym, ap, ap₂, arith}
 use Rattle.std.proofs.lemmas.Bool.Decides.{nat_tests}
-use Rattle.tt_cmap.specs.declared.units.TextUnit.{TextUnit}
 use Rattle.tt_cmap.specs.Lookup.{Cmap, glyph_of}
 use Rattle.tt_cmap.specs.Maps.{CharacterMap, strict, wide, glyph_by, glyph_of_unit, map_by, units_by}
 use Rattle.tt_cmap.specs.Units.{is_selector, plain_unit}

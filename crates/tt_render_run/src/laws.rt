@@ -19,9 +19,9 @@ pub fn others_fill_none()
     tt_strike::laws::others_fill_none();
 }
 
-/// Lemma: with the strict reading `run` and `map` answer by the font that the file begins with, and `map` has a line for
-/// each character. Where the strict reading gives a face, the wide reading of the first face gives a text without
-/// selectors the same answers. A face of a file has the answers of a font with the face's tables.
+/// Lemma: with the strict reading `run` and `map` answer by the font that the file begins with. Then `map` has a line for
+/// each character. Where the strict reading gives a face, face 0 of the wide reading answers alike for a text without
+/// selectors. A face of a file has the answers of a font with the face's tables.
 pub fn readings_agree()
     ensures strict { StrictRuns }
     ensures strict_map { StrictMaps }

@@ -1,6 +1,6 @@
 -- Faces with the same tables, the same metrics and the same glyphs for a text give the same picture.
 use Rattle.std.proofs.Common.{◌≡◌, ◌∙◌, ℕ, if◌then◌else◌, List, Option, Result, Ok, Err, refl, sym, ap}
-use Rattle.tt_core.specs.Directory.{Directory, needed_table, or_missing, table_of}
+use Rattle.tt_core.specs.Directory.{Directory, needed_table, or_missing}
 use Rattle.tt_core.specs.Faults.{Fault}
 use Rattle.tt_core.specs.Outcomes.{◌>>=◌}
 use Rattle.tt_face.specs.Faces.{Face, cvt_tag, fpgm_tag, glyphs_in, optional_table, or_empty, prep_tag, programs_of}

@@ -5,7 +5,7 @@ use Rattle.tt_cmap.proofs.missing.lacking.Goals as goal
 
 pub loop-unit-init : goal.loop-unit-init
 unfolding lacking_of
-loop-unit-init c = record { same = c.new-known.ensures; listed = rw c.units.ensures refl }
+loop-unit-init c = record { same = c.new-known.ensures; listed = rw c.units-unit-items.ensures refl }
 
 pub loop-unit-preserved : goal.loop-unit-preserved
 loop-unit-preserved c =

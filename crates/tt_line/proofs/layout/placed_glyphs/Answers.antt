@@ -16,7 +16,7 @@ pub overflow_add-pen : goal.overflow_add-pen
 overflow_add-pen c =
     let m = c.args.known.now.cmap in
     let us = units_by m (chars c.args.text.now) in
-    let from : units_left c.units.result ≡ us = rw c.cmap.ensures at c.units.ensures in
+    let from : units_left c.units-unit-items.result ≡ us = rw c.cmap.ensures at c.units-unit-items.ensures in
     let f = advance_in_pixels c.args.known.now.metrics c.args.known.now.ppem in
     let part = sym (map-id c.loop-unit.yielded) ∙ YieldsList-so_far (YieldsList-from_first (λ (u : TextUnit). u) units_left us from) c.loop-unit.yielded _ c.loop-unit.yielded_by in
     let within = part_within f (glyph_of_unit m) c.loop-unit.yielded us (length c.loop-unit.yielded) part in
@@ -47,7 +47,7 @@ pub returns-in_err-push-clause-memory : goal.returns-in_err-push-clause-memory
 returns-in_err-push-clause-memory c =
     let m = c.args.known.now.cmap in
     let us = units_by m (chars c.args.text.now) in
-    let from : units_left c.units.result ≡ us = rw c.cmap.ensures at c.units.ensures in
+    let from : units_left c.units-unit-items.result ≡ us = rw c.cmap.ensures at c.units-unit-items.ensures in
     let t = YieldsList-turn (YieldsList-from_first (λ (u : TextUnit). u) units_left us from) c.loop-unit.yielded _ c.loop-unit.yielded_by _ _ c.in-Some.unit c.in-Some.is c.next.ensures.steps in
     let left : length c.loop-unit.yielded < length us = t.0 in
     let few = units-are-few (has_pairs m) (chars c.args.text.now) in
@@ -75,7 +75,7 @@ pub returns-clause-exact : goal.returns-clause-exact
 returns-clause-exact c =
     let m = c.args.known.now.cmap in
     let us = units_by m (chars c.args.text.now) in
-    let from : units_left c.units.result ≡ us = rw c.cmap.ensures at c.units.ensures in
+    let from : units_left c.units-unit-items.result ≡ us = rw c.cmap.ensures at c.units-unit-items.ensures in
     let e = YieldsList-end (YieldsList-from_first (λ (u : TextUnit). u) units_left us from) c.loop-unit.yielded _ c.loop-unit.yielded_by _ _ c.in-None.is c.next.ensures.steps in
     let all : c.loop-unit.yielded ≡ us = sym (map-id c.loop-unit.yielded) ∙ e.0 in
     rw (← all) c.loop-unit.invariant.placed
