@@ -7,7 +7,7 @@ import sys
 
 
 class Job(ctypes.Structure):
-    _fields_ = [(name, ctypes.c_uint32) for name in ("size", "margin", "fit", "grow")]
+    _fields_ = [(name, ctypes.c_uint32) for name in ("size", "margin", "fit", "grow", "face")]
 
 
 class Picture(ctypes.Structure):

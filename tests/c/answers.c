@@ -144,7 +144,7 @@ static void write_measure(const struct question *q) {
   } else if (expect(open.answer.status == TT_DONE, "tt_open: status %u", open.answer.status)) {
     struct tt_font font = *(struct tt_font *)open.told.at;
     struct tt_measure told = *(struct tt_measure *)it.told.at;
-    printf("font %u %d %d %u/", font.units_per_em, font.ascent, font.descent, font.glyphs);
+    printf("font %u %d %d %u %d/", font.units_per_em, font.ascent, font.descent, font.glyphs, font.line_gap);
     printf("picture %u %u baseline %" PRId64 " ink ", told.width, told.height, told.baseline);
     write_box(told.has_ink, told.ink);
     write_characters(q);
@@ -205,8 +205,10 @@ static void answer(char *line) {
   const char *words[7] = {"", "", "", "0", "0", "0", "0"};
   size_t count = 0;
   for (char *word = strtok(line, " \n"); word && count < 7; word = strtok(NULL, " \n")) words[count++] = word;
-  struct tt_job job = {(uint32_t)strtoul(words[3], NULL, 10), (uint32_t)strtoul(words[4], NULL, 10),
-                       (uint32_t)strtoul(words[5], NULL, 10), (uint32_t)strtoul(words[6], NULL, 10)};
+  struct tt_job job = {.size = (uint32_t)strtoul(words[3], NULL, 10),
+                       .margin = (uint32_t)strtoul(words[4], NULL, 10),
+                       .fit = (uint32_t)strtoul(words[5], NULL, 10),
+                       .grow = (uint32_t)strtoul(words[6], NULL, 10)};
   bool are_lines = strcmp(words[0], "lines") == 0;
   struct question q = question_of(read_font(words[1]), held(NULL, 0), job);
   give_up(q.text);

@@ -59,13 +59,13 @@ static void try_jobs(void) {
     struct tt_job job;
     uint32_t number;
   } cases[] = {
-      {"a way to fit of 4", {16, 0, 4, 0}, 66},
-      {"the largest number as way to fit, and all else wrong", {0, UINT32_MAX, UINT32_MAX, 0}, 66},
-      {"a size of 0", {0, 0, TT_NONE, 0}, 60},
-      {"a size of 301, and a margin of 65", {301, 65, TT_BEST, 1}, 60},
-      {"the largest number as size", {UINT32_MAX, 0, TT_FULL, 0}, 60},
-      {"a margin of 65", {16, 65, TT_FULL, 0}, 64},
-      {"the largest number as margin", {16, UINT32_MAX, TT_FALLBACK, 1}, 64},
+      {"a way to fit of 4", {16, 0, 4, 0, 0}, 66},
+      {"the largest number as way to fit, and all else wrong", {0, UINT32_MAX, UINT32_MAX, 0, 0}, 66},
+      {"a size of 0", {0, 0, TT_NONE, 0, 0}, 60},
+      {"a size of 301, and a margin of 65", {301, 65, TT_BEST, 1, 0}, 60},
+      {"the largest number as size", {UINT32_MAX, 0, TT_FULL, 0, 0}, 60},
+      {"a margin of 65", {16, 65, TT_FULL, 0, 0}, 64},
+      {"the largest number as margin", {16, UINT32_MAX, TT_FALLBACK, 1, 0}, 64},
   };
   struct room text = text_of("A"), none = held(NULL, 0);
   for (size_t i = 0; i < sizeof cases / sizeof *cases; i++) {
@@ -93,7 +93,7 @@ static void try_texts(void) {
   text = held(many, sizeof many - 2);
   struct tt_answer answer = answer_to(&maps, font, text, usual);
   expect(answer.status == TT_DONE && answer.count == 4096, "tt_map: status %u", answer.status);
-  answer = answer_to(&characters, font, text, (struct tt_job){1, 1, TT_NONE, 0});
+  answer = answer_to(&characters, font, text, (struct tt_job){1, 1, TT_NONE, 0, 0});
   expect(answer.status == TT_DONE && answer.count == 4096, "tt_characters: status %u", answer.status);
   verdict("4,096 characters");
   give_up(text);
@@ -133,6 +133,31 @@ static void try_nothing(struct room text) {
   expect(tt_message(&answer, NULL, 0, &answer) == TT_ROOM, "tt_message: status %u", answer.status);
   verdict("NULL where there are 0 bytes");
   give_up(none);
+}
+
+/* A font that is no collection has face 0 alone, which the number 1 means. */
+static void try_faces(struct room text) {
+  struct tt_job second = {.size = 16, .margin = 0, .fit = TT_BEST, .grow = 0, .face = 2};
+  struct tt_answer answer;
+  struct tt_font told_font;
+  struct tt_glyph glyphs[4096];
+  expect(tt_faces(NULL, 0, &answer) == TT_FONT && answer.number == 2 && memcmp(answer.table, "file", 4) == 0,
+         "tt_faces, of no byte: status %u", answer.status);
+  expect(tt_faces(font.at, font.size, &answer) == TT_DONE && answer.count == 1, "tt_faces: status %u", answer.status);
+  for (uint32_t face = 0; face < 2; face++) {
+    expect(tt_open_face(font.at, font.size, face, &told_font, &answer) == TT_DONE, "tt_open_face: status %u",
+           answer.status);
+    expect(tt_map_face(font.at, font.size, face, text.at, text.size, glyphs, 4096, &answer) == TT_DONE &&
+               glyphs[0].selector == 0,
+           "tt_map_face: status %u", answer.status);
+  }
+  expect(tt_open_face(font.at, font.size, 2, &told_font, &answer) == TT_FONT && answer.number == 25,
+         "tt_open_face, of another face: status %u", answer.status);
+  expect(tt_map_face(font.at, font.size, UINT32_MAX, text.at, text.size, glyphs, 4096, &answer) == TT_FONT &&
+             answer.number == 25,
+         "tt_map_face, of another face: status %u", answer.status);
+  verdict("faces of a font that is no collection");
+  all_refuse("a face that the font lacks", font, text, second, false, TT_FONT, 25);
 }
 
 /* Draws lines that end there; so many are drawn before the status stops them. */
@@ -198,6 +223,8 @@ static void try_sizes(struct room text) {
   answer = answer_to(&opens, more, text, usual);
   expect(answer.status == TT_FONT_LARGE, "tt_open: status %u", answer.status);
   verdict("opening a font of one byte too many");
+  expect(tt_faces(more.at, more.size, &answer) == TT_FONT_LARGE, "tt_faces: status %u", answer.status);
+  verdict("faces of a font of one byte too many");
   munmap(large, FONT_LIMIT + 1);
 }
 
@@ -212,6 +239,7 @@ int main(int count, char **words) {
   try_jobs();
   try_texts();
   try_nothing(text);
+  try_faces(text);
   try_all_ends();
   try_sizes(text);
   give_up(text);

@@ -2,7 +2,9 @@
 #![tactic(auto)]
 
 ghost use Rattle.std.specs.Prelude.{◌≡◌};
-ghost use Rattle.tt_c_calls.specs.Fonts.{OpensFont};
+ghost use Rattle.tt_core.specs.declared.collection.Reading.TheVariants as reading;
+ghost use Rattle.tt_c_calls.specs.Asked.{face_reading};
+ghost use Rattle.tt_c_calls.specs.Fonts.{CountsFaces, OpensFont};
 ghost use Rattle.tt_c_calls.specs.Lines.{DrawsTexts};
 ghost use Rattle.tt_c_calls.specs.Maps.{MapsText};
 ghost use Rattle.tt_c_calls.specs.Measures.{MeasuresText, PlacesCharacters};
@@ -14,23 +16,64 @@ use tt_c_calls::{
     Band, CAnswer, CCharacter, CFont, CGlyph, CJob, CLine, CMeasure, CPicture, TextRequest, Texts,
 };
 
-/// `tt_c_calls::open`.
+/// `tt_c_calls::faces`.
+#[unsafe(no_mangle)]
+pub extern "C" fn tt_faces(font: &[u8], answer: &mut CAnswer) -> u32
+    ensures status { result ≡ answer.new.status }
+    ensures counts { CountsFaces font.now answer.new }
+{
+    *answer = tt_c_calls::faces(font);
+    answer.status
+}
+
+/// `tt_c_calls::open` without a face.
 #[unsafe(no_mangle)]
 pub extern "C" fn tt_open(font: &[u8], told: &mut CFont, answer: &mut CAnswer) -> u32
     ensures status { result ≡ answer.new.status }
-    ensures opens { OpensFont font.now told.old told.new answer.new }
+    ensures opens { OpensFont reading.Strict font.now told.old told.new answer.new }
 {
-    *answer = tt_c_calls::open(font, told);
+    *answer = tt_c_calls::open(font, 0, told);
+    answer.status
+}
+
+/// `tt_c_calls::open`.
+#[unsafe(no_mangle)]
+pub extern "C" fn tt_open_face(
+    font: &[u8],
+    face: u32,
+    told: &mut CFont,
+    answer: &mut CAnswer,
+) -> u32
+    ensures status { result ≡ answer.new.status }
+    ensures opens { OpensFont (face_reading face) font.now told.old told.new answer.new }
+{
+    *answer = tt_c_calls::open(font, face, told);
+    answer.status
+}
+
+/// `tt_c_calls::map` without a face.
+#[unsafe(no_mangle)]
+pub extern "C" fn tt_map(font: &[u8], text: &[u8], room: &mut [CGlyph], answer: &mut CAnswer) -> u32
+    ensures status { result ≡ answer.new.status }
+    ensures maps { MapsText reading.Strict text.now font.now room.old room.new answer.new }
+{
+    *answer = tt_c_calls::map(font, 0, text, room);
     answer.status
 }
 
 /// `tt_c_calls::map`.
 #[unsafe(no_mangle)]
-pub extern "C" fn tt_map(font: &[u8], text: &[u8], room: &mut [CGlyph], answer: &mut CAnswer) -> u32
+pub extern "C" fn tt_map_face(
+    font: &[u8],
+    face: u32,
+    text: &[u8],
+    room: &mut [CGlyph],
+    answer: &mut CAnswer,
+) -> u32
     ensures status { result ≡ answer.new.status }
-    ensures maps { MapsText text.now font.now room.old room.new answer.new }
+    ensures maps { MapsText (face_reading face) text.now font.now room.old room.new answer.new }
 {
-    *answer = tt_c_calls::map(font, text, room);
+    *answer = tt_c_calls::map(font, face, text, room);
     answer.status
 }
 

@@ -1,6 +1,7 @@
 -- The answer for a fault that stopped a call.
 use Rattle.std.proofs.Common.{◌≡◌, ◌≢◌, List, ℕ, Bool, true, false, Result, Ok, Err, inl, inr, refl, nat_lt, length, arith}
 use Rattle.std.specs.Prelude.{IfSome, if◌then◌else◌}
+use Rattle.tt_core.specs.declared.collection.Reading.{Reading}
 use Rattle.tt_core.specs.declared.fault.JobFault.{JobFault}
 use Rattle.tt_core.specs.Faults.{Fault}
 use Rattle.tt_core.specs.Limits.{font_limit}
@@ -10,7 +11,7 @@ use Rattle.tt_core.specs.declared.draw_fault.DrawFault.{DrawFault}
 use Rattle.tt_core.specs.declared.draw_fault.DrawFault.TheVariants as draw
 use Rattle.tt_strike.specs.Refusals.{Refused, as_font, as_job, job, large, refusal}
 use Rattle.tt_face.specs.Faces.{Face}
-use Rattle.tt_face.specs.Files.{face_of}
+use Rattle.tt_face.specs.Files.{face_by}
 use Rattle.tt_c_calls.specs.declared.fault.CallFault.{CallFault}
 use Rattle.tt_c_calls.specs.declared.fault.CallFault.TheVariants as call
 use Rattle.tt_c_calls.specs.Answers.{DefectStands, TellsRefusal, call_answer}
@@ -102,11 +103,12 @@ by_size false (Ok face) make = refl
 by_size false (Err f) make = refl
 
 -- a request of a font that passes its tests is one of the font's tables
-pub by_face : {X : Type 0} (test : Result (Unit {0}) JobFault) (make : Face → Result X Refused) (font : List ℕ)
-    → test ≡ Ok tt → as_call (as_job test >>= λ u. of_font (λ file. as_font (face_of file) >>= make) font)
-    ≡ (face_wanted font >>= λ face. as_call (make face))
+pub by_face : {X : Type 0} (test : Result (Unit {0}) JobFault) (make : Face → Result X Refused) (r : Reading)
+    (font : List ℕ) → test ≡ Ok tt
+    → as_call (as_job test >>= λ u. of_font (λ file. as_font (face_by file r) >>= make) font)
+    ≡ (face_wanted r font >>= λ face. as_call (make face))
 unfolding face_wanted
-by_face test make font passes = rw passes (by_size (nat_lt font_limit (length font)) (face_of font) make)
+by_face test make r font passes = rw passes (by_size (nat_lt font_limit (length font)) (face_by font r) make)
 
 -- a request of a font that fails its tests
 pub by_test : {X : Type 0} (test : Result (Unit {0}) JobFault) (make : Unit {0} → Result X Refused) (j : JobFault)

@@ -2,13 +2,14 @@
 use Rattle.std.proofs.Common.{◌≡◌, List, ℕ, Bool, true, false, Result, Ok, Err, inl, inr, ap, nat_lt, length, ◌==◌}
 use Rattle.std.specs.Prelude.{IfSome, if◌then◌else◌}
 use Rattle.std.specs.Str.{is_utf8}
+use Rattle.tt_core.specs.declared.collection.Reading.{Reading}
 use Rattle.tt_core.specs.Directory.{HasNo}
 use Rattle.tt_core.specs.Faults.{Fault}
 use Rattle.tt_core.specs.Limits.{font_limit}
 use Rattle.tt_core.specs.Outcomes.{◌>>=◌}
 use Rattle.tt_fit.specs.declared.programs.Fit.TheVariants as fit
 use Rattle.tt_line.specs.Layout.{text_glyphs}
-use Rattle.tt_face.specs.Files.{face_of, IsFaceDefect}
+use Rattle.tt_face.specs.Files.{face_by, IsFaceDefectBy}
 use Rattle.tt_strike.specs.Defects.{IsLineDefect, TellsDefects}
 use Rattle.tt_strike.specs.Job.{Job, tested}
 use Rattle.tt_strike.specs.Refusals.{Refused, as_font, font, large}
@@ -16,11 +17,12 @@ use Rattle.tt_face.specs.Faces.{Face}
 use Rattle.tt_c_calls.specs.declared.asked.CJob.{CJob}
 use Rattle.tt_c_calls.specs.declared.fault.CallFault.{CallFault}
 use Rattle.tt_c_calls.specs.declared.fault.CallFault.TheVariants as call
-use Rattle.tt_c_calls.specs.Asked.{IsAskedDefect, asked, fit_asked, text_asked}
+use Rattle.tt_c_calls.specs.Asked.{IsAskedDefect, asked, fit_asked, job_reading, text_asked}
 use Rattle.tt_c_calls.specs.Fonts.{face_wanted}
 use Rattle.tt_c_calls.specs.Pictures.{made_of}
 use Rattle.tt_c_calls.specs.Refusals.{Refusal, as_call, call_font_fault, call_refusal, not_utf8, refused, unknown_fit}
 use Rattle.tt_c_calls.proofs.Answered.{by_face}
+use Rattle.tt_c_calls.proofs.StrikeLines.{if_some_more}
 
 -- making the job of a request is never refused as `run` refuses
 pub no_fit : (a b c d : Bool) (r : Refused)
@@ -62,9 +64,10 @@ asked_tells P j text call.Memory is = tt
 -- a job that passes its tests is for its font's tables
 pub of_tables : {X : Type 0} (make : Face → Job → Result X Refused) (j : CJob) (text file : List ℕ) (a : Job)
     → asked j text ≡ Ok a → tested a ≡ Ok tt
-    → (asked j text >>= λ a. as_call (made_of (λ face. make face a) a file))
-    ≡ (face_wanted file >>= λ face. as_call (make face a))
-of_tables make j text file a is passes = rw is (by_face (tested a) (λ face. make face a) file passes)
+    → (asked j text >>= λ a. as_call (made_of (λ face. make face a) (job_reading j a.fit) a file))
+    ≡ (face_wanted (job_reading j a.fit) file >>= λ face. as_call (make face a))
+of_tables make j text file a is passes =
+    rw is (by_face (tested a) (λ face. make face a) (job_reading j a.fit) file passes)
 
 read_by : (is_large : Bool) (read : Result Face Fault) (face : Face)
     → as_call (if is_large then Err large else as_font read) ≡ Ok face → read ≡ Ok face
@@ -73,21 +76,29 @@ read_by false (Ok own) face is = cc
 read_by false (Err f) face is = absurd cc
 
 -- the requested tables are those of the file
-pub face_read : (file : List ℕ) (face : Face) → face_wanted file ≡ Ok face → face_of file ≡ Ok face
+pub face_read : (r : Reading) (file : List ℕ) (face : Face) → face_wanted r file ≡ Ok face → face_by file r ≡ Ok face
 unfolding face_wanted
-face_read file face is = read_by (nat_lt font_limit (length file)) (face_of file) face is
+face_read r file face is = read_by (nat_lt font_limit (length file)) (face_by file r) face is
+
+-- a defect of a font's tables is one that the job meets
+pub face_defects : (j : CJob) (text file : List ℕ) (a : Job) (e : CallFault) → asked j text ≡ Ok a
+    → IfSome (call_font_fault e) (IsFaceDefectBy file (job_reading j a.fit))
+    → IfSome (call_font_fault e) (IsAskedDefect j text file)
+face_defects j text file a e is = if_some_more (call_font_fault e) _ _ (λ f h. rw is (inl h))
 
 -- statements about a font's tables are statements about the file
 pub asked_defects : {V : Type 0} (j : CJob) (text file : List ℕ) (a : Job) (face : Face) (r : Result V CallFault)
-    → asked j text ≡ Ok a → face_wanted file ≡ Ok face → HasNo (IsFaceDefect file)
+    → asked j text ≡ Ok a → face_wanted (job_reading j a.fit) file ≡ Ok face
+    → HasNo (IsFaceDefectBy file (job_reading j a.fit))
     → TellsDefects call_font_fault (IsLineDefect face a (text_glyphs face.cmap a.text)) r
     → TellsDefects call_font_fault (IsAskedDefect j text file) r
 asked_defects j text file a face (Ok v) is read none line =
-    rw is (λ fault defect. elim (rw (face_read file face read) at defect) [
+    rw is (λ fault defect. elim (rw (face_read (job_reading j a.fit) file face read) at defect) [
       | inl tables ↦ none fault tables
       | inr glyphs ↦ line fault glyphs
     ])
-asked_defects j text file a face (Err (call.Font d)) is read none line = rw (is, face_read file face read) (inr line)
+asked_defects j text file a face (Err (call.Font d)) is read none line =
+    rw (is, face_read (job_reading j a.fit) file face read) (inr line)
 asked_defects j text file a face (Err (call.Job d)) is read none line = tt
 asked_defects j text file a face (Err call.FontLarge) is read none line = tt
 asked_defects j text file a face (Err call.UnknownFit) is read none line = tt

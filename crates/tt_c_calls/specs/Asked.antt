@@ -1,10 +1,14 @@
 -- No part of the standard: the requests of a call of C (profile).
-use Rattle.std.specs.Prelude.{◌≡◌, refl, ℕ, ◌==◌, if◌then◌else◌, Bool, not, List, Result, Ok, Err, IsOkAnd}
+use Rattle.std.specs.Prelude.{◌≡◌, refl, ℕ, ◌-◌, ◌==◌, if◌then◌else◌, Bool, not, List, [], ◌∷◌, map, Option, Some, None, Result, Ok, Err, IsOkAnd}
 use Rattle.std.specs.Str.{is_utf8}
+use Rattle.tt_core.specs.declared.collection.Reading.{Reading}
+use Rattle.tt_core.specs.declared.collection.Reading.TheVariants as reading
 use Rattle.tt_core.specs.Faults.{Fault}
 use Rattle.tt_core.specs.Outcomes.{◌>>=◌}
 use Rattle.tt_fit.specs.declared.programs.Fit.{Fit}
 use Rattle.tt_fit.specs.declared.programs.Fit.TheVariants as fit
+use Rattle.tt_face.specs.Files.{IsFaceDefectBy}
+use Rattle.tt_render.specs.Readings.{fit_reading, reading_asked}
 use Rattle.tt_strike.specs.Defects.{IsRunDefect}
 use Rattle.tt_strike.specs.Job.{Job, job_for}
 use Rattle.tt_c_calls.specs.declared.asked.CJob.{CJob}
@@ -34,9 +38,25 @@ asked j text =
 abbrev pub grows : CJob → Bool
 grows j = not (j.grow == 0)
 
+-- the face that a number names: none for 0, face n for n + 1
+abbrev pub face_named : ℕ → Option ℕ
+face_named n = if n == 0 then None else Some (n - 1)
+
+-- the reading of a call that takes a face and no job
+abbrev pub face_reading : ℕ → Reading
+face_reading n = reading_asked (face_named n) reading.Strict
+
+-- the reading of a job with a way to fit
+abbrev pub job_reading : CJob → Fit → Reading
+job_reading j how = reading_asked (face_named j.face) (fit_reading how)
+
 -- a defect of a font that the job of a text meets
 abbrev pub IsAskedDefect : CJob → List ℕ → List ℕ → Fault → Type 0
-IsAskedDefect j text font f = IsOkAnd (asked j text) (λ a. IsRunDefect a font f)
+IsAskedDefect j text font f = IsOkAnd (asked j text) (λ a. IsRunDefect (job_reading j a.fit) a font f)
+
+-- a defect of the tables that every text of a job needs
+abbrev pub IsAskedFaceDefect : CJob → List ℕ → Fault → Type 0
+IsAskedFaceDefect j font f = IsOkAnd (fit_asked j.fit) (λ how. IsFaceDefectBy font (job_reading j how) f)
 
 -- worked values
 by_its_programs : fit_asked 0 ≡ Ok fit.Full
@@ -50,3 +70,6 @@ with_dropouts = refl
 none_of_the_four : fit_asked 4 ≡ Err unknown_fit
 unfolding fit_asked
 none_of_the_four = refl
+
+no_face_and_the_first_two : map face_reading (0 ∷ 1 ∷ 2 ∷ []) ≡ reading.Strict ∷ reading.Wide 0 ∷ reading.Wide 1 ∷ []
+no_face_and_the_first_two = refl

@@ -1,7 +1,10 @@
--- No part of the standard: a font opened by a call of C (profile).
-use Rattle.std.specs.Prelude.{◌≡◌, ◌≢◌, ℕ, List, Result, IsOkAnd}
-use Rattle.tt_face.specs.Files.{face_of, IsFaceDefect}
-use Rattle.tt_metrics.specs.Metrics.{Metrics, ascent_of, descent_of, glyphs_of, units_per_em_of}
+-- No part of the standard: a font opened by a call of C, and the faces of its file counted (profile).
+use Rattle.std.specs.Prelude.{◌≡◌, ◌≢◌, ℕ, List, Result, Ok, IsOkAnd}
+use Rattle.tt_core.specs.Collections.{IsOffsetDefect, count_of}
+use Rattle.tt_core.specs.declared.collection.Reading.{Reading}
+use Rattle.tt_core.specs.declared.collection.Reading.TheVariants as reading
+use Rattle.tt_face.specs.Files.{face_by, IsFaceDefectBy}
+use Rattle.tt_metrics.specs.Metrics.{Metrics, ascent_of, descent_of, glyphs_of, line_gap_of, units_per_em_of}
 use Rattle.tt_render_run.specs.Outcome.{of_font}
 use Rattle.tt_strike.specs.Refusals.{as_font}
 use Rattle.tt_face.specs.Faces.{Face}
@@ -10,9 +13,9 @@ use Rattle.tt_c_calls.specs.declared.opening.CFont.{CFont}
 use Rattle.tt_c_calls.specs.Answers.{DefectStands, TellsRefusal, done_answer}
 use Rattle.tt_c_calls.specs.Refusals.{Refusal, as_call}
 
--- the tables that every text needs, of a file that is not too large
-unfoldable pub face_wanted : List ℕ → Result Face Refusal
-face_wanted font = as_call (of_font (λ file. as_font (face_of file)) font)
+-- the tables that every text needs, by a reading of a file that is not too large
+unfoldable pub face_wanted : Reading → List ℕ → Result Face Refusal
+face_wanted r font = as_call (of_font (λ file. as_font (face_by file r)) font)
 
 -- the figures of a font, for C
 abbrev pub font_told : Metrics → CFont
@@ -21,16 +24,32 @@ font_told m = record {
   ascent = ascent_of m;
   descent = descent_of m;
   glyphs = glyphs_of m;
+  line_gap = line_gap_of m;
 }
 
--- the figures of a font file, for C
-abbrev pub IsFontOf : List ℕ → CFont → Type 0
-IsFontOf font told = IsOkAnd (face_wanted font) (λ face. told ≡ font_told face.metrics)
+-- the figures by a reading of a font file, for C
+abbrev pub IsFontOf : Reading → List ℕ → CFont → Type 0
+IsFontOf r font told = IsOkAnd (face_wanted r font) (λ face. told ≡ font_told face.metrics)
 
 -- a call opened a font and wrote its figures, or says why not; it took no memory
-pub record OpensFont (font : List ℕ) (before told : CFont) (a : CAnswer) : Type 0 where
-  pub done : a.status ≡ 0 → IsFontOf font told × (a ≡ done_answer 0 0)
-  pub refused : a.status ≢ 0 → TellsRefusal (face_wanted font) a
+pub record OpensFont (r : Reading) (font : List ℕ) (before told : CFont) (a : CAnswer) : Type 0 where
+  pub done : a.status ≡ 0 → IsFontOf r font told × (a ≡ done_answer 0 0)
+  pub refused : a.status ≢ 0 → TellsRefusal (face_wanted r font) a
   pub memory : a.status ≢ 5
   pub kept : a.status ≢ 0 → told ≡ before
-  pub stands : DefectStands (IsFaceDefect font) a
+  pub stands : DefectStands (IsFaceDefectBy font r) a
+
+-- the number of faces of a file that is not too large
+unfoldable pub count_wanted : List ℕ → Result ℕ Refusal
+count_wanted font = as_call (of_font (λ file. as_font (count_of file)) font)
+
+-- an answer counts the faces of a file
+abbrev pub IsCountOf : List ℕ → CAnswer → Type 0
+IsCountOf font a = IsOkAnd (count_wanted font) (λ count. a ≡ done_answer 0 count)
+
+-- a call counted the faces of a file, or says why not; it took no memory
+pub record CountsFaces (font : List ℕ) (a : CAnswer) : Type 0 where
+  pub done : a.status ≡ 0 → IsCountOf font a
+  pub refused : a.status ≢ 0 → TellsRefusal (count_wanted font) a
+  pub memory : a.status ≢ 5
+  pub stands : DefectStands (IsOffsetDefect font (reading.Wide 0)) a

@@ -6,7 +6,6 @@ use Rattle.tt_core.specs.Faults.{Fault, job_number}
 use Rattle.tt_core.specs.Outcomes.{◌>>=◌}
 use Rattle.tt_render.specs.Lines.{lines_budget}
 use Rattle.tt_strike.specs.Costs.{cost_by}
-use Rattle.tt_face.specs.Files.{IsFaceDefect}
 use Rattle.tt_picture.specs.Pictures.{Picture}
 use Rattle.tt_strike.specs.Job.{by_face}
 use Rattle.tt_strike.specs.Strikes.{Strike}
@@ -15,7 +14,7 @@ use Rattle.tt_c_calls.specs.declared.answer.CAnswer.{CAnswer}
 use Rattle.tt_c_calls.specs.declared.asked.CJob.{CJob}
 use Rattle.tt_c_calls.specs.declared.line_drawing.CLine.{CLine}
 use Rattle.tt_c_calls.specs.Answers.{done_answer, fault_answer, job_answer, memory_answer, plain_answer, refusal_answer, room_answer}
-use Rattle.tt_c_calls.specs.Asked.{IsAskedDefect, asked, fit_asked}
+use Rattle.tt_c_calls.specs.Asked.{IsAskedDefect, IsAskedFaceDefect, asked, fit_asked, job_reading}
 use Rattle.tt_c_calls.specs.Pictures.{IsPictureOf, IsWritten, made_of, picture_told, picture_wanted}
 use Rattle.tt_c_calls.specs.Refusals.{Refusal, as_call, line_ends, unknown_fit}
 
@@ -35,7 +34,7 @@ AreEnds bytes from (end ∷ ends) = (from ≤ end) × (end ≤ bytes) × AreEnds
 
 -- what a line takes of the budget of a call
 abbrev pub cost_asked : CJob → List ℕ → List ℕ → Result ℕ Refusal
-cost_asked j font line = asked j line >>= λ a. as_call (by_face cost_by a font)
+cost_asked j font line = asked j line >>= λ a. as_call (by_face cost_by (job_reading j a.fit) a font)
 
 -- a refused line takes nothing
 abbrev pub cost_taken : Result ℕ Refusal → ℕ
@@ -129,7 +128,8 @@ IsLineStopped j font texts from end left a =
 unfoldable pub lines_wanted : CJob → List ℕ → Result Face Refusal
 lines_wanted j font =
     fit_asked j.fit >>= λ f.
-    as_call (made_of (λ face. Ok face) (record { text = []; ppem = j.size; margin = j.margin; fit = f }) font)
+    as_call (made_of (λ face. Ok face) (job_reading j f)
+    (record { text = []; ppem = j.size; margin = j.margin; fit = f }) font)
 
 -- the answer before any line is drawn: a refused way to fit, size, margin or font comes first, and then too small a room
 -- for the lines
@@ -170,7 +170,7 @@ EndsWith j font texts ends room used a =
 -- a defect of the font: of the tables that every text needs, or of the data that line `i` is drawn from
 abbrev pub IsLinesDefect : CJob → List ℕ → List ℕ → List ℕ → ℕ → Fault → Type 0
 IsLinesDefect j font texts ends i f =
-    IsFaceDefect font f ⊎ IsAskedDefect j (line_between texts (start_of ends i) (get_or ends i 0)) font f
+    IsAskedFaceDefect j font f ⊎ IsAskedDefect j (line_between texts (start_of ends i) (get_or ends i 0)) font f
 
 -- if an answer reports a defect of the font, also after lines that were drawn, the defect has a property
 abbrev pub LineDefectStands : (Fault → Type 0) → CAnswer → Type 0

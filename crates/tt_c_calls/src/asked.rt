@@ -1,16 +1,17 @@
 //! The request of a call.
 
-ghost use Rattle.std.specs.Prelude.{◌≡◌, ◌≢◌, not, ◌==◌, IfErr};
+ghost use Rattle.std.specs.Prelude.{◌≡◌, ◌≢◌, not, ◌==◌, IfErr, IfOk};
 ghost use Rattle.tt_core.specs.Outcomes.{GivesUnless};
 ghost use Rattle.tt_strike.specs.Job.{job_view};
-ghost use Rattle.tt_c_calls.specs.Asked.{asked, fit_asked, grows, text_asked};
+ghost use Rattle.tt_c_calls.specs.Asked.{asked, face_named, face_reading, fit_asked, grows, job_reading, text_asked};
 ghost use Rattle.tt_c_calls.specs.declared.fault.CallFault.TheVariants as call;
 ghost use Rattle.tt_c_calls.specs.Refusals.{call_refusal};
 
 use crate::fault::CallFault;
 use std::str;
+use tt_core::Reading;
 use tt_fit::Fit;
-use tt_render::Setting;
+use tt_render::{Setting, fit_reading, reading_asked};
 use tt_strike::Job;
 
 /// How a text is to be drawn.
@@ -25,6 +26,9 @@ pub struct CJob {
     pub fit: u32,
     /// Not 0 to enlarge the picture on each side, by the fewest columns and rows, so that no ink is cut.
     pub grow: u32,
+    /// n + 1 for face n of the font's file, which is read widely. 0 for the file's only font; with best for face 0, read
+    /// widely.
+    pub face: u32,
 }
 
 /// A request: a text, the font that draws it, and how.
@@ -42,6 +46,30 @@ impl CJob {
     {
         self.grow != 0
     }
+
+    /// The reading of the font's file, by the way to fit and the face.
+    pub(crate) fn reading(&self, fit: Fit) -> Reading
+        ensures { result ≡ job_reading self.now fit }
+    {
+        reading_asked(face_named(self.face), fit_reading(fit))
+    }
+}
+
+/// The face that a number names: none for 0, face n for n + 1.
+fn face_named(number: u32) -> Option<u32>
+    ensures { result ≡ face_named number }
+{
+    if number == 0 {
+        return None;
+    }
+    Some(number - 1)
+}
+
+/// The reading of a call that takes a face and no job.
+pub(crate) fn face_reading(number: u32) -> Reading
+    ensures { result ≡ face_reading number }
+{
+    reading_asked(face_named(number), Reading::Strict)
 }
 
 /// The way to fit of a number. Error: UnknownFit.
@@ -74,9 +102,10 @@ pub(crate) fn text_of(bytes: &[u8]) -> Result<&str, CallFault>
 /// The job of a text. Errors, the first of: UnknownFit, NotUtf8.
 #[tactic(auto, unfolding(crate::specs::Asked::asked))]
 pub(crate) fn job_of<'t>(job: &CJob, text: &'t [u8]) -> Result<Job<'t>, CallFault>
-    ensures { GivesUnless call_refusal job_view result (asked job.now text.now) }
+    ensures exact { GivesUnless call_refusal job_view result (asked job.now text.now) }
+    ensures reading { IfOk result (λ a. a.reading ≡ job_reading job.now a.fit) }
 {
     let fit = fit_of(job.fit)?;
     let text = text_of(text)?;
-    Ok(Setting::plain(job.size, job.margin, fit).job(text))
+    Ok(Setting::plain(job.size, job.margin, fit, job.reading(fit)).job(text))
 }

@@ -20,5 +20,5 @@ pub use line_drawing::{CLine, Texts, draw_lines};
 pub use mapping::{CGlyph, map};
 pub use measuring::{CBox, CCharacter, CMeasure, characters, measure};
 pub use messages::message;
-pub use opening::{CFont, open};
+pub use opening::{CFont, faces, open};
 pub use pictures::{Band, CPicture};

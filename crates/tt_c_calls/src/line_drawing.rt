@@ -159,11 +159,12 @@ pub fn draw_lines(
         Ok(fit) => fit,
         Err(fault) => return (answer_of(fault), 0),
     };
+    let reading = job.reading(fit);
     // A text of no characters is never too long.
-    if let Err(fault) = test_job(&Setting::plain(job.size, job.margin, fit).job("")) {
+    if let Err(fault) = test_job(&Setting::plain(job.size, job.margin, fit, reading).job("")) {
         return (answer_of(CallFault::Job(fault)), 0);
     }
-    let face = match face_of(font) {
+    let face = match face_of(font, reading) {
         Ok(face) => face,
         Err(fault) => return (answer_of(fault), 0),
     };

@@ -44,12 +44,12 @@ pub struct CMeasure {
     pub ink: CBox,
 }
 
-/// The place of a character of a text in its picture.
+/// The place of a unit of a text in its picture.
 #[repr(C)]
 #[derive(Clone, Copy)]
 pub struct CCharacter {
     pub glyph: u32,
-    /// The columns to the next character's origin.
+    /// The columns to the next unit's origin.
     pub advance: u32,
     /// The column of the picture at the glyph's origin, the margin included.
     pub pen: i64,
@@ -114,7 +114,7 @@ fn measured(alloc: Global, request: &TextRequest) -> Result<Measure, CallFault>
 {
     let asked = job_of(request.job, request.text)?;
     test_job(&asked)?;
-    let face = face_of(request.font)?;
+    let face = face_of(request.font, asked.reading)?;
     let mut strike = Strike::new(alloc, &face, asked.ppem, asked.fit, 0)?;
     let measure = make_measure(&mut strike, request.job.grows(), asked.text, asked.margin)?;
     Ok(measure)
@@ -135,7 +135,7 @@ pub fn measure(alloc: Global, request: &TextRequest, told: &mut CMeasure) -> CAn
     }
 }
 
-/// Writes the characters of a text at the front of a caller's room. Answers: done; or the room is too small, and
+/// Writes the units of a text at the front of a caller's room. Answers: done; or the room is too small, and
 /// nothing is written.
 fn write_characters(measured: &[CharacterMeasure], room: &mut [CCharacter]) -> CAnswer
     ensures done { result.status ≡ 0 → AreCharactersTold measured.now room.old room.new result }
@@ -152,8 +152,8 @@ fn write_characters(measured: &[CharacterMeasure], room: &mut [CCharacter]) -> C
     sized(DONE, 0, count as u64)
 }
 
-/// Writes the place of each character of a text in its picture, in the order of the text. Answers: done, with the
-/// number of characters; the font is refused, too large, or the job refused; memory was refused; the text is not UTF-8;
+/// Writes the place of each unit of a text in its picture, in the order of the text. Answers: done, with the number of
+/// units; the font is refused, too large, or the job refused; memory was refused; the text is not UTF-8;
 /// the room is too small. Unless the answer is done, `room` is unchanged.
 pub fn characters(alloc: Global, request: &TextRequest, room: &mut [CCharacter]) -> CAnswer
     ensures { PlacesCharacters request.now.job.now request.now.text.now request.now.font.now room.old room.new result }

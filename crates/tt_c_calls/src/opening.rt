@@ -1,16 +1,20 @@
-//! A font opened.
+//! A font opened, and the faces of its file counted.
 
 ghost use Rattle.std.specs.Prelude.{◌≢◌, IfErr};
+ghost use Rattle.tt_core.specs.Collections.{IsOffsetDefect};
+ghost use Rattle.tt_core.specs.declared.collection.Reading.TheVariants as reading;
 ghost use Rattle.tt_core.specs.Outcomes.{GivesUnless};
-ghost use Rattle.tt_face.specs.Files.{IsFaceDefect};
+ghost use Rattle.tt_face.specs.Files.{IsFaceDefectBy};
 ghost use Rattle.tt_strike.specs.Defects.{TellsDefects};
-ghost use Rattle.tt_c_calls.specs.Fonts.{OpensFont, face_wanted};
+ghost use Rattle.tt_c_calls.specs.Asked.{face_reading};
+ghost use Rattle.tt_c_calls.specs.Fonts.{CountsFaces, OpensFont, count_wanted, face_wanted};
 ghost use Rattle.tt_c_calls.specs.declared.fault.CallFault.TheVariants as call;
 ghost use Rattle.tt_c_calls.specs.Refusals.{call_font_fault, call_refusal};
 
 use crate::answer::{CAnswer, DONE, answer_of, sized};
+use crate::asked::face_reading;
 use crate::fault::CallFault;
-use tt_core::FONT_LIMIT;
+use tt_core::{FONT_LIMIT, Reading, face_count};
 use tt_strike::Face;
 
 /// The figures of a font.
@@ -25,40 +29,72 @@ pub struct CFont {
     pub descent: i32,
     /// The number of glyphs.
     pub glyphs: u32,
+    /// Between the descent of a line and the ascent of the next, in font units.
+    pub line_gap: i32,
 }
 
-/// The tables of a font file that every text needs. Errors: FontLarge, and those of the directory, of head, maxp, hhea
-/// and hmtx, and of cmap.
+/// The tables that every text needs, by a reading of a font file. Errors: FontLarge, and those of the directory and of
+/// its place, of head, maxp, hhea and hmtx, and of cmap.
 #[tactic(auto, unfolding(crate::specs::Fonts::face_wanted))]
-pub(crate) fn face_of<'a>(font: &'a [u8]) -> Result<Face<'a>, CallFault>
-    ensures exact { GivesUnless call_refusal (λ f. f) result (face_wanted font.now) }
-    ensures defects { TellsDefects call_font_fault (IsFaceDefect font.now) result }
+pub(crate) fn face_of<'a>(font: &'a [u8], reading: Reading) -> Result<Face<'a>, CallFault>
+    ensures exact { GivesUnless call_refusal (λ f. f) result (face_wanted reading font.now) }
+    ensures defects { TellsDefects call_font_fault (IsFaceDefectBy font.now reading) result }
     ensures memory { IfErr result (λ f. f ≢ call.Memory) }
 {
     if font.len() > FONT_LIMIT {
         return Err(CallFault::FontLarge);
     }
-    match Face::open(font) {
+    match Face::read(font, reading) {
         Ok(face) => Ok(face),
         Err(fault) => Err(CallFault::Font(fault)),
     }
 }
 
-/// Tests the tables of a font that every text needs, and writes the font's figures. Answers: done; the font is refused,
-/// or too large. It takes no memory.
-pub fn open(font: &[u8], told: &mut CFont) -> CAnswer
-    ensures { OpensFont font.now told.old told.new result }
+/// Tests the tables that every text needs, and writes the font's figures. The face is as in a job. Answers: done; the font
+/// is refused, or too large. It takes no memory.
+pub fn open(font: &[u8], face: u32, told: &mut CFont) -> CAnswer
+    ensures { OpensFont (face_reading face) font.now told.old told.new result }
 {
-    let face = match face_of(font) {
-        Ok(face) => face,
+    let opened = match face_of(font, face_reading(face)) {
+        Ok(opened) => opened,
         Err(fault) => return answer_of(fault),
     };
-    let metrics = face.metrics();
+    let metrics = opened.metrics();
     *told = CFont {
         units_per_em: u32::from(metrics.units_per_em()),
         ascent: i32::from(metrics.ascent()),
         descent: i32::from(metrics.descent()),
         glyphs: u32::from(metrics.glyphs()),
+        line_gap: i32::from(metrics.line_gap()),
     };
     sized(DONE, 0, 0)
+}
+
+/// The number of faces of a font file: one, or those of a collection. Errors: FontLarge, and those of the place of the
+/// first face.
+#[tactic(auto, unfolding(crate::specs::Fonts::count_wanted))]
+fn count_of(font: &[u8]) -> Result<u32, CallFault>
+    ensures exact { GivesUnless call_refusal (λ n. n) result (count_wanted font.now) }
+    ensures defects { TellsDefects call_font_fault (IsOffsetDefect font.now (reading.Wide 0)) result }
+    ensures memory { IfErr result (λ f. f ≢ call.Memory) }
+{
+    if FONT_LIMIT < font.len() {
+        return Err(CallFault::FontLarge);
+    }
+    match face_count(font) {
+        Ok(count) => Ok(count),
+        Err(fault) => Err(CallFault::Font(fault)),
+    }
+}
+
+/// Counts the faces of a font file. Answers: done, with the number of faces; the file is refused, or too large. It takes
+/// no memory.
+pub fn faces(font: &[u8]) -> CAnswer
+    ensures { CountsFaces font.now result }
+{
+    let count = match count_of(font) {
+        Ok(count) => count,
+        Err(fault) => return answer_of(fault),
+    };
+    sized(DONE, 0, u64::from(count))
 }

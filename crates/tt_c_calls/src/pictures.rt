@@ -64,7 +64,7 @@ pub(crate) fn picture_of(alloc: Global, request: &TextRequest) -> Result<Picture
 {
     let asked = job_of(request.job, request.text)?;
     test_job(&asked)?;
-    let face = face_of(request.font)?;
+    let face = face_of(request.font, asked.reading)?;
     let mut strike = Strike::new(alloc, &face, asked.ppem, asked.fit, 0)?;
     let picture = make_picture(&mut strike, request.job.grows(), asked.text, asked.margin)?;
     Ok(picture)

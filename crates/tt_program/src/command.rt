@@ -22,6 +22,7 @@ pub(crate) fn request<'a>(
         "draw" => draw_command(alloc)?.bin_name("tt_render draw")?,
         "measure" => measure_command(alloc)?.bin_name("tt_render measure")?,
         "map" => map_command(alloc)?.bin_name("tt_render map")?,
+        "faces" => faces_command(alloc)?.bin_name("tt_render faces")?,
         _ => {
             program(alloc)?.try_get_matches_from(words)?;
             return Ok(None);
@@ -31,8 +32,9 @@ pub(crate) fn request<'a>(
     Ok(request_of(name, &Found { matches: &matches }))
 }
 
-/// Describes `tt_render map FONT TEXT`, and `draw` and `measure` with `--size N [--margin N]
-/// [--fit full|none|fallback|best] [--missing draw|tell|refuse] [--grow]` and `FONT TEXT` or `--lines FONT`.
+/// Describes `tt_render map [--face N] FONT TEXT`, `tt_render faces FONT`, and `draw` and `measure` with `--size N
+/// [--margin N] [--fit full|none|fallback|best] [--face N] [--missing draw|tell|refuse] [--grow]` and `FONT TEXT` or
+/// `--lines FONT`.
 fn program<'a>(alloc: Global) -> Result<Command<'a>, AllocError> {
     Command::new(alloc, "tt_render")
         .bin_name("tt_render")?
@@ -41,7 +43,8 @@ fn program<'a>(alloc: Global) -> Result<Command<'a>, AllocError> {
         .subcommand_required(true)
         .subcommand(draw_command(alloc)?)?
         .subcommand(measure_command(alloc)?)?
-        .subcommand(map_command(alloc)?)
+        .subcommand(map_command(alloc)?)?
+        .subcommand(faces_command(alloc)?)
 }
 
 fn draw_command<'a>(alloc: Global) -> Result<Command<'a>, AllocError> {
@@ -75,6 +78,7 @@ fn drawing<'a>(alloc: Global, to: Command<'a>, each: &'a str) -> Result<Command<
     to.arg(size(alloc))?
         .arg(margin(alloc))?
         .arg(fit(alloc))?
+        .arg(face(alloc))?
         .arg(missing(alloc))?
         .arg(grow(alloc))?
         .arg(lines(alloc, each)?)?
@@ -86,8 +90,15 @@ fn map_command<'a>(alloc: Global) -> Result<Command<'a>, AllocError> {
     Command::new(alloc, "map")
         .about("Prints each character's glyph number and advance in font units")
         .after_help("A TEXT that begins with '-' goes after '--':\n  tt_render map FONT -- -text")
+        .arg(face(alloc))?
         .arg(font(alloc))?
         .arg(text(alloc).required(true))
+}
+
+fn faces_command<'a>(alloc: Global) -> Result<Command<'a>, AllocError> {
+    Command::new(alloc, "faces")
+        .about("Prints how many faces a file has, and the glyphs, units per em and name of each")
+        .arg(font(alloc))
 }
 
 fn font<'a>(alloc: Global) -> Arg<'a> {
@@ -135,6 +146,14 @@ fn fit<'a>(alloc: Global) -> Arg<'a> {
              none      not at all; outlines are scaled\n\
              full      by the strict rules alone",
         )
+}
+
+fn face<'a>(alloc: Global) -> Arg<'a> {
+    Arg::new(alloc, "face")
+        .long("face")
+        .value_name("N")
+        .value_parser(value_parser!(u32))
+        .help("The face of the file, counted from 0; 'faces' lists them")
 }
 
 fn missing<'a>(alloc: Global) -> Arg<'a> {

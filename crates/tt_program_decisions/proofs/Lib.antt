@@ -1,1 +1,3 @@
+mod FaceCalls
+mod FaceTexts
 pub mod Statuses

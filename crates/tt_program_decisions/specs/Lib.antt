@@ -1,3 +1,4 @@
+pub mod FaceLines
 pub mod Requests
 pub mod Stops
 pub mod Telling

@@ -1,9 +1,11 @@
 -- No part of the standard: the requests of the program's command lines, and their performance.
 use Rattle.std.specs.Prelude.{◌≡◌, ℕ, Bool, true, false, List, codes, Option, Some, None, if◌then◌else◌, ⊤}
 use Rattle.std.specs.Str.{bytes_eq}
+use Rattle.tt_core.specs.declared.collection.Reading.{Reading}
+use Rattle.tt_core.specs.declared.collection.Reading.TheVariants as reading
 use Rattle.tt_fit.specs.declared.programs.Fit.{Fit}
 use Rattle.tt_fit.specs.declared.programs.Fit.TheVariants as fit
-use Rattle.tt_face.specs.Files.{IsFaceDefect}
+use Rattle.tt_face.specs.Files.{IsFaceDefectBy}
 use Rattle.tt_strike.specs.Defects.{IsRunDefect}
 use Rattle.tt_render.specs.declared.setting.Missing.{Missing}
 use Rattle.tt_render.specs.declared.setting.Missing.TheVariants as missing
@@ -12,10 +14,12 @@ use Rattle.tt_render.specs.declared.setting.Setting.{Setting}
 use Rattle.tt_render.specs.LinesDefects.{LinesTellDefectsOf}
 use Rattle.tt_render_run.specs.MapLines.{map_wanted}
 use Rattle.tt_render_run.specs.Outcome.{Traffic}
+use Rattle.tt_render.specs.Readings.{fit_reading, reading_asked}
 use Rattle.tt_render.specs.Settings.{job_by}
 use Rattle.tt_render.specs.TextsOutcome.{FontLinesGive, FontTextGives, TextTellsDefectsOf, reader_in}
 use Rattle.tt_program_decisions.specs.declared.request.Request.{Request}
-use Rattle.tt_program_decisions.specs.declared.request.Request.TheVariants.{Map, Text, Lines}
+use Rattle.tt_program_decisions.specs.declared.request.Request.TheVariants.{Map, Faces, Text, Lines}
+use Rattle.tt_program_decisions.specs.FaceLines.{IsFacesDefect, faces_wanted}
 use Rattle.tt_render.specs.Printing.{Errors}
 use Rattle.tt_program_decisions.specs.Telling.{Does, DoesTexts}
 
@@ -39,41 +43,50 @@ abbrev pub glyphs_kept : ℕ
 glyphs_kept = 4194304
 
 -- a setting with this way to fit and this treatment of missing glyphs, where both names are known
-abbrev pub setting_named : ℕ → ℕ → Option Fit → Option Missing → Bool → Product → Option Setting
-setting_named size margin (Some f) (Some m) grows wanted = Some (record {
+abbrev pub setting_named : ℕ → ℕ → Option Fit → Option Missing → Bool → Option ℕ → Product → Option Setting
+setting_named size margin (Some f) (Some m) grows face wanted = Some (record {
   ppem = size;
   margin = margin;
   fit = f;
+  reading = reading_asked face (fit_reading f);
   missing = m;
   grow = grows;
   product = wanted;
   most = glyphs_kept;
 })
-setting_named size margin f m grows wanted = None
+setting_named size margin f m grows face wanted = None
 
--- `--size SIZE --margin MARGIN --fit FIT --missing MISSING`, and whether there is `--grow`; options may be absent
+-- `--size SIZE --margin MARGIN --fit FIT --missing MISSING`, whether there is `--grow`, and `--face FACE`; options may be
+-- absent
 abbrev pub options_asked
-    : Option ℕ → Option ℕ → Option (List ℕ) → Option (List ℕ) → Bool → Product → Option Setting
-options_asked (Some size) (Some margin) (Some how) (Some what) grows wanted =
-    setting_named size margin (fit_named how) (missing_named what) grows wanted
-options_asked size margin how what grows wanted = None
+    : Option ℕ → Option ℕ → Option (List ℕ) → Option (List ℕ) → Bool → Option ℕ → Product → Option Setting
+options_asked (Some size) (Some margin) (Some how) (Some what) grows face wanted =
+    setting_named size margin (fit_named how) (missing_named what) grows face wanted
+options_asked size margin how what grows face wanted = None
 
--- The requests, each with its font: the lines that map a text; the product of a text with a setting; the products of the
--- lines of standard input.
+-- The requests, each with its font: the lines that map a text; the lines of the file's faces; the product of a text with
+-- a setting; the products of the lines of standard input.
 pub data Asked : Type 0 where
-  map_text : List ℕ → List ℕ → Asked
+  map_text : List ℕ → List ℕ → Reading → Asked
+  tell_faces : List ℕ → Asked
   draw_text : List ℕ → List ℕ → Setting → Asked
   draw_lines : List ℕ → Setting → Asked
 
 abbrev pub asked_of : Request → Asked
-asked_of (Map font text) = map_text font.now text.now
+asked_of (Map font text r) = map_text font.now text.now r
+asked_of (Faces font) = tell_faces font.now
 asked_of (Text font text setting) = draw_text font.now text.now setting
 asked_of (Lines font setting) = draw_lines font.now setting
 
--- `map FONT TEXT`; words may be absent
-abbrev pub map_asked : Option (List ℕ) → Option (List ℕ) → Option Asked
-map_asked (Some font) (Some text) = Some (map_text font text)
-map_asked font text = None
+-- `map [--face FACE] FONT TEXT`; words may be absent
+abbrev pub map_asked : Option (List ℕ) → Option (List ℕ) → Option ℕ → Option Asked
+map_asked (Some font) (Some text) face = Some (map_text font text (reading_asked face reading.Strict))
+map_asked font text face = None
+
+-- `faces FONT`; the word may be absent
+abbrev pub faces_asked : Option (List ℕ) → Option Asked
+faces_asked (Some font) = Some (tell_faces font)
+faces_asked None = None
 
 -- `draw OPTION.. FONT TEXT`, or with standard input's lines `draw OPTION.. --lines FONT`; words and options may be
 -- absent
@@ -87,9 +100,15 @@ abbrev pub AsksSetting
     : (List ℕ → Option (List ℕ)) → (List ℕ → Option ℕ → Type 0) → (List ℕ → Bool → Type 0) → Product
     → Option Setting → Type 0
 AsksSetting text IsNumber IsFlag wanted answer =
-    (size margin : Option ℕ) × (grows : Bool) × IsNumber (codes "size") size × IsNumber (codes "margin") margin
-    × IsFlag (codes "grow") grows
-    × (answer ≡ options_asked size margin (text (codes "fit")) (text (codes "missing")) grows wanted)
+    (size margin face : Option ℕ) × (grows : Bool) × IsNumber (codes "size") size × IsNumber (codes "margin") margin
+    × IsNumber (codes "face") face × IsFlag (codes "grow") grows
+    × (answer ≡ options_asked size margin (text (codes "fit")) (text (codes "missing")) grows face wanted)
+
+-- the request of `map` by its arguments
+abbrev pub AsksMap : (List ℕ → Option (List ℕ)) → (List ℕ → Option ℕ → Type 0) → Option Asked → Type 0
+AsksMap text IsNumber answer =
+    (face : Option ℕ) × IsNumber (codes "face") face
+    × (answer ≡ map_asked (text (codes "FONT")) (text (codes "TEXT")) face)
 
 -- the request of `draw`, or of `measure`, by its arguments
 abbrev pub AsksDrawing
@@ -102,19 +121,21 @@ AsksDrawing text IsNumber IsFlag wanted answer =
 
 -- the path of a request's font
 abbrev pub font_of : Request → List ℕ
-font_of (Map font text) = font.now
+font_of (Map font text r) = font.now
+font_of (Faces font) = font.now
 font_of (Text font text setting) = font.now
 font_of (Lines font setting) = font.now
 
--- a request is performed and reported: the contract of its call holds for some answer. For the lines that map a text:
--- the bytes to write for a font file, and the defects for which it is refused. The second traffic is that of standard
--- input, and of the writer again
+-- a request is performed and reported: the contract of its call holds for some answer. For the lines that map a text, or
+-- tell faces: the bytes to write for a font file, and the defects for which it is refused. The second traffic is that of
+-- standard input, and of the writer again
 abbrev pub Performs : Request → Traffic → Traffic → Errors → ℕ → Type 0
-Performs (Map font text) t lines e status =
-    Does (map_wanted text.now) IsFaceDefect t e status
+Performs (Map font text r) t lines e status =
+    Does (map_wanted r text.now) (λ file. IsFaceDefectBy file r) t e status
+Performs (Faces font) t lines e status = Does faces_wanted IsFacesDefect t e status
 Performs (Text font text setting) t lines e status =
     DoesTexts {V = Unit {0}} (λ answer told. FontTextGives setting text.now answer t told
-    × TextTellsDefectsOf t.left_before (IsRunDefect (job_by setting text.now)) answer) e status
+    × TextTellsDefectsOf t.left_before (IsRunDefect setting.reading (job_by setting text.now)) answer) e status
 Performs (Lines font setting) t lines e status =
     DoesTexts {V = ℕ} (λ answer told. FontLinesGive setting answer (reader_in t) lines told
     × LinesTellDefectsOf t.left_before setting lines.left_before answer) e status

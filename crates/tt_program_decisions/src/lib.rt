@@ -1,6 +1,7 @@
 //! The program's decisions: the request of a command line, and the exit status and line of each end.
 #![tactic(auto)]
 
+mod faces;
 mod performing;
 mod request;
 mod stopping;

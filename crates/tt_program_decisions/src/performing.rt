@@ -5,6 +5,7 @@ ghost use Rattle.tt_program_decisions.specs.Requests.{Performs, UnlessLines};
 ghost use Rattle.tt_render_run.specs.Outcome.{traffic_of};
 ghost use Rattle.tt_render.specs.Printing.{errors_of};
 
+use crate::faces::faces;
 use crate::request::Request;
 use crate::telling::tell;
 use crate::telling_texts::tell_texts;
@@ -31,9 +32,13 @@ pub fn perform<R: Source, L: Source, W: Sink, E: Sink>(
     ensures lines { UnlessLines request.now (lines.new ≡ lines.old) }
 {
     match request {
-        Request::Map { text, .. } => {
-            let mapped = tt_render::map(alloc, font, text, out);
+        Request::Map { text, reading, .. } => {
+            let mapped = tt_render::map(alloc, font, text, out, *reading);
             tell(alloc, &mapped, error)
+        }
+        Request::Faces { .. } => {
+            let told = faces(alloc, font, out);
+            tell(alloc, &told, error)
         }
         Request::Text { text, setting, .. } => {
             let drawn = tt_render::draw_text(alloc, font, out, error, text, setting);

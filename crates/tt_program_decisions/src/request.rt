@@ -2,10 +2,11 @@
 
 ghost use Rattle.std.specs.Prelude.{◌≡◌, ◌≢◌, ℕ, Bool, List, Option, None, codes, option_map};
 ghost use Rattle.tt_render.specs.declared.setting.Product.TheVariants.{Measure, Picture};
-ghost use Rattle.tt_program_decisions.specs.Requests.{AsksDrawing, AsksSetting, asked_of, fit_named, font_of, map_asked, missing_named};
+ghost use Rattle.tt_program_decisions.specs.Requests.{AsksDrawing, AsksMap, AsksSetting, asked_of, faces_asked, fit_named, font_of, missing_named};
 
+use tt_core::Reading;
 use tt_fit::Fit;
-use tt_render::{Missing, Product, Setting};
+use tt_render::{Missing, Product, Setting, fit_reading, reading_asked};
 
 /// The request of a command line.
 #[derive(Clone, Copy)]
@@ -14,6 +15,11 @@ pub enum Request<'a> {
     Map {
         font: &'a str,
         text: &'a str,
+        reading: Reading,
+    },
+    /// Write the number of the font file's faces, and a line for each.
+    Faces {
+        font: &'a str,
     },
     /// Draw a line of text, or report its measures.
     Text {
@@ -34,8 +40,10 @@ impl<'a> Request<'a> {
         ensures { result.now ≡ font_of self.now }
     {
         match self {
-            Request::Map { font, .. } | Request::Text { font, .. } | Request::Lines { font, .. } =>
-                font,
+            Request::Map { font, .. }
+            | Request::Faces { font }
+            | Request::Text { font, .. }
+            | Request::Lines { font, .. } => font,
         }
     }
 }
@@ -67,13 +75,15 @@ pub trait Arguments<'a> {
 /// The request of a subcommand with these arguments. None where the subcommand is unknown, an argument is absent, or a
 /// text accompanies standard input's lines. None also for an unknown way to fit or treatment of missing glyphs.
 pub fn request_of<'a, A: Arguments<'a>>(subcommand: &str, arguments: &A) -> Option<Request<'a>>
-    ensures map { subcommand.now ≡ codes "map" → option_map asked_of result ≡ map_asked (A.text arguments.now (codes "FONT")) (A.text arguments.now (codes "TEXT")) }
+    ensures map { subcommand.now ≡ codes "map" → AsksMap (A.text arguments.now) (A.IsNumber arguments.now) (option_map asked_of result) }
+    ensures faces { subcommand.now ≡ codes "faces" → option_map asked_of result ≡ faces_asked (A.text arguments.now (codes "FONT")) }
     ensures draw { subcommand.now ≡ codes "draw" → AsksDrawing (A.text arguments.now) (A.IsNumber arguments.now) (A.IsFlag arguments.now) Picture (option_map asked_of result) }
     ensures measure { subcommand.now ≡ codes "measure" → AsksDrawing (A.text arguments.now) (A.IsNumber arguments.now) (A.IsFlag arguments.now) Measure (option_map asked_of result) }
-    ensures other { subcommand.now ≢ codes "map" → subcommand.now ≢ codes "draw" → subcommand.now ≢ codes "measure" → result ≡ None }
+    ensures other { subcommand.now ≢ codes "map" → subcommand.now ≢ codes "faces" → subcommand.now ≢ codes "draw" → subcommand.now ≢ codes "measure" → result ≡ None }
 {
     match subcommand {
-        "map" => map_of(arguments.text_for("FONT"), arguments.text_for("TEXT")),
+        "map" => map_of(arguments),
+        "faces" => faces_of(arguments.text_for("FONT")),
         "draw" => drawing_of(arguments, Product::Picture),
         "measure" => drawing_of(arguments, Product::Measure),
         _ => None,
@@ -110,22 +120,34 @@ fn drawing_of<'a, A: Arguments<'a>>(arguments: &A, product: Product) -> Option<R
     }
 }
 
-/// The request `map FONT TEXT`, where both words are present.
-fn map_of<'a>(font: Option<&'a str>, text: Option<&'a str>) -> Option<Request<'a>>
-    ensures { option_map asked_of result ≡ map_asked (option_map (λ s. s.now) font.entry) (option_map (λ s. s.now) text.entry) }
+/// The request `map [--face N] FONT TEXT`, where both words are present.
+fn map_of<'a, A: Arguments<'a>>(arguments: &A) -> Option<Request<'a>>
+    ensures { AsksMap (A.text arguments.now) (A.IsNumber arguments.now) (option_map asked_of result) }
 {
+    let font = arguments.text_for("FONT");
+    let text = arguments.text_for("TEXT");
+    let face = arguments.number_for("face");
     Some(Request::Map {
         font: font?,
         text: text?,
+        reading: reading_asked(face, Reading::Strict),
     })
+}
+
+/// The request `faces FONT`, where the word is present.
+fn faces_of<'a>(font: Option<&'a str>) -> Option<Request<'a>>
+    ensures { option_map asked_of result ≡ faces_asked (option_map (λ s. s.now) font.entry) }
+{
+    Some(Request::Faces { font: font? })
 }
 
 /// The limit of the cache of glyphs from line to line, in bytes. All letters of a Latin font at the largest size fit,
 /// and some thousand glyphs at a usual one.
 pub const GLYPHS_KEPT: usize = 4_194_304;
 
-/// The setting of `--size SIZE --margin MARGIN --fit FIT --missing MISSING` for a product, where all are present. None
-/// where the name of the way to fit, or of the treatment of missing glyphs, is unknown.
+/// The setting of `--size SIZE --margin MARGIN --fit FIT --missing MISSING` for a product, where all are present, and of
+/// `--face FACE`, which may be absent. None where the name of the way to fit, or of the treatment of missing glyphs, is
+/// unknown.
 fn setting_of<'a, A: Arguments<'a>>(arguments: &A, product: Product) -> Option<Setting>
     ensures { AsksSetting (A.text arguments.now) (A.IsNumber arguments.now) (A.IsFlag arguments.now) product result }
 {
@@ -134,14 +156,20 @@ fn setting_of<'a, A: Arguments<'a>>(arguments: &A, product: Product) -> Option<S
     let fit = arguments.text_for("fit");
     let missing = arguments.text_for("missing");
     let grow = arguments.is_set("grow");
-    Some(Setting {
+    let face = arguments.number_for("face");
+    let strict = Setting {
         ppem: size?,
         margin: margin?,
         fit: fit_named(fit?)?,
+        reading: Reading::Strict,
         missing: missing_named(missing?)?,
         grow,
         product,
         most: GLYPHS_KEPT,
+    };
+    Some(Setting {
+        reading: reading_asked(face, fit_reading(strict.fit)),
+        ..strict
     })
 }
 

@@ -2,7 +2,8 @@ pub mod DrawnLines
 mod StoppedLines
 pub mod HeldLines
 pub mod Printed
-mod FontLines
+pub mod FirstFaces
+pub mod FontLines
 mod MeasureLines
 mod DefectLines
 mod OneText

@@ -4,6 +4,7 @@ pub mod LinesDefects
 pub mod MeasureText
 pub mod Printing
 pub mod Products
+pub mod Readings
 pub mod Reports
 pub mod RunLaws
 pub mod Settings

@@ -3,7 +3,7 @@ pub mod Files
 pub mod Calls
 pub mod Sent
 pub mod Text
-mod Answered
+pub mod Answered
 mod Made
 mod Pieces
 pub mod Readings

@@ -7,7 +7,7 @@ use std::alloc::Global;
 use std::str;
 use tt_core::{Device, Reading};
 use tt_program_decisions::{DRAW, GLYPHS_KEPT, Request, fit_named, missing_named, perform};
-use tt_render::Setting;
+use tt_render::{Setting, fit_reading};
 use tt_test_words::Line;
 
 /// The font, and how it is read and the answer is taken.
@@ -49,7 +49,7 @@ impl Asked {
             lines_fail_at = size_in(line);
             missing = line.word();
         }
-        let mut request = Request::Map { font: "", text };
+        let mut request = map_of(text);
         if question != "map" {
             let Some(setting) = setting_in(line, missing) else {
                 line.refuse("no such way to fit, or to take missing characters");
@@ -99,6 +99,14 @@ impl Asked {
             }
         }
         font
+    }
+}
+
+fn map_of<'t>(text: &'t str) -> Request<'t> {
+    Request::Map {
+        font: "",
+        text,
+        reading: Reading::Strict,
     }
 }
 
@@ -159,6 +167,6 @@ fn setting_in(line: &mut Line, missing: &str) -> Option<Setting> {
     Some(Setting {
         missing: missing_named(missing)?,
         most: GLYPHS_KEPT,
-        ..Setting::plain(size, margin, fit, Reading::Strict)
+        ..Setting::plain(size, margin, fit, fit_reading(fit))
     })
 }

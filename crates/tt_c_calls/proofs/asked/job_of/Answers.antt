@@ -1,19 +1,28 @@
-use Rattle.std.proofs.Common.{◌≡◌, ℕ, List, Ok, refl}
+use Rattle.std.proofs.Common.{◌≡◌, ◌∙◌, ap, ℕ, List, Ok, refl}
+use Rattle.tt_core.specs.declared.collection.Reading.{Reading}
 use Rattle.tt_fit.specs.declared.programs.Fit.{Fit}
 use Rattle.tt_render.specs.declared.setting.Setting.{Setting}
 use Rattle.tt_render.specs.Settings.{job_by, plain_setting}
 use Rattle.tt_strike.specs.Job.{Job}
 use Rattle.tt_c_calls.specs.declared.asked.CJob.{CJob}
-use Rattle.tt_c_calls.specs.Asked.{asked, fit_asked, text_asked}
+use Rattle.tt_c_calls.specs.Asked.{asked, fit_asked, job_reading, text_asked}
 use Rattle.tt_c_calls.proofs.asked.job_of.Goals as goal
 
 -- a plain setting makes the requested job
-asked_is : (j : CJob) (text t : List ℕ) (how : Fit) (s : Setting) (a : Job) → fit_asked j.fit ≡ Ok how
-    → text_asked text ≡ Ok t → s ≡ plain_setting j.size j.margin how → a ≡ job_by s t → asked j text ≡ Ok a
+asked_is : (j : CJob) (text t : List ℕ) (how : Fit) (r : Reading) (s : Setting) (a : Job) → fit_asked j.fit ≡ Ok how
+    → text_asked text ≡ Ok t → s ≡ plain_setting j.size j.margin how r → a ≡ job_by s t → asked j text ≡ Ok a
 unfolding asked
-asked_is j text t how s a fits is_text plain made = rw (fits, is_text, made, plain) refl
+asked_is j text t how r s a fits is_text plain made = rw (fits, is_text, made, plain) refl
 
-pub returns : goal.returns
-returns c =
-    asked_is c.args.job.now c.args.text.now c.in_ok-text.text.now c.in_ok-fit.fit c.plain.result _ c.in_ok-fit.ensures.exact
-    c.in_ok-text.ensures.exact c.plain.ensures c.job.ensures
+pub returns-clause-exact : goal.returns-clause-exact
+returns-clause-exact c =
+    asked_is c.args.job.now c.args.text.now c.in_ok-text.text.now c.in_ok-fit.fit _ c.plain.result _ c.in_ok-fit.ensures.exact
+    c.in_ok-text.ensures.exact c.plain.ensures c.job.ensures.exact
+
+pub returns-clause-reading : goal.returns-clause-reading
+returns-clause-reading c =
+    let fit : c.job.result.fit ≡ c.in_ok-fit.fit =
+    ap (λ (a : Job). a.fit) c.job.ensures.exact ∙ ap (λ (s : Setting). s.fit) c.plain.ensures in
+    let reading : c.job.result.reading ≡ job_reading c.args.job.now c.in_ok-fit.fit =
+    c.job.ensures.reading ∙ ap (λ (s : Setting). s.reading) c.plain.ensures ∙ c.reading.ensures in
+    rw fit reading

@@ -1,0 +1,18 @@
+-- The lines of one more face, and a name behind a blank.
+use Rattle.std.proofs.Common.{◌≡◌, ℕ, suc, ◌+◌, zero, List, [], ◌∷◌, ◌++◌, flat_map, ap, ◌∙◌, refl, arith}
+use Rattle.std.proofs.lemmas.List.{flat_map_more}
+use Rattle.std.specs.List.{range_with_len}
+
+more-from : (a n j : ℕ) → a + n ≡ j → range_with_len a (suc n) ≡ range_with_len a n ++ j ∷ []
+more-from a zero j is = let same : a ≡ j = omega (arith, is) in ap (λ k. k ∷ []) same
+more-from a (suc n) j is = ap (λ ks. a ∷ ks) (more-from (a + 1) n j (omega (arith, is)))
+
+range-more : (n : ℕ) → range_with_len 0 (n + 1) ≡ range_with_len 0 n ++ n ∷ []
+range-more n = let next : n + 1 ≡ suc n = omega arith in
+    ap (range_with_len 0) next ∙ more-from 0 n n (omega arith)
+
+-- the lines up to one more face
+pub lines-more : (line : ℕ → List ℕ) (head : List ℕ) (n : ℕ) → (head ++ flat_map line (range_with_len 0 n)) ++ line n
+    ≡ head ++ flat_map line (range_with_len 0 (n + 1))
+lines-more line head n = flat_map_more line head (range_with_len 0 n) n
+    ∙ ap (λ ns. head ++ flat_map line ns) (rw (range-more n) refl)
