@@ -64,10 +64,10 @@ def run(words, font):
     return ran.returncode, ran.stdout, ran.stderr
 
 
-def why_not_drawn(font, face, fit, refused):
+def why_not_drawn(font, face, fit, refused, text=TEXT):
     """Says what is wrong with a picture of a font, or with the refusal of it, or returns None."""
     words = ["draw", "--size", "16", "--fit", fit, "--face", str(face)]
-    got = run((words, [TEXT]), font)
+    got = run((words, [text]), font)
     if refused[0]:
         return None if got == refused else f"{fit} has {got[0]} {got[2]!r}, and not {refused[2]!r}"
     if got[0] and b": 4 TableRange" in got[2]:
