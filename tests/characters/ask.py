@@ -1,6 +1,6 @@
 """Asks the program for the glyphs of characters, and compares its lines with those of plain.py, and those of the real
-fonts with what fontTools and FreeType read, too. `run` calls it with the path of the program and the part that is asked, and says at
-its head what the parts are.
+fonts with what fontTools and FreeType read, too. `run` calls it with the path of the program and the part that is
+asked, and says at its head what the parts are.
 
 Prints a line for each font, `PASSED FAILED NAME`, with numbers of characters, and behind it lines that begin with two
 blanks, which say what was other.
@@ -177,7 +177,7 @@ def compare_block(name, program, words, path, block, wanted):
     if count == len(characters) and not ran.stderr and not ran.returncode and got == wanted:
         return len(characters)
     print(0, len(characters), name, path)
-    print(f"  U+{block:04X} and more: wanted {wanted}, got {got}, {ran.stderr[:200].decode(errors='replace').strip()}")
+    print(f"  U+{block:04X} and more: wanted {wanted}, got {got}, {ran.stderr[:200]!r}")
     known = wide.Map(table_of(path, words), 0x10000)
     others = [it for it in lines if int(it.split()[1]) != known.glyph(int(it.split()[0][2:], 16))]
     print(*[f"  other than by the plain search: {it.decode()}" for it in others[:3]], sep="\n", end="\n" * bool(others))

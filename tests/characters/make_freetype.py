@@ -20,8 +20,8 @@ HERE = pathlib.Path(__file__).parent
 FONTS = pathlib.Path("/usr/share/fonts/truetype")
 HEAD = """\
 # Written by make_freetype.py: a line `font MD5 FACE KIND PATH`, where FACE is a number, or `-` of a font alone; KIND is
-# `symbol` where FreeType chose no map itself. Then one line for each 4,096 characters that have glyphs: the first of the
-# characters, how many of them have a glyph, and the CRC-32 of their lines, which are those of `map` without advances."""
+# `symbol` where FreeType chose no map itself. Then one line for each 4,096 characters that have glyphs: the first of
+# the characters, how many of them have a glyph, and the CRC-32 of their lines, those of `map` without advances."""
 # Of Noto each so many fonts in their order.
 OF_NOTO = 6
 CHOSEN = """dejavu/DejaVuSans dejavu/DejaVuSans-Bold dejavu/DejaVuSansMono dejavu/DejaVuSansMono-Bold dejavu/DejaVuSerif

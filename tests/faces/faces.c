@@ -5,8 +5,8 @@
  *   faces FONT
  *   draw FONT FACE TEXT FIT
  *
- * FONT is a file, without blanks in its name, FACE a number, or `strict`. TEXT has hexadecimal digits, or is "-" where it
- * is empty; FIT is a number of the header. An answer is what the program writes, with '/' behind each line, but that
+ * FONT is a file, without blanks in its name, FACE a number, or `strict`. TEXT has hexadecimal digits, or is "-" where
+ * it is empty; FIT is a number of the header. An answer is what the program writes, with '/' behind each line, but that
  * `faces` has no names; for `draw` at 16 pixels per em it is the picture in hexadecimal. A refusal is "refused" and the
  * program's line. */
 #include <inttypes.h>

@@ -53,8 +53,8 @@ def directory_of(font, farther):
 
 
 def collection_of(fonts, version=1):
-    """Returns a collection of fonts, and where their directories are: a header, which has three words more in version 2,
-    all directories, then all bytes behind the directories."""
+    """Returns a collection of fonts, and where their directories are: a header, which has three words more in version
+    2, all directories, then all bytes behind the directories."""
     sizes = [12 + 16 * struct.unpack_from(">H", it, 4)[0] for it in fonts]
     first = 12 + 4 * len(fonts) + 12 * (version == 2)
     places = [first + sum(sizes[:it]) for it in range(len(fonts))]

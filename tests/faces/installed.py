@@ -69,7 +69,8 @@ def try_face(asked, path, number, count):
         drawn = lambda way: asked.run(["draw", *shape, *way[0], "--lines"], way[1], stdin=lines)
         strict, *others = asked.pool.map(drawn, [([], own), *ways])
         try_lines(name, strict, zip(("in the collection", "as face 0", "without a face"), others))
-        strict, *others = asked.pool.map(lambda way: asked.run(["measure", *shape, *way[0]], way[1], text), [([], own), *ways])
+        measured = lambda way: asked.run(["measure", *shape, *way[0]], way[1], text)
+        strict, *others = asked.pool.map(measured, [([], own), *ways])
         first = b"face %d %d\n" % (number, count)
         for (_, file), got in zip(ways, others):
             common.tried(f"{name}, measured in {file.name}", got, (0, first * (file == path) + strict[1], strict[2]))

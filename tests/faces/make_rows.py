@@ -15,13 +15,13 @@ from fonts import changed, tables_of, with_cmap
 
 HEAD = """\
 # Answers of `map`, `map --face` and `faces` for small fonts, values by another program, an independent model that was
-# written from the rules alone. Made by make_rows.py, and run by the script beside it. Two lines name the test font and a
-# collection of two faces, in words as below. Then one row a line:
+# written from the rules alone. Made by make_rows.py, and run by the script beside it. Two lines name the test font and
+# a collection of two faces, in words as below. Then one row a line:
 #   NAME|FONT|CALL|FACE|TEXT|ANSWER
-# FONT is `font`, `font` and a cmap that it has in place of its own, or `collection`. After `collection` come `cut:N` for
-# its first N bytes, and AT=BYTES for other bytes at a place. A cmap is bytes in hexadecimal words, where XX*N stands for
-# N times the byte XX. FACE is `strict` without --face. TEXT has code points. ANSWER is the lines of standard output, with
-# `/` behind each, or after `refused` the line on standard error.
+# FONT is `font`, `font` and a cmap that it has in place of its own, or `collection`. After `collection` come `cut:N`
+# for its first N bytes, and AT=BYTES for other bytes at a place. A cmap is bytes in hexadecimal words, where XX*N stands
+# for N times the byte XX. FACE is `strict` without --face. TEXT has code points. ANSWER is the lines of standard output,
+# with `/` behind each, or after `refused` the line on standard error.
 """
 
 

@@ -225,7 +225,8 @@ def measures(asked, font, collection):
         for number, width in enumerate((b"4", b"8")):
             own = asked.run(words, asked.file(alone(collection, number)), "AB")
             letter = [it.split()[:4] for it in own[1].splitlines() if it.startswith(b"U+0041 ")]
-            common.verdict(f"width of face {number} with {fit}", [str(own)] * (letter != [[b"U+0041", b"1", b"0", width]]))
+            good = letter == [[b"U+0041", b"1", b"0", width]]
+            common.verdict(f"width of face {number} with {fit}", [] if good else [str(own)])
             same = asked.run([*words, "--face", "0"], asked.file(alone(collection, number)), "AB")
             common.tried(f"measure of a font's face with {fit}", same, own)
             got = asked.run([*words, "--face", str(number)], file, "AB")

@@ -1,6 +1,6 @@
 """Collections of real fonts with a character map for the wide reading, and changed bytes in header, directory and map.
-tt_render is asked: `map` and `faces` answer by the rules of ../damaged/face.py, `draw` by a picture or a refusal that may
-stand there."""
+tt_render is asked: `map` and `faces` answer by the rules of ../damaged/face.py, `draw` by a picture or a refusal that
+may stand there."""
 import random
 import struct
 import sys
@@ -25,7 +25,7 @@ def longs(*numbers):
 
 
 def trimmed(glyphs, head):
-    """Returns what begins with the first code and the number of codes, by `head`, and the glyphs of all codes between."""
+    """Returns what begins with the first code and the number of codes, by `head`, and the glyphs of these codes."""
     first, last = min(glyphs), max(glyphs)
     return head(first, last + 1 - first) + words(*(glyphs.get(it, 0) for it in range(first, last + 1)))
 
@@ -121,7 +121,8 @@ class Collected:
         data = bytearray(self.file)
         start, length = tables_of(self.file, directory)[b"cmap"]
         for _ in range(dice.choice([0, 1, 1, 2, 3, 9])):
-            first, size = dice.choice([(0, 20), (directory, 12 + 16 * 10), *[(start, length), (start, min(60, length))] * 4])
+            parts = [(start, length), (start, min(60, length))] * 4
+            first, size = dice.choice([(0, 20), (directory, 12 + 16 * 10), *parts])
             at = first + dice.randrange(size)
             data[at] = dice.choice([0, 0xFF, 1, 0x7F, 0x80, data[at] ^ 1 << dice.randrange(8), dice.randrange(256)])
         self.file = bytes(data)
