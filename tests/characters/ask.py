@@ -157,18 +157,19 @@ def ask_real(program, room):
 
 def freetype():
     """Yields each font of freetype.txt: its sum, its face or None, the kind of its map, its path, and for the first of
-    4,096 characters how many have a glyph, and the sum of their lines."""
+    4,096 characters, or for `pairs`, how many have a glyph, and the sum of their lines."""
     for part in (HERE / "freetype.txt").read_text(encoding="utf-8").split("\nfont ")[1:]:
         first, *blocks = part.splitlines()
         md5, face, kind, path = first.split()
         words = (it.split() for it in blocks)
-        yield md5, None if face == "-" else face, kind, path, {int(at, 16): (int(n), crc) for at, n, crc in words}
+        yield md5, None if face == "-" else face, kind, path, {at: (int(n), crc) for at, n, crc in words}
 
 
 def compare_block(name, program, words, path, block, wanted):
     """Compares the lines of characters that have glyphs, all 4,096 by their sum, and where that is another names some
     others by wide.py."""
-    characters = [it for it in range(max(block, 1), block + 4096) if it not in SURROGATES and not wide.is_selector(it)]
+    first = int(block, 16)
+    characters = [it for it in range(max(first, 1), first + 4096) if it not in SURROGATES and not wide.is_selector(it)]
     text = "".join(map(chr, characters)).encode()
     ran = subprocess.run([program, "map", *words, "--", path, text], stdin=subprocess.DEVNULL, capture_output=True)
     lines = re.findall(rb"^(U\+\w+ [1-9]\d*) \d+\n", ran.stdout, re.M)
@@ -177,10 +178,25 @@ def compare_block(name, program, words, path, block, wanted):
     if count == len(characters) and not ran.stderr and not ran.returncode and got == wanted:
         return len(characters)
     print(0, len(characters), name, path)
-    print(f"  U+{block:04X} and more: wanted {wanted}, got {got}, {ran.stderr[:200]!r}")
+    print(f"  U+{block} and more: wanted {wanted}, got {got}, {ran.stderr[:200]!r}")
     known = wide.Map(table_of(path, words), 0x10000)
     others = [it for it in lines if int(it.split()[1]) != known.glyph(int(it.split()[0][2:], 16))]
     print(*[f"  other than by the plain search: {it.decode()}" for it in others[:3]], sep="\n", end="\n" * bool(others))
+    return 0
+
+
+def compare_pairs(name, program, words, path, wanted):
+    """Compares the lines of characters with a selector, all of a font by their sum."""
+    pairs, lines = list(wide.Map(table_of(path, words), 0x10000).pairs()), []
+    for at in range(0, len(pairs), MOST // 2):
+        text = "".join(chr(it) for pair in pairs[at : at + MOST // 2] for it in pair).encode()
+        ran = subprocess.run([program, "map", *words, "--", path, text], stdin=subprocess.DEVNULL, capture_output=True)
+        lines += re.findall(rb"^(U\+\w+ U\+\w+ [1-9]\d*) \d+\n", ran.stdout, re.M)
+    got = len(lines), f"{zlib.crc32(b''.join(it + bytes([10]) for it in lines)):08x}"
+    if got == wanted:
+        return len(pairs)
+    print(0, len(pairs), name, path)
+    print(f"  characters with selectors: wanted {wanted}, got {got}")
     return 0
 
 
@@ -201,7 +217,10 @@ def ask_wide(program, _):
         else:
             for words in readings:
                 told = f"{name}, {' '.join(words) or 'strict'}"
-                good = [compare_block(told, program, words, path, *it) for it in blocks.items()]
+                pairs = [it for block, it in blocks.items() if block == "pairs" and words]
+                good = [compare_pairs(told, program, words, path, it) for it in pairs]
+                of_characters = [it for it in blocks.items() if it[0] != "pairs"]
+                good += [compare_block(told, program, words, path, *it) for it in of_characters]
                 print(sum(good), 0, told, path)
 
 

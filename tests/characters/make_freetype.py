@@ -1,9 +1,9 @@
 #!/usr/bin/env python3
-"""Makes freetype.txt: the glyphs of all characters of 60 fonts, of four of Wine and of each face of collections, by
-FreeType, which shares no code with tt_render. Of Wine three have symbol maps alone.
+"""Makes freetype.txt: the glyphs of all characters of 60 fonts, of four of Wine, of one with selectors of variations, and
+of each face of collections, by FreeType, which shares no code with tt_render. Of Wine three have symbol maps alone.
 
   apt-get install fonts-dejavu-core fonts-liberation fonts-liberation2 fonts-freefont-ttf fonts-lato fonts-noto-core \\
-    fonts-open-sans fonts-croscore fonts-wine fonts-wqy-microhei fonts-wqy-zenhei fonts-arphic-uming \\
+    fonts-open-sans fonts-croscore fonts-wine fonts-ipamj-mincho fonts-wqy-microhei fonts-wqy-zenhei fonts-arphic-uming \\
     fonts-arphic-ukai libfreetype-dev pkg-config
   /usr/bin/python3 tests/characters/make_freetype.py > tests/characters/freetype.txt
 
@@ -21,7 +21,8 @@ FONTS = pathlib.Path("/usr/share/fonts/truetype")
 HEAD = """\
 # Written by make_freetype.py: a line `font MD5 FACE KIND PATH`, where FACE is a number, or `-` of a font alone; KIND is
 # `symbol` where FreeType chose no map itself. Then one line for each 4,096 characters that have glyphs: the first of
-# the characters, how many of them have a glyph, and the CRC-32 of their lines, those of `map` without advances."""
+# the characters, how many of them have a glyph, and the CRC-32 of their lines, those of `map` without advances. A line
+# `pairs` has the same of characters with a selector, ordered by the selectors."""
 # Of Noto each so many fonts in their order.
 OF_NOTO = 6
 CHOSEN = """dejavu/DejaVuSans dejavu/DejaVuSans-Bold dejavu/DejaVuSansMono dejavu/DejaVuSansMono-Bold dejavu/DejaVuSerif
@@ -43,7 +44,14 @@ def fonts():
     chosen += noto[::OF_NOTO][: COUNT - len(chosen)]
     yield from ((it, None) for it in chosen)
     yield from ((pathlib.Path(f"/usr/share/wine/fonts/{it}.ttf"), None) for it in WINE)
+    yield FONTS / "ipamj/ipamjm.ttf", None
     yield from ((FONTS / path, count) for path, count in COLLECTIONS)
+
+
+def block_of(line):
+    """Returns the first of the 4,096 characters that a line's is one of, or `pairs`."""
+    character, *others = line.split()
+    return "pairs" if len(others) > 1 else f"{int(character[2:], 16) & ~0xFFF:04X}"
 
 
 def compiled(program):
@@ -63,11 +71,10 @@ def main():
                 said = subprocess.run([program, path, str(face)], stdout=subprocess.PIPE, text=True, check=True).stdout
                 kind, *lines = said.splitlines()
                 print("font", sum, "-" if count is None else face, kind, path)
-                block = lambda it: int(it.split()[0][2:], 16) >> 12
-                for number, part in itertools.groupby(lines, block):
+                for block, part in itertools.groupby(lines, block_of):
                     part = list(part)
                     text = "".join(f"{it}\n" for it in part)
-                    print(f"{number << 12:04X} {len(part)} {zlib.crc32(text.encode()):08x}")
+                    print(f"{block} {len(part)} {zlib.crc32(text.encode()):08x}")
 
 
 main()

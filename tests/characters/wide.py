@@ -181,6 +181,22 @@ class Map:
         found = reached(count, lambda it: last(it) >= character)
         return found < count and number(self.cmap, ranges + 4 * found, 3) <= character
 
+    def pairs(self):
+        """Yields each character with a selector that format 14 has, ordered by the selectors."""
+        records, count = self.there(self.variations + 6, 11, 4)
+        for record in range(records, records + 11 * count, 11):
+            selector, default, other = (number(self.cmap, record + at, size) for at, size in ((0, 3), (3, 4), (7, 4)))
+            found = []
+            if default:
+                at, ranges = self.there(self.variations + default, 4, 4)
+                for it in range(at, at + 4 * ranges, 4):
+                    start = number(self.cmap, it, 3)
+                    found += range(start, start + number(self.cmap, it + 3, 1) + 1)
+            if other:
+                at, entries = self.there(self.variations + other, 5, 4)
+                found += [number(self.cmap, it, 3) for it in range(at, at + 5 * entries, 5)]
+            yield from ((it, selector) for it in sorted(found))
+
     def of_unit(self, character, selector):
         """Returns the glyph of a character with a selector, or without one where that is 0."""
         if selector and self.variations is not None:
