@@ -81,6 +81,11 @@ class Tables:
     def advance(self, glyph):
         return unsigned(self.hmtx, 4 * min(glyph, self.pairs - 1))
 
+    def figures(self):
+        """Returns units per em, ascent, descent, the number of glyphs, and the line gap."""
+        ascent, descent, gap = struct.unpack_from(">3h", self.hhea, 4)
+        return self.em, ascent, descent, self.glyphs, gap
+
     def name(self):
         """Returns the full name: that of platform 3 and language 0409, else the first of platform 3."""
         try:

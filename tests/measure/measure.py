@@ -1,7 +1,6 @@
 """Boxes that `measure` tells beside those of pictures, and grown pictures; see the script `run` beside this file, which
 starts it."""
 import os
-import struct
 import subprocess
 import sys
 from pathlib import Path
@@ -162,11 +161,8 @@ def try_lines(font):
 
 
 def try_figures(font):
-    """The first line: figures of head and hhea, the number of glyphs, and last hhea's line gap."""
-    tables = Tables(font.read_bytes(), None)
-    ascent, descent, gap = struct.unpack_from(">3h", tables.hhea, 4)
-    figures = tables.em, ascent, descent, tables.glyphs, gap
-    wanted = f"font {' '.join(map(str, figures))}"
+    """The first line: the font's own figures, its line gap last."""
+    wanted = f"font {' '.join(map(str, Tables(font.read_bytes(), None).figures()))}"
     got = run("measure", "--size", 16, "--fit", "none", font, "A")[1].decode().split("\n")[0]
     verdict(f"figures: {font.name}", None if got == wanted else f"{got}, and not {wanted}")
 
