@@ -147,6 +147,7 @@ GOOD = [
     ("full", f"2 {NOTHING}|tt_render: 63 PictureLarge|"),
     ("fallback", "0 11 1|tt_render: glyph 1 unfitted: glyf+14: 32 StackShort|"),
     ("best", "0 11 1|tt_render: glyph 1 unfitted: glyf+14: 47 DivZero|"),
+    ("map", f"1 {NOTHING}|tt_render: file+0: 25 NoFace|"),
 ]
 BAD = [
     ("none", "0 0 1|"),
@@ -172,6 +173,8 @@ BAD = [
     ("best", "0 11 1|tt_render: glyph 1 unfitted: glyf+14: 35 OffProfile|"),
     ("best", "0 11 1|tt_render: glyph 1 unfitted: glyf+14: 46 StorageRange|"),
     ("full", ""),
+    ("map", f"1 {NOTHING}|tt_render: file+8: 25 NoFace|"),
+    ("map", f"1 {NOTHING}|tt_render: file+5: 24 CollectionVersion|"),
 ]
 
 
@@ -180,6 +183,8 @@ REFUSED = f"1 {NOTHING}|tt_render: glyf+22: 14 GlyphShort|"
 OFF_PROFILE = f"1 {NOTHING}|tt_render: glyf+14: 35 OffProfile|"
 TOO_DEEP = f"1 {NOTHING}|tt_render: glyf+32: 17 ComponentDepth|"
 TOO_LARGE = f"2 {NOTHING}|tt_render: 63 PictureLarge|"
+OF_MAP = f"1 {NOTHING}|tt_render: cmap+28: 11 CmapShape|"
+NO_MAP = f"1 {NOTHING}|tt_render: cmap+0: 3 NoTable|"
 TOO_FAR = f"1 {NOTHING}|tt_render: glyf+22: 23 CoordRange|"
 UNFITTED = "tt_render: glyph 1 unfitted: glyf+14: 35 OffProfile|"
 UNFITTED_BY_BEST = "tt_render: glyph 1 unfitted: glyf+15: 47 DivZero|"
@@ -215,6 +220,9 @@ ALIKE = [
     ({"none": "0 11 1|", "full": "0 11 2|", "best": f"0 11 1|{UNFITTED_BY_BEST}"}, False),
     ({"none": TOO_DEEP, "full": TOO_DEEP, "best": "0 11 1|"}, True),
     ({"none": REFUSED, "full": REFUSED, "best": "0 11 1|"}, False),
+    ({"map": OF_MAP, "none": OF_MAP, "full": OF_MAP, "best": "0 11 1|"}, True),
+    ({"map": OF_MAP, "none": OF_MAP, "full": OF_MAP, "fallback": "0 11 1|"}, False),
+    ({"map": NO_MAP, "none": NO_MAP, "full": NO_MAP, "best": "0 11 1|"}, False),
 ]
 
 

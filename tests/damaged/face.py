@@ -143,7 +143,7 @@ def line_of_face(file, face):
         wide.Map(tables.cmap, tables.glyphs)
     except (Refused, plain.Refused) as refused:
         return fault_of(refused)
-    return f"{tables.glyphs} {tables.em} {tables.name()}".rstrip(" ")
+    return " ".join([str(tables.glyphs), str(tables.em), *filter(None, [tables.name()])])
 
 
 def told(file):

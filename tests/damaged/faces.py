@@ -6,7 +6,7 @@ import os
 import subprocess
 import sys
 import tempfile
-from concurrent.futures import ThreadPoolExecutor
+from concurrent.futures import ProcessPoolExecutor
 from pathlib import Path
 
 sys.path.append(str(Path(__file__).resolve().parent.parent / "faces"))
@@ -94,8 +94,8 @@ def tried(case):
 def damaged_faces():
     """Tries all cases; returns how many pass, and the failures."""
     every = list(enumerate(cases()))
-    with ThreadPoolExecutor(os.cpu_count()) as pool:
-        failures = [it for it in pool.map(tried, every) if it]
+    with ProcessPoolExecutor(os.cpu_count()) as pool:
+        failures = [it for it in pool.map(tried, every, chunksize=64) if it]
     if len(every) < LEAST:
         failures.append(f"only {len(every)} damaged collections and cmaps")
     return len(every) - len(failures), failures

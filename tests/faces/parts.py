@@ -97,6 +97,7 @@ NAMES = (
     ("a full name of another platform", named(MACINTOSH), ""),
     ("a family alone", named(FAMILY), ""),
     ("a name beyond ASCII", named((3, 0x409, 4, [0x41, 0x6587, 0x7E, 0x7F, 0x1F, 0x20, 0x42])), "A?~?? B"),
+    ("a name that ends with a blank", named((3, 0x409, 4, letters("Small "))), "Small "),
     ("64 words", named((3, 0x409, 4, [0x61] * 64)), "a" * 64),
     ("65 words", named((3, 0x409, 4, [0x61] * 65)), "a" * 64),
     ("a name of no words", named((3, 0x409, 4, [])), ""),
