@@ -7,6 +7,7 @@ import common
 import wide
 from asking import FITS
 from asking import rows as other_rows
+from choices import choices
 from face import Refused, directory, mapped
 from fonts import alone, bases, collection_of, font_of, tables_in, with_cmap
 from fonts import rows as rows_of_faces
@@ -235,6 +236,11 @@ def measures(asked, font, collection):
         own = asked.run(words, asked.file(font), "AB")
         wanted = (0, b"face 0 2\n" + own[1], b"") if fit == "best" else NO_VERSION
         common.tried(f"measure of no face with {fit}", asked.run(words, file, "AB"), wanted)
+
+
+def chosen(asked):
+    """Which record of cmap is chosen, and how symbols are looked up."""
+    asked.ask(list(choices(bases()[0])))
 
 
 def worked(asked):
