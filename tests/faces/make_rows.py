@@ -19,9 +19,9 @@ HEAD = """\
 # a collection of two faces, in words as below. Then one row a line:
 #   NAME|FONT|CALL|FACE|TEXT|ANSWER
 # FONT is `font`, `font` and a cmap that it has in place of its own, or `collection`. After `collection` come `cut:N`
-# for its first N bytes, and AT=BYTES for other bytes at a place. A cmap is bytes in hexadecimal words, where XX*N stands
-# for N times the byte XX. FACE is `strict` without --face. TEXT has code points. ANSWER is the lines of standard output,
-# with `/` behind each, or after `refused` the line on standard error.
+# for its first N bytes, and AT=BYTES for other bytes at a place. A cmap is bytes in hexadecimal words, where XX*N
+# stands for N times the byte XX. FACE is `strict` without --face. TEXT has code points. ANSWER is the lines of standard
+# output, with `/` behind each, or after `refused` the line on standard error.
 """
 
 
