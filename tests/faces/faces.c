@@ -77,11 +77,38 @@ static void write_faces(void) {
   }
 }
 
+static int are_alike(const struct tt_answer *one, const struct tt_answer *other) {
+  return one->status == other->status && one->number == other->number && one->offset == other->offset &&
+         memcmp(one->table, other->table, sizeof one->table) == 0;
+}
+
+/* Says whether each other call with a job answers as tt_draw does. */
+static int are_calls_alike(const struct tt_job *job, const struct tt_answer *drawn, const struct tt_picture *picture) {
+  static uint8_t others[1 << 16];
+  static struct tt_character characters[1 << 13];
+  struct tt_answer answer;
+  struct tt_measure measure;
+  struct tt_picture told;
+  struct tt_line line;
+  uint64_t end = text_bytes;
+  int good = 1, done = drawn->status == TT_DONE;
+  tt_measure(font, font_bytes, text, text_bytes, job, &measure, &answer);
+  good &= are_alike(drawn, &answer) && (!done || measure.width == picture->width);
+  tt_characters(font, font_bytes, text, text_bytes, job, characters, sizeof characters / sizeof *characters, &answer);
+  good &= are_alike(drawn, &answer);
+  tt_draw_band(font, font_bytes, text, text_bytes, job, 0, UINT32_MAX, others, sizeof others, &told, &answer);
+  good &= are_alike(drawn, &answer) && (!done || memcmp(rows, others, (size_t)drawn->bytes) == 0);
+  memset(others, 0, sizeof others);
+  tt_draw_lines(font, font_bytes, text, text_bytes, &end, 1, job, 1 << 20, others, sizeof others, &line, 1, &answer);
+  return good && are_alike(drawn, &answer) && (!done || memcmp(rows, others, (size_t)drawn->bytes) == 0);
+}
+
 static void write_picture(uint32_t face, uint32_t fit) {
   struct tt_job job = {.size = 16, .fit = fit, .face = face};
   struct tt_picture told;
   struct tt_answer answer;
   tt_draw(font, font_bytes, text, text_bytes, &job, rows, sizeof rows, &told, &answer);
+  if (!are_calls_alike(&job, &answer, &told)) fputs("another call answers otherwise: ", stdout);
   if (is_refused(&answer)) return;
   printf("%" PRIu32 " %" PRIu32 " ", told.width, told.height);
   for (uint64_t i = 0; i < answer.bytes; i++) printf("%02x", rows[i]);
