@@ -1,11 +1,12 @@
 """All hostile fonts by their families and names."""
-from hostile import copies, mixed, opcodes, outlines, programs
+from hostile import copies, maps, mixed, opcodes, outlines, programs
 
 # The font whose seconds are the measure of all.
 STANDARD = "two"
 FAMILIES = {
     "programs": programs.FONTS,
     "copies": copies.FONTS,
+    "maps": maps.FONTS,
     "outlines": outlines.FONTS,
     "mixed": mixed.FONTS,
     "beside": opcodes.BESIDE_FONTS,

@@ -28,6 +28,13 @@ PAIRS = {
     "measure, 10 lines": (("measure", "--lines"), 10),
     "missing, measure": (("measure", "--missing", "tell", "--margin", "64"), 0),
 }
+# Jobs with a face, in place of these. Only the first two are given a way to fit.
+FACES = {
+    "face": (("draw", "--face", "0"), 0),
+    "10 lines": (("draw", "--face", "0", "--lines"), 10),
+    "map": (("map", "--face", "0"), 0),
+    "faces": (("faces",), 0),
+}
 
 
 @dataclass
@@ -55,9 +62,12 @@ class Bench:
 
     def run(self, command, lines, most_seconds=600):
         """Runs a job with the font; a job that needs more processor time is ended."""
-        words = [self.program, *command, "--fit", self.fit, "--size", str(self.size), "--", str(self.font)]
+        shape = [] if command[0] in ("map", "faces") else ["--fit", self.fit, "--size", str(self.size)]
+        words = [self.program, *command, *shape, "--", str(self.font)]
         source = os.devnull
-        if lines:
+        if command[0] == "faces":
+            pass
+        elif lines:
             given = self.lines.read_text(encoding="utf-8").split("\n")[:lines]
             source = self.lines.with_name("given")
             source.write_text("\n".join(given), encoding="utf-8")

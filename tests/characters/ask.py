@@ -1,6 +1,6 @@
 """Asks the program for the glyphs of characters, and compares its lines with those of plain.py, and those of the real
-fonts with what fontTools read, too. `run` calls it with the path of the program and the part that is asked, and says at
-its head what the parts are.
+fonts with what fontTools and FreeType read, too. `run` calls it with the path of the program and the part that is
+asked, and says at its head what the parts are.
 
 Prints a line for each font, `PASSED FAILED NAME`, with numbers of characters, and behind it lines that begin with two
 blanks, which say what was other.
@@ -8,13 +8,19 @@ blanks, which say what was other.
 import hashlib
 import itertools
 import pathlib
+import re
 import subprocess
 import sys
+import zlib
 
 import generated
+import wide
 from plain import Characters, Refused
 
 HERE = pathlib.Path(__file__).parent
+sys.path.append(str(HERE.parent / "damaged"))
+from face import Tables
+
 SURROGATES = range(0xD800, 0xE000)
 # No word of a command line holds U+0000.
 PLANE_0 = [it for it in range(1, 0x10000) if it not in SURROGATES]
@@ -149,9 +155,79 @@ def ask_real(program, room):
         compare("by fontTools", path, characters, read, lambda it: f"U+{it:04X} {glyphs.get(it, 0)}")
 
 
+def freetype():
+    """Yields each font of freetype.txt: its sum, its face or None, the kind of its map, its path, and for the first of
+    4,096 characters, or for `pairs`, how many have a glyph, and the sum of their lines."""
+    for part in (HERE / "freetype.txt").read_text(encoding="utf-8").split("\nfont ")[1:]:
+        first, *blocks = part.splitlines()
+        md5, face, kind, path = first.split()
+        words = (it.split() for it in blocks)
+        yield md5, None if face == "-" else face, kind, path, {at: (int(n), crc) for at, n, crc in words}
+
+
+def compare_block(name, program, words, path, block, wanted):
+    """Compares the lines of characters that have glyphs, all 4,096 by their sum, and where that is another names some
+    others by wide.py."""
+    first = int(block, 16)
+    characters = [it for it in range(max(first, 1), first + 4096) if it not in SURROGATES and not wide.is_selector(it)]
+    text = "".join(map(chr, characters)).encode()
+    ran = subprocess.run([program, "map", *words, "--", path, text], stdin=subprocess.DEVNULL, capture_output=True)
+    lines = re.findall(rb"^(U\+\w+ [1-9]\d*) \d+\n", ran.stdout, re.M)
+    count = ran.stdout.count(b"\n")
+    got = len(lines), f"{zlib.crc32(b''.join(it + bytes([10]) for it in lines)):08x}"
+    if count == len(characters) and not ran.stderr and not ran.returncode and got == wanted:
+        return len(characters)
+    print(0, len(characters), name, path)
+    print(f"  U+{block} and more: wanted {wanted}, got {got}, {ran.stderr[:200]!r}")
+    known = wide.Map(table_of(path, words), 0x10000)
+    others = [it for it in lines if int(it.split()[1]) != known.glyph(int(it.split()[0][2:], 16))]
+    print(*[f"  other than by the plain search: {it.decode()}" for it in others[:3]], sep="\n", end="\n" * bool(others))
+    return 0
+
+
+def compare_pairs(name, program, words, path, wanted):
+    """Compares the lines of characters with a selector, all of a font by their sum."""
+    pairs, lines = list(wide.Map(table_of(path, words), 0x10000).pairs()), []
+    for at in range(0, len(pairs), MOST // 2):
+        text = "".join(chr(it) for pair in pairs[at : at + MOST // 2] for it in pair).encode()
+        ran = subprocess.run([program, "map", *words, "--", path, text], stdin=subprocess.DEVNULL, capture_output=True)
+        lines += re.findall(rb"^(U\+\w+ U\+\w+ [1-9]\d*) \d+\n", ran.stdout, re.M)
+    got = len(lines), f"{zlib.crc32(b''.join(it + bytes([10]) for it in lines)):08x}"
+    if got == wanted:
+        return len(pairs)
+    print(0, len(pairs), name, path)
+    print(f"  characters with selectors: wanted {wanted}, got {got}")
+    return 0
+
+
+def table_of(path, words):
+    """Returns the cmap of a font, or of a face of it."""
+    return Tables(pathlib.Path(path).read_bytes(), int(words[1]) if words else None).cmap
+
+
+def ask_wide(program, _):
+    for md5, face, kind, path, blocks in freetype():
+        font = pathlib.Path(path)
+        readings = [["--face", face or "0"]] + [[]] * (face is None and kind == "unicode")
+        name = f"by FreeType, face {face or 'of a font alone'}"
+        if not font.exists():
+            print(f"skipped {name}: {path} is not installed")
+        elif hashlib.md5(font.read_bytes()).hexdigest() != md5:
+            print(0, 1, f"{path} is not the version of freetype.txt")
+        else:
+            for words in readings:
+                told = f"{name}, {' '.join(words) or 'strict'}"
+                pairs = [it for block, it in blocks.items() if block == "pairs" and words]
+                good = [compare_pairs(told, program, words, path, it) for it in pairs]
+                of_characters = [it for it in blocks.items() if it[0] != "pairs"]
+                good += [compare_block(told, program, words, path, *it) for it in of_characters]
+                print(sum(good), 0, told, path)
+
+
 def main():
     program, part, room = sys.argv[1:]
     ask = {"worked": ask_worked, "damaged": ask_damaged, "generated": ask_generated, "real": ask_real}
+    ask["wide"] = ask_wide
     ask[part](program, pathlib.Path(room))
 
 

@@ -21,7 +21,7 @@ GLYPHS = ("loca", "glyf")
 PROGRAMS = ("fpgm", "prep", "glyf")
 # The tables at which the refusals of a face may stand, by number. Those of glyphs stand at glyf.
 PLACES_OF_FACE = {
-    **dict.fromkeys((1, 2, 4), ("file",)),
+    **dict.fromkeys((1, 2, 4, 24, 25), ("file",)),
     3: (*FACE, *GLYPHS),
     **dict.fromkeys((5, 6, 7), ("head",)),
     8: ("maxp",),
@@ -44,8 +44,8 @@ def read_refusals():
 
 
 REFUSALS = read_refusals()
-# The numbers whose place is one alone, whatever the font.
-PLACES = {1: 0, 3: 0, 5: 12, 6: 18, 7: 50, 8: 0, 10: 0}
+# The numbers whose place is one alone, whatever the font; the place of a directory is that of a font alone.
+PLACES = {1: 0, 3: 0, 5: 12, 6: 18, 7: 50, 8: 0, 10: 0, 24: 4}
 
 ANSWER = re.compile(r"([0-9]) ([0-9]+) ([0-9]+)\|(.*)")
 FAULT = r"([ -~]{4})\+(0|[1-9][0-9]*): ([1-9][0-9]*) ([A-Za-z]+)\|"
@@ -97,6 +97,8 @@ def is_place(font, table, offset, number, tables=None):
     """Tells whether such a refusal may stand at such a place of the font."""
     if number in PLACES:
         return offset == PLACES[number]
+    if number == 25:
+        return offset == (8 if font[:4] == b"ttcf" else 0)
     if number == 2:
         return offset == len(font)
     if number == 4:
@@ -177,6 +179,8 @@ def why_wrong(font, kind, answer, tables=None):
     return "has a status or a line that cannot come here"
 
 
+# A refusal of a character map by its kind or shape. With best others are chosen, and ends are not tested.
+OF_MAPS = re.compile(r"tt_render: cmap\+[0-9]+: 1[01] ")
 # What an answer says of a coordinate past the limit.
 FAR = ": 23 CoordRange"
 
@@ -201,14 +205,16 @@ def may_differ(best, full, without):
 
 def why_not_alike(answers):
     """Says what is wrong with the answers to a font and a text, by their kinds, or returns None. What `map` refuses is
-    refused alike by all, and a picture's size by all but best, whose lines have a width of their own; and what is
-    refused without programs is refused with them, but for coordinates, which programs may bring back, and the depth of
-    components, of which best allows more. The ways to fit that fall back do so where a program is refused. Where none
-    is, fallback answers as full does, and best as may_differ says."""
+    refused alike by all, but that best may take another character map; and a picture's size by all but best, whose
+    lines have a width of their own; and what is refused without programs is refused with them, but for coordinates,
+    which programs may bring back, and the depth of components, of which best allows more. The ways to fit that fall
+    back do so where a program is refused. Where none is, fallback answers as full does, and best as may_differ says."""
     for kind, other in (("fallback", r": (3[0-9]|4[0-9]|50) "), ("best", r": (17|3[0-9]|4[0-9]|50) ")):
         if kind not in answers:
             continue
         full, falling = answers["full"], answers[kind]
+        if kind == "best" and OF_MAPS.search(full):
+            continue
         # What a program does is not refused: a glyph is drawn without it, or refused for another reason.
         if not re.search(other, full):
             wrong = falling != full and not (kind == "best" and may_differ(falling, full, answers["none"]))
@@ -222,7 +228,7 @@ def why_not_alike(answers):
     if "map" in answers and answers["map"].startswith("1 "):
         without, alike = answers["map"], True
     if not without.startswith("0 ") and FAR not in without:
-        by_others = "17 ComponentDepth" in without or is_size(without)
+        by_others = "17 ComponentDepth" in without or is_size(without) or OF_MAPS.search(without)
         apart = ("map", "best") if by_others else ("map",)
         for kind, answer in answers.items():
             if kind not in apart and (answer != without if alike else not answer.startswith("1 ")):

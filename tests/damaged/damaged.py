@@ -6,6 +6,7 @@ from itertools import chain
 from asking import (
     FITS,
     NOTHING,
+    OF_MAPS,
     answer_of,
     answer_of_program,
     asked,
@@ -18,6 +19,7 @@ from asking import (
     words_of,
 )
 from face import mapped
+from faces import damaged_faces
 
 # So many answers of damaged fonts at the least; fewer would be a script that asks too little.
 LEAST = 300_000
@@ -79,6 +81,16 @@ def wrong_cut(size, answer):
     return answer != f"1 {NOTHING}|tt_render: {place}|"
 
 
+def why_not_wide(data, text, answers):
+    """Says what is wrong with best where the other ways to fit refuse the character map: what it refuses itself."""
+    if not OF_MAPS.search(answers["map"]):
+        return None
+    wanted = answer_of(*mapped(data, text, 0))
+    if wanted.startswith("1 ") and answers["best"] != wanted:
+        return f"has '{answers['best']}' as best, and not '{wanted}'"
+    return None
+
+
 def one_font(number, row):
     """Asks about the damages of a row's font; returns how many answers pass, the failures, and what tt_render is to be
     asked too."""
@@ -105,7 +117,7 @@ def one_font(number, row):
     for at in range(0, len(answers) - len(kinds) + 1, len(kinds)):
         of_kind = dict(zip(kinds, answers[at:]))
         size, changes, _ = cases[at]
-        why = why_not_alike(of_kind)
+        why = why_not_alike(of_kind) or why_not_wide(damaged(row.font, size, changes), row.text, of_kind)
         if why:
             failures.append(f"{row.name}, {size} bytes with {changes or 'no change'}, {why}")
     if wrong or len(answers) != len(cases):
@@ -135,6 +147,7 @@ GOOD = [
     ("full", f"2 {NOTHING}|tt_render: 63 PictureLarge|"),
     ("fallback", "0 11 1|tt_render: glyph 1 unfitted: glyf+14: 32 StackShort|"),
     ("best", "0 11 1|tt_render: glyph 1 unfitted: glyf+14: 47 DivZero|"),
+    ("map", f"1 {NOTHING}|tt_render: file+0: 25 NoFace|"),
 ]
 BAD = [
     ("none", "0 0 1|"),
@@ -160,6 +173,8 @@ BAD = [
     ("best", "0 11 1|tt_render: glyph 1 unfitted: glyf+14: 35 OffProfile|"),
     ("best", "0 11 1|tt_render: glyph 1 unfitted: glyf+14: 46 StorageRange|"),
     ("full", ""),
+    ("map", f"1 {NOTHING}|tt_render: file+8: 25 NoFace|"),
+    ("map", f"1 {NOTHING}|tt_render: file+5: 24 CollectionVersion|"),
 ]
 
 
@@ -168,6 +183,8 @@ REFUSED = f"1 {NOTHING}|tt_render: glyf+22: 14 GlyphShort|"
 OFF_PROFILE = f"1 {NOTHING}|tt_render: glyf+14: 35 OffProfile|"
 TOO_DEEP = f"1 {NOTHING}|tt_render: glyf+32: 17 ComponentDepth|"
 TOO_LARGE = f"2 {NOTHING}|tt_render: 63 PictureLarge|"
+OF_MAP = f"1 {NOTHING}|tt_render: cmap+28: 11 CmapShape|"
+NO_MAP = f"1 {NOTHING}|tt_render: cmap+0: 3 NoTable|"
 TOO_FAR = f"1 {NOTHING}|tt_render: glyf+22: 23 CoordRange|"
 UNFITTED = "tt_render: glyph 1 unfitted: glyf+14: 35 OffProfile|"
 UNFITTED_BY_BEST = "tt_render: glyph 1 unfitted: glyf+15: 47 DivZero|"
@@ -203,6 +220,9 @@ ALIKE = [
     ({"none": "0 11 1|", "full": "0 11 2|", "best": f"0 11 1|{UNFITTED_BY_BEST}"}, False),
     ({"none": TOO_DEEP, "full": TOO_DEEP, "best": "0 11 1|"}, True),
     ({"none": REFUSED, "full": REFUSED, "best": "0 11 1|"}, False),
+    ({"map": OF_MAP, "none": OF_MAP, "full": OF_MAP, "best": "0 11 1|"}, True),
+    ({"map": OF_MAP, "none": OF_MAP, "full": OF_MAP, "fallback": "0 11 1|"}, False),
+    ({"map": NO_MAP, "none": NO_MAP, "full": NO_MAP, "best": "0 11 1|"}, False),
 ]
 
 
@@ -238,6 +258,7 @@ def main():
         answers = sum(it[0] + len(it[1]) for it in by_font)
         again = list(chain.from_iterable(it[2] for it in by_font))
         ended += [*by_font, *pool.map(same_as_program, pieces(again))]
+    ended.append(damaged_faces())
     for it in ended:
         passed += it[0]
         failures += it[1]

@@ -5,6 +5,9 @@ import subprocess
 import sys
 from pathlib import Path
 
+sys.path.append(str(Path(__file__).resolve().parent.parent / "damaged"))
+from face import Tables
+
 PROGRAM = os.environ["TT_RENDER"]
 FONTS = Path("/usr/share/fonts/truetype")
 # The greatest margin, in which all ink of these lines lies.
@@ -157,9 +160,17 @@ def try_lines(font):
         verdict(f"lines: {font.name} {words}", None if together == (0, alone, b"") else f"{together[0]} {together[2][:200]!r}")
 
 
+def try_figures(font):
+    """The first line: the font's own figures, its line gap last."""
+    wanted = f"font {' '.join(map(str, Tables(font.read_bytes(), None).figures()))}"
+    got = run("measure", "--size", 16, "--fit", "none", font, "A")[1].decode().split("\n")[0]
+    verdict(f"figures: {font.name}", None if got == wanted else f"{got}, and not {wanted}")
+
+
 def main():
     for name in NEAR:
         font = FONTS / name
+        try_figures(font)
         for fit, sizes in (("none", (9, 24, 61)), ("full", (12,)), ("fallback", (16,)), ("best", (9, 24))):
             for size in sizes:
                 for text in TEXTS:

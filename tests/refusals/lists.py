@@ -23,7 +23,11 @@ OF_ANY_TABLE = "NoTable"
 # The refusals that only a call of C gives, wherever they have their numbers.
 OF_C_ALONE = ("UnknownFit", "LineEnds")
 # The refusals that have no case in tests/rows, and where their cases are.
-ELSEWHERE = {"WorkLarge": "tests/work/hostile_fonts.py", **dict.fromkeys(OF_C_ALONE, "tests/c/edges.c")}
+ELSEWHERE = {
+    "WorkLarge": "tests/work/hostile_fonts.py",
+    **dict.fromkeys(OF_C_ALONE, "tests/c/edges.c"),
+    **dict.fromkeys(("CollectionVersion", "NoFace"), "tests/faces/rows.txt"),
+}
 
 
 @dataclass

@@ -31,6 +31,9 @@ DRAWN = {
     "tall": LARGE,
     "glyphs_4096": LARGE,
     "corners_wide": LARGE,
+    "records_none": (1, 1, "10 NoCmap"),
+    "records_last": (0, 0, ""),
+    "selectors": (0, 0, ""),
 }
 # The same when it is measured, and when its picture is to grow.
 MEASURED = {
