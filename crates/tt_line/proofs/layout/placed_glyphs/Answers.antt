@@ -6,7 +6,6 @@ use Rattle.std.proofs.lemmas.List.Elements.{All-push}
 use Rattle.tt_metrics.specs.Metrics.{glyphs_of}
 use Rattle.tt_cmap.specs.declared.units.TextUnit.{TextUnit}
 use Rattle.tt_cmap.specs.Maps.{glyph_of_unit, has_pairs, units_by}
-use Rattle.tt_cmap.specs.Texts.{units_left}
 use Rattle.tt_cmap.proofs.UnitLaws.{units-are-few}
 use Rattle.tt_line.specs.Layout.{advance_in_pixels, advances_of, text_glyphs}
 use Rattle.tt_line.proofs.Pens.{part_within, next_pen, next_placed, pens_within, length-placed, glyphs_of_placed}
@@ -16,9 +15,9 @@ pub overflow_add-pen : goal.overflow_add-pen
 overflow_add-pen c =
     let m = c.args.known.now.cmap in
     let us = units_by m (chars c.args.text.now) in
-    let from : units_left c.units-unit-items.result ≡ us = rw c.cmap.ensures at c.units-unit-items.ensures in
+    let from : c.units-unit-items.result ≡ us = rw c.cmap.ensures at c.units-unit-items.ensures in
     let f = advance_in_pixels c.args.known.now.metrics c.args.known.now.ppem in
-    let part = sym (map-id c.loop-unit.yielded) ∙ YieldsList-so_far (YieldsList-from_first (λ (u : TextUnit). u) units_left us from) c.loop-unit.yielded _ c.loop-unit.yielded_by in
+    let part = sym (map-id c.loop-unit.yielded) ∙ YieldsList-so_far (YieldsList-from_first (λ (u : TextUnit). u) (λ (vs : List TextUnit). vs) us from) c.loop-unit.yielded _ c.loop-unit.yielded_by in
     let within = part_within f (glyph_of_unit m) c.loop-unit.yielded us (length c.loop-unit.yielded) part in
     let pen : c.loop-unit.pen ≤ sum (advances_of c.args.known.now.metrics c.args.known.now.ppem (text_glyphs m c.args.text.now)) = rw c.loop-unit.invariant.pen within in
     omega arith
@@ -47,8 +46,8 @@ pub returns-in_err-push-clause-memory : goal.returns-in_err-push-clause-memory
 returns-in_err-push-clause-memory c =
     let m = c.args.known.now.cmap in
     let us = units_by m (chars c.args.text.now) in
-    let from : units_left c.units-unit-items.result ≡ us = rw c.cmap.ensures at c.units-unit-items.ensures in
-    let t = YieldsList-turn (YieldsList-from_first (λ (u : TextUnit). u) units_left us from) c.loop-unit.yielded _ c.loop-unit.yielded_by _ _ c.in-Some.unit c.in-Some.is c.next.ensures.steps in
+    let from : c.units-unit-items.result ≡ us = rw c.cmap.ensures at c.units-unit-items.ensures in
+    let t = YieldsList-turn (YieldsList-from_first (λ (u : TextUnit). u) (λ (vs : List TextUnit). vs) us from) c.loop-unit.yielded _ c.loop-unit.yielded_by _ _ c.in-Some.unit c.in-Some.is c.next.ensures.steps in
     let left : length c.loop-unit.yielded < length us = t.0 in
     let few = units-are-few (has_pairs m) (chars c.args.text.now) in
     some_characters c.from_residual-in_err-push.result (length (chars c.args.text.now)) (omega (arith, left, few))
@@ -75,8 +74,8 @@ pub returns-clause-exact : goal.returns-clause-exact
 returns-clause-exact c =
     let m = c.args.known.now.cmap in
     let us = units_by m (chars c.args.text.now) in
-    let from : units_left c.units-unit-items.result ≡ us = rw c.cmap.ensures at c.units-unit-items.ensures in
-    let e = YieldsList-end (YieldsList-from_first (λ (u : TextUnit). u) units_left us from) c.loop-unit.yielded _ c.loop-unit.yielded_by _ _ c.in-None.is c.next.ensures.steps in
+    let from : c.units-unit-items.result ≡ us = rw c.cmap.ensures at c.units-unit-items.ensures in
+    let e = YieldsList-end (YieldsList-from_first (λ (u : TextUnit). u) (λ (vs : List TextUnit). vs) us from) c.loop-unit.yielded _ c.loop-unit.yielded_by _ _ c.in-None.is c.next.ensures.steps in
     let all : c.loop-unit.yielded ≡ us = sym (map-id c.loop-unit.yielded) ∙ e.0 in
     rw (← all) c.loop-unit.invariant.placed
 

@@ -1,10 +1,9 @@
-use Rattle.std.proofs.Common.{◌≡◌, ◌∙◌, ◌<◌, ℕ, [], ◌∷◌, ◌++◌, ap, chars, length, map, refl, sym, arith}
+use Rattle.std.proofs.Common.{List, ◌≡◌, ◌∙◌, ◌<◌, ℕ, [], ◌∷◌, ◌++◌, ap, chars, length, map, refl, sym, arith}
 use Rattle.std.proofs.lemmas.Iterator.Consumers.{YieldsList-from_first, YieldsList-end}
 use Rattle.std.proofs.lemmas.List.{map-id, length-map, map_push}
 use Rattle.std.proofs.lemmas.List.Elements.{All-push}
 use Rattle.tt_cmap.specs.declared.units.TextUnit.{TextUnit}
 use Rattle.tt_cmap.specs.Maps.{glyph_of_unit, has_pairs, units_by}
-use Rattle.tt_cmap.specs.Texts.{units_left}
 use Rattle.tt_cmap.proofs.UnitLaws.{units-are-few}
 use Rattle.tt_metrics.specs.Metrics.{glyphs_of}
 use Rattle.tt_line.specs.Layout.{advance_in_pixels, text_glyphs}
@@ -30,8 +29,8 @@ pub returns-clause-exact : goal.returns-clause-exact
 returns-clause-exact c =
     let m = c.args.known.now.cmap in
     let us = units_by m (chars c.args.text.now) in
-    let from : units_left c.units-unit-items.result ≡ us = rw c.cmap.ensures at c.units-unit-items.ensures in
-    let e = YieldsList-end (YieldsList-from_first (λ (u : TextUnit). u) units_left us from) c.loop-unit.yielded _ c.loop-unit.yielded_by _ _ c.in-None.is c.next.ensures.steps in
+    let from : c.units-unit-items.result ≡ us = rw c.cmap.ensures at c.units-unit-items.ensures in
+    let e = YieldsList-end (YieldsList-from_first (λ (u : TextUnit). u) (λ (vs : List TextUnit). vs) us from) c.loop-unit.yielded _ c.loop-unit.yielded_by _ _ c.in-None.is c.next.ensures.steps in
     let all : c.loop-unit.yielded ≡ us = sym (map-id c.loop-unit.yielded) ∙ e.0 in
     rw (← all) c.loop-unit.invariant.steps
 
