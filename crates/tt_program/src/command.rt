@@ -97,7 +97,7 @@ fn map_command<'a>(alloc: Global) -> Result<Command<'a>, AllocError> {
 
 fn faces_command<'a>(alloc: Global) -> Result<Command<'a>, AllocError> {
     Command::new(alloc, "faces")
-        .about("Prints how many faces a file has, and the glyphs, units per em and name of each")
+        .about("Prints the faces of a file: glyphs, units per em and name of each")
         .arg(font(alloc))
 }
 
