@@ -1,10 +1,9 @@
 use Rattle.std.proofs.Common.{◌≡◌, ◌++◌, ◌∷◌, [], List, ℕ, chars, map, ◌∙◌}
 use Rattle.std.proofs.lemmas.Iterator.{YieldsList-from_slice, YieldsList-from_zip}
-use Rattle.std.proofs.lemmas.Iterator.Consumers.{YieldsList-at, YieldsList-end, YieldsList-from_first}
+use Rattle.std.proofs.lemmas.Iterator.Consumers.{YieldsList-end, YieldsList-from_first}
 use Rattle.std.proofs.lemmas.List.{flat_map_more, map-append}
 use Rattle.tt_cmap.specs.declared.units.TextUnit.{TextUnit}
 use Rattle.tt_cmap.specs.Maps.{units_by}
-use Rattle.tt_cmap.specs.Texts.{units_left}
 use Rattle.tt_render.proofs.MeasureLines.{append_all}
 use Rattle.tt_render.specs.MeasureText.{character_text, face_text, font_text, picture_text}
 use Rattle.tt_strike.specs.declared.measuring.CharacterMeasure.{CharacterMeasure}
@@ -14,8 +13,8 @@ use Rattle.tt_render.proofs.measure_text.measure_text.Goals as goal
 pub returns : goal.returns
 returns c =
     let us = units_by c.args.face.now.cmap (chars c.args.text.now) in
-    let from : units_left c.units.result ≡ us = rw c.cmap.ensures.exact at c.units.ensures in
-    let units = YieldsList-at c.zip-unit-items.ensures.first (YieldsList-from_first (λ (u : TextUnit). u) units_left us from) in
+    let from : c.units.result ≡ us = rw c.cmap.ensures.exact at c.units.ensures in
+    let units = YieldsList-from_first (λ (u : TextUnit). u) (λ (left : List TextUnit). left) us cc in
     let measures = YieldsList-from_slice c.args.measure.now.characters.items cc in
     let e = YieldsList-end (YieldsList-from_zip units measures) c.loop-unit.yielded
     c.loop-unit.unit-iterator c.loop-unit.yielded_by c.next.result c.next.new.self c.in-None.is c.next.ensures.steps in

@@ -1,17 +1,16 @@
-use Rattle.std.proofs.Common.{◌≡◌, [], chars, sym, ◌∙◌}
+use Rattle.std.proofs.Common.{◌≡◌, List, [], chars, sym, ◌∙◌}
 use Rattle.std.proofs.lemmas.Iterator.Consumers.{YieldsList-from_first, YieldsList-end}
 use Rattle.std.proofs.lemmas.List.{flat_map_more, map-id}
 use Rattle.tt_cmap.specs.declared.units.TextUnit.{TextUnit}
 use Rattle.tt_cmap.specs.Maps.{glyph_of_unit, units_by}
-use Rattle.tt_cmap.specs.Texts.{units_left}
 use Rattle.tt_render_run.specs.MapLines.{map_line}
 use Rattle.tt_render_run.proofs.mapping.lines.Goals as goal
 
 pub returns : goal.returns
 returns c =
     let us = units_by c.args.cmap.now (chars c.args.text.now) in
-    let e = YieldsList-end (YieldsList-from_first (λ (u : TextUnit). u) units_left us c.units.ensures) c.loop-unit.yielded _
-    c.loop-unit.yielded_by _ _ c.in-None.is c.next.ensures.steps in
+    let e = YieldsList-end (YieldsList-from_first (λ (u : TextUnit). u) (λ (left : List TextUnit). left) us cc)
+    c.loop-unit.yielded _ c.loop-unit.yielded_by _ _ c.in-None.is c.next.ensures.steps in
     let all : c.loop-unit.yielded ≡ us = sym (map-id c.loop-unit.yielded) ∙ e.0 in
     rw (← all) c.loop-unit.invariant.lines
 
