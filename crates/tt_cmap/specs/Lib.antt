@@ -11,7 +11,6 @@ pub mod Maps
 pub mod Ranges
 pub mod Roman
 pub mod Subtables
-pub mod Texts
 pub mod Units
 pub mod Variations
 pub mod WideChoice

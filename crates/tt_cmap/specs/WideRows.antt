@@ -1,6 +1,6 @@
--- Worked values: whole tables of character maps, read by the wide reading in a font of three glyphs. OpenType, "cmap". Each
--- is built by hand.
-use Rattle.std.specs.Prelude.{◌≡◌, refl, ℕ, List, [], ◌∷◌, map, Result, Ok, Err}
+-- Worked values: whole tables of character maps, read by the wide reading in a font of three glyphs. OpenType, "cmap".
+-- Each is built by hand.
+use Rattle.std.specs.Prelude.{◌≡◌, refl, ℕ, List, [], ◌∷◌, map, Result, Ok, Err, true}
 use Rattle.tt_core.specs.declared.fault.Why.TheVariants as why
 use Rattle.tt_core.specs.Faults.{Fault}
 use Rattle.tt_core.specs.Outcomes.{◌>>=◌}

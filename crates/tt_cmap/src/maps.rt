@@ -5,12 +5,10 @@ ghost use Rattle.tt_core.specs.Directory.{HasNo};
 ghost use Rattle.tt_core.specs.Limits.{font_limit};
 ghost use Rattle.tt_core.specs.Outcomes.{Gives};
 ghost use Rattle.tt_cmap.specs.Maps.{strict, map_by, glyph_count, glyph_by, glyph_of_unit, units_by, IsBadMap};
-ghost use Rattle.tt_cmap.specs.Texts.{units_left};
 
 use crate::lookup::Cmap;
 use crate::lookup::wide::WideCmap;
-use crate::texts::TextUnits;
-use crate::units::TextUnit;
+use crate::units::{TextUnit, TextUnits};
 use std::marker::Model;
 use tt_core::{Fault, Reading};
 
@@ -68,7 +66,7 @@ impl<'a> CharacterMap<'a> {
 
     /// The units of a text. With the strict reading each character is a unit.
     pub fn units<'t>(&self, text: &'t str) -> TextUnits<'t>
-        ensures { units_left result ≡ units_by self.now (chars text.now) }
+        ensures { result ≡ units_by self.now (chars text.now) }
     {
         let pairs = match &self.map {
             Map::Strict(_) => false,

@@ -1,3 +1,4 @@
 pub mod Pens
 pub mod Quotients
 pub mod Texts
+mod Walks

@@ -1,24 +1,21 @@
 use Rattle.std.proofs.Common.{◌≡◌, ◌<◌, ◌≤◌, ℕ, IsUtf8, ◌⊎◌, inl, inr, refl, List, [], ◌∷◌, ◌++◌, length, sum, chars, Result, Ok, Err, IfErr, sym, ap, ◌∙◌, arith}
 use Rattle.std.proofs.lemmas.Str.{encodes-chars}
-use Rattle.std.proofs.lemmas.Iterator.Consumers.{YieldsList-from_first, YieldsList-so_far, YieldsList-turn, YieldsList-end}
-use Rattle.std.proofs.lemmas.List.{map-id, length-map}
+use Rattle.std.proofs.lemmas.List.{length-map}
 use Rattle.std.proofs.lemmas.List.Elements.{All-push}
 use Rattle.tt_metrics.specs.Metrics.{glyphs_of}
-use Rattle.tt_cmap.specs.declared.units.TextUnit.{TextUnit}
 use Rattle.tt_cmap.specs.Maps.{glyph_of_unit, has_pairs, units_by}
-use Rattle.tt_cmap.specs.Texts.{units_left}
 use Rattle.tt_cmap.proofs.UnitLaws.{units-are-few}
 use Rattle.tt_line.specs.Layout.{advance_in_pixels, advances_of, text_glyphs}
 use Rattle.tt_line.proofs.Pens.{part_within, next_pen, next_placed, pens_within, length-placed, glyphs_of_placed}
+use Rattle.tt_line.proofs.Walks.{at-the-end, goes-on, so-far, some-left}
 use Rattle.tt_line.proofs.layout.placed_glyphs.Goals as goal
 
 pub overflow_add-pen : goal.overflow_add-pen
 overflow_add-pen c =
     let m = c.args.known.now.cmap in
     let us = units_by m (chars c.args.text.now) in
-    let from : units_left c.units-unit-items.result ≡ us = rw c.cmap.ensures at c.units-unit-items.ensures in
     let f = advance_in_pixels c.args.known.now.metrics c.args.known.now.ppem in
-    let part = sym (map-id c.loop-unit.yielded) ∙ YieldsList-so_far (YieldsList-from_first (λ (u : TextUnit). u) units_left us from) c.loop-unit.yielded _ c.loop-unit.yielded_by in
+    let part = so-far c.loop-unit.yielded c.loop-unit.unit-iterator us c.loop-unit.invariant.split in
     let within = part_within f (glyph_of_unit m) c.loop-unit.yielded us (length c.loop-unit.yielded) part in
     let pen : c.loop-unit.pen ≤ sum (advances_of c.args.known.now.metrics c.args.known.now.ppem (text_glyphs m c.args.text.now)) = rw c.loop-unit.invariant.pen within in
     omega arith
@@ -32,7 +29,9 @@ loop-unit-preserved c =
     let glyph : c.step-step.result.glyph ≡ g c.in-Some.unit = rw was at c.step-step.ensures.glyph in
     let within : c.step-step.result.glyph < glyphs_of c.args.known.now.metrics = rw was at c.step-step.ensures.known in
     let advance : c.step-step.result.advance ≡ f c.step-step.result.glyph = rw was at c.step-step.ensures.advance in
+    let us = units_by c.args.known.now.cmap (chars c.args.text.now) in
     record {
+      split = goes-on c.loop-unit.yielded c.loop-unit.unit-iterator _ us c.in-Some.unit c.in-Some.ensures.steps c.loop-unit.invariant.split;
       same = c.step-step.ensures.same ∙ was;
       pen = next_pen f g c.loop-unit.yielded c.in-Some.unit c.step-step.result.glyph c.loop-unit.pen c.step-step.result.advance c.loop-unit.invariant.pen glyph advance;
       placed = next_placed f g c.loop-unit.yielded c.in-Some.unit c.step-step.result.glyph c.loop-unit.pen c.loop-unit.glyphs.items c.push.new.self.items c.loop-unit.invariant.pen c.loop-unit.invariant.placed glyph items;
@@ -47,9 +46,8 @@ pub returns-in_err-push-clause-memory : goal.returns-in_err-push-clause-memory
 returns-in_err-push-clause-memory c =
     let m = c.args.known.now.cmap in
     let us = units_by m (chars c.args.text.now) in
-    let from : units_left c.units-unit-items.result ≡ us = rw c.cmap.ensures at c.units-unit-items.ensures in
-    let t = YieldsList-turn (YieldsList-from_first (λ (u : TextUnit). u) units_left us from) c.loop-unit.yielded _ c.loop-unit.yielded_by _ _ c.in-Some.unit c.in-Some.is c.next.ensures.steps in
-    let left : length c.loop-unit.yielded < length us = t.0 in
+    let left : length c.loop-unit.yielded < length us =
+    some-left c.loop-unit.yielded c.loop-unit.unit-iterator _ us c.in-Some.unit c.in-Some.ensures.steps c.loop-unit.invariant.split in
     let few = units-are-few (has_pairs m) (chars c.args.text.now) in
     some_characters c.from_residual-in_err-push.result (length (chars c.args.text.now)) (omega (arith, left, few))
 
@@ -73,11 +71,8 @@ returns-in_err-reserve-clause-memory c =
 
 pub returns-clause-exact : goal.returns-clause-exact
 returns-clause-exact c =
-    let m = c.args.known.now.cmap in
-    let us = units_by m (chars c.args.text.now) in
-    let from : units_left c.units-unit-items.result ≡ us = rw c.cmap.ensures at c.units-unit-items.ensures in
-    let e = YieldsList-end (YieldsList-from_first (λ (u : TextUnit). u) units_left us from) c.loop-unit.yielded _ c.loop-unit.yielded_by _ _ c.in-None.is c.next.ensures.steps in
-    let all : c.loop-unit.yielded ≡ us = sym (map-id c.loop-unit.yielded) ∙ e.0 in
+    let us = units_by c.args.known.now.cmap (chars c.args.text.now) in
+    let all = at-the-end c.loop-unit.yielded c.loop-unit.unit-iterator us c.in-None.ensures.steps.0 c.loop-unit.invariant.split in
     rw (← all) c.loop-unit.invariant.placed
 
 pub returns-clause-few : goal.returns-clause-few

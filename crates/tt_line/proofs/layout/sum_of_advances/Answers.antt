@@ -1,37 +1,50 @@
-use Rattle.std.proofs.Common.{◌≡◌, ◌<◌, length, chars, sym, ◌∙◌, arith}
-use Rattle.std.proofs.lemmas.Iterator.Consumers.{YieldsList-from_first, YieldsList-turn, YieldsList-end}
-use Rattle.std.proofs.lemmas.List.{map-id}
-use Rattle.tt_cmap.specs.declared.units.TextUnit.{TextUnit}
-use Rattle.tt_cmap.specs.Maps.{has_pairs, units_by}
-use Rattle.tt_cmap.specs.Texts.{units_left}
+use Rattle.std.proofs.Common.{◌≡◌, ◌<◌, ◌∙◌, [], ◌∷◌, ◌++◌, length, map, sum, chars, refl, sym, arith}
+use Rattle.std.proofs.lemmas.List.{map_push, length_push}
+use Rattle.std.proofs.lemmas.List.Sums.{sum_by_push}
+use Rattle.tt_cmap.specs.Maps.{glyph_of_unit, has_pairs, units_by}
 use Rattle.tt_cmap.proofs.UnitLaws.{units-are-few}
+use Rattle.tt_line.specs.Layout.{advance_in_pixels}
+use Rattle.tt_line.proofs.Pens.{next_pen}
+use Rattle.tt_line.proofs.Walks.{at-the-end, goes-on, some-left}
 use Rattle.tt_line.proofs.layout.sum_of_advances.Goals as goal
 
 pub overflow_add-sum : goal.overflow_add-sum
 overflow_add-sum c =
     let m = c.args.known.now.cmap in
     let us = units_by m (chars c.args.text.now) in
-    let from : units_left c.units-unit-items.result ≡ us = rw c.cmap.ensures at c.units-unit-items.ensures in
-    let t = YieldsList-turn (YieldsList-from_first (λ (u : TextUnit). u) units_left us from) c.loop-unit.yielded _ c.loop-unit.yielded_by _ _ c.in-Some.unit c.in-Some.is c.next.ensures.steps in
-    let left : length c.loop-unit.yielded < length us = t.0 in
+    let left : length c.loop-unit.yielded < length us =
+    some-left c.loop-unit.yielded c.loop-unit.unit-iterator _ us c.in-Some.unit c.in-Some.ensures.steps c.loop-unit.invariant.split in
     let few = units-are-few (has_pairs m) (chars c.args.text.now) in
     omega arith
 
-pub returns-clause-exact : goal.returns-clause-exact
-returns-clause-exact c =
+pub loop-unit-preserved : goal.loop-unit-preserved
+loop-unit-preserved c =
     let m = c.args.known.now.cmap in
     let us = units_by m (chars c.args.text.now) in
-    let from : units_left c.units-unit-items.result ≡ us = rw c.cmap.ensures at c.units-unit-items.ensures in
-    let e = YieldsList-end (YieldsList-from_first (λ (u : TextUnit). u) units_left us from) c.loop-unit.yielded _ c.loop-unit.yielded_by _ _ c.in-None.is c.next.ensures.steps in
-    let all : c.loop-unit.yielded ≡ us = sym (map-id c.loop-unit.yielded) ∙ e.0 in
+    let was = c.loop-unit.invariant in
+    let f = advance_in_pixels c.args.known.now.metrics c.args.known.now.ppem in
+    let g = glyph_of_unit m in
+    let glyph : c.step.result.glyph ≡ g c.in-Some.unit = rw was.same at c.step.ensures.glyph in
+    let advance : c.step.result.advance ≡ f c.step.result.glyph = rw was.same at c.step.ensures.advance in
+    record {
+      split = goes-on c.loop-unit.yielded c.loop-unit.unit-iterator _ us c.in-Some.unit c.in-Some.ensures.steps was.split;
+      sum = next_pen f g c.loop-unit.yielded c.in-Some.unit c.step.result.glyph c.loop-unit.sum c.step.result.advance was.sum glyph advance;
+      same = c.step.ensures.same ∙ was.same;
+      bound = let more = length_push c.loop-unit.yielded c.in-Some.unit in
+          let bound = was.bound in let one = c.step.ensures.bound in omega (arith, more, bound, one);
+    }
+
+pub returns-clause-exact : goal.returns-clause-exact
+returns-clause-exact c =
+    let us = units_by c.args.known.now.cmap (chars c.args.text.now) in
+    let all = at-the-end c.loop-unit.yielded c.loop-unit.unit-iterator us c.in-None.ensures.steps.0 c.loop-unit.invariant.split in
     rw (← all) c.loop-unit.invariant.sum
 
 pub returns-clause-bound : goal.returns-clause-bound
 returns-clause-bound c =
     let m = c.args.known.now.cmap in
     let us = units_by m (chars c.args.text.now) in
-    let from : units_left c.units-unit-items.result ≡ us = rw c.cmap.ensures at c.units-unit-items.ensures in
-    let e = YieldsList-end (YieldsList-from_first (λ (u : TextUnit). u) units_left us from) c.loop-unit.yielded _ c.loop-unit.yielded_by _ _ c.in-None.is c.next.ensures.steps in
-    let many : length c.loop-unit.yielded ≡ length us = e.1 in
+    let all = at-the-end c.loop-unit.yielded c.loop-unit.unit-iterator us c.in-None.ensures.steps.0 c.loop-unit.invariant.split in
+    let bound = rw all at c.loop-unit.invariant.bound in
     let few = units-are-few (has_pairs m) (chars c.args.text.now) in
-    omega arith
+    omega (arith, bound, few, c.requires)

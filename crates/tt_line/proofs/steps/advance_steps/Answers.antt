@@ -1,14 +1,12 @@
-use Rattle.std.proofs.Common.{◌≡◌, ◌∙◌, ◌<◌, ℕ, [], ◌∷◌, ◌++◌, ap, chars, length, map, refl, sym, arith}
-use Rattle.std.proofs.lemmas.Iterator.Consumers.{YieldsList-from_first, YieldsList-end}
-use Rattle.std.proofs.lemmas.List.{map-id, length-map, map_push}
+use Rattle.std.proofs.Common.{List, ◌≡◌, ◌∙◌, ◌<◌, ℕ, [], ◌∷◌, ◌++◌, ap, chars, length, map, refl, sym, arith}
+use Rattle.std.proofs.lemmas.List.{length-map, map_push}
 use Rattle.std.proofs.lemmas.List.Elements.{All-push}
-use Rattle.tt_cmap.specs.declared.units.TextUnit.{TextUnit}
 use Rattle.tt_cmap.specs.Maps.{glyph_of_unit, has_pairs, units_by}
-use Rattle.tt_cmap.specs.Texts.{units_left}
 use Rattle.tt_cmap.proofs.UnitLaws.{units-are-few}
 use Rattle.tt_metrics.specs.Metrics.{glyphs_of}
 use Rattle.tt_line.specs.Layout.{advance_in_pixels, text_glyphs}
 use Rattle.tt_line.proofs.Pens.{firsts}
+use Rattle.tt_line.proofs.Walks.{at-the-end, goes-on}
 use Rattle.tt_line.proofs.steps.advance_steps.Goals as goal
 
 pub loop-unit-preserved : goal.loop-unit-preserved
@@ -20,7 +18,9 @@ loop-unit-preserved c =
     let glyph : c.step-step.result.glyph ≡ g c.in-Some.unit = rw was at c.step-step.ensures.glyph in
     let within : c.step-step.result.glyph < glyphs_of c.args.known.now.metrics = rw was at c.step-step.ensures.known in
     let advance : c.step-step.result.advance ≡ advance_in_pixels c.args.known.now.metrics c.args.known.now.ppem c.step-step.result.glyph = rw was at c.step-step.ensures.advance in
+    let us = units_by c.args.known.now.cmap (chars c.args.text.now) in
     record {
+      split = goes-on c.loop-unit.yielded c.loop-unit.unit-iterator _ us c.in-Some.unit c.in-Some.ensures.steps c.loop-unit.invariant.split;
       same = c.step-step.ensures.same ∙ was;
       steps = rw (items, advance, glyph, c.loop-unit.invariant.steps, map_push g c.loop-unit.yielded c.in-Some.unit, map_push f (map g c.loop-unit.yielded) (g c.in-Some.unit)) refl;
       known = rw items (All-push (λ (p : ℕ × ℕ). p.0 < glyphs_of c.args.known.now.metrics) c.loop-unit.glyphs.items (c.step-step.result.glyph, c.step-step.result.advance) c.loop-unit.invariant.known within);
@@ -28,11 +28,8 @@ loop-unit-preserved c =
 
 pub returns-clause-exact : goal.returns-clause-exact
 returns-clause-exact c =
-    let m = c.args.known.now.cmap in
-    let us = units_by m (chars c.args.text.now) in
-    let from : units_left c.units-unit-items.result ≡ us = rw c.cmap.ensures at c.units-unit-items.ensures in
-    let e = YieldsList-end (YieldsList-from_first (λ (u : TextUnit). u) units_left us from) c.loop-unit.yielded _ c.loop-unit.yielded_by _ _ c.in-None.is c.next.ensures.steps in
-    let all : c.loop-unit.yielded ≡ us = sym (map-id c.loop-unit.yielded) ∙ e.0 in
+    let us = units_by c.args.known.now.cmap (chars c.args.text.now) in
+    let all = at-the-end c.loop-unit.yielded c.loop-unit.unit-iterator us c.in-None.ensures.steps.0 c.loop-unit.invariant.split in
     rw (← all) c.loop-unit.invariant.steps
 
 pub returns-clause-glyphs : goal.returns-clause-glyphs

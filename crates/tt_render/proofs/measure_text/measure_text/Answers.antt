@@ -15,7 +15,7 @@ pub returns : goal.returns
 returns c =
     let us = units_by c.args.face.now.cmap (chars c.args.text.now) in
     let from : units_left c.units.result ≡ us = rw c.cmap.ensures.exact at c.units.ensures in
-    let units = YieldsList-at c.zip.ensures.first (YieldsList-from_first (λ (u : TextUnit). u) units_left us from) in
+    let units = YieldsList-at c.zip-unit-items.ensures.first (YieldsList-from_first (λ (u : TextUnit). u) units_left us from) in
     let measures = YieldsList-from_slice c.args.measure.now.characters.items cc in
     let e = YieldsList-end (YieldsList-from_zip units measures) c.loop-unit.yielded
     c.loop-unit.unit-iterator c.loop-unit.yielded_by c.next.result c.next.new.self c.in-None.is c.next.ensures.steps in

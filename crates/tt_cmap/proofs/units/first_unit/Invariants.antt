@@ -1,15 +1,13 @@
 use Rattle.std.proofs.Common.{◌≡◌, length, chars, IsUtf8}
 use Rattle.std.specs.Str.Iter.{chars_rest}
-use Rattle.tt_cmap.specs.Texts.{units_left}
 use Rattle.tt_cmap.specs.Units.{units}
-use Rattle.tt_cmap.proofs.units.TextUnitsIterator.next.Given as goal
+use Rattle.tt_cmap.proofs.units.first_unit.Given as goal
 
 -- the characters so far are passed over
 abbrev pub invariant-loop-character : goal.invariant-loop-character
 invariant-loop-character l = record {
   utf8 : IsUtf8 (chars_rest l.rest);
-  left : units l.self.pairs (chars (chars_rest l.rest)) ≡ units_left l.fn.self;
-  same : units_left l.self ≡ units_left l.fn.self;
+  left : units l.fn.pairs (chars (chars_rest l.rest)) ≡ units l.fn.pairs (chars l.fn.text);
 }
 
 abbrev pub decreases-loop-character : goal.decreases-loop-character
