@@ -1,4 +1,4 @@
-use Rattle.std.proofs.Common.{◌≡◌, ◌*◌, length, refl, arith}
+use Rattle.std.proofs.Common.{◌≡◌, ◌*◌, refl, arith}
 use Rattle.tt_core.specs.Bits.{stride}
 use Rattle.tt_c_calls.proofs.pictures.skip_rows.Goals as goal
 
