@@ -17,7 +17,7 @@
 #include "tt_render.h"
 
 static uint8_t font[1 << 23], text[1 << 15], rows[1 << 16];
-static struct tt_unit units[1 << 13];
+static struct tt_glyph units[1 << 13];
 static struct tt_glyph glyphs[1 << 13];
 static size_t font_bytes, text_bytes;
 
