@@ -1,4 +1,4 @@
-use Rattle.std.proofs.Common.{◌≡◌, [], chars, refl, sym, ◌∙◌}
+use Rattle.std.proofs.Common.{◌≡◌, [], chars, refl, sym, ◌∙◌, rules}
 use Rattle.tt_cmap.specs.Lacking.{lacking_of, with_unit}
 use Rattle.tt_cmap.specs.Maps.{units_by}
 use Rattle.tt_cmap.proofs.WithoutGlyphs.{one-more, lacking_missing, lacking_stand, lacking_every, lacking_once}
@@ -8,7 +8,8 @@ pub loop-unit-init : goal.loop-unit-init
 unfolding lacking_of
 loop-unit-init c =
     let from : c.into_iter-unit-iterator.result ≡ units_by c.args.cmap.now (chars c.args.text.now) = cc in
-    record { same = c.new-known.ensures; listed = rw from refl }
+    let empty : c.new-listed.result.items ≡ [] = search rules in
+    record { same = c.new-known.ensures; listed = rw (empty, from) refl }
 
 pub loop-unit-preserved : goal.loop-unit-preserved
 loop-unit-preserved c =
