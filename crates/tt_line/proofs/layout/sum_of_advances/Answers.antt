@@ -1,4 +1,4 @@
-use Rattle.std.proofs.Common.{◌≡◌, ◌<◌, ◌∙◌, [], ◌∷◌, ◌++◌, length, map, sum, chars, refl, sym, arith}
+use Rattle.std.proofs.Common.{◌≡◌, ◌<◌, ◌∙◌, [], ◌∷◌, ◌++◌, length, map, sum, chars, refl, sym, arith, rules}
 use Rattle.std.proofs.lemmas.List.{map_push, length_push}
 use Rattle.std.proofs.lemmas.List.Sums.{sum_by_push}
 use Rattle.tt_cmap.specs.Maps.{glyph_of_unit, has_pairs, units_by}
@@ -26,12 +26,13 @@ loop-unit-preserved c =
     let g = glyph_of_unit m in
     let glyph : c.step.result.glyph ≡ g c.in-Some.unit = rw was.same at c.step.ensures.glyph in
     let advance : c.step.result.advance ≡ f c.step.result.glyph = rw was.same at c.step.ensures.advance in
+    let wide : c.from-sum.result ≡ c.step.result.advance = search rules in
     record {
       split = goes-on c.loop-unit.yielded c.loop-unit.unit-iterator _ us c.in-Some.unit c.in-Some.ensures.steps was.split;
-      sum = next_pen f g c.loop-unit.yielded c.in-Some.unit c.step.result.glyph c.loop-unit.sum c.step.result.advance was.sum glyph advance;
+      sum = rw wide (next_pen f g c.loop-unit.yielded c.in-Some.unit c.step.result.glyph c.loop-unit.sum c.step.result.advance was.sum glyph advance);
       same = c.step.ensures.same ∙ was.same;
       bound = let more = length_push c.loop-unit.yielded c.in-Some.unit in
-          let bound = was.bound in let one = c.step.ensures.bound in omega (arith, more, bound, one);
+          let bound = was.bound in let one = c.step.ensures.bound in omega (arith, more, bound, one, wide);
     }
 
 pub returns-clause-exact : goal.returns-clause-exact
