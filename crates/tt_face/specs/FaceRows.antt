@@ -1,6 +1,6 @@
 -- Worked values: the faces of a collection of two faces that share all tables but hmtx, and of the collection with some
 -- bytes changed. OpenType, "TrueType Collections". The collection is built by hand.
-use Rattle.std.specs.Prelude.{◌≡◌, refl, ℕ, ◌+◌, ◌×◌, List, [], ◌∷◌, ◌++◌, length, take, drop, codes, Result, Ok, Err}
+use Rattle.std.specs.Prelude.{◌≡◌, refl, ℕ, ◌+◌, List, [], ◌∷◌, ◌++◌, length, take, drop, codes, Result, Ok, Err}
 use Rattle.tt_cmap.specs.Format4.{segments_at}
 use Rattle.tt_cmap.specs.Halves.{reached_within}
 use Rattle.tt_cmap.specs.Lookup.{cmap_of}
