@@ -3,4 +3,5 @@ pub mod FaceRows
 pub mod Faces
 pub mod Files
 pub mod Laws
+pub mod Names
 pub mod Programs

@@ -8,10 +8,13 @@ ghost use Rattle.tt_cmap.specs.Maps.{glyph_count};
 ghost use Rattle.tt_metrics.specs.Metrics.{loca_format_of, glyphs_of};
 ghost use Rattle.tt_face.specs.Defects.{IsGlyphTableDefect, HasProgramPastEnd};
 ghost use Rattle.tt_face.specs.Faces.{glyphs_in, optional_table, programs_of};
+ghost use Rattle.tt_face.specs.Names.{full_name_of};
 ghost use Rattle.tt_face.specs.Programs.{program_tables};
 ghost use Rattle.tt_face.specs.Files.{face_of, face_by, IsFaceDefect, IsFaceDefectBy};
 
+use crate::names::{string_of, told_text};
 use crate::programs::Programs;
+use std::alloc::{AllocError, Global};
 use std::marker::Model;
 use tt_cmap::{CharacterMap, Cmap};
 use tt_core::{Dir, Fault, Reading};
@@ -103,6 +106,15 @@ impl<'a> Face<'a> {
         // A short loca is reported before a missing glyf.
         let loca = Loca::open(self.dir.needed(*b"loca")?, &self.metrics)?;
         Ok(Glyf::of(loca, self.dir.needed(*b"glyf")?))
+    }
+
+    /// The face's full name in ASCII: at most 64 characters, none where the table of names has a defect. Error: memory ran
+    /// out.
+    #[tactic(auto, unfolding(crate::specs::Names::full_name_of))]
+    pub fn full_name(&self, alloc: Global) -> Result<Vec<u8>, AllocError>
+        ensures { IfOk result (λ name. name.items ≡ full_name_of self.now.directory) }
+    {
+        told_text(alloc, string_of(&self.dir))
     }
 
     /// The control values and the two programs. Error: TableRange, of the first table in this order.

@@ -3,6 +3,7 @@
 
 mod face;
 pub mod laws;
+mod names;
 mod programs;
 
 pub use face::Face;
