@@ -85,7 +85,7 @@ fn read_words(alloc: Global, n: u32, face: &Face) -> Result<Vec<u8>, AllocError>
     let mut words = Vec::new(alloc);
     let figures = figures(alloc, n, face.metrics())?;
     words.extend_from_slice(figures.as_bytes())?;
-    let name = face.name(alloc)?;
+    let name = face.full_name(alloc)?;
     push_name(&mut words, &name)?;
     Ok(words)
 }
