@@ -11,7 +11,7 @@ use Rattle.tt_core.specs.Chains.{came-through, passed-on}
 use Rattle.tt_core.specs.Collections.{is_collection, face_offset, offset_of, directory_by}
 use Rattle.tt_core.specs.declared.collection.Reading.{Reading}
 use Rattle.tt_core.specs.declared.collection.Reading.TheVariants as reading
-use Rattle.tt_core.specs.Directory.{Directory, HasNo, is_version, version, file_directory, read_directory, directory_of, needed_table, table_of, or_missing}
+use Rattle.tt_core.specs.Directory.{Directory, HasNo, is_version, version, file_directory, read_directory, directory_of, needed_table, or_missing}
 use Rattle.tt_core.specs.Faults.{Fault}
 use Rattle.tt_core.specs.Outcomes.{◌>>=◌}
 use Rattle.tt_core.proofs.Offsets.{readings-whole, strict-is}

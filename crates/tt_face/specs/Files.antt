@@ -3,7 +3,7 @@
 -- Tables", "TrueType Collections".
 use Rattle.std.specs.Prelude.{◌≡◌, refl, ℕ, List, [], ◌∷◌, Result, Ok, Err, IsOkAnd, ◌⊎◌}
 use Rattle.tt_cmap.specs.Lookup.{cmap_of}
-use Rattle.tt_cmap.specs.Maps.{CharacterMap, strict, map_by, glyph_by, IsBadMap}
+use Rattle.tt_cmap.specs.Maps.{strict, map_by, glyph_by, IsBadMap}
 use Rattle.tt_core.specs.Collections.{directory_by, IsDirectoryDefectBy}
 use Rattle.tt_core.specs.declared.collection.Reading.{Reading}
 use Rattle.tt_core.specs.declared.collection.Reading.TheVariants as reading

@@ -54,10 +54,11 @@ impl<'a> Names<'a> {
         requires { i < name_count self.now }
         ensures { result ≡ is_full_name english self.now i }
     {
+        let table = self.table;
         let place = 6 + 12 * i;
-        u16_at(self.table, place).unwrap() == 3
-            && u16_at(self.table, place + 6).unwrap() == 4
-            && (!english || u16_at(self.table, place + 4).unwrap() == 0x0409)
+        u16_at(table, place).unwrap() == 3
+            && u16_at(table, place + 6).unwrap() == 4
+            && (!english || u16_at(table, place + 4).unwrap() == 0x0409)
     }
 
     /// The first record of a full name.

@@ -9,7 +9,7 @@ use Rattle.tt_face.proofs.face.Face.read.Goals as goal
 pub returns-clause-exact : goal.returns-clause-exact
 unfolding face_by face_at
 returns-clause-exact c =
-    let mapped = rw c.glyphs.ensures at c.in_ok-cmap.ensures.exact in
+    let mapped = rw c.glyphs.ensures.exact at c.in_ok-cmap.ensures.exact in
     rw (c.in_ok-dir.ensures.exact, c.in_ok-metrics.ensures.exact, c.in_ok-table.ensures.exact, mapped) refl
 
 pub returns-clause-sound : goal.returns-clause-sound

@@ -6,5 +6,5 @@ use Rattle.tt_face.proofs.names.Names.first_name.Given as goal
 -- the search over all records is the search over the remaining records
 abbrev pub invariant-loop-i : goal.invariant-loop-i
 invariant-loop-i l =
-    let table = l.self-inside.table.now in
+    let table = l.self in
     first_from (is_full_name l.english table) l.i (l.i-end - l.i) ≡ first_name l.english table
