@@ -1,6 +1,6 @@
 -- No part of the standard: the glyphs of a line that are fitted, before their edges are made: each by its outline, or from
 -- the cache.
-use Rattle.std.specs.Prelude.{◌≡◌, ℕ, Bool, true, false, All, IfSome, List, map, Option, None, Ok}
+use Rattle.std.specs.Prelude.{◌≡◌, ℕ, ◌+◌, Bool, true, false, All, IfSome, List, [], ◌∷◌, map, Option, None, Ok}
 use Rattle.std.specs.List.{sum_by}
 use Rattle.tt_core.specs.Faults.{Fault}
 use Rattle.tt_fit.specs.Counting.{points_asked}
@@ -12,6 +12,7 @@ use Rattle.tt_arc.specs.declared.rule.ChordRule.{ChordRule}
 use Rattle.tt_scan_dropouts.specs.declared.boxed.BoxedRules.{BoxedRules}
 use Rattle.tt_scan_gaps.specs.Boxes.{ExtentsFit}
 use Rattle.tt_picture.specs.Cached.{IsOfOutline}
+use Rattle.tt_picture.specs.Glyphs.{Glyph, GlyphBody, crossings_cut}
 use Rattle.tt_picture.specs.Shapes.{chords_with, filled_by}
 use Rattle.tt_picture.specs.Steps.{chords_of}
 use Rattle.tt_picture.specs.declared.outlined.KeptCounts.{KeptCounts}
@@ -81,3 +82,13 @@ AreFitted cached maker gs = All (λ g. IsFitted cached (maker g.number) g) gs
 -- this is the step of each glyph
 abbrev pub AreSteps : (ℕ → ℕ) → List FittedGlyph → Type 0
 AreSteps step gs = All (λ g. step g.number ≡ body_step g.body) gs
+
+-- the crossings of a glyph that is cut when it is drawn, and of some; a glyph from the cache was cut before
+abbrev pub newly_cut : FittedBody → GlyphBody → ℕ
+newly_cut (outlined m) b = crossings_cut b
+newly_cut (kept k) b = 0
+
+abbrev pub all_cut : List FittedGlyph → List Glyph → ℕ
+all_cut [] gs = 0
+all_cut (f ∷ fs) [] = 0
+all_cut (f ∷ fs) (g ∷ gs) = newly_cut f.body g.body + all_cut fs gs

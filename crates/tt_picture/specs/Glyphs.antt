@@ -34,6 +34,11 @@ pub data GlyphBody : Type 0 where
   tape : Tape → GlyphBody
   kept : KeptGlyph → GlyphBody
 
+-- the crossings of a glyph that is cut into pixels
+abbrev pub crossings_cut : GlyphBody → ℕ
+crossings_cut (tape t) = 0
+crossings_cut (kept k) = k.crossings
+
 abbrev pub edges_of : GlyphBody → List Edge
 edges_of (tape t) = t.edges
 edges_of (kept k) = []

@@ -125,7 +125,8 @@ impl Glyph {
         ensures fault { IfTold font_fault result (λ f. fitted_outline fitter.old number ≡ Err f) }
     {
         let fitted = FittedGlyph::of(fitter, number, cache)?;
-        let made = fitted.into_glyph(alloc, frame, room, cache)?;
+        let mut allowed = u64::MAX;
+        let made = fitted.into_glyph(alloc, frame, room, cache, &mut allowed)?;
         Ok(made)
     }
 

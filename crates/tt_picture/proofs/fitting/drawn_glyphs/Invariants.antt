@@ -1,15 +1,17 @@
-use Rattle.std.proofs.Common.{◌≡◌, ◌+◌, ◌++◌, ℕ, Bool, length}
+use Rattle.std.proofs.Common.{◌≡◌, ◌+◌, ◌++◌, ◌≤◌, ℕ, Bool, length}
 use Rattle.std.specs.Prelude.{All}
 use Rattle.std.specs.Vec.Iter.{into_iter_items, into_iter_len}
+use Rattle.tt_core.specs.Limits.{crossing_limit}
 use Rattle.tt_fit.specs.Fitting.{Fitter}
-use Rattle.tt_fit.specs.GlyphCost.{without_work}
-use Rattle.tt_picture.specs.Cached.{IsCacheFor, limit_of}
-use Rattle.tt_picture.specs.Fitted.{AreFitted, fitted_chords, fitted_numbers}
+use Rattle.tt_picture.specs.Cached.{limit_of}
+use Rattle.tt_picture.specs.Fitted.{AreFitted, all_cut, fitted_chords, fitted_numbers}
 use Rattle.tt_picture.specs.Glyphs.{AreDrawn, numbers_of}
+use Rattle.tt_picture.proofs.Cached.{Serves}
 use Rattle.tt_picture.proofs.Reframed.{IsBare}
 use Rattle.tt_picture.proofs.fitting.drawn_glyphs.Given as goal
 
--- the glyphs so far have their edges or pixels, their chords are charged, and the cache serves the fitters still
+-- the glyphs so far have their edges or pixels, their chords and their cuts are charged, and the cache serves the fitters
+-- still
 abbrev pub invariant-loop-one : goal.invariant-loop-one
 invariant-loop-one l = record {
   all : l.yielded ++ into_iter_items l.one-iterator ≡ l.fn.fitted.items;
@@ -18,7 +20,7 @@ invariant-loop-one l = record {
   bare : All IsBare l.made.items;
   drawn : (cached : Bool) (maker : ℕ → Fitter) → AreFitted cached maker l.yielded → AreDrawn cached maker l.frame l.made.items;
   left : l.left + fitted_chords l.yielded ≡ l.most;
-  cached : (cached : Bool) (maker : ℕ → Fitter) (s : Fitter) → AreFitted cached maker l.yielded
-      → ((n : ℕ) → without_work (maker n) ≡ without_work s) → IsCacheFor s l.fn.cache → IsCacheFor s l.cache;
+  cut : all_cut l.yielded l.made.items + l.allowed ≤ crossing_limit;
+  cached : Serves l.fn.cache l.cache l.yielded;
   limit : limit_of l.cache ≡ limit_of l.fn.cache;
 }
