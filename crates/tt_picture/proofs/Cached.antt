@@ -109,7 +109,7 @@ abbrev pub Serves : Option Kept → Option Kept → List FittedGlyph → Type 0
 Serves old new gs = (cached : Bool) (maker : ℕ → Fitter) (s : Fitter) → AreFitted cached maker gs
     → ((n : ℕ) → without_work (maker n) ≡ without_work s) → IsCacheFor s old → IsCacheFor s new
 
-IsBy : Bool → (ℕ → Fitter) → FittedGlyph → Type 0
+abbrev IsBy : Bool → (ℕ → Fitter) → FittedGlyph → Type 0
 IsBy cached maker g = IsFitted cached (maker g.number) g
 
 -- one glyph more of some that are left

@@ -1,4 +1,4 @@
-use Rattle.std.proofs.Common.{◌≡◌, ◌∙◌, ◌∷◌, [], ◌++◌, ◌+◌, ◌<◌, ◌≤◌, ℕ, List, Bool, Some, length, refl, sym, ap, subst, append_assoc, append-nil, arith}
+use Rattle.std.proofs.Common.{◌≡◌, ◌∙◌, ◌∷◌, [], ◌++◌, ◌+◌, ◌<◌, ◌≤◌, inl, inr, ℕ, List, Bool, Some, length, refl, sym, ap, subst, append_assoc, append-nil, arith}
 use Rattle.std.specs.Vec.Iter.{into_iter_items}
 use Rattle.std.proofs.lemmas.List.{map-append}
 use Rattle.std.proofs.lemmas.List.Elements.{All-pop, All-push}
@@ -9,6 +9,7 @@ use Rattle.tt_picture.proofs.Cached.{served}
 use Rattle.tt_picture.proofs.Filled.{one_can_be_counted}
 use Rattle.tt_picture.proofs.Outlines.{one_chord_more, one_glyph_more, too_many_chords, too_many_crossings}
 use Rattle.tt_picture.proofs.Reframed.{IsBare, nothing_left, of_middle}
+use Rattle.tt_picture.proofs.fitting.drawn_glyphs.Goals.{then-glyph-left-via-else-glyph-left+then-crossings-left, then-glyph-left-via-then-glyph-left}
 use Rattle.tt_picture.proofs.fitting.drawn_glyphs.Goals as goal
 
 abbrev IsBy : Bool → (ℕ → Fitter) → FittedGlyph → Type 0
@@ -24,8 +25,8 @@ into_glyph-requires-clause-fitted c =
     let all : at.yielded ++ g ∷ rest ≡ c.args.fitted.items = rw (← steps) at.invariant.all in
     (cached, maker g.number, of_middle (IsBy cached maker) at.yielded rest g (subst (AreFitted cached maker) (sym all) fitted))
 
-pub pen_crossings-requires : goal.pen_crossings-requires
-pen_crossings-requires c =
+pub pen_crossings-crossings-requires : goal.pen_crossings-crossings-requires
+pen_crossings-crossings-requires c =
     let at = c.loop-one in
     let g = c.in-Some.one in
     let (cached, maker, fitted) = c.requires.made in
@@ -115,7 +116,18 @@ returns-then-glyph-left-clause-many c =
     let rest = into_iter_items c.next.new.self in
     let steps : into_iter_items at.one-iterator ≡ g ∷ rest = c.in-Some.ensures.steps.0 in
     let all : at.yielded ++ g ∷ rest ≡ c.args.fitted.items = rw (← steps) at.invariant.all in
-    ?
+    let same : c.glyph.inside.chords ≡ h.chords = ap (λ (g : Glyph). g.chords) c.glyph.view_is in
+    let crosses = c.pen_crossings-crossings.ensures ∙ c.in_ok-glyph.ensures.crossings in
+    elim c.then-glyph-left.branch [
+      | then-glyph-left-via-then-glyph-left w ↦
+          let over : at.left.chords < h.chords = omega (arith, same, w.if-glyph-left.true) in
+          inl (rw (← all) (too_many_chords at.yielded rest g at.left.chords c.args.limits.chords h.chords at.invariant.left
+          c.in_ok-glyph.ensures.chords over))
+      | then-glyph-left-via-else-glyph-left+then-crossings-left w ↦
+          let over : at.left.crossings < c.pen_crossings-crossings.result = omega (arith, w.if-crossings-left.true) in
+          inr (rw (← all) (too_many_crossings at.yielded rest g at.left.crossings c.args.limits.crossings c.pen_crossings-crossings.result
+          at.invariant.crossed crosses over))
+    ]
 
 -- the cache after the glyphs so far and one more
 pub returns-then-glyph-left-clause-cached : goal.returns-then-glyph-left-clause-cached

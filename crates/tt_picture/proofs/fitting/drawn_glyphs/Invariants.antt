@@ -18,8 +18,8 @@ invariant-loop-one l = record {
   numbers : numbers_of l.made.items ≡ fitted_numbers l.yielded;
   bare : All IsBare l.made.items;
   drawn : (cached : Bool) (maker : ℕ → Fitter) → AreFitted cached maker l.yielded → AreDrawn cached maker l.frame l.made.items;
-  left : l.left.chords + fitted_chords l.yielded ≡ l.limits.chords;
-  crossed : l.left.crossings + fitted_crossings l.yielded ≡ l.limits.crossings;
+  left : l.left.chords + fitted_chords l.yielded ≡ l.fn.limits.chords;
+  crossed : l.left.crossings + fitted_crossings l.yielded ≡ l.fn.limits.crossings;
   cached : Serves l.fn.cache l.cache l.yielded;
   limit : limit_of l.cache ≡ limit_of l.fn.cache;
 }
