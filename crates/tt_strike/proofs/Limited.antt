@@ -53,7 +53,8 @@ standing_counts maker f line gs shapes of made =
     let stood = rw made at of.stand in
     stood.crossings
 
-either_way : (b : Bool) → as_job ((if b then Err fault.WorkLarge else Ok tt) >>= λ u. Err fault.WorkLarge) ≡ Err (job fault.WorkLarge)
+either_way : (b : Bool)
+    → as_job {X = Unit {0}} ((if b then Err fault.WorkLarge else Ok (tt {0})) >>= λ (u : Unit {0}). Err fault.WorkLarge) ≡ Err (job fault.WorkLarge)
 either_way true = refl
 either_way false = refl
 
@@ -66,11 +67,11 @@ too_many_crossings how left chords crossings bounded past =
     rw (bounded, over) (either_way (nat_lt chord_limit chords))
 
 -- the crossings of a glyph by its number, at one pen
-crosses_by : Fitter → ℕ → Result Outline Fault → ℕ
+abbrev crosses_by : Fitter → ℕ → Result Outline Fault → ℕ
 crosses_by s n (Ok o) = let es = edges_at (chords_with s) 0 o in edges_counted es + filling_crossings (filled_by s n o) es
 crosses_by s n (Err f) = 0
 
-crosses : (ℕ → Fitter) → ℕ → ℕ
+abbrev crosses : (ℕ → Fitter) → ℕ → ℕ
 crosses maker n = crosses_by (maker n) n (fitted_outline (maker n) n)
 
 body_crosses : (cached : Bool) (s : Fitter) (n : ℕ) (o : Outline) (body : FittedBody) → IsFittedBody cached s n o body

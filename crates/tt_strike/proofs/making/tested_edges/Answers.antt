@@ -36,7 +36,7 @@ returns-in_default-clause-exact c = λ cached maker shapes fitted made.
     let fs = c.args.fitted.items in
     let line = c.args.laid.now.line.glyphs.items in
     let many : (32000000 < fitted_chords fs) ⊎ (crossings_allowed c.args.left < fitted_crossings fs) =
-    rw (c.in_default.is, c.crossings_allowed.ensures.exact) at c.in_ok-made.ensures.many in
+    rw (c.in_default.is, c.crossings_allowed-allowed.ensures.exact) at c.in_ok-made.ensures.many in
     elim many [
       | inl chords ↦ too_many_chords c.args.fit c.args.left _ (crossings_in shapes) c.requires.bounded chords
       | inr crossings ↦
@@ -52,7 +52,7 @@ returns-in_err-crossings-clause-exact c = λ cached maker shapes fitted made.
     rw (c.in-Some.is, c.deref.ensures.value) at c.in_ok-made.ensures.line in
     let few : fitted_chords c.args.fitted.items ≤ 32000000 = rw c.in-Some.is at c.in_ok-made.ensures.few in
     let count = standing_counts maker c.frame-frame.result line gs shapes (of cached maker fitted) made in
-    let fails = rw (c.deref-2.ensures.value, count, c.crossings_allowed.ensures.exact) at c.in_err-crossings.ensures.exact in
+    let fails = rw (c.deref-2.ensures.value, count, c.crossings_allowed-allowed.ensures.exact) at c.in_err-crossings.ensures.exact in
     let p = err_from_is_err_and c.from_residual-in_err-crossings.result c.from_residual-in_err-crossings.ensures.1 in
     rw (p.1, p.2, few_chords c.args.fit c.args.left _ (crossings_in shapes) c.requires.bounded few, fails) refl
 
@@ -64,7 +64,7 @@ returns-clause-exact c = λ cached maker shapes fitted made.
     rw (c.in-Some.is, c.deref.ensures.value) at c.in_ok-made.ensures.line in
     let few : fitted_chords c.args.fitted.items ≤ 32000000 = rw c.in-Some.is at c.in_ok-made.ensures.few in
     let count = standing_counts maker c.frame-frame.result line gs shapes (of cached maker fitted) made in
-    let passes = rw (c.deref-2.ensures.value, count, c.crossings_allowed.ensures.exact) at c.in_ok-crossings.ensures.exact in
+    let passes = rw (c.deref-2.ensures.value, count, c.crossings_allowed-allowed.ensures.exact) at c.in_ok-crossings.ensures.exact in
     rw (few_chords c.args.fit c.args.left _ (crossings_in shapes) c.requires.bounded few, passes) refl
 
 pub returns-clause-cost : goal.returns-clause-cost
