@@ -99,7 +99,7 @@ line_crosses maker (g ∷ gs) shapes made =
     let o = one.outline in
     let s = maker g.0 in
     let there : edges_counted (edges_at (chords_with s) g.1 o) + filling_crossings (filled_at g.1 (filled_by s g.0 o)) (edges_at (chords_with s) g.1 o)
-        ≡ crosses_by s g.0 (Ok o) =
+    ≡ crosses_by s g.0 (Ok o) =
     rw (counts_from_pen (chords_with s) o g.1, filling_from_pen (filled_by s g.0 o) (chords_with s) o g.1) refl in
     let own : crosses maker g.0 ≡ crosses_by s g.0 (Ok o) = rw one.fitted refl in
     let rest = line_crosses maker gs one.rest one.others in

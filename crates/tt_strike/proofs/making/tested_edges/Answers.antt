@@ -40,8 +40,8 @@ returns-in_default-clause-exact c = λ cached maker shapes fitted made.
     elim many [
       | inl chords ↦ too_many_chords c.args.fit c.args.left _ (crossings_in shapes) c.requires.bounded chords
       | inr crossings ↦
-        let few = few_fitted maker fs line shapes fitted c.requires.numbers made in
-        too_many_crossings c.args.fit c.args.left _ (crossings_in shapes) c.requires.bounded (omega (arith, crossings, few))
+          let few = few_fitted maker fs line shapes fitted c.requires.numbers made in
+          too_many_crossings c.args.fit c.args.left _ (crossings_in shapes) c.requires.bounded (omega (arith, crossings, few))
     ]
 
 pub returns-in_err-crossings-clause-exact : goal.returns-in_err-crossings-clause-exact
