@@ -23,16 +23,27 @@
  * No struct has a size field or a version. So a struct, tt_job too, changes only with a new version of the library;
  * then a caller has to be compiled anew.
  *
- * A call reports the first refusal in this order: the way to fit, UTF-8, size, margin, the text's length; the font's
- * size, its tables; the picture's size; loca and glyf, the font's programs, the points (65), the glyphs, the crossings
- * (65). With TT_BEST the picture's size comes after the glyphs. With grow, the size of the enlarged picture follows. The
- * room comes last. tt_draw_lines tests the way to fit, size, margin and font once, then lines_room, and then the rest
- * line by line, first the line's ends, then the work of the lines before it (65).
+ * A font file is read strictly or widely. Strictly the file has one font, whose cmap has format 4 or 12. Widely the
+ * file may be a collection of faces, and more formats and kinds of cmap are read: formats 0, 6, 10 and 13, symbol
+ * fonts, Macintosh Roman. Where a font is accepted strictly, a text without variation selectors has the same glyphs
+ * widely. tt_open and tt_map read strictly, as do tt_open_face, tt_map_face and a job where their face is 0, except that
+ * a job with TT_BEST then reads face 0 widely. A face of n + 1 reads face n widely. Faces are numbered from 0, in the
+ * order of the file; a file that is no collection has face 0 alone.
  *
- * Cost: tt_open and tt_map read tables alone. tt_measure, tt_characters, tt_draw and tt_draw_band each run the font's
- * first two programs and fit all glyphs of the text: with hinting mostly some million instructions. This is so even
- * where the room is too small. tt_draw_lines runs the two programs once, and fits no glyph that is cached: a label of 16
- * letters then takes some 30,000 instructions. With keep 0 each line fits its glyphs anew.
+ * A unit of a text is a character. Read widely, a variation selector (U+FE00 to U+FE0F, U+E0100 to U+E01EF) is part of
+ * the unit of the character before it, and chooses that unit's glyph where the font says so. Every other selector is
+ * passed over, at the start and behind another one.
+ *
+ * A call reports the first refusal in this order: the way to fit, UTF-8, size, margin, the text's length; the font's
+ * size, the place of the face, its tables; the picture's size; loca and glyf, the font's programs, the points (65),
+ * the glyphs, the crossings (65). With TT_BEST the picture's size comes after the glyphs. With grow, the size of the
+ * enlarged picture follows. The room comes last. tt_draw_lines tests the way to fit, size, margin and font once, then
+ * lines_room, and then the rest line by line, first the line's ends, then the work of the lines before it (65).
+ *
+ * Cost: tt_faces, tt_open and tt_map, with a face too, read tables alone. tt_measure, tt_characters, tt_draw and
+ * tt_draw_band each run the font's first two programs and fit all glyphs of the text: with hinting mostly some million
+ * instructions. This is so even where the room is too small. tt_draw_lines runs the two programs once, and fits no glyph
+ * that is cached: a label of 16 letters then takes some 30,000 instructions. With keep 0 each line fits its glyphs anew.
  */
 #ifndef TT_RENDER_H
 #define TT_RENDER_H
@@ -71,6 +82,7 @@ struct tt_font {
     int32_t ascent;        /* above the base line */
     int32_t descent;       /* above the base line, so mostly negative */
     uint32_t glyphs;
+    int32_t line_gap;      /* between the descent of a line and the ascent of the next one */
 };
 
 /* The ways to fit outlines to the pixels, for a job's fit. */
@@ -87,6 +99,7 @@ struct tt_job {
     uint32_t margin; /* pixels round the line, 0 to 64 */
     uint32_t fit;    /* TT_FULL .. TT_BEST */
     uint32_t grow;   /* not 0: the picture is enlarged on each side, by as little as possible, so that no ink is cut */
+    uint32_t face;   /* n + 1: face n, read widely. 0: the only font, read strictly; with TT_BEST face 0, read widely */
 };
 
 /* A picture without its pixels. */
@@ -116,20 +129,21 @@ struct tt_measure {
     struct tt_box ink;
 };
 
-/* A character of a text, in its picture's columns and rows. */
+/* A unit of a text, in its picture's columns and rows. */
 struct tt_character {
-    uint32_t glyph;   /* 0 where the font has none for the character */
-    uint32_t advance; /* columns to the next character's origin */
+    uint32_t glyph;   /* 0 where the font has none for the unit */
+    uint32_t advance; /* columns to the next unit's origin */
     int64_t pen;      /* the column of the origin */
     uint64_t has_ink; /* 0: nothing is black, and the box is all 0 */
     struct tt_box ink;
 };
 
-/* A character of a text in the font. */
+/* A unit of a text in the font. */
 struct tt_glyph {
-    uint32_t code_point;
-    uint32_t glyph;   /* 0 where the font has none for the character */
-    uint32_t advance; /* in font units */
+    uint32_t code_point; /* the character's */
+    uint32_t glyph;      /* 0 where the font has none for the unit */
+    uint32_t advance;    /* in font units */
+    uint32_t selector;   /* the unit's variation selector, 0 without one */
 };
 
 /* A line of tt_draw_lines. */
@@ -139,17 +153,28 @@ struct tt_line {
 };
 
 /*
- * Tests the tables that every text needs, and fills told with the font's figures. It takes no memory.
+ * Counts the faces of a font file: 1, or those of a collection. A face that is counted may still be refused. The file is
+ * refused where it has no face 0. It takes no memory. count: faces.
  */
-uint32_t tt_open(const uint8_t *font, size_t font_bytes, struct tt_font *told, struct tt_answer *answer);
+uint32_t tt_faces(const uint8_t *font, size_t font_bytes, struct tt_answer *answer);
 
 /*
- * The glyph and the advance of each character of a text, in order. The room holds as many entries as the text has
- * characters, which are at most as many as its bytes. It takes no memory. Of the refusals of a job only 61, a text that
- * is too long, occurs. count: characters.
+ * Tests the tables that every text needs, and fills told with the font's figures. It takes no memory. tt_open_face does
+ * so for a face: n + 1 for face n, as in a job.
+ */
+uint32_t tt_open(const uint8_t *font, size_t font_bytes, struct tt_font *told, struct tt_answer *answer);
+uint32_t tt_open_face(const uint8_t *font, size_t font_bytes, uint32_t face, struct tt_font *told,
+                      struct tt_answer *answer);
+
+/*
+ * The glyph and the advance of each unit of a text, in order. The room holds as many entries as the text has units,
+ * which are at most as many as its bytes. It takes no memory. Of the refusals of a job only 61, a text that is too long,
+ * occurs. tt_map_face does so for a face: n + 1 for face n, as in a job. count: units.
  */
 uint32_t tt_map(const uint8_t *font, size_t font_bytes, const uint8_t *text, size_t text_bytes,
                 struct tt_glyph *glyphs, size_t room, struct tt_answer *answer);
+uint32_t tt_map_face(const uint8_t *font, size_t font_bytes, uint32_t face, const uint8_t *text, size_t text_bytes,
+                     struct tt_glyph *glyphs, size_t room, struct tt_answer *answer);
 
 /*
  * The size of a text's picture, its base line and the box of its ink.
@@ -158,7 +183,7 @@ uint32_t tt_measure(const uint8_t *font, size_t font_bytes, const uint8_t *text,
                     const struct tt_job *job, struct tt_measure *told, struct tt_answer *answer);
 
 /*
- * The place of each character of a text in its picture. count: characters.
+ * The place of each unit of a text in its picture. count: units.
  */
 uint32_t tt_characters(const uint8_t *font, size_t font_bytes, const uint8_t *text, size_t text_bytes,
                        const struct tt_job *job, struct tt_character *characters, size_t room,
@@ -247,6 +272,8 @@ uint32_t tt_message(const struct tt_answer *told, uint8_t *text, size_t room, st
     X(21, ScaledOffset) \
     X(22, PointLimit) \
     X(23, CoordRange) \
+    X(24, CollectionVersion) \
+    X(25, NoFace) \
     X(30, StepLimit) \
     X(31, StackFull) \
     X(32, StackShort) \
