@@ -116,15 +116,15 @@ static void write_box(uint64_t has_ink, struct tt_box box) {
 }
 
 static void write_characters(const struct question *q) {
-  struct outcome it = tried(&characters, q), map = tried(&maps, q);
+  struct outcome it = tried(&characters, q), map = tried(&maps_face, q);
   size_t count = it.room.size / sizeof(struct tt_character);
   expect(it.answer.status == TT_DONE && it.answer.count == count && map.answer.status == TT_DONE &&
              map.answer.count == count && map.room.size == count * sizeof(struct tt_glyph),
-         "tt_characters: status %u, %zu characters; tt_map: status %u", it.answer.status, count, map.answer.status);
+         "tt_characters: status %u, %zu characters; tt_map_face: status %u", it.answer.status, count, map.answer.status);
   for (size_t i = 0; i < count && i < map.answer.count; i++) {
     struct tt_character *one = (struct tt_character *)it.room.at + i;
     struct tt_glyph *glyph = (struct tt_glyph *)map.room.at + i;
-    expect(one->glyph == glyph->glyph, "tt_characters: glyph %u, and tt_map has %u", one->glyph, glyph->glyph);
+    expect(one->glyph == glyph->glyph, "tt_characters: glyph %u, and tt_map_face has %u", one->glyph, glyph->glyph);
     printf("U+%04X %u %" PRId64 " %u ", glyph->code_point, one->glyph, one->pen, one->advance);
     write_box(one->has_ink, one->ink);
   }
@@ -133,7 +133,7 @@ static void write_characters(const struct question *q) {
 }
 
 static void write_measure(const struct question *q) {
-  struct outcome it = tried(&measures, q), open = tried(&opens, q);
+  struct outcome it = tried(&measures, q), open = tried(&opens_face, q);
   printf("%u ", it.answer.status);
   if (it.answer.status != TT_DONE) {
     struct outcome each = tried(&characters, q);
@@ -141,7 +141,7 @@ static void write_measure(const struct question *q) {
            it.answer.status);
     forget(each);
     fputs(message_of(&it.answer), stdout);
-  } else if (expect(open.answer.status == TT_DONE, "tt_open: status %u", open.answer.status)) {
+  } else if (expect(open.answer.status == TT_DONE, "tt_open_face: status %u", open.answer.status)) {
     struct tt_font font = *(struct tt_font *)open.told.at;
     struct tt_measure told = *(struct tt_measure *)it.told.at;
     printf("font %u %d %d %u %d/", font.units_per_em, font.ascent, font.descent, font.glyphs, font.line_gap);

@@ -28,6 +28,19 @@ static uint32_t ask_open(const struct question *q, struct room room, void *told,
   return tt_open(FONT, told, answer);
 }
 
+/* The face that a job reads. */
+static uint32_t face_of(const struct tt_job *job) { return job->face ? job->face : job->fit == TT_BEST; }
+
+static uint32_t ask_open_face(const struct question *q, struct room room, void *told, struct tt_answer *answer) {
+  (void)room;
+  return tt_open_face(FONT, face_of(JOB), told, answer);
+}
+
+static uint32_t ask_map_face(const struct question *q, struct room room, void *told, struct tt_answer *answer) {
+  (void)told;
+  return tt_map_face(FONT, face_of(JOB), TEXT, (struct tt_glyph *)room.at, room.size / sizeof(struct tt_glyph), answer);
+}
+
 static uint32_t ask_map(const struct question *q, struct room room, void *told, struct tt_answer *answer) {
   (void)told;
   return tt_map(FONT, TEXT, (struct tt_glyph *)room.at, room.size / sizeof(struct tt_glyph), answer);
@@ -58,7 +71,9 @@ static uint32_t ask_message(const struct question *q, struct room room, void *to
 }
 
 const struct call opens = {"tt_open", ask_open, 0, sizeof(struct tt_font), false, false, 0};
+const struct call opens_face = {"tt_open_face", ask_open_face, 0, sizeof(struct tt_font), false, false, 0};
 const struct call maps = {"tt_map", ask_map, sizeof(struct tt_glyph), 0, true, false, 0};
+const struct call maps_face = {"tt_map_face", ask_map_face, sizeof(struct tt_glyph), 0, true, false, 0};
 const struct call draws = {"tt_draw", ask_draw, 1, sizeof(struct tt_picture), true, true, 4};
 const struct call draws_band = {"tt_draw_band", ask_band, 1, sizeof(struct tt_picture), true, true, 4};
 const struct call measures = {"tt_measure", ask_measure, 0, sizeof(struct tt_measure), true, true, 5};

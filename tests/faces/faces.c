@@ -33,15 +33,17 @@ static void read_text(const char *digits) {
   for (text_bytes = 0; sscanf(digits, "%2x", &byte) == 1; digits += 2) text[text_bytes++] = (uint8_t)byte;
 }
 
-/* Prints a refusal, and says whether there was one. */
-static int is_refused(const struct tt_answer *answer) {
+/* Prints the line of a refusal behind a word, from a place on, and says whether there was one. */
+static int is_refused_from(const struct tt_answer *answer, const char *word, size_t from) {
   char line[90];
   struct tt_answer said;
   if (answer->status == TT_DONE) return 0;
   tt_message(answer, (uint8_t *)line, sizeof line, &said);
-  printf("refused %s", line);
+  printf("%s%s", word, line + from);
   return 1;
 }
+
+static int is_refused(const struct tt_answer *answer) { return is_refused_from(answer, "refused ", 0); }
 
 static void write_map(uint32_t face) {
   struct tt_answer answer;
@@ -72,7 +74,7 @@ static void write_faces(void) {
   for (uint32_t face = 0; face < count && face < 256; face++) {
     printf("%" PRIu32 " ", face);
     tt_open_face(font, font_bytes, face + 1, &told, &answer);
-    if (!is_refused(&answer)) printf("%" PRIu32 " %" PRIu32, told.glyphs, told.units_per_em);
+    if (!is_refused_from(&answer, "", strlen("tt_render: "))) printf("%" PRIu32 " %" PRIu32, told.glyphs, told.units_per_em);
     putchar('/');
   }
 }
