@@ -24,10 +24,11 @@ static size_t used_by(const struct drawn_lines *it) {
 
 /* The answer that comes before that of the room for lines: of the refused job, or of the refused font. Where neither is
  * refused, it is that of a text without a pixel (62), since tt_draw finds that after both. With TT_BEST tt_draw finds it
- * after the glyphs, so TT_NONE asks in the place of TT_BEST. */
+ * after the glyphs, so TT_NONE asks in the place of TT_BEST, for the face that TT_BEST reads. */
 static struct tt_answer refused_first(const struct question *q) {
   struct tt_job job = *(const struct tt_job *)q->job.at;
   if (job.margin <= 64) job.margin = 0;
+  if (job.fit == TT_BEST && job.face == 0) job.face = 1;
   if (job.fit == TT_BEST) job.fit = TT_NONE;
   struct question none = *q;
   none.text = held(NULL, 0);
