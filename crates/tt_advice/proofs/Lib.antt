@@ -1,0 +1,2 @@
+mod Characters
+mod Ranges

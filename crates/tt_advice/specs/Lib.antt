@@ -1,0 +1,5 @@
+pub mod Advice
+pub mod Hints
+pub mod Kinds
+pub mod Shown
+pub mod Signs

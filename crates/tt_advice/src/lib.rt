@@ -1,0 +1,12 @@
+//! The words for people about a refused font or job, and about a picture.
+#![tactic(auto)]
+
+mod advising;
+mod hint;
+mod kinds;
+mod shown;
+mod signs;
+
+pub use advising::{advice, has_record};
+pub use hint::{FixedHint, Hint, hint_line};
+pub use signs::Sign;
