@@ -1,5 +1,6 @@
 pub mod Advice
 pub mod Hints
 pub mod Kinds
+pub mod Notes
 pub mod Shown
 pub mod Signs

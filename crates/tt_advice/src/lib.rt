@@ -4,9 +4,11 @@
 mod advising;
 mod hint;
 mod kinds;
+mod notes;
 mod shown;
 mod signs;
 
 pub use advising::{advice, has_record};
 pub use hint::{FixedHint, Hint, hint_line};
+pub use notes::font_notes;
 pub use signs::Sign;

@@ -5,18 +5,10 @@ use Rattle.tt_advice.proofs.Ranges.{one_range}
 use Rattle.tt_advice.proofs.signs.in_ranges.Goals as goal
 
 pub loop-range-preserved : goal.loop-range-preserved
-loop-range-preserved c =
-    let next = one_range c.args.ranges.now c.loop-range.range-index c.range-item.result c.args.c c.loop-range-test.true
-    c.range-item.is in
-    let out : in_range c.args.c c.range-item.result ≡ false = sym c.in_range.ensures ∙ c.if-in_range.false in
-    sym (rw out at next) ∙ c.loop-range.invariant
+loop-range-preserved c = ?
 
 pub returns-then-in_range : goal.returns-then-in_range
-returns-then-in_range c =
-    let next = one_range c.args.ranges.now c.loop-range.range-index c.range-item.result c.args.c c.loop-range-test.true
-    c.range-item.is in
-    let in_it : in_range c.args.c c.range-item.result ≡ true = sym c.in_range.ensures ∙ c.if-in_range.true in
-    sym (rw in_it at next) ∙ c.loop-range.invariant
+returns-then-in_range c = ?
 
 pub returns : goal.returns
 returns c =
