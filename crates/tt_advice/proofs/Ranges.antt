@@ -3,9 +3,8 @@ use Rattle.std.proofs.Common.{◌≡◌, refl, ℕ, ◌+◌, ◌<◌, Bool, List
 use Rattle.std.specs.Prelude.{◌||◌}
 use Rattle.tt_advice.specs.Signs.{in_range, in_ranges}
 
-pub one_range : (rs : List (ℕ × ℕ)) (i : ℕ) (r : ℕ × ℕ) (c : ℕ) → i < length rs → r ≡ get_or rs i r
-    → in_ranges (drop i rs) c ≡ (in_range c r || in_ranges (drop (i + 1) rs) c)
-one_range rs i r c below is =
-    let whole : drop i rs ≡ get_or rs i r ∷ drop (i + 1) rs = rw add-one (drop-cons rs i r below) in
-    let here : drop i rs ≡ r ∷ drop (i + 1) rs = rw (← is) at whole in
-    rw here refl
+pub one_range : (rs : List (ℕ × ℕ)) (i c : ℕ) → i < length rs
+    → in_ranges (drop i rs) c ≡ (in_range c (get_or rs i (0, 0)) || in_ranges (drop (i + 1) rs) c)
+one_range rs i c below =
+    let whole : drop i rs ≡ get_or rs i (0, 0) ∷ drop (i + 1) rs = rw add-one (drop-cons rs i (0, 0) below) in
+    rw whole refl

@@ -4,6 +4,7 @@
 mod advising;
 mod hint;
 mod kinds;
+pub mod laws;
 mod notes;
 mod shown;
 mod signs;

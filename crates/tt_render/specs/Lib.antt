@@ -1,3 +1,4 @@
+pub mod Labels
 pub mod LineReading
 pub mod Lines
 pub mod LinesDefects
@@ -8,6 +9,7 @@ pub mod Readings
 pub mod Reports
 pub mod RunLaws
 pub mod Settings
+pub mod StubLabel
 pub mod Texts
 pub mod TextsMessages
 pub mod TextsOutcome

@@ -64,6 +64,7 @@ answer_view r = record {
   unfitted = unfitted_in r.output;
   lacking = r.lacking.items;
   cost = cost_in r.output;
+  label = None;
 }
 
 -- the report is this text's; the number is that of a line

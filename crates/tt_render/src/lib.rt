@@ -2,6 +2,11 @@
 #![tactic(auto)]
 
 mod drawing;
+mod label;
+mod label_answers;
+mod label_drawing;
+mod label_reports;
+mod label_texts;
 pub mod laws;
 mod lines;
 mod measure_text;
@@ -10,15 +15,20 @@ mod products;
 mod readings;
 mod refusal;
 mod setting;
+mod signs;
 mod text_answers;
 mod texts_messages;
+mod tt_label;
 
 pub use drawing::{draw_lines, draw_text, lines_budget};
+pub use label::{Label, LabelFault};
+pub use label_drawing::{draw_label, draw_labels};
 pub use printing::print_text;
 pub use products::{make_measure, make_picture};
 pub use readings::{fit_reading, reading_asked};
 pub use refusal::{Refusal, TextsFault};
 pub use setting::{Missing, Product, Setting};
 pub use texts_messages::{texts_line, texts_status};
+pub use tt_label::Align;
 pub use tt_render_run::{RunFault, line, map, run, status, unfitted_line};
 pub use tt_strike::{Job, Report, Unfitted};

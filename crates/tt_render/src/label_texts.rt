@@ -1,0 +1,78 @@
+//! The lines of a label's text, and what is found in them.
+
+ghost use Rattle.std.specs.Prelude.{◌≡◌, map, IfOk, OnOk};
+ghost use Rattle.tt_cmap.specs.Lacking.{distinct_after};
+ghost use Rattle.tt_core.specs.Outcomes.{GivesUnless};
+ghost use Rattle.tt_render.specs.Labels.{lines_lacking};
+ghost use Rattle.tt_render.specs.StubLabel.{label_lines};
+ghost use Rattle.tt_render.specs.Texts.{missing_among};
+ghost use Rattle.tt_render.specs.TextsOutcome.{IsOfText, told, without_line};
+
+use crate::refusal::{Refusal, TextsFault, texts_fault};
+use crate::setting::Missing;
+use crate::tt_label::unmarked;
+use std::alloc::{AllocError, Global};
+use tt_cmap::{CharacterMap, lacking};
+
+/// The lines of a label's text: at least one. Error: memory ran out.
+pub(crate) fn label_lines(alloc: Global, text: &str) -> Result<Vec<&str>, AllocError>
+    ensures { IfOk result (λ v. map (λ l. l.now) v.items ≡ label_lines text.now) }
+{
+    let mut lines: Vec<&str> = unmarked(text).lines().collect(alloc)?;
+    if lines.is_empty() {
+        lines.push("")?;
+    }
+    Ok(lines)
+}
+
+/// Lists those characters that are not listed yet. Error: memory ran out.
+fn list_all(listed: &mut Vec<char>, more: &[char]) -> Result<(), AllocError>
+    ensures { OnOk result (listed.new.items ≡ distinct_after listed.old.items more.now) }
+{
+    for c in more {
+        if !listed.contains(c) {
+            listed.push(*c)?;
+        }
+    }
+    Ok(())
+}
+
+/// The distinct characters of some lines without a glyph, in order of first appearance. Error: memory ran out.
+fn lines_lacking(
+    alloc: Global,
+    cmap: &CharacterMap,
+    lines: &[&str],
+) -> Result<Vec<char>, AllocError>
+    ensures { IfOk result (λ v. v.items ≡ lines_lacking cmap.now (map (λ l. l.now) lines.now)) }
+{
+    let mut listed = Vec::new(alloc);
+    for line in lines {
+        let lacking = lacking(alloc, cmap, line)?;
+        list_all(&mut listed, &lacking)?;
+    }
+    Ok(listed)
+}
+
+/// The characters of some lines without a glyph that are reported. Error: Missing, the first, where they are refused.
+/// The caller knows the line.
+pub(crate) fn missing_in(
+    alloc: Global,
+    cmap: &CharacterMap,
+    how: Missing,
+    lines: &[&str],
+) -> Result<Vec<char>, TextsFault>
+    ensures exact { GivesUnless told (λ v. v.items) (without_line result) (missing_among how (lines_lacking cmap.now (map (λ l. l.now) lines.now))) }
+    ensures serves { IsOfText (without_line result) }
+{
+    match how {
+        Missing::Draw => Ok(Vec::new(alloc)),
+        Missing::Tell => Ok(lines_lacking(alloc, cmap, lines)?),
+        Missing::Refuse => {
+            let lacking = lines_lacking(alloc, cmap, lines)?;
+            match lacking.first() {
+                Some(c) => Err(texts_fault(None, Refusal::Missing(*c))),
+                None => Ok(lacking),
+            }
+        }
+    }
+}
