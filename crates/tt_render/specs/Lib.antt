@@ -1,3 +1,4 @@
+pub mod Help
 pub mod Labels
 pub mod LineReading
 pub mod Lines

@@ -2,6 +2,7 @@
 #![tactic(auto)]
 
 mod drawing;
+mod help;
 mod label;
 mod label_answers;
 mod label_drawing;
@@ -21,6 +22,7 @@ mod texts_messages;
 mod tt_label;
 
 pub use drawing::{draw_lines, draw_text, lines_budget};
+pub use help::label_help;
 pub use label::{Label, LabelFault};
 pub use label_drawing::{draw_label, draw_labels};
 pub use printing::print_text;
