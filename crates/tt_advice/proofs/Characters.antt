@@ -1,5 +1,5 @@
 -- A text, character by character.
-use Rattle.std.proofs.Common.{◌≡◌, ◌∙◌, ℕ, ◌++◌, true, false, Bool, List, [], ◌∷◌, Option, Some, None, length, chars, encode_utf8, IsUtf8, ap, refl, append_assoc}
+use Rattle.std.proofs.Common.{◌≡◌, ◌∙◌, ℕ, ◌++◌, true, false, Bool, List, [], Some, None, length, chars, encode_utf8, IsUtf8, ap, refl, append_assoc}
 use Rattle.std.specs.Prelude.{find}
 use Rattle.std.proofs.lemmas.List.{append-nil, nil_from_length}
 use Rattle.std.proofs.lemmas.Str.{chars-nil, chars_past_char}

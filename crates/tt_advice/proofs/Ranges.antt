@@ -1,5 +1,5 @@
 -- The search through ranges, one range at a time.
-use Rattle.std.proofs.Common.{◌≡◌, refl, ℕ, ◌+◌, ◌<◌, Bool, List, ◌∷◌, length, drop, drop-cons, get_or, add-one}
+use Rattle.std.proofs.Common.{◌≡◌, refl, ℕ, ◌+◌, ◌<◌, List, ◌∷◌, length, drop, drop-cons, get_or, add-one}
 use Rattle.std.specs.Prelude.{◌||◌}
 use Rattle.tt_advice.specs.Signs.{in_range, in_ranges}
 

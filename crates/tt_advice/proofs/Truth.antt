@@ -1,22 +1,22 @@
 -- The advice is true, by the tests that lead to it.
-use Rattle.std.proofs.Common.{◌≡◌, refl, ℕ, ◌≤◌, Bool, true, false, List, drop, codes, Option, Some, None, inl, inr, arith}
-use Rattle.std.specs.Prelude.{◌⊎◌, [], ◌∷◌, ◌==◌, nat_le, ◌&&◌, length, bytes_eq, if◌then◌else◌}
+use Rattle.std.proofs.Common.{◌≡◌, refl, ℕ, Bool, true, false, List, drop, codes, Option, Some, None, inl, inr, arith}
+use Rattle.std.specs.Prelude.{[], ◌∷◌, ◌==◌, nat_le, ◌&&◌, length, bytes_eq, if◌then◌else◌}
 use Rattle.std.proofs.lemmas.Bool.Decides.{nat_tests}
 use Rattle.tt_core.specs.Faults.{Fault, why_number}
 use Rattle.tt_core.specs.Numbers.{number_at}
-use Rattle.tt_advice.specs.Advice.{advice, advice_by, count_advice, counted_advice, cut_advice, face_advice, has_cff, has_pictures, is_limit, lack_advice, version_advice}
+use Rattle.tt_advice.specs.Advice.{advice, counted_advice, cut_advice, face_advice, has_cff, has_pictures, is_limit, lack_advice, version_advice}
 use Rattle.tt_advice.specs.declared.hint.FixedHint.{FixedHint}
 use Rattle.tt_advice.specs.declared.hint.FixedHint.TheVariants as fixed
 use Rattle.tt_advice.specs.declared.hint.Hint.{Hint}
 use Rattle.tt_advice.specs.declared.hint.Hint.TheVariants as hint
-use Rattle.tt_advice.specs.Kinds.{begins, is_bitmaps, is_type1, kind_at, kind_of}
+use Rattle.tt_advice.specs.Kinds.{begins, is_bitmaps, is_type1, kind_of}
 use Rattle.tt_advice.specs.Laws.{CffIsThere, FacesAreCounted, ProgramsAreRefused}
 
 -- a choice that gives a value came from one of its branches
 either : {X : Type 0} (b : Bool) (x y v : X) (P : Type 0) → (if b then x else y) ≡ v
     → (b ≡ true → x ≡ v → P) → (b ≡ false → y ≡ v → P) → P
-either true x y v P is holds no = holds refl is
-either false x y v P is holds no = no refl is
+either true x y v P is holds fails = holds refl is
+either false x y v P is holds fails = fails refl is
 
 cff_version : (b : List ℕ) → kind_of b ≡ fixed.Cff → begins b (codes "OTTO") ≡ true
 unfolding kind_of

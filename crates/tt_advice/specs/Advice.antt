@@ -1,9 +1,8 @@
 -- No part of the standard: the advice to people about a refused font (profile). It is a function of the fault, of the
 -- file's bytes and of the face's number.
-use Rattle.std.specs.Prelude.{◌≡◌, refl, ℕ, Bool, false, ◌||◌, ◌&&◌, ◌==◌, nat_le, if◌then◌else◌, List, [], ◌∷◌, length, codes, bytes_eq, is_some, Option, Some, None, Result, Ok, Err}
+use Rattle.std.specs.Prelude.{ℕ, Bool, false, ◌||◌, ◌&&◌, ◌==◌, nat_le, if◌then◌else◌, List, length, codes, bytes_eq, is_some, Option, Some, None, Result, Ok, Err}
 use Rattle.tt_core.specs.Collections.{directory_by}
 use Rattle.tt_core.specs.declared.collection.Reading.TheVariants as reading
-use Rattle.tt_core.specs.declared.fault.Why.TheVariants as why
 use Rattle.tt_core.specs.Directory.{Directory, record_of}
 use Rattle.tt_core.specs.Faults.{Fault, why_number}
 use Rattle.tt_core.specs.Numbers.{number_at}

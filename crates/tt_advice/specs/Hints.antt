@@ -2,7 +2,7 @@
 use Rattle.std.specs.Prelude.{◌≡◌, refl, ℕ, ◌-◌, List, ◌++◌, codes, decimal}
 use Rattle.std.specs.Fmt.{digits}
 use Rattle.tt_core.specs.declared.fault.Why.TheVariants as why
-use Rattle.tt_core.specs.Faults.{Fault, fault_at}
+use Rattle.tt_core.specs.Faults.{fault_at}
 use Rattle.tt_advice.specs.declared.hint.FixedHint.{FixedHint}
 use Rattle.tt_advice.specs.declared.hint.FixedHint.TheVariants as fixed
 use Rattle.tt_advice.specs.declared.hint.Hint.{Hint}

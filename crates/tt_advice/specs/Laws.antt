@@ -1,5 +1,5 @@
 -- Laws of the advice: what it says is true of the file.
-use Rattle.std.specs.Prelude.{◌≡◌, ℕ, ◌<◌, ◌≤◌, true, List, drop, codes, Some, ◌⊎◌}
+use Rattle.std.specs.Prelude.{◌≡◌, ℕ, ◌≤◌, true, List, drop, codes, Some, ◌⊎◌}
 use Rattle.tt_core.specs.Faults.{Fault, why_number}
 use Rattle.tt_core.specs.Numbers.{number_at}
 use Rattle.tt_advice.specs.Advice.{advice, has_cff}

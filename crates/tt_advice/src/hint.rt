@@ -113,8 +113,7 @@ impl FixedHint {
 const CFF: &str = "has CFF outlines; TrueType outlines alone are drawn: \
                    take the .ttf of the family, or convert it (fontforge)";
 
-const TYPE1: &str =
-    "is a Type 1 font; TrueType outlines alone are drawn: convert it (fontforge)";
+const TYPE1: &str = "is a Type 1 font; TrueType outlines alone are drawn: convert it (fontforge)";
 
 const BITMAPS: &str = "has bitmaps or colour pictures, but no TrueType outlines";
 

@@ -49,7 +49,11 @@ fn first_of(count: Option<u32>) -> Option<Hint>
 fn first_hint(file: &[u8], given: bool) -> Option<Hint>
     ensures { result ≡ first_hint file.now given }
 {
-    if given { None } else { first_of(count_in(file)) }
+    if given {
+        None
+    } else {
+        first_of(count_in(file))
+    }
 }
 
 /// Appends the line of a hint, if there is one. Error: memory ran out.

@@ -1,4 +1,4 @@
-use Rattle.std.proofs.Common.{◌≡◌, ◌∙◌, ◌++◌, string_bytes, IsUtf8, sym, ap, subst}
+use Rattle.std.proofs.Common.{◌∙◌, ◌++◌, string_bytes, IsUtf8, sym, ap, subst}
 use Rattle.std.proofs.lemmas.Str.{IsUtf8-past_char}
 use Rattle.tt_advice.specs.Shown.{shown}
 use Rattle.tt_advice.proofs.Characters.{all_shown, one_shown}

@@ -1,4 +1,4 @@
-use Rattle.std.proofs.Common.{◌≡◌, ◌∙◌, chars, IsUtf8, sym, ap, subst}
+use Rattle.std.proofs.Common.{◌∙◌, chars, IsUtf8, sym, ap, subst}
 use Rattle.std.specs.Prelude.{find}
 use Rattle.std.proofs.lemmas.Str.{IsUtf8-past_char}
 use Rattle.tt_advice.specs.Signs.{is_of}
