@@ -26,13 +26,12 @@ use Rattle.tt_render.specs.declared.signs.Signs.{Signs}
 use Rattle.tt_render.specs.Lines.{line_answer}
 use Rattle.tt_render.specs.Printing.{Errors}
 use Rattle.tt_render.specs.Reports.{label_report_of, told_view}
-use Rattle.tt_render.specs.Settings.{job_by, setting_tested, strike_of}
+use Rattle.tt_render.specs.Settings.{setting_tested, strike_of}
 use Rattle.tt_render.specs.StubLabel.{label_lines, label_outcome, label_report}
 use Rattle.tt_render.specs.Texts.{LabelTold, TextAnswer, TextRefusal, answer_with, missing_among}
-use Rattle.tt_render.specs.TextsOutcome.{IsIdle, IsNotReady, IsSilent, LinesGive, OpensFont, StopsAtFont, TextGives, reader_in}
+use Rattle.tt_render.specs.TextsOutcome.{FontAnswers, IsIdle, IsNotReady, LinesGive, OpensFont, StopsAtFont}
 use Rattle.tt_render_run.specs.Outcome.{Traffic}
 use Rattle.tt_render_run.specs.Reading.{FontReader}
-use Rattle.tt_strike.specs.Job.{tested}
 
 -- the first character of some lines that has a sign
 abbrev pub or_later : Option ℕ → Option ℕ → Option ℕ
@@ -122,9 +121,7 @@ HintsBy l e file = e.hint ≡ hint_for e.fault.refusal file l.setting.reading
 
 -- a call stopped before it drew the text, or memory ran out by then; or it drew the text by a font
 abbrev pub FontLabelGives : {V : Type 0} → Label → List ℕ → Result V TextsFault → Traffic → Errors → Type 0
-FontLabelGives l text r t e =
-    (StopsAtFont (tested (job_by l.setting text)) (strike_of l.setting) r (reader_in t) × IsSilent t e)
-    ⊎ OpensFont (tested (job_by l.setting text)) (strike_of l.setting) (reader_in t) (λ s. TextGives (label_answer l s text) r t e)
+FontLabelGives l text r t e = FontAnswers l.setting (λ s. label_answer l s text) text r t e
 
 -- a call stopped before it read a line, or drew the lines of a text by a font, each as a label of its own
 abbrev pub FontLabelsGive : {V : Type 0} → Label → Result V TextsFault → FontReader → Traffic → Errors → Type 0
