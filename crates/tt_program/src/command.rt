@@ -54,7 +54,7 @@ fn program<'a>(alloc: Global) -> Result<Command<'a>, AllocError> {
 
 fn label_command<'a>(alloc: Global) -> Result<Command<'a>, AllocError> {
     let command = Command::new(alloc, "label")
-        .about("Writes a picture of text for people: several lines, no cut ink, plain words")
+        .about("Writes the picture of a text for people, as binary PBM (P4)")
         .after_help(
             "A line feed in TEXT begins a new line of the picture.\n\
              A TEXT that begins with '-' goes after '--':\n  tt_render label --size N FONT -- -text",
@@ -68,7 +68,7 @@ fn label_command<'a>(alloc: Global) -> Result<Command<'a>, AllocError> {
         .arg(missing(alloc, TELL))?
         .arg(lines(
             alloc,
-            "Draw a picture of each line of standard input, in place of TEXT",
+            "Draw each line of standard input, in place of TEXT",
         )?)?
         .arg(font(alloc))?
         .arg(text(alloc).required_unless_present("lines")?)
@@ -165,7 +165,8 @@ fn align<'a>(alloc: Global) -> Arg<'a> {
         .value_name("SIDE")
         .value_parser(ALIGNS.as_slice())
         .default_value(LEFT)
-        .help("Where shorter lines stand")
+        .hide_possible_values(true)
+        .help("left, centre or right, of shorter lines")
 }
 
 fn fit<'a>(alloc: Global, default: &'a str) -> Arg<'a> {

@@ -8,6 +8,8 @@ mod MeasureLines
 mod DefectLines
 mod OneText
 mod TextsReports
+mod LabelCalls
+mod LabelLines
 mod Runs
 mod JobRefusals
 mod Plain
