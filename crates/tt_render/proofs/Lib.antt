@@ -10,6 +10,7 @@ mod OneText
 mod TextsReports
 mod LabelCalls
 mod LabelLines
+mod LabelTexts
 mod Runs
 mod JobRefusals
 mod Plain

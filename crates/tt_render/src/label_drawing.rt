@@ -10,6 +10,7 @@ ghost use Rattle.tt_render.specs.Lines.{line_limit};
 ghost use Rattle.tt_render.specs.Printing.{errors_of};
 ghost use Rattle.tt_render.specs.Settings.{job_by, setting_tested, strike_of};
 ghost use Rattle.tt_render.specs.TextsOutcome.{IsOfText, LinesGive, told, without_line};
+ghost use Rattle.tt_render.specs.Views.{before_lines};
 ghost use Rattle.tt_strike.specs.Job.{tested};
 
 use crate::drawing::next_line;
@@ -17,7 +18,7 @@ use crate::label::{Label, LabelFault};
 use crate::label_answers::{ReadyLabel, answer_label, face_number};
 use crate::lines::LineReader;
 use crate::printing::print_text;
-use crate::refusal::{Refusal, TextsFault, texts_fault};
+use crate::refusal::{Refusal, TextsFault, refusal_of_run, texts_fault};
 use crate::setting::test_setting;
 use crate::tt_label::SizedFace;
 use std::alloc::Global;
@@ -49,10 +50,11 @@ fn hinted(fault: TextsFault, file: &[u8], asked: &Label) -> LabelFault
     LabelFault { fault, hint }
 }
 
-/// A fault that is none of the font's bytes.
-fn unhinted(fault: TextsFault) -> LabelFault
-    ensures { result ≡ record { fault = fault; hint = None } }
+/// The fault of a call that no line stopped, and no byte of the font.
+fn unhinted(refusal: Refusal) -> LabelFault
+    ensures { result ≡ record { fault = before_lines refusal; hint = None } }
 {
+    let fault = texts_fault(None, refusal);
     LabelFault { fault, hint: None }
 }
 
@@ -97,11 +99,11 @@ pub fn draw_label<R: Source, W: Sink, E: Sink>(
     ensures hint { IfErr result (λ e. IfSome (R.left font.old) (HintsBy asked.now e)) }
 {
     if let Err(fault) = test_job(&asked.setting.job(text)) {
-        return Err(unhinted(fault.into()));
+        return Err(unhinted(Refusal::Job(fault)));
     }
     let file = match read_font(alloc, font) {
         Ok(file) => file,
-        Err(fault) => return Err(unhinted(fault.into())),
+        Err(fault) => return Err(unhinted(refusal_of_run(fault))),
     };
     let ready = match draw(alloc, &file, text, asked) {
         Ok(ready) => ready,
@@ -112,10 +114,7 @@ pub fn draw_label<R: Source, W: Sink, E: Sink>(
             print_text(error, &ready.report);
             Ok(())
         }
-        Err(cut) => Err(unhinted(texts_fault(
-            None,
-            Refusal::Write { sent: cut.sent },
-        ))),
+        Err(cut) => Err(unhinted(Refusal::Write { sent: cut.sent })),
     }
 }
 
@@ -234,11 +233,11 @@ pub fn draw_labels<F: Source, R: Source, W: Sink, E: Sink>(
     ensures hint { IfErr result (λ e. IfSome (F.left font.old) (HintsBy asked.now e)) }
 {
     if let Err(fault) = test_setting(&asked.setting) {
-        return Err(unhinted(fault.into()));
+        return Err(unhinted(Refusal::Job(fault)));
     }
     let file = match read_font(alloc, font) {
         Ok(file) => file,
-        Err(fault) => return Err(unhinted(fault.into())),
+        Err(fault) => return Err(unhinted(refusal_of_run(fault))),
     };
     match draw_labels_of(alloc, &file, lines, out, error, asked) {
         Ok(()) => Ok(()),

@@ -1,7 +1,8 @@
 //! The lines of a label's text, and what is found in them.
 
 ghost use Rattle.std.specs.Prelude.{◌≡◌, map, IfOk, OnOk};
-ghost use Rattle.tt_cmap.specs.Lacking.{distinct_after};
+ghost use Rattle.std.specs.Str.Lines.{lines};
+ghost use Rattle.tt_cmap.specs.Lacking.{distinct_after, with_character};
 ghost use Rattle.tt_core.specs.Outcomes.{GivesUnless};
 ghost use Rattle.tt_render.specs.Labels.{lines_lacking};
 ghost use Rattle.tt_render.specs.StubLabel.{label_lines};
@@ -14,15 +15,34 @@ use crate::tt_label::unmarked;
 use std::alloc::{AllocError, Global};
 use tt_cmap::{CharacterMap, lacking};
 
+/// The lines of a text: a line feed ends a line, and a carriage return just before it is no part of the line. Error:
+/// memory ran out.
+fn all_lines(alloc: Global, text: &str) -> Result<Vec<&str>, AllocError>
+    ensures { IfOk result (λ v. map (λ l. l.now) v.items ≡ lines text.now) }
+{
+    text.lines().collect(alloc)
+}
+
 /// The lines of a label's text: at least one. Error: memory ran out.
+#[tactic(auto, unfolding(crate::specs::StubLabel::label_lines))]
 pub(crate) fn label_lines(alloc: Global, text: &str) -> Result<Vec<&str>, AllocError>
     ensures { IfOk result (λ v. map (λ l. l.now) v.items ≡ label_lines text.now) }
 {
-    let mut lines: Vec<&str> = unmarked(text).lines().collect(alloc)?;
+    let mut lines = all_lines(alloc, unmarked(text))?;
     if lines.is_empty() {
         lines.push("")?;
     }
     Ok(lines)
+}
+
+/// Lists a character, unless the character is listed already. Error: memory ran out.
+fn list(listed: &mut Vec<char>, c: char) -> Result<(), AllocError>
+    ensures { OnOk result (listed.new.items ≡ with_character listed.old.items c) }
+{
+    if !listed.contains(&c) {
+        listed.push(c)?;
+    }
+    Ok(())
 }
 
 /// Lists those characters that are not listed yet. Error: memory ran out.
@@ -30,9 +50,7 @@ fn list_all(listed: &mut Vec<char>, more: &[char]) -> Result<(), AllocError>
     ensures { OnOk result (listed.new.items ≡ distinct_after listed.old.items more.now) }
 {
     for c in more {
-        if !listed.contains(c) {
-            listed.push(*c)?;
-        }
+        list(listed, *c)?;
     }
     Ok(())
 }

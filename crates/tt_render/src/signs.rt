@@ -19,8 +19,9 @@ fn first_sign(sign: Sign, lines: &[&str]) -> Option<char>
     ensures { result ≡ first_sign sign (map (λ l. l.now) lines.now) }
 {
     for line in lines {
-        if let Some(c) = sign.first_in(line) {
-            return Some(c);
+        match sign.first_in(line) {
+            Some(c) => return Some(c),
+            None => {}
         }
     }
     None
