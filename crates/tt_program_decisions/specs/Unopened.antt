@@ -1,6 +1,6 @@
 -- No part of the standard: the report of a font that cannot be opened (profile). For `label` a line tells a person what to
 -- do.
-use Rattle.std.specs.Prelude.{◌≡◌, refl, ℕ, ◌+◌, ◌-◌, Bool, true, false, ◌&&◌, ◌||◌, nat_le, if◌then◌else◌, List, [], ◌∷◌, ◌++◌, length, map, slice_index, codes, bytes_eq, Option, Some, None}
+use Rattle.std.specs.Prelude.{◌≡◌, refl, ℕ, ◌+◌, ◌-◌, Bool, true, false, ◌&&◌, ◌||◌, nat_le, nat_lt, if◌then◌else◌, List, [], ◌∷◌, ◌++◌, length, map, slice_index, codes, bytes_eq, Option, Some, None}
 use Rattle.std.specs.declared.io.ErrorKind.{ErrorKind}
 use Rattle.std.specs.declared.io.ErrorKind.TheVariants as kind
 use Rattle.tt_advice.specs.declared.hint.FixedHint.{FixedHint}
@@ -31,7 +31,7 @@ last_four text =
     ∷ lowered (slice_index text (length text - 2)) ∷ lowered (slice_index text (length text - 1)) ∷ []
 
 abbrev pub names_font : List ℕ → Bool
-names_font text = if nat_le 4 (length text) then is_suffix (last_four text) else false
+names_font text = if nat_lt (length text) 4 then false else is_suffix (last_four text)
 
 -- the text may be the path
 abbrev pub unfound_hint : Option (List ℕ) → FixedHint

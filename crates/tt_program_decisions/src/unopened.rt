@@ -17,7 +17,7 @@ use tt_core::Sink;
 fn lowered(byte: u8) -> u8
     ensures { result ≡ lowered byte }
 {
-    if byte.is_ascii_uppercase() {
+    if (b'A'..=b'Z').contains(&byte) {
         byte + 32
     } else {
         byte
