@@ -16,12 +16,11 @@ pub enum Sign {
     Joining,
 }
 
-/// A range of characters, from the first to the last.
-type Range = (char, char);
+// Ranges of characters, each from its first to its last.
 
-const CONTROL: [Range; 2] = [('\0', '\u{1F}'), ('\u{7F}', '\u{9F}')];
+const CONTROL: [(char, char); 2] = [('\0', '\u{1F}'), ('\u{7F}', '\u{9F}')];
 
-const RIGHT_TO_LEFT: [Range; 6] = [
+const RIGHT_TO_LEFT: [(char, char); 6] = [
     ('\u{590}', '\u{8FF}'),
     ('\u{FB1D}', '\u{FDCF}'),
     ('\u{FDF0}', '\u{FDFF}'),
@@ -30,7 +29,7 @@ const RIGHT_TO_LEFT: [Range; 6] = [
     ('\u{1E800}', '\u{1EFFF}'),
 ];
 
-const SHAPED: [Range; 12] = [
+const SHAPED: [(char, char); 12] = [
     ('\u{900}', '\u{109F}'),
     ('\u{1100}', '\u{11FF}'),
     ('\u{1700}', '\u{18AF}'),
@@ -45,7 +44,7 @@ const SHAPED: [Range; 12] = [
     ('\u{11000}', '\u{11FFF}'),
 ];
 
-const JOINING: [Range; 13] = [
+const JOINING: [(char, char); 13] = [
     ('\u{300}', '\u{36F}'),
     ('\u{483}', '\u{489}'),
     ('\u{1AB0}', '\u{1AFF}'),
@@ -61,14 +60,14 @@ const JOINING: [Range; 13] = [
     ('\u{E0020}', '\u{E007F}'),
 ];
 
-fn in_range(range: Range, c: char) -> bool
+fn in_range(range: (char, char), c: char) -> bool
     ensures { result ≡ in_range c range }
 {
     range.0 <= c && c <= range.1
 }
 
 /// Whether a character is in one of these ranges.
-fn in_ranges(ranges: &[Range], c: char) -> bool
+fn in_ranges(ranges: &[(char, char)], c: char) -> bool
     ensures { result ≡ in_ranges ranges.now c }
 {
     for range in ranges {

@@ -1,5 +1,5 @@
 -- No part of the standard: the requests of the program's command lines, and their performance.
-use Rattle.std.specs.Prelude.{◌≡◌, ℕ, Bool, true, false, List, codes, Option, Some, None, is_some, IfErr, IfSome, if◌then◌else◌, ⊤}
+use Rattle.std.specs.Prelude.{◌≡◌, ℕ, Bool, true, false, List, codes, Option, Some, None, is_some, IfSome, if◌then◌else◌, ⊤}
 use Rattle.std.specs.Str.{bytes_eq}
 use Rattle.tt_core.specs.declared.collection.Reading.{Reading}
 use Rattle.tt_core.specs.declared.collection.Reading.TheVariants as reading
@@ -14,7 +14,7 @@ use Rattle.tt_render.specs.declared.setting.Product.{Product}
 use Rattle.tt_render.specs.declared.setting.Product.TheVariants.{Picture}
 use Rattle.tt_render.specs.declared.tt_label.Align.{Align}
 use Rattle.tt_render.specs.declared.tt_label.Align.TheVariants as align
-use Rattle.tt_render.specs.Labels.{FontLabelGives, FontLabelsGive, HintsBy, without_hint}
+use Rattle.tt_render.specs.Labels.{FontLabelGives, FontLabelsGive, HintsBy}
 use Rattle.tt_render.specs.declared.setting.Setting.{Setting}
 use Rattle.tt_render.specs.LinesDefects.{LinesTellDefectsOf}
 use Rattle.tt_render_run.specs.MapLines.{map_wanted}
@@ -215,12 +215,12 @@ Performs (Lines font setting) folder t lines e status =
     × LinesTellDefectsOf t.left_before setting lines.left_before answer) e status
 Performs (Label font text options) folder t lines e status =
     (l : DrawnLabel) × IsLabelFor font.now options l
-    × DoesLabel (λ answer told. FontLabelGives l text.now (without_hint answer) t told
-    × IfErr answer (λ fault. IfSome t.left_before (HintsBy l fault))) l folder e status
+    × DoesLabel (λ drawn told. FontLabelGives l text.now drawn.answer t told
+    × IfSome t.left_before (HintsBy l drawn)) l folder e status
 Performs (Labels font options) folder t lines e status =
     (l : DrawnLabel) × IsLabelFor font.now options l
-    × DoesLabel (λ answer told. FontLabelsGive l (without_hint answer) (reader_in t) lines told
-    × IfErr answer (λ fault. IfSome t.left_before (HintsBy l fault))) l folder e status
+    × DoesLabel (λ drawn told. FontLabelsGive l drawn.answer (reader_in t) lines told
+    × IfSome t.left_before (HintsBy l drawn)) l folder e status
 
 -- a property that holds unless the request is for standard input's lines
 abbrev pub UnlessLines : Request → Type 0 → Type 0

@@ -1,6 +1,7 @@
 -- No part of the standard: the program's report of an answer, by its exit status and on standard error.
 use Rattle.std.specs.Prelude.{◌≡◌, ◌⊎◌, ℕ, Bool, true, false, List, ◌++◌, codes, Option, Result, Ok, Err}
 use Rattle.std.specs.Io.KnownBytes.{Keeps}
+use Rattle.tt_advice.specs.declared.hint.Hint.{Hint}
 use Rattle.tt_core.specs.Faults.{Fault}
 use Rattle.tt_render_run.specs.declared.fault.RunFault.{RunFault}
 use Rattle.tt_render_run.specs.declared.fault.RunFault.TheVariants as run
@@ -9,7 +10,7 @@ use Rattle.tt_render_run.specs.Outcome.{CallGives, Traffic, Wanted}
 use Rattle.tt_render.specs.Printing.{Errors, Prints, PrintsNothing}
 use Rattle.tt_render.specs.TextsMessages.{texts_line_of, texts_status_of}
 use Rattle.tt_render.specs.declared.label.Label.{Label}
-use Rattle.tt_render.specs.declared.label.LabelFault.{LabelFault}
+use Rattle.tt_render.specs.declared.label.Labelled.{Labelled}
 use Rattle.tt_render.specs.declared.refusal.TextsFault.{TextsFault}
 use Rattle.tt_render.specs.Help.{label_help}
 use Rattle.tt_render_run.specs.Messages.{line_of, status_of}
@@ -65,28 +66,28 @@ pub record DoesTexts {V : Type 0} (Gives : Result V TextsFault → Errors → Ty
 
 -- the text about a refused label: the line of the refusal, and then the line that tells a person what to do, if there is
 -- one
-abbrev pub label_lines_of : Label → Bool → LabelFault → List ℕ
-label_lines_of l folder e = (texts_line_of e.fault ++ codes "\n") ++ label_help l folder e
+abbrev pub label_lines_of : Label → Bool → TextsFault → Option Hint → List ℕ
+label_lines_of l folder fault hint = (texts_line_of fault ++ codes "\n") ++ label_help l folder fault hint
 
 -- it is reported as the refusal of a text, by the same status
-abbrev pub TellsLabelFailure : Bool → Label → Bool → LabelFault → ℕ → Errors → Type 0
-TellsLabelFailure false l folder fault status e =
-    TellsText (label_lines_of l folder fault) (texts_status_of fault.fault) status e
-TellsLabelFailure true l folder fault status e =
-    (status ≡ texts_status_of fault.fault) × Keeps e.before e.after × (e.failed ≡ true)
+abbrev pub TellsLabelFailure : Bool → Label → Bool → Option Hint → TextsFault → ℕ → Errors → Type 0
+TellsLabelFailure false l folder hint fault status e =
+    TellsText (label_lines_of l folder fault hint) (texts_status_of fault) status e
+TellsLabelFailure true l folder hint fault status e =
+    (status ≡ texts_status_of fault) × Keeps e.before e.after × (e.failed ≡ true)
 
-abbrev pub TellsLabel : Bool → Label → Bool → Result (Unit {0}) LabelFault → ℕ → Errors → Type 0
-TellsLabel had_failed l folder (Ok v) status e = (status ≡ 0) × Keeps e.before e.after × (e.failed ≡ had_failed)
-TellsLabel had_failed l folder (Err fault) status e = TellsLabelFailure had_failed l folder fault status e
+abbrev pub TellsLabel : Bool → Label → Bool → Option Hint → Result (Unit {0}) TextsFault → ℕ → Errors → Type 0
+TellsLabel had_failed l folder hint (Ok v) status e =
+    (status ≡ 0) × Keeps e.before e.after × (e.failed ≡ had_failed)
+TellsLabel had_failed l folder hint (Err fault) status e = TellsLabelFailure had_failed l folder hint fault status e
 
 -- a call that draws labels gave some answer, with its contract about the devices, and the program reported that answer
 -- after what the call had printed
-pub record DoesLabel (Gives : Result (Unit {0}) LabelFault → Errors → Type 0) (l : Label) (folder : Bool) (e : Errors)
-    (status : ℕ) : Type 0
+pub record DoesLabel (Gives : Labelled → Errors → Type 0) (l : Label) (folder : Bool) (e : Errors) (status : ℕ) : Type 0
   where
-    pub answer : Result (Unit {0}) LabelFault
+    pub drawn : Labelled
     pub between : Option (List ℕ)
     pub had_failed : Bool
-    pub outcome : Gives answer (record { before = e.before; after = between; failed = had_failed })
-    pub told : TellsLabel had_failed l folder answer status
+    pub outcome : Gives drawn (record { before = e.before; after = between; failed = had_failed })
+    pub told : TellsLabel had_failed l folder drawn.hint drawn.answer status
         (record { before = between; after = e.after; failed = e.failed })

@@ -6,21 +6,23 @@ ghost use Rattle.tt_program_decisions.specs.Telling.{TellsLabel, label_lines_of}
 
 use crate::telling::tell_text;
 use std::alloc::{AllocError, Global};
+use tt_advice::Hint;
 use tt_core::Sink;
-use tt_render::{Label, LabelFault, label_help, texts_line, texts_status};
+use tt_render::{Label, Labelled, TextsFault, label_help, texts_line, texts_status};
 
 /// The lines about a refused label, for one write. Error: memory ran out.
 fn label_lines(
     alloc: Global,
-    fault: &LabelFault,
+    fault: &TextsFault,
+    hint: Option<Hint>,
     label: &Label,
     folder: bool,
 ) -> Result<String, AllocError>
-    ensures { IfOk result (λ text. string_bytes text ≡ label_lines_of label.now folder fault.now) }
+    ensures { IfOk result (λ text. string_bytes text ≡ label_lines_of label.now folder fault.now hint) }
 {
-    let mut text = texts_line(alloc, &fault.fault)?;
+    let mut text = texts_line(alloc, fault)?;
     text.push_str("\n")?;
-    let help = label_help(alloc, fault, label, folder)?;
+    let help = label_help(alloc, fault, hint, label, folder)?;
     text.push_str(&help)?;
     Ok(text)
 }
@@ -29,22 +31,23 @@ fn label_lines(
 #[tactic(auto, using(crate::proofs::Statuses::texts_status_within))]
 pub(crate) fn tell_label<E: Sink>(
     alloc: Global,
-    answer: &Result<(), LabelFault>,
+    drawn: &Labelled,
     label: &Label,
     folder: bool,
     error: &mut E,
 ) -> u8
     ensures bound { result ≤ 5 }
-    ensures told { TellsLabel (E.has_failed error.old) label.now folder answer.now result (errors_of E.written E.has_failed error.old error.new) }
+    ensures told { TellsLabel (E.has_failed error.old) label.now folder drawn.now.hint drawn.now.answer result (errors_of E.written E.has_failed error.old error.new) }
 {
-    match answer {
+    match &drawn.answer {
         Ok(()) => 0,
         Err(fault) => {
-            let status = texts_status(&fault.fault);
+            let status = texts_status(fault);
             if error.failed() {
                 return status;
             }
-            tell_text(label_lines(alloc, fault, label, folder), status, error)
+            let lines = label_lines(alloc, fault, drawn.hint, label, folder);
+            tell_text(lines, status, error)
         }
     }
 }

@@ -12,9 +12,9 @@ use Rattle.tt_core.specs.declared.fault.JobFault.{JobFault}
 use Rattle.tt_core.specs.declared.fault.JobFault.TheVariants as job
 use Rattle.tt_fit.specs.declared.programs.Fit.TheVariants as fit
 use Rattle.tt_render.specs.declared.label.Label.{Label}
-use Rattle.tt_render.specs.declared.label.LabelFault.{LabelFault}
 use Rattle.tt_render.specs.declared.refusal.Refusal.{Refusal}
 use Rattle.tt_render.specs.declared.refusal.Refusal.TheVariants as reason
+use Rattle.tt_render.specs.declared.refusal.TextsFault.{TextsFault}
 use Rattle.tt_render.specs.declared.setting.Setting.{Setting}
 use Rattle.tt_render.specs.Reports.{head_of}
 use Rattle.tt_render.specs.Settings.{plain_setting}
@@ -48,8 +48,8 @@ help_by l folder reason.NotUtf8 number h =
     fixed_help number (codes "the lines have to be UTF-8; iconv(1) changes other encodings")
 help_by l folder why number h = []
 
-abbrev pub label_help : Label → Bool → LabelFault → List ℕ
-label_help l folder e = help_by l folder e.fault.refusal (named_line_of e.fault.refusal e.fault.line) e.hint
+abbrev pub label_help : Label → Bool → TextsFault → Option Hint → List ℕ
+label_help l folder fault h = help_by l folder fault.refusal (named_line_of fault.refusal fault.line) h
 
 -- worked values
 a_size : job_help None job.SizeRange (plain_setting 301 65 fit.Best (reading.Wide 0))

@@ -16,7 +16,7 @@ use Rattle.tt_strike.specs.Refusals.{Refused, font}
 use Rattle.tt_strike.specs.Strikes.{SizedFace, Strike, job_of}
 use Rattle.tt_render_run.specs.File.{as_file}
 use Rattle.tt_render.specs.declared.label.Label.{Label}
-use Rattle.tt_render.specs.declared.label.LabelFault.{LabelFault}
+use Rattle.tt_render.specs.declared.label.Labelled.{Labelled}
 use Rattle.tt_render.specs.declared.label_answers.ReadyLabel.{ReadyLabel}
 use Rattle.tt_render.specs.declared.refusal.Refusal.{Refusal}
 use Rattle.tt_render.specs.declared.refusal.Refusal.TheVariants as reason
@@ -105,19 +105,19 @@ abbrev pub TellsLabel : Option ℕ → ReadyLabel → Type 0
 TellsLabel number r =
     string_bytes r.report ≡ label_report_of number (told_view r.told) (length r.picture.unfitted) r.lacking.items
 
--- a result with the fault alone
-abbrev pub without_hint : {V : Type 0} → Result V LabelFault → Result V TextsFault
-without_hint (Ok v) = Ok v
-without_hint (Err e) = Err e.fault
-
 -- what a person is told of the font's file, where the font is refused
 abbrev pub hint_for : Refusal → List ℕ → Reading → Option Hint
 hint_for (reason.Font f) file r = Some (advice f file (face_number r))
 hint_for why file r = None
 
--- the hint of a fault is that about the font's file
-abbrev pub HintsBy : Label → LabelFault → List ℕ → Type 0
-HintsBy l e file = e.hint ≡ hint_for e.fault.refusal file l.setting.reading
+-- the hint of an answer
+abbrev pub hint_of : Result (Unit {0}) TextsFault → List ℕ → Reading → Option Hint
+hint_of (Ok u) file r = None
+hint_of (Err fault) file r = hint_for fault.refusal file r
+
+-- the hint beside an answer is that about the font's file
+abbrev pub HintsBy : Label → Labelled → List ℕ → Type 0
+HintsBy l e file = e.hint ≡ hint_of e.answer file l.setting.reading
 
 -- a call stopped before it drew the text, or memory ran out by then; or it drew the text by a font
 abbrev pub FontLabelGives : {V : Type 0} → Label → List ℕ → Result V TextsFault → Traffic → Errors → Type 0

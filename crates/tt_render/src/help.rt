@@ -4,8 +4,8 @@ ghost use Rattle.std.specs.Prelude.{◌≡◌, string_bytes, IfOk};
 ghost use Rattle.tt_render.specs.Help.{fixed_help, folder_help, job_help, label_help};
 ghost use Rattle.tt_advice.specs.Notes.{hint_told};
 
-use crate::label::{Label, LabelFault};
-use crate::refusal::Refusal;
+use crate::label::Label;
+use crate::refusal::{Refusal, TextsFault};
 use crate::setting::Setting;
 use crate::texts_messages::{Messages, named_line};
 use std::alloc::{AllocError, Global};
@@ -70,21 +70,23 @@ impl Messages {
 }
 
 /// The second line on standard error after this fault of `draw_label` or `draw_labels`, with its line feed. Empty where
-/// nothing helps. `folder` says whether the font's path is that of a folder. Error: memory ran out.
+/// nothing helps. `hint` is that of the call, and `folder` says whether the font's path is that of a folder. Error: memory
+/// ran out.
 pub fn label_help(
     alloc: Global,
-    why: &LabelFault,
+    fault: &TextsFault,
+    hint: Option<Hint>,
     asked: &Label,
     folder: bool,
 ) -> Result<String, AllocError>
-    ensures { IfOk result (λ text. string_bytes text ≡ label_help asked.now folder why.now) }
+    ensures { IfOk result (λ text. string_bytes text ≡ label_help asked.now folder fault.now hint) }
 {
     let about = Messages {
         alloc,
-        number: named_line(&why.fault),
+        number: named_line(fault),
     };
-    match why.fault.refusal {
-        Refusal::Font(_) => font_help(alloc, asked.path, why.hint),
+    match fault.refusal {
+        Refusal::Font(_) => font_help(alloc, asked.path, hint),
         Refusal::FontRead => folder_help(alloc, asked.path, folder),
         Refusal::Job(job) => about.job_help(job, &asked.setting),
         Refusal::NotUtf8 => {

@@ -19,9 +19,9 @@ pub struct Label<'a> {
     pub face_given: bool,
 }
 
-/// Why a label is not drawn, and what a person is told of the font's file, where the font is refused.
+/// The answer of a call that draws labels, and what a person is told of the font's file, where the font is refused.
 #[derive(Clone, Copy, Debug, PartialEq, Eq)]
-pub struct LabelFault {
-    pub fault: TextsFault,
+pub struct Labelled {
+    pub answer: Result<(), TextsFault>,
     pub hint: Option<Hint>,
 }

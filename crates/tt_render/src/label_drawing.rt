@@ -1,11 +1,11 @@
 //! Draws one text as a label, or each line of a text in order, from a reader to a writer.
 
-ghost use Rattle.std.specs.Prelude.{◌≡◌, ◌≤◌, false, length, Ok, None, IfErr, IfOk, IfSome, Some};
+ghost use Rattle.std.specs.Prelude.{◌≡◌, ◌≤◌, false, length, Ok, Err, None, IfOk, IfSome, Some};
 ghost use Rattle.tt_core.specs.Limits.{font_limit};
 ghost use Rattle.tt_core.specs.Outcomes.{GivesUnless};
 ghost use Rattle.tt_render_run.specs.Outcome.{traffic_of};
 ghost use Rattle.tt_render_run.specs.Reading.{font_reader_of};
-ghost use Rattle.tt_render.specs.Labels.{FileLabelsGive, FontLabelGives, FontLabelsGive, HintsBy, LabelReadies, TellsLabel, hint_for, label_answer, label_view, line_labelled, strike_in, without_hint};
+ghost use Rattle.tt_render.specs.Labels.{FileLabelsGive, FontLabelGives, FontLabelsGive, HintsBy, LabelReadies, TellsLabel, hint_for, label_answer, label_view, line_labelled, strike_in};
 ghost use Rattle.tt_render.specs.Lines.{line_limit};
 ghost use Rattle.tt_render.specs.Printing.{errors_of};
 ghost use Rattle.tt_render.specs.Settings.{job_by, setting_tested, strike_of};
@@ -14,7 +14,7 @@ ghost use Rattle.tt_render.specs.Views.{before_lines};
 ghost use Rattle.tt_strike.specs.Job.{tested};
 
 use crate::drawing::next_line;
-use crate::label::{Label, LabelFault};
+use crate::label::{Label, Labelled};
 use crate::label_answers::{ReadyLabel, answer_label, face_number};
 use crate::lines::LineReader;
 use crate::printing::print_text;
@@ -41,21 +41,35 @@ fn hint_for(refusal: Refusal, file: &[u8], asked: &Label) -> Option<Hint>
 }
 
 /// A fault with the hint about the font's file.
-fn hinted(fault: TextsFault, file: &[u8], asked: &Label) -> LabelFault
+fn hinted(fault: TextsFault, file: &[u8], asked: &Label) -> Labelled
     requires { length file.now ≤ font_limit }
-    ensures fault { result.fault ≡ fault }
-    ensures hint { result.hint ≡ hint_for fault.refusal file.now asked.now.setting.reading }
+    ensures { result ≡ record { answer = Err fault; hint = hint_for fault.refusal file.now asked.now.setting.reading } }
 {
     let hint = hint_for(fault.refusal, file, asked);
-    LabelFault { fault, hint }
+    Labelled {
+        answer: Err(fault),
+        hint,
+    }
 }
 
 /// The fault of a call that no line stopped, and no byte of the font.
-fn unhinted(refusal: Refusal) -> LabelFault
-    ensures { result ≡ record { fault = before_lines refusal; hint = None } }
+fn unhinted(refusal: Refusal) -> Labelled
+    ensures { result ≡ record { answer = Err (before_lines refusal); hint = None } }
 {
-    let fault = texts_fault(None, refusal);
-    LabelFault { fault, hint: None }
+    Labelled {
+        answer: Err(texts_fault(None, refusal)),
+        hint: None,
+    }
+}
+
+/// All was drawn.
+fn done() -> Labelled
+    ensures { result ≡ record { answer = Ok tt; hint = None } }
+{
+    Labelled {
+        answer: Ok(()),
+        hint: None,
+    }
 }
 
 /// The answer of the one text by a font file. Errors, the first of: Font, of the tables needed for every text; those of
@@ -89,32 +103,32 @@ pub fn draw_label<R: Source, W: Sink, E: Sink>(
     error: &mut E,
     text: &str,
     asked: &Label,
-) -> Result<(), LabelFault>
+) -> Labelled
     requires font { R.has_failed font.old ≡ false }
     requires out { W.has_failed out.old ≡ false }
     requires error { E.has_failed error.old ≡ false }
     // Either the call stopped before the text was drawn, and did nothing else. Or the font was read to its end and
     // opened, and the writing and printing are as defined for the label by that font.
-    ensures outcome { FontLabelGives asked.now text.now (without_hint result) (traffic_of R.left R.has_failed W.written W.has_failed font.old font.new out.old out.new) (errors_of E.written E.has_failed error.old error.new) }
-    ensures hint { IfErr result (λ e. IfSome (R.left font.old) (HintsBy asked.now e)) }
+    ensures outcome { FontLabelGives asked.now text.now result.answer (traffic_of R.left R.has_failed W.written W.has_failed font.old font.new out.old out.new) (errors_of E.written E.has_failed error.old error.new) }
+    ensures hint { IfSome (R.left font.old) (HintsBy asked.now result) }
 {
     if let Err(fault) = test_job(&asked.setting.job(text)) {
-        return Err(unhinted(Refusal::Job(fault)));
+        return unhinted(Refusal::Job(fault));
     }
     let file = match read_font(alloc, font) {
         Ok(file) => file,
-        Err(fault) => return Err(unhinted(refusal_of_run(fault))),
+        Err(fault) => return unhinted(refusal_of_run(fault)),
     };
     let ready = match draw(alloc, &file, text, asked) {
         Ok(ready) => ready,
-        Err(fault) => return Err(hinted(fault, &file, asked)),
+        Err(fault) => return hinted(fault, &file, asked),
     };
     match write_all_of(out, &ready.file) {
         Ok(()) => {
             print_text(error, &ready.report);
-            Ok(())
+            done()
         }
-        Err(cut) => Err(unhinted(Refusal::Write { sent: cut.sent })),
+        Err(cut) => unhinted(Refusal::Write { sent: cut.sent }),
     }
 }
 
@@ -224,23 +238,23 @@ pub fn draw_labels<F: Source, R: Source, W: Sink, E: Sink>(
     out: &mut W,
     error: &mut E,
     asked: &Label,
-) -> Result<(), LabelFault>
+) -> Labelled
     requires font { F.has_failed font.old ≡ false }
     requires lines { R.has_failed lines.old ≡ false }
     requires out { W.has_failed out.old ≡ false }
     requires error { E.has_failed error.old ≡ false }
-    ensures outcome { FontLabelsGive asked.now (without_hint result) (font_reader_of F.left F.has_failed font.old font.new) (traffic_of R.left R.has_failed W.written W.has_failed lines.old lines.new out.old out.new) (errors_of E.written E.has_failed error.old error.new) }
-    ensures hint { IfErr result (λ e. IfSome (F.left font.old) (HintsBy asked.now e)) }
+    ensures outcome { FontLabelsGive asked.now result.answer (font_reader_of F.left F.has_failed font.old font.new) (traffic_of R.left R.has_failed W.written W.has_failed lines.old lines.new out.old out.new) (errors_of E.written E.has_failed error.old error.new) }
+    ensures hint { IfSome (F.left font.old) (HintsBy asked.now result) }
 {
     if let Err(fault) = test_setting(&asked.setting) {
-        return Err(unhinted(Refusal::Job(fault)));
+        return unhinted(Refusal::Job(fault));
     }
     let file = match read_font(alloc, font) {
         Ok(file) => file,
-        Err(fault) => return Err(unhinted(refusal_of_run(fault))),
+        Err(fault) => return unhinted(refusal_of_run(fault)),
     };
     match draw_labels_of(alloc, &file, lines, out, error, asked) {
-        Ok(()) => Ok(()),
-        Err(fault) => Err(hinted(fault, &file, asked)),
+        Ok(()) => done(),
+        Err(fault) => hinted(fault, &file, asked),
     }
 }

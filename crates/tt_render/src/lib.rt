@@ -23,7 +23,7 @@ mod tt_label;
 
 pub use drawing::{draw_lines, draw_text, lines_budget};
 pub use help::label_help;
-pub use label::{Label, LabelFault};
+pub use label::{Label, Labelled};
 pub use label_drawing::{draw_label, draw_labels};
 pub use printing::print_text;
 pub use products::{make_measure, make_picture};

@@ -29,7 +29,7 @@ returns-in-Label-clause-outcome g c =
       c.label_for-label.result,
       c.label_for-label.ensures,
       record {
-        answer = c.draw_label-drawn.result;
+        drawn = c.draw_label-drawn.result;
         between = g.E.Sink.written c.draw_label-drawn.new.error;
         had_failed = g.E.Sink.has_failed c.draw_label-drawn.new.error;
         outcome = (c.draw_label-drawn.ensures.outcome, c.draw_label-drawn.ensures.hint);
@@ -44,7 +44,7 @@ returns-in-Labels-clause-outcome g c =
       c.label_for-label-in-Labels.result,
       c.label_for-label-in-Labels.ensures,
       record {
-        answer = c.draw_labels-drawn.result;
+        drawn = c.draw_labels-drawn.result;
         between = g.E.Sink.written c.draw_labels-drawn.new.error;
         had_failed = g.E.Sink.has_failed c.draw_labels-drawn.new.error;
         outcome = (c.draw_labels-drawn.ensures.outcome, c.draw_labels-drawn.ensures.hint);

@@ -7,4 +7,4 @@ returns-else-failed-clause-told g c =
     let serves : g.E.Sink.has_failed c.args.error.now ≡ false = search rules in
     rw (c.in-Err.is, serves)
     (rw c.texts_status-status.ensures at
-    (c.tell_text.ensures.told (label_lines_of c.args.label.now c.args.folder c.in-Err.fault) c.label_lines.ensures))
+    (c.tell_text.ensures.told (label_lines_of c.args.label.now c.args.folder c.in-Err.fault c.args.drawn.now.hint) c.label_lines-lines.ensures))

@@ -1,8 +1,6 @@
 use Rattle.std.proofs.Common.{◌≡◌, ◌∙◌, ap, refl, sym, ℕ, List, Ok, Err, inl, subst}
-use Rattle.tt_advice.specs.declared.hint.Hint.{Hint}
 use Rattle.tt_render.specs.declared.refusal.Refusal.{Refusal}
 use Rattle.tt_render.specs.declared.refusal.Refusal.TheVariants as reason
-use Rattle.tt_render.specs.declared.refusal.TextsFault.{TextsFault}
 use Rattle.tt_render.specs.Labels.{HintsBy, LabelReadies, hint_for, label_answer, label_view}
 use Rattle.tt_render_run.specs.Outcome.{traffic_of}
 use Rattle.tt_render.specs.Printing.{errors_of}
@@ -62,7 +60,7 @@ returns-in-Err-draw-clause-outcome g c =
     let good = subst (λ (k : Job). tested k ≡ Ok tt) c.job.ensures.exact c.in_default.ensures.exact in
     let P : List ℕ → Type 0 = λ bytes. LabelReadies (λ t. label_answer l t text) (strike_of l.setting bytes) (Err fault) in
     let why = subst P c.deref.ensures.value c.in-Err-draw.ensures.outcome in
-    rw c.hinted.ensures.fault
+    rw c.hinted.ensures
     (text_fails l.setting (λ t. label_answer l t text) text file.file.items fault
     (traffic_of left g.R.Source.has_failed g.W.Sink.written g.W.Sink.has_failed c.args.font.now font c.args.out.now
     c.args.out.now) (errors_of g.E.Sink.written g.E.Sink.has_failed c.args.error.now c.args.error.now)
@@ -79,12 +77,13 @@ returns-in-Ok-write_all_of-clause-outcome g c =
     let made = rw c.deref.ensures.value at ready.ensures.outcome in
     let printed = rw (c.requires.error, c.deref-in-Ok-write_all_of.ensures, ready.ensures.report) at c.print_text.ensures in
     let sent = rw c.deref-in-Ok-draw.ensures.value at c.in-Ok-write_all_of.ensures.all in
-    text_written l.setting (λ t. label_answer l t c.args.text.now) c.args.text.now file.file.items made.0
+    rw c.done.ensures
+    (text_written l.setting (λ t. label_answer l t c.args.text.now) c.args.text.now file.file.items made.0
     (label_view ready.ready)
     (traffic_of g.R.Source.left g.R.Source.has_failed g.W.Sink.written g.W.Sink.has_failed c.args.font.now
     c.read_font.new.font c.args.out.now c.write_all_of.new.out)
     (errors_of g.E.Sink.written g.E.Sink.has_failed c.args.error.now c.print_text.new.error)
-    good (file.ensures.0, file.ensures.1, file.ensures.3) made.1 made.2 sent c.in-Ok-write_all_of.ensures.failure printed
+    good (file.ensures.0, file.ensures.1, file.ensures.3) made.1 made.2 sent c.in-Ok-write_all_of.ensures.failure printed)
 
 pub returns-clause-outcome : goal.returns-clause-outcome
 returns-clause-outcome g c =
@@ -120,8 +119,11 @@ returns-in-Err-draw-clause-hint g c =
     let left = g.R.Source.left in
     let file = c.in-Ok in
     known_of (left c.args.font.now) (left c.read_font.new.font) file.file.items (HintsBy c.args.asked.now c.hinted.result)
-    file.ensures.0 file.ensures.1
-    (c.hinted.ensures.hint ∙ rw (c.deref-in-Err-draw.ensures.value, ap (λ (e : TextsFault). e.refusal) c.hinted.ensures.fault) refl)
+    file.ensures.0 file.ensures.1 (rw (c.hinted.ensures, c.deref-in-Err-draw.ensures.value) refl)
+
+pub returns-in-Ok-write_all_of-clause-hint : goal.returns-in-Ok-write_all_of-clause-hint
+returns-in-Ok-write_all_of-clause-hint g c =
+    rw c.done.ensures (if_some_all (g.R.Source.left c.args.font.now) _ (λ file. refl))
 
 pub returns-clause-hint : goal.returns-clause-hint
 returns-clause-hint g c =

@@ -1,5 +1,4 @@
 use Rattle.std.proofs.Common.{◌≡◌, ◌∙◌, ap, refl, List, Ok, Err, inl, subst}
-use Rattle.tt_render.specs.declared.refusal.TextsFault.{TextsFault}
 use Rattle.tt_render.specs.Labels.{FileLabelsGive, HintsBy}
 use Rattle.tt_render_run.specs.Outcome.{traffic_of}
 use Rattle.tt_render.specs.Printing.{errors_of}
@@ -42,8 +41,9 @@ returns-in-Ok-draw_labels_of-clause-outcome g c =
     let t = traffic_of g.R.Source.left g.R.Source.has_failed g.W.Sink.written g.W.Sink.has_failed c.args.lines.now
     c.draw_labels_of.new.lines c.args.out.now c.draw_labels_of.new.out in
     let e = errors_of g.E.Sink.written g.E.Sink.has_failed c.args.error.now c.draw_labels_of.new.error in
-    by_reader l file.file.items (Ok tt) f t e c.in_default.ensures read
-    (rw c.deref.ensures.value at c.in-Ok-draw_labels_of.ensures)
+    rw c.done.ensures
+    (by_reader l file.file.items (Ok tt) f t e c.in_default.ensures read
+    (rw c.deref.ensures.value at c.in-Ok-draw_labels_of.ensures))
 
 pub returns-clause-outcome : goal.returns-clause-outcome
 returns-clause-outcome g c =
@@ -56,7 +56,7 @@ returns-clause-outcome g c =
     let e = errors_of g.E.Sink.written g.E.Sink.has_failed c.args.error.now c.draw_labels_of.new.error in
     let fault = c.in-Err-draw_labels_of.fault in
     let Gives : List _ → Type 0 = λ bytes. FileLabelsGive {V = Unit {0}} l bytes (Err fault) t e in
-    rw c.hinted.ensures.fault
+    rw c.hinted.ensures
     (by_reader {V = Unit {0}} l file.file.items (Err fault) f t e c.in_default.ensures read
     (subst Gives c.deref.ensures.value c.in-Err-draw_labels_of.ensures))
 
@@ -72,10 +72,13 @@ returns-in-Err-read_font-clause-hint g c =
     (if_some_all (left c.args.font.now) _ (λ file. reading_hints c.in-Err-read_font.fault (left c.args.font.now) (left font)
     (g.F.Source.has_failed font) file c.args.asked.now.setting.reading c.in-Err-read_font.ensures))
 
+pub returns-in-Ok-draw_labels_of-clause-hint : goal.returns-in-Ok-draw_labels_of-clause-hint
+returns-in-Ok-draw_labels_of-clause-hint g c =
+    rw c.done.ensures (if_some_all (g.F.Source.left c.args.font.now) _ (λ file. refl))
+
 pub returns-clause-hint : goal.returns-clause-hint
 returns-clause-hint g c =
     let left = g.F.Source.left in
     let file = c.in-Ok in
     known_of (left c.args.font.now) (left c.read_font.new.font) file.file.items (HintsBy c.args.asked.now c.hinted.result)
-    file.ensures.0 file.ensures.1
-    (c.hinted.ensures.hint ∙ rw (c.deref-in-Err-draw_labels_of.ensures.value, ap (λ (e : TextsFault). e.refusal) c.hinted.ensures.fault) refl)
+    file.ensures.0 file.ensures.1 (rw (c.hinted.ensures, c.deref-in-Err-draw_labels_of.ensures.value) refl)
