@@ -66,10 +66,7 @@ fn label_command<'a>(alloc: Global) -> Result<Command<'a>, AllocError> {
         .arg(fit(alloc, BEST))?
         .arg(face(alloc))?
         .arg(missing(alloc, TELL))?
-        .arg(lines(
-            alloc,
-            "Draw each line of standard input, in place of TEXT",
-        )?)?
+        .arg(lines(alloc, "Draw each line of standard input, in place of TEXT")?)?
         .arg(font(alloc))?
         .arg(text(alloc).required_unless_present("lines")?)
 }

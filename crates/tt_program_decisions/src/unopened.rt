@@ -79,9 +79,10 @@ fn hint_of_open(request: &Request, kind: ErrorKind) -> Option<FixedHint>
     match request {
         Request::Label { text, .. } => opening_hint(kind, Some(*text)),
         Request::Labels { .. } => opening_hint(kind, None),
-        Request::Map { .. } | Request::Faces { .. } | Request::Text { .. } | Request::Lines { .. } => {
-            None
-        }
+        Request::Map { .. }
+        | Request::Faces { .. }
+        | Request::Text { .. }
+        | Request::Lines { .. } => { None }
     }
 }
 

@@ -20,7 +20,7 @@ pub struct Label<'a> {
 }
 
 /// The answer of a call that draws labels, and what a person is told of the font's file, where the font is refused.
-#[derive(Clone, Copy, Debug, PartialEq, Eq)]
+#[derive(Drop)]
 pub struct Labelled {
     pub answer: Result<(), TextsFault>,
     pub hint: Option<Hint>,

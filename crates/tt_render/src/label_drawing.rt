@@ -36,7 +36,15 @@ fn hint_for(refusal: Refusal, file: &[u8], asked: &Label) -> Option<Hint>
 {
     match refusal {
         Refusal::Font(fault) => Some(advice(fault, file, face_number(asked.setting.reading))),
-        _ => None,
+        Refusal::Job(_)
+        | Refusal::NotUtf8
+        | Refusal::Missing(_)
+        | Refusal::FontRead
+        | Refusal::FontLarge
+        | Refusal::Read
+        | Refusal::Write { .. }
+        | Refusal::Many
+        | Refusal::Memory => None,
     }
 }
 

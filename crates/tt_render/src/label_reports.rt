@@ -89,7 +89,9 @@ impl Messages {
         if unfitted == 1 {
             format!(in self.alloc; "{head}1 glyph is not fitted; draw --fit {name} names it\n")
         } else {
-            format!(in self.alloc; "{head}{unfitted} glyphs are not fitted; draw --fit {name} names them\n")
+            format!(in self.alloc;
+                "{head}{unfitted} glyphs are not fitted; draw --fit {name} names them\n"
+            )
         }
     }
 

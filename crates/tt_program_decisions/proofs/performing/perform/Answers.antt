@@ -24,8 +24,7 @@ returns-in-Lines-clause-outcome g c =
 
 pub returns-in-Label-clause-outcome : goal.returns-in-Label-clause-outcome
 returns-in-Label-clause-outcome g c =
-    rw c.in-Label.is
-    (
+    rw c.in-Label.is (
       c.label_for-label.result,
       c.label_for-label.ensures,
       record {
@@ -39,8 +38,7 @@ returns-in-Label-clause-outcome g c =
 
 pub returns-in-Labels-clause-outcome : goal.returns-in-Labels-clause-outcome
 returns-in-Labels-clause-outcome g c =
-    rw c.in-Labels.is
-    (
+    rw c.in-Labels.is (
       c.label_for-label-in-Labels.result,
       c.label_for-label-in-Labels.ensures,
       record {

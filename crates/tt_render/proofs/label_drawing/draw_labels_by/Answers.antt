@@ -158,4 +158,3 @@ returns g c =
     let sends = many_sent draw (text_left c.loop-before.reader (left c.loop-before.lines)) t e c.loop-before.before
     lines_limit 0 all so_far.so_far in
     (sends, so_far.reads, so_far.writes)
-
