@@ -1,1 +1,2 @@
 pub mod Label
+pub mod Made

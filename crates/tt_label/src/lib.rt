@@ -1,7 +1,20 @@
 //! The picture of a label: a text of several lines in one picture.
+//!
+//! ```text
+//! joining.rt  the glyphs of several lines as those of one line
+//! fitting.rt  the glyphs of a label, fitted, and their steps
+//! made.rt     the lines of a label, laid out, and their glyphs
+//! growing.rt  the columns and rows that the ink of all lines needs
+//! label.rt    the lines, painted over each other
+//! picture.rt  the picture
+//! ```
 #![tactic(auto)]
 
+mod fitting;
+mod growing;
+mod joining;
 mod label;
+mod made;
 mod picture;
 
 pub use label::label;

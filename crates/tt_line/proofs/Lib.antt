@@ -1,4 +1,5 @@
+mod Walks
+pub mod LabelTexts
 pub mod Pens
 pub mod Quotients
 pub mod Texts
-mod Walks

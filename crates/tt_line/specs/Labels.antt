@@ -39,9 +39,13 @@ at_least low n = if int_lt n (pos low) then low else unsigned_abs n
 abbrev pub gap_of : Metrics → ℕ → ℕ
 gap_of m ppem = at_least 0 (rounded_quotient (line_gap_of m *ℤ pos ppem) (pos (units_per_em_of m)))
 
+-- the rise and the depth of a line, and so many pixels
+abbrev pub rows_of : ℕ → ℤ → ℤ → ℤ
+rows_of more rise depth = pos more +ℤ rise +ℤ depth
+
 -- pixels from a base line down to the next
 abbrev pub line_step : ℤ → ℤ → ℕ → ℕ
-line_step rise depth gap = at_least 1 (rise +ℤ depth +ℤ pos gap)
+line_step rise depth gap = at_least 1 (rows_of gap rise depth)
 
 abbrev pub line_step_of : Metrics → ℕ → ℕ
 line_step_of m ppem = line_step (rise_of m ppem) (depth_of m ppem) (gap_of m ppem)
@@ -71,7 +75,7 @@ indent align.Right inner width = inner - width
 abbrev pub label_extent : ℕ → ℕ → ℤ → ℤ → ℕ → ℕ → LabelExtent
 label_extent inner margin rise depth step more = record {
   width = greater 1 (inner + 2 * margin);
-  height = at_least 1 (pos (more * step) +ℤ rise +ℤ depth +ℤ pos (2 * margin));
+  height = at_least 1 (rows_of (more * step + 2 * margin) rise depth);
 }
 
 -- a picture that is too large is refused

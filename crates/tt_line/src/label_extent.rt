@@ -1,9 +1,11 @@
 //! The size of a label's picture, and the distance of its lines.
 
-ghost use Rattle.std.specs.Prelude.{◌≡◌, ◌+◌, ◌*◌, ◌<◌, ◌≤◌, ◌^◌, ◌+ℤ◌, ◌≤ℤ◌, pos, unsigned_abs, IfOk};
+ghost use Rattle.std.specs.Prelude.{◌≡◌, ℕ, ◌+◌, ◌*◌, ◌<◌, ◌≤◌, ◌^◌, ◌+ℤ◌, ◌*ℤ◌, ◌≤ℤ◌, pos, unsigned_abs, IfOk};
 ghost use Rattle.tt_core.specs.Limits.{height_limit, margin_limit, size_limit, text_limit, width_limit};
+ghost use Rattle.tt_core.specs.Numbers.{rounded_quotient};
 ghost use Rattle.tt_core.specs.Outcomes.{Gives};
-ghost use Rattle.tt_line.specs.Labels.{at_least, gap_of, greater, indent, label_extent, label_limited, line_step};
+ghost use Rattle.tt_line.specs.Labels.{at_least, gap_of, greater, indent, label_extent, label_limited, line_step, rows_of};
+ghost use Rattle.tt_metrics.specs.Head.{smallest_em};
 
 use crate::align::Align;
 use tt_core::{HEIGHT_LIMIT, JobFault, WIDTH_LIMIT, rq};
@@ -20,6 +22,7 @@ pub struct LabelExtent {
 fn at_least(low: u32, n: i64) -> u64
     ensures exact { result ≡ at_least low n }
     ensures low { low ≤ result }
+    ensures least { n ≤ℤ pos result }
     ensures high { result ≤ low + unsigned_abs n }
 {
     if n < i64::from(low) {
@@ -33,8 +36,29 @@ pub(crate) fn greater(a: u64, b: u64) -> u64
     ensures exact { result ≡ greater a b }
     ensures first { a ≤ result }
     ensures second { b ≤ result }
+    ensures least { (n : ℕ) → a ≤ n → b ≤ n → result ≤ n }
 {
     if a < b { b } else { a }
+}
+
+/// Font units at a size, before they are divided by the units of an em.
+fn units_at(units: i32, ppem: u32) -> i64
+    requires units { unsigned_abs units ≤ 2 ^ 15 }
+    requires size { ppem ≤ size_limit }
+    ensures exact { result ≡ units *ℤ pos ppem }
+    ensures bound { unsigned_abs result ≤ size_limit * 2 ^ 15 }
+{
+    i64::from(units * ppem as i32)
+}
+
+/// Pixels rounded to the nearest; 0 where they are negative.
+fn rounded(units: i64, em: u16) -> u32
+    requires units { unsigned_abs units ≤ size_limit * 2 ^ 15 }
+    requires em { smallest_em ≤ em }
+    ensures exact { result ≡ at_least 0 (rounded_quotient units (pos em)) }
+    ensures bound { result ≤ 614400 }
+{
+    at_least(0, rq(units, i64::from(em))) as u32
 }
 
 /// Pixels between the depth of a line and the rise of the next, rounded to the nearest; 0 where the font has a negative
@@ -44,8 +68,18 @@ pub(crate) fn gap(metrics: &Metrics, ppem: u32) -> u32
     ensures exact { result ≡ gap_of metrics.now ppem }
     ensures bound { result ≤ 614400 }
 {
-    let units = i64::from(metrics.line_gap()) * i64::from(ppem);
-    at_least(0, rq(units, i64::from(metrics.units_per_em()))) as u32
+    rounded(units_at(i32::from(metrics.line_gap()), ppem), metrics.units_per_em())
+}
+
+/// The rise and the depth of a line, and so many pixels.
+fn rows_of(more: u64, rise: i32, depth: i32) -> i64
+    requires more { more ≤ 2 ^ 34 }
+    requires rise { unsigned_abs rise ≤ 614400 }
+    requires depth { unsigned_abs depth ≤ 614400 }
+    ensures exact { result ≡ rows_of more rise depth }
+    ensures bound { unsigned_abs result ≤ more + 1228800 }
+{
+    more as i64 + i64::from(rise) + i64::from(depth)
 }
 
 /// Pixels from a base line down to the next: at least 1.
@@ -56,7 +90,7 @@ pub(crate) fn line_step(rise: i32, depth: i32, gap: u32) -> u32
     ensures exact { result ≡ line_step rise depth gap }
     ensures bound { result < 2 ^ 21 }
 {
-    at_least(1, i64::from(rise) + i64::from(depth) + i64::from(gap)) as u32
+    at_least(1, rows_of(u64::from(gap), rise, depth)) as u32
 }
 
 /// Pixels from the base line of the first line to that of the last, which is `more` lines below it.
@@ -90,13 +124,10 @@ pub(crate) fn label_extent(
     ensures wide { inner ≤ result.width }
     ensures high { (pos (more * step) +ℤ rise) ≤ℤ pos (614400 + result.height) }
 {
-    let margins = 2 * margin;
-    let rows = descent(more, step) as i64
-        + i64::from(rise)
-        + i64::from(depth)
-        + i64::from(margins);
+    let margins = u64::from(2 * margin);
+    let rows = rows_of(descent(more, step) + margins, rise, depth);
     LabelExtent {
-        width: greater(1, inner + u64::from(margins)),
+        width: greater(1, inner + margins),
         height: at_least(1, rows),
     }
 }

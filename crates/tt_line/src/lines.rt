@@ -1,11 +1,11 @@
 //! Lays out the lines of a label in one picture.
 
 ghost use Rattle.std.specs.List.{flat_map};
-ghost use Rattle.std.specs.Prelude.{◌≡◌, ◌+◌, ◌-◌, ◌*◌, ◌<◌, ◌≤◌, ◌^◌, ◌+ℤ◌, ◌≤ℤ◌, pos, unsigned_abs, length, map, chars, All, IfOk};
+ghost use Rattle.std.specs.Prelude.{◌≡◌, ◌+◌, ◌-◌, ◌*◌, ◌<◌, ◌≤◌, ◌^◌, ◌+ℤ◌, ◌≤ℤ◌, pos, unsigned_abs, length, map, sum, chars, All, IfOk};
 ghost use Rattle.tt_core.specs.Limits.{height_limit, margin_limit, size_limit, text_limit, width_limit};
 ghost use Rattle.tt_core.specs.Outcomes.{JobGives};
 ghost use Rattle.tt_line.specs.Labels.{label_lines, label_placement, line_placed, lines_placed, unmarked, widest, width_of};
-ghost use Rattle.tt_line.specs.Layout.{advance_in_pixels, text_glyphs};
+ghost use Rattle.tt_line.specs.Layout.{advance_in_pixels, glyphs_at_pens, text_glyphs};
 ghost use Rattle.tt_line.specs.Outcome.{placement_of};
 ghost use Rattle.tt_metrics.specs.Metrics.{glyphs_of};
 
@@ -69,13 +69,22 @@ fn widest(lines: &[Vec<(u16, u32)>]) -> u64
 }
 
 /// Moves each pen to the right.
-fn move_pens(glyphs: &mut [(u16, u32)], right: u32)
+pub fn move_pens(glyphs: &mut [(u16, u32)], right: u32)
     requires { All (λ g. g.1 + right < 2 ^ 32) glyphs.old }
     ensures { glyphs.new ≡ map (λ g. (g.0, g.1 + right)) glyphs.old }
 {
     for i in 0..glyphs.len() {
         glyphs[i].1 += right;
     }
+}
+
+/// Puts the pen of each glyph in the place of its step, the first at `start`.
+fn stand(glyphs: &mut [(u16, u32)], start: u32)
+    requires { start + sum (map (λ p. p.1) glyphs.old) ≤ width_limit }
+    ensures { glyphs.new ≡ map (λ g. (g.0, g.1 + start)) (glyphs_at_pens (map (λ p. p.0) glyphs.old) (map (λ p. p.1) glyphs.old)) }
+{
+    place(glyphs);
+    move_pens(glyphs, start);
 }
 
 /// A line of a label in its picture, at this distance of its base line below the upper margin.
@@ -96,8 +105,7 @@ fn lay_line(
 {
     let before = indent(align, inner, sum_of_steps(&steps));
     let mut glyphs = steps;
-    place(&mut glyphs);
-    move_pens(&mut glyphs, before as u32);
+    stand(&mut glyphs, before as u32);
     Line {
         width: extent.width as u32,
         height: extent.height as u32,

@@ -1,12 +1,14 @@
 pub mod Alike
 pub mod Among
-mod Bands
+pub mod AmongDistinct
+pub mod Bands
 pub mod Blackened
 pub mod Boxed
 pub mod Crossed
 pub mod CutGlyphs
 pub mod Filled
 pub mod Outlines
+pub mod Overlaid
 pub mod FirstMet
 pub mod Inked
 pub mod Keeping
@@ -15,7 +17,7 @@ pub mod Listing
 mod Pens
 pub mod Places
 pub mod Reframed
-mod RowBytes
+pub mod RowBytes
 mod RowsCut
 pub mod RowsNeeded
 pub mod Seen

@@ -20,9 +20,15 @@ mod stepping;
 mod strike;
 mod work;
 
-pub use job::{Job, test_job, test_text};
+pub use distinct::{DistinctGlyphs, distinct};
+pub use growing::{Sides, lacking, longer};
+pub use job::{Job, test_job, test_margin, test_text};
+pub use maker::Maker;
 pub use measuring::{CharacterMeasure, Measure};
+pub use sized::SizedFace;
+pub use source::FitterSource;
 pub use strike::Strike;
 pub use tt_core::DrawFault;
 pub use tt_face::Face;
 pub use tt_picture::{InkBox, Picture, Report, Unfitted};
+pub use work::{CHORD_LIMIT, charge_points, crossings_allowed, is_bounded, test_crossings};

@@ -21,7 +21,7 @@ use tt_picture::{Cache, Glyph, crossings};
 const POINT_WORK: u64 = 40;
 
 /// The chords that a line's glyphs may have, each glyph once.
-pub(crate) const CHORD_LIMIT: usize = 32_000_000;
+pub const CHORD_LIMIT: usize = 32_000_000;
 
 /// The work that each crossing takes.
 const CROSSING_WORK: u64 = 4;
@@ -30,7 +30,7 @@ const CROSSING_WORK: u64 = 4;
 const CROSSINGS_FREE: u64 = 500_000;
 
 /// Whether the work of a job is bounded.
-pub(crate) fn is_bounded(fit: Fit) -> bool
+pub fn is_bounded(fit: Fit) -> bool
     ensures { result ≡ is_bounded fit }
 {
     match fit {
@@ -42,7 +42,7 @@ pub(crate) fn is_bounded(fit: Fit) -> bool
 /// Charges the points of a line's distinct glyphs to its work, which is bounded. The cache has those of cached glyphs.
 /// Errors: WorkLarge, where they are too many; Memory.
 #[tactic(auto, unfolding(crate::specs::Work::work_tested))]
-pub(crate) fn charge_points(
+pub fn charge_points(
     fit: Fit,
     fitter: &mut Fitter,
     numbers: &[u16],
@@ -64,7 +64,7 @@ pub(crate) fn charge_points(
 }
 
 /// How many crossings a line may have by the work that its programs left.
-pub(crate) fn crossings_allowed(left: Option<u64>) -> u64
+pub fn crossings_allowed(left: Option<u64>) -> u64
     ensures exact { result ≡ crossings_allowed left }
     ensures small { result ≤ crossing_limit }
 {
@@ -117,7 +117,7 @@ fn points_left(
 /// Counts the crossings of a job's glyphs at their pens, where work is bounded; else 0. Error: WorkLarge, where they are
 /// more than `most`.
 #[tactic(auto, unfolding(crate::specs::Work::work_tested))]
-pub(crate) fn test_crossings(fit: Fit, most: u64, glyphs: &[Glyph]) -> Result<u64, JobFault>
+pub fn test_crossings(fit: Fit, most: u64, glyphs: &[Glyph]) -> Result<u64, JobFault>
     requires glyphs { All CanBeCounted glyphs.now }
     requires most { most < 2 ^ 64 - 1 }
     ensures exact { Gives (λ n. tt) result (work_tested fit most (crossings_standing glyphs.now)) }

@@ -1,0 +1,26 @@
+-- No part of the standard: the lines of a label and their glyphs, made and tested before they are drawn.
+use Rattle.std.specs.Prelude.{◌≡◌, ◌≤◌, ℕ, false, List, length, Result, Ok}
+use Rattle.tt_core.specs.Limits.{margin_limit}
+use Rattle.tt_core.specs.Outcomes.{◌>>=◌}
+use Rattle.tt_face.specs.Faces.{Face}
+use Rattle.tt_line.specs.declared.align.Align.{Align}
+use Rattle.tt_line.specs.Layout.{Placement}
+use Rattle.tt_metrics.specs.Metrics.{glyphs_of}
+use Rattle.tt_picture.specs.Glyphs.{AreSeated, Glyph}
+use Rattle.tt_picture.specs.Pixels.{Shape}
+use Rattle.tt_strike.specs.Job.{Job}
+use Rattle.tt_strike.specs.Made.{AreMade, shapes_made}
+use Rattle.tt_strike.specs.Refusals.{Refused}
+use Rattle.tt_label.specs.Label.{joint, label_placed}
+
+-- the glyphs of all lines of a label, or the first refusal
+abbrev pub label_shapes : Face → Job → Align → Result (List Shape) Refused
+label_shapes face a how = label_placed face a how >>= λ lines. shapes_made face a (joint lines)
+
+-- the lines of a text are laid out, and their glyphs are made as those of one line
+pub record IsMadeLabel (face : Face) (a : Job) (how : Align) (lines : List Placement) (table : List ℕ) (gs : List Glyph) : Type 0 where
+  pub placed : label_placed face a how ≡ Ok lines
+  pub some : 1 ≤ length lines
+  pub margin : a.margin ≤ margin_limit
+  pub made : AreMade false face a (joint lines) gs
+  pub seated : AreSeated (glyphs_of face.metrics) table gs
