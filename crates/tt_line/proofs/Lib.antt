@@ -1,4 +1,5 @@
 mod Walks
+pub mod LabelLines
 pub mod LabelTexts
 pub mod Pens
 pub mod Quotients

@@ -23,7 +23,7 @@ abbrev pub unmarked : List ℕ → List ℕ
 unmarked text = if is_marked text then drop 3 text else text
 
 -- one empty line in place of none
-abbrev pub some_line : List (List ℕ) → List (List ℕ)
+abbrev pub some_line : {A : Type 0} → List (List A) → List (List A)
 some_line [] = [] ∷ []
 some_line (l ∷ ls) = l ∷ ls
 
