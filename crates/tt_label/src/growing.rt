@@ -63,6 +63,21 @@ fn enlarged(line: Line, width: u32, height: u32, sides: Sides) -> Line {
     }
 }
 
+/// Some lines in a larger picture. Error: Memory.
+fn enlarge_all(
+    alloc: Global,
+    lines: Vec<Line>,
+    width: u32,
+    height: u32,
+    sides: Sides,
+) -> Result<Vec<Line>, AllocError> {
+    let mut made = Vec::with_capacity(alloc, lines.len())?;
+    for line in lines {
+        made.push(enlarged(line, width, height, sides))?;
+    }
+    Ok(made)
+}
+
 /// Some lines of one picture with the fewest added columns and rows such that this ink is not cut. Errors: PictureLarge,
 /// Memory.
 pub(crate) fn grown_lines(
@@ -78,9 +93,5 @@ pub(crate) fn grown_lines(
     let sides = lacking(lines[0].width, lines[0].height, ink);
     let width = longer(lines[0].width, sides.left, sides.right, WIDTH_LIMIT)?;
     let height = longer(lines[0].height, sides.top, sides.bottom, HEIGHT_LIMIT)?;
-    let mut made = Vec::with_capacity(alloc, lines.len())?;
-    for line in lines {
-        made.push(enlarged(line, width, height, sides))?;
-    }
-    Ok(made)
+    Ok(enlarge_all(alloc, lines, width, height, sides)?)
 }
