@@ -1,5 +1,5 @@
 -- The lines of a label, one below the other.
-use Rattle.std.proofs.Common.{◌≡◌, refl, ℕ, ◌+◌, ◌-◌, ◌*◌, ◌<◌, ◌≤◌, ℤ, pos, ◌+ℤ◌, ◌≤ℤ◌, unsigned_abs, List, [], ◌∷◌, length, map, Ok, Err, arith}
+use Rattle.std.proofs.Common.{◌≡◌, refl, ap, ℕ, ◌+◌, ◌-◌, ◌*◌, ◌<◌, ◌≤◌, ℤ, pos, ◌+ℤ◌, ◌≤ℤ◌, unsigned_abs, List, [], ◌∷◌, length, map, Ok, Err, arith}
 use Rattle.std.proofs.lemmas.Int.{ints}
 use Rattle.std.proofs.lemmas.Nat.{mul-le}
 use Rattle.tt_core.specs.declared.fault.JobFault.{JobFault}
@@ -35,7 +35,13 @@ pub placement_made : (m : Metrics) (ppem margin : ℕ) (how : Align) (lines : Li
 unfolding label_placement
 placement_made m ppem margin how lines e is = rw is refl
 
--- a line made of each of some lines, of which none is an empty one
-pub some_line_map : {A B : Type 0} (f : List A → List B) (ls : List (List A)) → f [] ≡ [] → map f (some_line ls) ≡ some_line (map f ls)
-some_line_map f [] empty = rw empty refl
-some_line_map f (l ∷ ls) empty = refl
+-- what is made of each of some lines, and of one empty line in place of none
+pub some_made : {A B : Type 0} (f : List A → List B) (ls : List (List A)) (made : List (List B)) → made ≡ map f ls
+    → 0 < length made → made ≡ map f (some_line ls)
+some_made f [] made is some = absurd (let none = ap length is in omega (arith, none, some))
+some_made f (l ∷ ls) made is some = is
+
+pub none_made : {A B : Type 0} (f : List A → List B) (ls : List (List A)) (made : List (List B)) → made ≡ map f ls
+    → length made ≡ 0 → f [] ≡ [] → [] ∷ [] ≡ map f (some_line ls)
+none_made f [] made is none empty = rw empty refl
+none_made f (l ∷ ls) made is none empty = absurd (let some = ap length is in omega (arith, none, some))

@@ -30,6 +30,7 @@ without_mark s none = elim (cases_Bool (is_marked s)) [
 ]
 
 pub the_mark_at : (rest : List ℕ) → encode 0xFEFF ++ rest ≡ marked rest
+unfolding encode
 the_mark_at rest = refl
 
 pub after_mark : (s rest : List ℕ) → s ≡ marked rest → unmarked s ≡ rest

@@ -11,9 +11,10 @@ use Rattle.std.specs.Str.Lines.{lines}
 use Rattle.tt_cmap.proofs.UnitLaws.{units-are-few}
 use Rattle.tt_cmap.specs.Maps.{glyph_of_unit, has_pairs, units_by}
 use Rattle.tt_metrics.specs.Metrics.{glyphs_of}
-use Rattle.tt_line.specs.Labels.{unmarked}
+use Rattle.tt_line.specs.Labels.{label_lines, unmarked}
 use Rattle.tt_line.specs.Layout.{advance_in_pixels, text_glyphs}
 use Rattle.tt_line.proofs.LabelTexts.{first_counts, unmarked_counts}
+use Rattle.tt_line.proofs.lines.label_steps.Goals.{then-is_empty+in_ok-push-2, else-is_empty}
 use Rattle.tt_line.proofs.lines.label_steps.Goals as goal
 
 pub loop-line-init : goal.loop-line-init
@@ -28,8 +29,8 @@ loop-line-init c =
       same = refl;
       known = rw none (All-nil (λ (v : Vec (ℕ × ℕ) Global). All (λ (p : ℕ × ℕ). p.0 < glyphs_of c.args.known.now.metrics) v.items));
       utf8 = rw rest c.unmarked.utf8;
-      few = rw none count;
-      count = rw none count;
+      few = rw none (omega (arith, count));
+      count = rw none (omega (arith, count));
     }
 
 pub advance_steps-requires : goal.advance_steps-requires
@@ -70,4 +71,20 @@ loop-line-preserved c =
     }
 
 pub returns-clause-exact : goal.returns-clause-exact
-returns-clause-exact c = ?
+unfolding label_lines
+returns-clause-exact c =
+    let at = c.loop-line in
+    let m = c.args.known.now.cmap in
+    let f : ℕ → ℕ × ℕ = λ g. (g, advance_in_pixels c.args.known.now.metrics c.args.known.now.ppem g) in
+    let F : List ℕ → List (ℕ × ℕ) = λ line. map f (text_glyphs m line) in
+    let its : Vec (ℕ × ℕ) Global → List (ℕ × ℕ) = λ v. v.items in
+    let text = unmarked c.args.text.now in
+    let rest : lines_rest c.into_iter-line-iterator.result ≡ text =
+    ap lines_rest c.into_iter-line-iterator.ensures.into_iter_gives ∙ c.lines-line-items.ensures.rest ∙ c.unmarked.ensures in
+    let all : map (λ (x : Bor (List ℕ)). x.now) at.yielded ≡ lines text =
+    (YieldsList-end (YieldsList-from_lines text rest) at.yielded _ at.yielded_by _ _ c.in-None.is c.next.ensures.steps).0 in
+    let made : map its at.lines.items ≡ map F (lines text) = rw all at at.invariant.steps in
+    elim c.if-is_empty.branch [
+      | then-is_empty+in_ok-push-2 w ↦ ?
+      | else-is_empty w ↦ ?
+    ]
