@@ -1,7 +1,7 @@
 -- No part of the standard: the picture of a label, which is a text of several lines (profile). The lines lie in one
 -- picture, and their glyphs are made one after the other, as those of one line. The picture is enlarged so that the ink
 -- of no line is cut.
-use Rattle.std.specs.Prelude.{◌≡◌, ℕ, Bool, false, ◌||◌, if◌then◌else◌, pos, List, [], ◌∷◌, length, map, Option, None, Some, Result, Ok, Err}
+use Rattle.std.specs.Prelude.{◌≡◌, ℕ, Bool, false, ◌||◌, if◌then◌else◌, pos, List, [], ◌∷◌, length, map, Option, None, Result, Ok, Err}
 use Rattle.std.specs.List.{flat_map}
 use Rattle.tt_cmap.specs.Maps.{CharacterMap}
 use Rattle.tt_core.specs.Bits.{stride}
@@ -23,7 +23,7 @@ use Rattle.tt_picture.specs.Steps.{glyph_step}
 use Rattle.tt_scan_edges.specs.declared.edge.Frame.{Frame}
 use Rattle.tt_scan_edges.specs.Winding.{FrameFits}
 use Rattle.tt_scan_ink.specs.declared.ink.GlyphInk.{GlyphInk}
-use Rattle.tt_strike.specs.Grown.{lacking, not_large, with_sides}
+use Rattle.tt_strike.specs.Grown.{grown}
 use Rattle.tt_strike.specs.Job.{Job, tested}
 use Rattle.tt_strike.specs.Measures.{line_ink}
 use Rattle.tt_strike.specs.Picture.{frame_of, line_shapes, outlines_tested, setting_in}
@@ -77,20 +77,18 @@ unfoldable pub label_placed : Face → Job → Align → Result (List Placement)
 label_placed face a how = as_job (tested a) >>= λ u.
     if lays_after_glyphs a.fit then label_by_steps face a how else label_by_advances face a how
 
--- the boxes of a line's ink, glyph by glyph, by the ink of each glyph at pen 0
-abbrev pub line_inks : (ℕ → Option GlyphInk) → ℕ → Placement → List (Option InkBox)
-line_inks inked margin line = map (λ g. ink_at (frame_of line margin) g.1 (inked g.0)) line.glyphs
+-- the least box of a line's ink, by the ink of each glyph at pen 0
+abbrev pub line_box : (ℕ → Option GlyphInk) → ℕ → Placement → Option InkBox
+line_box inked margin line = all_joined None (map (λ g. ink_at (frame_of line margin) g.1 (inked g.0)) line.glyphs)
 
 -- the least box of the ink of all lines
 abbrev pub label_ink : (ℕ → Option GlyphInk) → ℕ → List Placement → Option InkBox
-label_ink inked margin lines = all_joined None (flat_map (line_inks inked margin) lines)
+label_ink inked margin lines = all_joined None (map (line_box inked margin) lines)
 
--- lines in whose picture this ink is not cut: each has the same columns and rows added
+-- lines in whose picture this ink is not cut. All have one width and one height, so the same columns and rows are added
+-- to each
 abbrev pub grown_lines : List Placement → Option InkBox → Result (List Placement) JobFault
-grown_lines lines None = Ok lines
-grown_lines lines (Some b) =
-    let s = lacking (joint lines).width (joint lines).height b in
-    not_large (with_sides (joint lines) s) >>= λ larger. Ok (map (λ line. with_sides line s) lines)
+grown_lines lines ink = each (λ line. grown line ink) lines
 
 -- lines that are laid out, in whose picture no ink is cut
 unfoldable pub label_grown : Face → Job → List Placement → Result (List Placement) Refused

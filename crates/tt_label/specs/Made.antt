@@ -1,5 +1,5 @@
 -- No part of the standard: the lines of a label and their glyphs, made and tested before they are drawn.
-use Rattle.std.specs.Prelude.{◌≡◌, ◌≤◌, ℕ, false, List, length, Result, Ok}
+use Rattle.std.specs.Prelude.{◌≡◌, ◌≤◌, ℕ, false, All, List, length, Result, Ok}
 use Rattle.tt_core.specs.Limits.{margin_limit}
 use Rattle.tt_core.specs.Outcomes.{◌>>=◌}
 use Rattle.tt_face.specs.Faces.{Face}
@@ -17,10 +17,15 @@ use Rattle.tt_label.specs.Label.{joint, label_placed}
 abbrev pub label_shapes : Face → Job → Align → Result (List Shape) Refused
 label_shapes face a how = label_placed face a how >>= λ lines. shapes_made face a (joint lines)
 
+-- the lines have one width and one height
+abbrev pub AreAlike : List Placement → Type 0
+AreAlike lines = All (λ l. (l.width ≡ (joint lines).width) × (l.height ≡ (joint lines).height)) lines
+
 -- the lines of a text are laid out, and their glyphs are made as those of one line
 pub record IsMadeLabel (face : Face) (a : Job) (how : Align) (lines : List Placement) (table : List ℕ) (gs : List Glyph) : Type 0 where
   pub placed : label_placed face a how ≡ Ok lines
   pub some : 1 ≤ length lines
   pub margin : a.margin ≤ margin_limit
+  pub alike : AreAlike lines
   pub made : AreMade false face a (joint lines) gs
   pub seated : AreSeated (glyphs_of face.metrics) table gs

@@ -1,44 +1,41 @@
 //! The lines of a label with their glyphs, which are made once for all lines.
 
-ghost use Rattle.std.specs.Prelude.{◌≡◌, ◌≤◌, map, Err, IfOk};
-ghost use Rattle.tt_core.specs.Limits.{margin_limit};
+ghost use Rattle.std.specs.Prelude.{◌≡◌, ◌≤◌, true, false, length, map, chars, All, Err, IfOk};
+ghost use Rattle.tt_core.specs.Limits.{margin_limit, text_limit};
 ghost use Rattle.tt_core.specs.Outcomes.{IfTold};
 ghost use Rattle.tt_label.specs.Made.{IsMadeLabel, label_shapes};
+ghost use Rattle.tt_label.specs.Views.{placements_of};
 ghost use Rattle.tt_line.specs.Outcome.{placement_of};
-ghost use Rattle.tt_picture.specs.Pictures.{IsPictureFrame};
-ghost use Rattle.tt_strike.specs.Picture.{frame_of};
 ghost use Rattle.tt_strike.specs.Refusals.{refusal};
 ghost use Rattle.tt_strike.specs.Strikes.{job_by};
+ghost use Rattle.tt_strike.specs.Work.{is_bounded};
 
 use crate::fitting::{FittedLabel, fit_label};
-use crate::joining::joined_glyphs;
-use tt_core::{DrawFault, JobFault};
+use crate::joining::joint_line;
+use std::alloc::{AllocError, Global};
+use tt_core::DrawFault;
 use tt_line::{Align, Line, label_steps, lay_lines};
-use tt_picture::{Cache, Glyphs, line_glyphs};
-use tt_scan::Frame;
-use tt_strike::{
-    CHORD_LIMIT, SizedFace, crossings_allowed, is_bounded, test_crossings, test_margin, test_text,
-};
+use tt_picture::{Cache, Glyphs};
+use tt_strike::{Laid, SizedFace, is_bounded, test_margin, test_text, tested_edges};
 
 /// The lines of a label in its picture, and their distinct glyphs.
 #[derive(Drop)]
 pub(crate) struct MadeLabel {
-    pub(crate) lines: Vec<Line>,
+    pub(crate) lines: Vec<Laid>,
     pub(crate) glyphs: Glyphs,
 }
 
-/// The frame of a line's picture.
-pub(crate) fn frame_of(line: &Line, margin: u32) -> Frame
+/// Some lines with their margin. Error: Memory.
+fn with_margin(alloc: Global, lines: Vec<Line>, margin: u32) -> Result<Vec<Laid>, AllocError>
     requires { margin ≤ margin_limit }
-    ensures exact { result ≡ frame_of (placement_of line.now) margin }
-    ensures fits { IsPictureFrame result }
+    ensures lines { IfOk result (λ v. placements_of v.items ≡ map placement_of lines.items) }
+    ensures margin { IfOk result (λ v. All (λ l. l.margin ≡ margin) v.items) }
 {
-    Frame {
-        width: line.width,
-        height: line.height,
-        margin,
-        rise: line.rise,
+    let mut made = Vec::with_capacity(alloc, lines.len())?;
+    for line in lines {
+        made.push(Laid { line, margin })?;
     }
+    Ok(made)
 }
 
 /// The lines of a text, laid out by the steps of their glyphs, which are made first; only where work is bounded. Errors,
@@ -49,7 +46,15 @@ fn make_by_steps(
     text: &str,
     margin: u32,
     align: Align,
-) -> Result<MadeLabel, DrawFault> {
+) -> Result<MadeLabel, DrawFault>
+    requires bounded { is_bounded sized.old.fit ≡ true }
+    requires margin { margin ≤ margin_limit }
+    requires text { length (chars text.now) ≤ text_limit }
+    ensures made { IfOk result (λ m. IsMadeLabel sized.old.face (job_by sized.old text.now margin) align (placements_of m.lines.items) m.glyphs.places.items m.glyphs.made.items) }
+    ensures margin { IfOk result (λ m. All (λ l. l.margin ≡ margin) m.lines.items) }
+    ensures stops { IfTold refusal result (λ r. label_shapes sized.old.face (job_by sized.old text.now margin) align ≡ Err r) }
+    ensures same { sized.new ≡ sized.old }
+{
     let source = sized.source;
     let mut none = Cache::absent();
     let steps = label_steps(source.alloc, &mut sized.known, text)?;
@@ -64,22 +69,10 @@ fn make_by_steps(
         fitted,
     } = label;
     let metrics = source.face.metrics();
-    let lines = lay_lines(source.alloc, metrics, steps, source.ppem, margin, align)?;
-    let all = joined_glyphs(source.alloc, &lines)?;
-    let frame = frame_of(&lines[0], margin);
-    let made = Glyphs::of_fitted(
-        source.alloc,
-        places,
-        fitted,
-        frame,
-        &all,
-        CHORD_LIMIT,
-        &mut none,
-    )?;
-    let Some(glyphs) = made else {
-        return Err(DrawFault::Job(JobFault::WorkLarge));
-    };
-    test_crossings(source.fit, crossings_allowed(left), &glyphs.made)?;
+    let laid = lay_lines(source.alloc, metrics, steps, source.ppem, margin, align)?;
+    let lines = with_margin(source.alloc, laid, margin)?;
+    let joint = joint_line(source.alloc, &lines, margin)?;
+    let glyphs = tested_edges(source.alloc, source.fit, places, fitted, &joint, left, &mut none)?;
     Ok(MadeLabel { lines, glyphs })
 }
 
@@ -91,25 +84,23 @@ fn make_by_advances(
     text: &str,
     margin: u32,
     align: Align,
-) -> Result<MadeLabel, DrawFault> {
+) -> Result<MadeLabel, DrawFault>
+    requires unbounded { is_bounded sized.old.fit ≡ false }
+    requires margin { margin ≤ margin_limit }
+    requires text { length (chars text.now) ≤ text_limit }
+    ensures made { IfOk result (λ m. IsMadeLabel sized.old.face (job_by sized.old text.now margin) align (placements_of m.lines.items) m.glyphs.places.items m.glyphs.made.items) }
+    ensures margin { IfOk result (λ m. All (λ l. l.margin ≡ margin) m.lines.items) }
+    ensures stops { IfTold refusal result (λ r. label_shapes sized.old.face (job_by sized.old text.now margin) align ≡ Err r) }
+    ensures same { sized.new ≡ sized.old }
+{
     let source = sized.source;
     let mut none = Cache::absent();
     let metrics = source.face.metrics();
     let steps = label_steps(source.alloc, &mut sized.known, text)?;
-    let lines = lay_lines(source.alloc, metrics, steps, source.ppem, margin, align)?;
-    let all = joined_glyphs(source.alloc, &lines)?;
-    let frame = frame_of(&lines[0], margin);
-    let mut fitter = sized.maker.take(&source)?;
-    let begun = fitter.work();
-    let glyphs = line_glyphs(
-        source.alloc,
-        &mut fitter,
-        metrics.glyphs(),
-        &all,
-        frame,
-        &mut none,
-    )?;
-    sized.maker.give_back(fitter, begun);
+    let laid = lay_lines(source.alloc, metrics, steps, source.ppem, margin, align)?;
+    let lines = with_margin(source.alloc, laid, margin)?;
+    let joint = joint_line(source.alloc, &lines, margin)?;
+    let glyphs = sized.tested_glyphs(&joint, &mut none)?;
     Ok(MadeLabel { lines, glyphs })
 }
 
@@ -120,7 +111,8 @@ pub(crate) fn make_label(
     margin: u32,
     align: Align,
 ) -> Result<MadeLabel, DrawFault>
-    ensures made { IfOk result (λ m. IsMadeLabel sized.old.face (job_by sized.old text.now margin) align (map placement_of m.lines.items) m.glyphs.places.items m.glyphs.made.items) }
+    ensures made { IfOk result (λ m. IsMadeLabel sized.old.face (job_by sized.old text.now margin) align (placements_of m.lines.items) m.glyphs.places.items m.glyphs.made.items) }
+    ensures margin { IfOk result (λ m. All (λ l. l.margin ≡ margin) m.lines.items) }
     ensures stops { IfTold refusal result (λ r. label_shapes sized.old.face (job_by sized.old text.now margin) align ≡ Err r) }
     ensures same { sized.new ≡ sized.old }
 {

@@ -12,11 +12,11 @@ use tt_picture::InkBox;
 
 /// How many columns and rows are added on each side of a picture.
 #[derive(Clone, Copy)]
-pub struct Sides {
-    pub left: u64,
-    pub top: u64,
-    pub right: u64,
-    pub bottom: u64,
+pub(crate) struct Sides {
+    pub(crate) left: u64,
+    pub(crate) top: u64,
+    pub(crate) right: u64,
+    pub(crate) bottom: u64,
 }
 
 /// How far a place lies before the first one.
@@ -38,7 +38,7 @@ fn past(count: u32, at: i64) -> u64
 }
 
 /// The fewest columns and rows that a picture of this size lacks on each side to hold a box.
-pub fn lacking(width: u32, height: u32, ink: InkBox) -> Sides
+fn lacking(width: u32, height: u32, ink: InkBox) -> Sides
     requires width { 1 ≤ width }
     requires height { 1 ≤ height }
     ensures { result ≡ lacking width height ink }
@@ -52,7 +52,7 @@ pub fn lacking(width: u32, height: u32, ink: InkBox) -> Sides
 }
 
 /// `count` columns or rows with others on both sides. Error: PictureLarge, past the limit.
-pub fn longer(count: u32, first: u64, last: u64, limit: u32) -> Result<u32, JobFault>
+fn longer(count: u32, first: u64, last: u64, limit: u32) -> Result<u32, JobFault>
     ensures exact { IfOk result (λ n. n ≡ count + first + last) }
     ensures within { IfOk result (λ n. n ≤ limit) }
     ensures large { IfErr result (λ e. (e ≡ PictureLarge) × (limit < count + first + last)) }
@@ -76,7 +76,7 @@ fn move_pens(glyphs: &mut [(u16, u32)], right: u32)
 
 /// A line with the fewest added columns and rows such that this ink is not cut. Error: PictureLarge.
 #[tactic(auto, unfolding(crate::specs::Grown::not_large))]
-pub(crate) fn grown(line: Line, ink: Option<InkBox>) -> Result<Line, JobFault>
+pub fn grown(line: Line, ink: Option<InkBox>) -> Result<Line, JobFault>
     ensures { Gives placement_of result (grown (placement_of line) ink) }
 {
     let Some(ink) = ink else {

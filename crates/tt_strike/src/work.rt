@@ -21,7 +21,7 @@ use tt_picture::{Cache, Glyph, crossings};
 const POINT_WORK: u64 = 40;
 
 /// The chords that a line's glyphs may have, each glyph once.
-pub const CHORD_LIMIT: usize = 32_000_000;
+pub(crate) const CHORD_LIMIT: usize = 32_000_000;
 
 /// The work that each crossing takes.
 const CROSSING_WORK: u64 = 4;
@@ -64,7 +64,7 @@ pub fn charge_points(
 }
 
 /// How many crossings a line may have by the work that its programs left.
-pub fn crossings_allowed(left: Option<u64>) -> u64
+pub(crate) fn crossings_allowed(left: Option<u64>) -> u64
     ensures exact { result ≡ crossings_allowed left }
     ensures small { result ≤ crossing_limit }
 {
@@ -117,7 +117,7 @@ fn points_left(
 /// Counts the crossings of a job's glyphs at their pens, where work is bounded; else 0. Error: WorkLarge, where they are
 /// more than `most`.
 #[tactic(auto, unfolding(crate::specs::Work::work_tested))]
-pub fn test_crossings(fit: Fit, most: u64, glyphs: &[Glyph]) -> Result<u64, JobFault>
+pub(crate) fn test_crossings(fit: Fit, most: u64, glyphs: &[Glyph]) -> Result<u64, JobFault>
     requires glyphs { All CanBeCounted glyphs.now }
     requires most { most < 2 ^ 64 - 1 }
     ensures exact { Gives (λ n. tt) result (work_tested fit most (crossings_standing glyphs.now)) }
