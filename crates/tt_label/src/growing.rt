@@ -1,7 +1,7 @@
 //! Enlarges the picture of a label so that the ink of no line is cut.
 
 ghost use Rattle.std.specs.Prelude.{◌≡◌, ℕ, ◌<◌, true, length, map, All, IfOk, Option};
-ghost use Rattle.tt_core.specs.Outcomes.{JobGives};
+ghost use Rattle.tt_core.specs.Outcomes.{Gives, JobGives};
 ghost use Rattle.tt_label.specs.Label.{grown_lines, label_ink};
 ghost use Rattle.tt_label.specs.Views.{placements_of};
 ghost use Rattle.tt_line.specs.Outcome.{placement_of};
@@ -11,7 +11,6 @@ ghost use Rattle.tt_picture.specs.Glyphs.{numbers_of};
 ghost use Rattle.tt_scan_ink.specs.declared.ink.GlyphInk.{GlyphInk};
 ghost use Rattle.tt_strike.specs.Grown.{grown};
 ghost use Rattle.tt_strike.specs.Measures.{made_step};
-ghost use Rattle.tt_core.specs.Outcomes.{Gives};
 
 use std::alloc::{AllocError, Global};
 use tt_core::{DrawFault, JobFault};
