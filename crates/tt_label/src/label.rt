@@ -8,13 +8,12 @@ ghost use Rattle.tt_label.specs.Label.{joint, label_outcome, label_report, line_
 ghost use Rattle.tt_label.specs.Made.{AreAlike};
 ghost use Rattle.tt_label.specs.Views.{placements_of};
 ghost use Rattle.tt_line.specs.Outcome.{placement_of};
-ghost use Rattle.tt_picture.specs.Glyphs.{AreDrawn, ArePlaces, AreSeated, numbers_of};
+ghost use Rattle.tt_picture.specs.Glyphs.{AreDrawn, AreSeated, numbers_of};
 ghost use Rattle.tt_picture.specs.Distinct.{is_among};
 ghost use Rattle.tt_picture.specs.Rows.{rows};
 ghost use Rattle.tt_picture.specs.Unfitted.{ListsOnce};
 ghost use Rattle.tt_scan_edges.specs.declared.edge.Frame.{Frame};
 ghost use Rattle.tt_scan_rows.specs.Bands.{IsBandBlackened};
-
 ghost use Rattle.tt_strike.specs.Refusals.{refusal};
 ghost use Rattle.tt_strike.specs.Strikes.{job_by};
 
@@ -51,7 +50,8 @@ fn paint_line(
     let met = distinct(alloc, count, &laid.line.glyphs)?;
     let DistinctGlyphs { places, numbers } = met;
     let of_line = glyphs.of_line(alloc, frame, places, &numbers, &laid.line.glyphs)?;
-    paint_over(alloc, frame, of_line, rows)
+    paint_over(alloc, frame, of_line, rows)?;
+    Ok(())
 }
 
 /// The bytes of the rows of a label's picture. Error: Memory.
