@@ -42,7 +42,8 @@ impl Glyph {
     {
         let list = self.body.copied_list(alloc)?;
         let body = tape_of(alloc, list, frame)?;
-        let ends = self.ends.clone()?;
+        let mut ends = Vec::new(alloc);
+        ends.extend_from_slice(&self.ends)?;
         let pens = SmallVec::with_capacity(alloc, PENS)?;
         Ok(Glyph {
             number: self.number,

@@ -18,7 +18,7 @@ returns-clause-drawn c = λ s f drawn.
       pens = i.pens.items;
       unfitted = i.unfitted;
     } in
-    let h : Glyph = record g { body = body_view c.in_ok-body.body; ends = c.in_ok-ends.ends.items; left = 0; pens = c.in_ok-pens.pens.items } in
-    let ends : c.in_ok-ends.ends.items ≡ i.ends.items = search rules in
+    let h : Glyph = record g { body = body_view c.in_ok-body.body; ends = c.extend_from_slice.new.self.items; left = 0; pens = c.in_ok-pens.pens.items } in
+    let ends : c.extend_from_slice.new.self.items ≡ i.ends.items = search rules in
     let body = rw c.in_ok-list.ensures at c.in_ok-body.ensures.body in
     drawn_in s f c.args.frame g h refl refl ends refl refl refl refl body.1 body.0 body.2 (rw c.self.view_is drawn)

@@ -1,8 +1,7 @@
-use Rattle.std.proofs.Common.{◌≡◌, ◌∙◌, ◌<◌, ◌≤◌, ◌∷◌, [], ℕ, false, get_or, length, refl, sym, ap, take, arith}
-use Rattle.std.proofs.lemmas.List.{get_or-map, length-map, map-append, take_all, take_more}
+use Rattle.std.proofs.Common.{◌≡◌, ◌∙◌, ◌<◌, ◌≤◌, ◌∷◌, [], false, ap, get_or, length, sym, arith}
+use Rattle.std.proofs.lemmas.List.{get_or-map, map-append, take_more}
 use Rattle.std.proofs.lemmas.List.Elements.{All-push}
-use Rattle.std.specs.List.{slice_index}
-use Rattle.tt_picture.specs.Glyphs.{AreDrawn, Glyph, IsDrawn, numbers_of}
+use Rattle.tt_picture.specs.Glyphs.{Glyph, IsDrawn}
 use Rattle.tt_picture.proofs.Reframed.{IsBare}
 use Rattle.tt_picture.proofs.glyphs.Glyphs.copies.Goals as goal
 
@@ -12,15 +11,23 @@ loop-number-preserved c =
     let so_far = at.invariant in
     let numbers = c.args.numbers.now in
     let i = at.number-index in
-    let number = c.number-item.result in
     let below : i < length numbers = c.loop-number-test.true in
-    let here : get_or numbers i number ≡ number = sym c.number-item.is in
     let place = c.place_of-at.result in
     let gs = c.args.self.now.made.items in
-    let g = get_or gs place c.in_ok-copy.copy in
+    let g = get_or gs place c.index.result in
     let h = c.in_ok-copy.copy in
+    let made = at.made.items in
     let inside : place < length gs = c.place_of-at.ensures.within in
-    let mine : g.number ≡ number = sym (get_or-map (λ (g : Glyph). g.number) gs place c.in_ok-copy.copy 0 inside) ∙ c.place_of-at.ensures.number in
+    let mine : g.number ≡ get_or numbers i 0 = sym (get_or-map (λ (g : Glyph). g.number) gs place c.index.result 0 inside) ∙ c.place_of-at.ensures.number in
     let one = c.in_ok-copy.ensures in
     let pushed = c.in_ok-push.ensures.items in
-    ?
+    record {
+      numbers = rw pushed (map-append (λ (g : Glyph). g.number) made (h ∷ [])
+          ∙ rw (so_far.numbers, one.number, mine) (sym (take_more numbers i 0 below)));
+      bare = rw pushed (All-push IsBare made h so_far.bare (rw one.left (omega arith), one.pens));
+      drawn = λ maker f all.
+          let from : maker h.number ≡ maker g.number = ap maker one.number in
+          let own : IsDrawn false (maker g.number) f g = all place c.index.result inside in
+          let here : IsDrawn false (maker h.number) c.args.frame h = rw from (one.drawn (maker g.number) f own) in
+          rw pushed (All-push (λ (g : Glyph). IsDrawn false (maker g.number) c.args.frame g) made h (so_far.drawn maker f all) here);
+    }
