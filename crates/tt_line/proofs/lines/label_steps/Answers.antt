@@ -1,8 +1,9 @@
-use Rattle.std.proofs.Common.{◌≡◌, ◌∙◌, refl, sym, ap, ℕ, ◌+◌, ◌<◌, ◌≤◌, IsUtf8, List, [], ◌∷◌, ◌++◌, append-nil, chars, length, map, Vec, Global, Bor, arith}
+use Rattle.std.proofs.Common.{◌≡◌, ◌∙◌, refl, sym, ap, ℕ, ◌+◌, ◌<◌, ◌≤◌, IsUtf8, List, [], ◌∷◌, ◌++◌, append-nil, chars, length, map, Vec, Global, Bor, vec_len, arith}
 use Rattle.std.proofs.lemmas.Iterator.Consumers.{YieldsList-end}
 use Rattle.std.proofs.lemmas.Iterator.Splits.{YieldsList-from_lines}
 use Rattle.std.proofs.lemmas.Grind.{flat_map-append}
-use Rattle.std.proofs.lemmas.List.{length-append, length-map, length_push, map_push}
+use Rattle.std.proofs.lemmas.Bool.Decides.{nat_tests}
+use Rattle.std.proofs.lemmas.List.{length-append, length-map, length_push, map_push, nil_from_length}
 use Rattle.std.proofs.lemmas.List.Elements.{All-nil, All-push}
 use Rattle.std.specs.List.{flat_map}
 use Rattle.std.specs.Prelude.{All}
@@ -13,6 +14,8 @@ use Rattle.tt_cmap.specs.Maps.{glyph_of_unit, has_pairs, units_by}
 use Rattle.tt_metrics.specs.Metrics.{glyphs_of}
 use Rattle.tt_line.specs.Labels.{label_lines, unmarked}
 use Rattle.tt_line.specs.Layout.{advance_in_pixels, text_glyphs}
+use Rattle.std.proofs.lemmas.Str.{chars-nil}
+use Rattle.tt_line.proofs.LabelLines.{none_made, some_made}
 use Rattle.tt_line.proofs.LabelTexts.{first_counts, unmarked_counts}
 use Rattle.tt_line.proofs.lines.label_steps.Goals.{then-is_empty+in_ok-push-2, else-is_empty}
 use Rattle.tt_line.proofs.lines.label_steps.Goals as goal
@@ -85,6 +88,14 @@ returns-clause-exact c =
     (YieldsList-end (YieldsList-from_lines text rest) at.yielded _ at.yielded_by _ _ c.in-None.is c.next.ensures.steps).0 in
     let made : map its at.lines.items ≡ map F (lines text) = rw all at at.invariant.steps in
     elim c.if-is_empty.branch [
-      | then-is_empty+in_ok-push-2 w ↦ ?
-      | else-is_empty w ↦ ?
+      | then-is_empty+in_ok-push-2 w ↦
+          let none : vec_len at.lines ≡ 0 = grind (arith, nat_tests, w.if-is_empty.ensures) in
+          let empty : length (map its at.lines.items) ≡ 0 = omega (arith, none, at.lines.ok.0, length-map at.lines.items its) in
+          let nothing : at.lines.items ≡ [] = nil_from_length at.lines.items (omega (arith, none, at.lines.ok.0)) in
+          let blank : F [] ≡ [] = rw chars-nil refl in
+          rw (w.lines-is, w.in_ok-push-2.ensures.items, nothing, w.new.ensures.items) (none_made F (lines text) (map its at.lines.items) made empty blank)
+      | else-is_empty w ↦
+          let some : 0 < vec_len at.lines = grind (arith, nat_tests, w.if-is_empty.ensures) in
+          let many : 0 < length (map its at.lines.items) = omega (arith, some, at.lines.ok.0, length-map at.lines.items its) in
+          rw w.lines-is (some_made F (lines text) (map its at.lines.items) made many)
     ]
