@@ -1,9 +1,10 @@
 //! The glyphs of several lines one after the other, as those of one line.
 
 ghost use Rattle.std.specs.List.{flat_map};
-ghost use Rattle.std.specs.Prelude.{◌≡◌, ◌≤◌, All, length, IfOk};
-ghost use Rattle.tt_core.specs.Limits.{margin_limit, text_limit};
+ghost use Rattle.std.specs.Prelude.{◌≡◌, IfOk};
+ghost use Rattle.tt_face.specs.Faces.{Face};
 ghost use Rattle.tt_label.specs.Label.{joint};
+ghost use Rattle.tt_label.specs.Made.{AreLaid};
 ghost use Rattle.tt_label.specs.Views.{placements_of};
 ghost use Rattle.tt_line.specs.Outcome.{placement_of};
 
@@ -38,10 +39,7 @@ fn joined_glyphs(alloc: Global, lines: &[Laid]) -> Result<Vec<(u16, u32)>, Alloc
 
 /// The glyphs of some lines of one picture as those of one line. Error: Memory.
 pub(crate) fn joint_line(alloc: Global, lines: &[Laid], margin: u32) -> Result<Laid, AllocError>
-    requires some { 1 ≤ length lines.now }
-    requires margin { margin ≤ margin_limit }
-    requires few { length (flat_map (λ l. l.line.glyphs.items) lines.now) ≤ text_limit }
-    requires alike { All (λ l. l.line.width ≡ (joint (placements_of lines.now)).width) lines.now }
+    requires { (face : Face) × AreLaid face margin lines.now }
     ensures line { IfOk result (λ l. placement_of l.line ≡ joint (placements_of lines.now)) }
     ensures margin { IfOk result (λ l. l.margin ≡ margin) }
 {

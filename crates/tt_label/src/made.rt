@@ -1,11 +1,13 @@
 //! The lines of a label with their glyphs, which are made once for all lines.
 
-ghost use Rattle.std.specs.Prelude.{◌≡◌, ◌≤◌, true, false, length, map, chars, All, Err, IfOk};
+ghost use Rattle.std.specs.Prelude.{◌≡◌, ◌≤◌, true, false, length, map, chars, All, Ok, Err, IfOk};
 ghost use Rattle.tt_core.specs.Limits.{margin_limit, text_limit};
-ghost use Rattle.tt_core.specs.Outcomes.{IfTold};
-ghost use Rattle.tt_label.specs.Made.{IsMadeLabel, label_shapes};
+ghost use Rattle.tt_core.specs.Outcomes.{GivesUnless, IfTold};
+ghost use Rattle.tt_label.specs.Label.{label_placed};
+ghost use Rattle.tt_label.specs.Made.{AreLaid, IsMadeLabel, label_shapes};
 ghost use Rattle.tt_label.specs.Views.{placements_of};
 ghost use Rattle.tt_line.specs.Outcome.{placement_of};
+ghost use Rattle.tt_strike.specs.Job.{tested};
 ghost use Rattle.tt_strike.specs.Refusals.{refusal};
 ghost use Rattle.tt_strike.specs.Strikes.{job_by};
 ghost use Rattle.tt_strike.specs.Work.{is_bounded};
@@ -48,15 +50,14 @@ fn make_by_steps(
     align: Align,
 ) -> Result<MadeLabel, DrawFault>
     requires bounded { is_bounded sized.old.fit ≡ true }
+    requires tested { tested (job_by sized.old text.now margin) ≡ Ok tt }
     requires margin { margin ≤ margin_limit }
     requires text { length (chars text.now) ≤ text_limit }
-    ensures made { IfOk result (λ m. IsMadeLabel sized.old.face (job_by sized.old text.now margin) align (placements_of m.lines.items) m.glyphs.places.items m.glyphs.made.items) }
-    ensures margin { IfOk result (λ m. All (λ l. l.margin ≡ margin) m.lines.items) }
+    ensures made { IfOk result (λ m. IsMadeLabel sized.old.face (job_by sized.old text.now margin) align m.lines.items m.glyphs.places.items m.glyphs.made.items) }
     ensures stops { IfTold refusal result (λ r. label_shapes sized.old.face (job_by sized.old text.now margin) align ≡ Err r) }
     ensures same { sized.new ≡ sized.old }
 {
     let source = sized.source;
-    let mut none = Cache::absent();
     let steps = label_steps(source.alloc, &mut sized.known, text)?;
     let mut fitter = sized.maker.take(&source)?;
     let begun = fitter.work();
@@ -72,8 +73,31 @@ fn make_by_steps(
     let laid = lay_lines(source.alloc, metrics, steps, source.ppem, margin, align)?;
     let lines = with_margin(source.alloc, laid, margin)?;
     let joint = joint_line(source.alloc, &lines, margin)?;
+    let mut none = Cache::absent();
     let glyphs = tested_edges(source.alloc, source.fit, places, fitted, &joint, left, &mut none)?;
     Ok(MadeLabel { lines, glyphs })
+}
+
+/// The lines of a text, laid out by advances; only where work is not bounded. Errors: PictureLarge, Memory.
+fn lay_label(
+    sized: &mut SizedFace,
+    text: &str,
+    margin: u32,
+    align: Align,
+) -> Result<Vec<Laid>, DrawFault>
+    requires unbounded { is_bounded sized.old.fit ≡ false }
+    requires tested { tested (job_by sized.old text.now margin) ≡ Ok tt }
+    requires margin { margin ≤ margin_limit }
+    requires text { length (chars text.now) ≤ text_limit }
+    ensures exact { GivesUnless refusal (λ v. placements_of v.items) result (label_placed sized.old.face (job_by sized.old text.now margin) align) }
+    ensures laid { IfOk result (λ v. AreLaid sized.old.face margin v.items) }
+    ensures same { sized.new ≡ sized.old }
+{
+    let source = sized.source;
+    let metrics = source.face.metrics();
+    let steps = label_steps(source.alloc, &mut sized.known, text)?;
+    let laid = lay_lines(source.alloc, metrics, steps, source.ppem, margin, align)?;
+    Ok(with_margin(source.alloc, laid, margin)?)
 }
 
 /// The lines of a text, laid out by advances, and then their glyphs; only where work is not bounded. Errors, the first of:
@@ -86,20 +110,16 @@ fn make_by_advances(
     align: Align,
 ) -> Result<MadeLabel, DrawFault>
     requires unbounded { is_bounded sized.old.fit ≡ false }
+    requires tested { tested (job_by sized.old text.now margin) ≡ Ok tt }
     requires margin { margin ≤ margin_limit }
     requires text { length (chars text.now) ≤ text_limit }
-    ensures made { IfOk result (λ m. IsMadeLabel sized.old.face (job_by sized.old text.now margin) align (placements_of m.lines.items) m.glyphs.places.items m.glyphs.made.items) }
-    ensures margin { IfOk result (λ m. All (λ l. l.margin ≡ margin) m.lines.items) }
+    ensures made { IfOk result (λ m. IsMadeLabel sized.old.face (job_by sized.old text.now margin) align m.lines.items m.glyphs.places.items m.glyphs.made.items) }
     ensures stops { IfTold refusal result (λ r. label_shapes sized.old.face (job_by sized.old text.now margin) align ≡ Err r) }
     ensures same { sized.new ≡ sized.old }
 {
-    let source = sized.source;
+    let lines = lay_label(sized, text, margin, align)?;
+    let joint = joint_line(sized.alloc(), &lines, margin)?;
     let mut none = Cache::absent();
-    let metrics = source.face.metrics();
-    let steps = label_steps(source.alloc, &mut sized.known, text)?;
-    let laid = lay_lines(source.alloc, metrics, steps, source.ppem, margin, align)?;
-    let lines = with_margin(source.alloc, laid, margin)?;
-    let joint = joint_line(source.alloc, &lines, margin)?;
     let glyphs = sized.tested_glyphs(&joint, &mut none)?;
     Ok(MadeLabel { lines, glyphs })
 }
@@ -111,8 +131,7 @@ pub(crate) fn make_label(
     margin: u32,
     align: Align,
 ) -> Result<MadeLabel, DrawFault>
-    ensures made { IfOk result (λ m. IsMadeLabel sized.old.face (job_by sized.old text.now margin) align (placements_of m.lines.items) m.glyphs.places.items m.glyphs.made.items) }
-    ensures margin { IfOk result (λ m. All (λ l. l.margin ≡ margin) m.lines.items) }
+    ensures made { IfOk result (λ m. IsMadeLabel sized.old.face (job_by sized.old text.now margin) align m.lines.items m.glyphs.places.items m.glyphs.made.items) }
     ensures stops { IfTold refusal result (λ r. label_shapes sized.old.face (job_by sized.old text.now margin) align ≡ Err r) }
     ensures same { sized.new ≡ sized.old }
 {
