@@ -46,7 +46,7 @@ mod rows;
 pub use cache::Cache;
 pub use counting::crossings;
 pub use fitted::FittedGlyph;
-pub use fitting::{fit_glyphs, put_steps};
+pub use fitting::{LineLimits, fit_glyphs, put_steps};
 pub use glyph::Glyph;
 pub use glyphs::{Glyphs, line_glyphs};
 pub use ink_box::{InkBox, ink_at, joined};
