@@ -1,5 +1,5 @@
 -- The lines of a label as they are laid out.
-use Rattle.std.proofs.Common.{◌≡◌, ◌∙◌, refl, sym, ap, ap₂, ℕ, ◌+◌, ◌-◌, ◌<◌, ◌≤◌, ℤ, pos, ◌+ℤ◌, List, [], ◌∷◌, ◌++◌, length, map, Result, Ok, Err, arith}
+use Rattle.std.proofs.Common.{◌≡◌, ◌∙◌, refl, sym, ap, ap₂, ℕ, ◌+◌, ◌-◌, false, ℤ, pos, ◌+ℤ◌, List, [], ◌∷◌, ◌++◌, length, map, Result, Ok, Err, arith}
 use Rattle.std.proofs.lemmas.List.{length-map, map-append}
 use Rattle.std.proofs.lemmas.List.Elements.{All-cons, All-nil}
 use Rattle.std.proofs.lemmas.Simd.{map-map}
@@ -8,14 +8,19 @@ use Rattle.std.specs.Prelude.{All}
 use Rattle.tt_core.specs.Chains.{came-through}
 use Rattle.tt_core.specs.declared.fault.JobFault.{JobFault}
 use Rattle.tt_label.specs.Fitted.{glyphs_in}
-use Rattle.tt_label.specs.Label.{joint, joint_numbers}
-use Rattle.tt_label.specs.Made.{AreAlike}
+use Rattle.tt_face.specs.Faces.{Face}
+use Rattle.tt_label.specs.Label.{joint, joint_numbers, label_by_advances, label_placed}
+use Rattle.tt_label.specs.Made.{AreAlike, label_shapes}
 use Rattle.tt_line.specs.declared.align.Align.{Align}
 use Rattle.tt_line.specs.declared.label_extent.LabelExtent.{LabelExtent}
-use Rattle.tt_line.specs.Labels.{indent, label_placement, line_placed, lines_placed, width_of}
-use Rattle.tt_line.specs.Layout.{Placement, glyphs_at_pens}
+use Rattle.tt_line.specs.Labels.{indent, label_extent, label_limited, label_placement, line_placed, line_step_of, lines_placed, widest, width_of}
+use Rattle.tt_line.specs.Layout.{Placement, depth_of, glyphs_at_pens, rise_of}
 use Rattle.tt_line.proofs.Pens.{glyphs_by_steps}
 use Rattle.tt_metrics.specs.Metrics.{Metrics}
+use Rattle.tt_strike.specs.Job.{Job, tested}
+use Rattle.tt_strike.specs.Made.{shapes_made}
+use Rattle.tt_strike.specs.Refusals.{Refused}
+use Rattle.tt_strike.specs.Work.{is_bounded}
 
 -- each line has the size of the picture
 all_alike : (e : LabelExtent) (how : Align) (inner step : ℕ) (rise : ℤ) (ls : List (List (ℕ × ℕ)))
@@ -65,4 +70,28 @@ pub record ArePlaced (ls : List (List (ℕ × ℕ))) (lines : List Placement) : 
 pub placed_lines : (m : Metrics) (ppem margin : ℕ) (how : Align) (ls : List (List (ℕ × ℕ))) (lines : List Placement)
     → label_placement m ppem margin how ls ≡ Ok lines → ArePlaced ls lines
 unfolding label_placement
-placed_lines m ppem margin how ls lines is = ?
+placed_lines m ppem margin how ls lines is =
+    let through = came-through (label_limited (label_extent (widest ls) margin (rise_of m ppem) (depth_of m ppem) (line_step_of m ppem) (length ls - 1)))
+    (λ e. Ok (lines_placed e how (widest ls) (line_step_of m ppem) (rise_of m ppem) ls)) lines is in
+    let e = through.value in
+    let rest = through.rest in
+    let same : lines_placed e how (widest ls) (line_step_of m ppem) (rise_of m ppem) ls ≡ lines = cc in
+    rw (← same) (record {
+      alike = alike_as e how (widest ls) (line_step_of m ppem) (rise_of m ppem) ls;
+      numbers = joined_as e how (widest ls) (line_step_of m ppem) (rise_of m ppem) ls;
+      count = length_placed e how (widest ls) (line_step_of m ppem) (rise_of m ppem) ls;
+    })
+
+-- the lines of a job's text that is laid out by advances
+pub placed_by_advances : (face : Face) (a : Job) (how : Align) → tested a ≡ Ok tt → is_bounded a.fit ≡ false
+    → label_placed face a how ≡ label_by_advances face a how
+unfolding label_placed
+placed_by_advances face a how passes unbounded = rw (passes, unbounded) refl
+
+-- a label stops where its lines are not laid out, or where their glyphs are not made
+pub shapes_stop : (face : Face) (a : Job) (how : Align) (lines : List Placement) (r : Refused) → label_placed face a how ≡ Ok lines
+    → shapes_made face a (joint lines) ≡ Err r → label_shapes face a how ≡ Err r
+shapes_stop face a how lines r placed fails = rw placed fails
+
+pub lines_stop : (face : Face) (a : Job) (how : Align) (r : Refused) → label_placed face a how ≡ Err r → label_shapes face a how ≡ Err r
+lines_stop face a how r fails = rw fails refl

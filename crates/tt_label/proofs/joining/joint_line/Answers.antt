@@ -1,10 +1,7 @@
-use Rattle.std.proofs.Common.{◌≡◌, ◌∙◌, ℕ, ◌<◌, ◌≤◌, List, get_or, length, sym, ap, arith}
-use Rattle.std.proofs.lemmas.List.Elements.{All-weaker}
-use Rattle.std.specs.Prelude.{All}
-use Rattle.tt_line.specs.Layout.{Placement}
-use Rattle.tt_label.specs.Views.{placements_of}
-use Rattle.tt_label.proofs.Joined.{all_flat, joint_is}
+use Rattle.std.proofs.Common.{◌≡◌, ◌∙◌, refl, ℕ, ◌<◌, ◌≤◌, List, get_or, length, sym, ap, arith}
+use Rattle.tt_label.proofs.Joined.{joint_is}
 use Rattle.tt_label.proofs.joining.joint_line.Goals as goal
 
 pub returns-clause-line : goal.returns-clause-line
-returns-clause-line c = ?
+returns-clause-line c =
+    rw (joint_is c.args.lines.now c.index.result c.requires.1.some, c.in_ok-glyphs.ensures) refl
