@@ -1,3 +1,4 @@
+pub mod Drawn
 pub mod Grown
 pub mod Joined
 pub mod Overlays

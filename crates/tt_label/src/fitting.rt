@@ -32,11 +32,7 @@ pub(crate) struct FittedLabel {
 }
 
 /// A line whose glyphs have their steps beside them.
-fn step_line(
-    places: &[u16],
-    fitted: &[FittedGlyph],
-    line: Vec<(u16, u32)>,
-) -> Vec<(u16, u32)>
+fn step_line(places: &[u16], fitted: &[FittedGlyph], line: Vec<(u16, u32)>) -> Vec<(u16, u32)>
     requires places { ArePlaces places.now (fitted_numbers fitted.now) }
     requires known { All (λ g. g.0 < length places.now) line.items }
     requires among { All (λ g. is_among g.0 (fitted_numbers fitted.now) ≡ true) line.items }

@@ -74,7 +74,15 @@ fn make_by_steps(
     let lines = with_margin(source.alloc, laid, margin)?;
     let joint = joint_line(source.alloc, &lines, margin)?;
     let mut none = Cache::absent();
-    let glyphs = tested_edges(source.alloc, source.fit, places, fitted, &joint, left, &mut none)?;
+    let glyphs = tested_edges(
+        source.alloc,
+        source.fit,
+        places,
+        fitted,
+        &joint,
+        left,
+        &mut none,
+    )?;
     Ok(MadeLabel { lines, glyphs })
 }
 

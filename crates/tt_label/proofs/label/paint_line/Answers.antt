@@ -16,7 +16,7 @@ of_line-requires-clause-few c =
 pub returns-then-is_empty-clause-painted : goal.returns-then-is_empty-clause-painted
 returns-then-is_empty-clause-painted c = λ maker f drawn.
     let laid = c.args.laid.now in
-    let none = nil_from_length laid.line.glyphs.items (? ) in
+    let none = nil_from_length laid.line.glyphs.items (?) in
     blank_painted maker laid.margin (stride laid.line.width) laid.line.height laid.line.width (placement_of laid.line) c.args.rows.now none
 
 pub returns-clause-painted : goal.returns-clause-painted
