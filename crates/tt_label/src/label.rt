@@ -19,11 +19,13 @@ ghost use Rattle.tt_strike.specs.Strikes.{job_by};
 
 use crate::growing::{grown_lines, label_ink};
 use crate::made::{MadeLabel, make_label};
+use crate::overlay::paint_over;
 use crate::picture::LabelPicture;
+use crate::sharing::of_line;
 use std::alloc::{AllocError, Global};
 use tt_core::DrawFault;
 use tt_line::Align;
-use tt_picture::{Glyphs, glyph_inks, paint_over, report_on};
+use tt_picture::{Glyphs, glyph_inks, report_on};
 use tt_strike::{DistinctGlyphs, InkedGlyphs, Laid, SizedFace, distinct};
 
 /// Paints a line, whose glyphs are among these, over the pixels of a label's picture. Error: Memory.
@@ -49,8 +51,8 @@ fn paint_line(
     let frame = laid.frame();
     let met = distinct(alloc, count, &laid.line.glyphs)?;
     let DistinctGlyphs { places, numbers } = met;
-    let of_line = glyphs.of_line(alloc, frame, places, &numbers, &laid.line.glyphs)?;
-    paint_over(alloc, frame, of_line, rows)?;
+    let own = of_line(alloc, glyphs, frame, places, &numbers, &laid.line.glyphs)?;
+    paint_over(alloc, frame, own, rows)?;
     Ok(())
 }
 

@@ -5,6 +5,8 @@
 //! fitting.rt  the glyphs of a label, fitted, and their steps
 //! made.rt     the lines of a label, laid out, and their glyphs
 //! growing.rt  the columns and rows that the ink of all lines needs
+//! sharing.rt  the glyphs of one line among those of all lines
+//! overlay.rt  a line painted over pixels that are there
 //! label.rt    the lines, painted over each other
 //! picture.rt  the picture
 //! ```
@@ -15,7 +17,9 @@ mod growing;
 mod joining;
 mod label;
 mod made;
+mod overlay;
 mod picture;
+mod sharing;
 
 pub use label::label;
 pub use picture::LabelPicture;

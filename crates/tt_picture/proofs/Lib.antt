@@ -1,6 +1,5 @@
 pub mod Alike
 pub mod Among
-pub mod AmongDistinct
 pub mod Bands
 pub mod Blackened
 pub mod Boxed
@@ -8,7 +7,6 @@ pub mod Crossed
 pub mod CutGlyphs
 pub mod Filled
 pub mod Outlines
-pub mod Overlaid
 pub mod FirstMet
 pub mod Inked
 pub mod Keeping

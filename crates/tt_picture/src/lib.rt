@@ -9,7 +9,7 @@
 //! glyph.rt      a glyph of a line: a tape of edges or cached pixels, its dropout rules and its pens
 //! glyphs.rt     the distinct glyphs of a line, made in order
 //! reframing.rt  glyphs moved into another frame
-//! copying.rt    the glyphs of one line, copied from those of several lines
+//! copying.rt    a glyph copied into another frame
 //! counting.rt   the crossings of glyphs at their pens
 //! report.rt     the unfitted glyphs
 //! inks.rt       the boxes of glyphs' black pixels
@@ -18,7 +18,6 @@
 //! painting.rt   rows of a glyph
 //! rows.rt       the glyphs and the dropouts of rows
 //! picture.rt    the picture
-//! overlay.rt    a line painted over pixels that are there
 //! laws.rt       the cache of a fitter is that of every fitter that differs in its remaining work alone
 //! ```
 #![tactic(auto)]
@@ -36,7 +35,6 @@ mod ink_box;
 mod inks;
 pub mod laws;
 mod outlined;
-mod overlay;
 mod painting;
 mod picture;
 mod reframing;
@@ -45,12 +43,13 @@ mod rows;
 
 pub use cache::Cache;
 pub use counting::crossings;
+pub use dropouts::line_dropouts;
 pub use fitted::FittedGlyph;
 pub use fitting::{LineLimits, fit_glyphs, put_steps};
 pub use glyph::Glyph;
 pub use glyphs::{Glyphs, line_glyphs};
 pub use ink_box::{InkBox, ink_at, joined};
 pub use inks::glyph_inks;
-pub use overlay::paint_over;
 pub use picture::Picture;
 pub use report::{Report, Unfitted, report_on};
+pub use rows::{add_dropouts, add_glyphs, most_edges};

@@ -3,7 +3,7 @@ use Rattle.std.proofs.lemmas.List.{get_or-map, map-append, take_more}
 use Rattle.std.proofs.lemmas.List.Elements.{All-push}
 use Rattle.tt_picture.specs.Glyphs.{Glyph, IsDrawn}
 use Rattle.tt_picture.proofs.Reframed.{IsBare}
-use Rattle.tt_picture.proofs.glyphs.Glyphs.copies.Goals as goal
+use Rattle.tt_label.proofs.sharing.copies.Goals as goal
 
 pub loop-number-preserved : goal.loop-number-preserved
 loop-number-preserved c =
@@ -13,7 +13,7 @@ loop-number-preserved c =
     let i = at.number-index in
     let below : i < length numbers = c.loop-number-test.true in
     let place = c.place_of-at.result in
-    let gs = c.args.self.now.made.items in
+    let gs = c.args.glyphs.now.made.items in
     let g = get_or gs place c.index.result in
     let h = c.in_ok-copy.copy in
     let made = at.made.items in

@@ -7,15 +7,13 @@ ghost use Rattle.tt_picture.specs.Pictures.{IsPictureFrame};
 ghost use Rattle.tt_picture.specs.Pixels.{Shape, is_black_pixel};
 ghost use Rattle.tt_scan_rows.specs.Bands.{IsBandBlackened};
 
-use crate::dropouts::line_dropouts;
-use crate::glyph::Glyph;
-use crate::rows::{add_dropouts, add_glyphs, most_edges};
 use std::alloc::{AllocError, Global};
+use tt_picture::{Glyph, add_dropouts, add_glyphs, line_dropouts, most_edges};
 use tt_scan::{Frame, Sweep};
 
 /// Blackens the pixels of a picture that some glyphs cover or have as dropouts; all others are unchanged. The bytes are
 /// those of all rows. Error: Memory.
-pub fn paint_over(
+pub(crate) fn paint_over(
     alloc: Global,
     frame: Frame,
     glyphs: Vec<Glyph>,

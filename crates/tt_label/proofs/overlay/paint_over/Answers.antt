@@ -1,6 +1,6 @@
 use Rattle.std.proofs.Common.{◌∙◌, arith}
-use Rattle.tt_picture.proofs.Overlaid.{overlaid}
-use Rattle.tt_picture.proofs.overlay.paint_over.Goals as goal
+use Rattle.tt_label.proofs.Overlaid.{overlaid}
+use Rattle.tt_label.proofs.overlay.paint_over.Goals as goal
 
 pub returns : goal.returns
 returns c = λ shapes stand.
