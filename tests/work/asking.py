@@ -1,4 +1,5 @@
 """The program under test: what it is asked, and how its answers are compared."""
+import resource
 import subprocess
 
 WORK_LARGE = ["tt_render: 65 WorkLarge"]
@@ -12,10 +13,17 @@ class Asked:
     def __init__(self, program, room):
         self.program, self.font = program, room / "font"
 
-    def run(self, *words, text=None, lines=b""):
-        """Returns the status, standard output and the lines of standard error. Lines stand on standard input."""
+    def run(self, *words, text=None, lines=b"", most_bytes=None):
+        """Returns the status, standard output and the lines of standard error. Lines stand on standard input. The
+        program has at most so many bytes of memory.
+        """
+
+        def limit():
+            if most_bytes is not None:
+                resource.setrlimit(resource.RLIMIT_AS, (most_bytes, most_bytes))
+
         command = [self.program, *map(str, words), "--", str(self.font), *([] if text is None else [text])]
-        ran = subprocess.run(command, input=lines, capture_output=True)
+        ran = subprocess.run(command, input=lines, capture_output=True, preexec_fn=limit)
         return ran.returncode, ran.stdout, ran.stderr.decode(errors="replace").splitlines()
 
     def draw(self, fit, size, text, *options):

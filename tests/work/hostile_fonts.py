@@ -1,4 +1,4 @@
-"""The hostile fonts of bench/hostile, each drawn or measured once: an answer, and which."""
+"""The hostile fonts of bench/hostile, each drawn or measured once, some by a line: an answer, and which."""
 import resource
 import subprocess
 import sys
@@ -43,6 +43,22 @@ MEASURED = {
     "beyond_off": LARGE,
     "beyond_scattered": LARGE,
 }
+# Fonts whose line is refused for its crossings, drawn by lines with this much memory. A line cuts no more crossings into
+# pixels than a picture may have: these glyphs would take 1 GiB.
+LINED = ("on", "off", "corners", "corners_wide", "tall", "runs_bare", "glyphs_4096")
+REFUSED_LINE = 2, 1, "65 WorkLarge"
+LINE_BYTES = 128 << 20
+
+
+def by_lines(asked, name):
+    """Draws a font's first line, with little memory."""
+    made = subprocess.run([sys.executable, "-B", BENCH / "hostile_font", name, asked.font.parent], check=True,
+                          capture_output=True, text=True)
+    line = asked.font.with_name("lines").read_bytes().split(b"\n")[0]
+    status, _, lines = asked.run("draw", "--lines", "--fit", "best", "--size", int(made.stdout), lines=line,
+                                 most_bytes=LINE_BYTES)
+    end = lines[0][-len(REFUSED_LINE[2]) :] if lines else ""
+    told(f"hostile: a line of {name}", (status, len(lines), end), REFUSED_LINE, ("status", "lines", "line"))
 
 
 def hostile(asked):
@@ -61,4 +77,6 @@ def hostile(asked):
         slowest = max(slowest, (seconds, f"{job} {name}"))
         end = lines[0][-len(wanted[2]) :] if lines and wanted[2] else ""
         told(f"hostile: {job} {name}", (status, len(lines), end), wanted, ("status", "lines", "line"))
+    for name in LINED:
+        by_lines(asked, name)
     print("slowest of the hostile fonts: %s, %.2f s of processor time" % slowest[::-1])

@@ -1,7 +1,7 @@
 -- Entries written one after the other at the front of a room.
 use Rattle.std.proofs.Common.{◌≡◌, ℕ, ◌+◌, ◌<◌, ◌≤◌, List, [], ◌∷◌, ◌++◌, length, get_or, take, drop, map, sym, refl, ap, ◌∙◌, append_assoc, add-one, drop-cons, length-take-le, arith}
 use Rattle.std.proofs.Math.ListN.{set}
-use Rattle.std.proofs.lemmas.List.{length-map, map_more}
+use Rattle.std.proofs.lemmas.List.{append-nil, length-append, length-map, map_more}
 use Rattle.std.proofs.Math.Seq.{set-append_seam}
 
 pub one_more : {A : Type 0} (xs old : List A) (i : ℕ) (v : A) → i ≡ length xs → i < length old
@@ -20,3 +20,15 @@ next_told told xs old i d within few =
     let many : i ≡ length (map told (take i xs)) = rw (length-map, length-take-le) refl in
     one_more (map told (take i xs)) old i (told (get_or xs i d)) many (omega arith)
     ∙ ap (λ m. m ++ drop (i + 1) old) (sym (map_more told xs i d within))
+
+-- a walk over a list: those so far, and those that are left
+pub one_further : {A : Type 0} (done left rest all : List A) (x : A) → left ≡ x ∷ rest → done ++ left ≡ all
+    → ((done ++ x ∷ []) ++ rest ≡ all) × (length done < length all)
+one_further done left rest all x first split =
+    let long = length-append done (x ∷ rest) in
+    let parts : done ++ x ∷ rest ≡ all = rw first at split in
+    let many = ap length parts in
+    (append_assoc done (x ∷ []) rest ∙ parts, omega (arith, long, many))
+
+pub none_further : {A : Type 0} (done left all : List A) → left ≡ [] → done ++ left ≡ all → done ≡ all
+none_further done left all none split = sym (append-nil done) ∙ (rw none at split)

@@ -1,5 +1,5 @@
 -- No part of the standard: a font opened by a call of C, and the faces of its file counted (profile).
-use Rattle.std.specs.Prelude.{◌≡◌, ◌≢◌, ℕ, List, Result, Ok, IsOkAnd}
+use Rattle.std.specs.Prelude.{◌≡◌, ◌≢◌, ℕ, List, Result, IsOkAnd}
 use Rattle.tt_core.specs.Collections.{IsOffsetDefect, count_of}
 use Rattle.tt_core.specs.declared.collection.Reading.{Reading}
 use Rattle.tt_core.specs.declared.collection.Reading.TheVariants as reading

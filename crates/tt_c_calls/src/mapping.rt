@@ -1,7 +1,8 @@
 //! The glyphs of a text's units.
 
-ghost use Rattle.std.specs.Prelude.{◌≡◌, ◌≢◌, length, chars};
+ghost use Rattle.std.specs.Prelude.{◌≡◌, ◌≢◌, ◌≤◌, length, chars};
 ghost use Rattle.tt_cmap.specs.Maps.{units_by};
+ghost use Rattle.tt_core.specs.Limits.{text_limit};
 ghost use Rattle.tt_c_calls.specs.Asked.{face_reading};
 ghost use Rattle.tt_c_calls.specs.Maps.{AreGlyphsTold, MapsText, glyph_told, selector_told, text_told};
 ghost use Rattle.tt_c_calls.specs.Measures.{IsEntriesSmall};
@@ -51,6 +52,7 @@ fn glyph_of(face: &Face, unit: TextUnit) -> CGlyph
 /// Writes the glyphs of a text at the front of a caller's room. Answers: done; or the room is too small, and nothing is
 /// written.
 fn write_glyphs(face: &Face, text: &str, room: &mut [CGlyph]) -> CAnswer
+    requires { length (chars text.now) ≤ text_limit }
     ensures done { result.status ≡ 0 → AreGlyphsTold (text_told text.now face.now) room.old room.new result }
     ensures small { result.status ≢ 0 → IsEntriesSmall (length (units_by face.now.cmap (chars text.now))) (length room.old) result }
     ensures kept { result.status ≢ 0 → room.new ≡ room.old }

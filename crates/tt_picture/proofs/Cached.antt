@@ -1,5 +1,5 @@
 -- Cached glyphs equal those made anew.
-use Rattle.std.proofs.Common.{◌≡◌, ◌∙◌, ℕ, ◌+◌, ◌++◌, length, subst, arith, ◌-◌, ◌<◌, ◌≤◌, Bool, true, false, ◌==◌, if◌then◌else◌, nat_eq, List, [], ◌∷◌, Option, None, Some, ◌⊎◌, refl, sym}
+use Rattle.std.proofs.Common.{◌≡◌, ◌∙◌, ℕ, ◌++◌, subst, ◌-◌, ◌<◌, ◌≤◌, Bool, true, false, ◌==◌, if◌then◌else◌, nat_eq, List, [], ◌∷◌, Option, None, Some, ◌⊎◌, refl, sym}
 use Rattle.std.specs.Prelude.{IfSome}
 use Rattle.std.specs.Map.{lookup, remove_entry}
 use Rattle.tt_fit.proofs.WorkApart.{costs-stay, glyphs-take-work-alone, work-is-apart}
@@ -9,8 +9,7 @@ use Rattle.tt_fit.specs.GlyphCost.{all_used, without_work}
 use Rattle.tt_fit_outline.specs.Outline.{Outline}
 use Rattle.tt_picture.specs.Cached.{CachedStays, IsCacheFor, IsCached, IsOfOutline, entries_of, is_there, limit_of}
 use Rattle.tt_picture.specs.Distinct.{fitter_after, fitter_for}
-use Rattle.tt_picture.specs.Fitted.{AreFitted, FittedGlyph, IsFitted, all_cut, newly_cut}
-use Rattle.tt_picture.specs.Glyphs.{Glyph}
+use Rattle.tt_picture.specs.Fitted.{AreFitted, FittedGlyph, IsFitted}
 use Rattle.tt_picture.specs.Shapes.{chords_with, rule_by}
 use Rattle.tt_picture.proofs.Reframed.{of_front, of_middle}
 use Rattle.tt_scan_dropouts.specs.declared.boxed.BoxedRules.{BoxedRules}
@@ -110,7 +109,7 @@ abbrev pub Serves : Option Kept → Option Kept → List FittedGlyph → Type 0
 Serves old new gs = (cached : Bool) (maker : ℕ → Fitter) (s : Fitter) → AreFitted cached maker gs
     → ((n : ℕ) → without_work (maker n) ≡ without_work s) → IsCacheFor s old → IsCacheFor s new
 
-IsBy : Bool → (ℕ → Fitter) → FittedGlyph → Type 0
+abbrev IsBy : Bool → (ℕ → Fitter) → FittedGlyph → Type 0
 IsBy cached maker g = IsFitted cached (maker g.number) g
 
 -- one glyph more of some that are left
@@ -122,13 +121,3 @@ served old middle new drawn left rest all g parts first so_far puts = λ cached 
     let each : AreFitted cached maker (drawn ++ g ∷ rest) = subst (AreFitted cached maker) (sym here) fitted in
     one_cached cached s (maker g.number) g middle new (alike g.number) (of_middle (IsBy cached maker) drawn rest g each) puts
     (so_far cached maker s (of_front (IsBy cached maker) drawn (g ∷ rest) each) alike own)
-
--- the crossings of one glyph more that is drawn
-pub cut_one_more : (fs : List FittedGlyph) (gs : List Glyph) (f : FittedGlyph) (g : Glyph) → length gs ≡ length fs
-    → all_cut (fs ++ f ∷ []) (gs ++ g ∷ []) ≡ newly_cut f.body g.body + all_cut fs gs
-cut_one_more [] [] f g same = omega arith
-cut_one_more [] (h ∷ hs) f g same = absurd cc
-cut_one_more (e ∷ fs) [] f g same = absurd cc
-cut_one_more (e ∷ fs) (h ∷ hs) f g same =
-    let rest = cut_one_more fs hs f g (omega (arith, same)) in
-    rw rest (omega arith)

@@ -1,5 +1,5 @@
 -- Glyphs that are made, and cut into pixels for the cache.
-use Rattle.std.proofs.Common.{◌≡◌, ◌∙◌, ℕ, Bool, true, false, List, nat_le, Option, None, Some, Ok, ◌⊎◌, inl, inr, ap, refl, sym}
+use Rattle.std.proofs.Common.{◌≡◌, ◌∙◌, ◌+◌, ℕ, Bool, true, false, List, nat_le, Option, None, Some, Ok, ◌⊎◌, inl, inr, ap, refl, sym}
 use Rattle.std.specs.Prelude.{IfSome, pos}
 use Rattle.tt_core.specs.Faults.{Fault}
 use Rattle.tt_arc.proofs.PointsBox.{box_holds_edges}
@@ -17,14 +17,15 @@ use Rattle.tt_picture.specs.Cached.{IsCached, IsCutOf, IsOfOutline}
 use Rattle.tt_picture.specs.Cut.{HasFacts, IsCutBody}
 use Rattle.tt_picture.specs.Fitted.{kept, IsFittedBody, IsMadeOutline, MadeOutline}
 use Rattle.tt_picture.specs.Glyphs as glyphs
-use Rattle.tt_picture.specs.Glyphs.{GlyphBody, IsBodyOf, IsKeptOf, IsTape, edges_of}
+use Rattle.tt_picture.specs.Glyphs.{GlyphBody, IsBodyOf, IsKeptOf, IsTape, body_crossings, edges_of}
 use Rattle.tt_picture.specs.Pixels.{is_filled}
-use Rattle.tt_picture.specs.Shapes.{chords_with, contours_of, edges_at, extents_of, filled_by, offset_at, rules_for}
+use Rattle.tt_picture.specs.Shapes.{chords_with, contours_of, edges_at, extents_of, filled_by, filling_crossings, offset_at, rules_for}
 use Rattle.tt_picture.specs.Steps.{chords_of}
 use Rattle.tt_picture.specs.declared.cutting.GlyphFacts.{GlyphFacts}
 use Rattle.tt_picture.specs.declared.outlined.KeptCounts.{KeptCounts}
 use Rattle.tt_picture.proofs.Standings.{same_filled}
 use Rattle.tt_scan_edges.specs.declared.edge.Edge.{Edge}
+use Rattle.tt_scan_dropouts.specs.Counted.{edges_counted}
 use Rattle.tt_scan_dropouts.specs.declared.boxed.BoxedRules.{BoxedRules}
 use Rattle.tt_scan_gaps.specs.Boxes.{ExtentsFit, IsBoxOf}
 use Rattle.tt_strike_kept.specs.Glyph.{KeptGlyph}
@@ -192,3 +193,10 @@ pub told_where : (told rules : Option BoxedRules) (T : Type 0) (A B : BoxedRules
     → (T → told ≡ rules) → IfSome rules A → ((r : BoxedRules) → T → A r → B r) → IfSome told B
 told_where None rules T A B is same holds more = tt
 told_where (Some r) rules T A B is same holds more = more r is (rw (← same is) at holds)
+
+-- a body has the crossings of its edges
+pub cut_crosses : (es : List Edge) (contours : List (List Edge)) (filled these : Option BoxedRules) (facts : GlyphFacts)
+    (body : GlyphBody) → (IsTape body → these ≡ filled) → IsCutBody es contours filled facts body
+    → body_crossings body these ≡ edges_counted es + filling_crossings filled es
+cut_crosses es contours filled these facts (glyphs.tape t) same is = rw (same tt, is) refl
+cut_crosses es contours filled these facts (glyphs.kept k) same is = is.0.crossings

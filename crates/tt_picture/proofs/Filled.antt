@@ -98,12 +98,15 @@ pub can_be_filled : {cached : Bool} (maker : ℕ → Fitter) {f : Frame} (gs : L
 can_be_filled maker {f} gs drawn within = λ k d below.
     let g = get_or gs k d in one_can_be_filled (maker g.number) f g (drawn k d below) (within k d below)
 
+-- the crossings of a drawn glyph can be counted
+pub one_can_be_counted : {cached : Bool} (s : Fitter) (f : Frame) (g : Glyph) → IsDrawn cached s f g → CanBeCounted g
+one_can_be_counted s f g drawn = record { few = few_edges f g.body drawn.fits; boxed = drawn.boxed }
+
 -- the crossings of drawn glyphs can be counted
 pub can_be_counted : {cached : Bool} (maker : ℕ → Fitter) {f : Frame} (gs : List Glyph) → AreDrawn cached maker f gs
     → All CanBeCounted gs
 can_be_counted maker {f} gs drawn = λ k d below.
-    let g = get_or gs k d in
-    record { few = few_edges f g.body (drawn k d below).fits; boxed = (drawn k d below).boxed }
+    let g = get_or gs k d in one_can_be_counted (maker g.number) f g (drawn k d below)
 
 -- the edges of drawn glyphs are few
 pub tapes_few : {cached : Bool} (maker : ℕ → Fitter) {f : Frame} (gs : List Glyph) → AreDrawn cached maker f gs

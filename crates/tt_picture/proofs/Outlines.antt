@@ -13,7 +13,7 @@ use Rattle.tt_fit.specs.Fitting.{Fitter, fitted_outline}
 use Rattle.tt_fit_outline.specs.Outline.{Outline}
 use Rattle.tt_fit_outline.specs.Steps.{step_of}
 use Rattle.tt_picture.specs.Distinct.{distinct_after, is_among}
-use Rattle.tt_picture.specs.Fitted.{AreFitted, AreSteps, FittedBody, FittedGlyph, IsFitted, IsFittedBody, body_chords, body_step, fitted_chords, fitted_numbers, kept, outlined}
+use Rattle.tt_picture.specs.Fitted.{AreFitted, AreSteps, FittedBody, FittedGlyph, IsFitted, IsFittedBody, body_chords, body_step, fitted_chords, fitted_crossings, fitted_numbers, kept, made_crossings, outlined}
 use Rattle.tt_picture.specs.Pixels.{Shape}
 use Rattle.tt_picture.specs.Shapes.{chords_with, glyph_shape, shape_at}
 use Rattle.tt_picture.specs.Steps.{chords_of, glyph_chords, glyph_step}
@@ -180,4 +180,18 @@ pub too_many_chords : (fs gs : List FittedGlyph) (f : FittedGlyph) (left most n 
 too_many_chords fs gs f left most n so_far is over =
     let sum = sum_by-append (λ (g : FittedGlyph). body_chords g.body) fs (f ∷ gs) in
     let first = sum_by-cons (λ (g : FittedGlyph). body_chords g.body) f gs in
+    omega (arith, so_far, is, over, sum, first)
+
+-- one more of some glyphs and its crossings
+pub one_glyph_more : (fs : List FittedGlyph) (f : FittedGlyph) (left most n : ℕ) → left + fitted_crossings fs ≡ most
+    → n ≡ made_crossings f.body → n ≤ left → (left - n) + fitted_crossings (fs ++ f ∷ []) ≡ most
+one_glyph_more fs f left most n so_far is fits =
+    let sum = sum_by_push (λ (g : FittedGlyph). made_crossings g.body) fs f in
+    omega (arith, so_far, is, fits, sum)
+
+pub too_many_crossings : (fs gs : List FittedGlyph) (f : FittedGlyph) (left most n : ℕ) → left + fitted_crossings fs ≡ most
+    → n ≡ made_crossings f.body → left < n → most < fitted_crossings (fs ++ f ∷ gs)
+too_many_crossings fs gs f left most n so_far is over =
+    let sum = sum_by-append (λ (g : FittedGlyph). made_crossings g.body) fs (f ∷ gs) in
+    let first = sum_by-cons (λ (g : FittedGlyph). made_crossings g.body) f gs in
     omega (arith, so_far, is, over, sum, first)

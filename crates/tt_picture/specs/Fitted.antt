@@ -1,6 +1,6 @@
 -- No part of the standard: the glyphs of a line that are fitted, before their edges are made: each by its outline, or from
 -- the cache.
-use Rattle.std.specs.Prelude.{◌≡◌, ℕ, ◌+◌, Bool, true, false, All, IfSome, List, [], ◌∷◌, map, Option, None, Ok}
+use Rattle.std.specs.Prelude.{◌≡◌, ℕ, ◌+◌, Bool, true, false, All, IfSome, List, map, Option, None, Ok}
 use Rattle.std.specs.List.{sum_by}
 use Rattle.tt_core.specs.Faults.{Fault}
 use Rattle.tt_fit.specs.Counting.{points_asked}
@@ -9,11 +9,12 @@ use Rattle.tt_fit.specs.GlyphCost.{IsMadeFor}
 use Rattle.tt_fit_outline.specs.Outline.{Outline}
 use Rattle.tt_fit_outline.specs.Steps.{step_of}
 use Rattle.tt_arc.specs.declared.rule.ChordRule.{ChordRule}
+use Rattle.tt_scan_dropouts.specs.Counted.{edges_counted}
 use Rattle.tt_scan_dropouts.specs.declared.boxed.BoxedRules.{BoxedRules}
 use Rattle.tt_scan_gaps.specs.Boxes.{ExtentsFit}
 use Rattle.tt_picture.specs.Cached.{IsOfOutline}
-use Rattle.tt_picture.specs.Glyphs.{Glyph, GlyphBody, crossings_cut}
-use Rattle.tt_picture.specs.Shapes.{chords_with, filled_by}
+use Rattle.tt_picture.specs.Glyphs.{GlyphBody, crossings_cut}
+use Rattle.tt_picture.specs.Shapes.{chords_with, edges_at, filled_by, filling_crossings}
 use Rattle.tt_picture.specs.Steps.{chords_of}
 use Rattle.tt_picture.specs.declared.outlined.KeptCounts.{KeptCounts}
 use Rattle.tt_strike_kept.specs.Glyph.{KeptGlyph}
@@ -44,6 +45,18 @@ body_step (kept k) = k.step
 abbrev pub body_chords : FittedBody → ℕ
 body_chords (outlined m) = chords_of m.rule m.outline
 body_chords (kept k) = k.chords
+
+-- the crossings of a glyph at one pen, and of some; where dropouts are filled, the search for them counts too
+abbrev pub outline_crossings : MadeOutline → ℕ
+outline_crossings m =
+    edges_counted (edges_at m.rule 0 m.outline) + filling_crossings m.filled (edges_at m.rule 0 m.outline)
+
+abbrev pub made_crossings : FittedBody → ℕ
+made_crossings (outlined m) = outline_crossings m
+made_crossings (kept k) = k.crossings
+
+abbrev pub fitted_crossings : List FittedGlyph → ℕ
+fitted_crossings gs = sum_by (λ g. made_crossings g.body) gs
 
 -- an outline is that of a glyph, and what it counts is what the glyph counts in the cache
 pub record IsMadeOutline (cached : Bool) (s : Fitter) (number : ℕ) (o : Outline) (m : MadeOutline) : Type 0 where
@@ -83,12 +96,7 @@ AreFitted cached maker gs = All (λ g. IsFitted cached (maker g.number) g) gs
 abbrev pub AreSteps : (ℕ → ℕ) → List FittedGlyph → Type 0
 AreSteps step gs = All (λ g. step g.number ≡ body_step g.body) gs
 
--- the crossings of a glyph that is cut when it is drawn, and of some; a glyph from the cache was cut before
+-- the crossings of a glyph that is cut when it is drawn; a glyph from the cache was cut before
 abbrev pub newly_cut : FittedBody → GlyphBody → ℕ
 newly_cut (outlined m) b = crossings_cut b
 newly_cut (kept k) b = 0
-
-abbrev pub all_cut : List FittedGlyph → List Glyph → ℕ
-all_cut [] gs = 0
-all_cut (f ∷ fs) [] = 0
-all_cut (f ∷ fs) (g ∷ gs) = newly_cut f.body g.body + all_cut fs gs

@@ -9,7 +9,7 @@ use crate::glyph::{Glyph, GlyphBody};
 impl Glyph {
     /// The crossings of the glyph at one pen, in the picture and outside. Where dropouts are filled, the search for
     /// them counts too.
-    fn pen_crossings(&self) -> u64
+    pub(crate) fn pen_crossings(&self) -> u64
         requires { CanBeCounted self.now }
         ensures { result ≡ pen_crossings self.now }
     {

@@ -122,7 +122,7 @@ pub(crate) fn tape_crossings(tape: &Tape, filled: Option<BoxedRules>) -> u64
 
 /// The pixels of a tape's glyph, which are cached for later lines. The tape itself where the glyph is not to be cached, or
 /// has too many lines, too many black columns, or too large a box. A glyph with more crossings than are `allowed` is not
-/// cut: its tape is answered too. The crossings of a glyph that is cut are taken from those allowed. Error: Memory.
+/// cut: its tape is answered too. Error: Memory.
 pub(crate) fn body_of(
     alloc: Global,
     tape: Tape,
@@ -130,14 +130,14 @@ pub(crate) fn body_of(
     filled: Option<BoxedRules>,
     facts: GlyphFacts,
     cache: &mut Cache,
-    allowed: &mut u64,
+    allowed: u64,
 ) -> Result<GlyphBody, AllocError>
     requires fits { TapeFits tape.frame 0 tape }
     requires boxed { IfSome filled (λ rules. IsBoxOf rules.extents tape.edges) }
     requires ends { IfSome filled (λ rules. AreEnds (length tape.edges) ends.now) }
     ensures body { IfOk result (λ b. IsCutBody tape.edges (contours_at tape.edges ends.now) filled facts (body_view b) × BodyFits tape.frame 0 (body_view b)) }
     ensures plain { facts.counts ≡ None → IfOk result (λ b. IsTape (body_view b)) }
-    ensures cut { IfOk result (λ b. crossings_cut (body_view b) + allowed.new ≤ allowed.old) }
+    ensures cut { IfOk result (λ b. crossings_cut (body_view b) ≤ allowed) }
     ensures cached { (s : Fitter) → ((k : KeptGlyph) → IsCutOf tape.edges (contours_at tape.edges ends.now) filled k → HasFacts facts k → IsCached s facts.number k) → IsCacheFor s cache.old → IsCacheFor s cache.new }
     ensures limit { limit_of cache.new ≡ limit_of cache.old }
 {
@@ -145,10 +145,9 @@ pub(crate) fn body_of(
         return Ok(GlyphBody::Tape(tape));
     };
     let crossings = tape_crossings(&tape, filled);
-    let Some(rest) = allowed.checked_sub(crossings) else {
+    if crossings > allowed {
         return Ok(GlyphBody::Tape(tape));
-    };
-    *allowed = rest;
+    }
     let Some(dropouts) = tape_dropouts(alloc, &tape, ends, filled)? else {
         return Ok(GlyphBody::Tape(tape));
     };

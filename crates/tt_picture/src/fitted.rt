@@ -1,13 +1,13 @@
 //! A glyph of a line that is fitted, before its edges are made: by its outline, or from the cache.
 
-ghost use Rattle.std.specs.Prelude.{◌≡◌, ◌+◌, ◌<◌, ◌≤◌, Bool, [], IfOk, IfSome, OnOk, Err};
+ghost use Rattle.std.specs.Prelude.{◌≡◌, ◌<◌, ◌≤◌, Bool, [], IfOk, IfSome, OnOk, Err};
 ghost use Rattle.tt_core.specs.Limits.{margin_limit};
 ghost use Rattle.tt_core.specs.Outcomes.{IfTold, font_fault};
 ghost use Rattle.tt_fit.specs.Fitting.{Fitter, fitted_outline, after_glyph};
 ghost use Rattle.tt_scan_edges.specs.Winding.{FrameFits};
 ghost use Rattle.tt_picture.specs.Cached.{IsCacheFor, is_there, limit_of};
-ghost use Rattle.tt_picture.specs.Fitted.{IsFitted, body_chords, body_step, newly_cut};
-ghost use Rattle.tt_picture.specs.Glyphs.{IsDrawn};
+ghost use Rattle.tt_picture.specs.Fitted.{IsFitted, body_chords, body_step, made_crossings, newly_cut};
+ghost use Rattle.tt_picture.specs.Glyphs.{IsDrawn, pen_crossings};
 
 use crate::cache::Cache;
 use crate::glyph::Glyph;
@@ -95,8 +95,7 @@ impl FittedGlyph {
     }
 
     /// The glyph with its edges or its pixels, without a pen, with room for `room` pens. It is cached if it may be, is
-    /// small enough, and has no more crossings than are `allowed`. The crossings of a glyph that is cut are taken from
-    /// those allowed. Error: Memory. The outline is dropped.
+    /// small enough, and has no more crossings than are `allowed`. Error: Memory. The outline is dropped.
     #[inline(always)]
     pub(crate) fn into_glyph(
         self,
@@ -104,7 +103,7 @@ impl FittedGlyph {
         frame: Frame,
         room: usize,
         cache: &mut Cache,
-        allowed: &mut u64,
+        allowed: u64,
     ) -> Result<Glyph, AllocError>
         requires frame { FrameFits frame }
         requires fitted { (cached : Bool) × (s : Fitter) × IsFitted cached s self }
@@ -112,7 +111,8 @@ impl FittedGlyph {
         ensures pens { IfOk result (λ g. g.pens ≡ []) }
         ensures left { IfOk result (λ g. g.left ≤ margin_limit) }
         ensures chords { IfOk result (λ g. g.chords ≡ body_chords self.body) }
-        ensures cut { IfOk result (λ g. newly_cut self.body g.body + allowed.new ≤ allowed.old) }
+        ensures cut { IfOk result (λ g. newly_cut self.body g.body ≤ allowed) }
+        ensures crossings { IfOk result (λ g. pen_crossings g ≡ made_crossings self.body) }
         ensures valid { IfOk result (λ g. (cached : Bool) (s : Fitter) → IsFitted cached s self → IsDrawn cached s frame g) }
         ensures cached { (cached : Bool) (s : Fitter) → IsFitted cached s self → IsCacheFor s cache.old → IsCacheFor s cache.new }
         ensures limit { limit_of cache.new ≡ limit_of cache.old }

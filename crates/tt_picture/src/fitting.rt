@@ -1,7 +1,7 @@
 //! A line's distinct glyphs, fitted in order, and what follows from them: steps, then edges or pixels.
 
-ghost use Rattle.std.specs.Prelude.{◌≡◌, ℕ, ◌<◌, ◌≤◌, Bool, true, [], length, map, All, IfOk, IfSome, IfNone, List, Ok, Err};
-ghost use Rattle.tt_core.specs.Limits.{crossing_limit, margin_limit};
+ghost use Rattle.std.specs.Prelude.{◌≡◌, ◌⊎◌, ℕ, ◌<◌, ◌≤◌, Bool, true, [], length, map, All, IfOk, IfSome, IfNone, List, Ok, Err};
+ghost use Rattle.tt_core.specs.Limits.{margin_limit};
 ghost use Rattle.tt_core.specs.Outcomes.{IfTold, font_fault};
 ghost use Rattle.tt_fit.specs.Fitting.{Fitter};
 ghost use Rattle.tt_fit.specs.GlyphCost.{without_work};
@@ -9,7 +9,7 @@ ghost use Rattle.tt_fit_outline.specs.Outline.{Outline};
 ghost use Rattle.tt_scan_edges.specs.Winding.{FrameFits};
 ghost use Rattle.tt_picture.specs.Cached.{IsCacheFor, is_there, limit_of};
 ghost use Rattle.tt_picture.specs.Distinct.{fitter_after, fitter_for, is_among};
-ghost use Rattle.tt_picture.specs.Fitted.{AreFitted, AreSteps, all_cut, fitted_chords, fitted_numbers};
+ghost use Rattle.tt_picture.specs.Fitted.{AreFitted, AreSteps, fitted_chords, fitted_crossings, fitted_numbers};
 ghost use Rattle.tt_picture.specs.Glyphs.{AreDrawn, ArePlaces, numbers_of};
 ghost use Rattle.tt_picture.specs.Steps.{outlines_by};
 ghost use Rattle.tt_picture.specs.Unfitted.{all_differ};
@@ -18,7 +18,7 @@ use crate::cache::Cache;
 use crate::fitted::FittedGlyph;
 use crate::glyph::Glyph;
 use std::alloc::{AllocError, Global};
-use tt_core::{CROSSING_LIMIT, FontFault};
+use tt_core::FontFault;
 use tt_fit::Fitter;
 use tt_scan::Frame;
 
@@ -60,15 +60,22 @@ pub fn put_steps(places: &[u16], fitted: &[FittedGlyph], line: &mut [(u16, u32)]
     }
 }
 
-/// Some fitted glyphs in a frame, without a pen; None where they have more than `most` chords. As soon as they have more,
-/// no further edge is made. Those that may be and are small enough are cached. The glyphs that are cut have together no
-/// more crossings than a picture may have: a line with more is refused. Error: Memory.
+/// The most that a line's glyphs may have, each glyph once at one pen.
+#[derive(Clone, Copy)]
+pub struct LineLimits {
+    pub chords: usize,
+    /// Those of a picture, inside and outside.
+    pub crossings: u64,
+}
+
+/// Some fitted glyphs in a frame, without a pen; None where they have more chords or crossings than the limits. As soon
+/// as they have more, no further edge is made. Those that may be and are small enough are cached. Error: Memory.
 pub(crate) fn drawn_glyphs(
     alloc: Global,
     fitted: Vec<FittedGlyph>,
     frame: Frame,
     room: usize,
-    most: usize,
+    limits: LineLimits,
     cache: &mut Cache,
 ) -> Result<Option<Vec<Glyph>>, AllocError>
     requires frame { FrameFits frame }
@@ -76,22 +83,23 @@ pub(crate) fn drawn_glyphs(
     ensures numbers { IfOk result (λ o. IfSome o (λ v. numbers_of v.items ≡ fitted_numbers fitted.items)) }
     ensures bare { IfOk result (λ o. IfSome o (λ v. All (λ g. (g.left ≤ margin_limit) × (g.pens ≡ [])) v.items)) }
     ensures drawn { IfOk result (λ o. IfSome o (λ v. (cached : Bool) (maker : ℕ → Fitter) → AreFitted cached maker fitted.items → AreDrawn cached maker frame v.items)) }
-    ensures few { IfOk result (λ o. IfSome o (λ v. fitted_chords fitted.items ≤ most)) }
-    ensures many { IfOk result (λ o. IfNone o (most < fitted_chords fitted.items)) }
-    ensures cut { IfOk result (λ o. IfSome o (λ v. all_cut fitted.items v.items ≤ crossing_limit)) }
+    ensures few { IfOk result (λ o. IfSome o (λ v. fitted_chords fitted.items ≤ limits.chords)) }
+    ensures crossed { IfOk result (λ o. IfSome o (λ v. fitted_crossings fitted.items ≤ limits.crossings)) }
+    ensures many { IfOk result (λ o. IfNone o ((limits.chords < fitted_chords fitted.items) ⊎ (limits.crossings < fitted_crossings fitted.items))) }
     ensures cached { (cached : Bool) (maker : ℕ → Fitter) (s : Fitter) → AreFitted cached maker fitted.items
         → ((n : ℕ) → without_work (maker n) ≡ without_work s) → IsCacheFor s cache.old → IsCacheFor s cache.new }
     ensures limit { limit_of cache.new ≡ limit_of cache.old }
 {
-    let mut left = most;
-    let mut allowed = CROSSING_LIMIT;
+    let mut left = limits;
     let mut made = Vec::with_capacity(alloc, fitted.len())?;
     for one in fitted {
-        let glyph = one.into_glyph(alloc, frame, room, cache, &mut allowed)?;
-        if glyph.chords > left {
+        let glyph = one.into_glyph(alloc, frame, room, cache, left.crossings)?;
+        let crossings = glyph.pen_crossings();
+        if glyph.chords > left.chords || crossings > left.crossings {
             return Ok(None);
         }
-        left -= glyph.chords;
+        left.chords -= glyph.chords;
+        left.crossings -= crossings;
         made.push(glyph)?;
     }
     Ok(Some(made))

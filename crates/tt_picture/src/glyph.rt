@@ -7,7 +7,7 @@ ghost use Rattle.tt_fit.specs.Fitting.{Fitter, fitted_outline, after_glyph};
 ghost use Rattle.tt_scan_edges.specs.Winding.{FrameFits};
 ghost use Rattle.tt_picture.specs.Fitted as fitted;
 ghost use Rattle.tt_picture.specs.Fitted.{IsFitted};
-ghost use Rattle.tt_picture.specs.Glyphs.{BodyFits, IsBodyOf, IsDrawn, IsTape, edges_of, left_of};
+ghost use Rattle.tt_picture.specs.Glyphs.{BodyFits, IsBodyOf, IsDrawn, IsTape, edges_of, left_of, pen_crossings};
 ghost use Rattle.tt_picture.specs.Cached.{IsCacheFor, is_there, limit_of};
 ghost use Rattle.tt_picture.specs.Views.{body_view};
 
@@ -125,8 +125,7 @@ impl Glyph {
         ensures fault { IfTold font_fault result (λ f. fitted_outline fitter.old number ≡ Err f) }
     {
         let fitted = FittedGlyph::of(fitter, number, cache)?;
-        let mut allowed = u64::MAX;
-        let made = fitted.into_glyph(alloc, frame, room, cache, &mut allowed)?;
+        let made = fitted.into_glyph(alloc, frame, room, cache, u64::MAX)?;
         Ok(made)
     }
 
@@ -143,6 +142,7 @@ impl Glyph {
         ensures pens { IfOk result (λ g. g.pens ≡ []) }
         ensures left { IfOk result (λ g. g.left ≡ frame.margin) }
         ensures chords { IfOk result (λ g. g.chords ≡ kept.chords) }
+        ensures crossings { IfOk result (λ g. pen_crossings g ≡ kept.crossings) }
         ensures valid { IfOk result (λ g. (cached : Bool) (s : Fitter) → IsFitted cached s (record { number = number; body = fitted.kept kept }) → IsDrawn cached s frame g) }
     {
         Ok(Glyph {

@@ -1,6 +1,6 @@
 //! The distinct glyphs of a line.
 
-ghost use Rattle.std.specs.Prelude.{◌≡◌, ◌≢◌, Bool, true, false, None, ℕ, ◌+◌, ◌-◌, ◌^◌, ◌<◌, ◌≤◌, ◌++◌, [], ◌∷◌, length, map, slice_index, All, IfOk, IfSome, IfNone, IsOkAnd, OnOk, Err};
+ghost use Rattle.std.specs.Prelude.{◌≡◌, ◌≢◌, ◌⊎◌, Bool, true, false, None, ℕ, ◌+◌, ◌-◌, ◌^◌, ◌<◌, ◌≤◌, ◌++◌, [], ◌∷◌, length, map, slice_index, All, IfOk, IfSome, IfNone, IsOkAnd, OnOk, Err};
 ghost use Rattle.tt_core.specs.Limits.{margin_limit, text_limit, width_limit};
 ghost use Rattle.tt_core.specs.Outcomes.{IfTold, each, font_fault};
 ghost use Rattle.tt_fit.specs.Fitting.{Fitter, fitted_outline};
@@ -8,14 +8,14 @@ ghost use Rattle.tt_fit.specs.GlyphCost.{without_work};
 ghost use Rattle.tt_scan_edges.specs.declared.edge.Frame.{Frame};
 ghost use Rattle.tt_scan_edges.specs.Winding.{FrameFits};
 ghost use Rattle.tt_picture.specs.Distinct.{distinct, each_fitter, fitter_after, fitter_past, is_among};
-ghost use Rattle.tt_picture.specs.Fitted.{AreFitted, fitted_chords, fitted_numbers};
+ghost use Rattle.tt_picture.specs.Fitted.{AreFitted, fitted_chords, fitted_crossings, fitted_numbers};
 ghost use Rattle.tt_picture.specs.Glyphs.{AreDrawn, AreOfLine, AreSeated, AreWithin, Adds, ArePlaces, HasGlyph, HasPen, edges_of, numbers_of};
 ghost use Rattle.tt_picture.specs.Cached.{IsCacheFor, is_there, limit_of};
 ghost use Rattle.tt_picture.specs.Shapes.{glyph_shape};
 
 use crate::cache::Cache;
 use crate::fitted::FittedGlyph;
-use crate::fitting::drawn_glyphs;
+use crate::fitting::{LineLimits, drawn_glyphs};
 use crate::glyph::Glyph;
 use crate::reframing::reframed_glyphs;
 use std::alloc::{AllocError, Global};
@@ -33,7 +33,7 @@ pub struct Glyphs {
     pub places: Vec<u16>,
     pub made: Vec<Glyph>,
     /// How many pens each glyph has room for at first.
-    room: usize,
+    pub room: usize,
     /// What the line takes of the budget of a call of many lines, once its glyphs are tested.
     pub cost: u64,
 }
@@ -67,7 +67,7 @@ impl Glyphs {
     }
 
     /// The place in `made` of a glyph that is there.
-    fn place_of(&self, number: u16) -> usize
+    pub fn place_of(&self, number: u16) -> usize
         requires known { number < length self.now.places.items }
         requires places { ArePlaces self.now.places.items (numbers_of self.now.made.items) }
         requires among { is_among number (numbers_of self.now.made.items) ≡ true }
@@ -171,7 +171,7 @@ impl Glyphs {
     }
 
     /// Glyphs without a pen, at the places of a line. Error: Memory.
-    fn standing(self, line: &[(u16, u32)]) -> Result<Glyphs, AllocError>
+    pub fn standing(self, line: &[(u16, u32)]) -> Result<Glyphs, AllocError>
         requires bare { All (λ g. (g.left ≤ margin_limit) × (g.pens ≡ [])) self.made.items }
         requires places { ArePlaces self.places.items (numbers_of self.made.items) }
         requires known { All (λ g. g.0 < length self.places.items) line.now }
@@ -222,14 +222,14 @@ impl Glyphs {
     }
 
     /// The glyphs of a line in its frame, by fitted glyphs and the table of their places; None where they have more than
-    /// `most` chords. Those that may be and are small enough are cached. Error: Memory.
+    /// chords or crossings than the limits. Those that may be and are small enough are cached. Error: Memory.
     pub fn of_fitted(
         alloc: Global,
         places: Vec<u16>,
         fitted: Vec<FittedGlyph>,
         frame: Frame,
         line: &[(u16, u32)],
-        most: usize,
+        limits: LineLimits,
         cache: &mut Cache,
     ) -> Result<Option<Glyphs>, AllocError>
         requires frame { FrameFits frame }
@@ -240,14 +240,14 @@ impl Glyphs {
         requires pens { All (λ g. g.1 ≤ width_limit) line.now }
         ensures valid { IfOk result (λ o. IfSome o (λ g. AreSeated (length places.items) g.places.items g.made.items)) }
         ensures line { IfOk result (λ o. IfSome o (λ g. (cached : Bool) (maker : ℕ → Fitter) → AreFitted cached maker fitted.items → AreOfLine cached maker frame line.now g.made.items)) }
-        ensures few { IfOk result (λ o. IfSome o (λ g. fitted_chords fitted.items ≤ most)) }
-        ensures many { IfOk result (λ o. IfNone o (most < fitted_chords fitted.items)) }
+        ensures few { IfOk result (λ o. IfSome o (λ g. fitted_chords fitted.items ≤ limits.chords)) }
+        ensures many { IfOk result (λ o. IfNone o ((limits.chords < fitted_chords fitted.items) ⊎ (limits.crossings < fitted_crossings fitted.items))) }
         ensures cached { (cached : Bool) (maker : ℕ → Fitter) (s : Fitter) → AreFitted cached maker fitted.items
             → ((n : ℕ) → without_work (maker n) ≡ without_work s) → IsCacheFor s cache.old → IsCacheFor s cache.new }
         ensures limit { limit_of cache.new ≡ limit_of cache.old }
     {
         let room = pens_room(line.len());
-        let Some(made) = drawn_glyphs(alloc, fitted, frame, room, most, cache)? else {
+        let Some(made) = drawn_glyphs(alloc, fitted, frame, room, limits, cache)? else {
             return Ok(None);
         };
         let glyphs = Glyphs {

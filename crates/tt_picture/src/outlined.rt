@@ -1,6 +1,6 @@
 //! The outline of a glyph that is made, before its edges are.
 
-ghost use Rattle.std.specs.Prelude.{◌≡◌, ◌⊎◌, ◌+◌, ◌<◌, ◌≤◌, ◌^◌, false, [], length, IfOk, IfSome, OnOk, None, Some, Err, ℕ, Bool};
+ghost use Rattle.std.specs.Prelude.{◌≡◌, ◌⊎◌, ◌<◌, ◌≤◌, ◌^◌, false, [], length, IfOk, IfSome, OnOk, None, Some, Err, ℕ, Bool};
 ghost use Rattle.tt_core.specs.Limits.{margin_limit};
 ghost use Rattle.tt_core.specs.Outcomes.{IfTold, font_fault};
 ghost use Rattle.tt_fit.specs.Counting.{points_asked};
@@ -12,8 +12,8 @@ ghost use Rattle.tt_scan.specs.Contours.{AreEnds, contours_at};
 ghost use Rattle.tt_scan_edges.specs.Winding.{FrameFits};
 ghost use Rattle.tt_scan_gaps.specs.Boxes.{ExtentsFit};
 ghost use Rattle.tt_picture.specs.Cached.{IsCacheFor, limit_of};
-ghost use Rattle.tt_picture.specs.Fitted.{IsMadeOutline};
-ghost use Rattle.tt_picture.specs.Glyphs.{IsDrawn, crossings_cut};
+ghost use Rattle.tt_picture.specs.Fitted.{IsMadeOutline, outline_crossings};
+ghost use Rattle.tt_picture.specs.Glyphs.{IsDrawn, crossings_cut, pen_crossings};
 ghost use Rattle.tt_picture.specs.Shapes.{contours_of, edges_at, extents_of, rule_by, rules_for};
 ghost use Rattle.tt_picture.specs.Steps.{chords_of};
 
@@ -68,7 +68,7 @@ impl MadeOutline {
         frame: Frame,
         room: usize,
         cache: &mut Cache,
-        allowed: &mut u64,
+        allowed: u64,
     ) -> Result<Glyph, AllocError>
         requires frame { FrameFits frame }
         requires made { (cached : Bool) × (s : Fitter) × (o : shape.Outline) × IsMadeOutline cached s number o self }
@@ -76,7 +76,8 @@ impl MadeOutline {
         ensures pens { IfOk result (λ g. g.pens ≡ []) }
         ensures left { IfOk result (λ g. g.left ≤ margin_limit) }
         ensures chords { IfOk result (λ g. g.chords ≡ chords_of self.rule self.outline) }
-        ensures cut { IfOk result (λ g. crossings_cut g.body + allowed.new ≤ allowed.old) }
+        ensures cut { IfOk result (λ g. crossings_cut g.body ≤ allowed) }
+        ensures crossings { IfOk result (λ g. pen_crossings g ≡ outline_crossings self) }
         ensures valid { IfOk result (λ g. (cached : Bool) (s : Fitter) (o : shape.Outline) → fitted_outline s number ≡ Ok o → IsMadeOutline cached s number o self → IsDrawn cached s frame g) }
         ensures cached { (cached : Bool) (s : Fitter) (o : shape.Outline) → IsMadeOutline cached s number o self → IsCacheFor s cache.old → IsCacheFor s cache.new }
         ensures limit { limit_of cache.new ≡ limit_of cache.old }

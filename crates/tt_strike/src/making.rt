@@ -29,7 +29,7 @@ use std::alloc::Global;
 use tt_core::{DrawFault, JobFault};
 use tt_fit::Fit;
 use tt_line::lay_steps;
-use tt_picture::{Cache, FittedGlyph, Glyphs};
+use tt_picture::{Cache, FittedGlyph, Glyphs, LineLimits};
 
 /// A line that is laid out, and its glyphs, which are made and tested.
 #[derive(Drop)]
@@ -41,7 +41,7 @@ pub(crate) struct MadeLine {
 /// The glyphs of a line, fitted before, by the table of their places, where work is bounded. Those that may be and are
 /// small enough are cached. Errors: WorkLarge of their chords, and then of their crossings by the work that is left;
 /// Memory.
-fn tested_edges(
+pub fn tested_edges(
     alloc: Global,
     fit: Fit,
     places: Vec<u16>,
@@ -67,11 +67,16 @@ fn tested_edges(
 {
     let frame = laid.frame();
     let line = &laid.line.glyphs;
-    let made = Glyphs::of_fitted(alloc, places, fitted, frame, line, CHORD_LIMIT, cache)?;
+    let allowed = crossings_allowed(left);
+    let limits = LineLimits {
+        chords: CHORD_LIMIT,
+        crossings: allowed,
+    };
+    let made = Glyphs::of_fitted(alloc, places, fitted, frame, line, limits, cache)?;
     let Some(mut glyphs) = made else {
         return Err(DrawFault::Job(JobFault::WorkLarge));
     };
-    let crossings = test_crossings(fit, crossings_allowed(left), &glyphs.made)?;
+    let crossings = test_crossings(fit, allowed, &glyphs.made)?;
     glyphs.cost = cost_of(left, crossings);
     Ok(glyphs)
 }

@@ -29,8 +29,8 @@ use tt_picture::{Cache, Picture};
 
 /// A font at a size with a fit, which draws lines one after the other. The font's programs run once, when the first
 /// line is drawn. Glyphs are cached for later lines. With `Fit::Best` a line pays from its own work for the font's
-/// programs and for cached glyphs. Clauses see the font's tables, the size, the fit, the cache's limit in bytes and the cached
-/// glyphs with their numbers, the newest first. A line changes the cached glyphs alone.
+/// programs and for cached glyphs. Clauses see the font's tables, the size, the fit and the cache's limit in bytes. They
+/// see the cached glyphs with their numbers too, the newest first. A line changes the cached glyphs alone.
 #[derive(Drop)]
 pub struct Strike<'f, 'a> {
     sized: SizedFace<'f, 'a>,

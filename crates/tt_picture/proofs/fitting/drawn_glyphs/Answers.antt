@@ -1,14 +1,15 @@
-use Rattle.std.proofs.Common.{◌≡◌, ◌∙◌, ◌∷◌, [], ◌++◌, ◌+◌, ◌<◌, ◌≤◌, ℕ, List, Bool, Some, length, refl, sym, ap, subst, append_assoc, append-nil, arith}
+use Rattle.std.proofs.Common.{◌≡◌, ◌∙◌, ◌∷◌, [], ◌++◌, ◌+◌, ◌<◌, ◌≤◌, inl, inr, ℕ, List, Bool, Some, length, refl, sym, ap, subst, append_assoc, append-nil, arith}
 use Rattle.std.specs.Vec.Iter.{into_iter_items}
-use Rattle.std.proofs.lemmas.List.{length-map, map-append}
+use Rattle.std.proofs.lemmas.List.{map-append}
 use Rattle.std.proofs.lemmas.List.Elements.{All-pop, All-push}
-use Rattle.tt_core.specs.Limits.{crossing_limit}
 use Rattle.tt_fit.specs.Fitting.{Fitter}
-use Rattle.tt_picture.specs.Fitted.{AreFitted, FittedGlyph, all_cut, IsFitted, fitted_chords, fitted_numbers}
+use Rattle.tt_picture.specs.Fitted.{AreFitted, FittedGlyph, IsFitted, fitted_chords, fitted_crossings, fitted_numbers}
 use Rattle.tt_picture.specs.Glyphs.{Glyph, IsDrawn}
-use Rattle.tt_picture.proofs.Cached.{cut_one_more, served}
-use Rattle.tt_picture.proofs.Outlines.{one_chord_more, too_many_chords}
+use Rattle.tt_picture.proofs.Cached.{served}
+use Rattle.tt_picture.proofs.Filled.{one_can_be_counted}
+use Rattle.tt_picture.proofs.Outlines.{one_chord_more, one_glyph_more, too_many_chords, too_many_crossings}
 use Rattle.tt_picture.proofs.Reframed.{IsBare, nothing_left, of_middle}
+use Rattle.tt_picture.proofs.fitting.drawn_glyphs.Goals.{then-glyph-left-via-else-glyph-left+then-crossings-left, then-glyph-left-via-then-glyph-left}
 use Rattle.tt_picture.proofs.fitting.drawn_glyphs.Goals as goal
 
 abbrev IsBy : Bool → (ℕ → Fitter) → FittedGlyph → Type 0
@@ -24,6 +25,17 @@ into_glyph-requires-clause-fitted c =
     let all : at.yielded ++ g ∷ rest ≡ c.args.fitted.items = rw (← steps) at.invariant.all in
     (cached, maker g.number, of_middle (IsBy cached maker) at.yielded rest g (subst (AreFitted cached maker) (sym all) fitted))
 
+pub pen_crossings-crossings-requires : goal.pen_crossings-crossings-requires
+pen_crossings-crossings-requires c =
+    let at = c.loop-one in
+    let g = c.in-Some.one in
+    let (cached, maker, fitted) = c.requires.made in
+    let rest = into_iter_items c.next.new.self in
+    let steps : into_iter_items at.one-iterator ≡ g ∷ rest = c.in-Some.ensures.steps.0 in
+    let all : at.yielded ++ g ∷ rest ≡ c.args.fitted.items = rw (← steps) at.invariant.all in
+    let own = of_middle (IsBy cached maker) at.yielded rest g (subst (AreFitted cached maker) (sym all) fitted) in
+    one_can_be_counted (maker g.number) c.args.frame c.in_ok-glyph.glyph (c.in_ok-glyph.ensures.valid cached (maker g.number) own)
+
 pub loop-one-preserved : goal.loop-one-preserved
 loop-one-preserved c =
     let at = c.loop-one in
@@ -34,7 +46,7 @@ loop-one-preserved c =
     let pushed = c.in_ok-push.ensures.items in
     let steps : into_iter_items at.one-iterator ≡ g ∷ into_iter_items c.next.new.self = c.in-Some.ensures.steps.0 in
     let same : c.glyph.inside.chords ≡ h.chords = ap (λ (g : Glyph). g.chords) c.glyph.view_is in
-    let fits : c.glyph.inside.chords ≤ at.left = omega (arith, c.if-glyph-left.false) in
+    let fits : (c.glyph.inside.chords ≤ at.left.chords) × (c.pen_crossings-crossings.result ≤ at.left.crossings) = omega (arith, c.if-glyph-left.false) in
     record {
       all = append_assoc at.yielded (g ∷ []) _ ∙ rw (← steps) so_far.all;
       count = let was = so_far.count in
@@ -51,10 +63,9 @@ loop-one-preserved c =
           let here : IsDrawn cached (maker h.number) c.args.frame h = rw from valid in
           rw pushed (All-push (λ (g : Glyph). IsDrawn cached (maker g.number) c.args.frame g) at.made.items h
           (so_far.drawn cached maker parts.0) here);
-      left = one_chord_more at.yielded g at.left c.args.most c.glyph.inside.chords so_far.left (same ∙ one.chords) fits;
-      cut = let as_many = sym (length-map at.made.items (λ (g : Glyph). g.number)) ∙ ap length so_far.numbers
-              ∙ length-map at.yielded (λ (g : FittedGlyph). g.number) in
-          rw (pushed, cut_one_more at.yielded at.made.items g h as_many) (omega (arith, one.cut, so_far.cut));
+      left = one_chord_more at.yielded g at.left.chords c.args.limits.chords c.glyph.inside.chords so_far.left (same ∙ one.chords) fits.0;
+      crossed = one_glyph_more at.yielded g at.left.crossings c.args.limits.crossings c.pen_crossings-crossings.result so_far.crossed
+          (c.pen_crossings-crossings.ensures ∙ one.crossings) fits.1;
       cached = served c.args.cache.now at.cache c.into_glyph.new.cache at.yielded (g ∷ []) [] (at.yielded ++ g ∷ []) g refl refl
           so_far.cached one.cached;
       limit = one.limit ∙ so_far.limit;
@@ -80,15 +91,15 @@ pub returns-clause-few : goal.returns-clause-few
 returns-clause-few c =
     let at = c.loop-one in
     let all = all_drawn at.yielded _ c.args.fitted.items at.invariant.all (sym at.invariant.count ∙ c.in-None.ensures.steps.0) in
-    let left : at.left + fitted_chords c.args.fitted.items ≡ c.args.most = rw all at at.invariant.left in
+    let left : at.left.chords + fitted_chords c.args.fitted.items ≡ c.args.limits.chords = rw all at at.invariant.left in
     omega (arith, left)
 
-pub returns-clause-cut : goal.returns-clause-cut
-returns-clause-cut c =
+pub returns-clause-crossed : goal.returns-clause-crossed
+returns-clause-crossed c =
     let at = c.loop-one in
     let all = all_drawn at.yielded _ c.args.fitted.items at.invariant.all (sym at.invariant.count ∙ c.in-None.ensures.steps.0) in
-    let cut : all_cut c.args.fitted.items at.made.items + at.allowed ≤ crossing_limit = rw all at at.invariant.cut in
-    omega (arith, cut)
+    let left : at.left.crossings + fitted_crossings c.args.fitted.items ≡ c.args.limits.crossings = rw all at at.invariant.crossed in
+    omega (arith, left)
 
 pub returns-clause-cached : goal.returns-clause-cached
 returns-clause-cached c =
@@ -96,7 +107,7 @@ returns-clause-cached c =
     let all = all_drawn at.yielded _ c.args.fitted.items at.invariant.all (sym at.invariant.count ∙ c.in-None.ensures.steps.0) in
     rw (← all) at.invariant.cached
 
--- one glyph has more chords than are left
+-- one glyph has more chords or crossings than are left
 pub returns-then-glyph-left-clause-many : goal.returns-then-glyph-left-clause-many
 returns-then-glyph-left-clause-many c =
     let at = c.loop-one in
@@ -106,8 +117,17 @@ returns-then-glyph-left-clause-many c =
     let steps : into_iter_items at.one-iterator ≡ g ∷ rest = c.in-Some.ensures.steps.0 in
     let all : at.yielded ++ g ∷ rest ≡ c.args.fitted.items = rw (← steps) at.invariant.all in
     let same : c.glyph.inside.chords ≡ h.chords = ap (λ (g : Glyph). g.chords) c.glyph.view_is in
-    let over : at.left < h.chords = omega (arith, same, c.if-glyph-left.true) in
-    rw (← all) (too_many_chords at.yielded rest g at.left c.args.most h.chords at.invariant.left c.in_ok-glyph.ensures.chords over)
+    let crosses = c.pen_crossings-crossings.ensures ∙ c.in_ok-glyph.ensures.crossings in
+    elim c.then-glyph-left.branch [
+      | then-glyph-left-via-then-glyph-left w ↦
+          let over : at.left.chords < h.chords = omega (arith, same, w.if-glyph-left.true) in
+          inl (rw (← all) (too_many_chords at.yielded rest g at.left.chords c.args.limits.chords h.chords at.invariant.left
+          c.in_ok-glyph.ensures.chords over))
+      | then-glyph-left-via-else-glyph-left+then-crossings-left w ↦
+          let over : at.left.crossings < c.pen_crossings-crossings.result = omega (arith, w.if-crossings-left.true) in
+          inr (rw (← all) (too_many_crossings at.yielded rest g at.left.crossings c.args.limits.crossings c.pen_crossings-crossings.result
+          at.invariant.crossed crosses over))
+    ]
 
 -- the cache after the glyphs so far and one more
 pub returns-then-glyph-left-clause-cached : goal.returns-then-glyph-left-clause-cached

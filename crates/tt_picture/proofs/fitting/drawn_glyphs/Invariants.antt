@@ -1,17 +1,16 @@
-use Rattle.std.proofs.Common.{◌≡◌, ◌+◌, ◌++◌, ◌≤◌, ℕ, Bool, length}
+use Rattle.std.proofs.Common.{◌≡◌, ◌+◌, ◌++◌, ℕ, Bool, length}
 use Rattle.std.specs.Prelude.{All}
 use Rattle.std.specs.Vec.Iter.{into_iter_items, into_iter_len}
-use Rattle.tt_core.specs.Limits.{crossing_limit}
 use Rattle.tt_fit.specs.Fitting.{Fitter}
 use Rattle.tt_picture.specs.Cached.{limit_of}
-use Rattle.tt_picture.specs.Fitted.{AreFitted, all_cut, fitted_chords, fitted_numbers}
+use Rattle.tt_picture.specs.Fitted.{AreFitted, fitted_chords, fitted_crossings, fitted_numbers}
 use Rattle.tt_picture.specs.Glyphs.{AreDrawn, numbers_of}
 use Rattle.tt_picture.proofs.Cached.{Serves}
 use Rattle.tt_picture.proofs.Reframed.{IsBare}
 use Rattle.tt_picture.proofs.fitting.drawn_glyphs.Given as goal
 
--- the glyphs so far have their edges or pixels, their chords and their cuts are charged, and the cache serves the fitters
--- still
+-- the glyphs so far have their edges or pixels, their chords and crossings are charged, and the cache serves the
+-- fitters still
 abbrev pub invariant-loop-one : goal.invariant-loop-one
 invariant-loop-one l = record {
   all : l.yielded ++ into_iter_items l.one-iterator ≡ l.fn.fitted.items;
@@ -19,8 +18,8 @@ invariant-loop-one l = record {
   numbers : numbers_of l.made.items ≡ fitted_numbers l.yielded;
   bare : All IsBare l.made.items;
   drawn : (cached : Bool) (maker : ℕ → Fitter) → AreFitted cached maker l.yielded → AreDrawn cached maker l.frame l.made.items;
-  left : l.left + fitted_chords l.yielded ≡ l.most;
-  cut : all_cut l.yielded l.made.items + l.allowed ≤ crossing_limit;
+  left : l.left.chords + fitted_chords l.yielded ≡ l.fn.limits.chords;
+  crossed : l.left.crossings + fitted_crossings l.yielded ≡ l.fn.limits.crossings;
   cached : Serves l.fn.cache l.cache l.yielded;
   limit : limit_of l.cache ≡ limit_of l.fn.cache;
 }

@@ -14,7 +14,7 @@ use Rattle.tt_picture.specs.Glyphs.{IsTape, edges_of}
 use Rattle.tt_picture.specs.Shapes.{chords_with, contours_of, edges_at}
 use Rattle.tt_picture.specs.Views.{body_view}
 use Rattle.tt_picture.specs.declared.cutting.GlyphFacts.{GlyphFacts}
-use Rattle.tt_picture.proofs.CutGlyphs.{as_cached, body_has, body_shows, made_boxed, made_chords, made_edges, made_lines, made_step, tape_has, told_where}
+use Rattle.tt_picture.proofs.CutGlyphs.{as_cached, body_has, body_shows, cut_crosses, made_boxed, made_chords, made_edges, made_lines, made_step, tape_has, told_where}
 use Rattle.tt_picture.proofs.outlined.MadeOutline.into_glyph.Goals.{After-of}
 use Rattle.tt_picture.proofs.outlined.MadeOutline.into_glyph.Goals as goal
 
@@ -28,6 +28,17 @@ body_of-requires-clause-boxed c =
 
 pub returns-clause-chords : goal.returns-clause-chords
 returns-clause-chords c = rw (← c.self.view_is) c.in_ok-made.ensures.chords
+
+pub returns-clause-crossings : goal.returns-clause-crossings
+returns-clause-crossings c =
+    let i = c.self.inside in
+    let es = c.in_ok-made.made.list.edges in
+    let lines = contours_at es c.in_ok-made.made.ends.items in
+    let b = body_view c.in_ok-body.body in
+    let facts : GlyphFacts = record { number = c.args.number; step = c.step-step.result; chords = c.in_ok-made.made.chords; counts = i.counts; unfitted = i.outline.unfitted } in
+    let cut : IsCutBody es lines i.filled facts b = rw (c.in_ok-tape.ensures, c.deref.ensures.value) at c.in_ok-body.ensures.body.0 in
+    let crosses = cut_crosses es lines i.filled c.filled-filled.result facts b c.filled-filled.ensures.tape cut in
+    rw (← c.self.view_is, ← c.in_ok-made.ensures.exact) crosses
 
 pub returns-clause-valid : goal.returns-clause-valid
 returns-clause-valid c = λ cached s o outlined made.
