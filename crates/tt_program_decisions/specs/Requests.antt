@@ -12,8 +12,8 @@ use Rattle.tt_render.specs.declared.setting.Missing.TheVariants as missing
 use Rattle.tt_render.specs.declared.label.Label.{Label as DrawnLabel}
 use Rattle.tt_render.specs.declared.setting.Product.{Product}
 use Rattle.tt_render.specs.declared.setting.Product.TheVariants.{Picture}
-use Rattle.tt_render.specs.declared.tt_label.Align.{Align}
-use Rattle.tt_render.specs.declared.tt_label.Align.TheVariants as align
+use Rattle.tt_line.specs.declared.align.Align.{Align}
+use Rattle.tt_line.specs.declared.align.Align.TheVariants as align
 use Rattle.tt_render.specs.Labels.{FontLabelGives, FontLabelsGive, HintsBy}
 use Rattle.tt_render.specs.declared.setting.Setting.{Setting}
 use Rattle.tt_render.specs.LinesDefects.{LinesTellDefectsOf}

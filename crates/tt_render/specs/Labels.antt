@@ -27,7 +27,8 @@ use Rattle.tt_render.specs.Lines.{line_answer}
 use Rattle.tt_render.specs.Printing.{Errors}
 use Rattle.tt_render.specs.Reports.{label_report_of, told_view}
 use Rattle.tt_render.specs.Settings.{setting_tested, strike_of}
-use Rattle.tt_render.specs.StubLabel.{label_lines, label_outcome, label_report}
+use Rattle.tt_label.specs.Label.{label_outcome, label_report}
+use Rattle.tt_line.specs.Labels.{label_lines}
 use Rattle.tt_render.specs.Texts.{LabelTold, TextAnswer, TextRefusal, answer_with, missing_among}
 use Rattle.tt_render.specs.TextsOutcome.{FontAnswers, IsIdle, IsNotReady, LinesGive, OpensFont, StopsAtFont}
 use Rattle.tt_render_run.specs.Outcome.{Traffic}

@@ -10,7 +10,6 @@ pub mod Readings
 pub mod Reports
 pub mod RunLaws
 pub mod Settings
-pub mod StubLabel
 pub mod Texts
 pub mod TextsMessages
 pub mod TextsOutcome

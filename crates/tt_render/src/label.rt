@@ -2,8 +2,8 @@
 
 use crate::refusal::TextsFault;
 use crate::setting::Setting;
-use crate::tt_label::Align;
 use tt_advice::Hint;
+use tt_label::Align;
 
 /// How the lines of a text are drawn in one picture for people.
 #[derive(Clone, Copy)]

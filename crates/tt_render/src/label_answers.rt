@@ -5,7 +5,7 @@ ghost use Rattle.tt_core.specs.Limits.{font_limit};
 ghost use Rattle.tt_core.specs.Outcomes.{GivesUnless};
 ghost use Rattle.tt_render.specs.Labels.{TellsLabel, face_number, label_answer, label_told, label_view, signs_of, strike_in};
 ghost use Rattle.tt_render.specs.Reports.{told_view};
-ghost use Rattle.tt_render.specs.StubLabel.{label_lines};
+ghost use Rattle.tt_line.specs.Labels.{label_lines};
 ghost use Rattle.tt_render.specs.TextsOutcome.{IsOfText, told, without_line};
 ghost use Rattle.tt_render_run.specs.File.{p4};
 
@@ -15,10 +15,10 @@ use crate::label_texts::{label_lines, missing_in};
 use crate::refusal::TextsFault;
 use crate::signs::signs_of;
 use crate::texts_messages::Messages;
-use crate::tt_label::{LabelPicture, SizedFace, label};
 use std::alloc::{AllocError, Global};
 use tt_advice::font_notes;
 use tt_core::Reading;
+use tt_label::{LabelPicture, SizedFace, label};
 use tt_pbm::p4_header;
 
 /// A label, ready to be written: its picture, the file of that, the reported characters without a glyph, what else is

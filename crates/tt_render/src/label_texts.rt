@@ -5,15 +5,15 @@ ghost use Rattle.std.specs.Str.Lines.{lines};
 ghost use Rattle.tt_cmap.specs.Lacking.{distinct_after, with_character};
 ghost use Rattle.tt_core.specs.Outcomes.{GivesUnless};
 ghost use Rattle.tt_render.specs.Labels.{lines_lacking};
-ghost use Rattle.tt_render.specs.StubLabel.{label_lines};
+ghost use Rattle.tt_line.specs.Labels.{label_lines};
 ghost use Rattle.tt_render.specs.Texts.{missing_among};
 ghost use Rattle.tt_render.specs.TextsOutcome.{IsOfText, told, without_line};
 
 use crate::refusal::{Refusal, TextsFault, texts_fault};
 use crate::setting::Missing;
-use crate::tt_label::unmarked;
 use std::alloc::{AllocError, Global};
 use tt_cmap::{CharacterMap, lacking};
+use tt_label::unmarked;
 
 /// The lines of a text: a line feed ends a line, and a carriage return just before it is no part of the line. Error:
 /// memory ran out.
@@ -24,7 +24,7 @@ fn all_lines(alloc: Global, text: &str) -> Result<Vec<&str>, AllocError>
 }
 
 /// The lines of a label's text: at least one. Error: memory ran out.
-#[tactic(auto, unfolding(crate::specs::StubLabel::label_lines))]
+#[tactic(auto, unfolding(tt_line::specs::Labels::label_lines))]
 pub(crate) fn label_lines(alloc: Global, text: &str) -> Result<Vec<&str>, AllocError>
     ensures { IfOk result (λ v. map (λ l. l.now) v.items ≡ label_lines text.now) }
 {

@@ -19,7 +19,6 @@ mod setting;
 mod signs;
 mod text_answers;
 mod texts_messages;
-mod tt_label;
 
 pub use drawing::{draw_lines, draw_text, lines_budget};
 pub use help::label_help;
