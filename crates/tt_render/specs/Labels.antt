@@ -1,6 +1,6 @@
 -- No part of the standard: the answer of a text that is drawn as a label, by a font at a size (profile). A label is the
 -- picture of the lines of its text.
-use Rattle.std.specs.Prelude.{◌≡◌, ◌⊎◌, refl, ℕ, List, [], ◌∷◌, length, find, chars, codes, string_bytes, Option, Some, None, Result, Ok, Err, ⊤}
+use Rattle.std.specs.Prelude.{◌≡◌, ◌⊎◌, refl, ℕ, List, [], ◌∷◌, length, find, chars, string_bytes, Option, Some, None, Result, Ok, Err, ⊤}
 use Rattle.tt_advice.specs.Advice.{advice}
 use Rattle.tt_advice.specs.declared.hint.Hint.{Hint}
 use Rattle.tt_advice.specs.declared.signs.Sign.{Sign}
@@ -8,8 +8,7 @@ use Rattle.tt_advice.specs.declared.signs.Sign.TheVariants as sign
 use Rattle.tt_advice.specs.Notes.{font_notes}
 use Rattle.tt_advice.specs.Signs.{is_of}
 use Rattle.tt_cmap.specs.Lacking.{distinct_after, lacking_of}
-use Rattle.tt_cmap.specs.Lookup.{by_segments}
-use Rattle.tt_cmap.specs.Maps.{CharacterMap, strict}
+use Rattle.tt_cmap.specs.Maps.{CharacterMap}
 use Rattle.tt_core.specs.declared.collection.Reading.{Reading}
 use Rattle.tt_core.specs.declared.collection.Reading.TheVariants as reading
 use Rattle.tt_strike.specs.Refusals.{Refused, font}
@@ -152,12 +151,6 @@ abbrev pub LabelReadies : (Strike → Result TextAnswer TextRefusal) → Result 
 LabelReadies answer opened (Ok r) = (s : Strike) × (opened ≡ Ok s) × (answer s ≡ Ok (label_view r))
 LabelReadies answer opened (Err fault) = IsNotReady answer opened fault.refusal fault.line
 
--- worked values: the second line has the first tab
-its_signs : signs_of (codes "A" ∷ codes "B\t\0" ∷ []) ≡ record { control = Some 9; right_to_left = None; shaped = None; joining = None }
-unfolding is_of
-its_signs = refl
-
--- A and B have glyphs, C, D and @ have none
-of_two_lines : lines_lacking (strict (by_segments 3)) (codes "CA@" ∷ codes "B@D" ∷ []) ≡ codes "C@D"
-unfolding lacking_of
-of_two_lines = refl
+-- worked value: of three lines the second has the sign first
+the_first_line_with_the_sign : or_later None (or_later (Some 9) (or_later (Some 10) None)) ≡ Some 9
+the_first_line_with_the_sign = refl
