@@ -4,8 +4,11 @@ use Rattle.std.proofs.lemmas.List.{length-map, map-append}
 use Rattle.std.proofs.lemmas.List.Elements.{All-cons, All-nil}
 use Rattle.std.proofs.lemmas.Simd.{map-map}
 use Rattle.std.specs.List.{flat_map}
-use Rattle.std.specs.Prelude.{All}
+use Rattle.std.specs.Prelude.{All, IfSome}
 use Rattle.tt_core.specs.Chains.{came-through}
+use Rattle.tt_core.specs.declared.draw_fault.DrawFault.{DrawFault}
+use Rattle.tt_core.specs.declared.draw_fault.DrawFault.TheVariants as draw
+use Rattle.tt_core.specs.Outcomes.{GivesUnless, JobGives}
 use Rattle.tt_core.specs.declared.fault.JobFault.{JobFault}
 use Rattle.tt_label.specs.Fitted.{glyphs_in}
 use Rattle.tt_face.specs.Faces.{Face}
@@ -19,7 +22,7 @@ use Rattle.tt_line.proofs.Pens.{glyphs_by_steps}
 use Rattle.tt_metrics.specs.Metrics.{Metrics}
 use Rattle.tt_strike.specs.Job.{Job, tested}
 use Rattle.tt_strike.specs.Made.{shapes_made}
-use Rattle.tt_strike.specs.Refusals.{Refused}
+use Rattle.tt_strike.specs.Refusals.{Refused, font, job, refusal}
 use Rattle.tt_strike.specs.Work.{is_bounded}
 
 -- each line has the size of the picture
@@ -95,3 +98,24 @@ shapes_stop face a how lines r placed fails = rw placed fails
 
 pub lines_stop : (face : Face) (a : Job) (how : Align) (r : Refused) → label_placed face a how ≡ Err r → label_shapes face a how ≡ Err r
 lines_stop face a how r fails = rw fails refl
+
+-- the same of a call's error
+pub lines_tell : {X : Type 0} (view : X → List Placement) (face : Face) (a : Job) (how : Align) (d : DrawFault)
+    → GivesUnless refusal view (Err d) (label_placed face a how) → IfSome (refusal d) (λ r. label_shapes face a how ≡ Err r)
+lines_tell view face a how (draw.Font f) gives = lines_stop face a how (font f) gives
+lines_tell view face a how (draw.Job j) gives = lines_stop face a how (job j) gives
+lines_tell view face a how draw.Memory gives = tt
+
+pub shapes_tell : (face : Face) (a : Job) (how : Align) (lines : List Placement) (d : DrawFault) → label_placed face a how ≡ Ok lines
+    → IfSome (refusal d) (λ r. shapes_made face a (joint lines) ≡ Err r) → IfSome (refusal d) (λ r. label_shapes face a how ≡ Err r)
+shapes_tell face a how lines (draw.Font f) placed fails = shapes_stop face a how lines (font f) placed fails
+shapes_tell face a how lines (draw.Job j) placed fails = shapes_stop face a how lines (job j) placed fails
+shapes_tell face a how lines draw.Memory placed fails = tt
+
+-- a layout by advances that is refused
+pub refused_as_job : {X Y : Type 0} (view : X → Y) (other : X → List Placement) (wanted : Result Y JobFault) (placed : Result (List Placement) Refused)
+    (d : DrawFault) → JobGives view (Err d) wanted → ((j : JobFault) → wanted ≡ Err j → placed ≡ Err (job j))
+    → GivesUnless refusal other (Err d) placed
+refused_as_job view other wanted placed (draw.Font f) gives is = absurd gives
+refused_as_job view other wanted placed (draw.Job j) gives is = is j gives
+refused_as_job view other wanted placed draw.Memory gives is = tt

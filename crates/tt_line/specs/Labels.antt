@@ -168,7 +168,7 @@ in_the_centre : lines_laid align.Centre 0 (pos 4) (pos 1) 6 two_lines ≡ Ok (
     record { width = 8; height = 11; rise = pos 4; glyphs = (1, 1) ∷ [] }
     ∷ record { width = 8; height = 11; rise = pos 10; glyphs = (1, 0) ∷ (2, 5) ∷ [] }
     ∷ []
-)
+    )
 unfolding two_lines label_limited
 in_the_centre = refl
 
@@ -182,7 +182,7 @@ a_column_and_a_row = refl
 -- a base line above the picture
 above_the_picture : lines_laid align.Left 0 (negsuc 1) (pos 3) 2 ([] ∷ [] ∷ []) ≡ Ok (
     record { width = 1; height = 3; rise = negsuc 1; glyphs = [] } ∷ record { width = 1; height = 3; rise = pos 0; glyphs = [] } ∷ []
-)
+    )
 unfolding label_limited
 above_the_picture = refl
 

@@ -68,7 +68,10 @@ pub(crate) fn gap(metrics: &Metrics, ppem: u32) -> u32
     ensures exact { result ≡ gap_of metrics.now ppem }
     ensures bound { result ≤ 614400 }
 {
-    rounded(units_at(i32::from(metrics.line_gap()), ppem), metrics.units_per_em())
+    rounded(
+        units_at(i32::from(metrics.line_gap()), ppem),
+        metrics.units_per_em(),
+    )
 }
 
 /// The rise and the depth of a line, and so many pixels.

@@ -17,7 +17,7 @@ pub use extent::PictureExtent;
 pub use known::KnownAdvances;
 pub use layout::lay;
 pub use line::Line;
-pub use lines::{label_steps, lay_lines, move_pens, unmarked};
+pub use lines::{label_steps, lay_lines, unmarked};
 pub use pixels::advance;
 pub use steps::{advance_steps, lay_steps};
 pub use tt_core::DrawFault as LineFault;

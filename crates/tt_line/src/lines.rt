@@ -69,7 +69,7 @@ fn widest(lines: &[Vec<(u16, u32)>]) -> u64
 }
 
 /// Moves each pen to the right.
-pub fn move_pens(glyphs: &mut [(u16, u32)], right: u32)
+fn move_pens(glyphs: &mut [(u16, u32)], right: u32)
     requires { All (λ g. g.1 + right < 2 ^ 32) glyphs.old }
     ensures { glyphs.new ≡ map (λ g. (g.0, g.1 + right)) glyphs.old }
 {

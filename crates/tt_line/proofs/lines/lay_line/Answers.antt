@@ -8,7 +8,6 @@ use Rattle.tt_line.proofs.Pens.{at_pens, length-of_pairs, pens_by_steps}
 use Rattle.tt_line.proofs.lines.lay_line.Goals.{After-stand}
 use Rattle.tt_line.proofs.lines.lay_line.Goals as goal
 
-
 -- the glyphs at their pens
 glyphs_then : (c : After-stand) → (with_items c.args.steps c.stand.new.glyphs).items
     ≡ map (λ (g : ℕ × ℕ). (g.0, g.1 + c.indent-before.result)) (at_pens c.args.steps.items)
