@@ -1,4 +1,5 @@
 pub mod Known
+pub mod Labels
 pub mod Laws
 pub mod Layout
 pub mod Outcome

@@ -1,18 +1,23 @@
 //! The positions of a text line's glyphs, in pixels, and the size of its picture.
 #![tactic(auto)]
 
+mod align;
 mod extent;
 mod known;
+mod label_extent;
 pub mod laws;
 mod layout;
 mod line;
+mod lines;
 mod pixels;
 mod steps;
 
+pub use align::Align;
 pub use extent::PictureExtent;
 pub use known::KnownAdvances;
 pub use layout::lay;
 pub use line::Line;
+pub use lines::{label_steps, lay_lines, unmarked};
 pub use pixels::advance;
 pub use steps::{advance_steps, lay_steps};
 pub use tt_core::DrawFault as LineFault;

@@ -67,7 +67,7 @@ pub fn lay_steps(
 }
 
 /// The sum of the steps of some glyphs, which can exceed 32 bits.
-fn sum_of_steps(glyphs: &[(u16, u32)]) -> u64
+pub(crate) fn sum_of_steps(glyphs: &[(u16, u32)]) -> u64
     requires few { length glyphs.now ≤ text_limit }
     ensures exact { result ≡ sum (map (λ p. p.1) glyphs.now) }
     ensures bound { result < 2 ^ 45 }
@@ -80,7 +80,7 @@ fn sum_of_steps(glyphs: &[(u16, u32)]) -> u64
 }
 
 /// Puts the pen of each glyph in the place of its step.
-fn place(glyphs: &mut [(u16, u32)])
+pub(crate) fn place(glyphs: &mut [(u16, u32)])
     requires fits { sum (map (λ p. p.1) glyphs.old) ≤ width_limit }
     ensures { glyphs.new ≡ glyphs_at_pens (map (λ p. p.0) glyphs.old) (map (λ p. p.1) glyphs.old) }
 {

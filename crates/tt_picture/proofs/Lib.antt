@@ -1,6 +1,6 @@
 pub mod Alike
 pub mod Among
-mod Bands
+pub mod Bands
 pub mod Blackened
 pub mod Boxed
 pub mod Crossed
@@ -15,7 +15,7 @@ pub mod Listing
 mod Pens
 pub mod Places
 pub mod Reframed
-mod RowBytes
+pub mod RowBytes
 mod RowsCut
 pub mod RowsNeeded
 pub mod Seen

@@ -146,7 +146,7 @@ fn push_glyph(
 }
 
 /// The dropouts of some glyphs at their pens, as far as the picture has them, in order of their rows. Error: Memory.
-pub(crate) fn line_dropouts(
+pub fn line_dropouts(
     alloc: Global,
     frame: Frame,
     glyphs: &[Glyph],

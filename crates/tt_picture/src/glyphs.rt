@@ -33,7 +33,7 @@ pub struct Glyphs {
     pub places: Vec<u16>,
     pub made: Vec<Glyph>,
     /// How many pens each glyph has room for at first.
-    room: usize,
+    pub room: usize,
     /// What the line takes of the budget of a call of many lines, once its glyphs are tested.
     pub cost: u64,
 }
@@ -67,7 +67,7 @@ impl Glyphs {
     }
 
     /// The place in `made` of a glyph that is there.
-    fn place_of(&self, number: u16) -> usize
+    pub fn place_of(&self, number: u16) -> usize
         requires known { number < length self.now.places.items }
         requires places { ArePlaces self.now.places.items (numbers_of self.now.made.items) }
         requires among { is_among number (numbers_of self.now.made.items) ≡ true }
@@ -171,7 +171,7 @@ impl Glyphs {
     }
 
     /// Glyphs without a pen, at the places of a line. Error: Memory.
-    fn standing(self, line: &[(u16, u32)]) -> Result<Glyphs, AllocError>
+    pub fn standing(self, line: &[(u16, u32)]) -> Result<Glyphs, AllocError>
         requires bare { All (λ g. (g.left ≤ margin_limit) × (g.pens ≡ [])) self.made.items }
         requires places { ArePlaces self.places.items (numbers_of self.made.items) }
         requires known { All (λ g. g.0 < length self.places.items) line.now }

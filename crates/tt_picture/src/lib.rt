@@ -9,6 +9,7 @@
 //! glyph.rt      a glyph of a line: a tape of edges or cached pixels, its dropout rules and its pens
 //! glyphs.rt     the distinct glyphs of a line, made in order
 //! reframing.rt  glyphs moved into another frame
+//! copying.rt    a glyph copied into another frame
 //! counting.rt   the crossings of glyphs at their pens
 //! report.rt     the unfitted glyphs
 //! inks.rt       the boxes of glyphs' black pixels
@@ -22,6 +23,7 @@
 #![tactic(auto)]
 
 mod cache;
+mod copying;
 mod counting;
 mod cutting;
 mod dropouts;
@@ -41,6 +43,7 @@ mod rows;
 
 pub use cache::Cache;
 pub use counting::crossings;
+pub use dropouts::line_dropouts;
 pub use fitted::FittedGlyph;
 pub use fitting::{LineLimits, fit_glyphs, put_steps};
 pub use glyph::Glyph;
@@ -49,3 +52,4 @@ pub use ink_box::{InkBox, ink_at, joined};
 pub use inks::glyph_inks;
 pub use picture::Picture;
 pub use report::{Report, Unfitted, report_on};
+pub use rows::{add_dropouts, add_glyphs, most_edges};

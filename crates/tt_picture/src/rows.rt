@@ -12,7 +12,7 @@ use tt_scan::{Frame, Sweep};
 use tt_scan_dropouts::{Dropout, blacken_dropouts};
 
 /// The greatest number of edges of any of the glyphs.
-pub(crate) fn most_edges(glyphs: &[Glyph]) -> usize
+pub fn most_edges(glyphs: &[Glyph]) -> usize
     ensures { All (λ g. length (edges_of g.body) ≤ result) glyphs.now }
 {
     let mut most = 0;
@@ -48,7 +48,7 @@ pub(crate) fn whiten(band: &mut [u8])
 }
 
 /// Blackens the pixels of `count` rows from row `from` on that some glyph covers; all others are unchanged.
-pub(crate) fn add_glyphs(
+pub fn add_glyphs(
     glyphs: &mut [Glyph],
     sweep: &mut Sweep,
     frame: Frame,
@@ -69,13 +69,7 @@ pub(crate) fn add_glyphs(
 }
 
 /// Blackens the dropouts of `count` rows from row `from` on; all other pixels are unchanged.
-pub(crate) fn add_dropouts(
-    dropouts: &[Dropout],
-    frame: Frame,
-    from: u32,
-    count: u32,
-    band: &mut [u8],
-)
+pub fn add_dropouts(dropouts: &[Dropout], frame: Frame, from: u32, count: u32, band: &mut [u8])
     requires dropouts { AreDropouts frame.width dropouts.now }
     requires band { IsBandOf frame from count band.old }
     ensures { IsBandBlackened (stride frame.width) count (λ i c. nat_lt c frame.width && is_among dropouts.now c (from + i)) band.old band.new }

@@ -6,7 +6,9 @@ ghost use Rattle.clap.specs.Words.{ReadsOne, first_value, found_of, one_text};
 
 use clap::{Arg, ArgAction, ArgMatches, Command, Error, value_parser};
 use std::alloc::{AllocError, Global};
-use tt_program_decisions::{Arguments, DRAW, FITS, FULL, MISSING_WORDS, Request, request_of};
+use tt_program_decisions::{
+    ALIGNS, Arguments, BEST, DRAW, FITS, FULL, LEFT, MISSING_WORDS, Request, TELL, request_of,
+};
 
 /// The request that the words make. None where a required argument is absent. Only one description is built: that of
 /// the subcommand that is asked, or else that of the whole program, which then shows help, the version or a fault.
@@ -23,6 +25,7 @@ pub(crate) fn request<'a>(
         "measure" => measure_command(alloc)?.bin_name("tt_render measure")?,
         "map" => map_command(alloc)?.bin_name("tt_render map")?,
         "faces" => faces_command(alloc)?.bin_name("tt_render faces")?,
+        "label" => label_command(alloc)?.bin_name("tt_render label")?,
         _ => {
             program(alloc)?.try_get_matches_from(words)?;
             return Ok(None);
@@ -34,17 +37,38 @@ pub(crate) fn request<'a>(
 
 /// Describes `tt_render map [--face N] FONT TEXT`, `tt_render faces FONT`, and `draw` and `measure` with `--size N
 /// [--margin N] [--fit full|none|fallback|best] [--face N] [--missing draw|tell|refuse] [--grow]` and `FONT TEXT` or
-/// `--lines FONT`.
+/// `--lines FONT`; and `label` with `--size N [--margin N] [--align left|centre|right] [--fit best|full|none|fallback]
+/// [--face N] [--missing tell|draw|refuse]` and the same.
 fn program<'a>(alloc: Global) -> Result<Command<'a>, AllocError> {
     Command::new(alloc, "tt_render")
         .bin_name("tt_render")?
         .about("Draws lines of text from a TrueType font")
         .version("0.1.0")
         .subcommand_required(true)
+        .subcommand(label_command(alloc)?)?
         .subcommand(draw_command(alloc)?)?
         .subcommand(measure_command(alloc)?)?
         .subcommand(map_command(alloc)?)?
         .subcommand(faces_command(alloc)?)
+}
+
+fn label_command<'a>(alloc: Global) -> Result<Command<'a>, AllocError> {
+    let command = Command::new(alloc, "label")
+        .about("Writes the picture of a text for people, as binary PBM (P4)")
+        .after_help(
+            "A line feed in TEXT begins a new line of the picture.\n\
+             A TEXT that begins with '-' goes after '--':\n  tt_render label --size N FONT -- -text",
+        );
+    command
+        .arg(size(alloc))?
+        .arg(margin(alloc).help("Pixels round the lines, 0 to 64"))?
+        .arg(align(alloc))?
+        .arg(fit(alloc, BEST))?
+        .arg(face(alloc))?
+        .arg(missing(alloc, TELL))?
+        .arg(lines(alloc, "Draw each line of standard input, in place of TEXT")?)?
+        .arg(font(alloc))?
+        .arg(text(alloc).required_unless_present("lines")?)
 }
 
 fn draw_command<'a>(alloc: Global) -> Result<Command<'a>, AllocError> {
@@ -77,9 +101,9 @@ fn measure_command<'a>(alloc: Global) -> Result<Command<'a>, AllocError> {
 fn drawing<'a>(alloc: Global, to: Command<'a>, each: &'a str) -> Result<Command<'a>, AllocError> {
     to.arg(size(alloc))?
         .arg(margin(alloc))?
-        .arg(fit(alloc))?
+        .arg(fit(alloc, FULL))?
         .arg(face(alloc))?
-        .arg(missing(alloc))?
+        .arg(missing(alloc, DRAW))?
         .arg(grow(alloc))?
         .arg(lines(alloc, each)?)?
         .arg(font(alloc))?
@@ -132,12 +156,22 @@ fn margin<'a>(alloc: Global) -> Arg<'a> {
         .help("Pixels round the line, 0 to 64")
 }
 
-fn fit<'a>(alloc: Global) -> Arg<'a> {
+fn align<'a>(alloc: Global) -> Arg<'a> {
+    Arg::new(alloc, "align")
+        .long("align")
+        .value_name("SIDE")
+        .value_parser(ALIGNS.as_slice())
+        .default_value(LEFT)
+        .hide_possible_values(true)
+        .help("left, centre or right, of shorter lines")
+}
+
+fn fit<'a>(alloc: Global, default: &'a str) -> Arg<'a> {
     Arg::new(alloc, "fit")
         .long("fit")
         .value_name("HOW")
         .value_parser(FITS.as_slice())
-        .default_value(FULL)
+        .default_value(default)
         .hide_possible_values(true)
         .help(
             "How the font's own programs (hinting) are used:\n\
@@ -156,12 +190,12 @@ fn face<'a>(alloc: Global) -> Arg<'a> {
         .help("The face of the file, counted from 0; 'faces' lists them")
 }
 
-fn missing<'a>(alloc: Global) -> Arg<'a> {
+fn missing<'a>(alloc: Global, default: &'a str) -> Arg<'a> {
     Arg::new(alloc, "missing")
         .long("missing")
         .value_name("HOW")
         .value_parser(MISSING_WORDS.as_slice())
-        .default_value(DRAW)
+        .default_value(default)
         .hide_possible_values(true)
         .help(
             "What to do with a character that the font lacks:\n\

@@ -8,14 +8,41 @@ mod command;
 use crate::command::request;
 use clap::Error;
 use clap::error::ErrorKind;
+use std::fs::OpenFile;
+use std::io::Read;
 use std::process::ExitCode;
 use std::rt::{Env, Files, Stderr, Stdin};
 use std::{env, fs, io};
 use tt_core::Device;
-use tt_program_decisions::{Stop, perform, stop_of_open, stop_of_words, tell_stop};
+use tt_program_decisions::{Stop, perform, stop_of_words, tell_stop, tell_unopened};
 
 fn main(rt: HostRuntime) -> ExitCode {
     ExitCode::from(serve(&rt, rt.stdin(), rt.stderr()))
+}
+
+/// Standard input. Where the program began without one, a file that is opened takes the place of standard input, and this
+/// reader fails.
+#[derive(Drop)]
+struct Lines {
+    stdin: Stdin,
+    closed: bool,
+}
+
+impl Lines {
+    /// Standard input as it is before any file is opened. A read of no bytes fails exactly where later reads would.
+    fn new(mut stdin: Stdin) -> Lines {
+        let closed = stdin.read(&mut []).is_err();
+        Lines { stdin, closed }
+    }
+}
+
+impl Read for Lines {
+    fn read(&mut self, buf: &mut [u8]) -> io::Result<usize> {
+        if self.closed {
+            return Err(io::Error::from(io::ErrorKind::Other));
+        }
+        self.stdin.read(buf)
+    }
 }
 
 /// Reads the command line and does what it asks for; answers the exit status.
@@ -32,21 +59,32 @@ fn serve<R: Files + Env + Print + Eprint + AllocGlobal>(rt: &R, stdin: Stdin, st
         Ok(None) => return tell_stop(Stop::Incomplete, &mut errors),
         Err(error) => return tell_stop(stop_of_error(rt, &error), &mut errors),
     };
+    let lines = Lines::new(stdin);
     let file = match fs::open(rt, request.font()) {
         Ok(file) => file,
-        Err(error) => return tell_stop(stop_of_open(error.kind()), &mut errors),
+        Err(error) => return tell_unopened(rt.alloc(), &request, error.kind(), &mut errors),
     };
+    let folder = is_folder(&file);
     let mut font = Device::new(file);
-    let mut lines = Device::new(stdin);
+    let mut lines = Device::new(lines);
     let mut out = Device::new(io::writer(rt));
     perform(
         rt.alloc(),
         &request,
+        folder,
         &mut font,
         &mut lines,
         &mut out,
         &mut errors,
     )
+}
+
+/// Whether a file that was opened is a folder.
+fn is_folder<F: OpenFile>(file: &F) -> bool {
+    match file.metadata() {
+        Ok(known) => known.is_dir(),
+        Err(_) => false,
+    }
 }
 
 fn words<R: Env + AllocGlobal>(rt: &R) -> io::Result<Vec<String>> {

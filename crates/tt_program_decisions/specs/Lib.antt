@@ -2,3 +2,4 @@ pub mod FaceLines
 pub mod Requests
 pub mod Stops
 pub mod Telling
+pub mod Unopened

@@ -1,5 +1,5 @@
 -- No part of the standard: the requests of the program's command lines, and their performance.
-use Rattle.std.specs.Prelude.{◌≡◌, ℕ, Bool, true, false, List, codes, Option, Some, None, if◌then◌else◌, ⊤}
+use Rattle.std.specs.Prelude.{◌≡◌, ℕ, Bool, true, false, List, codes, Option, Some, None, is_some, IfSome, if◌then◌else◌, ⊤}
 use Rattle.std.specs.Str.{bytes_eq}
 use Rattle.tt_core.specs.declared.collection.Reading.{Reading}
 use Rattle.tt_core.specs.declared.collection.Reading.TheVariants as reading
@@ -9,7 +9,12 @@ use Rattle.tt_face.specs.Files.{IsFaceDefectBy}
 use Rattle.tt_strike.specs.Defects.{IsRunDefect}
 use Rattle.tt_render.specs.declared.setting.Missing.{Missing}
 use Rattle.tt_render.specs.declared.setting.Missing.TheVariants as missing
+use Rattle.tt_render.specs.declared.label.Label.{Label as DrawnLabel}
 use Rattle.tt_render.specs.declared.setting.Product.{Product}
+use Rattle.tt_render.specs.declared.setting.Product.TheVariants.{Picture}
+use Rattle.tt_line.specs.declared.align.Align.{Align}
+use Rattle.tt_line.specs.declared.align.Align.TheVariants as align
+use Rattle.tt_render.specs.Labels.{FontLabelGives, FontLabelsGive, HintsBy}
 use Rattle.tt_render.specs.declared.setting.Setting.{Setting}
 use Rattle.tt_render.specs.LinesDefects.{LinesTellDefectsOf}
 use Rattle.tt_render_run.specs.MapLines.{map_wanted}
@@ -18,10 +23,11 @@ use Rattle.tt_render.specs.Readings.{fit_reading, reading_asked}
 use Rattle.tt_render.specs.Settings.{job_by}
 use Rattle.tt_render.specs.TextsOutcome.{FontLinesGive, FontTextGives, TextTellsDefectsOf, reader_in}
 use Rattle.tt_program_decisions.specs.declared.request.Request.{Request}
-use Rattle.tt_program_decisions.specs.declared.request.Request.TheVariants.{Map, Faces, Text, Lines}
+use Rattle.tt_program_decisions.specs.declared.request.LabelOptions.{LabelOptions}
+use Rattle.tt_program_decisions.specs.declared.request.Request.TheVariants.{Map, Faces, Text, Lines, Label, Labels}
 use Rattle.tt_program_decisions.specs.FaceLines.{IsFacesDefect, faces_wanted}
 use Rattle.tt_render.specs.Printing.{Errors}
-use Rattle.tt_program_decisions.specs.Telling.{Does, DoesTexts}
+use Rattle.tt_program_decisions.specs.Telling.{Does, DoesLabel, DoesTexts}
 
 -- the ways to fit by their names
 abbrev pub fit_named : List ℕ → Option Fit
@@ -37,6 +43,13 @@ missing_named name =
     if bytes_eq name (codes "draw") then Some missing.Draw
     else (if bytes_eq name (codes "tell") then Some missing.Tell
     else (if bytes_eq name (codes "refuse") then Some missing.Refuse else None))
+
+-- the sides of lines by their names
+abbrev pub align_named : List ℕ → Option Align
+align_named name =
+    if bytes_eq name (codes "left") then Some align.Left
+    else (if bytes_eq name (codes "centre") then Some align.Centre
+    else (if bytes_eq name (codes "right") then Some align.Right else None))
 
 -- the limit of the cache of glyphs from line to line, in bytes
 abbrev pub glyphs_kept : ℕ
@@ -64,19 +77,36 @@ options_asked (Some size) (Some margin) (Some how) (Some what) grows face wanted
     setting_named size margin (fit_named how) (missing_named what) grows face wanted
 options_asked size margin how what grows face wanted = None
 
+-- the options of `label`, where all names are known
+abbrev pub label_named : ℕ → ℕ → Option Align → Option Fit → Option Missing → Option ℕ → Option LabelOptions
+label_named n m (Some a) (Some f) (Some w) face =
+    Some (record { size = n; margin = m; align = a; fit = f; missing = w; face = face })
+label_named n m a f w face = None
+
+-- `--size SIZE --margin MARGIN --align ALIGN --fit FIT --missing MISSING`, and `--face FACE`; options may be absent
+abbrev pub label_options_asked
+    : Option ℕ → Option ℕ → Option (List ℕ) → Option (List ℕ) → Option (List ℕ) → Option ℕ → Option LabelOptions
+label_options_asked (Some n) (Some m) (Some side) (Some how) (Some what) face =
+    label_named n m (align_named side) (fit_named how) (missing_named what) face
+label_options_asked n m side how what face = None
+
 -- The requests, each with its font: the lines that map a text; the lines of the file's faces; the product of a text with
--- a setting; the products of the lines of standard input.
+-- a setting; the products of the lines of standard input; the label of a text; the labels of the lines of standard input.
 pub data Asked : Type 0 where
   map_text : List ℕ → List ℕ → Reading → Asked
   tell_faces : List ℕ → Asked
   draw_text : List ℕ → List ℕ → Setting → Asked
   draw_lines : List ℕ → Setting → Asked
+  draw_label : List ℕ → List ℕ → LabelOptions → Asked
+  draw_labels : List ℕ → LabelOptions → Asked
 
 abbrev pub asked_of : Request → Asked
 asked_of (Map font text r) = map_text font.now text.now r
 asked_of (Faces font) = tell_faces font.now
 asked_of (Text font text setting) = draw_text font.now text.now setting
 asked_of (Lines font setting) = draw_lines font.now setting
+asked_of (Label font text options) = draw_label font.now text.now options
+asked_of (Labels font options) = draw_labels font.now options
 
 -- `map [--face FACE] FONT TEXT`; words may be absent
 abbrev pub map_asked : Option (List ℕ) → Option (List ℕ) → Option ℕ → Option Asked
@@ -94,6 +124,13 @@ abbrev pub draw_asked : Option (List ℕ) → Option (List ℕ) → Bool → Opt
 draw_asked (Some font) (Some text) false (Some s) = Some (draw_text font text s)
 draw_asked (Some font) None true (Some s) = Some (draw_lines font s)
 draw_asked font text lines s = None
+
+-- `label OPTION.. FONT TEXT`, or with standard input's lines `label OPTION.. --lines FONT`; words and options may be
+-- absent
+abbrev pub label_asked : Option (List ℕ) → Option (List ℕ) → Bool → Option LabelOptions → Option Asked
+label_asked (Some font) (Some text) false (Some o) = Some (draw_label font text o)
+label_asked (Some font) None true (Some o) = Some (draw_labels font o)
+label_asked font text lines o = None
 
 -- the setting of `draw`, or of `measure`, by its arguments: a name's text, its number, and whether its flag is set
 abbrev pub AsksSetting
@@ -119,28 +156,74 @@ AsksDrawing text IsNumber IsFlag wanted answer =
     × IsFlag (codes "lines") lines
     × (answer ≡ draw_asked (text (codes "FONT")) (text (codes "TEXT")) lines setting)
 
+-- the options of `label` by its arguments
+abbrev pub AsksLabelOptions : (List ℕ → Option (List ℕ)) → (List ℕ → Option ℕ → Type 0) → Option LabelOptions → Type 0
+AsksLabelOptions text IsNumber answer =
+    (size margin face : Option ℕ) × IsNumber (codes "size") size × IsNumber (codes "margin") margin
+    × IsNumber (codes "face") face
+    × (answer ≡ label_options_asked size margin (text (codes "align")) (text (codes "fit")) (text (codes "missing")) face)
+
+-- the request of `label` by its arguments
+abbrev pub AsksLabel
+    : (List ℕ → Option (List ℕ)) → (List ℕ → Option ℕ → Type 0) → (List ℕ → Bool → Type 0) → Option Asked → Type 0
+AsksLabel text IsNumber IsFlag answer =
+    (options : Option LabelOptions) × (lines : Bool) × AsksLabelOptions text IsNumber options
+    × IsFlag (codes "lines") lines
+    × (answer ≡ label_asked (text (codes "FONT")) (text (codes "TEXT")) lines options)
+
+-- the setting of a label with these options: glyphs of any face of any font
+abbrev pub label_setting : LabelOptions → Setting
+label_setting o = record {
+  ppem = o.size;
+  margin = o.margin;
+  fit = o.fit;
+  reading = reading_asked o.face (reading.Wide 0);
+  missing = o.missing;
+  grow = true;
+  product = Picture;
+  most = glyphs_kept;
+}
+
+-- how a label with these options is drawn by the font of a path
+pub record IsLabelFor (font : List ℕ) (o : LabelOptions) (l : DrawnLabel) : Type 0 where
+  pub setting : l.setting ≡ label_setting o
+  pub align : l.align ≡ o.align
+  pub path : l.path.now ≡ font
+  pub given : l.face_given ≡ is_some o.face
+
 -- the path of a request's font
 abbrev pub font_of : Request → List ℕ
 font_of (Map font text r) = font.now
 font_of (Faces font) = font.now
 font_of (Text font text setting) = font.now
 font_of (Lines font setting) = font.now
+font_of (Label font text options) = font.now
+font_of (Labels font options) = font.now
 
 -- a request is performed and reported: the contract of its call holds for some answer. For the lines that map a text, or
 -- tell faces: the bytes to write for a font file, and the defects for which it is refused. The second traffic is that of
--- standard input, and of the writer again
-abbrev pub Performs : Request → Traffic → Traffic → Errors → ℕ → Type 0
-Performs (Map font text r) t lines e status =
+-- standard input, and of the writer again. The Boolean says whether the font's path is that of a folder
+abbrev pub Performs : Request → Bool → Traffic → Traffic → Errors → ℕ → Type 0
+Performs (Map font text r) folder t lines e status =
     Does (map_wanted r text.now) (λ file. IsFaceDefectBy file r) t e status
-Performs (Faces font) t lines e status = Does faces_wanted IsFacesDefect t e status
-Performs (Text font text setting) t lines e status =
+Performs (Faces font) folder t lines e status = Does faces_wanted IsFacesDefect t e status
+Performs (Text font text setting) folder t lines e status =
     DoesTexts {V = Unit {0}} (λ answer told. FontTextGives setting text.now answer t told
     × TextTellsDefectsOf t.left_before (IsRunDefect setting.reading (job_by setting text.now)) answer) e status
-Performs (Lines font setting) t lines e status =
+Performs (Lines font setting) folder t lines e status =
     DoesTexts {V = ℕ} (λ answer told. FontLinesGive setting answer (reader_in t) lines told
     × LinesTellDefectsOf t.left_before setting lines.left_before answer) e status
+Performs (Label font text options) folder t lines e status =
+    (l : DrawnLabel) × IsLabelFor font.now options l
+    × DoesLabel (λ drawn told. FontLabelGives l text.now drawn.answer t told
+    × IfSome t.left_before (HintsBy l drawn)) l folder e status
+Performs (Labels font options) folder t lines e status =
+    (l : DrawnLabel) × IsLabelFor font.now options l
+    × DoesLabel (λ drawn told. FontLabelsGive l drawn.answer (reader_in t) lines told
+    × IfSome t.left_before (HintsBy l drawn)) l folder e status
 
 -- a property that holds unless the request is for standard input's lines
 abbrev pub UnlessLines : Request → Type 0 → Type 0
 UnlessLines (Lines font setting) P = ⊤
+UnlessLines (Labels font options) P = ⊤
 UnlessLines r P = P

@@ -1,6 +1,7 @@
 -- No part of the standard: the program's report of an answer, by its exit status and on standard error.
 use Rattle.std.specs.Prelude.{◌≡◌, ◌⊎◌, ℕ, Bool, true, false, List, ◌++◌, codes, Option, Result, Ok, Err}
 use Rattle.std.specs.Io.KnownBytes.{Keeps}
+use Rattle.tt_advice.specs.declared.hint.Hint.{Hint}
 use Rattle.tt_core.specs.Faults.{Fault}
 use Rattle.tt_render_run.specs.declared.fault.RunFault.{RunFault}
 use Rattle.tt_render_run.specs.declared.fault.RunFault.TheVariants as run
@@ -8,17 +9,24 @@ use Rattle.tt_render_run.specs.Defects.{TellsDefectsOf}
 use Rattle.tt_render_run.specs.Outcome.{CallGives, Traffic, Wanted}
 use Rattle.tt_render.specs.Printing.{Errors, Prints, PrintsNothing}
 use Rattle.tt_render.specs.TextsMessages.{texts_line_of, texts_status_of}
+use Rattle.tt_render.specs.declared.label.Label.{Label}
+use Rattle.tt_render.specs.declared.label.Labelled.{Labelled}
 use Rattle.tt_render.specs.declared.refusal.TextsFault.{TextsFault}
+use Rattle.tt_render.specs.Help.{label_help}
 use Rattle.tt_render_run.specs.Messages.{line_of, status_of}
 
 -- the status and the line of one fault
 abbrev pub TellsFault : RunFault → ℕ → Errors → Type 0
 TellsFault fault status e = (status ≡ status_of fault) × Prints e (line_of fault ++ codes "\n")
 
--- a line is printed, with this status; if memory is refused for the line, the program reports that instead
+-- a text is printed, with this status; if memory is refused for the text, the program reports that instead
+abbrev pub TellsText : List ℕ → ℕ → ℕ → Errors → Type 0
+TellsText text status_then status e =
+    ((status ≡ status_then) × Prints e text) ⊎ TellsFault run.Memory status e
+
+-- the same of a line
 abbrev pub TellsLine : List ℕ → ℕ → ℕ → Errors → Type 0
-TellsLine line status_then status e =
-    ((status ≡ status_then) × Prints e (line ++ codes "\n")) ⊎ TellsFault run.Memory status e
+TellsLine line status_then status e = TellsText (line ++ codes "\n") status_then status e
 
 -- an answer of `map` is reported; nothing is printed where it is Ok
 abbrev pub Tells : {V : Type 0} → Result V RunFault → ℕ → Errors → Type 0
@@ -55,3 +63,31 @@ pub record DoesTexts {V : Type 0} (Gives : Result V TextsFault → Errors → Ty
     pub had_failed : Bool
     pub outcome : Gives answer (record { before = e.before; after = between; failed = had_failed })
     pub told : TellsTexts had_failed answer status (record { before = between; after = e.after; failed = e.failed })
+
+-- the text about a refused label: the line of the refusal, and then the line that tells a person what to do, if there is
+-- one
+abbrev pub label_lines_of : Label → Bool → TextsFault → Option Hint → List ℕ
+label_lines_of l folder fault hint = (texts_line_of fault ++ codes "\n") ++ label_help l folder fault hint
+
+-- it is reported as the refusal of a text, by the same status
+abbrev pub TellsLabelFailure : Bool → Label → Bool → Option Hint → TextsFault → ℕ → Errors → Type 0
+TellsLabelFailure false l folder hint fault status e =
+    TellsText (label_lines_of l folder fault hint) (texts_status_of fault) status e
+TellsLabelFailure true l folder hint fault status e =
+    (status ≡ texts_status_of fault) × Keeps e.before e.after × (e.failed ≡ true)
+
+abbrev pub TellsLabel : Bool → Label → Bool → Option Hint → Result (Unit {0}) TextsFault → ℕ → Errors → Type 0
+TellsLabel had_failed l folder hint (Ok v) status e =
+    (status ≡ 0) × Keeps e.before e.after × (e.failed ≡ had_failed)
+TellsLabel had_failed l folder hint (Err fault) status e = TellsLabelFailure had_failed l folder hint fault status e
+
+-- a call that draws labels gave some answer, with its contract about the devices, and the program reported that answer
+-- after what the call had printed
+pub record DoesLabel (Gives : Labelled → Errors → Type 0) (l : Label) (folder : Bool) (e : Errors) (status : ℕ) : Type 0
+  where
+    pub drawn : Labelled
+    pub between : Option (List ℕ)
+    pub had_failed : Bool
+    pub outcome : Gives drawn (record { before = e.before; after = between; failed = had_failed })
+    pub told : TellsLabel had_failed l folder drawn.hint drawn.answer status
+        (record { before = between; after = e.after; failed = e.failed })

@@ -2,15 +2,19 @@
 #![tactic(auto)]
 
 mod faces;
+mod labelling;
 mod performing;
 mod request;
 mod stopping;
 mod telling;
+mod telling_labels;
 mod telling_texts;
+mod unopened;
 
 pub use performing::perform;
 pub use request::{
-    Arguments, DRAW, FITS, FULL, GLYPHS_KEPT, MISSING_WORDS, Request, fit_named, missing_named,
-    request_of,
+    ALIGNS, Arguments, BEST, DRAW, FITS, FULL, GLYPHS_KEPT, LEFT, LabelOptions, MISSING_WORDS,
+    Request, TELL, align_named, fit_named, missing_named, request_of,
 };
 pub use stopping::{Stop, stop_of_open, stop_of_words, tell_stop};
+pub use unopened::tell_unopened;

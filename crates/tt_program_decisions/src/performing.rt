@@ -6,17 +6,20 @@ ghost use Rattle.tt_render_run.specs.Outcome.{traffic_of};
 ghost use Rattle.tt_render.specs.Printing.{errors_of};
 
 use crate::faces::faces;
+use crate::labelling::label_for;
 use crate::request::Request;
 use crate::telling::tell;
+use crate::telling_labels::tell_label;
 use crate::telling_texts::tell_texts;
 use std::alloc::Global;
 use tt_core::{Sink, Source};
 
 /// Performs a request, and reports on standard error the unfitted glyphs and, where requested, the characters without a
-/// glyph, or a fault. Returns the exit status.
+/// glyph, or a fault. `folder` says whether the font's path is that of a folder. Returns the exit status.
 pub fn perform<R: Source, L: Source, W: Sink, E: Sink>(
     alloc: Global,
     request: &Request,
+    folder: bool,
     font: &mut R,
     lines: &mut L,
     out: &mut W,
@@ -28,7 +31,7 @@ pub fn perform<R: Source, L: Source, W: Sink, E: Sink>(
     requires error { E.has_failed error.old ≡ false }
     ensures bound { result ≤ 5 }
     // For some answer the call's contract about the devices holds, and the status and the lines report that answer.
-    ensures outcome { Performs request.now (traffic_of R.left R.has_failed W.written W.has_failed font.old font.new out.old out.new) (traffic_of L.left L.has_failed W.written W.has_failed lines.old lines.new out.old out.new) (errors_of E.written E.has_failed error.old error.new) result }
+    ensures outcome { Performs request.now folder (traffic_of R.left R.has_failed W.written W.has_failed font.old font.new out.old out.new) (traffic_of L.left L.has_failed W.written W.has_failed lines.old lines.new out.old out.new) (errors_of E.written E.has_failed error.old error.new) result }
     ensures lines { UnlessLines request.now (lines.new ≡ lines.old) }
 {
     match request {
@@ -47,6 +50,23 @@ pub fn perform<R: Source, L: Source, W: Sink, E: Sink>(
         Request::Lines { setting, .. } => {
             let drawn = tt_render::draw_lines(alloc, font, lines, out, error, setting);
             tell_texts(alloc, &drawn, error)
+        }
+        Request::Label {
+            font: path,
+            text,
+            options,
+        } => {
+            let label = label_for(path, options);
+            let drawn = tt_render::draw_label(alloc, font, out, error, text, &label);
+            tell_label(alloc, &drawn, &label, folder, error)
+        }
+        Request::Labels {
+            font: path,
+            options,
+        } => {
+            let label = label_for(path, options);
+            let drawn = tt_render::draw_labels(alloc, font, lines, out, error, &label);
+            tell_label(alloc, &drawn, &label, folder, error)
         }
     }
 }

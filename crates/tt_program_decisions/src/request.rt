@@ -2,11 +2,11 @@
 
 ghost use Rattle.std.specs.Prelude.{◌≡◌, ◌≢◌, ℕ, Bool, List, Option, None, codes, option_map};
 ghost use Rattle.tt_render.specs.declared.setting.Product.TheVariants.{Measure, Picture};
-ghost use Rattle.tt_program_decisions.specs.Requests.{AsksDrawing, AsksMap, AsksSetting, asked_of, faces_asked, fit_named, font_of, missing_named};
+ghost use Rattle.tt_program_decisions.specs.Requests.{AsksDrawing, AsksLabel, AsksLabelOptions, AsksMap, AsksSetting, align_named, asked_of, faces_asked, fit_named, font_of, missing_named};
 
 use tt_core::Reading;
 use tt_fit::Fit;
-use tt_render::{Missing, Product, Setting, fit_reading, reading_asked};
+use tt_render::{Align, Missing, Product, Setting, fit_reading, reading_asked};
 
 /// The request of a command line.
 #[derive(Clone, Copy)]
@@ -32,6 +32,29 @@ pub enum Request<'a> {
         font: &'a str,
         setting: Setting,
     },
+    /// Draw a text for people.
+    Label {
+        font: &'a str,
+        text: &'a str,
+        options: LabelOptions,
+    },
+    /// Draw each line of standard input for people.
+    Labels {
+        font: &'a str,
+        options: LabelOptions,
+    },
+}
+
+/// The options of `label`.
+#[derive(Clone, Copy)]
+pub struct LabelOptions {
+    pub size: u32,
+    pub margin: u32,
+    pub align: Align,
+    pub fit: Fit,
+    pub missing: Missing,
+    /// The number of the face, if one is asked for.
+    pub face: Option<u32>,
 }
 
 impl<'a> Request<'a> {
@@ -43,7 +66,9 @@ impl<'a> Request<'a> {
             Request::Map { font, .. }
             | Request::Faces { font }
             | Request::Text { font, .. }
-            | Request::Lines { font, .. } => font,
+            | Request::Lines { font, .. }
+            | Request::Label { font, .. }
+            | Request::Labels { font, .. } => font,
         }
     }
 }
@@ -79,13 +104,15 @@ pub fn request_of<'a, A: Arguments<'a>>(subcommand: &str, arguments: &A) -> Opti
     ensures faces { subcommand.now ≡ codes "faces" → option_map asked_of result ≡ faces_asked (A.text arguments.now (codes "FONT")) }
     ensures draw { subcommand.now ≡ codes "draw" → AsksDrawing (A.text arguments.now) (A.IsNumber arguments.now) (A.IsFlag arguments.now) Picture (option_map asked_of result) }
     ensures measure { subcommand.now ≡ codes "measure" → AsksDrawing (A.text arguments.now) (A.IsNumber arguments.now) (A.IsFlag arguments.now) Measure (option_map asked_of result) }
-    ensures other { subcommand.now ≢ codes "map" → subcommand.now ≢ codes "faces" → subcommand.now ≢ codes "draw" → subcommand.now ≢ codes "measure" → result ≡ None }
+    ensures label { subcommand.now ≡ codes "label" → AsksLabel (A.text arguments.now) (A.IsNumber arguments.now) (A.IsFlag arguments.now) (option_map asked_of result) }
+    ensures other { subcommand.now ≢ codes "map" → subcommand.now ≢ codes "faces" → subcommand.now ≢ codes "draw" → subcommand.now ≢ codes "measure" → subcommand.now ≢ codes "label" → result ≡ None }
 {
     match subcommand {
         "map" => map_of(arguments),
         "faces" => faces_of(arguments.text_for("FONT")),
         "draw" => drawing_of(arguments, Product::Picture),
         "measure" => drawing_of(arguments, Product::Measure),
+        "label" => labelling_of(arguments),
         _ => None,
     }
 }
@@ -116,6 +143,35 @@ fn drawing_of<'a, A: Arguments<'a>>(arguments: &A, product: Product) -> Option<R
                 return None;
             }
             Some(Request::Lines { font, setting })
+        }
+    }
+}
+
+/// The request `label OPTION.. FONT TEXT` or `label OPTION.. --lines FONT`, where its words and options are present.
+fn labelling_of<'a, A: Arguments<'a>>(arguments: &A) -> Option<Request<'a>>
+    ensures { AsksLabel (A.text arguments.now) (A.IsNumber arguments.now) (A.IsFlag arguments.now) (option_map asked_of result) }
+{
+    let text = arguments.text_for("TEXT");
+    let lines = arguments.is_set("lines");
+    let options = label_options_of(arguments);
+    let font = arguments.text_for("FONT")?;
+    let options = options?;
+    match text {
+        Some(text) => {
+            if lines {
+                return None;
+            }
+            Some(Request::Label {
+                font,
+                text,
+                options,
+            })
+        }
+        None => {
+            if !lines {
+                return None;
+            }
+            Some(Request::Labels { font, options })
         }
     }
 }
@@ -173,14 +229,59 @@ fn setting_of<'a, A: Arguments<'a>>(arguments: &A, product: Product) -> Option<S
     })
 }
 
-/// The default way to fit.
+/// The options `--size SIZE --margin MARGIN --align ALIGN --fit FIT --missing MISSING`, where all are present, and
+/// `--face FACE`, which may be absent. None where the name of a side, of the way to fit, or of the treatment of missing
+/// glyphs, is unknown.
+fn label_options_of<'a, A: Arguments<'a>>(arguments: &A) -> Option<LabelOptions>
+    ensures { AsksLabelOptions (A.text arguments.now) (A.IsNumber arguments.now) result }
+{
+    let size = arguments.number_for("size");
+    let margin = arguments.number_for("margin");
+    let align = arguments.text_for("align");
+    let fit = arguments.text_for("fit");
+    let missing = arguments.text_for("missing");
+    let face = arguments.number_for("face");
+    Some(LabelOptions {
+        size: size?,
+        margin: margin?,
+        align: align_named(align?)?,
+        fit: fit_named(fit?)?,
+        missing: missing_named(missing?)?,
+        face,
+    })
+}
+
+/// The default side of lines.
+pub const LEFT: &str = "left";
+
+const CENTRE: &str = "centre";
+
+const RIGHT: &str = "right";
+
+/// The words of `--align`.
+pub static ALIGNS: [&str; 3] = [LEFT, CENTRE, RIGHT];
+
+/// The side that has this name.
+pub fn align_named(name: &str) -> Option<Align>
+    ensures { result ≡ align_named name.now }
+{
+    match name {
+        LEFT => Some(Align::Left),
+        CENTRE => Some(Align::Centre),
+        RIGHT => Some(Align::Right),
+        _ => None,
+    }
+}
+
+/// The default way to fit of programs.
 pub const FULL: &str = "full";
 
 const NONE: &str = "none";
 
 const FALLBACK: &str = "fallback";
 
-const BEST: &str = "best";
+/// The default way to fit of people.
+pub const BEST: &str = "best";
 
 /// The words of `--fit`.
 pub static FITS: [&str; 4] = [FULL, NONE, FALLBACK, BEST];
@@ -201,7 +302,8 @@ pub fn fit_named(name: &str) -> Option<Fit>
 /// The default treatment of characters without a glyph.
 pub const DRAW: &str = "draw";
 
-const TELL: &str = "tell";
+/// What is done about them for people.
+pub const TELL: &str = "tell";
 
 const REFUSE: &str = "refuse";
 

@@ -2,7 +2,7 @@
 
 ghost use Rattle.std.specs.Prelude.{◌≡◌, ℕ, ◌≤◌, ◌++◌, false, List, codes, string_bytes, IfOk};
 ghost use Rattle.tt_render.specs.Printing.{errors_of};
-ghost use Rattle.tt_program_decisions.specs.Telling.{Tells, TellsLine};
+ghost use Rattle.tt_program_decisions.specs.Telling.{Tells, TellsLine, TellsText};
 
 use std::alloc::{AllocError, Global};
 use tt_core::Sink;
@@ -32,7 +32,17 @@ pub(crate) fn tell_line<E: Sink>(line: Result<String, AllocError>, code: u8, err
     ensures bound { result ≤ 5 }
     ensures told { (text : List ℕ) → IfOk line (λ l. string_bytes l ≡ text) → TellsLine text code result (errors_of E.written E.has_failed error.old error.new) }
 {
-    match ended(line) {
+    tell_text(ended(line), code, error)
+}
+
+/// Prints a text, and returns an exit status. Where memory is refused for the text, reports that instead.
+pub(crate) fn tell_text<E: Sink>(text: Result<String, AllocError>, code: u8, error: &mut E) -> u8
+    requires status { code ≤ 5 }
+    requires error { E.has_failed error.old ≡ false }
+    ensures bound { result ≤ 5 }
+    ensures told { (told : List ℕ) → IfOk text (λ t. string_bytes t ≡ told) → TellsText told code result (errors_of E.written E.has_failed error.old error.new) }
+{
+    match text {
         Ok(text) => {
             print_text(error, &text);
             code

@@ -8,6 +8,9 @@ mod MeasureLines
 mod DefectLines
 mod OneText
 mod TextsReports
+mod LabelCalls
+mod LabelLines
+mod LabelTexts
 mod Runs
 mod JobRefusals
 mod Plain

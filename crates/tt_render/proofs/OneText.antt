@@ -17,7 +17,7 @@ use Rattle.tt_render.specs.Printing.{Errors, Prints, PrintsNothing}
 use Rattle.tt_render_run.specs.Reading.{FontIsRead, ReadFails}
 use Rattle.tt_render.specs.Reports.{told_of}
 use Rattle.tt_render.specs.Settings.{job_by, strike_of}
-use Rattle.tt_render.specs.TextsOutcome.{FontTextGives, IsNotReady, IsOfText, IsAtFont, IsAtText, IsSilent, ReadiesText, TextTellsDefects, TextTellsDefectsOf, reader_in, refusal_font_fault, told}
+use Rattle.tt_render.specs.TextsOutcome.{FontAnswers, IsNotReady, IsOfText, IsAtFont, IsAtText, IsSilent, ReadiesText, TextTellsDefects, TextTellsDefectsOf, reader_in, refusal_font_fault, told}
 use Rattle.tt_render.specs.Products.{product_of}
 use Rattle.tt_render.specs.Texts.{TextAnswer, TextRefusal, text_answer}
 use Rattle.tt_render.specs.Views.{before_lines, refusal_of_draw, refusal_of_run}
@@ -52,9 +52,9 @@ strike_stops answer opened a (draw.Job j) good refused =
 strike_stops answer opened a draw.Memory good refused = tt
 
 -- a refusal of the text stops the call
-pub text_stops : (answer : Strike → Result TextAnswer TextRefusal) (opened : Result Strike Refused) (s : Strike)
+pub text_stops : {V : Type 0} (answer : Strike → Result TextAnswer TextRefusal) (opened : Result Strike Refused) (s : Strike)
     (why : Refusal) → opened ≡ Ok s → IfSome (told why) (λ e. answer s ≡ Err e)
-    → IsOfText {V = ReadyText} (Err why) → ReadiesText answer opened (Err (before_lines why))
+    → IsOfText {V = V} (Err why) → ReadiesText answer opened (Err (before_lines why))
 text_stops answer opened s (reason.Font f) is refused serves = inr (s, _, is, refl, refused)
 text_stops answer opened s (reason.Job j) is refused serves = inr (s, _, is, refl, refused)
 text_stops answer opened s reason.NotUtf8 is refused serves = inr (s, _, is, refl, refused)
@@ -67,28 +67,28 @@ text_stops answer opened s reason.Many is refused serves = absurd serves
 text_stops answer opened s reason.Memory is refused serves = tt
 
 -- a text that is refused by its font's tables, or by its own answer
-at_font : (a : Setting) (text file : List ℕ) (why : Refusal) (t : Traffic) (errors : Errors)
+at_font : (a : Setting) (answer : Strike → Result TextAnswer TextRefusal) (text file : List ℕ) (why : Refusal) (t : Traffic) (errors : Errors)
     → tested (job_by a text) ≡ Ok tt → FontIsRead (reader_in t) file → IsAtFont (strike_of a file) why
-    → IsSilent t errors → FontTextGives {V = Unit {0}} a text (Err (before_lines why)) t errors
-at_font a text file why t errors good read (f, is, opened) silent = rw is (inl ((good, file, read, opened), silent))
+    → IsSilent t errors → FontAnswers {V = Unit {0}} a answer text (Err (before_lines why)) t errors
+at_font a answer text file why t errors good read (f, is, opened) silent = rw is (inl ((good, file, read, opened), silent))
 
-at_text : (a : Setting) (text file : List ℕ) (f : Fault) (t : Traffic) (errors : Errors) → tested (job_by a text) ≡ Ok tt
-    → FontIsRead (reader_in t) file → IsAtText (λ s. text_answer a s text) (strike_of a file) (reason.Font f)
-    → IsSilent t errors → FontTextGives {V = Unit {0}} a text (Err (before_lines (reason.Font f))) t errors
-at_text a text file f t errors good read (s, r, opened, tells, answers) silent =
+at_text : (a : Setting) (answer : Strike → Result TextAnswer TextRefusal) (text file : List ℕ) (f : Fault) (t : Traffic) (errors : Errors) → tested (job_by a text) ≡ Ok tt
+    → FontIsRead (reader_in t) file → IsAtText answer (strike_of a file) (reason.Font f)
+    → IsSilent t errors → FontAnswers {V = Unit {0}} a answer text (Err (before_lines (reason.Font f))) t errors
+at_text a answer text file f t errors good read (s, r, opened, tells, answers) silent =
     inr (good, file, read, s, opened, (r, tells, answers, silent))
 
 -- so it stops the call
-pub text_fails : (a : Setting) (text file : List ℕ) (e : TextsFault) (t : Traffic) (errors : Errors)
+pub text_fails : (a : Setting) (answer : Strike → Result TextAnswer TextRefusal) (text file : List ℕ) (e : TextsFault) (t : Traffic) (errors : Errors)
     → tested (job_by a text) ≡ Ok tt → FontIsRead (reader_in t) file
-    → ReadiesText (λ s. text_answer a s text) (strike_of a file) (Err e) → IsSilent t errors
-    → FontTextGives {V = Unit {0}} a text (Err e) t errors
-text_fails a text file e t errors good read why silent = by e.refusal e.line why
+    → ReadiesText answer (strike_of a file) (Err e) → IsSilent t errors
+    → FontAnswers {V = Unit {0}} a answer text (Err e) t errors
+text_fails a answer text file e t errors good read why silent = by e.refusal e.line why
   where
-    by : (r : Refusal) (line : Option ℕ) → IsNotReady (λ s. text_answer a s text) (strike_of a file) r line
-        → FontTextGives {V = Unit {0}} a text (Err (record { line = line; refusal = r })) t errors
-    by (reason.Font f) None (inl font) = at_font a text file (reason.Font f) t errors good read font silent
-    by (reason.Font f) None (inr answer) = at_text a text file f t errors good read answer silent
+    by : (r : Refusal) (line : Option ℕ) → IsNotReady answer (strike_of a file) r line
+        → FontAnswers {V = Unit {0}} a answer text (Err (record { line = line; refusal = r })) t errors
+    by (reason.Font f) None (inl font) = at_font a answer text file (reason.Font f) t errors good read font silent
+    by (reason.Font f) None (inr answer) = at_text a answer text file f t errors good read answer silent
     by (reason.Job j) None (inl (f, is, opened)) = absurd cc
     by (reason.Job j) None (inr (s, r, opened, tells, answers)) =
         inr (good, file, read, s, opened, (r, tells, answers, silent))
@@ -129,19 +129,21 @@ silent left rest out error read write failed serves prints =
     ((keeps_itself out, serves), (keeps_itself error, prints))
 
 -- the output of a text was written, and its report printed
-pub text_written : (a : Setting) (text file : List ℕ) (s : Strike) (answer : TextAnswer) (t : Traffic) (e : Errors)
+pub text_written : (a : Setting) (answers : Strike → Result TextAnswer TextRefusal) (text file : List ℕ) (s : Strike)
+    (answer : TextAnswer) (t : Traffic) (e : Errors)
     → tested (job_by a text) ≡ Ok tt → FontIsRead (reader_in t) file → strike_of a file ≡ Ok s
-    → text_answer a s text ≡ Ok answer → SendsAll t answer.bytes → WriterServes t → Prints e (told_of None answer)
-    → FontTextGives {V = Unit {0}} a text (Ok tt) t e
-text_written a text file s answer t e good read opened made sent serves printed =
+    → answers s ≡ Ok answer → SendsAll t answer.bytes → WriterServes t → Prints e (told_of None answer)
+    → FontAnswers {V = Unit {0}} a answers text (Ok tt) t e
+text_written a answers text file s answer t e good read opened made sent serves printed =
     inr (good, file, read, s, opened, (answer, made, sent, serves, printed))
 
 -- a front of it was written, and no report
-pub text_cut : (a : Setting) (text file : List ℕ) (s : Strike) (answer : TextAnswer) (sent : ℕ) (t : Traffic)
+pub text_cut : (a : Setting) (answers : Strike → Result TextAnswer TextRefusal) (text file : List ℕ) (s : Strike)
+    (answer : TextAnswer) (sent : ℕ) (t : Traffic)
     (e : Errors) → tested (job_by a text) ≡ Ok tt → FontIsRead (reader_in t) file → strike_of a file ≡ Ok s
-    → text_answer a s text ≡ Ok answer → SendsFirst sent t answer.bytes → WriterFails t → PrintsNothing e
-    → FontTextGives {V = Unit {0}} a text (Err (before_lines (reason.Write sent))) t e
-text_cut a text file s answer sent t e good read opened made first fails silent =
+    → answers s ≡ Ok answer → SendsFirst sent t answer.bytes → WriterFails t → PrintsNothing e
+    → FontAnswers {V = Unit {0}} a answers text (Err (before_lines (reason.Write sent))) t e
+text_cut a answers text file s answer sent t e good read opened made first fails silent =
     inr (good, file, read, s, opened, (answer, made, first, fails, silent))
 
 -- a failure to make a strike names no defect

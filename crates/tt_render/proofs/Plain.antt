@@ -110,7 +110,7 @@ with_parts (Ok bytes) (Err why) lacking taken t is = absurd cc
 with_parts (Ok bytes) (Ok entries) (Err why) taken t is = absurd cc
 with_parts (Ok bytes) (Ok entries) (Ok cs) (Err why) t is = absurd cc
 with_parts (Ok bytes) (Ok entries) (Ok cs) (Ok n) t is =
-    let same : record { bytes = bytes; unfitted = entries; lacking = cs; cost = n } ≡ t = cc in
+    let same : record { bytes = bytes; unfitted = entries; lacking = cs; cost = n; label = None } ≡ t = cc in
     (ap (λ (t : TextAnswer). Ok t.unfitted) same, ap (λ (t : TextAnswer). Ok t.lacking) same)
 
 parts_of : (a : Setting) (s : Strike) (text : List ℕ) (t : TextAnswer) → text_answer a s text ≡ Ok t

@@ -4,20 +4,17 @@ use Rattle.std.proofs.lemmas.List.{take_at}
 use Rattle.std.specs.Io.KnownBytes.{Appends}
 use Rattle.tt_core.specs.declared.fault.JobFault.TheVariants as fault
 use Rattle.tt_strike.specs.Refusals.{job}
-use Rattle.tt_strike.specs.Strikes.{Strike}
-use Rattle.tt_render.specs.declared.setting.Setting.{Setting}
 use Rattle.tt_render.specs.declared.lines.LineReader.{LineReader}
-use Rattle.tt_render.specs.declared.text_answers.ReadyText.{ReadyText}
 use Rattle.tt_render.specs.declared.refusal.Refusal.{Refusal}
 use Rattle.tt_render.specs.declared.refusal.Refusal.TheVariants as reason
 use Rattle.tt_render.specs.LineReading.{BeginsLong, LosesLine}
-use Rattle.tt_render.specs.Lines.{AreAffordable, drawn_from, line_drawn, line_limit, lines_budget, lines_cost, lines_of}
+use Rattle.tt_render.specs.Lines.{AreAffordable, drawn_from, line_limit, lines_budget, lines_cost, lines_of}
 use Rattle.tt_render.specs.TextsOutcome.{Draws, FailsByStop, FindsLine, HasLine, IsCutAfter, IsNotBegun, IsOfText, LinesFail, SendsBudget, SendsDrawn, SendsFirstLines, StopsAtLine, told}
 use Rattle.tt_render_run.specs.Outcome.{Traffic}
 use Rattle.tt_render.specs.Printing.{Errors}
 use Rattle.tt_render.specs.Texts.{TextAnswer, TextRefusal, refused}
 use Rattle.tt_render.proofs.Printed.{appends_nothing}
-use Rattle.tt_render.proofs.DrawnLines.{SoFar, affordable_too, drawn_append, first_sent, long_line, some_sent, up_to_next}
+use Rattle.tt_render.proofs.DrawnLines.{SoFar, affordable_too, drawn_append, first_sent, some_sent, up_to_next}
 
 -- the first line of a text is refused, and the budget serves for it, or it is too long
 abbrev BeginsRefused : Draws → ℕ → ℕ → TextRefusal → List ℕ → Type 0
@@ -117,10 +114,12 @@ refused_at : (draw : Draws) (t : Traffic) (e : Errors) (number : ℕ) (why : Ref
 refused_at draw t e number why r None is sends = tt
 refused_at draw t e number why r (Some text) is sends = inl (r, is, sends)
 
+-- a line that is too long is refused
+abbrev pub RefusesLong : Draws → Type 0
+RefusesLong draw = (line : List ℕ) → line_limit < length line → draw line ≡ Err (refused (job fault.TextLong))
+
 -- the next line is too long
-too_long : (draw : Draws)
-    → ((line : List ℕ) → line_limit < length line → draw line ≡ Err (refused (job fault.TextLong)))
-    → (text left : Option (List ℕ)) (t : Traffic) (e : Errors) (number used : ℕ)
+too_long : (draw : Draws) → RefusesLong draw → (text left : Option (List ℕ)) (t : Traffic) (e : Errors) (number used : ℕ)
     → SoFar draw text left t.out_before t.out_after e number used → IfSome left BeginsLong
     → IfSome text (StopsAtLine draw t e (number + 1) (reason.Job fault.TextLong))
 too_long draw long None left t e number used so_far begins = tt
@@ -148,41 +147,41 @@ not_affordable draw (Some text) (Some rest) t e number used so_far spent has =
     inr (refl, budget_sent draw text rest t e number used so_far spent has)
 
 -- the next line is not begun
-not_begun : (a : Setting) (s : Strike) (left : Option (List ℕ)) (t : Traffic) (e : Errors) (number used : ℕ)
-    (why : Refusal) → SoFar (line_drawn a s) t.left_before left t.out_before t.out_after e number used
+not_begun : (draw : Draws) → RefusesLong draw → (left : Option (List ℕ)) (t : Traffic) (e : Errors) (number used : ℕ)
+    (why : Refusal) → SoFar draw t.left_before left t.out_before t.out_after e number used
     → IsNotBegun number used why left → t.read_failed ≡ false → t.write_failed ≡ false
-    → LinesFail (line_drawn a s) why (Some (number + 1)) t e
-not_begun a s left t e number used why so_far (inl (is, begins)) reads writes =
-    rw is (too_long (line_drawn a s) (long_line a s) t.left_before left t e number used so_far begins, reads, writes)
-not_begun a s left t e number used why so_far (inr (is, spent, has)) reads writes =
-    rw is (not_affordable (line_drawn a s) t.left_before left t e number used so_far spent has, reads, writes)
+    → LinesFail draw why (Some (number + 1)) t e
+not_begun draw long left t e number used why so_far (inl (is, begins)) reads writes =
+    rw is (too_long draw long t.left_before left t e number used so_far begins, reads, writes)
+not_begun draw long left t e number used why so_far (inr (is, spent, has)) reads writes =
+    rw is (not_affordable draw t.left_before left t e number used so_far spent has, reads, writes)
 
 -- so the call stops
-pub stopped_before : (a : Setting) (s : Strike) (r : LineReader) (why : Refusal) (left after : Option (List ℕ))
-    (t : Traffic) (e : Errors) (number used : ℕ)
-    → SoFar (line_drawn a s) t.left_before left t.out_before t.out_after e number used
+pub stopped_before : (draw : Draws) → RefusesLong draw → (r : LineReader) (why : Refusal)
+    (left after : Option (List ℕ)) (t : Traffic) (e : Errors) (number used : ℕ)
+    → SoFar draw t.left_before left t.out_before t.out_after e number used
     → FindsLine r number used (Err why) left after → FailsByStop t.read_failed (Err why)
-    → t.write_failed ≡ false → LinesFail (line_drawn a s) why (Some (number + 1)) t e
-stopped_before a s r reason.Read left after t e number used so_far begun reads writes =
-    (some_sent (line_drawn a s) left t e number used so_far, reads, writes)
-stopped_before a s r (reason.Font f) left after t e number used so_far begun reads writes =
-    not_begun a s left t e number used (reason.Font f) so_far begun reads writes
-stopped_before a s r (reason.Job j) left after t e number used so_far begun reads writes =
-    not_begun a s left t e number used (reason.Job j) so_far begun reads writes
-stopped_before a s r reason.NotUtf8 left after t e number used so_far begun reads writes =
-    not_begun a s left t e number used reason.NotUtf8 so_far begun reads writes
-stopped_before a s r (reason.Missing c) left after t e number used so_far begun reads writes =
-    not_begun a s left t e number used (reason.Missing c) so_far begun reads writes
-stopped_before a s r reason.FontRead left after t e number used so_far begun reads writes =
-    not_begun a s left t e number used reason.FontRead so_far begun reads writes
-stopped_before a s r reason.FontLarge left after t e number used so_far begun reads writes =
-    not_begun a s left t e number used reason.FontLarge so_far begun reads writes
-stopped_before a s r (reason.Write sent) left after t e number used so_far begun reads writes =
-    not_begun a s left t e number used (reason.Write sent) so_far begun reads writes
-stopped_before a s r reason.Many left after t e number used so_far begun reads writes =
-    not_begun a s left t e number used reason.Many so_far begun reads writes
-stopped_before a s r reason.Memory left after t e number used so_far begun reads writes =
-    not_begun a s left t e number used reason.Memory so_far begun reads writes
+    → t.write_failed ≡ false → LinesFail draw why (Some (number + 1)) t e
+stopped_before draw long r reason.Read left after t e number used so_far begun reads writes =
+    (some_sent draw left t e number used so_far, reads, writes)
+stopped_before draw long r (reason.Font f) left after t e number used so_far begun reads writes =
+    not_begun draw long left t e number used (reason.Font f) so_far begun reads writes
+stopped_before draw long r (reason.Job j) left after t e number used so_far begun reads writes =
+    not_begun draw long left t e number used (reason.Job j) so_far begun reads writes
+stopped_before draw long r reason.NotUtf8 left after t e number used so_far begun reads writes =
+    not_begun draw long left t e number used reason.NotUtf8 so_far begun reads writes
+stopped_before draw long r (reason.Missing c) left after t e number used so_far begun reads writes =
+    not_begun draw long left t e number used (reason.Missing c) so_far begun reads writes
+stopped_before draw long r reason.FontRead left after t e number used so_far begun reads writes =
+    not_begun draw long left t e number used reason.FontRead so_far begun reads writes
+stopped_before draw long r reason.FontLarge left after t e number used so_far begun reads writes =
+    not_begun draw long left t e number used reason.FontLarge so_far begun reads writes
+stopped_before draw long r (reason.Write sent) left after t e number used so_far begun reads writes =
+    not_begun draw long left t e number used (reason.Write sent) so_far begun reads writes
+stopped_before draw long r reason.Many left after t e number used so_far begun reads writes =
+    not_begun draw long left t e number used reason.Many so_far begun reads writes
+stopped_before draw long r reason.Memory left after t e number used so_far begun reads writes =
+    not_begun draw long left t e number used reason.Memory so_far begun reads writes
 
 -- the next line is refused when it is drawn
 line_refused : (draw : Draws) (text left after : Option (List ℕ)) (t : Traffic) (e : Errors) (number used : ℕ)
@@ -196,12 +195,12 @@ line_refused draw (Some text) (Some rest) (Some left) t e number used line r so_
     next_refused draw text rest t e number used r so_far (line, lines_of left, loses, is, λ short. enough)
 
 -- so the call stops
-stops : (draw : Draws) (why : Refusal) (left after : Option (List ℕ)) (t : Traffic) (e : Errors)
+stops : {V : Type 0} (draw : Draws) (why : Refusal) (left after : Option (List ℕ)) (t : Traffic) (e : Errors)
     (number used : ℕ) (line : List ℕ) → SoFar draw t.left_before left t.out_before t.out_after e number used
     → LosesLine left after line → used ≤ lines_budget number → IfSome (told why) (λ r. draw line ≡ Err r)
-    → IsOfText {V = ReadyText} (Err why) → t.read_failed ≡ false → t.write_failed ≡ false
+    → IsOfText {V = V} (Err why) → t.read_failed ≡ false → t.write_failed ≡ false
     → LinesFail draw why (Some (number + 1)) t e
-stops draw why left after t e number used line so_far loses enough is serves reads writes = by why is serves
+stops {V} draw why left after t e number used line so_far loses enough is serves reads writes = by why is serves
   where
     at_line : (why : Refusal) (r : TextRefusal) → told why ≡ Some r → draw line ≡ Err r
         → IfSome t.left_before (StopsAtLine draw t e (number + 1) why)
@@ -209,7 +208,7 @@ stops draw why left after t e number used line so_far loses enough is serves rea
         refused_at draw t e (number + 1) why r t.left_before tells
         (line_refused draw t.left_before left after t e number used line r so_far loses enough is)
 
-    by : (why : Refusal) → IfSome (told why) (λ r. draw line ≡ Err r) → IsOfText {V = ReadyText} (Err why)
+    by : (why : Refusal) → IfSome (told why) (λ r. draw line ≡ Err r) → IsOfText {V = V} (Err why)
         → LinesFail draw why (Some (number + 1)) t e
     by (reason.Font f) is serves = (at_line (reason.Font f) _ refl is, reads, writes)
     by (reason.Job j) is serves = (at_line (reason.Job j) _ refl is, reads, writes)
@@ -222,11 +221,11 @@ stops draw why left after t e number used line so_far loses enough is serves rea
     by reason.Many is serves = absurd serves
     by reason.Memory is serves = (some_sent draw left t e number used so_far, reads, writes)
 
-pub stopped_in : (draw other : Draws) (why : Refusal) (left after : Option (List ℕ)) (t : Traffic) (e : Errors)
+pub stopped_in : {V : Type 0} (draw other : Draws) (why : Refusal) (left after : Option (List ℕ)) (t : Traffic) (e : Errors)
     (number used : ℕ) (line : List ℕ) → other ≡ draw
     → SoFar draw t.left_before left t.out_before t.out_after e number used → LosesLine left after line
-    → used ≤ lines_budget number → IfSome (told why) (λ r. other line ≡ Err r) → IsOfText {V = ReadyText} (Err why)
+    → used ≤ lines_budget number → IfSome (told why) (λ r. other line ≡ Err r) → IsOfText {V = V} (Err why)
     → t.read_failed ≡ false → t.write_failed ≡ false → LinesFail draw why (Some (number + 1)) t e
-stopped_in draw other why left after t e number used line same so_far loses enough is =
-    stops draw why left after t e number used line so_far loses enough
+stopped_in {V} draw other why left after t e number used line same so_far loses enough is =
+    stops {V = V} draw why left after t e number used line so_far loses enough
     (subst (λ (d : Draws). IfSome (told why) (λ r. d line ≡ Err r)) same is)

@@ -1,3 +1,5 @@
+pub mod Help
+pub mod Labels
 pub mod LineReading
 pub mod Lines
 pub mod LinesDefects

@@ -121,7 +121,7 @@ a_return_before_the_feed = refl
 
 -- of these lines the first two are drawn: a letter A is reported, and two letters are refused
 as_many_as_are_drawn : drawn_from 1 (λ line. if nat_lt 1 (length line) then Err not_utf8
-    else Ok (record { bytes = line; unfitted = []; lacking = line; cost = 7 }))
+    else Ok (record { bytes = line; unfitted = []; lacking = line; cost = 7; label = None }))
     (codes "A" ∷ (codes "B" ∷ (codes "CD" ∷ (codes "E" ∷ []))))
     ≡ record {
       bytes = codes "AB";
@@ -139,7 +139,7 @@ the_fifth_line = refl
 
 -- of these three lines the second is refused
 refused_lines_take_nothing : lines_cost (λ line. if nat_lt 1 (length line) then Err not_utf8
-    else Ok (record { bytes = line; unfitted = []; lacking = []; cost = 12500000 }))
+    else Ok (record { bytes = line; unfitted = []; lacking = []; cost = 12500000; label = None }))
     (codes "A" ∷ (codes "BC" ∷ (codes "D" ∷ [])))
     ≡ 25000000
 refused_lines_take_nothing = refl

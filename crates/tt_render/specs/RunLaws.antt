@@ -1,5 +1,5 @@
 -- Laws of texts and lines: the picture of each is what `run` gives for that text alone.
-use Rattle.std.specs.Prelude.{◌≡◌, refl, ℕ, ◌≤◌, true, List, [], length, codes, Result, Ok, Err}
+use Rattle.std.specs.Prelude.{◌≡◌, refl, ℕ, ◌≤◌, true, List, [], length, codes, None, Result, Ok, Err}
 use Rattle.std.specs.Str.{is_utf8}
 use Rattle.tt_core.specs.declared.fault.JobFault.TheVariants as fault
 use Rattle.tt_core.specs.Outcomes.{◌>>=◌}
@@ -75,7 +75,7 @@ PlainCallsAreRuns = (a : Setting) (text : List ℕ) (r : Result (Unit {0}) Texts
     → IsPlain a → FontTextGives a text r t e → GivesAsRun r t (run_wanted a.reading (job_by a text))
 
 -- worked values: the bytes of a drawn text, and of a refused one
-drawn_bytes : bytes_of (Ok (record { bytes = codes "P4"; unfitted = []; lacking = codes "A"; cost = 12 })) ≡ Ok (codes "P4")
+drawn_bytes : bytes_of (Ok (record { bytes = codes "P4"; unfitted = []; lacking = codes "A"; cost = 12; label = None })) ≡ Ok (codes "P4")
 drawn_bytes = refl
 
 no_bytes : bytes_of (Err (missing 67)) ≡ Err (missing 67)

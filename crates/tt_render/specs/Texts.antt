@@ -1,9 +1,10 @@
 -- No part of the standard: the answer of a text, by a font at a size (profile).
-use Rattle.std.specs.Prelude.{◌≡◌, refl, ℕ, List, [], ◌∷◌, chars, codes, Result, Ok, Err}
+use Rattle.std.specs.Prelude.{◌≡◌, refl, ℕ, List, [], ◌∷◌, chars, codes, Option, None, Result, Ok, Err}
 use Rattle.tt_cmap.specs.Lacking.{lacking_of}
 use Rattle.tt_cmap.specs.Lookup.{by_segments}
 use Rattle.tt_cmap.specs.Maps.{CharacterMap, strict}
 use Rattle.tt_core.specs.Outcomes.{◌>>=◌}
+use Rattle.tt_fit.specs.declared.programs.Fit.{Fit}
 use Rattle.tt_picture.specs.declared.report.Unfitted.{Unfitted}
 use Rattle.tt_strike.specs.Costs.{cost_by}
 use Rattle.tt_strike.specs.Refusals.{Refused}
@@ -12,6 +13,7 @@ use Rattle.tt_strike.specs.Strikes.{Strike, job_of}
 use Rattle.tt_render.specs.declared.setting.Missing.{Missing}
 use Rattle.tt_render.specs.declared.setting.Missing.TheVariants as how
 use Rattle.tt_render.specs.declared.setting.Setting.{Setting}
+use Rattle.tt_render.specs.declared.signs.Signs.{Signs}
 use Rattle.tt_render.specs.Products.{product_of}
 
 -- why a text is not drawn: it is refused; it is not UTF-8; the font has no glyph for this character
@@ -24,13 +26,21 @@ abbrev pub as_text : {X : Type 0} → Result X Refused → Result X TextRefusal
 as_text (Ok x) = Ok x
 as_text (Err why) = Err (refused why)
 
--- the answer of a text: the bytes of its output, its unfitted glyphs, its reported characters without a glyph, and what
--- it takes of the budget of a call of many lines
+-- what is told of a label beside its unfitted glyphs and its characters without a glyph: how it is fitted, the first
+-- character of each sign, and the lines about its font
+pub record LabelTold : Type 0 where
+  pub fit : Fit
+  pub signs : Signs
+  pub font : List ℕ
+
+-- the answer of a text: the bytes of its output, its unfitted glyphs, its reported characters without a glyph, what it
+-- takes of the budget of a call of many lines, and what else is told of a label
 pub record TextAnswer : Type 0 where
   pub bytes : List ℕ
   pub unfitted : List Unfitted
   pub lacking : List ℕ
   pub cost : ℕ
+  pub label : Option LabelTold
 
 -- no character is missing, or the first missing one refuses the text
 abbrev pub none_missing : List ℕ → Result (List ℕ) TextRefusal
@@ -47,16 +57,21 @@ missing_among how.Refuse cs = none_missing cs
 unfoldable pub missing_tested : CharacterMap → Missing → List ℕ → Result (List ℕ) TextRefusal
 missing_tested m asked text = missing_among asked (lacking_of m (chars text))
 
--- the answer of a text by its parts, or the first refusal: its output, its unfitted glyphs, its characters without a
--- glyph, and its cost
-abbrev pub answer_of : Result (List ℕ) Refused → Result (List Unfitted) Refused → Result (List ℕ) TextRefusal
-    → Result ℕ Refused → Result TextAnswer TextRefusal
-answer_of product report lacking taken =
+-- the answer of a text by its parts, or the first refusal: what else is told of a label, its output, its unfitted glyphs,
+-- its characters without a glyph, and its cost
+abbrev pub answer_with : Option LabelTold → Result (List ℕ) Refused → Result (List Unfitted) Refused
+    → Result (List ℕ) TextRefusal → Result ℕ Refused → Result TextAnswer TextRefusal
+answer_with label product report lacking taken =
     as_text product >>= λ bytes.
     as_text report >>= λ unfitted.
     lacking >>= λ cs.
     as_text taken >>= λ cost.
-    Ok (record { bytes = bytes; unfitted = unfitted; lacking = cs; cost = cost })
+    Ok (record { bytes = bytes; unfitted = unfitted; lacking = cs; cost = cost; label = label })
+
+-- the same of a text that is no label
+abbrev pub answer_of : Result (List ℕ) Refused → Result (List Unfitted) Refused → Result (List ℕ) TextRefusal
+    → Result ℕ Refused → Result TextAnswer TextRefusal
+answer_of product report lacking taken = answer_with None product report lacking taken
 
 -- the answer of this text
 unfoldable pub text_answer : Setting → Strike → List ℕ → Result TextAnswer TextRefusal

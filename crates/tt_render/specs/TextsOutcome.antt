@@ -64,6 +64,7 @@ answer_view r = record {
   unfitted = unfitted_in r.output;
   lacking = r.lacking.items;
   cost = cost_in r.output;
+  label = None;
 }
 
 -- the report is this text's; the number is that of a line
@@ -248,11 +249,16 @@ TextGives answer (Ok v) t e =
     (a : TextAnswer) × (answer ≡ Ok a) × SendsAll t a.bytes × WriterServes t × Prints e (told_of None a)
 TextGives answer (Err fault) t e = TextFails answer fault.refusal fault.line t e
 
--- a call stopped before it drew the text, or memory ran out by then; or it drew the text by a font
-abbrev pub FontTextGives : {V : Type 0} → Setting → List ℕ → Result V TextsFault → Traffic → Errors → Type 0
-FontTextGives a text r t e =
+-- a call stopped before it drew the text, or memory ran out by then; or it drew the text by a font, with this answer by
+-- the opened font
+abbrev pub FontAnswers : {V : Type 0} → Setting → (Strike → Result TextAnswer TextRefusal) → List ℕ → Result V TextsFault
+    → Traffic → Errors → Type 0
+FontAnswers a answer text r t e =
     (StopsAtFont (tested (job_by a text)) (strike_of a) r (reader_in t) × IsSilent t e)
-    ⊎ OpensFont (tested (job_by a text)) (strike_of a) (reader_in t) (λ s. TextGives (text_answer a s text) r t e)
+    ⊎ OpensFont (tested (job_by a text)) (strike_of a) (reader_in t) (λ s. TextGives (answer s) r t e)
+
+abbrev pub FontTextGives : {V : Type 0} → Setting → List ℕ → Result V TextsFault → Traffic → Errors → Type 0
+FontTextGives a text r t e = FontAnswers a (λ s. text_answer a s text) text r t e
 
 -- a call that ends with Ok or Write found no defect, and a font fault in its error is one
 abbrev pub TellsFor : (Fault → Type 0) → Refusal → Type 0

@@ -123,7 +123,7 @@ fn draw_line(
 /// The place of the next line, if there is one. The `drawn` lines before it took `used` of the budget. Errors, the first
 /// of: Read; TextLong, of more than 16,384 bytes; WorkLarge, where those lines took more than the budget. The caller
 /// puts the line into an error.
-fn next_line<R: Source>(
+pub(crate) fn next_line<R: Source>(
     reader: &mut LineReader,
     lines: &mut R,
     drawn: u32,

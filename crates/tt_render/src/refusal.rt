@@ -67,7 +67,7 @@ fn refusal_of_draw(fault: DrawFault) -> Refusal
 }
 
 /// A fault of reading a font is the refusal of the call.
-fn refusal_of_run(fault: RunFault) -> Refusal
+pub(crate) fn refusal_of_run(fault: RunFault) -> Refusal
     ensures { result ≡ refusal_of_run fault }
 {
     match fault {

@@ -22,7 +22,7 @@ pub fn texts_status(fault: &TextsFault) -> u8
 }
 
 /// The line that a message names: a reader that failed, and refused memory, are no line's own.
-fn named_line(fault: &TextsFault) -> Option<u32>
+pub(crate) fn named_line(fault: &TextsFault) -> Option<u32>
     ensures { result ≡ named_line_of fault.now.refusal fault.now.line }
 {
     match fault.refusal {
@@ -81,7 +81,7 @@ pub(crate) struct Messages {
 
 impl Messages {
     /// The start of a message.
-    fn head(self) -> Result<String, AllocError>
+    pub(crate) fn head(self) -> Result<String, AllocError>
         ensures { IfOk result (λ text. string_bytes text ≡ head_of self.number) }
     {
         match self.number {
@@ -115,7 +115,7 @@ impl Messages {
     }
 
     /// Appends a line for each character without a glyph.
-    fn push_lacking(self, text: &mut String, lacking: &[char]) -> Result<(), AllocError>
+    pub(crate) fn push_lacking(self, text: &mut String, lacking: &[char]) -> Result<(), AllocError>
         ensures exact { OnOk result (string_bytes text.new ≡ string_bytes text.old ++ flat_map (lacking_told self.number) lacking.now) }
         ensures memory { length lacking.now ≡ 0 → IsOk result }
     {

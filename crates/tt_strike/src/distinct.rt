@@ -9,14 +9,14 @@ use std::alloc::{AllocError, Global};
 
 /// The distinct glyphs of a line, in order of first appearance.
 #[derive(Drop)]
-pub(crate) struct DistinctGlyphs {
+pub struct DistinctGlyphs {
     /// For each glyph of the font 0, or one more than its place in `numbers`.
-    pub(crate) places: Vec<u16>,
-    pub(crate) numbers: Vec<u16>,
+    pub places: Vec<u16>,
+    pub numbers: Vec<u16>,
 }
 
 /// The distinct glyphs of a line, in order of first appearance. Error: out of memory.
-pub(crate) fn distinct(
+pub fn distinct(
     alloc: Global,
     glyphs: u16,
     line: &[(u16, u32)],

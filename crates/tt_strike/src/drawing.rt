@@ -26,7 +26,7 @@ use tt_picture::{Cache, Glyphs, Picture, line_glyphs};
 impl<'f, 'a> SizedFace<'f, 'a> {
     /// The glyphs of a laid-out line; only where work is not bounded. Errors: those of loca and glyf, of the programs,
     /// and of the glyphs in the order of the line; Memory.
-    pub(crate) fn tested_glyphs(
+    pub fn tested_glyphs(
         &mut self,
         laid: &Laid,
         cache: &mut Cache,

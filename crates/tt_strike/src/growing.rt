@@ -76,7 +76,7 @@ fn move_pens(glyphs: &mut [(u16, u32)], right: u32)
 
 /// A line with the fewest added columns and rows such that this ink is not cut. Error: PictureLarge.
 #[tactic(auto, unfolding(crate::specs::Grown::not_large))]
-pub(crate) fn grown(line: Line, ink: Option<InkBox>) -> Result<Line, JobFault>
+pub fn grown(line: Line, ink: Option<InkBox>) -> Result<Line, JobFault>
     ensures { Gives placement_of result (grown (placement_of line) ink) }
 {
     let Some(ink) = ink else {

@@ -10,10 +10,10 @@ use tt_scan_ink::GlyphInk;
 
 /// The distinct glyphs of a line, each with the box of its black pixels at pen 0, if there are any.
 #[derive(Drop)]
-pub(crate) struct InkedGlyphs {
-    pub(crate) glyphs: Glyphs,
-    pub(crate) inks: Vec<Option<GlyphInk>>,
-    pub(crate) ghost places: { ArePlaces glyphs.places.items (numbers_of glyphs.made.items) },
-    pub(crate) ghost inked: { inks.items ≡ map ink_standing glyphs.made.items },
-    pub(crate) ghost near: { All (λ ink. IfSome ink IsNear) inks.items } by { Prim.hlevel props },
+pub struct InkedGlyphs {
+    pub glyphs: Glyphs,
+    pub inks: Vec<Option<GlyphInk>>,
+    pub ghost places: { ArePlaces glyphs.places.items (numbers_of glyphs.made.items) },
+    pub ghost inked: { inks.items ≡ map ink_standing glyphs.made.items },
+    pub ghost near: { All (λ ink. IfSome ink IsNear) inks.items } by { Prim.hlevel props },
 }

@@ -38,7 +38,7 @@ pub(crate) fn test_size(ppem: u32) -> Result<(), JobFault>
 
 /// Tests a margin. Error: MarginRange.
 #[tactic(auto, unfolding(crate::specs::Job::margin_tested))]
-pub(crate) fn test_margin(margin: u32) -> Result<(), JobFault>
+pub fn test_margin(margin: u32) -> Result<(), JobFault>
     ensures exact { Gives (λ u. u) result (margin_tested margin) }
     ensures valid { OnOk result (margin ≤ margin_limit) }
     ensures refused { IfErr result (λ j. (j ≡ MarginRange) × (margin_limit < margin)) }

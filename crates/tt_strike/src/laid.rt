@@ -11,16 +11,16 @@ use tt_scan::Frame;
 
 /// A line that is laid out, and the margin of its picture.
 #[derive(Drop)]
-pub(crate) struct Laid {
-    pub(crate) line: Line,
+pub struct Laid {
+    pub line: Line,
     /// Pixels round the line.
-    pub(crate) margin: u32,
-    pub(crate) ghost within: { margin ≤ margin_limit },
+    pub margin: u32,
+    pub ghost within: { margin ≤ margin_limit },
 }
 
 impl Laid {
     /// The frame of the line's picture.
-    pub(crate) fn frame(&self) -> Frame
+    pub fn frame(&self) -> Frame
         ensures exact { result ≡ frame_of (placement_of self.now.line) self.now.margin }
         ensures fits { IsPictureFrame result }
     {

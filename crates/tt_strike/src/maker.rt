@@ -16,7 +16,7 @@ use tt_fit::Fitter;
 
 /// The state of a strike's fitter.
 #[derive(Drop)]
-pub(crate) enum Maker<'a> {
+pub enum Maker<'a> {
     /// Not opened yet, or dropped.
     Unmade,
     Ready(Fitter<'a>),
@@ -43,7 +43,7 @@ impl<'f, 'a> FitterSource<'f, 'a> {
 
 impl<'a> Maker<'a> {
     /// Takes the fitter out, and opens it first if it is missing. Errors: as `open`. A defect of the font is recorded.
-    pub(crate) fn take(&mut self, source: &FitterSource<'_, 'a>) -> Result<Fitter<'a>, FontFault>
+    pub fn take(&mut self, source: &FitterSource<'_, 'a>) -> Result<Fitter<'a>, FontFault>
         requires maker { IsMaker source.now.face.now source.now.ppem source.now.fit self.old }
         ensures exact { FontGives (λ f. f) result (setting source.now.face.now source.now.ppem source.now.fit) }
         ensures setting { IfOk result (IsSetting source.now.face.now source.now.ppem source.now.fit) }
@@ -67,7 +67,7 @@ impl<'a> Maker<'a> {
     }
 
     /// Puts the fitter back for later lines, with the work that it had before this line.
-    pub(crate) fn give_back(&mut self, fitter: Fitter<'a>, work: Option<u64>)
+    pub fn give_back(&mut self, fitter: Fitter<'a>, work: Option<u64>)
         ensures { self.new ≡ Ready (with_work fitter.entry work) }
     {
         let mut fitter = fitter;

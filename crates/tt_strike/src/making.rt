@@ -41,7 +41,7 @@ pub(crate) struct MadeLine {
 /// The glyphs of a line, fitted before, by the table of their places, where work is bounded. Those that may be and are
 /// small enough are cached. Errors: WorkLarge of their chords, and then of their crossings by the work that is left;
 /// Memory.
-fn tested_edges(
+pub fn tested_edges(
     alloc: Global,
     fit: Fit,
     places: Vec<u16>,

@@ -145,7 +145,7 @@ impl<'f, 'a> SizedFace<'f, 'a> {
     }
 
     /// The measure of a laid-out line, whose glyphs are these. Error: Memory.
-    pub(crate) fn measure_by(&self, laid: &Laid, inked: &InkedGlyphs) -> Result<Measure, AllocError>
+    pub fn measure_by(&self, laid: &Laid, inked: &InkedGlyphs) -> Result<Measure, AllocError>
         requires known { All (λ g. g.0 < glyphs_of self.now.face.metrics) laid.now.line.glyphs.items }
         requires room { length inked.now.glyphs.places.items ≡ glyphs_of self.now.face.metrics }
         requires among { All (λ g. is_among g.0 (numbers_of inked.now.glyphs.made.items) ≡ true) laid.now.line.glyphs.items }

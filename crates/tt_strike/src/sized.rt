@@ -18,11 +18,11 @@ use tt_line::KnownAdvances;
 /// A face at a size, with a fit. Clauses see these three. They do not see the fitter and the
 /// recent characters, which change no answer.
 #[derive(Drop)]
-pub(crate) struct SizedFace<'f, 'a> {
-    pub(crate) source: FitterSource<'f, 'a>,
-    pub(crate) maker: Maker<'a>,
+pub struct SizedFace<'f, 'a> {
+    pub source: FitterSource<'f, 'a>,
+    pub maker: Maker<'a>,
     /// The glyphs and the advances of recent characters.
-    pub(crate) known: KnownAdvances<'f, 'a>,
+    pub known: KnownAdvances<'f, 'a>,
 }
 
 impl<'f, 'a> Model for SizedFace<'f, 'a> {
@@ -40,7 +40,7 @@ impl<'f, 'a> Model for SizedFace<'f, 'a> {
 
 impl<'f, 'a> SizedFace<'f, 'a> {
     /// A face at a size in pixels per em, 1 to 300. Error: SizeRange.
-    pub(crate) fn new(
+    pub fn new(
         alloc: Global,
         face: &'f Face<'a>,
         ppem: u32,
@@ -65,19 +65,19 @@ impl<'f, 'a> SizedFace<'f, 'a> {
     }
 
     /// Where memory comes from.
-    pub(crate) fn alloc(&self) -> Global {
+    pub fn alloc(&self) -> Global {
         self.source.alloc
     }
 
     /// The font's tables.
-    pub(crate) fn face(&self) -> &'f Face<'a>
+    pub fn face(&self) -> &'f Face<'a>
         ensures { result.now ≡ self.now.face }
     {
         self.source.face
     }
 
     /// The size in pixels per em.
-    pub(crate) fn ppem(&self) -> u32
+    pub fn ppem(&self) -> u32
         ensures exact { result ≡ self.now.ppem }
         ensures limit { result ≤ size_limit }
     {
@@ -85,7 +85,7 @@ impl<'f, 'a> SizedFace<'f, 'a> {
     }
 
     /// How outlines are fitted.
-    pub(crate) fn fit(&self) -> Fit
+    pub fn fit(&self) -> Fit
         ensures { result ≡ self.now.fit }
     {
         self.source.fit

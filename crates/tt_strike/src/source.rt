@@ -9,11 +9,11 @@ use tt_fit::Fit;
 
 /// What a fitter is made of: a face, a size in pixels per em, and a fit.
 #[derive(Clone, Copy)]
-pub(crate) struct FitterSource<'f, 'a> {
-    pub(crate) alloc: Global,
-    pub(crate) face: &'f Face<'a>,
-    pub(crate) ppem: u32,
-    pub(crate) fit: Fit,
-    pub(crate) ghost low: { 1 ≤ ppem },
-    pub(crate) ghost high: { ppem ≤ size_limit },
+pub struct FitterSource<'f, 'a> {
+    pub alloc: Global,
+    pub face: &'f Face<'a>,
+    pub ppem: u32,
+    pub fit: Fit,
+    pub ghost low: { 1 ≤ ppem },
+    pub ghost high: { ppem ≤ size_limit },
 }

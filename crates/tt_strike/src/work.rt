@@ -30,7 +30,7 @@ const CROSSING_WORK: u64 = 4;
 const CROSSINGS_FREE: u64 = 500_000;
 
 /// Whether the work of a job is bounded.
-pub(crate) fn is_bounded(fit: Fit) -> bool
+pub fn is_bounded(fit: Fit) -> bool
     ensures { result ≡ is_bounded fit }
 {
     match fit {
@@ -42,7 +42,7 @@ pub(crate) fn is_bounded(fit: Fit) -> bool
 /// Charges the points of a line's distinct glyphs to its work, which is bounded. The cache has those of cached glyphs.
 /// Errors: WorkLarge, where they are too many; Memory.
 #[tactic(auto, unfolding(crate::specs::Work::work_tested))]
-pub(crate) fn charge_points(
+pub fn charge_points(
     fit: Fit,
     fitter: &mut Fitter,
     numbers: &[u16],

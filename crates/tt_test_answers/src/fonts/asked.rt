@@ -119,6 +119,7 @@ fn put_done(alloc: Global, line: &mut Line, request: &Request, font: Given, line
     let status = perform(
         alloc,
         request,
+        false,
         &mut font,
         &mut lines,
         &mut Device::new(&mut written),

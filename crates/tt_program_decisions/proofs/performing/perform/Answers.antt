@@ -21,3 +21,31 @@ returns-in-Lines-clause-outcome g c =
       outcome = (c.draw_lines-drawn.ensures.outcome, c.draw_lines-drawn.ensures.defects);
       told = c.tell_texts-in-Lines.ensures.told;
     })
+
+pub returns-in-Label-clause-outcome : goal.returns-in-Label-clause-outcome
+returns-in-Label-clause-outcome g c =
+    rw c.in-Label.is (
+      c.label_for-label.result,
+      c.label_for-label.ensures,
+      record {
+        drawn = c.draw_label-drawn.result;
+        between = g.E.Sink.written c.draw_label-drawn.new.error;
+        had_failed = g.E.Sink.has_failed c.draw_label-drawn.new.error;
+        outcome = (c.draw_label-drawn.ensures.outcome, c.draw_label-drawn.ensures.hint);
+        told = c.tell_label.ensures.told;
+      },
+    )
+
+pub returns-in-Labels-clause-outcome : goal.returns-in-Labels-clause-outcome
+returns-in-Labels-clause-outcome g c =
+    rw c.in-Labels.is (
+      c.label_for-label-in-Labels.result,
+      c.label_for-label-in-Labels.ensures,
+      record {
+        drawn = c.draw_labels-drawn.result;
+        between = g.E.Sink.written c.draw_labels-drawn.new.error;
+        had_failed = g.E.Sink.has_failed c.draw_labels-drawn.new.error;
+        outcome = (c.draw_labels-drawn.ensures.outcome, c.draw_labels-drawn.ensures.hint);
+        told = c.tell_label-in-Labels.ensures.told;
+      },
+    )

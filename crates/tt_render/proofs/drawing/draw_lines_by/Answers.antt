@@ -9,7 +9,7 @@ use Rattle.tt_render.specs.Printing.{PrintsBehind, errors_of}
 use Rattle.tt_render.specs.Reports.{told_of}
 use Rattle.tt_render.specs.TextsOutcome.{answer_view, refusal_font_fault}
 use Rattle.tt_render.proofs.DefectLines.{begun_tells, next_tells, stop_tells}
-use Rattle.tt_render.proofs.DrawnLines.{SoFar, all_drawn, drawn_alike, drawn_too, kept_alone, many_sent, none_so_far, one_more, reader_at_end, same_most, some_sent, whole_text}
+use Rattle.tt_render.proofs.DrawnLines.{SoFar, all_drawn, drawn_alike, drawn_too, kept_alone, long_line, many_sent, none_so_far, one_more, reader_at_end, same_most, some_sent, whole_text}
 use Rattle.tt_render.proofs.StoppedLines.{cut_sent, stopped_before, stopped_in}
 use Rattle.tt_render.proofs.Printed.{keeps_itself}
 use Rattle.tt_render.proofs.drawing.draw_lines_by.Goals as goal
@@ -62,11 +62,12 @@ returns-in-Ok-None-clause-outcome g c =
 pub returns-in-Err-clause-outcome : goal.returns-in-Err-clause-outcome
 returns-in-Err-clause-outcome g c =
     let so_far = c.loop-before.invariant in
+    let draw = line_drawn c.args.setting.now c.args.strike.now in
     let left = g.R.Source.left in
     let t = traffic_of left g.R.Source.has_failed g.W.Sink.written g.W.Sink.has_failed c.args.lines.now
     c.next_line.new.lines c.args.out.now c.loop-before.out in
     let e = errors_of g.E.Sink.written g.E.Sink.has_failed c.args.error.now c.loop-before.error in
-    let fails = stopped_before c.args.setting.now c.args.strike.now c.next_line.new.reader c.in-Err.stop.refusal
+    let fails = stopped_before draw (long_line c.args.setting.now c.args.strike.now) c.next_line.new.reader c.in-Err.stop.refusal
     (text_left c.loop-before.reader (left c.loop-before.lines))
     (text_left c.next_line.new.reader (left c.next_line.new.lines)) t e c.loop-before.before c.loop-before.used
     so_far.so_far c.in-Err.ensures.outcome c.in-Err.ensures.failure so_far.writes in

@@ -1,0 +1,3 @@
+mod Characters
+mod Ranges
+mod Truth

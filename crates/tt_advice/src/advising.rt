@@ -1,0 +1,169 @@
+//! The advice to people about a refused font.
+
+ghost use Rattle.std.specs.Prelude.{◌≡◌, ◌≤◌, is_some, length};
+ghost use Rattle.tt_advice.specs.Advice.{advice, count_advice, cut_advice, face_advice, has_cff, has_pictures, has_record, lack_advice, version_advice};
+ghost use Rattle.tt_core.specs.Directory.{record_of};
+ghost use Rattle.tt_core.specs.Limits.{font_limit};
+
+use crate::hint::{FixedHint, Hint};
+use crate::kinds::{begins, kind_at};
+use tt_core::{Dir, Fault, Reading, Why, u32_at};
+
+/// Whether a record of a directory has the tag.
+fn names(dir: &Dir, tag: [u8; 4]) -> bool
+    ensures { result ≡ is_some (record_of dir.now tag) }
+{
+    !matches!(dir.table(tag), Ok(None))
+}
+
+/// Whether a record of the directory of a face has the tag.
+#[tactic(auto, unfolding(crate::specs::Advice::has_record))]
+pub fn has_record(file: &[u8], face: u32, tag: [u8; 4]) -> bool
+    requires { length file.now ≤ font_limit }
+    ensures { result ≡ has_record file.now face tag }
+{
+    match Dir::read(file, Reading::Wide { face }) {
+        Ok(dir) => names(&dir, tag),
+        Err(_) => false,
+    }
+}
+
+/// Whether a face has CFF outlines.
+#[tactic(auto, unfolding(crate::specs::Advice::has_cff))]
+fn has_cff(file: &[u8], face: u32) -> bool
+    requires { length file.now ≤ font_limit }
+    ensures { result ≡ has_cff file.now face }
+{
+    has_record(file, face, *b"CFF ") || has_record(file, face, *b"CFF2")
+}
+
+/// Whether a face has bitmaps or colour pictures.
+#[tactic(auto, unfolding(crate::specs::Advice::has_pictures))]
+fn has_pictures(file: &[u8], face: u32) -> bool
+    requires { length file.now ≤ font_limit }
+    ensures { result ≡ has_pictures file.now face }
+{
+    has_record(file, face, *b"CBDT")
+        || has_record(file, face, *b"sbix")
+        || has_record(file, face, *b"EBDT")
+        || has_record(file, face, *b"bdat")
+        || has_record(file, face, *b"SVG ")
+}
+
+/// The advice about a directory that is cut off.
+fn cut_advice(fault: Fault, file: &[u8]) -> Hint
+    ensures { result ≡ cut_advice fault file.now }
+{
+    if file.is_empty() && fault.table == *b"file" {
+        Hint::Fixed(FixedHint::Empty)
+    } else {
+        Hint::Fixed(FixedHint::Cut)
+    }
+}
+
+/// The advice about a collection of so many faces.
+fn count_advice(count: u32) -> Hint
+    ensures { result ≡ count_advice count }
+{
+    if count == 0 {
+        Hint::Fixed(FixedHint::NoFaces)
+    } else {
+        Hint::Faces(count)
+    }
+}
+
+/// The advice about a file without the face that was asked for.
+#[tactic(auto, unfolding(crate::specs::Advice::face_advice))]
+fn face_advice(file: &[u8]) -> Hint
+    ensures { result ≡ face_advice file.now }
+{
+    if !begins(file, b"ttcf") {
+        return Hint::Fixed(FixedHint::NoCollection);
+    }
+    match u32_at(file, 8) {
+        Some(count) => count_advice(count),
+        None => Hint::Fixed(FixedHint::NoFaces),
+    }
+}
+
+/// The advice about a missing table.
+fn lack_advice(fault: Fault, file: &[u8], face: u32) -> Hint
+    requires { length file.now ≤ font_limit }
+    ensures { result ≡ lack_advice fault file.now face }
+{
+    if has_cff(file, face) {
+        Hint::Fixed(FixedHint::Cff)
+    } else if has_pictures(file, face) {
+        Hint::Fixed(FixedHint::Bitmaps)
+    } else {
+        Hint::Lacks(fault)
+    }
+}
+
+/// The advice about another version of maxp.
+fn version_advice(fault: Fault, file: &[u8], face: u32) -> Hint
+    requires { length file.now ≤ font_limit }
+    ensures { result ≡ version_advice fault file.now face }
+{
+    if has_cff(file, face) {
+        Hint::Fixed(FixedHint::Cff)
+    } else {
+        Hint::Damaged(fault)
+    }
+}
+
+/// The advice about a font with this fault, by the bytes of its file and the number of its face.
+#[tactic(auto, unfolding(crate::specs::Advice::advice, tt_core::specs::Faults::why_number))]
+pub fn advice(fault: Fault, file: &[u8], face: u32) -> Hint
+    requires { length file.now ≤ font_limit }
+    ensures { result ≡ advice fault file.now face }
+{
+    match fault.why {
+        Why::BadVersion => Hint::Fixed(kind_at(file, fault.offset as usize)),
+        Why::DirShort => cut_advice(fault, file),
+        Why::NoTable => lack_advice(fault, file, face),
+        Why::TableRange => Hint::Fixed(FixedHint::Cut),
+        Why::MaxpVersion => version_advice(fault, file, face),
+        Why::NoCmap => Hint::Fixed(FixedHint::NoMap),
+        Why::ComponentDepth
+        | Why::ComponentCount
+        | Why::ScaledOffset
+        | Why::PointLimit
+        | Why::CoordRange => Hint::Fixed(FixedHint::Beyond),
+        Why::CollectionVersion => Hint::Fixed(FixedHint::Version),
+        Why::NoFace => face_advice(file),
+        Why::StepLimit
+        | Why::StackFull
+        | Why::StackShort
+        | Why::CallDepth
+        | Why::BadOpcode
+        | Why::OffProfile
+        | Why::JumpRange
+        | Why::CodeShort
+        | Why::NoFunction
+        | Why::DefinitionPlace
+        | Why::IfOpen
+        | Why::NoEndf
+        | Why::PointRange
+        | Why::ContourRange
+        | Why::ZoneRange
+        | Why::CvtRange
+        | Why::StorageRange
+        | Why::DivZero
+        | Why::ValueRange
+        | Why::Perpendicular
+        | Why::BadArgument => Hint::Fixed(FixedHint::Program),
+        Why::HeadMagic
+        | Why::EmRange
+        | Why::LocaFormat
+        | Why::MetricsShort
+        | Why::CmapShape
+        | Why::LocaShort
+        | Why::GlyphRange
+        | Why::GlyphShort
+        | Why::ContourOrder
+        | Why::FlagRun
+        | Why::ComponentGlyph
+        | Why::MatchPoint => Hint::Damaged(fault),
+    }
+}

@@ -1,0 +1,4 @@
+pub mod Fitted
+pub mod Label
+pub mod Made
+pub mod Views

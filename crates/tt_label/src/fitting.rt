@@ -1,0 +1,93 @@
+//! Fits the glyphs of a label, by whose steps its lines are laid out.
+
+ghost use Rattle.std.specs.List.{flat_map};
+ghost use Rattle.std.specs.Prelude.{◌≡◌, ℕ, ◌<◌, ◌≤◌, true, length, map, All, Ok, Err, IfOk};
+ghost use Rattle.tt_core.specs.Limits.{point_work_limit, text_limit};
+ghost use Rattle.tt_core.specs.Outcomes.{IfTold};
+ghost use Rattle.tt_label.specs.Fitted.{AreFittedLines, glyphs_in, with_steps};
+ghost use Rattle.tt_metrics.specs.Metrics.{glyphs_of};
+ghost use Rattle.tt_picture.specs.Distinct.{distinct, fitter_after, is_among};
+ghost use Rattle.tt_picture.specs.Fitted.{AreSteps, fitted_numbers};
+ghost use Rattle.tt_picture.specs.Glyphs.{ArePlaces};
+ghost use Rattle.tt_strike.specs.Picture.{outlines_tested};
+ghost use Rattle.tt_strike.specs.Refusals.{refusal};
+ghost use Rattle.tt_strike.specs.Work.{is_bounded, points_in, started, work_tested};
+
+use crate::joining::joined_steps;
+use std::alloc::{AllocError, Global};
+use tt_core::DrawFault;
+use tt_fit::Fitter;
+use tt_picture::{Cache, FittedGlyph, fit_glyphs, put_steps};
+use tt_strike::{DistinctGlyphs, FitterSource, charge_points, distinct};
+
+/// A label whose glyphs are fitted.
+#[derive(Drop)]
+pub(crate) struct FittedLabel {
+    /// For each line the glyphs of its units, with their steps.
+    pub(crate) steps: Vec<Vec<(u16, u32)>>,
+    /// For each glyph of the font 0, or one more than its place in `fitted`.
+    pub(crate) places: Vec<u16>,
+    /// The distinct glyphs of all lines, in order of first appearance.
+    pub(crate) fitted: Vec<FittedGlyph>,
+}
+
+/// A line whose glyphs have their steps beside them.
+fn step_line(places: &[u16], fitted: &[FittedGlyph], line: Vec<(u16, u32)>) -> Vec<(u16, u32)>
+    requires places { ArePlaces places.now (fitted_numbers fitted.now) }
+    requires known { All (λ g. g.0 < length places.now) line.items }
+    requires among { All (λ g. is_among g.0 (fitted_numbers fitted.now) ≡ true) line.items }
+    ensures { (step : ℕ → ℕ) → AreSteps step fitted.now → result.items ≡ map (λ g. (g.0, step g.0)) line.items }
+{
+    let mut line = line;
+    put_steps(places, fitted, &mut line);
+    line
+}
+
+/// Some lines whose glyphs have their steps beside them. Error: Memory.
+fn step_lines(
+    alloc: Global,
+    places: &[u16],
+    fitted: &[FittedGlyph],
+    lines: Vec<Vec<(u16, u32)>>,
+) -> Result<Vec<Vec<(u16, u32)>>, AllocError>
+    requires places { ArePlaces places.now (fitted_numbers fitted.now) }
+    requires known { All (λ l. All (λ g. g.0 < length places.now) l.items) lines.items }
+    requires among { All (λ l. All (λ g. is_among g.0 (fitted_numbers fitted.now) ≡ true) l.items) lines.items }
+    ensures { IfOk result (λ v. (step : ℕ → ℕ) → AreSteps step fitted.now → map (λ l. l.items) v.items ≡ with_steps step (map (λ l. l.items) lines.items)) }
+{
+    let mut made = Vec::with_capacity(alloc, lines.len())?;
+    for line in lines {
+        made.push(step_line(places, fitted, line))?;
+    }
+    Ok(made)
+}
+
+/// The glyphs of some lines, fitted, where work is bounded. Errors, the first of: WorkLarge of their points; those of the
+/// glyphs in the order of the lines. Memory may come at any allocation.
+pub(crate) fn fit_label(
+    source: &FitterSource,
+    fitter: &mut Fitter,
+    steps: Vec<Vec<(u16, u32)>>,
+) -> Result<FittedLabel, DrawFault>
+    requires known { All (λ l. All (λ g. g.0 < glyphs_of source.now.face.now.metrics) l.items) steps.items }
+    requires few { length (flat_map (λ l. l.items) steps.items) ≤ text_limit }
+    requires glyphs { fitter.old.tables.glyphs ≡ glyphs_of source.now.face.now.metrics }
+    requires bounded { is_bounded source.now.fit ≡ true }
+    ensures fitted { IfOk result (λ t. AreFittedLines fitter.old (map (λ l. l.items) steps.items) (map (λ l. l.items) t.steps.items) t.places.items t.fitted.items) }
+    ensures points { IfOk result (λ t. work_tested source.now.fit point_work_limit (points_in fitter.old (glyphs_in (map (λ l. l.items) steps.items))) ≡ Ok tt) }
+    ensures after { IfOk result (λ t. fitter.new ≡ fitter_after (started fitter.old (glyphs_in (map (λ l. l.items) steps.items))) (distinct (glyphs_in (map (λ l. l.items) steps.items)))) }
+    ensures stops { IfTold refusal result (λ r. outlines_tested fitter.old source.now.fit (glyphs_in (map (λ l. l.items) steps.items)) ≡ Err r) }
+{
+    let none = Cache::absent();
+    let all = joined_steps(source.alloc, &steps)?;
+    let met = distinct(source.alloc, source.face.metrics().glyphs(), &all)?;
+    let DistinctGlyphs { places, numbers } = met;
+    charge_points(source.fit, fitter, &numbers, &none)?;
+    let fitted = fit_glyphs(source.alloc, fitter, &numbers, &none)?;
+    let steps = step_lines(source.alloc, &places, &fitted, steps)?;
+    Ok(FittedLabel {
+        steps,
+        places,
+        fitted,
+    })
+}

@@ -1,0 +1,28 @@
+//! The picture of a label: a text of several lines in one picture.
+//!
+//! ```text
+//! joining.rt  the glyphs of several lines as those of one line
+//! fitting.rt  the glyphs of a label, fitted, and their steps
+//! made.rt     the lines of a label, laid out, and their glyphs
+//! growing.rt  the columns and rows that the ink of all lines needs
+//! sharing.rt  the glyphs of one line among those of all lines
+//! overlay.rt  a line painted over pixels that are there
+//! label.rt    the lines, painted over each other
+//! picture.rt  the picture
+//! ```
+#![tactic(auto)]
+
+mod fitting;
+mod growing;
+mod joining;
+mod label;
+mod made;
+mod overlay;
+mod picture;
+mod sharing;
+
+pub use label::label;
+pub use picture::LabelPicture;
+pub use tt_core::DrawFault;
+pub use tt_line::{Align, unmarked};
+pub use tt_strike::{Face, SizedFace, Unfitted};

@@ -1,0 +1,152 @@
+//! The lines of a label with their glyphs, which are made once for all lines.
+
+ghost use Rattle.std.specs.Prelude.{◌≡◌, ◌≤◌, true, false, length, map, chars, All, Ok, Err, IfOk};
+ghost use Rattle.tt_core.specs.Limits.{margin_limit, text_limit};
+ghost use Rattle.tt_core.specs.Outcomes.{GivesUnless, IfTold};
+ghost use Rattle.tt_label.specs.Label.{label_placed};
+ghost use Rattle.tt_label.specs.Made.{AreLaid, IsMadeLabel, label_shapes};
+ghost use Rattle.tt_label.specs.Views.{placements_of};
+ghost use Rattle.tt_line.specs.Outcome.{placement_of};
+ghost use Rattle.tt_strike.specs.Job.{tested};
+ghost use Rattle.tt_strike.specs.Refusals.{refusal};
+ghost use Rattle.tt_strike.specs.Strikes.{job_by};
+ghost use Rattle.tt_strike.specs.Work.{is_bounded};
+
+use crate::fitting::{FittedLabel, fit_label};
+use crate::joining::joint_line;
+use std::alloc::{AllocError, Global};
+use tt_core::DrawFault;
+use tt_line::{Align, Line, label_steps, lay_lines};
+use tt_picture::{Cache, Glyphs};
+use tt_strike::{Laid, SizedFace, is_bounded, test_margin, test_text, tested_edges};
+
+/// The lines of a label in its picture, and their distinct glyphs.
+#[derive(Drop)]
+pub(crate) struct MadeLabel {
+    pub(crate) lines: Vec<Laid>,
+    pub(crate) glyphs: Glyphs,
+}
+
+/// Some lines with their margin. Error: Memory.
+fn with_margin(alloc: Global, lines: Vec<Line>, margin: u32) -> Result<Vec<Laid>, AllocError>
+    requires { margin ≤ margin_limit }
+    ensures lines { IfOk result (λ v. placements_of v.items ≡ map placement_of lines.items) }
+    ensures margin { IfOk result (λ v. All (λ l. l.margin ≡ margin) v.items) }
+{
+    let mut made = Vec::with_capacity(alloc, lines.len())?;
+    for line in lines {
+        made.push(Laid { line, margin })?;
+    }
+    Ok(made)
+}
+
+/// The lines of a text, laid out by the steps of their glyphs, which are made first; only where work is bounded. Errors,
+/// the first of: those of loca and glyf, of the programs; WorkLarge of the points; those of the glyphs in the order of
+/// the text; PictureLarge; WorkLarge of the chords, and of the crossings. Memory may come at any allocation.
+fn make_by_steps(
+    sized: &mut SizedFace,
+    text: &str,
+    margin: u32,
+    align: Align,
+) -> Result<MadeLabel, DrawFault>
+    requires bounded { is_bounded sized.old.fit ≡ true }
+    requires tested { tested (job_by sized.old text.now margin) ≡ Ok tt }
+    requires margin { margin ≤ margin_limit }
+    requires text { length (chars text.now) ≤ text_limit }
+    ensures made { IfOk result (λ m. IsMadeLabel sized.old.face (job_by sized.old text.now margin) align m.lines.items m.glyphs.places.items m.glyphs.made.items) }
+    ensures stops { IfTold refusal result (λ r. label_shapes sized.old.face (job_by sized.old text.now margin) align ≡ Err r) }
+    ensures same { sized.new ≡ sized.old }
+{
+    let source = sized.source;
+    let steps = label_steps(source.alloc, &mut sized.known, text)?;
+    let mut fitter = sized.maker.take(&source)?;
+    let begun = fitter.work();
+    let label = fit_label(&source, &mut fitter, steps)?;
+    let left = fitter.work();
+    sized.maker.give_back(fitter, begun);
+    let FittedLabel {
+        steps,
+        places,
+        fitted,
+    } = label;
+    let metrics = source.face.metrics();
+    let laid = lay_lines(source.alloc, metrics, steps, source.ppem, margin, align)?;
+    let lines = with_margin(source.alloc, laid, margin)?;
+    let joint = joint_line(source.alloc, &lines, margin)?;
+    let mut none = Cache::absent();
+    let glyphs = tested_edges(
+        source.alloc,
+        source.fit,
+        places,
+        fitted,
+        &joint,
+        left,
+        &mut none,
+    )?;
+    Ok(MadeLabel { lines, glyphs })
+}
+
+/// The lines of a text, laid out by advances; only where work is not bounded. Errors: PictureLarge, Memory.
+fn lay_label(
+    sized: &mut SizedFace,
+    text: &str,
+    margin: u32,
+    align: Align,
+) -> Result<Vec<Laid>, DrawFault>
+    requires unbounded { is_bounded sized.old.fit ≡ false }
+    requires tested { tested (job_by sized.old text.now margin) ≡ Ok tt }
+    requires margin { margin ≤ margin_limit }
+    requires text { length (chars text.now) ≤ text_limit }
+    ensures exact { GivesUnless refusal (λ v. placements_of v.items) result (label_placed sized.old.face (job_by sized.old text.now margin) align) }
+    ensures laid { IfOk result (λ v. AreLaid sized.old.face margin v.items) }
+    ensures same { sized.new ≡ sized.old }
+{
+    let source = sized.source;
+    let metrics = source.face.metrics();
+    let steps = label_steps(source.alloc, &mut sized.known, text)?;
+    let laid = lay_lines(source.alloc, metrics, steps, source.ppem, margin, align)?;
+    Ok(with_margin(source.alloc, laid, margin)?)
+}
+
+/// The lines of a text, laid out by advances, and then their glyphs; only where work is not bounded. Errors, the first of:
+/// PictureLarge; those of loca and glyf, of the programs; those of the glyphs in the order of the text. Memory may come
+/// at any allocation.
+fn make_by_advances(
+    sized: &mut SizedFace,
+    text: &str,
+    margin: u32,
+    align: Align,
+) -> Result<MadeLabel, DrawFault>
+    requires unbounded { is_bounded sized.old.fit ≡ false }
+    requires tested { tested (job_by sized.old text.now margin) ≡ Ok tt }
+    requires margin { margin ≤ margin_limit }
+    requires text { length (chars text.now) ≤ text_limit }
+    ensures made { IfOk result (λ m. IsMadeLabel sized.old.face (job_by sized.old text.now margin) align m.lines.items m.glyphs.places.items m.glyphs.made.items) }
+    ensures stops { IfTold refusal result (λ r. label_shapes sized.old.face (job_by sized.old text.now margin) align ≡ Err r) }
+    ensures same { sized.new ≡ sized.old }
+{
+    let lines = lay_label(sized, text, margin, align)?;
+    let joint = joint_line(sized.alloc(), &lines, margin)?;
+    let mut none = Cache::absent();
+    let glyphs = sized.tested_glyphs(&joint, &mut none)?;
+    Ok(MadeLabel { lines, glyphs })
+}
+
+/// The lines of a text, with their glyphs. Errors, the first of: MarginRange, TextLong; those of the fit.
+pub(crate) fn make_label(
+    sized: &mut SizedFace,
+    text: &str,
+    margin: u32,
+    align: Align,
+) -> Result<MadeLabel, DrawFault>
+    ensures made { IfOk result (λ m. IsMadeLabel sized.old.face (job_by sized.old text.now margin) align m.lines.items m.glyphs.places.items m.glyphs.made.items) }
+    ensures stops { IfTold refusal result (λ r. label_shapes sized.old.face (job_by sized.old text.now margin) align ≡ Err r) }
+    ensures same { sized.new ≡ sized.old }
+{
+    test_margin(margin)?;
+    test_text(text)?;
+    if is_bounded(sized.fit()) {
+        return make_by_steps(sized, text, margin, align);
+    }
+    make_by_advances(sized, text, margin, align)
+}

@@ -1,0 +1,40 @@
+-- The answer of a line that is drawn as a label.
+use Rattle.std.proofs.Common.{◌≡◌, ℕ, ◌<◌, ◌≤◌, Bool, true, false, nat_lt, List, length, Err, refl, arith}
+use Rattle.std.specs.Prelude.{IsUtf8}
+use Rattle.std.proofs.lemmas.Bool.Decides.{nat_tests}
+use Rattle.std.proofs.lemmas.Str.{IsUtf8-from_is_utf8, is_utf8-from_IsUtf8}
+use Rattle.std.specs.Str.{is_utf8}
+use Rattle.tt_core.specs.declared.fault.JobFault.TheVariants as fault
+use Rattle.tt_strike.specs.Refusals.{job}
+use Rattle.tt_strike.specs.Strikes.{Strike}
+use Rattle.tt_render.specs.declared.label.Label.{Label}
+use Rattle.tt_render.specs.Labels.{label_answer, line_labelled}
+use Rattle.tt_render.specs.Lines.{line_limit}
+use Rattle.tt_render.specs.Texts.{not_utf8, refused}
+
+pub long_label : (l : Label) (s : Strike) (line : List ℕ) → line_limit < length line
+    → line_labelled l s line ≡ Err (refused (job fault.TextLong))
+unfolding line_labelled
+long_label l s line long =
+    let is : nat_lt line_limit (length line) ≡ true = grind (arith, nat_tests) in
+    rw is refl
+
+pub label_of_no_text : (l : Label) (s : Strike) (line : List ℕ) → length line ≤ line_limit → (IsUtf8 line → ⊥)
+    → line_labelled l s line ≡ Err not_utf8
+unfolding line_labelled
+label_of_no_text l s line short other =
+    let is : nat_lt line_limit (length line) ≡ false = grind (arith, nat_tests) in
+    let none : is_utf8 line ≡ false = no_test (is_utf8 line) refl in
+    rw (is, none) refl
+  where
+    no_test : (b : Bool) → is_utf8 line ≡ b → is_utf8 line ≡ false
+    no_test true is_text = absurd (other (IsUtf8-from_is_utf8 line is_text))
+    no_test false is_not = is_not
+
+pub label_of_text : (l : Label) (s : Strike) (line text : List ℕ) → length line ≤ line_limit
+    → (text ≡ line) × IsUtf8 line → line_labelled l s line ≡ label_answer l s text
+unfolding line_labelled
+label_of_text l s line text short is_text =
+    let is : nat_lt line_limit (length line) ≡ false = grind (arith, nat_tests) in
+    let whole = is_utf8-from_IsUtf8 line is_text.1 in
+    rw (is, whole, is_text.0) refl

@@ -1,0 +1,48 @@
+use Rattle.std.proofs.Common.{ap, inl, refl}
+use Rattle.std.proofs.lemmas.Result.{err_from_is_err_and}
+use Rattle.tt_core.specs.declared.draw_fault.DrawFault.TheVariants as draw
+use Rattle.tt_strike.specs.Refusals.{as_job}
+use Rattle.tt_render.specs.Labels.{label_answer}
+use Rattle.tt_render.specs.Settings.{job_by, strike_by, strike_of}
+use Rattle.tt_render.proofs.FontLines.{face_file, font_opened, font_refused}
+use Rattle.tt_render.proofs.OneText.{strike_stops, text_stops}
+use Rattle.tt_render.proofs.label_drawing.draw.Goals as goal
+
+pub returns-in_err-face-clause-outcome : goal.returns-in_err-face-clause-outcome
+returns-in_err-face-clause-outcome c =
+    let p = err_from_is_err_and c.from_residual.result c.from_residual.ensures.1 in
+    let refused = font_refused c.args.asked.now.setting c.args.file.now c.in_err-face.field-0.0 c.requires.size
+    c.in_err-face.ensures.exact in
+    rw (p.1, p.2) (inl (c.in_err-face.field-0.0, refl, refused))
+
+pub returns-in_err-sized-clause-outcome : goal.returns-in_err-sized-clause-outcome
+returns-in_err-sized-clause-outcome c =
+    let l = c.args.asked.now in
+    let text = c.args.text.now in
+    let p = err_from_is_err_and c.from_residual-in_err-sized.result c.from_residual-in_err-sized.ensures.1 in
+    rw (p.1, p.2) (strike_stops (λ t. label_answer l t text) (strike_of l.setting c.args.file.now) (job_by l.setting text)
+    (draw.Job c.in_err-sized.field-0.0) c.requires.tested (ap as_job c.in_err-sized.ensures.tested))
+
+pub returns-in-Ok-clause-outcome : goal.returns-in-Ok-clause-outcome
+returns-in-Ok-clause-outcome c =
+    let a = c.args.asked.now.setting in
+    let face = c.in_ok-face.face in
+    let opened = font_opened a c.args.file.now face c.requires.size c.in_ok-face.ensures.exact in
+    let answers = rw c.in_ok-sized.ensures.exact at c.in-Ok.ensures.exact in
+    (strike_by a face, opened, answers)
+
+pub returns-clause-outcome : goal.returns-clause-outcome
+returns-clause-outcome c =
+    let l = c.args.asked.now in
+    let text = c.args.text.now in
+    let s = strike_by l.setting c.in_ok-face.face in
+    let refused = rw c.in_ok-sized.ensures.exact at c.in-Err.ensures.exact in
+    rw c.texts_fault.ensures (text_stops (λ t. label_answer l t text) (strike_of l.setting c.args.file.now) s
+    c.in-Err.fault.refusal
+    (font_opened l.setting c.args.file.now c.in_ok-face.face c.requires.size c.in_ok-face.ensures.exact) refused
+    c.in-Err.ensures.serves)
+
+pub answer_label-requires-clause-file : goal.answer_label-requires-clause-file
+answer_label-requires-clause-file c =
+    rw c.in_ok-sized.ensures.exact
+    (face_file c.args.file.now c.args.asked.now.setting.reading c.in_ok-face.face c.in_ok-face.ensures.exact)

@@ -1,0 +1,130 @@
+use Rattle.std.proofs.Common.{◌≡◌, ◌∙◌, ap, refl, sym, ℕ, List, Ok, Err, inl, subst}
+use Rattle.tt_render.specs.declared.refusal.Refusal.{Refusal}
+use Rattle.tt_render.specs.declared.refusal.Refusal.TheVariants as reason
+use Rattle.tt_render.specs.Labels.{HintsBy, LabelReadies, hint_for, label_answer, label_view}
+use Rattle.tt_render_run.specs.Outcome.{traffic_of}
+use Rattle.tt_render.specs.Printing.{errors_of}
+use Rattle.tt_render_run.specs.Reading.{font_reader_of}
+use Rattle.tt_render.specs.Settings.{job_by, strike_of}
+use Rattle.tt_render.specs.TextsOutcome.{StopsAtFont}
+use Rattle.tt_render.specs.Views.{before_lines}
+use Rattle.tt_strike.specs.Job.{Job, tested}
+use Rattle.tt_render_run.proofs.Calls.{known_of}
+use Rattle.tt_render.proofs.FontLines.{reading_stops}
+use Rattle.tt_render.proofs.LabelCalls.{if_some_all, reading_hints}
+use Rattle.tt_render.proofs.OneText.{silent, text_cut, text_fails, text_written}
+use Rattle.tt_render.proofs.Printed.{keeps_itself}
+use Rattle.tt_render.proofs.label_drawing.draw_label.Goals as goal
+
+pub returns-in-Err-clause-outcome : goal.returns-in-Err-clause-outcome
+returns-in-Err-clause-outcome g c =
+    let left = g.R.Source.left c.args.font.now in
+    let a = c.args.asked.now.setting in
+    let j = c.in-Err.fault in
+    let stops : StopsAtFont {V = Unit {0}} (tested (job_by a c.args.text.now)) (strike_of a)
+    (Err (before_lines (reason.Job j)))
+    (font_reader_of g.R.Source.left g.R.Source.has_failed c.args.font.now c.args.font.now)
+    = (subst (λ (k : Job). tested k ≡ Err j) c.job.ensures.exact c.in-Err.ensures.exact, (keeps_itself left, c.requires.font)) in
+    rw c.unhinted.ensures
+    (inl (
+      stops,
+      silent left left (g.W.Sink.written c.args.out.now) (g.E.Sink.written c.args.error.now)
+          (g.R.Source.has_failed c.args.font.now) _ _ c.requires.out c.requires.error,
+    ))
+
+pub returns-in-Err-read_font-clause-outcome : goal.returns-in-Err-read_font-clause-outcome
+returns-in-Err-read_font-clause-outcome g c =
+    let a = c.args.asked.now.setting in
+    let left = g.R.Source.left in
+    let font = c.read_font.new.font in
+    let failed = g.R.Source.has_failed font in
+    let good = subst (λ (k : Job). tested k ≡ Ok tt) c.job.ensures.exact c.in_default.ensures.exact in
+    let stops = reading_stops (Unit {0}) (tested (job_by a c.args.text.now)) (strike_of a) c.in-Err-read_font.fault
+    (left c.args.font.now) (left font) failed good c.in-Err-read_font.ensures in
+    rw (c.unhinted-in-Err-read_font.ensures, c.refusal_of_run.ensures)
+    (inl (
+      stops,
+      silent (left c.args.font.now) (left font) (g.W.Sink.written c.args.out.now)
+          (g.E.Sink.written c.args.error.now) failed _ _ c.requires.out c.requires.error,
+    ))
+
+pub returns-in-Err-draw-clause-outcome : goal.returns-in-Err-draw-clause-outcome
+returns-in-Err-draw-clause-outcome g c =
+    let left = g.R.Source.left in
+    let font = c.read_font.new.font in
+    let failed = g.R.Source.has_failed font in
+    let file = c.in-Ok in
+    let l = c.args.asked.now in
+    let text = c.args.text.now in
+    let fault = c.in-Err-draw.fault in
+    let good = subst (λ (k : Job). tested k ≡ Ok tt) c.job.ensures.exact c.in_default.ensures.exact in
+    let P : List ℕ → Type 0 = λ bytes. LabelReadies (λ t. label_answer l t text) (strike_of l.setting bytes) (Err fault) in
+    let why = subst P c.deref.ensures.value c.in-Err-draw.ensures.outcome in
+    rw c.hinted.ensures
+    (text_fails l.setting (λ t. label_answer l t text) text file.file.items fault
+    (traffic_of left g.R.Source.has_failed g.W.Sink.written g.W.Sink.has_failed c.args.font.now font c.args.out.now
+    c.args.out.now) (errors_of g.E.Sink.written g.E.Sink.has_failed c.args.error.now c.args.error.now)
+    good (file.ensures.0, file.ensures.1, file.ensures.3) why
+    (silent (left c.args.font.now) (left font) (g.W.Sink.written c.args.out.now) (g.E.Sink.written c.args.error.now)
+    failed _ _ c.requires.out c.requires.error))
+
+pub returns-in-Ok-write_all_of-clause-outcome : goal.returns-in-Ok-write_all_of-clause-outcome
+returns-in-Ok-write_all_of-clause-outcome g c =
+    let file = c.in-Ok in
+    let ready = c.in-Ok-draw in
+    let l = c.args.asked.now in
+    let good = subst (λ (k : Job). tested k ≡ Ok tt) c.job.ensures.exact c.in_default.ensures.exact in
+    let made = rw c.deref.ensures.value at ready.ensures.outcome in
+    let printed = rw (c.requires.error, c.deref-in-Ok-write_all_of.ensures, ready.ensures.report) at c.print_text.ensures in
+    let sent = rw c.deref-in-Ok-draw.ensures.value at c.in-Ok-write_all_of.ensures.all in
+    rw c.done.ensures
+    (text_written l.setting (λ t. label_answer l t c.args.text.now) c.args.text.now file.file.items made.0
+    (label_view ready.ready)
+    (traffic_of g.R.Source.left g.R.Source.has_failed g.W.Sink.written g.W.Sink.has_failed c.args.font.now
+    c.read_font.new.font c.args.out.now c.write_all_of.new.out)
+    (errors_of g.E.Sink.written g.E.Sink.has_failed c.args.error.now c.print_text.new.error)
+    good (file.ensures.0, file.ensures.1, file.ensures.3) made.1 made.2 sent c.in-Ok-write_all_of.ensures.failure printed)
+
+pub returns-clause-outcome : goal.returns-clause-outcome
+returns-clause-outcome g c =
+    let file = c.in-Ok in
+    let ready = c.in-Ok-draw in
+    let l = c.args.asked.now in
+    let good = subst (λ (k : Job). tested k ≡ Ok tt) c.job.ensures.exact c.in_default.ensures.exact in
+    let made = rw c.deref.ensures.value at ready.ensures.outcome in
+    let cut = c.in-Err-write_all_of.ensures in
+    rw c.unhinted.ensures
+    (text_cut l.setting (λ t. label_answer l t c.args.text.now) c.args.text.now file.file.items made.0
+    (label_view ready.ready) c.in-Err-write_all_of.cut.sent
+    (traffic_of g.R.Source.left g.R.Source.has_failed g.W.Sink.written g.W.Sink.has_failed c.args.font.now
+    c.read_font.new.font c.args.out.now c.write_all_of.new.out)
+    (errors_of g.E.Sink.written g.E.Sink.has_failed c.args.error.now c.args.error.now)
+    good (file.ensures.0, file.ensures.1, file.ensures.3) made.1 made.2
+    (cut.within, cut.part) cut.failure (keeps_itself (g.E.Sink.written c.args.error.now), c.requires.error))
+
+pub returns-in-Err-clause-hint : goal.returns-in-Err-clause-hint
+returns-in-Err-clause-hint g c =
+    rw c.unhinted.ensures (if_some_all (g.R.Source.left c.args.font.now) _ (λ file. refl))
+
+pub returns-in-Err-read_font-clause-hint : goal.returns-in-Err-read_font-clause-hint
+returns-in-Err-read_font-clause-hint g c =
+    let left = g.R.Source.left in
+    let font = c.read_font.new.font in
+    rw (c.unhinted-in-Err-read_font.ensures, c.refusal_of_run.ensures)
+    (if_some_all (left c.args.font.now) _ (λ file. reading_hints c.in-Err-read_font.fault (left c.args.font.now) (left font)
+    (g.R.Source.has_failed font) file c.args.asked.now.setting.reading c.in-Err-read_font.ensures))
+
+pub returns-in-Err-draw-clause-hint : goal.returns-in-Err-draw-clause-hint
+returns-in-Err-draw-clause-hint g c =
+    let left = g.R.Source.left in
+    let file = c.in-Ok in
+    known_of (left c.args.font.now) (left c.read_font.new.font) file.file.items (HintsBy c.args.asked.now c.hinted.result)
+    file.ensures.0 file.ensures.1 (rw (c.hinted.ensures, c.deref-in-Err-draw.ensures.value) refl)
+
+pub returns-in-Ok-write_all_of-clause-hint : goal.returns-in-Ok-write_all_of-clause-hint
+returns-in-Ok-write_all_of-clause-hint g c =
+    rw c.done.ensures (if_some_all (g.R.Source.left c.args.font.now) _ (λ file. refl))
+
+pub returns-clause-hint : goal.returns-clause-hint
+returns-clause-hint g c =
+    rw c.unhinted.ensures (if_some_all (g.R.Source.left c.args.font.now) _ (λ file. refl))

@@ -1,0 +1,84 @@
+use Rattle.std.proofs.Common.{◌≡◌, ◌∙◌, ap, refl, List, Ok, Err, inl, subst}
+use Rattle.tt_render.specs.Labels.{FileLabelsGive, HintsBy}
+use Rattle.tt_render_run.specs.Outcome.{traffic_of}
+use Rattle.tt_render.specs.Printing.{errors_of}
+use Rattle.tt_render_run.specs.Reading.{FontIsRead, FontIsUnread, font_reader_of}
+use Rattle.tt_render.specs.Settings.{strike_of}
+use Rattle.tt_render_run.proofs.Calls.{known_of}
+use Rattle.tt_render.proofs.FontLines.{idle, reading_stops}
+use Rattle.tt_render.proofs.LabelCalls.{by_reader, if_some_all, reading_hints}
+use Rattle.tt_render.proofs.Printed.{keeps_itself}
+use Rattle.tt_render.proofs.label_drawing.draw_labels.Goals as goal
+
+pub returns-in-Err-clause-outcome : goal.returns-in-Err-clause-outcome
+returns-in-Err-clause-outcome g c =
+    let rest = idle (g.R.Source.left c.args.lines.now) (g.W.Sink.written c.args.out.now)
+    (g.E.Sink.written c.args.error.now) (g.R.Source.has_failed c.args.lines.now)
+    (g.W.Sink.has_failed c.args.out.now) (g.E.Sink.has_failed c.args.error.now) c.requires.lines c.requires.out
+    c.requires.error in
+    let unread : FontIsUnread (font_reader_of g.F.Source.left g.F.Source.has_failed c.args.font.now c.args.font.now) =
+    (keeps_itself (g.F.Source.left c.args.font.now), c.requires.font) in
+    rw c.unhinted.ensures (inl ((c.in-Err.ensures, unread), rest))
+
+pub returns-in-Err-read_font-clause-outcome : goal.returns-in-Err-read_font-clause-outcome
+returns-in-Err-read_font-clause-outcome g c =
+    let left = g.F.Source.left in
+    let rest = idle (g.R.Source.left c.args.lines.now) (g.W.Sink.written c.args.out.now)
+    (g.E.Sink.written c.args.error.now) (g.R.Source.has_failed c.args.lines.now)
+    (g.W.Sink.has_failed c.args.out.now) (g.E.Sink.has_failed c.args.error.now) c.requires.lines c.requires.out
+    c.requires.error in
+    let stops = reading_stops (Unit {0}) _ (strike_of c.args.asked.now.setting) c.in-Err-read_font.fault
+    (left c.args.font.now) (left c.read_font.new.font) (g.F.Source.has_failed c.read_font.new.font) c.in_default.ensures
+    c.in-Err-read_font.ensures in
+    rw (c.unhinted-in-Err-read_font.ensures, c.refusal_of_run.ensures) (inl (stops, rest))
+
+pub returns-in-Ok-draw_labels_of-clause-outcome : goal.returns-in-Ok-draw_labels_of-clause-outcome
+returns-in-Ok-draw_labels_of-clause-outcome g c =
+    let l = c.args.asked.now in
+    let file = c.in-Ok in
+    let f = font_reader_of g.F.Source.left g.F.Source.has_failed c.args.font.now c.read_font.new.font in
+    let read : FontIsRead f file.file.items = (file.ensures.0, file.ensures.1, file.ensures.3) in
+    let t = traffic_of g.R.Source.left g.R.Source.has_failed g.W.Sink.written g.W.Sink.has_failed c.args.lines.now
+    c.draw_labels_of.new.lines c.args.out.now c.draw_labels_of.new.out in
+    let e = errors_of g.E.Sink.written g.E.Sink.has_failed c.args.error.now c.draw_labels_of.new.error in
+    rw c.done.ensures
+    (by_reader l file.file.items (Ok tt) f t e c.in_default.ensures read
+    (rw c.deref.ensures.value at c.in-Ok-draw_labels_of.ensures))
+
+pub returns-clause-outcome : goal.returns-clause-outcome
+returns-clause-outcome g c =
+    let l = c.args.asked.now in
+    let file = c.in-Ok in
+    let f = font_reader_of g.F.Source.left g.F.Source.has_failed c.args.font.now c.read_font.new.font in
+    let read : FontIsRead f file.file.items = (file.ensures.0, file.ensures.1, file.ensures.3) in
+    let t = traffic_of g.R.Source.left g.R.Source.has_failed g.W.Sink.written g.W.Sink.has_failed c.args.lines.now
+    c.draw_labels_of.new.lines c.args.out.now c.draw_labels_of.new.out in
+    let e = errors_of g.E.Sink.written g.E.Sink.has_failed c.args.error.now c.draw_labels_of.new.error in
+    let fault = c.in-Err-draw_labels_of.fault in
+    let Gives : List _ → Type 0 = λ bytes. FileLabelsGive {V = Unit {0}} l bytes (Err fault) t e in
+    rw c.hinted.ensures
+    (by_reader {V = Unit {0}} l file.file.items (Err fault) f t e c.in_default.ensures read
+    (subst Gives c.deref.ensures.value c.in-Err-draw_labels_of.ensures))
+
+pub returns-in-Err-clause-hint : goal.returns-in-Err-clause-hint
+returns-in-Err-clause-hint g c =
+    rw c.unhinted.ensures (if_some_all (g.F.Source.left c.args.font.now) _ (λ file. refl))
+
+pub returns-in-Err-read_font-clause-hint : goal.returns-in-Err-read_font-clause-hint
+returns-in-Err-read_font-clause-hint g c =
+    let left = g.F.Source.left in
+    let font = c.read_font.new.font in
+    rw (c.unhinted-in-Err-read_font.ensures, c.refusal_of_run.ensures)
+    (if_some_all (left c.args.font.now) _ (λ file. reading_hints c.in-Err-read_font.fault (left c.args.font.now) (left font)
+    (g.F.Source.has_failed font) file c.args.asked.now.setting.reading c.in-Err-read_font.ensures))
+
+pub returns-in-Ok-draw_labels_of-clause-hint : goal.returns-in-Ok-draw_labels_of-clause-hint
+returns-in-Ok-draw_labels_of-clause-hint g c =
+    rw c.done.ensures (if_some_all (g.F.Source.left c.args.font.now) _ (λ file. refl))
+
+pub returns-clause-hint : goal.returns-clause-hint
+returns-clause-hint g c =
+    let left = g.F.Source.left in
+    let file = c.in-Ok in
+    known_of (left c.args.font.now) (left c.read_font.new.font) file.file.items (HintsBy c.args.asked.now c.hinted.result)
+    file.ensures.0 file.ensures.1 (rw (c.hinted.ensures, c.deref-in-Err-draw_labels_of.ensures.value) refl)

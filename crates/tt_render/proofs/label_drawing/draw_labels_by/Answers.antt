@@ -1,0 +1,160 @@
+use Rattle.std.proofs.Common.{◌≡◌, ◌∙◌, ap, ◌+◌, Some, Ok, arith, refl}
+use Rattle.std.proofs.lemmas.Result.{err_from_is_err_and}
+use Rattle.tt_strike.specs.Strikes.{SizedFace}
+use Rattle.tt_render.specs.Labels.{label_view, line_labelled, strike_in}
+use Rattle.tt_render.specs.LineReading.{held, line_at, text_left}
+use Rattle.tt_render.specs.Lines.{lines_limit}
+use Rattle.tt_render_run.specs.Outcome.{traffic_of}
+use Rattle.tt_render.specs.Printing.{PrintsBehind, errors_of}
+use Rattle.tt_render.specs.Reports.{told_of}
+use Rattle.tt_render.proofs.DrawnLines.{all_drawn, drawn_too, many_sent, none_so_far, one_more, reader_at_end, some_sent, whole_text}
+use Rattle.tt_render.proofs.LabelLines.{long_label}
+use Rattle.tt_render.proofs.StoppedLines.{cut_sent, stopped_before, stopped_in}
+use Rattle.tt_render.proofs.Printed.{keeps_itself}
+use Rattle.tt_render.proofs.label_drawing.draw_labels_by.Goals as goal
+
+pub returns-in_err-reader : goal.returns-in_err-reader
+returns-in_err-reader g c =
+    let draw = line_labelled c.args.asked.now (strike_in c.args.asked.now.setting c.args.sized.now) in
+    let left = g.R.Source.left c.args.lines.now in
+    let out = g.W.Sink.written c.args.out.now in
+    let error = g.E.Sink.written c.args.error.now in
+    let failed = g.E.Sink.has_failed c.args.error.now in
+    let p = err_from_is_err_and c.from_residual.result c.from_residual.ensures.1 in
+    let t = traffic_of g.R.Source.left g.R.Source.has_failed g.W.Sink.written g.W.Sink.has_failed c.args.lines.now
+    c.args.lines.now c.args.out.now c.args.out.now in
+    let e = errors_of g.E.Sink.written g.E.Sink.has_failed c.args.error.now c.args.error.now in
+    let sends = some_sent draw left t e 0 0
+    (none_so_far draw left left out error failed (keeps_itself left) c.requires.error) in
+    rw (p.1, p.2) (sends, c.requires.lines, c.requires.out)
+
+pub loop-before-init : goal.loop-before-init
+loop-before-init g c =
+    let left = g.R.Source.left c.args.lines.now in
+    let reader = c.in_ok-reader in
+    record {
+      sized = refl;
+      reads = c.requires.lines;
+      writes = c.requires.out;
+      so_far = none_so_far (line_labelled c.args.asked.now (strike_in c.args.asked.now.setting c.args.sized.now)) left (text_left reader.reader left)
+          (g.W.Sink.written c.args.out.now) (g.E.Sink.written c.args.error.now)
+          (g.E.Sink.has_failed c.args.error.now) (whole_text (held reader.reader) left reader.ensures)
+          c.requires.error;
+    }
+
+pub returns-in-Ok-None : goal.returns-in-Ok-None
+returns-in-Ok-None g c =
+    let so_far = c.loop-before.invariant in
+    let draw = line_labelled c.args.asked.now (strike_in c.args.asked.now.setting c.args.sized.now) in
+    let left = g.R.Source.left in
+    let t = traffic_of left g.R.Source.has_failed g.W.Sink.written g.W.Sink.has_failed c.args.lines.now
+    c.next_line.new.lines c.args.out.now c.loop-before.out in
+    let e = errors_of g.E.Sink.written g.E.Sink.has_failed c.args.error.now c.loop-before.error in
+    let none = rw c.in-Ok-None.field-0-is at c.in-Ok-None.ensures.outcome in
+    let reads = c.in-Ok-None.ensures.failure in
+    let sends = all_drawn draw (text_left c.loop-before.reader (left c.loop-before.lines)) t e c.loop-before.before
+    0 so_far.so_far none.0 in
+    let end = reader_at_end (held c.next_line.new.reader) (left c.next_line.new.lines) none.1 in
+    (sends, (end, reads), so_far.writes)
+
+pub returns-in-Err : goal.returns-in-Err
+returns-in-Err g c =
+    let so_far = c.loop-before.invariant in
+    let draw = line_labelled c.args.asked.now (strike_in c.args.asked.now.setting c.args.sized.now) in
+    let left = g.R.Source.left in
+    let t = traffic_of left g.R.Source.has_failed g.W.Sink.written g.W.Sink.has_failed c.args.lines.now
+    c.next_line.new.lines c.args.out.now c.loop-before.out in
+    let e = errors_of g.E.Sink.written g.E.Sink.has_failed c.args.error.now c.loop-before.error in
+    let fails = stopped_before draw (long_label c.args.asked.now (strike_in c.args.asked.now.setting c.args.sized.now)) c.next_line.new.reader c.in-Err.stop.refusal
+    (text_left c.loop-before.reader (left c.loop-before.lines))
+    (text_left c.next_line.new.reader (left c.next_line.new.lines)) t e c.loop-before.before 0
+    so_far.so_far c.in-Err.ensures.outcome c.in-Err.ensures.failure so_far.writes in
+    rw c.texts_fault.ensures fails
+
+pub returns-in-Err-draw_line : goal.returns-in-Err-draw_line
+returns-in-Err-draw_line g c =
+    let so_far = c.loop-before.invariant in
+    let a = c.args.asked.now in
+    let left = g.R.Source.left in
+    let found = rw c.in-Ok-Some.field-0-is at c.in-Ok-Some.ensures.outcome in
+    let t = traffic_of left g.R.Source.has_failed g.W.Sink.written g.W.Sink.has_failed c.args.lines.now
+    c.next_line.new.lines c.args.out.now c.loop-before.out in
+    let e = errors_of g.E.Sink.written g.E.Sink.has_failed c.args.error.now c.loop-before.error in
+    let same = ap (λ (z : SizedFace). line_labelled a (strike_in a.setting z)) so_far.sized in
+    let is = rw c.line-line.ensures at c.in-Err-draw_line.ensures.exact in
+    let fails = stopped_in (line_labelled a (strike_in a.setting c.args.sized.now)) (line_labelled a (strike_in a.setting c.loop-before.sized)) c.in-Err-draw_line.fault.refusal
+    (text_left c.loop-before.reader (left c.loop-before.lines))
+    (text_left c.next_line.new.reader (left c.next_line.new.lines)) t e c.loop-before.before 0
+    (line_at c.next_line.new.reader c.in-Ok-Some.place) same so_far.so_far found.0 found.2 is
+    c.in-Err-draw_line.ensures.serves c.in-Ok-Some.ensures.failure so_far.writes in
+    rw c.texts_fault-in-Err-draw_line.ensures fails
+
+pub returns-in-Err-write_all_of : goal.returns-in-Err-write_all_of
+returns-in-Err-write_all_of g c =
+    let so_far = c.loop-before.invariant in
+    let a = c.args.asked.now in
+    let draw = line_labelled a (strike_in a.setting c.args.sized.now) in
+    let left = g.R.Source.left in
+    let written = g.W.Sink.written in
+    let found = rw c.in-Ok-Some.field-0-is at c.in-Ok-Some.ensures.outcome in
+    let line = line_at c.next_line.new.reader c.in-Ok-Some.place in
+    let is : draw line ≡ Ok (label_view c.in-Ok.ready) =
+    drawn_too draw (line_labelled a (strike_in a.setting c.loop-before.sized)) line (Ok (label_view c.in-Ok.ready))
+    (ap (λ (z : SizedFace). line_labelled a (strike_in a.setting z)) so_far.sized)
+    (rw c.line-line.ensures at c.in-Ok.ensures.exact) in
+    let cut = c.in-Err-write_all_of in
+    let t = traffic_of left g.R.Source.has_failed written g.W.Sink.has_failed c.args.lines.now
+    c.next_line.new.lines c.args.out.now c.write_all_of.new.out in
+    let e = errors_of g.E.Sink.written g.E.Sink.has_failed c.args.error.now c.loop-before.error in
+    let sends = cut_sent draw (text_left c.loop-before.reader (left c.loop-before.lines))
+    (text_left c.next_line.new.reader (left c.next_line.new.lines)) (written c.loop-before.out) t e
+    c.loop-before.before 0 cut.cut.sent line (label_view c.in-Ok.ready) so_far.so_far found.0 found.2 is
+    cut.ensures.within cut.ensures.part in
+    (sends, c.in-Ok-Some.ensures.failure, cut.ensures.failure)
+
+pub loop-before-preserved : goal.loop-before-preserved
+loop-before-preserved g c =
+    let so_far = c.loop-before.invariant in
+    let a = c.args.asked.now in
+    let draw = line_labelled a (strike_in a.setting c.args.sized.now) in
+    let left = g.R.Source.left in
+    let written = g.W.Sink.written in
+    let told = g.E.Sink.written in
+    let failed = g.E.Sink.has_failed in
+    let found = rw c.in-Ok-Some.field-0-is at c.in-Ok-Some.ensures.outcome in
+    let line = line_at c.next_line.new.reader c.in-Ok-Some.place in
+    let answer = label_view c.in-Ok.ready in
+    let is : draw line ≡ Ok answer =
+    drawn_too draw (line_labelled a (strike_in a.setting c.loop-before.sized)) line (Ok answer)
+    (ap (λ (z : SizedFace). line_labelled a (strike_in a.setting z)) so_far.sized)
+    (rw c.line-line.ensures at c.in-Ok.ensures.exact) in
+    let printed : PrintsBehind (failed c.loop-before.error)
+    (errors_of told failed c.loop-before.error c.print_text.new.error)
+    (told_of (Some (c.loop-before.before + 1)) answer) =
+    rw (c.deref.ensures, c.in-Ok.ensures.report) at c.print_text.ensures in
+    record {
+      sized = c.in-Ok.ensures.same ∙ so_far.sized;
+      reads = c.in-Ok-Some.ensures.failure;
+      writes = c.in_default.ensures.failure;
+      so_far = (one_more draw (left c.args.lines.now)
+          (text_left c.loop-before.reader (left c.loop-before.lines))
+          (text_left c.next_line.new.reader (left c.next_line.new.lines)) (written c.args.out.now)
+          (written c.loop-before.out) (written c.write_all_of.new.out) (told c.args.error.now)
+          (told c.loop-before.error) (told c.print_text.new.error) (failed c.loop-before.error)
+          (failed c.print_text.new.error) c.loop-before.before line answer 0 so_far.so_far
+          found.0 found.2 is c.in_default.ensures.all printed);
+    }
+
+pub returns : goal.returns
+returns g c =
+    let so_far = c.loop-before.invariant in
+    let draw = line_labelled c.args.asked.now (strike_in c.args.asked.now.setting c.args.sized.now) in
+    let left = g.R.Source.left in
+    let all : c.loop-before.before ≡ lines_limit =
+    omega (arith, c.loop-before.auto.before-end, c.loop-before-test.false) in
+    let t = traffic_of left g.R.Source.has_failed g.W.Sink.written g.W.Sink.has_failed c.args.lines.now
+    c.loop-before.lines c.args.out.now c.loop-before.out in
+    let e = errors_of g.E.Sink.written g.E.Sink.has_failed c.args.error.now c.loop-before.error in
+    let sends = many_sent draw (text_left c.loop-before.reader (left c.loop-before.lines)) t e c.loop-before.before
+    lines_limit 0 all so_far.so_far in
+    (sends, so_far.reads, so_far.writes)

@@ -1,0 +1,34 @@
+use Rattle.std.proofs.Common.{inl, inr}
+use Rattle.std.proofs.lemmas.Result.{err_from_is_err_and}
+use Rattle.tt_render.specs.Settings.{strike_by}
+use Rattle.tt_render.proofs.FontLines.{face_file, font_opened, font_refused, idle}
+use Rattle.tt_render.proofs.LabelCalls.{size_stands}
+use Rattle.tt_render.proofs.label_drawing.draw_labels_of.Goals as goal
+
+pub returns-in_err-face : goal.returns-in_err-face
+returns-in_err-face g c =
+    let p = err_from_is_err_and c.from_residual.result c.from_residual.ensures.1 in
+    let rest = idle (g.R.Source.left c.args.lines.now) (g.W.Sink.written c.args.out.now)
+    (g.E.Sink.written c.args.error.now) (g.R.Source.has_failed c.args.lines.now)
+    (g.W.Sink.has_failed c.args.out.now) (g.E.Sink.has_failed c.args.error.now) c.requires.lines c.requires.out
+    c.requires.error in
+    let refused = font_refused c.args.asked.now.setting c.args.file.now c.in_err-face.field-0.0 c.requires.size
+    c.in_err-face.ensures.exact in
+    rw (p.1, p.2) (inl (refused, rest))
+
+pub returns-in_err-sized : goal.returns-in_err-sized
+returns-in_err-sized g c =
+    absurd (size_stands c.args.asked.now.setting c.in_err-sized.field-0.0 c.requires.tested c.in_err-sized.ensures.tested)
+
+pub returns : goal.returns
+returns g c =
+    let a = c.args.asked.now.setting in
+    let face = c.in_ok-face.face in
+    let opened = font_opened a c.args.file.now face c.requires.size c.in_ok-face.ensures.exact in
+    let gives = rw c.in_ok-sized.ensures.exact at c.draw_labels_by.ensures in
+    inr (strike_by a face, opened, gives)
+
+pub draw_labels_by-requires-clause-file : goal.draw_labels_by-requires-clause-file
+draw_labels_by-requires-clause-file g c =
+    rw c.in_ok-sized.ensures.exact
+    (face_file c.args.file.now c.args.asked.now.setting.reading c.in_ok-face.face c.in_ok-face.ensures.exact)

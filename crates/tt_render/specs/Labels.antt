@@ -1,0 +1,156 @@
+-- No part of the standard: the answer of a text that is drawn as a label, by a font at a size (profile). A label is the
+-- picture of the lines of its text.
+use Rattle.std.specs.Prelude.{◌≡◌, ◌⊎◌, refl, ℕ, List, [], ◌∷◌, length, find, chars, string_bytes, Option, Some, None, Result, Ok, Err, ⊤}
+use Rattle.tt_advice.specs.Advice.{advice}
+use Rattle.tt_advice.specs.declared.hint.Hint.{Hint}
+use Rattle.tt_advice.specs.declared.signs.Sign.{Sign}
+use Rattle.tt_advice.specs.declared.signs.Sign.TheVariants as sign
+use Rattle.tt_advice.specs.Notes.{font_notes}
+use Rattle.tt_advice.specs.Signs.{is_of}
+use Rattle.tt_cmap.specs.Lacking.{distinct_after, lacking_of}
+use Rattle.tt_cmap.specs.Maps.{CharacterMap}
+use Rattle.tt_core.specs.declared.collection.Reading.{Reading}
+use Rattle.tt_core.specs.declared.collection.Reading.TheVariants as reading
+use Rattle.tt_strike.specs.Refusals.{Refused, font}
+use Rattle.tt_strike.specs.Strikes.{SizedFace, Strike, job_of}
+use Rattle.tt_render_run.specs.File.{as_file}
+use Rattle.tt_render.specs.declared.label.Label.{Label}
+use Rattle.tt_render.specs.declared.label.Labelled.{Labelled}
+use Rattle.tt_render.specs.declared.label_answers.ReadyLabel.{ReadyLabel}
+use Rattle.tt_render.specs.declared.refusal.Refusal.{Refusal}
+use Rattle.tt_render.specs.declared.refusal.Refusal.TheVariants as reason
+use Rattle.tt_render.specs.declared.refusal.TextsFault.{TextsFault}
+use Rattle.tt_render.specs.declared.setting.Setting.{Setting}
+use Rattle.tt_render.specs.declared.signs.Signs.{Signs}
+use Rattle.tt_render.specs.Lines.{line_answer}
+use Rattle.tt_render.specs.Printing.{Errors}
+use Rattle.tt_render.specs.Reports.{label_report_of, told_view}
+use Rattle.tt_render.specs.Settings.{setting_tested, strike_of}
+use Rattle.tt_label.specs.Label.{label_outcome, label_report}
+use Rattle.tt_line.specs.Labels.{label_lines}
+use Rattle.tt_render.specs.Texts.{LabelTold, TextAnswer, TextRefusal, answer_with, missing_among}
+use Rattle.tt_render.specs.TextsOutcome.{FontAnswers, IsIdle, IsNotReady, LinesGive, OpensFont, StopsAtFont}
+use Rattle.tt_render_run.specs.Outcome.{Traffic}
+use Rattle.tt_render_run.specs.Reading.{FontReader}
+
+-- the first character of some lines that has a sign
+abbrev pub or_later : Option ℕ → Option ℕ → Option ℕ
+or_later (Some c) later = Some c
+or_later None later = later
+
+abbrev pub first_sign : Sign → List (List ℕ) → Option ℕ
+first_sign which [] = None
+first_sign which (line ∷ lines) = or_later (find (is_of which) (chars line)) (first_sign which lines)
+
+-- the first character of each sign
+abbrev pub signs_of : List (List ℕ) → Signs
+signs_of lines = record {
+  control = first_sign sign.Control lines;
+  right_to_left = first_sign sign.RightToLeft lines;
+  shaped = first_sign sign.Shaped lines;
+  joining = first_sign sign.Joining lines;
+}
+
+-- a list of distinct characters, extended by the characters of some lines without a glyph
+abbrev pub lacking_after : CharacterMap → List ℕ → List (List ℕ) → List ℕ
+lacking_after m before [] = before
+lacking_after m before (line ∷ lines) = lacking_after m (distinct_after before (lacking_of m (chars line))) lines
+
+-- the distinct characters of some lines without a glyph, in order of first appearance
+abbrev pub lines_lacking : CharacterMap → List (List ℕ) → List ℕ
+lines_lacking m lines = lacking_after m [] lines
+
+-- the number of the face that a reading gives
+abbrev pub face_number : Reading → ℕ
+face_number reading.Strict = 0
+face_number (reading.Wide face) = face
+
+-- what is told of a label, by its font's file
+abbrev pub label_told : Label → List ℕ → List ℕ → LabelTold
+label_told l file text = record {
+  fit = l.setting.fit;
+  signs = signs_of (label_lines text);
+  font = font_notes l.path.now file (face_number l.setting.reading) l.face_given;
+}
+
+-- the answer of a label's text by a font's tables at a size; a label takes nothing of the budget of many lines
+unfoldable pub label_answer : Label → Strike → List ℕ → Result TextAnswer TextRefusal
+label_answer l s text =
+    answer_with (Some (label_told l s.face.directory.file text))
+    (as_file (label_outcome s.face (job_of s text l.setting.margin) l.align))
+    (label_report s.face (job_of s text l.setting.margin) l.align)
+    (missing_among l.setting.missing (lines_lacking s.face.cmap (label_lines text)))
+    (Ok 0)
+
+-- the answer of a line that is drawn as a label
+unfoldable pub line_labelled : Label → Strike → List ℕ → Result TextAnswer TextRefusal
+line_labelled l s line = line_answer (label_answer l s) line
+
+-- a face at a size as a strike without cached glyphs
+abbrev pub strike_in : Setting → SizedFace → Strike
+strike_in a z = record { face = z.face; ppem = z.ppem; fit = z.fit; most = a.most; kept = [] }
+
+-- the answer that is ready to be written
+abbrev pub label_view : ReadyLabel → TextAnswer
+label_view r = record {
+  bytes = r.file.items;
+  unfitted = r.picture.unfitted;
+  lacking = r.lacking.items;
+  cost = 0;
+  label = Some (told_view r.told);
+}
+
+-- its report, as it is printed
+abbrev pub TellsLabel : Option ℕ → ReadyLabel → Type 0
+TellsLabel number r =
+    string_bytes r.report ≡ label_report_of number (told_view r.told) (length r.picture.unfitted) r.lacking.items
+
+-- what a person is told of the font's file, where the font is refused
+abbrev pub hint_for : Refusal → List ℕ → Reading → Option Hint
+hint_for (reason.Font f) file r = Some (advice f file (face_number r))
+hint_for why file r = None
+
+-- the hint of an answer
+abbrev pub hint_of : Result (Unit {0}) TextsFault → List ℕ → Reading → Option Hint
+hint_of (Ok u) file r = None
+hint_of (Err fault) file r = hint_for fault.refusal file r
+
+-- the hint beside an answer is that about the font's file
+abbrev pub HintsBy : Label → Labelled → List ℕ → Type 0
+HintsBy l e file = e.hint ≡ hint_of e.answer file l.setting.reading
+
+-- a call stopped before it drew the text, or memory ran out by then; or it drew the text by a font
+abbrev pub FontLabelGives : {V : Type 0} → Label → List ℕ → Result V TextsFault → Traffic → Errors → Type 0
+FontLabelGives l text r t e = FontAnswers l.setting (λ s. label_answer l s text) text r t e
+
+-- a call stopped before it read a line, or drew the lines of a text by a font, each as a label of its own
+abbrev pub FontLabelsGive : {V : Type 0} → Label → Result V TextsFault → FontReader → Traffic → Errors → Type 0
+FontLabelsGive l r f t e =
+    (StopsAtFont (setting_tested l.setting) (strike_of l.setting) r f × IsIdle t e)
+    ⊎ OpensFont (setting_tested l.setting) (strike_of l.setting) f (λ s. LinesGive (line_labelled l s) r t e)
+
+-- the same by the bytes of the font: a table that every text needs is refused, or memory ran out, before a line was read;
+-- or the lines are drawn
+abbrev pub IsUnopened : Result Strike Refused → Refusal → Option ℕ → Type 0
+IsUnopened opened (reason.Font f) None = opened ≡ Err (font f)
+IsUnopened opened reason.Memory None = ⊤
+IsUnopened opened why line = ⊥
+
+abbrev pub StopsUnopened : {V : Type 0} → Result Strike Refused → Result V TextsFault → Type 0
+StopsUnopened opened (Ok v) = ⊥
+StopsUnopened opened (Err fault) = IsUnopened opened fault.refusal fault.line
+
+abbrev pub FileLabelsGive : {V : Type 0} → Label → List ℕ → Result V TextsFault → Traffic → Errors → Type 0
+FileLabelsGive l file r t e =
+    (StopsUnopened (strike_of l.setting file) r × IsIdle t e)
+    ⊎ ((s : Strike) × (strike_of l.setting file ≡ Ok s) × LinesGive (line_labelled l s) r t e)
+
+-- one label by an opened font, or the refusal
+abbrev pub LabelReadies : (Strike → Result TextAnswer TextRefusal) → Result Strike Refused → Result ReadyLabel TextsFault
+    → Type 0
+LabelReadies answer opened (Ok r) = (s : Strike) × (opened ≡ Ok s) × (answer s ≡ Ok (label_view r))
+LabelReadies answer opened (Err fault) = IsNotReady answer opened fault.refusal fault.line
+
+-- worked value: of three lines the second has the sign first
+the_first_line_with_the_sign : or_later None (or_later (Some 9) (or_later (Some 10) None)) ≡ Some 9
+the_first_line_with_the_sign = refl

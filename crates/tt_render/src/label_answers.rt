@@ -1,0 +1,108 @@
+//! The answer of a text that is drawn as a label: the file of its picture, and its report.
+
+ghost use Rattle.std.specs.Prelude.{◌≡◌, ℕ, ◌≤◌, List, length, map, IfOk};
+ghost use Rattle.tt_core.specs.Limits.{font_limit};
+ghost use Rattle.tt_core.specs.Outcomes.{GivesUnless};
+ghost use Rattle.tt_render.specs.Labels.{TellsLabel, face_number, label_answer, label_told, label_view, signs_of, strike_in};
+ghost use Rattle.tt_render.specs.Reports.{told_view};
+ghost use Rattle.tt_line.specs.Labels.{label_lines};
+ghost use Rattle.tt_render.specs.TextsOutcome.{IsOfText, told, without_line};
+ghost use Rattle.tt_render_run.specs.File.{p4};
+
+use crate::label::Label;
+use crate::label_reports::LabelTold;
+use crate::label_texts::{label_lines, missing_in};
+use crate::refusal::TextsFault;
+use crate::signs::signs_of;
+use crate::texts_messages::Messages;
+use std::alloc::{AllocError, Global};
+use tt_advice::font_notes;
+use tt_core::Reading;
+use tt_label::{LabelPicture, SizedFace, label};
+use tt_pbm::p4_header;
+
+/// A label, ready to be written: its picture, the file of that, the reported characters without a glyph, what else is
+/// told, and the report as it is printed.
+#[derive(Drop)]
+pub(crate) struct ReadyLabel {
+    pub(crate) picture: LabelPicture,
+    pub(crate) file: Vec<u8>,
+    pub(crate) lacking: Vec<char>,
+    pub(crate) told: LabelTold,
+    pub(crate) report: String,
+}
+
+/// The file of a label's picture. Error: memory ran out.
+fn p4_file(alloc: Global, picture: &LabelPicture) -> Result<Vec<u8>, AllocError>
+    ensures { IfOk result (λ v. v.items ≡ p4 picture.now.image) }
+{
+    let header = p4_header(picture.width(), picture.height());
+    let mut file = Vec::new(alloc);
+    file.extend_from_slice(&header.bytes[..header.len])?;
+    file.extend_from_slice(picture.bytes())?;
+    Ok(file)
+}
+
+/// The number of the face that a reading gives.
+pub(crate) fn face_number(reading: Reading) -> u32
+    ensures { result ≡ face_number reading }
+{
+    match reading {
+        Reading::Strict => 0,
+        Reading::Wide { face } => face,
+    }
+}
+
+/// What is told of a label with these lines, by its font's file. Error: memory ran out.
+fn told_of(
+    alloc: Global,
+    file: &[u8],
+    asked: &Label,
+    lines: &[&str],
+) -> Result<LabelTold, AllocError>
+    requires { length file.now ≤ font_limit }
+    ensures { (text : List ℕ) → map (λ l. l.now) lines.now ≡ label_lines text → IfOk result (λ t. told_view t ≡ label_told asked.now file.now text) }
+{
+    let face = face_number(asked.setting.reading);
+    let font = font_notes(alloc, asked.path, file, face, asked.face_given)?;
+    Ok(LabelTold {
+        fit: asked.setting.fit,
+        signs: signs_of(lines),
+        font,
+    })
+}
+
+/// The answer of a text as a label by a face at a size, which is of this file; `number` is that of a line. Errors, the
+/// first of: those of `label`; Missing. The caller puts the line into an error.
+#[tactic(auto, unfolding(crate::specs::Labels::label_answer))]
+pub(crate) fn answer_label(
+    alloc: Global,
+    sized: &mut SizedFace,
+    file: &[u8],
+    asked: &Label,
+    number: Option<u32>,
+    text: &str,
+) -> Result<ReadyLabel, TextsFault>
+    requires size { length file.now ≤ font_limit }
+    requires file { file.now ≡ sized.old.face.directory.file }
+    ensures exact { GivesUnless told label_view (without_line result) (label_answer asked.now (strike_in asked.now.setting sized.old) text.now) }
+    ensures report { IfOk result (TellsLabel number) }
+    ensures serves { IsOfText (without_line result) }
+    ensures same { sized.new ≡ sized.old }
+{
+    let face = sized.face();
+    let picture = label(sized, text, asked.setting.margin, asked.align)?;
+    let bytes = p4_file(alloc, &picture)?;
+    let lines = label_lines(alloc, text)?;
+    let lacking = missing_in(alloc, face.cmap(), asked.setting.missing, &lines)?;
+    let told = told_of(alloc, file, asked, &lines)?;
+    let about = Messages { alloc, number };
+    let report = about.label_report(&told, picture.unfitted().len(), &lacking)?;
+    Ok(ReadyLabel {
+        picture,
+        file: bytes,
+        lacking,
+        told,
+        report,
+    })
+}
