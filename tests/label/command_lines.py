@@ -23,9 +23,11 @@ def command_line(asked):
         common.verdict(f"label {' '.join(words)}", complains(asked.run(["label", *words], folder)))
     drawn = 0, b"P4\n4 4\n\0\0\x60\x60", b""
     right = [
-        [*size, "--", "F.ttf", "A"], ["F.ttf", "A", *size], ["F.ttf", *size, "A"], [*size, "--align=left", "F.ttf", "A"],
-        [*size, "--align", "right", "F.ttf", "--", "A"], ["--size=16", "--margin=0", "--fit=best", "--face=0",
-         "--missing=tell", "--align=centre", "F.ttf", "A"],
+        [*size, "--", "F.ttf", "A"],
+        ["F.ttf", "A", *size],
+        ["F.ttf", *size, "A"],
+        [*size, "--align", "right", "F.ttf", "--", "A"],
+        "--size=16 --margin=0 --fit=best --face=0 --missing=tell --align=centre F.ttf A".split(),
     ]
     for words in right:
         common.tried(f"label {' '.join(words)}", asked.run(["label", *words], folder), drawn)
@@ -39,7 +41,8 @@ def command_line(asked):
         first = "60 SizeRange" if "--size" in second else "64 MarginRange"
         got = asked.run(["label", "--size", size, "--margin", margin, "F.ttf", "A"], folder)
         common.tried(f"size {size}, margin {margin}", got, (2, b"", labels.lines_of([first, second])))
-    helped(asked, ["label", "--help"], ("--size <N>", "--align", "centre", "[default: best]", "[default: tell]", " -- "))
+    parts = "--size <N>", "--align", "centre", "[default: best]", "[default: tell]", " -- "
+    helped(asked, ["label", "--help"], parts)
     helped(asked, ["--help"], ("label",))
 
 

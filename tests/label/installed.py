@@ -39,6 +39,7 @@ def installed(asked):
     count = 0
     for count, (name, got, wanted) in enumerate(asked.each(answered, cases()), 1):
         common.tried(name, got, wanted)
-        common.verdict(f"{name} is drawn", [] if got[0] == 0 and got[1].startswith(b"P4\n") else [f"{got[0]} {got[2]!r}"])
+        is_drawn = got[0] == 0 and got[1].startswith(b"P4\n")
+        common.verdict(f"{name} is drawn", [] if is_drawn else [f"{got[0]} {got[2]!r}"])
     if not count:
         common.skip("installed", "no TrueType font is installed")

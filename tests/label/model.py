@@ -19,7 +19,7 @@ def label_lines(text):
 
 class Line(NamedTuple):
     """A line drawn alone. The box of its ink is None without ink, else left, top, right and bottom from its origin on.
-    The rows of its picture are numbers, whose highest bit is the first pixel; left and top are the first one's place."""
+    The rows of its picture are numbers, whose highest bit is the first pixel; left and top are where that is."""
 
     width: int
     rise: int
@@ -42,7 +42,8 @@ def rows_of(picture):
     width, height = map(int, re.match(rb"P4\n(\d+) (\d+)\n", picture).groups())
     size = (width + 7) // 8
     data = picture[len(picture) - size * height :]
-    return width, [int.from_bytes(data[it : it + size], "big") >> (8 * size - width) for it in range(0, len(data), size)]
+    rows = [int.from_bytes(data[it : it + size], "big") for it in range(0, len(data), size)]
+    return width, [it >> (8 * size - width) for it in rows]
 
 
 def picture_of(width, rows):
@@ -55,9 +56,9 @@ def picture_of(width, rows):
 def line_of(measured, drawn, size):
     """Returns the line whose measure and grown picture are given, both with a margin of 1."""
     em, gap = map(int, re.search(rb"^font (\d+) -?\d+ -?\d+ \d+ (-?\d+)$", measured, re.M).groups())
-    found = re.search(rb"^picture (\d+) (\d+) baseline (-?\d+) ink (?:none|(-?\d+) (-?\d+) (-?\d+) (-?\d+))$", measured, re.M)
+    found = re.search(rb"^picture (\d+) (\d+) baseline (-?\d+) ink (none|.*)$", measured, re.M)
     width, height, base = map(int, found.groups()[:3])
-    box = None if found[4] is None else tuple(map(int, found.groups()[3:]))
+    box = None if found[4] == b"none" else tuple(map(int, found[4].split()))
     left, top = max(0, -box[0]) if box else 0, max(0, -box[1]) if box else 0
     columns, rows = rows_of(drawn)
     inner = box and (box[0] - 1, box[1] - base, box[2] - 1, box[3] - base)
@@ -219,7 +220,9 @@ def of_no_face(font):
     if font[:4] != b"ttcf":
         return "is no collection: its one face is --face 0"
     faces = word_at(font, 8)
-    return f"is a collection of {faces} faces: --face is 0 to {faces - 1}" if faces else "is a collection without a face"
+    if not faces:
+        return "is a collection without a face"
+    return f"is a collection of {faces} faces: --face is 0 to {faces - 1}"
 
 
 def advice(number, table, font, face):

@@ -165,10 +165,11 @@ def damage(asked):
 
 
 def kinds(asked):
-    """Each kind of file by its first bytes, at a file's start and at a face's directory, and bytes that are like them."""
+    """Each kind of file by its first bytes, at a file's start and at a face's directory, and bytes like them."""
     fonts = labels.fonts()
     starts = [it for it, _ in model.KINDS]
-    starts += [it[:-1] + bytes([it[-1] ^ 1]) for it in starts if it] + [b"ttcf", b"OTTO"[::-1], b"true", b"\0\2\0\0", b" <!D"]
+    starts += [it[:-1] + bytes([it[-1] ^ 1]) for it in starts if it]
+    starts += [b"ttcf", b"OTTO"[::-1], b"true", b"\0\2\0\0", b" <!D"]
     cases = []
     for start in starts:
         font = start + fonts["T"][len(start) :]
@@ -197,13 +198,15 @@ def characters(asked):
             found.update((first - 1, first, last, last + 1))
     texts = [chr(it) for it in sorted(found | set(range(1, 0x20))) if it > 0 and not 0xD800 <= it < 0xE000]
     texts += ["A" + it for it in texts if it not in "\n\ufeff"]
-    texts += ["\u05d0\t\u0627\x07", "\u0915\u05d0\u0e01\u0301\u0300\t\n\r", "\x7f\n\u202e\u0301", "A\r\r\nB", "\r", "\r\r\n"]
+    texts += ["\u05d0\t\u0627\x07", "\u0915\u05d0\u0e01\u0301\u0300\t\n\r", "\x7f\n\u202e\u0301"]
+    texts += ["A\r\r\nB", "\r", "\r\r\n"]
     texts += ["\ufe0f\u05d0\ufe0e", "\u0301\n\u05d0\n\u0e01\n\t", "\ufeff\ufeff\t", "\U0001f3fb\U0001f1e6\U000e0020"]
     compare(asked, [(ascii(it), Question(font, it)) for it in texts], "answer")
 
 
 TEXTS = (
-    "", "\n", "\n\n", "A", "A\nB", "AB\nA\nAAAA", "A\n\n\nA\n", "AAAA\r\nA\rB\n", "B\nA\n", "\nA", "Z\nAZ\nZZ", "\ufeffA\nAA", "A\ufe0f\nB",
+    "", "\n", "\n\n", "A", "A\nB", "AB\nA\nAAAA", "A\n\n\nA\n", "AAAA\r\nA\rB\n", "B\nA\n", "\nA",
+    "Z\nAZ\nZZ", "\ufeffA\nAA", "A\ufe0f\nB",
 )
 
 
@@ -221,7 +224,8 @@ def layouts(asked):
     for text, align, face in itertools.product(TEXTS, model.ALIGNS, (None, 0, 1)):
         name = f"face {face}, {text!r}, {align}"
         cases.append((name, Question(fonts["collection"], text, align=align, face=face)))
-    for text, align, size in itertools.product(("Hgj\n$1,\n\u00e9 1\n", "1\n\n,g$H1", "j1\n"), model.ALIGNS, (9, 12, 16)):
+    of_mono = "Hgj\n$1,\n\u00e9 1\n", "1\n\n,g$H1", "j1\n"
+    for text, align, size in itertools.product(of_mono, model.ALIGNS, (9, 12, 16)):
         name = f"mono, {text!r}, {align}, size {size}"
         cases.append((name, Question(fonts["mono"], text, size, 1, align)))
     compare(asked, cases, "answer")
@@ -233,7 +237,8 @@ def heights(asked):
     cases = [(f"{count} lines", Question(font, "A\n" * count)) for count in (1023, 1024, 1025)]
     cases += [(f"{count} lines, margin 2", Question(font, "A\n" * count, margin=2)) for count in (1023, 1024)]
     cases += [(f"{count} lines of no height", Question(flat, "\n" * count)) for count in (1, 2, 4095, 4096)]
-    cases += [(f"{count} lines of no height and a letter", Question(flat, "\n" * (count - 1) + "A")) for count in (4093, 4094)]
+    for count in (4093, 4094):
+        cases.append((f"{count} lines of no height and a letter", Question(flat, "\n" * (count - 1) + "A")))
     cases += [("a wide glyph", Question(wide, "A\nB"))]
     compare(asked, cases, "answer")
     compare(asked, [("a wide glyph, grown", Question(wide, "A", 300))], "one_line")
@@ -243,8 +248,8 @@ def many_lines(asked):
     """`--lines`: the pictures of its lines one after the other, and what is told of each, up to the first refusal."""
     fonts = labels.fonts()
     good = [b"A", b"", b"AB\r", b"\tZ", "\u05d0Z\u0301".encode(), b"B", "\ufeffA".encode(), b"Z" * 3]
-    long, bytes_long = b"A" * 4097, b"\xff" * 16385
-    bad = [b"\xff", b"A\xc3", b"\xed\xa0\x80", long, bytes_long, bytes_long[:-1], b"A" * 16384, b"A" * 16385, b"A" * 4096]
+    bad = [b"\xff", b"A\xc3", b"\xed\xa0\x80", b"\xff" * 16384, b"\xff" * 16385]
+    bad += [b"A" * it for it in (4096, 4097, 16384, 16385)]
     cases = []
     for name, face in (("T", None), ("variable", None), ("collection", None), ("collection", 1), ("divides", None)):
         cases += [(name, face, good), (name, face, good[::-1])]

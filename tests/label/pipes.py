@@ -24,7 +24,8 @@ def commands():
 
 def faults_of(folder, command):
     """Returns what is wrong with the files that a command wrote."""
-    names = re.findall(r"(?:> |mv new )([\w.]+)$", command, re.M) + ["label0.pbm", "label1.pbm"] * ("pamsplit" in command)
+    names = re.findall(r"(?:> |mv new )([\w.]+)$", command, re.M)
+    names += ["label0.pbm", "label1.pbm"] * ("pamsplit" in command)
     found = []
     for name in (it for it in names if it != "new"):
         path = folder / name

@@ -23,8 +23,9 @@ def unreadable(font, why):
 def missing(asked):
     """Tries fonts that are not there, and a FONT behind TEXT."""
     folder = asked.folder(labels.fonts()["T"])
-    for text in ("A", "F.ttf", "F.TTC", ".otf", "x.oTf", "F.ttf ", "ttf", "F.ttx", "F.woff", "a/b.TtF", "\u00e9.ttf", "F.tt\u212a"):
-        turned = text[-4:].lower() in (".ttf", ".ttc", ".otf") and text.isascii() or text == "\u00e9.ttf"
+    texts = "A", "F.ttf", "F.TTC", ".otf", "x.oTf", "F.ttf ", "ttf", "F.ttx", "a/b.TtF", "\u00e9.ttf", "\u00e9ttf"
+    for text in texts:
+        turned = text[-4:].lower() in (".ttf", ".ttc", ".otf")
         why = "no such file" + ("; FONT stands before TEXT" if turned else "")
         got = asked.run(["label", "--size", "16", "--", "Hello", text], folder)
         common.tried(f"no such file, and the text {text!r}", got, unreadable("Hello", why))
@@ -131,7 +132,7 @@ def writes(asked, words, folder, stdin=b""):
 
 
 def order(asked):
-    """Tries when lines are written: both lines of a refusal at once, and what is told of a picture at once behind it."""
+    """Tries when lines are written: both lines of a refusal at once, and what is told of a picture at once after it."""
     fonts = labels.fonts()
     words = ["label", "--size", "16"]
     status, packets = writes(asked, [*words, "F.ttf", "A"], asked.folder(fonts["otto"]))

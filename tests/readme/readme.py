@@ -85,8 +85,9 @@ def one_picture(room, command):
     texts = re.search(r"printf '(.*)'", command)[1].split("\\n")
     alone = [it for text in texts for it in of_text(room, command, text)]
     black = [sum(row.count("#") for row in rows) for rows in found + alone]
-    wanted = max(len(it[0]) for it in alone), sum(map(len, alone))
-    right = len(found) == 1 and len(alone) == 2 and (len(found[0][0]), len(found[0])) == wanted and black[0] == sum(black[1:])
+    sizes = [(len(rows[0]), len(rows)) for rows in found + alone]
+    right = len(sizes) == 3 and black[0] == black[1] + black[2]
+    right = right and sizes[0] == (max(sizes[1][0], sizes[2][0]), sizes[1][1] + sizes[2][1])
     return faults or ([] if right else [f"{len(found)} pictures, or not one of {texts}"])
 
 
@@ -165,7 +166,7 @@ def refusals(room):
         return
     texts = [shlex.quote(chr(it)) for it in range(32, 127)]
     ran = [(it, room.run(f"./tt_render draw --size 16 {FONT} -- {it}")) for it in texts]
-    refused = [(it, one.said) for it, one in ran if one.status == 1 and re.match(r"tt_render: glyf\+", "".join(one.said))]
+    refused = [(it, one.said) for it, one in ran if one.status == 1 and "tt_render: glyf+" in "".join(one.said)]
     lines = shown(r"tt_render: .*\ntt_render: .*").split("\n")
     text = next((it for it, said in refused if said == lines[:1]), "''")
     font = Path(FONT)
