@@ -202,6 +202,10 @@ def characters(asked):
     texts += ["A\r\r\nB", "\r", "\r\r\n"]
     texts += ["\ufe0f\u05d0\ufe0e", "\u0301\n\u05d0\n\u0e01\n\t", "\ufeff\ufeff\t", "\U0001f3fb\U0001f1e6\U000e0020"]
     compare(asked, [(ascii(it), Question(font, it)) for it in texts], "answer")
+    words = ["label", "--size", "16", "--missing", "draw", "--lines", "F.ttf"]
+    told = "line 2: U+0000 is a control character, and drawn as the font has it"
+    status, _, errors = asked.run(words, asked.folder(font), b"A\n\0\n")
+    common.tried("U+0000", (status, b"", errors), (0, b"", lines_of([told])))
 
 
 TEXTS = (
@@ -239,9 +243,14 @@ def heights(asked):
     cases += [(f"{count} lines of no height", Question(flat, "\n" * count)) for count in (1, 2, 4095, 4096)]
     for count in (4093, 4094):
         cases.append((f"{count} lines of no height and a letter", Question(flat, "\n" * (count - 1) + "A")))
-    cases += [("a wide glyph", Question(wide, "A\nB"))]
+    cases += [("a wide glyph", Question(wide, "A\nB")), ("4,096 characters", Question(font, "AA\n" * 1365 + "A", 8))]
+    cases += [("4,096 characters with a feed", Question(font, "A" * 4095 + "\n", 8))]
     compare(asked, cases, "answer")
     compare(asked, [("a wide glyph, grown", Question(wide, "A", 300))], "one_line")
+    long = 2, b"", lines_of(["61 TextLong", model.OF_JOB[61]])
+    for text in ("A" * 4096 + "\n", "\n" * 4097, "\ufeff" + "A" * 4096, "A\r\n" * 1366):
+        got = asked.run(Question(font, text, 8).words(), asked.folder(font))
+        common.tried(f"a text of {len(text)} characters: {text[:3]!a}", got, long)
 
 
 def many_lines(asked):
