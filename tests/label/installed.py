@@ -9,6 +9,8 @@ FOLDERS = "/usr/share/fonts", "/usr/share/wine/fonts"
 ENGLISH = "The quick brown fox jumps over the lazy dog: 1,234 + 56.789 = 3/4 (or 80 %)?"
 LINES = "Shelf 12, box 3\nfragile!\n\nThis side up", "Jj\nQuay 4: \u00c5gj\n", "\n(f) AV To, ffi\n'Yes'"
 SIZES = 9, 16, 23
+# As many bytes of a font as its directory may need.
+FRONT = 1 << 16
 
 
 def fonts():
@@ -20,7 +22,8 @@ def fonts():
 def cases():
     """Yields for each font a line of English, and a text of several lines."""
     for at, path in enumerate(fonts()):
-        font = pathlib.Path(path).read_bytes()
+        with open(path, "rb") as opened:
+            font = opened.read(FRONT)
         yield path, "one_line", Question(font, ENGLISH, file=path)
         align, text, size = model.ALIGNS[at % 3], LINES[at // 3 % 3], SIZES[at // 9 % 3]
         yield path, "answer", Question(font, text, size, at % 4, align, file=path)
