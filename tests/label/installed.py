@@ -1,8 +1,9 @@
-"""The part of label/run that draws with each TrueType font of Debian that is installed."""
+"""The parts of label/run that use the fonts of Debian that are installed."""
 import pathlib
 
 import common
 import model
+from labels import lines_of
 from parts import Models, Question
 
 FOLDERS = "/usr/share/fonts", "/usr/share/wine/fonts"
@@ -13,10 +14,26 @@ SIZES = 9, 16, 23
 FRONT = 1 << 16
 
 
-def fonts():
-    """Returns the installed fonts and collections, each once."""
-    found = (it for folder in FOLDERS for it in pathlib.Path(folder).glob("**/*.tt[fc]"))
+# What files of other kinds are called, by their endings. An .otf file may have TrueType outlines.
+OTHERS = {
+    "*.otf": model.CFF,
+    "*.t1": model.TYPE1,
+    "*.pf[ab]": model.TYPE1,
+    "*.woff": "is a packed font (WOFF); unpack it first: woff2sfnt",
+    "*.woff2": "is a packed font (WOFF2); unpack it first: woff2_decompress",
+    "*.pcf.gz": "is packed (gzip); unpack it first: gunzip",
+}
+
+
+def files(pattern):
+    """Returns the installed files whose names fit a pattern, each once."""
+    found = (it for folder in FOLDERS for it in pathlib.Path(folder).glob(f"**/{pattern}"))
     return sorted({str(it.resolve()) for it in found if it.is_file()})
+
+
+def fonts():
+    """Returns the installed fonts and collections."""
+    return files("*.tt[fc]")
 
 
 def cases():
@@ -46,3 +63,19 @@ def installed(asked):
         common.verdict(f"{name} is drawn", [] if is_drawn else [f"{got[0]} {got[2]!r}"])
     if not count:
         common.skip("installed", "no TrueType font is installed")
+
+
+def front(path):
+    with open(path, "rb") as opened:
+        return opened.read(4)
+
+
+def others(asked):
+    """Each installed font of another kind: what it is called."""
+    cases = [(path, words) for pattern, words in OTHERS.items() for path in files(pattern)]
+    cases = [it for it in cases if not it[0].endswith(".otf") or front(it[0]) == b"OTTO"]
+    run = lambda it: asked.run(["label", "--size", "16", "--", it[0], ENGLISH])
+    for (path, words), got in zip(cases, asked.each(run, cases)):
+        common.tried(path, got, (1, b"", lines_of(["file+0: 1 BadVersion", f"{path}: {words}"])))
+    if not cases:
+        common.skip("others", "no font of another kind is installed")
