@@ -59,9 +59,9 @@ def drawn(room, command):
 
 
 def of_text(room, command, text):
-    """Returns the picture that the program writes of a text alone, by the options of a command."""
-    options = re.search(r"draw (.*?)(?:--lines )?/", command)[1]
-    return pictures(room.run(f"./tt_render draw {options} {FONT} {shlex.quote(text)}").stdout)
+    """Returns the picture that `draw` writes of a line alone, by the options of a command for `label`."""
+    options = re.search(r"label (.*?)(?:--lines |--align \w+ )?/", command)[1]
+    return pictures(room.run(f"./tt_render draw --fit best --grow {options} {FONT} {shlex.quote(text)}").stdout)
 
 
 def install_packages(room, command):
@@ -77,6 +77,18 @@ def first_picture(room, command):
     if faults or [it for it in found[0] if "#" in it] == shown(r"[.#\n]+").split("\n"):
         return faults
     return ["README.md shows another picture than this one:", *found[0]]
+
+
+def one_picture(room, command):
+    """A picture of two lines has all pixels of both, and is as wide as the wider one and twice as high."""
+    found, faults = drawn(room, command)
+    texts = re.search(r"printf '(.*)'", command)[1].split("\\n")
+    alone = [it for text in texts for it in of_text(room, command, text)]
+    black = [sum(row.count("#") for row in rows) for rows in found + alone]
+    sizes = [(len(rows[0]), len(rows)) for rows in found + alone]
+    right = len(sizes) == 3 and black[0] == black[1] + black[2]
+    right = right and sizes[0] == (max(sizes[1][0], sizes[2][0]), sizes[1][1] + sizes[2][1])
+    return faults or ([] if right else [f"{len(found)} pictures, or not one of {texts}"])
 
 
 def two_lines(room, command):
@@ -116,7 +128,8 @@ def succeeds(room, command):
 # The commands of README.md by a pattern, each with the function that tries it and the program that it needs.
 KINDS = (
     (r"apt-get install", install_packages, "apt-get"),
-    (r"\./tt_render draw .*>", first_picture, "cc"),
+    (r"\./tt_render label .*--align", one_picture, "cc"),
+    (r"\./tt_render label .*>", first_picture, "cc"),
     (r"printf .*--lines", two_lines, "cc"),
     (r"\(ulimit", within_limits, "cc"),
     (r"\./install ", installs, "cc"),
@@ -147,17 +160,21 @@ def try_command(room, command, kinds=KINDS):
 
 
 def refusals(room):
-    """Tries the refusal that README.md shows, and how many characters of ASCII it says are refused so."""
+    """Tries the refusal that README.md shows, and how many characters of ASCII the manual says are refused so."""
     if not os.path.exists(FONT):
         common.skip("the refusal", f"{FONT} is not here")
         return
-    ran = [room.run(f"./tt_render draw --size 16 {FONT} -- {shlex.quote(chr(it))}") for it in range(32, 127)]
-    refused = [it for it in ran if it.status == 1 and re.fullmatch(r"tt_render: glyf\+\d+: \d+ \w+", "".join(it.said))]
-    line = shown(r"tt_render: .*")
-    faults = [] if [line] in [it.said for it in refused] else [f"no character is refused by {line!r}"]
-    common.verdict("the refusal", faults)
-    said = re.search(r"(\d+) of the 95 ASCII", " ".join(README.split()))
-    faults = [] if said and int(said[1]) == len(refused) else [f"{len(refused)} of 95 characters are refused"]
+    texts = [shlex.quote(chr(it)) for it in range(32, 127)]
+    ran = [(it, room.run(f"./tt_render draw --size 16 {FONT} -- {it}")) for it in texts]
+    refused = [(it, one.said) for it, one in ran if one.status == 1 and "tt_render: glyf+" in "".join(one.said)]
+    lines = shown(r"tt_render: .*\ntt_render: .*").split("\n")
+    text = next((it for it, said in refused if said == lines[:1]), "''")
+    font = Path(FONT)
+    said = room.run(f"ln -sf {font} . && ./tt_render label --fit full --size 16 {font.name} -- {text}").said
+    common.verdict("the refusal", [] if said == lines else [f"README.md has {lines}, and `label` says {said}"])
+    page = " ".join(markdown.read("tt_render.1").split())
+    count = re.search(r"(\d+) of the 95 printable ASCII", page)
+    faults = [] if count and int(count[1]) == len(refused) else [f"{len(refused)} of 95 characters are refused"]
     common.verdict("the count of refused characters", faults)
 
 
@@ -195,8 +212,8 @@ def usage(room):
     """Tries the commands in the tables of README.md. Standard input is empty."""
     for block in markdown.blocks(README):
         for command in markdown.spans(markdown.cells(block.text)[0])[:1] if block.kind == "row" else []:
-            if re.match(r"(draw|measure|map) ", command):
-                fit = "" if command.startswith("map") else " --fit best"
+            if re.match(r"(label|draw|measure|map|faces) ", command):
+                fit = " --fit best" if re.match(r"draw|measure", command) else ""
                 try_command(room, f"./tt_render {own(command)}{fit}", ((r"", succeeds, "cc"),))
 
 

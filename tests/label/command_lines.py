@@ -1,0 +1,56 @@
+"""The part of label/run that is about the command line."""
+import common
+import labels
+from parts import complains
+
+
+def command_line(asked):
+    """Command lines that are refused by their parser, and the help."""
+    folder = asked.folder(labels.fonts()["T"])
+    size = ["--size", "16"]
+    wrong = [
+        [], ["F.ttf", "A"], [*size], [*size, "F.ttf"], [*size, "F.ttf", "A", "B"], [*size, *size, "F.ttf", "A"],
+        ["--size", "1x", "F.ttf", "A"], ["--size", "-1", "F.ttf", "A"], ["--size", "4294967296", "F.ttf", "A"],
+        ["--size", "", "F.ttf", "A"], ["--size"], [*size, "--margin", "x", "F.ttf", "A"],
+        [*size, "--margin", "1", "--margin", "1", "F.ttf", "A"], [*size, "--align", "middle", "F.ttf", "A"],
+        [*size, "--align", "center", "F.ttf", "A"], [*size, "--align", "LEFT", "F.ttf", "A"],
+        [*size, "--align", "left", "--align", "left", "F.ttf", "A"], [*size, "--fit", "strict", "F.ttf", "A"],
+        [*size, "--face", "-1", "F.ttf", "A"], [*size, "--face", "0", "--face", "0", "F.ttf", "A"],
+        [*size, "--missing", "skip", "F.ttf", "A"], [*size, "--lines", "F.ttf", "A"], [*size, "--lines"],
+        [*size, "--lines", "--lines", "F.ttf"], [*size, "--grow", "F.ttf", "A"], [*size, "F.ttf", "-A"],
+    ]
+    for words in wrong:
+        common.verdict(f"label {' '.join(words)}", complains(asked.run(["label", *words], folder)))
+    drawn = 0, b"P4\n4 4\n\0\0\x60\x60", b""
+    right = [
+        [*size, "--", "F.ttf", "A"],
+        ["F.ttf", "A", *size],
+        ["F.ttf", *size, "A"],
+        [*size, "--align", "right", "F.ttf", "--", "A"],
+        "--size=16 --margin=0 --fit=best --face=0 --missing=tell --align=centre F.ttf A".split(),
+    ]
+    for words in right:
+        common.tried(f"label {' '.join(words)}", asked.run(["label", *words], folder), drawn)
+    got = asked.run([b"label", b"--size", b"16", b"F.ttf", b"\xff"], folder)
+    common.tried("a text that is not UTF-8", got, (2, b"", b"tt_render: the command line is not UTF-8\n"))
+    for size, margin, second in (
+        ("0", "0", "--size is 1 to 300 pixels per em, not 0"),
+        ("4294967295", "65", "--size is 1 to 300 pixels per em, not 4294967295"),
+        ("300", "4294967295", "--margin is 0 to 64 pixels, not 4294967295"),
+    ):
+        first = "60 SizeRange" if "--size" in second else "64 MarginRange"
+        got = asked.run(["label", "--size", size, "--margin", margin, "F.ttf", "A"], folder)
+        common.tried(f"size {size}, margin {margin}", got, (2, b"", labels.lines_of([first, second])))
+    parts = "--size <N>", "--align", "centre", "[default: best]", "[default: tell]", " -- "
+    helped(asked, ["label", "--help"], parts)
+    helped(asked, ["--help"], ("label",))
+
+
+def helped(asked, words, parts):
+    """Tries a help: its status, its parts, and lines of at most 80 columns."""
+    status, said, errors = asked.run(words)
+    lines = said.decode().splitlines()
+    why = [] if (status, errors) == (0, b"") else [f"status {status}, standard error {errors!r}"]
+    why += [f"it lacks {it!r}" for it in parts if it not in said.decode()]
+    why += [f"a line of {len(it)} columns: {it}" for it in lines if len(it) > 80]
+    common.verdict(" ".join(words), why)
