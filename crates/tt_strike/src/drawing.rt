@@ -26,11 +26,7 @@ use tt_picture::{Cache, Glyphs, Picture, line_glyphs};
 impl<'f, 'a> SizedFace<'f, 'a> {
     /// The glyphs of a laid-out line; only where work is not bounded. Errors: those of loca and glyf, of the programs,
     /// and of the glyphs in the order of the line; Memory.
-    pub fn tested_glyphs(
-        &mut self,
-        laid: &Laid,
-        cache: &mut Cache,
-    ) -> Result<Glyphs, DrawFault>
+    pub fn tested_glyphs(&mut self, laid: &Laid, cache: &mut Cache) -> Result<Glyphs, DrawFault>
         requires known { All (λ g. g.0 < glyphs_of self.old.face.metrics) laid.now.line.glyphs.items }
         requires cache { IsCacheOf self.old cache.old }
         requires unbounded { is_bounded self.old.fit ≡ false }

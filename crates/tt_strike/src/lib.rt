@@ -1,7 +1,7 @@
 //! A font at a size, and the pictures of its lines.
 #![tactic(auto)]
 
-mod distinct;
+mod distinct_glyphs;
 mod drawing;
 mod enlarging;
 mod growing;
@@ -20,7 +20,7 @@ mod stepping;
 mod strike;
 mod work;
 
-pub use distinct::{DistinctGlyphs, distinct};
+pub use distinct_glyphs::{DistinctGlyphs, distinct};
 pub use growing::grown;
 pub use inked::InkedGlyphs;
 pub use job::{Job, test_job, test_margin, test_text};

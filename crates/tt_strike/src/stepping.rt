@@ -13,7 +13,7 @@ ghost use Rattle.tt_strike.specs.Refusals.{refusal};
 ghost use Rattle.tt_strike.specs.Strikes.{advances_of};
 ghost use Rattle.tt_strike.specs.Work.{is_bounded, points_in, started, work_tested};
 
-use crate::distinct::{DistinctGlyphs, distinct};
+use crate::distinct_glyphs::{DistinctGlyphs, distinct};
 use crate::source::FitterSource;
 use crate::work::charge_points;
 use tt_core::DrawFault;

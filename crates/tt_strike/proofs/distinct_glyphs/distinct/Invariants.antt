@@ -1,7 +1,7 @@
 use Rattle.std.proofs.Common.{◌≡◌, ◌<◌, ◌≤◌, drop, length, map, All}
 use Rattle.tt_picture.specs.Distinct.{distinct, distinct_after}
 use Rattle.tt_picture.specs.Glyphs.{ArePlaces}
-use Rattle.tt_strike.proofs.distinct.distinct.Given as goal
+use Rattle.tt_strike.proofs.distinct_glyphs.distinct.Given as goal
 
 -- the glyphs with a place are those among the numbers, and with the rest of the line these are all
 abbrev pub invariant-loop-placed : goal.invariant-loop-placed

@@ -5,8 +5,8 @@ use Rattle.tt_picture.specs.Distinct.{distinct, is_among}
 use Rattle.tt_picture.proofs.FirstMet.{met_again, met_first}
 use Rattle.tt_picture.proofs.Seats.{places_more}
 use Rattle.tt_strike.proofs.Seated.{is_seated, none_of, not_seated}
-use Rattle.tt_strike.proofs.distinct.distinct.Goals as goal
-use Rattle.tt_strike.proofs.distinct.distinct.Goals.{then-index-eq0+in_ok-push, else-index-eq0}
+use Rattle.tt_strike.proofs.distinct_glyphs.distinct.Goals as goal
+use Rattle.tt_strike.proofs.distinct_glyphs.distinct.Goals.{then-index-eq0+in_ok-push, else-index-eq0}
 
 pub loop-placed-preserved : goal.loop-placed-preserved
 loop-placed-preserved c =
