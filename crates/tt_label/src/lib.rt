@@ -7,7 +7,7 @@
 //! growing.rt  the columns and rows that the ink of all lines needs
 //! sharing.rt  the glyphs of one line among those of all lines
 //! overlay.rt  a line painted over pixels that are there
-//! label.rt    the lines, painted over each other
+//! labelling.rt  the lines, painted over each other
 //! picture.rt  the picture
 //! ```
 #![tactic(auto)]
@@ -15,13 +15,13 @@
 mod fitting;
 mod growing;
 mod joining;
-mod label;
+mod labelling;
 mod made;
 mod overlay;
 mod picture;
 mod sharing;
 
-pub use label::label;
+pub use labelling::label;
 pub use picture::LabelPicture;
 pub use tt_core::DrawFault;
 pub use tt_line::{Align, unmarked};

@@ -6,7 +6,7 @@ use Rattle.tt_label.specs.Views.{placements_of}
 use Rattle.tt_label.proofs.Overlays.{all_over, line_over, none_over}
 use Rattle.tt_line.specs.Outcome.{placement_of}
 use Rattle.tt_strike.specs.declared.laid.Laid.{Laid}
-use Rattle.tt_label.proofs.label.painted.Goals as goal
+use Rattle.tt_label.proofs.labelling.painted.Goals as goal
 
 pub loop-laid-preserved : goal.loop-laid-preserved
 loop-laid-preserved c = ?

@@ -7,7 +7,7 @@ use Rattle.tt_label.specs.Views.{placements_of}
 use Rattle.tt_picture.specs.Glyphs.{AreDrawn}
 use Rattle.tt_scan_edges.specs.declared.edge.Frame.{Frame}
 use Rattle.tt_scan_rows.specs.Bands.{IsBandBlackened}
-use Rattle.tt_label.proofs.label.painted.Given as goal
+use Rattle.tt_label.proofs.labelling.painted.Given as goal
 
 -- the lines so far are painted
 abbrev pub invariant-loop-laid : goal.invariant-loop-laid

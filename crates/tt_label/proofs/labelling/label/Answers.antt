@@ -6,7 +6,7 @@ use Rattle.tt_label.proofs.Drawn.{drawn_larger, grown_as_made, left_of, lines_mo
 use Rattle.tt_picture.specs.Unfitted.{unfitted_standing}
 use Rattle.tt_strike.proofs.Made.{reported_as_made}
 use Rattle.tt_strike.specs.Strikes.{job_by}
-use Rattle.tt_label.proofs.label.label.Goals as goal
+use Rattle.tt_label.proofs.labelling.label.Goals as goal
 
 pub returns-clause-report : goal.returns-clause-report
 unfolding label_report

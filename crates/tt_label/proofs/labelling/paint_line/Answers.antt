@@ -5,7 +5,7 @@ use Rattle.tt_core.specs.Bits.{stride}
 use Rattle.tt_line.specs.Outcome.{placement_of}
 use Rattle.tt_picture.proofs.Filled.{can_be_filled, tapes_few}
 use Rattle.tt_label.proofs.Overlays.{blank_painted, line_painted}
-use Rattle.tt_label.proofs.label.paint_line.Goals as goal
+use Rattle.tt_label.proofs.labelling.paint_line.Goals as goal
 
 pub of_line-requires-clause-few : goal.of_line-requires-clause-few
 of_line-requires-clause-few c =
