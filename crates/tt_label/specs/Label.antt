@@ -1,7 +1,7 @@
 -- No part of the standard: the picture of a label, which is a text of several lines (profile). The lines lie in one
 -- picture, and their glyphs are made one after the other, as those of one line. The picture is enlarged so that the ink
 -- of no line is cut.
-use Rattle.std.specs.Prelude.{◌≡◌, ℕ, Bool, false, ◌||◌, if◌then◌else◌, pos, List, [], ◌∷◌, length, map, Option, None, Result, Ok, Err}
+use Rattle.std.specs.Prelude.{◌*◌, ◌≡◌, ℕ, Bool, false, ◌||◌, if◌then◌else◌, pos, List, [], ◌∷◌, length, map, Option, None, Result, Ok, Err}
 use Rattle.std.specs.List.{flat_map}
 use Rattle.tt_cmap.specs.Maps.{CharacterMap}
 use Rattle.tt_core.specs.Bits.{stride}

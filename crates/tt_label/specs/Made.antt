@@ -28,7 +28,7 @@ AreAlike lines = All (λ l. (l.width ≡ (joint lines).width) × (l.height ≡ (
 pub record AreLaid (face : Face) (margin : ℕ) (lines : List Laid) : Type 0 where
   pub some : 1 ≤ length lines
   pub within : margin ≤ margin_limit
-  pub margin : All (λ l. l.margin ≡ margin) lines
+  pub margins : All (λ l. l.margin ≡ margin) lines
   pub alike : AreAlike (placements_of lines)
   pub few : length (joint (placements_of lines)).glyphs ≤ text_limit
   pub known : All (λ g. g.0 < glyphs_of face.metrics) (joint (placements_of lines)).glyphs

@@ -10,16 +10,16 @@ mod Whole
 mod Stopped
 mod Setting
 mod Caches
-mod Textless
+pub mod Textless
 mod Made
 mod GrownStops
 mod Larger
-mod Enlarged
+pub mod Enlarged
 mod Agreeing
 mod SidesRefuse
 mod Costed
 mod Needed
-mod Placed
+pub mod Placed
 mod Stepped
 mod Limited
 mod Reported
