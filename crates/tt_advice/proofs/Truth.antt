@@ -4,7 +4,7 @@ use Rattle.std.specs.Prelude.{[], ◌∷◌, ◌==◌, nat_le, ◌&&◌, length,
 use Rattle.std.proofs.lemmas.Bool.Decides.{nat_tests}
 use Rattle.tt_core.specs.Faults.{Fault, why_number}
 use Rattle.tt_core.specs.Numbers.{number_at}
-use Rattle.tt_advice.specs.Advice.{advice, counted_advice, cut_advice, face_advice, has_cff, has_pictures, is_limit, lack_advice, version_advice}
+use Rattle.tt_advice.specs.Advice.{advice, counted_advice, cut_advice, face_advice, has_cff, has_pictures, is_limit, lack_advice, plain_advice, version_advice}
 use Rattle.tt_advice.specs.declared.hint.FixedHint.{FixedHint}
 use Rattle.tt_advice.specs.declared.hint.FixedHint.TheVariants as fixed
 use Rattle.tt_advice.specs.declared.hint.Hint.{Hint}
@@ -60,21 +60,6 @@ by_face file v P is no_collection no_faces faces =
     (λ holds e. by_count (number_at file 8 4) v P e no_faces (λ k there e. faces k holds there e))
     (λ fails e. no_collection e)
 
-pub cff_is_there : CffIsThere
-unfolding advice
-cff_is_there f file n is =
-    let k = why_number f.why in
-    either (k == 1) _ _ _ _ is (λ holds e. inl (cff_version (drop f.offset file) (kind_alone _ _ e))) (λ fails e.
-    either (k == 2) _ _ _ _ e (λ holds e. not_cut f file _ _ e (λ e. absurd cc) (λ e. absurd cc)) (λ fails e.
-    either (k == 3) _ _ _ _ e (λ holds e. inr (cff_lack f file n e)) (λ fails e.
-    either (k == 4) _ _ _ _ e (λ holds e. absurd cc) (λ fails e.
-    either (k == 8) _ _ _ _ e (λ holds e. inr (cff_maxp f file n e)) (λ fails e.
-    either (k == 10) _ _ _ _ e (λ holds e. absurd cc) (λ fails e.
-    either (is_limit k) _ _ _ _ e (λ holds e. absurd cc) (λ fails e.
-    either (k == 24) _ _ _ _ e (λ holds e. absurd cc) (λ fails e.
-    either (k == 25) _ _ _ _ e (λ holds e. by_face file _ _ e (λ e. absurd cc) (λ e. absurd cc) (λ k has there e. absurd cc)) (λ fails e.
-    either (nat_le 30 k) _ _ _ _ e (λ holds e. absurd cc) (λ fails e. absurd cc))))))))))
-
 lack_fixed : (f : Fault) (file : List ℕ) (n : ℕ) (v : Hint) (P : Type 0) → lack_advice f file n ≡ v
     → (hint.Fixed fixed.Cff ≡ v → P) → (hint.Fixed fixed.Bitmaps ≡ v → P) → (hint.Lacks f ≡ v → P) → P
 lack_fixed f file n v P is cff pictures lacks =
@@ -85,6 +70,29 @@ maxp_fixed : (f : Fault) (file : List ℕ) (n : ℕ) (v : Hint) (P : Type 0) →
     → (hint.Fixed fixed.Cff ≡ v → P) → (hint.Damaged f ≡ v → P) → P
 maxp_fixed f file n v P is cff damaged = either (has_cff file n) _ _ _ _ is (λ holds e. cff e) (λ fails e. damaged e)
 
+-- the advice that needs no byte of the file
+by_plain : (k : ℕ) (f : Fault) (v : Hint) (P : Type 0) → plain_advice k f ≡ v → (hint.Fixed fixed.Cut ≡ v → P)
+    → (hint.Fixed fixed.NoMap ≡ v → P) → (hint.Fixed fixed.Beyond ≡ v → P) → (hint.Fixed fixed.Version ≡ v → P)
+    → (nat_le 30 k ≡ true → hint.Fixed fixed.Program ≡ v → P) → (hint.Damaged f ≡ v → P) → P
+by_plain k f v P is cut map limit version program damaged =
+    either (k == 4) _ _ _ _ is (λ holds e. cut e) (λ fails e.
+    either (k == 10) _ _ _ _ e (λ holds e. map e) (λ fails e.
+    either (is_limit k) _ _ _ _ e (λ holds e. limit e) (λ fails e.
+    either (k == 24) _ _ _ _ e (λ holds e. version e) (λ fails e.
+    either (nat_le 30 k) _ _ _ _ e (λ holds e. program holds e) (λ fails e. damaged e)))))
+
+pub cff_is_there : CffIsThere
+unfolding advice
+cff_is_there f file n is =
+    let k = why_number f.why in
+    either (k == 1) _ _ _ _ is (λ holds e. inl (cff_version (drop f.offset file) (kind_alone _ _ e))) (λ fails e.
+    either (k == 2) _ _ _ _ e (λ holds e. not_cut f file _ _ e (λ e. absurd cc) (λ e. absurd cc)) (λ fails e.
+    either (k == 3) _ _ _ _ e (λ holds e. inr (cff_lack f file n e)) (λ fails e.
+    either (k == 8) _ _ _ _ e (λ holds e. inr (cff_maxp f file n e)) (λ fails e.
+    either (k == 25) _ _ _ _ e (λ holds e. by_face file _ _ e (λ e. absurd cc) (λ e. absurd cc)
+    (λ m has there e. absurd cc)) (λ fails e.
+    by_plain k f _ _ e (λ e. absurd cc) (λ e. absurd cc) (λ e. absurd cc) (λ e. absurd cc) (λ holds e. absurd cc) (λ e. absurd cc))))))
+
 pub faces_are_counted : FacesAreCounted
 unfolding advice
 faces_are_counted f file n count is =
@@ -92,14 +100,10 @@ faces_are_counted f file n count is =
     either (k == 1) _ _ _ _ is (λ holds e. absurd cc) (λ fails e.
     either (k == 2) _ _ _ _ e (λ holds e. not_cut f file _ _ e (λ e. absurd cc) (λ e. absurd cc)) (λ fails e.
     either (k == 3) _ _ _ _ e (λ holds e. lack_fixed f file n _ _ e (λ e. absurd cc) (λ e. absurd cc) (λ e. absurd cc)) (λ fails e.
-    either (k == 4) _ _ _ _ e (λ holds e. absurd cc) (λ fails e.
     either (k == 8) _ _ _ _ e (λ holds e. maxp_fixed f file n _ _ e (λ e. absurd cc) (λ e. absurd cc)) (λ fails e.
-    either (k == 10) _ _ _ _ e (λ holds e. absurd cc) (λ fails e.
-    either (is_limit k) _ _ _ _ e (λ holds e. absurd cc) (λ fails e.
-    either (k == 24) _ _ _ _ e (λ holds e. absurd cc) (λ fails e.
     either (k == 25) _ _ _ _ e (λ holds e. by_face file _ _ e (λ e. absurd cc) (λ e. absurd cc)
     (λ m has there e. let same : m ≡ count = cc in (has, rw same at there))) (λ fails e.
-    either (nat_le 30 k) _ _ _ _ e (λ holds e. absurd cc) (λ fails e. absurd cc))))))))))
+    by_plain k f _ _ e (λ e. absurd cc) (λ e. absurd cc) (λ e. absurd cc) (λ e. absurd cc) (λ holds e. absurd cc) (λ e. absurd cc))))))
 
 -- a kind is never that of a program
 no_program : (b : List ℕ) → kind_of b ≡ fixed.Program → ⊥
@@ -120,10 +124,7 @@ programs_are_refused f file n is =
     either (k == 1) _ _ _ _ is (λ holds e. absurd (no_program (drop f.offset file) (kind_alone _ _ e))) (λ fails e.
     either (k == 2) _ _ _ _ e (λ holds e. not_cut f file _ _ e (λ e. absurd cc) (λ e. absurd cc)) (λ fails e.
     either (k == 3) _ _ _ _ e (λ holds e. lack_fixed f file n _ _ e (λ e. absurd cc) (λ e. absurd cc) (λ e. absurd cc)) (λ fails e.
-    either (k == 4) _ _ _ _ e (λ holds e. absurd cc) (λ fails e.
     either (k == 8) _ _ _ _ e (λ holds e. maxp_fixed f file n _ _ e (λ e. absurd cc) (λ e. absurd cc)) (λ fails e.
-    either (k == 10) _ _ _ _ e (λ holds e. absurd cc) (λ fails e.
-    either (is_limit k) _ _ _ _ e (λ holds e. absurd cc) (λ fails e.
-    either (k == 24) _ _ _ _ e (λ holds e. absurd cc) (λ fails e.
-    either (k == 25) _ _ _ _ e (λ holds e. by_face file _ _ e (λ e. absurd cc) (λ e. absurd cc) (λ m has there e. absurd cc)) (λ fails e.
-    either (nat_le 30 k) _ _ _ _ e (λ holds e. grind (arith, nat_tests, holds)) (λ fails e. absurd cc))))))))))
+    either (k == 25) _ _ _ _ e (λ holds e. by_face file _ _ e (λ e. absurd cc) (λ e. absurd cc)
+    (λ m has there e. absurd cc)) (λ fails e.
+    by_plain k f _ _ e (λ e. absurd cc) (λ e. absurd cc) (λ e. absurd cc) (λ e. absurd cc) (λ holds e. grind (arith, nat_tests, holds)) (λ e. absurd cc))))))

@@ -62,20 +62,25 @@ version_advice f file n = if has_cff file n then hint.Fixed fixed.Cff else hint.
 abbrev pub is_limit : ℕ → Bool
 is_limit k = (k == 17) || (k == 18) || (k == 21) || (k == 22) || (k == 23)
 
--- the advice by the number of a fault
+-- the advice by the number of a fault, without the file's bytes
+abbrev pub plain_advice : ℕ → Fault → Hint
+plain_advice k f =
+    if k == 4 then hint.Fixed fixed.Cut
+    else if k == 10 then hint.Fixed fixed.NoMap
+    else if is_limit k then hint.Fixed fixed.Beyond
+    else if k == 24 then hint.Fixed fixed.Version
+    else if nat_le 30 k then hint.Fixed fixed.Program
+    else hint.Damaged f
+
+-- the same, where bytes of the file are looked at
 abbrev pub advice_by : ℕ → Fault → List ℕ → ℕ → Hint
 advice_by k f file n =
     if k == 1 then hint.Fixed (kind_at file f.offset)
     else if k == 2 then cut_advice f file
     else if k == 3 then lack_advice f file n
-    else if k == 4 then hint.Fixed fixed.Cut
     else if k == 8 then version_advice f file n
-    else if k == 10 then hint.Fixed fixed.NoMap
-    else if is_limit k then hint.Fixed fixed.Beyond
-    else if k == 24 then hint.Fixed fixed.Version
     else if k == 25 then face_advice file
-    else if nat_le 30 k then hint.Fixed fixed.Program
-    else hint.Damaged f
+    else plain_advice k f
 
 unfoldable pub advice : Fault → List ℕ → ℕ → Hint
 advice f file n = advice_by (why_number f.why) f file n

@@ -1,13 +1,13 @@
 //! The advice to people about a refused font.
 
 ghost use Rattle.std.specs.Prelude.{◌≡◌, ◌≤◌, is_some, length};
-ghost use Rattle.tt_advice.specs.Advice.{advice, count_advice, cut_advice, face_advice, has_cff, has_pictures, has_record, lack_advice, version_advice};
+ghost use Rattle.tt_advice.specs.Advice.{advice, count_advice, cut_advice, face_advice, has_cff, has_pictures, has_record, is_limit, lack_advice, plain_advice, version_advice};
 ghost use Rattle.tt_core.specs.Directory.{record_of};
 ghost use Rattle.tt_core.specs.Limits.{font_limit};
 
 use crate::hint::{FixedHint, Hint};
 use crate::kinds::{begins, kind_at};
-use tt_core::{Dir, Fault, Reading, Why, u32_at};
+use tt_core::{Dir, Fault, Reading, u32_at};
 
 /// Whether a record of a directory has the tag.
 fn names(dir: &Dir, tag: [u8; 4]) -> bool
@@ -112,58 +112,50 @@ fn version_advice(fault: Fault, file: &[u8], face: u32) -> Hint
     }
 }
 
+/// Whether a fault with this number is a limit of what is drawn.
+fn is_limit(number: u8) -> bool
+    ensures { result ≡ is_limit number }
+{
+    number == 17 || number == 18 || number == 21 || number == 22 || number == 23
+}
+
+/// The advice about a fault with this number, which needs no byte of the file.
+fn plain_advice(number: u8, fault: Fault) -> Hint
+    ensures { result ≡ plain_advice number fault }
+{
+    if number == 4 {
+        Hint::Fixed(FixedHint::Cut)
+    } else if number == 10 {
+        Hint::Fixed(FixedHint::NoMap)
+    } else if is_limit(number) {
+        Hint::Fixed(FixedHint::Beyond)
+    } else if number == 24 {
+        Hint::Fixed(FixedHint::Version)
+    } else if number >= 30 {
+        Hint::Fixed(FixedHint::Program)
+    } else {
+        Hint::Damaged(fault)
+    }
+}
+
 /// The advice about a font with this fault, by the bytes of its file and the number of its face.
-#[tactic(auto, unfolding(crate::specs::Advice::advice, tt_core::specs::Faults::why_number))]
+#[tactic(auto, unfolding(crate::specs::Advice::advice))]
 pub fn advice(fault: Fault, file: &[u8], face: u32) -> Hint
     requires { length file.now ≤ font_limit }
     ensures { result ≡ advice fault file.now face }
 {
-    match fault.why {
-        Why::BadVersion => Hint::Fixed(kind_at(file, fault.offset as usize)),
-        Why::DirShort => cut_advice(fault, file),
-        Why::NoTable => lack_advice(fault, file, face),
-        Why::TableRange => Hint::Fixed(FixedHint::Cut),
-        Why::MaxpVersion => version_advice(fault, file, face),
-        Why::NoCmap => Hint::Fixed(FixedHint::NoMap),
-        Why::ComponentDepth
-        | Why::ComponentCount
-        | Why::ScaledOffset
-        | Why::PointLimit
-        | Why::CoordRange => Hint::Fixed(FixedHint::Beyond),
-        Why::CollectionVersion => Hint::Fixed(FixedHint::Version),
-        Why::NoFace => face_advice(file),
-        Why::StepLimit
-        | Why::StackFull
-        | Why::StackShort
-        | Why::CallDepth
-        | Why::BadOpcode
-        | Why::OffProfile
-        | Why::JumpRange
-        | Why::CodeShort
-        | Why::NoFunction
-        | Why::DefinitionPlace
-        | Why::IfOpen
-        | Why::NoEndf
-        | Why::PointRange
-        | Why::ContourRange
-        | Why::ZoneRange
-        | Why::CvtRange
-        | Why::StorageRange
-        | Why::DivZero
-        | Why::ValueRange
-        | Why::Perpendicular
-        | Why::BadArgument => Hint::Fixed(FixedHint::Program),
-        Why::HeadMagic
-        | Why::EmRange
-        | Why::LocaFormat
-        | Why::MetricsShort
-        | Why::CmapShape
-        | Why::LocaShort
-        | Why::GlyphRange
-        | Why::GlyphShort
-        | Why::ContourOrder
-        | Why::FlagRun
-        | Why::ComponentGlyph
-        | Why::MatchPoint => Hint::Damaged(fault),
+    let number = fault.why.number();
+    if number == 1 {
+        Hint::Fixed(kind_at(file, fault.offset as usize))
+    } else if number == 2 {
+        cut_advice(fault, file)
+    } else if number == 3 {
+        lack_advice(fault, file, face)
+    } else if number == 8 {
+        version_advice(fault, file, face)
+    } else if number == 25 {
+        face_advice(file)
+    } else {
+        plain_advice(number, fault)
     }
 }
