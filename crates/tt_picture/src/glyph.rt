@@ -36,16 +36,6 @@ pub(crate) enum GlyphBody {
 }
 
 impl GlyphBody {
-    /// The number of its edges; 0 for a cached glyph.
-    pub(crate) fn edges(&self) -> usize
-        ensures { result ≡ length (edges_of (body_view self.now)) }
-    {
-        match self {
-            GlyphBody::Tape(tape) => tape.edges(),
-            GlyphBody::Kept(_) => 0,
-        }
-    }
-
     /// Added to every pen: 0 for a tape, the margin for a cached glyph.
     pub(crate) fn left(&self, frame: Frame) -> u32
         ensures exact { result ≡ left_of frame (body_view self.now) }
@@ -181,11 +171,14 @@ impl Glyph {
         Ok(self.pens.push(pen + self.left)?)
     }
 
-    /// The number of its edges.
+    /// The number of its edges; 0 for a cached glyph.
     pub(crate) fn edges(&self) -> usize
         ensures { result ≡ length (edges_of self.now.body) }
     {
-        self.body.edges()
+        match &self.body {
+            GlyphBody::Tape(tape) => tape.edges(),
+            GlyphBody::Kept(_) => 0,
+        }
     }
 
     /// Its number in the font.

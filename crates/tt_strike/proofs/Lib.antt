@@ -8,10 +8,10 @@ mod Unfilled
 mod Listing
 mod Whole
 mod Stopped
-mod Setting
+pub mod Setting
 mod Caches
 pub mod Textless
-mod Made
+pub mod Made
 mod GrownStops
 mod Larger
 pub mod Enlarged
