@@ -1,4 +1,4 @@
--- No part of the standard: what people are told of a font's file (profile).
+-- No part of the standard: what is reported to people of a font's file (profile).
 use Rattle.std.specs.Prelude.{◌≡◌, refl, ℕ, ◌-◌, List, ◌++◌, codes, decimal}
 use Rattle.std.specs.Fmt.{digits}
 use Rattle.tt_core.specs.declared.fault.Why.TheVariants as why

@@ -1,5 +1,5 @@
--- No part of the standard: what people are told of a font that is drawn (profile). A variable font has other instances,
--- and a collection has other faces.
+-- No part of the standard: what is reported to people of a font that is drawn (profile). A variable font has other
+-- instances, and a collection has other faces.
 use Rattle.std.specs.Prelude.{◌≡◌, refl, ℕ, Bool, true, false, nat_lt, if◌then◌else◌, List, [], ◌∷◌, ◌++◌, map, codes, Option, Some, None}
 use Rattle.tt_core.specs.Numbers.{number_at}
 use Rattle.tt_advice.specs.Advice.{has_record}

@@ -1,4 +1,4 @@
--- No part of the standard: the path of a font as it is told (profile).
+-- No part of the standard: the path of a font as it is reported (profile).
 use Rattle.std.specs.Prelude.{◌≡◌, refl, ℕ, if◌then◌else◌, List, [], ◌∷◌, map, chars, codes}
 use Rattle.std.specs.Str.{encode_utf8_all}
 use Rattle.tt_advice.specs.declared.signs.Sign.TheVariants as sign

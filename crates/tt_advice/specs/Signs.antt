@@ -1,4 +1,4 @@
--- No part of the standard: characters that are told to people, since a picture of them is not what may be expected
+-- No part of the standard: characters that are reported to people, since a picture of them is not what may be expected
 -- (profile). The ranges are this page's own; no table of Unicode is read.
 use Rattle.std.specs.Prelude.{◌≡◌, refl, ℕ, Bool, true, false, ◌&&◌, nat_le, List, [], ◌∷◌, map, find, Some}
 use Rattle.std.specs.List.{list_any}

@@ -7,7 +7,7 @@ use crate::shown::push_shown;
 use std::alloc::{AllocError, Global};
 use tt_core::Fault;
 
-/// What people are told of a font's file.
+/// What is reported to people of a font's file.
 #[derive(Clone, Copy, Debug, PartialEq, Eq)]
 pub enum Hint {
     /// Words without a number or a name.

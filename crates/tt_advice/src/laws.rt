@@ -2,8 +2,8 @@
 
 ghost use Rattle.tt_advice.specs.Laws.{CffIsThere, FacesAreCounted, ProgramsAreRefused};
 
-/// Lemma: the advice is true. CFF outlines are told only of a file that begins with their version at the fault's offset,
-/// or has a table of them. The number of faces is the file's. A program is told only for a fault of a program.
+/// Lemma: the advice is true. CFF outlines are reported only where a file has their version at the fault's offset, or a
+/// table of them. The number of faces is the file's. A program is reported only for a fault of a program.
 pub fn advice_is_true()
     ensures cff { CffIsThere }
     ensures faces { FacesAreCounted }

@@ -6,7 +6,7 @@ ghost use Rattle.tt_advice.specs.Shown.{shown, shown_character};
 use crate::signs::Sign;
 use std::alloc::AllocError;
 
-/// A character as it is told: a question mark in place of a control character.
+/// A character as it is reported: a question mark in place of a control character.
 fn shown_character(c: char) -> char
     ensures { result ≡ shown_character c }
 {

@@ -3,7 +3,7 @@
 ghost use Rattle.std.specs.Prelude.{◌≡◌, chars, find};
 ghost use Rattle.tt_advice.specs.Signs.{in_range, in_ranges, is_of};
 
-/// Why a character is told.
+/// Why a character is reported.
 #[derive(Clone, Copy, Debug, PartialEq, Eq)]
 pub enum Sign {
     /// A control character, which is drawn as the font has it.

@@ -65,7 +65,7 @@ abbrev pub face_number : Reading → ℕ
 face_number reading.Strict = 0
 face_number (reading.Wide face) = face
 
--- what is told of a label, by its font's file
+-- what is reported of a label, by its font's file
 abbrev pub label_told : Label → List ℕ → List ℕ → LabelTold
 label_told l file text = record {
   fit = l.setting.fit;
@@ -105,7 +105,7 @@ abbrev pub TellsLabel : Option ℕ → ReadyLabel → Type 0
 TellsLabel number r =
     string_bytes r.report ≡ label_report_of number (told_view r.told) (length r.picture.unfitted) r.lacking.items
 
--- what a person is told of the font's file, where the font is refused
+-- what is reported to a person of the font's file, where the font is refused
 abbrev pub hint_for : Refusal → List ℕ → Reading → Option Hint
 hint_for (reason.Font f) file r = Some (advice f file (face_number r))
 hint_for why file r = None

@@ -53,7 +53,7 @@ count_line number f n =
 abbrev pub count_told : Option ℕ → Fit → ℕ → List ℕ
 count_told number f n = if n == 0 then [] else count_line number f n
 
--- what is told of a character with a sign, behind its code point
+-- what is reported of a character with a sign, behind its code point
 unfoldable pub sign_words : Sign → ℕ → List ℕ
 sign_words sign.Control c =
     if c == 9 then codes "is a tab, and drawn as the font has it; expand(1) makes blanks of tabs"
@@ -93,7 +93,7 @@ label_report_of number t unfitted lacking =
     count_told number t.fit unfitted ++ (flat_map (lacking_told number) lacking
     ++ (signs_told number t.signs ++ font_told number t.font))
 
--- the told parts of a label that is ready to be written
+-- the reported parts of a label that is ready to be written
 abbrev pub told_view : ReadyTold → LabelTold
 told_view t = record { fit = t.fit; signs = t.signs; font = string_bytes t.font }
 

@@ -26,7 +26,7 @@ abbrev pub as_text : {X : Type 0} → Result X Refused → Result X TextRefusal
 as_text (Ok x) = Ok x
 as_text (Err why) = Err (refused why)
 
--- what is told of a label beside its unfitted glyphs and its characters without a glyph: how it is fitted, the first
+-- what is reported of a label beside its unfitted glyphs and its characters without a glyph: how it is fitted, the first
 -- character of each sign, and the lines about its font
 pub record LabelTold : Type 0 where
   pub fit : Fit
@@ -34,7 +34,7 @@ pub record LabelTold : Type 0 where
   pub font : List ℕ
 
 -- the answer of a text: the bytes of its output, its unfitted glyphs, its reported characters without a glyph, what it
--- takes of the budget of a call of many lines, and what else is told of a label
+-- takes of the budget of a call of many lines, and what else is reported of a label
 pub record TextAnswer : Type 0 where
   pub bytes : List ℕ
   pub unfitted : List Unfitted
@@ -57,8 +57,8 @@ missing_among how.Refuse cs = none_missing cs
 unfoldable pub missing_tested : CharacterMap → Missing → List ℕ → Result (List ℕ) TextRefusal
 missing_tested m asked text = missing_among asked (lacking_of m (chars text))
 
--- the answer of a text by its parts, or the first refusal: what else is told of a label, its output, its unfitted glyphs,
--- its characters without a glyph, and its cost
+-- the answer of a text by its parts, or the first refusal: what else is reported of a label, its output, its unfitted
+-- glyphs, its characters without a glyph, and its cost
 abbrev pub answer_with : Option LabelTold → Result (List ℕ) Refused → Result (List Unfitted) Refused
     → Result (List ℕ) TextRefusal → Result ℕ Refused → Result TextAnswer TextRefusal
 answer_with label product report lacking taken =

@@ -13,13 +13,13 @@ pub struct Label<'a> {
     pub setting: Setting,
     /// The side at which the lines begin or end.
     pub align: Align,
-    /// The path of the font, as it is told.
+    /// The path of the font, as it is reported.
     pub path: &'a str,
     /// Whether a face was asked for.
     pub face_given: bool,
 }
 
-/// The answer of a call that draws labels, and what a person is told of the font's file, where the font is refused.
+/// The answer of a call that draws labels, and the report to a person of the font's file, where the font is refused.
 #[derive(Drop)]
 pub struct Labelled {
     pub answer: Result<(), TextsFault>,

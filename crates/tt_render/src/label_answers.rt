@@ -22,7 +22,7 @@ use tt_label::{LabelPicture, SizedFace, label};
 use tt_pbm::p4_header;
 
 /// A label, ready to be written: its picture, the file of that, the reported characters without a glyph, what else is
-/// told, and the report as it is printed.
+/// reported, and the report as it is printed.
 #[derive(Drop)]
 pub(crate) struct ReadyLabel {
     pub(crate) picture: LabelPicture,
@@ -53,7 +53,7 @@ pub(crate) fn face_number(reading: Reading) -> u32
     }
 }
 
-/// What is told of a label with these lines, by its font's file. Error: memory ran out.
+/// What is reported of a label with these lines, by its font's file. Error: memory ran out.
 fn told_of(
     alloc: Global,
     file: &[u8],

@@ -29,7 +29,7 @@ use tt_pbm::write_all_of;
 use tt_render_run::read_font;
 use tt_strike::{Face, test_job};
 
-/// What a person is told of the font's file, where the font is refused.
+/// What is reported to a person of the font's file, where the font is refused.
 fn hint_for(refusal: Refusal, file: &[u8], asked: &Label) -> Option<Hint>
     requires { length file.now ≤ font_limit }
     ensures { result ≡ hint_for refusal file.now asked.now.setting.reading }

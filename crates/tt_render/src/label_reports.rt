@@ -9,7 +9,7 @@ use std::alloc::AllocError;
 use tt_advice::Sign;
 use tt_fit::Fit;
 
-/// What is told of a label beside its unfitted glyphs and its characters without a glyph.
+/// What is reported of a label beside its unfitted glyphs and its characters without a glyph.
 #[derive(Drop)]
 pub(crate) struct LabelTold {
     pub(crate) fit: Fit,
@@ -30,7 +30,7 @@ fn fit_name(fit: Fit) -> &'static str
     }
 }
 
-/// What is told of a character with a sign, behind its code point.
+/// What is reported of a character with a sign, behind its code point.
 fn sign_words(sign: Sign, c: char) -> &'static str
     ensures { result.now ≡ sign_words sign c }
 {
