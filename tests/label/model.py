@@ -180,6 +180,26 @@ def tags_of(font, face):
     return {font[it : it + 4] for it in range(at + 12, at + 12 + 16 * struct.unpack_from(">H", font, at + 4)[0], 16)}
 
 
+def table_of(font, face, tag):
+    """Returns where the record of a face's table is, and the table."""
+    at = place_of(font, face)
+    records = range(at + 12, at + 12 + 16 * struct.unpack_from(">H", font, at + 4)[0], 16)
+    record = next(it for it in records if font[it : it + 4] == tag)
+    begin, size = struct.unpack_from(">II", font, record + 8)
+    return record, font[begin : begin + size]
+
+
+def with_height(font, face, size):
+    """Returns a font whose face has lines an em high, by a table at its end; and the rise and the depth, in pixels, that
+    the lines had."""
+    em = struct.unpack_from(">H", table_of(font, face, b"head")[1], 18)[0]
+    record, table = table_of(font, face, b"hhea")
+    ascent, descent = struct.unpack_from(">hh", table, 4)
+    high = table[:4] + struct.pack(">hh", min(em, 32767), 0) + table[8:]
+    moved = font[: record + 8] + struct.pack(">I", len(font)) + font[record + 12 :] + high
+    return moved, -(-ascent * size // em), -(descent * size // em)
+
+
 def shown(path):
     """Returns a path as it is shown."""
     return "".join("?" if ord(it) < 32 or 127 <= ord(it) < 160 else it for it in path)

@@ -11,6 +11,8 @@ from labels import lines_of
 
 # Rows of rows.txt, and texts of ../rows that are drawn as one line.
 ROWS, ONE_LINE = 103, 2400
+# What `draw` says of a line without a column or without a row.
+EMPTY = b"tt_render: 62 EmptyPicture\n"
 
 
 class Question(NamedTuple):
@@ -55,10 +57,19 @@ class Models:
         if key not in self.known:
             folder = self.folder(question)
             measured, drawn = (self.asked.run(question.draws(it, 1, text), folder) for it in ("measure", "draw"))
+            if drawn[2] == EMPTY:
+                self.known[key] = self.flat_line(question, text)
+                return self.known[key]
             if measured[0] or drawn[0]:
                 raise SystemExit(f"tests: `draw` refuses {text!r}: {drawn[2]!r} {measured[2]!r}")
             self.known[key] = model.line_of(measured[1], drawn[1], question.size), drawn[2]
         return self.known[key]
+
+    def flat_line(self, question, text):
+        """Returns the same, where the lines of the font have no height: `draw` draws higher ones."""
+        font, rise, depth = model.with_height(question.font, question.face or 0, question.size)
+        line, told = self.line(question._replace(font=font), text)
+        return line._replace(rise=rise, depth=depth), told
 
     def told(self, question, errors):
         """Returns what is told of a picture that was written, without what is told of the font."""
@@ -85,9 +96,12 @@ class Models:
         status, picture, errors = self.asked.run(
             question.draws("draw", question.margin, question.text), self.folder(question)
         )
-        if errors == b"tt_render: 62 EmptyPicture\n":
-            # `label` draws a column or a row more: where the line draws with a margin, so it does.
+        if errors == EMPTY:
+            # `label` draws a column and a row at least: it draws where the line draws with a margin, or is higher.
             wide = self.asked.run(question.draws("draw", 1, question.text), self.folder(question))
+            if wide[2] == EMPTY:
+                high = question._replace(font=model.with_height(question.font, question.face or 0, question.size)[0])
+                wide = self.asked.run(high.draws("draw", 1, question.text), self.folder(high))
             if not wide[0]:
                 return self.answer(question)
             status, picture, errors = wide
