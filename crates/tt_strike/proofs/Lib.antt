@@ -1,5 +1,5 @@
 mod Drawn
-mod Telling
+pub mod Telling
 mod Beside
 mod InkHeld
 mod GrownWhole
@@ -7,7 +7,7 @@ mod GrownNeeded
 mod Unfilled
 mod Listing
 mod Whole
-mod Stopped
+pub mod Stopped
 pub mod Setting
 mod Caches
 pub mod Textless
@@ -17,10 +17,10 @@ mod Larger
 pub mod Enlarged
 mod Agreeing
 mod SidesRefuse
-mod Costed
+pub mod Costed
 mod Needed
 pub mod Placed
-mod Stepped
+pub mod Stepped
 mod Limited
 mod Reported
 mod Seated
