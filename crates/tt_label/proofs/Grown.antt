@@ -27,7 +27,7 @@ next_refused f x xs before e is = rw is refl
 
 pub all_made : {A B E : Type 0} (f : A → Result B E) (before : List B) (all : Result (List B) E) → after_each f [] before ≡ all
     → all ≡ Ok before
-all_made {B} {E} f before all is = sym is ∙ ap (λ (ys : List B). Ok {E = E} ys) (append-nil before)
+all_made f before all is = rw (← is, append-nil before) refl
 
 -- the ink of a measure is the box of the line
 pub measured_box : (step : ℕ → ℕ) (margin : ℕ) (ink : ℕ → Option GlyphInk) (line : Placement)

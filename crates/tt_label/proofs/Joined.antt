@@ -1,6 +1,7 @@
 -- The glyphs of several lines one after the other.
-use Rattle.std.proofs.Common.{◌≡◌, refl, ap, ℕ, ◌<◌, ◌≤◌, List, [], ◌∷◌, ◌++◌, length, map, get_or, arith}
-use Rattle.std.proofs.lemmas.List.Elements.{All-append, All-head, All-nil, All-tail}
+use Rattle.std.proofs.Common.{◌≡◌, refl, ap, subst, ℕ, ◌+◌, ◌<◌, ◌≤◌, List, [], ◌∷◌, ◌++◌, length, map, get_or, Vec, Global, arith}
+use Rattle.std.proofs.lemmas.List.{get_or-append-add, get_or_append_left, length-append}
+use Rattle.std.proofs.lemmas.List.Elements.{All-append, All-cons, All-head, All-nil, All-tail}
 use Rattle.std.specs.List.{flat_map}
 use Rattle.std.specs.Prelude.{All}
 use Rattle.tt_label.specs.Label.{joint}
@@ -27,3 +28,31 @@ pub all_flat : {X A : Type 0} (P : A → Type 0) (f : X → List A) (xs : List X
 all_flat P f [] all = All-nil P
 all_flat P f (x ∷ xs) all =
     All-append P (f x) (flat_map f xs) (All-head (λ x. All P (f x)) x xs all) (all_flat P f xs (All-tail (λ x. All P (f x)) x xs all))
+
+-- and back
+in_front : {A : Type 0} (P : A → Type 0) (xs ys : List A) → All P (xs ++ ys) → All P xs
+in_front P xs ys all = λ k d below.
+    subst P (get_or_append_left xs ys d k below) (all k d (omega (arith, below, length-append xs ys)))
+
+behind : {A : Type 0} (P : A → Type 0) (xs ys : List A) → All P (xs ++ ys) → All P ys
+behind P xs ys all = λ k d below.
+    subst P (get_or-append-add xs ys k d) (all (length xs + k) d (omega (arith, below, length-append xs ys)))
+
+pub flat_all : {X A : Type 0} (P : A → Type 0) (f : X → List A) (xs : List X) → All P (flat_map f xs) → All (λ x. All P (f x)) xs
+flat_all P f [] all = All-nil (λ x. All P (f x))
+flat_all P f (x ∷ xs) all =
+    All-cons (λ x. All P (f x)) x xs (in_front P (f x) (flat_map f xs) all) (flat_all P f xs (behind P (f x) (flat_map f xs) all))
+
+-- none of some lists is longer than all of them together
+pub each_short : {X A : Type 0} (f : X → List A) (xs : List X) (n : ℕ) → length (flat_map f xs) ≤ n → All (λ x. length (f x) ≤ n) xs
+each_short f [] n few = All-nil (λ x. length (f x) ≤ n)
+each_short f (x ∷ xs) n few =
+    let both = length-append (f x) (flat_map f xs) in
+    All-cons (λ x. length (f x) ≤ n) x xs (omega (arith, few, both)) (each_short f xs n (omega (arith, few, both)))
+
+-- the glyphs of some lines, whose glyphs stand beside numbers
+pub lists_joined : (ls : List (Vec (ℕ × ℕ) Global))
+    → flat_map (λ (line : List (ℕ × ℕ)). line) (map (λ (v : Vec (ℕ × ℕ) Global). v.items) ls)
+    ≡ flat_map (λ (v : Vec (ℕ × ℕ) Global). v.items) ls
+lists_joined [] = refl
+lists_joined (l ∷ ls) = ap (λ (xs : List (ℕ × ℕ)). l.items ++ xs) (lists_joined ls)

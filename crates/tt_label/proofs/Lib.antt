@@ -1,7 +1,9 @@
 pub mod AmongDistinct
+pub mod ByStep
 pub mod Drawn
 pub mod Grown
 pub mod Joined
+pub mod Lines
 pub mod Overlaid
 pub mod Overlays
 pub mod Placed

@@ -62,7 +62,7 @@ joined_as e how inner step rise (l ∷ ls) = numbers_placed e how inner step ris
 length_placed : (e : LabelExtent) (how : Align) (inner step : ℕ) (rise : ℤ) (ls : List (List (ℕ × ℕ)))
     → length (lines_placed e how inner step rise ls) ≡ length ls
 length_placed e how inner step rise [] = refl
-length_placed e how inner step rise (l ∷ ls) = ap (λ n. 1 + n) (length_placed e how inner step (rise +ℤ pos step) ls)
+length_placed e how inner step rise (l ∷ ls) = rw (length_placed e how inner step (rise +ℤ pos step) ls) refl
 
 -- lines that are laid out have one size, the glyphs of the text, and are as many as its lines
 pub record ArePlaced (ls : List (List (ℕ × ℕ))) (lines : List Placement) : Type 0 where

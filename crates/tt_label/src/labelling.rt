@@ -2,9 +2,9 @@
 
 ghost use Rattle.std.specs.Prelude.{◌≡◌, ℕ, ◌*◌, ◌≤◌, ◌<◌, ◌&&◌, true, false, nat_lt, length, All, Ok, IfOk, OnOk};
 ghost use Rattle.tt_core.specs.Bits.{stride};
-ghost use Rattle.tt_core.specs.Outcomes.{GivesUnless};
+ghost use Rattle.tt_core.specs.Outcomes.{GivesUnless, draw_font_fault};
 ghost use Rattle.tt_fit.specs.Fitting.{Fitter};
-ghost use Rattle.tt_label.specs.Label.{joint, label_outcome, label_report, line_shows, some_line_shows};
+ghost use Rattle.tt_label.specs.Label.{joint, label_glyphs, label_outcome, label_report, line_shows, some_line_shows};
 ghost use Rattle.tt_label.specs.Made.{AreAlike};
 ghost use Rattle.tt_label.specs.Views.{placements_of};
 ghost use Rattle.tt_line.specs.Outcome.{placement_of};
@@ -14,6 +14,7 @@ ghost use Rattle.tt_picture.specs.Rows.{rows};
 ghost use Rattle.tt_picture.specs.Unfitted.{ListsOnce};
 ghost use Rattle.tt_scan_edges.specs.declared.edge.Frame.{Frame};
 ghost use Rattle.tt_scan_rows.specs.Bands.{IsBandBlackened};
+ghost use Rattle.tt_strike.specs.Defects.{IsLineDefect, TellsDefects};
 ghost use Rattle.tt_strike.specs.Refusals.{refusal};
 ghost use Rattle.tt_strike.specs.Strikes.{job_by};
 
@@ -97,6 +98,7 @@ pub fn label(
     ensures exact { GivesUnless refusal (λ p. p.image) result (label_outcome sized.old.face (job_by sized.old text.now margin) align) }
     ensures report { IfOk result (λ p. label_report sized.old.face (job_by sized.old text.now margin) align ≡ Ok p.unfitted) }
     ensures once { IfOk result (λ p. ListsOnce p.unfitted) }
+    ensures defects { TellsDefects draw_font_fault (IsLineDefect sized.old.face (job_by sized.old text.now margin) (label_glyphs sized.old.face.cmap text.now)) result }
     ensures same { sized.new ≡ sized.old }
 {
     let alloc = sized.alloc();

@@ -2,11 +2,12 @@
 
 ghost use Rattle.std.specs.Prelude.{◌≡◌, ◌≤◌, true, false, length, map, chars, All, Ok, Err, IfOk};
 ghost use Rattle.tt_core.specs.Limits.{margin_limit, text_limit};
-ghost use Rattle.tt_core.specs.Outcomes.{GivesUnless, IfTold};
-ghost use Rattle.tt_label.specs.Label.{label_placed};
+ghost use Rattle.tt_core.specs.Outcomes.{GivesUnless, IfTold, draw_font_fault};
+ghost use Rattle.tt_label.specs.Label.{label_glyphs, label_placed};
 ghost use Rattle.tt_label.specs.Made.{AreLaid, IsMadeLabel, label_shapes};
 ghost use Rattle.tt_label.specs.Views.{placements_of};
 ghost use Rattle.tt_line.specs.Outcome.{placement_of};
+ghost use Rattle.tt_strike.specs.Defects.{IsLineDefect, TellsDefects};
 ghost use Rattle.tt_strike.specs.Job.{tested};
 ghost use Rattle.tt_strike.specs.Refusals.{refusal};
 ghost use Rattle.tt_strike.specs.Strikes.{job_by};
@@ -55,6 +56,7 @@ fn make_by_steps(
     requires text { length (chars text.now) ≤ text_limit }
     ensures made { IfOk result (λ m. IsMadeLabel sized.old.face (job_by sized.old text.now margin) align m.lines.items m.glyphs.places.items m.glyphs.made.items) }
     ensures stops { IfTold refusal result (λ r. label_shapes sized.old.face (job_by sized.old text.now margin) align ≡ Err r) }
+    ensures defects { TellsDefects draw_font_fault (IsLineDefect sized.old.face (job_by sized.old text.now margin) (label_glyphs sized.old.face.cmap text.now)) result }
     ensures same { sized.new ≡ sized.old }
 {
     let source = sized.source;
@@ -123,6 +125,7 @@ fn make_by_advances(
     requires text { length (chars text.now) ≤ text_limit }
     ensures made { IfOk result (λ m. IsMadeLabel sized.old.face (job_by sized.old text.now margin) align m.lines.items m.glyphs.places.items m.glyphs.made.items) }
     ensures stops { IfTold refusal result (λ r. label_shapes sized.old.face (job_by sized.old text.now margin) align ≡ Err r) }
+    ensures defects { TellsDefects draw_font_fault (IsLineDefect sized.old.face (job_by sized.old text.now margin) (label_glyphs sized.old.face.cmap text.now)) result }
     ensures same { sized.new ≡ sized.old }
 {
     let lines = lay_label(sized, text, margin, align)?;
@@ -141,6 +144,7 @@ pub(crate) fn make_label(
 ) -> Result<MadeLabel, DrawFault>
     ensures made { IfOk result (λ m. IsMadeLabel sized.old.face (job_by sized.old text.now margin) align m.lines.items m.glyphs.places.items m.glyphs.made.items) }
     ensures stops { IfTold refusal result (λ r. label_shapes sized.old.face (job_by sized.old text.now margin) align ≡ Err r) }
+    ensures defects { TellsDefects draw_font_fault (IsLineDefect sized.old.face (job_by sized.old text.now margin) (label_glyphs sized.old.face.cmap text.now)) result }
     ensures same { sized.new ≡ sized.old }
 {
     test_margin(margin)?;
