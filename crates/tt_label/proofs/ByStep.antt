@@ -1,22 +1,27 @@
 -- A label that is laid out by the steps of its glyphs: where each part of the work stops.
-use Rattle.std.proofs.Common.{◌≡◌, ◌∙◌, refl, sym, ap, ℕ, true, false, List, map, Option, Result, Ok, Err}
+use Rattle.std.proofs.Common.{◌≡◌, ◌∙◌, refl, sym, ap, ℕ, true, false, List, length, map, Option, Result, Ok, Err}
 use Rattle.std.specs.Prelude.{IfSome}
 use Rattle.tt_core.specs.declared.draw_fault.DrawFault.{DrawFault}
 use Rattle.tt_core.specs.declared.draw_fault.DrawFault.TheVariants as draw
 use Rattle.tt_core.specs.declared.font_fault.FontFault.{FontFault}
 use Rattle.tt_core.specs.declared.font_fault.FontFault.TheVariants as font
 use Rattle.tt_core.specs.Limits.{point_work_limit}
-use Rattle.tt_core.specs.Outcomes.{FontGives, JobGives, each, draw_fault_of_font}
+use Rattle.tt_core.specs.Faults.{Fault}
+use Rattle.tt_core.specs.declared.fault.JobFault.{JobFault}
+use Rattle.tt_core.specs.Outcomes.{FontGives, JobGives, each, draw_fault_of_font, draw_font_fault}
 use Rattle.tt_face.specs.Faces.{Face}
 use Rattle.tt_fit.specs.Fitting.{Fitter}
 use Rattle.tt_fit_outline.specs.Outline.{Outline}
+use Rattle.tt_label.specs.Fitted.{AreFittedLines, glyphs_in}
 use Rattle.tt_label.specs.Label.{joint, joint_numbers, label_by_steps, label_glyphs, label_placed, stepped_lines}
 use Rattle.tt_label.specs.Made.{label_shapes}
+use Rattle.tt_label.proofs.Lines.{numbers_stepped, stepped_again}
 use Rattle.tt_line.specs.declared.align.Align.{Align}
 use Rattle.tt_line.specs.Labels.{label_placement}
 use Rattle.tt_line.specs.Layout.{Placement}
 use Rattle.tt_picture.specs.Distinct.{distinct}
 use Rattle.tt_picture.specs.Fitted.{AreFitted, FittedGlyph, fitted_chords, fitted_numbers}
+use Rattle.tt_picture.specs.Glyphs.{ArePlaces}
 use Rattle.tt_picture.specs.Pixels.{Shape}
 use Rattle.tt_picture.specs.Shapes.{crossings_in, glyph_shape}
 use Rattle.tt_picture.specs.Steps.{glyph_step}
@@ -32,6 +37,37 @@ use Rattle.tt_strike.proofs.Stopped.{stops}
 -- the step of a glyph of a label, by its fitter
 abbrev pub step_in : Face → Job → Fitter → ℕ → ℕ
 step_in face a s g = glyph_step (line_fitter s (label_glyphs face.cmap a.text) g) g
+
+-- the distinct glyphs of a label's text are fitted
+pub record IsFittedText (face : Face) (a : Job) (s : Fitter) (stepped : List (List (ℕ × ℕ))) (table : List ℕ) (fs : List FittedGlyph) : Type 0 where
+  pub steps : stepped ≡ stepped_lines (step_in face a s) face.cmap a.text
+  pub glyphs : glyphs_in stepped ≡ label_glyphs face.cmap a.text
+  pub room : length table ≡ s.tables.glyphs
+  pub places : ArePlaces table (fitted_numbers fs)
+  pub numbers : fitted_numbers fs ≡ distinct (label_glyphs face.cmap a.text)
+  pub fitted : AreFitted false (line_fitter s (label_glyphs face.cmap a.text)) fs
+  pub made : (os : List Outline) × (outlines_in s (label_glyphs face.cmap a.text) ≡ Ok os)
+
+pub text_glyphs_are : (face : Face) (a : Job) (before : ℕ → ℕ) (lines : List (List (ℕ × ℕ))) → lines ≡ stepped_lines before face.cmap a.text
+    → glyphs_in lines ≡ label_glyphs face.cmap a.text
+text_glyphs_are face a before lines are = rw are (numbers_stepped before face.cmap a.text)
+
+pub fitted_text : (face : Face) (a : Job) (s : Fitter) (before : ℕ → ℕ) (lines stepped : List (List (ℕ × ℕ))) (table : List ℕ)
+    (fs : List FittedGlyph) → lines ≡ stepped_lines before face.cmap a.text → AreFittedLines s lines stepped table fs
+    → IsFittedText face a s stepped table fs
+fitted_text face a s before lines stepped table fs are is =
+    let gs = text_glyphs_are face a before lines are in
+    let steps : stepped ≡ stepped_lines (step_in face a s) face.cmap a.text =
+    is.steps ∙ rw (gs, are) (stepped_again (step_in face a s) before face.cmap a.text) in
+    record {
+      steps = steps;
+      glyphs = text_glyphs_are face a (step_in face a s) stepped steps;
+      room = is.room;
+      places = is.places;
+      numbers = rw gs at is.numbers;
+      fitted = rw gs at is.fitted;
+      made = rw gs at is.made;
+    }
 
 -- a label's lines are laid out by the steps of its outlines, with the work that they left
 pub record IsOutlinedLabel (face : Face) (a : Job) (how : Align) (s : Fitter) (lines : List Placement) (fs : List FittedGlyph) (left : Option ℕ) : Type 0 where
@@ -109,3 +145,10 @@ pub edges_stop_label : {left : Option ℕ} (face : Face) (a : Job) (how : Align)
 edges_stop_label face a how s lines fs shapes e is made =
     stops e (as_job (edges_tested s a (joint lines) shapes)) (label_shapes face a how)
     (λ r fails. rw (label_laid face a how s lines fs is, is.there, label_points face a how s lines fs is, made, fails) refl)
+
+-- laying out finds no defect of the font
+pub size_tells_no_defect : {X Y : Type 0} {view : X → Y} {wanted : Result Y JobFault} (P : Fault → Type 0) (e : DrawFault)
+    → JobGives view (Err e) wanted → IfSome (draw_font_fault e) P
+size_tells_no_defect P (draw.Font f) gives = absurd gives
+size_tells_no_defect P (draw.Job j) gives = tt
+size_tells_no_defect P draw.Memory gives = tt

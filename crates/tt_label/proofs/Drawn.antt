@@ -1,14 +1,19 @@
 -- The picture of a label whose lines are enlarged: its glyphs are those that were made for the lines before.
-use Rattle.std.proofs.Common.{◌≡◌, ◌∙◌, refl, sym, ap, ap₂, ℕ, ◌+◌, false, nat_lt, ◌||◌, List, [], ◌∷◌, ◌++◌, map, Option, None, Some, Result, Ok, Err, arith}
+use Rattle.std.proofs.Common.{◌≡◌, ◌∙◌, refl, sym, ap, ap₂, ℕ, ◌+◌, false, nat_lt, ◌||◌, List, [], ◌∷◌, ◌++◌, map, Option, None, Some, Result, Ok, Err, inl, inr, arith}
 use Rattle.std.proofs.lemmas.List.{map-append}
 use Rattle.std.specs.List.{flat_map}
-use Rattle.tt_core.specs.Chains.{came-through, passed-on}
+use Rattle.tt_core.specs.Chains.{came-through, passed-on, was-err}
+use Rattle.std.specs.Prelude.{IfSome}
+use Rattle.tt_core.specs.declared.draw_fault.DrawFault.{DrawFault}
+use Rattle.tt_core.specs.declared.draw_fault.DrawFault.TheVariants as draw
 use Rattle.tt_core.specs.declared.fault.JobFault.{JobFault}
 use Rattle.tt_core.specs.declared.fault.JobFault.TheVariants as fault
 use Rattle.tt_core.specs.Limits.{height_limit, width_limit}
-use Rattle.tt_core.specs.Outcomes.{◌>>=◌, each}
+use Rattle.tt_core.specs.Outcomes.{◌>>=◌, JobGives, each}
 use Rattle.tt_face.specs.Faces.{Face}
-use Rattle.tt_label.specs.Label.{grown_lines, joint, joint_numbers, label_drawn, label_grown, label_ink, some_line_shows}
+use Rattle.tt_label.specs.Label.{grown_lines, joint, joint_numbers, label_drawn, label_grown, label_ink, label_outcome, label_placed, some_line_shows}
+use Rattle.tt_label.specs.Made.{label_shapes}
+use Rattle.tt_line.specs.declared.align.Align.{Align}
 use Rattle.tt_line.specs.Layout.{Placement}
 use Rattle.tt_picture.specs.declared.ink_box.InkBox.{InkBox}
 use Rattle.tt_picture.specs.Glyphs.{Glyph}
@@ -16,13 +21,14 @@ use Rattle.tt_picture.specs.Pictures.{image}
 use Rattle.tt_strike.proofs.Enlarged.{larger_made, same_numbers}
 use Rattle.tt_strike.specs.Grown.{before, grown, lacking, not_large, with_sides}
 use Rattle.tt_strike.specs.Job.{Job}
-use Rattle.tt_strike.specs.Made.{AreMade}
+use Rattle.tt_strike.specs.Made.{AreMade, shapes_made}
 use Rattle.tt_strike.specs.Measures.{line_ink}
-use Rattle.tt_strike.specs.Picture.{frame_of}
-use Rattle.tt_strike.specs.Refusals.{job}
+use Rattle.tt_strike.specs.Picture.{frame_of, setting_in}
+use Rattle.tt_strike.specs.Refusals.{Refused, as_font, job, refusal}
+use Rattle.tt_strike.proofs.Stopped.{stops}
 use Rattle.tt_strike.specs.Work.{line_fitter}
 
-abbrev rightwards : ℕ → List (ℕ × ℕ) → List (ℕ × ℕ)
+abbrev pub rightwards : ℕ → List (ℕ × ℕ) → List (ℕ × ℕ)
 rightwards left gs = map (λ (g : ℕ × ℕ). (g.0, g.1 + left)) gs
 
 -- the columns that ink needs on the left
@@ -34,7 +40,7 @@ unmoved : (gs : List (ℕ × ℕ)) → gs ≡ rightwards 0 gs
 unmoved [] = refl
 unmoved (g ∷ gs) = let here : g.1 + 0 ≡ g.1 = omega arith in rw here (ap (λ (hs : List (ℕ × ℕ)). g ∷ hs) (unmoved gs))
 
-as_large : (line larger : Placement) → not_large line ≡ Ok larger → line ≡ larger
+pub as_large : (line larger : Placement) → not_large line ≡ Ok larger → line ≡ larger
 unfolding not_large
 as_large line larger is =
     let same = (passed-on (nat_lt width_limit line.width || nat_lt height_limit line.height) fault.PictureLarge (Ok line) larger is).1 in cc
@@ -58,7 +64,7 @@ each_moved ink (l ∷ ls) ms is =
     rw (← same, one_moved l first.value ink first.first, each_moved ink ls rest.value rest.first)
     (sym (map-append (λ (g : ℕ × ℕ). (g.0, g.1 + left_of ink)) l.glyphs its))
 
-joint_glyphs : (ls : List Placement) → (joint ls).glyphs ≡ flat_map (λ (l : Placement). l.glyphs) ls
+pub joint_glyphs : (ls : List Placement) → (joint ls).glyphs ≡ flat_map (λ (l : Placement). l.glyphs) ls
 joint_glyphs [] = refl
 joint_glyphs (l ∷ ls) = refl
 
@@ -92,3 +98,51 @@ drawn_larger face a lines larger left gs made moved =
     let anew = larger_made face a (joint lines) (joint larger) left gs made moved in
     let numbers : joint_numbers larger ≡ joint_numbers lines = rw moved (same_numbers left (joint lines).glyphs) in
     rw (anew.opened, anew.few, anew.fitted, anew.seldom, numbers) refl
+
+-- a stop in the glyphs of the lines stops the label
+no_larger_lines : (face : Face) (a : Job) (lines : List Placement) (r : Refused) → shapes_made face a (joint lines) ≡ Err r
+    → label_grown face a lines ≡ Err r
+unfolding label_grown
+no_larger_lines face a lines r fails = elim (was-err (as_font (setting_in face a)) _ r fails) [
+  | inl first ↦ rw first refl
+  | inr later ↦ rw (later.first, later.rest) refl
+]
+
+stopped_label : (face : Face) (a : Job) (how : Align) (r : Refused) → label_shapes face a how ≡ Err r → label_outcome face a how ≡ Err r
+unfolding label_outcome
+stopped_label face a how r fails = elim (was-err (label_placed face a how) _ r fails) [
+  | inl first ↦ rw first refl
+  | inr later ↦ rw (later.first, no_larger_lines face a later.value r later.rest) refl
+]
+
+pub label_stops : (face : Face) (a : Job) (how : Align) (e : DrawFault) → IfSome (refusal e) (λ r. label_shapes face a how ≡ Err r)
+    → IfSome (refusal e) (λ r. label_outcome face a how ≡ Err r)
+label_stops face a how e = stops e (label_shapes face a how) (label_outcome face a how) (stopped_label face a how)
+
+-- the picture of a label whose lines are enlarged
+pub label_is : (face : Face) (a : Job) (how : Align) (lines larger : List Placement) (ink : Option InkBox) (gs : List Glyph)
+    → label_placed face a how ≡ Ok lines → (made : AreMade false face a (joint lines) gs)
+    → ink ≡ label_ink (line_ink made.setting (joint lines)) a.margin lines → grown_lines lines ink ≡ Ok larger
+    → label_outcome face a how ≡ Ok (image (frame_of (joint larger) a.margin)
+    (some_line_shows (line_fitter made.setting (joint_numbers lines)) a.margin larger))
+unfolding label_outcome
+label_is face a how lines larger ink gs placed made inked grows =
+    rw (placed, grown_as_made face a lines larger ink gs made inked grows)
+    (drawn_larger face a lines larger (left_of ink) gs made (lines_moved ink lines larger grows))
+
+-- a picture that is too large once it is enlarged
+refused_larger : (face : Face) (a : Job) (how : Align) (lines : List Placement) (ink : Option InkBox) (gs : List Glyph) (j : JobFault)
+    → label_placed face a how ≡ Ok lines → (made : AreMade false face a (joint lines) gs)
+    → ink ≡ label_ink (line_ink made.setting (joint lines)) a.margin lines → grown_lines lines ink ≡ Err j
+    → label_outcome face a how ≡ Err (job j)
+unfolding label_outcome
+refused_larger face a how lines ink gs j placed made inked fails =
+    rw (placed, not_grown_as_made face a lines ink gs j made inked fails) refl
+
+pub growth_stops : {X : Type 0} {view : X → List Placement} (face : Face) (a : Job) (how : Align) (lines : List Placement) (ink : Option InkBox)
+    (gs : List Glyph) (e : DrawFault) → label_placed face a how ≡ Ok lines → (made : AreMade false face a (joint lines) gs)
+    → ink ≡ label_ink (line_ink made.setting (joint lines)) a.margin lines → JobGives view (Err e) (grown_lines lines ink)
+    → IfSome (refusal e) (λ r. label_outcome face a how ≡ Err r)
+growth_stops face a how lines ink gs (draw.Font f) placed made inked fails = absurd fails
+growth_stops face a how lines ink gs (draw.Job j) placed made inked fails = refused_larger face a how lines ink gs j placed made inked fails
+growth_stops face a how lines ink gs draw.Memory placed made inked fails = tt

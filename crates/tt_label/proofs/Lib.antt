@@ -3,6 +3,7 @@ pub mod ByStep
 pub mod Drawn
 pub mod Grown
 pub mod Joined
+pub mod Larger
 pub mod Lines
 pub mod Overlaid
 pub mod Overlays

@@ -76,6 +76,15 @@ line_over maker margin n h w front line old mid new so_far one = record {
   len = one.len ∙ so_far.len;
 }
 
+-- the same, by the size and the margin that the line has
+pub line_over_lines : (maker : ℕ → Fitter) (margin m w v h k : ℕ) (front : List Placement) (line : Placement) (old mid new : List ℕ)
+    → v ≡ w → k ≡ h → m ≡ margin
+    → IsBandBlackened (stride w) h (λ r c. nat_lt c w && some_line_shows maker margin front c r) old mid
+    → IsBandBlackened (stride v) k (λ r c. nat_lt c v && line_shows maker m line c r) mid new
+    → IsBandBlackened (stride w) h (λ r c. nat_lt c w && some_line_shows maker margin (front ++ line ∷ []) c r) old new
+line_over_lines maker margin m w v h k front line old mid new as_wide as_high same so_far one =
+    line_over maker margin (stride w) h w front line old mid new so_far (rw (as_wide, as_high, same) at one)
+
 pub none_over : (maker : ℕ → Fitter) (margin n h w : ℕ) (rows : List ℕ)
     → IsBandBlackened n h (λ r c. nat_lt c w && some_line_shows maker margin [] c r) rows rows
 none_over maker margin n h w rows = record {

@@ -1,6 +1,6 @@
 //! Draws a label.
 
-ghost use Rattle.std.specs.Prelude.{◌≡◌, ℕ, ◌*◌, ◌≤◌, ◌<◌, ◌&&◌, true, false, nat_lt, length, All, Ok, IfOk, OnOk};
+ghost use Rattle.std.specs.Prelude.{◌≡◌, ℕ, ◌*◌, ◌≤◌, ◌<◌, ◌&&◌, true, false, nat_lt, length, slice_index, All, Ok, IfOk, OnOk};
 ghost use Rattle.tt_core.specs.Bits.{stride};
 ghost use Rattle.tt_core.specs.Outcomes.{GivesUnless, draw_font_fault};
 ghost use Rattle.tt_fit.specs.Fitting.{Fitter};
@@ -44,6 +44,7 @@ fn paint_line(
     requires len { length rows.old ≡ stride laid.now.line.width * laid.now.line.height }
     ensures painted { OnOk result ((maker : ℕ → Fitter) (f : Frame) → AreDrawn false maker f glyphs.now.made.items
         → IsBandBlackened (stride laid.now.line.width) laid.now.line.height (λ r c. nat_lt c laid.now.line.width && line_shows maker laid.now.margin (placement_of laid.now.line) c r) rows.old rows.new) }
+    ensures bytes { OnOk result ((i : ℕ) → i < length rows.new → slice_index rows.new i < 256) }
     ensures len { length rows.new ≡ length rows.old }
 {
     if laid.line.glyphs.is_empty() {

@@ -1,4 +1,4 @@
-use Rattle.std.proofs.Common.{◌≡◌, ◌∙◌, refl, ℕ, ◌<◌, ◌≤◌, List, get_or, length, sym, ap, arith}
+use Rattle.std.proofs.Common.{◌≡◌, ◌∙◌, refl}
 use Rattle.tt_label.proofs.Joined.{joint_is}
 use Rattle.tt_label.proofs.joining.joint_line.Goals as goal
 

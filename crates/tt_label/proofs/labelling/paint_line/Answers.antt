@@ -37,3 +37,9 @@ returns-clause-painted c = λ maker f drawn.
     let stand = rw (frame, c.deref-3.ensures.value) at own.stand in
     line_painted maker laid.margin (stride laid.line.width) laid.line.height laid.line.width (placement_of laid.line)
     c.in_ok-own.own.items c.args.rows.now c.paint_over.new.rows stand (rw frame at c.in_ok-paint_over.ensures)
+
+pub returns-then-is_empty-clause-bytes : goal.returns-then-is_empty-clause-bytes
+returns-then-is_empty-clause-bytes c = λ i below. (c.type_inv.rows i).fits
+
+pub returns-clause-bytes : goal.returns-clause-bytes
+returns-clause-bytes c = λ i below. (c.type_inv.rows i).fits

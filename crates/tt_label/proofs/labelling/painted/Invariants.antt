@@ -1,4 +1,4 @@
-use Rattle.std.proofs.Common.{◌≡◌, ℕ, ◌*◌, ◌&&◌, false, nat_lt, length, replicate, take}
+use Rattle.std.proofs.Common.{◌≡◌, ℕ, ◌*◌, ◌<◌, ◌&&◌, false, nat_lt, length, replicate, slice_index, take}
 use Rattle.std.specs.Prelude.{All}
 use Rattle.tt_core.specs.Bits.{stride}
 use Rattle.tt_fit.specs.Fitting.{Fitter}
@@ -13,6 +13,7 @@ use Rattle.tt_label.proofs.labelling.painted.Given as goal
 abbrev pub invariant-loop-laid : goal.invariant-loop-laid
 invariant-loop-laid l = record {
   len : length l.rows.items ≡ stride (joint (placements_of l.lines)).width * (joint (placements_of l.lines)).height;
+  bytes : (i : ℕ) → i < length l.rows.items → slice_index l.rows.items i < 256;
   painted : (maker : ℕ → Fitter) (f : Frame) (margin : ℕ) → AreDrawn false maker f l.glyphs.made.items
       → All (λ laid. laid.margin ≡ margin) l.lines
       → IsBandBlackened (stride (joint (placements_of l.lines)).width) (joint (placements_of l.lines)).height
