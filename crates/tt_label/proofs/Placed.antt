@@ -1,5 +1,5 @@
 -- The lines of a label as they are laid out.
-use Rattle.std.proofs.Common.{◌≡◌, ◌∙◌, refl, sym, ap, ap₂, ℕ, ◌+◌, ◌-◌, false, ℤ, pos, ◌+ℤ◌, List, [], ◌∷◌, ◌++◌, length, map, Result, Ok, Err, arith}
+use Rattle.std.proofs.Common.{◌≡◌, ◌∙◌, refl, sym, ap, ap₂, ℕ, ◌+◌, ◌-◌, ◌<◌, ◌≤◌, false, ℤ, pos, ◌+ℤ◌, List, [], ◌∷◌, ◌++◌, length, map, Vec, Global, Result, Ok, Err, arith}
 use Rattle.std.proofs.lemmas.List.{length-map, map-append}
 use Rattle.std.proofs.lemmas.List.Elements.{All-cons, All-nil}
 use Rattle.std.proofs.lemmas.Simd.{map-map}
@@ -8,22 +8,30 @@ use Rattle.std.specs.Prelude.{All, IfSome}
 use Rattle.tt_core.specs.Chains.{came-through}
 use Rattle.tt_core.specs.declared.draw_fault.DrawFault.{DrawFault}
 use Rattle.tt_core.specs.declared.draw_fault.DrawFault.TheVariants as draw
+use Rattle.tt_core.specs.Limits.{margin_limit, text_limit}
 use Rattle.tt_core.specs.Outcomes.{GivesUnless, JobGives}
 use Rattle.tt_core.specs.declared.fault.JobFault.{JobFault}
 use Rattle.tt_label.specs.Fitted.{glyphs_in}
 use Rattle.tt_face.specs.Faces.{Face}
 use Rattle.tt_label.specs.Label.{joint, joint_numbers, label_by_advances, label_placed}
-use Rattle.tt_label.specs.Made.{AreAlike, label_shapes}
+use Rattle.tt_label.specs.Made.{AreAlike, AreLaid, label_shapes}
+use Rattle.tt_label.specs.Views.{placements_of}
+use Rattle.tt_label.proofs.Joined.{lists_joined}
 use Rattle.tt_line.specs.declared.align.Align.{Align}
 use Rattle.tt_line.specs.declared.label_extent.LabelExtent.{LabelExtent}
 use Rattle.tt_line.specs.Labels.{indent, label_extent, label_limited, label_placement, line_placed, line_step_of, lines_placed, widest, width_of}
 use Rattle.tt_line.specs.Layout.{Placement, depth_of, glyphs_at_pens, rise_of}
+use Rattle.tt_line.specs.Outcome.{placement_of}
 use Rattle.tt_line.proofs.Pens.{glyphs_by_steps}
-use Rattle.tt_metrics.specs.Metrics.{Metrics}
+use Rattle.tt_metrics.specs.Metrics.{Metrics, glyphs_of}
+use Rattle.tt_picture.proofs.Among.{of_same_glyphs}
 use Rattle.tt_strike.specs.Job.{Job, tested}
 use Rattle.tt_strike.specs.Made.{shapes_made}
 use Rattle.tt_strike.specs.Refusals.{Refused, font, job, refusal}
+use Rattle.tt_strike.specs.declared.laid.Laid.{Laid}
+use Rattle.tt_strike.specs.Strikes.{SizedFace, job_by, job_with}
 use Rattle.tt_strike.specs.Work.{is_bounded}
+use Rattle.tt_strike.proofs.Textless.{shapes_textless}
 
 -- each line has the size of the picture
 all_alike : (e : LabelExtent) (how : Align) (inner step : ℕ) (rise : ℤ) (ls : List (List (ℕ × ℕ)))
@@ -119,3 +127,36 @@ pub refused_as_job : {X Y : Type 0} (view : X → Y) (other : X → List Placeme
 refused_as_job view other wanted placed (draw.Font f) gives is = absurd gives
 refused_as_job view other wanted placed (draw.Job j) gives is = is j gives
 refused_as_job view other wanted placed draw.Memory gives is = tt
+
+-- lines that are laid out, from lists of glyphs with their steps
+pub laid_by : (face : Face) (ppem margin : ℕ) (how : Align) (steps : List (Vec (ℕ × ℕ) Global)) (lines : List Laid) → margin ≤ margin_limit
+    → 1 ≤ length steps → length (flat_map (λ (v : Vec (ℕ × ℕ) Global). v.items) steps) ≤ text_limit
+    → All (λ (g : ℕ × ℕ). g.0 < glyphs_of face.metrics) (flat_map (λ (v : Vec (ℕ × ℕ) Global). v.items) steps)
+    → All (λ (l : Laid). l.margin ≡ margin) lines
+    → label_placement face.metrics ppem margin how (map (λ (v : Vec (ℕ × ℕ) Global). v.items) steps) ≡ Ok (placements_of lines)
+    → AreLaid face margin lines
+laid_by face ppem margin how steps lines within some few known margins is =
+    let items : Vec (ℕ × ℕ) Global → List (ℕ × ℕ) = λ v. v.items in
+    let first : ℕ × ℕ → ℕ = λ g. g.0 in
+    let ms = placements_of lines in
+    let placed = placed_lines face.metrics ppem margin how (map items steps) ms is in
+    let joined : map first (joint ms).glyphs ≡ map first (flat_map items steps) = placed.numbers ∙ ap (map first) (lists_joined steps) in
+    let count : length lines ≡ length steps = sym (length-map (λ (l : Laid). placement_of l.line) lines) ∙ placed.count ∙ length-map items steps in
+    let long : length (joint ms).glyphs ≡ length (flat_map items steps) =
+    sym (length-map first (joint ms).glyphs) ∙ ap length joined ∙ length-map first (flat_map items steps) in
+    record {
+      some = omega (arith, some, count);
+      within = within;
+      margins = margins;
+      alike = placed.alike;
+      few = omega (arith, few, long);
+      known = of_same_glyphs (λ n. n < glyphs_of face.metrics) (flat_map items steps) (joint ms).glyphs joined known;
+    }
+
+-- the glyphs of a line whose job has no text any more
+pub textless_tell : (z : SizedFace) (text : List ℕ) (margin : ℕ) (how : Align) (lines : List Placement) (d : DrawFault)
+    → label_placed z.face (job_by z text margin) how ≡ Ok lines
+    → IfSome (refusal d) (λ r. shapes_made z.face (job_with z margin) (joint lines) ≡ Err r)
+    → IfSome (refusal d) (λ r. label_shapes z.face (job_by z text margin) how ≡ Err r)
+textless_tell z text margin how lines d placed fails =
+    shapes_tell z.face (job_by z text margin) how lines d placed (rw (shapes_textless z text margin (joint lines)) fails)

@@ -2,10 +2,10 @@ use Rattle.std.proofs.Common.{◌∙◌, Vec, Global}
 use Rattle.std.proofs.lemmas.Result.{err_from_is_err_and}
 use Rattle.tt_label.specs.Label.{joint}
 use Rattle.tt_label.specs.Views.{placements_of}
-use Rattle.tt_label.proofs.Placed.{lines_tell, shapes_tell}
+use Rattle.tt_label.proofs.Placed.{lines_tell, textless_tell}
 use Rattle.tt_strike.specs.declared.laid.Laid.{Laid}
 use Rattle.tt_strike.specs.Strikes.{job_by}
-use Rattle.tt_strike.proofs.Textless.{made_textless, shapes_textless}
+use Rattle.tt_strike.proofs.Textless.{made_textless}
 use Rattle.tt_label.proofs.made.make_by_advances.Goals as goal
 
 pub returns-in_err-lines-clause-stops : goal.returns-in_err-lines-clause-stops
@@ -19,15 +19,8 @@ returns-in_err-glyphs-clause-stops c =
     let z = c.args.sized.now in
     let lines = placements_of c.in_ok-lines.lines.items in
     let p = err_from_is_err_and c.from_residual-in_err-glyphs.result c.from_residual-in_err-glyphs.ensures.1 in
-    let fails = rw (
-      c.lay_label.ensures.same,
-      c.in_ok-joint.ensures.line,
-      c.deref.ensures.value,
-      c.in_ok-joint.ensures.margin,
-      ← shapes_textless z c.args.text.now c.args.margin (joint lines),
-    ) at c.in_err-glyphs.ensures.stops in
-    rw (p.1, p.2) (shapes_tell z.face (job_by z c.args.text.now c.args.margin) c.args.align lines c.in_err-glyphs.field-0.0
-    c.in_ok-lines.ensures.exact fails)
+    let fails = rw (c.lay_label.ensures.same, c.in_ok-joint.ensures.line, c.deref.ensures.value, c.in_ok-joint.ensures.margin) at c.in_err-glyphs.ensures.stops in
+    rw (p.1, p.2) (textless_tell z c.args.text.now c.args.margin c.args.align lines c.in_err-glyphs.field-0.0 c.in_ok-lines.ensures.exact fails)
 
 pub returns-clause-made : goal.returns-clause-made
 returns-clause-made c =

@@ -1,27 +1,34 @@
 use Rattle.std.proofs.Common.{◌≡◌, ◌∙◌, ◌<◌, ◌≤◌, ℕ, false, List, Vec, Global, ap, length, map, refl, sym, Ok}
 use Rattle.std.proofs.lemmas.List.{length-map}
 use Rattle.std.proofs.lemmas.Result.{err_from_is_err_and}
+use Rattle.std.specs.List.{flat_map}
+use Rattle.tt_core.specs.Limits.{text_limit}
 use Rattle.tt_face.specs.Faces.{Face}
 use Rattle.tt_fit.specs.Fitting.{Fitter}
 use Rattle.tt_fit.specs.declared.programs.Fit.{Fit}
+use Rattle.tt_label.specs.Fitted.{glyphs_in}
 use Rattle.tt_label.specs.Label.{joint, joint_numbers, label_glyphs, stepped_lines}
+use Rattle.tt_label.specs.Made.{AreLaid}
 use Rattle.tt_label.specs.Views.{placements_of}
 use Rattle.tt_label.proofs.ByStep.{IsFittedText, IsOutlinedLabel, edges_stop_label, fitted_text, label_edges, label_laid, label_made, label_points, outlines_stop_label, setting_stops_label, size_stops_label, size_tells_no_defect, text_glyphs_are}
-use Rattle.tt_label.proofs.Placed.{placed_lines}
-use Rattle.tt_line.specs.declared.align.Align.{Align}
+use Rattle.tt_label.proofs.Joined.{all_flat, each_short, lists_joined}
+use Rattle.tt_label.proofs.Placed.{laid_by, placed_lines}
 use Rattle.tt_line.specs.Layout.{advance_in_pixels}
 use Rattle.tt_metrics.specs.Metrics.{glyphs_of}
 use Rattle.tt_picture.specs.Distinct.{distinct}
+use Rattle.tt_picture.proofs.Among.{of_same_glyphs}
 use Rattle.tt_strike.specs.Defects.{IsLineDefect}
 use Rattle.tt_strike.specs.Job.{Job}
+use Rattle.tt_strike.specs.Makers.{IsMaker}
 use Rattle.tt_strike.specs.Picture.{edges_tested, shapes_in}
 use Rattle.tt_strike.specs.Strikes.{SizedFace, job_by}
 use Rattle.tt_strike.specs.Work.{line_fitter}
 use Rattle.tt_strike.proofs.Placed.{of-job}
+use Rattle.tt_strike.proofs.Setting.{given_back, line_alike}
 use Rattle.tt_strike.proofs.Stepped.{line_tells_no_defect, outlines_pass, outlines_tell_defect}
 use Rattle.tt_strike.proofs.Stopped.{font_tells}
 use Rattle.tt_strike.proofs.Telling.{no_line_defect, setting_tells}
-use Rattle.tt_label.proofs.made.make_by_steps.Goals.{In_ok-label, In_ok-lines, In_ok-steps}
+use Rattle.tt_label.proofs.made.make_by_steps.Goals.{After-give_back, In_ok-label, In_ok-lines, In_ok-steps}
 use Rattle.tt_label.proofs.made.make_by_steps.Goals as goal
 
 -- the job of a text at this place
@@ -31,10 +38,297 @@ job_here face ppem how text margin = job_by (record { face = face; ppem = ppem; 
 abbrev items_of : List (Vec (ℕ × ℕ) Global) → List (List (ℕ × ℕ))
 items_of lines = map (λ (v : Vec (ℕ × ℕ) Global). v.items) lines
 
--- the lines with the advances of their glyphs
+abbrev all_of : List (Vec (ℕ × ℕ) Global) → List (ℕ × ℕ)
+all_of lines = flat_map (λ (v : Vec (ℕ × ℕ) Global). v.items) lines
+
+-- the lines, with the advances of their glyphs
 lines_are : (c : In_ok-steps) → items_of c.in_ok-steps.steps.items
     ≡ stepped_lines (advance_in_pixels c.sized.inside.source.face.now.metrics c.sized.inside.source.ppem) c.sized.inside.source.face.now.cmap c.args.text.now
-lines_are c = ?
+lines_are c = rw c.sized.invariant.1 at c.in_ok-steps.ensures.exact
+
+-- their glyphs are fitted
+fitted_then : (c : In_ok-label) → items_of c.in_ok-steps.steps.items
+    ≡ stepped_lines (advance_in_pixels c.sized.inside.source.face.now.metrics c.sized.inside.source.ppem) c.sized.inside.source.face.now.cmap c.args.text.now
+    → IsFittedText c.sized.inside.source.face.now (job_here c.sized.inside.source.face.now c.sized.inside.source.ppem c.sized.inside.source.fit c.args.text.now c.args.margin) c.in_ok-fitter.fitter (items_of c.in_ok-label.label.steps.items) c.in_ok-label.label.places.items c.in_ok-label.label.fitted.items
+fitted_then c are =
+    fitted_text c.sized.inside.source.face.now (job_here c.sized.inside.source.face.now c.sized.inside.source.ppem c.sized.inside.source.fit c.args.text.now c.args.margin) c.in_ok-fitter.fitter (advance_in_pixels c.sized.inside.source.face.now.metrics c.sized.inside.source.ppem)
+    (items_of c.in_ok-steps.steps.items) (items_of c.in_ok-label.label.steps.items) c.in_ok-label.label.places.items c.in_ok-label.label.fitted.items
+    are c.in_ok-label.ensures.fitted
+
+-- the same glyphs, with other steps
+same_glyphs : (c : In_ok-label) → items_of c.in_ok-steps.steps.items
+    ≡ stepped_lines (advance_in_pixels c.sized.inside.source.face.now.metrics c.sized.inside.source.ppem) c.sized.inside.source.face.now.cmap c.args.text.now
+    → map (λ (g : ℕ × ℕ). g.0) (all_of c.in_ok-label.label.steps.items) ≡ map (λ (g : ℕ × ℕ). g.0) (all_of c.in_ok-steps.steps.items)
+same_glyphs c are =
+    let first : List (ℕ × ℕ) → List ℕ = map (λ (g : ℕ × ℕ). g.0) in
+    let old = text_glyphs_are c.sized.inside.source.face.now (job_here c.sized.inside.source.face.now c.sized.inside.source.ppem c.sized.inside.source.fit c.args.text.now c.args.margin) (advance_in_pixels c.sized.inside.source.face.now.metrics c.sized.inside.source.ppem) (items_of c.in_ok-steps.steps.items) are in
+    ap first (sym (lists_joined c.in_ok-label.label.steps.items)) ∙ (fitted_then c are).glyphs ∙ sym old ∙ ap first (lists_joined c.in_ok-steps.steps.items)
+
+few_glyphs : (c : In_ok-label) → items_of c.in_ok-steps.steps.items
+    ≡ stepped_lines (advance_in_pixels c.sized.inside.source.face.now.metrics c.sized.inside.source.ppem) c.sized.inside.source.face.now.cmap c.args.text.now
+    → length (all_of c.in_ok-label.label.steps.items) ≤ text_limit
+few_glyphs c are =
+    let first : ℕ × ℕ → ℕ = λ g. g.0 in
+    let same : length (all_of c.in_ok-label.label.steps.items) ≡ length (all_of c.in_ok-steps.steps.items) =
+    sym (length-map first (all_of c.in_ok-label.label.steps.items)) ∙ ap length (same_glyphs c are) ∙ length-map first (all_of c.in_ok-steps.steps.items) in
+    rw same c.in_ok-steps.ensures.few
+
+as_many_lines : (c : In_ok-label) → items_of c.in_ok-steps.steps.items
+    ≡ stepped_lines (advance_in_pixels c.sized.inside.source.face.now.metrics c.sized.inside.source.ppem) c.sized.inside.source.face.now.cmap c.args.text.now
+    → length c.in_ok-label.label.steps.items ≡ length c.in_ok-steps.steps.items
+as_many_lines c are =
+    let items : Vec (ℕ × ℕ) Global → List (ℕ × ℕ) = λ v. v.items in
+    sym (length-map items c.in_ok-label.label.steps.items) ∙ ap length (c.in_ok-label.ensures.fitted.steps)
+    ∙ length-map _ (items_of c.in_ok-steps.steps.items) ∙ length-map items c.in_ok-steps.steps.items
+
+-- the lines are laid out
+laid_then : (c : In_ok-lines) → length (all_of c.in_ok-label.label.steps.items) ≤ text_limit
+    → map (λ (g : ℕ × ℕ). g.0) (all_of c.in_ok-label.label.steps.items) ≡ map (λ (g : ℕ × ℕ). g.0) (all_of c.in_ok-steps.steps.items)
+    → length c.in_ok-label.label.steps.items ≡ length c.in_ok-steps.steps.items
+    → AreLaid c.sized.inside.source.face.now c.args.margin c.in_ok-lines.lines.items
+laid_then c few same count =
+    let known = rw c.sized.invariant.1 at c.in_ok-steps.ensures.known in
+    let laid = rw (c.metrics.ensures, ← c.in_ok-lines.ensures.lines) at c.in_ok-laid.ensures in
+    laid_by c.sized.inside.source.face.now c.sized.inside.source.ppem c.args.margin c.args.align c.in_ok-label.label.steps.items c.in_ok-lines.lines.items
+    c.requires.margin (rw count c.in_ok-steps.ensures.some) few
+    (of_same_glyphs (λ n. n < glyphs_of c.sized.inside.source.face.now.metrics) (all_of c.in_ok-steps.steps.items) (all_of c.in_ok-label.label.steps.items) same
+    (all_flat (λ (g : ℕ × ℕ). g.0 < glyphs_of c.sized.inside.source.face.now.metrics) (λ (v : Vec (ℕ × ℕ) Global). v.items) c.in_ok-steps.steps.items known))
+    c.in_ok-lines.ensures.margin laid
+
+-- the label by the outlines of its glyphs
+outlined_then : (c : In_ok-lines) → items_of c.in_ok-steps.steps.items
+    ≡ stepped_lines (advance_in_pixels c.sized.inside.source.face.now.metrics c.sized.inside.source.ppem) c.sized.inside.source.face.now.cmap c.args.text.now
+    → IsFittedText c.sized.inside.source.face.now (job_here c.sized.inside.source.face.now c.sized.inside.source.ppem c.sized.inside.source.fit c.args.text.now c.args.margin) c.in_ok-fitter.fitter (items_of c.in_ok-label.label.steps.items) c.in_ok-label.label.places.items c.in_ok-label.label.fitted.items
+    → IsOutlinedLabel c.sized.inside.source.face.now (job_here c.sized.inside.source.face.now c.sized.inside.source.ppem c.sized.inside.source.fit c.args.text.now c.args.margin) c.args.align c.in_ok-fitter.fitter (placements_of c.in_ok-lines.lines.items) c.in_ok-label.label.fitted.items c.work-left.result
+outlined_then c are f =
+    let gs = text_glyphs_are c.sized.inside.source.face.now (job_here c.sized.inside.source.face.now c.sized.inside.source.ppem c.sized.inside.source.fit c.args.text.now c.args.margin) (advance_in_pixels c.sized.inside.source.face.now.metrics c.sized.inside.source.ppem) (items_of c.in_ok-steps.steps.items) are in
+    let laid = rw (c.metrics.ensures, ← c.in_ok-lines.ensures.lines) at c.in_ok-laid.ensures in
+    record {
+      passes = rw (← c.sized.view_is) at c.requires.tested;
+      bounded = rw (← c.sized.view_is) at c.requires.bounded;
+      there = c.in_ok-fitter.ensures.exact;
+      points = rw gs at c.in_ok-label.ensures.points;
+      outlines = f.made;
+      fitted = f.fitted;
+      numbers = f.numbers;
+      glyphs = (placed_lines c.sized.inside.source.face.now.metrics c.sized.inside.source.ppem c.args.margin c.args.align (items_of c.in_ok-label.label.steps.items)
+          (placements_of c.in_ok-lines.lines.items) laid).numbers ∙ f.glyphs;
+      laid = rw f.steps at laid;
+      work = c.work-left.ensures ∙ ap (λ (t : Fitter). t.work) (rw gs at c.in_ok-label.ensures.after);
+    }
+
+pub fit_label-requires-clause-known : goal.fit_label-requires-clause-known
+fit_label-requires-clause-known c = rw c.sized.invariant.1 at c.in_ok-steps.ensures.known
+
+pub fit_label-requires-clause-bounded : goal.fit_label-requires-clause-bounded
+fit_label-requires-clause-bounded c = rw (← c.sized.view_is) at c.requires.bounded
+
+pub fit_label-requires-clause-glyphs : goal.fit_label-requires-clause-glyphs
+fit_label-requires-clause-glyphs c = c.in_ok-fitter.ensures.setting.glyphs
+
+pub lay_lines-requires-clause-few : goal.lay_lines-requires-clause-few
+lay_lines-requires-clause-few c =
+    let all = goal.at.lay_lines-requires-clause-few c in
+    each_short (λ (v : Vec (ℕ × ℕ) Global). v.items) c.in_ok-label.label.steps.items text_limit
+    (few_glyphs all.In_ok-label (lines_are all.In_ok-steps))
+
+pub lay_lines-requires-clause-count : goal.lay_lines-requires-clause-count
+lay_lines-requires-clause-count c =
+    let all = goal.at.lay_lines-requires-clause-count c in
+    rw (as_many_lines all.In_ok-label (lines_are all.In_ok-steps)) c.in_ok-steps.ensures.count
 
 pub returns-in_err-fitter-clause-stops : goal.returns-in_err-fitter-clause-stops
-returns-in_err-fitter-clause-stops c = ?
+returns-in_err-fitter-clause-stops c =
+    let z : SizedFace = record { face = c.sized.inside.source.face.now; ppem = c.sized.inside.source.ppem; fit = c.sized.inside.source.fit } in
+    let a = job_by z c.args.text.now c.args.margin in
+    let passes = rw (← c.sized.view_is) at c.requires.tested in
+    let bounded = rw (← c.sized.view_is) at c.requires.bounded in
+    let p = err_from_is_err_and c.from_residual-in_err-fitter.result c.from_residual-in_err-fitter.ensures.1 in
+    rw (p.1, p.2, ← c.sized.view_is) (setting_stops_label z.face a c.args.align c.in_err-fitter.field-0.0 passes bounded c.in_err-fitter.ensures.exact)
+
+pub returns-in_err-fitter-clause-defects : goal.returns-in_err-fitter-clause-defects
+returns-in_err-fitter-clause-defects c =
+    let z : SizedFace = record { face = c.sized.inside.source.face.now; ppem = c.sized.inside.source.ppem; fit = c.sized.inside.source.fit } in
+    let a = job_by z c.args.text.now c.args.margin in
+    let gs = label_glyphs z.face.cmap c.args.text.now in
+    let p = err_from_is_err_and c.from_residual-in_err-fitter.result c.from_residual-in_err-fitter.ensures.1 in
+    rw (p.1, p.2, ← c.sized.view_is) (font_tells (IsLineDefect z.face a gs) c.in_err-fitter.field-0.0
+    (setting_tells z.face a gs c.in_err-fitter.field-0.0 c.in_err-fitter.ensures.defects))
+
+pub returns-in_err-label-clause-stops : goal.returns-in_err-label-clause-stops
+returns-in_err-label-clause-stops c =
+    let z : SizedFace = record { face = c.sized.inside.source.face.now; ppem = c.sized.inside.source.ppem; fit = c.sized.inside.source.fit } in
+    let a = job_by z c.args.text.now c.args.margin in
+    let passes = rw (← c.sized.view_is) at c.requires.tested in
+    let bounded = rw (← c.sized.view_is) at c.requires.bounded in
+    let all = goal.at.returns-in_err-label-clause-stops c in
+    let gs = text_glyphs_are z.face a (advance_in_pixels z.face.metrics z.ppem) (items_of c.in_ok-steps.steps.items) (lines_are all.In_ok-steps) in
+    let fails = rw gs at c.in_err-label.ensures.stops in
+    let p = err_from_is_err_and c.from_residual-in_err-label.result c.from_residual-in_err-label.ensures.1 in
+    rw (p.1, p.2, ← c.sized.view_is) (outlines_stop_label z.face a c.args.align c.in_ok-fitter.fitter c.in_err-label.field-0.0 passes bounded
+    c.in_ok-fitter.ensures.exact fails)
+
+pub returns-in_err-label-clause-defects : goal.returns-in_err-label-clause-defects
+returns-in_err-label-clause-defects c =
+    let z : SizedFace = record { face = c.sized.inside.source.face.now; ppem = c.sized.inside.source.ppem; fit = c.sized.inside.source.fit } in
+    let a = job_by z c.args.text.now c.args.margin in
+    let all = goal.at.returns-in_err-label-clause-defects c in
+    let gs = text_glyphs_are z.face a (advance_in_pixels z.face.metrics z.ppem) (items_of c.in_ok-steps.steps.items) (lines_are all.In_ok-steps) in
+    let fails = rw gs at c.in_err-label.ensures.stops in
+    let p = err_from_is_err_and c.from_residual-in_err-label.result c.from_residual-in_err-label.ensures.1 in
+    rw (p.1, p.2, ← c.sized.view_is) (outlines_tell_defect z.face a c.in_ok-fitter.fitter (label_glyphs z.face.cmap c.args.text.now)
+    c.in_err-label.field-0.0 c.in_ok-fitter.ensures.exact fails)
+
+pub returns-in_err-laid-clause-stops : goal.returns-in_err-laid-clause-stops
+returns-in_err-laid-clause-stops c =
+    let z : SizedFace = record { face = c.sized.inside.source.face.now; ppem = c.sized.inside.source.ppem; fit = c.sized.inside.source.fit } in
+    let a = job_by z c.args.text.now c.args.margin in
+    let passes = rw (← c.sized.view_is) at c.requires.tested in
+    let bounded = rw (← c.sized.view_is) at c.requires.bounded in
+    let all = goal.at.returns-in_err-laid-clause-stops c in
+    let s = c.in_ok-fitter.fitter in
+    let are = lines_are all.In_ok-steps in
+    let gs = text_glyphs_are z.face a (advance_in_pixels z.face.metrics z.ppem) (items_of c.in_ok-steps.steps.items) are in
+    let f = fitted_then all.In_ok-label are in
+    let fails = rw (c.metrics.ensures, f.steps) at c.in_err-laid.ensures in
+    let points = rw gs at c.in_ok-label.ensures.points in
+    let p = err_from_is_err_and c.from_residual-in_err-laid.result c.from_residual-in_err-laid.ensures.1 in
+    rw (p.1, p.2, ← c.sized.view_is) (size_stops_label z.face a c.args.align s f.made.0 c.in_err-laid.field-0.0 passes bounded
+    c.in_ok-fitter.ensures.exact (outlines_pass s a (label_glyphs z.face.cmap a.text) f.made.0 points f.made.1) fails)
+
+pub returns-in_err-laid-clause-defects : goal.returns-in_err-laid-clause-defects
+returns-in_err-laid-clause-defects c =
+    let p = err_from_is_err_and c.from_residual-in_err-laid.result c.from_residual-in_err-laid.ensures.1 in
+    rw (p.1, p.2) (size_tells_no_defect _ c.in_err-laid.field-0.0 c.in_err-laid.ensures)
+
+pub returns-in_err-glyphs-clause-stops : goal.returns-in_err-glyphs-clause-stops
+returns-in_err-glyphs-clause-stops c =
+    let z : SizedFace = record { face = c.sized.inside.source.face.now; ppem = c.sized.inside.source.ppem; fit = c.sized.inside.source.fit } in
+    let a = job_by z c.args.text.now c.args.margin in
+    let all = goal.at.returns-in_err-glyphs-clause-stops c in
+    let s = c.in_ok-fitter.fitter in
+    let lines = placements_of c.in_ok-lines.lines.items in
+    let fs = c.in_ok-label.label.fitted.items in
+    let are = lines_are all.In_ok-steps in
+    let is = outlined_then all.In_ok-lines are (fitted_then all.In_ok-label are) in
+    let shapes = label_made z.face a c.args.align s lines fs is in
+    let exact = rw (c.in_ok-joint.ensures.line, c.deref.ensures.value) at c.in_err-glyphs.ensures.exact in
+    let fails = rw (label_edges z.face a c.args.align s lines fs shapes.0 is) at
+    (exact false (line_fitter s (label_glyphs z.face.cmap c.args.text.now)) shapes.0 is.fitted shapes.1) in
+    let p = err_from_is_err_and c.from_residual-in_err-glyphs.result c.from_residual-in_err-glyphs.ensures.1 in
+    rw (p.1, p.2, ← c.sized.view_is) (edges_stop_label z.face a c.args.align s lines fs shapes.0 c.in_err-glyphs.field-0.0 is
+    (rw is.glyphs shapes.1) fails)
+
+pub returns-in_err-glyphs-clause-defects : goal.returns-in_err-glyphs-clause-defects
+returns-in_err-glyphs-clause-defects c =
+    let z : SizedFace = record { face = c.sized.inside.source.face.now; ppem = c.sized.inside.source.ppem; fit = c.sized.inside.source.fit } in
+    let a = job_by z c.args.text.now c.args.margin in
+    let all = goal.at.returns-in_err-glyphs-clause-defects c in
+    let s = c.in_ok-fitter.fitter in
+    let lines = placements_of c.in_ok-lines.lines.items in
+    let fs = c.in_ok-label.label.fitted.items in
+    let are = lines_are all.In_ok-steps in
+    let is = outlined_then all.In_ok-lines are (fitted_then all.In_ok-label are) in
+    let shapes = label_made z.face a c.args.align s lines fs is in
+    let exact = rw (c.in_ok-joint.ensures.line, c.deref.ensures.value) at c.in_err-glyphs.ensures.exact in
+    let fails = exact false (line_fitter s (label_glyphs z.face.cmap c.args.text.now)) shapes.0 is.fitted shapes.1 in
+    let p = err_from_is_err_and c.from_residual-in_err-glyphs.result c.from_residual-in_err-glyphs.ensures.1 in
+    rw (p.1, p.2) (line_tells_no_defect _ _ c.in_err-glyphs.field-0.0 fails)
+
+pub returns-clause-made : goal.returns-clause-made
+returns-clause-made c =
+    let z : SizedFace = record { face = c.sized.inside.source.face.now; ppem = c.sized.inside.source.ppem; fit = c.sized.inside.source.fit } in
+    let a = job_by z c.args.text.now c.args.margin in
+    let all = goal.at.returns-clause-made c in
+    let s = c.in_ok-fitter.fitter in
+    let lines = placements_of c.in_ok-lines.lines.items in
+    let fs = c.in_ok-label.label.fitted.items in
+    let maker = line_fitter s (label_glyphs z.face.cmap c.args.text.now) in
+    let are = lines_are all.In_ok-steps in
+    let f = fitted_then all.In_ok-label are in
+    let is = outlined_then all.In_ok-lines are f in
+    let shapes = label_made z.face a c.args.align s lines fs is in
+    let fitted : shapes_in s (joint lines) ≡ Ok shapes.0 = rw is.glyphs shapes.1 in
+    let few = label_points z.face a c.args.align s lines fs is in
+    let exact = rw (c.in_ok-joint.ensures.line, c.deref.ensures.value) at c.in_ok-glyphs.ensures.exact in
+    let seldom : edges_tested s a (joint lines) shapes.0 ≡ Ok tt = of-job (edges_tested s a (joint lines) shapes.0) tt
+    (rw (label_edges z.face a c.args.align s lines fs shapes.0 is) at (exact false maker shapes.0 is.fitted shapes.1)) in
+    let of = rw (c.in_ok-joint.ensures.line, c.deref.ensures.value, c.in_ok-joint.ensures.margin) at (c.in_ok-glyphs.ensures.line false maker is.fitted) in
+    let room : length c.in_ok-label.label.places.items ≡ glyphs_of z.face.metrics = f.room ∙ c.in_ok-fitter.ensures.setting.glyphs in
+    rw (← c.sized.view_is) (record {
+      placed = label_laid z.face a c.args.align s lines fs is;
+      laid = laid_then all.In_ok-lines (few_glyphs all.In_ok-label are) (same_glyphs all.In_ok-label are) (as_many_lines all.In_ok-label are);
+      made = record {
+        setting = s;
+        shapes = shapes.0;
+        opened = is.there;
+        few = few;
+        fitted = fitted;
+        seldom = seldom;
+        drawn = rw is.glyphs of.drawn;
+        numbers = of.numbers;
+        within = of.pens;
+        stand = rw shapes.1 at of.stand;
+      };
+      seated = rw room at c.in_ok-glyphs.ensures.valid;
+    })
+
+pub returns-clause-defects : goal.returns-clause-defects
+returns-clause-defects c =
+    let z : SizedFace = record { face = c.sized.inside.source.face.now; ppem = c.sized.inside.source.ppem; fit = c.sized.inside.source.fit } in
+    let a = job_by z c.args.text.now c.args.margin in
+    let all = goal.at.returns-clause-defects c in
+    let s = c.in_ok-fitter.fitter in
+    let lines = placements_of c.in_ok-lines.lines.items in
+    let fs = c.in_ok-label.label.fitted.items in
+    let are = lines_are all.In_ok-steps in
+    let is = outlined_then all.In_ok-lines are (fitted_then all.In_ok-label are) in
+    let shapes = label_made z.face a c.args.align s lines fs is in
+    rw (← c.sized.view_is, ← is.glyphs) (no_line_defect z.face a s (joint lines).glyphs shapes.0 is.there c.in_ok-fitter.ensures.defects
+    (rw is.glyphs shapes.1))
+
+pub tested_edges-requires-clause-bounded : goal.tested_edges-requires-clause-bounded
+tested_edges-requires-clause-bounded c = rw (← c.sized.view_is) at c.requires.bounded
+
+pub tested_edges-requires-clause-made : goal.tested_edges-requires-clause-made
+tested_edges-requires-clause-made c =
+    let all = goal.at.tested_edges-requires-clause-made c in
+    (false, line_fitter c.in_ok-fitter.fitter (label_glyphs c.sized.inside.source.face.now.cmap c.args.text.now), (fitted_then all.In_ok-label (lines_are all.In_ok-steps)).fitted)
+
+pub tested_edges-requires-clause-places : goal.tested_edges-requires-clause-places
+tested_edges-requires-clause-places c = c.in_ok-label.ensures.fitted.places
+
+pub tested_edges-requires-clause-numbers : goal.tested_edges-requires-clause-numbers
+tested_edges-requires-clause-numbers c =
+    let all = goal.at.tested_edges-requires-clause-numbers c in
+    let are = lines_are all.In_ok-steps in
+    let f = fitted_then all.In_ok-label are in
+    let is = outlined_then all.In_ok-lines are f in
+    rw (c.in_ok-joint.ensures.line, c.deref.ensures.value) (f.numbers ∙ ap distinct (sym is.glyphs))
+
+pub tested_edges-requires-clause-known : goal.tested_edges-requires-clause-known
+tested_edges-requires-clause-known c =
+    let all = goal.at.tested_edges-requires-clause-known c in
+    let are = lines_are all.In_ok-steps in
+    let laid = laid_then all.In_ok-lines (few_glyphs all.In_ok-label are) (same_glyphs all.In_ok-label are) (as_many_lines all.In_ok-label are) in
+    let room : length c.in_ok-label.label.places.items ≡ glyphs_of c.sized.inside.source.face.now.metrics =
+    (fitted_then all.In_ok-label are).room ∙ c.in_ok-fitter.ensures.setting.glyphs in
+    rw (room, c.in_ok-joint.ensures.line, c.deref.ensures.value) laid.known
+
+pub joint_line-requires : goal.joint_line-requires
+joint_line-requires c =
+    let all = goal.at.joint_line-requires c in
+    let are = lines_are all.In_ok-steps in
+    (c.sized.inside.source.face.now, rw c.deref.ensures.value (laid_then all.In_ok-lines (few_glyphs all.In_ok-label are) (same_glyphs all.In_ok-label are)
+    (as_many_lines all.In_ok-label are)))
+
+-- the fitter that is given back is the one before the label
+maker_then : (c : After-give_back) → items_of c.in_ok-steps.steps.items
+    ≡ stepped_lines (advance_in_pixels c.sized.inside.source.face.now.metrics c.sized.inside.source.ppem) c.sized.inside.source.face.now.cmap c.args.text.now
+    → IsMaker c.sized.inside.source.face.now c.sized.inside.source.ppem c.sized.inside.source.fit c.give_back.new.self
+maker_then c are =
+    let s = c.in_ok-fitter.fitter in
+    let gs = glyphs_in (items_of c.in_ok-steps.steps.items) in
+    given_back c.sized.inside.source.face.now c.sized.inside.source.ppem c.sized.inside.source.fit s c.fit_label.new.fitter
+    c.work-begun.result c.give_back.new.self c.in_ok-fitter.ensures.setting
+    (rw c.in_ok-label.ensures.after (line_alike s gs (distinct gs))) c.work-begun.ensures c.give_back.ensures
