@@ -27,6 +27,8 @@ PAIRS = {
     "grow, 10 lines": (("draw", "--grow", "--lines"), 10),
     "measure, 10 lines": (("measure", "--lines"), 10),
     "missing, measure": (("measure", "--missing", "tell", "--margin", "64"), 0),
+    "label": (("label",), 0),
+    "label of lines": (("label", "--align", "right"), 0),
 }
 # Jobs with a face, in place of these. Only the first two are given a way to fit.
 FACES = {
@@ -72,7 +74,9 @@ class Bench:
             source = self.lines.with_name("given")
             source.write_text("\n".join(given), encoding="utf-8")
         else:
-            words.append(self.text.read_text(encoding="utf-8"))
+            text = self.text.read_text(encoding="utf-8")
+            # Lines of one character, which are aligned: as many as a text may have.
+            words.append("\n".join(text)[:4096] if "--align" in command else text)
 
         def limit():
             resource.setrlimit(resource.RLIMIT_CPU, (math.ceil(most_seconds), math.ceil(most_seconds) + 1))
