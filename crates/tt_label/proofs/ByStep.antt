@@ -1,5 +1,5 @@
 -- A label that is laid out by the steps of its glyphs: where each part of the work stops.
-use Rattle.std.proofs.Common.{◌≡◌, ◌∙◌, refl, sym, ap, ℕ, true, false, List, length, map, Option, Result, Ok, Err}
+use Rattle.std.proofs.Common.{◌≡◌, ◌∙◌, refl, sym, ap, ℕ, Bool, true, false, List, length, map, Option, Result, Ok, Err}
 use Rattle.std.specs.Prelude.{IfSome}
 use Rattle.tt_core.specs.declared.draw_fault.DrawFault.{DrawFault}
 use Rattle.tt_core.specs.declared.draw_fault.DrawFault.TheVariants as draw
@@ -21,14 +21,14 @@ use Rattle.tt_line.specs.Labels.{label_placement}
 use Rattle.tt_line.specs.Layout.{Placement}
 use Rattle.tt_picture.specs.Distinct.{distinct}
 use Rattle.tt_picture.specs.Fitted.{AreFitted, FittedGlyph, fitted_chords, fitted_numbers}
-use Rattle.tt_picture.specs.Glyphs.{ArePlaces}
+use Rattle.tt_picture.specs.Glyphs.{AreOfLine, ArePlaces, Glyph}
 use Rattle.tt_picture.specs.Pixels.{Shape}
 use Rattle.tt_picture.specs.Shapes.{crossings_in, glyph_shape}
 use Rattle.tt_picture.specs.Steps.{glyph_step}
 use Rattle.tt_picture.proofs.Among.{all_among}
 use Rattle.tt_picture.proofs.Outlines.{shapes_of_line}
 use Rattle.tt_strike.specs.Job.{Job, tested}
-use Rattle.tt_strike.specs.Picture.{edges_tested, outlines_in, outlines_tested, points_tested, setting_in, shapes_in}
+use Rattle.tt_strike.specs.Picture.{edges_tested, frame_of, outlines_in, outlines_tested, points_tested, setting_in, shapes_in}
 use Rattle.tt_strike.specs.Refusals.{as_job, refusal}
 use Rattle.tt_strike.specs.Work.{edges_limited, is_bounded, line_fitter, points_in, work_left, work_tested}
 use Rattle.tt_strike.proofs.Stepped.{chords_made, outlines_pass}
@@ -103,16 +103,15 @@ outlines_stop_label face a how s e passes bounded there =
     stops e (outlines_tested s a.fit (label_glyphs face.cmap a.text)) (label_shapes face a how)
     (λ r fails. rw (label_by face a how passes bounded, there, fails) refl)
 
-pub size_stops_label : (face : Face) (a : Job) (how : Align) (s : Fitter) (os : List Outline) (e : DrawFault) → tested a ≡ Ok tt
+pub size_stops_label : {X : Type 0} (view : X → List Placement) (face : Face) (a : Job) (how : Align) (s : Fitter) (os : List Outline) (e : DrawFault) → tested a ≡ Ok tt
     → is_bounded a.fit ≡ true → setting_in face a ≡ Ok s
     → outlines_tested s a.fit (label_glyphs face.cmap a.text) ≡ Ok os
-    → {X : Type 0} {view : X → List Placement}
     → JobGives view (Err e) (label_placement face.metrics a.ppem a.margin how (stepped_lines (step_in face a s) face.cmap a.text))
     → IfSome (refusal e) (λ r. label_shapes face a how ≡ Err r)
-size_stops_label face a how s os (draw.Font f) passes bounded there made gives = absurd gives
-size_stops_label face a how s os (draw.Job j) passes bounded there made gives =
+size_stops_label view face a how s os (draw.Font f) passes bounded there made gives = absurd gives
+size_stops_label view face a how s os (draw.Job j) passes bounded there made gives =
     rw (label_by face a how passes bounded, there, made, gives) refl
-size_stops_label face a how s os draw.Memory passes bounded there made gives = tt
+size_stops_label view face a how s os draw.Memory passes bounded there made gives = tt
 
 pub label_laid : {left : Option ℕ} (face : Face) (a : Job) (how : Align) (s : Fitter) (lines : List Placement) (fs : List FittedGlyph)
     → IsOutlinedLabel face a how s lines fs left → label_placed face a how ≡ Ok lines
@@ -147,8 +146,13 @@ edges_stop_label face a how s lines fs shapes e is made =
     (λ r fails. rw (label_laid face a how s lines fs is, is.there, label_points face a how s lines fs is, made, fails) refl)
 
 -- laying out finds no defect of the font
-pub size_tells_no_defect : {X Y : Type 0} {view : X → Y} {wanted : Result Y JobFault} (P : Fault → Type 0) (e : DrawFault)
+pub size_tells_no_defect : {X Y : Type 0} (view : X → Y) (wanted : Result Y JobFault) (P : Fault → Type 0) (e : DrawFault)
     → JobGives view (Err e) wanted → IfSome (draw_font_fault e) P
-size_tells_no_defect P (draw.Font f) gives = absurd gives
-size_tells_no_defect P (draw.Job j) gives = tt
-size_tells_no_defect P draw.Memory gives = tt
+size_tells_no_defect view wanted P (draw.Font f) gives = absurd gives
+size_tells_no_defect view wanted P (draw.Job j) gives = tt
+size_tells_no_defect view wanted P draw.Memory gives = tt
+
+-- the glyphs of the joint line
+pub as_joint : {cached : Bool} {gs : List Glyph} (maker : ℕ → Fitter) (l m : Placement) (k margin : ℕ) → l ≡ m → k ≡ margin
+    → AreOfLine cached maker (frame_of l k) l.glyphs gs → AreOfLine cached maker (frame_of m margin) m.glyphs gs
+as_joint maker l m k margin same at of = rw (same, at) at of

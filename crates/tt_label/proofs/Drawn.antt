@@ -139,10 +139,10 @@ unfolding label_outcome
 refused_larger face a how lines ink gs j placed made inked fails =
     rw (placed, not_grown_as_made face a lines ink gs j made inked fails) refl
 
-pub growth_stops : {X : Type 0} {view : X → List Placement} (face : Face) (a : Job) (how : Align) (lines : List Placement) (ink : Option InkBox)
+pub growth_stops : {X : Type 0} (view : X → List Placement) (face : Face) (a : Job) (how : Align) (lines : List Placement) (ink : Option InkBox)
     (gs : List Glyph) (e : DrawFault) → label_placed face a how ≡ Ok lines → (made : AreMade false face a (joint lines) gs)
     → ink ≡ label_ink (line_ink made.setting (joint lines)) a.margin lines → JobGives view (Err e) (grown_lines lines ink)
     → IfSome (refusal e) (λ r. label_outcome face a how ≡ Err r)
-growth_stops face a how lines ink gs (draw.Font f) placed made inked fails = absurd fails
-growth_stops face a how lines ink gs (draw.Job j) placed made inked fails = refused_larger face a how lines ink gs j placed made inked fails
-growth_stops face a how lines ink gs draw.Memory placed made inked fails = tt
+growth_stops view face a how lines ink gs (draw.Font f) placed made inked fails = absurd fails
+growth_stops view face a how lines ink gs (draw.Job j) placed made inked fails = refused_larger face a how lines ink gs j placed made inked fails
+growth_stops view face a how lines ink gs draw.Memory placed made inked fails = tt

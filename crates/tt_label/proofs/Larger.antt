@@ -1,7 +1,7 @@
 -- The lines of a label, each enlarged by the same ink, are laid out as those before.
 use Rattle.std.proofs.Common.{◌≡◌, ◌∙◌, refl, sym, ap, ℕ, ◌+◌, ◌<◌, ◌≤◌, List, [], ◌∷◌, length, map, get_or, Option, None, Some, Result, Ok, Err, arith}
-use Rattle.std.proofs.lemmas.List.{get_or-map, length-map}
-use Rattle.std.proofs.lemmas.List.Elements.{All-cons, All-head, All-nil, All-tail}
+use Rattle.std.proofs.lemmas.List.{get_or-map, get_or_default, length-map}
+use Rattle.std.proofs.lemmas.List.Elements.{All-cons, All-head, All-nil, All-tail, All-weaker}
 use Rattle.std.specs.List.{flat_map}
 use Rattle.std.specs.Prelude.{All}
 use Rattle.tt_core.specs.Chains.{came-through}
@@ -13,7 +13,7 @@ use Rattle.tt_label.specs.Label.{grown_lines, joint}
 use Rattle.tt_label.specs.Made.{AreAlike, AreLaid}
 use Rattle.tt_label.specs.Views.{placements_of}
 use Rattle.tt_label.proofs.Drawn.{as_large, joint_glyphs, left_of, lines_moved, rightwards}
-use Rattle.tt_label.proofs.Joined.{flat_all, glyphs_joined}
+use Rattle.tt_label.proofs.Joined.{all_flat, flat_all, glyphs_joined, joint_is}
 use Rattle.tt_line.specs.Layout.{Placement}
 use Rattle.tt_line.specs.Outcome.{placement_of}
 use Rattle.tt_metrics.specs.Metrics.{glyphs_of}
@@ -21,19 +21,17 @@ use Rattle.tt_picture.specs.declared.ink_box.InkBox.{InkBox}
 use Rattle.tt_picture.proofs.Among.{of_same_glyphs}
 use Rattle.tt_strike.specs.declared.laid.Laid.{Laid}
 use Rattle.tt_strike.specs.Grown.{grown, lacking, with_sides}
+use Rattle.tt_strike.specs.Picture.{frame_of}
 use Rattle.tt_strike.proofs.Enlarged.{same_numbers}
 
 -- the size of a picture in which this ink is not cut
-larger_width : ℕ → ℕ → Option InkBox → ℕ
+abbrev larger_width : ℕ → ℕ → Option InkBox → ℕ
 larger_width w h None = w
 larger_width w h (Some b) = w + (lacking w h b).left + (lacking w h b).right
 
-larger_height : ℕ → ℕ → Option InkBox → ℕ
+abbrev larger_height : ℕ → ℕ → Option InkBox → ℕ
 larger_height w h None = h
 larger_height w h (Some b) = h + (lacking w h b).top + (lacking w h b).bottom
-
-IsLarge : ℕ → ℕ → Placement → Type 0
-IsLarge w h l = (l.width ≡ w) × (l.height ≡ h)
 
 one_large : (w h : ℕ) (ink : Option InkBox) (l m : Placement) → (l.width ≡ w) × (l.height ≡ h) → grown l ink ≡ Ok m
     → (m.width ≡ larger_width w h ink) × (m.height ≡ larger_height w h ink)
@@ -63,8 +61,10 @@ all_large w h ink (l ∷ ls) ms sizes is =
 of_one_size : (w h : ℕ) (ls : List Placement) → All (λ (l : Placement). (l.width ≡ w) × (l.height ≡ h)) ls → AreAlike ls
 of_one_size w h [] all = All-nil (λ (l : Placement). (l.width ≡ (joint []).width) × (l.height ≡ (joint []).height))
 of_one_size w h (l ∷ ls) all =
-    let first = All-head (λ (l : Placement). (l.width ≡ w) × (l.height ≡ h)) l ls all in
-    rw (first.0, first.1) all
+    let P : Placement → Type 0 = λ l. (l.width ≡ w) × (l.height ≡ h) in
+    let first = All-head P l ls all in
+    All-weaker P (λ (m : Placement). (m.width ≡ l.width) × (m.height ≡ l.height))
+    (λ m size. (size.0 ∙ sym first.0, size.1 ∙ sym first.1)) (l ∷ ls) all
 
 as_many : (ink : Option InkBox) (ls ms : List Placement) → each (λ l. grown l ink) ls ≡ Ok ms → length ms ≡ length ls
 as_many ink [] ms is = let none : [] ≡ ms = cc in rw (← none) refl
@@ -91,7 +91,7 @@ larger_laid face margin ink lines larger laid margins is =
     let ls = placements_of lines in
     let ms = placements_of larger in
     let view : Laid → Placement = λ l. placement_of l.line in
-    let count : length larger ≡ length lines = sym (length-map view larger) ∙ as_many ink ls ms is ∙ length-map view lines in
+    let count : length larger ≡ length lines = sym (length-map larger view) ∙ as_many ink ls ms is ∙ length-map lines view in
     let moved = lines_moved ink ls ms is in
     record {
       some = let some = laid.some in omega (arith, some, count);
@@ -113,7 +113,27 @@ pub alike_at : (ls : List Laid) (i : ℕ) (laid : Laid) → i < length ls → ge
     → (laid.line.width ≡ (joint (placements_of ls)).width) × (laid.line.height ≡ (joint (placements_of ls)).height)
 alike_at ls i laid below here alike =
     let view : Laid → Placement = λ l. placement_of l.line in
-    let long : i < length (map view ls) = rw (length-map view ls) below in
+    let long : i < length (map view ls) = rw (length-map ls view) below in
     let same : get_or (map view ls) i (placement_of laid.line) ≡ placement_of laid.line =
     get_or-map view ls i laid (placement_of laid.line) below ∙ ap view here in
     rw same at (alike i (placement_of laid.line) long)
+
+-- no pen is past the width of the picture
+pub pens_within : (ls : List Laid) (first : Laid) → 1 ≤ length ls → AreAlike (placements_of ls)
+    → All (λ (g : ℕ × ℕ). g.1 ≤ (get_or ls 0 first).line.width) (flat_map (λ (l : Laid). l.line.glyphs.items) ls)
+pens_within ls first some alike =
+    let w : (joint (placements_of ls)).width ≡ (get_or ls 0 first).line.width = ap (λ (p : Placement). p.width) (joint_is ls first some) in
+    all_flat (λ (g : ℕ × ℕ). g.1 ≤ (get_or ls 0 first).line.width) (λ (l : Laid). l.line.glyphs.items) ls (λ k d below.
+    let l = get_or ls k d in
+    let size = alike_at ls k l below (get_or_default ls k l d below) alike in
+    λ j e inside. omega (arith, l.line.pens j e inside, size.0, w))
+
+-- the frame of the first line is that of the picture
+pub first_frame : (ls : List Laid) (first : Laid) (margin : ℕ) → 1 ≤ length ls → first ≡ get_or ls 0 first
+    → All (λ (l : Laid). l.margin ≡ margin) ls
+    → frame_of (placement_of first.line) first.margin ≡ frame_of (joint (placements_of ls)) margin
+first_frame [] first margin some here all = absurd (omega (arith, some))
+first_frame (l ∷ ls) first margin some here all =
+    let same : first ≡ l = here in
+    let own : l.margin ≡ margin = All-head (λ (l : Laid). l.margin ≡ margin) l ls all in
+    rw (same, own) refl

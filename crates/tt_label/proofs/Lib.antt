@@ -1,4 +1,5 @@
 pub mod AmongDistinct
+pub mod ByAdvances
 pub mod ByStep
 pub mod Drawn
 pub mod Grown

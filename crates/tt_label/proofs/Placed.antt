@@ -29,9 +29,7 @@ use Rattle.tt_strike.specs.Job.{Job, tested}
 use Rattle.tt_strike.specs.Made.{shapes_made}
 use Rattle.tt_strike.specs.Refusals.{Refused, font, job, refusal}
 use Rattle.tt_strike.specs.declared.laid.Laid.{Laid}
-use Rattle.tt_strike.specs.Strikes.{SizedFace, job_by, job_with}
 use Rattle.tt_strike.specs.Work.{is_bounded}
-use Rattle.tt_strike.proofs.Textless.{shapes_textless}
 
 -- each line has the size of the picture
 all_alike : (e : LabelExtent) (how : Align) (inner step : ℕ) (rise : ℤ) (ls : List (List (ℕ × ℕ)))
@@ -121,7 +119,7 @@ shapes_tell face a how lines (draw.Job j) placed fails = shapes_stop face a how 
 shapes_tell face a how lines draw.Memory placed fails = tt
 
 -- a layout by advances that is refused
-pub refused_as_job : {X Y : Type 0} (view : X → Y) (other : X → List Placement) (wanted : Result Y JobFault) (placed : Result (List Placement) Refused)
+pub refused_as_job : {W X Y : Type 0} (view : W → Y) (other : X → List Placement) (wanted : Result Y JobFault) (placed : Result (List Placement) Refused)
     (d : DrawFault) → JobGives view (Err d) wanted → ((j : JobFault) → wanted ≡ Err j → placed ≡ Err (job j))
     → GivesUnless refusal other (Err d) placed
 refused_as_job view other wanted placed (draw.Font f) gives is = absurd gives
@@ -141,9 +139,9 @@ laid_by face ppem margin how steps lines within some few known margins is =
     let ms = placements_of lines in
     let placed = placed_lines face.metrics ppem margin how (map items steps) ms is in
     let joined : map first (joint ms).glyphs ≡ map first (flat_map items steps) = placed.numbers ∙ ap (map first) (lists_joined steps) in
-    let count : length lines ≡ length steps = sym (length-map (λ (l : Laid). placement_of l.line) lines) ∙ placed.count ∙ length-map items steps in
+    let count : length lines ≡ length steps = sym (length-map lines (λ (l : Laid). placement_of l.line)) ∙ placed.count ∙ length-map steps items in
     let long : length (joint ms).glyphs ≡ length (flat_map items steps) =
-    sym (length-map first (joint ms).glyphs) ∙ ap length joined ∙ length-map first (flat_map items steps) in
+    sym (length-map (joint ms).glyphs first) ∙ ap length joined ∙ length-map (flat_map items steps) first in
     record {
       some = omega (arith, some, count);
       within = within;
@@ -153,10 +151,7 @@ laid_by face ppem margin how steps lines within some few known margins is =
       known = of_same_glyphs (λ n. n < glyphs_of face.metrics) (flat_map items steps) (joint ms).glyphs joined known;
     }
 
--- the glyphs of a line whose job has no text any more
-pub textless_tell : (z : SizedFace) (text : List ℕ) (margin : ℕ) (how : Align) (lines : List Placement) (d : DrawFault)
-    → label_placed z.face (job_by z text margin) how ≡ Ok lines
-    → IfSome (refusal d) (λ r. shapes_made z.face (job_with z margin) (joint lines) ≡ Err r)
-    → IfSome (refusal d) (λ r. label_shapes z.face (job_by z text margin) how ≡ Err r)
-textless_tell z text margin how lines d placed fails =
-    shapes_tell z.face (job_by z text margin) how lines d placed (rw (shapes_textless z text margin (joint lines)) fails)
+-- a job that is refused by its tests
+pub untested_stops : (face : Face) (a : Job) (how : Align) (j : JobFault) → tested a ≡ Err j → label_shapes face a how ≡ Err (job j)
+unfolding label_placed
+untested_stops face a how j fails = rw fails refl

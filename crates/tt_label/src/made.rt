@@ -147,9 +147,10 @@ pub(crate) fn make_label(
     ensures defects { TellsDefects draw_font_fault (IsLineDefect sized.old.face (job_by sized.old text.now margin) (label_glyphs sized.old.face.cmap text.now)) result }
     ensures same { sized.new ≡ sized.old }
 {
+    let by_steps = is_bounded(sized.source.fit);
     test_margin(margin)?;
     test_text(text)?;
-    if is_bounded(sized.fit()) {
+    if by_steps {
         return make_by_steps(sized, text, margin, align);
     }
     make_by_advances(sized, text, margin, align)

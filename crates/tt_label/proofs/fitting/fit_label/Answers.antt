@@ -1,9 +1,10 @@
-use Rattle.std.proofs.Common.{◌≡◌, ◌∙◌, ap, ℕ, List, true, false, length, map, refl, sym, Ok, Vec, Global}
+use Rattle.std.proofs.Common.{◌≡◌, ◌∙◌, ap, ℕ, ◌<◌, List, [], true, false, length, map, refl, sym, Ok, Vec, Global}
 use Rattle.std.proofs.lemmas.Result.{err_from_is_err_and}
 use Rattle.tt_core.specs.Limits.{point_work_limit}
 use Rattle.tt_fit.specs.Fitting.{Fitter}
 use Rattle.tt_label.specs.Fitted.{glyphs_in}
-use Rattle.tt_label.proofs.Joined.{flat_all, lists_joined}
+use Rattle.tt_label.proofs.Joined.{all_flat, flat_all, lists_joined}
+use Rattle.tt_metrics.specs.Metrics.{glyphs_of}
 use Rattle.tt_picture.specs.Distinct.{distinct, is_among}
 use Rattle.tt_picture.specs.Fitted.{AreFitted, fitted_numbers}
 use Rattle.tt_picture.specs.Steps.{glyph_step}
@@ -105,7 +106,7 @@ returns-clause-fitted c =
     let charged = charged_is all.In_ok-charge_points numbers in
     let fitted = fitted_are all.In_ok-fitted numbers charged in
     record {
-      steps = c.in_ok-steps.ensures (step_of_text s gs) (steps_are (line_fitter s gs) c.in_ok-fitted.fitted.items fitted);
+      steps = rw c.deref-6.ensures.value at c.in_ok-steps.ensures (step_of_text s gs) (steps_are (line_fitter s gs) c.in_ok-fitted.fitted.items fitted);
       room = c.in_ok-met.ensures.room ∙ rw c.metrics.ensures at c.glyphs.ensures.exact ∙ sym c.requires.glyphs;
       places = rw (fitted_numbers_are all.In_ok-fitted numbers, ← numbers) c.in_ok-met.ensures.places;
       numbers = fitted_numbers_are all.In_ok-fitted numbers;
@@ -123,3 +124,10 @@ returns-clause-after c =
     let all = goal.at.returns-clause-after c in
     let numbers = numbers_are all.In_ok-met in
     rw (c.deref-4.ensures.value, numbers, charged_is all.In_ok-charge_points numbers) at c.in_ok-fitted.ensures.after
+
+pub distinct-requires-clause-known : goal.distinct-requires-clause-known
+distinct-requires-clause-known c =
+    let joined = rw c.deref.ensures.value at c.in_ok-all.ensures in
+    let count = rw c.metrics.ensures at c.glyphs.ensures.exact in
+    rw (c.deref-2.ensures.value, joined, count) (all_flat (λ (g : ℕ × ℕ). g.0 < glyphs_of c.args.source.now.face.now.metrics)
+    (λ (v : Vec (ℕ × ℕ) Global). v.items) c.args.steps.items c.requires.known)

@@ -22,7 +22,7 @@ loop-laid-preserved c =
     let larger = c.in_ok-larger.larger in
     let f : Placement → Result Placement JobFault = λ line. grown line c.args.ink in
     let steps : into_iter_items at.laid-iterator ≡ laid ∷ left = c.in-Some.ensures.steps.0 in
-    let pushed = c.in_ok-push.ensures.items in
+    let pushed = c.in-Ok.ensures.items in
     let is : f (placement_of laid.line) ≡ Ok (placement_of larger.line) = c.in_ok-larger.ensures.exact in
     record {
       count = let was = at.invariant.count in

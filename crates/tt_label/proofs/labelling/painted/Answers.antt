@@ -1,4 +1,4 @@
-use Rattle.std.proofs.Common.{◌≡◌, ◌∙◌, ℕ, ◌<◌, ◌≤◌, [], ◌∷◌, get_or, length, sym, ap, take, replicate, arith}
+use Rattle.std.proofs.Common.{◌≡◌, ◌∙◌, ℕ, ◌*◌, ◌<◌, ◌≤◌, [], ◌∷◌, get_or, length, sym, ap, take, replicate, arith}
 use Rattle.std.proofs.lemmas.List.{map_push, take_all, take_more, with_items_is}
 use Rattle.tt_core.specs.Bits.{stride}
 use Rattle.tt_label.specs.Label.{joint, some_line_shows}

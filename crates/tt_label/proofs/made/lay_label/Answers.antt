@@ -23,7 +23,7 @@ returns-in_err-laid-clause-exact c =
     let z : SizedFace = record { face = c.sized.inside.source.face.now; ppem = c.sized.inside.source.ppem; fit = c.sized.inside.source.fit } in
     let a = job_by z c.args.text.now c.args.margin in
     let steps = rw c.sized.invariant.1 at c.in_ok-steps.ensures.exact in
-    let gives = rw (c.metrics.ensures, steps) at c.in_err-laid.ensures in
+    let gives = rw (c.metrics-metrics.ensures, steps) at c.in_err-laid.ensures in
     let passes = rw (← c.sized.view_is) at c.requires.tested in
     let unbounded = rw (← c.sized.view_is) at c.requires.unbounded in
     let p = err_from_is_err_and c.from_residual-in_err-laid.result c.from_residual-in_err-laid.ensures.1 in
@@ -37,17 +37,17 @@ returns-clause-exact c =
     let z : SizedFace = record { face = c.sized.inside.source.face.now; ppem = c.sized.inside.source.ppem; fit = c.sized.inside.source.fit } in
     let a = job_by z c.args.text.now c.args.margin in
     let steps = rw c.sized.invariant.1 at c.in_ok-steps.ensures.exact in
-    let laid = rw (c.metrics.ensures, steps) at c.in_ok-laid.ensures in
+    let laid = rw (c.metrics-metrics.ensures, steps) at c.in_ok-laid.ensures in
     let passes = rw (← c.sized.view_is) at c.requires.tested in
     let unbounded = rw (← c.sized.view_is) at c.requires.unbounded in
-    rw (← c.sized.view_is, c.in_ok-lines.ensures.lines) (placed_by_advances z.face a c.args.align passes unbounded ∙ rw laid refl)
+    rw (← c.sized.view_is, c.in_ok-with_margin.ensures.lines) (placed_by_advances z.face a c.args.align passes unbounded ∙ rw laid refl)
 
 pub returns-clause-laid : goal.returns-clause-laid
 returns-clause-laid c =
     let z : SizedFace = record { face = c.sized.inside.source.face.now; ppem = c.sized.inside.source.ppem; fit = c.sized.inside.source.fit } in
     let known = rw c.sized.invariant.1 at c.in_ok-steps.ensures.known in
-    let laid = rw (c.metrics.ensures, ← c.in_ok-lines.ensures.lines) at c.in_ok-laid.ensures in
-    rw (← c.sized.view_is) (laid_by z.face z.ppem c.args.margin c.args.align c.in_ok-steps.steps.items c.in_ok-lines.lines.items c.requires.margin
+    let laid = rw (c.metrics-metrics.ensures, ← c.in_ok-with_margin.ensures.lines) at c.in_ok-laid.ensures in
+    rw (← c.sized.view_is) (laid_by z.face z.ppem c.args.margin c.args.align c.in_ok-steps.steps.items c.in_ok-with_margin.field-0.items c.requires.margin
     c.in_ok-steps.ensures.some c.in_ok-steps.ensures.few
     (all_flat (λ (g : ℕ × ℕ). g.0 < glyphs_of z.face.metrics) (λ (v : Vec (ℕ × ℕ) Global). v.items) c.in_ok-steps.steps.items known)
-    c.in_ok-lines.ensures.margin laid)
+    c.in_ok-with_margin.ensures.margin laid)

@@ -1,35 +1,69 @@
-use Rattle.std.proofs.Common.{◌∙◌, Vec, Global}
+use Rattle.std.proofs.Common.{◌≡◌, ◌∙◌, ℕ, List, Vec, Global, ap, map, refl}
 use Rattle.std.proofs.lemmas.Result.{err_from_is_err_and}
-use Rattle.tt_label.specs.Label.{joint}
+use Rattle.tt_label.specs.Label.{joint, label_glyphs}
 use Rattle.tt_label.specs.Views.{placements_of}
-use Rattle.tt_label.proofs.Placed.{lines_tell, textless_tell}
+use Rattle.tt_label.proofs.ByAdvances.{glyphs_by_advances, layout_tells_no_defect, made_as_joint, textless_tell}
+use Rattle.tt_label.proofs.Placed.{lines_tell}
+use Rattle.tt_line.specs.Layout.{Placement}
+use Rattle.tt_line.specs.Outcome.{placement_of}
 use Rattle.tt_strike.specs.declared.laid.Laid.{Laid}
 use Rattle.tt_strike.specs.Strikes.{job_by}
-use Rattle.tt_strike.proofs.Textless.{made_textless}
+use Rattle.tt_label.proofs.made.make_by_advances.Goals.{In_ok-joint}
 use Rattle.tt_label.proofs.made.make_by_advances.Goals as goal
+
+-- the joint line is that of the lines
+joint_then : (c : In_ok-joint) → placement_of c.in_ok-joint.joint.line ≡ joint (placements_of c.in_ok-lines.lines.items)
+joint_then c = c.in_ok-joint.ensures.line ∙ ap (λ (ls : List Laid). joint (placements_of ls)) c.deref.ensures.value
 
 pub returns-in_err-lines-clause-stops : goal.returns-in_err-lines-clause-stops
 returns-in_err-lines-clause-stops c =
     let p = err_from_is_err_and c.from_residual.result c.from_residual.ensures.1 in
-    rw (p.1, p.2) (lines_tell (λ (v : Vec Laid Global). placements_of v.items) c.args.sized.now.face (job_by c.args.sized.now c.args.text.now c.args.margin) c.args.align
-    c.in_err-lines.field-0.0 c.in_err-lines.ensures.exact)
+    rw (p.1, p.2) (lines_tell (λ (v : Vec Laid Global). placements_of v.items) c.args.sized.now.face
+    (job_by c.args.sized.now c.args.text.now c.args.margin) c.args.align c.in_err-lines.field-0.0 c.in_err-lines.ensures.exact)
+
+pub returns-in_err-lines-clause-defects : goal.returns-in_err-lines-clause-defects
+returns-in_err-lines-clause-defects c =
+    let p = err_from_is_err_and c.from_residual.result c.from_residual.ensures.1 in
+    rw (p.1, p.2) (layout_tells_no_defect (λ (v : Vec Laid Global). placements_of v.items) _ c.args.sized.now.face
+    (job_by c.args.sized.now c.args.text.now c.args.margin) c.args.align c.in_err-lines.field-0.0 c.requires.tested c.requires.unbounded
+    c.in_err-lines.ensures.exact)
 
 pub returns-in_err-glyphs-clause-stops : goal.returns-in_err-glyphs-clause-stops
 returns-in_err-glyphs-clause-stops c =
-    let z = c.args.sized.now in
-    let lines = placements_of c.in_ok-lines.lines.items in
+    let all = goal.at.returns-in_err-glyphs-clause-stops c in
     let p = err_from_is_err_and c.from_residual-in_err-glyphs.result c.from_residual-in_err-glyphs.ensures.1 in
-    let fails = rw (c.lay_label.ensures.same, c.in_ok-joint.ensures.line, c.deref.ensures.value, c.in_ok-joint.ensures.margin) at c.in_err-glyphs.ensures.stops in
-    rw (p.1, p.2) (textless_tell z c.args.text.now c.args.margin c.args.align lines c.in_err-glyphs.field-0.0 c.in_ok-lines.ensures.exact fails)
+    rw (p.1, p.2) (textless_tell c.args.sized.now c.lay_label.new.sized c.args.text.now c.args.margin c.in_ok-joint.joint.margin c.args.align
+    (placements_of c.in_ok-lines.lines.items) (placement_of c.in_ok-joint.joint.line) c.in_err-glyphs.field-0.0 c.lay_label.ensures.same
+    (joint_then all.In_ok-joint) c.in_ok-lines.ensures.exact c.in_err-glyphs.ensures.stops)
+
+-- the numbers of its glyphs are those of the text
+numbers_then : (c : In_ok-joint) → map (λ (g : ℕ × ℕ). g.0) c.in_ok-joint.joint.line.glyphs.items ≡ label_glyphs c.args.sized.now.face.cmap c.args.text.now
+numbers_then c =
+    let joined = joint_then c in
+    ap (λ (l : Placement). map (λ (g : ℕ × ℕ). g.0) l.glyphs) joined
+    ∙ glyphs_by_advances c.args.sized.now.face (job_by c.args.sized.now c.args.text.now c.args.margin) c.args.align
+    (placements_of c.in_ok-lines.lines.items) c.requires.tested c.requires.unbounded c.in_ok-lines.ensures.exact
+
+pub returns-in_err-glyphs-clause-defects : goal.returns-in_err-glyphs-clause-defects
+returns-in_err-glyphs-clause-defects c =
+    let all = goal.at.returns-in_err-glyphs-clause-defects c in
+    let p = err_from_is_err_and c.from_residual-in_err-glyphs.result c.from_residual-in_err-glyphs.ensures.1 in
+    rw (p.1, p.2, ← numbers_then all.In_ok-joint) (rw c.lay_label.ensures.same at c.in_err-glyphs.ensures.defects)
 
 pub returns-clause-made : goal.returns-clause-made
 returns-clause-made c =
-    let z = c.args.sized.now in
-    let lines = placements_of c.in_ok-lines.lines.items in
-    let made = rw (c.lay_label.ensures.same, c.in_ok-joint.ensures.line, c.deref.ensures.value, c.in_ok-joint.ensures.margin, c.absent-none.ensures) at c.in_ok-glyphs.ensures.made in
+    let all = goal.at.returns-clause-made c in
+    let made = rw c.absent-none.ensures at c.in_ok-glyphs.ensures.made in
     record {
       placed = c.in_ok-lines.ensures.exact;
       laid = c.in_ok-lines.ensures.laid;
-      made = made_textless z c.args.text.now c.args.margin (joint lines) made;
+      made = made_as_joint c.args.sized.now c.lay_label.new.sized c.args.text.now c.args.margin c.in_ok-joint.joint.margin
+          (placements_of c.in_ok-lines.lines.items) (placement_of c.in_ok-joint.joint.line) c.lay_label.ensures.same
+          c.in_ok-joint.ensures.margin (joint_then all.In_ok-joint) made;
       seated = rw c.lay_label.ensures.same at c.in_ok-glyphs.ensures.valid;
     }
+
+pub returns-clause-defects : goal.returns-clause-defects
+returns-clause-defects c =
+    let all = goal.at.returns-clause-defects c in
+    rw (← numbers_then all.In_ok-joint) (rw c.lay_label.ensures.same at c.in_ok-glyphs.ensures.defects)

@@ -10,13 +10,16 @@ use Rattle.tt_label.specs.Fitted.{glyphs_in}
 use Rattle.tt_label.specs.Label.{joint, joint_numbers, label_glyphs, stepped_lines}
 use Rattle.tt_label.specs.Made.{AreLaid}
 use Rattle.tt_label.specs.Views.{placements_of}
-use Rattle.tt_label.proofs.ByStep.{IsFittedText, IsOutlinedLabel, edges_stop_label, fitted_text, label_edges, label_laid, label_made, label_points, outlines_stop_label, setting_stops_label, size_stops_label, size_tells_no_defect, text_glyphs_are}
+use Rattle.tt_label.proofs.ByStep.{IsFittedText, IsOutlinedLabel, as_joint, edges_stop_label, fitted_text, label_edges, label_laid, label_made, label_points, outlines_stop_label, setting_stops_label, size_stops_label, size_tells_no_defect, text_glyphs_are}
 use Rattle.tt_label.proofs.Joined.{all_flat, each_short, lists_joined}
 use Rattle.tt_label.proofs.Placed.{laid_by, placed_lines}
-use Rattle.tt_line.specs.Layout.{advance_in_pixels}
+use Rattle.tt_line.specs.declared.line.Line.{Line}
+use Rattle.tt_line.specs.Layout.{Placement, advance_in_pixels}
+use Rattle.tt_line.specs.Outcome.{placement_of}
 use Rattle.tt_metrics.specs.Metrics.{glyphs_of}
 use Rattle.tt_picture.specs.Distinct.{distinct}
 use Rattle.tt_picture.proofs.Among.{of_same_glyphs}
+use Rattle.tt_strike.specs.declared.laid.Laid.{Laid}
 use Rattle.tt_strike.specs.Defects.{IsLineDefect}
 use Rattle.tt_strike.specs.Job.{Job}
 use Rattle.tt_strike.specs.Makers.{IsMaker}
@@ -28,7 +31,7 @@ use Rattle.tt_strike.proofs.Setting.{given_back, line_alike}
 use Rattle.tt_strike.proofs.Stepped.{line_tells_no_defect, outlines_pass, outlines_tell_defect}
 use Rattle.tt_strike.proofs.Stopped.{font_tells}
 use Rattle.tt_strike.proofs.Telling.{no_line_defect, setting_tells}
-use Rattle.tt_label.proofs.made.make_by_steps.Goals.{After-give_back, In_ok-label, In_ok-lines, In_ok-steps}
+use Rattle.tt_label.proofs.made.make_by_steps.Goals.{After-give_back, In_ok-joint, In_ok-label, In_ok-lines, In_ok-steps}
 use Rattle.tt_label.proofs.made.make_by_steps.Goals as goal
 
 -- the job of a text at this place
@@ -70,7 +73,7 @@ few_glyphs : (c : In_ok-label) → items_of c.in_ok-steps.steps.items
 few_glyphs c are =
     let first : ℕ × ℕ → ℕ = λ g. g.0 in
     let same : length (all_of c.in_ok-label.label.steps.items) ≡ length (all_of c.in_ok-steps.steps.items) =
-    sym (length-map first (all_of c.in_ok-label.label.steps.items)) ∙ ap length (same_glyphs c are) ∙ length-map first (all_of c.in_ok-steps.steps.items) in
+    sym (length-map (all_of c.in_ok-label.label.steps.items) first) ∙ ap length (same_glyphs c are) ∙ length-map (all_of c.in_ok-steps.steps.items) first in
     rw same c.in_ok-steps.ensures.few
 
 as_many_lines : (c : In_ok-label) → items_of c.in_ok-steps.steps.items
@@ -78,8 +81,8 @@ as_many_lines : (c : In_ok-label) → items_of c.in_ok-steps.steps.items
     → length c.in_ok-label.label.steps.items ≡ length c.in_ok-steps.steps.items
 as_many_lines c are =
     let items : Vec (ℕ × ℕ) Global → List (ℕ × ℕ) = λ v. v.items in
-    sym (length-map items c.in_ok-label.label.steps.items) ∙ ap length (c.in_ok-label.ensures.fitted.steps)
-    ∙ length-map _ (items_of c.in_ok-steps.steps.items) ∙ length-map items c.in_ok-steps.steps.items
+    sym (length-map c.in_ok-label.label.steps.items items) ∙ ap length (c.in_ok-label.ensures.fitted.steps)
+    ∙ length-map (items_of c.in_ok-steps.steps.items) _ ∙ length-map c.in_ok-steps.steps.items items
 
 -- the lines are laid out
 laid_then : (c : In_ok-lines) → length (all_of c.in_ok-label.label.steps.items) ≤ text_limit
@@ -88,12 +91,19 @@ laid_then : (c : In_ok-lines) → length (all_of c.in_ok-label.label.steps.items
     → AreLaid c.sized.inside.source.face.now c.args.margin c.in_ok-lines.lines.items
 laid_then c few same count =
     let known = rw c.sized.invariant.1 at c.in_ok-steps.ensures.known in
-    let laid = rw (c.metrics.ensures, ← c.in_ok-lines.ensures.lines) at c.in_ok-laid.ensures in
+    let laid = rw (c.metrics-metrics.ensures, ← c.in_ok-lines.ensures.lines) at c.in_ok-laid.ensures in
     laid_by c.sized.inside.source.face.now c.sized.inside.source.ppem c.args.margin c.args.align c.in_ok-label.label.steps.items c.in_ok-lines.lines.items
     c.requires.margin (rw count c.in_ok-steps.ensures.some) few
     (of_same_glyphs (λ n. n < glyphs_of c.sized.inside.source.face.now.metrics) (all_of c.in_ok-steps.steps.items) (all_of c.in_ok-label.label.steps.items) same
     (all_flat (λ (g : ℕ × ℕ). g.0 < glyphs_of c.sized.inside.source.face.now.metrics) (λ (v : Vec (ℕ × ℕ) Global). v.items) c.in_ok-steps.steps.items known))
     c.in_ok-lines.ensures.margin laid
+
+-- the joint line, and its glyphs
+line_then : (c : In_ok-joint) → placement_of c.in_ok-joint.joint.line ≡ joint (placements_of c.in_ok-lines.lines.items)
+line_then c = c.in_ok-joint.ensures.line ∙ ap (λ (ls : List Laid). joint (placements_of ls)) c.deref.ensures.value
+
+joint_then : (c : In_ok-joint) → c.in_ok-joint.joint.line.glyphs.items ≡ (joint (placements_of c.in_ok-lines.lines.items)).glyphs
+joint_then c = let joined = line_then c in ap (λ (l : Placement). l.glyphs) joined
 
 -- the label by the outlines of its glyphs
 outlined_then : (c : In_ok-lines) → items_of c.in_ok-steps.steps.items
@@ -102,7 +112,7 @@ outlined_then : (c : In_ok-lines) → items_of c.in_ok-steps.steps.items
     → IsOutlinedLabel c.sized.inside.source.face.now (job_here c.sized.inside.source.face.now c.sized.inside.source.ppem c.sized.inside.source.fit c.args.text.now c.args.margin) c.args.align c.in_ok-fitter.fitter (placements_of c.in_ok-lines.lines.items) c.in_ok-label.label.fitted.items c.work-left.result
 outlined_then c are f =
     let gs = text_glyphs_are c.sized.inside.source.face.now (job_here c.sized.inside.source.face.now c.sized.inside.source.ppem c.sized.inside.source.fit c.args.text.now c.args.margin) (advance_in_pixels c.sized.inside.source.face.now.metrics c.sized.inside.source.ppem) (items_of c.in_ok-steps.steps.items) are in
-    let laid = rw (c.metrics.ensures, ← c.in_ok-lines.ensures.lines) at c.in_ok-laid.ensures in
+    let laid = rw (c.metrics-metrics.ensures, ← c.in_ok-lines.ensures.lines) at c.in_ok-laid.ensures in
     record {
       passes = rw (← c.sized.view_is) at c.requires.tested;
       bounded = rw (← c.sized.view_is) at c.requires.bounded;
@@ -190,16 +200,16 @@ returns-in_err-laid-clause-stops c =
     let are = lines_are all.In_ok-steps in
     let gs = text_glyphs_are z.face a (advance_in_pixels z.face.metrics z.ppem) (items_of c.in_ok-steps.steps.items) are in
     let f = fitted_then all.In_ok-label are in
-    let fails = rw (c.metrics.ensures, f.steps) at c.in_err-laid.ensures in
+    let fails = rw (c.metrics-metrics.ensures, f.steps) at c.in_err-laid.ensures in
     let points = rw gs at c.in_ok-label.ensures.points in
     let p = err_from_is_err_and c.from_residual-in_err-laid.result c.from_residual-in_err-laid.ensures.1 in
-    rw (p.1, p.2, ← c.sized.view_is) (size_stops_label z.face a c.args.align s f.made.0 c.in_err-laid.field-0.0 passes bounded
+    rw (p.1, p.2, ← c.sized.view_is) (size_stops_label (λ (v : Vec Line Global). map placement_of v.items) z.face a c.args.align s f.made.0 c.in_err-laid.field-0.0 passes bounded
     c.in_ok-fitter.ensures.exact (outlines_pass s a (label_glyphs z.face.cmap a.text) f.made.0 points f.made.1) fails)
 
 pub returns-in_err-laid-clause-defects : goal.returns-in_err-laid-clause-defects
 returns-in_err-laid-clause-defects c =
     let p = err_from_is_err_and c.from_residual-in_err-laid.result c.from_residual-in_err-laid.ensures.1 in
-    rw (p.1, p.2) (size_tells_no_defect _ c.in_err-laid.field-0.0 c.in_err-laid.ensures)
+    rw (p.1, p.2) (size_tells_no_defect (λ (v : Vec Line Global). map placement_of v.items) _ _ c.in_err-laid.field-0.0 c.in_err-laid.ensures)
 
 pub returns-in_err-glyphs-clause-stops : goal.returns-in_err-glyphs-clause-stops
 returns-in_err-glyphs-clause-stops c =
@@ -212,7 +222,7 @@ returns-in_err-glyphs-clause-stops c =
     let are = lines_are all.In_ok-steps in
     let is = outlined_then all.In_ok-lines are (fitted_then all.In_ok-label are) in
     let shapes = label_made z.face a c.args.align s lines fs is in
-    let exact = rw (c.in_ok-joint.ensures.line, c.deref.ensures.value) at c.in_err-glyphs.ensures.exact in
+    let exact = rw (joint_then all.In_ok-joint) at c.in_err-glyphs.ensures.exact in
     let fails = rw (label_edges z.face a c.args.align s lines fs shapes.0 is) at
     (exact false (line_fitter s (label_glyphs z.face.cmap c.args.text.now)) shapes.0 is.fitted shapes.1) in
     let p = err_from_is_err_and c.from_residual-in_err-glyphs.result c.from_residual-in_err-glyphs.ensures.1 in
@@ -230,7 +240,7 @@ returns-in_err-glyphs-clause-defects c =
     let are = lines_are all.In_ok-steps in
     let is = outlined_then all.In_ok-lines are (fitted_then all.In_ok-label are) in
     let shapes = label_made z.face a c.args.align s lines fs is in
-    let exact = rw (c.in_ok-joint.ensures.line, c.deref.ensures.value) at c.in_err-glyphs.ensures.exact in
+    let exact = rw (joint_then all.In_ok-joint) at c.in_err-glyphs.ensures.exact in
     let fails = exact false (line_fitter s (label_glyphs z.face.cmap c.args.text.now)) shapes.0 is.fitted shapes.1 in
     let p = err_from_is_err_and c.from_residual-in_err-glyphs.result c.from_residual-in_err-glyphs.ensures.1 in
     rw (p.1, p.2) (line_tells_no_defect _ _ c.in_err-glyphs.field-0.0 fails)
@@ -250,10 +260,11 @@ returns-clause-made c =
     let shapes = label_made z.face a c.args.align s lines fs is in
     let fitted : shapes_in s (joint lines) ≡ Ok shapes.0 = rw is.glyphs shapes.1 in
     let few = label_points z.face a c.args.align s lines fs is in
-    let exact = rw (c.in_ok-joint.ensures.line, c.deref.ensures.value) at c.in_ok-glyphs.ensures.exact in
+    let exact = rw (joint_then all.In_ok-joint) at c.in_ok-glyphs.ensures.exact in
     let seldom : edges_tested s a (joint lines) shapes.0 ≡ Ok tt = of-job (edges_tested s a (joint lines) shapes.0) tt
     (rw (label_edges z.face a c.args.align s lines fs shapes.0 is) at (exact false maker shapes.0 is.fitted shapes.1)) in
-    let of = rw (c.in_ok-joint.ensures.line, c.deref.ensures.value, c.in_ok-joint.ensures.margin) at (c.in_ok-glyphs.ensures.line false maker is.fitted) in
+    let of = as_joint maker (placement_of c.in_ok-joint.joint.line) (joint lines) c.in_ok-joint.joint.margin c.args.margin
+    (line_then all.In_ok-joint) c.in_ok-joint.ensures.margin (c.in_ok-glyphs.ensures.line false maker is.fitted) in
     let room : length c.in_ok-label.label.places.items ≡ glyphs_of z.face.metrics = f.room ∙ c.in_ok-fitter.ensures.setting.glyphs in
     rw (← c.sized.view_is) (record {
       placed = label_laid z.face a c.args.align s lines fs is;
@@ -304,7 +315,7 @@ tested_edges-requires-clause-numbers c =
     let are = lines_are all.In_ok-steps in
     let f = fitted_then all.In_ok-label are in
     let is = outlined_then all.In_ok-lines are f in
-    rw (c.in_ok-joint.ensures.line, c.deref.ensures.value) (f.numbers ∙ ap distinct (sym is.glyphs))
+    rw (joint_then all.In_ok-joint) (f.numbers ∙ ap distinct (sym is.glyphs))
 
 pub tested_edges-requires-clause-known : goal.tested_edges-requires-clause-known
 tested_edges-requires-clause-known c =
@@ -313,14 +324,16 @@ tested_edges-requires-clause-known c =
     let laid = laid_then all.In_ok-lines (few_glyphs all.In_ok-label are) (same_glyphs all.In_ok-label are) (as_many_lines all.In_ok-label are) in
     let room : length c.in_ok-label.label.places.items ≡ glyphs_of c.sized.inside.source.face.now.metrics =
     (fitted_then all.In_ok-label are).room ∙ c.in_ok-fitter.ensures.setting.glyphs in
-    rw (room, c.in_ok-joint.ensures.line, c.deref.ensures.value) laid.known
+    rw (room, joint_then all.In_ok-joint) laid.known
 
 pub joint_line-requires : goal.joint_line-requires
 joint_line-requires c =
     let all = goal.at.joint_line-requires c in
-    let are = lines_are all.In_ok-steps in
-    (c.sized.inside.source.face.now, rw c.deref.ensures.value (laid_then all.In_ok-lines (few_glyphs all.In_ok-label are) (same_glyphs all.In_ok-label are)
-    (as_many_lines all.In_ok-label are)))
+    let are = lines_are all.In_ok-steps in (
+      c.sized.inside.source.face.now,
+      rw c.deref.ensures.value (laid_then all.In_ok-lines (few_glyphs all.In_ok-label are) (same_glyphs all.In_ok-label are)
+          (as_many_lines all.In_ok-label are)),
+    )
 
 -- the fitter that is given back is the one before the label
 maker_then : (c : After-give_back) → items_of c.in_ok-steps.steps.items
@@ -332,3 +345,28 @@ maker_then c are =
     given_back c.sized.inside.source.face.now c.sized.inside.source.ppem c.sized.inside.source.fit s c.fit_label.new.fitter
     c.work-begun.result c.give_back.new.self c.in_ok-fitter.ensures.setting
     (rw c.in_ok-label.ensures.after (line_alike s gs (distinct gs))) c.work-begun.ensures c.give_back.ensures
+
+pub invariant_of-sized-in_err-laid : goal.invariant_of-sized-in_err-laid
+invariant_of-sized-in_err-laid c =
+    let all = goal.at.invariant_of-sized-in_err-laid c in
+    (maker_then all.After-give_back (lines_are all.In_ok-steps), c.label_steps.ensures.same ∙ c.sized.invariant.1)
+
+pub invariant_of-sized-in_err-lines : goal.invariant_of-sized-in_err-lines
+invariant_of-sized-in_err-lines c =
+    let all = goal.at.invariant_of-sized-in_err-lines c in
+    (maker_then all.After-give_back (lines_are all.In_ok-steps), c.label_steps.ensures.same ∙ c.sized.invariant.1)
+
+pub invariant_of-sized-in_err-joint : goal.invariant_of-sized-in_err-joint
+invariant_of-sized-in_err-joint c =
+    let all = goal.at.invariant_of-sized-in_err-joint c in
+    (maker_then all.After-give_back (lines_are all.In_ok-steps), c.label_steps.ensures.same ∙ c.sized.invariant.1)
+
+pub invariant_of-sized-in_err-glyphs : goal.invariant_of-sized-in_err-glyphs
+invariant_of-sized-in_err-glyphs c =
+    let all = goal.at.invariant_of-sized-in_err-glyphs c in
+    (maker_then all.After-give_back (lines_are all.In_ok-steps), c.label_steps.ensures.same ∙ c.sized.invariant.1)
+
+pub invariant_of-sized-2 : goal.invariant_of-sized-2
+invariant_of-sized-2 c =
+    let all = goal.at.invariant_of-sized-2 c in
+    (maker_then all.After-give_back (lines_are all.In_ok-steps), c.label_steps.ensures.same ∙ c.sized.invariant.1)

@@ -14,11 +14,13 @@ loop-number-preserved c =
     let below : i < length numbers = c.loop-number-test.true in
     let place = c.place_of-at.result in
     let gs = c.args.glyphs.now.made.items in
-    let g = get_or gs place c.index.result.now in
+    let g = c.index.result.now in
     let h = c.in_ok-copy.copy in
     let made = at.made.items in
     let inside : place < length gs = c.place_of-at.ensures.within in
-    let mine : g.number ≡ get_or numbers i 0 = sym (get_or-map (λ (g : Glyph). g.number) gs place c.index.result.now 0 inside) ∙ c.place_of-at.ensures.number in
+    let here : g ≡ get_or gs place g = c.index.ensures in
+    let mine : g.number ≡ get_or numbers i 0 =
+    ap (λ (g : Glyph). g.number) here ∙ sym (get_or-map (λ (g : Glyph). g.number) gs place g 0 inside) ∙ c.place_of-at.ensures.number in
     let one = c.in_ok-copy.ensures in
     let pushed = c.in_ok-push.ensures.items in
     record {
@@ -27,7 +29,7 @@ loop-number-preserved c =
       bare = rw pushed (All-push IsBare made h so_far.bare (rw one.left (omega arith), one.pens));
       drawn = λ maker f all.
           let from : maker h.number ≡ maker g.number = ap maker one.number in
-          let own : IsDrawn false (maker g.number) f g = all place c.index.result.now inside in
+          let own : IsDrawn false (maker g.number) f g = rw (← here) at (all place g inside) in
           let here : IsDrawn false (maker h.number) c.args.frame h = rw from (one.drawn (maker g.number) f own) in
           rw pushed (All-push (λ (g : Glyph). IsDrawn false (maker g.number) c.args.frame g) made h (so_far.drawn maker f all) here);
     }
