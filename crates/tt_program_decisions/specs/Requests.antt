@@ -23,7 +23,7 @@ use Rattle.tt_render.specs.Readings.{fit_reading, reading_asked}
 use Rattle.tt_render.specs.Settings.{job_by}
 use Rattle.tt_render.specs.TextsOutcome.{FontLinesGive, FontTextGives, TextTellsDefectsOf, reader_in}
 use Rattle.tt_program_decisions.specs.declared.request.Request.{Request}
-use Rattle.tt_program_decisions.specs.declared.request.LabelOptions.{LabelOptions}
+use Rattle.tt_program_decisions.specs.declared.labelling.LabelOptions.{LabelOptions}
 use Rattle.tt_program_decisions.specs.declared.request.Request.TheVariants.{Map, Faces, Text, Lines, Label, Labels}
 use Rattle.tt_program_decisions.specs.FaceLines.{IsFacesDefect, faces_wanted}
 use Rattle.tt_render.specs.Printing.{Errors}

@@ -45,7 +45,7 @@ opening_hint kind.PermissionDenied text = Some fixed.NotAllowed
 opening_hint kind.NotADirectory text = Some fixed.FileOnPath
 opening_hint kind.FilesystemLoop text = Some fixed.Links
 opening_hint kind.InvalidFilename text = Some fixed.LongName
-opening_hint other text = None
+opening_hint why text = None
 
 -- only `label` has hints
 abbrev pub hint_of_open : Request → ErrorKind → Option FixedHint

@@ -1,10 +1,97 @@
-//! How the options of `label` say that a label is drawn.
+//! The request `label`: its options, and how they say that a label is drawn.
 
-ghost use Rattle.tt_program_decisions.specs.Requests.{IsLabelFor};
+ghost use Rattle.std.specs.Prelude.{◌≡◌, option_map};
+ghost use Rattle.tt_program_decisions.specs.Requests.{AsksLabel, AsksLabelOptions, IsLabelFor, align_named, asked_of};
 
-use crate::request::{GLYPHS_KEPT, LabelOptions};
+use crate::request::{Arguments, GLYPHS_KEPT, Request, fit_named, missing_named};
 use tt_core::Reading;
-use tt_render::{Label, Product, Setting, reading_asked};
+use tt_fit::Fit;
+use tt_render::{Align, Label, Missing, Product, Setting, reading_asked};
+
+/// The options of `label`.
+#[derive(Clone, Copy)]
+pub struct LabelOptions {
+    pub size: u32,
+    pub margin: u32,
+    pub align: Align,
+    pub fit: Fit,
+    pub missing: Missing,
+    /// The number of the face, if one is asked for.
+    pub face: Option<u32>,
+}
+
+/// The request `label OPTION.. FONT TEXT` or `label OPTION.. --lines FONT`, where its words and options are present.
+pub(crate) fn labelling_of<'a, A: Arguments<'a>>(arguments: &A) -> Option<Request<'a>>
+    ensures { AsksLabel (A.text arguments.now) (A.IsNumber arguments.now) (A.IsFlag arguments.now) (option_map asked_of result) }
+{
+    let text = arguments.text_for("TEXT");
+    let lines = arguments.is_set("lines");
+    let options = label_options_of(arguments);
+    let font = arguments.text_for("FONT")?;
+    let options = options?;
+    match text {
+        Some(text) => {
+            if lines {
+                return None;
+            }
+            Some(Request::Label {
+                font,
+                text,
+                options,
+            })
+        }
+        None => {
+            if !lines {
+                return None;
+            }
+            Some(Request::Labels { font, options })
+        }
+    }
+}
+
+/// The options `--size SIZE --margin MARGIN --align ALIGN --fit FIT --missing MISSING`, where all are present, and
+/// `--face FACE`, which may be absent. None where the name of a side, of the way to fit, or of the treatment of missing
+/// glyphs, is unknown.
+fn label_options_of<'a, A: Arguments<'a>>(arguments: &A) -> Option<LabelOptions>
+    ensures { AsksLabelOptions (A.text arguments.now) (A.IsNumber arguments.now) result }
+{
+    let size = arguments.number_for("size");
+    let margin = arguments.number_for("margin");
+    let align = arguments.text_for("align");
+    let fit = arguments.text_for("fit");
+    let missing = arguments.text_for("missing");
+    let face = arguments.number_for("face");
+    Some(LabelOptions {
+        size: size?,
+        margin: margin?,
+        align: align_named(align?)?,
+        fit: fit_named(fit?)?,
+        missing: missing_named(missing?)?,
+        face,
+    })
+}
+
+/// The default side of lines.
+pub const LEFT: &str = "left";
+
+const CENTRE: &str = "centre";
+
+const RIGHT: &str = "right";
+
+/// The words of `--align`.
+pub static ALIGNS: [&str; 3] = [LEFT, CENTRE, RIGHT];
+
+/// The side that has this name.
+pub fn align_named(name: &str) -> Option<Align>
+    ensures { result ≡ align_named name.now }
+{
+    match name {
+        LEFT => Some(Align::Left),
+        CENTRE => Some(Align::Centre),
+        RIGHT => Some(Align::Right),
+        _ => None,
+    }
+}
 
 /// How a label with these options is drawn by the font of a path.
 pub(crate) fn label_for<'a>(path: &'a str, options: &LabelOptions) -> Label<'a>

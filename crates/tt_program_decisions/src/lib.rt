@@ -11,10 +11,11 @@ mod telling_labels;
 mod telling_texts;
 mod unopened;
 
+pub use labelling::{ALIGNS, LEFT, LabelOptions, align_named};
 pub use performing::perform;
 pub use request::{
-    ALIGNS, Arguments, BEST, DRAW, FITS, FULL, GLYPHS_KEPT, LEFT, LabelOptions, MISSING_WORDS,
-    Request, TELL, align_named, fit_named, missing_named, request_of,
+    Arguments, BEST, DRAW, FITS, FULL, GLYPHS_KEPT, MISSING_WORDS, Request, TELL, fit_named,
+    missing_named, request_of,
 };
 pub use stopping::{Stop, stop_of_open, stop_of_words, tell_stop};
 pub use unopened::tell_unopened;

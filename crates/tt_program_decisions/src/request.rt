@@ -2,11 +2,12 @@
 
 ghost use Rattle.std.specs.Prelude.{◌≡◌, ◌≢◌, ℕ, Bool, List, Option, None, codes, option_map};
 ghost use Rattle.tt_render.specs.declared.setting.Product.TheVariants.{Measure, Picture};
-ghost use Rattle.tt_program_decisions.specs.Requests.{AsksDrawing, AsksLabel, AsksLabelOptions, AsksMap, AsksSetting, align_named, asked_of, faces_asked, fit_named, font_of, missing_named};
+ghost use Rattle.tt_program_decisions.specs.Requests.{AsksDrawing, AsksLabel, AsksMap, AsksSetting, asked_of, faces_asked, fit_named, font_of, missing_named};
 
+use crate::labelling::{LabelOptions, labelling_of};
 use tt_core::Reading;
 use tt_fit::Fit;
-use tt_render::{Align, Missing, Product, Setting, fit_reading, reading_asked};
+use tt_render::{Missing, Product, Setting, fit_reading, reading_asked};
 
 /// The request of a command line.
 #[derive(Clone, Copy)]
@@ -43,18 +44,6 @@ pub enum Request<'a> {
         font: &'a str,
         options: LabelOptions,
     },
-}
-
-/// The options of `label`.
-#[derive(Clone, Copy)]
-pub struct LabelOptions {
-    pub size: u32,
-    pub margin: u32,
-    pub align: Align,
-    pub fit: Fit,
-    pub missing: Missing,
-    /// The number of the face, if one is asked for.
-    pub face: Option<u32>,
 }
 
 impl<'a> Request<'a> {
@@ -147,35 +136,6 @@ fn drawing_of<'a, A: Arguments<'a>>(arguments: &A, product: Product) -> Option<R
     }
 }
 
-/// The request `label OPTION.. FONT TEXT` or `label OPTION.. --lines FONT`, where its words and options are present.
-fn labelling_of<'a, A: Arguments<'a>>(arguments: &A) -> Option<Request<'a>>
-    ensures { AsksLabel (A.text arguments.now) (A.IsNumber arguments.now) (A.IsFlag arguments.now) (option_map asked_of result) }
-{
-    let text = arguments.text_for("TEXT");
-    let lines = arguments.is_set("lines");
-    let options = label_options_of(arguments);
-    let font = arguments.text_for("FONT")?;
-    let options = options?;
-    match text {
-        Some(text) => {
-            if lines {
-                return None;
-            }
-            Some(Request::Label {
-                font,
-                text,
-                options,
-            })
-        }
-        None => {
-            if !lines {
-                return None;
-            }
-            Some(Request::Labels { font, options })
-        }
-    }
-}
-
 /// The request `map [--face N] FONT TEXT`, where both words are present.
 fn map_of<'a, A: Arguments<'a>>(arguments: &A) -> Option<Request<'a>>
     ensures { AsksMap (A.text arguments.now) (A.IsNumber arguments.now) (option_map asked_of result) }
@@ -227,50 +187,6 @@ fn setting_of<'a, A: Arguments<'a>>(arguments: &A, product: Product) -> Option<S
         reading: reading_asked(face, fit_reading(strict.fit)),
         ..strict
     })
-}
-
-/// The options `--size SIZE --margin MARGIN --align ALIGN --fit FIT --missing MISSING`, where all are present, and
-/// `--face FACE`, which may be absent. None where the name of a side, of the way to fit, or of the treatment of missing
-/// glyphs, is unknown.
-fn label_options_of<'a, A: Arguments<'a>>(arguments: &A) -> Option<LabelOptions>
-    ensures { AsksLabelOptions (A.text arguments.now) (A.IsNumber arguments.now) result }
-{
-    let size = arguments.number_for("size");
-    let margin = arguments.number_for("margin");
-    let align = arguments.text_for("align");
-    let fit = arguments.text_for("fit");
-    let missing = arguments.text_for("missing");
-    let face = arguments.number_for("face");
-    Some(LabelOptions {
-        size: size?,
-        margin: margin?,
-        align: align_named(align?)?,
-        fit: fit_named(fit?)?,
-        missing: missing_named(missing?)?,
-        face,
-    })
-}
-
-/// The default side of lines.
-pub const LEFT: &str = "left";
-
-const CENTRE: &str = "centre";
-
-const RIGHT: &str = "right";
-
-/// The words of `--align`.
-pub static ALIGNS: [&str; 3] = [LEFT, CENTRE, RIGHT];
-
-/// The side that has this name.
-pub fn align_named(name: &str) -> Option<Align>
-    ensures { result ≡ align_named name.now }
-{
-    match name {
-        LEFT => Some(Align::Left),
-        CENTRE => Some(Align::Centre),
-        RIGHT => Some(Align::Right),
-        _ => None,
-    }
 }
 
 /// The default way to fit of programs.
