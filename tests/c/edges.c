@@ -138,7 +138,7 @@ static void try_nothing(struct room text) {
 /* A font that is no collection has face 0 alone, which the number 1 means. */
 static void try_faces(struct room text) {
   struct tt_job second = {.size = 16, .margin = 0, .fit = TT_BEST, .grow = 0, .face = 2};
-  struct tt_answer answer;
+  struct tt_answer answer = {.status = 0};
   struct tt_font told_font;
   struct tt_glyph glyphs[4096];
   expect(tt_faces(NULL, 0, &answer) == TT_FONT && answer.number == 2 && memcmp(answer.table, "file", 4) == 0,
