@@ -20,8 +20,8 @@
  *     memcpy, memmove, memset and, from the compiler's own runtime, __udivti3 (-lgcc where nothing else is linked).
  *   - No call comes from a signal handler, or from the forked child of a process with threads.
  *
- * No struct has a size field or a version. So a struct, tt_job too, changes only with a new version of the library;
- * then a caller has to be compiled anew.
+ * No struct has a size field or a version. So a struct, tt_job too, changes only with a new number in the name of the
+ * shared library, libtt_render.so.0; then a caller has to be compiled anew.
  *
  * A font file is read strictly or widely. Strictly the file has one font, whose cmap has format 4 or 12. Widely the
  * file may be a collection of faces, and more formats and kinds of cmap are read: formats 0, 6, 10 and 13, symbol
@@ -54,6 +54,10 @@
 #ifdef __cplusplus
 extern "C" {
 #endif
+
+/* The version of this header, as a text, and as 10,000 times its first part, 100 times the second, and the third. */
+#define TT_RENDER_VERSION_TEXT "0.1.0"
+#define TT_RENDER_VERSION 100
 
 /* The status of an answer. Up to 5 these are the program's exit statuses; 4, a failed write, does not occur here. */
 enum {
@@ -228,9 +232,10 @@ uint32_t tt_draw_lines(const uint8_t *font, size_t font_bytes, const uint8_t *te
 
 /*
  * The message of an answer, for a person: the program's line where there is one, with a zero at its end. bytes counts
- * the zero, and is at most 90: so a room of 90 bytes is always enough. told is the answer of another call; answer is
- * another struct, the answer of this call.
+ * the zero, and is at most TT_MESSAGE_BYTES: a room of 90 bytes is always enough. told is the answer of another call;
+ * answer is another struct, the answer of this call.
  */
+#define TT_MESSAGE_BYTES 90
 uint32_t tt_message(const struct tt_answer *told, uint8_t *text, size_t room, struct tt_answer *answer);
 
 /*
