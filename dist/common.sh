@@ -95,7 +95,7 @@ text_of() {
   gzip -dc <"$dist/$machine/$1.s.gz" >"$2"
 }
 
-# compile WORD..: calls the C compiler. Of one that fails, a line is shown, since a text may have a fault in each of its.
+# compile WORD..: calls the C compiler. One line is shown of a compiler that fails, which may complain of each line.
 compile() {
   local said line
   if said=$("${cc[@]}" "${flags[@]}" "$@" 2>&1); then
