@@ -101,7 +101,7 @@ class Calls(unittest.TestCase):
         data = collection(self.font._data)
         self.assertEqual((tt_render.faces(self.font._data), tt_render.faces(data)), (1, 2))
         self.assertEqual(tt_render.Font(data, 1).label("Hi", 16), self.font.label("Hi", 16))
-        for face in (2, 2**32 - 1, 2**32, -2):
+        for face in (2, 2**32 - 1, 2**32, -1, -2):
             self.assertEqual(self.refused(tt_render.Font, data, face).number, 25)
         self.assertEqual(self.refused(tt_render.Font, data, None).number, 1)
 

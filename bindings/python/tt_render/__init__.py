@@ -126,7 +126,8 @@ class Font:
     """A face of a font file. With None the file is no collection, and is read strictly."""
 
     def __init__(self, data: bytes, face: Optional[int] = 0) -> None:
-        self._data, self._face, told = bytes(data), _number(0 if face is None else face + 1), _Font()
+        number = 0 if face is None else face + 1 if face >= 0 else face
+        self._data, self._face, told = bytes(data), _number(number), _Font()
         _ask("tt_open_face", self._data, self._face, told)
         self.units_per_em: int = told.units_per_em
         self.ascent: int = told.ascent
