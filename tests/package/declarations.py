@@ -17,7 +17,7 @@ OF_PYTHON = {"c_uint32": "uint32_t", "c_int32": "int32_t", "c_uint64": "uint64_t
              "c_char * 4": "uint8_t[4]", "_Box": "tt_box", "_Picture": "tt_picture"}
 OF_RUST = {"u8": "uint8_t", "u32": "uint32_t", "i32": "int32_t", "u64": "uint64_t", "i64": "int64_t",
            "usize": "size_t", "[u8; 4]": "uint8_t[4]"}
-NAMES = {"Figures": "tt_font", "Shape": "tt_picture"}
+NAMES = {"Figures": "tt_font", "Shape": "tt_picture", "PixelBox": "tt_box"}
 
 
 def of_rust(kind):

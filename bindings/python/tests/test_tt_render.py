@@ -63,7 +63,7 @@ class Calls(unittest.TestCase):
             self.assertEqual(got.pbm(), printed("draw", *words))
 
     def test_labels(self):
-        for size, count in ((16, 5000), (300, 20)):
+        for size, count in ((16, 4100), (300, 20)):
             texts = [f"Shelf {it}" for it in range(count)]
             got = b"".join(it.pbm() for it in self.font.labels(texts, size))
             stdin = "".join(f"{it}\n" for it in texts)

@@ -55,7 +55,7 @@ pub struct Shape {
 /// A box of pixels; all four sides are included.
 #[repr(C)]
 #[derive(Clone, Copy, Debug, Default, PartialEq, Eq)]
-pub struct Box {
+pub struct PixelBox {
     /// Its first column.
     pub left: i64,
     /// Its first row.
@@ -74,7 +74,7 @@ pub struct Measure {
     pub baseline: i64,
     pub unfitted: u64,
     pub has_ink: u64,
-    pub ink: Box,
+    pub ink: PixelBox,
 }
 
 #[repr(C)]
@@ -84,7 +84,7 @@ pub struct Character {
     pub advance: u32,
     pub pen: i64,
     pub has_ink: u64,
-    pub ink: Box,
+    pub ink: PixelBox,
 }
 
 /// A character of a text in the font.

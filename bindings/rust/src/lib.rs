@@ -16,7 +16,7 @@ mod error;
 mod font;
 mod picture;
 
-pub use c::{Box, Figures, Glyph, Shape};
+pub use c::{Figures, Glyph, PixelBox, Shape};
 pub use error::Error;
 pub use font::{faces, Font};
 pub use picture::{Character, Fit, Job, Measure, Picture};

@@ -74,7 +74,7 @@ impl Picture {
             && self
                 .rows
                 .get(byte as usize)
-                .is_some_and(|it| it >> (7 - column % 8) & 1 == 1)
+                .map_or(false, |it| it >> (7 - column % 8) & 1 == 1)
     }
 
     /// Returns the picture as a file in the format PBM (P4).
@@ -97,7 +97,7 @@ pub struct Measure {
     /// The distinct glyphs drawn unfitted although the job requests fitting.
     pub unfitted: u64,
     /// The box of all ink, where anything is black.
-    pub ink: Option<c::Box>,
+    pub ink: Option<c::PixelBox>,
 }
 
 impl From<c::Measure> for Measure {
@@ -130,7 +130,7 @@ pub struct Character {
     /// The column of the origin.
     pub pen: i64,
     /// The box of its ink, where anything is black.
-    pub ink: Option<c::Box>,
+    pub ink: Option<c::PixelBox>,
 }
 
 impl From<c::Character> for Character {
