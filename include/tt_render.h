@@ -15,7 +15,7 @@
  *     are two structs. Memory that a call only reads may overlap. No one else writes to it before the call returns, and
  *     no one else touches the memory that the call writes.
  *   - 64 KiB of stack are free.
- *   - The processor is x86-64-v2 or newer, or aarch64 (Armv8-A). The library does not test this.
+ *   - The processor is x86-64-v2 or newer, or aarch64 (Armv8-A). The library does not test this; `install` does.
  *   - rattle_alloc, rattle_realloc and rattle_dealloc do what the end of this header says. The library also needs
  *     memcpy, memmove, memset and, from the compiler's own runtime, __udivti3 (-lgcc where nothing else is linked).
  *   - No call comes from a signal handler, or from the forked child of a process with threads.
@@ -233,7 +233,7 @@ uint32_t tt_draw_lines(const uint8_t *font, size_t font_bytes, const uint8_t *te
 /*
  * The message of an answer, for a person: the program's line where there is one, with a zero at its end. bytes counts
  * the zero, and is at most TT_MESSAGE_BYTES: a room of 90 bytes is always enough. told is the answer of another call;
- * answer is another struct, the answer of this call.
+ * answer is another struct, the answer of this call. The call takes some memory, which may be refused too.
  */
 #define TT_MESSAGE_BYTES 90
 uint32_t tt_message(const struct tt_answer *told, uint8_t *text, size_t room, struct tt_answer *answer);

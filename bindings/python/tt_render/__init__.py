@@ -76,8 +76,9 @@ class Error(Exception):
     """
 
     def __init__(self, answer: Any) -> None:
-        text = ctypes.create_string_buffer(_MESSAGE_BYTES)
-        _ask("tt_message", answer, text)
+        # Where there is no memory for the message, the text remains.
+        text = ctypes.create_string_buffer(b"tt_render: out of memory", _MESSAGE_BYTES)
+        _ask("tt_message", answer, text, allowed=range(8))
         super().__init__(text.value.decode("latin-1").replace("tt_render: ", "", 1))
         self.status: int = answer.status
         self.number: int = answer.number

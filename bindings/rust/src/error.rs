@@ -8,6 +8,7 @@ const DONE: u32 = 0;
 pub(crate) const ROOM: u32 = 7;
 /// The length of the longest message, with its zero.
 const MESSAGE_BYTES: usize = 90;
+const OUT_OF_MEMORY: &[u8] = b"tt_render: out of memory";
 
 /// A refusal.
 #[derive(Clone, Copy, Debug, PartialEq, Eq)]
@@ -60,6 +61,8 @@ impl Error {
 impl fmt::Display for Error {
     fn fmt(&self, to: &mut fmt::Formatter<'_>) -> fmt::Result {
         let (mut text, mut told) = ([0; MESSAGE_BYTES], Answer::default());
+        // Where there is no memory for the message, this text remains.
+        text[..OUT_OF_MEMORY.len()].copy_from_slice(OUT_OF_MEMORY);
         // SAFETY: the room is as long as it says, and the answers are two.
         unsafe { tt_message(&self.answer, text.as_mut_ptr(), text.len(), &mut told) };
         let end = text.iter().position(|it| *it == 0).unwrap_or(text.len());
