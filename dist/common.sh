@@ -54,7 +54,7 @@ find_compiler() {
     *) machine= ;;
   esac
   [ -n "$machine" ] && fits_text "$1" ||
-    stop "${cc[*]} ${flags[*]} compiles for another target than the texts, which are for 64-bit x86-64 and aarch64, ELF"
+    stop "${cc[*]} ${flags[*]} compiles for a target without a text; there are texts for x86-64 and aarch64, 64-bit ELF"
   echo 'int main(void) { return 0; }' >"$1/tried.c"
   for way in ${2:-static dynamic}; do
     link=()
