@@ -3,7 +3,8 @@
  *   labels FONT SIZE >labels.pbm
  *
  * One call draws as many labels as the room holds: the font's programs run once in it, and a glyph that is cached is
- * not fitted again. README.md has the commands. The exit status is the library's. It is 2 also for a fault of the
+ * not fitted again. So that glyphs are cached, the pictures are not grown; their margin has room for ink that reaches
+ * out of the line. README.md has the commands. The exit status is the library's. It is 2 also for a fault of the
  * command line, 3 where the font cannot be read, and 4 where the pictures cannot be written.
  */
 #include <stdio.h>
@@ -60,7 +61,7 @@ static int draw(const uint8_t *font, size_t font_bytes, const struct tt_job *job
 
 int main(int count, char **words) {
   static uint8_t font[1 << 26];
-  struct tt_job job = {.size = 0, .margin = 0, .fit = TT_BEST, .grow = 1};
+  struct tt_job job = {.size = 0, .margin = 4, .fit = TT_BEST, .grow = 0};
   char *end;
 
   if (count != 3) return complain(2, "want FONT SIZE");

@@ -43,7 +43,8 @@
  * Cost: tt_faces, tt_open and tt_map, with a face too, read tables alone. tt_measure, tt_characters, tt_draw and
  * tt_draw_band each run the font's first two programs and fit all glyphs of the text: with hinting mostly some million
  * instructions. This is so even where the room is too small. tt_draw_lines runs the two programs once, and fits no glyph
- * that is cached: a label of 16 letters then takes some 30,000 instructions. With keep 0 each line fits its glyphs anew.
+ * that is cached: a label of 16 letters then takes some 30,000 instructions. With keep 0, and with grow, each line fits
+ * its glyphs anew, for up to a million instructions.
  */
 #ifndef TT_RENDER_H
 #define TT_RENDER_H
