@@ -49,12 +49,12 @@ find_compiler() {
   done
   target=$("${cc[@]}" -dumpmachine 2>/dev/null) || target=$(uname -m)-linux
   case $target in
-    *-gnux32 | *-darwin* | *-mingw* | *-cygwin) machine= ;;
     x86_64-*) machine=x86-64 ;;
     aarch64-*) machine=aarch64 ;;
     *) machine= ;;
   esac
-  [ -n "$machine" ] || stop "${cc[*]} compiles for $target, for which there is no text"
+  [ -n "$machine" ] && fits_text "$1" ||
+    stop "${cc[*]} ${flags[*]} compiles for a target without a text; there are texts for x86-64 and aarch64, 64-bit ELF"
   echo 'int main(void) { return 0; }' >"$1/tried.c"
   for way in ${2:-static dynamic}; do
     link=()
@@ -65,15 +65,45 @@ find_compiler() {
   stop "${tried[*]} makes no program here: an assembler, a linker or the C library's files lack"
 }
 
+# fits_text ROOM: whether the compiler, with its flags, compiles for what the texts are for. Its own name of its target
+# says nothing of flags such as -m32, with which an assembler refuses each line of a text.
+fits_text() {
+  cat >"$1/tried.c" <<'C'
+#if !defined(__LP64__) || !defined(__ELF__) || !(defined(__x86_64__) || defined(__aarch64__)) || defined(__AARCH64EB__)
+#error another target
+#endif
+C
+  "${cc[@]}" "${flags[@]}" -E -o "$1/tried.i" "$1/tried.c" >/dev/null 2>&1
+}
+
+# lacks_of_processor FILE: prints what a processor lacks of x86-64-v2, as FILE tells it in the form of /proc/cpuinfo.
+lacks_of_processor() {
+  local word has lacking=()
+  while read -r word has; do
+    [ "$word" = flags ] || continue
+    for word in cx16 lahf_lm popcnt pni sse4_1 sse4_2 ssse3; do
+      [[ " $has " == *" $word "* ]] || lacking+=("$word")
+    done
+    break
+  done <"$1"
+  printf '%s' "${lacking[*]}"
+}
+
 # text_of NAME FILE: unpacks the assembler text of the program or the library.
 text_of() {
   [ -f "$dist/$machine/$1.s.gz" ] || stop "there is no text for $machine"
   gzip -dc <"$dist/$machine/$1.s.gz" >"$2"
 }
 
-# compile WORD..: calls the C compiler.
+# compile WORD..: calls the C compiler. One line is shown of a compiler that fails, which may complain of each line.
 compile() {
-  "${cc[@]}" "${flags[@]}" "$@" || stop "${cc[*]} failed, as it says above"
+  local said line
+  if said=$("${cc[@]}" "${flags[@]}" "$@" 2>&1); then
+    [ -z "$said" ] || printf '%s\n' "$said" >&2
+    return
+  fi
+  while read -r line && [[ ${line,,} != *error* ]]; do :; done <<<"$said"
+  stop "${cc[*]} ${flags[*]} failed: ${line:-${said%%$'\n'*}}"
 }
 
 # link_program ROOM FILE: makes the program, in a folder for what stands between.

@@ -101,7 +101,7 @@ static void write_number(uint32_t number, char after) {
 }
 
 __attribute__((used)) static _Noreturn void start(void) {
-  const struct tt_job job = {.size = 24, .margin = 4, .fit = TT_FALLBACK, .grow = 0};
+  const struct tt_job job = {.size = 24, .margin = 4, .fit = TT_BEST, .grow = 0};
   struct tt_picture picture;
   struct tt_answer answer;
 

@@ -36,7 +36,7 @@ static uint8_t *read_file(const char *name, size_t *size) {
 
 /* Prints the message of a refused call, and returns its status. */
 static int refused(const struct tt_answer *answer) {
-  uint8_t text[256] = "tt_render: refused";
+  uint8_t text[90] = "tt_render: refused"; /* the longest message has 90 bytes */
   struct tt_answer told;
   tt_message(answer, text, sizeof text, &told);
   fprintf(stderr, "%s\n", (const char *)text);
@@ -67,7 +67,7 @@ static int draw(const uint8_t *font, size_t font_bytes, const char *words, const
 }
 
 int main(int count, char **words) {
-  struct tt_job job = {.size = 0, .margin = 0, .fit = TT_FALLBACK, .grow = 1};
+  struct tt_job job = {.size = 0, .margin = 0, .fit = TT_BEST, .grow = 1};
   size_t font_bytes;
   char *end;
   int status;

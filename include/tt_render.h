@@ -15,13 +15,13 @@
  *     are two structs. Memory that a call only reads may overlap. No one else writes to it before the call returns, and
  *     no one else touches the memory that the call writes.
  *   - 64 KiB of stack are free.
- *   - The processor is x86-64-v2 or newer, or aarch64 (Armv8-A). The library does not test this.
+ *   - The processor is x86-64-v2 or newer, or aarch64 (Armv8-A). The library does not test this; `install` does.
  *   - rattle_alloc, rattle_realloc and rattle_dealloc do what the end of this header says. The library also needs
  *     memcpy, memmove, memset and, from the compiler's own runtime, __udivti3 (-lgcc where nothing else is linked).
  *   - No call comes from a signal handler, or from the forked child of a process with threads.
  *
- * No struct has a size field or a version. So a struct, tt_job too, changes only with a new version of the library;
- * then a caller has to be compiled anew.
+ * No struct has a size field or a version. So a struct, tt_job too, changes only with a new number in the name of the
+ * shared library, libtt_render.so.0; then a caller has to be compiled anew.
  *
  * A font file is read strictly or widely. Strictly the file has one font, whose cmap has format 4 or 12. Widely the
  * file may be a collection of faces, and more formats and kinds of cmap are read: formats 0, 6, 10 and 13, symbol
@@ -47,8 +47,8 @@
  * Cost: tt_faces, tt_open and tt_map, with a face too, read tables alone. tt_measure, tt_characters, tt_draw and
  * tt_draw_band each run the font's first two programs and fit all glyphs of the text: with hinting mostly some million
  * instructions. This is so even where the room is too small. tt_draw_lines runs the two programs once, and fits no glyph
- * that is cached: a label of 16 letters then takes some 30,000 instructions. With keep 0 each line fits its glyphs anew,
- * and with grow too.
+ * that is cached: a label of 16 letters then takes some 30,000 instructions. With keep 0, and with grow, each line fits
+ * its glyphs anew, for up to a million instructions.
  */
 #ifndef TT_RENDER_H
 #define TT_RENDER_H
@@ -59,6 +59,10 @@
 #ifdef __cplusplus
 extern "C" {
 #endif
+
+/* The version of this header, as a text, and as 10,000 times its first part, 100 times the second, and the third. */
+#define TT_RENDER_VERSION_TEXT "0.1.0"
+#define TT_RENDER_VERSION 100
 
 /* The status of an answer. Up to 5 these are the program's exit statuses; 4, a failed write, does not occur here. */
 enum {
@@ -233,9 +237,10 @@ uint32_t tt_draw_lines(const uint8_t *font, size_t font_bytes, const uint8_t *te
 
 /*
  * The message of an answer, for a person: the program's line where there is one, with a zero at its end. bytes counts
- * the zero, and is at most 90: so a room of 90 bytes is always enough. told is the answer of another call; answer is
- * another struct, the answer of this call.
+ * the zero, and is at most TT_MESSAGE_BYTES: a room of 90 bytes is always enough. told is the answer of another call;
+ * answer is another struct, the answer of this call. The call takes some memory, which may be refused too.
  */
+#define TT_MESSAGE_BYTES 90
 uint32_t tt_message(const struct tt_answer *told, uint8_t *text, size_t room, struct tt_answer *answer);
 
 /*

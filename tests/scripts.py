@@ -17,7 +17,7 @@ FIRST = "real_fonts"
 # that is not in the list comes behind these.
 LONGEST_FIRST = """fuzz characters lines c work launcher damaged faces label measure dist memory devices dropouts
   lines_beside rows fallback hinted readme prove pixels command_line machine outlines glyphs real_lines best
-  wrong_bodies""".split()
+  package wrong_bodies""".split()
 
 # The program for tests: the variable that names another, and its crate.
 VARIABLE, CRATE = "TT_ANSWERS", "tt_test_answers"

@@ -20,8 +20,8 @@ EXAMPLES = {
     "A refusal of a font": (r"ScaledOffset|scaled_offset",),
     "An option of the command": (r'--missing|"missing"|MISSING_WORDS|Missing::|enum Missing|\\-missing',),
     "A call of the C library": (r"tt_characters|CCharacter",),
-    # tests/dist only draws one picture so.
-    "A product": (r"grown_line|grown_outcome|-grow\b", "tests/dist"),
+    # These only draw pictures so.
+    "A product": (r"grown_line|grown_outcome|-grow\b", "tests/dist", "tests/package", "bindings"),
     # Programs of other libraries read hhea by themselves, and so does fontTools.
     "A table": (r"\bhhea\b|Hhea", "bench", "tests/*_freetype.c", "tests/hinted/try_all"),
     "A test": (r"tests/measure|measure/run|LONGEST_FIRST",),

@@ -1,0 +1,123 @@
+"""Tries the module tt_render beside the program tt_render, which TT_RENDER names. TT_FONT names the font,
+DejaVu Sans. TT_LACKS=faces says that the library was made before the calls of faces, which then are not tried."""
+import os
+import struct
+import subprocess
+import unittest
+
+import tt_render
+
+PROGRAM, FONT = os.environ.get("TT_RENDER", "tt_render"), os.environ["TT_FONT"]
+HAS_FACES = os.environ.get("TT_LACKS") != "faces"
+
+
+def printed(command, *words, stdin=""):
+    """Returns what the program prints."""
+    return subprocess.run([PROGRAM, command, *words], input=stdin.encode(), stdout=subprocess.PIPE, check=True).stdout
+
+
+def collection(font):
+    """Returns a collection of two faces, which both are the font."""
+    head, shifted = struct.pack(">4sIIII", b"ttcf", 0x10000, 2, 20, 20), bytearray(font)
+    for table in range(struct.unpack_from(">H", font, 4)[0]):
+        at = 12 + 16 * table + 8
+        struct.pack_into(">I", shifted, at, struct.unpack_from(">I", font, at)[0] + len(head))
+    return head + bytes(shifted)
+
+
+def ink(picture):
+    """Returns the box of the black pixels."""
+    row_bytes = (picture.width + 7) // 8
+    black = [
+        (column, row)
+        for row in range(picture.height)
+        for column in range(picture.width)
+        if picture.rows[row * row_bytes + column // 8] >> (7 - column % 8) & 1
+    ]
+    columns, rows = zip(*black)
+    return tt_render.Box(min(columns), min(rows), max(columns), max(rows))
+
+
+class Calls(unittest.TestCase):
+    def setUp(self):
+        self.font = tt_render.Font.open(FONT)
+
+    def refused(self, call, *words, **options):
+        with self.assertRaises(tt_render.Error) as raised:
+            call(*words, **options)
+        return raised.exception
+
+    def test_font(self):
+        self.assertEqual((self.font.units_per_em, self.font.ascent, self.font.descent), (2048, 1901, -483))
+
+    def test_label(self):
+        for text in ("Shelf 12", "Ǻjf", "j"):
+            for size in (9, 16, 300):
+                wanted = printed("draw", "--size", str(size), "--fit", "best", "--grow", FONT, text)
+                self.assertEqual(self.font.label(text, size).pbm(), wanted)
+
+    def test_options(self):
+        for fit in tt_render.Fit:
+            words = ["--size", "20", "--margin", "3", "--fit", fit.name.lower(), FONT, "Hello"]
+            got = self.font.label("Hello", 20, margin=3, fit=fit, grow=False)
+            self.assertEqual(got.pbm(), printed("draw", *words))
+
+    def test_labels(self):
+        for size, count in ((16, 4100), (300, 20)):
+            texts = [f"Shelf {it}" for it in range(count)]
+            got = b"".join(it.pbm() for it in self.font.labels(texts, size))
+            stdin = "".join(f"{it}\n" for it in texts)
+            words = ["--size", str(size), "--fit", "best", "--grow", "--lines", FONT]
+            self.assertEqual(got, printed("draw", *words, stdin=stdin))
+        self.assertEqual(list(self.font.labels([], 16)), [])
+
+    def test_refused_line(self):
+        got = self.font.labels(["A", "B", "", "C"], 16)
+        self.assertEqual([next(got), next(got)], [self.font.label("A", 16), self.font.label("B", 16)])
+        error = self.refused(next, got)
+        self.assertEqual((error.line, error.number), (2, 62))
+
+    def test_measure(self):
+        got, picture = self.font.measure("jolly", 24), self.font.label("jolly", 24)
+        self.assertEqual(got[:4], picture[:4])
+        self.assertEqual(got.ink, ink(picture))
+        self.assertIsNone(self.font.measure(" ", 24).ink)
+
+    def test_characters(self):
+        got, width = self.font.characters("Hi j", 24, grow=False), self.font.label("Hi j", 24, grow=False).width
+        self.assertEqual(len(got), 4)
+        pens = [sum(it.advance for it in got[:at]) for at in range(5)]
+        self.assertEqual([it.pen for it in got] + [width], pens)
+        self.assertIsNone(got[2].ink)
+
+    @unittest.skipUnless(HAS_FACES, "the library has no tt_map_face")
+    def test_map(self):
+        said = printed("map", FONT, "Aé\U0010ffff").decode().split("\n")[:-1]
+        got = [f"U+{it.code_point:04X} {it.glyph} {it.advance}" for it in self.font.map("Aé\U0010ffff")]
+        self.assertEqual(got, said)
+
+    @unittest.skipUnless(HAS_FACES, "the library has no tt_faces")
+    def test_faces(self):
+        data = collection(self.font._data)
+        self.assertEqual((tt_render.faces(self.font._data), tt_render.faces(data)), (1, 2))
+        self.assertEqual(tt_render.Font(data, 1).label("Hi", 16), self.font.label("Hi", 16))
+        for face in (2, 2**32 - 1, 2**32, -1, -2):
+            self.assertEqual(self.refused(tt_render.Font, data, face).number, 25)
+        self.assertEqual(self.refused(tt_render.Font, data, None).number, 1)
+
+    def test_defect(self):
+        error = self.refused(self.font.label, "2", 16, fit=tt_render.Fit.FULL)
+        self.assertEqual((error.status, error.number, error.table), (1, 35, "glyf"))
+        self.assertEqual(str(error), f"glyf+{error.offset}: 35 OffProfile")
+        error = self.refused(tt_render.Font, b"OTTO")
+        self.assertEqual((error.status, error.table), (1, "file"))
+
+    def test_request(self):
+        for size in (0, 301, -1, 2**32 + 16):
+            error = self.refused(self.font.label, "A", size)
+            self.assertEqual((error.status, error.number, error.table, error.line), (2, 60, "", None))
+        self.assertEqual(self.refused(self.font.label, "\ud800", 16).status, 6)
+
+
+if __name__ == "__main__":
+    unittest.main()

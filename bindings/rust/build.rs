@@ -1,0 +1,28 @@
+//! Makes the C library of the text in dist/, by the C compiler that CC names. That is cc, or for another target than
+//! this machine the compiler with the target's name.
+use std::env;
+use std::path::PathBuf;
+use std::process::Command;
+
+fn main() {
+    let out = PathBuf::from(env::var_os("OUT_DIR").expect("cargo sets OUT_DIR"));
+    let target = env::var("TARGET").expect("cargo sets TARGET");
+    let mut install = Command::new("bash");
+    install.arg("dist/install").arg("--library").arg(&out);
+    if env::var_os("CC").is_none() && env::var("HOST").as_deref() != Ok(&target) {
+        install.env("CC", format!("{}-gcc", target.replace("-unknown", "")));
+    }
+    let made = install.status().expect("bash is on the PATH");
+    assert!(
+        made.success(),
+        "the C library was not made; a line above says why"
+    );
+    println!(
+        "cargo:rustc-link-search=native={}",
+        out.join("lib").display()
+    );
+    println!("cargo:rustc-link-lib=static=tt_render");
+    println!("cargo:rerun-if-changed=dist");
+    println!("cargo:rerun-if-env-changed=CC");
+    println!("cargo:rerun-if-env-changed=CFLAGS");
+}

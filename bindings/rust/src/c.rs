@@ -1,0 +1,176 @@
+//! The declarations of tt_render.h, in its order, as far as this crate calls them.
+
+#[repr(C)]
+#[derive(Clone, Copy, Debug, Default, PartialEq, Eq)]
+pub struct Answer {
+    pub status: u32,
+    pub number: u32,
+    pub table: [u8; 4],
+    pub offset: u32,
+    pub bytes: u64,
+    pub count: u64,
+}
+
+/// The figures of a font, in font units except the number of glyphs.
+#[repr(C)]
+#[derive(Clone, Copy, Debug, Default, PartialEq, Eq)]
+pub struct Figures {
+    /// 16 to 16,384.
+    pub units_per_em: u32,
+    /// Above the base line.
+    pub ascent: i32,
+    /// Above the base line, so mostly negative.
+    pub descent: i32,
+    /// The number of glyphs.
+    pub glyphs: u32,
+    /// Between the descent of a line and the ascent of the next one.
+    pub line_gap: i32,
+}
+
+#[repr(C)]
+pub struct Job {
+    pub size: u32,
+    pub margin: u32,
+    pub fit: u32,
+    pub grow: u32,
+    pub face: u32,
+}
+
+/// A picture without its pixels.
+#[repr(C)]
+#[derive(Clone, Copy, Debug, Default, PartialEq, Eq)]
+pub struct Shape {
+    /// Pixels in a row, 1 to 16,384.
+    pub width: u32,
+    /// Rows, 1 to 4,096.
+    pub height: u32,
+    /// `(width + 7) / 8`.
+    pub row_bytes: u64,
+    /// Rows above the base line, which may be outside the picture.
+    pub baseline: i64,
+    /// The distinct glyphs drawn unfitted although the job requests fitting.
+    pub unfitted: u64,
+}
+
+/// A box of pixels; all four sides are included.
+#[repr(C)]
+#[derive(Clone, Copy, Debug, Default, PartialEq, Eq)]
+pub struct PixelBox {
+    /// Its first column.
+    pub left: i64,
+    /// Its first row.
+    pub top: i64,
+    /// Its last column.
+    pub right: i64,
+    /// Its last row.
+    pub bottom: i64,
+}
+
+#[repr(C)]
+#[derive(Clone, Copy, Default)]
+pub struct Measure {
+    pub width: u32,
+    pub height: u32,
+    pub baseline: i64,
+    pub unfitted: u64,
+    pub has_ink: u64,
+    pub ink: PixelBox,
+}
+
+#[repr(C)]
+#[derive(Clone, Copy, Default)]
+pub struct Character {
+    pub glyph: u32,
+    pub advance: u32,
+    pub pen: i64,
+    pub has_ink: u64,
+    pub ink: PixelBox,
+}
+
+/// A character of a text in the font.
+#[repr(C)]
+#[derive(Clone, Copy, Debug, Default, PartialEq, Eq)]
+pub struct Glyph {
+    /// The character's.
+    pub code_point: u32,
+    /// 0 where the font has none for the character.
+    pub glyph: u32,
+    /// In font units.
+    pub advance: u32,
+    /// The character's variation selector, 0 without one.
+    pub selector: u32,
+}
+
+#[repr(C)]
+#[derive(Clone, Copy, Default)]
+pub struct Line {
+    pub picture: Shape,
+    pub at: u64,
+}
+
+extern "C" {
+    pub fn tt_faces(font: *const u8, font_bytes: usize, answer: *mut Answer) -> u32;
+    pub fn tt_open_face(
+        font: *const u8,
+        font_bytes: usize,
+        face: u32,
+        told: *mut Figures,
+        answer: *mut Answer,
+    ) -> u32;
+    pub fn tt_map_face(
+        font: *const u8,
+        font_bytes: usize,
+        face: u32,
+        text: *const u8,
+        text_bytes: usize,
+        glyphs: *mut Glyph,
+        room: usize,
+        answer: *mut Answer,
+    ) -> u32;
+    pub fn tt_measure(
+        font: *const u8,
+        font_bytes: usize,
+        text: *const u8,
+        text_bytes: usize,
+        job: *const Job,
+        told: *mut Measure,
+        answer: *mut Answer,
+    ) -> u32;
+    pub fn tt_characters(
+        font: *const u8,
+        font_bytes: usize,
+        text: *const u8,
+        text_bytes: usize,
+        job: *const Job,
+        characters: *mut Character,
+        room: usize,
+        answer: *mut Answer,
+    ) -> u32;
+    pub fn tt_draw(
+        font: *const u8,
+        font_bytes: usize,
+        text: *const u8,
+        text_bytes: usize,
+        job: *const Job,
+        rows: *mut u8,
+        room: usize,
+        told: *mut Shape,
+        answer: *mut Answer,
+    ) -> u32;
+    pub fn tt_draw_lines(
+        font: *const u8,
+        font_bytes: usize,
+        texts: *const u8,
+        text_bytes: usize,
+        ends: *const u64,
+        ends_count: usize,
+        job: *const Job,
+        keep: usize,
+        rows: *mut u8,
+        room: usize,
+        lines: *mut Line,
+        lines_room: usize,
+        answer: *mut Answer,
+    ) -> u32;
+    pub fn tt_message(told: *const Answer, text: *mut u8, room: usize, answer: *mut Answer) -> u32;
+}

@@ -1,0 +1,225 @@
+//! The calls of the library, as functions over slices.
+use crate::c::{self, Answer, Figures, Glyph, Line, Shape};
+use crate::error::{done, Error, ROOM};
+use crate::picture::{Character, Job, Measure, Picture};
+
+/// The room of a first call that draws a text.
+const FIRST_ROOM: usize = 1 << 16;
+/// The room of a first call that draws several texts, and the glyphs that are cached between them, in bytes.
+const LINES_ROOM: usize = 1 << 20;
+
+/// Counts the faces of a font file.
+pub fn faces(bytes: &[u8]) -> Result<u64, Error> {
+    let mut answer = Answer::default();
+    // SAFETY: the slice is as long as it says; the answer is another place.
+    unsafe { c::tt_faces(bytes.as_ptr(), bytes.len(), &mut answer) };
+    Ok(done(answer)?.count)
+}
+
+/// A face of a font file.
+#[derive(Clone, Copy, Debug)]
+pub struct Font<'a> {
+    bytes: &'a [u8],
+    face: u32,
+    figures: Figures,
+}
+
+// SAFETY, of each call below: each slice is as long as it says, and what is written is borrowed mutably, so it overlaps
+// with nothing. A call needs 64 KiB of stack, which each thread has unless its Builder says less.
+impl<'a> Font<'a> {
+    /// A font file, of a collection the first face.
+    pub fn new(bytes: &'a [u8]) -> Result<Font<'a>, Error> {
+        Font::of_face(bytes, 0)
+    }
+
+    /// A face of a collection.
+    pub fn of_face(bytes: &'a [u8], face: u32) -> Result<Font<'a>, Error> {
+        Font::opened(bytes, face.saturating_add(1))
+    }
+
+    /// A font file that is no collection, read strictly.
+    pub fn strict(bytes: &'a [u8]) -> Result<Font<'a>, Error> {
+        Font::opened(bytes, 0)
+    }
+
+    fn opened(bytes: &'a [u8], face: u32) -> Result<Font<'a>, Error> {
+        let (mut figures, mut answer) = (Figures::default(), Answer::default());
+        unsafe { c::tt_open_face(bytes.as_ptr(), bytes.len(), face, &mut figures, &mut answer) };
+        done(answer)?;
+        Ok(Font {
+            bytes,
+            face,
+            figures,
+        })
+    }
+
+    /// The figures of the font.
+    pub fn figures(&self) -> Figures {
+        self.figures
+    }
+
+    /// Draws a label: `draw` with `Job::of_size`.
+    pub fn label(&self, text: &str, size: u32) -> Result<Picture, Error> {
+        self.draw(text, &Job::of_size(size))
+    }
+
+    /// Draws a line of text.
+    pub fn draw(&self, text: &str, job: &Job) -> Result<Picture, Error> {
+        let mut rows = vec![0; FIRST_ROOM];
+        loop {
+            match self.draw_into(text, job, &mut rows) {
+                Ok((shape, bytes)) => {
+                    rows.truncate(bytes);
+                    return Ok(Picture { shape, rows });
+                }
+                Err(error) => match error.wanted() {
+                    Some(wanted) => rows = vec![0; wanted as usize],
+                    None => return Err(error),
+                },
+            }
+        }
+    }
+
+    /// Draws a line of text into a room, and returns how many of its bytes the rows have. Where the room is too small,
+    /// the error has the bytes that are wanted.
+    pub fn draw_into(
+        &self,
+        text: &str,
+        job: &Job,
+        rows: &mut [u8],
+    ) -> Result<(Shape, usize), Error> {
+        let (mut shape, mut answer) = (Shape::default(), Answer::default());
+        unsafe {
+            c::tt_draw(
+                self.bytes.as_ptr(),
+                self.bytes.len(),
+                text.as_ptr(),
+                text.len(),
+                &job.of_face(self.face),
+                rows.as_mut_ptr(),
+                rows.len(),
+                &mut shape,
+                &mut answer,
+            )
+        };
+        Ok((shape, done(answer)?.bytes as usize))
+    }
+
+    /// Draws lines of text, for each what `draw` draws, but with the font's programs run once for many of them. Without
+    /// `grow` glyphs are cached between lines, which then are up to twenty times as fast. The function `each` takes the
+    /// pictures in order. A line that is refused ends the drawing.
+    pub fn labels(
+        &self,
+        texts: &[&str],
+        job: &Job,
+        mut each: impl FnMut(Picture),
+    ) -> Result<(), Error> {
+        let (mut rows, mut drawn) = (vec![0; LINES_ROOM], 0);
+        while drawn < texts.len() {
+            let (answer, lines) = self.draw_lines(&texts[drawn..], job, &mut rows);
+            for line in &lines[..answer.count as usize] {
+                let at = line.at as usize;
+                let end = at + (line.picture.row_bytes * u64::from(line.picture.height)) as usize;
+                each(Picture {
+                    shape: line.picture,
+                    rows: rows[at..end].to_vec(),
+                });
+            }
+            drawn += answer.count as usize;
+            if answer.status == ROOM {
+                rows.resize(rows.len().max(answer.bytes as usize), 0);
+            } else if done(answer).is_err() {
+                return Err(Error::of_line(answer, drawn));
+            }
+        }
+        Ok(())
+    }
+
+    /// Draws as many of the first lines as a room holds, and of a call.
+    fn draw_lines(&self, texts: &[&str], job: &Job, rows: &mut [u8]) -> (Answer, Vec<Line>) {
+        let texts = &texts[..texts.len().min(4096)];
+        let text = texts.concat();
+        let ends: Vec<u64> = texts
+            .iter()
+            .scan(0, |end, it| {
+                *end += it.len() as u64;
+                Some(*end)
+            })
+            .collect();
+        let (mut lines, mut answer) = (vec![Line::default(); texts.len()], Answer::default());
+        unsafe {
+            c::tt_draw_lines(
+                self.bytes.as_ptr(),
+                self.bytes.len(),
+                text.as_ptr(),
+                text.len(),
+                ends.as_ptr(),
+                ends.len(),
+                &job.of_face(self.face),
+                LINES_ROOM,
+                rows.as_mut_ptr(),
+                rows.len(),
+                lines.as_mut_ptr(),
+                lines.len(),
+                &mut answer,
+            )
+        };
+        (answer, lines)
+    }
+
+    /// Measures a line of text.
+    pub fn measure(&self, text: &str, job: &Job) -> Result<Measure, Error> {
+        let (mut told, mut answer) = (c::Measure::default(), Answer::default());
+        unsafe {
+            c::tt_measure(
+                self.bytes.as_ptr(),
+                self.bytes.len(),
+                text.as_ptr(),
+                text.len(),
+                &job.of_face(self.face),
+                &mut told,
+                &mut answer,
+            )
+        };
+        done(answer)?;
+        Ok(told.into())
+    }
+
+    /// Returns the place of each character of a text in its picture.
+    pub fn characters(&self, text: &str, job: &Job) -> Result<Vec<Character>, Error> {
+        let (mut told, mut answer) = (vec![c::Character::default(); text.len()], Answer::default());
+        unsafe {
+            c::tt_characters(
+                self.bytes.as_ptr(),
+                self.bytes.len(),
+                text.as_ptr(),
+                text.len(),
+                &job.of_face(self.face),
+                told.as_mut_ptr(),
+                told.len(),
+                &mut answer,
+            )
+        };
+        told.truncate(done(answer)?.count as usize);
+        Ok(told.into_iter().map(Character::from).collect())
+    }
+
+    /// Returns the glyph and the advance of each character of a text.
+    pub fn map(&self, text: &str) -> Result<Vec<Glyph>, Error> {
+        let (mut told, mut answer) = (vec![Glyph::default(); text.len()], Answer::default());
+        unsafe {
+            c::tt_map_face(
+                self.bytes.as_ptr(),
+                self.bytes.len(),
+                self.face,
+                text.as_ptr(),
+                text.len(),
+                told.as_mut_ptr(),
+                told.len(),
+                &mut answer,
+            )
+        };
+        told.truncate(done(answer)?.count as usize);
+        Ok(told)
+    }
+}

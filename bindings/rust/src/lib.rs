@@ -1,0 +1,22 @@
+//! Text from TrueType fonts as black and white pictures, by the C library tt_render.
+//!
+//! ```no_run
+//! let bytes = std::fs::read("DejaVuSans.ttf").unwrap();
+//! let font = tt_render::Font::new(&bytes)?;
+//! let picture = font.label("Shelf 12", 16)?;
+//! std::fs::write("label.pbm", picture.pbm()).unwrap();
+//! # Ok::<(), tt_render::Error>(())
+//! ```
+//!
+//! The library has no state: a `Font` is the caller's bytes and a number. tt_render.h describes each call.
+#![warn(missing_docs)]
+
+mod c;
+mod error;
+mod font;
+mod picture;
+
+pub use c::{Figures, Glyph, PixelBox, Shape};
+pub use error::Error;
+pub use font::{faces, Font};
+pub use picture::{Character, Fit, Job, Measure, Picture};

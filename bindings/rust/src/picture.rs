@@ -1,0 +1,152 @@
+//! What a text is drawn with, and what a call gives back.
+use crate::c;
+
+/// The ways to fit outlines to the pixels.
+#[derive(Clone, Copy, Debug, Default, PartialEq, Eq)]
+pub enum Fit {
+    /// By the font's programs; if a glyph's program is refused, so is the text.
+    Full = 0,
+    /// Not fitted.
+    None = 1,
+    /// As `Full`, but a glyph with a refused program is drawn unfitted.
+    Fallback = 2,
+    /// As `Fallback`, with the whole instruction set, bounded work and filled dropouts.
+    #[default]
+    Best = 3,
+}
+
+/// A request to draw a text.
+#[derive(Clone, Copy, Debug, PartialEq, Eq)]
+pub struct Job {
+    /// Pixels per em, 1 to 300.
+    pub size: u32,
+    /// Pixels round the line, 0 to 64.
+    pub margin: u32,
+    /// The way to fit.
+    pub fit: Fit,
+    /// Whether the picture is enlarged where it would cut ink.
+    pub grow: bool,
+}
+
+impl Job {
+    /// A request for a label: fitted with `Fit::Best`, and grown.
+    pub fn of_size(size: u32) -> Job {
+        Job {
+            size,
+            margin: 0,
+            fit: Fit::Best,
+            grow: true,
+        }
+    }
+
+    pub(crate) fn of_face(&self, face: u32) -> c::Job {
+        let Job {
+            size,
+            margin,
+            fit,
+            grow,
+        } = *self;
+        c::Job {
+            size,
+            margin,
+            fit: fit as u32,
+            grow: grow.into(),
+            face,
+        }
+    }
+}
+
+/// A picture.
+#[derive(Clone, Debug, PartialEq, Eq)]
+pub struct Picture {
+    /// Its size and base line.
+    pub shape: c::Shape,
+    /// Its rows, the highest first, of `row_bytes` each. The leftmost pixel is the highest bit of the first byte; 1 is
+    /// black.
+    pub rows: Vec<u8>,
+}
+
+impl Picture {
+    /// Says whether a pixel is black; none is outside the picture.
+    pub fn is_black(&self, column: u32, row: u32) -> bool {
+        let byte = u64::from(row) * self.shape.row_bytes + u64::from(column / 8);
+        column < self.shape.width
+            && self
+                .rows
+                .get(byte as usize)
+                .map_or(false, |it| it >> (7 - column % 8) & 1 == 1)
+    }
+
+    /// Returns the picture as a file in the format PBM (P4).
+    pub fn pbm(&self) -> Vec<u8> {
+        let mut file = format!("P4\n{} {}\n", self.shape.width, self.shape.height).into_bytes();
+        file.extend_from_slice(&self.rows);
+        file
+    }
+}
+
+/// The size of a text's picture, and the box of all ink, which may reach past the picture's edges.
+#[derive(Clone, Copy, Debug, PartialEq, Eq)]
+pub struct Measure {
+    /// Pixels in a row.
+    pub width: u32,
+    /// Rows.
+    pub height: u32,
+    /// Rows above the base line.
+    pub baseline: i64,
+    /// The distinct glyphs drawn unfitted although the job requests fitting.
+    pub unfitted: u64,
+    /// The box of all ink, where anything is black.
+    pub ink: Option<c::PixelBox>,
+}
+
+impl From<c::Measure> for Measure {
+    fn from(it: c::Measure) -> Measure {
+        let c::Measure {
+            width,
+            height,
+            baseline,
+            unfitted,
+            has_ink,
+            ink,
+        } = it;
+        Measure {
+            width,
+            height,
+            baseline,
+            unfitted,
+            ink: (has_ink != 0).then_some(ink),
+        }
+    }
+}
+
+/// A character of a text, in its picture's columns and rows.
+#[derive(Clone, Copy, Debug, PartialEq, Eq)]
+pub struct Character {
+    /// 0 where the font has none for the character.
+    pub glyph: u32,
+    /// Columns to the next character's origin.
+    pub advance: u32,
+    /// The column of the origin.
+    pub pen: i64,
+    /// The box of its ink, where anything is black.
+    pub ink: Option<c::PixelBox>,
+}
+
+impl From<c::Character> for Character {
+    fn from(it: c::Character) -> Character {
+        let c::Character {
+            glyph,
+            advance,
+            pen,
+            has_ink,
+            ink,
+        } = it;
+        Character {
+            glyph,
+            advance,
+            pen,
+            ink: (has_ink != 0).then_some(ink),
+        }
+    }
+}

@@ -1,0 +1,298 @@
+//! Tries the crate beside the program tt_render, which TT_RENDER names. TT_FONT names the font, DejaVu Sans.
+//! TT_LACKS=faces says that the library was made before the calls of faces, which then are not tried.
+use std::env;
+use std::io::Write;
+use std::process::{Command, Stdio};
+use tt_render::{faces, Error, Fit, Font, Job};
+
+fn font_path() -> String {
+    env::var("TT_FONT").expect("TT_FONT names a font")
+}
+
+fn font_bytes() -> Vec<u8> {
+    std::fs::read(font_path()).expect("the font is there")
+}
+
+fn lacks_faces() -> bool {
+    env::var("TT_LACKS").as_deref() == Ok("faces")
+}
+
+/// What the program prints.
+fn printed(words: &[&str], stdin: &str) -> Vec<u8> {
+    let program = env::var("TT_RENDER").expect("TT_RENDER names the program");
+    let mut ran = Command::new(program)
+        .args(words)
+        .stdin(Stdio::piped())
+        .stdout(Stdio::piped())
+        .spawn()
+        .unwrap();
+    ran.stdin
+        .take()
+        .unwrap()
+        .write_all(stdin.as_bytes())
+        .unwrap();
+    ran.wait_with_output().unwrap().stdout
+}
+
+/// A collection of two faces, which both are the font.
+fn collection(font: &[u8]) -> Vec<u8> {
+    let mut made = b"ttcf\0\x01\0\0\0\0\0\x02\0\0\0\x14\0\0\0\x14".to_vec();
+    made.extend_from_slice(font);
+    for table in 0..usize::from(u16::from_be_bytes([font[4], font[5]])) {
+        let at = 20 + 12 + 16 * table + 8;
+        let place: [u8; 4] = made[at..at + 4].try_into().unwrap();
+        made[at..at + 4].copy_from_slice(&(u32::from_be_bytes(place) + 20).to_be_bytes());
+    }
+    made
+}
+
+#[test]
+fn labels_are_those_of_the_program() {
+    let (path, bytes) = (font_path(), font_bytes());
+    let font = Font::new(&bytes).unwrap();
+    for text in ["Shelf 12", "Ǻjf", "j"] {
+        for size in ["9", "16", "300"] {
+            let wanted = printed(
+                &[
+                    "draw", "--size", size, "--fit", "best", "--grow", &path, text,
+                ],
+                "",
+            );
+            assert_eq!(
+                font.label(text, size.parse().unwrap()).unwrap().pbm(),
+                wanted
+            );
+        }
+    }
+}
+
+#[test]
+fn options_are_those_of_the_program() {
+    let (path, bytes) = (font_path(), font_bytes());
+    let font = Font::new(&bytes).unwrap();
+    for (fit, name) in [
+        (Fit::Full, "full"),
+        (Fit::None, "none"),
+        (Fit::Fallback, "fallback"),
+        (Fit::Best, "best"),
+    ] {
+        let job = Job {
+            size: 20,
+            margin: 3,
+            fit,
+            grow: false,
+        };
+        let wanted = printed(
+            &[
+                "draw", "--size", "20", "--margin", "3", "--fit", name, &path, "Hello",
+            ],
+            "",
+        );
+        assert_eq!(font.draw("Hello", &job).unwrap().pbm(), wanted);
+    }
+}
+
+#[test]
+fn lines_are_those_of_the_program() {
+    let (path, bytes) = (font_path(), font_bytes());
+    let font = Font::new(&bytes).unwrap();
+    for (size, count) in [(16, 4100), (300, 20)] {
+        let texts: Vec<String> = (0..count).map(|it| format!("Shelf {it}")).collect();
+        let texts: Vec<&str> = texts.iter().map(String::as_str).collect();
+        let mut got = Vec::new();
+        font.labels(&texts, &Job::of_size(size), |it| got.extend(it.pbm()))
+            .unwrap();
+        let words = [
+            "draw",
+            "--size",
+            &size.to_string(),
+            "--fit",
+            "best",
+            "--grow",
+            "--lines",
+            &path,
+        ];
+        assert!(
+            got == printed(&words, &(texts.join("\n") + "\n")),
+            "lines at {size}"
+        );
+    }
+}
+
+#[test]
+fn a_refused_line_is_named() {
+    let bytes = font_bytes();
+    let font = Font::new(&bytes).unwrap();
+    let mut drawn = 0;
+    let refused = font
+        .labels(&["A", "B", "", "C"], &Job::of_size(16), |_| drawn += 1)
+        .unwrap_err();
+    assert_eq!((drawn, refused.line(), refused.number()), (2, Some(2), 62));
+}
+
+#[test]
+fn a_measure_is_that_of_the_picture() {
+    let bytes = font_bytes();
+    let font = Font::new(&bytes).unwrap();
+    let (picture, got) = (
+        font.label("jolly", 24).unwrap(),
+        font.measure("jolly", &Job::of_size(24)).unwrap(),
+    );
+    assert_eq!((got.width, got.height, got.baseline), {
+        let it = picture.shape;
+        (it.width, it.height, it.baseline)
+    });
+    let (mut left, mut top, mut right, mut bottom) = (i64::MAX, i64::MAX, -1, -1);
+    for row in 0..got.height {
+        for column in (0..got.width).filter(|it| picture.is_black(*it, row)) {
+            (left, right) = (left.min(column.into()), right.max(column.into()));
+            (top, bottom) = (top.min(row.into()), bottom.max(row.into()));
+        }
+    }
+    assert_eq!(
+        got.ink,
+        Some(tt_render::PixelBox {
+            left,
+            top,
+            right,
+            bottom
+        })
+    );
+    assert_eq!(font.measure(" ", &Job::of_size(24)).unwrap().ink, None);
+    assert!(!picture.is_black(got.width, 0) && !picture.is_black(0, got.height));
+}
+
+#[test]
+fn characters_follow_each_other() {
+    let bytes = font_bytes();
+    let font = Font::new(&bytes).unwrap();
+    let job = Job {
+        grow: false,
+        ..Job::of_size(24)
+    };
+    let (got, mut pen) = (font.characters("Hé j", &job).unwrap(), 0);
+    assert_eq!(got.len(), 4);
+    for it in &got {
+        assert_eq!(it.pen, pen);
+        pen += i64::from(it.advance);
+    }
+    assert_eq!(i64::from(font.measure("Hé j", &job).unwrap().width), pen);
+    assert_eq!(got[2].ink, None);
+}
+
+#[test]
+fn a_room_that_is_too_small_is_refused() {
+    let bytes = font_bytes();
+    let font = Font::new(&bytes).unwrap();
+    let picture = font.label("A", 16).unwrap();
+    let mut room = vec![7; picture.rows.len() + 1];
+    let end = room.len() - 2;
+    let refused = font
+        .draw_into("A", &Job::of_size(16), &mut room[..end])
+        .unwrap_err();
+    assert_eq!(
+        (refused.status(), refused.wanted()),
+        (7, Some(picture.rows.len() as u64))
+    );
+    assert!(room.iter().all(|it| *it == 7));
+    let (shape, filled) = font.draw_into("A", &Job::of_size(16), &mut room).unwrap();
+    assert_eq!(
+        (shape, &room[..filled], room[filled]),
+        (picture.shape, &picture.rows[..], 7)
+    );
+}
+
+#[test]
+fn glyphs_are_those_of_the_program() {
+    if lacks_faces() {
+        return;
+    }
+    let bytes = font_bytes();
+    let got = Font::new(&bytes).unwrap().map("Aé\u{10ffff}").unwrap();
+    let said: String = got
+        .iter()
+        .map(|it| format!("U+{:04X} {} {}\n", it.code_point, it.glyph, it.advance))
+        .collect();
+    assert_eq!(
+        said.into_bytes(),
+        printed(&["map", &font_path(), "Aé\u{10ffff}"], "")
+    );
+}
+
+#[test]
+fn faces_are_counted_and_drawn() {
+    if lacks_faces() {
+        return;
+    }
+    let bytes = font_bytes();
+    let two = collection(&bytes);
+    assert_eq!((faces(&bytes), faces(&two)), (Ok(1), Ok(2)));
+    let got = Font::of_face(&two, 1).unwrap().label("Hi", 16);
+    assert_eq!(got, Font::new(&bytes).unwrap().label("Hi", 16));
+    for face in [2, u32::MAX - 1, u32::MAX] {
+        assert_eq!(
+            Font::of_face(&two, face)
+                .map(|_| ())
+                .map_err(|it| it.number()),
+            Err(25)
+        );
+    }
+    assert_eq!(
+        Font::strict(&two).map(|_| ()).map_err(|it| it.number()),
+        Err(1)
+    );
+}
+
+#[test]
+fn a_defect_has_its_place() {
+    let bytes = font_bytes();
+    let font = Font::new(&bytes).unwrap();
+    assert_eq!(
+        (
+            font.figures().units_per_em,
+            font.figures().ascent,
+            font.figures().descent
+        ),
+        (2048, 1901, -483)
+    );
+    let refused = font
+        .draw(
+            "2",
+            &Job {
+                fit: Fit::Full,
+                ..Job::of_size(16)
+            },
+        )
+        .unwrap_err();
+    assert_eq!(
+        (refused.status(), refused.number(), refused.table()),
+        (1, 35, Some(*b"glyf"))
+    );
+    assert_eq!(
+        refused.to_string(),
+        format!("glyf+{}: 35 OffProfile", refused.offset())
+    );
+    let of_nothing: Error = Font::new(b"OTTO").unwrap_err();
+    assert_eq!(
+        (of_nothing.status(), of_nothing.table()),
+        (1, Some(*b"file"))
+    );
+}
+
+#[test]
+fn a_request_has_no_table() {
+    let bytes = font_bytes();
+    let font = Font::new(&bytes).unwrap();
+    for size in [0, 301, u32::MAX] {
+        let refused = font.label("A", size).unwrap_err();
+        assert_eq!(
+            (
+                refused.status(),
+                refused.number(),
+                refused.table(),
+                refused.line()
+            ),
+            (2, 60, None, None)
+        );
+    }
+}

@@ -1,0 +1,96 @@
+"""Compares what the bindings declare with include/tt_render.h: the structs of both, the calls of Rust, the versions.
+
+    declarations.py ROOT
+
+Prints a line for each difference, after the name of the binding."""
+import pathlib
+import re
+import sys
+
+ROOT = pathlib.Path(sys.argv[1])
+HEADER = re.sub(r"/\*.*?\*/", "", (ROOT / "include/tt_render.h").read_text(encoding="utf-8"), flags=re.S)
+PYTHON = (ROOT / "bindings/python/tt_render/__init__.py").read_text(encoding="utf-8")
+RUST = re.sub(r"///.*", "", (ROOT / "bindings/rust/src/c.rs").read_text(encoding="utf-8"))
+
+# The types of C by those of Python and of Rust, and the structs of Rust whose names are others.
+OF_PYTHON = {"c_uint32": "uint32_t", "c_int32": "int32_t", "c_uint64": "uint64_t", "c_int64": "int64_t",
+             "c_char * 4": "uint8_t[4]", "_Box": "tt_box", "_Picture": "tt_picture"}
+OF_RUST = {"u8": "uint8_t", "u32": "uint32_t", "i32": "int32_t", "u64": "uint64_t", "i64": "int64_t",
+           "usize": "size_t", "[u8; 4]": "uint8_t[4]"}
+NAMES = {"Figures": "tt_font", "Shape": "tt_picture", "PixelBox": "tt_box"}
+
+
+def of_rust(kind):
+    """Returns the type of C for one of Rust."""
+    pointer, _, name = kind.rpartition(" ") if kind[0] == "*" else ("", "", kind)
+    name = OF_RUST.get(name) or NAMES.get(name, f"tt_{name.lower()}")
+    return {"*const": f"const {name} *", "*mut": f"{name} *"}.get(pointer, name)
+
+
+def structs_of_header():
+    """Returns the fields of each struct, with their types."""
+    found = {}
+    for name, body in re.findall(r"^struct (tt_\w+) \{\n(.*?)^\};", HEADER, re.M | re.S):
+        fields = re.findall(r"^\s*(?:struct )?(\w+) (\w+)(\[\d+\])?;", body, re.M)
+        found[name] = [(field, kind + size) for kind, field, size in fields]
+    return found
+
+
+def calls_of_header():
+    """Returns the parameters of each call, with their types, and its result."""
+    found = {}
+    for result, name, words in re.findall(r"^(\w+) (tt_\w+)\((.*?)\);", HEADER, re.M | re.S):
+        words = [re.fullmatch(r"(.*?)(\w+)", " ".join(it.split())) for it in words.replace("struct ", "").split(",")]
+        found[name] = [*((it[2], it[1].strip()) for it in words), ("", result)]
+    return found
+
+
+def structs_of_python():
+    found = {}
+    for name, words in re.findall(r'_struct\("(tt_\w+)",(.*?)\)\n', PYTHON, re.S):
+        words = [it.split("=") for it in " ".join(words.split()).split(", ")]
+        found[name] = [(field, OF_PYTHON[kind]) for field, kind in words]
+    return found
+
+
+def structs_of_rust():
+    found = {}
+    for name, body in re.findall(r"pub struct (\w+) \{\n(.*?)^\}", RUST, re.M | re.S):
+        fields = [(field, of_rust(kind)) for field, kind in re.findall(r"pub (\w+): (.*),", body)]
+        found[NAMES.get(name, f"tt_{name.lower()}")] = fields
+    return found
+
+
+def calls_of_rust():
+    found = {}
+    for name, words, result in re.findall(r"pub fn (tt_\w+)\((.*?)\) -> (\w+);", RUST, re.S):
+        words = [(field, of_rust(kind)) for field, kind in re.findall(r"(\w+): ([^,]+)", words)]
+        found[name] = [*words, ("", of_rust(result))]
+    return found
+
+
+def differences(binding, wanted, got):
+    """Returns what a binding declares otherwise than the header, and that it declares nothing."""
+    found = [] if got else [f"{binding}: nothing is declared"]
+    other = [it for it in got if got[it] != wanted.get(it)]
+    return found + [f"{binding}: {it} has {got[it]}, and not {wanted.get(it)}" for it in other]
+
+
+def versions():
+    """Returns the versions that are not that of the header."""
+    text = re.search(r'#define TT_RENDER_VERSION_TEXT "(.*)"', HEADER)[1]
+    first, second, third = map(int, text.split("."))
+    number = re.search(r"#define TT_RENDER_VERSION (\d+)", HEADER)[1]
+    places = {"bindings/python/pyproject.toml": r'^version = "(.*)"', "bindings/rust/Cargo.toml": r'^version = "(.*)"',
+              "bindings/rust/Cargo.lock": r'^name = "tt_render"\nversion = "(.*)"', "tt_render.1": r'"tt_render (.*?)"'}
+    found = {it: re.search(pattern, (ROOT / it).read_text(encoding="utf-8"), re.M)[1] for it, pattern in places.items()}
+    wrong = [f"versions: {it} has {got}, and not {text}" for it, got in found.items() if got != text]
+    if int(number) != 10000 * first + 100 * second + third:
+        wrong.append(f"versions: TT_RENDER_VERSION is {number}")
+    return wrong
+
+
+structs = structs_of_header()
+faults = differences("python", structs, structs_of_python()) + differences("rust", structs, structs_of_rust())
+faults += differences("rust", calls_of_header(), calls_of_rust()) + versions()
+print("\n".join(faults), end="\n" if faults else "")
