@@ -2,17 +2,19 @@ use Rattle.std.proofs.Common.{◌≡◌, ◌∙◌, ap, refl, sym, ℕ, List, Ok
 use Rattle.tt_render.specs.declared.refusal.Refusal.{Refusal}
 use Rattle.tt_render.specs.declared.refusal.Refusal.TheVariants as reason
 use Rattle.tt_render.specs.Labels.{HintsBy, LabelReadies, hint_for, label_answer, label_view}
+use Rattle.tt_label.specs.Label.{label_glyphs}
+use Rattle.tt_render.specs.LinesDefects.{IsTextDefect}
 use Rattle.tt_render_run.specs.Outcome.{traffic_of}
 use Rattle.tt_render.specs.Printing.{errors_of}
 use Rattle.tt_render_run.specs.Reading.{font_reader_of}
 use Rattle.tt_render.specs.Settings.{job_by, strike_of}
-use Rattle.tt_render.specs.TextsOutcome.{StopsAtFont}
+use Rattle.tt_render.specs.TextsOutcome.{StopsAtFont, TextTellsDefects}
 use Rattle.tt_render.specs.Views.{before_lines}
 use Rattle.tt_strike.specs.Job.{Job, tested}
 use Rattle.tt_render_run.proofs.Calls.{known_of}
 use Rattle.tt_render.proofs.FontLines.{reading_stops}
 use Rattle.tt_render.proofs.LabelCalls.{if_some_all, reading_hints}
-use Rattle.tt_render.proofs.OneText.{silent, text_cut, text_fails, text_written}
+use Rattle.tt_render.proofs.OneText.{job_tells, reading_tells, silent, text_cut, text_fails, text_written}
 use Rattle.tt_render.proofs.Printed.{keeps_itself}
 use Rattle.tt_render.proofs.label_drawing.draw_label.Goals as goal
 
@@ -128,3 +130,42 @@ returns-in-Ok-write_all_of-clause-hint g c =
 pub returns-clause-hint : goal.returns-clause-hint
 returns-clause-hint g c =
     rw c.unhinted.ensures (if_some_all (g.R.Source.left c.args.font.now) _ (λ file. refl))
+
+pub returns-in-Err-clause-defects : goal.returns-in-Err-clause-defects
+returns-in-Err-clause-defects g c =
+    rw c.unhinted.ensures (job_tells (g.R.Source.left c.args.font.now)
+    (IsTextDefect label_glyphs c.args.asked.now.setting c.args.text.now) c.in-Err.fault)
+
+pub returns-in-Err-read_font-clause-defects : goal.returns-in-Err-read_font-clause-defects
+returns-in-Err-read_font-clause-defects g c =
+    let left = g.R.Source.left in
+    let font = c.read_font.new.font in
+    rw (c.unhinted-in-Err-read_font.ensures, c.refusal_of_run.ensures)
+    (reading_tells c.in-Err-read_font.fault (left c.args.font.now) (left font) (g.R.Source.has_failed font)
+    (IsTextDefect label_glyphs c.args.asked.now.setting c.args.text.now) c.in-Err-read_font.ensures)
+
+pub returns-in-Err-draw-clause-defects : goal.returns-in-Err-draw-clause-defects
+returns-in-Err-draw-clause-defects g c =
+    let left = g.R.Source.left in
+    let file = c.in-Ok in
+    let P : List ℕ → Type 0 = λ bytes. TextTellsDefects {V = Unit {0}}
+    (IsTextDefect label_glyphs c.args.asked.now.setting c.args.text.now bytes) (Err c.in-Err-draw.fault) in
+    let tells = subst P c.deref.ensures.value c.in-Err-draw.ensures.defects in
+    rw c.hinted.ensures
+    (known_of (left c.args.font.now) (left c.read_font.new.font) file.file.items P file.ensures.0 file.ensures.1 tells)
+
+pub returns-in-Ok-write_all_of-clause-defects : goal.returns-in-Ok-write_all_of-clause-defects
+returns-in-Ok-write_all_of-clause-defects g c =
+    let left = g.R.Source.left in
+    let file = c.in-Ok in
+    let tells = rw c.deref.ensures.value at c.in-Ok-draw.ensures.defects in
+    rw c.done.ensures
+    (known_of (left c.args.font.now) (left c.read_font.new.font) file.file.items _ file.ensures.0 file.ensures.1 tells)
+
+pub returns-clause-defects : goal.returns-clause-defects
+returns-clause-defects g c =
+    let left = g.R.Source.left in
+    let file = c.in-Ok in
+    let tells = rw c.deref.ensures.value at c.in-Ok-draw.ensures.defects in
+    rw c.unhinted.ensures
+    (known_of (left c.args.font.now) (left c.read_font.new.font) file.file.items _ file.ensures.0 file.ensures.1 tells)
