@@ -53,19 +53,19 @@ strike_stops answer opened a (draw.Job j) good refused =
 strike_stops answer opened a draw.Memory good refused = tt
 
 -- a refusal of the text stops the call
-pub text_stops : {V : Type 0} (answer : Strike → Result TextAnswer TextRefusal) (opened : Result Strike Refused) (s : Strike)
+pub text_stops : (V : Type 0) (answer : Strike → Result TextAnswer TextRefusal) (opened : Result Strike Refused) (s : Strike)
     (why : Refusal) → opened ≡ Ok s → IfSome (told why) (λ e. answer s ≡ Err e)
     → IsOfText {V = V} (Err why) → ReadiesText answer opened (Err (before_lines why))
-text_stops answer opened s (reason.Font f) is refused serves = inr (s, _, is, refl, refused)
-text_stops answer opened s (reason.Job j) is refused serves = inr (s, _, is, refl, refused)
-text_stops answer opened s reason.NotUtf8 is refused serves = inr (s, _, is, refl, refused)
-text_stops answer opened s (reason.Missing c) is refused serves = inr (s, _, is, refl, refused)
-text_stops answer opened s reason.FontRead is refused serves = absurd serves
-text_stops answer opened s reason.FontLarge is refused serves = absurd serves
-text_stops answer opened s reason.Read is refused serves = absurd serves
-text_stops answer opened s (reason.Write sent) is refused serves = absurd serves
-text_stops answer opened s reason.Many is refused serves = absurd serves
-text_stops answer opened s reason.Memory is refused serves = tt
+text_stops V answer opened s (reason.Font f) is refused serves = inr (s, _, is, refl, refused)
+text_stops V answer opened s (reason.Job j) is refused serves = inr (s, _, is, refl, refused)
+text_stops V answer opened s reason.NotUtf8 is refused serves = inr (s, _, is, refl, refused)
+text_stops V answer opened s (reason.Missing c) is refused serves = inr (s, _, is, refl, refused)
+text_stops V answer opened s reason.FontRead is refused serves = absurd serves
+text_stops V answer opened s reason.FontLarge is refused serves = absurd serves
+text_stops V answer opened s reason.Read is refused serves = absurd serves
+text_stops V answer opened s (reason.Write sent) is refused serves = absurd serves
+text_stops V answer opened s reason.Many is refused serves = absurd serves
+text_stops V answer opened s reason.Memory is refused serves = tt
 
 -- a text that is refused by its font's tables, or by its own answer
 at_font : (a : Setting) (answer : Strike → Result TextAnswer TextRefusal) (text file : List ℕ) (why : Refusal) (t : Traffic) (errors : Errors)
@@ -89,7 +89,7 @@ text_fails a answer text file e t errors good read why silent = by e.refusal e.l
     by : (r : Refusal) (line : Option ℕ) → IsNotReady answer (strike_of a file) r line
         → FontAnswers {V = Unit {0}} a answer text (Err (record { line = line; refusal = r })) t errors
     by (reason.Font f) None (inl font) = at_font a answer text file (reason.Font f) t errors good read font silent
-    by (reason.Font f) None (inr answer) = at_text a answer text file f t errors good read answer silent
+    by (reason.Font f) None (inr refused) = at_text a answer text file f t errors good read refused silent
     by (reason.Job j) None (inl (f, is, opened)) = absurd cc
     by (reason.Job j) None (inr (s, r, opened, tells, answers)) =
         inr (good, file, read, s, opened, (r, tells, answers, silent))

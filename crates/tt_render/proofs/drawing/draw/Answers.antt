@@ -40,7 +40,7 @@ returns-clause-outcome c =
     let s = strike_by a c.in_ok-face.face in
     let refused = rw (c.in_ok-strike.ensures.exact, ← most_aside a s 0 text) at c.in-Err.ensures.exact
     in
-    rw c.texts_fault.ensures (text_stops (λ t. text_answer a t text) (strike_of a c.args.file.now) s c.in-Err.fault.refusal
+    rw c.texts_fault.ensures (text_stops ReadyText (λ t. text_answer a t text) (strike_of a c.args.file.now) s c.in-Err.fault.refusal
     (font_opened a c.args.file.now c.in_ok-face.face c.requires.size c.in_ok-face.ensures.exact) refused
     c.in-Err.ensures.serves)
 

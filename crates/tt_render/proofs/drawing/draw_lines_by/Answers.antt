@@ -2,6 +2,7 @@ use Rattle.std.proofs.Common.{◌≡◌, ◌∙◌, ap, sym, ℕ, ◌+◌, IfSom
 use Rattle.std.proofs.lemmas.Result.{err_from_is_err_and}
 use Rattle.tt_line.specs.Layout.{text_glyphs}
 use Rattle.tt_strike.specs.Strikes.{Strike}
+use Rattle.tt_render.specs.declared.text_answers.ReadyText.{ReadyText}
 use Rattle.tt_render.specs.LineReading.{held, line_at, text_left}
 use Rattle.tt_render.specs.Lines.{line_drawn, lines_limit}
 use Rattle.tt_render.specs.LinesDefects.{IsDefectBy}
@@ -85,7 +86,7 @@ returns-in-Err-draw_line-clause-outcome g c =
     let e = errors_of g.E.Sink.written g.E.Sink.has_failed c.args.error.now c.loop-before.error in
     let same = drawn_alike a c.args.strike.now c.loop-before.strike so_far.strike in
     let is = rw c.line-line.ensures at c.in-Err-draw_line.ensures.exact in
-    let fails = stopped_in (line_drawn a c.args.strike.now) (line_drawn a c.loop-before.strike) c.in-Err-draw_line.fault.refusal
+    let fails = stopped_in ReadyText (line_drawn a c.args.strike.now) (line_drawn a c.loop-before.strike) c.in-Err-draw_line.fault.refusal
     (text_left c.loop-before.reader (left c.loop-before.lines))
     (text_left c.next_line.new.reader (left c.next_line.new.lines)) t e c.loop-before.before c.loop-before.used
     (line_at c.next_line.new.reader c.in-Ok-Some.place) same so_far.so_far found.0 found.2 is

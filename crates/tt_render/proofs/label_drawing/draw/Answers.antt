@@ -39,7 +39,7 @@ returns-clause-outcome c =
     let text = c.args.text.now in
     let s = strike_by l.setting c.in_ok-face.face in
     let refused = rw c.in_ok-sized.ensures.exact at c.in-Err.ensures.exact in
-    rw c.texts_fault.ensures (text_stops (λ t. label_answer l t text) (strike_of l.setting c.args.file.now) s
+    rw c.texts_fault.ensures (text_stops ReadyLabel (λ t. label_answer l t text) (strike_of l.setting c.args.file.now) s
     c.in-Err.fault.refusal
     (font_opened l.setting c.args.file.now c.in_ok-face.face c.requires.size c.in_ok-face.ensures.exact) refused
     c.in-Err.ensures.serves)

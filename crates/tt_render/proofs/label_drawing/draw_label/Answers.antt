@@ -78,7 +78,7 @@ returns-in-Ok-write_all_of-clause-outcome g c =
     let good = subst (λ (k : Job). tested k ≡ Ok tt) c.job.ensures.exact c.in_default.ensures.exact in
     let made = rw c.deref.ensures.value at ready.ensures.outcome in
     let printed = rw (c.requires.error, c.deref-in-Ok-write_all_of.ensures, ready.ensures.report) at c.print_text.ensures in
-    let sent = rw c.deref-in-Ok-draw.ensures.value at c.in-Ok-write_all_of.ensures.all in
+    let sent = rw c.deref-2.ensures.value at c.in-Ok-write_all_of.ensures.all in
     rw c.done.ensures
     (text_written l.setting (λ t. label_answer l t c.args.text.now) c.args.text.now file.file.items made.0
     (label_view ready.ready)
@@ -95,14 +95,14 @@ returns-clause-outcome g c =
     let good = subst (λ (k : Job). tested k ≡ Ok tt) c.job.ensures.exact c.in_default.ensures.exact in
     let made = rw c.deref.ensures.value at ready.ensures.outcome in
     let cut = c.in-Err-write_all_of.ensures in
-    rw c.unhinted.ensures
+    rw c.unhinted-in-Err-write_all_of.ensures
     (text_cut l.setting (λ t. label_answer l t c.args.text.now) c.args.text.now file.file.items made.0
     (label_view ready.ready) c.in-Err-write_all_of.cut.sent
     (traffic_of g.R.Source.left g.R.Source.has_failed g.W.Sink.written g.W.Sink.has_failed c.args.font.now
     c.read_font.new.font c.args.out.now c.write_all_of.new.out)
     (errors_of g.E.Sink.written g.E.Sink.has_failed c.args.error.now c.args.error.now)
     good (file.ensures.0, file.ensures.1, file.ensures.3) made.1 made.2
-    (cut.within, cut.part) cut.failure (keeps_itself (g.E.Sink.written c.args.error.now), c.requires.error))
+    (rw c.deref-2.ensures.value at cut.within, rw c.deref-2.ensures.value at cut.part) cut.failure (keeps_itself (g.E.Sink.written c.args.error.now), c.requires.error))
 
 pub returns-in-Err-clause-hint : goal.returns-in-Err-clause-hint
 returns-in-Err-clause-hint g c =
@@ -129,7 +129,7 @@ returns-in-Ok-write_all_of-clause-hint g c =
 
 pub returns-clause-hint : goal.returns-clause-hint
 returns-clause-hint g c =
-    rw c.unhinted.ensures (if_some_all (g.R.Source.left c.args.font.now) _ (λ file. refl))
+    rw c.unhinted-in-Err-write_all_of.ensures (if_some_all (g.R.Source.left c.args.font.now) _ (λ file. refl))
 
 pub returns-in-Err-clause-defects : goal.returns-in-Err-clause-defects
 returns-in-Err-clause-defects g c =
@@ -167,5 +167,5 @@ returns-clause-defects g c =
     let left = g.R.Source.left in
     let file = c.in-Ok in
     let tells = rw c.deref.ensures.value at c.in-Ok-draw.ensures.defects in
-    rw c.unhinted.ensures
+    rw c.unhinted-in-Err-write_all_of.ensures
     (known_of (left c.args.font.now) (left c.read_font.new.font) file.file.items _ file.ensures.0 file.ensures.1 tells)

@@ -45,7 +45,7 @@ returns-in-Ok-draw_labels_of-clause-outcome g c =
     c.draw_labels_of.new.lines c.args.out.now c.draw_labels_of.new.out in
     let e = errors_of g.E.Sink.written g.E.Sink.has_failed c.args.error.now c.draw_labels_of.new.error in
     rw c.done.ensures
-    (by_reader l file.file.items (Ok tt) f t e c.in_default.ensures read
+    (by_reader {V = Unit {0}} l file.file.items (Ok tt) f t e c.in_default.ensures read
     (rw c.deref.ensures.value at c.in-Ok-draw_labels_of.ensures.outcome))
 
 pub returns-clause-outcome : goal.returns-clause-outcome

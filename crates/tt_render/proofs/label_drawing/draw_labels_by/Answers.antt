@@ -1,7 +1,9 @@
 use Rattle.std.proofs.Common.{◌≡◌, ◌∙◌, ap, sym, ◌+◌, IfSome, Some, Ok, arith, refl, subst}
 use Rattle.std.proofs.lemmas.Result.{err_from_is_err_and}
+use Rattle.std.specs.Io.KnownBytes.{Appends}
 use Rattle.tt_label.specs.Label.{label_glyphs}
 use Rattle.tt_strike.specs.Strikes.{SizedFace}
+use Rattle.tt_render.specs.declared.label_answers.ReadyLabel.{ReadyLabel}
 use Rattle.tt_render.specs.Labels.{label_view, line_labelled, strike_in}
 use Rattle.tt_render.specs.LineReading.{held, line_at, text_left}
 use Rattle.tt_render.specs.Lines.{lines_limit}
@@ -86,7 +88,7 @@ returns-in-Err-draw_line-clause-outcome g c =
     let e = errors_of g.E.Sink.written g.E.Sink.has_failed c.args.error.now c.loop-before.error in
     let same = ap (λ (z : SizedFace). line_labelled a (strike_in a.setting z)) so_far.sized in
     let is = rw c.line-line.ensures at c.in-Err-draw_line.ensures.exact in
-    let fails = stopped_in (line_labelled a (strike_in a.setting c.args.sized.now)) (line_labelled a (strike_in a.setting c.loop-before.sized)) c.in-Err-draw_line.fault.refusal
+    let fails = stopped_in ReadyLabel (line_labelled a (strike_in a.setting c.args.sized.now)) (line_labelled a (strike_in a.setting c.loop-before.sized)) c.in-Err-draw_line.fault.refusal
     (text_left c.loop-before.reader (left c.loop-before.lines))
     (text_left c.next_line.new.reader (left c.next_line.new.lines)) t e c.loop-before.before 0
     (line_at c.next_line.new.reader c.in-Ok-Some.place) same so_far.so_far found.0 found.2 is
@@ -113,7 +115,7 @@ returns-in-Err-write_all_of-clause-outcome g c =
     let sends = cut_sent draw (text_left c.loop-before.reader (left c.loop-before.lines))
     (text_left c.next_line.new.reader (left c.next_line.new.lines)) (written c.loop-before.out) t e
     c.loop-before.before 0 cut.cut.sent line (label_view c.in-Ok.ready) so_far.so_far found.0 found.2 is
-    cut.ensures.within cut.ensures.part in
+    (rw c.deref.ensures.value at cut.ensures.within) (rw c.deref.ensures.value at cut.ensures.part) in
     (sends, c.in-Ok-Some.ensures.failure, cut.ensures.failure)
 
 pub loop-before-preserved : goal.loop-before-preserved
@@ -135,7 +137,9 @@ loop-before-preserved g c =
     let printed : PrintsBehind (failed c.loop-before.error)
     (errors_of told failed c.loop-before.error c.print_text.new.error)
     (told_of (Some (c.loop-before.before + 1)) answer) =
-    rw (c.deref.ensures, c.in-Ok.ensures.report) at c.print_text.ensures in
+    rw (c.deref-in-loop-before.ensures, c.in-Ok.ensures.report) at c.print_text.ensures in
+    let sent : Appends (written c.loop-before.out) (written c.write_all_of.new.out) answer.bytes =
+    rw c.deref.ensures.value at c.in_default.ensures.all in
     record {
       sized = c.in-Ok.ensures.same ∙ so_far.sized;
       reads = c.in-Ok-Some.ensures.failure;
@@ -146,7 +150,7 @@ loop-before-preserved g c =
           (written c.loop-before.out) (written c.write_all_of.new.out) (told c.args.error.now)
           (told c.loop-before.error) (told c.print_text.new.error) (failed c.loop-before.error)
           (failed c.print_text.new.error) c.loop-before.before line answer 0 so_far.so_far
-          found.0 found.2 is c.in_default.ensures.all printed);
+          found.0 found.2 is sent printed);
     }
 
 pub returns-clause-outcome : goal.returns-clause-outcome
