@@ -95,8 +95,8 @@ begun_tells IsOne text left after r before used reason.Many begun = tt
 begun_tells IsOne text left after r before used reason.Memory begun = tt
 
 -- a defect of a line by a font's tables is one by the font's file
-line_tells : (glyphs : GlyphsOf) (a : Setting) (file : List ℕ) (face : Face) (text : Option (List ℕ)) (why : Refusal) (line : Option ℕ)
-    → face_by file a.reading ≡ Ok face → LineTells (IsDefectBy glyphs a (strike_by a face)) text why line
+line_tells : (glyphs : GlyphsOf) (a : Setting) (file : List ℕ) (face : Face) (text : Option (List ℕ)) (why : Refusal)
+    (line : Option ℕ) → face_by file a.reading ≡ Ok face → LineTells (IsDefectBy glyphs a (strike_by a face)) text why line
     → LineTellsDefect glyphs a text why line file
 line_tells glyphs a file face text (reason.Font f) None there tells = absurd tells
 line_tells glyphs a file face text (reason.Font f) (Some n) there tells =
@@ -112,20 +112,21 @@ line_tells glyphs a file face text reason.Many line there tells = tt
 line_tells glyphs a file face text reason.Memory line there tells = tt
 
 pub lines_tell : {V : Type 0} (glyphs : GlyphsOf) (a : Setting) (file : List ℕ) (face : Face) (text : Option (List ℕ))
-    (r : Result V TextsFault) → face_by file a.reading ≡ Ok face → LinesTell (IsDefectBy glyphs a (strike_by a face)) text r
-    → LinesTellDefects glyphs a text r file
+    (r : Result V TextsFault) → face_by file a.reading ≡ Ok face
+    → LinesTell (IsDefectBy glyphs a (strike_by a face)) text r → LinesTellDefects glyphs a text r file
 lines_tell glyphs a file face text (Ok v) there tells = tt
-lines_tell glyphs a file face text (Err fault) there tells = line_tells glyphs a file face text fault.refusal fault.line there tells
+lines_tell glyphs a file face text (Err fault) there tells =
+    line_tells glyphs a file face text fault.refusal fault.line there tells
 
 -- a setting that is refused names no defect
-pub setting_tells : (V : Type 0) (glyphs : GlyphsOf) (font : Option (List ℕ)) (a : Setting) (text : Option (List ℕ)) (j : JobFault)
-    → LinesTellDefectsOf {V = V} glyphs font a text (Err (before_lines (reason.Job j)))
+pub setting_tells : (V : Type 0) (glyphs : GlyphsOf) (font : Option (List ℕ)) (a : Setting) (text : Option (List ℕ))
+    (j : JobFault) → LinesTellDefectsOf {V = V} glyphs font a text (Err (before_lines (reason.Job j)))
 setting_tells V glyphs None a text j = tt
 setting_tells V glyphs (Some file) a text j = tt
 
 -- nor does a font that could not be read
-pub reading_tells : (V : Type 0) (glyphs : GlyphsOf) (e : RunFault) (before after : Option (List ℕ)) (failed : Bool) (a : Setting)
-    (text : Option (List ℕ)) → ReadFails e before after failed
+pub reading_tells : (V : Type 0) (glyphs : GlyphsOf) (e : RunFault) (before after : Option (List ℕ)) (failed : Bool)
+    (a : Setting) (text : Option (List ℕ)) → ReadFails e before after failed
     → LinesTellDefectsOf {V = V} glyphs before a text (Err (before_lines (refusal_of_run e)))
 reading_tells V glyphs e None after failed a text fails = tt
 reading_tells V glyphs (run.Font f) (Some file) after failed a text fails = absurd fails
@@ -136,8 +137,8 @@ reading_tells V glyphs (run.Write sent) (Some file) after failed a text fails = 
 reading_tells V glyphs run.Memory (Some file) after failed a text fails = tt
 
 -- nor does a strike that was not made
-pub strike_tells : (V : Type 0) (glyphs : GlyphsOf) (font : Option (List ℕ)) (a : Setting) (text : Option (List ℕ)) (d : DrawFault)
-    → IfSome (draw_font_fault d) (λ _. ⊥)
+pub strike_tells : (V : Type 0) (glyphs : GlyphsOf) (font : Option (List ℕ)) (a : Setting) (text : Option (List ℕ))
+    (d : DrawFault) → IfSome (draw_font_fault d) (λ _. ⊥)
     → LinesTellDefectsOf {V = V} glyphs font a text (Err (before_lines (refusal_of_draw d)))
 strike_tells V glyphs None a text d none = tt
 strike_tells V glyphs (Some file) a text (draw.Font f) none = absurd none

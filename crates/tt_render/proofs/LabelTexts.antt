@@ -1,5 +1,5 @@
 -- The lines of a label's text, one at a time.
-use Rattle.std.proofs.Common.{◌≡◌, ◌∙◌, ap, refl, ℕ, ◌+◌, ◌<◌, List, ◌∷◌, length, drop, drop-cons, get_or, map, chars, add-one, Option, Some, None, Bor}
+use Rattle.std.proofs.Common.{◌≡◌, refl, ℕ, ◌+◌, ◌<◌, List, ◌∷◌, length, drop, drop-cons, get_or, map, chars, add-one, Some, None, Bor}
 use Rattle.std.specs.Prelude.{find}
 use Rattle.tt_advice.specs.declared.signs.Sign.{Sign}
 use Rattle.tt_advice.specs.Signs.{is_of}

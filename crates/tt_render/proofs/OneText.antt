@@ -1,14 +1,12 @@
 -- The steps of a call that draws one text, joined.
 use Rattle.std.proofs.Common.{◌≡◌, ℕ, Bool, false, List, Option, Some, None, Result, Ok, Err, inl, inr, refl}
 use Rattle.std.specs.Prelude.{IfSome}
-use Rattle.tt_core.specs.declared.collection.Reading.{Reading}
 use Rattle.tt_core.specs.declared.fault.JobFault.{JobFault}
 use Rattle.tt_core.specs.Directory.{HasNo}
 use Rattle.tt_core.specs.Faults.{Fault}
 use Rattle.tt_render_run.specs.declared.fault.RunFault.{RunFault}
 use Rattle.tt_render_run.specs.declared.fault.RunFault.TheVariants as run
 use Rattle.tt_render.specs.declared.setting.Setting.{Setting}
-use Rattle.tt_render.specs.declared.text_answers.ReadyText.{ReadyText}
 use Rattle.tt_render.specs.declared.refusal.Refusal.{Refusal}
 use Rattle.tt_render.specs.declared.refusal.Refusal.TheVariants as reason
 use Rattle.tt_render.specs.declared.refusal.TextsFault.{TextsFault}

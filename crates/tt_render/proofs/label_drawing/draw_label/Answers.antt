@@ -1,5 +1,4 @@
-use Rattle.std.proofs.Common.{◌≡◌, ◌∙◌, ap, refl, sym, ℕ, List, Ok, Err, inl, subst}
-use Rattle.tt_render.specs.declared.refusal.Refusal.{Refusal}
+use Rattle.std.proofs.Common.{◌≡◌, refl, ℕ, List, Ok, Err, inl, subst}
 use Rattle.tt_render.specs.declared.refusal.Refusal.TheVariants as reason
 use Rattle.tt_render.specs.Labels.{HintsBy, LabelReadies, hint_for, label_answer, label_view}
 use Rattle.tt_label.specs.Label.{label_glyphs}
@@ -102,7 +101,8 @@ returns-clause-outcome g c =
     c.read_font.new.font c.args.out.now c.write_all_of.new.out)
     (errors_of g.E.Sink.written g.E.Sink.has_failed c.args.error.now c.args.error.now)
     good (file.ensures.0, file.ensures.1, file.ensures.3) made.1 made.2
-    (rw c.deref-2.ensures.value at cut.within, rw c.deref-2.ensures.value at cut.part) cut.failure (keeps_itself (g.E.Sink.written c.args.error.now), c.requires.error))
+    (rw c.deref-2.ensures.value at cut.within, rw c.deref-2.ensures.value at cut.part) cut.failure
+    (keeps_itself (g.E.Sink.written c.args.error.now), c.requires.error))
 
 pub returns-in-Err-clause-hint : goal.returns-in-Err-clause-hint
 returns-in-Err-clause-hint g c =
@@ -121,7 +121,9 @@ returns-in-Err-draw-clause-hint g c =
     let left = g.R.Source.left in
     let file = c.in-Ok in
     known_of (left c.args.font.now) (left c.read_font.new.font) file.file.items (HintsBy c.args.asked.now c.hinted.result)
-    file.ensures.0 file.ensures.1 (rw (c.hinted.ensures, c.deref-in-Err-draw.ensures.value) refl)
+    file.ensures.0 file.ensures.1
+    (rw (c.hinted.ensures, c.deref-in-Err-draw.ensures.value) (refl {a = hint_for c.in-Err-draw.fault.refusal file.file.items
+    c.args.asked.now.setting.reading}))
 
 pub returns-in-Ok-write_all_of-clause-hint : goal.returns-in-Ok-write_all_of-clause-hint
 returns-in-Ok-write_all_of-clause-hint g c =

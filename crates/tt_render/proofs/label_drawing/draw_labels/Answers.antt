@@ -1,4 +1,4 @@
-use Rattle.std.proofs.Common.{◌≡◌, ◌∙◌, ap, refl, List, Ok, Err, inl, subst}
+use Rattle.std.proofs.Common.{refl, List, Ok, Err, inl, subst}
 use Rattle.tt_label.specs.Label.{label_glyphs}
 use Rattle.tt_render.specs.Labels.{FileLabelsGive, HintsBy}
 use Rattle.tt_render.specs.LinesDefects.{LinesTellDefects}

@@ -88,7 +88,8 @@ returns-in-Err-draw_line-clause-outcome g c =
     let e = errors_of g.E.Sink.written g.E.Sink.has_failed c.args.error.now c.loop-before.error in
     let same = ap (λ (z : SizedFace). line_labelled a (strike_in a.setting z)) so_far.sized in
     let is = rw c.line-line.ensures at c.in-Err-draw_line.ensures.exact in
-    let fails = stopped_in ReadyLabel (line_labelled a (strike_in a.setting c.args.sized.now)) (line_labelled a (strike_in a.setting c.loop-before.sized)) c.in-Err-draw_line.fault.refusal
+    let fails = stopped_in ReadyLabel (line_labelled a (strike_in a.setting c.args.sized.now))
+    (line_labelled a (strike_in a.setting c.loop-before.sized)) c.in-Err-draw_line.fault.refusal
     (text_left c.loop-before.reader (left c.loop-before.lines))
     (text_left c.next_line.new.reader (left c.next_line.new.lines)) t e c.loop-before.before 0
     (line_at c.next_line.new.reader c.in-Ok-Some.place) same so_far.so_far found.0 found.2 is
