@@ -14,6 +14,7 @@ use Rattle.tt_render.specs.declared.setting.Product.{Product}
 use Rattle.tt_render.specs.declared.setting.Product.TheVariants.{Picture}
 use Rattle.tt_line.specs.declared.align.Align.{Align}
 use Rattle.tt_line.specs.declared.align.Align.TheVariants as align
+use Rattle.tt_line.specs.Layout.{text_glyphs}
 use Rattle.tt_render.specs.Labels.{FontLabelGives, FontLabelsGive, HintsBy}
 use Rattle.tt_render.specs.declared.setting.Setting.{Setting}
 use Rattle.tt_render.specs.LinesDefects.{LinesTellDefectsOf}
@@ -212,7 +213,7 @@ Performs (Text font text setting) folder t lines e status =
     × TextTellsDefectsOf t.left_before (IsRunDefect setting.reading (job_by setting text.now)) answer) e status
 Performs (Lines font setting) folder t lines e status =
     DoesTexts {V = ℕ} (λ answer told. FontLinesGive setting answer (reader_in t) lines told
-    × LinesTellDefectsOf t.left_before setting lines.left_before answer) e status
+    × LinesTellDefectsOf text_glyphs t.left_before setting lines.left_before answer) e status
 Performs (Label font text options) folder t lines e status =
     (l : DrawnLabel) × IsLabelFor font.now options l
     × DoesLabel (λ drawn told. FontLabelGives l text.now drawn.answer t told
