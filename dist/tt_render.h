@@ -37,8 +37,12 @@
  * A call reports the first refusal in this order: the way to fit, UTF-8, size, margin, the text's length; the font's
  * size, the place of the face, its tables; the picture's size; loca and glyf, the font's programs, the points (65),
  * the glyphs, the crossings (65). With TT_BEST the picture's size comes after the glyphs. With grow, the size of the
- * enlarged picture follows. The room comes last. tt_draw_lines tests the way to fit, size, margin and font once, then
- * lines_room, and then the rest line by line, first the line's ends, then the work of the lines before it (65).
+ * enlarged picture follows: a picture that is empty before it is enlarged is refused (62). The room comes last.
+ *
+ * tt_draw_lines reports, once for the call: the way to fit, size, margin; the font's size, the place of the face, its
+ * tables; lines_room. Then, line by line: the line's ends (67), the work of the lines before it (65), UTF-8, the text's
+ * length, and all that follows above. So where the font is damaged and a line is not UTF-8, it answers TT_FONT, and
+ * tt_draw TT_NOT_UTF8.
  *
  * Cost: tt_faces, tt_open and tt_map, with a face too, read tables alone. tt_measure, tt_characters, tt_draw and
  * tt_draw_band each run the font's first two programs and fit all glyphs of the text: with hinting mostly some million

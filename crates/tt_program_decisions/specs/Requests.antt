@@ -14,9 +14,11 @@ use Rattle.tt_render.specs.declared.setting.Product.{Product}
 use Rattle.tt_render.specs.declared.setting.Product.TheVariants.{Picture}
 use Rattle.tt_line.specs.declared.align.Align.{Align}
 use Rattle.tt_line.specs.declared.align.Align.TheVariants as align
+use Rattle.tt_label.specs.Label.{label_glyphs}
+use Rattle.tt_line.specs.Layout.{text_glyphs}
 use Rattle.tt_render.specs.Labels.{FontLabelGives, FontLabelsGive, HintsBy}
 use Rattle.tt_render.specs.declared.setting.Setting.{Setting}
-use Rattle.tt_render.specs.LinesDefects.{LinesTellDefectsOf}
+use Rattle.tt_render.specs.LinesDefects.{IsTextDefect, LinesTellDefectsOf}
 use Rattle.tt_render_run.specs.MapLines.{map_wanted}
 use Rattle.tt_render_run.specs.Outcome.{Traffic}
 use Rattle.tt_render.specs.Readings.{fit_reading, reading_asked}
@@ -212,14 +214,16 @@ Performs (Text font text setting) folder t lines e status =
     × TextTellsDefectsOf t.left_before (IsRunDefect setting.reading (job_by setting text.now)) answer) e status
 Performs (Lines font setting) folder t lines e status =
     DoesTexts {V = ℕ} (λ answer told. FontLinesGive setting answer (reader_in t) lines told
-    × LinesTellDefectsOf t.left_before setting lines.left_before answer) e status
+    × LinesTellDefectsOf text_glyphs t.left_before setting lines.left_before answer) e status
 Performs (Label font text options) folder t lines e status =
     (l : DrawnLabel) × IsLabelFor font.now options l
     × DoesLabel (λ drawn told. FontLabelGives l text.now drawn.answer t told
+    × TextTellsDefectsOf t.left_before (IsTextDefect label_glyphs l.setting text.now) drawn.answer
     × IfSome t.left_before (HintsBy l drawn)) l folder e status
 Performs (Labels font options) folder t lines e status =
     (l : DrawnLabel) × IsLabelFor font.now options l
     × DoesLabel (λ drawn told. FontLabelsGive l drawn.answer (reader_in t) lines told
+    × LinesTellDefectsOf label_glyphs t.left_before l.setting lines.left_before drawn.answer
     × IfSome t.left_before (HintsBy l drawn)) l folder e status
 
 -- a property that holds unless the request is for standard input's lines

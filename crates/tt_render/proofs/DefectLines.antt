@@ -8,13 +8,12 @@ use Rattle.tt_render_run.specs.declared.fault.RunFault.{RunFault}
 use Rattle.tt_render_run.specs.declared.fault.RunFault.TheVariants as run
 use Rattle.tt_render.specs.declared.setting.Setting.{Setting}
 use Rattle.tt_render.specs.declared.lines.LineReader.{LineReader}
-use Rattle.tt_render.specs.declared.text_answers.ReadyText.{ReadyText}
 use Rattle.tt_render.specs.declared.refusal.Refusal.{Refusal}
 use Rattle.tt_render.specs.declared.refusal.Refusal.TheVariants as reason
 use Rattle.tt_render.specs.declared.refusal.TextsFault.{TextsFault}
 use Rattle.tt_render.specs.LineReading.{LosesLine}
 use Rattle.tt_render.specs.Lines.{lines_of}
-use Rattle.tt_render.specs.LinesDefects.{BeginsDefective, IsDefectBy, IsDefectIn, LineTells, LineTellsDefect, LinesTell, LinesTellDefects, LinesTellDefectsOf, line_numbered}
+use Rattle.tt_render.specs.LinesDefects.{BeginsDefective, GlyphsOf, IsDefectBy, IsDefectIn, LineTells, LineTellsDefect, LinesTell, LinesTellDefects, LinesTellDefectsOf, line_numbered}
 use Rattle.tt_render.specs.Printing.{Errors}
 use Rattle.tt_render_run.specs.Reading.{ReadFails}
 use Rattle.tt_render.specs.Settings.{strike_by}
@@ -32,7 +31,7 @@ if_some_more None P Q more h = tt
 if_some_more (Some x) P Q more h = more x h
 
 -- a text's claims about defects include the one about its fault
-pub told_of_text : (IsOne : Fault → Type 0) (r : Result ReadyText Refusal) → TellsDefects refusal_font_fault IsOne r
+pub told_of_text : {V : Type 0} (IsOne : Fault → Type 0) (r : Result V Refusal) → TellsDefects refusal_font_fault IsOne r
     → IfTold refusal_font_fault r IsOne
 told_of_text IsOne (Ok v) tells = tt
 told_of_text IsOne (Err e) tells = tells
@@ -96,51 +95,52 @@ begun_tells IsOne text left after r before used reason.Many begun = tt
 begun_tells IsOne text left after r before used reason.Memory begun = tt
 
 -- a defect of a line by a font's tables is one by the font's file
-line_tells : (a : Setting) (file : List ℕ) (face : Face) (text : Option (List ℕ)) (why : Refusal) (line : Option ℕ)
-    → face_by file a.reading ≡ Ok face → LineTells (IsDefectBy a (strike_by a face)) text why line
-    → LineTellsDefect a text why line file
-line_tells a file face text (reason.Font f) None there tells = absurd tells
-line_tells a file face text (reason.Font f) (Some n) there tells =
-    if_some_more text _ (λ all. IsDefectIn a file (line_numbered all n) f) (λ all is. rw there is) tells
-line_tells a file face text (reason.Job j) line there tells = tt
-line_tells a file face text reason.NotUtf8 line there tells = tt
-line_tells a file face text (reason.Missing c) line there tells = tt
-line_tells a file face text reason.FontRead line there tells = tt
-line_tells a file face text reason.FontLarge line there tells = tt
-line_tells a file face text reason.Read line there tells = tt
-line_tells a file face text (reason.Write sent) line there tells = tt
-line_tells a file face text reason.Many line there tells = tt
-line_tells a file face text reason.Memory line there tells = tt
+line_tells : (glyphs : GlyphsOf) (a : Setting) (file : List ℕ) (face : Face) (text : Option (List ℕ)) (why : Refusal)
+    (line : Option ℕ) → face_by file a.reading ≡ Ok face → LineTells (IsDefectBy glyphs a (strike_by a face)) text why line
+    → LineTellsDefect glyphs a text why line file
+line_tells glyphs a file face text (reason.Font f) None there tells = absurd tells
+line_tells glyphs a file face text (reason.Font f) (Some n) there tells =
+    if_some_more text _ (λ all. IsDefectIn glyphs a file (line_numbered all n) f) (λ all is. rw there is) tells
+line_tells glyphs a file face text (reason.Job j) line there tells = tt
+line_tells glyphs a file face text reason.NotUtf8 line there tells = tt
+line_tells glyphs a file face text (reason.Missing c) line there tells = tt
+line_tells glyphs a file face text reason.FontRead line there tells = tt
+line_tells glyphs a file face text reason.FontLarge line there tells = tt
+line_tells glyphs a file face text reason.Read line there tells = tt
+line_tells glyphs a file face text (reason.Write sent) line there tells = tt
+line_tells glyphs a file face text reason.Many line there tells = tt
+line_tells glyphs a file face text reason.Memory line there tells = tt
 
-pub lines_tell : {V : Type 0} (a : Setting) (file : List ℕ) (face : Face) (text : Option (List ℕ))
-    (r : Result V TextsFault) → face_by file a.reading ≡ Ok face → LinesTell (IsDefectBy a (strike_by a face)) text r
-    → LinesTellDefects a text r file
-lines_tell a file face text (Ok v) there tells = tt
-lines_tell a file face text (Err fault) there tells = line_tells a file face text fault.refusal fault.line there tells
+pub lines_tell : {V : Type 0} (glyphs : GlyphsOf) (a : Setting) (file : List ℕ) (face : Face) (text : Option (List ℕ))
+    (r : Result V TextsFault) → face_by file a.reading ≡ Ok face
+    → LinesTell (IsDefectBy glyphs a (strike_by a face)) text r → LinesTellDefects glyphs a text r file
+lines_tell glyphs a file face text (Ok v) there tells = tt
+lines_tell glyphs a file face text (Err fault) there tells =
+    line_tells glyphs a file face text fault.refusal fault.line there tells
 
 -- a setting that is refused names no defect
-pub setting_tells : (V : Type 0) (font : Option (List ℕ)) (a : Setting) (text : Option (List ℕ)) (j : JobFault)
-    → LinesTellDefectsOf {V = V} font a text (Err (before_lines (reason.Job j)))
-setting_tells V None a text j = tt
-setting_tells V (Some file) a text j = tt
+pub setting_tells : (V : Type 0) (glyphs : GlyphsOf) (font : Option (List ℕ)) (a : Setting) (text : Option (List ℕ))
+    (j : JobFault) → LinesTellDefectsOf {V = V} glyphs font a text (Err (before_lines (reason.Job j)))
+setting_tells V glyphs None a text j = tt
+setting_tells V glyphs (Some file) a text j = tt
 
 -- nor does a font that could not be read
-pub reading_tells : (V : Type 0) (e : RunFault) (before after : Option (List ℕ)) (failed : Bool) (a : Setting)
-    (text : Option (List ℕ)) → ReadFails e before after failed
-    → LinesTellDefectsOf {V = V} before a text (Err (before_lines (refusal_of_run e)))
-reading_tells V e None after failed a text fails = tt
-reading_tells V (run.Font f) (Some file) after failed a text fails = absurd fails
-reading_tells V (run.Job j) (Some file) after failed a text fails = tt
-reading_tells V run.Read (Some file) after failed a text fails = tt
-reading_tells V run.FontLarge (Some file) after failed a text fails = tt
-reading_tells V (run.Write sent) (Some file) after failed a text fails = absurd fails
-reading_tells V run.Memory (Some file) after failed a text fails = tt
+pub reading_tells : (V : Type 0) (glyphs : GlyphsOf) (e : RunFault) (before after : Option (List ℕ)) (failed : Bool)
+    (a : Setting) (text : Option (List ℕ)) → ReadFails e before after failed
+    → LinesTellDefectsOf {V = V} glyphs before a text (Err (before_lines (refusal_of_run e)))
+reading_tells V glyphs e None after failed a text fails = tt
+reading_tells V glyphs (run.Font f) (Some file) after failed a text fails = absurd fails
+reading_tells V glyphs (run.Job j) (Some file) after failed a text fails = tt
+reading_tells V glyphs run.Read (Some file) after failed a text fails = tt
+reading_tells V glyphs run.FontLarge (Some file) after failed a text fails = tt
+reading_tells V glyphs (run.Write sent) (Some file) after failed a text fails = absurd fails
+reading_tells V glyphs run.Memory (Some file) after failed a text fails = tt
 
 -- nor does a strike that was not made
-pub strike_tells : (V : Type 0) (font : Option (List ℕ)) (a : Setting) (text : Option (List ℕ)) (d : DrawFault)
-    → IfSome (draw_font_fault d) (λ _. ⊥)
-    → LinesTellDefectsOf {V = V} font a text (Err (before_lines (refusal_of_draw d)))
-strike_tells V None a text d none = tt
-strike_tells V (Some file) a text (draw.Font f) none = absurd none
-strike_tells V (Some file) a text (draw.Job j) none = tt
-strike_tells V (Some file) a text draw.Memory none = tt
+pub strike_tells : (V : Type 0) (glyphs : GlyphsOf) (font : Option (List ℕ)) (a : Setting) (text : Option (List ℕ))
+    (d : DrawFault) → IfSome (draw_font_fault d) (λ _. ⊥)
+    → LinesTellDefectsOf {V = V} glyphs font a text (Err (before_lines (refusal_of_draw d)))
+strike_tells V glyphs None a text d none = tt
+strike_tells V glyphs (Some file) a text (draw.Font f) none = absurd none
+strike_tells V glyphs (Some file) a text (draw.Job j) none = tt
+strike_tells V glyphs (Some file) a text draw.Memory none = tt

@@ -16,7 +16,7 @@ use Rattle.tt_render.specs.declared.setting.Setting.{Setting}
 use Rattle.tt_render.specs.Labels.{FileLabelsGive, FontLabelsGive, IsUnopened, hint_for}
 use Rattle.tt_render.specs.Printing.{Errors}
 use Rattle.tt_render.specs.Settings.{setting_tested, strike_of}
-use Rattle.tt_render.specs.TextsOutcome.{StopsAtFont, StopsFor}
+use Rattle.tt_render.specs.TextsOutcome.{StopsFor}
 use Rattle.tt_render.specs.Views.{refusal_of_run}
 use Rattle.tt_render.proofs.FontLines.{size_passes}
 use Rattle.tt_strike.specs.Job.{size_tested}

@@ -1,5 +1,5 @@
 -- The lines of a label's text, one at a time.
-use Rattle.std.proofs.Common.{◌≡◌, ◌∙◌, ap, refl, ℕ, ◌+◌, ◌<◌, List, ◌∷◌, length, drop, drop-cons, get_or, map, chars, add-one, Option, Some, None, Bor}
+use Rattle.std.proofs.Common.{◌≡◌, refl, ℕ, ◌+◌, ◌<◌, List, ◌∷◌, length, drop, drop-cons, get_or, map, chars, add-one, Some, None, Bor}
 use Rattle.std.specs.Prelude.{find}
 use Rattle.tt_advice.specs.declared.signs.Sign.{Sign}
 use Rattle.tt_advice.specs.Signs.{is_of}
@@ -34,8 +34,9 @@ pub lacking_next : (m : CharacterMap) (before : List ℕ) (xs : List (Bor (List 
 lacking_next m before xs i d below = rw (next_line xs i d below) refl
 
 -- one character more is listed
-pub listed_next : (before cs : List ℕ) (i d : ℕ) → i < length cs
-    → distinct_after (with_character before (get_or cs i d)) (drop (i + 1) cs) ≡ distinct_after before (drop i cs)
-listed_next before cs i d below =
-    let whole : drop i cs ≡ get_or cs i d ∷ drop (i + 1) cs = rw add-one (drop-cons cs i d below) in
-    rw whole refl
+pub listed_next : (before cs : List ℕ) (i c : ℕ) → i < length cs → c ≡ get_or cs i c
+    → distinct_after (with_character before c) (drop (i + 1) cs) ≡ distinct_after before (drop i cs)
+listed_next before cs i c below is =
+    let whole : drop i cs ≡ get_or cs i c ∷ drop (i + 1) cs = rw add-one (drop-cons cs i c below) in
+    let here : drop i cs ≡ c ∷ drop (i + 1) cs = rw (← is) at whole in
+    rw here refl

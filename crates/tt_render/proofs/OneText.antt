@@ -1,18 +1,17 @@
 -- The steps of a call that draws one text, joined.
 use Rattle.std.proofs.Common.{◌≡◌, ℕ, Bool, false, List, Option, Some, None, Result, Ok, Err, inl, inr, refl}
 use Rattle.std.specs.Prelude.{IfSome}
-use Rattle.tt_core.specs.declared.collection.Reading.{Reading}
 use Rattle.tt_core.specs.declared.fault.JobFault.{JobFault}
+use Rattle.tt_core.specs.Directory.{HasNo}
 use Rattle.tt_core.specs.Faults.{Fault}
-use Rattle.tt_line.specs.Layout.{text_glyphs}
 use Rattle.tt_render_run.specs.declared.fault.RunFault.{RunFault}
 use Rattle.tt_render_run.specs.declared.fault.RunFault.TheVariants as run
 use Rattle.tt_render.specs.declared.setting.Setting.{Setting}
-use Rattle.tt_render.specs.declared.text_answers.ReadyText.{ReadyText}
 use Rattle.tt_render.specs.declared.refusal.Refusal.{Refusal}
 use Rattle.tt_render.specs.declared.refusal.Refusal.TheVariants as reason
 use Rattle.tt_render.specs.declared.refusal.TextsFault.{TextsFault}
 use Rattle.tt_render_run.specs.Outcome.{SendsAll, SendsFirst, Traffic, WriterFails, WriterServes}
+use Rattle.tt_render.specs.LinesDefects.{GlyphsOf, IsTextDefect}
 use Rattle.tt_render.specs.Printing.{Errors, Prints, PrintsNothing}
 use Rattle.tt_render_run.specs.Reading.{FontIsRead, ReadFails}
 use Rattle.tt_render.specs.Reports.{told_of}
@@ -26,13 +25,13 @@ use Rattle.tt_render.proofs.Printed.{keeps_itself}
 use Rattle.tt_core.specs.declared.draw_fault.DrawFault.{DrawFault}
 use Rattle.tt_core.specs.declared.draw_fault.DrawFault.TheVariants as draw
 use Rattle.tt_core.specs.Outcomes.{draw_font_fault}
-use Rattle.tt_strike.specs.Defects.{IsLineDefect, IsRunDefect}
+use Rattle.tt_strike.specs.Defects.{IsLineDefect}
 use Rattle.tt_strike.specs.Job.{Job, size_tested, tested}
 use Rattle.tt_strike.specs.Refusals.{Refused, as_job}
 use Rattle.tt_strike.specs.Refusals as drawing
 use Rattle.tt_strike.specs.Strikes.{Strike}
 use Rattle.tt_face.specs.Faces.{Face}
-use Rattle.tt_face.specs.Files.{face_by}
+use Rattle.tt_face.specs.Files.{IsFaceDefectBy, face_by}
 
 -- the answer of a text does not depend on the cache's limit
 pub most_aside : (a : Setting) (s : Strike) (most : ℕ) (text : List ℕ)
@@ -52,19 +51,19 @@ strike_stops answer opened a (draw.Job j) good refused =
 strike_stops answer opened a draw.Memory good refused = tt
 
 -- a refusal of the text stops the call
-pub text_stops : {V : Type 0} (answer : Strike → Result TextAnswer TextRefusal) (opened : Result Strike Refused) (s : Strike)
+pub text_stops : (V : Type 0) (answer : Strike → Result TextAnswer TextRefusal) (opened : Result Strike Refused) (s : Strike)
     (why : Refusal) → opened ≡ Ok s → IfSome (told why) (λ e. answer s ≡ Err e)
     → IsOfText {V = V} (Err why) → ReadiesText answer opened (Err (before_lines why))
-text_stops answer opened s (reason.Font f) is refused serves = inr (s, _, is, refl, refused)
-text_stops answer opened s (reason.Job j) is refused serves = inr (s, _, is, refl, refused)
-text_stops answer opened s reason.NotUtf8 is refused serves = inr (s, _, is, refl, refused)
-text_stops answer opened s (reason.Missing c) is refused serves = inr (s, _, is, refl, refused)
-text_stops answer opened s reason.FontRead is refused serves = absurd serves
-text_stops answer opened s reason.FontLarge is refused serves = absurd serves
-text_stops answer opened s reason.Read is refused serves = absurd serves
-text_stops answer opened s (reason.Write sent) is refused serves = absurd serves
-text_stops answer opened s reason.Many is refused serves = absurd serves
-text_stops answer opened s reason.Memory is refused serves = tt
+text_stops V answer opened s (reason.Font f) is refused serves = inr (s, _, is, refl, refused)
+text_stops V answer opened s (reason.Job j) is refused serves = inr (s, _, is, refl, refused)
+text_stops V answer opened s reason.NotUtf8 is refused serves = inr (s, _, is, refl, refused)
+text_stops V answer opened s (reason.Missing c) is refused serves = inr (s, _, is, refl, refused)
+text_stops V answer opened s reason.FontRead is refused serves = absurd serves
+text_stops V answer opened s reason.FontLarge is refused serves = absurd serves
+text_stops V answer opened s reason.Read is refused serves = absurd serves
+text_stops V answer opened s (reason.Write sent) is refused serves = absurd serves
+text_stops V answer opened s reason.Many is refused serves = absurd serves
+text_stops V answer opened s reason.Memory is refused serves = tt
 
 -- a text that is refused by its font's tables, or by its own answer
 at_font : (a : Setting) (answer : Strike → Result TextAnswer TextRefusal) (text file : List ℕ) (why : Refusal) (t : Traffic) (errors : Errors)
@@ -88,7 +87,7 @@ text_fails a answer text file e t errors good read why silent = by e.refusal e.l
     by : (r : Refusal) (line : Option ℕ) → IsNotReady answer (strike_of a file) r line
         → FontAnswers {V = Unit {0}} a answer text (Err (record { line = line; refusal = r })) t errors
     by (reason.Font f) None (inl font) = at_font a answer text file (reason.Font f) t errors good read font silent
-    by (reason.Font f) None (inr answer) = at_text a answer text file f t errors good read answer silent
+    by (reason.Font f) None (inr refused) = at_text a answer text file f t errors good read refused silent
     by (reason.Job j) None (inl (f, is, opened)) = absurd cc
     by (reason.Job j) None (inr (s, r, opened, tells, answers)) =
         inr (good, file, read, s, opened, (r, tells, answers, silent))
@@ -147,27 +146,37 @@ text_cut a answers text file s answer sent t e good read opened made first fails
     inr (good, file, read, s, opened, (answer, made, first, fails, silent))
 
 -- a failure to make a strike names no defect
-pub strike_tells : (IsOne : Fault → Type 0) (d : DrawFault) → IfSome (draw_font_fault d) (λ _. ⊥)
-    → TextTellsDefects {V = ReadyText} IsOne (Err (before_lines (refusal_of_draw d)))
-strike_tells IsOne (draw.Font f) none = absurd none
-strike_tells IsOne (draw.Job j) none = tt
-strike_tells IsOne draw.Memory none = tt
+pub strike_tells : (V : Type 0) (IsOne : Fault → Type 0) (d : DrawFault) → IfSome (draw_font_fault d) (λ _. ⊥)
+    → TextTellsDefects {V = V} IsOne (Err (before_lines (refusal_of_draw d)))
+strike_tells V IsOne (draw.Font f) none = absurd none
+strike_tells V IsOne (draw.Job j) none = tt
+strike_tells V IsOne draw.Memory none = tt
 
 -- a defect of a text by a font's tables is one by the font's file
-pub text_tells : (r : Reading) (a : Job) (file : List ℕ) (face : Face) (why : Refusal) → face_by file r ≡ Ok face
-    → IfSome (refusal_font_fault why) (IsLineDefect face a (text_glyphs face.cmap a.text))
-    → IsOfText {V = ReadyText} (Err why)
-    → TextTellsDefects {V = ReadyText} (IsRunDefect r a file) (Err (before_lines why))
-text_tells r a file face (reason.Font f) there stands serves = inr (rw there stands)
-text_tells r a file face (reason.Job j) there stands serves = tt
-text_tells r a file face reason.NotUtf8 there stands serves = tt
-text_tells r a file face (reason.Missing c) there stands serves = tt
-text_tells r a file face reason.FontRead there stands serves = tt
-text_tells r a file face reason.FontLarge there stands serves = tt
-text_tells r a file face reason.Read there stands serves = tt
-text_tells r a file face (reason.Write sent) there stands serves = absurd serves
-text_tells r a file face reason.Many there stands serves = tt
-text_tells r a file face reason.Memory there stands serves = tt
+pub text_tells : (V : Type 0) (glyphs : GlyphsOf) (a : Setting) (text file : List ℕ) (face : Face) (why : Refusal)
+    → face_by file a.reading ≡ Ok face
+    → IfSome (refusal_font_fault why) (IsLineDefect face (job_by a text) (glyphs face.cmap text))
+    → IsOfText {V = V} (Err why)
+    → TextTellsDefects {V = V} (IsTextDefect glyphs a text file) (Err (before_lines why))
+text_tells V glyphs a text file face (reason.Font f) there stands serves = inr (rw there stands)
+text_tells V glyphs a text file face (reason.Job j) there stands serves = tt
+text_tells V glyphs a text file face reason.NotUtf8 there stands serves = tt
+text_tells V glyphs a text file face (reason.Missing c) there stands serves = tt
+text_tells V glyphs a text file face reason.FontRead there stands serves = tt
+text_tells V glyphs a text file face reason.FontLarge there stands serves = tt
+text_tells V glyphs a text file face reason.Read there stands serves = tt
+text_tells V glyphs a text file face (reason.Write sent) there stands serves = absurd serves
+text_tells V glyphs a text file face reason.Many there stands serves = tt
+text_tells V glyphs a text file face reason.Memory there stands serves = tt
+
+-- so the file has no defect of a text where the tables have none
+pub none_in_file : (glyphs : GlyphsOf) (a : Setting) (text file : List ℕ) (face : Face) → face_by file a.reading ≡ Ok face
+    → HasNo (IsFaceDefectBy file a.reading) → HasNo (IsLineDefect face (job_by a text) (glyphs face.cmap text))
+    → HasNo (IsTextDefect glyphs a text file)
+none_in_file glyphs a text file face there none line = λ fault defect. elim defect [
+  | inl tables ↦ none fault tables
+  | inr of_text ↦ line fault (rw there at of_text)
+]
 
 -- a job that is refused at once names no defect
 pub job_tells : (before : Option (List ℕ)) (IsOne : List ℕ → Fault → Type 0) (j : JobFault)

@@ -195,12 +195,12 @@ line_refused draw (Some text) (Some rest) (Some left) t e number used line r so_
     next_refused draw text rest t e number used r so_far (line, lines_of left, loses, is, λ short. enough)
 
 -- so the call stops
-stops : {V : Type 0} (draw : Draws) (why : Refusal) (left after : Option (List ℕ)) (t : Traffic) (e : Errors)
+stops : (V : Type 0) (draw : Draws) (why : Refusal) (left after : Option (List ℕ)) (t : Traffic) (e : Errors)
     (number used : ℕ) (line : List ℕ) → SoFar draw t.left_before left t.out_before t.out_after e number used
     → LosesLine left after line → used ≤ lines_budget number → IfSome (told why) (λ r. draw line ≡ Err r)
     → IsOfText {V = V} (Err why) → t.read_failed ≡ false → t.write_failed ≡ false
     → LinesFail draw why (Some (number + 1)) t e
-stops {V} draw why left after t e number used line so_far loses enough is serves reads writes = by why is serves
+stops V draw why left after t e number used line so_far loses enough is serves reads writes = by why is serves
   where
     at_line : (why : Refusal) (r : TextRefusal) → told why ≡ Some r → draw line ≡ Err r
         → IfSome t.left_before (StopsAtLine draw t e (number + 1) why)
@@ -221,11 +221,11 @@ stops {V} draw why left after t e number used line so_far loses enough is serves
     by reason.Many is serves = absurd serves
     by reason.Memory is serves = (some_sent draw left t e number used so_far, reads, writes)
 
-pub stopped_in : {V : Type 0} (draw other : Draws) (why : Refusal) (left after : Option (List ℕ)) (t : Traffic) (e : Errors)
+pub stopped_in : (V : Type 0) (draw other : Draws) (why : Refusal) (left after : Option (List ℕ)) (t : Traffic) (e : Errors)
     (number used : ℕ) (line : List ℕ) → other ≡ draw
     → SoFar draw t.left_before left t.out_before t.out_after e number used → LosesLine left after line
     → used ≤ lines_budget number → IfSome (told why) (λ r. other line ≡ Err r) → IsOfText {V = V} (Err why)
     → t.read_failed ≡ false → t.write_failed ≡ false → LinesFail draw why (Some (number + 1)) t e
-stopped_in {V} draw other why left after t e number used line same so_far loses enough is =
-    stops {V = V} draw why left after t e number used line so_far loses enough
+stopped_in V draw other why left after t e number used line same so_far loses enough is =
+    stops V draw why left after t e number used line so_far loses enough
     (subst (λ (d : Draws). IfSome (told why) (λ r. d line ≡ Err r)) same is)

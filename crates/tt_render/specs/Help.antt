@@ -1,6 +1,6 @@
 -- No part of the standard: the second line about a refused label, which tells a person what to do (profile). The first is
 -- that of the refusal, and does not depend on this one.
-use Rattle.std.specs.Prelude.{◌≡◌, refl, ℕ, Bool, true, false, if◌then◌else◌, List, [], ◌++◌, codes, decimal, Option, Some, None}
+use Rattle.std.specs.Prelude.{◌≡◌, refl, ℕ, Bool, if◌then◌else◌, List, [], ◌++◌, codes, decimal, Option, Some, None}
 use Rattle.std.specs.Fmt.{digits}
 use Rattle.tt_advice.specs.declared.hint.FixedHint.TheVariants as fixed
 use Rattle.tt_advice.specs.declared.hint.Hint.{Hint}

@@ -8,6 +8,7 @@ ghost use Rattle.tt_render.specs.Products.{CanGoOut};
 ghost use Rattle.tt_render.specs.Settings.{job_by, strike_of};
 ghost use Rattle.tt_render.specs.Texts.{text_answer};
 ghost use Rattle.tt_render.specs.TextsOutcome.{FontTextGives, ReadiesText, TellsOf, TextTellsDefects, TextTellsDefectsOf, FailsByStop, FindsLine, FontLinesGive, IsOfText, LinesGive, answer_view, refusal_font_fault, told, without_line};
+ghost use Rattle.tt_line.specs.Layout.{text_glyphs};
 ghost use Rattle.tt_strike.specs.Defects.{IsRunDefect};
 ghost use Rattle.tt_strike.specs.Job.{tested};
 ghost use Rattle.tt_core.specs.Outcomes.{GivesUnless, IfTold};
@@ -111,7 +112,7 @@ fn draw_line(
     ensures valid { IfOk result (λ r. CanGoOut r.output) }
     ensures report { IfOk result (TellsOf (Some number)) }
     ensures serves { IsOfText (without_line result) }
-    ensures defects { IfTold refusal_font_fault (without_line result) (IsDefectBy setting.now strike.old line.now) }
+    ensures defects { IfTold refusal_font_fault (without_line result) (IsDefectBy text_glyphs setting.now strike.old line.now) }
     ensures same { strike.new ≡ record strike.old { kept = strike.new.kept } }
 {
     let Ok(text) = str::from_utf8(line) else {
@@ -166,7 +167,7 @@ fn draw_lines_by<R: Source, W: Sink, E: Sink>(
     requires error { E.has_failed error.old ≡ false }
     requires file { file.now ≡ strike.old.face.directory.file }
     ensures outcome { LinesGive (line_drawn setting.now strike.old) result (traffic_of R.left R.has_failed W.written W.has_failed lines.old lines.new out.old out.new) (errors_of E.written E.has_failed error.old error.new) }
-    ensures defects { LinesTell (IsDefectBy setting.now strike.old) (R.left lines.old) result }
+    ensures defects { LinesTell (IsDefectBy text_glyphs setting.now strike.old) (R.left lines.old) result }
     ensures kept { IfOk result (λ n. n ≤ strike.old.most) }
 {
     let mut reader = LineReader::new(alloc)?;
@@ -229,7 +230,7 @@ pub fn draw_lines<F: Source, R: Source, W: Sink, E: Sink>(
     ensures outcome { FontLinesGive setting.now result (font_reader_of F.left F.has_failed font.old font.new) (traffic_of R.left R.has_failed W.written W.has_failed lines.old lines.new out.old out.new) (errors_of E.written E.has_failed error.old error.new) }
     // A font's fault in an error is a defect of the font: of the tables needed for every text, or of the data that the
     // numbered line is drawn from.
-    ensures defects { LinesTellDefectsOf (F.left font.old) setting.now (R.left lines.old) result }
+    ensures defects { LinesTellDefectsOf text_glyphs (F.left font.old) setting.now (R.left lines.old) result }
     ensures kept { IfOk result (λ n. n ≤ setting.now.most) }
 {
     test_setting(setting)?;

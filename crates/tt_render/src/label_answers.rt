@@ -4,10 +4,13 @@ ghost use Rattle.std.specs.Prelude.{◌≡◌, ℕ, ◌≤◌, List, length, map
 ghost use Rattle.tt_core.specs.Limits.{font_limit};
 ghost use Rattle.tt_core.specs.Outcomes.{GivesUnless};
 ghost use Rattle.tt_render.specs.Labels.{TellsLabel, face_number, label_answer, label_told, label_view, signs_of, strike_in};
+ghost use Rattle.tt_render.specs.LinesDefects.{IsDefectBy};
 ghost use Rattle.tt_render.specs.Reports.{told_view};
+ghost use Rattle.tt_label.specs.Label.{label_glyphs};
 ghost use Rattle.tt_line.specs.Labels.{label_lines};
-ghost use Rattle.tt_render.specs.TextsOutcome.{IsOfText, told, without_line};
+ghost use Rattle.tt_render.specs.TextsOutcome.{IsOfText, refusal_font_fault, told, without_line};
 ghost use Rattle.tt_render_run.specs.File.{p4};
+ghost use Rattle.tt_strike.specs.Defects.{TellsDefects};
 
 use crate::label::Label;
 use crate::label_reports::LabelTold;
@@ -88,6 +91,7 @@ pub(crate) fn answer_label(
     ensures exact { GivesUnless told label_view (without_line result) (label_answer asked.now (strike_in asked.now.setting sized.old) text.now) }
     ensures report { IfOk result (TellsLabel number) }
     ensures serves { IsOfText (without_line result) }
+    ensures defects { TellsDefects refusal_font_fault (IsDefectBy label_glyphs asked.now.setting (strike_in asked.now.setting sized.old) text.now) (without_line result) }
     ensures same { sized.new ≡ sized.old }
 {
     let face = sized.face();

@@ -2,14 +2,16 @@
 
 ghost use Rattle.std.specs.Prelude.{◌≡◌, ◌≤◌, false, length, Ok, Err, None, IfOk, IfSome, Some};
 ghost use Rattle.tt_core.specs.Limits.{font_limit};
-ghost use Rattle.tt_core.specs.Outcomes.{GivesUnless};
+ghost use Rattle.tt_core.specs.Outcomes.{GivesUnless, IfTold};
+ghost use Rattle.tt_label.specs.Label.{label_glyphs};
 ghost use Rattle.tt_render_run.specs.Outcome.{traffic_of};
 ghost use Rattle.tt_render_run.specs.Reading.{font_reader_of};
 ghost use Rattle.tt_render.specs.Labels.{FileLabelsGive, FontLabelGives, FontLabelsGive, HintsBy, LabelReadies, TellsLabel, hint_for, label_answer, label_view, line_labelled, strike_in};
 ghost use Rattle.tt_render.specs.Lines.{line_limit};
+ghost use Rattle.tt_render.specs.LinesDefects.{IsDefectBy, IsTextDefect, LinesTell, LinesTellDefects, LinesTellDefectsOf};
 ghost use Rattle.tt_render.specs.Printing.{errors_of};
 ghost use Rattle.tt_render.specs.Settings.{job_by, setting_tested, strike_of};
-ghost use Rattle.tt_render.specs.TextsOutcome.{IsOfText, LinesGive, told, without_line};
+ghost use Rattle.tt_render.specs.TextsOutcome.{IsOfText, LinesGive, TextTellsDefects, TextTellsDefectsOf, refusal_font_fault, told, without_line};
 ghost use Rattle.tt_render.specs.Views.{before_lines};
 ghost use Rattle.tt_strike.specs.Job.{tested};
 
@@ -86,6 +88,7 @@ fn draw(alloc: Global, file: &[u8], text: &str, asked: &Label) -> Result<ReadyLa
     requires size { length file.now ≤ font_limit }
     requires tested { tested (job_by asked.now.setting text.now) ≡ Ok tt }
     ensures outcome { LabelReadies (λ s. label_answer asked.now s text.now) (strike_of asked.now.setting file.now) result }
+    ensures defects { TextTellsDefects (IsTextDefect label_glyphs asked.now.setting text.now file.now) result }
     ensures report { IfOk result (TellsLabel None) }
 {
     let face = Face::read(file, asked.setting.reading)?;
@@ -118,6 +121,7 @@ pub fn draw_label<R: Source, W: Sink, E: Sink>(
     // Either the call stopped before the text was drawn, and did nothing else. Or the font was read to its end and
     // opened, and the writing and printing are as defined for the label by that font.
     ensures outcome { FontLabelGives asked.now text.now result.answer (traffic_of R.left R.has_failed W.written W.has_failed font.old font.new out.old out.new) (errors_of E.written E.has_failed error.old error.new) }
+    ensures defects { TextTellsDefectsOf (R.left font.old) (IsTextDefect label_glyphs asked.now.setting text.now) result.answer }
     ensures hint { IfSome (R.left font.old) (HintsBy asked.now result) }
 {
     if let Err(fault) = test_job(&asked.setting.job(text)) {
@@ -157,6 +161,7 @@ fn draw_line(
     ensures exact { GivesUnless told label_view (without_line result) (line_labelled asked.now (strike_in asked.now.setting sized.old) line.now) }
     ensures report { IfOk result (TellsLabel (Some number)) }
     ensures serves { IsOfText (without_line result) }
+    ensures defects { IfTold refusal_font_fault (without_line result) (IsDefectBy label_glyphs asked.now.setting (strike_in asked.now.setting sized.old) line.now) }
     ensures same { sized.new ≡ sized.old }
 {
     let Ok(text) = str::from_utf8(line) else {
@@ -180,7 +185,8 @@ fn draw_labels_by<R: Source, W: Sink, E: Sink>(
     requires error { E.has_failed error.old ≡ false }
     requires size { length file.now ≤ font_limit }
     requires file { file.now ≡ sized.old.face.directory.file }
-    ensures { LinesGive (line_labelled asked.now (strike_in asked.now.setting sized.old)) result (traffic_of R.left R.has_failed W.written W.has_failed lines.old lines.new out.old out.new) (errors_of E.written E.has_failed error.old error.new) }
+    ensures outcome { LinesGive (line_labelled asked.now (strike_in asked.now.setting sized.old)) result (traffic_of R.left R.has_failed W.written W.has_failed lines.old lines.new out.old out.new) (errors_of E.written E.has_failed error.old error.new) }
+    ensures defects { LinesTell (IsDefectBy label_glyphs asked.now.setting (strike_in asked.now.setting sized.old)) (R.left lines.old) result }
 {
     let mut reader = LineReader::new(alloc)?;
     for before in 0..u32::MAX {
@@ -224,7 +230,8 @@ fn draw_labels_of<R: Source, W: Sink, E: Sink>(
     requires error { E.has_failed error.old ≡ false }
     requires size { length file.now ≤ font_limit }
     requires tested { setting_tested asked.now.setting ≡ Ok tt }
-    ensures { FileLabelsGive asked.now file.now result (traffic_of R.left R.has_failed W.written W.has_failed lines.old lines.new out.old out.new) (errors_of E.written E.has_failed error.old error.new) }
+    ensures outcome { FileLabelsGive asked.now file.now result (traffic_of R.left R.has_failed W.written W.has_failed lines.old lines.new out.old out.new) (errors_of E.written E.has_failed error.old error.new) }
+    ensures defects { LinesTellDefects label_glyphs asked.now.setting (R.left lines.old) result file.now }
 {
     let face = Face::read(file, asked.setting.reading)?;
     let mut sized = SizedFace::new(alloc, &face, asked.setting.ppem, asked.setting.fit)?;
@@ -252,6 +259,9 @@ pub fn draw_labels<F: Source, R: Source, W: Sink, E: Sink>(
     requires out { W.has_failed out.old ≡ false }
     requires error { E.has_failed error.old ≡ false }
     ensures outcome { FontLabelsGive asked.now result.answer (font_reader_of F.left F.has_failed font.old font.new) (traffic_of R.left R.has_failed W.written W.has_failed lines.old lines.new out.old out.new) (errors_of E.written E.has_failed error.old error.new) }
+    // A font's fault in an answer is a defect of the font: of the tables needed for every text, or of the data that the
+    // numbered line is drawn from.
+    ensures defects { LinesTellDefectsOf label_glyphs (F.left font.old) asked.now.setting (R.left lines.old) result.answer }
     ensures hint { IfSome (F.left font.old) (HintsBy asked.now result) }
 {
     if let Err(fault) = test_setting(&asked.setting) {

@@ -31,6 +31,7 @@ fn fit_name(fit: Fit) -> &'static str
 }
 
 /// What is reported of a character with a sign, behind its code point.
+#[tactic(auto, unfolding(crate::specs::Reports::sign_words))]
 fn sign_words(sign: Sign, c: char) -> &'static str
     ensures { result.now ≡ sign_words sign c }
 {

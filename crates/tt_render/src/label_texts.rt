@@ -3,11 +3,11 @@
 ghost use Rattle.std.specs.Prelude.{◌≡◌, map, IfOk, OnOk};
 ghost use Rattle.std.specs.Str.Lines.{lines};
 ghost use Rattle.tt_cmap.specs.Lacking.{distinct_after, with_character};
-ghost use Rattle.tt_core.specs.Outcomes.{GivesUnless};
+ghost use Rattle.tt_core.specs.Outcomes.{GivesUnless, IfTold};
 ghost use Rattle.tt_render.specs.Labels.{lines_lacking};
 ghost use Rattle.tt_line.specs.Labels.{label_lines};
 ghost use Rattle.tt_render.specs.Texts.{missing_among};
-ghost use Rattle.tt_render.specs.TextsOutcome.{IsOfText, told, without_line};
+ghost use Rattle.tt_render.specs.TextsOutcome.{IsOfText, refusal_font_fault, told, without_line};
 
 use crate::refusal::{Refusal, TextsFault, texts_fault};
 use crate::setting::Missing;
@@ -80,6 +80,7 @@ pub(crate) fn missing_in(
     lines: &[&str],
 ) -> Result<Vec<char>, TextsFault>
     ensures exact { GivesUnless told (λ v. v.items) (without_line result) (missing_among how (lines_lacking cmap.now (map (λ l. l.now) lines.now))) }
+    ensures font { IfTold refusal_font_fault (without_line result) (λ _. ⊥) }
     ensures serves { IsOfText (without_line result) }
 {
     match how {

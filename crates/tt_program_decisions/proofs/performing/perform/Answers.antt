@@ -31,7 +31,7 @@ returns-in-Label-clause-outcome g c =
         drawn = c.draw_label-drawn.result;
         between = g.E.Sink.written c.draw_label-drawn.new.error;
         had_failed = g.E.Sink.has_failed c.draw_label-drawn.new.error;
-        outcome = (c.draw_label-drawn.ensures.outcome, c.draw_label-drawn.ensures.hint);
+        outcome = (c.draw_label-drawn.ensures.outcome, c.draw_label-drawn.ensures.defects, c.draw_label-drawn.ensures.hint);
         told = c.tell_label.ensures.told;
       },
     )
@@ -45,7 +45,7 @@ returns-in-Labels-clause-outcome g c =
         drawn = c.draw_labels-drawn.result;
         between = g.E.Sink.written c.draw_labels-drawn.new.error;
         had_failed = g.E.Sink.has_failed c.draw_labels-drawn.new.error;
-        outcome = (c.draw_labels-drawn.ensures.outcome, c.draw_labels-drawn.ensures.hint);
+        outcome = (c.draw_labels-drawn.ensures.outcome, c.draw_labels-drawn.ensures.defects, c.draw_labels-drawn.ensures.hint);
         told = c.tell_label-in-Labels.ensures.told;
       },
     )

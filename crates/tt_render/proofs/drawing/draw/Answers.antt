@@ -1,10 +1,11 @@
 use Rattle.std.proofs.Common.{◌∙◌, inl, refl}
 use Rattle.std.proofs.lemmas.Result.{err_from_is_err_and}
+use Rattle.tt_line.specs.Layout.{text_glyphs}
+use Rattle.tt_render.specs.declared.text_answers.ReadyText.{ReadyText}
 use Rattle.tt_render.specs.Settings.{job_by, strike_by, strike_of}
 use Rattle.tt_render.specs.Texts.{text_answer}
-use Rattle.tt_render_run.proofs.Faces.{no_defect}
 use Rattle.tt_render.proofs.FontLines.{face_file, font_opened, font_refused}
-use Rattle.tt_render.proofs.OneText.{most_aside, strike_stops, strike_tells, text_stops, text_tells}
+use Rattle.tt_render.proofs.OneText.{most_aside, none_in_file, strike_stops, strike_tells, text_stops, text_tells}
 use Rattle.tt_render.proofs.drawing.draw.Goals as goal
 use Rattle.tt_strike.specs.Defects.{IsRunDefect}
 
@@ -39,7 +40,7 @@ returns-clause-outcome c =
     let s = strike_by a c.in_ok-face.face in
     let refused = rw (c.in_ok-strike.ensures.exact, ← most_aside a s 0 text) at c.in-Err.ensures.exact
     in
-    rw c.texts_fault.ensures (text_stops (λ t. text_answer a t text) (strike_of a c.args.file.now) s c.in-Err.fault.refusal
+    rw c.texts_fault.ensures (text_stops ReadyText (λ t. text_answer a t text) (strike_of a c.args.file.now) s c.in-Err.fault.refusal
     (font_opened a c.args.file.now c.in_ok-face.face c.requires.size c.in_ok-face.ensures.exact) refused
     c.in-Err.ensures.serves)
 
@@ -51,19 +52,19 @@ returns-in_err-face-clause-defects c =
 pub returns-in_err-strike-clause-defects : goal.returns-in_err-strike-clause-defects
 returns-in_err-strike-clause-defects c =
     let p = err_from_is_err_and c.from_residual-in_err-strike.result c.from_residual-in_err-strike.ensures.1 in
-    rw (p.1, p.2) (strike_tells (IsRunDefect c.args.setting.now.reading (job_by c.args.setting.now c.args.text.now) c.args.file.now)
+    rw (p.1, p.2) (strike_tells ReadyText (IsRunDefect c.args.setting.now.reading (job_by c.args.setting.now c.args.text.now) c.args.file.now)
     c.in_err-strike.field-0.0 c.in_err-strike.ensures.font)
 
 pub returns-in-Ok-clause-defects : goal.returns-in-Ok-clause-defects
 returns-in-Ok-clause-defects c =
     let none = rw c.in_ok-strike.ensures.exact at c.in-Ok.ensures.defects in
-    no_defect c.args.setting.now.reading (job_by c.args.setting.now c.args.text.now) c.args.file.now c.in_ok-face.face c.in_ok-face.ensures.exact
+    none_in_file text_glyphs c.args.setting.now c.args.text.now c.args.file.now c.in_ok-face.face c.in_ok-face.ensures.exact
     c.in_ok-face.ensures.sound none
 
 pub returns-clause-defects : goal.returns-clause-defects
 returns-clause-defects c =
     let stands = rw c.in_ok-strike.ensures.exact at c.in-Err.ensures.defects in
-    rw c.texts_fault.ensures (text_tells c.args.setting.now.reading (job_by c.args.setting.now c.args.text.now) c.args.file.now
+    rw c.texts_fault.ensures (text_tells ReadyText text_glyphs c.args.setting.now c.args.text.now c.args.file.now
     c.in_ok-face.face c.in-Err.fault.refusal c.in_ok-face.ensures.exact stands c.in-Err.ensures.serves)
 
 pub answer_text-requires : goal.answer_text-requires

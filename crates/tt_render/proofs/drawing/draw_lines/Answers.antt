@@ -1,5 +1,6 @@
 use Rattle.std.proofs.Common.{ℕ, List, ap, inl, inr, subst}
 use Rattle.std.proofs.lemmas.Result.{err_from_is_err_and}
+use Rattle.tt_line.specs.Layout.{text_glyphs}
 use Rattle.tt_render.specs.LinesDefects.{LinesTellDefects}
 use Rattle.tt_render_run.specs.Reading.{FontIsRead, FontIsUnread, font_reader_of}
 use Rattle.tt_render.specs.Settings.{strike_by, strike_of}
@@ -78,14 +79,14 @@ returns-clause-outcome g c =
 pub returns-in_err-test_setting-clause-defects : goal.returns-in_err-test_setting-clause-defects
 returns-in_err-test_setting-clause-defects g c =
     let p = err_from_is_err_and c.from_residual.result c.from_residual.ensures.1 in
-    rw (p.1, p.2) (setting_tells ℕ (g.F.Source.left c.args.font.now) c.args.setting.now
+    rw (p.1, p.2) (setting_tells ℕ text_glyphs (g.F.Source.left c.args.font.now) c.args.setting.now
     (g.R.Source.left c.args.lines.now) c.in_err-test_setting.field-0.0)
 
 pub returns-in_err-file-clause-defects : goal.returns-in_err-file-clause-defects
 returns-in_err-file-clause-defects g c =
     let left = g.F.Source.left in
     let p = err_from_is_err_and c.from_residual-in_err-file.result c.from_residual-in_err-file.ensures.1 in
-    rw (p.1, p.2) (reading_tells ℕ c.in_err-file.field-0.0 (left c.args.font.now) (left c.read_font.new.font)
+    rw (p.1, p.2) (reading_tells ℕ text_glyphs c.in_err-file.field-0.0 (left c.args.font.now) (left c.read_font.new.font)
     (g.F.Source.has_failed c.read_font.new.font) c.args.setting.now (g.R.Source.left c.args.lines.now)
     c.in_err-file.ensures)
 
@@ -102,7 +103,7 @@ returns-in_err-face-clause-defects g c =
 pub returns-in_err-strike-clause-defects : goal.returns-in_err-strike-clause-defects
 returns-in_err-strike-clause-defects g c =
     let p = err_from_is_err_and c.from_residual-in_err-strike.result c.from_residual-in_err-strike.ensures.1 in
-    rw (p.1, p.2) (strike_tells ℕ (g.F.Source.left c.args.font.now) c.args.setting.now
+    rw (p.1, p.2) (strike_tells ℕ text_glyphs (g.F.Source.left c.args.font.now) c.args.setting.now
     (g.R.Source.left c.args.lines.now) c.in_err-strike.field-0.0 c.in_err-strike.ensures.font)
 
 pub returns-clause-defects : goal.returns-clause-defects
@@ -114,8 +115,8 @@ returns-clause-defects g c =
     let there = rw c.deref.ensures.value at c.in_ok-face.ensures.exact in
     let tells = rw c.in_ok-strike.ensures.exact at c.draw_lines_by.ensures.defects in
     known_of (left c.args.font.now) (left c.read_font.new.font) file.file.items
-    (LinesTellDefects a text c.draw_lines_by.result) file.ensures.0 file.ensures.1
-    (lines_tell a file.file.items c.in_ok-face.face text c.draw_lines_by.result there tells)
+    (LinesTellDefects text_glyphs a text c.draw_lines_by.result) file.ensures.0 file.ensures.1
+    (lines_tell text_glyphs a file.file.items c.in_ok-face.face text c.draw_lines_by.result there tells)
 
 pub returns-clause-kept : goal.returns-clause-kept
 returns-clause-kept g c =

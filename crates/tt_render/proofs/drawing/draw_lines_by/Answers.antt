@@ -1,6 +1,8 @@
 use Rattle.std.proofs.Common.{◌≡◌, ◌∙◌, ap, sym, ℕ, ◌+◌, IfSome, Some, Ok, arith, refl, subst}
 use Rattle.std.proofs.lemmas.Result.{err_from_is_err_and}
+use Rattle.tt_line.specs.Layout.{text_glyphs}
 use Rattle.tt_strike.specs.Strikes.{Strike}
+use Rattle.tt_render.specs.declared.text_answers.ReadyText.{ReadyText}
 use Rattle.tt_render.specs.LineReading.{held, line_at, text_left}
 use Rattle.tt_render.specs.Lines.{line_drawn, lines_limit}
 use Rattle.tt_render.specs.LinesDefects.{IsDefectBy}
@@ -84,7 +86,7 @@ returns-in-Err-draw_line-clause-outcome g c =
     let e = errors_of g.E.Sink.written g.E.Sink.has_failed c.args.error.now c.loop-before.error in
     let same = drawn_alike a c.args.strike.now c.loop-before.strike so_far.strike in
     let is = rw c.line-line.ensures at c.in-Err-draw_line.ensures.exact in
-    let fails = stopped_in (line_drawn a c.args.strike.now) (line_drawn a c.loop-before.strike) c.in-Err-draw_line.fault.refusal
+    let fails = stopped_in ReadyText (line_drawn a c.args.strike.now) (line_drawn a c.loop-before.strike) c.in-Err-draw_line.fault.refusal
     (text_left c.loop-before.reader (left c.loop-before.lines))
     (text_left c.next_line.new.reader (left c.next_line.new.lines)) t e c.loop-before.before c.loop-before.used
     (line_at c.next_line.new.reader c.in-Ok-Some.place) same so_far.so_far found.0 found.2 is
@@ -176,7 +178,7 @@ returns-in_err-reader-clause-defects g c =
 pub returns-in-Err-clause-defects : goal.returns-in-Err-clause-defects
 returns-in-Err-clause-defects g c =
     let left = g.R.Source.left in
-    rw c.texts_fault.ensures (begun_tells (IsDefectBy c.args.setting.now c.args.strike.now) (left c.args.lines.now)
+    rw c.texts_fault.ensures (begun_tells (IsDefectBy text_glyphs c.args.setting.now c.args.strike.now) (left c.args.lines.now)
     (text_left c.loop-before.reader (left c.loop-before.lines))
     (text_left c.next_line.new.reader (left c.next_line.new.lines)) c.next_line.new.reader c.loop-before.before
     c.loop-before.used c.in-Err.stop.refusal c.in-Err.ensures.outcome)
@@ -191,9 +193,9 @@ returns-in-Err-draw_line-clause-defects g c =
     let found = rw c.in-Ok-Some.field-0-is at c.in-Ok-Some.ensures.outcome in
     let line = line_at c.next_line.new.reader c.in-Ok-Some.place in
     let why = c.in-Err-draw_line.fault.refusal in
-    let Tells : Strike → Type 0 = λ s. IfSome (refusal_font_fault why) (IsDefectBy a s line) in
+    let Tells : Strike → Type 0 = λ s. IfSome (refusal_font_fault why) (IsDefectBy text_glyphs a s line) in
     let is = subst Tells so_far.strike (rw c.line-line.ensures at c.in-Err-draw_line.ensures.defects) in
-    let IsOne = IsDefectBy a c.args.strike.now in
+    let IsOne = IsDefectBy text_glyphs a c.args.strike.now in
     rw c.texts_fault-in-Err-draw_line.ensures (stop_tells IsOne (line_drawn a c.args.strike.now)
     (left c.args.lines.now) rest (g.W.Sink.written c.args.out.now) (g.W.Sink.written c.loop-before.out)
     (errors_of g.E.Sink.written g.E.Sink.has_failed c.args.error.now c.loop-before.error) c.loop-before.before

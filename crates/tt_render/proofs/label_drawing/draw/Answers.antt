@@ -2,10 +2,12 @@ use Rattle.std.proofs.Common.{ap, inl, refl}
 use Rattle.std.proofs.lemmas.Result.{err_from_is_err_and}
 use Rattle.tt_core.specs.declared.draw_fault.DrawFault.TheVariants as draw
 use Rattle.tt_strike.specs.Refusals.{as_job}
+use Rattle.tt_label.specs.Label.{label_glyphs}
+use Rattle.tt_render.specs.declared.label_answers.ReadyLabel.{ReadyLabel}
 use Rattle.tt_render.specs.Labels.{label_answer}
 use Rattle.tt_render.specs.Settings.{job_by, strike_by, strike_of}
 use Rattle.tt_render.proofs.FontLines.{face_file, font_opened, font_refused}
-use Rattle.tt_render.proofs.OneText.{strike_stops, text_stops}
+use Rattle.tt_render.proofs.OneText.{none_in_file, strike_stops, text_stops, text_tells}
 use Rattle.tt_render.proofs.label_drawing.draw.Goals as goal
 
 pub returns-in_err-face-clause-outcome : goal.returns-in_err-face-clause-outcome
@@ -37,10 +39,32 @@ returns-clause-outcome c =
     let text = c.args.text.now in
     let s = strike_by l.setting c.in_ok-face.face in
     let refused = rw c.in_ok-sized.ensures.exact at c.in-Err.ensures.exact in
-    rw c.texts_fault.ensures (text_stops (λ t. label_answer l t text) (strike_of l.setting c.args.file.now) s
+    rw c.texts_fault.ensures (text_stops ReadyLabel (λ t. label_answer l t text) (strike_of l.setting c.args.file.now) s
     c.in-Err.fault.refusal
     (font_opened l.setting c.args.file.now c.in_ok-face.face c.requires.size c.in_ok-face.ensures.exact) refused
     c.in-Err.ensures.serves)
+
+pub returns-in_err-face-clause-defects : goal.returns-in_err-face-clause-defects
+returns-in_err-face-clause-defects c =
+    let p = err_from_is_err_and c.from_residual.result c.from_residual.ensures.1 in
+    rw (p.1, p.2) (inl c.in_err-face.ensures.fault)
+
+pub returns-in_err-sized-clause-defects : goal.returns-in_err-sized-clause-defects
+returns-in_err-sized-clause-defects c =
+    let p = err_from_is_err_and c.from_residual-in_err-sized.result c.from_residual-in_err-sized.ensures.1 in
+    rw (p.1, p.2) tt
+
+pub returns-in-Ok-clause-defects : goal.returns-in-Ok-clause-defects
+returns-in-Ok-clause-defects c =
+    let none = rw c.in_ok-sized.ensures.exact at c.in-Ok.ensures.defects in
+    none_in_file label_glyphs c.args.asked.now.setting c.args.text.now c.args.file.now c.in_ok-face.face
+    c.in_ok-face.ensures.exact c.in_ok-face.ensures.sound none
+
+pub returns-clause-defects : goal.returns-clause-defects
+returns-clause-defects c =
+    let stands = rw c.in_ok-sized.ensures.exact at c.in-Err.ensures.defects in
+    rw c.texts_fault.ensures (text_tells ReadyLabel label_glyphs c.args.asked.now.setting c.args.text.now c.args.file.now
+    c.in_ok-face.face c.in-Err.fault.refusal c.in_ok-face.ensures.exact stands c.in-Err.ensures.serves)
 
 pub answer_label-requires-clause-file : goal.answer_label-requires-clause-file
 answer_label-requires-clause-file c =

@@ -1,18 +1,19 @@
-use Rattle.std.proofs.Common.{◌≡◌, ◌∙◌, ap, refl, sym, ℕ, List, Ok, Err, inl, subst}
-use Rattle.tt_render.specs.declared.refusal.Refusal.{Refusal}
+use Rattle.std.proofs.Common.{◌≡◌, refl, ℕ, List, Ok, Err, inl, subst}
 use Rattle.tt_render.specs.declared.refusal.Refusal.TheVariants as reason
 use Rattle.tt_render.specs.Labels.{HintsBy, LabelReadies, hint_for, label_answer, label_view}
+use Rattle.tt_label.specs.Label.{label_glyphs}
+use Rattle.tt_render.specs.LinesDefects.{IsTextDefect}
 use Rattle.tt_render_run.specs.Outcome.{traffic_of}
 use Rattle.tt_render.specs.Printing.{errors_of}
 use Rattle.tt_render_run.specs.Reading.{font_reader_of}
 use Rattle.tt_render.specs.Settings.{job_by, strike_of}
-use Rattle.tt_render.specs.TextsOutcome.{StopsAtFont}
+use Rattle.tt_render.specs.TextsOutcome.{StopsAtFont, TextTellsDefects}
 use Rattle.tt_render.specs.Views.{before_lines}
 use Rattle.tt_strike.specs.Job.{Job, tested}
 use Rattle.tt_render_run.proofs.Calls.{known_of}
 use Rattle.tt_render.proofs.FontLines.{reading_stops}
 use Rattle.tt_render.proofs.LabelCalls.{if_some_all, reading_hints}
-use Rattle.tt_render.proofs.OneText.{silent, text_cut, text_fails, text_written}
+use Rattle.tt_render.proofs.OneText.{job_tells, reading_tells, silent, text_cut, text_fails, text_written}
 use Rattle.tt_render.proofs.Printed.{keeps_itself}
 use Rattle.tt_render.proofs.label_drawing.draw_label.Goals as goal
 
@@ -76,7 +77,7 @@ returns-in-Ok-write_all_of-clause-outcome g c =
     let good = subst (λ (k : Job). tested k ≡ Ok tt) c.job.ensures.exact c.in_default.ensures.exact in
     let made = rw c.deref.ensures.value at ready.ensures.outcome in
     let printed = rw (c.requires.error, c.deref-in-Ok-write_all_of.ensures, ready.ensures.report) at c.print_text.ensures in
-    let sent = rw c.deref-in-Ok-draw.ensures.value at c.in-Ok-write_all_of.ensures.all in
+    let sent = rw c.deref-2.ensures.value at c.in-Ok-write_all_of.ensures.all in
     rw c.done.ensures
     (text_written l.setting (λ t. label_answer l t c.args.text.now) c.args.text.now file.file.items made.0
     (label_view ready.ready)
@@ -93,14 +94,15 @@ returns-clause-outcome g c =
     let good = subst (λ (k : Job). tested k ≡ Ok tt) c.job.ensures.exact c.in_default.ensures.exact in
     let made = rw c.deref.ensures.value at ready.ensures.outcome in
     let cut = c.in-Err-write_all_of.ensures in
-    rw c.unhinted.ensures
+    rw c.unhinted-in-Err-write_all_of.ensures
     (text_cut l.setting (λ t. label_answer l t c.args.text.now) c.args.text.now file.file.items made.0
     (label_view ready.ready) c.in-Err-write_all_of.cut.sent
     (traffic_of g.R.Source.left g.R.Source.has_failed g.W.Sink.written g.W.Sink.has_failed c.args.font.now
     c.read_font.new.font c.args.out.now c.write_all_of.new.out)
     (errors_of g.E.Sink.written g.E.Sink.has_failed c.args.error.now c.args.error.now)
     good (file.ensures.0, file.ensures.1, file.ensures.3) made.1 made.2
-    (cut.within, cut.part) cut.failure (keeps_itself (g.E.Sink.written c.args.error.now), c.requires.error))
+    (rw c.deref-2.ensures.value at cut.within, rw c.deref-2.ensures.value at cut.part) cut.failure
+    (keeps_itself (g.E.Sink.written c.args.error.now), c.requires.error))
 
 pub returns-in-Err-clause-hint : goal.returns-in-Err-clause-hint
 returns-in-Err-clause-hint g c =
@@ -119,7 +121,9 @@ returns-in-Err-draw-clause-hint g c =
     let left = g.R.Source.left in
     let file = c.in-Ok in
     known_of (left c.args.font.now) (left c.read_font.new.font) file.file.items (HintsBy c.args.asked.now c.hinted.result)
-    file.ensures.0 file.ensures.1 (rw (c.hinted.ensures, c.deref-in-Err-draw.ensures.value) refl)
+    file.ensures.0 file.ensures.1
+    (rw (c.hinted.ensures, c.deref-in-Err-draw.ensures.value) (refl {a = hint_for c.in-Err-draw.fault.refusal file.file.items
+    c.args.asked.now.setting.reading}))
 
 pub returns-in-Ok-write_all_of-clause-hint : goal.returns-in-Ok-write_all_of-clause-hint
 returns-in-Ok-write_all_of-clause-hint g c =
@@ -127,4 +131,43 @@ returns-in-Ok-write_all_of-clause-hint g c =
 
 pub returns-clause-hint : goal.returns-clause-hint
 returns-clause-hint g c =
-    rw c.unhinted.ensures (if_some_all (g.R.Source.left c.args.font.now) _ (λ file. refl))
+    rw c.unhinted-in-Err-write_all_of.ensures (if_some_all (g.R.Source.left c.args.font.now) _ (λ file. refl))
+
+pub returns-in-Err-clause-defects : goal.returns-in-Err-clause-defects
+returns-in-Err-clause-defects g c =
+    rw c.unhinted.ensures (job_tells (g.R.Source.left c.args.font.now)
+    (IsTextDefect label_glyphs c.args.asked.now.setting c.args.text.now) c.in-Err.fault)
+
+pub returns-in-Err-read_font-clause-defects : goal.returns-in-Err-read_font-clause-defects
+returns-in-Err-read_font-clause-defects g c =
+    let left = g.R.Source.left in
+    let font = c.read_font.new.font in
+    rw (c.unhinted-in-Err-read_font.ensures, c.refusal_of_run.ensures)
+    (reading_tells c.in-Err-read_font.fault (left c.args.font.now) (left font) (g.R.Source.has_failed font)
+    (IsTextDefect label_glyphs c.args.asked.now.setting c.args.text.now) c.in-Err-read_font.ensures)
+
+pub returns-in-Err-draw-clause-defects : goal.returns-in-Err-draw-clause-defects
+returns-in-Err-draw-clause-defects g c =
+    let left = g.R.Source.left in
+    let file = c.in-Ok in
+    let P : List ℕ → Type 0 = λ bytes. TextTellsDefects {V = Unit {0}}
+    (IsTextDefect label_glyphs c.args.asked.now.setting c.args.text.now bytes) (Err c.in-Err-draw.fault) in
+    let tells = subst P c.deref.ensures.value c.in-Err-draw.ensures.defects in
+    rw c.hinted.ensures
+    (known_of (left c.args.font.now) (left c.read_font.new.font) file.file.items P file.ensures.0 file.ensures.1 tells)
+
+pub returns-in-Ok-write_all_of-clause-defects : goal.returns-in-Ok-write_all_of-clause-defects
+returns-in-Ok-write_all_of-clause-defects g c =
+    let left = g.R.Source.left in
+    let file = c.in-Ok in
+    let tells = rw c.deref.ensures.value at c.in-Ok-draw.ensures.defects in
+    rw c.done.ensures
+    (known_of (left c.args.font.now) (left c.read_font.new.font) file.file.items _ file.ensures.0 file.ensures.1 tells)
+
+pub returns-clause-defects : goal.returns-clause-defects
+returns-clause-defects g c =
+    let left = g.R.Source.left in
+    let file = c.in-Ok in
+    let tells = rw c.deref.ensures.value at c.in-Ok-draw.ensures.defects in
+    rw c.unhinted-in-Err-write_all_of.ensures
+    (known_of (left c.args.font.now) (left c.read_font.new.font) file.file.items _ file.ensures.0 file.ensures.1 tells)

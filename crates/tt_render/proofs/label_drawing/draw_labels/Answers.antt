@@ -1,10 +1,13 @@
-use Rattle.std.proofs.Common.{◌≡◌, ◌∙◌, ap, refl, List, Ok, Err, inl, subst}
+use Rattle.std.proofs.Common.{refl, List, Ok, Err, inl, subst}
+use Rattle.tt_label.specs.Label.{label_glyphs}
 use Rattle.tt_render.specs.Labels.{FileLabelsGive, HintsBy}
+use Rattle.tt_render.specs.LinesDefects.{LinesTellDefects}
 use Rattle.tt_render_run.specs.Outcome.{traffic_of}
 use Rattle.tt_render.specs.Printing.{errors_of}
 use Rattle.tt_render_run.specs.Reading.{FontIsRead, FontIsUnread, font_reader_of}
 use Rattle.tt_render.specs.Settings.{strike_of}
 use Rattle.tt_render_run.proofs.Calls.{known_of}
+use Rattle.tt_render.proofs.DefectLines.{reading_tells, setting_tells}
 use Rattle.tt_render.proofs.FontLines.{idle, reading_stops}
 use Rattle.tt_render.proofs.LabelCalls.{by_reader, if_some_all, reading_hints}
 use Rattle.tt_render.proofs.Printed.{keeps_itself}
@@ -42,8 +45,8 @@ returns-in-Ok-draw_labels_of-clause-outcome g c =
     c.draw_labels_of.new.lines c.args.out.now c.draw_labels_of.new.out in
     let e = errors_of g.E.Sink.written g.E.Sink.has_failed c.args.error.now c.draw_labels_of.new.error in
     rw c.done.ensures
-    (by_reader l file.file.items (Ok tt) f t e c.in_default.ensures read
-    (rw c.deref.ensures.value at c.in-Ok-draw_labels_of.ensures))
+    (by_reader {V = Unit {0}} l file.file.items (Ok tt) f t e c.in_default.ensures read
+    (rw c.deref.ensures.value at c.in-Ok-draw_labels_of.ensures.outcome))
 
 pub returns-clause-outcome : goal.returns-clause-outcome
 returns-clause-outcome g c =
@@ -58,7 +61,7 @@ returns-clause-outcome g c =
     let Gives : List _ → Type 0 = λ bytes. FileLabelsGive {V = Unit {0}} l bytes (Err fault) t e in
     rw c.hinted.ensures
     (by_reader {V = Unit {0}} l file.file.items (Err fault) f t e c.in_default.ensures read
-    (subst Gives c.deref.ensures.value c.in-Err-draw_labels_of.ensures))
+    (subst Gives c.deref.ensures.value c.in-Err-draw_labels_of.ensures.outcome))
 
 pub returns-in-Err-clause-hint : goal.returns-in-Err-clause-hint
 returns-in-Err-clause-hint g c =
@@ -82,3 +85,31 @@ returns-clause-hint g c =
     let file = c.in-Ok in
     known_of (left c.args.font.now) (left c.read_font.new.font) file.file.items (HintsBy c.args.asked.now c.hinted.result)
     file.ensures.0 file.ensures.1 (rw (c.hinted.ensures, c.deref-in-Err-draw_labels_of.ensures.value) refl)
+
+pub returns-in-Err-clause-defects : goal.returns-in-Err-clause-defects
+returns-in-Err-clause-defects g c =
+    rw c.unhinted.ensures (setting_tells (Unit {0}) label_glyphs (g.F.Source.left c.args.font.now)
+    c.args.asked.now.setting (g.R.Source.left c.args.lines.now) c.in-Err.fault)
+
+pub returns-in-Err-read_font-clause-defects : goal.returns-in-Err-read_font-clause-defects
+returns-in-Err-read_font-clause-defects g c =
+    let left = g.F.Source.left in
+    let font = c.read_font.new.font in
+    rw (c.unhinted-in-Err-read_font.ensures, c.refusal_of_run.ensures)
+    (reading_tells (Unit {0}) label_glyphs c.in-Err-read_font.fault (left c.args.font.now) (left font)
+    (g.F.Source.has_failed font) c.args.asked.now.setting (g.R.Source.left c.args.lines.now) c.in-Err-read_font.ensures)
+
+pub returns-in-Ok-draw_labels_of-clause-defects : goal.returns-in-Ok-draw_labels_of-clause-defects
+returns-in-Ok-draw_labels_of-clause-defects g c =
+    rw c.done.ensures (if_some_all (g.F.Source.left c.args.font.now) _ (λ file. tt))
+
+pub returns-clause-defects : goal.returns-clause-defects
+returns-clause-defects g c =
+    let left = g.F.Source.left in
+    let file = c.in-Ok in
+    let fault = c.in-Err-draw_labels_of.fault in
+    let Tells : List _ → Type 0 = λ bytes. LinesTellDefects {V = Unit {0}} label_glyphs c.args.asked.now.setting
+    (g.R.Source.left c.args.lines.now) (Err fault) bytes in
+    let tells = subst Tells c.deref.ensures.value c.in-Err-draw_labels_of.ensures.defects in
+    rw c.hinted.ensures
+    (known_of (left c.args.font.now) (left c.read_font.new.font) file.file.items Tells file.ensures.0 file.ensures.1 tells)

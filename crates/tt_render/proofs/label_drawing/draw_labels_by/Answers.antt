@@ -1,20 +1,26 @@
-use Rattle.std.proofs.Common.{◌≡◌, ◌∙◌, ap, ◌+◌, Some, Ok, arith, refl}
+use Rattle.std.proofs.Common.{◌≡◌, ◌∙◌, ap, sym, ◌+◌, IfSome, Some, Ok, arith, refl, subst}
 use Rattle.std.proofs.lemmas.Result.{err_from_is_err_and}
+use Rattle.std.specs.Io.KnownBytes.{Appends}
+use Rattle.tt_label.specs.Label.{label_glyphs}
 use Rattle.tt_strike.specs.Strikes.{SizedFace}
+use Rattle.tt_render.specs.declared.label_answers.ReadyLabel.{ReadyLabel}
 use Rattle.tt_render.specs.Labels.{label_view, line_labelled, strike_in}
 use Rattle.tt_render.specs.LineReading.{held, line_at, text_left}
 use Rattle.tt_render.specs.Lines.{lines_limit}
+use Rattle.tt_render.specs.LinesDefects.{IsDefectBy}
 use Rattle.tt_render_run.specs.Outcome.{traffic_of}
 use Rattle.tt_render.specs.Printing.{PrintsBehind, errors_of}
 use Rattle.tt_render.specs.Reports.{told_of}
+use Rattle.tt_render.specs.TextsOutcome.{refusal_font_fault}
+use Rattle.tt_render.proofs.DefectLines.{begun_tells, next_tells, stop_tells}
 use Rattle.tt_render.proofs.DrawnLines.{all_drawn, drawn_too, many_sent, none_so_far, one_more, reader_at_end, some_sent, whole_text}
 use Rattle.tt_render.proofs.LabelLines.{long_label}
 use Rattle.tt_render.proofs.StoppedLines.{cut_sent, stopped_before, stopped_in}
 use Rattle.tt_render.proofs.Printed.{keeps_itself}
 use Rattle.tt_render.proofs.label_drawing.draw_labels_by.Goals as goal
 
-pub returns-in_err-reader : goal.returns-in_err-reader
-returns-in_err-reader g c =
+pub returns-in_err-reader-clause-outcome : goal.returns-in_err-reader-clause-outcome
+returns-in_err-reader-clause-outcome g c =
     let draw = line_labelled c.args.asked.now (strike_in c.args.asked.now.setting c.args.sized.now) in
     let left = g.R.Source.left c.args.lines.now in
     let out = g.W.Sink.written c.args.out.now in
@@ -42,8 +48,8 @@ loop-before-init g c =
           c.requires.error;
     }
 
-pub returns-in-Ok-None : goal.returns-in-Ok-None
-returns-in-Ok-None g c =
+pub returns-in-Ok-None-clause-outcome : goal.returns-in-Ok-None-clause-outcome
+returns-in-Ok-None-clause-outcome g c =
     let so_far = c.loop-before.invariant in
     let draw = line_labelled c.args.asked.now (strike_in c.args.asked.now.setting c.args.sized.now) in
     let left = g.R.Source.left in
@@ -57,8 +63,8 @@ returns-in-Ok-None g c =
     let end = reader_at_end (held c.next_line.new.reader) (left c.next_line.new.lines) none.1 in
     (sends, (end, reads), so_far.writes)
 
-pub returns-in-Err : goal.returns-in-Err
-returns-in-Err g c =
+pub returns-in-Err-clause-outcome : goal.returns-in-Err-clause-outcome
+returns-in-Err-clause-outcome g c =
     let so_far = c.loop-before.invariant in
     let draw = line_labelled c.args.asked.now (strike_in c.args.asked.now.setting c.args.sized.now) in
     let left = g.R.Source.left in
@@ -71,8 +77,8 @@ returns-in-Err g c =
     so_far.so_far c.in-Err.ensures.outcome c.in-Err.ensures.failure so_far.writes in
     rw c.texts_fault.ensures fails
 
-pub returns-in-Err-draw_line : goal.returns-in-Err-draw_line
-returns-in-Err-draw_line g c =
+pub returns-in-Err-draw_line-clause-outcome : goal.returns-in-Err-draw_line-clause-outcome
+returns-in-Err-draw_line-clause-outcome g c =
     let so_far = c.loop-before.invariant in
     let a = c.args.asked.now in
     let left = g.R.Source.left in
@@ -82,15 +88,16 @@ returns-in-Err-draw_line g c =
     let e = errors_of g.E.Sink.written g.E.Sink.has_failed c.args.error.now c.loop-before.error in
     let same = ap (λ (z : SizedFace). line_labelled a (strike_in a.setting z)) so_far.sized in
     let is = rw c.line-line.ensures at c.in-Err-draw_line.ensures.exact in
-    let fails = stopped_in (line_labelled a (strike_in a.setting c.args.sized.now)) (line_labelled a (strike_in a.setting c.loop-before.sized)) c.in-Err-draw_line.fault.refusal
+    let fails = stopped_in ReadyLabel (line_labelled a (strike_in a.setting c.args.sized.now))
+    (line_labelled a (strike_in a.setting c.loop-before.sized)) c.in-Err-draw_line.fault.refusal
     (text_left c.loop-before.reader (left c.loop-before.lines))
     (text_left c.next_line.new.reader (left c.next_line.new.lines)) t e c.loop-before.before 0
     (line_at c.next_line.new.reader c.in-Ok-Some.place) same so_far.so_far found.0 found.2 is
     c.in-Err-draw_line.ensures.serves c.in-Ok-Some.ensures.failure so_far.writes in
     rw c.texts_fault-in-Err-draw_line.ensures fails
 
-pub returns-in-Err-write_all_of : goal.returns-in-Err-write_all_of
-returns-in-Err-write_all_of g c =
+pub returns-in-Err-write_all_of-clause-outcome : goal.returns-in-Err-write_all_of-clause-outcome
+returns-in-Err-write_all_of-clause-outcome g c =
     let so_far = c.loop-before.invariant in
     let a = c.args.asked.now in
     let draw = line_labelled a (strike_in a.setting c.args.sized.now) in
@@ -109,7 +116,7 @@ returns-in-Err-write_all_of g c =
     let sends = cut_sent draw (text_left c.loop-before.reader (left c.loop-before.lines))
     (text_left c.next_line.new.reader (left c.next_line.new.lines)) (written c.loop-before.out) t e
     c.loop-before.before 0 cut.cut.sent line (label_view c.in-Ok.ready) so_far.so_far found.0 found.2 is
-    cut.ensures.within cut.ensures.part in
+    (rw c.deref.ensures.value at cut.ensures.within) (rw c.deref.ensures.value at cut.ensures.part) in
     (sends, c.in-Ok-Some.ensures.failure, cut.ensures.failure)
 
 pub loop-before-preserved : goal.loop-before-preserved
@@ -131,7 +138,9 @@ loop-before-preserved g c =
     let printed : PrintsBehind (failed c.loop-before.error)
     (errors_of told failed c.loop-before.error c.print_text.new.error)
     (told_of (Some (c.loop-before.before + 1)) answer) =
-    rw (c.deref.ensures, c.in-Ok.ensures.report) at c.print_text.ensures in
+    rw (c.deref-in-loop-before.ensures, c.in-Ok.ensures.report) at c.print_text.ensures in
+    let sent : Appends (written c.loop-before.out) (written c.write_all_of.new.out) answer.bytes =
+    rw c.deref.ensures.value at c.in_default.ensures.all in
     record {
       sized = c.in-Ok.ensures.same ∙ so_far.sized;
       reads = c.in-Ok-Some.ensures.failure;
@@ -142,11 +151,11 @@ loop-before-preserved g c =
           (written c.loop-before.out) (written c.write_all_of.new.out) (told c.args.error.now)
           (told c.loop-before.error) (told c.print_text.new.error) (failed c.loop-before.error)
           (failed c.print_text.new.error) c.loop-before.before line answer 0 so_far.so_far
-          found.0 found.2 is c.in_default.ensures.all printed);
+          found.0 found.2 is sent printed);
     }
 
-pub returns : goal.returns
-returns g c =
+pub returns-clause-outcome : goal.returns-clause-outcome
+returns-clause-outcome g c =
     let so_far = c.loop-before.invariant in
     let draw = line_labelled c.args.asked.now (strike_in c.args.asked.now.setting c.args.sized.now) in
     let left = g.R.Source.left in
@@ -158,3 +167,39 @@ returns g c =
     let sends = many_sent draw (text_left c.loop-before.reader (left c.loop-before.lines)) t e c.loop-before.before
     lines_limit 0 all so_far.so_far in
     (sends, so_far.reads, so_far.writes)
+
+pub returns-in_err-reader-clause-defects : goal.returns-in_err-reader-clause-defects
+returns-in_err-reader-clause-defects g c =
+    let p = err_from_is_err_and c.from_residual.result c.from_residual.ensures.1 in rw (p.1, p.2) tt
+
+pub returns-in-Err-clause-defects : goal.returns-in-Err-clause-defects
+returns-in-Err-clause-defects g c =
+    let left = g.R.Source.left in
+    let a = c.args.asked.now.setting in
+    rw c.texts_fault.ensures (begun_tells (IsDefectBy label_glyphs a (strike_in a c.args.sized.now))
+    (left c.args.lines.now) (text_left c.loop-before.reader (left c.loop-before.lines))
+    (text_left c.next_line.new.reader (left c.next_line.new.lines)) c.next_line.new.reader c.loop-before.before
+    0 c.in-Err.stop.refusal c.in-Err.ensures.outcome)
+
+pub returns-in-Err-draw_line-clause-defects : goal.returns-in-Err-draw_line-clause-defects
+returns-in-Err-draw_line-clause-defects g c =
+    let so_far = c.loop-before.invariant in
+    let a = c.args.asked.now.setting in
+    let left = g.R.Source.left in
+    let rest = text_left c.loop-before.reader (left c.loop-before.lines) in
+    let after = text_left c.next_line.new.reader (left c.next_line.new.lines) in
+    let found = rw c.in-Ok-Some.field-0-is at c.in-Ok-Some.ensures.outcome in
+    let line = line_at c.next_line.new.reader c.in-Ok-Some.place in
+    let why = c.in-Err-draw_line.fault.refusal in
+    let Tells : SizedFace → Type 0 = λ z. IfSome (refusal_font_fault why) (IsDefectBy label_glyphs a (strike_in a z) line) in
+    let is = subst Tells so_far.sized (rw c.line-line.ensures at c.in-Err-draw_line.ensures.defects) in
+    let IsOne = IsDefectBy label_glyphs a (strike_in a c.args.sized.now) in
+    rw c.texts_fault-in-Err-draw_line.ensures
+    (stop_tells IsOne (line_labelled c.args.asked.now (strike_in a c.args.sized.now)) (left c.args.lines.now) rest
+    (g.W.Sink.written c.args.out.now) (g.W.Sink.written c.loop-before.out)
+    (errors_of g.E.Sink.written g.E.Sink.has_failed c.args.error.now c.loop-before.error) c.loop-before.before 0 why
+    so_far.so_far (next_tells IsOne rest after line why found.0 is))
+
+pub draw_line-requires-clause-file : goal.draw_line-requires-clause-file
+draw_line-requires-clause-file g c =
+    c.requires.file ∙ sym (ap (λ (z : SizedFace). z.face.directory.file) c.loop-before.invariant.sized)

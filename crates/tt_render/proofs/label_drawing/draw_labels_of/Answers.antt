@@ -1,12 +1,14 @@
 use Rattle.std.proofs.Common.{inl, inr}
 use Rattle.std.proofs.lemmas.Result.{err_from_is_err_and}
+use Rattle.tt_label.specs.Label.{label_glyphs}
 use Rattle.tt_render.specs.Settings.{strike_by}
+use Rattle.tt_render.proofs.DefectLines.{lines_tell}
 use Rattle.tt_render.proofs.FontLines.{face_file, font_opened, font_refused, idle}
 use Rattle.tt_render.proofs.LabelCalls.{size_stands}
 use Rattle.tt_render.proofs.label_drawing.draw_labels_of.Goals as goal
 
-pub returns-in_err-face : goal.returns-in_err-face
-returns-in_err-face g c =
+pub returns-in_err-face-clause-outcome : goal.returns-in_err-face-clause-outcome
+returns-in_err-face-clause-outcome g c =
     let p = err_from_is_err_and c.from_residual.result c.from_residual.ensures.1 in
     let rest = idle (g.R.Source.left c.args.lines.now) (g.W.Sink.written c.args.out.now)
     (g.E.Sink.written c.args.error.now) (g.R.Source.has_failed c.args.lines.now)
@@ -16,19 +18,34 @@ returns-in_err-face g c =
     c.in_err-face.ensures.exact in
     rw (p.1, p.2) (inl (refused, rest))
 
-pub returns-in_err-sized : goal.returns-in_err-sized
-returns-in_err-sized g c =
+pub returns-in_err-sized-clause-outcome : goal.returns-in_err-sized-clause-outcome
+returns-in_err-sized-clause-outcome g c =
     absurd (size_stands c.args.asked.now.setting c.in_err-sized.field-0.0 c.requires.tested c.in_err-sized.ensures.tested)
 
-pub returns : goal.returns
-returns g c =
+pub returns-clause-outcome : goal.returns-clause-outcome
+returns-clause-outcome g c =
     let a = c.args.asked.now.setting in
     let face = c.in_ok-face.face in
     let opened = font_opened a c.args.file.now face c.requires.size c.in_ok-face.ensures.exact in
-    let gives = rw c.in_ok-sized.ensures.exact at c.draw_labels_by.ensures in
+    let gives = rw c.in_ok-sized.ensures.exact at c.draw_labels_by.ensures.outcome in
     inr (strike_by a face, opened, gives)
 
 pub draw_labels_by-requires-clause-file : goal.draw_labels_by-requires-clause-file
 draw_labels_by-requires-clause-file g c =
     rw c.in_ok-sized.ensures.exact
     (face_file c.args.file.now c.args.asked.now.setting.reading c.in_ok-face.face c.in_ok-face.ensures.exact)
+
+pub returns-in_err-face-clause-defects : goal.returns-in_err-face-clause-defects
+returns-in_err-face-clause-defects g c =
+    let p = err_from_is_err_and c.from_residual.result c.from_residual.ensures.1 in
+    rw (p.1, p.2) c.in_err-face.ensures.fault
+
+pub returns-in_err-sized-clause-defects : goal.returns-in_err-sized-clause-defects
+returns-in_err-sized-clause-defects g c =
+    absurd (size_stands c.args.asked.now.setting c.in_err-sized.field-0.0 c.requires.tested c.in_err-sized.ensures.tested)
+
+pub returns-clause-defects : goal.returns-clause-defects
+returns-clause-defects g c =
+    let tells = rw c.in_ok-sized.ensures.exact at c.draw_labels_by.ensures.defects in
+    lines_tell label_glyphs c.args.asked.now.setting c.args.file.now c.in_ok-face.face (g.R.Source.left c.args.lines.now)
+    c.draw_labels_by.result c.in_ok-face.ensures.exact tells

@@ -1,4 +1,6 @@
 use Rattle.tt_render.specs.Labels.{strike_in}
+use Rattle.tt_render.specs.TextsOutcome.{without_line}
+use Rattle.tt_render.proofs.DefectLines.{told_of_text}
 use Rattle.tt_render.proofs.LabelLines.{label_of_no_text, label_of_text}
 use Rattle.tt_render.proofs.label_drawing.draw_line.Goals as goal
 
@@ -12,3 +14,7 @@ returns-clause-exact c =
     let drawn = label_of_text c.args.asked.now (strike_in c.args.asked.now.setting c.args.sized.now) c.args.line.now
     c.in-Ok.text.now c.requires.short c.in-Ok.ensures.cases in
     rw drawn c.answer_label.ensures.exact
+
+pub returns-clause-defects : goal.returns-clause-defects
+returns-clause-defects c =
+    told_of_text _ (without_line c.answer_label.result) (rw c.in-Ok.ensures.cases.0 at c.answer_label.ensures.defects)

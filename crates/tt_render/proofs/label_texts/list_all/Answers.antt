@@ -6,7 +6,8 @@ use Rattle.tt_render.proofs.label_texts.list_all.Goals as goal
 pub loop-c-preserved : goal.loop-c-preserved
 loop-c-preserved c =
     rw c.in_ok-list.ensures
-    (listed_next c.loop-c.listed.items c.args.more.now c.loop-c.c-index _ c.loop-c-test.true ∙ c.loop-c.invariant)
+    (listed_next c.loop-c.listed.items c.args.more.now c.loop-c.c-index c.c-item.result c.loop-c-test.true c.c-item.is
+    ∙ c.loop-c.invariant)
 
 pub returns : goal.returns
 returns c =

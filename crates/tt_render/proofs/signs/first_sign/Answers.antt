@@ -1,7 +1,6 @@
-use Rattle.std.proofs.Common.{◌≡◌, ◌∙◌, [], drop, sym, ap, arith}
+use Rattle.std.proofs.Common.{◌≡◌, ◌∙◌, [], drop, sym, arith}
 use Rattle.std.proofs.lemmas.List.{drop_all}
-use Rattle.tt_render.specs.Labels.{first_sign}
-use Rattle.tt_render.proofs.LabelTexts.{sign_found, sign_passed, texts}
+use Rattle.tt_render.proofs.LabelTexts.{sign_found, sign_passed}
 use Rattle.tt_render.proofs.signs.first_sign.Goals as goal
 
 pub loop-line-preserved : goal.loop-line-preserved
