@@ -1,0 +1,5 @@
+pub mod Bitmaps
+pub mod Entries
+pub mod GlyphLaws
+pub mod Layouts
+pub mod Requests
