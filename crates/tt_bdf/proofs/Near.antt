@@ -7,9 +7,9 @@ use Rattle.tt_bdf.specs.Extent.{IsNear, joined, joined_boxes}
 joined_near : (a b : Extent) → IsNear a → IsNear b → IsNear (joined_boxes a b)
 joined_near a b one other = (
   omega (arith, ints, int_min_is a.left b.left, one.0, other.0),
-  omega (arith, ints, int_min_is a.bottom b.bottom, one.1.0, other.1.0),
-  omega (arith, ints, int_max_is a.right b.right, one.1.1.0, other.1.1.0),
-  omega (arith, ints, int_max_is a.top b.top, one.1.1.1, other.1.1.1),
+  omega (arith, ints, int_min_is a.bottom b.bottom, one.1, other.1),
+  omega (arith, ints, int_max_is a.right b.right, one.2, other.2),
+  omega (arith, ints, int_max_is a.top b.top, one.3, other.3),
 )
 
 pub both_near : (a b : Option Extent) → IfSome a IsNear → IfSome b IsNear → IfSome (joined a b) IsNear

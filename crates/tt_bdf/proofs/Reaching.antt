@@ -1,8 +1,9 @@
 -- How far the ranges go that begin before a code point, and the code points below one that are listed.
-use Rattle.std.proofs.Common.{◌≡◌, ◌∙◌, refl, sym, ap, ℕ, zero, suc, ◌+◌, ◌-◌, ◌<◌, ◌≤◌, max, ◌==◌, nat_lt, nat_le, Bool, true, false, ◌&&◌, ◌||◌, if◌then◌else◌, cond, ◌⊎◌, inl, inr, List, [], ◌∷◌, ◌++◌, length, take, drop, set, get_or, slice_index, append_assoc, Option, Some, None, ⊥, All, arith}
+use Rattle.std.proofs.Common.{◌≡◌, ◌∙◌, refl, sym, ap, ℕ, zero, suc, ◌+◌, ◌-◌, ◌<◌, ◌≤◌, max, ◌==◌, nat_lt, nat_le, Bool, true, false, ◌&&◌, ◌||◌, if◌then◌else◌, cond, ◌⊎◌, inl, inr, List, [], ◌∷◌, ◌++◌, length, take, drop, set, get_or, slice_index, append_assoc, Option, Some, None, All, arith}
 use Rattle.std.proofs.lemmas.Bool.{cases_lt, cases_eq}
 use Rattle.std.proofs.lemmas.Bool.Decides.{nat_tests}
 use Rattle.std.proofs.lemmas.List.{append-nil, at_drop_more, get_or-set_other, get_or-set_same, length-take, take_all, take_at}
+use Rattle.std.proofs.lemmas.List.Elements.{All-head, All-tail}
 use Rattle.std.specs.List.{filter, range_with_len}
 use Rattle.tt_bdf.specs.declared.range.CodeRange.{CodeRange}
 use Rattle.tt_bdf.specs.Asked.{characters_of, code_count, end_of, far_before, found_at, is_asked, is_shown, is_within, listed_below, reach_at}
@@ -42,7 +43,7 @@ pub far_next : (rs : List CodeRange) (n : ℕ) → max (far_before rs n) (reach_
 far_next [] n = refl
 far_next (r ∷ rs) n =
     let first = begins_next r.first (r.last + 1) n in
-    rw ← (far_next rs n)
+    rw (← far_next rs n)
     (mixed (if nat_lt r.first n then r.last + 1 else 0) (far_before rs n) (if r.first == n then r.last + 1 else 0)
     (reach_at rs n) (if nat_lt r.first (n + 1) then r.last + 1 else 0) first)
 
@@ -136,19 +137,16 @@ listed_all shown rs n past =
     let whole : n ≡ end_of rs + k = omega (arith, past) in
     rw whole (sym (listed_past shown rs (end_of rs) k (omega arith)))
 
-nothing_is : {c : ℕ} → None {T = ℕ} ≡ Some c → ⊥
-nothing_is is = cc
-
 some_is : {n c : ℕ} → Some n ≡ Some c → n ≡ c
 some_is is = cc
 
-some_is_none : {n : ℕ} → Some n ≡ None {T = ℕ} → ⊥
+some_is_none : {n : ℕ} → Some n ≡ None → ⊥
 some_is_none is = cc
 
 shown_by : (shown : ℕ → Bool) (rs : List CodeRange) (n c : ℕ) (b : Bool) → shown n ≡ b → is_asked rs n ≡ true
     → (if true && shown n then Some n else None) ≡ Some c
     → listed_below shown rs (n + 1) ≡ listed_below shown rs n ++ c ∷ []
-shown_by shown rs n c false is asked found = absurd (nothing_is (rw is at found))
+shown_by shown rs n c false is asked found = absurd (some_is_none (sym (rw is at found)))
 shown_by shown rs n c true is asked found =
     let same : n ≡ c = some_is (rw is at found) in
     listed_more shown rs n asked is ∙ ap (λ k. listed_below shown rs n ++ k ∷ []) same
@@ -156,7 +154,7 @@ shown_by shown rs n c true is asked found =
 found_by : (shown : ℕ → Bool) (rs : List CodeRange) (n far c : ℕ) (b : Bool) → nat_lt n far ≡ b
     → is_asked rs n ≡ nat_lt n far → found_at shown far n ≡ Some c
     → listed_below shown rs (n + 1) ≡ listed_below shown rs n ++ c ∷ []
-found_by shown rs n far c false is asked found = absurd (nothing_is (rw is at found))
+found_by shown rs n far c false is asked found = absurd (some_is_none (sym (rw is at found)))
 found_by shown rs n far c true is asked found = shown_by shown rs n c (shown n) refl (asked ∙ is) (rw is at found)
 
 -- a code point that is found is the next one listed
@@ -187,7 +185,9 @@ many_taken xs ys is many = omega (arith, many, ap length is, length-take (text_l
 pub end_is_code : (rs : List CodeRange) → All IsCodeRange rs → end_of rs ≤ code_count
 unfolding code_count
 end_is_code [] codes = omega arith
-end_is_code (r ∷ rs) codes = omega (arith, codes.0.codes, end_is_code rs codes.1)
+end_is_code (r ∷ rs) codes =
+    let first = All-head IsCodeRange r rs codes in
+    omega (arith, first.codes, end_is_code rs (All-tail IsCodeRange r rs codes))
 
 pub listed_to_end : (m : CharacterMap) (rs : List CodeRange) → All IsCodeRange rs
     → listed_below (is_shown m) rs (end_of rs) ≡ characters_of m rs

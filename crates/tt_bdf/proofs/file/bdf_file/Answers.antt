@@ -1,6 +1,7 @@
 use Rattle.std.proofs.Common.{◌≡◌, ◌++◌, ◌∙◌, sym, ap, flat_map, codes, append_assoc}
 use Rattle.std.proofs.lemmas.List.{append-nil, at_drop_all, at_drop_more}
 use Rattle.tt_bdf.specs.Bitmap.{character_text}
+use Rattle.tt_bdf.specs.File.{bdf_text}
 use Rattle.tt_bdf.specs.Head.{head_text}
 use Rattle.tt_bdf.proofs.Nothing.{none}
 use Rattle.tt_bdf.proofs.file.bdf_file.Goals as goal
@@ -13,6 +14,7 @@ loop-c-preserved c =
     rw c.in_ok-push_character.ensures (append_assoc before _ _ ∙ sym rest ∙ c.loop-c.invariant)
 
 pub returns : goal.returns
+unfolding bdf_text
 returns c =
     let text = character_text c.args.font.now.em c.args.rows.now in
     let cs = c.args.characters.now in

@@ -1,4 +1,5 @@
-use Rattle.std.proofs.Common.{◌∙◌, sym}
+use Rattle.std.proofs.Common.{◌∙◌, ap, sym, ◌+◌, Some}
+use Rattle.std.proofs.lemmas.List.{take_rest}
 use Rattle.tt_bdf.proofs.Cuts.{front_all, front_ends, front_goes_on, rest_ends, rest_goes_on, rest_none}
 use Rattle.tt_bdf.proofs.range.cut.Goals as goal
 
@@ -20,7 +21,9 @@ returns-then-is_at-clause-before c =
 pub returns-then-is_at-clause-after : goal.returns-then-is_at-clause-after
 returns-then-is_at-clause-after c =
     let here = rw c.is_at.ensures at c.if-is_at.true in
-    sym (rest_ends c.args.separator c.args.text.now c.loop-i.i c.loop-i-test.true here) ∙ c.loop-i.invariant.rest
+    let text = c.args.text.now in
+    ap Some (take_rest text (c.loop-i.i + 1))
+    ∙ sym (rest_ends c.args.separator text c.loop-i.i c.loop-i-test.true here) ∙ c.loop-i.invariant.rest
 
 pub returns-clause-before : goal.returns-clause-before
 returns-clause-before c =
