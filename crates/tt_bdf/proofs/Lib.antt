@@ -7,3 +7,4 @@ pub mod Nothing
 pub mod Padded
 pub mod Pieces
 pub mod Reaching
+pub mod Refused

@@ -34,8 +34,25 @@ pub one_more : (rs : List CodeRange) (r : CodeRange) (ss : Option (List CodeRang
 one_more rs r None = refl
 one_more rs r (Some ss) = ap Some (append_assoc rs (r ∷ []) ss)
 
-pub none_behind : (rs : List CodeRange) (ss : Option (List CodeRange)) → behind rs (onto_ranges None ss) ≡ None
-none_behind rs ss = refl
+stops_by : (rs : List CodeRange) (sep : ℕ) (t : List ℕ) (u : Option (List ℕ)) → range_of t ≡ None
+    → behind rs (all_ranges (pieces_by sep t u)) ≡ None
+stops_by rs sep t None none = rw none refl
+stops_by rs sep t (Some u) none = rw none refl
+
+-- a piece that asks for no range
+pub stops : (rs : List CodeRange) (sep : ℕ) (t : List ℕ) → range_of (before sep t) ≡ None
+    → behind rs (all_ranges (pieces sep t)) ≡ None
+stops rs sep t none = rw (pieces_are sep t) (stops_by rs sep (before sep t) (after sep t) none)
+
+-- the last piece
+pub ends : (rs : List CodeRange) (sep : ℕ) (t : List ℕ) (r : CodeRange) → range_of (before sep t) ≡ Some r
+    → after sep t ≡ None → behind rs (all_ranges (pieces sep t)) ≡ Some (rs ++ r ∷ [])
+ends rs sep t r is none = rw (pieces_are sep t, none, is) refl
+
+-- a piece before others
+pub goes_on : (rs : List CodeRange) (sep : ℕ) (t u : List ℕ) (r : CodeRange) → range_of (before sep t) ≡ Some r
+    → after sep t ≡ Some u → behind (rs ++ r ∷ []) (all_ranges (pieces sep u)) ≡ behind rs (all_ranges (pieces sep t))
+goes_on rs sep t u r is more = rw (pieces_are sep t, more, is) (one_more rs r (all_ranges (pieces sep u)))
 
 shorter_by : (sep x : ℕ) (t u : List ℕ) (b : Bool) → (x == sep) ≡ b
     → (after sep t ≡ Some u → length u < length t) → after sep (x ∷ t) ≡ Some u → length u < length (x ∷ t)

@@ -225,3 +225,18 @@ reach_more xs rs i n below within =
     at_drop_more (λ rs. reach_at rs n) rs i no_range below in
     let raised = raised_by xs r.first n (r.last + 1) within (cases_eq r.first n) in
     omega (arith, rest, raised)
+
+-- a range ends before the end of all
+pub end_above : (rs : List CodeRange) (i : ℕ) → i < length rs → (get_or rs i no_range).last + 1 ≤ end_of rs
+end_above [] i below = absurd (omega (arith, below))
+end_above (r ∷ rs) zero below = omega arith
+end_above (r ∷ rs) (suc i) below =
+    let rest = end_above rs i (omega (arith, below)) in
+    omega (arith, rest)
+
+-- no range begins before 0
+pub far_none : (rs : List CodeRange) → 0 ≡ far_before rs 0
+far_none [] = refl
+far_none (r ∷ rs) =
+    let none : nat_lt r.first 0 ≡ false = grind (arith, nat_tests) in
+    rw (none, ← far_none rs) refl

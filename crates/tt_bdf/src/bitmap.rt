@@ -3,7 +3,7 @@
 ghost use Rattle.std.specs.Prelude.{◌≡◌, ◌+◌, ◌*◌, ◌<◌, ◌≤◌, ◌++◌, true, length, string_bytes, IfOk, OnOk};
 ghost use Rattle.std.specs.Fmt.{digit_glyph};
 ghost use Rattle.tt_bdf.specs.Bitmap.{bitmap_bytes, bitmap_of, character_head, character_text, row_bytes, row_text, rows_text};
-ghost use Rattle.tt_bdf.specs.Extent.{IsLimited};
+ghost use Rattle.tt_bdf.specs.Extent.{IsLimited, bottom_of};
 ghost use Rattle.tt_core.specs.Limits.{width_limit};
 
 use crate::character::BdfCharacter;
@@ -55,6 +55,14 @@ fn push_rows(
     Ok(())
 }
 
+/// The lower edge of a character's ink.
+fn bottom_of(c: BdfCharacter) -> i32
+    requires { IsLimited c }
+    ensures { result ≡ bottom_of c }
+{
+    c.top - c.height as i32
+}
+
 /// The lines of a character before its rows. Error: memory ran out.
 fn character_head(alloc: Global, em: u16, c: BdfCharacter) -> Result<String, AllocError>
     requires units { 16 ≤ em }
@@ -67,7 +75,7 @@ fn character_head(alloc: Global, em: u16, c: BdfCharacter) -> Result<String, All
     let width = c.width;
     let height = c.height;
     let left = c.left;
-    let bottom = c.top - c.height as i32;
+    let bottom = bottom_of(c);
     format!(in alloc;
         "STARTCHAR U+{code:04X}\nENCODING {code}\nSWIDTH {scalable} 0\nDWIDTH {advance} 0\nBBX {width} {height} {left} {bottom}\nBITMAP\n"
     )
