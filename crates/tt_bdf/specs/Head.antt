@@ -25,16 +25,18 @@ spacing_name false = codes "P"
 abbrev pub spacing_of : List BdfCharacter → Spacing
 spacing_of cs = record { monospaced = is_monospaced cs; average = average_width cs }
 
+-- the family, the weight and the slant, as the name of the font has them
+abbrev pub style_text : BdfFont → List ℕ
+style_text f = string_bytes f.family ++ (codes "-" ++ (weight_name f.bold ++ (codes "-" ++ slant f.italic)))
+
 -- the name of the font, by XLFD
 abbrev pub name_text : BdfFont → Spacing → List ℕ
 name_text f s =
-    codes "FONT -misc-" ++ (string_bytes f.family
-    ++ (codes "-" ++ (weight_name f.bold
-    ++ (codes "-" ++ (slant f.italic
+    codes "FONT -misc-" ++ (style_text f
     ++ (codes "-Normal--" ++ (decimal f.size
     ++ (codes "-" ++ (decimal (10 * f.size)
     ++ (codes "-72-72-" ++ (spacing_name s.monospaced
-    ++ (codes "-" ++ (signed_decimal s.average ++ codes "-ISO10646-1\n")))))))))))))
+    ++ (codes "-" ++ (signed_decimal s.average ++ codes "-ISO10646-1\n")))))))))
 
 -- `FONTBOUNDINGBOX <width> <height> <left> <bottom>`
 abbrev pub extent_text : Extent → List ℕ

@@ -2,7 +2,7 @@
 
 ghost use Rattle.std.specs.Prelude.{◌≡◌, ◌≤◌, All, length, string_bytes, IfOk, IfSome};
 ghost use Rattle.tt_bdf.specs.Extent.{IsLimited, IsNear};
-ghost use Rattle.tt_bdf.specs.Head.{box_text, count_text, default_text, extent_text, first_text, head_text, lines_text, name_text, names_text, properties_text, property_count, sizes_text, slant, spacing_name, weight_name};
+ghost use Rattle.tt_bdf.specs.Head.{box_text, count_text, default_text, extent_text, first_text, head_text, lines_text, name_text, names_text, properties_text, property_count, sizes_text, slant, spacing_name, style_text, weight_name};
 ghost use Rattle.tt_core.specs.Limits.{size_limit, text_limit};
 
 use crate::character::BdfCharacter;
@@ -39,20 +39,28 @@ fn property_count(default: Option<u32>) -> u32
     }
 }
 
+/// The family, the weight and the slant, as the name of the font has them.
+fn style_text(alloc: Global, font: &BdfFont) -> Result<String, AllocError>
+    ensures { IfOk result (λ text. string_bytes text ≡ style_text font.now) }
+{
+    let family = &font.family;
+    let weight = weight_name(font.bold);
+    let slant = slant(font.italic);
+    format!(in alloc; "{family}-{weight}-{slant}")
+}
+
 /// The name of the font.
 fn name_text(alloc: Global, font: &BdfFont, spacing: Spacing) -> Result<String, AllocError>
     requires { font.now.size ≤ size_limit }
     ensures { IfOk result (λ text. string_bytes text ≡ name_text font.now spacing) }
 {
-    let family = &font.family;
-    let weight = weight_name(font.bold);
-    let slant = slant(font.italic);
+    let style = style_text(alloc, font)?;
     let size = font.size;
     let points = 10 * size;
     let spaced = spacing_name(spacing.monospaced);
     let average = spacing.average;
     format!(in alloc;
-        "FONT -misc-{family}-{weight}-{slant}-Normal--{size}-{points}-72-72-{spaced}-{average}-ISO10646-1\n"
+        "FONT -misc-{style}-Normal--{size}-{points}-72-72-{spaced}-{average}-ISO10646-1\n"
     )
 }
 
