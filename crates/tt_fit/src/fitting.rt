@@ -1,9 +1,9 @@
 //! The outlines of a font at a size.
 
-ghost use Rattle.std.specs.Prelude.{◌≡◌, ◌<◌, ◌≤◌, Err, IfOk, IfSome, OnOk, OnErr, length};
+ghost use Rattle.std.specs.Prelude.{◌≡◌, ◌<◌, ◌≤◌, Err, IfErr, IfOk, IfSome, OnOk, OnErr, length};
 ghost use Rattle.tt_core.specs.Directory.{HasNo};
 ghost use Rattle.tt_core.specs.Limits.{font_limit, size_limit};
-ghost use Rattle.tt_core.specs.Outcomes.{FontGives, IfTold, font_fault};
+ghost use Rattle.tt_core.specs.Outcomes.{FontGives, Gives, IfTold, font_fault};
 ghost use Rattle.tt_face.specs.Programs.{program_tables};
 ghost use Rattle.tt_fit.specs.Counting.{points_asked, counted};
 ghost use Rattle.tt_fit.specs.Defects.{IsOutlineDefect};
@@ -176,6 +176,36 @@ impl<'a> Fitter<'a> {
         Ok(outline)
     }
 
+    /// As `fit`, but a refused glyph is no error: its fault is the answer, and the work that its programs took is charged
+    /// too. Error: out of memory.
+    pub fn try_fit(&mut self, g: u16) -> Result<Result<Outline, Fault>, AllocError>
+        requires { g < self.old.tables.glyphs }
+        ensures exact { IfOk result (λ tried. Gives outline_of tried (fitted_outline self.old g)) }
+        ensures unfitted { IfOk result (λ tried. IfOk tried (λ o. o.unfitted ≡ unfitted_fault self.old g)) }
+        ensures sound { IfOk result (λ tried. OnOk tried (HasNo (IsOutlineDefect self.old g))) }
+        ensures fault { IfOk result (λ tried. IfErr tried (IsOutlineDefect self.old g)) }
+        ensures after { OnOk result (self.new ≡ after_glyph self.old g) }
+    {
+        let mut runner = Runner {
+            alloc: self.alloc,
+            machine: self.machine.take(),
+            work: self.work,
+        };
+        let tried = self.fitted_within(g, &mut runner);
+        self.machine = runner.machine;
+        match tried {
+            Ok(outline) => {
+                self.work = runner.work;
+                Ok(Ok(outline))
+            }
+            Err(FontFault::Font(fault)) => {
+                self.work = runner.work;
+                Ok(Err(fault))
+            }
+            Err(FontFault::Memory) => Err(AllocError),
+        }
+    }
+
     /// The job's remaining work; None where it is not bounded.
     pub fn work(&self) -> Option<u64>
         ensures { result ≡ self.now.work }
@@ -213,6 +243,7 @@ impl<'a> Fitter<'a> {
         ensures exact { FontGives outline_of result (fitted_outline self.now g) }
         ensures unfitted { IfOk result (λ o. o.unfitted ≡ unfitted_fault self.now g) }
         ensures left { OnOk result (runner.new.work.left ≡ (after_glyph self.now g).work) }
+        ensures refused { IfTold font_fault result (λ _. runner.new.work.left ≡ (after_glyph self.now g).work) }
     {
         match self.fallback {
             Fallback::Never => self.marked(&self.hinting, g, None, runner),
@@ -247,6 +278,7 @@ impl<'a> Fitter<'a> {
         ensures exact { FontGives outline_of result (fitted_outline self.now g) }
         ensures unfitted { IfOk result (λ o. o.unfitted ≡ unfitted_fault self.now g) }
         ensures left { OnOk result (runner.new.work.left ≡ (after_glyph self.now g).work) }
+        ensures refused { IfTold font_fault result (λ _. runner.new.work.left ≡ (after_glyph self.now g).work) }
     {
         match refusal {
             OutlineFault::Font(fault) => {
