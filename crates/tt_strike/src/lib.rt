@@ -34,4 +34,4 @@ pub use strike::Strike;
 pub use tt_core::DrawFault;
 pub use tt_face::Face;
 pub use tt_picture::{InkBox, Picture, Report, Unfitted};
-pub use work::{charge_points, is_bounded};
+pub use work::{CHORD_LIMIT, charge_points, crossings_allowed, is_bounded};
