@@ -8,15 +8,9 @@ use Rattle.tt_picture.specs.Rows.{rows}
 use Rattle.tt_scan_edges.specs.Winding.{is_black}
 use Rattle.tt_scan_gaps.specs.Crossings.{centre}
 use Rattle.tt_scan_ink.specs.declared.ink.GlyphInk.{GlyphInk}
+use Rattle.tt_glyphs.specs.declared.place.InkPlace.{InkPlace}
 
--- the columns from the pen to the first column of ink, the rows from the base line up to the upper edge of the highest
--- row of ink, and the columns and rows of ink. Without ink all four are 0
-pub record InkPlace : Type 0 where
-  pub left : ℤ
-  pub top : ℤ
-  pub width : ℕ
-  pub height : ℕ
-
+-- the place of the ink in a box. Without ink all four numbers are 0
 abbrev pub place_of : Option GlyphInk → InkPlace
 place_of None = record { left = pos 0; top = pos 0; width = 0; height = 0 }
 place_of (Some b) = record {

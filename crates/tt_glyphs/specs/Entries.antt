@@ -1,40 +1,42 @@
 -- No part of the standard: what is told of each glyph of a list (profile). The glyphs are made as those of a line are: in
 -- the order of the list, each number where it stands first, with one fitter and one bound of work. A glyph with a defect
 -- is told, and the others are made.
-use Rattle.std.specs.Prelude.{◌≡◌, refl, ℕ, ◌+◌, Bool, ◌==◌, nat_lt, if◌then◌else◌, List, [], ◌∷◌, ◌++◌, flat_map, map, pos, codes, Option, Some, None, Result, Ok, Err}
+use Rattle.std.specs.Prelude.{◌≡◌, refl, ℕ, ◌+◌, ◌≤◌, ⊤, Bool, ◌==◌, nat_lt, if◌then◌else◌, List, [], ◌∷◌, ◌++◌, flat_map, map, pos, codes, Option, Some, None, Result, Ok, Err}
 use Rattle.std.specs.List.{filter, sum_by}
 use Rattle.tt_core.specs.declared.fault.Why.TheVariants as why
 use Rattle.tt_core.specs.Faults.{Fault, fault_at}
+use Rattle.tt_core.specs.Limits.{height_limit, width_limit}
 use Rattle.tt_fit.specs.declared.programs.Fit.{Fit}
 use Rattle.tt_fit.specs.Fitting.{Fitter, fitted_outline, unfitted_fault}
 use Rattle.tt_fit_outline.specs.Outline.{Outline}
 use Rattle.tt_line.specs.Layout.{advance_in_pixels}
-use Rattle.tt_metrics.specs.Metrics.{glyphs_of}
+use Rattle.tt_metrics.specs.Metrics.{Metrics, glyphs_of}
 use Rattle.tt_picture.specs.Distinct.{distinct}
 use Rattle.tt_picture.specs.Ink.{glyph_ink}
 use Rattle.tt_picture.specs.Shapes.{shape_at}
 use Rattle.tt_picture.specs.Steps.{glyph_step}
 use Rattle.tt_strike.specs.Work.{lays_after_glyphs, line_fitter}
-use Rattle.tt_glyphs.specs.Bitmaps.{InkPlace, bitmap, is_large, place_bytes, place_of}
-
--- the font has no glyph with this number; its outline is refused; its ink is too large; or the glyph is made: its
--- advance in columns, the place of its ink, and the fault of its program where it is unfitted
-pub data Told : Type 0 where
-  unknown : Told
-  broken : Fault → Told
-  large : Told
-  made : ℕ → InkPlace → Option Fault → Told
+use Rattle.tt_glyphs.specs.Bitmaps.{bitmap, is_large, place_bytes, place_of}
+use Rattle.tt_glyphs.specs.declared.place.InkPlace.{InkPlace}
+use Rattle.tt_glyphs.specs.declared.told.Entry.{Entry}
+use Rattle.tt_glyphs.specs.declared.told.Told.{Told}
+use Rattle.tt_glyphs.specs.declared.told.Told.TheVariants as told
 
 abbrev pub made_within : ℕ → Option Fault → InkPlace → Told
-made_within advance unfitted p = if is_large p then large else made advance p unfitted
+made_within advance unfitted p = if is_large p then told.Large
+    else told.Made (record { advance = advance; place = p; unfitted = unfitted })
 
 abbrev pub told_of : Result Outline Fault → Told → Told
 told_of (Ok o) t = t
-told_of (Err fault) t = broken fault
+told_of (Err fault) t = told.Broken fault
 
 -- the advance that a fit gives
 abbrev pub advance_by : Fit → Fitter → ℕ → ℕ
 advance_by how s g = if lays_after_glyphs how then glyph_step s g else advance_in_pixels s.metrics s.ppem g
+
+-- the same by the step of the glyph's outline
+abbrev pub advance_of : Metrics → ℕ → Fit → ℕ → ℕ → ℕ
+advance_of m ppem how g step = if lays_after_glyphs how then step else advance_in_pixels m ppem g
 
 -- a glyph of the font, by its fitter
 unfoldable pub glyph_told : Fit → Fitter → ℕ → Told
@@ -48,24 +50,25 @@ known s gs = filter (λ g. nat_lt g (glyphs_of s.metrics)) gs
 -- what is told of a number of a list
 abbrev pub number_told : Fit → Fitter → List ℕ → ℕ → Told
 number_told how s gs g =
-    if nat_lt g (glyphs_of s.metrics) then glyph_told how (line_fitter s (known s gs) g) g else unknown
+    if nat_lt g (glyphs_of s.metrics) then glyph_told how (line_fitter s (known s gs) g) g else told.Unknown
 
 abbrev pub told_bytes : Told → ℕ
-told_bytes unknown = 0
-told_bytes (broken fault) = 0
-told_bytes large = 0
-told_bytes (made advance p unfitted) = place_bytes p
+told_bytes told.Unknown = 0
+told_bytes (told.Broken fault) = 0
+told_bytes told.Large = 0
+told_bytes (told.Made m) = place_bytes m.place
+
+-- the rows of what is told have few enough bytes
+abbrev pub ToldFits : Told → Type 0
+ToldFits told.Unknown = ⊤
+ToldFits (told.Broken fault) = ⊤
+ToldFits told.Large = ⊤
+ToldFits (told.Made m) = (m.place.width ≤ width_limit) × (m.place.height ≤ height_limit)
 
 -- the bytes of the rows of the numbers that stand before a number in a list
 abbrev pub bytes_before : (ℕ → ℕ) → List ℕ → ℕ → ℕ
 bytes_before bytes [] g = 0
 bytes_before bytes (h ∷ hs) g = if h == g then 0 else bytes h + bytes_before bytes hs g
-
--- a number as asked for, what is told of it, and where its rows begin
-pub record Entry : Type 0 where
-  pub glyph : ℕ
-  pub told : Told
-  pub at : ℕ
 
 abbrev pub number_bytes : Fit → Fitter → List ℕ → ℕ → ℕ
 number_bytes how s gs g = told_bytes (number_told how s gs g)
@@ -91,10 +94,10 @@ outline_rows s g p (Ok o) = bitmap (shape_at s (g, 0) o) p
 outline_rows s g p (Err fault) = []
 
 abbrev pub told_rows : Fitter → ℕ → Told → List ℕ
-told_rows s g unknown = []
-told_rows s g (broken fault) = []
-told_rows s g large = []
-told_rows s g (made advance p unfitted) = outline_rows s g p (fitted_outline s g)
+told_rows s g told.Unknown = []
+told_rows s g (told.Broken fault) = []
+told_rows s g told.Large = []
+told_rows s g (told.Made m) = outline_rows s g m.place (fitted_outline s g)
 
 abbrev pub number_rows : Fit → Fitter → List ℕ → ℕ → List ℕ
 number_rows how s gs g = told_rows (line_fitter s (known s gs) g) g (number_told how s gs g)
@@ -111,12 +114,12 @@ a_repeated_number : map (bytes_before two_for_the_first (distinct (1 ∷ 1 ∷ 2
     ≡ 0 ∷ 0 ∷ 2 ∷ 2 ∷ []
 a_repeated_number = refl
 
-a_fault_has_no_bytes : told_bytes (broken (fault_at (codes "glyf") 10 why.ComponentDepth)) ≡ 0
+a_fault_has_no_bytes : told_bytes (told.Broken (fault_at (codes "glyf") 10 why.ComponentDepth)) ≡ 0
 a_fault_has_no_bytes = refl
 
-too_wide : made_within 75 None (record { left = pos 0; top = pos 0; width = 16385; height = 1 }) ≡ large
+too_wide : made_within 75 None (record { left = pos 0; top = pos 0; width = 16385; height = 1 }) ≡ told.Large
 too_wide = refl
 
 as_wide_as_may_be : made_within 75 None (record { left = pos 0; top = pos 0; width = 16384; height = 4096 })
-    ≡ made 75 (record { left = pos 0; top = pos 0; width = 16384; height = 4096 }) None
+    ≡ told.Made (record { advance = 75; place = record { left = pos 0; top = pos 0; width = 16384; height = 4096 }; unfitted = None })
 as_wide_as_may_be = refl

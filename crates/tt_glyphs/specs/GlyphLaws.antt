@@ -18,8 +18,13 @@ use Rattle.tt_strike.specs.Measures.{Measure, measured}
 use Rattle.tt_strike.specs.Picture.{drawn, frame_of, laid_out, setting_in}
 use Rattle.tt_strike.specs.Refusals.{Refused}
 use Rattle.tt_strike.specs.Work.{lays_after_glyphs, line_fitter}
-use Rattle.tt_glyphs.specs.Bitmaps.{InkPlace, bitmap_pixel, is_black_at, place_of}
-use Rattle.tt_glyphs.specs.Entries.{Entry, Told, all_rows, broken, bytes_wanted, entries, entry_of, glyph_told, large, made, number_told, unknown}
+use Rattle.tt_glyphs.specs.Bitmaps.{bitmap_pixel, is_black_at, place_of}
+use Rattle.tt_glyphs.specs.declared.place.InkPlace.{InkPlace}
+use Rattle.tt_glyphs.specs.declared.told.Entry.{Entry}
+use Rattle.tt_glyphs.specs.declared.told.MadeBitmap.{MadeBitmap}
+use Rattle.tt_glyphs.specs.declared.told.Told.{Told}
+use Rattle.tt_glyphs.specs.declared.told.Told.TheVariants as told
+use Rattle.tt_glyphs.specs.Entries.{all_rows, bytes_wanted, entries, entry_of, glyph_told, number_told}
 use Rattle.tt_glyphs.specs.Layouts.{Layout, Pen, layout_outcome, pens_outcome}
 use Rattle.tt_glyphs.specs.Requests.{Bitmaps, GlyphJob, bitmaps_answer, bitmaps_outcome, done, small}
 
@@ -51,10 +56,10 @@ LinesAreBitmaps = (face : Face) (a : Job) (line : Placement) (s : Fitter) (i : I
     → i ≡ image (frame_of line a.margin) (some_entry_shows (line_fitter s (map (λ g. g.0) line.glyphs)) (frame_of line a.margin) line.glyphs)
 
 abbrev pub IsMade : Told → Type 0
-IsMade unknown = ⊥
-IsMade (broken fault) = ⊥
-IsMade large = ⊥
-IsMade (made advance p unfitted) = Unit {0}
+IsMade told.Unknown = ⊥
+IsMade (told.Broken fault) = ⊥
+IsMade told.Large = ⊥
+IsMade (told.Made m) = Unit {0}
 
 -- and each of these glyphs is made, if the ink of all lies in the picture
 abbrev pub IsWithin : Frame → ℕ → InkPlace → Type 0
@@ -94,9 +99,9 @@ pub record HasInkAtSides (w h : ℕ) (black : ℕ → ℕ → Bool) : Type 0 whe
   pub last_row : (c : ℕ) × (r : ℕ) × (c < w) × (r + 1 ≡ h) × (black c r ≡ true)
 
 abbrev pub BitmapsAreLeast : Type 0
-BitmapsAreLeast = (how : Fit) (s : Fitter) (g advance : ℕ) (p : InkPlace) (unfitted : Option Fault) (o : Outline)
-    → glyph_told how s g ≡ made advance p unfitted → fitted_outline s g ≡ Ok o → 0 < p.width
-    → HasInkAtSides p.width p.height (bitmap_pixel (shape_at s (g, 0) o) p)
+BitmapsAreLeast = (how : Fit) (s : Fitter) (g : ℕ) (m : MadeBitmap) (o : Outline)
+    → glyph_told how s g ≡ told.Made m → fitted_outline s g ≡ Ok o → 0 < m.place.width
+    → HasInkAtSides m.place.width m.place.height (bitmap_pixel (shape_at s (g, 0) o) m.place)
 
 -- where a measure is made, its layout is told alike
 abbrev pub LaidOutAsMeasured : Type 0

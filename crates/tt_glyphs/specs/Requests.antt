@@ -21,7 +21,8 @@ use Rattle.tt_strike.specs.Job.{size_tested}
 use Rattle.tt_strike.specs.Picture.{setting}
 use Rattle.tt_strike.specs.Refusals.{Refused, as_font, as_job}
 use Rattle.tt_strike.specs.Work.{chords_in, edges_limited, line_fitter, points_in, work_left, work_tested}
-use Rattle.tt_glyphs.specs.Entries.{Entry, all_rows, bytes_wanted, entries, known}
+use Rattle.tt_glyphs.specs.declared.told.Entry.{Entry}
+use Rattle.tt_glyphs.specs.Entries.{all_rows, bytes_wanted, entries, known}
 
 -- a list of glyph numbers, the pixels per em, and how outlines are fitted
 pub record GlyphJob : Type 0 where
@@ -29,12 +30,18 @@ pub record GlyphJob : Type 0 where
   pub ppem : ℕ
   pub fit : Fit
 
+abbrev pub job_for : List ℕ → ℕ → Fit → GlyphJob
+job_for gs ppem how = record { glyphs = gs; ppem = ppem; fit = how }
+
 -- the limits of a request, in the order of their tests
 unfoldable pub count_tested : List ℕ → Result (Unit {0}) JobFault
 count_tested gs = if nat_lt text_limit (length gs) then Err job.TextLong else Ok tt
 
-unfoldable pub request_tested : GlyphJob → Result (Unit {0}) JobFault
-request_tested a = size_tested a.ppem >>= λ u. count_tested a.glyphs
+abbrev pub limits_tested : List ℕ → ℕ → Result (Unit {0}) JobFault
+limits_tested gs ppem = size_tested ppem >>= λ u. count_tested gs
+
+abbrev pub request_tested : GlyphJob → Result (Unit {0}) JobFault
+request_tested a = limits_tested a.glyphs a.ppem
 
 -- the crossings of a glyph in a picture that holds all of it; a glyph that is refused has none
 abbrev pub shape_crossings : Shape → ℕ

@@ -1,12 +1,14 @@
 //! Draws the distinct glyphs of a list: their edges, the places of their ink, and what is told of them.
 
-ghost use Rattle.std.specs.Prelude.{◌≡◌, ◌⊎◌, ℕ, ◌+◌, ◌<◌, ◌≤◌, length, map, All, IfOk, IfNone, IfSome, None};
+ghost use Rattle.std.specs.Prelude.{◌≡◌, ◌⊎◌, ℕ, ◌+◌, ◌^◌, ◌<◌, ◌≤◌, length, map, All, IfOk, IfNone, IfSome, None};
 ghost use Rattle.tt_fit.specs.Fitting.{Fitter};
-ghost use Rattle.tt_glyphs.specs.Drawn.{DrawnFits, IsDrawn, list_chords, list_crossings};
+ghost use Rattle.tt_glyphs.specs.Bitmaps.{place_of};
+ghost use Rattle.tt_glyphs.specs.Drawn.{DrawnFits, IsDrawn, IsSourceOf, drawn_edges, drawn_rows};
 ghost use Rattle.tt_glyphs.specs.Edged.{EdgedFits, IsEdgedBy};
 ghost use Rattle.tt_glyphs.specs.Entries.{advance_of, told_bytes};
-ghost use Rattle.tt_glyphs.specs.Tried.{tried_glyph};
+ghost use Rattle.tt_glyphs.specs.Tried.{AreTriedBy, tried_chords, tried_crossings};
 ghost use Rattle.tt_metrics.specs.Metrics.{glyphs_of};
+ghost use Rattle.tt_picture.specs.Ink.{glyph_ink};
 
 use crate::drawn::{GlyphBitmap, bitmap_of};
 use crate::edged::{EdgedOutline, edged};

@@ -1,22 +1,26 @@
 //! A glyph of a list that is drawn: what is told of it, and the edges and dropouts of its rows.
 
-ghost use Rattle.std.specs.Prelude.{◌≡◌, ◌≤◌, ◌<◌, ◌*◌, ◌+◌, length, All, IfOk};
+ghost use Rattle.std.specs.Prelude.{◌≡◌, ◌≢◌, ℕ, ◌+◌, ◌^◌, ◌≤◌, ◌<◌, true, false, pos, length, IfNone, IfOk, IfSome};
 ghost use Rattle.tt_core.specs.Bits.{stride};
-ghost use Rattle.tt_glyphs.specs.Bitmaps.{InkPlace, place_bytes};
-ghost use Rattle.tt_glyphs.specs.Drawn.{BitmapFits, bitmap_row, bitmap_rows, dropouts_seen};
+ghost use Rattle.tt_glyphs.specs.Bitmaps.{place_bytes};
+ghost use Rattle.tt_glyphs.specs.Drawn.{BitmapFits, IsInked, bitmap_row, bitmap_rows, column_of, edged_pixel, frame_of, is_pixel_of, line_of};
 ghost use Rattle.tt_glyphs.specs.Edged.{EdgedFits};
-ghost use Rattle.tt_scan_dropouts.specs.Pictures.{AreDropouts, is_among, is_at};
+ghost use Rattle.tt_picture.specs.Pixels.{is_filled};
+ghost use Rattle.tt_picture.specs.Rows.{rows};
+ghost use Rattle.tt_scan.specs.Contours.{contours_at};
 ghost use Rattle.tt_scan_dropouts.specs.Passes.{has_pixel};
+ghost use Rattle.tt_scan_dropouts.specs.Pictures.{AreDropouts, is_among, is_at};
+ghost use Rattle.tt_scan_dropouts.specs.Windows.{WindowFits, has, widened};
+ghost use Rattle.tt_scan_edges.specs.Winding.{FrameFits};
 
 use crate::edged::EdgedOutline;
 use crate::place::InkPlace;
 use crate::placing::row_bytes;
 use std::alloc::{AllocError, Global};
 use std::marker::Model;
-use tt_scan::{EdgeList, Frame, Sweep, Tape};
+use tt_scan::{Frame, Sweep, Tape};
 use tt_scan_dropouts::{
-    BoxedRules, Dropout, Outlined, Pixel, Window, blacken_dropouts, dropouts, may_have_dropouts,
-    sort_by_rows,
+    Dropout, Outlined, Pixel, Window, blacken_dropouts, dropouts, may_have_dropouts, sort_by_rows,
 };
 
 /// The rows of a glyph's ink, before they are made.

@@ -1,6 +1,7 @@
 //! The numbers of a list that are glyphs of the font.
 
-ghost use Rattle.std.specs.Prelude.{◌≡◌, ◌<◌, ◌≤◌, nat_lt, filter, length, map, All, IfOk};
+ghost use Rattle.std.specs.Prelude.{◌≡◌, ◌<◌, ◌≤◌, length, map, All, IfOk};
+ghost use Rattle.tt_glyphs.specs.Drawn.{known_number, known_of};
 
 use std::alloc::{AllocError, Global};
 
@@ -22,7 +23,7 @@ pub(crate) fn known_line(
     count: u16,
     glyphs: &[u32],
 ) -> Result<Vec<(u16, u32)>, AllocError>
-    ensures numbers { IfOk result (λ line. map (λ g. g.0) line.items ≡ filter (λ g. nat_lt g count) glyphs.now) }
+    ensures numbers { IfOk result (λ line. map (λ g. g.0) line.items ≡ known_of count glyphs.now) }
     ensures known { IfOk result (λ line. All (λ g. g.0 < count) line.items) }
     ensures few { IfOk result (λ line. length line.items ≤ length glyphs.now) }
 {

@@ -1,2 +1,32 @@
-//! Bitmaps of glyphs by their numbers, and layout without ink. So far the definitions alone.
+//! Bitmaps of glyphs by their numbers.
+//!
+//! ```text
+//! request.rt   the count of a list, and the work that its glyphs may take
+//! known.rt     the numbers that are glyphs of the font
+//! outlines.rt  the outlines of the distinct glyphs, or the faults that refuse them
+//! edged.rt     the edges of an outline, their crossings and the box of their ink
+//! placing.rt   the place of a glyph by that box, and the bytes of its rows
+//! drawn.rt     the rows of a glyph
+//! drawing.rt   the distinct glyphs, drawn within the limits of a request
+//! entries.rt   an entry for each place of the list
+//! list.rt      the bitmaps of a list
+//! ```
 #![tactic(auto)]
+
+mod drawing;
+mod drawn;
+mod edged;
+mod entries;
+mod known;
+mod list;
+mod outlines;
+mod place;
+mod placing;
+mod request;
+mod told;
+
+pub use list::GlyphList;
+pub use place::InkPlace;
+pub use told::{Entry, MadeBitmap, Told};
+pub use tt_core::DrawFault;
+pub use tt_face::Face;

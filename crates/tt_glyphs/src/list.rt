@@ -1,16 +1,26 @@
 //! The bitmaps of a list of glyph numbers at one size: an entry for each number, and the rows.
 
-ghost use Rattle.std.specs.Prelude.{◌≡◌, ◌<◌, ◌≤◌, ◌^◌, length, take, drop, map, All, IfOk, IfSome};
+ghost use Rattle.std.specs.Prelude.{◌≡◌, ◌<◌, ◌≤◌, ◌^◌, true, length, take, drop, flat_map, map, All, IfOk};
+ghost use Rattle.std.specs.List.{sum_by};
 ghost use Rattle.tt_core.specs.Limits.{text_limit};
 ghost use Rattle.tt_core.specs.Outcomes.{GivesUnless, IfTold, draw_font_fault};
-ghost use Rattle.tt_glyphs.specs.Requests.{bitmaps_outcome, job_for};
-ghost use Rattle.tt_strike.specs.Refusals.{refusal};
+ghost use Rattle.tt_glyphs.specs.Drawn.{DrawnFits, IsDrawn, IsSourceOf, drawn_edges, drawn_rows, entry_by, known_of};
+ghost use Rattle.tt_glyphs.specs.Entries.{told_bytes};
+ghost use Rattle.tt_glyphs.specs.Requests.{bitmaps_outcome, job_for, work_of_list_tested};
+ghost use Rattle.tt_metrics.specs.Metrics.{glyphs_of};
+ghost use Rattle.tt_picture.specs.Distinct.{distinct};
+ghost use Rattle.tt_picture.specs.Glyphs.{ArePlaces};
+ghost use Rattle.tt_picture.specs.Unfitted.{all_differ};
+ghost use Rattle.tt_strike.specs.Defects.{IsSettingDefect};
+ghost use Rattle.tt_strike.specs.Makers.{job_at};
+ghost use Rattle.tt_strike.specs.Refusals.{as_job, refusal};
+ghost use Rattle.tt_strike.specs.Work.{line_fitter};
 
 use crate::drawing::{DrawnGlyph, draw_glyphs};
-use crate::entries::{Places, entries_of};
+use crate::entries::entries_of;
 use crate::known::known_line;
 use crate::outlines::try_glyphs;
-use crate::request::{limits_for, test_request};
+use crate::request::{limits_for, test_count};
 use crate::told::Entry;
 use std::alloc::{AllocError, Global};
 use std::marker::Model;
@@ -19,7 +29,7 @@ use tt_face::Face;
 use tt_fit::{Fit, Fitter};
 use tt_picture::Cache;
 use tt_scan::Sweep;
-use tt_strike::{DistinctGlyphs, FitterSource, Maker, charge_points, distinct, is_bounded};
+use tt_strike::{DistinctGlyphs, FitterSource, SizedFace, charge_points, distinct, is_bounded};
 
 /// The bitmaps of a list of glyph numbers. All memory that their rows need is there already.
 #[derive(Drop)]
@@ -58,7 +68,7 @@ fn drawn_by(
     requires fitter { IsSourceOf source.now fitter.old }
     requires known { All (λ n. n < glyphs_of source.now.face.now.metrics) numbers.now }
     requires differ { all_differ numbers.now ≡ true }
-    ensures exact { GivesUnless refusal (λ v. tt) result (as_job (work_of_distinct_tested source.now.fit fitter.old numbers.now)) }
+    ensures exact { GivesUnless refusal (λ v. tt) result (as_job (work_of_list_tested source.now.fit fitter.old numbers.now)) }
     ensures numbers { IfOk result (λ v. map (λ d. d.number) v.items ≡ numbers.now) }
     ensures drawn { IfOk result (λ v. All (λ d. IsDrawn source.now.fit (line_fitter fitter.old numbers.now d.number) d) v.items) }
     ensures fits { IfOk result (λ v. All DrawnFits v.items) }
@@ -94,10 +104,12 @@ impl GlyphList {
         drawn: Vec<DrawnGlyph>,
     ) -> Result<GlyphList, AllocError>
         requires few { length glyphs.now ≤ text_limit }
+        requires distinct { map (λ d. d.number) drawn.items ≡ distinct (known_of (length places.now) glyphs.now) }
         requires places { ArePlaces places.now (map (λ d. d.number) drawn.items) }
         requires fits { All DrawnFits drawn.items }
-        ensures entries { IfOk result (λ l. l.entries ≡ map (entry_by (length places.now) drawn.items (distinct glyphs.now)) glyphs.now) }
+        ensures entries { IfOk result (λ l. l.entries ≡ map (entry_by drawn.items (distinct glyphs.now)) glyphs.now) }
         ensures wanted { IfOk result (λ l. l.wanted ≡ sum_by (λ d. told_bytes d.told) drawn.items) }
+        ensures small { IfOk result (λ l. l.wanted < 2 ^ 36) }
         ensures rows { IfOk result (λ l. l.rows ≡ flat_map drawn_rows drawn.items) }
     {
         let sweep = Sweep::new(alloc, most_edges(&drawn))?;
@@ -127,14 +139,11 @@ impl GlyphList {
         ensures entries { IfOk result (λ b. length b.entries ≡ length glyphs.now) }
         ensures wanted { IfOk result (λ b. b.wanted < 2 ^ 36) }
     {
-        test_request(glyphs, ppem)?;
-        let source = FitterSource {
-            alloc,
-            face,
-            ppem,
-            fit,
-        };
-        let mut maker = Maker::Unmade;
+        let sized = SizedFace::new(alloc, face, ppem, fit)?;
+        test_count(glyphs)?;
+        let SizedFace {
+            source, mut maker, ..
+        } = sized;
         let mut fitter = maker.take(&source)?;
         let count = face.metrics().glyphs();
         let known = known_line(alloc, count, glyphs)?;

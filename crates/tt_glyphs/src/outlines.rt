@@ -1,6 +1,6 @@
 //! The outlines of a list's distinct glyphs. A glyph that is refused is told, and the others are made.
 
-ghost use Rattle.std.specs.Prelude.{◌≡◌, ◌<◌, length, map, All, IfOk, OnOk};
+ghost use Rattle.std.specs.Prelude.{◌≡◌, ◌<◌, true, map, All, IfOk, OnOk};
 ghost use Rattle.tt_fit.specs.Fitting.{after_glyph};
 ghost use Rattle.tt_glyphs.specs.Tried.{tried_glyph};
 ghost use Rattle.tt_picture.specs.Distinct.{fitter_after, fitter_for};
