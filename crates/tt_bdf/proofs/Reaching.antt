@@ -1,12 +1,12 @@
 -- How far the ranges go that begin before a code point, and the code points below one that are listed.
-use Rattle.std.proofs.Common.{◌≡◌, ◌∙◌, refl, sym, ap, ℕ, zero, suc, ◌+◌, ◌-◌, ◌<◌, ◌≤◌, max, ◌==◌, nat_lt, nat_le, Bool, true, false, ◌&&◌, ◌||◌, if◌then◌else◌, cond, ◌⊎◌, inl, inr, List, [], ◌∷◌, ◌++◌, length, take, drop, set, get_or, slice_index, append_assoc, Option, Some, None, All, arith}
+use Rattle.std.proofs.Common.{◌≡◌, ◌∙◌, refl, sym, ap, ℕ, zero, suc, ◌+◌, ◌-◌, ◌<◌, ◌≤◌, max, ◌==◌, nat_lt, nat_le, Bool, true, false, ◌&&◌, ◌||◌, if◌then◌else◌, ◌⊎◌, inl, inr, List, [], ◌∷◌, ◌++◌, length, take, drop, set, get_or, slice_index, Some, None, All, arith}
 use Rattle.std.proofs.lemmas.Bool.{cases_lt, cases_eq}
 use Rattle.std.proofs.lemmas.Bool.Decides.{nat_tests}
 use Rattle.std.proofs.lemmas.List.{append-nil, at_drop_more, get_or-set_other, get_or-set_same, length-take, take_all, take_at}
 use Rattle.std.proofs.lemmas.List.Elements.{All-head, All-tail}
 use Rattle.std.specs.List.{filter, range_with_len}
 use Rattle.tt_bdf.specs.declared.range.CodeRange.{CodeRange}
-use Rattle.tt_bdf.specs.Asked.{characters_of, code_count, end_of, far_before, found_at, is_asked, is_shown, is_within, listed_below, reach_at}
+use Rattle.tt_bdf.specs.Asked.{characters_of, code_count, end_of, far_before, found_at, is_asked, is_shown, listed_below, reach_at}
 use Rattle.tt_bdf.specs.Ranges.{IsCodeRange}
 use Rattle.tt_cmap.specs.Maps.{CharacterMap}
 use Rattle.tt_core.specs.Limits.{text_limit}

@@ -1,5 +1,5 @@
 -- The characters of a file, and why there are none.
-use Rattle.std.proofs.Common.{◌≡◌, ◌∙◌, refl, ℕ, ◌<◌, ◌≤◌, nat_lt, true, false, List, [], ◌∷◌, length, Ok, Err, arith}
+use Rattle.std.proofs.Common.{◌≡◌, refl, ℕ, ◌<◌, ◌≤◌, nat_lt, true, false, List, [], ◌∷◌, length, Ok, Err, arith}
 use Rattle.std.proofs.lemmas.Bool.Decides.{nat_tests}
 use Rattle.tt_bdf.specs.declared.range.CodeRange.{CodeRange}
 use Rattle.tt_bdf.specs.Asked.{characters_of, file_characters}

@@ -1,7 +1,6 @@
 -- X Consortium, "X Logical Font Description Conventions": SPACING and AVERAGE_WIDTH. BDF, version 2.1: SWIDTH, in
 -- thousandths of an em. The rounding of halves upwards is profile.
-use Rattle.std.specs.Prelude.{◌≡◌, refl, ℕ, ◌+◌, ◌*◌, Bool, true, false, ◌&&◌, ◌==◌, if◌then◌else◌, ℤ, pos, List, [], ◌∷◌, length, map, codes, Option, Some, None}
-use Rattle.std.specs.List.{list_all, list_any, sum_by}
+use Rattle.std.specs.Prelude.{◌≡◌, refl, ℕ, ◌+◌, ◌*◌, Bool, true, false, ◌&&◌, ◌==◌, if◌then◌else◌, ℤ, pos, List, [], ◌∷◌, length, map, Option, Some, None}
 use Rattle.tt_core.specs.Numbers.{rounded_quotient}
 use Rattle.tt_bdf.specs.declared.character.BdfCharacter.{BdfCharacter}
 

@@ -1,6 +1,6 @@
 -- No part of a standard: the characters of a file (profile): those of some ranges that a font has a glyph for, in rising
 -- order, each once. Surrogates and variation selectors are passed over.
-use Rattle.std.specs.Prelude.{◌≡◌, refl, ℕ, ◌+◌, max, Bool, true, false, not, ◌&&◌, ◌||◌, ◌==◌, nat_lt, nat_le, if◌then◌else◌, List, [], ◌∷◌, ◌++◌, length, map, chars, codes, Option, Some, None, Result, Ok, Err}
+use Rattle.std.specs.Prelude.{◌≡◌, refl, ℕ, ◌+◌, max, Bool, true, false, not, ◌&&◌, ◌||◌, ◌==◌, nat_lt, nat_le, if◌then◌else◌, List, [], ◌∷◌, length, map, codes, Option, Some, None, Result, Ok, Err}
 use Rattle.std.specs.List.{filter, range_with_len}
 use Rattle.tt_bdf.specs.declared.range.CodeRange.{CodeRange}
 use Rattle.tt_cmap.specs.Maps.{CharacterMap, glyph_of_unit}

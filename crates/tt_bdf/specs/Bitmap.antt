@@ -1,6 +1,6 @@
 -- Adobe, "Glyph Bitmap Distribution Format (BDF) Specification", version 2.1: the lines of a character. Each row of its
 -- bitmap is a line of two hexadecimal digits a byte. The letters are capital (profile).
-use Rattle.std.specs.Prelude.{◌≡◌, refl, ℕ, ◌+◌, ◌-◌, ◌*◌, ◌/◌, ◌%◌, true, ℤ, pos, negsuc, List, [], ◌∷◌, ◌++◌, length, replicate, flat_map, slice_range, codes, decimal}
+use Rattle.std.specs.Prelude.{◌≡◌, refl, ℕ, ◌+◌, ◌-◌, ◌*◌, ◌/◌, ◌%◌, true, pos, negsuc, List, [], ◌∷◌, ◌++◌, length, replicate, flat_map, slice_range, codes, decimal}
 use Rattle.std.specs.Fmt.{digit_glyph, digits, signed_decimal}
 use Rattle.std.specs.List.{range_with_len}
 use Rattle.tt_bdf.specs.Advances.{scalable_width}

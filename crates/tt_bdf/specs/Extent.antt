@@ -1,6 +1,6 @@
 -- Adobe, "Glyph Bitmap Distribution Format (BDF) Specification", version 2.1: FONTBOUNDINGBOX. Here it is the least box
 -- that holds the ink of all characters (profile).
-use Rattle.std.specs.Prelude.{◌≡◌, refl, ℕ, ◌^◌, ◌<◌, ◌≤◌, ◌==◌, if◌then◌else◌, ℤ, pos, negsuc, ◌+ℤ◌, ◌-ℤ◌, unsigned_abs, List, [], ◌∷◌, Option, Some, None}
+use Rattle.std.specs.Prelude.{◌≡◌, refl, ◌^◌, ◌<◌, ◌≤◌, ◌==◌, if◌then◌else◌, ℤ, pos, negsuc, ◌+ℤ◌, ◌-ℤ◌, unsigned_abs, List, [], ◌∷◌, Option, Some, None}
 use Rattle.std.specs.Int.{int_max, int_min}
 use Rattle.tt_core.specs.Limits.{height_limit, width_limit}
 use Rattle.tt_bdf.specs.declared.character.BdfCharacter.{BdfCharacter}

@@ -1,8 +1,8 @@
 -- Adobe, "Glyph Bitmap Distribution Format (BDF) Specification", version 2.1: the lines of a font. X Consortium, "X
 -- Logical Font Description Conventions": the font's name and its properties. The resolution is 72 dots per inch, so a
 -- point is a pixel (profile). No line tells a date or a program (profile).
-use Rattle.std.specs.Prelude.{◌≡◌, refl, ℕ, ◌*◌, Bool, true, false, if◌then◌else◌, ℤ, pos, ◌-ℤ◌, List, [], ◌∷◌, ◌++◌, length, codes, decimal, string_bytes, Option, Some, None}
-use Rattle.std.specs.Fmt.{digits, signed_decimal}
+use Rattle.std.specs.Prelude.{ℕ, ◌*◌, Bool, true, false, ◌-ℤ◌, List, [], ◌++◌, length, codes, decimal, string_bytes, Option, Some, None}
+use Rattle.std.specs.Fmt.{signed_decimal}
 use Rattle.tt_bdf.specs.Advances.{average_width, default_character, is_monospaced}
 use Rattle.tt_bdf.specs.declared.character.BdfCharacter.{BdfCharacter}
 use Rattle.tt_bdf.specs.declared.extent.Extent.{Extent}

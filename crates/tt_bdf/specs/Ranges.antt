@@ -1,7 +1,7 @@
 -- No part of a standard: the characters that `--range` asks for (profile). Ranges are separated by commas. A range is a
 -- code point or two with a hyphen between: the first, and one that is not below the first. A code point is 1 to 6
 -- hexadecimal digits of either case, with or without `U+` before them.
-use Rattle.std.specs.Prelude.{◌≡◌, refl, ℕ, zero, suc, ◌+◌, ◌-◌, ◌*◌, ◌≤◌, ◌&&◌, ◌||◌, ◌==◌, nat_lt, nat_le, if◌then◌else◌, List, [], ◌∷◌, length, drop, slice_index, codes, Option, Some, None}
+use Rattle.std.specs.Prelude.{◌≡◌, refl, ℕ, ◌+◌, ◌-◌, ◌*◌, ◌≤◌, ◌&&◌, ◌||◌, ◌==◌, nat_lt, nat_le, if◌then◌else◌, List, [], ◌∷◌, length, drop, slice_index, codes, Option, Some, None}
 use Rattle.tt_bdf.specs.declared.range.CodeRange.{CodeRange}
 
 -- the greatest code point

@@ -45,17 +45,17 @@ loop-code-preserved c =
     rw (larger, c.loop-code.invariant.far, c.requires.reaches n c.loop-code-test.true) (far_next rs n) in
     elim c.match-found_at.branch [
       | in-Some+in_ok-push+else-len-gt-TEXT_LIMIT w ↦ record {
-          far = far;
-          found = rw (w.found-is, w.in_ok-push.ensures.items, c.loop-code.invariant.found)
+        far = far;
+        found = rw (w.found-is, w.in_ok-push.ensures.items, c.loop-code.invariant.found)
             (sym (found_more shown rs n c.max-far.result w.in-Some.c far (sym w.in-Some.ensures)));
-          few = rw w.found-is (omega (arith, w.push.new.self.ok.0, w.len.ensures, w.if-len-gt-TEXT_LIMIT.false));
-        }
+        few = rw w.found-is (omega (arith, w.push.new.self.ok.0, w.len.ensures, w.if-len-gt-TEXT_LIMIT.false));
+      }
       | in_default w ↦ record {
-          far = far;
-          found = rw (w.found-is, c.loop-code.invariant.found)
+        far = far;
+        found = rw (w.found-is, c.loop-code.invariant.found)
             (sym (found_none shown rs n c.max-far.result far (sym w.in_default.ensures)));
-          few = rw w.found-is c.loop-code.invariant.few;
-        }
+        few = rw w.found-is c.loop-code.invariant.few;
+      }
     ]
 
 pub returns : goal.returns

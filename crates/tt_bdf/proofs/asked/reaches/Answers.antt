@@ -1,4 +1,4 @@
-use Rattle.std.proofs.Common.{◌<◌, length, get_or, arith}
+use Rattle.std.proofs.Common.{arith}
 use Rattle.tt_bdf.proofs.Reaching.{end_above, no_range}
 use Rattle.tt_bdf.proofs.asked.reaches.Goals as goal
 

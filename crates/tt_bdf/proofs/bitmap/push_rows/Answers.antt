@@ -1,4 +1,3 @@
-use Rattle.std.proofs.Common.{◌∙◌, ap, ◌++◌}
 use Rattle.tt_bdf.specs.Bitmap.{row_at, row_text}
 use Rattle.tt_bdf.proofs.Behind.{texts-more}
 use Rattle.tt_bdf.proofs.bitmap.push_rows.Goals as goal

@@ -1,4 +1,4 @@
-use Rattle.std.proofs.Common.{rules, arith, ◌-ℤ◌, SFits, w64}
+use Rattle.std.proofs.Common.{arith, ◌-ℤ◌, SFits, w64}
 use Rattle.std.proofs.lemmas.Int.{ints, to_z-of_z}
 use Rattle.tt_bdf.proofs.head.extent_text.Goals as goal
 

@@ -1,4 +1,4 @@
-use Rattle.std.proofs.Common.{◌≡◌, ◌+◌, length, All}
+use Rattle.std.proofs.Common.{◌≡◌, length, All}
 use Rattle.tt_bdf.specs.Ranges.{IsCodeRange, all_ranges, pieces}
 use Rattle.tt_bdf.proofs.Pieces.{behind}
 use Rattle.tt_bdf.proofs.range.read_ranges.Given as goal
