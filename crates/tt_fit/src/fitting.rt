@@ -1,9 +1,9 @@
 //! The outlines of a font at a size.
 
-ghost use Rattle.std.specs.Prelude.{◌≡◌, ◌<◌, ◌≤◌, Err, IfErr, IfOk, IfSome, OnOk, OnErr, length};
+ghost use Rattle.std.specs.Prelude.{◌≡◌, ◌<◌, ◌≤◌, Err, IfOk, IfSome, OnOk, OnErr, length};
 ghost use Rattle.tt_core.specs.Directory.{HasNo};
 ghost use Rattle.tt_core.specs.Limits.{font_limit, size_limit};
-ghost use Rattle.tt_core.specs.Outcomes.{FontGives, Gives, IfTold, font_fault};
+ghost use Rattle.tt_core.specs.Outcomes.{FontGives, IfTold, font_fault};
 ghost use Rattle.tt_face.specs.Programs.{program_tables};
 ghost use Rattle.tt_fit.specs.Counting.{points_asked, counted};
 ghost use Rattle.tt_fit.specs.Defects.{IsOutlineDefect};
@@ -11,6 +11,7 @@ ghost use Rattle.tt_fit.specs.Dropouts.{dropouts_of};
 ghost use Rattle.tt_fit.specs.Fallback.{where_refused};
 ghost use Rattle.tt_fit.specs.Fitting.{IsFitter, with_hinting, outline_at, glyph_work, unfitted_fault, fitted_outline, after_glyph, charged_fitter};
 ghost use Rattle.tt_fit.specs.Preparation.{fitter_of};
+ghost use Rattle.tt_fit.specs.Tried.{IfMade, IfRefused, outcome_of};
 ghost use Rattle.tt_fit_outline.specs.Views.{hinting_view, outline_of};
 ghost use Rattle.tt_fit_outline.specs.Work.{RefusalLeaves, outline_fault};
 ghost use Rattle.tt_metrics.specs.Metrics.{loca_format_of, glyphs_of};
@@ -21,6 +22,7 @@ use crate::fallback::{Fallback, is_program_fault};
 use crate::preparation::Preparation;
 use crate::programs::{Fit, ProgramsAtSize};
 use crate::rules::{dropouts_by, grid_of, levels_of, rules_of};
+use crate::tried::TriedOutline;
 use std::alloc::{AllocError, Global};
 use std::marker::Model;
 use tt_core::{Fault, FontFault};
@@ -178,12 +180,11 @@ impl<'a> Fitter<'a> {
 
     /// As `fit`, but a refused glyph is no error: its fault is the answer, and the work that its programs took is charged
     /// too. Error: out of memory.
-    pub fn try_fit(&mut self, g: u16) -> Result<Result<Outline, Fault>, AllocError>
+    pub fn try_fit(&mut self, g: u16) -> Result<TriedOutline, AllocError>
         requires { g < self.old.tables.glyphs }
-        ensures exact { IfOk result (λ tried. Gives outline_of tried (fitted_outline self.old g)) }
-        ensures unfitted { IfOk result (λ tried. IfOk tried (λ o. o.unfitted ≡ unfitted_fault self.old g)) }
-        ensures sound { IfOk result (λ tried. OnOk tried (HasNo (IsOutlineDefect self.old g))) }
-        ensures fault { IfOk result (λ tried. IfErr tried (IsOutlineDefect self.old g)) }
+        ensures exact { IfOk result (λ tried. outcome_of tried ≡ fitted_outline self.old g) }
+        ensures unfitted { IfOk result (λ tried. IfMade tried (λ o. o.unfitted ≡ unfitted_fault self.old g)) }
+        ensures fault { IfOk result (λ tried. IfRefused tried (IsOutlineDefect self.old g)) }
         ensures after { OnOk result (self.new ≡ after_glyph self.old g) }
     {
         let mut runner = Runner {
@@ -196,11 +197,11 @@ impl<'a> Fitter<'a> {
         match tried {
             Ok(outline) => {
                 self.work = runner.work;
-                Ok(Ok(outline))
+                Ok(TriedOutline::Made(outline))
             }
             Err(FontFault::Font(fault)) => {
                 self.work = runner.work;
-                Ok(Err(fault))
+                Ok(TriedOutline::Refused(fault))
             }
             Err(FontFault::Memory) => Err(AllocError),
         }
