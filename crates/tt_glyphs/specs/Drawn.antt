@@ -9,10 +9,8 @@ use Rattle.tt_fit.specs.Fitting.{Fitter}
 use Rattle.tt_picture.specs.Pixels.{is_filled}
 use Rattle.tt_picture.specs.Rows.{rows}
 use Rattle.tt_scan.specs.Contours.{contours_at}
-use Rattle.tt_scan_dropouts.specs.declared.picture.Dropout.{Dropout}
 use Rattle.tt_scan_dropouts.specs.declared.pixel.Pixel.{Pixel}
 use Rattle.tt_scan_dropouts.specs.Pictures.{AreDropouts, is_among}
-use Rattle.tt_scan_edges.specs.declared.edge.Edge.{Edge}
 use Rattle.tt_scan_edges.specs.declared.edge.Frame.{Frame}
 use Rattle.tt_scan_edges.specs.Winding.{is_black}
 use Rattle.tt_scan_gaps.specs.Crossings.{centre}
@@ -24,6 +22,7 @@ use Rattle.tt_glyphs.specs.declared.place.InkPlace.{InkPlace}
 use Rattle.tt_glyphs.specs.declared.told.Entry.{Entry}
 use Rattle.tt_glyphs.specs.declared.told.Told.{Told}
 use Rattle.tt_glyphs.specs.declared.told.Told.TheVariants as told
+use Rattle.tt_glyphs.specs.GlyphBitmap.{GlyphBitmap}
 use Rattle.tt_glyphs.specs.Entries.{ToldFits, bytes_before, glyph_told, told_bytes, told_rows}
 
 -- a place with ink, of a bitmap that is not too large
@@ -48,14 +47,7 @@ frame_of p = record { width = p.width; height = p.height; margin = 0; rise = p.t
 abbrev pub is_pixel_of : InkPlace → Pixel → ℕ → ℕ → Bool
 is_pixel_of p pixel c r = int_eq pixel.column (column_of p c) && int_eq pixel.row (line_of p r)
 
--- the rows of a glyph's ink, before they are made: edges and dropouts
-pub record GlyphBitmap : Type 0 where
-  pub place : InkPlace
-  pub frame : Frame
-  pub edges : List Edge
-  pub crosses : ℕ
-  pub dropouts : List Dropout
-
+-- the rows of a glyph's ink by its edges and its dropouts
 abbrev pub drawn_pixel : GlyphBitmap → ℕ → ℕ → Bool
 drawn_pixel b c r =
     is_black b.edges (centre (column_of b.place c)) (centre (line_of b.place r)) || is_among b.dropouts c r

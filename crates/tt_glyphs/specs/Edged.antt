@@ -1,5 +1,5 @@
 -- No part of the standard: the edges of an outline at pen 0.
-use Rattle.std.specs.Prelude.{◌≡◌, ℕ, ◌^◌, ◌≤◌, length, IfSome, Ok}
+use Rattle.std.specs.Prelude.{◌≡◌, ℕ, ◌^◌, ◌≤◌, length, IfSome}
 use Rattle.tt_fit.specs.Fitting.{Fitter, fitted_outline}
 use Rattle.tt_fit_outline.specs.Outline.{Outline}
 use Rattle.tt_fit_outline.specs.Steps.{step_of}
@@ -8,7 +8,9 @@ use Rattle.tt_picture.specs.Steps.{chords_of}
 use Rattle.tt_scan.specs.Contours.{AreEnds, contours_at}
 use Rattle.tt_scan_gaps.specs.Boxes.{IsBoxOf}
 use Rattle.tt_glyphs.specs.declared.edged.EdgedOutline.{EdgedOutline}
-use Rattle.tt_glyphs.specs.Tried.{RuledOutline, ruled_by}
+use Rattle.tt_glyphs.specs.declared.ruled.TriedBody.TheVariants as body
+use Rattle.tt_glyphs.specs.Ruled.{RuledOutline}
+use Rattle.tt_glyphs.specs.Tried.{ruled_by}
 
 -- the edges are few, lie in the box of the dropout rules, and their contours end among them
 pub record EdgedFits (e : EdgedOutline) : Type 0 where
@@ -27,4 +29,4 @@ pub record IsEdged (r : RuledOutline) (e : EdgedOutline) : Type 0 where
 
 -- the edges of a glyph by its fitter
 abbrev pub IsEdgedBy : Fitter → ℕ → EdgedOutline → Type 0
-IsEdgedBy s g e = (r : RuledOutline) × (ruled_by s g (fitted_outline s g) ≡ Ok r) × IsEdged r e
+IsEdgedBy s g e = (r : RuledOutline) × (ruled_by s g (fitted_outline s g) ≡ body.Ruled r) × IsEdged r e

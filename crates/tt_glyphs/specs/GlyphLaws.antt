@@ -1,4 +1,4 @@
--- Laws of the definitions of bitmaps and of layouts, as statements.
+-- Laws of the definitions of bitmaps, as statements.
 use Rattle.std.specs.Prelude.{◌≡◌, ℕ, ◌+◌, ◌*◌, ◌<◌, ◌≤◌, Bool, true, false, ◌&&◌, ◌||◌, nat_lt, ◌==◌, ℤ, pos, ◌+ℤ◌, ◌-ℤ◌, ◌≤ℤ◌, ◌<ℤ◌, int_le, int_lt, List, [], ◌∷◌, length, map, sum, All, codes, chars, ◌↔◌, ◌⊎◌, Option, Some, None, Result, Ok, Err}
 use Rattle.tt_core.specs.Directory.{HasNo}
 use Rattle.tt_core.specs.Faults.{Fault}
@@ -14,10 +14,9 @@ use Rattle.tt_picture.specs.Shapes.{shape_at}
 use Rattle.tt_scan_dropouts.specs.Pictures.{column_at, line_at}
 use Rattle.tt_scan_edges.specs.declared.edge.Frame.{Frame}
 use Rattle.tt_strike.specs.Job.{Job}
-use Rattle.tt_strike.specs.Measures.{Measure, measured}
 use Rattle.tt_strike.specs.Picture.{drawn, frame_of, laid_out, setting_in}
 use Rattle.tt_strike.specs.Refusals.{Refused}
-use Rattle.tt_strike.specs.Work.{lays_after_glyphs, line_fitter}
+use Rattle.tt_strike.specs.Work.{line_fitter}
 use Rattle.tt_glyphs.specs.Bitmaps.{bitmap_pixel, is_black_at, place_of}
 use Rattle.tt_glyphs.specs.declared.place.InkPlace.{InkPlace}
 use Rattle.tt_glyphs.specs.declared.told.Entry.{Entry}
@@ -25,7 +24,6 @@ use Rattle.tt_glyphs.specs.declared.told.MadeBitmap.{MadeBitmap}
 use Rattle.tt_glyphs.specs.declared.told.Told.{Told}
 use Rattle.tt_glyphs.specs.declared.told.Told.TheVariants as told
 use Rattle.tt_glyphs.specs.Entries.{all_rows, bytes_wanted, entries, entry_of, glyph_told, number_told}
-use Rattle.tt_glyphs.specs.Layouts.{Layout, Pen, layout_outcome, pens_outcome}
 use Rattle.tt_glyphs.specs.Requests.{Bitmaps, GlyphJob, bitmaps_answer, bitmaps_outcome, done, small}
 
 -- a column and a line, counted from a pen, lie in the place of a glyph's ink
@@ -102,26 +100,3 @@ abbrev pub BitmapsAreLeast : Type 0
 BitmapsAreLeast = (how : Fit) (s : Fitter) (g : ℕ) (m : MadeBitmap) (o : Outline)
     → glyph_told how s g ≡ told.Made m → fitted_outline s g ≡ Ok o → 0 < m.place.width
     → HasInkAtSides m.place.width m.place.height (bitmap_pixel (shape_at s (g, 0) o) m.place)
-
--- where a measure is made, its layout is told alike
-abbrev pub LaidOutAsMeasured : Type 0
-LaidOutAsMeasured = (face : Face) (a : Job) (m : Measure) → measured face a ≡ Ok m
-    → (l : Layout) × (ps : List Pen) × (layout_outcome face a ≡ Ok l) × (pens_outcome face a ≡ Ok ps)
-    × (l.width ≡ m.width) × (l.height ≡ m.height) × (l.baseline ≡ m.baseline)
-    × (map (λ (p : Pen). pos p.pen) ps ≡ map (λ c. c.pen) m.characters)
-    × (map (λ (p : Pen). p.advance) ps ≡ map (λ c. c.advance) m.characters)
-
--- without best, whether glyphs or programs have defects does not matter: the layout depends on the face's tables alone
-abbrev pub NoGlyphIsRead : Type 0
-NoGlyphIsRead = (face other : Face) (a : Job) → lays_after_glyphs a.fit ≡ false → other.metrics ≡ face.metrics
-    → other.cmap ≡ face.cmap → (layout_outcome other a ≡ layout_outcome face a) × (pens_outcome other a ≡ pens_outcome face a)
-
--- the width is the sum of the advances between two margins, and each pen is the sum of those before it
-pub record AddUp (a : Job) (l : Layout) (ps : List Pen) : Type 0 where
-  pub width : l.width ≡ 2 * a.margin + sum (map (λ (p : Pen). p.advance) ps)
-  pub height : pos l.height ≡ (l.rise +ℤ l.depth) +ℤ pos (2 * a.margin)
-  pub baseline : l.baseline ≡ l.rise +ℤ pos a.margin
-
-abbrev pub LayoutsAddUp : Type 0
-LayoutsAddUp = (face : Face) (a : Job) (l : Layout) (ps : List Pen) → layout_outcome face a ≡ Ok l
-    → pens_outcome face a ≡ Ok ps → AddUp a l ps

@@ -2,7 +2,8 @@ pub mod Bitmaps
 pub mod Drawn
 pub mod Edged
 pub mod Entries
+pub mod GlyphBitmap
 pub mod GlyphLaws
-pub mod Layouts
 pub mod Requests
+pub mod Ruled
 pub mod Tried

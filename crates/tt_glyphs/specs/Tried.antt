@@ -1,48 +1,42 @@
 -- No part of the standard: the outline of a glyph with what its edges and its dropouts are made by, or the fault that
 -- refuses the outline.
-use Rattle.std.specs.Prelude.{◌≡◌, ℕ, ◌+◌, List, map, Option, Result, Ok, Err}
+use Rattle.std.specs.Prelude.{◌≡◌, ℕ, ◌+◌, List, map, Result, Ok, Err}
 use Rattle.std.specs.List.{sum_by}
-use Rattle.tt_arc.specs.declared.rule.ChordRule.{ChordRule}
 use Rattle.tt_core.specs.Faults.{Fault}
 use Rattle.tt_fit.specs.Fitting.{Fitter, fitted_outline, unfitted_fault}
 use Rattle.tt_fit_outline.specs.Outline.{Outline}
 use Rattle.tt_picture.specs.Shapes.{chords_with, edges_at, filled_by, filling_crossings}
 use Rattle.tt_picture.specs.Steps.{chords_of}
 use Rattle.tt_scan_dropouts.specs.Counted.{edges_counted}
-use Rattle.tt_scan_dropouts.specs.declared.boxed.BoxedRules.{BoxedRules}
-use Rattle.tt_glyphs.specs.declared.outlines.TriedGlyph.{TriedGlyph}
+use Rattle.tt_glyphs.specs.declared.ruled.TriedBody.{TriedBody}
+use Rattle.tt_glyphs.specs.declared.ruled.TriedBody.TheVariants as body
+use Rattle.tt_glyphs.specs.declared.ruled.TriedGlyph.{TriedGlyph}
 
-pub record RuledOutline : Type 0 where
-  pub outline : Outline
-  pub rule : ChordRule
-  pub filled : Option BoxedRules
-  pub unfitted : Option Fault
-
-abbrev pub ruled_by : Fitter → ℕ → Result Outline Fault → Result RuledOutline Fault
+abbrev pub ruled_by : Fitter → ℕ → Result Outline Fault → TriedBody
 ruled_by s g (Ok o) =
-    Ok (record { outline = o; rule = chords_with s; filled = filled_by s g o; unfitted = unfitted_fault s g })
-ruled_by s g (Err fault) = Err fault
+    body.Ruled (record { outline = o; rule = chords_with s; filled = filled_by s g o; unfitted = unfitted_fault s g })
+ruled_by s g (Err fault) = body.Refused fault
 
 -- a glyph by its fitter
 abbrev pub tried_glyph : Fitter → ℕ → TriedGlyph
-tried_glyph s g = record { number = g; tried = ruled_by s g (fitted_outline s g) }
+tried_glyph s g = record { number = g; body = ruled_by s g (fitted_outline s g) }
 
 -- some glyphs, each by its own fitter
 abbrev pub AreTriedBy : (ℕ → Fitter) → List TriedGlyph → Type 0
 AreTriedBy maker ts = ts ≡ map (λ (t : TriedGlyph). tried_glyph (maker t.number) t.number) ts
 
 -- the chords and the crossings of some glyphs, each at pen 0; a glyph that is refused has none
-abbrev pub ruled_chords : Result RuledOutline Fault → ℕ
-ruled_chords (Ok r) = chords_of r.rule r.outline
-ruled_chords (Err fault) = 0
+abbrev pub ruled_chords : TriedBody → ℕ
+ruled_chords (body.Ruled r) = chords_of r.rule r.outline
+ruled_chords (body.Refused fault) = 0
 
-abbrev pub ruled_crossings : Result RuledOutline Fault → ℕ
-ruled_crossings (Ok r) =
+abbrev pub ruled_crossings : TriedBody → ℕ
+ruled_crossings (body.Ruled r) =
     edges_counted (edges_at r.rule 0 r.outline) + filling_crossings r.filled (edges_at r.rule 0 r.outline)
-ruled_crossings (Err fault) = 0
+ruled_crossings (body.Refused fault) = 0
 
 abbrev pub tried_chords : List TriedGlyph → ℕ
-tried_chords ts = sum_by (λ (t : TriedGlyph). ruled_chords t.tried) ts
+tried_chords ts = sum_by (λ (t : TriedGlyph). ruled_chords t.body) ts
 
 abbrev pub tried_crossings : List TriedGlyph → ℕ
-tried_crossings ts = sum_by (λ (t : TriedGlyph). ruled_crossings t.tried) ts
+tried_crossings ts = sum_by (λ (t : TriedGlyph). ruled_crossings t.body) ts

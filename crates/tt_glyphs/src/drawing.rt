@@ -10,14 +10,14 @@ ghost use Rattle.tt_glyphs.specs.Tried.{AreTriedBy, tried_chords, tried_crossing
 ghost use Rattle.tt_metrics.specs.Metrics.{glyphs_of};
 ghost use Rattle.tt_picture.specs.Ink.{glyph_ink};
 
-use crate::drawn::{GlyphBitmap, bitmap_of};
+use crate::bitmap::GlyphBitmap;
+use crate::drawn::bitmap_of;
 use crate::edged::{EdgedOutline, edged};
-use crate::outlines::TriedGlyph;
 use crate::place::InkPlace;
 use crate::placing::{is_large, place_bytes, place_of};
+use crate::ruled::{TriedBody, TriedGlyph};
 use crate::told::{MadeBitmap, Told};
 use std::alloc::AllocError;
-use tt_core::Fault;
 use tt_line::advance;
 use tt_picture::LineLimits;
 use tt_scan::Sweep;
@@ -98,11 +98,7 @@ fn placed(
 }
 
 /// A glyph that is drawn by its edges. Error: memory ran out.
-fn drawn(
-    source: &FitterSource,
-    number: u16,
-    edged: EdgedOutline,
-) -> Result<DrawnGlyph, AllocError>
+fn drawn(source: &FitterSource, number: u16, edged: EdgedOutline) -> Result<DrawnGlyph, AllocError>
     requires known { number < glyphs_of source.now.face.now.metrics }
     requires edged { EdgedFits edged }
     ensures number { IfOk result (λ d. d.number ≡ number) }
@@ -130,10 +126,10 @@ pub(crate) fn draw_glyphs(
     let mut left = limits;
     let mut made = Vec::with_capacity(source.alloc, tried.len())?;
     for one in tried {
-        let TriedGlyph { number, tried } = one;
-        match tried {
-            Err(fault) => made.push(rowless(number, Told::Broken(fault)))?,
-            Ok(ruled) => {
+        let TriedGlyph { number, body } = one;
+        match body {
+            TriedBody::Refused(fault) => made.push(rowless(number, Told::Broken(fault)))?,
+            TriedBody::Ruled(ruled) => {
                 let edged = edged(source.alloc, ruled)?;
                 let Some(rest) = rest_of(left, edged.chords, edged.crossings()) else {
                     return Ok(None);

@@ -1,4 +1,4 @@
-//! A glyph of a list that is drawn: what is told of it, and the edges and dropouts of its rows.
+//! The rows of a glyph: by its edges, and then its dropouts.
 
 ghost use Rattle.std.specs.Prelude.{◌≡◌, ◌≢◌, ℕ, ◌+◌, ◌^◌, ◌≤◌, ◌<◌, true, false, pos, length, IfNone, IfOk, IfSome};
 ghost use Rattle.tt_core.specs.Bits.{stride};
@@ -13,33 +13,15 @@ ghost use Rattle.tt_scan_dropouts.specs.Pictures.{AreDropouts, is_among, is_at};
 ghost use Rattle.tt_scan_dropouts.specs.Windows.{WindowFits, has, widened};
 ghost use Rattle.tt_scan_edges.specs.Winding.{FrameFits};
 
+use crate::bitmap::GlyphBitmap;
 use crate::edged::EdgedOutline;
 use crate::place::InkPlace;
 use crate::placing::row_bytes;
 use std::alloc::{AllocError, Global};
-use std::marker::Model;
 use tt_scan::{Frame, Sweep, Tape};
 use tt_scan_dropouts::{
     Dropout, Outlined, Pixel, Window, blacken_dropouts, dropouts, may_have_dropouts, sort_by_rows,
 };
-
-/// The rows of a glyph's ink, before they are made.
-#[derive(Drop)]
-pub(crate) struct GlyphBitmap {
-    pub(crate) place: InkPlace,
-    /// Its edges at pen 0, in the frame of its rows.
-    tape: Tape,
-    /// In order of their rows. Rows count from the highest on, columns from the first column of ink.
-    dropouts: Vec<Dropout>,
-}
-
-impl Model for GlyphBitmap {
-    ghost use Rattle.tt_glyphs.specs.Drawn as drawn;
-
-    ghost Value = { drawn.GlyphBitmap };
-
-    ghost view = { λ b. record { place = b.place; frame = b.tape.frame; edges = b.tape.edges; crosses = b.tape.crosses; dropouts = b.dropouts.items } };
-}
 
 /// The frame of a place's rows. Columns count from the pen.
 fn frame_of(place: InkPlace) -> Frame
@@ -97,11 +79,7 @@ fn one_of(n: i64, count: u32) -> Option<u32>
 }
 
 /// Some pixels of a glyph as dropouts of its rows, in order of their rows. Error: memory ran out.
-fn seen_all(
-    alloc: Global,
-    place: InkPlace,
-    pixels: &[Pixel],
-) -> Result<Vec<Dropout>, AllocError>
+fn seen_all(alloc: Global, place: InkPlace, pixels: &[Pixel]) -> Result<Vec<Dropout>, AllocError>
     requires { IsInked place }
     ensures exact { IfOk result (λ v. (c r : ℕ) → c < place.width → r < place.height → is_among v.items c r ≡ has_pixel pixels.now (column_of place c) (line_of place r)) }
     ensures valid { IfOk result (λ v. AreDropouts place.width v.items) }
@@ -127,7 +105,12 @@ fn dropouts_of(
     ensures exact { IfOk result (λ v. (c r : ℕ) → c < place.width → r < place.height → is_among v.items c r ≡ is_filled edged.now.filled (contours_at edged.now.tape.edges edged.now.ends.items) (column_of place c) (line_of place r)) }
     ensures valid { IfOk result (λ v. AreDropouts place.width v.items) }
 {
-    let EdgedOutline { tape, ends, filled, .. } = edged;
+    let EdgedOutline {
+        tape,
+        ends,
+        filled,
+        ..
+    } = edged;
     let Some(rules) = *filled else {
         return Ok(Vec::new(alloc));
     };

@@ -8,7 +8,7 @@ ghost use Rattle.tt_scan.specs.Contours.{contours_at};
 ghost use Rattle.tt_scan_dropouts.specs.Counted.{edges_counted};
 ghost use Rattle.tt_scan_ink.specs.Least.{IsNear};
 
-use crate::outlines::RuledOutline;
+use crate::ruled::RuledOutline;
 use std::alloc::{AllocError, Global};
 use tt_arc::OutlineEdges;
 use tt_core::Fault;

@@ -142,7 +142,9 @@ impl GlyphList {
         let sized = SizedFace::new(alloc, face, ppem, fit)?;
         test_count(glyphs)?;
         let SizedFace {
-            source, mut maker, ..
+            source,
+            mut maker,
+            ..
         } = sized;
         let mut fitter = maker.take(&source)?;
         let count = face.metrics().glyphs();

@@ -6,37 +6,10 @@ ghost use Rattle.tt_glyphs.specs.Tried.{tried_glyph};
 ghost use Rattle.tt_picture.specs.Distinct.{fitter_after, fitter_for};
 ghost use Rattle.tt_picture.specs.Unfitted.{all_differ};
 
+use crate::ruled::{RuledOutline, TriedBody, TriedGlyph};
 use std::alloc::{AllocError, Global};
-use std::marker::Model;
-use tt_arc::ChordRule;
-use tt_core::Fault;
-use tt_fit::{Fitter, Outline};
+use tt_fit::{Fitter, TriedOutline};
 use tt_picture::{rule_by, rules_for};
-use tt_scan_dropouts::BoxedRules;
-
-/// An outline with its chord rule and the rules for filling its dropouts.
-#[derive(Drop)]
-pub(crate) struct RuledOutline {
-    pub(crate) outline: Outline,
-    pub(crate) rule: ChordRule,
-    pub(crate) filled: Option<BoxedRules>,
-}
-
-impl Model for RuledOutline {
-    ghost use Rattle.tt_fit_outline.specs.Views.{outline_of};
-    ghost use Rattle.tt_glyphs.specs.Tried as tried;
-
-    ghost Value = { tried.RuledOutline };
-
-    ghost view = { λ m. record { outline = outline_of m.outline; rule = m.rule; filled = m.filled; unfitted = m.outline.unfitted } };
-}
-
-/// A glyph with its outline, or with the fault that refuses the outline.
-#[derive(Drop)]
-pub(crate) struct TriedGlyph {
-    pub(crate) number: u16,
-    pub(crate) tried: Result<RuledOutline, Fault>,
-}
 
 /// A glyph's outline with its rules, or its fault. The fitter then serves later glyphs. Error: memory ran out.
 fn try_glyph(fitter: &mut Fitter, number: u16) -> Result<TriedGlyph, AllocError>
@@ -45,18 +18,18 @@ fn try_glyph(fitter: &mut Fitter, number: u16) -> Result<TriedGlyph, AllocError>
     ensures after { OnOk result (fitter.new ≡ after_glyph fitter.old number) }
 {
     let rule = rule_by(fitter.work());
-    let tried = match fitter.try_fit(number)? {
-        Ok(outline) => {
+    let body = match fitter.try_fit(number)? {
+        TriedOutline::Made(outline) => {
             let filled = rules_for(&outline, fitter.dropouts(&outline));
-            Ok(RuledOutline {
+            TriedBody::Ruled(RuledOutline {
                 outline,
                 rule,
                 filled,
             })
         }
-        Err(fault) => Err(fault),
+        TriedOutline::Refused(fault) => TriedBody::Refused(fault),
     };
-    Ok(TriedGlyph { number, tried })
+    Ok(TriedGlyph { number, body })
 }
 
 /// The outlines of distinct glyphs, made in order. Error: memory ran out.
