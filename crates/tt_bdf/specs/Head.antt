@@ -1,6 +1,6 @@
 -- Adobe, "Glyph Bitmap Distribution Format (BDF) Specification", version 2.1: the lines of a font. X Consortium, "X
 -- Logical Font Description Conventions": the font's name and its properties. The resolution is 72 dots per inch, so a
--- point is a pixel (profile). No line tells a date or a program (profile).
+-- point is a pixel (profile). No line has a date or a program (profile).
 use Rattle.std.specs.Prelude.{ℕ, ◌*◌, Bool, true, false, ◌-ℤ◌, List, [], ◌++◌, length, codes, decimal, string_bytes, Option, Some, None}
 use Rattle.std.specs.Fmt.{signed_decimal}
 use Rattle.tt_bdf.specs.Advances.{average_width, default_character, is_monospaced}

@@ -30,7 +30,7 @@ abbrev pub or_unknown : List ℕ → List ℕ
 or_unknown [] = codes "unknown"
 or_unknown (x ∷ xs) = x ∷ xs
 
--- the family's name by the name that a font tells
+-- the family's name by the name of a font
 unfoldable pub family_of : List ℕ → List ℕ
 family_of told = or_unknown (map family_character (trimmed told))
 

@@ -1,4 +1,4 @@
-//! What a file tells of its font.
+//! The facts of a font in its file.
 
 /// A font at a size.
 #[derive(Drop)]

@@ -8,7 +8,7 @@ ghost use Rattle.tt_core.specs.Limits.{text_limit};
 use crate::character::BdfCharacter;
 use tt_core::rq;
 
-/// What a file tells of all advances.
+/// The facts of all advances in a file.
 #[derive(Clone, Copy)]
 pub(crate) struct Spacing {
     /// Whether all characters have one advance.

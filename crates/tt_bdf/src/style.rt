@@ -1,4 +1,4 @@
-//! The family and the style of a font, as a file tells them.
+//! The family and the style of a font in a file.
 
 ghost use Rattle.std.specs.Prelude.{◌≡◌, ◌≤◌, ◌<◌, length, string_bytes, IfOk};
 ghost use Rattle.tt_bdf.specs.Style.{end_within, family_character, family_of, is_bold, is_divider, is_italic, is_visible, trimmed, without_front};
@@ -63,7 +63,7 @@ fn trimmed(name: &[u8]) -> &[u8]
     without_front(&name[..end_within(name)])
 }
 
-/// The family's name by the name that a font tells, without the characters that divide an X font name. Error: memory
+/// The family's name by the name of a font, without the characters that divide an X font name. Error: memory
 /// ran out.
 #[tactic(auto, unfolding(crate::specs::Style::family_of))]
 pub fn family_name(alloc: Global, told: &[u8]) -> Result<String, AllocError>

@@ -85,7 +85,7 @@ edges_by (Some b) = length b.edges
 abbrev pub drawn_edges : DrawnGlyph → ℕ
 drawn_edges d = edges_by d.bitmap
 
--- a bitmap stands in the place that is told, and its rows are still to be made
+-- a bitmap has the place of its report, and its rows are still to be made
 abbrev pub HasBitmap : Told → Option GlyphBitmap → Type 0
 HasBitmap t None = told_bytes t ≡ 0
 HasBitmap t (Some b) = BitmapFits b × (b.crosses ≡ 0) × (told_bytes t ≡ place_bytes b.place)
@@ -111,7 +111,7 @@ known_of count gs = filter (λ g. nat_lt g count) gs
 abbrev pub known_number : ℕ → ℕ → Option ℕ
 known_number count g = if nat_lt g count then Some g else None
 
--- what is told of a number by some drawn glyphs
+-- the report of a number by some drawn glyphs
 abbrev pub told_among : List DrawnGlyph → ℕ → Told
 told_among [] g = told.Unknown
 told_among (d ∷ ds) g = if d.number == g then d.told else told_among ds g

@@ -1,6 +1,6 @@
--- No part of the standard: what is told of each glyph of a list (profile). The glyphs are made as those of a line are: in
+-- No part of the standard: the report of each glyph of a list (profile). The glyphs are made as those of a line are: in
 -- the order of the list, each number where it stands first, with one fitter and one bound of work. A glyph with a defect
--- is told, and the others are made.
+-- has its fault in the report, and the others are made.
 use Rattle.std.specs.Prelude.{◌≡◌, refl, ℕ, ◌+◌, ◌≤◌, ⊤, Bool, ◌==◌, nat_lt, if◌then◌else◌, List, [], ◌∷◌, ◌++◌, flat_map, map, pos, codes, Option, Some, None, Result, Ok, Err}
 use Rattle.std.specs.List.{filter, sum_by}
 use Rattle.tt_core.specs.declared.fault.Why.TheVariants as why
@@ -47,7 +47,7 @@ glyph_told how s g =
 abbrev pub known : Fitter → List ℕ → List ℕ
 known s gs = filter (λ g. nat_lt g (glyphs_of s.metrics)) gs
 
--- what is told of a number of a list
+-- the report of a number of a list
 abbrev pub number_told : Fit → Fitter → List ℕ → ℕ → Told
 number_told how s gs g =
     if nat_lt g (glyphs_of s.metrics) then glyph_told how (line_fitter s (known s gs) g) g else told.Unknown
@@ -58,7 +58,7 @@ told_bytes (told.Broken fault) = 0
 told_bytes told.Large = 0
 told_bytes (told.Made m) = place_bytes m.place
 
--- the rows of what is told have few enough bytes
+-- the rows of a report have few enough bytes
 abbrev pub ToldFits : Told → Type 0
 ToldFits told.Unknown = ⊤
 ToldFits (told.Broken fault) = ⊤

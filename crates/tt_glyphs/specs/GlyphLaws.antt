@@ -74,18 +74,18 @@ LinesAreMade = (face : Face) (a : Job) (line : Placement) (s : Fitter) (i : Imag
 abbrev pub RepeatsAreEqual : Type 0
 RepeatsAreEqual = (how : Fit) (s : Fitter) (gs : List ℕ) → entries how s gs ≡ map (entry_of how s gs) gs
 
--- where work is not bounded, what is told of a number does not depend on the other numbers
+-- where work is not bounded, the report of a number does not depend on the other numbers
 abbrev pub OrderChangesNothing : Type 0
 OrderChangesNothing = (how : Fit) (s : Fitter) (gs hs : List ℕ) (g : ℕ) → s.work ≡ None
     → number_told how s gs g ≡ number_told how s hs g
 
--- a room is large enough exactly where it has the bytes that are told
+-- a room is large enough exactly where it has the bytes that are wanted
 abbrev pub RoomIsExact : Type 0
 RoomIsExact = (room : ℕ) (face : Face) (a : GlyphJob) (b : Bitmaps) → bitmaps_outcome face a ≡ Ok b
     → ((bitmaps_answer room face a ≡ Ok (done b)) ↔ (b.wanted ≤ room))
     × (room < b.wanted → bitmaps_answer room face a ≡ Ok (small b.wanted))
 
--- the rows have as many bytes as are told
+-- the rows have as many bytes as are wanted
 abbrev pub RowsAreCounted : Type 0
 RowsAreCounted = (how : Fit) (s : Fitter) (gs : List ℕ) → length (all_rows how s gs) ≡ bytes_wanted how s gs
 

@@ -1,4 +1,4 @@
-//! Draws the distinct glyphs of a list: their edges, the places of their ink, and what is told of them.
+//! Draws the distinct glyphs of a list: their edges, the places of their ink, and their reports.
 
 ghost use Rattle.std.specs.Prelude.{◌≡◌, ◌⊎◌, ℕ, ◌+◌, ◌^◌, ◌<◌, ◌≤◌, length, map, All, IfOk, IfNone, IfSome, None};
 ghost use Rattle.tt_fit.specs.Fitting.{Fitter};
@@ -23,7 +23,7 @@ use tt_picture::LineLimits;
 use tt_scan::Sweep;
 use tt_strike::{FitterSource, is_bounded};
 
-/// A glyph that is drawn, or what is told of it instead.
+/// A glyph that is drawn, or only its report.
 #[derive(Drop)]
 pub(crate) struct DrawnGlyph {
     pub(crate) number: u16,
@@ -65,7 +65,7 @@ fn advance_of(source: &FitterSource, number: u16, step: u32) -> u32
     advance(source.face.metrics(), source.ppem, number)
 }
 
-/// What is told of a glyph that stands in this place, and its rows if it has any. Error: memory ran out.
+/// The report of a glyph with this place, and its rows if it has any. Error: memory ran out.
 fn placed(
     source: &FitterSource,
     number: u16,

@@ -1,4 +1,4 @@
-//! The outlines of a list's distinct glyphs. A glyph that is refused is told, and the others are made.
+//! The outlines of a list's distinct glyphs. A refused glyph has its fault, and the others are made.
 
 ghost use Rattle.std.specs.Prelude.{◌≡◌, ◌<◌, true, map, All, IfOk, OnOk};
 ghost use Rattle.tt_fit.specs.Fitting.{after_glyph};

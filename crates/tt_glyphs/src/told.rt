@@ -1,4 +1,4 @@
-//! What is told of each number of a list.
+//! The report of each number of a list.
 
 use crate::place::InkPlace;
 use tt_core::Fault;
@@ -13,7 +13,7 @@ pub struct MadeBitmap {
     pub unfitted: Option<Fault>,
 }
 
-/// What is told of a number.
+/// The report of a number.
 #[derive(Clone, Copy, Debug, PartialEq, Eq)]
 pub enum Told {
     /// The font has no glyph with this number.
@@ -25,7 +25,7 @@ pub enum Told {
     Made(MadeBitmap),
 }
 
-/// A number of a list, what is told of it, and where its rows begin among all rows.
+/// A number of a list, its report, and the place of its first row among all rows.
 #[derive(Clone, Copy, Debug, PartialEq, Eq)]
 pub struct Entry {
     pub glyph: u32,
