@@ -1,6 +1,8 @@
 -- No part of the standard: a glyph's outline, or the fault that refuses the outline.
-use Rattle.std.specs.Prelude.{Result, Ok, Err, ⊤}
+use Rattle.std.specs.Prelude.{◌≡◌, Some, Result, Ok, Err, ⊤, ⊥}
+use Rattle.tt_core.specs.declared.font_fault.FontFault.{FontFault}
 use Rattle.tt_core.specs.Faults.{Fault}
+use Rattle.tt_core.specs.Outcomes.{font_fault}
 use Rattle.tt_fit.specs.declared.tried.TriedOutline.{TriedOutline}
 use Rattle.tt_fit.specs.declared.tried.TriedOutline.TheVariants as tried
 use Rattle.tt_fit_outline.specs.declared.outline.Outline as declared
@@ -18,3 +20,8 @@ IfMade (tried.Refused fault) P = ⊤
 abbrev pub IfRefused : TriedOutline → (Fault → Type 0) → Type 0
 IfRefused (tried.Made o) P = ⊤
 IfRefused (tried.Refused fault) P = P fault
+
+-- refused for a fault of the font
+abbrev pub IsRefusedBy : FontFault → TriedOutline → Type 0
+IsRefusedBy fault (tried.Made o) = ⊥
+IsRefusedBy fault (tried.Refused f) = font_fault fault ≡ Some f

@@ -192,18 +192,12 @@ impl<'a> Fitter<'a> {
             machine: self.machine.take(),
             work: self.work,
         };
-        let tried = self.fitted_within(g, &mut runner);
+        let made = self.fitted_within(g, &mut runner);
         self.machine = runner.machine;
-        match tried {
-            Ok(outline) => {
-                self.work = runner.work;
-                Ok(TriedOutline::Made(outline))
-            }
-            Err(FontFault::Font(fault)) => {
-                self.work = runner.work;
-                Ok(TriedOutline::Refused(fault))
-            }
-            Err(FontFault::Memory) => Err(AllocError),
+        self.work = runner.work;
+        match made {
+            Ok(outline) => Ok(TriedOutline::Made(outline)),
+            Err(fault) => TriedOutline::refused_by(fault),
         }
     }
 
