@@ -1,5 +1,5 @@
 -- No part of the standard: a glyph's outline, or the fault that refuses the outline.
-use Rattle.std.specs.Prelude.{◌≡◌, Some, Result, Ok, Err, ⊤, ⊥}
+use Rattle.std.specs.Prelude.{◌≡◌, Some, Result, Ok, Err, ⊤}
 use Rattle.tt_core.specs.declared.font_fault.FontFault.{FontFault}
 use Rattle.tt_core.specs.Faults.{Fault}
 use Rattle.tt_core.specs.Outcomes.{font_fault}

@@ -119,7 +119,7 @@ pub(crate) fn draw_glyphs(
     requires known { All (λ t. t.number < glyphs_of source.now.face.now.metrics) tried.items }
     ensures numbers { IfOk result (λ o. IfSome o (λ v. map (λ d. d.number) v.items ≡ map (λ t. t.number) tried.items)) }
     ensures drawn { IfOk result (λ o. IfSome o (λ v. (maker : ℕ → Fitter) → ((n : ℕ) → IsSourceOf source.now (maker n)) → AreTriedBy maker tried.items → All (λ d. IsDrawn source.now.fit (maker d.number) d) v.items)) }
-    ensures fits { IfOk result (λ o. IfSome o (All DrawnFits)) }
+    ensures fits { IfOk result (λ o. IfSome o (λ v. All DrawnFits v.items)) }
     ensures few { IfOk result (λ o. IfSome o (λ _. (tried_chords tried.items ≤ limits.chords) × (tried_crossings tried.items ≤ limits.crossings))) }
     ensures many { IfOk result (λ o. IfNone o ((limits.chords < tried_chords tried.items) ⊎ (limits.crossings < tried_crossings tried.items))) }
 {

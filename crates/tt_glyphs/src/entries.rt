@@ -25,6 +25,15 @@ fn told_bytes(told: Told) -> u64
     }
 }
 
+/// The place after the rows of a glyph by its entry.
+fn end_of(entry: Entry) -> u64
+    requires told { ToldFits entry.told }
+    requires at { entry.at < 2 ^ 36 }
+    ensures { result ≡ entry.at + told_bytes entry.told }
+{
+    entry.at + told_bytes(entry.told)
+}
+
 /// Where the rows of each of some distinct glyphs begin. Error: memory ran out.
 fn starts_of(alloc: Global, drawn: &[DrawnGlyph]) -> Result<Vec<u64>, AllocError>
     requires few { length drawn.now ≤ text_limit }
@@ -106,8 +115,8 @@ pub(crate) fn entries_of(
             },
             None => unknown_entry(&entries, *glyph, end),
         };
+        end = end.max(end_of(entry));
         entries.push(entry)?;
-        end = end.max(entry.at + told_bytes(entry.told));
     }
     Ok((entries, end))
 }
