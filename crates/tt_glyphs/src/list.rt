@@ -122,10 +122,10 @@ impl GlyphList {
         })
     }
 
-    /// The bitmaps of at most 4,096 glyph numbers, in the list's order: each glyph is made once, with one fitter. A glyph
-    /// that is refused has its fault in its entry, and the others are made. Errors, the first of: SizeRange, TextLong; those of
-    /// loca and glyf, of the programs; WorkLarge of the points, of the chords, of the crossings. Memory may come at any
-    /// allocation.
+    /// The bitmaps of at most 4,096 glyph numbers, in the list's order. Each glyph is made once, with one fitter. A
+    /// refused glyph has its fault in its entry, and the others are made. Errors, the first of: SizeRange, TextLong;
+    /// those of loca and glyf, of the programs; WorkLarge of the points, of the chords, of the crossings. Memory may
+    /// come at any allocation.
     #[tactic(auto, unfolding(crate::specs::Requests::bitmaps_outcome, crate::specs::Requests::bitmaps_in, crate::specs::Requests::fitter_for_request))]
     pub fn make(
         alloc: Global,

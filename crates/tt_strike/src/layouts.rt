@@ -84,9 +84,9 @@ fn pens_at(
 }
 
 impl<'f, 'a> SizedFace<'f, 'a> {
-    /// The glyph of each unit of a text with its step, by the glyphs, which are made; only where work is bounded. Errors,
-    /// the first of: those of loca and glyf, of the programs; WorkLarge of the points; those of the glyphs. Memory may
-    /// come at any allocation.
+    /// The glyph of each unit of a text with its step, by the glyphs, which are made; only where work is bounded.
+    /// Errors, the first of: those of loca and glyf, of the programs; WorkLarge of the points; those of the glyphs.
+    /// Memory may come at any allocation.
     fn made_steps(&mut self, text: &str) -> Result<Vec<(u16, u32)>, DrawFault>
         requires text { length (chars text.now) ≤ text_limit }
         requires bounded { is_bounded self.old.fit ≡ true }
@@ -120,8 +120,8 @@ impl<'f, 'a> SizedFace<'f, 'a> {
         Ok(advance_steps(self.source.alloc, &mut self.known, text)?)
     }
 
-    /// The size of a text's line. Without a bound of work no memory is taken, and no glyph is looked at. Errors: those of
-    /// `made_steps` where work is bounded; EmptyPicture, PictureLarge.
+    /// The size of a text's line. Without a bound of work no memory is taken, and no glyph is looked at. Errors: those
+    /// of `made_steps` where work is bounded; EmptyPicture, PictureLarge.
     fn line_size(&mut self, text: &str, margin: u32) -> Result<LineSize, DrawFault>
         requires margin { margin ≤ margin_limit }
         requires text { length (chars text.now) ≤ text_limit }
@@ -138,8 +138,8 @@ impl<'f, 'a> SizedFace<'f, 'a> {
     }
 
     /// The layout of a text of at most 4,096 characters with a margin of 0 to 64 pixels: the size of the picture that
-    /// does not grow, its base line, and its distance from a next line. Errors, the first of: MarginRange, TextLong; with
-    /// `Fit::Best` those of loca and glyf, of the programs, WorkLarge of the points, and those of the glyphs;
+    /// does not grow, its base line, and its distance from a next line. Errors, the first of: MarginRange, TextLong;
+    /// with `Fit::Best` those of loca and glyf, of the programs, WorkLarge of the points, and those of the glyphs;
     /// EmptyPicture, PictureLarge. Only with `Fit::Best` may Memory come.
     #[tactic(auto, unfolding(crate::specs::Layouts::layout_outcome))]
     pub fn layout(&mut self, text: &str, margin: u32) -> Result<Layout, DrawFault>
