@@ -1,16 +1,17 @@
 -- No part of the standard: the outline of a glyph with what its edges and its dropouts are made by, or the fault that
 -- refuses the outline.
-use Rattle.std.specs.Prelude.{◌≡◌, ℕ, ◌+◌, List, map, Result, Ok, Err}
+use Rattle.std.specs.Prelude.{◌≡◌, ℕ, ◌+◌, List, map, IfSome, Result, Ok, Err, ⊤}
 use Rattle.std.specs.List.{sum_by}
 use Rattle.tt_core.specs.Faults.{Fault}
 use Rattle.tt_fit.specs.Fitting.{Fitter, fitted_outline, unfitted_fault}
 use Rattle.tt_fit_outline.specs.Outline.{Outline}
-use Rattle.tt_picture.specs.Shapes.{chords_with, edges_at, filled_by, filling_crossings}
+use Rattle.tt_picture.specs.Shapes.{chords_with, edges_at, extents_of, filled_by, filling_crossings}
 use Rattle.tt_picture.specs.Steps.{chords_of}
 use Rattle.tt_scan_dropouts.specs.Counted.{edges_counted}
 use Rattle.tt_glyphs.specs.declared.ruled.TriedBody.{TriedBody}
 use Rattle.tt_glyphs.specs.declared.ruled.TriedBody.TheVariants as body
 use Rattle.tt_glyphs.specs.declared.ruled.TriedGlyph.{TriedGlyph}
+use Rattle.tt_glyphs.specs.Ruled.{RuledOutline}
 
 abbrev pub ruled_by : Fitter → ℕ → Result Outline Fault → TriedBody
 ruled_by s g (Ok o) =
@@ -20,6 +21,14 @@ ruled_by s g (Err fault) = body.Refused fault
 -- a glyph by its fitter
 abbrev pub tried_glyph : Fitter → ℕ → TriedGlyph
 tried_glyph s g = record { number = g; body = ruled_by s g (fitted_outline s g) }
+
+-- the dropout rules of an outline have its box
+abbrev pub IsRuled : RuledOutline → Type 0
+IsRuled r = IfSome r.filled (λ rules. rules.extents ≡ extents_of r.outline)
+
+abbrev pub IsRuledBody : TriedBody → Type 0
+IsRuledBody (body.Ruled r) = IsRuled r
+IsRuledBody (body.Refused fault) = ⊤
 
 -- some glyphs, each by its own fitter
 abbrev pub AreTriedBy : (ℕ → Fitter) → List TriedGlyph → Type 0

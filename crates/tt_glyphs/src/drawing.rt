@@ -6,7 +6,7 @@ ghost use Rattle.tt_glyphs.specs.Bitmaps.{place_of};
 ghost use Rattle.tt_glyphs.specs.Drawn.{DrawnFits, IsDrawn, IsSourceOf, drawn_edges, drawn_rows};
 ghost use Rattle.tt_glyphs.specs.Edged.{EdgedFits, IsEdgedBy};
 ghost use Rattle.tt_glyphs.specs.Entries.{advance_of, told_bytes};
-ghost use Rattle.tt_glyphs.specs.Tried.{AreTriedBy, tried_chords, tried_crossings};
+ghost use Rattle.tt_glyphs.specs.Tried.{AreTriedBy, IsRuledBody, tried_chords, tried_crossings};
 ghost use Rattle.tt_metrics.specs.Metrics.{glyphs_of};
 ghost use Rattle.tt_picture.specs.Ink.{glyph_ink};
 
@@ -117,6 +117,7 @@ pub(crate) fn draw_glyphs(
     limits: LineLimits,
 ) -> Result<Option<Vec<DrawnGlyph>>, AllocError>
     requires known { All (λ t. t.number < glyphs_of source.now.face.now.metrics) tried.items }
+    requires ruled { All (λ t. IsRuledBody t.body) tried.items }
     ensures numbers { IfOk result (λ o. IfSome o (λ v. map (λ d. d.number) v.items ≡ map (λ t. t.number) tried.items)) }
     ensures drawn { IfOk result (λ o. IfSome o (λ v. (maker : ℕ → Fitter) → ((n : ℕ) → IsSourceOf source.now (maker n)) → AreTriedBy maker tried.items → All (λ d. IsDrawn source.now.fit (maker d.number) d) v.items)) }
     ensures fits { IfOk result (λ o. IfSome o (λ v. All DrawnFits v.items)) }

@@ -2,6 +2,7 @@
 
 ghost use Rattle.std.specs.Prelude.{◌≡◌, ◌+◌, IfOk, IfSome};
 ghost use Rattle.tt_glyphs.specs.Edged.{EdgedFits, IsEdged};
+ghost use Rattle.tt_glyphs.specs.Tried.{IsRuled};
 ghost use Rattle.tt_picture.specs.Ink.{filled_ink, ink_by};
 ghost use Rattle.tt_picture.specs.Shapes.{filling_crossings};
 ghost use Rattle.tt_scan.specs.Contours.{contours_at};
@@ -42,6 +43,7 @@ pub(crate) struct EdgedOutline {
 
 /// The edges of an outline. The outline is dropped. Error: memory ran out.
 pub(crate) fn edged(alloc: Global, ruled: RuledOutline) -> Result<EdgedOutline, AllocError>
+    requires { IsRuled ruled }
     ensures exact { IfOk result (IsEdged ruled) }
     ensures fits { IfOk result EdgedFits }
 {

@@ -2,7 +2,7 @@
 
 ghost use Rattle.std.specs.Prelude.{◌≡◌, ◌<◌, true, map, All, IfOk, OnOk};
 ghost use Rattle.tt_fit.specs.Fitting.{after_glyph};
-ghost use Rattle.tt_glyphs.specs.Tried.{tried_glyph};
+ghost use Rattle.tt_glyphs.specs.Tried.{IsRuledBody, tried_glyph};
 ghost use Rattle.tt_picture.specs.Distinct.{fitter_after, fitter_for};
 ghost use Rattle.tt_picture.specs.Unfitted.{all_differ};
 
@@ -15,6 +15,7 @@ use tt_picture::{rule_by, rules_for};
 fn try_glyph(fitter: &mut Fitter, number: u16) -> Result<TriedGlyph, AllocError>
     requires { number < fitter.old.tables.glyphs }
     ensures tried { IfOk result (λ t. t ≡ tried_glyph fitter.old number) }
+    ensures ruled { IfOk result (λ t. IsRuledBody t.body) }
     ensures after { OnOk result (fitter.new ≡ after_glyph fitter.old number) }
 {
     let rule = rule_by(fitter.work());
@@ -41,6 +42,7 @@ pub(crate) fn try_glyphs(
     requires known { All (λ n. n < fitter.old.tables.glyphs) numbers.now }
     requires differ { all_differ numbers.now ≡ true }
     ensures tried { IfOk result (λ v. v.items ≡ map (λ n. tried_glyph (fitter_for fitter.old numbers.now n) n) numbers.now) }
+    ensures ruled { IfOk result (λ v. All (λ t. IsRuledBody t.body) v.items) }
     ensures after { OnOk result (fitter.new ≡ fitter_after fitter.old numbers.now) }
 {
     let mut tried = Vec::with_capacity(alloc, numbers.len())?;
