@@ -1,6 +1,6 @@
 //! The entries of a list, by its distinct glyphs.
 
-ghost use Rattle.std.specs.Prelude.{◌≡◌, ℕ, ◌+◌, ◌<◌, ◌≤◌, ◌^◌, ◌==◌, find, length, map, slice_index, take, All, IfOk, IfNone, IfSome};
+ghost use Rattle.std.specs.Prelude.{◌≡◌, ◌⊎◌, ℕ, ◌+◌, ◌<◌, ◌≤◌, ◌^◌, ◌==◌, find, length, map, slice_index, take, All, IfOk, IfNone, IfSome};
 ghost use Rattle.std.specs.List.{sum_by};
 ghost use Rattle.tt_core.specs.Limits.{text_limit};
 ghost use Rattle.tt_glyphs.specs.Drawn.{DrawnFits, entry_by, known_of, unknown_entry};
@@ -50,10 +50,10 @@ fn starts_of(alloc: Global, drawn: &[DrawnGlyph]) -> Result<Vec<u64>, AllocError
     Ok(starts)
 }
 
-/// The place of a number among distinct glyphs; None for a number that is no glyph of the font.
+/// The place of a number among distinct glyphs; None for a number that is none of them.
 fn place_in(places: &[u16], glyph: u32) -> Option<usize>
     ensures known { IfSome result (λ i. (glyph < length places.now) × (i + 1 ≡ slice_index places.now glyph)) }
-    ensures unknown { IfNone result (length places.now ≤ glyph) }
+    ensures unknown { IfNone result ((length places.now ≤ glyph) ⊎ (slice_index places.now glyph ≡ 0)) }
 {
     if glyph as usize >= places.len() {
         return None;
