@@ -4,14 +4,14 @@ use Rattle.std.specs.Prelude.{◌≡◌, refl, ◌^◌, ◌<◌, ◌≤◌, ◌=
 use Rattle.std.specs.Int.{int_max, int_min}
 use Rattle.tt_core.specs.Limits.{height_limit, width_limit}
 use Rattle.tt_bdf.specs.declared.character.BdfCharacter.{BdfCharacter}
-use Rattle.tt_bdf.specs.declared.extent.Extent.{Extent}
+use Rattle.tt_bdf.specs.declared.extent.InkExtent.{InkExtent}
 
 -- the lower edge of a character's ink: `top` is the upper edge of the highest row
 abbrev pub bottom_of : BdfCharacter → ℤ
 bottom_of c = c.top -ℤ pos c.height
 
 -- the box of a character's ink, if it has any
-abbrev pub box_of : BdfCharacter → Option Extent
+abbrev pub box_of : BdfCharacter → Option InkExtent
 box_of c = if c.width == 0 then None else Some (record {
   left = c.left;
   bottom = bottom_of c;
@@ -20,7 +20,7 @@ box_of c = if c.width == 0 then None else Some (record {
 })
 
 -- the least box that holds two boxes
-abbrev pub joined_boxes : Extent → Extent → Extent
+abbrev pub joined_boxes : InkExtent → InkExtent → InkExtent
 joined_boxes a b = record {
   left = int_min a.left b.left;
   bottom = int_min a.bottom b.bottom;
@@ -28,7 +28,7 @@ joined_boxes a b = record {
   top = int_max a.top b.top;
 }
 
-abbrev pub joined : Option Extent → Option Extent → Option Extent
+abbrev pub joined : Option InkExtent → Option InkExtent → Option InkExtent
 joined None b = b
 joined (Some a) None = Some a
 joined (Some a) (Some b) = Some (joined_boxes a b)
@@ -41,11 +41,11 @@ pub record IsLimited (c : BdfCharacter) : Type 0 where
   pub height : c.height ≤ height_limit
 
 -- a box enlarged by the ink of some characters
-abbrev pub joined_from : Option Extent → List BdfCharacter → Option Extent
+abbrev pub joined_from : Option InkExtent → List BdfCharacter → Option InkExtent
 joined_from all [] = all
 joined_from all (c ∷ cs) = joined_from (joined all (box_of c)) cs
 
-abbrev pub IsNear : Extent → Type 0
+abbrev pub IsNear : InkExtent → Type 0
 IsNear e =
     (unsigned_abs e.left < 2 ^ 21) × (unsigned_abs e.bottom < 2 ^ 21) × (unsigned_abs e.right < 2 ^ 21)
     × (unsigned_abs e.top < 2 ^ 21)

@@ -5,7 +5,7 @@ use Rattle.std.specs.Prelude.{ℕ, ◌*◌, Bool, true, false, ◌-ℤ◌, List,
 use Rattle.std.specs.Fmt.{signed_decimal}
 use Rattle.tt_bdf.specs.Advances.{average_width, default_character, is_monospaced}
 use Rattle.tt_bdf.specs.declared.character.BdfCharacter.{BdfCharacter}
-use Rattle.tt_bdf.specs.declared.extent.Extent.{Extent}
+use Rattle.tt_bdf.specs.declared.extent.InkExtent.{InkExtent}
 use Rattle.tt_bdf.specs.declared.font.BdfFont.{BdfFont}
 use Rattle.tt_bdf.specs.declared.spacing.Spacing.{Spacing}
 use Rattle.tt_bdf.specs.Extent.{joined_from}
@@ -39,14 +39,14 @@ name_text f s =
     ++ (codes "-" ++ (signed_decimal s.average ++ codes "-ISO10646-1\n")))))))))
 
 -- `FONTBOUNDINGBOX <width> <height> <left> <bottom>`
-abbrev pub extent_text : Extent → List ℕ
+abbrev pub extent_text : InkExtent → List ℕ
 extent_text e =
     codes "FONTBOUNDINGBOX " ++ (signed_decimal (e.right -ℤ e.left)
     ++ (codes " " ++ (signed_decimal (e.top -ℤ e.bottom)
     ++ (codes " " ++ (signed_decimal e.left
     ++ (codes " " ++ (signed_decimal e.bottom ++ codes "\n")))))))
 
-abbrev pub box_text : Option Extent → List ℕ
+abbrev pub box_text : Option InkExtent → List ℕ
 box_text None = codes "FONTBOUNDINGBOX 0 0 0 0\n"
 box_text (Some e) = extent_text e
 

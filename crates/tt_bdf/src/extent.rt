@@ -7,7 +7,7 @@ use crate::character::BdfCharacter;
 
 /// A box by its edges: columns from the pen, and rows above the base line.
 #[derive(Clone, Copy)]
-pub(crate) struct Extent {
+pub(crate) struct InkExtent {
     pub(crate) left: i64,
     pub(crate) bottom: i64,
     pub(crate) right: i64,
@@ -15,7 +15,7 @@ pub(crate) struct Extent {
 }
 
 /// The box of a character's ink, if it has any.
-fn box_of(c: BdfCharacter) -> Option<Extent>
+fn box_of(c: BdfCharacter) -> Option<InkExtent>
     requires { IsLimited c }
     ensures exact { result ≡ box_of c }
     ensures near { IfSome result IsNear }
@@ -23,7 +23,7 @@ fn box_of(c: BdfCharacter) -> Option<Extent>
     if c.width == 0 {
         return None;
     }
-    Some(Extent {
+    Some(InkExtent {
         left: i64::from(c.left),
         bottom: i64::from(c.top) - i64::from(c.height),
         right: i64::from(c.left) + i64::from(c.width),
@@ -32,10 +32,10 @@ fn box_of(c: BdfCharacter) -> Option<Extent>
 }
 
 /// The least box that holds two boxes.
-fn joined_boxes(a: Extent, b: Extent) -> Extent
+fn joined_boxes(a: InkExtent, b: InkExtent) -> InkExtent
     ensures { result ≡ joined_boxes a b }
 {
-    Extent {
+    InkExtent {
         left: a.left.min(b.left),
         bottom: a.bottom.min(b.bottom),
         right: a.right.max(b.right),
@@ -44,7 +44,7 @@ fn joined_boxes(a: Extent, b: Extent) -> Extent
 }
 
 /// The least box that holds two boxes; the other one where one is None.
-fn joined(a: Option<Extent>, b: Option<Extent>) -> Option<Extent>
+fn joined(a: Option<InkExtent>, b: Option<InkExtent>) -> Option<InkExtent>
     ensures { result ≡ joined a b }
 {
     match (a, b) {
@@ -55,7 +55,7 @@ fn joined(a: Option<Extent>, b: Option<Extent>) -> Option<Extent>
 }
 
 /// The least box that holds the ink of all characters. None: no character has ink.
-pub(crate) fn ink_extent(characters: &[BdfCharacter]) -> Option<Extent>
+pub(crate) fn ink_extent(characters: &[BdfCharacter]) -> Option<InkExtent>
     requires { All IsLimited characters.now }
     ensures exact { result ≡ joined_from None characters.now }
     ensures near { IfSome result IsNear }

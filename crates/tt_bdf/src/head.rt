@@ -7,7 +7,7 @@ ghost use Rattle.tt_core.specs.Limits.{size_limit, text_limit};
 
 use crate::character::BdfCharacter;
 use crate::default_character::default_character;
-use crate::extent::{Extent, ink_extent};
+use crate::extent::{InkExtent, ink_extent};
 use crate::font::BdfFont;
 use crate::spacing::{Spacing, spacing_of};
 use std::alloc::{AllocError, Global};
@@ -73,7 +73,7 @@ fn first_text(alloc: Global, font: &BdfFont, spacing: Spacing) -> Result<String,
     format!(in alloc; "STARTFONT 2.1\n{name}SIZE {size} 72 72\n")
 }
 
-fn extent_text(alloc: Global, e: Extent) -> Result<String, AllocError>
+fn extent_text(alloc: Global, e: InkExtent) -> Result<String, AllocError>
     requires { IsNear e }
     ensures { IfOk result (λ text. string_bytes text ≡ extent_text e) }
 {
@@ -85,7 +85,7 @@ fn extent_text(alloc: Global, e: Extent) -> Result<String, AllocError>
 }
 
 /// The line of the box that holds all ink.
-fn box_text(alloc: Global, extent: Option<Extent>) -> Result<String, AllocError>
+fn box_text(alloc: Global, extent: Option<InkExtent>) -> Result<String, AllocError>
     requires { IfSome extent IsNear }
     ensures { IfOk result (λ text. string_bytes text ≡ box_text extent) }
 {
