@@ -19,7 +19,7 @@ use Rattle.tt_glyphs.specs.Bitmaps.{place_bytes}
 use Rattle.tt_glyphs.specs.declared.drawing.DrawnGlyph.{DrawnGlyph}
 use Rattle.tt_glyphs.specs.declared.edged.EdgedOutline.{EdgedOutline}
 use Rattle.tt_glyphs.specs.declared.place.InkPlace.{InkPlace}
-use Rattle.tt_glyphs.specs.declared.told.Entry.{Entry}
+use Rattle.tt_glyphs.specs.declared.told.GlyphEntry.{GlyphEntry}
 use Rattle.tt_glyphs.specs.declared.told.Told.{Told}
 use Rattle.tt_glyphs.specs.declared.told.Told.TheVariants as told
 use Rattle.tt_glyphs.specs.GlyphBitmap.{GlyphBitmap}
@@ -117,7 +117,7 @@ told_among [] g = told.Unknown
 told_among (d ∷ ds) g = if d.number == g then d.told else told_among ds g
 
 -- the entry of a number by some drawn glyphs and the distinct numbers of its list
-abbrev pub entry_by : List DrawnGlyph → List ℕ → ℕ → Entry
+abbrev pub entry_by : List DrawnGlyph → List ℕ → ℕ → GlyphEntry
 entry_by ds gs g = record {
   glyph = g;
   told = told_among ds g;
@@ -125,9 +125,9 @@ entry_by ds gs g = record {
 }
 
 -- the entry of a number that is no glyph of the font: that of its first place, or a new one
-abbrev pub or_new : Option Entry → ℕ → ℕ → Entry
+abbrev pub or_new : Option GlyphEntry → ℕ → ℕ → GlyphEntry
 or_new (Some e) g end = e
 or_new None g end = record { glyph = g; told = told.Unknown; at = end }
 
-abbrev pub unknown_entry : List Entry → ℕ → ℕ → Entry
-unknown_entry es g end = or_new (find (λ (e : Entry). e.glyph == g) es) g end
+abbrev pub unknown_entry : List GlyphEntry → ℕ → ℕ → GlyphEntry
+unknown_entry es g end = or_new (find (λ (e : GlyphEntry). e.glyph == g) es) g end

@@ -18,7 +18,7 @@ use Rattle.tt_picture.specs.Steps.{glyph_step}
 use Rattle.tt_strike.specs.Work.{lays_after_glyphs, line_fitter}
 use Rattle.tt_glyphs.specs.Bitmaps.{bitmap, is_large, place_bytes, place_of}
 use Rattle.tt_glyphs.specs.declared.place.InkPlace.{InkPlace}
-use Rattle.tt_glyphs.specs.declared.told.Entry.{Entry}
+use Rattle.tt_glyphs.specs.declared.told.GlyphEntry.{GlyphEntry}
 use Rattle.tt_glyphs.specs.declared.told.Told.{Told}
 use Rattle.tt_glyphs.specs.declared.told.Told.TheVariants as told
 
@@ -73,7 +73,7 @@ bytes_before bytes (h ∷ hs) g = if h == g then 0 else bytes h + bytes_before b
 abbrev pub number_bytes : Fit → Fitter → List ℕ → ℕ → ℕ
 number_bytes how s gs g = told_bytes (number_told how s gs g)
 
-abbrev pub entry_of : Fit → Fitter → List ℕ → ℕ → Entry
+abbrev pub entry_of : Fit → Fitter → List ℕ → ℕ → GlyphEntry
 entry_of how s gs g = record {
   glyph = g;
   told = number_told how s gs g;
@@ -81,7 +81,7 @@ entry_of how s gs g = record {
 }
 
 -- an entry for each place of a list
-abbrev pub entries : Fit → Fitter → List ℕ → List Entry
+abbrev pub entries : Fit → Fitter → List ℕ → List GlyphEntry
 entries how s gs = map (entry_of how s gs) gs
 
 -- the bytes of all rows; a number that repeats has none of its own

@@ -19,7 +19,7 @@ use Rattle.tt_strike.specs.Refusals.{Refused}
 use Rattle.tt_strike.specs.Work.{line_fitter}
 use Rattle.tt_glyphs.specs.Bitmaps.{bitmap_pixel, is_black_at, place_of}
 use Rattle.tt_glyphs.specs.declared.place.InkPlace.{InkPlace}
-use Rattle.tt_glyphs.specs.declared.told.Entry.{Entry}
+use Rattle.tt_glyphs.specs.declared.told.GlyphEntry.{GlyphEntry}
 use Rattle.tt_glyphs.specs.declared.told.MadeBitmap.{MadeBitmap}
 use Rattle.tt_glyphs.specs.declared.told.Told.{Told}
 use Rattle.tt_glyphs.specs.declared.told.Told.TheVariants as told

@@ -21,7 +21,7 @@ use Rattle.tt_strike.specs.Job.{size_tested}
 use Rattle.tt_strike.specs.Picture.{setting}
 use Rattle.tt_strike.specs.Refusals.{Refused, as_font, as_job}
 use Rattle.tt_strike.specs.Work.{chords_in, edges_limited, line_fitter, points_in, work_left, work_tested}
-use Rattle.tt_glyphs.specs.declared.told.Entry.{Entry}
+use Rattle.tt_glyphs.specs.declared.told.GlyphEntry.{GlyphEntry}
 use Rattle.tt_glyphs.specs.Entries.{all_rows, bytes_wanted, entries, known}
 
 -- a list of glyph numbers, the pixels per em, and how outlines are fitted
@@ -73,7 +73,7 @@ fitter_for_request face a =
 
 -- the entries, the bytes of all rows, and the rows
 pub record Bitmaps : Type 0 where
-  pub entries : List Entry
+  pub entries : List GlyphEntry
   pub wanted : ℕ
   pub rows : List ℕ
 

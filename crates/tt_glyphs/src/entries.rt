@@ -10,7 +10,7 @@ ghost use Rattle.tt_picture.specs.Glyphs.{ArePlaces};
 
 use crate::drawing::DrawnGlyph;
 use crate::placing::place_bytes;
-use crate::told::{Entry, Told};
+use crate::told::{GlyphEntry, Told};
 use std::alloc::{AllocError, Global};
 
 /// The bytes of the rows of a glyph by its entry.
@@ -26,7 +26,7 @@ fn told_bytes(told: Told) -> u64
 }
 
 /// The place after the rows of a glyph by its entry.
-fn end_of(entry: Entry) -> u64
+fn end_of(entry: GlyphEntry) -> u64
     requires told { ToldFits entry.told }
     requires at { entry.at < 2 ^ 36 }
     ensures { result ≡ entry.at + told_bytes entry.told }
@@ -62,7 +62,7 @@ fn place_in(places: &[u16], glyph: u32) -> Option<usize>
 }
 
 /// The first entry of a number among some entries.
-fn first_of(entries: &[Entry], glyph: u32) -> Option<Entry>
+fn first_of(entries: &[GlyphEntry], glyph: u32) -> Option<GlyphEntry>
     ensures { result ≡ find (λ e. e.glyph == glyph) entries.now }
 {
     for entry in entries {
@@ -75,12 +75,12 @@ fn first_of(entries: &[Entry], glyph: u32) -> Option<Entry>
 
 /// The entry of a number that is no glyph of the font: that of its first place, or a new one at the end of all rows so
 /// far.
-fn unknown_entry(entries: &[Entry], glyph: u32, end: u64) -> Entry
+fn unknown_entry(entries: &[GlyphEntry], glyph: u32, end: u64) -> GlyphEntry
     ensures { result ≡ unknown_entry entries.now glyph end }
 {
     match first_of(entries, glyph) {
         Some(entry) => entry,
-        None => Entry {
+        None => GlyphEntry {
             glyph,
             told: Told::Unknown,
             at: end,
@@ -94,7 +94,7 @@ pub(crate) fn entries_of(
     glyphs: &[u32],
     places: &[u16],
     drawn: &[DrawnGlyph],
-) -> Result<(Vec<Entry>, u64), AllocError>
+) -> Result<(Vec<GlyphEntry>, u64), AllocError>
     requires few { length glyphs.now ≤ text_limit }
     requires distinct { map (λ d. d.number) drawn.now ≡ distinct (known_of (length places.now) glyphs.now) }
     requires places { ArePlaces places.now (map (λ d. d.number) drawn.now) }
@@ -108,7 +108,7 @@ pub(crate) fn entries_of(
     let mut end: u64 = 0;
     for glyph in glyphs {
         let entry = match place_in(places, *glyph) {
-            Some(i) => Entry {
+            Some(i) => GlyphEntry {
                 glyph: *glyph,
                 told: drawn[i].told,
                 at: starts[i],

@@ -29,8 +29,8 @@ mod request;
 mod ruled;
 mod told;
 
-pub use list::GlyphList;
+pub use list::BitmapList;
 pub use place::InkPlace;
-pub use told::{Entry, MadeBitmap, Told};
+pub use told::{GlyphEntry, MadeBitmap, Told};
 pub use tt_core::DrawFault;
 pub use tt_face::Face;

@@ -21,7 +21,7 @@ use crate::entries::entries_of;
 use crate::known::known_line;
 use crate::outlines::try_glyphs;
 use crate::request::{limits_for, test_count};
-use crate::told::Entry;
+use crate::told::GlyphEntry;
 use std::alloc::{AllocError, Global};
 use std::marker::Model;
 use tt_core::{DrawFault, JobFault};
@@ -33,9 +33,9 @@ use tt_strike::{DistinctGlyphs, FitterSource, SizedFace, charge_points, distinct
 
 /// The bitmaps of a list of glyph numbers. All memory that their rows need is there already.
 #[derive(Drop)]
-pub struct GlyphList {
+pub struct BitmapList {
     /// One for each place of the list.
-    entries: Vec<Entry>,
+    entries: Vec<GlyphEntry>,
     /// The distinct glyphs of the font, in order of first appearance.
     drawn: Vec<DrawnGlyph>,
     /// The bytes of all rows.
@@ -43,7 +43,7 @@ pub struct GlyphList {
     sweep: Sweep,
 }
 
-impl Model for GlyphList {
+impl Model for BitmapList {
     ghost use Rattle.std.specs.Prelude.{◌≡◌, ◌≤◌, All, flat_map};
     ghost use Rattle.std.specs.List.{sum_by};
     ghost use Rattle.tt_glyphs.specs.Drawn.{DrawnFits, drawn_edges, drawn_rows};
@@ -95,14 +95,14 @@ fn most_edges(drawn: &[DrawnGlyph]) -> usize
     most
 }
 
-impl GlyphList {
+impl BitmapList {
     /// The list of numbers whose distinct glyphs these are. Error: memory ran out.
     fn of(
         alloc: Global,
         glyphs: &[u32],
         places: &[u16],
         drawn: Vec<DrawnGlyph>,
-    ) -> Result<GlyphList, AllocError>
+    ) -> Result<BitmapList, AllocError>
         requires few { length glyphs.now ≤ text_limit }
         requires distinct { map (λ d. d.number) drawn.items ≡ distinct (known_of (length places.now) glyphs.now) }
         requires places { ArePlaces places.now (map (λ d. d.number) drawn.items) }
@@ -114,7 +114,7 @@ impl GlyphList {
     {
         let sweep = Sweep::new(alloc, most_edges(&drawn))?;
         let (entries, wanted) = entries_of(alloc, glyphs, places, &drawn)?;
-        Ok(GlyphList {
+        Ok(BitmapList {
             entries,
             drawn,
             wanted,
@@ -133,7 +133,7 @@ impl GlyphList {
         glyphs: &[u32],
         ppem: u32,
         fit: Fit,
-    ) -> Result<GlyphList, DrawFault>
+    ) -> Result<BitmapList, DrawFault>
         ensures exact { GivesUnless refusal (λ b. b) result (bitmaps_outcome face.now (job_for glyphs.now ppem fit)) }
         ensures fault { IfTold draw_font_fault result (IsSettingDefect face.now (job_at ppem fit)) }
         ensures entries { IfOk result (λ b. length b.entries ≡ length glyphs.now) }
@@ -151,11 +151,11 @@ impl GlyphList {
         let known = known_line(alloc, count, glyphs)?;
         let DistinctGlyphs { places, numbers } = distinct(alloc, count, &known)?;
         let drawn = drawn_by(&source, &mut fitter, &numbers)?;
-        Ok(GlyphList::of(alloc, glyphs, &places, drawn)?)
+        Ok(BitmapList::of(alloc, glyphs, &places, drawn)?)
     }
 
     /// An entry for each place of the list.
-    pub fn entries(&self) -> &[Entry]
+    pub fn entries(&self) -> &[GlyphEntry]
         ensures { result.now ≡ self.now.entries }
     {
         &self.entries
@@ -175,7 +175,7 @@ impl GlyphList {
         ensures rows { take self.wanted room.new ≡ self.rows }
         ensures rest { drop self.wanted room.new ≡ drop self.wanted room.old }
     {
-        let GlyphList {
+        let BitmapList {
             mut drawn,
             mut sweep,
             ..

@@ -27,7 +27,7 @@ pub enum Told {
 
 /// A number of a list, its report, and the place of its first row among all rows.
 #[derive(Clone, Copy, Debug, PartialEq, Eq)]
-pub struct Entry {
+pub struct GlyphEntry {
     pub glyph: u32,
     pub told: Told,
     pub at: u64,

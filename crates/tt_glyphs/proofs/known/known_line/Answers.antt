@@ -18,16 +18,16 @@ loop-glyph-preserved c =
           let found = sym w.in-Some.ensures in
           record {
             numbers = rw (w.line-is, w.in_ok-push.ensures.items)
-              (known_more line count n gs i below found ∙ c.loop-glyph.invariant.numbers);
+                (known_more line count n gs i below found ∙ c.loop-glyph.invariant.numbers);
             known = rw (w.line-is, w.in_ok-push.ensures.items)
-              (All-push (λ (g : ℕ × ℕ). g.0 < count) line (n, 0) c.loop-glyph.invariant.known (below_count count _ n found));
+                (All-push (λ (g : ℕ × ℕ). g.0 < count) line (n, 0) c.loop-glyph.invariant.known (below_count count _ n found));
             few = rw (w.line-is, w.in_ok-push.ensures.items, length_push line (n, 0)) (omega (arith, c.loop-glyph.invariant.few));
           }
       | in_default w ↦ record {
-          numbers = rw (w.line-is, known_same count gs i below (sym w.in_default.ensures)) c.loop-glyph.invariant.numbers;
-          known = rw w.line-is c.loop-glyph.invariant.known;
-          few = rw w.line-is (omega (arith, c.loop-glyph.invariant.few));
-        }
+        numbers = rw (w.line-is, known_same count gs i below (sym w.in_default.ensures)) c.loop-glyph.invariant.numbers;
+        known = rw w.line-is c.loop-glyph.invariant.known;
+        few = rw w.line-is (omega (arith, c.loop-glyph.invariant.few));
+      }
     ]
 
 pub returns-clause-numbers : goal.returns-clause-numbers
