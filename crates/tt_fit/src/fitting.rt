@@ -193,8 +193,9 @@ impl<'a> Fitter<'a> {
             work: self.work,
         };
         let made = self.fitted_within(g, &mut runner);
-        self.machine = runner.machine;
-        self.work = runner.work;
+        let Runner { machine, work, .. } = runner;
+        self.machine = machine;
+        self.work = work;
         match made {
             Ok(outline) => Ok(TriedOutline::Made(outline)),
             Err(fault) => TriedOutline::refused_by(fault),
