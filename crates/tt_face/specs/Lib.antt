@@ -5,3 +5,4 @@ pub mod Files
 pub mod Laws
 pub mod Names
 pub mod Programs
+pub mod Style

@@ -1,5 +1,5 @@
--- OpenType, "name: Naming Table": a header of 6 bytes, a record of 12 bytes for each name, and the strings. The full name
--- of a face is told by its first 64 characters in ASCII; a defect of the table is an empty name (profile).
+-- OpenType, "name: Naming Table": a header of 6 bytes, a record of 12 bytes for each name, and the strings. A name of a
+-- face is told by its first 64 characters in ASCII; a defect of the table is an empty name (profile).
 use Rattle.std.specs.Prelude.{◌≡◌, refl, ℕ, ◌+◌, ◌*◌, ◌/◌, min, Bool, true, false, not, ◌&&◌, ◌||◌, ◌==◌, nat_lt, nat_le, if◌then◌else◌, List, [], ◌∷◌, length, map, take, drop, codes, slice_range, Option, Some, None, Result, Ok, Err}
 use Rattle.std.specs.List.{range_with_len}
 use Rattle.tt_core.specs.Directory.{Directory, file_directory, table_of}
@@ -23,23 +23,30 @@ name_place i = 6 + 12 * i
 abbrev pub has_records : List ℕ → Bool
 has_records t = if nat_lt (length t) 6 then false else not (nat_lt (length t) (name_place (name_count t)))
 
--- whether record i is a full name for Windows, and in American English if that is asked for: platformID, nameID and
--- languageID
-abbrev pub is_full_name : Bool → List ℕ → ℕ → Bool
-is_full_name english t i =
-    (unsigned_at t (name_place i) 2 == 3) && ((unsigned_at t (name_place i + 6) 2 == 4)
+-- nameID of the family's name and of the full name
+abbrev pub family_name : ℕ
+family_name = 1
+
+abbrev pub full_name : ℕ
+full_name = 4
+
+-- whether record i is a name with this nameID for Windows, and in American English if that is asked for: platformID,
+-- nameID and languageID
+abbrev pub is_name : ℕ → Bool → List ℕ → ℕ → Bool
+is_name id english t i =
+    (unsigned_at t (name_place i) 2 == 3) && ((unsigned_at t (name_place i + 6) 2 == id)
     && (not english || (unsigned_at t (name_place i + 4) 2 == 0x0409)))
 
-abbrev pub first_name : Bool → List ℕ → Option ℕ
-first_name english t = first_below (name_count t) (is_full_name english t)
+abbrev pub first_name : ℕ → Bool → List ℕ → Option ℕ
+first_name id english t = first_below (name_count t) (is_name id english t)
 
 abbrev pub or_other : Option ℕ → Option ℕ → Option ℕ
 or_other None other = other
 or_other (Some i) other = Some i
 
--- the record of the full name that is told: in American English before any other
-abbrev pub chosen_name : List ℕ → Option ℕ
-chosen_name t = or_other (first_name true t) (first_name false t)
+-- the record of the name that is told: in American English before any other
+abbrev pub chosen_name : ℕ → List ℕ → Option ℕ
+chosen_name id t = or_other (first_name id true t) (first_name id false t)
 
 -- the offset of record i's string: storageOffset and stringOffset
 abbrev pub string_start : List ℕ → ℕ → ℕ
@@ -56,17 +63,17 @@ abbrev pub string_by : List ℕ → Option ℕ → List ℕ
 string_by t None = []
 string_by t (Some i) = string_at t i
 
-abbrev pub chosen_string : List ℕ → List ℕ
-chosen_string t = string_by t (chosen_name t)
+abbrev pub chosen_string : ℕ → List ℕ → List ℕ
+chosen_string id t = string_by t (chosen_name id t)
 
 -- the string in a table of names, if the records fit
-abbrev pub string_in : List ℕ → List ℕ
-string_in t = if has_records t then chosen_string t else []
+abbrev pub string_in : ℕ → List ℕ → List ℕ
+string_in id t = if has_records t then chosen_string id t else []
 
-abbrev pub string_of : Result (Option (List ℕ)) Fault → List ℕ
-string_of (Ok (Some t)) = string_in t
-string_of (Ok None) = []
-string_of (Err fault) = []
+abbrev pub string_of : ℕ → Result (Option (List ℕ)) Fault → List ℕ
+string_of id (Ok (Some t)) = string_in id t
+string_of id (Ok None) = []
+string_of id (Err fault) = []
 
 -- a character as ASCII: itself from blank to tilde, else a question mark
 abbrev pub told_character : ℕ → ℕ
@@ -78,7 +85,11 @@ told_text string = map (λ k. told_character (unsigned_at string (2 * k) 2)) (ra
 
 -- the full name of a face
 unfoldable pub full_name_of : Directory → List ℕ
-full_name_of d = told_text (string_of (table_of d name_tag))
+full_name_of d = told_text (string_of full_name (table_of d name_tag))
+
+-- the name of its family
+unfoldable pub family_name_of : Directory → List ℕ
+family_name_of d = told_text (string_of family_name (table_of d name_tag))
 
 -- worked values: a table with the full name 'M' for Macintosh, the family name 'Z', and the full names 'B', 'a' with two
 -- dots in German and 'A', tilde in American English
@@ -91,24 +102,27 @@ four_names =
     ∷ 0 ∷ 3 ∷ 0 ∷ 1 ∷ 4 ∷ 9 ∷ 0 ∷ 4 ∷ 0 ∷ 4 ∷ 0 ∷ 7
     ∷ 77 ∷ 0 ∷ 90 ∷ 0 ∷ 66 ∷ 0 ∷ 228 ∷ 0 ∷ 65 ∷ 0 ∷ 126 ∷ []
 
-in_american_english : told_text (string_in four_names) ≡ 65 ∷ 126 ∷ []
+in_american_english : told_text (string_in full_name four_names) ≡ 65 ∷ 126 ∷ []
 in_american_english = refl
 
 -- without the fourth record
-in_german : told_text (string_in (0 ∷ 0 ∷ 0 ∷ 3 ∷ drop 4 four_names)) ≡ 66 ∷ 63 ∷ []
+in_german : told_text (string_in full_name (0 ∷ 0 ∷ 0 ∷ 3 ∷ drop 4 four_names)) ≡ 66 ∷ 63 ∷ []
 in_german = refl
 
-no_full_name : told_text (string_in (0 ∷ 0 ∷ 0 ∷ 2 ∷ drop 4 four_names)) ≡ []
+no_full_name : told_text (string_in full_name (0 ∷ 0 ∷ 0 ∷ 2 ∷ drop 4 four_names)) ≡ []
 no_full_name = refl
 
-records_cut_off : told_text (string_in (take 53 four_names)) ≡ []
+records_cut_off : told_text (string_in full_name (take 53 four_names)) ≡ []
 records_cut_off = refl
 
-string_cut_off : told_text (string_in (take 64 four_names)) ≡ []
+string_cut_off : told_text (string_in full_name (take 64 four_names)) ≡ []
 string_cut_off = refl
 
-header_cut_off : told_text (string_in (take 5 four_names)) ≡ []
+header_cut_off : told_text (string_in full_name (take 5 four_names)) ≡ []
 header_cut_off = refl
+
+in_its_family : told_text (string_in family_name four_names) ≡ 90 ∷ []
+in_its_family = refl
 
 half_a_character : told_text (0 ∷ 65 ∷ 0 ∷ []) ≡ 65 ∷ []
 half_a_character = refl

@@ -8,12 +8,14 @@ ghost use Rattle.tt_cmap.specs.Maps.{glyph_count};
 ghost use Rattle.tt_metrics.specs.Metrics.{loca_format_of, glyphs_of};
 ghost use Rattle.tt_face.specs.Defects.{IsGlyphTableDefect, HasProgramPastEnd};
 ghost use Rattle.tt_face.specs.Faces.{glyphs_in, optional_table, programs_of};
-ghost use Rattle.tt_face.specs.Names.{full_name_of};
+ghost use Rattle.tt_face.specs.Names.{family_name_of, full_name_of};
 ghost use Rattle.tt_face.specs.Programs.{program_tables};
+ghost use Rattle.tt_face.specs.Style.{style_of};
 ghost use Rattle.tt_face.specs.Files.{face_of, face_by, IsFaceDefect, IsFaceDefectBy};
 
-use crate::names::{string_of, told_text};
+use crate::names::{FAMILY_NAME, FULL_NAME, string_of, told_text};
 use crate::programs::Programs;
+use crate::style::style_of;
 use std::alloc::{AllocError, Global};
 use std::marker::Model;
 use tt_cmap::{CharacterMap, Cmap};
@@ -114,7 +116,22 @@ impl<'a> Face<'a> {
     pub fn full_name(&self, alloc: Global) -> Result<Vec<u8>, AllocError>
         ensures { IfOk result (λ name. name.items ≡ full_name_of self.now.directory) }
     {
-        told_text(alloc, string_of(&self.dir))
+        told_text(alloc, string_of(&self.dir, FULL_NAME))
+    }
+
+    /// The name of the face's family, as `full_name` has it. Error: memory ran out.
+    #[tactic(auto, unfolding(crate::specs::Names::family_name_of))]
+    pub fn family_name(&self, alloc: Global) -> Result<Vec<u8>, AllocError>
+        ensures { IfOk result (λ name. name.items ≡ family_name_of self.now.directory) }
+    {
+        told_text(alloc, string_of(&self.dir, FAMILY_NAME))
+    }
+
+    /// macStyle of head, which says whether the face is bold or italic.
+    pub fn style(&self) -> u16
+        ensures { result ≡ style_of self.now.directory }
+    {
+        style_of(&self.dir)
     }
 
     /// The control values and the two programs. Error: TableRange, of the first table in this order.

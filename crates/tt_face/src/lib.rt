@@ -5,6 +5,7 @@ mod face;
 pub mod laws;
 mod names;
 mod programs;
+mod style;
 
 pub use face::Face;
 pub use programs::Programs;

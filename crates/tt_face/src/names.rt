@@ -1,13 +1,19 @@
-//! The full name of a face. OpenType, "name: Naming Table".
+//! The names of a face. OpenType, "name: Naming Table".
 
 ghost use Rattle.std.specs.Prelude.{◌≡◌, ◌<◌, ◌≤◌, length, is_some, IfOk, IfSome};
 ghost use Rattle.tt_core.specs.Directory.{table_of};
 ghost use Rattle.tt_core.specs.Limits.{font_limit};
-ghost use Rattle.tt_face.specs.Names.{name_tag, string_of, name_count, has_records, is_full_name, first_name, chosen_name, string_at, chosen_string, told_character, told_text};
+ghost use Rattle.tt_face.specs.Names.{name_tag, string_of, name_count, has_records, is_name, first_name, chosen_name, string_at, chosen_string, told_character, told_text};
 
 use std::alloc::{AllocError, Global};
 use std::marker::Model;
 use tt_core::{Dir, u16_at};
+
+/// The number of the name of a family.
+pub(crate) const FAMILY_NAME: u16 = 1;
+
+/// The number of a full name.
+pub(crate) const FULL_NAME: u16 = 4;
 
 /// Characters of a name that are told (profile).
 const TOLD: usize = 64;
@@ -49,40 +55,40 @@ impl<'a> Names<'a> {
         Some(Names { table, count })
     }
 
-    /// Whether a record is a full name for Windows, and in American English if that is asked for.
-    fn is_full_name(&self, english: bool, i: usize) -> bool
+    /// Whether a record is a name with this number for Windows, and in American English if that is asked for.
+    fn is_name(&self, id: u16, english: bool, i: usize) -> bool
         requires { i < name_count self.now }
-        ensures { result ≡ is_full_name english self.now i }
+        ensures { result ≡ is_name id english self.now i }
     {
         let table = self.table;
         let place = 6 + 12 * i;
         u16_at(table, place).unwrap() == 3
-            && u16_at(table, place + 6).unwrap() == 4
+            && u16_at(table, place + 6).unwrap() == id
             && (!english || u16_at(table, place + 4).unwrap() == 0x0409)
     }
 
-    /// The first record of a full name.
+    /// The first record of a name.
     #[tactic(auto, using(tt_core::specs::Search::first_from_next, tt_core::specs::Search::first_from_here))]
-    fn first_name(&self, english: bool) -> Option<usize>
-        ensures exact { result ≡ first_name english self.now }
+    fn first_name(&self, id: u16, english: bool) -> Option<usize>
+        ensures exact { result ≡ first_name id english self.now }
         ensures within { IfSome result (λ i. i < name_count self.now) }
     {
         for i in 0..self.count {
-            if self.is_full_name(english, i) {
+            if self.is_name(id, english, i) {
                 return Some(i);
             }
         }
         None
     }
 
-    /// The record of the full name that is told: in American English before any other.
-    fn chosen_name(&self) -> Option<usize>
-        ensures exact { result ≡ chosen_name self.now }
+    /// The record of the name that is told: in American English before any other.
+    fn chosen_name(&self, id: u16) -> Option<usize>
+        ensures exact { result ≡ chosen_name id self.now }
         ensures within { IfSome result (λ i. i < name_count self.now) }
     {
-        match self.first_name(true) {
+        match self.first_name(id, true) {
             Some(i) => Some(i),
-            None => self.first_name(false),
+            None => self.first_name(id, false),
         }
     }
 
@@ -103,12 +109,12 @@ impl<'a> Names<'a> {
         &table[start..end]
     }
 
-    /// The string of the full name that is told, empty without one.
-    pub(crate) fn chosen_string(&self) -> &'a [u8]
-        ensures exact { result.now ≡ chosen_string self.now }
+    /// The string of the name that is told, empty without one.
+    pub(crate) fn chosen_string(&self, id: u16) -> &'a [u8]
+        ensures exact { result.now ≡ chosen_string id self.now }
         ensures size { length result.now ≤ font_limit }
     {
-        match self.chosen_name() {
+        match self.chosen_name(id) {
             Some(i) => self.string_at(i),
             None => &[],
         }
@@ -139,16 +145,16 @@ pub(crate) fn told_text(alloc: Global, string: &[u8]) -> Result<Vec<u8>, AllocEr
     Ok(text)
 }
 
-/// The string of a face's full name, empty if its table has a defect.
-pub(crate) fn string_of<'a>(dir: &Dir<'a>) -> &'a [u8]
-    ensures exact { result.now ≡ string_of (table_of dir.now name_tag) }
+/// The string of a face's name with this number, empty if its table has a defect.
+pub(crate) fn string_of<'a>(dir: &Dir<'a>, id: u16) -> &'a [u8]
+    ensures exact { result.now ≡ string_of id (table_of dir.now name_tag) }
     ensures size { length result.now ≤ font_limit }
 {
     let Ok(Some(table)) = dir.table(*b"name") else {
         return &[];
     };
     match Names::open(table) {
-        Some(names) => names.chosen_string(),
+        Some(names) => names.chosen_string(id),
         None => &[],
     }
 }

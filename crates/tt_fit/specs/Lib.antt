@@ -10,5 +10,6 @@ pub mod Preparation
 pub mod Refusals
 pub mod Rounding
 pub mod Rules
+pub mod Tried
 pub mod Views
 pub mod Work

@@ -11,6 +11,7 @@ ghost use Rattle.tt_fit.specs.Dropouts.{dropouts_of};
 ghost use Rattle.tt_fit.specs.Fallback.{where_refused};
 ghost use Rattle.tt_fit.specs.Fitting.{IsFitter, with_hinting, outline_at, glyph_work, unfitted_fault, fitted_outline, after_glyph, charged_fitter};
 ghost use Rattle.tt_fit.specs.Preparation.{fitter_of};
+ghost use Rattle.tt_fit.specs.Tried.{IfMade, IfRefused, outcome_of};
 ghost use Rattle.tt_fit_outline.specs.Views.{hinting_view, outline_of};
 ghost use Rattle.tt_fit_outline.specs.Work.{RefusalLeaves, outline_fault};
 ghost use Rattle.tt_metrics.specs.Metrics.{loca_format_of, glyphs_of};
@@ -21,6 +22,7 @@ use crate::fallback::{Fallback, is_program_fault};
 use crate::preparation::Preparation;
 use crate::programs::{Fit, ProgramsAtSize};
 use crate::rules::{dropouts_by, grid_of, levels_of, rules_of};
+use crate::tried::TriedOutline;
 use std::alloc::{AllocError, Global};
 use std::marker::Model;
 use tt_core::{Fault, FontFault};
@@ -176,6 +178,30 @@ impl<'a> Fitter<'a> {
         Ok(outline)
     }
 
+    /// As `fit`, but a refused glyph is no error: its fault is the answer, and the work that its programs took is charged
+    /// too. Error: out of memory.
+    pub fn try_fit(&mut self, g: u16) -> Result<TriedOutline, AllocError>
+        requires { g < self.old.tables.glyphs }
+        ensures exact { IfOk result (λ tried. outcome_of tried ≡ fitted_outline self.old g) }
+        ensures unfitted { IfOk result (λ tried. IfMade tried (λ o. o.unfitted ≡ unfitted_fault self.old g)) }
+        ensures fault { IfOk result (λ tried. IfRefused tried (IsOutlineDefect self.old g)) }
+        ensures after { OnOk result (self.new ≡ after_glyph self.old g) }
+    {
+        let mut runner = Runner {
+            alloc: self.alloc,
+            machine: self.machine.take(),
+            work: self.work,
+        };
+        let made = self.fitted_within(g, &mut runner);
+        let Runner { machine, work, .. } = runner;
+        self.machine = machine;
+        self.work = work;
+        match made {
+            Ok(outline) => Ok(TriedOutline::Made(outline)),
+            Err(fault) => TriedOutline::refused_by(fault),
+        }
+    }
+
     /// The job's remaining work; None where it is not bounded.
     pub fn work(&self) -> Option<u64>
         ensures { result ≡ self.now.work }
@@ -213,6 +239,7 @@ impl<'a> Fitter<'a> {
         ensures exact { FontGives outline_of result (fitted_outline self.now g) }
         ensures unfitted { IfOk result (λ o. o.unfitted ≡ unfitted_fault self.now g) }
         ensures left { OnOk result (runner.new.work.left ≡ (after_glyph self.now g).work) }
+        ensures refused { IfTold font_fault result (λ _. runner.new.work.left ≡ (after_glyph self.now g).work) }
     {
         match self.fallback {
             Fallback::Never => self.marked(&self.hinting, g, None, runner),
@@ -247,6 +274,7 @@ impl<'a> Fitter<'a> {
         ensures exact { FontGives outline_of result (fitted_outline self.now g) }
         ensures unfitted { IfOk result (λ o. o.unfitted ≡ unfitted_fault self.now g) }
         ensures left { OnOk result (runner.new.work.left ≡ (after_glyph self.now g).work) }
+        ensures refused { IfTold font_fault result (λ _. runner.new.work.left ≡ (after_glyph self.now g).work) }
     {
         match refusal {
             OutlineFault::Font(fault) => {

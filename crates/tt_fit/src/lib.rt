@@ -11,12 +11,14 @@ mod paying;
 mod preparation;
 mod programs;
 mod rules;
+mod tried;
 
 pub use dropouts::DropoutRules;
 pub use fitting::Fitter;
 pub use paying::OutlineAtCost;
 pub use programs::Fit;
 /// The refusals of an outline, by this crate's name for them.
+pub use tried::TriedOutline;
 pub use tt_core::FontFault as FitFault;
 pub use tt_face::Programs;
 pub use tt_fit_outline::Outline;

@@ -3,3 +3,4 @@ pub mod Labels
 pub mod Laws
 pub mod Layout
 pub mod Outcome
+pub mod Sizes

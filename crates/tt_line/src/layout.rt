@@ -56,7 +56,7 @@ pub fn lay(
 }
 
 /// The sum of the advances of a text's units, in pixels. For 4,096 characters the sum can exceed 32 bits.
-fn sum_of_advances(known: &mut KnownAdvances, text: &str) -> u64
+pub(crate) fn sum_of_advances(known: &mut KnownAdvances, text: &str) -> u64
     requires text { length (chars text.now) ≤ text_limit }
     ensures exact { result ≡ sum (advances_of known.old.metrics known.old.ppem (text_glyphs known.old.cmap text.now)) }
     ensures bound { result < 2 ^ 40 }

@@ -9,6 +9,7 @@ pub mod laws;
 mod layout;
 mod line;
 mod lines;
+mod measured;
 mod pixels;
 mod steps;
 
@@ -18,6 +19,7 @@ pub use known::KnownAdvances;
 pub use layout::lay;
 pub use line::Line;
 pub use lines::{label_steps, lay_lines, unmarked};
+pub use measured::{LineSize, size_by_advances, size_by_steps};
 pub use pixels::advance;
 pub use steps::{advance_steps, lay_steps};
 pub use tt_core::DrawFault as LineFault;

@@ -108,7 +108,7 @@ fn tape_dropouts(
 
 /// The crossings of a tape's edges at one pen, in a picture and outside. Where dropouts are filled, the search for them
 /// counts too.
-pub(crate) fn tape_crossings(tape: &Tape, filled: Option<BoxedRules>) -> u64
+pub fn tape_crossings(tape: &Tape, filled: Option<BoxedRules>) -> u64
     requires few { length tape.now.edges ≤ 2 ^ 19 }
     requires boxed { IfSome filled (λ rules. ExtentsFit rules.extents) }
     ensures { result ≡ edges_counted tape.now.edges + filling_crossings filled tape.now.edges }

@@ -43,6 +43,7 @@ mod rows;
 
 pub use cache::Cache;
 pub use counting::crossings;
+pub use cutting::tape_crossings;
 pub use dropouts::line_dropouts;
 pub use fitted::FittedGlyph;
 pub use fitting::{LineLimits, fit_glyphs, put_steps};
@@ -50,6 +51,7 @@ pub use glyph::Glyph;
 pub use glyphs::{Glyphs, line_glyphs};
 pub use ink_box::{InkBox, ink_at, joined};
 pub use inks::glyph_inks;
+pub use outlined::{edges_of, rule_by, rules_for};
 pub use picture::Picture;
 pub use report::{Report, Unfitted, report_on};
 pub use rows::{add_dropouts, add_glyphs, most_edges};

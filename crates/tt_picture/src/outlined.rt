@@ -156,7 +156,7 @@ pub(crate) fn counts_of(points: Option<u64>, cost: Option<u64>) -> Option<KeptCo
 }
 
 /// How many chords curves have, by the job's remaining work: with best, whose work is bounded, by their bend.
-pub(crate) fn rule_by(work: Option<u64>) -> ChordRule
+pub fn rule_by(work: Option<u64>) -> ChordRule
     ensures { result ≡ rule_by work }
 {
     match work {
@@ -176,7 +176,7 @@ fn extents_of(outline: &Outline) -> Extents
 }
 
 /// The dropout rules in the scan converter's type, with the outline's box, which is needed only there.
-pub(crate) fn rules_for(outline: &Outline, rules: Option<DropoutRules>) -> Option<BoxedRules>
+pub fn rules_for(outline: &Outline, rules: Option<DropoutRules>) -> Option<BoxedRules>
     requires outline { IsOutline (outline_of outline.now) }
     ensures exact { result ≡ rules_for (extents_of (outline_of outline.now)) rules }
     ensures fits { IfSome result (λ b. ExtentsFit b.extents) }
@@ -195,7 +195,7 @@ pub(crate) fn rules_for(outline: &Outline, rules: Option<DropoutRules>) -> Optio
 
 /// The edges of an outline whose first phantom point is at the left end of the line. The ends of its contours are told
 /// if its dropouts are filled.
-fn edges_of(
+pub fn edges_of(
     alloc: Global,
     outline: &Outline,
     rule: ChordRule,

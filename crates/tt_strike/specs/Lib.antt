@@ -7,6 +7,8 @@ pub mod Programs
 pub mod Grown
 pub mod InkLaws
 pub mod Laws
+pub mod LayoutLaws
+pub mod Layouts
 pub mod Made
 pub mod Makers
 pub mod Measures

@@ -21,7 +21,7 @@ use tt_picture::{Cache, Glyph, crossings};
 const POINT_WORK: u64 = 40;
 
 /// The chords that a line's glyphs may have, each glyph once.
-pub(crate) const CHORD_LIMIT: usize = 32_000_000;
+pub const CHORD_LIMIT: usize = 32_000_000;
 
 /// The work that each crossing takes.
 const CROSSING_WORK: u64 = 4;
@@ -64,7 +64,7 @@ pub fn charge_points(
 }
 
 /// How many crossings a line may have by the work that its programs left.
-pub(crate) fn crossings_allowed(left: Option<u64>) -> u64
+pub fn crossings_allowed(left: Option<u64>) -> u64
     ensures exact { result ≡ crossings_allowed left }
     ensures small { result ≤ crossing_limit }
 {

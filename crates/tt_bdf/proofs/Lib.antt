@@ -1,0 +1,10 @@
+pub mod Among
+pub mod Behind
+pub mod Blanks
+pub mod Cuts
+pub mod Near
+pub mod Nothing
+pub mod Padded
+pub mod Pieces
+pub mod Reaching
+pub mod Refused

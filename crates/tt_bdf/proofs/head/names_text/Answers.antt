@@ -1,0 +1,4 @@
+use Rattle.tt_bdf.proofs.head.names_text.Goals as goal
+
+pub returns : goal.returns
+returns c = rw (← c.weight_name-weight.ensures, ← c.slant-slant.ensures) c.format.ensures.ok

@@ -1,0 +1,9 @@
+pub mod Advances
+pub mod Asked
+pub mod Bitmap
+pub mod Example
+pub mod Extent
+pub mod File
+pub mod Head
+pub mod Ranges
+pub mod Style

@@ -1,0 +1,133 @@
+-- No part of the standard: a glyph that is drawn, whose rows are made of edges and dropouts.
+use Rattle.std.specs.Prelude.{◌≡◌, ℕ, ◌+◌, ◌*◌, ◌-◌, ◌^◌, ◌<◌, ◌≤◌, Bool, ◌&&◌, ◌||◌, ◌==◌, nat_lt, if◌then◌else◌, ℤ, pos, ◌+ℤ◌, ◌-ℤ◌, unsigned_abs, List, [], ◌∷◌, length, take, filter, find, get_or, map, Option, Some, None, ⊤}
+use Rattle.std.specs.List.{sum_by}
+use Rattle.std.specs.Ordering.{int_eq}
+use Rattle.tt_core.specs.Bits.{stride}
+use Rattle.tt_core.specs.Limits.{height_limit, width_limit}
+use Rattle.tt_fit.specs.declared.programs.Fit.{Fit}
+use Rattle.tt_fit.specs.Fitting.{Fitter}
+use Rattle.tt_picture.specs.Pixels.{is_filled}
+use Rattle.tt_picture.specs.Rows.{rows}
+use Rattle.tt_scan.specs.Contours.{contours_at}
+use Rattle.tt_scan_dropouts.specs.declared.pixel.Pixel.{Pixel}
+use Rattle.tt_scan_dropouts.specs.Pictures.{AreDropouts, is_among}
+use Rattle.tt_scan_edges.specs.declared.edge.Frame.{Frame}
+use Rattle.tt_scan_edges.specs.Winding.{is_black}
+use Rattle.tt_scan_gaps.specs.Crossings.{centre}
+use Rattle.tt_strike.specs.declared.source.FitterSource.{FitterSource}
+use Rattle.tt_glyphs.specs.Bitmaps.{place_bytes}
+use Rattle.tt_glyphs.specs.declared.drawing.DrawnGlyph.{DrawnGlyph}
+use Rattle.tt_glyphs.specs.declared.edged.EdgedOutline.{EdgedOutline}
+use Rattle.tt_glyphs.specs.declared.place.InkPlace.{InkPlace}
+use Rattle.tt_glyphs.specs.declared.told.GlyphEntry.{GlyphEntry}
+use Rattle.tt_glyphs.specs.declared.told.Told.{Told}
+use Rattle.tt_glyphs.specs.declared.told.Told.TheVariants as told
+use Rattle.tt_glyphs.specs.GlyphBitmap.{GlyphBitmap}
+use Rattle.tt_glyphs.specs.Entries.{ToldFits, bytes_before, glyph_told, told_bytes, told_rows}
+
+-- a place with ink, of a bitmap that is not too large
+pub record IsInked (p : InkPlace) : Type 0 where
+  pub some : 1 ≤ p.width
+  pub high : 1 ≤ p.height
+  pub width : p.width ≤ width_limit
+  pub height : p.height ≤ height_limit
+  pub left : unsigned_abs p.left < 2 ^ 18
+  pub top : unsigned_abs p.top ≤ 2 ^ 18
+
+-- column c and row r of a place's rows, counted from the pen and the base line
+abbrev pub column_of : InkPlace → ℕ → ℤ
+column_of p c = p.left +ℤ pos c
+
+abbrev pub line_of : InkPlace → ℕ → ℤ
+line_of p r = (p.top -ℤ pos 1) -ℤ pos r
+
+abbrev pub frame_of : InkPlace → Frame
+frame_of p = record { width = p.width; height = p.height; margin = 0; rise = p.top }
+
+abbrev pub is_pixel_of : InkPlace → Pixel → ℕ → ℕ → Bool
+is_pixel_of p pixel c r = int_eq pixel.column (column_of p c) && int_eq pixel.row (line_of p r)
+
+-- the rows of a glyph's ink by its edges and its dropouts
+abbrev pub drawn_pixel : GlyphBitmap → ℕ → ℕ → Bool
+drawn_pixel b c r =
+    is_black b.edges (centre (column_of b.place c)) (centre (line_of b.place r)) || is_among b.dropouts c r
+
+abbrev pub bitmap_row : GlyphBitmap → ℕ → List ℕ
+bitmap_row b r = rows b.place.width (drawn_pixel b) (stride b.place.width * r) (stride b.place.width)
+
+abbrev pub bitmap_rows : GlyphBitmap → List ℕ
+bitmap_rows b = rows b.place.width (drawn_pixel b) 0 (place_bytes b.place)
+
+pub record BitmapFits (b : GlyphBitmap) : Type 0 where
+  pub place : IsInked b.place
+  pub frame : b.frame ≡ frame_of b.place
+  pub few : length b.edges ≤ 2 ^ 19
+  pub dropouts : AreDropouts b.place.width b.dropouts
+
+-- the pixels of a glyph's edges and of its dropouts, in a place
+abbrev pub edged_pixel : EdgedOutline → InkPlace → ℕ → ℕ → Bool
+edged_pixel e p c r =
+    is_black e.tape.edges (centre (column_of p c)) (centre (line_of p r))
+    || is_filled e.filled (contours_at e.tape.edges e.ends.items) (column_of p c) (line_of p r)
+
+-- the rows of a drawn glyph, and the edges that they are made of
+abbrev pub rows_by : Option GlyphBitmap → List ℕ
+rows_by None = []
+rows_by (Some b) = bitmap_rows b
+
+abbrev pub drawn_rows : DrawnGlyph → List ℕ
+drawn_rows d = rows_by d.bitmap
+
+abbrev pub edges_by : Option GlyphBitmap → ℕ
+edges_by None = 0
+edges_by (Some b) = length b.edges
+
+abbrev pub drawn_edges : DrawnGlyph → ℕ
+drawn_edges d = edges_by d.bitmap
+
+-- a bitmap has the place of its report, and its rows are still to be made
+abbrev pub HasBitmap : Told → Option GlyphBitmap → Type 0
+HasBitmap t None = told_bytes t ≡ 0
+HasBitmap t (Some b) = BitmapFits b × (b.crosses ≡ 0) × (told_bytes t ≡ place_bytes b.place)
+
+pub record DrawnFits (d : DrawnGlyph) : Type 0 where
+  pub told : ToldFits d.told
+  pub bitmap : HasBitmap d.told d.bitmap
+
+-- a glyph that is drawn by its fitter
+pub record IsDrawn (how : Fit) (s : Fitter) (d : DrawnGlyph) : Type 0 where
+  pub told : d.told ≡ glyph_told how s d.number
+  pub rows : drawn_rows d ≡ told_rows s d.number d.told
+
+-- a fitter of this source
+pub record IsSourceOf (z : FitterSource) (s : Fitter) : Type 0 where
+  pub metrics : s.metrics ≡ z.face.now.metrics
+  pub ppem : s.ppem ≡ z.ppem
+
+-- the numbers of a list that are below a count
+abbrev pub known_of : ℕ → List ℕ → List ℕ
+known_of count gs = filter (λ g. nat_lt g count) gs
+
+abbrev pub known_number : ℕ → ℕ → Option ℕ
+known_number count g = if nat_lt g count then Some g else None
+
+-- the report of a number by some drawn glyphs
+abbrev pub told_among : List DrawnGlyph → ℕ → Told
+told_among [] g = told.Unknown
+told_among (d ∷ ds) g = if d.number == g then d.told else told_among ds g
+
+-- the entry of a number by some drawn glyphs and the distinct numbers of its list
+abbrev pub entry_by : List DrawnGlyph → List ℕ → ℕ → GlyphEntry
+entry_by ds gs g = record {
+  glyph = g;
+  told = told_among ds g;
+  at = bytes_before (λ h. told_bytes (told_among ds h)) gs g;
+}
+
+-- the entry of a number that is no glyph of the font: that of its first place, or a new one
+abbrev pub or_new : Option GlyphEntry → ℕ → ℕ → GlyphEntry
+or_new (Some e) g end = e
+or_new None g end = record { glyph = g; told = told.Unknown; at = end }
+
+abbrev pub unknown_entry : List GlyphEntry → ℕ → ℕ → GlyphEntry
+unknown_entry es g end = or_new (find (λ (e : GlyphEntry). e.glyph == g) es) g end

@@ -1,0 +1,32 @@
+-- No part of the standard: the edges of an outline at pen 0.
+use Rattle.std.specs.Prelude.{◌≡◌, ℕ, ◌^◌, ◌≤◌, length, IfSome}
+use Rattle.tt_fit.specs.Fitting.{Fitter, fitted_outline}
+use Rattle.tt_fit_outline.specs.Outline.{Outline}
+use Rattle.tt_fit_outline.specs.Steps.{step_of}
+use Rattle.tt_picture.specs.Shapes.{contours_of, edges_at}
+use Rattle.tt_picture.specs.Steps.{chords_of}
+use Rattle.tt_scan.specs.Contours.{AreEnds, contours_at}
+use Rattle.tt_scan_gaps.specs.Boxes.{IsBoxOf}
+use Rattle.tt_glyphs.specs.declared.edged.EdgedOutline.{EdgedOutline}
+use Rattle.tt_glyphs.specs.declared.ruled.TriedBody.TheVariants as body
+use Rattle.tt_glyphs.specs.Ruled.{RuledOutline}
+use Rattle.tt_glyphs.specs.Tried.{ruled_by}
+
+-- the edges are few, lie in the box of the dropout rules, and their contours end among them
+pub record EdgedFits (e : EdgedOutline) : Type 0 where
+  pub few : length e.tape.edges ≤ 2 ^ 19
+  pub boxed : IfSome e.filled (λ rules. IsBoxOf rules.extents e.tape.edges)
+  pub ends : IfSome e.filled (λ rules. AreEnds (length e.tape.edges) e.ends.items)
+
+-- the edges of this outline
+pub record IsEdged (r : RuledOutline) (e : EdgedOutline) : Type 0 where
+  pub edges : e.tape.edges ≡ edges_at r.rule 0 r.outline
+  pub contours : IfSome r.filled (λ rules. contours_at e.tape.edges e.ends.items ≡ contours_of r.rule 0 r.outline)
+  pub filled : e.filled ≡ r.filled
+  pub chords : e.chords ≡ chords_of r.rule r.outline
+  pub step : e.step ≡ step_of r.outline
+  pub unfitted : e.unfitted ≡ r.unfitted
+
+-- the edges of a glyph by its fitter
+abbrev pub IsEdgedBy : Fitter → ℕ → EdgedOutline → Type 0
+IsEdgedBy s g e = (r : RuledOutline) × (ruled_by s g (fitted_outline s g) ≡ body.Ruled r) × IsEdged r e

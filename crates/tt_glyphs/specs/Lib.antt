@@ -1,0 +1,9 @@
+pub mod Bitmaps
+pub mod Drawn
+pub mod Edged
+pub mod Entries
+pub mod GlyphBitmap
+pub mod GlyphLaws
+pub mod Requests
+pub mod Ruled
+pub mod Tried

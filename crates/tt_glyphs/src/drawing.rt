@@ -1,0 +1,181 @@
+//! Draws the distinct glyphs of a list: their edges, the places of their ink, and their reports.
+
+ghost use Rattle.std.specs.Prelude.{◌≡◌, ◌⊎◌, ℕ, ◌+◌, ◌^◌, ◌<◌, ◌≤◌, length, map, All, IfOk, IfNone, IfSome, None};
+ghost use Rattle.tt_fit.specs.Fitting.{Fitter};
+ghost use Rattle.tt_glyphs.specs.Bitmaps.{place_of};
+ghost use Rattle.tt_glyphs.specs.Drawn.{DrawnFits, IsDrawn, IsSourceOf, drawn_edges, drawn_rows};
+ghost use Rattle.tt_glyphs.specs.Edged.{EdgedFits, IsEdgedBy};
+ghost use Rattle.tt_glyphs.specs.Entries.{advance_of, told_bytes};
+ghost use Rattle.tt_glyphs.specs.Tried.{AreTriedBy, IsRuledBody, tried_chords, tried_crossings};
+ghost use Rattle.tt_metrics.specs.Metrics.{glyphs_of};
+ghost use Rattle.tt_picture.specs.Ink.{glyph_ink};
+
+use crate::bitmap::GlyphBitmap;
+use crate::drawn::bitmap_of;
+use crate::edged::{EdgedOutline, edged};
+use crate::place::InkPlace;
+use crate::placing::{is_large, place_bytes, place_of};
+use crate::ruled::{TriedBody, TriedGlyph};
+use crate::told::{MadeBitmap, Told};
+use std::alloc::AllocError;
+use tt_line::advance;
+use tt_picture::LineLimits;
+use tt_scan::Sweep;
+use tt_strike::{FitterSource, is_bounded};
+
+/// A glyph that is drawn, or only its report.
+#[derive(Drop)]
+pub(crate) struct DrawnGlyph {
+    pub(crate) number: u16,
+    pub(crate) told: Told,
+    /// None where no row has ink.
+    pub(crate) bitmap: Option<GlyphBitmap>,
+}
+
+/// A glyph of which no row is made.
+fn rowless(number: u16, told: Told) -> DrawnGlyph
+    ensures { result ≡ record { number = number; told = told; bitmap = None } }
+{
+    DrawnGlyph {
+        number,
+        told,
+        bitmap: None,
+    }
+}
+
+/// What remains after a glyph with so many chords and crossings; None where it has more of either.
+fn rest_of(left: LineLimits, chords: usize, crossings: u64) -> Option<LineLimits>
+    ensures some { IfSome result (λ rest. (left.chords ≡ rest.chords + chords) × (left.crossings ≡ rest.crossings + crossings)) }
+    ensures none { IfNone result ((left.chords < chords) ⊎ (left.crossings < crossings)) }
+{
+    Some(LineLimits {
+        chords: left.chords.checked_sub(chords)?,
+        crossings: left.crossings.checked_sub(crossings)?,
+    })
+}
+
+/// The pixels from the pen of a glyph to the next: its own step where work is bounded, else its advance.
+fn advance_of(source: &FitterSource, number: u16, step: u32) -> u32
+    requires { number < glyphs_of source.now.face.now.metrics }
+    ensures { result ≡ advance_of source.now.face.now.metrics source.now.ppem source.now.fit number step }
+{
+    if is_bounded(source.fit) {
+        return step;
+    }
+    advance(source.face.metrics(), source.ppem, number)
+}
+
+/// The report of a glyph with this place, and its rows if it has any. Error: memory ran out.
+fn placed(
+    source: &FitterSource,
+    number: u16,
+    place: InkPlace,
+    edged: EdgedOutline,
+) -> Result<DrawnGlyph, AllocError>
+    requires known { number < glyphs_of source.now.face.now.metrics }
+    requires edged { EdgedFits edged }
+    ensures number { IfOk result (λ d. d.number ≡ number) }
+    ensures drawn { IfOk result (λ d. (s : Fitter) → IsSourceOf source.now s → place ≡ place_of (glyph_ink s number) → IsEdgedBy s number edged → IsDrawn source.now.fit s d) }
+    ensures fits { IfOk result DrawnFits }
+{
+    if is_large(place) {
+        return Ok(rowless(number, Told::Large));
+    }
+    let told = Told::Made(MadeBitmap {
+        advance: advance_of(source, number, edged.step),
+        place,
+        unfitted: edged.unfitted,
+    });
+    if place.width == 0 {
+        return Ok(rowless(number, told));
+    }
+    let bitmap = bitmap_of(source.alloc, place, edged)?;
+    Ok(DrawnGlyph {
+        number,
+        told,
+        bitmap: Some(bitmap),
+    })
+}
+
+/// A glyph that is drawn by its edges. Error: memory ran out.
+fn drawn(source: &FitterSource, number: u16, edged: EdgedOutline) -> Result<DrawnGlyph, AllocError>
+    requires known { number < glyphs_of source.now.face.now.metrics }
+    requires edged { EdgedFits edged }
+    ensures number { IfOk result (λ d. d.number ≡ number) }
+    ensures drawn { IfOk result (λ d. (s : Fitter) → IsSourceOf source.now s → IsEdgedBy s number edged → IsDrawn source.now.fit s d) }
+    ensures fits { IfOk result DrawnFits }
+{
+    let place = place_of(edged.ink(source.alloc)?);
+    placed(source, number, place, edged)
+}
+
+/// Distinct glyphs, drawn in order; None where they have more chords or crossings than the limits. As soon as they have
+/// more, no further edge is made. Error: memory ran out.
+pub(crate) fn draw_glyphs(
+    source: &FitterSource,
+    tried: Vec<TriedGlyph>,
+    limits: LineLimits,
+) -> Result<Option<Vec<DrawnGlyph>>, AllocError>
+    requires known { All (λ t. t.number < glyphs_of source.now.face.now.metrics) tried.items }
+    requires ruled { All (λ t. IsRuledBody t.body) tried.items }
+    ensures numbers { IfOk result (λ o. IfSome o (λ v. map (λ d. d.number) v.items ≡ map (λ t. t.number) tried.items)) }
+    ensures drawn { IfOk result (λ o. IfSome o (λ v. (maker : ℕ → Fitter) → ((n : ℕ) → IsSourceOf source.now (maker n)) → AreTriedBy maker tried.items → All (λ d. IsDrawn source.now.fit (maker d.number) d) v.items)) }
+    ensures fits { IfOk result (λ o. IfSome o (λ v. All DrawnFits v.items)) }
+    ensures few { IfOk result (λ o. IfSome o (λ _. (tried_chords tried.items ≤ limits.chords) × (tried_crossings tried.items ≤ limits.crossings))) }
+    ensures many { IfOk result (λ o. IfNone o ((limits.chords < tried_chords tried.items) ⊎ (limits.crossings < tried_crossings tried.items))) }
+{
+    let mut left = limits;
+    let mut made = Vec::with_capacity(source.alloc, tried.len())?;
+    for one in tried {
+        let TriedGlyph { number, body } = one;
+        match body {
+            TriedBody::Refused(fault) => made.push(rowless(number, Told::Broken(fault)))?,
+            TriedBody::Ruled(ruled) => {
+                let edged = edged(source.alloc, ruled)?;
+                let Some(rest) = rest_of(left, edged.chords, edged.crossings()) else {
+                    return Ok(None);
+                };
+                left = rest;
+                made.push(drawn(source, number, edged)?)?;
+            }
+        }
+    }
+    Ok(Some(made))
+}
+
+impl DrawnGlyph {
+    /// The bytes of its rows.
+    pub(crate) fn bytes(&self) -> usize
+        requires { DrawnFits self.now }
+        ensures exact { result ≡ told_bytes self.now.told }
+        ensures small { result ≤ 2 ^ 23 }
+    {
+        match &self.bitmap {
+            Some(bitmap) => place_bytes(bitmap.place),
+            None => 0,
+        }
+    }
+
+    /// The number of the edges that its rows are made of.
+    pub(crate) fn edges(&self) -> usize
+        ensures { result ≡ drawn_edges self.now }
+    {
+        match &self.bitmap {
+            Some(bitmap) => bitmap.edges(),
+            None => 0,
+        }
+    }
+
+    /// Makes all its rows, the highest first, and overwrites `rows`. No memory is taken.
+    pub(crate) fn write(&mut self, sweep: &mut Sweep, rows: &mut [u8])
+        requires fits { DrawnFits self.old }
+        requires room { drawn_edges self.old ≤ sweep.old.room }
+        requires len { length rows.old ≡ told_bytes self.old.told }
+        ensures rows { rows.new ≡ drawn_rows self.old }
+        ensures room { sweep.new.room ≡ sweep.old.room }
+    {
+        if let Some(bitmap) = &mut self.bitmap {
+            bitmap.write(sweep, rows);
+        }
+    }
+}

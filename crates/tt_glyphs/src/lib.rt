@@ -1,0 +1,36 @@
+//! Bitmaps of glyphs by their numbers.
+//!
+//! ```text
+//! request.rt   the count of a list, and the work that its glyphs may take
+//! known.rt     the numbers that are glyphs of the font
+//! ruled.rt     an outline with its rules, or the fault that refuses it
+//! outlines.rt  the outlines of the distinct glyphs
+//! edged.rt     the edges of an outline, their crossings and the box of their ink
+//! placing.rt   the place of a glyph by that box, and the bytes of its rows
+//! bitmap.rt    the edges and dropouts of a glyph's rows
+//! drawn.rt     the rows of a glyph
+//! drawing.rt   the distinct glyphs, drawn within the limits of a request
+//! entries.rt   an entry for each place of the list
+//! list.rt      the bitmaps of a list
+//! ```
+#![tactic(auto)]
+
+mod bitmap;
+mod drawing;
+mod drawn;
+mod edged;
+mod entries;
+mod known;
+mod list;
+mod outlines;
+mod place;
+mod placing;
+mod request;
+mod ruled;
+mod told;
+
+pub use list::BitmapList;
+pub use place::InkPlace;
+pub use told::{GlyphEntry, MadeBitmap, Told};
+pub use tt_core::DrawFault;
+pub use tt_face::Face;

@@ -1,0 +1,170 @@
+//! The layout of a text without its ink: the size of its picture, its distance from a next line, and its pens.
+
+ghost use Rattle.std.specs.Prelude.{◌≡◌, ◌≤◌, true, false, length, map, chars, sum, IfErr, IfOk};
+ghost use Rattle.tt_core.specs.Limits.{margin_limit, text_limit, width_limit};
+ghost use Rattle.tt_core.specs.Outcomes.{GivesUnless, draw_font_fault};
+ghost use Rattle.tt_cmap.specs.Maps.{units_by};
+ghost use Rattle.tt_line.specs.Layout.{text_glyphs};
+ghost use Rattle.tt_strike.specs.Defects.{IsLineDefect, TellsDefects};
+ghost use Rattle.tt_strike.specs.Layouts.{IsNotMemory, layout_by, layout_outcome, pens_at, pens_outcome, size_outcome, steps_outcome};
+ghost use Rattle.tt_strike.specs.Refusals.{refusal};
+ghost use Rattle.tt_strike.specs.Strikes.{job_by};
+ghost use Rattle.tt_strike.specs.Work.{is_bounded};
+
+use crate::job::{test_margin, test_text};
+use crate::sized::SizedFace;
+use crate::stepping::OutlinedText;
+use crate::work::is_bounded;
+use std::alloc::{AllocError, Global};
+use tt_cmap::{CharacterMap, TextUnit};
+use tt_core::DrawFault;
+use tt_line::{LineSize, advance_steps, size_by_advances, size_by_steps};
+use tt_picture::Cache;
+
+/// The layout of a text, in pixels.
+#[derive(Clone, Copy, Debug, PartialEq, Eq)]
+pub struct Layout {
+    /// The size of the picture, and its distance from a next line.
+    pub size: LineSize,
+    /// The picture's rows above the base line.
+    pub baseline: i64,
+    pub characters: usize,
+}
+
+/// The pen of a unit of a text.
+#[derive(Clone, Copy, Debug, PartialEq, Eq)]
+pub struct Pen {
+    pub unit: TextUnit,
+    pub glyph: u16,
+    /// The columns to the next pen.
+    pub advance: u32,
+    /// The picture's column at the glyph's origin, margin included.
+    pub pen: u32,
+}
+
+/// The layout of a text that has this size.
+fn layout_by(size: LineSize, margin: u32, text: &str) -> Layout
+    ensures { result ≡ layout_by size margin text.now }
+{
+    Layout {
+        size,
+        baseline: i64::from(size.rise) + i64::from(margin),
+        characters: text.chars().count(),
+    }
+}
+
+/// The pens of a text by the steps of its units, from a first pen on. Error: memory ran out.
+fn pens_at(
+    alloc: Global,
+    cmap: &CharacterMap,
+    text: &str,
+    steps: &[(u16, u32)],
+    first: u32,
+) -> Result<Vec<Pen>, AllocError>
+    requires first { first ≤ margin_limit }
+    requires glyphs { map (λ g. g.0) steps.now ≡ text_glyphs cmap.now text.now }
+    requires fits { sum (map (λ g. g.1) steps.now) ≤ width_limit }
+    ensures { IfOk result (λ ps. ps.items ≡ pens_at (units_by cmap.now (chars text.now)) steps.now first) }
+{
+    let mut pens = Vec::with_capacity(alloc, steps.len())?;
+    let mut pen = first;
+    let mut i = 0;
+    for unit in cmap.units(text) {
+        let (glyph, advance) = steps[i];
+        pens.push(Pen {
+            unit,
+            glyph,
+            advance,
+            pen,
+        })?;
+        pen += advance;
+        i += 1;
+    }
+    Ok(pens)
+}
+
+impl<'f, 'a> SizedFace<'f, 'a> {
+    /// The glyph of each unit of a text with its step, by the glyphs, which are made; only where work is bounded.
+    /// Errors, the first of: those of loca and glyf, of the programs; WorkLarge of the points; those of the glyphs.
+    /// Memory may come at any allocation.
+    fn made_steps(&mut self, text: &str) -> Result<Vec<(u16, u32)>, DrawFault>
+        requires text { length (chars text.now) ≤ text_limit }
+        requires bounded { is_bounded self.old.fit ≡ true }
+        ensures exact { GivesUnless refusal (λ v. v.items) result (steps_outcome self.old.face (job_by self.old text.now 0)) }
+        ensures glyphs { IfOk result (λ v. map (λ g. g.0) v.items ≡ text_glyphs self.old.face.cmap text.now) }
+        ensures few { IfOk result (λ v. length v.items ≤ text_limit) }
+        ensures defects { TellsDefects draw_font_fault (IsLineDefect self.old.face (job_by self.old text.now 0) (text_glyphs self.old.face.cmap text.now)) result }
+        ensures same { self.new ≡ self.old }
+    {
+        let source = self.source;
+        let mut fitter = self.maker.take(&source)?;
+        let begun = fitter.work();
+        let outlined = source.outlined(&mut fitter, &mut self.known, text, &Cache::absent())?;
+        self.maker.give_back(fitter, begun);
+        let OutlinedText { steps, .. } = outlined;
+        Ok(steps)
+    }
+
+    /// The glyph of each unit of a text with its step. Errors: those of `made_steps` where work is bounded; Memory.
+    fn steps(&mut self, text: &str) -> Result<Vec<(u16, u32)>, DrawFault>
+        requires text { length (chars text.now) ≤ text_limit }
+        ensures exact { GivesUnless refusal (λ v. v.items) result (steps_outcome self.old.face (job_by self.old text.now 0)) }
+        ensures glyphs { IfOk result (λ v. map (λ g. g.0) v.items ≡ text_glyphs self.old.face.cmap text.now) }
+        ensures few { IfOk result (λ v. length v.items ≤ text_limit) }
+        ensures defects { TellsDefects draw_font_fault (IsLineDefect self.old.face (job_by self.old text.now 0) (text_glyphs self.old.face.cmap text.now)) result }
+        ensures same { self.new ≡ self.old }
+    {
+        if is_bounded(self.fit()) {
+            return self.made_steps(text);
+        }
+        Ok(advance_steps(self.source.alloc, &mut self.known, text)?)
+    }
+
+    /// The size of a text's line. Without a bound of work no memory is taken, and no glyph is looked at. Errors: those
+    /// of `made_steps` where work is bounded; EmptyPicture, PictureLarge.
+    fn line_size(&mut self, text: &str, margin: u32) -> Result<LineSize, DrawFault>
+        requires margin { margin ≤ margin_limit }
+        requires text { length (chars text.now) ≤ text_limit }
+        ensures exact { GivesUnless refusal (λ z. z) result (size_outcome self.old.face (job_by self.old text.now margin)) }
+        ensures memory { is_bounded self.old.fit ≡ false → IfErr result IsNotMemory }
+        ensures same { self.new ≡ self.old }
+    {
+        if is_bounded(self.fit()) {
+            let steps = self.made_steps(text)?;
+            let metrics = self.source.face.metrics();
+            return Ok(size_by_steps(metrics, &steps, self.source.ppem, margin)?);
+        }
+        Ok(size_by_advances(&mut self.known, text, margin)?)
+    }
+
+    /// The layout of a text of at most 4,096 characters with a margin of 0 to 64 pixels: the size of the picture that
+    /// does not grow, its base line, and its distance from a next line. Errors, the first of: MarginRange, TextLong;
+    /// with `Fit::Best` those of loca and glyf, of the programs, WorkLarge of the points, and those of the glyphs;
+    /// EmptyPicture, PictureLarge. Only with `Fit::Best` may Memory come.
+    #[tactic(auto, unfolding(crate::specs::Layouts::layout_outcome))]
+    pub fn layout(&mut self, text: &str, margin: u32) -> Result<Layout, DrawFault>
+        ensures exact { GivesUnless refusal (λ l. l) result (layout_outcome self.old.face (job_by self.old text.now margin)) }
+        ensures memory { is_bounded self.old.fit ≡ false → IfErr result IsNotMemory }
+        ensures same { self.new ≡ self.old }
+    {
+        test_margin(margin)?;
+        test_text(text)?;
+        let size = self.line_size(text, margin)?;
+        Ok(layout_by(size, margin, text))
+    }
+
+    /// The pens of a text of at most 4,096 characters with a margin of 0 to 64 pixels, one for each unit. Errors: those
+    /// of `layout`, in the same order; Memory.
+    #[tactic(auto, unfolding(crate::specs::Layouts::pens_outcome))]
+    pub fn pens(&mut self, text: &str, margin: u32) -> Result<Vec<Pen>, DrawFault>
+        ensures exact { GivesUnless refusal (λ ps. ps.items) result (pens_outcome self.old.face (job_by self.old text.now margin)) }
+        ensures same { self.new ≡ self.old }
+    {
+        test_margin(margin)?;
+        test_text(text)?;
+        let steps = self.steps(text)?;
+        let face = self.source.face;
+        size_by_steps(face.metrics(), &steps, self.source.ppem, margin)?;
+        Ok(pens_at(self.source.alloc, face.cmap(), text, &steps, margin)?)
+    }
+}
