@@ -1,7 +1,9 @@
 -- Which glyphs are unfitted, and their outlines.
 use Rattle.std.proofs.Common.{◌≡◌, ◌≢◌, ◌∙◌, sym, ap, subst, ℕ, true, false, Option, Some, None, Result, Ok, Err, OnOk, refl}
 use Rattle.tt_core.specs.Faults.{Fault}
-use Rattle.tt_core.specs.Outcomes.{◌>>=◌}
+use Rattle.tt_core.specs.declared.font_fault.FontFault.{FontFault}
+use Rattle.tt_core.specs.declared.font_fault.FontFault.TheVariants as font
+use Rattle.tt_core.specs.Outcomes.{◌>>=◌, IfTold, font_fault}
 use Rattle.tt_exec.specs.Work.{Worked, enough, spent}
 use Rattle.tt_glyf.specs.Loca.{Glyf}
 use Rattle.tt_metrics.specs.Metrics.{Metrics}
@@ -107,6 +109,11 @@ after-is s g left is = ap (λ w. record s { work = w }) is
 pub on-ok : {X E : Type 0} (result : Result X E) (Q : Type 0) → Q → OnOk result Q
 on-ok (Ok x) Q holds = holds
 on-ok (Err e) Q holds = tt
+
+pub on-told : {X : Type 0} (result : Result X FontFault) (Q : Type 0) → Q → IfTold font_fault result (λ f. Q)
+on-told (Ok x) Q holds = tt
+on-told (Err (font.Font f)) Q holds = holds
+on-told (Err font.Memory) Q holds = tt
 
 -- the fitter with this source of dropout rules
 abbrev filled : DropoutsBy → Fitter → Fitter

@@ -17,3 +17,4 @@ mod Plain
 pub mod Standing
 pub mod Unbounded
 pub mod WorkApart
+mod Refusing

@@ -1,7 +1,7 @@
 use Rattle.std.proofs.Common.{◌≡◌, ◌∙◌, sym, arith}
 use Rattle.tt_fit.specs.Fallback.{never, where_refused, everywhere}
 use Rattle.tt_fit_outline.specs.Views.{hinting_view, outline_of}
-use Rattle.tt_fit.proofs.Falling.{unfitted-everywhere, left-where-never, left-where-everywhere, left-where-enough, made-by-programs, pays-too, on-ok}
+use Rattle.tt_fit.proofs.Falling.{unfitted-everywhere, left-where-never, left-where-everywhere, left-where-enough, made-by-programs, pays-too, on-ok, on-told}
 use Rattle.tt_fit.proofs.fitting.Fitter.fitted_within.Goals as goal
 
 pub returns-in-Everywhere-clause-unfitted : goal.returns-in-Everywhere-clause-unfitted
@@ -41,3 +41,16 @@ returns-in-Ok-clause-left c =
     let pays = pays-too s c.args.g (hinting_view c.self.inside.hinting) _ _ hinting c.requires.work
     (rw (← levels) at c.in-Ok.ensures.work) in
     sym (left-where-enough s c.args.g _ refused_so pays)
+
+pub returns-in-Never-clause-refused : goal.returns-in-Never-clause-refused
+returns-in-Never-clause-refused c =
+    let never_so : c.args.self.now.fallback ≡ never = grind (arith, c.self.view_is, c.in-Never.is) in
+    on-told c.marked.result _
+    (c.marked.ensures.left ∙ c.requires.work ∙ sym (left-where-never c.args.self.now c.args.g never_so))
+
+pub returns-in-Everywhere-clause-refused : goal.returns-in-Everywhere-clause-refused
+returns-in-Everywhere-clause-refused c =
+    let fault = c.in-Everywhere.fault in
+    let everywhere_so : c.args.self.now.fallback ≡ everywhere fault = grind (arith, c.self.view_is, c.in-Everywhere.is) in
+    on-told c.marked-in-Everywhere.result _
+    (c.marked-in-Everywhere.ensures.left ∙ c.requires.work ∙ sym (left-where-everywhere c.args.self.now c.args.g fault everywhere_so))
