@@ -83,6 +83,6 @@ pens_outcome face a =
 abbrev an_a : TextUnit
 an_a = record { character = 65; selector = None }
 
-two_pens : map (λ (p : Pen). (p.pen, p.advance)) (pens_at (an_a ∷ an_a ∷ []) ((1, 4) ∷ (2, 3) ∷ []) 1)
+two_pens : map {B = ℕ × ℕ} (λ (p : Pen). (p.pen, p.advance)) (pens_at (an_a ∷ an_a ∷ []) ((1, 4) ∷ (2, 3) ∷ []) 1)
     ≡ (1, 4) ∷ (5, 3) ∷ []
 two_pens = refl
