@@ -2,6 +2,7 @@
 import math
 import os
 import resource
+import struct
 import subprocess
 import sys
 from dataclasses import dataclass
@@ -62,10 +63,22 @@ class Bench:
                               check=True, capture_output=True, text=True)
         self.size = int(made.stdout)
 
+    def without_height(self):
+        """Writes the font once more, with lines of no height, and returns its path."""
+        font, flat = bytearray(self.font.read_bytes()), self.font.with_name("flat")
+        for record in range(12, 12 + 16 * struct.unpack_from(">H", font, 4)[0], 16):
+            if font[record : record + 4] == b"hhea":
+                at = struct.unpack_from(">I", font, record + 8)[0] + 4
+                font[at : at + 6] = bytes(6)
+        flat.write_bytes(font)
+        return flat
+
     def run(self, command, lines, most_seconds=600):
         """Runs a job with the font; a job that needs more processor time is ended."""
         shape = [] if command[0] in ("map", "faces") else ["--fit", self.fit, "--size", str(self.size)]
-        words = [self.program, *command, *shape, "--", str(self.font)]
+        # Lines of one character, which are aligned: as many as a text may have, a row apart.
+        one_each = "--align" in command
+        words = [self.program, *command, *shape, "--", str(self.without_height() if one_each else self.font)]
         source = os.devnull
         if command[0] == "faces":
             pass
@@ -75,8 +88,7 @@ class Bench:
             source.write_text("\n".join(given), encoding="utf-8")
         else:
             text = self.text.read_text(encoding="utf-8")
-            # Lines of one character, which are aligned: as many as a text may have.
-            words.append("\n".join(text)[:4096] if "--align" in command else text)
+            words.append("\n".join(text)[:4096] if one_each else text)
 
         def limit():
             resource.setrlimit(resource.RLIMIT_CPU, (math.ceil(most_seconds), math.ceil(most_seconds) + 1))
