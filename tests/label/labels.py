@@ -1,4 +1,5 @@
 """The fonts and rows of rows.txt, and a place where `label` is asked."""
+import itertools
 import os
 import re
 import subprocess
@@ -50,17 +51,17 @@ class Row(NamedTuple):
     errors: object
 
 
-def lines():
-    """Yields the lines of rows.txt without its comment."""
-    for line in (HERE / "rows.txt").read_text(encoding="utf-8").splitlines():
+def lines(file=HERE / "rows.txt"):
+    """Yields the lines of rows.txt, or of another file, without its comment."""
+    for line in file.read_text(encoding="utf-8").splitlines():
         if not line.startswith("#"):
             yield line
 
 
-def fonts():
-    """Returns the fonts of rows.txt by their names."""
+def fonts(*files):
+    """Returns the fonts of rows.txt, and of other files, by their names."""
     made = {}
-    for line in lines():
+    for line in itertools.chain(lines(), *map(lines, files)):
         if line.startswith("font "):
             name, words = line[5:].split("|")
             base, *others = words.split(" ")

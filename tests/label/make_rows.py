@@ -108,4 +108,5 @@ def main():
         print(line_of(row))
 
 
-main()
+if __name__ == "__main__":
+    main()
