@@ -40,9 +40,14 @@ def printed(asked, words, size, margin, fit):
         wanted = without_ink(with_ink[1], margin, size)
         return got, parts.differing(measure=((0, wanted), got[:2]))
     by_glyphs = OF_GLYPHS.match(with_ink[2]) or fit == "best" and b" 65 " in with_ink[2]
-    if by_glyphs and got[0] == 0 or fit == "best" and got == with_ink:
+    if fit == "best" and (got == with_ink or by_glyphs and got[0] == 0):
         return got, []
-    return got, parts.differing(refusal=(with_ink if not by_glyphs else "a measure", got))
+    if not by_glyphs:
+        return got, parts.differing(refusal=(with_ink, got))
+    # Without programs the advances are the same.
+    unfitted = asked.run(["measure", *words[: words.index("--fit")], "--fit", "none", *words[words.index("--fit") + 2 :]])
+    wanted = got[1] if unfitted[0] else without_ink(unfitted[1], margin, size)
+    return got, parts.differing(measure=((0, wanted), got[:2]))
 
 
 def called(asked, font, text, job, got):
