@@ -4,6 +4,7 @@ import platform
 import re
 import shlex
 import shutil
+import struct
 import sys
 from pathlib import Path
 
@@ -39,7 +40,7 @@ int main(int words, char **word) {
 
 def commands(text):
     """Returns the commands of a document: the lines of its code that begin one, and its spans that do."""
-    begins = r"\(?(?:\./|\.\./|apt-get |printf |ulimit |man |python3 |cc |pictures/)"
+    begins = r"\(?(?:\./|\.\./|apt-get |printf |ulimit |man |python3 |cc |pictures/|bdf2psf |setfont )"
     lines = [line for code in markdown.code_of(text) for line in code.replace("\\\n", " ").split("\n")]
     spans = [it for block in markdown.blocks(text) if block.kind != "code" for it in markdown.spans(block.text)]
     return [it for it in lines + spans if re.match(begins, it) and " " in it]
@@ -120,6 +121,27 @@ def page(room, command):
     return [] if not ran.status and b"TT_RENDER(1)" in ran.stdout else [f"status {ran.status}", *ran.said]
 
 
+def bitmap_font(room, command):
+    """The file of bitmaps has as many characters as the file says, and all are equally wide."""
+    ran, name = room.run(command), re.search(r">\s*([\w.]+)$", command)[1]
+    text = room.read(name).decode()
+    count = re.search(r"^CHARS (\d+)$", text, re.M)
+    right = count and int(count[1]) == text.count("\nSTARTCHAR ") > 300 and '\nSPACING "M"\n' in text
+    return ran.faults() or ([] if right else [f"{name} is no font of equally wide characters"])
+
+
+def console_font(room, command):
+    """The console font has the cells of the file of bitmaps. Perl says of ink above the cell that it is cut."""
+    ran = room.run(command)
+    ran.said = [it for it in ran.said if not it.startswith("Negative repeat count does nothing")]
+    source, made = re.search(r"--fb (\S+)", command)[1], command.split()[-1]
+    bdf = room.read(source).decode()
+    names = "FONT_ASCENT", "FONT_DESCENT", "AVERAGE_WIDTH"
+    ascent, descent, width = (int(re.search(rf"^{it} (\d+)$", bdf, re.M)[1]) for it in names)
+    wanted, got = (ascent + descent, width // 10), struct.unpack_from("<8I", room.read(made))[6:]
+    return ran.faults() or ([] if got == wanted else [f"{made} has cells of {got}, and not {wanted}"])
+
+
 def succeeds(room, command):
     """Any other command has to succeed."""
     return room.run(command).faults()
@@ -131,6 +153,9 @@ KINDS = (
     (r"\./tt_render label .*--align", one_picture, "cc"),
     (r"\./tt_render label .*>", first_picture, "cc"),
     (r"printf .*--lines", two_lines, "cc"),
+    (r"\./tt_render bdf ", bitmap_font, "cc"),
+    (r"bdf2psf ", console_font, "bdf2psf"),
+    (r"setfont ", succeeds, "setfont"),
     (r"\(ulimit", within_limits, "cc"),
     (r"\./install ", installs, "cc"),
     (r"man -l", page, "man"),
@@ -144,6 +169,8 @@ def lacks(command, program):
         return f"{program} is not here"
     if program == "apt-get" and os.geteuid():
         return "it needs root"
+    if program == "setfont":
+        return "it needs a console"
     if FONTS in command and not os.path.exists(FONT):
         return f"{FONT} is not here"
     return ""
@@ -212,7 +239,7 @@ def usage(room):
     """Tries the commands in the tables of README.md. Standard input is empty."""
     for block in markdown.blocks(README):
         for command in markdown.spans(markdown.cells(block.text)[0])[:1] if block.kind == "row" else []:
-            if re.match(r"(label|draw|measure|map|faces) ", command):
+            if re.match(r"(label|draw|measure|map|faces|bdf) ", command):
                 fit = " --fit best" if re.match(r"draw|measure", command) else ""
                 try_command(room, f"./tt_render {own(command)}{fit}", ((r"", succeeds, "cc"),))
 
