@@ -15,7 +15,7 @@ FIRST = "real_fonts"
 
 # Scripts by their seconds on a quiet core: the longest begins first, so that none is left over at the end. A script
 # that is not in the list comes behind these.
-LONGEST_FIRST = """fuzz characters lines c work launcher damaged faces label measure dist memory devices dropouts
+LONGEST_FIRST = """fuzz characters lines c work launcher damaged faces glyph_sets label measure dist memory devices dropouts
   lines_beside rows fallback hinted readme prove pixels command_line machine outlines glyphs real_lines best
   package wrong_bodies""".split()
 
