@@ -1,8 +1,9 @@
 -- The steps of a text and what is made of them, its size and its pens: where each stops, and what each is.
-use Rattle.std.proofs.Common.{◌≡◌, ◌∙◌, refl, sym, ap, ℕ, ◌+◌, ◌*◌, ◌≤◌, Bool, true, false, ◌||◌, ◌==◌, if◌then◌else◌, nat_lt, pos, int_lt, List, [], ◌∷◌, chars, map, sum, Result, Ok, Err, arith}
+use Rattle.std.proofs.Common.{◌≡◌, ◌∙◌, refl, sym, ap, ℕ, ◌+◌, ◌*◌, ◌≤◌, Bool, true, false, ◌||◌, ◌==◌, if◌then◌else◌, nat_lt, ℤ, pos, ◌+ℤ◌, int_lt, unsigned_abs, List, [], ◌∷◌, chars, map, sum, Result, Ok, Err, arith}
 use Rattle.std.specs.Prelude.{IfSome}
+use Rattle.std.proofs.lemmas.Int.{ints}
 use Rattle.tt_cmap.specs.Maps.{units_by}
-use Rattle.tt_core.specs.Chains.{came-through}
+use Rattle.tt_core.specs.Chains.{came-through, passed-on}
 use Rattle.tt_core.specs.declared.draw_fault.DrawFault.{DrawFault}
 use Rattle.tt_core.specs.declared.draw_fault.DrawFault.TheVariants as draw
 use Rattle.tt_core.specs.declared.fault.JobFault.{JobFault}
@@ -153,3 +154,22 @@ pub steps_fit : (m : Metrics) (ppem margin n : ℕ) (z : LineSize) → line_size
 steps_fit m ppem margin n z was fits =
     let wide : z.width ≡ n + 2 * margin = ap (λ (z : LineSize). z.width) (sized_is m ppem margin n z was) in
     omega (arith, wide, fits)
+
+-- and its height is not below 1
+high_enough : (empty large : Bool) (e f : PictureExtent) → ◌≡◌ {A = Result PictureExtent JobFault}
+    (if empty || int_lt e.height (pos 1) then Err job_of.EmptyPicture else (if large then Err job_of.PictureLarge else Ok e)) (Ok f)
+    → int_lt e.height (pos 1) ≡ false
+high_enough true large e f was = absurd cc
+high_enough false large e f was = (passed-on (int_lt e.height (pos 1)) job_of.EmptyPicture _ f was).0
+
+whole : (h : ℤ) → int_lt h (pos 1) ≡ false → pos (unsigned_abs h) ≡ h
+whole h is = grind (arith, ints)
+
+pub positive_height : (m : Metrics) (ppem margin n : ℕ) (z : LineSize) → line_size m ppem margin n ≡ Ok z
+    → pos z.height ≡ (z.rise +ℤ z.depth) +ℤ pos (2 * margin)
+unfolding within_limits
+positive_height m ppem margin n z was =
+    let e = extent_by_sum m ppem margin n in
+    let by_extent = came-through (within_limits e) _ z was in
+    let high = high_enough (e.width == 0) (nat_lt width_limit e.width || int_lt (pos height_limit) e.height) e by_extent.value by_extent.first in
+    rw (sized_is m ppem margin n z was) (whole e.height high)

@@ -30,3 +30,5 @@ mod UnhintedSteps
 mod FacesAlike
 mod Layouts
 mod Pens
+mod LayoutLaws
+mod MeasuredLayouts
