@@ -141,28 +141,28 @@ laid_out_as_measured lead face a m was =
     let of_measure : length m.characters ≡ length l.glyphs =
     ap (λ (m : Measure). length m.characters) is.is ∙ length-map l.glyphs _ in
     let each : (i : ℕ) → i < length ps → IsMeasuredPen (character_in m i) (pen_in ps i) = λ i below.
-        let here : i < length gs = omega (arith, below, fewer) in
-        let on_line : i < length l.glyphs = omega (arith, here, of_line) in
-        let at = (character_is face a m is i (omega (arith, on_line, of_measure))).1 in
-        let g = get_or l.glyphs i (0, 0) in
-        let step = line_step face a s l in
-        let tells = pens_tell us gs a.margin i below in
-        let number : get_or ns i 0 ≡ g.0 =
-        ap (λ (ks : List ℕ). get_or ks i 0) (sym pens.numbers) ∙ get_or-map (λ (g : ℕ × ℕ). g.0) l.glyphs i (0, 0) 0 on_line in
-        let own : get_or ns i 0 ≡ (get_or gs i (0, 0)).0 =
-        ap (λ (ks : List ℕ). get_or ks i 0) (sym glyphs) ∙ get_or-map (λ (g : ℕ × ℕ). g.0) gs i (0, 0) 0 here in
-        let within : i < length ns = omega (arith, here, ap length (sym glyphs) ∙ length-map gs (λ (g : ℕ × ℕ). g.0)) in
-        let advance : (get_or gs i (0, 0)).1 ≡ step g.0 =
-        sym (get_or-map (λ (g : ℕ × ℕ). g.1) gs i (0, 0) 0 here) ∙ ap (λ (ks : List ℕ). get_or ks i 0) told
-        ∙ get_or-map step ns i 0 0 within ∙ ap step number in
-        let column = pens_add us gs a.margin i below
-        ∙ ap (λ (ks : List ℕ). a.margin + pen_at ks i) (all_advances us gs a.margin many) in
-        let led : (pen_in ps i).pen ≡ a.margin + g.1 = column ∙ ap (λ (n : ℕ). a.margin + n) (sym (pens.pens i on_line)) in
-        rw at (record {
-          glyph = tells.0 ∙ sym own ∙ number;
-          pen = column_as (pen_in ps i).pen g.1 a.margin led;
-          advance = tells.1 ∙ advance;
-        }) in
+    let here : i < length gs = omega (arith, below, fewer) in
+    let on_line : i < length l.glyphs = omega (arith, here, of_line) in
+    let at = (character_is face a m is i (omega (arith, on_line, of_measure))).1 in
+    let g = get_or l.glyphs i (0, 0) in
+    let step = line_step face a s l in
+    let tells = pens_tell us gs a.margin i below in
+    let number : get_or ns i 0 ≡ g.0 =
+    ap (λ (ks : List ℕ). get_or ks i 0) (sym pens.numbers) ∙ get_or-map (λ (g : ℕ × ℕ). g.0) l.glyphs i (0, 0) 0 on_line in
+    let own : get_or ns i 0 ≡ (get_or gs i (0, 0)).0 =
+    ap (λ (ks : List ℕ). get_or ks i 0) (sym glyphs) ∙ get_or-map (λ (g : ℕ × ℕ). g.0) gs i (0, 0) 0 here in
+    let within : i < length ns = omega (arith, here, ap length (sym glyphs) ∙ length-map gs (λ (g : ℕ × ℕ). g.0)) in
+    let advance : (get_or gs i (0, 0)).1 ≡ step g.0 =
+    sym (get_or-map (λ (g : ℕ × ℕ). g.1) gs i (0, 0) 0 here) ∙ ap (λ (ks : List ℕ). get_or ks i 0) told
+    ∙ get_or-map step ns i 0 0 within ∙ ap step number in
+    let column = pens_add us gs a.margin i below
+    ∙ ap (λ (ks : List ℕ). a.margin + pen_at ks i) (all_advances us gs a.margin many) in
+    let led : (pen_in ps i).pen ≡ a.margin + g.1 = column ∙ ap (λ (n : ℕ). a.margin + n) (sym (pens.pens i on_line)) in
+    rw at (record {
+      glyph = tells.0 ∙ sym own ∙ number;
+      pen = column_as (pen_in ps i).pen g.1 a.margin led;
+      advance = tells.1 ∙ advance;
+    }) in
     let sized = size_is face a gs passes by_steps.first ∙ rw size.1 refl in (
       layout_by z a.margin a.text,
       ps,
