@@ -21,7 +21,7 @@ use Rattle.tt_strike.specs.Layouts.{layout_by, layout_outcome, pens_at, pens_out
 use Rattle.tt_strike.specs.Picture.{outlines_tested, setting_in}
 use Rattle.tt_strike.specs.Refusals.{Refused, as_font, as_job}
 use Rattle.tt_strike.specs.Work.{is_bounded}
-use Rattle.tt_strike.proofs.Layouts.{positive_height, sized_is, steps_by_advances}
+use Rattle.tt_strike.proofs.TextSteps.{positive_height, sized_is, steps_by_advances}
 use Rattle.tt_strike.proofs.Placed.{of-job}
 
 pub no_glyph_is_read : NoGlyphIsRead

@@ -25,7 +25,7 @@ use Rattle.tt_strike.specs.Refusals.{Refused, as_font, as_job}
 use Rattle.tt_strike.specs.StepLaws.{character_in}
 use Rattle.tt_strike.specs.Work.{is_bounded, line_fitter}
 use Rattle.tt_strike.proofs.LayoutLaws.{all_advances, glyphs_of_steps, ok_same, pens_add, units_as_steps}
-use Rattle.tt_strike.proofs.Layouts.{pens_are, size_is, steps_by_advances, steps_of}
+use Rattle.tt_strike.proofs.TextSteps.{pens_are, size_is, steps_by_advances, steps_of}
 use Rattle.tt_strike.proofs.MeasuredSteps as steps
 use Rattle.tt_strike.proofs.MeasuredSteps.{advance_steps, character_is, is_measured, own_steps, same_setting}
 use Rattle.tt_strike.proofs.Placed.{of-font, of-job}

@@ -12,7 +12,8 @@ use Rattle.tt_core.specs.declared.font_fault.FontFault.{FontFault}
 use Rattle.tt_core.specs.declared.font_fault.FontFault.TheVariants as font
 use Rattle.tt_core.specs.Faults.{Fault}
 use Rattle.tt_core.specs.Limits.{height_limit, width_limit}
-use Rattle.tt_core.specs.Outcomes.{FontGives, draw_fault_of_font}
+use Rattle.tt_core.specs.Directory.{HasNo}
+use Rattle.tt_core.specs.Outcomes.{FontGives, draw_fault_of_font, each}
 use Rattle.tt_face.specs.Faces.{Face}
 use Rattle.tt_fit.specs.Fitting.{Fitter}
 use Rattle.tt_fit_outline.specs.Outline.{Outline}
@@ -21,12 +22,17 @@ use Rattle.tt_line.specs.declared.measured.LineSize.{LineSize}
 use Rattle.tt_line.specs.Layout.{advance_in_pixels, advances_of, text_glyphs, within_limits}
 use Rattle.tt_line.specs.Sizes.{extent_by_sum, line_size, size_of}
 use Rattle.tt_metrics.specs.Metrics.{Metrics}
+use Rattle.tt_picture.specs.Pixels.{Shape}
+use Rattle.tt_picture.specs.Shapes.{glyph_shape}
+use Rattle.tt_strike.specs.Defects.{IsLineDefect, IsSettingDefect}
 use Rattle.tt_strike.specs.Job.{Job, tested}
 use Rattle.tt_strike.specs.Layouts.{TellsMadeDefects, pens_at, pens_outcome, size_outcome, step_with, steps_outcome, with_steps}
 use Rattle.tt_strike.specs.Picture.{outlines_tested, setting_in, steps_in}
 use Rattle.tt_strike.specs.Refusals.{as_job, job, refusal}
-use Rattle.tt_strike.specs.Work.{is_bounded}
+use Rattle.tt_strike.specs.Strikes.{SizedFace, job_by}
+use Rattle.tt_strike.specs.Work.{is_bounded, line_fitter}
 use Rattle.tt_strike.proofs.Stopped.{stops}
+use Rattle.tt_strike.proofs.Telling.{no_line_defect}
 
 -- a stop in opening the fitter, or at the outlines, stops the steps
 pub setting_stops_steps : (face : Face) (a : Job) (e : FontFault) → is_bounded a.fit ≡ true
@@ -122,10 +128,23 @@ unfolding pens_outcome
 pens_are face a steps z passes made sized = rw (passes, made, sized) refl
 
 -- a fault of the job is none of the font
-pub no_defect_of_job : {V : Type 0} (made : Bool) (IsOne : Fault → Type 0) (j : JobFault)
-    → TellsMadeDefects {V = V} made IsOne (Err (draw.Job j))
-no_defect_of_job true IsOne j = tt
-no_defect_of_job false IsOne j = tt
+no_defect : {V : Type 0} (made : Bool) (IsOne : Fault → Type 0) (r : Result V DrawFault) (j : JobFault)
+    → r ≡ Err (draw.Job j) → TellsMadeDefects made IsOne r
+no_defect true IsOne r j is = rw is tt
+no_defect false IsOne r j is = rw is tt
+
+pub no_defect_of_job : {V : Type 0} (z : SizedFace) (text : List ℕ) (margin : ℕ) (r : Result V DrawFault) (j : JobFault)
+    → r ≡ Err (draw.Job j)
+    → TellsMadeDefects (is_bounded z.fit) (IsLineDefect z.face (job_by z text margin) (text_glyphs z.face.cmap text)) r
+no_defect_of_job z text margin r j is =
+    no_defect (is_bounded z.fit) (IsLineDefect z.face (job_by z text margin) (text_glyphs z.face.cmap text)) r j is
+
+-- a text whose glyphs are made, whatever their pens, has no defect
+pub sound_line : (face : Face) (a : Job) (s : Fitter) (gs : List ℕ) (line : List (ℕ × ℕ)) (shapes : List Shape)
+    → setting_in face a ≡ Ok s → HasNo (IsSettingDefect face a) → map (λ g. g.0) line ≡ gs
+    → each (glyph_shape (line_fitter s gs)) line ≡ Ok shapes → HasNo (IsLineDefect face a gs)
+sound_line face a s gs line shapes there sound glyphs made =
+    rw (← glyphs) (no_line_defect face a s line shapes there sound (rw glyphs made))
 
 -- an extent that is not refused is unchanged, so a line's size is that of its extent
 kept : (empty large : Bool) (e f : PictureExtent) → ◌≡◌ {A = Result PictureExtent JobFault}
