@@ -24,12 +24,27 @@ use Rattle.tt_strike.specs.Work.{is_bounded}
 use Rattle.tt_strike.proofs.TextSteps.{positive_height, sized_is, steps_by_advances}
 use Rattle.tt_strike.proofs.Placed.{of-job}
 
+-- by the same steps and the same tables
+size_alike : (face other : Face) (a : Job) → steps_outcome other a ≡ steps_outcome face a → other.metrics ≡ face.metrics
+    → size_outcome other a ≡ size_outcome face a
+unfolding size_outcome
+size_alike face other a steps metrics = rw (steps, metrics) (refl {a = size_outcome face a})
+
+layout_alike : (face other : Face) (a : Job) → size_outcome other a ≡ size_outcome face a
+    → layout_outcome other a ≡ layout_outcome face a
+unfolding layout_outcome
+layout_alike face other a size = rw size (refl {a = layout_outcome face a})
+
+pens_alike : (face other : Face) (a : Job) → steps_outcome other a ≡ steps_outcome face a → other.metrics ≡ face.metrics
+    → other.cmap ≡ face.cmap → pens_outcome other a ≡ pens_outcome face a
+unfolding pens_outcome
+pens_alike face other a steps metrics cmap = rw (steps, metrics, cmap) (refl {a = pens_outcome face a})
+
 pub no_glyph_is_read : NoGlyphIsRead
-unfolding layout_outcome pens_outcome size_outcome
 no_glyph_is_read face other a unbounded metrics cmap =
-    let one = steps_by_advances face a unbounded in
-    let another = steps_by_advances other a unbounded in
-    (rw (one, another, metrics, cmap) refl, rw (one, another, metrics, cmap) refl)
+    let steps : steps_outcome other a ≡ steps_outcome face a =
+    rw (steps_by_advances other a unbounded, steps_by_advances face a unbounded, metrics, cmap) refl in
+    (layout_alike face other a (size_alike face other a steps metrics), pens_alike face other a steps metrics cmap)
 
 -- each step stands beside its glyph
 glyphs_beside : (step : ℕ → ℕ) (gs : List ℕ) → map (λ (g : ℕ × ℕ). g.0) (with_steps step gs) ≡ gs

@@ -4,9 +4,11 @@ use Rattle.std.proofs.lemmas.List.{get_or-map, length-map}
 use Rattle.tt_cmap.specs.declared.units.TextUnit.{TextUnit}
 use Rattle.tt_cmap.specs.Maps.{units_by}
 use Rattle.tt_core.specs.Chains.{came-through}
+use Rattle.tt_core.specs.declared.fault.JobFault.{JobFault}
 use Rattle.tt_core.specs.Outcomes.{◌>>=◌}
 use Rattle.tt_face.specs.Faces.{Face}
 use Rattle.tt_fit.specs.Fitting.{Fitter}
+use Rattle.tt_line.specs.declared.extent.PictureExtent.{PictureExtent}
 use Rattle.tt_line.specs.declared.measured.LineSize.{LineSize}
 use Rattle.tt_line.specs.Laws.{StepsLead}
 use Rattle.tt_line.specs.Layout.{Placement, advance_in_pixels, depth_of, extent_by, laid_at, pen_at, placed_in, placement, rise_of, text_glyphs, within_limits}
@@ -58,14 +60,23 @@ placed_as false face a is =
     rw is (ap by (sym (steps_of (advance_in_pixels face.metrics a.ppem) gs)))
 
 -- the size of a line that is laid out
+by_extent : (m : Metrics) (ppem margin : ℕ) (gs ss : List ℕ) (l : Placement) (e : PictureExtent)
+    → within_limits (extent_by_sum m ppem margin (sum ss)) ≡ Ok e → placed_in gs ss (rise_of m ppem) e ≡ l
+    → (z : LineSize) × (line_size m ppem margin (sum ss) ≡ Ok z) × (z.width ≡ l.width) × (z.height ≡ l.height) × (z.rise ≡ l.rise)
+by_extent m ppem margin gs ss l e first is = (size_of m ppem e, rw first refl, rw (← is) refl, rw (← is) refl, rw (← is) refl)
+
 size_as_laid : (m : Metrics) (ppem margin : ℕ) (gs ss : List ℕ) (l : Placement) → laid_at m ppem margin gs ss ≡ Ok l
     → (z : LineSize) × (line_size m ppem margin (sum ss) ≡ Ok z) × (z.width ≡ l.width) × (z.height ≡ l.height) × (z.rise ≡ l.rise)
 size_as_laid m ppem margin gs ss l was =
-    let by_extent = came-through (within_limits (extent_by ss margin (rise_of m ppem) (depth_of m ppem))) _ l was in
-    let e = by_extent.value in
-    let is : placed_in gs ss (rise_of m ppem) e ≡ l = let rest = by_extent.rest in cc in
-    let first : within_limits (extent_by_sum m ppem margin (sum ss)) ≡ Ok e = by_extent.first in
-    (size_of m ppem e, rw first refl, rw (← is) refl, rw (← is) refl, rw (← is) refl)
+    let through = came-through (within_limits (extent_by ss margin (rise_of m ppem) (depth_of m ppem))) _ l was in
+    let is : placed_in gs ss (rise_of m ppem) through.value ≡ l = let rest = through.rest in cc in
+    by_extent m ppem margin gs ss l through.value through.first is
+
+-- a layout by its size
+laid_by_size : (face : Face) (a : Job) (z : LineSize) → size_outcome face a ≡ Ok z
+    → layout_outcome face a ≡ Ok (layout_by z a.margin a.text)
+unfolding layout_outcome
+laid_by_size face a z sized = rw sized refl
 
 -- the steps of a line's glyphs are those that a measure tells
 steps_told : (bounded : Bool) (face : Face) (a : Job) (s : Fitter) (l : Placement) (gs : List (ℕ × ℕ))
@@ -115,7 +126,6 @@ passed_test face a m was =
     of-job (tested a) tt (came-through (as_job (tested a)) _ by_line.value by_line.first).first
 
 pub laid_out_as_measured : StepsLead → LaidOutAsMeasured
-unfolding layout_outcome
 laid_out_as_measured lead face a m was =
     let passes = passed_test face a m was in
     let is = is_measured face a m was in
@@ -163,10 +173,11 @@ laid_out_as_measured lead face a m was =
       pen = column_as (pen_in ps i).pen g.1 a.margin led;
       advance = tells.1 ∙ advance;
     }) in
-    let sized = size_is face a gs passes by_steps.first ∙ rw size.1 refl in (
+    let sized : size_outcome face a ≡ Ok z =
+    size_is face a gs passes by_steps.first ∙ ap (λ (r : Result LineSize JobFault). as_job r) size.1 in (
       layout_by z a.margin a.text,
       ps,
-      rw sized refl,
+      laid_by_size face a z sized,
       pens_are face a gs z passes by_steps.first size.1,
       record {
         width = size.2 ∙ sym (ap (λ (m : Measure). m.width) is.is);

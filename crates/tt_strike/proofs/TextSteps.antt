@@ -139,6 +139,17 @@ pub no_defect_of_job : {V : Type 0} (z : SizedFace) (text : List ℕ) (margin : 
 no_defect_of_job z text margin r j is =
     no_defect (is_bounded z.fit) (IsLineDefect z.face (job_by z text margin) (text_glyphs z.face.cmap text)) r j is
 
+-- what is told of a stop, and of a value, is told of all that is made of the value
+pub told_on : {V W : Type 0} (made : Bool) (IsOne : Fault → Type 0) (r : Result V DrawFault) (q : Result W DrawFault)
+    (e : DrawFault) → r ≡ Err e → q ≡ Err e → TellsMadeDefects made IsOne r → TellsMadeDefects made IsOne q
+told_on true IsOne r q e was is tells = rw is (rw was at tells)
+told_on false IsOne r q e was is tells = rw is (rw was at tells)
+
+pub sound_on : {V W : Type 0} (made : Bool) (IsOne : Fault → Type 0) (r : Result V DrawFault) (q : Result W DrawFault)
+    (v : V) (w : W) → r ≡ Ok v → q ≡ Ok w → TellsMadeDefects made IsOne r → TellsMadeDefects made IsOne q
+sound_on true IsOne r q v w was is tells = rw is (rw was at tells)
+sound_on false IsOne r q v w was is tells = rw is tt
+
 -- a text whose glyphs are made, whatever their pens, has no defect
 pub sound_line : (face : Face) (a : Job) (s : Fitter) (gs : List ℕ) (line : List (ℕ × ℕ)) (shapes : List Shape)
     → setting_in face a ≡ Ok s → HasNo (IsSettingDefect face a) → map (λ g. g.0) line ≡ gs
