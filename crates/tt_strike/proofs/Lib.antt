@@ -28,3 +28,7 @@ mod StepLaws
 mod MeasuredSteps
 mod UnhintedSteps
 mod FacesAlike
+mod TextSteps
+mod Pens
+mod LayoutLaws
+mod MeasuredLayouts
