@@ -21,13 +21,15 @@ use Rattle.tt_bitmap_font.specs.Characters.{asked_ranges, file_glyphs, glyphs_fo
 use Rattle.tt_bitmap_font.specs.declared.font_file.FontFile.{FontFile}
 use Rattle.tt_bitmap_font.specs.FontFiles.{IsGlyphsDefect, glyph_job, setting_of}
 
-came : (b : Bool) (xs cs : List ℕ) → ◌≡◌ {A = Result (List ℕ) JobFault} ((if b then Err job.TextLong else Ok xs) >>= some_character) (Ok cs) → xs ≡ cs
+came : (b : Bool) (xs cs : List ℕ)
+    → ◌≡◌ {A = Result (List ℕ) JobFault} ((if b then Err job.TextLong else Ok xs) >>= some_character) (Ok cs) → xs ≡ cs
 came true xs cs is = absurd cc
 came false [] cs is = absurd cc
 came false (x ∷ xs) cs is = cc
 
 -- the characters of a file that is not refused are those of the definition
-pub characters_are : (m : CharacterMap) (rs : List CodeRange) (cs : List ℕ) → file_characters m rs ≡ Ok cs → characters_of m rs ≡ cs
+pub characters_are : (m : CharacterMap) (rs : List CodeRange) (cs : List ℕ) → file_characters m rs ≡ Ok cs
+    → characters_of m rs ≡ cs
 unfolding file_characters
 characters_are m rs cs is = came (nat_lt text_limit (length (characters_of m rs))) (characters_of m rs) cs is
 
@@ -45,7 +47,8 @@ pub same_glyphs : (a : FontFile) (face : Face) (cs : List ℕ)
     → All (λ g. g < glyphs_of face.metrics) (glyphs_for face.cmap cs)
     → known_of (glyphs_of face.metrics) (glyphs_for face.cmap cs) ≡ file_glyphs a.ranges.now face.cmap a.text.now
 same_glyphs a face cs is known =
-    rw (all_known (glyphs_of face.metrics) (glyphs_for face.cmap cs) known, characters_are face.cmap (asked_ranges a.ranges.now a.text.now) cs is) refl
+    let characters = characters_are face.cmap (asked_ranges a.ranges.now a.text.now) cs is in
+    rw (all_known (glyphs_of face.metrics) (glyphs_for face.cmap cs) known, characters) refl
 
 pub list_to_file : (a : FontFile) (face : Face) (cs : List ℕ) (f : Fault)
     → known_of (glyphs_of face.metrics) (glyphs_for face.cmap cs) ≡ file_glyphs a.ranges.now face.cmap a.text.now

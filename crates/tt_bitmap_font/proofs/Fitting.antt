@@ -15,13 +15,14 @@ use Rattle.tt_glyphs.specs.Defects.{EntryFits}
 use Rattle.tt_glyphs.specs.Entries.{ToldFits, told_bytes}
 use Rattle.tt_bitmap_font.specs.Bitmaps.{CharacterFits, character_by, character_told, characters_by}
 
-nothing_fits : (w code units : ℕ) → CharacterFits w (record { code = code; units = units; advance = 0; left = pos 0; top = pos 0; width = 0; height = 0; at = 0 })
+nothing_fits : (w code units : ℕ) → CharacterFits w (character_told code units 0 told.Unknown)
 nothing_fits w code units = record {
   limits = record { left = omega (arith, ints); top = omega (arith, ints); width = omega arith; height = omega arith };
   within = omega arith;
 }
 
-told_fits : (w code units at : ℕ) (t : Told) → ToldFits t → at + told_bytes t ≤ w → CharacterFits w (character_told code units at t)
+told_fits : (w code units at : ℕ) (t : Told) → ToldFits t → at + told_bytes t ≤ w
+    → CharacterFits w (character_told code units at t)
 told_fits w code units at told.Unknown fits within = nothing_fits w code units
 told_fits w code units at (told.Broken fault) fits within = nothing_fits w code units
 told_fits w code units at told.Large fits within = nothing_fits w code units

@@ -106,11 +106,17 @@ no_ink_unfitted fault = told.Made (record {
 abbrev entry_with : ℕ → Told → GlyphEntry
 entry_with at t = record { glyph = 1; told = t; at = at }
 
+abbrev two_bytes : List GlyphEntry → Bitmaps
+two_bytes es = record { entries = es; wanted = 2; rows = 0xC0 ∷ 0xC0 ∷ [] }
+
+abbrev zero_division : Fault
+zero_division = fault_at (codes "glyf") 17 why.DivZero
+
 a_letter : character_told 65 256 0 ink_of_two
     ≡ record { code = 65; units = 256; advance = 4; left = pos 1; top = pos 2; width = 2; height = 2; at = 0 }
 a_letter = refl
 
-its_rows_are_few : size_of_rows_tested (record { entries = entry_with 0 ink_of_two ∷ []; wanted = 2; rows = 0xC0 ∷ 0xC0 ∷ [] })
+its_rows_are_few : size_of_rows_tested (two_bytes (entry_with 0 ink_of_two ∷ []))
     ≡ Ok tt
 unfolding size_of_rows_tested
 its_rows_are_few = refl
@@ -119,11 +125,11 @@ one_byte_too_many : size_of_rows_tested (record { entries = []; wanted = 6710886
 unfolding size_of_rows_tested
 one_byte_too_many = refl
 
-a_glyph_too_wide : size_of_rows_tested (record { entries = entry_with 0 ink_of_two ∷ entry_with 2 told.Large ∷ []; wanted = 2; rows = 0xC0 ∷ 0xC0 ∷ [] })
+a_glyph_too_wide : size_of_rows_tested (two_bytes (entry_with 0 ink_of_two ∷ entry_with 2 told.Large ∷ []))
     ≡ Err job.PictureLarge
 unfolding size_of_rows_tested
 a_glyph_too_wide = refl
 
-a_glyph_of_two_characters : with_fault (with_fault [] 3 (unfitted_fault (no_ink_unfitted (fault_at (codes "glyf") 17 why.DivZero)))) 3
-    (Some (fault_at (codes "glyf") 17 why.DivZero)) ≡ record { glyph = 3; fault = fault_at (codes "glyf") 17 why.DivZero } ∷ []
+a_glyph_of_two_characters : with_fault (with_fault [] 3 (unfitted_fault (no_ink_unfitted zero_division))) 3
+    (unfitted_fault (no_ink_unfitted zero_division)) ≡ record { glyph = 3; fault = zero_division } ∷ []
 a_glyph_of_two_characters = refl

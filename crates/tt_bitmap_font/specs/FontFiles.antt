@@ -1,6 +1,7 @@
--- No part of a standard: the file of a font at a size, and the order of its refusals (profile). All glyphs are made before
--- a byte is written.
-use Rattle.std.specs.Prelude.{◌≡◌, refl, ℕ, List, [], ◌∷◌, ◌++◌, length, string_bytes, Option, Some, None, Result, Ok, Err}
+-- No part of a standard: the file of a font at a size, and the order of its refusals (profile). All glyphs are made
+-- before a byte is written.
+use Rattle.std.specs.Prelude.{◌≡◌, refl, ℕ, List, [], length, codes, string_bytes, Option, Some, None, Result, Ok, Err}
+use Rattle.std.specs.Fmt.{digits}
 use Rattle.tt_advice.specs.Advice.{advice}
 use Rattle.tt_advice.specs.declared.hint.FixedHint.TheVariants as fixed
 use Rattle.tt_advice.specs.declared.hint.Hint.{Hint}
@@ -8,7 +9,6 @@ use Rattle.tt_advice.specs.declared.hint.Hint.TheVariants as hint
 use Rattle.tt_advice.specs.Notes.{font_notes}
 use Rattle.tt_bdf.specs.Asked.{file_characters}
 use Rattle.tt_bdf.specs.File.{bdf_text}
-use Rattle.tt_core.specs.declared.collection.Reading.{Reading}
 use Rattle.tt_core.specs.declared.collection.Reading.TheVariants as reading
 use Rattle.tt_core.specs.declared.fault.JobFault.{JobFault}
 use Rattle.tt_core.specs.declared.fault.JobFault.TheVariants as job
@@ -16,6 +16,7 @@ use Rattle.tt_core.specs.Faults.{Fault}
 use Rattle.tt_core.specs.Outcomes.{◌>>=◌}
 use Rattle.tt_face.specs.Faces.{Face}
 use Rattle.tt_fit.specs.declared.programs.Fit.{Fit}
+use Rattle.tt_fit.specs.declared.programs.Fit.TheVariants as fit
 use Rattle.tt_glyphs.specs.Requests.{Bitmaps, GlyphJob, job_for, sound_outcome}
 use Rattle.tt_render.specs.declared.label.Labelled.{Labelled}
 use Rattle.tt_render.specs.declared.refusal.Refusal.{Refusal}
@@ -31,7 +32,7 @@ use Rattle.tt_render.specs.Texts.{LabelTold, TextAnswer, TextRefusal, as_text}
 use Rattle.tt_render.specs.TextsOutcome.{FontAnswers, IsNotReady}
 use Rattle.tt_render_run.specs.Outcome.{Traffic}
 use Rattle.tt_strike.specs.Defects.{IsLineDefect}
-use Rattle.tt_strike.specs.Job.{tested}
+use Rattle.tt_strike.specs.Job.{size_tested, tested}
 use Rattle.tt_strike.specs.Refusals.{Refused, as_job}
 use Rattle.tt_strike.specs.Strikes.{Strike}
 use Rattle.tt_bitmap_font.specs.Bitmaps.{characters_by, size_of_rows_tested, unfitted_of}
@@ -97,8 +98,8 @@ file_view r = record {
 
 -- its report, as it is printed
 abbrev pub TellsFile : ReadyFile → Type 0
-TellsFile r =
-    string_bytes r.report ≡ label_report_of None (told_by r.fit (string_bytes r.notes)) (length r.unfitted.items) r.lacking.items
+TellsFile r = string_bytes r.report
+    ≡ label_report_of None (told_by r.fit (string_bytes r.notes)) (length r.unfitted.items) r.lacking.items
 
 -- a file by an opened font, or the refusal
 abbrev pub FileReadies : (Strike → Result TextAnswer TextRefusal) → Result Strike Refused → Result ReadyFile TextsFault
@@ -143,3 +144,26 @@ hint_of a (Err fault) file = hint_behind (asked_tested a) fault.refusal file a.f
 
 abbrev pub HintsBy : FontFile → Labelled → List ℕ → Type 0
 HintsBy a e file = e.hint ≡ hint_of a e.answer file
+
+-- worked values: the size is tested first; a text that is too long is no matter of the font, its characters are
+size_before_the_text : tested (job_by (plain_setting 301 0 fit.Best (reading.Wide 0)) []) ≡ Err job.SizeRange
+unfolding tested size_tested
+size_before_the_text = refl
+
+a_long_text : hint_behind (Err job.TextLong) (reason.Job job.TextLong) [] 0 ≡ None
+a_long_text = refl
+
+many_characters : hint_behind (Ok tt) (reason.Job job.TextLong) [] 0 ≡ Some (hint.Fixed fixed.ManyCharacters)
+many_characters = refl
+
+no_character : hint_behind (Ok tt) (reason.Job job.EmptyPicture) [] 0 ≡ Some (hint.Fixed fixed.NoCharacter)
+no_character = refl
+
+a_large_glyph : hint_behind (Ok tt) (reason.Job job.PictureLarge) [] 0 ≡ None
+a_large_glyph = refl
+
+-- the report of a file with an unfitted glyph, and of one without the two characters Z and z
+one_unfitted_and_two_lacking : label_report_of None (told_by fit.Best []) 1 (codes "Zz")
+    ≡ codes "tt_render: 1 glyph is not fitted; draw --fit best names it\ntt_render: U+005A has no glyph\ntt_render: U+007A has no glyph\n"
+unfolding label_report_of digits
+one_unfitted_and_two_lacking = refl

@@ -1,5 +1,5 @@
--- No part of a standard: the second line about a refused file, which tells a person what to do (profile). The first is that
--- of the refusal, and does not depend on this one.
+-- No part of a standard: the second line about a refused file, which tells a person what to do (profile). The first is
+-- that of the refusal, and does not depend on this one.
 use Rattle.std.specs.Prelude.{◌≡◌, refl, ℕ, Bool, List, codes, Option, Some, None}
 use Rattle.tt_advice.specs.declared.hint.FixedHint.TheVariants as fixed
 use Rattle.tt_advice.specs.declared.hint.Hint.{Hint}

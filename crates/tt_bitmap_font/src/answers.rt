@@ -20,8 +20,8 @@ use tt_fit::Fit;
 use tt_render::TextsFault;
 use tt_strike::Unfitted;
 
-/// A file, ready to be written: its text, its unfitted glyphs, the characters of the text that the font lacks, the lines
-/// about the font, and the report as it is printed.
+/// A file, ready to be written: its text, its unfitted glyphs, the characters of the text that the font lacks, the
+/// lines about the font, and the report as it is printed.
 #[derive(Drop)]
 pub(crate) struct ReadyFile {
     pub(crate) file: Vec<u8>,

@@ -54,8 +54,8 @@ fn test_size(list: &BitmapList) -> Result<(), JobFault>
     Ok(())
 }
 
-/// The characters of a file and their bitmaps. Errors, the first of: TextLong and EmptyPicture, of the characters; those
-/// of `BitmapList::make_sound`; PictureLarge. Memory may come at any allocation.
+/// The characters of a file and their bitmaps. Errors, the first of: TextLong and EmptyPicture, of the characters;
+/// those of `BitmapList::make_sound`; PictureLarge. Memory may come at any allocation.
 #[tactic(auto, unfolding(crate::specs::FontFiles::file_bitmaps))]
 pub(crate) fn file_bitmaps(
     alloc: Global,

@@ -70,8 +70,8 @@ fn file_job_help(
     }
 }
 
-/// The second line on standard error after this fault of `write_bdf`, with its line feed. Empty where nothing helps. `hint`
-/// is that of the call, and `folder` says whether the font's path is that of a folder. Error: memory ran out.
+/// The second line on standard error after this fault of `write_bdf`, with its line feed. Empty where nothing helps.
+/// `hint` is that of the call, and `folder` says whether the font's path is that of a folder. Error: memory ran out.
 pub fn bdf_help(
     alloc: Global,
     fault: &TextsFault,

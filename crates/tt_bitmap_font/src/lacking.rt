@@ -55,11 +55,7 @@ fn lacks(cmap: &CharacterMap, c: char) -> bool
 }
 
 /// Lists a character that a font lacks. Error: memory ran out.
-fn list_lacking(
-    listed: &mut Vec<char>,
-    cmap: &CharacterMap,
-    c: char,
-) -> Result<(), AllocError>
+fn list_lacking(listed: &mut Vec<char>, cmap: &CharacterMap, c: char) -> Result<(), AllocError>
     ensures { OnOk result (listed.new.items ≡ with_lacking cmap.now listed.old.items c) }
 {
     if lacks(cmap, c) {

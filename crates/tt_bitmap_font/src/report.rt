@@ -8,8 +8,8 @@ use std::alloc::{AllocError, Global};
 use tt_fit::Fit;
 use tt_render::Messages;
 
-/// The report of a file. A line, with its line feed: for its unfitted glyphs; for each character of the text that the font
-/// lacks. Behind them come the lines about the font. Error: memory ran out.
+/// The report of a file. A line, with its line feed: for its unfitted glyphs; for each character of the text that the
+/// font lacks. Behind them come the lines about the font. Error: memory ran out.
 #[tactic(auto, unfolding(tt_render::specs::Reports::label_report_of))]
 pub(crate) fn file_report(
     alloc: Global,

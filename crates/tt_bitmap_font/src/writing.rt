@@ -117,14 +117,14 @@ fn ready_file(alloc: Global, file: &[u8], asked: &FontFile) -> Result<ReadyFile,
 }
 
 /// Writes a font at a size as a file of bitmaps, in BDF 2.1: the characters that are asked for and that the font has a
-/// glyph for, in order of code point. All glyphs are made before a byte is written. Then the report is printed on `error`,
-/// and behind it the lines about the font. A failure of `error` does not change the answer.
+/// glyph for, in order of code point. All glyphs are made before a byte is written. Then the report is printed on
+/// `error`, and behind it the lines about the font. A failure of `error` does not change the answer.
 ///
-/// Errors, the first of these, with no line: Job (SizeRange, and TextLong, of a text of more than 4,096 characters), before
-/// the font is read; FontRead, FontLarge; Font, of the tables needed for every text; Job (TextLong, of more than 4,096
-/// characters of the file, and EmptyPicture, of none); Font and Job of `BitmapList::make_sound`; Job (PictureLarge); and
-/// Write. Memory may come at any allocation, and then nothing was written. A fault of the font, and one of its characters,
-/// has the hint about the font's file.
+/// Errors, the first of these, with no line: Job (SizeRange, and TextLong, of a text of more than 4,096 characters),
+/// before the font is read; FontRead, FontLarge; Font, of the tables needed for every text; Job (TextLong, of more than
+/// 4,096 characters of the file, and EmptyPicture, of none); Font and Job of `BitmapList::make_sound`; Job
+/// (PictureLarge); and Write. Memory may come at any allocation, and then nothing was written. A fault of the font, and
+/// one of its characters, has the hint about the font's file.
 pub fn write_bdf<R: Source, W: Sink, E: Sink>(
     alloc: Global,
     font: &mut R,
@@ -136,8 +136,8 @@ pub fn write_bdf<R: Source, W: Sink, E: Sink>(
     requires out { W.has_failed out.old ≡ false }
     requires error { E.has_failed error.old ≡ false }
     requires ranges { All IsCodeRange asked.now.ranges.now }
-    // Either the call stopped before the file was made, and did nothing else. Or the font was read to its end and opened,
-    // and the writing and printing are as defined for the file by that font.
+    // Either the call stopped before the file was made, and did nothing else. Or the font was read to its end and
+    // opened, and the writing and printing are as defined for the file by that font.
     ensures outcome { FontFileGives asked.now result.answer (traffic_of R.left R.has_failed W.written W.has_failed font.old font.new out.old out.new) (errors_of E.written E.has_failed error.old error.new) }
     ensures defects { TextTellsDefectsOf (R.left font.old) (IsFileDefect asked.now) result.answer }
     ensures hint { IfSome (R.left font.old) (HintsBy asked.now result) }

@@ -9,8 +9,14 @@ use Rattle.tt_bitmap_font.proofs.made.unfitted_of.Goals as goal
 pub loop-code-preserved : goal.loop-code-preserved
 loop-code-preserved c =
     let so_far = map (λ p. (p.0.now, p.1.now)) c.loop-code.yielded in
-    rw (c.in_ok-list_unfitted.ensures, c.glyph_for-glyph.ensures.exact, c.cmap.ensures.exact, c.unfitted_fault.ensures, c.loop-code.invariant,
-      map-append {B = ℕ × GlyphEntry} (λ p. (p.0.now, p.1.now)) c.loop-code.yielded ((c.in-Some.code, c.in-Some.entry) ∷ []))
+    rw (
+      c.in_ok-list_unfitted.ensures,
+      c.glyph_for-glyph.ensures.exact,
+      c.cmap.ensures.exact,
+      c.unfitted_fault.ensures,
+      c.loop-code.invariant,
+      map-append {B = ℕ × GlyphEntry} (λ p. (p.0.now, p.1.now)) c.loop-code.yielded ((c.in-Some.code, c.in-Some.entry) ∷ []),
+    )
     (sym (unfitted_push c.args.face.now [] so_far (c.in-Some.code.now, c.in-Some.entry.now)))
 
 pub returns : goal.returns
