@@ -34,6 +34,8 @@ fixed_words fixed.Cut = codes "is cut off or damaged"
 fixed_words fixed.Beyond = codes "has a glyph beyond what is drawn"
 fixed_words fixed.Program = codes "has a program for fitting that is refused; --fit best draws it"
 fixed_words fixed.Variable = codes "is a variable font; its default instance is drawn"
+fixed_words fixed.ManyCharacters = codes "has more than 4096 of the characters asked for; --range says which"
+fixed_words fixed.NoCharacter = codes "has a glyph for none of the characters asked for"
 
 -- what follows the font's path
 abbrev pub hint_words : Hint → List ℕ

@@ -73,6 +73,10 @@ pub enum FixedHint {
     Program,
     /// One of the shapes of a variable font is drawn.
     Variable,
+    /// The font has more of the characters of a file than a file may have.
+    ManyCharacters,
+    /// The font has none of the characters of a file.
+    NoCharacter,
 }
 
 impl FixedHint {
@@ -106,6 +110,8 @@ impl FixedHint {
             FixedHint::Beyond => "has a glyph beyond what is drawn",
             FixedHint::Program => PROGRAM,
             FixedHint::Variable => "is a variable font; its default instance is drawn",
+            FixedHint::ManyCharacters => MANY_CHARACTERS,
+            FixedHint::NoCharacter => "has a glyph for none of the characters asked for",
         }
     }
 }
@@ -118,6 +124,9 @@ const TYPE1: &str = "is a Type 1 font; TrueType outlines alone are drawn: conver
 const BITMAPS: &str = "has bitmaps or colour pictures, but no TrueType outlines";
 
 const PROGRAM: &str = "has a program for fitting that is refused; --fit best draws it";
+
+const MANY_CHARACTERS: &str =
+    "has more than 4096 of the characters asked for; --range says which";
 
 /// What follows the font's path.
 fn words(alloc: Global, hint: Hint) -> Result<String, AllocError>

@@ -3,6 +3,7 @@ pub mod Asked
 pub mod Bitmap
 pub mod Example
 pub mod Extent
+pub mod Facts
 pub mod File
 pub mod Head
 pub mod Ranges

@@ -53,16 +53,25 @@ fn found_at(cmap: &CharacterMap, far: u32, code: u32) -> Option<char>
     Some(c)
 }
 
+/// The range of a character alone.
+fn range_of_one(c: char) -> CodeRange
+    ensures exact { result ≡ range_of_one c }
+    ensures codes { IsCodeRange result }
+{
+    let code = c as u32;
+    CodeRange {
+        first: code,
+        last: code,
+    }
+}
+
 /// Appends the characters of a text as ranges of one each. Error: memory ran out.
 pub fn push_text(ranges: &mut Vec<CodeRange>, text: &str) -> Result<(), AllocError>
-    ensures { OnOk result (ranges.new.items ≡ ranges.old.items ++ map range_of_one (chars text.now)) }
+    ensures exact { OnOk result (ranges.new.items ≡ ranges.old.items ++ map range_of_one (chars text.now)) }
+    ensures codes { All IsCodeRange ranges.old.items → OnOk result (All IsCodeRange ranges.new.items) }
 {
     for c in text.chars() {
-        let code = c as u32;
-        ranges.push(CodeRange {
-            first: code,
-            last: code,
-        })?;
+        ranges.push(range_of_one(c))?;
     }
     Ok(())
 }

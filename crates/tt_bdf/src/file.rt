@@ -3,6 +3,7 @@
 ghost use Rattle.std.specs.Prelude.{◌≡◌, ◌+◌, ◌≤◌, All, length, IfOk};
 ghost use Rattle.tt_bdf.specs.Bitmap.{bitmap_bytes};
 ghost use Rattle.tt_bdf.specs.Extent.{IsLimited};
+ghost use Rattle.tt_bdf.specs.Facts.{facts_of};
 ghost use Rattle.tt_bdf.specs.File.{bdf_text};
 ghost use Rattle.tt_core.specs.Limits.{size_limit, text_limit};
 
@@ -27,7 +28,7 @@ pub fn bdf_file(
     requires few { length characters.now ≤ text_limit }
     requires limits { All IsLimited characters.now }
     requires within { All (λ c. c.at + bitmap_bytes c ≤ length rows.now) characters.now }
-    ensures { IfOk result (λ text. text.items ≡ bdf_text font.now characters.now rows.now) }
+    ensures { IfOk result (λ text. text.items ≡ bdf_text (facts_of font.now) characters.now rows.now) }
 {
     let mut text = Vec::new(alloc);
     let head = head_text(alloc, font, characters)?;

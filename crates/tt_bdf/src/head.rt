@@ -2,6 +2,7 @@
 
 ghost use Rattle.std.specs.Prelude.{◌≡◌, ◌≤◌, All, length, string_bytes, IfOk, IfSome};
 ghost use Rattle.tt_bdf.specs.Extent.{IsLimited, IsNear};
+ghost use Rattle.tt_bdf.specs.Facts.{facts_of};
 ghost use Rattle.tt_bdf.specs.Head.{box_text, count_text, default_text, extent_text, first_text, head_text, lines_text, name_text, names_text, properties_text, property_count, sizes_text, slant, spacing_name, style_text, weight_name};
 ghost use Rattle.tt_core.specs.Limits.{size_limit, text_limit};
 
@@ -41,7 +42,7 @@ fn property_count(default: Option<u32>) -> u32
 
 /// The family, the weight and the slant, as the name of the font has them.
 fn style_text(alloc: Global, font: &BdfFont) -> Result<String, AllocError>
-    ensures { IfOk result (λ text. string_bytes text ≡ style_text font.now) }
+    ensures { IfOk result (λ text. string_bytes text ≡ style_text (facts_of font.now)) }
 {
     let family = &font.family;
     let weight = weight_name(font.bold);
@@ -52,7 +53,7 @@ fn style_text(alloc: Global, font: &BdfFont) -> Result<String, AllocError>
 /// The name of the font.
 fn name_text(alloc: Global, font: &BdfFont, spacing: Spacing) -> Result<String, AllocError>
     requires { font.now.size ≤ size_limit }
-    ensures { IfOk result (λ text. string_bytes text ≡ name_text font.now spacing) }
+    ensures { IfOk result (λ text. string_bytes text ≡ name_text (facts_of font.now) spacing) }
 {
     let style = style_text(alloc, font)?;
     let size = font.size;
@@ -66,7 +67,7 @@ fn name_text(alloc: Global, font: &BdfFont, spacing: Spacing) -> Result<String, 
 
 fn first_text(alloc: Global, font: &BdfFont, spacing: Spacing) -> Result<String, AllocError>
     requires { font.now.size ≤ size_limit }
-    ensures { IfOk result (λ text. string_bytes text ≡ first_text font.now spacing) }
+    ensures { IfOk result (λ text. string_bytes text ≡ first_text (facts_of font.now) spacing) }
 {
     let name = name_text(alloc, font, spacing)?;
     let size = font.size;
@@ -96,7 +97,7 @@ fn box_text(alloc: Global, extent: Option<InkExtent>) -> Result<String, AllocErr
 }
 
 fn names_text(alloc: Global, font: &BdfFont, count: u32) -> Result<String, AllocError>
-    ensures { IfOk result (λ text. string_bytes text ≡ names_text font.now count) }
+    ensures { IfOk result (λ text. string_bytes text ≡ names_text (facts_of font.now) count) }
 {
     let family = &font.family;
     let weight = weight_name(font.bold);
@@ -108,7 +109,7 @@ fn names_text(alloc: Global, font: &BdfFont, count: u32) -> Result<String, Alloc
 
 fn sizes_text(alloc: Global, font: &BdfFont, spacing: Spacing) -> Result<String, AllocError>
     requires { font.now.size ≤ size_limit }
-    ensures { IfOk result (λ text. string_bytes text ≡ sizes_text font.now spacing) }
+    ensures { IfOk result (λ text. string_bytes text ≡ sizes_text (facts_of font.now) spacing) }
 {
     let size = font.size;
     let points = 10 * size;
@@ -120,7 +121,7 @@ fn sizes_text(alloc: Global, font: &BdfFont, spacing: Spacing) -> Result<String,
 }
 
 fn lines_text(alloc: Global, font: &BdfFont) -> Result<String, AllocError>
-    ensures { IfOk result (λ text. string_bytes text ≡ lines_text font.now) }
+    ensures { IfOk result (λ text. string_bytes text ≡ lines_text (facts_of font.now)) }
 {
     let rise = font.rise;
     let depth = font.depth;
@@ -144,7 +145,7 @@ fn properties_text(
     default: Option<u32>,
 ) -> Result<String, AllocError>
     requires { font.now.size ≤ size_limit }
-    ensures { IfOk result (λ text. string_bytes text ≡ properties_text font.now spacing default) }
+    ensures { IfOk result (λ text. string_bytes text ≡ properties_text (facts_of font.now) spacing default) }
 {
     let names = names_text(alloc, font, property_count(default))?;
     let sizes = sizes_text(alloc, font, spacing)?;
@@ -169,7 +170,7 @@ pub(crate) fn head_text(
     requires some { 1 ≤ length characters.now }
     requires few { length characters.now ≤ text_limit }
     requires limits { All IsLimited characters.now }
-    ensures { IfOk result (λ text. string_bytes text ≡ head_text font.now characters.now) }
+    ensures { IfOk result (λ text. string_bytes text ≡ head_text (facts_of font.now) characters.now) }
 {
     let spacing = spacing_of(characters);
     let first = first_text(alloc, font, spacing)?;

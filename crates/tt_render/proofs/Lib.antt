@@ -6,7 +6,7 @@ pub mod FirstFaces
 pub mod FontLines
 mod MeasureLines
 mod DefectLines
-mod OneText
+pub mod OneText
 mod TextsReports
 mod LabelCalls
 mod LabelLines

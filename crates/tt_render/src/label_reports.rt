@@ -73,7 +73,7 @@ impl Messages {
     }
 
     /// Appends a line for the unfitted glyphs, if there are any.
-    fn push_count(self, text: &mut String, fit: Fit, unfitted: usize) -> Result<(), AllocError>
+    pub fn push_count(self, text: &mut String, fit: Fit, unfitted: usize) -> Result<(), AllocError>
         ensures { OnOk result (string_bytes text.new ≡ string_bytes text.old ++ count_told self.number fit unfitted) }
     {
         if unfitted == 0 {

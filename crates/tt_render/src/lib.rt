@@ -29,7 +29,7 @@ pub use products::{make_measure, make_picture};
 pub use readings::{fit_reading, reading_asked};
 pub use refusal::{Refusal, TextsFault};
 pub use setting::{Missing, Product, Setting};
-pub use texts_messages::{texts_line, texts_status};
+pub use texts_messages::{Messages, texts_line, texts_status};
 pub use tt_label::Align;
 pub use tt_render_run::{RunFault, line, map, run, status, unfitted_line};
 pub use tt_strike::{Job, Report, Unfitted};

@@ -74,9 +74,9 @@ pub fn texts_line(alloc: Global, fault: &TextsFault) -> Result<String, AllocErro
 
 /// The messages about the one text, or about the line with this number.
 #[derive(Clone, Copy)]
-pub(crate) struct Messages {
-    pub(crate) alloc: Global,
-    pub(crate) number: Option<u32>,
+pub struct Messages {
+    pub alloc: Global,
+    pub number: Option<u32>,
 }
 
 impl Messages {
@@ -115,7 +115,7 @@ impl Messages {
     }
 
     /// Appends a line for each character without a glyph.
-    pub(crate) fn push_lacking(self, text: &mut String, lacking: &[char]) -> Result<(), AllocError>
+    pub fn push_lacking(self, text: &mut String, lacking: &[char]) -> Result<(), AllocError>
         ensures exact { OnOk result (string_bytes text.new ≡ string_bytes text.old ++ flat_map (lacking_told self.number) lacking.now) }
         ensures memory { length lacking.now ≡ 0 → IsOk result }
     {

@@ -1,6 +1,7 @@
 use Rattle.std.proofs.Common.{◌≡◌, ◌++◌, ◌∙◌, sym, ap, flat_map, codes, append_assoc}
 use Rattle.std.proofs.lemmas.List.{append-nil, at_drop_all, at_drop_more}
 use Rattle.tt_bdf.specs.Bitmap.{character_text}
+use Rattle.tt_bdf.specs.Facts.{facts_of}
 use Rattle.tt_bdf.specs.File.{bdf_text}
 use Rattle.tt_bdf.specs.Head.{head_text}
 use Rattle.tt_bdf.proofs.Nothing.{none}
@@ -20,6 +21,6 @@ returns c =
     let cs = c.args.characters.now in
     let before = c.loop-c.text.items in
     let none_left = at_drop_all (flat_map text) cs c.loop-c.c-index c.loop-c-test.false in
-    let whole : before ≡ head_text c.args.font.now cs ++ flat_map text cs = rw (← append-nil before) (rw none_left at c.loop-c.invariant) in
+    let whole : before ≡ head_text (facts_of c.args.font.now) cs ++ flat_map text cs = rw (← append-nil before) (rw none_left at c.loop-c.invariant) in
     c.in_ok-extend_from_slice-2.ensures.items ∙ ap (λ xs. xs ++ codes "ENDFONT\n") whole
-    ∙ append_assoc (head_text c.args.font.now cs) (flat_map text cs) (codes "ENDFONT\n")
+    ∙ append_assoc (head_text (facts_of c.args.font.now) cs) (flat_map text cs) (codes "ENDFONT\n")

@@ -1,0 +1,5 @@
+pub mod FileGlyphs
+pub mod Files
+pub mod Fitting
+pub mod Hints
+pub mod Listing

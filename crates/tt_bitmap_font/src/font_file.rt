@@ -1,0 +1,48 @@
+//! What is asked for: a font at a size as a file.
+
+ghost use Rattle.std.specs.Prelude.{◌≡◌, ◌≤◌, OnOk};
+ghost use Rattle.tt_bitmap_font.specs.FontFiles.{asked_tested, setting_of};
+ghost use Rattle.tt_core.specs.Limits.{size_limit};
+ghost use Rattle.tt_core.specs.Outcomes.{Gives};
+
+use tt_bdf::CodeRange;
+use tt_core::{JobFault, Reading};
+use tt_fit::Fit;
+use tt_render::Setting;
+use tt_strike::test_job;
+
+/// A font at a size, and the characters of its file.
+#[derive(Clone, Copy)]
+pub struct FontFile<'a> {
+    /// Pixels per em, 1 to 300.
+    pub size: u32,
+    pub fit: Fit,
+    /// The number of the face. The font's file is read as with `Reading::Wide`.
+    pub face: u32,
+    /// The code points that are asked for, beside those of the text.
+    pub ranges: &'a [CodeRange],
+    /// The text whose characters are asked for; empty where there is none.
+    pub text: &'a str,
+    /// The path of the font, as it is reported.
+    pub path: &'a str,
+    /// Whether a face was asked for.
+    pub face_given: bool,
+}
+
+impl<'a> FontFile<'a> {
+    /// The setting by which texts are drawn with the file's glyphs.
+    pub(crate) fn setting(&self) -> Setting
+        ensures { result ≡ setting_of self.now }
+    {
+        Setting::plain(self.size, 0, self.fit, Reading::Wide { face: self.face })
+    }
+
+    /// Tests the request before the font is read. Errors, the first of: SizeRange, TextLong.
+    pub(crate) fn test(&self) -> Result<(), JobFault>
+        ensures exact { Gives (λ u. u) result (asked_tested self.now) }
+        ensures small { OnOk result (self.now.size ≤ size_limit) }
+    {
+        let setting = self.setting();
+        test_job(&setting.job(self.text))
+    }
+}
