@@ -1,3 +1,4 @@
+pub mod BdfOptions
 pub mod FaceLines
 pub mod Requests
 pub mod Stops

@@ -11,7 +11,7 @@ use Rattle.tt_render.specs.declared.setting.Missing.{Missing}
 use Rattle.tt_render.specs.declared.setting.Missing.TheVariants as missing
 use Rattle.tt_render.specs.declared.label.Label.{Label as DrawnLabel}
 use Rattle.tt_render.specs.declared.setting.Product.{Product}
-use Rattle.tt_render.specs.declared.setting.Product.TheVariants.{Picture}
+use Rattle.tt_render.specs.declared.setting.Product.TheVariants.{Measure, Picture}
 use Rattle.tt_line.specs.declared.align.Align.{Align}
 use Rattle.tt_line.specs.declared.align.Align.TheVariants as align
 use Rattle.tt_label.specs.Label.{label_glyphs}
@@ -26,7 +26,8 @@ use Rattle.tt_render.specs.Settings.{job_by}
 use Rattle.tt_render.specs.TextsOutcome.{FontLinesGive, FontTextGives, TextTellsDefectsOf, reader_in}
 use Rattle.tt_program_decisions.specs.declared.request.Request.{Request}
 use Rattle.tt_program_decisions.specs.declared.labelling.LabelOptions.{LabelOptions}
-use Rattle.tt_program_decisions.specs.declared.request.Request.TheVariants.{Map, Faces, Text, Lines, Label, Labels}
+use Rattle.tt_program_decisions.specs.declared.request.Request.TheVariants.{Map, Faces, Text, Lines, Layout, Label, Labels, Bdf}
+use Rattle.tt_program_decisions.specs.BdfOptions.{BdfAsked, bdf_view, range_words, text_or_none}
 use Rattle.tt_program_decisions.specs.FaceLines.{IsFacesDefect, faces_wanted}
 use Rattle.tt_render.specs.Printing.{Errors}
 use Rattle.tt_program_decisions.specs.Telling.{Does, DoesLabel, DoesTexts}
@@ -92,23 +93,40 @@ label_options_asked (Some n) (Some m) (Some side) (Some how) (Some what) face =
     label_named n m (align_named side) (fit_named how) (missing_named what) face
 label_options_asked n m side how what face = None
 
+-- the options of `bdf`, where the name of the way to fit is known
+abbrev pub bdf_named : ℕ → Option Fit → Option ℕ → Option (List ℕ) → Option (List ℕ) → Option BdfAsked
+bdf_named n (Some f) face range text =
+    Some (record { size = n; fit = f; face = face; range = range_words range text; text = text_or_none text })
+bdf_named n None face range text = None
+
+-- `--size SIZE --fit FIT`, `--face FACE`, `--range RANGE` and TEXT; all may be absent
+abbrev pub bdf_options_asked
+    : Option ℕ → Option (List ℕ) → Option ℕ → Option (List ℕ) → Option (List ℕ) → Option BdfAsked
+bdf_options_asked (Some n) (Some how) face range text = bdf_named n (fit_named how) face range text
+bdf_options_asked n how face range text = None
+
 -- The requests, each with its font: the lines that map a text; the lines of the file's faces; the product of a text with
--- a setting; the products of the lines of standard input; the label of a text; the labels of the lines of standard input.
+-- a setting; the products of the lines of standard input; the measure of a text without ink; the label of a text; the
+-- labels of the lines of standard input; a bitmap font.
 pub data Asked : Type 0 where
   map_text : List ℕ → List ℕ → Reading → Asked
   tell_faces : List ℕ → Asked
   draw_text : List ℕ → List ℕ → Setting → Asked
   draw_lines : List ℕ → Setting → Asked
+  lay_text : List ℕ → List ℕ → Setting → Asked
   draw_label : List ℕ → List ℕ → LabelOptions → Asked
   draw_labels : List ℕ → LabelOptions → Asked
+  make_bdf : List ℕ → BdfAsked → Asked
 
 abbrev pub asked_of : Request → Asked
 asked_of (Map font text r) = map_text font.now text.now r
 asked_of (Faces font) = tell_faces font.now
 asked_of (Text font text setting) = draw_text font.now text.now setting
 asked_of (Lines font setting) = draw_lines font.now setting
+asked_of (Layout font text setting) = lay_text font.now text.now setting
 asked_of (Label font text options) = draw_label font.now text.now options
 asked_of (Labels font options) = draw_labels font.now options
+asked_of (Bdf font options) = make_bdf font.now (bdf_view options)
 
 -- `map [--face FACE] FONT TEXT`; words may be absent
 abbrev pub map_asked : Option (List ℕ) → Option (List ℕ) → Option ℕ → Option Asked
@@ -126,6 +144,25 @@ abbrev pub draw_asked : Option (List ℕ) → Option (List ℕ) → Bool → Opt
 draw_asked (Some font) (Some text) false (Some s) = Some (draw_text font text s)
 draw_asked (Some font) None true (Some s) = Some (draw_lines font s)
 draw_asked font text lines s = None
+
+-- the request of the same measure without ink; none for lines, and for a picture that grows
+abbrev pub without_ink : Asked → Option Asked
+without_ink (draw_text font text s) = if s.grow then None else Some (lay_text font text s)
+without_ink asked = None
+
+-- the same where there is a request
+abbrev pub bare_asked : Option Asked → Option Asked
+bare_asked (Some asked) = without_ink asked
+bare_asked None = None
+
+-- a request of `measure`, by whether there is `--no-ink`
+abbrev pub measure_asked : Bool → Option Asked → Option Asked
+measure_asked bare asked = if bare then bare_asked asked else asked
+
+-- `bdf OPTION.. FONT [TEXT]`; the word and options may be absent
+abbrev pub bdf_asked : Option (List ℕ) → Option BdfAsked → Option Asked
+bdf_asked (Some font) (Some o) = Some (make_bdf font o)
+bdf_asked font o = None
 
 -- `label OPTION.. FONT TEXT`, or with standard input's lines `label OPTION.. --lines FONT`; words and options may be
 -- absent
@@ -158,6 +195,13 @@ AsksDrawing text IsNumber IsFlag wanted answer =
     × IsFlag (codes "lines") lines
     × (answer ≡ draw_asked (text (codes "FONT")) (text (codes "TEXT")) lines setting)
 
+-- the request of `measure` by its arguments
+abbrev pub AsksMeasure
+    : (List ℕ → Option (List ℕ)) → (List ℕ → Option ℕ → Type 0) → (List ℕ → Bool → Type 0) → Option Asked → Type 0
+AsksMeasure text IsNumber IsFlag answer =
+    (asked : Option Asked) × (bare : Bool) × AsksDrawing text IsNumber IsFlag Measure asked
+    × IsFlag (codes "no-ink") bare × (answer ≡ measure_asked bare asked)
+
 -- the options of `label` by its arguments
 abbrev pub AsksLabelOptions : (List ℕ → Option (List ℕ)) → (List ℕ → Option ℕ → Type 0) → Option LabelOptions → Type 0
 AsksLabelOptions text IsNumber answer =
@@ -172,6 +216,18 @@ AsksLabel text IsNumber IsFlag answer =
     (options : Option LabelOptions) × (lines : Bool) × AsksLabelOptions text IsNumber options
     × IsFlag (codes "lines") lines
     × (answer ≡ label_asked (text (codes "FONT")) (text (codes "TEXT")) lines options)
+
+-- the options of `bdf` by its arguments
+abbrev pub AsksBdfOptions : (List ℕ → Option (List ℕ)) → (List ℕ → Option ℕ → Type 0) → Option BdfAsked → Type 0
+AsksBdfOptions text IsNumber answer =
+    (size face : Option ℕ) × IsNumber (codes "size") size × IsNumber (codes "face") face
+    × (answer ≡ bdf_options_asked size (text (codes "fit")) face (text (codes "range")) (text (codes "TEXT")))
+
+-- the request of `bdf` by its arguments
+abbrev pub AsksBdf : (List ℕ → Option (List ℕ)) → (List ℕ → Option ℕ → Type 0) → Option Asked → Type 0
+AsksBdf text IsNumber answer =
+    (options : Option BdfAsked) × AsksBdfOptions text IsNumber options
+    × (answer ≡ bdf_asked (text (codes "FONT")) options)
 
 -- the setting of a label with these options: glyphs of any face of any font
 abbrev pub label_setting : LabelOptions → Setting
@@ -199,8 +255,10 @@ font_of (Map font text r) = font.now
 font_of (Faces font) = font.now
 font_of (Text font text setting) = font.now
 font_of (Lines font setting) = font.now
+font_of (Layout font text setting) = font.now
 font_of (Label font text options) = font.now
 font_of (Labels font options) = font.now
+font_of (Bdf font options) = font.now
 
 -- a request is performed and reported: the contract of its call holds for some answer. For the lines that map a text, or
 -- tell faces: the bytes to write for a font file, and the defects for which it is refused. The second traffic is that of

@@ -1,5 +1,5 @@
--- No part of the standard: the report of a font that cannot be opened (profile). For `label` a line tells a person what to
--- do.
+-- No part of the standard: the report of a font that cannot be opened (profile). For `label` and `bdf` a line tells a
+-- person what to do.
 use Rattle.std.specs.Prelude.{◌≡◌, refl, ℕ, ◌+◌, ◌-◌, Bool, true, false, ◌&&◌, ◌||◌, nat_le, nat_lt, if◌then◌else◌, List, [], ◌∷◌, ◌++◌, length, map, slice_index, codes, bytes_eq, Option, Some, None}
 use Rattle.std.specs.declared.io.ErrorKind.{ErrorKind}
 use Rattle.std.specs.declared.io.ErrorKind.TheVariants as kind
@@ -47,10 +47,11 @@ opening_hint kind.FilesystemLoop text = Some fixed.Links
 opening_hint kind.InvalidFilename text = Some fixed.LongName
 opening_hint why text = None
 
--- only `label` has hints
+-- only `label` and `bdf` have hints; `bdf` without a text has the empty one, which is no path
 abbrev pub hint_of_open : Request → ErrorKind → Option FixedHint
 hint_of_open (request.Label font text options) k = opening_hint k (Some text.now)
 hint_of_open (request.Labels font options) k = opening_hint k None
+hint_of_open (request.Bdf font options) k = opening_hint k (Some options.text.now)
 hint_of_open r k = None
 
 abbrev pub opening_text : List ℕ → FixedHint → List ℕ

@@ -1,6 +1,7 @@
 //! The program's decisions: the request of a command line, and the exit status and line of each end.
 #![tactic(auto)]
 
+mod bdf;
 mod faces;
 mod labelling;
 mod performing;
@@ -11,6 +12,7 @@ mod telling_labels;
 mod telling_texts;
 mod unopened;
 
+pub use bdf::{BdfOptions, stop_of_request};
 pub use labelling::{ALIGNS, LEFT, LabelOptions, align_named};
 pub use performing::perform;
 pub use request::{
