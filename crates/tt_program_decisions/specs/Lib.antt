@@ -1,4 +1,4 @@
-pub mod BdfOptions
+pub mod BdfRequests
 pub mod FaceLines
 pub mod Requests
 pub mod Stops

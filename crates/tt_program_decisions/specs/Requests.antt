@@ -18,6 +18,7 @@ use Rattle.tt_label.specs.Label.{label_glyphs}
 use Rattle.tt_line.specs.Layout.{text_glyphs}
 use Rattle.tt_render.specs.Labels.{FontLabelGives, FontLabelsGive, HintsBy}
 use Rattle.tt_render.specs.declared.setting.Setting.{Setting}
+use Rattle.tt_render.specs.LayoutTexts.{FontLayoutGives, IsLayoutFault, TellsFaultsOf}
 use Rattle.tt_render.specs.LinesDefects.{IsTextDefect, LinesTellDefectsOf}
 use Rattle.tt_render_run.specs.MapLines.{map_wanted}
 use Rattle.tt_render_run.specs.Outcome.{Traffic}
@@ -27,7 +28,7 @@ use Rattle.tt_render.specs.TextsOutcome.{FontLinesGive, FontTextGives, TextTells
 use Rattle.tt_program_decisions.specs.declared.request.Request.{Request}
 use Rattle.tt_program_decisions.specs.declared.labelling.LabelOptions.{LabelOptions}
 use Rattle.tt_program_decisions.specs.declared.request.Request.TheVariants.{Map, Faces, Text, Lines, Layout, Label, Labels, Bdf}
-use Rattle.tt_program_decisions.specs.BdfOptions.{BdfAsked, bdf_view, range_words, text_or_none}
+use Rattle.tt_program_decisions.specs.BdfRequests.{BdfAsked, bdf_view, range_words, text_or_none}
 use Rattle.tt_program_decisions.specs.FaceLines.{IsFacesDefect, faces_wanted}
 use Rattle.tt_render.specs.Printing.{Errors}
 use Rattle.tt_program_decisions.specs.Telling.{Does, DoesLabel, DoesTexts}
@@ -93,18 +94,6 @@ label_options_asked (Some n) (Some m) (Some side) (Some how) (Some what) face =
     label_named n m (align_named side) (fit_named how) (missing_named what) face
 label_options_asked n m side how what face = None
 
--- the options of `bdf`, where the name of the way to fit is known
-abbrev pub bdf_named : ℕ → Option Fit → Option ℕ → Option (List ℕ) → Option (List ℕ) → Option BdfAsked
-bdf_named n (Some f) face range text =
-    Some (record { size = n; fit = f; face = face; range = range_words range text; text = text_or_none text })
-bdf_named n None face range text = None
-
--- `--size SIZE --fit FIT`, `--face FACE`, `--range RANGE` and TEXT; all may be absent
-abbrev pub bdf_options_asked
-    : Option ℕ → Option (List ℕ) → Option ℕ → Option (List ℕ) → Option (List ℕ) → Option BdfAsked
-bdf_options_asked (Some n) (Some how) face range text = bdf_named n (fit_named how) face range text
-bdf_options_asked n how face range text = None
-
 -- The requests, each with its font: the lines that map a text; the lines of the file's faces; the product of a text with
 -- a setting; the products of the lines of standard input; the measure of a text without ink; the label of a text; the
 -- labels of the lines of standard input; a bitmap font.
@@ -116,7 +105,7 @@ pub data Asked : Type 0 where
   lay_text : List ℕ → List ℕ → Setting → Asked
   draw_label : List ℕ → List ℕ → LabelOptions → Asked
   draw_labels : List ℕ → LabelOptions → Asked
-  make_bdf : List ℕ → BdfAsked → Asked
+  make_bdf : BdfAsked → Asked
 
 abbrev pub asked_of : Request → Asked
 asked_of (Map font text r) = map_text font.now text.now r
@@ -126,7 +115,7 @@ asked_of (Lines font setting) = draw_lines font.now setting
 asked_of (Layout font text setting) = lay_text font.now text.now setting
 asked_of (Label font text options) = draw_label font.now text.now options
 asked_of (Labels font options) = draw_labels font.now options
-asked_of (Bdf font options) = make_bdf font.now (bdf_view options)
+asked_of (Bdf asked) = make_bdf (bdf_view asked)
 
 -- `map [--face FACE] FONT TEXT`; words may be absent
 abbrev pub map_asked : Option (List ℕ) → Option (List ℕ) → Option ℕ → Option Asked
@@ -159,10 +148,23 @@ bare_asked None = None
 abbrev pub measure_asked : Bool → Option Asked → Option Asked
 measure_asked bare asked = if bare then bare_asked asked else asked
 
--- `bdf OPTION.. FONT [TEXT]`; the word and options may be absent
-abbrev pub bdf_asked : Option (List ℕ) → Option BdfAsked → Option Asked
-bdf_asked (Some font) (Some o) = Some (make_bdf font o)
-bdf_asked font o = None
+-- `bdf`, where the name of the way to fit is known
+abbrev pub bdf_named : List ℕ → ℕ → Option Fit → Option ℕ → Option (List ℕ) → Option (List ℕ) → Option Asked
+bdf_named font n (Some f) face range text = Some (make_bdf (record {
+  font = font;
+  size = n;
+  fit = f;
+  face = face;
+  range = range_words range text;
+  text = text_or_none text;
+}))
+bdf_named font n None face range text = None
+
+-- `bdf --size SIZE --fit FIT --face FACE --range RANGE FONT TEXT`; words and options may be absent
+abbrev pub bdf_asked : Option (List ℕ) → Option ℕ → Option (List ℕ) → Option ℕ → Option (List ℕ) → Option (List ℕ)
+    → Option Asked
+bdf_asked (Some font) (Some n) (Some how) face range text = bdf_named font n (fit_named how) face range text
+bdf_asked font n how face range text = None
 
 -- `label OPTION.. FONT TEXT`, or with standard input's lines `label OPTION.. --lines FONT`; words and options may be
 -- absent
@@ -217,17 +219,11 @@ AsksLabel text IsNumber IsFlag answer =
     × IsFlag (codes "lines") lines
     × (answer ≡ label_asked (text (codes "FONT")) (text (codes "TEXT")) lines options)
 
--- the options of `bdf` by its arguments
-abbrev pub AsksBdfOptions : (List ℕ → Option (List ℕ)) → (List ℕ → Option ℕ → Type 0) → Option BdfAsked → Type 0
-AsksBdfOptions text IsNumber answer =
-    (size face : Option ℕ) × IsNumber (codes "size") size × IsNumber (codes "face") face
-    × (answer ≡ bdf_options_asked size (text (codes "fit")) face (text (codes "range")) (text (codes "TEXT")))
-
 -- the request of `bdf` by its arguments
 abbrev pub AsksBdf : (List ℕ → Option (List ℕ)) → (List ℕ → Option ℕ → Type 0) → Option Asked → Type 0
 AsksBdf text IsNumber answer =
-    (options : Option BdfAsked) × AsksBdfOptions text IsNumber options
-    × (answer ≡ bdf_asked (text (codes "FONT")) options)
+    (size face : Option ℕ) × IsNumber (codes "size") size × IsNumber (codes "face") face
+    × (answer ≡ bdf_asked (text (codes "FONT")) size (text (codes "fit")) face (text (codes "range")) (text (codes "TEXT")))
 
 -- the setting of a label with these options: glyphs of any face of any font
 abbrev pub label_setting : LabelOptions → Setting
@@ -258,7 +254,7 @@ font_of (Lines font setting) = font.now
 font_of (Layout font text setting) = font.now
 font_of (Label font text options) = font.now
 font_of (Labels font options) = font.now
-font_of (Bdf font options) = font.now
+font_of (Bdf asked) = asked.font.now
 
 -- a request is performed and reported: the contract of its call holds for some answer. For the lines that map a text, or
 -- tell faces: the bytes to write for a font file, and the defects for which it is refused. The second traffic is that of
@@ -273,6 +269,9 @@ Performs (Text font text setting) folder t lines e status =
 Performs (Lines font setting) folder t lines e status =
     DoesTexts {V = ℕ} (λ answer told. FontLinesGive setting answer (reader_in t) lines told
     × LinesTellDefectsOf text_glyphs t.left_before setting lines.left_before answer) e status
+Performs (Layout font text setting) folder t lines e status =
+    DoesTexts {V = Unit {0}} (λ answer told. FontLayoutGives setting text.now answer t told
+    × TellsFaultsOf t.left_before (IsLayoutFault setting text.now) answer) e status
 Performs (Label font text options) folder t lines e status =
     (l : DrawnLabel) × IsLabelFor font.now options l
     × DoesLabel (λ drawn told. FontLabelGives l text.now drawn.answer t told

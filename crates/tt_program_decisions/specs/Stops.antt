@@ -9,7 +9,7 @@ use Rattle.tt_program_decisions.specs.declared.request.Request.{Request}
 use Rattle.tt_program_decisions.specs.declared.request.Request.TheVariants as request
 use Rattle.tt_program_decisions.specs.declared.stopping.Stop.{Stop}
 use Rattle.tt_program_decisions.specs.declared.stopping.Stop.TheVariants as stop
-use Rattle.tt_program_decisions.specs.BdfOptions.{bdf_view, ranges_asked}
+use Rattle.tt_program_decisions.specs.BdfRequests.{bdf_view, ranges_asked}
 
 -- a word that is no text is a fault of the command line
 abbrev pub stop_at_words : ErrorKind → Stop
@@ -47,5 +47,5 @@ IsStopFor ranges (Some stop.Memory) = ⊤
 IsStopFor ranges (Some why) = ⊥
 
 abbrev pub IsStopBefore : Request → Option Stop → Type 0
-IsStopBefore (request.Bdf font options) why = IsStopFor (ranges_asked (bdf_view options).range) why
+IsStopBefore (request.Bdf asked) why = IsStopFor (ranges_asked (bdf_view asked).range) why
 IsStopBefore r why = why ≡ None

@@ -51,7 +51,7 @@ opening_hint why text = None
 abbrev pub hint_of_open : Request → ErrorKind → Option FixedHint
 hint_of_open (request.Label font text options) k = opening_hint k (Some text.now)
 hint_of_open (request.Labels font options) k = opening_hint k None
-hint_of_open (request.Bdf font options) k = opening_hint k (Some options.text.now)
+hint_of_open (request.Bdf asked) k = opening_hint k (Some asked.text.now)
 hint_of_open r k = None
 
 abbrev pub opening_text : List ℕ → FixedHint → List ℕ

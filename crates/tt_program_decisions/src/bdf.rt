@@ -2,8 +2,8 @@
 
 ghost use Rattle.std.specs.Prelude.{◌≡◌, All, IfOk, IfSome, option_map};
 ghost use Rattle.tt_bdf.specs.Ranges.{IsCodeRange};
-ghost use Rattle.tt_program_decisions.specs.BdfOptions.{bdf_view, range_words, ranges_asked, text_or_none};
-ghost use Rattle.tt_program_decisions.specs.Requests.{AsksBdf, AsksBdfOptions, asked_of};
+ghost use Rattle.tt_program_decisions.specs.BdfRequests.{range_words, ranges_asked, text_or_none};
+ghost use Rattle.tt_program_decisions.specs.Requests.{AsksBdf, asked_of};
 ghost use Rattle.tt_program_decisions.specs.Stops.{IsStopBefore};
 
 use crate::request::{Arguments, Request, fit_named};
@@ -12,9 +12,11 @@ use std::alloc::{AllocError, Global};
 use tt_bdf::{CodeRange, read_ranges};
 use tt_fit::Fit;
 
-/// The options of `bdf`.
+/// What `bdf` is asked for.
 #[derive(Clone, Copy)]
-pub struct BdfOptions<'a> {
+pub struct BdfRequest<'a> {
+    /// The path of the font.
+    pub font: &'a str,
     pub size: u32,
     pub fit: Fit,
     /// The number of the face, if one is asked for.
@@ -28,33 +30,24 @@ pub struct BdfOptions<'a> {
 /// The ranges that are asked for where neither ranges nor a text are given.
 const DEFAULT_RANGE: &str = "20-7E,A0-FF";
 
-/// The request `bdf OPTION.. FONT [TEXT]`, where its word and options are present.
+/// The request `bdf --size SIZE --fit FIT FONT`, where all are present, with `--face FACE`, `--range RANGE` and TEXT,
+/// which may be absent. None where the name of the way to fit is unknown.
 pub(crate) fn bdf_of<'a, A: Arguments<'a>>(arguments: &A) -> Option<Request<'a>>
     ensures { AsksBdf (A.text arguments.now) (A.IsNumber arguments.now) (option_map asked_of result) }
-{
-    let options = bdf_options_of(arguments);
-    let font = arguments.text_for("FONT")?;
-    let options = options?;
-    Some(Request::Bdf { font, options })
-}
-
-/// The options `--size SIZE --fit FIT`, where both are present, and `--face FACE`, `--range RANGE` and TEXT, which may
-/// be absent. None where the name of the way to fit is unknown.
-fn bdf_options_of<'a, A: Arguments<'a>>(arguments: &A) -> Option<BdfOptions<'a>>
-    ensures { AsksBdfOptions (A.text arguments.now) (A.IsNumber arguments.now) (option_map bdf_view result) }
 {
     let size = arguments.number_for("size");
     let fit = arguments.text_for("fit");
     let face = arguments.number_for("face");
     let range = arguments.text_for("range");
     let text = arguments.text_for("TEXT");
-    Some(BdfOptions {
+    Some(Request::Bdf(BdfRequest {
+        font: arguments.text_for("FONT")?,
         size: size?,
         fit: fit_named(fit?)?,
         face,
         range: range_words(range, text),
         text: text_or_none(text),
-    })
+    }))
 }
 
 /// The words of the ranges, by those of `--range` and by TEXT.
@@ -95,7 +88,7 @@ pub fn stop_of_request(alloc: Global, request: &Request) -> Option<Stop>
     ensures { IsStopBefore request.now result }
 {
     match request {
-        Request::Bdf { options, .. } => match ranges_asked(alloc, options.range) {
+        Request::Bdf(asked) => match ranges_asked(alloc, asked.range) {
             Ok(Some(_)) => None,
             Ok(None) => Some(Stop::Range),
             Err(AllocError) => Some(Stop::Memory),

@@ -12,7 +12,7 @@ mod telling_labels;
 mod telling_texts;
 mod unopened;
 
-pub use bdf::{BdfOptions, stop_of_request};
+pub use bdf::{BdfRequest, stop_of_request};
 pub use labelling::{ALIGNS, LEFT, LabelOptions, align_named};
 pub use performing::perform;
 pub use request::{

@@ -51,6 +51,10 @@ pub fn perform<R: Source, L: Source, W: Sink, E: Sink>(
             let drawn = tt_render::draw_lines(alloc, font, lines, out, error, setting);
             tell_texts(alloc, &drawn, error)
         }
+        Request::Layout { text, setting, .. } => {
+            let told = tt_render::write_layout(alloc, font, out, error, text, setting);
+            tell_texts(alloc, &told, error)
+        }
         Request::Label {
             font: path,
             text,

@@ -4,7 +4,7 @@ ghost use Rattle.std.specs.Prelude.{◌≡◌, ◌≢◌, ℕ, Bool, List, Optio
 ghost use Rattle.tt_render.specs.declared.setting.Product.TheVariants.{Measure, Picture};
 ghost use Rattle.tt_program_decisions.specs.Requests.{AsksBdf, AsksDrawing, AsksLabel, AsksMap, AsksMeasure, AsksSetting, asked_of, faces_asked, fit_named, font_of, missing_named, without_ink};
 
-use crate::bdf::{BdfOptions, bdf_of};
+use crate::bdf::{BdfRequest, bdf_of};
 use crate::labelling::{LabelOptions, labelling_of};
 use tt_core::Reading;
 use tt_fit::Fit;
@@ -52,10 +52,7 @@ pub enum Request<'a> {
         options: LabelOptions,
     },
     /// Write a bitmap font.
-    Bdf {
-        font: &'a str,
-        options: BdfOptions<'a>,
-    },
+    Bdf(BdfRequest<'a>),
 }
 
 impl<'a> Request<'a> {
@@ -70,8 +67,8 @@ impl<'a> Request<'a> {
             | Request::Lines { font, .. }
             | Request::Layout { font, .. }
             | Request::Label { font, .. }
-            | Request::Labels { font, .. }
-            | Request::Bdf { font, .. } => font,
+            | Request::Labels { font, .. } => font,
+            Request::Bdf(asked) => asked.font,
         }
     }
 }
@@ -187,7 +184,7 @@ fn without_ink<'a>(asked: Request<'a>) -> Option<Request<'a>>
         | Request::Layout { .. }
         | Request::Label { .. }
         | Request::Labels { .. }
-        | Request::Bdf { .. } => None,
+        | Request::Bdf(_) => None,
     }
 }
 

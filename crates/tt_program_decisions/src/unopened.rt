@@ -79,7 +79,7 @@ fn hint_of_open(request: &Request, kind: ErrorKind) -> Option<FixedHint>
     match request {
         Request::Label { text, .. } => opening_hint(kind, Some(*text)),
         Request::Labels { .. } => opening_hint(kind, None),
-        Request::Bdf { options, .. } => opening_hint(kind, Some(options.text)),
+        Request::Bdf(asked) => opening_hint(kind, Some(asked.text)),
         Request::Map { .. }
         | Request::Faces { .. }
         | Request::Text { .. }

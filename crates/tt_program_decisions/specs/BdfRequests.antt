@@ -3,23 +3,25 @@ use Rattle.std.specs.Prelude.{◌≡◌, refl, ℕ, List, [], ◌∷◌, map, co
 use Rattle.tt_bdf.specs.declared.range.CodeRange.{CodeRange}
 use Rattle.tt_bdf.specs.Ranges.{codes_to, ranges_of}
 use Rattle.tt_fit.specs.declared.programs.Fit.{Fit}
-use Rattle.tt_program_decisions.specs.declared.bdf.BdfOptions.{BdfOptions}
+use Rattle.tt_program_decisions.specs.declared.bdf.BdfRequest.{BdfRequest}
 
--- a size, a way to fit, the number of a face if one is asked for, the words of ranges if there are any, and a text
+-- a font, a size, a way to fit, the number of a face if one is asked for, the words of ranges if there are any, a text
 pub record BdfAsked : Type 0 where
+  pub font : List ℕ
   pub size : ℕ
   pub fit : Fit
   pub face : Option ℕ
   pub range : Option (List ℕ)
   pub text : List ℕ
 
-abbrev pub bdf_view : BdfOptions → BdfAsked
-bdf_view o = record {
-  size = o.size;
-  fit = o.fit;
-  face = o.face;
-  range = option_map (λ s. s.now) o.range;
-  text = o.text.now;
+abbrev pub bdf_view : BdfRequest → BdfAsked
+bdf_view b = record {
+  font = b.font.now;
+  size = b.size;
+  fit = b.fit;
+  face = b.face;
+  range = option_map (λ s. s.now) b.range;
+  text = b.text.now;
 }
 
 -- the ranges where neither ranges nor a text are given: the printable characters of ASCII and of Latin-1
