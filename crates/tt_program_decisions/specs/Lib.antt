@@ -1,3 +1,4 @@
+pub mod BdfCalls
 pub mod BdfRequests
 pub mod FaceLines
 pub mod Requests

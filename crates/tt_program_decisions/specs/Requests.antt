@@ -28,6 +28,7 @@ use Rattle.tt_render.specs.TextsOutcome.{FontLinesGive, FontTextGives, TextTells
 use Rattle.tt_program_decisions.specs.declared.request.Request.{Request}
 use Rattle.tt_program_decisions.specs.declared.labelling.LabelOptions.{LabelOptions}
 use Rattle.tt_program_decisions.specs.declared.request.Request.TheVariants.{Map, Faces, Text, Lines, Layout, Label, Labels, Bdf}
+use Rattle.tt_program_decisions.specs.BdfCalls.{PerformsBdf}
 use Rattle.tt_program_decisions.specs.BdfRequests.{BdfAsked, bdf_view, range_words, text_or_none}
 use Rattle.tt_program_decisions.specs.FaceLines.{IsFacesDefect, faces_wanted}
 use Rattle.tt_render.specs.Printing.{Errors}
@@ -282,6 +283,7 @@ Performs (Labels font options) folder t lines e status =
     × DoesLabel (λ drawn told. FontLabelsGive l drawn.answer (reader_in t) lines told
     × LinesTellDefectsOf label_glyphs t.left_before l.setting lines.left_before drawn.answer
     × IfSome t.left_before (HintsBy l drawn)) l folder e status
+Performs (Bdf asked) folder t lines e status = PerformsBdf (bdf_view asked) folder t e status
 
 -- a property that holds unless the request is for standard input's lines
 abbrev pub UnlessLines : Request → Type 0 → Type 0

@@ -5,6 +5,7 @@ use Rattle.std.specs.declared.io.ErrorKind.TheVariants.{OutOfMemory}
 use Rattle.tt_bdf.specs.declared.range.CodeRange.{CodeRange}
 use Rattle.tt_render_run.specs.declared.fault.RunFault.TheVariants as run
 use Rattle.tt_render_run.specs.Messages.{line_of, status_of}
+use Rattle.tt_render.specs.Printing.{Errors, Prints}
 use Rattle.tt_program_decisions.specs.declared.request.Request.{Request}
 use Rattle.tt_program_decisions.specs.declared.request.Request.TheVariants as request
 use Rattle.tt_program_decisions.specs.declared.stopping.Stop.{Stop}
@@ -38,6 +39,10 @@ stop_text stop.Incomplete = codes "tt_render: the command line is incomplete\n"
 stop_text stop.Range = codes "tt_render: --range is hexadecimal, as 20-7E,A0-FF\n"
 stop_text stop.Unopened = line_of run.Read ++ codes "\n"
 stop_text stop.Memory = line_of run.Memory ++ codes "\n"
+
+-- a stop is reported by its status and its text
+abbrev pub TellsStop : Stop → ℕ → Errors → Type 0
+TellsStop why status e = (status ≡ stop_status why) × Prints e (stop_text why)
 
 -- why the words of a request stop it before its font is opened, by the ranges that they ask for
 abbrev pub IsStopFor : Option (List CodeRange) → Option Stop → Type 0

@@ -7,13 +7,13 @@ use Rattle.tt_advice.specs.declared.hint.FixedHint.{FixedHint}
 use Rattle.tt_advice.specs.declared.hint.FixedHint.TheVariants as fixed
 use Rattle.tt_advice.specs.declared.hint.Hint.TheVariants as hint
 use Rattle.tt_advice.specs.Hints.{hint_line}
-use Rattle.tt_render.specs.Printing.{Errors, Prints}
+use Rattle.tt_render.specs.Printing.{Errors}
 use Rattle.tt_program_decisions.specs.declared.request.Request.{Request}
 use Rattle.tt_program_decisions.specs.declared.request.Request.TheVariants as request
 use Rattle.tt_program_decisions.specs.declared.stopping.Stop.{Stop}
 use Rattle.tt_program_decisions.specs.declared.stopping.Stop.TheVariants as stop
 use Rattle.tt_program_decisions.specs.Requests.{font_of}
-use Rattle.tt_program_decisions.specs.Stops.{stop_at_open, stop_status, stop_text}
+use Rattle.tt_program_decisions.specs.Stops.{TellsStop, stop_at_open, stop_status, stop_text}
 use Rattle.tt_program_decisions.specs.Telling.{TellsText}
 
 -- a byte in lower case, if it is a letter of ASCII
@@ -56,10 +56,6 @@ hint_of_open r k = None
 
 abbrev pub opening_text : List ℕ → FixedHint → List ℕ
 opening_text path h = stop_text stop.Unopened ++ hint_line path (hint.Fixed h)
-
--- a stop is reported by its status and its text
-abbrev pub TellsStop : Stop → ℕ → Errors → Type 0
-TellsStop why status e = (status ≡ stop_status why) × Prints e (stop_text why)
 
 abbrev pub TellsOpening : Stop → List ℕ → Option FixedHint → ℕ → Errors → Type 0
 TellsOpening why path None status e = TellsStop why status e

@@ -1,15 +1,21 @@
-//! The request `bdf`: its options, and the characters that they ask for.
+//! The request `bdf`: what it asks for, and its performance.
 
-ghost use Rattle.std.specs.Prelude.{◌≡◌, All, IfOk, IfSome, option_map};
+ghost use Rattle.std.specs.Prelude.{◌≡◌, ◌≤◌, false, All, IfOk, IfSome, option_map};
 ghost use Rattle.tt_bdf.specs.Ranges.{IsCodeRange};
-ghost use Rattle.tt_program_decisions.specs.BdfRequests.{range_words, ranges_asked, text_or_none};
+ghost use Rattle.tt_render.specs.Printing.{errors_of};
+ghost use Rattle.tt_render_run.specs.Outcome.{traffic_of};
+ghost use Rattle.tt_program_decisions.specs.BdfCalls.{IsFileFor, PerformsBdf, face_or_first};
+ghost use Rattle.tt_program_decisions.specs.BdfRequests.{bdf_view, range_words, ranges_asked, text_or_none};
 ghost use Rattle.tt_program_decisions.specs.Requests.{AsksBdf, asked_of};
 ghost use Rattle.tt_program_decisions.specs.Stops.{IsStopBefore};
 
 use crate::request::{Arguments, Request, fit_named};
-use crate::stopping::Stop;
+use crate::stopping::{Stop, tell_stop};
+use crate::telling_bdf::tell_bdf;
 use std::alloc::{AllocError, Global};
 use tt_bdf::{CodeRange, read_ranges};
+use tt_bitmap_font::{FontFile, write_bdf};
+use tt_core::{Sink, Source};
 use tt_fit::Fit;
 
 /// What `bdf` is asked for.
@@ -100,5 +106,55 @@ pub fn stop_of_request(alloc: Global, request: &Request) -> Option<Stop>
         | Request::Layout { .. }
         | Request::Label { .. }
         | Request::Labels { .. } => None,
+    }
+}
+
+fn face_or_first(face: Option<u32>) -> u32
+    ensures { result ≡ face_or_first face }
+{
+    match face {
+        Some(face) => face,
+        None => 0,
+    }
+}
+
+/// The file of a request with these ranges.
+fn file_for<'a>(asked: &BdfRequest<'a>, ranges: &'a [CodeRange]) -> FontFile<'a>
+    ensures { IsFileFor (bdf_view asked.now) ranges.now result }
+{
+    FontFile {
+        size: asked.size,
+        fit: asked.fit,
+        face: face_or_first(asked.face),
+        ranges,
+        text: asked.text,
+        path: asked.font,
+        face_given: asked.face.is_some(),
+    }
+}
+
+/// Performs the request `bdf`, as `perform` does. Returns the exit status.
+pub(crate) fn perform_bdf<R: Source, W: Sink, E: Sink>(
+    alloc: Global,
+    asked: &BdfRequest,
+    folder: bool,
+    font: &mut R,
+    out: &mut W,
+    error: &mut E,
+) -> u8
+    requires font { R.has_failed font.old ≡ false }
+    requires out { W.has_failed out.old ≡ false }
+    requires error { E.has_failed error.old ≡ false }
+    ensures bound { result ≤ 5 }
+    ensures outcome { PerformsBdf (bdf_view asked.now) folder (traffic_of R.left R.has_failed W.written W.has_failed font.old font.new out.old out.new) (errors_of E.written E.has_failed error.old error.new) result }
+{
+    match ranges_asked(alloc, asked.range) {
+        Ok(Some(ranges)) => {
+            let file = file_for(asked, &ranges);
+            let written = write_bdf(alloc, font, out, error, &file);
+            tell_bdf(alloc, &written, &file, folder, error)
+        }
+        Ok(None) => tell_stop(Stop::Range, error),
+        Err(AllocError) => tell_stop(Stop::Memory, error),
     }
 }

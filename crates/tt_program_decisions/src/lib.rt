@@ -8,6 +8,7 @@ mod performing;
 mod request;
 mod stopping;
 mod telling;
+mod telling_bdf;
 mod telling_labels;
 mod telling_texts;
 mod unopened;

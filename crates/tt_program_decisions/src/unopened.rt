@@ -1,8 +1,8 @@
 //! The report of a font that cannot be opened. For `label` and `bdf` a line tells a person what to do.
 
 ghost use Rattle.std.specs.Prelude.{◌≡◌, ◌≤◌, false, None, option_map, string_bytes, IfOk};
-ghost use Rattle.tt_program_decisions.specs.Stops.{stop_at_open};
-ghost use Rattle.tt_program_decisions.specs.Unopened.{TellsStop, TellsUnopened, hint_of_open, lowered, names_font, opening_hint, opening_text, unfound_hint};
+ghost use Rattle.tt_program_decisions.specs.Stops.{TellsStop, stop_at_open};
+ghost use Rattle.tt_program_decisions.specs.Unopened.{TellsUnopened, hint_of_open, lowered, names_font, opening_hint, opening_text, unfound_hint};
 ghost use Rattle.tt_render.specs.Printing.{errors_of};
 
 use crate::request::Request;
