@@ -1,7 +1,7 @@
 -- No part of the standard: what `bdf` is asked for (profile).
 use Rattle.std.specs.Prelude.{◌≡◌, refl, ℕ, List, [], ◌∷◌, map, codes, Option, Some, None, option_map}
 use Rattle.tt_bdf.specs.declared.range.CodeRange.{CodeRange}
-use Rattle.tt_bdf.specs.Ranges.{codes_to, ranges_of}
+use Rattle.tt_bdf.specs.Ranges.{ranges_of}
 use Rattle.tt_fit.specs.declared.programs.Fit.{Fit}
 use Rattle.tt_program_decisions.specs.declared.bdf.BdfRequest.{BdfRequest}
 
@@ -44,6 +44,9 @@ ranges_asked None = Some []
 ranges_asked (Some words) = ranges_of words
 
 -- worked values
+abbrev codes_to : ℕ → ℕ → CodeRange
+codes_to a b = record { first = a; last = b }
+
 neither_given : ranges_asked (range_words None None) ≡ Some (codes_to 0x20 0x7E ∷ codes_to 0xA0 0xFF ∷ [])
 unfolding ranges_of
 neither_given = refl
