@@ -18,7 +18,7 @@ use Rattle.tt_label.specs.Label.{label_glyphs}
 use Rattle.tt_line.specs.Layout.{text_glyphs}
 use Rattle.tt_render.specs.Labels.{FontLabelGives, FontLabelsGive, HintsBy}
 use Rattle.tt_render.specs.declared.setting.Setting.{Setting}
-use Rattle.tt_render.specs.LayoutTexts.{FontLayoutGives, IsLayoutFault, TellsFaultsOf}
+use Rattle.tt_render.specs.LayoutTexts.{FontLayoutGives, IsLayoutDefect}
 use Rattle.tt_render.specs.LinesDefects.{IsTextDefect, LinesTellDefectsOf}
 use Rattle.tt_render_run.specs.MapLines.{map_wanted}
 use Rattle.tt_render_run.specs.Outcome.{Traffic}
@@ -272,7 +272,7 @@ Performs (Lines font setting) folder t lines e status =
     × LinesTellDefectsOf text_glyphs t.left_before setting lines.left_before answer) e status
 Performs (Layout font text setting) folder t lines e status =
     DoesTexts {V = Unit {0}} (λ answer told. FontLayoutGives setting text.now answer t told
-    × TellsFaultsOf t.left_before (IsLayoutFault setting text.now) answer) e status
+    × TextTellsDefectsOf t.left_before (IsLayoutDefect setting text.now) answer) e status
 Performs (Label font text options) folder t lines e status =
     (l : DrawnLabel) × IsLabelFor font.now options l
     × DoesLabel (λ drawn told. FontLabelGives l text.now drawn.answer t told

@@ -1,25 +1,24 @@
 -- No part of the standard: the measure of a text without its ink (profile), as lines of text, and its answer by a font at
 -- a size. The unfitted glyphs of such a text are not reported.
-use Rattle.std.specs.Prelude.{◌≡◌, ◌⊎◌, refl, ℕ, pos, negsuc, List, [], ◌∷◌, ◌++◌, flat_map, string_bytes, codes, decimal, None, Result, Ok, Err, IfSome, Option, ⊤}
+use Rattle.std.specs.Prelude.{◌≡◌, refl, ℕ, pos, negsuc, Bool, true, false, List, [], ◌∷◌, ◌++◌, flat_map, string_bytes, codes, decimal, None, Result, Ok, Err}
 use Rattle.std.specs.Fmt.{digits, signed_decimal}
 use Rattle.tt_core.specs.declared.collection.Reading.{Reading}
 use Rattle.tt_core.specs.Faults.{Fault}
 use Rattle.tt_core.specs.Outcomes.{◌>>=◌}
 use Rattle.tt_cmap.specs.Units.{plain_unit, selected_unit}
 use Rattle.tt_face.specs.Faces.{Face}
-use Rattle.tt_face.specs.Files.{IsFaceDefectBy}
-use Rattle.tt_line.specs.declared.measured.LineSize.{LineSize}
+use Rattle.tt_line.specs.Layout.{text_glyphs}
 use Rattle.tt_render_run.specs.MapLines.{code_point}
 use Rattle.tt_render_run.specs.Outcome.{Traffic}
 use Rattle.tt_strike.specs.declared.layouts.Layout.{Layout}
 use Rattle.tt_strike.specs.declared.layouts.Pen.{Pen}
-use Rattle.tt_strike.specs.Job.{ByFace, Job}
+use Rattle.tt_strike.specs.Defects.{IsLineDefect}
+use Rattle.tt_strike.specs.Job.{IsFontDefect, Job}
 use Rattle.tt_strike.specs.Layouts.{layout_outcome, pens_outcome}
-use Rattle.tt_strike.specs.Refusals.{Refused, font}
+use Rattle.tt_strike.specs.Refusals.{Refused}
 use Rattle.tt_strike.specs.Strikes.{Strike, job_of}
+use Rattle.tt_strike.specs.Work.{is_bounded}
 use Rattle.tt_render.specs.declared.layout_answers.ReadyLayout.{ReadyLayout}
-use Rattle.tt_render.specs.declared.refusal.Refusal.{Refusal}
-use Rattle.tt_render.specs.declared.refusal.Refusal.TheVariants as reason
 use Rattle.tt_render.specs.declared.refusal.TextsFault.{TextsFault}
 use Rattle.tt_render.specs.declared.setting.Setting.{Setting}
 use Rattle.tt_render.specs.MeasureText.{face_text, font_text}
@@ -80,27 +79,19 @@ LayoutReadies answer opened (Err fault) = IsNotReady answer opened fault.refusal
 abbrev pub FontLayoutGives : {V : Type 0} → Setting → List ℕ → Result V TextsFault → Traffic → Errors → Type 0
 FontLayoutGives a text r t e = FontAnswers a (λ s. layout_answer a s text) text r t e
 
--- this fault of a face refuses the lines of a job
-abbrev pub IsRefusedBy : Reading → Face → Job → Fault → Type 0
-IsRefusedBy r face j f = laid_text r face j ≡ Err (font f)
+-- a defect of the data that a text without ink is laid out from: where glyphs are made, one of these; else no glyph is
+-- read
+abbrev pub IsReadDefect : Bool → (Fault → Type 0) → Fault → Type 0
+IsReadDefect true IsOne f = IsOne f
+IsReadDefect false IsOne f = ⊥
 
--- a defect of the tables that every text needs, or a fault of the face that refuses the text
-abbrev pub IsLayoutFault : Setting → List ℕ → List ℕ → Fault → Type 0
-IsLayoutFault a text file f =
-    IsFaceDefectBy file a.reading f ⊎ ByFace (λ face j. IsRefusedBy a.reading face j f) a.reading (job_by a text) file
+-- a defect that stops the lines of a job, by a face
+abbrev pub IsLaidDefect : Face → Job → Fault → Type 0
+IsLaidDefect face j f = IsReadDefect (is_bounded j.fit) (IsLineDefect face j (text_glyphs face.cmap j.text)) f
 
--- a fault of the font in an error is one of these. Where a text is laid out, its glyphs may have defects all the same
-abbrev pub TellsFault : (Fault → Type 0) → Refusal → Type 0
-TellsFault IsOne (reason.Font f) = IsOne f
-TellsFault IsOne why = ⊤
-
-abbrev pub TellsFaults : {V : Type 0} → (Fault → Type 0) → Result V TextsFault → Type 0
-TellsFaults IsOne (Ok v) = ⊤
-TellsFaults IsOne (Err fault) = TellsFault IsOne fault.refusal
-
--- these claims for the bytes of a reader, where they are known
-abbrev pub TellsFaultsOf : {V : Type 0} → Option (List ℕ) → (List ℕ → Fault → Type 0) → Result V TextsFault → Type 0
-TellsFaultsOf {V} left IsOne result = IfSome left (λ file. TellsFaults {V = V} (IsOne file) result)
+-- a defect of the tables that every text needs, or of the data that this text is laid out from
+abbrev pub IsLayoutDefect : Setting → List ℕ → List ℕ → Fault → Type 0
+IsLayoutDefect a text file f = IsFontDefect IsLaidDefect a.reading (job_by a text) file f
 
 -- worked values: two units of four columns and of three, after a margin of one
 a_layout : Layout

@@ -1,10 +1,11 @@
 //! The answer of a text without its ink: its lines and its report.
 
 ghost use Rattle.std.specs.Prelude.{◌≡◌, IfOk};
-ghost use Rattle.tt_core.specs.Outcomes.{GivesUnless, IfTold};
+ghost use Rattle.tt_core.specs.Outcomes.{GivesUnless};
 ghost use Rattle.tt_render.specs.Labels.{strike_in};
-ghost use Rattle.tt_render.specs.LayoutTexts.{IsRefusedBy, TellsLayout, layout_answer, layout_view};
+ghost use Rattle.tt_render.specs.LayoutTexts.{IsLaidDefect, TellsLayout, layout_answer, layout_view};
 ghost use Rattle.tt_render.specs.TextsOutcome.{IsOfText, refusal_font_fault, told, without_line};
+ghost use Rattle.tt_strike.specs.Defects.{TellsDefects};
 ghost use Rattle.tt_strike.specs.Strikes.{job_of};
 
 use crate::layout_texts::layout_text;
@@ -37,7 +38,7 @@ pub(crate) fn answer_layout(
     ensures exact { GivesUnless told layout_view (without_line result) (layout_answer setting.now (strike_in setting.now sized.old) text.now) }
     ensures report { IfOk result TellsLayout }
     ensures serves { IsOfText (without_line result) }
-    ensures fault { IfTold refusal_font_fault (without_line result) (IsRefusedBy setting.now.reading sized.old.face (job_of (strike_in setting.now sized.old) text.now setting.now.margin)) }
+    ensures defects { TellsDefects refusal_font_fault (IsLaidDefect sized.old.face (job_of (strike_in setting.now sized.old) text.now setting.now.margin)) (without_line result) }
 {
     let face = sized.face();
     let layout = sized.layout(text, setting.margin)?;

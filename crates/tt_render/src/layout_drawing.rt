@@ -2,9 +2,10 @@
 
 ghost use Rattle.std.specs.Prelude.{◌≡◌, ◌≤◌, false, length, Ok, IfOk};
 ghost use Rattle.tt_core.specs.Limits.{font_limit};
-ghost use Rattle.tt_render.specs.LayoutTexts.{FontLayoutGives, IsLayoutFault, LayoutReadies, TellsFaults, TellsFaultsOf, TellsLayout, layout_answer};
+ghost use Rattle.tt_render.specs.LayoutTexts.{FontLayoutGives, IsLayoutDefect, LayoutReadies, TellsLayout, layout_answer};
 ghost use Rattle.tt_render.specs.Printing.{errors_of};
 ghost use Rattle.tt_render.specs.Settings.{job_by, strike_of};
+ghost use Rattle.tt_render.specs.TextsOutcome.{TextTellsDefects, TextTellsDefectsOf};
 ghost use Rattle.tt_render_run.specs.Outcome.{traffic_of};
 ghost use Rattle.tt_strike.specs.Job.{tested};
 
@@ -30,7 +31,7 @@ fn lay_out(
     requires size { length file.now ≤ font_limit }
     requires tested { tested (job_by setting.now text.now) ≡ Ok tt }
     ensures outcome { LayoutReadies (λ s. layout_answer setting.now s text.now) (strike_of setting.now file.now) result }
-    ensures fault { TellsFaults (IsLayoutFault setting.now text.now file.now) result }
+    ensures defects { TextTellsDefects (IsLayoutDefect setting.now text.now file.now) result }
     ensures report { IfOk result TellsLayout }
 {
     let face = Face::read(file, setting.reading)?;
@@ -63,7 +64,7 @@ pub fn write_layout<R: Source, W: Sink, E: Sink>(
     // Either the call stopped before the text was laid out, and did nothing else. Or the font was read to its end and
     // opened, and the writing and printing are as defined for the text by that font.
     ensures outcome { FontLayoutGives setting.now text.now result (traffic_of R.left R.has_failed W.written W.has_failed font.old font.new out.old out.new) (errors_of E.written E.has_failed error.old error.new) }
-    ensures fault { TellsFaultsOf (R.left font.old) (IsLayoutFault setting.now text.now) result }
+    ensures defects { TextTellsDefectsOf (R.left font.old) (IsLayoutDefect setting.now text.now) result }
 {
     test_job(&setting.job(text))?;
     let file = read_font(alloc, font)?;

@@ -29,7 +29,7 @@ returns-in-Layout-clause-outcome g c =
       answer = c.write_layout-told.result;
       between = g.E.Sink.written c.write_layout-told.new.error;
       had_failed = g.E.Sink.has_failed c.write_layout-told.new.error;
-      outcome = (c.write_layout-told.ensures.outcome, c.write_layout-told.ensures.fault);
+      outcome = (c.write_layout-told.ensures.outcome, c.write_layout-told.ensures.defects);
       told = c.tell_texts-in-Layout.ensures.told;
     })
 

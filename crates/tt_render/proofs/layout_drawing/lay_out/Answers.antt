@@ -6,7 +6,7 @@ use Rattle.tt_render.specs.declared.layout_answers.ReadyLayout.{ReadyLayout}
 use Rattle.tt_render.specs.LayoutTexts.{layout_answer}
 use Rattle.tt_render.specs.Settings.{job_by, strike_by, strike_of}
 use Rattle.tt_render.proofs.FontLines.{face_file, font_opened, font_refused}
-use Rattle.tt_render.proofs.LayoutCalls.{layout_tells}
+use Rattle.tt_render.proofs.LayoutCalls.{layout_tells, none_by_layout}
 use Rattle.tt_render.proofs.OneText.{strike_stops, text_stops}
 use Rattle.tt_render.proofs.layout_drawing.lay_out.Goals as goal
 
@@ -44,21 +44,27 @@ returns-clause-outcome c =
     (font_opened a c.args.file.now c.in_ok-face.face c.requires.size c.in_ok-face.ensures.exact) refused
     c.in-Err.ensures.serves)
 
-pub returns-in_err-face-clause-fault : goal.returns-in_err-face-clause-fault
-returns-in_err-face-clause-fault c =
+pub returns-in_err-face-clause-defects : goal.returns-in_err-face-clause-defects
+returns-in_err-face-clause-defects c =
     let p = err_from_is_err_and c.from_residual.result c.from_residual.ensures.1 in
     rw (p.1, p.2) (inl c.in_err-face.ensures.fault)
 
-pub returns-in_err-sized-clause-fault : goal.returns-in_err-sized-clause-fault
-returns-in_err-sized-clause-fault c =
+pub returns-in_err-sized-clause-defects : goal.returns-in_err-sized-clause-defects
+returns-in_err-sized-clause-defects c =
     let p = err_from_is_err_and c.from_residual-in_err-sized.result c.from_residual-in_err-sized.ensures.1 in
     rw (p.1, p.2) tt
 
-pub returns-clause-fault : goal.returns-clause-fault
-returns-clause-fault c =
-    let stands = rw c.in_ok-sized.ensures.exact at c.in-Err.ensures.fault in
+pub returns-clause-defects : goal.returns-clause-defects
+returns-clause-defects c =
+    let stands = rw c.in_ok-sized.ensures.exact at c.in-Err.ensures.defects in
     rw c.texts_fault.ensures (layout_tells ReadyLayout c.args.setting.now c.args.text.now c.args.file.now
-    c.in_ok-face.face c.in-Err.fault.refusal c.in_ok-face.ensures.exact stands)
+    c.in_ok-face.face c.in-Err.fault.refusal c.in_ok-face.ensures.exact stands c.in-Err.ensures.serves)
+
+pub returns-in-Ok-clause-defects : goal.returns-in-Ok-clause-defects
+returns-in-Ok-clause-defects c =
+    let none = rw c.in_ok-sized.ensures.exact at c.in-Ok.ensures.defects in
+    none_by_layout c.args.setting.now c.args.text.now c.args.file.now c.in_ok-face.face c.in_ok-face.ensures.exact
+    c.in_ok-face.ensures.sound none
 
 pub answer_layout-requires : goal.answer_layout-requires
 answer_layout-requires c = record {

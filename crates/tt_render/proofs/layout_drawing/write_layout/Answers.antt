@@ -2,18 +2,16 @@ use Rattle.std.proofs.Common.{◌≡◌, ℕ, List, Ok, Err, inl, subst}
 use Rattle.std.proofs.lemmas.Result.{err_from_is_err_and}
 use Rattle.tt_render.specs.declared.refusal.Refusal.TheVariants as reason
 use Rattle.tt_render_run.specs.Outcome.{traffic_of}
-use Rattle.tt_render.specs.LayoutTexts.{IsLayoutFault, LayoutReadies, TellsFaults, layout_answer, layout_view}
+use Rattle.tt_render.specs.LayoutTexts.{IsLayoutDefect, LayoutReadies, layout_answer, layout_view}
 use Rattle.tt_render.specs.Printing.{errors_of}
 use Rattle.tt_render_run.specs.Reading.{font_reader_of}
 use Rattle.tt_render.specs.Settings.{job_by, strike_of}
-use Rattle.tt_render.specs.TextsOutcome.{StopsAtFont}
+use Rattle.tt_render.specs.TextsOutcome.{StopsAtFont, TextTellsDefects}
 use Rattle.tt_render.specs.Views.{before_lines}
 use Rattle.tt_strike.specs.Job.{Job, tested}
 use Rattle.tt_render_run.proofs.Calls.{known_of}
 use Rattle.tt_render.proofs.FontLines.{reading_stops}
-use Rattle.tt_render.proofs.LabelCalls.{if_some_all}
-use Rattle.tt_render.proofs.LayoutCalls.{reading_names}
-use Rattle.tt_render.proofs.OneText.{silent, text_cut, text_fails, text_written}
+use Rattle.tt_render.proofs.OneText.{job_tells, reading_tells, silent, text_cut, text_fails, text_written}
 use Rattle.tt_render.proofs.Printed.{keeps_itself}
 use Rattle.tt_render.proofs.layout_drawing.write_layout.Goals as goal
 
@@ -97,32 +95,41 @@ returns-clause-outcome g c =
     (rw c.as_bytes.ensures.value at cut.within, rw c.as_bytes.ensures.value at cut.part) cut.failure
     (keeps_itself (g.E.Sink.written c.args.error.now), c.requires.error)
 
-pub returns-in_err-test_job-clause-fault : goal.returns-in_err-test_job-clause-fault
-returns-in_err-test_job-clause-fault g c =
+pub returns-in_err-test_job-clause-defects : goal.returns-in_err-test_job-clause-defects
+returns-in_err-test_job-clause-defects g c =
     let p = err_from_is_err_and c.from_residual.result c.from_residual.ensures.1 in
-    rw (p.1, p.2) (if_some_all (g.R.Source.left c.args.font.now) _ (λ file. tt))
+    rw (p.1, p.2) (job_tells (g.R.Source.left c.args.font.now)
+    (IsLayoutDefect c.args.setting.now c.args.text.now) c.in_err-test_job.field-0.0)
 
-pub returns-in_err-file-clause-fault : goal.returns-in_err-file-clause-fault
-returns-in_err-file-clause-fault g c =
+pub returns-in_err-file-clause-defects : goal.returns-in_err-file-clause-defects
+returns-in_err-file-clause-defects g c =
     let left = g.R.Source.left in
     let font = c.read_font.new.font in
     let p = err_from_is_err_and c.from_residual-in_err-file.result c.from_residual-in_err-file.ensures.1 in
-    rw (p.1, p.2) (reading_names c.in_err-file.field-0.0 (left c.args.font.now) (left font)
-    (g.R.Source.has_failed font) (IsLayoutFault c.args.setting.now c.args.text.now) c.in_err-file.ensures)
+    rw (p.1, p.2) (reading_tells c.in_err-file.field-0.0 (left c.args.font.now) (left font)
+    (g.R.Source.has_failed font) (IsLayoutDefect c.args.setting.now c.args.text.now) c.in_err-file.ensures)
 
-pub returns-in_err-ready-clause-fault : goal.returns-in_err-ready-clause-fault
-returns-in_err-ready-clause-fault g c =
+pub returns-in_err-ready-clause-defects : goal.returns-in_err-ready-clause-defects
+returns-in_err-ready-clause-defects g c =
     let left = g.R.Source.left in
     let file = c.in_ok-file in
     let fault = c.in_err-ready.field-0.0 in
     let p = err_from_is_err_and c.from_residual-in_err-ready.result c.from_residual-in_err-ready.ensures.1 in
-    let P : List ℕ → Type 0 = λ bytes. TellsFaults {V = Unit {0}} (IsLayoutFault c.args.setting.now c.args.text.now bytes) (Err fault) in
-    let tells = subst P c.deref.ensures.value c.in_err-ready.ensures.fault in
+    let P : List ℕ → Type 0 = λ bytes. TextTellsDefects {V = Unit {0}} (IsLayoutDefect c.args.setting.now c.args.text.now bytes) (Err fault) in
+    let tells = subst P c.deref.ensures.value c.in_err-ready.ensures.defects in
     rw (p.1, p.2)
     (known_of (left c.args.font.now) (left c.read_font.new.font) file.file.items P file.ensures.0 file.ensures.1 tells)
 
-pub returns-in-Ok-clause-fault : goal.returns-in-Ok-clause-fault
-returns-in-Ok-clause-fault g c = if_some_all (g.R.Source.left c.args.font.now) _ (λ file. tt)
+pub returns-in-Ok-clause-defects : goal.returns-in-Ok-clause-defects
+returns-in-Ok-clause-defects g c =
+    let left = g.R.Source.left in
+    let file = c.in_ok-file in
+    let tells = rw c.deref.ensures.value at c.in_ok-ready.ensures.defects in
+    known_of (left c.args.font.now) (left c.read_font.new.font) file.file.items _ file.ensures.0 file.ensures.1 tells
 
-pub returns-clause-fault : goal.returns-clause-fault
-returns-clause-fault g c = if_some_all (g.R.Source.left c.args.font.now) _ (λ file. tt)
+pub returns-clause-defects : goal.returns-clause-defects
+returns-clause-defects g c =
+    let left = g.R.Source.left in
+    let file = c.in_ok-file in
+    let tells = rw c.deref.ensures.value at c.in_ok-ready.ensures.defects in
+    known_of (left c.args.font.now) (left c.read_font.new.font) file.file.items _ file.ensures.0 file.ensures.1 tells
