@@ -4,7 +4,7 @@ ghost use Rattle.std.specs.Prelude.{◌≡◌, ◌≤◌, false, All, IfOk, IfSo
 ghost use Rattle.tt_bdf.specs.Ranges.{IsCodeRange};
 ghost use Rattle.tt_render.specs.Printing.{errors_of};
 ghost use Rattle.tt_render_run.specs.Outcome.{traffic_of};
-ghost use Rattle.tt_program_decisions.specs.BdfCalls.{IsFileFor, PerformsBdf, face_or_first};
+ghost use Rattle.tt_program_decisions.specs.BdfCalls.{PerformsBdf, face_or_first};
 ghost use Rattle.tt_program_decisions.specs.BdfRequests.{bdf_view, range_words, ranges_asked, text_or_none};
 ghost use Rattle.tt_program_decisions.specs.Requests.{AsksBdf, asked_of};
 ghost use Rattle.tt_program_decisions.specs.Stops.{IsStopBefore};
@@ -118,21 +118,6 @@ fn face_or_first(face: Option<u32>) -> u32
     }
 }
 
-/// The file of a request with these ranges.
-fn file_for<'a>(asked: &BdfRequest<'a>, ranges: &'a [CodeRange]) -> FontFile<'a>
-    ensures { IsFileFor (bdf_view asked.now) ranges.now result }
-{
-    FontFile {
-        size: asked.size,
-        fit: asked.fit,
-        face: face_or_first(asked.face),
-        ranges,
-        text: asked.text,
-        path: asked.font,
-        face_given: asked.face.is_some(),
-    }
-}
-
 /// Performs the request `bdf`, as `perform` does. Returns the exit status.
 pub(crate) fn perform_bdf<R: Source, W: Sink, E: Sink>(
     alloc: Global,
@@ -150,7 +135,15 @@ pub(crate) fn perform_bdf<R: Source, W: Sink, E: Sink>(
 {
     match ranges_asked(alloc, asked.range) {
         Ok(Some(ranges)) => {
-            let file = file_for(asked, &ranges);
+            let file = FontFile {
+                size: asked.size,
+                fit: asked.fit,
+                face: face_or_first(asked.face),
+                ranges: &ranges,
+                text: asked.text,
+                path: asked.font,
+                face_given: asked.face.is_some(),
+            };
             let written = write_bdf(alloc, font, out, error, &file);
             tell_bdf(alloc, &written, &file, folder, error)
         }

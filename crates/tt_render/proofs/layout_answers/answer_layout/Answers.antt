@@ -1,11 +1,8 @@
-use Rattle.std.proofs.Common.{List}
 use Rattle.std.proofs.lemmas.Result.{err_from_is_err_and}
 use Rattle.tt_render.specs.declared.layout_answers.ReadyLayout.{ReadyLayout}
 use Rattle.tt_render.specs.Labels.{strike_in}
 use Rattle.tt_render.proofs.OneText.{output_serves}
 use Rattle.tt_render.proofs.LayoutCalls.{lines_stop, made_tell, none_made, stops_at_layout, stops_at_pens}
-use Rattle.tt_strike.specs.declared.layouts.Layout.{Layout}
-use Rattle.tt_strike.specs.declared.layouts.Pen.{Pen}
 use Rattle.tt_strike.specs.Strikes.{job_of}
 use Rattle.tt_render.proofs.layout_answers.answer_layout.Goals as goal
 
@@ -26,7 +23,7 @@ returns-in_err-layout-clause-serves c =
 pub returns-in_err-layout-clause-defects : goal.returns-in_err-layout-clause-defects
 returns-in_err-layout-clause-defects c =
     let p = err_from_is_err_and c.from_residual.result c.from_residual.ensures.1 in
-    rw (p.1, p.2) (made_tell Layout _ _ c.in_err-layout.field-0.0 c.in_err-layout.ensures.defects)
+    rw (p.1, p.2) (made_tell _ _ _ c.in_err-layout.field-0.0 c.in_err-layout.ensures.defects)
 
 pub returns-in_err-pens-clause-exact : goal.returns-in_err-pens-clause-exact
 returns-in_err-pens-clause-exact c =
@@ -47,8 +44,8 @@ pub returns-in_err-pens-clause-defects : goal.returns-in_err-pens-clause-defects
 returns-in_err-pens-clause-defects c =
     let p = err_from_is_err_and c.from_residual-in_err-pens.result c.from_residual-in_err-pens.ensures.1 in
     let tells = rw c.in_ok-layout.ensures.same at c.in_err-pens.ensures.defects in
-    rw (p.1, p.2) (made_tell (List Pen) _ _ c.in_err-pens.field-0.0 tells)
+    rw (p.1, p.2) (made_tell _ _ _ c.in_err-pens.field-0.0 tells)
 
 pub returns-clause-defects : goal.returns-clause-defects
 returns-clause-defects c =
-    none_made Layout _ _ c.in_ok-layout.layout c.in_ok-layout.ensures.defects
+    none_made _ _ _ c.in_ok-layout.layout c.in_ok-layout.ensures.defects
