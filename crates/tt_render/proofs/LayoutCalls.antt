@@ -1,5 +1,5 @@
 -- The steps of a call that writes the measure of a text without its ink, joined.
-use Rattle.std.proofs.Common.{◌≡◌, ◌∙◌, ℕ, List, ◌++◌, append_assoc, flat_map, Bool, true, false, Ok, Err, inl, inr, refl}
+use Rattle.std.proofs.Common.{◌≡◌, ◌∙◌, ℕ, List, ◌++◌, append_assoc, flat_map, Bool, true, false, None, Ok, Err, inl, inr, refl}
 use Rattle.std.specs.Prelude.{IfSome}
 use Rattle.tt_core.specs.declared.collection.Reading.{Reading}
 use Rattle.tt_core.specs.declared.draw_fault.DrawFault.{DrawFault}
@@ -22,6 +22,10 @@ use Rattle.tt_strike.specs.Job.{Job}
 use Rattle.tt_strike.specs.Layouts.{TellsMadeDefects, layout_outcome, pens_outcome}
 use Rattle.tt_strike.specs.Refusals as drawing
 use Rattle.tt_strike.specs.Strikes.{Strike, job_of}
+
+-- the pen past the end of some pens
+abbrev pub no_pen : Pen
+no_pen = record { unit = record { character = 0; selector = None }; glyph = 0; advance = 0; pen = 0 }
 
 -- the first lines and those of the pens
 pub append_pens : (r : Reading) (file : List ℕ) (face : Face) (l : Layout) (ps : List Pen)

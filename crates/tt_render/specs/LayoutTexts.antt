@@ -7,6 +7,7 @@ use Rattle.tt_core.specs.Faults.{Fault}
 use Rattle.tt_core.specs.Outcomes.{◌>>=◌}
 use Rattle.tt_cmap.specs.Units.{plain_unit, selected_unit}
 use Rattle.tt_face.specs.Faces.{Face}
+use Rattle.tt_line.specs.declared.measured.LineSize.{LineSize}
 use Rattle.tt_line.specs.Layout.{text_glyphs}
 use Rattle.tt_render_run.specs.MapLines.{code_point}
 use Rattle.tt_render_run.specs.Outcome.{Traffic}
@@ -28,13 +29,20 @@ use Rattle.tt_render.specs.Settings.{job_by}
 use Rattle.tt_render.specs.Texts.{TextAnswer, TextRefusal, answer_of, missing_tested}
 use Rattle.tt_render.specs.TextsOutcome.{FontAnswers, IsNotReady}
 
--- `picture <width> <height> baseline <rows above it>`, `line <rise> <depth> <gap> <step>`, each with a line feed
-abbrev pub size_text : Layout → List ℕ
-size_text l =
+-- `picture <width> <height> baseline <rows above it>` and a line feed
+abbrev pub frame_text : Layout → List ℕ
+frame_text l =
     codes "picture " ++ (decimal l.size.width ++ (codes " " ++ (decimal l.size.height
-    ++ (codes " baseline " ++ (signed_decimal l.baseline
-    ++ (codes "\nline " ++ (signed_decimal l.size.rise ++ (codes " " ++ (signed_decimal l.size.depth
-    ++ (codes " " ++ (decimal l.size.gap ++ (codes " " ++ (decimal l.size.step ++ codes "\n")))))))))))))
+    ++ (codes " baseline " ++ (signed_decimal l.baseline ++ codes "\n")))))
+
+-- `line <rise> <depth> <gap> <step>` and a line feed
+abbrev pub line_text : LineSize → List ℕ
+line_text z =
+    codes "line " ++ (signed_decimal z.rise ++ (codes " " ++ (signed_decimal z.depth ++ (codes " " ++ (decimal z.gap
+    ++ (codes " " ++ (decimal z.step ++ codes "\n")))))))
+
+abbrev pub size_text : Layout → List ℕ
+size_text l = frame_text l ++ line_text l.size
 
 -- `U+<code point> <glyph> <pen> <advance>` and a line feed
 abbrev pub pen_text : Pen → List ℕ

@@ -19,9 +19,10 @@ fn size_text(alloc: Global, layout: &Layout) -> Result<String, AllocError>
     let depth = layout.size.depth;
     let gap = layout.size.gap;
     let step = layout.size.step;
-    format!(in alloc;
-        "picture {width} {height} baseline {baseline}\nline {rise} {depth} {gap} {step}\n"
-    )
+    let mut text = format!(in alloc; "picture {width} {height} baseline {baseline}\n")?;
+    let line = format!(in alloc; "line {rise} {depth} {gap} {step}\n")?;
+    text.push_str(&line)?;
+    Ok(text)
 }
 
 fn pen_text(alloc: Global, pen: &Pen) -> Result<String, AllocError>
