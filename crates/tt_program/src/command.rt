@@ -26,6 +26,7 @@ pub(crate) fn request<'a>(
         "map" => map_command(alloc)?.bin_name("tt_render map")?,
         "faces" => faces_command(alloc)?.bin_name("tt_render faces")?,
         "label" => label_command(alloc)?.bin_name("tt_render label")?,
+        "bdf" => bdf_command(alloc)?.bin_name("tt_render bdf")?,
         _ => {
             program(alloc)?.try_get_matches_from(words)?;
             return Ok(None);
@@ -38,7 +39,8 @@ pub(crate) fn request<'a>(
 /// Describes `tt_render map [--face N] FONT TEXT`, `tt_render faces FONT`, and `draw` and `measure` with `--size N
 /// [--margin N] [--fit full|none|fallback|best] [--face N] [--missing draw|tell|refuse] [--grow]` and `FONT TEXT` or
 /// `--lines FONT`; and `label` with `--size N [--margin N] [--align left|centre|right] [--fit best|full|none|fallback]
-/// [--face N] [--missing tell|draw|refuse]` and the same.
+/// [--face N] [--missing tell|draw|refuse]` and the same. `measure` has `--no-ink`, without `--grow` and `--lines`. `bdf`
+/// has `--size N [--range R] [--fit best|full|none|fallback] [--face N] FONT [TEXT]`.
 fn program<'a>(alloc: Global) -> Result<Command<'a>, AllocError> {
     Command::new(alloc, "tt_render")
         .bin_name("tt_render")?
@@ -49,7 +51,8 @@ fn program<'a>(alloc: Global) -> Result<Command<'a>, AllocError> {
         .subcommand(draw_command(alloc)?)?
         .subcommand(measure_command(alloc)?)?
         .subcommand(map_command(alloc)?)?
-        .subcommand(faces_command(alloc)?)
+        .subcommand(faces_command(alloc)?)?
+        .subcommand(bdf_command(alloc)?)
 }
 
 fn label_command<'a>(alloc: Global) -> Result<Command<'a>, AllocError> {
@@ -94,7 +97,8 @@ fn measure_command<'a>(alloc: Global) -> Result<Command<'a>, AllocError> {
         alloc,
         command,
         "Measure each line of standard input, in place of TEXT",
-    )
+    )?
+    .arg(no_ink(alloc)?)
 }
 
 /// Adds the options that `draw` and `measure` share.
@@ -123,6 +127,21 @@ fn faces_command<'a>(alloc: Global) -> Result<Command<'a>, AllocError> {
     Command::new(alloc, "faces")
         .about("Prints the faces of a file: glyphs, units per em and name of each")
         .arg(font(alloc))
+}
+
+fn bdf_command<'a>(alloc: Global) -> Result<Command<'a>, AllocError> {
+    Command::new(alloc, "bdf")
+        .about("Writes characters of a font at a size as a bitmap font (BDF 2.1)")
+        .after_help(
+            "Without --range and TEXT it writes --range 20-7E,A0-FF.\n\
+             A TEXT that begins with '-' goes after '--':\n  tt_render bdf --size N FONT -- -text",
+        )
+        .arg(size(alloc))?
+        .arg(range(alloc))?
+        .arg(fit(alloc, BEST))?
+        .arg(face(alloc))?
+        .arg(font(alloc))?
+        .arg(text(alloc))
 }
 
 fn font<'a>(alloc: Global) -> Arg<'a> {
@@ -210,6 +229,22 @@ fn grow<'a>(alloc: Global) -> Arg<'a> {
         .long("grow")
         .action(ArgAction::SetTrue)
         .help("Make the picture larger where ink would be cut")
+}
+
+fn no_ink<'a>(alloc: Global) -> Result<Arg<'a>, AllocError> {
+    Arg::new(alloc, "no-ink")
+        .long("no-ink")
+        .action(ArgAction::SetTrue)
+        .help("Print no boxes of ink, and the distance of lines; quick")
+        .conflicts_with("grow")?
+        .conflicts_with("lines")
+}
+
+fn range<'a>(alloc: Global) -> Arg<'a> {
+    Arg::new(alloc, "range")
+        .long("range")
+        .value_name("R")
+        .help("Hexadecimal code points, as 20-7E,A0-FF")
 }
 
 fn lines<'a>(alloc: Global, help: &'a str) -> Result<Arg<'a>, AllocError> {

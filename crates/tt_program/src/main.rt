@@ -14,7 +14,9 @@ use std::process::ExitCode;
 use std::rt::{Env, Files, Stderr, Stdin};
 use std::{env, fs, io};
 use tt_core::Device;
-use tt_program_decisions::{Stop, perform, stop_of_words, tell_stop, tell_unopened};
+use tt_program_decisions::{
+    Stop, perform, stop_of_request, stop_of_words, tell_stop, tell_unopened,
+};
 
 fn main(rt: HostRuntime) -> ExitCode {
     ExitCode::from(serve(&rt, rt.stdin(), rt.stderr()))
@@ -59,6 +61,9 @@ fn serve<R: Files + Env + Print + Eprint + AllocGlobal>(rt: &R, stdin: Stdin, st
         Ok(None) => return tell_stop(Stop::Incomplete, &mut errors),
         Err(error) => return tell_stop(stop_of_error(rt, &error), &mut errors),
     };
+    if let Some(stop) = stop_of_request(rt.alloc(), &request) {
+        return tell_stop(stop, &mut errors);
+    }
     let lines = Lines::new(stdin);
     let file = match fs::open(rt, request.font()) {
         Ok(file) => file,

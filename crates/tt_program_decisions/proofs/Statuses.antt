@@ -40,5 +40,6 @@ stop_within stop.NotShown = omega arith
 stop_within stop.Refused = omega arith
 stop_within stop.NoText = omega arith
 stop_within stop.Incomplete = omega arith
+stop_within stop.Range = omega arith
 stop_within stop.Unopened = omega arith
 stop_within stop.Memory = omega arith

@@ -1,3 +1,5 @@
+pub mod BdfCalls
+pub mod BdfRequests
 pub mod FaceLines
 pub mod Requests
 pub mod Stops

@@ -11,13 +11,14 @@ use Rattle.tt_render.specs.declared.setting.Missing.{Missing}
 use Rattle.tt_render.specs.declared.setting.Missing.TheVariants as missing
 use Rattle.tt_render.specs.declared.label.Label.{Label as DrawnLabel}
 use Rattle.tt_render.specs.declared.setting.Product.{Product}
-use Rattle.tt_render.specs.declared.setting.Product.TheVariants.{Picture}
+use Rattle.tt_render.specs.declared.setting.Product.TheVariants.{Measure, Picture}
 use Rattle.tt_line.specs.declared.align.Align.{Align}
 use Rattle.tt_line.specs.declared.align.Align.TheVariants as align
 use Rattle.tt_label.specs.Label.{label_glyphs}
 use Rattle.tt_line.specs.Layout.{text_glyphs}
 use Rattle.tt_render.specs.Labels.{FontLabelGives, FontLabelsGive, HintsBy}
 use Rattle.tt_render.specs.declared.setting.Setting.{Setting}
+use Rattle.tt_render.specs.LayoutTexts.{FontLayoutGives, IsLayoutDefect}
 use Rattle.tt_render.specs.LinesDefects.{IsTextDefect, LinesTellDefectsOf}
 use Rattle.tt_render_run.specs.MapLines.{map_wanted}
 use Rattle.tt_render_run.specs.Outcome.{Traffic}
@@ -26,7 +27,9 @@ use Rattle.tt_render.specs.Settings.{job_by}
 use Rattle.tt_render.specs.TextsOutcome.{FontLinesGive, FontTextGives, TextTellsDefectsOf, reader_in}
 use Rattle.tt_program_decisions.specs.declared.request.Request.{Request}
 use Rattle.tt_program_decisions.specs.declared.labelling.LabelOptions.{LabelOptions}
-use Rattle.tt_program_decisions.specs.declared.request.Request.TheVariants.{Map, Faces, Text, Lines, Label, Labels}
+use Rattle.tt_program_decisions.specs.declared.request.Request.TheVariants.{Map, Faces, Text, Lines, Layout, Label, Labels, Bdf}
+use Rattle.tt_program_decisions.specs.BdfCalls.{PerformsBdf}
+use Rattle.tt_program_decisions.specs.BdfRequests.{BdfAsked, bdf_view, range_words, text_or_none}
 use Rattle.tt_program_decisions.specs.FaceLines.{IsFacesDefect, faces_wanted}
 use Rattle.tt_render.specs.Printing.{Errors}
 use Rattle.tt_program_decisions.specs.Telling.{Does, DoesLabel, DoesTexts}
@@ -93,22 +96,27 @@ label_options_asked (Some n) (Some m) (Some side) (Some how) (Some what) face =
 label_options_asked n m side how what face = None
 
 -- The requests, each with its font: the lines that map a text; the lines of the file's faces; the product of a text with
--- a setting; the products of the lines of standard input; the label of a text; the labels of the lines of standard input.
+-- a setting; the products of the lines of standard input; the measure of a text without ink; the label of a text; the
+-- labels of the lines of standard input; a bitmap font.
 pub data Asked : Type 0 where
   map_text : List ℕ → List ℕ → Reading → Asked
   tell_faces : List ℕ → Asked
   draw_text : List ℕ → List ℕ → Setting → Asked
   draw_lines : List ℕ → Setting → Asked
+  lay_text : List ℕ → List ℕ → Setting → Asked
   draw_label : List ℕ → List ℕ → LabelOptions → Asked
   draw_labels : List ℕ → LabelOptions → Asked
+  make_bdf : BdfAsked → Asked
 
 abbrev pub asked_of : Request → Asked
 asked_of (Map font text r) = map_text font.now text.now r
 asked_of (Faces font) = tell_faces font.now
 asked_of (Text font text setting) = draw_text font.now text.now setting
 asked_of (Lines font setting) = draw_lines font.now setting
+asked_of (Layout font text setting) = lay_text font.now text.now setting
 asked_of (Label font text options) = draw_label font.now text.now options
 asked_of (Labels font options) = draw_labels font.now options
+asked_of (Bdf asked) = make_bdf (bdf_view asked)
 
 -- `map [--face FACE] FONT TEXT`; words may be absent
 abbrev pub map_asked : Option (List ℕ) → Option (List ℕ) → Option ℕ → Option Asked
@@ -126,6 +134,38 @@ abbrev pub draw_asked : Option (List ℕ) → Option (List ℕ) → Bool → Opt
 draw_asked (Some font) (Some text) false (Some s) = Some (draw_text font text s)
 draw_asked (Some font) None true (Some s) = Some (draw_lines font s)
 draw_asked font text lines s = None
+
+-- the request of the same measure without ink; none for lines, and for a picture that grows
+abbrev pub without_ink : Asked → Option Asked
+without_ink (draw_text font text s) = if s.grow then None else Some (lay_text font text s)
+without_ink asked = None
+
+-- the same where there is a request
+abbrev pub bare_asked : Option Asked → Option Asked
+bare_asked (Some asked) = without_ink asked
+bare_asked None = None
+
+-- a request of `measure`, by whether there is `--no-ink`
+abbrev pub measure_asked : Bool → Option Asked → Option Asked
+measure_asked bare asked = if bare then bare_asked asked else asked
+
+-- `bdf`, where the name of the way to fit is known
+abbrev pub bdf_named : List ℕ → ℕ → Option Fit → Option ℕ → Option (List ℕ) → Option (List ℕ) → Option Asked
+bdf_named font n (Some f) face range text = Some (make_bdf (record {
+  font = font;
+  size = n;
+  fit = f;
+  face = face;
+  range = range_words range text;
+  text = text_or_none text;
+}))
+bdf_named font n None face range text = None
+
+-- `bdf --size SIZE --fit FIT --face FACE --range RANGE FONT TEXT`; words and options may be absent
+abbrev pub bdf_asked : Option (List ℕ) → Option ℕ → Option (List ℕ) → Option ℕ → Option (List ℕ) → Option (List ℕ)
+    → Option Asked
+bdf_asked (Some font) (Some n) (Some how) face range text = bdf_named font n (fit_named how) face range text
+bdf_asked font n how face range text = None
 
 -- `label OPTION.. FONT TEXT`, or with standard input's lines `label OPTION.. --lines FONT`; words and options may be
 -- absent
@@ -158,6 +198,13 @@ AsksDrawing text IsNumber IsFlag wanted answer =
     × IsFlag (codes "lines") lines
     × (answer ≡ draw_asked (text (codes "FONT")) (text (codes "TEXT")) lines setting)
 
+-- the request of `measure` by its arguments
+abbrev pub AsksMeasure
+    : (List ℕ → Option (List ℕ)) → (List ℕ → Option ℕ → Type 0) → (List ℕ → Bool → Type 0) → Option Asked → Type 0
+AsksMeasure text IsNumber IsFlag answer =
+    (asked : Option Asked) × (bare : Bool) × AsksDrawing text IsNumber IsFlag Measure asked
+    × IsFlag (codes "no-ink") bare × (answer ≡ measure_asked bare asked)
+
 -- the options of `label` by its arguments
 abbrev pub AsksLabelOptions : (List ℕ → Option (List ℕ)) → (List ℕ → Option ℕ → Type 0) → Option LabelOptions → Type 0
 AsksLabelOptions text IsNumber answer =
@@ -172,6 +219,12 @@ AsksLabel text IsNumber IsFlag answer =
     (options : Option LabelOptions) × (lines : Bool) × AsksLabelOptions text IsNumber options
     × IsFlag (codes "lines") lines
     × (answer ≡ label_asked (text (codes "FONT")) (text (codes "TEXT")) lines options)
+
+-- the request of `bdf` by its arguments
+abbrev pub AsksBdf : (List ℕ → Option (List ℕ)) → (List ℕ → Option ℕ → Type 0) → Option Asked → Type 0
+AsksBdf text IsNumber answer =
+    (size face : Option ℕ) × IsNumber (codes "size") size × IsNumber (codes "face") face
+    × (answer ≡ bdf_asked (text (codes "FONT")) size (text (codes "fit")) face (text (codes "range")) (text (codes "TEXT")))
 
 -- the setting of a label with these options: glyphs of any face of any font
 abbrev pub label_setting : LabelOptions → Setting
@@ -199,8 +252,10 @@ font_of (Map font text r) = font.now
 font_of (Faces font) = font.now
 font_of (Text font text setting) = font.now
 font_of (Lines font setting) = font.now
+font_of (Layout font text setting) = font.now
 font_of (Label font text options) = font.now
 font_of (Labels font options) = font.now
+font_of (Bdf asked) = asked.font.now
 
 -- a request is performed and reported: the contract of its call holds for some answer. For the lines that map a text, or
 -- tell faces: the bytes to write for a font file, and the defects for which it is refused. The second traffic is that of
@@ -215,6 +270,9 @@ Performs (Text font text setting) folder t lines e status =
 Performs (Lines font setting) folder t lines e status =
     DoesTexts {V = ℕ} (λ answer told. FontLinesGive setting answer (reader_in t) lines told
     × LinesTellDefectsOf text_glyphs t.left_before setting lines.left_before answer) e status
+Performs (Layout font text setting) folder t lines e status =
+    DoesTexts {V = Unit {0}} (λ answer told. FontLayoutGives setting text.now answer t told
+    × TextTellsDefectsOf t.left_before (IsLayoutDefect setting text.now) answer) e status
 Performs (Label font text options) folder t lines e status =
     (l : DrawnLabel) × IsLabelFor font.now options l
     × DoesLabel (λ drawn told. FontLabelGives l text.now drawn.answer t told
@@ -225,6 +283,7 @@ Performs (Labels font options) folder t lines e status =
     × DoesLabel (λ drawn told. FontLabelsGive l drawn.answer (reader_in t) lines told
     × LinesTellDefectsOf label_glyphs t.left_before l.setting lines.left_before drawn.answer
     × IfSome t.left_before (HintsBy l drawn)) l folder e status
+Performs (Bdf asked) folder t lines e status = PerformsBdf (bdf_view asked) folder t e status
 
 -- a property that holds unless the request is for standard input's lines
 abbrev pub UnlessLines : Request → Type 0 → Type 0

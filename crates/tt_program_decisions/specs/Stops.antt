@@ -1,11 +1,16 @@
 -- No part of the standard: the ends of the program without a request.
-use Rattle.std.specs.Prelude.{ℕ, List, [], ◌++◌, codes}
+use Rattle.std.specs.Prelude.{◌≡◌, ℕ, true, List, [], ◌++◌, codes, Option, Some, None, is_some, ⊤}
 use Rattle.std.specs.declared.io.ErrorKind.{ErrorKind}
 use Rattle.std.specs.declared.io.ErrorKind.TheVariants.{OutOfMemory}
+use Rattle.tt_bdf.specs.declared.range.CodeRange.{CodeRange}
 use Rattle.tt_render_run.specs.declared.fault.RunFault.TheVariants as run
 use Rattle.tt_render_run.specs.Messages.{line_of, status_of}
+use Rattle.tt_render.specs.Printing.{Errors, Prints}
+use Rattle.tt_program_decisions.specs.declared.request.Request.{Request}
+use Rattle.tt_program_decisions.specs.declared.request.Request.TheVariants as request
 use Rattle.tt_program_decisions.specs.declared.stopping.Stop.{Stop}
 use Rattle.tt_program_decisions.specs.declared.stopping.Stop.TheVariants as stop
+use Rattle.tt_program_decisions.specs.BdfRequests.{bdf_view, ranges_asked}
 
 -- a word that is no text is a fault of the command line
 abbrev pub stop_at_words : ErrorKind → Stop
@@ -31,5 +36,21 @@ stop_text stop.NotShown = codes "tt_render: cannot write the help\n"
 stop_text stop.Refused = []
 stop_text stop.NoText = codes "tt_render: the command line is not UTF-8\n"
 stop_text stop.Incomplete = codes "tt_render: the command line is incomplete\n"
+stop_text stop.Range = codes "tt_render: --range is hexadecimal, as 20-7E,A0-FF\n"
 stop_text stop.Unopened = line_of run.Read ++ codes "\n"
 stop_text stop.Memory = line_of run.Memory ++ codes "\n"
+
+-- a stop is reported by its status and its text
+abbrev pub TellsStop : Stop → ℕ → Errors → Type 0
+TellsStop why status e = (status ≡ stop_status why) × Prints e (stop_text why)
+
+-- why the words of a request stop it before its font is opened, by the ranges that they ask for
+abbrev pub IsStopFor : Option (List CodeRange) → Option Stop → Type 0
+IsStopFor ranges None = is_some ranges ≡ true
+IsStopFor ranges (Some stop.Range) = ranges ≡ None
+IsStopFor ranges (Some stop.Memory) = ⊤
+IsStopFor ranges (Some why) = ⊥
+
+abbrev pub IsStopBefore : Request → Option Stop → Type 0
+IsStopBefore (request.Bdf asked) why = IsStopFor (ranges_asked (bdf_view asked).range) why
+IsStopBefore r why = why ≡ None

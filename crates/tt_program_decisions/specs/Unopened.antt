@@ -1,5 +1,5 @@
--- No part of the standard: the report of a font that cannot be opened (profile). For `label` a line tells a person what to
--- do.
+-- No part of the standard: the report of a font that cannot be opened (profile). For `label` and `bdf` a line tells a
+-- person what to do.
 use Rattle.std.specs.Prelude.{◌≡◌, refl, ℕ, ◌+◌, ◌-◌, Bool, true, false, ◌&&◌, ◌||◌, nat_le, nat_lt, if◌then◌else◌, List, [], ◌∷◌, ◌++◌, length, map, slice_index, codes, bytes_eq, Option, Some, None}
 use Rattle.std.specs.declared.io.ErrorKind.{ErrorKind}
 use Rattle.std.specs.declared.io.ErrorKind.TheVariants as kind
@@ -7,13 +7,13 @@ use Rattle.tt_advice.specs.declared.hint.FixedHint.{FixedHint}
 use Rattle.tt_advice.specs.declared.hint.FixedHint.TheVariants as fixed
 use Rattle.tt_advice.specs.declared.hint.Hint.TheVariants as hint
 use Rattle.tt_advice.specs.Hints.{hint_line}
-use Rattle.tt_render.specs.Printing.{Errors, Prints}
+use Rattle.tt_render.specs.Printing.{Errors}
 use Rattle.tt_program_decisions.specs.declared.request.Request.{Request}
 use Rattle.tt_program_decisions.specs.declared.request.Request.TheVariants as request
 use Rattle.tt_program_decisions.specs.declared.stopping.Stop.{Stop}
 use Rattle.tt_program_decisions.specs.declared.stopping.Stop.TheVariants as stop
 use Rattle.tt_program_decisions.specs.Requests.{font_of}
-use Rattle.tt_program_decisions.specs.Stops.{stop_at_open, stop_status, stop_text}
+use Rattle.tt_program_decisions.specs.Stops.{TellsStop, stop_at_open, stop_status, stop_text}
 use Rattle.tt_program_decisions.specs.Telling.{TellsText}
 
 -- a byte in lower case, if it is a letter of ASCII
@@ -47,18 +47,15 @@ opening_hint kind.FilesystemLoop text = Some fixed.Links
 opening_hint kind.InvalidFilename text = Some fixed.LongName
 opening_hint why text = None
 
--- only `label` has hints
+-- only `label` and `bdf` have hints; `bdf` without a text has the empty one, which is no path
 abbrev pub hint_of_open : Request → ErrorKind → Option FixedHint
 hint_of_open (request.Label font text options) k = opening_hint k (Some text.now)
 hint_of_open (request.Labels font options) k = opening_hint k None
+hint_of_open (request.Bdf asked) k = opening_hint k (Some asked.text.now)
 hint_of_open r k = None
 
 abbrev pub opening_text : List ℕ → FixedHint → List ℕ
 opening_text path h = stop_text stop.Unopened ++ hint_line path (hint.Fixed h)
-
--- a stop is reported by its status and its text
-abbrev pub TellsStop : Stop → ℕ → Errors → Type 0
-TellsStop why status e = (status ≡ stop_status why) × Prints e (stop_text why)
 
 abbrev pub TellsOpening : Stop → List ℕ → Option FixedHint → ℕ → Errors → Type 0
 TellsOpening why path None status e = TellsStop why status e

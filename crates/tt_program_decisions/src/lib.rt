@@ -1,16 +1,19 @@
 //! The program's decisions: the request of a command line, and the exit status and line of each end.
 #![tactic(auto)]
 
+mod bdf;
 mod faces;
 mod labelling;
 mod performing;
 mod request;
 mod stopping;
 mod telling;
+mod telling_bdf;
 mod telling_labels;
 mod telling_texts;
 mod unopened;
 
+pub use bdf::{BdfRequest, stop_of_request};
 pub use labelling::{ALIGNS, LEFT, LabelOptions, align_named};
 pub use performing::perform;
 pub use request::{

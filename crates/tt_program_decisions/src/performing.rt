@@ -5,6 +5,7 @@ ghost use Rattle.tt_program_decisions.specs.Requests.{Performs, UnlessLines};
 ghost use Rattle.tt_render_run.specs.Outcome.{traffic_of};
 ghost use Rattle.tt_render.specs.Printing.{errors_of};
 
+use crate::bdf::perform_bdf;
 use crate::faces::faces;
 use crate::labelling::label_for;
 use crate::request::Request;
@@ -51,6 +52,10 @@ pub fn perform<R: Source, L: Source, W: Sink, E: Sink>(
             let drawn = tt_render::draw_lines(alloc, font, lines, out, error, setting);
             tell_texts(alloc, &drawn, error)
         }
+        Request::Layout { text, setting, .. } => {
+            let told = tt_render::write_layout(alloc, font, out, error, text, setting);
+            tell_texts(alloc, &told, error)
+        }
         Request::Label {
             font: path,
             text,
@@ -68,5 +73,6 @@ pub fn perform<R: Source, L: Source, W: Sink, E: Sink>(
             let drawn = tt_render::draw_labels(alloc, font, lines, out, error, &label);
             tell_label(alloc, &drawn, &label, folder, error)
         }
+        Request::Bdf(asked) => perform_bdf(alloc, asked, folder, font, out, error),
     }
 }

@@ -2,8 +2,9 @@
 
 ghost use Rattle.std.specs.Prelude.{◌≡◌, ◌≢◌, ℕ, Bool, List, Option, None, codes, option_map};
 ghost use Rattle.tt_render.specs.declared.setting.Product.TheVariants.{Measure, Picture};
-ghost use Rattle.tt_program_decisions.specs.Requests.{AsksDrawing, AsksLabel, AsksMap, AsksSetting, asked_of, faces_asked, fit_named, font_of, missing_named};
+ghost use Rattle.tt_program_decisions.specs.Requests.{AsksBdf, AsksDrawing, AsksLabel, AsksMap, AsksMeasure, AsksSetting, asked_of, faces_asked, fit_named, font_of, missing_named, without_ink};
 
+use crate::bdf::{BdfRequest, bdf_of};
 use crate::labelling::{LabelOptions, labelling_of};
 use tt_core::Reading;
 use tt_fit::Fit;
@@ -33,6 +34,12 @@ pub enum Request<'a> {
         font: &'a str,
         setting: Setting,
     },
+    /// Report the measures of a line of text without its ink.
+    Layout {
+        font: &'a str,
+        text: &'a str,
+        setting: Setting,
+    },
     /// Draw a text for people.
     Label {
         font: &'a str,
@@ -44,6 +51,8 @@ pub enum Request<'a> {
         font: &'a str,
         options: LabelOptions,
     },
+    /// Write a bitmap font.
+    Bdf(BdfRequest<'a>),
 }
 
 impl<'a> Request<'a> {
@@ -56,8 +65,10 @@ impl<'a> Request<'a> {
             | Request::Faces { font }
             | Request::Text { font, .. }
             | Request::Lines { font, .. }
+            | Request::Layout { font, .. }
             | Request::Label { font, .. }
             | Request::Labels { font, .. } => font,
+            Request::Bdf(asked) => asked.font,
         }
     }
 }
@@ -87,21 +98,24 @@ pub trait Arguments<'a> {
 }
 
 /// The request of a subcommand with these arguments. None where the subcommand is unknown, an argument is absent, or a
-/// text accompanies standard input's lines. None also for an unknown way to fit or treatment of missing glyphs.
+/// text accompanies standard input's lines. None also for an unknown way to fit or treatment of missing glyphs, and for
+/// measures without ink of lines or of a picture that grows.
 pub fn request_of<'a, A: Arguments<'a>>(subcommand: &str, arguments: &A) -> Option<Request<'a>>
     ensures map { subcommand.now ≡ codes "map" → AsksMap (A.text arguments.now) (A.IsNumber arguments.now) (option_map asked_of result) }
     ensures faces { subcommand.now ≡ codes "faces" → option_map asked_of result ≡ faces_asked (A.text arguments.now (codes "FONT")) }
     ensures draw { subcommand.now ≡ codes "draw" → AsksDrawing (A.text arguments.now) (A.IsNumber arguments.now) (A.IsFlag arguments.now) Picture (option_map asked_of result) }
-    ensures measure { subcommand.now ≡ codes "measure" → AsksDrawing (A.text arguments.now) (A.IsNumber arguments.now) (A.IsFlag arguments.now) Measure (option_map asked_of result) }
+    ensures measure { subcommand.now ≡ codes "measure" → AsksMeasure (A.text arguments.now) (A.IsNumber arguments.now) (A.IsFlag arguments.now) (option_map asked_of result) }
     ensures label { subcommand.now ≡ codes "label" → AsksLabel (A.text arguments.now) (A.IsNumber arguments.now) (A.IsFlag arguments.now) (option_map asked_of result) }
-    ensures other { subcommand.now ≢ codes "map" → subcommand.now ≢ codes "faces" → subcommand.now ≢ codes "draw" → subcommand.now ≢ codes "measure" → subcommand.now ≢ codes "label" → result ≡ None }
+    ensures bdf { subcommand.now ≡ codes "bdf" → AsksBdf (A.text arguments.now) (A.IsNumber arguments.now) (option_map asked_of result) }
+    ensures other { subcommand.now ≢ codes "map" → subcommand.now ≢ codes "faces" → subcommand.now ≢ codes "draw" → subcommand.now ≢ codes "measure" → subcommand.now ≢ codes "label" → subcommand.now ≢ codes "bdf" → result ≡ None }
 {
     match subcommand {
         "map" => map_of(arguments),
         "faces" => faces_of(arguments.text_for("FONT")),
         "draw" => drawing_of(arguments, Product::Picture),
-        "measure" => drawing_of(arguments, Product::Measure),
+        "measure" => measuring_of(arguments),
         "label" => labelling_of(arguments),
+        "bdf" => bdf_of(arguments),
         _ => None,
     }
 }
@@ -133,6 +147,44 @@ fn drawing_of<'a, A: Arguments<'a>>(arguments: &A, product: Product) -> Option<R
             }
             Some(Request::Lines { font, setting })
         }
+    }
+}
+
+/// The request of `measure`, by the request of the measure with ink and by the flag `--no-ink`.
+fn measuring_of<'a, A: Arguments<'a>>(arguments: &A) -> Option<Request<'a>>
+    ensures { AsksMeasure (A.text arguments.now) (A.IsNumber arguments.now) (A.IsFlag arguments.now) (option_map asked_of result) }
+{
+    let asked = drawing_of(arguments, Product::Measure);
+    let bare = arguments.is_set("no-ink");
+    if bare { without_ink(asked?) } else { asked }
+}
+
+/// The request of the same measure without ink. None for lines, and for a picture that grows: only ink makes it grow.
+fn without_ink<'a>(asked: Request<'a>) -> Option<Request<'a>>
+    ensures { option_map asked_of result ≡ without_ink (asked_of asked.entry) }
+{
+    match asked {
+        Request::Text {
+            font,
+            text,
+            setting,
+        } => {
+            if setting.grow {
+                return None;
+            }
+            Some(Request::Layout {
+                font,
+                text,
+                setting,
+            })
+        }
+        Request::Map { .. }
+        | Request::Faces { .. }
+        | Request::Lines { .. }
+        | Request::Layout { .. }
+        | Request::Label { .. }
+        | Request::Labels { .. }
+        | Request::Bdf(_) => None,
     }
 }
 

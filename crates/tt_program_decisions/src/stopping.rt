@@ -22,6 +22,8 @@ pub enum Stop {
     NoText,
     /// A word is missing, though clap accepted the command line.
     Incomplete,
+    /// The words of `--range` are of another form.
+    Range,
     /// The font cannot be opened.
     Unopened,
     /// Memory was refused before a request was known, or its font open.
@@ -65,7 +67,7 @@ fn status_of(stop: Stop) -> u8
 {
     match stop {
         Stop::Shown => 0,
-        Stop::Refused | Stop::NoText | Stop::Incomplete => 2,
+        Stop::Refused | Stop::NoText | Stop::Incomplete | Stop::Range => 2,
         Stop::Unopened => 3,
         Stop::NotShown => 4,
         Stop::Memory => 5,
@@ -81,6 +83,7 @@ fn text_of(stop: Stop) -> &'static str
         Stop::NotShown => "tt_render: cannot write the help\n",
         Stop::NoText => "tt_render: the command line is not UTF-8\n",
         Stop::Incomplete => "tt_render: the command line is incomplete\n",
+        Stop::Range => "tt_render: --range is hexadecimal, as 20-7E,A0-FF\n",
         Stop::Unopened => "tt_render: cannot read the font\n",
         Stop::Memory => NO_MEMORY,
     }

@@ -1,8 +1,8 @@
-//! The report of a font that cannot be opened. For `label` a line tells a person what to do.
+//! The report of a font that cannot be opened. For `label` and `bdf` a line tells a person what to do.
 
 ghost use Rattle.std.specs.Prelude.{◌≡◌, ◌≤◌, false, None, option_map, string_bytes, IfOk};
-ghost use Rattle.tt_program_decisions.specs.Stops.{stop_at_open};
-ghost use Rattle.tt_program_decisions.specs.Unopened.{TellsStop, TellsUnopened, hint_of_open, lowered, names_font, opening_hint, opening_text, unfound_hint};
+ghost use Rattle.tt_program_decisions.specs.Stops.{TellsStop, stop_at_open};
+ghost use Rattle.tt_program_decisions.specs.Unopened.{TellsUnopened, hint_of_open, lowered, names_font, opening_hint, opening_text, unfound_hint};
 ghost use Rattle.tt_render.specs.Printing.{errors_of};
 
 use crate::request::Request;
@@ -72,17 +72,19 @@ fn opening_hint(kind: ErrorKind, text: Option<&str>) -> Option<FixedHint>
     }
 }
 
-/// The hint of a request whose font cannot be opened. Only `label` has hints.
+/// The hint of a request whose font cannot be opened. Only `label` and `bdf` have hints.
 fn hint_of_open(request: &Request, kind: ErrorKind) -> Option<FixedHint>
     ensures { result ≡ hint_of_open request.now kind }
 {
     match request {
         Request::Label { text, .. } => opening_hint(kind, Some(*text)),
         Request::Labels { .. } => opening_hint(kind, None),
+        Request::Bdf(asked) => opening_hint(kind, Some(asked.text)),
         Request::Map { .. }
         | Request::Faces { .. }
         | Request::Text { .. }
-        | Request::Lines { .. } => { None }
+        | Request::Lines { .. }
+        | Request::Layout { .. } => None,
     }
 }
 

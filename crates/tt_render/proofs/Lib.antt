@@ -5,6 +5,7 @@ pub mod Printed
 pub mod FirstFaces
 pub mod FontLines
 mod MeasureLines
+mod LayoutCalls
 mod DefectLines
 pub mod OneText
 mod TextsReports

@@ -1,5 +1,6 @@
 pub mod Help
 pub mod Labels
+pub mod LayoutTexts
 pub mod LineReading
 pub mod Lines
 pub mod LinesDefects

@@ -48,7 +48,7 @@ fn fonts_in(file: &[u8]) -> Option<u32>
 }
 
 /// The line of a collection's face; empty for a font that is alone in its file.
-fn face_text(alloc: Global, reading: Reading, file: &[u8]) -> Result<String, AllocError>
+pub(crate) fn face_text(alloc: Global, reading: Reading, file: &[u8]) -> Result<String, AllocError>
     ensures { IfOk result (λ text. string_bytes text ≡ face_text reading file.now) }
 {
     match reading {
@@ -60,7 +60,7 @@ fn face_text(alloc: Global, reading: Reading, file: &[u8]) -> Result<String, All
     }
 }
 
-fn font_text(alloc: Global, metrics: &Metrics) -> Result<String, AllocError>
+pub(crate) fn font_text(alloc: Global, metrics: &Metrics) -> Result<String, AllocError>
     ensures { IfOk result (λ text. string_bytes text ≡ font_text metrics.now) }
 {
     let em = metrics.units_per_em();

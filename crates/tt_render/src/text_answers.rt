@@ -28,7 +28,7 @@ pub(crate) struct ReadyText {
 /// The characters of a text without a glyph that are reported. Error: Missing, the first, where they are refused. The
 /// caller knows the line.
 #[tactic(auto, unfolding(crate::specs::Texts::missing_tested))]
-fn missing_of(
+pub(crate) fn missing_of(
     alloc: Global,
     cmap: &CharacterMap,
     how: Missing,

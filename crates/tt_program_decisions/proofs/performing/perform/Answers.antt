@@ -22,6 +22,17 @@ returns-in-Lines-clause-outcome g c =
       told = c.tell_texts-in-Lines.ensures.told;
     })
 
+pub returns-in-Layout-clause-outcome : goal.returns-in-Layout-clause-outcome
+returns-in-Layout-clause-outcome g c =
+    rw c.in-Layout.is
+    (record {
+      answer = c.write_layout-told.result;
+      between = g.E.Sink.written c.write_layout-told.new.error;
+      had_failed = g.E.Sink.has_failed c.write_layout-told.new.error;
+      outcome = (c.write_layout-told.ensures.outcome, c.write_layout-told.ensures.defects);
+      told = c.tell_texts-in-Layout.ensures.told;
+    })
+
 pub returns-in-Label-clause-outcome : goal.returns-in-Label-clause-outcome
 returns-in-Label-clause-outcome g c =
     rw c.in-Label.is (

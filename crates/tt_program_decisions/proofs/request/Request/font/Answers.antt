@@ -1,5 +1,5 @@
 use Rattle.std.proofs.Common.{rules}
 use Rattle.tt_program_decisions.proofs.request.Request.font.Goals as goal
 
-pub returns : goal.returns
-returns c = search rules
+pub returns-in-Map : goal.returns-in-Map
+returns-in-Map c = search rules

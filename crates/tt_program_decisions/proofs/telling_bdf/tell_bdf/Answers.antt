@@ -1,0 +1,10 @@
+use Rattle.std.proofs.Common.{◌≡◌, false, rules}
+use Rattle.tt_program_decisions.specs.BdfCalls.{file_lines_of}
+use Rattle.tt_program_decisions.proofs.telling_bdf.tell_bdf.Goals as goal
+
+pub returns-else-failed-clause-told : goal.returns-else-failed-clause-told
+returns-else-failed-clause-told g c =
+    let serves : g.E.Sink.has_failed c.args.error.now ≡ false = search rules in
+    rw (c.in-Err.is, serves)
+    (rw c.texts_status-status.ensures at
+    (c.tell_text.ensures.told (file_lines_of c.args.file.now c.args.folder c.in-Err.fault c.args.written.now.hint) c.file_lines-lines.ensures))
