@@ -31,6 +31,7 @@ mod told;
 
 pub use list::BitmapList;
 pub use place::InkPlace;
+pub use request::test_count;
 pub use told::{GlyphEntry, MadeBitmap, Told};
 pub use tt_core::DrawFault;
 pub use tt_face::Face;

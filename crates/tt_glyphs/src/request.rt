@@ -13,7 +13,7 @@ use tt_strike::{CHORD_LIMIT, crossings_allowed, is_bounded};
 
 /// Tests how many numbers a list has. Error: TextLong.
 #[tactic(auto, unfolding(crate::specs::Requests::count_tested))]
-pub(crate) fn test_count(glyphs: &[u32]) -> Result<(), JobFault>
+pub fn test_count(glyphs: &[u32]) -> Result<(), JobFault>
     ensures exact { Gives (λ u. u) result (count_tested glyphs.now) }
     ensures few { OnOk result (length glyphs.now ≤ text_limit) }
 {
