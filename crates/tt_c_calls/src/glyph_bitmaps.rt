@@ -1,8 +1,8 @@
 //! The bitmaps of glyphs by their numbers, in a caller's rooms.
 
-ghost use Rattle.std.specs.Prelude.{◌≡◌, ◌≤◌, ◌++◌, length, map, drop, IfOk};
+ghost use Rattle.std.specs.Prelude.{◌≡◌, ◌≤◌, ◌++◌, length, map, drop, All, IfOk};
 ghost use Rattle.tt_core.specs.Outcomes.{GivesUnless, IfTold};
-ghost use Rattle.tt_c_calls.specs.Bitmaps.{DrawsGlyphs, IsListDefect, bitmap_made, bitmap_told, bitmap_with, bitmaps_wanted, empty_bitmap};
+ghost use Rattle.tt_c_calls.specs.Bitmaps.{DrawsGlyphs, EntryStands, IsListDefect, IsListGlyphDefect, bitmap_made, bitmap_told, bitmap_with, bitmaps_wanted, empty_bitmap};
 ghost use Rattle.tt_c_calls.specs.Refusals.{call_font_fault, call_refusal};
 
 use crate::answer::{CAnswer, DONE, ROOM, answer_of, sized};
@@ -121,6 +121,7 @@ fn list_of(
     ensures exact { GivesUnless call_refusal (λ b. b) result (bitmaps_wanted job.now glyphs.now font.now) }
     ensures entries { IfOk result (λ b. length b.entries ≡ length glyphs.now) }
     ensures defects { IfTold call_font_fault result (IsListDefect job.now font.now) }
+    ensures stands { IfOk result (λ b. All (λ e. EntryStands (IsListGlyphDefect job.now glyphs.now font.now) (bitmap_told e)) b.entries) }
 {
     let fit = fit_of(job.fit)?;
     let reading = job.reading(fit);
