@@ -28,3 +28,5 @@ mod StepLaws
 mod MeasuredSteps
 mod UnhintedSteps
 mod FacesAlike
+mod Layouts
+mod Pens

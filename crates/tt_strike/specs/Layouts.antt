@@ -1,12 +1,13 @@
 -- No part of the standard: the layout of a text without its ink (profile): the size of its picture, its base line, its
 -- distance from a next line, and where each unit's pen stands. Only with best, whose steps are those of fitted glyphs,
 -- are glyphs made.
-use Rattle.std.specs.Prelude.{◌≡◌, refl, ℕ, ◌+◌, ℤ, pos, ◌+ℤ◌, List, [], ◌∷◌, length, chars, map, sum, if◌then◌else◌, None, Result, Ok, ⊤}
+use Rattle.std.specs.Prelude.{◌≡◌, refl, ℕ, ◌+◌, ℤ, pos, ◌+ℤ◌, Bool, true, false, List, [], ◌∷◌, length, chars, map, sum, if◌then◌else◌, None, Result, Ok, ⊤}
 use Rattle.tt_cmap.specs.declared.units.TextUnit.{TextUnit}
 use Rattle.tt_cmap.specs.Maps.{units_by}
 use Rattle.tt_core.specs.declared.draw_fault.DrawFault.{DrawFault}
 use Rattle.tt_core.specs.declared.draw_fault.DrawFault.TheVariants as draw
-use Rattle.tt_core.specs.Outcomes.{◌>>=◌}
+use Rattle.tt_core.specs.Faults.{Fault}
+use Rattle.tt_core.specs.Outcomes.{◌>>=◌, IfTold, draw_font_fault}
 use Rattle.tt_face.specs.Faces.{Face}
 use Rattle.tt_fit.specs.Fitting.{Fitter}
 use Rattle.tt_line.specs.declared.measured.LineSize.{LineSize}
@@ -14,6 +15,7 @@ use Rattle.tt_line.specs.Layout.{advance_in_pixels, text_glyphs}
 use Rattle.tt_line.specs.Sizes.{line_size}
 use Rattle.tt_strike.specs.declared.layouts.Layout.{Layout}
 use Rattle.tt_strike.specs.declared.layouts.Pen.{Pen}
+use Rattle.tt_strike.specs.Defects.{TellsDefects}
 use Rattle.tt_strike.specs.Job.{Job, tested}
 use Rattle.tt_picture.specs.Steps.{glyph_step}
 use Rattle.tt_strike.specs.Picture.{outlines_tested, setting_in}
@@ -25,6 +27,12 @@ abbrev pub IsNotMemory : DrawFault → Type 0
 IsNotMemory (draw.Font f) = ⊤
 IsNotMemory (draw.Job j) = ⊤
 IsNotMemory draw.Memory = ⊥
+
+-- where glyphs are made, Ok means that none of these defects stands, and an error's fault is one. Elsewhere no fault of
+-- the font is told, since no glyph is read
+abbrev pub TellsMadeDefects : {V : Type 0} → Bool → (Fault → Type 0) → Result V DrawFault → Type 0
+TellsMadeDefects true IsOne result = TellsDefects draw_font_fault IsOne result
+TellsMadeDefects false IsOne result = IfTold draw_font_fault result (λ fault. ⊥)
 
 -- each glyph with its step
 abbrev pub with_steps : (ℕ → ℕ) → List ℕ → List (ℕ × ℕ)
@@ -51,18 +59,19 @@ steps_outcome face a = if lays_after_glyphs a.fit then made_steps face a
 abbrev pub size_by : Face → Job → List (ℕ × ℕ) → Result LineSize Refused
 size_by face a steps = as_job (line_size face.metrics a.ppem a.margin (sum (map (λ g. g.1) steps)))
 
+-- the same of a job, which is tested first, by a font's tables; or the first refusal
 unfoldable pub size_outcome : Face → Job → Result LineSize Refused
-size_outcome face a = steps_outcome face a >>= λ steps. size_by face a steps
+size_outcome face a =
+    as_job (tested a) >>= λ u.
+    steps_outcome face a >>= λ steps.
+    size_by face a steps
 
 abbrev pub layout_by : LineSize → ℕ → List ℕ → Layout
 layout_by z margin text = record { size = z; baseline = z.rise +ℤ pos margin; characters = length (chars text) }
 
--- the layout of a job, which is tested first, by a font's tables; or the first refusal
+-- the layout of a job, or the first refusal
 unfoldable pub layout_outcome : Face → Job → Result Layout Refused
-layout_outcome face a =
-    as_job (tested a) >>= λ u.
-    size_outcome face a >>= λ z.
-    Ok (layout_by z a.margin a.text)
+layout_outcome face a = size_outcome face a >>= λ z. Ok (layout_by z a.margin a.text)
 
 -- a pen for each unit, by the units and by the glyphs with their steps, from a first pen on
 abbrev pub pens_at : List TextUnit → List (ℕ × ℕ) → ℕ → List Pen
@@ -71,7 +80,7 @@ pens_at (u ∷ us) [] pen = []
 pens_at (u ∷ us) (g ∷ gs) pen =
     record { unit = u; glyph = g.0; advance = g.1; pen = pen } ∷ pens_at us gs (pen + g.1)
 
--- the pens of a job, which is tested first, by a font's tables; or the first refusal
+-- the pens of a job, or the first refusal
 unfoldable pub pens_outcome : Face → Job → Result (List Pen) Refused
 pens_outcome face a =
     as_job (tested a) >>= λ u.

@@ -6,7 +6,7 @@ ghost use Rattle.tt_core.specs.Outcomes.{GivesUnless, draw_font_fault};
 ghost use Rattle.tt_cmap.specs.Maps.{units_by};
 ghost use Rattle.tt_line.specs.Layout.{text_glyphs};
 ghost use Rattle.tt_strike.specs.Defects.{IsLineDefect, TellsDefects};
-ghost use Rattle.tt_strike.specs.Layouts.{IsNotMemory, layout_by, layout_outcome, pens_at, pens_outcome, size_outcome, steps_outcome};
+ghost use Rattle.tt_strike.specs.Layouts.{IsNotMemory, TellsMadeDefects, layout_by, layout_outcome, pens_at, pens_outcome, size_outcome, steps_outcome};
 ghost use Rattle.tt_strike.specs.Refusals.{refusal};
 ghost use Rattle.tt_strike.specs.Strikes.{job_by};
 ghost use Rattle.tt_strike.specs.Work.{is_bounded};
@@ -53,7 +53,7 @@ fn layout_by(size: LineSize, margin: u32, text: &str) -> Layout
     }
 }
 
-/// The pens of a text by the steps of its units, from a first pen on. Error: memory ran out.
+/// The pens of a text by the glyphs of its units with their steps, from a first pen on. Error: memory ran out.
 fn pens_at(
     alloc: Global,
     cmap: &CharacterMap,
@@ -62,15 +62,13 @@ fn pens_at(
     first: u32,
 ) -> Result<Vec<Pen>, AllocError>
     requires first { first ≤ margin_limit }
-    requires glyphs { map (λ g. g.0) steps.now ≡ text_glyphs cmap.now text.now }
     requires fits { sum (map (λ g. g.1) steps.now) ≤ width_limit }
     ensures { IfOk result (λ ps. ps.items ≡ pens_at (units_by cmap.now (chars text.now)) steps.now first) }
 {
     let mut pens = Vec::with_capacity(alloc, steps.len())?;
     let mut pen = first;
-    let mut i = 0;
-    for unit in cmap.units(text) {
-        let (glyph, advance) = steps[i];
+    for (unit, step) in cmap.units(text).zip(steps) {
+        let (glyph, advance) = *step;
         pens.push(Pen {
             unit,
             glyph,
@@ -78,7 +76,6 @@ fn pens_at(
             pen,
         })?;
         pen += advance;
-        i += 1;
     }
     Ok(pens)
 }
@@ -91,7 +88,6 @@ impl<'f, 'a> SizedFace<'f, 'a> {
         requires text { length (chars text.now) ≤ text_limit }
         requires bounded { is_bounded self.old.fit ≡ true }
         ensures exact { GivesUnless refusal (λ v. v.items) result (steps_outcome self.old.face (job_by self.old text.now 0)) }
-        ensures glyphs { IfOk result (λ v. map (λ g. g.0) v.items ≡ text_glyphs self.old.face.cmap text.now) }
         ensures few { IfOk result (λ v. length v.items ≤ text_limit) }
         ensures defects { TellsDefects draw_font_fault (IsLineDefect self.old.face (job_by self.old text.now 0) (text_glyphs self.old.face.cmap text.now)) result }
         ensures same { self.new ≡ self.old }
@@ -109,30 +105,31 @@ impl<'f, 'a> SizedFace<'f, 'a> {
     fn steps(&mut self, text: &str) -> Result<Vec<(u16, u32)>, DrawFault>
         requires text { length (chars text.now) ≤ text_limit }
         ensures exact { GivesUnless refusal (λ v. v.items) result (steps_outcome self.old.face (job_by self.old text.now 0)) }
-        ensures glyphs { IfOk result (λ v. map (λ g. g.0) v.items ≡ text_glyphs self.old.face.cmap text.now) }
         ensures few { IfOk result (λ v. length v.items ≤ text_limit) }
-        ensures defects { TellsDefects draw_font_fault (IsLineDefect self.old.face (job_by self.old text.now 0) (text_glyphs self.old.face.cmap text.now)) result }
+        ensures defects { TellsMadeDefects (is_bounded self.old.fit) (IsLineDefect self.old.face (job_by self.old text.now 0) (text_glyphs self.old.face.cmap text.now)) result }
         ensures same { self.new ≡ self.old }
     {
-        if is_bounded(self.fit()) {
+        let source = self.source;
+        if is_bounded(source.fit) {
             return self.made_steps(text);
         }
-        Ok(advance_steps(self.source.alloc, &mut self.known, text)?)
+        Ok(advance_steps(source.alloc, &mut self.known, text)?)
     }
 
-    /// The size of a text's line. Without a bound of work no memory is taken, and no glyph is looked at. Errors: those
-    /// of `made_steps` where work is bounded; EmptyPicture, PictureLarge.
+    /// Tests a margin and a text, and gives the size of the text's line. Without a bound of work no memory is taken, and
+    /// no glyph is read. Errors: as `layout`.
     fn line_size(&mut self, text: &str, margin: u32) -> Result<LineSize, DrawFault>
-        requires margin { margin ≤ margin_limit }
-        requires text { length (chars text.now) ≤ text_limit }
         ensures exact { GivesUnless refusal (λ z. z) result (size_outcome self.old.face (job_by self.old text.now margin)) }
         ensures memory { is_bounded self.old.fit ≡ false → IfErr result IsNotMemory }
+        ensures defects { TellsMadeDefects (is_bounded self.old.fit) (IsLineDefect self.old.face (job_by self.old text.now margin) (text_glyphs self.old.face.cmap text.now)) result }
         ensures same { self.new ≡ self.old }
     {
-        if is_bounded(self.fit()) {
+        let source = self.source;
+        test_margin(margin)?;
+        test_text(text)?;
+        if is_bounded(source.fit) {
             let steps = self.made_steps(text)?;
-            let metrics = self.source.face.metrics();
-            return Ok(size_by_steps(metrics, &steps, self.source.ppem, margin)?);
+            return Ok(size_by_steps(source.face.metrics(), &steps, source.ppem, margin)?);
         }
         Ok(size_by_advances(&mut self.known, text, margin)?)
     }
@@ -140,31 +137,31 @@ impl<'f, 'a> SizedFace<'f, 'a> {
     /// The layout of a text of at most 4,096 characters with a margin of 0 to 64 pixels: the size of the picture that
     /// does not grow, its base line, and its distance from a next line. Errors, the first of: MarginRange, TextLong;
     /// with `Fit::Best` those of loca and glyf, of the programs, WorkLarge of the points, and those of the glyphs;
-    /// EmptyPicture, PictureLarge. Only with `Fit::Best` may Memory come.
+    /// EmptyPicture, PictureLarge. Only with `Fit::Best` may Memory come, and are glyphs and programs read.
     #[tactic(auto, unfolding(crate::specs::Layouts::layout_outcome))]
     pub fn layout(&mut self, text: &str, margin: u32) -> Result<Layout, DrawFault>
         ensures exact { GivesUnless refusal (λ l. l) result (layout_outcome self.old.face (job_by self.old text.now margin)) }
         ensures memory { is_bounded self.old.fit ≡ false → IfErr result IsNotMemory }
+        ensures defects { TellsMadeDefects (is_bounded self.old.fit) (IsLineDefect self.old.face (job_by self.old text.now margin) (text_glyphs self.old.face.cmap text.now)) result }
         ensures same { self.new ≡ self.old }
     {
-        test_margin(margin)?;
-        test_text(text)?;
         let size = self.line_size(text, margin)?;
         Ok(layout_by(size, margin, text))
     }
 
     /// The pens of a text of at most 4,096 characters with a margin of 0 to 64 pixels, one for each unit. Errors: those
     /// of `layout`, in the same order; Memory.
-    #[tactic(auto, unfolding(crate::specs::Layouts::pens_outcome))]
     pub fn pens(&mut self, text: &str, margin: u32) -> Result<Vec<Pen>, DrawFault>
         ensures exact { GivesUnless refusal (λ ps. ps.items) result (pens_outcome self.old.face (job_by self.old text.now margin)) }
+        ensures defects { TellsMadeDefects (is_bounded self.old.fit) (IsLineDefect self.old.face (job_by self.old text.now margin) (text_glyphs self.old.face.cmap text.now)) result }
         ensures same { self.new ≡ self.old }
     {
+        let source = self.source;
         test_margin(margin)?;
         test_text(text)?;
         let steps = self.steps(text)?;
-        let face = self.source.face;
-        size_by_steps(face.metrics(), &steps, self.source.ppem, margin)?;
-        Ok(pens_at(self.source.alloc, face.cmap(), text, &steps, margin)?)
+        let face = source.face;
+        size_by_steps(face.metrics(), &steps, source.ppem, margin)?;
+        Ok(pens_at(source.alloc, face.cmap(), text, &steps, margin)?)
     }
 }

@@ -1,0 +1,155 @@
+-- The steps of a text and what is made of them, its size and its pens: where each stops, and what each is.
+use Rattle.std.proofs.Common.{◌≡◌, ◌∙◌, refl, sym, ap, ℕ, ◌+◌, ◌*◌, ◌≤◌, Bool, true, false, ◌||◌, ◌==◌, if◌then◌else◌, nat_lt, pos, int_lt, List, [], ◌∷◌, chars, map, sum, Result, Ok, Err, arith}
+use Rattle.std.specs.Prelude.{IfSome}
+use Rattle.tt_cmap.specs.Maps.{units_by}
+use Rattle.tt_core.specs.Chains.{came-through}
+use Rattle.tt_core.specs.declared.draw_fault.DrawFault.{DrawFault}
+use Rattle.tt_core.specs.declared.draw_fault.DrawFault.TheVariants as draw
+use Rattle.tt_core.specs.declared.fault.JobFault.{JobFault}
+use Rattle.tt_core.specs.declared.fault.JobFault.TheVariants as job_of
+use Rattle.tt_core.specs.declared.font_fault.FontFault.{FontFault}
+use Rattle.tt_core.specs.declared.font_fault.FontFault.TheVariants as font
+use Rattle.tt_core.specs.Faults.{Fault}
+use Rattle.tt_core.specs.Limits.{height_limit, width_limit}
+use Rattle.tt_core.specs.Outcomes.{FontGives, draw_fault_of_font}
+use Rattle.tt_face.specs.Faces.{Face}
+use Rattle.tt_fit.specs.Fitting.{Fitter}
+use Rattle.tt_fit_outline.specs.Outline.{Outline}
+use Rattle.tt_line.specs.declared.extent.PictureExtent.{PictureExtent}
+use Rattle.tt_line.specs.declared.measured.LineSize.{LineSize}
+use Rattle.tt_line.specs.Layout.{advance_in_pixels, advances_of, text_glyphs, within_limits}
+use Rattle.tt_line.specs.Sizes.{extent_by_sum, line_size, size_of}
+use Rattle.tt_metrics.specs.Metrics.{Metrics}
+use Rattle.tt_strike.specs.Job.{Job, tested}
+use Rattle.tt_strike.specs.Layouts.{TellsMadeDefects, pens_at, pens_outcome, size_outcome, step_with, steps_outcome, with_steps}
+use Rattle.tt_strike.specs.Picture.{outlines_tested, setting_in, steps_in}
+use Rattle.tt_strike.specs.Refusals.{as_job, job, refusal}
+use Rattle.tt_strike.specs.Work.{is_bounded}
+use Rattle.tt_strike.proofs.Stopped.{stops}
+
+-- a stop in opening the fitter, or at the outlines, stops the steps
+pub setting_stops_steps : (face : Face) (a : Job) (e : FontFault) → is_bounded a.fit ≡ true
+    → FontGives {X = Fitter} (λ f. f) (Err e) (setting_in face a)
+    → IfSome (refusal (draw_fault_of_font e)) (λ r. steps_outcome face a ≡ Err r)
+unfolding steps_outcome
+setting_stops_steps face a (font.Font f) bounded fails = rw (bounded, fails) refl
+setting_stops_steps face a font.Memory bounded fails = tt
+
+pub outlines_stop_steps : (face : Face) (a : Job) (s : Fitter) (e : DrawFault) → is_bounded a.fit ≡ true
+    → setting_in face a ≡ Ok s → IfSome (refusal e) (λ r. outlines_tested s a.fit (text_glyphs face.cmap a.text) ≡ Err r)
+    → IfSome (refusal e) (λ r. steps_outcome face a ≡ Err r)
+unfolding steps_outcome
+outlines_stop_steps face a s (draw.Font f) bounded there fails = rw (bounded, there, fails) refl
+outlines_stop_steps face a s (draw.Job j) bounded there fails = rw (bounded, there, fails) refl
+outlines_stop_steps face a s draw.Memory bounded there fails = tt
+
+-- glyphs beside their steps
+pub beside_steps : (step : ℕ → ℕ) (line : List (ℕ × ℕ))
+    → map (λ (g : ℕ × ℕ). g.1) line ≡ map step (map (λ (g : ℕ × ℕ). g.0) line)
+    → with_steps step (map (λ (g : ℕ × ℕ). g.0) line) ≡ line
+beside_steps step [] same = refl
+beside_steps step (g ∷ gs) same =
+    let here : g.1 ≡ step g.0 = cc in
+    rw (← here, beside_steps step gs cc) refl
+
+pub steps_of : (step : ℕ → ℕ) (gs : List ℕ) → map (λ (g : ℕ × ℕ). g.1) (with_steps step gs) ≡ map step gs
+steps_of step [] = refl
+steps_of step (g ∷ gs) = ap (λ (ns : List ℕ). step g ∷ ns) (steps_of step gs)
+
+-- the steps of glyphs that are made, and those by advances
+pub steps_by_outlines : (face : Face) (a : Job) (s : Fitter) (os : List Outline) (line : List (ℕ × ℕ)) → is_bounded a.fit ≡ true
+    → setting_in face a ≡ Ok s → outlines_tested s a.fit (text_glyphs face.cmap a.text) ≡ Ok os
+    → map (λ g. g.0) line ≡ text_glyphs face.cmap a.text → map (λ g. g.1) line ≡ steps_in s (text_glyphs face.cmap a.text)
+    → steps_outcome face a ≡ Ok line
+unfolding steps_outcome
+steps_by_outlines face a s os line bounded there made glyphs steps =
+    let step = step_with s (text_glyphs face.cmap a.text) in
+    let is = rw glyphs at (beside_steps step line (steps ∙ ap (map step) (sym glyphs))) in
+    rw (bounded, there, made, is) refl
+
+pub steps_by_advances : (face : Face) (a : Job) → is_bounded a.fit ≡ false
+    → steps_outcome face a ≡ Ok (with_steps (advance_in_pixels face.metrics a.ppem) (text_glyphs face.cmap a.text))
+unfolding steps_outcome
+steps_by_advances face a other = rw other refl
+
+-- a refused test stops the size and the pens, and so does a stop in the steps
+pub test_stops_size : (face : Face) (a : Job) (j : JobFault) → tested a ≡ Err j → size_outcome face a ≡ Err (job j)
+unfolding size_outcome
+test_stops_size face a j fails = rw fails refl
+
+pub test_stops_pens : (face : Face) (a : Job) (j : JobFault) → tested a ≡ Err j → pens_outcome face a ≡ Err (job j)
+unfolding pens_outcome
+test_stops_pens face a j fails = rw fails refl
+
+pub steps_stop_size : (face : Face) (a : Job) (e : DrawFault) → tested a ≡ Ok tt
+    → IfSome (refusal e) (λ r. steps_outcome face a ≡ Err r) → IfSome (refusal e) (λ r. size_outcome face a ≡ Err r)
+unfolding size_outcome
+steps_stop_size face a e passes stopped =
+    stops e (steps_outcome face a) (size_outcome face a) (λ r fails. rw (passes, fails) refl) stopped
+
+pub steps_stop_pens : (face : Face) (a : Job) (e : DrawFault) → tested a ≡ Ok tt
+    → IfSome (refusal e) (λ r. steps_outcome face a ≡ Err r) → IfSome (refusal e) (λ r. pens_outcome face a ≡ Err r)
+unfolding pens_outcome
+steps_stop_pens face a e passes stopped =
+    stops e (steps_outcome face a) (pens_outcome face a) (λ r fails. rw (passes, fails) refl) stopped
+
+-- the size and the pens of a tested job by its steps
+pub size_is : (face : Face) (a : Job) (steps : List (ℕ × ℕ)) → tested a ≡ Ok tt → steps_outcome face a ≡ Ok steps
+    → size_outcome face a ≡ as_job (line_size face.metrics a.ppem a.margin (sum (map (λ g. g.1) steps)))
+unfolding size_outcome
+size_is face a steps passes made = rw (passes, made) refl
+
+pub size_by_its_advances : (face : Face) (a : Job) → tested a ≡ Ok tt → is_bounded a.fit ≡ false
+    → size_outcome face a ≡ as_job (line_size face.metrics a.ppem a.margin
+    (sum (advances_of face.metrics a.ppem (text_glyphs face.cmap a.text))))
+size_by_its_advances face a passes other =
+    let gs = text_glyphs face.cmap a.text in
+    let step = advance_in_pixels face.metrics a.ppem in
+    size_is face a (with_steps step gs) passes (steps_by_advances face a other)
+    ∙ ap (λ ns. as_job (line_size face.metrics a.ppem a.margin (sum ns))) (steps_of step gs)
+
+pub size_stops_pens : (face : Face) (a : Job) (steps : List (ℕ × ℕ)) (j : JobFault) → tested a ≡ Ok tt
+    → steps_outcome face a ≡ Ok steps → line_size face.metrics a.ppem a.margin (sum (map (λ g. g.1) steps)) ≡ Err j
+    → pens_outcome face a ≡ Err (job j)
+unfolding pens_outcome
+size_stops_pens face a steps j passes made refused = rw (passes, made, refused) refl
+
+pub pens_are : (face : Face) (a : Job) (steps : List (ℕ × ℕ)) (z : LineSize) → tested a ≡ Ok tt
+    → steps_outcome face a ≡ Ok steps → line_size face.metrics a.ppem a.margin (sum (map (λ g. g.1) steps)) ≡ Ok z
+    → pens_outcome face a ≡ Ok (pens_at (units_by face.cmap (chars a.text)) steps a.margin)
+unfolding pens_outcome
+pens_are face a steps z passes made sized = rw (passes, made, sized) refl
+
+-- a fault of the job is none of the font
+pub no_defect_of_job : {V : Type 0} (made : Bool) (IsOne : Fault → Type 0) (j : JobFault)
+    → TellsMadeDefects {V = V} made IsOne (Err (draw.Job j))
+no_defect_of_job true IsOne j = tt
+no_defect_of_job false IsOne j = tt
+
+-- an extent that is not refused is unchanged, so a line's size is that of its extent
+kept : (empty large : Bool) (e f : PictureExtent) → ◌≡◌ {A = Result PictureExtent JobFault}
+    (if empty then Err job_of.EmptyPicture else (if large then Err job_of.PictureLarge else Ok e)) (Ok f) → f ≡ e
+kept true large e f was = absurd cc
+kept false true e f was = absurd cc
+kept false false e f was = let same : e ≡ f = cc in sym same
+
+extent_kept : (e f : PictureExtent) → within_limits e ≡ Ok f → f ≡ e
+unfolding within_limits
+extent_kept e f was =
+    kept ((e.width == 0) || int_lt e.height (pos 1)) (nat_lt width_limit e.width || int_lt (pos height_limit) e.height) e f was
+
+pub sized_is : (m : Metrics) (ppem margin n : ℕ) (z : LineSize) → line_size m ppem margin n ≡ Ok z
+    → z ≡ size_of m ppem (extent_by_sum m ppem margin n)
+sized_is m ppem margin n z was =
+    let e = extent_by_sum m ppem margin n in
+    let by_extent = came-through (within_limits e) _ z was in
+    let same = extent_kept e by_extent.value by_extent.first in
+    let is : size_of m ppem by_extent.value ≡ z = let rest = by_extent.rest in cc in
+    sym is ∙ ap (size_of m ppem) same
+
+-- so the steps of a line that is not too wide are together not wider
+pub steps_fit : (m : Metrics) (ppem margin n : ℕ) (z : LineSize) → line_size m ppem margin n ≡ Ok z → z.width ≤ width_limit
+    → n ≤ width_limit
+steps_fit m ppem margin n z was fits =
+    let wide : z.width ≡ n + 2 * margin = ap (λ (z : LineSize). z.width) (sized_is m ppem margin n z was) in
+    omega (arith, wide, fits)

@@ -1,0 +1,30 @@
+use Rattle.std.proofs.Common.{refl}
+use Rattle.std.proofs.lemmas.Result.{err_from_is_err_and}
+use Rattle.tt_strike.specs.Layouts.{layout_outcome, size_outcome}
+use Rattle.tt_strike.specs.Strikes.{job_by}
+use Rattle.tt_strike.proofs.Stopped.{stops}
+use Rattle.tt_strike.proofs.sized.SizedFace.layout.Goals as goal
+
+pub returns-in_err-size-clause-exact : goal.returns-in_err-size-clause-exact
+unfolding layout_outcome
+returns-in_err-size-clause-exact c =
+    let p = err_from_is_err_and c.from_residual.result c.from_residual.ensures.1 in
+    let face = c.args.self.now.face in
+    let a = job_by c.args.self.now c.args.text.now c.args.margin in
+    rw (p.1, p.2) (stops c.in_err-size.field-0.0 (size_outcome face a) (layout_outcome face a) (λ r fails. rw fails refl)
+    c.in_err-size.ensures.exact)
+
+pub returns-in_err-size-clause-memory : goal.returns-in_err-size-clause-memory
+returns-in_err-size-clause-memory c =
+    let p = err_from_is_err_and c.from_residual.result c.from_residual.ensures.1 in
+    rw (p.1, p.2) c.in_err-size.ensures.memory
+
+pub returns-in_err-size-clause-defects : goal.returns-in_err-size-clause-defects
+returns-in_err-size-clause-defects c =
+    let p = err_from_is_err_and c.from_residual.result c.from_residual.ensures.1 in
+    rw (p.1, p.2) c.in_err-size.ensures.defects
+
+pub returns-clause-exact : goal.returns-clause-exact
+unfolding layout_outcome
+returns-clause-exact c =
+    rw (c.in_ok-size.ensures.exact, c.layout_by.ensures) refl

@@ -1,0 +1,131 @@
+use Rattle.std.proofs.Common.{◌≡◌, ◌∙◌, ℕ, List, Ok, refl}
+use Rattle.std.proofs.lemmas.Result.{err_from_is_err_and}
+use Rattle.tt_face.specs.Faces.{Face}
+use Rattle.tt_fit.specs.declared.programs.Fit.{Fit}
+use Rattle.tt_strike.specs.Job.{Job, tested}
+use Rattle.tt_strike.specs.Strikes.{SizedFace, job_by}
+use Rattle.tt_strike.proofs.Layouts.{no_defect_of_job, size_by_its_advances, size_is, steps_stop_size, test_stops_size}
+use Rattle.tt_strike.proofs.Stopped.{tested_at}
+use Rattle.tt_strike.proofs.sized.SizedFace.line_size.Goals.{In_ok-test_text}
+use Rattle.tt_strike.proofs.sized.SizedFace.line_size.Goals as goal
+
+-- the job of a text at this place
+abbrev job_here : Face → ℕ → Fit → List ℕ → ℕ → Job
+job_here face ppem how text margin = job_by (record { face = face; ppem = ppem; fit = how }) text margin
+
+-- the text and its margin are tested
+passed : (c : In_ok-test_text) → tested (job_here c.self.inside.source.face.now c.self.inside.source.ppem c.self.inside.source.fit
+    c.args.text.now c.args.margin) ≡ Ok tt
+passed c =
+    let z : SizedFace = record { face = c.self.inside.source.face.now; ppem = c.self.inside.source.ppem; fit = c.self.inside.source.fit } in
+    tested_at z c.args.text.now c.args.margin c.self.inside.source.low c.self.inside.source.high
+    ∙ rw (c.in_ok-test_margin.ensures.exact, c.in_ok-test_text.ensures.exact) refl
+
+pub returns-in_err-test_margin-clause-exact : goal.returns-in_err-test_margin-clause-exact
+returns-in_err-test_margin-clause-exact c =
+    let z : SizedFace = record { face = c.self.inside.source.face.now; ppem = c.self.inside.source.ppem; fit = c.self.inside.source.fit } in
+    let p = err_from_is_err_and c.from_residual.result c.from_residual.ensures.1 in
+    let at = tested_at z c.args.text.now c.args.margin c.self.inside.source.low c.self.inside.source.high in
+    rw (p.1, p.2, ← c.self.view_is) (test_stops_size z.face (job_by z c.args.text.now c.args.margin)
+    c.in_err-test_margin.field-0.0 (at ∙ rw c.in_err-test_margin.ensures.exact refl))
+
+pub returns-in_err-test_margin-clause-defects : goal.returns-in_err-test_margin-clause-defects
+returns-in_err-test_margin-clause-defects c =
+    let p = err_from_is_err_and c.from_residual.result c.from_residual.ensures.1 in
+    rw (p.1, p.2) (no_defect_of_job _ _ c.in_err-test_margin.field-0.0)
+
+pub returns-in_err-test_text-clause-exact : goal.returns-in_err-test_text-clause-exact
+returns-in_err-test_text-clause-exact c =
+    let z : SizedFace = record { face = c.self.inside.source.face.now; ppem = c.self.inside.source.ppem; fit = c.self.inside.source.fit } in
+    let p = err_from_is_err_and c.from_residual-in_err-test_text.result c.from_residual-in_err-test_text.ensures.1 in
+    let at = tested_at z c.args.text.now c.args.margin c.self.inside.source.low c.self.inside.source.high in
+    rw (p.1, p.2, ← c.self.view_is) (test_stops_size z.face (job_by z c.args.text.now c.args.margin)
+    c.in_err-test_text.field-0.0 (at ∙ rw (c.in_ok-test_margin.ensures.exact, c.in_err-test_text.ensures.exact) refl))
+
+pub returns-in_err-test_text-clause-defects : goal.returns-in_err-test_text-clause-defects
+returns-in_err-test_text-clause-defects c =
+    let p = err_from_is_err_and c.from_residual-in_err-test_text.result c.from_residual-in_err-test_text.ensures.1 in
+    rw (p.1, p.2) (no_defect_of_job _ _ c.in_err-test_text.field-0.0)
+
+pub made_steps-requires-clause-bounded : goal.made_steps-requires-clause-bounded
+made_steps-requires-clause-bounded c =
+    let bounded = rw c.is_bounded.ensures at c.if-is_bounded.true in
+    rw (← c.self.view_is) bounded
+
+pub returns-in_err-steps-clause-exact : goal.returns-in_err-steps-clause-exact
+returns-in_err-steps-clause-exact c =
+    let z : SizedFace = record { face = c.self.inside.source.face.now; ppem = c.self.inside.source.ppem; fit = c.self.inside.source.fit } in
+    let a = job_by z c.args.text.now c.args.margin in
+    let p = err_from_is_err_and c.from_residual-in_err-steps.result c.from_residual-in_err-steps.ensures.1 in
+    let stopped = rw (← c.self.view_is) at c.in_err-steps.ensures.exact in
+    rw (p.1, p.2, ← c.self.view_is) (steps_stop_size z.face a c.in_err-steps.field-0.0
+    (passed (goal.at.returns-in_err-steps-clause-exact c).In_ok-test_text) stopped)
+
+pub returns-in_err-steps-clause-memory : goal.returns-in_err-steps-clause-memory
+returns-in_err-steps-clause-memory c =
+    let bounded = rw c.is_bounded.ensures at c.if-is_bounded.true in
+    rw (← c.self.view_is, bounded) (λ other. absurd cc)
+
+pub returns-in_err-steps-clause-defects : goal.returns-in_err-steps-clause-defects
+returns-in_err-steps-clause-defects c =
+    let p = err_from_is_err_and c.from_residual-in_err-steps.result c.from_residual-in_err-steps.ensures.1 in
+    let bounded = rw c.is_bounded.ensures at c.if-is_bounded.true in
+    rw (p.1, p.2, ← c.self.view_is, bounded) (rw (← c.self.view_is) at c.in_err-steps.ensures.defects)
+
+pub returns-in_err-size_by_steps-clause-exact : goal.returns-in_err-size_by_steps-clause-exact
+returns-in_err-size_by_steps-clause-exact c =
+    let z : SizedFace = record { face = c.self.inside.source.face.now; ppem = c.self.inside.source.ppem; fit = c.self.inside.source.fit } in
+    let a = job_by z c.args.text.now c.args.margin in
+    let p = err_from_is_err_and c.from_residual-in_err-size_by_steps.result c.from_residual-in_err-size_by_steps.ensures.1 in
+    let made = rw (← c.self.view_is) at c.in_ok-steps.ensures.exact in
+    let refused = rw (c.metrics.ensures, c.deref.ensures.value) at c.in_err-size_by_steps.ensures.exact in
+    rw (p.1, p.2, ← c.self.view_is) (size_is z.face a c.in_ok-steps.steps.items
+    (passed (goal.at.returns-in_err-size_by_steps-clause-exact c).In_ok-test_text) made ∙ rw refused refl)
+
+pub returns-in_err-size_by_steps-clause-defects : goal.returns-in_err-size_by_steps-clause-defects
+returns-in_err-size_by_steps-clause-defects c =
+    let p = err_from_is_err_and c.from_residual-in_err-size_by_steps.result c.from_residual-in_err-size_by_steps.ensures.1 in
+    rw (p.1, p.2) (no_defect_of_job _ _ c.in_err-size_by_steps.field-0.0)
+
+pub returns-then-is_bounded-clause-exact : goal.returns-then-is_bounded-clause-exact
+returns-then-is_bounded-clause-exact c =
+    let z : SizedFace = record { face = c.self.inside.source.face.now; ppem = c.self.inside.source.ppem; fit = c.self.inside.source.fit } in
+    let a = job_by z c.args.text.now c.args.margin in
+    let made = rw (← c.self.view_is) at c.in_ok-steps.ensures.exact in
+    let sized = rw (c.metrics.ensures, c.deref.ensures.value) at c.in_ok-size_by_steps.ensures.exact in
+    rw (← c.self.view_is) (size_is z.face a c.in_ok-steps.steps.items
+    (passed (goal.at.returns-then-is_bounded-clause-exact c).In_ok-test_text) made ∙ rw sized refl)
+
+pub returns-then-is_bounded-clause-defects : goal.returns-then-is_bounded-clause-defects
+returns-then-is_bounded-clause-defects c =
+    let bounded = rw c.is_bounded.ensures at c.if-is_bounded.true in
+    rw (← c.self.view_is, bounded) (rw (← c.self.view_is) at c.in_ok-steps.ensures.defects)
+
+pub returns-in_err-size_by_advances-clause-exact : goal.returns-in_err-size_by_advances-clause-exact
+returns-in_err-size_by_advances-clause-exact c =
+    let z : SizedFace = record { face = c.self.inside.source.face.now; ppem = c.self.inside.source.ppem; fit = c.self.inside.source.fit } in
+    let a = job_by z c.args.text.now c.args.margin in
+    let p = err_from_is_err_and c.from_residual-in_err-size_by_advances.result c.from_residual-in_err-size_by_advances.ensures.1 in
+    let other = rw c.is_bounded.ensures at c.if-is_bounded.false in
+    let refused = rw c.self.invariant.1 at c.in_err-size_by_advances.ensures.exact in
+    rw (p.1, p.2, ← c.self.view_is) (size_by_its_advances z.face a
+    (passed (goal.at.returns-in_err-size_by_advances-clause-exact c).In_ok-test_text) other ∙ rw refused refl)
+
+pub returns-in_err-size_by_advances-clause-defects : goal.returns-in_err-size_by_advances-clause-defects
+returns-in_err-size_by_advances-clause-defects c =
+    let p = err_from_is_err_and c.from_residual-in_err-size_by_advances.result c.from_residual-in_err-size_by_advances.ensures.1 in
+    rw (p.1, p.2) (no_defect_of_job _ _ c.in_err-size_by_advances.field-0.0)
+
+pub returns-clause-exact : goal.returns-clause-exact
+returns-clause-exact c =
+    let z : SizedFace = record { face = c.self.inside.source.face.now; ppem = c.self.inside.source.ppem; fit = c.self.inside.source.fit } in
+    let a = job_by z c.args.text.now c.args.margin in
+    let other = rw c.is_bounded.ensures at c.if-is_bounded.false in
+    let sized = rw c.self.invariant.1 at c.in_ok-size_by_advances.ensures.exact in
+    rw (← c.self.view_is) (size_by_its_advances z.face a
+    (passed (goal.at.returns-clause-exact c).In_ok-test_text) other ∙ rw sized refl)
+
+pub returns-clause-defects : goal.returns-clause-defects
+returns-clause-defects c =
+    let other = rw c.is_bounded.ensures at c.if-is_bounded.false in
+    rw (← c.self.view_is, other) tt

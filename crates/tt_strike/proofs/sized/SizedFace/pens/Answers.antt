@@ -1,0 +1,96 @@
+use Rattle.std.proofs.Common.{◌≡◌, ◌∙◌, ℕ, List, Ok, refl}
+use Rattle.std.proofs.lemmas.Result.{err_from_is_err_and}
+use Rattle.tt_face.specs.Faces.{Face}
+use Rattle.tt_fit.specs.declared.programs.Fit.{Fit}
+use Rattle.tt_strike.specs.Job.{Job, tested}
+use Rattle.tt_strike.specs.Strikes.{SizedFace, job_by}
+use Rattle.tt_strike.proofs.Layouts.{no_defect_of_job, pens_are, size_stops_pens, steps_fit, steps_stop_pens, test_stops_pens}
+use Rattle.tt_strike.proofs.Stopped.{tested_at}
+use Rattle.tt_strike.proofs.sized.SizedFace.pens.Goals.{In_ok-test_text}
+use Rattle.tt_strike.proofs.sized.SizedFace.pens.Goals as goal
+
+-- the job of a text at this place
+abbrev job_here : Face → ℕ → Fit → List ℕ → ℕ → Job
+job_here face ppem how text margin = job_by (record { face = face; ppem = ppem; fit = how }) text margin
+
+-- the text and its margin are tested
+passed : (c : In_ok-test_text) → tested (job_here c.self.inside.source.face.now c.self.inside.source.ppem c.self.inside.source.fit
+    c.args.text.now c.args.margin) ≡ Ok tt
+passed c =
+    let z : SizedFace = record { face = c.self.inside.source.face.now; ppem = c.self.inside.source.ppem; fit = c.self.inside.source.fit } in
+    tested_at z c.args.text.now c.args.margin c.self.inside.source.low c.self.inside.source.high
+    ∙ rw (c.in_ok-test_margin.ensures.exact, c.in_ok-test_text.ensures.exact) refl
+
+pub returns-in_err-test_margin-clause-exact : goal.returns-in_err-test_margin-clause-exact
+returns-in_err-test_margin-clause-exact c =
+    let z : SizedFace = record { face = c.self.inside.source.face.now; ppem = c.self.inside.source.ppem; fit = c.self.inside.source.fit } in
+    let p = err_from_is_err_and c.from_residual.result c.from_residual.ensures.1 in
+    let at = tested_at z c.args.text.now c.args.margin c.self.inside.source.low c.self.inside.source.high in
+    rw (p.1, p.2, ← c.self.view_is) (test_stops_pens z.face (job_by z c.args.text.now c.args.margin)
+    c.in_err-test_margin.field-0.0 (at ∙ rw c.in_err-test_margin.ensures.exact refl))
+
+pub returns-in_err-test_margin-clause-defects : goal.returns-in_err-test_margin-clause-defects
+returns-in_err-test_margin-clause-defects c =
+    let p = err_from_is_err_and c.from_residual.result c.from_residual.ensures.1 in
+    rw (p.1, p.2) (no_defect_of_job _ _ c.in_err-test_margin.field-0.0)
+
+pub returns-in_err-test_text-clause-exact : goal.returns-in_err-test_text-clause-exact
+returns-in_err-test_text-clause-exact c =
+    let z : SizedFace = record { face = c.self.inside.source.face.now; ppem = c.self.inside.source.ppem; fit = c.self.inside.source.fit } in
+    let p = err_from_is_err_and c.from_residual-in_err-test_text.result c.from_residual-in_err-test_text.ensures.1 in
+    let at = tested_at z c.args.text.now c.args.margin c.self.inside.source.low c.self.inside.source.high in
+    rw (p.1, p.2, ← c.self.view_is) (test_stops_pens z.face (job_by z c.args.text.now c.args.margin)
+    c.in_err-test_text.field-0.0 (at ∙ rw (c.in_ok-test_margin.ensures.exact, c.in_err-test_text.ensures.exact) refl))
+
+pub returns-in_err-test_text-clause-defects : goal.returns-in_err-test_text-clause-defects
+returns-in_err-test_text-clause-defects c =
+    let p = err_from_is_err_and c.from_residual-in_err-test_text.result c.from_residual-in_err-test_text.ensures.1 in
+    rw (p.1, p.2) (no_defect_of_job _ _ c.in_err-test_text.field-0.0)
+
+pub returns-in_err-steps-clause-exact : goal.returns-in_err-steps-clause-exact
+returns-in_err-steps-clause-exact c =
+    let z : SizedFace = record { face = c.self.inside.source.face.now; ppem = c.self.inside.source.ppem; fit = c.self.inside.source.fit } in
+    let a = job_by z c.args.text.now c.args.margin in
+    let p = err_from_is_err_and c.from_residual-in_err-steps.result c.from_residual-in_err-steps.ensures.1 in
+    let stopped = rw (← c.self.view_is) at c.in_err-steps.ensures.exact in
+    rw (p.1, p.2, ← c.self.view_is) (steps_stop_pens z.face a c.in_err-steps.field-0.0
+    (passed (goal.at.returns-in_err-steps-clause-exact c).In_ok-test_text) stopped)
+
+pub returns-in_err-steps-clause-defects : goal.returns-in_err-steps-clause-defects
+returns-in_err-steps-clause-defects c =
+    let p = err_from_is_err_and c.from_residual-in_err-steps.result c.from_residual-in_err-steps.ensures.1 in
+    rw (p.1, p.2) c.in_err-steps.ensures.defects
+
+pub returns-in_err-size_by_steps-clause-exact : goal.returns-in_err-size_by_steps-clause-exact
+returns-in_err-size_by_steps-clause-exact c =
+    let z : SizedFace = record { face = c.self.inside.source.face.now; ppem = c.self.inside.source.ppem; fit = c.self.inside.source.fit } in
+    let a = job_by z c.args.text.now c.args.margin in
+    let p = err_from_is_err_and c.from_residual-in_err-size_by_steps.result c.from_residual-in_err-size_by_steps.ensures.1 in
+    let made = rw (← c.self.view_is) at c.in_ok-steps.ensures.exact in
+    let refused = rw (c.metrics.ensures, c.deref.ensures.value) at c.in_err-size_by_steps.ensures.exact in
+    rw (p.1, p.2, ← c.self.view_is) (size_stops_pens z.face a c.in_ok-steps.steps.items c.in_err-size_by_steps.field-0.0
+    (passed (goal.at.returns-in_err-size_by_steps-clause-exact c).In_ok-test_text) made refused)
+
+pub returns-in_err-size_by_steps-clause-defects : goal.returns-in_err-size_by_steps-clause-defects
+returns-in_err-size_by_steps-clause-defects c =
+    let p = err_from_is_err_and c.from_residual-in_err-size_by_steps.result c.from_residual-in_err-size_by_steps.ensures.1 in
+    rw (p.1, p.2) (no_defect_of_job _ _ c.in_err-size_by_steps.field-0.0)
+
+pub pens_at-requires-clause-fits : goal.pens_at-requires-clause-fits
+pens_at-requires-clause-fits c =
+    let sized = rw c.deref.ensures.value at c.in_ok-size_by_steps.ensures.exact in
+    rw c.deref-2.ensures.value (steps_fit _ _ _ _ c.in_ok-size_by_steps.field-0 sized c.in_ok-size_by_steps.ensures.width)
+
+pub returns-clause-exact : goal.returns-clause-exact
+returns-clause-exact c =
+    let z : SizedFace = record { face = c.self.inside.source.face.now; ppem = c.self.inside.source.ppem; fit = c.self.inside.source.fit } in
+    let a = job_by z c.args.text.now c.args.margin in
+    let made = rw (← c.self.view_is) at c.in_ok-steps.ensures.exact in
+    let sized = rw (c.metrics.ensures, c.deref.ensures.value) at c.in_ok-size_by_steps.ensures.exact in
+    let pens = rw (c.cmap.ensures.exact, c.deref-2.ensures.value) at c.in_ok-pens_at.ensures in
+    rw (← c.self.view_is) (pens_are z.face a c.in_ok-steps.steps.items c.in_ok-size_by_steps.field-0
+    (passed (goal.at.returns-clause-exact c).In_ok-test_text) made sized ∙ rw pens refl)
+
+pub returns-clause-defects : goal.returns-clause-defects
+returns-clause-defects c =
+    c.in_ok-steps.ensures.defects
