@@ -78,7 +78,6 @@ pub list_refused : (j : CJob) (gs font : List ℕ) (how : Fit) (why : JobFault) 
 unfolding bitmaps_wanted
 list_refused j gs font how why fits fails = rw fits (by_test (limits_tested gs j.size) _ why fails)
 
-
 of_tables : (j : CJob) (gs font : List ℕ) (how : Fit) → fit_asked j.fit ≡ Ok how → limits_tested gs j.size ≡ Ok tt
     → bitmaps_wanted j gs font
     ≡ (face_wanted (job_reading j how) font >>= λ face. as_call (bitmaps_in face (job_for gs j.size how)))

@@ -135,16 +135,48 @@ pub record DrawsGlyphs (j : CJob) (glyphs font rows_before rows : List ℕ) (tol
 abbrev two_by_two : InkPlace
 two_by_two = record { left = pos 1; top = pos 2; width = 2; height = 2 }
 
-an_unfitted_glyph : bitmap_told (record { glyph = 1; told = told.Made (record { advance = 4; place = two_by_two;
-    unfitted = Some (fault_at (codes "glyf") 17 why.DivZero) }); at = 0 })
-    ≡ record { glyph = 1; status = 0; number = 47; table = codes "glyf"; offset = 17; advance = 4; left = pos 1;
-    top = pos 2; width = 2; height = 2; at = 0 }
+an_unfitted_glyph : bitmap_told (record {
+  glyph = 1;
+  told = told.Made (record {
+    advance = 4;
+    place = two_by_two;
+    unfitted = Some (fault_at (codes "glyf") 17 why.DivZero);
+  });
+  at = 0;
+})
+    ≡ record {
+      glyph = 1;
+      status = 0;
+      number = 47;
+      table = codes "glyf";
+      offset = 17;
+      advance = 4;
+      left = pos 1;
+      top = pos 2;
+      width = 2;
+      height = 2;
+      at = 0;
+    }
 unfolding why_number
 an_unfitted_glyph = refl
 
-a_glyph_too_deep : bitmap_told (record { glyph = 1; told = told.Broken (fault_at (codes "glyf") 10 why.ComponentDepth);
-    at = 0 }) ≡ record { glyph = 1; status = 1; number = 17; table = codes "glyf"; offset = 10; advance = 0;
-    left = pos 0; top = pos 0; width = 0; height = 0; at = 0 }
+a_glyph_too_deep : bitmap_told (record {
+  glyph = 1;
+  told = told.Broken (fault_at (codes "glyf") 10 why.ComponentDepth);
+  at = 0;
+}) ≡ record {
+  glyph = 1;
+  status = 1;
+  number = 17;
+  table = codes "glyf";
+  offset = 10;
+  advance = 0;
+  left = pos 0;
+  top = pos 0;
+  width = 0;
+  height = 0;
+  at = 0;
+}
 unfolding why_number
 a_glyph_too_deep = refl
 

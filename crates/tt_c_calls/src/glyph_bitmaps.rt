@@ -112,12 +112,7 @@ fn bitmap_of(entry: &GlyphEntry) -> CBitmap
 /// The bitmaps of a list by a font file. Errors, the first of: UnknownFit; SizeRange, TextLong; FontLarge; those of the
 /// tables that every text needs; those of `BitmapList::make`.
 #[tactic(auto, unfolding(crate::specs::Bitmaps::bitmaps_wanted))]
-fn list_of(
-    alloc: Global,
-    font: &[u8],
-    glyphs: &[u32],
-    job: &CJob,
-) -> Result<BitmapList, CallFault>
+fn list_of(alloc: Global, font: &[u8], glyphs: &[u32], job: &CJob) -> Result<BitmapList, CallFault>
     ensures exact { GivesUnless call_refusal (λ b. b) result (bitmaps_wanted job.now glyphs.now font.now) }
     ensures entries { IfOk result (λ b. length b.entries ≡ length glyphs.now) }
     ensures defects { IfTold call_font_fault result (IsListDefect job.now font.now) }

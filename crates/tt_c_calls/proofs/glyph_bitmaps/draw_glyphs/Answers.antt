@@ -55,12 +55,17 @@ returns c =
     let long : length (map bitmap_told b.entries) ≡ n = rw length-map many in
     rw (c.sized-2.ensures, wanted) (record {
       order = λ few. absurd (omega (arith, few, c.if-told-glyphs.false));
-      done = λ _. (b, c.in-Ok.ensures.exact, many, record {
-        entries = written;
-        rows = c.write_rows.ensures.rows;
-        rest = c.write_rows.ensures.rest;
-        answer = refl;
-      });
+      done = λ _. (
+        b,
+        c.in-Ok.ensures.exact,
+        many,
+        record {
+          entries = written;
+          rows = c.write_rows.ensures.rows;
+          rest = c.write_rows.ensures.rest;
+          answer = refl;
+        },
+      );
       refused = λ _ h. absurd (h refl);
       small = λ _ h. absurd (omega (arith, h));
       kept = λ h. absurd (h refl);
