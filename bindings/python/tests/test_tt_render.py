@@ -1,5 +1,5 @@
 """Tries the module tt_render beside the program tt_render, which TT_RENDER names. TT_FONT names the font,
-DejaVu Sans. TT_LACKS=glyphs says that the library was made before bitmaps and layouts, which then are not tried."""
+DejaVu Sans."""
 import os
 import struct
 import subprocess
@@ -8,7 +8,6 @@ import unittest
 import tt_render
 
 PROGRAM, FONT = os.environ.get("TT_RENDER", "tt_render"), os.environ["TT_FONT"]
-HAS_GLYPHS = os.environ.get("TT_LACKS") != "glyphs"
 
 
 def printed(command, *words, stdin=""):
@@ -119,7 +118,6 @@ class Calls(unittest.TestCase):
             self.assertEqual(self.refused(tt_render.Font, data, face).number, 25)
         self.assertEqual(self.refused(tt_render.Font, data, None).number, 1)
 
-    @unittest.skipUnless(HAS_GLYPHS, "the library has no tt_glyphs")
     def test_glyphs(self):
         for fit in tt_render.Fit:
             for size in (9, 16, 300):
@@ -130,7 +128,6 @@ class Calls(unittest.TestCase):
                 picture = self.font.label("Hij, j", size, fit=fit)
                 self.assertEqual(drawn(got, picture), picture.rows)
 
-    @unittest.skipUnless(HAS_GLYPHS, "the library has no tt_glyphs")
     def test_refused_glyphs(self):
         two = self.font.map("2")[0].glyph
         got = self.font.glyphs([2**32 - 1, two], 16, fit=tt_render.Fit.FULL)
@@ -139,7 +136,6 @@ class Calls(unittest.TestCase):
         self.assertEqual(self.font.glyphs([], 16), [])
         self.assertEqual(self.refused(self.font.glyphs, [two] * 4097, 16).number, 61)
 
-    @unittest.skipUnless(HAS_GLYPHS, "the library has no tt_layout")
     def test_layout(self):
         for fit in tt_render.Fit:
             got, wanted = self.font.layout("Hi j", 24, margin=2, fit=fit), self.font.measure(

@@ -1,5 +1,4 @@
 //! Tries the crate beside the program tt_render, which TT_RENDER names. TT_FONT names the font, DejaVu Sans.
-//! TT_LACKS=glyphs says that the library was made before bitmaps and layouts, which then are not tried.
 use std::env;
 use std::io::Write;
 use std::process::{Command, Stdio};
@@ -11,10 +10,6 @@ fn font_path() -> String {
 
 fn font_bytes() -> Vec<u8> {
     std::fs::read(font_path()).expect("the font is there")
-}
-
-fn lacks_glyphs() -> bool {
-    env::var("TT_LACKS").as_deref() == Ok("glyphs")
 }
 
 /// What the program prints.
@@ -293,9 +288,6 @@ fn a_request_has_no_table() {
 
 #[test]
 fn bitmaps_are_those_of_pictures() {
-    if lacks_glyphs() {
-        return;
-    }
     let bytes = font_bytes();
     let font = Font::new(&bytes).unwrap();
     let (job, text) = (Job::of_size(16), "Hi, Hi");
@@ -333,9 +325,6 @@ fn bitmaps_are_those_of_pictures() {
 
 #[test]
 fn layouts_are_those_of_measures() {
-    if lacks_glyphs() {
-        return;
-    }
     let bytes = font_bytes();
     let font = Font::new(&bytes).unwrap();
     let job = Job {
