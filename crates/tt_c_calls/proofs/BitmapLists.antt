@@ -1,6 +1,7 @@
 -- The bitmaps of a list are those of the font's tables, and its entries tell the defects of their glyphs.
-use Rattle.std.proofs.Common.{◌≡◌, ◌∙◌, ℕ, List, [], ◌∷◌, Option, Some, None, Result, Ok, Err, ap, arith, inl, inr, refl, subst, sym}
-use Rattle.std.specs.Prelude.{All, IfSome, IsOkAnd}
+use Rattle.std.proofs.Common.{◌≡◌, ◌∙◌, ℕ, List, [], Option, Some, None, Result, Ok, Err, ap, arith, get_or, inl, inr, refl, subst, sym}
+use Rattle.std.specs.Prelude.{All, IfSome, IsOkAnd, chars}
+use Rattle.std.proofs.lemmas.Str.{chars-nil}
 use Rattle.tt_core.specs.Chains.{came-through}
 use Rattle.tt_core.specs.declared.collection.Reading.{Reading}
 use Rattle.tt_core.specs.declared.draw_fault.DrawFault.{DrawFault}
@@ -55,9 +56,13 @@ first_fails : (r rest : Result (Unit {0}) JobFault) (j : JobFault) → rest ≡ 
 first_fails (Ok u) rest j passes is = let never = rw passes at is in absurd cc
 first_fails (Err e) rest j passes is = is
 
+rest_passes : (margin_tested 0 >>= λ u. text_tested []) ≡ Ok tt
+unfolding margin_tested text_tested
+rest_passes = rw chars-nil refl
+
 pub size_failed : (size : ℕ) (how : Fit) (j : JobFault) → tested (of_size size how) ≡ Err j → size_tested size ≡ Err j
-unfolding tested margin_tested text_tested
-size_failed size how j test = first_fails (size_tested size) (margin_tested 0 >>= λ u. text_tested []) j refl test
+unfolding tested
+size_failed size how j test = first_fails (size_tested size) (margin_tested 0 >>= λ u. text_tested []) j rest_passes test
 
 pub size_refuses : (gs : List ℕ) (size : ℕ) (j : JobFault) → size_tested size ≡ Err j → limits_tested gs size ≡ Err j
 size_refuses gs size j fails = rw fails refl
@@ -124,7 +129,7 @@ entry_stands P e told.Large is = λ one. absurd (omega (arith, one))
 entry_stands P e (told.Made m) is = made m m.unfitted refl
   where
     made : (m : MadeBitmap) (u : Option Fault) → m.unfitted ≡ u → EntryStands P (bitmap_by e (told.Made m))
-    made m None no = rw no (λ one. absurd (omega (arith, one)))
+    made m None none = rw none (λ one. absurd (omega (arith, one)))
     made m (Some f) some = rw some (λ one. absurd (omega (arith, one)))
 
 broken_stands : (s : Fitter) (g : ℕ) (t : Told) → TellsDefectsOf s g t → (f : Fault) → t ≡ told.Broken f
@@ -134,11 +139,10 @@ broken_stands s g t tells f is = rw is at tells
 all_stand : (P : ℕ → Fault → Type 0) (s : Fitter) (gs : List ℕ) (es : List GlyphEntry)
     → ((g : ℕ) (f : Fault) → IsOutlineDefect (line_fitter s (known s gs) g) g f → P g f) → TellGlyphDefects s gs es
     → All (λ (e : GlyphEntry). EntryStands P (bitmap_told e)) es
-all_stand P s gs [] more tells = tt
-all_stand P s gs (e ∷ es) more tells = (
-  entry_stands P e e.told (λ f is. more e.glyph f (broken_stands (line_fitter s (known s gs) e.glyph) e.glyph e.told tells.0 f is)),
-  all_stand P s gs es more tells.1,
-)
+all_stand P s gs es more tells = λ k d within.
+    let e = get_or es k d in
+    entry_stands P e e.told (λ f is. more e.glyph f
+        (broken_stands (line_fitter s (known s gs) e.glyph) e.glyph e.told (tells k d within) f is))
 
 by_setting : (P : ℕ → Fault → Type 0) (r : Result Fitter Fault) (gs : List ℕ) (es : List GlyphEntry)
     → ((g : ℕ) (f : Fault) → IsOkAnd r (λ s. IsOutlineDefect (line_fitter s (known s gs) g) g f) → P g f)

@@ -1,5 +1,5 @@
 -- The layout and the pens of a text are those of the font's tables.
-use Rattle.std.proofs.Common.{◌≡◌, ◌≢◌, ◌∙◌, ◌==◌, ℕ, Bool, true, false, List, Result, Ok, Err, arith, inl, inr, refl, rules}
+use Rattle.std.proofs.Common.{◌≡◌, ◌≢◌, ◌≤◌, ◌∙◌, ◌==◌, ℕ, Bool, true, false, List, Result, Ok, Err, arith, inl, inr, refl, rules}
 use Rattle.std.specs.Prelude.{IfSome, if◌then◌else◌}
 use Rattle.tt_core.specs.declared.draw_fault.DrawFault.{DrawFault}
 use Rattle.tt_core.specs.declared.draw_fault.DrawFault.TheVariants as draw
@@ -50,19 +50,19 @@ pens_of_face j text font a face is passes read =
     pens_of_tables j text font a is passes ∙ rw read refl
 
 -- a fault of the glyphs, where these are made, is a defect that the job meets
-told_if_made : (made : Bool) (P : Fault → Type 0) (d : DrawFault) → TellsMadeDefects {V = Layout} made P (Err d)
+told_if_made : (V : Type 0) (made : Bool) (P : Fault → Type 0) (d : DrawFault) → TellsMadeDefects {V = V} made P (Err d)
     → IfSome (draw_font_fault d) P
-told_if_made true P d tells = tells
-told_if_made false P d tells = if_some_more (draw_font_fault d) (λ f. ⊥) P (λ f never. absurd never) tells
+told_if_made V true P d tells = tells
+told_if_made V false P d tells = if_some_more (draw_font_fault d) (λ f. ⊥) P (λ f never. absurd never) tells
 
-pub line_stands : (j : CJob) (text font : List ℕ) (a : Job) (face : Face) (d : DrawFault) → asked j text ≡ Ok a
+pub line_stands : (V : Type 0) (j : CJob) (text font : List ℕ) (a : Job) (face : Face) (d : DrawFault) → asked j text ≡ Ok a
     → face_wanted (job_reading j a.fit) font ≡ Ok face
-    → TellsMadeDefects {V = Layout} (is_bounded a.fit) (IsLineDefect face a (text_glyphs face.cmap a.text)) (Err d)
+    → TellsMadeDefects {V = V} (is_bounded a.fit) (IsLineDefect face a (text_glyphs face.cmap a.text)) (Err d)
     → IfSome (call_font_fault (call_of_draw d)) (IsAskedDefect j text font)
-line_stands j text font a face d is read tells =
+line_stands V j text font a face d is read tells =
     if_some_more (call_font_fault (call_of_draw d)) (IsLineDefect face a (text_glyphs face.cmap a.text))
     (IsAskedDefect j text font) (λ f h. rw (is, face_read (job_reading j a.fit) font face read) (inr h))
-    (draw_tells _ d (told_if_made (is_bounded a.fit) _ d tells))
+    (draw_tells _ d (told_if_made V (is_bounded a.fit) _ d tells))
 
 -- a tested size is not refused again
 pub not_refused : (size : ℕ) (j : JobFault) → IsSizeRefusal size j → 1 ≤ size → size ≤ size_limit → ⊥
@@ -74,12 +74,12 @@ not_refused size j refusal low high = elim refusal.1 [
 -- only the number 3 asks for a bound of work
 unbounded_by : (a b c d : Bool) (how : Fit)
     → (if a then Ok fit.Full else if b then Ok fit.None else if c then Ok fit.Fallback
-    else if d then Ok fit.Best else Err unknown_fit) ≡ Ok {E = Refusal} how → d ≡ false → is_bounded how ≡ false
-unbounded_by true b c d how is no = let same : how ≡ fit.Full = cc in rw same refl
-unbounded_by false true c d how is no = let same : how ≡ fit.None = cc in rw same refl
-unbounded_by false false true d how is no = let same : how ≡ fit.Fallback = cc in rw same refl
-unbounded_by false false false true how is no = absurd cc
-unbounded_by false false false false how is no = absurd cc
+    else if d then Ok fit.Best else Err unknown_fit) ≡ Ok how → d ≡ false → is_bounded how ≡ false
+unbounded_by true b c d how is never = let same : how ≡ fit.Full = cc in rw same refl
+unbounded_by false true c d how is never = let same : how ≡ fit.None = cc in rw same refl
+unbounded_by false false true d how is never = let same : how ≡ fit.Fallback = cc in rw same refl
+unbounded_by false false false true how is never = absurd cc
+unbounded_by false false false false how is never = absurd cc
 
 other_number : (n : ℕ) (b : Bool) → n ≢ 3 → (n == 3) ≡ b → b ≡ false
 other_number n false other is = refl
@@ -94,7 +94,7 @@ pub unbounded : (j : CJob) (text : List ℕ) (a : Job) → asked j text ≡ Ok a
 unfolding asked
 unbounded j text a is other =
     let first = came-through (fit_asked j.fit) _ a is in
-    let then = came-through (text_asked text) _ a first.rest in
+    let second = came-through (text_asked text) _ a first.rest in
     let same : first.value ≡ a.fit = cc in
     rw (← same) (fit_unbounded j.fit first.value first.first other)
 

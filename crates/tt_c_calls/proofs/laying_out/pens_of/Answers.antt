@@ -56,7 +56,7 @@ pub returns-in_err-pens-clause-defects : goal.returns-in_err-pens-clause-defects
 returns-in_err-pens-clause-defects c =
     let read = rw c.in_ok-asked.ensures.reading at c.in_ok-face.ensures.exact in
     let p = err_from_is_err_and c.from_residual-in_err-pens.result c.from_residual-in_err-pens.ensures.1 in
-    rw (p.1, p.2) (line_stands c.args.request.now.job.now c.args.request.now.text.now c.args.request.now.font.now
+    rw (p.1, p.2) (line_stands _ c.args.request.now.job.now c.args.request.now.text.now c.args.request.now.font.now
     (job_view c.in_ok-asked.asked) c.in_ok-face.face c.in_err-pens.field-0.0 c.in_ok-asked.ensures.exact read
     (rw c.in_ok-sized.ensures.exact at c.in_err-pens.ensures.defects))
 
