@@ -1,6 +1,6 @@
 -- The bitmaps of a list are those of the font's tables, and its entries tell the defects of their glyphs.
 use Rattle.std.proofs.Common.{◌≡◌, ◌∙◌, ℕ, List, [], Option, Some, None, Result, Ok, Err, ap, arith, get_or, inl, inr, refl, subst, sym}
-use Rattle.std.specs.Prelude.{All, IfSome, IsOkAnd, chars}
+use Rattle.std.specs.Prelude.{All, IfSome, IsOkAnd}
 use Rattle.std.proofs.lemmas.Str.{chars-nil}
 use Rattle.tt_core.specs.Chains.{came-through}
 use Rattle.tt_core.specs.declared.collection.Reading.{Reading}
@@ -9,7 +9,7 @@ use Rattle.tt_core.specs.declared.fault.JobFault.{JobFault}
 use Rattle.tt_core.specs.Faults.{Fault}
 use Rattle.tt_core.specs.Outcomes.{◌>>=◌, draw_font_fault}
 use Rattle.tt_face.specs.Faces.{Face}
-use Rattle.tt_face.specs.Files.{face_by, IsFaceDefectBy}
+use Rattle.tt_face.specs.Files.{IsFaceDefectBy}
 use Rattle.tt_fit.specs.declared.programs.Fit.{Fit}
 use Rattle.tt_fit.specs.Defects.{IsOutlineDefect}
 use Rattle.tt_fit.specs.Fitting.{Fitter}
@@ -30,7 +30,6 @@ use Rattle.tt_strike.specs.Refusals.{job}
 use Rattle.tt_strike.specs.Work.{line_fitter}
 use Rattle.tt_c_calls.specs.declared.asked.CJob.{CJob}
 use Rattle.tt_c_calls.specs.declared.fault.CallFault.{CallFault}
-use Rattle.tt_c_calls.specs.declared.glyph_bitmaps.CBitmap.{CBitmap}
 use Rattle.tt_c_calls.specs.Asked.{fit_asked, job_reading}
 use Rattle.tt_c_calls.specs.Bitmaps.{EntryStands, IsListDefect, IsListGlyphDefect, bitmap_by, bitmap_told, bitmaps_wanted}
 use Rattle.tt_c_calls.specs.Fonts.{face_wanted}
@@ -142,7 +141,7 @@ all_stand : (P : ℕ → Fault → Type 0) (s : Fitter) (gs : List ℕ) (es : Li
 all_stand P s gs es more tells = λ k d within.
     let e = get_or es k d in
     entry_stands P e e.told (λ f is. more e.glyph f
-        (broken_stands (line_fitter s (known s gs) e.glyph) e.glyph e.told (tells k d within) f is))
+    (broken_stands (line_fitter s (known s gs) e.glyph) e.glyph e.told (tells k d within) f is))
 
 by_setting : (P : ℕ → Fault → Type 0) (r : Result Fitter Fault) (gs : List ℕ) (es : List GlyphEntry)
     → ((g : ℕ) (f : Fault) → IsOkAnd r (λ s. IsOutlineDefect (line_fitter s (known s gs) g) g f) → P g f)

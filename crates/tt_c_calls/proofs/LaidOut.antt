@@ -1,5 +1,5 @@
 -- The layout and the pens of a text are those of the font's tables.
-use Rattle.std.proofs.Common.{◌≡◌, ◌≢◌, ◌≤◌, ◌∙◌, ◌==◌, ℕ, Bool, true, false, List, Result, Ok, Err, arith, inl, inr, refl, rules}
+use Rattle.std.proofs.Common.{◌≡◌, ◌≢◌, ◌≤◌, ◌∙◌, ◌==◌, ℕ, Bool, true, false, List, Ok, Err, arith, inl, inr, refl, rules}
 use Rattle.std.specs.Prelude.{IfSome, if◌then◌else◌}
 use Rattle.tt_core.specs.declared.draw_fault.DrawFault.{DrawFault}
 use Rattle.tt_core.specs.declared.draw_fault.DrawFault.TheVariants as draw
@@ -12,19 +12,16 @@ use Rattle.tt_face.specs.Faces.{Face}
 use Rattle.tt_fit.specs.declared.programs.Fit.{Fit}
 use Rattle.tt_fit.specs.declared.programs.Fit.TheVariants as fit
 use Rattle.tt_line.specs.Layout.{text_glyphs}
-use Rattle.tt_strike.specs.declared.layouts.Layout.{Layout}
-use Rattle.tt_strike.specs.declared.layouts.Pen.{Pen}
 use Rattle.tt_strike.specs.Defects.{IsLineDefect}
-use Rattle.tt_strike.specs.Job.{IsJob, IsSizeRefusal, Job, tested}
+use Rattle.tt_strike.specs.Job.{IsSizeRefusal, Job, tested}
 use Rattle.tt_strike.specs.Layouts.{IsNotMemory, TellsMadeDefects, layout_outcome, pens_outcome}
 use Rattle.tt_strike.specs.Work.{is_bounded}
 use Rattle.tt_c_calls.specs.declared.asked.CJob.{CJob}
-use Rattle.tt_c_calls.specs.declared.fault.CallFault.{CallFault}
 use Rattle.tt_c_calls.specs.declared.fault.CallFault.TheVariants as call
 use Rattle.tt_c_calls.specs.Asked.{IsAskedDefect, asked, fit_asked, job_reading, text_asked}
 use Rattle.tt_c_calls.specs.Fonts.{face_wanted}
 use Rattle.tt_c_calls.specs.Layouts.{layout_wanted, pens_wanted}
-use Rattle.tt_c_calls.specs.Refusals.{Refusal, as_call, call_font_fault, call_of_draw, unknown_fit}
+use Rattle.tt_c_calls.specs.Refusals.{as_call, call_font_fault, call_of_draw, unknown_fit}
 use Rattle.tt_c_calls.proofs.Answered.{draw_tells}
 use Rattle.tt_c_calls.proofs.AskedTables.{face_read, of_tables}
 use Rattle.tt_c_calls.proofs.StrikeLines.{if_some_more}

@@ -4,10 +4,8 @@ use Rattle.tt_core.specs.declared.fault.JobFault.TheVariants as fault
 use Rattle.tt_core.specs.declared.fault.Why.TheVariants as why
 use Rattle.tt_core.specs.Faults.{Fault, fault_at, job_number, why_number}
 use Rattle.tt_core.specs.Outcomes.{◌>>=◌}
-use Rattle.tt_face.specs.Faces.{Face}
 use Rattle.tt_face.specs.Files.{face_by, IsFaceDefectBy}
 use Rattle.tt_fit.specs.Defects.{IsOutlineDefect}
-use Rattle.tt_fit.specs.Fitting.{Fitter}
 use Rattle.tt_glyphs.specs.declared.place.InkPlace.{InkPlace}
 use Rattle.tt_glyphs.specs.declared.told.GlyphEntry.{GlyphEntry}
 use Rattle.tt_glyphs.specs.declared.told.MadeBitmap.{MadeBitmap}

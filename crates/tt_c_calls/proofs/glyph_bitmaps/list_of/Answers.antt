@@ -1,9 +1,5 @@
-use Rattle.std.proofs.Common.{◌≡◌, Ok, refl}
 use Rattle.std.proofs.lemmas.Result.{err_from_is_err_and}
-use Rattle.tt_core.specs.declared.fault.JobFault.{JobFault}
 use Rattle.tt_glyphs.specs.Requests.{bitmaps_outcome, job_for}
-use Rattle.tt_c_calls.specs.Asked.{job_reading}
-use Rattle.tt_c_calls.specs.Refusals.{call_of_draw}
 use Rattle.tt_c_calls.proofs.Answered.{draw_refused, drawn_too}
 use Rattle.tt_c_calls.proofs.BitmapLists.{by_opened, count_tells, face_refuses, face_stands, fit_refuses, glyphs_stand, list_refused, of_plain, setting_stands, size_failed, size_passed, size_refuses}
 use Rattle.tt_c_calls.proofs.LinesStopped.{fit_defect}
