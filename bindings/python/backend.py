@@ -1,8 +1,10 @@
 """Builds the wheel of the module tt_render for pip: the module, and the C library of the text in dist/, which the C
-compiler makes. It needs no other package, and so no network."""
+compiler makes. It needs no other package, and so no network. dist/ is the folder that TT_RENDER_DIST names, or the one
+of this archive or repository."""
 import base64
 import hashlib
 import io
+import os
 import pathlib
 import re
 import subprocess
@@ -23,10 +25,19 @@ Requires-Python: {PROJECT['requires-python']}
 """
 
 
+def dist():
+    """Returns the folder dist/."""
+    named = os.environ.get("TT_RENDER_DIST")
+    for place in [pathlib.Path(named)] if named else [HERE / "dist", HERE.parent.parent / "dist"]:
+        if (place / "install").exists():
+            return place
+    raise SystemExit("tt_render: the folder dist/ of the repository is not there; TT_RENDER_DIST names it")
+
+
 def made_library():
     """Returns the bytes of the shared library, which dist/install makes with CC and CFLAGS."""
     with tempfile.TemporaryDirectory() as room:
-        ran = subprocess.run(["bash", HERE / "dist/install", "--library", room], stdout=subprocess.PIPE)
+        ran = subprocess.run(["bash", dist() / "install", "--library", room], stdout=subprocess.PIPE)
         if ran.returncode:
             raise SystemExit("tt_render: the C library was not made; a line above says why")
         return pathlib.Path(room, "lib/libtt_render.so.0").read_bytes()
@@ -58,8 +69,9 @@ def build_sdist(sdist_directory, config_settings=None):
     """Writes an archive of this folder, with dist/ in it, and returns its name."""
     archive = f"{NAME}.tar.gz"
     with tarfile.open(pathlib.Path(sdist_directory, archive), "w:gz", dereference=True) as to:
-        for name in ("pyproject.toml", "backend.py", "tests", "tt_render", "dist"):
-            to.add(HERE / name, f"{NAME}/{name}", filter=lambda it: None if "__pycache__" in it.name else it)
+        for path in (*(HERE / it for it in ("pyproject.toml", "backend.py", "tests", "tt_render")), dist()):
+            name = "dist" if path == dist() else path.name
+            to.add(path, f"{NAME}/{name}", filter=lambda it: None if "__pycache__" in it.name else it)
         entry = tarfile.TarInfo(f"{NAME}/PKG-INFO")
         entry.size = len(METADATA.encode())
         to.addfile(entry, io.BytesIO(METADATA.encode()))

@@ -23,10 +23,11 @@ struct call {
   size_t entry; /* the bytes of an entry of its room; 0: it has no room */
   size_t told;  /* the bytes of what it tells beside the answer */
   bool has_text, has_job; /* whether it is given a text, and a job */
-  long blocks;            /* it asks for so many blocks at the least; 0: it takes no memory */
+  long blocks;            /* it asks for so many blocks at the least; 0: it takes no memory, or only with TT_BEST */
 };
 
-extern const struct call opens, opens_face, maps, maps_face, measures, characters, draws, draws_band, messages;
+extern const struct call opens, opens_face, maps, maps_face, measures, characters, layouts, pens, glyphs, draws,
+    draws_band, messages;
 
 /* Each of these, and then NULL; tt_draw_lines is in lines.h. */
 extern const struct call *const every_call[];

@@ -135,6 +135,50 @@ static void try_nothing(struct room text) {
   give_up(none);
 }
 
+/* What tt_glyphs answers to so many times glyph 1. */
+static struct tt_answer listed(struct room with, size_t count, struct tt_job job, size_t told_room) {
+  static uint32_t list[4098];
+  static struct tt_bitmap told[4098];
+  static uint8_t rows[4096];
+  struct tt_answer answer;
+  for (size_t i = 0; i < count; i++) list[i] = 1;
+  uint32_t status = tt_glyphs(with.at, with.size, list, count, &job, rows, sizeof rows, told, told_room, &answer);
+  expect(status == answer.status, "tt_glyphs: the status is %u, and the answer's is %u", status, answer.status);
+  return answer;
+}
+
+/* The refusals of a list of glyphs, in their order. */
+static void try_lists(void) {
+  struct room none = held(NULL, 0);
+  struct tt_job wrong = {0, 65, 4, 0, 0}, low = {0, 65, TT_BEST, 0, 0}, wide = {16, 65, TT_BEST, 1, 0};
+  const struct {
+    const char *name;
+    struct tt_answer got, wanted;
+  } cases[] = {
+      {"room for too few entries", listed(none, 2, wrong, 1), {.status = TT_ROOM, .count = 2}},
+      {"a list by a way to fit of 4", listed(none, 4097, wrong, 4097), {.status = TT_JOB, .number = 66}},
+      {"a list of size 0", listed(none, 4097, low, 4097), {.status = TT_JOB, .number = 60}},
+      {"a list of 4,097 glyphs", listed(none, 4097, wide, 4097), {.status = TT_JOB, .number = 61}},
+      {"a list by a font of no byte", listed(none, 1, wide, 1), {.status = TT_FONT, .number = 2, .table = "file"}},
+      {"an empty list", listed(font, 0, wide, 0), {.status = TT_DONE}},
+  };
+  for (size_t i = 0; i < sizeof cases / sizeof *cases; i++) {
+    expect(are_alike(&cases[i].got, &cases[i].wanted), "tt_glyphs: status %u, number %u, not status %u, number %u",
+           cases[i].got.status, cases[i].got.number, cases[i].wanted.status, cases[i].wanted.number);
+    verdict("%s", cases[i].name);
+  }
+  struct tt_answer answer;
+  expect(tt_glyphs(font.at, font.size, NULL, 0, &wide, NULL, 0, NULL, 0, &answer) == TT_DONE, "tt_glyphs: status %u",
+         answer.status);
+  verdict("NULL where there is no glyph");
+  struct tt_answer many = listed(font, 4096, wide, 4096), once = listed(font, 1, wide, 1);
+  expect(many.status == TT_DONE && many.count == 4096 && many.bytes == once.bytes, "tt_glyphs: status %u", many.status);
+  verdict("4,096 times a glyph");
+  expect(tt_version() == TT_RENDER_VERSION, "tt_version: %" PRIu32, tt_version());
+  verdict("the version");
+  give_up(none);
+}
+
 /* A font that is no collection has face 0 alone, which the number 1 means. */
 static void try_faces(struct room text) {
   struct tt_job second = {.size = 16, .margin = 0, .fit = TT_BEST, .grow = 0, .face = 2};
@@ -240,6 +284,7 @@ int main(int count, char **words) {
   try_texts();
   try_nothing(text);
   try_faces(text);
+  try_lists();
   try_all_ends();
   try_sizes(text);
   give_up(text);

@@ -9,12 +9,12 @@ import sys
 
 ROOT = pathlib.Path(sys.argv[1])
 HEADER = re.sub(r"/\*.*?\*/", "", (ROOT / "include/tt_render.h").read_text(encoding="utf-8"), flags=re.S)
-PYTHON = (ROOT / "bindings/python/tt_render/__init__.py").read_text(encoding="utf-8")
+PYTHON = (ROOT / "bindings/python/tt_render/_library.py").read_text(encoding="utf-8")
 RUST = re.sub(r"///.*", "", (ROOT / "bindings/rust/src/c.rs").read_text(encoding="utf-8"))
 
 # The types of C by those of Python and of Rust, and the structs of Rust whose names are others.
-OF_PYTHON = {"c_uint32": "uint32_t", "c_int32": "int32_t", "c_uint64": "uint64_t", "c_int64": "int64_t",
-             "c_char * 4": "uint8_t[4]", "_Box": "tt_box", "_Picture": "tt_picture"}
+OF_PYTHON = {"u32": "uint32_t", "i32": "int32_t", "u64": "uint64_t", "i64": "int64_t",
+             "c_char * 4": "uint8_t[4]", "tt_box": "tt_box", "tt_picture": "tt_picture"}
 OF_RUST = {"u8": "uint8_t", "u32": "uint32_t", "i32": "int32_t", "u64": "uint64_t", "i64": "int64_t",
            "usize": "size_t", "[u8; 4]": "uint8_t[4]"}
 NAMES = {"Figures": "tt_font", "Shape": "tt_picture", "PixelBox": "tt_box"}

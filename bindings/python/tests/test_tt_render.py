@@ -1,5 +1,5 @@
 """Tries the module tt_render beside the program tt_render, which TT_RENDER names. TT_FONT names the font,
-DejaVu Sans. TT_LACKS=faces says that the library was made before the calls of faces, which then are not tried."""
+DejaVu Sans."""
 import os
 import struct
 import subprocess
@@ -8,7 +8,6 @@ import unittest
 import tt_render
 
 PROGRAM, FONT = os.environ.get("TT_RENDER", "tt_render"), os.environ["TT_FONT"]
-HAS_FACES = os.environ.get("TT_LACKS") != "faces"
 
 
 def printed(command, *words, stdin=""):
@@ -36,6 +35,22 @@ def ink(picture):
     ]
     columns, rows = zip(*black)
     return tt_render.Box(min(columns), min(rows), max(columns), max(rows))
+
+
+def drawn(bitmaps, picture):
+    """Returns the rows of a picture that has these bitmaps one after the other, and no margin but the one of its ink."""
+    row_bytes, black, pen = (picture.width + 7) // 8, set(), 0
+    for it in bitmaps:
+        for at in range(it.width * it.height):
+            row, column = divmod(at, it.width)
+            if it.rows[row * ((it.width + 7) // 8) + column // 8] >> (7 - column % 8) & 1:
+                black.add((pen + it.left + column, picture.baseline - it.top + row))
+        pen += it.advance
+    # The picture is enlarged on the left where ink lies before its first pen.
+    moved, rows = -min(0, min(column for column, _ in black)), bytearray(row_bytes * picture.height)
+    for column, row in black:
+        rows[row * row_bytes + (column + moved) // 8] |= 128 >> (column + moved) % 8
+    return bytes(rows)
 
 
 class Calls(unittest.TestCase):
@@ -90,13 +105,11 @@ class Calls(unittest.TestCase):
         self.assertEqual([it.pen for it in got] + [width], pens)
         self.assertIsNone(got[2].ink)
 
-    @unittest.skipUnless(HAS_FACES, "the library has no tt_map_face")
     def test_map(self):
         said = printed("map", FONT, "Aé\U0010ffff").decode().split("\n")[:-1]
         got = [f"U+{it.code_point:04X} {it.glyph} {it.advance}" for it in self.font.map("Aé\U0010ffff")]
         self.assertEqual(got, said)
 
-    @unittest.skipUnless(HAS_FACES, "the library has no tt_faces")
     def test_faces(self):
         data = collection(self.font._data)
         self.assertEqual((tt_render.faces(self.font._data), tt_render.faces(data)), (1, 2))
@@ -104,6 +117,35 @@ class Calls(unittest.TestCase):
         for face in (2, 2**32 - 1, 2**32, -1, -2):
             self.assertEqual(self.refused(tt_render.Font, data, face).number, 25)
         self.assertEqual(self.refused(tt_render.Font, data, None).number, 1)
+
+    def test_glyphs(self):
+        for fit in tt_render.Fit:
+            for size in (9, 16, 300):
+                numbers = [it.glyph for it in self.font.map("Hij, j")]
+                got = self.font.glyphs(numbers, size, fit=fit)
+                self.assertEqual([it.glyph for it in got], numbers)
+                self.assertEqual(got[2], got[5])
+                picture = self.font.label("Hij, j", size, fit=fit)
+                self.assertEqual(drawn(got, picture), picture.rows)
+
+    def test_refused_glyphs(self):
+        two = self.font.map("2")[0].glyph
+        got = self.font.glyphs([2**32 - 1, two], 16, fit=tt_render.Fit.FULL)
+        self.assertEqual([(it.status, it.number, it.table, it.rows) for it in got],
+                         [(2, 68, "", b""), (1, 35, "glyf", b"")])
+        self.assertEqual(self.font.glyphs([], 16), [])
+        self.assertEqual(self.refused(self.font.glyphs, [two] * 4097, 16).number, 61)
+
+    def test_layout(self):
+        for fit in tt_render.Fit:
+            got, wanted = self.font.layout("Hi j", 24, margin=2, fit=fit), self.font.measure(
+                "Hi j", 24, margin=2, fit=fit, grow=False)
+            self.assertEqual(got[:3], wanted[:3])
+            self.assertEqual((got.rise + got.depth + 4, got.characters), (got.height, 4))
+            pens = self.font.pens("Hi j", 24, margin=2, fit=fit)
+            places = self.font.characters("Hi j", 24, margin=2, fit=fit, grow=False)
+            self.assertEqual([(it.glyph, it.advance, it.pen) for it in pens],
+                             [(it.glyph, it.advance, it.pen) for it in places])
 
     def test_defect(self):
         error = self.refused(self.font.label, "2", 16, fit=tt_render.Fit.FULL)

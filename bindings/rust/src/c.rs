@@ -108,6 +108,72 @@ pub struct Line {
     pub at: u64,
 }
 
+/// The bitmap of a glyph: the least box that holds its ink, from the pen and the base line. Unused fields are 0.
+#[repr(C)]
+#[derive(Clone, Copy, Debug, Default, PartialEq, Eq)]
+pub struct Bitmap {
+    /// The number, as asked for.
+    pub glyph: u32,
+    /// 0: done. 1: the glyph has a defect. 2: the font has no such glyph, or its ink is too large.
+    pub status: u32,
+    /// The refusal; with status 0 not 0 where the glyph is unfitted.
+    pub number: u32,
+    /// The tag of the table that has the defect.
+    pub table: [u8; 4],
+    /// The defect's offset in it.
+    pub offset: u32,
+    /// Columns to the next pen.
+    pub advance: u32,
+    /// Columns from the pen to the first column of ink, rightwards.
+    pub left: i32,
+    /// Rows from the base line up to the upper edge of the highest row of ink.
+    pub top: i32,
+    /// Columns of ink.
+    pub width: u32,
+    /// Rows of ink.
+    pub height: u32,
+    /// Where its rows begin among all rows.
+    pub at: u64,
+}
+
+/// The picture of a text without its ink, and what a next line needs.
+#[repr(C)]
+#[derive(Clone, Copy, Debug, Default, PartialEq, Eq)]
+pub struct Layout {
+    /// Of the picture that does not grow.
+    pub width: u32,
+    /// Of that picture too.
+    pub height: u32,
+    /// Rows above the base line, which may be outside the picture.
+    pub baseline: i64,
+    /// Rows of a line above its base line, without a margin.
+    pub rise: i64,
+    /// Rows of a line below its base line, without a margin.
+    pub depth: i64,
+    /// Rows between two lines.
+    pub gap: u64,
+    /// Rows from one base line to the next.
+    pub step: u64,
+    /// The characters of the text.
+    pub characters: u64,
+}
+
+/// The pen of a character of a text.
+#[repr(C)]
+#[derive(Clone, Copy, Debug, Default, PartialEq, Eq)]
+pub struct Pen {
+    /// The character's.
+    pub code_point: u32,
+    /// The character's variation selector, 0 without one.
+    pub selector: u32,
+    /// 0 where the font has none for the character.
+    pub glyph: u32,
+    /// Columns to the next pen.
+    pub advance: u32,
+    /// The column of the picture.
+    pub pen: i64,
+}
+
 extern "C" {
     pub fn tt_faces(font: *const u8, font_bytes: usize, answer: *mut Answer) -> u32;
     pub fn tt_open_face(
@@ -146,6 +212,25 @@ extern "C" {
         room: usize,
         answer: *mut Answer,
     ) -> u32;
+    pub fn tt_layout(
+        font: *const u8,
+        font_bytes: usize,
+        text: *const u8,
+        text_bytes: usize,
+        job: *const Job,
+        told: *mut Layout,
+        answer: *mut Answer,
+    ) -> u32;
+    pub fn tt_pens(
+        font: *const u8,
+        font_bytes: usize,
+        text: *const u8,
+        text_bytes: usize,
+        job: *const Job,
+        pens: *mut Pen,
+        room: usize,
+        answer: *mut Answer,
+    ) -> u32;
     pub fn tt_draw(
         font: *const u8,
         font_bytes: usize,
@@ -170,6 +255,18 @@ extern "C" {
         room: usize,
         lines: *mut Line,
         lines_room: usize,
+        answer: *mut Answer,
+    ) -> u32;
+    pub fn tt_glyphs(
+        font: *const u8,
+        font_bytes: usize,
+        glyphs: *const u32,
+        count: usize,
+        job: *const Job,
+        rows: *mut u8,
+        room: usize,
+        told: *mut Bitmap,
+        told_room: usize,
         answer: *mut Answer,
     ) -> u32;
     pub fn tt_message(told: *const Answer, text: *mut u8, room: usize, answer: *mut Answer) -> u32;

@@ -1,7 +1,7 @@
 //! The calls of the library, as functions over slices.
-use crate::c::{self, Answer, Figures, Glyph, Line, Shape};
+use crate::c::{self, Answer, Bitmap, Figures, Glyph, Layout, Line, Pen, Shape};
 use crate::error::{done, Error, ROOM};
-use crate::picture::{Character, Job, Measure, Picture};
+use crate::picture::{Bitmaps, Character, Job, Measure, Picture};
 
 /// The room of a first call that draws a text.
 const FIRST_ROOM: usize = 1 << 16;
@@ -221,5 +221,85 @@ impl<'a> Font<'a> {
         };
         told.truncate(done(answer)?.count as usize);
         Ok(told)
+    }
+
+    /// Lays out a line of text without its ink. The request's `grow` is not looked at.
+    pub fn layout(&self, text: &str, job: &Job) -> Result<Layout, Error> {
+        let (mut told, mut answer) = (Layout::default(), Answer::default());
+        unsafe {
+            c::tt_layout(
+                self.bytes.as_ptr(),
+                self.bytes.len(),
+                text.as_ptr(),
+                text.len(),
+                &job.of_face(self.face),
+                &mut told,
+                &mut answer,
+            )
+        };
+        done(answer)?;
+        Ok(told)
+    }
+
+    /// Returns the pen of each character of a text, as `layout` lays the text out.
+    pub fn pens(&self, text: &str, job: &Job) -> Result<Vec<Pen>, Error> {
+        let (mut told, mut answer) = (vec![Pen::default(); text.len()], Answer::default());
+        unsafe {
+            c::tt_pens(
+                self.bytes.as_ptr(),
+                self.bytes.len(),
+                text.as_ptr(),
+                text.len(),
+                &job.of_face(self.face),
+                told.as_mut_ptr(),
+                told.len(),
+                &mut answer,
+            )
+        };
+        told.truncate(done(answer)?.count as usize);
+        Ok(told)
+    }
+
+    /// Makes the bitmaps of at most 4,096 glyphs by their numbers. The request's `margin` and `grow` are not looked at.
+    pub fn glyphs(&self, numbers: &[u32], job: &Job) -> Result<Bitmaps, Error> {
+        let mut rows = vec![0; FIRST_ROOM];
+        loop {
+            match self.glyphs_into(numbers, job, &mut rows) {
+                Ok((entries, bytes)) => {
+                    rows.truncate(bytes);
+                    return Ok(Bitmaps { entries, rows });
+                }
+                Err(error) => match error.wanted() {
+                    Some(wanted) => rows = vec![0; wanted as usize],
+                    None => return Err(error),
+                },
+            }
+        }
+    }
+
+    /// Makes the bitmaps of glyphs in a room, and returns how many of its bytes the rows have. Where the room is too
+    /// small, the error has the bytes that are wanted.
+    pub fn glyphs_into(
+        &self,
+        numbers: &[u32],
+        job: &Job,
+        rows: &mut [u8],
+    ) -> Result<(Vec<Bitmap>, usize), Error> {
+        let (mut told, mut answer) = (vec![Bitmap::default(); numbers.len()], Answer::default());
+        unsafe {
+            c::tt_glyphs(
+                self.bytes.as_ptr(),
+                self.bytes.len(),
+                numbers.as_ptr(),
+                numbers.len(),
+                &job.of_face(self.face),
+                rows.as_mut_ptr(),
+                rows.len(),
+                told.as_mut_ptr(),
+                told.len(),
+                &mut answer,
+            )
+        };
+        Ok((told, done(answer)?.bytes as usize))
     }
 }

@@ -16,7 +16,7 @@ mod error;
 mod font;
 mod picture;
 
-pub use c::{Figures, Glyph, PixelBox, Shape};
+pub use c::{Bitmap, Figures, Glyph, Layout, Pen, PixelBox, Shape};
 pub use error::Error;
 pub use font::{faces, Font};
-pub use picture::{Character, Fit, Job, Measure, Picture};
+pub use picture::{Bitmaps, Character, Fit, Job, Measure, Picture};

@@ -150,3 +150,20 @@ impl From<c::Character> for Character {
         }
     }
 }
+
+/// The bitmaps of a list of glyphs.
+#[derive(Clone, Debug, PartialEq, Eq)]
+pub struct Bitmaps {
+    /// An entry for each place of the list. A refused glyph has its refusal in its entry.
+    pub entries: Vec<c::Bitmap>,
+    /// The rows of all glyphs, each glyph once.
+    pub rows: Vec<u8>,
+}
+
+impl Bitmaps {
+    /// Returns the rows of an entry, the highest first, of `(width + 7) / 8` bytes each.
+    pub fn rows_of(&self, entry: &c::Bitmap) -> &[u8] {
+        let bytes = (entry.width as usize + 7) / 8 * entry.height as usize;
+        &self.rows[entry.at as usize..][..bytes]
+    }
+}

@@ -1,5 +1,4 @@
 //! Tries the crate beside the program tt_render, which TT_RENDER names. TT_FONT names the font, DejaVu Sans.
-//! TT_LACKS=faces says that the library was made before the calls of faces, which then are not tried.
 use std::env;
 use std::io::Write;
 use std::process::{Command, Stdio};
@@ -11,10 +10,6 @@ fn font_path() -> String {
 
 fn font_bytes() -> Vec<u8> {
     std::fs::read(font_path()).expect("the font is there")
-}
-
-fn lacks_faces() -> bool {
-    env::var("TT_LACKS").as_deref() == Ok("faces")
 }
 
 /// What the program prints.
@@ -204,9 +199,6 @@ fn a_room_that_is_too_small_is_refused() {
 
 #[test]
 fn glyphs_are_those_of_the_program() {
-    if lacks_faces() {
-        return;
-    }
     let bytes = font_bytes();
     let got = Font::new(&bytes).unwrap().map("Aé\u{10ffff}").unwrap();
     let said: String = got
@@ -221,9 +213,6 @@ fn glyphs_are_those_of_the_program() {
 
 #[test]
 fn faces_are_counted_and_drawn() {
-    if lacks_faces() {
-        return;
-    }
     let bytes = font_bytes();
     let two = collection(&bytes);
     assert_eq!((faces(&bytes), faces(&two)), (Ok(1), Ok(2)));
@@ -295,4 +284,73 @@ fn a_request_has_no_table() {
             (2, 60, None, None)
         );
     }
+}
+
+#[test]
+fn bitmaps_are_those_of_pictures() {
+    let bytes = font_bytes();
+    let font = Font::new(&bytes).unwrap();
+    let (job, text) = (Job::of_size(16), "Hi, Hi");
+    let numbers: Vec<u32> = font
+        .map(text)
+        .unwrap()
+        .iter()
+        .map(|it| it.glyph)
+        .chain([u32::MAX])
+        .collect();
+    let made = font.glyphs(&numbers, &job).unwrap();
+    let picture = font.draw(text, &job).unwrap();
+    assert_eq!(made.entries[0], made.entries[4]);
+    assert_eq!((made.entries[6].status, made.entries[6].number), (2, 68));
+    let (mut pen, mut black) = (0, 0);
+    for it in &made.entries[..6] {
+        let rows = made.rows_of(it);
+        for row in 0..it.height {
+            for column in 0..it.width {
+                let byte = rows[(row * ((it.width + 7) / 8) + column / 8) as usize];
+                let is_black = byte >> (7 - column % 8) & 1 == 1;
+                let (x, y) = (
+                    pen + it.left + column as i32,
+                    picture.shape.baseline as i32 - it.top + row as i32,
+                );
+                assert_eq!(is_black, picture.is_black(x as u32, y as u32));
+                black += u32::from(is_black);
+            }
+        }
+        pen += it.advance as i32;
+    }
+    let of_picture: u32 = picture.rows.iter().map(|it| it.count_ones()).sum();
+    assert_eq!(black, of_picture);
+}
+
+#[test]
+fn layouts_are_those_of_measures() {
+    let bytes = font_bytes();
+    let font = Font::new(&bytes).unwrap();
+    let job = Job {
+        grow: false,
+        margin: 2,
+        ..Job::of_size(24)
+    };
+    let (got, wanted) = (
+        font.layout("Hi j", &job).unwrap(),
+        font.measure("Hi j", &job).unwrap(),
+    );
+    assert_eq!(
+        (got.width, got.height, got.baseline, got.characters),
+        (wanted.width, wanted.height, wanted.baseline, 4)
+    );
+    let pens: Vec<_> = font
+        .pens("Hi j", &job)
+        .unwrap()
+        .iter()
+        .map(|it| (it.glyph, it.advance, it.pen))
+        .collect();
+    let places: Vec<_> = font
+        .characters("Hi j", &job)
+        .unwrap()
+        .iter()
+        .map(|it| (it.glyph, it.advance, it.pen))
+        .collect();
+    assert_eq!(pens, places);
 }

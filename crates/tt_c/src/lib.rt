@@ -4,7 +4,9 @@
 ghost use Rattle.std.specs.Prelude.{◌≡◌};
 ghost use Rattle.tt_core.specs.declared.collection.Reading.TheVariants as reading;
 ghost use Rattle.tt_c_calls.specs.Asked.{face_reading};
+ghost use Rattle.tt_c_calls.specs.Bitmaps.{DrawsGlyphs};
 ghost use Rattle.tt_c_calls.specs.Fonts.{CountsFaces, OpensFont};
+ghost use Rattle.tt_c_calls.specs.Layouts.{LaysOutText, PlacesPens};
 ghost use Rattle.tt_c_calls.specs.Lines.{DrawsTexts};
 ghost use Rattle.tt_c_calls.specs.Maps.{MapsText};
 ghost use Rattle.tt_c_calls.specs.Measures.{MeasuresText, PlacesCharacters};
@@ -13,8 +15,18 @@ ghost use Rattle.tt_c_calls.specs.Pictures.{DrawsBand};
 
 use std::alloc::Global;
 use tt_c_calls::{
-    Band, CAnswer, CCharacter, CFont, CGlyph, CJob, CLine, CMeasure, CPicture, TextRequest, Texts,
+    Band, CAnswer, CBitmap, CCharacter, CFont, CGlyph, CJob, CLayout, CLine, CMeasure, CPen,
+    CPicture, TextRequest, Texts,
 };
+
+/// The version of the library, as `TT_RENDER_VERSION` of the header: 10,000 times its first part, 100 times the second,
+/// and the third.
+#[unsafe(no_mangle)]
+pub extern "C" fn tt_version() -> u32
+    ensures { result ≡ 100 }
+{
+    100
+}
 
 /// `tt_c_calls::faces`.
 #[unsafe(no_mangle)]
@@ -110,6 +122,60 @@ pub extern "C" fn tt_characters(
 {
     let request = TextRequest { font, text, job };
     *answer = tt_c_calls::characters(alloc, &request, characters);
+    answer.status
+}
+
+/// `tt_c_calls::layout`.
+#[unsafe(no_mangle)]
+pub extern "C" fn tt_layout(
+    alloc: Global,
+    font: &[u8],
+    text: &[u8],
+    job: &CJob,
+    told: &mut CLayout,
+    answer: &mut CAnswer,
+) -> u32
+    ensures status { result ≡ answer.new.status }
+    ensures lays { LaysOutText job.now text.now font.now told.old told.new answer.new }
+{
+    let request = TextRequest { font, text, job };
+    *answer = tt_c_calls::layout(alloc, &request, told);
+    answer.status
+}
+
+/// `tt_c_calls::pens`.
+#[unsafe(no_mangle)]
+pub extern "C" fn tt_pens(
+    alloc: Global,
+    font: &[u8],
+    text: &[u8],
+    job: &CJob,
+    pens: &mut [CPen],
+    answer: &mut CAnswer,
+) -> u32
+    ensures status { result ≡ answer.new.status }
+    ensures places { PlacesPens job.now text.now font.now pens.old pens.new answer.new }
+{
+    let request = TextRequest { font, text, job };
+    *answer = tt_c_calls::pens(alloc, &request, pens);
+    answer.status
+}
+
+/// `tt_c_calls::draw_glyphs`.
+#[unsafe(no_mangle)]
+pub extern "C" fn tt_glyphs(
+    alloc: Global,
+    font: &[u8],
+    glyphs: &[u32],
+    job: &CJob,
+    rows: &mut [u8],
+    told: &mut [CBitmap],
+    answer: &mut CAnswer,
+) -> u32
+    ensures status { result ≡ answer.new.status }
+    ensures draws { DrawsGlyphs job.now glyphs.now font.now rows.old rows.new told.old told.new answer.new }
+{
+    *answer = tt_c_calls::draw_glyphs(alloc, font, glyphs, job, rows, told);
     answer.status
 }
 

@@ -8,3 +8,5 @@ pub mod Rows
 pub mod LinesDrawn
 pub mod LinesStopped
 pub mod StrikeLines
+pub mod BitmapLists
+pub mod LaidOut

@@ -6,5 +6,7 @@ pub mod Pictures
 pub mod Lines
 pub mod Measures
 pub mod Maps
+pub mod Bitmaps
+pub mod Layouts
 pub mod Messages
 pub mod Laws

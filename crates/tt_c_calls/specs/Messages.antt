@@ -42,6 +42,7 @@ abbrev pub job_message : CAnswer → List ℕ
 job_message a =
     if a.number == 66 then codes "tt_render: 66 UnknownFit"
     else if a.number == 67 then codes "tt_render: 67 LineEnds"
+    else if a.number == 68 then codes "tt_render: 68 GlyphNumber"
     else refusal_text (job_fault_of a.number)
 
 abbrev pub room_message : CAnswer → List ℕ

@@ -104,6 +104,7 @@ pub(crate) fn text_of(bytes: &[u8]) -> Result<&str, CallFault>
 pub(crate) fn job_of<'t>(job: &CJob, text: &'t [u8]) -> Result<Job<'t>, CallFault>
     ensures exact { GivesUnless call_refusal job_view result (asked job.now text.now) }
     ensures reading { IfOk result (λ a. a.reading ≡ job_reading job.now a.fit) }
+    ensures memory { IfErr result (λ f. f ≢ call.Memory) }
 {
     let fit = fit_of(job.fit)?;
     let text = text_of(text)?;

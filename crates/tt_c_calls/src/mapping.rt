@@ -28,7 +28,7 @@ pub struct CGlyph {
     pub selector: u32,
 }
 
-fn selector_of(selector: Option<char>) -> u32
+pub(crate) fn selector_of(selector: Option<char>) -> u32
     ensures { result ≡ selector_told selector }
 {
     match selector {

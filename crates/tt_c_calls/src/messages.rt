@@ -65,6 +65,7 @@ fn job_text(alloc: Global, told: &CAnswer) -> Result<String, AllocError>
     match told.number {
         66 => String::from_str(alloc, "tt_render: 66 UnknownFit"),
         67 => String::from_str(alloc, "tt_render: 67 LineEnds"),
+        68 => String::from_str(alloc, "tt_render: 68 GlyphNumber"),
         number => match JobFault::of(number) {
             Some(fault) => line(alloc, &RunFault::Job(fault)),
             None => String::from_str(alloc, "tt_render: no such answer"),

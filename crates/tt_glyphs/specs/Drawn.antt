@@ -94,6 +94,9 @@ pub record DrawnFits (d : DrawnGlyph) : Type 0 where
   pub told : ToldFits d.told
   pub bitmap : HasBitmap d.told d.bitmap
 
+abbrev pub drawn_numbers : List DrawnGlyph → List ℕ
+drawn_numbers ds = map (λ (d : DrawnGlyph). d.number) ds
+
 -- a glyph that is drawn by its fitter
 pub record IsDrawn (how : Fit) (s : Fitter) (d : DrawnGlyph) : Type 0 where
   pub told : d.told ≡ glyph_told how s d.number

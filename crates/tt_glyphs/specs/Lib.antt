@@ -1,9 +1,11 @@
 pub mod Bitmaps
+pub mod Defects
 pub mod Drawn
 pub mod Edged
 pub mod Entries
 pub mod GlyphBitmap
 pub mod GlyphLaws
+pub mod Lists
 pub mod Requests
 pub mod Ruled
 pub mod Tried

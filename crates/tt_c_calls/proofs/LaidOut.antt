@@ -1,0 +1,102 @@
+-- The layout and the pens of a text are those of the font's tables.
+use Rattle.std.proofs.Common.{◌≡◌, ◌≢◌, ◌≤◌, ◌∙◌, ◌==◌, ℕ, Bool, true, false, List, Ok, Err, arith, inl, inr, refl, rules}
+use Rattle.std.specs.Prelude.{IfSome, if◌then◌else◌}
+use Rattle.tt_core.specs.declared.draw_fault.DrawFault.{DrawFault}
+use Rattle.tt_core.specs.declared.draw_fault.DrawFault.TheVariants as draw
+use Rattle.tt_core.specs.declared.fault.JobFault.{JobFault}
+use Rattle.tt_core.specs.Chains.{came-through}
+use Rattle.tt_core.specs.Faults.{Fault}
+use Rattle.tt_core.specs.Limits.{size_limit}
+use Rattle.tt_core.specs.Outcomes.{◌>>=◌, draw_font_fault}
+use Rattle.tt_face.specs.Faces.{Face}
+use Rattle.tt_fit.specs.declared.programs.Fit.{Fit}
+use Rattle.tt_fit.specs.declared.programs.Fit.TheVariants as fit
+use Rattle.tt_line.specs.Layout.{text_glyphs}
+use Rattle.tt_strike.specs.Defects.{IsLineDefect}
+use Rattle.tt_strike.specs.Job.{IsSizeRefusal, Job, tested}
+use Rattle.tt_strike.specs.Layouts.{IsNotMemory, TellsMadeDefects, layout_outcome, pens_outcome}
+use Rattle.tt_strike.specs.Work.{is_bounded}
+use Rattle.tt_c_calls.specs.declared.asked.CJob.{CJob}
+use Rattle.tt_c_calls.specs.declared.fault.CallFault.TheVariants as call
+use Rattle.tt_c_calls.specs.Asked.{IsAskedDefect, asked, fit_asked, job_reading, text_asked}
+use Rattle.tt_c_calls.specs.Fonts.{face_wanted}
+use Rattle.tt_c_calls.specs.Layouts.{layout_wanted, pens_wanted}
+use Rattle.tt_c_calls.specs.Refusals.{as_call, call_font_fault, call_of_draw, unknown_fit}
+use Rattle.tt_c_calls.proofs.Answered.{draw_tells}
+use Rattle.tt_c_calls.proofs.AskedTables.{face_read, of_tables}
+use Rattle.tt_c_calls.proofs.StrikeLines.{if_some_more}
+
+pub layout_of_tables : (j : CJob) (text font : List ℕ) (a : Job) → asked j text ≡ Ok a → tested a ≡ Ok tt
+    → layout_wanted j text font ≡ (face_wanted (job_reading j a.fit) font >>= λ face. as_call (layout_outcome face a))
+unfolding layout_wanted
+layout_of_tables j text font a is passes = of_tables layout_outcome j text font a is passes
+
+pub layout_of_face : (j : CJob) (text font : List ℕ) (a : Job) (face : Face) → asked j text ≡ Ok a → tested a ≡ Ok tt
+    → face_wanted (job_reading j a.fit) font ≡ Ok face → layout_wanted j text font ≡ as_call (layout_outcome face a)
+layout_of_face j text font a face is passes read =
+    layout_of_tables j text font a is passes ∙ rw read refl
+
+pub pens_of_tables : (j : CJob) (text font : List ℕ) (a : Job) → asked j text ≡ Ok a → tested a ≡ Ok tt
+    → pens_wanted j text font ≡ (face_wanted (job_reading j a.fit) font >>= λ face. as_call (pens_outcome face a))
+unfolding pens_wanted
+pens_of_tables j text font a is passes = of_tables pens_outcome j text font a is passes
+
+pub pens_of_face : (j : CJob) (text font : List ℕ) (a : Job) (face : Face) → asked j text ≡ Ok a → tested a ≡ Ok tt
+    → face_wanted (job_reading j a.fit) font ≡ Ok face → pens_wanted j text font ≡ as_call (pens_outcome face a)
+pens_of_face j text font a face is passes read =
+    pens_of_tables j text font a is passes ∙ rw read refl
+
+-- a fault of the glyphs, where these are made, is a defect that the job meets
+told_if_made : (V : Type 0) (made : Bool) (P : Fault → Type 0) (d : DrawFault) → TellsMadeDefects {V = V} made P (Err d)
+    → IfSome (draw_font_fault d) P
+told_if_made V true P d tells = tells
+told_if_made V false P d tells = if_some_more (draw_font_fault d) (λ f. ⊥) P (λ f never. absurd never) tells
+
+pub line_stands : (V : Type 0) (j : CJob) (text font : List ℕ) (a : Job) (face : Face) (d : DrawFault) → asked j text ≡ Ok a
+    → face_wanted (job_reading j a.fit) font ≡ Ok face
+    → TellsMadeDefects {V = V} (is_bounded a.fit) (IsLineDefect face a (text_glyphs face.cmap a.text)) (Err d)
+    → IfSome (call_font_fault (call_of_draw d)) (IsAskedDefect j text font)
+line_stands V j text font a face d is read tells =
+    if_some_more (call_font_fault (call_of_draw d)) (IsLineDefect face a (text_glyphs face.cmap a.text))
+    (IsAskedDefect j text font) (λ f h. rw (is, face_read (job_reading j a.fit) font face read) (inr h))
+    (draw_tells _ d (told_if_made V (is_bounded a.fit) _ d tells))
+
+-- a tested size is not refused again
+pub not_refused : (size : ℕ) (j : JobFault) → IsSizeRefusal size j → 1 ≤ size → size ≤ size_limit → ⊥
+not_refused size j refusal low high = elim refusal.1 [
+  | inl few ↦ omega (arith, few, low)
+  | inr many ↦ omega (arith, many, high)
+]
+
+-- only the number 3 asks for a bound of work
+unbounded_by : (a b c d : Bool) (how : Fit)
+    → (if a then Ok fit.Full else if b then Ok fit.None else if c then Ok fit.Fallback
+    else if d then Ok fit.Best else Err unknown_fit) ≡ Ok how → d ≡ false → is_bounded how ≡ false
+unbounded_by true b c d how is never = let same : how ≡ fit.Full = cc in rw same refl
+unbounded_by false true c d how is never = let same : how ≡ fit.None = cc in rw same refl
+unbounded_by false false true d how is never = let same : how ≡ fit.Fallback = cc in rw same refl
+unbounded_by false false false true how is never = absurd cc
+unbounded_by false false false false how is never = absurd cc
+
+other_number : (n : ℕ) (b : Bool) → n ≢ 3 → (n == 3) ≡ b → b ≡ false
+other_number n false other is = refl
+other_number n true other is = absurd (other (search rules))
+
+fit_unbounded : (n : ℕ) (how : Fit) → fit_asked n ≡ Ok how → n ≢ 3 → is_bounded how ≡ false
+unfolding fit_asked
+fit_unbounded n how is other =
+    unbounded_by (n == 0) (n == 1) (n == 2) (n == 3) how is (other_number n (n == 3) other refl)
+
+pub unbounded : (j : CJob) (text : List ℕ) (a : Job) → asked j text ≡ Ok a → j.fit ≢ 3 → is_bounded a.fit ≡ false
+unfolding asked
+unbounded j text a is other =
+    let first = came-through (fit_asked j.fit) _ a is in
+    let second = came-through (text_asked text) _ a first.rest in
+    let same : first.value ≡ a.fit = cc in
+    rw (← same) (fit_unbounded j.fit first.value first.first other)
+
+-- a fault that is not for want of memory
+pub serves_draw : (d : DrawFault) → IsNotMemory d → call_of_draw d ≢ call.Memory
+serves_draw (draw.Font f) other = λ h. cc
+serves_draw (draw.Job j) other = λ h. cc
+serves_draw draw.Memory other = absurd other
