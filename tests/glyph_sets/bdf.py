@@ -73,7 +73,7 @@ def properties(font, face, size, glyphs, codes, rise, depth):
 
 
 def written(font, face, size, characters, rise, depth):
-    """Returns the file for a font: of characters in order, each a code point, its glyph and its advance in font units."""
+    """Returns the file of a font's characters: in order of each the code point, the glyph, the advance in font units."""
     codes, glyphs, _ = zip(*characters)
     name, lines = properties(font, face, size, glyphs, codes, rise, depth)
     em = struct.unpack_from(">H", model.table_of(font, face, b"head")[1], 18)[0]
@@ -87,8 +87,8 @@ def written(font, face, size, characters, rise, depth):
 def characters_in(data):
     """Returns the glyphs of a file by their code points, and its lines' rows above and below the base line."""
     text, found = data.decode(), {}
-    pattern = r"ENCODING (\d+)\nSWIDTH -?\d+ 0\nDWIDTH (\d+) 0\nBBX (\d+) (\d+) (-?\d+) (-?\d+)\nBITMAP\n((?:[0-9A-F]+\n)*)ENDCHAR"
-    for words in re.findall(pattern, text):
+    head = r"ENCODING (\d+)\nSWIDTH -?\d+ 0\nDWIDTH (\d+) 0\nBBX (\d+) (\d+) (-?\d+) (-?\d+)\n"
+    for words in re.findall(head + r"BITMAP\n((?:[0-9A-F]+\n)*)ENDCHAR", text):
         code, advance, width, height, left, bottom = map(int, words[:6])
         rows = tuple(int(it, 16) >> 4 * len(it) - width for it in words[6].split())
         found[code] = Glyph(0, advance, left, bottom + height, width, height, rows)

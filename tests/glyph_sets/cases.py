@@ -75,7 +75,7 @@ def answer_in(field):
 
 
 def entry_in(word):
-    """Returns an entry: glyph, status, number, table, offset, advance, left, top, width, height, and where rows begin."""
+    """Returns an entry: glyph, status, number, table, offset, advance, left, top, width, height, the rows' place."""
     glyph, status, number, place, *others = word.split()
     return int(glyph), int(status), int(number), *place_in(place.removeprefix("-")), *map(int, others)
 
@@ -99,8 +99,9 @@ def run_of(font, name, words, status, stdout, *errors):
 def glyphs_of(font, name, numbers, job, rooms, answer, entries, rows):
     """Returns the call of tt_glyphs of a line."""
     room, told_room = map(int, rooms.split())
-    entries, rows = repeated(entries, entry_in), labels.joined(rows, bytes.fromhex)
-    return GlyphsCall(name, font, repeated(numbers, int), tuple(job.split()), room, told_room, answer_in(answer), entries, rows)
+    asked = repeated(numbers, int), tuple(job.split()), room, told_room
+    told = answer_in(answer), repeated(entries, entry_in), labels.joined(rows, bytes.fromhex)
+    return GlyphsCall(name, font, *asked, *told)
 
 
 def layout_of(font, name, text, job, answer, layout, pens):

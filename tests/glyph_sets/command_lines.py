@@ -23,7 +23,8 @@ F.ttf
 --size 16 --range 41 --range 42 F.ttf
 --size 16 --range"""
 # Words that are no range, and ranges of A and B alone.
-NO_RANGES = "-41 41-42, ,41 U+ u+41 U+-42 U41 41-U 41,-42 G 110000-110001 41-110000 0000041 1-0 \u0661 41\u201342 *".split()
+NO_RANGES = "-41 41-42, ,41 U+ u+41 U+-42 U41 41-U 41,-42 G 110000-110001 41-110000 0000041 1-0 *".split()
+NO_RANGES += ["\u0661", "41\u201342"]
 RANGES = "000041-000042 41,42 42-42,0-41 0-10FFFF U+41,42 U+000041-42 42,41,42".split()
 
 
@@ -73,7 +74,8 @@ def command_line(asked):
     common.verdict("two characters", [] if both[1].count(b"STARTCHAR") == 2 else [f"{both}"])
     for words in ([f"--range={it}", "F.ttf"] for it in RANGES):
         common.tried(f"bdf {words[0]}", asked.run(["bdf", "--size", "16", *words], folder), both)
-    for words in (["F.ttf"], ["--", "F.ttf", "BA"], ["F.ttf", "--fit", "best", "--face=0"], ["F.ttf", "A\ufe0fB\ufe0e"]):
+    forms = ["F.ttf"], ["--", "F.ttf", "BA"], ["F.ttf", "--fit", "best", "--face=0"], ["F.ttf", "A\ufe0fB\ufe0e"]
+    for words in forms:
         common.tried(f"bdf {ascii(words)}", asked.run(["bdf", "--size", "16", *words], folder), both)
     order(asked, folder)
     help_of(asked, "bdf", ("--size <N>", "--range", "--face", "[default: best]", " -- "))

@@ -36,8 +36,8 @@ class Fault(NamedTuple):
 
 
 class Drawn(NamedTuple):
-    """What is drawn of a text: the glyphs of its characters, in order, and its line's rows above and below the base line;
-    or why it is refused. Of each glyph that is not fitted there is a fault. Then what standard error has."""
+    """What is drawn of a text: the glyphs of its characters, in order, and the rows of a line above and below its base
+    line; or why it is refused. Of each glyph that is not fitted there is a fault. Then what standard error has."""
 
     glyphs: list
     rise: int
@@ -51,6 +51,12 @@ def fault_in(line):
     """Returns the fault that a line of standard error names, or None."""
     found = re.search(r"([^ ]{4})\+(\d+): (\d+) \w+$", line)
     return found and Fault(int(found[3]), found[1], int(found[2]))
+
+
+def unfitted_in(said):
+    """Returns the faults of the glyphs that are not fitted, by their numbers."""
+    found = map(re.compile(r"tt_render: glyph (\d+) .*").match, said.decode().splitlines())
+    return {int(it[1]): fault_in(it[0]) for it in found if it}
 
 
 def cut(width, rows, box):
@@ -80,7 +86,8 @@ def trimmed(glyph):
         both |= row
     right = (both & -both).bit_length() - 1
     left, width = glyph.left + glyph.width - both.bit_length(), both.bit_length() - right
-    return Glyph(glyph.number, glyph.advance, left, glyph.top - inked[0], width, len(rows), tuple(it >> right for it in rows))
+    box = left, glyph.top - inked[0], width, len(rows)
+    return Glyph(glyph.number, glyph.advance, *box, tuple(it >> right for it in rows))
 
 
 def has_overlap(boxes):
@@ -96,9 +103,8 @@ def drawn(run, font, job, text):
     line = "".join(it + " " * BLANKS for it in text)
     words = ["--size", str(size), "--fit", fit, "--face", str(face), "--margin", str(MARGIN), "--", font, line]
     status, picture, said = run(["draw", *words])
-    lines = said.decode().splitlines()
     if status:
-        return Drawn([], 0, 0, {}, fault_in(lines[0]), said)
+        return Drawn([], 0, 0, {}, fault_in(said.decode().splitlines()[0]), said)
     measured = run(["measure", *words])[1].decode().splitlines()
     found = next(it for it in map(re.compile(r"picture (\d+) (\d+) baseline (-?\d+) ").match, measured) if it)
     height, baseline = int(found[2]), int(found[3])
@@ -107,8 +113,7 @@ def drawn(run, font, job, text):
     glyphs, boxes = zip(*(glyph_in(it, width, rows, baseline) for it in characters))
     if has_overlap(boxes):
         raise SystemExit(f"tests: ink of {font} overlaps at {size}")
-    unfitted = {int(it[1]): fault_in(it[0]) for it in map(re.compile(r"tt_render: glyph (\d+) .*").match, lines) if it}
-    return Drawn(list(glyphs), baseline - MARGIN, height - baseline - MARGIN, unfitted, None, said)
+    return Drawn(list(glyphs), baseline - MARGIN, height - baseline - MARGIN, unfitted_in(said), None, said)
 
 
 def one_by_one(run, font, job, text):

@@ -155,8 +155,8 @@ def file_of(asked, reader, path, job, options):
     status, data, told, characters = drawn_file(asked, path, job, mapped(asked, path, text))
     got = asked.run(["bdf", "--size", str(size), "--fit", fit, *options, path])
     if got != (status, data, told):
-        said = [f"status {got[0]}, {len(got[1])} bytes, and not {status}, {len(data)}", f"{got[2][:200]!r}, {told[:200]!r}"]
-        return {"draw": [*said, common.difference(data, got[1])]}
+        why = parts.differing(status=(status, got[0]), told=(told, got[2]))
+        return {"draw": [*why, common.difference(data, got[1])]}
     if status:
         return {"draw": []}
     file = asked.room / f"{path.stem}_{size}_{fit}_{len(options)}.bdf"
@@ -171,8 +171,8 @@ def codes_of(word):
 
 
 def files(asked):
-    """A file of each of these fonts at three sizes, with the ways to fit in turn, and two files for a console: each byte
-    beside pictures; and the glyphs that FreeType, bdftopcf and bdf2psf find in the file."""
+    """A file of each of these fonts at three sizes, with the ways to fit in turn, and two files for a console: the
+    bytes, by pictures; and the glyphs that FreeType, bdftopcf and bdf2psf find in the file."""
     reader = readers.FreeType(asked.room)
     for name, why in (("FreeType", reader.why), ("bdf2psf", readers.lacks_psf()),
                       ("bdftopcf", "" if shutil.which("bdftopcf") else "bdftopcf is not here")):

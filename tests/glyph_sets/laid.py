@@ -1,4 +1,5 @@
-"""The parts of glyph_sets/run about measures without ink: tt_layout, tt_pens and `measure --no-ink`, beside `measure`."""
+"""The part of glyph_sets/run about measures without ink: tt_layout, tt_pens, `measure --no-ink`, beside `measure`."""
+import itertools
 import re
 
 import asking
@@ -45,7 +46,10 @@ def printed(asked, words, size, margin, fit):
     if not by_glyphs:
         return got, parts.differing(refusal=(with_ink, got))
     # Without programs the advances are the same.
-    unfitted = asked.run(["measure", *words[: words.index("--fit")], "--fit", "none", *words[words.index("--fit") + 2 :]])
+    at = words.index("--fit") + 1
+    unfitted = asked.run(["measure", *words[:at], "none", *words[at + 1 :]])
+    if unfitted[0] and not OF_GLYPHS.match(unfitted[2]):
+        return got, parts.differing(refusal=(unfitted, got))
     wanted = got[1] if unfitted[0] else without_ink(unfitted[1], margin, size)
     return got, parts.differing(measure=((0, wanted), got[:2]))
 
@@ -55,8 +59,8 @@ def called(asked, font, text, job, got):
     answer, layout = asked.library.layout(font, text, job)
     other, pens = asked.library.pens(font, text, job)
     if got[0]:
-        return parts.differing(refusals=(answer.status != 0, other.status != 0), number=(answer.number, other.number)) + [
-            "a call is done"] * (not answer.status)
+        why = parts.differing(calls=(calls.values_of(answer), calls.values_of(other)))
+        return why or ["the calls are done"] * (not answer.status)
     lines = got[1].decode().splitlines()
     size = next(it.split() for it in lines if it.startswith("picture "))
     line = next(it.split() for it in lines if it.startswith("line "))
@@ -94,13 +98,13 @@ def of_fonts(asked):
             yield path.name, path.read_bytes(), path, text, job
     for name in "collection", "gap", "negative gap", "flat":
         font = labels.fonts()[name]
-        for text, size, fit in ((it, size, fit) for it in ("AB", "", "A\ufe0f") for size in (1, 16, 300) for fit in FITS):
+        for text, size, fit in itertools.product(("AB", "", "A\ufe0f"), (1, 16, 300), FITS):
             yield name, font, asked.folder(font) / "F.ttf", text, (size, 2, fit, int(name == "collection"))
 
 
 def measures(asked):
-    """Texts of ../rows and of installed fonts: what is printed without ink, and both calls, beside what `measure` prints
-    with ink; with the ways to fit that make no glyph, also where a glyph is damaged."""
+    """Texts of ../rows and of installed fonts: what `measure --no-ink` prints, and both calls, beside what `measure`
+    prints; with the ways to fit that make no glyph, also where a glyph is damaged."""
     found = [*of_rows(asked), *of_fonts(asked)]
     for case, why in zip(found, asked.each(lambda it: measured(asked, *it[1:]), found)):
         common.verdict(f"measure of {case[0]}, {case[3][:20]!a}, {case[4]}", why)

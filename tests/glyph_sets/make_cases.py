@@ -3,8 +3,9 @@
 
   python3 tests/glyph_sets/make_cases.py ROWS.json > tests/glyph_sets/cases.txt
 
-ROWS.json is that of ../label/make_rows.py, which is not kept here either: an independent model made it, that was written
-from the rules alone. This script only writes the same values as lines. The head of cases.txt says what a line holds.
+ROWS.json is that of ../label/make_rows.py, which is not kept here either: an independent model made it, which was
+written from the rules alone. This script only writes the same values as lines. The head of cases.txt says what a line
+holds.
 """
 import itertools
 import json
@@ -20,17 +21,17 @@ import labels
 from make_rows import font_in, font_words, pieces, word_of
 
 HEAD = """\
-# Runs of `bdf`, and calls of tt_glyphs, tt_layout and tt_pens, for small fonts: values by another program, an independent
-# model that was written from the rules alone. Made by make_cases.py, and run by the script beside it. The first lines
-# name fonts beside those of ../label/rows.txt, whose head says how; of words, too. Then one case a line:
+# Runs of `bdf`, and calls of tt_glyphs, tt_layout and tt_pens, for small fonts: values by another program, an
+# independent model that was written from the rules alone. Made by make_cases.py, and run by the script beside it. The
+# first lines name fonts beside those of ../label/rows.txt, whose head says how; of words, too. Then one case a line:
 #   bdf NAME|FONT|WORDS|STATUS|FILE|LINE..
 #   glyphs NAME|FONT|NUMBERS|JOB|ROOM TOLD_ROOM|ANSWER|ENTRIES|ROWS
 #   layout NAME|FONT|TEXT|JOB|ANSWER|LAYOUT|PENS
 # WORDS are those behind `bdf`; FONT is in F.ttf, or `none`. A `/` in FILE ends a line; {FIRST-LAST:LINES} are the lines
 # of many characters, %X and %d their numbers. The LINEs are those of standard error behind `tt_render: `.
-# Lists have commas, and X*N is N times X; where X is a pen it moves on by its advance. TEXT and ROWS are hexadecimal. JOB
-# is size, margin, fit and face, ANSWER status, number, table+offset, bytes and count, LAYOUT width, height, baseline,
-# rise, depth, gap, step and characters. Without ANSWER's status 0 the rest is empty.
+# Lists have commas, and X*N is N times X; where X is a pen it moves on by its advance. TEXT and ROWS are hexadecimal.
+# JOB is size, margin, fit and face, ANSWER status, number, table+offset, bytes and count, LAYOUT width, height,
+# baseline, rise, depth, gap, step and characters. Without ANSWER's status 0 the rest is empty.
 """
 
 

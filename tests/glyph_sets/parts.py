@@ -1,13 +1,18 @@
 """The parts of glyph_sets/run that need no installed font: the cases of cases.txt, and calls of tt_glyphs."""
 import itertools
 import random
+import subprocess
+import sys
 
 import calls
 import cases
 import command_lines
 import common
+import drawn
 import labels
 
+# Fonts of bench/hostile of which `best` draws a line, and leaves a glyph unfitted.
+STOPPED = "two", "skips", "entries", "moves", "pushes"
 # Cases of cases.txt, by their kinds.
 COUNTS = {"bdf": 50, "glyphs": 22, "layout": 13}
 
@@ -140,3 +145,20 @@ def rooms(asked):
     for font, job in ((b"", (16, 0, "best", 0)), (fonts["T"], (0, 65, "other", 9))):
         got = asked_with(asked, font, [1, 2], calls.job_of(*job), room=0, told_room=1)
         common.verdict("entries before all", differing(answer=(want, got)))
+
+
+def work(asked):
+    """Fonts one of whose glyphs is left without work: with best the entries name that glyph as `draw` does."""
+    for name in STOPPED:
+        folder = asked.room / name
+        folder.mkdir()
+        words = [sys.executable, "-B", common.ROOT / "bench/hostile_font", name, folder]
+        size = subprocess.run(words, check=True, capture_output=True, text=True).stdout.strip()
+        path, text = folder / "font", (folder / "text").read_text(encoding="utf-8")
+        status, _, said = asked.run(["draw", "--fit", "best", "--size", size, path, text])
+        lines = asked.run(["map", "--face", "0", path, text])[1].decode().splitlines()
+        numbers = list(dict.fromkeys(int(it.split()[1]) for it in lines))
+        answer, entries, _ = asked.library.glyphs(path.read_bytes(), numbers, calls.job_of(size, 0, "best", 0))
+        why = differing(status=(status, answer.status))
+        got = {it[0]: drawn.Fault(*it[2:5]) for it in entries or [] if it[2]}
+        common.verdict(f"work of {name}", why or differing(unfitted=(drawn.unfitted_in(said), got)))
