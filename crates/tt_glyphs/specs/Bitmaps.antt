@@ -1,6 +1,6 @@
 -- No part of the standard: the bitmap of a glyph's ink, which is the least box of its black pixels (profile). A column
 -- counts rightwards from the pen, a line upwards from the base line.
-use Rattle.std.specs.Prelude.{◌≡◌, refl, ℕ, ◌+◌, ◌*◌, Bool, ◌||◌, nat_lt, ℤ, pos, negsuc, ◌+ℤ◌, ◌-ℤ◌, unsigned_abs, List, Option, Some, None}
+use Rattle.std.specs.Prelude.{◌≡◌, refl, ℕ, ◌+◌, ◌*◌, ◌^◌, ◌<◌, ◌≤◌, Bool, ◌||◌, nat_lt, ℤ, pos, negsuc, ◌+ℤ◌, ◌-ℤ◌, unsigned_abs, List, Option, Some, None}
 use Rattle.tt_core.specs.Bits.{stride}
 use Rattle.tt_core.specs.Limits.{height_limit, width_limit}
 use Rattle.tt_picture.specs.Pixels.{Shape, is_filled}
@@ -19,6 +19,19 @@ place_of (Some b) = record {
   width = unsigned_abs (b.right -ℤ b.left) + 1;
   height = unsigned_abs (b.top -ℤ b.bottom) + 1;
 }
+
+-- ink stands near the pen and the base line, and where it has columns it has rows
+pub record IsPlace (p : InkPlace) : Type 0 where
+  pub left : unsigned_abs p.left < 2 ^ 18
+  pub top : unsigned_abs p.top ≤ 2 ^ 18
+  pub high : 1 ≤ p.width → 1 ≤ p.height
+
+-- the place of a bitmap that is not too large
+pub record PlaceFits (p : InkPlace) : Type 0 where
+  pub width : p.width ≤ width_limit
+  pub height : p.height ≤ height_limit
+  pub left : unsigned_abs p.left < 2 ^ 18
+  pub top : unsigned_abs p.top ≤ 2 ^ 18
 
 -- a bitmap that is wider or higher than a picture may be
 abbrev pub is_large : InkPlace → Bool

@@ -5,7 +5,6 @@ use Rattle.std.specs.Prelude.{◌≡◌, refl, ℕ, ◌+◌, ◌≤◌, ⊤, Boo
 use Rattle.std.specs.List.{filter, sum_by}
 use Rattle.tt_core.specs.declared.fault.Why.TheVariants as why
 use Rattle.tt_core.specs.Faults.{Fault, fault_at}
-use Rattle.tt_core.specs.Limits.{height_limit, width_limit}
 use Rattle.tt_fit.specs.declared.programs.Fit.{Fit}
 use Rattle.tt_fit.specs.Fitting.{Fitter, fitted_outline, unfitted_fault}
 use Rattle.tt_fit_outline.specs.Outline.{Outline}
@@ -16,7 +15,7 @@ use Rattle.tt_picture.specs.Ink.{glyph_ink}
 use Rattle.tt_picture.specs.Shapes.{shape_at}
 use Rattle.tt_picture.specs.Steps.{glyph_step}
 use Rattle.tt_strike.specs.Work.{lays_after_glyphs, line_fitter}
-use Rattle.tt_glyphs.specs.Bitmaps.{bitmap, is_large, place_bytes, place_of}
+use Rattle.tt_glyphs.specs.Bitmaps.{PlaceFits, bitmap, is_large, place_bytes, place_of}
 use Rattle.tt_glyphs.specs.declared.place.InkPlace.{InkPlace}
 use Rattle.tt_glyphs.specs.declared.told.GlyphEntry.{GlyphEntry}
 use Rattle.tt_glyphs.specs.declared.told.Told.{Told}
@@ -58,12 +57,12 @@ told_bytes (told.Broken fault) = 0
 told_bytes told.Large = 0
 told_bytes (told.Made m) = place_bytes m.place
 
--- the rows of a report have few enough bytes
+-- a bitmap that is made stands near the pen and the base line, and is not too large
 abbrev pub ToldFits : Told → Type 0
 ToldFits told.Unknown = ⊤
 ToldFits (told.Broken fault) = ⊤
 ToldFits told.Large = ⊤
-ToldFits (told.Made m) = (m.place.width ≤ width_limit) × (m.place.height ≤ height_limit)
+ToldFits (told.Made m) = PlaceFits m.place
 
 -- the bytes of the rows of the numbers that stand before a number in a list
 abbrev pub bytes_before : (ℕ → ℕ) → List ℕ → ℕ → ℕ

@@ -1,10 +1,11 @@
 -- No part of the standard: the outline of a glyph with what its edges and its dropouts are made by, or the fault that
 -- refuses the outline.
-use Rattle.std.specs.Prelude.{◌≡◌, ℕ, ◌+◌, List, map, IfSome, Result, Ok, Err, ⊤}
+use Rattle.std.specs.Prelude.{◌≡◌, ℕ, ◌+◌, ◌<◌, ◌≤◌, ◌⊎◌, List, map, Option, Some, None, IfSome, Result, Ok, Err, ⊤}
 use Rattle.std.specs.List.{sum_by}
 use Rattle.tt_core.specs.Faults.{Fault}
 use Rattle.tt_fit.specs.Fitting.{Fitter, fitted_outline, unfitted_fault}
 use Rattle.tt_fit_outline.specs.Outline.{Outline}
+use Rattle.tt_picture.specs.declared.fitting.LineLimits.{LineLimits}
 use Rattle.tt_picture.specs.Shapes.{chords_with, edges_at, extents_of, filled_by, filling_crossings}
 use Rattle.tt_picture.specs.Steps.{chords_of}
 use Rattle.tt_scan_dropouts.specs.Counted.{edges_counted}
@@ -50,3 +51,12 @@ tried_chords ts = sum_by (λ (t : TriedGlyph). ruled_chords t.body) ts
 
 abbrev pub tried_crossings : List TriedGlyph → ℕ
 tried_crossings ts = sum_by (λ (t : TriedGlyph). ruled_crossings t.body) ts
+
+-- so many chords and crossings are within the limits, or past one of them. Without a bound of work there are no limits
+abbrev pub IsWithin : Option LineLimits → ℕ → ℕ → Type 0
+IsWithin None chords crossings = ⊤
+IsWithin (Some l) chords crossings = (chords ≤ l.chords) × (crossings ≤ l.crossings)
+
+abbrev pub IsPast : Option LineLimits → ℕ → ℕ → Type 0
+IsPast None chords crossings = ⊥
+IsPast (Some l) chords crossings = (l.chords < chords) ⊎ (l.crossings < crossings)

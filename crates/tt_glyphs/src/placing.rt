@@ -3,7 +3,7 @@
 ghost use Rattle.std.specs.Prelude.{◌≡◌, ◌<◌, ◌≤◌, ◌^◌, ◌+◌, ◌-ℤ◌, unsigned_abs, IfSome};
 ghost use Rattle.tt_core.specs.Bits.{stride};
 ghost use Rattle.tt_core.specs.Limits.{height_limit, width_limit};
-ghost use Rattle.tt_glyphs.specs.Bitmaps.{is_large, place_bytes, place_of};
+ghost use Rattle.tt_glyphs.specs.Bitmaps.{IsPlace, is_large, place_bytes, place_of};
 ghost use Rattle.tt_scan_ink.specs.Least.{IsNear};
 
 use crate::place::InkPlace;
@@ -24,8 +24,7 @@ fn count(first: i64, last: i64) -> u32
 pub(crate) fn place_of(ink: Option<GlyphInk>) -> InkPlace
     requires { IfSome ink IsNear }
     ensures exact { result ≡ place_of ink }
-    ensures left { unsigned_abs result.left < 2 ^ 18 }
-    ensures top { unsigned_abs result.top ≤ 2 ^ 18 }
+    ensures placed { IsPlace result }
     ensures width { result.width < 2 ^ 20 }
     ensures height { result.height < 2 ^ 20 }
 {
