@@ -6,6 +6,7 @@ use Rattle.tt_core.specs.Bits.{stride}
 use Rattle.tt_core.specs.Limits.{height_limit, width_limit}
 use Rattle.tt_fit.specs.declared.programs.Fit.{Fit}
 use Rattle.tt_fit.specs.Fitting.{Fitter}
+use Rattle.tt_picture.specs.declared.fitting.LineLimits.{LineLimits}
 use Rattle.tt_picture.specs.Pixels.{is_filled}
 use Rattle.tt_picture.specs.Rows.{rows}
 use Rattle.tt_scan.specs.Contours.{contours_at}
@@ -101,6 +102,12 @@ drawn_numbers ds = map (λ (d : DrawnGlyph). d.number) ds
 pub record IsDrawn (how : Fit) (s : Fitter) (d : DrawnGlyph) : Type 0 where
   pub told : d.told ≡ glyph_told how s d.number
   pub rows : drawn_rows d ≡ told_rows s d.number d.told
+
+-- what is left of some limits after so many chords and crossings
+abbrev pub IsLeft : Option LineLimits → ℕ → ℕ → Option LineLimits → Type 0
+IsLeft None chords crossings rest = rest ≡ None
+IsLeft (Some l) chords crossings rest =
+    (r : LineLimits) × (rest ≡ Some r) × (l.chords ≡ r.chords + chords) × (l.crossings ≡ r.crossings + crossings)
 
 -- a fitter of this source
 pub record IsSourceOf (z : FitterSource) (s : Fitter) : Type 0 where

@@ -33,6 +33,8 @@ returns-clause-tried c =
 pub returns-clause-ruled : goal.returns-clause-ruled
 returns-clause-ruled c =
     elim c.match-branch-2.branch [
-      | in-Made w ↦ rw (w.body-is, w.rules_for-filled.ensures.exact) (rules_boxed _ _)
+      | in-Made w ↦
+          let fit = rw w.rules_for-filled.ensures.exact at w.rules_for-filled.ensures.fits in
+          rw (w.body-is, w.rules_for-filled.ensures.exact) (rules_boxed _ _ fit)
       | in-Refused w ↦ rw w.body-is tt
     ]

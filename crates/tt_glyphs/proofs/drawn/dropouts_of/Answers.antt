@@ -1,0 +1,15 @@
+use Rattle.std.proofs.Common.{◌≡◌, ◌∙◌, ℤ, Bool}
+use Rattle.tt_scan.specs.Contours.{contours_at}
+use Rattle.tt_scan_dropouts.specs.Dropouts.{is_dropout}
+use Rattle.tt_scan_dropouts.proofs.Pictured.{seen_at}
+use Rattle.tt_glyphs.specs.Drawn.{column_of, line_of}
+use Rattle.tt_glyphs.proofs.drawn.dropouts_of.Goals as goal
+
+pub returns-clause-exact : goal.returns-clause-exact
+returns-clause-exact c = λ k r column row.
+    let e = c.args.edged.now in
+    let p = c.args.place in
+    let is : ℤ → ℤ → Bool = is_dropout c.in-Some.rules (contours_at e.tape.edges e.ends.items) in
+    let inside = c.window_of.ensures.has k r column row in
+    let seen = seen_at c.window_of.result c.in_ok-pixels.pixels.items is (column_of p k) (line_of p r) inside c.in_ok-pixels.ensures.exact in
+    rw c.deref.ensures.value at (c.in_ok-seen_all.ensures.exact k r column row) ∙ seen
