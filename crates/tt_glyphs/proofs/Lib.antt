@@ -1,3 +1,3 @@
-pub mod Known
+pub mod BoxedRules
+pub mod KnownNumbers
 pub mod Numbers
-pub mod Ruled
