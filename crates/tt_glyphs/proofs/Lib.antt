@@ -1,3 +1,5 @@
 pub mod BoxedRules
+pub mod Entered
 pub mod KnownNumbers
 pub mod Numbers
+pub mod ToldAmong
