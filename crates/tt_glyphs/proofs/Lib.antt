@@ -2,4 +2,8 @@ pub mod BoxedRules
 pub mod Entered
 pub mod KnownNumbers
 pub mod Numbers
+pub mod Refused
+pub mod Reported
+pub mod SeenPixels
 pub mod ToldAmong
+pub mod WorkTested

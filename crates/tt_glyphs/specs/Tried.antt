@@ -32,6 +32,11 @@ abbrev pub IsRuledBody : TriedBody → Type 0
 IsRuledBody (body.Ruled r) = IsRuled r
 IsRuledBody (body.Refused fault) = ⊤
 
+-- the outline of a glyph is not refused
+abbrev pub IsMadeBody : TriedBody → Type 0
+IsMadeBody (body.Ruled r) = ⊤
+IsMadeBody (body.Refused fault) = ⊥
+
 abbrev pub tried_numbers : List TriedGlyph → List ℕ
 tried_numbers ts = map (λ (t : TriedGlyph). t.number) ts
 
