@@ -1,8 +1,11 @@
 -- What is left of limits, glyph after glyph.
-use Rattle.std.proofs.Common.{◌≡◌, ◌∙◌, refl, ℕ, ◌+◌, ◌<◌, ◌≤◌, ◌⊎◌, inl, inr, Option, Some, None, arith}
+use Rattle.std.proofs.Common.{◌≡◌, refl, ℕ, ◌+◌, ◌<◌, ◌≤◌, inl, inr, List, [], ◌∷◌, map, Option, Some, None, All, arith}
+use Rattle.std.proofs.lemmas.List.Elements.{All-cons, All-nil}
+use Rattle.tt_fit.specs.Fitting.{Fitter}
 use Rattle.tt_picture.specs.declared.fitting.LineLimits.{LineLimits}
+use Rattle.tt_glyphs.specs.declared.ruled.TriedGlyph.{TriedGlyph}
 use Rattle.tt_glyphs.specs.Drawn.{IsLeft}
-use Rattle.tt_glyphs.specs.Tried.{IsPast, IsWithin}
+use Rattle.tt_glyphs.specs.Tried.{AreTriedBy, IsPast, IsWithin, tried_glyph}
 
 pub none_charged : (l : Option LineLimits) → IsLeft l 0 0 l
 none_charged None = refl
@@ -33,3 +36,20 @@ all_within None m chords crossings so_far = tt
 all_within (Some l) m chords crossings so_far =
     let (r, is, at_chords, at_crossings) = so_far in
     (omega (arith, at_chords), omega (arith, at_crossings))
+
+-- glyphs that are tried by their fitters, one by one
+abbrev pub IsTriedBy : (ℕ → Fitter) → TriedGlyph → Type 0
+IsTriedBy maker t = t ≡ tried_glyph (maker t.number) t.number
+
+head_of : {X : Type 0} (x y : X) (xs ys : List X) → x ∷ xs ≡ y ∷ ys → x ≡ y
+head_of x y xs ys is = cc
+
+tail_of : {X : Type 0} (x y : X) (xs ys : List X) → x ∷ xs ≡ y ∷ ys → xs ≡ ys
+tail_of x y xs ys is = cc
+
+pub all_tried : (maker : ℕ → Fitter) (ts : List TriedGlyph) → AreTriedBy maker ts → All (IsTriedBy maker) ts
+all_tried maker [] are = All-nil (IsTriedBy maker)
+all_tried maker (t ∷ ts) are =
+    let rest = map (λ (t : TriedGlyph). tried_glyph (maker t.number) t.number) ts in
+    All-cons (IsTriedBy maker) t ts (head_of t (tried_glyph (maker t.number) t.number) ts rest are)
+    (all_tried maker ts (tail_of t (tried_glyph (maker t.number) t.number) ts rest are))

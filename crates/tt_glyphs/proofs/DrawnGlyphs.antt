@@ -167,6 +167,24 @@ no_rows s g e o p of none =
     let empty : rows p.width (edged_pixel e p) 0 (place_bytes p) ≡ [] = rw bytes refl in
     sym empty ∙ rows_are s g e o p of
 
+-- a glyph whose outline is refused
+
+told_refused : (how : Fit) (s : Fitter) (g : ℕ) (fault : Fault) → fitted_outline s g ≡ Err fault → glyph_told how s g ≡ told.Broken fault
+unfolding glyph_told
+told_refused how s g fault is = rw is refl
+
+refused_by : (how : Fit) (s : Fitter) (g : ℕ) (fault : Fault) (f : Result Outline Fault) → fitted_outline s g ≡ f
+    → body.Refused fault ≡ ruled_by s g f → IsDrawn how s (record { number = g; told = told.Broken fault; bitmap = None })
+refused_by how s g fault (Ok o) is by = absurd cc
+refused_by how s g fault (Err other) is by =
+    let same : other ≡ fault = cc in
+    let refused : fitted_outline s g ≡ Err fault = is ∙ ap Err same in
+    record { told = sym (told_refused how s g fault refused); rows = refl }
+
+pub refused_drawn : (how : Fit) (s : Fitter) (g : ℕ) (fault : Fault) → body.Refused fault ≡ ruled_by s g (fitted_outline s g)
+    → IsDrawn how s (record { number = g; told = told.Broken fault; bitmap = None })
+refused_drawn how s g fault by = refused_by how s g fault (fitted_outline s g) refl by
+
 -- a glyph that is too large
 
 pub large_drawn : (how : Fit) (s : Fitter) (g : ℕ) (p : InkPlace) (e : EdgedOutline) → p ≡ place_of (glyph_ink s g)
