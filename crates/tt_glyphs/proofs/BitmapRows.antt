@@ -1,5 +1,5 @@
 -- The rows of a glyph's ink, by its edges and its dropouts, and one row more at a time.
-use Rattle.std.proofs.Common.{◌≡◌, ◌∙◌, refl, sym, ap, ℕ, ◌+◌, ◌*◌, ◌^◌, ◌<◌, ◌≤◌, Bool, true, false, ◌&&◌, ◌||◌, nat_lt, ℤ, pos, ◌+ℤ◌, ◌-ℤ◌, ◌<ℤ◌, unsigned_abs, List, ◌++◌, length, take, slice_index, zero-add, arith}
+use Rattle.std.proofs.Common.{◌≡◌, ◌∙◌, refl, sym, ap, ℕ, ◌+◌, ◌*◌, ◌^◌, ◌<◌, ◌≤◌, Bool, true, false, ◌&&◌, ◌||◌, nat_lt, ℤ, pos, ◌+ℤ◌, ◌-ℤ◌, ◌<ℤ◌, unsigned_abs, List, ◌++◌, length, take, drop, slice_index, zero-add, arith, length-drop, length-take-le}
 use Rattle.std.proofs.lemmas.Bool.Decides.{nat_tests}
 use Rattle.std.proofs.lemmas.Int.{ints}
 use Rattle.std.proofs.lemmas.Nat.{mul-le}
@@ -18,9 +18,9 @@ use Rattle.tt_scan_edges.specs.Winding.{column_x, is_black, row_y}
 use Rattle.tt_scan_gaps.specs.Crossings.{centre}
 use Rattle.tt_glyphs.specs.Bitmaps.{place_bytes}
 use Rattle.tt_glyphs.specs.declared.place.InkPlace.{InkPlace}
-use Rattle.tt_glyphs.specs.Drawn.{bitmap_row, column_of, drawn_pixel, frame_of, line_of}
+use Rattle.tt_glyphs.specs.Drawn.{BitmapFits, bitmap_row, column_of, drawn_pixel, frame_of, line_of}
 use Rattle.tt_glyphs.specs.GlyphBitmap.{GlyphBitmap}
-use borrow.Rule.Slice.PartMut.{put_mid}
+use borrow.Rule.Slice.PartMut.{put_mid, same_len_mid}
 
 -- rows with the same pixels are the same
 pub same_rows : (p : InkPlace) (a b : ℕ → ℕ → Bool) → AreAlike p.width p.height a b
@@ -92,6 +92,15 @@ one_row_more b r k old row within so_far is =
     take-put_mid (n * r) k old row (n * (r + 1)) (omega (arith, next, long)) within
     ∙ rw (so_far, is) (sym joined) ∙ ap (rows w (drawn_pixel b) 0) (sym next)
 
+pub len_kept : (b : GlyphBitmap) (r k : ℕ) (old row : List ℕ) → stride b.place.width * r + stride b.place.width ≤ length old
+    → k ≡ stride b.place.width → row ≡ bitmap_row b r → length (put_mid (stride b.place.width * r) k old row) ≡ length old
+len_kept b r k old row within whole is =
+    let n = stride b.place.width in
+    let long : length row ≡ n = ap length is ∙ length-rows b.place.width (drawn_pixel b) (n * r) n in
+    let cut : length (take k (drop (n * r) old)) ≡ k =
+    length-take-le k (drop (n * r) old) (omega (arith, length-drop (n * r) old, whole, within)) in
+    same_len_mid (n * r) k old row (omega (arith, cut, whole, long))
+
 -- the crossings so far fit a count of them
 pub crosses_fit : (r h n crosses : ℕ) → r < h → h ≤ height_limit → n ≤ 2 ^ 19 → crosses ≤ r * n → crosses + n ≤ 2 ^ 63
 crosses_fit r h n crosses below high few so_far =
@@ -103,3 +112,7 @@ crosses_more r n old new so_far more = omega (arith, so_far, more)
 
 pub no_row_more : (b : GlyphBitmap) (bytes : List ℕ) → take (stride b.place.width * 0) bytes ≡ rows b.place.width (drawn_pixel b) 0 (stride b.place.width * 0)
 no_row_more b bytes = let none : stride b.place.width * 0 ≡ 0 = omega arith in rw none refl
+
+-- a bitmap keeps its facts where its crossings are counted
+pub fits_with : (b : GlyphBitmap) (n : ℕ) → BitmapFits b → BitmapFits (record b { crosses = n })
+fits_with b n fits = record { place = fits.place; frame = fits.frame; few = fits.few; dropouts = fits.dropouts }

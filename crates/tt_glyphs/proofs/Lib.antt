@@ -1,7 +1,8 @@
 pub mod BitmapRows
+pub mod BoxedRules
 pub mod Charged
 pub mod DrawnGlyphs
 pub mod EdgesMade
-pub mod Known
-pub mod Ruled
+pub mod KnownNumbers
+pub mod Numbers
 pub mod SeenPixels

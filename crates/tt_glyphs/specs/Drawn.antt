@@ -1,5 +1,5 @@
 -- No part of the standard: a glyph that is drawn, whose rows are made of edges and dropouts.
-use Rattle.std.specs.Prelude.{◌≡◌, ℕ, ◌+◌, ◌*◌, ◌-◌, ◌^◌, ◌<◌, ◌≤◌, Bool, ◌&&◌, ◌||◌, ◌==◌, nat_lt, if◌then◌else◌, ℤ, pos, ◌+ℤ◌, ◌-ℤ◌, unsigned_abs, List, [], ◌∷◌, length, take, filter, find, get_or, map, Option, Some, None, ⊤}
+use Rattle.std.specs.Prelude.{◌≡◌, ℕ, ◌+◌, ◌*◌, ◌-◌, ◌^◌, ◌<◌, ◌≤◌, Bool, ◌&&◌, ◌||◌, ◌==◌, nat_lt, if◌then◌else◌, ℤ, pos, ◌+ℤ◌, ◌-ℤ◌, unsigned_abs, List, [], ◌∷◌, length, take, get_or, map, Option, Some, None, ⊤}
 use Rattle.std.specs.List.{sum_by}
 use Rattle.std.specs.Ordering.{int_eq}
 use Rattle.tt_core.specs.Bits.{stride}
@@ -20,11 +20,9 @@ use Rattle.tt_glyphs.specs.Bitmaps.{place_bytes}
 use Rattle.tt_glyphs.specs.declared.drawing.DrawnGlyph.{DrawnGlyph}
 use Rattle.tt_glyphs.specs.declared.edged.EdgedOutline.{EdgedOutline}
 use Rattle.tt_glyphs.specs.declared.place.InkPlace.{InkPlace}
-use Rattle.tt_glyphs.specs.declared.told.GlyphEntry.{GlyphEntry}
 use Rattle.tt_glyphs.specs.declared.told.Told.{Told}
-use Rattle.tt_glyphs.specs.declared.told.Told.TheVariants as told
 use Rattle.tt_glyphs.specs.GlyphBitmap.{GlyphBitmap}
-use Rattle.tt_glyphs.specs.Entries.{ToldFits, bytes_before, glyph_told, told_bytes, told_rows}
+use Rattle.tt_glyphs.specs.Entries.{ToldFits, glyph_told, told_bytes, told_rows}
 
 -- a place with ink, of a bitmap that is not too large
 pub record IsInked (p : InkPlace) : Type 0 where
@@ -110,31 +108,3 @@ IsLeft (Some l) chords crossings rest =
 pub record IsSourceOf (z : FitterSource) (s : Fitter) : Type 0 where
   pub metrics : s.metrics ≡ z.face.now.metrics
   pub ppem : s.ppem ≡ z.ppem
-
--- the numbers of a list that are below a count
-abbrev pub known_of : ℕ → List ℕ → List ℕ
-known_of count gs = filter (λ g. nat_lt g count) gs
-
-abbrev pub known_number : ℕ → ℕ → Option ℕ
-known_number count g = if nat_lt g count then Some g else None
-
--- the report of a number by some drawn glyphs
-abbrev pub told_among : List DrawnGlyph → ℕ → Told
-told_among [] g = told.Unknown
-told_among (d ∷ ds) g = if d.number == g then d.told else told_among ds g
-
--- the entry of a number by some drawn glyphs and the distinct numbers of its list
-abbrev pub entry_by : List DrawnGlyph → List ℕ → ℕ → GlyphEntry
-entry_by ds gs g = record {
-  glyph = g;
-  told = told_among ds g;
-  at = bytes_before (λ h. told_bytes (told_among ds h)) gs g;
-}
-
--- the entry of a number that is no glyph of the font: that of its first place, or a new one
-abbrev pub or_new : Option GlyphEntry → ℕ → ℕ → GlyphEntry
-or_new (Some e) g end = e
-or_new None g end = record { glyph = g; told = told.Unknown; at = end }
-
-abbrev pub unknown_entry : List GlyphEntry → ℕ → ℕ → GlyphEntry
-unknown_entry es g end = or_new (find (λ (e : GlyphEntry). e.glyph == g) es) g end

@@ -1,9 +1,12 @@
 pub mod Bitmaps
+pub mod Defects
 pub mod Drawn
 pub mod Edged
 pub mod Entries
 pub mod GlyphBitmap
 pub mod GlyphLaws
+pub mod Listed
+pub mod Lists
 pub mod Requests
 pub mod Ruled
 pub mod Tried

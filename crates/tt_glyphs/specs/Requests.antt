@@ -1,5 +1,6 @@
 -- No part of the standard: a request for the bitmaps of a list of glyphs, and the order of its refusals (profile). Only
--- with best is the work bounded: the distinct glyphs count as those of a line.
+-- with best is the work bounded: the distinct glyphs count as those of a line. A refused glyph has its fault in its
+-- report. A caller that wants no such report has the list refused.
 use Rattle.std.specs.Prelude.{◌≡◌, refl, ℕ, ◌+◌, nat_lt, if◌then◌else◌, List, [], ◌∷◌, length, Result, Ok, Err}
 use Rattle.std.specs.List.{sum_by}
 use Rattle.tt_core.specs.declared.collection.Reading.{Reading}
@@ -18,7 +19,7 @@ use Rattle.tt_picture.specs.Pixels.{Shape}
 use Rattle.tt_picture.specs.Shapes.{filling_crossings, shape_at}
 use Rattle.tt_scan_dropouts.specs.Counted.{edges_counted}
 use Rattle.tt_strike.specs.Job.{size_tested}
-use Rattle.tt_strike.specs.Picture.{setting}
+use Rattle.tt_strike.specs.Picture.{outlines_in, setting}
 use Rattle.tt_strike.specs.Refusals.{Refused, as_font, as_job}
 use Rattle.tt_strike.specs.Work.{chords_in, edges_limited, line_fitter, points_in, work_left, work_tested}
 use Rattle.tt_glyphs.specs.declared.told.GlyphEntry.{GlyphEntry}
@@ -58,18 +59,24 @@ glyph_crossings s g = outline_crossings s g (fitted_outline s g)
 abbrev pub crossings_of_list : Fitter → List ℕ → ℕ
 crossings_of_list s gs = sum_by (λ g. glyph_crossings (line_fitter s gs g) g) (distinct gs)
 
--- a list's glyphs have few enough points, and then few enough chords and crossings for the work that remains
-abbrev pub work_of_list_tested : Fit → Fitter → List ℕ → Result (Unit {0}) JobFault
-work_of_list_tested how s gs =
-    work_tested how point_work_limit (points_in s gs) >>= λ u.
-    edges_limited how (work_left s gs) (chords_in s gs) (crossings_of_list s gs)
+-- a list's glyphs have few enough points
+abbrev pub points_of_list_tested : Fit → Fitter → List ℕ → Result (Unit {0}) JobFault
+points_of_list_tested how s gs = work_tested how point_work_limit (points_in s gs)
 
--- the fitter for a request, once its work is tested; or the first refusal
+-- and few enough chords and crossings for the work that remains
+abbrev pub edges_of_list_tested : Fit → Fitter → List ℕ → Result (Unit {0}) JobFault
+edges_of_list_tested how s gs = edges_limited how (work_left s gs) (chords_in s gs) (crossings_of_list s gs)
+
+-- the fitter for a request, once the points of the list's glyphs are tested; or the first refusal
 unfoldable pub fitter_for_request : Face → GlyphJob → Result Fitter Refused
 fitter_for_request face a =
     as_font (setting face a.ppem a.fit) >>= λ s.
-    as_job (work_of_list_tested a.fit s (known s a.glyphs)) >>= λ u.
+    as_job (points_of_list_tested a.fit s (known s a.glyphs)) >>= λ u.
     Ok s
+
+-- the same, once the request is tested
+unfoldable pub request_begun : Face → GlyphJob → Result Fitter Refused
+request_begun face a = as_job (request_tested a) >>= λ u. fitter_for_request face a
 
 -- the entries, the bytes of all rows, and the rows
 pub record Bitmaps : Type 0 where
@@ -80,13 +87,28 @@ pub record Bitmaps : Type 0 where
 abbrev pub bitmaps_by : Fit → List ℕ → Fitter → Bitmaps
 bitmaps_by how gs s = record { entries = entries how s gs; wanted = bytes_wanted how s gs; rows = all_rows how s gs }
 
+-- the bitmaps by a fitter, once the chords and the crossings are tested
+abbrev pub bitmaps_tested : Fit → List ℕ → Fitter → Result Bitmaps Refused
+bitmaps_tested how gs s = as_job (edges_of_list_tested how s (known s gs)) >>= λ u. Ok (bitmaps_by how gs s)
+
 -- the bitmaps of a request by a face's tables, or the first refusal
 unfoldable pub bitmaps_in : Face → GlyphJob → Result Bitmaps Refused
-bitmaps_in face a = fitter_for_request face a >>= λ s. Ok (bitmaps_by a.fit a.glyphs s)
+bitmaps_in face a = fitter_for_request face a >>= λ s. bitmaps_tested a.fit a.glyphs s
 
 -- the same, once the request is tested
 unfoldable pub bitmaps_outcome : Face → GlyphJob → Result Bitmaps Refused
 bitmaps_outcome face a = as_job (request_tested a) >>= λ u. bitmaps_in face a
+
+-- the same where no glyph may be refused: the first glyph whose outline is refused refuses the list, after the points are
+-- tested and before the chords
+unfoldable pub sound_in : Face → GlyphJob → Result Bitmaps Refused
+sound_in face a =
+    fitter_for_request face a >>= λ s.
+    as_font (outlines_in s (known s a.glyphs)) >>= λ outlines.
+    bitmaps_tested a.fit a.glyphs s
+
+unfoldable pub sound_outcome : Face → GlyphJob → Result Bitmaps Refused
+sound_outcome face a = as_job (request_tested a) >>= λ u. sound_in face a
 
 -- the same by a reading of a font file
 abbrev pub bitmaps_of_file : Reading → GlyphJob → List ℕ → Result Bitmaps Refused

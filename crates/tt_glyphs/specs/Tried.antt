@@ -32,6 +32,9 @@ abbrev pub IsRuledBody : TriedBody → Type 0
 IsRuledBody (body.Ruled r) = IsRuled r
 IsRuledBody (body.Refused fault) = ⊤
 
+abbrev pub tried_numbers : List TriedGlyph → List ℕ
+tried_numbers ts = map (λ (t : TriedGlyph). t.number) ts
+
 -- some glyphs, each by its own fitter
 abbrev pub AreTriedBy : (ℕ → Fitter) → List TriedGlyph → Type 0
 AreTriedBy maker ts = ts ≡ map (λ (t : TriedGlyph). tried_glyph (maker t.number) t.number) ts

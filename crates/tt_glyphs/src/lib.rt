@@ -10,6 +10,7 @@
 //! bitmap.rt    the edges and dropouts of a glyph's rows
 //! drawn.rt     the rows of a glyph
 //! drawing.rt   the distinct glyphs, drawn within the limits of a request
+//! tried.rt     a list whose distinct glyphs are tried
 //! entries.rt   an entry for each place of the list
 //! list.rt      the bitmaps of a list
 //! ```
@@ -28,6 +29,7 @@ mod placing;
 mod request;
 mod ruled;
 mod told;
+mod tried;
 
 pub use list::BitmapList;
 pub use place::InkPlace;

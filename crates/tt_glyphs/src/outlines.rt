@@ -1,13 +1,16 @@
 //! The outlines of a list's distinct glyphs. A refused glyph has its fault, and the others are made.
 
-ghost use Rattle.std.specs.Prelude.{◌≡◌, ◌<◌, true, map, All, IfOk, OnOk};
-ghost use Rattle.tt_fit.specs.Fitting.{after_glyph};
-ghost use Rattle.tt_glyphs.specs.Tried.{IsRuledBody, tried_glyph};
+ghost use Rattle.std.specs.Prelude.{◌≡◌, ℕ, ◌<◌, true, List, map, All, Ok, Err, IfErr, IfOk, OnOk};
+ghost use Rattle.tt_fit.specs.Fitting.{Fitter, after_glyph};
+ghost use Rattle.tt_fit_outline.specs.Outline.{Outline};
+ghost use Rattle.tt_glyphs.specs.Tried.{AreTriedBy, IsRuledBody, tried_glyph, tried_numbers};
 ghost use Rattle.tt_picture.specs.Distinct.{fitter_after, fitter_for};
+ghost use Rattle.tt_picture.specs.Steps.{outlines_by};
 ghost use Rattle.tt_picture.specs.Unfitted.{all_differ};
 
 use crate::ruled::{RuledOutline, TriedBody, TriedGlyph};
 use std::alloc::{AllocError, Global};
+use tt_core::Fault;
 use tt_fit::{Fitter, TriedOutline};
 use tt_picture::{rule_by, rules_for};
 
@@ -50,4 +53,17 @@ pub(crate) fn try_glyphs(
         tried.push(try_glyph(fitter, *number)?)?;
     }
     Ok(tried)
+}
+
+/// Tests that no outline is refused. Error: the fault of the first that is.
+pub(crate) fn test_outlines(tried: &[TriedGlyph]) -> Result<(), Fault>
+    ensures sound { OnOk result ((maker : ℕ → Fitter) → AreTriedBy maker tried.now → (os : List Outline) × (outlines_by maker (tried_numbers tried.now) ≡ Ok os)) }
+    ensures fault { IfErr result (λ f. (maker : ℕ → Fitter) → AreTriedBy maker tried.now → outlines_by maker (tried_numbers tried.now) ≡ Err f) }
+{
+    for glyph in tried {
+        if let TriedBody::Refused(fault) = &glyph.body {
+            return Err(*fault);
+        }
+    }
+    Ok(())
 }

@@ -1,6 +1,6 @@
 //! The count of a list, and the work that its glyphs may take.
 
-ghost use Rattle.std.specs.Prelude.{◌≡◌, ◌-◌, ◌^◌, ◌≤◌, true, false, length, OnOk};
+ghost use Rattle.std.specs.Prelude.{◌≡◌, ◌≤◌, true, false, length, Some, None, OnOk};
 ghost use Rattle.tt_core.specs.Limits.{text_limit};
 ghost use Rattle.tt_core.specs.Outcomes.{Gives};
 ghost use Rattle.tt_glyphs.specs.Requests.{count_tested};
@@ -23,20 +23,16 @@ pub(crate) fn test_count(glyphs: &[u32]) -> Result<(), JobFault>
     Ok(())
 }
 
-/// What the glyphs of a list may have by the work that their programs left; without a bound, as much as there can be.
-pub(crate) fn limits_for(fit: Fit, left: Option<u64>) -> LineLimits
-    ensures bounded { is_bounded fit ≡ true → result ≡ record { chords = chord_limit; crossings = crossings_allowed left } }
-    ensures unbounded { is_bounded fit ≡ false → result ≡ record { chords = 2 ^ 64 - 1; crossings = 2 ^ 64 - 1 } }
+/// What the glyphs of a list may have by the work that their programs left; None where work is not bounded.
+pub(crate) fn limits_for(fit: Fit, left: Option<u64>) -> Option<LineLimits>
+    ensures bounded { is_bounded fit ≡ true → result ≡ Some (record { chords = chord_limit; crossings = crossings_allowed left }) }
+    ensures unbounded { is_bounded fit ≡ false → result ≡ None }
 {
-    if is_bounded(fit) {
-        LineLimits {
-            chords: CHORD_LIMIT,
-            crossings: crossings_allowed(left),
-        }
-    } else {
-        LineLimits {
-            chords: usize::MAX,
-            crossings: u64::MAX,
-        }
+    if !is_bounded(fit) {
+        return None;
     }
+    Some(LineLimits {
+        chords: CHORD_LIMIT,
+        crossings: crossings_allowed(left),
+    })
 }

@@ -3,7 +3,7 @@ use Rattle.tt_core.specs.Bits.{stride}
 use Rattle.tt_picture.specs.Rows.{rows}
 use Rattle.tt_glyphs.specs.Bitmaps.{place_bytes}
 use Rattle.tt_glyphs.specs.Drawn.{drawn_pixel}
-use Rattle.tt_glyphs.proofs.drawn.GlyphBitmap.write.Given as goal
+use Rattle.tt_glyphs.proofs.bitmap.GlyphBitmap.write.Given as goal
 
 -- the rows so far are written
 abbrev pub invariant-loop-r : goal.invariant-loop-r
