@@ -11,7 +11,8 @@ returns-clause-exact c =
     let e = c.args.edged.now in
     let p = c.args.place in
     let is : ℤ → ℤ → Bool = is_dropout c.in-Some.rules (contours_at e.tape.edges e.ends.items) in
-    let seen = rw c.deref.ensures.value at c.seen_all.ensures.exact in
+    let seen = rw c.deref-3.ensures.value at c.seen_all.ensures.exact in
+    let found = rw c.deref-2.ensures.value at c.in_ok-pixels.ensures.exact in
     rw c.in-Some.is (IfOk-weaker c.seen_all.result _ _ (λ v told k r column row. told k r column row
     ∙ seen_at c.window_of.result c.in_ok-pixels.pixels.items is (column_of p k) (line_of p r) (c.window_of.ensures.has k r column row)
-    c.in_ok-pixels.ensures.exact) seen)
+    found) seen)

@@ -1,7 +1,6 @@
 use Rattle.std.proofs.Common.{◌≡◌, ◌∙◌, ◌+◌, ◌-◌, ◌*◌, ◌<◌, ◌≤◌, length, take, drop, refl, sym, ap, arith, length-drop, length-take-le}
 use Rattle.std.proofs.lemmas.List.{take_all}
 use Rattle.tt_core.specs.Bits.{stride}
-use Rattle.tt_glyphs.specs.declared.place.InkPlace.{InkPlace}
 use Rattle.tt_glyphs.specs.Drawn.{bitmap_row, bitmap_rows}
 use Rattle.tt_glyphs.specs.GlyphBitmap.{GlyphBitmap}
 use Rattle.tt_glyphs.proofs.BitmapRows.{crosses_fit, crosses_more, fits_with, len_kept, no_row_more, one_row_more, row_within}
@@ -11,7 +10,6 @@ pub loop-r-init : goal.loop-r-init
 loop-r-init c =
     let is = c.self.view_is in
     record {
-      place = ap (λ (b : GlyphBitmap). b.place) is;
       bytes = c.row_bytes-bytes.ensures.exact ∙ ap (λ (b : GlyphBitmap). stride b.place.width) is;
       self = refl;
       crosses = omega (arith, c.requires.fresh);
@@ -28,7 +26,7 @@ write_row-requires-clause-crosses c =
     let so_far = c.loop-r.invariant in
     let b = c.args.self.now in
     let edges : length c.loop-r.self.edges ≡ length b.edges = ap (λ (b : GlyphBitmap). length b.edges) so_far.self in
-    let height : c.loop-r.place.height ≡ b.place.height = ap (λ (p : InkPlace). p.height) so_far.place in
+    let height : c.self.inside.place.height ≡ b.place.height = ap (λ (b : GlyphBitmap). b.place.height) c.self.view_is in
     let below : c.loop-r.r < b.place.height = omega (arith, c.loop-r-test.true, height) in
     rw edges (crosses_fit c.loop-r.r b.place.height (length b.edges) c.loop-r.self.crosses below c.requires.bitmap.place.height
     c.requires.bitmap.few so_far.crosses)
@@ -42,7 +40,7 @@ write_row-requires-clause-room c =
 pub write_row-requires-clause-within : goal.write_row-requires-clause-within
 write_row-requires-clause-within c =
     let so_far = c.loop-r.invariant in
-    let height : c.loop-r.place.height ≡ c.args.self.now.place.height = ap (λ (p : InkPlace). p.height) so_far.place in
+    let height : c.self.inside.place.height ≡ c.args.self.now.place.height = ap (λ (b : GlyphBitmap). b.place.height) c.self.view_is in
     let own : c.loop-r.self.place.height ≡ c.args.self.now.place.height = ap (λ (b : GlyphBitmap). b.place.height) so_far.self in
     omega (arith, c.loop-r-test.true, height, own)
 
@@ -52,7 +50,7 @@ write_row-requires-clause-len c =
     let b = c.args.self.now in
     let n = stride b.place.width in
     let r = c.loop-r.r in
-    let height : c.loop-r.place.height ≡ b.place.height = ap (λ (p : InkPlace). p.height) so_far.place in
+    let height : c.self.inside.place.height ≡ b.place.height = ap (λ (b : GlyphBitmap). b.place.height) c.self.view_is in
     let below : r < b.place.height = omega (arith, c.loop-r-test.true, height) in
     let ends = row_within b.place r below in
     let width : stride c.loop-r.self.place.width ≡ n = ap (λ (b : GlyphBitmap). stride b.place.width) so_far.self in
@@ -70,14 +68,13 @@ loop-r-preserved c =
     let old = c.loop-r.rows in
     let row = c.write_row.new.row in
     let edges : length c.loop-r.self.edges ≡ length b.edges = ap (λ (b : GlyphBitmap). length b.edges) so_far.self in
-    let height : c.loop-r.place.height ≡ b.place.height = ap (λ (p : InkPlace). p.height) so_far.place in
+    let height : c.self.inside.place.height ≡ b.place.height = ap (λ (b : GlyphBitmap). b.place.height) c.self.view_is in
     let below : r < b.place.height = omega (arith, c.loop-r-test.true, height) in
     let ends = row_within b.place r below in
     let part : n * r + n - n * r ≡ n = omega arith in
     let is : row ≡ bitmap_row b r = c.write_row.ensures.row ∙ ap (λ (b : GlyphBitmap). bitmap_row b r) so_far.self in
     let more = rw edges at c.write_row.ensures.crosses in
     rw so_far.bytes (record {
-      place = so_far.place;
       bytes = refl;
       self = c.write_row.ensures.same
           ∙ ap (λ (b : GlyphBitmap). record b { crosses = c.write_row.new.self.crosses }) so_far.self;
@@ -92,7 +89,7 @@ returns-clause-rows c =
     let so_far = c.loop-r.invariant in
     let b = c.args.self.now in
     let n = stride b.place.width in
-    let height : c.loop-r.place.height ≡ b.place.height = ap (λ (p : InkPlace). p.height) so_far.place in
+    let height : c.self.inside.place.height ≡ b.place.height = ap (λ (b : GlyphBitmap). b.place.height) c.self.view_is in
     let end : c.loop-r.r ≡ b.place.height = omega (arith, c.loop-r-test.false, c.loop-r.auto.r-end, height) in
     let all : take (n * b.place.height) c.loop-r.rows ≡ bitmap_rows b = rw end at so_far.rows in
     sym (take_all (n * b.place.height) c.loop-r.rows (omega (arith, so_far.len))) ∙ all

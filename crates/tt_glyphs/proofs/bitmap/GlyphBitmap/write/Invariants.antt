@@ -8,7 +8,6 @@ use Rattle.tt_glyphs.proofs.bitmap.GlyphBitmap.write.Given as goal
 -- the rows so far are written
 abbrev pub invariant-loop-r : goal.invariant-loop-r
 invariant-loop-r l = record {
-  place : l.place ≡ l.fn.self.place;
   bytes : l.bytes ≡ stride l.fn.self.place.width;
   self : l.self ≡ record l.fn.self { crosses = l.self.crosses };
   crosses : l.self.crosses ≤ l.r * length l.fn.self.edges;
