@@ -1,4 +1,4 @@
-use Rattle.std.proofs.Common.{◌≡◌, ◌||◌, ap}
+use Rattle.std.proofs.Common.{◌||◌, ap}
 use Rattle.tt_scan_edges.specs.Winding.{is_black}
 use Rattle.tt_scan_gaps.specs.Crossings.{centre}
 use Rattle.tt_glyphs.specs.Drawn.{column_of, edged_pixel, line_of}

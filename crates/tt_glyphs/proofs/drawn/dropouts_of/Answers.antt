@@ -1,4 +1,4 @@
-use Rattle.std.proofs.Common.{◌≡◌, ◌∙◌, ℤ, Bool}
+use Rattle.std.proofs.Common.{◌∙◌, ℤ, Bool}
 use Rattle.std.proofs.lemmas.Result.{IfOk-weaker}
 use Rattle.tt_scan.specs.Contours.{contours_at}
 use Rattle.tt_scan_dropouts.specs.Dropouts.{is_dropout}

@@ -1,4 +1,4 @@
-use Rattle.std.proofs.Common.{◌≡◌, ◌∙◌, ◌&&◌, ◌<ℤ◌, ◌-ℤ◌, ◌^◌, nat_lt, length, replicate, refl, ap, pos, ℤ, SFits, w32, w64, rules, arith}
+use Rattle.std.proofs.Common.{◌≡◌, ◌∙◌, ◌<ℤ◌, ◌-ℤ◌, ◌^◌, nat_lt, length, replicate, ap, pos, ℤ, SFits, w32, w64, rules, arith}
 use Rattle.std.proofs.lemmas.Int.{ints, to_z-of_z}
 use Rattle.std.proofs.lemmas.List.{length-replicate}
 use Rattle.tt_core.specs.Bits.{bit, stride}
@@ -8,7 +8,7 @@ use Rattle.tt_scan.specs.Tape.{Tape}
 use Rattle.tt_scan_dropouts.specs.Pictures.{is_among}
 use Rattle.tt_scan_dropouts.proofs.Inked.{met_few}
 use Rattle.tt_scan_edges.specs.Marks.{covers}
-use Rattle.tt_scan_edges.specs.Winding.{column_x, is_black, row_y, rows_met}
+use Rattle.tt_scan_edges.specs.Winding.{column_x, is_black, row_y}
 use Rattle.tt_scan_gaps.specs.Crossings.{centre}
 use Rattle.tt_glyphs.specs.Drawn.{BitmapFits, column_of, frame_of, line_of}
 use Rattle.tt_glyphs.specs.GlyphBitmap.{GlyphBitmap}
