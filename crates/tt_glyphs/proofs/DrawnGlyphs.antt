@@ -10,6 +10,7 @@ use Rattle.tt_fit.specs.Fitting.{Fitter, fitted_outline, unfitted_fault}
 use Rattle.tt_fit_outline.specs.Outline.{Outline}
 use Rattle.tt_fit_outline.specs.Steps.{step_of}
 use Rattle.tt_line.specs.Layout.{advance_in_pixels}
+use Rattle.tt_metrics.specs.Metrics.{Metrics}
 use Rattle.tt_picture.specs.Ink.{glyph_ink, ink_by}
 use Rattle.tt_picture.specs.Pixels.{is_filled}
 use Rattle.tt_picture.specs.Rows.{rows}
@@ -111,7 +112,7 @@ told_made : (advance : ℕ) (unfitted : Option Fault) (p : InkPlace) → is_larg
     → made_within advance unfitted p ≡ told.Made (record { advance = advance; place = p; unfitted = unfitted })
 told_made advance unfitted p small = rw small refl
 
-told_is : (how : Fit) (s : Fitter) (g : ℕ) (o : Outline) (p : InkPlace) → fitted_outline s g ≡ Ok o → p ≡ place_of (glyph_ink s g)
+pub told_is : (how : Fit) (s : Fitter) (g : ℕ) (o : Outline) (p : InkPlace) → fitted_outline s g ≡ Ok o → p ≡ place_of (glyph_ink s g)
     → glyph_told how s g ≡ made_within (advance_by how s g) (unfitted_fault s g) p
 unfolding glyph_told
 told_is how s g o p made at = rw (made, at) refl
@@ -120,15 +121,19 @@ step_is : (s : Fitter) (g : ℕ) (o : Outline) → fitted_outline s g ≡ Ok o �
 unfolding glyph_step
 step_is s g o made = rw made refl
 
+either : (b : Bool) (x y v w : ℕ) → x ≡ y → v ≡ w → (if b then x else v) ≡ (if b then y else w)
+either b x y v w first other = rw (first, other) refl
+
 advance_is : (z : FitterSource) (how : Fit) (s : Fitter) (g step : ℕ) (o : Outline) → IsSourceOf z s → fitted_outline s g ≡ Ok o
     → step ≡ step_of o → advance_of z.face.now.metrics z.ppem how g step ≡ advance_by how s g
 advance_is z how s g step o of made is =
-    let own : step ≡ glyph_step s g = is ∙ sym (step_is s g o made) in
-    rw (of.metrics, of.ppem, own) refl
+    either (lays_after_glyphs how) step (glyph_step s g) (advance_in_pixels z.face.now.metrics z.ppem g)
+    (advance_in_pixels s.metrics s.ppem g) (is ∙ sym (step_is s g o made))
+    (ap₂ (λ (m : Metrics) (n : ℕ). advance_in_pixels m n g) (sym of.metrics) (sym of.ppem))
 
 -- the rows
 
-filled_here : (filled : Option BoxedRules) (way : ChordRule) (o : Outline) (c j : ℤ)
+pub filled_here : (filled : Option BoxedRules) (way : ChordRule) (o : Outline) (c j : ℤ)
     → is_filled (filled_at 0 filled) (contours_of way 0 o) c j ≡ is_filled filled (contours_of way 0 o) c j
 filled_here None way o c j = refl
 filled_here (Some rules) way o c j =

@@ -141,6 +141,7 @@ pub(crate) fn bitmap_of(
     requires place { IsInked place }
     requires edged { EdgedFits edged }
     ensures place { IfOk result (λ b. b.place ≡ place) }
+    ensures fresh { IfOk result (λ b. b.crosses ≡ 0) }
     ensures rows { IfOk result (λ b. bitmap_rows b ≡ rows place.width (edged_pixel edged place) 0 (place_bytes place)) }
     ensures fits { IfOk result BitmapFits }
 {

@@ -37,8 +37,8 @@ loop-one-preserved c =
     let at = c.loop-one in
     let so_far = at.invariant in
     let t = c.in-Some.one in
-    let d = c.in-Some-glyph.glyph in
-    let one = rw c.in-Some-glyph.is at c.in_ok-draw_one.ensures in
+    let d = c.in-Some-2.glyph in
+    let one = rw c.in-Some-2.is at c.in_ok-glyph.ensures in
     let pushed = c.in_ok-push.ensures.items in
     let steps : into_iter_items at.one-iterator ≡ t ∷ into_iter_items c.next.new.self = c.in-Some.ensures.steps.0 in
     let chords = sum_by_push (λ (t : TriedGlyph). ruled_chords t.body) at.yielded t in
@@ -87,14 +87,14 @@ returns-clause-few c =
     rw all at (all_within c.args.limits at.left (tried_chords at.yielded) (tried_crossings at.yielded) at.invariant.left)
 
 -- one glyph has more chords or crossings than are left
-pub returns-else-glyph-clause-many : goal.returns-else-glyph-clause-many
-returns-else-glyph-clause-many c =
+pub returns-in_default-clause-many : goal.returns-in_default-clause-many
+returns-in_default-clause-many c =
     let at = c.loop-one in
     let t = c.in-Some.one in
     let rest = into_iter_items c.next.new.self in
     let steps : into_iter_items at.one-iterator ≡ t ∷ rest = c.in-Some.ensures.steps.0 in
     let all : at.yielded ++ t ∷ rest ≡ c.args.tried.items = rw (← steps) at.invariant.all in
-    let past = rw c.in-None-glyph.is at c.in_ok-draw_one.ensures.past in
+    let past = rw c.in_default.is at c.in_ok-glyph.ensures.past in
     let chords = sum_by-append (λ (t : TriedGlyph). ruled_chords t.body) at.yielded (t ∷ rest) in
     let chords_first = sum_by-cons (λ (t : TriedGlyph). ruled_chords t.body) t rest in
     let crossings = sum_by-append (λ (t : TriedGlyph). ruled_crossings t.body) at.yielded (t ∷ rest) in

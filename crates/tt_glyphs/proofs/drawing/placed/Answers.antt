@@ -10,16 +10,16 @@ returns-then-is_large-clause-drawn c = λ s source at by.
     let large : is_large c.args.place ≡ true = rw c.is_large.ensures at c.if-is_large.true in
     rw c.rowless.ensures (large_drawn c.args.source.now.fit s c.args.number c.args.place c.args.edged at by large)
 
-pub returns-then-place-width-clause-drawn : goal.returns-then-place-width-clause-drawn
-returns-then-place-width-clause-drawn c = λ s source at by.
+pub returns-then-place-eq0-clause-drawn : goal.returns-then-place-eq0-clause-drawn
+returns-then-place-eq0-clause-drawn c = λ s source at by.
     let small : is_large c.args.place ≡ false = rw c.is_large.ensures at c.if-is_large.false in
     rw (c.rowless.ensures, c.advance_of.ensures)
-    (blank_drawn c.args.source.now c.args.source.now.fit s c.args.number c.args.place c.args.edged source at by small c.if-place-width.true)
+    (blank_drawn c.args.source.now c.args.source.now.fit s c.args.number c.args.place c.args.edged source at by small c.if-place-eq0.true)
 
 pub bitmap_of-requires-clause-place : goal.bitmap_of-requires-clause-place
 bitmap_of-requires-clause-place c =
     let small : is_large c.args.place ≡ false = rw c.is_large.ensures at c.if-is_large.false in
-    let some : 1 ≤ c.args.place.width = omega (arith, c.if-place-width.false) in
+    let some : 1 ≤ c.args.place.width = omega (arith, c.if-place-eq0.false) in
     record {
       some = some;
       high = c.requires.place.high some;
@@ -27,6 +27,20 @@ bitmap_of-requires-clause-place c =
       height = grind (arith, nat_tests, small);
       left = c.requires.place.left;
       top = c.requires.place.top;
+    }
+
+pub returns-clause-fits : goal.returns-clause-fits
+returns-clause-fits c =
+    let small : is_large c.args.place ≡ false = rw c.is_large.ensures at c.if-is_large.false in
+    let place = c.in_ok-bitmap.ensures.place in
+    record {
+      told = record {
+        width = grind (arith, nat_tests, small);
+        height = grind (arith, nat_tests, small);
+        left = c.requires.place.left;
+        top = c.requires.place.top;
+      };
+      bitmap = (c.in_ok-bitmap.ensures.fits, c.in_ok-bitmap.ensures.fresh, rw place refl);
     }
 
 pub returns-clause-drawn : goal.returns-clause-drawn
