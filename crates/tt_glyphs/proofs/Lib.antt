@@ -3,6 +3,9 @@ pub mod BoxedRules
 pub mod Charged
 pub mod DrawnGlyphs
 pub mod EdgesMade
+pub mod Entered
 pub mod KnownNumbers
+pub mod LeastBitmaps
 pub mod Numbers
 pub mod SeenPixels
+pub mod ToldAmong

@@ -49,4 +49,4 @@ pub record IsNextOf (places : List ℕ) (ds : List DrawnGlyph) (gs : List ℕ) (
   pub number : g ≡ slice_index gs i
   pub drawn : drawn_numbers ds ≡ distinct (known_of (length places) gs)
   pub entries : es ≡ map (entry_by ds (distinct gs)) (take i gs)
-  pub end : end ≡ sum_by (bytes_among ds) (distinct (take i gs))
+  pub ends : end ≡ sum_by (bytes_among ds) (distinct (take i gs))

@@ -27,10 +27,10 @@ fn told_bytes(told: Told) -> u64
 }
 
 /// The place after the rows of a glyph by its entry.
-fn end_of(entry: GlyphEntry) -> u64
-    requires told { ToldFits entry.told }
-    requires at { entry.at < 2 ^ 36 }
-    ensures { result ≡ entry.at + told_bytes entry.told }
+fn end_of(entry: &GlyphEntry) -> u64
+    requires told { ToldFits entry.now.told }
+    requires at { entry.now.at < 2 ^ 36 }
+    ensures { result ≡ entry.now.at + told_bytes entry.now.told }
 {
     entry.at + told_bytes(entry.told)
 }
@@ -133,8 +133,9 @@ pub(crate) fn entries_of(
     let mut end: u64 = 0;
     for glyph in glyphs {
         let entry = next_entry(places, drawn, &starts, &entries, *glyph, end);
+        let next = end_of(&entry);
         entries.push(entry)?;
-        end = end.max(end_of(entry));
+        end = end.max(next);
     }
     Ok((entries, end))
 }

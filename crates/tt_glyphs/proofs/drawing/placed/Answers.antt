@@ -1,6 +1,5 @@
-use Rattle.std.proofs.Common.{◌≡◌, ◌<◌, ◌≤◌, Bool, true, false, nat_lt, arith}
+use Rattle.std.proofs.Common.{◌≡◌, ◌≤◌, true, false, refl, arith}
 use Rattle.std.proofs.lemmas.Bool.Decides.{nat_tests}
-use Rattle.tt_core.specs.Limits.{height_limit, width_limit}
 use Rattle.tt_glyphs.specs.Bitmaps.{is_large}
 use Rattle.tt_glyphs.proofs.DrawnGlyphs.{blank_drawn, inked_drawn, large_drawn}
 use Rattle.tt_glyphs.proofs.drawing.placed.Goals as goal
@@ -13,7 +12,7 @@ returns-then-is_large-clause-drawn c = λ s source at by.
 pub returns-then-place-eq0-clause-drawn : goal.returns-then-place-eq0-clause-drawn
 returns-then-place-eq0-clause-drawn c = λ s source at by.
     let small : is_large c.args.place ≡ false = rw c.is_large.ensures at c.if-is_large.false in
-    rw (c.rowless.ensures, c.advance_of.ensures)
+    rw (c.rowless-then-place-eq0.ensures, c.advance_of.ensures)
     (blank_drawn c.args.source.now c.args.source.now.fit s c.args.number c.args.place c.args.edged source at by small c.if-place-eq0.true)
 
 pub bitmap_of-requires-clause-place : goal.bitmap_of-requires-clause-place
