@@ -3,6 +3,7 @@ use Rattle.std.proofs.Common.{◌≡◌, ◌∙◌, refl, sym, ap, subst, ℕ, �
 use Rattle.std.specs.Prelude.{IfSome}
 use Rattle.std.proofs.lemmas.Int.{ints}
 use Rattle.tt_arc.proofs.PointsBox.{box_holds_edges}
+use Rattle.tt_arc.specs.Laws.{ContoursAreClosed, ContoursJoined}
 use Rattle.tt_arc.specs.declared.rule.ChordRule.{ChordRule}
 use Rattle.tt_core.specs.Faults.{Fault}
 use Rattle.tt_fit.specs.declared.dropouts.DropoutRules.{DropoutRules}
@@ -20,10 +21,10 @@ use Rattle.tt_scan_gaps.specs.Boxes.{HoldsEdges}
 use Rattle.tt_scan_gaps.specs.Crossings.{centre}
 use Rattle.tt_scan_gaps.specs.declared.extent.Extents.{Extents}
 use Rattle.tt_scan_ink.specs.Ink.{edges_ink}
+use Rattle.tt_scan_ink.specs.Laws.{DropoutsInkHoldsAll, EdgesInkHoldsAll}
 use Rattle.tt_scan_ink.specs.Least.{IsInBox, IsInk, IsLeastBox}
 use Rattle.tt_scan_ink.specs.declared.ink.GlyphInk.{GlyphInk}
 use Rattle.tt_scan_ink.proofs.Together.{joined_is}
-use Rattle.tt_strike.proofs.InkHeld.{BoxLaws}
 use Rattle.tt_glyphs.specs.Bitmaps.{bitmap_pixel, is_large, place_of}
 use Rattle.tt_glyphs.specs.declared.place.InkPlace.{InkPlace}
 use Rattle.tt_glyphs.specs.declared.told.MadeBitmap.{MadeBitmap}
@@ -32,6 +33,13 @@ use Rattle.tt_glyphs.specs.Drawn.{column_of, line_of}
 use Rattle.tt_glyphs.specs.Entries.{advance_by, glyph_told, made_within}
 use Rattle.tt_glyphs.specs.GlyphLaws.{BitmapsAreLeast, HasInkAtSides}
 use Rattle.tt_glyphs.proofs.DrawnGlyphs.{filled_here, told_is}
+
+-- the laws of the crates below about boxes and contours
+pub record BoxLaws : Type 0 where
+  pub edges : EdgesInkHoldsAll
+  pub dropouts : DropoutsInkHoldsAll
+  pub closed : ContoursAreClosed
+  pub joined : ContoursJoined
 
 -- the black pixels of an outline at pen 0, and their box
 
