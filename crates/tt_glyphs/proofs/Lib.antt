@@ -1,6 +1,11 @@
+pub mod BitmapRows
 pub mod BoxedRules
+pub mod Charged
+pub mod DrawnGlyphs
+pub mod EdgesMade
 pub mod Entered
 pub mod KnownNumbers
+pub mod LeastBitmaps
 pub mod Numbers
 pub mod Refused
 pub mod Reported

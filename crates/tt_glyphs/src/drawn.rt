@@ -141,14 +141,16 @@ pub(crate) fn bitmap_of(
     requires place { IsInked place }
     requires edged { EdgedFits edged }
     ensures place { IfOk result (λ b. b.place ≡ place) }
+    ensures fresh { IfOk result (λ b. b.crosses ≡ 0) }
     ensures rows { IfOk result (λ b. bitmap_rows b ≡ rows place.width (edged_pixel edged place) 0 (place_bytes place)) }
     ensures fits { IfOk result BitmapFits }
 {
     let dropouts = dropouts_of(alloc, place, &edged)?;
-    let EdgedOutline { tape, .. } = edged;
+    let EdgedOutline { tape: edges, .. } = edged;
+    let tape = Tape::of(alloc, frame_of(place), edges.into_list())?;
     Ok(GlyphBitmap {
         place,
-        tape: Tape::of(alloc, frame_of(place), tape.into_list())?,
+        tape,
         dropouts,
     })
 }
@@ -191,8 +193,9 @@ impl GlyphBitmap {
         ensures same { self.new ≡ record self.old { crosses = self.new.crosses } }
         ensures room { sweep.new.room ≡ sweep.old.room }
     {
-        let bytes = row_bytes(self.place.width);
-        for r in 0..self.place.height {
+        let place = self.place;
+        let bytes = row_bytes(place.width);
+        for r in 0..place.height {
             let at = bytes * r as usize;
             self.write_row(sweep, r, &mut rows[at..at + bytes]);
         }

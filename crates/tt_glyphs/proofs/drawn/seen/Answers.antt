@@ -1,4 +1,4 @@
-use Rattle.std.proofs.Common.{◌≡◌, ◌&&◌, ◌<◌, ◌^◌, ap₂, pos, ◌+ℤ◌, ◌-ℤ◌, SFits, w32, w64, rules, arith}
+use Rattle.std.proofs.Common.{◌≡◌, ◌&&◌, ◌<◌, ◌^◌, ap₂, pos, ◌-ℤ◌, SFits, w32, w64, rules, arith}
 use Rattle.std.proofs.lemmas.Int.{ints, to_z-of_z}
 use Rattle.std.specs.Ordering.{int_eq}
 use Rattle.tt_scan_dropouts.proofs.Pictured.{not_first, not_second}
@@ -24,6 +24,7 @@ returns-in_err-down-clause-none c = rw c.from_residual-in_err-down.ensures (λ k
     let place = c.args.place in
     let p = c.args.pixel in
     let top : SFits w32 place.top = omega (arith, ints, c.requires.top) in
+    let from_base : SFits w64 place.top = omega (arith, ints, c.requires.top) in
     let from : SFits w64 c.from-2.result = search rules in
     let its : SFits w64 p.row = search rules in
     let high : place.height < 2 ^ 32 = search rules in
@@ -52,6 +53,7 @@ returns-in_err-row-clause-none c = rw c.from_residual-in_err-row.ensures (λ k r
     let place = c.args.place in
     let p = c.args.pixel in
     let top : SFits w32 place.top = omega (arith, ints, c.requires.top) in
+    let from_base : SFits w64 place.top = omega (arith, ints, c.requires.top) in
     let from : SFits w64 c.from-2.result = search rules in
     let its : SFits w64 p.row = search rules in
     let down : SFits w64 c.in_ok-down.down = search rules in
@@ -68,6 +70,7 @@ returns-clause-some c = λ k r.
     let p = c.args.pixel in
     let left : SFits w32 place.left = omega (arith, ints, c.requires.left) in
     let top : SFits w32 place.top = omega (arith, ints, c.requires.top) in
+    let from_base : SFits w64 place.top = omega (arith, ints, c.requires.top) in
     let from : SFits w64 c.from.result = search rules in
     let from_top : SFits w64 c.from-2.result = search rules in
     let its_column : SFits w64 p.column = search rules in

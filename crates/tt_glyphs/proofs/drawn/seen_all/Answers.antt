@@ -1,6 +1,5 @@
-use Rattle.std.proofs.Common.{◌≡◌, ◌∙◌, ◌<◌, ◌≤◌, false, length, take, pos, arith}
+use Rattle.std.proofs.Common.{◌∙◌, ◌<◌, ◌≤◌, false, length, pos, arith}
 use Rattle.std.proofs.lemmas.List.{take_all}
-use Rattle.tt_scan_dropouts.specs.Pictures.{is_among}
 use Rattle.tt_scan_dropouts.specs.declared.pixel.Pixel.{Pixel}
 use Rattle.tt_scan_dropouts.proofs.Pictured.{one_pixel_more}
 use Rattle.tt_glyphs.specs.Drawn.{column_of, line_of}
