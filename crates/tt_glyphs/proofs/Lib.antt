@@ -1,3 +1,14 @@
-pub mod Known
+pub mod BitmapRows
+pub mod BoxedRules
+pub mod Charged
+pub mod DrawnGlyphs
+pub mod EdgesMade
+pub mod Entered
+pub mod KnownNumbers
+pub mod LeastBitmaps
 pub mod Numbers
-pub mod Ruled
+pub mod Refused
+pub mod Reported
+pub mod SeenPixels
+pub mod ToldAmong
+pub mod WorkTested

@@ -13,7 +13,7 @@ or_false : (b : Bool) → (b || false) ≡ b
 or_false true = refl
 or_false false = refl
 
-or_true : (b : Bool) → (b || true) ≡ true
+pub or_true : (b : Bool) → (b || true) ≡ true
 or_true true = refl
 or_true false = refl
 
@@ -207,18 +207,19 @@ module _ (f : ℕ → ℕ) where
   before_first g [] rest among = let same : (g == g) ≡ true = grind (arith, nat_tests) in rw same refl
   before_first g (n ∷ ns) rest among = first_by (n == g) g n ns rest refl (before_first g ns rest) among
 
+-- a fact of each number of a list, of the first and of the others
+pub later : {P : ℕ → Type 0} (n : ℕ) (ns : List ℕ) → ((m : ℕ) → is_among m (n ∷ ns) ≡ true → P m) → (m : ℕ) → is_among m ns ≡ true → P m
+later n ns all m among = all m (rw among (or_true (n == m)))
+
+pub first_of : {P : ℕ → Type 0} (n : ℕ) (ns : List ℕ) → ((m : ℕ) → is_among m (n ∷ ns) ≡ true → P m) → P n
+first_of n ns all = let same : (n == n) ≡ true = grind (arith, nat_tests) in all n (rw same refl)
+
 -- two counts of bytes that agree on a list's numbers
 module _ (f k : ℕ → ℕ) where
   agree_by : (same : Bool) (g n : ℕ) (ns : List ℕ) → (n == g) ≡ same → f n ≡ k n → bytes_before f ns g ≡ bytes_before k ns g
       → bytes_before f (n ∷ ns) g ≡ bytes_before k (n ∷ ns) g
   agree_by true g n ns eq one rest = rw eq refl
   agree_by false g n ns eq one rest = rw (eq, one, rest) refl
-
-  later : {P : ℕ → Type 0} (n : ℕ) (ns : List ℕ) → ((m : ℕ) → is_among m (n ∷ ns) ≡ true → P m) → (m : ℕ) → is_among m ns ≡ true → P m
-  later n ns all m among = all m (rw among (or_true (n == m)))
-
-  first_of : {P : ℕ → Type 0} (n : ℕ) (ns : List ℕ) → ((m : ℕ) → is_among m (n ∷ ns) ≡ true → P m) → P n
-  first_of n ns all = let same : (n == n) ≡ true = grind (arith, nat_tests) in all n (rw same refl)
 
   pub before_agree : (g : ℕ) (ns : List ℕ) → ((m : ℕ) → is_among m ns ≡ true → f m ≡ k m)
       → bytes_before f ns g ≡ bytes_before k ns g

@@ -16,7 +16,7 @@ use Rattle.tt_strike.specs.Work.{chord_limit, chords_in, crossings_allowed, is_b
 use Rattle.tt_glyphs.specs.declared.told.GlyphEntry.{GlyphEntry}
 use Rattle.tt_glyphs.specs.declared.told.Told.{Told}
 use Rattle.tt_glyphs.specs.declared.told.Told.TheVariants as told
-use Rattle.tt_glyphs.specs.Drawn.{known_of}
+use Rattle.tt_glyphs.specs.Listed.{known_of}
 use Rattle.tt_glyphs.specs.Entries.{ToldFits, known, told_bytes}
 use Rattle.tt_glyphs.specs.Requests.{GlyphJob, crossings_of_list}
 

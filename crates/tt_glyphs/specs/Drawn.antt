@@ -1,11 +1,12 @@
 -- No part of the standard: a glyph that is drawn, whose rows are made of edges and dropouts.
-use Rattle.std.specs.Prelude.{◌≡◌, ℕ, ◌+◌, ◌*◌, ◌-◌, ◌^◌, ◌<◌, ◌≤◌, Bool, ◌&&◌, ◌||◌, ◌==◌, nat_lt, if◌then◌else◌, ℤ, pos, ◌+ℤ◌, ◌-ℤ◌, unsigned_abs, List, [], ◌∷◌, length, take, filter, find, get_or, map, Option, Some, None, ⊤}
+use Rattle.std.specs.Prelude.{◌≡◌, ℕ, ◌+◌, ◌*◌, ◌-◌, ◌^◌, ◌<◌, ◌≤◌, Bool, ◌&&◌, ◌||◌, ◌==◌, nat_lt, if◌then◌else◌, ℤ, pos, ◌+ℤ◌, ◌-ℤ◌, unsigned_abs, List, [], ◌∷◌, length, take, get_or, map, Option, Some, None, ⊤}
 use Rattle.std.specs.List.{sum_by}
 use Rattle.std.specs.Ordering.{int_eq}
 use Rattle.tt_core.specs.Bits.{stride}
 use Rattle.tt_core.specs.Limits.{height_limit, width_limit}
 use Rattle.tt_fit.specs.declared.programs.Fit.{Fit}
 use Rattle.tt_fit.specs.Fitting.{Fitter}
+use Rattle.tt_picture.specs.declared.fitting.LineLimits.{LineLimits}
 use Rattle.tt_picture.specs.Pixels.{is_filled}
 use Rattle.tt_picture.specs.Rows.{rows}
 use Rattle.tt_scan.specs.Contours.{contours_at}
@@ -19,11 +20,9 @@ use Rattle.tt_glyphs.specs.Bitmaps.{place_bytes}
 use Rattle.tt_glyphs.specs.declared.drawing.DrawnGlyph.{DrawnGlyph}
 use Rattle.tt_glyphs.specs.declared.edged.EdgedOutline.{EdgedOutline}
 use Rattle.tt_glyphs.specs.declared.place.InkPlace.{InkPlace}
-use Rattle.tt_glyphs.specs.declared.told.GlyphEntry.{GlyphEntry}
 use Rattle.tt_glyphs.specs.declared.told.Told.{Told}
-use Rattle.tt_glyphs.specs.declared.told.Told.TheVariants as told
 use Rattle.tt_glyphs.specs.GlyphBitmap.{GlyphBitmap}
-use Rattle.tt_glyphs.specs.Entries.{ToldFits, bytes_before, glyph_told, told_bytes, told_rows}
+use Rattle.tt_glyphs.specs.Entries.{ToldFits, glyph_told, told_bytes, told_rows}
 
 -- a place with ink, of a bitmap that is not too large
 pub record IsInked (p : InkPlace) : Type 0 where
@@ -94,43 +93,18 @@ pub record DrawnFits (d : DrawnGlyph) : Type 0 where
   pub told : ToldFits d.told
   pub bitmap : HasBitmap d.told d.bitmap
 
-abbrev pub drawn_numbers : List DrawnGlyph → List ℕ
-drawn_numbers ds = map (λ (d : DrawnGlyph). d.number) ds
-
 -- a glyph that is drawn by its fitter
 pub record IsDrawn (how : Fit) (s : Fitter) (d : DrawnGlyph) : Type 0 where
   pub told : d.told ≡ glyph_told how s d.number
   pub rows : drawn_rows d ≡ told_rows s d.number d.told
 
+-- what is left of some limits after so many chords and crossings
+abbrev pub IsLeft : Option LineLimits → ℕ → ℕ → Option LineLimits → Type 0
+IsLeft None chords crossings rest = rest ≡ None
+IsLeft (Some l) chords crossings rest =
+    (r : LineLimits) × (rest ≡ Some r) × (l.chords ≡ r.chords + chords) × (l.crossings ≡ r.crossings + crossings)
+
 -- a fitter of this source
 pub record IsSourceOf (z : FitterSource) (s : Fitter) : Type 0 where
   pub metrics : s.metrics ≡ z.face.now.metrics
   pub ppem : s.ppem ≡ z.ppem
-
--- the numbers of a list that are below a count
-abbrev pub known_of : ℕ → List ℕ → List ℕ
-known_of count gs = filter (λ g. nat_lt g count) gs
-
-abbrev pub known_number : ℕ → ℕ → Option ℕ
-known_number count g = if nat_lt g count then Some g else None
-
--- the report of a number by some drawn glyphs
-abbrev pub told_among : List DrawnGlyph → ℕ → Told
-told_among [] g = told.Unknown
-told_among (d ∷ ds) g = if d.number == g then d.told else told_among ds g
-
--- the entry of a number by some drawn glyphs and the distinct numbers of its list
-abbrev pub entry_by : List DrawnGlyph → List ℕ → ℕ → GlyphEntry
-entry_by ds gs g = record {
-  glyph = g;
-  told = told_among ds g;
-  at = bytes_before (λ h. told_bytes (told_among ds h)) gs g;
-}
-
--- the entry of a number that is no glyph of the font: that of its first place, or a new one
-abbrev pub or_new : Option GlyphEntry → ℕ → ℕ → GlyphEntry
-or_new (Some e) g end = e
-or_new None g end = record { glyph = g; told = told.Unknown; at = end }
-
-abbrev pub unknown_entry : List GlyphEntry → ℕ → ℕ → GlyphEntry
-unknown_entry es g end = or_new (find (λ (e : GlyphEntry). e.glyph == g) es) g end

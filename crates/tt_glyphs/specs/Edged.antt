@@ -1,11 +1,12 @@
 -- No part of the standard: the edges of an outline at pen 0.
-use Rattle.std.specs.Prelude.{◌≡◌, ℕ, ◌^◌, ◌≤◌, length, IfSome}
+use Rattle.std.specs.Prelude.{◌≡◌, ℕ, ◌+◌, ◌^◌, ◌≤◌, length, IfSome}
 use Rattle.tt_fit.specs.Fitting.{Fitter, fitted_outline}
 use Rattle.tt_fit_outline.specs.Outline.{Outline}
 use Rattle.tt_fit_outline.specs.Steps.{step_of}
-use Rattle.tt_picture.specs.Shapes.{contours_of, edges_at}
+use Rattle.tt_picture.specs.Shapes.{contours_of, edges_at, filling_crossings}
 use Rattle.tt_picture.specs.Steps.{chords_of}
 use Rattle.tt_scan.specs.Contours.{AreEnds, contours_at}
+use Rattle.tt_scan_dropouts.specs.Counted.{edges_counted}
 use Rattle.tt_scan_gaps.specs.Boxes.{IsBoxOf}
 use Rattle.tt_glyphs.specs.declared.edged.EdgedOutline.{EdgedOutline}
 use Rattle.tt_glyphs.specs.declared.ruled.TriedBody.TheVariants as body
@@ -27,6 +28,17 @@ pub record IsEdged (r : RuledOutline) (e : EdgedOutline) : Type 0 where
   pub step : e.step ≡ step_of r.outline
   pub unfitted : e.unfitted ≡ r.unfitted
 
--- the edges of a glyph by its fitter
+-- the crossings of an outline's edges in a picture that holds them all, and those of the search for its dropouts
+abbrev pub edged_crossings : EdgedOutline → ℕ
+edged_crossings e = edges_counted e.tape.edges + filling_crossings e.filled e.tape.edges
+
+abbrev pub outline_crossings : RuledOutline → ℕ
+outline_crossings r =
+    edges_counted (edges_at r.rule 0 r.outline) + filling_crossings r.filled (edges_at r.rule 0 r.outline)
+
+-- the outline of a glyph by its fitter, with its rules, and the edges of that outline
+abbrev pub IsRuledBy : Fitter → ℕ → RuledOutline → Type 0
+IsRuledBy s g r = ruled_by s g (fitted_outline s g) ≡ body.Ruled r
+
 abbrev pub IsEdgedBy : Fitter → ℕ → EdgedOutline → Type 0
-IsEdgedBy s g e = (r : RuledOutline) × (ruled_by s g (fitted_outline s g) ≡ body.Ruled r) × IsEdged r e
+IsEdgedBy s g e = (r : RuledOutline) × IsRuledBy s g r × IsEdged r e

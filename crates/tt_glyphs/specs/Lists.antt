@@ -10,7 +10,8 @@ use Rattle.tt_strike.specs.Makers.{IsSetting}
 use Rattle.tt_strike.specs.Work.{line_fitter, work_left}
 use Rattle.tt_glyphs.specs.declared.ruled.TriedGlyph.{TriedGlyph}
 use Rattle.tt_glyphs.specs.declared.tried.TriedList.{TriedList}
-use Rattle.tt_glyphs.specs.Drawn.{IsSourceOf, known_of}
+use Rattle.tt_glyphs.specs.Drawn.{IsSourceOf}
+use Rattle.tt_glyphs.specs.Listed.{known_of}
 use Rattle.tt_glyphs.specs.Requests.{GlyphJob}
 use Rattle.tt_glyphs.specs.Tried.{AreTriedBy, IsRuledBody, tried_numbers}
 

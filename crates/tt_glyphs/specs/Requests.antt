@@ -15,8 +15,7 @@ use Rattle.tt_fit.specs.declared.programs.Fit.{Fit}
 use Rattle.tt_fit.specs.Fitting.{Fitter, fitted_outline}
 use Rattle.tt_fit_outline.specs.Outline.{Outline}
 use Rattle.tt_picture.specs.Distinct.{distinct}
-use Rattle.tt_picture.specs.Pixels.{Shape}
-use Rattle.tt_picture.specs.Shapes.{filling_crossings, shape_at}
+use Rattle.tt_picture.specs.Shapes.{chords_with, edges_at, filled_by, filling_crossings}
 use Rattle.tt_scan_dropouts.specs.Counted.{edges_counted}
 use Rattle.tt_strike.specs.Job.{size_tested}
 use Rattle.tt_strike.specs.Picture.{outlines_in, setting}
@@ -44,12 +43,10 @@ limits_tested gs ppem = size_tested ppem >>= λ u. count_tested gs
 abbrev pub request_tested : GlyphJob → Result (Unit {0}) JobFault
 request_tested a = limits_tested a.glyphs a.ppem
 
--- the crossings of a glyph in a picture that holds all of it; a glyph that is refused has none
-abbrev pub shape_crossings : Shape → ℕ
-shape_crossings s = edges_counted s.edges + filling_crossings s.filled s.edges
-
+-- the crossings of an outline in a picture that holds all of it; a glyph that is refused has none
 abbrev pub outline_crossings : Fitter → ℕ → Result Outline Fault → ℕ
-outline_crossings s g (Ok o) = shape_crossings (shape_at s (g, 0) o)
+outline_crossings s g (Ok o) = edges_counted (edges_at (chords_with s) 0 o)
+    + filling_crossings (filled_by s g o) (edges_at (chords_with s) 0 o)
 outline_crossings s g (Err fault) = 0
 
 unfoldable pub glyph_crossings : Fitter → ℕ → ℕ

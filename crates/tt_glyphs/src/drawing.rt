@@ -1,21 +1,22 @@
 //! Draws the distinct glyphs of a list: their edges, the places of their ink, and their reports.
 
-ghost use Rattle.std.specs.Prelude.{◌≡◌, ◌⊎◌, ℕ, ◌+◌, ◌^◌, ◌<◌, ◌≤◌, length, map, All, IfOk, IfNone, IfSome, None};
+ghost use Rattle.std.specs.Prelude.{◌≡◌, ◌⊎◌, ℕ, ◌+◌, ◌^◌, ◌<◌, ◌≤◌, true, false, length, map, All, IfOk, IfNone, IfSome, None};
 ghost use Rattle.tt_fit.specs.Fitting.{Fitter};
-ghost use Rattle.tt_glyphs.specs.Bitmaps.{place_of};
-ghost use Rattle.tt_glyphs.specs.Drawn.{DrawnFits, IsDrawn, IsSourceOf, drawn_edges, drawn_rows};
-ghost use Rattle.tt_glyphs.specs.Edged.{EdgedFits, IsEdgedBy};
+ghost use Rattle.tt_glyphs.specs.Bitmaps.{IsPlace, place_of};
+ghost use Rattle.tt_glyphs.specs.Drawn.{DrawnFits, IsDrawn, IsLeft, IsSourceOf, drawn_edges, drawn_rows};
+ghost use Rattle.tt_glyphs.specs.Edged.{EdgedFits, IsEdgedBy, IsRuledBy, edged_crossings, outline_crossings};
 ghost use Rattle.tt_glyphs.specs.Entries.{advance_of, told_bytes};
-ghost use Rattle.tt_glyphs.specs.Tried.{AreTriedBy, IsRuledBody, tried_chords, tried_crossings};
+ghost use Rattle.tt_glyphs.specs.Tried.{AreTriedBy, IsPast, IsRuled, IsRuledBody, IsWithin, ruled_chords, ruled_crossings, tried_chords, tried_crossings, tried_glyph};
 ghost use Rattle.tt_metrics.specs.Metrics.{glyphs_of};
 ghost use Rattle.tt_picture.specs.Ink.{glyph_ink};
+ghost use Rattle.tt_picture.specs.Steps.{chords_of};
 
 use crate::bitmap::GlyphBitmap;
 use crate::drawn::bitmap_of;
 use crate::edged::{EdgedOutline, edged};
 use crate::place::InkPlace;
 use crate::placing::{is_large, place_bytes, place_of};
-use crate::ruled::{TriedBody, TriedGlyph};
+use crate::ruled::{RuledOutline, TriedBody, TriedGlyph};
 use crate::told::{MadeBitmap, Told};
 use std::alloc::AllocError;
 use tt_line::advance;
@@ -73,6 +74,7 @@ fn placed(
     edged: EdgedOutline,
 ) -> Result<DrawnGlyph, AllocError>
     requires known { number < glyphs_of source.now.face.now.metrics }
+    requires place { IsPlace place }
     requires edged { EdgedFits edged }
     ensures number { IfOk result (λ d. d.number ≡ number) }
     ensures drawn { IfOk result (λ d. (s : Fitter) → IsSourceOf source.now s → place ≡ place_of (glyph_ink s number) → IsEdgedBy s number edged → IsDrawn source.now.fit s d) }
@@ -109,36 +111,89 @@ fn drawn(source: &FitterSource, number: u16, edged: EdgedOutline) -> Result<Draw
     placed(source, number, place, edged)
 }
 
+/// Charges the chords and the crossings of a glyph. False where it has more of either than is left; without limits none
+/// are counted.
+fn charge(left: &mut Option<LineLimits>, edged: &EdgedOutline) -> bool
+    requires { EdgedFits edged.now }
+    ensures left { result ≡ true → IsLeft left.old edged.now.chords (edged_crossings edged.now) left.new }
+    ensures past { result ≡ false → IsPast left.old edged.now.chords (edged_crossings edged.now) }
+{
+    let Some(limits) = *left else {
+        return true;
+    };
+    let Some(rest) = rest_of(limits, edged.chords, edged.crossings()) else {
+        return false;
+    };
+    *left = Some(rest);
+    true
+}
+
+/// A glyph that is drawn by its outline; None where it has more chords or crossings than are left. Error: memory ran
+/// out.
+fn draw_ruled(
+    source: &FitterSource,
+    number: u16,
+    ruled: RuledOutline,
+    left: &mut Option<LineLimits>,
+) -> Result<Option<DrawnGlyph>, AllocError>
+    requires known { number < glyphs_of source.now.face.now.metrics }
+    requires ruled { IsRuled ruled }
+    ensures number { IfOk result (λ o. IfSome o (λ d. d.number ≡ number)) }
+    ensures drawn { IfOk result (λ o. IfSome o (λ d. (s : Fitter) → IsSourceOf source.now s → IsRuledBy s number ruled → IsDrawn source.now.fit s d)) }
+    ensures fits { IfOk result (λ o. IfSome o DrawnFits) }
+    ensures left { IfOk result (λ o. IfSome o (λ _. IsLeft left.old (chords_of ruled.rule ruled.outline) (outline_crossings ruled) left.new)) }
+    ensures past { IfOk result (λ o. IfNone o (IsPast left.old (chords_of ruled.rule ruled.outline) (outline_crossings ruled))) }
+{
+    let edged = edged(source.alloc, ruled)?;
+    if !charge(left, &edged) {
+        return Ok(None);
+    }
+    Ok(Some(drawn(source, number, edged)?))
+}
+
+/// A glyph that is drawn or refused; None where it has more chords or crossings than are left. Error: memory ran out.
+fn draw_one(
+    source: &FitterSource,
+    tried: TriedGlyph,
+    left: &mut Option<LineLimits>,
+) -> Result<Option<DrawnGlyph>, AllocError>
+    requires known { tried.number < glyphs_of source.now.face.now.metrics }
+    requires ruled { IsRuledBody tried.body }
+    ensures number { IfOk result (λ o. IfSome o (λ d. d.number ≡ tried.number)) }
+    ensures drawn { IfOk result (λ o. IfSome o (λ d. (s : Fitter) → IsSourceOf source.now s → tried ≡ tried_glyph s tried.number → IsDrawn source.now.fit s d)) }
+    ensures fits { IfOk result (λ o. IfSome o DrawnFits) }
+    ensures left { IfOk result (λ o. IfSome o (λ _. IsLeft left.old (ruled_chords tried.body) (ruled_crossings tried.body) left.new)) }
+    ensures past { IfOk result (λ o. IfNone o (IsPast left.old (ruled_chords tried.body) (ruled_crossings tried.body))) }
+{
+    let TriedGlyph { number, body } = tried;
+    match body {
+        TriedBody::Refused(fault) => Ok(Some(rowless(number, Told::Broken(fault)))),
+        TriedBody::Ruled(ruled) => draw_ruled(source, number, ruled, left),
+    }
+}
+
 /// Distinct glyphs, drawn in order; None where they have more chords or crossings than the limits. As soon as they have
 /// more, no further edge is made. Error: memory ran out.
 pub(crate) fn draw_glyphs(
     source: &FitterSource,
     tried: Vec<TriedGlyph>,
-    limits: LineLimits,
+    limits: Option<LineLimits>,
 ) -> Result<Option<Vec<DrawnGlyph>>, AllocError>
     requires known { All (λ t. t.number < glyphs_of source.now.face.now.metrics) tried.items }
     requires ruled { All (λ t. IsRuledBody t.body) tried.items }
     ensures numbers { IfOk result (λ o. IfSome o (λ v. map (λ d. d.number) v.items ≡ map (λ t. t.number) tried.items)) }
     ensures drawn { IfOk result (λ o. IfSome o (λ v. (maker : ℕ → Fitter) → ((n : ℕ) → IsSourceOf source.now (maker n)) → AreTriedBy maker tried.items → All (λ d. IsDrawn source.now.fit (maker d.number) d) v.items)) }
     ensures fits { IfOk result (λ o. IfSome o (λ v. All DrawnFits v.items)) }
-    ensures few { IfOk result (λ o. IfSome o (λ _. (tried_chords tried.items ≤ limits.chords) × (tried_crossings tried.items ≤ limits.crossings))) }
-    ensures many { IfOk result (λ o. IfNone o ((limits.chords < tried_chords tried.items) ⊎ (limits.crossings < tried_crossings tried.items))) }
+    ensures few { IfOk result (λ o. IfSome o (λ _. IsWithin limits (tried_chords tried.items) (tried_crossings tried.items))) }
+    ensures many { IfOk result (λ o. IfNone o (IsPast limits (tried_chords tried.items) (tried_crossings tried.items))) }
 {
     let mut left = limits;
     let mut made = Vec::with_capacity(source.alloc, tried.len())?;
     for one in tried {
-        let TriedGlyph { number, body } = one;
-        match body {
-            TriedBody::Refused(fault) => made.push(rowless(number, Told::Broken(fault)))?,
-            TriedBody::Ruled(ruled) => {
-                let edged = edged(source.alloc, ruled)?;
-                let Some(rest) = rest_of(left, edged.chords, edged.crossings()) else {
-                    return Ok(None);
-                };
-                left = rest;
-                made.push(drawn(source, number, edged)?)?;
-            }
-        }
+        let Some(glyph) = draw_one(source, one, &mut left)? else {
+            return Ok(None);
+        };
+        made.push(glyph)?;
     }
     Ok(Some(made))
 }

@@ -1,6 +1,6 @@
 //! The rows of a glyph: by its edges, and then its dropouts.
 
-ghost use Rattle.std.specs.Prelude.{◌≡◌, ◌≢◌, ℕ, ◌+◌, ◌^◌, ◌≤◌, ◌<◌, true, false, pos, length, IfNone, IfOk, IfSome};
+ghost use Rattle.std.specs.Prelude.{◌≡◌, ◌≢◌, ℕ, ◌+◌, ◌^◌, ◌≤◌, ◌<◌, ◌||◌, true, false, pos, length, IfNone, IfOk, IfSome, OnOk};
 ghost use Rattle.tt_core.specs.Bits.{stride};
 ghost use Rattle.tt_glyphs.specs.Bitmaps.{place_bytes};
 ghost use Rattle.tt_glyphs.specs.Drawn.{BitmapFits, IsInked, bitmap_row, bitmap_rows, column_of, edged_pixel, frame_of, is_pixel_of, line_of};
@@ -9,7 +9,7 @@ ghost use Rattle.tt_picture.specs.Pixels.{is_filled};
 ghost use Rattle.tt_picture.specs.Rows.{rows};
 ghost use Rattle.tt_scan.specs.Contours.{contours_at};
 ghost use Rattle.tt_scan_dropouts.specs.Passes.{has_pixel};
-ghost use Rattle.tt_scan_dropouts.specs.Pictures.{AreDropouts, is_among, is_at};
+ghost use Rattle.tt_scan_dropouts.specs.Pictures.{AreDropouts, AreInColumns, is_among, is_at};
 ghost use Rattle.tt_scan_dropouts.specs.Windows.{WindowFits, has, widened};
 ghost use Rattle.tt_scan_edges.specs.Winding.{FrameFits};
 
@@ -58,12 +58,11 @@ fn seen(place: InkPlace, pixel: Pixel) -> Option<Dropout>
     ensures some { IfSome result (λ d. (c r : ℕ) → is_at c r d ≡ is_pixel_of place pixel c r) }
     ensures none { IfNone result ((c r : ℕ) → c < place.width → r < place.height → is_pixel_of place pixel c r ≡ false) }
 {
-    let column = pixel.column.checked_sub(i64::from(place.left))?;
-    let row = (i64::from(place.top) - 1).checked_sub(pixel.row)?;
-    Some(Dropout {
-        row: one_of(row, place.height)?,
-        column: one_of(column, place.width)?,
-    })
+    let across = pixel.column.checked_sub(i64::from(place.left))?;
+    let down = (i64::from(place.top) - 1).checked_sub(pixel.row)?;
+    let column = one_of(across, place.width)?;
+    let row = one_of(down, place.height)?;
+    Some(Dropout { row, column })
 }
 
 /// A number, if it is one of the `count` numbers from 0 on; else None.
@@ -78,6 +77,20 @@ fn one_of(n: i64, count: u32) -> Option<u32>
     }
 }
 
+/// Adds a pixel of a glyph to the dropouts of its rows, if the rows have the pixel. Error: memory ran out.
+fn push_seen(found: &mut Vec<Dropout>, place: InkPlace, pixel: Pixel) -> Result<(), AllocError>
+    requires place { IsInked place }
+    requires found { AreInColumns place.width found.old.items }
+    ensures added { OnOk result ((c r : ℕ) → c < place.width → r < place.height → is_among found.new.items c r
+        ≡ (is_among found.old.items c r || is_pixel_of place pixel c r)) }
+    ensures within { OnOk result (AreInColumns place.width found.new.items) }
+{
+    if let Some(dropout) = seen(place, pixel) {
+        found.push(dropout)?;
+    }
+    Ok(())
+}
+
 /// Some pixels of a glyph as dropouts of its rows, in order of their rows. Error: memory ran out.
 fn seen_all(alloc: Global, place: InkPlace, pixels: &[Pixel]) -> Result<Vec<Dropout>, AllocError>
     requires { IsInked place }
@@ -86,9 +99,7 @@ fn seen_all(alloc: Global, place: InkPlace, pixels: &[Pixel]) -> Result<Vec<Drop
 {
     let mut found = Vec::new(alloc);
     for pixel in pixels {
-        if let Some(dropout) = seen(place, *pixel) {
-            found.push(dropout)?;
-        }
+        push_seen(&mut found, place, *pixel)?;
     }
     sort_by_rows(&mut found);
     Ok(found)
@@ -130,14 +141,16 @@ pub(crate) fn bitmap_of(
     requires place { IsInked place }
     requires edged { EdgedFits edged }
     ensures place { IfOk result (λ b. b.place ≡ place) }
+    ensures fresh { IfOk result (λ b. b.crosses ≡ 0) }
     ensures rows { IfOk result (λ b. bitmap_rows b ≡ rows place.width (edged_pixel edged place) 0 (place_bytes place)) }
     ensures fits { IfOk result BitmapFits }
 {
     let dropouts = dropouts_of(alloc, place, &edged)?;
-    let EdgedOutline { tape, .. } = edged;
+    let EdgedOutline { tape: edges, .. } = edged;
+    let tape = Tape::of(alloc, frame_of(place), edges.into_list())?;
     Ok(GlyphBitmap {
         place,
-        tape: Tape::of(alloc, frame_of(place), tape.into_list())?,
+        tape,
         dropouts,
     })
 }
@@ -180,8 +193,9 @@ impl GlyphBitmap {
         ensures same { self.new ≡ record self.old { crosses = self.new.crosses } }
         ensures room { sweep.new.room ≡ sweep.old.room }
     {
-        let bytes = row_bytes(self.place.width);
-        for r in 0..self.place.height {
+        let place = self.place;
+        let bytes = row_bytes(place.width);
+        for r in 0..place.height {
             let at = bytes * r as usize;
             self.write_row(sweep, r, &mut rows[at..at + bytes]);
         }

@@ -54,8 +54,9 @@ pub(crate) fn edged(alloc: Global, ruled: RuledOutline) -> Result<EdgedOutline, 
     } = ruled;
     let made = edges_of(alloc, &outline, rule, filled)?;
     let OutlineEdges { list, ends, chords } = made;
+    let tape = Tape::of(alloc, NO_FRAME, list)?;
     Ok(EdgedOutline {
-        tape: Tape::of(alloc, NO_FRAME, list)?,
+        tape,
         ends,
         filled,
         chords,

@@ -1,9 +1,10 @@
 //! The entries of a list, by its distinct glyphs.
 
-ghost use Rattle.std.specs.Prelude.{◌≡◌, ◌⊎◌, ℕ, ◌+◌, ◌<◌, ◌≤◌, ◌^◌, ◌==◌, find, length, map, slice_index, take, All, IfOk, IfNone, IfSome};
+ghost use Rattle.std.specs.Prelude.{◌≡◌, ◌⊎◌, ℕ, ◌+◌, ◌<◌, ◌≤◌, ◌^◌, ◌==◌, find, List, length, map, slice_index, take, All, IfOk, IfNone, IfSome};
 ghost use Rattle.std.specs.List.{sum_by};
 ghost use Rattle.tt_core.specs.Limits.{text_limit};
-ghost use Rattle.tt_glyphs.specs.Drawn.{DrawnFits, entry_by, known_of, unknown_entry};
+ghost use Rattle.tt_glyphs.specs.Drawn.{DrawnFits};
+ghost use Rattle.tt_glyphs.specs.Listed.{IsNextOf, drawn_numbers, entry_by, known_of, unknown_entry};
 ghost use Rattle.tt_glyphs.specs.Entries.{ToldFits, told_bytes};
 ghost use Rattle.tt_picture.specs.Distinct.{distinct};
 ghost use Rattle.tt_picture.specs.Glyphs.{ArePlaces};
@@ -26,10 +27,10 @@ fn told_bytes(told: Told) -> u64
 }
 
 /// The place after the rows of a glyph by its entry.
-fn end_of(entry: GlyphEntry) -> u64
-    requires told { ToldFits entry.told }
-    requires at { entry.at < 2 ^ 36 }
-    ensures { result ≡ entry.at + told_bytes entry.told }
+fn end_of(entry: &GlyphEntry) -> u64
+    requires told { ToldFits entry.now.told }
+    requires at { entry.now.at < 2 ^ 36 }
+    ensures { result ≡ entry.now.at + told_bytes entry.now.told }
 {
     entry.at + told_bytes(entry.told)
 }
@@ -88,6 +89,30 @@ fn unknown_entry(entries: &[GlyphEntry], glyph: u32, end: u64) -> GlyphEntry
     }
 }
 
+/// The entry of a number: that of the glyph of the font, or of a number that is none. The entries so far end at `end`.
+fn next_entry(
+    places: &[u16],
+    drawn: &[DrawnGlyph],
+    starts: &[u64],
+    entries: &[GlyphEntry],
+    glyph: u32,
+    end: u64,
+) -> GlyphEntry
+    requires places { ArePlaces places.now (drawn_numbers drawn.now) }
+    requires count { length starts.now ≡ length drawn.now }
+    requires starts { (i : ℕ) → i < length drawn.now → slice_index starts.now i ≡ sum_by (λ d. told_bytes d.told) (take i drawn.now) }
+    ensures { (gs : List ℕ) (i : ℕ) → IsNextOf places.now drawn.now gs i entries.now glyph end → result ≡ entry_by drawn.now (distinct gs) glyph }
+{
+    match place_in(places, glyph) {
+        Some(i) => GlyphEntry {
+            glyph,
+            told: drawn[i].told,
+            at: starts[i],
+        },
+        None => unknown_entry(entries, glyph, end),
+    }
+}
+
 /// The entries of a list, and the bytes of all rows. Error: memory ran out.
 pub(crate) fn entries_of(
     alloc: Global,
@@ -96,8 +121,8 @@ pub(crate) fn entries_of(
     drawn: &[DrawnGlyph],
 ) -> Result<(Vec<GlyphEntry>, u64), AllocError>
     requires few { length glyphs.now ≤ text_limit }
-    requires distinct { map (λ d. d.number) drawn.now ≡ distinct (known_of (length places.now) glyphs.now) }
-    requires places { ArePlaces places.now (map (λ d. d.number) drawn.now) }
+    requires distinct { drawn_numbers drawn.now ≡ distinct (known_of (length places.now) glyphs.now) }
+    requires places { ArePlaces places.now (drawn_numbers drawn.now) }
     requires fits { All DrawnFits drawn.now }
     ensures entries { IfOk result (λ e. e.0.items ≡ map (entry_by drawn.now (distinct glyphs.now)) glyphs.now) }
     ensures wanted { IfOk result (λ e. e.1 ≡ sum_by (λ d. told_bytes d.told) drawn.now) }
@@ -107,16 +132,10 @@ pub(crate) fn entries_of(
     let mut entries = Vec::with_capacity(alloc, glyphs.len())?;
     let mut end: u64 = 0;
     for glyph in glyphs {
-        let entry = match place_in(places, *glyph) {
-            Some(i) => GlyphEntry {
-                glyph: *glyph,
-                told: drawn[i].told,
-                at: starts[i],
-            },
-            None => unknown_entry(&entries, *glyph, end),
-        };
-        end = end.max(end_of(entry));
+        let entry = next_entry(places, drawn, &starts, &entries, *glyph, end);
+        let next = end_of(&entry);
         entries.push(entry)?;
+        end = end.max(next);
     }
     Ok((entries, end))
 }

@@ -1,7 +1,7 @@
 //! The numbers of a list that are glyphs of the font.
 
 ghost use Rattle.std.specs.Prelude.{◌≡◌, ◌<◌, ◌≤◌, length, map, All, IfOk};
-ghost use Rattle.tt_glyphs.specs.Drawn.{known_number, known_of};
+ghost use Rattle.tt_glyphs.specs.Listed.{known_number, known_of};
 
 use std::alloc::{AllocError, Global};
 

@@ -7,7 +7,8 @@ ghost use Rattle.tt_core.specs.Outcomes.{GivesUnless, IfTold, draw_font_fault, d
 ghost use Rattle.tt_face.specs.Faces.{Face};
 ghost use Rattle.tt_fit.specs.Fitting.{Fitter};
 ghost use Rattle.tt_glyphs.specs.Defects.{AreSound, EntryFits, IsListDefect, IsListRefusal, TellGlyphDefects};
-ghost use Rattle.tt_glyphs.specs.Drawn.{DrawnFits, IsDrawn, IsSourceOf, drawn_edges, drawn_numbers, drawn_rows, entry_by, known_of};
+ghost use Rattle.tt_glyphs.specs.Drawn.{DrawnFits, IsDrawn, IsSourceOf, drawn_edges, drawn_rows};
+ghost use Rattle.tt_glyphs.specs.Listed.{drawn_numbers, entry_by, known_of};
 ghost use Rattle.tt_glyphs.specs.Entries.{told_bytes};
 ghost use Rattle.tt_glyphs.specs.Lists.{IsTriedList};
 ghost use Rattle.tt_glyphs.specs.Requests.{GlyphJob, bitmaps_outcome, bitmaps_tested, job_for, sound_outcome};

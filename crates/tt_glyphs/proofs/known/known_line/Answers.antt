@@ -1,7 +1,7 @@
 use Rattle.std.proofs.Common.{◌∙◌, sym, ℕ, ◌<◌, map, arith}
 use Rattle.std.proofs.lemmas.List.{append-nil, length_push}
 use Rattle.std.proofs.lemmas.List.Elements.{All-push}
-use Rattle.tt_glyphs.proofs.Known.{below_count, known_all, known_more, known_same}
+use Rattle.tt_glyphs.proofs.KnownNumbers.{below_count, known_all, known_more, known_same}
 use Rattle.tt_glyphs.proofs.known.known_line.Goals.{in-Some+in_ok-push, in_default}
 use Rattle.tt_glyphs.proofs.known.known_line.Goals as goal
 

@@ -1,5 +1,5 @@
 use Rattle.std.proofs.Common.{◌≡◌, ℕ, ◌<◌, ◌≤◌, ◌++◌, drop, length, map, All}
-use Rattle.tt_glyphs.specs.Drawn.{known_of}
+use Rattle.tt_glyphs.specs.Listed.{known_of}
 use Rattle.tt_glyphs.proofs.known.known_line.Given as goal
 
 -- the known numbers so far, and those of the remaining numbers, are those of all

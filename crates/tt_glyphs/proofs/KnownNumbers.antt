@@ -2,7 +2,7 @@
 use Rattle.std.proofs.Common.{◌≡◌, ◌∙◌, refl, sym, ap, ℕ, ◌+◌, ◌<◌, ◌≤◌, nat_lt, Bool, true, false, List, [], ◌∷◌, ◌++◌, length, drop, map, slice_index, append_assoc, Some, None, arith}
 use Rattle.std.proofs.lemmas.Bool.Decides.{nat_tests}
 use Rattle.std.proofs.lemmas.List.{at_drop_all, at_drop_more, map-append}
-use Rattle.tt_glyphs.specs.Drawn.{known_number, known_of}
+use Rattle.tt_glyphs.specs.Listed.{known_number, known_of}
 
 some_is : {n g : ℕ} → Some n ≡ Some g → n ≡ g
 some_is is = cc

@@ -1,0 +1,118 @@
+-- The rows of a glyph's ink, by its edges and its dropouts, and one row more at a time.
+use Rattle.std.proofs.Common.{◌≡◌, ◌∙◌, refl, sym, ap, ℕ, ◌+◌, ◌*◌, ◌^◌, ◌<◌, ◌≤◌, Bool, true, false, ◌&&◌, nat_lt, ℤ, pos, ◌+ℤ◌, ◌-ℤ◌, ◌<ℤ◌, unsigned_abs, List, ◌++◌, length, take, drop, slice_index, zero-add, arith, length-drop, length-take-le}
+use Rattle.std.proofs.lemmas.Bool.Decides.{nat_tests}
+use Rattle.std.proofs.lemmas.Int.{ints}
+use Rattle.std.proofs.lemmas.Nat.{mul-le}
+use Rattle.std.proofs.lemmas.Slice.{take-put_mid}
+use Rattle.tt_core.specs.Bits.{bit, stride}
+use Rattle.tt_core.specs.Limits.{height_limit, width_limit}
+use Rattle.tt_picture.specs.Pictures.{Image}
+use Rattle.tt_picture.specs.Rows.{rows}
+use Rattle.tt_picture.proofs.Alike.{AreAlike, image_alike}
+use Rattle.tt_picture.proofs.Bands.{band_is}
+use Rattle.tt_picture.proofs.RowBytes.{length-rows, rows_more}
+use Rattle.tt_scan_edges.specs.declared.edge.Edge.{Edge}
+use Rattle.tt_scan_edges.specs.declared.mark.Span.{Span}
+use Rattle.tt_scan_edges.specs.Marks.{covers}
+use Rattle.tt_scan_edges.specs.Winding.{column_x, is_black, row_y}
+use Rattle.tt_scan_gaps.specs.Crossings.{centre}
+use Rattle.tt_glyphs.specs.Bitmaps.{place_bytes}
+use Rattle.tt_glyphs.specs.declared.place.InkPlace.{InkPlace}
+use Rattle.tt_glyphs.specs.Drawn.{BitmapFits, bitmap_row, column_of, drawn_pixel, frame_of, line_of}
+use Rattle.tt_glyphs.specs.GlyphBitmap.{GlyphBitmap}
+use borrow.Rule.Slice.PartMut.{put_mid, same_len_mid}
+
+-- rows with the same pixels are the same
+pub same_rows : (p : InkPlace) (a b : ℕ → ℕ → Bool) → AreAlike p.width p.height a b
+    → rows p.width a 0 (place_bytes p) ≡ rows p.width b 0 (place_bytes p)
+same_rows p a b same = ap (λ (i : Image). i.rows) (image_alike (frame_of p) a b same)
+
+-- the columns that edges blacken in a row
+
+guarded : (inside a b : Bool) → (inside ≡ true → a ≡ b) → (inside && a) ≡ (inside && b)
+guarded true a b same = same refl
+guarded false a b same = refl
+
+column_centre : (left : ℤ) (k : ℕ) → column_x 0 (pos k -ℤ (pos 0 -ℤ left)) ≡ centre (left +ℤ pos k)
+column_centre left k = omega (arith, ints)
+
+row_centre : (p : InkPlace) (r : ℕ) → row_y (frame_of p) (pos r) ≡ centre (line_of p r)
+row_centre p r = omega (arith, ints)
+
+pub edges_shown : (p : InkPlace) (es : List Edge) (ss : List Span) (r k : ℕ) → unsigned_abs p.left < 2 ^ 18
+    → p.width ≤ width_limit
+    → ((c : ℤ) → c <ℤ pos (2 ^ 63) → covers ss c ≡ is_black es (column_x 0 c) (row_y (frame_of p) (pos r)))
+    → (nat_lt k p.width && covers ss (pos k -ℤ (pos 0 -ℤ p.left)))
+    ≡ (nat_lt k p.width && is_black es (centre (column_of p k)) (centre (line_of p r)))
+edges_shown p es ss r k near wide black =
+    guarded (nat_lt k p.width) _ _ (λ inside.
+    let below : k < p.width = grind (arith, nat_tests, inside) in
+    let column : ℤ = pos k -ℤ (pos 0 -ℤ p.left) in
+    black column (omega (arith, ints, below, near, wide))
+    ∙ ap (λ x. is_black es x (row_y (frame_of p) (pos r))) (column_centre p.left k)
+    ∙ ap (is_black es (centre (column_of p k))) (row_centre p r))
+
+-- bytes are a row if their bits are its pixels
+pub row_is : (b : GlyphBitmap) (r : ℕ) (row : List ℕ) → length row ≡ stride b.place.width
+    → ((i : ℕ) → i < length row → slice_index row i < 256)
+    → ((k : ℕ) → bit row k ≡ (nat_lt k b.place.width && drawn_pixel b k r)) → row ≡ bitmap_row b r
+row_is b r row long bytes bits =
+    let w = b.place.width in
+    let n = stride w in
+    let one : n * 1 ≡ n = omega arith in
+    let whole : length row ≡ n * 1 = rw one long in
+    let made : row ≡ rows w (drawn_pixel b) (n * r) (n * 1) = band_is w r 1 (drawn_pixel b) row whole bytes
+    (λ i c below inside.
+    let first : i ≡ 0 = omega (arith, below) in
+    let at : 8 * (n * 0) + c ≡ c = omega arith in
+    let here : r + 0 ≡ r = omega arith in
+    rw first (rw (at, here) (bits c))) in
+    rw one at made
+
+-- a row fits into the bytes of all rows
+pub row_within : (p : InkPlace) (r : ℕ) → r < p.height → stride p.width * r + stride p.width ≤ place_bytes p
+row_within p r below =
+    let ends : stride p.width * (r + 1) ≤ stride p.width * p.height =
+    mul-le (stride p.width) (r + 1) (stride p.width) p.height (omega arith) (omega (arith, below)) in
+    omega (arith, ends)
+
+-- the rows so far, and one more
+pub one_row_more : (b : GlyphBitmap) (r k : ℕ) (old row : List ℕ) → stride b.place.width * r ≤ length old
+    → take (stride b.place.width * r) old ≡ rows b.place.width (drawn_pixel b) 0 (stride b.place.width * r)
+    → row ≡ bitmap_row b r
+    → take (stride b.place.width * (r + 1)) (put_mid (stride b.place.width * r) k old row)
+    ≡ rows b.place.width (drawn_pixel b) 0 (stride b.place.width * (r + 1))
+one_row_more b r k old row within so_far is =
+    let w = b.place.width in
+    let n = stride w in
+    let long : length row ≡ n = ap length is ∙ length-rows w (drawn_pixel b) (n * r) n in
+    let next : n * (r + 1) ≡ n * r + n = omega arith in
+    let joined : rows w (drawn_pixel b) 0 (n * r + n) ≡ rows w (drawn_pixel b) 0 (n * r) ++ rows w (drawn_pixel b) (n * r) n =
+    rw zero-add at (rows_more w (drawn_pixel b) 0 (n * r) n) in
+    take-put_mid (n * r) k old row (n * (r + 1)) (omega (arith, next, long)) within
+    ∙ rw (so_far, is) (sym joined) ∙ ap (rows w (drawn_pixel b) 0) (sym next)
+
+pub len_kept : (b : GlyphBitmap) (r k : ℕ) (old row : List ℕ) → stride b.place.width * r + stride b.place.width ≤ length old
+    → k ≡ stride b.place.width → row ≡ bitmap_row b r → length (put_mid (stride b.place.width * r) k old row) ≡ length old
+len_kept b r k old row within whole is =
+    let n = stride b.place.width in
+    let long : length row ≡ n = ap length is ∙ length-rows b.place.width (drawn_pixel b) (n * r) n in
+    let cut : length (take k (drop (n * r) old)) ≡ k =
+    length-take-le k (drop (n * r) old) (omega (arith, length-drop (n * r) old, whole, within)) in
+    same_len_mid (n * r) k old row (omega (arith, cut, whole, long))
+
+-- the crossings so far fit a count of them
+pub crosses_fit : (r h n crosses : ℕ) → r < h → h ≤ height_limit → n ≤ 2 ^ 19 → crosses ≤ r * n → crosses + n ≤ 2 ^ 63
+crosses_fit r h n crosses below high few so_far =
+    let most : r * n ≤ height_limit * 2 ^ 19 = mul-le r n height_limit (2 ^ 19) (omega (arith, below, high)) few in
+    omega (arith, most, few, so_far)
+
+pub crosses_more : (r n old new : ℕ) → old ≤ r * n → new ≤ old + n → new ≤ (r + 1) * n
+crosses_more r n old new so_far more = omega (arith, so_far, more)
+
+pub no_row_more : (b : GlyphBitmap) (bytes : List ℕ) → take (stride b.place.width * 0) bytes ≡ rows b.place.width (drawn_pixel b) 0 (stride b.place.width * 0)
+no_row_more b bytes = let none : stride b.place.width * 0 ≡ 0 = omega arith in rw none refl
+
+-- a bitmap keeps its facts where its crossings are counted
+pub fits_with : (b : GlyphBitmap) (n : ℕ) → BitmapFits b → BitmapFits (record b { crosses = n })
+fits_with b n fits = record { place = fits.place; frame = fits.frame; few = fits.few; dropouts = fits.dropouts }
