@@ -6,7 +6,10 @@ pub mod EdgesMade
 pub mod Entered
 pub mod KnownNumbers
 pub mod LeastBitmaps
+pub mod LineBitmaps
+pub mod ListLaws
 pub mod Numbers
+pub mod RoomLaws
 pub mod Refused
 pub mod Reported
 pub mod SeenPixels
