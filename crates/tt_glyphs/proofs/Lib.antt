@@ -8,6 +8,7 @@ pub mod KnownNumbers
 pub mod LeastBitmaps
 pub mod LineBitmaps
 pub mod ListLaws
+pub mod MadeLines
 pub mod Numbers
 pub mod RoomLaws
 pub mod Refused

@@ -1,5 +1,5 @@
 -- The black pixels of a line's picture are those of its glyphs' bitmaps at the pens of the line.
-use Rattle.std.proofs.Common.{◌≡◌, ◌∙◌, refl, sym, ap, ap₂, ℕ, ◌+◌, Bool, true, false, ◌&&◌, ◌||◌, ℤ, pos, ◌+ℤ◌, ◌-ℤ◌, int_le, int_lt, List, [], ◌∷◌, map, Option, None, Some, Result, Ok, Err, arith}
+use Rattle.std.proofs.Common.{◌≡◌, ◌∙◌, refl, sym, ap, ap₂, ℕ, ◌+◌, Bool, true, false, ◌&&◌, ◌||◌, ℤ, pos, ◌+ℤ◌, ◌-ℤ◌, ◌≤ℤ◌, ◌<ℤ◌, int_le, int_lt, List, [], ◌∷◌, map, Option, None, Some, Result, Ok, Err, arith}
 use Rattle.std.proofs.lemmas.Int.{ints}
 use Rattle.tt_core.specs.Chains.{came-through}
 use Rattle.tt_core.specs.Faults.{Fault}
@@ -32,16 +32,22 @@ use Rattle.tt_glyphs.proofs.LeastBitmaps.{BoxLaws, ink_of, outline_black, outlin
 
 -- a black pixel lies in the place of the ink
 
+pub le_true : (a b : ℤ) → a ≤ℤ b → int_le a b ≡ true
+le_true a b is = grind (arith, ints, is)
+
+pub lt_true : (a b : ℤ) → a <ℤ b → int_lt a b ≡ true
+lt_true a b is = grind (arith, ints, is)
+
 within_place : (black : ℤ → ℤ → Bool) (x : Option GlyphInk) (k j : ℤ) → IsInk black x → black k j ≡ true
     → lies_in (place_of x) k j ≡ true
 within_place black None k j ink dark = let white = sym (ink k j) ∙ dark in absurd cc
 within_place black (Some b) k j ink dark =
     let p = place_of (Some b) in
     let inside = ink.within k j dark in
-    let left : int_le p.left k ≡ true = grind (arith, ints, inside.left) in
-    let right : int_lt k (p.left +ℤ pos p.width) ≡ true = grind (arith, ints, inside.left, inside.right) in
-    let bottom : int_le (p.top -ℤ pos p.height) j ≡ true = grind (arith, ints, inside.bottom, inside.top) in
-    let top : int_lt j p.top ≡ true = grind (arith, ints, inside.top) in
+    let left = le_true p.left k inside.left in
+    let right = lt_true k (p.left +ℤ pos p.width) (omega (arith, ints, inside.left, inside.right)) in
+    let bottom = le_true (p.top -ℤ pos p.height) j (omega (arith, ints, inside.bottom, inside.top)) in
+    let top = lt_true j p.top (omega (arith, ints, inside.top)) in
     rw (left, right, bottom, top) refl
 
 both_by : (inside dark : Bool) → (dark ≡ true → inside ≡ true) → (inside && dark) ≡ dark
@@ -86,14 +92,14 @@ entry_is laws f s g o c r made =
 
 -- all glyphs of a line
 
-record First (maker : ℕ → Fitter) (g : ℕ × ℕ) (gs : List (ℕ × ℕ)) (shapes : List Shape) : Type 0 where
-  outline : Outline
-  rest : List Shape
-  fitted : fitted_outline (maker g.0) g.0 ≡ Ok outline
-  others : each (glyph_shape maker) gs ≡ Ok rest
-  all : shapes ≡ shape_at (maker g.0) g outline ∷ rest
+pub record First (maker : ℕ → Fitter) (g : ℕ × ℕ) (gs : List (ℕ × ℕ)) (shapes : List Shape) : Type 0 where
+  pub outline : Outline
+  pub rest : List Shape
+  pub fitted : fitted_outline (maker g.0) g.0 ≡ Ok outline
+  pub others : each (glyph_shape maker) gs ≡ Ok rest
+  pub all : shapes ≡ shape_at (maker g.0) g outline ∷ rest
 
-first_of : (maker : ℕ → Fitter) (g : ℕ × ℕ) (gs : List (ℕ × ℕ)) (shapes : List Shape)
+pub first_of : (maker : ℕ → Fitter) (g : ℕ × ℕ) (gs : List (ℕ × ℕ)) (shapes : List Shape)
     → each (glyph_shape maker) (g ∷ gs) ≡ Ok shapes → First maker g gs shapes
 first_of maker g gs shapes made =
     let one = came-through (glyph_shape maker g) _ shapes made in
@@ -139,12 +145,12 @@ same_setting r s t one other = cc
 ok_same : {X E : Type 0} (x y : X) → ◌≡◌ {A = Result X E} (Ok x) (Ok y) → x ≡ y
 ok_same x y is = cc
 
-record IsOfShapes (s : Fitter) (line : Placement) (margin : ℕ) (i : Image) : Type 0 where
-  shapes : List Shape
-  made : shapes_in s line ≡ Ok shapes
-  pictured : i ≡ picture (frame_of line margin) shapes
+pub record IsOfShapes (s : Fitter) (line : Placement) (margin : ℕ) (i : Image) : Type 0 where
+  pub shapes : List Shape
+  pub made : shapes_in s line ≡ Ok shapes
+  pub pictured : i ≡ picture (frame_of line margin) shapes
 
-of_shapes : (face : Face) (a : Job) (line : Placement) (s : Fitter) (i : Image) → setting_in face a ≡ Ok s
+pub of_shapes : (face : Face) (a : Job) (line : Placement) (s : Fitter) (i : Image) → setting_in face a ≡ Ok s
     → drawn face a line ≡ Ok i → IsOfShapes s line a.margin i
 unfolding drawn
 of_shapes face a line s i made is =

@@ -1,6 +1,6 @@
 //! Lemmas about the definitions, for all glyphs and lists.
 
-ghost use Rattle.tt_glyphs.specs.GlyphLaws.{BitmapsAreLeast, LinesAreBitmaps, OrderChangesNothing, RepeatsAreEqual, RoomIsExact, RowsAreCounted};
+ghost use Rattle.tt_glyphs.specs.GlyphLaws.{BitmapsAreLeast, LinesAreBitmaps, LinesAreMade, OrderChangesNothing, RepeatsAreEqual, RoomIsExact, RowsAreCounted};
 
 /// Lemma: each side of a bitmap that is made has a black pixel.
 pub fn bitmaps_are_least()
@@ -11,9 +11,11 @@ pub fn bitmaps_are_least()
     tt_arc::laws::contours_closed();
 }
 
-/// Lemma: the picture of a line has the black pixels of its glyphs' bitmaps at their pens, and no others.
+/// Lemma: the picture of a line has the black pixels of its glyphs' bitmaps at their pens, and no others. Where the ink of
+/// all glyphs lies in the picture, all bitmaps are made.
 pub fn lines_are_bitmaps()
-    ensures { LinesAreBitmaps }
+    ensures pixels { LinesAreBitmaps }
+    ensures made { LinesAreMade }
 {
     tt_scan_ink::laws::holds_all_ink();
     tt_arc::laws::contours_joined();
