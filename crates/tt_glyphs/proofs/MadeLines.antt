@@ -55,7 +55,6 @@ small_by f pen None within wide high = refl
 small_by f pen (Some b) within wide high =
     let p = place_of (Some b) in
     let across = unsigned_abs (b.right -ℤ b.left) in
-    let up = unsigned_abs (b.top -ℤ b.bottom) in
     let first_left = le_true p.left p.left (omega (arith, ints)) in
     let first_right = lt_true p.left (p.left +ℤ pos p.width) (omega (arith, ints)) in
     let last_left = le_true p.left (p.left +ℤ pos across) (omega (arith, ints)) in

@@ -1,4 +1,4 @@
--- Laws of the definitions of bitmaps, as statements.
+-- Laws of the definitions of bitmaps, as statements; src/laws.rt proves them.
 use Rattle.std.specs.Prelude.{◌≡◌, ℕ, ◌+◌, ◌*◌, ◌<◌, ◌≤◌, Bool, true, false, ◌&&◌, ◌||◌, nat_lt, ◌==◌, ℤ, pos, ◌+ℤ◌, ◌-ℤ◌, ◌≤ℤ◌, ◌<ℤ◌, int_le, int_lt, List, [], ◌∷◌, length, get_or, map, sum, All, codes, chars, ◌↔◌, ◌⊎◌, Option, Some, None, Result, Ok, Err}
 use Rattle.tt_core.specs.Directory.{HasNo}
 use Rattle.tt_core.specs.Faults.{Fault}
