@@ -9,9 +9,15 @@ pub mod ListBegun
 pub mod ListDrawn
 pub mod ListOutcomes
 pub mod LeastBitmaps
+pub mod LineBitmaps
+pub mod ListFacts
+pub mod ListLaws
+pub mod MadeLines
 pub mod Numbers
+pub mod RoomLaws
 pub mod Refused
 pub mod Reported
+pub mod RowsWritten
 pub mod SeenPixels
 pub mod ToldAmong
 pub mod WorkTested

@@ -90,8 +90,8 @@ fn most_edges(drawn: &[DrawnGlyph]) -> usize
     ensures { All (λ d. drawn_edges d ≤ result) drawn.now }
 {
     let mut most = 0;
-    for glyph in drawn {
-        most = most.max(glyph.edges());
+    for i in 0..drawn.len() {
+        most = most.max(drawn[i].edges());
     }
     most
 }
