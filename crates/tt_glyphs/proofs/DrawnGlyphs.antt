@@ -174,7 +174,7 @@ no_rows s g e o p of none =
 
 -- a glyph whose outline is refused
 
-told_refused : (how : Fit) (s : Fitter) (g : ℕ) (fault : Fault) → fitted_outline s g ≡ Err fault → glyph_told how s g ≡ told.Broken fault
+pub told_refused : (how : Fit) (s : Fitter) (g : ℕ) (fault : Fault) → fitted_outline s g ≡ Err fault → glyph_told how s g ≡ told.Broken fault
 unfolding glyph_told
 told_refused how s g fault is = rw is refl
 

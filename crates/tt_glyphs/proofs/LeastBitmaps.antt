@@ -43,7 +43,7 @@ pub record BoxLaws : Type 0 where
 
 -- the black pixels of an outline at pen 0, and their box
 
-abbrev outline_black : Option BoxedRules → ChordRule → Outline → ℤ → ℤ → Bool
+abbrev pub outline_black : Option BoxedRules → ChordRule → Outline → ℤ → ℤ → Bool
 outline_black filled way o c j =
     is_black (edges_at way 0 o) (centre c) (centre j) || is_filled filled (contours_of way 0 o) c j
 
@@ -68,7 +68,7 @@ held_by : (b : Extents) (rules : Option DropoutRules) (es : List Edge) → Holds
 held_by b None es held = tt
 held_by b (Some rules) es held = held
 
-outline_held : BoxLaws → (s : Fitter) (g : ℕ) (o : Outline)
+pub outline_held : BoxLaws → (s : Fitter) (g : ℕ) (o : Outline)
     → IsInk (outline_black (filled_by s g o) (chords_with s) o)
     (ink_by (edges_at (chords_with s) 0 o) (contours_of (chords_with s) 0 o) (filled_by s g o))
 outline_held laws s g o =
@@ -148,7 +148,7 @@ place_by advance unfitted p m false is made =
     let own : told.Made (made_at advance unfitted p) ≡ told.Made m = rw is at made in
     sym (ap (λ (m : MadeBitmap). m.place) (same_made (made_at advance unfitted p) m own))
 
-ink_of : (s : Fitter) (g : ℕ) (o : Outline) → fitted_outline s g ≡ Ok o
+pub ink_of : (s : Fitter) (g : ℕ) (o : Outline) → fitted_outline s g ≡ Ok o
     → glyph_ink s g ≡ ink_by (edges_at (chords_with s) 0 o) (contours_of (chords_with s) 0 o) (filled_by s g o)
 unfolding glyph_ink
 ink_of s g o made = rw made refl

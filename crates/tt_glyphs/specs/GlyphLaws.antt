@@ -1,14 +1,16 @@
--- Laws of the definitions of bitmaps, as statements.
-use Rattle.std.specs.Prelude.{◌≡◌, ℕ, ◌+◌, ◌*◌, ◌<◌, ◌≤◌, Bool, true, false, ◌&&◌, ◌||◌, nat_lt, ◌==◌, ℤ, pos, ◌+ℤ◌, ◌-ℤ◌, ◌≤ℤ◌, ◌<ℤ◌, int_le, int_lt, List, [], ◌∷◌, length, map, sum, All, codes, chars, ◌↔◌, ◌⊎◌, Option, Some, None, Result, Ok, Err}
+-- Laws of the definitions of bitmaps, as statements; src/laws.rt proves them.
+use Rattle.std.specs.Prelude.{◌≡◌, ℕ, ◌+◌, ◌*◌, ◌<◌, ◌≤◌, Bool, true, false, ◌&&◌, ◌||◌, nat_lt, ◌==◌, ℤ, pos, ◌+ℤ◌, ◌-ℤ◌, ◌≤ℤ◌, ◌<ℤ◌, int_le, int_lt, List, [], ◌∷◌, length, get_or, map, sum, All, codes, chars, ◌↔◌, ◌⊎◌, Option, Some, None, Result, Ok, Err}
 use Rattle.tt_core.specs.Directory.{HasNo}
 use Rattle.tt_core.specs.Faults.{Fault}
+use Rattle.tt_core.specs.Limits.{height_limit, width_limit}
 use Rattle.tt_face.specs.Faces.{Face}
 use Rattle.tt_fit.specs.declared.programs.Fit.{Fit}
 use Rattle.tt_fit.specs.Fitting.{Fitter, fitted_outline}
 use Rattle.tt_fit_outline.specs.Outline.{Outline}
 use Rattle.tt_line.specs.Layout.{Placement}
+use Rattle.tt_metrics.specs.Metrics.{glyphs_of}
 use Rattle.tt_picture.specs.Distinct.{distinct}
-use Rattle.tt_picture.specs.Ink.{glyph_ink}
+use Rattle.tt_picture.specs.Ink.{column_of, glyph_ink, row_of}
 use Rattle.tt_picture.specs.Pictures.{Image, image}
 use Rattle.tt_picture.specs.Shapes.{shape_at}
 use Rattle.tt_scan_dropouts.specs.Pictures.{column_at, line_at}
@@ -59,20 +61,22 @@ IsMade (told.Broken fault) = ⊥
 IsMade told.Large = ⊥
 IsMade (told.Made m) = Unit {0}
 
--- and each of these glyphs is made, if the ink of all lies in the picture
+-- and each of these glyphs is made, if the ink of all lies in the picture, which is no larger than a picture may be
 abbrev pub IsWithin : Frame → ℕ → InkPlace → Type 0
-IsWithin f pen p = (c r : ℤ) → lies_in p c r ≡ true
-    → (pos 0 ≤ℤ (c +ℤ pos (pen + f.margin))) × ((c +ℤ pos (pen + f.margin)) <ℤ pos f.width)
+IsWithin f pen p = (c j : ℤ) → lies_in p c j ≡ true
+    → (pos 0 ≤ℤ column_of f pen c) × (column_of f pen c <ℤ pos f.width) × (pos 0 ≤ℤ row_of f j) × (row_of f j <ℤ pos f.height)
 
 abbrev pub LinesAreMade : Type 0
 LinesAreMade = (face : Face) (a : Job) (line : Placement) (s : Fitter) (i : Image)
     → laid_out face a ≡ Ok line → setting_in face a ≡ Ok s → drawn face a line ≡ Ok i
+    → line.width ≤ width_limit → line.height ≤ height_limit → All (λ g. g.0 < glyphs_of s.metrics) line.glyphs
     → All (λ g. IsWithin (frame_of line a.margin) g.1 (place_of (glyph_ink (line_fitter s (map (λ g. g.0) line.glyphs) g.0) g.0))) line.glyphs
     → All (λ g. IsMade (number_told a.fit s (map (λ g. g.0) line.glyphs) g.0)) line.glyphs
 
--- a number that repeats has one entry
+-- equal numbers have equal entries
 abbrev pub RepeatsAreEqual : Type 0
-RepeatsAreEqual = (how : Fit) (s : Fitter) (gs : List ℕ) → entries how s gs ≡ map (entry_of how s gs) gs
+RepeatsAreEqual = (how : Fit) (s : Fitter) (gs : List ℕ) (i j : ℕ) (e : GlyphEntry) → i < length gs → j < length gs
+    → get_or gs i 0 ≡ get_or gs j 0 → get_or (entries how s gs) i e ≡ get_or (entries how s gs) j e
 
 -- where work is not bounded, the report of a number does not depend on the other numbers
 abbrev pub OrderChangesNothing : Type 0

@@ -13,6 +13,7 @@
 //! tried.rt     a list whose distinct glyphs are tried
 //! entries.rt   an entry for each place of the list
 //! list.rt      the bitmaps of a list
+//! laws.rt      lemmas about the definitions, for all glyphs
 //! ```
 #![tactic(auto)]
 
@@ -22,6 +23,7 @@ mod drawn;
 mod edged;
 mod entries;
 mod known;
+pub mod laws;
 mod list;
 mod outlines;
 mod place;

@@ -90,8 +90,8 @@ fn most_edges(drawn: &[DrawnGlyph]) -> usize
     ensures { All (λ d. drawn_edges d ≤ result) drawn.now }
 {
     let mut most = 0;
-    for glyph in drawn {
-        most = most.max(glyph.edges());
+    for i in 0..drawn.len() {
+        most = most.max(drawn[i].edges());
     }
     most
 }
@@ -146,7 +146,6 @@ impl BitmapList {
     /// refused glyph has its fault in its entry, and the others are made. Errors, the first of: SizeRange, TextLong;
     /// those of loca and glyf, of the programs; WorkLarge of the points, of the chords, of the crossings. Memory may
     /// come at any allocation.
-    #[tactic(auto, unfolding(crate::specs::Requests::bitmaps_outcome, crate::specs::Requests::bitmaps_in, crate::specs::Requests::request_begun))]
     pub fn make(
         alloc: Global,
         face: &Face,
@@ -170,7 +169,6 @@ impl BitmapList {
 
     /// As `make`, but the first glyph of the list whose outline is refused refuses the list. Its fault comes after
     /// WorkLarge of the points, and before WorkLarge of the chords.
-    #[tactic(auto, unfolding(crate::specs::Requests::sound_outcome, crate::specs::Requests::sound_in, crate::specs::Requests::request_begun))]
     pub fn make_sound(
         alloc: Global,
         face: &Face,

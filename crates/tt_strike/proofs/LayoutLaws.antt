@@ -1,22 +1,18 @@
 -- Laws of layouts.
-use Rattle.std.proofs.Common.{◌≡◌, ◌∙◌, refl, sym, ap, ℕ, zero, suc, ◌+◌, ◌*◌, ◌<◌, Bool, true, false, ◌||◌, ◌==◌, if◌then◌else◌, int_lt, nat_lt, ℤ, pos, ◌+ℤ◌, unsigned_abs, List, [], ◌∷◌, chars, get_or, length, map, sum, take, Result, Ok, Err, arith}
-use Rattle.std.proofs.lemmas.Bool.Decides.{nat_tests}
-use Rattle.std.proofs.lemmas.Int.{ints}
+use Rattle.std.proofs.Common.{◌≡◌, ◌∙◌, refl, sym, ap, ℕ, zero, suc, ◌+◌, ◌*◌, ◌<◌, Bool, true, false, List, [], ◌∷◌, chars, length, map, sum, take, Result, Ok, arith}
 use Rattle.std.proofs.lemmas.List.{length-map}
 use Rattle.std.proofs.lemmas.List.Sums.{sum_by-cons}
 use Rattle.tt_cmap.specs.declared.units.TextUnit.{TextUnit}
 use Rattle.tt_cmap.specs.Maps.{glyph_of_unit, units_by}
 use Rattle.tt_core.specs.Chains.{came-through}
 use Rattle.tt_face.specs.Faces.{Face}
-use Rattle.tt_line.specs.declared.extent.PictureExtent.{PictureExtent}
 use Rattle.tt_line.specs.declared.measured.LineSize.{LineSize}
-use Rattle.tt_line.specs.Layout.{advance_in_pixels, pen_at, text_glyphs, within_limits}
-use Rattle.tt_line.specs.Sizes.{extent_by_sum, line_size, size_of}
-use Rattle.tt_metrics.specs.Metrics.{Metrics}
+use Rattle.tt_line.specs.Layout.{advance_in_pixels, pen_at, text_glyphs}
+use Rattle.tt_line.specs.Sizes.{line_size}
 use Rattle.tt_strike.specs.declared.layouts.Layout.{Layout}
 use Rattle.tt_strike.specs.declared.layouts.Pen.{Pen}
 use Rattle.tt_strike.specs.Job.{Job, tested}
-use Rattle.tt_strike.specs.LayoutLaws.{AddUp, LayoutsAddUp, NoGlyphIsRead, advances_in, pen_in}
+use Rattle.tt_strike.specs.LayoutLaws.{LayoutsAddUp, NoGlyphIsRead, advances_in, pen_in}
 use Rattle.tt_strike.specs.Layouts.{layout_by, layout_outcome, pens_at, pens_outcome, size_by, size_outcome, step_with, steps_outcome, with_steps}
 use Rattle.tt_strike.specs.Picture.{outlines_tested, setting_in}
 use Rattle.tt_strike.specs.Refusals.{Refused, as_font, as_job}

@@ -15,20 +15,16 @@ use Rattle.tt_line.specs.Layout.{Placement, advance_in_pixels, depth_of, extent_
 use Rattle.tt_line.specs.Sizes.{extent_by_sum, line_size, size_of}
 use Rattle.tt_metrics.specs.Metrics.{Metrics}
 use Rattle.tt_picture.specs.Steps.{glyph_step}
-use Rattle.tt_strike.specs.declared.layouts.Layout.{Layout}
-use Rattle.tt_strike.specs.declared.layouts.Pen.{Pen}
-use Rattle.tt_strike.specs.declared.measuring.CharacterMeasure.{CharacterMeasure}
 use Rattle.tt_strike.specs.Job.{Job, tested}
-use Rattle.tt_strike.specs.LayoutLaws.{LaidOutAsMeasured, IsMeasured, IsMeasuredPen, advances_in, pen_in}
-use Rattle.tt_strike.specs.Layouts.{layout_by, layout_outcome, pens_at, pens_outcome, size_outcome, step_with, steps_outcome, with_steps}
-use Rattle.tt_strike.specs.Measures.{Measure, line_step, measured, measured_line}
+use Rattle.tt_strike.specs.LayoutLaws.{LaidOutAsMeasured, IsMeasuredPen, pen_in}
+use Rattle.tt_strike.specs.Layouts.{layout_by, layout_outcome, pens_at, size_outcome, step_with, steps_outcome, with_steps}
+use Rattle.tt_strike.specs.Measures.{Measure, line_step, measured}
 use Rattle.tt_strike.specs.Picture.{laid_out, outlines_tested, placed_by_steps, setting_in, steps_in, text_placed}
 use Rattle.tt_strike.specs.Refusals.{Refused, as_font, as_job}
 use Rattle.tt_strike.specs.StepLaws.{character_in}
 use Rattle.tt_strike.specs.Work.{is_bounded, line_fitter}
 use Rattle.tt_strike.proofs.LayoutLaws.{all_advances, glyphs_of_steps, ok_same, pens_add, units_as_steps}
-use Rattle.tt_strike.proofs.TextSteps.{pens_are, size_is, steps_by_advances, steps_of}
-use Rattle.tt_strike.proofs.MeasuredSteps as steps
+use Rattle.tt_strike.proofs.TextSteps.{pens_are, size_is, steps_of}
 use Rattle.tt_strike.proofs.MeasuredSteps.{advance_steps, character_is, is_measured, own_steps, same_setting}
 use Rattle.tt_strike.proofs.Placed.{of-font, of-job}
 

@@ -1,4 +1,3 @@
-use Rattle.std.proofs.Common.{◌∙◌, ap, Ok}
 use Rattle.tt_strike.specs.Strikes.{SizedFace, job_by}
 use Rattle.tt_strike.proofs.TextSteps.{steps_by_advances}
 use Rattle.tt_strike.proofs.sized.SizedFace.steps.Goals as goal
