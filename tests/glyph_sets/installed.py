@@ -70,14 +70,14 @@ def bitmaps_of(asked, path, font, numbers, job):
 
 
 def bitmaps(asked):
-    """ASCII in each of these fonts, at four of the sizes, with each way to fit: the entries, beside lines of `draw`."""
+    """ASCII in each of these fonts, at six of the sizes, with each way to fit: the entries, beside lines of `draw`."""
     chosen = fonts(asked)
     if len(chosen) < FONTS:
         common.skip("bitmaps", f"only {len(chosen)} fonts with all of ASCII are installed")
     jobs = []
     for at, path in enumerate(chosen):
         font, numbers = path.read_bytes(), [it for it, _ in mapped(asked, path, ASCII).values()]
-        jobs += [(path, font, numbers, (size, fit)) for fit in FITS for size in SIZES[at % 6 :: 6]]
+        jobs += [(path, font, numbers, (size, fit)) for fit in FITS for size in SIZES[at % 4 :: 4]]
     for (path, _, _, job), why in zip(jobs, asked.each(lambda it: bitmaps_of(asked, *it), jobs)):
         common.verdict(f"{path.name} at {job[0]}, {job[1]}", why)
 
