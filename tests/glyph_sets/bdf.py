@@ -73,7 +73,7 @@ def properties(font, face, size, glyphs, codes, rise, depth):
 
 
 def written(font, face, size, characters, rise, depth):
-    """Returns the file of a font's characters: in order of each the code point, the glyph, the advance in font units."""
+    """Returns the file of characters in order, of each the code point, the glyph and the advance in font units."""
     codes, glyphs, _ = zip(*characters)
     name, lines = properties(font, face, size, glyphs, codes, rise, depth)
     em = struct.unpack_from(">H", model.table_of(font, face, b"head")[1], 18)[0]

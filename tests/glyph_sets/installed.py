@@ -76,8 +76,8 @@ def bitmaps(asked):
         common.skip("bitmaps", f"only {len(chosen)} fonts with all of ASCII are installed")
     jobs = []
     for at, path in enumerate(chosen):
-        numbers = [it for it, _ in mapped(asked, path, ASCII).values()]
-        jobs += [(path, path.read_bytes(), numbers, (size, fit)) for fit in FITS for size in SIZES[at % 6 :: 6]]
+        font, numbers = path.read_bytes(), [it for it, _ in mapped(asked, path, ASCII).values()]
+        jobs += [(path, font, numbers, (size, fit)) for fit in FITS for size in SIZES[at % 6 :: 6]]
     for (path, _, _, job), why in zip(jobs, asked.each(lambda it: bitmaps_of(asked, *it), jobs)):
         common.verdict(f"{path.name} at {job[0]}, {job[1]}", why)
 
