@@ -117,8 +117,9 @@ def read_by(asked, reader, file, characters):
         if shutil.which("bdftopcf"):
             made = file.with_suffix(".pcf")
             why = readers.made_by(["bdftopcf", "-o", made, file])
-            got = why or {code: drawn.trimmed(it) for code, it in reader.characters(made).items()}
-            # That program passes over what has more than 16 bits.
+            # That program makes cells of some fonts, and passes over characters of more than 16 bits.
+            got = {} if why else reader.characters(made)
+            got = {code: drawn.trimmed(it) for code, it in got.items()} if isinstance(got, dict) else got
             found["bdftopcf"] = why or differing({code: it for code, it in wanted.items() if code < 65536}, got)
     advances = {it.advance for it in wanted.values()}
     if len(advances) == 1 and not readers.lacks_psf():

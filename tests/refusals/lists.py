@@ -9,6 +9,7 @@ ENUMS = "crates/tt_core/src/fault.rt"
 DEFINED = "crates/tt_core/specs/Faults.antt"
 OF_CALLS, OF_CALLS_DEFINED = "crates/tt_c_calls/src/answer.rt", "crates/tt_c_calls/specs/Answers.antt"
 MESSAGES, MESSAGES_DEFINED = "crates/tt_c_calls/src/messages.rt", "crates/tt_c_calls/specs/Messages.antt"
+OF_ENTRIES, OF_ENTRIES_DEFINED = "crates/tt_c_calls/src/glyph_bitmaps.rt", "crates/tt_c_calls/specs/Bitmaps.antt"
 BOUNDS, BOUNDS_DEFINED = "crates/tt_fit/src/fallback.rt", "crates/tt_fit/specs/Fallback.antt"
 HEADER, PAGE = "include/tt_render.h", "tt_render.1"
 CASES = "tests/rows/cases.txt"
@@ -16,7 +17,7 @@ CASES = "tests/rows/cases.txt"
 # The files that a list is in. Where one moves, its name here moves with it.
 FILES = (
     *(ENUMS, DEFINED, OF_CALLS, OF_CALLS_DEFINED, MESSAGES, MESSAGES_DEFINED, BOUNDS, BOUNDS_DEFINED),
-    *(HEADER, PAGE, CASES, "README.md"),
+    *(OF_ENTRIES, OF_ENTRIES_DEFINED, HEADER, PAGE, CASES, "README.md"),
 )
 # This refusal names the table that is not there.
 OF_ANY_TABLE = "NoTable"
@@ -26,23 +27,26 @@ OF_C_ALONE = ("UnknownFit", "LineEnds")
 ELSEWHERE = {
     "WorkLarge": "tests/work/hostile_fonts.py",
     **dict.fromkeys(OF_C_ALONE, "tests/c/edges.c"),
+    "GlyphNumber": "tests/glyph_sets/cases.txt",
     **dict.fromkeys(("CollectionVersion", "NoFace"), "tests/faces/rows.txt"),
 }
 
 
 @dataclass
 class Known:
-    """The refusals by name: of the font's tables, of its programs, of a request, and of calls of C alone."""
+    """The refusals by name: of the font's tables, of its programs, of a request, of calls of C alone, and of entries of
+    lists of glyphs."""
 
     font: dict = field(default_factory=dict)
     programs: dict = field(default_factory=dict)
     request: dict = field(default_factory=dict)
     calls: dict = field(default_factory=dict)
+    entries: dict = field(default_factory=dict)
     enums: dict = field(default_factory=dict)
 
     def all(self):
         """Returns the numbers of all of them."""
-        return {**self.font, **self.programs, **self.request, **self.calls}
+        return {**self.font, **self.programs, **self.request, **self.calls, **self.entries}
 
     def of_files(self):
         """Returns the numbers of those of a font."""
@@ -69,7 +73,14 @@ def table(read):
     for it, number in re.findall(r"CallFault::(\w+) => plain\(\d, (\d+)\)", read(OF_CALLS)):
         if int(number) and it not in known.request:
             known.calls[it] = int(number)
+    for it, number in re.findall(r"^const (\w+): u32 = (\d+);$", read(OF_ENTRIES), re.M):
+        known.entries[titled(it)] = int(number)
     return known
+
+
+def titled(name):
+    """Returns the name of a refusal by one whose words have lines between them."""
+    return "".join(it.title() for it in name.split("_"))
 
 
 def compared(found, wanted, order=False):
@@ -94,7 +105,8 @@ def pairs(pattern, text):
 def numbers_of_enums(known):
     """No number and no name may stand twice, in whichever enum."""
     seen, faults = {}, []
-    for name, number in [it for numbers in [*known.enums.values(), known.calls] for it in numbers.items()]:
+    every = [*known.enums.values(), known.calls, known.entries]
+    for name, number in [it for numbers in every for it in numbers.items()]:
         if number in seen:
             faults.append(f"{number} is {seen[number]} and {name}")
         seen[number] = name
@@ -153,19 +165,21 @@ def page(known, read):
 
 
 def messages_of_calls(known, read, code):
-    """The messages of what the calls alone refuse, in code or in the definition."""
+    """The messages of what the calls and entries alone refuse, in code or in the definition."""
     case = r"^ +(\d+) => String\S+\(alloc, " if code else r"if a\.number == (\d+) then codes "
     own = re.findall(case + r"\"tt_render: (\d+) (\w+)\"", read(MESSAGES if code else MESSAGES_DEFINED), re.M)
     faults = [f"at {at} it has the text {number} {name}" for at, number, name in own if at != number]
-    return faults + compared([(int(number), name) for _, number, name in own], known.calls)
+    return faults + compared([(int(number), name) for _, number, name in own], {**known.calls, **known.entries})
 
 
 def answers_defined(known, read):
-    """The numbers that answers of calls have in the definition."""
+    """The numbers that answers of calls, and entries, have in the definition."""
     found = pairs(r"^call_answer call\.(?P<name>\w+) = plain_answer 2 (?P<n>\d+)$", read(OF_CALLS_DEFINED))
     refusals = re.findall(r"^refusal_answer (\w+) = plain_answer 2 (\d+)$", read(OF_CALLS_DEFINED), re.M)
-    other = [(int(number), "".join(it.title() for it in name.split("_"))) for name, number in refusals]
-    return compared(found, known.calls) + compared(other, known.calls)
+    other = [(int(number), titled(name)) for name, number in refusals]
+    unknown = found_in({"": read(OF_ENTRIES_DEFINED)}, r"^bitmap_by e told\.Unknown = empty_bitmap e 2 (\d+)$")
+    faults = [] if unknown == {str(it) for it in known.entries.values()} else [f"an entry has {unknown}"]
+    return faults + compared(found, known.calls) + compared(other, known.calls)
 
 
 def bounds_defined(read):
@@ -242,7 +256,7 @@ def cases(known, read, machine):
     rows, faults = read(CASES), []
     for name, number in known.all().items():
         where = ELSEWHERE.get(name, CASES)
-        pattern = rf"\b{number}\b" if where.endswith(".c") else rf"\b{number} {name}\b"
+        pattern = rf"\b{number}\b" if where.endswith((".c", "glyph_sets/cases.txt")) else rf"\b{number} {name}\b"
         if not re.search(pattern, rows if where == CASES else read(where)):
             faults.append(f"{where} has no case of {number} {name}")
     for name, number in known.programs.items():
