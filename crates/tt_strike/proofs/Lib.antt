@@ -28,5 +28,7 @@ mod StepLaws
 mod MeasuredSteps
 mod UnhintedSteps
 mod FacesAlike
-mod Layouts
+mod TextSteps
 mod Pens
+mod LayoutLaws
+mod MeasuredLayouts

@@ -20,18 +20,18 @@ use Rattle.tt_strike.proofs.Placed.{of-font, of-job, placed_by_advances, placed_
 ok_same : {X E : Type 0} (x y : X) → ◌≡◌ {A = Result X E} (Ok x) (Ok y) → x ≡ y
 ok_same x y is = cc
 
-same_setting : {E : Type 0} (r : Result Fitter E) (s t : Fitter) → r ≡ Ok s → r ≡ Ok t → s ≡ t
+pub same_setting : {E : Type 0} (r : Result Fitter E) (s t : Fitter) → r ≡ Ok s → r ≡ Ok t → s ≡ t
 same_setting r s t one other = cc
 
 -- a measured text: its line, the fitter of its font, and its measure by both
-record IsMeasured (face : Face) (a : Job) (m : Measure) : Type 0 where
-  line : Placement
-  fitter : Fitter
-  placed : text_placed face a ≡ Ok line
-  opened : setting_in face a ≡ Ok fitter
-  is : m ≡ measure_by (line_step face a fitter line) a.margin (line_ink fitter line) line
+pub record IsMeasured (face : Face) (a : Job) (m : Measure) : Type 0 where
+  pub line : Placement
+  pub fitter : Fitter
+  pub placed : text_placed face a ≡ Ok line
+  pub opened : setting_in face a ≡ Ok fitter
+  pub is : m ≡ measure_by (line_step face a fitter line) a.margin (line_ink fitter line) line
 
-is_measured : (face : Face) (a : Job) (m : Measure) → measured face a ≡ Ok m → IsMeasured face a m
+pub is_measured : (face : Face) (a : Job) (m : Measure) → measured face a ≡ Ok m → IsMeasured face a m
 unfolding measured measured_line
 is_measured face a m was =
     let by_line = came-through (laid_out face a) _ m was in
@@ -48,12 +48,12 @@ is_measured face a m was =
     }
 
 -- each glyph's own step, where work is bounded; else its advance
-own_steps : (bounded : Bool) (own advance : ℕ → ℕ) (gs : List ℕ) → bounded ≡ true
+pub own_steps : (bounded : Bool) (own advance : ℕ → ℕ) (gs : List ℕ) → bounded ≡ true
     → map (λ g. if bounded then own g else advance g) gs ≡ map own gs
 own_steps true own advance gs is = refl
 own_steps false own advance gs is = absurd cc
 
-advance_steps : (bounded : Bool) (own advance : ℕ → ℕ) (gs : List ℕ) → bounded ≡ false
+pub advance_steps : (bounded : Bool) (own advance : ℕ → ℕ) (gs : List ℕ) → bounded ≡ false
     → map (λ g. if bounded then own g else advance g) gs ≡ map advance gs
 advance_steps true own advance gs is = absurd cc
 advance_steps false own advance gs is = refl
@@ -101,7 +101,7 @@ pens_by lead false face a s l is there placed =
     (of-job (placement face.metrics face.cmap a.text a.ppem a.margin) l (rw (placed_by_advances face a is) at placed))
 
 -- a character of a measure is that of the line's glyph
-character_is : (face : Face) (a : Job) (m : Measure) (is : IsMeasured face a m) (i : ℕ) → i < length m.characters
+pub character_is : (face : Face) (a : Job) (m : Measure) (is : IsMeasured face a m) (i : ℕ) → i < length m.characters
     → (i < length is.line.glyphs) × (character_in m i ≡ character_at (line_step face a is.fitter is.line)
     (frame_of is.line a.margin) (line_ink is.fitter is.line) (get_or is.line.glyphs i (0, 0)))
 character_is face a m is i below =

@@ -1,7 +1,7 @@
 -- No part of the standard: the layout of a text without its ink (profile): the size of its picture, its base line, its
 -- distance from a next line, and where each unit's pen stands. Only with best, whose steps are those of fitted glyphs,
 -- are glyphs made.
-use Rattle.std.specs.Prelude.{◌≡◌, refl, ℕ, ◌+◌, ℤ, pos, ◌+ℤ◌, Bool, true, false, List, [], ◌∷◌, length, chars, map, sum, if◌then◌else◌, None, Result, Ok, ⊤}
+use Rattle.std.specs.Prelude.{◌≡◌, refl, ℕ, ◌+◌, pos, ◌+ℤ◌, Bool, true, false, List, [], ◌∷◌, length, chars, map, sum, if◌then◌else◌, None, Result, Ok, ⊤}
 use Rattle.tt_cmap.specs.declared.units.TextUnit.{TextUnit}
 use Rattle.tt_cmap.specs.Maps.{units_by}
 use Rattle.tt_core.specs.declared.draw_fault.DrawFault.{DrawFault}

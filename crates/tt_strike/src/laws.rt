@@ -2,6 +2,7 @@
 
 ghost use Rattle.tt_face.specs.Files.{FacesAreWhole, ReadFacesAreWhole};
 ghost use Rattle.tt_strike.specs.Laws.{DrawnFontsAreWhole, OthersListNothing, MarginMoves, MeasuredAsDrawn, GlyphsByThemselves, UnfilledAreEdges, OthersFillNone, OthersDrawByEdges, GrownRefusals, SidesMove, SidesRefuseNothing};
+ghost use Rattle.tt_strike.specs.LayoutLaws.{LaidOutAsMeasured, LayoutsAddUp, NoGlyphIsRead};
 ghost use Rattle.tt_strike.specs.ReadingLaws.{FacesDrawAlike};
 ghost use Rattle.tt_strike.specs.StepLaws.{BestLaysBySteps, EqualGlyphsStepAlike, GlyphsBeforeExtent, MeasureTellsSteps, MovedOutlinesAgree, OthersLayByAdvances};
 ghost use Rattle.tt_strike.specs.UnhintedSteps.{UnhintedStepsAreNear};
@@ -124,4 +125,18 @@ pub fn grown_cuts_none()
     tt_scan_ink::laws::holds_all_ink();
     tt_arc::laws::contours_joined();
     tt_arc::laws::contours_closed();
+}
+
+/// Lemma: the advances of a text's pens and two margins make the width of its layout. Each pen is the margin and the
+/// advances before. With every fit but `Fit::Best` a layout depends on the metrics and the character map alone.
+pub fn layouts_add_up()
+    ensures sums { LayoutsAddUp }
+    ensures unread { NoGlyphIsRead }
+{}
+
+/// Lemma: a text that is measured has a layout and pens, which tell the same. A layout may exist without a measure.
+pub fn laid_out_as_measured()
+    ensures { LaidOutAsMeasured }
+{
+    tt_line::laws::steps_lead();
 }

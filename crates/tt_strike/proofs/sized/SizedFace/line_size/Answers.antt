@@ -3,8 +3,9 @@ use Rattle.std.proofs.lemmas.Result.{err_from_is_err_and}
 use Rattle.tt_face.specs.Faces.{Face}
 use Rattle.tt_fit.specs.declared.programs.Fit.{Fit}
 use Rattle.tt_strike.specs.Job.{Job, tested}
+use Rattle.tt_strike.specs.Layouts.{steps_outcome}
 use Rattle.tt_strike.specs.Strikes.{SizedFace, job_by}
-use Rattle.tt_strike.proofs.Layouts.{no_defect_of_job, size_by_its_advances, size_is, steps_stop_size, test_stops_size}
+use Rattle.tt_strike.proofs.TextSteps.{no_defect_of_job, size_by_its_advances, size_is, steps_stop_size, test_stops_size}
 use Rattle.tt_strike.proofs.Stopped.{tested_at}
 use Rattle.tt_strike.proofs.sized.SizedFace.line_size.Goals.{In_ok-test_text}
 use Rattle.tt_strike.proofs.sized.SizedFace.line_size.Goals as goal
@@ -32,7 +33,8 @@ returns-in_err-test_margin-clause-exact c =
 pub returns-in_err-test_margin-clause-defects : goal.returns-in_err-test_margin-clause-defects
 returns-in_err-test_margin-clause-defects c =
     let p = err_from_is_err_and c.from_residual.result c.from_residual.ensures.1 in
-    rw (p.1, p.2) (no_defect_of_job _ _ c.in_err-test_margin.field-0.0)
+    no_defect_of_job c.args.self.now c.args.text.now c.args.margin c.from_residual.result
+    c.in_err-test_margin.field-0.0 (rw (p.1, p.2) refl)
 
 pub returns-in_err-test_text-clause-exact : goal.returns-in_err-test_text-clause-exact
 returns-in_err-test_text-clause-exact c =
@@ -45,7 +47,8 @@ returns-in_err-test_text-clause-exact c =
 pub returns-in_err-test_text-clause-defects : goal.returns-in_err-test_text-clause-defects
 returns-in_err-test_text-clause-defects c =
     let p = err_from_is_err_and c.from_residual-in_err-test_text.result c.from_residual-in_err-test_text.ensures.1 in
-    rw (p.1, p.2) (no_defect_of_job _ _ c.in_err-test_text.field-0.0)
+    no_defect_of_job c.args.self.now c.args.text.now c.args.margin c.from_residual-in_err-test_text.result
+    c.in_err-test_text.field-0.0 (rw (p.1, p.2) refl)
 
 pub made_steps-requires-clause-bounded : goal.made_steps-requires-clause-bounded
 made_steps-requires-clause-bounded c =
@@ -53,6 +56,7 @@ made_steps-requires-clause-bounded c =
     rw (← c.self.view_is) bounded
 
 pub returns-in_err-steps-clause-exact : goal.returns-in_err-steps-clause-exact
+unfolding steps_outcome
 returns-in_err-steps-clause-exact c =
     let z : SizedFace = record { face = c.self.inside.source.face.now; ppem = c.self.inside.source.ppem; fit = c.self.inside.source.fit } in
     let a = job_by z c.args.text.now c.args.margin in
@@ -73,6 +77,7 @@ returns-in_err-steps-clause-defects c =
     rw (p.1, p.2, ← c.self.view_is, bounded) (rw (← c.self.view_is) at c.in_err-steps.ensures.defects)
 
 pub returns-in_err-size_by_steps-clause-exact : goal.returns-in_err-size_by_steps-clause-exact
+unfolding steps_outcome
 returns-in_err-size_by_steps-clause-exact c =
     let z : SizedFace = record { face = c.self.inside.source.face.now; ppem = c.self.inside.source.ppem; fit = c.self.inside.source.fit } in
     let a = job_by z c.args.text.now c.args.margin in
@@ -85,9 +90,11 @@ returns-in_err-size_by_steps-clause-exact c =
 pub returns-in_err-size_by_steps-clause-defects : goal.returns-in_err-size_by_steps-clause-defects
 returns-in_err-size_by_steps-clause-defects c =
     let p = err_from_is_err_and c.from_residual-in_err-size_by_steps.result c.from_residual-in_err-size_by_steps.ensures.1 in
-    rw (p.1, p.2) (no_defect_of_job _ _ c.in_err-size_by_steps.field-0.0)
+    no_defect_of_job c.args.self.now c.args.text.now c.args.margin c.from_residual-in_err-size_by_steps.result
+    c.in_err-size_by_steps.field-0.0 (rw (p.1, p.2) refl)
 
 pub returns-then-is_bounded-clause-exact : goal.returns-then-is_bounded-clause-exact
+unfolding steps_outcome
 returns-then-is_bounded-clause-exact c =
     let z : SizedFace = record { face = c.self.inside.source.face.now; ppem = c.self.inside.source.ppem; fit = c.self.inside.source.fit } in
     let a = job_by z c.args.text.now c.args.margin in
@@ -114,7 +121,8 @@ returns-in_err-size_by_advances-clause-exact c =
 pub returns-in_err-size_by_advances-clause-defects : goal.returns-in_err-size_by_advances-clause-defects
 returns-in_err-size_by_advances-clause-defects c =
     let p = err_from_is_err_and c.from_residual-in_err-size_by_advances.result c.from_residual-in_err-size_by_advances.ensures.1 in
-    rw (p.1, p.2) (no_defect_of_job _ _ c.in_err-size_by_advances.field-0.0)
+    no_defect_of_job c.args.self.now c.args.text.now c.args.margin c.from_residual-in_err-size_by_advances.result
+    c.in_err-size_by_advances.field-0.0 (rw (p.1, p.2) refl)
 
 pub returns-clause-exact : goal.returns-clause-exact
 returns-clause-exact c =

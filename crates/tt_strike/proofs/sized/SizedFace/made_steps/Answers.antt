@@ -8,11 +8,11 @@ use Rattle.tt_picture.proofs.Outlines.{shapes_of_line}
 use Rattle.tt_strike.specs.Defects.{IsLineDefect}
 use Rattle.tt_strike.specs.Strikes.{SizedFace, job_by}
 use Rattle.tt_strike.specs.Work.{line_fitter}
-use Rattle.tt_strike.proofs.Layouts.{outlines_stop_steps, setting_stops_steps, steps_by_outlines}
+use Rattle.tt_strike.proofs.TextSteps.{outlines_stop_steps, setting_stops_steps, sound_line, steps_by_outlines}
 use Rattle.tt_strike.proofs.Setting.{given_back, line_alike}
 use Rattle.tt_strike.proofs.Stepped.{outlines_pass, outlines_tell_defect}
 use Rattle.tt_strike.proofs.Stopped.{font_tells}
-use Rattle.tt_strike.proofs.Telling.{no_line_defect, setting_tells}
+use Rattle.tt_strike.proofs.Telling.{setting_tells}
 use Rattle.tt_strike.proofs.sized.SizedFace.made_steps.Goals as goal
 
 pub returns-in_err-fitter-clause-exact : goal.returns-in_err-fitter-clause-exact
@@ -53,10 +53,10 @@ pub invariant_of-self-2 : goal.invariant_of-self-2
 invariant_of-self-2 c =
     let source = c.self.inside.source in
     let gs = text_glyphs source.face.now.cmap c.args.text.now in (
-      given_back source.face.now source.ppem source.fit c.in_ok-fitter.fitter c.outlined.new.fitter c.work-begun.result
+      given_back source.face.now source.ppem source.fit c.in_ok-fitter.fitter c.outlined-2.new.fitter c.work-begun.result
           c.give_back.new.self c.in_ok-fitter.ensures.setting
           (rw c.in_ok-outlined.ensures.after (line_alike c.in_ok-fitter.fitter gs (distinct gs))) c.work-begun.ensures c.give_back.ensures,
-      c.outlined.ensures.same ∙ c.self.invariant.1,
+      c.outlined-2.ensures.same ∙ c.self.invariant.1,
     )
 
 pub returns-clause-exact : goal.returns-clause-exact
@@ -81,5 +81,5 @@ returns-clause-defects c =
     let o = c.in_ok-outlined.ensures.outlined in
     let shapes = shapes_of_line (line_fitter s (text_glyphs z.face.cmap c.args.text.now)) fs line o.fitted
     (all_among line (fitted_numbers fs) (o.numbers ∙ ap distinct (sym o.glyphs))) in
-    rw (← c.self.view_is, ← o.glyphs) (no_line_defect z.face (job_by z c.args.text.now 0) s line shapes.0
-    c.in_ok-fitter.ensures.exact c.in_ok-fitter.ensures.defects (rw o.glyphs shapes.1))
+    rw (← c.self.view_is) (sound_line z.face (job_by z c.args.text.now 0) s (text_glyphs z.face.cmap c.args.text.now) line
+    shapes.0 c.in_ok-fitter.ensures.exact c.in_ok-fitter.ensures.defects o.glyphs shapes.1)

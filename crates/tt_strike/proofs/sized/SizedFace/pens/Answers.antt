@@ -1,10 +1,16 @@
-use Rattle.std.proofs.Common.{◌≡◌, ◌∙◌, ℕ, List, Ok, refl}
+use Rattle.std.proofs.Common.{◌≡◌, ◌∙◌, ℕ, Global, List, Vec, map, sum, Result, Ok, Err, refl}
 use Rattle.std.proofs.lemmas.Result.{err_from_is_err_and}
+use Rattle.tt_core.specs.declared.draw_fault.DrawFault.{DrawFault}
 use Rattle.tt_face.specs.Faces.{Face}
 use Rattle.tt_fit.specs.declared.programs.Fit.{Fit}
+use Rattle.tt_line.specs.Layout.{text_glyphs}
+use Rattle.tt_strike.specs.declared.layouts.Pen.{Pen}
+use Rattle.tt_strike.specs.Defects.{IsLineDefect}
 use Rattle.tt_strike.specs.Job.{Job, tested}
+use Rattle.tt_strike.specs.Layouts.{steps_outcome}
 use Rattle.tt_strike.specs.Strikes.{SizedFace, job_by}
-use Rattle.tt_strike.proofs.Layouts.{no_defect_of_job, pens_are, size_stops_pens, steps_fit, steps_stop_pens, test_stops_pens}
+use Rattle.tt_strike.specs.Work.{is_bounded}
+use Rattle.tt_strike.proofs.TextSteps.{no_defect_of_job, pens_are, size_stops_pens, sound_on, steps_fit, steps_stop_pens, test_stops_pens, told_on}
 use Rattle.tt_strike.proofs.Stopped.{tested_at}
 use Rattle.tt_strike.proofs.sized.SizedFace.pens.Goals.{In_ok-test_text}
 use Rattle.tt_strike.proofs.sized.SizedFace.pens.Goals as goal
@@ -32,7 +38,8 @@ returns-in_err-test_margin-clause-exact c =
 pub returns-in_err-test_margin-clause-defects : goal.returns-in_err-test_margin-clause-defects
 returns-in_err-test_margin-clause-defects c =
     let p = err_from_is_err_and c.from_residual.result c.from_residual.ensures.1 in
-    rw (p.1, p.2) (no_defect_of_job _ _ c.in_err-test_margin.field-0.0)
+    no_defect_of_job c.args.self.now c.args.text.now c.args.margin c.from_residual.result
+    c.in_err-test_margin.field-0.0 (rw (p.1, p.2) refl)
 
 pub returns-in_err-test_text-clause-exact : goal.returns-in_err-test_text-clause-exact
 returns-in_err-test_text-clause-exact c =
@@ -45,9 +52,11 @@ returns-in_err-test_text-clause-exact c =
 pub returns-in_err-test_text-clause-defects : goal.returns-in_err-test_text-clause-defects
 returns-in_err-test_text-clause-defects c =
     let p = err_from_is_err_and c.from_residual-in_err-test_text.result c.from_residual-in_err-test_text.ensures.1 in
-    rw (p.1, p.2) (no_defect_of_job _ _ c.in_err-test_text.field-0.0)
+    no_defect_of_job c.args.self.now c.args.text.now c.args.margin c.from_residual-in_err-test_text.result
+    c.in_err-test_text.field-0.0 (rw (p.1, p.2) refl)
 
 pub returns-in_err-steps-clause-exact : goal.returns-in_err-steps-clause-exact
+unfolding steps_outcome
 returns-in_err-steps-clause-exact c =
     let z : SizedFace = record { face = c.self.inside.source.face.now; ppem = c.self.inside.source.ppem; fit = c.self.inside.source.fit } in
     let a = job_by z c.args.text.now c.args.margin in
@@ -59,9 +68,14 @@ returns-in_err-steps-clause-exact c =
 pub returns-in_err-steps-clause-defects : goal.returns-in_err-steps-clause-defects
 returns-in_err-steps-clause-defects c =
     let p = err_from_is_err_and c.from_residual-in_err-steps.result c.from_residual-in_err-steps.ensures.1 in
-    rw (p.1, p.2) c.in_err-steps.ensures.defects
+    let z = c.args.self.now in
+    let IsOne = IsLineDefect z.face (job_by z c.args.text.now c.args.margin) (text_glyphs z.face.cmap c.args.text.now) in
+    let r : Result (Vec (ℕ × ℕ) Global) DrawFault = Err c.in_err-steps.field-0.0 in
+    told_on (is_bounded z.fit) IsOne r c.from_residual-in_err-steps.result c.in_err-steps.field-0.0 refl
+    (rw (p.1, p.2) refl) c.in_err-steps.ensures.defects
 
 pub returns-in_err-size_by_steps-clause-exact : goal.returns-in_err-size_by_steps-clause-exact
+unfolding steps_outcome
 returns-in_err-size_by_steps-clause-exact c =
     let z : SizedFace = record { face = c.self.inside.source.face.now; ppem = c.self.inside.source.ppem; fit = c.self.inside.source.fit } in
     let a = job_by z c.args.text.now c.args.margin in
@@ -74,14 +88,18 @@ returns-in_err-size_by_steps-clause-exact c =
 pub returns-in_err-size_by_steps-clause-defects : goal.returns-in_err-size_by_steps-clause-defects
 returns-in_err-size_by_steps-clause-defects c =
     let p = err_from_is_err_and c.from_residual-in_err-size_by_steps.result c.from_residual-in_err-size_by_steps.ensures.1 in
-    rw (p.1, p.2) (no_defect_of_job _ _ c.in_err-size_by_steps.field-0.0)
+    no_defect_of_job c.args.self.now c.args.text.now c.args.margin c.from_residual-in_err-size_by_steps.result
+    c.in_err-size_by_steps.field-0.0 (rw (p.1, p.2) refl)
 
 pub pens_at-requires-clause-fits : goal.pens_at-requires-clause-fits
 pens_at-requires-clause-fits c =
-    let sized = rw c.deref.ensures.value at c.in_ok-size_by_steps.ensures.exact in
-    rw c.deref-2.ensures.value (steps_fit _ _ _ _ c.in_ok-size_by_steps.field-0 sized c.in_ok-size_by_steps.ensures.width)
+    let source = c.self.inside.source in
+    let sized = rw (c.metrics.ensures, c.deref.ensures.value) at c.in_ok-size_by_steps.ensures.exact in
+    rw c.deref-2.ensures.value (steps_fit source.face.now.metrics source.ppem c.args.margin
+    (sum (map (λ (g : ℕ × ℕ). g.1) c.in_ok-steps.steps.items)) c.in_ok-size_by_steps.field-0 sized c.in_ok-size_by_steps.ensures.width)
 
 pub returns-clause-exact : goal.returns-clause-exact
+unfolding steps_outcome
 returns-clause-exact c =
     let z : SizedFace = record { face = c.self.inside.source.face.now; ppem = c.self.inside.source.ppem; fit = c.self.inside.source.fit } in
     let a = job_by z c.args.text.now c.args.margin in
@@ -93,4 +111,8 @@ returns-clause-exact c =
 
 pub returns-clause-defects : goal.returns-clause-defects
 returns-clause-defects c =
-    c.in_ok-steps.ensures.defects
+    let z = c.args.self.now in
+    let IsOne = IsLineDefect z.face (job_by z c.args.text.now c.args.margin) (text_glyphs z.face.cmap c.args.text.now) in
+    let r : Result (Vec (ℕ × ℕ) Global) DrawFault = Ok c.in_ok-steps.steps in
+    let q : Result (Vec Pen Global) DrawFault = Ok c.in_ok-pens_at.field-0 in
+    sound_on (is_bounded z.fit) IsOne r q c.in_ok-steps.steps c.in_ok-pens_at.field-0 refl refl c.in_ok-steps.ensures.defects

@@ -1,6 +1,5 @@
-use Rattle.std.proofs.Common.{◌∙◌, ap, Ok}
 use Rattle.tt_strike.specs.Strikes.{SizedFace, job_by}
-use Rattle.tt_strike.proofs.Layouts.{steps_by_advances}
+use Rattle.tt_strike.proofs.TextSteps.{steps_by_advances}
 use Rattle.tt_strike.proofs.sized.SizedFace.steps.Goals as goal
 
 pub made_steps-requires-clause-bounded : goal.made_steps-requires-clause-bounded

@@ -1,8 +1,9 @@
 -- The steps of a text and what is made of them, its size and its pens: where each stops, and what each is.
-use Rattle.std.proofs.Common.{◌≡◌, ◌∙◌, refl, sym, ap, ℕ, ◌+◌, ◌*◌, ◌≤◌, Bool, true, false, ◌||◌, ◌==◌, if◌then◌else◌, nat_lt, pos, int_lt, List, [], ◌∷◌, chars, map, sum, Result, Ok, Err, arith}
+use Rattle.std.proofs.Common.{◌≡◌, ◌∙◌, refl, sym, ap, ℕ, ◌+◌, ◌*◌, ◌≤◌, Bool, true, false, ◌||◌, ◌==◌, if◌then◌else◌, nat_lt, ℤ, pos, ◌+ℤ◌, int_lt, unsigned_abs, List, [], ◌∷◌, chars, map, sum, Result, Ok, Err, arith}
 use Rattle.std.specs.Prelude.{IfSome}
+use Rattle.std.proofs.lemmas.Int.{ints}
 use Rattle.tt_cmap.specs.Maps.{units_by}
-use Rattle.tt_core.specs.Chains.{came-through}
+use Rattle.tt_core.specs.Chains.{came-through, passed-on}
 use Rattle.tt_core.specs.declared.draw_fault.DrawFault.{DrawFault}
 use Rattle.tt_core.specs.declared.draw_fault.DrawFault.TheVariants as draw
 use Rattle.tt_core.specs.declared.fault.JobFault.{JobFault}
@@ -11,7 +12,8 @@ use Rattle.tt_core.specs.declared.font_fault.FontFault.{FontFault}
 use Rattle.tt_core.specs.declared.font_fault.FontFault.TheVariants as font
 use Rattle.tt_core.specs.Faults.{Fault}
 use Rattle.tt_core.specs.Limits.{height_limit, width_limit}
-use Rattle.tt_core.specs.Outcomes.{FontGives, draw_fault_of_font}
+use Rattle.tt_core.specs.Directory.{HasNo}
+use Rattle.tt_core.specs.Outcomes.{FontGives, draw_fault_of_font, each}
 use Rattle.tt_face.specs.Faces.{Face}
 use Rattle.tt_fit.specs.Fitting.{Fitter}
 use Rattle.tt_fit_outline.specs.Outline.{Outline}
@@ -20,12 +22,17 @@ use Rattle.tt_line.specs.declared.measured.LineSize.{LineSize}
 use Rattle.tt_line.specs.Layout.{advance_in_pixels, advances_of, text_glyphs, within_limits}
 use Rattle.tt_line.specs.Sizes.{extent_by_sum, line_size, size_of}
 use Rattle.tt_metrics.specs.Metrics.{Metrics}
+use Rattle.tt_picture.specs.Pixels.{Shape}
+use Rattle.tt_picture.specs.Shapes.{glyph_shape}
+use Rattle.tt_strike.specs.Defects.{IsLineDefect, IsSettingDefect}
 use Rattle.tt_strike.specs.Job.{Job, tested}
 use Rattle.tt_strike.specs.Layouts.{TellsMadeDefects, pens_at, pens_outcome, size_outcome, step_with, steps_outcome, with_steps}
 use Rattle.tt_strike.specs.Picture.{outlines_tested, setting_in, steps_in}
 use Rattle.tt_strike.specs.Refusals.{as_job, job, refusal}
-use Rattle.tt_strike.specs.Work.{is_bounded}
+use Rattle.tt_strike.specs.Strikes.{SizedFace, job_by}
+use Rattle.tt_strike.specs.Work.{is_bounded, line_fitter}
 use Rattle.tt_strike.proofs.Stopped.{stops}
+use Rattle.tt_strike.proofs.Telling.{no_line_defect}
 
 -- a stop in opening the fitter, or at the outlines, stops the steps
 pub setting_stops_steps : (face : Face) (a : Job) (e : FontFault) → is_bounded a.fit ≡ true
@@ -121,10 +128,34 @@ unfolding pens_outcome
 pens_are face a steps z passes made sized = rw (passes, made, sized) refl
 
 -- a fault of the job is none of the font
-pub no_defect_of_job : {V : Type 0} (made : Bool) (IsOne : Fault → Type 0) (j : JobFault)
-    → TellsMadeDefects {V = V} made IsOne (Err (draw.Job j))
-no_defect_of_job true IsOne j = tt
-no_defect_of_job false IsOne j = tt
+no_defect : {V : Type 0} (made : Bool) (IsOne : Fault → Type 0) (r : Result V DrawFault) (j : JobFault)
+    → r ≡ Err (draw.Job j) → TellsMadeDefects made IsOne r
+no_defect true IsOne r j is = rw is tt
+no_defect false IsOne r j is = rw is tt
+
+pub no_defect_of_job : {V : Type 0} (z : SizedFace) (text : List ℕ) (margin : ℕ) (r : Result V DrawFault) (j : JobFault)
+    → r ≡ Err (draw.Job j)
+    → TellsMadeDefects (is_bounded z.fit) (IsLineDefect z.face (job_by z text margin) (text_glyphs z.face.cmap text)) r
+no_defect_of_job z text margin r j is =
+    no_defect (is_bounded z.fit) (IsLineDefect z.face (job_by z text margin) (text_glyphs z.face.cmap text)) r j is
+
+-- what is told of a stop, and of a value, is told of all that is made of the value
+pub told_on : {V W : Type 0} (made : Bool) (IsOne : Fault → Type 0) (r : Result V DrawFault) (q : Result W DrawFault)
+    (e : DrawFault) → r ≡ Err e → q ≡ Err e → TellsMadeDefects made IsOne r → TellsMadeDefects made IsOne q
+told_on true IsOne r q e was is tells = rw is (rw was at tells)
+told_on false IsOne r q e was is tells = rw is (rw was at tells)
+
+pub sound_on : {V W : Type 0} (made : Bool) (IsOne : Fault → Type 0) (r : Result V DrawFault) (q : Result W DrawFault)
+    (v : V) (w : W) → r ≡ Ok v → q ≡ Ok w → TellsMadeDefects made IsOne r → TellsMadeDefects made IsOne q
+sound_on true IsOne r q v w was is tells = rw is (rw was at tells)
+sound_on false IsOne r q v w was is tells = rw is tt
+
+-- a text whose glyphs are made, whatever their pens, has no defect
+pub sound_line : (face : Face) (a : Job) (s : Fitter) (gs : List ℕ) (line : List (ℕ × ℕ)) (shapes : List Shape)
+    → setting_in face a ≡ Ok s → HasNo (IsSettingDefect face a) → map (λ g. g.0) line ≡ gs
+    → each (glyph_shape (line_fitter s gs)) line ≡ Ok shapes → HasNo (IsLineDefect face a gs)
+sound_line face a s gs line shapes there sound glyphs made =
+    rw (← glyphs) (no_line_defect face a s line shapes there sound (rw glyphs made))
 
 -- an extent that is not refused is unchanged, so a line's size is that of its extent
 kept : (empty large : Bool) (e f : PictureExtent) → ◌≡◌ {A = Result PictureExtent JobFault}
@@ -153,3 +184,22 @@ pub steps_fit : (m : Metrics) (ppem margin n : ℕ) (z : LineSize) → line_size
 steps_fit m ppem margin n z was fits =
     let wide : z.width ≡ n + 2 * margin = ap (λ (z : LineSize). z.width) (sized_is m ppem margin n z was) in
     omega (arith, wide, fits)
+
+-- and its height is not below 1
+high_enough : (empty large : Bool) (e f : PictureExtent) → ◌≡◌ {A = Result PictureExtent JobFault}
+    (if empty || int_lt e.height (pos 1) then Err job_of.EmptyPicture else (if large then Err job_of.PictureLarge else Ok e)) (Ok f)
+    → int_lt e.height (pos 1) ≡ false
+high_enough true large e f was = absurd cc
+high_enough false large e f was = (passed-on (int_lt e.height (pos 1)) job_of.EmptyPicture _ f was).0
+
+whole : (h : ℤ) → int_lt h (pos 1) ≡ false → pos (unsigned_abs h) ≡ h
+whole h is = grind (arith, ints)
+
+pub positive_height : (m : Metrics) (ppem margin n : ℕ) (z : LineSize) → line_size m ppem margin n ≡ Ok z
+    → pos z.height ≡ (z.rise +ℤ z.depth) +ℤ pos (2 * margin)
+unfolding within_limits
+positive_height m ppem margin n z was =
+    let e = extent_by_sum m ppem margin n in
+    let by_extent = came-through (within_limits e) _ z was in
+    let high = high_enough (e.width == 0) (nat_lt width_limit e.width || int_lt (pos height_limit) e.height) e by_extent.value by_extent.first in
+    rw (sized_is m ppem margin n z was) (whole e.height high)
