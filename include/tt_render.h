@@ -194,7 +194,7 @@ struct tt_layout {
     int64_t depth;       /* rows of a line below its base line, without a margin */
     uint64_t gap;        /* rows between two lines, by the font's line_gap */
     uint64_t step;       /* rows from one base line to the next, at least 1 */
-    uint64_t characters; /* the characters of the text, variation selectors too */
+    uint64_t characters; /* the units of the text */
 };
 
 /* The pen of a unit of a text. */

@@ -154,7 +154,7 @@ pub struct Layout {
     pub gap: u64,
     /// Rows from one base line to the next.
     pub step: u64,
-    /// The characters of the text.
+    /// The characters of the text, without variation selectors.
     pub characters: u64,
 }
 

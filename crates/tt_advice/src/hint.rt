@@ -125,8 +125,7 @@ const BITMAPS: &str = "has bitmaps or colour pictures, but no TrueType outlines"
 
 const PROGRAM: &str = "has a program for fitting that is refused; --fit best draws it";
 
-const MANY_CHARACTERS: &str =
-    "has more than 4096 of the characters asked for; --range says which";
+const MANY_CHARACTERS: &str = "has more than 4096 of the characters asked for; --range says which";
 
 /// What follows the font's path.
 fn words(alloc: Global, hint: Hint) -> Result<String, AllocError>

@@ -1,12 +1,11 @@
 -- The characters of a file are within their limits, and their rows are among all rows.
-use Rattle.std.proofs.Common.{◌≡◌, refl, ap, ℕ, ◌+◌, ◌<◌, ◌≤◌, suc, List, [], ◌∷◌, length, pos, arith}
+use Rattle.std.proofs.Common.{◌≡◌, refl, ap, ℕ, ◌+◌, ◌≤◌, suc, List, [], ◌∷◌, length, arith}
 use Rattle.std.specs.Prelude.{All}
 use Rattle.std.proofs.lemmas.Int.{ints}
-use Rattle.std.proofs.lemmas.List.Elements.{All-cons, All-head, All-nil, All-tail, All-weaker}
+use Rattle.std.proofs.lemmas.List.Elements.{All-cons, All-head, All-nil, All-tail}
 use Rattle.tt_bdf.specs.Bitmap.{bitmap_bytes}
 use Rattle.tt_bdf.specs.declared.character.BdfCharacter.{BdfCharacter}
 use Rattle.tt_bdf.specs.Extent.{IsLimited}
-use Rattle.tt_core.specs.Faults.{Fault}
 use Rattle.tt_face.specs.Faces.{Face}
 use Rattle.tt_glyphs.specs.declared.told.GlyphEntry.{GlyphEntry}
 use Rattle.tt_glyphs.specs.declared.told.Told.{Told}

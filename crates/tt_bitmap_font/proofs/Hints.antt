@@ -1,10 +1,9 @@
 -- The hint of each answer.
-use Rattle.std.proofs.Common.{◌≡◌, refl, ℕ, Bool, List, Option, Some, None, Result, Ok, Err}
+use Rattle.std.proofs.Common.{◌≡◌, refl, ℕ, Bool, List, Option, Some, None, Ok, Err}
 use Rattle.std.specs.Prelude.{IfSome}
 use Rattle.tt_advice.specs.declared.hint.Hint.{Hint}
 use Rattle.tt_core.specs.declared.fault.JobFault.{JobFault}
 use Rattle.tt_render.specs.declared.label.Labelled.{Labelled}
-use Rattle.tt_render.specs.declared.refusal.Refusal.{Refusal}
 use Rattle.tt_render.specs.declared.refusal.Refusal.TheVariants as reason
 use Rattle.tt_render.specs.declared.refusal.TextsFault.{TextsFault}
 use Rattle.tt_render.specs.Views.{before_lines, refusal_of_run}
@@ -12,7 +11,7 @@ use Rattle.tt_render_run.specs.declared.fault.RunFault.{RunFault}
 use Rattle.tt_render_run.specs.declared.fault.RunFault.TheVariants as run
 use Rattle.tt_render_run.specs.Reading.{ReadFails}
 use Rattle.tt_bitmap_font.specs.declared.font_file.FontFile.{FontFile}
-use Rattle.tt_bitmap_font.specs.FontFiles.{HintsBy, asked_tested, hint_behind, hint_for}
+use Rattle.tt_bitmap_font.specs.FontFiles.{HintsBy, asked_tested, hint_for}
 
 -- a fault with a hint, and all done
 abbrev pub stopped : TextsFault → Option Hint → Labelled

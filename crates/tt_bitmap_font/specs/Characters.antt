@@ -8,7 +8,7 @@ use Rattle.tt_cmap.specs.Lookup.{by_segments}
 use Rattle.tt_cmap.specs.Maps.{CharacterMap, glyph_of_unit, strict}
 use Rattle.tt_cmap.specs.Units.{is_selector, plain_unit}
 
--- the ranges that are asked for: those of `--range`, and each character of a text
+-- the ranges of a request: those of `--range`, and each character of a text
 abbrev pub asked_ranges : List CodeRange → List ℕ → List CodeRange
 asked_ranges rs text = rs ++ map range_of_one (chars text)
 

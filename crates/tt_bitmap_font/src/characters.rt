@@ -1,4 +1,4 @@
-//! The ranges that are asked for, and the glyphs of a file's characters.
+//! The ranges of a request, and the glyphs of a file's characters.
 
 ghost use Rattle.std.specs.Prelude.{◌≡◌, ◌<◌, All, IfOk};
 ghost use Rattle.tt_bdf.specs.Ranges.{IsCodeRange};
@@ -10,7 +10,7 @@ use std::alloc::{AllocError, Global};
 use tt_bdf::{CodeRange, push_text};
 use tt_cmap::{CharacterMap, TextUnit};
 
-/// The ranges that are asked for, and then each character of the text as a range. Error: memory ran out.
+/// The ranges of a request, and then each character of the text as a range. Error: memory ran out.
 pub(crate) fn all_ranges(alloc: Global, asked: &FontFile) -> Result<Vec<CodeRange>, AllocError>
     requires { All IsCodeRange asked.now.ranges.now }
     ensures exact { IfOk result (λ rs. rs.items ≡ asked_ranges asked.now.ranges.now asked.now.text.now) }

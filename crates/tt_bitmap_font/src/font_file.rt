@@ -1,4 +1,4 @@
-//! What is asked for: a font at a size as a file.
+//! A request: a font at a size as a file.
 
 ghost use Rattle.std.specs.Prelude.{◌≡◌, ◌≤◌, OnOk};
 ghost use Rattle.tt_bitmap_font.specs.FontFiles.{asked_tested, setting_of};
@@ -19,9 +19,9 @@ pub struct FontFile<'a> {
     pub fit: Fit,
     /// The number of the face. The font's file is read as with `Reading::Wide`.
     pub face: u32,
-    /// The code points that are asked for, beside those of the text.
+    /// Ranges of code points, beside those of the text.
     pub ranges: &'a [CodeRange],
-    /// The text whose characters are asked for; empty where there is none.
+    /// The text, whose characters are wanted too; empty where there is none.
     pub text: &'a str,
     /// The path of the font, as it is reported.
     pub path: &'a str,

@@ -1,7 +1,7 @@
 //! A font at a size as a file of bitmaps, from a reader to a writer.
 //!
 //! ```text
-//! font_file.rt    what is asked for
+//! font_file.rt    a request
 //! characters.rt   the ranges and the glyphs of a file
 //! lacking.rt      the characters of a text that a font lacks
 //! facts.rt        the facts of a font in its file

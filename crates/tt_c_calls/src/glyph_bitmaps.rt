@@ -137,7 +137,7 @@ fn write_entries(entries: &[GlyphEntry], told: &mut [CBitmap])
     }
 }
 
-/// Makes the bitmap of each glyph of a list. `told` gets an entry for each place of the list. `rows` gets the rows of
+/// Makes the bitmap of each glyph of a list. Each place of the list gets an entry. `rows` gets the rows of
 /// each number where the number stands first, one glyph after the other. An entry whose number stood before is equal to
 /// the first one. Of the job the size, the way to fit and the face count.
 ///

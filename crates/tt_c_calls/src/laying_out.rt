@@ -35,6 +35,7 @@ pub struct CLayout {
     pub gap: u64,
     /// Rows from one base line to the next, at least 1.
     pub step: u64,
+    /// The units of the text.
     pub characters: u64,
 }
 

@@ -7,6 +7,7 @@ use Rattle.std.proofs.lemmas.List.{get_or-map, length-map}
 use Rattle.tt_core.specs.Chains.{came-through, was-err}
 use Rattle.tt_core.specs.declared.fault.JobFault.{JobFault}
 use Rattle.tt_core.specs.declared.fault.JobFault.TheVariants as fault
+use Rattle.tt_core.specs.Directory.{HasNo}
 use Rattle.tt_core.specs.Faults.{Fault}
 use Rattle.tt_core.specs.Limits.{point_work_limit, size_limit, text_limit}
 use Rattle.tt_core.specs.Outcomes.{◌>>=◌, each}
@@ -15,10 +16,13 @@ use Rattle.tt_fit.specs.declared.programs.Fit.{Fit}
 use Rattle.tt_fit.specs.Fitting.{Fitter, fitted_outline, unfitted_fault}
 use Rattle.tt_fit.proofs.Standing.{faults-stand, outlines-whole}
 use Rattle.tt_fit_outline.specs.Outline.{Outline}
-use Rattle.tt_metrics.specs.Metrics.{glyphs_of}
+use Rattle.tt_metrics.specs.Metrics.{Metrics, glyphs_of}
 use Rattle.tt_picture.specs.Distinct.{distinct, is_among}
 use Rattle.tt_picture.specs.Ink.{glyph_ink}
+use Rattle.tt_picture.specs.Steps.{outlines_by}
+use Rattle.tt_strike.specs.Defects.{IsGlyphDefect, IsLineDefect, IsSettingDefect}
 use Rattle.tt_strike.specs.Job.{size_tested}
+use Rattle.tt_strike.specs.Makers.{job_at}
 use Rattle.tt_strike.specs.Picture.{outlines_in, setting}
 use Rattle.tt_strike.specs.Refusals.{Refused, as_font, as_job, font, job}
 use Rattle.tt_strike.specs.Work.{chord_limit, chords_in, crossings_allowed, edges_limited, is_bounded, line_fitter, points_in, work_left, work_tested}
@@ -29,8 +33,9 @@ use Rattle.tt_glyphs.specs.declared.place.InkPlace.{InkPlace}
 use Rattle.tt_glyphs.specs.declared.told.GlyphEntry.{GlyphEntry}
 use Rattle.tt_glyphs.specs.declared.told.Told.{Told}
 use Rattle.tt_glyphs.specs.declared.told.Told.TheVariants as told
-use Rattle.tt_glyphs.specs.Defects.{AreSound, IsListRefusal, IsSoundReport, TellGlyphDefects, TellsDefectsOf}
+use Rattle.tt_glyphs.specs.Defects.{AreSound, IsListDefect, IsListRefusal, IsSoundReport, TellGlyphDefects, TellsDefectsOf}
 use Rattle.tt_glyphs.specs.Entries.{advance_by, entries, entry_of, glyph_told, known, made_within, number_told}
+use Rattle.tt_glyphs.specs.Listed.{known_of}
 use Rattle.tt_glyphs.specs.Requests.{Bitmaps, GlyphJob, bitmaps_by, bitmaps_in, bitmaps_outcome, bitmaps_tested, count_tested, crossings_of_list, edges_of_list_tested, fitter_for_request, points_of_list_tested, request_begun, request_tested, sound_in, sound_outcome}
 use Rattle.tt_glyphs.proofs.DrawnGlyphs.{told_is, told_refused}
 use Rattle.tt_glyphs.proofs.Numbers.{among_distinct, among_filter}
@@ -191,3 +196,133 @@ pub entries_tell : (how : Fit) (s : Fitter) (gs : List ℕ) → TellGlyphDefects
 entries_tell how s gs =
     of_entries (λ (e : GlyphEntry). TellsDefectsOf (line_fitter s (known s gs) e.glyph) e.glyph e.told) (entry_of how s gs) gs
     (λ i below. tells_if (nat_lt (get_or gs i 0) (glyphs_of s.metrics)) how (line_fitter s (known s gs) (get_or gs i 0)) (get_or gs i 0))
+
+-- a list without refused glyphs
+
+later_too : (a b : Bool) → b ≡ true → (a || b) ≡ true
+later_too true b is = refl
+later_too false b is = is
+
+among_by : (here : Bool) (maker : ℕ → Fitter) (n g : ℕ) (ns : List ℕ) → (n == g) ≡ here → (here || is_among g ns) ≡ true
+    → (o : Outline) × (fitted_outline (maker n) n ≡ Ok o) → (is_among g ns ≡ true → (o : Outline) × (fitted_outline (maker g) g ≡ Ok o))
+    → (o : Outline) × (fitted_outline (maker g) g ≡ Ok o)
+among_by true maker n g ns same is one more =
+    let first : n ≡ g = grind (arith, nat_tests, same) in rw first at one
+among_by false maker n g ns other is one more = more is
+
+each_made : (maker : ℕ → Fitter) (ns : List ℕ) (os : List Outline) (g : ℕ) → outlines_by maker ns ≡ Ok os → is_among g ns ≡ true
+    → (o : Outline) × (fitted_outline (maker g) g ≡ Ok o)
+each_made maker [] os g made among = absurd cc
+each_made maker (n ∷ ns) os g made among =
+    let one = came-through (fitted_outline (maker n) n) _ os made in
+    let rest = came-through (outlines_by maker ns) _ os one.rest in
+    among_by (n == g) maker n g ns refl among (one.value, one.first) (each_made maker ns rest.value g rest.first)
+
+listed : (gs : List ℕ) (i : ℕ) → i < length gs → is_among (get_or gs i 0) gs ≡ true
+listed [] i below = absurd (omega (arith, below))
+listed (g ∷ gs) zero below = let same : (g == g) ≡ true = grind (arith, nat_tests) in rw same refl
+listed (g ∷ gs) (suc i) below = later_too (g == get_or gs i 0) (is_among (get_or gs i 0) gs) (listed gs i (omega (arith, below)))
+
+made_known : (s : Fitter) (gs : List ℕ) (os : List Outline) (g : ℕ) → outlines_in s (known s gs) ≡ Ok os → is_among g gs ≡ true
+    → nat_lt g (glyphs_of s.metrics) ≡ true → (o : Outline) × (fitted_outline (line_fitter s (known s gs) g) g ≡ Ok o)
+made_known s gs os g made among below =
+    let p : ℕ → Bool = λ n. nat_lt n (glyphs_of s.metrics) in
+    each_made (line_fitter s (known s gs)) (distinct (known s gs)) os g made
+    (among_distinct g (known s gs) ∙ among_filter p g gs below ∙ among)
+
+sound_made : (count g advance : ℕ) (unfitted : Option Fault) (p : InkPlace) (large : Bool) → is_large p ≡ large
+    → IsSoundReport count g (made_within advance unfitted p)
+sound_made count g advance unfitted p true is = rw is tt
+sound_made count g advance unfitted p false is = rw is tt
+
+sound_by : (below : Bool) (how : Fit) (s : Fitter) (g count : ℕ) → nat_lt g count ≡ below
+    → (below ≡ true → (o : Outline) × (fitted_outline s g ≡ Ok o))
+    → IsSoundReport count g (if below then glyph_told how s g else told.Unknown)
+sound_by true how s g count is made =
+    let o = made refl in
+    let p = place_of (glyph_ink s g) in
+    rw (told_is how s g o.0 p o.1 refl) (sound_made count g (advance_by how s g) (unfitted_fault s g) p (is_large p) refl)
+sound_by false how s g count is made = grind (arith, nat_tests, is)
+
+pub entries_sound : (how : Fit) (s : Fitter) (gs : List ℕ) (os : List Outline) → outlines_in s (known s gs) ≡ Ok os
+    → AreSound (glyphs_of s.metrics) (entries how s gs)
+entries_sound how s gs os made =
+    of_entries (λ (e : GlyphEntry). IsSoundReport (glyphs_of s.metrics) e.glyph e.told) (entry_of how s gs) gs
+    (λ i below. sound_by (nat_lt (get_or gs i 0) (glyphs_of s.metrics)) how (line_fitter s (known s gs) (get_or gs i 0)) (get_or gs i 0)
+    (glyphs_of s.metrics) refl (λ known. made_known s gs os (get_or gs i 0) made (listed gs i below) known))
+
+-- the defects of a list's glyphs
+
+record FirstFailed (maker : ℕ → Fitter) (ns : List ℕ) (f : Fault) : Type 0 where
+  number : ℕ
+  among : is_among number ns ≡ true
+  failed : fitted_outline (maker number) number ≡ Err f
+
+no_fault : {X : Type 0} (x : X) (f : Fault) → ◌≡◌ {A = Result X Fault} (Ok x) (Err f) → ⊥
+no_fault x f was = absurd cc
+
+first_failed : (maker : ℕ → Fitter) (ns : List ℕ) (f : Fault) → outlines_by maker ns ≡ Err f → FirstFailed maker ns f
+first_failed maker [] f was = absurd cc
+first_failed maker (n ∷ ns) f was = elim (was-err (fitted_outline (maker n) n) _ f was) [
+  | inl first ↦
+      let same : (n == n) ≡ true = grind (arith, nat_tests) in
+      record { number = n; among = rw same refl; failed = first }
+  | inr later ↦ elim (was-err (outlines_by maker ns) _ f later.rest) [
+    | inl rest ↦
+        let one = first_failed maker ns f rest in
+        record { number = one.number; among = later_too (n == one.number) (is_among one.number ns) one.among; failed = one.failed }
+    | inr none ↦ absurd (no_fault (later.value ∷ none.value) f none.rest)
+  ]
+]
+
+record IsAt (gs : List ℕ) (n : ℕ) : Type 0 where
+  place : ℕ
+  below : place < length gs
+  number : slice_index gs place ≡ n
+
+at_by : (here : Bool) (g n : ℕ) (gs : List ℕ) → (g == n) ≡ here → (here || is_among n gs) ≡ true
+    → (is_among n gs ≡ true → IsAt gs n) → IsAt (g ∷ gs) n
+at_by true g n gs same is more =
+    let first : g ≡ n = grind (arith, nat_tests, same) in record { place = 0; below = omega arith; number = first }
+at_by false g n gs other is more =
+    let rest = more is in
+    let inside = rest.below in
+    record { place = suc rest.place; below = omega (arith, inside); number = rest.number }
+
+at_of : (gs : List ℕ) (n : ℕ) → is_among n gs ≡ true → IsAt gs n
+at_of [] n is = absurd cc
+at_of (g ∷ gs) n is = at_by (g == n) g n gs refl is (at_of gs n)
+
+glyph_defect : (maker : ℕ → Fitter) (gs : List ℕ) (f : Fault) → outlines_by maker (distinct gs) ≡ Err f → IsGlyphDefect maker gs f
+glyph_defect maker gs f was =
+    let first = first_failed maker (distinct gs) f was in
+    let at = at_of gs first.number (sym (among_distinct first.number gs) ∙ first.among) in
+    (at.place, at.below, rw at.number (faults-stand (maker first.number) first.number f first.failed))
+
+pub list_defect : (face : Face) (a : GlyphJob) (s : Fitter) (f : Fault) → setting face a.ppem a.fit ≡ Ok s → s.metrics ≡ face.metrics
+    → outlines_in s (known s a.glyphs) ≡ Err f → IsListDefect face a f
+list_defect face a s f made same was =
+    let P : List ℕ → Type 0 = λ gs. IsLineDefect face (job_at a.ppem a.fit) gs f in
+    let here : P (known s a.glyphs) = inr (rw made (glyph_defect (line_fitter s (known s a.glyphs)) (known s a.glyphs) f was)) in
+    subst P (ap (λ (m : Metrics). known_of (glyphs_of m) a.glyphs) same) here
+
+no_glyph_defect : (maker : ℕ → Fitter) (gs : List ℕ) (os : List Outline) → outlines_by maker (distinct gs) ≡ Ok os
+    → (f : Fault) → IsGlyphDefect maker gs f → ⊥
+no_glyph_defect maker gs os made f (i, below, bad) =
+    let n = slice_index gs i in
+    let o = each_made maker (distinct gs) os n made (among_distinct n gs ∙ listed gs i below) in
+    outlines-whole (maker n) n o.0 o.1 f bad
+
+pub no_list_defect : (face : Face) (a : GlyphJob) (s : Fitter) (os : List Outline) → setting face a.ppem a.fit ≡ Ok s
+    → s.metrics ≡ face.metrics → HasNo (IsSettingDefect face (job_at a.ppem a.fit)) → outlines_in s (known s a.glyphs) ≡ Ok os
+    → HasNo (IsListDefect face a)
+no_list_defect face a s os made same good all =
+    let P : List ℕ → Type 0 = λ gs. HasNo (IsLineDefect face (job_at a.ppem a.fit) gs) in
+    let gs = known s a.glyphs in
+    let here : P gs = λ fault defect. elim defect [
+      | inl of_setting ↦ good fault of_setting
+      | inr glyph ↦
+          let Q : Result Fitter Fault → Type 0 = λ r. IsOkAnd r (λ s. IsGlyphDefect (line_fitter s gs) gs fault) in
+          no_glyph_defect (line_fitter s gs) gs os all fault (subst Q made glyph)
+    ] in
+    subst P (ap (λ (m : Metrics). known_of (glyphs_of m) a.glyphs) same) here

@@ -126,7 +126,7 @@ impl BitmapList {
     /// The bitmaps of a list whose distinct glyphs are tried. Errors: WorkLarge of their chords and crossings; Memory.
     fn drawn_from(glyphs: &[u32], list: TriedList) -> Result<BitmapList, DrawFault>
         requires tried { (face : Face) × (a : GlyphJob) × (s : Fitter) × IsTriedList face a s list × (a.glyphs ≡ glyphs.now) }
-        ensures exact { (face : Face) (a : GlyphJob) (s : Fitter) → IsTriedList face a s list → a.glyphs ≡ glyphs.now → GivesUnless refusal (λ b. b) result (bitmaps_tested a.fit glyphs.now s) }
+        ensures exact { (face : Face) (a : GlyphJob) (s : Fitter) → IsTriedList face a s list.entry → a.glyphs ≡ glyphs.now → GivesUnless refusal (λ b. b) result (bitmaps_tested a.fit glyphs.now s) }
         ensures font { IfTold draw_font_fault result (λ _. ⊥) }
         ensures entries { IfOk result (λ b. length b.entries ≡ length glyphs.now) }
         ensures fits { IfOk result (λ b. All (EntryFits b.wanted) b.entries) }

@@ -1,5 +1,5 @@
 -- No part of the standard: what `bdf` is asked for (profile).
-use Rattle.std.specs.Prelude.{◌≡◌, refl, ℕ, List, [], ◌∷◌, map, codes, Option, Some, None, option_map}
+use Rattle.std.specs.Prelude.{◌≡◌, refl, ℕ, List, [], ◌∷◌, codes, Option, Some, None, option_map}
 use Rattle.tt_bdf.specs.declared.range.CodeRange.{CodeRange}
 use Rattle.tt_bdf.specs.Ranges.{ranges_of}
 use Rattle.tt_fit.specs.declared.programs.Fit.{Fit}

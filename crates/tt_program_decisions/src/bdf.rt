@@ -18,7 +18,7 @@ use tt_bitmap_font::{FontFile, write_bdf};
 use tt_core::{Sink, Source};
 use tt_fit::Fit;
 
-/// What `bdf` is asked for.
+/// A request for `bdf`.
 #[derive(Clone, Copy)]
 pub struct BdfRequest<'a> {
     /// The path of the font.
@@ -29,11 +29,11 @@ pub struct BdfRequest<'a> {
     pub face: Option<u32>,
     /// The words of the ranges. None where a text alone is asked for.
     pub range: Option<&'a str>,
-    /// A text whose characters are asked for; empty where there is none.
+    /// A text, whose characters are wanted too; empty where there is none.
     pub text: &'a str,
 }
 
-/// The ranges that are asked for where neither ranges nor a text are given.
+/// The ranges where a request has neither ranges nor a text.
 const DEFAULT_RANGE: &str = "20-7E,A0-FF";
 
 /// The request `bdf --size SIZE --fit FIT FONT`, where all are present, with `--face FACE`, `--range RANGE` and TEXT,

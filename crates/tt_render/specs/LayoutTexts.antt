@@ -1,5 +1,5 @@
--- No part of the standard: the measure of a text without its ink (profile), as lines of text, and its answer by a font at
--- a size. The unfitted glyphs of such a text are not reported.
+-- No part of the standard: the measure of a text without its ink (profile), as lines of text, and its answer by a font
+-- at a size. The unfitted glyphs of such a text are not reported.
 use Rattle.std.specs.Prelude.{◌≡◌, refl, ℕ, pos, negsuc, Bool, true, false, List, [], ◌∷◌, ◌++◌, flat_map, string_bytes, codes, decimal, None, Result, Ok, Err}
 use Rattle.std.specs.Fmt.{digits, signed_decimal}
 use Rattle.tt_core.specs.declared.collection.Reading.{Reading}

@@ -42,10 +42,10 @@ fn lay_out(
     }
 }
 
-/// Writes the measure of one text by a font without its ink: where the pens stand, the size of the picture that does not
-/// grow, and the distance of a next line. Then its report is printed on `error`: with `Missing::Tell` a line for each
-/// character without a glyph. A failure of `error` does not change the answer. Only with `Fit::Best` are glyphs made. The
-/// setting's fields `grow`, `product` and `most` are not used.
+/// Writes the measure of one text by a font without its ink: where the pens stand, the size of the picture that does
+/// not grow, and the distance of a next line. Then its report is printed on `error`: with `Missing::Tell` a line for
+/// each character without a glyph. A failure of `error` does not change the answer. Only with `Fit::Best` are glyphs
+/// made. The setting's fields `grow`, `product` and `most` are not used.
 ///
 /// Errors, the first of these, with no line: Job (SizeRange, MarginRange, and TextLong, of more than 4,096 characters),
 /// before the font is read; FontRead, FontLarge; Font, of the tables needed for every text; Font and Job of

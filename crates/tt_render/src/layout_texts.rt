@@ -37,8 +37,8 @@ fn pen_text(alloc: Global, pen: &Pen) -> Result<String, AllocError>
 
 /// The lines of a text by a face. First, for a face of a collection, `face`, and `font`, as in a measure with ink. Then
 /// `picture`: its width and height; `baseline`, the rows above it. Then `line`: the rows above the base line, the rows
-/// below, those between two lines, and those from one base line to the next. Then for each unit `U+NNNN`: its glyph, the
-/// column of its origin, its advance in columns.
+/// below, those between two lines, and those from one base line to the next. Then for each unit `U+NNNN`: its glyph,
+/// the column of its origin, its advance in columns.
 #[tactic(auto, unfolding(crate::specs::LayoutTexts::layout_text))]
 pub(crate) fn layout_text(
     alloc: Global,

@@ -26,10 +26,10 @@ size_alike : (face other : Face) (a : Job) → steps_outcome other a ≡ steps_o
 unfolding size_outcome
 size_alike face other a steps metrics = rw (steps, metrics) (refl {a = size_outcome face a})
 
-layout_alike : (face other : Face) (a : Job) → size_outcome other a ≡ size_outcome face a
+layout_alike : (face other : Face) (a : Job) → size_outcome other a ≡ size_outcome face a → other.cmap ≡ face.cmap
     → layout_outcome other a ≡ layout_outcome face a
 unfolding layout_outcome
-layout_alike face other a size = rw size (refl {a = layout_outcome face a})
+layout_alike face other a size cmap = rw (size, cmap) (refl {a = layout_outcome face a})
 
 pens_alike : (face other : Face) (a : Job) → steps_outcome other a ≡ steps_outcome face a → other.metrics ≡ face.metrics
     → other.cmap ≡ face.cmap → pens_outcome other a ≡ pens_outcome face a
@@ -40,7 +40,7 @@ pub no_glyph_is_read : NoGlyphIsRead
 no_glyph_is_read face other a unbounded metrics cmap =
     let steps : steps_outcome other a ≡ steps_outcome face a =
     rw (steps_by_advances other a unbounded, steps_by_advances face a unbounded, metrics, cmap) refl in
-    (layout_alike face other a (size_alike face other a steps metrics), pens_alike face other a steps metrics cmap)
+    (layout_alike face other a (size_alike face other a steps metrics) cmap, pens_alike face other a steps metrics cmap)
 
 -- each step stands beside its glyph
 glyphs_beside : (step : ℕ → ℕ) (gs : List ℕ) → map (λ (g : ℕ × ℕ). g.0) (with_steps step gs) ≡ gs
@@ -98,7 +98,7 @@ record AreLaid (face : Face) (a : Job) (l : Layout) (ps : List Pen) : Type 0 whe
   size : LineSize
   made : steps_outcome face a ≡ Ok steps
   sized : line_size face.metrics a.ppem a.margin (sum (map (λ g. g.1) steps)) ≡ Ok size
-  layout : l ≡ layout_by size a.margin a.text
+  layout : l ≡ layout_by size a.margin (units_by face.cmap (chars a.text))
   pens : ps ≡ pens_at (units_by face.cmap (chars a.text)) steps a.margin
 
 same_value : {X : Type 0} (r : Result X Refused) (x y : X) → r ≡ Ok x → r ≡ Ok y → x ≡ y
@@ -124,7 +124,7 @@ are_laid face a l ps laid penned =
       size = z;
       made = by_steps.first;
       sized = of-job (line_size face.metrics a.ppem a.margin (sum (map (λ g. g.1) steps))) z by_steps.rest;
-      layout = sym (ok_same (layout_by z a.margin a.text) l by_size.rest);
+      layout = sym (ok_same (layout_by z a.margin us) l by_size.rest);
       pens = pens ∙ ap (λ (gs : List (ℕ × ℕ)). pens_at us gs a.margin) same;
     }
 

@@ -70,7 +70,7 @@ size_as_laid m ppem margin gs ss l was =
 
 -- a layout by its size
 laid_by_size : (face : Face) (a : Job) (z : LineSize) → size_outcome face a ≡ Ok z
-    → layout_outcome face a ≡ Ok (layout_by z a.margin a.text)
+    → layout_outcome face a ≡ Ok (layout_by z a.margin (units_by face.cmap (chars a.text)))
 unfolding layout_outcome
 laid_by_size face a z sized = rw sized refl
 
@@ -171,7 +171,7 @@ laid_out_as_measured lead face a m was =
     }) in
     let sized : size_outcome face a ≡ Ok z =
     size_is face a gs passes by_steps.first ∙ ap (λ (r : Result LineSize JobFault). as_job r) size.1 in (
-      layout_by z a.margin a.text,
+      layout_by z a.margin (units_by face.cmap (chars a.text)),
       ps,
       laid_by_size face a z sized,
       pens_are face a gs z passes by_steps.first size.1,

@@ -66,12 +66,13 @@ size_outcome face a =
     steps_outcome face a >>= λ steps.
     size_by face a steps
 
-abbrev pub layout_by : LineSize → ℕ → List ℕ → Layout
-layout_by z margin text = record { size = z; baseline = z.rise +ℤ pos margin; characters = length (chars text) }
+-- a variation selector is no character of its own where the map reads it with the character before it
+abbrev pub layout_by : LineSize → ℕ → List TextUnit → Layout
+layout_by z margin us = record { size = z; baseline = z.rise +ℤ pos margin; characters = length us }
 
 -- the layout of a job, or the first refusal
 unfoldable pub layout_outcome : Face → Job → Result Layout Refused
-layout_outcome face a = size_outcome face a >>= λ z. Ok (layout_by z a.margin a.text)
+layout_outcome face a = size_outcome face a >>= λ z. Ok (layout_by z a.margin (units_by face.cmap (chars a.text)))
 
 -- a pen for each unit, by the units and by the glyphs with their steps, from a first pen on
 abbrev pub pens_at : List TextUnit → List (ℕ × ℕ) → ℕ → List Pen

@@ -1,6 +1,6 @@
 //! The layout of a text without its ink: the size of its picture, its distance from a next line, and its pens.
 
-ghost use Rattle.std.specs.Prelude.{◌≡◌, ◌≤◌, true, false, length, map, chars, sum, IfErr, IfOk};
+ghost use Rattle.std.specs.Prelude.{◌≡◌, ◌≤◌, true, false, length, map, chars, sum, IfErr, IfOk, OnOk};
 ghost use Rattle.tt_core.specs.Limits.{margin_limit, text_limit, width_limit};
 ghost use Rattle.tt_core.specs.Outcomes.{GivesUnless, draw_font_fault};
 ghost use Rattle.tt_cmap.specs.Maps.{units_by};
@@ -28,6 +28,7 @@ pub struct Layout {
     pub size: LineSize,
     /// The picture's rows above the base line.
     pub baseline: i64,
+    /// The units of the text: a variation selector that belongs to a character is not counted.
     pub characters: usize,
 }
 
@@ -43,13 +44,14 @@ pub struct Pen {
 }
 
 /// The layout of a text that has this size.
-fn layout_by(size: LineSize, margin: u32, text: &str) -> Layout
-    ensures { result ≡ layout_by size margin text.now }
+fn layout_by(size: LineSize, margin: u32, cmap: &CharacterMap, text: &str) -> Layout
+    requires { length (chars text.now) ≤ text_limit }
+    ensures { result ≡ layout_by size margin (units_by cmap.now (chars text.now)) }
 {
     Layout {
         size,
         baseline: i64::from(size.rise) + i64::from(margin),
-        characters: text.chars().count(),
+        characters: cmap.units(text).count(),
     }
 }
 
@@ -122,6 +124,7 @@ impl<'f, 'a> SizedFace<'f, 'a> {
         ensures exact { GivesUnless refusal (λ z. z) result (size_outcome self.old.face (job_by self.old text.now margin)) }
         ensures memory { is_bounded self.old.fit ≡ false → IfErr result IsNotMemory }
         ensures defects { TellsMadeDefects (is_bounded self.old.fit) (IsLineDefect self.old.face (job_by self.old text.now margin) (text_glyphs self.old.face.cmap text.now)) result }
+        ensures few { OnOk result (length (chars text.now) ≤ text_limit) }
         ensures same { self.new ≡ self.old }
     {
         let source = self.source;
@@ -145,8 +148,9 @@ impl<'f, 'a> SizedFace<'f, 'a> {
         ensures defects { TellsMadeDefects (is_bounded self.old.fit) (IsLineDefect self.old.face (job_by self.old text.now margin) (text_glyphs self.old.face.cmap text.now)) result }
         ensures same { self.new ≡ self.old }
     {
+        let face = self.face();
         let size = self.line_size(text, margin)?;
-        Ok(layout_by(size, margin, text))
+        Ok(layout_by(size, margin, face.cmap(), text))
     }
 
     /// The pens of a text of at most 4,096 characters with a margin of 0 to 64 pixels, one for each unit. Errors: those

@@ -10,12 +10,11 @@ use Rattle.tt_bdf.proofs.asked.push_text.Goals as goal
 pub loop-c-preserved : goal.loop-c-preserved
 loop-c-preserved c =
     let before = c.args.ranges.now.items in
-    let so_far = c.loop-c.yielded in
-    (
+    let so_far = c.loop-c.yielded in (
       rw (c.in_ok-push.ensures.items, c.range_of_one.ensures.exact, c.loop-c.invariant.0, map-append range_of_one so_far (c.in-Some.c ∷ []))
-      (append_assoc before (map range_of_one so_far) (range_of_one c.in-Some.c ∷ [])),
+          (append_assoc before (map range_of_one so_far) (range_of_one c.in-Some.c ∷ [])),
       λ codes. rw c.in_ok-push.ensures.items
-      (All-push IsCodeRange c.loop-c.ranges.items c.range_of_one.result (c.loop-c.invariant.1 codes) c.range_of_one.ensures.codes),
+          (All-push IsCodeRange c.loop-c.ranges.items c.range_of_one.result (c.loop-c.invariant.1 codes) c.range_of_one.ensures.codes),
     )
 
 pub returns-clause-exact : goal.returns-clause-exact

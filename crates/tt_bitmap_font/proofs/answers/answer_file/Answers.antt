@@ -1,4 +1,3 @@
-use Rattle.std.proofs.Common.{◌≡◌, ◌∙◌, ap, sym}
 use Rattle.std.proofs.lemmas.Result.{err_from_is_err_and}
 use Rattle.tt_render.proofs.OneText.{output_serves, output_tells}
 use Rattle.tt_bitmap_font.specs.declared.answers.ReadyFile.{ReadyFile}

@@ -1,14 +1,11 @@
-use Rattle.std.proofs.Common.{◌≡◌, ◌∙◌, ◌<◌, length, Ok, Err}
+use Rattle.std.proofs.Common.{◌∙◌, ◌<◌}
 use Rattle.std.specs.Prelude.{All}
 use Rattle.std.proofs.lemmas.List.{length-map}
 use Rattle.std.proofs.lemmas.Result.{err_from_is_err_and}
-use Rattle.tt_bdf.specs.Asked.{file_characters}
 use Rattle.tt_core.specs.Faults.{Fault}
-use Rattle.tt_glyphs.specs.Listed.{known_of}
-use Rattle.tt_glyphs.specs.Requests.{sound_outcome}
 use Rattle.tt_metrics.specs.Metrics.{glyphs_of}
-use Rattle.tt_bitmap_font.specs.Characters.{asked_ranges, file_glyphs, glyph_for, glyphs_for}
-use Rattle.tt_bitmap_font.specs.FontFiles.{IsGlyphsDefect, glyph_job}
+use Rattle.tt_bitmap_font.specs.Characters.{glyph_for, glyphs_for}
+use Rattle.tt_bitmap_font.specs.FontFiles.{IsGlyphsDefect}
 use Rattle.tt_bitmap_font.proofs.FileGlyphs.{file_to_list, same_glyphs}
 use Rattle.tt_bitmap_font.proofs.Files.{bitmaps_made, characters_refuse, characters_tell, list_refuses, list_tells, size_refuses}
 use Rattle.tt_bitmap_font.proofs.bitmaps.file_bitmaps.Goals as goal

@@ -1,4 +1,4 @@
-use Rattle.std.proofs.Common.{◌≡◌, ◌∙◌, ◌<◌, sym, arith}
+use Rattle.std.proofs.Common.{◌∙◌, ◌<◌, arith}
 use Rattle.std.proofs.lemmas.List.{append-nil, at_drop_all}
 use Rattle.std.proofs.lemmas.List.Elements.{All-push}
 use Rattle.tt_cmap.specs.Maps.{glyph_count}

@@ -1,4 +1,4 @@
-use Rattle.std.proofs.Common.{◌≡◌, arith}
+use Rattle.std.proofs.Common.{arith}
 use Rattle.tt_bitmap_font.proofs.Listing.{below_ends, below_goes_on, below_none}
 use Rattle.tt_bitmap_font.proofs.lacking.below.Goals as goal
 

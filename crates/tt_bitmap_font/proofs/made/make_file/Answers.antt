@@ -1,8 +1,5 @@
-use Rattle.std.proofs.Common.{◌≡◌, ◌∙◌, ◌+◌, ◌≤◌, ap, length, arith}
-use Rattle.std.specs.Prelude.{All}
-use Rattle.tt_bdf.specs.Bitmap.{bitmap_bytes}
-use Rattle.tt_bdf.specs.declared.character.BdfCharacter.{BdfCharacter}
-use Rattle.tt_bitmap_font.specs.Bitmaps.{CharacterFits, characters_by}
+use Rattle.std.proofs.Common.{arith}
+use Rattle.tt_bitmap_font.specs.Bitmaps.{characters_by}
 use Rattle.tt_bitmap_font.proofs.Fitting.{characters_counted, characters_fit, characters_limited, characters_within}
 use Rattle.tt_bitmap_font.proofs.made.make_file.Goals as goal
 

@@ -1,4 +1,4 @@
-use Rattle.std.proofs.Common.{◌≡◌, refl, ℕ, List, Ok, Err, inl, subst}
+use Rattle.std.proofs.Common.{ℕ, List, Err, inl, subst}
 use Rattle.tt_render.proofs.FontLines.{reading_stops}
 use Rattle.tt_render.proofs.OneText.{job_tells, reading_tells, silent, text_cut, text_fails, text_written}
 use Rattle.tt_render.proofs.Printed.{keeps_itself}

@@ -1,4 +1,3 @@
-use Rattle.tt_glyphs.proofs.ListFacts.{outcome_begun}
 use Rattle.tt_glyphs.proofs.ListLaws.{rows_are_counted}
 use Rattle.tt_glyphs.proofs.RoomLaws.{room_is_exact}
 use Rattle.tt_glyphs.proofs.laws.rows_fit.Goals as goal

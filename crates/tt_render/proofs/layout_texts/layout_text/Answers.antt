@@ -1,6 +1,7 @@
 use Rattle.std.proofs.Common.{◌≡◌, ◌++◌, ◌∙◌, sym, flat_map, string_bytes, append_assoc, arith}
 use Rattle.std.proofs.lemmas.List.{append-nil, at_drop_all, at_drop_more}
-use Rattle.tt_render.specs.LayoutTexts.{pen_text}
+use Rattle.tt_render.specs.LayoutTexts.{pen_text, size_text}
+use Rattle.tt_render.specs.MeasureText.{face_text, font_text}
 use Rattle.tt_render.proofs.LayoutCalls.{append_pens, no_pen}
 use Rattle.tt_render.proofs.layout_texts.layout_text.Goals as goal
 
@@ -13,6 +14,8 @@ loop-pen-preserved c =
 
 pub returns : goal.returns
 returns c =
+    let lines = string_bytes c.loop-pen.lines in
+    let first = (face_text c.args.reading c.args.file.now ++ font_text c.args.face.now.metrics) ++ size_text c.args.layout.now in
     let none = at_drop_all (flat_map pen_text) c.args.pens.now c.loop-pen.pen-index (omega arith) in
-    let whole = rw (← append-nil (string_bytes c.loop-pen.lines)) (rw none at c.loop-pen.invariant) in
+    let whole : lines ≡ first ++ flat_map pen_text c.args.pens.now = rw (← append-nil lines) (rw none at c.loop-pen.invariant) in
     whole ∙ append_pens c.args.reading c.args.file.now c.args.face.now c.args.layout.now c.args.pens.now

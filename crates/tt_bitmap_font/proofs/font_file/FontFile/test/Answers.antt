@@ -1,4 +1,4 @@
-use Rattle.std.proofs.Common.{◌≡◌, subst}
+use Rattle.std.proofs.Common.{subst}
 use Rattle.tt_core.specs.Outcomes.{Gives}
 use Rattle.tt_strike.specs.Job.{Job, tested}
 use Rattle.tt_bitmap_font.proofs.font_file.FontFile.test.Goals as goal

@@ -38,7 +38,7 @@ returns-in_err-size-clause-defects c =
 pub returns-clause-exact : goal.returns-clause-exact
 unfolding layout_outcome
 returns-clause-exact c =
-    rw (c.in_ok-size.ensures.exact, c.layout_by.ensures) refl
+    rw (c.in_ok-size.ensures.exact, c.layout_by.ensures, c.cmap.ensures.exact, c.face-face.ensures) refl
 
 pub returns-clause-defects : goal.returns-clause-defects
 returns-clause-defects c =
