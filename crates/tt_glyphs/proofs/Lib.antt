@@ -5,6 +5,9 @@ pub mod DrawnGlyphs
 pub mod EdgesMade
 pub mod Entered
 pub mod KnownNumbers
+pub mod ListBegun
+pub mod ListDrawn
+pub mod ListOutcomes
 pub mod LeastBitmaps
 pub mod LineBitmaps
 pub mod ListFacts

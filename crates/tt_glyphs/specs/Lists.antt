@@ -19,6 +19,7 @@ use Rattle.tt_glyphs.specs.Tried.{AreTriedBy, IsRuledBody, tried_numbers}
 pub record IsTriedList (face : Face) (a : GlyphJob) (s : Fitter) (l : TriedList) : Type 0 where
   pub setting : IsSetting face a.ppem a.fit s
   pub source : IsSourceOf l.source s
+  pub face : l.source.face.now ≡ face
   pub fit : l.source.fit ≡ a.fit
   pub few : length a.glyphs ≤ text_limit
   pub room : length l.places.items ≡ glyphs_of s.metrics

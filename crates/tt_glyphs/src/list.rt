@@ -126,7 +126,7 @@ impl BitmapList {
     /// The bitmaps of a list whose distinct glyphs are tried. Errors: WorkLarge of their chords and crossings; Memory.
     fn drawn_from(glyphs: &[u32], list: TriedList) -> Result<BitmapList, DrawFault>
         requires tried { (face : Face) × (a : GlyphJob) × (s : Fitter) × IsTriedList face a s list × (a.glyphs ≡ glyphs.now) }
-        ensures exact { (face : Face) (a : GlyphJob) (s : Fitter) → IsTriedList face a s list → a.glyphs ≡ glyphs.now → GivesUnless refusal (λ b. b) result (bitmaps_tested a.fit glyphs.now s) }
+        ensures exact { (face : Face) (a : GlyphJob) (s : Fitter) → IsTriedList face a s list.entry → a.glyphs ≡ glyphs.now → GivesUnless refusal (λ b. b) result (bitmaps_tested a.fit glyphs.now s) }
         ensures font { IfTold draw_font_fault result (λ _. ⊥) }
         ensures entries { IfOk result (λ b. length b.entries ≡ length glyphs.now) }
         ensures fits { IfOk result (λ b. All (EntryFits b.wanted) b.entries) }
@@ -146,7 +146,6 @@ impl BitmapList {
     /// refused glyph has its fault in its entry, and the others are made. Errors, the first of: SizeRange, TextLong;
     /// those of loca and glyf, of the programs; WorkLarge of the points, of the chords, of the crossings. Memory may
     /// come at any allocation.
-    #[tactic(auto, unfolding(crate::specs::Requests::bitmaps_outcome, crate::specs::Requests::bitmaps_in, crate::specs::Requests::request_begun))]
     pub fn make(
         alloc: Global,
         face: &Face,
@@ -170,7 +169,6 @@ impl BitmapList {
 
     /// As `make`, but the first glyph of the list whose outline is refused refuses the list. Its fault comes after
     /// WorkLarge of the points, and before WorkLarge of the chords.
-    #[tactic(auto, unfolding(crate::specs::Requests::sound_outcome, crate::specs::Requests::sound_in, crate::specs::Requests::request_begun))]
     pub fn make_sound(
         alloc: Global,
         face: &Face,

@@ -10,7 +10,7 @@ use Rattle.tt_glyphs.proofs.outlines.try_glyphs.Goals as goal
 
 pub loop-number-init : goal.loop-number-init
 loop-number-init c =
-    let none = c.with_capacity.ensures.items in
+    let none = c.in_ok-tried.ensures.items in
     record {
       tried = rw none refl;
       ruled = rw none (λ k d below. absurd (omega (arith, below)));
