@@ -48,7 +48,7 @@ returns-clause-exact c = λ face a s is same.
     let ds = c.in_ok-drawn.drawn.items in
     let maker = line_fitter s (known s gs) in
     let numbers = c.in_ok-drawn.ensures.numbers ∙ is.numbers in
-    let drawn = c.in_ok-drawn.ensures.drawn maker (sources c.args.list.source s (known s gs) is.source) is.tried in
+    let drawn = rw is.fit at (c.in_ok-drawn.ensures.drawn maker (sources c.args.list.source s (known s gs) is.source) is.tried) in
     let edges = rw (tested_is face a s c.args.list is) at c.in_ok-drawn.ensures.exact in
     let of = c.in_ok-of.ensures in
     let made = bitmaps_are a.fit s gs places ds c.in_ok-of.field-0 (record { numbers = numbers; drawn = drawn })

@@ -35,11 +35,11 @@ returns-in_err-tried-clause-job c =
     let p = err_from_is_err_and c.from_residual.result c.from_residual.ensures.1 in
     rw (p.1, p.2) (stops_tell c.args.face.now a c.in_err-tried.field-0.0 c.in_err-tried.ensures.stops)
 
-pub drawn_from-requires-clause-tried : goal.drawn_from-requires-clause-tried
-drawn_from-requires-clause-tried c =
+pub drawn_from-requires : goal.drawn_from-requires
+drawn_from-requires c =
     let a = job_for c.args.glyphs.now c.args.ppem c.args.fit in
-    let is = begun (goal.at.drawn_from-requires-clause-tried c).In_ok-tried in
-    (c.args.face.now, a, is.0, is.2, refl)
+    let is = begun (goal.at.drawn_from-requires c).In_ok-tried in
+    record { tried = (c.args.face.now, a, is.0, is.2, refl) }
 
 pub returns-clause-exact : goal.returns-clause-exact
 returns-clause-exact c =

@@ -74,3 +74,6 @@ returns-clause-rows c =
     let at : c.loop-i.at ≡ c.self.inside.wanted = so_far.at ∙ ap (sum_by bytes_of) whole ∙ sym c.self.invariant.2 in
     let rows : take c.loop-i.at c.loop-i.room ≡ flat_map drawn_rows ds = so_far.rows ∙ ap (flat_map drawn_rows) whole in
     rw (← c.self.view_is) (rw at at rows)
+
+pub returns-clause-len : goal.returns-clause-len
+returns-clause-len c = c.loop-i.invariant.len
