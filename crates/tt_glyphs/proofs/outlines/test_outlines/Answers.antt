@@ -11,6 +11,9 @@ returns-in-Refused-clause-fault c = λ maker tried.
     first_refused maker c.args.tried.now c.loop-glyph.glyph-index c.glyph-item.result c.in-Refused.fault tried
     c.loop-glyph.invariant c.loop-glyph-test.true (ap (λ (t : TriedGlyph). t.body) (sym c.glyph-item.is) ∙ c.in-Refused.is)
 
+pub returns-in-Refused-clause-sound : goal.returns-in-Refused-clause-sound
+returns-in-Refused-clause-sound c = tt
+
 pub loop-glyph-preserved : goal.loop-glyph-preserved
 loop-glyph-preserved c =
     let made : IsMadeBody c.glyph-item.result.body = rw c.in_default.is tt in

@@ -1,4 +1,4 @@
-use Rattle.std.proofs.Common.{◌≡◌, ◌∙◌, List, ap, refl, sym, Ok}
+use Rattle.std.proofs.Common.{◌≡◌, ◌∙◌, ℕ, List, ap, refl, sym, Ok}
 use Rattle.std.proofs.lemmas.Result.{err_from_is_err_and}
 use Rattle.tt_fit.specs.Fitting.{Fitter}
 use Rattle.tt_picture.proofs.Places.{ok_and}
@@ -27,14 +27,17 @@ begun c =
     let a = job_for c.args.glyphs.now c.args.ppem c.args.fit in
     ok_and (request_begun c.args.face.now a) (λ s. IsTriedList c.args.face.now a s c.in_ok-tried.tried) c.in_ok-tried.ensures.tried
 
+made_of : (maker : ℕ → Fitter) (ns gs : List ℕ) → ns ≡ gs → (os : List Outline) × (outlines_by maker ns ≡ Ok os)
+    → (os : List Outline) × (outlines_by maker gs ≡ Ok os)
+made_of maker ns gs same there = (there.0, sym (ap (outlines_by maker) same) ∙ there.1)
+
 -- and none of its outlines is refused
 made : (c : In_ok-test_outlines) (s : Fitter)
     → IsTriedList c.args.face.now (job_for c.args.glyphs.now c.args.ppem c.args.fit) s c.in_ok-tried.tried
     → (os : List Outline) × (outlines_in s (known s c.args.glyphs.now) ≡ Ok os)
 made c s is =
     let maker = line_fitter s (known s c.args.glyphs.now) in
-    let there = (rw c.deref.ensures.value at c.in_ok-test_outlines.ensures.sound) maker is.tried in
-    (there.0, sym (ap (outlines_by maker) is.numbers) ∙ there.1)
+    made_of maker _ _ is.numbers ((rw c.deref.ensures.value at c.in_ok-test_outlines.ensures.sound) maker is.tried)
 
 pub returns-in_err-tried-clause-exact : goal.returns-in_err-tried-clause-exact
 returns-in_err-tried-clause-exact c =
