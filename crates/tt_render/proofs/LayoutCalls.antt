@@ -19,7 +19,7 @@ use Rattle.tt_render.specs.Views.{before_lines, refusal_of_draw}
 use Rattle.tt_strike.specs.declared.layouts.Layout.{Layout}
 use Rattle.tt_strike.specs.declared.layouts.Pen.{Pen}
 use Rattle.tt_strike.specs.Job.{Job}
-use Rattle.tt_strike.specs.Layouts.{TellsMadeDefects, layout_outcome, pens_outcome}
+use Rattle.tt_strike.specs.Layouts.{TellsMadeDefects, pens_outcome}
 use Rattle.tt_strike.specs.Refusals as drawing
 use Rattle.tt_strike.specs.Strikes.{Strike, job_of}
 
@@ -43,11 +43,6 @@ unfolding laid_text
 stops_at_pens r face j (draw.Font f) is = rw is refl
 stops_at_pens r face j (draw.Job k) is = rw is refl
 stops_at_pens r face j draw.Memory is = tt
-
-pub lines_made : (r : Reading) (face : Face) (j : Job) (l : Layout) (ps : List Pen) → pens_outcome face j ≡ Ok ps
-    → layout_outcome face j ≡ Ok l → laid_text r face j ≡ Ok (layout_text r face.directory.file face l ps)
-unfolding laid_text
-lines_made r face j l ps stands laid = rw (stands, laid) refl
 
 -- so the text is refused
 pub lines_stop : (a : Setting) (s : Strike) (text : List ℕ) (d : DrawFault)
