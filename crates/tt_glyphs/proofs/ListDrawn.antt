@@ -1,5 +1,5 @@
 -- The bitmaps of a tried list, once its glyphs are drawn.
-use Rattle.std.proofs.Common.{◌≡◌, ◌∙◌, ap, refl, sym, ℕ, ◌+◌, ◌≤◌, ◌<◌, List, All, get_or, length, map, slice_index, Result, Ok, Err, arith}
+use Rattle.std.proofs.Common.{◌≡◌, ◌∙◌, ap, refl, ℕ, List, All, length, map, slice_index, Err}
 use Rattle.std.specs.Prelude.{IfSome, flat_map}
 use Rattle.tt_core.specs.declared.draw_fault.DrawFault.{DrawFault}
 use Rattle.tt_core.specs.declared.draw_fault.DrawFault.TheVariants as draw
@@ -19,12 +19,12 @@ use Rattle.tt_glyphs.specs.declared.drawing.DrawnGlyph.{DrawnGlyph}
 use Rattle.tt_glyphs.specs.declared.told.GlyphEntry.{GlyphEntry}
 use Rattle.tt_glyphs.specs.declared.tried.TriedList.{TriedList}
 use Rattle.tt_glyphs.specs.Defects.{EntryFits}
-use Rattle.tt_glyphs.specs.Drawn.{DrawnFits, IsDrawn, IsSourceOf, drawn_rows}
+use Rattle.tt_glyphs.specs.Drawn.{DrawnFits, IsSourceOf, drawn_rows}
 use Rattle.tt_glyphs.specs.Entries.{known, told_bytes}
-use Rattle.tt_glyphs.specs.Listed.{bytes_among, drawn_numbers, entry_by, known_of}
+use Rattle.tt_glyphs.specs.Listed.{drawn_numbers, entry_by, known_of}
 use Rattle.tt_glyphs.specs.Lists.{IsTriedList}
 use Rattle.tt_glyphs.specs.Requests.{Bitmaps, GlyphJob, bitmaps_by, bitmaps_tested, edges_of_list_tested}
-use Rattle.tt_glyphs.specs.Tried.{tried_chords, tried_crossings, tried_numbers}
+use Rattle.tt_glyphs.specs.Tried.{tried_chords, tried_crossings}
 use Rattle.tt_glyphs.proofs.Entered.{entry_within, reports_fit, wanted_is}
 use Rattle.tt_glyphs.proofs.Reported.{AreDrawnOf, bytes_are, entries_are, rows_are}
 use Rattle.tt_glyphs.proofs.WorkTested.{chords_tried, crossings_tried}

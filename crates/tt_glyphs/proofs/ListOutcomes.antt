@@ -1,5 +1,5 @@
 -- The answer of a call for the bitmaps of a list, by the steps of the call.
-use Rattle.std.proofs.Common.{◌≡◌, ◌∙◌, ap, inl, refl, sym, ℕ, List, Result, Ok, Err}
+use Rattle.std.proofs.Common.{◌≡◌, ◌∙◌, ap, inl, refl, ℕ, List, Result, Ok, Err}
 use Rattle.std.specs.Prelude.{IfOk, IfSome, IsOkAnd}
 use Rattle.tt_core.specs.declared.draw_fault.DrawFault.{DrawFault}
 use Rattle.tt_core.specs.declared.draw_fault.DrawFault.TheVariants as draw
@@ -15,7 +15,7 @@ use Rattle.tt_metrics.specs.Metrics.{glyphs_of}
 use Rattle.tt_strike.specs.Defects.{IsSettingDefect, TellsDefects}
 use Rattle.tt_strike.specs.Makers.{job_at}
 use Rattle.tt_strike.specs.Picture.{outlines_in, setting}
-use Rattle.tt_strike.specs.Refusals.{Refused, as_font, as_job, refusal}
+use Rattle.tt_strike.specs.Refusals.{as_font, as_job, refusal}
 use Rattle.tt_glyphs.specs.Defects.{AreSound, IsListDefect, IsListRefusal, TellGlyphDefects}
 use Rattle.tt_glyphs.specs.declared.tried.TriedList.{TriedList}
 use Rattle.tt_glyphs.specs.Entries.{entries, known}

@@ -1,4 +1,4 @@
-use Rattle.std.proofs.Common.{◌≡◌, ◌∙◌, ap, refl, sym, ℕ, ◌<◌, List, [], All, Ok}
+use Rattle.std.proofs.Common.{◌≡◌, ◌∙◌, ap, refl, sym, ◌<◌, []}
 use Rattle.std.proofs.lemmas.Result.{err_from_is_err_and}
 use Rattle.tt_face.specs.Faces.{Face}
 use Rattle.tt_fit.specs.Fitting.{Fitter}
@@ -11,7 +11,7 @@ use Rattle.tt_strike.specs.Strikes.{SizedFace}
 use Rattle.tt_strike.specs.Work.{line_fitter, started}
 use Rattle.tt_strike.proofs.Stopped.{font_tells}
 use Rattle.tt_glyphs.specs.Listed.{known_of}
-use Rattle.tt_glyphs.specs.Requests.{GlyphJob, job_for, points_of_list_tested}
+use Rattle.tt_glyphs.specs.Requests.{job_for, points_of_list_tested}
 use Rattle.tt_glyphs.specs.Tried.{tried_numbers}
 use Rattle.tt_glyphs.proofs.ListBegun.{begun_is, charging_tells, count_stops, numbers_hold, numbers_tried, points_stop, setting_source, setting_stops, size_stops, tried_themselves}
 use Rattle.tt_glyphs.proofs.tried.tried_list.Goals.{In_ok-charge, In_ok-fitter, In_ok-met}

@@ -5,7 +5,7 @@ use Rattle.tt_picture.proofs.Places.{ok_and}
 use Rattle.tt_strike.specs.Defects.{IsSettingDefect}
 use Rattle.tt_strike.specs.Makers.{job_at}
 use Rattle.tt_glyphs.specs.Lists.{IsTriedList}
-use Rattle.tt_glyphs.specs.Requests.{GlyphJob, job_for, request_begun}
+use Rattle.tt_glyphs.specs.Requests.{job_for, request_begun}
 use Rattle.tt_glyphs.proofs.ListOutcomes.{drawing_tells, drawn_defects, drawn_gives, drawn_tells, stops, stops_tell}
 use Rattle.tt_glyphs.proofs.list.BitmapList.make.Goals.{In_ok-tried}
 use Rattle.tt_glyphs.proofs.list.BitmapList.make.Goals as goal

@@ -2,18 +2,15 @@ use Rattle.std.proofs.Common.{◌≡◌, ◌∙◌, ℕ, List, ap, refl, sym, Ok
 use Rattle.std.proofs.lemmas.Result.{err_from_is_err_and}
 use Rattle.tt_fit.specs.Fitting.{Fitter}
 use Rattle.tt_picture.proofs.Places.{ok_and}
-use Rattle.tt_strike.specs.Defects.{IsSettingDefect}
-use Rattle.tt_strike.specs.Makers.{job_at}
 use Rattle.tt_fit_outline.specs.Outline.{Outline}
 use Rattle.tt_metrics.specs.Metrics.{glyphs_of}
-use Rattle.tt_picture.specs.Distinct.{distinct}
 use Rattle.tt_picture.specs.Steps.{outlines_by}
 use Rattle.tt_strike.specs.Picture.{outlines_in}
 use Rattle.tt_strike.specs.Work.{line_fitter}
 use Rattle.tt_glyphs.specs.Defects.{IsListDefect}
 use Rattle.tt_glyphs.specs.Entries.{known}
 use Rattle.tt_glyphs.specs.Lists.{IsTriedList}
-use Rattle.tt_glyphs.specs.Requests.{GlyphJob, job_for, request_begun}
+use Rattle.tt_glyphs.specs.Requests.{job_for, request_begun}
 use Rattle.tt_glyphs.proofs.ListFacts.{list_defect, no_list_defect}
 use Rattle.tt_glyphs.proofs.ListOutcomes.{drawing_tells, drawn_sound, drawn_tells, metrics_of, refused_gives, sound_gives, stops_defect, stops_sound, stops_tell}
 use Rattle.tt_glyphs.proofs.list.BitmapList.make_sound.Goals.{In_ok-test_outlines, In_ok-tried}
