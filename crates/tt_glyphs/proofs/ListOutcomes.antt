@@ -104,7 +104,7 @@ drawn_sound a s os count (Err e) same made gives = tt
 
 -- the fitter of a tried list has the metrics of the face
 pub metrics_of : (face : Face) (a : GlyphJob) (s : Fitter) (l : TriedList) → IsTriedList face a s l → s.metrics ≡ face.metrics
-metrics_of face a s l is = is.source.metrics ∙ ap (λ (f : Face). f.metrics) is.face
+metrics_of face a s l is = is.source.metrics ∙ ap (λ (f : Face). f.metrics) is.of
 
 -- a defect of the tables and programs is one of the list
 pub stops_defect : (face : Face) (a : GlyphJob) (e : DrawFault) → IfSome (draw_font_fault e) (IsSettingDefect face (job_at a.ppem a.fit))

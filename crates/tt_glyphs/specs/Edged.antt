@@ -1,7 +1,6 @@
 -- No part of the standard: the edges of an outline at pen 0.
 use Rattle.std.specs.Prelude.{◌≡◌, ℕ, ◌+◌, ◌^◌, ◌≤◌, length, IfSome}
 use Rattle.tt_fit.specs.Fitting.{Fitter, fitted_outline}
-use Rattle.tt_fit_outline.specs.Outline.{Outline}
 use Rattle.tt_fit_outline.specs.Steps.{step_of}
 use Rattle.tt_picture.specs.Shapes.{contours_of, edges_at, filling_crossings}
 use Rattle.tt_picture.specs.Steps.{chords_of}

@@ -1,4 +1,4 @@
-use Rattle.std.proofs.Common.{◌≡◌, refl}
+use Rattle.std.proofs.Common.{refl}
 use Rattle.tt_fit_outline.specs.Views.{outline_of}
 use Rattle.tt_glyphs.proofs.EdgesMade.{boxed_by}
 use Rattle.tt_glyphs.proofs.edged.edged.Goals as goal

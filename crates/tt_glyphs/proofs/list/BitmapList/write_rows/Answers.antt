@@ -1,8 +1,7 @@
-use Rattle.std.proofs.Common.{◌≡◌, ◌∙◌, ℕ, ◌+◌, ◌-◌, ◌<◌, ◌≤◌, sym, ap, drop, get_or, length, set, take, arith, get_or-set_other, length-drop, length-take-le}
+use Rattle.std.proofs.Common.{◌≡◌, ◌∙◌, ◌+◌, ◌-◌, ◌<◌, ◌≤◌, sym, ap, drop, get_or, length, take, arith, get_or-set_other, length-drop, length-take-le}
 use Rattle.std.specs.List.{flat_map, sum_by}
 use Rattle.std.proofs.lemmas.List.{get_or_default, length-set, take_all}
 use Rattle.std.proofs.lemmas.Slice.{drop-put_mid}
-use Rattle.tt_glyphs.specs.declared.drawing.DrawnGlyph.{DrawnGlyph}
 use Rattle.tt_glyphs.specs.Drawn.{DrawnFits, drawn_rows}
 use Rattle.tt_glyphs.specs.Requests.{Bitmaps}
 use Rattle.tt_glyphs.proofs.RowsWritten.{bytes_of, bytes_within, drawn_length, next_bytes, next_rows}
