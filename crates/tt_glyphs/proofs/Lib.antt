@@ -14,6 +14,8 @@ pub mod ListFacts
 pub mod ListLaws
 pub mod MadeLines
 pub mod Numbers
+pub mod Pushed
+pub mod Region
 pub mod RoomLaws
 pub mod Refused
 pub mod Reported
