@@ -1,5 +1,5 @@
 -- The box of a glyph's ink lies in the columns and the lines where its edges and its dropouts are sought.
-use Rattle.std.proofs.Common.{◌≡◌, ◌∙◌, refl, sym, Bool, true, false, ◌&&◌, List, map, ℤ, ◌≤ℤ◌, Option, None, Some, arith}
+use Rattle.std.proofs.Common.{◌≡◌, ◌∙◌, ap, refl, sym, Bool, true, false, ◌&&◌, List, map, ℤ, ◌≤ℤ◌, Option, None, Some, arith}
 use Rattle.std.specs.Int.{int_max, int_min}
 use Rattle.std.specs.Prelude.{IfSome}
 use Rattle.std.proofs.lemmas.Bool.{false≢true}
@@ -147,5 +147,9 @@ region_holds black es cs rules across up is columns rows c j here =
     rw (columns, rows) (held_within black (hull (columns_of es) (columns_in rules.extents))
     (hull (columns_of (map turned_round es)) (rows_in rules.extents)) (ink_by es cs (Some rules)) is (region_within es cs rules) c j here)
 
+abbrev columns_from : ℤ → ℤ → Columns
+columns_from first last = record { first = first; last = last }
+
 pub columns_same : (a b : Columns) → a.first ≡ b.first → a.last ≡ b.last → a ≡ b
-columns_same a b first last = rw (first, last) refl
+columns_same a b first last =
+    ap (λ z. columns_from z a.last) first ∙ ap (λ z. columns_from b.first z) last

@@ -13,6 +13,7 @@ ghost use Rattle.tt_scan_gaps.specs.Boxes.{ExtentsFit};
 ghost use Rattle.tt_scan_ink.specs.Least.{IsNear};
 
 use crate::listing::MOST_SIDE;
+use crate::placing::count;
 use crate::ruled::RuledOutline;
 use std::alloc::{AllocError, Global};
 use tt_arc::OutlineEdges;
@@ -47,11 +48,11 @@ fn first_frame(filled: Option<BoxedRules>) -> Frame
         return rows_frame(0, 1);
     };
     let (_, rows) = pixels_in(rules.extents);
-    let more = rows.last - rows.first;
-    if more < 0 || i64::from(MOST_SIDE) <= more {
+    let height = count(rows.first, rows.last);
+    if height > MOST_SIDE {
         return rows_frame(0, 1);
     }
-    rows_frame(rows.last + 1, more as u32 + 1)
+    rows_frame(rows.last + 1, height)
 }
 
 /// The edges of an outline at pen 0.

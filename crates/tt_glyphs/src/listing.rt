@@ -57,7 +57,7 @@ fn push_span(
     let left = span.first.max(columns.first);
     let right = span.last.min(columns.last);
     if left <= right {
-        push_run(found, left, line, (right - left) as u32 + 1)?;
+        push_run(found, left, line, count(left, right))?;
     }
     Ok(())
 }
@@ -177,7 +177,10 @@ pub(crate) fn pixels_of(
         return Ok(None);
     };
     let (columns, rows) = region_of(edged, rules);
-    if !is_listed(edged.tape.frame(), columns, rows) || edged.tape.edges() > MOST_EDGES {
+    if !is_listed(edged.tape.frame(), columns, rows) {
+        return Ok(None);
+    }
+    if edged.tape.edges() > MOST_EDGES {
         return Ok(None);
     }
     let mut found = filled_in(alloc, window_of(columns, rows), edged)?;

@@ -22,4 +22,8 @@ loop-i-preserved c = λ k j.
     c.args.left c.args.line i k j so_far (rw c.from.ensures refl) refl))
 
 pub returns : goal.returns
-returns c = λ k j. c.loop-i.invariant k j
+returns c = λ k j.
+    let left : SFits w64 c.args.left = c.ranges.left in
+    let line : SFits w64 c.args.line = c.ranges.line in
+    let end : c.loop-i.i ≡ c.args.count = omega (arith, c.loop-i-test.false, c.loop-i.auto.i-end) in
+    rw end at (simp to_z-of_z at (c.loop-i.invariant k j))
