@@ -1,5 +1,5 @@
 -- Pixels of runs, of spans and of rows, one more at a time.
-use Rattle.std.proofs.Common.{◌≡◌, ◌≢◌, ◌∙◌, ap, refl, sym, ℕ, ◌+◌, Bool, true, false, ◌&&◌, ◌||◌, List, [], ◌∷◌, ◌++◌, ℤ, pos, ◌+ℤ◌, ◌-ℤ◌, ◌≤ℤ◌, ◌<ℤ◌, int_le, int_lt, arith}
+use Rattle.std.proofs.Common.{◌≡◌, ◌≢◌, ◌∙◌, ap, ap₂, refl, sym, ℕ, ◌+◌, Bool, true, false, ◌&&◌, ◌||◌, List, [], ◌∷◌, ◌++◌, ℤ, pos, ◌+ℤ◌, ◌-ℤ◌, ◌≤ℤ◌, ◌<ℤ◌, int_le, int_lt, arith}
 use Rattle.std.specs.Int.{int_max, int_min}
 use Rattle.std.specs.Ordering.{int_eq}
 use Rattle.std.proofs.lemmas.Int.{by_lt_z, clamps, ints}
@@ -98,7 +98,8 @@ pub run_more : (ps : List Pixel) (p : Pixel) (old : Bool) (left line : ℤ) (i :
     → has_pixel ps c j ≡ (old || (is_within left i c && int_eq line j)) → p.column ≡ left +ℤ pos i → p.row ≡ line
     → has_pixel (ps ++ p ∷ []) c j ≡ (old || (is_within left (i + 1) c && int_eq line j))
 run_more ps p old left line i c j so_far column row =
-    let one : has_pixel (p ∷ []) c j ≡ ((int_eq (left +ℤ pos i) c && int_eq line j) || false) = rw (column, row) refl in
+    let one : has_pixel (p ∷ []) c j ≡ ((int_eq (left +ℤ pos i) c && int_eq line j) || false) =
+    ap₂ (λ x y. (int_eq x c && int_eq y j) || false) column row in
     pixels_more ps (p ∷ []) c j
     ∙ ap (λ b. b || has_pixel (p ∷ []) c j) so_far
     ∙ ap (λ b. (old || (is_within left i c && int_eq line j)) || b) one

@@ -1,14 +1,13 @@
 //! The black pixels of a small glyph, listed: its rows are cut once, and its dropouts are sought once. The box of its ink
 //! and the rows of its bitmap are made of the list.
 
-ghost use Rattle.std.specs.Prelude.{◌≡◌, ℤ, ◌+◌, ◌*◌, ◌^◌, ◌<◌, ◌≤◌, ◌+ℤ◌, ◌-ℤ◌, ◌≤ℤ◌, ◌&&◌, ◌||◌, true, pos, length, unsigned_abs, [], ◌∷◌, Some, IfOk, IfSome, OnOk};
+ghost use Rattle.std.specs.Prelude.{◌≡◌, ℤ, ◌+◌, ◌*◌, ◌^◌, ◌<◌, ◌≤◌, ◌+ℤ◌, ◌-ℤ◌, ◌&&◌, ◌||◌, true, pos, length, unsigned_abs, [], ◌∷◌, Some, IfOk, IfSome, OnOk};
 ghost use Rattle.std.specs.Int.{int_max, int_min};
 ghost use Rattle.std.specs.Ordering.{int_eq};
 ghost use Rattle.tt_core.specs.Limits.{height_limit};
 ghost use Rattle.tt_glyphs.specs.Edged.{EdgedFits, ink_of, inked_by};
 ghost use Rattle.tt_scan_dropouts.specs.Passes.{has_pixel};
 ghost use Rattle.tt_scan_dropouts.specs.Windows.{WindowFits, is_within, widened};
-ghost use Rattle.tt_scan_edges.specs.Winding.{FrameFits};
 ghost use Rattle.tt_scan_gaps.specs.Boxes.{is_column_of};
 ghost use Rattle.tt_scan_ink.specs.Ink.{count_of};
 ghost use Rattle.tt_scan_ink.specs.Least.{AreNear, IsNear, covered, is_inked_by, shown};
