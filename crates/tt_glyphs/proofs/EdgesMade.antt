@@ -2,8 +2,8 @@
 use Rattle.std.proofs.Common.{◌≡◌, refl, sym, subst, ℤ, Bool, ◌||◌, List, Option, None, Some}
 use Rattle.std.specs.Prelude.{IfSome, pos}
 use Rattle.tt_arc.proofs.Closed.{all_closed}
-use Rattle.tt_arc.proofs.EndsOfContours.{joined}
 use Rattle.tt_arc.proofs.PointsBox.{box_holds_edges}
+use Rattle.tt_arc.specs.Laws.{ContoursJoined}
 use Rattle.tt_arc.specs.declared.rule.ChordRule.{ChordRule}
 use Rattle.tt_fit_outline.specs.Outline.{Outline}
 use Rattle.tt_picture.specs.Ink.{filled_ink, ink_by}
@@ -35,27 +35,28 @@ box_fits (Some rules) o ruled = ruled.1
 
 -- the box of the ink
 
-edges_hold : (way : ChordRule) (o : Outline) → IsInk (is_inked_by (edges_at way 0 o)) (edges_ink (edges_at way 0 o))
-edges_hold way o =
+edges_hold : ContoursJoined → (way : ChordRule) (o : Outline)
+    → IsInk (is_inked_by (edges_at way 0 o)) (edges_ink (edges_at way 0 o))
+edges_hold joined way o =
     let from = offset_at 0 o in
     let P : List Edge → Type 0 = λ es. IsInk (is_inked_by es) (edges_ink es) in
     subst P (joined way o.points o.ends from (pos 0))
     (edges_held (contours_of way 0 o) (all_closed way o.points o.ends from (pos 0)))
 
-dropouts_hold : (filled : Option BoxedRules) (way : ChordRule) (o : Outline) (cs : List (List Edge))
+dropouts_hold : ContoursJoined → (filled : Option BoxedRules) (way : ChordRule) (o : Outline) (cs : List (List Edge))
     → IfSome filled (λ rules. (rules.extents ≡ extents_of o) × ExtentsFit rules.extents)
     → IfSome filled (λ rules. cs ≡ contours_of way 0 o) → IsInk (is_filled filled cs) (filled_ink filled cs)
-dropouts_hold None way o cs ruled contours = λ c j. refl
-dropouts_hold (Some rules) way o cs ruled contours =
+dropouts_hold joined None way o cs ruled contours = λ c j. refl
+dropouts_hold joined (Some rules) way o cs ruled contours =
     let box : IsBoxOf rules.extents (edges_at way 0 o) = boxed_by (Some rules) way o (edges_at way 0 o) ruled refl in
     rw contours (dropouts_held rules (contours_of way 0 o)
     (subst (HoldsEdges rules.extents) (sym (joined way o.points o.ends (offset_at 0 o) (pos 0))) box.held))
 
-pub ink_held : (filled : Option BoxedRules) (way : ChordRule) (o : Outline) (es : List Edge) (cs : List (List Edge))
-    → IfSome filled (λ rules. (rules.extents ≡ extents_of o) × ExtentsFit rules.extents) → es ≡ edges_at way 0 o
-    → IfSome filled (λ rules. cs ≡ contours_of way 0 o)
+pub ink_held : ContoursJoined → (filled : Option BoxedRules) (way : ChordRule) (o : Outline) (es : List Edge)
+    (cs : List (List Edge)) → IfSome filled (λ rules. (rules.extents ≡ extents_of o) × ExtentsFit rules.extents)
+    → es ≡ edges_at way 0 o → IfSome filled (λ rules. cs ≡ contours_of way 0 o)
     → IsInk (λ c j. is_inked_by es c j || is_filled filled cs c j) (ink_by es cs filled)
-ink_held filled way o es cs ruled edges contours =
-    let here : IsInk (is_inked_by es) (edges_ink es) = rw edges (edges_hold way o) in
+ink_held joined filled way o es cs ruled edges contours =
+    let here : IsInk (is_inked_by es) (edges_ink es) = rw edges (edges_hold joined way o) in
     joined_is (is_inked_by es) (is_filled filled cs) (λ (c : ℤ) (j : ℤ). is_inked_by es c j || is_filled filled cs c j)
-    (edges_ink es) (filled_ink filled cs) (λ c j. refl) here (dropouts_hold filled way o cs ruled contours)
+    (edges_ink es) (filled_ink filled cs) (λ c j. refl) here (dropouts_hold joined filled way o cs ruled contours)

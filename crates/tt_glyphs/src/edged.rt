@@ -84,6 +84,7 @@ pub(crate) fn edged(alloc: Global, ruled: RuledOutline) -> Result<EdgedOutline, 
     let made = edges_of(alloc, &outline, rule, filled)?;
     let OutlineEdges { list, ends, chords } = made;
     let tape = Tape::of(alloc, first_frame(filled), list)?;
+    tt_arc::laws::contours_joined();
     Ok(EdgedOutline {
         tape,
         ends,

@@ -33,6 +33,6 @@ returns-clause-fits c =
       ends = rw tape c.in_ok-made.ensures.ends;
       held =
           let made = c.in_ok-made.made in
-          rw tape (ink_held i.filled i.rule (outline_of i.outline) made.list.edges (contours_at made.list.edges made.ends.items)
+          rw tape (ink_held c.contours_joined.ensures i.filled i.rule (outline_of i.outline) made.list.edges (contours_at made.list.edges made.ends.items)
           ruled c.in_ok-made.ensures.exact c.in_ok-made.ensures.contours);
     }
