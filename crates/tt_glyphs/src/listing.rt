@@ -25,8 +25,8 @@ pub(crate) const MOST_SIDE: u32 = 32;
 /// The most edges of a glyph whose pixels are listed. The edges bound the spans of a row, which may overlap.
 const MOST_EDGES: usize = 512;
 
-/// The most pixels that are listed of a glyph. A pixel takes 8 bytes until its row is made: at most 8 KiB for a glyph,
-/// and 32 MiB for a list of 4,096 glyphs.
+/// The most pixels that are listed of a glyph. A pixel takes 8 bytes until its row is made, and a list has spare room
+/// for as many pixels again. So a glyph takes at most 16 KiB, and 4,096 glyphs take at most 64 MiB.
 const MOST_PIXELS: usize = 1024;
 
 /// Adds `count` pixels of a line, from column `left` on. Error: memory ran out.
