@@ -139,11 +139,20 @@ fn is_listed(frame: Frame, columns: Columns, rows: Columns) -> bool
     ensures height { result ≡ true → frame.height ≡ count_of rows }
     ensures few { result ≡ true → count_of rows ≤ height_limit }
 {
-    if frame.margin != 0 || i64::from(frame.rise) != rows.last + 1 {
+    if frame.margin != 0 {
+        return false;
+    }
+    if i64::from(frame.rise) != rows.last + 1 {
         return false;
     }
     let height = count(rows.first, rows.last);
-    frame.height == height && height <= MOST_SIDE && count(columns.first, columns.last) <= MOST_SIDE
+    if frame.height != height {
+        return false;
+    }
+    if height > MOST_SIDE {
+        return false;
+    }
+    count(columns.first, columns.last) <= MOST_SIDE
 }
 
 /// The window of some columns and rows.
