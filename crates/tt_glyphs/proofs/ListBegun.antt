@@ -1,6 +1,7 @@
 -- A request for the bitmaps of a list, up to the test of its points.
-use Rattle.std.proofs.Common.{◌≡◌, ap, refl, ℕ, List, [], ◌∷◌, map, Result, Ok, Err}
+use Rattle.std.proofs.Common.{◌≡◌, ap, refl, ℕ, List, [], ◌∷◌, map, All, Result, Ok, Err, arith}
 use Rattle.std.specs.Prelude.{IfSome}
+use Rattle.std.proofs.lemmas.List.Elements.{All-cons, All-head, All-tail}
 use Rattle.tt_core.specs.declared.draw_fault.DrawFault.{DrawFault}
 use Rattle.tt_core.specs.declared.draw_fault.DrawFault.TheVariants as draw
 use Rattle.tt_core.specs.declared.fault.JobFault.{JobFault}
@@ -93,3 +94,10 @@ setting_source face ppem how s was =
     let by_tables = came-through (glyphs_in face) _ s was in
     let by_programs = came-through (programs_in face how) _ s by_tables.rest in
     of_setting face.metrics by_tables.value by_programs.value ppem how s by_programs.rest
+
+-- a fact of the numbers of some glyphs
+pub numbers_hold : (P : ℕ → Type 0) (ts : List TriedGlyph) → All P (tried_numbers ts) → All (λ (t : TriedGlyph). P t.number) ts
+numbers_hold P [] all = λ k d below. absurd (omega (arith, below))
+numbers_hold P (t ∷ ts) all =
+    All-cons (λ (z : TriedGlyph). P z.number) t ts (All-head P t.number (tried_numbers ts) all)
+    (numbers_hold P ts (All-tail P t.number (tried_numbers ts) all))

@@ -1,5 +1,6 @@
 use Rattle.std.proofs.Common.{◌≡◌, ◌∙◌, ap, refl, sym, ℕ, ◌<◌, List, [], All, Ok}
 use Rattle.std.proofs.lemmas.Result.{err_from_is_err_and}
+use Rattle.tt_face.specs.Faces.{Face}
 use Rattle.tt_fit.specs.Fitting.{Fitter}
 use Rattle.tt_metrics.specs.Metrics.{glyphs_of}
 use Rattle.tt_picture.specs.Distinct.{distinct}
@@ -7,11 +8,12 @@ use Rattle.tt_picture.proofs.Listing.{distinct_differ}
 use Rattle.tt_strike.specs.Defects.{IsSettingDefect}
 use Rattle.tt_strike.specs.Makers.{IsSetting, job_at}
 use Rattle.tt_strike.specs.Strikes.{SizedFace}
-use Rattle.tt_strike.specs.Work.{started}
+use Rattle.tt_strike.specs.Work.{line_fitter, started}
 use Rattle.tt_strike.proofs.Stopped.{font_tells}
 use Rattle.tt_glyphs.specs.Listed.{known_of}
 use Rattle.tt_glyphs.specs.Requests.{GlyphJob, job_for, points_of_list_tested}
-use Rattle.tt_glyphs.proofs.ListBegun.{charging_tells, count_stops, points_stop, setting_source, setting_stops, size_stops}
+use Rattle.tt_glyphs.specs.Tried.{tried_numbers}
+use Rattle.tt_glyphs.proofs.ListBegun.{begun_is, charging_tells, count_stops, numbers_hold, numbers_tried, points_stop, setting_source, setting_stops, size_stops, tried_themselves}
 use Rattle.tt_glyphs.proofs.tried.tried_list.Goals.{In_ok-charge, In_ok-fitter, In_ok-met}
 use Rattle.tt_glyphs.proofs.tried.tried_list.Goals as goal
 
@@ -127,7 +129,40 @@ returns-in_err-charge-clause-defects c =
     (points_of_list_tested c.args.fit c.in_ok-fitter.fitter gs) c.in_err-charge.field-0.0 fails)
 
 pub returns-clause-tried : goal.returns-clause-tried
-returns-clause-tried c = ?
+returns-clause-tried c =
+    let a = job_for c.args.glyphs.now c.args.ppem c.args.fit in
+    let all = goal.at.returns-clause-tried c in
+    let s = c.in_ok-fitter.fitter in
+    let set = setting_is all.In_ok-fitter in
+    let gs = known_of (glyphs_of s.metrics) c.args.glyphs.now in
+    let maker = line_fitter s gs in
+    let numbers = numbers_are all.In_ok-met set in
+    let charged = charged_is all.In_ok-charge numbers in
+    let ofs = setting_source c.args.face.now c.args.ppem c.args.fit s set.exact in
+    let is = c.sized.view_is ∙ c.in_ok-sized.ensures.exact in
+    let face = ap (λ (z : SizedFace). z.face) is in
+    let size = ap (λ (z : SizedFace). z.ppem) is in
+    let how = ap (λ (z : SizedFace). z.fit) is in
+    let points = c.in_ok-charge.ensures.exact gs (c.deref-2.ensures.value ∙ numbers) in
+    let items = rw (c.deref-3.ensures.value, numbers, charged) at c.in_ok-tried.ensures.tried in
+    let own : tried_numbers c.in_ok-tried.tried.items ≡ distinct gs = ap tried_numbers items ∙ numbers_tried maker (distinct gs) in
+    let count : c.glyphs-count.result ≡ glyphs_of c.sized.inside.source.face.now.metrics =
+    count_is all.In_ok-met set ∙ ap glyphs_of (ofs.0 ∙ sym (ap (λ (f : Face). f.metrics) face)) in
+    let after = rw (c.deref-3.ensures.value, numbers, charged) at c.in_ok-tried.ensures.after in
+    rw (begun_is c.args.face.now a s c.in_ok-sized.ensures.tested c.in_ok-test_count.ensures.exact set.exact points) (record {
+      setting = set;
+      source = record { metrics = ofs.0 ∙ sym (ap (λ (f : Face). f.metrics) face); ppem = ofs.1 ∙ sym size };
+      of = face;
+      fit = how;
+      few = c.in_ok-test_count.ensures.few;
+      room = c.in_ok-met.ensures.room ∙ count_is all.In_ok-met set;
+      numbers = own;
+      places = rw (own, ← numbers) c.in_ok-met.ensures.places;
+      tried = rw items (tried_themselves maker (distinct gs));
+      ruled = c.in_ok-tried.ensures.ruled;
+      known = rw (← count) (numbers_hold (λ n. n < c.glyphs-count.result) c.in_ok-tried.tried.items (rw (own, ← numbers) c.in_ok-met.ensures.known));
+      left = c.work.ensures ∙ ap (λ (t : Fitter). t.work) after;
+    })
 
 pub returns-clause-defects : goal.returns-clause-defects
 returns-clause-defects c = (setting_is (goal.at.returns-clause-defects c).In_ok-fitter).sound
