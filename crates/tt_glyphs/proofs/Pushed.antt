@@ -58,31 +58,33 @@ none_run b left line c j =
     let none : is_within left 0 c ≡ false = grind (arith, ints) in
     rw none (sym (or_false b))
 
+before_bool : (a l m e : Bool) → l ≡ true → m ≡ true → e ≡ false → (a && m) ≡ ((a && l) || e)
+before_bool a l m e inside more other = rw (inside, more, other) (sym (or_false (a && true)))
+
+past_bool : (a l m e : Bool) → l ≡ false → m ≡ false → e ≡ false → (a && m) ≡ ((a && l) || e)
+past_bool a l m e inside more other = rw (inside, more, other) (sym (or_false (a && false)))
+
+here_bool : (a l m e : Bool) → a ≡ true → l ≡ false → m ≡ true → e ≡ true → (a && m) ≡ ((a && l) || e)
+here_bool a l m e from inside more other = rw (from, inside, more, other) refl
+
 next_one : (first c : ℤ) (i : ℕ) → is_within first (i + 1) c ≡ (is_within first i c || int_eq (first +ℤ pos i) c)
 next_one first c i =
-    let end : first +ℤ pos (i + 1) ≡ (first +ℤ pos i) +ℤ pos 1 = omega (arith, ints) in
-    let low : first ≤ℤ (first +ℤ pos i) = omega (arith, ints) in
-    rw end
-    (by_lt_z c (first +ℤ pos i)
-    (λ below.
-    let inside : int_lt c (first +ℤ pos i) ≡ true = lt c (first +ℤ pos i) below in
-    let more : int_lt c ((first +ℤ pos i) +ℤ pos 1) ≡ true = lt c ((first +ℤ pos i) +ℤ pos 1) (omega (arith, ints, below)) in
-    let other : int_eq (first +ℤ pos i) c ≡ false = not_eq (first +ℤ pos i) c (λ same. absurd (omega (arith, ints, below, same))) in
-    rw (inside, more, other) (sym (or_false (int_le first c && true))))
-    (λ above. by_lt_z (first +ℤ pos i) c
-    (λ over.
-    let past : int_lt c (first +ℤ pos i) ≡ false = not_lt c (first +ℤ pos i) above in
-    let past_more : int_lt c ((first +ℤ pos i) +ℤ pos 1) ≡ false =
-    not_lt c ((first +ℤ pos i) +ℤ pos 1) (omega (arith, ints, over)) in
-    let other : int_eq (first +ℤ pos i) c ≡ false = not_eq (first +ℤ pos i) c (λ same. absurd (omega (arith, ints, over, same))) in
-    rw (past, past_more, other) (sym (or_false (int_le first c && false))))
-    (λ at.
-    let past : int_lt c (first +ℤ pos i) ≡ false = not_lt c (first +ℤ pos i) above in
-    let more : int_lt c ((first +ℤ pos i) +ℤ pos 1) ≡ true = lt c ((first +ℤ pos i) +ℤ pos 1) (omega (arith, ints, at)) in
-    let from : int_le first c ≡ true = le first c (omega (arith, ints, above, low)) in
-    let same : first +ℤ pos i ≡ c = omega (arith, ints, at, above) in
-    let here : int_eq (first +ℤ pos i) c ≡ true = grind (arith, ints, same) in
-    rw (past, more, from, here) refl)))
+    let at = first +ℤ pos i in
+    let end : first +ℤ pos (i + 1) ≡ at +ℤ pos 1 = omega (arith, ints) in
+    let low : first ≤ℤ at = omega (arith, ints) in
+    let next : int_lt c (first +ℤ pos (i + 1)) ≡ int_lt c (at +ℤ pos 1) = ap (int_lt c) end in
+    ap (λ b. int_le first c && b) next
+    ∙ by_lt_z c at
+    (λ below. before_bool (int_le first c) (int_lt c at) (int_lt c (at +ℤ pos 1)) (int_eq at c) (lt c at below)
+    (lt c (at +ℤ pos 1) (omega (arith, ints, below))) (not_eq at c (λ same. absurd (omega (arith, ints, below, same)))))
+    (λ above. by_lt_z at c
+    (λ over. past_bool (int_le first c) (int_lt c at) (int_lt c (at +ℤ pos 1)) (int_eq at c) (not_lt c at above)
+    (not_lt c (at +ℤ pos 1) (omega (arith, ints, over))) (not_eq at c (λ same. absurd (omega (arith, ints, over, same)))))
+    (λ upto.
+    let same : at ≡ c = omega (arith, ints, upto, above) in
+    here_bool (int_le first c) (int_lt c at) (int_lt c (at +ℤ pos 1)) (int_eq at c)
+    (le first c (omega (arith, ints, above, low))) (not_lt c at above) (lt c (at +ℤ pos 1) (omega (arith, ints, upto)))
+    (grind (arith, ints, same))))
 
 run_bool : (old w e l : Bool) → ((old || (w && l)) || ((e && l) || false)) ≡ (old || ((w || e) && l))
 run_bool true w e l = refl
@@ -167,7 +169,8 @@ span_run columns s line left right n c j low high count =
     ap (λ x. int_le x c) low ∙ max_le s.first columns.first c in
     let to : int_lt c (left +ℤ pos n) ≡ (int_le c s.last && int_le c columns.last) =
     ap (int_lt c) end ∙ ap (λ x. int_lt c (x +ℤ pos 1)) high ∙ min_past s.last columns.last c in
-    rw (from, to) (span_bool (int_le s.first c) (int_le columns.first c) (int_le c s.last) (int_le c columns.last) (int_eq line j))
+    ap₂ (λ a b. (a && b) && int_eq line j) from to
+    ∙ span_bool (int_le s.first c) (int_le columns.first c) (int_le c s.last) (int_le c columns.last) (int_eq line j)
 
 -- all pixels of a small glyph: its dropouts, and then its rows
 
@@ -190,13 +193,14 @@ pub all_listed : (e : EdgedOutline) (across up : Columns) (past : ℤ) (h : ℕ)
     → (c j : ℤ) → has_pixel all c j ≡ inked_by e c j
 all_listed e across up past h found all near_across near_up above count within filled rows c j =
     let low = near_up.order in
-    let first : (up.last +ℤ pos 1) -ℤ pos (count_of up) ≡ up.first = omega (arith, ints, low) in
-    let cut : shown across (past -ℤ pos h) h (is_inked_by e.tape.edges) c j
-    ≡ (is_column_of across c && (is_column_of up j && is_inked_by e.tape.edges c j)) =
-    rw (above, count, first) (rw (counted up j low) refl) in
-    let dropped : has_pixel found c j
-    ≡ ((is_column_of across c && is_column_of up j) && is_filled e.filled (contours_at e.tape.edges e.ends.items) c j) =
-    filled c j ∙ rw (counted across c near_across.order, counted up j low) refl in
+    let black = is_inked_by e.tape.edges in
+    let fill = is_filled e.filled (contours_at e.tape.edges e.ends.items) in
+    let start : past -ℤ pos h ≡ up.first = omega (arith, ints, low, above, count) in
+    let cut : shown across (past -ℤ pos h) h black c j ≡ (is_column_of across c && (is_column_of up j && black c j)) =
+    ap₂ (λ x n. shown across x n black c j) start count
+    ∙ ap (λ b. is_column_of across c && (b && black c j)) (counted up j low) in
+    let dropped : has_pixel found c j ≡ ((is_column_of across c && is_column_of up j) && fill c j) =
+    filled c j ∙ ap₂ (λ a b. (a && b) && fill c j) (counted across c near_across.order) (counted up j low) in
     rows c j ∙ ap (λ b. b || shown across (past -ℤ pos h) h (is_inked_by e.tape.edges) c j) dropped
     ∙ ap (λ b. ((is_column_of across c && is_column_of up j)
     && is_filled e.filled (contours_at e.tape.edges e.ends.items) c j) || b) cut

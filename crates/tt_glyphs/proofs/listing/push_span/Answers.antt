@@ -80,9 +80,9 @@ returns-in_ok-push_run c = λ k j.
     let near_last = c.requires.last in
     let counted = simp to_z-of_z at c.count.ensures.exact in
     let pushed = simp to_z-of_z at (c.in_ok-push_run.ensures k j) in
-    simp to_z-of_z (pushed ∙ ap (λ b. has_pixel c.args.found.now.items k j || b)
+    pushed ∙ ap (λ b. has_pixel c.args.found.now.items k j || b)
     (span_run c.args.columns c.args.span c.args.line c.max-left.result c.min-right.result c.count.result k j left right
-    (omega (arith, ints, order, counted))))
+    (omega (arith, ints, order, counted)))
 
 pub returns-else-left-right : goal.returns-else-left-right
 returns-else-left-right c = λ k j.
@@ -101,4 +101,4 @@ returns-else-left-right c = λ k j.
     let order : c.min-right.result <ℤ c.max-left.result = grind (arith, ints, test) in
     let none = span_none c.args.columns c.args.span c.args.line c.max-left.result c.min-right.result k j
     (record { left = left; right = right }) order in
-    simp to_z-of_z (rw none (or_false_is (has_pixel c.args.found.now.items k j)))
+    rw none (or_false_is (has_pixel c.args.found.now.items k j))
