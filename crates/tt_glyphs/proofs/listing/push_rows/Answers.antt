@@ -3,6 +3,7 @@ use Rattle.std.proofs.lemmas.Int.{ints, to_z-of_z}
 use Rattle.tt_scan.specs.Tape.{Tape}
 use Rattle.tt_scan_dropouts.specs.Passes.{has_pixel}
 use Rattle.tt_scan_edges.specs.Winding.{FrameFits, row_y, rows_met}
+use Rattle.tt_scan_edges.specs.declared.edge.Frame.{Frame}
 use Rattle.tt_scan_ink.specs.Least.{covered, is_inked_by, shown}
 use Rattle.tt_scan_ink.proofs.Counts.{met_few, one_row_more}
 use Rattle.tt_scan_ink.proofs.Regions.{no_rows, rows_more}
@@ -13,7 +14,7 @@ pub loop-r-init : goal.loop-r-init
 loop-r-init c =
     let past : SFits w64 c.args.past = c.ranges.past in
     record {
-      height = c.frame-height.ensures.exact ∙ refl;
+      height = ap (λ (f : Frame). f.height) c.frame-height.ensures.exact;
       found = λ k j. simp to_z-of_z
           (rw (no_rows c.args.columns (is_inked_by c.args.tape.now.edges) (c.args.past -ℤ pos 0) k j)
           (or_false_is (has_pixel c.args.found.now.items k j)));

@@ -1,16 +1,13 @@
-use Rattle.std.proofs.Common.{◌≡◌, ◌∙◌, ap, map, refl, All, List, Some}
-use Rattle.std.specs.Prelude.{IfSome}
+use Rattle.std.proofs.Common.{◌≡◌, subst, All, Option, Some}
 use Rattle.tt_picture.specs.Ink.{ink_by}
 use Rattle.tt_scan.specs.Contours.{contours_at}
+use Rattle.tt_scan_dropouts.specs.declared.boxed.BoxedRules.{BoxedRules}
 use Rattle.tt_scan_edges.specs.Winding.{EdgeFits}
-use Rattle.tt_scan_edges.specs.declared.edge.Edge.{Edge}
-use Rattle.tt_scan_gaps.specs.Boxes.{IsBoxOf, columns_in, columns_of, rows_in}
-use Rattle.tt_scan_gaps.specs.Seen.{turned_round}
 use Rattle.tt_scan_ink.proofs.Near.{box_near, columns_near, lines_near}
 use Rattle.tt_scan_ink.proofs.NearInk.{dropouts_near, edges_near, joined_near}
 use Rattle.tt_scan_ink.specs.Ink.{dropouts_ink, edges_ink}
-use Rattle.tt_scan_ink.specs.Least.{IsInk, IsNear}
-use Rattle.tt_glyphs.specs.Edged.{ink_of, inked_by}
+use Rattle.tt_scan_ink.specs.Least.{IsInk}
+use Rattle.tt_glyphs.specs.Edged.{inked_by}
 use Rattle.tt_glyphs.proofs.Region.{columns_same, hull, hull_near, region_holds}
 use Rattle.tt_glyphs.proofs.listing.region_of.Goals as goal
 
@@ -36,9 +33,8 @@ returns-clause-holds c =
     let e = c.args.edged.now in
     let es = e.tape.edges in
     let cs = contours_at es e.ends.items in
-    let b = c.args.rules.extents in
     let held : IsInk (inked_by e) (ink_by es cs (Some c.args.rules)) =
-    rw c.requires.filled at c.requires.edged.held in
+    subst (λ (f : Option BoxedRules). IsInk (inked_by e) (ink_by es cs f)) c.requires.filled c.requires.edged.held in
     let across = columns_same c.hull.result (hull c.box_of.result.0 c.pixels_in.result.0) c.hull.ensures.first c.hull.ensures.last in
     let up = columns_same c.hull-2.result (hull c.box_of.result.1 c.pixels_in.result.1) c.hull-2.ensures.first c.hull-2.ensures.last in
     region_holds (inked_by e) es cs c.args.rules c.hull.result c.hull-2.result held
