@@ -22,8 +22,8 @@ count-height-requires-clause-last c =
     let last : SFits w64 c.pixels_in.result.1.last = search rules in
     simp to_z-of_z near.last
 
-pub rows_frame-in-Some-requires-clause-past : goal.rows_frame-requires-clause-past
-rows_frame-in-Some-requires-clause-past c =
+pub rows_frame-requires-2-clause-past : goal.rows_frame-requires-2-clause-past
+rows_frame-requires-2-clause-past c =
     let fits : ExtentsFit c.in-Some.rules.extents = rw c.in-Some.is at c.requires in
     let near : AreNear c.pixels_in.result.1 = rw c.pixels_in.ensures.rows (box_near c.in-Some.rules.extents fits).1 in
     let low = near.last in
