@@ -8,6 +8,7 @@ pub mod KnownNumbers
 pub mod ListBegun
 pub mod ListDrawn
 pub mod ListOutcomes
+pub mod ListedRows
 pub mod LeastBitmaps
 pub mod LineBitmaps
 pub mod ListFacts
