@@ -97,7 +97,7 @@ fn seen_all(alloc: Global, place: InkPlace, pixels: &[Pixel]) -> Result<Vec<Drop
     ensures exact { IfOk result (λ v. (c r : ℕ) → c < place.width → r < place.height → is_among v.items c r ≡ has_pixel pixels.now (column_of place c) (line_of place r)) }
     ensures valid { IfOk result (λ v. AreDropouts place.width v.items) }
 {
-    let mut found = Vec::new(alloc);
+    let mut found = Vec::with_capacity(alloc, pixels.len())?;
     for pixel in pixels {
         push_seen(&mut found, place, *pixel)?;
     }

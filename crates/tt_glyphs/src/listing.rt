@@ -25,9 +25,12 @@ pub(crate) const MOST_SIDE: u32 = 32;
 /// The most edges of a glyph whose pixels are listed. The edges bound the spans of a row, which may overlap.
 const MOST_EDGES: usize = 512;
 
-/// The most pixels that are listed of a glyph. A pixel takes 8 bytes until its row is made, and a list has spare room
-/// for as many pixels again. So a glyph takes at most 16 KiB, and 4,096 glyphs take at most 64 MiB.
+/// The most pixels that are listed of a glyph. A pixel takes 8 bytes until its row is made: at most 8 KiB for a glyph,
+/// and 32 MiB for 4,096 glyphs.
 const MOST_PIXELS: usize = 1024;
+
+/// The number of pixels that a list has room for at first. Most glyphs at the size of a text have no more.
+const OFTEN: usize = 96;
 
 /// Adds `count` pixels of a line, from column `left` on. Error: memory ran out.
 fn push_run(found: &mut Vec<Pixel>, left: i64, line: i64, count: u32) -> Result<(), AllocError>
@@ -192,6 +195,7 @@ pub(crate) fn pixels_of(
         return Ok(None);
     }
     let mut found = filled_in(alloc, window_of(columns, rows), edged)?;
+    found.reserve(OFTEN)?;
     let mut tape = edged.tape.copied()?;
     let mut sweep = Sweep::new(alloc, tape.edges())?;
     push_rows(&mut found, &mut tape, &mut sweep, columns, rows.last + 1)?;

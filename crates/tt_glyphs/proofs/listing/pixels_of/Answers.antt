@@ -39,10 +39,17 @@ returns-clause-listed c =
     let last : SFits w64 up.last = search rules in
     let past : SFits w64 (up.last +ℤ pos 1) = omega (arith, ints, high) in
     let height = rw c.frame.ensures.exact at (c.is_listed.ensures.height c.if-not-is_listed.false) in
-    let pushed = rw c.in_ok-tape.ensures at (simp to_z-of_z at c.in_ok-push_rows.ensures) in
+    let pushed = rw (c.in_ok-tape.ensures, c.in_ok-reserve.ensures.items) at (simp to_z-of_z at c.in_ok-push_rows.ensures) in
     let filled = rw c.window_of.ensures.exact at c.in_ok-found.ensures in
     all_listed e across up (up.last +ℤ pos 1) e.tape.frame.height c.in_ok-found.found.items c.push_rows.new.found.items
     c.region_of.ensures.columns near refl height c.region_of.ensures.holds filled pushed
 
 pub returns-clause-near : goal.returns-clause-near
 returns-clause-near c = c.region_of.ensures.ink
+
+pub overflow_add-rows : goal.overflow_add-rows
+overflow_add-rows c =
+    let up = c.region_of.result.1 in
+    let high = c.region_of.ensures.rows.last in
+    let last : SFits w64 up.last = search rules in
+    simp to_z-of_z (omega (arith, ints, high))
