@@ -1,5 +1,5 @@
 -- The edges of an outline lie in the box of its dropout rules, and the box of their ink holds all that they blacken.
-use Rattle.std.proofs.Common.{◌≡◌, refl, sym, subst, ℤ, Bool, ◌||◌, List, Option, None, Some}
+use Rattle.std.proofs.Common.{◌≡◌, refl, sym, subst, ℤ, ◌||◌, List, Option, None, Some}
 use Rattle.std.specs.Prelude.{IfSome, pos}
 use Rattle.tt_arc.proofs.Closed.{all_closed}
 use Rattle.tt_arc.proofs.PointsBox.{box_holds_edges}

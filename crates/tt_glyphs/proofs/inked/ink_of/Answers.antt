@@ -1,4 +1,4 @@
-use Rattle.std.proofs.Common.{◌≡◌, sym}
+use Rattle.std.proofs.Common.{sym}
 use Rattle.tt_scan_dropouts.specs.Passes.{has_pixel}
 use Rattle.tt_scan_ink.proofs.Together.{ink_alike, one_ink}
 use Rattle.tt_scan_ink.specs.Least.{IsInk}

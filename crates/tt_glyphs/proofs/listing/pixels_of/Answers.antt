@@ -1,7 +1,6 @@
-use Rattle.std.proofs.Common.{◌≡◌, ◌∙◌, ap, refl, ◌^◌, ◌<◌, ◌≤◌, pos, ◌+ℤ◌, length, SFits, w64, rules, arith}
+use Rattle.std.proofs.Common.{refl, ◌≤◌, pos, ◌+ℤ◌, length, SFits, w64, rules, arith}
 use Rattle.std.proofs.lemmas.Int.{ints, to_z-of_z}
 use Rattle.tt_scan_ink.proofs.Counts.{all_fit}
-use Rattle.tt_scan_ink.specs.Ink.{count_of}
 use Rattle.tt_glyphs.proofs.Pushed.{all_listed}
 use Rattle.tt_glyphs.proofs.listing.pixels_of.Goals as goal
 

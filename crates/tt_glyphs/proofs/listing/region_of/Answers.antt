@@ -1,4 +1,4 @@
-use Rattle.std.proofs.Common.{◌≡◌, subst, All, Option, Some}
+use Rattle.std.proofs.Common.{subst, All, Option, Some}
 use Rattle.tt_picture.specs.Ink.{ink_by}
 use Rattle.tt_scan.specs.Contours.{contours_at}
 use Rattle.tt_scan_dropouts.specs.declared.boxed.BoxedRules.{BoxedRules}
