@@ -1,7 +1,6 @@
 //! The black pixels of a glyph in a window. Pixels outside count as black, so that no gap there is free.
 
 ghost use Rattle.std.specs.Prelude.{◌≡◌, not, ℕ, ℤ, true, false, length, ◌+◌, ◌*◌, ◌^◌, ◌<◌, ◌≤◌, ◌&&◌, ◌||◌, ◌⊎◌, int_le, unsigned_abs, All, IfOk, OnOk};
-ghost use Rattle.std.specs.Int.{bit_at};
 ghost use Rattle.std.specs.Ordering.{int_eq};
 ghost use Rattle.tt_core.specs.Bits.{bit, stride};
 ghost use Rattle.tt_scan.specs.Stamps.{shows};
@@ -205,8 +204,7 @@ impl Bitmap {
     pub fn line_word(&self, left: i64, line: i64) -> u64
         requires narrow { self.now.window.width ≤ 57 }
         requires first { has self.now.window left line ≡ true }
-        ensures exact { (c : ℤ) → shows left result c ≡ (int_le left c && is_shown self.now c line) }
-        ensures low { (i : ℕ) → i < 7 → bit_at result i ≡ 0 }
+        ensures { (c : ℤ) → shows left result c ≡ (int_le left c && is_shown self.now c line) }
     {
         let bytes = stride(self.window);
         let start = bytes * offset(self.window.bottom, self.window.height, line);

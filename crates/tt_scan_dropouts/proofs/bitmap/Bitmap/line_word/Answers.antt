@@ -1,11 +1,11 @@
-use Rattle.std.proofs.Common.{◌≡◌, ◌∙◌, ap, true, ◌+◌, ◌-◌, ◌*◌, ◌/◌, ◌^◌, ◌<◌, ◌≤◌, length, slice_index, SFits, w32, w64, rules, arith}
-use Rattle.std.proofs.lemmas.Int.{to_z-of_z}
+use Rattle.std.proofs.Common.{◌≡◌, ◌∙◌, ap, true, ◌+◌, ◌*◌, ◌<◌, ◌≤◌, length, slice_index, SFits, w32, w64, rules, arith}
+use Rattle.std.proofs.lemmas.Int.{ints, to_z-of_z}
 use Rattle.std.proofs.lemmas.List.{get_or_default}
 use Rattle.tt_core.specs.Bits.{stride}
 use Rattle.tt_scan_dropouts.specs.Windows as windows
-use Rattle.tt_scan_dropouts.specs.Windows.{is_within}
+use Rattle.tt_scan_dropouts.specs.Windows.{has, is_within}
 use Rattle.tt_scan_gaps.proofs.Tests.{both}
-use Rattle.tt_scan_dropouts.proofs.LineWords.{below_shift, one_byte_more, word_fits, word_shown, word_small}
+use Rattle.tt_scan_dropouts.proofs.LineWords.{one_byte_more, word_fits, word_shown, word_small}
 use Rattle.tt_scan_dropouts.proofs.Places.{row_within}
 use Rattle.tt_scan_dropouts.proofs.bitmap.Bitmap.line_word.Goals as goal
 
@@ -52,8 +52,8 @@ offset-by-requires c =
     let parts = both (is_within now.window.left now.window.width c.args.left) (is_within now.window.bottom now.window.height c.args.line) c.requires.first in
     simp to_z-of_z (rw window parts.0)
 
-pub returns-clause-exact : goal.returns-clause-exact
-returns-clause-exact c =
+pub returns : goal.returns
+returns c =
     let now = c.args.self.now in
     let window : c.self.inside.window ≡ now.window = ap (λ (b : windows.Bitmap). b.window) c.self.view_is in
     let left : SFits w64 c.args.left = c.ranges.left in
@@ -66,10 +66,3 @@ returns-clause-exact c =
     let all : c.loop-i.i ≡ c.stride-bytes.result = omega (arith, c.loop-i-test.false, c.loop-i.auto.i-end) in
     let has_bytes = rw (all, up) at c.loop-i.invariant.bytes in
     rw (by, window) (word_shown now c.args.left c.args.line c.stride-bytes.result c.loop-i.word bytes c.requires.narrow c.requires.first (rw window at has_bytes))
-
-pub returns-clause-low : goal.returns-clause-low
-returns-clause-low c = λ i below.
-    let window : c.self.inside.window ≡ c.args.self.now.window = ap (λ (b : windows.Bitmap). b.window) c.self.view_is in
-    let narrow : c.self.inside.window.width ≤ 57 = rw window c.requires.narrow in
-    below_shift (c.loop-i.word / 2 ^ (8 * c.stride-bytes.result - c.self.inside.window.width))
-    (64 - c.self.inside.window.width + c.offset-by.result) i (omega (arith, below, narrow)) (omega (arith, below))
