@@ -4,6 +4,7 @@ pub mod Charged
 pub mod DrawnGlyphs
 pub mod EdgesMade
 pub mod Entered
+pub mod InkBoxed
 pub mod KnownNumbers
 pub mod ListBegun
 pub mod LinesShown

@@ -1,16 +1,16 @@
--- The box of the black columns of a word, and of some lines.
-use Rattle.std.proofs.Common.{◌≡◌, ◌≢◌, ◌∙◌, refl, sym, ap, ℕ, suc, ◌+◌, ◌-◌, ◌*◌, ◌^◌, ◌<◌, ◌≤◌, Bool, true, false, ◌&&◌, ◌||◌, ◌==◌, nat_lt, List, length, slice_index, Option, None, Some, ℤ, pos, ◌+ℤ◌, ◌-ℤ◌, ◌≤ℤ◌, ◌<ℤ◌, int_le, int_lt, unsigned_abs, w64, arith, inl, inr}
+-- The first and the last column of a word, the sides of words, and the box of lines.
+use Rattle.std.proofs.Common.{◌≡◌, ◌≢◌, ◌∙◌, refl, sym, ap, ℕ, suc, ◌+◌, ◌-◌, ◌*◌, ◌^◌, ◌<◌, ◌≤◌, Bool, true, false, ◌&&◌, ◌||◌, ◌==◌, ◌⊎◌, nat_lt, bit_or, List, length, slice_index, ℤ, pos, ◌+ℤ◌, ◌-ℤ◌, ◌≤ℤ◌, ◌<ℤ◌, int_le, int_lt, unsigned_abs, w64, arith, inl, inr}
 use Rattle.std.specs.Int.{bit_at, trailing_zeros}
-use Rattle.std.specs.Ordering.{int_eq}
 use Rattle.std.proofs.lemmas.Bool.Decides.{nat_tests}
-use Rattle.std.proofs.lemmas.Bool.{cases_lt, false≢true}
-use Rattle.std.proofs.lemmas.Int.{by_lt_z, ints}
+use Rattle.std.proofs.lemmas.Bool.{cases_Bool, cases_lt, false≢true}
+use Rattle.std.proofs.lemmas.Int.{ints}
 use Rattle.std.proofs.lemmas.Nat.{leading_top}
 use Rattle.std.proofs.lemmas.Nat.Bits.{bit_at-trailing_zeros, bit_at-zero, bit_at_above, bit_at_cat_high}
-use Rattle.tt_scan_ink.specs.Least.{IsInk, IsLeastBox}
-use Rattle.tt_scan_ink.specs.declared.ink.GlyphInk.{GlyphInk}
+use Rattle.tt_scan.proofs.Columns.{or_bit}
+use Rattle.tt_scan_ink.specs.Least.{IsLeastBox}
+use Rattle.tt_glyphs.specs.declared.inked.WordSides.{WordSides}
 use Rattle.tt_glyphs.specs.declared.lines.LineWords.{LineWords}
-use Rattle.tt_glyphs.specs.Words.{has_column, shows, shows_in, shows_on}
+use Rattle.tt_glyphs.specs.Words.{AreSides, has_column, shows_on}
 use lib.Count.{count_leading_zeros}
 
 -- the first and the last column of a word
@@ -69,130 +69,190 @@ between word some fits =
           );
     }
 
--- a word on a line
+-- the sides of words, one word more at a time
 
-first_true : (a b : Bool) → (a && b) ≡ true → a ≡ true
-first_true true b is = refl
-first_true false b is = is
+white : (m : ℕ) → has_column 0 m ≡ false
+white m = column_white 0 m (bit_at-zero (63 - m))
 
-second_true : (a b : Bool) → (a && b) ≡ true → b ≡ true
-second_true true b is = is
-second_true false b is = absurd (false≢true is)
+spread : (a b c d : Bool) → b ≡ (c || d) → (a && b) ≡ ((a && c) || (a && d))
+spread true b c d is = is
+spread false b c d is = refl
 
-same_line : (line : ℤ) → int_eq line line ≡ true
-same_line line = grind (arith, ints)
+both_columns : (a b m : ℕ) → has_column (bit_or a b) m ≡ (has_column a m || has_column b m)
+both_columns a b m = spread (nat_lt m 64) (bit_at (bit_or a b) (63 - m) == 1) (bit_at a (63 - m) == 1) (bit_at b (63 - m) == 1) (or_bit a b (63 - m))
 
-abbrev pub on_line : ℤ → ℕ → ℤ → ℤ → ℤ → Bool
-on_line left word line c j = int_eq line j && shows left word c
+one_of : (a b : Bool) → (a || b) ≡ true → (a ≡ true) ⊎ (b ≡ true)
+one_of true b is = inl refl
+one_of false b is = inr is
 
-shown_at : (left line : ℤ) (word m : ℕ) → has_column word m ≡ true → on_line left word line (left +ℤ pos m) line ≡ true
-shown_at left line word m is =
-    let low : int_le left (left +ℤ pos m) ≡ true = grind (arith, ints) in
-    let at : unsigned_abs ((left +ℤ pos m) -ℤ left) ≡ m = omega (arith, ints) in
-    rw (same_line line, low, at) is
+or_right : (a b : Bool) → b ≡ true → (a || b) ≡ true
+or_right true b is = refl
+or_right false b is = is
 
-pub word_least : (left line : ℤ) (word before after : ℕ) → IsBetween word before after
-    → IsLeastBox (on_line left word line)
-    (record { left = left +ℤ pos before; bottom = line; right = (left +ℤ pos 63) -ℤ pos after; top = line })
-word_least left line word before after is =
-    let few = is.few in
-    let right : left +ℤ pos (63 - after) ≡ (left +ℤ pos 63) -ℤ pos after = omega (arith, ints, few) in
-    let first = shown_at left line word before is.first in
-    let last : on_line left word line ((left +ℤ pos 63) -ℤ pos after) line ≡ true = rw (← right) (shown_at left line word (63 - after) is.last) in
+pub no_sides : (words : List ℕ) → AreSides words 0 (record { all = 0; first = 0; last = 0 })
+no_sides words = record {
+  some = λ m is. absurd (false≢true (sym (white m) ∙ is));
+  all = λ k m below is. absurd (omega (arith, below));
+  first = λ k m below is. omega arith;
+  last = λ k m below is. absurd (omega (arith, below));
+  first_has = λ some. absurd (some refl);
+  last_has = λ some. absurd (some refl);
+}
+
+pub same_sides : (words : List ℕ) (i : ℕ) (s : WordSides) → AreSides words i s → slice_index words i ≡ 0 → AreSides words (i + 1) s
+same_sides words i s are none =
+    let earlier : (k m : ℕ) → k < i + 1 → has_column (slice_index words k) m ≡ true → k < i =
+    λ k m below is. elim (cases_lt k i) [
+      | inl before ↦ before
+      | inr past ↦
+          let here : k ≡ i = omega (arith, below, past) in
+          absurd (false≢true (sym (white m) ∙ (rw (here, none) at is)))
+    ] in
     record {
-      within = λ c j black.
-          let here = first_true (int_eq line j) (shows left word c) black in
-          let shown = second_true (int_eq line j) (shows left word c) black in
-          let from = first_true (int_le left c) (has_column word (unsigned_abs (c -ℤ left))) shown in
-          let column = second_true (int_le left c) (has_column word (unsigned_abs (c -ℤ left))) shown in
-          let at : line ≡ j = grind (arith, ints, here) in
-          let low : left ≤ℤ c = grind (arith, ints, from) in
-          let inside = is.within (unsigned_abs (c -ℤ left)) column in
-          let least = inside.0 in
-          let most = inside.1 in
-          record {
-            left = omega (arith, ints, low, least);
-            right = omega (arith, ints, low, most);
-            bottom = omega (arith, ints, at);
-            top = omega (arith, ints, at);
-          };
-      left = (line, first);
-      right = (line, last);
-      bottom = (left +ℤ pos before, first);
-      top = (left +ℤ pos before, first);
+      some = λ m is. let (k, below, has) = are.some m is in (k, omega (arith, below), has);
+      all = λ k m below is. are.all k m (earlier k m below is) is;
+      first = λ k m below is. are.first k m (earlier k m below is) is;
+      last = λ k m below is. are.last k m (earlier k m below is) is;
+      first_has = λ some. let (below, has) = are.first_has some in (omega (arith, below), has);
+      last_has = λ some. let (below, has) = are.last_has some in (omega (arith, below), has);
     }
 
-pub no_word : (left line c j : ℤ) → on_line left 0 line c j ≡ false
-no_word left line c j =
-    rw (column_white 0 (unsigned_abs (c -ℤ left)) (bit_at-zero (63 - unsigned_abs (c -ℤ left))), never (int_le left c)) (never (int_eq line j))
+-- the first word with a column, after one word more
+record IsFirst (words : List ℕ) (i first : ℕ) : Type 0 where
+  least : (k m : ℕ) → k < i + 1 → has_column (slice_index words k) m ≡ true → first ≤ k
+  within : first < i + 1
+  has : (m : ℕ) × (has_column (slice_index words first) m ≡ true)
 
--- the lines so far
+more_sides : (words : List ℕ) (i first m : ℕ) (s : WordSides) → AreSides words i s → has_column (slice_index words i) m ≡ true
+    → IsFirst words i first → AreSides words (i + 1) (record { all = bit_or s.all (slice_index words i); first = first; last = i })
+more_sides words i first m s are has is =
+    let word : ℕ = slice_index words i in
+    record {
+      some = λ n black. elim (one_of (has_column s.all n) (has_column word n) (sym (both_columns s.all word n) ∙ black)) [
+        | inl before ↦ let (k, below, shown) = are.some n before in (k, omega (arith, below), shown)
+        | inr now ↦ (i, omega arith, now)
+      ];
+      all = λ k n below black. both_columns s.all word n ∙ elim (cases_lt k i) [
+        | inl before ↦ rw (are.all k n before black) refl
+        | inr past ↦
+            let here : k ≡ i = omega (arith, below, past) in
+            or_right (has_column s.all n) (has_column word n) (rw here at black)
+      ];
+      first = is.least;
+      last = λ k n below black. omega (arith, below);
+      first_has = λ some. (is.within, is.has);
+      last_has = λ some. (omega arith, (m, has));
+    }
 
-abbrev pub so_far : LineWords → ℕ → ℤ → ℤ → Bool
-so_far l i c j = int_lt (l.top -ℤ pos i) j && shows_on l c j
+pub first_sides : (words : List ℕ) (i m : ℕ) (s : WordSides) → AreSides words i s → has_column (slice_index words i) m ≡ true
+    → s.all ≡ 0 → AreSides words (i + 1) (record { all = bit_or s.all (slice_index words i); first = i; last = i })
+first_sides words i m s are has none = more_sides words i i m s are has (record {
+  least = λ k n below black. elim (cases_lt k i) [
+    | inl before ↦ absurd (false≢true (sym (white n) ∙ (rw none at (are.all k n before black))))
+    | inr past ↦ past
+  ];
+  within = omega arith;
+  has = (m, has);
+})
+
+pub later_sides : (words : List ℕ) (i m : ℕ) (s : WordSides) → AreSides words i s → has_column (slice_index words i) m ≡ true
+    → s.all ≢ 0 → AreSides words (i + 1) (record { all = bit_or s.all (slice_index words i); first = s.first; last = i })
+later_sides words i m s are has some =
+    let (within, one) = are.first_has some in
+    more_sides words i s.first m s are has (record {
+      least = λ k n below black. elim (cases_lt k i) [
+        | inl before ↦ are.first k n before black
+        | inr past ↦ omega (arith, past, within)
+      ];
+      within = omega (arith, within);
+      has = one;
+    })
+
+-- the box of lines by the sides of their words
 
 le : (a b : ℤ) → a ≤ℤ b → int_le a b ≡ true
 le a b order = grind (arith, ints)
 
-not_le : (a b : ℤ) → b <ℤ a → int_le a b ≡ false
-not_le a b order = grind (arith, ints)
-
 lt : (a b : ℤ) → a <ℤ b → int_lt a b ≡ true
 lt a b order = grind (arith, ints)
 
-not_lt : (a b : ℤ) → b ≤ℤ a → int_lt a b ≡ false
-not_lt a b order = grind (arith, ints)
+parted : (a b x y : Bool) → ((a && b) && (x && y)) ≡ true → (a ≡ true) × (b ≡ true) × (x ≡ true) × (y ≡ true)
+parted true true true y is = (refl, refl, refl, is)
+parted true true false y is = absurd (false≢true is)
+parted true false x y is = absurd (false≢true is)
+parted false b x y is = absurd (false≢true is)
 
-not_eq : (a b : ℤ) → a ≢ b → int_eq a b ≡ false
-not_eq a b other = grind (arith, ints)
+-- where a pixel is shown
+record IsShown (l : LineWords) (c j : ℤ) : Type 0 where
+  line : ℕ
+  column : ℕ
+  is_line : l.top -ℤ pos line ≡ j
+  is_column : l.left +ℤ pos column ≡ c
+  below : line < length l.words.items
+  has : has_column (slice_index l.words.items line) column ≡ true
 
-or_false : (b : Bool) → b ≡ (b || false)
-or_false true = refl
-or_false false = refl
+shown_where : (l : LineWords) (c j : ℤ) → shows_on l c j ≡ true → IsShown l c j
+shown_where l c j is =
+    let (above, under, left, has) = parted (int_lt (l.top -ℤ pos (length l.words.items)) j) (int_le j l.top) (int_le l.left c) _ is in
+    let low : (l.top -ℤ pos (length l.words.items)) <ℤ j = grind (arith, ints, above) in
+    let high : j ≤ℤ l.top = grind (arith, ints, under) in
+    let from : l.left ≤ℤ c = grind (arith, ints, left) in
+    record {
+      line = unsigned_abs (l.top -ℤ j);
+      column = unsigned_abs (c -ℤ l.left);
+      is_line = omega (arith, ints, high);
+      is_column = omega (arith, ints, from);
+      below = omega (arith, ints, low, high);
+      has = has;
+    }
 
-twice : (a b x : Bool) → (a && ((a && b) && x)) ≡ ((a && b) && x)
-twice true b x = refl
-twice false b x = refl
+shown_word : (l : LineWords) (k m : ℕ) → k < length l.words.items → has_column (slice_index l.words.items k) m ≡ true
+    → shows_on l (l.left +ℤ pos m) (l.top -ℤ pos k) ≡ true
+shown_word l k m below has =
+    let above = lt (l.top -ℤ pos (length l.words.items)) (l.top -ℤ pos k) (omega (arith, ints, below)) in
+    let under = le (l.top -ℤ pos k) l.top (omega (arith, ints)) in
+    let left = le l.left (l.left +ℤ pos m) (omega (arith, ints)) in
+    let line : unsigned_abs (l.top -ℤ (l.top -ℤ pos k)) ≡ k = omega (arith, ints) in
+    let column : unsigned_abs ((l.left +ℤ pos m) -ℤ l.left) ≡ m = omega (arith, ints) in
+    rw (above, under, left, line, column) has
 
-pub no_line : (l : LineWords) (c j : ℤ) → so_far l 0 c j ≡ false
-no_line l c j =
-    by_lt_z l.top j
-    (λ above. rw (not_le j l.top above, never (int_lt (l.top -ℤ pos (length l.words.items)) j)) (never (int_lt (l.top -ℤ pos 0) j)))
-    (λ under.
-    let out : int_lt (l.top -ℤ pos 0) j ≡ false = not_lt (l.top -ℤ pos 0) j (omega (arith, ints, under)) in
-    rw out refl)
+pub lines_white : (l : LineWords) (s : WordSides) → AreSides l.words.items (length l.words.items) s → s.all ≡ 0 → (c j : ℤ) → shows_on l c j ≡ false
+lines_white l s are none c j = elim (cases_Bool (shows_on l c j)) [
+  | inl black ↦
+      let at = shown_where l c j black in
+      absurd (false≢true (sym (white at.column) ∙ (rw none at (are.all at.line at.column at.below at.has))))
+  | inr out ↦ out
+]
 
-pub all_lines : (l : LineWords) (i : ℕ) → i ≡ length l.words.items → (c j : ℤ) → shows_on l c j ≡ so_far l i c j
-all_lines l i is c j =
-    rw is (sym (twice (int_lt (l.top -ℤ pos (length l.words.items)) j) (int_le j l.top)
-    (shows l.left (slice_index l.words.items (unsigned_abs (l.top -ℤ j))) c)))
-
-here_too : (l : LineWords) (i : ℕ) (c j : ℤ) → i < length l.words.items → l.top -ℤ pos i ≡ j
-    → so_far l (i + 1) c j ≡ (so_far l i c j || on_line l.left (slice_index l.words.items i) (l.top -ℤ pos i) c j)
-here_too l i c j below is =
-    let next : int_lt (l.top -ℤ pos (i + 1)) j ≡ true = lt (l.top -ℤ pos (i + 1)) j (omega (arith, ints, is)) in
-    let line : int_lt (l.top -ℤ pos (length l.words.items)) j ≡ true =
-    lt (l.top -ℤ pos (length l.words.items)) j (omega (arith, ints, is, below)) in
-    let high : int_le j l.top ≡ true = le j l.top (omega (arith, ints, is)) in
-    let not_yet : int_lt (l.top -ℤ pos i) j ≡ false = not_lt (l.top -ℤ pos i) j (omega (arith, ints, is)) in
-    let here : int_eq (l.top -ℤ pos i) j ≡ true = grind (arith, ints, is) in
-    let at : unsigned_abs (l.top -ℤ j) ≡ i = omega (arith, ints, is) in
-    rw (here, next, line, high, not_yet, at) refl
-
-pub one_line_more : (l : LineWords) (i : ℕ) → i < length l.words.items → (c j : ℤ)
-    → so_far l (i + 1) c j ≡ (so_far l i c j || on_line l.left (slice_index l.words.items i) (l.top -ℤ pos i) c j)
-one_line_more l i below c j =
-    by_lt_z (l.top -ℤ pos i) j
-    (λ above.
-    let next : int_lt (l.top -ℤ pos (i + 1)) j ≡ true = lt (l.top -ℤ pos (i + 1)) j (omega (arith, ints, above)) in
-    let was : int_lt (l.top -ℤ pos i) j ≡ true = lt (l.top -ℤ pos i) j above in
-    let other : int_eq (l.top -ℤ pos i) j ≡ false = not_eq (l.top -ℤ pos i) j (λ same. omega (arith, ints, above, same)) in
-    rw (other, next, was) (or_false (shows_on l c j)))
-    (λ under.
-    by_lt_z j (l.top -ℤ pos i)
-    (λ past.
-    let next : int_lt (l.top -ℤ pos (i + 1)) j ≡ false = not_lt (l.top -ℤ pos (i + 1)) j (omega (arith, ints, past)) in
-    let was : int_lt (l.top -ℤ pos i) j ≡ false = not_lt (l.top -ℤ pos i) j under in
-    let other : int_eq (l.top -ℤ pos i) j ≡ false = not_eq (l.top -ℤ pos i) j (λ same. omega (arith, ints, past, same)) in
-    rw (other, next, was) refl)
-    (λ over. here_too l i c j below (omega (arith, ints, under, over))))
+pub lines_least : (l : LineWords) (s : WordSides) (before after : ℕ) → AreSides l.words.items (length l.words.items) s → s.all ≢ 0
+    → IsBetween s.all before after
+    → IsLeastBox (shows_on l)
+    (record { left = l.left +ℤ pos before; bottom = l.top -ℤ pos s.last; right = (l.left +ℤ pos 63) -ℤ pos after; top = l.top -ℤ pos s.first })
+lines_least l s before after are some is =
+    let few = is.few in
+    let right : l.left +ℤ pos (63 - after) ≡ (l.left +ℤ pos 63) -ℤ pos after = omega (arith, ints, few) in
+    let (left_line, left_below, left_has) = are.some before is.first in
+    let (right_line, right_below, right_has) = are.some (63 - after) is.last in
+    let (first_below, top_has) = are.first_has some in
+    let (last_below, bottom_has) = are.last_has some in
+    record {
+      within = λ c j black.
+          let at = shown_where l c j black in
+          let line = at.is_line in
+          let column = at.is_column in
+          let inside = is.within at.column (are.all at.line at.column at.below at.has) in
+          let least = inside.0 in
+          let most = inside.1 in
+          let first = are.first at.line at.column at.below at.has in
+          let last = are.last at.line at.column at.below at.has in
+          record {
+            left = omega (arith, ints, column, least);
+            right = omega (arith, ints, column, most);
+            bottom = omega (arith, ints, line, last);
+            top = omega (arith, ints, line, first);
+          };
+      left = (l.top -ℤ pos left_line, shown_word l left_line before left_below left_has);
+      right = (l.top -ℤ pos right_line, rw (← right) (shown_word l right_line (63 - after) right_below right_has));
+      bottom = (l.left +ℤ pos bottom_has.0, shown_word l s.last bottom_has.0 last_below bottom_has.1);
+      top = (l.left +ℤ pos top_has.0, shown_word l s.first top_has.0 first_below top_has.1);
+    }

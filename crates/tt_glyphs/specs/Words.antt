@@ -1,6 +1,7 @@
 -- No part of the standard: the black pixels of a small glyph, a word for each line.
-use Rattle.std.specs.Prelude.{◌≡◌, refl, ℕ, ◌-◌, ◌^◌, Bool, true, false, ◌&&◌, ◌==◌, nat_lt, ℤ, pos, negsuc, ◌+ℤ◌, ◌-ℤ◌, ◌≤ℤ◌, int_le, int_lt, unsigned_abs, List, [], ◌∷◌, length, slice_index}
+use Rattle.std.specs.Prelude.{◌≡◌, ◌≢◌, refl, ℕ, ◌-◌, ◌^◌, ◌<◌, ◌≤◌, Bool, true, false, ◌&&◌, ◌==◌, nat_lt, ℤ, pos, negsuc, ◌+ℤ◌, ◌-ℤ◌, ◌≤ℤ◌, int_le, int_lt, unsigned_abs, List, [], ◌∷◌, length, slice_index}
 use Rattle.std.specs.Int.{bit_at}
+use Rattle.tt_glyphs.specs.declared.inked.WordSides.{WordSides}
 use Rattle.tt_glyphs.specs.declared.lines.LineWords.{LineWords}
 use Rattle.tt_glyphs.specs.declared.place.InkPlace.{InkPlace}
 
@@ -19,6 +20,19 @@ shows_in left top words c j =
 
 abbrev pub shows_on : LineWords → ℤ → ℤ → Bool
 shows_on l c j = shows_in l.left l.top l.words.items c j
+
+-- the columns that one of the first n words has, and the first and the last of these words that has a column
+pub record AreSides (words : List ℕ) (n : ℕ) (s : WordSides) : Type 0 where
+  pub some : (m : ℕ) → has_column s.all m ≡ true → (k : ℕ) × (k < n) × (has_column (slice_index words k) m ≡ true)
+  pub all : (k m : ℕ) → k < n → has_column (slice_index words k) m ≡ true → has_column s.all m ≡ true
+  pub first : (k m : ℕ) → k < n → has_column (slice_index words k) m ≡ true → s.first ≤ k
+  pub last : (k m : ℕ) → k < n → has_column (slice_index words k) m ≡ true → k ≤ s.last
+  pub first_has : s.all ≢ 0 → (s.first < n) × ((m : ℕ) × (has_column (slice_index words s.first) m ≡ true))
+  pub last_has : s.all ≢ 0 → (s.last < n) × ((m : ℕ) × (has_column (slice_index words s.last) m ≡ true))
+
+-- a pixel of n lines from `top` down, from column `left` on
+abbrev pub lies_from : ℤ → ℤ → ℕ → ℤ → ℤ → Bool
+lies_from left top n c j = (int_lt (top -ℤ pos n) j && int_le j top) && int_le left c
 
 -- the words have the columns and the lines of a place, and no pixel right of the place is black
 pub record HoldsPlace (l : LineWords) (p : InkPlace) : Type 0 where

@@ -1,61 +1,67 @@
 //! The box of a glyph's ink: by the words of its lines where it has them, else by its edges.
 
-ghost use Rattle.std.specs.Prelude.{◌≡◌, ℤ, ◌^◌, ◌<◌, ◌≤◌, ◌-ℤ◌, ◌&&◌, pos, length, slice_index, unsigned_abs, IfOk, IfSome};
-ghost use Rattle.std.specs.Ordering.{int_eq};
+ghost use Rattle.std.specs.Prelude.{◌≡◌, ℕ, ℤ, ◌+◌, List, length, slice_index, IfOk, IfSome};
 ghost use Rattle.tt_glyphs.specs.Edged.{EdgedFits, ink_of, inked_by};
-ghost use Rattle.tt_glyphs.specs.Words.{shows, shows_on};
+ghost use Rattle.tt_glyphs.specs.Words.{AreSides, shows_on};
 ghost use Rattle.tt_scan_ink.specs.Least.{IsInk, IsNear};
 
 use crate::edged::EdgedOutline;
-use crate::lines::LineWords;
+use crate::lines::{LineWords, line_below};
 use std::alloc::{AllocError, Global};
-use tt_scan_ink::{GlyphInk, joined};
+use tt_scan_ink::GlyphInk;
 
-/// The box of the black columns of a word, on a line.
+/// The columns that some of the words have, and the first and the last word that has one.
+#[derive(Clone, Copy)]
+pub(crate) struct WordSides {
+    pub(crate) all: u64,
+    pub(crate) first: usize,
+    pub(crate) last: usize,
+}
+
+/// The sides of some words, and of one word more, which is word `i`.
 #[inline(always)]
-fn word_ink(word: u64, left: i64, line: i64) -> Option<GlyphInk>
-    requires { unsigned_abs left < 2 ^ 20 }
-    ensures { IsInk (λ c j. int_eq line j && shows left word c) result }
+fn with_word(sides: WordSides, word: u64, i: usize) -> WordSides
+    ensures { (words : List ℕ) → AreSides words i sides → word ≡ slice_index words i → AreSides words (i + 1) result }
 {
     if word == 0 {
-        return None;
+        return sides;
     }
-    Some(GlyphInk {
-        left: left + i64::from(word.leading_zeros()),
-        bottom: line,
-        right: left + 63 - i64::from(word.trailing_zeros()),
-        top: line,
-    })
+    WordSides {
+        all: sides.all | word,
+        first: if sides.all == 0 { i } else { sides.first },
+        last: i,
+    }
 }
 
-/// The line that is `i` lines below another.
-#[inline(always)]
-fn line_below(top: i64, i: usize) -> i64
-    requires top { unsigned_abs top < 2 ^ 20 }
-    requires few { i ≤ 2 ^ 13 }
-    ensures { result ≡ top -ℤ pos i }
+/// The sides of words.
+fn sides_of(words: &[u64]) -> WordSides
+    ensures { AreSides words.now (length words.now) result }
 {
-    top - i as i64
-}
-
-/// The box of the black pixels of one line.
-#[inline(always)]
-fn line_ink(lines: &LineWords, i: usize) -> Option<GlyphInk>
-    requires { i < length lines.now.words.items }
-    ensures { IsInk (λ c j. int_eq (lines.now.top -ℤ pos i) j && shows lines.now.left (slice_index lines.now.words.items i) c) result }
-{
-    word_ink(lines.words[i], lines.left, line_below(lines.top, i))
+    let mut sides = WordSides {
+        all: 0,
+        first: 0,
+        last: 0,
+    };
+    for i in 0..words.len() {
+        sides = with_word(sides, words[i], i);
+    }
+    sides
 }
 
 /// The box of the black pixels of some lines.
 fn lines_ink(lines: &LineWords) -> Option<GlyphInk>
     ensures { IsInk (shows_on lines.now) result }
 {
-    let mut ink = None;
-    for i in 0..lines.words.len() {
-        ink = joined(ink, line_ink(lines, i));
+    let sides = sides_of(&lines.words);
+    if sides.all == 0 {
+        return None;
     }
-    ink
+    Some(GlyphInk {
+        left: lines.left + i64::from(sides.all.leading_zeros()),
+        bottom: line_below(lines.top, sides.last),
+        right: lines.left + 63 - i64::from(sides.all.trailing_zeros()),
+        top: line_below(lines.top, sides.first),
+    })
 }
 
 /// The box of all black pixels of a glyph, whose lines may have words. Error: memory ran out.

@@ -1,9 +1,9 @@
 //! The black pixels of a small glyph: its rows are cut once, and its dropouts are sought once. The box of its ink and the
 //! rows of its bitmap are made of the words of its lines.
 
-ghost use Rattle.std.specs.Prelude.{◌≡◌, ℕ, ℤ, ◌^◌, ◌<◌, ◌≤◌, ◌+ℤ◌, ◌-ℤ◌, pos, true, unsigned_abs, IfOk, IfSome, OnOk};
+ghost use Rattle.std.specs.Prelude.{◌≡◌, ℕ, ℤ, ◌^◌, ◌<◌, ◌≤◌, ◌+ℤ◌, ◌-ℤ◌, ◌&&◌, int_le, pos, true, unsigned_abs, IfOk, IfSome, OnOk};
 ghost use Rattle.tt_glyphs.specs.Edged.{EdgedFits, IsSameGlyph, ink_of, inked_by};
-ghost use Rattle.tt_glyphs.specs.Words.{has_column, shows, shows_on};
+ghost use Rattle.tt_glyphs.specs.Words.{has_column, lies_from, shows, shows_on};
 ghost use Rattle.tt_scan.specs.Stamps.{in_word};
 ghost use Rattle.tt_scan_dropouts.specs.Windows.{WindowFits, has, is_shown, widened};
 ghost use Rattle.tt_scan_ink.specs.Ink.{count_of};
@@ -55,18 +55,17 @@ fn whole(word: u64) -> u64
     word / 128 * 128
 }
 
-/// The word of line `r` of a bitmap, counted from line `top` down. Its first column is the bitmap's.
+/// The word of line `r` of a bitmap, counted from line `top` down, from column `left` on.
 fn line_of(bits: &Bitmap, left: i64, top: i64, r: u32) -> u64
     requires narrow { bits.now.window.width ≤ 57 }
-    requires left { left ≡ bits.now.window.left }
     requires top { unsigned_abs top < 2 ^ 20 }
     requires first { has bits.now.window left (top -ℤ pos r) ≡ true }
-    ensures { (c : ℤ) → shows left result c ≡ is_shown bits.now c (top -ℤ pos r) }
+    ensures { (c : ℤ) → shows left result c ≡ (int_le left c && is_shown bits.now c (top -ℤ pos r)) }
 {
     whole(bits.line_word(left, top - i64::from(r)))
 }
 
-/// The words of a bitmap with this first column, highest line and number of lines. Error: memory ran out.
+/// The words of some lines of a bitmap from line `top` down, from column `left` on. Error: memory ran out.
 fn words_from(
     alloc: Global,
     bits: &Bitmap,
@@ -75,32 +74,33 @@ fn words_from(
     height: u32,
 ) -> Result<LineWords, AllocError>
     requires narrow { bits.now.window.width ≤ 57 }
-    requires some { 1 ≤ bits.now.window.width }
-    requires left { left ≡ bits.now.window.left }
-    requires top { top +ℤ pos 1 ≡ bits.now.window.bottom +ℤ pos height }
     requires near_left { unsigned_abs left < 2 ^ 20 }
     requires near_top { unsigned_abs top < 2 ^ 20 }
     requires few { height ≤ 2 ^ 13 }
-    requires height { height ≡ bits.now.window.height }
-    ensures { IfOk result (λ l. (c j : ℤ) → shows_on l c j ≡ is_shown bits.now c j) }
+    requires first { (r : ℕ) → r < height → has bits.now.window left (top -ℤ pos r) ≡ true }
+    ensures { IfOk result (λ l. (c j : ℤ) → shows_on l c j ≡ (lies_from left top height c j && is_shown bits.now c j)) }
 {
     let mut words = Vec::with_capacity(alloc, height as usize)?;
     for r in 0..height {
-        words.push(line_of(bits, left, top, r))?;
+        words.push_reserved(line_of(bits, left, top, r));
     }
     Ok(LineWords { left, top, words })
 }
 
-/// The words of a bitmap that has two pixels more on each side of a window. Error: memory ran out.
+/// The words of a bitmap that has two pixels more on each side of a window. All its black pixels lie in the window. Error:
+/// memory ran out.
 fn words_of(alloc: Global, bits: &Bitmap, window: Window) -> Result<LineWords, AllocError>
     requires bits { bits.now.window ≡ widened 2 window }
     requires fits { WindowFits (widened 2 window) }
     requires narrow { window.width ≤ 32 }
+    requires some { 1 ≤ window.width }
+    requires inside { (c j : ℤ) → is_shown bits.now c j ≡ true → has window c j ≡ true }
     ensures { IfOk result (λ l. (c j : ℤ) → shows_on l c j ≡ is_shown bits.now c j) }
 {
-    let left = i64::from(window.left) - 2;
-    let top = i64::from(window.bottom) + i64::from(window.height) + 1;
-    words_from(alloc, bits, left, top, window.height + 4)
+    let left = i64::from(window.left);
+    let top = i64::from(window.bottom) + i64::from(window.height) - 1;
+    let lines = words_from(alloc, bits, left, top, window.height)?;
+    Ok(lines)
 }
 
 /// All black pixels of a small glyph at pen 0. None where the glyph has many columns, rows or edges, or fills no dropouts:

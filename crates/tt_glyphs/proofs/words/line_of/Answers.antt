@@ -1,20 +1,8 @@
-use Rattle.std.proofs.Common.{◌≡◌, ◌∙◌, refl, ap, Bool, true, false, ◌&&◌, int_le, int_lt, ℤ, pos, ◌+ℤ◌, ◌-ℤ◌, unsigned_abs, SFits, w64, rules, arith}
+use Rattle.std.proofs.Common.{◌≡◌, ◌∙◌, ap, ◌&&◌, int_le, pos, ◌-ℤ◌, unsigned_abs, SFits, w64, rules, arith}
 use Rattle.std.proofs.lemmas.Int.{ints, to_z-of_z}
-use Rattle.tt_core.specs.Bits.{bit}
-use Rattle.tt_scan_dropouts.specs.Windows.{Bitmap, is_within, place}
 use Rattle.tt_scan.specs.Stamps.{shows as line_shows}
 use Rattle.tt_scan_dropouts.specs.Windows.{is_shown}
 use Rattle.tt_glyphs.proofs.words.line_of.Goals as goal
-
--- a test that stands within is no test more
-once : (a x y z : Bool) → (a && (((a && x) && y) && z)) ≡ (((a && x) && y) && z)
-once true x y z = refl
-once false x y z = refl
-
-within : (b : Bitmap) (left k j : ℤ) → left ≡ b.window.left → (int_le left k && is_shown b k j) ≡ is_shown b k j
-within b left k j is =
-    rw is (once (int_le b.window.left k) (int_lt k (b.window.left +ℤ pos b.window.width)) (is_within b.window.bottom b.window.height j)
-    (bit b.bits (place b.window k j)))
 
 pub returns : goal.returns
 returns c = λ k.
@@ -28,4 +16,3 @@ returns c = λ k.
     let word : line_shows left c.line_word.result k ≡ (int_le left k && is_shown c.args.bits.now k (c.args.top -ℤ pos c.args.r)) =
     rw down at there in
     ap (λ b. int_le left k && b) (c.whole.ensures (unsigned_abs (k -ℤ left))) ∙ word
-    ∙ within c.args.bits.now left k (c.args.top -ℤ pos c.args.r) c.requires.left
