@@ -1,0 +1,24 @@
+-- Lemmas about the definitions.
+use Rattle.std.specs.Prelude.{◌≡◌, ℕ, ◌+◌, ◌-◌, ◌*◌, ◌^◌, ◌<◌, ◌≤◌, Bool, true, false, List, Some}
+use Rattle.tt_kern.specs.declared.search.KeySize.{KeySize}
+use Rattle.tt_kern.specs.Halves.{asked, reached}
+use Rattle.tt_kern.specs.Search.{key_at, found}
+
+-- i is where a search of n numbers may end: it passes, and the number before it fails
+pub record IsReached (passes : ℕ → Bool) (n i : ℕ) : Type 0 where
+  pub within : i ≤ n
+  pub holds : i < n → passes i ≡ true
+  pub before : 0 < i → passes (i - 1) ≡ false
+
+abbrev pub SearchesEnd : Type 0
+SearchesEnd = (passes : ℕ → Bool) (n : ℕ) → IsReached passes n (reached n passes)
+
+-- a search of fewer than 2^k numbers tests at most k of them
+abbrev pub SearchesAreShort : Type 0
+SearchesAreShort = (passes : ℕ → Bool) (n k : ℕ) → n < 2 ^ k → asked n passes ≤ k
+
+-- where the keys of n records rise, the record that has a key is the one that is found
+abbrev pub KeysThatRiseAreFound : Type 0
+KeysThatRiseAreFound = (size : KeySize) (b : List ℕ) (at step n i : ℕ)
+    → ((j k : ℕ) → j < k → k < n → key_at size b (at + step * j) < key_at size b (at + step * k)) → i < n
+    → found size b at step n (key_at size b (at + step * i)) ≡ Some i

@@ -1,0 +1,6 @@
+pub mod Coverage
+pub mod Halves
+pub mod Pair
+pub mod Search
+pub mod Words
+pub mod Laws
