@@ -4,3 +4,5 @@ pub mod Pair
 pub mod Search
 pub mod Words
 pub mod Laws
+pub mod Feature
+pub mod OldTable

@@ -2,6 +2,8 @@
 #![tactic(auto)]
 
 mod coverage;
+mod feature;
+mod old_table;
 mod pair;
 mod search;
 mod words;
