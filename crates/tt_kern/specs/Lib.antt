@@ -6,3 +6,7 @@ pub mod Words
 pub mod Laws
 pub mod Feature
 pub mod OldTable
+pub mod Near
+pub mod Pairs
+pub mod Kerning
+pub mod Rows

@@ -3,7 +3,12 @@
 
 mod coverage;
 mod feature;
+mod kerning;
 mod old_table;
 mod pair;
+mod pairs;
 mod search;
+mod sum;
 mod words;
+
+pub use kerning::Kerning;
