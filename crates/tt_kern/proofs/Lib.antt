@@ -4,3 +4,4 @@ pub mod OldTable
 pub mod Lists
 pub mod Rising
 pub mod PairLists
+pub mod LookupSums

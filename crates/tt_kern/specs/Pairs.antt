@@ -1,7 +1,6 @@
--- OpenType, "GPOS": the pair subtables of the feature kern, and the sum over its lookups.
-use Rattle.std.specs.Prelude.{ℕ, zero, suc, ◌+◌, ◌*◌, Bool, false, ◌&&◌, ◌||◌, ◌==◌, nat_lt, if◌then◌else◌, ◌≡◌, ◌<◌, ◌≤◌, true, List, [], ◌∷◌, ◌++◌, take, Option, Some, None}
-use Rattle.tt_kern.specs.declared.pairs.list.PairSubtable.{PairSubtable}
-use Rattle.tt_kern.specs.Feature.{looked_at, feature_of}
+-- OpenType, "GPOS", lookup types 2 and 9: the lookups of the feature kern, and their pair subtables.
+use Rattle.std.specs.Prelude.{ℕ, zero, suc, ◌+◌, ◌-◌, ◌*◌, Bool, false, ◌&&◌, ◌||◌, ◌==◌, nat_lt, if◌then◌else◌, ◌≡◌, ◌<◌, ◌≤◌, true, List, [], ◌∷◌, ◌++◌, take, length, map, Option, Some, None}
+use Rattle.tt_kern.specs.Feature.{looked_at}
 use Rattle.tt_kern.specs.Words.{word, long}
 
 -- the words at the first n places of a list
@@ -56,24 +55,24 @@ pair_place b lookup k =
 abbrev pub subtable_count : List ℕ → ℕ → ℕ
 subtable_count b lookup = if nat_lt 64 (word b (lookup + 4)) then 64 else word b (lookup + 4)
 
-abbrev pub with_place : ℕ → Option ℕ → List PairSubtable → List PairSubtable
-with_place lookup None ps = ps
-with_place lookup (Some at) ps = ps ++ record { lookup = lookup; at = at } ∷ []
+abbrev pub with_place : Option ℕ → List ℕ → List ℕ
+with_place None places = places
+with_place (Some at) places = places ++ at ∷ []
 
--- the pair subtables among the first n subtables of the lookup at a place; the lookup is numbered in its feature
-abbrev pub pairs_in : List ℕ → ℕ → ℕ → ℕ → List PairSubtable
-pairs_in b i place zero = []
-pairs_in b i place (suc n) = with_place i (pair_place b place n) (pairs_in b i place n)
+-- the offsets of the pair subtables among the first n subtables of a lookup
+abbrev pub places_in : List ℕ → ℕ → ℕ → List ℕ
+places_in b lookup zero = []
+places_in b lookup (suc n) = with_place (pair_place b lookup n) (places_in b lookup n)
 
-abbrev pub pairs_of_lookups : List ℕ → ℕ → List ℕ → List PairSubtable
-pairs_of_lookups b i [] = []
-pairs_of_lookups b i (number ∷ numbers) =
-    pairs_in b i (lookup_place b number) (subtable_count b (lookup_place b number)) ++ pairs_of_lookups b (i + 1) numbers
+-- the pair subtables of a lookup by number
+abbrev pub subtables_in : List ℕ → ℕ → List ℕ
+subtables_in b number = places_in b (lookup_place b number) (subtable_count b (lookup_place b number))
 
--- the pair subtables of all lookups of a feature, the first 64 (profile)
-abbrev pub pairs_by : List ℕ → Option ℕ → List PairSubtable
-pairs_by b None = []
-pairs_by b (Some feature) = take 64 (pairs_of_lookups b 0 (lookups_of b feature))
+-- the first n of all lists together
+abbrev pub first_of_all : {A : Type 0} → ℕ → List (List A) → List (List A)
+first_of_all n [] = []
+first_of_all n (xs ∷ xss) = take n xs ∷ first_of_all (n - length xs) xss
 
-unfoldable pub pairs_of : List ℕ → List PairSubtable
-pairs_of b = pairs_by b (feature_of b)
+-- the pair subtables of each lookup of a feature; the first 64 of all lookups are taken (profile)
+unfoldable pub subtables_of : List ℕ → ℕ → List (List ℕ)
+subtables_of b feature = first_of_all 64 (map (subtables_in b) (lookups_of b feature))

@@ -26,7 +26,7 @@ impl<'a> Model for Kerning<'a> {
     ghost use Rattle.tt_core.specs.Limits.{font_limit};
     ghost use Rattle.tt_kern.specs.Feature.{feature_of};
     ghost use Rattle.tt_kern.specs.Kerning.{Tables};
-    ghost use Rattle.tt_kern.specs.Pairs.{pairs_of};
+    ghost use Rattle.tt_kern.specs.Listed.{pairs_of};
 
     ghost Value = { Tables };
 

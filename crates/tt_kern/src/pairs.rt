@@ -2,7 +2,8 @@
 
 ghost use Rattle.std.specs.Prelude.{◌≡◌, ◌+◌, ◌++◌, ◌^◌, ◌<◌, ◌≤◌, take, length, Some, IfSome};
 ghost use Rattle.tt_kern.specs.Feature.{looked_at};
-ghost use Rattle.tt_kern.specs.Pairs.{words_at, listed_by, lookup_place, subtable_count, extended, pair_place, pairs_in, pairs_by};
+ghost use Rattle.tt_kern.specs.Listed.{pairs_in, pairs_by};
+ghost use Rattle.tt_kern.specs.Pairs.{words_at, listed_by, lookup_place, subtable_count, extended, pair_place};
 
 pub(crate) mod list;
 mod numbers;

@@ -1,8 +1,7 @@
 //! The sum over the lookups of a feature. OpenType, "GPOS": each lookup ends at its first subtable that applies.
 
 ghost use Rattle.std.specs.Prelude.{◌≡◌, ◌+◌, ◌*◌, ◌^◌, ◌<◌, ◌≤◌, ◌∷◌, ◌+ℤ◌, List, unsigned_abs};
-ghost use Rattle.tt_kern.specs.Kerning.{sum_from};
-ghost use Rattle.tt_kern.specs.Near.{IsNear};
+ghost use Rattle.tt_kern.specs.Listed.{IsNear, sum_from};
 ghost use Rattle.tt_kern.specs.declared.pairs.list.PairSubtable as declared;
 
 use crate::pair::pair_value;

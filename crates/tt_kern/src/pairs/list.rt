@@ -1,7 +1,7 @@
 //! A list of at most 64 pair subtables.
 
 ghost use Rattle.std.specs.Prelude.{◌≡◌, ◌+◌, ◌∷◌, ◌++◌, [], ◌^◌, ◌<◌, ◌≤◌, length, take, drop};
-ghost use Rattle.tt_kern.specs.Near.{IsNear};
+ghost use Rattle.tt_kern.specs.Listed.{IsNear};
 
 use std::marker::Model;
 
@@ -22,7 +22,7 @@ pub(crate) struct PairList {
 impl Model for PairList {
     ghost use Rattle.std.specs.Prelude.{◌≡◌, ◌≤◌, List, take, length};
     ghost use Rattle.std.specs.List.{All};
-    ghost use Rattle.tt_kern.specs.Near.{IsNear};
+    ghost use Rattle.tt_kern.specs.Listed.{IsNear};
     ghost use Rattle.tt_kern.specs.declared.pairs.list.PairSubtable.{PairSubtable};
 
     ghost Value = { List PairSubtable };

@@ -1,5 +1,5 @@
 use Rattle.std.proofs.Common.{◌≡◌, ◌++◌, ◌≤◌, take}
-use Rattle.tt_kern.specs.Pairs.{pairs_in}
+use Rattle.tt_kern.specs.Listed.{pairs_in}
 use Rattle.tt_kern.proofs.pairs.note_lookup.Given as goal
 
 -- the list so far

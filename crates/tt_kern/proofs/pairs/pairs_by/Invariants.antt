@@ -1,5 +1,6 @@
 use Rattle.std.proofs.Common.{◌≡◌, ◌-◌, ◌++◌, ◌≤◌, take, length, Some}
-use Rattle.tt_kern.specs.Pairs.{is_listed, rising, listed_by, pairs_of_lookups, pairs_by}
+use Rattle.tt_kern.specs.Listed.{pairs_of_lookups, pairs_by}
+use Rattle.tt_kern.specs.Pairs.{is_listed, rising, listed_by}
 use Rattle.tt_kern.proofs.pairs.pairs_by.Given as goal
 
 -- the list so far, and then the lookups that are left

@@ -1,6 +1,6 @@
 use Rattle.std.proofs.Common.{◌≡◌, ◌*◌, ◌≤◌, drop}
 use Rattle.std.specs.Prelude.{◌+ℤ◌, unsigned_abs}
-use Rattle.tt_kern.specs.Kerning.{sum_from}
+use Rattle.tt_kern.specs.Listed.{sum_from}
 use Rattle.tt_kern.proofs.sum.pair_sum.Given as goal
 
 -- the sum so far, and then that of the subtables that are left

@@ -1,5 +1,5 @@
 use Rattle.std.proofs.Common.{◌≡◌}
-use Rattle.tt_kern.specs.Pairs.{pairs_of}
+use Rattle.tt_kern.specs.Listed.{pairs_of}
 use Rattle.tt_kern.proofs.kerning.Kerning.open.Goals as goal
 
 pub invariant_of-result : goal.invariant_of-result
