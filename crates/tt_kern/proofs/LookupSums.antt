@@ -6,8 +6,9 @@ use Rattle.std.proofs.lemmas.List.{length-map, map-append}
 use Rattle.std.specs.Option.{unwrap_or}
 use Rattle.std.specs.Prelude.{nat_lt, ℤ, pos, ◌+ℤ◌}
 use Rattle.tt_kern.specs.declared.pairs.list.PairSubtable.{PairSubtable}
-use Rattle.tt_kern.specs.Kerning.{lookup_value, lookups_sum}
-use Rattle.tt_kern.specs.Listed.{with_pair, pairs_in, pairs_of_lookups, pairs_by, with_value, sum_from}
+use Rattle.tt_kern.specs.Feature.{feature_of}
+use Rattle.tt_kern.specs.Kerning.{Tables, lookup_value, lookups_sum, kerning}
+use Rattle.tt_kern.specs.Listed.{with_pair, pairs_in, pairs_of_lookups, pairs_by, pairs_of, with_value, sum_from}
 use Rattle.tt_kern.specs.Pair.{pair_value}
 use Rattle.tt_kern.specs.Pairs.{lookup_place, subtable_count, pair_place, with_place, places_in, subtables_in, lookups_of, first_of_all, subtables_of}
 
@@ -95,3 +96,9 @@ unfolding subtables_of
 same-sum b g h feature =
     rw (lookups-numbered b 0 (lookups_of b feature), take-numbered 0 64 (map (subtables_in b) (lookups_of b feature)))
     (numbered-sum b g h 0 0 (first_of_all 64 (map (subtables_in b) (lookups_of b feature))) (omega arith))
+
+-- the sum over the list is the kerning where GPOS has the feature
+pub kerning-by-list : (t : Tables) (g h feature : ℕ) → feature_of t.gpos ≡ Some feature
+    → sum_from t.gpos g h 0 (pairs_of t.gpos) ≡ kerning t g h
+unfolding pairs_of
+kerning-by-list t g h feature is = rw is (same-sum t.gpos g h feature)
