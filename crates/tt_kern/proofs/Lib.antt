@@ -1,7 +1,9 @@
 pub mod Halves
-pub mod SearchEnds
-pub mod OldTable
 pub mod Lists
-pub mod Rising
-pub mod PairLists
 pub mod LookupSums
+pub mod OldTable
+pub mod PairLists
+pub mod Rising
+pub mod SearchEnds
+pub mod SearchFinds
+pub mod Short

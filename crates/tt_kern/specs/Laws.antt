@@ -1,7 +1,11 @@
 -- Lemmas about the definitions.
-use Rattle.std.specs.Prelude.{◌≡◌, ℕ, ◌+◌, ◌-◌, ◌*◌, ◌^◌, ◌<◌, ◌≤◌, Bool, true, false, List, Some}
+use Rattle.std.specs.Prelude.{◌≡◌, ℕ, ◌+◌, ◌-◌, ◌*◌, ◌^◌, ◌<◌, ◌≤◌, Bool, true, false, List, Some, length}
 use Rattle.tt_kern.specs.declared.search.KeySize.{KeySize}
+use Rattle.std.specs.List.{sum_by}
+use Rattle.tt_kern.specs.declared.old_table.KernVersion.{KernVersion}
 use Rattle.tt_kern.specs.Halves.{asked, reached}
+use Rattle.tt_kern.specs.OldTable.{count_taken, subtables_from}
+use Rattle.tt_kern.specs.Pairs.{lookups_of, subtables_of}
 use Rattle.tt_kern.specs.Search.{key_at, found}
 
 -- i is where a search of n numbers may end: it passes, and the number before it fails
@@ -22,3 +26,13 @@ abbrev pub KeysThatRiseAreFound : Type 0
 KeysThatRiseAreFound = (size : KeySize) (b : List ℕ) (at step n i : ℕ)
     → ((j k : ℕ) → j < k → k < n → key_at size b (at + step * j) < key_at size b (at + step * k)) → i < n
     → found size b at step n (key_at size b (at + step * i)) ≡ Some i
+
+abbrev pub LookupsAreFew : Type 0
+LookupsAreFew = (b : List ℕ) (feature : ℕ) → length (lookups_of b feature) ≤ 32
+
+-- of all lookups together
+abbrev pub SubtablesAreFew : Type 0
+SubtablesAreFew = (b : List ℕ) (feature : ℕ) → sum_by length (subtables_of b feature) ≤ 64
+
+abbrev pub ListsOfKernAreShort : Type 0
+ListsOfKernAreShort = (m : KernVersion) (b : List ℕ) (p : ℕ) → length (subtables_from m b (count_taken m b) p) ≤ 32

@@ -4,6 +4,7 @@
 mod coverage;
 mod feature;
 mod kerning;
+pub mod laws;
 mod old_table;
 mod pair;
 mod pairs;

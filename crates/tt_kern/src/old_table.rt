@@ -4,121 +4,121 @@
 ghost use Rattle.std.specs.Prelude.{◌≡◌, ◌+◌, ◌*◌, ◌^◌, ◌<◌, ◌≤◌, length, IfSome, unsigned_abs};
 ghost use Rattle.tt_core.specs.Limits.{font_limit};
 ghost use Rattle.tt_kern.specs.Words.{word};
-ghost use Rattle.tt_kern.specs.OldTable.{maker_of, list_place, count_taken, header_size, length_told, is_usable, overrides, pair_count, value_in, after_subtable, kern_sum};
+ghost use Rattle.tt_kern.specs.OldTable.{version_of, list_place, count_taken, header_size, length_told, is_usable, overrides, pair_count, value_in, after_subtable, kern_sum};
 
 use crate::search::{KeySize, find};
 use crate::words::{long, signed, word};
 
-/// Who made the rules of a table kern.
+/// The version of a table kern. Its header and its subtables' headers depend on the version.
 #[derive(Clone, Copy)]
-pub(crate) enum Maker {
-    /// Version 0, a uint16.
+pub(crate) enum KernVersion {
+    /// Version 0, a uint16: OpenType's.
     OpenType,
-    /// Version 1.0, four bytes.
+    /// Version 1.0, four bytes: Apple's.
     Apple,
 }
 
-fn maker_of(bytes: &[u8]) -> Option<Maker>
-    ensures { result ≡ maker_of bytes.now }
+fn version_of(bytes: &[u8]) -> Option<KernVersion>
+    ensures { result ≡ version_of bytes.now }
 {
     if word(bytes, 0) == 0 {
-        Some(Maker::OpenType)
+        Some(KernVersion::OpenType)
     } else if long(bytes, 0) == 65536 {
-        Some(Maker::Apple)
+        Some(KernVersion::Apple)
     } else {
         None
     }
 }
 
 /// The offset of the first subtable.
-fn list_place(maker: Maker) -> usize
-    ensures exact { result ≡ list_place maker }
+fn list_place(version: KernVersion) -> usize
+    ensures exact { result ≡ list_place version }
     ensures bound { result ≤ 8 }
 {
-    match maker {
-        Maker::OpenType => 4,
-        Maker::Apple => 8,
+    match version {
+        KernVersion::OpenType => 4,
+        KernVersion::Apple => 8,
     }
 }
 
 /// The count of subtables, at most 32 (profile).
-fn count_taken(maker: Maker, bytes: &[u8]) -> usize
-    ensures exact { result ≡ count_taken maker bytes.now }
+fn count_taken(version: KernVersion, bytes: &[u8]) -> usize
+    ensures exact { result ≡ count_taken version bytes.now }
     ensures bound { result ≤ 32 }
 {
-    let told = match maker {
-        Maker::OpenType => word(bytes, 2),
-        Maker::Apple => long(bytes, 4),
+    let told = match version {
+        KernVersion::OpenType => word(bytes, 2),
+        KernVersion::Apple => long(bytes, 4),
     };
     if told > 32 { 32 } else { told }
 }
 
 /// Bytes of a subtable's header.
-fn header_size(maker: Maker) -> usize
-    ensures exact { result ≡ header_size maker }
+fn header_size(version: KernVersion) -> usize
+    ensures exact { result ≡ header_size version }
     ensures bound { result ≤ 8 }
 {
-    match maker {
-        Maker::OpenType => 6,
-        Maker::Apple => 8,
+    match version {
+        KernVersion::OpenType => 6,
+        KernVersion::Apple => 8,
     }
 }
 
-fn length_told(maker: Maker, bytes: &[u8], at: usize) -> usize
+fn length_told(version: KernVersion, bytes: &[u8], at: usize) -> usize
     requires place { at < 2 ^ 34 }
-    ensures exact { result ≡ length_told maker bytes.now at }
+    ensures exact { result ≡ length_told version bytes.now at }
     ensures bound { result < 2 ^ 32 }
 {
-    match maker {
-        Maker::OpenType => word(bytes, at + 2),
-        Maker::Apple => long(bytes, at),
+    match version {
+        KernVersion::OpenType => word(bytes, at + 2),
+        KernVersion::Apple => long(bytes, at),
     }
 }
 
 /// Whether a subtable has horizontal pairs that are neither minimum nor cross-stream nor a variation, in format 0.
-fn is_usable(maker: Maker, bytes: &[u8], at: usize) -> bool
+fn is_usable(version: KernVersion, bytes: &[u8], at: usize) -> bool
     requires place { at < 2 ^ 34 }
-    ensures { result ≡ is_usable maker bytes.now at }
+    ensures { result ≡ is_usable version bytes.now at }
 {
     let coverage = word(bytes, at + 4);
-    match maker {
-        Maker::OpenType => coverage / 256 == 0 && coverage % 8 == 1,
-        Maker::Apple => coverage / 8192 == 0 && coverage % 256 == 0,
+    match version {
+        KernVersion::OpenType => coverage / 256 == 0 && coverage % 8 == 1,
+        KernVersion::Apple => coverage / 8192 == 0 && coverage % 256 == 0,
     }
 }
 
 /// Whether a subtable's value takes the place of the sum so far.
-fn overrides(maker: Maker, bytes: &[u8], at: usize) -> bool
+fn overrides(version: KernVersion, bytes: &[u8], at: usize) -> bool
     requires place { at < 2 ^ 34 }
-    ensures { result ≡ overrides maker bytes.now at }
+    ensures { result ≡ overrides version bytes.now at }
 {
-    match maker {
-        Maker::OpenType => word(bytes, at + 4) / 8 % 2 == 1,
-        Maker::Apple => false,
+    match version {
+        KernVersion::OpenType => word(bytes, at + 4) / 8 % 2 == 1,
+        KernVersion::Apple => false,
     }
 }
 
 /// The count of pairs: as many as the subtable tells, or as fit into the table.
-fn pair_count(maker: Maker, bytes: &[u8], at: usize) -> usize
+fn pair_count(version: KernVersion, bytes: &[u8], at: usize) -> usize
     requires place { at < 2 ^ 34 }
-    ensures exact { result ≡ pair_count maker bytes.now at }
+    ensures exact { result ≡ pair_count version bytes.now at }
     ensures bound { result < 65536 }
 {
-    let told = word(bytes, at + header_size(maker));
-    let fitting = bytes.len().saturating_sub(at + header_size(maker) + 8) / 6;
+    let told = word(bytes, at + header_size(version));
+    let fitting = bytes.len().saturating_sub(at + header_size(version) + 8) / 6;
     if told < fitting { told } else { fitting }
 }
 
 /// The value of two glyphs in a subtable.
-fn value_in(maker: Maker, bytes: &[u8], at: usize, left: usize, right: usize) -> Option<i32>
+fn value_in(version: KernVersion, bytes: &[u8], at: usize, left: usize, right: usize) -> Option<i32>
     requires place { at < 2 ^ 34 }
     requires left { left < 65536 }
     requires right { right < 65536 }
-    ensures exact { result ≡ value_in maker bytes.now at left right }
+    ensures exact { result ≡ value_in version bytes.now at left right }
     ensures bound { IfSome result (λ v. unsigned_abs v ≤ 32768) }
 {
-    let pairs = at + header_size(maker) + 8;
-    let count = pair_count(maker, bytes, at);
+    let pairs = at + header_size(version) + 8;
+    let count = pair_count(version, bytes, at);
     match find(bytes, KeySize::Long, pairs, 6, count, 65536 * left + right) {
         Some(i) => Some(signed(bytes, pairs + 6 * i + 4)),
         None => None,
@@ -127,7 +127,7 @@ fn value_in(maker: Maker, bytes: &[u8], at: usize, left: usize, right: usize) ->
 
 /// The sum after a subtable.
 fn after_subtable(
-    maker: Maker,
+    version: KernVersion,
     bytes: &[u8],
     left: usize,
     right: usize,
@@ -138,15 +138,15 @@ fn after_subtable(
     requires right { right < 65536 }
     requires total { unsigned_abs total ≤ 2 ^ 20 }
     requires place { at < 2 ^ 34 }
-    ensures exact { result ≡ after_subtable maker bytes.now left right total at }
+    ensures exact { result ≡ after_subtable version bytes.now left right total at }
     ensures bound { unsigned_abs result ≤ unsigned_abs total + 32768 }
 {
-    if !is_usable(maker, bytes, at) {
+    if !is_usable(version, bytes, at) {
         return total;
     }
-    match value_in(maker, bytes, at, left, right) {
+    match value_in(version, bytes, at, left, right) {
         Some(value) => {
-            if overrides(maker, bytes, at) {
+            if overrides(version, bytes, at) {
                 value
             } else {
                 total + value
@@ -165,18 +165,18 @@ pub(crate) fn kern_sum(bytes: &[u8], left: usize, right: usize) -> i32
     ensures exact { result ≡ kern_sum bytes.now left right }
     ensures bound { unsigned_abs result ≤ 2 ^ 20 }
 {
-    let Some(maker) = maker_of(bytes) else {
+    let Some(version) = version_of(bytes) else {
         return 0;
     };
     let mut total = 0;
-    let mut at = list_place(maker);
-    for i in 0..count_taken(maker, bytes) {
+    let mut at = list_place(version);
+    for i in 0..count_taken(version, bytes) {
         if bytes.len() < at + 8 {
             return total;
         }
-        total = after_subtable(maker, bytes, left, right, total, at);
-        let length = length_told(maker, bytes, at);
-        if length < header_size(maker) {
+        total = after_subtable(version, bytes, left, right, total, at);
+        let length = length_told(version, bytes, at);
+        if length < header_size(version) {
             return total;
         }
         at += length;

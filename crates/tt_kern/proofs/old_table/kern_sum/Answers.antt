@@ -8,7 +8,7 @@ use Rattle.tt_kern.proofs.old_table.kern_sum.Goals as goal
 pub returns-then-bytes-at-clause-exact : goal.returns-then-bytes-at-clause-exact
 returns-then-bytes-at-clause-exact c =
     let at = c.loop-i in
-    let ends = short-ends c.in-Some.maker c.args.bytes.now c.args.left c.args.right (to_z w32 at.total-bits)
+    let ends = short-ends c.in-Some.version c.args.bytes.now c.args.left c.args.right (to_z w32 at.total-bits)
     c.count_taken-i-end.result at.i at.at c.loop-i-test.true c.if-bytes-at.true in
     sym ends ∙ at.invariant.left
 
@@ -19,7 +19,7 @@ returns-then-length-header_size-clause-exact c =
     let fits : SFits w32 c.after_subtable-total.result = omega (arith, ints, bound, at.invariant.bound, at.invariant.few, c.loop-i-test.true) in
     let same : to_z w32 (of_z w32 c.after_subtable-total.result) ≡ c.after_subtable-total.result = simp to_z-of_z refl in
     let short = rw (c.length_told-length.ensures.exact, c.header_size.ensures.exact) at c.if-length-header_size.true in
-    let ends = last-ends c.in-Some.maker c.args.bytes.now c.args.left c.args.right (to_z w32 at.total-bits)
+    let ends = last-ends c.in-Some.version c.args.bytes.now c.args.left c.args.right (to_z w32 at.total-bits)
     c.count_taken-i-end.result at.i at.at c.loop-i-test.true c.if-bytes-at.false short in
     rw (same, c.after_subtable-total.ensures.exact) (sym ends ∙ at.invariant.left)
 
@@ -30,7 +30,7 @@ loop-i-preserved c =
     let fits : SFits w32 c.after_subtable-total.result = omega (arith, ints, bound, at.invariant.bound, at.invariant.few, c.loop-i-test.true) in
     let same : to_z w32 (of_z w32 c.after_subtable-total.result) ≡ c.after_subtable-total.result = simp to_z-of_z refl in
     let long = rw (c.length_told-length.ensures.exact, c.header_size.ensures.exact) at c.if-length-header_size.false in
-    let next = goes-on c.in-Some.maker c.args.bytes.now c.args.left c.args.right (to_z w32 at.total-bits)
+    let next = goes-on c.in-Some.version c.args.bytes.now c.args.left c.args.right (to_z w32 at.total-bits)
     c.count_taken-i-end.result at.i at.at c.loop-i-test.true c.if-bytes-at.false long in
     record {
       left = rw (same, c.after_subtable-total.ensures.exact, c.length_told-length.ensures.exact) (sym next ∙ at.invariant.left);

@@ -6,7 +6,7 @@ use Rattle.tt_kern.proofs.old_table.kern_sum.Given as goal
 -- the sum so far, and then the subtables that are left
 abbrev pub invariant-loop-i : goal.invariant-loop-i
 invariant-loop-i l = record {
-  left : sum_after l.maker l.bytes l.left l.right l.total (subtables_from l.maker l.bytes (l.i-end - l.i) l.at)
+  left : sum_after l.version l.bytes l.left l.right l.total (subtables_from l.version l.bytes (l.i-end - l.i) l.at)
       ≡ kern_sum l.bytes l.left l.right;
   few : l.i-end ≤ 32;
   bound : unsigned_abs l.total ≤ 32768 * l.i;
