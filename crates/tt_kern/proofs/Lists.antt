@@ -1,5 +1,5 @@
 -- Lists cut to a length, one after the other.
-use Rattle.std.proofs.Common.{◌≡◌, ℕ, zero, suc, ◌+◌, ◌<◌, ◌≤◌, List, [], ◌∷◌, ◌++◌, length, take, refl, arith, append_assoc, ap, ◌∙◌}
+use Rattle.std.proofs.Common.{◌≡◌, ℕ, zero, suc, ◌≤◌, List, [], ◌∷◌, ◌++◌, length, take, refl, arith, append_assoc, ap, ◌∙◌}
 use Rattle.std.proofs.lemmas.List.{take_all, length-take, append-nil}
 
 -- what was cut off before stays cut off

@@ -1,5 +1,5 @@
 -- Lists of pair subtables, one subtable after the other, and one lookup after the other.
-use Rattle.std.proofs.Common.{◌≡◌, ℕ, suc, ◌+◌, ◌-◌, ◌<◌, ◌≤◌, List, [], ◌∷◌, ◌++◌, length, take, Option, Some, None, refl, arith, add-one, ◌∙◌}
+use Rattle.std.proofs.Common.{◌≡◌, ℕ, suc, ◌+◌, ◌-◌, ◌<◌, ◌≤◌, List, [], ◌∷◌, ◌++◌, length, take, Some, None, arith, add-one}
 use Rattle.tt_kern.specs.declared.pairs.list.PairSubtable.{PairSubtable}
 use Rattle.tt_kern.specs.Listed.{pairs_in, pairs_of_lookups}
 use Rattle.tt_kern.specs.Pairs.{is_listed, rising, IsNext, lookup_place, subtable_count, pair_place}

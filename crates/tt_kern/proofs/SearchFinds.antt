@@ -31,19 +31,19 @@ ends-at key n i r rise inside it =
           let low = rise r i less inside in
           absurd (omega (arith, high, low))
       | inr above ↦ elim (cases_lt i r) [
-          | inl more ↦
-              let low = below (key i) (key (r - 1)) (it.before (omega (arith, more))) in
-              elim (cases_lt i (r - 1)) [
-                | inl further ↦
-                    let high = rise i (r - 1) further (omega (arith, it.within, more)) in
-                    absurd (omega (arith, low, high))
-                | inr last ↦
-                    let same : r - 1 ≡ i = omega (arith, last, more) in
-                    let never : key i < key i = rw same at low in
-                    absurd (omega (arith, never))
-              ]
-          | inr under ↦ omega (arith, above, under)
-        ]
+        | inl more ↦
+            let low = below (key i) (key (r - 1)) (it.before (omega (arith, more))) in
+            elim (cases_lt i (r - 1)) [
+              | inl further ↦
+                  let high = rise i (r - 1) further (omega (arith, it.within, more)) in
+                  absurd (omega (arith, low, high))
+              | inr last ↦
+                  let same : r - 1 ≡ i = omega (arith, last, more) in
+                  let never : key i < key i = rw same at low in
+                  absurd (omega (arith, never))
+            ]
+        | inr under ↦ omega (arith, above, under)
+      ]
     ]
 
 pub found-where-keys-rise : (size : KeySize) (b : List ℕ) (at step n i : ℕ)

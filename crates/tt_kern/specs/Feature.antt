@@ -1,6 +1,6 @@
 -- OpenType, "GPOS" and "OpenType Layout Common Table Formats": the lookups of the feature kern for Latin, in the default
 -- language. Other languages and the required feature are not looked at (profile).
-use Rattle.std.specs.Prelude.{ℕ, zero, suc, ◌+◌, ◌-◌, ◌*◌, Bool, false, ◌&&◌, ◌||◌, ◌==◌, nat_lt, if◌then◌else◌, List, [], ◌∷◌, Option, Some, None}
+use Rattle.std.specs.Prelude.{ℕ, ◌+◌, ◌*◌, Bool, ◌&&◌, ◌==◌, nat_lt, if◌then◌else◌, List, Option, Some, None}
 use Rattle.tt_core.specs.Search.{first_below}
 use Rattle.tt_kern.specs.Words.{word, long}
 

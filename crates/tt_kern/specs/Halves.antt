@@ -1,5 +1,5 @@
 -- Binary search: the number that it ends at, and the count of numbers that it tests.
-use Rattle.std.specs.Prelude.{◌≡◌, ℕ, zero, suc, ◌+◌, ◌-◌, ◌/◌, ◌<◌, ◌≤◌, nat_le, Bool, true, false, if◌then◌else◌, refl, [], ◌∷◌, map}
+use Rattle.std.specs.Prelude.{◌≡◌, ℕ, zero, suc, ◌+◌, ◌-◌, ◌/◌, nat_le, Bool, if◌then◌else◌, refl, [], ◌∷◌, map}
 
 -- the number where a search of the numbers from low on ends; the last argument is their count. The middle number is
 -- tested first; then the half before it if it passes, or the half after it if it fails. The first argument is at least

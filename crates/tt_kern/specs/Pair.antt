@@ -1,6 +1,6 @@
 -- OpenType, "GPOS", lookup type 2: pair adjustment positioning. Placements, the second glyph's value and device tables
 -- are passed over (profile).
-use Rattle.std.specs.Prelude.{ℕ, ◌+◌, ◌*◌, ◌/◌, ◌%◌, Bool, ◌&&◌, ◌==◌, nat_lt, if◌then◌else◌, List, Option, Some, None, option_map, ℤ, pos}
+use Rattle.std.specs.Prelude.{ℕ, ◌+◌, ◌*◌, ◌/◌, ◌%◌, ◌&&◌, ◌==◌, nat_lt, if◌then◌else◌, List, Option, Some, None, ℤ, pos}
 use Rattle.tt_kern.specs.declared.search.KeySize.TheVariants as size
 use Rattle.tt_kern.specs.Coverage.{coverage_index, class_of}
 use Rattle.tt_kern.specs.Search.{found}

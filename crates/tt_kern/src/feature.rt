@@ -8,7 +8,9 @@ ghost use Rattle.tt_kern.specs.Feature.{looked_at, offset_from, has_tag, record_
 use crate::words::{long, word};
 
 const LATIN: usize = 0x6C61_746E;
+
 const DEFAULT_SCRIPT: usize = 0x4446_4C54;
+
 const KERN: usize = 0x6B65_726E;
 
 /// As many of a list's entries as are looked at (profile).

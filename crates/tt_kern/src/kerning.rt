@@ -62,7 +62,12 @@ impl<'a> Kerning<'a> {
         ensures bound { unsigned_abs result ≤ 2 ^ 20 }
     {
         match self.feature {
-            Some(_) => pair_sum(self.gpos, &self.pairs, usize::from(left), usize::from(right)),
+            Some(_) => pair_sum(
+                self.gpos,
+                &self.pairs,
+                usize::from(left),
+                usize::from(right),
+            ),
             None => kern_sum(self.kern, usize::from(left), usize::from(right)),
         }
     }

@@ -1,7 +1,5 @@
-use Rattle.std.proofs.Common.{◌≡◌, ◌∙◌, refl, sym, ◌+◌, ◌*◌, ◌≤◌, SFits, w32, of_z, to_z, arith}
+use Rattle.std.proofs.Common.{◌≡◌, ◌∙◌, refl, sym, SFits, w32, of_z, to_z, arith}
 use Rattle.std.proofs.lemmas.Int.{ints, to_z-of_z}
-use Rattle.std.specs.Prelude.{unsigned_abs}
-use Rattle.tt_kern.specs.OldTable.{header_size, length_told, after_subtable}
 use Rattle.tt_kern.proofs.OldTable.{short-ends, last-ends, goes-on}
 use Rattle.tt_kern.proofs.old_table.kern_sum.Goals as goal
 

@@ -1,4 +1,4 @@
-use Rattle.std.proofs.Common.{◌≡◌, ◌++◌, take, sym, ◌∙◌, arith}
+use Rattle.std.proofs.Common.{◌≡◌, sym, ◌∙◌, arith}
 use Rattle.tt_kern.proofs.Lists.{kept}
 use Rattle.tt_kern.proofs.PairLists.{one-more, none-more}
 use Rattle.tt_kern.proofs.pairs.note_lookup.Goals.{in-Some, in_default}

@@ -1,4 +1,3 @@
-use Rattle.std.proofs.Common.{◌≡◌}
 use Rattle.tt_kern.specs.Listed.{pairs_of}
 use Rattle.tt_kern.proofs.kerning.Kerning.open.Goals as goal
 

@@ -1,4 +1,4 @@
-use Rattle.std.proofs.Common.{◌≡◌, take, length, sym, arith}
+use Rattle.std.proofs.Common.{◌≡◌, take, sym, arith}
 use Rattle.std.proofs.lemmas.List.{length-take-le}
 use Rattle.tt_kern.proofs.pairs.list.PairList.count.Goals as goal
 
