@@ -51,10 +51,13 @@ abbrev pub language_in : List ℕ → Option ℕ → Option ℕ
 language_in b None = None
 language_in b (Some script) = offset_from script (word b script)
 
--- number i of a language's features is that of a feature kern
+-- whether the feature with a number, of n features in a list, is a feature kern
+abbrev pub is_kern_of : List ℕ → ℕ → ℕ → ℕ → Bool
+is_kern_of b list n number = nat_lt number n && has_tag b list kern number
+
+-- whether number i of a language's features is that of a feature kern
 abbrev pub is_kern : List ℕ → ℕ → ℕ → Bool
-is_kern b language i =
-    nat_lt (word b (language + 6 + 2 * i)) (looked_at (word b (word b 6))) && has_tag b (word b 6) kern (word b (language + 6 + 2 * i))
+is_kern b language i = is_kern_of b (word b 6) (looked_at (word b (word b 6))) (word b (language + 6 + 2 * i))
 
 abbrev pub feature_at : List ℕ → ℕ → Option ℕ → Option ℕ
 feature_at b language None = None

@@ -44,12 +44,13 @@ subtable_place b lookup k = lookup + word b (lookup + 6 + 2 * k)
 abbrev pub extended : List ℕ → ℕ → Option ℕ
 extended b s = if (word b s == 1) && (word b (s + 2) == 2) then Some (s + long b (s + 4)) else None
 
--- the offset of subtable k, if that is a pair subtable: lookup type 2, or type 9 with an extension. The lookup's flag is
--- not looked at (profile)
+-- by its lookup's type, a subtable's offset as that of a pair subtable: type 2, or type 9 with an extension
+abbrev pub pair_place_by : ℕ → List ℕ → ℕ → Option ℕ
+pair_place_by type b s = if type == 2 then Some s else (if type == 9 then extended b s else None)
+
+-- the offset of subtable k of a lookup, if that is a pair subtable. The lookup's flag is not looked at (profile)
 abbrev pub pair_place : List ℕ → ℕ → ℕ → Option ℕ
-pair_place b lookup k =
-    if word b lookup == 2 then Some (subtable_place b lookup k)
-    else (if word b lookup == 9 then extended b (subtable_place b lookup k) else None)
+pair_place b lookup k = pair_place_by (word b lookup) b (subtable_place b lookup k)
 
 -- at most 64 subtables of a lookup are looked at (profile)
 abbrev pub subtable_count : List ℕ → ℕ → ℕ

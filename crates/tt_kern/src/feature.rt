@@ -3,7 +3,7 @@
 ghost use Rattle.std.specs.Prelude.{◌≡◌, ◌+◌, ◌^◌, ◌<◌, ◌≤◌, Some, IfSome};
 ghost use Rattle.tt_core.specs.Search.{first_below};
 ghost use Rattle.tt_kern.specs.Words.{word, long};
-ghost use Rattle.tt_kern.specs.Feature.{looked_at, offset_from, has_tag, record_offset, script_with, script_of, language_in, is_kern, feature_in, has_lists, feature_of};
+ghost use Rattle.tt_kern.specs.Feature.{looked_at, offset_from, has_tag, record_offset, script_with, script_of, language_in, is_kern_of, feature_in, has_lists, feature_of};
 
 use crate::words::{long, word};
 
@@ -91,14 +91,13 @@ fn language_of(bytes: &[u8]) -> Option<usize>
     }
 }
 
-fn is_kern(bytes: &[u8], language: usize, i: usize) -> bool
-    requires language { language < 196608 }
-    requires number { i < 65536 }
-    ensures { result ≡ is_kern bytes.now language i }
+/// Whether the feature with a number, of so many in the list, is a feature kern.
+fn is_kern(bytes: &[u8], list: usize, count: usize, number: usize) -> bool
+    requires list { list < 65536 }
+    requires number { number < 65536 }
+    ensures { result ≡ is_kern_of bytes.now list count number }
 {
-    let list = word(bytes, 6);
-    let number = word(bytes, language + 6 + 2 * i);
-    number < looked_at(word(bytes, list)) && has_tag(bytes, list, KERN, number)
+    number < count && has_tag(bytes, list, KERN, number)
 }
 
 /// The first feature kern of a language.
@@ -108,11 +107,12 @@ fn feature_in(bytes: &[u8], language: usize) -> Option<usize>
     ensures exact { result ≡ feature_in bytes.now (Some language) }
     ensures near { IfSome result (λ p. p < 131072) }
 {
+    let list = word(bytes, 6);
+    let features = looked_at(word(bytes, list));
     let count = looked_at(word(bytes, language + 4));
     for i in 0..count {
-        if is_kern(bytes, language, i) {
-            let number = word(bytes, language + 6 + 2 * i);
-            let list = word(bytes, 6);
+        let number = word(bytes, language + 6 + 2 * i);
+        if is_kern(bytes, list, features, number) {
             return Some(list + record_offset(bytes, list, number));
         }
     }

@@ -3,7 +3,7 @@
 ghost use Rattle.std.specs.Prelude.{◌≡◌, ◌+◌, ◌++◌, ◌^◌, ◌<◌, ◌≤◌, take, length, Some, IfSome};
 ghost use Rattle.tt_kern.specs.Feature.{looked_at};
 ghost use Rattle.tt_kern.specs.Listed.{pairs_in, pairs_by};
-ghost use Rattle.tt_kern.specs.Pairs.{words_at, listed_by, lookup_place, subtable_count, extended, pair_place};
+ghost use Rattle.tt_kern.specs.Pairs.{words_at, listed_by, lookup_place, subtable_count, extended, pair_place_by};
 
 pub(crate) mod list;
 mod numbers;
@@ -48,15 +48,13 @@ fn extended(bytes: &[u8], at: usize) -> Option<usize>
     }
 }
 
-/// The offset of a lookup's subtable by number, if that is a pair subtable.
-fn pair_place(bytes: &[u8], lookup: usize, k: usize) -> Option<usize>
-    requires lookup { lookup < 131072 }
-    requires number { k < 64 }
-    ensures exact { result ≡ pair_place bytes.now lookup k }
+/// By its lookup's type, the offset of a subtable as that of a pair subtable.
+fn pair_place(bytes: &[u8], lookup_type: usize, at: usize) -> Option<usize>
+    requires { at < 2 ^ 20 }
+    ensures exact { result ≡ pair_place_by lookup_type bytes.now at }
     ensures near { IfSome result (λ p. p < 2 ^ 33) }
 {
-    let at = lookup + word(bytes, lookup + 6 + 2 * k);
-    match word(bytes, lookup) {
+    match lookup_type {
         2 => Some(at),
         9 => extended(bytes, at),
         _ => None,
@@ -80,8 +78,10 @@ fn note_lookup(bytes: &[u8], i: usize, lookup: usize, pairs: &mut PairList)
     requires few { length pairs.old ≤ 64 }
     ensures { pairs.new ≡ take 64 (pairs.old ++ pairs_in bytes.now i lookup (subtable_count bytes.now lookup)) }
 {
+    let lookup_type = word(bytes, lookup);
     for k in 0..subtable_count(bytes, lookup) {
-        if let Some(at) = pair_place(bytes, lookup, k) {
+        let subtable = lookup + word(bytes, lookup + 6 + 2 * k);
+        if let Some(at) = pair_place(bytes, lookup_type, subtable) {
             pairs.note(PairSubtable { lookup: i, at });
         }
     }

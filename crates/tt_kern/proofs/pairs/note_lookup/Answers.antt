@@ -15,13 +15,13 @@ loop-k-preserved c =
     let at = c.loop-k in
     elim c.match-pair_place.branch [
       | in-Some w ↦
-          let there = sym c.pair_place.ensures.exact ∙ w.in-Some.is in
+          let there = sym (rw (c.word-lookup_type.ensures.exact, c.word.ensures.exact) at c.pair_place.ensures.exact) ∙ w.in-Some.is in
           record {
             noted = rw w.pairs-is (w.note.ensures ∙ one-more c.args.bytes.now c.args.i c.args.lookup at.k w.in-Some.at c.args.pairs.now at.pairs at.invariant.noted there);
             few = at.invariant.few;
           }
       | in_default w ↦
-          let there = sym c.pair_place.ensures.exact ∙ w.in_default.is in
+          let there = sym (rw (c.word-lookup_type.ensures.exact, c.word.ensures.exact) at c.pair_place.ensures.exact) ∙ w.in_default.is in
           record {
             noted = rw w.pairs-is (none-more c.args.bytes.now c.args.i c.args.lookup at.k c.args.pairs.now at.pairs at.invariant.noted there);
             few = at.invariant.few;
