@@ -31,6 +31,29 @@ minus_33 : by_tables [] (one_pair 0 1 0xFF 0xDF) ≡ negsuc 32
 unfolding word long feature_of subtables_of kern_sum reached_within
 minus_33 = refl
 
+minus_32 : by_tables [] (one_pair 0 1 0xFF 0xE0) ≡ negsuc 31
+unfolding word long feature_of subtables_of kern_sum reached_within
+minus_32 = refl
+
+minus_300 : by_tables [] (one_pair 0 1 0xFE 0xD4) ≡ negsuc 299
+unfolding word long feature_of subtables_of kern_sum reached_within
+minus_300 = refl
+
+-- glyphs 1 and 2, and the other way round
+abbrev of_1_and_2 : Tables
+of_1_and_2 = record {
+  gpos = [];
+  kern = 0 ∷ 0 ∷ 0 ∷ 1 ∷ 0 ∷ 0 ∷ 0 ∷ 20 ∷ 0 ∷ 1 ∷ 0 ∷ 1 ∷ 0 ∷ 6 ∷ 0 ∷ 0 ∷ 0 ∷ 0 ∷ 0 ∷ 1 ∷ 0 ∷ 2 ∷ 0xFF ∷ 0xC0 ∷ [];
+}
+
+in_order : kerning of_1_and_2 1 2 ≡ negsuc 63
+unfolding word long feature_of subtables_of kern_sum reached_within
+in_order = refl
+
+the_other_way_round : kerning of_1_and_2 2 1 ≡ pos 0
+unfolding word long feature_of subtables_of kern_sum reached_within
+the_other_way_round = refl
+
 -- minimum, cross-stream, vertical, and format 2
 minimum : by_tables [] (one_pair 0 3 0xFF 0xC0) ≡ pos 0
 unfolding word long feature_of subtables_of kern_sum reached_within
@@ -175,3 +198,14 @@ ended_by_0 : by_tables (gpos_with (0 ∷ 2 ∷ 0 ∷ 0 ∷ 0 ∷ 2 ∷ 0 ∷ 10 
     ≡ pos 0
 unfolding word long feature_of subtables_of kern_sum reached_within
 ended_by_0 = refl
+
+-- two lookups, each of which applies: their values are added
+abbrev two_lookups : List ℕ
+two_lookups =
+    0 ∷ 1 ∷ 0 ∷ 0 ∷ 0 ∷ 10 ∷ 0 ∷ 30 ∷ 0 ∷ 46 ∷ 0 ∷ 1 ∷ (tag_dflt ++ 0 ∷ 8 ∷ 0 ∷ 4 ∷ 0 ∷ 0 ∷ 0 ∷ 0 ∷ 0xFF ∷ 0xFF ∷ 0 ∷ 1 ∷ 0 ∷ 0 ∷
+    0 ∷ 1 ∷ (tag_kern ++ 0 ∷ 8 ∷ 0 ∷ 0 ∷ 0 ∷ 2 ∷ 0 ∷ 1 ∷ 0 ∷ 0 ∷ 0 ∷ 2 ∷ 0 ∷ 6 ∷ 0 ∷ 38 ∷
+    (one_subtable (sets 0 18 4 0xFF 0xC0) ++ one_subtable (sets 0 18 4 0xFF 0x80))))
+
+of_both : by_tables two_lookups [] ≡ negsuc 191
+unfolding word long feature_of subtables_of kern_sum reached_within
+of_both = refl
