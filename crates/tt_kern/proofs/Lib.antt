@@ -1,7 +1,7 @@
 pub mod Halves
+pub mod KernTable
 pub mod Lists
 pub mod LookupSums
-pub mod OldTable
 pub mod PairLists
 pub mod Rising
 pub mod SearchEnds

@@ -5,8 +5,8 @@ use Rattle.std.proofs.lemmas.List.{length-take}
 use Rattle.std.specs.Prelude.{nat_lt, if◌then◌else◌}
 use Rattle.std.specs.List.{sum_by}
 use Rattle.std.proofs.lemmas.List.Sums.{sum_by-cons}
-use Rattle.tt_kern.specs.declared.old_table.KernVersion.{KernVersion}
-use Rattle.tt_kern.specs.OldTable.{header_size, length_told, count_told, count_taken, subtables_from}
+use Rattle.tt_kern.specs.declared.kern_table.KernVersion.{KernVersion}
+use Rattle.tt_kern.specs.KernTable.{header_size, length_told, count_told, count_taken, subtables_from}
 use Rattle.tt_kern.specs.Pairs.{rising, is_listed, listed_by, lookups_of, subtables_in, first_of_all, subtables_of}
 use Rattle.tt_kern.specs.Words.{word}
 

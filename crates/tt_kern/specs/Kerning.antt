@@ -2,7 +2,7 @@
 use Rattle.std.specs.Prelude.{ℕ, List, [], ◌∷◌, Option, Some, None, ℤ, pos, ◌+ℤ◌}
 use Rattle.std.specs.Option.{unwrap_or}
 use Rattle.tt_kern.specs.Feature.{feature_of}
-use Rattle.tt_kern.specs.OldTable.{kern_sum}
+use Rattle.tt_kern.specs.KernTable.{kern_sum}
 use Rattle.tt_kern.specs.Pair.{pair_value}
 use Rattle.tt_kern.specs.Pairs.{subtables_of}
 

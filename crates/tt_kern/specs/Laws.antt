@@ -2,9 +2,9 @@
 use Rattle.std.specs.Prelude.{◌≡◌, ℕ, ◌+◌, ◌-◌, ◌*◌, ◌^◌, ◌<◌, ◌≤◌, Bool, true, false, List, Some, length}
 use Rattle.tt_kern.specs.declared.search.KeySize.{KeySize}
 use Rattle.std.specs.List.{sum_by}
-use Rattle.tt_kern.specs.declared.old_table.KernVersion.{KernVersion}
+use Rattle.tt_kern.specs.declared.kern_table.KernVersion.{KernVersion}
 use Rattle.tt_kern.specs.Halves.{asked, reached}
-use Rattle.tt_kern.specs.OldTable.{count_taken, subtables_from}
+use Rattle.tt_kern.specs.KernTable.{count_taken, subtables_from}
 use Rattle.tt_kern.specs.Pairs.{lookups_of, subtables_of}
 use Rattle.tt_kern.specs.Search.{key_at, found}
 

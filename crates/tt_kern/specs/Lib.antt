@@ -1,10 +1,10 @@
 pub mod Coverage
 pub mod Feature
 pub mod Halves
+pub mod KernTable
 pub mod Kerning
 pub mod Laws
 pub mod Listed
-pub mod OldTable
 pub mod Pair
 pub mod Pairs
 pub mod Rows

@@ -4,7 +4,7 @@ use Rattle.std.specs.Prelude.{◌≡◌, refl, ℕ, List, [], ◌∷◌, ◌++�
 use Rattle.tt_kern.specs.Feature.{feature_of}
 use Rattle.tt_kern.specs.Halves.{reached_within}
 use Rattle.tt_kern.specs.Kerning.{Tables, kerning}
-use Rattle.tt_kern.specs.OldTable.{kern_sum}
+use Rattle.tt_kern.specs.KernTable.{kern_sum}
 use Rattle.tt_kern.specs.Pairs.{subtables_of}
 use Rattle.tt_kern.specs.Words.{word, long}
 

@@ -5,7 +5,7 @@ ghost use Rattle.tt_core.specs.Limits.{font_limit};
 ghost use Rattle.tt_kern.specs.Kerning.{kerning};
 
 use crate::feature::feature_of;
-use crate::old_table::kern_sum;
+use crate::kern_table::kern_sum;
 use crate::pairs::list::PairList;
 use crate::pairs::pairs_of;
 use crate::sum::pair_sum;

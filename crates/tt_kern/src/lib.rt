@@ -3,9 +3,9 @@
 
 mod coverage;
 mod feature;
+mod kern_table;
 mod kerning;
 pub mod laws;
-mod old_table;
 mod pair;
 mod pairs;
 mod search;

@@ -4,7 +4,7 @@
 ghost use Rattle.std.specs.Prelude.{◌≡◌, ◌+◌, ◌*◌, ◌^◌, ◌<◌, ◌≤◌, length, IfSome, unsigned_abs};
 ghost use Rattle.tt_core.specs.Limits.{font_limit};
 ghost use Rattle.tt_kern.specs.Words.{word};
-ghost use Rattle.tt_kern.specs.OldTable.{version_of, list_place, count_taken, header_size, length_told, is_usable, overrides, pair_count, value_in, after_subtable, kern_sum};
+ghost use Rattle.tt_kern.specs.KernTable.{version_of, list_place, count_taken, header_size, length_told, is_usable, overrides, pair_count, value_in, after_subtable, kern_sum};
 
 use crate::search::{KeySize, find};
 use crate::words::{long, signed, word};
@@ -157,7 +157,7 @@ fn after_subtable(
 }
 
 /// The kerning of two glyphs by the table.
-#[tactic(auto, unfolding(crate::specs::OldTable::kern_sum))]
+#[tactic(auto, unfolding(crate::specs::KernTable::kern_sum))]
 pub(crate) fn kern_sum(bytes: &[u8], left: usize, right: usize) -> i32
     requires size { length bytes.now ≤ font_limit }
     requires left { left < 65536 }

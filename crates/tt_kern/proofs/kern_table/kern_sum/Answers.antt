@@ -1,7 +1,7 @@
 use Rattle.std.proofs.Common.{◌≡◌, ◌∙◌, refl, sym, SFits, w32, of_z, to_z, arith}
 use Rattle.std.proofs.lemmas.Int.{ints, to_z-of_z}
-use Rattle.tt_kern.proofs.OldTable.{short-ends, last-ends, goes-on}
-use Rattle.tt_kern.proofs.old_table.kern_sum.Goals as goal
+use Rattle.tt_kern.proofs.KernTable.{short-ends, last-ends, goes-on}
+use Rattle.tt_kern.proofs.kern_table.kern_sum.Goals as goal
 
 pub returns-then-bytes-at-clause-exact : goal.returns-then-bytes-at-clause-exact
 returns-then-bytes-at-clause-exact c =

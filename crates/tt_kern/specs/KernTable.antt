@@ -1,8 +1,8 @@
 -- OpenType, "kern: Kerning", and Apple TrueType Reference Manual, "The 'kern' table": subtables of format 0. Other formats
 -- are passed over (profile).
 use Rattle.std.specs.Prelude.{ℕ, zero, suc, ◌+◌, ◌-◌, ◌*◌, ◌/◌, ◌%◌, Bool, false, ◌&&◌, ◌==◌, nat_lt, if◌then◌else◌, List, [], ◌∷◌, length, Option, Some, None, ℤ, pos, ◌+ℤ◌}
-use Rattle.tt_kern.specs.declared.old_table.KernVersion.{KernVersion}
-use Rattle.tt_kern.specs.declared.old_table.KernVersion.TheVariants.{OpenType, Apple}
+use Rattle.tt_kern.specs.declared.kern_table.KernVersion.{KernVersion}
+use Rattle.tt_kern.specs.declared.kern_table.KernVersion.TheVariants.{OpenType, Apple}
 use Rattle.tt_kern.specs.declared.search.KeySize.TheVariants as size
 use Rattle.tt_kern.specs.Search.{found}
 use Rattle.tt_kern.specs.Words.{word, long, signed}

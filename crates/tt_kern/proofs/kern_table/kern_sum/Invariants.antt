@@ -1,7 +1,7 @@
 use Rattle.std.proofs.Common.{◌≡◌, ◌-◌, ◌*◌, ◌^◌, ◌<◌, ◌≤◌}
 use Rattle.std.specs.Prelude.{unsigned_abs}
-use Rattle.tt_kern.specs.OldTable.{subtables_from, sum_after, kern_sum}
-use Rattle.tt_kern.proofs.old_table.kern_sum.Given as goal
+use Rattle.tt_kern.specs.KernTable.{subtables_from, sum_after, kern_sum}
+use Rattle.tt_kern.proofs.kern_table.kern_sum.Given as goal
 
 -- the sum so far, and then the subtables that are left
 abbrev pub invariant-loop-i : goal.invariant-loop-i

@@ -2,8 +2,8 @@
 use Rattle.std.proofs.Common.{◌≡◌, ℕ, suc, ◌+◌, ◌-◌, ◌<◌, ◌≤◌, true, false, List, length, refl, arith}
 use Rattle.std.specs.Prelude.{ℤ, nat_lt}
 use Rattle.std.proofs.lemmas.Bool.Decides.{nat_tests}
-use Rattle.tt_kern.specs.declared.old_table.KernVersion.{KernVersion}
-use Rattle.tt_kern.specs.OldTable.{header_size, length_told, subtables_from, after_subtable, sum_after}
+use Rattle.tt_kern.specs.declared.kern_table.KernVersion.{KernVersion}
+use Rattle.tt_kern.specs.KernTable.{header_size, length_told, subtables_from, after_subtable, sum_after}
 
 is-below : (a b : ℕ) → a < b → nat_lt a b ≡ true
 is-below a b below = grind (arith, nat_tests, below)
