@@ -18,7 +18,7 @@ default_script = 0x44464C54
 abbrev pub kern : ℕ
 kern = 0x6B65726E
 
--- the offset that a word at a place tells, from another place on; 0 tells none
+-- the place of an offset that counts from another place on; an offset of 0 has none
 abbrev pub offset_from : ℕ → ℕ → Option ℕ
 offset_from from offset = if offset == 0 then None else Some (from + offset)
 

@@ -61,7 +61,7 @@ subtables_from m b (suc n) p =
 abbrev pub pairs_place : KernVersion → ℕ → ℕ
 pairs_place m p = p + header_size m + 8
 
--- as many pairs as the subtable tells, or as fit into the table. The subtable's length is not used, since lists of more
+-- as many pairs as the subtable counts, or as fit into the table. The subtable's length is not used, since lists of more
 -- than 10,920 pairs have a length that went round 65,536 (profile)
 abbrev pub pair_count : KernVersion → List ℕ → ℕ → ℕ
 pair_count m b p =

@@ -86,7 +86,7 @@ overridden : by_tables [] (0 ∷ 0 ∷ 0 ∷ 2 ∷ (kern_pair 0 1 0xFF 0xC0 ++ k
 unfolding word long feature_of subtables_of kern_sum reached_within
 overridden = refl
 
--- two pairs told, one there
+-- two pairs counted, one there
 one_of_two : by_tables [] (0 ∷ 0 ∷ 0 ∷ 1 ∷ 0 ∷ 0 ∷ 0 ∷ 26 ∷ 0 ∷ 1 ∷ 0 ∷ 2 ∷ 0 ∷ 12 ∷ 0 ∷ 1 ∷ 0 ∷ 0 ∷ 0 ∷ 1 ∷ 0 ∷ 1 ∷ 0xFF ∷ 0xC0 ∷ [])
     ≡ negsuc 63
 unfolding word long feature_of subtables_of kern_sum reached_within

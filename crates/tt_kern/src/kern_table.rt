@@ -98,7 +98,7 @@ fn overrides(version: KernVersion, bytes: &[u8], at: usize) -> bool
     }
 }
 
-/// The count of pairs: as many as the subtable tells, or as fit into the table.
+/// The count of pairs: as many as the subtable counts, or as fit into the table.
 fn pair_count(version: KernVersion, bytes: &[u8], at: usize) -> usize
     requires place { at < 2 ^ 34 }
     ensures exact { result ≡ pair_count version bytes.now at }
