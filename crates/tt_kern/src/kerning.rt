@@ -43,7 +43,7 @@ impl<'a> Kerning<'a> {
     pub fn open(gpos: &'a [u8], kern: &'a [u8]) -> Kerning<'a>
         requires gpos { length gpos.now ≤ font_limit }
         requires kern { length kern.now ≤ font_limit }
-        ensures { result ≡ record { gpos = gpos.now; kern = kern.now } }
+        ensures exact { result ≡ record { gpos = gpos.now; kern = kern.now } }
     {
         let feature = feature_of(gpos);
         let pairs = pairs_of(gpos, feature);
