@@ -1,10 +1,11 @@
 -- Lemmas about the definitions.
-use Rattle.std.specs.Prelude.{◌≡◌, ℕ, ◌+◌, ◌-◌, ◌*◌, ◌^◌, ◌<◌, ◌≤◌, Bool, true, false, List, Some, length}
+use Rattle.std.specs.Prelude.{◌≡◌, ℕ, ◌+◌, ◌-◌, ◌*◌, ◌^◌, ◌<◌, ◌≤◌, Bool, true, false, List, [], Some, length, pos}
 use Rattle.tt_kern.specs.declared.search.KeySize.{KeySize}
 use Rattle.std.specs.List.{sum_by}
 use Rattle.tt_kern.specs.declared.kern_table.KernVersion.{KernVersion}
 use Rattle.tt_kern.specs.Halves.{asked, reached}
 use Rattle.tt_kern.specs.KernTable.{count_taken, subtables_from}
+use Rattle.tt_kern.specs.Kerning.{kerning}
 use Rattle.tt_kern.specs.Pairs.{lookups_of, subtables_of}
 use Rattle.tt_kern.specs.Search.{key_at, found}
 
@@ -36,3 +37,7 @@ SubtablesAreFew = (b : List ℕ) (feature : ℕ) → sum_by length (subtables_of
 
 abbrev pub ListsOfKernAreShort : Type 0
 ListsOfKernAreShort = (m : KernVersion) (b : List ℕ) (p : ℕ) → length (subtables_from m b (count_taken m b) p) ≤ 32
+
+-- a font without both tables has no kerning
+abbrev pub WithoutTablesNone : Type 0
+WithoutTablesNone = (g h : ℕ) → kerning (record { gpos = []; kern = [] }) g h ≡ pos 0

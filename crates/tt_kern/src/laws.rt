@@ -1,6 +1,6 @@
 //! Lemmas about the definitions, for all tables. No code runs.
 
-ghost use Rattle.tt_kern.specs.Laws.{SearchesEnd, SearchesAreShort, KeysThatRiseAreFound, LookupsAreFew, SubtablesAreFew, ListsOfKernAreShort};
+ghost use Rattle.tt_kern.specs.Laws.{SearchesEnd, SearchesAreShort, KeysThatRiseAreFound, LookupsAreFew, SubtablesAreFew, ListsOfKernAreShort, WithoutTablesNone};
 
 /// Lemma: where a binary search ends, the number passes, and the number before it fails. A search of fewer than 2^k
 /// numbers tests at most k.
@@ -19,4 +19,9 @@ pub fn lists_are_short()
     ensures lookups { LookupsAreFew }
     ensures subtables { SubtablesAreFew }
     ensures kern { ListsOfKernAreShort }
+{}
+
+/// Lemma: in a font without both tables the kerning of any two glyphs is 0.
+pub fn without_tables_none()
+    ensures { WithoutTablesNone }
 {}
