@@ -124,7 +124,8 @@ fn pens_of(alloc: Global, request: &TextRequest) -> Result<Vec<Pen>, CallFault>
     test_job(&asked)?;
     let face = face_of(request.font, asked.reading)?;
     let mut sized = SizedFace::new(alloc, &face, asked.ppem, asked.fit)?;
-    Ok(sized.pens(asked.text, asked.margin)?)
+    let placed = sized.pens(asked.text, asked.margin)?;
+    Ok(placed.pens)
 }
 
 /// Writes pens at the front of a caller's room. Answers: done; or the room is too small, and nothing is written.

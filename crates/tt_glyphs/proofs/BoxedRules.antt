@@ -1,6 +1,5 @@
 -- The dropout rules of an outline have its box, which is within the limits.
-use Rattle.std.proofs.Common.{◌≡◌, refl, ℕ, Option, Some, None, Result, Ok, Err, IfSome}
-use Rattle.tt_core.specs.Faults.{Fault}
+use Rattle.std.proofs.Common.{◌≡◌, refl, Option, Some, None, IfSome}
 use Rattle.tt_fit.specs.declared.dropouts.DropoutRules.{DropoutRules}
 use Rattle.tt_picture.specs.Shapes.{rules_for}
 use Rattle.tt_scan_gaps.specs.Boxes.{ExtentsFit}

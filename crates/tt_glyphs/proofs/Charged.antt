@@ -1,5 +1,5 @@
 -- What is left of limits, glyph after glyph.
-use Rattle.std.proofs.Common.{◌≡◌, refl, ℕ, ◌+◌, ◌<◌, ◌≤◌, inl, inr, List, [], ◌∷◌, map, Option, Some, None, All, arith}
+use Rattle.std.proofs.Common.{◌≡◌, refl, ℕ, ◌+◌, ◌≤◌, inl, inr, List, [], ◌∷◌, map, Option, Some, None, All, arith}
 use Rattle.std.proofs.lemmas.List.Elements.{All-cons, All-nil}
 use Rattle.tt_fit.specs.Fitting.{Fitter}
 use Rattle.tt_picture.specs.declared.fitting.LineLimits.{LineLimits}

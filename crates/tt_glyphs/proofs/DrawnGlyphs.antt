@@ -1,10 +1,8 @@
 -- A glyph that is drawn by its edges has the report and the rows of the definition.
-use Rattle.std.proofs.Common.{◌≡◌, ◌∙◌, refl, sym, ap, ap₂, ℕ, ◌*◌, Bool, true, false, ◌||◌, ◌==◌, nat_lt, if◌then◌else◌, ℤ, pos, ◌+ℤ◌, List, [], Option, None, Some, Result, Ok, Err, IfSome, arith}
+use Rattle.std.proofs.Common.{◌≡◌, ◌∙◌, refl, sym, ap, ap₂, ℕ, Bool, true, false, ◌||◌, if◌then◌else◌, ℤ, pos, ◌+ℤ◌, List, [], Option, None, Some, Result, Ok, Err, IfSome, arith}
 use Rattle.std.proofs.lemmas.Int.{ints}
 use Rattle.tt_arc.specs.declared.rule.ChordRule.{ChordRule}
-use Rattle.tt_core.specs.Bits.{stride}
 use Rattle.tt_core.specs.Faults.{Fault}
-use Rattle.tt_core.specs.Limits.{height_limit, width_limit}
 use Rattle.tt_fit.specs.declared.programs.Fit.{Fit}
 use Rattle.tt_fit.specs.Fitting.{Fitter, fitted_outline, unfitted_fault}
 use Rattle.tt_fit_outline.specs.Outline.{Outline}
@@ -28,17 +26,15 @@ use Rattle.tt_scan_gaps.specs.Crossings.{centre}
 use Rattle.tt_scan_ink.specs.declared.ink.GlyphInk.{GlyphInk}
 use Rattle.tt_strike.specs.declared.source.FitterSource.{FitterSource}
 use Rattle.tt_strike.specs.Work.{lays_after_glyphs}
-use Rattle.tt_glyphs.specs.Bitmaps.{bitmap, bitmap_pixel, is_large, place_bytes, place_of}
-use Rattle.tt_glyphs.specs.declared.drawing.DrawnGlyph.{DrawnGlyph}
+use Rattle.tt_glyphs.specs.Bitmaps.{bitmap_pixel, is_large, place_bytes, place_of}
 use Rattle.tt_glyphs.specs.declared.edged.EdgedOutline.{EdgedOutline}
 use Rattle.tt_glyphs.specs.declared.place.InkPlace.{InkPlace}
-use Rattle.tt_glyphs.specs.declared.ruled.TriedBody.{TriedBody}
 use Rattle.tt_glyphs.specs.declared.ruled.TriedBody.TheVariants as body
 use Rattle.tt_glyphs.specs.declared.told.Told.{Told}
 use Rattle.tt_glyphs.specs.declared.told.Told.TheVariants as told
 use Rattle.tt_glyphs.specs.Drawn.{IsDrawn, IsSourceOf, bitmap_rows, column_of, edged_pixel, line_of}
 use Rattle.tt_glyphs.specs.Edged.{IsEdged, IsEdgedBy, IsRuledBy}
-use Rattle.tt_glyphs.specs.Entries.{advance_by, advance_of, glyph_told, made_within, outline_rows, told_of, told_rows}
+use Rattle.tt_glyphs.specs.Entries.{advance_by, advance_of, glyph_told, made_within, outline_rows}
 use Rattle.tt_glyphs.specs.GlyphBitmap.{GlyphBitmap}
 use Rattle.tt_glyphs.specs.Ruled.{RuledOutline}
 use Rattle.tt_glyphs.specs.Tried.{ruled_by}

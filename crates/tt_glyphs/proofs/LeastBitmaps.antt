@@ -1,5 +1,5 @@
 -- Each side of a bitmap has a black pixel.
-use Rattle.std.proofs.Common.{◌≡◌, ◌∙◌, refl, sym, ap, subst, ℕ, ◌+◌, ◌<◌, Bool, true, false, ◌||◌, ℤ, pos, ◌+ℤ◌, ◌-ℤ◌, unsigned_abs, List, Option, None, Some, Result, Ok, arith}
+use Rattle.std.proofs.Common.{◌≡◌, ◌∙◌, refl, sym, ap, subst, ℕ, ◌+◌, ◌<◌, Bool, true, false, ◌||◌, ℤ, pos, ◌+ℤ◌, ◌-ℤ◌, unsigned_abs, List, Option, None, Some, Ok, arith}
 use Rattle.std.specs.Prelude.{IfSome}
 use Rattle.std.proofs.lemmas.Int.{ints}
 use Rattle.tt_arc.proofs.PointsBox.{box_holds_edges}
@@ -7,7 +7,6 @@ use Rattle.tt_arc.specs.Laws.{ContoursAreClosed, ContoursJoined}
 use Rattle.tt_arc.specs.declared.rule.ChordRule.{ChordRule}
 use Rattle.tt_core.specs.Faults.{Fault}
 use Rattle.tt_fit.specs.declared.dropouts.DropoutRules.{DropoutRules}
-use Rattle.tt_fit.specs.declared.programs.Fit.{Fit}
 use Rattle.tt_fit.specs.Dropouts.{dropouts_of}
 use Rattle.tt_fit.specs.Fitting.{Fitter, fitted_outline, unfitted_fault}
 use Rattle.tt_fit_outline.specs.Outline.{Outline}
@@ -30,7 +29,7 @@ use Rattle.tt_glyphs.specs.declared.place.InkPlace.{InkPlace}
 use Rattle.tt_glyphs.specs.declared.told.MadeBitmap.{MadeBitmap}
 use Rattle.tt_glyphs.specs.declared.told.Told.TheVariants as told
 use Rattle.tt_glyphs.specs.Drawn.{column_of, line_of}
-use Rattle.tt_glyphs.specs.Entries.{advance_by, glyph_told, made_within}
+use Rattle.tt_glyphs.specs.Entries.{advance_by, made_within}
 use Rattle.tt_glyphs.specs.GlyphLaws.{BitmapsAreLeast, HasInkAtSides}
 use Rattle.tt_glyphs.proofs.DrawnGlyphs.{filled_here, told_is}
 

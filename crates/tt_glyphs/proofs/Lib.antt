@@ -8,12 +8,15 @@ pub mod KnownNumbers
 pub mod ListBegun
 pub mod ListDrawn
 pub mod ListOutcomes
+pub mod ListedRows
 pub mod LeastBitmaps
 pub mod LineBitmaps
 pub mod ListFacts
 pub mod ListLaws
 pub mod MadeLines
 pub mod Numbers
+pub mod Pushed
+pub mod Region
 pub mod RoomLaws
 pub mod Refused
 pub mod Reported

@@ -1,5 +1,5 @@
 -- The black pixels of a line's picture are those of its glyphs' bitmaps at the pens of the line.
-use Rattle.std.proofs.Common.{◌≡◌, ◌∙◌, refl, sym, ap, ap₂, ℕ, ◌+◌, Bool, true, false, ◌&&◌, ◌||◌, ℤ, pos, ◌+ℤ◌, ◌-ℤ◌, ◌≤ℤ◌, ◌<ℤ◌, int_le, int_lt, List, [], ◌∷◌, map, Option, None, Some, Result, Ok, Err, arith}
+use Rattle.std.proofs.Common.{◌≡◌, ◌∙◌, refl, sym, ap, ap₂, ℕ, Bool, true, false, ◌&&◌, ◌||◌, ℤ, pos, ◌+ℤ◌, ◌-ℤ◌, ◌≤ℤ◌, ◌<ℤ◌, int_le, int_lt, List, [], ◌∷◌, map, Option, None, Some, Result, Ok, arith}
 use Rattle.std.proofs.lemmas.Int.{ints}
 use Rattle.tt_core.specs.Chains.{came-through}
 use Rattle.tt_core.specs.Faults.{Fault}
@@ -9,9 +9,9 @@ use Rattle.tt_fit.specs.Fitting.{Fitter, fitted_outline}
 use Rattle.tt_fit_outline.specs.Outline.{Outline}
 use Rattle.tt_line.specs.Layout.{Placement}
 use Rattle.tt_picture.specs.Ink.{glyph_ink}
-use Rattle.tt_picture.specs.Pictures.{Image, image, picture}
+use Rattle.tt_picture.specs.Pictures.{Image, picture}
 use Rattle.tt_picture.specs.Pixels.{Shape, is_black_pixel, is_filled, some_black, some_filled}
-use Rattle.tt_picture.specs.Shapes.{chords_with, contours_of, edges_at, filled_at, filled_by, glyph_shape, shape_at}
+use Rattle.tt_picture.specs.Shapes.{chords_with, edges_at, filled_by, glyph_shape, shape_at}
 use Rattle.tt_picture.proofs.Alike.{image_alike}
 use Rattle.tt_picture.proofs.Standings.{filled_from_pen, from_pen}
 use Rattle.tt_scan_dropouts.specs.Pictures.{column_at, line_at}
@@ -22,7 +22,7 @@ use Rattle.tt_scan_ink.specs.Least.{IsInk}
 use Rattle.tt_scan_ink.specs.declared.ink.GlyphInk.{GlyphInk}
 use Rattle.tt_strike.specs.Job.{Job}
 use Rattle.tt_strike.specs.Picture.{drawn, edges_tested, frame_of, line_shapes, points_tested, setting_in, shapes_in}
-use Rattle.tt_strike.specs.Refusals.{Refused, as_font, as_job}
+use Rattle.tt_strike.specs.Refusals.{as_font, as_job}
 use Rattle.tt_strike.specs.Work.{line_fitter}
 use Rattle.tt_strike.proofs.Placed.{of-font}
 use Rattle.tt_glyphs.specs.Bitmaps.{is_black_at, place_of}

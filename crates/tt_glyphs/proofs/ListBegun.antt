@@ -1,15 +1,24 @@
 -- A request for the bitmaps of a list, up to the test of its points.
-use Rattle.std.proofs.Common.{◌≡◌, ap, refl, ℕ, List, [], ◌∷◌, map, Ok, Err}
+use Rattle.std.proofs.Common.{◌≡◌, ap, refl, ℕ, List, [], ◌∷◌, map, All, Result, Ok, Err, arith}
 use Rattle.std.specs.Prelude.{IfSome}
+use Rattle.std.proofs.lemmas.List.Elements.{All-cons, All-head, All-tail}
 use Rattle.tt_core.specs.declared.draw_fault.DrawFault.{DrawFault}
 use Rattle.tt_core.specs.declared.draw_fault.DrawFault.TheVariants as draw
 use Rattle.tt_core.specs.declared.fault.JobFault.{JobFault}
 use Rattle.tt_core.specs.declared.font_fault.FontFault.{FontFault}
 use Rattle.tt_core.specs.declared.font_fault.FontFault.TheVariants as font
-use Rattle.tt_core.specs.Outcomes.{FontGives, draw_fault_of_font}
-use Rattle.tt_face.specs.Faces.{Face}
+use Rattle.tt_core.specs.Chains.{came-through}
+use Rattle.tt_core.specs.Faults.{Fault}
+use Rattle.tt_core.specs.Outcomes.{FontGives, draw_fault_of_font, draw_font_fault}
+use Rattle.tt_face.specs.Faces.{Face, glyphs_in}
+use Rattle.tt_face.specs.Programs.{ProgramTables}
+use Rattle.tt_fit.specs.declared.programs.Fit.{Fit}
 use Rattle.tt_fit.specs.Fitting.{Fitter}
+use Rattle.tt_fit.specs.Preparation.{fitter_of, prepared}
+use Rattle.tt_glyf.specs.Loca.{Glyf}
+use Rattle.tt_metrics.specs.Metrics.{Metrics}
 use Rattle.tt_strike.specs.Job.{size_tested}
+use Rattle.tt_strike.specs.Programs.{programs_in}
 use Rattle.tt_strike.specs.Picture.{setting}
 use Rattle.tt_strike.specs.Refusals.{as_job, job, refusal}
 use Rattle.tt_glyphs.specs.declared.ruled.TriedGlyph.{TriedGlyph}
@@ -59,3 +68,36 @@ numbers_tried maker (n ∷ ns) = rw (numbers_tried maker ns) refl
 pub tried_themselves : (maker : ℕ → Fitter) (ns : List ℕ) → AreTriedBy maker (map (of_number maker) ns)
 tried_themselves maker [] = refl
 tried_themselves maker (n ∷ ns) = ap (λ (ts : List TriedGlyph). of_number maker n ∷ ts) (tried_themselves maker ns)
+
+-- charging points finds no defect of the font
+pub charging_tells : (P : Fault → Type 0) (tested : Result (Unit {0}) JobFault) (e : DrawFault)
+    → IfSome (refusal e) (λ r. as_job tested ≡ Err r) → IfSome (draw_font_fault e) P
+charging_tells P (Ok u) (draw.Font f) fails = absurd cc
+charging_tells P (Err j) (draw.Font f) fails = absurd cc
+charging_tells P tested (draw.Job j) fails = tt
+charging_tells P tested draw.Memory fails = tt
+
+-- the fitter of a face has its metrics and its size
+of_setting : (m : Metrics) (tables : Glyf) (programs : ProgramTables) (ppem : ℕ) (how : Fit) (s : Fitter)
+    → fitter_of m tables programs ppem how ≡ Ok s → (s.metrics ≡ m) × (s.ppem ≡ ppem)
+unfolding fitter_of
+of_setting m tables programs ppem how s was =
+    let by_hints = came-through (prepared m programs ppem how) _ s was in
+    let rest = by_hints.rest in
+    let metrics : s.metrics ≡ m = cc in
+    let size : s.ppem ≡ ppem = cc in (metrics, size)
+
+pub setting_source : (face : Face) (ppem : ℕ) (how : Fit) (s : Fitter) → setting face ppem how ≡ Ok s
+    → (s.metrics ≡ face.metrics) × (s.ppem ≡ ppem)
+unfolding setting
+setting_source face ppem how s was =
+    let by_tables = came-through (glyphs_in face) _ s was in
+    let by_programs = came-through (programs_in face how) _ s by_tables.rest in
+    of_setting face.metrics by_tables.value by_programs.value ppem how s by_programs.rest
+
+-- a fact of the numbers of some glyphs
+pub numbers_hold : (P : ℕ → Type 0) (ts : List TriedGlyph) → All P (tried_numbers ts) → All (λ (t : TriedGlyph). P t.number) ts
+numbers_hold P [] all = λ k d below. absurd (omega (arith, below))
+numbers_hold P (t ∷ ts) all =
+    All-cons (λ (z : TriedGlyph). P z.number) t ts (All-head P t.number (tried_numbers ts) all)
+    (numbers_hold P ts (All-tail P t.number (tried_numbers ts) all))

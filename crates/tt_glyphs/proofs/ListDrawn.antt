@@ -1,6 +1,8 @@
 -- The bitmaps of a tried list, once its glyphs are drawn.
-use Rattle.std.proofs.Common.{◌≡◌, ◌∙◌, ap, refl, sym, ℕ, ◌+◌, ◌≤◌, ◌<◌, List, All, get_or, length, map, slice_index, Result, Ok, Err, arith}
-use Rattle.std.specs.Prelude.{flat_map}
+use Rattle.std.proofs.Common.{◌≡◌, ◌∙◌, ap, refl, ℕ, List, All, length, map, slice_index, Err}
+use Rattle.std.specs.Prelude.{IfSome, flat_map}
+use Rattle.tt_core.specs.declared.draw_fault.DrawFault.{DrawFault}
+use Rattle.tt_core.specs.declared.draw_fault.DrawFault.TheVariants as draw
 use Rattle.std.specs.List.{sum_by}
 use Rattle.std.proofs.lemmas.List.Elements.{All-from_get_or, All-map}
 use Rattle.tt_face.specs.Faces.{Face}
@@ -10,19 +12,19 @@ use Rattle.tt_metrics.specs.Metrics.{glyphs_of}
 use Rattle.tt_picture.specs.Distinct.{distinct}
 use Rattle.tt_picture.specs.Glyphs.{ArePlaces}
 use Rattle.tt_strike.specs.declared.source.FitterSource.{FitterSource}
-use Rattle.tt_strike.specs.Refusals.{as_job}
+use Rattle.tt_strike.specs.Refusals.{as_job, refusal}
 use Rattle.tt_strike.specs.Work.{edges_limited, line_fitter}
 use Rattle.tt_strike.proofs.Setting.{maker_alike}
 use Rattle.tt_glyphs.specs.declared.drawing.DrawnGlyph.{DrawnGlyph}
 use Rattle.tt_glyphs.specs.declared.told.GlyphEntry.{GlyphEntry}
 use Rattle.tt_glyphs.specs.declared.tried.TriedList.{TriedList}
 use Rattle.tt_glyphs.specs.Defects.{EntryFits}
-use Rattle.tt_glyphs.specs.Drawn.{DrawnFits, IsDrawn, IsSourceOf, drawn_rows}
+use Rattle.tt_glyphs.specs.Drawn.{DrawnFits, IsSourceOf, drawn_rows}
 use Rattle.tt_glyphs.specs.Entries.{known, told_bytes}
-use Rattle.tt_glyphs.specs.Listed.{bytes_among, drawn_numbers, entry_by, known_of}
+use Rattle.tt_glyphs.specs.Listed.{drawn_numbers, entry_by, known_of}
 use Rattle.tt_glyphs.specs.Lists.{IsTriedList}
 use Rattle.tt_glyphs.specs.Requests.{Bitmaps, GlyphJob, bitmaps_by, bitmaps_tested, edges_of_list_tested}
-use Rattle.tt_glyphs.specs.Tried.{tried_chords, tried_crossings, tried_numbers}
+use Rattle.tt_glyphs.specs.Tried.{tried_chords, tried_crossings}
 use Rattle.tt_glyphs.proofs.Entered.{entry_within, reports_fit, wanted_is}
 use Rattle.tt_glyphs.proofs.Reported.{AreDrawnOf, bytes_are, entries_are, rows_are}
 use Rattle.tt_glyphs.proofs.WorkTested.{chords_tried, crossings_tried}
@@ -67,3 +69,11 @@ entries_fit places gs ds seated numbers fits =
       within = rw (← wanted_is places ds gs seated numbers) (entry_within ds gs i below);
     }) in
     All-map (EntryFits w) (entry_by ds (distinct gs)) gs each
+
+-- a stop at the chords or the crossings
+pub edges_stop : (how : Fit) (gs : List ℕ) (s : Fitter) (e : DrawFault)
+    → IfSome (refusal e) (λ r. as_job (edges_of_list_tested how s (known s gs)) ≡ Err r)
+    → IfSome (refusal e) (λ r. bitmaps_tested how gs s ≡ Err r)
+edges_stop how gs s (draw.Font f) fails = rw fails refl
+edges_stop how gs s (draw.Job j) fails = rw fails refl
+edges_stop how gs s draw.Memory fails = tt

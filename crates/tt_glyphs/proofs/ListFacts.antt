@@ -1,7 +1,7 @@
 -- The tests of a list one after the other, the facts that refuse a list, and the defects that its reports tell.
-use Rattle.std.proofs.Common.{◌≡◌, ◌∙◌, refl, sym, ap, ℕ, zero, suc, ◌<◌, ◌≤◌, nat_lt, Bool, true, false, ◌||◌, ◌==◌, List, [], ◌∷◌, map, length, get_or, Option, Some, None, Result, Ok, Err, All, ◌⊎◌, inl, inr, if◌then◌else◌, subst, arith}
+use Rattle.std.proofs.Common.{◌≡◌, ◌∙◌, refl, sym, ap, ℕ, zero, suc, ◌<◌, nat_lt, Bool, true, false, ◌||◌, ◌==◌, List, [], ◌∷◌, map, length, get_or, Option, Result, Ok, Err, All, ◌⊎◌, inl, inr, if◌then◌else◌, subst, arith}
 use Rattle.std.specs.Prelude.{IsOkAnd}
-use Rattle.std.specs.List.{filter, slice_index}
+use Rattle.std.specs.List.{slice_index}
 use Rattle.std.proofs.lemmas.Bool.Decides.{nat_tests}
 use Rattle.std.proofs.lemmas.List.{get_or-map, length-map}
 use Rattle.tt_core.specs.Chains.{came-through, was-err}
@@ -10,7 +10,7 @@ use Rattle.tt_core.specs.declared.fault.JobFault.TheVariants as fault
 use Rattle.tt_core.specs.Directory.{HasNo}
 use Rattle.tt_core.specs.Faults.{Fault}
 use Rattle.tt_core.specs.Limits.{point_work_limit, size_limit, text_limit}
-use Rattle.tt_core.specs.Outcomes.{◌>>=◌, each}
+use Rattle.tt_core.specs.Outcomes.{◌>>=◌}
 use Rattle.tt_face.specs.Faces.{Face}
 use Rattle.tt_fit.specs.declared.programs.Fit.{Fit}
 use Rattle.tt_fit.specs.Fitting.{Fitter, fitted_outline, unfitted_fault}
@@ -24,19 +24,18 @@ use Rattle.tt_strike.specs.Defects.{IsGlyphDefect, IsLineDefect, IsSettingDefect
 use Rattle.tt_strike.specs.Job.{size_tested}
 use Rattle.tt_strike.specs.Makers.{job_at}
 use Rattle.tt_strike.specs.Picture.{outlines_in, setting}
-use Rattle.tt_strike.specs.Refusals.{Refused, as_font, as_job, font, job}
-use Rattle.tt_strike.specs.Work.{chord_limit, chords_in, crossings_allowed, edges_limited, is_bounded, line_fitter, points_in, work_left, work_tested}
+use Rattle.tt_strike.specs.Refusals.{Refused, as_font, as_job, job}
+use Rattle.tt_strike.specs.Work.{chord_limit, chords_in, crossings_allowed, edges_limited, line_fitter, points_in, work_left, work_tested}
 use Rattle.tt_strike.proofs.Placed.{of-font}
 use Rattle.tt_strike.proofs.Stopped.{too_much}
 use Rattle.tt_glyphs.specs.Bitmaps.{is_large, place_of}
 use Rattle.tt_glyphs.specs.declared.place.InkPlace.{InkPlace}
 use Rattle.tt_glyphs.specs.declared.told.GlyphEntry.{GlyphEntry}
-use Rattle.tt_glyphs.specs.declared.told.Told.{Told}
 use Rattle.tt_glyphs.specs.declared.told.Told.TheVariants as told
 use Rattle.tt_glyphs.specs.Defects.{AreSound, IsListDefect, IsListRefusal, IsSoundReport, TellGlyphDefects, TellsDefectsOf}
-use Rattle.tt_glyphs.specs.Entries.{advance_by, entries, entry_of, glyph_told, known, made_within, number_told}
+use Rattle.tt_glyphs.specs.Entries.{advance_by, entries, entry_of, glyph_told, known, made_within}
 use Rattle.tt_glyphs.specs.Listed.{known_of}
-use Rattle.tt_glyphs.specs.Requests.{Bitmaps, GlyphJob, bitmaps_by, bitmaps_in, bitmaps_outcome, bitmaps_tested, count_tested, crossings_of_list, edges_of_list_tested, fitter_for_request, points_of_list_tested, request_begun, request_tested, sound_in, sound_outcome}
+use Rattle.tt_glyphs.specs.Requests.{GlyphJob, bitmaps_by, bitmaps_in, bitmaps_outcome, bitmaps_tested, count_tested, crossings_of_list, edges_of_list_tested, fitter_for_request, points_of_list_tested, request_begun, request_tested, sound_in, sound_outcome}
 use Rattle.tt_glyphs.proofs.DrawnGlyphs.{told_is, told_refused}
 use Rattle.tt_glyphs.proofs.Numbers.{among_distinct, among_filter}
 

@@ -1,7 +1,6 @@
 -- Laws of the bitmaps of a list.
-use Rattle.std.proofs.Common.{◌≡◌, ◌∙◌, refl, sym, ap, ap₂, ℕ, ◌+◌, ◌*◌, ◌<◌, ◌≤◌, Bool, true, false, ◌==◌, nat_lt, if◌then◌else◌, List, [], ◌∷◌, ◌++◌, length, get_or, Option, None, Result, Ok, Err, arith}
+use Rattle.std.proofs.Common.{◌≡◌, ◌∙◌, refl, sym, ap, ap₂, ℕ, ◌+◌, ◌*◌, Bool, true, false, ◌==◌, nat_lt, if◌then◌else◌, List, [], ◌∷◌, length, Option, None, Result, Ok, Err}
 use Rattle.std.specs.List.{flat_map, sum_by}
-use Rattle.std.proofs.lemmas.Bool.Decides.{nat_tests}
 use Rattle.std.proofs.lemmas.List.{get_or-map, length-append}
 use Rattle.std.proofs.lemmas.List.Sums.{sum_by-cons}
 use Rattle.tt_core.specs.Faults.{Fault}
@@ -15,11 +14,9 @@ use Rattle.tt_picture.specs.Ink.{glyph_ink}
 use Rattle.tt_picture.specs.Shapes.{shape_at}
 use Rattle.tt_picture.proofs.RowBytes.{length-rows}
 use Rattle.tt_picture.proofs.Unbounded.{uncharged}
-use Rattle.tt_strike.specs.Work.{line_fitter, point_work, points_in, started}
+use Rattle.tt_strike.specs.Work.{line_fitter, point_work, points_in}
 use Rattle.tt_glyphs.specs.Bitmaps.{bitmap_pixel, is_large, place_bytes, place_of}
 use Rattle.tt_glyphs.specs.declared.place.InkPlace.{InkPlace}
-use Rattle.tt_glyphs.specs.declared.told.GlyphEntry.{GlyphEntry}
-use Rattle.tt_glyphs.specs.declared.told.Told.{Told}
 use Rattle.tt_glyphs.specs.declared.told.Told.TheVariants as told
 use Rattle.tt_glyphs.specs.Entries.{advance_by, entry_of, glyph_told, known, made_within, number_bytes, number_rows, told_bytes, told_rows}
 use Rattle.tt_glyphs.specs.GlyphLaws.{OrderChangesNothing, RepeatsAreEqual, RowsAreCounted}

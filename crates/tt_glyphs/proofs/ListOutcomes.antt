@@ -1,5 +1,5 @@
 -- The answer of a call for the bitmaps of a list, by the steps of the call.
-use Rattle.std.proofs.Common.{◌≡◌, ◌∙◌, ap, inl, refl, sym, ℕ, List, Result, Ok, Err}
+use Rattle.std.proofs.Common.{◌≡◌, ◌∙◌, ap, inl, refl, ℕ, List, Result, Ok, Err}
 use Rattle.std.specs.Prelude.{IfOk, IfSome, IsOkAnd}
 use Rattle.tt_core.specs.declared.draw_fault.DrawFault.{DrawFault}
 use Rattle.tt_core.specs.declared.draw_fault.DrawFault.TheVariants as draw
@@ -15,7 +15,7 @@ use Rattle.tt_metrics.specs.Metrics.{glyphs_of}
 use Rattle.tt_strike.specs.Defects.{IsSettingDefect, TellsDefects}
 use Rattle.tt_strike.specs.Makers.{job_at}
 use Rattle.tt_strike.specs.Picture.{outlines_in, setting}
-use Rattle.tt_strike.specs.Refusals.{Refused, as_font, as_job, refusal}
+use Rattle.tt_strike.specs.Refusals.{as_font, as_job, refusal}
 use Rattle.tt_glyphs.specs.Defects.{AreSound, IsListDefect, IsListRefusal, TellGlyphDefects}
 use Rattle.tt_glyphs.specs.declared.tried.TriedList.{TriedList}
 use Rattle.tt_glyphs.specs.Entries.{entries, known}
@@ -104,7 +104,7 @@ drawn_sound a s os count (Err e) same made gives = tt
 
 -- the fitter of a tried list has the metrics of the face
 pub metrics_of : (face : Face) (a : GlyphJob) (s : Fitter) (l : TriedList) → IsTriedList face a s l → s.metrics ≡ face.metrics
-metrics_of face a s l is = is.source.metrics ∙ ap (λ (f : Face). f.metrics) is.face
+metrics_of face a s l is = is.source.metrics ∙ ap (λ (f : Face). f.metrics) is.of
 
 -- a defect of the tables and programs is one of the list
 pub stops_defect : (face : Face) (a : GlyphJob) (e : DrawFault) → IfSome (draw_font_fault e) (IsSettingDefect face (job_at a.ppem a.fit))

@@ -1,5 +1,5 @@
 -- Where the ink of a line lies in its picture, the bitmaps of its glyphs are made.
-use Rattle.std.proofs.Common.{◌≡◌, ◌∙◌, refl, sym, ap, ℕ, ◌+◌, ◌<◌, ◌≤◌, Bool, true, false, ◌||◌, nat_lt, if◌then◌else◌, ℤ, pos, ◌+ℤ◌, ◌-ℤ◌, int_le, int_lt, unsigned_abs, List, [], ◌∷◌, get_or, map, Option, None, Some, Ok, All, arith}
+use Rattle.std.proofs.Common.{◌≡◌, refl, ap, ℕ, ◌<◌, ◌≤◌, true, false, nat_lt, if◌then◌else◌, pos, ◌+ℤ◌, ◌-ℤ◌, unsigned_abs, List, [], ◌∷◌, get_or, map, Option, None, Some, Ok, All, arith}
 use Rattle.std.specs.List.{filter}
 use Rattle.std.proofs.lemmas.Bool.Decides.{nat_tests}
 use Rattle.std.proofs.lemmas.Int.{ints}
@@ -19,10 +19,9 @@ use Rattle.tt_scan_ink.specs.declared.ink.GlyphInk.{GlyphInk}
 use Rattle.tt_strike.specs.Picture.{frame_of}
 use Rattle.tt_strike.specs.Work.{line_fitter}
 use Rattle.tt_glyphs.specs.Bitmaps.{is_large, place_of}
-use Rattle.tt_glyphs.specs.declared.told.Told.{Told}
 use Rattle.tt_glyphs.specs.declared.told.Told.TheVariants as told
 use Rattle.tt_glyphs.specs.Entries.{advance_by, glyph_told, known, made_within, number_told}
-use Rattle.tt_glyphs.specs.GlyphLaws.{IsMade, IsWithin, LinesAreMade, lies_in}
+use Rattle.tt_glyphs.specs.GlyphLaws.{IsMade, IsWithin, LinesAreMade}
 use Rattle.tt_glyphs.proofs.DrawnGlyphs.{told_is}
 use Rattle.tt_glyphs.proofs.LineBitmaps.{first_of, le_true, lt_true, of_shapes}
 

@@ -2,7 +2,7 @@
 use Rattle.std.proofs.Common.{◌≡◌, ◌∙◌, refl, sym, ap, ℕ, zero, suc, ◌<◌, List, [], ◌∷◌, get_or, length, map, take, All, Result, Ok, Err, arith}
 use Rattle.std.proofs.lemmas.List.Elements.{All-head, All-tail}
 use Rattle.tt_core.specs.Faults.{Fault}
-use Rattle.tt_core.specs.Outcomes.{◌>>=◌, each}
+use Rattle.tt_core.specs.Outcomes.{◌>>=◌}
 use Rattle.tt_fit.specs.Fitting.{Fitter, fitted_outline}
 use Rattle.tt_fit_outline.specs.Outline.{Outline}
 use Rattle.tt_picture.specs.Steps.{outlines_by}
@@ -34,6 +34,10 @@ outline_of : (maker : ℕ → Fitter) (t : TriedGlyph) → t ≡ tried_again mak
 outline_of maker t is made =
     made_one (maker t.number) t.number (fitted_outline (maker t.number) t.number) t.body (ap (λ (z : TriedGlyph). z.body) is) made
 
+both_made : (one : Result Outline Fault) (rest : Result (List Outline) Fault) (o : Outline) (os : List Outline)
+    → one ≡ Ok o → rest ≡ Ok os → (one >>= λ y. rest >>= λ ys. Ok (y ∷ ys)) ≡ Ok (o ∷ os)
+both_made one rest o os first others = rw (first, others) refl
+
 -- where none is refused, all have outlines
 pub all_made : (maker : ℕ → Fitter) (ts : List TriedGlyph) → AreTriedBy maker ts → All (λ (t : TriedGlyph). IsMadeBody t.body) ts
     → (os : List Outline) × (outlines_by maker (tried_numbers ts) ≡ Ok os)
@@ -42,8 +46,10 @@ all_made maker (t ∷ ts) tried made =
     let one = outline_of maker t (first_of t (tried_again maker t) ts (map (tried_again maker) ts) tried)
     (All-head (λ (z : TriedGlyph). IsMadeBody z.body) t ts made) in
     let rest = all_made maker ts (others_of t (tried_again maker t) ts (map (tried_again maker) ts) tried)
-    (All-tail (λ (z : TriedGlyph). IsMadeBody z.body) t ts made) in
-    (one.0 ∷ rest.0, rw (one.1, rest.1) refl)
+    (All-tail (λ (z : TriedGlyph). IsMadeBody z.body) t ts made) in (
+      one.0 ∷ rest.0,
+      both_made (fitted_outline (maker t.number) t.number) (outlines_by maker (tried_numbers ts)) one.0 rest.0 one.1 rest.1,
+    )
 
 -- the first that is refused
 pub first_refused : (maker : ℕ → Fitter) (ts : List TriedGlyph) (i : ℕ) (d : TriedGlyph) (f : Fault) → AreTriedBy maker ts

@@ -1,6 +1,6 @@
 -- The entries, the bytes and the rows of drawn glyphs are those of the definition.
-use Rattle.std.proofs.Common.{◌≡◌, ◌∙◌, refl, sym, ap, ℕ, nat_lt, Bool, true, false, ◌||◌, ◌==◌, List, [], ◌∷◌, ◌++◌, map, length, All, arith, ◌⊎◌, inl, inr}
-use Rattle.std.specs.Prelude.{filter, flat_map}
+use Rattle.std.proofs.Common.{◌≡◌, ◌∙◌, refl, sym, ap, ℕ, nat_lt, Bool, true, false, ◌==◌, List, [], ◌∷◌, map, length, All, arith}
+use Rattle.std.specs.Prelude.{flat_map}
 use Rattle.std.specs.List.{sum_by}
 use Rattle.std.proofs.lemmas.Bool.Decides.{nat_tests}
 use Rattle.std.proofs.lemmas.List.Elements.{All-cons, All-head, All-tail, filter_passes}
@@ -14,10 +14,10 @@ use Rattle.tt_glyphs.specs.declared.drawing.DrawnGlyph.{DrawnGlyph}
 use Rattle.tt_glyphs.specs.declared.told.GlyphEntry.{GlyphEntry}
 use Rattle.tt_glyphs.specs.declared.told.Told.{Told}
 use Rattle.tt_glyphs.specs.Drawn.{IsDrawn, drawn_rows}
-use Rattle.tt_glyphs.specs.Entries.{all_rows, bytes_wanted, entries, entry_of, glyph_told, known, number_bytes, number_rows, number_told, told_bytes, told_rows}
+use Rattle.tt_glyphs.specs.Entries.{all_rows, bytes_wanted, entries, entry_of, glyph_told, known, number_bytes, number_rows, number_told, told_bytes}
 use Rattle.tt_glyphs.specs.Listed.{bytes_among, drawn_numbers, entry_by, known_of, told_among}
 use Rattle.tt_glyphs.proofs.Entered.{past_unknown, wanted_is}
-use Rattle.tt_glyphs.proofs.Numbers.{among_distinct, among_filter, before_agree, distinct_filter, either, first_of, later, rows_filter, sum_agree}
+use Rattle.tt_glyphs.proofs.Numbers.{among_distinct, among_filter, before_agree, distinct_filter, first_of, later, rows_filter, sum_agree}
 
 -- each of some glyphs has the report of a definition; so has each number among them
 told_by : (same : Bool) (F : ℕ → Told) (d : DrawnGlyph) (ds : List DrawnGlyph) (g : ℕ) → (d.number == g) ≡ same → d.told ≡ F d.number

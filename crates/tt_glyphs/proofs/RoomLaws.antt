@@ -1,5 +1,5 @@
 -- A room is large enough exactly where it has the bytes that are wanted.
-use Rattle.std.proofs.Common.{◌≡◌, ◌∙◌, refl, sym, ℕ, ◌<◌, ◌≤◌, Bool, true, false, nat_lt, Result, Ok, Err, arith}
+use Rattle.std.proofs.Common.{◌≡◌, ◌∙◌, refl, sym, ℕ, ◌<◌, ◌≤◌, Bool, true, false, nat_lt, Result, Ok, arith}
 use Rattle.std.specs.Prelude.{◌↔◌}
 use Rattle.std.proofs.lemmas.Bool.Decides.{nat_tests}
 use Rattle.tt_face.specs.Faces.{Face}

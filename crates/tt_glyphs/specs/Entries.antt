@@ -1,7 +1,7 @@
 -- No part of the standard: the report of each glyph of a list (profile). The glyphs are made as those of a line are: in
 -- the order of the list, each number where it stands first, with one fitter and one bound of work. A glyph with a defect
 -- has its fault in the report, and the others are made.
-use Rattle.std.specs.Prelude.{◌≡◌, refl, ℕ, ◌+◌, ◌≤◌, ⊤, Bool, ◌==◌, nat_lt, if◌then◌else◌, List, [], ◌∷◌, ◌++◌, flat_map, map, pos, codes, Option, Some, None, Result, Ok, Err}
+use Rattle.std.specs.Prelude.{◌≡◌, refl, ℕ, ◌+◌, ⊤, ◌==◌, nat_lt, if◌then◌else◌, List, [], ◌∷◌, flat_map, map, pos, codes, Option, None, Result, Ok, Err}
 use Rattle.std.specs.List.{filter, sum_by}
 use Rattle.tt_core.specs.declared.fault.Why.TheVariants as why
 use Rattle.tt_core.specs.Faults.{Fault, fault_at}

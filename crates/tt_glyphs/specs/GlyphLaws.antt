@@ -1,6 +1,5 @@
 -- Laws of the definitions of bitmaps, as statements; src/laws.rt proves them.
-use Rattle.std.specs.Prelude.{◌≡◌, ℕ, ◌+◌, ◌*◌, ◌<◌, ◌≤◌, Bool, true, false, ◌&&◌, ◌||◌, nat_lt, ◌==◌, ℤ, pos, ◌+ℤ◌, ◌-ℤ◌, ◌≤ℤ◌, ◌<ℤ◌, int_le, int_lt, List, [], ◌∷◌, length, get_or, map, sum, All, codes, chars, ◌↔◌, ◌⊎◌, Option, Some, None, Result, Ok, Err}
-use Rattle.tt_core.specs.Directory.{HasNo}
+use Rattle.std.specs.Prelude.{◌≡◌, ℕ, ◌+◌, ◌<◌, ◌≤◌, Bool, true, false, ◌&&◌, ◌||◌, ℤ, pos, ◌+ℤ◌, ◌-ℤ◌, ◌≤ℤ◌, ◌<ℤ◌, int_le, int_lt, List, [], ◌∷◌, length, get_or, map, All, ◌↔◌, None, Result, Ok, Err}
 use Rattle.tt_core.specs.Faults.{Fault}
 use Rattle.tt_core.specs.Limits.{height_limit, width_limit}
 use Rattle.tt_face.specs.Faces.{Face}
@@ -9,7 +8,6 @@ use Rattle.tt_fit.specs.Fitting.{Fitter, fitted_outline}
 use Rattle.tt_fit_outline.specs.Outline.{Outline}
 use Rattle.tt_line.specs.Layout.{Placement}
 use Rattle.tt_metrics.specs.Metrics.{glyphs_of}
-use Rattle.tt_picture.specs.Distinct.{distinct}
 use Rattle.tt_picture.specs.Ink.{column_of, glyph_ink, row_of}
 use Rattle.tt_picture.specs.Pictures.{Image, image}
 use Rattle.tt_picture.specs.Shapes.{shape_at}
@@ -17,7 +15,6 @@ use Rattle.tt_scan_dropouts.specs.Pictures.{column_at, line_at}
 use Rattle.tt_scan_edges.specs.declared.edge.Frame.{Frame}
 use Rattle.tt_strike.specs.Job.{Job}
 use Rattle.tt_strike.specs.Picture.{drawn, frame_of, laid_out, setting_in}
-use Rattle.tt_strike.specs.Refusals.{Refused}
 use Rattle.tt_strike.specs.Work.{line_fitter}
 use Rattle.tt_glyphs.specs.Bitmaps.{bitmap_pixel, is_black_at, place_of}
 use Rattle.tt_glyphs.specs.declared.place.InkPlace.{InkPlace}
@@ -25,7 +22,7 @@ use Rattle.tt_glyphs.specs.declared.told.GlyphEntry.{GlyphEntry}
 use Rattle.tt_glyphs.specs.declared.told.MadeBitmap.{MadeBitmap}
 use Rattle.tt_glyphs.specs.declared.told.Told.{Told}
 use Rattle.tt_glyphs.specs.declared.told.Told.TheVariants as told
-use Rattle.tt_glyphs.specs.Entries.{all_rows, bytes_wanted, entries, entry_of, glyph_told, number_told}
+use Rattle.tt_glyphs.specs.Entries.{all_rows, bytes_wanted, entries, glyph_told, number_told}
 use Rattle.tt_glyphs.specs.Requests.{Bitmaps, GlyphJob, bitmaps_answer, bitmaps_outcome, done, small}
 
 -- a column and a line, counted from a pen, lie in the place of a glyph's ink

@@ -1,5 +1,5 @@
 -- No part of the standard: a list of numbers whose distinct glyphs are tried.
-use Rattle.std.specs.Prelude.{◌≡◌, ℕ, ◌<◌, ◌≤◌, length, All}
+use Rattle.std.specs.Prelude.{◌≡◌, ◌<◌, ◌≤◌, length, All}
 use Rattle.tt_core.specs.Limits.{text_limit}
 use Rattle.tt_face.specs.Faces.{Face}
 use Rattle.tt_fit.specs.Fitting.{Fitter}
@@ -19,7 +19,7 @@ use Rattle.tt_glyphs.specs.Tried.{AreTriedBy, IsRuledBody, tried_numbers}
 pub record IsTriedList (face : Face) (a : GlyphJob) (s : Fitter) (l : TriedList) : Type 0 where
   pub setting : IsSetting face a.ppem a.fit s
   pub source : IsSourceOf l.source s
-  pub face : l.source.face.now ≡ face
+  pub of : l.source.face.now ≡ face
   pub fit : l.source.fit ≡ a.fit
   pub few : length a.glyphs ≤ text_limit
   pub room : length l.places.items ≡ glyphs_of s.metrics

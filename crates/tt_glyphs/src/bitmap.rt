@@ -9,9 +9,10 @@ use tt_scan_dropouts::Dropout;
 #[derive(Drop)]
 pub(crate) struct GlyphBitmap {
     pub(crate) place: InkPlace,
-    /// Its edges at pen 0, in the frame of its rows.
+    /// Its edges at pen 0, in the frame of its rows. Where its pixels are listed, it has none.
     pub(crate) tape: Tape,
-    /// In order of their rows. Rows count from the highest on, columns from the first column of ink.
+    /// In order of their rows. Rows count from the highest on, columns from the first column of ink. Where its pixels
+    /// are listed, they are all of them.
     pub(crate) dropouts: Vec<Dropout>,
 }
 

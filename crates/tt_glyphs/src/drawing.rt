@@ -1,19 +1,22 @@
 //! Draws the distinct glyphs of a list: their edges, the places of their ink, and their reports.
 
-ghost use Rattle.std.specs.Prelude.{◌≡◌, ◌⊎◌, ℕ, ◌+◌, ◌^◌, ◌<◌, ◌≤◌, true, false, length, map, All, IfOk, IfNone, IfSome, None};
+ghost use Rattle.std.specs.Prelude.{◌≡◌, ◌⊎◌, ℕ, ℤ, ◌+◌, ◌^◌, ◌<◌, ◌≤◌, true, false, length, map, All, IfOk, IfNone, IfSome, None};
 ghost use Rattle.tt_fit.specs.Fitting.{Fitter};
 ghost use Rattle.tt_glyphs.specs.Bitmaps.{IsPlace, place_of};
 ghost use Rattle.tt_glyphs.specs.Drawn.{DrawnFits, IsDrawn, IsLeft, IsSourceOf, drawn_edges, drawn_rows};
-ghost use Rattle.tt_glyphs.specs.Edged.{EdgedFits, IsEdgedBy, IsRuledBy, edged_crossings, outline_crossings};
+ghost use Rattle.tt_glyphs.specs.Edged.{EdgedFits, IsEdgedBy, IsRuledBy, edged_crossings, inked_by, outline_crossings};
 ghost use Rattle.tt_glyphs.specs.Entries.{advance_of, told_bytes};
 ghost use Rattle.tt_glyphs.specs.Tried.{AreTriedBy, IsPast, IsRuled, IsRuledBody, IsWithin, ruled_chords, ruled_crossings, tried_chords, tried_crossings, tried_glyph};
 ghost use Rattle.tt_metrics.specs.Metrics.{glyphs_of};
 ghost use Rattle.tt_picture.specs.Ink.{glyph_ink};
 ghost use Rattle.tt_picture.specs.Steps.{chords_of};
+ghost use Rattle.tt_scan_dropouts.specs.Passes.{has_pixel};
 
 use crate::bitmap::GlyphBitmap;
 use crate::drawn::bitmap_of;
 use crate::edged::{EdgedOutline, edged};
+use crate::inked::ink_of;
+use crate::listing::pixels_of;
 use crate::place::InkPlace;
 use crate::placing::{is_large, place_bytes, place_of};
 use crate::ruled::{RuledOutline, TriedBody, TriedGlyph};
@@ -22,6 +25,7 @@ use std::alloc::AllocError;
 use tt_line::advance;
 use tt_picture::LineLimits;
 use tt_scan::Sweep;
+use tt_scan_dropouts::Pixel;
 use tt_strike::{FitterSource, is_bounded};
 
 /// A glyph that is drawn, or only its report.
@@ -66,16 +70,18 @@ fn advance_of(source: &FitterSource, number: u16, step: u32) -> u32
     advance(source.face.metrics(), source.ppem, number)
 }
 
-/// The report of a glyph with this place, and its rows if it has any. Error: memory ran out.
+/// The report of a glyph with this place, and its rows if it has any; its pixels may be listed. Error: memory ran out.
 fn placed(
     source: &FitterSource,
     number: u16,
     place: InkPlace,
     edged: EdgedOutline,
+    listed: Option<Vec<Pixel>>,
 ) -> Result<DrawnGlyph, AllocError>
     requires known { number < glyphs_of source.now.face.now.metrics }
     requires place { IsPlace place }
     requires edged { EdgedFits edged }
+    requires listed { IfSome listed (λ v. (c j : ℤ) → has_pixel v.items c j ≡ inked_by edged c j) }
     ensures number { IfOk result (λ d. d.number ≡ number) }
     ensures drawn { IfOk result (λ d. (s : Fitter) → IsSourceOf source.now s → place ≡ place_of (glyph_ink s number) → IsEdgedBy s number edged → IsDrawn source.now.fit s d) }
     ensures fits { IfOk result DrawnFits }
@@ -91,7 +97,7 @@ fn placed(
     if place.width == 0 {
         return Ok(rowless(number, told));
     }
-    let bitmap = bitmap_of(source.alloc, place, edged)?;
+    let bitmap = bitmap_of(source.alloc, place, edged, listed)?;
     Ok(DrawnGlyph {
         number,
         told,
@@ -107,8 +113,9 @@ fn drawn(source: &FitterSource, number: u16, edged: EdgedOutline) -> Result<Draw
     ensures drawn { IfOk result (λ d. (s : Fitter) → IsSourceOf source.now s → IsEdgedBy s number edged → IsDrawn source.now.fit s d) }
     ensures fits { IfOk result DrawnFits }
 {
-    let place = place_of(edged.ink(source.alloc)?);
-    placed(source, number, place, edged)
+    let listed = pixels_of(source.alloc, &edged)?;
+    let place = place_of(ink_of(source.alloc, &edged, &listed)?);
+    placed(source, number, place, edged, listed)
 }
 
 /// Charges the chords and the crossings of a glyph. False where it has more of either than is left; without limits none

@@ -1,10 +1,10 @@
 //! The rows of a glyph: by its edges, and then its dropouts.
 
-ghost use Rattle.std.specs.Prelude.{◌≡◌, ◌≢◌, ℕ, ◌+◌, ◌^◌, ◌≤◌, ◌<◌, ◌||◌, true, false, pos, length, IfNone, IfOk, IfSome, OnOk};
+ghost use Rattle.std.specs.Prelude.{◌≡◌, ◌≢◌, ℕ, ℤ, ◌+◌, ◌^◌, ◌≤◌, ◌<◌, ◌||◌, ◌&&◌, true, false, pos, length, IfNone, IfOk, IfSome, OnOk};
 ghost use Rattle.tt_core.specs.Bits.{stride};
 ghost use Rattle.tt_glyphs.specs.Bitmaps.{place_bytes};
 ghost use Rattle.tt_glyphs.specs.Drawn.{BitmapFits, IsInked, bitmap_row, bitmap_rows, column_of, edged_pixel, frame_of, is_pixel_of, line_of};
-ghost use Rattle.tt_glyphs.specs.Edged.{EdgedFits};
+ghost use Rattle.tt_glyphs.specs.Edged.{EdgedFits, inked_by};
 ghost use Rattle.tt_picture.specs.Pixels.{is_filled};
 ghost use Rattle.tt_picture.specs.Rows.{rows};
 ghost use Rattle.tt_scan.specs.Contours.{contours_at};
@@ -97,7 +97,7 @@ fn seen_all(alloc: Global, place: InkPlace, pixels: &[Pixel]) -> Result<Vec<Drop
     ensures exact { IfOk result (λ v. (c r : ℕ) → c < place.width → r < place.height → is_among v.items c r ≡ has_pixel pixels.now (column_of place c) (line_of place r)) }
     ensures valid { IfOk result (λ v. AreDropouts place.width v.items) }
 {
-    let mut found = Vec::new(alloc);
+    let mut found = Vec::with_capacity(alloc, pixels.len())?;
     for pixel in pixels {
         push_seen(&mut found, place, *pixel)?;
     }
@@ -105,16 +105,16 @@ fn seen_all(alloc: Global, place: InkPlace, pixels: &[Pixel]) -> Result<Vec<Drop
     Ok(found)
 }
 
-/// The dropouts of a glyph in its place; none where it fills none. Error: memory ran out.
-fn dropouts_of(
+/// The dropouts of a glyph in a window; none where it fills none. Error: memory ran out.
+pub(crate) fn filled_in(
     alloc: Global,
-    place: InkPlace,
+    window: Window,
     edged: &EdgedOutline,
-) -> Result<Vec<Dropout>, AllocError>
-    requires place { IsInked place }
+) -> Result<Vec<Pixel>, AllocError>
+    requires window { WindowFits (widened 2 window) }
     requires edged { EdgedFits edged.now }
-    ensures exact { IfOk result (λ v. (c r : ℕ) → c < place.width → r < place.height → is_among v.items c r ≡ is_filled edged.now.filled (contours_at edged.now.tape.edges edged.now.ends.items) (column_of place c) (line_of place r)) }
-    ensures valid { IfOk result (λ v. AreDropouts place.width v.items) }
+    ensures { IfOk result (λ v. (c j : ℤ) → has_pixel v.items c j
+        ≡ (has window c j && is_filled edged.now.filled (contours_at edged.now.tape.edges edged.now.ends.items) c j)) }
 {
     let EdgedOutline {
         tape,
@@ -128,12 +128,26 @@ fn dropouts_of(
     if !may_have_dropouts(rules.rules.stubs, tape.lend(), ends) {
         return Ok(Vec::new(alloc));
     }
-    let pixels = dropouts(alloc, Outlined { rules, tape, ends }, window_of(place))?;
+    dropouts(alloc, Outlined { rules, tape, ends }, window)
+}
+
+/// The dropouts of a glyph in its place; none where it fills none. Error: memory ran out.
+fn dropouts_of(
+    alloc: Global,
+    place: InkPlace,
+    edged: &EdgedOutline,
+) -> Result<Vec<Dropout>, AllocError>
+    requires place { IsInked place }
+    requires edged { EdgedFits edged.now }
+    ensures exact { IfOk result (λ v. (c r : ℕ) → c < place.width → r < place.height → is_among v.items c r ≡ is_filled edged.now.filled (contours_at edged.now.tape.edges edged.now.ends.items) (column_of place c) (line_of place r)) }
+    ensures valid { IfOk result (λ v. AreDropouts place.width v.items) }
+{
+    let pixels = filled_in(alloc, window_of(place), edged)?;
     seen_all(alloc, place, &pixels)
 }
 
-/// The rows of a glyph's ink, which stands in this place. Error: memory ran out.
-pub(crate) fn bitmap_of(
+/// The rows of a glyph's ink by its edges. Error: memory ran out.
+fn edges_bitmap(
     alloc: Global,
     place: InkPlace,
     edged: EdgedOutline,
@@ -153,6 +167,48 @@ pub(crate) fn bitmap_of(
         tape,
         dropouts,
     })
+}
+
+/// The rows of a glyph's ink by its pixels: all of them are blackened as dropouts are. Error: memory ran out.
+fn pixels_bitmap(
+    alloc: Global,
+    place: InkPlace,
+    pixels: &[Pixel],
+) -> Result<GlyphBitmap, AllocError>
+    requires { IsInked place }
+    ensures place { IfOk result (λ b. b.place ≡ place) }
+    ensures fresh { IfOk result (λ b. b.crosses ≡ 0) }
+    ensures rows { IfOk result (λ b. bitmap_rows b ≡ rows place.width (λ c r. has_pixel pixels.now (column_of place c) (line_of place r)) 0 (place_bytes place)) }
+    ensures fits { IfOk result BitmapFits }
+{
+    let dropouts = seen_all(alloc, place, pixels)?;
+    Ok(GlyphBitmap {
+        place,
+        tape: Tape::new(alloc, frame_of(place)),
+        dropouts,
+    })
+}
+
+/// The rows of a glyph's ink, which stands in this place: by its pixels where they are listed, else by its edges. Error:
+/// memory ran out.
+pub(crate) fn bitmap_of(
+    alloc: Global,
+    place: InkPlace,
+    edged: EdgedOutline,
+    listed: Option<Vec<Pixel>>,
+) -> Result<GlyphBitmap, AllocError>
+    requires place { IsInked place }
+    requires edged { EdgedFits edged }
+    requires listed { IfSome listed (λ v. (c j : ℤ) → has_pixel v.items c j ≡ inked_by edged c j) }
+    ensures place { IfOk result (λ b. b.place ≡ place) }
+    ensures fresh { IfOk result (λ b. b.crosses ≡ 0) }
+    ensures rows { IfOk result (λ b. bitmap_rows b ≡ rows place.width (edged_pixel edged place) 0 (place_bytes place)) }
+    ensures fits { IfOk result BitmapFits }
+{
+    match listed {
+        Some(pixels) => pixels_bitmap(alloc, place, &pixels),
+        None => edges_bitmap(alloc, place, edged),
+    }
 }
 
 impl GlyphBitmap {

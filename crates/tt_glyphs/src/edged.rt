@@ -1,30 +1,59 @@
 //! The edges of an outline, what they count of a list's work, and the box of their ink.
 
-ghost use Rattle.std.specs.Prelude.{◌≡◌, ◌+◌, IfOk, IfSome};
+ghost use Rattle.std.specs.Prelude.{◌≡◌, ◌+◌, ◌^◌, ◌<◌, ◌≤◌, unsigned_abs, IfOk, IfSome};
+ghost use Rattle.tt_core.specs.Limits.{height_limit};
 ghost use Rattle.tt_glyphs.specs.Edged.{EdgedFits, IsEdged};
 ghost use Rattle.tt_glyphs.specs.Tried.{IsRuled};
 ghost use Rattle.tt_picture.specs.Ink.{filled_ink, ink_by};
 ghost use Rattle.tt_picture.specs.Shapes.{filling_crossings};
 ghost use Rattle.tt_scan.specs.Contours.{contours_at};
 ghost use Rattle.tt_scan_dropouts.specs.Counted.{edges_counted};
+ghost use Rattle.tt_scan_edges.specs.Winding.{FrameFits};
+ghost use Rattle.tt_scan_gaps.specs.Boxes.{ExtentsFit};
 ghost use Rattle.tt_scan_ink.specs.Least.{IsNear};
 
+use crate::listing::MOST_SIDE;
+use crate::placing::count;
 use crate::ruled::RuledOutline;
 use std::alloc::{AllocError, Global};
 use tt_arc::OutlineEdges;
 use tt_core::Fault;
 use tt_picture::{edges_of, tape_crossings};
 use tt_scan::{Frame, Tape};
-use tt_scan_dropouts::BoxedRules;
+use tt_scan_dropouts::{BoxedRules, pixels_in};
 use tt_scan_ink::{GlyphInk, dropouts_ink, edges_ink, joined};
 
-/// A frame for edges whose place is not known yet.
-const NO_FRAME: Frame = Frame {
-    width: 1,
-    height: 1,
-    margin: 0,
-    rise: 0,
-};
+/// A frame of `height` rows. The highest is the line below line `past`; columns count from the pen.
+fn rows_frame(past: i64, height: u32) -> Frame
+    requires some { 1 ≤ height }
+    requires few { height ≤ height_limit }
+    requires past { unsigned_abs past < 2 ^ 20 }
+    ensures { FrameFits result }
+{
+    Frame {
+        width: 1,
+        height,
+        margin: 0,
+        rise: past as i32,
+    }
+}
+
+/// The frame that a glyph's edges are made for: the rows of its box, where the box has few rows. Then the rows may be
+/// cut without a second tape. Else the frame has one row.
+fn first_frame(filled: Option<BoxedRules>) -> Frame
+    requires { IfSome filled (λ rules. ExtentsFit rules.extents) }
+    ensures { FrameFits result }
+{
+    let Some(rules) = filled else {
+        return rows_frame(0, 1);
+    };
+    let (_, rows) = pixels_in(rules.extents);
+    let height = count(rows.first, rows.last);
+    if height > MOST_SIDE {
+        return rows_frame(0, 1);
+    }
+    rows_frame(rows.last + 1, height)
+}
 
 /// The edges of an outline at pen 0.
 #[derive(Drop)]
@@ -54,7 +83,8 @@ pub(crate) fn edged(alloc: Global, ruled: RuledOutline) -> Result<EdgedOutline, 
     } = ruled;
     let made = edges_of(alloc, &outline, rule, filled)?;
     let OutlineEdges { list, ends, chords } = made;
-    let tape = Tape::of(alloc, NO_FRAME, list)?;
+    let tape = Tape::of(alloc, first_frame(filled), list)?;
+    tt_arc::laws::contours_joined();
     Ok(EdgedOutline {
         tape,
         ends,

@@ -6,6 +6,8 @@
 //! ruled.rt     an outline with its rules, or the fault that refuses it
 //! outlines.rt  the outlines of the distinct glyphs
 //! edged.rt     the edges of an outline, their crossings and the box of their ink
+//! listing.rt   the black pixels of a small glyph
+//! inked.rt     the box of a glyph's ink, by its pixels or its edges
 //! placing.rt   the place of a glyph by that box, and the bytes of its rows
 //! bitmap.rt    the edges and dropouts of a glyph's rows
 //! drawn.rt     the rows of a glyph
@@ -22,9 +24,11 @@ mod drawing;
 mod drawn;
 mod edged;
 mod entries;
+mod inked;
 mod known;
 pub mod laws;
 mod list;
+mod listing;
 mod outlines;
 mod place;
 mod placing;

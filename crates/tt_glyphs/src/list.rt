@@ -211,6 +211,7 @@ impl BitmapList {
         requires { self.wanted ≤ length room.old }
         ensures rows { take self.wanted room.new ≡ self.rows }
         ensures rest { drop self.wanted room.new ≡ drop self.wanted room.old }
+        ensures len { length room.new ≡ length room.old }
     {
         let BitmapList {
             mut drawn,

@@ -11,7 +11,7 @@ use tt_core::{HEIGHT_LIMIT, WIDTH_LIMIT};
 use tt_scan_ink::GlyphInk;
 
 /// How many columns or rows there are from one to another, both included.
-fn count(first: i64, last: i64) -> u32
+pub(crate) fn count(first: i64, last: i64) -> u32
     requires first { unsigned_abs first < 2 ^ 18 }
     requires last { unsigned_abs last < 2 ^ 18 }
     ensures exact { result ≡ unsigned_abs (last -ℤ first) + 1 }

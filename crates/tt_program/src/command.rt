@@ -16,24 +16,30 @@ pub(crate) fn request<'a>(
     alloc: Global,
     words: &'a [String],
 ) -> Result<Option<Request<'a>>, Error> {
-    let name = match words.get(1) {
-        Some(word) => word.as_str(),
-        None => "",
+    let (name, rest) = match words.get(1) {
+        Some(word) => (word.as_str(), &words[1..]),
+        None => ("", words),
     };
-    let asked = match name {
-        "draw" => draw_command(alloc)?.bin_name("tt_render draw")?,
-        "measure" => measure_command(alloc)?.bin_name("tt_render measure")?,
-        "map" => map_command(alloc)?.bin_name("tt_render map")?,
-        "faces" => faces_command(alloc)?.bin_name("tt_render faces")?,
-        "label" => label_command(alloc)?.bin_name("tt_render label")?,
-        "bdf" => bdf_command(alloc)?.bin_name("tt_render bdf")?,
-        _ => {
-            program(alloc)?.try_get_matches_from(words)?;
-            return Ok(None);
-        }
+    let Some(asked) = command_named(alloc, name)? else {
+        program(alloc)?.try_get_matches_from(words)?;
+        return Ok(None);
     };
-    let matches = asked.try_get_matches_from(&words[1..])?;
+    let matches = asked.try_get_matches_from(rest)?;
     Ok(request_of(name, &Found { matches: &matches }))
+}
+
+/// The description of the subcommand that has this name, if there is one.
+fn command_named<'a>(alloc: Global, name: &str) -> Result<Option<Command<'a>>, AllocError> {
+    let (command, words) = match name {
+        "draw" => (draw_command(alloc)?, "tt_render draw"),
+        "measure" => (measure_command(alloc)?, "tt_render measure"),
+        "map" => (map_command(alloc)?, "tt_render map"),
+        "faces" => (faces_command(alloc)?, "tt_render faces"),
+        "label" => (label_command(alloc)?, "tt_render label"),
+        "bdf" => (bdf_command(alloc)?, "tt_render bdf"),
+        _ => return Ok(None),
+    };
+    Ok(Some(command.bin_name(words)?))
 }
 
 /// Describes `tt_render map [--face N] FONT TEXT`, `tt_render faces FONT`, and `draw` and `measure` with `--size N

@@ -19,7 +19,7 @@ use Rattle.tt_render.specs.Views.{before_lines, refusal_of_draw}
 use Rattle.tt_strike.specs.declared.layouts.Layout.{Layout}
 use Rattle.tt_strike.specs.declared.layouts.Pen.{Pen}
 use Rattle.tt_strike.specs.Job.{Job}
-use Rattle.tt_strike.specs.Layouts.{TellsMadeDefects, layout_outcome, pens_outcome}
+use Rattle.tt_strike.specs.Layouts.{TellsMadeDefects, pens_outcome}
 use Rattle.tt_strike.specs.Refusals as drawing
 use Rattle.tt_strike.specs.Strikes.{Strike, job_of}
 
@@ -35,27 +35,14 @@ append_pens r file face l ps =
     append_assoc (face_text r file ++ font_text face.metrics) (size_text l) (flat_map pen_text ps)
     ∙ append_assoc (face_text r file) (font_text face.metrics) (size_text l ++ flat_map pen_text ps)
 
--- a text without a layout, or without pens, has no lines
-pub stops_at_layout : (r : Reading) (face : Face) (j : Job) (d : DrawFault)
-    → IfSome (drawing.refusal d) (λ why. layout_outcome face j ≡ Err why)
-    → IfSome (drawing.refusal d) (λ why. laid_text r face j ≡ Err why)
-unfolding laid_text
-stops_at_layout r face j (draw.Font f) is = rw is refl
-stops_at_layout r face j (draw.Job k) is = rw is refl
-stops_at_layout r face j draw.Memory is = tt
-
-pub stops_at_pens : (r : Reading) (face : Face) (j : Job) (l : Layout) (d : DrawFault) → layout_outcome face j ≡ Ok l
+-- a text without pens has no lines
+pub stops_at_pens : (r : Reading) (face : Face) (j : Job) (d : DrawFault)
     → IfSome (drawing.refusal d) (λ why. pens_outcome face j ≡ Err why)
     → IfSome (drawing.refusal d) (λ why. laid_text r face j ≡ Err why)
 unfolding laid_text
-stops_at_pens r face j l (draw.Font f) laid is = rw (laid, is) refl
-stops_at_pens r face j l (draw.Job k) laid is = rw (laid, is) refl
-stops_at_pens r face j l draw.Memory laid is = tt
-
-pub lines_made : (r : Reading) (face : Face) (j : Job) (l : Layout) (ps : List Pen) → layout_outcome face j ≡ Ok l
-    → pens_outcome face j ≡ Ok ps → laid_text r face j ≡ Ok (layout_text r face.directory.file face l ps)
-unfolding laid_text
-lines_made r face j l ps laid stands = rw (laid, stands) refl
+stops_at_pens r face j (draw.Font f) is = rw is refl
+stops_at_pens r face j (draw.Job k) is = rw is refl
+stops_at_pens r face j draw.Memory is = tt
 
 -- so the text is refused
 pub lines_stop : (a : Setting) (s : Strike) (text : List ℕ) (d : DrawFault)
@@ -66,7 +53,7 @@ lines_stop a s text (draw.Font f) is = rw is refl
 lines_stop a s text (draw.Job j) is = rw is refl
 lines_stop a s text draw.Memory is = tt
 
--- what is told of defects where a layout or pens are refused, and where they are made
+-- what is told of defects where pens are refused, and where they are made
 pub made_tell : (V : Type 0) (b : Bool) (P : Fault → Type 0) (d : DrawFault) → TellsMadeDefects {V = V} b P (Err d)
     → IfSome (refusal_font_fault (refusal_of_draw d)) (IsReadDefect b P)
 made_tell V true P (draw.Font f) tells = tells

@@ -58,8 +58,8 @@ layout_text r file face l ps =
 -- these lines of a job, by the tables of a face and by the reading that gave the face; or the first refusal
 unfoldable pub laid_text : Reading → Face → Job → Result (List ℕ) Refused
 laid_text r face j =
-    layout_outcome face j >>= λ l.
     pens_outcome face j >>= λ ps.
+    layout_outcome face j >>= λ l.
     Ok (layout_text r face.directory.file face l ps)
 
 -- the answer of a text

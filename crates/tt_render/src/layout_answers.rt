@@ -24,8 +24,8 @@ pub(crate) struct ReadyLayout {
     pub(crate) report: String,
 }
 
-/// The answer of a text by a face at a size, which is of this file. Errors, the first of: those of `SizedFace::layout`
-/// and `SizedFace::pens`; Missing.
+/// The answer of a text by a face at a size, which is of this file. Errors, the first of: those of `SizedFace::pens`;
+/// Missing.
 #[tactic(auto, unfolding(crate::specs::LayoutTexts::layout_answer, crate::specs::LayoutTexts::laid_text))]
 pub(crate) fn answer_layout(
     alloc: Global,
@@ -41,9 +41,15 @@ pub(crate) fn answer_layout(
     ensures defects { TellsDefects refusal_font_fault (IsLaidDefect sized.old.face (job_of (strike_in setting.now sized.old) text.now setting.now.margin)) (without_line result) }
 {
     let face = sized.face();
-    let layout = sized.layout(text, setting.margin)?;
-    let pens = sized.pens(text, setting.margin)?;
-    let lines = layout_text(alloc, setting.reading, file, face, &layout, &pens)?;
+    let placed = sized.pens(text, setting.margin)?;
+    let lines = layout_text(
+        alloc,
+        setting.reading,
+        file,
+        face,
+        &placed.layout,
+        &placed.pens,
+    )?;
     let lacking = missing_of(alloc, face.cmap(), setting.missing, text)?;
     let report = Messages {
         alloc,

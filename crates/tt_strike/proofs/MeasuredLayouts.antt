@@ -4,7 +4,6 @@ use Rattle.std.proofs.lemmas.List.{get_or-map, length-map}
 use Rattle.tt_cmap.specs.declared.units.TextUnit.{TextUnit}
 use Rattle.tt_cmap.specs.Maps.{units_by}
 use Rattle.tt_core.specs.Chains.{came-through}
-use Rattle.tt_core.specs.declared.fault.JobFault.{JobFault}
 use Rattle.tt_core.specs.Outcomes.{◌>>=◌}
 use Rattle.tt_face.specs.Faces.{Face}
 use Rattle.tt_fit.specs.Fitting.{Fitter}
@@ -17,14 +16,14 @@ use Rattle.tt_metrics.specs.Metrics.{Metrics}
 use Rattle.tt_picture.specs.Steps.{glyph_step}
 use Rattle.tt_strike.specs.Job.{Job, tested}
 use Rattle.tt_strike.specs.LayoutLaws.{LaidOutAsMeasured, IsMeasuredPen, pen_in}
-use Rattle.tt_strike.specs.Layouts.{layout_by, layout_outcome, pens_at, size_outcome, step_with, steps_outcome, with_steps}
+use Rattle.tt_strike.specs.Layouts.{layout_by, pens_at, step_with, steps_outcome, with_steps}
 use Rattle.tt_strike.specs.Measures.{Measure, line_step, measured}
 use Rattle.tt_strike.specs.Picture.{laid_out, outlines_tested, placed_by_steps, setting_in, steps_in, text_placed}
 use Rattle.tt_strike.specs.Refusals.{Refused, as_font, as_job}
 use Rattle.tt_strike.specs.StepLaws.{character_in}
 use Rattle.tt_strike.specs.Work.{is_bounded, line_fitter}
 use Rattle.tt_strike.proofs.LayoutLaws.{all_advances, glyphs_of_steps, ok_same, pens_add, units_as_steps}
-use Rattle.tt_strike.proofs.TextSteps.{pens_are, size_is, steps_of}
+use Rattle.tt_strike.proofs.TextSteps.{layout_is, pens_are, steps_of}
 use Rattle.tt_strike.proofs.MeasuredSteps.{advance_steps, character_is, is_measured, own_steps, same_setting}
 use Rattle.tt_strike.proofs.Placed.{of-font, of-job}
 
@@ -67,12 +66,6 @@ size_as_laid m ppem margin gs ss l was =
     let through = came-through (within_limits (extent_by ss margin (rise_of m ppem) (depth_of m ppem))) _ l was in
     let is : placed_in gs ss (rise_of m ppem) through.value ≡ l = let rest = through.rest in cc in
     by_extent m ppem margin gs ss l through.value through.first is
-
--- a layout by its size
-laid_by_size : (face : Face) (a : Job) (z : LineSize) → size_outcome face a ≡ Ok z
-    → layout_outcome face a ≡ Ok (layout_by z a.margin (units_by face.cmap (chars a.text)))
-unfolding layout_outcome
-laid_by_size face a z sized = rw sized refl
 
 -- the steps of a line's glyphs are those that a measure tells
 steps_told : (bounded : Bool) (face : Face) (a : Job) (s : Fitter) (l : Placement) (gs : List (ℕ × ℕ))
@@ -168,12 +161,10 @@ laid_out_as_measured lead face a m was =
       glyph = tells.0 ∙ sym own ∙ number;
       pen = column_as (pen_in ps i).pen g.1 a.margin led;
       advance = tells.1 ∙ advance;
-    }) in
-    let sized : size_outcome face a ≡ Ok z =
-    size_is face a gs passes by_steps.first ∙ ap (λ (r : Result LineSize JobFault). as_job r) size.1 in (
+    }) in (
       layout_by z a.margin (units_by face.cmap (chars a.text)),
       ps,
-      laid_by_size face a z sized,
+      layout_is face a gs z passes by_steps.first size.1,
       pens_are face a gs z passes by_steps.first size.1,
       record {
         width = size.2 ∙ sym (ap (λ (m : Measure). m.width) is.is);

@@ -26,7 +26,7 @@ use Rattle.tt_picture.specs.Pixels.{Shape}
 use Rattle.tt_picture.specs.Shapes.{glyph_shape}
 use Rattle.tt_strike.specs.Defects.{IsLineDefect, IsSettingDefect}
 use Rattle.tt_strike.specs.Job.{Job, tested}
-use Rattle.tt_strike.specs.Layouts.{TellsMadeDefects, pens_at, pens_outcome, size_outcome, step_with, steps_outcome, with_steps}
+use Rattle.tt_strike.specs.Layouts.{TellsMadeDefects, layout_by, layout_outcome, pens_at, pens_outcome, size_outcome, step_with, steps_outcome, with_steps}
 use Rattle.tt_strike.specs.Picture.{outlines_tested, setting_in, steps_in}
 use Rattle.tt_strike.specs.Refusals.{as_job, job, refusal}
 use Rattle.tt_strike.specs.Strikes.{SizedFace, job_by}
@@ -100,7 +100,7 @@ unfolding pens_outcome
 steps_stop_pens face a e passes stopped =
     stops e (steps_outcome face a) (pens_outcome face a) (λ r fails. rw (passes, fails) refl) stopped
 
--- the size and the pens of a tested job by its steps
+-- the size, the layout and the pens of a tested job by its steps
 pub size_is : (face : Face) (a : Job) (steps : List (ℕ × ℕ)) → tested a ≡ Ok tt → steps_outcome face a ≡ Ok steps
     → size_outcome face a ≡ as_job (line_size face.metrics a.ppem a.margin (sum (map (λ g. g.1) steps)))
 unfolding size_outcome
@@ -114,6 +114,12 @@ size_by_its_advances face a passes other =
     let step = advance_in_pixels face.metrics a.ppem in
     size_is face a (with_steps step gs) passes (steps_by_advances face a other)
     ∙ ap (λ ns. as_job (line_size face.metrics a.ppem a.margin (sum ns))) (steps_of step gs)
+
+pub layout_is : (face : Face) (a : Job) (steps : List (ℕ × ℕ)) (z : LineSize) → tested a ≡ Ok tt
+    → steps_outcome face a ≡ Ok steps → line_size face.metrics a.ppem a.margin (sum (map (λ g. g.1) steps)) ≡ Ok z
+    → layout_outcome face a ≡ Ok (layout_by z a.margin (units_by face.cmap (chars a.text)))
+unfolding layout_outcome size_outcome
+layout_is face a steps z passes made sized = rw (passes, made, sized) refl
 
 pub size_stops_pens : (face : Face) (a : Job) (steps : List (ℕ × ℕ)) (j : JobFault) → tested a ≡ Ok tt
     → steps_outcome face a ≡ Ok steps → line_size face.metrics a.ppem a.margin (sum (map (λ g. g.1) steps)) ≡ Err j

@@ -1,6 +1,6 @@
 //! The layout of a text without its ink: the size of its picture, its distance from a next line, and its pens.
 
-ghost use Rattle.std.specs.Prelude.{◌≡◌, ◌≤◌, true, false, length, map, chars, sum, IfErr, IfOk, OnOk};
+ghost use Rattle.std.specs.Prelude.{◌≡◌, ◌≤◌, true, false, length, map, chars, sum, IfErr, IfOk, Ok, OnOk};
 ghost use Rattle.tt_core.specs.Limits.{margin_limit, text_limit, width_limit};
 ghost use Rattle.tt_core.specs.Outcomes.{GivesUnless, draw_font_fault};
 ghost use Rattle.tt_cmap.specs.Maps.{units_by};
@@ -41,6 +41,14 @@ pub struct Pen {
     pub advance: u32,
     /// The picture's column at the glyph's origin, margin included.
     pub pen: u32,
+}
+
+/// The pens of a text, with its layout.
+#[derive(Drop)]
+pub struct TextPens {
+    pub layout: Layout,
+    /// One for each unit of the text, in order.
+    pub pens: Vec<Pen>,
 }
 
 /// The layout of a text that has this size.
@@ -153,10 +161,11 @@ impl<'f, 'a> SizedFace<'f, 'a> {
         Ok(layout_by(size, margin, face.cmap(), text))
     }
 
-    /// The pens of a text of at most 4,096 characters with a margin of 0 to 64 pixels, one for each unit. Errors: those
-    /// of `layout`, in the same order; Memory.
-    pub fn pens(&mut self, text: &str, margin: u32) -> Result<Vec<Pen>, DrawFault>
-        ensures exact { GivesUnless refusal (λ ps. ps.items) result (pens_outcome self.old.face (job_by self.old text.now margin)) }
+    /// The pens of a text of at most 4,096 characters with a margin of 0 to 64 pixels, one for each unit, and its
+    /// layout. With `Fit::Best` each glyph is made once for both. Errors: those of `layout`, in the same order; Memory.
+    pub fn pens(&mut self, text: &str, margin: u32) -> Result<TextPens, DrawFault>
+        ensures exact { GivesUnless refusal (λ p. p.pens.items) result (pens_outcome self.old.face (job_by self.old text.now margin)) }
+        ensures layout { IfOk result (λ p. layout_outcome self.old.face (job_by self.old text.now margin) ≡ Ok p.layout) }
         ensures defects { TellsMadeDefects (is_bounded self.old.fit) (IsLineDefect self.old.face (job_by self.old text.now margin) (text_glyphs self.old.face.cmap text.now)) result }
         ensures same { self.new ≡ self.old }
     {
@@ -165,7 +174,10 @@ impl<'f, 'a> SizedFace<'f, 'a> {
         test_text(text)?;
         let steps = self.steps(text)?;
         let face = source.face;
-        size_by_steps(face.metrics(), &steps, source.ppem, margin)?;
-        Ok(pens_at(source.alloc, face.cmap(), text, &steps, margin)?)
+        let size = size_by_steps(face.metrics(), &steps, source.ppem, margin)?;
+        let cmap = face.cmap();
+        let pens = pens_at(source.alloc, cmap, text, &steps, margin)?;
+        let layout = layout_by(size, margin, cmap, text);
+        Ok(TextPens { layout, pens })
     }
 }

@@ -26,7 +26,7 @@ pub use growing::grown;
 pub use inked::InkedGlyphs;
 pub use job::{Job, test_job, test_margin, test_text};
 pub use laid::Laid;
-pub use layouts::{Layout, Pen};
+pub use layouts::{Layout, Pen, TextPens};
 pub use maker::Maker;
 pub use making::tested_edges;
 pub use measuring::{CharacterMeasure, Measure};

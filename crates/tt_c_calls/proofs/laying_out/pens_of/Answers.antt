@@ -41,27 +41,27 @@ returns-in_err-sized-clause-defects c =
     absurd (not_refused c.in_ok-asked.asked.ppem _ c.in_err-sized.ensures.refused c.in_ok-test_job.ensures.valid.low
     c.in_ok-test_job.ensures.valid.high)
 
-pub returns-in_err-pens-clause-exact : goal.returns-in_err-pens-clause-exact
-returns-in_err-pens-clause-exact c =
+pub returns-in_err-placed-clause-exact : goal.returns-in_err-placed-clause-exact
+returns-in_err-placed-clause-exact c =
     let read = rw c.in_ok-asked.ensures.reading at c.in_ok-face.ensures.exact in
-    let p = err_from_is_err_and c.from_residual-in_err-pens.result c.from_residual-in_err-pens.ensures.1 in
+    let p = err_from_is_err_and c.from_residual-in_err-placed.result c.from_residual-in_err-placed.ensures.1 in
     let a = job_view c.in_ok-asked.asked in
     let face = c.in_ok-face.face in
     let is = pens_of_face c.args.request.now.job.now c.args.request.now.text.now c.args.request.now.font.now a face c.in_ok-asked.ensures.exact c.in_ok-test_job.ensures.exact read in
-    rw (p.1, p.2, is) (draw_refused (pens_outcome face a) c.in_err-pens.field-0.0
-    (rw c.in_ok-sized.ensures.exact at c.in_err-pens.ensures.exact))
+    rw (p.1, p.2, is) (draw_refused (pens_outcome face a) c.in_err-placed.field-0.0
+    (rw c.in_ok-sized.ensures.exact at c.in_err-placed.ensures.exact))
 
-pub returns-in_err-pens-clause-defects : goal.returns-in_err-pens-clause-defects
-returns-in_err-pens-clause-defects c =
+pub returns-in_err-placed-clause-defects : goal.returns-in_err-placed-clause-defects
+returns-in_err-placed-clause-defects c =
     let read = rw c.in_ok-asked.ensures.reading at c.in_ok-face.ensures.exact in
-    let p = err_from_is_err_and c.from_residual-in_err-pens.result c.from_residual-in_err-pens.ensures.1 in
+    let p = err_from_is_err_and c.from_residual-in_err-placed.result c.from_residual-in_err-placed.ensures.1 in
     rw (p.1, p.2) (line_stands _ c.args.request.now.job.now c.args.request.now.text.now c.args.request.now.font.now
-    (job_view c.in_ok-asked.asked) c.in_ok-face.face c.in_err-pens.field-0.0 c.in_ok-asked.ensures.exact read
-    (rw c.in_ok-sized.ensures.exact at c.in_err-pens.ensures.defects))
+    (job_view c.in_ok-asked.asked) c.in_ok-face.face c.in_err-placed.field-0.0 c.in_ok-asked.ensures.exact read
+    (rw c.in_ok-sized.ensures.exact at c.in_err-placed.ensures.defects))
 
 pub returns-clause-exact : goal.returns-clause-exact
 returns-clause-exact c =
     let read = rw c.in_ok-asked.ensures.reading at c.in_ok-face.ensures.exact in
     let is = pens_of_face c.args.request.now.job.now c.args.request.now.text.now c.args.request.now.font.now (job_view c.in_ok-asked.asked) c.in_ok-face.face
     c.in_ok-asked.ensures.exact c.in_ok-test_job.ensures.exact read in
-    rw is (drawn_too _ _ (rw c.in_ok-sized.ensures.exact at c.in_ok-pens.ensures.exact))
+    rw is (drawn_too _ _ (rw c.in_ok-sized.ensures.exact at c.in_ok-placed.ensures.exact))

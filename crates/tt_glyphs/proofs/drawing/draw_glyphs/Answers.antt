@@ -1,4 +1,4 @@
-use Rattle.std.proofs.Common.{◌≡◌, ◌∙◌, ◌∷◌, [], ◌++◌, ◌+◌, ◌<◌, ◌≤◌, ℕ, List, Some, length, map, refl, sym, ap, subst, append_assoc, append-nil, All, arith}
+use Rattle.std.proofs.Common.{◌≡◌, ◌∙◌, ◌∷◌, [], ◌++◌, ◌<◌, List, Some, length, map, refl, sym, ap, subst, append_assoc, append-nil, All, arith}
 use Rattle.std.specs.Vec.Iter.{into_iter_items}
 use Rattle.std.proofs.lemmas.List.{map-append}
 use Rattle.std.proofs.lemmas.List.Elements.{All-pop, All-push}
@@ -7,7 +7,7 @@ use Rattle.tt_metrics.specs.Metrics.{glyphs_of}
 use Rattle.tt_picture.proofs.Reframed.{nothing_left, of_middle}
 use Rattle.tt_glyphs.specs.declared.drawing.DrawnGlyph.{DrawnGlyph}
 use Rattle.tt_glyphs.specs.declared.ruled.TriedGlyph.{TriedGlyph}
-use Rattle.tt_glyphs.specs.Drawn.{DrawnFits, IsDrawn, IsLeft}
+use Rattle.tt_glyphs.specs.Drawn.{DrawnFits, IsDrawn}
 use Rattle.tt_glyphs.specs.Tried.{IsRuledBody, ruled_chords, ruled_crossings, tried_chords, tried_crossings}
 use Rattle.tt_glyphs.proofs.Charged.{IsTriedBy, all_tried, all_within, one_charged, too_many}
 use Rattle.tt_glyphs.proofs.drawing.draw_glyphs.Goals as goal

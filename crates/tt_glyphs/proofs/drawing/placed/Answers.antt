@@ -15,6 +15,19 @@ returns-then-place-eq0-clause-drawn c = λ s source at by.
     rw (c.rowless-then-place-eq0.ensures, c.advance_of.ensures)
     (blank_drawn c.args.source.now c.args.source.now.fit s c.args.number c.args.place c.args.edged source at by small c.if-place-eq0.true)
 
+pub returns-then-place-eq0-clause-fits : goal.returns-then-place-eq0-clause-fits
+returns-then-place-eq0-clause-fits c =
+    let small : is_large c.args.place ≡ false = rw c.is_large.ensures at c.if-is_large.false in
+    rw c.rowless-then-place-eq0.ensures (record {
+      told = record {
+        width = grind (arith, nat_tests, small);
+        height = grind (arith, nat_tests, small);
+        left = c.requires.place.left;
+        top = c.requires.place.top;
+      };
+      bitmap = rw c.if-place-eq0.true (omega arith);
+    })
+
 pub bitmap_of-requires-clause-place : goal.bitmap_of-requires-clause-place
 bitmap_of-requires-clause-place c =
     let small : is_large c.args.place ≡ false = rw c.is_large.ensures at c.if-is_large.false in

@@ -1,13 +1,12 @@
-use Rattle.std.proofs.Common.{◌||◌, ap}
-use Rattle.tt_scan_edges.specs.Winding.{is_black}
-use Rattle.tt_scan_gaps.specs.Crossings.{centre}
-use Rattle.tt_glyphs.specs.Drawn.{column_of, edged_pixel, line_of}
-use Rattle.tt_glyphs.proofs.BitmapRows.{same_rows}
+use Rattle.std.proofs.lemmas.Result.{IfOk-weaker}
+use Rattle.tt_glyphs.proofs.ListedRows.{AreRowsBy, AreRowsOf, rows_listed}
 use Rattle.tt_glyphs.proofs.drawn.bitmap_of.Goals as goal
 
-pub returns-clause-rows : goal.returns-clause-rows
-returns-clause-rows c =
+pub returns-in-Some-clause-rows : goal.returns-in-Some-clause-rows
+returns-in-Some-clause-rows c =
     let p = c.args.place in
     let e = c.args.edged in
-    rw (c.in_ok-tape.ensures, c.into_list.ensures) (same_rows p _ (edged_pixel e p) (λ k r column row.
-    ap (λ d. is_black e.tape.edges (centre (column_of p k)) (centre (line_of p r)) || d) (c.in_ok-dropouts.ensures.exact k r column row)))
+    let ps = c.in-Some.pixels.items in
+    let listed = rw c.in-Some.is at c.requires.listed in
+    IfOk-weaker c.pixels_bitmap.result (AreRowsOf p ps) (AreRowsBy p e) (rows_listed p e ps listed)
+    (rw c.deref.ensures.value at c.pixels_bitmap.ensures.rows)

@@ -1,4 +1,4 @@
-use Rattle.std.proofs.Common.{◌≡◌, ℕ, length, map, take}
+use Rattle.std.proofs.Common.{◌≡◌, map, take}
 use Rattle.std.specs.List.{sum_by}
 use Rattle.tt_picture.specs.Distinct.{distinct}
 use Rattle.tt_glyphs.specs.Listed.{bytes_among, entry_by}

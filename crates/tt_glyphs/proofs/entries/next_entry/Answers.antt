@@ -13,7 +13,7 @@ returns-in-Some c = λ gs i next.
     let many = length-map c.args.drawn.now (λ (d : DrawnGlyph). d.number) in
     let below : c.in-Some.i < length c.args.drawn.now = omega (arith, few, here.1, many) in
     let at = c.requires.starts c.in-Some.i below in
-    seated_entry places c.args.drawn.now gs c.in-Some.i c.index-drawn-i.result c.args.glyph _ c.requires.places next.drawn
+    seated_entry places c.args.drawn.now gs c.in-Some.i _ c.args.glyph _ c.requires.places next.drawn
     here.0 here.1 at
 
 pub returns-in-None : goal.returns-in-None

@@ -5,7 +5,7 @@ use Rattle.tt_picture.proofs.Places.{ok_and}
 use Rattle.tt_strike.specs.Defects.{IsSettingDefect}
 use Rattle.tt_strike.specs.Makers.{job_at}
 use Rattle.tt_glyphs.specs.Lists.{IsTriedList}
-use Rattle.tt_glyphs.specs.Requests.{GlyphJob, job_for, request_begun}
+use Rattle.tt_glyphs.specs.Requests.{job_for, request_begun}
 use Rattle.tt_glyphs.proofs.ListOutcomes.{drawing_tells, drawn_defects, drawn_gives, drawn_tells, stops, stops_tell}
 use Rattle.tt_glyphs.proofs.list.BitmapList.make.Goals.{In_ok-tried}
 use Rattle.tt_glyphs.proofs.list.BitmapList.make.Goals as goal
@@ -35,11 +35,11 @@ returns-in_err-tried-clause-job c =
     let p = err_from_is_err_and c.from_residual.result c.from_residual.ensures.1 in
     rw (p.1, p.2) (stops_tell c.args.face.now a c.in_err-tried.field-0.0 c.in_err-tried.ensures.stops)
 
-pub drawn_from-requires-clause-tried : goal.drawn_from-requires-clause-tried
-drawn_from-requires-clause-tried c =
+pub drawn_from-requires : goal.drawn_from-requires
+drawn_from-requires c =
     let a = job_for c.args.glyphs.now c.args.ppem c.args.fit in
-    let is = begun (goal.at.drawn_from-requires-clause-tried c).In_ok-tried in
-    (c.args.face.now, a, is.0, is.2, refl)
+    let is = begun (goal.at.drawn_from-requires c).In_ok-tried in
+    record { tried = (c.args.face.now, a, is.0, is.2, refl) }
 
 pub returns-clause-exact : goal.returns-clause-exact
 returns-clause-exact c =

@@ -1,19 +1,16 @@
-use Rattle.std.proofs.Common.{◌≡◌, ◌∙◌, List, ap, refl, sym, Ok}
+use Rattle.std.proofs.Common.{◌≡◌, ◌∙◌, ℕ, List, ap, refl, sym, Ok}
 use Rattle.std.proofs.lemmas.Result.{err_from_is_err_and}
 use Rattle.tt_fit.specs.Fitting.{Fitter}
 use Rattle.tt_picture.proofs.Places.{ok_and}
-use Rattle.tt_strike.specs.Defects.{IsSettingDefect}
-use Rattle.tt_strike.specs.Makers.{job_at}
 use Rattle.tt_fit_outline.specs.Outline.{Outline}
 use Rattle.tt_metrics.specs.Metrics.{glyphs_of}
-use Rattle.tt_picture.specs.Distinct.{distinct}
 use Rattle.tt_picture.specs.Steps.{outlines_by}
 use Rattle.tt_strike.specs.Picture.{outlines_in}
 use Rattle.tt_strike.specs.Work.{line_fitter}
 use Rattle.tt_glyphs.specs.Defects.{IsListDefect}
 use Rattle.tt_glyphs.specs.Entries.{known}
 use Rattle.tt_glyphs.specs.Lists.{IsTriedList}
-use Rattle.tt_glyphs.specs.Requests.{GlyphJob, job_for, request_begun}
+use Rattle.tt_glyphs.specs.Requests.{job_for, request_begun}
 use Rattle.tt_glyphs.proofs.ListFacts.{list_defect, no_list_defect}
 use Rattle.tt_glyphs.proofs.ListOutcomes.{drawing_tells, drawn_sound, drawn_tells, metrics_of, refused_gives, sound_gives, stops_defect, stops_sound, stops_tell}
 use Rattle.tt_glyphs.proofs.list.BitmapList.make_sound.Goals.{In_ok-test_outlines, In_ok-tried}
@@ -27,14 +24,17 @@ begun c =
     let a = job_for c.args.glyphs.now c.args.ppem c.args.fit in
     ok_and (request_begun c.args.face.now a) (λ s. IsTriedList c.args.face.now a s c.in_ok-tried.tried) c.in_ok-tried.ensures.tried
 
+made_of : (maker : ℕ → Fitter) (ns gs : List ℕ) → ns ≡ gs → (os : List Outline) × (outlines_by maker ns ≡ Ok os)
+    → (os : List Outline) × (outlines_by maker gs ≡ Ok os)
+made_of maker ns gs same there = (there.0, sym (ap (outlines_by maker) same) ∙ there.1)
+
 -- and none of its outlines is refused
 made : (c : In_ok-test_outlines) (s : Fitter)
     → IsTriedList c.args.face.now (job_for c.args.glyphs.now c.args.ppem c.args.fit) s c.in_ok-tried.tried
     → (os : List Outline) × (outlines_in s (known s c.args.glyphs.now) ≡ Ok os)
 made c s is =
     let maker = line_fitter s (known s c.args.glyphs.now) in
-    let there = (rw c.deref.ensures.value at c.in_ok-test_outlines.ensures.sound) maker is.tried in
-    (there.0, sym (ap (outlines_by maker) is.numbers) ∙ there.1)
+    made_of maker _ _ is.numbers ((rw c.deref.ensures.value at c.in_ok-test_outlines.ensures.sound) maker is.tried)
 
 pub returns-in_err-tried-clause-exact : goal.returns-in_err-tried-clause-exact
 returns-in_err-tried-clause-exact c =
@@ -79,11 +79,11 @@ returns-in_err-test_outlines-clause-job c =
     let p = err_from_is_err_and c.from_residual-in_err-test_outlines.result c.from_residual-in_err-test_outlines.ensures.1 in
     rw (p.1, p.2) tt
 
-pub drawn_from-requires-clause-tried : goal.drawn_from-requires-clause-tried
-drawn_from-requires-clause-tried c =
+pub drawn_from-requires : goal.drawn_from-requires
+drawn_from-requires c =
     let a = job_for c.args.glyphs.now c.args.ppem c.args.fit in
-    let is = begun (goal.at.drawn_from-requires-clause-tried c).In_ok-tried in
-    (c.args.face.now, a, is.0, is.2, refl)
+    let is = begun (goal.at.drawn_from-requires c).In_ok-tried in
+    record { tried = (c.args.face.now, a, is.0, is.2, refl) }
 
 pub returns-clause-exact : goal.returns-clause-exact
 returns-clause-exact c =

@@ -1,8 +1,7 @@
-use Rattle.std.proofs.Common.{◌≡◌, ◌∙◌, ℕ, ◌+◌, ◌-◌, ◌<◌, ◌≤◌, sym, ap, drop, get_or, length, set, take, arith, get_or-set_other, length-drop, length-take-le}
+use Rattle.std.proofs.Common.{◌≡◌, ◌∙◌, ◌+◌, ◌-◌, ◌<◌, ◌≤◌, sym, ap, drop, get_or, length, take, arith, get_or-set_other, length-drop, length-take-le}
 use Rattle.std.specs.List.{flat_map, sum_by}
 use Rattle.std.proofs.lemmas.List.{get_or_default, length-set, take_all}
 use Rattle.std.proofs.lemmas.Slice.{drop-put_mid}
-use Rattle.tt_glyphs.specs.declared.drawing.DrawnGlyph.{DrawnGlyph}
 use Rattle.tt_glyphs.specs.Drawn.{DrawnFits, drawn_rows}
 use Rattle.tt_glyphs.specs.Requests.{Bitmaps}
 use Rattle.tt_glyphs.proofs.RowsWritten.{bytes_of, bytes_within, drawn_length, next_bytes, next_rows}
@@ -75,3 +74,6 @@ returns-clause-rows c =
     let at : c.loop-i.at ≡ c.self.inside.wanted = so_far.at ∙ ap (sum_by bytes_of) whole ∙ sym c.self.invariant.2 in
     let rows : take c.loop-i.at c.loop-i.room ≡ flat_map drawn_rows ds = so_far.rows ∙ ap (flat_map drawn_rows) whole in
     rw (← c.self.view_is) (rw at at rows)
+
+pub returns-clause-len : goal.returns-clause-len
+returns-clause-len c = c.loop-i.invariant.len

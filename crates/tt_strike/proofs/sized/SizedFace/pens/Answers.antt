@@ -4,13 +4,13 @@ use Rattle.tt_core.specs.declared.draw_fault.DrawFault.{DrawFault}
 use Rattle.tt_face.specs.Faces.{Face}
 use Rattle.tt_fit.specs.declared.programs.Fit.{Fit}
 use Rattle.tt_line.specs.Layout.{text_glyphs}
-use Rattle.tt_strike.specs.declared.layouts.Pen.{Pen}
+use Rattle.tt_strike.specs.declared.layouts.TextPens.{TextPens}
 use Rattle.tt_strike.specs.Defects.{IsLineDefect}
 use Rattle.tt_strike.specs.Job.{Job, tested}
 use Rattle.tt_strike.specs.Layouts.{steps_outcome}
 use Rattle.tt_strike.specs.Strikes.{SizedFace, job_by}
 use Rattle.tt_strike.specs.Work.{is_bounded}
-use Rattle.tt_strike.proofs.TextSteps.{no_defect_of_job, pens_are, size_stops_pens, sound_on, steps_fit, steps_stop_pens, test_stops_pens, told_on}
+use Rattle.tt_strike.proofs.TextSteps.{layout_is, no_defect_of_job, pens_are, size_stops_pens, sound_on, steps_fit, steps_stop_pens, test_stops_pens, told_on}
 use Rattle.tt_strike.proofs.Stopped.{tested_at}
 use Rattle.tt_strike.proofs.sized.SizedFace.pens.Goals.{In_ok-test_text}
 use Rattle.tt_strike.proofs.sized.SizedFace.pens.Goals as goal
@@ -74,29 +74,29 @@ returns-in_err-steps-clause-defects c =
     told_on (is_bounded z.fit) IsOne r c.from_residual-in_err-steps.result c.in_err-steps.field-0.0 refl
     (rw (p.1, p.2) refl) c.in_err-steps.ensures.defects
 
-pub returns-in_err-size_by_steps-clause-exact : goal.returns-in_err-size_by_steps-clause-exact
+pub returns-in_err-size-clause-exact : goal.returns-in_err-size-clause-exact
 unfolding steps_outcome
-returns-in_err-size_by_steps-clause-exact c =
+returns-in_err-size-clause-exact c =
     let z : SizedFace = record { face = c.self.inside.source.face.now; ppem = c.self.inside.source.ppem; fit = c.self.inside.source.fit } in
     let a = job_by z c.args.text.now c.args.margin in
-    let p = err_from_is_err_and c.from_residual-in_err-size_by_steps.result c.from_residual-in_err-size_by_steps.ensures.1 in
+    let p = err_from_is_err_and c.from_residual-in_err-size.result c.from_residual-in_err-size.ensures.1 in
     let made = rw (← c.self.view_is) at c.in_ok-steps.ensures.exact in
-    let refused = rw (c.metrics.ensures, c.deref.ensures.value) at c.in_err-size_by_steps.ensures.exact in
-    rw (p.1, p.2, ← c.self.view_is) (size_stops_pens z.face a c.in_ok-steps.steps.items c.in_err-size_by_steps.field-0.0
-    (passed (goal.at.returns-in_err-size_by_steps-clause-exact c).In_ok-test_text) made refused)
+    let refused = rw (c.metrics.ensures, c.deref.ensures.value) at c.in_err-size.ensures.exact in
+    rw (p.1, p.2, ← c.self.view_is) (size_stops_pens z.face a c.in_ok-steps.steps.items c.in_err-size.field-0.0
+    (passed (goal.at.returns-in_err-size-clause-exact c).In_ok-test_text) made refused)
 
-pub returns-in_err-size_by_steps-clause-defects : goal.returns-in_err-size_by_steps-clause-defects
-returns-in_err-size_by_steps-clause-defects c =
-    let p = err_from_is_err_and c.from_residual-in_err-size_by_steps.result c.from_residual-in_err-size_by_steps.ensures.1 in
-    no_defect_of_job c.args.self.now c.args.text.now c.args.margin c.from_residual-in_err-size_by_steps.result
-    c.in_err-size_by_steps.field-0.0 (rw (p.1, p.2) refl)
+pub returns-in_err-size-clause-defects : goal.returns-in_err-size-clause-defects
+returns-in_err-size-clause-defects c =
+    let p = err_from_is_err_and c.from_residual-in_err-size.result c.from_residual-in_err-size.ensures.1 in
+    no_defect_of_job c.args.self.now c.args.text.now c.args.margin c.from_residual-in_err-size.result
+    c.in_err-size.field-0.0 (rw (p.1, p.2) refl)
 
 pub pens_at-requires-clause-fits : goal.pens_at-requires-clause-fits
 pens_at-requires-clause-fits c =
     let source = c.self.inside.source in
-    let sized = rw (c.metrics.ensures, c.deref.ensures.value) at c.in_ok-size_by_steps.ensures.exact in
+    let sized = rw (c.metrics.ensures, c.deref.ensures.value) at c.in_ok-size.ensures.exact in
     rw c.deref-2.ensures.value (steps_fit source.face.now.metrics source.ppem c.args.margin
-    (sum (map (λ (g : ℕ × ℕ). g.1) c.in_ok-steps.steps.items)) c.in_ok-size_by_steps.field-0 sized c.in_ok-size_by_steps.ensures.width)
+    (sum (map (λ (g : ℕ × ℕ). g.1) c.in_ok-steps.steps.items)) c.in_ok-size.size sized c.in_ok-size.ensures.width)
 
 pub returns-clause-exact : goal.returns-clause-exact
 unfolding steps_outcome
@@ -104,15 +104,27 @@ returns-clause-exact c =
     let z : SizedFace = record { face = c.self.inside.source.face.now; ppem = c.self.inside.source.ppem; fit = c.self.inside.source.fit } in
     let a = job_by z c.args.text.now c.args.margin in
     let made = rw (← c.self.view_is) at c.in_ok-steps.ensures.exact in
-    let sized = rw (c.metrics.ensures, c.deref.ensures.value) at c.in_ok-size_by_steps.ensures.exact in
-    let pens = rw (c.cmap.ensures.exact, c.deref-2.ensures.value) at c.in_ok-pens_at.ensures in
-    rw (← c.self.view_is) (pens_are z.face a c.in_ok-steps.steps.items c.in_ok-size_by_steps.field-0
+    let sized = rw (c.metrics.ensures, c.deref.ensures.value) at c.in_ok-size.ensures.exact in
+    let pens = rw (c.cmap-cmap.ensures.exact, c.deref-2.ensures.value) at c.in_ok-pens.ensures in
+    rw (← c.self.view_is) (pens_are z.face a c.in_ok-steps.steps.items c.in_ok-size.size
     (passed (goal.at.returns-clause-exact c).In_ok-test_text) made sized ∙ rw pens refl)
+
+pub returns-clause-layout : goal.returns-clause-layout
+unfolding steps_outcome
+returns-clause-layout c =
+    let z : SizedFace = record { face = c.self.inside.source.face.now; ppem = c.self.inside.source.ppem; fit = c.self.inside.source.fit } in
+    let a = job_by z c.args.text.now c.args.margin in
+    let made = rw (← c.self.view_is) at c.in_ok-steps.ensures.exact in
+    let sized = rw (c.metrics.ensures, c.deref.ensures.value) at c.in_ok-size.ensures.exact in
+    rw (← c.self.view_is, c.layout_by-layout.ensures, c.cmap-cmap.ensures.exact)
+    (layout_is z.face a c.in_ok-steps.steps.items c.in_ok-size.size
+    (passed (goal.at.returns-clause-layout c).In_ok-test_text) made sized)
 
 pub returns-clause-defects : goal.returns-clause-defects
 returns-clause-defects c =
     let z = c.args.self.now in
     let IsOne = IsLineDefect z.face (job_by z c.args.text.now c.args.margin) (text_glyphs z.face.cmap c.args.text.now) in
     let r : Result (Vec (ℕ × ℕ) Global) DrawFault = Ok c.in_ok-steps.steps in
-    let q : Result (Vec Pen Global) DrawFault = Ok c.in_ok-pens_at.field-0 in
-    sound_on (is_bounded z.fit) IsOne r q c.in_ok-steps.steps c.in_ok-pens_at.field-0 refl refl c.in_ok-steps.ensures.defects
+    let made : TextPens = record { layout = c.layout_by-layout.result; pens = c.in_ok-pens.pens } in
+    let q : Result TextPens DrawFault = Ok made in
+    sound_on (is_bounded z.fit) IsOne r q c.in_ok-steps.steps made refl refl c.in_ok-steps.ensures.defects
