@@ -55,6 +55,18 @@ impl<'a> Kerning<'a> {
         }
     }
 
+    /// A copy, with the pair subtables that were found. The tables' bytes are not copied.
+    pub fn copy(&self) -> Kerning<'a>
+        ensures { result ≡ self.now }
+    {
+        Kerning {
+            gpos: self.gpos,
+            kern: self.kern,
+            feature: self.feature,
+            pairs: self.pairs.copy(),
+        }
+    }
+
     /// The kerning of two neighbouring glyphs, in font units: how much farther the second stands. At most 5,120 numbers
     /// are read.
     pub fn kerning(&self, left: u16, right: u16) -> i32

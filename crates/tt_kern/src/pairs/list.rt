@@ -53,6 +53,15 @@ impl PairList {
         }
     }
 
+    pub(crate) fn copy(&self) -> PairList
+        ensures { result ≡ self.now }
+    {
+        PairList {
+            subtables: self.subtables,
+            count: self.count,
+        }
+    }
+
     pub(crate) fn count(&self) -> usize
         ensures exact { result ≡ length self.now }
         ensures bound { result ≤ 64 }
