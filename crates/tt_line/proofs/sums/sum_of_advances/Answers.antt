@@ -1,12 +1,11 @@
-use Rattle.std.proofs.Common.{◌≡◌, ◌<◌, ◌∙◌, [], ◌∷◌, ◌++◌, length, map, sum, chars, refl, sym, arith, rules}
-use Rattle.std.proofs.lemmas.List.{map_push, length_push}
-use Rattle.std.proofs.lemmas.List.Sums.{sum_by_push}
+use Rattle.std.proofs.Common.{◌≡◌, ◌<◌, ◌∙◌, length, chars, arith, rules}
+use Rattle.std.proofs.lemmas.List.{length_push}
 use Rattle.tt_cmap.specs.Maps.{glyph_of_unit, has_pairs, units_by}
 use Rattle.tt_cmap.proofs.UnitLaws.{units-are-few}
 use Rattle.tt_line.specs.Layout.{advance_in_pixels}
 use Rattle.tt_line.proofs.Pens.{next_pen}
 use Rattle.tt_line.proofs.Walks.{at-the-end, goes-on, some-left}
-use Rattle.tt_line.proofs.layout.sum_of_advances.Goals as goal
+use Rattle.tt_line.proofs.sums.sum_of_advances.Goals as goal
 
 pub overflow_add-sum : goal.overflow_add-sum
 overflow_add-sum c =
