@@ -1,6 +1,6 @@
 //! The four tables together.
 
-ghost use Rattle.std.specs.Prelude.{◌≡◌, ◌^◌, ◌<◌, ◌≤◌, is_some, Some, IsTrue, IfOk, IfErr, OnOk, unsigned_abs};
+ghost use Rattle.std.specs.Prelude.{◌≡◌, ◌^◌, ◌<◌, ◌≤◌, is_some, IsTrue, IfOk, IfErr, OnOk, unsigned_abs};
 ghost use Rattle.tt_core.specs.Directory.{HasNo};
 ghost use Rattle.tt_core.specs.Outcomes.{Gives};
 ghost use Rattle.tt_metrics.specs.Head.{smallest_em, largest_em};
@@ -81,11 +81,11 @@ impl<'a> Metrics<'a> {
         self.heights = heights;
     }
 
-    /// Kerns neighbouring glyphs from now on.
-    pub fn set_kerning(&mut self, kerning: Kerning<'a>)
-        ensures { self.new ≡ record self.old { kerning = Some kerning.entry } }
+    /// Kerns neighbouring glyphs by these tables from now on, or kerns none.
+    pub fn set_kerning(&mut self, kerning: Option<Kerning<'a>>)
+        ensures { self.new ≡ record self.old { kerning = kerning.entry } }
     {
-        self.kerning = Some(kerning);
+        self.kerning = kerning;
     }
 
     /// A copy of the metrics. The tables' bytes are not copied.
