@@ -1,7 +1,7 @@
 -- The face of a font file, its defects, and the lemmas about both. With the strict reading a file has one font; the wide
 -- reading says which face of the file is meant. Apple TrueType Reference Manual, "The Font Directory"; OpenType, "Font
 -- Tables", "TrueType Collections".
-use Rattle.std.specs.Prelude.{◌≡◌, refl, ℕ, List, [], ◌∷◌, Result, Ok, Err, IsOkAnd, ◌⊎◌}
+use Rattle.std.specs.Prelude.{◌≡◌, refl, ℕ, false, List, [], ◌∷◌, Result, Ok, Err, IsOkAnd, ◌⊎◌}
 use Rattle.tt_cmap.specs.Lookup.{cmap_of}
 use Rattle.tt_cmap.specs.Maps.{strict, map_by, glyph_by, IsBadMap}
 use Rattle.tt_core.specs.Collections.{directory_by, IsDirectoryDefectBy}
@@ -13,7 +13,10 @@ use Rattle.tt_core.specs.Faults.{Fault, file_fault}
 use Rattle.tt_core.specs.Outcomes.{◌>>=◌}
 use Rattle.tt_metrics.specs.Metrics.{glyphs_of, metrics_of, IsMetricsDefect}
 use Rattle.tt_face.specs.Defects.{IsDefectAt}
+use Rattle.tt_metrics.specs.declared.heights.Heights.TheVariants.{Exact}
+use Rattle.tt_face.specs.declared.rules.LineRules.{LineRules}
 use Rattle.tt_face.specs.Faces.{Face, cmap_tag}
+use Rattle.tt_face.specs.Rules.{ruled}
 
 -- the face of a file, or the file's first fault in the order of reading (profile)
 unfoldable pub face_of : List ℕ → Result Face Fault
@@ -81,6 +84,13 @@ WideFacesExtend = (file : List ℕ) (face : Face) → face_of file ≡ Ok face �
 -- the strict reading gives the face of the file's only font
 abbrev pub StrictIsTheFace : Type 0
 StrictIsTheFace = (file : List ℕ) → face_by file reading.Strict ≡ face_of file
+
+-- a face that is opened has exact heights and no kerning, and keeps them by these rules
+abbrev pub plain_rules : LineRules
+plain_rules = record { heights = Exact; kerned = false }
+
+abbrev pub PlainRulesKeepFaces : Type 0
+PlainRulesKeepFaces = (file : List ℕ) (r : Reading) (face : Face) → face_by file r ≡ Ok face → ruled plain_rules face ≡ face
 
 -- worked values: a file of 11 bytes, one too few for a directory
 a_short_file : face_of (0 ∷ 1 ∷ 0 ∷ 0 ∷ 0 ∷ 1 ∷ 0 ∷ 0 ∷ 0 ∷ 0 ∷ 0 ∷ []) ≡ Err (file_fault 11 why.DirShort)
