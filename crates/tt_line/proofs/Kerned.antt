@@ -9,7 +9,7 @@ use Rattle.tt_line.proofs.Stepped.{length-stepped, stepped_at}
 abbrev pub numbers : List (ℕ × ℕ) → List ℕ
 numbers ps = map (λ (p : ℕ × ℕ). p.0) ps
 
-drop-numbers : (n : ℕ) (ps : List (ℕ × ℕ)) → drop n (numbers ps) ≡ map (λ (p : ℕ × ℕ). p.0) (drop n ps)
+pub drop-numbers : (n : ℕ) (ps : List (ℕ × ℕ)) → drop n (numbers ps) ≡ map (λ (p : ℕ × ℕ). p.0) (drop n ps)
 drop-numbers zero ps = refl
 drop-numbers (suc n) [] = refl
 drop-numbers (suc n) (p ∷ ps) = drop-numbers n ps

@@ -80,6 +80,11 @@ looks-ahead m ppem (g ∷ []) more (suc i) within = absurd (omega (arith, within
 looks-ahead m ppem (g ∷ h ∷ gs) more (suc i) within =
     ap (λ (ps : List (ℕ × ℕ)). (g, step_in_pixels m ppem g (kerning_of m g h)) ∷ ps) (looks-ahead m ppem (h ∷ gs) more i (omega (arith, within)))
 
+-- glyphs beside numbers are the glyphs
+pub numbers_beside : (f : ℕ → ℕ) (gs : List ℕ) → map (λ (p : ℕ × ℕ). p.0) (map (λ (g : ℕ). (g, f g)) gs) ≡ gs
+numbers_beside f [] = refl
+numbers_beside f (g ∷ gs) = ap (λ (hs : List ℕ). g ∷ hs) (numbers_beside f gs)
+
 -- two lines of the same glyphs: where those of one are known, so are those of the other
 pub known_alike : (n : ℕ) (ps qs : List (ℕ × ℕ)) → map (λ (p : ℕ × ℕ). p.0) ps ≡ map (λ (p : ℕ × ℕ). p.0) qs
     → All (λ (p : ℕ × ℕ). p.0 < n) ps → All (λ (p : ℕ × ℕ). p.0 < n) qs

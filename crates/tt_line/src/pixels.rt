@@ -70,7 +70,7 @@ pub(crate) fn rounded(units: i64, em: u16) -> u32
 }
 
 /// Pixels from the base line up to the ascent.
-pub(crate) fn rise(metrics: &Metrics, ppem: u32) -> i32
+pub fn rise(metrics: &Metrics, ppem: u32) -> i32
     requires size { ppem ≤ size_limit }
     ensures exact { result ≡ rise_of metrics.now ppem }
     ensures bound { unsigned_abs result ≤ 614400 }
@@ -80,7 +80,7 @@ pub(crate) fn rise(metrics: &Metrics, ppem: u32) -> i32
 }
 
 /// Pixels from the base line down to the descent.
-pub(crate) fn depth(metrics: &Metrics, ppem: u32) -> i32
+pub fn depth(metrics: &Metrics, ppem: u32) -> i32
     requires size { ppem ≤ size_limit }
     ensures exact { result ≡ depth_of metrics.now ppem }
     ensures bound { unsigned_abs result ≤ 614400 }

@@ -16,14 +16,17 @@ use std::alloc::{AllocError, Global};
 use tt_core::JobFault;
 use tt_metrics::Metrics;
 
-/// The glyph of each unit of a text with its advance in pixels. Error: Memory.
-fn advances(
+/// The glyph of each unit of a text with its advance in pixels, without kerning. Error: Memory.
+pub fn unit_advances(
     alloc: Global,
     known: &mut KnownAdvances,
     text: &str,
 ) -> Result<Vec<(u16, u32)>, AllocError>
+    requires text { length (chars text.now) ≤ text_limit }
     ensures exact { IfOk result (λ v. v.items ≡ map (λ g. (g, advance_in_pixels known.old.metrics known.old.ppem g)) (text_glyphs known.old.cmap text.now)) }
+    ensures glyphs { IfOk result (λ v. map (λ p. p.0) v.items ≡ text_glyphs known.old.cmap text.now) }
     ensures known { IfOk result (λ v. All (λ p. p.0 < glyphs_of known.old.metrics) v.items) }
+    ensures few { IfOk result (λ v. length v.items ≤ text_limit) }
     ensures memory { IfErr result (λ e. 0 < length (chars text.now)) }
     ensures same { known.new ≡ known.old }
 {
@@ -37,8 +40,8 @@ fn advances(
     Ok(glyphs)
 }
 
-/// The kerning of a glyph of a line with the next one.
-fn kerning_at(metrics: &Metrics, line: &[(u16, u32)], i: usize) -> i32
+/// The kerning of a glyph of a line with the next one, in font units; the last glyph has none.
+pub fn kerning_at(metrics: &Metrics, line: &[(u16, u32)], i: usize) -> i32
     requires { i < length line.now }
     ensures exact { result ≡ kerning_before metrics.now (get_or line.now i (0, 0)).0 (map (λ p. p.0) (drop (i + 1) line.now)) }
     ensures bound { unsigned_abs result ≤ 2 ^ 20 }
@@ -77,7 +80,7 @@ pub fn advance_steps(
     ensures memory { IfErr result (λ e. 0 < length (chars text.now)) }
     ensures same { known.new ≡ known.old }
 {
-    let mut line = advances(alloc, known, text)?;
+    let mut line = unit_advances(alloc, known, text)?;
     let metrics = known.metrics();
     if metrics.has_kerning() {
         kern(metrics, known.ppem(), &mut line);

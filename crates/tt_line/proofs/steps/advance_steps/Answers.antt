@@ -1,25 +1,20 @@
-use Rattle.std.proofs.Common.{◌≡◌, ◌∙◌, ℕ, false, List, [], ◌∷◌, Option, Some, None, ap, chars, length, map, refl, sym, arith}
+use Rattle.std.proofs.Common.{◌≡◌, ◌∙◌, ℕ, false, Option, Some, None, ap, chars, length, map, refl, sym, arith}
 use Rattle.std.proofs.lemmas.List.{length-map, with_items_is}
 use Rattle.std.specs.Option.{is_some}
 use Rattle.tt_cmap.specs.Maps.{glyph_of_unit, has_pairs, units_by}
 use Rattle.tt_cmap.proofs.UnitLaws.{units-are-few}
 use Rattle.tt_kern.specs.Kerning.{Tables}
-use Rattle.tt_metrics.specs.Metrics.{Metrics, glyphs_of}
+use Rattle.tt_metrics.specs.Metrics.{glyphs_of}
 use Rattle.tt_line.specs.Known.{Source}
 use Rattle.tt_line.specs.Layout.{advance_in_pixels, text_glyphs}
 use Rattle.tt_line.specs.Steps.{step_in_pixels}
-use Rattle.tt_line.proofs.Stepped.{firsts, known_alike, length-stepped, unkerned_line}
+use Rattle.tt_line.proofs.Stepped.{firsts, known_alike, length-stepped, numbers_beside, unkerned_line}
 use Rattle.tt_line.proofs.steps.advance_steps.Goals.{then-has_kerning, else-has_kerning}
 use Rattle.tt_line.proofs.steps.advance_steps.Goals as goal
 
 off : (kerning : Option Tables) → false ≡ is_some kerning → kerning ≡ None
 off None none = refl
 off (Some tables) none = absurd cc
-
--- the glyphs with their advances are the glyphs
-glyphs_of_advances : (m : Metrics) (ppem : ℕ) (gs : List ℕ) → map (λ (p : ℕ × ℕ). p.0) (map (λ (g : ℕ). (g, advance_in_pixels m ppem g)) gs) ≡ gs
-glyphs_of_advances m ppem [] = refl
-glyphs_of_advances m ppem (g ∷ gs) = ap (λ (hs : List ℕ). g ∷ hs) (glyphs_of_advances m ppem gs)
 
 pub returns-clause-exact : goal.returns-clause-exact
 returns-clause-exact c = elim c.if-has_kerning.branch [
@@ -28,7 +23,7 @@ returns-clause-exact c = elim c.if-has_kerning.branch [
       let made = c.in_ok-line.ensures.exact in
       let metrics : c.metrics-metrics.result.now ≡ c.args.known.now.metrics = c.metrics-metrics.ensures ∙ ap (λ (s : Source). s.metrics) c.in_ok-line.ensures.same in
       let size : w.ppem.result ≡ c.args.known.now.ppem = w.ppem.ensures.exact ∙ ap (λ (s : Source). s.ppem) c.in_ok-line.ensures.same in
-      let new = rw (items, made, metrics, size, glyphs_of_advances c.args.known.now.metrics c.args.known.now.ppem (text_glyphs c.args.known.now.cmap c.args.text.now)) at w.kern.ensures in
+      let new = rw (items, made, metrics, size, numbers_beside (advance_in_pixels c.args.known.now.metrics c.args.known.now.ppem) (text_glyphs c.args.known.now.cmap c.args.text.now)) at w.kern.ensures in
       let count : length w.kern.new.line ≡ c.in_ok-line.line.len =
       ap length w.kern.ensures
       ∙ length-stepped c.metrics-metrics.result.now (step_in_pixels c.metrics-metrics.result.now w.ppem.result) (map (λ (p : ℕ × ℕ). p.0) w.deref_mut.result.now)
@@ -57,7 +52,6 @@ pub returns-clause-known : goal.returns-clause-known
 returns-clause-known c =
     let m = c.args.known.now.metrics in
     let gs = text_glyphs c.args.known.now.cmap c.args.text.now in
-    let before : map (λ (p : ℕ × ℕ). p.0) c.in_ok-line.line.items ≡ gs = ap (λ (ps : List (ℕ × ℕ)). map (λ (p : ℕ × ℕ). p.0) ps) c.in_ok-line.ensures.exact
-    ∙ glyphs_of_advances m c.args.known.now.ppem gs in
+    let before : map (λ (p : ℕ × ℕ). p.0) c.in_ok-line.line.items ≡ gs = c.in_ok-line.ensures.glyphs in
     let after = returns-clause-glyphs c in
     known_alike (glyphs_of m) c.in_ok-line.line.items c.if-has_kerning.line.items (before ∙ sym after) c.in_ok-line.ensures.known

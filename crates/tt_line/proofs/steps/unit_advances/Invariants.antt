@@ -2,7 +2,7 @@ use Rattle.std.proofs.Common.{◌≡◌, ◌<◌, All, map, ◌++◌, chars}
 use Rattle.tt_cmap.specs.Maps.{glyph_of_unit, units_by}
 use Rattle.tt_line.specs.Layout.{advance_in_pixels}
 use Rattle.tt_metrics.specs.Metrics.{glyphs_of}
-use Rattle.tt_line.proofs.steps.advances.Given as goal
+use Rattle.tt_line.proofs.steps.unit_advances.Given as goal
 
 -- the units so far
 abbrev pub invariant-loop-unit : goal.invariant-loop-unit

@@ -1,13 +1,14 @@
-use Rattle.std.proofs.Common.{◌≡◌, ◌<◌, ◌∙◌, ◌⊎◌, inl, inr, ℕ, IsUtf8, List, [], ◌∷◌, ◌++◌, chars, length, map, refl, sym, Result, Ok, Err, IfErr, arith}
-use Rattle.std.proofs.lemmas.List.{map_push}
+use Rattle.std.proofs.Common.{◌≡◌, ◌<◌, ◌∙◌, ◌⊎◌, inl, inr, ap, ℕ, IsUtf8, List, [], ◌∷◌, ◌++◌, chars, length, map, refl, sym, Result, Ok, Err, IfErr, arith}
+use Rattle.std.proofs.lemmas.List.{length-map, map_push}
 use Rattle.std.proofs.lemmas.List.Elements.{All-push}
 use Rattle.std.proofs.lemmas.Str.{encodes-chars}
 use Rattle.tt_cmap.specs.Maps.{glyph_of_unit, has_pairs, units_by}
 use Rattle.tt_cmap.proofs.UnitLaws.{units-are-few}
 use Rattle.tt_metrics.specs.Metrics.{glyphs_of}
-use Rattle.tt_line.specs.Layout.{advance_in_pixels}
+use Rattle.tt_line.specs.Layout.{advance_in_pixels, text_glyphs}
+use Rattle.tt_line.proofs.Stepped.{numbers_beside}
 use Rattle.tt_line.proofs.Walks.{at-the-end, goes-on, some-left}
-use Rattle.tt_line.proofs.steps.advances.Goals as goal
+use Rattle.tt_line.proofs.steps.unit_advances.Goals as goal
 
 pub loop-unit-preserved : goal.loop-unit-preserved
 loop-unit-preserved c =
@@ -62,3 +63,17 @@ returns-in_err-reserve-clause-memory c =
     let bytes : 0 < length t = omega (arith, c.in_err-reserve.ensures.full) in
     some_characters c.from_residual.result (length (chars t))
     (some_in_text t c.utf8.text bytes)
+
+pub returns-clause-glyphs : goal.returns-clause-glyphs
+returns-clause-glyphs c =
+    rw (returns-clause-exact c) (numbers_beside (advance_in_pixels c.args.known.now.metrics c.args.known.now.ppem) (text_glyphs c.args.known.now.cmap c.args.text.now))
+
+pub returns-clause-few : goal.returns-clause-few
+returns-clause-few c =
+    let m = c.args.known.now.cmap in
+    let us = units_by m (chars c.args.text.now) in
+    let glyphs = text_glyphs m c.args.text.now in
+    let f : ℕ → ℕ × ℕ = λ n. (n, advance_in_pixels c.args.known.now.metrics c.args.known.now.ppem n) in
+    let many = ap length (returns-clause-exact c) ∙ length-map glyphs f ∙ length-map us (glyph_of_unit m) in
+    let few = units-are-few (has_pairs m) (chars c.args.text.now) in
+    rw many (omega (arith, few, c.requires.text))
