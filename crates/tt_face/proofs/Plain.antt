@@ -1,5 +1,5 @@
 -- A face that is opened has exact heights and no kerning.
-use Rattle.std.proofs.Common.{◌≡◌, refl, ap, Ok, None}
+use Rattle.std.proofs.Common.{◌≡◌, refl, ap, ℕ, List, Result, Ok, Err, None}
 use Rattle.tt_cmap.specs.Maps.{map_by}
 use Rattle.tt_core.specs.Chains.{came-through}
 use Rattle.tt_core.specs.Collections.{directory_by}
@@ -12,7 +12,9 @@ use Rattle.tt_metrics.specs.Hmtx.{hmtx_of}
 use Rattle.tt_metrics.specs.Maxp.{maxp_of}
 use Rattle.tt_metrics.specs.Metrics.{Metrics, glyphs_of, metrics_of}
 use Rattle.tt_face.specs.Faces.{Face, cmap_tag}
-use Rattle.tt_face.specs.Files.{face_at, face_by, plain_rules, PlainRulesKeepFaces}
+use Rattle.tt_core.specs.Faults.{Fault}
+use Rattle.tt_core.specs.Outcomes.{◌>>=◌}
+use Rattle.tt_face.specs.Files.{face_at, face_by, face_with, plain_rules, PlainRulesKeepFaces, RulesKeepFaults}
 use Rattle.tt_face.specs.Rules.{ruled}
 
 plain : (d : Directory) (m : Metrics) → metrics_of d ≡ Ok m → record m { heights = Exact; kerning = None } ≡ m
@@ -44,8 +46,21 @@ tables-keep d r face was =
     let same = plain d by_metrics.value by_metrics.first in
     rw (← is) (ap (λ (m : Metrics). record { directory = d; metrics = m; cmap = by_map.value }) same)
 
-pub plain-rules-keep : PlainRulesKeepFaces
+given-keep : (file : List ℕ) (r : Reading) (face : Face) → face_by file r ≡ Ok face → ruled plain_rules face ≡ face
 unfolding face_by
-plain-rules-keep file r face was =
+given-keep file r face was =
     let by_directory = came-through (directory_by file r) _ face was in
     tables-keep by_directory.value r face by_directory.rest
+
+kept-by : (given : Result Face Fault) → ((face : Face) → given ≡ Ok face → ruled plain_rules face ≡ face)
+    → (given >>= λ face. Ok (ruled plain_rules face)) ≡ given
+kept-by (Ok face) keep = ap Ok (keep face refl)
+kept-by (Err fault) keep = refl
+
+pub plain-rules-keep : PlainRulesKeepFaces
+unfolding face_with
+plain-rules-keep file r = kept-by (face_by file r) (given-keep file r)
+
+pub rules-keep-faults : RulesKeepFaults
+unfolding face_with
+rules-keep-faults file r rules fault is = rw is refl

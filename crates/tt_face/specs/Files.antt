@@ -39,6 +39,10 @@ face_at directory r = do
 unfoldable pub face_by : List ℕ → Reading → Result Face Fault
 face_by file r = directory_by file r >>= λ directory. face_at directory r
 
+-- the face of a file by a reading, whose lines are laid out by some rules, or the file's first fault
+unfoldable pub face_with : List ℕ → Reading → LineRules → Result Face Fault
+face_with file r rules = face_by file r >>= λ face. Ok (ruled rules face)
+
 -- a defect of a file's directory, or of a table needed for every text
 abbrev pub IsFaceDefect : List ℕ → Fault → Type 0
 IsFaceDefect file fault = IsDefectAt (file_directory file) fault
@@ -85,12 +89,17 @@ WideFacesExtend = (file : List ℕ) (face : Face) → face_of file ≡ Ok face �
 abbrev pub StrictIsTheFace : Type 0
 StrictIsTheFace = (file : List ℕ) → face_by file reading.Strict ≡ face_of file
 
--- a face that is opened has exact heights and no kerning, and keeps them by these rules
+-- exact heights and no kerning, as a face has them by a reading alone
 abbrev pub plain_rules : LineRules
 plain_rules = record { heights = Exact; kerned = false }
 
 abbrev pub PlainRulesKeepFaces : Type 0
-PlainRulesKeepFaces = (file : List ℕ) (r : Reading) (face : Face) → face_by file r ≡ Ok face → ruled plain_rules face ≡ face
+PlainRulesKeepFaces = (file : List ℕ) (r : Reading) → face_with file r plain_rules ≡ face_by file r
+
+-- the rules of lines find no fault and hide none: a face has the same directory and character map by all rules
+abbrev pub RulesKeepFaults : Type 0
+RulesKeepFaults = (file : List ℕ) (r : Reading) (rules : LineRules) (fault : Fault) → face_by file r ≡ Err fault
+    → face_with file r rules ≡ Err fault
 
 -- worked values: a file of 11 bytes, one too few for a directory
 a_short_file : face_of (0 ∷ 1 ∷ 0 ∷ 0 ∷ 0 ∷ 1 ∷ 0 ∷ 0 ∷ 0 ∷ 0 ∷ 0 ∷ []) ≡ Err (file_fault 11 why.DirShort)
