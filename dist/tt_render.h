@@ -1,10 +1,11 @@
 /*
  * tt_render: text drawn with a TrueType font, as black and white pictures.
  *
- * A call takes a font as the bytes of its file. The library has no state, no handle and no thread. Each call fills the
- * caller's answer, and returns the status in it. Unless the status is 0, all other memory of the caller's is unchanged,
- * except that tt_draw_lines has written the lines before the one that stopped it. A text is UTF-8, and needs no zero at
- * its end. Several threads may call at once.
+ * A call takes a font as the bytes of its file. The library has no state, no handle and no thread. Each call but
+ * tt_version fills the caller's answer, and returns the status in it. Unless the status is 0, all other memory of the
+ * caller's is unchanged, except that tt_draw_lines has written the lines before the one that stopped it. What follows
+ * the written bytes and entries of a room is unchanged. A text is UTF-8, and needs no zero at its end. Several threads
+ * may call at once.
  *
  * It is proved of the library's source that each call does what its comment says, except for costs. No proof holds C to
  * the caller's part, which is:
@@ -15,13 +16,13 @@
  *     are two structs. Memory that a call only reads may overlap. No one else writes to it before the call returns, and
  *     no one else touches the memory that the call writes.
  *   - 64 KiB of stack are free.
- *   - The processor is x86-64-v2 or newer, or aarch64 (Armv8-A). The library does not test this.
+ *   - The processor is x86-64-v2 or newer, or aarch64 (Armv8-A). The library does not test this; `install` does.
  *   - rattle_alloc, rattle_realloc and rattle_dealloc do what the end of this header says. The library also needs
  *     memcpy, memmove, memset and, from the compiler's own runtime, __udivti3 (-lgcc where nothing else is linked).
  *   - No call comes from a signal handler, or from the forked child of a process with threads.
  *
- * No struct has a size field or a version. So a struct, tt_job too, changes only with a new version of the library;
- * then a caller has to be compiled anew.
+ * No struct has a size field or a version. So a struct, tt_job too, changes only with a new number in the name of the
+ * shared library, libtt_render.so.0; then a caller has to be compiled anew.
  *
  * A font file is read strictly or widely. Strictly the file has one font, whose cmap has format 4 or 12. Widely the
  * file may be a collection of faces, and more formats and kinds of cmap are read: formats 0, 6, 10 and 13, symbol
@@ -37,18 +38,26 @@
  * A call reports the first refusal in this order: the way to fit, UTF-8, size, margin, the text's length; the font's
  * size, the place of the face, its tables; the picture's size; loca and glyf, the font's programs, the points (65),
  * the glyphs, the crossings (65). With TT_BEST the picture's size comes after the glyphs. With grow, the size of the
- * enlarged picture follows: a picture that is empty before it is enlarged is refused (62). The room comes last.
+ * enlarged picture follows: a picture that is empty before it is enlarged is refused (62). The room comes last. Of
+ * these, tt_layout and tt_pens report nothing of the crossings. Without TT_BEST they report nothing that follows the
+ * picture's size but the room, since they look at no glyph.
+ *
+ * tt_glyphs reports too small a room for its entries before all else. Then it reports the way to fit, the size, and the
+ * count (61); the font's size, the place of the face, its tables; loca and glyf, the font's programs, the points, the
+ * crossings (both 65); and last the room for the rows. A refused glyph has its refusal in its entry.
  *
  * tt_draw_lines reports, once for the call: the way to fit, size, margin; the font's size, the place of the face, its
  * tables; lines_room. Then, line by line: the line's ends (67), the work of the lines before it (65), UTF-8, the text's
  * length, and all that follows above. So where the font is damaged and a line is not UTF-8, it answers TT_FONT, and
  * tt_draw TT_NOT_UTF8.
  *
- * Cost: tt_faces, tt_open and tt_map, with a face too, read tables alone. tt_measure, tt_characters, tt_draw and
- * tt_draw_band each run the font's first two programs and fit all glyphs of the text: with hinting mostly some million
- * instructions. This is so even where the room is too small. tt_draw_lines runs the two programs once, and fits no glyph
- * that is cached: a label of 16 letters then takes some 30,000 instructions. With keep 0 each line fits its glyphs anew,
- * and with grow too.
+ * Cost: tt_faces, tt_open and tt_map, with a face too, read tables alone. So do tt_layout and tt_pens without TT_BEST;
+ * with TT_BEST they cost what tt_measure does, less the ink. tt_measure, tt_characters, tt_draw and tt_draw_band each
+ * run the font's first two programs and fit all glyphs of the text: with hinting mostly some million instructions.
+ * This is so even where the room is too small. tt_glyphs runs the two programs once and fits each glyph of its list
+ * once, also where the room for the rows is too small: a list costs what a text of its glyphs does. tt_draw_lines runs
+ * the two programs once, and fits no glyph that is cached: a label of 16 letters then takes some 30,000 instructions.
+ * With keep 0, and with grow, each line fits its glyphs anew, for up to a million instructions.
  */
 #ifndef TT_RENDER_H
 #define TT_RENDER_H
@@ -59,6 +68,10 @@
 #ifdef __cplusplus
 extern "C" {
 #endif
+
+/* The version of this header, as a text, and as 10,000 times its first part, 100 times the second, and the third. */
+#define TT_RENDER_VERSION_TEXT "0.1.0"
+#define TT_RENDER_VERSION 100
 
 /* The status of an answer. Up to 5 these are the program's exit statuses; 4, a failed write, does not occur here. */
 enum {
@@ -157,6 +170,47 @@ struct tt_line {
     uint64_t at; /* where its rows begin, in bytes from the start of the room */
 };
 
+/* The bitmap of a glyph: the least box that holds its ink, from the pen and the base line. Unused fields are 0. */
+struct tt_bitmap {
+    uint32_t glyph;   /* the number, as asked for */
+    uint32_t status;  /* TT_DONE; TT_FONT: the glyph has a defect; TT_JOB: no such glyph, or its ink is too large */
+    uint32_t number;  /* the refusal; with TT_DONE not 0 where its program was refused, and the glyph is unfitted */
+    uint8_t table[4]; /* the tag of the table that has the defect; no zero at the end */
+    uint32_t offset;  /* the defect's offset in it, in bytes */
+    uint32_t advance; /* columns to the next pen */
+    int32_t left;     /* columns from the pen to the first column of ink, rightwards */
+    int32_t top;      /* rows from the base line up to the upper edge of the highest row of ink */
+    uint32_t width;   /* columns of ink, at most 16,384; 0, as left, top and height, where nothing is black */
+    uint32_t height;  /* rows of ink, at most 4,096 */
+    uint64_t at;      /* where its rows begin, in bytes from the start of the room */
+};
+
+/* The picture of a text without its ink, and what a next line needs. */
+struct tt_layout {
+    uint32_t width;      /* of the picture that does not grow, 1 to 16,384 */
+    uint32_t height;     /* 1 to 4,096 */
+    int64_t baseline;    /* rows above the base line, which may lie outside the picture */
+    int64_t rise;        /* rows of a line above its base line, without a margin */
+    int64_t depth;       /* rows of a line below its base line, without a margin */
+    uint64_t gap;        /* rows between two lines, by the font's line_gap */
+    uint64_t step;       /* rows from one base line to the next, at least 1 */
+    uint64_t characters; /* the units of the text */
+};
+
+/* The pen of a unit of a text. */
+struct tt_pen {
+    uint32_t code_point; /* the character's */
+    uint32_t selector;   /* the unit's variation selector, 0 without one */
+    uint32_t glyph;      /* 0 where the font has none for the unit */
+    uint32_t advance;    /* columns to the next pen */
+    int64_t pen;         /* the column of the picture, margin included */
+};
+
+/*
+ * The version of the library, in the form of TT_RENDER_VERSION. It takes no memory.
+ */
+uint32_t tt_version(void);
+
 /*
  * Counts the faces of a font file: 1, or those of a collection. A face that is counted may still be refused. The file is
  * refused where it has no face 0. It takes no memory. count: faces.
@@ -193,6 +247,24 @@ uint32_t tt_measure(const uint8_t *font, size_t font_bytes, const uint8_t *text,
 uint32_t tt_characters(const uint8_t *font, size_t font_bytes, const uint8_t *text, size_t text_bytes,
                        const struct tt_job *job, struct tt_character *characters, size_t room,
                        struct tt_answer *answer);
+
+/*
+ * Lays out a text, and draws no ink: the size of the picture that does not grow, its base line, and the rows to a next
+ * line. Where tt_measure is done without grow, width, height and baseline are equal to those of tt_measure. A text of n
+ * lines takes (n - 1) * step + rise + depth rows. grow is not looked at. Without TT_BEST no memory is taken and no glyph
+ * is looked at, so a font with damaged glyphs is laid out too. With TT_BEST the advances are those of the fitted glyphs,
+ * which are made.
+ */
+uint32_t tt_layout(const uint8_t *font, size_t font_bytes, const uint8_t *text, size_t text_bytes,
+                   const struct tt_job *job, struct tt_layout *told, struct tt_answer *answer);
+
+/*
+ * The pen of each unit of a text, in order, as tt_layout lays the text out. The first pen is the margin; each other is
+ * the pen before it and the advance there. The room holds as many entries as the text has units, which are at most as
+ * many as its bytes. It takes some memory. count: units.
+ */
+uint32_t tt_pens(const uint8_t *font, size_t font_bytes, const uint8_t *text, size_t text_bytes,
+                 const struct tt_job *job, struct tt_pen *pens, size_t room, struct tt_answer *answer);
 
 /*
  * Draws a text: the rows of its picture, the highest first, row_bytes each. The leftmost pixel is the highest bit of
@@ -232,14 +304,44 @@ uint32_t tt_draw_lines(const uint8_t *font, size_t font_bytes, const uint8_t *te
                        size_t room, struct tt_line *lines, size_t lines_room, struct tt_answer *answer);
 
 /*
- * The message of an answer, for a person: the program's line where there is one, with a zero at its end. bytes counts
- * the zero, and is at most 90: so a room of 90 bytes is always enough. told is the answer of another call; answer is
- * another struct, the answer of this call.
+ * Makes the bitmaps of a list of glyphs by their numbers, at most 4,096: those that a shaper gives, in the order of the
+ * list, and with what repeats in it. Each glyph is made once, with one run of the font's programs. Of the job size, fit
+ * and face count; margin and grow are not looked at.
+ *
+ * told gets count entries: entry i is that of glyphs[i]. An entry whose number stood before is equal to the first one.
+ * rows gets the rows of the numbers that stand first, one glyph after the other, each the highest row first. A row has
+ * (width + 7) / 8 bytes. The leftmost pixel is the highest bit of the first byte; 1 is black, and the bits after the
+ * last pixel are 0. Row i of a glyph, counted from 0, is top - 1 - i rows above the base line. All rows have at most
+ * 32 GiB; a call with a room of 0 tells how many bytes they have.
+ *
+ * A refused glyph has its refusal in its entry, and the others are made: TT_FONT with a defect of the font, TT_JOB with
+ * 68 where the font has no such glyph, TT_JOB with 63 where its ink has more than 16,384 columns or 4,096 rows. The
+ * other fields of the entry are 0, except glyph and at.
+ *
+ * With TT_BEST the work of the whole list is bounded as that of a line: the points and the lines of all its glyphs are
+ * counted once (65). A glyph for whose programs too little work is left is unfitted, with the number 30.
+ *
+ * Where told_room is less than count, nothing else is looked at: TT_ROOM, bytes 0, count. Where room is too small for
+ * the rows, TT_ROOM, the bytes of all rows, count. bytes and count: of all rows, and of the list. NULL goes with room 0
+ * where nothing is to be written.
  */
+uint32_t tt_glyphs(const uint8_t *font, size_t font_bytes, const uint32_t *glyphs, size_t count,
+                   const struct tt_job *job, uint8_t *rows, size_t room, struct tt_bitmap *told, size_t told_room,
+                   struct tt_answer *answer);
+
+/*
+ * The message of an answer, for a person: the program's line where there is one, with a zero at its end. bytes counts
+ * the zero, and is at most TT_MESSAGE_BYTES: a room of 90 bytes is always enough. told is the answer of another call;
+ * answer is another struct, the answer of this call. The call takes some memory, which may be refused too.
+ */
+#define TT_MESSAGE_BYTES 90
 uint32_t tt_message(const struct tt_answer *told, uint8_t *text, size_t room, struct tt_answer *answer);
 
 /*
  * All refusals: X(number, name). From 60 on they refuse the job; the man page of the program explains each.
+ *
+ * 68 GlyphNumber comes in an entry of tt_glyphs alone. For a list of glyphs 65 counts as for a line, but for each glyph
+ * once, with the rows of a picture that holds all of it.
  *
  * 65 WorkLarge comes with TT_BEST alone, for one of two counts of a line, or for the lines before it.
  *   - Points: its glyphs, each once, have more than 1,000,000. Each glyph and each component adds four, each contour
@@ -307,7 +409,8 @@ uint32_t tt_message(const struct tt_answer *told, uint8_t *text, size_t room, st
     X(64, MarginRange) \
     X(65, WorkLarge) \
     X(66, UnknownFit) \
-    X(67, LineEnds)
+    X(67, LineEnds) \
+    X(68, GlyphNumber)
 
 /*
  * The memory of the library. heap.c has these three functions over malloc, realloc and free. A host with its own heap

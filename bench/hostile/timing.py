@@ -30,6 +30,8 @@ PAIRS = {
     "missing, measure": (("measure", "--missing", "tell", "--margin", "64"), 0),
     "label": (("label",), 0),
     "label of lines": (("label", "--align", "right"), 0),
+    "no ink": (("measure", "--no-ink"), 0),
+    "bdf": (("bdf",), 0),
 }
 # Jobs with a face, in place of these. Only the first two are given a way to fit.
 FACES = {

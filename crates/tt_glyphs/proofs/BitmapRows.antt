@@ -18,7 +18,7 @@ use Rattle.tt_scan_edges.specs.Winding.{column_x, is_black, row_y}
 use Rattle.tt_scan_gaps.specs.Crossings.{centre}
 use Rattle.tt_glyphs.specs.Bitmaps.{place_bytes}
 use Rattle.tt_glyphs.specs.declared.place.InkPlace.{InkPlace}
-use Rattle.tt_glyphs.specs.Drawn.{BitmapFits, bitmap_row, column_of, drawn_pixel, frame_of, line_of}
+use Rattle.tt_glyphs.specs.Drawn.{BitmapFits, column_of, frame_of, line_of, row_in}
 use Rattle.tt_glyphs.specs.GlyphBitmap.{GlyphBitmap}
 use borrow.Rule.Slice.PartMut.{put_mid, same_len_mid}
 
@@ -53,15 +53,15 @@ edges_shown p es ss r k near wide black =
     ∙ ap (is_black es (centre (column_of p k))) (row_centre p r))
 
 -- bytes are a row if their bits are its pixels
-pub row_is : (b : GlyphBitmap) (r : ℕ) (row : List ℕ) → length row ≡ stride b.place.width
+pub row_is : (p : InkPlace) (black : ℕ → ℕ → Bool) (r : ℕ) (row : List ℕ) → length row ≡ stride p.width
     → ((i : ℕ) → i < length row → slice_index row i < 256)
-    → ((k : ℕ) → bit row k ≡ (nat_lt k b.place.width && drawn_pixel b k r)) → row ≡ bitmap_row b r
-row_is b r row long bytes bits =
-    let w = b.place.width in
+    → ((k : ℕ) → bit row k ≡ (nat_lt k p.width && black k r)) → row ≡ row_in p black r
+row_is p black r row long bytes bits =
+    let w = p.width in
     let n = stride w in
     let one : n * 1 ≡ n = omega arith in
     let whole : length row ≡ n * 1 = rw one long in
-    let made : row ≡ rows w (drawn_pixel b) (n * r) (n * 1) = band_is w r 1 (drawn_pixel b) row whole bytes
+    let made : row ≡ rows w black (n * r) (n * 1) = band_is w r 1 black row whole bytes
     (λ i c below inside.
     let first : i ≡ 0 = omega (arith, below) in
     let at : 8 * (n * 0) + c ≡ c = omega arith in
@@ -77,26 +77,26 @@ row_within p r below =
     omega (arith, ends)
 
 -- the rows so far, and one more
-pub one_row_more : (b : GlyphBitmap) (r k : ℕ) (old row : List ℕ) → stride b.place.width * r ≤ length old
-    → take (stride b.place.width * r) old ≡ rows b.place.width (drawn_pixel b) 0 (stride b.place.width * r)
-    → row ≡ bitmap_row b r
-    → take (stride b.place.width * (r + 1)) (put_mid (stride b.place.width * r) k old row)
-    ≡ rows b.place.width (drawn_pixel b) 0 (stride b.place.width * (r + 1))
-one_row_more b r k old row within so_far is =
-    let w = b.place.width in
+pub one_row_more : (p : InkPlace) (black : ℕ → ℕ → Bool) (r k : ℕ) (old row : List ℕ) → stride p.width * r ≤ length old
+    → take (stride p.width * r) old ≡ rows p.width black 0 (stride p.width * r) → row ≡ row_in p black r
+    → take (stride p.width * (r + 1)) (put_mid (stride p.width * r) k old row)
+    ≡ rows p.width black 0 (stride p.width * (r + 1))
+one_row_more p black r k old row within so_far is =
+    let w = p.width in
     let n = stride w in
-    let long : length row ≡ n = ap length is ∙ length-rows w (drawn_pixel b) (n * r) n in
+    let long : length row ≡ n = ap length is ∙ length-rows w black (n * r) n in
     let next : n * (r + 1) ≡ n * r + n = omega arith in
-    let joined : rows w (drawn_pixel b) 0 (n * r + n) ≡ rows w (drawn_pixel b) 0 (n * r) ++ rows w (drawn_pixel b) (n * r) n =
-    rw zero-add at (rows_more w (drawn_pixel b) 0 (n * r) n) in
+    let joined : rows w black 0 (n * r + n) ≡ rows w black 0 (n * r) ++ rows w black (n * r) n =
+    rw zero-add at (rows_more w black 0 (n * r) n) in
     take-put_mid (n * r) k old row (n * (r + 1)) (omega (arith, next, long)) within
-    ∙ rw (so_far, is) (sym joined) ∙ ap (rows w (drawn_pixel b) 0) (sym next)
+    ∙ rw (so_far, is) (sym joined) ∙ ap (rows w black 0) (sym next)
 
-pub len_kept : (b : GlyphBitmap) (r k : ℕ) (old row : List ℕ) → stride b.place.width * r + stride b.place.width ≤ length old
-    → k ≡ stride b.place.width → row ≡ bitmap_row b r → length (put_mid (stride b.place.width * r) k old row) ≡ length old
-len_kept b r k old row within whole is =
-    let n = stride b.place.width in
-    let long : length row ≡ n = ap length is ∙ length-rows b.place.width (drawn_pixel b) (n * r) n in
+pub len_kept : (p : InkPlace) (black : ℕ → ℕ → Bool) (r k : ℕ) (old row : List ℕ)
+    → stride p.width * r + stride p.width ≤ length old → k ≡ stride p.width → row ≡ row_in p black r
+    → length (put_mid (stride p.width * r) k old row) ≡ length old
+len_kept p black r k old row within whole is =
+    let n = stride p.width in
+    let long : length row ≡ n = ap length is ∙ length-rows p.width black (n * r) n in
     let cut : length (take k (drop (n * r) old)) ≡ k =
     length-take-le k (drop (n * r) old) (omega (arith, length-drop (n * r) old, whole, within)) in
     same_len_mid (n * r) k old row (omega (arith, cut, whole, long))
@@ -110,8 +110,9 @@ crosses_fit r h n crosses below high few so_far =
 pub crosses_more : (r n old new : ℕ) → old ≤ r * n → new ≤ old + n → new ≤ (r + 1) * n
 crosses_more r n old new so_far more = omega (arith, so_far, more)
 
-pub no_row_more : (b : GlyphBitmap) (bytes : List ℕ) → take (stride b.place.width * 0) bytes ≡ rows b.place.width (drawn_pixel b) 0 (stride b.place.width * 0)
-no_row_more b bytes = let none : stride b.place.width * 0 ≡ 0 = omega arith in rw none refl
+pub no_row_more : (p : InkPlace) (black : ℕ → ℕ → Bool) (bytes : List ℕ)
+    → take (stride p.width * 0) bytes ≡ rows p.width black 0 (stride p.width * 0)
+no_row_more p black bytes = let none : stride p.width * 0 ≡ 0 = omega arith in rw none refl
 
 -- a bitmap keeps its facts where its crossings are counted
 pub fits_with : (b : GlyphBitmap) (n : ℕ) → BitmapFits b → BitmapFits (record b { crosses = n })

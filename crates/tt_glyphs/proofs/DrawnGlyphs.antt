@@ -27,17 +27,19 @@ use Rattle.tt_scan_ink.specs.declared.ink.GlyphInk.{GlyphInk}
 use Rattle.tt_strike.specs.declared.source.FitterSource.{FitterSource}
 use Rattle.tt_strike.specs.Work.{lays_after_glyphs}
 use Rattle.tt_glyphs.specs.Bitmaps.{bitmap_pixel, is_large, place_bytes, place_of}
+use Rattle.tt_glyphs.specs.declared.bitmap.GlyphRows.{GlyphRows}
 use Rattle.tt_glyphs.specs.declared.edged.EdgedOutline.{EdgedOutline}
+use Rattle.tt_glyphs.specs.declared.lines.LineWords.{LineWords}
 use Rattle.tt_glyphs.specs.declared.place.InkPlace.{InkPlace}
 use Rattle.tt_glyphs.specs.declared.ruled.TriedBody.TheVariants as body
 use Rattle.tt_glyphs.specs.declared.told.Told.{Told}
 use Rattle.tt_glyphs.specs.declared.told.Told.TheVariants as told
-use Rattle.tt_glyphs.specs.Drawn.{IsDrawn, IsSourceOf, bitmap_rows, column_of, edged_pixel, line_of}
-use Rattle.tt_glyphs.specs.Edged.{IsEdged, IsEdgedBy, IsRuledBy}
+use Rattle.tt_glyphs.specs.Drawn.{IsDrawn, IsSourceOf, column_of, edged_pixel, line_of, rows_by}
+use Rattle.tt_glyphs.specs.Edged.{EdgedFits, IsEdged, IsEdgedBy, IsRuledBy, IsSameGlyph, inked_by}
 use Rattle.tt_glyphs.specs.Entries.{advance_by, advance_of, glyph_told, made_within, outline_rows}
-use Rattle.tt_glyphs.specs.GlyphBitmap.{GlyphBitmap}
 use Rattle.tt_glyphs.specs.Ruled.{RuledOutline}
 use Rattle.tt_glyphs.specs.Tried.{ruled_by}
+use Rattle.tt_glyphs.specs.Words.{shows_on}
 use Rattle.tt_glyphs.proofs.BitmapRows.{same_rows}
 
 -- the outline that edges are made of, by its fitter
@@ -80,6 +82,40 @@ is_of s g e r has edged = record {
   step = rw has.ruled at edged.step;
   unfitted = rw has.ruled at edged.unfitted;
 }
+
+-- the edges of a glyph keep their facts where its rows are cut
+
+pub same_fits : (e f : EdgedOutline) → IsSameGlyph e f → EdgedFits e → EdgedFits f
+same_fits e f is fits = rw is.same (record {
+  few = rw is.edges fits.few;
+  boxed = rw is.edges fits.boxed;
+  ends = rw is.edges fits.ends;
+  closed = rw is.edges fits.closed;
+  held = rw is.edges fits.held;
+})
+
+pub same_edged : (s : Fitter) (g : ℕ) (e f : EdgedOutline) → IsSameGlyph e f → IsEdgedBy s g e → IsEdgedBy s g f
+same_edged s g e f is by =
+    let (r, ruled, edged) = by in (
+      r,
+      ruled,
+      rw is.same (record {
+        edges = is.edges ∙ edged.edges;
+        contours = rw is.edges edged.contours;
+        filled = edged.filled;
+        chords = edged.chords;
+        step = edged.step;
+        unfitted = edged.unfitted;
+      }),
+    )
+
+same_inked : (e f : EdgedOutline) → IsSameGlyph e f → (c j : ℤ) → inked_by e c j ≡ inked_by f c j
+same_inked e f is c j = rw is.same (rw is.edges refl)
+
+pub same_shown : (o : Option LineWords) (e f : EdgedOutline) → IsSameGlyph e f
+    → IfSome o (λ l. (c j : ℤ) → shows_on l c j ≡ inked_by e c j) → IfSome o (λ l. (c j : ℤ) → shows_on l c j ≡ inked_by f c j)
+same_shown None e f is shown = tt
+same_shown (Some l) e f is shown = λ c j. shown c j ∙ same_inked e f is c j
 
 -- the ink of the edges is that of the glyph
 
@@ -224,9 +260,9 @@ blank_drawn z how s g p e source at by small none =
 
 -- a glyph with ink
 
-pub inked_drawn : (z : FitterSource) (how : Fit) (s : Fitter) (g : ℕ) (p : InkPlace) (e : EdgedOutline) (b : GlyphBitmap) → IsSourceOf z s
+pub inked_drawn : (z : FitterSource) (how : Fit) (s : Fitter) (g : ℕ) (p : InkPlace) (e : EdgedOutline) (b : GlyphRows) → IsSourceOf z s
     → p ≡ place_of (glyph_ink s g) → IsEdgedBy s g e → is_large p ≡ false
-    → bitmap_rows b ≡ rows p.width (edged_pixel e p) 0 (place_bytes p)
+    → rows_by b ≡ rows p.width (edged_pixel e p) 0 (place_bytes p)
     → IsDrawn how s (record { number = g; told = made_as z how g p e; bitmap = Some b })
 inked_drawn z how s g p e b source at by small shown =
     let (r, ruled, edged) = by in

@@ -1,6 +1,6 @@
 -- The edges of an outline lie in the box of its dropout rules, and the box of their ink holds all that they blacken.
 use Rattle.std.proofs.Common.{◌≡◌, refl, sym, subst, ℤ, ◌||◌, List, Option, None, Some}
-use Rattle.std.specs.Prelude.{IfSome, pos}
+use Rattle.std.specs.Prelude.{All, IfSome, pos}
 use Rattle.tt_arc.proofs.Closed.{all_closed}
 use Rattle.tt_arc.proofs.PointsBox.{box_holds_edges}
 use Rattle.tt_arc.specs.Laws.{ContoursJoined}
@@ -9,6 +9,7 @@ use Rattle.tt_fit_outline.specs.Outline.{Outline}
 use Rattle.tt_picture.specs.Ink.{filled_ink, ink_by}
 use Rattle.tt_picture.specs.Pixels.{is_filled}
 use Rattle.tt_picture.specs.Shapes.{contours_of, edges_at, extents_of, offset_at}
+use Rattle.tt_scan.specs.Contours.{IsClosed}
 use Rattle.tt_scan_dropouts.specs.declared.boxed.BoxedRules.{BoxedRules}
 use Rattle.tt_scan_edges.specs.declared.edge.Edge.{Edge}
 use Rattle.tt_scan_gaps.specs.Boxes.{ExtentsFit, HoldsEdges, IsBoxOf}
@@ -32,6 +33,12 @@ pub box_fits : (filled : Option BoxedRules) (o : Outline)
     → IfSome filled (λ rules. ExtentsFit rules.extents)
 box_fits None o ruled = tt
 box_fits (Some rules) o ruled = ruled.1
+
+-- the contours are closed
+pub contours_close : (filled : Option BoxedRules) (way : ChordRule) (o : Outline) (cs : List (List Edge))
+    → IfSome filled (λ rules. cs ≡ contours_of way 0 o) → IfSome filled (λ rules. All IsClosed cs)
+contours_close None way o cs contours = tt
+contours_close (Some rules) way o cs contours = rw contours (all_closed way o.points o.ends (offset_at 0 o) (pos 0))
 
 -- the box of the ink
 

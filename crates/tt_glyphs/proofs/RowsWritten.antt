@@ -6,20 +6,25 @@ use Rattle.std.proofs.lemmas.List.Sums.{sum_by-append, sum_by_push}
 use Rattle.std.proofs.lemmas.Slice.{take-put_mid}
 use Rattle.tt_picture.proofs.RowBytes.{length-rows}
 use Rattle.tt_glyphs.specs.Bitmaps.{place_bytes}
+use Rattle.tt_glyphs.specs.declared.bitmap.GlyphRows.{GlyphRows}
+use Rattle.tt_glyphs.specs.declared.bitmap.GlyphRows.TheVariants as made
 use Rattle.tt_glyphs.specs.declared.drawing.DrawnGlyph.{DrawnGlyph}
 use Rattle.tt_glyphs.specs.declared.told.Told.{Told}
-use Rattle.tt_glyphs.specs.Drawn.{DrawnFits, HasBitmap, drawn_pixel, drawn_rows, rows_by}
+use Rattle.tt_glyphs.specs.Drawn.{DrawnFits, HasBitmap, drawn_pixel, drawn_rows, place_by, rows_by, some_rows, word_pixel}
 use Rattle.tt_glyphs.specs.Entries.{told_bytes}
-use Rattle.tt_glyphs.specs.GlyphBitmap.{GlyphBitmap}
 use borrow.Rule.Slice.PartMut.{put_mid}
 
 abbrev pub bytes_of : DrawnGlyph → ℕ
 bytes_of d = told_bytes d.told
 
 -- a drawn glyph has as many bytes of rows as its report tells
-length_by : (t : Told) (b : Option GlyphBitmap) → HasBitmap t b → length (rows_by b) ≡ told_bytes t
+length_rows : (b : GlyphRows) → length (rows_by b) ≡ place_bytes (place_by b)
+length_rows (made.Edges b) = length-rows b.place.width (drawn_pixel b) 0 (place_bytes b.place)
+length_rows (made.Words b) = length-rows b.place.width (word_pixel b) 0 (place_bytes b.place)
+
+length_by : (t : Told) (b : Option GlyphRows) → HasBitmap t b → length (some_rows b) ≡ told_bytes t
 length_by t None has = sym has
-length_by t (Some b) has = length-rows b.place.width (drawn_pixel b) 0 (place_bytes b.place) ∙ sym has.2
+length_by t (Some b) has = length_rows b ∙ sym has.1
 
 pub drawn_length : (d : DrawnGlyph) → DrawnFits d → length (drawn_rows d) ≡ bytes_of d
 drawn_length d fits = length_by d.told d.bitmap fits.bitmap

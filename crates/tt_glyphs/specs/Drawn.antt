@@ -1,4 +1,5 @@
--- No part of the standard: a glyph that is drawn, whose rows are made of edges and dropouts.
+-- No part of the standard: a glyph that is drawn, whose rows are made of edges and dropouts, or of the words of its
+-- lines.
 use Rattle.std.specs.Prelude.{◌≡◌, ℕ, ◌+◌, ◌*◌, ◌^◌, ◌<◌, ◌≤◌, Bool, ◌&&◌, ◌||◌, ℤ, pos, ◌+ℤ◌, ◌-ℤ◌, unsigned_abs, List, [], length, Option, Some, None}
 use Rattle.std.specs.Ordering.{int_eq}
 use Rattle.tt_core.specs.Bits.{stride}
@@ -16,12 +17,16 @@ use Rattle.tt_scan_edges.specs.Winding.{is_black}
 use Rattle.tt_scan_gaps.specs.Crossings.{centre}
 use Rattle.tt_strike.specs.declared.source.FitterSource.{FitterSource}
 use Rattle.tt_glyphs.specs.Bitmaps.{place_bytes}
+use Rattle.tt_glyphs.specs.declared.bitmap.GlyphRows.{GlyphRows}
+use Rattle.tt_glyphs.specs.declared.bitmap.GlyphRows.TheVariants as made
+use Rattle.tt_glyphs.specs.declared.bitmap.WordBitmap.{WordBitmap}
 use Rattle.tt_glyphs.specs.declared.drawing.DrawnGlyph.{DrawnGlyph}
 use Rattle.tt_glyphs.specs.declared.edged.EdgedOutline.{EdgedOutline}
 use Rattle.tt_glyphs.specs.declared.place.InkPlace.{InkPlace}
 use Rattle.tt_glyphs.specs.declared.told.Told.{Told}
 use Rattle.tt_glyphs.specs.GlyphBitmap.{GlyphBitmap}
 use Rattle.tt_glyphs.specs.Entries.{ToldFits, glyph_told, told_bytes, told_rows}
+use Rattle.tt_glyphs.specs.Words.{HoldsPlace, shows_on}
 
 -- a place with ink, of a bitmap that is not too large
 pub record IsInked (p : InkPlace) : Type 0 where
@@ -50,11 +55,18 @@ abbrev pub drawn_pixel : GlyphBitmap → ℕ → ℕ → Bool
 drawn_pixel b c r =
     is_black b.edges (centre (column_of b.place c)) (centre (line_of b.place r)) || is_among b.dropouts c r
 
+-- row r of the pixels in a place, and all rows
+abbrev pub row_in : InkPlace → (ℕ → ℕ → Bool) → ℕ → List ℕ
+row_in p black r = rows p.width black (stride p.width * r) (stride p.width)
+
+abbrev pub rows_in : InkPlace → (ℕ → ℕ → Bool) → List ℕ
+rows_in p black = rows p.width black 0 (place_bytes p)
+
 abbrev pub bitmap_row : GlyphBitmap → ℕ → List ℕ
-bitmap_row b r = rows b.place.width (drawn_pixel b) (stride b.place.width * r) (stride b.place.width)
+bitmap_row b r = row_in b.place (drawn_pixel b) r
 
 abbrev pub bitmap_rows : GlyphBitmap → List ℕ
-bitmap_rows b = rows b.place.width (drawn_pixel b) 0 (place_bytes b.place)
+bitmap_rows b = rows_in b.place (drawn_pixel b)
 
 pub record BitmapFits (b : GlyphBitmap) : Type 0 where
   pub place : IsInked b.place
@@ -68,25 +80,57 @@ edged_pixel e p c r =
     is_black e.tape.edges (centre (column_of p c)) (centre (line_of p r))
     || is_filled e.filled (contours_at e.tape.edges e.ends.items) (column_of p c) (line_of p r)
 
+-- the rows of a small glyph's ink by the words of its lines
+abbrev pub word_pixel : WordBitmap → ℕ → ℕ → Bool
+word_pixel b c r = shows_on b.lines (column_of b.place c) (line_of b.place r)
+
+abbrev pub word_row : WordBitmap → ℕ → List ℕ
+word_row b r = row_in b.place (word_pixel b) r
+
+abbrev pub word_rows : WordBitmap → List ℕ
+word_rows b = rows_in b.place (word_pixel b)
+
+pub record WordsFit (b : WordBitmap) : Type 0 where
+  pub place : IsInked b.place
+  pub held : HoldsPlace b.lines b.place
+
+-- the place of rows, the edges that they are made of, and the rows
+abbrev pub place_by : GlyphRows → InkPlace
+place_by (made.Edges b) = b.place
+place_by (made.Words b) = b.place
+
+abbrev pub edges_by : GlyphRows → ℕ
+edges_by (made.Edges b) = length b.edges
+edges_by (made.Words b) = 0
+
+abbrev pub rows_by : GlyphRows → List ℕ
+rows_by (made.Edges b) = bitmap_rows b
+rows_by (made.Words b) = word_rows b
+
+-- the rows are still to be made
+abbrev pub RowsFit : GlyphRows → Type 0
+RowsFit (made.Edges b) = BitmapFits b × (b.crosses ≡ 0)
+RowsFit (made.Words b) = WordsFit b
+
 -- the rows of a drawn glyph, and the edges that they are made of
-abbrev pub rows_by : Option GlyphBitmap → List ℕ
-rows_by None = []
-rows_by (Some b) = bitmap_rows b
+abbrev pub some_rows : Option GlyphRows → List ℕ
+some_rows None = []
+some_rows (Some b) = rows_by b
 
 abbrev pub drawn_rows : DrawnGlyph → List ℕ
-drawn_rows d = rows_by d.bitmap
+drawn_rows d = some_rows d.bitmap
 
-abbrev pub edges_by : Option GlyphBitmap → ℕ
-edges_by None = 0
-edges_by (Some b) = length b.edges
+abbrev pub some_edges : Option GlyphRows → ℕ
+some_edges None = 0
+some_edges (Some b) = edges_by b
 
 abbrev pub drawn_edges : DrawnGlyph → ℕ
-drawn_edges d = edges_by d.bitmap
+drawn_edges d = some_edges d.bitmap
 
 -- a bitmap has the place of its report, and its rows are still to be made
-abbrev pub HasBitmap : Told → Option GlyphBitmap → Type 0
+abbrev pub HasBitmap : Told → Option GlyphRows → Type 0
 HasBitmap t None = told_bytes t ≡ 0
-HasBitmap t (Some b) = BitmapFits b × (b.crosses ≡ 0) × (told_bytes t ≡ place_bytes b.place)
+HasBitmap t (Some b) = RowsFit b × (told_bytes t ≡ place_bytes (place_by b))
 
 pub record DrawnFits (d : DrawnGlyph) : Type 0 where
   pub told : ToldFits d.told

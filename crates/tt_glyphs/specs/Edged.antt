@@ -1,12 +1,12 @@
 -- No part of the standard: the edges of an outline at pen 0.
-use Rattle.std.specs.Prelude.{◌≡◌, ℕ, ◌+◌, ◌^◌, ◌≤◌, Bool, ◌||◌, ℤ, Option, length, IfSome}
+use Rattle.std.specs.Prelude.{◌≡◌, ℕ, ◌+◌, ◌^◌, ◌≤◌, Bool, ◌||◌, ℤ, Option, length, All, IfSome}
 use Rattle.tt_fit.specs.Fitting.{Fitter, fitted_outline}
 use Rattle.tt_fit_outline.specs.Steps.{step_of}
 use Rattle.tt_picture.specs.Ink.{ink_by}
 use Rattle.tt_picture.specs.Pixels.{is_filled}
 use Rattle.tt_picture.specs.Shapes.{contours_of, edges_at, filling_crossings}
 use Rattle.tt_picture.specs.Steps.{chords_of}
-use Rattle.tt_scan.specs.Contours.{AreEnds, contours_at}
+use Rattle.tt_scan.specs.Contours.{AreEnds, IsClosed, contours_at}
 use Rattle.tt_scan_dropouts.specs.Counted.{edges_counted}
 use Rattle.tt_scan_edges.specs.Winding.{is_black}
 use Rattle.tt_scan_gaps.specs.Boxes.{IsBoxOf}
@@ -26,13 +26,19 @@ inked_by e c j =
 abbrev pub ink_of : EdgedOutline → Option GlyphInk
 ink_of e = ink_by e.tape.edges (contours_at e.tape.edges e.ends.items) e.filled
 
--- the edges are few, lie in the box of the dropout rules, and their contours end among them. The box of their ink holds
--- all that they blacken
+-- the edges are few, lie in the box of the dropout rules, and their contours are closed and end among them. The box of
+-- their ink holds all that they blacken
 pub record EdgedFits (e : EdgedOutline) : Type 0 where
   pub few : length e.tape.edges ≤ 2 ^ 19
   pub boxed : IfSome e.filled (λ rules. IsBoxOf rules.extents e.tape.edges)
   pub ends : IfSome e.filled (λ rules. AreEnds (length e.tape.edges) e.ends.items)
+  pub closed : IfSome e.filled (λ rules. All IsClosed (contours_at e.tape.edges e.ends.items))
   pub held : IsInk (inked_by e) (ink_of e)
+
+-- the same glyph, whose rows may be cut
+pub record IsSameGlyph (e f : EdgedOutline) : Type 0 where
+  pub same : f ≡ record e { tape = f.tape }
+  pub edges : f.tape.edges ≡ e.tape.edges
 
 -- the edges of this outline
 pub record IsEdged (r : RuledOutline) (e : EdgedOutline) : Type 0 where

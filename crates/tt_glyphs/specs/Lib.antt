@@ -10,3 +10,4 @@ pub mod Lists
 pub mod Requests
 pub mod Ruled
 pub mod Tried
+pub mod Words

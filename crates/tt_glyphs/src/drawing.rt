@@ -1,31 +1,31 @@
 //! Draws the distinct glyphs of a list: their edges, the places of their ink, and their reports.
 
-ghost use Rattle.std.specs.Prelude.{◌≡◌, ◌⊎◌, ℕ, ℤ, ◌+◌, ◌^◌, ◌<◌, ◌≤◌, true, false, length, map, All, IfOk, IfNone, IfSome, None};
+ghost use Rattle.std.specs.Prelude.{◌≡◌, ◌⊎◌, ℕ, ℤ, ◌+◌, ◌^◌, ◌<◌, ◌≤◌, true, false, length, map, All, IfOk, IfNone, IfSome, OnOk, None};
 ghost use Rattle.tt_fit.specs.Fitting.{Fitter};
 ghost use Rattle.tt_glyphs.specs.Bitmaps.{IsPlace, place_of};
 ghost use Rattle.tt_glyphs.specs.Drawn.{DrawnFits, IsDrawn, IsLeft, IsSourceOf, drawn_edges, drawn_rows};
-ghost use Rattle.tt_glyphs.specs.Edged.{EdgedFits, IsEdgedBy, IsRuledBy, edged_crossings, inked_by, outline_crossings};
+ghost use Rattle.tt_glyphs.specs.Edged.{EdgedFits, IsEdgedBy, IsRuledBy, edged_crossings, ink_of, inked_by, outline_crossings};
 ghost use Rattle.tt_glyphs.specs.Entries.{advance_of, told_bytes};
 ghost use Rattle.tt_glyphs.specs.Tried.{AreTriedBy, IsPast, IsRuled, IsRuledBody, IsWithin, ruled_chords, ruled_crossings, tried_chords, tried_crossings, tried_glyph};
+ghost use Rattle.tt_glyphs.specs.Words.{shows_on};
 ghost use Rattle.tt_metrics.specs.Metrics.{glyphs_of};
 ghost use Rattle.tt_picture.specs.Ink.{glyph_ink};
 ghost use Rattle.tt_picture.specs.Steps.{chords_of};
-ghost use Rattle.tt_scan_dropouts.specs.Passes.{has_pixel};
 
-use crate::bitmap::GlyphBitmap;
-use crate::drawn::bitmap_of;
+use crate::bitmap::GlyphRows;
 use crate::edged::{EdgedOutline, edged};
 use crate::inked::ink_of;
-use crate::listing::pixels_of;
+use crate::lines::LineWords;
 use crate::place::InkPlace;
 use crate::placing::{is_large, place_bytes, place_of};
 use crate::ruled::{RuledOutline, TriedBody, TriedGlyph};
 use crate::told::{MadeBitmap, Told};
+use crate::words::{MOST_EDGES, words_by};
+use crate::written::rows_of;
 use std::alloc::AllocError;
 use tt_line::advance;
 use tt_picture::LineLimits;
 use tt_scan::Sweep;
-use tt_scan_dropouts::Pixel;
 use tt_strike::{FitterSource, is_bounded};
 
 /// A glyph that is drawn, or only its report.
@@ -34,7 +34,7 @@ pub(crate) struct DrawnGlyph {
     pub(crate) number: u16,
     pub(crate) told: Told,
     /// None where no row has ink.
-    pub(crate) bitmap: Option<GlyphBitmap>,
+    pub(crate) bitmap: Option<GlyphRows>,
 }
 
 /// A glyph of which no row is made.
@@ -70,18 +70,19 @@ fn advance_of(source: &FitterSource, number: u16, step: u32) -> u32
     advance(source.face.metrics(), source.ppem, number)
 }
 
-/// The report of a glyph with this place, and its rows if it has any; its pixels may be listed. Error: memory ran out.
+/// The report of a glyph with this place, and its rows if it has any; its lines may have words. Error: memory ran out.
 fn placed(
     source: &FitterSource,
     number: u16,
     place: InkPlace,
     edged: EdgedOutline,
-    listed: Option<Vec<Pixel>>,
+    lines: Option<LineWords>,
 ) -> Result<DrawnGlyph, AllocError>
     requires known { number < glyphs_of source.now.face.now.metrics }
     requires place { IsPlace place }
     requires edged { EdgedFits edged }
-    requires listed { IfSome listed (λ v. (c j : ℤ) → has_pixel v.items c j ≡ inked_by edged c j) }
+    requires ink { place ≡ place_of (ink_of edged) }
+    requires shown { IfSome lines (λ l. (c j : ℤ) → shows_on l c j ≡ inked_by edged c j) }
     ensures number { IfOk result (λ d. d.number ≡ number) }
     ensures drawn { IfOk result (λ d. (s : Fitter) → IsSourceOf source.now s → place ≡ place_of (glyph_ink s number) → IsEdgedBy s number edged → IsDrawn source.now.fit s d) }
     ensures fits { IfOk result DrawnFits }
@@ -97,7 +98,7 @@ fn placed(
     if place.width == 0 {
         return Ok(rowless(number, told));
     }
-    let bitmap = bitmap_of(source.alloc, place, edged, listed)?;
+    let bitmap = rows_of(source.alloc, place, edged, lines)?;
     Ok(DrawnGlyph {
         number,
         told,
@@ -106,16 +107,25 @@ fn placed(
 }
 
 /// A glyph that is drawn by its edges. Error: memory ran out.
-fn drawn(source: &FitterSource, number: u16, edged: EdgedOutline) -> Result<DrawnGlyph, AllocError>
+fn drawn(
+    source: &FitterSource,
+    number: u16,
+    edged: EdgedOutline,
+    sweep: &mut Sweep,
+) -> Result<DrawnGlyph, AllocError>
     requires known { number < glyphs_of source.now.face.now.metrics }
     requires edged { EdgedFits edged }
+    requires fresh { edged.tape.crosses ≡ 0 }
+    requires room { 512 ≤ sweep.old.room }
     ensures number { IfOk result (λ d. d.number ≡ number) }
     ensures drawn { IfOk result (λ d. (s : Fitter) → IsSourceOf source.now s → IsEdgedBy s number edged → IsDrawn source.now.fit s d) }
     ensures fits { IfOk result DrawnFits }
+    ensures room { OnOk result (sweep.new.room ≡ sweep.old.room) }
 {
-    let listed = pixels_of(source.alloc, &edged)?;
-    let place = place_of(ink_of(source.alloc, &edged, &listed)?);
-    placed(source, number, place, edged, listed)
+    let mut edged = edged;
+    let lines = words_by(source.alloc, &mut edged, sweep)?;
+    let place = place_of(ink_of(source.alloc, &edged, &lines)?);
+    placed(source, number, place, edged, lines)
 }
 
 /// Charges the chords and the crossings of a glyph. False where it has more of either than is left; without limits none
@@ -142,12 +152,15 @@ fn draw_ruled(
     number: u16,
     ruled: RuledOutline,
     left: &mut Option<LineLimits>,
+    sweep: &mut Sweep,
 ) -> Result<Option<DrawnGlyph>, AllocError>
     requires known { number < glyphs_of source.now.face.now.metrics }
     requires ruled { IsRuled ruled }
+    requires room { 512 ≤ sweep.old.room }
     ensures number { IfOk result (λ o. IfSome o (λ d. d.number ≡ number)) }
     ensures drawn { IfOk result (λ o. IfSome o (λ d. (s : Fitter) → IsSourceOf source.now s → IsRuledBy s number ruled → IsDrawn source.now.fit s d)) }
     ensures fits { IfOk result (λ o. IfSome o DrawnFits) }
+    ensures room { OnOk result (sweep.new.room ≡ sweep.old.room) }
     ensures left { IfOk result (λ o. IfSome o (λ _. IsLeft left.old (chords_of ruled.rule ruled.outline) (outline_crossings ruled) left.new)) }
     ensures past { IfOk result (λ o. IfNone o (IsPast left.old (chords_of ruled.rule ruled.outline) (outline_crossings ruled))) }
 {
@@ -155,7 +168,7 @@ fn draw_ruled(
     if !charge(left, &edged) {
         return Ok(None);
     }
-    Ok(Some(drawn(source, number, edged)?))
+    Ok(Some(drawn(source, number, edged, sweep)?))
 }
 
 /// A glyph that is drawn or refused; None where it has more chords or crossings than are left. Error: memory ran out.
@@ -163,19 +176,22 @@ fn draw_one(
     source: &FitterSource,
     tried: TriedGlyph,
     left: &mut Option<LineLimits>,
+    sweep: &mut Sweep,
 ) -> Result<Option<DrawnGlyph>, AllocError>
     requires known { tried.number < glyphs_of source.now.face.now.metrics }
     requires ruled { IsRuledBody tried.body }
+    requires room { 512 ≤ sweep.old.room }
     ensures number { IfOk result (λ o. IfSome o (λ d. d.number ≡ tried.number)) }
     ensures drawn { IfOk result (λ o. IfSome o (λ d. (s : Fitter) → IsSourceOf source.now s → tried ≡ tried_glyph s tried.number → IsDrawn source.now.fit s d)) }
     ensures fits { IfOk result (λ o. IfSome o DrawnFits) }
+    ensures room { OnOk result (sweep.new.room ≡ sweep.old.room) }
     ensures left { IfOk result (λ o. IfSome o (λ _. IsLeft left.old (ruled_chords tried.body) (ruled_crossings tried.body) left.new)) }
     ensures past { IfOk result (λ o. IfNone o (IsPast left.old (ruled_chords tried.body) (ruled_crossings tried.body))) }
 {
     let TriedGlyph { number, body } = tried;
     match body {
         TriedBody::Refused(fault) => Ok(Some(rowless(number, Told::Broken(fault)))),
-        TriedBody::Ruled(ruled) => draw_ruled(source, number, ruled, left),
+        TriedBody::Ruled(ruled) => draw_ruled(source, number, ruled, left, sweep),
     }
 }
 
@@ -195,9 +211,10 @@ pub(crate) fn draw_glyphs(
     ensures many { IfOk result (λ o. IfNone o (IsPast limits (tried_chords tried.items) (tried_crossings tried.items))) }
 {
     let mut left = limits;
+    let mut sweep = Sweep::new(source.alloc, MOST_EDGES)?;
     let mut made = Vec::with_capacity(source.alloc, tried.len())?;
     for one in tried {
-        let Some(glyph) = draw_one(source, one, &mut left)? else {
+        let Some(glyph) = draw_one(source, one, &mut left, &mut sweep)? else {
             return Ok(None);
         };
         made.push(glyph)?;
@@ -213,7 +230,7 @@ impl DrawnGlyph {
         ensures small { result ≤ 2 ^ 23 }
     {
         match &self.bitmap {
-            Some(bitmap) => place_bytes(bitmap.place),
+            Some(bitmap) => place_bytes(bitmap.place()),
             None => 0,
         }
     }

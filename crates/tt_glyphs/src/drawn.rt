@@ -1,10 +1,10 @@
-//! The rows of a glyph: by its edges, and then its dropouts.
+//! The rows of a glyph by its edges, and then its dropouts.
 
 ghost use Rattle.std.specs.Prelude.{◌≡◌, ◌≢◌, ℕ, ℤ, ◌+◌, ◌^◌, ◌≤◌, ◌<◌, ◌||◌, ◌&&◌, true, false, pos, length, IfNone, IfOk, IfSome, OnOk};
 ghost use Rattle.tt_core.specs.Bits.{stride};
 ghost use Rattle.tt_glyphs.specs.Bitmaps.{place_bytes};
 ghost use Rattle.tt_glyphs.specs.Drawn.{BitmapFits, IsInked, bitmap_row, bitmap_rows, column_of, edged_pixel, frame_of, is_pixel_of, line_of};
-ghost use Rattle.tt_glyphs.specs.Edged.{EdgedFits, inked_by};
+ghost use Rattle.tt_glyphs.specs.Edged.{EdgedFits};
 ghost use Rattle.tt_picture.specs.Pixels.{is_filled};
 ghost use Rattle.tt_picture.specs.Rows.{rows};
 ghost use Rattle.tt_scan.specs.Contours.{contours_at};
@@ -106,11 +106,7 @@ fn seen_all(alloc: Global, place: InkPlace, pixels: &[Pixel]) -> Result<Vec<Drop
 }
 
 /// The dropouts of a glyph in a window; none where it fills none. Error: memory ran out.
-pub(crate) fn filled_in(
-    alloc: Global,
-    window: Window,
-    edged: &EdgedOutline,
-) -> Result<Vec<Pixel>, AllocError>
+fn filled_in(alloc: Global, window: Window, edged: &EdgedOutline) -> Result<Vec<Pixel>, AllocError>
     requires window { WindowFits (widened 2 window) }
     requires edged { EdgedFits edged.now }
     ensures { IfOk result (λ v. (c j : ℤ) → has_pixel v.items c j
@@ -147,7 +143,7 @@ fn dropouts_of(
 }
 
 /// The rows of a glyph's ink by its edges. Error: memory ran out.
-fn edges_bitmap(
+pub(crate) fn edges_bitmap(
     alloc: Global,
     place: InkPlace,
     edged: EdgedOutline,
@@ -167,48 +163,6 @@ fn edges_bitmap(
         tape,
         dropouts,
     })
-}
-
-/// The rows of a glyph's ink by its pixels: all of them are blackened as dropouts are. Error: memory ran out.
-fn pixels_bitmap(
-    alloc: Global,
-    place: InkPlace,
-    pixels: &[Pixel],
-) -> Result<GlyphBitmap, AllocError>
-    requires { IsInked place }
-    ensures place { IfOk result (λ b. b.place ≡ place) }
-    ensures fresh { IfOk result (λ b. b.crosses ≡ 0) }
-    ensures rows { IfOk result (λ b. bitmap_rows b ≡ rows place.width (λ c r. has_pixel pixels.now (column_of place c) (line_of place r)) 0 (place_bytes place)) }
-    ensures fits { IfOk result BitmapFits }
-{
-    let dropouts = seen_all(alloc, place, pixels)?;
-    Ok(GlyphBitmap {
-        place,
-        tape: Tape::new(alloc, frame_of(place)),
-        dropouts,
-    })
-}
-
-/// The rows of a glyph's ink, which stands in this place: by its pixels where they are listed, else by its edges. Error:
-/// memory ran out.
-pub(crate) fn bitmap_of(
-    alloc: Global,
-    place: InkPlace,
-    edged: EdgedOutline,
-    listed: Option<Vec<Pixel>>,
-) -> Result<GlyphBitmap, AllocError>
-    requires place { IsInked place }
-    requires edged { EdgedFits edged }
-    requires listed { IfSome listed (λ v. (c j : ℤ) → has_pixel v.items c j ≡ inked_by edged c j) }
-    ensures place { IfOk result (λ b. b.place ≡ place) }
-    ensures fresh { IfOk result (λ b. b.crosses ≡ 0) }
-    ensures rows { IfOk result (λ b. bitmap_rows b ≡ rows place.width (edged_pixel edged place) 0 (place_bytes place)) }
-    ensures fits { IfOk result BitmapFits }
-{
-    match listed {
-        Some(pixels) => pixels_bitmap(alloc, place, &pixels),
-        None => edges_bitmap(alloc, place, edged),
-    }
 }
 
 impl GlyphBitmap {

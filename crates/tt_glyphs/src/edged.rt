@@ -12,9 +12,9 @@ ghost use Rattle.tt_scan_edges.specs.Winding.{FrameFits};
 ghost use Rattle.tt_scan_gaps.specs.Boxes.{ExtentsFit};
 ghost use Rattle.tt_scan_ink.specs.Least.{IsNear};
 
-use crate::listing::MOST_SIDE;
 use crate::placing::count;
 use crate::ruled::RuledOutline;
+use crate::words::MOST_SIDE;
 use std::alloc::{AllocError, Global};
 use tt_arc::OutlineEdges;
 use tt_core::Fault;
@@ -38,8 +38,8 @@ fn rows_frame(past: i64, height: u32) -> Frame
     }
 }
 
-/// The frame that a glyph's edges are made for: the rows of its box, where the box has few rows. Then the rows may be
-/// cut without a second tape. Else the frame has one row.
+/// The frame that a glyph's edges are made for: the rows of its box and two more on each side, where the box has few
+/// rows. Then the rows are cut without a second tape. Else the frame has one row.
 fn first_frame(filled: Option<BoxedRules>) -> Frame
     requires { IfSome filled (λ rules. ExtentsFit rules.extents) }
     ensures { FrameFits result }
@@ -52,7 +52,7 @@ fn first_frame(filled: Option<BoxedRules>) -> Frame
     if height > MOST_SIDE {
         return rows_frame(0, 1);
     }
-    rows_frame(rows.last + 1, height)
+    rows_frame(rows.last + 3, height + 4)
 }
 
 /// The edges of an outline at pen 0.
@@ -75,6 +75,7 @@ pub(crate) fn edged(alloc: Global, ruled: RuledOutline) -> Result<EdgedOutline, 
     requires { IsRuled ruled }
     ensures exact { IfOk result (IsEdged ruled) }
     ensures fits { IfOk result EdgedFits }
+    ensures fresh { IfOk result (λ e. e.tape.crosses ≡ 0) }
 {
     let RuledOutline {
         outline,

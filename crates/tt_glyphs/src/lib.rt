@@ -6,11 +6,13 @@
 //! ruled.rt     an outline with its rules, or the fault that refuses it
 //! outlines.rt  the outlines of the distinct glyphs
 //! edged.rt     the edges of an outline, their crossings and the box of their ink
-//! listing.rt   the black pixels of a small glyph
-//! inked.rt     the box of a glyph's ink, by its pixels or its edges
+//! lines.rt     a word for each line of a small glyph
+//! words.rt     the black pixels of a small glyph
+//! inked.rt     the box of a glyph's ink, by the words of its lines or its edges
 //! placing.rt   the place of a glyph by that box, and the bytes of its rows
-//! bitmap.rt    the edges and dropouts of a glyph's rows
-//! drawn.rt     the rows of a glyph
+//! bitmap.rt    what a glyph's rows are made of
+//! drawn.rt     the rows of a glyph by its edges and its dropouts
+//! written.rt   the rows of a glyph, written
 //! drawing.rt   the distinct glyphs, drawn within the limits of a request
 //! tried.rt     a list whose distinct glyphs are tried
 //! entries.rt   an entry for each place of the list
@@ -27,8 +29,8 @@ mod entries;
 mod inked;
 mod known;
 pub mod laws;
+mod lines;
 mod list;
-mod listing;
 mod outlines;
 mod place;
 mod placing;
@@ -36,6 +38,8 @@ mod request;
 mod ruled;
 mod told;
 mod tried;
+mod words;
+mod written;
 
 pub use list::BitmapList;
 pub use place::InkPlace;

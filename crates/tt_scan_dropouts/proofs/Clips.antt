@@ -103,7 +103,7 @@ no_rows w columns rows none c j = let here = none j in grind (arith, here)
 
 -- a window cut to a glyph's box: the dropouts in it are those of the whole window
 
-box_has_it : (columns rows : Columns) (c j : ℤ) → LiesInBox columns rows c j → box_has columns rows c j ≡ true
+pub box_has_it : (columns rows : Columns) (c j : ℤ) → LiesInBox columns rows c j → box_has columns rows c j ≡ true
 box_has_it columns rows c j h =
     let first : int_le columns.first c ≡ true = grind (arith, ints, h.column.first) in
     let last : int_le c columns.last ≡ true = grind (arith, ints, h.column.last) in

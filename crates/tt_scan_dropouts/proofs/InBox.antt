@@ -170,7 +170,7 @@ abbrev pub LiesInExtents : Extents → ℤ → ℤ → Type 0
 LiesInExtents b c j = LiesInBox (columns_in b) (rows_in b) c j
 
 -- the pixels that a pass over the rows of an outline adds lie in a box that holds its edges
-added_in_box : (rules : Rules) (b : Extents) (contours : List (List Edge)) (black : ℤ → ℤ → Bool) (p j : ℤ)
+pub added_in_box : (rules : Rules) (b : Extents) (contours : List (List Edge)) (black : ℤ → ℤ → Bool) (p j : ℤ)
     → HoldsEdges b (edges_of contours) → is_added rules (columns_in b) (marks rules.stubs contours) black p j ≡ true
     → LiesInExtents b p j
 added_in_box rules b contours black p j held is =
@@ -194,7 +194,7 @@ turned_twice [] = refl
 turned_twice (e ∷ es) = ap (λ rest. e ∷ rest) (turned_twice es)
 
 -- edges turned lie in the turned box
-held_turned : (b : Extents) (es : List Edge) → HoldsEdges b es → HoldsEdges (extents_turned b) (map turned_round es)
+pub held_turned : (b : Extents) (es : List Edge) → HoldsEdges b es → HoldsEdges (extents_turned b) (map turned_round es)
 held_turned b [] held = All-nil (EdgeWithin b.up.low b.up.high b.across.low b.across.high)
 held_turned b (e ∷ es) held =
     let one = All-head (EdgeWithin b.across.low b.across.high b.up.low b.up.high) e es held in

@@ -1,5 +1,5 @@
 -- The rows of a window from the top down, and the inking of one row.
-use Rattle.std.proofs.Common.{◌≡◌, ◌∙◌, refl, ap, ◌⊎◌, inl, inr, ℕ, zero, suc, ◌+◌, ◌-◌, ◌*◌, ◌/◌, ◌%◌, ◌^◌, ◌<◌, ◌≤◌, Bool, true, false, ◌&&◌, ◌||◌, nat_lt, if◌then◌else◌, ℤ, pos, ◌+ℤ◌, ◌-ℤ◌, ◌<ℤ◌, ◌≤ℤ◌, unsigned_abs, List, [], ◌∷◌, ◌++◌, length, take, drop, slice_index, replicate, arith}
+use Rattle.std.proofs.Common.{◌≡◌, ◌∙◌, refl, sym, ap, ◌⊎◌, inl, inr, ℕ, zero, suc, ◌+◌, ◌-◌, ◌*◌, ◌/◌, ◌%◌, ◌^◌, ◌<◌, ◌≤◌, Bool, true, false, ◌&&◌, ◌||◌, nat_lt, if◌then◌else◌, ℤ, pos, ◌+ℤ◌, ◌-ℤ◌, ◌<ℤ◌, ◌≤ℤ◌, unsigned_abs, List, [], ◌∷◌, ◌++◌, length, take, drop, slice_index, replicate, arith}
 use Rattle.std.specs.Ordering.{int_eq}
 use Rattle.std.specs.Prelude.{int_le}
 use Rattle.std.proofs.lemmas.Bool.{cases_Bool, cases_eq, cases_lt}
@@ -31,12 +31,16 @@ pub has_row_of : (f : Frame) (w : Window) (r : ℕ) → has_rows f w ≡ true �
 has_row_of f w r rows within = grind (arith, ints)
 
 -- the centres of those rows are the window's, and so are those of its columns, counted with the margin
-row_centre : (f : Frame) (w : Window) (r : ℕ) → row_y f (first_row f w +ℤ pos r) ≡ centre (row_from_top w r)
+pub row_centre : (f : Frame) (w : Window) (r : ℕ) → row_y f (first_row f w +ℤ pos r) ≡ centre (row_from_top w r)
 row_centre f w r = omega (arith, ints)
 
 column_centre : (margin : ℕ) (left : ℤ) (k : ℕ)
     → column_x margin (pos k -ℤ ((pos 0 -ℤ left) -ℤ pos margin)) ≡ centre (left +ℤ pos k)
 column_centre margin left k = omega (arith, ints)
+
+-- the column of a frame whose centres have a place
+pub centre_of_column : (margin : ℕ) (c : ℤ) → column_x margin (c +ℤ pos margin) ≡ centre c
+centre_of_column margin c = omega (arith, ints)
 
 -- the black columns of a row of the frame, moved to the window's
 pub row_painted : (w : Window) (f : Frame) (es : List Edge) (ss : List Span) (r k : ℕ) → WindowFits w → FrameFits f
@@ -111,16 +115,6 @@ bit_of_part a k d xs within =
     get_or-take k (drop a xs) (d / 8) 0 (omega (arith, within)) ∙ get_or-drop a xs (d / 8) 0 in
     rw (byte, column, same) refl
 
--- the bytes of a row lie apart from those of another
-apart : (w : Window) (s r d : ℕ) → d < w.width → (s ≡ r → ⊥)
-    → ((8 * (stride w.width * s) + d) / 8 < stride w.width * r)
-    ⊎ (stride w.width * r + stride w.width ≤ (8 * (stride w.width * s) + d) / 8)
-apart w s r d narrow other = elim (cases_lt s r) [
-  | inl less ↦ let room = row_within w.width r s less in inl (omega (arith, room, narrow))
-  | inr not_less ↦ let more : r < s = omega (arith, other, not_less) in
-      let room = row_within w.width s r more in inr (omega (arith, room))
-]
-
 -- the distance of a pixel from the first of its row or column, and the number of that row from the top
 offset_is : (first : ℤ) (n : ℕ) (a : ℤ) → is_within first n a ≡ true → first +ℤ pos (unsigned_abs (a -ℤ first)) ≡ a
 offset_is first n a within = grind (arith, ints)
@@ -139,34 +133,58 @@ row_is_not bottom h r s j within is other = elim (cases_Bool (int_eq ((bottom +�
 eq_same : (j : ℤ) → int_eq j j ≡ true
 eq_same j = grind (arith, ints)
 
--- a row of the window whose bits were written
+-- the bytes from those of a row on, of which the row's were written: another row above it is unchanged
+above_row : (w : Window) (a k s d : ℕ) (xs ys : List ℕ) (black : ℕ → Bool) → d < w.width → a + k ≡ length xs → length ys ≡ k
+    → stride w.width * s + stride w.width ≤ length xs → a + stride w.width ≤ stride w.width * s
+    → ((i : ℕ) → bit ys i ≡ (bit (take k (drop a xs)) i || (nat_lt i w.width && black i)))
+    → bit (put_mid a k xs ys) (8 * (stride w.width * s) + d) ≡ bit xs (8 * (stride w.width * s) + d)
+above_row w a k s d xs ys black column all count within above painted =
+    let e : ℕ = 8 * (stride w.width * s) + d - 8 * a in
+    let at : 8 * (stride w.width * s) + d ≡ 8 * a + e = omega (arith, above) in
+    let inside : e < 8 * k = omega (arith, column, all, within) in
+    let over : nat_lt e w.width ≡ false = grind (arith, nat_tests, above) in
+    let kept : bit (put_mid a k xs ys) (8 * a + e) ≡ bit xs (8 * a + e) =
+    bit_within a k e xs ys inside (omega (arith, all)) count ∙ painted e
+    ∙ rw over (sym (or_false (bit (take k (drop a xs)) e))) ∙ bit_of_part a k e xs inside in
+    rw at kept
+
+-- a row of the window whose bits were written: the bytes from its first on were, and those of other rows are unchanged
 pub row_inked : (w : Window) (black : ℤ → ℤ → Bool) (r a k : ℕ) (xs ys : List ℕ) (c j : ℤ) → r < w.height
-    → a ≡ stride w.width * (w.height - 1 - r) → k ≡ stride w.width → a ≤ length xs → length ys ≡ k
+    → a ≡ stride w.width * (w.height - 1 - r) → a + k ≡ length xs → length xs ≡ stride w.width * w.height → length ys ≡ k
     → ((d : ℕ) → bit ys d
     ≡ (bit (take k (drop a xs)) d || (nat_lt d w.width && black (w.left +ℤ pos d) (row_from_top w r))))
     → has w c j ≡ true
     → bit (put_mid a k xs ys) (place w c j) ≡ (bit xs (place w c j) || (int_eq (row_from_top w r) j && black c j))
-row_inked w black r a k xs ys c j within start bytes long count painted inside =
+row_inked w black r a k xs ys c j within start all long count painted inside =
     let parts = both (is_within w.left w.width c) (is_within w.bottom w.height j) inside in
     let d = unsigned_abs (c -ℤ w.left) in
     let s = unsigned_abs (j -ℤ w.bottom) in
+    let own = w.height - 1 - r in
     let column : d < w.width = offset_within w.left w.width c parts.0 in
     let row : s < w.height = offset_within w.bottom w.height j parts.1 in
     let across = offset_is w.left w.width c parts.0 in
     let up = offset_is w.bottom w.height j parts.1 in
-    elim (cases_eq s (w.height - 1 - r)) [
+    let room = row_within w.width w.height own (omega (arith, within)) in
+    elim (cases_eq s own) [
       | inl same ↦
           let here : row_from_top w r ≡ j = row_is w.bottom w.height r s j within up same in
           let at : place w c j ≡ 8 * a + d = rw (start, same) refl in
-          let narrow : d < 8 * k = rw bytes (omega (arith, column)) in
+          let narrow : d < 8 * k = omega (arith, column, room, all, long, start) in
           let drawn : nat_lt d w.width ≡ true = grind (arith, nat_tests, column) in
-          rw (at, here, eq_same j) (bit_within a k d xs ys narrow long count ∙ painted d
+          rw (at, here, eq_same j) (bit_within a k d xs ys narrow (omega (arith, all)) count ∙ painted d
           ∙ rw (bit_of_part a k d xs narrow, drawn, across, here) refl)
       | inr other ↦
           let there : int_eq (row_from_top w r) j ≡ false = row_is_not w.bottom w.height r s j within up other in
-          let away = apart w s (w.height - 1 - r) d column other in
-          let kept : bit (put_mid a k xs ys) (place w c j) ≡ bit xs (place w c j) =
-          bit_outside a k (place w c j) xs ys (rw (start, bytes) away) long count in
+          let kept : bit (put_mid a k xs ys) (place w c j) ≡ bit xs (place w c j) = elim (cases_lt s own) [
+            | inl below ↦
+                let less = row_within w.width own s below in
+                bit_outside a k (place w c j) xs ys (inl (omega (arith, less, start, column))) (omega (arith, all)) count
+            | inr not_below ↦
+                let more = row_within w.width s own (omega (arith, other, not_below)) in
+                let top = row_within w.width w.height s row in
+                above_row w a k s d xs ys (λ i. black (w.left +ℤ pos i) (row_from_top w r)) column all count
+                (rw long top) (rw start more) painted
+          ] in
           rw there (kept ∙ or_false (bit xs (place w c j)))
     ]
 
@@ -214,6 +232,52 @@ zero_everywhere (suc n) (suc i) = zero_everywhere n i
 
 pub all_white : (n k : ℕ) → bit (replicate n 0) k ≡ false
 all_white n k = rw (zero_everywhere n (k / 8), bit_at-zero) refl
+
+-- where no row above a row is black, none is painted; where no row from a row on is black, all are painted
+
+pub none_above : (w : Window) (black : ℤ → ℤ → Bool) (from : ℕ) (c j : ℤ)
+    → ((r : ℕ) → r < w.height → r < from → black c (row_from_top w r) ≡ false) → has w c j ≡ true
+    → (is_painted w from j && black c j) ≡ false
+none_above w black from c j blank inside =
+    let within = (both (is_within w.left w.width c) (is_within w.bottom w.height j) inside).1 in
+    let s = unsigned_abs (j -ℤ w.bottom) in
+    let row : s < w.height = offset_within w.bottom w.height j within in
+    let up = offset_is w.bottom w.height j within in
+    elim (cases_Bool (is_painted w from j)) [
+      | inl painted ↦
+          let above : w.height - 1 - s < from = painted_above w.bottom w.height from s j painted up row in
+          let own : row_from_top w (w.height - 1 - s) ≡ j = row_is w.bottom w.height (w.height - 1 - s) s j (omega (arith, row)) up (omega (arith, row)) in
+          let white : black c j ≡ false = rw own at (blank (w.height - 1 - s) (omega (arith, row)) above) in
+          rw white (and_false (is_painted w from j))
+      | inr not ↦ rw not refl
+    ] where
+      painted_above : (bottom : ℤ) (h from s : ℕ) (j : ℤ) → int_le ((bottom +ℤ pos h) -ℤ pos from) j ≡ true
+          → bottom +ℤ pos s ≡ j → s < h → h - 1 - s < from
+      painted_above bottom h from s j painted up row = grind (arith, ints, painted, up, row)
+
+      and_false : (b : Bool) → (b && false) ≡ false
+      and_false true = refl
+      and_false false = refl
+
+pub all_below : (w : Window) (black : ℤ → ℤ → Bool) (to : ℕ) (c j : ℤ)
+    → ((r : ℕ) → r < w.height → to ≤ r → black c (row_from_top w r) ≡ false) → has w c j ≡ true
+    → (is_painted w to j && black c j) ≡ black c j
+all_below w black to c j blank inside =
+    let within = (both (is_within w.left w.width c) (is_within w.bottom w.height j) inside).1 in
+    let s = unsigned_abs (j -ℤ w.bottom) in
+    let row : s < w.height = offset_within w.bottom w.height j within in
+    let up = offset_is w.bottom w.height j within in
+    elim (cases_Bool (is_painted w to j)) [
+      | inl painted ↦ rw painted refl
+      | inr not ↦
+          let below : to ≤ w.height - 1 - s = not_painted w.bottom w.height to s j not up row in
+          let own : row_from_top w (w.height - 1 - s) ≡ j = row_is w.bottom w.height (w.height - 1 - s) s j (omega (arith, row)) up (omega (arith, row)) in
+          let white : black c j ≡ false = rw own at (blank (w.height - 1 - s) (omega (arith, row)) below) in
+          rw (not, white) refl
+    ] where
+      not_painted : (bottom : ℤ) (h to s : ℕ) (j : ℤ) → int_le ((bottom +ℤ pos h) -ℤ pos to) j ≡ false
+          → bottom +ℤ pos s ≡ j → s < h → to ≤ h - 1 - s
+      not_painted bottom h to s j painted up row = grind (arith, ints, painted, up, row)
 
 -- the crossings of the rows so far, and of one row more, can be counted
 pub count_fits : (r h n crosses : ℕ) → r < h → h ≤ 4100 → n ≤ 2 ^ 32 → crosses ≤ r * n → crosses + n ≤ 2 ^ 63

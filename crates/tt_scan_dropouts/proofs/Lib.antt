@@ -1,3 +1,4 @@
+pub mod AllBlack
 pub mod BothWays
 pub mod Clips
 pub mod Counts
@@ -6,7 +7,9 @@ pub mod Ends
 pub mod FreeMarks
 pub mod InBox
 pub mod Inked
+pub mod InkedInBox
 pub mod Leaves
+pub mod LineWords
 pub mod Locality
 pub mod Moved
 pub mod MovedGaps
@@ -20,6 +23,7 @@ pub mod PassSteps
 pub mod Pictured
 pub mod Pixels
 pub mod Places
+pub mod Rising
 pub mod Rounds
 pub mod Through
 pub mod Together

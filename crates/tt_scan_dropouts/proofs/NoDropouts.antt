@@ -63,7 +63,7 @@ not_free black es balanced none i d within k p less =
     ]
 
 -- no edge makes a mark in a free gap
-nothing_free : (stubs : Bool) (black : ℤ → ℤ → Bool) (es : List Edge) → IsBalanced black es → NoneFreeBothWays black es
+pub nothing_free : (stubs : Bool) (black : ℤ → ℤ → Bool) (es : List Edge) → IsBalanced black es → NoneFreeBothWays black es
     → All (λ e. (stubs && (is_on_line e.ay || is_on_line e.by)) ≡ false) es
     → list_any (is_in_free_gap stubs black) es ≡ false
 nothing_free stubs black es balanced none off = list_any_none (is_in_free_gap stubs black) es (λ i d within.

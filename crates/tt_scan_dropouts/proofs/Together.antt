@@ -62,6 +62,10 @@ near w c j d k h left right bottom top = has_it (widened 2 w) d k (record {
   top = omega (arith, ints, h.top, top);
 })
 
+-- a pixel of the window lies in the wider one
+pub wider : (w : Window) (c j : ℤ) → has w c j ≡ true → has (widened 2 w) c j ≡ true
+wider w c j is = near w c j c j (lies_in w c j is) (omega (arith, ints)) (omega (arith, ints)) (omega (arith, ints)) (omega (arith, ints))
+
 -- the facts about a glyph in a window that both passes use
 pub record Passes (rules : BoxedRules) (contours : List (List Edge)) (w : Window)
     (inked after rows columns : ℤ → ℤ → Bool) : Type 0 where

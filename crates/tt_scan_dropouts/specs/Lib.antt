@@ -5,5 +5,6 @@ pub mod Examples
 pub mod Laws
 pub mod Passes
 pub mod Pictures
+pub mod Rising
 pub mod Seen
 pub mod Windows

@@ -1,13 +1,14 @@
 //! The black pixels of a glyph in a window. Pixels outside count as black, so that no gap there is free.
 
-ghost use Rattle.std.specs.Prelude.{◌≡◌, not, ℤ, true, length, ◌+◌, ◌*◌, ◌^◌, ◌<◌, ◌≤◌, ◌&&◌, ◌||◌, unsigned_abs, All, IfOk};
+ghost use Rattle.std.specs.Prelude.{◌≡◌, not, ℕ, ℤ, true, false, length, ◌+◌, ◌*◌, ◌^◌, ◌<◌, ◌≤◌, ◌&&◌, ◌||◌, ◌⊎◌, int_le, unsigned_abs, All, IfOk, OnOk};
 ghost use Rattle.std.specs.Ordering.{int_eq};
 ghost use Rattle.tt_core.specs.Bits.{bit, stride};
+ghost use Rattle.tt_scan.specs.Stamps.{shows};
 ghost use Rattle.tt_scan_edges.specs.Winding.{EdgeFits, FrameFits, is_black};
 ghost use Rattle.tt_scan_gaps.specs.Crossings.{centre};
 ghost use Rattle.tt_scan_gaps.specs.Gaps.{is_free};
 ghost use Rattle.tt_scan_dropouts.specs.Passes.{has_pixel};
-ghost use Rattle.tt_scan_dropouts.specs.Windows.{WindowFits, first_row, frame_of, has, has_rows, is_black_in, is_black_by, place, row_from_top};
+ghost use Rattle.tt_scan_dropouts.specs.Windows.{WindowFits, first_row, frame_of, has, has_rows, is_black_in, is_black_by, is_shown, place, row_from_top};
 
 use crate::pixel::Pixel;
 use crate::window::{Window, has, offset};
@@ -18,7 +19,7 @@ use tt_scan_gaps::Over;
 
 /// The rows of a window from the bottom up, each a whole number of bytes, the leftmost pixel in the highest bit.
 #[derive(Drop)]
-pub(crate) struct Bitmap {
+pub struct Bitmap {
     window: Window,
     bits: Vec<u8>,
 }
@@ -76,7 +77,7 @@ fn first_row(frame: Frame, window: Window) -> i64
 }
 
 /// Whether a frame has all rows of a window.
-fn has_rows(frame: Frame, window: Window) -> bool
+pub(crate) fn has_rows(frame: Frame, window: Window) -> bool
     requires frame { FrameFits frame }
     requires window { WindowFits window }
     ensures { result ≡ has_rows frame window }
@@ -98,6 +99,24 @@ fn tape_for(alloc: Global, tape: &Tape, window: Window) -> Result<Tape, AllocErr
     } else {
         tape_of(alloc, tape.lend(), window)
     }
+}
+
+/// The rows of a window that edges on a tape may meet: the first, and one past the last. Rows count from the top. The
+/// tape's frame has them all.
+fn rows_met(tape: &Tape, window: Window) -> (u32, u32)
+    requires window { WindowFits window }
+    requires rows { has_rows tape.now.frame window ≡ true }
+    ensures within { result.1 ≤ window.height }
+    ensures blank { (r : ℕ) (c : ℤ) → r < window.height → (r < result.0) ⊎ (result.1 ≤ r)
+        → is_black tape.now.edges (centre c) (centre (row_from_top window r)) ≡ false }
+{
+    let (first, past) = tape.rows();
+    let top = first_row(tape.frame(), window);
+    let height = i64::from(window.height);
+    (
+        (first - top).clamp(0, height) as u32,
+        (past - top).clamp(0, height) as u32,
+    )
 }
 
 /// Blackens the columns of row `r` of the window that edges blacken; `r` counts from the top. `bits` has the bits of all
@@ -122,7 +141,8 @@ fn ink_row(sweep: &mut Sweep, tape: &mut Tape, window: Window, r: u32, bits: &mu
     let frame = tape.frame();
     sweep.cut(tape, first_row(frame, window) + i64::from(r));
     let shift = -i64::from(window.left) - i64::from(frame.margin);
-    sweep.paint(shift, window.width, &mut bits[start..start + bytes]);
+    // The bytes of the rows above are unchanged. With eight bytes and more a row is painted at once.
+    sweep.paint(shift, window.width, &mut bits[start..]);
 }
 
 /// The number of a pixel of the window among the bits.
@@ -138,8 +158,35 @@ fn place(window: Window, column: i64, row: i64) -> usize
 }
 
 impl Bitmap {
-    /// The pixels of a window that the edges of a tape blacken by the scan converter's rules 1 and 2. Error: memory ran
-    /// out.
+    /// The pixels of a window that the edges of a tape blacken by the scan converter's rules 1 and 2. The tape's frame
+    /// has all rows of the window, and the sweep has memory for its edges. Error: memory ran out.
+    pub(crate) fn cut(
+        alloc: Global,
+        tape: &mut Tape,
+        sweep: &mut Sweep,
+        window: Window,
+    ) -> Result<Bitmap, AllocError>
+        requires few { length tape.old.edges ≤ 2 ^ 32 }
+        requires window { WindowFits window }
+        requires rows { has_rows tape.old.frame window ≡ true }
+        requires fresh { tape.old.crosses ≡ 0 }
+        requires room { length tape.old.edges ≤ sweep.old.room }
+        ensures window { IfOk result (λ b. b.window ≡ window) }
+        ensures black { IfOk result (λ b. (c j : ℤ) → has window c j ≡ true
+            → is_black_in b c j ≡ is_black tape.old.edges (centre c) (centre j)) }
+        ensures tape { OnOk result (tape.new ≡ record tape.old { crosses = tape.new.crosses }) }
+        ensures room { OnOk result (sweep.new.room ≡ sweep.old.room) }
+    {
+        let mut bits = vec![in alloc; 0u8; stride(window) * window.height as usize]?;
+        let (from, to) = rows_met(tape, window);
+        for r in from..to {
+            ink_row(sweep, tape, window, r, &mut bits);
+        }
+        Ok(Bitmap { window, bits })
+    }
+
+    /// The pixels of a window that the edges of a tape blacken by the scan converter's rules 1 and 2. The tape is
+    /// unchanged. Error: memory ran out.
     pub(crate) fn inked(alloc: Global, tape: &Tape, window: Window) -> Result<Bitmap, AllocError>
         requires few { length tape.now.edges ≤ 2 ^ 32 }
         requires window { WindowFits window }
@@ -149,11 +196,25 @@ impl Bitmap {
     {
         let mut tape = tape_for(alloc, tape, window)?;
         let mut sweep = Sweep::new(alloc, tape.edges())?;
-        let mut bits = vec![in alloc; 0u8; stride(window) * window.height as usize]?;
-        for r in 0..window.height {
-            ink_row(&mut sweep, &mut tape, window, r, &mut bits);
+        Bitmap::cut(alloc, &mut tape, &mut sweep, window)
+    }
+
+    /// The columns of a line from `left` on as one word, the leftmost in the highest bit. The bitmap has at most 57
+    /// columns, and has the first pixel.
+    pub fn line_word(&self, left: i64, line: i64) -> u64
+        requires narrow { self.now.window.width ≤ 57 }
+        requires first { has self.now.window left line ≡ true }
+        ensures { (c : ℤ) → shows left result c ≡ (int_le left c && is_shown self.now c line) }
+    {
+        let bytes = stride(self.window);
+        let start = bytes * offset(self.window.bottom, self.window.height, line);
+        let mut word = 0u64;
+        for i in 0..bytes {
+            word = 256 * word + u64::from(self.bits[start + i]);
         }
-        Ok(Bitmap { window, bits })
+        let columns = word >> (8 * bytes - self.window.width as usize);
+        let by = offset(self.window.left, self.window.width, left);
+        columns << (64 - self.window.width as usize + by)
     }
 
     /// One of the bits.

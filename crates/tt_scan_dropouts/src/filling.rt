@@ -7,11 +7,11 @@ ghost use Rattle.std.specs.Ordering.{int_eq};
 ghost use Rattle.tt_scan.specs.Contours.{IsClosed, contours_at};
 ghost use Rattle.tt_scan_edges.specs.Winding.{EdgeFits};
 ghost use Rattle.tt_scan_gaps.specs.Seen.{seen_by, turned_round};
-ghost use Rattle.tt_scan_dropouts.specs.Dropouts.{is_dropout, pass_adds};
+ghost use Rattle.tt_scan_dropouts.specs.Dropouts.{is_dropout, outline_turned, pass_adds, row_adds, rules_turned};
 ghost use Rattle.tt_scan_dropouts.specs.Passes.{has_pixel};
 ghost use Rattle.tt_scan_dropouts.specs.Seen.{is_black_to};
 ghost use Rattle.tt_scan_gaps.specs.Walk.{is_in_free_gap};
-ghost use Rattle.tt_scan_dropouts.specs.Windows.{WindowFits, has, has_pixel_by, is_black_by, widened};
+ghost use Rattle.tt_scan_dropouts.specs.Windows.{WindowFits, has, has_pixel_by, is_black_by, is_black_in, widened};
 ghost use Rattle.tt_scan_gaps.specs.declared.seen.Over.TheVariants as over;
 
 use crate::bitmap::Bitmap;
@@ -55,7 +55,7 @@ fn pass_over(
 /// Whether an edge, as a pass sees it, makes a mark in a free gap: a crossing, or, where stubs are drawn, an end that
 /// touches a line. A pass in one value would be copied for each edge.
 #[inline(never)]
-fn makes_mark(ink: &Bitmap, over: Over, stubs: bool, edge: &Edge) -> bool
+pub(crate) fn makes_mark(ink: &Bitmap, over: Over, stubs: bool, edge: &Edge) -> bool
     requires { EdgeFits edge.now }
     ensures { result ≡ is_in_free_gap stubs (is_black_by over ink.now) (seen_by over edge.now) }
 {
@@ -75,7 +75,7 @@ fn is_in_free_gap(ink: &Bitmap, over: Over, stubs: bool, edge: &Edge) -> bool
 /// Whether some edge makes a mark in a free gap by rows, and whether some edge does by columns. Where none does, the
 /// pass adds nothing, and its walk is not needed.
 #[inline(never)]
-fn some_in_free_gap(ink: &Bitmap, stubs: bool, edges: &[Edge]) -> (bool, bool)
+pub(crate) fn some_in_free_gap(ink: &Bitmap, stubs: bool, edges: &[Edge]) -> (bool, bool)
     requires { All EdgeFits edges.now }
     ensures rows { result.0 ≡ list_any (is_in_free_gap stubs (is_black_by over.Rows ink.now)) edges.now }
     ensures columns { result.1
@@ -160,7 +160,7 @@ fn push_if_within(found: &mut Vec<Pixel>, window: Window, pixel: Pixel) -> Resul
 }
 
 /// Adds the pixels of a list that lie in a window. Error: memory ran out.
-fn push_within(
+pub(crate) fn push_within(
     found: &mut Vec<Pixel>,
     window: Window,
     over: Over,
@@ -175,6 +175,48 @@ fn push_within(
     Ok(())
 }
 
+/// The pixels that the pass over the rows adds, and then those that the pass over the columns adds, which have column and
+/// row exchanged. The pixels of the first are black in the bitmap afterwards. `some` has for each pass whether an edge
+/// makes a mark in a free gap. Error: memory ran out.
+pub(crate) fn both_passes(
+    alloc: Global,
+    glyph: Outlined,
+    some: (bool, bool),
+    ink: &mut Bitmap,
+) -> Result<(Vec<Pixel>, Vec<Pixel>), AllocError>
+    requires rows { some.0 ≡ false → list_any (is_in_free_gap glyph.rules.rules.stubs (is_black_by over.Rows ink.old))
+        glyph.tape.now.edges ≡ false }
+    requires columns { some.1 ≡ false → list_any (is_in_free_gap glyph.rules.rules.stubs (is_black_by over.Columns ink.old))
+        (map turned_round glyph.tape.now.edges) ≡ false }
+    ensures rows { IfOk result (λ both. (c j : ℤ) → has_pixel both.0.items c j
+        ≡ row_adds glyph.entry.rules (contours_at glyph.entry.tape.now.edges glyph.entry.ends.now) (is_black_in ink.old) c j) }
+    ensures columns { IfOk result (λ both. (p j : ℤ) → has_pixel both.1.items p j
+        ≡ row_adds (rules_turned glyph.entry.rules)
+        (outline_turned (contours_at glyph.entry.tape.now.edges glyph.entry.ends.now)) (is_black_by over.Columns ink.new) p j) }
+    ensures also { IfOk result (λ both. (c j : ℤ) → is_black_in ink.new c j
+        ≡ (is_black_in ink.old c j || has_pixel both.0.items c j)) }
+    ensures window { OnOk result (ink.new.window ≡ ink.old.window) }
+{
+    let contours = glyph.contours();
+    let rules = glyph.rules.rules;
+    let (columns, rows) = pixels_in(glyph.rules.extents);
+    let across = Pass {
+        rules,
+        over: Over::Rows,
+        ink,
+    };
+    let by_rows = added(alloc, across, some.0, columns, contours)?;
+    // The pixels that are black now make no further gap free, so the test by columns remains true.
+    ink.blacken_all(&by_rows);
+    let along = Pass {
+        rules,
+        over: Over::Columns,
+        ink,
+    };
+    let by_columns = added_turned(alloc, along, some.1, rows, contours)?;
+    Ok((by_rows, by_columns))
+}
+
 /// The dropouts in a window of a glyph: the pixels that are black besides those of the scan converter's rules 1 and 2.
 /// OpenType, "TrueType Fundamentals", rules 3 and 4. A caller asks `may_have_dropouts` first, once for all windows of a
 /// glyph. Error: memory ran out.
@@ -183,29 +225,14 @@ pub fn dropouts(alloc: Global, glyph: Outlined, window: Window) -> Result<Vec<Pi
     ensures exact { IfOk result (λ v. (c j : ℤ) → has_pixel v.items c j
         ≡ (has window c j && is_dropout glyph.entry.rules (contours_at glyph.entry.tape.now.edges glyph.entry.ends.now) c j)) }
 {
-    let contours = glyph.contours();
-    let rules = glyph.rules.rules;
     let (columns, rows) = pixels_in(glyph.rules.extents);
     let part = match clipped(window, columns, rows) {
         Some(part) => part,
         None => return Ok(Vec::new(alloc)),
     };
     let mut ink = Bitmap::inked(alloc, glyph.tape, widened(part))?;
-    let (some_by_rows, some_by_columns) = some_in_free_gap(&ink, rules.stubs, contours.edges);
-    let across = Pass {
-        rules,
-        over: Over::Rows,
-        ink: &ink,
-    };
-    let by_rows = added(alloc, across, some_by_rows, columns, contours)?;
-    // The pixels that are black now make no further gap free, so the test by columns remains true.
-    ink.blacken_all(&by_rows);
-    let along = Pass {
-        rules,
-        over: Over::Columns,
-        ink: &ink,
-    };
-    let by_columns = added_turned(alloc, along, some_by_columns, rows, contours)?;
+    let some = some_in_free_gap(&ink, glyph.rules.rules.stubs, glyph.tape.lend());
+    let (by_rows, by_columns) = both_passes(alloc, glyph, some, &mut ink)?;
     let mut found = Vec::new(alloc);
     push_within(&mut found, part, Over::Rows, &by_rows)?;
     push_within(&mut found, part, Over::Columns, &by_columns)?;

@@ -14,6 +14,7 @@
 //! marks.rt      the marks of an outline's contours in free gaps
 //! pass.rt       the pixels that a pass over the gaps of all rows adds, and which gap gives way
 //! filling.rt    the dropouts of a glyph in a window
+//! black.rt      all black pixels of a small glyph in one bitmap
 //! counting.rt   what the edges of a glyph count where work is bounded
 //! picture.rt    the dropouts of a picture, as a list that is painted row by row
 //! laws.rt       dropouts are white without them, and move with their glyph; free gaps are crossed both ways; what is
@@ -24,6 +25,7 @@
 #![tactic(auto)]
 
 mod bitmap;
+mod black;
 mod boxed;
 mod closed;
 mod contours;
@@ -37,6 +39,8 @@ mod picture;
 mod pixel;
 mod window;
 
+pub use bitmap::Bitmap;
+pub use black::black_pixels;
 pub use boxed::BoxedRules;
 pub use contours::Outlined;
 pub use counting::{BAND_ROWS, all_counted, edges_counted};

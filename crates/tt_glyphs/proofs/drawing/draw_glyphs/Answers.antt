@@ -59,6 +59,7 @@ loop-one-preserved c =
           rw pushed (All-push (λ (d : DrawnGlyph). IsDrawn c.args.source.now.fit (maker d.number) d) at.made.items d
           (so_far.drawn maker source parts.0) here);
       fits = rw pushed (All-push DrawnFits at.made.items d so_far.fits one.fits);
+      room = rw c.in_ok-glyph.ensures.room so_far.room;
       left = rw (chords, crossings)
           (one_charged c.args.limits at.left c.draw_one.new.left (tried_chords at.yielded) (tried_crossings at.yielded)
           (ruled_chords t.body) (ruled_crossings t.body) so_far.left one.left);

@@ -28,8 +28,8 @@ returns-then-place-eq0-clause-fits c =
       bitmap = rw c.if-place-eq0.true (omega arith);
     })
 
-pub bitmap_of-requires-clause-place : goal.bitmap_of-requires-clause-place
-bitmap_of-requires-clause-place c =
+pub rows_of-requires-clause-place : goal.rows_of-requires-clause-place
+rows_of-requires-clause-place c =
     let small : is_large c.args.place ≡ false = rw c.is_large.ensures at c.if-is_large.false in
     let some : 1 ≤ c.args.place.width = omega (arith, c.if-place-eq0.false) in
     record {
@@ -52,7 +52,7 @@ returns-clause-fits c =
         left = c.requires.place.left;
         top = c.requires.place.top;
       };
-      bitmap = (c.in_ok-bitmap.ensures.fits, c.in_ok-bitmap.ensures.fresh, rw place refl);
+      bitmap = (c.in_ok-bitmap.ensures.fits, rw place refl);
     }
 
 pub returns-clause-drawn : goal.returns-clause-drawn

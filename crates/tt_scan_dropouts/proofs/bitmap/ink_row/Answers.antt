@@ -51,15 +51,15 @@ returns-clause-black c = λ column row inside.
     let bits = c.args.bits.now in
     let up : ℕ = w.height - 1 - c.args.r in
     let start : ℕ = c.stride-bytes.result * up in
-    let count : ℕ = start + c.stride-bytes.result - start in
-    let bytes : count ≡ stride w.width = omega (arith, c.stride-bytes.ensures) in
+    let count : ℕ = length bits - start in
     let at : start ≡ stride w.width * up = rw c.stride-bytes.ensures refl in
     let room = row_within w.width w.height up (omega (arith, c.requires.within)) in
-    let long : start + count ≤ length bits = rw (bytes, at, c.requires.len) room in
-    let part : count ≤ length (drop start bits) = omega (arith, long, length-drop start bits) in
+    let fits_in : start ≤ length bits = rw (at, c.requires.len) (omega (arith, room)) in
+    let part : count ≤ length (drop start bits) = omega (arith, length-drop start bits) in
     let filled = c.paint.ensures.len ∙ length-take-le count (drop start bits) part in
     row_inked w (λ x y. is_black c.args.tape.now.edges (centre x) (centre y)) c.args.r start count bits
-    c.paint.new.row column row c.requires.within at bytes (omega (arith, long)) filled (λ k. painted k ∙ ap (λ (b : Bool). bit (take count (drop start bits)) k || b)
+    c.paint.new.row column row c.requires.within at (omega (arith, fits_in)) c.requires.len filled
+    (λ k. painted k ∙ ap (λ (b : Bool). bit (take count (drop start bits)) k || b)
     (row_painted w tape.frame tape.edges c.cut.new.self.spans c.args.r k c.requires.window fits black)) inside
 
 pub returns-clause-crosses : goal.returns-clause-crosses

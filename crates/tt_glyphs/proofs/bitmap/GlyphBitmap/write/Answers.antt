@@ -1,7 +1,7 @@
 use Rattle.std.proofs.Common.{◌≡◌, ◌∙◌, ◌+◌, ◌-◌, ◌*◌, ◌<◌, length, take, drop, refl, sym, ap, arith, length-drop, length-take-le}
 use Rattle.std.proofs.lemmas.List.{take_all}
 use Rattle.tt_core.specs.Bits.{stride}
-use Rattle.tt_glyphs.specs.Drawn.{bitmap_row, bitmap_rows}
+use Rattle.tt_glyphs.specs.Drawn.{bitmap_row, bitmap_rows, drawn_pixel}
 use Rattle.tt_glyphs.specs.GlyphBitmap.{GlyphBitmap}
 use Rattle.tt_glyphs.proofs.BitmapRows.{crosses_fit, crosses_more, fits_with, len_kept, no_row_more, one_row_more, row_within}
 use Rattle.tt_glyphs.proofs.bitmap.GlyphBitmap.write.Goals as goal
@@ -14,7 +14,7 @@ loop-r-init c =
       self = refl;
       crosses = omega (arith, c.requires.fresh);
       len = c.requires.len;
-      rows = no_row_more c.args.self.now c.args.rows.now;
+      rows = no_row_more c.args.self.now.place (drawn_pixel c.args.self.now) c.args.rows.now;
       room = refl;
     }
 
@@ -79,8 +79,8 @@ loop-r-preserved c =
       self = c.write_row.ensures.same
           ∙ ap (λ (b : GlyphBitmap). record b { crosses = c.write_row.new.self.crosses }) so_far.self;
       crosses = crosses_more r (length b.edges) c.loop-r.self.crosses c.write_row.new.self.crosses so_far.crosses more;
-      len = len_kept b r (n * r + n - n * r) old row (omega (arith, ends, so_far.len)) part is ∙ so_far.len;
-      rows = one_row_more b r (n * r + n - n * r) old row (omega (arith, ends, so_far.len)) so_far.rows is;
+      len = len_kept b.place (drawn_pixel b) r (n * r + n - n * r) old row (omega (arith, ends, so_far.len)) part is ∙ so_far.len;
+      rows = one_row_more b.place (drawn_pixel b) r (n * r + n - n * r) old row (omega (arith, ends, so_far.len)) so_far.rows is;
       room = c.write_row.ensures.room ∙ so_far.room;
     })
 

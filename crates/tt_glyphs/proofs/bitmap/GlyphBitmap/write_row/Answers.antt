@@ -10,7 +10,7 @@ use Rattle.tt_scan_dropouts.proofs.Inked.{met_few}
 use Rattle.tt_scan_edges.specs.Marks.{covers}
 use Rattle.tt_scan_edges.specs.Winding.{column_x, is_black, row_y}
 use Rattle.tt_scan_gaps.specs.Crossings.{centre}
-use Rattle.tt_glyphs.specs.Drawn.{BitmapFits, column_of, frame_of, line_of}
+use Rattle.tt_glyphs.specs.Drawn.{BitmapFits, column_of, drawn_pixel, frame_of, line_of}
 use Rattle.tt_glyphs.specs.GlyphBitmap.{GlyphBitmap}
 use Rattle.tt_glyphs.proofs.BitmapRows.{edges_shown, row_is}
 use Rattle.tt_glyphs.proofs.bitmap.GlyphBitmap.write_row.Goals as goal
@@ -37,7 +37,7 @@ returns-clause-row c =
     let dropped = rw c.deref.ensures.value at c.blacken_dropouts.ensures.bits in
     let bytes : length c.blacken_dropouts.new.row ≡ stride p.width =
     c.blacken_dropouts.ensures.len ∙ c.paint.ensures.len ∙ ap length white ∙ length-replicate (length c.args.row.now) 0 ∙ long in
-    rw (← c.self.view_is) (row_is b r c.blacken_dropouts.new.row bytes (λ k within. (c.type_inv.row k).fits)
+    rw (← c.self.view_is) (row_is p (drawn_pixel b) r c.blacken_dropouts.new.row bytes (λ k within. (c.type_inv.row k).fits)
     (λ k. both_shown (nat_lt k p.width) (is_black es (centre (column_of p k)) (centre (line_of p r))) (is_among ds k r)
     (bit c.paint.new.row k) (bit c.blacken_dropouts.new.row k)
     (painted k ∙ rw (white, bit-replicate_zero (length c.args.row.now) k) (edges_shown p es c.cut.new.self.spans r k fits.place.left fits.place.width cut))

@@ -1,8 +1,0 @@
-use Rattle.std.proofs.Common.{take}
-use Rattle.tt_scan_dropouts.specs.Passes.{has_pixel}
-use Rattle.tt_scan_ink.specs.Least.{IsInk}
-use Rattle.tt_glyphs.proofs.inked.pixels_ink.Given as goal
-
--- the box of the pixels so far
-abbrev pub invariant-loop-pixel : goal.invariant-loop-pixel
-invariant-loop-pixel l = IsInk (has_pixel (take l.pixel-index l.pixels)) l.ink
