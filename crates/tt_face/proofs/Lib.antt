@@ -1,2 +1,3 @@
+mod Plain
 mod Readings
 pub mod Whole

@@ -1,5 +1,5 @@
 -- A face by a reading: it has no defect, the strict reading gives the file's only font, and a face is its font.
-use Rattle.std.proofs.Common.{◌≡◌, ◌∙◌, ℕ, ◌+◌, ◌*◌, nat_lt, false, List, length, Option, Result, Ok, Err, inl, inr, arith, subst, sym, refl, ap}
+use Rattle.std.proofs.Common.{◌≡◌, ◌∙◌, ℕ, ◌+◌, ◌*◌, nat_lt, false, List, length, Option, None, Result, Ok, Err, inl, inr, arith, subst, sym, refl, ap}
 use Rattle.std.specs.Prelude.{IsOkAnd, not, ◌==◌}
 use Rattle.std.proofs.lemmas.Bool.{cases_eq}
 use Rattle.std.proofs.lemmas.Bool.Decides.{nat_tests}
@@ -17,6 +17,7 @@ use Rattle.tt_core.specs.Outcomes.{◌>>=◌}
 use Rattle.tt_core.proofs.Offsets.{readings-whole, strict-is}
 use Rattle.tt_core.proofs.Whole.{table-good}
 use Rattle.tt_metrics.specs.declared.head.Head.{Head}
+use Rattle.tt_metrics.specs.declared.heights.Heights.TheVariants.{Exact}
 use Rattle.tt_metrics.specs.declared.hhea.Hhea.{Hhea}
 use Rattle.tt_metrics.specs.declared.maxp.Maxp.{Maxp}
 use Rattle.tt_metrics.specs.Head.{head_tag, head_in, head_of}
@@ -121,12 +122,12 @@ hmtx-same d e n same =
 
 abbrev by-hhea : Directory → Head → Maxp → Hhea → Result Metrics Fault
 by-hhea d head maxp hhea =
-    hmtx_of d hhea.long_metrics >>= λ hmtx. Ok (record { head = head; maxp = maxp; hhea = hhea; hmtx = hmtx })
+    hmtx_of d hhea.long_metrics >>= λ hmtx. Ok (record { head = head; maxp = maxp; hhea = hhea; hmtx = hmtx; heights = Exact; kerning = None })
 
 hhea-then : (r : Result Hhea Fault) (d e : Directory) (head : Head) (maxp : Maxp) → SameTables d e
     → (r >>= by-hhea d head maxp) ≡ (r >>= by-hhea e head maxp)
 hhea-then (Ok hhea) d e head maxp same =
-    ap (λ (t : Result (List ℕ) Fault). t >>= λ hmtx. Ok (record { head = head; maxp = maxp; hhea = hhea; hmtx = hmtx }))
+    ap (λ (t : Result (List ℕ) Fault). t >>= λ hmtx. Ok (record { head = head; maxp = maxp; hhea = hhea; hmtx = hmtx; heights = Exact; kerning = None }))
     (hmtx-same d e hhea.long_metrics same)
 hhea-then (Err f) d e head maxp same = refl
 

@@ -1,7 +1,7 @@
 -- The face of a font file, its defects, and the lemmas about both. With the strict reading a file has one font; the wide
 -- reading says which face of the file is meant. Apple TrueType Reference Manual, "The Font Directory"; OpenType, "Font
 -- Tables", "TrueType Collections".
-use Rattle.std.specs.Prelude.{◌≡◌, refl, ℕ, List, [], ◌∷◌, Result, Ok, Err, IsOkAnd, ◌⊎◌}
+use Rattle.std.specs.Prelude.{◌≡◌, refl, ℕ, false, List, [], ◌∷◌, Result, Ok, Err, IsOkAnd, ◌⊎◌}
 use Rattle.tt_cmap.specs.Lookup.{cmap_of}
 use Rattle.tt_cmap.specs.Maps.{strict, map_by, glyph_by, IsBadMap}
 use Rattle.tt_core.specs.Collections.{directory_by, IsDirectoryDefectBy}
@@ -13,7 +13,10 @@ use Rattle.tt_core.specs.Faults.{Fault, file_fault}
 use Rattle.tt_core.specs.Outcomes.{◌>>=◌}
 use Rattle.tt_metrics.specs.Metrics.{glyphs_of, metrics_of, IsMetricsDefect}
 use Rattle.tt_face.specs.Defects.{IsDefectAt}
+use Rattle.tt_metrics.specs.declared.heights.Heights.TheVariants.{Exact}
+use Rattle.tt_face.specs.declared.rules.LineRules.{LineRules}
 use Rattle.tt_face.specs.Faces.{Face, cmap_tag}
+use Rattle.tt_face.specs.Rules.{ruled}
 
 -- the face of a file, or the file's first fault in the order of reading (profile)
 unfoldable pub face_of : List ℕ → Result Face Fault
@@ -35,6 +38,10 @@ face_at directory r = do
 -- the face of a file by a reading, or its first fault
 unfoldable pub face_by : List ℕ → Reading → Result Face Fault
 face_by file r = directory_by file r >>= λ directory. face_at directory r
+
+-- the face of a file by a reading, whose lines are laid out by some rules, or the file's first fault
+unfoldable pub face_with : List ℕ → Reading → LineRules → Result Face Fault
+face_with file r rules = face_by file r >>= λ face. Ok (ruled rules face)
 
 -- a defect of a file's directory, or of a table needed for every text
 abbrev pub IsFaceDefect : List ℕ → Fault → Type 0
@@ -81,6 +88,18 @@ WideFacesExtend = (file : List ℕ) (face : Face) → face_of file ≡ Ok face �
 -- the strict reading gives the face of the file's only font
 abbrev pub StrictIsTheFace : Type 0
 StrictIsTheFace = (file : List ℕ) → face_by file reading.Strict ≡ face_of file
+
+-- exact heights and no kerning, as a face has them by a reading alone
+abbrev pub plain_rules : LineRules
+plain_rules = record { heights = Exact; kerned = false }
+
+abbrev pub PlainRulesKeepFaces : Type 0
+PlainRulesKeepFaces = (file : List ℕ) (r : Reading) → face_with file r plain_rules ≡ face_by file r
+
+-- the rules of lines find no fault and hide none: a face has the same directory and character map by all rules
+abbrev pub RulesKeepFaults : Type 0
+RulesKeepFaults = (file : List ℕ) (r : Reading) (rules : LineRules) (fault : Fault) → face_by file r ≡ Err fault
+    → face_with file r rules ≡ Err fault
 
 -- worked values: a file of 11 bytes, one too few for a directory
 a_short_file : face_of (0 ∷ 1 ∷ 0 ∷ 0 ∷ 0 ∷ 1 ∷ 0 ∷ 0 ∷ 0 ∷ 0 ∷ 0 ∷ []) ≡ Err (file_fault 11 why.DirShort)

@@ -5,4 +5,5 @@ pub mod Files
 pub mod Laws
 pub mod Names
 pub mod Programs
+pub mod Rules
 pub mod Style

@@ -10,11 +10,13 @@ ghost use Rattle.tt_face.specs.Defects.{IsGlyphTableDefect, HasProgramPastEnd};
 ghost use Rattle.tt_face.specs.Faces.{glyphs_in, optional_table, programs_of};
 ghost use Rattle.tt_face.specs.Names.{family_name_of, full_name_of};
 ghost use Rattle.tt_face.specs.Programs.{program_tables};
+ghost use Rattle.tt_face.specs.Rules.{ruled};
 ghost use Rattle.tt_face.specs.Style.{style_of};
-ghost use Rattle.tt_face.specs.Files.{face_of, face_by, IsFaceDefect, IsFaceDefectBy};
+ghost use Rattle.tt_face.specs.Files.{face_of, face_by, face_with, IsFaceDefect, IsFaceDefectBy};
 
 use crate::names::{FAMILY_NAME, FULL_NAME, string_of, told_text};
 use crate::programs::Programs;
+use crate::rules::{LineRules, kerning_in};
 use crate::style::style_of;
 use std::alloc::{AllocError, Global};
 use std::marker::Model;
@@ -79,6 +81,34 @@ impl<'a> Face<'a> {
         let table = dir.needed(*b"cmap")?;
         let cmap = CharacterMap::open(table, metrics.glyphs(), reading)?;
         Ok(Face { dir, metrics, cmap })
+    }
+
+    /// Opens the tables of the face that a reading asks for, whose lines are laid out by some rules. Errors: as `read`.
+    #[tactic(auto, unfolding(crate::specs::Files::face_with))]
+    pub fn read_with(file: &'a [u8], reading: Reading, rules: LineRules) -> Result<Face<'a>, Fault>
+        requires { length file.now ≤ font_limit }
+        ensures exact { Gives (λ f. f) result (face_with file.now reading rules) }
+        ensures sound { OnOk result (HasNo (IsFaceDefectBy file.now reading)) }
+        ensures fault { IfErr result (IsFaceDefectBy file.now reading) }
+    {
+        let mut face = Face::read(file, reading)?;
+        face.set_rules(rules);
+        Ok(face)
+    }
+
+    /// Lays lines out by these rules from now on. A face that is opened has exact heights, and no pair is kerned. The
+    /// tables GPOS and kern are read with kerning alone, and no defect of theirs is an error.
+    #[tactic(auto, unfolding(crate::specs::Rules::ruled))]
+    pub fn set_rules(&mut self, rules: LineRules)
+        ensures { self.new ≡ ruled rules self.old }
+    {
+        let kerning = if rules.kerned {
+            Some(kerning_in(&self.dir))
+        } else {
+            None
+        };
+        self.metrics.set_heights(rules.heights);
+        self.metrics.set_kerning(kerning);
     }
 
     /// The units per em, the ascent and the descent, the glyph count and the advances.

@@ -1,7 +1,7 @@
 //! Lemmas about the definitions, for all files. No code runs.
 
 ghost use Rattle.tt_face.specs.Laws.{GlyphTablesAreWhole, ProgramsAreWhole};
-ghost use Rattle.tt_face.specs.Files.{FacesAreWhole, ReadFacesAreWhole, StrictIsTheFace, FacesAreTheirFonts, WideFacesExtend};
+ghost use Rattle.tt_face.specs.Files.{FacesAreWhole, ReadFacesAreWhole, StrictIsTheFace, FacesAreTheirFonts, PlainRulesKeepFaces, RulesKeepFaults, WideFacesExtend};
 
 /// Lemma: if the definitions give a face, its glyph tables or its programs, then these have no defect.
 pub fn faces_are_whole()
@@ -17,4 +17,11 @@ pub fn readings_give_faces()
     ensures strict { StrictIsTheFace }
     ensures extends { WideFacesExtend }
     ensures fonts { FacesAreTheirFonts }
+{}
+
+/// Lemma: with exact heights and without kerning a face is that of its reading. By all rules a file is refused for the
+/// same fault.
+pub fn rules_keep_faces()
+    ensures plain { PlainRulesKeepFaces }
+    ensures faults { RulesKeepFaults }
 {}

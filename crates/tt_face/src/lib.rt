@@ -5,7 +5,10 @@ mod face;
 pub mod laws;
 mod names;
 mod programs;
+mod rules;
 mod style;
 
 pub use face::Face;
 pub use programs::Programs;
+pub use rules::LineRules;
+pub use tt_metrics::Heights;

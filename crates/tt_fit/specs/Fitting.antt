@@ -17,6 +17,7 @@ use Rattle.tt_glyf.specs.GlyphData.{glyph_data_of, header_of, described}
 use Rattle.tt_glyf.specs.Loca.{Glyf, glyph_offset, glyph_bytes_of}
 use Rattle.tt_glyf.specs.Simple.{end_at, ends_from, points_within, points_of, simple_of}
 use Rattle.tt_metrics.specs.declared.head.LocaFormat.TheVariants.{Short}
+use Rattle.tt_metrics.specs.declared.heights.Heights.TheVariants.{Exact}
 use Rattle.tt_glyf.specs.Raw.{Raw, SimpleGlyph, CompositeGlyph, empty, simple, composite}
 use Rattle.tt_metrics.specs.Metrics.{Metrics, units_per_em_of, loca_format_of, glyphs_of}
 use Rattle.tt_fit.specs.declared.dropouts.DropoutsBy.{DropoutsBy}
@@ -222,6 +223,8 @@ its_metrics = record {
   maxp = record { glyphs = 3; twilight = 0; storage = 0 };
   hhea = record { ascent = pos 256; descent = neg_ℤ (pos 64); line_gap = pos 0; long_metrics = 1 };
   hmtx = 1 ∷ 0 ∷ 0 ∷ 0 ∷ 0 ∷ 64 ∷ 0 ∷ 0 ∷ [];
+  heights = Exact;
+  kerning = None;
 }
 
 -- glyph 0 is empty, glyph 1 a square of four points, (64,0), (64,128), (192,128), (192,0), and glyph 2 is after it

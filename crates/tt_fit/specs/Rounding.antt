@@ -12,6 +12,7 @@ use Rattle.tt_glyf.specs.GlyphData.{glyph_data_of, header_of, described}
 use Rattle.tt_glyf.specs.Loca.{glyph_bytes_of}
 use Rattle.tt_glyf.specs.Simple.{end_at, ends_from, points_within, points_of, simple_of}
 use Rattle.tt_metrics.specs.declared.head.LocaFormat.TheVariants.{Short}
+use Rattle.tt_metrics.specs.declared.heights.Heights.TheVariants.{Exact}
 use Rattle.tt_metrics.specs.Metrics.{Metrics}
 use Rattle.tt_fit.specs.declared.programs.Fit.TheVariants as fit
 use Rattle.tt_fit.specs.declared.dropouts.DropoutsBy.TheVariants as by
@@ -37,6 +38,8 @@ its_metrics high low = record {
   maxp = record { glyphs = 3; twilight = 0; storage = 0 };
   hhea = record { ascent = pos 256; descent = neg_ℤ (pos 64); line_gap = pos 0; long_metrics = 1 };
   hmtx = high ∷ low ∷ 0 ∷ 0 ∷ 0 ∷ 72 ∷ 0 ∷ 68 ∷ [];
+  heights = Exact;
+  kerning = None;
 }
 
 abbrev its_square : List ℕ

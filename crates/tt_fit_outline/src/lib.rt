@@ -31,4 +31,5 @@ pub use parts::{begun_parts, left_to_glyphs};
 pub use rules::{OutlineRules, Scaling};
 pub use scaling::{Phantom, blank, glyf_fault, phantom_points, phantom_units, scaled_outline};
 pub use size::FontSize;
+pub use steps::pixels_of;
 pub use units::{PhantomUnits, Units};

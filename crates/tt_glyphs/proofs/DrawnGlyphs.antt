@@ -13,7 +13,7 @@ use Rattle.tt_picture.specs.Ink.{glyph_ink, ink_by}
 use Rattle.tt_picture.specs.Pixels.{is_filled}
 use Rattle.tt_picture.specs.Rows.{rows}
 use Rattle.tt_picture.specs.Shapes.{chords_with, contours_of, edges_at, filled_at, filled_by, shape_at}
-use Rattle.tt_picture.specs.Steps.{glyph_step}
+use Rattle.tt_picture.specs.Steps.{glyph_advance, glyph_step}
 use Rattle.tt_picture.proofs.Standings.{contours_at_pen, same_filled}
 use Rattle.tt_scan.specs.Contours.{contours_at}
 use Rattle.tt_scan_dropouts.specs.Dropouts.{is_dropout}
@@ -150,7 +150,7 @@ unfolding glyph_told
 told_is how s g o p made at = rw (made, at) refl
 
 step_is : (s : Fitter) (g : ℕ) (o : Outline) → fitted_outline s g ≡ Ok o → glyph_step s g ≡ step_of o
-unfolding glyph_step
+unfolding glyph_advance
 step_is s g o made = rw made refl
 
 either : (b : Bool) (x y v w : ℕ) → x ≡ y → v ≡ w → (if b then x else v) ≡ (if b then y else w)

@@ -13,7 +13,8 @@ use Rattle.tt_label.proofs.Lines.{numbers_stepped}
 use Rattle.tt_label.proofs.Placed.{placed_by_advances, placed_lines, shapes_tell}
 use Rattle.tt_line.specs.declared.align.Align.{Align}
 use Rattle.tt_line.specs.Labels.{label_placement}
-use Rattle.tt_line.specs.Layout.{Placement, advance_in_pixels}
+use Rattle.tt_line.specs.Layout.{Placement}
+use Rattle.tt_line.specs.Steps.{step_in_pixels}
 use Rattle.tt_picture.specs.Glyphs.{Glyph}
 use Rattle.tt_strike.specs.Job.{Job, tested}
 use Rattle.tt_strike.specs.Made.{AreMade, shapes_made}
@@ -43,10 +44,10 @@ made_as_joint z y text margin k lines l same at one made =
 pub glyphs_by_advances : (face : Face) (a : Job) (how : Align) (lines : List Placement) → tested a ≡ Ok tt → is_bounded a.fit ≡ false
     → label_placed face a how ≡ Ok lines → joint_numbers lines ≡ label_glyphs face.cmap a.text
 glyphs_by_advances face a how lines passes unbounded placed =
-    let advance = advance_in_pixels face.metrics a.ppem in
-    let ls = stepped_lines advance face.cmap a.text in
+    let step = step_in_pixels face.metrics a.ppem in
+    let ls = stepped_lines face.metrics step face.cmap a.text in
     let is = of-job (label_placement face.metrics a.ppem a.margin how ls) lines (sym (placed_by_advances face a how passes unbounded) ∙ placed) in
-    (placed_lines face.metrics a.ppem a.margin how ls lines is).numbers ∙ numbers_stepped advance face.cmap a.text
+    (placed_lines face.metrics a.ppem a.margin how ls lines is).numbers ∙ numbers_stepped face.metrics step face.cmap a.text
 
 -- its layout finds no defect of the font
 not_of_font : {X : Type 0} (r : Result X JobFault) (f : Fault) → as_job r ≡ Err (outcome.font f) → ⊥
@@ -58,6 +59,6 @@ pub layout_tells_no_defect : {X : Type 0} (view : X → List Placement) (P : Fau
     → IfSome (draw_font_fault d) P
 layout_tells_no_defect view P face a how (draw.Font f) passes unbounded gives =
     absurd (not_of_font (label_placement face.metrics a.ppem a.margin how
-    (stepped_lines (advance_in_pixels face.metrics a.ppem) face.cmap a.text)) f (sym (placed_by_advances face a how passes unbounded) ∙ gives))
+    (stepped_lines face.metrics (step_in_pixels face.metrics a.ppem) face.cmap a.text)) f (sym (placed_by_advances face a how passes unbounded) ∙ gives))
 layout_tells_no_defect view P face a how (draw.Job j) passes unbounded gives = tt
 layout_tells_no_defect view P face a how draw.Memory passes unbounded gives = tt

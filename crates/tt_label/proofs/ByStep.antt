@@ -1,5 +1,5 @@
 -- A label that is laid out by the steps of its glyphs: where each part of the work stops.
-use Rattle.std.proofs.Common.{◌≡◌, ◌∙◌, refl, sym, ap, ℕ, Bool, true, false, List, length, map, Option, Result, Ok, Err}
+use Rattle.std.proofs.Common.{◌≡◌, ◌∙◌, refl, sym, ap, ℕ, ℤ, Bool, true, false, List, length, map, Option, Result, Ok, Err}
 use Rattle.std.specs.Prelude.{IfSome}
 use Rattle.tt_core.specs.declared.draw_fault.DrawFault.{DrawFault}
 use Rattle.tt_core.specs.declared.draw_fault.DrawFault.TheVariants as draw
@@ -24,23 +24,23 @@ use Rattle.tt_picture.specs.Fitted.{AreFitted, FittedGlyph, fitted_chords, fitte
 use Rattle.tt_picture.specs.Glyphs.{AreOfLine, ArePlaces, Glyph}
 use Rattle.tt_picture.specs.Pixels.{Shape}
 use Rattle.tt_picture.specs.Shapes.{crossings_in, glyph_shape}
-use Rattle.tt_picture.specs.Steps.{glyph_step}
+use Rattle.tt_picture.specs.Steps.{step_by}
 use Rattle.tt_picture.proofs.Among.{all_among}
 use Rattle.tt_picture.proofs.Outlines.{shapes_of_line}
 use Rattle.tt_strike.specs.Job.{Job, tested}
-use Rattle.tt_strike.specs.Picture.{edges_tested, frame_of, outlines_in, outlines_tested, points_tested, setting_in, shapes_in}
+use Rattle.tt_strike.specs.Picture.{advance_with, edges_tested, frame_of, outlines_in, outlines_tested, points_tested, setting_in, shapes_in}
 use Rattle.tt_strike.specs.Refusals.{as_job, refusal}
 use Rattle.tt_strike.specs.Work.{edges_limited, is_bounded, line_fitter, points_in, work_left, work_tested}
 use Rattle.tt_strike.proofs.Stepped.{chords_made, outlines_pass}
 use Rattle.tt_strike.proofs.Stopped.{stops}
 
 -- the step of a glyph of a label, by its fitter
-abbrev pub step_in : Face → Job → Fitter → ℕ → ℕ
-step_in face a s g = glyph_step (line_fitter s (label_glyphs face.cmap a.text) g) g
+abbrev pub step_in : Face → Job → Fitter → ℕ → ℤ → ℕ
+step_in face a s = step_by face.metrics a.ppem (advance_with s (label_glyphs face.cmap a.text))
 
 -- the distinct glyphs of a label's text are fitted
 pub record IsFittedText (face : Face) (a : Job) (s : Fitter) (stepped : List (List (ℕ × ℕ))) (table : List ℕ) (fs : List FittedGlyph) : Type 0 where
-  pub steps : stepped ≡ stepped_lines (step_in face a s) face.cmap a.text
+  pub steps : stepped ≡ stepped_lines face.metrics (step_in face a s) face.cmap a.text
   pub glyphs : glyphs_in stepped ≡ label_glyphs face.cmap a.text
   pub room : length table ≡ s.tables.glyphs
   pub places : ArePlaces table (fitted_numbers fs)
@@ -48,17 +48,17 @@ pub record IsFittedText (face : Face) (a : Job) (s : Fitter) (stepped : List (Li
   pub fitted : AreFitted false (line_fitter s (label_glyphs face.cmap a.text)) fs
   pub made : (os : List Outline) × (outlines_in s (label_glyphs face.cmap a.text) ≡ Ok os)
 
-pub text_glyphs_are : (face : Face) (a : Job) (before : ℕ → ℕ) (lines : List (List (ℕ × ℕ))) → lines ≡ stepped_lines before face.cmap a.text
+pub text_glyphs_are : (face : Face) (a : Job) (before : ℕ → ℤ → ℕ) (lines : List (List (ℕ × ℕ))) → lines ≡ stepped_lines face.metrics before face.cmap a.text
     → glyphs_in lines ≡ label_glyphs face.cmap a.text
-text_glyphs_are face a before lines are = rw are (numbers_stepped before face.cmap a.text)
+text_glyphs_are face a before lines are = rw are (numbers_stepped face.metrics before face.cmap a.text)
 
-pub fitted_text : (face : Face) (a : Job) (s : Fitter) (before : ℕ → ℕ) (lines stepped : List (List (ℕ × ℕ))) (table : List ℕ)
-    (fs : List FittedGlyph) → lines ≡ stepped_lines before face.cmap a.text → AreFittedLines s lines stepped table fs
+pub fitted_text : (face : Face) (a : Job) (s : Fitter) (before : ℕ → ℤ → ℕ) (lines stepped : List (List (ℕ × ℕ))) (table : List ℕ)
+    (fs : List FittedGlyph) → lines ≡ stepped_lines face.metrics before face.cmap a.text → AreFittedLines face.metrics a.ppem s lines stepped table fs
     → IsFittedText face a s stepped table fs
 fitted_text face a s before lines stepped table fs are is =
     let gs = text_glyphs_are face a before lines are in
-    let steps : stepped ≡ stepped_lines (step_in face a s) face.cmap a.text =
-    is.steps ∙ rw (gs, are) (stepped_again (step_in face a s) before face.cmap a.text) in
+    let steps : stepped ≡ stepped_lines face.metrics (step_in face a s) face.cmap a.text =
+    is.steps ∙ rw (gs, are) (stepped_again face.metrics (step_in face a s) before face.cmap a.text) in
     record {
       steps = steps;
       glyphs = text_glyphs_are face a (step_in face a s) stepped steps;
@@ -79,7 +79,7 @@ pub record IsOutlinedLabel (face : Face) (a : Job) (how : Align) (s : Fitter) (l
   pub fitted : AreFitted false (line_fitter s (label_glyphs face.cmap a.text)) fs
   pub numbers : fitted_numbers fs ≡ distinct (label_glyphs face.cmap a.text)
   pub glyphs : joint_numbers lines ≡ label_glyphs face.cmap a.text
-  pub laid : label_placement face.metrics a.ppem a.margin how (stepped_lines (step_in face a s) face.cmap a.text) ≡ Ok lines
+  pub laid : label_placement face.metrics a.ppem a.margin how (stepped_lines face.metrics (step_in face a s) face.cmap a.text) ≡ Ok lines
   pub work : left ≡ work_left s (label_glyphs face.cmap a.text)
 
 -- a text that is tested is laid out by its steps
@@ -106,7 +106,7 @@ outlines_stop_label face a how s e passes bounded there =
 pub size_stops_label : {X : Type 0} (view : X → List Placement) (face : Face) (a : Job) (how : Align) (s : Fitter) (os : List Outline) (e : DrawFault) → tested a ≡ Ok tt
     → is_bounded a.fit ≡ true → setting_in face a ≡ Ok s
     → outlines_tested s a.fit (label_glyphs face.cmap a.text) ≡ Ok os
-    → JobGives view (Err e) (label_placement face.metrics a.ppem a.margin how (stepped_lines (step_in face a s) face.cmap a.text))
+    → JobGives view (Err e) (label_placement face.metrics a.ppem a.margin how (stepped_lines face.metrics (step_in face a s) face.cmap a.text))
     → IfSome (refusal e) (λ r. label_shapes face a how ≡ Err r)
 size_stops_label view face a how s os (draw.Font f) passes bounded there made gives = absurd gives
 size_stops_label view face a how s os (draw.Job j) passes bounded there made gives =

@@ -1,7 +1,7 @@
 -- No part of the standard: the picture of a label, which is a text of several lines (profile). The lines lie in one
 -- picture, and their glyphs are made one after the other, as those of one line. The picture is enlarged so that the ink
 -- of no line is cut.
-use Rattle.std.specs.Prelude.{◌*◌, ◌≡◌, ℕ, Bool, false, ◌||◌, if◌then◌else◌, pos, List, [], ◌∷◌, length, map, Option, None, Result, Ok, Err}
+use Rattle.std.specs.Prelude.{◌*◌, ◌≡◌, ℕ, ℤ, Bool, false, ◌||◌, if◌then◌else◌, pos, List, [], ◌∷◌, length, map, Option, None, Result, Ok, Err}
 use Rattle.std.specs.List.{flat_map}
 use Rattle.tt_cmap.specs.Maps.{CharacterMap}
 use Rattle.tt_core.specs.Bits.{stride}
@@ -12,21 +12,23 @@ use Rattle.tt_face.specs.Faces.{Face}
 use Rattle.tt_fit.specs.Fitting.{Fitter}
 use Rattle.tt_line.specs.declared.align.Align.{Align}
 use Rattle.tt_line.specs.Labels.{label_lines, label_placement}
-use Rattle.tt_line.specs.Layout.{Placement, advance_in_pixels, text_glyphs}
+use Rattle.tt_line.specs.Layout.{Placement, text_glyphs}
+use Rattle.tt_line.specs.Steps.{step_in_pixels, stepped}
+use Rattle.tt_metrics.specs.Metrics.{Metrics}
 use Rattle.tt_picture.specs.declared.ink_box.InkBox.{InkBox}
 use Rattle.tt_picture.specs.declared.report.Unfitted.{Unfitted}
 use Rattle.tt_picture.specs.Ink.{all_joined, ink_at}
 use Rattle.tt_picture.specs.Pictures.{Image, image}
 use Rattle.tt_picture.specs.Pixels.{Shape, is_black_pixel}
 use Rattle.tt_picture.specs.Shapes.{glyph_shape}
-use Rattle.tt_picture.specs.Steps.{glyph_step}
+use Rattle.tt_picture.specs.Steps.{step_by}
 use Rattle.tt_scan_edges.specs.declared.edge.Frame.{Frame}
 use Rattle.tt_scan_edges.specs.Winding.{FrameFits}
 use Rattle.tt_scan_ink.specs.declared.ink.GlyphInk.{GlyphInk}
 use Rattle.tt_strike.specs.Grown.{grown}
 use Rattle.tt_strike.specs.Job.{Job, tested}
 use Rattle.tt_strike.specs.Measures.{line_ink}
-use Rattle.tt_strike.specs.Picture.{frame_of, line_shapes, outlines_tested, setting_in}
+use Rattle.tt_strike.specs.Picture.{advance_with, frame_of, line_shapes, outlines_tested, setting_in}
 use Rattle.tt_strike.specs.Refusals.{Refused, as_font, as_job}
 use Rattle.tt_strike.specs.Report.{line_report}
 use Rattle.tt_strike.specs.Work.{lays_after_glyphs, line_fitter}
@@ -45,9 +47,9 @@ pub record IsWhole (p : LabelPicture) : Type 0 where
 abbrev pub label_glyphs : CharacterMap → List ℕ → List ℕ
 label_glyphs cmap text = flat_map (text_glyphs cmap) (label_lines text)
 
--- the lines of a text, each its glyphs with their steps
-abbrev pub stepped_lines : (ℕ → ℕ) → CharacterMap → List ℕ → List (List (ℕ × ℕ))
-stepped_lines step cmap text = map (λ line. map (λ g. (g, step g)) (text_glyphs cmap line)) (label_lines text)
+-- the lines of a text, each its glyphs with their steps; pairs are kerned within a line
+abbrev pub stepped_lines : Metrics → (ℕ → ℤ → ℕ) → CharacterMap → List ℕ → List (List (ℕ × ℕ))
+stepped_lines m step cmap text = map (λ line. stepped m step (text_glyphs cmap line)) (label_lines text)
 
 -- the glyphs of all lines as one line, in the picture of the first
 abbrev pub joint : List Placement → Placement
@@ -61,7 +63,7 @@ joint_numbers lines = map (λ g. g.0) (joint lines).glyphs
 -- the lines of a text, laid out by their advances
 abbrev pub label_by_advances : Face → Job → Align → Result (List Placement) Refused
 label_by_advances face a how = as_job (label_placement face.metrics a.ppem a.margin how
-    (stepped_lines (advance_in_pixels face.metrics a.ppem) face.cmap a.text))
+    (stepped_lines face.metrics (step_in_pixels face.metrics a.ppem) face.cmap a.text))
 
 -- the same by the steps of their glyphs, which are made first
 abbrev pub label_by_steps : Face → Job → Align → Result (List Placement) Refused
@@ -70,7 +72,7 @@ label_by_steps face a how =
     as_font (setting_in face a) >>= λ s.
     outlines_tested s a.fit gs >>= λ outlines.
     as_job (label_placement face.metrics a.ppem a.margin how
-    (stepped_lines (λ g. glyph_step (line_fitter s gs g) g) face.cmap a.text))
+    (stepped_lines face.metrics (step_by face.metrics a.ppem (advance_with s gs)) face.cmap a.text))
 
 -- the lines of a job's text, laid out by a font's tables, or the first refusal
 unfoldable pub label_placed : Face → Job → Align → Result (List Placement) Refused

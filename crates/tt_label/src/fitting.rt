@@ -1,14 +1,16 @@
 //! Fits the glyphs of a label, by whose steps its lines are laid out.
 
 ghost use Rattle.std.specs.List.{flat_map};
-ghost use Rattle.std.specs.Prelude.{◌≡◌, ℕ, ◌<◌, ◌≤◌, true, length, map, All, Ok, Err, IfOk};
+ghost use Rattle.std.specs.Prelude.{◌≡◌, ℕ, ℤ, ◌<◌, ◌≤◌, true, length, map, All, Ok, Err, IfOk};
 ghost use Rattle.tt_core.specs.Limits.{point_work_limit, text_limit};
 ghost use Rattle.tt_core.specs.Outcomes.{IfTold};
 ghost use Rattle.tt_label.specs.Fitted.{AreFittedLines, glyphs_in, with_steps};
+ghost use Rattle.tt_line.specs.Steps.{stepped};
 ghost use Rattle.tt_metrics.specs.Metrics.{glyphs_of};
 ghost use Rattle.tt_picture.specs.Distinct.{distinct, fitter_after, is_among};
-ghost use Rattle.tt_picture.specs.Fitted.{AreSteps, fitted_numbers};
+ghost use Rattle.tt_picture.specs.Fitted.{AreAdvances, fitted_numbers};
 ghost use Rattle.tt_picture.specs.Glyphs.{ArePlaces};
+ghost use Rattle.tt_picture.specs.Steps.{step_by};
 ghost use Rattle.tt_strike.specs.Picture.{outlines_tested};
 ghost use Rattle.tt_strike.specs.Refusals.{refusal};
 ghost use Rattle.tt_strike.specs.Work.{is_bounded, points_in, started, work_tested};
@@ -32,20 +34,25 @@ pub(crate) struct FittedLabel {
 }
 
 /// A line whose glyphs have their steps beside them.
-fn step_line(places: &[u16], fitted: &[FittedGlyph], line: Vec<(u16, u32)>) -> Vec<(u16, u32)>
+fn step_line(
+    source: &FitterSource,
+    places: &[u16],
+    fitted: &[FittedGlyph],
+    line: Vec<(u16, u32)>,
+) -> Vec<(u16, u32)>
     requires places { ArePlaces places.now (fitted_numbers fitted.now) }
     requires known { All (λ g. g.0 < length places.now) line.items }
     requires among { All (λ g. is_among g.0 (fitted_numbers fitted.now) ≡ true) line.items }
-    ensures { (step : ℕ → ℕ) → AreSteps step fitted.now → result.items ≡ map (λ g. (g.0, step g.0)) line.items }
+    ensures { (advance : ℕ → ℤ) → AreAdvances advance fitted.now → result.items ≡ stepped source.now.face.now.metrics (step_by source.now.face.now.metrics source.now.ppem advance) (map (λ g. g.0) line.items) }
 {
     let mut line = line;
-    put_steps(places, fitted, &mut line);
+    put_steps(source.face.metrics(), source.ppem, places, fitted, &mut line);
     line
 }
 
 /// Some lines whose glyphs have their steps beside them. Error: Memory.
 fn step_lines(
-    alloc: Global,
+    source: &FitterSource,
     places: &[u16],
     fitted: &[FittedGlyph],
     lines: Vec<Vec<(u16, u32)>>,
@@ -53,11 +60,11 @@ fn step_lines(
     requires places { ArePlaces places.now (fitted_numbers fitted.now) }
     requires known { All (λ l. All (λ g. g.0 < length places.now) l.items) lines.items }
     requires among { All (λ l. All (λ g. is_among g.0 (fitted_numbers fitted.now) ≡ true) l.items) lines.items }
-    ensures { IfOk result (λ v. (step : ℕ → ℕ) → AreSteps step fitted.now → map (λ l. l.items) v.items ≡ with_steps step (map (λ l. l.items) lines.items)) }
+    ensures { IfOk result (λ v. (advance : ℕ → ℤ) → AreAdvances advance fitted.now → map (λ l. l.items) v.items ≡ with_steps source.now.face.now.metrics (step_by source.now.face.now.metrics source.now.ppem advance) (map (λ l. l.items) lines.items)) }
 {
-    let mut made = Vec::with_capacity(alloc, lines.len())?;
+    let mut made = Vec::with_capacity(source.alloc, lines.len())?;
     for line in lines {
-        made.push(step_line(places, fitted, line))?;
+        made.push(step_line(source, places, fitted, line))?;
     }
     Ok(made)
 }
@@ -73,7 +80,7 @@ pub(crate) fn fit_label(
     requires few { length (flat_map (λ l. l.items) steps.items) ≤ text_limit }
     requires glyphs { fitter.old.tables.glyphs ≡ glyphs_of source.now.face.now.metrics }
     requires bounded { is_bounded source.now.fit ≡ true }
-    ensures fitted { IfOk result (λ t. AreFittedLines fitter.old (map (λ l. l.items) steps.items) (map (λ l. l.items) t.steps.items) t.places.items t.fitted.items) }
+    ensures fitted { IfOk result (λ t. AreFittedLines source.now.face.now.metrics source.now.ppem fitter.old (map (λ l. l.items) steps.items) (map (λ l. l.items) t.steps.items) t.places.items t.fitted.items) }
     ensures points { IfOk result (λ t. work_tested source.now.fit point_work_limit (points_in fitter.old (glyphs_in (map (λ l. l.items) steps.items))) ≡ Ok tt) }
     ensures after { IfOk result (λ t. fitter.new ≡ fitter_after (started fitter.old (glyphs_in (map (λ l. l.items) steps.items))) (distinct (glyphs_in (map (λ l. l.items) steps.items)))) }
     ensures stops { IfTold refusal result (λ r. outlines_tested fitter.old source.now.fit (glyphs_in (map (λ l. l.items) steps.items)) ≡ Err r) }
@@ -84,7 +91,7 @@ pub(crate) fn fit_label(
     let DistinctGlyphs { places, numbers } = met;
     charge_points(source.fit, fitter, &numbers, &none)?;
     let fitted = fit_glyphs(source.alloc, fitter, &numbers, &none)?;
-    let steps = step_lines(source.alloc, &places, &fitted, steps)?;
+    let steps = step_lines(source, &places, &fitted, steps)?;
     Ok(FittedLabel {
         steps,
         places,

@@ -1,6 +1,6 @@
 //! Enlarges the picture of a label so that the ink of no line is cut.
 
-ghost use Rattle.std.specs.Prelude.{◌≡◌, ℕ, ◌<◌, true, length, map, All, IfOk, Option};
+ghost use Rattle.std.specs.Prelude.{◌≡◌, ℕ, ℤ, ◌<◌, true, length, map, All, IfOk, Option};
 ghost use Rattle.tt_core.specs.Outcomes.{Gives, JobGives};
 ghost use Rattle.tt_label.specs.Label.{grown_lines, label_ink};
 ghost use Rattle.tt_label.specs.Views.{placements_of};
@@ -26,7 +26,7 @@ pub(crate) fn label_ink(
     requires known { All (λ l. All (λ g. g.0 < glyphs_of sized.now.face.metrics) l.line.glyphs.items) lines.now }
     requires room { length inked.now.glyphs.places.items ≡ glyphs_of sized.now.face.metrics }
     requires among { All (λ l. All (λ g. is_among g.0 (numbers_of inked.now.glyphs.made.items) ≡ true) l.line.glyphs.items) lines.now }
-    ensures { IfOk result (λ b. (step : ℕ → ℕ) (ink : ℕ → Option GlyphInk) (margin : ℕ) → All (λ g. made_step sized.now.face.metrics sized.now.ppem sized.now.fit g ≡ step g.number) inked.now.glyphs.made.items
+    ensures { IfOk result (λ b. (step : ℕ → ℤ → ℕ) (ink : ℕ → Option GlyphInk) (margin : ℕ) → All (λ g. (k : ℤ) → made_step sized.now.face.metrics sized.now.ppem sized.now.fit g k ≡ step g.number k) inked.now.glyphs.made.items
         → inked.now.inks.items ≡ map ink (numbers_of inked.now.glyphs.made.items) → All (λ l. l.margin ≡ margin) lines.now
         → b ≡ label_ink ink margin (placements_of lines.now)) }
 {

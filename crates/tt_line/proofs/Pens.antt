@@ -1,7 +1,7 @@
 -- Pens and their sums, character by character.
 use Rattle.std.proofs.Common.{◌≡◌, ℕ, ◌+◌, ◌<◌, ◌≤◌, List, [], ◌∷◌, ◌++◌, All, length, take, map, sum, slice_index, set, drop, get_or, refl, sym, ap, ap₂, ◌∙◌, arith}
 use Rattle.std.specs.List.{range_with_len}
-use Rattle.std.proofs.lemmas.List.{append_assoc, drop_more, get_or-map, get_or_at, length-take-le, map_push, set_at, take_more, length_push, length-map, take-map, get_or_append_left, get_or_push, take-append-le, take_at}
+use Rattle.std.proofs.lemmas.List.{append_assoc, drop_more, get_or-map, get_or_at, length-take-le, map_push, set_at, take_more, length_push, length-map, get_or_append_left, get_or_push, take-append-le, take_at}
 use Rattle.std.proofs.lemmas.List.FromFn.{map-range_with_len_more, length-map-range_with_len, get_or-map-range_with_len, fill_by_all}
 use Rattle.std.proofs.lemmas.Grind.{same_number_lists}
 use Rattle.std.proofs.lemmas.List.Sums.{sum_by_push, sum_by-take-le}
@@ -56,42 +56,11 @@ glyphs_by_steps gs ss =
     let inside : i < length (glyphs_at_pens gs ss) = let n = length-at_pens gs ss in omega arith in
     get_or-map (λ p. p.0) (glyphs_at_pens gs ss) i (0, 0) 0 inside ∙ ap (λ p. p.0) (get_or-map-range_with_len (at_pen gs ss) 0 (length gs) i i (0, 0) below (omega arith)))
 
--- glyphs at their pens; f gives the advance
-abbrev pub placed : (ℕ → ℕ) → List ℕ → List (ℕ × ℕ)
-placed f gs = glyphs_at_pens gs (map f gs)
-
-pub placed_more : (f : ℕ → ℕ) (gs : List ℕ) (g : ℕ) → placed f (gs ++ g ∷ []) ≡ placed f gs ++ (g, sum (map f gs)) ∷ []
-placed_more f gs g =
-    rw (map_push f gs g) (pens_more gs (map f gs) g (f g) (sym (length-map gs f)))
-
-pub pens_within : (f : ℕ → ℕ) (gs : List ℕ) → All (λ p. p.1 ≤ sum (map f gs)) (placed f gs)
-pens_within f gs = pens_by_steps gs (map f gs)
-
-pub length-placed : (f : ℕ → ℕ) (gs : List ℕ) → length (placed f gs) ≡ length gs
-length-placed f gs = length-at_pens gs (map f gs)
-
--- the first units advance at most as far as all; g gives a unit's glyph
-pub part_within : {A : Type 0} (f : ℕ → ℕ) (g : A → ℕ) (part all : List A) (n : ℕ) → part ≡ take n all
-    → sum (map f (map g part)) ≤ sum (map f (map g all))
-part_within f g part all n e =
-    let same : map f (map g part) ≡ take n (map f (map g all)) = rw (e, ← take-map g n all, ← take-map f n (map g all)) refl in
-    rw same (sum_by-take-le (λ n. n) (map f (map g all)) n)
-
 -- one more unit
 pub next_pen : {A : Type 0} (f : ℕ → ℕ) (g : A → ℕ) (us : List A) (u : A) (glyph pen advance : ℕ) → pen ≡ sum (map f (map g us))
     → glyph ≡ g u → advance ≡ f glyph → pen + advance ≡ sum (map f (map g (us ++ u ∷ [])))
 next_pen f g us u glyph pen advance before is_glyph is_advance =
     rw (before, is_advance, is_glyph, map_push g us u, map_push f (map g us) (g u)) (sym (sum_by_push (λ n. n) (map f (map g us)) (f (g u))))
-
-pub next_placed : {A : Type 0} (f : ℕ → ℕ) (g : A → ℕ) (us : List A) (u : A) (glyph pen : ℕ) (before after : List (ℕ × ℕ))
-    → pen ≡ sum (map f (map g us)) → before ≡ placed f (map g us) → glyph ≡ g u → after ≡ before ++ (glyph, pen) ∷ []
-    → after ≡ placed f (map g (us ++ u ∷ []))
-next_placed f g us u glyph pen before after is_pen is_before is_glyph pushed =
-    rw (pushed, is_before, is_pen, is_glyph, map_push g us u) (sym (placed_more f (map g us) (g u)))
-
--- the glyphs of the placed list are the given ones
-pub glyphs_of_placed : (f : ℕ → ℕ) (gs : List ℕ) → map (λ p. p.0) (placed f gs) ≡ gs
-glyphs_of_placed f gs = glyphs_by_steps gs (map f gs)
 
 -- one more of some glyphs, each with its step, is put at its pen
 abbrev pub at_pens : List (ℕ × ℕ) → List (ℕ × ℕ)
@@ -136,8 +105,3 @@ step_read gs i within =
 
 pub length-of_pairs : (gs : List (ℕ × ℕ)) → length (at_pens gs) ≡ length gs
 length-of_pairs gs = length-at_pens (map (λ (p : ℕ × ℕ). p.0) gs) (map (λ (p : ℕ × ℕ). p.1) gs) ∙ length-map gs (λ (p : ℕ × ℕ). p.0)
-
--- glyphs, each with its own value, are the glyphs
-pub firsts : (f : ℕ → ℕ) (gs : List ℕ) → map (λ (p : ℕ × ℕ). p.0) (map (λ (g : ℕ). (g, f g)) gs) ≡ gs
-firsts f [] = refl
-firsts f (g ∷ gs) = ap (λ (hs : List ℕ). g ∷ hs) (firsts f gs)

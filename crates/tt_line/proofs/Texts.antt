@@ -16,16 +16,17 @@ use Rattle.tt_cmap.specs.WideLookup.{wide_glyph_of}
 use Rattle.tt_cmap.proofs.UnitLaws.{plain-texts, characters-are-units}
 use Rattle.tt_line.specs.Laws.{AdvancesAreSteps, PlacesGlyphs, PlainTextsKeepGlyphs, StepsLead, StrictTexts}
 use Rattle.tt_line.specs.declared.extent.PictureExtent.{PictureExtent}
-use Rattle.tt_line.specs.Layout.{advance_in_pixels, advances_of, extent_by, extent_of, pen_at, placed_in, rise_of, text_glyphs, within_limits, placement}
-use Rattle.tt_line.proofs.Pens.{glyphs_by_steps, glyphs_of_placed, length-at_pens}
+use Rattle.tt_line.specs.Layout.{extent_by, extent_of, pen_at, placed_in, rise_of, text_glyphs, within_limits, placement}
+use Rattle.tt_line.proofs.Pens.{glyphs_by_steps, length-at_pens}
+use Rattle.tt_line.specs.Steps.{linear_steps}
 
 pub glyphs-are-placed : PlacesGlyphs
 unfolding placement
 glyphs-are-placed m lookup text ppem margin line was =
     let glyphs = text_glyphs lookup text in
     let by_extent = came-through (within_limits (extent_of m ppem margin glyphs)) _ line was in
-    let is : placed_in glyphs (advances_of m ppem glyphs) (rise_of m ppem) by_extent.value ≡ line = let rest = by_extent.rest in cc in
-    rw (← is) (glyphs_of_placed (advance_in_pixels m ppem) glyphs)
+    let is : placed_in glyphs (linear_steps m ppem glyphs) (rise_of m ppem) by_extent.value ≡ line = let rest = by_extent.rest in cc in
+    rw (← is) (glyphs_by_steps glyphs (linear_steps m ppem glyphs))
 
 -- an extent that is not refused is unchanged
 same_extent : (empty large : Bool) (e f : PictureExtent)

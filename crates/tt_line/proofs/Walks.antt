@@ -1,5 +1,5 @@
 -- A walk over a list: the items so far, and then those that are left, are the list.
-use Rattle.std.proofs.Common.{◌≡◌, ◌∙◌, ℕ, ◌<◌, List, [], ◌∷◌, ◌++◌, length, take, ap, sym, refl, arith}
+use Rattle.std.proofs.Common.{◌≡◌, ◌∙◌, ◌<◌, List, [], ◌∷◌, ◌++◌, length, take, ap, sym, refl, arith}
 use Rattle.std.proofs.lemmas.List.{append-nil, append_assoc, length-append, take_at}
 
 pub goes-on : {A : Type 0} (done left rest all : List A) (x : A) → left ≡ x ∷ rest → done ++ left ≡ all

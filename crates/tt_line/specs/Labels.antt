@@ -1,6 +1,6 @@
 -- No part of the standard: the lines of a label's text, and their places in one picture (profile). The gap between two
 -- lines is the line gap of the Apple TrueType Reference Manual, "The 'hhea' table", in whole pixels.
-use Rattle.std.specs.Prelude.{◌≡◌, ℕ, ◌+◌, ◌-◌, ◌*◌, ◌/◌, ◌==◌, ◌||◌, ◌&&◌, Bool, nat_lt, if◌then◌else◌, ℤ, pos, negsuc, ◌+ℤ◌, ◌*ℤ◌, int_lt, unsigned_abs, List, [], ◌∷◌, length, drop, map, slice_index, sum, codes, Result, Ok, Err, refl}
+use Rattle.std.specs.Prelude.{◌≡◌, ℕ, ◌+◌, ◌-◌, ◌*◌, ◌/◌, ◌==◌, ◌||◌, ◌&&◌, Bool, nat_lt, if◌then◌else◌, ℤ, pos, negsuc, ◌+ℤ◌, ◌*ℤ◌, List, [], ◌∷◌, length, drop, map, slice_index, sum, codes, None, Result, Ok, Err, refl}
 use Rattle.std.specs.Str.Lines.{lines}
 use Rattle.tt_core.specs.declared.fault.JobFault.{JobFault}
 use Rattle.tt_core.specs.declared.fault.JobFault.TheVariants as job
@@ -11,7 +11,9 @@ use Rattle.tt_line.specs.declared.align.Align.{Align}
 use Rattle.tt_line.specs.declared.align.Align.TheVariants as align
 use Rattle.tt_line.specs.declared.label_extent.LabelExtent.{LabelExtent}
 use Rattle.tt_line.specs.Layout.{Placement, depth_of, glyphs_at_pens, rise_of}
+use Rattle.tt_line.specs.Steps.{at_least}
 use Rattle.tt_metrics.specs.declared.head.LocaFormat.TheVariants.{Short}
+use Rattle.tt_metrics.specs.declared.heights.Heights.TheVariants.{Exact}
 use Rattle.tt_metrics.specs.Metrics.{Metrics, line_gap_of, units_per_em_of}
 
 -- a text begins with U+FEFF, the mark of a byte order, which has three bytes
@@ -30,10 +32,6 @@ some_line (l ∷ ls) = l ∷ ls
 -- the lines of a text: a line feed ends a line, and a carriage return just before it is no part of the line
 unfoldable pub label_lines : List ℕ → List (List ℕ)
 label_lines text = some_line (lines (unmarked text))
-
--- a whole number, if it is above a least one
-abbrev pub at_least : ℕ → ℤ → ℕ
-at_least low n = if int_lt n (pos low) then low else unsigned_abs n
 
 -- pixels between the depth of a line and the rise of the next; a negative gap is none
 abbrev pub gap_of : Metrics → ℕ → ℕ
@@ -141,6 +139,8 @@ with_gap gap = record {
   maxp = record { glyphs = 1; twilight = 0; storage = 0 };
   hhea = record { ascent = pos 192; descent = negsuc 63; line_gap = gap; long_metrics = 1 };
   hmtx = [];
+  heights = Exact;
+  kerning = None;
 }
 
 -- 4, 0.5, a little less, and -8

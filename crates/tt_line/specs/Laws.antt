@@ -1,11 +1,12 @@
 -- Lemmas about the definitions. Apple TrueType Reference Manual, "The 'hmtx' table": a line of text.
-use Rattle.std.specs.Prelude.{◌≡◌, ℕ, ◌+◌, ◌*◌, ◌<◌, ◌≤◌, ℤ, false, All, List, chars, get_or, length, map, slice_index, Ok}
+use Rattle.std.specs.Prelude.{◌≡◌, ℕ, ◌+◌, ◌*◌, ◌<◌, ◌≤◌, ℤ, pos, false, ◌⊎◌, All, List, [], ◌++◌, chars, get_or, length, map, slice_index, take, None, Some, Ok}
 use Rattle.tt_cmap.specs.Lookup.{Cmap, glyph_of}
 use Rattle.tt_cmap.specs.Maps.{CharacterMap, strict, wide}
 use Rattle.tt_cmap.specs.Units.{is_selector}
 use Rattle.tt_cmap.specs.WideLookup.{WideCmap, wide_glyph_of}
-use Rattle.tt_metrics.specs.Metrics.{Metrics}
-use Rattle.tt_line.specs.Layout.{Placement, advances_of, depth_of, glyph_placement, laid, pen_at, placement, rise_of, text_glyphs}
+use Rattle.tt_metrics.specs.Metrics.{Metrics, kerning_of}
+use Rattle.tt_line.specs.Layout.{Placement, advance_in_pixels, depth_of, glyph_placement, laid, pen_at, placement, rise_of, text_glyphs}
+use Rattle.tt_line.specs.Steps.{linear_line, linear_steps}
 
 -- the placed glyphs of a text after layout are those of its units
 abbrev pub PlacesGlyphs : Type 0
@@ -27,10 +28,25 @@ abbrev pub StepsLead : Type 0
 StepsLead = (glyphs steps : List ℕ) (margin : ℕ) (rise depth : ℤ) (line : Placement)
     → laid glyphs steps margin rise depth ≡ Ok line → ArePens glyphs steps margin line
 
--- the layout by advances is the layout by steps, with the advances as the steps
+-- the layout by advances and kerning is the layout by steps, with these as the steps
 abbrev pub AdvancesAreSteps : Type 0
 AdvancesAreSteps = (m : Metrics) (ppem margin : ℕ) (glyphs : List ℕ) → glyph_placement m ppem margin glyphs
-    ≡ laid glyphs (advances_of m ppem glyphs) margin (rise_of m ppem) (depth_of m ppem)
+    ≡ laid glyphs (linear_steps m ppem glyphs) margin (rise_of m ppem) (depth_of m ppem)
+
+-- a line whose pairs have no kerning is laid out by the advances alone
+abbrev pub UnkernedLinesAdvance : Type 0
+UnkernedLinesAdvance = (m : Metrics) (ppem : ℕ) (glyphs : List ℕ) → ((g h : ℕ) → kerning_of m g h ≡ pos 0)
+    → linear_line m ppem glyphs ≡ map (λ g. (g, advance_in_pixels m ppem g)) glyphs
+
+-- where pairs are not kerned, and in a font without both tables, no pair has kerning
+abbrev pub NoTableNoKerning : Type 0
+NoTableNoKerning = (m : Metrics) (g h : ℕ) → ((m.kerning ≡ None) ⊎ (m.kerning ≡ Some (record { gpos = []; kern = [] })))
+    → kerning_of m g h ≡ pos 0
+
+-- the glyphs after a line change the step of its last glyph alone
+abbrev pub KerningLooksOneAhead : Type 0
+KerningLooksOneAhead = (m : Metrics) (ppem : ℕ) (line more : List ℕ) (i : ℕ) → i < length line
+    → take i (linear_line m ppem (line ++ more)) ≡ take i (linear_line m ppem line)
 
 -- with the strict reading, each character of a text has its glyph
 abbrev pub StrictTexts : Type 0

@@ -1,7 +1,7 @@
 -- Apple TrueType Reference Manual, "The 'hhea' table" and "The 'hmtx' table": ascent, descent and advance widths in a
 -- line of text. Layout in whole pixels and the size limits of a picture are this project's own rules (profile). A line
--- is laid out by the steps of its glyphs. Here they are the advances, rounded to whole pixels.
-use Rattle.std.specs.Prelude.{◌≡◌, ℕ, ◌+◌, ◌*◌, ◌<◌, ◌≤◌, ◌||◌, ◌==◌, nat_lt, if◌then◌else◌, ℤ, pos, negsuc, neg_ℤ, ◌+ℤ◌, ◌*ℤ◌, ◌<ℤ◌, ◌≤ℤ◌, int_lt, unsigned_abs, List, [], ◌∷◌, length, take, map, sum, slice_index, chars, Result, Ok, Err, ◌⊎◌, refl}
+-- is laid out by the steps of its glyphs. Here they are the advances with the kerning, in whole pixels.
+use Rattle.std.specs.Prelude.{◌≡◌, ℕ, ◌+◌, ◌*◌, ◌<◌, ◌≤◌, ◌||◌, ◌==◌, nat_lt, if◌then◌else◌, ℤ, pos, negsuc, neg_ℤ, ◌+ℤ◌, ◌*ℤ◌, ◌<ℤ◌, ◌≤ℤ◌, int_lt, unsigned_abs, List, [], ◌∷◌, length, take, map, sum, slice_index, chars, None, Result, Ok, Err, ◌⊎◌, refl}
 use Rattle.std.specs.Int.{int_div_euclid}
 use Rattle.std.specs.List.{range_with_len}
 use Rattle.tt_core.specs.declared.fault.JobFault.{JobFault}
@@ -11,7 +11,10 @@ use Rattle.tt_core.specs.Numbers.{rounded_quotient}
 use Rattle.tt_core.specs.Outcomes.{◌>>=◌}
 use Rattle.tt_cmap.specs.Maps.{CharacterMap, glyph_of_unit, units_by}
 use Rattle.tt_line.specs.declared.extent.PictureExtent.{PictureExtent}
+use Rattle.tt_line.specs.Steps.{linear_steps}
 use Rattle.tt_metrics.specs.declared.head.LocaFormat.TheVariants.{Short}
+use Rattle.tt_metrics.specs.declared.heights.Heights.{Heights}
+use Rattle.tt_metrics.specs.declared.heights.Heights.TheVariants.{Exact, Rounded}
 use Rattle.tt_metrics.specs.Metrics.{Metrics, units_per_em_of, ascent_of, descent_of, advance_of}
 
 -- n / d for a positive d, rounded up to a whole number
@@ -22,21 +25,22 @@ ceiling_quotient n d = neg_ℤ (int_div_euclid (neg_ℤ n) d)
 abbrev pub advance_in_pixels : Metrics → ℕ → ℕ → ℕ
 advance_in_pixels m ppem g = unsigned_abs (rounded_quotient (pos (advance_of m g * ppem)) (pos (units_per_em_of m)))
 
+-- n / d as rows of a picture (profile)
+abbrev pub in_rows : Heights → ℤ → ℤ → ℤ
+in_rows Exact n d = ceiling_quotient n d
+in_rows Rounded n d = rounded_quotient n d
+
 -- pixels from the base line up to the ascent
 abbrev pub rise_of : Metrics → ℕ → ℤ
-rise_of m ppem = ceiling_quotient (ascent_of m *ℤ pos ppem) (pos (units_per_em_of m))
+rise_of m ppem = in_rows m.heights (ascent_of m *ℤ pos ppem) (pos (units_per_em_of m))
 
 -- pixels from the base line down to the descent
 abbrev pub depth_of : Metrics → ℕ → ℤ
-depth_of m ppem = ceiling_quotient (neg_ℤ (descent_of m) *ℤ pos ppem) (pos (units_per_em_of m))
+depth_of m ppem = in_rows m.heights (neg_ℤ (descent_of m) *ℤ pos ppem) (pos (units_per_em_of m))
 
 -- the glyph of each unit of a text
 abbrev pub text_glyphs : CharacterMap → List ℕ → List ℕ
 text_glyphs cmap text = map (glyph_of_unit cmap) (units_by cmap (chars text))
-
--- the advances of glyphs, in pixels
-abbrev pub advances_of : Metrics → ℕ → List ℕ → List ℕ
-advances_of m ppem glyphs = map (advance_in_pixels m ppem) glyphs
 
 -- the start of glyph i, in pixels: the sum of the steps of the i glyphs before it
 abbrev pub pen_at : List ℕ → ℕ → ℕ
@@ -46,10 +50,6 @@ pen_at steps i = sum (take i steps)
 abbrev pub glyphs_at_pens : List ℕ → List ℕ → List (ℕ × ℕ)
 glyphs_at_pens glyphs steps = map (λ i. (slice_index glyphs i, pen_at steps i)) (range_with_len 0 (length glyphs))
 
--- the same, by the advances of the glyphs
-abbrev pub placed_glyphs : Metrics → ℕ → List ℕ → List (ℕ × ℕ)
-placed_glyphs m ppem glyphs = glyphs_at_pens glyphs (advances_of m ppem glyphs)
-
 -- the size of the picture of a line with its margins, by the steps of its glyphs
 abbrev pub extent_by : List ℕ → ℕ → ℤ → ℤ → PictureExtent
 extent_by steps margin rise depth = record {
@@ -57,9 +57,9 @@ extent_by steps margin rise depth = record {
   height = rise +ℤ depth +ℤ pos (2 * margin);
 }
 
--- the same, by the advances of its glyphs
+-- the same, by the advances and the kerning of its glyphs
 abbrev pub extent_of : Metrics → ℕ → ℕ → List ℕ → PictureExtent
-extent_of m ppem margin glyphs = extent_by (advances_of m ppem glyphs) margin (rise_of m ppem) (depth_of m ppem)
+extent_of m ppem margin glyphs = extent_by (linear_steps m ppem glyphs) margin (rise_of m ppem) (depth_of m ppem)
 
 -- a picture without a pixel is refused first, then one that is too large
 unfoldable pub within_limits : PictureExtent → Result PictureExtent JobFault
@@ -93,9 +93,9 @@ laid glyphs steps margin rise depth =
 abbrev pub laid_at : Metrics → ℕ → ℕ → List ℕ → List ℕ → Result Placement JobFault
 laid_at m ppem margin glyphs steps = laid glyphs steps margin (rise_of m ppem) (depth_of m ppem)
 
--- the layout of some glyphs by their advances
+-- the layout of some glyphs by their advances and their kerning
 abbrev pub glyph_placement : Metrics → ℕ → ℕ → List ℕ → Result Placement JobFault
-glyph_placement m ppem margin glyphs = laid_at m ppem margin glyphs (advances_of m ppem glyphs)
+glyph_placement m ppem margin glyphs = laid_at m ppem margin glyphs (linear_steps m ppem glyphs)
 
 -- the layout of a text at a size in pixels per em with a margin in pixels, or the refusal
 unfoldable pub placement : Metrics → CharacterMap → List ℕ → ℕ → ℕ → Result Placement JobFault
@@ -129,6 +129,8 @@ example = record {
   maxp = record { glyphs = 3; twilight = 0; storage = 0 };
   hhea = record { ascent = pos 300; descent = negsuc 99; line_gap = pos 0; long_metrics = 3 };
   hmtx = 1 ∷ 0 ∷ 0 ∷ 0 ∷ 0 ∷ 250 ∷ 0 ∷ 0 ∷ 0 ∷ 8 ∷ 0 ∷ 0 ∷ [];
+  heights = Exact;
+  kerning = None;
 }
 
 rounded_up : map (λ n. ceiling_quotient n (pos 2)) (pos 7 ∷ negsuc 6 ∷ negsuc 7 ∷ []) ≡ pos 4 ∷ negsuc 2 ∷ negsuc 3 ∷ []
@@ -138,9 +140,13 @@ a_little_below_zero : ceiling_quotient (negsuc 0) (pos 16384) ≡ pos 0
 a_little_below_zero = refl
 
 -- 16, 15.625 and 0.5
-its_advances : advances_of example 16 (0 ∷ 1 ∷ 2 ∷ []) ≡ 16 ∷ 16 ∷ 1 ∷ []
+its_advances : map (advance_in_pixels example 16) (0 ∷ 1 ∷ 2 ∷ []) ≡ 16 ∷ 16 ∷ 1 ∷ []
 unfolding example
 its_advances = refl
+
+its_steps : linear_steps example 16 (0 ∷ 1 ∷ 2 ∷ []) ≡ 16 ∷ 16 ∷ 1 ∷ []
+unfolding example
+its_steps = refl
 
 -- 18.75 and 6.25
 its_rise : rise_of example 16 ≡ pos 19
@@ -151,7 +157,23 @@ its_depth : depth_of example 16 ≡ pos 7
 unfolding example
 its_depth = refl
 
-its_pens : placed_glyphs example 16 (2 ∷ 0 ∷ 2 ∷ []) ≡ (2, 0) ∷ (0, 1) ∷ (2, 17) ∷ []
+-- as rows: 18.5 and the like, and below 0
+halves_in_rows : map (λ n. in_rows Rounded n (pos 2)) (pos 37 ∷ pos 36 ∷ pos 35 ∷ negsuc 0 ∷ negsuc 2 ∷ []) ≡ pos 19 ∷ pos 18 ∷ pos 18 ∷ pos 0 ∷ negsuc 0 ∷ []
+halves_in_rows = refl
+
+-- 18.75 is 19, and 6.25 is 6
+rounded_example : Metrics
+rounded_example = record example { heights = Rounded }
+
+rounded_rise : rise_of rounded_example 16 ≡ pos 19
+unfolding example rounded_example
+rounded_rise = refl
+
+rounded_depth : depth_of rounded_example 16 ≡ pos 6
+unfolding example rounded_example
+rounded_depth = refl
+
+its_pens : glyphs_at_pens (2 ∷ 0 ∷ 2 ∷ []) (linear_steps example 16 (2 ∷ 0 ∷ 2 ∷ [])) ≡ (2, 0) ∷ (0, 1) ∷ (2, 17) ∷ []
 unfolding example
 its_pens = refl
 

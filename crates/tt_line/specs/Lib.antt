@@ -4,3 +4,5 @@ pub mod Laws
 pub mod Layout
 pub mod Outcome
 pub mod Sizes
+pub mod Steps
+pub mod Sums

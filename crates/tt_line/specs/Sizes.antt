@@ -1,5 +1,5 @@
 -- No part of the standard: the size of a line's picture with its margins, and its distance from the next line (profile).
-use Rattle.std.specs.Prelude.{◌≡◌, refl, ℕ, ◌+◌, ◌*◌, ◌+ℤ◌, pos, negsuc, unsigned_abs, [], ◌∷◌, Result, Ok, Err}
+use Rattle.std.specs.Prelude.{◌≡◌, refl, ℕ, ◌+◌, ◌*◌, ◌+ℤ◌, pos, negsuc, unsigned_abs, [], ◌∷◌, None, Result, Ok, Err}
 use Rattle.tt_core.specs.declared.fault.JobFault.{JobFault}
 use Rattle.tt_core.specs.declared.fault.JobFault.TheVariants as job
 use Rattle.tt_core.specs.Outcomes.{◌>>=◌}
@@ -8,6 +8,7 @@ use Rattle.tt_line.specs.declared.measured.LineSize.{LineSize}
 use Rattle.tt_line.specs.Labels.{gap_of, line_step_of}
 use Rattle.tt_line.specs.Layout.{depth_of, rise_of, within_limits}
 use Rattle.tt_metrics.specs.declared.head.LocaFormat.TheVariants.{Short}
+use Rattle.tt_metrics.specs.declared.heights.Heights.TheVariants.{Exact}
 use Rattle.tt_metrics.specs.Metrics.{Metrics}
 
 -- the extent of a line with its margins, by the sum of its steps
@@ -38,6 +39,8 @@ four_rows = record {
   maxp = record { glyphs = 3; twilight = 0; storage = 0 };
   hhea = record { ascent = pos 256; descent = negsuc 63; line_gap = pos 64; long_metrics = 1 };
   hmtx = 1 ∷ 0 ∷ 0 ∷ 0 ∷ [];
+  heights = Exact;
+  kerning = None;
 }
 
 a_gap_of_one : line_size four_rows 16 0 4 ≡ Ok (record { width = 4; height = 5; rise = pos 4; depth = pos 1; gap = 1; step = 6 })

@@ -2,13 +2,12 @@
 
 ghost use Rattle.std.specs.Prelude.{◌≡◌, ℕ, ◌+◌, ◌*◌, ◌<◌, ◌≤◌, ◌^◌, ◌+ℤ◌, ◌*ℤ◌, ◌≤ℤ◌, pos, unsigned_abs, IfOk};
 ghost use Rattle.tt_core.specs.Limits.{height_limit, margin_limit, size_limit, text_limit, width_limit};
-ghost use Rattle.tt_core.specs.Numbers.{rounded_quotient};
 ghost use Rattle.tt_core.specs.Outcomes.{Gives};
-ghost use Rattle.tt_line.specs.Labels.{at_least, gap_of, greater, indent, label_extent, label_limited, line_step, rows_of};
-ghost use Rattle.tt_metrics.specs.Head.{smallest_em};
+ghost use Rattle.tt_line.specs.Labels.{gap_of, greater, indent, label_extent, label_limited, line_step, rows_of};
 
 use crate::align::Align;
-use tt_core::{HEIGHT_LIMIT, JobFault, WIDTH_LIMIT, rq};
+use crate::pixels::{at_least, rounded};
+use tt_core::{HEIGHT_LIMIT, JobFault, WIDTH_LIMIT};
 use tt_metrics::Metrics;
 
 /// Width and height of a label's picture, in pixels, before the limits are tested.
@@ -16,19 +15,6 @@ use tt_metrics::Metrics;
 pub struct LabelExtent {
     pub width: u64,
     pub height: u64,
-}
-
-/// A number, or `low` where that is more.
-fn at_least(low: u32, n: i64) -> u64
-    ensures exact { result ≡ at_least low n }
-    ensures low { low ≤ result }
-    ensures least { n ≤ℤ pos result }
-    ensures high { result ≤ low + unsigned_abs n }
-{
-    if n < i64::from(low) {
-        return u64::from(low);
-    }
-    n.unsigned_abs()
 }
 
 /// The greater of two numbers.
@@ -49,16 +35,6 @@ fn units_at(units: i32, ppem: u32) -> i64
     ensures bound { unsigned_abs result ≤ size_limit * 2 ^ 15 }
 {
     i64::from(units * ppem as i32)
-}
-
-/// Pixels rounded to the nearest; 0 where they are negative.
-fn rounded(units: i64, em: u16) -> u32
-    requires units { unsigned_abs units ≤ size_limit * 2 ^ 15 }
-    requires em { smallest_em ≤ em }
-    ensures exact { result ≡ at_least 0 (rounded_quotient units (pos em)) }
-    ensures bound { result ≤ 614400 }
-{
-    at_least(0, rq(units, i64::from(em))) as u32
 }
 
 /// Pixels between the depth of a line and the rise of the next, rounded to the nearest; 0 where the font has a negative

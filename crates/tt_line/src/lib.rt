@@ -12,6 +12,7 @@ mod lines;
 mod measured;
 mod pixels;
 mod steps;
+mod sums;
 
 pub use align::Align;
 pub use extent::PictureExtent;
@@ -20,6 +21,6 @@ pub use layout::lay;
 pub use line::Line;
 pub use lines::{label_steps, lay_lines, unmarked};
 pub use measured::{LineSize, size_by_advances, size_by_steps};
-pub use pixels::advance;
-pub use steps::{advance_steps, lay_steps};
+pub use pixels::{advance, depth, rise, step};
+pub use steps::{advance_steps, kerning_at, lay_steps, unit_advances};
 pub use tt_core::DrawFault as LineFault;

@@ -5,8 +5,9 @@ ghost use Rattle.std.specs.Prelude.{◌≡◌, ◌+◌, ◌-◌, ◌*◌, ◌<�
 ghost use Rattle.tt_core.specs.Limits.{height_limit, margin_limit, size_limit, text_limit, width_limit};
 ghost use Rattle.tt_core.specs.Outcomes.{JobGives};
 ghost use Rattle.tt_line.specs.Labels.{label_lines, label_placement, line_placed, lines_placed, unmarked, widest, width_of};
-ghost use Rattle.tt_line.specs.Layout.{advance_in_pixels, glyphs_at_pens, text_glyphs};
+ghost use Rattle.tt_line.specs.Layout.{glyphs_at_pens, text_glyphs};
 ghost use Rattle.tt_line.specs.Outcome.{placement_of};
+ghost use Rattle.tt_line.specs.Steps.{linear_line};
 ghost use Rattle.tt_metrics.specs.Metrics.{glyphs_of};
 
 use crate::align::Align;
@@ -29,14 +30,15 @@ pub fn unmarked(text: &str) -> &str
     }
 }
 
-/// The lines of a label's text: for each the glyphs of its units, with their advances as their steps. Error: Memory.
+/// The lines of a label's text: for each the glyphs of its units, with their steps by advances; pairs are kerned
+/// within a line. Error: Memory.
 pub fn label_steps(
     alloc: Global,
     known: &mut KnownAdvances,
     text: &str,
 ) -> Result<Vec<Vec<(u16, u32)>>, AllocError>
     requires text { length (chars text.now) ≤ text_limit }
-    ensures exact { IfOk result (λ v. map (λ l. l.items) v.items ≡ map (λ l. map (λ g. (g, advance_in_pixels known.old.metrics known.old.ppem g)) (text_glyphs known.old.cmap l)) (label_lines text.now)) }
+    ensures exact { IfOk result (λ v. map (λ l. l.items) v.items ≡ map (λ l. linear_line known.old.metrics known.old.ppem (text_glyphs known.old.cmap l)) (label_lines text.now)) }
     ensures known { IfOk result (λ v. All (λ l. All (λ p. p.0 < glyphs_of known.old.metrics) l.items) v.items) }
     ensures few { IfOk result (λ v. length (flat_map (λ l. l.items) v.items) ≤ text_limit) }
     ensures some { IfOk result (λ v. 1 ≤ length v.items) }

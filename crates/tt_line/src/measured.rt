@@ -3,15 +3,16 @@
 ghost use Rattle.std.specs.Prelude.{◌≡◌, ◌<◌, ◌≤◌, ◌^◌, length, map, chars, sum, IfErr, IfOk};
 ghost use Rattle.tt_core.specs.Limits.{height_limit, margin_limit, size_limit, text_limit, width_limit};
 ghost use Rattle.tt_core.specs.Outcomes.{Gives};
-ghost use Rattle.tt_line.specs.Layout.{IsRefusal, advances_of, depth_of, extent_by, extent_of, rise_of, text_glyphs};
+ghost use Rattle.tt_line.specs.Layout.{text_glyphs};
 ghost use Rattle.tt_line.specs.Sizes.{line_size};
+ghost use Rattle.tt_line.specs.Steps.{linear_steps};
 
 use crate::extent::{test_limits, with_margins};
 use crate::known::KnownAdvances;
 use crate::label_extent::{gap, line_step};
-use crate::layout::sum_of_advances;
 use crate::pixels::{depth, rise};
 use crate::steps::sum_of_steps;
+use crate::sums::sum_of_text;
 use tt_core::JobFault;
 use tt_metrics::Metrics;
 
@@ -71,7 +72,7 @@ pub fn size_by_steps(
     size_by_sum(metrics, ppem, margin, sum_of_steps(steps))
 }
 
-/// The size of a text's line by its advances. No memory is taken. Errors, the first of: EmptyPicture, PictureLarge.
+/// The size of a text's line by its advances and their kerning. No memory is taken. Errors, the first of: EmptyPicture, PictureLarge.
 pub fn size_by_advances(
     known: &mut KnownAdvances,
     text: &str,
@@ -79,11 +80,11 @@ pub fn size_by_advances(
 ) -> Result<LineSize, JobFault>
     requires margin { margin ≤ margin_limit }
     requires text { length (chars text.now) ≤ text_limit }
-    ensures exact { Gives (λ z. z) result (line_size known.old.metrics known.old.ppem margin (sum (advances_of known.old.metrics known.old.ppem (text_glyphs known.old.cmap text.now)))) }
+    ensures exact { Gives (λ z. z) result (line_size known.old.metrics known.old.ppem margin (sum (linear_steps known.old.metrics known.old.ppem (text_glyphs known.old.cmap text.now)))) }
     ensures width { IfOk result (λ z. z.width ≤ width_limit) }
     ensures height { IfOk result (λ z. z.height ≤ height_limit) }
     ensures same { known.new ≡ known.old }
 {
-    let sum = sum_of_advances(known, text);
+    let sum = sum_of_text(known, text);
     size_by_sum(known.metrics(), known.ppem(), margin, sum)
 }

@@ -1,11 +1,14 @@
 -- Apple TrueType Reference Manual, "The 'head' table", "The 'maxp' table", "The 'hhea' table" and "The 'hmtx' table":
--- the numbers of the four tables together.
-use Rattle.std.specs.Prelude.{◌≡◌, ℕ, ◌*◌, ◌<◌, ◌≤◌, ℤ, List, length, [], ◌∷◌, Result, Ok, IsOkAnd, ◌⊎◌, negsuc, refl}
+-- the numbers of the four tables together, and how a line is laid out by them.
+use Rattle.std.specs.Prelude.{◌≡◌, ℕ, ◌*◌, ◌<◌, ◌≤◌, ℤ, List, length, [], ◌∷◌, Result, Ok, IsOkAnd, ◌⊎◌, pos, negsuc, Option, Some, None, refl}
 use Rattle.tt_core.specs.Directory.{Directory}
 use Rattle.tt_core.specs.Faults.{Fault}
 use Rattle.tt_core.specs.Outcomes.{◌>>=◌}
 use Rattle.tt_metrics.specs.declared.head.Head.{Head}
+use Rattle.tt_kern.specs.Kerning.{Tables, kerning}
 use Rattle.tt_metrics.specs.declared.head.LocaFormat.{LocaFormat}
+use Rattle.tt_metrics.specs.declared.heights.Heights.{Heights}
+use Rattle.tt_metrics.specs.declared.heights.Heights.TheVariants.{Exact}
 use Rattle.tt_metrics.specs.declared.hhea.Hhea.{Hhea}
 use Rattle.tt_metrics.specs.declared.maxp.Maxp.{Maxp}
 use Rattle.tt_metrics.specs.Head.{smallest_em, largest_em, head_of, IsHeadDefect}
@@ -18,15 +21,18 @@ pub record Metrics : Type 0 where
   pub maxp : Maxp
   pub hhea : Hhea
   pub hmtx : List ℕ
+  pub heights : Heights
+  pub kerning : Option Tables
 
--- the four tables, read in this order; the first fault is the result
+-- the four tables, read in this order; the first fault is the result. Heights are exact and no pair is kerned, unless
+-- that is asked for
 unfoldable pub metrics_of : Directory → Result Metrics Fault
 metrics_of directory = do
   head ← head_of directory
   maxp ← maxp_of directory
   hhea ← hhea_of directory
   hmtx ← hmtx_of directory hhea.long_metrics
-  Ok (record { head = head; maxp = maxp; hhea = hhea; hmtx = hmtx })
+  Ok (record { head = head; maxp = maxp; hhea = hhea; hmtx = hmtx; heights = Exact; kerning = None })
 
 -- font units in an em
 abbrev pub units_per_em_of : Metrics → ℕ
@@ -61,6 +67,14 @@ advance_of m g = advance_in m.hmtx m.hhea.long_metrics g
 
 abbrev pub left_side_bearing_of : Metrics → ℕ → ℤ
 left_side_bearing_of m g = bearing_in m.hmtx m.hhea.long_metrics g
+
+-- the kerning of two neighbouring glyphs by some tables, in font units
+abbrev pub kerning_by : Option Tables → ℕ → ℕ → ℤ
+kerning_by None g h = pos 0
+kerning_by (Some tables) g h = kerning tables g h
+
+abbrev pub kerning_of : Metrics → ℕ → ℕ → ℤ
+kerning_of m g h = kerning_by m.kerning g h
 
 -- the ranges that the rest of the program relies on
 pub record IsInRange (m : Metrics) : Type 0 where

@@ -1,7 +1,8 @@
-//! The numbers of head, maxp, hhea and hmtx.
+//! The numbers of head, maxp, hhea and hmtx, and how a line is laid out by them.
 #![tactic(auto)]
 
 mod head;
+mod heights;
 mod hhea;
 pub mod laws;
 mod maxp;
@@ -9,4 +10,5 @@ mod metrics;
 mod table;
 
 pub use head::LocaFormat;
+pub use heights::Heights;
 pub use metrics::Metrics;

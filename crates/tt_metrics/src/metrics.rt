@@ -1,27 +1,32 @@
 //! The four tables together.
 
-ghost use Rattle.std.specs.Prelude.{◌≡◌, ◌<◌, ◌≤◌, IsTrue, IfOk, IfErr, OnOk};
+ghost use Rattle.std.specs.Prelude.{◌≡◌, ◌^◌, ◌<◌, ◌≤◌, is_some, IsTrue, IfOk, IfErr, OnOk, unsigned_abs};
 ghost use Rattle.tt_core.specs.Directory.{HasNo};
 ghost use Rattle.tt_core.specs.Outcomes.{Gives};
 ghost use Rattle.tt_metrics.specs.Head.{smallest_em, largest_em};
-ghost use Rattle.tt_metrics.specs.Metrics.{metrics_of, units_per_em_of, loca_format_of, glyphs_of, twilight_of, storage_of, ascent_of, descent_of, line_gap_of, advance_of, left_side_bearing_of, IsInRange, IsMetricsDefect};
+ghost use Rattle.tt_metrics.specs.Metrics.{metrics_of, units_per_em_of, loca_format_of, glyphs_of, twilight_of, storage_of, ascent_of, descent_of, line_gap_of, advance_of, left_side_bearing_of, kerning_of, IsInRange, IsMetricsDefect};
 
 use crate::head::{HEAD, Head, LocaFormat};
+use crate::heights::Heights;
 use crate::hhea::{HHEA, Hhea};
 use crate::maxp::{MAXP, Maxp};
 use crate::table::{Fields, test_length};
 use std::marker::Model;
 use tt_core::{Dir, Fault, i16_at, u16_at};
+use tt_kern::Kerning;
 
 const HMTX: [u8; 4] = *b"hmtx";
 
-/// The fields of head, maxp and hhea, and the bytes of hmtx. Clauses see the tables' fields.
+/// The fields of head, maxp and hhea, and the bytes of hmtx; how heights are rounded, and the tables of the kerning where
+/// pairs are kerned. Clauses see all of these.
 #[derive(Drop)]
 pub struct Metrics<'a> {
     head: Head,
     maxp: Maxp,
     hhea: Hhea,
     hmtx: &'a [u8],
+    heights: Heights,
+    kerning: Option<Kerning<'a>>,
 }
 
 impl<'a> Model for Metrics<'a> {
@@ -31,13 +36,22 @@ impl<'a> Model for Metrics<'a> {
 
     ghost Value = { metrics.Metrics };
 
-    ghost view = { λ m. record { head = m.head; maxp = m.maxp; hhea = m.hhea; hmtx = m.hmtx.now } };
+    ghost view = { λ m. record { head = m.head; maxp = m.maxp; hhea = m.hhea; hmtx = m.hmtx.now; heights = m.heights; kerning = m.kerning } };
 
-    ghost invariant = { λ m. IsInRange (record { head = m.head; maxp = m.maxp; hhea = m.hhea; hmtx = m.hmtx.now }) };
+    ghost invariant = { λ m. IsInRange (record { head = m.head; maxp = m.maxp; hhea = m.hhea; hmtx = m.hmtx.now; heights = m.heights; kerning = m.kerning }) };
+}
+
+fn copied<'a>(kerning: &Option<Kerning<'a>>) -> Option<Kerning<'a>>
+    ensures { result ≡ kerning.now }
+{
+    match kerning {
+        Some(kerning) => Some(kerning.copy()),
+        None => None,
+    }
 }
 
 impl<'a> Metrics<'a> {
-    /// Reads head, maxp, hhea and hmtx, in this order. Errors: NoTable, TableRange, those of each table.
+    /// Reads head, maxp, hhea and hmtx, in this order. Heights are exact, and no pair is kerned. Errors: NoTable, TableRange, those of each table.
     #[tactic(auto, unfolding(crate::specs::Metrics::metrics_of, crate::specs::Head::head_of, crate::specs::Maxp::maxp_of, crate::specs::Hhea::hhea_of, crate::specs::Hmtx::hmtx_of))]
     pub fn open(dir: &Dir<'a>) -> Result<Metrics<'a>, Fault>
         ensures exact { Gives (λ m. m) result (metrics_of dir.now) }
@@ -55,7 +69,23 @@ impl<'a> Metrics<'a> {
             maxp,
             hhea,
             hmtx,
+            heights: Heights::Exact,
+            kerning: None,
         })
+    }
+
+    /// Rounds heights like this from now on.
+    pub fn set_heights(&mut self, heights: Heights)
+        ensures { self.new ≡ record self.old { heights = heights } }
+    {
+        self.heights = heights;
+    }
+
+    /// Kerns neighbouring glyphs by these tables from now on, or kerns none.
+    pub fn set_kerning(&mut self, kerning: Option<Kerning<'a>>)
+        ensures { self.new ≡ record self.old { kerning = kerning.entry } }
+    {
+        self.kerning = kerning;
     }
 
     /// A copy of the metrics. The tables' bytes are not copied.
@@ -67,6 +97,8 @@ impl<'a> Metrics<'a> {
             maxp: self.maxp,
             hhea: self.hhea,
             hmtx: self.hmtx,
+            heights: self.heights,
+            kerning: copied(&self.kerning),
         }
     }
 
@@ -150,5 +182,30 @@ impl<'a> Metrics<'a> {
             4 * usize::from(n) + 2 * usize::from(g - n)
         };
         i16_at(self.hmtx, place).unwrap_or(0)
+    }
+
+    /// How a line's ascent and descent are rounded.
+    pub fn heights(&self) -> Heights
+        ensures { result ≡ self.now.heights }
+    {
+        self.heights
+    }
+
+    /// Whether neighbouring glyphs are kerned.
+    pub fn has_kerning(&self) -> bool
+        ensures { result ≡ is_some self.now.kerning }
+    {
+        self.kerning.is_some()
+    }
+
+    /// The kerning of two neighbouring glyphs, in font units: 0 where pairs are not kerned.
+    pub fn kerning(&self, left: u16, right: u16) -> i32
+        ensures exact { result ≡ kerning_of self.now left right }
+        ensures bound { unsigned_abs result ≤ 2 ^ 20 }
+    {
+        match &self.kerning {
+            Some(kerning) => kerning.kerning(left, right),
+            None => 0,
+        }
     }
 }

@@ -59,7 +59,7 @@ same_rule (Some m) (Some n) same = refl
 
 outline_stays : (s t : Fitter) (filled : Option BoxedRules) (o : Outline) (k : KeptGlyph) → chords_with t ≡ chords_with s
     → IsOfOutline s filled o k → IsOfOutline t filled o k
-outline_stays s t filled o k way is = record { cut = rw way is.cut; step = is.step; chords = rw way is.chords }
+outline_stays s t filled o k way is = record { cut = rw way is.cut; advance = is.advance; chords = rw way is.chords }
 
 one_stays : (s t : Fitter) (n : ℕ) (k : KeptGlyph) → without_work t ≡ without_work s → IsCached s n k → IsCached t n k
 one_stays s t n k same is =

@@ -1,5 +1,5 @@
 -- Glyphs that are made, and cut into pixels for the cache.
-use Rattle.std.proofs.Common.{◌≡◌, ◌∙◌, ◌+◌, ℕ, Bool, true, false, List, nat_le, Option, None, Some, Ok, ◌⊎◌, inl, inr, ap, refl, sym}
+use Rattle.std.proofs.Common.{◌≡◌, ◌∙◌, ◌+◌, ℕ, ℤ, Bool, true, false, List, nat_le, Option, None, Some, Ok, ◌⊎◌, inl, inr, ap, refl, sym}
 use Rattle.std.specs.Prelude.{IfSome, pos}
 use Rattle.tt_core.specs.Faults.{Fault}
 use Rattle.tt_arc.proofs.PointsBox.{box_holds_edges}
@@ -12,7 +12,7 @@ use Rattle.tt_fit.specs.GlyphCost.{IsMade, IsMadeFor, all_used}
 use Rattle.tt_fit.specs.Laws.{UnboundedStays}
 use Rattle.tt_fit.specs.declared.dropouts.DropoutRules.{DropoutRules}
 use Rattle.tt_fit_outline.specs.Outline.{Outline}
-use Rattle.tt_fit_outline.specs.Steps.{step_of}
+use Rattle.tt_fit_outline.specs.Steps.{advance_left}
 use Rattle.tt_picture.specs.Cached.{IsCached, IsCutOf, IsOfOutline}
 use Rattle.tt_picture.specs.Cut.{HasFacts, IsCutBody}
 use Rattle.tt_picture.specs.Fitted.{kept, IsFittedBody, IsMadeOutline, MadeOutline}
@@ -35,9 +35,9 @@ use Rattle.tt_strike_kept.specs.Glyph.{KeptGlyph}
 pub cut_shows : (cached : Bool) (s : Fitter) (n : ℕ) (o : Outline) (m : MadeOutline) (es : List Edge)
     (contours : List (List Edge)) (facts : GlyphFacts) (k : KeptGlyph) → IsMadeOutline cached s n o m
     → es ≡ edges_at m.rule 0 m.outline → IfSome m.filled (λ rules. contours ≡ contours_of m.rule 0 m.outline)
-    → facts.step ≡ step_of m.outline → facts.chords ≡ chords_of m.rule m.outline
+    → facts.advance_left ≡ advance_left m.outline → facts.chords ≡ chords_of m.rule m.outline
     → IsCutOf es contours m.filled k → HasFacts facts k → IsOfOutline s (filled_by s n o) o k
-cut_shows cached s n o m es contours facts k made edges lines step chords cut has =
+cut_shows cached s n o m es contours facts k made edges lines advance chords cut has =
     let edged : es ≡ edges_at (chords_with s) 0 o = rw (made.rule, made.outline) at edges in
     let lined : IfSome m.filled (λ rules. contours ≡ contours_of (chords_with s) 0 o) = rw (made.rule, made.outline) at lines in
     let by : m.filled ≡ filled_by s n o = made.filled in
@@ -49,7 +49,7 @@ cut_shows cached s n o m es contours facts k made edges lines step chords cut ha
             ∙ ap (λ f. is_filled f (contours_of (chords_with s) 0 o) c j) by;
         crossings = crossed;
       };
-      step = has.step ∙ rw made.outline at step;
+      advance = has.advance ∙ rw made.outline at advance;
       chords = has.chords ∙ rw (made.rule, made.outline) at chords;
     }
 
@@ -58,10 +58,10 @@ pub as_cached : (cached : Bool) (s : Fitter) (n : ℕ) (o : Outline) (m : MadeOu
     (contours : List (List Edge)) (facts : GlyphFacts) (k : KeptGlyph) → facts.counts ≡ m.counts
     → facts.unfitted ≡ m.unfitted → IsMadeOutline cached s n o m
     → es ≡ edges_at m.rule 0 m.outline → IfSome m.filled (λ rules. contours ≡ contours_of m.rule 0 m.outline)
-    → facts.step ≡ step_of m.outline → facts.chords ≡ chords_of m.rule m.outline
+    → facts.advance_left ≡ advance_left m.outline → facts.chords ≡ chords_of m.rule m.outline
     → IsCutOf es contours m.filled k → HasFacts facts k → IsCached s n k
-as_cached cached s n o m es contours facts k told fault made edges lines step chords cut has =
-    let shown = cut_shows cached s n o m es contours facts k made edges lines step chords cut has in
+as_cached cached s n o m es contours facts k told fault made edges lines advance chords cut has =
+    let shown = cut_shows cached s n o m es contours facts k made edges lines advance chords cut has in
     let counts = sym told ∙ has.counts in
     let points : k.points ≡ points_asked s.tables s.levels n = rw counts at made.points in
     let paid : IsMadeFor s n k.cost o m.unfitted = rw counts at made.made in
@@ -128,7 +128,7 @@ pub counts_points : (s : Fitter) (n : ℕ) (counts : Option KeptCounts) (points 
 counts_points s n None points are some = tt
 counts_points s n (Some k) points are some = rw some at are
 
--- the edges, the contours, the step and the chords of an outline are those of its glyph
+-- the edges, the contours, the advance and the chords of an outline are those of its glyph
 
 pub made_edges : {cached : Bool} {s : Fitter} {n : ℕ} {o : Outline} (m : MadeOutline) (es : List Edge)
     → IsMadeOutline cached s n o m → es ≡ edges_at m.rule 0 m.outline → es ≡ edges_at (chords_with s) 0 o
@@ -139,9 +139,9 @@ pub made_lines : {cached : Bool} {s : Fitter} {n : ℕ} {o : Outline} (m : MadeO
     → IfSome m.filled (λ rules. contours ≡ contours_of (chords_with s) 0 o)
 made_lines m contours made is = rw (made.rule, made.outline) at is
 
-pub made_step : {cached : Bool} {s : Fitter} {n : ℕ} {o : Outline} (m : MadeOutline) (k : ℕ)
-    → IsMadeOutline cached s n o m → k ≡ step_of m.outline → k ≡ step_of o
-made_step m k made is = rw made.outline at is
+pub made_advance : {cached : Bool} {s : Fitter} {n : ℕ} {o : Outline} (m : MadeOutline) (k : ℤ)
+    → IsMadeOutline cached s n o m → k ≡ advance_left m.outline → k ≡ advance_left o
+made_advance m k made is = rw made.outline at is
 
 pub made_chords : {cached : Bool} {s : Fitter} {n : ℕ} {o : Outline} (m : MadeOutline) (k : ℕ)
     → IsMadeOutline cached s n o m → k ≡ chords_of m.rule m.outline → k ≡ chords_of (chords_with s) o
@@ -177,11 +177,11 @@ body_has es those contours filled facts (glyphs.kept k) same is = rw same at is.
 pub body_shows : (cached : Bool) (s : Fitter) (n : ℕ) (o : Outline) (m : MadeOutline) (es : List Edge)
     (contours : List (List Edge)) (facts : GlyphFacts) (body : GlyphBody) → IsMadeOutline cached s n o m
     → es ≡ edges_at m.rule 0 m.outline → IfSome m.filled (λ rules. contours ≡ contours_of m.rule 0 m.outline)
-    → facts.step ≡ step_of m.outline → facts.chords ≡ chords_of m.rule m.outline
+    → facts.advance_left ≡ advance_left m.outline → facts.chords ≡ chords_of m.rule m.outline
     → IsCutBody es contours m.filled facts body → IsKeptOf s (filled_by s n o) o body
-body_shows cached s n o m es contours facts (glyphs.tape t) made edges lines step chords is = tt
-body_shows cached s n o m es contours facts (glyphs.kept k) made edges lines step chords is =
-    cut_shows cached s n o m es contours facts k made edges lines step chords is.0 is.1
+body_shows cached s n o m es contours facts (glyphs.tape t) made edges lines advance chords is = tt
+body_shows cached s n o m es contours facts (glyphs.kept k) made edges lines advance chords is =
+    cut_shows cached s n o m es contours facts k made edges lines advance chords is.0 is.1
 
 pub tape_has : (es : List Edge) (contours : List (List Edge)) (filled : Option BoxedRules) (facts : GlyphFacts)
     (body : GlyphBody) → IsTape body → IsCutBody es contours filled facts body → edges_of body ≡ es

@@ -1,5 +1,5 @@
 -- Outlines made in order: each glyph once, with the fitter after those before it.
-use Rattle.std.proofs.Common.{◌≡◌, ◌∙◌, refl, sym, ap, ℕ, zero, suc, ◌+◌, ◌<◌, ◌≤◌, ◌-◌, Bool, true, false, not, ◌&&◌, ◌||◌, ◌==◌, List, [], ◌∷◌, ◌++◌, length, map, drop, get_or, set, slice_index, take, Result, Ok, Err, append_assoc, append-nil, drop-cons, arith}
+use Rattle.std.proofs.Common.{◌≡◌, ◌∙◌, refl, sym, ap, ℕ, ℤ, zero, suc, ◌+◌, ◌<◌, ◌≤◌, ◌-◌, Bool, true, false, not, ◌&&◌, ◌||◌, ◌==◌, List, [], ◌∷◌, ◌++◌, length, map, drop, get_or, set, slice_index, take, Result, Ok, Err, append_assoc, append-nil, drop-cons, arith}
 use Rattle.std.specs.Prelude.{All, IfSome}
 use Rattle.std.proofs.lemmas.Bool.Decides.{nat_tests}
 use Rattle.std.proofs.lemmas.List.{get_or-map, take-append-drop}
@@ -11,12 +11,12 @@ use Rattle.tt_core.specs.Faults.{Fault}
 use Rattle.tt_core.specs.Outcomes.{after_each, each, font_fault}
 use Rattle.tt_fit.specs.Fitting.{Fitter, fitted_outline}
 use Rattle.tt_fit_outline.specs.Outline.{Outline}
-use Rattle.tt_fit_outline.specs.Steps.{step_of}
+use Rattle.tt_fit_outline.specs.Steps.{advance_left}
 use Rattle.tt_picture.specs.Distinct.{distinct_after, is_among}
-use Rattle.tt_picture.specs.Fitted.{AreFitted, AreSteps, FittedBody, FittedGlyph, IsFitted, IsFittedBody, body_chords, body_step, fitted_chords, fitted_crossings, fitted_numbers, kept, made_crossings, outlined}
+use Rattle.tt_picture.specs.Fitted.{AreFitted, AreAdvances, FittedBody, FittedGlyph, IsFitted, IsFittedBody, body_chords, body_advance, fitted_chords, fitted_crossings, fitted_numbers, kept, made_crossings, outlined}
 use Rattle.tt_picture.specs.Pixels.{Shape}
 use Rattle.tt_picture.specs.Shapes.{chords_with, glyph_shape, shape_at}
-use Rattle.tt_picture.specs.Steps.{chords_of, glyph_chords, glyph_step}
+use Rattle.tt_picture.specs.Steps.{chords_of, glyph_chords, glyph_advance}
 use Rattle.tt_picture.specs.Unfitted.{all_differ}
 
 both_true : (a b : Bool) → (a && b) ≡ true → (a ≡ true) × (b ≡ true)
@@ -74,17 +74,17 @@ pub stuck_there : (e : FontFault) (make : ℕ → Result Outline Fault) (ns : Li
 stuck_there (font.Font f) make ns i os below so_far fails = sym so_far ∙ rw (drop-cons ns i 0 below, fails) refl
 stuck_there font.Memory make ns i os below so_far fails = tt
 
--- fitted glyphs have the steps and the chords of the definition
-step_is : (cached : Bool) (s : Fitter) (n : ℕ) (o : Outline) (body : FittedBody) → IsFittedBody cached s n o body
-    → step_of o ≡ body_step body
-step_is cached s n o (outlined m) is = rw is.outline refl
-step_is cached s n o (kept k) is = sym is.2.step
+-- fitted glyphs have the advances and the chords of the definition
+advance_is : (cached : Bool) (s : Fitter) (n : ℕ) (o : Outline) (body : FittedBody) → IsFittedBody cached s n o body
+    → advance_left o ≡ body_advance body
+advance_is cached s n o (outlined m) is = rw is.outline refl
+advance_is cached s n o (kept k) is = sym is.2.advance
 
-pub steps_are : {cached : Bool} (maker : ℕ → Fitter) (fs : List FittedGlyph) → AreFitted cached maker fs
-    → AreSteps (λ g. glyph_step (maker g) g) fs
-unfolding glyph_step
-steps_are {cached} maker fs fitted = λ k d below.
-    let one = fitted k d below in rw one.outline (step_is cached _ _ one.shape _ one.body)
+pub advances_are : {cached : Bool} (maker : ℕ → Fitter) (fs : List FittedGlyph) → AreFitted cached maker fs
+    → AreAdvances (λ g. glyph_advance (maker g) g) fs
+unfolding glyph_advance
+advances_are {cached} maker fs fitted = λ k d below.
+    let one = fitted k d below in rw one.outline (advance_is cached _ _ one.shape _ one.body)
 
 chord_is : (cached : Bool) (s : Fitter) (n : ℕ) (o : Outline) (body : FittedBody) → IsFittedBody cached s n o body
     → body_chords body ≡ chords_of (chords_with s) o
@@ -132,18 +132,6 @@ shapes_of_line maker fs (g ∷ gs) fitted among =
     let rest = shapes_of_line maker fs gs fitted (All-tail P g gs among) in
     (shape_at (maker g.0) g one.0 ∷ rest.0, rw (one.1, rest.1) refl)
 
--- one more step is put beside its glyph
-pub one_more_step : (step : ℕ → ℕ) (gs : List (ℕ × ℕ)) (i : ℕ) → i < length gs
-    → set (map (λ (g : ℕ × ℕ). (g.0, step g.0)) (take i gs) ++ drop i gs) i (
-      (get_or (map (λ (g : ℕ × ℕ). (g.0, step g.0)) (take i gs) ++ drop i gs) i (0, 0)).0,
-      step (get_or gs i (0, 0)).0,
-    )
-    ≡ map (λ (g : ℕ × ℕ). (g.0, step g.0)) (take (suc i) gs) ++ drop (suc i) gs
-one_more_step step [] i below = absurd (omega arith)
-one_more_step step (g ∷ gs) zero below = refl
-one_more_step step (g ∷ gs) (suc i) below =
-    ap (λ (hs : List (ℕ × ℕ)). (g.0, step g.0) ∷ hs) (one_more_step step gs i (omega arith))
-
 -- a glyph keeps its number where its step is put
 pub numbers_kept : (gs : List (ℕ × ℕ)) (i n : ℕ) → i < length gs
     → map (λ (g : ℕ × ℕ). g.0) (set gs i ((get_or gs i (0, 0)).0, n)) ≡ map (λ (g : ℕ × ℕ). g.0) gs
@@ -159,14 +147,14 @@ same_number gs hs i same below under =
     sym (get_or-map (λ (g : ℕ × ℕ). g.0) gs i (0, 0) 0 below) ∙ ap (λ ns. get_or ns i 0) same
     ∙ get_or-map (λ (g : ℕ × ℕ). g.0) hs i (0, 0) 0 under
 
--- the step of the glyph at this place
-pub step_at : (step : ℕ → ℕ) (fs : List FittedGlyph) (i n : ℕ) (f : FittedGlyph) → AreSteps step fs → i < length fs
-    → slice_index (fitted_numbers fs) i ≡ n → f ≡ get_or fs i f → body_step f.body ≡ step n
-step_at step fs i n f steps below number is =
-    let own : step f.number ≡ body_step f.body = rw (← is) at (steps i f below) in
+-- the advance of the glyph at this place
+pub advance_at : (advance : ℕ → ℤ) (fs : List FittedGlyph) (i n : ℕ) (f : FittedGlyph) → AreAdvances advance fs → i < length fs
+    → slice_index (fitted_numbers fs) i ≡ n → f ≡ get_or fs i f → body_advance f.body ≡ advance n
+advance_at advance fs i n f advances below number is =
+    let own : advance f.number ≡ body_advance f.body = rw (← is) at (advances i f below) in
     let here : f.number ≡ n = ap (λ (g : FittedGlyph). g.number) is
     ∙ sym (get_or-map (λ (g : FittedGlyph). g.number) fs i f 0 below) ∙ number in
-    sym own ∙ ap step here
+    sym own ∙ ap advance here
 
 -- one more of some glyphs and its chords
 pub one_chord_more : (fs : List FittedGlyph) (f : FittedGlyph) (left most n : ℕ) → left + fitted_chords fs ≡ most

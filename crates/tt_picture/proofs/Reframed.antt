@@ -32,9 +32,9 @@ where_filled (Some rules) P holds = holds
 
 -- a glyph with a tape of the same edges in another frame is drawn by the same fitter
 pub drawn_in : (s : Fitter) (f frame : Frame) (g h : Glyph) → h.number ≡ g.number → h.filled ≡ g.filled → h.ends ≡ g.ends
-    → h.unfitted ≡ g.unfitted → h.step ≡ g.step → h.chords ≡ g.chords → h.left ≡ 0 → IsTape h.body → IsBodyOf (edges_of g.body) h.body → BodyFits frame 0 h.body
+    → h.unfitted ≡ g.unfitted → h.advance_left ≡ g.advance_left → h.chords ≡ g.chords → h.left ≡ 0 → IsTape h.body → IsBodyOf (edges_of g.body) h.body → BodyFits frame 0 h.body
     → IsDrawn false s f g → IsDrawn false s frame h
-drawn_in s f frame g h number filled ends unfitted step chords left is of fits drawn =
+drawn_in s f frame g h number filled ends unfitted advance chords left is of fits drawn =
     let o = drawn.shape in
     let edges : edges_of h.body ≡ edges_of g.body = edges_are h.body (edges_of g.body) is of in
     let outlined : edges_of g.body ≡ edges_at (chords_with s) 0 o = edges_are g.body (edges_at (chords_with s) 0 o) (drawn.tape refl) drawn.body in
@@ -45,7 +45,7 @@ drawn_in s f frame g h number filled ends unfitted step chords left is of fits d
       body = rw outlined at of;
       left = left ∙ sym (tape_left frame h.body is);
       tape = λ off. is;
-      step = step ∙ drawn.step;
+      advance = advance ∙ drawn.advance;
       chords = chords ∙ drawn.chords;
       kept = tape_kept s _ o h.body is;
       filled = λ here. rw (filled, number) (drawn.filled (drawn.tape refl));

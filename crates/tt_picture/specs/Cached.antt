@@ -6,7 +6,7 @@ use Rattle.tt_fit.specs.Dropouts.{dropouts_of}
 use Rattle.tt_fit.specs.Fitting.{Fitter}
 use Rattle.tt_fit.specs.GlyphCost.{IsMadeFor, without_work}
 use Rattle.tt_fit_outline.specs.Outline.{Outline}
-use Rattle.tt_fit_outline.specs.Steps.{step_of}
+use Rattle.tt_fit_outline.specs.Steps.{advance_left}
 use Rattle.tt_picture.specs.Pixels.{is_filled}
 use Rattle.tt_picture.specs.Shapes.{chords_with, contours_of, edges_at, extents_of, filling_crossings, rules_for}
 use Rattle.tt_picture.specs.Steps.{chords_of}
@@ -24,10 +24,10 @@ pub record IsCutOf (es : List Edge) (contours : List (List Edge)) (filled : Opti
   pub dropouts : (c j : ℤ) → has_pixel k.dropouts c j ≡ is_filled filled contours c j
   pub crossings : k.crossings ≡ edges_counted es + filling_crossings filled es
 
--- it has those of an outline at pen 0, by these rules, and the outline's step and chords
+-- it has those of an outline at pen 0, by these rules, and the outline's advance and chords
 pub record IsOfOutline (s : Fitter) (filled : Option BoxedRules) (o : Outline) (k : KeptGlyph) : Type 0 where
   pub cut : IsCutOf (edges_at (chords_with s) 0 o) (contours_of (chords_with s) 0 o) filled k
-  pub step : k.step ≡ step_of o
+  pub advance : k.advance_left ≡ advance_left o
   pub chords : k.chords ≡ chords_of (chords_with s) o
 
 -- the cached glyph of this number is made so wherever its cost is left of a job's work, and the rest is left then; its

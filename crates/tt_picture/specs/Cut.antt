@@ -9,7 +9,7 @@ use Rattle.tt_strike_kept.specs.Glyph.{KeptGlyph}
 
 -- a cached glyph has these facts
 pub record HasFacts (facts : GlyphFacts) (k : KeptGlyph) : Type 0 where
-  pub step : k.step ≡ facts.step
+  pub advance : k.advance_left ≡ facts.advance_left
   pub chords : k.chords ≡ facts.chords
   pub counts : facts.counts ≡ Some (record { points = k.points; cost = k.cost })
   pub unfitted : k.unfitted ≡ facts.unfitted

@@ -1,13 +1,13 @@
 -- No part of the standard: the glyphs of a line that are fitted, before their edges are made: each by its outline, or from
 -- the cache.
-use Rattle.std.specs.Prelude.{◌≡◌, ℕ, ◌+◌, Bool, true, false, All, IfSome, List, map, Option, None, Ok}
+use Rattle.std.specs.Prelude.{◌≡◌, ℕ, ℤ, ◌+◌, Bool, true, false, All, IfSome, List, map, Option, None, Ok}
 use Rattle.std.specs.List.{sum_by}
 use Rattle.tt_core.specs.Faults.{Fault}
 use Rattle.tt_fit.specs.Counting.{points_asked}
 use Rattle.tt_fit.specs.Fitting.{Fitter, fitted_outline, unfitted_fault}
 use Rattle.tt_fit.specs.GlyphCost.{IsMadeFor}
 use Rattle.tt_fit_outline.specs.Outline.{Outline}
-use Rattle.tt_fit_outline.specs.Steps.{step_of}
+use Rattle.tt_fit_outline.specs.Steps.{advance_left}
 use Rattle.tt_arc.specs.declared.rule.ChordRule.{ChordRule}
 use Rattle.tt_scan_dropouts.specs.Counted.{edges_counted}
 use Rattle.tt_scan_dropouts.specs.declared.boxed.BoxedRules.{BoxedRules}
@@ -38,9 +38,10 @@ pub record FittedGlyph : Type 0 where
   pub number : ℕ
   pub body : FittedBody
 
-abbrev pub body_step : FittedBody → ℕ
-body_step (outlined m) = step_of m.outline
-body_step (kept k) = k.step
+-- the distance of the advance's two ends, in 26.6 pixels
+abbrev pub body_advance : FittedBody → ℤ
+body_advance (outlined m) = advance_left m.outline
+body_advance (kept k) = k.advance_left
 
 abbrev pub body_chords : FittedBody → ℕ
 body_chords (outlined m) = chords_of m.rule m.outline
@@ -92,9 +93,9 @@ fitted_chords gs = sum_by (λ g. body_chords g.body) gs
 abbrev pub AreFitted : Bool → (ℕ → Fitter) → List FittedGlyph → Type 0
 AreFitted cached maker gs = All (λ g. IsFitted cached (maker g.number) g) gs
 
--- this is the step of each glyph
-abbrev pub AreSteps : (ℕ → ℕ) → List FittedGlyph → Type 0
-AreSteps step gs = All (λ g. step g.number ≡ body_step g.body) gs
+-- this is the distance of the ends of each glyph's advance
+abbrev pub AreAdvances : (ℕ → ℤ) → List FittedGlyph → Type 0
+AreAdvances advance gs = All (λ g. advance g.number ≡ body_advance g.body) gs
 
 -- the crossings of a glyph that is cut when it is drawn; a glyph from the cache was cut before
 abbrev pub newly_cut : FittedBody → GlyphBody → ℕ

@@ -1,12 +1,12 @@
 -- No part of the standard: the distinct glyphs of a line, each with its edges at pen 0, and with its pens.
-use Rattle.std.specs.Prelude.{◌≡◌, ℕ, ◌<◌, ◌≤◌, ◌-◌, ◌+◌, ◌*◌, ◌^◌, Bool, false, ◌||◌, List, [], ◌∷◌, length, map, slice_index, pos, All, IfSome, IsOkAnd, Option, Ok, ⊤}
+use Rattle.std.specs.Prelude.{◌≡◌, ℕ, ℤ, ◌<◌, ◌≤◌, ◌-◌, ◌+◌, ◌*◌, ◌^◌, Bool, false, ◌||◌, List, [], ◌∷◌, length, map, slice_index, pos, All, IfSome, IsOkAnd, Option, Ok, ⊤}
 use Rattle.tt_core.specs.Bits.{stride}
 use Rattle.tt_core.specs.Faults.{Fault}
 use Rattle.tt_core.specs.Limits.{margin_limit, width_limit}
 use Rattle.tt_core.specs.Outcomes.{each}
 use Rattle.tt_fit.specs.Fitting.{Fitter, fitted_outline, unfitted_fault}
 use Rattle.tt_fit_outline.specs.Outline.{Outline}
-use Rattle.tt_fit_outline.specs.Steps.{step_of}
+use Rattle.tt_fit_outline.specs.Steps.{advance_left}
 use Rattle.tt_scan.specs.Contours.{AreEnds, IsClosed, contours_at}
 use Rattle.tt_scan_edges.specs.declared.edge.Edge.{Edge}
 use Rattle.tt_scan_edges.specs.declared.edge.Frame.{Frame}
@@ -61,12 +61,12 @@ abbrev pub left_of : Frame → GlyphBody → ℕ
 left_of f (tape t) = 0
 left_of f (kept k) = f.margin
 
--- A glyph by its number in the font: its step, its chords, its body, its dropout rules, and the ends of its contours
+-- A glyph by its number in the font: the distance of its advance's ends, its chords, its body, its dropout rules, and the ends of its contours
 -- among the edges if dropouts are filled. Then the number added to its pens, the pens, and the fault that makes it
 -- unfitted
 pub record Glyph : Type 0 where
   pub number : ℕ
-  pub step : ℕ
+  pub advance_left : ℤ
   pub chords : ℕ
   pub body : GlyphBody
   pub filled : Option BoxedRules
@@ -118,7 +118,7 @@ abbrev pub IsKeptOf : Fitter → Option BoxedRules → Outline → GlyphBody →
 IsKeptOf s filled o (tape t) = ⊤
 IsKeptOf s filled o (kept k) = IsOfOutline s filled o k
 
--- a glyph has the body, the step and the chords of its outline, and the fault that makes it unfitted; a tape has its
+-- a glyph has the body, the advance and the chords of its outline, and the fault that makes it unfitted; a tape has its
 -- dropouts by its contours, and without a cache it is a tape
 pub record IsDrawn (cached : Bool) (s : Fitter) (f : Frame) (g : Glyph) : Type 0 where
   pub shape : Outline
@@ -127,7 +127,7 @@ pub record IsDrawn (cached : Bool) (s : Fitter) (f : Frame) (g : Glyph) : Type 0
   pub body : IsBodyOf (edges_at (chords_with s) 0 shape) g.body
   pub left : g.left ≡ left_of f g.body
   pub tape : cached ≡ false → IsTape g.body
-  pub step : g.step ≡ step_of shape
+  pub advance : g.advance_left ≡ advance_left shape
   pub chords : g.chords ≡ chords_of (chords_with s) shape
   pub kept : IsKeptOf s (filled_by s g.number shape) shape g.body
   pub filled : IsTape g.body → g.filled ≡ filled_by s g.number shape

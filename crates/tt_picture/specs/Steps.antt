@@ -1,10 +1,12 @@
 -- No part of the standard: outlines of glyphs before their edges are made: their steps and their chords (profile).
-use Rattle.std.specs.Prelude.{ℕ, pos, List, Result, Ok, Err}
+use Rattle.std.specs.Prelude.{ℕ, ℤ, pos, ◌+ℤ◌, List, Result, Ok, Err}
 use Rattle.tt_core.specs.Faults.{Fault}
 use Rattle.tt_core.specs.Outcomes.{each}
 use Rattle.tt_fit.specs.Fitting.{Fitter, fitted_outline}
 use Rattle.tt_fit_outline.specs.Outline.{Outline}
-use Rattle.tt_fit_outline.specs.Steps.{step_of}
+use Rattle.tt_fit_outline.specs.Steps.{advance_left, pixels_of}
+use Rattle.tt_core.specs.Scales.{rounded_scale, scaled_by}
+use Rattle.tt_metrics.specs.Metrics.{Metrics, units_per_em_of}
 use Rattle.tt_arc.specs.Chords.{chords_counted}
 use Rattle.tt_arc.specs.declared.rule.ChordRule.{ChordRule}
 use Rattle.tt_picture.specs.Shapes.{chords_with, offset_at}
@@ -13,14 +15,26 @@ use Rattle.tt_picture.specs.Shapes.{chords_with, offset_at}
 abbrev pub outlines_by : (ℕ → Fitter) → List ℕ → Result (List Outline) Fault
 outlines_by maker gs = each (λ g. fitted_outline (maker g) g) gs
 
--- the step of an outline, where there is one
-abbrev pub outline_step : Result Outline Fault → ℕ
-outline_step (Ok o) = step_of o
-outline_step (Err fault) = 0
+-- the distance of the ends of an outline's advance, where there is an outline
+abbrev pub outline_advance : Result Outline Fault → ℤ
+outline_advance (Ok o) = advance_left o
+outline_advance (Err fault) = pos 0
 
--- the step of a glyph by its fitter
-unfoldable pub glyph_step : Fitter → ℕ → ℕ
-glyph_step s g = outline_step (fitted_outline s g)
+-- the same of a glyph, by its fitter, in 26.6 pixels
+unfoldable pub glyph_advance : Fitter → ℕ → ℤ
+glyph_advance s g = outline_advance (fitted_outline s g)
+
+-- the step of a glyph by its fitter, without kerning
+abbrev pub glyph_step : Fitter → ℕ → ℕ
+glyph_step s g = pixels_of (glyph_advance s g)
+
+-- the step of a glyph with so much kerning in font units: kerning is scaled as points are, and the sum is rounded once
+abbrev pub kerned_step : Metrics → ℕ → ℤ → ℤ → ℕ
+kerned_step m ppem advance kerning = pixels_of (advance +ℤ scaled_by (rounded_scale ppem (units_per_em_of m)) kerning)
+
+-- the same by the advance of each glyph
+abbrev pub step_by : Metrics → ℕ → (ℕ → ℤ) → ℕ → ℤ → ℕ
+step_by m ppem advance g kerning = kerned_step m ppem (advance g) kerning
 
 -- the chords and straight edges of an outline, before any are joined
 abbrev pub chords_of : ChordRule → Outline → ℕ

@@ -44,7 +44,7 @@ impl Glyph {
         let pens = SmallVec::with_capacity(alloc, PENS)?;
         Ok(Glyph {
             number: self.number,
-            step: self.step,
+            advance_left: self.advance_left,
             chords: self.chords,
             body,
             filled: self.filled,

@@ -35,7 +35,7 @@ use tt_strike_kept::KeptGlyph;
 #[derive(Clone, Copy)]
 pub(crate) struct GlyphFacts {
     pub(crate) number: u16,
-    pub(crate) step: u32,
+    pub(crate) advance_left: i32,
     pub(crate) chords: usize,
     /// None where the glyph is not to be cached.
     pub(crate) counts: Option<KeptCounts>,
@@ -162,7 +162,7 @@ pub(crate) fn body_of(
             let kept = KeptGlyph {
                 raster: Rc::new(alloc, raster)?,
                 dropouts: Rc::new(alloc, dropouts)?,
-                step: facts.step,
+                advance_left: facts.advance_left,
                 chords: facts.chords,
                 crossings,
                 points: counts.points,

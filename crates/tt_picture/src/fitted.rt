@@ -6,7 +6,7 @@ ghost use Rattle.tt_core.specs.Outcomes.{IfTold, font_fault};
 ghost use Rattle.tt_fit.specs.Fitting.{Fitter, fitted_outline, after_glyph};
 ghost use Rattle.tt_scan_edges.specs.Winding.{FrameFits};
 ghost use Rattle.tt_picture.specs.Cached.{IsCacheFor, is_there, limit_of};
-ghost use Rattle.tt_picture.specs.Fitted.{IsFitted, body_chords, body_step, made_crossings, newly_cut};
+ghost use Rattle.tt_picture.specs.Fitted.{IsFitted, body_chords, body_advance, made_crossings, newly_cut};
 ghost use Rattle.tt_picture.specs.Glyphs.{IsDrawn, pen_crossings};
 
 use crate::cache::Cache;
@@ -84,13 +84,13 @@ impl FittedGlyph {
         })
     }
 
-    /// The pixels from the glyph's pen to the next.
-    pub fn step(&self) -> u32
-        ensures { result ≡ body_step self.now.body }
+    /// The distance of the advance's two ends, in 26.6 pixels.
+    pub fn advance_left(&self) -> i32
+        ensures { result ≡ body_advance self.now.body }
     {
         match &self.body {
-            FittedBody::Outline(made) => made.outline.step(),
-            FittedBody::Kept(kept) => kept.step,
+            FittedBody::Outline(made) => made.outline.advance_left(),
+            FittedBody::Kept(kept) => kept.advance_left,
         }
     }
 

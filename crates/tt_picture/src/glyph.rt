@@ -63,8 +63,8 @@ impl GlyphBody {
 #[derive(Drop)]
 pub struct Glyph {
     pub(crate) number: u16,
-    /// The pixels from its pen to the next, by its outline.
-    pub(crate) step: u32,
+    /// The distance of its advance's two ends, by its outline, in 26.6 pixels.
+    pub(crate) advance_left: i32,
     /// The number of its chords and straight edges.
     pub(crate) chords: usize,
     pub(crate) body: GlyphBody,
@@ -86,7 +86,7 @@ impl Model for Glyph {
 
     ghost Value = { glyphs.Glyph };
 
-    ghost view = { λ g. record { number = g.number; step = g.step; chords = g.chords; body = body_view g.body; filled = g.filled; ends = g.ends.items; left = g.left; pens = g.pens.items; unfitted = g.unfitted } };
+    ghost view = { λ g. record { number = g.number; advance_left = g.advance_left; chords = g.chords; body = body_view g.body; filled = g.filled; ends = g.ends.items; left = g.left; pens = g.pens.items; unfitted = g.unfitted } };
 }
 
 impl Glyph {
@@ -137,7 +137,7 @@ impl Glyph {
     {
         Ok(Glyph {
             number,
-            step: kept.step,
+            advance_left: kept.advance_left,
             chords: kept.chords,
             unfitted: kept.unfitted,
             body: GlyphBody::Kept(kept),
@@ -188,11 +188,11 @@ impl Glyph {
         self.number
     }
 
-    /// The pixels from its pen to the next.
-    pub fn step(&self) -> u32
-        ensures { result ≡ self.now.step }
+    /// The distance of its advance's two ends, in 26.6 pixels.
+    pub fn advance_left(&self) -> i32
+        ensures { result ≡ self.now.advance_left }
     {
-        self.step
+        self.advance_left
     }
 }
 

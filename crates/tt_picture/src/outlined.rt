@@ -90,12 +90,12 @@ impl MadeOutline {
         } = self;
         let made = edges_of(alloc, &outline, rule, filled)?;
         let OutlineEdges { list, ends, chords } = made;
-        let step = outline.step();
+        let advance_left = outline.advance_left();
         let unfitted = outline.unfitted;
         let tape = Tape::of(alloc, frame, list)?;
         let facts = GlyphFacts {
             number,
-            step,
+            advance_left,
             chords,
             counts,
             unfitted,
@@ -105,7 +105,7 @@ impl MadeOutline {
         let filled = body.filled(filled);
         Ok(Glyph {
             number,
-            step,
+            advance_left,
             chords,
             body,
             filled,

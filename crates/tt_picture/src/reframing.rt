@@ -36,7 +36,7 @@ impl Glyph {
     {
         let Glyph {
             number,
-            step,
+            advance_left,
             chords,
             body,
             filled,
@@ -50,7 +50,7 @@ impl Glyph {
         let body = tape_of(alloc, list, frame)?;
         Ok(Glyph {
             number,
-            step,
+            advance_left,
             chords,
             body,
             filled,

@@ -10,7 +10,8 @@ use Rattle.tt_core.specs.Limits.{font_limit, margin_limit, point_work_limit, siz
 use Rattle.tt_core.specs.Outcomes.{◌>>=◌}
 use Rattle.tt_fit.specs.declared.programs.Fit.{Fit}
 use Rattle.tt_fit.specs.Fitting.{Fitter}
-use Rattle.tt_line.specs.Layout.{Placement, advances_of, depth_of, extent_by, laid_at, placement, rise_of, text_glyphs, within_limits}
+use Rattle.tt_line.specs.Layout.{Placement, depth_of, extent_by, laid_at, placement, rise_of, text_glyphs, within_limits}
+use Rattle.tt_line.specs.Steps.{linear_steps}
 use Rattle.tt_line.specs.declared.extent.PictureExtent.{PictureExtent}
 use Rattle.tt_metrics.specs.Metrics.{Metrics}
 use Rattle.tt_picture.specs.Pixels.{Shape}
@@ -93,7 +94,7 @@ placement_late : (m : Metrics) (cmap : CharacterMap) (text : List ℕ) (ppem mar
 unfolding placement
 placement_late m cmap text ppem margin j refused =
     let gs = text_glyphs cmap text in
-    laid_late m ppem margin gs (advances_of m ppem gs) j refused
+    laid_late m ppem margin gs (linear_steps m ppem gs) j refused
 
 edges_late : (s : Fitter) (a : Job) (line : Placement) (glyphs : List Shape) (j : JobFault)
     → as_job (edges_tested s a line glyphs) ≡ Err (job j) → needs_font j ≡ true
@@ -145,7 +146,7 @@ steps_late face a j refused =
       | inl first ↦ absurd (no_font (setting_in face a) j first)
       | inr set ↦ elim (was-err (outlines_tested set.value a.fit gs) _ (job j) set.rest) [
         | inl second ↦ outlines_late set.value a.fit gs j second
-        | inr made ↦ laid_late face.metrics a.ppem a.margin gs (steps_in set.value gs) j (job_alone _ j made.rest)
+        | inr made ↦ laid_late face.metrics a.ppem a.margin gs (steps_in face.metrics a.ppem set.value gs) j (job_alone _ j made.rest)
       ]
     ]
 

@@ -1,13 +1,14 @@
 -- A line enlarged by the glyphs of the line: its refusals, its picture and its measure.
-use Rattle.std.proofs.Common.{◌≡◌, ◌∙◌, refl, ap, ap₂, sym, ℕ, ◌+◌, Bool, true, false, ◌||◌, nat_lt, if◌then◌else◌, List, [], ◌∷◌, map, Option, Some, None, Result, Ok, Err, arith}
+use Rattle.std.proofs.Common.{◌≡◌, ◌∙◌, refl, ap, ap₂, sym, ℕ, ℤ, ◌+◌, Bool, true, false, ◌||◌, nat_lt, if◌then◌else◌, List, [], ◌∷◌, map, Option, Some, None, Result, Ok, Err, arith}
 use Rattle.tt_core.specs.Limits.{height_limit, width_limit}
 use Rattle.tt_core.specs.Outcomes.{each}
 use Rattle.tt_core.specs.declared.fault.JobFault.{JobFault}
 use Rattle.tt_core.specs.declared.fault.JobFault.TheVariants as fault
 use Rattle.tt_fit.specs.Fitting.{Fitter}
 use Rattle.tt_fit_outline.specs.Outline.{Outline}
-use Rattle.tt_line.specs.Layout.{Placement, advance_in_pixels}
-use Rattle.tt_picture.specs.Steps.{glyph_step}
+use Rattle.tt_line.specs.Layout.{Placement}
+use Rattle.tt_line.specs.Steps.{step_in_pixels}
+use Rattle.tt_picture.specs.Steps.{kerned_step}
 use Rattle.tt_scan_edges.specs.declared.edge.Frame.{Frame}
 use Rattle.tt_scan_ink.specs.declared.ink.GlyphInk.{GlyphInk}
 use Rattle.tt_strike.specs.Work.{line_fitter, work_left, lays_after_glyphs}
@@ -21,7 +22,7 @@ use Rattle.tt_strike.specs.Made.{AreMade}
 use Rattle.tt_strike.specs.Measures.{Measure, line_ink, line_step, measure_by, measured_line}
 use Rattle.tt_picture.specs.Pictures.{picture}
 use Rattle.tt_picture.specs.Shapes.{chords_with, crossings_in, filled_by, glyph_shape, shape_at}
-use Rattle.tt_strike.specs.Picture.{edges_tested, drawn, frame_of, points_tested, setting_in, shapes_in}
+use Rattle.tt_strike.specs.Picture.{advance_with, edges_tested, drawn, frame_of, points_tested, setting_in, shapes_in}
 use Rattle.tt_picture.specs.Pixels.{Shape}
 use Rattle.tt_strike.specs.Refusals.{Refused, as_job, job}
 use Rattle.tt_picture.specs.Unfitted.{ListsOnce, unfitted_standing}
@@ -176,20 +177,20 @@ same_inks s l larger numbers =
 same_steps : (face : Face) (a : Job) (s : Fitter) (l larger : Placement) → map (λ g. g.0) larger.glyphs ≡ map (λ g. g.0) l.glyphs
     → line_step face a s larger ≡ line_step face a s l
 same_steps face a s l larger numbers =
-    let by : List ℕ → ℕ → ℕ = λ ns g. if lays_after_glyphs a.fit then glyph_step (line_fitter s ns g) g
-    else advance_in_pixels face.metrics a.ppem g in
+    let by : List ℕ → ℕ → ℤ → ℕ = λ ns g k. if lays_after_glyphs a.fit then kerned_step face.metrics a.ppem (advance_with s ns g) k
+    else step_in_pixels face.metrics a.ppem g k in
     ap by numbers
 
 measured_anew : (face : Face) (a : Job) (larger : Placement) (s : Fitter) → IsMade face a larger s
-    → measured_line face a larger ≡ Ok (measure_by (line_step face a s larger) a.margin (line_ink s larger) larger)
+    → measured_line face a larger ≡ Ok (measure_by face.metrics (line_step face a s larger) a.margin (line_ink s larger) larger)
 unfolding measured_line
 measured_anew face a larger s made = rw (made.opened, made.few, made.fitted, made.seldom) refl
 
 pub larger_measured : (face : Face) (a : Job) (l larger : Placement) (s : Fitter)
     → map (λ g. g.0) larger.glyphs ≡ map (λ g. g.0) l.glyphs → IsMade face a larger s
-    → measured_line face a larger ≡ Ok (measure_by (line_step face a s l) a.margin (line_ink s l) larger)
+    → measured_line face a larger ≡ Ok (measure_by face.metrics (line_step face a s l) a.margin (line_ink s l) larger)
 larger_measured face a l larger s numbers made =
-    let by : (ℕ → ℕ) → (ℕ → Option GlyphInk) → Measure = λ step inked. measure_by step a.margin inked larger in
+    let by : (ℕ → ℤ → ℕ) → (ℕ → Option GlyphInk) → Measure = λ step inked. measure_by face.metrics step a.margin inked larger in
     measured_anew face a larger s made
     ∙ ap Ok {x = by (line_step face a s larger) (line_ink s larger)} {y = by (line_step face a s l) (line_ink s l)}
     (ap₂ by (same_steps face a s l larger numbers) (same_inks s l larger numbers))

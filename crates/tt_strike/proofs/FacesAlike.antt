@@ -105,7 +105,7 @@ setting_same f g a same metrics =
 -- a picture by these three
 abbrev placed_with : Result Fitter Fault → List ℕ → Metrics → Job → Result Placement Refused
 placed_with s gs m a = if lays_after_glyphs a.fit
-    then (as_font s >>= λ s. outlines_tested s a.fit gs >>= λ outlines. as_job (laid_at m a.ppem a.margin gs (steps_in s gs)))
+    then (as_font s >>= λ s. outlines_tested s a.fit gs >>= λ outlines. as_job (laid_at m a.ppem a.margin gs (steps_in m a.ppem s gs)))
     else as_job (glyph_placement m a.ppem a.margin gs)
 
 abbrev drawn_with : Result Fitter Fault → Job → Placement → Result Image Refused

@@ -33,7 +33,8 @@ use Rattle.tt_strike.specs.Work.{line_fitter}
 use Rattle.tt_picture.specs.Ink.{all_joined, box_at, column_of, filled_ink, glyph_ink, ink_at, ink_by, joined, outline_ink, row_of}
 use Rattle.tt_strike.specs.InkLaws.{InkIsDrawn, IsBoxOf, IsLeast, MeasureHoldsInk, is_ink, line_of, some_dropout}
 use Rattle.tt_strike.specs.Job.{Job}
-use Rattle.tt_strike.specs.Measures.{Measure, character_at, line_ink, line_step, measure_by, measured_line}
+use Rattle.tt_metrics.specs.Metrics.{Metrics}
+use Rattle.tt_strike.specs.Measures.{Measure, characters_at, line_ink, line_step, measure_by, measured_line}
 use Rattle.tt_picture.specs.Shapes.{chords_with, contours_of, edges_at, extents_of, filled_at, filled_by, glyph_shape, offset_at, rules_for}
 use Rattle.tt_strike.specs.Picture.{frame_of, line_shapes, setting_in}
 use Rattle.tt_picture.specs.Pixels.{Shape, is_filled, some_black, some_filled}
@@ -287,23 +288,23 @@ ok_same x y is = cc
 same_setting : {E : Type 0} (r : Result Fitter E) (s t : Fitter) → r ≡ Ok s → r ≡ Ok t → s ≡ t
 same_setting r s t one other = cc
 
-boxes_are : (step : ℕ → ℕ) (f : Frame) (maker : ℕ → Fitter) (gs : List (ℕ × ℕ))
-    → map (λ (c : CharacterMeasure). c.ink) (map (character_at step f (λ g. glyph_ink (maker g) g)) gs)
+boxes_are : (m : Metrics) (step : ℕ → ℤ → ℕ) (f : Frame) (maker : ℕ → Fitter) (gs : List (ℕ × ℕ))
+    → map (λ (c : CharacterMeasure). c.ink) (characters_at m step f (λ g. glyph_ink (maker g) g) gs)
     ≡ boxes maker f gs
-boxes_are step f maker [] = refl
-boxes_are step f maker (g ∷ gs) =
-    ap (λ (bs : List (Option InkBox)). ink_at f g.1 (glyph_ink (maker g.0) g.0) ∷ bs) (boxes_are step f maker gs)
+boxes_are m step f maker [] = refl
+boxes_are m step f maker (g ∷ gs) =
+    ap (λ (bs : List (Option InkBox)). ink_at f g.1 (glyph_ink (maker g.0) g.0) ∷ bs) (boxes_are m step f maker gs)
 
 measure_is : (face : Face) (a : Job) (line : Placement) (m : Measure) (s : Fitter) → setting_in face a ≡ Ok s
-    → measured_line face a line ≡ Ok m → measure_by (line_step face a s line) a.margin (line_ink s line) line ≡ m
+    → measured_line face a line ≡ Ok m → measure_by face.metrics (line_step face a s line) a.margin (line_ink s line) line ≡ m
 unfolding measured_line
 measure_is face a line m s made is =
     let by_setting = came-through (as_font (setting_in face a)) _ m is in
     let other = by_setting.value in
     let by_shapes = came-through (line_shapes other a line) _ m by_setting.rest in
     let same = same_setting (setting_in face a) s other made (of-font (setting_in face a) other by_setting.first) in
-    ap (λ (t : Fitter). measure_by (line_step face a t line) a.margin (line_ink t line) line) same
-    ∙ ok_same (measure_by (line_step face a other line) a.margin (line_ink other line) line) m by_shapes.rest
+    ap (λ (t : Fitter). measure_by face.metrics (line_step face a t line) a.margin (line_ink t line) line) same
+    ∙ ok_same (measure_by face.metrics (line_step face a other line) a.margin (line_ink other line) line) m by_shapes.rest
 
 -- the box of a measure is that of what the line's glyphs blacken
 pub line_held : BoxLaws → (face : Face) (a : Job) (line : Placement) (m : Measure) (s : Fitter)
@@ -314,7 +315,7 @@ line_held laws face a line m s made is =
     let f = frame_of line a.margin in
     let held = held_after laws maker f line.glyphs (λ c r. false) None (λ c r. refl) in
     let found : all_joined None (boxes maker f line.glyphs) ≡ m.ink =
-    ap (all_joined None) (sym (boxes_are (line_step face a s line) f maker line.glyphs))
+    ap (all_joined None) (sym (boxes_are face.metrics (line_step face a s line) f maker line.glyphs))
     ∙ ap (λ (m : Measure). m.ink) (measure_is face a line m s made is) in
     subst (λ (x : Option InkBox). IsInk (line_black maker f line.glyphs) (seen x)) found held
 

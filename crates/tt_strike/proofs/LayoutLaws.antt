@@ -7,14 +7,17 @@ use Rattle.tt_cmap.specs.Maps.{glyph_of_unit, units_by}
 use Rattle.tt_core.specs.Chains.{came-through}
 use Rattle.tt_face.specs.Faces.{Face}
 use Rattle.tt_line.specs.declared.measured.LineSize.{LineSize}
-use Rattle.tt_line.specs.Layout.{advance_in_pixels, pen_at, text_glyphs}
+use Rattle.tt_line.specs.Layout.{pen_at, text_glyphs}
+use Rattle.tt_line.specs.Steps.{linear_line, step_in_pixels}
+use Rattle.tt_line.proofs.Stepped.{firsts}
+use Rattle.tt_picture.specs.Steps.{step_by}
 use Rattle.tt_line.specs.Sizes.{line_size}
 use Rattle.tt_strike.specs.declared.layouts.Layout.{Layout}
 use Rattle.tt_strike.specs.declared.layouts.Pen.{Pen}
 use Rattle.tt_strike.specs.Job.{Job, tested}
 use Rattle.tt_strike.specs.LayoutLaws.{LayoutsAddUp, NoGlyphIsRead, advances_in, pen_in}
-use Rattle.tt_strike.specs.Layouts.{layout_by, layout_outcome, pens_at, pens_outcome, size_by, size_outcome, step_with, steps_outcome, with_steps}
-use Rattle.tt_strike.specs.Picture.{outlines_tested, setting_in}
+use Rattle.tt_strike.specs.Layouts.{layout_by, layout_outcome, pens_at, pens_outcome, size_by, size_outcome, steps_outcome}
+use Rattle.tt_strike.specs.Picture.{advance_with, made_line, outlines_tested, setting_in}
 use Rattle.tt_strike.specs.Refusals.{Refused, as_font, as_job}
 use Rattle.tt_strike.specs.Work.{is_bounded}
 use Rattle.tt_strike.proofs.TextSteps.{positive_height, sized_is, steps_by_advances}
@@ -42,11 +45,6 @@ no_glyph_is_read face other a unbounded metrics cmap =
     rw (steps_by_advances other a unbounded, steps_by_advances face a unbounded, metrics, cmap) refl in
     (layout_alike face other a (size_alike face other a steps metrics) cmap, pens_alike face other a steps metrics cmap)
 
--- each step stands beside its glyph
-glyphs_beside : (step : ℕ → ℕ) (gs : List ℕ) → map (λ (g : ℕ × ℕ). g.0) (with_steps step gs) ≡ gs
-glyphs_beside step [] = refl
-glyphs_beside step (g ∷ gs) = ap (λ (ns : List ℕ). g ∷ ns) (glyphs_beside step gs)
-
 pub ok_same : {X : Type 0} (x y : X) → ◌≡◌ {A = Result X Refused} (Ok x) (Ok y) → x ≡ y
 ok_same x y is = cc
 
@@ -58,13 +56,12 @@ glyphs_of_steps true face a steps is was =
     let by_setting = came-through (as_font (setting_in face a)) _ steps (rw is at was) in
     let s = by_setting.value in
     let by_outlines = came-through (outlines_tested s a.fit gs) _ steps by_setting.rest in
-    let same = ok_same (with_steps (step_with s gs) gs) steps by_outlines.rest in
-    rw (← same) (glyphs_beside (step_with s gs) gs)
+    let same = ok_same (made_line face.metrics a.ppem s gs) steps by_outlines.rest in
+    rw (← same) (firsts face.metrics (step_by face.metrics a.ppem (advance_with s gs)) gs)
 glyphs_of_steps false face a steps is was =
     let gs = text_glyphs face.cmap a.text in
-    let step = advance_in_pixels face.metrics a.ppem in
-    let same = ok_same (with_steps step gs) steps (rw is at was) in
-    rw (← same) (glyphs_beside step gs)
+    let same = ok_same (linear_line face.metrics a.ppem gs) steps (rw is at was) in
+    rw (← same) (firsts face.metrics (step_in_pixels face.metrics a.ppem) gs)
 
 -- as many units as glyphs with steps, so each step is an advance
 pub units_as_steps : (face : Face) (a : Job) (steps : List (ℕ × ℕ)) → steps_outcome face a ≡ Ok steps

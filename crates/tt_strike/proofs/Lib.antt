@@ -1,3 +1,4 @@
+mod Characters
 mod Drawn
 pub mod Telling
 mod Beside

@@ -1,13 +1,15 @@
 -- The picture, the report and the measure of a line whose glyphs are made and not refused.
-use Rattle.std.proofs.Common.{◌≡◌, refl, ℕ, ◌<◌, Bool, true, false, if◌then◌else◌, List, get_or, length, map, slice_index, Ok, inl, inr, arith}
+use Rattle.std.proofs.Common.{◌≡◌, refl, ap, ℕ, ℤ, ◌<◌, Bool, true, false, if◌then◌else◌, List, get_or, length, map, slice_index, Ok, inl, inr, arith}
 use Rattle.std.proofs.lemmas.Bool.{cases_lt}
 use Rattle.std.proofs.lemmas.List.{get_or_past}
 use Rattle.std.specs.Prelude.{All}
 use Rattle.tt_fit.specs.Fitting.{Fitter}
-use Rattle.tt_line.specs.Layout.{Placement, advance_in_pixels}
+use Rattle.tt_line.specs.Layout.{Placement}
+use Rattle.tt_line.specs.Steps.{step_in_pixels}
+use Rattle.tt_metrics.specs.Metrics.{Metrics}
 use Rattle.tt_scan_edges.specs.declared.edge.Frame.{Frame}
 use Rattle.tt_picture.specs.Distinct.{distinct}
-use Rattle.tt_picture.specs.Steps.{glyph_step}
+use Rattle.tt_picture.specs.Steps.{glyph_advance, kerned_step}
 use Rattle.tt_picture.proofs.Among.{all_among}
 use Rattle.tt_picture.proofs.Reframed.{seat_of}
 use Rattle.tt_picture.specs.declared.report.Unfitted.{Unfitted}
@@ -31,7 +33,7 @@ drawn_as_made face a l gs made = rw (made.opened, made.few, made.fitted, made.se
 
 pub measured_as_made : {cached : Bool} (face : Face) (a : Job) (l : Placement) (gs : List Glyph)
     → (made : AreMade cached face a l gs)
-    → measured_line face a l ≡ Ok (measure_by (line_step face a made.setting l) a.margin (line_ink made.setting l) l)
+    → measured_line face a l ≡ Ok (measure_by face.metrics (line_step face a made.setting l) a.margin (line_ink made.setting l) l)
 unfolding measured_line
 measured_as_made face a l gs made = rw (made.opened, made.few, made.fitted, made.seldom) refl
 
@@ -56,18 +58,22 @@ pub tapes_as_made : (face : Face) (a : Job) (l : Placement) (gs : List Glyph) �
 tapes_as_made face a l gs made = λ k d below. (made.drawn k d below).tape refl
 
 -- the step of each glyph is the one of the definition
-step_by : (bounded : Bool) (advance : ℕ) (s : Fitter) (f : Frame) (g : Glyph) → IsDrawn false s f g
-    → (if bounded then g.step else advance) ≡ (if bounded then glyph_step s g.number else advance)
-unfolding glyph_step
-step_by true advance s f g drawn = rw drawn.outline drawn.step
-step_by false advance s f g drawn = refl
+own_advance : (s : Fitter) (f : Frame) (g : Glyph) → IsDrawn false s f g → g.advance_left ≡ glyph_advance s g.number
+unfolding glyph_advance
+own_advance s f g drawn = rw drawn.outline drawn.advance
+
+step_by : (bounded : Bool) (linear : ℕ) (m : Metrics) (ppem : ℕ) (s : Fitter) (f : Frame) (g : Glyph) (k : ℤ) → IsDrawn false s f g
+    → (if bounded then kerned_step m ppem g.advance_left k else linear)
+    ≡ (if bounded then kerned_step m ppem (glyph_advance s g.number) k else linear)
+step_by true linear m ppem s f g k drawn = ap (λ (v : ℤ). kerned_step m ppem v k) (own_advance s f g drawn)
+step_by false linear m ppem s f g k drawn = refl
 
 pub steps_as_made : (face : Face) (a : Job) (l : Placement) (gs : List Glyph) → (made : AreMade false face a l gs)
-    → All (λ g. made_step face.metrics a.ppem a.fit g ≡ line_step face a made.setting l g.number) gs
-steps_as_made face a l gs made = λ k d below.
-    let g = get_or gs k d in
-    step_by (is_bounded a.fit) (advance_in_pixels face.metrics a.ppem g.number)
-    (line_fitter made.setting (map (λ g. g.0) l.glyphs) g.number) (frame_of l a.margin) g (made.drawn k d below)
+    → All (λ g. (k : ℤ) → made_step face.metrics a.ppem a.fit g k ≡ line_step face a made.setting l g.number k) gs
+steps_as_made face a l gs made = λ i d below k.
+    let g = get_or gs i d in
+    step_by (is_bounded a.fit) (step_in_pixels face.metrics a.ppem g.number k) face.metrics a.ppem
+    (line_fitter made.setting (map (λ g. g.0) l.glyphs) g.number) (frame_of l a.margin) g k (made.drawn i d below)
 
 -- a number with a place is within the table
 within_table : (table : List ℕ) (n glyphs : ℕ) → length table ≡ glyphs → 0 < slice_index table n → n < glyphs

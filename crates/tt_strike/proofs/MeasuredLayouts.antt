@@ -1,5 +1,5 @@
 -- A text that is measured has the same layout.
-use Rattle.std.proofs.Common.{◌≡◌, ◌∙◌, refl, sym, ap, ℕ, zero, suc, ◌+◌, ◌<◌, Bool, true, false, pos, ◌+ℤ◌, List, [], ◌∷◌, chars, get_or, length, map, sum, Result, Ok, Err, arith}
+use Rattle.std.proofs.Common.{◌≡◌, ◌∙◌, refl, sym, ap, ℕ, ℤ, zero, suc, ◌+◌, ◌<◌, Bool, true, false, pos, ◌+ℤ◌, List, [], ◌∷◌, chars, get_or, length, map, sum, Result, Ok, Err, arith}
 use Rattle.std.proofs.lemmas.List.{get_or-map, length-map}
 use Rattle.tt_cmap.specs.declared.units.TextUnit.{TextUnit}
 use Rattle.tt_cmap.specs.Maps.{units_by}
@@ -10,20 +10,22 @@ use Rattle.tt_fit.specs.Fitting.{Fitter}
 use Rattle.tt_line.specs.declared.extent.PictureExtent.{PictureExtent}
 use Rattle.tt_line.specs.declared.measured.LineSize.{LineSize}
 use Rattle.tt_line.specs.Laws.{StepsLead}
-use Rattle.tt_line.specs.Layout.{Placement, advance_in_pixels, depth_of, extent_by, laid_at, pen_at, placed_in, placement, rise_of, text_glyphs, within_limits}
+use Rattle.tt_line.specs.Layout.{Placement, depth_of, extent_by, laid_at, pen_at, placed_in, placement, rise_of, text_glyphs, within_limits}
+use Rattle.tt_line.specs.Steps.{linear_line, step_in_pixels, stepped}
 use Rattle.tt_line.specs.Sizes.{extent_by_sum, line_size, size_of}
 use Rattle.tt_metrics.specs.Metrics.{Metrics}
-use Rattle.tt_picture.specs.Steps.{glyph_step}
+use Rattle.tt_picture.specs.Steps.{kerned_step}
 use Rattle.tt_strike.specs.Job.{Job, tested}
 use Rattle.tt_strike.specs.LayoutLaws.{LaidOutAsMeasured, IsMeasuredPen, pen_in}
-use Rattle.tt_strike.specs.Layouts.{layout_by, pens_at, step_with, steps_outcome, with_steps}
-use Rattle.tt_strike.specs.Measures.{Measure, line_step, measured}
-use Rattle.tt_strike.specs.Picture.{laid_out, outlines_tested, placed_by_steps, setting_in, steps_in, text_placed}
+use Rattle.tt_strike.specs.Layouts.{layout_by, pens_at, steps_outcome}
+use Rattle.tt_strike.specs.Measures.{Measure, line_ink, line_step, measured}
+use Rattle.tt_strike.specs.Picture.{advance_with, frame_of, laid_out, made_line, outlines_tested, placed_by_steps, setting_in, steps_in, text_placed}
 use Rattle.tt_strike.specs.Refusals.{Refused, as_font, as_job}
 use Rattle.tt_strike.specs.StepLaws.{character_in}
-use Rattle.tt_strike.specs.Work.{is_bounded, line_fitter}
+use Rattle.tt_strike.specs.Work.{is_bounded}
 use Rattle.tt_strike.proofs.LayoutLaws.{all_advances, glyphs_of_steps, ok_same, pens_add, units_as_steps}
-use Rattle.tt_strike.proofs.TextSteps.{layout_is, pens_are, steps_of}
+use Rattle.tt_strike.proofs.TextSteps.{layout_is, pens_are}
+use Rattle.tt_strike.proofs.Characters.{length-characters, step_at, step_told}
 use Rattle.tt_strike.proofs.MeasuredSteps.{advance_steps, character_is, is_measured, own_steps, same_setting}
 use Rattle.tt_strike.proofs.Placed.{of-font, of-job}
 
@@ -47,12 +49,12 @@ unfolding text_placed placed_by_steps steps_outcome placement
 placed_as true face a is =
     let gs = text_glyphs face.cmap a.text in
     let by : List ℕ → Result Placement Refused = λ ns. as_job (laid_at face.metrics a.ppem a.margin gs ns) in
-    rw is (chained (as_font (setting_in face a)) (λ s. outlines_tested s a.fit gs) (λ s. with_steps (step_with s gs) gs)
-    (line_by face a) (λ s. by (steps_in s gs)) (λ s. ap by (sym (steps_of (step_with s gs) gs))))
+    rw is (chained (as_font (setting_in face a)) (λ s. outlines_tested s a.fit gs) (λ s. made_line face.metrics a.ppem s gs)
+    (line_by face a) (λ s. by (steps_in face.metrics a.ppem s gs)) (λ s. refl))
 placed_as false face a is =
     let gs = text_glyphs face.cmap a.text in
     let by : List ℕ → Result Placement Refused = λ ns. as_job (laid_at face.metrics a.ppem a.margin gs ns) in
-    rw is (ap by (sym (steps_of (advance_in_pixels face.metrics a.ppem) gs)))
+    rw is refl
 
 -- the size of a line that is laid out
 by_extent : (m : Metrics) (ppem margin : ℕ) (gs ss : List ℕ) (l : Placement) (e : PictureExtent)
@@ -71,7 +73,7 @@ size_as_laid m ppem margin gs ss l was =
 steps_told : (bounded : Bool) (face : Face) (a : Job) (s : Fitter) (l : Placement) (gs : List (ℕ × ℕ))
     → is_bounded a.fit ≡ bounded → setting_in face a ≡ Ok s → map (λ g. g.0) l.glyphs ≡ text_glyphs face.cmap a.text
     → steps_outcome face a ≡ Ok gs
-    → map (λ (g : ℕ × ℕ). g.1) gs ≡ map (line_step face a s l) (text_glyphs face.cmap a.text)
+    → gs ≡ stepped face.metrics (line_step face a s l) (text_glyphs face.cmap a.text)
 unfolding steps_outcome
 steps_told true face a s l gs is there numbers was =
     let ns = text_glyphs face.cmap a.text in
@@ -79,17 +81,15 @@ steps_told true face a s l gs is there numbers was =
     let t = by_setting.value in
     let same : t ≡ s = same_setting (setting_in face a) t s (of-font (setting_in face a) t by_setting.first) there in
     let by_outlines = came-through (outlines_tested t a.fit ns) _ gs by_setting.rest in
-    let those = ok_same (with_steps (step_with t ns) ns) gs by_outlines.rest in
-    let own : ℕ → ℕ = λ g. glyph_step (line_fitter s (map (λ g. g.0) l.glyphs) g) g in
-    let told : map own ns ≡ map (step_with t ns) ns = rw (same, numbers) refl in
-    rw (← those) (steps_of (step_with t ns) ns ∙ sym told
-    ∙ sym (own_steps (is_bounded a.fit) own (advance_in_pixels face.metrics a.ppem) ns is))
+    let those = ok_same (made_line face.metrics a.ppem t ns) gs by_outlines.rest in
+    let own : ℕ → ℤ → ℕ = λ g k. kerned_step face.metrics a.ppem (advance_with s (map (λ g. g.0) l.glyphs) g) k in
+    let told : stepped face.metrics own ns ≡ made_line face.metrics a.ppem t ns = rw (same, numbers) refl in
+    sym those ∙ sym told ∙ sym (own_steps (is_bounded a.fit) face.metrics own (step_in_pixels face.metrics a.ppem) ns is)
 steps_told false face a s l gs is there numbers was =
     let ns = text_glyphs face.cmap a.text in
-    let step = advance_in_pixels face.metrics a.ppem in
-    let those = ok_same (with_steps step ns) gs (rw is at was) in
-    let own : ℕ → ℕ = λ g. glyph_step (line_fitter s (map (λ g. g.0) l.glyphs) g) g in
-    rw (← those) (steps_of step ns ∙ sym (advance_steps (is_bounded a.fit) own step ns is))
+    let those = ok_same (linear_line face.metrics a.ppem ns) gs (rw is at was) in
+    let own : ℕ → ℤ → ℕ = λ g k. kerned_step face.metrics a.ppem (advance_with s (map (λ g. g.0) l.glyphs) g) k in
+    sym those ∙ sym (advance_steps (is_bounded a.fit) face.metrics own (step_in_pixels face.metrics a.ppem) ns is)
 
 -- what a pen tells of its unit
 pens_tell : (us : List TextUnit) (gs : List (ℕ × ℕ)) (pen i : ℕ) → i < length (pens_at us gs pen)
@@ -138,7 +138,8 @@ laid_out_as_measured lead face a m was =
     let of_line : length l.glyphs ≡ length gs =
     sym (length-map l.glyphs (λ (g : ℕ × ℕ). g.0)) ∙ ap length (pens.numbers ∙ sym glyphs) ∙ length-map gs (λ (g : ℕ × ℕ). g.0) in
     let of_measure : length m.characters ≡ length l.glyphs =
-    ap (λ (m : Measure). length m.characters) is.is ∙ length-map l.glyphs _ in
+    ap (λ (m : Measure). length m.characters) is.is
+    ∙ length-characters face.metrics (line_step face a s l) (frame_of l a.margin) (line_ink s l) l.glyphs in
     let each : (i : ℕ) → i < length ps → IsMeasuredPen (character_in m i) (pen_in ps i) = λ i below.
     let here : i < length gs = omega (arith, below, fewer) in
     let on_line : i < length l.glyphs = omega (arith, here, of_line) in
@@ -150,10 +151,9 @@ laid_out_as_measured lead face a m was =
     ap (λ (ks : List ℕ). get_or ks i 0) (sym pens.numbers) ∙ get_or-map (λ (g : ℕ × ℕ). g.0) l.glyphs i (0, 0) 0 on_line in
     let own : get_or ns i 0 ≡ (get_or gs i (0, 0)).0 =
     ap (λ (ks : List ℕ). get_or ks i 0) (sym glyphs) ∙ get_or-map (λ (g : ℕ × ℕ). g.0) gs i (0, 0) 0 here in
-    let within : i < length ns = omega (arith, here, ap length (sym glyphs) ∙ length-map gs (λ (g : ℕ × ℕ). g.0)) in
-    let advance : (get_or gs i (0, 0)).1 ≡ step g.0 =
-    sym (get_or-map (λ (g : ℕ × ℕ). g.1) gs i (0, 0) 0 here) ∙ ap (λ (ks : List ℕ). get_or ks i 0) told
-    ∙ get_or-map step ns i 0 0 within ∙ ap step number in
+    let advance : (get_or gs i (0, 0)).1 ≡ step_at face.metrics step l.glyphs i =
+    ap (λ (ps : List (ℕ × ℕ)). (get_or ps i (0, 0)).1) (told ∙ ap (λ (ks : List ℕ). stepped face.metrics step ks) (sym pens.numbers))
+    ∙ step_told face.metrics step l.glyphs i on_line in
     let column = pens_add us gs a.margin i below
     ∙ ap (λ (ks : List ℕ). a.margin + pen_at ks i) (all_advances us gs a.margin many) in
     let led : (pen_in ps i).pen ≡ a.margin + g.1 = column ∙ ap (λ (n : ℕ). a.margin + n) (sym (pens.pens i on_line)) in

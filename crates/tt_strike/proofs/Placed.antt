@@ -42,8 +42,8 @@ by_steps lead face a l was =
     let by_setting = came-through (as_font (setting_in face a)) _ l was in
     let s = by_setting.value in
     let by_outlines = came-through (outlines_tested s a.fit gs) _ l by_setting.rest in
-    let laid = of-job (laid_at face.metrics a.ppem a.margin gs (steps_in s gs)) l by_outlines.rest in
-    (lead gs (steps_in s gs) a.margin (rise_of face.metrics a.ppem) (depth_of face.metrics a.ppem) l laid).numbers
+    let laid = of-job (laid_at face.metrics a.ppem a.margin gs (steps_in face.metrics a.ppem s gs)) l by_outlines.rest in
+    (lead gs (steps_in face.metrics a.ppem s gs) a.margin (rise_of face.metrics a.ppem) (depth_of face.metrics a.ppem) l laid).numbers
 
 by_either : PlacesGlyphs → StepsLead → (bounded : Bool) (face : Face) (a : Job) (l : Placement) → is_bounded a.fit ≡ bounded
     → text_placed face a ≡ Ok l → map (λ g. g.0) l.glyphs ≡ text_glyphs face.cmap a.text

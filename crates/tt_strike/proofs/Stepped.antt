@@ -62,7 +62,7 @@ outlines_stop_text face a s draw.Memory passes bounded there fails = tt
 
 pub extent_stops_text : (face : Face) (a : Job) (s : Fitter) (os : List Outline) (j : JobFault) → tested a ≡ Ok tt
     → is_bounded a.fit ≡ true → setting_in face a ≡ Ok s → outlines_tested s a.fit (text_glyphs face.cmap a.text) ≡ Ok os
-    → laid_at face.metrics a.ppem a.margin (text_glyphs face.cmap a.text) (steps_in s (text_glyphs face.cmap a.text)) ≡ Err j
+    → laid_at face.metrics a.ppem a.margin (text_glyphs face.cmap a.text) (steps_in face.metrics a.ppem s (text_glyphs face.cmap a.text)) ≡ Err j
     → text_shapes face a ≡ Err (job j)
 unfolding placed_by_steps
 extent_stops_text face a s os j passes bounded there made refused =
@@ -71,7 +71,7 @@ extent_stops_text face a s os j passes bounded there made refused =
 -- and a text whose glyphs are made is laid out
 pub laid_out_by_steps : (face : Face) (a : Job) (s : Fitter) (os : List Outline) (l : Placement) → tested a ≡ Ok tt
     → is_bounded a.fit ≡ true → setting_in face a ≡ Ok s → outlines_tested s a.fit (text_glyphs face.cmap a.text) ≡ Ok os
-    → laid_at face.metrics a.ppem a.margin (text_glyphs face.cmap a.text) (steps_in s (text_glyphs face.cmap a.text)) ≡ Ok l
+    → laid_at face.metrics a.ppem a.margin (text_glyphs face.cmap a.text) (steps_in face.metrics a.ppem s (text_glyphs face.cmap a.text)) ≡ Ok l
     → laid_out face a ≡ Ok l
 unfolding placed_by_steps
 laid_out_by_steps face a s os l passes bounded there made laid =
@@ -230,7 +230,7 @@ pub record IsOutlinedLine (cached : Bool) (face : Face) (a : Job) (s : Fitter) (
   pub fitted : AreFitted cached (line_fitter s (text_glyphs face.cmap a.text)) fs
   pub numbers : fitted_numbers fs ≡ distinct (text_glyphs face.cmap a.text)
   pub glyphs : map (λ g. g.0) l.glyphs ≡ text_glyphs face.cmap a.text
-  pub laid : laid_at face.metrics a.ppem a.margin (text_glyphs face.cmap a.text) (steps_in s (text_glyphs face.cmap a.text)) ≡ Ok l
+  pub laid : laid_at face.metrics a.ppem a.margin (text_glyphs face.cmap a.text) (steps_in face.metrics a.ppem s (text_glyphs face.cmap a.text)) ≡ Ok l
   pub work : left ≡ work_left s (text_glyphs face.cmap a.text)
 
 pub line_laid : {cached : Bool} {left : Option ℕ} (face : Face) (a : Job) (s : Fitter) (l : Placement) (fs : List FittedGlyph)
@@ -296,15 +296,3 @@ pub outline_stops_outlines : (s : Fitter) (how : Fit) (gs : List ℕ) (e : FontF
     → IfSome (refusal (draw_fault_of_font e)) (λ r. outlines_tested s how gs ≡ Err r)
 outline_stops_outlines s how gs (font.Font f) few fails = rw (few, fails) refl
 outline_stops_outlines s how gs font.Memory few fails = tt
-
--- the steps of some glyphs are put beside them
-abbrev pub stepped : (ℕ → ℕ) → List (ℕ × ℕ) → List (ℕ × ℕ)
-stepped step line = map (λ (g : ℕ × ℕ). (g.0, step g.0)) line
-
-pub firsts_stay : (step : ℕ → ℕ) (line : List (ℕ × ℕ)) → map (λ (g : ℕ × ℕ). g.0) (stepped step line) ≡ map (λ (g : ℕ × ℕ). g.0) line
-firsts_stay step [] = refl
-firsts_stay step (g ∷ gs) = ap (λ (ns : List ℕ). g.0 ∷ ns) (firsts_stay step gs)
-
-pub steps_put : (step : ℕ → ℕ) (line : List (ℕ × ℕ)) → map (λ (g : ℕ × ℕ). g.1) (stepped step line) ≡ map step (map (λ (g : ℕ × ℕ). g.0) line)
-steps_put step [] = refl
-steps_put step (g ∷ gs) = ap (λ (ns : List ℕ). step g.0 ∷ ns) (steps_put step gs)

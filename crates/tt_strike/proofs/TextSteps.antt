@@ -19,15 +19,16 @@ use Rattle.tt_fit.specs.Fitting.{Fitter}
 use Rattle.tt_fit_outline.specs.Outline.{Outline}
 use Rattle.tt_line.specs.declared.extent.PictureExtent.{PictureExtent}
 use Rattle.tt_line.specs.declared.measured.LineSize.{LineSize}
-use Rattle.tt_line.specs.Layout.{advance_in_pixels, advances_of, text_glyphs, within_limits}
+use Rattle.tt_line.specs.Layout.{text_glyphs, within_limits}
+use Rattle.tt_line.specs.Steps.{linear_line, linear_steps}
 use Rattle.tt_line.specs.Sizes.{extent_by_sum, line_size, size_of}
 use Rattle.tt_metrics.specs.Metrics.{Metrics}
 use Rattle.tt_picture.specs.Pixels.{Shape}
 use Rattle.tt_picture.specs.Shapes.{glyph_shape}
 use Rattle.tt_strike.specs.Defects.{IsLineDefect, IsSettingDefect}
 use Rattle.tt_strike.specs.Job.{Job, tested}
-use Rattle.tt_strike.specs.Layouts.{TellsMadeDefects, layout_by, layout_outcome, pens_at, pens_outcome, size_outcome, step_with, steps_outcome, with_steps}
-use Rattle.tt_strike.specs.Picture.{outlines_tested, setting_in, steps_in}
+use Rattle.tt_strike.specs.Layouts.{TellsMadeDefects, layout_by, layout_outcome, pens_at, pens_outcome, size_outcome, steps_outcome}
+use Rattle.tt_strike.specs.Picture.{made_line, outlines_tested, setting_in}
 use Rattle.tt_strike.specs.Refusals.{as_job, job, refusal}
 use Rattle.tt_strike.specs.Strikes.{SizedFace, job_by}
 use Rattle.tt_strike.specs.Work.{is_bounded, line_fitter}
@@ -50,32 +51,15 @@ outlines_stop_steps face a s (draw.Font f) bounded there fails = rw (bounded, th
 outlines_stop_steps face a s (draw.Job j) bounded there fails = rw (bounded, there, fails) refl
 outlines_stop_steps face a s draw.Memory bounded there fails = tt
 
--- glyphs beside their steps
-pub beside_steps : (step : ℕ → ℕ) (line : List (ℕ × ℕ))
-    → map (λ (g : ℕ × ℕ). g.1) line ≡ map step (map (λ (g : ℕ × ℕ). g.0) line)
-    → with_steps step (map (λ (g : ℕ × ℕ). g.0) line) ≡ line
-beside_steps step [] same = refl
-beside_steps step (g ∷ gs) same =
-    let here : g.1 ≡ step g.0 = cc in
-    rw (← here, beside_steps step gs cc) refl
-
-pub steps_of : (step : ℕ → ℕ) (gs : List ℕ) → map (λ (g : ℕ × ℕ). g.1) (with_steps step gs) ≡ map step gs
-steps_of step [] = refl
-steps_of step (g ∷ gs) = ap (λ (ns : List ℕ). step g ∷ ns) (steps_of step gs)
-
 -- the steps of glyphs that are made, and those by advances
 pub steps_by_outlines : (face : Face) (a : Job) (s : Fitter) (os : List Outline) (line : List (ℕ × ℕ)) → is_bounded a.fit ≡ true
     → setting_in face a ≡ Ok s → outlines_tested s a.fit (text_glyphs face.cmap a.text) ≡ Ok os
-    → map (λ g. g.0) line ≡ text_glyphs face.cmap a.text → map (λ g. g.1) line ≡ steps_in s (text_glyphs face.cmap a.text)
-    → steps_outcome face a ≡ Ok line
+    → line ≡ made_line face.metrics a.ppem s (text_glyphs face.cmap a.text) → steps_outcome face a ≡ Ok line
 unfolding steps_outcome
-steps_by_outlines face a s os line bounded there made glyphs steps =
-    let step = step_with s (text_glyphs face.cmap a.text) in
-    let is = rw glyphs at (beside_steps step line (steps ∙ ap (map step) (sym glyphs))) in
-    rw (bounded, there, made, is) refl
+steps_by_outlines face a s os line bounded there made is = rw (bounded, there, made, is) refl
 
 pub steps_by_advances : (face : Face) (a : Job) → is_bounded a.fit ≡ false
-    → steps_outcome face a ≡ Ok (with_steps (advance_in_pixels face.metrics a.ppem) (text_glyphs face.cmap a.text))
+    → steps_outcome face a ≡ Ok (linear_line face.metrics a.ppem (text_glyphs face.cmap a.text))
 unfolding steps_outcome
 steps_by_advances face a other = rw other refl
 
@@ -108,12 +92,9 @@ size_is face a steps passes made = rw (passes, made) refl
 
 pub size_by_its_advances : (face : Face) (a : Job) → tested a ≡ Ok tt → is_bounded a.fit ≡ false
     → size_outcome face a ≡ as_job (line_size face.metrics a.ppem a.margin
-    (sum (advances_of face.metrics a.ppem (text_glyphs face.cmap a.text))))
+    (sum (linear_steps face.metrics a.ppem (text_glyphs face.cmap a.text))))
 size_by_its_advances face a passes other =
-    let gs = text_glyphs face.cmap a.text in
-    let step = advance_in_pixels face.metrics a.ppem in
-    size_is face a (with_steps step gs) passes (steps_by_advances face a other)
-    ∙ ap (λ ns. as_job (line_size face.metrics a.ppem a.margin (sum ns))) (steps_of step gs)
+    size_is face a (linear_line face.metrics a.ppem (text_glyphs face.cmap a.text)) passes (steps_by_advances face a other)
 
 pub layout_is : (face : Face) (a : Job) (steps : List (ℕ × ℕ)) (z : LineSize) → tested a ≡ Ok tt
     → steps_outcome face a ≡ Ok steps → line_size face.metrics a.ppem a.margin (sum (map (λ g. g.1) steps)) ≡ Ok z

@@ -62,7 +62,7 @@ TellsDefects told IsOne (Err e) = IfSome (told e) IsOne
 -- the extent of a text's picture by the steps of its glyphs
 abbrev pub steps_extent : Face → Job → Fitter → List ℕ → PictureExtent
 steps_extent face a s gs =
-    extent_by (steps_in s gs) a.margin (rise_of face.metrics a.ppem) (depth_of face.metrics a.ppem)
+    extent_by (steps_in face.metrics a.ppem s gs) a.margin (rise_of face.metrics a.ppem) (depth_of face.metrics a.ppem)
 
 -- a fact of the extent of a text's picture: by the steps of its glyphs, once they are made, or by advances
 abbrev pub HasExtentBy : Bool → Face → Job → (PictureExtent → Type 0) → Type 0

@@ -9,18 +9,17 @@ use Rattle.tt_core.specs.declared.draw_fault.DrawFault.TheVariants as draw
 use Rattle.tt_core.specs.Faults.{Fault}
 use Rattle.tt_core.specs.Outcomes.{◌>>=◌, IfTold, draw_font_fault}
 use Rattle.tt_face.specs.Faces.{Face}
-use Rattle.tt_fit.specs.Fitting.{Fitter}
 use Rattle.tt_line.specs.declared.measured.LineSize.{LineSize}
-use Rattle.tt_line.specs.Layout.{advance_in_pixels, text_glyphs}
+use Rattle.tt_line.specs.Layout.{text_glyphs}
 use Rattle.tt_line.specs.Sizes.{line_size}
+use Rattle.tt_line.specs.Steps.{linear_line}
 use Rattle.tt_strike.specs.declared.layouts.Layout.{Layout}
 use Rattle.tt_strike.specs.declared.layouts.Pen.{Pen}
 use Rattle.tt_strike.specs.Defects.{TellsDefects}
 use Rattle.tt_strike.specs.Job.{Job, tested}
-use Rattle.tt_picture.specs.Steps.{glyph_step}
-use Rattle.tt_strike.specs.Picture.{outlines_tested, setting_in}
+use Rattle.tt_strike.specs.Picture.{made_line, outlines_tested, setting_in}
 use Rattle.tt_strike.specs.Refusals.{Refused, as_font, as_job}
-use Rattle.tt_strike.specs.Work.{lays_after_glyphs, line_fitter}
+use Rattle.tt_strike.specs.Work.{lays_after_glyphs}
 
 -- a refusal that is not for want of memory
 abbrev pub IsNotMemory : DrawFault → Type 0
@@ -34,26 +33,18 @@ abbrev pub TellsMadeDefects : {V : Type 0} → Bool → (Fault → Type 0) → R
 TellsMadeDefects true IsOne result = TellsDefects draw_font_fault IsOne result
 TellsMadeDefects false IsOne result = IfTold draw_font_fault result (λ fault. ⊥)
 
--- each glyph with its step
-abbrev pub with_steps : (ℕ → ℕ) → List ℕ → List (ℕ × ℕ)
-with_steps step gs = map (λ g. (g, step g)) gs
-
--- the step of a glyph of some, by its fitter
-abbrev pub step_with : Fitter → List ℕ → ℕ → ℕ
-step_with s gs g = glyph_step (line_fitter s gs g) g
-
 -- the glyphs of a text with their steps, which are made by a fitter
 abbrev pub made_steps : Face → Job → Result (List (ℕ × ℕ)) Refused
 made_steps face a =
     let gs = text_glyphs face.cmap a.text in
     as_font (setting_in face a) >>= λ s.
     outlines_tested s a.fit gs >>= λ outlines.
-    Ok (with_steps (step_with s gs) gs)
+    Ok (made_line face.metrics a.ppem s gs)
 
 -- the glyphs of a text with their steps, or the first refusal
 unfoldable pub steps_outcome : Face → Job → Result (List (ℕ × ℕ)) Refused
 steps_outcome face a = if lays_after_glyphs a.fit then made_steps face a
-    else Ok (with_steps (advance_in_pixels face.metrics a.ppem) (text_glyphs face.cmap a.text))
+    else Ok (linear_line face.metrics a.ppem (text_glyphs face.cmap a.text))
 
 -- the size of a line by its glyphs with their steps, or the refusal
 abbrev pub size_by : Face → Job → List (ℕ × ℕ) → Result LineSize Refused

@@ -1,18 +1,19 @@
 -- No part of the standard: the measure of a line: its base line, its characters and their ink, in columns and rows of
 -- the picture.
-use Rattle.std.specs.Prelude.{ℕ, ◌+◌, if◌then◌else◌, ℤ, pos, ◌+ℤ◌, List, map, Option, None, Result, Ok}
+use Rattle.std.specs.Prelude.{ℕ, ◌+◌, if◌then◌else◌, ℤ, pos, ◌+ℤ◌, List, [], ◌∷◌, map, Option, None, Result, Ok}
 use Rattle.tt_core.specs.Outcomes.{◌>>=◌}
 use Rattle.tt_fit.specs.Fitting.{Fitter}
-use Rattle.tt_line.specs.Layout.{Placement, advance_in_pixels}
+use Rattle.tt_line.specs.Layout.{Placement}
+use Rattle.tt_line.specs.Steps.{kerning_before, step_in_pixels}
 use Rattle.tt_metrics.specs.Metrics.{Metrics}
 use Rattle.tt_fit.specs.declared.programs.Fit.{Fit}
 use Rattle.tt_picture.specs.Glyphs.{Glyph}
 use Rattle.tt_scan_edges.specs.declared.edge.Frame.{Frame}
 use Rattle.tt_scan_ink.specs.declared.ink.GlyphInk.{GlyphInk}
 use Rattle.tt_picture.specs.Ink.{all_joined, glyph_ink, ink_at}
-use Rattle.tt_picture.specs.Steps.{glyph_step}
+use Rattle.tt_picture.specs.Steps.{kerned_step}
 use Rattle.tt_strike.specs.Job.{Job}
-use Rattle.tt_strike.specs.Picture.{frame_of, laid_out, line_shapes, setting_in}
+use Rattle.tt_strike.specs.Picture.{advance_with, frame_of, laid_out, line_shapes, setting_in}
 use Rattle.tt_strike.specs.Refusals.{Refused, as_font}
 use Rattle.tt_face.specs.Faces.{Face}
 use Rattle.tt_strike.specs.Work.{lays_after_glyphs, line_fitter}
@@ -37,24 +38,30 @@ measure_view m = record {
   characters = m.characters.items;
 }
 
--- a glyph at its pen, by the step and the ink of each glyph at pen 0
-abbrev pub character_at : (ℕ → ℕ) → Frame → (ℕ → Option GlyphInk) → ℕ × ℕ → CharacterMeasure
-character_at step f inked g = record {
+-- a glyph at its pen with its step, by the ink of each glyph at pen 0
+abbrev pub character_at : Frame → (ℕ → Option GlyphInk) → ℕ × ℕ → ℕ → CharacterMeasure
+character_at f inked g step = record {
   glyph = g.0;
   pen = pos (g.1 + f.margin);
-  advance = step g.0;
+  advance = step;
   ink = ink_at f g.1 (inked g.0);
 }
+
+-- the characters of a line, by the step of a glyph with its kerning
+abbrev pub characters_at : Metrics → (ℕ → ℤ → ℕ) → Frame → (ℕ → Option GlyphInk) → List (ℕ × ℕ) → List CharacterMeasure
+characters_at m step f inked [] = []
+characters_at m step f inked (g ∷ gs) =
+    character_at f inked g (step g.0 (kerning_before m g.0 (map (λ h. h.0) gs))) ∷ characters_at m step f inked gs
 
 -- the box of the ink of some characters
 abbrev pub ink_of : List CharacterMeasure → Option InkBox
 ink_of characters = all_joined None (map (λ c. c.ink) characters)
 
 -- the measure of a laid-out line, by the step and the ink of each glyph
-abbrev pub measure_by : (ℕ → ℕ) → ℕ → (ℕ → Option GlyphInk) → Placement → Measure
-measure_by step margin inked line =
+abbrev pub measure_by : Metrics → (ℕ → ℤ → ℕ) → ℕ → (ℕ → Option GlyphInk) → Placement → Measure
+measure_by m step margin inked line =
     let f = frame_of line margin in
-    let characters = map (character_at step f inked) line.glyphs in
+    let characters = characters_at m step f inked line.glyphs in
     record {
       width = line.width;
       height = line.height;
@@ -67,21 +74,23 @@ measure_by step margin inked line =
 abbrev pub line_ink : Fitter → Placement → ℕ → Option GlyphInk
 line_ink s line g = glyph_ink (line_fitter s (map (λ g. g.0) line.glyphs) g) g
 
--- the step of each glyph of a line: its own, by its fitter, or its advance
-abbrev pub line_step : Face → Job → Fitter → Placement → ℕ → ℕ
-line_step face a s line g = if lays_after_glyphs a.fit then glyph_step (line_fitter s (map (λ g. g.0) line.glyphs) g) g
-    else advance_in_pixels face.metrics a.ppem g
+-- the step of each glyph of a line with its kerning: by its own advance, by its fitter, or by that of hmtx
+abbrev pub line_step : Face → Job → Fitter → Placement → ℕ → ℤ → ℕ
+line_step face a s line g k =
+    if lays_after_glyphs a.fit then kerned_step face.metrics a.ppem (advance_with s (map (λ g. g.0) line.glyphs) g) k
+    else step_in_pixels face.metrics a.ppem g k
 
--- the step of a made glyph: its own, or its advance
-abbrev pub made_step : Metrics → ℕ → Fit → Glyph → ℕ
-made_step m ppem how g = if lays_after_glyphs how then g.step else advance_in_pixels m ppem g.number
+-- the step of a made glyph with its kerning
+abbrev pub made_step : Metrics → ℕ → Fit → Glyph → ℤ → ℕ
+made_step m ppem how g k = if lays_after_glyphs how then kerned_step m ppem g.advance_left k
+    else step_in_pixels m ppem g.number k
 
 -- the measure of a laid-out line; it is refused exactly where its picture is
 unfoldable pub measured_line : Face → Job → Placement → Result Measure Refused
 measured_line face a line =
     as_font (setting_in face a) >>= λ s.
     line_shapes s a line >>= λ glyphs.
-    Ok (measure_by (line_step face a s line) a.margin (line_ink s line) line)
+    Ok (measure_by face.metrics (line_step face a s line) a.margin (line_ink s line) line)
 
 -- the measure of a text by a font's tables, or the first refusal
 unfoldable pub measured : Face → Job → Result Measure Refused

@@ -1,7 +1,7 @@
 -- The picture of a line of text: each glyph's outline moved to its pen, blackened by the scan converter's rules
 -- (OpenType, "TrueType Fundamentals"). Margins and limits are profile. With best a line is laid out by the steps of its
--- glyphs, which are made first. With any other fit it is laid out by advances.
-use Rattle.std.specs.Prelude.{ℕ, if◌then◌else◌, List, map, Result, Ok}
+-- glyphs, which are made first. With any other fit it is laid out by advances. Kerning counts in both.
+use Rattle.std.specs.Prelude.{ℕ, ℤ, if◌then◌else◌, List, map, Result, Ok}
 use Rattle.tt_core.specs.declared.collection.Reading.{Reading}
 use Rattle.tt_core.specs.declared.fault.JobFault.{JobFault}
 use Rattle.tt_core.specs.Faults.{Fault}
@@ -12,6 +12,8 @@ use Rattle.tt_fit.specs.Preparation.{fitter_of}
 use Rattle.tt_fit.specs.declared.programs.Fit.{Fit}
 use Rattle.tt_fit_outline.specs.Outline.{Outline}
 use Rattle.tt_line.specs.Layout.{Placement, laid_at, placement, text_glyphs}
+use Rattle.tt_line.specs.Steps.{stepped}
+use Rattle.tt_metrics.specs.Metrics.{Metrics}
 use Rattle.tt_scan_edges.specs.declared.edge.Frame.{Frame}
 use Rattle.tt_strike.specs.Job.{Job, by_face, tested}
 use Rattle.tt_strike.specs.Refusals.{Refused, as_font, as_job}
@@ -19,7 +21,7 @@ use Rattle.tt_picture.specs.Distinct.{distinct}
 use Rattle.tt_picture.specs.Pictures.{Image, picture}
 use Rattle.tt_picture.specs.Pixels.{Shape}
 use Rattle.tt_picture.specs.Shapes.{crossings_in, glyph_shape}
-use Rattle.tt_picture.specs.Steps.{glyph_step, outlines_by}
+use Rattle.tt_picture.specs.Steps.{glyph_advance, outlines_by, step_by}
 use Rattle.tt_face.specs.Faces.{Face, glyphs_in}
 use Rattle.tt_strike.specs.Programs.{programs_in}
 use Rattle.tt_strike.specs.Work.{chords_in, edges_limited, lays_after_glyphs, line_fitter, points_in, work_left, work_tested}
@@ -42,9 +44,17 @@ frame_of line margin = record { width = line.width; height = line.height; margin
 abbrev pub outlines_in : Fitter → List ℕ → Result (List Outline) Fault
 outlines_in s gs = outlines_by (line_fitter s gs) (distinct gs)
 
+-- the distance of the ends of a glyph's advance, by the fitter of some glyphs, in 26.6 pixels
+abbrev pub advance_with : Fitter → List ℕ → ℕ → ℤ
+advance_with s gs g = glyph_advance (line_fitter s gs g) g
+
+-- some glyphs with their steps, which have their kerning
+abbrev pub made_line : Metrics → ℕ → Fitter → List ℕ → List (ℕ × ℕ)
+made_line m ppem s gs = stepped m (step_by m ppem (advance_with s gs)) gs
+
 -- the step of each of some glyphs
-abbrev pub steps_in : Fitter → List ℕ → List ℕ
-steps_in s gs = map (λ g. glyph_step (line_fitter s gs g) g) gs
+abbrev pub steps_in : Metrics → ℕ → Fitter → List ℕ → List ℕ
+steps_in m ppem s gs = map (λ g. g.1) (made_line m ppem s gs)
 
 -- the glyphs of a laid-out line, made in order
 abbrev pub shapes_in : Fitter → Placement → Result (List Shape) Fault
@@ -86,7 +96,7 @@ placed_by_steps face a =
     let gs = text_glyphs face.cmap a.text in
     as_font (setting_in face a) >>= λ s.
     outlines_tested s a.fit gs >>= λ outlines.
-    as_job (laid_at face.metrics a.ppem a.margin gs (steps_in s gs))
+    as_job (laid_at face.metrics a.ppem a.margin gs (steps_in face.metrics a.ppem s gs))
 
 -- a text laid out by a font's tables, or the first refusal
 unfoldable pub text_placed : Face → Job → Result Placement Refused

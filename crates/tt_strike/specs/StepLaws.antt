@@ -22,9 +22,9 @@ use Rattle.tt_strike.specs.declared.measuring.CharacterMeasure.{CharacterMeasure
 abbrev pub character_in : Measure → ℕ → CharacterMeasure
 character_in m i = get_or m.characters i (record { glyph = 0; pen = pos 0; advance = 0; ink = None })
 
--- equal glyphs of a text have equal steps
+-- where pairs are not kerned, equal glyphs of a text have equal steps
 abbrev pub EqualGlyphsStepAlike : Type 0
-EqualGlyphsStepAlike = (face : Face) (a : Job) (m : Measure) (i j : ℕ) → measured face a ≡ Ok m
+EqualGlyphsStepAlike = (face : Face) (a : Job) (m : Measure) (i j : ℕ) → face.metrics.kerning ≡ None → measured face a ≡ Ok m
     → i < length m.characters → j < length m.characters → (character_in m i).glyph ≡ (character_in m j).glyph
     → (character_in m i).advance ≡ (character_in m j).advance
 

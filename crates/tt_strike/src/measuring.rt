@@ -1,6 +1,6 @@
 //! Measures the line of a text.
 
-ghost use Rattle.std.specs.Prelude.{◌≡◌, ℕ, ◌<◌, ◌≤◌, pos, ◌+ℤ◌, true, length, map, All, IfOk, Ok, Option};
+ghost use Rattle.std.specs.Prelude.{◌≡◌, ℕ, ℤ, ◌+◌, ◌<◌, ◌≤◌, ◌^◌, pos, ◌+ℤ◌, true, length, map, All, IfOk, Ok, Option, unsigned_abs};
 ghost use Rattle.tt_core.specs.Limits.{width_limit};
 ghost use Rattle.tt_core.specs.Outcomes.{GivesUnless, IfTold, draw_font_fault, draw_job_fault};
 ghost use Rattle.tt_line.specs.Layout.{text_glyphs};
@@ -13,7 +13,7 @@ ghost use Rattle.tt_scan_edges.specs.Winding.{FrameFits};
 ghost use Rattle.tt_scan_ink.specs.declared.ink.GlyphInk.{GlyphInk};
 ghost use Rattle.tt_strike.specs.Costs.{cost_by};
 ghost use Rattle.tt_strike.specs.Defects.{IsLineDefect, IsLineRefusal, TellsDefects};
-ghost use Rattle.tt_strike.specs.Measures.{character_at, ink_of, made_step, measure_by, measure_view, measured};
+ghost use Rattle.tt_strike.specs.Measures.{character_at, characters_at, ink_of, made_step, measure_by, measure_view, measured};
 ghost use Rattle.tt_strike.specs.Refusals.{refusal};
 ghost use Rattle.tt_strike.specs.Report.{report_by};
 ghost use Rattle.tt_strike.specs.Strikes.{job_by};
@@ -25,8 +25,10 @@ use crate::sized::SizedFace;
 use crate::work::is_bounded;
 use std::alloc::AllocError;
 use tt_core::DrawFault;
-use tt_line::advance;
-use tt_picture::{Cache, Glyph, InkBox, Report, glyph_inks, ink_at, joined, report_on};
+use tt_line::{kerning_at, step};
+use tt_picture::{
+    Cache, Glyph, InkBox, Report, glyph_inks, ink_at, joined, kerned_step, report_on,
+};
 use tt_scan::Frame;
 
 /// The place of a character in its line's picture.
@@ -86,31 +88,41 @@ fn measure_of(frame: Frame, characters: Vec<CharacterMeasure>, report: Report) -
 }
 
 impl<'f, 'a> SizedFace<'f, 'a> {
-    /// The pixels from the pen of a glyph to the next: its own step, or its advance.
-    fn step_of(&self, glyph: &Glyph) -> u32
+    /// The pixels from the pen of a glyph to the next, with so many font units of kerning: by its own advance, or by that
+    /// of hmtx.
+    fn step_of(&self, glyph: &Glyph, kerning: i32) -> u32
         requires known { glyph.now.number < glyphs_of self.now.face.metrics }
-        ensures { result ≡ made_step self.now.face.metrics self.now.ppem self.now.fit glyph.now }
+        requires kerning { unsigned_abs kerning ≤ 2 ^ 20 }
+        ensures { result ≡ made_step self.now.face.metrics self.now.ppem self.now.fit glyph.now kerning }
     {
+        let metrics = self.face().metrics();
         if is_bounded(self.fit()) {
-            return glyph.step();
+            return kerned_step(metrics, self.ppem(), glyph.advance_left(), kerning);
         }
-        advance(self.face().metrics(), self.ppem(), glyph.number())
+        step(metrics, self.ppem(), glyph.number(), kerning)
     }
 
-    /// The measure of a character, whose glyph is one of these.
-    fn character(&self, frame: Frame, placed: (u16, u32), inked: &InkedGlyphs) -> CharacterMeasure
+    /// The measure of a character, whose glyph is one of these, with its kerning.
+    fn character(
+        &self,
+        frame: Frame,
+        placed: (u16, u32),
+        kerning: i32,
+        inked: &InkedGlyphs,
+    ) -> CharacterMeasure
         requires frame { FrameFits frame }
         requires known { placed.0 < glyphs_of self.now.face.metrics }
         requires pen { placed.1 ≤ width_limit }
+        requires kerning { unsigned_abs kerning ≤ 2 ^ 20 }
         requires room { length inked.now.glyphs.places.items ≡ glyphs_of self.now.face.metrics }
         requires among { is_among placed.0 (numbers_of inked.now.glyphs.made.items) ≡ true }
-        ensures { (step : ℕ → ℕ) (ink : ℕ → Option GlyphInk) → All (λ g. made_step self.now.face.metrics self.now.ppem self.now.fit g ≡ step g.number) inked.now.glyphs.made.items
+        ensures { (step : ℕ → ℤ → ℕ) (ink : ℕ → Option GlyphInk) → All (λ g. (k : ℤ) → made_step self.now.face.metrics self.now.ppem self.now.fit g k ≡ step g.number k) inked.now.glyphs.made.items
             → inked.now.inks.items ≡ map ink (numbers_of inked.now.glyphs.made.items)
-            → result ≡ character_at step frame ink placed }
+            → result ≡ character_at frame ink placed (step placed.0 kerning) }
     {
         let (glyph, pen) = placed;
         let (step, ink) = match inked.glyphs.find(glyph) {
-            Some(i) => (self.step_of(&inked.glyphs.made[i]), inked.inks[i]),
+            Some(i) => (self.step_of(&inked.glyphs.made[i], kerning), inked.inks[i]),
             None => (0, None),
         };
         CharacterMeasure {
@@ -133,13 +145,14 @@ impl<'f, 'a> SizedFace<'f, 'a> {
         requires pens { All (λ g. g.1 ≤ width_limit) line.now }
         requires room { length inked.now.glyphs.places.items ≡ glyphs_of self.now.face.metrics }
         requires among { All (λ g. is_among g.0 (numbers_of inked.now.glyphs.made.items) ≡ true) line.now }
-        ensures { IfOk result (λ v. (step : ℕ → ℕ) (ink : ℕ → Option GlyphInk) → All (λ g. made_step self.now.face.metrics self.now.ppem self.now.fit g ≡ step g.number) inked.now.glyphs.made.items
+        ensures { IfOk result (λ v. (step : ℕ → ℤ → ℕ) (ink : ℕ → Option GlyphInk) → All (λ g. (k : ℤ) → made_step self.now.face.metrics self.now.ppem self.now.fit g k ≡ step g.number k) inked.now.glyphs.made.items
             → inked.now.inks.items ≡ map ink (numbers_of inked.now.glyphs.made.items)
-            → v.items ≡ map (character_at step frame ink) line.now) }
+            → v.items ≡ characters_at self.now.face.metrics step frame ink line.now) }
     {
         let mut measured = Vec::with_capacity(self.alloc(), line.len())?;
-        for placed in line {
-            measured.push(self.character(frame, *placed, inked))?;
+        for i in 0..line.len() {
+            let kerning = kerning_at(self.face().metrics(), line, i);
+            measured.push(self.character(frame, line[i], kerning, inked))?;
         }
         Ok(measured)
     }
@@ -149,9 +162,9 @@ impl<'f, 'a> SizedFace<'f, 'a> {
         requires known { All (λ g. g.0 < glyphs_of self.now.face.metrics) laid.now.line.glyphs.items }
         requires room { length inked.now.glyphs.places.items ≡ glyphs_of self.now.face.metrics }
         requires among { All (λ g. is_among g.0 (numbers_of inked.now.glyphs.made.items) ≡ true) laid.now.line.glyphs.items }
-        ensures exact { IfOk result (λ m. (step : ℕ → ℕ) (ink : ℕ → Option GlyphInk) → All (λ g. made_step self.now.face.metrics self.now.ppem self.now.fit g ≡ step g.number) inked.now.glyphs.made.items
+        ensures exact { IfOk result (λ m. (step : ℕ → ℤ → ℕ) (ink : ℕ → Option GlyphInk) → All (λ g. (k : ℤ) → made_step self.now.face.metrics self.now.ppem self.now.fit g k ≡ step g.number k) inked.now.glyphs.made.items
             → inked.now.inks.items ≡ map ink (numbers_of inked.now.glyphs.made.items)
-            → measure_view m ≡ measure_by step laid.now.margin ink (placement_of laid.now.line)) }
+            → measure_view m ≡ measure_by self.now.face.metrics step laid.now.margin ink (placement_of laid.now.line)) }
         ensures unfitted { IfOk result (λ m. m.report.unfitted.items ≡ unfitted_standing inked.now.glyphs.made.items) }
         ensures cost { IfOk result (λ m. m.report.cost ≡ inked.now.glyphs.cost) }
     {

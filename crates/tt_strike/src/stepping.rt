@@ -18,7 +18,7 @@ use crate::source::FitterSource;
 use crate::work::charge_points;
 use tt_core::DrawFault;
 use tt_fit::Fitter;
-use tt_line::{KnownAdvances, advance_steps};
+use tt_line::{KnownAdvances, unit_advances};
 use tt_picture::{Cache, FittedGlyph, fit_glyphs, put_steps};
 
 /// A text whose glyphs are fitted.
@@ -48,7 +48,7 @@ impl<'f, 'a> FitterSource<'f, 'a> {
         requires glyphs { fitter.old.tables.glyphs ≡ glyphs_of self.now.face.now.metrics }
         requires bounded { is_bounded self.now.fit ≡ true }
         requires cache { IsCacheFor fitter.old cache.now }
-        ensures outlined { IfOk result (λ t. AreOutlined (is_there cache.now) fitter.old (text_glyphs self.now.face.now.cmap text.now) t.steps.items t.places.items t.fitted.items) }
+        ensures outlined { IfOk result (λ t. AreOutlined (is_there cache.now) self.now.face.now.metrics self.now.ppem fitter.old (text_glyphs self.now.face.now.cmap text.now) t.steps.items t.places.items t.fitted.items) }
         ensures points { IfOk result (λ t. work_tested self.now.fit point_work_limit (points_in fitter.old (text_glyphs self.now.face.now.cmap text.now)) ≡ Ok tt) }
         ensures known { IfOk result (λ t. All (λ g. g.0 < glyphs_of self.now.face.now.metrics) t.steps.items) }
         ensures few { IfOk result (λ t. length t.steps.items ≤ text_limit) }
@@ -56,12 +56,12 @@ impl<'f, 'a> FitterSource<'f, 'a> {
         ensures same { known.new ≡ known.old }
         ensures stops { IfTold refusal result (λ r. outlines_tested fitter.old self.now.fit (text_glyphs self.now.face.now.cmap text.now) ≡ Err r) }
     {
-        let mut steps = advance_steps(self.alloc, known, text)?;
+        let mut steps = unit_advances(self.alloc, known, text)?;
         let met = distinct(self.alloc, self.face.metrics().glyphs(), &steps)?;
         let DistinctGlyphs { places, numbers } = met;
         charge_points(self.fit, fitter, &numbers, cache)?;
         let fitted = fit_glyphs(self.alloc, fitter, &numbers, cache)?;
-        put_steps(&places, &fitted, &mut steps);
+        put_steps(self.face.metrics(), self.ppem, &places, &fitted, &mut steps);
         Ok(OutlinedText {
             steps,
             places,

@@ -28,7 +28,7 @@ blank : KeptGlyph
 blank = record {
   raster = record { top = pos 0; rows = [] };
   dropouts = [];
-  step = 4;
+  advance_left = pos 256;
   chords = 0;
   crossings = 0;
   points = 4;

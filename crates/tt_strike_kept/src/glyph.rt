@@ -21,8 +21,8 @@ pub struct KeptGlyph {
     pub raster: Rc<Raster>,
     /// The pixels that are black besides, for pen 0. They may have other owners too.
     pub dropouts: Rc<Vec<Pixel>>,
-    /// The pixels from the glyph's pen to the next.
-    pub step: u32,
+    /// The distance of its advance's two ends, in 26.6 pixels.
+    pub advance_left: i32,
     /// The chords and straight edges of its outline.
     pub chords: usize,
     /// Its crossings at one pen, in a picture and outside, with the search for dropouts.
@@ -43,7 +43,7 @@ impl Model for KeptGlyph {
     ghost view = { λ g. record {
       raster = g.raster.value;
       dropouts = g.dropouts.value.items;
-      step = g.step;
+      advance_left = g.advance_left;
       chords = g.chords;
       crossings = g.crossings;
       points = g.points;
@@ -60,7 +60,7 @@ impl Clone for KeptGlyph {
         Ok(KeptGlyph {
             raster: self.raster.clone()?,
             dropouts: self.dropouts.clone()?,
-            step: self.step,
+            advance_left: self.advance_left,
             chords: self.chords,
             crossings: self.crossings,
             points: self.points,

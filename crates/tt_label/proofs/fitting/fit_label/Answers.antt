@@ -7,10 +7,10 @@ use Rattle.tt_label.proofs.Joined.{all_flat, flat_all, lists_joined}
 use Rattle.tt_metrics.specs.Metrics.{glyphs_of}
 use Rattle.tt_picture.specs.Distinct.{distinct, is_among}
 use Rattle.tt_picture.specs.Fitted.{AreFitted, fitted_numbers}
-use Rattle.tt_picture.specs.Steps.{glyph_step}
+use Rattle.tt_strike.specs.Picture.{advance_with}
 use Rattle.tt_picture.proofs.Among.{all_among}
 use Rattle.tt_picture.proofs.Listing.{distinct_differ}
-use Rattle.tt_picture.proofs.Outlines.{steps_are}
+use Rattle.tt_picture.proofs.Outlines.{advances_are}
 use Rattle.tt_strike.specs.Work.{line_fitter, points_in, started, work_tested}
 use Rattle.tt_strike.proofs.Placed.{of-job}
 use Rattle.tt_strike.proofs.Stepped.{outline_stops_outlines, points_stop_outlines}
@@ -67,9 +67,6 @@ step_lines-requires-clause-among c =
     rw c.deref-6.ensures.value (flat_all (λ (g : ℕ × ℕ). is_among g.0 (fitted_numbers c.in_ok-fitted.fitted.items) ≡ true)
     (λ (l : Vec (ℕ × ℕ) Global). l.items) c.args.steps.items (rw joined at all))
 
-abbrev step_of_text : Fitter → List ℕ → ℕ → ℕ
-step_of_text s gs g = glyph_step (line_fitter s gs g) g
-
 pub fit_glyphs-requires-clause-cache : goal.fit_glyphs-requires-clause-cache
 fit_glyphs-requires-clause-cache c = rw c.absent-none.ensures tt
 
@@ -106,7 +103,7 @@ returns-clause-fitted c =
     let charged = charged_is all.In_ok-charge_points numbers in
     let fitted = fitted_are all.In_ok-fitted numbers charged in
     record {
-      steps = rw c.deref-6.ensures.value at c.in_ok-steps.ensures (step_of_text s gs) (steps_are (line_fitter s gs) c.in_ok-fitted.fitted.items fitted);
+      steps = rw c.deref-6.ensures.value at c.in_ok-steps.ensures (advance_with s gs) (advances_are (line_fitter s gs) c.in_ok-fitted.fitted.items fitted);
       room = c.in_ok-met.ensures.room ∙ rw c.metrics.ensures at c.glyphs.ensures.exact ∙ sym c.requires.glyphs;
       places = rw (fitted_numbers_are all.In_ok-fitted numbers, ← numbers) c.in_ok-met.ensures.places;
       numbers = fitted_numbers_are all.In_ok-fitted numbers;

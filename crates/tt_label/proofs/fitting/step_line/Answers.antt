@@ -1,12 +1,17 @@
 use Rattle.std.proofs.Common.{◌≡◌, ◌∙◌, ap, ℕ, List, length, map}
 use Rattle.std.proofs.lemmas.List.{length-map, with_items_is}
+use Rattle.tt_line.specs.Steps.{stepped}
+use Rattle.tt_line.proofs.Stepped.{length-stepped}
+use Rattle.tt_picture.specs.Steps.{step_by}
 use Rattle.tt_label.proofs.fitting.step_line.Goals as goal
 
-abbrev stepped : (ℕ → ℕ) → List (ℕ × ℕ) → List (ℕ × ℕ)
-stepped step line = map (λ (g : ℕ × ℕ). (g.0, step g.0)) line
-
 pub returns : goal.returns
-returns c = λ step are.
-    let put = c.put_steps.ensures step are in
-    let count : length c.put_steps.new.line ≡ c.args.line.len = ap length put ∙ length-map c.deref_mut.result.now _ ∙ c.deref_mut.ensures.len in
-    with_items_is c.args.line c.put_steps.new.line count ∙ put ∙ ap (stepped step) c.deref_mut.ensures.value
+returns c = λ advance are.
+    let m = c.args.source.now.face.now.metrics in
+    let step = step_by m c.args.source.now.ppem advance in
+    let put = rw c.metrics.ensures at (c.put_steps.ensures advance are) in
+    let count : length c.put_steps.new.line ≡ c.args.line.len = ap length put
+    ∙ length-stepped m step (map (λ (g : ℕ × ℕ). g.0) c.deref_mut.result.now)
+    ∙ length-map c.deref_mut.result.now (λ (g : ℕ × ℕ). g.0) ∙ c.deref_mut.ensures.len in
+    with_items_is c.args.line c.put_steps.new.line count ∙ put
+    ∙ ap (λ (gs : List (ℕ × ℕ)). stepped m step (map (λ (g : ℕ × ℕ). g.0) gs)) c.deref_mut.ensures.value

@@ -4,7 +4,9 @@ use Rattle.std.proofs.lemmas.List.Elements.{All-head, All-tail}
 use Rattle.std.specs.Prelude.{All}
 use Rattle.std.specs.Vec.Iter.{into_iter_items}
 use Rattle.tt_label.specs.Fitted.{with_steps}
+use Rattle.tt_line.specs.Steps.{stepped}
 use Rattle.tt_picture.specs.Distinct.{is_among}
+use Rattle.tt_picture.specs.Steps.{step_by}
 use Rattle.tt_picture.specs.Fitted.{fitted_numbers}
 use Rattle.tt_label.proofs.fitting.step_lines.Goals as goal
 
@@ -28,12 +30,14 @@ loop-line-preserved c =
       known = All-tail (λ (v : Steps). All (λ (g : ℕ × ℕ). g.0 < length c.args.places.now) v.items) line left (rw steps at at.invariant.known);
       among = All-tail (λ (v : Steps). All (λ (g : ℕ × ℕ). is_among g.0 (fitted_numbers c.args.fitted.now) ≡ true) v.items) line left
           (rw steps at at.invariant.among);
-      steps = λ step are.
-          let whole = rw steps at (at.invariant.steps step are) in
-          let own : made.items ≡ map (λ (g : ℕ × ℕ). (g.0, step g.0)) line.items = c.step_line.ensures step are in
+      steps = λ advance are.
+          let m = c.args.source.now.face.now.metrics in
+          let step = step_by m c.args.source.now.ppem advance in
+          let whole = rw steps at (at.invariant.steps advance are) in
+          let own : made.items ≡ stepped m step (map (λ (g : ℕ × ℕ). g.0) line.items) = c.step_line.ensures advance are in
           rw (pushed, map_push items at.made.items made, own)
-          (append_assoc (map items at.made.items) (map (λ (g : ℕ × ℕ). (g.0, step g.0)) line.items ∷ [])
-          (with_steps step (map items left)) ∙ whole);
+          (append_assoc (map items at.made.items) (stepped m step (map (λ (g : ℕ × ℕ). g.0) line.items) ∷ [])
+          (with_steps m step (map items left)) ∙ whole);
     }
 
 pub step_line-requires-clause-known : goal.step_line-requires-clause-known
@@ -49,8 +53,8 @@ step_line-requires-clause-among c =
     (into_iter_items c.next.new.self) (rw steps at c.loop-line.invariant.among)
 
 pub returns : goal.returns
-returns c = λ step are.
+returns c = λ advance are.
     let at = c.loop-line in
     let none = nil_from_length (into_iter_items at.line-iterator) (sym at.invariant.count ∙ c.in-None.ensures.steps.0) in
-    let all = rw none at (at.invariant.steps step are) in
+    let all = rw none at (at.invariant.steps advance are) in
     sym (append-nil (map (λ (v : Steps). v.items) at.made.items)) ∙ all

@@ -18,7 +18,7 @@ loop-line-preserved c = λ step ink margin steps inks margins.
     let own : laid.margin ≡ margin = rw here at (margins i laid below) in
     let measured = rw own at (c.in_ok-measure.ensures.exact step ink steps inks) in
     let box : c.in_ok-measure.measure.ink ≡ line_box ink margin (placement_of laid.line) =
-    ap (λ (m : Measure). m.ink) measured ∙ measured_box step margin ink (placement_of laid.line) in
+    ap (λ (m : Measure). m.ink) measured ∙ measured_box c.args.sized.now.face.metrics step margin ink (placement_of laid.line) in
     rw (c.joined-all.ensures, box) (rw (drop_more lines i laid below, here) at (at.invariant step ink margin steps inks margins))
 
 pub returns : goal.returns

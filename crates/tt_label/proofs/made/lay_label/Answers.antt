@@ -7,7 +7,7 @@ use Rattle.tt_label.proofs.Joined.{all_flat, each_short}
 use Rattle.tt_label.proofs.Placed.{laid_by, placed_by_advances, refused_as_job}
 use Rattle.tt_line.specs.declared.line.Line.{Line}
 use Rattle.tt_line.specs.Labels.{label_placement}
-use Rattle.tt_line.specs.Layout.{advance_in_pixels}
+use Rattle.tt_line.specs.Steps.{step_in_pixels}
 use Rattle.tt_line.specs.Outcome.{placement_of}
 use Rattle.tt_metrics.specs.Metrics.{glyphs_of}
 use Rattle.tt_strike.specs.declared.laid.Laid.{Laid}
@@ -28,7 +28,7 @@ returns-in_err-laid-clause-exact c =
     let unbounded = rw (← c.sized.view_is) at c.requires.unbounded in
     let p = err_from_is_err_and c.from_residual-in_err-laid.result c.from_residual-in_err-laid.ensures.1 in
     rw (p.1, p.2, ← c.sized.view_is) (refused_as_job (λ (v : Vec Line Global). map placement_of v.items) (λ (v : Vec Laid Global). placements_of v.items)
-    (label_placement z.face.metrics a.ppem a.margin c.args.align (stepped_lines (advance_in_pixels z.face.metrics z.ppem) z.face.cmap a.text))
+    (label_placement z.face.metrics a.ppem a.margin c.args.align (stepped_lines z.face.metrics (step_in_pixels z.face.metrics z.ppem) z.face.cmap a.text))
     (label_placed z.face a c.args.align) c.in_err-laid.field-0.0 gives
     (λ j fails. placed_by_advances z.face a c.args.align passes unbounded ∙ rw fails refl))
 

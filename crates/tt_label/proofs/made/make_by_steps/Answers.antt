@@ -14,7 +14,8 @@ use Rattle.tt_label.proofs.ByStep.{IsFittedText, IsOutlinedLabel, as_joint, edge
 use Rattle.tt_label.proofs.Joined.{all_flat, each_short, lists_joined}
 use Rattle.tt_label.proofs.Placed.{laid_by, placed_lines}
 use Rattle.tt_line.specs.declared.line.Line.{Line}
-use Rattle.tt_line.specs.Layout.{Placement, advance_in_pixels}
+use Rattle.tt_line.specs.Layout.{Placement}
+use Rattle.tt_line.specs.Steps.{step_in_pixels}
 use Rattle.tt_line.specs.Outcome.{placement_of}
 use Rattle.tt_metrics.specs.Metrics.{glyphs_of}
 use Rattle.tt_picture.specs.Distinct.{distinct}
@@ -46,29 +47,29 @@ all_of lines = flat_map (λ (v : Vec (ℕ × ℕ) Global). v.items) lines
 
 -- the lines, with the advances of their glyphs
 lines_are : (c : In_ok-steps) → items_of c.in_ok-steps.steps.items
-    ≡ stepped_lines (advance_in_pixels c.sized.inside.source.face.now.metrics c.sized.inside.source.ppem) c.sized.inside.source.face.now.cmap c.args.text.now
+    ≡ stepped_lines c.sized.inside.source.face.now.metrics (step_in_pixels c.sized.inside.source.face.now.metrics c.sized.inside.source.ppem) c.sized.inside.source.face.now.cmap c.args.text.now
 lines_are c = rw c.sized.invariant.1 at c.in_ok-steps.ensures.exact
 
 -- their glyphs are fitted
 fitted_then : (c : In_ok-label) → items_of c.in_ok-steps.steps.items
-    ≡ stepped_lines (advance_in_pixels c.sized.inside.source.face.now.metrics c.sized.inside.source.ppem) c.sized.inside.source.face.now.cmap c.args.text.now
+    ≡ stepped_lines c.sized.inside.source.face.now.metrics (step_in_pixels c.sized.inside.source.face.now.metrics c.sized.inside.source.ppem) c.sized.inside.source.face.now.cmap c.args.text.now
     → IsFittedText c.sized.inside.source.face.now (job_here c.sized.inside.source.face.now c.sized.inside.source.ppem c.sized.inside.source.fit c.args.text.now c.args.margin) c.in_ok-fitter.fitter (items_of c.in_ok-label.label.steps.items) c.in_ok-label.label.places.items c.in_ok-label.label.fitted.items
 fitted_then c are =
-    fitted_text c.sized.inside.source.face.now (job_here c.sized.inside.source.face.now c.sized.inside.source.ppem c.sized.inside.source.fit c.args.text.now c.args.margin) c.in_ok-fitter.fitter (advance_in_pixels c.sized.inside.source.face.now.metrics c.sized.inside.source.ppem)
+    fitted_text c.sized.inside.source.face.now (job_here c.sized.inside.source.face.now c.sized.inside.source.ppem c.sized.inside.source.fit c.args.text.now c.args.margin) c.in_ok-fitter.fitter (step_in_pixels c.sized.inside.source.face.now.metrics c.sized.inside.source.ppem)
     (items_of c.in_ok-steps.steps.items) (items_of c.in_ok-label.label.steps.items) c.in_ok-label.label.places.items c.in_ok-label.label.fitted.items
     are c.in_ok-label.ensures.fitted
 
 -- the same glyphs, with other steps
 same_glyphs : (c : In_ok-label) → items_of c.in_ok-steps.steps.items
-    ≡ stepped_lines (advance_in_pixels c.sized.inside.source.face.now.metrics c.sized.inside.source.ppem) c.sized.inside.source.face.now.cmap c.args.text.now
+    ≡ stepped_lines c.sized.inside.source.face.now.metrics (step_in_pixels c.sized.inside.source.face.now.metrics c.sized.inside.source.ppem) c.sized.inside.source.face.now.cmap c.args.text.now
     → map (λ (g : ℕ × ℕ). g.0) (all_of c.in_ok-label.label.steps.items) ≡ map (λ (g : ℕ × ℕ). g.0) (all_of c.in_ok-steps.steps.items)
 same_glyphs c are =
     let first : List (ℕ × ℕ) → List ℕ = map (λ (g : ℕ × ℕ). g.0) in
-    let old = text_glyphs_are c.sized.inside.source.face.now (job_here c.sized.inside.source.face.now c.sized.inside.source.ppem c.sized.inside.source.fit c.args.text.now c.args.margin) (advance_in_pixels c.sized.inside.source.face.now.metrics c.sized.inside.source.ppem) (items_of c.in_ok-steps.steps.items) are in
+    let old = text_glyphs_are c.sized.inside.source.face.now (job_here c.sized.inside.source.face.now c.sized.inside.source.ppem c.sized.inside.source.fit c.args.text.now c.args.margin) (step_in_pixels c.sized.inside.source.face.now.metrics c.sized.inside.source.ppem) (items_of c.in_ok-steps.steps.items) are in
     ap first (sym (lists_joined c.in_ok-label.label.steps.items)) ∙ (fitted_then c are).glyphs ∙ sym old ∙ ap first (lists_joined c.in_ok-steps.steps.items)
 
 few_glyphs : (c : In_ok-label) → items_of c.in_ok-steps.steps.items
-    ≡ stepped_lines (advance_in_pixels c.sized.inside.source.face.now.metrics c.sized.inside.source.ppem) c.sized.inside.source.face.now.cmap c.args.text.now
+    ≡ stepped_lines c.sized.inside.source.face.now.metrics (step_in_pixels c.sized.inside.source.face.now.metrics c.sized.inside.source.ppem) c.sized.inside.source.face.now.cmap c.args.text.now
     → length (all_of c.in_ok-label.label.steps.items) ≤ text_limit
 few_glyphs c are =
     let first : ℕ × ℕ → ℕ = λ g. g.0 in
@@ -77,7 +78,7 @@ few_glyphs c are =
     rw same c.in_ok-steps.ensures.few
 
 as_many_lines : (c : In_ok-label) → items_of c.in_ok-steps.steps.items
-    ≡ stepped_lines (advance_in_pixels c.sized.inside.source.face.now.metrics c.sized.inside.source.ppem) c.sized.inside.source.face.now.cmap c.args.text.now
+    ≡ stepped_lines c.sized.inside.source.face.now.metrics (step_in_pixels c.sized.inside.source.face.now.metrics c.sized.inside.source.ppem) c.sized.inside.source.face.now.cmap c.args.text.now
     → length c.in_ok-label.label.steps.items ≡ length c.in_ok-steps.steps.items
 as_many_lines c are =
     let items : Vec (ℕ × ℕ) Global → List (ℕ × ℕ) = λ v. v.items in
@@ -107,11 +108,11 @@ joint_then c = let joined = line_then c in ap (λ (l : Placement). l.glyphs) joi
 
 -- the label by the outlines of its glyphs
 outlined_then : (c : In_ok-lines) → items_of c.in_ok-steps.steps.items
-    ≡ stepped_lines (advance_in_pixels c.sized.inside.source.face.now.metrics c.sized.inside.source.ppem) c.sized.inside.source.face.now.cmap c.args.text.now
+    ≡ stepped_lines c.sized.inside.source.face.now.metrics (step_in_pixels c.sized.inside.source.face.now.metrics c.sized.inside.source.ppem) c.sized.inside.source.face.now.cmap c.args.text.now
     → IsFittedText c.sized.inside.source.face.now (job_here c.sized.inside.source.face.now c.sized.inside.source.ppem c.sized.inside.source.fit c.args.text.now c.args.margin) c.in_ok-fitter.fitter (items_of c.in_ok-label.label.steps.items) c.in_ok-label.label.places.items c.in_ok-label.label.fitted.items
     → IsOutlinedLabel c.sized.inside.source.face.now (job_here c.sized.inside.source.face.now c.sized.inside.source.ppem c.sized.inside.source.fit c.args.text.now c.args.margin) c.args.align c.in_ok-fitter.fitter (placements_of c.in_ok-lines.lines.items) c.in_ok-label.label.fitted.items c.work-left.result
 outlined_then c are f =
-    let gs = text_glyphs_are c.sized.inside.source.face.now (job_here c.sized.inside.source.face.now c.sized.inside.source.ppem c.sized.inside.source.fit c.args.text.now c.args.margin) (advance_in_pixels c.sized.inside.source.face.now.metrics c.sized.inside.source.ppem) (items_of c.in_ok-steps.steps.items) are in
+    let gs = text_glyphs_are c.sized.inside.source.face.now (job_here c.sized.inside.source.face.now c.sized.inside.source.ppem c.sized.inside.source.fit c.args.text.now c.args.margin) (step_in_pixels c.sized.inside.source.face.now.metrics c.sized.inside.source.ppem) (items_of c.in_ok-steps.steps.items) are in
     let laid = rw (c.metrics-metrics.ensures, ← c.in_ok-lines.ensures.lines) at c.in_ok-laid.ensures in
     record {
       passes = rw (← c.sized.view_is) at c.requires.tested;
@@ -172,7 +173,7 @@ returns-in_err-label-clause-stops c =
     let passes = rw (← c.sized.view_is) at c.requires.tested in
     let bounded = rw (← c.sized.view_is) at c.requires.bounded in
     let all = goal.at.returns-in_err-label-clause-stops c in
-    let gs = text_glyphs_are z.face a (advance_in_pixels z.face.metrics z.ppem) (items_of c.in_ok-steps.steps.items) (lines_are all.In_ok-steps) in
+    let gs = text_glyphs_are z.face a (step_in_pixels z.face.metrics z.ppem) (items_of c.in_ok-steps.steps.items) (lines_are all.In_ok-steps) in
     let fails = rw gs at c.in_err-label.ensures.stops in
     let p = err_from_is_err_and c.from_residual-in_err-label.result c.from_residual-in_err-label.ensures.1 in
     rw (p.1, p.2, ← c.sized.view_is) (outlines_stop_label z.face a c.args.align c.in_ok-fitter.fitter c.in_err-label.field-0.0 passes bounded
@@ -183,7 +184,7 @@ returns-in_err-label-clause-defects c =
     let z : SizedFace = record { face = c.sized.inside.source.face.now; ppem = c.sized.inside.source.ppem; fit = c.sized.inside.source.fit } in
     let a = job_by z c.args.text.now c.args.margin in
     let all = goal.at.returns-in_err-label-clause-defects c in
-    let gs = text_glyphs_are z.face a (advance_in_pixels z.face.metrics z.ppem) (items_of c.in_ok-steps.steps.items) (lines_are all.In_ok-steps) in
+    let gs = text_glyphs_are z.face a (step_in_pixels z.face.metrics z.ppem) (items_of c.in_ok-steps.steps.items) (lines_are all.In_ok-steps) in
     let fails = rw gs at c.in_err-label.ensures.stops in
     let p = err_from_is_err_and c.from_residual-in_err-label.result c.from_residual-in_err-label.ensures.1 in
     rw (p.1, p.2, ← c.sized.view_is) (outlines_tell_defect z.face a c.in_ok-fitter.fitter (label_glyphs z.face.cmap c.args.text.now)
@@ -198,7 +199,7 @@ returns-in_err-laid-clause-stops c =
     let all = goal.at.returns-in_err-laid-clause-stops c in
     let s = c.in_ok-fitter.fitter in
     let are = lines_are all.In_ok-steps in
-    let gs = text_glyphs_are z.face a (advance_in_pixels z.face.metrics z.ppem) (items_of c.in_ok-steps.steps.items) are in
+    let gs = text_glyphs_are z.face a (step_in_pixels z.face.metrics z.ppem) (items_of c.in_ok-steps.steps.items) are in
     let f = fitted_then all.In_ok-label are in
     let fails = rw (c.metrics-metrics.ensures, f.steps) at c.in_err-laid.ensures in
     let points = rw gs at c.in_ok-label.ensures.points in
@@ -337,7 +338,7 @@ joint_line-requires c =
 
 -- the fitter that is given back is the one before the label
 maker_then : (c : After-give_back) → items_of c.in_ok-steps.steps.items
-    ≡ stepped_lines (advance_in_pixels c.sized.inside.source.face.now.metrics c.sized.inside.source.ppem) c.sized.inside.source.face.now.cmap c.args.text.now
+    ≡ stepped_lines c.sized.inside.source.face.now.metrics (step_in_pixels c.sized.inside.source.face.now.metrics c.sized.inside.source.ppem) c.sized.inside.source.face.now.cmap c.args.text.now
     → IsMaker c.sized.inside.source.face.now c.sized.inside.source.ppem c.sized.inside.source.fit c.give_back.new.self
 maker_then c are =
     let s = c.in_ok-fitter.fitter in

@@ -1,4 +1,4 @@
-use Rattle.std.proofs.Common.{◌≡◌, ◌∙◌, refl, sym, ap, ℕ, ◌+◌, ◌<◌, ◌≤◌, IsUtf8, List, [], ◌∷◌, ◌++◌, append-nil, chars, length, map, Vec, Global, Bor, vec_len, arith}
+use Rattle.std.proofs.Common.{◌≡◌, ◌∙◌, refl, ap, ℕ, ◌+◌, ◌<◌, ◌≤◌, List, [], ◌∷◌, ◌++◌, append-nil, chars, length, map, Vec, Global, Bor, vec_len, arith}
 use Rattle.std.proofs.lemmas.Iterator.Consumers.{YieldsList-end}
 use Rattle.std.proofs.lemmas.Iterator.Splits.{YieldsList-from_lines}
 use Rattle.std.proofs.lemmas.Grind.{flat_map-append}
@@ -13,7 +13,9 @@ use Rattle.tt_cmap.proofs.UnitLaws.{units-are-few}
 use Rattle.tt_cmap.specs.Maps.{glyph_of_unit, has_pairs, units_by}
 use Rattle.tt_metrics.specs.Metrics.{glyphs_of}
 use Rattle.tt_line.specs.Labels.{label_lines, unmarked}
-use Rattle.tt_line.specs.Layout.{advance_in_pixels, text_glyphs}
+use Rattle.tt_line.specs.Layout.{text_glyphs}
+use Rattle.tt_line.specs.Steps.{linear_line, step_in_pixels}
+use Rattle.tt_line.proofs.Stepped.{length-stepped}
 use Rattle.std.proofs.lemmas.Str.{chars-nil}
 use Rattle.tt_line.proofs.LabelLines.{none_made, some_made}
 use Rattle.tt_line.proofs.LabelTexts.{first_counts, unmarked_counts}
@@ -53,13 +55,12 @@ loop-line-preserved c =
     let steps = c.in-Some.ensures.steps in
     let parts = first_counts (lines_rest at.line-iterator) line (lines_rest c.next.new.self) so_far.utf8 steps.0.0 steps.0.2 in
     let pushed = c.in_ok-push.ensures.items in
-    let f : ℕ → ℕ × ℕ = λ g. (g, advance_in_pixels c.args.known.now.metrics c.args.known.now.ppem g) in
-    let F : List ℕ → List (ℕ × ℕ) = λ line. map f (text_glyphs m line) in
+    let F : List ℕ → List (ℕ × ℕ) = λ line. linear_line c.args.known.now.metrics c.args.known.now.ppem (text_glyphs m line) in
     let its : Vec (ℕ × ℕ) Global → List (ℕ × ℕ) = λ v. v.items in
     let one : v.items ≡ F line = rw so_far.same at c.in_ok-steps.ensures.exact in
     let within : All (λ (p : ℕ × ℕ). p.0 < glyphs_of c.args.known.now.metrics) v.items = rw so_far.same at c.in_ok-steps.ensures.known in
     let units = units_by m (chars line) in
-    let many : length v.items ≡ length units = ap length one ∙ length-map (text_glyphs m line) f ∙ length-map units (glyph_of_unit m) in
+    let many : length v.items ≡ length units = ap length one ∙ length-stepped c.args.known.now.metrics (step_in_pixels c.args.known.now.metrics c.args.known.now.ppem) (text_glyphs m line) ∙ length-map units (glyph_of_unit m) in
     let few = units-are-few (has_pairs m) (chars line) in
     let long : length (flat_map its (at.lines.items ++ v ∷ [])) ≡ length (flat_map its at.lines.items) + length v.items =
     ap length (flat_map-append its at.lines.items (v ∷ [])) ∙ length-append (flat_map its at.lines.items) (v.items ++ [])
@@ -78,8 +79,7 @@ unfolding label_lines
 returns-clause-exact c =
     let at = c.loop-line in
     let m = c.args.known.now.cmap in
-    let f : ℕ → ℕ × ℕ = λ g. (g, advance_in_pixels c.args.known.now.metrics c.args.known.now.ppem g) in
-    let F : List ℕ → List (ℕ × ℕ) = λ line. map f (text_glyphs m line) in
+    let F : List ℕ → List (ℕ × ℕ) = λ line. linear_line c.args.known.now.metrics c.args.known.now.ppem (text_glyphs m line) in
     let its : Vec (ℕ × ℕ) Global → List (ℕ × ℕ) = λ v. v.items in
     let text = unmarked c.args.text.now in
     let rest : lines_rest c.into_iter-line-iterator.result ≡ text =

@@ -2,7 +2,8 @@ use Rattle.std.proofs.Common.{◌≡◌, ◌+◌, ◌<◌, ◌≤◌, IsUtf8, ch
 use Rattle.std.specs.List.{flat_map}
 use Rattle.std.specs.Prelude.{All}
 use Rattle.std.specs.Str.Iter.{lines_rest}
-use Rattle.tt_line.specs.Layout.{advance_in_pixels, text_glyphs}
+use Rattle.tt_line.specs.Layout.{text_glyphs}
+use Rattle.tt_line.specs.Steps.{linear_line}
 use Rattle.tt_metrics.specs.Metrics.{glyphs_of}
 use Rattle.tt_line.proofs.lines.label_steps.Given as goal
 
@@ -10,7 +11,7 @@ use Rattle.tt_line.proofs.lines.label_steps.Given as goal
 abbrev pub invariant-loop-line : goal.invariant-loop-line
 invariant-loop-line l = record {
   steps : map (λ v. v.items) l.lines.items
-      ≡ map (λ line. map (λ g. (g, advance_in_pixels l.fn.known.metrics l.fn.known.ppem g)) (text_glyphs l.fn.known.cmap line)) (map (λ x. x.now) l.yielded);
+      ≡ map (λ line. linear_line l.fn.known.metrics l.fn.known.ppem (text_glyphs l.fn.known.cmap line)) (map (λ x. x.now) l.yielded);
   same : l.known ≡ l.fn.known;
   known : All (λ v. All (λ p. p.0 < glyphs_of l.fn.known.metrics) v.items) l.lines.items;
   utf8 : IsUtf8 (lines_rest l.line-iterator);

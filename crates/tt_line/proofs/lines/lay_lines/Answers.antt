@@ -1,9 +1,9 @@
-use Rattle.std.proofs.Common.{◌≡◌, ◌∙◌, refl, sym, ap, ℕ, ◌-◌, List, length, map, Vec, Global, SFits, w32, of_z, to_z, Ok, Err, arith}
+use Rattle.std.proofs.Common.{◌≡◌, ◌∙◌, sym, ap, ℕ, ◌-◌, List, length, map, Vec, Global, SFits, w32, Ok, arith}
 use Rattle.std.proofs.lemmas.Int.{ints, to_z-of_z}
 use Rattle.std.proofs.lemmas.List.{length-map}
 use Rattle.std.proofs.lemmas.Result.{err_from_is_err_and}
 use Rattle.tt_line.specs.Labels.{line_step_of, lines_placed, widest}
-use Rattle.tt_line.specs.Layout.{depth_of, rise_of}
+use Rattle.tt_line.specs.Layout.{rise_of}
 use Rattle.tt_line.specs.Outcome.{placement_of}
 use Rattle.tt_line.proofs.LabelLines.{extent_at, placement_made, placement_refused}
 use Rattle.tt_line.proofs.lines.lay_lines.Goals.{After-label_extent}

@@ -1,5 +1,4 @@
 use Rattle.std.proofs.Common.{◌∙◌, drop, sym}
-use Rattle.std.specs.Str.Pattern.{HasCharAt}
 use Rattle.tt_line.proofs.LabelTexts.{after_mark, the_mark_at, without_mark}
 use Rattle.tt_line.proofs.lines.unmarked.Goals as goal
 

@@ -18,4 +18,4 @@ returns-in_ok-clone-in-Raster-clause-cached c = λ s one own.
       dropouts = rw c.in_ok-new-in-Raster-2.ensures.ok found;
       crossings = c.tape_crossings-crossings.ensures;
     }))
-    (rw is (record { step = refl; chords = refl; counts = c.in-Some.is; unfitted = refl }))) own
+    (rw is (record { advance = refl; chords = refl; counts = c.in-Some.is; unfitted = refl }))) own

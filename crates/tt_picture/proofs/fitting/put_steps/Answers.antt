@@ -1,8 +1,12 @@
-use Rattle.std.proofs.Common.{◌≡◌, ◌∙◌, ◌<◌, ◌≤◌, ◌-◌, ℕ, List, add-one, ap, get_or, length, map, refl, sym, arith}
+use Rattle.std.proofs.Common.{◌≡◌, ◌∙◌, ◌+◌, ◌<◌, ◌≤◌, ◌-◌, ℕ, ℤ, List, ap, ap₂, drop, get_or, length, map, SFits, w32, of_z, to_z, refl, sym, arith, rules}
+use Rattle.std.proofs.lemmas.Int.{to_z-of_z}
 use Rattle.std.specs.List.{slice_index}
-use Rattle.std.proofs.lemmas.List.{append-nil, drop_all, get_or_default, length-map, take_all}
+use Rattle.std.proofs.lemmas.List.{get_or_default, length-map}
 use Rattle.tt_picture.specs.Fitted.{FittedGlyph, fitted_numbers}
-use Rattle.tt_picture.proofs.Outlines.{numbers_kept, one_more_step, same_number, step_at}
+use Rattle.tt_line.specs.Steps.{kerning_before}
+use Rattle.tt_line.proofs.Kerned.{at_end, at_start, drop-numbers, one_kerned, step_here}
+use Rattle.tt_picture.specs.Steps.{step_by}
+use Rattle.tt_picture.proofs.Outlines.{advance_at, numbers_kept, same_number}
 use Rattle.tt_picture.proofs.Reframed.{seated}
 use Rattle.tt_picture.proofs.fitting.put_steps.Goals.{After-from-place}
 use Rattle.tt_picture.proofs.fitting.put_steps.Goals as goal
@@ -52,6 +56,7 @@ bounds-fitted-place c =
     omega (arith, below, many)
 
 pub loop-i-preserved : goal.loop-i-preserved
+unfolding step_here
 loop-i-preserved c =
     let gs = c.args.line.now in
     let line = c.loop-i.line in
@@ -66,18 +71,35 @@ loop-i-preserved c =
     let inside : place < length (fitted_numbers c.args.fitted.now) = seat.1 in
     let as_long = length-map c.args.fitted.now (λ (g : FittedGlyph). g.number) in
     let within : place < length c.args.fitted.now = omega (arith, inside, as_long) in
+    let m = c.args.metrics.now in
+    let numbers = c.loop-i.invariant.numbers in
+    let read : (get_or line i (0, 0)).0 ≡ n = same_number line gs i numbers under below in
+    let rest : map (λ (g : ℕ × ℕ). g.0) (drop (i + 1) line) ≡ map (λ (g : ℕ × ℕ). g.0) (drop (i + 1) gs) =
+    sym (drop-numbers (i + 1) line) ∙ ap (λ (ns : List ℕ). drop (i + 1) ns) numbers ∙ drop-numbers (i + 1) gs in
+    let kerning : c.kerning_at-kerning.result ≡ kerning_before m n (map (λ (g : ℕ × ℕ). g.0) (drop (i + 1) gs)) =
+    c.kerning_at-kerning.ensures.exact ∙ ap₂ (λ (k : ℕ) (ks : List ℕ). kerning_before m k ks) read rest in
+    let fits : SFits w32 c.kerning_at-kerning.result = search rules in
+    let same : to_z w32 (of_z w32 c.kerning_at-kerning.result) ≡ c.kerning_at-kerning.result = simp to_z-of_z refl in
+    let wide : SFits w32 c.advance_left.result = search rules in
+    let alike : to_z w32 (of_z w32 c.advance_left.result) ≡ c.advance_left.result = simp to_z-of_z refl in
     record {
-      numbers = numbers_kept line i c.step.result under ∙ c.loop-i.invariant.numbers;
-      steps = λ step steps.
-          let its : c.step.result ≡ step n = c.step.ensures
-          ∙ step_at step c.args.fitted.now place n c.index-fitted-place.result steps within found c.index-fitted-place.is in
-          rw (add-one, its, c.loop-i.invariant.steps step steps) (one_more_step step gs i below);
+      numbers = numbers_kept line i c.kerned_step.result under ∙ numbers;
+      steps = λ advance advances.
+          let its : c.advance_left.result ≡ advance n = c.advance_left.ensures
+          ∙ advance_at advance c.args.fitted.now place n c.index-fitted-place.result advances within found c.index-fitted-place.is in
+          let step : c.kerned_step.result ≡ step_here m (step_by m c.args.ppem advance) i gs = rw (same, alike, its, kerning) at c.kerned_step.ensures in
+          rw (read, step, c.loop-i.invariant.steps advance advances) (one_kerned m (step_by m c.args.ppem advance) i gs below);
     }
 
+pub loop-i-init : goal.loop-i-init
+loop-i-init c = record {
+  numbers = refl;
+  steps = λ advance advances. sym (at_start c.args.metrics.now (step_by c.args.metrics.now c.args.ppem advance) c.args.line.now);
+}
+
 pub returns : goal.returns
-returns c = λ step steps.
+returns c = λ advance advances.
     let gs = c.args.line.now in
     let many = as_many c.loop-i.line gs c.loop-i.invariant.numbers in
     let over : length gs ≤ c.loop-i.i = omega (arith, c.loop-i-test.false, many) in
-    let none = append-nil {A = ℕ × ℕ} (map (λ (g : ℕ × ℕ). (g.0, step g.0)) gs) in
-    c.loop-i.invariant.steps step steps ∙ rw (take_all c.loop-i.i gs over, drop_all c.loop-i.i gs over, none) refl
+    c.loop-i.invariant.steps advance advances ∙ at_end c.args.metrics.now (step_by c.args.metrics.now c.args.ppem advance) c.loop-i.i gs over

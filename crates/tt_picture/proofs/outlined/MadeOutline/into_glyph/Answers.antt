@@ -14,7 +14,7 @@ use Rattle.tt_picture.specs.Glyphs.{IsTape, edges_of}
 use Rattle.tt_picture.specs.Shapes.{chords_with, contours_of, edges_at}
 use Rattle.tt_picture.specs.Views.{body_view}
 use Rattle.tt_picture.specs.declared.cutting.GlyphFacts.{GlyphFacts}
-use Rattle.tt_picture.proofs.CutGlyphs.{as_cached, body_has, body_shows, cut_crosses, made_boxed, made_chords, made_edges, made_lines, made_step, tape_has, told_where}
+use Rattle.tt_picture.proofs.CutGlyphs.{as_cached, body_has, body_shows, cut_crosses, made_boxed, made_chords, made_edges, made_lines, made_advance, tape_has, told_where}
 use Rattle.tt_picture.proofs.outlined.MadeOutline.into_glyph.Goals.{After-of}
 use Rattle.tt_picture.proofs.outlined.MadeOutline.into_glyph.Goals as goal
 
@@ -35,7 +35,7 @@ returns-clause-crossings c =
     let es = c.in_ok-made.made.list.edges in
     let lines = contours_at es c.in_ok-made.made.ends.items in
     let b = body_view c.in_ok-body.body in
-    let facts : GlyphFacts = record { number = c.args.number; step = c.step-step.result; chords = c.in_ok-made.made.chords; counts = i.counts; unfitted = i.outline.unfitted } in
+    let facts : GlyphFacts = record { number = c.args.number; advance_left = c.advance_left-advance_left.result; chords = c.in_ok-made.made.chords; counts = i.counts; unfitted = i.outline.unfitted } in
     let cut : IsCutBody es lines i.filled facts b = rw (c.in_ok-tape.ensures, c.deref.ensures.value) at c.in_ok-body.ensures.body.0 in
     let crosses = cut_crosses es lines i.filled c.filled-filled.result facts b c.filled-filled.ensures.tape cut in
     rw (← c.self.view_is, ← c.in_ok-made.ensures.exact) crosses
@@ -54,7 +54,7 @@ returns-clause-valid c = λ cached s o outlined made.
     let edged : es ≡ edges_at way 0 o = made_edges m es own of_outline.exact in
     let lined : IfSome i.filled (λ rules. lines ≡ contours_of way 0 o) = made_lines m lines own of_outline.contours in
     let b = body_view c.in_ok-body.body in
-    let facts : GlyphFacts = record { number = n; step = c.step-step.result; chords = c.in_ok-made.made.chords; counts = i.counts; unfitted = i.outline.unfitted } in
+    let facts : GlyphFacts = record { number = n; advance_left = c.advance_left-advance_left.result; chords = c.in_ok-made.made.chords; counts = i.counts; unfitted = i.outline.unfitted } in
     let cut : IsCutBody es lines i.filled facts b = rw (c.in_ok-tape.ensures, c.deref.ensures.value) at c.in_ok-body.ensures.body.0 in
     let filled = c.filled-filled.result in
     let told = c.filled-filled.ensures in
@@ -66,9 +66,9 @@ returns-clause-valid c = λ cached s o outlined made.
       body = body_has es (edges_at way 0 o) lines i.filled facts b edged cut;
       left = c.left-left.ensures.exact;
       tape = λ off. c.in_ok-body.ensures.plain (own.plain off);
-      step = made_step m c.step-step.result own c.step-step.ensures.exact;
+      advance = made_advance m c.advance_left-advance_left.result own c.advance_left-advance_left.ensures.exact;
       chords = made_chords m c.in_ok-made.made.chords own of_outline.chords;
-      kept = body_shows cached s n o m es lines facts b own of_outline.exact of_outline.contours c.step-step.ensures.exact of_outline.chords cut;
+      kept = body_shows cached s n o m es lines facts b own of_outline.exact of_outline.contours c.advance_left-advance_left.ensures.exact of_outline.chords cut;
       filled = λ is. told.tape is ∙ own.filled;
       of_tape = told.some;
       boxed = told_where filled i.filled (IsTape b) Fits Fits told.some told.tape own.fits (λ rules is fits. fits);
@@ -84,7 +84,7 @@ returns-clause-valid c = λ cached s o outlined made.
 as_made : (c : After-of) → (cached : Bool) (s : Fitter) (o : Outline) → IsMadeOutline cached s c.args.number o c.args.self
     → (k : KeptGlyph)
     → IsCutOf c.in_ok-made.made.list.edges (contours_at c.in_ok-made.made.list.edges c.in_ok-made.made.ends.items) c.self.inside.filled k
-    → HasFacts (record { number = c.args.number; step = c.step-step.result; chords = c.in_ok-made.made.chords; counts = c.self.inside.counts; unfitted = c.self.inside.outline.unfitted }) k
+    → HasFacts (record { number = c.args.number; advance_left = c.advance_left-advance_left.result; chords = c.in_ok-made.made.chords; counts = c.self.inside.counts; unfitted = c.self.inside.outline.unfitted }) k
     → IsCached s c.args.number k
 as_made c cached s o made k cut has =
     let i = c.self.inside in
@@ -93,7 +93,7 @@ as_made c cached s o made k cut has =
     let es = c.in_ok-made.made.list.edges in
     let of_outline = c.in_ok-made.ensures in
     as_cached cached s c.args.number o m es (contours_at es c.in_ok-made.made.ends.items) _ k refl refl own of_outline.exact
-    of_outline.contours c.step-step.ensures.exact of_outline.chords cut has
+    of_outline.contours c.advance_left-advance_left.ensures.exact of_outline.chords cut has
 
 pub returns-in_err-body-clause-cached : goal.returns-in_err-body-clause-cached
 returns-in_err-body-clause-cached c = λ cached s o made before.

@@ -1,4 +1,4 @@
-use Rattle.std.proofs.Common.{◌≡◌, ◌∙◌, sym, ap, get_or, All, ℕ, ◌+◌, ◌<◌, List, length, map, slice_index, slice_index_or, pos, SFits, w64, Option, arith, rules}
+use Rattle.std.proofs.Common.{◌≡◌, ◌∙◌, sym, ap, get_or, All, ℕ, ℤ, ◌+◌, ◌<◌, List, length, map, slice_index, slice_index_or, pos, SFits, w32, w64, of_z, to_z, refl, Option, arith, rules}
 use Rattle.std.proofs.lemmas.Int.{ints, to_z-of_z}
 use Rattle.std.proofs.lemmas.List.{get_or-map, length-map}
 use Rattle.tt_scan_ink.specs.declared.ink.GlyphInk.{GlyphInk}
@@ -18,21 +18,24 @@ box_found inked boxes gs i n d are below is =
     rw are (get_or-map inked (numbers_of gs) i 0 d here ∙ ap inked is)
 
 -- the step at a place
-step_found : (made : Glyph → ℕ) (step : ℕ → ℕ) (gs : List Glyph) (i n : ℕ) (g : Glyph) → All (λ g. made g ≡ step g.number) gs
-    → i < length gs → slice_index (numbers_of gs) i ≡ n → g ≡ get_or gs i g → made g ≡ step n
-step_found made step gs i n g steps below number is =
-    let own : made g ≡ step g.number = rw (← is) at (steps i g below) in
-    own ∙ ap step (ap (λ (t : Glyph). t.number) is ∙ sym (get_or-map (λ (t : Glyph). t.number) gs i g 0 below) ∙ number)
+step_found : (made : Glyph → ℤ → ℕ) (step : ℕ → ℤ → ℕ) (k : ℤ) (gs : List Glyph) (i n : ℕ) (g : Glyph)
+    → All (λ g. (k : ℤ) → made g k ≡ step g.number k) gs
+    → i < length gs → slice_index (numbers_of gs) i ≡ n → g ≡ get_or gs i g → made g k ≡ step n k
+step_found made step k gs i n g steps below number is =
+    let own : made g k ≡ step g.number k = (rw (← is) at (steps i g below)) k in
+    own ∙ ap (λ (n : ℕ). step n k) (ap (λ (t : Glyph). t.number) is ∙ sym (get_or-map (λ (t : Glyph). t.number) gs i g 0 below) ∙ number)
 
 pub returns : goal.returns
 returns c = λ step inked steps same.
     let gs = c.args.inked.now.glyphs.made.items in
     let z = c.args.self.now in
-    let found : (c.match-find.step.0 ≡ step c.args.placed.0) × (c.match-find.step.1 ≡ inked c.args.placed.0) =
+    let narrow : SFits w32 c.args.kerning = c.ranges.kerning in
+    let same_kerning : to_z w32 (of_z w32 c.args.kerning) ≡ c.args.kerning = simp to_z-of_z refl in
+    let found : (c.match-find.step.0 ≡ step c.args.placed.0 c.args.kerning) × (c.match-find.step.1 ≡ inked c.args.placed.0) =
     elim c.match-find.branch [
       | in-Some w ↦
           let at = w.in-Some.ensures.found in (
-            ap (λ (p : ℕ × Option GlyphInk). p.0) w.step-is ∙ (w.step_of.ensures ∙ step_found (made_step z.face.metrics z.ppem z.fit) step gs w.in-Some.i
+            ap (λ (p : ℕ × Option GlyphInk). p.0) w.step-is ∙ (rw same_kerning at w.step_of.ensures ∙ step_found (made_step z.face.metrics z.ppem z.fit) step c.args.kerning gs w.in-Some.i
                 c.args.placed.0 w.index.result.now steps at.0 at.1 w.index.ensures),
             ap (λ (p : ℕ × Option GlyphInk). p.1) w.step-is ∙ (w.index-in-Some.ensures
                 ∙ box_found inked c.args.inked.now.inks.items gs w.in-Some.i c.args.placed.0 w.index-in-Some.result.now same at.0 at.1),

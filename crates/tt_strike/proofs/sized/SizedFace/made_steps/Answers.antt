@@ -69,7 +69,7 @@ returns-clause-exact c =
     rw (← c.self.view_is) (steps_by_outlines z.face a s o.made.0 c.in_ok-outlined.outlined.steps.items bounded
     c.in_ok-fitter.ensures.exact
     (outlines_pass s a (text_glyphs z.face.cmap c.args.text.now) o.made.0 c.in_ok-outlined.ensures.points o.made.1)
-    o.glyphs o.steps)
+    o.whole)
 
 -- the glyphs are made, whatever their pens are
 pub returns-clause-defects : goal.returns-clause-defects

@@ -1,15 +1,22 @@
-use Rattle.std.proofs.Common.{refl}
+use Rattle.std.proofs.Common.{◌≡◌, SFits, w32, of_z, to_z, refl, rules}
+use Rattle.std.proofs.lemmas.Int.{to_z-of_z}
 use Rattle.tt_strike.proofs.sized.SizedFace.step_of.Goals as goal
 
 pub returns-then-is_bounded : goal.returns-then-is_bounded
 returns-then-is_bounded c =
     let bounded = rw (c.is_bounded.ensures, c.fit.ensures) at c.if-is_bounded.true in
-    rw bounded c.step.ensures
+    let fits : SFits w32 c.args.kerning = c.ranges.kerning in
+    let same : to_z w32 (of_z w32 c.args.kerning) ≡ c.args.kerning = simp to_z-of_z refl in
+    let wide : SFits w32 c.advance_left.result = search rules in
+    let alike : to_z w32 (of_z w32 c.advance_left.result) ≡ c.advance_left.result = simp to_z-of_z refl in
+    rw bounded (rw (same, alike, c.metrics-metrics.ensures, c.face.ensures, c.ppem.ensures.exact, c.advance_left.ensures) at c.kerned_step.ensures)
 
 pub returns : goal.returns
 returns c =
     let other = rw (c.is_bounded.ensures, c.fit.ensures) at c.if-is_bounded.false in
-    rw (other, c.advance.ensures.exact, c.metrics.ensures, c.face.ensures, c.ppem.ensures.exact, c.number.ensures) refl
+    let fits : SFits w32 c.args.kerning = c.ranges.kerning in
+    let same : to_z w32 (of_z w32 c.args.kerning) ≡ c.args.kerning = simp to_z-of_z refl in
+    rw other (rw (same, c.metrics-metrics.ensures, c.face.ensures, c.ppem.ensures.exact, c.number.ensures) at c.step.ensures.exact)
 
-pub advance-requires-clause-known : goal.advance-requires-clause-known
-advance-requires-clause-known c = rw (c.metrics.ensures, c.face.ensures, c.number.ensures) c.requires.known
+pub step-requires-clause-known : goal.step-requires-clause-known
+step-requires-clause-known c = rw (c.metrics-metrics.ensures, c.face.ensures, c.number.ensures) c.requires.known

@@ -10,15 +10,18 @@ use Rattle.tt_metrics.specs.Metrics.{glyphs_of}
 use Rattle.tt_picture.specs.Cached.{is_there}
 use Rattle.tt_picture.specs.Distinct.{distinct}
 use Rattle.tt_picture.specs.Fitted.{AreFitted, fitted_numbers}
-use Rattle.tt_picture.specs.Steps.{glyph_step}
-use Rattle.tt_picture.proofs.Among.{all_among, of_same_glyphs}
+use Rattle.tt_picture.specs.Steps.{step_by}
+use Rattle.tt_line.specs.Steps.{stepped}
+use Rattle.tt_line.proofs.Stepped.{firsts, known_alike, length-stepped}
+use Rattle.tt_strike.specs.Picture.{advance_with, made_line}
+use Rattle.tt_picture.proofs.Among.{all_among}
 use Rattle.tt_picture.proofs.Cached.{cached_stays}
 use Rattle.tt_picture.proofs.Listing.{distinct_differ}
-use Rattle.tt_picture.proofs.Outlines.{steps_are}
+use Rattle.tt_picture.proofs.Outlines.{advances_are}
 use Rattle.tt_strike.specs.Work.{line_fitter, points_in, started, work_tested}
 use Rattle.tt_strike.proofs.Placed.{of-job}
 use Rattle.tt_strike.proofs.Setting.{started_alike}
-use Rattle.tt_strike.proofs.Stepped.{firsts_stay, outline_stops_outlines, points_stop_outlines, stepped, steps_put}
+use Rattle.tt_strike.proofs.Stepped.{outline_stops_outlines, points_stop_outlines}
 use Rattle.tt_strike.proofs.source.FitterSource.outlined.Goals.{After-put_steps, In_ok-charge_points, In_ok-fitted, In_ok-met}
 use Rattle.tt_strike.proofs.source.FitterSource.outlined.Goals as goal
 
@@ -62,21 +65,25 @@ fitted_numbers_are : (c : In_ok-fitted)
     → fitted_numbers c.in_ok-fitted.fitted.items ≡ glyphs_of_text c.args.self.now.face.now.cmap c.args.text.now
 fitted_numbers_are c are = rw (c.deref-3.ensures.value, are) at c.in_ok-fitted.ensures.numbers
 
-abbrev step_of_text : Fitter → List ℕ → ℕ → ℕ
-step_of_text s gs g = glyph_step (line_fitter s gs g) g
-
 steps_then : (c : After-put_steps)
+    → map (λ (g : ℕ × ℕ). g.0) c.in_ok-steps.steps.items ≡ text_glyphs c.args.self.now.face.now.cmap c.args.text.now
     → AreFitted (is_there c.args.cache.now) (line_fitter c.args.fitter.now (text_glyphs c.args.self.now.face.now.cmap c.args.text.now)) c.in_ok-fitted.fitted.items
     → (with_items c.in_ok-steps.steps c.put_steps.new.line).items
-    ≡ stepped (step_of_text c.args.fitter.now (text_glyphs c.args.self.now.face.now.cmap c.args.text.now)) c.in_ok-steps.steps.items
-steps_then c fitted =
+    ≡ made_line c.args.self.now.face.now.metrics c.args.self.now.ppem c.args.fitter.now (text_glyphs c.args.self.now.face.now.cmap c.args.text.now)
+steps_then c are fitted =
+    let m = c.args.self.now.face.now.metrics in
+    let ppem = c.args.self.now.ppem in
     let gs = text_glyphs c.args.self.now.face.now.cmap c.args.text.now in
-    let step = step_of_text c.args.fitter.now gs in
+    let step = step_by m ppem (advance_with c.args.fitter.now gs) in
     let fs = c.in_ok-fitted.fitted.items in
-    let put = (rw c.deref-5.ensures.value at (c.put_steps.ensures step)) (steps_are (line_fitter c.args.fitter.now gs) fs fitted) in
+    let put = (rw (c.deref-5.ensures.value, c.metrics-2.ensures) at (c.put_steps.ensures (advance_with c.args.fitter.now gs)))
+    (advances_are (line_fitter c.args.fitter.now gs) fs fitted) in
+    let numbers : map (λ (g : ℕ × ℕ). g.0) c.deref_mut.result.now ≡ gs =
+    ap (λ (ps : List (ℕ × ℕ)). map (λ (g : ℕ × ℕ). g.0) ps) c.deref_mut.ensures.value ∙ are in
     let count : length c.put_steps.new.line ≡ c.in_ok-steps.steps.len =
-    ap length put ∙ length-map c.deref_mut.result.now _ ∙ c.deref_mut.ensures.len in
-    with_items_is c.in_ok-steps.steps c.put_steps.new.line count ∙ put ∙ ap (stepped step) c.deref_mut.ensures.value
+    ap length put ∙ length-stepped m step (map (λ (g : ℕ × ℕ). g.0) c.deref_mut.result.now)
+    ∙ length-map c.deref_mut.result.now (λ (g : ℕ × ℕ). g.0) ∙ c.deref_mut.ensures.len in
+    with_items_is c.in_ok-steps.steps c.put_steps.new.line count ∙ put ∙ ap (λ (ns : List ℕ). stepped m step ns) numbers
 
 pub fit_glyphs-requires-clause-cache : goal.fit_glyphs-requires-clause-cache
 fit_glyphs-requires-clause-cache c =
@@ -120,15 +127,17 @@ pub returns-clause-outlined : goal.returns-clause-outlined
 returns-clause-outlined c =
     let all = goal.at.returns-clause-outlined c in
     let s = c.args.fitter.now in
+    let m = c.args.self.now.face.now.metrics in
     let gs = text_glyphs c.args.self.now.face.now.cmap c.args.text.now in
-    let step = step_of_text s gs in
-    let line = c.in_ok-steps.steps.items in
+    let step = step_by m c.args.self.now.ppem (advance_with s gs) in
     let numbers = numbers_are all.In_ok-met in
     let charged = charged_is all.In_ok-charge_points numbers in
     let fitted = fitted_are all.In_ok-fitted numbers charged in
+    let line = steps_then all.After-put_steps (glyphs_are all.In_ok-met) fitted in
     record {
-      glyphs = rw (steps_then all.After-put_steps fitted) (firsts_stay step line ∙ glyphs_are all.In_ok-met);
-      steps = rw (steps_then all.After-put_steps fitted) (steps_put step line ∙ ap (map step) (glyphs_are all.In_ok-met));
+      glyphs = rw line (firsts m step gs);
+      steps = rw line refl;
+      whole = line;
       room = c.in_ok-met.ensures.room ∙ rw c.metrics.ensures at c.glyphs.ensures.exact ∙ sym c.requires.glyphs;
       places = rw (fitted_numbers_are all.In_ok-fitted numbers, ← numbers) c.in_ok-met.ensures.places;
       numbers = fitted_numbers_are all.In_ok-fitted numbers;
@@ -150,19 +159,25 @@ returns-clause-after c =
 pub returns-clause-known : goal.returns-clause-known
 returns-clause-known c =
     let all = goal.at.returns-clause-known c in
+    let m = c.args.self.now.face.now.metrics in
     let gs = text_glyphs c.args.self.now.face.now.cmap c.args.text.now in
-    let step = step_of_text c.args.fitter.now gs in
+    let step = step_by m c.args.self.now.ppem (advance_with c.args.fitter.now gs) in
     let line = c.in_ok-steps.steps.items in
     let numbers = numbers_are all.In_ok-met in
     let fitted = fitted_are all.In_ok-fitted numbers (charged_is all.In_ok-charge_points numbers) in
-    let known : All (λ (g : ℕ × ℕ). g.0 < glyphs_of c.args.self.now.face.now.metrics) line =
-    rw c.requires.known at c.in_ok-steps.ensures.known in
-    rw (steps_then all.After-put_steps fitted)
-    (of_same_glyphs (λ n. n < glyphs_of c.args.self.now.face.now.metrics) line (stepped step line) (firsts_stay step line) known)
+    let known : All (λ (g : ℕ × ℕ). g.0 < glyphs_of m) line = rw c.requires.known at c.in_ok-steps.ensures.known in
+    rw (steps_then all.After-put_steps (glyphs_are all.In_ok-met) fitted)
+    (known_alike (glyphs_of m) line (stepped m step gs) (glyphs_are all.In_ok-met ∙ sym (firsts m step gs)) known)
 
 pub returns-clause-few : goal.returns-clause-few
 returns-clause-few c =
     let all = goal.at.returns-clause-few c in
     let numbers = numbers_are all.In_ok-met in
     let fitted = fitted_are all.In_ok-fitted numbers (charged_is all.In_ok-charge_points numbers) in
-    rw (steps_then all.After-put_steps fitted, length-map) c.in_ok-steps.ensures.few
+    let m = c.args.self.now.face.now.metrics in
+    let gs = text_glyphs c.args.self.now.face.now.cmap c.args.text.now in
+    let step = step_by m c.args.self.now.ppem (advance_with c.args.fitter.now gs) in
+    let line = c.in_ok-steps.steps.items in
+    let many : length (stepped m step gs) ≡ length line = length-stepped m step gs ∙ ap length (sym (glyphs_are all.In_ok-met))
+    ∙ length-map line (λ (g : ℕ × ℕ). g.0) in
+    rw (steps_then all.After-put_steps (glyphs_are all.In_ok-met) fitted, many) c.in_ok-steps.ensures.few

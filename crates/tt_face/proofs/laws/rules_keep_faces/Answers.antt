@@ -1,0 +1,8 @@
+use Rattle.tt_face.proofs.Plain.{plain-rules-keep, rules-keep-faults}
+use Rattle.tt_face.proofs.laws.rules_keep_faces.Goals as goal
+
+pub returns-clause-plain : goal.returns-clause-plain
+returns-clause-plain c = plain-rules-keep
+
+pub returns-clause-faults : goal.returns-clause-faults
+returns-clause-faults c = rules-keep-faults

@@ -1,0 +1,37 @@
+//! How the lines of a face are laid out. OpenType, "GPOS: Glyph Positioning Table" and "kern: Kerning".
+
+ghost use Rattle.std.specs.Prelude.{◌≡◌, ◌≤◌, length};
+ghost use Rattle.tt_core.specs.Limits.{font_limit};
+ghost use Rattle.tt_face.specs.Rules.{kerning_tables, table_bytes};
+
+use tt_core::Dir;
+use tt_kern::Kerning;
+use tt_metrics::Heights;
+
+/// How the lines of a face are laid out, beside its size and its margin.
+#[derive(Clone, Copy, Debug, PartialEq, Eq)]
+pub struct LineRules {
+    /// How ascent and descent are rounded.
+    pub heights: Heights,
+    /// Whether neighbouring glyphs are kerned.
+    pub kerned: bool,
+}
+
+/// The bytes of a table, none where the font lacks the table or where it passes the end of the file (profile).
+#[tactic(auto, unfolding(crate::specs::Rules::table_bytes))]
+fn table_bytes<'a>(dir: &Dir<'a>, tag: [u8; 4]) -> &'a [u8]
+    ensures exact { result.now ≡ table_bytes dir.now tag }
+    ensures size { length result.now ≤ font_limit }
+{
+    match dir.table(tag) {
+        Ok(Some(table)) => table,
+        _ => &[],
+    }
+}
+
+/// The kerning of a font. No defect of its tables is an error.
+pub(crate) fn kerning_in<'a>(dir: &Dir<'a>) -> Kerning<'a>
+    ensures { result ≡ kerning_tables dir.now }
+{
+    Kerning::open(table_bytes(dir, *b"GPOS"), table_bytes(dir, *b"kern"))
+}

@@ -1,0 +1,14 @@
+use Rattle.std.proofs.Common.{◌≡◌, ◌-◌, ◌*◌, ◌^◌, ◌<◌, ◌≤◌}
+use Rattle.std.specs.Prelude.{unsigned_abs}
+use Rattle.tt_kern.specs.KernTable.{subtables_from, sum_after, kern_sum}
+use Rattle.tt_kern.proofs.kern_table.kern_sum.Given as goal
+
+-- the sum so far, and then the subtables that are left
+abbrev pub invariant-loop-i : goal.invariant-loop-i
+invariant-loop-i l = record {
+  left : sum_after l.version l.bytes l.left l.right l.total (subtables_from l.version l.bytes (l.i-end - l.i) l.at)
+      ≡ kern_sum l.bytes l.left l.right;
+  few : l.i-end ≤ 32;
+  bound : unsigned_abs l.total ≤ 32768 * l.i;
+  near : l.at < 2 ^ 33;
+}

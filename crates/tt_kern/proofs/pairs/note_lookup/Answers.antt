@@ -1,0 +1,38 @@
+use Rattle.std.proofs.Common.{◌≡◌, sym, ◌∙◌, arith}
+use Rattle.tt_kern.specs.Pairs.{pair_place}
+use Rattle.tt_kern.proofs.Lists.{kept}
+use Rattle.tt_kern.proofs.PairLists.{one-more, none-more}
+use Rattle.tt_kern.proofs.pairs.note_lookup.Goals.{in-Some, in_default}
+use Rattle.tt_kern.proofs.pairs.note_lookup.Goals as goal
+
+pub loop-k-init : goal.loop-k-init
+loop-k-init c = record {
+  noted = sym (kept 64 c.args.pairs.now c.requires.few);
+  few = c.subtable_count-k-end.ensures.bound;
+}
+
+pub loop-k-preserved : goal.loop-k-preserved
+loop-k-preserved c =
+    let at = c.loop-k in
+    let place : c.pair_place.result ≡ pair_place c.args.bytes.now c.args.lookup at.k
+    = rw (c.word-lookup_type.ensures.exact, c.word.ensures.exact) at c.pair_place.ensures.exact in
+    elim c.match-pair_place.branch [
+      | in-Some w ↦
+          let there = sym place ∙ w.in-Some.is in
+          record {
+            noted = rw w.pairs-is (w.note.ensures ∙ one-more c.args.bytes.now c.args.i c.args.lookup at.k w.in-Some.at c.args.pairs.now at.pairs at.invariant.noted there);
+            few = at.invariant.few;
+          }
+      | in_default w ↦
+          let there = sym place ∙ w.in_default.is in
+          record {
+            noted = rw w.pairs-is (none-more c.args.bytes.now c.args.i c.args.lookup at.k c.args.pairs.now at.pairs at.invariant.noted there);
+            few = at.invariant.few;
+          }
+    ]
+
+pub returns : goal.returns
+returns c =
+    let at = c.loop-k in
+    let end : at.k ≡ c.subtable_count-k-end.result = omega (arith, c.loop-k-test.false, at.auto.k-end) in
+    rw (← c.subtable_count-k-end.ensures.exact, ← end) at.invariant.noted

@@ -1,0 +1,13 @@
+use Rattle.std.proofs.Common.{◌≡◌, ◌*◌, ◌≤◌, drop}
+use Rattle.std.specs.Prelude.{◌+ℤ◌, unsigned_abs}
+use Rattle.tt_kern.specs.Listed.{sum_from}
+use Rattle.tt_kern.proofs.sum.pair_sum.Given as goal
+
+-- the sum so far, and then that of the subtables that are left
+abbrev pub invariant-loop-i : goal.invariant-loop-i
+invariant-loop-i l = record {
+  left : l.so_far.total +ℤ sum_from l.gpos l.left l.right l.so_far.ended (drop l.i l.pairs)
+      ≡ sum_from l.gpos l.left l.right 0 l.pairs;
+  total : unsigned_abs l.so_far.total ≤ 32768 * l.so_far.ended;
+  ended : l.so_far.ended ≤ 32;
+}

@@ -1,0 +1,12 @@
+pub mod Coverage
+pub mod Feature
+pub mod Halves
+pub mod KernTable
+pub mod Kerning
+pub mod Laws
+pub mod Listed
+pub mod Pair
+pub mod Pairs
+pub mod Rows
+pub mod Search
+pub mod Words

@@ -1,0 +1,59 @@
+//! The sum over the lookups of a feature. OpenType, "GPOS": each lookup ends at its first subtable that applies.
+
+ghost use Rattle.std.specs.Prelude.{◌≡◌, ◌+◌, ◌*◌, ◌^◌, ◌<◌, ◌≤◌, ◌∷◌, ◌+ℤ◌, List, unsigned_abs};
+ghost use Rattle.tt_kern.specs.Listed.{IsNear, sum_from};
+ghost use Rattle.tt_kern.specs.declared.pairs.list.PairSubtable as declared;
+
+use crate::pair::pair_value;
+use crate::pairs::list::{PairList, PairSubtable};
+
+/// The sum so far. Lookups below `ended` have ended.
+#[derive(Clone, Copy)]
+struct SumSoFar {
+    total: i32,
+    ended: usize,
+}
+
+/// The sum after a subtable.
+fn after_pair(
+    gpos: &[u8],
+    left: usize,
+    right: usize,
+    so_far: SumSoFar,
+    pair: PairSubtable,
+) -> SumSoFar
+    requires left { left < 65536 }
+    requires right { right < 65536 }
+    requires total { unsigned_abs so_far.total ≤ 32768 * so_far.ended }
+    requires ended { so_far.ended ≤ 32 }
+    requires near { IsNear pair }
+    ensures exact { (rest : List declared.PairSubtable) → result.total +ℤ sum_from gpos.now left right result.ended rest
+        ≡ so_far.total +ℤ sum_from gpos.now left right so_far.ended (pair ∷ rest) }
+    ensures total { unsigned_abs result.total ≤ 32768 * result.ended }
+    ensures ended { result.ended ≤ 32 }
+{
+    if pair.lookup < so_far.ended {
+        return so_far;
+    }
+    match pair_value(gpos, pair.at, left, right) {
+        Some(value) => SumSoFar {
+            total: so_far.total + value,
+            ended: pair.lookup + 1,
+        },
+        None => so_far,
+    }
+}
+
+/// The sum over the lookups.
+pub(crate) fn pair_sum(gpos: &[u8], pairs: &PairList, left: usize, right: usize) -> i32
+    requires left { left < 65536 }
+    requires right { right < 65536 }
+    ensures exact { result ≡ sum_from gpos.now left right 0 pairs.now }
+    ensures bound { unsigned_abs result ≤ 2 ^ 20 }
+{
+    let mut so_far = SumSoFar { total: 0, ended: 0 };
+    for i in 0..pairs.count() {
+        so_far = after_pair(gpos, left, right, so_far, pairs.get(i));
+    }
+    so_far.total
+}
