@@ -14,8 +14,9 @@ use Rattle.tt_metrics.specs.Metrics.{Metrics, glyphs_of, metrics_of}
 use Rattle.tt_face.specs.Faces.{Face, cmap_tag}
 use Rattle.tt_core.specs.Faults.{Fault}
 use Rattle.tt_core.specs.Outcomes.{◌>>=◌}
-use Rattle.tt_face.specs.Files.{face_at, face_by, face_with, plain_rules, PlainRulesKeepFaces, RulesKeepFaults}
-use Rattle.tt_face.specs.Rules.{ruled}
+use Rattle.tt_face.specs.Files.{face_at, face_by, face_with, OpenedFacesAreWhole, PlainRulesKeepFaces, RulesKeepFaults}
+use Rattle.tt_face.specs.Rules.{plain_rules, ruled}
+use Rattle.tt_face.proofs.Readings.{read-face-whole}
 
 plain : (d : Directory) (m : Metrics) → metrics_of d ≡ Ok m → record m { heights = Exact; kerning = None } ≡ m
 unfolding metrics_of
@@ -63,4 +64,10 @@ plain-rules-keep file r = kept-by (face_by file r) (given-keep file r)
 
 pub rules-keep-faults : RulesKeepFaults
 unfolding face_with
-rules-keep-faults file r rules fault is = rw is refl
+rules-keep-faults file o fault is = rw is refl
+
+pub opened-face-whole : OpenedFacesAreWhole
+unfolding face_with
+opened-face-whole file o face was =
+    let read = came-through (face_by file o.reading) _ face was in
+    read-face-whole file o.reading read.value read.first

@@ -13,10 +13,9 @@ use Rattle.tt_core.specs.Faults.{Fault, file_fault}
 use Rattle.tt_core.specs.Outcomes.{◌>>=◌}
 use Rattle.tt_metrics.specs.Metrics.{glyphs_of, metrics_of, IsMetricsDefect}
 use Rattle.tt_face.specs.Defects.{IsDefectAt}
-use Rattle.tt_metrics.specs.declared.heights.Heights.TheVariants.{Exact}
-use Rattle.tt_face.specs.declared.rules.LineRules.{LineRules}
+use Rattle.tt_face.specs.declared.rules.Opening.{Opening}
 use Rattle.tt_face.specs.Faces.{Face, cmap_tag}
-use Rattle.tt_face.specs.Rules.{ruled}
+use Rattle.tt_face.specs.Rules.{plain_opening, ruled}
 
 -- the face of a file, or the file's first fault in the order of reading (profile)
 unfoldable pub face_of : List ℕ → Result Face Fault
@@ -39,9 +38,9 @@ face_at directory r = do
 unfoldable pub face_by : List ℕ → Reading → Result Face Fault
 face_by file r = directory_by file r >>= λ directory. face_at directory r
 
--- the face of a file by a reading, whose lines are laid out by some rules, or the file's first fault
-unfoldable pub face_with : List ℕ → Reading → LineRules → Result Face Fault
-face_with file r rules = face_by file r >>= λ face. Ok (ruled rules face)
+-- the face of a file as it is opened, or the file's first fault
+unfoldable pub face_with : List ℕ → Opening → Result Face Fault
+face_with file o = face_by file o.reading >>= λ face. Ok (ruled o.rules face)
 
 -- a defect of a file's directory, or of a table needed for every text
 abbrev pub IsFaceDefect : List ℕ → Fault → Type 0
@@ -89,17 +88,17 @@ WideFacesExtend = (file : List ℕ) (face : Face) → face_of file ≡ Ok face �
 abbrev pub StrictIsTheFace : Type 0
 StrictIsTheFace = (file : List ℕ) → face_by file reading.Strict ≡ face_of file
 
--- exact heights and no kerning, as a face has them by a reading alone
-abbrev pub plain_rules : LineRules
-plain_rules = record { heights = Exact; kerned = false }
-
 abbrev pub PlainRulesKeepFaces : Type 0
-PlainRulesKeepFaces = (file : List ℕ) (r : Reading) → face_with file r plain_rules ≡ face_by file r
+PlainRulesKeepFaces = (file : List ℕ) (r : Reading) → face_with file (plain_opening r) ≡ face_by file r
 
 -- the rules of lines find no fault and hide none: a face has the same directory and character map by all rules
 abbrev pub RulesKeepFaults : Type 0
-RulesKeepFaults = (file : List ℕ) (r : Reading) (rules : LineRules) (fault : Fault) → face_by file r ≡ Err fault
-    → face_with file r rules ≡ Err fault
+RulesKeepFaults = (file : List ℕ) (o : Opening) (fault : Fault) → face_by file o.reading ≡ Err fault → face_with file o ≡ Err fault
+
+-- a file that gives a face as it is opened has no defect for that reading
+abbrev pub OpenedFacesAreWhole : Type 0
+OpenedFacesAreWhole = (file : List ℕ) (o : Opening) (face : Face) → face_with file o ≡ Ok face
+    → HasNo (IsFaceDefectBy file o.reading)
 
 -- worked values: a file of 11 bytes, one too few for a directory
 a_short_file : face_of (0 ∷ 1 ∷ 0 ∷ 0 ∷ 0 ∷ 1 ∷ 0 ∷ 0 ∷ 0 ∷ 0 ∷ 0 ∷ []) ≡ Err (file_fault 11 why.DirShort)

@@ -4,7 +4,10 @@ use Rattle.std.specs.Prelude.{◌≡◌, refl, ℕ, Bool, true, false, List, [],
 use Rattle.tt_core.specs.Directory.{Directory, file_directory, table_of}
 use Rattle.tt_core.specs.Faults.{Fault}
 use Rattle.tt_kern.specs.Kerning.{Tables}
+use Rattle.tt_core.specs.declared.collection.Reading.{Reading}
+use Rattle.tt_metrics.specs.declared.heights.Heights.TheVariants.{Exact}
 use Rattle.tt_face.specs.declared.rules.LineRules.{LineRules}
+use Rattle.tt_face.specs.declared.rules.Opening.{Opening}
 use Rattle.tt_face.specs.Faces.{Face}
 
 -- the tags of the two tables of kerning
@@ -36,6 +39,13 @@ unfoldable pub ruled : LineRules → Face → Face
 ruled rules face = record face {
   metrics = record (face.metrics) { heights = rules.heights; kerning = kerning_by rules.kerned face.directory };
 }
+
+-- exact heights and no kerning, as a face has them by a reading alone
+abbrev pub plain_rules : LineRules
+plain_rules = record { heights = Exact; kerned = false }
+
+abbrev pub plain_opening : Reading → Opening
+plain_opening r = record { reading = r; rules = plain_rules }
 
 -- worked values: a file with two bytes of the table kern, which end at its end; then a byte less; then no GPOS
 abbrev two_bytes : List ℕ

@@ -16,7 +16,7 @@ ghost use Rattle.tt_face.specs.Files.{face_of, face_by, face_with, IsFaceDefect,
 
 use crate::names::{FAMILY_NAME, FULL_NAME, string_of, told_text};
 use crate::programs::Programs;
-use crate::rules::{LineRules, kerning_in};
+use crate::rules::{LineRules, Opening, kerning_in};
 use crate::style::style_of;
 use std::alloc::{AllocError, Global};
 use std::marker::Model;
@@ -83,16 +83,16 @@ impl<'a> Face<'a> {
         Ok(Face { dir, metrics, cmap })
     }
 
-    /// Opens the tables of the face that a reading asks for, whose lines are laid out by some rules. Errors: as `read`.
+    /// Opens the tables of a face of a file of at most 67,108,864 bytes. Errors: as `read`.
     #[tactic(auto, unfolding(crate::specs::Files::face_with))]
-    pub fn read_with(file: &'a [u8], reading: Reading, rules: LineRules) -> Result<Face<'a>, Fault>
+    pub fn read_with(file: &'a [u8], opening: Opening) -> Result<Face<'a>, Fault>
         requires { length file.now ≤ font_limit }
-        ensures exact { Gives (λ f. f) result (face_with file.now reading rules) }
-        ensures sound { OnOk result (HasNo (IsFaceDefectBy file.now reading)) }
-        ensures fault { IfErr result (IsFaceDefectBy file.now reading) }
+        ensures exact { Gives (λ f. f) result (face_with file.now opening) }
+        ensures sound { OnOk result (HasNo (IsFaceDefectBy file.now opening.reading)) }
+        ensures fault { IfErr result (IsFaceDefectBy file.now opening.reading) }
     {
-        let mut face = Face::read(file, reading)?;
-        face.set_rules(rules);
+        let mut face = Face::read(file, opening.reading)?;
+        face.set_rules(opening.rules);
         Ok(face)
     }
 

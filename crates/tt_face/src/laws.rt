@@ -1,7 +1,7 @@
 //! Lemmas about the definitions, for all files. No code runs.
 
 ghost use Rattle.tt_face.specs.Laws.{GlyphTablesAreWhole, ProgramsAreWhole};
-ghost use Rattle.tt_face.specs.Files.{FacesAreWhole, ReadFacesAreWhole, StrictIsTheFace, FacesAreTheirFonts, PlainRulesKeepFaces, RulesKeepFaults, WideFacesExtend};
+ghost use Rattle.tt_face.specs.Files.{FacesAreWhole, ReadFacesAreWhole, StrictIsTheFace, FacesAreTheirFonts, OpenedFacesAreWhole, PlainRulesKeepFaces, RulesKeepFaults, WideFacesExtend};
 
 /// Lemma: if the definitions give a face, its glyph tables or its programs, then these have no defect.
 pub fn faces_are_whole()
@@ -20,8 +20,9 @@ pub fn readings_give_faces()
 {}
 
 /// Lemma: with exact heights and without kerning a face is that of its reading. By all rules a file is refused for the
-/// same fault.
+/// same fault, and a face that is given has no defect.
 pub fn rules_keep_faces()
     ensures plain { PlainRulesKeepFaces }
     ensures faults { RulesKeepFaults }
+    ensures whole { OpenedFacesAreWhole }
 {}

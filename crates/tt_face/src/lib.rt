@@ -10,5 +10,5 @@ mod style;
 
 pub use face::Face;
 pub use programs::Programs;
-pub use rules::LineRules;
+pub use rules::{LineRules, Opening};
 pub use tt_metrics::Heights;

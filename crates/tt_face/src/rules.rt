@@ -2,9 +2,9 @@
 
 ghost use Rattle.std.specs.Prelude.{◌≡◌, ◌≤◌, length};
 ghost use Rattle.tt_core.specs.Limits.{font_limit};
-ghost use Rattle.tt_face.specs.Rules.{kerning_tables, table_bytes};
+ghost use Rattle.tt_face.specs.Rules.{kerning_tables, plain_opening, table_bytes};
 
-use tt_core::Dir;
+use tt_core::{Dir, Reading};
 use tt_kern::Kerning;
 use tt_metrics::Heights;
 
@@ -15,6 +15,28 @@ pub struct LineRules {
     pub heights: Heights,
     /// Whether neighbouring glyphs are kerned.
     pub kerned: bool,
+}
+
+/// How a face of a font's file is opened.
+#[derive(Clone, Copy, Debug, PartialEq, Eq)]
+pub struct Opening {
+    /// Which face, and how the font's file is read.
+    pub reading: Reading,
+    /// How the face's lines are laid out.
+    pub rules: LineRules,
+}
+
+impl Opening {
+    /// Opens a face by a reading. Its heights are exact, and no pair is kerned.
+    pub fn plain(reading: Reading) -> Opening
+        ensures { result ≡ plain_opening reading }
+    {
+        let rules = LineRules {
+            heights: Heights::Exact,
+            kerned: false,
+        };
+        Opening { reading, rules }
+    }
 }
 
 /// The bytes of a table, none where the font lacks the table or where it passes the end of the file (profile).
