@@ -24,7 +24,7 @@ use Rattle.tt_strike.specs.Defects.{TellsDefects}
 use Rattle.tt_core.specs.declared.draw_fault.DrawFault.{DrawFault}
 use Rattle.tt_core.specs.declared.draw_fault.DrawFault.TheVariants as draw
 use Rattle.tt_face.specs.Faces.{Face}
-use Rattle.tt_face.specs.Files.{face_by}
+use Rattle.tt_face.specs.Files.{face_with}
 
 pub if_some_more : {X : Type 0} (o : Option X) (P Q : X → Type 0) → ((x : X) → P x → Q x) → IfSome o P → IfSome o Q
 if_some_more None P Q more h = tt
@@ -96,7 +96,7 @@ begun_tells IsOne text left after r before used reason.Memory begun = tt
 
 -- a defect of a line by a font's tables is one by the font's file
 line_tells : (glyphs : GlyphsOf) (a : Setting) (file : List ℕ) (face : Face) (text : Option (List ℕ)) (why : Refusal)
-    (line : Option ℕ) → face_by file a.reading ≡ Ok face → LineTells (IsDefectBy glyphs a (strike_by a face)) text why line
+    (line : Option ℕ) → face_with file a.opening ≡ Ok face → LineTells (IsDefectBy glyphs a (strike_by a face)) text why line
     → LineTellsDefect glyphs a text why line file
 line_tells glyphs a file face text (reason.Font f) None there tells = absurd tells
 line_tells glyphs a file face text (reason.Font f) (Some n) there tells =
@@ -112,7 +112,7 @@ line_tells glyphs a file face text reason.Many line there tells = tt
 line_tells glyphs a file face text reason.Memory line there tells = tt
 
 pub lines_tell : {V : Type 0} (glyphs : GlyphsOf) (a : Setting) (file : List ℕ) (face : Face) (text : Option (List ℕ))
-    (r : Result V TextsFault) → face_by file a.reading ≡ Ok face
+    (r : Result V TextsFault) → face_with file a.opening ≡ Ok face
     → LinesTell (IsDefectBy glyphs a (strike_by a face)) text r → LinesTellDefects glyphs a text r file
 lines_tell glyphs a file face text (Ok v) there tells = tt
 lines_tell glyphs a file face text (Err fault) there tells =

@@ -15,7 +15,9 @@ use Rattle.tt_core.specs.declared.draw_fault.DrawFault.TheVariants as draw
 use Rattle.tt_strike.specs.Job.{size_tested}
 use Rattle.tt_strike.specs.Refusals.{Refused, as_job, font, refusal}
 use Rattle.tt_face.specs.Faces.{Face}
-use Rattle.tt_face.specs.Files.{face_by}
+use Rattle.tt_face.specs.declared.rules.Opening.{Opening}
+use Rattle.tt_face.specs.Files.{face_by, face_with}
+use Rattle.tt_face.specs.Rules.{ruled}
 use Rattle.tt_render_run.specs.declared.fault.RunFault.{RunFault}
 use Rattle.tt_render_run.proofs.Readings.{face_directory}
 use Rattle.tt_render_run.specs.declared.fault.RunFault.TheVariants as run
@@ -49,24 +51,31 @@ reading_stops V tests opened (run.Write sent) before after failed passes fails =
 reading_stops V tests opened run.Memory before after failed passes fails = (passes, fails)
 
 -- the directory of a face is in the file that was read
-pub face_file : (file : List ℕ) (r : Reading) (face : Face) → face_by file r ≡ Ok face → file ≡ face.directory.file
+read_file : (file : List ℕ) (r : Reading) (face : Face) → face_by file r ≡ Ok face → file ≡ face.directory.file
 unfolding face_by directory_by
-face_file file r face was =
+read_file file r face was =
     let by_directory = came-through (directory_by file r) _ face was in
     let d = by_directory.value in
     let by_offset = came-through (offset_of file r) _ d by_directory.first in
     let kept = directory-kept (directory_at file by_offset.value) d by_offset.rest in
     ap (λ (e : Directory). e.file) (sym kept ∙ face_directory d r face by_directory.rest)
 
+pub face_file : (file : List ℕ) (o : Opening) (face : Face) → face_with file o ≡ Ok face → file ≡ face.directory.file
+unfolding face_with ruled
+face_file file o face was =
+    let read = came-through (face_by file o.reading) _ face was in
+    let same : ruled o.rules read.value ≡ face = let rest = read.rest in cc in
+    read_file file o.reading read.value read.first ∙ ap (λ (f : Face). f.directory.file) same
+
 -- the tables of a font that is not too large
-pub font_opened : (a : Setting) (file : List ℕ) (face : Face) → length file ≤ font_limit → face_by file a.reading ≡ Ok face
+pub font_opened : (a : Setting) (file : List ℕ) (face : Face) → length file ≤ font_limit → face_with file a.opening ≡ Ok face
     → strike_of a file ≡ Ok (strike_by a face)
 unfolding strike_of
 font_opened a file face small there =
     let fits : nat_lt font_limit (length file) ≡ false = grind (arith, nat_tests) in
     rw (fits, there) refl
 
-pub font_refused : (a : Setting) (file : List ℕ) (f : Fault) → length file ≤ font_limit → face_by file a.reading ≡ Err f
+pub font_refused : (a : Setting) (file : List ℕ) (f : Fault) → length file ≤ font_limit → face_with file a.opening ≡ Err f
     → strike_of a file ≡ Err (font f)
 unfolding strike_of
 font_refused a file f small there =

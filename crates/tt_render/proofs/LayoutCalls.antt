@@ -5,7 +5,7 @@ use Rattle.tt_core.specs.declared.collection.Reading.{Reading}
 use Rattle.tt_core.specs.declared.draw_fault.DrawFault.{DrawFault}
 use Rattle.tt_core.specs.declared.draw_fault.DrawFault.TheVariants as draw
 use Rattle.tt_face.specs.Faces.{Face}
-use Rattle.tt_face.specs.Files.{IsFaceDefectBy, face_by}
+use Rattle.tt_face.specs.Files.{IsFaceDefectBy, face_with}
 use Rattle.tt_core.specs.Directory.{HasNo}
 use Rattle.tt_core.specs.Faults.{Fault}
 use Rattle.tt_render.specs.declared.refusal.Refusal.{Refusal}
@@ -46,7 +46,7 @@ stops_at_pens r face j draw.Memory is = tt
 
 -- so the text is refused
 pub lines_stop : (a : Setting) (s : Strike) (text : List ℕ) (d : DrawFault)
-    → IfSome (drawing.refusal d) (λ why. laid_text a.reading s.face (job_of s text a.margin) ≡ Err why)
+    → IfSome (drawing.refusal d) (λ why. laid_text a.opening.reading s.face (job_of s text a.margin) ≡ Err why)
     → IfSome (told (refusal_of_draw d)) (λ why. layout_answer a s text ≡ Err why)
 unfolding layout_answer
 lines_stop a s text (draw.Font f) is = rw is refl
@@ -70,7 +70,7 @@ none_made V false P v none = λ fault defect. defect
 
 -- a defect by a font's tables is one by the font's file
 pub layout_tells : (V : Type 0) (a : Setting) (text file : List ℕ) (face : Face) (why : Refusal)
-    → face_by file a.reading ≡ Ok face
+    → face_with file a.opening ≡ Ok face
     → IfSome (refusal_font_fault why) (IsLaidDefect face (job_by a text)) → IsOfText {V = V} (Err why)
     → TextTellsDefects {V = V} (IsLayoutDefect a text file) (Err (before_lines why))
 layout_tells V a text file face (reason.Font f) there stands serves = inr (rw there stands)
@@ -85,8 +85,8 @@ layout_tells V a text file face reason.Many there stands serves = tt
 layout_tells V a text file face reason.Memory there stands serves = tt
 
 -- so the file has none where the tables have none
-pub none_by_layout : (a : Setting) (text file : List ℕ) (face : Face) → face_by file a.reading ≡ Ok face
-    → HasNo (IsFaceDefectBy file a.reading) → HasNo (IsLaidDefect face (job_by a text))
+pub none_by_layout : (a : Setting) (text file : List ℕ) (face : Face) → face_with file a.opening ≡ Ok face
+    → HasNo (IsFaceDefectBy file a.opening.reading) → HasNo (IsLaidDefect face (job_by a text))
     → HasNo (IsLayoutDefect a text file)
 none_by_layout a text file face there none line = λ fault defect. elim defect [
   | inl tables ↦ none fault tables

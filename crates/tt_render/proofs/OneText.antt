@@ -31,7 +31,7 @@ use Rattle.tt_strike.specs.Refusals.{Refused, as_job}
 use Rattle.tt_strike.specs.Refusals as drawing
 use Rattle.tt_strike.specs.Strikes.{Strike}
 use Rattle.tt_face.specs.Faces.{Face}
-use Rattle.tt_face.specs.Files.{IsFaceDefectBy, face_by}
+use Rattle.tt_face.specs.Files.{IsFaceDefectBy, face_with}
 
 -- the answer of a text does not depend on the cache's limit
 pub most_aside : (a : Setting) (s : Strike) (most : ℕ) (text : List ℕ)
@@ -154,7 +154,7 @@ strike_tells V IsOne draw.Memory none = tt
 
 -- a defect of a text by a font's tables is one by the font's file
 pub text_tells : (V : Type 0) (glyphs : GlyphsOf) (a : Setting) (text file : List ℕ) (face : Face) (why : Refusal)
-    → face_by file a.reading ≡ Ok face
+    → face_with file a.opening ≡ Ok face
     → IfSome (refusal_font_fault why) (IsLineDefect face (job_by a text) (glyphs face.cmap text))
     → IsOfText {V = V} (Err why)
     → TextTellsDefects {V = V} (IsTextDefect glyphs a text file) (Err (before_lines why))
@@ -170,8 +170,8 @@ text_tells V glyphs a text file face reason.Many there stands serves = tt
 text_tells V glyphs a text file face reason.Memory there stands serves = tt
 
 -- so the file has no defect of a text where the tables have none
-pub none_in_file : (glyphs : GlyphsOf) (a : Setting) (text file : List ℕ) (face : Face) → face_by file a.reading ≡ Ok face
-    → HasNo (IsFaceDefectBy file a.reading) → HasNo (IsLineDefect face (job_by a text) (glyphs face.cmap text))
+pub none_in_file : (glyphs : GlyphsOf) (a : Setting) (text file : List ℕ) (face : Face) → face_with file a.opening ≡ Ok face
+    → HasNo (IsFaceDefectBy file a.opening.reading) → HasNo (IsLineDefect face (job_by a text) (glyphs face.cmap text))
     → HasNo (IsTextDefect glyphs a text file)
 none_in_file glyphs a text file face there none line = λ fault defect. elim defect [
   | inl tables ↦ none fault tables

@@ -2,7 +2,7 @@
 use Rattle.std.proofs.Common.{◌≡◌, ◌∙◌, refl, ap, sym, ℕ, nat_lt, Bool, true, false, if◌then◌else◌, List, length, map, Result, Ok, Err, arith}
 use Rattle.std.proofs.lemmas.Bool.Decides.{nat_tests}
 use Rattle.std.specs.Str.{is_utf8}
-use Rattle.tt_core.specs.declared.collection.Reading.{Reading}
+use Rattle.tt_face.specs.declared.rules.Opening.{Opening}
 use Rattle.tt_core.specs.declared.fault.JobFault.TheVariants as fault
 use Rattle.tt_core.specs.Chains.{came-through, passed-on}
 use Rattle.tt_core.specs.Limits.{font_limit}
@@ -22,7 +22,7 @@ use Rattle.tt_picture.specs.Unfitted.{unfitted_among}
 use Rattle.tt_strike.specs.Report.{line_report, report_by}
 use Rattle.tt_strike.specs.Strikes.{Strike, job_of}
 use Rattle.tt_face.specs.Faces.{Face}
-use Rattle.tt_face.specs.Files.{face_by}
+use Rattle.tt_face.specs.Files.{face_with}
 use Rattle.tt_render.specs.declared.setting.Setting.{Setting}
 use Rattle.tt_render.specs.Lines.{line_drawn, line_limit}
 use Rattle.tt_render_run.specs.Outcome.{of_font}
@@ -98,8 +98,8 @@ bytes_by_parts (Err why) report lacking taken reported costed = refl
 pub ok_same : {X E : Type 0} (x y : X) → ◌≡◌ {A = Result X E} (Ok x) (Ok y) → x ≡ y
 ok_same x y is = cc
 
-by_file : (r : Reading) (j : Job) (file : List ℕ) (face : Face) → nat_lt font_limit (length file) ≡ false
-    → as_font (face_by file r) ≡ Ok face → as_file (pictured_by face j) ≡ of_font (file_pictured r j) file
+by_file : (r : Opening) (j : Job) (file : List ℕ) (face : Face) → nat_lt font_limit (length file) ≡ false
+    → as_font (face_with file r) ≡ Ok face → as_file (pictured_by face j) ≡ of_font (file_pictured r j) file
 unfolding pictured
 by_file r j file face small read = rw (small, read) refl
 
@@ -110,16 +110,16 @@ file_after (Err why) r = refl
 
 -- a strike that is opened by a file draws the picture of `run` for that file
 is_run : (a : Setting) (file text : List ℕ) (s : Strike) → strike_of a file ≡ Ok s
-    → as_file (line_outcome s.face (job_of s text a.margin)) ≡ run_outcome a.reading (job_by a text) file
+    → as_file (line_outcome s.face (job_of s text a.margin)) ≡ run_outcome a.opening (job_by a text) file
 unfolding strike_of line_outcome run_outcome
 is_run a file text s opened =
     let fits = passed-on (nat_lt font_limit (length file)) large
-    (as_font (face_by file a.reading) >>= λ face. Ok (strike_by a face)) s opened in
-    let by_face = came-through (as_font (face_by file a.reading)) _ s fits.1 in
+    (as_font (face_with file a.opening) >>= λ face. Ok (strike_by a face)) s opened in
+    let by_face = came-through (as_font (face_with file a.opening)) _ s fits.1 in
     let face = by_face.value in
     let j = job_by a text in
     let same = ok_same (strike_by a face) s by_face.rest in
-    let made = by_file a.reading j file face fits.0 by_face.first in
+    let made = by_file a.opening j file face fits.0 by_face.first in
     ap (λ (t : Strike). as_file (line_outcome t.face (job_of t text a.margin))) (sym same)
     ∙ file_after (as_job (tested j)) (pictured_by face j)
     ∙ ap (λ (r : Result (List ℕ) Refused). as_job (tested j) >>= λ u. r) made
@@ -164,7 +164,7 @@ line_passes a line s t was =
 pub lines_are_runs : LinesAreRuns
 lines_are_runs a file line s t is opened was =
     let drawn : text_answer a s line ≡ Ok t = line_passes a line s t was in
-    was_run (run_outcome a.reading (job_by a line) file) (missing_tested s.face.cmap a.missing line) t.bytes
+    was_run (run_outcome a.opening (job_by a line) file) (missing_tested s.face.cmap a.missing line) t.bytes
     (sym (texts_are_runs a file line s is opened) ∙ ap bytes_of drawn)
 
 pub lines_are_texts : LinesAreTexts

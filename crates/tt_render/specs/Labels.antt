@@ -70,7 +70,7 @@ abbrev pub label_told : Label → List ℕ → List ℕ → LabelTold
 label_told l file text = record {
   fit = l.setting.fit;
   signs = signs_of (label_lines text);
-  font = font_notes l.path.now file (face_number l.setting.reading) l.face_given;
+  font = font_notes l.path.now file (face_number l.setting.opening.reading) l.face_given;
 }
 
 -- the answer of a label's text by a font's tables at a size; a label takes nothing of the budget of many lines
@@ -117,7 +117,7 @@ hint_of (Err fault) file r = hint_for fault.refusal file r
 
 -- the hint beside an answer is that about the font's file
 abbrev pub HintsBy : Label → Labelled → List ℕ → Type 0
-HintsBy l e file = e.hint ≡ hint_of e.answer file l.setting.reading
+HintsBy l e file = e.hint ≡ hint_of e.answer file l.setting.opening.reading
 
 -- a call stopped before it drew the text, or memory ran out by then; or it drew the text by a font
 abbrev pub FontLabelGives : {V : Type 0} → Label → List ℕ → Result V TextsFault → Traffic → Errors → Type 0

@@ -65,7 +65,7 @@ laid_text r face j =
 -- the answer of a text
 unfoldable pub layout_answer : Setting → Strike → List ℕ → Result TextAnswer TextRefusal
 layout_answer a s text =
-    answer_of (laid_text a.reading s.face (job_of s text a.margin)) (Ok []) (missing_tested s.face.cmap a.missing text)
+    answer_of (laid_text a.opening.reading s.face (job_of s text a.margin)) (Ok []) (missing_tested s.face.cmap a.missing text)
     (Ok 0)
 
 -- the answer that is ready to be written
@@ -99,7 +99,7 @@ IsLaidDefect face j f = IsReadDefect (is_bounded j.fit) (IsLineDefect face j (te
 
 -- a defect of the tables that every text needs, or of the data that this text is laid out from
 abbrev pub IsLayoutDefect : Setting → List ℕ → List ℕ → Fault → Type 0
-IsLayoutDefect a text file f = IsFontDefect IsLaidDefect a.reading (job_by a text) file f
+IsLayoutDefect a text file f = IsFontDefect IsLaidDefect a.opening (job_by a text) file f
 
 -- worked values: two units of four columns and of three, after a margin of one
 a_layout : Layout

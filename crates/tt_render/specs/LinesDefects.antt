@@ -28,11 +28,11 @@ IsDefectBy glyphs a s line f = IsLineDefect s.face (job_of s line a.margin) (gly
 -- a defect of the font that a line is drawn from, by the font's file
 abbrev pub IsDefectIn : GlyphsOf → Setting → List ℕ → List ℕ → Fault → Type 0
 IsDefectIn glyphs a file line f =
-    ByFace (λ face j. IsLineDefect face j (glyphs face.cmap line) f) a.reading (job_by a line) file
+    ByFace (λ face j. IsLineDefect face j (glyphs face.cmap line) f) a.opening (job_by a line) file
 
 -- a defect of the tables that every text needs, or of the data that this text is drawn from
 abbrev pub IsTextDefect : GlyphsOf → Setting → List ℕ → List ℕ → Fault → Type 0
-IsTextDefect glyphs a text file f = IsFaceDefectBy file a.reading f ⊎ IsDefectIn glyphs a file text f
+IsTextDefect glyphs a text file f = IsFaceDefectBy file a.opening.reading f ⊎ IsDefectIn glyphs a file text f
 
 -- the first line of a text has a defect
 abbrev pub BeginsDefective : (List ℕ → Fault → Type 0) → Fault → List ℕ → Type 0
@@ -54,7 +54,7 @@ LinesTell IsOne text (Ok v) = ⊤
 abbrev pub LineTellsDefect : GlyphsOf → Setting → Option (List ℕ) → Refusal → Option ℕ → List ℕ → Type 0
 LineTellsDefect glyphs a text (reason.Font f) (Some number) file =
     IfSome text (λ all. IsDefectIn glyphs a file (line_numbered all number) f)
-LineTellsDefect glyphs a text (reason.Font f) None file = IsFaceDefectBy file a.reading f
+LineTellsDefect glyphs a text (reason.Font f) None file = IsFaceDefectBy file a.opening.reading f
 LineTellsDefect glyphs a text why line file = ⊤
 
 abbrev pub LinesTellDefects : {V : Type 0} → GlyphsOf → Setting → Option (List ℕ) → Result V TextsFault → List ℕ → Type 0

@@ -50,7 +50,7 @@ product_by product.Measure grow r face j =
 
 -- the output of a text that is drawn by a strike
 unfoldable pub product_of : Setting → Strike → List ℕ → Result (List ℕ) Refused
-product_of a s text = product_by a.product a.grow a.reading s.face (job_of s text a.margin)
+product_of a s text = product_by a.product a.grow a.opening.reading s.face (job_of s text a.margin)
 
 -- the bytes of an output, its unfitted glyphs, and what it takes of the budget of many lines
 abbrev pub bytes_in : Output → List ℕ

@@ -11,7 +11,8 @@ use Rattle.tt_strike.specs.Job.{Job, job_for, margin_tested, size_tested}
 use Rattle.tt_strike.specs.Refusals.{Refused, as_font}
 use Rattle.tt_strike.specs.Strikes.{Strike}
 use Rattle.tt_face.specs.Faces.{Face}
-use Rattle.tt_face.specs.Files.{face_by}
+use Rattle.tt_face.specs.Files.{face_with}
+use Rattle.tt_face.specs.Rules.{plain_opening}
 use Rattle.tt_render.specs.declared.setting.Missing.TheVariants as how
 use Rattle.tt_render.specs.declared.setting.Product.TheVariants as product
 use Rattle.tt_render.specs.declared.setting.Setting.{Setting}
@@ -21,13 +22,14 @@ use Rattle.tt_render_run.specs.Outcome.{of_font}
 unfoldable pub setting_tested : Setting → Result (Unit {0}) JobFault
 setting_tested a = size_tested a.ppem >>= λ u. margin_tested a.margin
 
--- the setting by which `run` draws: glyph 0 in place of a missing one, the picture as it is, no cached glyphs
+-- the setting by which `run` draws: glyph 0 in place of a missing one, the picture as it is, no cached glyphs. Heights are
+-- exact, and no pair is kerned
 abbrev pub plain_setting : ℕ → ℕ → Fit → Reading → Setting
 plain_setting ppem margin f r = record {
   ppem = ppem;
   margin = margin;
   fit = f;
-  reading = r;
+  opening = plain_opening r;
   missing = how.Draw;
   grow = false;
   product = product.Picture;
@@ -44,7 +46,7 @@ pub record IsPlain (a : Setting) : Type 0 where
   pub as_it_is : DrawsAsItIs a
   pub drawn : a.missing ≢ how.Refuse
 
--- the job of a text; its reading is the setting's
+-- the job of a text; it is opened as the setting says
 abbrev pub job_by : Setting → List ℕ → Job
 job_by a text = job_for a.ppem a.fit text a.margin
 
@@ -53,9 +55,9 @@ abbrev pub strike_by : Setting → Face → Strike
 strike_by a face = record { face = face; ppem = a.ppem; fit = a.fit; most = a.most; kept = [] }
 
 -- the strike by a font's file, if it is not too large, or the first fault of the tables needed for every text. The face
--- is the one that the setting's reading gives
+-- is opened as the setting says
 unfoldable pub strike_of : Setting → List ℕ → Result Strike Refused
-strike_of a file = of_font (λ font. as_font (face_by font a.reading) >>= λ face. Ok (strike_by a face)) file
+strike_of a file = of_font (λ font. as_font (face_with font a.opening) >>= λ face. Ok (strike_by a face)) file
 
 -- worked values
 sized : ℕ → ℕ → Setting

@@ -35,11 +35,11 @@ fn draw(alloc: Global, file: &[u8], text: &str, setting: &Setting) -> Result<Rea
     requires size { length file.now ≤ font_limit }
     requires tested { tested (job_by setting.now text.now) ≡ Ok tt }
     ensures outcome { ReadiesText (λ s. text_answer setting.now s text.now) (strike_of setting.now file.now) result }
-    ensures defects { TextTellsDefects (IsRunDefect setting.now.reading (job_by setting.now text.now) file.now) result }
+    ensures defects { TextTellsDefects (IsRunDefect setting.now.opening (job_by setting.now text.now) file.now) result }
     ensures valid { IfOk result (λ r. CanGoOut r.output) }
     ensures report { IfOk result (TellsOf None) }
 {
-    let face = Face::read(file, setting.reading)?;
+    let face = Face::read_with(file, setting.opening)?;
     // There is no other line, so no glyph is cached.
     let mut strike = Strike::new(alloc, &face, setting.ppem, setting.fit, 0)?;
     match answer_text(alloc, &mut strike, file, setting, None, text) {
@@ -71,7 +71,7 @@ pub fn draw_text<R: Source, W: Sink, E: Sink>(
     // Either the call stopped before the text was drawn, and did nothing else. Or the font was read to its end and
     // opened, and the writing and printing are as defined for the text by that font.
     ensures outcome { FontTextGives setting.now text.now result (traffic_of R.left R.has_failed W.written W.has_failed font.old font.new out.old out.new) (errors_of E.written E.has_failed error.old error.new) }
-    ensures defects { TextTellsDefectsOf (R.left font.old) (IsRunDefect setting.now.reading (job_by setting.now text.now)) result }
+    ensures defects { TextTellsDefectsOf (R.left font.old) (IsRunDefect setting.now.opening (job_by setting.now text.now)) result }
 {
     test_job(&setting.job(text))?;
     let file = read_font(alloc, font)?;
@@ -235,7 +235,7 @@ pub fn draw_lines<F: Source, R: Source, W: Sink, E: Sink>(
 {
     test_setting(setting)?;
     let file = read_font(alloc, font)?;
-    let face = Face::read(&file, setting.reading)?;
+    let face = Face::read_with(&file, setting.opening)?;
     let mut strike = Strike::new(alloc, &face, setting.ppem, setting.fit, setting.most)?;
     draw_lines_by(alloc, &mut strike, &file, lines, out, error, setting)
 }

@@ -66,7 +66,7 @@ fn told_of(
     requires { length file.now ≤ font_limit }
     ensures { (text : List ℕ) → map (λ l. l.now) lines.now ≡ label_lines text → IfOk result (λ t. told_view t ≡ label_told asked.now file.now text) }
 {
-    let face = face_number(asked.setting.reading);
+    let face = face_number(asked.setting.opening.reading);
     let font = font_notes(alloc, asked.path, file, face, asked.face_given)?;
     Ok(LabelTold {
         fit: asked.setting.fit,

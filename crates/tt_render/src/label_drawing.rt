@@ -34,10 +34,10 @@ use tt_strike::{Face, test_job};
 /// What is reported to a person of the font's file, where the font is refused.
 fn hint_for(refusal: Refusal, file: &[u8], asked: &Label) -> Option<Hint>
     requires { length file.now ≤ font_limit }
-    ensures { result ≡ hint_for refusal file.now asked.now.setting.reading }
+    ensures { result ≡ hint_for refusal file.now asked.now.setting.opening.reading }
 {
     match refusal {
-        Refusal::Font(fault) => Some(advice(fault, file, face_number(asked.setting.reading))),
+        Refusal::Font(fault) => Some(advice(fault, file, face_number(asked.setting.opening.reading))),
         Refusal::Job(_)
         | Refusal::NotUtf8
         | Refusal::Missing(_)
@@ -53,7 +53,7 @@ fn hint_for(refusal: Refusal, file: &[u8], asked: &Label) -> Option<Hint>
 /// A fault with the hint about the font's file.
 fn hinted(fault: TextsFault, file: &[u8], asked: &Label) -> Labelled
     requires { length file.now ≤ font_limit }
-    ensures { result ≡ record { answer = Err fault; hint = hint_for fault.refusal file.now asked.now.setting.reading } }
+    ensures { result ≡ record { answer = Err fault; hint = hint_for fault.refusal file.now asked.now.setting.opening.reading } }
 {
     let hint = hint_for(fault.refusal, file, asked);
     Labelled {
@@ -91,7 +91,7 @@ fn draw(alloc: Global, file: &[u8], text: &str, asked: &Label) -> Result<ReadyLa
     ensures defects { TextTellsDefects (IsTextDefect label_glyphs asked.now.setting text.now file.now) result }
     ensures report { IfOk result (TellsLabel None) }
 {
-    let face = Face::read(file, asked.setting.reading)?;
+    let face = Face::read_with(file, asked.setting.opening)?;
     let mut sized = SizedFace::new(alloc, &face, asked.setting.ppem, asked.setting.fit)?;
     match answer_label(alloc, &mut sized, file, asked, None, text) {
         Ok(ready) => Ok(ready),
@@ -233,7 +233,7 @@ fn draw_labels_of<R: Source, W: Sink, E: Sink>(
     ensures outcome { FileLabelsGive asked.now file.now result (traffic_of R.left R.has_failed W.written W.has_failed lines.old lines.new out.old out.new) (errors_of E.written E.has_failed error.old error.new) }
     ensures defects { LinesTellDefects label_glyphs asked.now.setting (R.left lines.old) result file.now }
 {
-    let face = Face::read(file, asked.setting.reading)?;
+    let face = Face::read_with(file, asked.setting.opening)?;
     let mut sized = SizedFace::new(alloc, &face, asked.setting.ppem, asked.setting.fit)?;
     draw_labels_by(alloc, &mut sized, file, lines, out, error, asked)
 }

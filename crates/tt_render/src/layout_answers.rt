@@ -44,7 +44,7 @@ pub(crate) fn answer_layout(
     let placed = sized.pens(text, setting.margin)?;
     let lines = layout_text(
         alloc,
-        setting.reading,
+        setting.opening.reading,
         file,
         face,
         &placed.layout,

@@ -34,7 +34,7 @@ fn lay_out(
     ensures defects { TextTellsDefects (IsLayoutDefect setting.now text.now file.now) result }
     ensures report { IfOk result TellsLayout }
 {
-    let face = Face::read(file, setting.reading)?;
+    let face = Face::read_with(file, setting.opening)?;
     let mut sized = SizedFace::new(alloc, &face, setting.ppem, setting.fit)?;
     match answer_layout(alloc, &mut sized, file, setting, text) {
         Ok(ready) => Ok(ready),

@@ -121,7 +121,7 @@ pub(crate) fn make_output(
         Product::Measure => {
             let face = strike.face();
             let measure = make_measure(strike, setting.grow, text, setting.margin)?;
-            let lines = measure_text(alloc, setting.reading, file, face, text, &measure)?;
+            let lines = measure_text(alloc, setting.opening.reading, file, face, text, &measure)?;
             let Measure { report, .. } = measure;
             Ok(Output::Text(lines, report))
         }

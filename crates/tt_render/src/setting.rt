@@ -6,6 +6,7 @@ ghost use Rattle.tt_render.specs.Settings.{job_by, plain_setting, setting_tested
 ghost use Rattle.tt_strike.specs.Job.{job_view};
 
 use tt_core::{JobFault, Reading};
+use tt_face::Opening;
 use tt_fit::Fit;
 use tt_strike::{Job, test_job};
 
@@ -37,8 +38,8 @@ pub struct Setting {
     /// Pixels round each line, 0 to 64.
     pub margin: u32,
     pub fit: Fit,
-    /// Which face draws, and how the font's file is read.
-    pub reading: Reading,
+    /// Which face draws, how the font's file is read, and how lines are laid out.
+    pub opening: Opening,
     pub missing: Missing,
     /// Whether the picture has the fewest columns and rows more on each side such that no ink is cut.
     pub grow: bool,
@@ -48,7 +49,8 @@ pub struct Setting {
 }
 
 impl Setting {
-    /// The setting by which `run` draws: glyph 0 in place of a missing one, the picture as it is, no cached glyphs.
+    /// The setting by which `run` draws: glyph 0 in place of a missing one, the picture as it is, no cached glyphs. Heights
+    /// are exact, and no pair is kerned.
     pub fn plain(ppem: u32, margin: u32, fit: Fit, reading: Reading) -> Setting
         ensures { result ≡ plain_setting ppem margin fit reading }
     {
@@ -56,7 +58,7 @@ impl Setting {
             ppem,
             margin,
             fit,
-            reading,
+            opening: Opening::plain(reading),
             missing: Missing::Draw,
             grow: false,
             product: Product::Picture,
@@ -67,14 +69,14 @@ impl Setting {
     /// The job of a text. Jobs are made here alone.
     pub fn job<'t>(&self, text: &'t str) -> Job<'t>
         ensures exact { job_view result ≡ job_by self.now text.now }
-        ensures reading { result.reading ≡ self.now.reading }
+        ensures opening { result.opening ≡ self.now.opening }
     {
         Job {
             text,
             ppem: self.ppem,
             margin: self.margin,
             fit: self.fit,
-            reading: self.reading,
+            opening: self.opening,
         }
     }
 }

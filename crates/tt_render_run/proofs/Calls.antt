@@ -3,6 +3,7 @@ use Rattle.std.proofs.Common.{◌≡◌, ℕ, ◌<◌, ◌≤◌, Bool, true, fa
 use Rattle.std.proofs.lemmas.Bool.Decides.{nat_tests}
 use Rattle.std.specs.Io.KnownBytes.{Consumes, IsAtEnd, Keeps}
 use Rattle.tt_core.specs.declared.collection.Reading.{Reading}
+use Rattle.tt_face.specs.declared.rules.Opening.{Opening}
 use Rattle.tt_core.specs.declared.fault.JobFault.{JobFault}
 use Rattle.tt_core.specs.Faults.{Fault}
 use Rattle.tt_core.specs.Limits.{font_limit}
@@ -28,7 +29,7 @@ pub map_is_of_font : (r : Reading) (text : List ℕ) → text_tested text ≡ Ok
 unfolding map_outcome
 map_is_of_font r text good = record { tested = good; same = λ file. rw good refl }
 
-pub run_is_of_font : (r : Reading) (a : Job) → tested a ≡ Ok tt
+pub run_is_of_font : (r : Opening) (a : Job) → tested a ≡ Ok tt
     → IsOfFont (record { tested = tested a; bytes = run_outcome r a }) (file_pictured r a)
 unfolding run_outcome
 run_is_of_font r a good = record { tested = good; same = λ file. rw good refl }
@@ -39,7 +40,7 @@ pub map_refused : (r : Reading) (text : List ℕ) (j : JobFault) → text_tested
 unfolding map_outcome
 map_refused r text j refused file = rw refused refl
 
-pub run_refused : (r : Reading) (a : Job) (j : JobFault) → tested a ≡ Err j → (file : List ℕ)
+pub run_refused : (r : Opening) (a : Job) (j : JobFault) → tested a ≡ Err j → (file : List ℕ)
     → run_outcome r a file ≡ Err (job j)
 unfolding run_outcome
 run_refused r a j refused file = rw refused refl

@@ -1,14 +1,14 @@
 -- The claims of a font's strike about a line, as claims about the font's file.
 use Rattle.std.proofs.Common.{◌≡◌, List, ℕ, Result, Ok, Err, inl, inr, refl, arith}
 use Rattle.std.specs.Prelude.{IfSome, IsOkAnd}
-use Rattle.tt_core.specs.declared.collection.Reading.{Reading}
+use Rattle.tt_face.specs.declared.rules.Opening.{Opening}
 use Rattle.tt_core.specs.declared.fault.JobFault.{JobFault}
 use Rattle.tt_core.specs.declared.fault.JobFault.TheVariants as job_of
 use Rattle.tt_core.specs.Directory.{HasNo}
 use Rattle.tt_core.specs.Faults.{Fault}
 use Rattle.tt_core.specs.Outcomes.{◌>>=◌, draw_font_fault, draw_job_fault}
 use Rattle.tt_line.specs.Layout.{text_glyphs}
-use Rattle.tt_face.specs.Files.{face_by, IsFaceDefectBy}
+use Rattle.tt_face.specs.Files.{face_with, IsFaceDefectBy}
 use Rattle.tt_strike.specs.Defects.{IsFontRefusal, IsLineDefect, IsLineRefusal, IsRunDefect}
 use Rattle.tt_strike.specs.Job.{Job, IsJob, IsSizeRefusal, size_tested, tested}
 use Rattle.tt_strike.specs.Picture.{line_outcome, pictured_by}
@@ -18,14 +18,14 @@ use Rattle.tt_face.specs.Faces.{Face}
 use Rattle.tt_core.specs.declared.draw_fault.DrawFault.{DrawFault}
 use Rattle.tt_core.specs.declared.draw_fault.DrawFault.TheVariants as draw
 
-pub no_defect : (r : Reading) (a : Job) (file : List ℕ) (face : Face) → face_by file r ≡ Ok face
-    → HasNo (IsFaceDefectBy file r) → HasNo (IsLineDefect face a (text_glyphs face.cmap a.text)) → HasNo (IsRunDefect r a file)
+pub no_defect : (r : Opening) (a : Job) (file : List ℕ) (face : Face) → face_with file r ≡ Ok face
+    → HasNo (IsFaceDefectBy file r.reading) → HasNo (IsLineDefect face a (text_glyphs face.cmap a.text)) → HasNo (IsRunDefect r a file)
 no_defect r a file face there none line = λ fault defect. elim defect [
   | inl tables ↦ none fault tables
   | inr glyphs ↦ line fault (rw there at glyphs)
 ]
 
-pub defect_tells : (r : Reading) (a : Job) (file : List ℕ) (face : Face) (e : DrawFault) → face_by file r ≡ Ok face
+pub defect_tells : (r : Opening) (a : Job) (file : List ℕ) (face : Face) (e : DrawFault) → face_with file r ≡ Ok face
     → IfSome (draw_font_fault e) (IsLineDefect face a (text_glyphs face.cmap a.text))
     → IfSome (draw_font_fault e) (IsRunDefect r a file)
 defect_tells r a file face (draw.Font f) there stands = inr (rw there stands)
@@ -44,9 +44,9 @@ by_font a face job_of.EmptyPicture valid stands = stands
 by_font a face job_of.PictureLarge valid stands = stands
 by_font a face job_of.WorkLarge valid stands = stands
 
-pub refusal_tells : (r : Reading) (a : Job) (file : List ℕ) (face : Face) (e : DrawFault) → IsJob a
-    → face_by file r ≡ Ok face → IfSome (draw_job_fault e) (IsLineRefusal face a)
-    → IfSome (draw_job_fault e) (λ j. IsOkAnd (face_by file r) (λ face. IsFontRefusal face a j))
+pub refusal_tells : (r : Opening) (a : Job) (file : List ℕ) (face : Face) (e : DrawFault) → IsJob a
+    → face_with file r ≡ Ok face → IfSome (draw_job_fault e) (IsLineRefusal face a)
+    → IfSome (draw_job_fault e) (λ j. IsOkAnd (face_with file r) (λ face. IsFontRefusal face a j))
 refusal_tells r a file face (draw.Font f) valid there stands = tt
 refusal_tells r a file face (draw.Job j) valid there stands = rw there (by_font a face j valid stands)
 refusal_tells r a file face draw.Memory valid there stands = tt

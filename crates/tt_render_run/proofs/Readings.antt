@@ -1,5 +1,5 @@
 -- The answers of `run` and `map` by the strict reading, by the wide one, and by a face's own font.
-use Rattle.std.proofs.Common.{◌≡◌, ◌∙◌, ℕ, ◌≤◌, Bool, false, nat_lt, if◌then◌else◌, All, List, [], ◌∷◌, ◌++◌, length, map, flat_map, chars, Result, Ok, Err, refl, sym, ap, ap₂, arith}
+use Rattle.std.proofs.Common.{◌≡◌, ◌∙◌, ℕ, ◌≤◌, Bool, true, false, nat_lt, if◌then◌else◌, All, List, [], ◌∷◌, ◌++◌, length, map, flat_map, chars, Option, Some, Result, Ok, Err, refl, sym, ap, ap₂, arith}
 use Rattle.std.proofs.lemmas.Bool.Decides.{nat_tests}
 use Rattle.tt_cmap.specs.Lookup.{Cmap, glyph_of}
 use Rattle.tt_cmap.specs.Maps.{CharacterMap, strict, wide, glyph_by, glyph_of_unit, map_by, units_by}
@@ -15,8 +15,11 @@ use Rattle.tt_core.specs.Directory.{Directory, needed_table, table_of}
 use Rattle.tt_core.specs.Faults.{Fault}
 use Rattle.tt_core.specs.Limits.{font_limit}
 use Rattle.tt_core.specs.Outcomes.{◌>>=◌}
+use Rattle.tt_face.specs.declared.rules.LineRules.{LineRules}
 use Rattle.tt_face.specs.Faces.{Face, cmap_tag}
-use Rattle.tt_face.specs.Files.{FacesAreTheirFonts, SameTables, StrictIsTheFace, WideFacesExtend, face_at, face_by}
+use Rattle.tt_face.specs.Files.{FacesAreTheirFonts, SameTables, StrictIsTheFace, WideFacesExtend, face_at, face_by, face_of, face_with}
+use Rattle.tt_face.specs.Rules.{bytes_in, gpos_tag, kern_tag, kerning_by, ruled, table_bytes}
+use Rattle.tt_kern.specs.Kerning.{Tables}
 use Rattle.tt_line.specs.Layout.{text_glyphs}
 use Rattle.tt_metrics.specs.Metrics.{Metrics, advance_of, glyphs_of, metrics_of}
 use Rattle.tt_picture.specs.Pictures.{Image}
@@ -26,12 +29,12 @@ use Rattle.tt_strike.specs.ReadingLaws.{FacesDrawAlike}
 use Rattle.tt_strike.specs.Refusals.{Refused, as_font, as_job, large}
 use Rattle.tt_render_run.specs.File.{as_file}
 use Rattle.tt_render_run.specs.MapLines.{line_text, lines_of, map_line, map_lines, map_outcome}
-use Rattle.tt_render_run.specs.ReadingLaws.{CharactersHaveLines, FacesMapAsFonts, FacesRunAsFonts, IsFontOf, IsPlainText, StrictMaps, StrictRuns, WideMaps, WideRuns}
+use Rattle.tt_render_run.specs.ReadingLaws.{CharactersHaveLines, FacesMapAsFonts, FacesRunAsFonts, IsFontOf, IsPlainText, StrictMaps, StrictRuns, WideMaps, WideRuns, opened}
 use Rattle.tt_render_run.specs.Run.{run_outcome}
 
 -- what a file's bytes give, by the face alone
-abbrev run_by : Job → Result Face Fault → Result (List ℕ) Refused
-run_by a read = as_file (as_font read >>= λ face. pictured_by face a)
+abbrev run_by : LineRules → Job → Result Face Fault → Result (List ℕ) Refused
+run_by rules a read = as_file (as_font (read >>= λ face. Ok (ruled rules face)) >>= λ face. pictured_by face a)
 
 abbrev map_by_face : List ℕ → Result Face Fault → Result (List ℕ) Refused
 map_by_face text read = as_font (read >>= λ face. Ok (map_lines face.metrics face.cmap text))
@@ -42,20 +45,29 @@ abbrev answered : Result (Unit {0}) JobFault → (Result Face Fault → Result (
 answered tests by file read =
     as_job tests >>= λ u. if nat_lt font_limit (length file) then Err large else by read
 
-run_answered : (r : Reading) (a : Job) (file : List ℕ)
-    → run_outcome r a file ≡ answered (tested a) (run_by a) file (face_by file r)
-unfolding run_outcome pictured
-run_answered r a file = refl
+run_answered : (r : Reading) (rules : LineRules) (a : Job) (file : List ℕ)
+    → run_outcome (opened r rules) a file ≡ answered (tested a) (run_by rules a) file (face_by file r)
+unfolding run_outcome pictured face_with
+run_answered r rules a file = refl
 
 map_answered : (r : Reading) (text file : List ℕ)
     → map_outcome r text file ≡ answered (text_tested text) (map_by_face text) file (face_by file r)
 unfolding map_outcome lines_of
 map_answered r text file = refl
 
+-- the rules are those of the face that is drawn
+by_rules : (rules : LineRules) (a : Job) (r : Result Face Fault)
+    → run_by rules a r ≡ as_file (as_font r >>= λ face. pictured_by (ruled rules face) a)
+by_rules rules a (Ok face) = refl
+by_rules rules a (Err fault) = refl
+
 -- the strict reading
 pub strict_runs : StrictIsTheFace → StrictRuns
-strict_runs law a file =
-    run_answered reading.Strict a file ∙ ap (answered (tested a) (run_by a) file) (law file)
+strict_runs law rules a file =
+    run_answered reading.Strict rules a file
+    ∙ ap (answered (tested a) (run_by rules a) file) (law file)
+    ∙ ap (λ (r : Result (List ℕ) Refused). as_job (tested a) >>= λ u. if nat_lt font_limit (length file) then Err large else r)
+    (by_rules rules a (face_of file))
 
 pub strict_maps : StrictIsTheFace → StrictMaps
 strict_maps law text file =
@@ -117,22 +129,28 @@ lines_alike m k l text plain same =
     ∙ lines_of_units m k l cs same
     ∙ ap (flat_map (map_line m l)) (sym (plain_units l cs plain))
 
+-- the metrics of a face with some rules
+abbrev ruled_metrics : LineRules → Metrics → Directory → Metrics
+ruled_metrics rules m d = record m { heights = rules.heights; kerning = kerning_by rules.kerned d }
+
 -- the wide reading
 same_tables : (d e : Directory) → d ≡ e → SameTables d e
 same_tables d e is = λ tag. ap (λ (x : Directory). table_of x tag) is
 
 pub wide_runs : StrictIsTheFace → WideFacesExtend → FacesDrawAlike → WideRuns
-wide_runs first extends alike a file face was plain =
+unfolding ruled
+wide_runs first extends alike rules a file face was plain =
     let more = extends file face was in
     let strict_face : face_by file reading.Strict ≡ Ok face = first file ∙ was in
     let glyphs = glyphs_alike more.wide.cmap face.cmap a.text plain more.same in
-    let drawn = alike more.wide face a (same_tables _ _ more.directory) more.metrics glyphs in
-    let by = answered (tested a) (λ (r : Result Face Fault). run_by a r) file in
-    run_answered (reading.Wide 0) a file
+    let metrics = ap₂ (ruled_metrics rules) more.metrics more.directory in
+    let drawn = alike (ruled rules more.wide) (ruled rules face) a (same_tables _ _ more.directory) metrics glyphs in
+    let by = answered (tested a) (λ (r : Result Face Fault). run_by rules a r) file in
+    run_answered (reading.Wide 0) rules a file
     ∙ ap by more.given
     ∙ ap (λ (image : Result Image Refused). as_job (tested a) >>= λ u. if nat_lt font_limit (length file) then Err large else as_file image) drawn
     ∙ ap by (sym strict_face)
-    ∙ sym (run_answered reading.Strict a file)
+    ∙ sym (run_answered reading.Strict rules a file)
 
 pub wide_maps : StrictIsTheFace → WideFacesExtend → WideMaps
 wide_maps first extends text file face was plain =
@@ -164,12 +182,24 @@ moved e face = record { directory = e; metrics = face.metrics; cmap = face.cmap 
 abbrev all_moved : Directory → Result Face Fault → Result Face Fault
 all_moved e faces = faces >>= λ face. Ok (moved e face)
 
-runs_moved : FacesDrawAlike → (a : Job) (d e : Directory) (r : Result Face Fault)
-    → ((face : Face) → r ≡ Ok face → d ≡ face.directory) → SameTables d e → run_by a r ≡ run_by a (all_moved e r)
-runs_moved alike a d e (Ok face) its same =
+kerned_alike : (kerned : Bool) (d e : Directory) → SameTables d e → kerning_by kerned d ≡ kerning_by kerned e
+unfolding table_bytes
+kerned_alike true d e same =
+    ap₂ (λ (gpos kern : List ℕ). Some (record { gpos = gpos; kern = kern } : Tables))
+    (ap bytes_in (same gpos_tag)) (ap bytes_in (same kern_tag))
+kerned_alike false d e same = refl
+
+runs_moved : FacesDrawAlike → (rules : LineRules) (a : Job) (d e : Directory) (r : Result Face Fault)
+    → ((face : Face) → r ≡ Ok face → d ≡ face.directory) → SameTables d e
+    → run_by rules a r ≡ run_by rules a (all_moved e r)
+unfolding ruled
+runs_moved alike rules a d e (Ok face) its same =
     let tables : SameTables face.directory e = λ tag. ap (λ (x : Directory). table_of x tag) (sym (its face refl)) ∙ same tag in
-    ap (λ (image : Result Image Refused). as_file image) (alike face (moved e face) a tables refl refl)
-runs_moved alike a d e (Err f) its same = refl
+    let metrics = ap (λ (k : Option Tables). record (face.metrics) { heights = rules.heights; kerning = k })
+    (kerned_alike rules.kerned face.directory e tables) in
+    ap (λ (image : Result Image Refused). as_file image)
+    (alike (ruled rules face) (ruled rules (moved e face)) a tables metrics refl)
+runs_moved alike rules a d e (Err f) its same = refl
 
 maps_moved : (text : List ℕ) (e : Directory) (r : Result Face Fault) → map_by_face text r ≡ map_by_face text (all_moved e r)
 maps_moved text e (Ok face) = refl
@@ -199,14 +229,15 @@ its_font law file n font is =
     ∙ sym (face_of_file font (reading.Wide 0) is.own is.alone)
 
 pub faces_run_as_fonts : FacesAreTheirFonts → FacesDrawAlike → FacesRunAsFonts
-faces_run_as_fonts law alike a file n font is =
+faces_run_as_fonts law alike rules a file n font is =
     let r = face_by file (reading.Wide n) in
     let its : (face : Face) → r ≡ Ok face → is.face ≡ face.directory = λ face was.
     face_directory is.face (reading.Wide n) face (sym (face_of_file file (reading.Wide n) is.face is.read) ∙ was) in
-    let same = runs_moved alike a is.face is.own r its is.same ∙ ap (λ (s : Result Face Fault). run_by a s) (its_font law file n font is) in
-    run_answered (reading.Wide n) a file
-    ∙ answered_alike (tested a) (λ (s : Result Face Fault). run_by a s) file font r (face_by font (reading.Wide 0)) is.small is.small_too same
-    ∙ sym (run_answered (reading.Wide 0) a font)
+    let same = runs_moved alike rules a is.face is.own r its is.same
+    ∙ ap (λ (s : Result Face Fault). run_by rules a s) (its_font law file n font is) in
+    run_answered (reading.Wide n) rules a file
+    ∙ answered_alike (tested a) (λ (s : Result Face Fault). run_by rules a s) file font r (face_by font (reading.Wide 0)) is.small is.small_too same
+    ∙ sym (run_answered (reading.Wide 0) rules a font)
 
 pub faces_map_as_fonts : FacesAreTheirFonts → FacesMapAsFonts
 faces_map_as_fonts law text file n font is =

@@ -1,7 +1,7 @@
 -- What a call claims about the defects of a font, and why it refuses a job.
 use Rattle.std.specs.Prelude.{List, ℕ, Option, Some, None, Result, Ok, Err, IfSome, Bool, true, false, ⊤}
 use Rattle.tt_core.specs.Directory.{HasNo}
-use Rattle.tt_core.specs.declared.collection.Reading.{Reading}
+use Rattle.tt_face.specs.declared.rules.Opening.{Opening}
 use Rattle.tt_core.specs.Faults.{Fault}
 use Rattle.tt_core.specs.declared.fault.JobFault.{JobFault}
 use Rattle.tt_strike.specs.Defects.{IsFontRefusal}
@@ -23,9 +23,9 @@ TellsDefectsOf None IsOne result = ⊤
 TellsDefectsOf (Some file) IsOne result = CallTellsDefects (IsOne file) result
 
 -- the fact that refuses a job, alone or by a reading of a font file: the font comes second
-abbrev pub IsRefusedBy : Bool → Reading → Job → Option (List ℕ) → JobFault → Type 0
+abbrev pub IsRefusedBy : Bool → Opening → Job → Option (List ℕ) → JobFault → Type 0
 IsRefusedBy true r a left j = IfSome left (ByFace (λ face a. IsFontRefusal face a j) r a)
 IsRefusedBy false r a left j = IsTestRefusal a j
 
-abbrev pub IsJobRefusal : Reading → Job → Option (List ℕ) → JobFault → Type 0
+abbrev pub IsJobRefusal : Opening → Job → Option (List ℕ) → JobFault → Type 0
 IsJobRefusal r a left j = IsRefusedBy (needs_font j) r a left j

@@ -2,7 +2,7 @@
 use Rattle.std.specs.Prelude.{◌≡◌, refl, ℕ, ◌+◌, ◌*◌, ◌≤◌, Bool, ◌&&◌, nat_le, nat_lt, pos, List, [], ◌∷◌, ◌++◌, codes, length, Result, Ok}
 use Rattle.std.specs.Fmt.{digits}
 use Rattle.tt_core.specs.Bits.{stride}
-use Rattle.tt_core.specs.declared.collection.Reading.{Reading}
+use Rattle.tt_face.specs.declared.rules.Opening.{Opening}
 use Rattle.tt_core.specs.Limits.{height_limit, width_limit}
 use Rattle.tt_core.specs.Outcomes.{◌>>=◌}
 use Rattle.tt_pbm.specs.P4.{p4_header_of}
@@ -23,7 +23,7 @@ abbrev pub as_file : {E : Type 0} → Result Image E → Result (List ℕ) E
 as_file made = made >>= λ i. Ok (p4 i)
 
 -- the file of the picture of a job by a reading of a font file
-abbrev pub file_pictured : Reading → Job → List ℕ → Result (List ℕ) Refused
+abbrev pub file_pictured : Opening → Job → List ℕ → Result (List ℕ) Refused
 file_pictured r a file = as_file (pictured r a file)
 
 -- the bytes of the header of a picture, at most 16, and of a band of its rows

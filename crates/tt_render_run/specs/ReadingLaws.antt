@@ -6,12 +6,16 @@ use Rattle.tt_cmap.specs.Lookup.{Cmap, glyph_of}
 use Rattle.tt_cmap.specs.Maps.{strict}
 use Rattle.tt_cmap.specs.Units.{is_selector}
 use Rattle.tt_core.specs.Collections.{directory_by}
+use Rattle.tt_core.specs.declared.collection.Reading.{Reading}
 use Rattle.tt_core.specs.declared.collection.Reading.TheVariants as reading
 use Rattle.tt_core.specs.Directory.{Directory}
 use Rattle.tt_core.specs.Limits.{font_limit}
 use Rattle.tt_core.specs.Outcomes.{◌>>=◌}
+use Rattle.tt_face.specs.declared.rules.LineRules.{LineRules}
+use Rattle.tt_face.specs.declared.rules.Opening.{Opening}
 use Rattle.tt_face.specs.Faces.{Face}
 use Rattle.tt_face.specs.Files.{SameTables, face_of}
+use Rattle.tt_face.specs.Rules.{ruled}
 use Rattle.tt_metrics.specs.Metrics.{Metrics, advance_of}
 use Rattle.tt_strike.specs.Job.{Job, tested, text_tested}
 use Rattle.tt_strike.specs.Picture.{pictured_by}
@@ -21,10 +25,14 @@ use Rattle.tt_render_run.specs.MapLines.{line_text, map_lines, map_outcome}
 use Rattle.tt_render_run.specs.Outcome.{outcome_of}
 use Rattle.tt_render_run.specs.Run.{run_outcome}
 
+-- a face opened by a reading, with some rules of its lines
+abbrev pub opened : Reading → LineRules → Opening
+opened r rules = record { reading = r; rules = rules }
+
 -- with the strict reading a job is drawn by the tables of the file's only font
 abbrev pub StrictRuns : Type 0
-StrictRuns = (a : Job) (file : List ℕ) → run_outcome reading.Strict a file
-    ≡ outcome_of (tested a) (λ font. as_file (as_font (face_of font) >>= λ face. pictured_by face a)) file
+StrictRuns = (rules : LineRules) (a : Job) (file : List ℕ) → run_outcome (opened reading.Strict rules) a file
+    ≡ outcome_of (tested a) (λ font. as_file (as_font (face_of font) >>= λ face. pictured_by (ruled rules face) a)) file
 
 abbrev pub StrictMaps : Type 0
 StrictMaps = (text file : List ℕ) → map_outcome reading.Strict text file
@@ -41,8 +49,8 @@ IsPlainText text = All (λ c. is_selector c ≡ false) (chars text)
 
 -- where the strict reading gives a face, the wide reading of the first face has the same answers for such a text
 abbrev pub WideRuns : Type 0
-WideRuns = (a : Job) (file : List ℕ) (face : Face) → face_of file ≡ Ok face → IsPlainText a.text
-    → run_outcome (reading.Wide 0) a file ≡ run_outcome reading.Strict a file
+WideRuns = (rules : LineRules) (a : Job) (file : List ℕ) (face : Face) → face_of file ≡ Ok face → IsPlainText a.text
+    → run_outcome (opened (reading.Wide 0) rules) a file ≡ run_outcome (opened reading.Strict rules) a file
 
 abbrev pub WideMaps : Type 0
 WideMaps = (text file : List ℕ) (face : Face) → face_of file ≡ Ok face → IsPlainText text
@@ -60,8 +68,8 @@ pub record IsFontOf (file : List ℕ) (n : ℕ) (font : List ℕ) : Type 0 where
 
 -- so the font has the answers of the face
 abbrev pub FacesRunAsFonts : Type 0
-FacesRunAsFonts = (a : Job) (file : List ℕ) (n : ℕ) (font : List ℕ) → IsFontOf file n font
-    → run_outcome (reading.Wide n) a file ≡ run_outcome (reading.Wide 0) a font
+FacesRunAsFonts = (rules : LineRules) (a : Job) (file : List ℕ) (n : ℕ) (font : List ℕ) → IsFontOf file n font
+    → run_outcome (opened (reading.Wide n) rules) a file ≡ run_outcome (opened (reading.Wide 0) rules) a font
 
 abbrev pub FacesMapAsFonts : Type 0
 FacesMapAsFonts = (text file : List ℕ) (n : ℕ) (font : List ℕ) → IsFontOf file n font

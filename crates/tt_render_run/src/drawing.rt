@@ -40,15 +40,15 @@ pub(crate) fn draw(alloc: Global, file: &[u8], job: &Job) -> Result<Drawn, DrawF
     requires size { length file.now ≤ font_limit }
     requires asked { IsJob (job_view job.now) }
     requires tested { tested (job_view job.now) ≡ Ok tt }
-    ensures exact { GivesUnless refusal (λ d. image_of d.picture) result (pictured job.now.reading (job_view job.now) file.now) }
+    ensures exact { GivesUnless refusal (λ d. image_of d.picture) result (pictured job.now.opening (job_view job.now) file.now) }
     ensures valid { IfOk result (λ d. IsReady d.picture) }
     ensures piece { IfOk result (λ d. length d.piece.items ≡ piece_bytes d.picture) }
-    ensures report { IfOk result (λ d. report_of job.now.reading (job_view job.now) file.now ≡ Ok d.picture.unfitted) }
+    ensures report { IfOk result (λ d. report_of job.now.opening (job_view job.now) file.now ≡ Ok d.picture.unfitted) }
     ensures once { IfOk result (λ d. ListsOnce d.picture.unfitted) }
-    ensures defects { TellsDefects draw_font_fault (IsRunDefect job.now.reading (job_view job.now) file.now) result }
-    ensures job { IfTold draw_job_fault result (λ j. ByFace (λ face a. IsFontRefusal face a j) job.now.reading (job_view job.now) file.now) }
+    ensures defects { TellsDefects draw_font_fault (IsRunDefect job.now.opening (job_view job.now) file.now) result }
+    ensures job { IfTold draw_job_fault result (λ j. ByFace (λ face a. IsFontRefusal face a j) job.now.opening (job_view job.now) file.now) }
 {
-    let face = Face::read(file, job.reading)?;
+    let face = Face::read_with(file, job.opening)?;
     let mut strike = Strike::new(alloc, &face, job.ppem, job.fit, 0)?;
     let picture = strike.line(job.text, job.margin)?;
     let piece = piece_for(alloc, &picture)?;

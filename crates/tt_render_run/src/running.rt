@@ -37,13 +37,13 @@ pub fn run<R: Source, W: Sink>(
 ) -> Result<Report, RunFault>
     requires font { R.has_failed font.old ≡ false }
     requires out { W.has_failed out.old ≡ false }
-    ensures outcome { CallGives result (traffic_of R.left R.has_failed W.written W.has_failed font.old font.new out.old out.new) (run_wanted job.now.reading (job_view job.now)) }
+    ensures outcome { CallGives result (traffic_of R.left R.has_failed W.written W.has_failed font.old font.new out.old out.new) (run_wanted job.now.opening (job_view job.now)) }
     // With fallback and best each unfitted glyph of the text is listed once, in order of first appearance, with its
     // fault; with the other fits none is.
-    ensures report { IfOk result (λ r. IfSome (R.left font.old) (λ file. report_of job.now.reading (job_view job.now) file ≡ Ok r.unfitted.items)) }
+    ensures report { IfOk result (λ r. IfSome (R.left font.old) (λ file. report_of job.now.opening (job_view job.now) file ≡ Ok r.unfitted.items)) }
     ensures once { IfOk result (λ r. ListsOnce r.unfitted.items) }
-    ensures defects { TellsDefectsOf (R.left font.old) (IsRunDefect job.now.reading (job_view job.now)) result }
-    ensures job { IfJob result (IsJobRefusal job.now.reading (job_view job.now) (R.left font.old)) }
+    ensures defects { TellsDefectsOf (R.left font.old) (IsRunDefect job.now.opening (job_view job.now)) result }
+    ensures job { IfJob result (IsJobRefusal job.now.opening (job_view job.now) (R.left font.old)) }
     ensures large { IfLarge result (IfSome (R.left font.old) (λ file. font_limit < length file)) }
 {
     test_job(job)?;

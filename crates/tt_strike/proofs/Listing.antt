@@ -17,7 +17,7 @@ use Rattle.tt_strike.specs.Picture.{line_shapes, setting, setting_in, text_place
 use Rattle.tt_strike.specs.Refusals.{Refused, as_font}
 use Rattle.tt_strike.specs.Report.{line_report, report_by, report_of}
 use Rattle.tt_face.specs.Faces.{Face, glyphs_in}
-use Rattle.tt_face.specs.Files.{face_by}
+use Rattle.tt_face.specs.Files.{face_with}
 use Rattle.tt_strike.specs.Programs.{programs_in}
 use Rattle.tt_strike.specs.Work.{line_fitter, point_work, points_in, started}
 use Rattle.tt_strike.proofs.Placed.{of-font}
@@ -79,7 +79,7 @@ line_lists_nothing laws face a line entries was other =
 pub others_list_nothing : FitLaws → OthersListNothing
 unfolding report_of report_by
 others_list_nothing laws r a file entries was other =
-    let by_face = came-through (as_font (face_by file r)) _ entries was in
+    let by_face = came-through (as_font (face_with file r)) _ entries was in
     let face = by_face.value in
     let by_line = came-through (text_placed face a) _ entries by_face.rest in
     let line = by_line.value in

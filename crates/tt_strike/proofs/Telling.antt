@@ -2,7 +2,7 @@
 use Rattle.std.proofs.Common.{◌≡◌, ℕ, List, map, Result, Ok, Err, inl, inr, subst}
 use Rattle.std.specs.Prelude.{IsOkAnd, IfSome}
 use Rattle.tt_core.specs.Chains.{came-through, was-err}
-use Rattle.tt_core.specs.declared.collection.Reading.{Reading}
+use Rattle.tt_face.specs.declared.rules.Opening.{Opening}
 use Rattle.tt_core.specs.Faults.{Fault}
 use Rattle.tt_core.specs.Directory.{HasNo}
 use Rattle.tt_core.specs.declared.font_fault.FontFault.{FontFault}
@@ -17,7 +17,7 @@ use Rattle.tt_line.specs.Layout.{text_glyphs}
 use Rattle.tt_metrics.specs.Metrics.{Metrics}
 use Rattle.tt_strike.specs.Job.{Job}
 use Rattle.tt_face.specs.Defects.{IsGlyphTableDefect}
-use Rattle.tt_face.specs.Files.{face_by, IsFaceDefectBy}
+use Rattle.tt_face.specs.Files.{face_with, IsFaceDefectBy}
 use Rattle.tt_strike.specs.Defects.{IsProgramTableDefect, IsSettingDefect, IsGlyphDefect, IsLineDefect, IsRunDefect}
 use Rattle.tt_strike.specs.Work.{line_fitter}
 use Rattle.tt_face.specs.Faces.{Face}
@@ -108,8 +108,8 @@ setting_tells face a gs (fault.Font f) stands = inl stands
 setting_tells face a gs fault.Memory stands = tt
 
 -- a defect of the line is one of the font
-pub no_run_defect : (r : Reading) (a : Job) (file : List ℕ) (face : Face) (gs : List ℕ) → face_by file r ≡ Ok face
-    → HasNo (IsFaceDefectBy file r) → gs ≡ text_glyphs face.cmap a.text → HasNo (IsLineDefect face a gs)
+pub no_run_defect : (r : Opening) (a : Job) (file : List ℕ) (face : Face) (gs : List ℕ) → face_with file r ≡ Ok face
+    → HasNo (IsFaceDefectBy file r.reading) → gs ≡ text_glyphs face.cmap a.text → HasNo (IsLineDefect face a gs)
     → HasNo (IsRunDefect r a file)
 no_run_defect r a file face gs there good glyphs none = λ fault defect. elim defect [
   | inl of_face ↦ good fault of_face
@@ -119,6 +119,6 @@ no_run_defect r a file face gs there good glyphs none = λ fault defect. elim de
       none fault (rw glyphs (subst P there of_line))
 ]
 
-pub line_tells : (r : Reading) (a : Job) (file : List ℕ) (face : Face) (gs : List ℕ) (f : Fault)
-    → face_by file r ≡ Ok face → gs ≡ text_glyphs face.cmap a.text → IsLineDefect face a gs f → IsRunDefect r a file f
+pub line_tells : (r : Opening) (a : Job) (file : List ℕ) (face : Face) (gs : List ℕ) (f : Fault)
+    → face_with file r ≡ Ok face → gs ≡ text_glyphs face.cmap a.text → IsLineDefect face a gs f → IsRunDefect r a file f
 line_tells r a file face gs f there glyphs stands = inr (rw there (rw (← glyphs) stands))

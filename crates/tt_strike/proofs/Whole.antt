@@ -4,7 +4,7 @@ use Rattle.tt_core.specs.Chains.{came-through}
 use Rattle.tt_core.specs.Directory.{HasNo}
 use Rattle.tt_face.specs.Faces.{Face, glyphs_in}
 use Rattle.tt_face.specs.Programs.{ProgramTables}
-use Rattle.tt_face.specs.Files.{face_by, ReadFacesAreWhole}
+use Rattle.tt_face.specs.Files.{face_with, OpenedFacesAreWhole}
 use Rattle.tt_face.proofs.Whole.{glyph-tables-whole, programs-whole}
 use Rattle.tt_fit.specs.declared.programs.Fit.{Fit}
 use Rattle.tt_fit.specs.declared.programs.Fit.TheVariants as fit
@@ -52,14 +52,14 @@ line-whole face a line i was =
     no_line_defect face a s line.glyphs by_glyphs.value there (setting-whole face a s there)
     (of-font (shapes_in s line) by_glyphs.value by_glyphs.first)
 
-pub drawn-whole : ReadFacesAreWhole → PlacesGlyphs → StepsLead → DrawnFontsAreWhole
+pub drawn-whole : OpenedFacesAreWhole → PlacesGlyphs → StepsLead → DrawnFontsAreWhole
 unfolding pictured pictured_by
 drawn-whole read places lead r a file i was =
-    let by_face = came-through (as_font (face_by file r)) _ i was in
+    let by_face = came-through (as_font (face_with file r)) _ i was in
     let face = by_face.value in
     let by_line = came-through (text_placed face a) _ i by_face.rest in
     let line = by_line.value in
-    let there = of-font (face_by file r) face by_face.first in
+    let there = of-font (face_with file r) face by_face.first in
     no_run_defect r a file face (map (λ g. g.0) line.glyphs) there (read file r face there)
     (placed_glyphs places lead face a line by_line.first)
     (line-whole face a line i by_line.rest)

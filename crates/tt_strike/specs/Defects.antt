@@ -1,6 +1,6 @@
 -- The defects that a call can meet in a font.
 use Rattle.std.specs.Prelude.{◌≡◌, ◌<◌, List, ℕ, length, map, slice_index, Option, Result, Ok, Err, IsOkAnd, IfSome, Bool, true, false, ◌⊎◌}
-use Rattle.tt_core.specs.declared.collection.Reading.{Reading}
+use Rattle.tt_face.specs.declared.rules.Opening.{Opening}
 use Rattle.tt_core.specs.Faults.{Fault}
 use Rattle.tt_core.specs.Directory.{HasNo}
 use Rattle.tt_face.specs.Defects.{IsGlyphTableDefect, HasProgramPastEnd}
@@ -51,7 +51,7 @@ IsLineDefect face a glyphs fault = IsSettingDefect face a fault ⊎ IsOkAnd (set
     (λ s. IsGlyphDefect (line_fitter s glyphs) glyphs fault)
 
 -- a defect of the tables needed for every text, or of this text's glyphs
-abbrev pub IsRunDefect : Reading → Job → List ℕ → Fault → Type 0
+abbrev pub IsRunDefect : Opening → Job → List ℕ → Fault → Type 0
 IsRunDefect r a file fault = IsFontDefect (λ face a. IsLineDefect face a (text_glyphs face.cmap a.text)) r a file fault
 
 -- Ok means that there is no defect, and an error's fault is one

@@ -3,7 +3,7 @@
 use Rattle.std.specs.Prelude.{◌≡◌, ◌≢◌, refl, ℕ, ◌+◌, ◌||◌, true, false, pos, All, List, [], ◌∷◌, ◌++◌, ◌↔◌, ◌⊎◌, Option, Some, None, Ok, Err}
 use Rattle.tt_core.specs.Directory.{HasNo}
 use Rattle.tt_core.specs.Outcomes.{each}
-use Rattle.tt_core.specs.declared.collection.Reading.{Reading}
+use Rattle.tt_face.specs.declared.rules.Opening.{Opening}
 use Rattle.tt_core.specs.declared.fault.JobFault.TheVariants as fault
 use Rattle.tt_fit.specs.declared.programs.Fit.TheVariants as fit
 use Rattle.tt_fit.specs.Fitting.{Fitter}
@@ -30,12 +30,12 @@ use Rattle.tt_face.specs.Faces.{Face}
 
 -- a font file that gives a job's picture by a reading has no defect for the two
 abbrev pub DrawnFontsAreWhole : Type 0
-DrawnFontsAreWhole = (r : Reading) (a : Job) (file : List ℕ) (i : Image) → pictured r a file ≡ Ok i
+DrawnFontsAreWhole = (r : Opening) (a : Job) (file : List ℕ) (i : Image) → pictured r a file ≡ Ok i
     → HasNo (IsRunDefect r a file)
 
 -- with a fit that does not fall back, no glyph is listed as unfitted
 abbrev pub OthersListNothing : Type 0
-OthersListNothing = (r : Reading) (a : Job) (file : List ℕ) (entries : List Unfitted) → report_of r a file ≡ Ok entries
+OthersListNothing = (r : Opening) (a : Job) (file : List ℕ) (entries : List Unfitted) → report_of r a file ≡ Ok entries
     → falls_back a.fit ≡ false → entries ≡ []
 
 -- a margin greater by m moves each pixel by m, and changes nothing else
@@ -101,7 +101,7 @@ pub record IsByEdges (a : Job) (face : Face) (i : Image) : Type 0 where
   pub drawn : i ≡ edges_picture (frame_of line a.margin) glyphs
 
 abbrev pub OthersDrawByEdges : Type 0
-OthersDrawByEdges = (r : Reading) (a : Job) (file : List ℕ) (i : Image) → a.fit ≢ fit.Best → pictured r a file ≡ Ok i
+OthersDrawByEdges = (r : Opening) (a : Job) (file : List ℕ) (i : Image) → a.fit ≢ fit.Best → pictured r a file ≡ Ok i
     → ByFace (λ face a. IsByEdges a face i) r a file
 
 -- worked values: a stem between the centres of two columns, with its dropouts filled by scan type 0 and without

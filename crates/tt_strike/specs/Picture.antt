@@ -2,7 +2,7 @@
 -- (OpenType, "TrueType Fundamentals"). Margins and limits are profile. With best a line is laid out by the steps of its
 -- glyphs, which are made first. With any other fit it is laid out by advances. Kerning counts in both.
 use Rattle.std.specs.Prelude.{ℕ, ℤ, if◌then◌else◌, List, map, Result, Ok}
-use Rattle.tt_core.specs.declared.collection.Reading.{Reading}
+use Rattle.tt_face.specs.declared.rules.Opening.{Opening}
 use Rattle.tt_core.specs.declared.fault.JobFault.{JobFault}
 use Rattle.tt_core.specs.Faults.{Fault}
 use Rattle.tt_core.specs.Limits.{point_work_limit}
@@ -116,5 +116,5 @@ unfoldable pub line_outcome : Face → Job → Result Image Refused
 line_outcome face a = as_job (tested a) >>= λ u. pictured_by face a
 
 -- the picture of a job by a reading of a font file
-unfoldable pub pictured : Reading → Job → List ℕ → Result Image Refused
+unfoldable pub pictured : Opening → Job → List ℕ → Result Image Refused
 pictured r a file = by_face pictured_by r a file

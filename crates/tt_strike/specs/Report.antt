@@ -1,7 +1,7 @@
 -- No part of the standard: the unfitted glyphs of a text, whose points are only scaled, each with the fault of a
 -- program (profile).
 use Rattle.std.specs.Prelude.{ℕ, List, map, Result, Ok}
-use Rattle.tt_core.specs.declared.collection.Reading.{Reading}
+use Rattle.tt_face.specs.declared.rules.Opening.{Opening}
 use Rattle.tt_core.specs.Outcomes.{◌>>=◌}
 use Rattle.tt_line.specs.Layout.{Placement}
 use Rattle.tt_picture.specs.declared.report.Unfitted.{Unfitted}
@@ -25,5 +25,5 @@ unfoldable pub report_by : Face → Job → Result (List Unfitted) Refused
 report_by face a = text_placed face a >>= λ line. line_report face a line
 
 -- the unfitted glyphs of a text by a reading of a font file
-unfoldable pub report_of : Reading → Job → List ℕ → Result (List Unfitted) Refused
+unfoldable pub report_of : Opening → Job → List ℕ → Result (List Unfitted) Refused
 report_of r a file = by_face report_by r a file

@@ -7,7 +7,8 @@ ghost use Rattle.tt_core.specs.Outcomes.{Gives};
 ghost use Rattle.tt_strike.specs.Job.{job_view, margin_tested, size_tested, tested, text_tested, IsJob, IsSizeRefusal, IsTestRefusal};
 ghost use Rattle.tt_strike.specs.Refusals.{needs_font};
 
-use tt_core::{JobFault, MARGIN_LIMIT, Reading, SIZE_LIMIT, TEXT_LIMIT};
+use tt_core::{JobFault, MARGIN_LIMIT, SIZE_LIMIT, TEXT_LIMIT};
+use tt_face::Opening;
 use tt_fit::Fit;
 
 /// A line of text to be drawn.
@@ -19,8 +20,8 @@ pub struct Job<'a> {
     /// Pixels round the line, 0 to 64.
     pub margin: u32,
     pub fit: Fit,
-    /// Which face draws, and how the font's file is read. Clauses name the reading beside the job.
-    pub reading: Reading,
+    /// Which face draws, how the font's file is read, and how lines are laid out. Clauses name this beside the job.
+    pub opening: Opening,
 }
 
 /// Tests a size. Error: SizeRange.

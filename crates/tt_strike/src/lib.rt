@@ -34,6 +34,6 @@ pub use sized::SizedFace;
 pub use source::FitterSource;
 pub use strike::Strike;
 pub use tt_core::DrawFault;
-pub use tt_face::Face;
+pub use tt_face::{Face, Heights, LineRules, Opening};
 pub use tt_picture::{InkBox, Picture, Report, Unfitted};
 pub use work::{CHORD_LIMIT, charge_points, crossings_allowed, is_bounded};

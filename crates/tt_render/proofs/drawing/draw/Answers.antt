@@ -52,7 +52,7 @@ returns-in_err-face-clause-defects c =
 pub returns-in_err-strike-clause-defects : goal.returns-in_err-strike-clause-defects
 returns-in_err-strike-clause-defects c =
     let p = err_from_is_err_and c.from_residual-in_err-strike.result c.from_residual-in_err-strike.ensures.1 in
-    rw (p.1, p.2) (strike_tells ReadyText (IsRunDefect c.args.setting.now.reading (job_by c.args.setting.now c.args.text.now) c.args.file.now)
+    rw (p.1, p.2) (strike_tells ReadyText (IsRunDefect c.args.setting.now.opening (job_by c.args.setting.now c.args.text.now) c.args.file.now)
     c.in_err-strike.field-0.0 c.in_err-strike.ensures.font)
 
 pub returns-in-Ok-clause-defects : goal.returns-in-Ok-clause-defects
@@ -70,5 +70,5 @@ returns-clause-defects c =
 pub answer_text-requires : goal.answer_text-requires
 answer_text-requires c = record {
   file = rw c.in_ok-strike.ensures.exact
-      (face_file c.args.file.now c.args.setting.now.reading c.in_ok-face.face c.in_ok-face.ensures.exact);
+      (face_file c.args.file.now c.args.setting.now.opening c.in_ok-face.face c.in_ok-face.ensures.exact);
 }

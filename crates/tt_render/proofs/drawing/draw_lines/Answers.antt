@@ -96,7 +96,7 @@ returns-in_err-face-clause-defects g c =
     let file = c.in_ok-file in
     let fault = c.in_err-face.field-0.0 in
     let p = err_from_is_err_and c.from_residual-in_err-face.result c.from_residual-in_err-face.ensures.1 in
-    let Tells : List ℕ → Type 0 = λ bytes. IsFaceDefectBy bytes c.args.setting.now.reading fault in
+    let Tells : List ℕ → Type 0 = λ bytes. IsFaceDefectBy bytes c.args.setting.now.opening.reading fault in
     rw (p.1, p.2) (known_of (left c.args.font.now) (left c.read_font.new.font) file.file.items Tells file.ensures.0
     file.ensures.1 (subst Tells c.deref.ensures.value c.in_err-face.ensures.fault))
 
@@ -126,5 +126,5 @@ returns-clause-kept g c =
 pub draw_lines_by-requires-clause-file : goal.draw_lines_by-requires-clause-file
 draw_lines_by-requires-clause-file g c =
     rw (c.deref-2.ensures.value, c.in_ok-strike.ensures.exact)
-    (face_file c.in_ok-file.file.items c.args.setting.now.reading c.in_ok-face.face
+    (face_file c.in_ok-file.file.items c.args.setting.now.opening c.in_ok-face.face
     (rw c.deref.ensures.value at c.in_ok-face.ensures.exact))

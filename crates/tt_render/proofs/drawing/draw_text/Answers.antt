@@ -98,7 +98,7 @@ pub returns-in_err-test_job-clause-defects : goal.returns-in_err-test_job-clause
 returns-in_err-test_job-clause-defects g c =
     let p = err_from_is_err_and c.from_residual.result c.from_residual.ensures.1 in
     rw (p.1, p.2) (job_tells (g.R.Source.left c.args.font.now)
-    (IsRunDefect c.args.setting.now.reading (job_by c.args.setting.now c.args.text.now)) c.in_err-test_job.field-0.0)
+    (IsRunDefect c.args.setting.now.opening (job_by c.args.setting.now c.args.text.now)) c.in_err-test_job.field-0.0)
 
 pub returns-in_err-file-clause-defects : goal.returns-in_err-file-clause-defects
 returns-in_err-file-clause-defects g c =
@@ -106,7 +106,7 @@ returns-in_err-file-clause-defects g c =
     let font = c.read_font.new.font in
     let p = err_from_is_err_and c.from_residual-in_err-file.result c.from_residual-in_err-file.ensures.1 in
     rw (p.1, p.2) (reading_tells c.in_err-file.field-0.0 (left c.args.font.now) (left font)
-    (g.R.Source.has_failed font) (IsRunDefect c.args.setting.now.reading (job_by c.args.setting.now c.args.text.now)) c.in_err-file.ensures)
+    (g.R.Source.has_failed font) (IsRunDefect c.args.setting.now.opening (job_by c.args.setting.now c.args.text.now)) c.in_err-file.ensures)
 
 pub returns-in_err-ready-clause-defects : goal.returns-in_err-ready-clause-defects
 returns-in_err-ready-clause-defects g c =
@@ -115,7 +115,7 @@ returns-in_err-ready-clause-defects g c =
     let a = job_by c.args.setting.now c.args.text.now in
     let fault = c.in_err-ready.field-0.0 in
     let p = err_from_is_err_and c.from_residual-in_err-ready.result c.from_residual-in_err-ready.ensures.1 in
-    let P : List ℕ → Type 0 = λ bytes. TextTellsDefects {V = Unit {0}} (IsRunDefect c.args.setting.now.reading a bytes) (Err fault) in
+    let P : List ℕ → Type 0 = λ bytes. TextTellsDefects {V = Unit {0}} (IsRunDefect c.args.setting.now.opening a bytes) (Err fault) in
     let tells = subst P c.deref.ensures.value c.in_err-ready.ensures.defects in
     rw (p.1, p.2)
     (known_of (left c.args.font.now) (left c.read_font.new.font) file.file.items P file.ensures.0 file.ensures.1 tells)

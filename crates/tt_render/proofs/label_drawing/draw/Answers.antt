@@ -69,4 +69,4 @@ returns-clause-defects c =
 pub answer_label-requires-clause-file : goal.answer_label-requires-clause-file
 answer_label-requires-clause-file c =
     rw c.in_ok-sized.ensures.exact
-    (face_file c.args.file.now c.args.asked.now.setting.reading c.in_ok-face.face c.in_ok-face.ensures.exact)
+    (face_file c.args.file.now c.args.asked.now.setting.opening c.in_ok-face.face c.in_ok-face.ensures.exact)

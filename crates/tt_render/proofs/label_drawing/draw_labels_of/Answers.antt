@@ -33,7 +33,7 @@ returns-clause-outcome g c =
 pub draw_labels_by-requires-clause-file : goal.draw_labels_by-requires-clause-file
 draw_labels_by-requires-clause-file g c =
     rw c.in_ok-sized.ensures.exact
-    (face_file c.args.file.now c.args.asked.now.setting.reading c.in_ok-face.face c.in_ok-face.ensures.exact)
+    (face_file c.args.file.now c.args.asked.now.setting.opening c.in_ok-face.face c.in_ok-face.ensures.exact)
 
 pub returns-in_err-face-clause-defects : goal.returns-in_err-face-clause-defects
 returns-in_err-face-clause-defects g c =

@@ -13,7 +13,7 @@ returns-in_err-placed-clause-exact c =
     let p = err_from_is_err_and c.from_residual.result c.from_residual.ensures.1 in
     let d = c.in_err-placed.field-0.0 in
     rw (p.1, p.2) (lines_stop a s c.args.text.now d
-    (stops_at_pens a.reading s.face (job_of s c.args.text.now a.margin) d c.in_err-placed.ensures.exact))
+    (stops_at_pens a.opening.reading s.face (job_of s c.args.text.now a.margin) d c.in_err-placed.ensures.exact))
 
 pub returns-in_err-placed-clause-serves : goal.returns-in_err-placed-clause-serves
 returns-in_err-placed-clause-serves c =

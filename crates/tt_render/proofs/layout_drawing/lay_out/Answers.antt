@@ -69,5 +69,5 @@ returns-in-Ok-clause-defects c =
 pub answer_layout-requires : goal.answer_layout-requires
 answer_layout-requires c = record {
   file = rw c.in_ok-sized.ensures.exact
-      (face_file c.args.file.now c.args.setting.now.reading c.in_ok-face.face c.in_ok-face.ensures.exact);
+      (face_file c.args.file.now c.args.setting.now.opening c.in_ok-face.face c.in_ok-face.ensures.exact);
 }

@@ -4,7 +4,7 @@ use Rattle.tt_strike.proofs.laws.fonts_are_whole.Goals as goal
 
 pub returns-clause-picture : goal.returns-clause-picture
 returns-clause-picture c =
-    drawn-whole c.readings_give_faces.ensures.whole c.glyphs_are_placed.ensures c.steps_lead.ensures
+    drawn-whole c.rules_keep_faces.ensures.whole c.glyphs_are_placed.ensures c.steps_lead.ensures
 
 pub returns-clause-tables : goal.returns-clause-tables
 returns-clause-tables c = face-whole
