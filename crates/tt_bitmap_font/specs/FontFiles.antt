@@ -1,6 +1,6 @@
 -- No part of a standard: the file of a font at a size, and the order of its refusals (profile). All glyphs are made
 -- before a byte is written.
-use Rattle.std.specs.Prelude.{◌≡◌, refl, ℕ, List, [], length, codes, string_bytes, Option, Some, None, Result, Ok, Err}
+use Rattle.std.specs.Prelude.{◌≡◌, refl, ℕ, false, List, [], length, codes, string_bytes, Option, Some, None, Result, Ok, Err}
 use Rattle.std.specs.Fmt.{digits}
 use Rattle.tt_advice.specs.Advice.{advice}
 use Rattle.tt_advice.specs.declared.hint.FixedHint.TheVariants as fixed
@@ -14,7 +14,9 @@ use Rattle.tt_core.specs.declared.fault.JobFault.{JobFault}
 use Rattle.tt_core.specs.declared.fault.JobFault.TheVariants as job
 use Rattle.tt_core.specs.Faults.{Fault}
 use Rattle.tt_core.specs.Outcomes.{◌>>=◌}
+use Rattle.tt_face.specs.declared.rules.Opening.{Opening}
 use Rattle.tt_face.specs.Faces.{Face}
+use Rattle.tt_face.specs.Rules.{plain_opening}
 use Rattle.tt_fit.specs.declared.programs.Fit.{Fit}
 use Rattle.tt_fit.specs.declared.programs.Fit.TheVariants as fit
 use Rattle.tt_glyphs.specs.Requests.{Bitmaps, GlyphJob, job_for, sound_outcome}
@@ -41,9 +43,14 @@ use Rattle.tt_bitmap_font.specs.declared.answers.ReadyFile.{ReadyFile}
 use Rattle.tt_bitmap_font.specs.declared.font_file.FontFile.{FontFile}
 use Rattle.tt_bitmap_font.specs.Facts.{face_facts}
 
--- the setting of a file: the wide reading, and no margin
+-- how the face of a file is opened: the wide reading, and no kerning
+abbrev pub opening_of : FontFile → Opening
+opening_of a =
+    record { reading = reading.Wide a.face; rules = record { heights = a.heights; kerned = false } }
+
+-- the setting of a file: no margin
 abbrev pub setting_of : FontFile → Setting
-setting_of a = plain_setting a.size 0 a.fit (reading.Wide a.face)
+setting_of a = plain_setting a.size 0 a.fit (opening_of a)
 
 -- the tests before the font is read: the size, and then the length of the text
 abbrev pub asked_tested : FontFile → Result (Unit {0}) JobFault
@@ -146,7 +153,7 @@ abbrev pub HintsBy : FontFile → Labelled → List ℕ → Type 0
 HintsBy a e file = e.hint ≡ hint_of a e.answer file
 
 -- worked values: the size is tested first; a text that is too long is no matter of the font, its characters are
-size_before_the_text : tested (job_by (plain_setting 301 0 fit.Best (reading.Wide 0)) []) ≡ Err job.SizeRange
+size_before_the_text : tested (job_by (plain_setting 301 0 fit.Best (plain_opening (reading.Wide 0))) []) ≡ Err job.SizeRange
 unfolding tested size_tested
 size_before_the_text = refl
 

@@ -1,12 +1,13 @@
 //! A request: a font at a size as a file.
 
 ghost use Rattle.std.specs.Prelude.{◌≡◌, ◌≤◌, OnOk};
-ghost use Rattle.tt_bitmap_font.specs.FontFiles.{asked_tested, setting_of};
+ghost use Rattle.tt_bitmap_font.specs.FontFiles.{asked_tested, opening_of, setting_of};
 ghost use Rattle.tt_core.specs.Limits.{size_limit};
 ghost use Rattle.tt_core.specs.Outcomes.{Gives};
 
 use tt_bdf::CodeRange;
 use tt_core::{JobFault, Reading};
+use tt_face::{Heights, LineRules, Opening};
 use tt_fit::Fit;
 use tt_render::Setting;
 use tt_strike::test_job;
@@ -19,6 +20,8 @@ pub struct FontFile<'a> {
     pub fit: Fit,
     /// The number of the face. The font's file is read as with `Reading::Wide`.
     pub face: u32,
+    /// How the file's ascent and descent are rounded.
+    pub heights: Heights,
     /// Ranges of code points, beside those of the text.
     pub ranges: &'a [CodeRange],
     /// The text, whose characters are wanted too; empty where there is none.
@@ -30,11 +33,25 @@ pub struct FontFile<'a> {
 }
 
 impl<'a> FontFile<'a> {
+    /// How the face is opened. No pair of glyphs is kerned, since a file has each glyph alone.
+    pub(crate) fn opening(&self) -> Opening
+        ensures { result ≡ opening_of self.now }
+    {
+        let rules = LineRules {
+            heights: self.heights,
+            kerned: false,
+        };
+        Opening {
+            reading: Reading::Wide { face: self.face },
+            rules,
+        }
+    }
+
     /// The setting by which texts are drawn with the file's glyphs.
     pub(crate) fn setting(&self) -> Setting
         ensures { result ≡ setting_of self.now }
     {
-        Setting::plain(self.size, 0, self.fit, Reading::Wide { face: self.face })
+        Setting::plain(self.size, 0, self.fit, self.opening())
     }
 
     /// Tests the request before the font is read. Errors, the first of: SizeRange, TextLong.

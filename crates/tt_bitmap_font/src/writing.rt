@@ -14,7 +14,7 @@ use crate::answers::{ReadyFile, answer_file};
 use crate::font_file::FontFile;
 use std::alloc::Global;
 use tt_advice::{FixedHint, Hint, advice};
-use tt_core::{JobFault, Reading, Sink, Source};
+use tt_core::{JobFault, Sink, Source};
 use tt_face::Face;
 use tt_pbm::write_all_of;
 use tt_render::{Labelled, Refusal, TextsFault, print_text};
@@ -106,7 +106,7 @@ fn ready_file(alloc: Global, file: &[u8], asked: &FontFile) -> Result<ReadyFile,
     ensures defects { TextTellsDefects (IsFileDefect asked.now file.now) result }
     ensures report { IfOk result TellsFile }
 {
-    let face = Face::read(file, Reading::Wide { face: asked.face })?;
+    let face = Face::read_with(file, asked.opening())?;
     match answer_file(alloc, &face, file, asked) {
         Ok(ready) => Ok(ready),
         Err(fault) => Err(TextsFault {

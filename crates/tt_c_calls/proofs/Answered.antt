@@ -2,6 +2,7 @@
 use Rattle.std.proofs.Common.{◌≡◌, ◌≢◌, List, ℕ, Bool, true, false, Result, Ok, Err, inl, inr, refl, nat_lt, length, arith}
 use Rattle.std.specs.Prelude.{IfSome, if◌then◌else◌}
 use Rattle.tt_core.specs.declared.collection.Reading.{Reading}
+use Rattle.tt_face.specs.declared.rules.Opening.{Opening}
 use Rattle.tt_core.specs.declared.fault.JobFault.{JobFault}
 use Rattle.tt_core.specs.Faults.{Fault}
 use Rattle.tt_core.specs.Limits.{font_limit}
@@ -11,11 +12,11 @@ use Rattle.tt_core.specs.declared.draw_fault.DrawFault.{DrawFault}
 use Rattle.tt_core.specs.declared.draw_fault.DrawFault.TheVariants as draw
 use Rattle.tt_strike.specs.Refusals.{Refused, as_font, as_job, job, large, refusal}
 use Rattle.tt_face.specs.Faces.{Face}
-use Rattle.tt_face.specs.Files.{face_by}
+use Rattle.tt_face.specs.Files.{face_by, face_with}
 use Rattle.tt_c_calls.specs.declared.fault.CallFault.{CallFault}
 use Rattle.tt_c_calls.specs.declared.fault.CallFault.TheVariants as call
 use Rattle.tt_c_calls.specs.Answers.{DefectStands, TellsRefusal, call_answer}
-use Rattle.tt_c_calls.specs.Fonts.{face_wanted}
+use Rattle.tt_c_calls.specs.Fonts.{face_wanted, opened_wanted}
 use Rattle.tt_c_calls.specs.Refusals.{Refusal, as_call, call_font_fault, call_of_draw, call_refusal, refused}
 
 tells_memory : {X : Type 0} (wanted : Result X Refusal) → TellsRefusal wanted (call_answer call.Memory)
@@ -109,6 +110,14 @@ pub by_face : {X : Type 0} (test : Result (Unit {0}) JobFault) (make : Face → 
     ≡ (face_wanted r font >>= λ face. as_call (make face))
 unfolding face_wanted
 by_face test make r font passes = rw passes (by_size (nat_lt font_limit (length font)) (face_by font r) make)
+
+-- the same with the rules of lines
+pub by_opening : {X : Type 0} (test : Result (Unit {0}) JobFault) (make : Face → Result X Refused) (o : Opening)
+    (font : List ℕ) → test ≡ Ok tt
+    → as_call (as_job test >>= λ u. of_font (λ file. as_font (face_with file o) >>= make) font)
+    ≡ (opened_wanted o font >>= λ face. as_call (make face))
+unfolding opened_wanted
+by_opening test make o font passes = rw passes (by_size (nat_lt font_limit (length font)) (face_with font o) make)
 
 -- a request of a font that fails its tests
 pub by_test : {X : Type 0} (test : Result (Unit {0}) JobFault) (make : Unit {0} → Result X Refused) (j : JobFault)

@@ -3,13 +3,14 @@ use Rattle.std.proofs.Common.{◌≡◌, List, ℕ, Bool, true, false, Result, O
 use Rattle.std.specs.Prelude.{IfSome, if◌then◌else◌}
 use Rattle.std.specs.Str.{is_utf8}
 use Rattle.tt_core.specs.declared.collection.Reading.{Reading}
+use Rattle.tt_face.specs.declared.rules.Opening.{Opening}
 use Rattle.tt_core.specs.Directory.{HasNo}
 use Rattle.tt_core.specs.Faults.{Fault}
 use Rattle.tt_core.specs.Limits.{font_limit}
 use Rattle.tt_core.specs.Outcomes.{◌>>=◌}
 use Rattle.tt_fit.specs.declared.programs.Fit.TheVariants as fit
 use Rattle.tt_line.specs.Layout.{text_glyphs}
-use Rattle.tt_face.specs.Files.{face_by, IsFaceDefectBy}
+use Rattle.tt_face.specs.Files.{face_by, IsFaceDefectBy, face_with}
 use Rattle.tt_strike.specs.Defects.{IsLineDefect, TellsDefects}
 use Rattle.tt_strike.specs.Job.{Job, tested}
 use Rattle.tt_strike.specs.Refusals.{Refused, as_font, font, large}
@@ -17,11 +18,11 @@ use Rattle.tt_face.specs.Faces.{Face}
 use Rattle.tt_c_calls.specs.declared.asked.CJob.{CJob}
 use Rattle.tt_c_calls.specs.declared.fault.CallFault.{CallFault}
 use Rattle.tt_c_calls.specs.declared.fault.CallFault.TheVariants as call
-use Rattle.tt_c_calls.specs.Asked.{IsAskedDefect, asked, fit_asked, job_reading, text_asked}
-use Rattle.tt_c_calls.specs.Fonts.{face_wanted}
+use Rattle.tt_c_calls.specs.Asked.{IsAskedDefect, asked, fit_asked, job_opening, job_reading, text_asked}
+use Rattle.tt_c_calls.specs.Fonts.{face_wanted, opened_wanted}
 use Rattle.tt_c_calls.specs.Pictures.{made_of}
 use Rattle.tt_c_calls.specs.Refusals.{Refusal, as_call, call_font_fault, call_refusal, not_utf8, refused, unknown_fit}
-use Rattle.tt_c_calls.proofs.Answered.{by_face}
+use Rattle.tt_c_calls.proofs.Answered.{by_opening}
 use Rattle.tt_c_calls.proofs.StrikeLines.{if_some_more}
 
 -- making the job of a request is never refused as `run` refuses
@@ -64,10 +65,10 @@ asked_tells P j text call.Memory is = tt
 -- a job that passes its tests is for its font's tables
 pub of_tables : {X : Type 0} (make : Face → Job → Result X Refused) (j : CJob) (text file : List ℕ) (a : Job)
     → asked j text ≡ Ok a → tested a ≡ Ok tt
-    → (asked j text >>= λ a. as_call (made_of (λ face. make face a) (job_reading j a.fit) a file))
-    ≡ (face_wanted (job_reading j a.fit) file >>= λ face. as_call (make face a))
+    → (asked j text >>= λ a. as_call (made_of (λ face. make face a) (job_opening j a.fit) a file))
+    ≡ (opened_wanted (job_opening j a.fit) file >>= λ face. as_call (make face a))
 of_tables make j text file a is passes =
-    rw is (by_face (tested a) (λ face. make face a) (job_reading j a.fit) file passes)
+    rw is (by_opening (tested a) (λ face. make face a) (job_opening j a.fit) file passes)
 
 read_by : (is_large : Bool) (read : Result Face Fault) (face : Face)
     → as_call (if is_large then Err large else as_font read) ≡ Ok face → read ≡ Ok face
@@ -80,6 +81,10 @@ pub face_read : (r : Reading) (file : List ℕ) (face : Face) → face_wanted r 
 unfolding face_wanted
 face_read r file face is = read_by (nat_lt font_limit (length file)) (face_by file r) face is
 
+pub face_opened : (o : Opening) (file : List ℕ) (face : Face) → opened_wanted o file ≡ Ok face → face_with file o ≡ Ok face
+unfolding opened_wanted
+face_opened o file face is = read_by (nat_lt font_limit (length file)) (face_with file o) face is
+
 -- a defect of a font's tables is one that the job meets
 pub face_defects : (j : CJob) (text file : List ℕ) (a : Job) (e : CallFault) → asked j text ≡ Ok a
     → IfSome (call_font_fault e) (IsFaceDefectBy file (job_reading j a.fit))
@@ -88,17 +93,17 @@ face_defects j text file a e is = if_some_more (call_font_fault e) _ _ (λ f h. 
 
 -- statements about a font's tables are statements about the file
 pub asked_defects : {V : Type 0} (j : CJob) (text file : List ℕ) (a : Job) (face : Face) (r : Result V CallFault)
-    → asked j text ≡ Ok a → face_wanted (job_reading j a.fit) file ≡ Ok face
+    → asked j text ≡ Ok a → opened_wanted (job_opening j a.fit) file ≡ Ok face
     → HasNo (IsFaceDefectBy file (job_reading j a.fit))
     → TellsDefects call_font_fault (IsLineDefect face a (text_glyphs face.cmap a.text)) r
     → TellsDefects call_font_fault (IsAskedDefect j text file) r
 asked_defects j text file a face (Ok v) is read none line =
-    rw is (λ fault defect. elim (rw (face_read (job_reading j a.fit) file face read) at defect) [
+    rw is (λ fault defect. elim (rw (face_opened (job_opening j a.fit) file face read) at defect) [
       | inl tables ↦ none fault tables
       | inr glyphs ↦ line fault glyphs
     ])
 asked_defects j text file a face (Err (call.Font d)) is read none line =
-    rw (is, face_read (job_reading j a.fit) file face read) (inr line)
+    rw (is, face_opened (job_opening j a.fit) file face read) (inr line)
 asked_defects j text file a face (Err (call.Job d)) is read none line = tt
 asked_defects j text file a face (Err call.FontLarge) is read none line = tt
 asked_defects j text file a face (Err call.UnknownFit) is read none line = tt

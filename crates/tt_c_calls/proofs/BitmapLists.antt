@@ -43,7 +43,7 @@ abbrev pub of_size : ℕ → Fit → Job
 of_size size how = record { text = []; ppem = size; margin = 0; fit = how }
 
 pub of_plain : (size : ℕ) (how : Fit) (by : Reading) (s : Setting) (a : Job) (r : Result (Unit {0}) JobFault)
-    → a ≡ job_by s [] → s ≡ plain_setting size 0 how by → tested a ≡ r → tested (of_size size how) ≡ r
+    → a ≡ job_by s [] → s ≡ plain_setting size 0 how (plain_opening by) → tested a ≡ r → tested (of_size size how) ≡ r
 of_plain size how by s a r is of test =
     subst (λ (b : Job). tested b ≡ r) (is ∙ ap (λ (t : Setting). job_by t []) of) test
 

@@ -18,31 +18,31 @@ use Rattle.tt_strike.specs.Layouts.{IsNotMemory, TellsMadeDefects, layout_outcom
 use Rattle.tt_strike.specs.Work.{is_bounded}
 use Rattle.tt_c_calls.specs.declared.asked.CJob.{CJob}
 use Rattle.tt_c_calls.specs.declared.fault.CallFault.TheVariants as call
-use Rattle.tt_c_calls.specs.Asked.{IsAskedDefect, asked, fit_asked, job_reading, text_asked}
-use Rattle.tt_c_calls.specs.Fonts.{face_wanted}
+use Rattle.tt_c_calls.specs.Asked.{IsAskedDefect, asked, fit_asked, job_opening, text_asked}
+use Rattle.tt_c_calls.specs.Fonts.{opened_wanted}
 use Rattle.tt_c_calls.specs.Layouts.{layout_wanted, pens_wanted}
 use Rattle.tt_c_calls.specs.Refusals.{as_call, call_font_fault, call_of_draw, unknown_fit}
 use Rattle.tt_c_calls.proofs.Answered.{draw_tells}
-use Rattle.tt_c_calls.proofs.AskedTables.{face_read, of_tables}
+use Rattle.tt_c_calls.proofs.AskedTables.{face_opened, of_tables}
 use Rattle.tt_c_calls.proofs.StrikeLines.{if_some_more}
 
 pub layout_of_tables : (j : CJob) (text font : List ℕ) (a : Job) → asked j text ≡ Ok a → tested a ≡ Ok tt
-    → layout_wanted j text font ≡ (face_wanted (job_reading j a.fit) font >>= λ face. as_call (layout_outcome face a))
+    → layout_wanted j text font ≡ (opened_wanted (job_opening j a.fit) font >>= λ face. as_call (layout_outcome face a))
 unfolding layout_wanted
 layout_of_tables j text font a is passes = of_tables layout_outcome j text font a is passes
 
 pub layout_of_face : (j : CJob) (text font : List ℕ) (a : Job) (face : Face) → asked j text ≡ Ok a → tested a ≡ Ok tt
-    → face_wanted (job_reading j a.fit) font ≡ Ok face → layout_wanted j text font ≡ as_call (layout_outcome face a)
+    → opened_wanted (job_opening j a.fit) font ≡ Ok face → layout_wanted j text font ≡ as_call (layout_outcome face a)
 layout_of_face j text font a face is passes read =
     layout_of_tables j text font a is passes ∙ rw read refl
 
 pub pens_of_tables : (j : CJob) (text font : List ℕ) (a : Job) → asked j text ≡ Ok a → tested a ≡ Ok tt
-    → pens_wanted j text font ≡ (face_wanted (job_reading j a.fit) font >>= λ face. as_call (pens_outcome face a))
+    → pens_wanted j text font ≡ (opened_wanted (job_opening j a.fit) font >>= λ face. as_call (pens_outcome face a))
 unfolding pens_wanted
 pens_of_tables j text font a is passes = of_tables pens_outcome j text font a is passes
 
 pub pens_of_face : (j : CJob) (text font : List ℕ) (a : Job) (face : Face) → asked j text ≡ Ok a → tested a ≡ Ok tt
-    → face_wanted (job_reading j a.fit) font ≡ Ok face → pens_wanted j text font ≡ as_call (pens_outcome face a)
+    → opened_wanted (job_opening j a.fit) font ≡ Ok face → pens_wanted j text font ≡ as_call (pens_outcome face a)
 pens_of_face j text font a face is passes read =
     pens_of_tables j text font a is passes ∙ rw read refl
 
@@ -53,12 +53,12 @@ told_if_made V true P d tells = tells
 told_if_made V false P d tells = if_some_more (draw_font_fault d) (λ f. ⊥) P (λ f never. absurd never) tells
 
 pub line_stands : (V : Type 0) (j : CJob) (text font : List ℕ) (a : Job) (face : Face) (d : DrawFault) → asked j text ≡ Ok a
-    → face_wanted (job_reading j a.fit) font ≡ Ok face
+    → opened_wanted (job_opening j a.fit) font ≡ Ok face
     → TellsMadeDefects {V = V} (is_bounded a.fit) (IsLineDefect face a (text_glyphs face.cmap a.text)) (Err d)
     → IfSome (call_font_fault (call_of_draw d)) (IsAskedDefect j text font)
 line_stands V j text font a face d is read tells =
     if_some_more (call_font_fault (call_of_draw d)) (IsLineDefect face a (text_glyphs face.cmap a.text))
-    (IsAskedDefect j text font) (λ f h. rw (is, face_read (job_reading j a.fit) font face read) (inr h))
+    (IsAskedDefect j text font) (λ f h. rw (is, face_opened (job_opening j a.fit) font face read) (inr h))
     (draw_tells _ d (told_if_made V (is_bounded a.fit) _ d tells))
 
 -- a tested size is not refused again

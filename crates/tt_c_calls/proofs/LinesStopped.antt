@@ -2,7 +2,7 @@
 use Rattle.std.proofs.Common.{◌≡◌, ◌≢◌, ◌∙◌, ◌<◌, ap, refl, ℕ, List, [], length, IfSome, Result, Ok, Err, inl, inr, arith, subst, sym}
 use Rattle.std.specs.Prelude.{◌==◌}
 use Rattle.tt_core.specs.Chains.{came-through}
-use Rattle.tt_core.specs.declared.collection.Reading.{Reading}
+use Rattle.tt_face.specs.declared.rules.Opening.{Opening}
 use Rattle.tt_core.specs.declared.fault.JobFault.{JobFault}
 use Rattle.tt_core.specs.Faults.{Fault}
 use Rattle.tt_core.specs.Outcomes.{◌>>=◌}
@@ -16,18 +16,18 @@ use Rattle.tt_core.specs.declared.draw_fault.DrawFault.TheVariants as draw
 use Rattle.tt_strike.specs.Job.{Job, size_tested, tested}
 use Rattle.tt_strike.specs.Refusals.{as_job, font, job, large, refusal}
 use Rattle.tt_strike.specs.Strikes.{Strike}
-use Rattle.tt_c_calls.specs.Fonts.{face_wanted}
+use Rattle.tt_c_calls.specs.Fonts.{opened_wanted}
 use Rattle.tt_c_calls.specs.declared.answer.CAnswer.{CAnswer}
 use Rattle.tt_c_calls.specs.declared.asked.CJob.{CJob}
 use Rattle.tt_c_calls.specs.declared.fault.CallFault.{CallFault}
 use Rattle.tt_c_calls.specs.declared.fault.CallFault.TheVariants as call
 use Rattle.tt_c_calls.specs.declared.line_drawing.CLine.{CLine}
 use Rattle.tt_c_calls.specs.Answers.{call_answer, room_answer}
-use Rattle.tt_c_calls.specs.Asked.{fit_asked, job_reading}
+use Rattle.tt_c_calls.specs.Asked.{fit_asked, job_opening}
 use Rattle.tt_c_calls.specs.Lines.{AnswersInOrder, DrawsLines, EndsWith, IsStrikeFor, LineDefectStands, lines_wanted}
 use Rattle.tt_c_calls.specs.Refusals.{Refusal, as_call, call_font_fault, call_of_draw, call_refusal, line_ends, not_utf8, refused, unknown_fit}
 use Rattle.tt_c_calls.proofs.Answered.{by_face}
-use Rattle.tt_c_calls.proofs.AskedTables.{face_read, no_fit}
+use Rattle.tt_c_calls.proofs.AskedTables.{face_opened, no_fit}
 use Rattle.tt_c_calls.proofs.StrikeLines.{if_some_more, not_done}
 
 -- no line was drawn
@@ -124,7 +124,7 @@ abbrev of_no_text : CJob → Fit → Job
 of_no_text j how = record { text = []; ppem = j.size; margin = j.margin; fit = how }
 
 -- a setting's job of no text
-pub of_setting : (j : CJob) (how : Fit) (by : Reading) (s : Setting) (a : Job) (r : Result (Unit {0}) JobFault)
+pub of_setting : (j : CJob) (how : Fit) (by : Opening) (s : Setting) (a : Job) (r : Result (Unit {0}) JobFault)
     → a ≡ job_by s [] → s ≡ plain_setting j.size j.margin how by → tested a ≡ r → tested (of_no_text j how) ≡ r
 of_setting j how by s a r is of test =
     subst (λ (b : Job). tested b ≡ r) (is ∙ ap (λ (t : Setting). job_by t []) of) test
@@ -140,20 +140,20 @@ all_faces (Ok face) = refl
 all_faces (Err why) = refl
 
 lines_of_font : (j : CJob) (file : List ℕ) (how : Fit) → fit_asked j.fit ≡ Ok how → tested (of_no_text j how) ≡ Ok tt
-    → lines_wanted j file ≡ face_wanted (job_reading j how) file
+    → lines_wanted j file ≡ opened_wanted (job_opening j how) file
 unfolding lines_wanted
 lines_of_font j file how fits test =
-    rw fits (by_face (tested (of_no_text j how)) (λ face. Ok face) (job_reading j how) file test
-    ∙ all_faces (face_wanted (job_reading j how) file))
+    rw fits (by_opening (tested (of_no_text j how)) (λ face. Ok face) (job_opening j how) file test
+    ∙ all_faces (opened_wanted (job_opening j how) file))
 
 pub lines_opened : (j : CJob) (file : List ℕ) (how : Fit) (face : Face) → fit_asked j.fit ≡ Ok how
-    → tested (of_no_text j how) ≡ Ok tt → face_wanted (job_reading j how) file ≡ Ok face
+    → tested (of_no_text j how) ≡ Ok tt → opened_wanted (job_opening j how) file ≡ Ok face
     → lines_wanted j file ≡ Ok face
 lines_opened j file how face fits test found = lines_of_font j file how fits test ∙ found
 
 pub face_refused : (j : CJob) (file : List ℕ) (how : Fit) (e : CallFault) → fit_asked j.fit ≡ Ok how
     → tested (of_no_text j how) ≡ Ok tt
-    → IfSome (call_refusal e) (λ why. face_wanted (job_reading j how) file ≡ Err why)
+    → IfSome (call_refusal e) (λ why. opened_wanted (job_opening j how) file ≡ Err why)
     → IfSome (call_refusal e) (λ why. lines_wanted j file ≡ Err why)
 face_refused j file how e fits test = if_some_more (call_refusal e) _ _
     (λ why h. lines_of_font j file how fits test ∙ h)
@@ -185,14 +185,14 @@ pub kept_alone : (r s t : Strike) → s ≡ record r { kept = s.kept } → t ≡
 kept_alone r s t first second = second ∙ ap (λ (x : Strike). record x { kept = t.kept }) first
 
 -- the font of a strike
-pub file_is : (r : Reading) (file : List ℕ) (face : Face) → face_wanted r file ≡ Ok face → face.directory.file ≡ file
-file_is r file face is = sym (face_file file r face (face_read r file face is))
+pub file_is : (r : Opening) (file : List ℕ) (face : Face) → opened_wanted r file ≡ Ok face → face.directory.file ≡ file
+file_is r file face is = sym (face_file file r face (face_opened r file face is))
 
 pub strike_for : (j : CJob) (file : List ℕ) (how : Fit) (face : Face) (s : Strike) (most : ℕ) → fit_asked j.fit ≡ Ok how
-    → tested (of_no_text j how) ≡ Ok tt → face_wanted (job_reading j how) file ≡ Ok face
+    → tested (of_no_text j how) ≡ Ok tt → opened_wanted (job_opening j how) file ≡ Ok face
     → s ≡ record { face = face; ppem = j.size; fit = how; most = most; kept = [] } → IsStrikeFor j s.face.directory.file s
 strike_for j file how face s most fits test found is =
     let for : IsStrikeFor j file s =
     rw is (record { face = lines_opened j file how face fits test found; fit = fits; size = refl }) in
-    let same : s.face.directory.file ≡ file = rw is (file_is (job_reading j how) file face found) in
+    let same : s.face.directory.file ≡ file = rw is (file_is (job_opening j how) file face found) in
     let P : List ℕ → Type 0 = λ l. IsStrikeFor j l s in subst P (sym same) for

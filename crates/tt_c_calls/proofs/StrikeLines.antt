@@ -3,7 +3,7 @@ use Rattle.std.proofs.Common.{◌≡◌, ◌≢◌, ◌∙◌, ap, refl, ℕ, �
 use Rattle.std.proofs.lemmas.List.{take_all}
 use Rattle.std.specs.Prelude.{if◌then◌else◌}
 use Rattle.tt_core.specs.Bits.{stride}
-use Rattle.tt_core.specs.declared.collection.Reading.{Reading}
+use Rattle.tt_face.specs.declared.rules.Opening.{Opening}
 use Rattle.tt_core.specs.declared.fault.JobFault.{JobFault}
 use Rattle.tt_core.specs.Faults.{Fault}
 use Rattle.tt_core.specs.Limits.{font_limit}
@@ -17,7 +17,7 @@ use Rattle.tt_picture.specs.Pictures.{IsReady, Picture, image_of}
 use Rattle.tt_strike.specs.Refusals.{Refused, as_font, as_job, font, job, large}
 use Rattle.tt_strike.specs.Strikes.{Strike, job_of}
 use Rattle.tt_face.specs.Faces.{Face}
-use Rattle.tt_face.specs.Files.{face_by}
+use Rattle.tt_face.specs.Files.{face_with}
 use Rattle.tt_c_calls.specs.declared.answer.CAnswer.{CAnswer}
 use Rattle.tt_c_calls.specs.declared.asked.CJob.{CJob}
 use Rattle.tt_c_calls.specs.declared.fault.CallFault.{CallFault}
@@ -25,7 +25,7 @@ use Rattle.tt_c_calls.specs.declared.line_drawing.CLine.{CLine}
 use Rattle.tt_c_calls.specs.declared.pictures.CPicture.{CPicture}
 use Rattle.tt_c_calls.specs.declared.fault.CallFault.TheVariants as call
 use Rattle.tt_c_calls.specs.Answers.{call_answer}
-use Rattle.tt_c_calls.specs.Asked.{IsAskedDefect, asked, grows, job_reading, text_asked}
+use Rattle.tt_c_calls.specs.Asked.{IsAskedDefect, asked, grows, job_opening, text_asked}
 use Rattle.tt_c_calls.specs.Lines.{IsLineWritten, IsStrikeFor, IsTextStopped, lines_wanted}
 use Rattle.tt_c_calls.specs.Pictures.{IsBandSmall, IsBandWritten, IsPictureOf, band_of, band_rows, picture_wanted}
 use Rattle.tt_render.specs.Products.{IsMadeBy, picture_by}
@@ -50,9 +50,9 @@ picture_tested false face a = twice (tested a) _
 picture_tested true face a = twice_grown (tested a) _ _ _
 
 -- a font whose tables were found is not too large
-record IsOpened (r : Reading) (file : List ℕ) (face : Face) : Type 0 where
+record IsOpened (r : Opening) (file : List ℕ) (face : Face) : Type 0 where
   small : nat_lt font_limit (length file) ≡ false
-  face_of_file : face_by file r ≡ Ok face
+  face_of_file : face_with file r ≡ Ok face
 
 opened_of : (t : Result (Unit {0}) JobFault) (big : Bool) (r : Result Face Fault) (face : Face)
     → as_call (as_job t >>= λ u. if big then Err large else (as_font r >>= λ face. Ok face)) ≡ Ok face
@@ -62,11 +62,11 @@ opened_of (Ok u) true r face is = absurd cc
 opened_of (Ok u) false (Err f) face is = absurd cc
 opened_of (Ok u) false (Ok x) face is = (refl, cc)
 
-opened : (j : CJob) (file : List ℕ) (s : Strike) → IsStrikeFor j file s → IsOpened (job_reading j s.fit) file s.face
+opened : (j : CJob) (file : List ℕ) (s : Strike) → IsStrikeFor j file s → IsOpened (job_opening j s.fit) file s.face
 unfolding lines_wanted
 opened j file s for =
     let is = rw for.fit at for.face in
-    let facts = opened_of _ _ (face_by file (job_reading j s.fit)) s.face is in
+    let facts = opened_of _ _ (face_with file (job_opening j s.fit)) s.face is in
     record { small = facts.0; face_of_file = facts.1 }
 
 pub asked_by : (j : CJob) (file line t : List ℕ) (s : Strike) → IsStrikeFor j file s → text_asked line ≡ Ok t

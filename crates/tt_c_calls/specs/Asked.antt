@@ -5,9 +5,12 @@ use Rattle.tt_core.specs.declared.collection.Reading.{Reading}
 use Rattle.tt_core.specs.declared.collection.Reading.TheVariants as reading
 use Rattle.tt_core.specs.Faults.{Fault}
 use Rattle.tt_core.specs.Outcomes.{◌>>=◌}
+use Rattle.tt_face.specs.declared.rules.Opening.{Opening}
 use Rattle.tt_fit.specs.declared.programs.Fit.{Fit}
 use Rattle.tt_fit.specs.declared.programs.Fit.TheVariants as fit
 use Rattle.tt_face.specs.Files.{IsFaceDefectBy}
+use Rattle.tt_metrics.specs.declared.heights.Heights.{Heights}
+use Rattle.tt_metrics.specs.declared.heights.Heights.TheVariants as heights
 use Rattle.tt_render.specs.Readings.{fit_reading, reading_asked}
 use Rattle.tt_strike.specs.Defects.{IsRunDefect}
 use Rattle.tt_strike.specs.Job.{Job, job_for}
@@ -50,9 +53,20 @@ face_reading n = reading_asked (face_named n) reading.Strict
 abbrev pub job_reading : CJob → Fit → Reading
 job_reading j how = reading_asked (face_named j.face) (fit_reading how)
 
+-- how heights are rounded, by a number that is 0 or not
+abbrev pub heights_asked : ℕ → Heights
+heights_asked n = if n == 0 then heights.Exact else heights.Rounded
+
+-- how the face of a job is opened, with a way to fit
+abbrev pub job_opening : CJob → Fit → Opening
+job_opening j how = record {
+  reading = job_reading j how;
+  rules = record { heights = heights_asked j.rounded; kerned = not (j.kern == 0) };
+}
+
 -- a defect of a font that the job of a text meets
 abbrev pub IsAskedDefect : CJob → List ℕ → List ℕ → Fault → Type 0
-IsAskedDefect j text font f = IsOkAnd (asked j text) (λ a. IsRunDefect (job_reading j a.fit) a font f)
+IsAskedDefect j text font f = IsOkAnd (asked j text) (λ a. IsRunDefect (job_opening j a.fit) a font f)
 
 -- a defect of the tables that every text of a job needs
 abbrev pub IsAskedFaceDefect : CJob → List ℕ → Fault → Type 0

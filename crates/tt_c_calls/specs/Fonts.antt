@@ -2,8 +2,9 @@
 use Rattle.std.specs.Prelude.{◌≡◌, ◌≢◌, ℕ, List, Result, IsOkAnd}
 use Rattle.tt_core.specs.Collections.{IsOffsetDefect, count_of}
 use Rattle.tt_core.specs.declared.collection.Reading.{Reading}
+use Rattle.tt_face.specs.declared.rules.Opening.{Opening}
 use Rattle.tt_core.specs.declared.collection.Reading.TheVariants as reading
-use Rattle.tt_face.specs.Files.{face_by, IsFaceDefectBy}
+use Rattle.tt_face.specs.Files.{face_by, face_with, IsFaceDefectBy}
 use Rattle.tt_metrics.specs.Metrics.{Metrics, ascent_of, descent_of, glyphs_of, line_gap_of, units_per_em_of}
 use Rattle.tt_render_run.specs.Outcome.{of_font}
 use Rattle.tt_strike.specs.Refusals.{as_font}
@@ -16,6 +17,10 @@ use Rattle.tt_c_calls.specs.Refusals.{Refusal, as_call}
 -- the tables that every text needs, by a reading of a file that is not too large
 unfoldable pub face_wanted : Reading → List ℕ → Result Face Refusal
 face_wanted r font = as_call (of_font (λ file. as_font (face_by file r)) font)
+
+-- the same tables with the rules of their lines
+unfoldable pub opened_wanted : Opening → List ℕ → Result Face Refusal
+opened_wanted o font = as_call (of_font (λ file. as_font (face_with file o)) font)
 
 -- the figures of a font, for C
 abbrev pub font_told : Metrics → CFont

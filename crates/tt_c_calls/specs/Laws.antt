@@ -9,7 +9,7 @@ use Rattle.tt_render_run.specs.Run.{run_outcome}
 use Rattle.tt_strike.specs.Job.{Job}
 use Rattle.tt_c_calls.specs.declared.asked.CJob.{CJob}
 use Rattle.tt_c_calls.specs.Answers.{fault_answer, job_answer}
-use Rattle.tt_c_calls.specs.Asked.{asked, job_reading}
+use Rattle.tt_c_calls.specs.Asked.{asked, job_opening}
 use Rattle.tt_c_calls.specs.Messages.{message_of}
 use Rattle.tt_c_calls.specs.Pictures.{picture_wanted}
 use Rattle.tt_c_calls.specs.Refusals.{as_call}
@@ -25,4 +25,4 @@ JobMessagesAreLines = (j : JobFault) → message_of (job_answer j) ≡ job_line 
 -- without `grow` the file of the requested picture is the one that `run` writes, and is refused for the same reason
 abbrev pub PlainIsRun : Type 0
 PlainIsRun = (j : CJob) (text font : List ℕ) (a : Job) → j.grow ≡ 0 → asked j text ≡ Ok a
-    → as_file (picture_wanted j text font) ≡ as_call (run_outcome (job_reading j a.fit) a font)
+    → as_file (picture_wanted j text font) ≡ as_call (run_outcome (job_opening j a.fit) a font)

@@ -9,7 +9,7 @@ use Rattle.tt_c_calls.specs.declared.asked.CJob.{CJob}
 use Rattle.tt_c_calls.specs.declared.laying_out.CLayout.{CLayout}
 use Rattle.tt_c_calls.specs.declared.laying_out.CPen.{CPen}
 use Rattle.tt_c_calls.specs.Answers.{DefectStands, TellsRefusal, done_answer}
-use Rattle.tt_c_calls.specs.Asked.{IsAskedDefect, asked, job_reading}
+use Rattle.tt_c_calls.specs.Asked.{IsAskedDefect, asked, job_opening}
 use Rattle.tt_c_calls.specs.Maps.{selector_told}
 use Rattle.tt_c_calls.specs.Measures.{IsEntriesSmall}
 use Rattle.tt_c_calls.specs.Pictures.{made_of}
@@ -18,12 +18,12 @@ use Rattle.tt_c_calls.specs.Refusals.{Refusal, as_call}
 -- the layout of a text by a font file
 unfoldable pub layout_wanted : CJob → List ℕ → List ℕ → Result Layout Refusal
 layout_wanted j text font =
-    asked j text >>= λ a. as_call (made_of (λ face. layout_outcome face a) (job_reading j a.fit) a font)
+    asked j text >>= λ a. as_call (made_of (λ face. layout_outcome face a) (job_opening j a.fit) a font)
 
 -- the pens of a text by a font file
 unfoldable pub pens_wanted : CJob → List ℕ → List ℕ → Result (List Pen) Refusal
 pens_wanted j text font =
-    asked j text >>= λ a. as_call (made_of (λ face. pens_outcome face a) (job_reading j a.fit) a font)
+    asked j text >>= λ a. as_call (made_of (λ face. pens_outcome face a) (job_opening j a.fit) a font)
 
 -- a layout for C
 abbrev pub layout_told : Layout → CLayout

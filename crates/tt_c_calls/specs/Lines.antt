@@ -14,7 +14,7 @@ use Rattle.tt_c_calls.specs.declared.answer.CAnswer.{CAnswer}
 use Rattle.tt_c_calls.specs.declared.asked.CJob.{CJob}
 use Rattle.tt_c_calls.specs.declared.line_drawing.CLine.{CLine}
 use Rattle.tt_c_calls.specs.Answers.{done_answer, fault_answer, job_answer, memory_answer, plain_answer, refusal_answer, room_answer}
-use Rattle.tt_c_calls.specs.Asked.{IsAskedDefect, IsAskedFaceDefect, asked, fit_asked, job_reading}
+use Rattle.tt_c_calls.specs.Asked.{IsAskedDefect, IsAskedFaceDefect, asked, fit_asked, job_opening}
 use Rattle.tt_c_calls.specs.Pictures.{IsPictureOf, IsWritten, made_of, picture_told, picture_wanted}
 use Rattle.tt_c_calls.specs.Refusals.{Refusal, as_call, line_ends, unknown_fit}
 
@@ -34,7 +34,7 @@ AreEnds bytes from (end ∷ ends) = (from ≤ end) × (end ≤ bytes) × AreEnds
 
 -- what a line takes of the budget of a call
 abbrev pub cost_asked : CJob → List ℕ → List ℕ → Result ℕ Refusal
-cost_asked j font line = asked j line >>= λ a. as_call (by_face cost_by (job_reading j a.fit) a font)
+cost_asked j font line = asked j line >>= λ a. as_call (by_face cost_by (job_opening j a.fit) a font)
 
 -- a refused line takes nothing
 abbrev pub cost_taken : Result ℕ Refusal → ℕ
@@ -128,7 +128,7 @@ IsLineStopped j font texts from end left a =
 unfoldable pub lines_wanted : CJob → List ℕ → Result Face Refusal
 lines_wanted j font =
     fit_asked j.fit >>= λ f.
-    as_call (made_of (λ face. Ok face) (job_reading j f)
+    as_call (made_of (λ face. Ok face) (job_opening j f)
     (record { text = []; ppem = j.size; margin = j.margin; fit = f }) font)
 
 -- the answer before any line is drawn: a refused way to fit, size, margin or font comes first, and then too small a room

@@ -3,13 +3,14 @@
 ghost use Rattle.std.specs.Prelude.{◌≡◌, ◌≢◌, not, ◌==◌, IfErr, IfOk};
 ghost use Rattle.tt_core.specs.Outcomes.{GivesUnless};
 ghost use Rattle.tt_strike.specs.Job.{job_view};
-ghost use Rattle.tt_c_calls.specs.Asked.{asked, face_named, face_reading, fit_asked, grows, job_reading, text_asked};
+ghost use Rattle.tt_c_calls.specs.Asked.{asked, face_named, face_reading, fit_asked, grows, heights_asked, job_opening, job_reading, text_asked};
 ghost use Rattle.tt_c_calls.specs.declared.fault.CallFault.TheVariants as call;
 ghost use Rattle.tt_c_calls.specs.Refusals.{call_refusal};
 
 use crate::fault::CallFault;
 use std::str;
 use tt_core::Reading;
+use tt_face::{Heights, LineRules, Opening};
 use tt_fit::Fit;
 use tt_render::{Setting, fit_reading, reading_asked};
 use tt_strike::Job;
@@ -29,6 +30,10 @@ pub struct CJob {
     /// n + 1 for face n of the font's file, which is read widely. 0 for the file's only font; with best for face 0, read
     /// widely.
     pub face: u32,
+    /// Not 0 to kern the text: pairs of neighbouring glyphs are moved nearer or farther.
+    pub kern: u32,
+    /// Not 0 to round rise and depth to the nearest row each, so that lines of box drawing join.
+    pub rounded: u32,
 }
 
 /// A request: a text, the font that draws it, and how.
@@ -52,6 +57,31 @@ impl CJob {
         ensures { result ≡ job_reading self.now fit }
     {
         reading_asked(face_named(self.face), fit_reading(fit))
+    }
+
+    /// How the face is opened, by the way to fit.
+    pub(crate) fn opening(&self, fit: Fit) -> Opening
+        ensures { result ≡ job_opening self.now fit }
+    {
+        let rules = LineRules {
+            heights: heights_asked(self.rounded),
+            kerned: self.kern != 0,
+        };
+        Opening {
+            reading: self.reading(fit),
+            rules,
+        }
+    }
+}
+
+/// How heights are rounded, by a number that is 0 or not.
+fn heights_asked(rounded: u32) -> Heights
+    ensures { result ≡ heights_asked rounded }
+{
+    if rounded == 0 {
+        Heights::Exact
+    } else {
+        Heights::Rounded
     }
 }
 
@@ -103,10 +133,10 @@ pub(crate) fn text_of(bytes: &[u8]) -> Result<&str, CallFault>
 #[tactic(auto, unfolding(crate::specs::Asked::asked))]
 pub(crate) fn job_of<'t>(job: &CJob, text: &'t [u8]) -> Result<Job<'t>, CallFault>
     ensures exact { GivesUnless call_refusal job_view result (asked job.now text.now) }
-    ensures reading { IfOk result (λ a. a.reading ≡ job_reading job.now a.fit) }
+    ensures opening { IfOk result (λ a. a.opening ≡ job_opening job.now a.fit) }
     ensures memory { IfErr result (λ f. f ≢ call.Memory) }
 {
     let fit = fit_of(job.fit)?;
     let text = text_of(text)?;
-    Ok(Setting::plain(job.size, job.margin, fit, job.reading(fit)).job(text))
+    Ok(Setting::plain(job.size, job.margin, fit, job.opening(fit)).job(text))
 }

@@ -13,7 +13,7 @@ use std::alloc::Global;
 use tt_core::{Fault, JobFault};
 use tt_glyphs::{BitmapList, GlyphEntry, MadeBitmap, Told, test_count};
 use tt_render::Setting;
-use tt_strike::test_job;
+use tt_strike::{Opening, test_job};
 
 /// The place of a glyph's bitmap from the pen, and in the caller's room. Unused fields are 0.
 #[repr(C)]
@@ -121,7 +121,7 @@ fn list_of(alloc: Global, font: &[u8], glyphs: &[u32], job: &CJob) -> Result<Bit
     let fit = fit_of(job.fit)?;
     let reading = job.reading(fit);
     // The job of a list has no margin, and a text of no characters is never too long.
-    test_job(&Setting::plain(job.size, 0, fit, reading).job(""))?;
+    test_job(&Setting::plain(job.size, 0, fit, Opening::plain(reading)).job(""))?;
     test_count(glyphs)?;
     let face = face_of(font, reading)?;
     Ok(BitmapList::make(alloc, &face, glyphs, job.size, fit)?)

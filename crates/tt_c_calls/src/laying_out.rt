@@ -12,7 +12,7 @@ use crate::answer::{CAnswer, DONE, ROOM, answer_of, sized};
 use crate::asked::{TextRequest, job_of};
 use crate::fault::CallFault;
 use crate::mapping::selector_of;
-use crate::opening::face_of;
+use crate::opening::opened_face;
 use std::alloc::Global;
 use tt_strike::{Layout, Pen, SizedFace, test_job};
 
@@ -93,7 +93,7 @@ fn laid_out(alloc: Global, request: &TextRequest) -> Result<Layout, CallFault>
 {
     let asked = job_of(request.job, request.text)?;
     test_job(&asked)?;
-    let face = face_of(request.font, asked.reading)?;
+    let face = opened_face(request.font, asked.opening)?;
     let mut sized = SizedFace::new(alloc, &face, asked.ppem, asked.fit)?;
     Ok(sized.layout(asked.text, asked.margin)?)
 }
@@ -122,7 +122,7 @@ fn pens_of(alloc: Global, request: &TextRequest) -> Result<Vec<Pen>, CallFault>
 {
     let asked = job_of(request.job, request.text)?;
     test_job(&asked)?;
-    let face = face_of(request.font, asked.reading)?;
+    let face = opened_face(request.font, asked.opening)?;
     let mut sized = SizedFace::new(alloc, &face, asked.ppem, asked.fit)?;
     let placed = sized.pens(asked.text, asked.margin)?;
     Ok(placed.pens)

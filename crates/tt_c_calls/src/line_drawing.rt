@@ -8,7 +8,7 @@ ghost use Rattle.tt_c_calls.specs.Lines.{DrawsLines, DrawsTexts, EndsWith, IsLin
 use crate::answer::{CAnswer, DONE, ROOM, answer_of, sized};
 use crate::asked::{CJob, fit_of, text_of};
 use crate::fault::CallFault;
-use crate::opening::face_of;
+use crate::opening::opened_face;
 use crate::pictures::{CPicture, told_of, write_band};
 use std::alloc::Global;
 use tt_core::JobFault;
@@ -159,12 +159,12 @@ pub fn draw_lines(
         Ok(fit) => fit,
         Err(fault) => return (answer_of(fault), 0),
     };
-    let reading = job.reading(fit);
+    let opening = job.opening(fit);
     // A text of no characters is never too long.
-    if let Err(fault) = test_job(&Setting::plain(job.size, job.margin, fit, reading).job("")) {
+    if let Err(fault) = test_job(&Setting::plain(job.size, job.margin, fit, opening).job("")) {
         return (answer_of(CallFault::Job(fault)), 0);
     }
-    let face = match face_of(font, reading) {
+    let face = match opened_face(font, opening) {
         Ok(face) => face,
         Err(fault) => return (answer_of(fault), 0),
     };

@@ -11,7 +11,7 @@ ghost use Rattle.tt_c_calls.specs.Refusals.{call_font_fault, call_refusal};
 use crate::answer::{CAnswer, DONE, ROOM, answer_of, sized};
 use crate::asked::{TextRequest, job_of};
 use crate::fault::CallFault;
-use crate::opening::face_of;
+use crate::opening::opened_face;
 use std::alloc::Global;
 use tt_render::make_measure;
 use tt_strike::{CharacterMeasure, InkBox, Measure, Strike, test_job};
@@ -114,7 +114,7 @@ fn measured(alloc: Global, request: &TextRequest) -> Result<Measure, CallFault>
 {
     let asked = job_of(request.job, request.text)?;
     test_job(&asked)?;
-    let face = face_of(request.font, asked.reading)?;
+    let face = opened_face(request.font, asked.opening)?;
     let mut strike = Strike::new(alloc, &face, asked.ppem, asked.fit, 0)?;
     let measure = make_measure(&mut strike, request.job.grows(), asked.text, asked.margin)?;
     Ok(measure)

@@ -7,7 +7,7 @@ ghost use Rattle.tt_core.specs.Outcomes.{GivesUnless};
 ghost use Rattle.tt_face.specs.Files.{IsFaceDefectBy};
 ghost use Rattle.tt_strike.specs.Defects.{TellsDefects};
 ghost use Rattle.tt_c_calls.specs.Asked.{face_reading};
-ghost use Rattle.tt_c_calls.specs.Fonts.{CountsFaces, OpensFont, count_wanted, face_wanted};
+ghost use Rattle.tt_c_calls.specs.Fonts.{CountsFaces, OpensFont, count_wanted, face_wanted, opened_wanted};
 ghost use Rattle.tt_c_calls.specs.declared.fault.CallFault.TheVariants as call;
 ghost use Rattle.tt_c_calls.specs.Refusals.{call_font_fault, call_refusal};
 
@@ -15,7 +15,7 @@ use crate::answer::{CAnswer, DONE, answer_of, sized};
 use crate::asked::face_reading;
 use crate::fault::CallFault;
 use tt_core::{FONT_LIMIT, Reading, face_count};
-use tt_strike::Face;
+use tt_strike::{Face, Opening};
 
 /// The figures of a font.
 #[repr(C)]
@@ -48,6 +48,17 @@ pub(crate) fn face_of<'a>(font: &'a [u8], reading: Reading) -> Result<Face<'a>, 
         Ok(face) => Ok(face),
         Err(fault) => Err(CallFault::Font(fault)),
     }
+}
+
+/// The tables that every text needs, with the rules of its lines. Errors: as `face_of`.
+pub(crate) fn opened_face<'a>(font: &'a [u8], opening: Opening) -> Result<Face<'a>, CallFault>
+    ensures exact { GivesUnless call_refusal (λ f. f) result (opened_wanted opening font.now) }
+    ensures defects { TellsDefects call_font_fault (IsFaceDefectBy font.now opening.reading) result }
+    ensures memory { IfErr result (λ f. f ≢ call.Memory) }
+{
+    let mut face = face_of(font, opening.reading)?;
+    face.set_rules(opening.rules);
+    Ok(face)
 }
 
 /// Tests the tables that every text needs, and writes the font's figures. The face is as in a job. Answers: done; the font

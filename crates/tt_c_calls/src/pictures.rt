@@ -13,7 +13,7 @@ ghost use Rattle.tt_c_calls.specs.Refusals.{call_font_fault, call_refusal};
 use crate::answer::{CAnswer, DONE, ROOM, sized};
 use crate::asked::{TextRequest, job_of};
 use crate::fault::CallFault;
-use crate::opening::face_of;
+use crate::opening::opened_face;
 use std::alloc::Global;
 use tt_render::make_picture;
 use tt_strike::{Picture, Strike, test_job};
@@ -64,7 +64,7 @@ pub(crate) fn picture_of(alloc: Global, request: &TextRequest) -> Result<Picture
 {
     let asked = job_of(request.job, request.text)?;
     test_job(&asked)?;
-    let face = face_of(request.font, asked.reading)?;
+    let face = opened_face(request.font, asked.opening)?;
     let mut strike = Strike::new(alloc, &face, asked.ppem, asked.fit, 0)?;
     let picture = make_picture(&mut strike, request.job.grows(), asked.text, asked.margin)?;
     Ok(picture)

@@ -7,7 +7,8 @@ ghost use Rattle.clap.specs.Words.{ReadsOne, first_value, found_of, one_text};
 use clap::{Arg, ArgAction, ArgMatches, Command, Error, value_parser};
 use std::alloc::{AllocError, Global};
 use tt_program_decisions::{
-    ALIGNS, Arguments, BEST, DRAW, FITS, FULL, LEFT, MISSING_WORDS, Request, TELL, request_of,
+    ALIGNS, Arguments, BEST, DRAW, EXACT, FITS, FULL, HEIGHTS, LEFT, MISSING_WORDS, Request, TELL,
+    request_of,
 };
 
 /// The request that the words make. None where a required argument is absent. Only one description is built: that of
@@ -43,10 +44,11 @@ fn command_named<'a>(alloc: Global, name: &str) -> Result<Option<Command<'a>>, A
 }
 
 /// Describes `tt_render map [--face N] FONT TEXT`, `tt_render faces FONT`, and `draw` and `measure` with `--size N
-/// [--margin N] [--fit full|none|fallback|best] [--face N] [--missing draw|tell|refuse] [--grow]` and `FONT TEXT` or
-/// `--lines FONT`; and `label` with `--size N [--margin N] [--align left|centre|right] [--fit best|full|none|fallback]
-/// [--face N] [--missing tell|draw|refuse]` and the same. `measure` has `--no-ink`, without `--grow` and `--lines`. `bdf`
-/// has `--size N [--range R] [--fit best|full|none|fallback] [--face N] FONT [TEXT]`.
+/// [--margin N] [--fit full|none|fallback|best] [--face N] [--missing draw|tell|refuse] [--grow] [--kern] [--height
+/// exact|rounded]` and `FONT TEXT` or `--lines FONT`; and `label` with `--size N [--margin N] [--align left|centre|right]
+/// [--fit best|full|none|fallback] [--face N] [--missing tell|draw|refuse] [--kern] [--height exact|rounded]` and the
+/// same. `measure` has `--no-ink`, without `--grow` and `--lines`. `bdf` has `--size N [--range R] [--fit
+/// best|full|none|fallback] [--face N] [--height exact|rounded] FONT [TEXT]`.
 fn program<'a>(alloc: Global) -> Result<Command<'a>, AllocError> {
     Command::new(alloc, "tt_render")
         .bin_name("tt_render")?
@@ -75,6 +77,8 @@ fn label_command<'a>(alloc: Global) -> Result<Command<'a>, AllocError> {
         .arg(fit(alloc, BEST))?
         .arg(face(alloc))?
         .arg(missing(alloc, TELL))?
+        .arg(kern(alloc))?
+        .arg(height(alloc))?
         .arg(lines(alloc, "Draw each line of standard input, in place of TEXT")?)?
         .arg(font(alloc))?
         .arg(text(alloc).required_unless_present("lines")?)
@@ -115,6 +119,8 @@ fn drawing<'a>(alloc: Global, to: Command<'a>, each: &'a str) -> Result<Command<
         .arg(face(alloc))?
         .arg(missing(alloc, DRAW))?
         .arg(grow(alloc))?
+        .arg(kern(alloc))?
+        .arg(height(alloc))?
         .arg(lines(alloc, each)?)?
         .arg(font(alloc))?
         .arg(text(alloc).required_unless_present("lines")?)
@@ -146,6 +152,7 @@ fn bdf_command<'a>(alloc: Global) -> Result<Command<'a>, AllocError> {
         .arg(range(alloc))?
         .arg(fit(alloc, BEST))?
         .arg(face(alloc))?
+        .arg(height(alloc))?
         .arg(font(alloc))?
         .arg(text(alloc))
 }
@@ -235,6 +242,23 @@ fn grow<'a>(alloc: Global) -> Arg<'a> {
         .long("grow")
         .action(ArgAction::SetTrue)
         .help("Make the picture larger where ink would be cut")
+}
+
+fn kern<'a>(alloc: Global) -> Arg<'a> {
+    Arg::new(alloc, "kern")
+        .long("kern")
+        .action(ArgAction::SetTrue)
+        .help("Move pairs such as AV nearer, by the font's tables; from size 16 on")
+}
+
+fn height<'a>(alloc: Global) -> Arg<'a> {
+    Arg::new(alloc, "height")
+        .long("height")
+        .value_name("HOW")
+        .value_parser(HEIGHTS.as_slice())
+        .default_value(EXACT)
+        .hide_possible_values(true)
+        .help("exact or rounded, so that box drawing of lines joins")
 }
 
 fn no_ink<'a>(alloc: Global) -> Result<Arg<'a>, AllocError> {

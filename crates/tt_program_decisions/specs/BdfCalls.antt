@@ -27,6 +27,7 @@ pub record IsFileFor (b : BdfAsked) (rs : List CodeRange) (f : FontFile) : Type 
   pub size : f.size ≡ b.size
   pub fit : f.fit ≡ b.fit
   pub face : f.face ≡ face_or_first b.face
+  pub heights : f.heights ≡ b.heights
   pub ranges : f.ranges.now ≡ rs
   pub text : f.text.now ≡ b.text
   pub path : f.path.now ≡ b.font

@@ -3,14 +3,17 @@ use Rattle.std.specs.Prelude.{◌≡◌, refl, ℕ, List, [], ◌∷◌, codes, 
 use Rattle.tt_bdf.specs.declared.range.CodeRange.{CodeRange}
 use Rattle.tt_bdf.specs.Ranges.{ranges_of}
 use Rattle.tt_fit.specs.declared.programs.Fit.{Fit}
+use Rattle.tt_metrics.specs.declared.heights.Heights.{Heights}
 use Rattle.tt_program_decisions.specs.declared.bdf.BdfRequest.{BdfRequest}
 
--- a font, a size, a way to fit, the number of a face if one is asked for, the words of ranges if there are any, a text
+-- a font, a size, a way to fit, the number of a face if one is asked for, the rounding of heights, the words of
+-- ranges if there are any, a text
 pub record BdfAsked : Type 0 where
   pub font : List ℕ
   pub size : ℕ
   pub fit : Fit
   pub face : Option ℕ
+  pub heights : Heights
   pub range : Option (List ℕ)
   pub text : List ℕ
 
@@ -20,6 +23,7 @@ bdf_view b = record {
   size = b.size;
   fit = b.fit;
   face = b.face;
+  heights = b.heights;
   range = option_map (λ s. s.now) b.range;
   text = b.text.now;
 }

@@ -5,7 +5,10 @@ use Rattle.tt_core.specs.declared.collection.Reading.{Reading}
 use Rattle.tt_core.specs.declared.collection.Reading.TheVariants as reading
 use Rattle.tt_fit.specs.declared.programs.Fit.{Fit}
 use Rattle.tt_fit.specs.declared.programs.Fit.TheVariants as fit
+use Rattle.tt_face.specs.declared.rules.LineRules.{LineRules}
 use Rattle.tt_face.specs.Files.{IsFaceDefectBy}
+use Rattle.tt_face.specs.Rules.{plain_opening}
+use Rattle.tt_metrics.specs.declared.heights.Heights.{Heights}
 use Rattle.tt_strike.specs.Defects.{IsRunDefect}
 use Rattle.tt_render.specs.declared.setting.Missing.{Missing}
 use Rattle.tt_render.specs.declared.setting.Missing.TheVariants as missing
@@ -31,6 +34,7 @@ use Rattle.tt_program_decisions.specs.declared.request.Request.TheVariants.{Map,
 use Rattle.tt_program_decisions.specs.BdfCalls.{PerformsBdf}
 use Rattle.tt_program_decisions.specs.BdfRequests.{BdfAsked, bdf_view, range_words, text_or_none}
 use Rattle.tt_program_decisions.specs.FaceLines.{IsFacesDefect, faces_wanted}
+use Rattle.tt_program_decisions.specs.Rules.{AsksRules, heights_named}
 use Rattle.tt_render.specs.Printing.{Errors}
 use Rattle.tt_program_decisions.specs.Telling.{Does, DoesLabel, DoesTexts}
 
@@ -66,7 +70,7 @@ setting_named size margin (Some f) (Some m) grows face wanted = Some (record {
   ppem = size;
   margin = margin;
   fit = f;
-  reading = reading_asked face (fit_reading f);
+  opening = plain_opening (reading_asked face (fit_reading f));
   missing = m;
   grow = grows;
   product = wanted;
@@ -82,18 +86,27 @@ options_asked (Some size) (Some margin) (Some how) (Some what) grows face wanted
     setting_named size margin (fit_named how) (missing_named what) grows face wanted
 options_asked size margin how what grows face wanted = None
 
--- the options of `label`, where all names are known
-abbrev pub label_named : ℕ → ℕ → Option Align → Option Fit → Option Missing → Option ℕ → Option LabelOptions
-label_named n m (Some a) (Some f) (Some w) face =
-    Some (record { size = n; margin = m; align = a; fit = f; missing = w; face = face })
-label_named n m a f w face = None
+-- the same setting with rules of lines, where both are present
+abbrev pub with_rules : Option LineRules → Option Setting → Option Setting
+with_rules (Some rules) (Some s) =
+    Some (record s { opening = record { reading = s.opening.reading; rules = rules } })
+with_rules rules s = None
 
--- `--size SIZE --margin MARGIN --align ALIGN --fit FIT --missing MISSING`, and `--face FACE`; options may be absent
+-- the options of `label`, where all names are known
+abbrev pub label_named
+    : ℕ → ℕ → Option Align → Option Fit → Option Missing → Option ℕ → Option LineRules → Option LabelOptions
+label_named n m (Some a) (Some f) (Some w) face (Some rules) =
+    Some (record { size = n; margin = m; align = a; fit = f; missing = w; face = face; rules = rules })
+label_named n m a f w face rules = None
+
+-- `--size SIZE --margin MARGIN --align ALIGN --fit FIT --missing MISSING`, `--face FACE`, and the rules of lines; options
+-- may be absent
 abbrev pub label_options_asked
-    : Option ℕ → Option ℕ → Option (List ℕ) → Option (List ℕ) → Option (List ℕ) → Option ℕ → Option LabelOptions
-label_options_asked (Some n) (Some m) (Some side) (Some how) (Some what) face =
-    label_named n m (align_named side) (fit_named how) (missing_named what) face
-label_options_asked n m side how what face = None
+    : Option ℕ → Option ℕ → Option (List ℕ) → Option (List ℕ) → Option (List ℕ) → Option ℕ → Option LineRules
+    → Option LabelOptions
+label_options_asked (Some n) (Some m) (Some side) (Some how) (Some what) face rules =
+    label_named n m (align_named side) (fit_named how) (missing_named what) face rules
+label_options_asked n m side how what face rules = None
 
 -- The requests, each with its font: the lines that map a text; the lines of the file's faces; the product of a text with
 -- a setting; the products of the lines of standard input; the measure of a text without ink; the label of a text; the
@@ -149,23 +162,26 @@ bare_asked None = None
 abbrev pub measure_asked : Bool → Option Asked → Option Asked
 measure_asked bare asked = if bare then bare_asked asked else asked
 
--- `bdf`, where the name of the way to fit is known
-abbrev pub bdf_named : List ℕ → ℕ → Option Fit → Option ℕ → Option (List ℕ) → Option (List ℕ) → Option Asked
-bdf_named font n (Some f) face range text = Some (make_bdf (record {
+-- `bdf`, where the names of the way to fit and of the rounding of heights are known
+abbrev pub bdf_named
+    : List ℕ → ℕ → Option Fit → Option ℕ → Option Heights → Option (List ℕ) → Option (List ℕ) → Option Asked
+bdf_named font n (Some f) face (Some h) range text = Some (make_bdf (record {
   font = font;
   size = n;
   fit = f;
   face = face;
+  heights = h;
   range = range_words range text;
   text = text_or_none text;
 }))
-bdf_named font n None face range text = None
+bdf_named font n f face h range text = None
 
--- `bdf --size SIZE --fit FIT --face FACE --range RANGE FONT TEXT`; words and options may be absent
+-- `bdf --size SIZE --fit FIT --face FACE --height HEIGHT --range RANGE FONT TEXT`; words and options may be absent
 abbrev pub bdf_asked : Option (List ℕ) → Option ℕ → Option (List ℕ) → Option ℕ → Option (List ℕ) → Option (List ℕ)
-    → Option Asked
-bdf_asked (Some font) (Some n) (Some how) face range text = bdf_named font n (fit_named how) face range text
-bdf_asked font n how face range text = None
+    → Option (List ℕ) → Option Asked
+bdf_asked (Some font) (Some n) (Some how) face (Some height) range text =
+    bdf_named font n (fit_named how) face (heights_named height) range text
+bdf_asked font n how face height range text = None
 
 -- `label OPTION.. FONT TEXT`, or with standard input's lines `label OPTION.. --lines FONT`; words and options may be
 -- absent
@@ -174,14 +190,23 @@ label_asked (Some font) (Some text) false (Some o) = Some (draw_label font text 
 label_asked (Some font) None true (Some o) = Some (draw_labels font o)
 label_asked font text lines o = None
 
--- the setting of `draw`, or of `measure`, by its arguments: a name's text, its number, and whether its flag is set
+-- the setting of `draw`, or of `measure`, by its arguments: a name's text, its number, and whether its flag is set. Heights
+-- are exact, and no pair is kerned
+abbrev pub AsksPlainSetting
+    : (List ℕ → Option (List ℕ)) → (List ℕ → Option ℕ → Type 0) → (List ℕ → Bool → Type 0) → Product
+    → Option Setting → Type 0
+AsksPlainSetting text IsNumber IsFlag wanted answer =
+    (size margin face : Option ℕ) × (grows : Bool) × IsNumber (codes "size") size × IsNumber (codes "margin") margin
+    × IsNumber (codes "face") face × IsFlag (codes "grow") grows
+    × (answer ≡ options_asked size margin (text (codes "fit")) (text (codes "missing")) grows face wanted)
+
+-- the same setting with the rules of its lines
 abbrev pub AsksSetting
     : (List ℕ → Option (List ℕ)) → (List ℕ → Option ℕ → Type 0) → (List ℕ → Bool → Type 0) → Product
     → Option Setting → Type 0
 AsksSetting text IsNumber IsFlag wanted answer =
-    (size margin face : Option ℕ) × (grows : Bool) × IsNumber (codes "size") size × IsNumber (codes "margin") margin
-    × IsNumber (codes "face") face × IsFlag (codes "grow") grows
-    × (answer ≡ options_asked size margin (text (codes "fit")) (text (codes "missing")) grows face wanted)
+    (setting : Option Setting) × (rules : Option LineRules) × AsksPlainSetting text IsNumber IsFlag wanted setting
+    × AsksRules text IsFlag rules × (answer ≡ with_rules rules setting)
 
 -- the request of `map` by its arguments
 abbrev pub AsksMap : (List ℕ → Option (List ℕ)) → (List ℕ → Option ℕ → Type 0) → Option Asked → Type 0
@@ -206,17 +231,19 @@ AsksMeasure text IsNumber IsFlag answer =
     × IsFlag (codes "no-ink") bare × (answer ≡ measure_asked bare asked)
 
 -- the options of `label` by its arguments
-abbrev pub AsksLabelOptions : (List ℕ → Option (List ℕ)) → (List ℕ → Option ℕ → Type 0) → Option LabelOptions → Type 0
-AsksLabelOptions text IsNumber answer =
-    (size margin face : Option ℕ) × IsNumber (codes "size") size × IsNumber (codes "margin") margin
-    × IsNumber (codes "face") face
-    × (answer ≡ label_options_asked size margin (text (codes "align")) (text (codes "fit")) (text (codes "missing")) face)
+abbrev pub AsksLabelOptions
+    : (List ℕ → Option (List ℕ)) → (List ℕ → Option ℕ → Type 0) → (List ℕ → Bool → Type 0) → Option LabelOptions
+    → Type 0
+AsksLabelOptions text IsNumber IsFlag answer =
+    (size margin face : Option ℕ) × (rules : Option LineRules) × IsNumber (codes "size") size
+    × IsNumber (codes "margin") margin × IsNumber (codes "face") face × AsksRules text IsFlag rules
+    × (answer ≡ label_options_asked size margin (text (codes "align")) (text (codes "fit")) (text (codes "missing")) face rules)
 
 -- the request of `label` by its arguments
 abbrev pub AsksLabel
     : (List ℕ → Option (List ℕ)) → (List ℕ → Option ℕ → Type 0) → (List ℕ → Bool → Type 0) → Option Asked → Type 0
 AsksLabel text IsNumber IsFlag answer =
-    (options : Option LabelOptions) × (lines : Bool) × AsksLabelOptions text IsNumber options
+    (options : Option LabelOptions) × (lines : Bool) × AsksLabelOptions text IsNumber IsFlag options
     × IsFlag (codes "lines") lines
     × (answer ≡ label_asked (text (codes "FONT")) (text (codes "TEXT")) lines options)
 
@@ -224,7 +251,8 @@ AsksLabel text IsNumber IsFlag answer =
 abbrev pub AsksBdf : (List ℕ → Option (List ℕ)) → (List ℕ → Option ℕ → Type 0) → Option Asked → Type 0
 AsksBdf text IsNumber answer =
     (size face : Option ℕ) × IsNumber (codes "size") size × IsNumber (codes "face") face
-    × (answer ≡ bdf_asked (text (codes "FONT")) size (text (codes "fit")) face (text (codes "range")) (text (codes "TEXT")))
+    × (answer ≡ bdf_asked (text (codes "FONT")) size (text (codes "fit")) face (text (codes "height"))
+    (text (codes "range")) (text (codes "TEXT")))
 
 -- the setting of a label with these options: glyphs of any face of any font
 abbrev pub label_setting : LabelOptions → Setting
@@ -232,7 +260,7 @@ label_setting o = record {
   ppem = o.size;
   margin = o.margin;
   fit = o.fit;
-  reading = reading_asked o.face (reading.Wide 0);
+  opening = record { reading = reading_asked o.face (reading.Wide 0); rules = o.rules };
   missing = o.missing;
   grow = true;
   product = Picture;
@@ -266,7 +294,7 @@ Performs (Map font text r) folder t lines e status =
 Performs (Faces font) folder t lines e status = Does faces_wanted IsFacesDefect t e status
 Performs (Text font text setting) folder t lines e status =
     DoesTexts {V = Unit {0}} (λ answer told. FontTextGives setting text.now answer t told
-    × TextTellsDefectsOf t.left_before (IsRunDefect setting.reading (job_by setting text.now)) answer) e status
+    × TextTellsDefectsOf t.left_before (IsRunDefect setting.opening (job_by setting text.now)) answer) e status
 Performs (Lines font setting) folder t lines e status =
     DoesTexts {V = ℕ} (λ answer told. FontLinesGive setting answer (reader_in t) lines told
     × LinesTellDefectsOf text_glyphs t.left_before setting lines.left_before answer) e status

@@ -10,12 +10,14 @@ ghost use Rattle.tt_program_decisions.specs.Requests.{AsksBdf, asked_of};
 ghost use Rattle.tt_program_decisions.specs.Stops.{IsStopBefore};
 
 use crate::request::{Arguments, Request, fit_named};
+use crate::rules::heights_named;
 use crate::stopping::{Stop, tell_stop};
 use crate::telling_bdf::tell_bdf;
 use std::alloc::{AllocError, Global};
 use tt_bdf::{CodeRange, read_ranges};
 use tt_bitmap_font::{FontFile, write_bdf};
 use tt_core::{Sink, Source};
+use tt_face::Heights;
 use tt_fit::Fit;
 
 /// A request for `bdf`.
@@ -27,6 +29,8 @@ pub struct BdfRequest<'a> {
     pub fit: Fit,
     /// The number of the face, if one is asked for.
     pub face: Option<u32>,
+    /// How the file's ascent and descent are rounded.
+    pub heights: Heights,
     /// The words of the ranges. None where a text alone is asked for.
     pub range: Option<&'a str>,
     /// A text, whose characters are wanted too; empty where there is none.
@@ -36,14 +40,15 @@ pub struct BdfRequest<'a> {
 /// The ranges where a request has neither ranges nor a text.
 const DEFAULT_RANGE: &str = "20-7E,A0-FF";
 
-/// The request `bdf --size SIZE --fit FIT FONT`, where all are present, with `--face FACE`, `--range RANGE` and TEXT,
-/// which may be absent. None where the name of the way to fit is unknown.
+/// The request `bdf --size SIZE --fit FIT --height HEIGHT FONT`, where all are present, with `--face FACE`, `--range RANGE`
+/// and TEXT, which may be absent. None where the name of the way to fit, or of the rounding of heights, is unknown.
 pub(crate) fn bdf_of<'a, A: Arguments<'a>>(arguments: &A) -> Option<Request<'a>>
     ensures { AsksBdf (A.text arguments.now) (A.IsNumber arguments.now) (option_map asked_of result) }
 {
     let size = arguments.number_for("size");
     let fit = arguments.text_for("fit");
     let face = arguments.number_for("face");
+    let height = arguments.text_for("height");
     let range = arguments.text_for("range");
     let text = arguments.text_for("TEXT");
     Some(Request::Bdf(BdfRequest {
@@ -51,6 +56,7 @@ pub(crate) fn bdf_of<'a, A: Arguments<'a>>(arguments: &A) -> Option<Request<'a>>
         size: size?,
         fit: fit_named(fit?)?,
         face,
+        heights: heights_named(height?)?,
         range: range_words(range, text),
         text: text_or_none(text),
     }))
@@ -139,6 +145,7 @@ pub(crate) fn perform_bdf<R: Source, W: Sink, E: Sink>(
                 size: asked.size,
                 fit: asked.fit,
                 face: face_or_first(asked.face),
+                heights: asked.heights,
                 ranges: &ranges,
                 text: asked.text,
                 path: asked.font,

@@ -4,7 +4,9 @@ ghost use Rattle.std.specs.Prelude.{◌≡◌, option_map};
 ghost use Rattle.tt_program_decisions.specs.Requests.{AsksLabel, AsksLabelOptions, IsLabelFor, align_named, asked_of};
 
 use crate::request::{Arguments, GLYPHS_KEPT, Request, fit_named, missing_named};
+use crate::rules::rules_of;
 use tt_core::Reading;
+use tt_face::{LineRules, Opening};
 use tt_fit::Fit;
 use tt_render::{Align, Label, Missing, Product, Setting, reading_asked};
 
@@ -18,6 +20,7 @@ pub struct LabelOptions {
     pub missing: Missing,
     /// The number of the face, if one is asked for.
     pub face: Option<u32>,
+    pub rules: LineRules,
 }
 
 /// The request `label OPTION.. FONT TEXT` or `label OPTION.. --lines FONT`, where its words and options are present.
@@ -50,10 +53,10 @@ pub(crate) fn labelling_of<'a, A: Arguments<'a>>(arguments: &A) -> Option<Reques
 }
 
 /// The options `--size SIZE --margin MARGIN --align ALIGN --fit FIT --missing MISSING`, where all are present, and
-/// `--face FACE`, which may be absent. None where the name of a side, of the way to fit, or of the treatment of missing
-/// glyphs, is unknown.
+/// `--face FACE`, which may be absent, with the rules of `rules_of`. None where there are no rules, or where the name of a
+/// side, of the way to fit, or of the treatment of missing glyphs, is unknown.
 fn label_options_of<'a, A: Arguments<'a>>(arguments: &A) -> Option<LabelOptions>
-    ensures { AsksLabelOptions (A.text arguments.now) (A.IsNumber arguments.now) result }
+    ensures { AsksLabelOptions (A.text arguments.now) (A.IsNumber arguments.now) (A.IsFlag arguments.now) result }
 {
     let size = arguments.number_for("size");
     let margin = arguments.number_for("margin");
@@ -61,6 +64,7 @@ fn label_options_of<'a, A: Arguments<'a>>(arguments: &A) -> Option<LabelOptions>
     let fit = arguments.text_for("fit");
     let missing = arguments.text_for("missing");
     let face = arguments.number_for("face");
+    let rules = rules_of(arguments);
     Some(LabelOptions {
         size: size?,
         margin: margin?,
@@ -68,6 +72,7 @@ fn label_options_of<'a, A: Arguments<'a>>(arguments: &A) -> Option<LabelOptions>
         fit: fit_named(fit?)?,
         missing: missing_named(missing?)?,
         face,
+        rules: rules?,
     })
 }
 
@@ -101,7 +106,10 @@ pub(crate) fn label_for<'a>(path: &'a str, options: &LabelOptions) -> Label<'a>
         ppem: options.size,
         margin: options.margin,
         fit: options.fit,
-        reading: reading_asked(options.face, Reading::Wide { face: 0 }),
+        opening: Opening {
+            reading: reading_asked(options.face, Reading::Wide { face: 0 }),
+            rules: options.rules,
+        },
         missing: options.missing,
         grow: true,
         product: Product::Picture,

@@ -6,6 +6,7 @@ mod faces;
 mod labelling;
 mod performing;
 mod request;
+mod rules;
 mod stopping;
 mod telling;
 mod telling_bdf;
@@ -20,5 +21,6 @@ pub use request::{
     Arguments, BEST, DRAW, FITS, FULL, GLYPHS_KEPT, MISSING_WORDS, Request, TELL, fit_named,
     missing_named, request_of,
 };
+pub use rules::{EXACT, HEIGHTS};
 pub use stopping::{Stop, stop_of_open, stop_of_words, tell_stop};
 pub use unopened::tell_unopened;

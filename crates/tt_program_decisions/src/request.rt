@@ -2,11 +2,13 @@
 
 ghost use Rattle.std.specs.Prelude.{◌≡◌, ◌≢◌, ℕ, Bool, List, Option, None, codes, option_map};
 ghost use Rattle.tt_render.specs.declared.setting.Product.TheVariants.{Measure, Picture};
-ghost use Rattle.tt_program_decisions.specs.Requests.{AsksBdf, AsksDrawing, AsksLabel, AsksMap, AsksMeasure, AsksSetting, asked_of, faces_asked, fit_named, font_of, missing_named, without_ink};
+ghost use Rattle.tt_program_decisions.specs.Requests.{AsksBdf, AsksDrawing, AsksLabel, AsksMap, AsksMeasure, AsksPlainSetting, AsksSetting, asked_of, faces_asked, fit_named, font_of, missing_named, without_ink};
 
 use crate::bdf::{BdfRequest, bdf_of};
 use crate::labelling::{LabelOptions, labelling_of};
+use crate::rules::rules_of;
 use tt_core::Reading;
+use tt_face::Opening;
 use tt_fit::Fit;
 use tt_render::{Missing, Product, Setting, fit_reading, reading_asked};
 
@@ -127,7 +129,7 @@ fn drawing_of<'a, A: Arguments<'a>>(arguments: &A, product: Product) -> Option<R
 {
     let text = arguments.text_for("TEXT");
     let lines = arguments.is_set("lines");
-    let setting = setting_of(arguments, product);
+    let setting = ruled_setting_of(arguments, product);
     let font = arguments.text_for("FONT")?;
     let setting = setting?;
     match text {
@@ -213,11 +215,27 @@ fn faces_of<'a>(font: Option<&'a str>) -> Option<Request<'a>>
 /// and some thousand glyphs at a usual one.
 pub const GLYPHS_KEPT: usize = 4_194_304;
 
+/// The setting of `setting_of`, with the rules of lines of `rules_of`. None where one of the two is none.
+fn ruled_setting_of<'a, A: Arguments<'a>>(arguments: &A, product: Product) -> Option<Setting>
+    ensures { AsksSetting (A.text arguments.now) (A.IsNumber arguments.now) (A.IsFlag arguments.now) product result }
+{
+    let setting = setting_of(arguments, product);
+    let rules = rules_of(arguments);
+    let setting = setting?;
+    Some(Setting {
+        opening: Opening {
+            reading: setting.opening.reading,
+            rules: rules?,
+        },
+        ..setting
+    })
+}
+
 /// The setting of `--size SIZE --margin MARGIN --fit FIT --missing MISSING` for a product, where all are present, and of
-/// `--face FACE`, which may be absent. None where the name of the way to fit, or of the treatment of missing glyphs, is
+/// `--face FACE`, which may be absent. Heights are exact, and no pair is kerned. None where the name of the way to fit, or of the treatment of missing glyphs, is
 /// unknown.
 fn setting_of<'a, A: Arguments<'a>>(arguments: &A, product: Product) -> Option<Setting>
-    ensures { AsksSetting (A.text arguments.now) (A.IsNumber arguments.now) (A.IsFlag arguments.now) product result }
+    ensures { AsksPlainSetting (A.text arguments.now) (A.IsNumber arguments.now) (A.IsFlag arguments.now) product result }
 {
     let size = arguments.number_for("size");
     let margin = arguments.number_for("margin");
@@ -229,14 +247,14 @@ fn setting_of<'a, A: Arguments<'a>>(arguments: &A, product: Product) -> Option<S
         ppem: size?,
         margin: margin?,
         fit: fit_named(fit?)?,
-        reading: Reading::Strict,
+        opening: Opening::plain(Reading::Strict),
         missing: missing_named(missing?)?,
         grow,
         product,
         most: GLYPHS_KEPT,
     };
     Some(Setting {
-        reading: reading_asked(face, fit_reading(strict.fit)),
+        opening: Opening::plain(reading_asked(face, fit_reading(strict.fit))),
         ..strict
     })
 }

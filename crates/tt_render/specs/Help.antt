@@ -10,6 +10,7 @@ use Rattle.tt_advice.specs.Notes.{hint_told}
 use Rattle.tt_core.specs.declared.collection.Reading.TheVariants as reading
 use Rattle.tt_core.specs.declared.fault.JobFault.{JobFault}
 use Rattle.tt_core.specs.declared.fault.JobFault.TheVariants as job
+use Rattle.tt_face.specs.Rules.{plain_opening}
 use Rattle.tt_fit.specs.declared.programs.Fit.TheVariants as fit
 use Rattle.tt_render.specs.declared.label.Label.{Label}
 use Rattle.tt_render.specs.declared.refusal.Refusal.{Refusal}
@@ -52,12 +53,12 @@ abbrev pub label_help : Label → Bool → TextsFault → Option Hint → List �
 label_help l folder fault h = help_by l folder fault.refusal (named_line_of fault.refusal fault.line) h
 
 -- worked values
-a_size : job_help None job.SizeRange (plain_setting 301 65 fit.Best (reading.Wide 0))
+a_size : job_help None job.SizeRange (plain_setting 301 65 fit.Best (plain_opening (reading.Wide 0)))
     ≡ codes "tt_render: --size is 1 to 300 pixels per em, not 301\n"
 unfolding digits
 a_size = refl
 
-a_margin : job_help None job.MarginRange (plain_setting 300 65 fit.Best (reading.Wide 0))
+a_margin : job_help None job.MarginRange (plain_setting 300 65 fit.Best (plain_opening (reading.Wide 0)))
     ≡ codes "tt_render: --margin is 0 to 64 pixels, not 65\n"
 unfolding digits
 a_margin = refl

@@ -1,6 +1,6 @@
 -- No part of the standard: the tests of a setting before the font is read, its jobs, and its strike (profile).
 use Rattle.std.specs.Prelude.{◌≡◌, ◌≢◌, refl, ℕ, false, List, [], Result, Ok, Err}
-use Rattle.tt_core.specs.declared.collection.Reading.{Reading}
+use Rattle.tt_face.specs.declared.rules.Opening.{Opening}
 use Rattle.tt_core.specs.declared.collection.Reading.TheVariants as reading
 use Rattle.tt_core.specs.declared.fault.JobFault.{JobFault}
 use Rattle.tt_core.specs.declared.fault.JobFault.TheVariants as fault
@@ -22,14 +22,13 @@ use Rattle.tt_render_run.specs.Outcome.{of_font}
 unfoldable pub setting_tested : Setting → Result (Unit {0}) JobFault
 setting_tested a = size_tested a.ppem >>= λ u. margin_tested a.margin
 
--- the setting by which `run` draws: glyph 0 in place of a missing one, the picture as it is, no cached glyphs. Heights are
--- exact, and no pair is kerned
-abbrev pub plain_setting : ℕ → ℕ → Fit → Reading → Setting
-plain_setting ppem margin f r = record {
+-- the setting by which `run` draws: glyph 0 in place of a missing one, the picture as it is, no cached glyphs
+abbrev pub plain_setting : ℕ → ℕ → Fit → Opening → Setting
+plain_setting ppem margin f o = record {
   ppem = ppem;
   margin = margin;
   fit = f;
-  opening = plain_opening r;
+  opening = o;
   missing = how.Draw;
   grow = false;
   product = product.Picture;
@@ -61,7 +60,7 @@ strike_of a file = of_font (λ font. as_font (face_with font a.opening) >>= λ f
 
 -- worked values
 sized : ℕ → ℕ → Setting
-sized ppem margin = plain_setting ppem margin fit.None reading.Strict
+sized ppem margin = plain_setting ppem margin fit.None (plain_opening reading.Strict)
 
 size_before_margin : setting_tested (sized 301 65) ≡ Err fault.SizeRange
 unfolding sized setting_tested size_tested
@@ -75,5 +74,5 @@ within_both : setting_tested (sized 300 64) ≡ Ok tt
 unfolding sized setting_tested size_tested margin_tested
 within_both = refl
 
-run_is_plain : (ppem margin : ℕ) (f : Fit) (r : Reading) → IsPlain (plain_setting ppem margin f r)
-run_is_plain ppem margin f r = record { as_it_is = record { picture = refl; whole = refl }; drawn = λ is. cc }
+run_is_plain : (ppem margin : ℕ) (f : Fit) (o : Opening) → IsPlain (plain_setting ppem margin f o)
+run_is_plain ppem margin f o = record { as_it_is = record { picture = refl; whole = refl }; drawn = λ is. cc }

@@ -37,7 +37,11 @@ fn hint_for(refusal: Refusal, file: &[u8], asked: &Label) -> Option<Hint>
     ensures { result ≡ hint_for refusal file.now asked.now.setting.opening.reading }
 {
     match refusal {
-        Refusal::Font(fault) => Some(advice(fault, file, face_number(asked.setting.opening.reading))),
+        Refusal::Font(fault) => Some(advice(
+            fault,
+            file,
+            face_number(asked.setting.opening.reading),
+        )),
         Refusal::Job(_)
         | Refusal::NotUtf8
         | Refusal::Missing(_)

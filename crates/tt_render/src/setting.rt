@@ -5,7 +5,7 @@ ghost use Rattle.tt_core.specs.Outcomes.{Gives};
 ghost use Rattle.tt_render.specs.Settings.{job_by, plain_setting, setting_tested};
 ghost use Rattle.tt_strike.specs.Job.{job_view};
 
-use tt_core::{JobFault, Reading};
+use tt_core::JobFault;
 use tt_face::Opening;
 use tt_fit::Fit;
 use tt_strike::{Job, test_job};
@@ -49,16 +49,15 @@ pub struct Setting {
 }
 
 impl Setting {
-    /// The setting by which `run` draws: glyph 0 in place of a missing one, the picture as it is, no cached glyphs. Heights
-    /// are exact, and no pair is kerned.
-    pub fn plain(ppem: u32, margin: u32, fit: Fit, reading: Reading) -> Setting
-        ensures { result ≡ plain_setting ppem margin fit reading }
+    /// The setting by which `run` draws: glyph 0 in place of a missing one, the picture as it is, no cached glyphs.
+    pub fn plain(ppem: u32, margin: u32, fit: Fit, opening: Opening) -> Setting
+        ensures { result ≡ plain_setting ppem margin fit opening }
     {
         Setting {
             ppem,
             margin,
             fit,
-            opening: Opening::plain(reading),
+            opening,
             missing: Missing::Draw,
             grow: false,
             product: Product::Picture,

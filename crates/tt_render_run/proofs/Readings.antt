@@ -182,11 +182,13 @@ moved e face = record { directory = e; metrics = face.metrics; cmap = face.cmap 
 abbrev all_moved : Directory → Result Face Fault → Result Face Fault
 all_moved e faces = faces >>= λ face. Ok (moved e face)
 
+abbrev both_tables : List ℕ → List ℕ → Option Tables
+both_tables gpos kern = Some (record { gpos = gpos; kern = kern })
+
 kerned_alike : (kerned : Bool) (d e : Directory) → SameTables d e → kerning_by kerned d ≡ kerning_by kerned e
 unfolding table_bytes
 kerned_alike true d e same =
-    ap₂ (λ (gpos kern : List ℕ). Some (record { gpos = gpos; kern = kern } : Tables))
-    (ap bytes_in (same gpos_tag)) (ap bytes_in (same kern_tag))
+    ap₂ both_tables (ap bytes_in (same gpos_tag)) (ap bytes_in (same kern_tag))
 kerned_alike false d e same = refl
 
 runs_moved : FacesDrawAlike → (rules : LineRules) (a : Job) (d e : Directory) (r : Result Face Fault)

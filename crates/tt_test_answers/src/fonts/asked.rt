@@ -6,6 +6,7 @@ use super::devices::{Given, Manner, Written};
 use std::alloc::Global;
 use std::str;
 use tt_core::{Device, Reading};
+use tt_face::Opening;
 use tt_program_decisions::{DRAW, GLYPHS_KEPT, Request, fit_named, missing_named, perform};
 use tt_render::{Setting, fit_reading};
 use tt_test_words::Line;
@@ -168,6 +169,6 @@ fn setting_in(line: &mut Line, missing: &str) -> Option<Setting> {
     Some(Setting {
         missing: missing_named(missing)?,
         most: GLYPHS_KEPT,
-        ..Setting::plain(size, margin, fit, fit_reading(fit))
+        ..Setting::plain(size, margin, fit, Opening::plain(fit_reading(fit)))
     })
 }
