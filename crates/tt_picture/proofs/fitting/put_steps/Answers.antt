@@ -39,6 +39,13 @@ place_is c =
     c.from-place.ensures ∙ ap (λ m. get_or table m 0) number ∙ sym (get_or_default table n seat 0 known) in
     seated table (fitted_numbers c.args.fitted.now) n seat known read c.requires.places (c.requires.among i (0, 0) below)
 
+pub offset_bounds-places-from : goal.offset_bounds-places-from
+offset_bounds-places-from c =
+    let number = as_at_first c.loop-i.line c.args.line.now c.loop-i.i c.from.result c.loop-i.invariant.numbers
+    c.loop-i-test.true c.from.ensures in
+    let below : c.from.result < length c.args.places.now = rw number (c.requires.known c.loop-i.i (0, 0) c.loop-i-test.true) in
+    omega (arith, below, c.type_inv.places)
+
 pub bounds-places-from : goal.bounds-places-from
 bounds-places-from c =
     let number = as_at_first c.loop-i.line c.args.line.now c.loop-i.i c.from.result c.loop-i.invariant.numbers
