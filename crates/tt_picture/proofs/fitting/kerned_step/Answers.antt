@@ -1,14 +1,13 @@
 use Rattle.std.proofs.Common.{◌≡◌, ◌+ℤ◌, SFits, w32, w64, of_z, to_z, refl, rules, arith}
 use Rattle.std.proofs.lemmas.Int.{ints, to_z-of_z}
 use Rattle.tt_core.specs.Scales.{rounded_scale, scaled_by}
-use Rattle.tt_fit_outline.specs.Steps.{pixels_of}
 use Rattle.tt_metrics.specs.Metrics.{units_per_em_of}
 use Rattle.tt_picture.proofs.fitting.kerned_step.Goals as goal
 
 pub returns : goal.returns
 returns c =
-    let advance : SFits w32 c.args.advance_left = c.ranges.advance_left.sfits in
-    let kerning : SFits w32 c.args.kerning = c.ranges.kerning.sfits in
+    let advance : SFits w32 c.args.advance_left = c.ranges.advance_left in
+    let kerning : SFits w32 c.args.kerning = c.ranges.kerning in
     let wide : SFits w64 c.from.result = search rules in
     let part : SFits w64 c.scaled.result = search rules in
     let is_advance : c.from.result ≡ c.args.advance_left = simp to_z-of_z at c.from.ensures in

@@ -28,6 +28,13 @@ body_of-requires-clause-boxed c =
     let own : IsMadeOutline cached s c.args.number o m = rw c.self.view_is made in
     rw c.in_ok-tape.ensures (made_boxed cached s c.args.number o m c.in_ok-made.made.list.edges own c.in_ok-made.ensures.exact)
 
+-- the distance that the glyph keeps is that of its outline
+advance_is : (c : After-of) → to_z w32 (of_z w32 c.advance_left-advance_left.result) ≡ advance_left (outline_of c.self.inside.outline)
+advance_is c =
+    let fits : SFits w32 c.advance_left-advance_left.result = search rules in
+    let same : to_z w32 (of_z w32 c.advance_left-advance_left.result) ≡ c.advance_left-advance_left.result = simp to_z-of_z refl in
+    same ∙ c.advance_left-advance_left.ensures.exact
+
 pub returns-clause-chords : goal.returns-clause-chords
 returns-clause-chords c = rw (← c.self.view_is) c.in_ok-made.ensures.chords
 
@@ -44,10 +51,6 @@ returns-clause-crossings c =
 
 pub returns-clause-valid : goal.returns-clause-valid
 returns-clause-valid c = λ cached s o outlined made.
-    let fits : SFits w32 c.advance_left-advance_left.result = search rules in
-    let same : to_z w32 (of_z w32 c.advance_left-advance_left.result) ≡ c.advance_left-advance_left.result = simp to_z-of_z refl in
-    let advance : to_z w32 (of_z w32 c.advance_left-advance_left.result) ≡ advance_left (outline_of c.self.inside.outline) =
-    same ∙ c.advance_left-advance_left.ensures.exact in
     let i = c.self.inside in
     let n = c.args.number in
     let m : MadeOutline = record { outline = outline_of i.outline; rule = i.rule; filled = i.filled; counts = i.counts; unfitted = i.outline.unfitted } in
@@ -72,9 +75,9 @@ returns-clause-valid c = λ cached s o outlined made.
       body = body_has es (edges_at way 0 o) lines i.filled facts b edged cut;
       left = c.left-left.ensures.exact;
       tape = λ off. c.in_ok-body.ensures.plain (own.plain off);
-      advance = made_advance m facts.advance_left own advance;
+      advance = made_advance m facts.advance_left own (advance_is (goal.at.returns-clause-valid c).After-of);
       chords = made_chords m c.in_ok-made.made.chords own of_outline.chords;
-      kept = body_shows cached s n o m es lines facts b own of_outline.exact of_outline.contours advance of_outline.chords cut;
+      kept = body_shows cached s n o m es lines facts b own of_outline.exact of_outline.contours (advance_is (goal.at.returns-clause-valid c).After-of) of_outline.chords cut;
       filled = λ is. told.tape is ∙ own.filled;
       of_tape = told.some;
       boxed = told_where filled i.filled (IsTape b) Fits Fits told.some told.tape own.fits (λ rules is fits. fits);
@@ -93,17 +96,13 @@ as_made : (c : After-of) → (cached : Bool) (s : Fitter) (o : Outline) → IsMa
     → HasFacts (record { number = c.args.number; advance_left = to_z w32 (of_z w32 c.advance_left-advance_left.result); chords = c.in_ok-made.made.chords; counts = c.self.inside.counts; unfitted = c.self.inside.outline.unfitted }) k
     → IsCached s c.args.number k
 as_made c cached s o made k cut has =
-    let fits : SFits w32 c.advance_left-advance_left.result = search rules in
-    let same : to_z w32 (of_z w32 c.advance_left-advance_left.result) ≡ c.advance_left-advance_left.result = simp to_z-of_z refl in
-    let advance : to_z w32 (of_z w32 c.advance_left-advance_left.result) ≡ advance_left (outline_of c.self.inside.outline) =
-    same ∙ c.advance_left-advance_left.ensures.exact in
     let i = c.self.inside in
     let m : MadeOutline = record { outline = outline_of i.outline; rule = i.rule; filled = i.filled; counts = i.counts; unfitted = i.outline.unfitted } in
     let own : IsMadeOutline cached s c.args.number o m = rw c.self.view_is made in
     let es = c.in_ok-made.made.list.edges in
     let of_outline = c.in_ok-made.ensures in
     as_cached cached s c.args.number o m es (contours_at es c.in_ok-made.made.ends.items) _ k refl refl own of_outline.exact
-    of_outline.contours advance of_outline.chords cut has
+    of_outline.contours (advance_is c) of_outline.chords cut has
 
 pub returns-in_err-body-clause-cached : goal.returns-in_err-body-clause-cached
 returns-in_err-body-clause-cached c = λ cached s o made before.
