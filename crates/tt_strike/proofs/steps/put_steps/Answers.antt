@@ -8,8 +8,8 @@ use Rattle.tt_line.proofs.Kerned.{at_end, at_start, drop-numbers, one_kerned, st
 use Rattle.tt_picture.specs.Steps.{step_by}
 use Rattle.tt_picture.proofs.Outlines.{advance_at, numbers_kept, same_number}
 use Rattle.tt_picture.proofs.Reframed.{seated}
-use Rattle.tt_picture.proofs.fitting.put_steps.Goals.{After-from-place}
-use Rattle.tt_picture.proofs.fitting.put_steps.Goals as goal
+use Rattle.tt_strike.proofs.steps.put_steps.Goals.{After-from-place}
+use Rattle.tt_strike.proofs.steps.put_steps.Goals as goal
 
 -- as many glyphs as at first
 as_many : (gs hs : List (ℕ × ℕ)) → map (λ (g : ℕ × ℕ). g.0) gs ≡ map (λ (g : ℕ × ℕ). g.0) hs → length gs ≡ length hs

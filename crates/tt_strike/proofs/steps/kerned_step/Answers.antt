@@ -2,7 +2,7 @@ use Rattle.std.proofs.Common.{◌≡◌, ◌+ℤ◌, SFits, w32, w64, of_z, to_z
 use Rattle.std.proofs.lemmas.Int.{ints, to_z-of_z}
 use Rattle.tt_core.specs.Scales.{rounded_scale, scaled_by}
 use Rattle.tt_metrics.specs.Metrics.{units_per_em_of}
-use Rattle.tt_picture.proofs.fitting.kerned_step.Goals as goal
+use Rattle.tt_strike.proofs.steps.kerned_step.Goals as goal
 
 pub returns : goal.returns
 returns c =
