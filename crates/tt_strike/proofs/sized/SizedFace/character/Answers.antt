@@ -49,13 +49,13 @@ returns c = λ step inked steps same.
     omega (arith, ints, c.requires.pen, c.requires.frame.margin) in
     rw (c.from.ensures, found.0, c.ink_at.ensures, found.1) (simp to_z-of_z)
 
-pub step_of-requires : goal.step_of-requires
-step_of-requires c =
+pub step_of-requires-clause-known : goal.step_of-requires-clause-known
+step_of-requires-clause-known c =
     let gs = c.args.inked.now.glyphs.made.items in
     let at = c.in-Some.ensures.found in
     let here : c.index.result.now.number ≡ c.args.placed.0 = ap (λ (t : Glyph). t.number) c.index.ensures
     ∙ sym (get_or-map (λ (t : Glyph). t.number) gs c.in-Some.i c.index.result.now 0 at.0) ∙ at.1 in
-    rw here (record { known = c.requires.known })
+    rw here c.requires.known
 
 pub index-requires-in-Some : goal.index-requires-in-Some
 index-requires-in-Some c =
