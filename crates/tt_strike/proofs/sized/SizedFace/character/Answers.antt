@@ -34,8 +34,10 @@ returns c = λ step inked steps same.
     let found : (c.match-find.step.0 ≡ step c.args.placed.0 c.args.kerning) × (c.match-find.step.1 ≡ inked c.args.placed.0) =
     elim c.match-find.branch [
       | in-Some w ↦
-          let at = w.in-Some.ensures.found in (
-            ap (λ (p : ℕ × Option GlyphInk). p.0) w.step-is ∙ (rw same_kerning at w.step_of.ensures ∙ step_found (made_step z.face.metrics z.ppem z.fit) step c.args.kerning gs w.in-Some.i
+          let at = w.in-Some.ensures.found in
+          let own = made_step z.face.metrics z.ppem z.fit in
+          let told : w.step_of.result ≡ own w.index.result.now c.args.kerning = rw same_kerning at w.step_of.ensures in (
+            ap (λ (p : ℕ × Option GlyphInk). p.0) w.step-is ∙ (told ∙ step_found own step c.args.kerning gs w.in-Some.i
                 c.args.placed.0 w.index.result.now steps at.0 at.1 w.index.ensures),
             ap (λ (p : ℕ × Option GlyphInk). p.1) w.step-is ∙ (w.index-in-Some.ensures
                 ∙ box_found inked c.args.inked.now.inks.items gs w.in-Some.i c.args.placed.0 w.index-in-Some.result.now same at.0 at.1),
