@@ -2,6 +2,7 @@
 use Rattle.std.proofs.Common.{◌≡◌, ◌≢◌, List, ℕ, Bool, true, false, Result, Ok, Err, inl, inr, refl, nat_lt, length, arith}
 use Rattle.std.specs.Prelude.{IfSome, if◌then◌else◌}
 use Rattle.tt_core.specs.declared.collection.Reading.{Reading}
+use Rattle.tt_face.specs.declared.rules.LineRules.{LineRules}
 use Rattle.tt_face.specs.declared.rules.Opening.{Opening}
 use Rattle.tt_core.specs.declared.fault.JobFault.{JobFault}
 use Rattle.tt_core.specs.Faults.{Fault}
@@ -13,6 +14,7 @@ use Rattle.tt_core.specs.declared.draw_fault.DrawFault.TheVariants as draw
 use Rattle.tt_strike.specs.Refusals.{Refused, as_font, as_job, job, large, refusal}
 use Rattle.tt_face.specs.Faces.{Face}
 use Rattle.tt_face.specs.Files.{face_by, face_with}
+use Rattle.tt_face.specs.Rules.{ruled}
 use Rattle.tt_c_calls.specs.declared.fault.CallFault.{CallFault}
 use Rattle.tt_c_calls.specs.declared.fault.CallFault.TheVariants as call
 use Rattle.tt_c_calls.specs.Answers.{DefectStands, TellsRefusal, call_answer}
@@ -110,6 +112,19 @@ pub by_face : {X : Type 0} (test : Result (Unit {0}) JobFault) (make : Face → 
     ≡ (face_wanted r font >>= λ face. as_call (make face))
 unfolding face_wanted
 by_face test make r font passes = rw passes (by_size (nat_lt font_limit (length font)) (face_by font r) make)
+
+-- the tables with the rules of their lines are the tables, and then the rules
+opened_by : (is_large : Bool) (face : Result Face Fault) (rules : LineRules)
+    → as_call (if is_large then Err large else as_font (face >>= λ f. Ok (ruled rules f)))
+    ≡ (as_call (if is_large then Err large else as_font face) >>= λ f. Ok (ruled rules f))
+opened_by true face rules = refl
+opened_by false (Ok face) rules = refl
+opened_by false (Err f) rules = refl
+
+pub opened_is : (o : Opening) (font : List ℕ)
+    → opened_wanted o font ≡ (face_wanted o.reading font >>= λ f. Ok (ruled o.rules f))
+unfolding opened_wanted face_wanted face_with
+opened_is o font = opened_by (nat_lt font_limit (length font)) (face_by font o.reading) o.rules
 
 -- the same with the rules of lines
 pub by_opening : {X : Type 0} (test : Result (Unit {0}) JobFault) (make : Face → Result X Refused) (o : Opening)

@@ -3,12 +3,12 @@ use Rattle.std.proofs.Common.{◌≡◌, ◌∙◌, ℕ, List, [], Option, Some,
 use Rattle.std.specs.Prelude.{All, IfSome, IsOkAnd}
 use Rattle.std.proofs.lemmas.Str.{chars-nil}
 use Rattle.tt_core.specs.Chains.{came-through}
-use Rattle.tt_core.specs.declared.collection.Reading.{Reading}
 use Rattle.tt_core.specs.declared.draw_fault.DrawFault.{DrawFault}
 use Rattle.tt_core.specs.declared.fault.JobFault.{JobFault}
 use Rattle.tt_core.specs.Faults.{Fault}
 use Rattle.tt_core.specs.Outcomes.{◌>>=◌, draw_font_fault}
 use Rattle.tt_face.specs.Faces.{Face}
+use Rattle.tt_face.specs.declared.rules.Opening.{Opening}
 use Rattle.tt_face.specs.Files.{IsFaceDefectBy}
 use Rattle.tt_fit.specs.declared.programs.Fit.{Fit}
 use Rattle.tt_fit.specs.Defects.{IsOutlineDefect}
@@ -42,8 +42,8 @@ use Rattle.tt_c_calls.proofs.StrikeLines.{if_some_more}
 abbrev pub of_size : ℕ → Fit → Job
 of_size size how = record { text = []; ppem = size; margin = 0; fit = how }
 
-pub of_plain : (size : ℕ) (how : Fit) (by : Reading) (s : Setting) (a : Job) (r : Result (Unit {0}) JobFault)
-    → a ≡ job_by s [] → s ≡ plain_setting size 0 how (plain_opening by) → tested a ≡ r → tested (of_size size how) ≡ r
+pub of_plain : (size : ℕ) (how : Fit) (by : Opening) (s : Setting) (a : Job) (r : Result (Unit {0}) JobFault)
+    → a ≡ job_by s [] → s ≡ plain_setting size 0 how by → tested a ≡ r → tested (of_size size how) ≡ r
 of_plain size how by s a r is of test =
     subst (λ (b : Job). tested b ≡ r) (is ∙ ap (λ (t : Setting). job_by t []) of) test
 

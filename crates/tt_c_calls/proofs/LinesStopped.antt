@@ -26,7 +26,7 @@ use Rattle.tt_c_calls.specs.Answers.{call_answer, room_answer}
 use Rattle.tt_c_calls.specs.Asked.{fit_asked, job_opening}
 use Rattle.tt_c_calls.specs.Lines.{AnswersInOrder, DrawsLines, EndsWith, IsStrikeFor, LineDefectStands, lines_wanted}
 use Rattle.tt_c_calls.specs.Refusals.{Refusal, as_call, call_font_fault, call_of_draw, call_refusal, line_ends, not_utf8, refused, unknown_fit}
-use Rattle.tt_c_calls.proofs.Answered.{by_face}
+use Rattle.tt_c_calls.proofs.Answered.{by_opening}
 use Rattle.tt_c_calls.proofs.AskedTables.{face_opened, no_fit}
 use Rattle.tt_c_calls.proofs.StrikeLines.{if_some_more, not_done}
 
