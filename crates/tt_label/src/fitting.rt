@@ -19,8 +19,8 @@ use crate::joining::joined_steps;
 use std::alloc::{AllocError, Global};
 use tt_core::DrawFault;
 use tt_fit::Fitter;
-use tt_picture::{Cache, FittedGlyph, fit_glyphs, put_steps};
-use tt_strike::{DistinctGlyphs, FitterSource, charge_points, distinct};
+use tt_picture::{Cache, FittedGlyph, fit_glyphs};
+use tt_strike::{DistinctGlyphs, FitterSource, charge_points, distinct, put_steps};
 
 /// A label whose glyphs are fitted.
 #[derive(Drop)]
@@ -46,7 +46,13 @@ fn step_line(
     ensures { (advance : ℕ → ℤ) → AreAdvances advance fitted.now → result.items ≡ stepped source.now.face.now.metrics (step_by source.now.face.now.metrics source.now.ppem advance) (map (λ g. g.0) line.items) }
 {
     let mut line = line;
-    put_steps(source.face.metrics(), source.ppem, places, fitted, &mut line);
+    put_steps(
+        source.face.metrics(),
+        source.ppem,
+        places,
+        fitted,
+        &mut line,
+    );
     line
 }
 

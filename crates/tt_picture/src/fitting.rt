@@ -1,29 +1,25 @@
-//! A line's distinct glyphs, fitted in order, and what follows from them: steps, then edges or pixels.
+//! A line's distinct glyphs, fitted in order, and their edges or pixels.
 
-ghost use Rattle.std.specs.Prelude.{◌≡◌, ◌⊎◌, ℕ, ℤ, ◌+◌, ◌<◌, ◌≤◌, ◌^◌, Bool, true, [], length, map, All, IfOk, IfSome, IfNone, List, Ok, Err, unsigned_abs};
-ghost use Rattle.tt_core.specs.Limits.{margin_limit, size_limit};
+ghost use Rattle.std.specs.Prelude.{◌≡◌, ◌⊎◌, ℕ, ◌<◌, ◌≤◌, Bool, true, [], All, IfOk, IfSome, IfNone, List, Ok, Err};
+ghost use Rattle.tt_core.specs.Limits.{margin_limit};
 ghost use Rattle.tt_core.specs.Outcomes.{IfTold, font_fault};
 ghost use Rattle.tt_fit.specs.Fitting.{Fitter};
 ghost use Rattle.tt_fit.specs.GlyphCost.{without_work};
 ghost use Rattle.tt_fit_outline.specs.Outline.{Outline};
 ghost use Rattle.tt_scan_edges.specs.Winding.{FrameFits};
 ghost use Rattle.tt_picture.specs.Cached.{IsCacheFor, is_there, limit_of};
-ghost use Rattle.tt_picture.specs.Distinct.{fitter_after, fitter_for, is_among};
-ghost use Rattle.tt_line.specs.Steps.{stepped};
-ghost use Rattle.tt_picture.specs.Fitted.{AreAdvances, AreFitted, fitted_chords, fitted_crossings, fitted_numbers};
-ghost use Rattle.tt_picture.specs.Glyphs.{AreDrawn, ArePlaces, numbers_of};
-ghost use Rattle.tt_picture.specs.Steps.{kerned_step, outlines_by, step_by};
+ghost use Rattle.tt_picture.specs.Distinct.{fitter_after, fitter_for};
+ghost use Rattle.tt_picture.specs.Fitted.{AreFitted, fitted_chords, fitted_crossings, fitted_numbers};
+ghost use Rattle.tt_picture.specs.Glyphs.{AreDrawn, numbers_of};
+ghost use Rattle.tt_picture.specs.Steps.{outlines_by};
 ghost use Rattle.tt_picture.specs.Unfitted.{all_differ};
 
 use crate::cache::Cache;
 use crate::fitted::FittedGlyph;
 use crate::glyph::Glyph;
 use std::alloc::{AllocError, Global};
-use tt_core::{FontFault, Scale};
+use tt_core::FontFault;
 use tt_fit::Fitter;
-use tt_fit_outline::pixels_of;
-use tt_line::kerning_at;
-use tt_metrics::Metrics;
 use tt_scan::Frame;
 
 /// Some glyphs, fitted in order: from the cache where their costs are left, else made. Errors: those of the outlines,
@@ -49,39 +45,6 @@ pub fn fit_glyphs(
         made.push(glyph)?;
     }
     Ok(made)
-}
-
-/// The pixels from the pen of a glyph to the next, by the distance of its advance's two ends in 26.6 pixels and by the
-/// kerning in font units, which is scaled as points are. The sum is rounded once. No step is negative.
-pub fn kerned_step(metrics: &Metrics, ppem: u32, advance_left: i32, kerning: i32) -> u32
-    requires size { ppem ≤ size_limit }
-    requires kerning { unsigned_abs kerning ≤ 2 ^ 20 }
-    ensures { result ≡ kerned_step metrics.now ppem advance_left kerning }
-{
-    let scale = Scale::rounded(ppem, metrics.units_per_em());
-    pixels_of(i64::from(advance_left) + scale.scaled(kerning))
-}
-
-/// Puts the step of each character's glyph beside the glyph, with its kerning. The glyphs are among these, whose places
-/// the table has.
-pub fn put_steps(
-    metrics: &Metrics,
-    ppem: u32,
-    places: &[u16],
-    fitted: &[FittedGlyph],
-    line: &mut [(u16, u32)],
-)
-    requires size { ppem ≤ size_limit }
-    requires places { ArePlaces places.now (fitted_numbers fitted.now) }
-    requires known { All (λ g. g.0 < length places.now) line.old }
-    requires among { All (λ g. is_among g.0 (fitted_numbers fitted.now) ≡ true) line.old }
-    ensures { (advance : ℕ → ℤ) → AreAdvances advance fitted.now → line.new ≡ stepped metrics.now (step_by metrics.now ppem advance) (map (λ g. g.0) line.old) }
-{
-    for i in 0..line.len() {
-        let kerning = kerning_at(metrics, line, i);
-        let place = usize::from(places[usize::from(line[i].0)]) - 1;
-        line[i].1 = kerned_step(metrics, ppem, fitted[place].advance_left(), kerning);
-    }
 }
 
 /// The most that a line's glyphs may have, each glyph once at one pen.

@@ -46,7 +46,7 @@ pub use counting::crossings;
 pub use cutting::tape_crossings;
 pub use dropouts::line_dropouts;
 pub use fitted::FittedGlyph;
-pub use fitting::{LineLimits, fit_glyphs, kerned_step, put_steps};
+pub use fitting::{LineLimits, fit_glyphs};
 pub use glyph::Glyph;
 pub use glyphs::{Glyphs, line_glyphs};
 pub use ink_box::{InkBox, ink_at, joined};

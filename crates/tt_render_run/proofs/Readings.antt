@@ -1,5 +1,5 @@
 -- The answers of `run` and `map` by the strict reading, by the wide one, and by a face's own font.
-use Rattle.std.proofs.Common.{◌≡◌, ◌∙◌, ℕ, ◌≤◌, Bool, true, false, nat_lt, if◌then◌else◌, All, List, [], ◌∷◌, ◌++◌, length, map, flat_map, chars, Option, Some, Result, Ok, Err, refl, sym, ap, ap₂, arith}
+use Rattle.std.proofs.Common.{◌≡◌, ◌∙◌, ℕ, ◌≤◌, Bool, true, false, nat_lt, if◌then◌else◌, All, List, [], ◌∷◌, ◌++◌, length, map, flat_map, chars, Result, Ok, Err, refl, sym, ap, ap₂, arith}
 use Rattle.std.proofs.lemmas.Bool.Decides.{nat_tests}
 use Rattle.tt_cmap.specs.Lookup.{Cmap, glyph_of}
 use Rattle.tt_cmap.specs.Maps.{CharacterMap, strict, wide, glyph_by, glyph_of_unit, map_by, units_by}
@@ -18,8 +18,7 @@ use Rattle.tt_core.specs.Outcomes.{◌>>=◌}
 use Rattle.tt_face.specs.declared.rules.LineRules.{LineRules}
 use Rattle.tt_face.specs.Faces.{Face, cmap_tag}
 use Rattle.tt_face.specs.Files.{FacesAreTheirFonts, SameTables, StrictIsTheFace, WideFacesExtend, face_at, face_by, face_of, face_with}
-use Rattle.tt_face.specs.Rules.{bytes_in, gpos_tag, kern_tag, kerning_by, ruled, table_bytes}
-use Rattle.tt_kern.specs.Kerning.{Tables}
+use Rattle.tt_face.specs.Rules.{gpos_tag, kern_tag, kerning_by, ruled, table_bytes}
 use Rattle.tt_line.specs.Layout.{text_glyphs}
 use Rattle.tt_metrics.specs.Metrics.{Metrics, advance_of, glyphs_of, metrics_of}
 use Rattle.tt_picture.specs.Pictures.{Image}
@@ -182,13 +181,9 @@ moved e face = record { directory = e; metrics = face.metrics; cmap = face.cmap 
 abbrev all_moved : Directory → Result Face Fault → Result Face Fault
 all_moved e faces = faces >>= λ face. Ok (moved e face)
 
-abbrev both_tables : List ℕ → List ℕ → Option Tables
-both_tables gpos kern = Some (record { gpos = gpos; kern = kern })
-
 kerned_alike : (kerned : Bool) (d e : Directory) → SameTables d e → kerning_by kerned d ≡ kerning_by kerned e
 unfolding table_bytes
-kerned_alike true d e same =
-    ap₂ both_tables (ap bytes_in (same gpos_tag)) (ap bytes_in (same kern_tag))
+kerned_alike true d e same = rw (same gpos_tag, same kern_tag) refl
 kerned_alike false d e same = refl
 
 runs_moved : FacesDrawAlike → (rules : LineRules) (a : Job) (d e : Directory) (r : Result Face Fault)
@@ -197,8 +192,7 @@ runs_moved : FacesDrawAlike → (rules : LineRules) (a : Job) (d e : Directory) 
 unfolding ruled
 runs_moved alike rules a d e (Ok face) its same =
     let tables : SameTables face.directory e = λ tag. ap (λ (x : Directory). table_of x tag) (sym (its face refl)) ∙ same tag in
-    let metrics = ap (λ (k : Option Tables). record (face.metrics) { heights = rules.heights; kerning = k })
-    (kerned_alike rules.kerned face.directory e tables) in
+    let metrics : (ruled rules face).metrics ≡ (ruled rules (moved e face)).metrics = rw (kerned_alike rules.kerned face.directory e tables) refl in
     ap (λ (image : Result Image Refused). as_file image)
     (alike (ruled rules face) (ruled rules (moved e face)) a tables metrics refl)
 runs_moved alike rules a d e (Err f) its same = refl

@@ -1,5 +1,5 @@
 -- The steps that a measure tells are those by which its text was laid out.
-use Rattle.std.proofs.Common.{◌≡◌, ◌∙◌, refl, sym, ap, ℕ, ℤ, ◌+◌, ◌<◌, Bool, true, false, if◌then◌else◌, pos, ◌+ℤ◌, drop, get_or, length, List, [], ◌∷◌, map, slice_index, Option, None, Result, Ok, arith}
+use Rattle.std.proofs.Common.{◌≡◌, ◌∙◌, refl, sym, ap, ℕ, ℤ, ◌+◌, ◌<◌, Bool, true, false, if◌then◌else◌, pos, ◌+ℤ◌, drop, get_or, length, List, [], ◌∷◌, map, slice_index, None, Result, Ok, inl, arith}
 use Rattle.std.proofs.lemmas.Int.{ints}
 use Rattle.std.proofs.lemmas.List.{get_or-map, length-map}
 use Rattle.tt_core.specs.Chains.{came-through}
@@ -7,10 +7,9 @@ use Rattle.tt_face.specs.Faces.{Face}
 use Rattle.tt_fit.specs.Fitting.{Fitter}
 use Rattle.tt_line.specs.Laws.{ArePens, StepsLead}
 use Rattle.tt_line.specs.Layout.{Placement, depth_of, laid_at, placement, rise_of, text_glyphs}
-use Rattle.tt_kern.specs.Kerning.{Tables}
 use Rattle.tt_line.specs.Steps.{kerning_before, linear_line, linear_steps, step_in_pixels, stepped}
-use Rattle.tt_line.proofs.Stepped.{length-stepped}
-use Rattle.tt_metrics.specs.Metrics.{Metrics, kerning_by}
+use Rattle.tt_line.proofs.Stepped.{length-stepped, no-table}
+use Rattle.tt_metrics.specs.Metrics.{Metrics}
 use Rattle.tt_strike.specs.declared.measuring.CharacterMeasure.{CharacterMeasure}
 use Rattle.tt_strike.specs.Job.{Job}
 use Rattle.tt_strike.specs.Measures.{Measure, character_at, characters_at, line_ink, line_step, measure_by, measured, measured_line}
@@ -125,7 +124,7 @@ character_is face a m is i below =
 -- the step of a glyph without kerning depends on its number alone
 unkerned : (m : Metrics) (g : ℕ) (gs : List ℕ) → m.kerning ≡ None → kerning_before m g gs ≡ pos 0
 unkerned m g [] off = refl
-unkerned m g (h ∷ hs) off = ap (λ (k : Option Tables). kerning_by k g h) off
+unkerned m g (h ∷ hs) off = no-table m g h (inl off)
 
 unkerned_step : (m : Metrics) (step : ℕ → ℤ → ℕ) (gs : List (ℕ × ℕ)) (i : ℕ) → m.kerning ≡ None
     → step_at m step gs i ≡ step (get_or gs i (0, 0)).0 (pos 0)

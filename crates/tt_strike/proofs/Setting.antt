@@ -1,5 +1,5 @@
 -- A line changes nothing of a fitter but its work, which is then set back.
-use Rattle.std.proofs.Common.{◌≡◌, ◌≢◌, ◌∙◌, ℕ, ◌*◌, false, List, Option, None, Ok, refl, sym}
+use Rattle.std.proofs.Common.{◌≡◌, ◌≢◌, ◌∙◌, ℕ, ◌*◌, false, List, Option, None, Ok, sym}
 use Rattle.tt_fit.proofs.WorkApart.{charges-take-work-alone, fitters-renew}
 use Rattle.tt_fit.specs.Fitting.{Fitter, with_work}
 use Rattle.tt_fit.specs.GlyphCost.{without_work}

@@ -28,7 +28,7 @@ use Rattle.tt_picture.specs.Pixels.{Shape, some_black, is_black_pixel}
 use Rattle.tt_strike.specs.Report.{report_of}
 use Rattle.tt_face.specs.Faces.{Face}
 
--- a font file that gives a job's picture by a reading has no defect for the two
+-- a font file that gives a job's picture has no defect for the job and its reading
 abbrev pub DrawnFontsAreWhole : Type 0
 DrawnFontsAreWhole = (r : Opening) (a : Job) (file : List ℕ) (i : Image) → pictured r a file ≡ Ok i
     → HasNo (IsRunDefect r a file)

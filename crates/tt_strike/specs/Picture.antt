@@ -115,6 +115,6 @@ pictured_by face a = text_placed face a >>= λ line. drawn face a line
 unfoldable pub line_outcome : Face → Job → Result Image Refused
 line_outcome face a = as_job (tested a) >>= λ u. pictured_by face a
 
--- the picture of a job by a reading of a font file
+-- the picture of a job by a font file as it is opened
 unfoldable pub pictured : Opening → Job → List ℕ → Result Image Refused
 pictured r a file = by_face pictured_by r a file

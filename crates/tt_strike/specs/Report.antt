@@ -24,6 +24,6 @@ line_report face a line =
 unfoldable pub report_by : Face → Job → Result (List Unfitted) Refused
 report_by face a = text_placed face a >>= λ line. line_report face a line
 
--- the unfitted glyphs of a text by a reading of a font file
+-- the unfitted glyphs of a text by a font file as it is opened
 unfoldable pub report_of : Opening → Job → List ℕ → Result (List Unfitted) Refused
 report_of r a file = by_face report_by r a file

@@ -47,7 +47,7 @@ pub fn unhinted_steps_are_near()
     tt_core::laws::scales_keep_order();
 }
 
-/// Lemma: a measure tells the step from each pen to the next, and equal glyphs have equal steps.
+/// Lemma: a measure tells the step from each pen to the next. Where pairs are not kerned, equal glyphs have equal steps.
 pub fn measures_tell_steps()
     ensures pens { MeasureTellsSteps }
     ensures glyphs { EqualGlyphsStepAlike }

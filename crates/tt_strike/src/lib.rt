@@ -18,6 +18,7 @@ mod programs;
 mod sized;
 mod source;
 mod stepping;
+mod steps;
 mod strike;
 mod work;
 
@@ -32,6 +33,7 @@ pub use making::tested_edges;
 pub use measuring::{CharacterMeasure, Measure};
 pub use sized::SizedFace;
 pub use source::FitterSource;
+pub use steps::put_steps;
 pub use strike::Strike;
 pub use tt_core::DrawFault;
 pub use tt_face::{Face, Heights, LineRules, Opening};

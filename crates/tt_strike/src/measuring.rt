@@ -22,13 +22,12 @@ use crate::inked::InkedGlyphs;
 use crate::laid::Laid;
 use crate::making::MadeLine;
 use crate::sized::SizedFace;
+use crate::steps::kerned_step;
 use crate::work::is_bounded;
 use std::alloc::AllocError;
 use tt_core::DrawFault;
 use tt_line::{kerning_at, step};
-use tt_picture::{
-    Cache, Glyph, InkBox, Report, glyph_inks, ink_at, joined, kerned_step, report_on,
-};
+use tt_picture::{Cache, Glyph, InkBox, Report, glyph_inks, ink_at, joined, report_on};
 use tt_scan::Frame;
 
 /// The place of a character in its line's picture.

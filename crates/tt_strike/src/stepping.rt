@@ -15,11 +15,12 @@ ghost use Rattle.tt_strike.specs.Work.{is_bounded, points_in, started, work_test
 
 use crate::distinct_glyphs::{DistinctGlyphs, distinct};
 use crate::source::FitterSource;
+use crate::steps::put_steps;
 use crate::work::charge_points;
 use tt_core::DrawFault;
 use tt_fit::Fitter;
 use tt_line::{KnownAdvances, unit_advances};
-use tt_picture::{Cache, FittedGlyph, fit_glyphs, put_steps};
+use tt_picture::{Cache, FittedGlyph, fit_glyphs};
 
 /// A text whose glyphs are fitted.
 #[derive(Drop)]

@@ -34,8 +34,10 @@ returns c = λ step inked steps same.
     let found : (c.match-find.step.0 ≡ step c.args.placed.0 c.args.kerning) × (c.match-find.step.1 ≡ inked c.args.placed.0) =
     elim c.match-find.branch [
       | in-Some w ↦
-          let at = w.in-Some.ensures.found in (
-            ap (λ (p : ℕ × Option GlyphInk). p.0) w.step-is ∙ (rw same_kerning at w.step_of.ensures ∙ step_found (made_step z.face.metrics z.ppem z.fit) step c.args.kerning gs w.in-Some.i
+          let at = w.in-Some.ensures.found in
+          let own = made_step z.face.metrics z.ppem z.fit in
+          let told : w.step_of.result ≡ own w.index.result.now c.args.kerning = rw same_kerning at w.step_of.ensures in (
+            ap (λ (p : ℕ × Option GlyphInk). p.0) w.step-is ∙ (told ∙ step_found own step c.args.kerning gs w.in-Some.i
                 c.args.placed.0 w.index.result.now steps at.0 at.1 w.index.ensures),
             ap (λ (p : ℕ × Option GlyphInk). p.1) w.step-is ∙ (w.index-in-Some.ensures
                 ∙ box_found inked c.args.inked.now.inks.items gs w.in-Some.i c.args.placed.0 w.index-in-Some.result.now same at.0 at.1),
@@ -49,13 +51,13 @@ returns c = λ step inked steps same.
     omega (arith, ints, c.requires.pen, c.requires.frame.margin) in
     rw (c.from.ensures, found.0, c.ink_at.ensures, found.1) (simp to_z-of_z)
 
-pub step_of-requires : goal.step_of-requires
-step_of-requires c =
+pub step_of-requires-clause-known : goal.step_of-requires-clause-known
+step_of-requires-clause-known c =
     let gs = c.args.inked.now.glyphs.made.items in
     let at = c.in-Some.ensures.found in
     let here : c.index.result.now.number ≡ c.args.placed.0 = ap (λ (t : Glyph). t.number) c.index.ensures
     ∙ sym (get_or-map (λ (t : Glyph). t.number) gs c.in-Some.i c.index.result.now 0 at.0) ∙ at.1 in
-    rw here (record { known = c.requires.known })
+    rw here c.requires.known
 
 pub index-requires-in-Some : goal.index-requires-in-Some
 index-requires-in-Some c =

@@ -1,7 +1,6 @@
-use Rattle.std.proofs.Common.{◌≡◌, ◌∙◌, ℕ, ◌+◌, ◌<◌, ◌≤◌, ap, get_or, length, refl, sym, SFits, w32, of_z, to_z, arith, rules}
+use Rattle.std.proofs.Common.{◌≡◌, ◌∙◌, ◌<◌, ◌≤◌, get_or, length, refl, sym, SFits, w32, of_z, to_z, arith, rules}
 use Rattle.std.proofs.lemmas.Int.{to_z-of_z}
 use Rattle.std.proofs.lemmas.List.{take_all, take_more}
-use Rattle.tt_strike.specs.declared.measuring.CharacterMeasure.{CharacterMeasure}
 use Rattle.tt_strike.specs.Measures.{character_at, characters_at}
 use Rattle.tt_strike.proofs.Characters.{character_of, length-characters, step_at}
 use Rattle.tt_strike.proofs.sized.SizedFace.characters.Goals as goal
@@ -18,7 +17,7 @@ loop-i-preserved c = λ step inked steps same.
     let d = c.character.result in
     let many = length-characters m step f inked line in
     let inside : i < length all = omega (arith, many, within) in
-    let kerned = rw c.metrics.ensures at c.kerning_at-kerning.ensures.exact in
+    let kerned = rw (c.metrics.ensures, c.face.ensures) at c.kerning_at-kerning.ensures.exact in
     let fits : SFits w32 c.kerning_at-kerning.result = search rules in
     let narrow : to_z w32 (of_z w32 c.kerning_at-kerning.result) ≡ c.kerning_at-kerning.result = simp to_z-of_z refl in
     let one : c.character.result ≡ character_at f inked (get_or line i (0, 0)) (step_at m step line i) =

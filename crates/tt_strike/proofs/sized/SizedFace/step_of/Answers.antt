@@ -16,7 +16,7 @@ returns c =
     let other = rw (c.is_bounded.ensures, c.fit.ensures) at c.if-is_bounded.false in
     let fits : SFits w32 c.args.kerning = c.ranges.kerning in
     let same : to_z w32 (of_z w32 c.args.kerning) ≡ c.args.kerning = simp to_z-of_z refl in
-    rw other (rw (same, c.metrics-metrics.ensures, c.face.ensures, c.ppem.ensures.exact, c.number.ensures) at c.step.ensures.exact)
+    rw other (rw (same, c.metrics-metrics.ensures, c.face.ensures, c.ppem-2.ensures.exact, c.number.ensures) at c.step.ensures.exact)
 
 pub step-requires-clause-known : goal.step-requires-clause-known
 step-requires-clause-known c = rw (c.metrics-metrics.ensures, c.face.ensures, c.number.ensures) c.requires.known

@@ -3,7 +3,6 @@ use Rattle.std.proofs.lemmas.List.{length-map, with_items_is}
 use Rattle.std.proofs.lemmas.Result.{err_from_is_err_and}
 use Rattle.std.specs.Vec.{with_items}
 use Rattle.tt_core.specs.Limits.{point_work_limit}
-use Rattle.tt_fit.specs.Fitting.{Fitter}
 use Rattle.tt_cmap.specs.Maps.{CharacterMap}
 use Rattle.tt_line.specs.Layout.{text_glyphs}
 use Rattle.tt_metrics.specs.Metrics.{glyphs_of}

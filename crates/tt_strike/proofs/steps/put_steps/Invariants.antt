@@ -2,7 +2,7 @@ use Rattle.std.proofs.Common.{◌≡◌, ℕ, ℤ, map}
 use Rattle.tt_line.proofs.Kerned.{partly}
 use Rattle.tt_picture.specs.Fitted.{AreAdvances}
 use Rattle.tt_picture.specs.Steps.{step_by}
-use Rattle.tt_picture.proofs.fitting.put_steps.Given as goal
+use Rattle.tt_strike.proofs.steps.put_steps.Given as goal
 
 -- the glyphs keep their numbers, and those so far have their steps
 abbrev pub invariant-loop-i : goal.invariant-loop-i

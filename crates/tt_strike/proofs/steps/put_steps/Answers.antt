@@ -1,4 +1,4 @@
-use Rattle.std.proofs.Common.{◌≡◌, ◌∙◌, ◌+◌, ◌<◌, ◌≤◌, ◌-◌, ℕ, ℤ, List, ap, ap₂, drop, get_or, length, map, SFits, w32, of_z, to_z, refl, sym, arith, rules}
+use Rattle.std.proofs.Common.{◌≡◌, ◌∙◌, ◌+◌, ◌<◌, ◌≤◌, ◌-◌, ℕ, List, ap, ap₂, drop, get_or, length, map, SFits, w32, of_z, to_z, refl, sym, arith, rules}
 use Rattle.std.proofs.lemmas.Int.{to_z-of_z}
 use Rattle.std.specs.List.{slice_index}
 use Rattle.std.proofs.lemmas.List.{get_or_default, length-map}
@@ -8,8 +8,8 @@ use Rattle.tt_line.proofs.Kerned.{at_end, at_start, drop-numbers, one_kerned, st
 use Rattle.tt_picture.specs.Steps.{step_by}
 use Rattle.tt_picture.proofs.Outlines.{advance_at, numbers_kept, same_number}
 use Rattle.tt_picture.proofs.Reframed.{seated}
-use Rattle.tt_picture.proofs.fitting.put_steps.Goals.{After-from-place}
-use Rattle.tt_picture.proofs.fitting.put_steps.Goals as goal
+use Rattle.tt_strike.proofs.steps.put_steps.Goals.{After-from-place}
+use Rattle.tt_strike.proofs.steps.put_steps.Goals as goal
 
 -- as many glyphs as at first
 as_many : (gs hs : List (ℕ × ℕ)) → map (λ (g : ℕ × ℕ). g.0) gs ≡ map (λ (g : ℕ × ℕ). g.0) hs → length gs ≡ length hs
@@ -38,6 +38,13 @@ place_is c =
     let read : seat ≡ get_or table n seat =
     c.from-place.ensures ∙ ap (λ m. get_or table m 0) number ∙ sym (get_or_default table n seat 0 known) in
     seated table (fitted_numbers c.args.fitted.now) n seat known read c.requires.places (c.requires.among i (0, 0) below)
+
+pub offset_bounds-places-from : goal.offset_bounds-places-from
+offset_bounds-places-from c =
+    let number = as_at_first c.loop-i.line c.args.line.now c.loop-i.i c.from.result c.loop-i.invariant.numbers
+    c.loop-i-test.true c.from.ensures in
+    let below : c.from.result < length c.args.places.now = rw number (c.requires.known c.loop-i.i (0, 0) c.loop-i-test.true) in
+    omega (arith, below)
 
 pub bounds-places-from : goal.bounds-places-from
 bounds-places-from c =
