@@ -1,6 +1,6 @@
 """A plain reader of the tables GPOS and kern, written from their rules alone: the kerning of two glyphs in font units.
 
-A word past a table's end is 0, and nothing is refused. Lists are searched by halves, whether they are in order or not."""
+A word past a table's end is 0, and nothing is refused. Lists are searched by halves, in order or not."""
 import struct
 
 from fonts import tables_of

@@ -62,8 +62,8 @@ def layout_of(steps, glyphs):
 
 
 def layout_in(got):
-    """Returns the layout in an answer of `measure` without a margin, or else what is wrong with the answer: pens are the
-    sums of the steps before them, and the width is the sum of all."""
+    """Returns the layout in an answer of `measure` without a margin, or else what is wrong with the answer: pens are
+    the sums of the steps before them, and the width is the sum of all."""
     status, said, errors = got
     if status:
         return f"status {status} {errors.decode()}"

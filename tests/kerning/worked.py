@@ -1,5 +1,5 @@
-"""The part of kerning/run about pairs that were worked out by hand, from the rules: two squares of 256 units beside each
-other, at 16 pixels in an em of 1,024 units. Tables are written as their words, in hexadecimal."""
+"""The part of kerning/run about pairs that were worked out by hand, from the rules: two squares of 256 units beside
+each other, at 16 pixels in an em of 1,024 units. Tables are written as their words, in hexadecimal."""
 import struct
 from typing import NamedTuple
 
