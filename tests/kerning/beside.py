@@ -56,7 +56,7 @@ def texts():
 
 
 def answered(path, lines, kern):
-    """Returns the glyphs of lines and how far from each the next one stands, as hb-shape has them, kerned or not. By
+    """Returns the glyphs of lines and how far from each the next stands, as hb-shape has them, kerned or not. By
     the table kern that program adds half of a value to each of both advances, and moves the second glyph by its half."""
     words = ["hb-shape", "--no-clusters", "--no-glyph-names", "--font-size=upem", "--direction=ltr", "--script=latn",
              "--language=und", f"--features={','.join('-' + it for it in OTHERS)},{kern}kern", str(path)]
