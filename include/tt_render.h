@@ -58,8 +58,8 @@
  * once, also where the room for the rows is too small: a list costs what a text of its glyphs does. tt_draw_lines runs
  * the two programs once, and fits no glyph that is cached: a label of 16 letters then takes some 30,000 instructions.
  * With keep 0, and with grow, each line fits its glyphs anew, for up to a million instructions. With kern a call reads
- * at most 10,000 numbers of GPOS and kern when it opens the font, and 5,120 for each pair of neighbouring glyphs; a font
- * has some 50 a pair, and 300 at most.
+ * at most 10,000 numbers of GPOS and kern when it opens the font. For each pair of neighbouring glyphs it reads at most
+ * 5,120 numbers, up to three times; real fonts need some 50.
  */
 #ifndef TT_RENDER_H
 #define TT_RENDER_H
