@@ -7,7 +7,9 @@ import sys
 
 
 class Job(ctypes.Structure):
-    _fields_ = [(name, ctypes.c_uint32) for name in ("size", "margin", "fit", "grow", "face")]
+    _fields_ = [
+        (name, ctypes.c_uint32) for name in ("size", "margin", "fit", "grow", "face", "kern", "rounded")
+    ]
 
 
 class Picture(ctypes.Structure):

@@ -16,7 +16,7 @@ FIRST = "real_fonts"
 # Scripts by their seconds on a quiet core: the longest begins first, so that none is left over at the end. A script
 # that is not in the list comes behind these.
 LONGEST_FIRST = """fuzz characters lines c work launcher damaged faces glyph_sets label measure dist memory devices dropouts
-  lines_beside rows fallback hinted readme prove pixels command_line machine outlines glyphs real_lines best
+  kerning lines_beside rows heights fallback hinted readme prove pixels command_line machine outlines glyphs real_lines best
   package wrong_bodies""".split()
 
 # The program for tests: the variable that names another, and its crate.

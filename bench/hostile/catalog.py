@@ -1,5 +1,5 @@
 """All hostile fonts by their families and names."""
-from hostile import copies, maps, mixed, opcodes, outlines, programs
+from hostile import copies, kerning, maps, mixed, opcodes, outlines, programs
 
 # The font whose seconds are the measure of all.
 STANDARD = "two"
@@ -7,6 +7,7 @@ FAMILIES = {
     "programs": programs.FONTS,
     "copies": copies.FONTS,
     "maps": maps.FONTS,
+    "kerning": kerning.FONTS,
     "outlines": outlines.FONTS,
     "mixed": mixed.FONTS,
     "beside": opcodes.BESIDE_FONTS,

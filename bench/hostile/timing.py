@@ -33,6 +33,15 @@ PAIRS = {
     "no ink": (("measure", "--no-ink"), 0),
     "bdf": (("bdf",), 0),
 }
+# Kerned lines, in place of these.
+KERNED = {
+    "draw": (("draw", "--kern"), 0),
+    "measure": (("measure", "--kern"), 0),
+    "grow": (("draw", "--grow", "--kern"), 0),
+    "no ink": (("measure", "--no-ink", "--kern"), 0),
+    "label": (("label", "--kern"), 0),
+    "10 lines": (("draw", "--lines", "--kern"), 10),
+}
 # Jobs with a face, in place of these. Only the first two are given a way to fit.
 FACES = {
     "face": (("draw", "--face", "0"), 0),

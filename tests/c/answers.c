@@ -1,10 +1,10 @@
 /* Answers questions as the program does, by the library: a question a line of standard input, an answer a line of
  * standard output, WRONG and a reason where a call does not keep to what tt_render.h says of it.
  *
- *   draw FONT TEXT SIZE MARGIN FIT GROW
- *   measure FONT TEXT SIZE MARGIN FIT GROW
+ *   draw FONT TEXT SIZE MARGIN FIT GROW KERN ROUNDED
+ *   measure FONT TEXT SIZE MARGIN FIT GROW KERN ROUNDED
  *   map FONT TEXT
- *   lines FONT TEXT,TEXT.. SIZE MARGIN FIT GROW
+ *   lines FONT TEXT,TEXT.. SIZE MARGIN FIT GROW KERN ROUNDED
  *
  * FONT is a file, without blanks in its name, TEXT has hexadecimal digits, or is "-" where it is empty. An answer
  * begins with the status. After 0 come for `draw` how many glyphs are not fitted and the picture in hexadecimal, for
@@ -202,13 +202,15 @@ static struct room read_texts(char *words, struct room *ends) {
 }
 
 static void answer(char *line) {
-  const char *words[7] = {"", "", "", "0", "0", "0", "0"};
+  const char *words[9] = {"", "", "", "0", "0", "0", "0", "0", "0"};
   size_t count = 0;
-  for (char *word = strtok(line, " \n"); word && count < 7; word = strtok(NULL, " \n")) words[count++] = word;
+  for (char *word = strtok(line, " \n"); word && count < 9; word = strtok(NULL, " \n")) words[count++] = word;
   struct tt_job job = {.size = (uint32_t)strtoul(words[3], NULL, 10),
                        .margin = (uint32_t)strtoul(words[4], NULL, 10),
                        .fit = (uint32_t)strtoul(words[5], NULL, 10),
-                       .grow = (uint32_t)strtoul(words[6], NULL, 10)};
+                       .grow = (uint32_t)strtoul(words[6], NULL, 10),
+                       .kern = (uint32_t)strtoul(words[7], NULL, 10),
+                       .rounded = (uint32_t)strtoul(words[8], NULL, 10)};
   bool are_lines = strcmp(words[0], "lines") == 0;
   struct question q = question_of(read_font(words[1]), held(NULL, 0), job);
   give_up(q.text);

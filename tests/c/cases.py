@@ -18,6 +18,8 @@ REAL = [Path(it) for it in sys.argv[2:]]
 FITS = {"full": 0, "none": 1, "fallback": 2, "best": 3}
 TEXTS = ("jolly staff", "Ǻjf gÇ|_ »q«", "Ωμέγα Жук ẞ\U0001f600", " . ", "")
 WORDS = "jolly staff Wax Öl naïve §4 {x|y} 3/4 Σ=12 ÅNGSTRÖM fjord No7 quick, brown; (über) «ñ» Жук λόγος ẞ".split()
+# Some pairs of these are kerned in the real fonts.
+KERNED = b"AVATAR To. Wax"
 fonts = {}
 
 
@@ -36,8 +38,10 @@ def run(words, stdin=b""):
 
 
 def words_of(job):
-    size, margin, fit, grow = job
-    return ["--size", str(size), "--margin", str(margin), "--fit", fit, *(["--grow"] if grow else [])]
+    size, margin, fit, grow, *rules = job
+    words = ["--size", str(size), "--margin", str(margin), "--fit", fit, *(["--grow"] if grow else [])]
+    kern, rounded = rules or (False, False)
+    return [*words, *(["--kern"] if kern else []), *(["--height", "rounded"] if rounded else [])]
 
 
 def unfitted(stderr):
@@ -78,8 +82,8 @@ def question(case):
     """Returns the line that asks the library."""
     call, font, text, job = case
     texts = ",".join(it.hex() or "-" for it in (text if call == "lines" else [text]))
-    size, margin, fit, grow = job
-    return f"{call} {file_of(font)} {texts} {size} {margin} {FITS[fit]} {int(grow)}"
+    size, margin, fit, *flags = job
+    return f"{call} {file_of(font)} {texts} {size} {margin} {FITS[fit]} {' '.join(str(int(it)) for it in flags)}"
 
 
 def of_rows():
@@ -118,6 +122,11 @@ def of_real_font(font):
         yield "lines", font, lines, (12, 1, fit, False)
         # The line without a character is refused, and stops the others.
         yield "lines", font, [*lines[:3], b"", *lines[3:]], (20, 0, fit, True)
+        for grow, kern, rounded in ((0, 1, 0), (0, 0, 1), (1, 1, 1)):
+            for size in (16, 47):
+                yield "draw", font, KERNED, (size, 1, fit, grow, kern, rounded)
+                yield "measure", font, KERNED, (size, 1, fit, grow, kern, rounded)
+            yield "lines", font, [KERNED, lines[0]], (24, 0, fit, grow, kern, rounded)
     for length in (0, 1, 11, 12, 100, 1000, 20000, len(font) // 2, len(font) * 9 // 10, len(font) - 1):
         job = 16, 0, "full", False
         yield "map", font[:length], texts[0], job

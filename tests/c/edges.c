@@ -59,13 +59,13 @@ static void try_jobs(void) {
     struct tt_job job;
     uint32_t number;
   } cases[] = {
-      {"a way to fit of 4", {16, 0, 4, 0, 0}, 66},
-      {"the largest number as way to fit, and all else wrong", {0, UINT32_MAX, UINT32_MAX, 0, 0}, 66},
-      {"a size of 0", {0, 0, TT_NONE, 0, 0}, 60},
-      {"a size of 301, and a margin of 65", {301, 65, TT_BEST, 1, 0}, 60},
-      {"the largest number as size", {UINT32_MAX, 0, TT_FULL, 0, 0}, 60},
-      {"a margin of 65", {16, 65, TT_FULL, 0, 0}, 64},
-      {"the largest number as margin", {16, UINT32_MAX, TT_FALLBACK, 1, 0}, 64},
+      {"a way to fit of 4", {.size = 16, .fit = 4}, 66},
+      {"the largest number as way to fit, and all else wrong", {.margin = UINT32_MAX, .fit = UINT32_MAX}, 66},
+      {"a size of 0", {.size = 0, .fit = TT_NONE}, 60},
+      {"a size of 301, and a margin of 65", {.size = 301, .margin = 65, .fit = TT_BEST, .grow = 1}, 60},
+      {"the largest number as size", {.size = UINT32_MAX, .fit = TT_FULL}, 60},
+      {"a margin of 65", {.size = 16, .margin = 65, .fit = TT_FULL}, 64},
+      {"the largest number as margin", {.size = 16, .margin = UINT32_MAX, .fit = TT_FALLBACK, .grow = 1}, 64},
   };
   struct room text = text_of("A"), none = held(NULL, 0);
   for (size_t i = 0; i < sizeof cases / sizeof *cases; i++) {
@@ -93,7 +93,7 @@ static void try_texts(void) {
   text = held(many, sizeof many - 2);
   struct tt_answer answer = answer_to(&maps, font, text, usual);
   expect(answer.status == TT_DONE && answer.count == 4096, "tt_map: status %u", answer.status);
-  answer = answer_to(&characters, font, text, (struct tt_job){1, 1, TT_NONE, 0, 0});
+  answer = answer_to(&characters, font, text, (struct tt_job){.size = 1, .margin = 1, .fit = TT_NONE});
   expect(answer.status == TT_DONE && answer.count == 4096, "tt_characters: status %u", answer.status);
   verdict("4,096 characters");
   give_up(text);
@@ -150,7 +150,8 @@ static struct tt_answer listed(struct room with, size_t count, struct tt_job job
 /* The refusals of a list of glyphs, in their order. */
 static void try_lists(void) {
   struct room none = held(NULL, 0);
-  struct tt_job wrong = {0, 65, 4, 0, 0}, low = {0, 65, TT_BEST, 0, 0}, wide = {16, 65, TT_BEST, 1, 0};
+  struct tt_job wrong = {.margin = 65, .fit = 4}, low = {.margin = 65, .fit = TT_BEST},
+                wide = {.size = 16, .margin = 65, .fit = TT_BEST, .grow = 1};
   const struct {
     const char *name;
     struct tt_answer got, wanted;

@@ -135,7 +135,7 @@ int main(int count, char **words) {
       give_up_question(q);
     }
   }
-  struct question q = question_of(font, texts[0], (struct tt_job){16, 0, TT_FULL, 0, 0});
+  struct question q = question_of(font, texts[0], (struct tt_job){.size = 16, .fit = TT_FULL});
   for (const struct call *const *it = every_call; *it; it++) {
     if ((*it)->blocks == 0) refuse_each(*it, &q, "");
   }

@@ -12,6 +12,7 @@ from pathlib import Path
 sys.path.insert(0, str(Path(__file__).resolve().parent.parent / "damaged"))
 from asking import FITS, ROOT, question, report, tables_of, why_not_alike, why_wrong
 from collections_of_fonts import Collected
+from kerned_fonts import Kerned
 
 FONTS = [
     line.split()[-1]
@@ -215,13 +216,13 @@ class Program:
             return next((int(line.split()[1]) for line in lines if line.startswith("VmHWM")), 0)
 
 
-def try_collected(case, counts, failures):
-    """Tries a case of a collection, and keeps its file where one of its answers is wrong."""
+def try_other(case, counts, failures):
+    """Tries a case of a collection or of kerning, and keeps its file where one of its answers is wrong."""
     for kind, answer, why in case.answers():
         counts["wrong" if why else (kind, answer)] += 1
         if why:
             KEPT.mkdir(parents=True, exist_ok=True)
-            path = KEPT / f"case-{case.number}.ttc"
+            path = KEPT / f"case-{case.number}.{'ttc' if case.file[:4] == b'ttcf' else 'ttf'}"
             path.write_bytes(case.file)
             failures.append(f"case {case.number} of seed {case.seed}: {why}: {case.told(path.relative_to(ROOT))}")
 
@@ -234,8 +235,9 @@ def work(seed, first, step, seconds, only):
     slowest, most = (0, ""), (0, "")
     end, number = time.monotonic() + seconds, first
     while time.monotonic() < end and len(failures) < 20:
-        if Collected.is_one(seed, number):
-            try_collected(Collected(fonts, seed, number), counts, failures)
+        other = next((it for it in (Collected, Kerned) if it.is_one(seed, number)), None)
+        if other:
+            try_other(other(fonts, seed, number), counts, failures)
             if only:
                 break
             number += step
@@ -282,7 +284,7 @@ def main():
             ended = list(pool.map(work, *zip(*((seed, it, workers, seconds, False) for it in range(workers)))))
     counts = sum((it[0] for it in ended), collections.Counter())
     failures = [line for it in ended for line in it[1]]
-    for kind in ("map", *FITS, "map of a face", "faces", "draw of a face"):
+    for kind in ("map", *FITS, "map of a face", "faces", "draw of a face", "kerned"):
         of_kind = [(count, key[1]) for key, count in counts.items() if key[0] == kind]
         print(f"{kind}: " + ", ".join(f"{name} {count}" for count, name in sorted(of_kind, reverse=True)))
     took, told = max(it[2] for it in ended)

@@ -18,7 +18,9 @@ def struct_of(**fields):
 
 
 Answer = struct_of(status=c_uint32, number=c_uint32, table=c_char * 4, offset=c_uint32, bytes=c_uint64, count=c_uint64)
-Job = struct_of(size=c_uint32, margin=c_uint32, fit=c_uint32, grow=c_uint32, face=c_uint32)
+Job = struct_of(
+    size=c_uint32, margin=c_uint32, fit=c_uint32, grow=c_uint32, face=c_uint32, kern=c_uint32, rounded=c_uint32,
+)
 Bitmap = struct_of(
     glyph=c_uint32, status=c_uint32, number=c_uint32, table=c_char * 4, offset=c_uint32, advance=c_uint32,
     left=c_int32, top=c_int32, width=c_uint32, height=c_uint32, at=c_uint64,
@@ -30,9 +32,9 @@ Layout = struct_of(
 Pen = struct_of(code_point=c_uint32, selector=c_uint32, glyph=c_uint32, advance=c_uint32, pen=c_int64)
 
 
-def job_of(size, margin, fit, face, grow=0):
+def job_of(size, margin, fit, face, grow=0, kern=0, rounded=0):
     """Returns a job. A face is read widely, None strictly."""
-    return Job(int(size), int(margin), FITS[fit], grow, 0 if face is None else int(face) + 1)
+    return Job(int(size), int(margin), FITS[fit], grow, 0 if face is None else int(face) + 1, kern, rounded)
 
 
 def values_of(made):

@@ -18,6 +18,10 @@ F.ttf
 --size 16 --face -1 F.ttf
 --size 16 --margin 0 F.ttf
 --size 16 --grow F.ttf
+--size 16 --kern F.ttf
+--size 16 --height F.ttf
+--size 16 --height round F.ttf
+--size 16 --height exact --height exact F.ttf
 --size 16 --lines F.ttf
 --size 16 --missing draw F.ttf
 --size 16 --range 41 --range 42 F.ttf

@@ -12,7 +12,12 @@ from installed import FITS, FOLDER
 
 # Each so many rows of ../rows are measured.
 STEP = 5
-TEXTS = "jolly staff", "\u01fajf g\u00c7|_", " . ", "A\ufe0fB\ufe0e\ufe0e", "\ufe0fx", "\u65e5\U0001f600", "x" * 300
+TEXTS = (
+    *("jolly staff", "AVATAR To.", "\u01fajf g\u00c7|_", " . "),
+    *("A\ufe0fB\ufe0e\ufe0e", "\ufe0fx", "\u65e5\U0001f600", "x" * 300),
+)
+# Whether pairs are kerned, and whether heights are rounded.
+RULES = (0, 0), (1, 0), (1, 1)
 # Where a defect has no part in a measure without ink, unless programs decide the advances.
 OF_GLYPHS = re.compile(rb"tt_render: (loca|glyf|fpgm|prep|cvt )\+")
 
@@ -73,12 +78,13 @@ def called(asked, font, text, job, got):
 
 def measured(asked, font, place, text, job):
     """Returns what is wrong with the measures of a text."""
-    size, margin, fit, face = job
+    size, margin, fit, face, kern, rounded = job
     words = ["--size", str(size), "--margin", str(margin), "--fit", fit]
     words += [] if face is None else ["--face", str(face)]
+    words += ["--kern"] * kern + ["--height", "rounded"] * rounded
     got, why = printed(asked, [*words, "--", place, text], size, margin, fit)
     if asked.library and not why:
-        why = called(asked, font, text.encode(), calls.job_of(size, margin, fit, face), got)
+        why = called(asked, font, text.encode(), calls.job_of(size, margin, fit, face, 0, kern, rounded), got)
     return why
 
 
@@ -87,7 +93,7 @@ def of_rows(asked):
     for row in list(asking.rows_of_tables())[::STEP]:
         if row.kind != "map" and b"\0" not in row.text:
             place = asked.folder(row.font) / "F.ttf"
-            yield f"{row.kind} {row.name}", row.font, place, row.text.decode(), (*row.shape, row.kind, None)
+            yield f"{row.kind} {row.name}", row.font, place, row.text.decode(), (*row.shape, row.kind, None, 0, 0)
 
 
 def of_fonts(asked):
@@ -95,11 +101,12 @@ def of_fonts(asked):
     for at, path in enumerate(sorted(it.resolve() for it in FOLDER.glob("*/*.ttf"))[::12]):
         for turn, text in enumerate(TEXTS):
             job = 7 + (at + 3 * turn) % 40, (0, 3, 64)[turn % 3], FITS[(at + turn) % 4], (None, 0)[at % 2]
+            job += RULES[at % 3]
             yield path.name, path.read_bytes(), path, text, job
     for name in "collection", "gap", "negative gap", "flat":
         font = labels.fonts()[name]
         for text, size, fit in itertools.product(("AB", "", "A\ufe0f"), (1, 16, 300), FITS):
-            yield name, font, asked.folder(font) / "F.ttf", text, (size, 2, fit, int(name == "collection"))
+            yield name, font, asked.folder(font) / "F.ttf", text, (size, 2, fit, int(name == "collection"), 0, 0)
 
 
 def measures(asked):

@@ -128,11 +128,11 @@ def small_rooms(asked, name, font, numbers):
         want = done if told_room >= count else (calls.ROOM, 0, "", 0, 0, count)
         got = asked_with(asked, font, numbers, job, room=wanted, told_room=told_room)
         common.verdict(f"entries {told_room} of {count}, {name}", differing(answer=(want, got)))
-    # A job's margin and grow are not looked at.
-    for margin, grow in ((64, 0), (65, 1), (2**32 - 1, 2**32 - 1)):
-        other = asked.library.glyphs(font, numbers, calls.job_of(16, margin, "best", 0, grow))
+    # A job's margin, grow, kern and rounded are not looked at.
+    for margin, grow, *rules in ((64, 0, 0, 1), (65, 1, 1, 0), (2**32 - 1, 2**32 - 1, 1, 1)):
+        other = asked.library.glyphs(font, numbers, calls.job_of(16, margin, "best", 0, grow, *rules))
         pair = (done, entries, rows), (calls.values_of(other[0]), *other[1:])
-        common.verdict(f"margin {margin}, grow {grow}, {name}", differing(call=pair))
+        common.verdict(f"margin {margin}, grow {grow}, rules {rules}, {name}", differing(call=pair))
 
 
 def rooms(asked):

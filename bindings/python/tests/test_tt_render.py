@@ -77,6 +77,26 @@ class Calls(unittest.TestCase):
             got = self.font.label("Hello", 20, margin=3, fit=fit, grow=False)
             self.assertEqual(got.pbm(), printed("draw", *words))
 
+    def test_kerning_and_heights(self):
+        for fit in (tt_render.Fit.NONE, tt_render.Fit.BEST):
+            for kern in (False, True):
+                for rounded in (False, True):
+                    options = {"margin": 1, "fit": fit, "kern": kern, "rounded": rounded}
+                    words = ["--size", "24", "--margin", "1", "--fit", fit.name.lower(), *["--kern"] * kern]
+                    words += ["--height", "rounded" if rounded else "exact"]
+                    got = self.font.label("AVA To", 24, grow=False, **options)
+                    self.assertEqual(got.pbm(), printed("draw", *words, FONT, "AVA To"))
+                    self.assertEqual(list(self.font.labels(["AVA To"], 24, grow=False, **options)), [got])
+                    self.assertEqual(self.font.measure("AVA To", 24, grow=False, **options)[:4], got[:4])
+                    self.assertEqual(self.font.layout("AVA To", 24, **options)[:3], got[:3])
+                    pens = self.font.pens("AVA To", 24, **options)
+                    self.assertEqual(pens[-1].pen + pens[-1].advance + 1, got.width)
+                    places = self.font.characters("AVA To", 24, grow=False, **options)
+                    self.assertEqual([it[1:3] for it in places], [it[3:] for it in pens])
+        plain, kerned = self.font.label("AVA To", 24), self.font.label("AVA To", 24, kern=True)
+        self.assertLess(kerned.width, plain.width)
+        self.assertLessEqual(self.font.label("AVA To", 24, rounded=True).height, plain.height)
+
     def test_labels(self):
         for size, count in ((16, 4100), (300, 20)):
             texts = [f"Shelf {it}" for it in range(count)]

@@ -5,6 +5,10 @@
     pathlib.Path("label.pbm").write_bytes(picture.pbm())
 
 What is refused raises Error. Several threads may call at once. tt_render.h describes each call.
+
+With `kern` pairs of characters such as AV are moved nearer, by the font's tables; it pays from size 16 on. With
+`rounded` ascent and descent are each rounded to the nearest row, and not up. Then box drawing characters join, of
+pictures that are set one below the other.
 """
 from __future__ import annotations
 
@@ -91,23 +95,27 @@ class Font:
         """Reads a font file."""
         return cls(pathlib.Path(path).read_bytes(), face)
 
-    def _job(self, size: int, margin: int, fit: int, grow: bool) -> Any:
-        return c.tt_job(c.number(size), c.number(margin), c.number(fit), bool(grow), self._face)
+    def _job(self, size: int, margin: int, fit: int, grow: bool = False, kern: bool = False,
+             rounded: bool = False) -> Any:
+        numbers = map(c.number, (size, margin, fit))
+        return c.tt_job(*numbers, bool(grow), self._face, bool(kern), bool(rounded))
 
-    def label(self, text: str, size: int, *, margin: int = 0, fit: int = Fit.BEST, grow: bool = True) -> Picture:
+    def label(self, text: str, size: int, *, margin: int = 0, fit: int = Fit.BEST, grow: bool = True,
+              kern: bool = False, rounded: bool = False) -> Picture:
         """Draws a line of text. With `grow` the picture is enlarged where it would cut ink."""
-        told = c.tt_picture()
-        answer, rows = c.with_rows("tt_draw", self._data, c.utf8_of(text), self._job(size, margin, fit, grow), told)
+        told, job = c.tt_picture(), self._job(size, margin, fit, grow, kern, rounded)
+        answer, rows = c.with_rows("tt_draw", self._data, c.utf8_of(text), job, told)
         return c.tuple_of(Picture, told, rows=rows[: answer.bytes])
 
     def labels(self, texts: Iterable[str], size: int, *, margin: int = 0, fit: int = Fit.BEST, grow: bool = True,
-               keep: int = 1 << 20) -> Iterator[Picture]:
+               kern: bool = False, rounded: bool = False, keep: int = 1 << 20) -> Iterator[Picture]:
         """Draws lines, for each what `label` draws, but with the font's programs run once for many of them.
 
         Without `grow` at most `keep` bytes of glyphs are cached between lines, which then are up to twenty times as
         fast. A line that is refused ends the drawing.
         """
-        job, room, done, rest = self._job(size, margin, fit, grow), 1 << 20, 0, [c.utf8_of(it) for it in texts][::-1]
+        job, room, done = self._job(size, margin, fit, grow, kern, rounded), 1 << 20, 0
+        rest = [c.utf8_of(it) for it in texts][::-1]
         while rest:
             some = rest[: -4097 : -1]
             ends = (c.u64 * len(some))(*itertools.accumulate(map(len, some)))
@@ -124,16 +132,17 @@ class Font:
             room, done = max(room, answer.bytes), done + answer.count
             del rest[len(rest) - answer.count :]
 
-    def measure(self, text: str, size: int, *, margin: int = 0, fit: int = Fit.BEST, grow: bool = True) -> Measure:
+    def measure(self, text: str, size: int, *, margin: int = 0, fit: int = Fit.BEST, grow: bool = True,
+                kern: bool = False, rounded: bool = False) -> Measure:
         """Measures a line of text."""
-        told = c.tt_measure()
-        c.ask("tt_measure", self._data, c.utf8_of(text), self._job(size, margin, fit, grow), told)
+        told, job = c.tt_measure(), self._job(size, margin, fit, grow, kern, rounded)
+        c.ask("tt_measure", self._data, c.utf8_of(text), job, told)
         return c.tuple_of(Measure, told)
 
-    def characters(self, text: str, size: int, *, margin: int = 0, fit: int = Fit.BEST,
-                   grow: bool = True) -> list[Character]:
+    def characters(self, text: str, size: int, *, margin: int = 0, fit: int = Fit.BEST, grow: bool = True,
+                   kern: bool = False, rounded: bool = False) -> list[Character]:
         """Returns the place of each character of a text in its picture."""
-        job, utf8 = self._job(size, margin, fit, grow), c.utf8_of(text)
+        job, utf8 = self._job(size, margin, fit, grow, kern, rounded), c.utf8_of(text)
         return c.listed(Character, c.tt_character, len(utf8), "tt_characters", self._data, utf8, job)
 
     def map(self, text: str) -> list[Glyph]:
@@ -141,20 +150,22 @@ class Font:
         utf8 = c.utf8_of(text)
         return c.listed(Glyph, c.tt_glyph, len(utf8), "tt_map_face", self._data, self._face, utf8)
 
-    def layout(self, text: str, size: int, *, margin: int = 0, fit: int = Fit.BEST) -> Layout:
+    def layout(self, text: str, size: int, *, margin: int = 0, fit: int = Fit.BEST, kern: bool = False,
+               rounded: bool = False) -> Layout:
         """Lays out a line of text without its ink."""
-        told = c.tt_layout()
-        c.ask("tt_layout", self._data, c.utf8_of(text), self._job(size, margin, fit, False), told)
+        told, job = c.tt_layout(), self._job(size, margin, fit, kern=kern, rounded=rounded)
+        c.ask("tt_layout", self._data, c.utf8_of(text), job, told)
         return c.tuple_of(Layout, told)
 
-    def pens(self, text: str, size: int, *, margin: int = 0, fit: int = Fit.BEST) -> list[Pen]:
+    def pens(self, text: str, size: int, *, margin: int = 0, fit: int = Fit.BEST, kern: bool = False,
+             rounded: bool = False) -> list[Pen]:
         """Returns the pen of each character of a text, as `layout` lays the text out."""
-        job, utf8 = self._job(size, margin, fit, False), c.utf8_of(text)
+        job, utf8 = self._job(size, margin, fit, kern=kern, rounded=rounded), c.utf8_of(text)
         return c.listed(Pen, c.tt_pen, len(utf8), "tt_pens", self._data, utf8, job)
 
     def glyphs(self, numbers: Iterable[int], size: int, *, fit: int = Fit.BEST) -> list[Bitmap]:
         """Makes the bitmaps of at most 4,096 glyphs by their numbers. A refused one has its refusal in its entry."""
-        asked, job = [c.number(it) for it in numbers], self._job(size, 0, fit, False)
+        asked, job = [c.number(it) for it in numbers], self._job(size, 0, fit)
         told = (c.tt_bitmap * len(asked))()
         _, rows = c.with_rows("tt_glyphs", self._data, (c.u32 * len(asked))(*asked), job, told)
         ends = [it.at + (it.width + 7) // 8 * it.height for it in told]

@@ -34,6 +34,8 @@ pub struct Job {
     pub fit: u32,
     pub grow: u32,
     pub face: u32,
+    pub kern: u32,
+    pub rounded: u32,
 }
 
 /// A picture without its pixels.

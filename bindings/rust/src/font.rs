@@ -260,7 +260,7 @@ impl<'a> Font<'a> {
         Ok(told)
     }
 
-    /// Makes the bitmaps of at most 4,096 glyphs by their numbers. The request's `margin` and `grow` are not looked at.
+    /// Makes the bitmaps of at most 4,096 glyphs by their numbers. Of the request `size` and `fit` alone are looked at.
     pub fn glyphs(&self, numbers: &[u32], job: &Job) -> Result<Bitmaps, Error> {
         let mut rows = vec![0; FIRST_ROOM];
         loop {

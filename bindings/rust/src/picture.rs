@@ -26,6 +26,11 @@ pub struct Job {
     pub fit: Fit,
     /// Whether the picture is enlarged where it would cut ink.
     pub grow: bool,
+    /// Whether pairs of characters such as AV are moved nearer, by the font's tables. It pays from size 16 on.
+    pub kern: bool,
+    /// Whether ascent and descent are each rounded to the nearest row, and not up. Then box drawing characters join, of
+    /// pictures that are set one below the other.
+    pub rounded: bool,
 }
 
 impl Job {
@@ -36,6 +41,8 @@ impl Job {
             margin: 0,
             fit: Fit::Best,
             grow: true,
+            kern: false,
+            rounded: false,
         }
     }
 
@@ -45,6 +52,8 @@ impl Job {
             margin,
             fit,
             grow,
+            kern,
+            rounded,
         } = *self;
         c::Job {
             size,
@@ -52,6 +61,8 @@ impl Job {
             fit: fit as u32,
             grow: grow.into(),
             face,
+            kern: kern.into(),
+            rounded: rounded.into(),
         }
     }
 }

@@ -72,10 +72,10 @@ fn options_are_those_of_the_program() {
         (Fit::Best, "best"),
     ] {
         let job = Job {
-            size: 20,
             margin: 3,
             fit,
             grow: false,
+            ..Job::of_size(20)
         };
         let wanted = printed(
             &[
@@ -85,6 +85,52 @@ fn options_are_those_of_the_program() {
         );
         assert_eq!(font.draw("Hello", &job).unwrap().pbm(), wanted);
     }
+}
+
+#[test]
+fn kerning_and_heights_are_those_of_the_program() {
+    let (path, bytes) = (font_path(), font_bytes());
+    let font = Font::new(&bytes).unwrap();
+    let text = "AVA To";
+    for (fit, name) in [(Fit::None, "none"), (Fit::Best, "best")] {
+        for (kern, rounded) in [(false, false), (true, false), (false, true), (true, true)] {
+            let job = Job {
+                fit,
+                grow: false,
+                kern,
+                rounded,
+                ..Job::of_size(24)
+            };
+            let height = if rounded { "rounded" } else { "exact" };
+            let mut words = vec!["draw", "--size", "24", "--fit", name, "--height", height];
+            words.extend(["--kern"].iter().filter(|_| kern));
+            words.extend([&*path, text]);
+            let picture = font.draw(text, &job).unwrap();
+            assert_eq!(picture.pbm(), printed(&words, ""));
+            let (got, pens) = (
+                font.layout(text, &job).unwrap(),
+                font.pens(text, &job).unwrap(),
+            );
+            assert_eq!(
+                (got.width, got.height, got.baseline),
+                (
+                    picture.shape.width,
+                    picture.shape.height,
+                    picture.shape.baseline
+                )
+            );
+            let last = pens.last().unwrap();
+            assert_eq!(last.pen + i64::from(last.advance), i64::from(got.width));
+        }
+    }
+    let width = |kern| {
+        let job = Job {
+            kern,
+            ..Job::of_size(24)
+        };
+        font.measure(text, &job).unwrap().width
+    };
+    assert!(width(true) < width(false));
 }
 
 #[test]
