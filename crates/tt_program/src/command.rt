@@ -248,7 +248,7 @@ fn kern<'a>(alloc: Global) -> Arg<'a> {
     Arg::new(alloc, "kern")
         .long("kern")
         .action(ArgAction::SetTrue)
-        .help("Move pairs such as AV nearer, by the font's tables; from size 16 on")
+        .help("Move pairs such as AV nearer; it pays from size 16 on")
 }
 
 fn height<'a>(alloc: Global) -> Arg<'a> {
@@ -258,7 +258,7 @@ fn height<'a>(alloc: Global) -> Arg<'a> {
         .value_parser(HEIGHTS.as_slice())
         .default_value(EXACT)
         .hide_possible_values(true)
-        .help("exact or rounded, so that box drawing of lines joins")
+        .help("exact, or rounded so that box lines join")
 }
 
 fn no_ink<'a>(alloc: Global) -> Result<Arg<'a>, AllocError> {
