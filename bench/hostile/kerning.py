@@ -25,7 +25,7 @@ def spread_text():
 
 def spread_cmap():
     """A cmap by which these characters are glyphs that are spread over all glyphs."""
-    numbers = small.words(*(STEP * it - 1 for it in range(1, TEXT + 1)))
+    numbers = small.words(*(STEP * it - 3 for it in range(1, TEXT + 1)))
     last = small.FIRST + TEXT - 1
     segments = small.words(4, 32 + len(numbers), 0, 4, 4, 1, 0, last, 0xFFFF, 0, small.FIRST, 0xFFFF, 0, 1, 4, 0)
     return small.words(0, 1, 3, 1, 0, 12) + segments + numbers
