@@ -57,7 +57,9 @@
  * This is so even where the room is too small. tt_glyphs runs the two programs once and fits each glyph of its list
  * once, also where the room for the rows is too small: a list costs what a text of its glyphs does. tt_draw_lines runs
  * the two programs once, and fits no glyph that is cached: a label of 16 letters then takes some 30,000 instructions.
- * With keep 0, and with grow, each line fits its glyphs anew, for up to a million instructions.
+ * With keep 0, and with grow, each line fits its glyphs anew, for up to a million instructions. With kern a call reads
+ * at most 10,000 numbers of GPOS and kern when it opens the font. For each pair of neighbouring glyphs it reads at most
+ * 5,120 numbers, up to three times; real fonts need some 50.
  */
 #ifndef TT_RENDER_H
 #define TT_RENDER_H
@@ -111,13 +113,32 @@ enum {
     TT_BEST = 3      /* as fallback, with the whole instruction set, bounded work and filled dropouts */
 };
 
-/* A request to draw a text. */
+/*
+ * A request to draw a text. Where kern and rounded are 0, no pair of glyphs is kerned and heights are exact.
+ *
+ * kern moves neighbouring glyphs nearer or farther, by the font's tables: by GPOS where it has the feature kern for
+ * Latin, else by the table kern. The step from a pen to the next is the sum of a glyph's advance and of its kerning with
+ * the next glyph. The sum is rounded once, to the nearest pixel, a half up; where it is negative the step is 0. With
+ * TT_BEST the advance is the distance of its two ends as the font's programs leave them, in 64ths of a pixel, and the
+ * kerning is scaled to 64ths by the factor that scales outlines. The last glyph of a text has no kerning. Kerning pays
+ * from 16 pixels per em on; below, letters come to touch. No defect of either table refuses anything: a table that passes
+ * the end of the file counts as empty, and a number past the end of its table as 0.
+ *
+ * rounded makes the rise and the depth of a line the ascent and the descent, each rounded to the nearest row, a half up.
+ * Else each is rounded up. Pictures of box drawing characters then join where they are set one below the other.
+ *
+ * tt_draw, tt_draw_band, tt_draw_lines, tt_measure, tt_characters, tt_layout and tt_pens look at both: widths, pens and
+ * advances follow kern; heights, base lines, rise, depth and step follow rounded. tt_glyphs looks at neither. tt_open,
+ * tt_map and the calls with a face tell the font's own figures.
+ */
 struct tt_job {
-    uint32_t size;   /* pixels per em, 1 to 300 */
-    uint32_t margin; /* pixels round the line, 0 to 64 */
-    uint32_t fit;    /* TT_FULL .. TT_BEST */
-    uint32_t grow;   /* not 0: the picture is enlarged on each side, by as little as possible, so that no ink is cut */
-    uint32_t face;   /* n + 1: face n, read widely. 0: the only font, read strictly; with TT_BEST face 0, read widely */
+    uint32_t size;    /* pixels per em, 1 to 300 */
+    uint32_t margin;  /* pixels round the line, 0 to 64 */
+    uint32_t fit;     /* TT_FULL .. TT_BEST */
+    uint32_t grow;    /* not 0: the picture is enlarged on each side, by as little as possible, so that no ink is cut */
+    uint32_t face;    /* n + 1: face n, read widely. 0: the only font, read strictly; with TT_BEST face 0, read widely */
+    uint32_t kern;    /* not 0: pairs of neighbouring glyphs are kerned */
+    uint32_t rounded; /* not 0: rise and depth are each rounded to the nearest row, so that box drawing joins */
 };
 
 /* A picture without its pixels. */
@@ -177,7 +198,7 @@ struct tt_bitmap {
     uint32_t number;  /* the refusal; with TT_DONE not 0 where its program was refused, and the glyph is unfitted */
     uint8_t table[4]; /* the tag of the table that has the defect; no zero at the end */
     uint32_t offset;  /* the defect's offset in it, in bytes */
-    uint32_t advance; /* columns to the next pen */
+    uint32_t advance; /* columns to the next pen, without kerning */
     int32_t left;     /* columns from the pen to the first column of ink, rightwards */
     int32_t top;      /* rows from the base line up to the upper edge of the highest row of ink */
     uint32_t width;   /* columns of ink, at most 16,384; 0, as left, top and height, where nothing is black */
@@ -306,7 +327,7 @@ uint32_t tt_draw_lines(const uint8_t *font, size_t font_bytes, const uint8_t *te
 /*
  * Makes the bitmaps of a list of glyphs by their numbers, at most 4,096: those that a shaper gives, in the order of the
  * list, and with what repeats in it. Each glyph is made once, with one run of the font's programs. Of the job size, fit
- * and face count; margin and grow are not looked at.
+ * and face count; margin, grow, kern and rounded are not looked at.
  *
  * told gets count entries: entry i is that of glyphs[i]. An entry whose number stood before is equal to the first one.
  * rows gets the rows of the numbers that stand first, one glyph after the other, each the highest row first. A row has
