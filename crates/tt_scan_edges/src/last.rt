@@ -60,16 +60,11 @@ fn join(edge: Edge, next: Edge) -> Edge
     }
 }
 
-/// Whether a place along an axis lies between two others, both included. Mostly the distances to both have one sign.
+/// Whether a place along an axis lies between two others, both included.
 #[inline(always)]
 fn lies_between(a: i32, b: i32, z: i32) -> bool
     ensures { result ≡ is_between a b z }
 {
-    let before = i64::from(z) - i64::from(a);
-    let after = i64::from(b) - i64::from(z);
-    if (before < 0) == (after < 0) {
-        return true;
-    }
     a.min(b) <= z && z <= a.max(b)
 }
 
