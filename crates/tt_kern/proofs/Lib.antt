@@ -7,4 +7,3 @@ pub mod Rising
 pub mod SearchEnds
 pub mod SearchFinds
 pub mod Short
-mod Codes

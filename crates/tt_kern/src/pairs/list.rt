@@ -12,28 +12,24 @@ pub(crate) struct PairSubtable {
     pub(crate) at: usize,
 }
 
-/// Offsets below which those of all pair subtables are.
-const MOST: u64 = 1 << 33;
-
-/// Pair subtables, lookup by lookup. Each is one number, since a face with these is often moved: its offset, and 2^33 for
-/// each lookup before its own. Clauses see a list.
+/// Pair subtables, lookup by lookup. Clauses see a list.
 #[derive(Drop)]
 pub(crate) struct PairList {
-    codes: [u64; 64],
+    subtables: [PairSubtable; 64],
     count: usize,
 }
 
 impl Model for PairList {
-    ghost use Rattle.std.specs.Prelude.{◌≡◌, ◌<◌, ◌≤◌, ◌^◌, List, take, length, map};
+    ghost use Rattle.std.specs.Prelude.{◌≡◌, ◌≤◌, List, take, length};
     ghost use Rattle.std.specs.List.{All};
-    ghost use Rattle.tt_kern.specs.Listed.{subtable_of};
+    ghost use Rattle.tt_kern.specs.Listed.{IsNear};
     ghost use Rattle.tt_kern.specs.declared.pairs.list.PairSubtable.{PairSubtable};
 
     ghost Value = { List PairSubtable };
 
-    ghost view = { λ l. map subtable_of (take l.count l.codes) };
+    ghost view = { λ l. take l.count l.subtables };
 
-    ghost invariant = { λ l. (l.count ≤ 64) × (length l.codes ≡ 64) × All (λ c. c < 2 ^ 38) (take l.count l.codes) };
+    ghost invariant = { λ l. (l.count ≤ 64) × (length l.subtables ≡ 64) × All IsNear (take l.count l.subtables) };
 }
 
 impl PairList {
@@ -41,7 +37,7 @@ impl PairList {
         ensures { result ≡ [] }
     {
         PairList {
-            codes: [0; 64],
+            subtables: [PairSubtable { lookup: 0, at: 0 }; 64],
             count: 0,
         }
     }
@@ -52,7 +48,7 @@ impl PairList {
         ensures { self.new ≡ take 64 (self.old ++ subtable ∷ []) }
     {
         if self.count < 64 {
-            self.codes[self.count] = MOST * subtable.lookup as u64 + subtable.at as u64;
+            self.subtables[self.count] = subtable;
             self.count += 1;
         }
     }
@@ -61,7 +57,7 @@ impl PairList {
         ensures { result ≡ self.now }
     {
         PairList {
-            codes: self.codes,
+            subtables: self.subtables,
             count: self.count,
         }
     }
@@ -78,11 +74,7 @@ impl PairList {
         ensures next { drop i self.now ≡ result ∷ drop (i + 1) self.now }
         ensures near { IsNear result }
     {
-        let codes = &self.codes;
-        let code = codes[i];
-        PairSubtable {
-            lookup: (code / MOST) as usize,
-            at: (code % MOST) as usize,
-        }
+        let subtables = &self.subtables;
+        subtables[i]
     }
 }
