@@ -1,5 +1,5 @@
 -- The rows of a small glyph by the words of its lines.
-use Rattle.std.proofs.Common.{◌≡◌, ◌∙◌, refl, sym, ap, ap₂, ℕ, ◌+◌, ◌-◌, ◌*◌, ◌%◌, ◌^◌, ◌<◌, ◌≤◌, Bool, true, false, ◌&&◌, ◌==◌, nat_lt, List, length, slice_index, ℤ, pos, ◌+ℤ◌, ◌-ℤ◌, ◌≤ℤ◌, ◌<ℤ◌, int_le, int_lt, unsigned_abs, arith, inl, inr}
+use Rattle.std.proofs.Common.{◌≡◌, ◌∙◌, refl, sym, ap, ℕ, ◌+◌, ◌-◌, ◌*◌, ◌%◌, ◌^◌, ◌<◌, ◌≤◌, Bool, true, false, ◌&&◌, ◌==◌, nat_lt, length, slice_index, ℤ, pos, ◌-ℤ◌, ◌≤ℤ◌, ◌<ℤ◌, int_le, int_lt, unsigned_abs, arith, inl, inr}
 use Rattle.std.specs.Int.{bit_at}
 use Rattle.std.proofs.lemmas.Bool.Decides.{nat_tests}
 use Rattle.std.proofs.lemmas.Bool.{cases_lt}
@@ -8,7 +8,7 @@ use Rattle.tt_core.specs.Bits.{stride}
 use Rattle.tt_glyphs.specs.declared.lines.LineWords.{LineWords}
 use Rattle.tt_glyphs.specs.declared.place.InkPlace.{InkPlace}
 use Rattle.tt_glyphs.specs.Drawn.{column_of, line_of}
-use Rattle.tt_glyphs.specs.Words.{HoldsPlace, has_column, shows, shows_in, shows_on}
+use Rattle.tt_glyphs.specs.Words.{HoldsPlace, has_column, shows_on}
 use Rattle.tt_glyphs.proofs.WordColumns.{columns_shifted}
 
 le : (a b : ℤ) → a ≤ℤ b → int_le a b ≡ true

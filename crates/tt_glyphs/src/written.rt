@@ -85,16 +85,18 @@ fn column_of(lines: &LineWords, place: InkPlace) -> u32
 }
 
 impl WordBitmap {
-    /// Makes row `r`, and overwrites `row`.
+    /// Makes row `r`, and overwrites `row`. The words begin `column` columns before the place.
     #[inline(always)]
-    fn write_row(&self, r: u32, row: &mut [u8])
+    fn write_row(&self, r: u32, column: u32, row: &mut [u8])
         requires fits { WordsFit self.now }
         requires within { r < self.now.place.height }
+        requires column { pos column ≡ self.now.place.left -ℤ self.now.lines.left }
+        requires inside { column + self.now.place.width ≤ 64 }
         requires len { length row.old ≡ stride self.now.place.width }
         ensures { row.new ≡ word_row self.now r }
     {
         let word = self.lines.words[word_of(&self.lines, self.place, r)];
-        write_word(word << column_of(&self.lines, self.place), row);
+        write_word(word << column, row);
     }
 
     /// Makes all rows, the highest first, and overwrites `rows`. No memory is taken.
@@ -104,9 +106,10 @@ impl WordBitmap {
         ensures { rows.new ≡ word_rows self.now }
     {
         let bytes = row_bytes(self.place.width);
+        let column = column_of(&self.lines, self.place);
         for r in 0..self.place.height {
             let at = bytes * r as usize;
-            self.write_row(r, &mut rows[at..at + bytes]);
+            self.write_row(r, column, &mut rows[at..at + bytes]);
         }
     }
 }

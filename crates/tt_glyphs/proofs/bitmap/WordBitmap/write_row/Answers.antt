@@ -12,7 +12,7 @@ returns c =
     let b = c.args.self.now in
     let p = b.place in
     let r = c.args.r in
-    let s = c.column_of.result in
+    let s = c.args.column in
     let down = c.word_of.result in
     let word : c.index-word.result.now ≡ slice_index b.lines.words.items down =
     c.index-word.ensures ∙ get_or_default b.lines.words.items down _ 0 c.word_of.ensures.within in
@@ -22,5 +22,5 @@ returns c =
     let bits : bit c.write_word.new.row k
     ≡ (nat_lt k (8 * stride p.width) && (bit_at (slice_index b.lines.words.items down * 2 ^ s % 2 ^ 64) (63 - k) == 1)) =
     rw (word, c.requires.len) at (c.write_word.ensures.bits k) in
-    bits ∙ word_shown b.lines p down s k r c.requires.fits.held c.column_of.ensures.exact c.word_of.ensures.exact
-    c.word_of.ensures.within c.column_of.ensures.within)
+    bits ∙ word_shown b.lines p down s k r c.requires.fits.held c.requires.column c.word_of.ensures.exact
+    c.word_of.ensures.within c.requires.inside)
