@@ -61,16 +61,15 @@ fn write_word(word: u64, row: &mut [u8])
     }
 }
 
-/// The word of row `r` of a place, counted from the first word.
+/// The word of a place's first row, counted from the first word.
 #[inline(always)]
-fn word_of(lines: &LineWords, place: InkPlace, r: u32) -> usize
+fn first_word(lines: &LineWords, place: InkPlace) -> usize
     requires held { HoldsPlace lines.now place }
     requires top { unsigned_abs place.top ≤ 2 ^ 18 }
-    requires within { r < place.height }
-    ensures exact { pos result ≡ lines.now.top -ℤ line_of place r }
-    ensures within { result < length lines.now.words.items }
+    ensures exact { pos result ≡ lines.now.top -ℤ line_of place 0 }
+    ensures within { result + place.height ≤ length lines.now.words.items }
 {
-    (lines.top + 1 - i64::from(place.top)) as usize + r as usize
+    (lines.top + 1 - i64::from(place.top)) as usize
 }
 
 /// The first column of a place, counted from the first column of the words.
@@ -85,17 +84,20 @@ fn column_of(lines: &LineWords, place: InkPlace) -> u32
 }
 
 impl WordBitmap {
-    /// Makes row `r`, and overwrites `row`. The words begin `column` columns before the place.
+    /// Makes row `r`, and overwrites `row`. The place's first row is word `first`, where the place begins at column
+    /// `column`.
     #[inline(always)]
-    fn write_row(&self, r: u32, column: u32, row: &mut [u8])
+    fn write_row(&self, r: u32, first: usize, column: u32, row: &mut [u8])
         requires fits { WordsFit self.now }
         requires within { r < self.now.place.height }
+        requires first { pos first ≡ self.now.lines.top -ℤ line_of self.now.place 0 }
+        requires words { first + self.now.place.height ≤ length self.now.lines.words.items }
         requires column { pos column ≡ self.now.place.left -ℤ self.now.lines.left }
         requires inside { column + self.now.place.width ≤ 64 }
         requires len { length row.old ≡ stride self.now.place.width }
         ensures { row.new ≡ word_row self.now r }
     {
-        let word = self.lines.words[word_of(&self.lines, self.place, r)];
+        let word = self.lines.words[first + r as usize];
         write_word(word << column, row);
     }
 
@@ -106,10 +108,11 @@ impl WordBitmap {
         ensures { rows.new ≡ word_rows self.now }
     {
         let bytes = row_bytes(self.place.width);
+        let first = first_word(&self.lines, self.place);
         let column = column_of(&self.lines, self.place);
         for r in 0..self.place.height {
             let at = bytes * r as usize;
-            self.write_row(r, column, &mut rows[at..at + bytes]);
+            self.write_row(r, first, column, &mut rows[at..at + bytes]);
         }
     }
 }
