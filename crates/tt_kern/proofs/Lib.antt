@@ -7,3 +7,4 @@ pub mod Rising
 pub mod SearchEnds
 pub mod SearchFinds
 pub mod Short
+mod Codes

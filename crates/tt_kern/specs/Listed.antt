@@ -1,5 +1,5 @@
 -- The pair subtables as the code lists them: one list, in which each subtable has its lookup's number.
-use Rattle.std.specs.Prelude.{◌^◌, ◌<◌, ℕ, zero, suc, ◌+◌, nat_lt, if◌then◌else◌, List, [], ◌∷◌, ◌++◌, take, Option, Some, None, ℤ, pos, ◌+ℤ◌}
+use Rattle.std.specs.Prelude.{◌≡◌, refl, ◌^◌, ◌<◌, ℕ, zero, suc, ◌+◌, ◌*◌, ◌/◌, ◌%◌, nat_lt, if◌then◌else◌, List, [], ◌∷◌, ◌++◌, take, Option, Some, None, ℤ, pos, ◌+ℤ◌}
 use Rattle.tt_kern.specs.declared.pairs.list.PairSubtable.{PairSubtable}
 use Rattle.tt_kern.specs.Feature.{feature_of}
 use Rattle.tt_kern.specs.Pair.{pair_value}
@@ -9,6 +9,17 @@ use Rattle.tt_kern.specs.Pairs.{pair_place, lookup_place, subtable_count, lookup
 pub record IsNear (p : PairSubtable) : Type 0 where
   pub lookup : p.lookup < 32
   pub at : p.at < 2 ^ 33
+
+-- a subtable as one number: its offset, and 2^33 for each lookup before its own
+abbrev pub code_of : PairSubtable → ℕ
+code_of p = 8589934592 * p.lookup + p.at
+
+abbrev pub subtable_of : ℕ → PairSubtable
+subtable_of code = record { lookup = code / 8589934592; at = code % 8589934592 }
+
+-- worked value: the last lookup, and the greatest offset
+greatest : subtable_of (code_of (record { lookup = 31; at = 8589934591 })) ≡ record { lookup = 31; at = 8589934591 }
+greatest = refl
 
 abbrev pub with_pair : ℕ → Option ℕ → List PairSubtable → List PairSubtable
 with_pair i None ps = ps

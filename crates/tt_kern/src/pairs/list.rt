@@ -12,24 +12,28 @@ pub(crate) struct PairSubtable {
     pub(crate) at: usize,
 }
 
-/// Pair subtables, lookup by lookup. Clauses see a list.
+/// Offsets below which those of all pair subtables are.
+const MOST: u64 = 1 << 33;
+
+/// Pair subtables, lookup by lookup. Each is one number, since a face with these is often moved: its offset, and 2^33 for
+/// each lookup before its own. Clauses see a list.
 #[derive(Drop)]
 pub(crate) struct PairList {
-    subtables: [PairSubtable; 64],
+    codes: [u64; 64],
     count: usize,
 }
 
 impl Model for PairList {
-    ghost use Rattle.std.specs.Prelude.{◌≡◌, ◌≤◌, List, take, length};
+    ghost use Rattle.std.specs.Prelude.{◌≡◌, ◌<◌, ◌≤◌, ◌^◌, List, take, length, map};
     ghost use Rattle.std.specs.List.{All};
-    ghost use Rattle.tt_kern.specs.Listed.{IsNear};
+    ghost use Rattle.tt_kern.specs.Listed.{subtable_of};
     ghost use Rattle.tt_kern.specs.declared.pairs.list.PairSubtable.{PairSubtable};
 
     ghost Value = { List PairSubtable };
 
-    ghost view = { λ l. take l.count l.subtables };
+    ghost view = { λ l. map subtable_of (take l.count l.codes) };
 
-    ghost invariant = { λ l. (l.count ≤ 64) × (length l.subtables ≡ 64) × All IsNear (take l.count l.subtables) };
+    ghost invariant = { λ l. (l.count ≤ 64) × (length l.codes ≡ 64) × All (λ c. c < 2 ^ 38) (take l.count l.codes) };
 }
 
 impl PairList {
@@ -37,7 +41,7 @@ impl PairList {
         ensures { result ≡ [] }
     {
         PairList {
-            subtables: [PairSubtable { lookup: 0, at: 0 }; 64],
+            codes: [0; 64],
             count: 0,
         }
     }
@@ -48,7 +52,7 @@ impl PairList {
         ensures { self.new ≡ take 64 (self.old ++ subtable ∷ []) }
     {
         if self.count < 64 {
-            self.subtables[self.count] = subtable;
+            self.codes[self.count] = MOST * subtable.lookup as u64 + subtable.at as u64;
             self.count += 1;
         }
     }
@@ -57,7 +61,7 @@ impl PairList {
         ensures { result ≡ self.now }
     {
         PairList {
-            subtables: self.subtables,
+            codes: self.codes,
             count: self.count,
         }
     }
@@ -74,7 +78,11 @@ impl PairList {
         ensures next { drop i self.now ≡ result ∷ drop (i + 1) self.now }
         ensures near { IsNear result }
     {
-        let subtables = &self.subtables;
-        subtables[i]
+        let codes = &self.codes;
+        let code = codes[i];
+        PairSubtable {
+            lookup: (code / MOST) as usize,
+            at: (code % MOST) as usize,
+        }
     }
 }
