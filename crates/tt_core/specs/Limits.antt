@@ -51,7 +51,7 @@ step_limit = 1000000
 
 -- work of a line's points and programs, if the job's work is bounded
 abbrev pub work_limit : ℕ
-work_limit = 100000000
+work_limit = 50000000
 
 -- points of all glyphs of a job, with phantom points and one for each contour, if the job's work is bounded
 abbrev pub point_work_limit : ℕ

@@ -39,7 +39,7 @@ pub const STEP_LIMIT: u32 = 1_000_000;
 
 /// Work of a line's points and programs, if the job's work is bounded. The work counts steps, points that instructions
 /// go over, bytes that skips pass, the values that are copied for each run, and 40 for each point of the line's glyphs.
-pub const WORK_LIMIT: u64 = 100_000_000;
+pub const WORK_LIMIT: u64 = 50_000_000;
 
 /// Points of all glyphs of a job, if the job's work is bounded. Phantom points count too, and one more for each
 /// contour.

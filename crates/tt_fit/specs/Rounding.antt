@@ -157,6 +157,6 @@ past_the_limit = refl
 
 -- without a font program and a control value program, hinting is off, and no work is used
 nothing_is_run : prepared (its_metrics 1 0) no_programs 16 fit.Best
-    ≡ Ok (record { hinting = off; fallback = where_refused; work = Some 100000000 })
+    ≡ Ok (record { hinting = off; fallback = where_refused; work = Some 50000000 })
 unfolding prepared
 nothing_is_run = refl

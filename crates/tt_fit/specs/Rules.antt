@@ -94,7 +94,7 @@ one_byte = refl
 left_over_with_full : runs_programs fit.Full [] [] ≡ true
 left_over_with_full = refl
 
-best_is_bounded : work_of fit.Best ≡ Some 100000000
+best_is_bounded : work_of fit.Best ≡ Some 50000000
 best_is_bounded = refl
 
 limit_in_bytes : 2 * cvt_limit ≡ 131070

@@ -12,7 +12,7 @@ use Rattle.tt_scan_edges.specs.declared.edge.Edge.{Edge}
 use Rattle.tt_scan_edges.specs.declared.edge.Frame.{Frame}
 use Rattle.tt_scan_edges.specs.Winding.{crossings_of, is_between, row_y, rows_met}
 use Rattle.tt_scan_edges.proofs.Ranges.{between_from}
-use Rattle.tt_scan_dropouts.specs.Counted.{bands, bands_bytes, bitmap_bytes, box_rows, edges_counted, extent_columns, extent_rows, filling_counted, numbers_in, rows_crossed, rows_of_band}
+use Rattle.tt_scan_dropouts.specs.Counted.{bands, bands_bytes, bitmap_bytes, box_rows, edges_counted, extent_columns, extent_rows, filling_counted, numbers_in, rows_counted, rows_of_band}
 use Rattle.tt_scan_gaps.specs.Crossings.{line_from, lines_crossed}
 use Rattle.tt_scan_gaps.specs.Boxes.{columns_between, columns_of, rows_in}
 use Rattle.tt_scan_gaps.specs.Seen.{turned_round}
@@ -95,7 +95,7 @@ no_rows g rows zeros =
     let most = sum_by-le g 0 rows (λ k d below. let none = zeros (get_or rows k d) in omega (arith, none)) in omega (arith, most)
 
 -- each edge meets at most one row more than it crosses
-rows_needed : (f : Frame) (es : List Edge) → crossings_of f es ≤ length es + rows_crossed es
+rows_needed : (f : Frame) (es : List Edge) → crossings_of f es ≤ length es + rows_counted es
 unfolding meets
 rows_needed f [] = no_rows (λ row. rows_met [] (row_y f (pos row))) (range_with_len 0 f.height) (λ r. refl)
 rows_needed f (e ∷ es) =
@@ -107,14 +107,14 @@ rows_needed f (e ∷ es) =
 some_band : (n : ℕ) → 1 ≤ bands (n + 1)
 some_band n = omega arith
 
-for_bands : (c n b r h : ℕ) → 1 ≤ b → c ≤ n + r → c ≤ b * n + (5 * r + h)
+for_bands : (c n b r h : ℕ) → 1 ≤ b → c ≤ n + r → c ≤ b * n + (r + h)
 for_bands c n b r h some few = let each : 1 * n ≤ b * n = mul-le-mul_right n some in omega (arith, each, few)
 
 pub rows_are_counted : RowsAreCounted
 unfolding edges_counted
 rows_are_counted f es =
     let b = columns_of (map turned_round es) in
-    for_bands (crossings_of f es) (length es) (bands (box_rows es)) (rows_crossed es) (box_rows es)
+    for_bands (crossings_of f es) (length es) (bands (box_rows es)) (rows_counted es) (box_rows es)
     (some_band (unsigned_abs (b.last -ℤ b.first))) (rows_needed f es)
 
 -- bitmaps
@@ -204,7 +204,7 @@ lines_stay : (k m : ℤ) (e : Edge) → lines_crossed (moved k m e) ≡ lines_cr
 lines_stay k m e =
     rw (line_from_moved e.ay m, line_from_moved e.by m, apart_moved (line_from e.by) (line_from e.ay) m) refl
 
-rows_stay : (k m : ℤ) (es : List Edge) → rows_crossed (map (moved k m) es) ≡ rows_crossed es
+rows_stay : (k m : ℤ) (es : List Edge) → rows_counted (map (moved k m) es) ≡ rows_counted es
 rows_stay k m [] = refl
 rows_stay k m (e ∷ es) = rw (lines_stay k m e, rows_stay k m es) refl
 
@@ -214,14 +214,14 @@ crossed_stay k m (e ∷ es) =
     let columns : lines_crossed (turned_round (moved k m e)) ≡ lines_crossed (turned_round e) = lines_stay m k (turned_round e) in
     rw (lines_stay k m e, columns, crossed_stay k m es) refl
 
-edges_as : (r q n l c d : ℕ) → r ≡ q → n ≡ l → c ≡ d → bands r * n + (5 * c + r) ≡ bands q * l + (5 * d + q)
+edges_as : (r q n l c d : ℕ) → r ≡ q → n ≡ l → c ≡ d → bands r * n + (c + r) ≡ bands q * l + (d + q)
 edges_as r q n l c d rows many lines = rw (rows, many, lines) refl
 
 pub edges_stay : (k m : ℤ) (es : List Edge) → edges_counted (map (moved k m) es) ≡ edges_counted es
 unfolding edges_counted
 edges_stay k m es =
     edges_as (box_rows (map (moved k m) es)) (box_rows es) (length (map (moved k m) es)) (length es)
-    (rows_crossed (map (moved k m) es)) (rows_crossed es) (box_rows_stay k m es) (length-map es (moved k m))
+    (rows_counted (map (moved k m) es)) (rows_counted es) (box_rows_stay k m es) (length-map es (moved k m))
     (rows_stay k m es)
 
 filling_as : (c d w v h g : ℕ) → c ≡ d → w ≡ v → h ≡ g

@@ -1,6 +1,6 @@
 -- No part of the standard: what the edges of one glyph count where a job's work is bounded (profile). The count does
 -- not know the picture: rows inside and outside count, and a glyph counts the same at each pen.
-use Rattle.std.specs.Prelude.{◌≡◌, refl, ℕ, ◌+◌, ◌*◌, ◌/◌, ◌-◌, min, ℤ, pos, negsuc, ◌-ℤ◌, unsigned_abs, List, [], ◌∷◌, length, map}
+use Rattle.std.specs.Prelude.{◌≡◌, refl, ℕ, ◌+◌, ◌*◌, ◌/◌, ◌-◌, min, max, ℤ, pos, negsuc, ◌-ℤ◌, unsigned_abs, List, [], ◌∷◌, length, map}
 use Rattle.tt_core.specs.Bits.{stride}
 use Rattle.tt_scan_edges.specs.declared.edge.Edge.{Edge}
 use Rattle.tt_scan_gaps.specs.Crossings.{lines_crossed}
@@ -33,15 +33,19 @@ extent_columns b = numbers_in (columns_in b)
 abbrev pub extent_rows : Extents → ℕ
 extent_rows b = numbers_in (rows_in b)
 
--- how many rows each edge crosses, all together
-abbrev pub rows_crossed : List Edge → ℕ
-rows_crossed [] = 0
-rows_crossed (e ∷ es) = lines_crossed e + rows_crossed es
+-- what an edge counts for the rows that it crosses: five for each, but at least seven, since it takes memory
+abbrev pub edge_rows : Edge → ℕ
+edge_rows e = max 7 (5 * lines_crossed e)
 
--- an edge counts one for each band of the box's rows, and five for each row that it crosses; each row of the box counts
--- one
+-- what edges count for the rows that they cross
+abbrev pub rows_counted : List Edge → ℕ
+rows_counted [] = 0
+rows_counted (e ∷ es) = edge_rows e + rows_counted es
+
+-- an edge counts one for each band of the box's rows, and what it counts for the rows that it crosses: eight at least.
+-- Each row of the box counts one
 unfoldable pub edges_counted : List Edge → ℕ
-edges_counted es = bands (box_rows es) * length es + (5 * rows_crossed es + box_rows es)
+edges_counted es = bands (box_rows es) * length es + (rows_counted es + box_rows es)
 
 -- the bytes of a bitmap of this many columns and rows, with two pixels more on each side
 abbrev pub bitmap_bytes : ℕ → ℕ → ℕ
@@ -105,10 +109,15 @@ its_rows_count : edges_counted (upright ∷ []) ≡ 13
 unfolding edges_counted upright
 its_rows_count = refl
 
--- a level edge crosses no row: one for the band, and the row of its box
-a_level_edge_counts_two : edges_counted (level ∷ []) ≡ 2
+-- a level edge crosses no row: one for the band, the least of seven, and the row of its box
+a_level_edge_counts_nine : edges_counted (level ∷ []) ≡ 9
 unfolding edges_counted level
-a_level_edge_counts_two = refl
+a_level_edge_counts_nine = refl
+
+-- three of them share the row of their box
+three_level_edges : edges_counted (level ∷ level ∷ level ∷ []) ≡ 25
+unfolding edges_counted level
+three_level_edges = refl
 
 -- an edge in one point, which crosses nothing
 at_a_corner : Edge
@@ -128,11 +137,12 @@ a_wider_box_counts_more : filling_counted (box (pos 0) (negsuc 8191) (pos 818380
 unfolding filling_counted box upright level
 a_wider_box_counts_more = refl
 
--- from the centre of row 0 to that of row 1: the edge meets both rows, which are its box, and crosses one
+-- from the centre of row 0 to that of row 1: the edge meets both rows, which are its box, and crosses one, for which it
+-- counts the least of seven
 between : Edge
 between = record { ax = pos 0; ay = pos 4096; bx = pos 0; by = pos 12288 }
 
-both_ends_count : edges_counted (between ∷ []) ≡ 8
+both_ends_count : edges_counted (between ∷ []) ≡ 10
 unfolding edges_counted between
 both_ends_count = refl
 

@@ -1,8 +1,8 @@
 //! What the edges of one glyph count where a job's work is bounded. The count knows no picture and no pen.
 
-ghost use Rattle.std.specs.Prelude.{◌≡◌, ◌^◌, ◌*◌, ◌+◌, ◌<◌, ◌≤◌, length, All};
+ghost use Rattle.std.specs.Prelude.{◌≡◌, ◌^◌, ◌*◌, ◌+◌, ◌<◌, ◌≤◌, length, max, All};
 ghost use Rattle.tt_scan_edges.specs.Winding.{EdgeFits};
-ghost use Rattle.tt_scan_dropouts.specs.Counted.{bands, bands_bytes, edges_counted, filling_counted, numbers_in, rows_crossed};
+ghost use Rattle.tt_scan_dropouts.specs.Counted.{bands, bands_bytes, edge_rows, edges_counted, filling_counted, numbers_in, rows_counted};
 ghost use Rattle.tt_scan_dropouts.specs.Dropouts.{crossed};
 ghost use Rattle.tt_scan_gaps.specs.Boxes.{ColumnsFit, ExtentsFit};
 
@@ -40,34 +40,44 @@ fn in_each_band(bands: u64, edges: usize) -> u64
     bands * edges as u64
 }
 
-/// How many rows each edge crosses, all together.
-fn rows_crossed(edges: &[Edge]) -> u64
+/// What an edge counts for the rows that it crosses, this many.
+#[inline(always)]
+fn edge_rows(crossed: u64) -> u64
+    requires { crossed ≤ 2 ^ 20 }
+    ensures exact { result ≡ max 7 (5 * crossed) }
+    ensures bound { result ≤ 5 * 2 ^ 20 }
+{
+    (5 * crossed).max(7)
+}
+
+/// What edges count for the rows that they cross.
+fn rows_counted(edges: &[Edge]) -> u64
     requires edges { All EdgeFits edges.now }
     requires few { length edges.now ≤ 2 ^ 32 }
-    ensures exact { result ≡ rows_crossed edges.now }
-    ensures bound { result ≤ 2 ^ 20 * length edges.now }
+    ensures exact { result ≡ rows_counted edges.now }
+    ensures bound { result ≤ 5 * 2 ^ 20 * length edges.now }
 {
     let mut all = 0;
     for edge in edges {
-        all += lines_crossed(*edge);
+        all += edge_rows(lines_crossed(*edge));
     }
     all
 }
 
-/// How many rows each edge crosses, all together; and how many rows and columns.
+/// What edges count for the rows that they cross; and how many rows and columns they cross, all together.
 fn crossed(edges: &[Edge]) -> (u64, u64)
     requires edges { All EdgeFits edges.now }
     requires few { length edges.now ≤ 2 ^ 32 }
-    ensures rows { result.0 ≡ rows_crossed edges.now }
+    ensures rows { result.0 ≡ rows_counted edges.now }
     ensures both { result.1 ≡ crossed edges.now }
-    ensures rows_bound { result.0 ≤ 2 ^ 20 * length edges.now }
+    ensures rows_bound { result.0 ≤ 5 * 2 ^ 20 * length edges.now }
     ensures both_bound { result.1 ≤ 2 ^ 21 * length edges.now }
 {
     let mut rows = 0;
     let mut both = 0;
     for edge in edges {
         let across = lines_crossed(*edge);
-        rows += across;
+        rows += edge_rows(across);
         both += across + lines_crossed(turned_round(*edge));
     }
     (rows, both)
@@ -83,20 +93,20 @@ fn bands_bytes(columns: u64, rows: u64) -> u64
     (columns + 4).div_ceil(8) * (rows + 4 * bands(rows))
 }
 
-/// What edges count by the rows that they cross: one for each band of the rows of their box, and five for each row that
-/// they cross. Each row of the box counts one.
+/// What edges count: one for each band of the rows of their box, and what they count for the rows that they cross, which
+/// is known. Each row of the box counts one.
 #[tactic(auto, unfolding(crate::specs::Counted::edges_counted))]
-fn counted_by(edges: &[Edge], met: u64) -> u64
+fn counted_by(edges: &[Edge], counted: u64) -> u64
     requires edges { All EdgeFits edges.now }
     requires few { length edges.now ≤ 2 ^ 32 }
-    requires rows { met ≡ rows_crossed edges.now }
-    requires bound { met ≤ 2 ^ 20 * length edges.now }
+    requires rows { counted ≡ rows_counted edges.now }
+    requires bound { counted ≤ 5 * 2 ^ 20 * length edges.now }
     ensures exact { result ≡ edges_counted edges.now }
     ensures bound { result ≤ 2 ^ 23 * length edges.now + 2 ^ 20 }
 {
     let (_, rows) = box_of(edges);
     let rows = numbers_in(rows);
-    in_each_band(bands(rows), edges.len()) + (5 * met + rows)
+    in_each_band(bands(rows), edges.len()) + (counted + rows)
 }
 
 /// What edges count.
@@ -106,7 +116,7 @@ pub fn edges_counted(edges: &[Edge]) -> u64
     ensures exact { result ≡ edges_counted edges.now }
     ensures bound { result ≤ 2 ^ 23 * length edges.now + 2 ^ 20 }
 {
-    counted_by(edges, rows_crossed(edges))
+    counted_by(edges, rows_counted(edges))
 }
 
 /// What the search for dropouts counts for the rows and columns that edges cross: three for each, and one for each band.
