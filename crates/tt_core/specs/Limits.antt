@@ -59,7 +59,7 @@ point_work_limit = 1000000
 
 -- crossings of a job's glyphs, if the job's work is bounded
 abbrev pub crossing_limit : ℕ
-crossing_limit = 16000000
+crossing_limit = 10000000
 
 -- open calls of functions
 abbrev pub call_limit : ℕ

@@ -46,7 +46,7 @@ pub const WORK_LIMIT: u64 = 50_000_000;
 pub const POINT_WORK_LIMIT: u64 = 1_000_000;
 
 /// Crossings of a job's glyphs, if the job's work is bounded.
-pub const CROSSING_LIMIT: u64 = 16_000_000;
+pub const CROSSING_LIMIT: u64 = 10_000_000;
 
 /// Open calls of functions.
 pub const CALL_LIMIT: usize = 64;

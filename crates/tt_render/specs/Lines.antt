@@ -86,7 +86,7 @@ text_drawn draw text = drawn_from 1 draw (lines_of text)
 
 -- what the lines of a call may take before one more is drawn, by how many they are
 abbrev pub lines_budget : ℕ → ℕ
-lines_budget before = 20000000 + 8000000 * before
+lines_budget before = 10000000 + 4000000 * before
 
 -- what a line takes of this budget; a refused line takes nothing
 abbrev pub cost_drawn : Result TextAnswer TextRefusal → ℕ
@@ -131,10 +131,10 @@ as_many_as_are_drawn : drawn_from 1 (λ line. if nat_lt 1 (length line) then Err
 unfolding report_text_of digits
 as_many_as_are_drawn = refl
 
-the_first_line_may_follow_nothing : lines_budget 0 ≡ 20000000
+the_first_line_may_follow_nothing : lines_budget 0 ≡ 10000000
 the_first_line_may_follow_nothing = refl
 
-the_fifth_line : lines_budget 4 ≡ 52000000
+the_fifth_line : lines_budget 4 ≡ 26000000
 the_fifth_line = refl
 
 -- of these three lines the second is refused

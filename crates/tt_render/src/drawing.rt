@@ -92,7 +92,7 @@ pub fn draw_text<R: Source, W: Sink, E: Sink>(
 pub fn lines_budget(before: u64) -> u128
     ensures { result ≡ lines_budget before }
 {
-    20_000_000 + 8_000_000 * u128::from(before)
+    10_000_000 + 4_000_000 * u128::from(before)
 }
 
 /// The answer of the line with this number, by a strike whose face is of this file. Errors, the first of: NotUtf8; those

@@ -28,14 +28,14 @@ unfoldable pub cost_by : Face → Job → Result ℕ Refused
 cost_by face a = text_placed face a >>= λ line. line_cost face a line
 
 -- worked values: a tenth of the work and a thousand crossings; all of the work; and a fit without a budget
-a_tenth : cost_of (Some 90000000) 1000 ≡ 10004000
+a_tenth : cost_of (Some 45000000) 1000 ≡ 5004000
 a_tenth = refl
 
-all_of_it : cost_of (Some 0) 250000 ≡ 101000000
+all_of_it : cost_of (Some 0) 250000 ≡ 51000000
 all_of_it = refl
 
-nothing : cost_of (Some 100000000) 0 ≡ 0
+nothing : cost_of (Some 50000000) 0 ≡ 0
 nothing = refl
 
-not_counted : cost_of None 16000000 ≡ 0
+not_counted : cost_of None 10000000 ≡ 0
 not_counted = refl

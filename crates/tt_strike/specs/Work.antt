@@ -66,10 +66,10 @@ edges_limited how left chords crossings =
     work_tested how chord_limit chords >>= λ u. work_tested how (crossings_allowed left) crossings
 
 -- worked values: all work remains, some, three, and none
-all_remains : crossings_allowed (Some 100000000) ≡ 16000000
+all_remains : crossings_allowed (Some 50000000) ≡ 10000000
 all_remains = refl
 
-some_remains : crossings_allowed (Some 40000003) ≡ 10500000
+some_remains : crossings_allowed (Some 30000003) ≡ 8000000
 some_remains = refl
 
 too_little_for_one : crossings_allowed (Some 3) ≡ 500000
@@ -98,14 +98,14 @@ few_of_both : edges_limited fit.Best (Some 3) 32000000 500000 ≡ Ok tt
 unfolding edges_limited work_tested
 few_of_both = refl
 
-at_the_limit : work_tested fit.Best crossing_limit 16000000 ≡ Ok tt
+at_the_limit : work_tested fit.Best crossing_limit 10000000 ≡ Ok tt
 unfolding work_tested
 at_the_limit = refl
 
-past_the_limit : work_tested fit.Best crossing_limit 16000001 ≡ Err fault.WorkLarge
+past_the_limit : work_tested fit.Best crossing_limit 10000001 ≡ Err fault.WorkLarge
 unfolding work_tested
 past_the_limit = refl
 
-without_a_bound : work_tested fit.Fallback crossing_limit 16000001 ≡ Ok tt
+without_a_bound : work_tested fit.Fallback crossing_limit 10000001 ≡ Ok tt
 unfolding work_tested
 without_a_bound = refl
