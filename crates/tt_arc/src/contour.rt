@@ -54,7 +54,7 @@ fn push_edges(
 
 /// The number of the point after point `i`, in a closed contour of `n` points.
 #[inline(always)]
-fn number_after(n: usize, i: usize) -> usize
+pub(crate) fn number_after(n: usize, i: usize) -> usize
     requires { i < n }
     ensures exact { result ≡ number_after n i }
     ensures within { result < n }

@@ -3,6 +3,7 @@
 
 mod bounds;
 mod contour;
+mod counting;
 mod exact;
 mod joining;
 pub mod laws;
@@ -12,5 +13,6 @@ mod quadratic;
 mod rule;
 
 pub use bounds::points_box;
+pub use counting::has_chords_within;
 pub use outline::{OutlineEdges, chords, edges};
 pub use rule::ChordRule;

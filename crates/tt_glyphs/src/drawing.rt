@@ -24,7 +24,7 @@ use crate::words::{MOST_EDGES, words_by};
 use crate::written::rows_of;
 use std::alloc::AllocError;
 use tt_line::advance;
-use tt_picture::LineLimits;
+use tt_picture::{LineLimits, has_chords_within};
 use tt_scan::Sweep;
 use tt_strike::{FitterSource, is_bounded};
 
@@ -145,6 +145,17 @@ fn charge(left: &mut Option<LineLimits>, edged: &EdgedOutline) -> bool
     true
 }
 
+/// Whether an outline has more chords than are left. None of them is made. Without limits the answer is no.
+fn exceeds_chords(left: Option<LineLimits>, ruled: &RuledOutline) -> bool
+    requires { IsRuled ruled.now }
+    ensures { result ≡ true → IsPast left (chords_of ruled.now.rule ruled.now.outline) (outline_crossings ruled.now) }
+{
+    match left {
+        Some(limits) => !has_chords_within(&ruled.outline, ruled.rule, limits.chords),
+        None => false,
+    }
+}
+
 /// A glyph that is drawn by its outline; None where it has more chords or crossings than are left. Error: memory ran
 /// out.
 fn draw_ruled(
@@ -164,6 +175,9 @@ fn draw_ruled(
     ensures left { IfOk result (λ o. IfSome o (λ _. IsLeft left.old (chords_of ruled.rule ruled.outline) (outline_crossings ruled) left.new)) }
     ensures past { IfOk result (λ o. IfNone o (IsPast left.old (chords_of ruled.rule ruled.outline) (outline_crossings ruled))) }
 {
+    if exceeds_chords(*left, &ruled) {
+        return Ok(None);
+    }
     let edged = edged(source.alloc, ruled)?;
     if !charge(left, &edged) {
         return Ok(None);

@@ -1,6 +1,6 @@
 //! A glyph of a line that is fitted, before its edges are made: by its outline, or from the cache.
 
-ghost use Rattle.std.specs.Prelude.{◌≡◌, ◌<◌, ◌≤◌, Bool, [], IfOk, IfSome, OnOk, Err};
+ghost use Rattle.std.specs.Prelude.{◌≡◌, ◌<◌, ◌≤◌, nat_le, Bool, [], IfOk, IfSome, OnOk, Err};
 ghost use Rattle.tt_core.specs.Limits.{margin_limit};
 ghost use Rattle.tt_core.specs.Outcomes.{IfTold, font_fault};
 ghost use Rattle.tt_fit.specs.Fitting.{Fitter, fitted_outline, after_glyph};
@@ -11,7 +11,9 @@ ghost use Rattle.tt_picture.specs.Glyphs.{IsDrawn, pen_crossings};
 
 use crate::cache::Cache;
 use crate::glyph::Glyph;
-use crate::outlined::{MadeOutline, cost_of, counts_of, points_of, rule_by, rules_for};
+use crate::outlined::{
+    MadeOutline, cost_of, counts_of, has_chords_within, points_of, rule_by, rules_for,
+};
 use std::alloc::{AllocError, Global};
 use std::marker::Model;
 use tt_core::FontFault;
@@ -91,6 +93,17 @@ impl FittedGlyph {
         match &self.body {
             FittedBody::Outline(made) => made.outline.advance_left(),
             FittedBody::Kept(kept) => kept.advance_left,
+        }
+    }
+
+    /// Whether the glyph has at most so many chords and straight edges. None of them is made.
+    pub(crate) fn has_chords_within(&self, most: usize) -> bool
+        requires fitted { (cached : Bool) × (s : Fitter) × IsFitted cached s self.now }
+        ensures { result ≡ nat_le (body_chords self.now.body) most }
+    {
+        match &self.body {
+            FittedBody::Outline(made) => has_chords_within(&made.outline, made.rule, most),
+            FittedBody::Kept(kept) => kept.chords <= most,
         }
     }
 

@@ -56,7 +56,8 @@ pub struct LineLimits {
 }
 
 /// Some fitted glyphs in a frame, without a pen; None where they have more chords or crossings than the limits. As soon
-/// as they have more, no further edge is made. Those that may be and are small enough are cached. Error: Memory.
+/// as they have more, no further edge is made, and a glyph with too many chords has no edge made. Those that may be and
+/// are small enough are cached. Error: Memory.
 pub(crate) fn drawn_glyphs(
     alloc: Global,
     fitted: Vec<FittedGlyph>,
@@ -80,9 +81,12 @@ pub(crate) fn drawn_glyphs(
     let mut left = limits;
     let mut made = Vec::with_capacity(alloc, fitted.len())?;
     for one in fitted {
+        if !one.has_chords_within(left.chords) {
+            return Ok(None);
+        }
         let glyph = one.into_glyph(alloc, frame, room, cache, left.crossings)?;
         let crossings = glyph.pen_crossings();
-        if glyph.chords > left.chords || crossings > left.crossings {
+        if crossings > left.crossings {
             return Ok(None);
         }
         left.chords -= glyph.chords;

@@ -51,7 +51,7 @@ pub use glyph::Glyph;
 pub use glyphs::{Glyphs, line_glyphs};
 pub use ink_box::{InkBox, ink_at, joined};
 pub use inks::glyph_inks;
-pub use outlined::{edges_of, rule_by, rules_for};
+pub use outlined::{edges_of, has_chords_within, rule_by, rules_for};
 pub use picture::Picture;
 pub use report::{Report, Unfitted, report_on};
 pub use rows::{add_dropouts, add_glyphs, most_edges};

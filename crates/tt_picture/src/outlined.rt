@@ -1,6 +1,6 @@
 //! The outline of a glyph that is made, before its edges are.
 
-ghost use Rattle.std.specs.Prelude.{◌≡◌, ◌⊎◌, ◌<◌, ◌≤◌, ◌^◌, false, [], length, IfOk, IfSome, OnOk, None, Some, Err, ℕ, Bool};
+ghost use Rattle.std.specs.Prelude.{◌≡◌, ◌⊎◌, ◌<◌, ◌≤◌, ◌^◌, false, nat_le, [], length, IfOk, IfSome, OnOk, None, Some, Err, ℕ, Bool};
 ghost use Rattle.tt_core.specs.Limits.{margin_limit};
 ghost use Rattle.tt_core.specs.Outcomes.{IfTold, font_fault};
 ghost use Rattle.tt_fit.specs.Counting.{points_asked};
@@ -191,6 +191,15 @@ pub fn rules_for(outline: &Outline, rules: Option<DropoutRules>) -> Option<Boxed
         }),
         None => None,
     }
+}
+
+/// Whether an outline has at most so many chords and straight edges. None of them is made.
+pub fn has_chords_within(outline: &Outline, rule: ChordRule, most: usize) -> bool
+    requires outline { IsOutline (outline_of outline.now) }
+    ensures { result ≡ nat_le (chords_of rule (outline_of outline.now)) most }
+{
+    let origin = outline.phantom[0].0;
+    tt_arc::has_chords_within(outline, rule, -i64::from(origin), 0, most)
 }
 
 /// The edges of an outline whose first phantom point is at the left end of the line. The ends of its contours are told
