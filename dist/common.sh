@@ -39,7 +39,7 @@ is_made_of() {
 # CFLAGS where they are given; as $machine the folder of the processor that it compiles for; and as ${link[@]} the flag
 # for a program that is static or dynamic. Without a word the program is static, if the C library has the files.
 find_compiler() {
-  local target tool way tried
+  local target tool way tried said
   read -ra cc <<<"${CC:-cc}"
   read -ra flags <<<"${CFLAGS--O2}"
   command -v "${cc[0]}" >/dev/null ||
@@ -60,9 +60,9 @@ find_compiler() {
     link=()
     [ "$way" = dynamic ] || link=(-static)
     tried=("${cc[@]}" "${flags[@]}" "${link[@]}")
-    ! "${tried[@]}" -o "$1/tried" "$1/tried.c" 2>/dev/null || return 0
+    ! said=$("${tried[@]}" -o "$1/tried" "$1/tried.c" 2>&1) || return 0
   done
-  stop "${tried[*]} makes no program here: an assembler, a linker or the C library's files lack"
+  stop "${tried[*]} makes no program here: an assembler, a linker or the C library's files lack${said:+$'\n'$said}"
 }
 
 # fits_text ROOM: whether the compiler, with its flags, compiles for what the texts are for. Its own name of its target
@@ -95,12 +95,16 @@ text_of() {
   gzip -dc <"$dist/$machine/$1.s.gz" >"$2"
 }
 
-# compile WORD..: calls the C compiler. One line is shown of a compiler that fails, which may complain of each line.
+# compile WORD..: calls the C compiler. Of one that fails a line is shown, as it may complain of each line of a text, but
+# of a linker its first lines, which name what lacks.
 compile() {
   local said line
-  if said=$("${cc[@]}" "${flags[@]}" "$@" 2>&1); then
+  if said=$(LC_ALL=C "${cc[@]}" "${flags[@]}" "$@" 2>&1); then
     [ -z "$said" ] || printf '%s\n' "$said" >&2
     return
+  fi
+  if [[ $said == *'ld returned'* || $said == *'linker command failed'* ]]; then
+    stop "${cc[*]} ${flags[*]} does not link:"$'\n'"$(head -n 20 <<<"$said")"
   fi
   while read -r line && [[ ${line,,} != *error* ]]; do :; done <<<"$said"
   stop "${cc[*]} ${flags[*]} failed: ${line:-${said%%$'\n'*}}"

@@ -22,7 +22,7 @@
  *   - No call comes from a signal handler, or from the forked child of a process with threads.
  *
  * No struct has a size field or a version. So a struct, tt_job too, changes only with a new number in the name of the
- * shared library, libtt_render.so.0; then a caller has to be compiled anew.
+ * shared library, libtt_render.so.1; then a caller has to be compiled anew.
  *
  * A font file is read strictly or widely. Strictly the file has one font, whose cmap has format 4 or 12. Widely the
  * file may be a collection of faces, and more formats and kinds of cmap are read: formats 0, 6, 10 and 13, symbol
@@ -72,8 +72,8 @@ extern "C" {
 #endif
 
 /* The version of this header, as a text, and as 10,000 times its first part, 100 times the second, and the third. */
-#define TT_RENDER_VERSION_TEXT "0.1.0"
-#define TT_RENDER_VERSION 100
+#define TT_RENDER_VERSION_TEXT "0.2.0"
+#define TT_RENDER_VERSION 200
 
 /* The status of an answer. Up to 5 these are the program's exit statuses; 4, a failed write, does not occur here. */
 enum {

@@ -76,18 +76,41 @@ def differences(binding, wanted, got):
     return found + [f"{binding}: {it} has {got[it]}, and not {wanted.get(it)}" for it in other]
 
 
+# Where the version stands beside the header: as a text, its first two parts, and as a number.
+VERSIONS = {"bindings/python/pyproject.toml": r'^version = "(.*)"', "bindings/rust/Cargo.toml": r'^version = "(.*)"',
+            "bindings/rust/Cargo.lock": r'^name = "tt_render"\nversion = "(.*)"', "tt_render.1": r'"tt_render (.*?)"',
+            "crates/tt_program/src/command.rt": r'\.version\("(.*)"\)', "SECURITY.md": r"^Version (\S+) ",
+            "CHANGELOG.md": r"^## (\d.*) - \d{4}-\d\d-\d\d$"}
+SHORT = {"docs/C_LIBRARY.md": r"find_package\(tt_render (\S+)"}
+NUMBERS = {"include/tt_render.h": r"#define TT_RENDER_VERSION (\d+)",
+           "crates/tt_c/src/lib.rt": r"fn tt_version\(\) -> u32\s+ensures \{ result ≡ (\d+)"}
+# Where the name of the shared library stands.
+SONAMES = ("dist/install", "include/tt_render.h", "docs/C_LIBRARY.md", "bindings/python/backend.py",
+           "bindings/python/tt_render/_library.py", "tests/package/run")
+
+
+def read(path):
+    """Returns the text of a file of the repository."""
+    return (ROOT / path).read_text(encoding="utf-8")
+
+
+def others(places, wanted):
+    """Returns the places that have another version."""
+    found = {it: re.search(pattern, read(it), re.M) for it, pattern in places.items()}
+    return [f"versions: {it} has {got and got[1]}, and not {wanted}" for it, got in found.items()
+            if not got or got[1] != wanted]
+
+
 def versions():
-    """Returns the versions that are not that of the header."""
+    """Returns the places whose version is not that of the header, or whose soname is not that of the installation."""
     text = re.search(r'#define TT_RENDER_VERSION_TEXT "(.*)"', HEADER)[1]
     first, second, third = map(int, text.split("."))
-    number = re.search(r"#define TT_RENDER_VERSION (\d+)", HEADER)[1]
-    places = {"bindings/python/pyproject.toml": r'^version = "(.*)"', "bindings/rust/Cargo.toml": r'^version = "(.*)"',
-              "bindings/rust/Cargo.lock": r'^name = "tt_render"\nversion = "(.*)"', "tt_render.1": r'"tt_render (.*?)"'}
-    found = {it: re.search(pattern, (ROOT / it).read_text(encoding="utf-8"), re.M)[1] for it, pattern in places.items()}
-    wrong = [f"versions: {it} has {got}, and not {text}" for it, got in found.items() if got != text]
-    if int(number) != 10000 * first + 100 * second + third:
-        wrong.append(f"versions: TT_RENDER_VERSION is {number}")
-    return wrong
+    soname = re.search(r"^readonly SONAME=(.*)", read("dist/install"), re.M)[1]
+    named = {it: set(re.findall(r"libtt_render\.so\.\d+", read(it))) for it in SONAMES}
+    wrong = others(VERSIONS, text) + others(SHORT, f"{first}.{second}")
+    wrong += others(NUMBERS, str(10000 * first + 100 * second + third))
+    other = {it: got for it, got in named.items() if got != {soname}}
+    return wrong + [f"soname: {it} has {' '.join(got)}, and not {soname}" for it, got in other.items()]
 
 
 structs = structs_of_header()

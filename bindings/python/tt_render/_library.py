@@ -7,7 +7,7 @@ from ctypes import c_char, c_size_t
 from ctypes import c_int32 as i32, c_int64 as i64, c_uint32 as u32, c_uint64 as u64
 from typing import Any, Container, NamedTuple, Optional
 
-_LIBRARY = ctypes.CDLL(str(pathlib.Path(__file__).with_name("libtt_render.so.0")))
+_LIBRARY = ctypes.CDLL(str(pathlib.Path(__file__).with_name("libtt_render.so.1")))
 DONE, ROOM, _MESSAGE_BYTES = 0, 7, 90
 # A box of pixels; all four sides are included.
 Box = NamedTuple("Box", [("left", int), ("top", int), ("right", int), ("bottom", int)])

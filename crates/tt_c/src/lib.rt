@@ -23,9 +23,9 @@ use tt_c_calls::{
 /// and the third.
 #[unsafe(no_mangle)]
 pub extern "C" fn tt_version() -> u32
-    ensures { result ≡ 100 }
+    ensures { result ≡ 200 }
 {
-    100
+    200
 }
 
 /// `tt_c_calls::faces`.

@@ -53,7 +53,7 @@ fn program<'a>(alloc: Global) -> Result<Command<'a>, AllocError> {
     Command::new(alloc, "tt_render")
         .bin_name("tt_render")?
         .about("Draws lines of text from a TrueType font")
-        .version("0.1.0")
+        .version("0.2.0")
         .subcommand_required(true)
         .subcommand(label_command(alloc)?)?
         .subcommand(draw_command(alloc)?)?
