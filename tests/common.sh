@@ -37,6 +37,15 @@ test_program() {
   fi
 }
 
+# until_so WORD..: waits until a command succeeds, a minute at most. What comes then is for the case to judge.
+until_so() {
+  local tries
+  for ((tries = 0; tries < 1200; tries++)); do
+    ! "$@" || return 0
+    sleep 0.05
+  done
+}
+
 # skip NAME REASON..: says that a part was not tried, and why. tests/run prints such lines again at its end.
 skip() {
   echo "skipped $1: ${*:2}"
