@@ -51,6 +51,11 @@ skip() {
   echo "skipped $1: ${*:2}"
 }
 
+# no_font NAME FONT: says that a part was not tried, as its font is not here.
+no_font() {
+  skip "$1" "$2 is not here; tests/real_fonts/install installs it"
+}
+
 # Leaves the one that prints what the libraries say, or that of TT_ANSWERS=PATH, as $program.
 answers_program() {
   test_program tt_test_answers "${TT_ANSWERS:-}" machine
@@ -169,7 +174,7 @@ spaced() {
 # is_made_of NAME TABLE FONT: whether a table was made from this file of a font; else the case failed.
 is_made_of() {
   if [ ! -e "$3" ]; then
-    verdict "$1" "$3 is not there; tests/real_fonts/run installs it"
+    verdict "$1" "$3 is not here; tests/real_fonts/install installs it"
     return 1
   fi
   if ! grep -q "MD5 $(md5sum <"$3" | cut -d ' ' -f 1)" "$2"; then
