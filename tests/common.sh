@@ -37,9 +37,23 @@ test_program() {
   fi
 }
 
+# until_so WORD..: waits until a command succeeds, a minute at most. What comes then is for the case to judge.
+until_so() {
+  local tries
+  for ((tries = 0; tries < 1200; tries++)); do
+    ! "$@" || return 0
+    sleep 0.05
+  done
+}
+
 # skip NAME REASON..: says that a part was not tried, and why. tests/run prints such lines again at its end.
 skip() {
   echo "skipped $1: ${*:2}"
+}
+
+# no_font NAME FONT: says that a part was not tried, as its font is not here.
+no_font() {
+  skip "$1" "$2 is not here; tests/real_fonts/install installs it"
 }
 
 # Leaves the one that prints what the libraries say, or that of TT_ANSWERS=PATH, as $program.
@@ -160,7 +174,7 @@ spaced() {
 # is_made_of NAME TABLE FONT: whether a table was made from this file of a font; else the case failed.
 is_made_of() {
   if [ ! -e "$3" ]; then
-    verdict "$1" "$3 is not there; tests/real_fonts/run installs it"
+    verdict "$1" "$3 is not here; tests/real_fonts/install installs it"
     return 1
   fi
   if ! grep -q "MD5 $(md5sum <"$3" | cut -d ' ' -f 1)" "$2"; then

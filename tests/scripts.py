@@ -10,14 +10,15 @@ from concurrent.futures import ThreadPoolExecutor, as_completed
 TESTS = pathlib.Path(__file__).resolve().parent
 ROOT = TESTS.parent
 
-# This script installs the fonts that others draw, so it runs before them.
-FIRST = "real_fonts"
-
 # Scripts by their seconds on a quiet core: the longest begins first, so that none is left over at the end. A script
 # that is not in the list comes behind these.
 LONGEST_FIRST = """fuzz characters lines c work launcher damaged faces glyph_sets label measure dist memory devices dropouts
   kerning lines_beside rows heights fallback hinted readme prove pixels command_line machine outlines glyphs real_lines best
   package wrong_bodies""".split()
+
+# Scripts that draw fonts of Debian throughout: each is skipped where one of those that FONTS names is not here.
+OF_FONTS = "best c dropouts fallback fuzz glyphs hinted lines_beside measure outlines".split()
+FONTS = TESTS / "real_fonts/install"
 
 # The program for tests: the variable that names another, and its crate.
 VARIABLE, CRATE = "TT_ANSWERS", "tt_test_answers"
@@ -45,9 +46,9 @@ def path_of(name):
 
 
 def all_names():
-    """Returns the names of all scripts, the first one first and then the longest."""
+    """Returns the names of all scripts, the longest first."""
     there = {it.parent.name for it in TESTS.glob("*/run")}
-    listed = [it for it in (FIRST, *LONGEST_FIRST) if it in there]
+    listed = [it for it in LONGEST_FIRST if it in there]
     return [*listed, *sorted(there - set(listed))]
 
 
@@ -74,11 +75,23 @@ def program_for_tests():
     return str(built), ""
 
 
-def lacks(name, why):
+def missing_fonts():
+    """Returns that fonts are not here that the scripts OF_FONTS draw, or nothing."""
+    listed = subprocess.run([FONTS, "--missing"], stdin=subprocess.DEVNULL, stdout=subprocess.PIPE, text=True)
+    fonts = listed.stdout.split()
+    if listed.returncode or not fonts:
+        return "" if not listed.returncode else f"{FONTS} failed"
+    more = f" and {len(fonts) - 1} more" if len(fonts) > 1 else ""
+    return f"{fonts[0]}{more} not here; {FONTS.relative_to(ROOT)} installs fonts"
+
+
+def lacks(name, why, fonts):
     """Returns why a script cannot run here, or nothing. One with a line `asks=answers` needs the program for tests,
-    which is not here for the reason `why`, unless that is empty."""
+    which is not here for the reason `why`, unless that is empty; one that draws fonts lacks those of `fonts`."""
     if why and re.search(r"^asks=answers$", path_of(name).read_text(encoding="utf-8"), re.M):
         return why
+    if fonts and name in OF_FONTS:
+        return fonts
     if name == "dist" and not (shutil.which("git") and (ROOT / ".git").exists()):
         return "git is not on the PATH, or this is no clone"
     return ""
@@ -105,8 +118,6 @@ def run_one(name):
 
 def run_all(names, jobs):
     """Runs scripts, as many side by side as there are jobs, and yields the result of each as it ends."""
-    if FIRST in names:
-        yield run_one(FIRST)
     with ThreadPoolExecutor(max(jobs, 1)) as pool:
-        for ended in as_completed([pool.submit(run_one, it) for it in names if it != FIRST]):
+        for ended in as_completed([pool.submit(run_one, it) for it in names]):
             yield ended.result()

@@ -144,8 +144,11 @@ def fonttools():
 def ask_real(program, room):
     for path, sum, glyphs in fonttools():
         font = pathlib.Path(path)
-        if not font.exists() or hashlib.md5(font.read_bytes()).hexdigest() != sum:
-            print(0, 1, f"{path} is not there, or not the version of fonttools.txt; tests/real_fonts/run installs it")
+        if not font.exists():
+            print(f"skipped real: {path} is not here; tests/real_fonts/install installs it")
+            continue
+        if hashlib.md5(font.read_bytes()).hexdigest() != sum:
+            print(0, 1, f"{path} is not the version of fonttools.txt")
             continue
         known = Characters(font.read_bytes())
         characters = all_planes(known)

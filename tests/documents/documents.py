@@ -39,6 +39,7 @@ def reports(documents):
     """Tries names, counts and limits that documents report."""
     files = markdown.tracked()
     sources = [it for it in files if re.fullmatch(r"crates/(?!tt_test_)\w+/src/.*\.rt", it)]
+    common.verdict("words for numbers", facts.numbers())
     common.verdict("types in the glossary", facts.unexplained(sources))
     common.verdict("crates", facts.map_of_crates(files))
     common.verdict("calls of the header", facts.calls_of_header())

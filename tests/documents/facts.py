@@ -3,7 +3,11 @@ import re
 
 import markdown
 
-NUMBERS = "zero one two three four five six seven eight nine ten eleven twelve thirteen fourteen fifteen".split()
+BELOW_TWENTY = """zero one two three four five six seven eight nine ten eleven twelve thirteen fourteen fifteen sixteen
+  seventeen eighteen nineteen""".split()
+TENS = "twenty thirty forty fifty sixty seventy eighty ninety".split()
+# The words for the numbers below a hundred, in order.
+NUMBERS = BELOW_TWENTY + [f"{ten}-{it}" if it != "zero" else ten for ten in TENS for it in BELOW_TWENTY[:10]]
 
 # A document, a pattern of what it says with the number in parentheses, and the limit of tt_core that the number is.
 LIMITS = (
@@ -20,11 +24,23 @@ LIMITS = (
 
 
 def number(text):
-    """Returns the number that digits with commas, a number of MiB or an English word says."""
+    """Returns the number that digits with commas, a number of MiB or an English word says, or None."""
     text = text.strip().lower()
-    if text.endswith("mib"):
+    if re.fullmatch(r"\d+ mib", text):
         return int(text.split()[0]) << 20
-    return NUMBERS.index(text) if text in NUMBERS else int(text.replace(",", ""))
+    if re.fullmatch(r"[\d,]*\d", text):
+        return int(text.replace(",", ""))
+    return NUMBERS.index(text) if text in NUMBERS else None
+
+
+def numbers():
+    """Returns the texts that are read as another number than the one that they say."""
+    told = {
+        "zero": 0, "Fifteen": 15, "sixteen": 16, "nineteen": 19, "twenty": 20, "twenty-one": 21, "forty-six": 46,
+        "ninety": 90, "ninety-nine": 99, "100": 100, "16,384": 16_384, "64 MiB": 67_108_864, "many": None, ",": None,
+        "hundred": None, "twenty-zero": None, "": None,
+    }
+    return [f"{it!r} is read as {number(it)}, and not {wanted}" for it, wanted in told.items() if number(it) != wanted]
 
 
 def flat(path):
@@ -89,7 +105,7 @@ def map_of_crates(files):
     """Returns what is wrong with the crates that ARCHITECTURE counts and names."""
     crates, faults = crates_of(files)
     named = set(markdown.spans(markdown.read("docs/ARCHITECTURE.md")))
-    faults += says("docs/ARCHITECTURE.md", r"product is (\w+) crates", len(crates))
+    faults += says("docs/ARCHITECTURE.md", r"product is ([\w-]+) crates", len(crates))
     return faults + [f"docs/ARCHITECTURE.md does not name {it}" for it in sorted(crates - named)]
 
 
@@ -97,8 +113,8 @@ def calls_of_header():
     """Returns what is wrong with the calls of the header that documents count and name."""
     calls = set(re.findall(r"^\w[\w ]*[ *](tt_\w+)\(", markdown.read("include/tt_render.h"), re.M))
     named = set(markdown.spans(markdown.read("docs/C_LIBRARY.md")))
-    faults = says("docs/C_LIBRARY.md", r"(\w+) calls and says", len(calls))
-    faults += says("CHANGELOG.md", r"in C (\w+) calls", len(calls))
+    faults = says("docs/C_LIBRARY.md", r"([\w-]+) calls and says", len(calls))
+    faults += says("CHANGELOG.md", r"in C ([\w-]+) calls", len(calls))
     return faults + [f"docs/C_LIBRARY.md does not name {it}" for it in sorted(calls - named)]
 
 

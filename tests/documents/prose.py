@@ -6,7 +6,8 @@ import statistics
 import markdown
 
 README_WORDS = 900
-ALL_WORDS = 18_000
+DOCUMENT_WORDS = 3_000
+ALL_WORDS = 20_000
 SENTENCE_WORDS = 40
 MEDIAN_WORDS = 17
 CELL_WORDS = 40
@@ -125,8 +126,10 @@ def too_many_words(documents):
     """Returns what is wrong with the number of words, counted as `wc -w` does."""
     counts = {it: len(markdown.read(it).split()) for it in documents}
     found = []
-    if counts["README.md"] > README_WORDS:
-        found.append(f"README.md has {counts['README.md']} words, and {README_WORDS} are allowed")
+    for document, count in counts.items():
+        most = README_WORDS if document == "README.md" else DOCUMENT_WORDS
+        if count > most:
+            found.append(f"{document} has {count} words, and {most} are allowed")
     if sum(counts.values()) > ALL_WORDS:
         most = ", ".join(f"{it} {count}" for it, count in sorted(counts.items(), key=lambda it: -it[1])[:8])
         found.append(f"all documents have {sum(counts.values())} words, and {ALL_WORDS} are allowed: {most}, ..")

@@ -22,6 +22,8 @@ JOBS = (
     ("freefont/FreeSans.ttf", 14, 0),
     ("open-sans/OpenSans-Regular.ttf", 11, 3),
 )
+# The font of which many lines are drawn for their memory.
+OF_MEMORY = "liberation/LiberationSans-Regular.ttf"
 FITS = "none", "full", "fallback", "best"
 LINES = 2000
 WORDS = "jolly staff Wax Öl naïve §4 {x|y} 3/4 Σ=12 ÅNGSTRÖM fjord No7 quick, brown; fox! (über) «ñ» Жук λόγος ẞ".split()
@@ -164,7 +166,7 @@ def held(words, stdin):
 
 def try_memory(fit):
     """Many lines hold no more memory than some."""
-    words = [*words_of(fit, 16, 0), "--lines", f"{FONTS}/liberation/LiberationSans-Regular.ttf"]
+    words = [*words_of(fit, 16, 0), "--lines", f"{FONTS}/{OF_MEMORY}"]
     lines = text_of(texts(7))
     some, many = held(words, lines), held(words, lines * 20)
     why = None
@@ -173,14 +175,22 @@ def try_memory(fit):
     verdict(f"{fit}: memory does not grow with the lines", why)
 
 
+def is_here(name):
+    """Returns whether a font is here, and says that its lines are not tried where it is not."""
+    found = Path(FONTS, name).is_file()
+    if not found:
+        print(f"skipped {name}: it is not here; tests/real_fonts/install installs it")
+    return found
+
+
 def main():
     with tempfile.TemporaryDirectory() as room:
         try_rows(Path(room))
     with ProcessPoolExecutor(len(os.sched_getaffinity(0))) as pool:
         for seed, (name, size, margin) in enumerate(JOBS):
-            for fit in FITS:
+            for fit in FITS if is_here(name) else ():
                 try_font(pool, name, fit, size, margin, seed)
-    for fit in "full", "best":
+    for fit in ("full", "best") if is_here(OF_MEMORY) else ():
         try_memory(fit)
     print(f"lines: {passed} passed, {failed} failed")
     return failed != 0

@@ -5,6 +5,7 @@ import re
 import shlex
 import shutil
 import struct
+import subprocess
 import sys
 from pathlib import Path
 
@@ -65,11 +66,17 @@ def of_text(room, command, text):
     return pictures(room.run(f"./tt_render draw --fit best --grow {options} {FONT} {shlex.quote(text)}").stdout)
 
 
-def install_packages(room, command):
-    """Runs apt-get as README.md does; where its lists are missing, the packages may be here all the same."""
-    ran = room.run(command)
-    packages = " ".join(it for it in command.split()[2:] if not it.startswith("-"))
-    return [] if not ran.status or not room.run(f"dpkg -s {packages}").status else ran.faults()
+def missing_packages(command):
+    """Returns the packages that a command would install."""
+    packages = [it for it in command.split()[2:] if not it.startswith("-")]
+    asked = ["dpkg-query", "-W", "-f", "${Package} ${Status}\n", "--", *packages]
+    listed = subprocess.run(asked, stdin=subprocess.DEVNULL, capture_output=True, text=True).stdout
+    return [it for it in packages if f"{it} install ok installed\n" not in listed]
+
+
+def has_packages(_, command):
+    """Nothing is installed here: a command whose packages are all here counts as run."""
+    return [] if re.fullmatch(r"apt-get install -y(?: [a-z\d.+-]+)+", command) else ["it is no installation"]
 
 
 def first_picture(room, command):
@@ -149,7 +156,7 @@ def succeeds(room, command):
 
 # The commands of README.md by a pattern, each with the function that tries it and the program that it needs.
 KINDS = (
-    (r"apt-get install", install_packages, "apt-get"),
+    (r"apt-get install", has_packages, "dpkg-query"),
     (r"\./tt_render label .*--align", one_picture, "cc"),
     (r"\./tt_render label .*>", first_picture, "cc"),
     (r"printf .*--lines", two_lines, "cc"),
@@ -167,8 +174,8 @@ def lacks(command, program):
     """Returns why a command cannot be tried here, or nothing."""
     if not shutil.which(program):
         return f"{program} is not here"
-    if program == "apt-get" and os.geteuid():
-        return "it needs root"
+    if program == "dpkg-query" and (packages := missing_packages(command)):
+        return f"{' '.join(packages)} is not installed"
     if program == "setfont":
         return "it needs a console"
     if FONTS in command and not os.path.exists(FONT):
@@ -293,6 +300,7 @@ def main():
     other_documents(room)
     examples(room)
     made_pictures(room)
+    common.verdict("nothing is installed", room.installed())
     return common.report("readme")
 
 

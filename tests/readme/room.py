@@ -9,6 +9,8 @@ import markdown
 
 # These folders are copied, since commands of documents write there.
 COPIED = ("docs", "examples")
+# Programs that install packages. In the room each of them only writes down that it was called.
+INSTALLERS = ("apt-get", "apt", "sudo")
 
 
 class Ran:
@@ -35,6 +37,12 @@ class Room:
         self.path = Path(self.made.name)
         self.home = self.path / "home"
         self.home.mkdir()
+        self.calls = self.home / "calls"
+        (self.home / "fakes").mkdir()
+        for name in INSTALLERS:
+            fake = self.home / "fakes" / name
+            fake.write_text(f'#!/bin/sh\necho "{name} $*" >>"{self.calls}"\n')
+            fake.chmod(0o755)
         for path in markdown.ROOT.iterdir():
             if path.name in COPIED:
                 shutil.copytree(path, self.path / path.name)
@@ -43,20 +51,24 @@ class Room:
         if os.environ.get("TT_RENDER"):
             (self.path / "tt_render").unlink()
             (self.path / "tt_render").symlink_to(os.environ["TT_RENDER"])
-        (self.home / "apt.conf").write_text('DPkg::Lock::Timeout "120";\nAPT::Get::Upgrade "false";\n')
 
     def run(self, command, folder="."):
         """Runs a command in bash, which ends where a part of it fails."""
-        words = {"HOME": str(self.home), "MANPAGER": "cat", "MANWIDTH": "80", "APT_CONFIG": str(self.home / "apt.conf")}
+        words = {"HOME": str(self.home), "MANPAGER": "cat", "MANWIDTH": "80"}
+        words["PATH"] = f"{self.home / 'fakes'}:{os.environ['PATH']}"
         ended = subprocess.run(
             ["bash", "-euo", "pipefail", "-c", command],
             cwd=self.path / folder,
-            env={**os.environ, "DEBIAN_FRONTEND": "noninteractive", **words},
+            env={**os.environ, **words},
             stdin=subprocess.DEVNULL,
             capture_output=True,
             timeout=300,
         )
         return Ran(command, ended)
+
+    def installed(self):
+        """Returns the calls of programs that install packages."""
+        return self.calls.read_text().splitlines() if self.calls.is_file() else []
 
     def read(self, name):
         """Returns the bytes of a file that a command wrote; none where it wrote no such file."""
