@@ -367,13 +367,13 @@ uint32_t tt_message(const struct tt_answer *told, uint8_t *text, size_t room, st
  * 65 WorkLarge comes with TT_BEST alone, for one of two counts of a line, or for the lines before it.
  *   - Points: its glyphs, each once, have more than 1,000,000. Each glyph and each component adds four, each contour
  *     one.
- *   - Crossings: its glyphs, at all their places, have more than 16,000,000, or more than the line's work allows. An
- *     edge counts five for each row that it crosses, inside the picture or outside, and one for each 2,048 rows of its
- *     glyph. Each row of the glyph counts one. Where dropouts are filled, each row or column that an edge crosses counts
- *     three more, and one for each 2,048 rows of the glyph. Each 64 bytes of a bitmap of the glyph then count one. The
- *     work allows 500,000, and one for each 4 units that points and programs leave of 100,000,000. A point takes 40
- *     units.
- *   - Lines of tt_draw_lines: those before this one took more than 20,000,000 units, and 8,000,000 for each of them. A
+ *   - Crossings: its glyphs, at all their places, have more than 10,000,000, or more than the line's work allows. An
+ *     edge counts five for each row that it crosses, inside the picture or outside, but at least seven; and one for each
+ *     2,048 rows of its glyph. Each row of the glyph counts one. Where dropouts are filled, each row or column that an
+ *     edge crosses counts three more, and one for each 2,048 rows of the glyph. Each 64 bytes of a bitmap of the glyph
+ *     then count one. The work allows 500,000, and one for each 4 units that points and programs leave of 50,000,000. A
+ *     point takes 40 units.
+ *   - Lines of tt_draw_lines: those before this one took more than 10,000,000 units, and 4,000,000 for each of them. A
  *     line takes the units of its points and programs, and 4 units for each crossing.
  */
 #define TT_REFUSALS(X) \

@@ -1,14 +1,16 @@
 """All hostile fonts by their families and names."""
-from hostile import copies, kerning, maps, mixed, opcodes, outlines, programs
+from hostile import copies, disorder, kerning, level, maps, mixed, opcodes, outlines, programs
 
 # The font whose seconds are the measure of all.
 STANDARD = "two"
 FAMILIES = {
     "programs": programs.FONTS,
+    "disorder": disorder.FONTS,
     "copies": copies.FONTS,
     "maps": maps.FONTS,
     "kerning": kerning.FONTS,
     "outlines": outlines.FONTS,
+    "level": level.FONTS,
     "mixed": mixed.FONTS,
     "beside": opcodes.BESIDE_FONTS,
     "opcodes": opcodes.FONTS,
@@ -29,6 +31,9 @@ def chosen(words):
     return list(dict.fromkeys(names))
 
 
-def is_drawn_only(name):
-    """Whether a font is of a family whose fonts are only drawn."""
-    return any(name in FAMILIES[it] for it in DRAWN_ONLY)
+def is_left_out(name, job, first):
+    """Whether a job is not run with a font: it is of a family whose fonts are only drawn, by the first job; or the job is
+    for the fonts of kerning alone.
+    """
+    drawn_only = any(name in FAMILIES[it] for it in DRAWN_ONLY)
+    return drawn_only and job != first or job == "kerned" and name not in FAMILIES["kerning"]

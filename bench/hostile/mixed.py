@@ -55,8 +55,8 @@ def two_by_ten():
 
 def quarters():
     """Ten glyphs that each spend some 28 % of the work, one a line."""
-    inner = [composite_of([12] * 8, LONG), dotted(LONG)]
-    font = small.line_font([composite_of([11] * 3, LONG)] * 10, hidden=inner, others=PLAIN)
+    inner = [composite_of([12] * 12, LONG), dotted(LONG)]
+    font = small.line_font([composite_of([11], LONG)] * 10, hidden=inner, others=PLAIN)
     text = small.line_text(10)
     return Hostile(font, text[0], lines=tuple(text))
 
@@ -86,13 +86,13 @@ PUSHES, CALLS = programs.function(pushes(255) + b"\x22"), calls(32767)
 
 
 def pushes_and_copies():
-    """Copies for each run, and programs that each spend 8 % of the work in pushes."""
+    """Copies for each run, and programs that each spend 17 % of the work in pushes."""
     return copies.copied(4096, 65535, glyph=dotted(CALLS), storage=65535, others={"fpgm": PUSHES})
 
 
 def prep_alone():
     """Most of the work is spent by prep, the rest by copies for the first glyphs."""
-    others = {"fpgm": PUSHES, "prep": CALLS * 10}
+    others = {"fpgm": PUSHES, "prep": CALLS * 5}
     return copies.copied(4096, 65535, 65535, 65535, others=others)
 
 

@@ -5,9 +5,11 @@ from counting import counted
 from hostile.parts import TEXT
 
 # What a line may have: the points of its glyphs, each once, and their crossings at all places.
-MOST_POINTS, MOST_CROSSINGS = 1_000_000, 16_000_000
+MOST_POINTS, MOST_CROSSINGS = 1_000_000, 10_000_000
 # The work of a line, what a point takes of it, what a crossing takes, and the crossings that need none.
-WORK, POINT, CROSSING, FREE = 100_000_000, 40, 4, 500_000
+WORK, POINT, CROSSING, FREE = 50_000_000, 40, 4, 500_000
+# What the lines of a call may take before one more is drawn, and what each of them adds.
+FIRST_LINE, EACH_LINE = 10_000_000, 4_000_000
 # The points that each glyph and each component adds.
 PHANTOMS = 4
 
@@ -47,3 +49,8 @@ def most_glyphs(contours, work=WORK, **sizes):
 def largest(contours_of, high, work=WORK, **sizes):
     """The contours that are made of the largest number, up to a high one, by which a line may have them once."""
     return contours_of(most(lambda it: is_allowed(*counts(contours_of(it), **sizes), work), high))
+
+
+def each_before(lines):
+    """What each line before the last of so many may take."""
+    return FIRST_LINE // (lines - 1) + EACH_LINE

@@ -19,6 +19,12 @@ JOBS = {
     "grow": (("draw", "--grow"), 0),
     "1 line": (("draw", "--lines"), 1),
     "10 lines": (("draw", "--lines"), 10),
+    "40 lines grown": (("draw", "--grow", "--lines"), 40),
+    "label": (("label",), 0),
+    "label of lines": (("label", "--align", "right"), 0),
+    "10 labels": (("label", "--lines"), 10),
+    "bdf": (("bdf",), 0),
+    "kerned": (("draw", "--kern"), 0),
 }
 # Pairs of options, in place of these.
 PAIRS = {
@@ -28,10 +34,10 @@ PAIRS = {
     "grow, 10 lines": (("draw", "--grow", "--lines"), 10),
     "measure, 10 lines": (("measure", "--lines"), 10),
     "missing, measure": (("measure", "--missing", "tell", "--margin", "64"), 0),
-    "label": (("label",), 0),
-    "label of lines": (("label", "--align", "right"), 0),
+    "label": JOBS["label"],
+    "label of lines": JOBS["label of lines"],
     "no ink": (("measure", "--no-ink"), 0),
-    "bdf": (("bdf",), 0),
+    "bdf": JOBS["bdf"],
 }
 # Kerned lines, in place of these.
 KERNED = {
@@ -73,6 +79,10 @@ class Bench:
         made = subprocess.run([sys.executable, "-B", str(ROOT / "bench" / "hostile_font"), name, str(self.font.parent)],
                               check=True, capture_output=True, text=True)
         self.size = int(made.stdout)
+
+    def font_mib(self):
+        """The MiB of the font."""
+        return self.font.stat().st_size / (1 << 20)
 
     def without_height(self):
         """Writes the font once more, with lines of no height, and returns its path."""

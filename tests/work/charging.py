@@ -4,7 +4,7 @@ from itertools import accumulate
 import small_fonts as small
 
 # The work of a line, and the steps of one run.
-WORK, STEPS = 100_000_000, 1_000_000
+WORK, STEPS = 50_000_000, 1_000_000
 # The control values of a font, and the phantom points of a glyph.
 VALUES, PHANTOMS = 65_535, 4
 # The work that each point of a line's glyphs takes before the first glyph is made; contours and phantom points count.

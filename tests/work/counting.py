@@ -1,12 +1,14 @@
 """What the edges of a glyph count among the crossings of a line, from the definitions alone: by the rows of the glyph
-and those that they cross; where dropouts are filled, also by the columns that they cross, and the glyph's box as a
-bitmap. No picture is known.
+and those that they cross, each edge with a least; where dropouts are filled, also by the columns that they cross, and
+the glyph's box as a bitmap. No picture is known.
 
 Points are (x, y, on) in 26.6 pixels; edges are pairs of ends in 1/8192 pixel.
 """
 PIXEL, HALF = 8192, 4096
 # Rows are worked in bands of this many.
 BAND_ROWS = 2048
+# What an edge counts for each row that it crosses, and at least.
+ROW, LEAST = 5, 7
 
 
 def nearest(number, divisor):
@@ -75,9 +77,10 @@ def edges_of(contour):
     return joined(edges)
 
 
-def crossed(edges, axis):
-    """How many rows (axis 1) or columns (axis 0) the edges cross."""
-    return sum(abs(line_from(end[axis]) - line_from(start[axis])) for start, end in edges)
+def crossed(edge, axis):
+    """How many rows (axis 1) or columns (axis 0) an edge crosses."""
+    start, end = edge
+    return abs(line_from(end[axis]) - line_from(start[axis]))
 
 
 def extent(places):
@@ -99,14 +102,15 @@ def bitmap_bytes(columns, rows):
 
 
 def counted(contours, filled):
-    """What a glyph counts: each edge one for each band, and five for each row that it crosses; each row of the edges' box
-    one. Where dropouts are filled, each edge three more for each row or column that it crosses, and one for each band;
-    and 64 bytes of the bitmap of the points' box one.
+    """What a glyph counts: each edge one for each band, and five for each row that it crosses, but at least seven; each
+    row of the edges' box one. Where dropouts are filled, each edge three more for each row or column that it crosses, and
+    one for each band; and 64 bytes of the bitmap of the points' box one.
     """
     edges = [it for contour in contours for it in edges_of(contour)]
     rows = extent([end[1] for edge in edges for end in edge])
-    count = bands(rows) * len(edges) + 5 * crossed(edges, 1) + rows
+    count = bands(rows) * len(edges) + sum(max(LEAST, ROW * crossed(it, 1)) for it in edges) + rows
     if filled:
         columns, rows = (extent([128 * point[axis] for it in contours for point in it]) for axis in (0, 1))
-        count += (bands(rows) + 3) * (crossed(edges, 0) + crossed(edges, 1)) + bitmap_bytes(columns, rows) // 64
+        met = sum(crossed(it, axis) for it in edges for axis in (0, 1))
+        count += (bands(rows) + 3) * met + bitmap_bytes(columns, rows) // 64
     return count

@@ -7,7 +7,7 @@ from charging import PHANTOMS, WORK, Machine, code_of, refused_at, step, work_of
 from programs import CODE, POINTS, PREP, SQUARE, SQUARE_POINTS, filling, pointed
 
 # Any two of the first three programs have enough work in one line, and the third has too little.
-PROGRAMS = [*map(filling, (50_000_000, 30_000_000, 40_000_000)), [step(0x00)]]
+PROGRAMS = [*map(filling, (25_000_000, 15_000_000, 20_000_000)), [step(0x00)]]
 COUNTS = POINTS, POINTS, POINTS, SQUARE_POINTS - PHANTOMS
 MACHINE = Machine()
 # So many cheap lines give a call enough work for a dear one.

@@ -6,7 +6,7 @@ from counting import counted
 from programs import POINTS, PREP, filler, pointed
 
 # What the lines before a line may take, by how many they are.
-FIRST, EACH = 20_000_000, 8_000_000
+FIRST, EACH = 10_000_000, 4_000_000
 # A crossing takes this much.
 CROSSING = 4
 MACHINE = Machine()

@@ -3,7 +3,7 @@ import small_fonts as small
 from asking import DRAWN, REFUSED, told
 from counting import counted
 
-POINTS, CROSSINGS = 1_000_000, 16_000_000
+POINTS, CROSSINGS = 1_000_000, 10_000_000
 # A glyph that makes up the rest of the crossings has as many points, or fewer.
 MOST_POINTS = 16_000
 
@@ -136,6 +136,15 @@ def crossings(asked):
     filled = Crossing([zigzag(0, 3996)], 250, 1000, 4, 3996, filled=True)
     assert filled.count == 800_359 + 4 * (159_840 + 80) + 94 == 1_440_133
     at_the_limit(asked, "with dropouts", filled)
+    # At 32 units of 26.6: edges along the centre line of a row, which each count one for the band, and the least of 7.
+    level = Crossing([[(200 * (it % 2), 1) for it in range(MOST_POINTS)]], 300, 600, 4, 16)
+    assert level.count == 8 * MOST_POINTS + 1 == 128_001
+    at_the_limit(asked, "16,000 level edges", level, same=True)
+    # One row takes less than that least, two take ten.
+    for rows, count in (1, 8 * MOST_POINTS + 1), (2, 11 * MOST_POINTS + 2):
+        edges = Crossing([zigzag(0, rows, MOST_POINTS)], 16, 16, 4, 16)
+        assert edges.count == count
+        at_the_limit(asked, f"16,000 edges over rows: {rows}", edges, same=True)
     for rows in 0, 2048, 2049:
         at_the_limit(asked, f"16,382 curves, {rows:,} rows", Crossing([flat(rows)], 16, 16, 4, 2050), same=True)
     banded = Crossing([flat(2049)], 16, 16, 4, 2050, filled=True)

@@ -8,13 +8,15 @@ from pathlib import Path
 sys.path.insert(0, str(Path(__file__).resolve().parent.parent / "outlines"))
 
 from asking import Asked
+from held import held
 from hostile_fonts import hostile
 from kept_glyphs import kept
 from many_lines import lines
 from programs import functions, programs, values, weights
+from remaining import remaining
 from shapes import crossings, points
 
-PARTS = programs, functions, weights, values, points, crossings, lines, kept, hostile
+PARTS = programs, functions, weights, values, points, crossings, remaining, lines, kept, held, hostile
 
 
 def main():

@@ -140,7 +140,7 @@ fn draw_by(
 ///   Where the room is too small for the line, the bytes include those of its own rows. A line stops the call if it is
 ///   refused, is not UTF-8, or ends before it begins or past the texts. It also stops the call if it needs more room
 ///   than remains, or if memory was refused for it. With `best` it is refused where the lines before it took more than
-///   20,000,000 and 8,000,000 for each of them;
+///   10,000,000 and 4,000,000 for each of them;
 /// - done, with the bytes and the number of all lines.
 pub fn draw_lines(
     alloc: Global,

@@ -204,7 +204,7 @@ fn draw_lines_by<R: Source, W: Sink, E: Sink>(
 /// line too, unless it is empty. Nothing of a refused line is written, and later lines are not drawn. After a line's
 /// product its report is printed on `error`: a line for each glyph that could not be fitted. With `Missing::Tell` a
 /// line for each character without a glyph follows. A failure of `error` does not stop the drawing. With `Fit::Best`
-/// the lines share a budget: a line is drawn only if those before it took at most 20,000,000 and 8,000,000 for each of
+/// the lines share a budget: a line is drawn only if those before it took at most 10,000,000 and 4,000,000 for each of
 /// them. Returns the bytes of the glyphs that are cached at the end, which are at most the setting's `most`.
 ///
 /// Errors, the first of: Job (SizeRange, MarginRange), before the font is read; FontRead, FontLarge; Font, of the
