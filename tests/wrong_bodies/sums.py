@@ -7,6 +7,7 @@ import fcntl
 import functools
 import hashlib
 import os
+import re
 import shutil
 import subprocess
 
@@ -54,21 +55,47 @@ def texts_of(folder, part):
     return [(str(path.relative_to(folder)), bare_lines(path)) for path in paths]
 
 
+# The files in which tt_core defines the limits of the project, and the names that a line there defines.
+LIMITS = ("src/limits.rt", "specs/Limits.antt")
+LIMIT = re.compile(r"(?:pub const (\w+): |abbrev pub (\w+) : |(\w+) = \d)")
+
+
+def words_in(lines):
+    """Returns the words of some lines, but not of a `pub use limits::` and its names: that hands a name on, and no more."""
+    words, is_handing = set(), False
+    for line in lines:
+        is_handing = is_handing or line.startswith("pub use limits::")
+        if not is_handing:
+            words.update(re.findall(r"\w+", line))
+        is_handing = is_handing and not line.endswith(";")
+    return words
+
+
 @functools.lru_cache(maxsize=None)
-def public_sum(folder):
-    """Returns a sum of what a check of another crate reads of a crate: its contracts, types and definitions.
+def public_parts(folder):
+    """Returns what a check of another crate reads of a crate: a sum of its contracts, types and definitions, their words,
+    and the limits, which are apart: by the name of each its lines.
 
     A check reads no body of a function below and no proof, so neither is taken. A changed body below makes no verdict
     stale: the contract is what the crates above were judged by.
     """
-    lines = [(path, without_bodies(lines)) for path, lines in texts_of(folder, "src")]
-    return hashlib.sha256(repr([lines, texts_of(folder, "specs")]).encode()).hexdigest()
+    texts = [(path, without_bodies(lines)) for path, lines in texts_of(folder, "src")] + texts_of(folder, "specs")
+    limits, rest, words = {}, [], set()
+    for path, lines in texts:
+        names = [LIMIT.match(line) if path in LIMITS else None for line in lines]
+        for line, name in zip(lines, names):
+            if name:
+                limits.setdefault(name[1] or name[2] or name[3], []).append(line)
+        others = [line for line, name in zip(lines, names) if not name]
+        rest.append((path, others))
+        words |= words_in(others)
+    return hashlib.sha256(repr(rest).encode()).hexdigest(), words, limits
 
 
 def forget():
     """Forgets the texts that were read, so that a later sum is of what is there then."""
     texts_of.cache_clear()
-    public_sum.cache_clear()
+    public_parts.cache_clear()
 
 
 def edit_lines(path):
@@ -81,12 +108,17 @@ def sum_of(root, name, toolchain):
     """Returns the sum of what the verdicts on a crate rest on.
 
     It is taken over the toolchain, the crate's line of crates.txt, its texts, its edits by their names in whichever
-    folder they are, and of each crate below its line and what public_sum takes.
+    folder they are, and of each crate below its line and what public_parts takes. A limit counts where the crate or one
+    below names it: no check of another crate can depend on its value.
     """
     crates = crates_of(root)
     own = [texts_of(root / "crates" / name, part) for part in ("src", "specs", "proofs")]
     edits = sorted((path.name, edit_lines(path)) for path in edits_of(root, name))
-    under = [(crates[it][0], public_sum(root / "crates" / it)) for it in below(crates, name)]
+    parts = [(crates[it][0], *public_parts(root / "crates" / it)) for it in below(crates, name)]
+    named = words_in([line for part in own for _, lines in part for line in lines])
+    named |= words_in([line for _, lines in edits for line in lines])
+    named = named.union(*(words for _, _, words, _ in parts))
+    under = [(line, rest, sorted(it for it in limits.items() if it[0] in named)) for line, rest, _, limits in parts]
     return hashlib.sha256(repr([toolchain, crates[name][0], own, edits, under]).encode()).hexdigest()
 
 

@@ -57,6 +57,7 @@ fn contour_chords(points: &[(i32, i32, bool)], by: Offset, rule: ChordRule) -> u
     requires near { All (IsNear by.dx by.dy) points.now }
     requires few { length points.now < 2 ^ 32 }
     ensures exact { result ≡ length (contour_chords rule (map (moved by.dx by.dy) points.now)) }
+    ensures few { result ≤ 32 * length points.now }
 {
     if points.len() < 2 {
         return 0;

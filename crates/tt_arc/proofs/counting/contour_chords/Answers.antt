@@ -1,4 +1,4 @@
-use Rattle.std.proofs.Common.{◌≡◌, ◌+◌, ◌*◌, ◌++◌, length, map, ap, arith, length-append}
+use Rattle.std.proofs.Common.{◌≡◌, ◌+◌, ◌++◌, length, map, ap, arith, length-append}
 use Rattle.std.proofs.lemmas.List.{length-map}
 use Rattle.tt_arc.specs.Chords.{edges_of, moved}
 use Rattle.tt_arc.proofs.Walks.{all_onward, edges_onward, none_onward, one_point_first}
@@ -13,6 +13,7 @@ loop-i-init c =
     record {
       counted = omega (arith, ap (λ es. length es) all);
       few = omega arith;
+      within = omega arith;
     }
 
 pub loop-i-preserved : goal.loop-i-preserved
@@ -33,13 +34,17 @@ loop-i-preserved c =
     let many = length-append here (edges_onward r (map f ps) (i + 1)) in
     let counted = rw first at inv.counted in
     record {
-      counted = omega (arith, c.corner_chords.ensures.exact, counted, many);
-      few = omega (arith, c.corner_chords.ensures.few, inv.few);
+      counted = omega (arith, c.corner_chords-count.ensures.exact, counted, many);
+      few = omega (arith, c.corner_chords-count.ensures.few, inv.few);
+      within = omega (arith, below);
     }
 
-pub returns : goal.returns
-returns c =
+pub returns-clause-exact : goal.returns-clause-exact
+returns-clause-exact c =
     let ps = map (moved c.args.by.dx c.args.by.dy) c.args.points.now in
     let long = length-map c.args.points.now (moved c.args.by.dx c.args.by.dy) in
     let was = rw (none_onward c.args.rule ps c.loop-i.i (omega (arith, long, c.loop-i-test.false))) at c.loop-i.invariant.counted in
     omega (arith, was)
+
+pub returns-clause-few : goal.returns-clause-few
+returns-clause-few c = omega (arith, c.loop-i.invariant.few, c.loop-i.invariant.within)

@@ -9,4 +9,5 @@ invariant-loop-i l = record {
   counted : l.count + length (edges_onward l.rule (map (moved l.by.dx l.by.dy) l.points) l.i)
       ≡ length (contour_chords l.rule (map (moved l.by.dx l.by.dy) l.points));
   few : l.count ≤ 32 * l.i;
+  within : l.i ≤ length l.points;
 }

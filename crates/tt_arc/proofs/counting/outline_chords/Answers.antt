@@ -14,18 +14,27 @@ slice_bounds-contour_chords-count c =
 pub slice_bounds-contour_chords-start : goal.slice_bounds-contour_chords-start
 slice_bounds-contour_chords-start c = slice_bounds-contour_chords-count c
 
-pub contour_chords-requires-clause-near : goal.contour_chords-requires-clause-near
-contour_chords-requires-clause-near c =
+pub contour_chords-count-requires-clause-near : goal.contour_chords-count-requires-clause-near
+contour_chords-count-requires-clause-near c =
     all_of_slice (IsNear c.args.by.dx c.args.by.dy) c.args.points.now c.loop-end.from
     (slice_index c.args.ends.now c.loop-end.end-index) c.requires.near
 
-pub contour_chords-requires-clause-few : goal.contour_chords-requires-clause-few
-contour_chords-requires-clause-few c =
+pub contour_chords-count-requires-clause-few : goal.contour_chords-count-requires-clause-few
+contour_chords-count-requires-clause-few c =
     let from = c.loop-end.from in
     let to = slice_index c.args.ends.now c.loop-end.end-index in
     let small : Fits w32 to = search rules in
     let short = length-take (to - from) (drop from c.args.points.now) in
     omega (arith, small, short)
+
+pub overflow_add-count : goal.overflow_add-count
+overflow_add-count c =
+    let from = c.loop-end.from in
+    let to = slice_index c.args.ends.now c.loop-end.end-index in
+    let inv = c.loop-end.invariant in
+    let small : Fits w32 to = search rules in
+    let short = length-take (to - from) (drop from c.args.points.now) in
+    omega (arith, small, short, inv.few, inv.small, c.contour_chords-count.ensures.few)
 
 pub loop-end-init : goal.loop-end-init
 loop-end-init c =
@@ -46,7 +55,7 @@ loop-end-preserved c =
     let ends = c.args.ends.now in
     let to = slice_index ends i in
     let below = c.loop-end-test.true in
-    let counted = c.contour_chords.ensures in
+    let counted = c.contour_chords-count.ensures.exact in
     let order : c.loop-end.from ≤ to = rw inv.from (start_within (length points) ends c.requires.ends i below) in
     let small : Fits w32 to = search rules in
     record {
