@@ -77,7 +77,7 @@ def program_for_tests():
 
 def missing_fonts():
     """Returns that fonts are not here that the scripts OF_FONTS draw, or nothing."""
-    listed = subprocess.run([FONTS, "--missing"], stdin=subprocess.DEVNULL, stdout=subprocess.PIPE, text=True)
+    listed = subprocess.run([FONTS, "--lacking"], stdin=subprocess.DEVNULL, stdout=subprocess.PIPE, text=True)
     fonts = listed.stdout.split()
     if listed.returncode or not fonts:
         return "" if not listed.returncode else f"{FONTS} failed"

@@ -15,10 +15,16 @@ EXAMPLES = {
     "An opcode on points": (r"\b(SHPIX|Shpix|shpix)\b|shpix_",),
     # The greatest bend of a curve, in 1/128 pixel, is the same number.
     "The value of a limit": (r"67[,_]?108[,_]?864", "crates/tt_arc/specs/Examples.antt"),
-    "A format of cmap": (r"[Ff]ormat ?12|format12",),
+    # The last words are where formats that are not read are listed.
+    "A format of cmap": (r"[Ff]ormat ?12|format12|format 4 or 12|format \{number\} is passed over",),
     "A member of `Fit`": (r'Fit::Best|\bBest\b|TT_BEST|"best"|fit best|FITS',),
-    "A refusal of a font": (r"ScaledOffset|scaled_offset",),
+    "A refusal of a font": (r"ScaledOffset|scaled_offset|\bis_limit\b|\bPLACES_OF_FACE\b",),
     "An option of the command": (r'--missing|"missing"|MISSING_WORDS|Missing::|enum Missing|\\-missing',),
+    "An option that changes pixels": (
+        r"--height\b|\\-height\b|\bHeights::|\bheights\.(Exact|Rounded)\b|\bLineRules\b|\bheights_asked\b"
+        r"|\brounded(: bool|: u32|=u32|=bool)|uint32_t rounded"
+        r"|\bkerned_step\b|\bkerning_at\b",
+    ),
     "A call of the C library": (r"tt_characters|CCharacter",),
     # These only draw pictures so.
     "A product": (r"grown_line|grown_outcome|-grow\b", "tests/dist", "tests/package", "bindings"),
@@ -27,9 +33,12 @@ EXAMPLES = {
     "A test": (r"tests/measure|measure/run|LONGEST_FIRST",),
 }
 
+# What each recipe names: each change may break a promise, and is noticed.
+OF_EACH = "wrong_bodies/", "CHANGELOG.md"
+
 # Where nobody writes by hand, where documents are, and the scripts that try the documents.
 APART = (
-    *("docs", "*.md", "dist", "drafts", "wrong_bodies", "crates/*/must-fail"),
+    *("docs", "*.md", "dist", "drafts", "wrong_bodies", "crates/*/must-fail/*"),
     *("tests/*.txt", "tests/documents", "tests/readme", "tests/recipes"),
 )
 # Of the tables of tests, those that are written by hand.
@@ -97,6 +106,7 @@ def main():
     of_heading = recipes()
     for heading, paths in of_heading.items():
         common.verdict(f"paths of: {heading}", missing(paths))
+        common.verdict(f"of each recipe: {heading}", [f"it lacks {it}" for it in OF_EACH if it not in paths])
         example = next((EXAMPLES[it] for it in EXAMPLES if heading.startswith(it)), None)
         faults = unnamed(paths, example) if example else ["no example is in this script"]
         common.verdict(f"files of: {heading}", faults)
