@@ -129,7 +129,7 @@ by_it_every_glyph_is_unfitted = refl
 
 -- with best: an opcode that nothing defines, whose step counts as work of 2
 with_best_every_glyph_is_unfitted : prepared its_metrics (record its_programs { fpgm = 0xA0 ∷ [] }) 16 fit.Best ≡ Ok
-    (record { hinting = off; fallback = everywhere (fault_at (codes "fpgm") 0 why.BadOpcode); work = Some 99999998 })
+    (record { hinting = off; fallback = everywhere (fault_at (codes "fpgm") 0 why.BadOpcode); work = Some 49999998 })
 unfolding prepared left_by_programs run_of run_outcome run_within programs_work run_work work_within slowness
 with_best_every_glyph_is_unfitted = refl
 
