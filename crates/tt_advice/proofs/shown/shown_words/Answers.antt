@@ -1,4 +1,4 @@
-use Rattle.std.proofs.Common.{◌≡◌, ℕ, ◌<◌, ◌≤◌, List, [], ◌∷◌, String, Global, string_bytes, map, get_or, length, sym, take, arith}
+use Rattle.std.proofs.Common.{◌≡◌, ℕ, ◌<◌, ◌≤◌, List, [], ◌∷◌, String, Global, string_bytes, get_or, length, sym, take, arith}
 use Rattle.std.proofs.lemmas.List.{map-append, take_all, take_more}
 use Rattle.tt_advice.specs.Shown.{shown}
 use Rattle.tt_advice.proofs.shown.shown_words.Goals as goal
