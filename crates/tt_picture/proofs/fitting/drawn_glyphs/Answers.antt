@@ -3,13 +3,12 @@ use Rattle.std.specs.Vec.Iter.{into_iter_items}
 use Rattle.std.proofs.lemmas.List.{map-append}
 use Rattle.std.proofs.lemmas.List.Elements.{All-pop, All-push}
 use Rattle.tt_fit.specs.Fitting.{Fitter}
-use Rattle.tt_picture.specs.Fitted.{AreFitted, FittedGlyph, IsFitted, fitted_chords, fitted_crossings, fitted_numbers}
+use Rattle.tt_picture.specs.Fitted.{AreFitted, FittedGlyph, IsFitted, body_chords, fitted_chords, fitted_crossings, fitted_numbers}
 use Rattle.tt_picture.specs.Glyphs.{Glyph, IsDrawn}
 use Rattle.tt_picture.proofs.Cached.{served}
 use Rattle.tt_picture.proofs.Filled.{one_can_be_counted}
 use Rattle.tt_picture.proofs.Outlines.{one_chord_more, one_glyph_more, too_many_chords, too_many_crossings}
 use Rattle.tt_picture.proofs.Reframed.{IsBare, nothing_left, of_middle}
-use Rattle.tt_picture.proofs.fitting.drawn_glyphs.Goals.{then-glyph-left-via-else-glyph-left+then-crossings-left, then-glyph-left-via-then-glyph-left}
 use Rattle.tt_picture.proofs.fitting.drawn_glyphs.Goals as goal
 
 abbrev IsBy : Bool → (ℕ → Fitter) → FittedGlyph → Type 0
@@ -46,7 +45,11 @@ loop-one-preserved c =
     let pushed = c.in_ok-push.ensures.items in
     let steps : into_iter_items at.one-iterator ≡ g ∷ into_iter_items c.next.new.self = c.in-Some.ensures.steps.0 in
     let same : c.glyph.inside.chords ≡ h.chords = ap (λ (g : Glyph). g.chords) c.glyph.view_is in
-    let fits : (c.glyph.inside.chords ≤ at.left.chords) × (c.pen_crossings-crossings.result ≤ at.left.crossings) = omega (arith, c.if-glyph-left.false) in
+    let has = c.has_chords_within.ensures in
+    let few = c.if-not-has_chords_within.false in
+    let within : body_chords g.body ≤ at.left.chords = grind (arith, has, few) in
+    let fits : (c.glyph.inside.chords ≤ at.left.chords) × (c.pen_crossings-crossings.result ≤ at.left.crossings) =
+    (omega (arith, same, one.chords, within), omega (arith, c.if-crossings-left.false)) in
     record {
       all = append_assoc at.yielded (g ∷ []) _ ∙ rw (← steps) so_far.all;
       count = let was = so_far.count in
@@ -107,31 +110,43 @@ returns-clause-cached c =
     let all = all_drawn at.yielded _ c.args.fitted.items at.invariant.all (sym at.invariant.count ∙ c.in-None.ensures.steps.0) in
     rw (← all) at.invariant.cached
 
--- one glyph has more chords or crossings than are left
-pub returns-then-glyph-left-clause-many : goal.returns-then-glyph-left-clause-many
-returns-then-glyph-left-clause-many c =
+-- a glyph has more chords than are left
+pub returns-then-not-has_chords_within-clause-many : goal.returns-then-not-has_chords_within-clause-many
+returns-then-not-has_chords_within-clause-many c =
     let at = c.loop-one in
     let g = c.in-Some.one in
-    let h = c.in_ok-glyph.glyph in
     let rest = into_iter_items c.next.new.self in
     let steps : into_iter_items at.one-iterator ≡ g ∷ rest = c.in-Some.ensures.steps.0 in
     let all : at.yielded ++ g ∷ rest ≡ c.args.fitted.items = rw (← steps) at.invariant.all in
-    let same : c.glyph.inside.chords ≡ h.chords = ap (λ (g : Glyph). g.chords) c.glyph.view_is in
+    let has = c.has_chords_within.ensures in
+    let many = c.if-not-has_chords_within.true in
+    let over : at.left.chords < body_chords g.body = grind (arith, has, many) in
+    inl (rw (← all) (too_many_chords at.yielded rest g at.left.chords c.args.limits.chords (body_chords g.body) at.invariant.left refl over))
+
+-- the cache serves the glyph that is not made as before
+pub returns-then-not-has_chords_within-clause-cached : goal.returns-then-not-has_chords_within-clause-cached
+returns-then-not-has_chords_within-clause-cached c =
+    let at = c.loop-one in
+    served c.args.cache.now at.cache at.cache at.yielded (into_iter_items at.one-iterator)
+    (into_iter_items c.next.new.self) c.args.fitted.items c.in-Some.one at.invariant.all c.in-Some.ensures.steps.0
+    at.invariant.cached (λ cached s is before. before)
+
+-- a glyph has more crossings than are left
+pub returns-then-crossings-left-clause-many : goal.returns-then-crossings-left-clause-many
+returns-then-crossings-left-clause-many c =
+    let at = c.loop-one in
+    let g = c.in-Some.one in
+    let rest = into_iter_items c.next.new.self in
+    let steps : into_iter_items at.one-iterator ≡ g ∷ rest = c.in-Some.ensures.steps.0 in
+    let all : at.yielded ++ g ∷ rest ≡ c.args.fitted.items = rw (← steps) at.invariant.all in
     let crosses = c.pen_crossings-crossings.ensures ∙ c.in_ok-glyph.ensures.crossings in
-    elim c.then-glyph-left.branch [
-      | then-glyph-left-via-then-glyph-left w ↦
-          let over : at.left.chords < h.chords = omega (arith, same, w.if-glyph-left.true) in
-          inl (rw (← all) (too_many_chords at.yielded rest g at.left.chords c.args.limits.chords h.chords at.invariant.left
-          c.in_ok-glyph.ensures.chords over))
-      | then-glyph-left-via-else-glyph-left+then-crossings-left w ↦
-          let over : at.left.crossings < c.pen_crossings-crossings.result = omega (arith, w.if-crossings-left.true) in
-          inr (rw (← all) (too_many_crossings at.yielded rest g at.left.crossings c.args.limits.crossings c.pen_crossings-crossings.result
-          at.invariant.crossed crosses over))
-    ]
+    let over : at.left.crossings < c.pen_crossings-crossings.result = omega (arith, c.if-crossings-left.true) in
+    inr (rw (← all) (too_many_crossings at.yielded rest g at.left.crossings c.args.limits.crossings c.pen_crossings-crossings.result
+    at.invariant.crossed crosses over))
 
 -- the cache after the glyphs so far and one more
-pub returns-then-glyph-left-clause-cached : goal.returns-then-glyph-left-clause-cached
-returns-then-glyph-left-clause-cached c =
+pub returns-then-crossings-left-clause-cached : goal.returns-then-crossings-left-clause-cached
+returns-then-crossings-left-clause-cached c =
     let at = c.loop-one in
     served c.args.cache.now at.cache c.into_glyph.new.cache at.yielded (into_iter_items at.one-iterator)
     (into_iter_items c.next.new.self) c.args.fitted.items c.in-Some.one at.invariant.all c.in-Some.ensures.steps.0
