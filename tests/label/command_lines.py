@@ -1,7 +1,29 @@
 """The part of label/run that is about the command line."""
 import common
 import labels
+import model
 from parts import complains
+
+# Words of command lines that their parser refuses and repeats. A character takes the place of each %.
+REPEATED = (
+    "label --size 16 F.ttf A c%[2J%tt_render:", "label --size 1%6 F.ttf A", "label --size 16 --% F.ttf A",
+    "label -% F.ttf A", "label --si%ze 16 F.ttf A", "draw --size=16 --fit=be%st F.ttf A",
+    "measure --size 16 --missing % F.ttf A", "map --face=% F.ttf A", "map F.ttf A %",
+    "bdf --size 16 --height exact% F.ttf", "faces F.ttf % --help%", "%", "dr%aw", "--%", "-%", "help dr%aw",
+)
+
+
+def repeated(asked):
+    """Words with characters that steer a terminal, in place of which question marks are said. All else that is said is
+    plain text: the program's own."""
+    steering = [chr(it) for one, last in model.ranges(model.STEERING) for it in range(max(one, 1), last + 1)]
+    for line in REPEATED:
+        status, out, errors = wanted = asked.run(line.replace("%", "?").split())
+        plain = status == 2 and not out and all(it == 10 or 32 <= it < 127 for it in errors)
+        common.verdict(f"repeated {line}", [] if plain and b"?" in errors else [f"{status} {out} {errors}"])
+        run = lambda it: asked.run(line.replace("%", it).split(" "))
+        for character, got in zip(steering, asked.each(run, steering)):
+            common.tried(f"repeated {line} with {character!a}", got, wanted)
 
 
 def command_line(asked):
@@ -42,6 +64,7 @@ def command_line(asked):
         got = asked.run(["label", "--size", size, "--margin", margin, "F.ttf", "A"], folder)
         common.tried(f"size {size}, margin {margin}", got, (2, b"", labels.lines_of([first, second])))
     parts = "--size <N>", "--align", "centre", "[default: best]", "[default: tell]", " -- "
+    repeated(asked)
     helped(asked, ["label", "--help"], parts)
     helped(asked, ["--help"], ("label",))
 

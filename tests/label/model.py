@@ -115,6 +115,8 @@ SHAPED = """0900-109F 1100-11FF 1700-18AF 1900-1AAF 1B00-1C4F 1CD0-1CFF A800-A82
 JOINING = """0300-036F 0483-0489 1AB0-1AFF 1DC0-1DFF 200C-200D 20D0-20FF 2DE0-2DFF 302A-302F 3099-309A FE20-FE2F
   1F1E6-1F1FF 1F3FB-1F3FF E0020-E007F"""
 CONTROLS = "0000-001F 007F-009F"
+# What moves the cursor of a terminal, or turns or ends a line there.
+STEERING = CONTROLS + " 061C-061C 200E-200F 2028-202E 2066-2069"
 
 
 def ranges(words):
@@ -200,9 +202,9 @@ def with_height(font, face, size):
     return moved, -(-ascent * size // em), -(descent * size // em)
 
 
-def shown(path):
-    """Returns a path as it is shown."""
-    return "".join("?" if ord(it) < 32 or 127 <= ord(it) < 160 else it for it in path)
+def shown(word):
+    """Returns a word of the command line, as a path, as it is shown."""
+    return "".join("?" if any(one <= ord(it) <= last for one, last in ranges(STEERING)) else it for it in word)
 
 
 def told_of_font(font, face, path):

@@ -31,7 +31,8 @@ def missing(asked):
         common.tried(f"no such file, and the text {text!r}", got, unreadable("Hello", why))
     got = asked.run(["label", "--size", "16", "--lines", "Hello.ttf"], folder, b"F.ttf\n")
     common.tried("no such file, and lines", got, unreadable("Hello.ttf", "no such file"))
-    for path in ("a\nb", "\x1b[2J\x7f", "\u0085\u009b1A\u00a0", "\t.ttf"):
+    ends = {it for one, last in model.ranges(model.STEERING) for it in (one - 1, one, last, last + 1) if it > 0}
+    for path in ("a\nb", "\x1b[2J\x7f", "\u0085\u009b1A\u00a0", "\t.ttf", *map(chr, sorted(ends))):
         got = asked.run(["label", "--size", "16", "--", path, "A"], folder)
         common.tried(f"no such file {path!r}", got, unreadable(path, "no such file"))
 
@@ -170,6 +171,30 @@ def failing(asked):
         common.tried("no refusal can be told", (ran.returncode, ran.stdout, b""), (3, b"", b""))
 
 
+def unblocked(asked):
+    """Tries pipes that are set not to block: one that a picture fills, and one without the rest of a line."""
+    folder = asked.folder(labels.fonts()["T"])
+    words = [asked.program, "label", "--size", "300", "F.ttf"]
+    out, into = os.pipe()
+    os.set_blocking(into, False)
+    ran = subprocess.run([*words, "A" * 200], stdin=subprocess.DEVNULL, stdout=into, stderr=subprocess.PIPE, cwd=folder)
+    os.close(into)
+    sent = 0
+    while some := os.read(out, 1 << 16):
+        sent += len(some)
+    os.close(out)
+    wanted = 4, b"", lines_of([f"cannot write after {sent} bytes"])
+    common.tried("a full pipe that does not block", (ran.returncode, b"", ran.stderr), wanted)
+    out, into = os.pipe()
+    os.set_blocking(out, False)
+    os.write(into, b"A\nB")
+    ran = subprocess.run([*words, "--lines"], stdin=out, capture_output=True, cwd=folder)
+    os.close(into)
+    os.close(out)
+    got = ran.returncode, ran.stdout[:9], ran.stderr
+    common.tried("an empty pipe that does not block", got, (3, b"P4\n75 75\n", lines_of(["cannot read the lines"])))
+
+
 def files(asked):
     """Fonts and lines that cannot be read."""
     for part in missing, paths, forbidden, closed:
@@ -180,3 +205,4 @@ def streams(asked):
     """What is written when, and writes that fail."""
     order(asked)
     failing(asked)
+    unblocked(asked)

@@ -12,4 +12,5 @@ mod signs;
 pub use advising::{advice, has_record};
 pub use hint::{FixedHint, Hint, hint_line};
 pub use notes::font_notes;
+pub use shown::shown_words;
 pub use signs::Sign;

@@ -67,7 +67,7 @@ fn in_range(range: (char, char), c: char) -> bool
 }
 
 /// Whether a character is in one of these ranges.
-fn in_ranges(ranges: &[(char, char)], c: char) -> bool
+pub(crate) fn in_ranges(ranges: &[(char, char)], c: char) -> bool
     ensures { result ≡ in_ranges ranges.now c }
 {
     for range in ranges {

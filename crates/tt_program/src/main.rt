@@ -13,6 +13,7 @@ use std::io::Read;
 use std::process::ExitCode;
 use std::rt::{Env, Files, Stderr, Stdin};
 use std::{env, fs, io};
+use tt_advice::shown_words;
 use tt_core::Device;
 use tt_program_decisions::{
     Stop, perform, stop_of_request, stop_of_words, tell_stop, tell_unopened,
@@ -56,10 +57,10 @@ fn serve<R: Files + Env + Print + Eprint + AllocGlobal>(rt: &R, stdin: Stdin, st
         Ok(words) => words,
         Err(error) => return tell_stop(stop_of_words(error.kind()), &mut errors),
     };
-    let request = match request(rt.alloc(), words.as_slice()) {
+    let request = match request(rt.alloc(), &words) {
         Ok(Some(request)) => request,
         Ok(None) => return tell_stop(Stop::Incomplete, &mut errors),
-        Err(error) => return tell_stop(stop_of_error(rt, &error), &mut errors),
+        Err(error) => return tell_stop(stop_of_error(rt, &words, &error), &mut errors),
     };
     if let Some(stop) = stop_of_request(rt.alloc(), &request) {
         return tell_stop(stop, &mut errors);
@@ -98,16 +99,31 @@ fn words<R: Env + AllocGlobal>(rt: &R) -> io::Result<Vec<String>> {
 }
 
 /// Prints what clap says: help and the version on standard output, all else on standard error.
-fn stop_of_error<R: Print + Eprint>(rt: &R, error: &Error) -> Stop {
+fn stop_of_error<R: Print + Eprint + AllocGlobal>(rt: &R, words: &[String], error: &Error) -> Stop {
     if error.kind() == ErrorKind::OutOfMemory {
         return Stop::Memory;
     }
-    let printed = error.print(rt);
     if error.use_stderr() {
-        Stop::Refused
-    } else if printed.is_ok() {
-        Stop::Shown
-    } else {
-        Stop::NotShown
+        return refused(rt, words);
+    }
+    match error.print(rt) {
+        Ok(()) => Stop::Shown,
+        Err(_) => Stop::NotShown,
+    }
+}
+
+/// Prints why clap refuses the words. Clap repeats words, so it reads them once more as they are reported. A word that
+/// has question marks by that is refused no less, since no option, value or subcommand has one.
+fn refused<R: Print + Eprint + AllocGlobal>(rt: &R, words: &[String]) -> Stop {
+    let Ok(shown) = shown_words(rt.alloc(), words) else {
+        return Stop::Memory;
+    };
+    match request(rt.alloc(), &shown) {
+        Err(error) if error.kind() == ErrorKind::OutOfMemory => Stop::Memory,
+        Err(error) if error.use_stderr() => {
+            let _ = error.print(rt);
+            Stop::Refused
+        }
+        _ => Stop::Incomplete,
     }
 }

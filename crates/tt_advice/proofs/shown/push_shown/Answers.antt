@@ -6,7 +6,7 @@ use Rattle.tt_advice.proofs.shown.push_shown.Goals as goal
 
 pub loop-c-init : goal.loop-c-init
 loop-c-init c = record {
-  utf8 = subst IsUtf8 (sym c.chars-rest.ensures.rest) c.utf8.path;
+  utf8 = subst IsUtf8 (sym c.chars-rest.ensures.rest) c.utf8.word;
   left = ap (λ bytes. string_bytes c.args.text.now ++ shown bytes) c.chars-rest.ensures.rest;
 }
 

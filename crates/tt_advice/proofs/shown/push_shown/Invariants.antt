@@ -7,7 +7,7 @@ use Rattle.tt_advice.proofs.shown.push_shown.Given as goal
 abbrev pub invariant-loop-c : goal.invariant-loop-c
 invariant-loop-c l = record {
   utf8 : IsUtf8 (chars_rest l.rest);
-  left : string_bytes l.text ++ shown (chars_rest l.rest) ≡ string_bytes l.initial.text ++ shown l.fn.path;
+  left : string_bytes l.text ++ shown (chars_rest l.rest) ≡ string_bytes l.initial.text ++ shown l.fn.word;
 }
 
 abbrev pub decreases-loop-c : goal.decreases-loop-c
