@@ -11,6 +11,7 @@ import common
 import facts
 import habits
 import links
+import manual
 import markdown
 import prose
 
@@ -48,6 +49,7 @@ def reports(documents):
     common.verdict("version", facts.version())
     common.verdict("toolchain", facts.toolchain())
     common.verdict("minutes", facts.minutes(documents))
+    common.verdict("messages in the manual", manual.lacking(sources))
 
 
 def words(documents):

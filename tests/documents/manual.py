@@ -1,0 +1,51 @@
+"""The messages of the program, each of which the page of the manual has."""
+import re
+
+import markdown
+
+# The crates whose texts are messages, and their files of other texts: answers, tags of tables, words for callers.
+CRATES = "tt_advice tt_bitmap_font tt_program_decisions tt_render tt_render_run".split()
+OTHERS = "advising faces fault layout_texts measure_text refusal".split()
+# What a line of roff begins with, for a text in one font, and in two fonts by turns.
+ONE, TWO = (".B", ".I"), (".BI", ".BR", ".IB", ".IR", ".RB", ".RI")
+
+
+def plain(line):
+    """Returns the words of a line of the page."""
+    name, _, rest = line.partition(" ")
+    words = [one or other for one, other in re.findall(r'"([^"]*)"|(\S+)', rest)]
+    if name in ONE + TWO:
+        line = ("" if name in TWO else " ").join(words)
+    elif line.startswith("."):
+        return ""
+    for escape, said in ((r"\\f.", ""), (r"\\c$", ""), (r"\\-", "-"), (r"\\\((?:aq|oq|cq)", "'"), (r"\\ ", " ")):
+        line = re.sub(escape, said, line)
+    return line
+
+
+def page():
+    """Returns the words of the page of the manual, on one line."""
+    return " ".join(" ".join(map(plain, markdown.read("tt_render.1").splitlines())).split())
+
+
+def messages(files):
+    """Yields the texts of the sources that are messages, without the places of numbers and names in front."""
+    for file in files:
+        crate, name = file.split("/")[1], file.split("/")[-1].removesuffix(".rt")
+        if crate not in CRATES or name in OTHERS:
+            continue
+        code = [it for it in markdown.read(file).splitlines() if not re.match(r" *(//|ghost |ensures |requires )", it)]
+        for text in re.findall(r'"((?:[^"\\]|\\.)*)"', "\n".join(code), re.S):
+            text = re.sub(r"\\n$", "", re.sub(r"\\\n *", "", text))
+            yield file, re.sub(r"^(\{head\}|tt_render: )(line \{number\}: )?", "", text)
+
+
+def lacking(files):
+    """Returns the messages whose words, up to the help behind a semicolon, a colon or a bracket, the page lacks."""
+    words, faults = page(), []
+    for file, text in messages(files):
+        front = re.split(r"; |: | \(", text)[0]
+        pattern = r"\S+".join(re.escape(it) for it in re.split(r"\{[^}]*\}", front))
+        if " " in front and not re.search(rf"(?<!\w){pattern}(?!\w)", words):
+            faults.append(f"tt_render.1 lacks {front!r} of {file}")
+    return faults
