@@ -106,6 +106,7 @@ def lines_of_c(files, documents):
     """Returns what is wrong with the lines of C that documents report."""
     lines = sum(markdown.read(it).count("\n") for it in files if re.fullmatch(r"c/\w+\.[ch]", it))
     faults = says("README.md", r"(\d+) lines of C\b", lines)
+    faults += says("README.md", r"(\d+) more, `dist/start\.c`", markdown.read("dist/start.c").count("\n"))
     for document in documents:
         if document != "README.md" and re.search(r"\d+ lines(?: of C\b|\))", flat(document)):
             faults += says(document, r"(\d+) lines(?: of C\b|\))", lines)
