@@ -145,7 +145,7 @@ fn charge(left: &mut Option<LineLimits>, edged: &EdgedOutline) -> bool
     true
 }
 
-/// Whether an outline has more chords than are left. None of them is made. Without limits the answer is no.
+/// Whether an outline has more chords than the limits still allow. None of them is made. Without limits the answer is no.
 fn exceeds_chords(left: Option<LineLimits>, ruled: &RuledOutline) -> bool
     requires { IsRuled ruled.now }
     ensures { result ≡ true → IsPast left (chords_of ruled.now.rule ruled.now.outline) (outline_crossings ruled.now) }
