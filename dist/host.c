@@ -38,7 +38,9 @@ int32_t rattle_errno(void) { return errno; }
 /* Sets the error number. */
 void rattle_set_errno(int32_t error) { errno = error; }
 
-/* The program takes these functions from glibc, which has the first from 2.33 on. For other systems they are here. */
+/* The program takes these functions from glibc, which has the first from 2.33 on and statx from 2.28 on. For other
+ * systems they are here.
+ */
 
 #if defined(__GLIBC__)
 #define GLIBC_HAS(minor) (__GLIBC__ > 2 || __GLIBC_MINOR__ >= (minor))
@@ -77,4 +79,16 @@ ptrdiff_t __write(int file, const void *from, size_t size);
 
 /* write, under the name by which the program reports that its processor is too old. */
 ptrdiff_t __write(int file, const void *from, size_t size) { return write(file, from, size); }
+#endif
+
+#if defined(__linux__) && !GLIBC_HAS(28)
+#include <sys/syscall.h>
+
+long syscall(long number, ...);
+int statx(int folder, const char *path, int flags, unsigned fields, void *to);
+
+/* statx, by which the program tells a folder from a file. musl has statx from 1.2.5 on. */
+int statx(int folder, const char *path, int flags, unsigned fields, void *to) {
+  return (int)syscall(SYS_statx, folder, path, flags, fields, to);
+}
 #endif

@@ -22,7 +22,7 @@
  *   - No call comes from a signal handler, or from the forked child of a process with threads.
  *
  * No struct has a size field or a version. So a struct, tt_job too, changes only with a new number in the name of the
- * shared library, libtt_render.so.0; then a caller has to be compiled anew.
+ * shared library, libtt_render.so.1; then a caller has to be compiled anew.
  *
  * A font file is read strictly or widely. Strictly the file has one font, whose cmap has format 4 or 12. Widely the
  * file may be a collection of faces, and more formats and kinds of cmap are read: formats 0, 6, 10 and 13, symbol
@@ -72,8 +72,8 @@ extern "C" {
 #endif
 
 /* The version of this header, as a text, and as 10,000 times its first part, 100 times the second, and the third. */
-#define TT_RENDER_VERSION_TEXT "0.1.0"
-#define TT_RENDER_VERSION 100
+#define TT_RENDER_VERSION_TEXT "0.2.0"
+#define TT_RENDER_VERSION 200
 
 /* The status of an answer. Up to 5 these are the program's exit statuses; 4, a failed write, does not occur here. */
 enum {
@@ -367,13 +367,13 @@ uint32_t tt_message(const struct tt_answer *told, uint8_t *text, size_t room, st
  * 65 WorkLarge comes with TT_BEST alone, for one of two counts of a line, or for the lines before it.
  *   - Points: its glyphs, each once, have more than 1,000,000. Each glyph and each component adds four, each contour
  *     one.
- *   - Crossings: its glyphs, at all their places, have more than 16,000,000, or more than the line's work allows. An
- *     edge counts five for each row that it crosses, inside the picture or outside, and one for each 2,048 rows of its
- *     glyph. Each row of the glyph counts one. Where dropouts are filled, each row or column that an edge crosses counts
- *     three more, and one for each 2,048 rows of the glyph. Each 64 bytes of a bitmap of the glyph then count one. The
- *     work allows 500,000, and one for each 4 units that points and programs leave of 100,000,000. A point takes 40
- *     units.
- *   - Lines of tt_draw_lines: those before this one took more than 20,000,000 units, and 8,000,000 for each of them. A
+ *   - Crossings: its glyphs, at all their places, have more than 10,000,000, or more than the line's work allows. An
+ *     edge counts five for each row that it crosses, inside the picture or outside, but at least seven; and one for each
+ *     2,048 rows of its glyph. Each row of the glyph counts one. Where dropouts are filled, each row or column that an
+ *     edge crosses counts three more, and one for each 2,048 rows of the glyph. Each 64 bytes of a bitmap of the glyph
+ *     then count one. The work allows 500,000, and one for each 4 units that points and programs leave of 50,000,000. A
+ *     point takes 40 units.
+ *   - Lines of tt_draw_lines: those before this one took more than 10,000,000 units, and 4,000,000 for each of them. A
  *     line takes the units of its points and programs, and 4 units for each crossing.
  */
 #define TT_REFUSALS(X) \
