@@ -4,13 +4,14 @@
      fitted_by_freetype FONT FIT SIZES GLYPH ..
      fitted_by_freetype FONT FIT SIZES all
 
-   FIT is `full` or `best`, which passes over what a program asks for and is not there, such as a control value.
+   FIT is `full` or `best`, which passes over what a program asks for and is not there, such as a control value, or
+   `unhinted`, which runs no program.
 
    A line is `GLYPH ENDS`, where ENDS are one past the last point of each contour, with commas, and for each size
-   `ADVANCE X Y`: the distance of the first two phantom points, which FreeType rounds to a pixel, and the points, in
-   1/64 pixel, counted from the left phantom point. X and Y are the difference of each point from the one before, +N, -N
-   or `.` for none, and along x >N, <N or `:` where the point is off the curve; both are `-` where there is no point. A
-   glyph that FreeType refuses has no line. */
+   `ADVANCE X Y`: the distance of the first two phantom points, rounded to a pixel, and the points, in 1/64 pixel,
+   counted from the left phantom point. X and Y are the difference of each point from the one before, +N, -N or `.` for
+   none, and along x >N, <N or `:` where the point is off the curve; both are `-` where there is no point. A glyph that
+   FreeType refuses has no line. */
 #include <stdio.h>
 #include <stdlib.h>
 #include <string.h>
@@ -71,7 +72,7 @@ static void print_glyph(FT_Face *faces, long glyph) {
   printf("%ld", glyph);
   print_ends(&faces[0]->glyph->outline);
   for (int i = 0; i < sizes; i++) {
-    printf(" %ld", faces[i]->glyph->metrics.horiAdvance);
+    printf(" %ld", (faces[i]->glyph->metrics.horiAdvance + 32) & -64);
     print_points(&faces[i]->glyph->outline);
   }
   printf("\n");
@@ -86,8 +87,10 @@ int main(int count, char **words) {
   if (count < 5) need(1, "a word is missing");
   if (strcmp(words[2], "full") == 0)
     how |= FT_LOAD_PEDANTIC;
+  else if (strcmp(words[2], "unhinted") == 0)
+    how |= FT_LOAD_NO_HINTING;
   else if (strcmp(words[2], "best") != 0)
-    need(1, "full or best");
+    need(1, "full, best or unhinted");
   need(FT_Init_FreeType(&library), "start");
   need(FT_Property_Set(library, "truetype", "interpreter-version", &version), "version 35");
   for (at = words[3]; *at; sizes++) {

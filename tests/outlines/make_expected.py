@@ -17,7 +17,7 @@ from fontTools.ttLib import TTFont
 
 from outlines import Outlines, Refused, picture
 from pictures import PICTURES
-from worked import WORKED
+from worked import BEST, WORKED
 
 HERE = pathlib.Path(__file__).parent
 FONTS = {
@@ -88,6 +88,10 @@ WORKED_HEAD = """\
 # GLYPHS are the numbers of those that are asked for, with commas between them, FONT is the file in hexadecimal, and
 # LINES are what is printed, with commas for blanks and semicolons for line feeds."""
 
+BEST_HEAD = """\
+# Small fonts of worked.txt and their outlines with best, made by make_expected.py likewise. FreeType 2.12.1 makes the
+# same outlines."""
+
 PICTURES_HEAD = """\
 # Pictures of small fonts and of fonts of Debian, made by make_expected.py: a case a line,
 #   NAME SIZE GLYPH WIDTH HEIGHT MARGIN RISE FONT ROWS
@@ -95,11 +99,11 @@ PICTURES_HEAD = """\
 # refusal, with commas for blanks and semicolons for line feeds."""
 
 
-def write_worked():
-    with open(HERE / "worked.txt", "w", encoding="ascii") as out:
-        print(WORKED_HEAD, file=out)
-        for name, size, glyphs, data in WORKED:
-            lines = [line(Outlines(opened(data), size), glyph).replace(" ", ",") for glyph in glyphs]
+def write_worked(table, head, best, cases):
+    with open(HERE / table, "w", encoding="ascii") as out:
+        print(head, file=out)
+        for name, size, glyphs, data in cases:
+            lines = [line(Outlines(opened(data), size, best), glyph).replace(" ", ",") for glyph in glyphs]
             print(name, size, ",".join(map(str, glyphs)), data.hex(), ";".join(lines), file=out)
 
 
@@ -130,7 +134,8 @@ def write_pictures():
 def main():
     for name, path in FONTS.items():
         write_font(name, path)
-    write_worked()
+    write_worked("worked.txt", WORKED_HEAD, False, WORKED)
+    write_worked("best.txt", BEST_HEAD, True, [it for it in WORKED if it[0] in BEST])
     write_pictures()
 
 

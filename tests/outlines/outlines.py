@@ -11,6 +11,10 @@ scaled, and with the flag for it each rounded to a multiple of 64, halves away f
 numbers, by what takes the component's point of the second onto the point of the first, among those assembled so far.
 With the flag for it the composite has the component's phantom points; the last such record counts.
 
+`best`, in a font without programs: 64 pixels per em over units per em is rounded to 1/65536, from halves up, before a
+length is multiplied by it. Lengths go from halves away from 0, and so does each product of a transform, before two of
+them are added. No offset is rounded to a multiple of 64.
+
 Refused is: a 33rd record, where it stands; a coordinate above 2,097,151 in magnitude, at the glyph's first byte where
 it comes from scaling and at the record where it comes from placing; and at the record a component that lies five deep, a
 point number without a point, and more than 16,384 points. A glyph's own data is looked at first, then its scaled
@@ -34,6 +38,10 @@ def nearest(n, d):
     return (2 * n + d) // (2 * d)
 
 
+def away(n, d):
+    return nearest(abs(n), d) * (1 if n >= 0 else -1)
+
+
 def to_grid(v):
     return (abs(v) + 32) // 64 * 64 * (1 if v >= 0 else -1)
 
@@ -52,12 +60,14 @@ def record_places(data, start):
 class Outlines:
     """The outlines of a font that fontTools has opened, at a size in pixels per em."""
 
-    def __init__(self, font, size):
-        self.font, self.size = font, size
+    def __init__(self, font, size, best=False):
+        self.font, self.size, self.best = font, size, best
         self.glyf, self.bytes, self.names = font["glyf"], font.reader["glyf"], font.getGlyphOrder()
         self.em = font["head"].unitsPerEm
 
     def scale(self, v):
+        if self.best:
+            return away(v * nearest(self.size * 64 * 65536, self.em), 65536)
         return nearest(v * self.size * 64, self.em)
 
     def outline(self, number, levels=LEVELS):
@@ -96,7 +106,7 @@ class Outlines:
             if levels == 0:
                 raise Refused(at, "17 ComponentDepth")
             own, own_ends, own_phantom = self.outline(self.font.getGlyphID(record.glyphName), levels - 1)
-            turned = transformed(record, own)
+            turned = transformed(record, own, self.best)
             dx, dy = self.way(at, record, turned, points)
             placed = [(x + dx, y + dy, on) for x, y, on in turned]
             if not within(placed):
@@ -113,7 +123,7 @@ class Outlines:
         """Returns how far a component is moved."""
         if hasattr(record, "x"):
             way = self.scale(record.x), self.scale(record.y)
-            return tuple(map(to_grid, way)) if record.flags & ROUND else way
+            return tuple(map(to_grid, way)) if record.flags & ROUND and not self.best else way
         if record.firstPt >= len(points) or record.secondPt >= len(turned):
             raise Refused(at, "20 MatchPoint")
         to, of = points[record.firstPt], turned[record.secondPt]
@@ -124,12 +134,18 @@ def within(points):
     return all(abs(x) <= LIMIT and abs(y) <= LIMIT for x, y, _ in points)
 
 
-def transformed(record, points):
+def transformed(record, points, best):
     """Returns points under a record's transform, which fontTools has as [[xx, yx], [xy, yy]]."""
     if not hasattr(record, "transform"):
         return points
     (xx, yx), (xy, yy) = [[whole(v) for v in row] for row in record.transform]
+    if best:
+        return [(part(xx, x) + part(xy, y), part(yx, x) + part(yy, y), on) for x, y, on in points]
     return [(nearest(xx * x + xy * y, 16384), nearest(yx * x + yy * y, 16384), on) for x, y, on in points]
+
+
+def part(factor, v):
+    return away(factor * v, 16384)
 
 
 def whole(v):

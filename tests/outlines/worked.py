@@ -89,6 +89,17 @@ WORKED = [
     ("two_scales", 16, [2], parts(on_square(OFFSETS | TWO_SCALES, 1, 2, 0x3000, -0x5000), part=ODD)),
     ("a_quarter_turn", 16, [2], parts(on_square(OFFSETS | TWO_BY_TWO, 1, 2, 0, 0x4000, -0x4000, 0), part=ODD)),
     ("a_slant", 17, [2], parts(on_square(OFFSETS | TWO_BY_TWO, 1, 2, 0x4000, 0x0123, 0x1357, 0x3999), part=ODD)),
+    (
+        "halves_of_products",
+        16,
+        [2],
+        parts(
+            on_square(OFFSETS | TWO_BY_TWO, 1, 2, 0x6000, -0x2000, -0x1000, 0x5000),
+            on_square(OFFSETS | TWO_BY_TWO, 0, 0, 0x2000, 0x2000, -0x2000, 0x2000),
+            on_square(TWO_BY_TWO, 1, 2, -0x2000, 0x2000, 0x2000, -0x6000),
+            part=ODD,
+        ),
+    ),
     ("offsets_are_not_transformed", 16, [2], parts(on_square(OFFSETS | SCALE | WORDS, 500, -500, 0x2000))),
     (
         "components_are_transformed_from_the_inside",
@@ -304,4 +315,17 @@ WORKED = [
         [3],
         of(dots(16384), simple([(1747, 0)]), composite(record(OFFSETS, 1, 0, 0), record(OFFSETS, 2, 1, 0)), **HUGE),
     ),
+]
+
+# The cases of transforms, which are asked for with best too.
+BEST = [
+    "a_scale",
+    "a_scale_below_0",
+    "halves_of_a_scale_go_up",
+    "two_scales",
+    "a_quarter_turn",
+    "a_slant",
+    "halves_of_products",
+    "components_are_transformed_from_the_inside",
+    "a_matched_point_is_transformed_first",
 ]

@@ -3,6 +3,7 @@
 use Rattle.std.specs.Prelude.{◌≡◌, ℕ, ◌+◌, Bool, true, false, nat_lt, if◌then◌else◌, ℤ, pos, neg_ℤ, List, [], ◌∷◌, ◌++◌, length, map, Option, Some, None, Result, Ok, Err, refl}
 use Rattle.tt_core.specs.Faults.{Fault}
 use Rattle.tt_core.specs.declared.fault.Why.TheVariants as why
+use Rattle.tt_core.specs.declared.halves.Halves.{Halves}
 use Rattle.tt_core.specs.Limits.{point_limit}
 use Rattle.tt_core.specs.Outcomes.{◌>>=◌, each}
 use Rattle.tt_state.specs.declared.graphics_state.ScanControl.{ScanControl}
@@ -36,15 +37,16 @@ abbrev pub ends_after : ℕ → List ℕ → List ℕ
 ends_after points ends = map (λ e. points + e) ends
 
 -- a component moved by a shift, added to what is assembled before it
-unfoldable pub appended : Record → ℤ × ℤ → Outline → Outline → Result Outline Fault
-appended r by component o = do
-  landed ← each (placed_point r by) component.points
+unfoldable pub appended : Halves → Record → ℤ × ℤ → Outline → Outline → Result Outline Fault
+appended h r by component o = do
+  landed ← each (placed_point h r by) component.points
   points ← within_point_limit r.at (o.points ++ landed)
   Ok (record { points = points; ends = o.ends ++ ends_after (length o.points) component.ends; phantom = phantom_with r component o; scan = scan_after component.scan o.scan })
 
 -- a component placed and added to what is assembled so far
 unfoldable pub placed : Grid → FontSize → Record → Outline → Outline → Result Outline Fault
-placed grid z r component o = shift_of grid z r component.points o.points >>= λ by. appended r by component o
+placed grid z r component o = shift_of grid z r component.points o.points >>= λ by.
+    appended z.scale.halves r by component o
 
 -- worked values: 256 units in an em, at 16 pixels
 its_size : FontSize
@@ -71,6 +73,18 @@ a_matched_component : placed rounding.Away its_size (turned 0x200) (shape_of two
     ≡ Ok (record { points = (pos 1000, pos 2000, true) ∷ (pos 1005, pos 1901, true) ∷ (pos 1000, pos 2000, false) ∷ []; ends = 1 ∷ 3 ∷ []; phantom = phantom_after (pos 5); scan = None })
 unfolding its_size turned two_points shape_of placed appended shift_of settled within_point_limit
 a_matched_component = refl
+
+-- turned by a half, 5/4 as large, and moved by 8 and -8 units, which are 32 and -32; halves go away from zero
+larger : Record
+larger = record
+    { at = 32; flags = 0xa; glyph = 1; arg1 = pos 8; arg2 = neg_ℤ (pos 8); xx = neg_ℤ (pos 20480); yx = pos 0; xy = pos 0; yy = neg_ℤ (pos 20480) }
+
+-- its points are -1.25 and -2.5, then -125 and -8.75 before the move
+a_larger_component : placed rounding.Up (size_by scaling.Rounded 16 256) larger (shape_of two_points (pos 5))
+    (shape_of two_points (pos 9))
+    ≡ Ok (record { points = two_points ++ (pos 31, neg_ℤ (pos 35), true) ∷ (neg_ℤ (pos 93), neg_ℤ (pos 41), false) ∷ []; ends = 2 ∷ 4 ∷ []; phantom = phantom_after (pos 9); scan = None })
+unfolding larger two_points shape_of placed appended shift_of settled within_point_limit
+a_larger_component = refl
 
 -- no point 0 is assembled yet
 an_unmatched_component : placed rounding.Away its_size (turned 0) (shape_of two_points (pos 5)) (shape_of [] (pos 9))

@@ -16,7 +16,7 @@ use crate::scaling::{glyf_fault, settled};
 use crate::shift::Shift;
 use crate::size::FontSize;
 use std::alloc::AllocError;
-use tt_core::{FontFault, POINT_LIMIT, Why};
+use tt_core::{FontFault, Halves, POINT_LIMIT, Why};
 use tt_glyf::{ComponentFlags, Record};
 use tt_state::ScanControl;
 
@@ -24,18 +24,19 @@ use tt_state::ScanControl;
 #[tactic(auto, using(crate::proofs::Lists::points))]
 fn push_placed(
     points: &mut Vec<(i32, i32, bool)>,
+    halves: Halves,
     part: Record,
     by: Shift,
     component: &[(i32, i32, bool)],
 ) -> Result<(), FontFault>
     requires { All IsPoint points.old.items }
-    ensures exact { Leaves result points.new.items (after_each (placed_point part (shift_view by)) component.now points.old.items) }
+    ensures exact { Leaves result points.new.items (after_each (placed_point halves part (shift_view by)) component.now points.old.items) }
     ensures count { OnOk result (length points.new.items ≡ length points.old.items + length component.now) }
     ensures coordinates { OnOk result (All IsPoint points.new.items) }
 {
     points.reserve(component.len())?;
     for point in component {
-        points.push(settled(part.at, landed(part, by, *point))?)?;
+        points.push(settled(part.at, landed(halves, part, by, *point))?)?;
     }
     Ok(())
 }
@@ -65,12 +66,13 @@ fn scan_after(component: Option<ScanControl>, so_far: Option<ScanControl>) -> Op
 /// Appends a component, moved by a shift. Errors: CoordRange, PointLimit, Memory.
 #[tactic(auto, unfolding(crate::specs::Joining::appended, crate::specs::Joining::within_point_limit))]
 fn appended(
+    halves: Halves,
     part: Record,
     by: Shift,
     component: &Outline,
     so_far: Outline,
 ) -> Result<Outline, FontFault>
-    ensures exact { FontGives outline_of result (appended part (shift_view by) (outline_of component.now) (outline_of so_far)) }
+    ensures exact { FontGives outline_of result (appended halves part (shift_view by) (outline_of component.now) (outline_of so_far)) }
 {
     let Outline {
         mut points,
@@ -80,7 +82,7 @@ fn appended(
         ..
     } = so_far;
     let before = points.len();
-    push_placed(&mut points, part, by, &component.points)?;
+    push_placed(&mut points, halves, part, by, &component.points)?;
     if points.len() > POINT_LIMIT {
         return Err(FontFault::Font(glyf_fault(part.at, Why::PointLimit)));
     }
@@ -112,5 +114,5 @@ pub fn placed(
     ensures exact { FontGives outline_of result (placed grid (size_view size) part (outline_of component.now) (outline_of so_far)) }
 {
     let by = shift_of(grid, size, part, &component.points, &so_far.points)?;
-    appended(part, by, component, so_far)
+    appended(size.scale.halves, part, by, component, so_far)
 }

@@ -13,8 +13,8 @@ returns c =
     (arith, ints, c.transformed-to.result.x_fits, c.args.by.x_fits) in
     let sum_y : SFits w64 (c.transformed-to.result.y +ℤ c.args.by.y) = omega
     (arith, ints, c.transformed-to.result.y_fits, c.args.by.y_fits) in
-    let is_x : c.transformed-to.result.x ≡ (transformed c.args.part c.args.point).0 = ap
+    let is_x : c.transformed-to.result.x ≡ (transformed c.args.halves c.args.part c.args.point).0 = ap
     (λ p. p.0) c.transformed-to.ensures in
-    let is_y : c.transformed-to.result.y ≡ (transformed c.args.part c.args.point).1 = ap
+    let is_y : c.transformed-to.result.y ≡ (transformed c.args.halves c.args.part c.args.point).1 = ap
     (λ p. p.1) c.transformed-to.ensures in
     simp to_z-of_z (rw (is_x, is_y) refl)

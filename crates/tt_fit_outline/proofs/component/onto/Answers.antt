@@ -17,8 +17,8 @@ returns c =
     (arith, ints, c.transformed-from.result.x_fits) in
     let by_y : SFits w64 (c.from-2.result -ℤ c.transformed-from.result.y) = omega
     (arith, ints, c.transformed-from.result.y_fits) in
-    let is_x : c.transformed-from.result.x ≡ (transformed c.args.part c.args.point).0 = ap
+    let is_x : c.transformed-from.result.x ≡ (transformed c.args.halves c.args.part c.args.point).0 = ap
     (λ p. p.0) c.transformed-from.ensures in
-    let is_y : c.transformed-from.result.y ≡ (transformed c.args.part c.args.point).1 = ap
+    let is_y : c.transformed-from.result.y ≡ (transformed c.args.halves c.args.part c.args.point).1 = ap
     (λ p. p.1) c.transformed-from.ensures in
     simp to_z-of_z (rw (is_x, is_y, same_x, same_y) refl)

@@ -1,6 +1,6 @@
 use Rattle.std.proofs.Common.{◌+ℤ◌, SFits, w16, w32, w64, refl, rules, arith}
 use Rattle.std.proofs.lemmas.Int.{ints, to_z-of_z}
-use Rattle.tt_fit_outline.proofs.component.blend.Goals as goal
+use Rattle.tt_fit_outline.proofs.component.sum_rounded.Goals as goal
 
 pub returns-clause-exact : goal.returns-clause-exact
 returns-clause-exact c =
