@@ -29,8 +29,14 @@
  *   centres lie from the least to the greatest x of all points, or else the nearer one to their middle, of two the right
  *   one. The two are told with the question, since points off the curve may lie outside of the edges.
  *
- *   What is added. A gap gives way where the gap left of it asks for the pixel that they have in common. First all rows
- *   add what their gaps ask for, and then all columns, for which those pixels are black.
+ *   What is added. A gap gives way where the gap left of it takes the pixel that they have in common: where of the gaps
+ *   side by side up to that one, each of which asks for its right pixel, there are one or three, four being counted at
+ *   most. First all rows add what their gaps ask for, and then all columns, for which those pixels are black.
+ *
+ *   Dots, where they are drawn. A contour is a dot if no crossing of it would have a gap ask, by rows or by columns,
+ *   whether the gap is free or not, and if its box has at most two columns and two rows, and is at least 3/8 pixel long
+ *   one way and 1/8 pixel the other. The pixel that holds the middle of the box is added where it is white at first; a
+ *   middle on a border goes right and up.
  */
 #include <inttypes.h>
 
@@ -38,9 +44,9 @@
 
 #define MOST 64
 #define CONTOURS 16
-#define SIDE 24
+#define SIDE 28
 /* So many pixels round a window are looked at as well. */
-#define ROUND 4
+#define ROUND 7
 
 typedef struct {
   Edge edges[MOST];
@@ -53,7 +59,7 @@ typedef struct {
 } Outline;
 
 typedef struct {
-  int stubs, smart;
+  int stubs, smart, dots;
 } Rules;
 
 typedef struct {
@@ -71,9 +77,10 @@ typedef struct {
 } Case;
 
 /* What a case may have that is worth asking. */
-enum { ROWS, COLUMNS, STUB, TOUCH, RIGHT, BOX, WAY, KINDS };
+enum { ROWS, COLUMNS, STUB, TOUCH, RIGHT, BOX, WAY, CHAIN, DOT, BESIDE, KINDS };
 
-static const char *const kinds[KINDS] = {"rows", "columns", "stub", "touch", "right", "box", "way"};
+static const char *const kinds[KINDS] = {
+  "rows", "columns", "stub", "touch", "right", "box", "way", "chain", "dot", "beside"};
 
 /* The pixels of a window and of some round it, by row and column: 1 for black. */
 typedef struct {
@@ -220,11 +227,20 @@ static int asks(const Pass *it, int64_t c, int64_t j, int64_t *pixel) {
   return 1;
 }
 
+/* How many gaps side by side, up to the one left of gap c, each ask for their right pixel; so many at most. */
+static int gaps_before(const Pass *it, int64_t c, int64_t j, int most) {
+  int64_t pixel;
+  if (most == 0 || !asks(it, c - 1, j, &pixel) || pixel != c) return 0;
+  return 1 + gaps_before(it, c - 1, j, most - 1);
+}
+
 /* Gap c of line j adds pixel p. */
 static int adds(const Pass *it, int64_t c, int64_t j, int64_t p) {
-  int64_t pixel, left;
+  int64_t pixel;
   if (!asks(it, c, j, &pixel) || pixel != p) return 0;
-  if (!asks(it, c - 1, j, &left) || left != c) return 1;
+  int side_by_side = gaps_before(it, c, j, 4);
+  if (side_by_side > 1) note(it, c, j, CHAIN);
+  if (side_by_side % 2 == 0) return 1;
   note(it, c, j, WAY);
   return 0;
 }
@@ -257,6 +273,59 @@ static Outline turned_round(const Outline *o) {
   return it;
 }
 
+/* Dots. */
+
+/* Some crossing of a contour would have its gap ask, by rows. */
+static int asks_somewhere(const Outline *o, int from, int end, int stubs) {
+  for (int i = from; i < end; i++) {
+    Edge e = o->edges[i], up = upward(e);
+    for (int64_t j = line_from(up.a.y); j < line_from(up.b.y); j++) {
+      if (stubs || !(is_stub(o, from, end, 1, i, j) || is_stub(o, from, end, 0, i, j))) return 1;
+    }
+    if (stubs && touches(e, gap_of(up.b.y))) return 1;
+  }
+  return 0;
+}
+
+/* The columns of a box, or its rows, from its least place to its greatest. */
+static int64_t columns_of(int64_t low, int64_t high) {
+  int64_t first = line_from(low), last = gap_of(high);
+  return first <= last ? last - first + 1 : 1;
+}
+
+/* Whether a contour is a dot, and its pixel. */
+static int is_dot(const Outline *o, const Outline *round, int from, int end, int stubs, Point *pixel) {
+  if (from == end) return 0;
+  Point least = o->edges[from].a, most = least;
+  for (int i = from; i < end; i++) {
+    Point ends[] = {o->edges[i].a, o->edges[i].b};
+    for (int k = 0; k < 2; k++) {
+      if (ends[k].x < least.x) least.x = ends[k].x;
+      if (ends[k].y < least.y) least.y = ends[k].y;
+      if (ends[k].x > most.x) most.x = ends[k].x;
+      if (ends[k].y > most.y) most.y = ends[k].y;
+    }
+  }
+  if (columns_of(least.x, most.x) > 2 || columns_of(least.y, most.y) > 2) return 0;
+  int64_t wide = most.x - least.x, high = most.y - least.y;
+  if ((wide > high ? wide : high) < 3 * PIXEL / 8 || (wide < high ? wide : high) < PIXEL / 8) return 0;
+  *pixel = (Point){floor_of(least.x + most.x, 2 * PIXEL), floor_of(least.y + most.y, 2 * PIXEL)};
+  return !asks_somewhere(o, from, end, stubs) && !asks_somewhere(round, from, end, stubs);
+}
+
+/* Adds the dots of a window that are white at first. */
+static void add_dots(const Outline *o, const Outline *round, Rules rules, Window w, const Ink *ink,
+  char dropout[SIDE][SIDE], const Pass *rows, const Pass *columns, int *had) {
+  for (int k = 0, from = 0; k < o->contours; from = o->ends[k++]) {
+    Point p;
+    if (!is_dot(o, round, from, o->ends[k], rules.stubs, &p)) continue;
+    int64_t c = p.x - w.left, r = p.y - w.bottom;
+    if (c < 0 || w.width <= c || r < 0 || w.height <= r || ink->black[r + ROUND][c + ROUND]) continue;
+    dropout[r][c] = had[DOT] = 1;
+    if (p.x < rows->first || rows->last < p.x || p.y < columns->first || columns->last < p.y) had[BESIDE] = 1;
+  }
+}
+
 static void ink_outline(const Outline *o, Window w, Ink *ink) {
   ink->area = (Window){w.left - ROUND, w.bottom - ROUND, w.width + 2 * ROUND, w.height + 2 * ROUND};
   for (int64_t r = 0; r < ink->area.height; r++) {
@@ -276,7 +345,7 @@ static void find_dropouts(const Outline *o, Rules rules, Window w, const Ink *in
   Pass columns = {&round, &both, {w.bottom, w.left, w.height, w.width}, rules, 0, 0, 1, had};
   find_box(&rows);
   find_box(&columns);
-  for (int64_t r = -2; r < w.height + 2; r++) {
+  for (int64_t r = 1 - ROUND; r < w.height + 2; r++) {
     for (int64_t c = 0; c < w.width; c++) {
       if (is_added(&rows, w.left + c, w.bottom + r)) both.black[r + ROUND][c + ROUND] = 1;
     }
@@ -290,6 +359,7 @@ static void find_dropouts(const Outline *o, Rules rules, Window w, const Ink *in
       dropout[r][c] = by_rows || by_columns;
     }
   }
+  if (rules.dots) add_dots(o, &round, rules, w, ink, dropout, &rows, &columns, had);
 }
 
 /* Cases are written. */
@@ -298,7 +368,7 @@ static void write_case(FILE *out, Rules rules, const Case *it) {
   Window w = it->window;
   Frame f = it->frame;
   const Outline *o = &it->outline;
-  fprintf(out, "%d %d", rules.stubs, rules.smart);
+  fprintf(out, "%d %d %d", rules.stubs, rules.smart, rules.dots);
   fprintf(out, " %" PRId64 " %" PRId64 " %" PRId64 " %" PRId64, w.left, w.bottom, w.width, w.height);
   fprintf(out, " %" PRId64 " %" PRId64 " %" PRId64 " %" PRId64 " %d", f.width, f.height, f.margin, f.rise, o->count);
   for (int i = 0; i < o->count; i++) {
@@ -375,6 +445,20 @@ static void add_comb(Outline *o, Ground g) {
   }
 }
 
+/* Some stems in gaps side by side, mostly each nearer to the right pixel. */
+static void add_fence(Outline *o, Ground g) {
+  int64_t x = centre(pick(-1, 3)) + on_grid(g, pick(PIXEL / 4, PIXEL)), y = coordinate(g, g.height);
+  for (int64_t n = pick(2, 6), top = coordinate(g, g.height); n > 0; n--, x += PIXEL) {
+    add_box(o, x, y, x + thin(g) / 8, top);
+  }
+}
+
+/* A box of a pixel or two. */
+static void add_dot(Outline *o, Ground g) {
+  int64_t x = coordinate(g, g.width), y = coordinate(g, g.height);
+  add_box(o, x, y, x + on_grid(g, pick(0, one_in(4) ? 2 * PIXEL : PIXEL)), y + on_grid(g, pick(0, one_in(4) ? 2 * PIXEL : PIXEL)));
+}
+
 static void add_diagonal(Outline *o, Ground g) {
   int64_t x = coordinate(g, g.width), y = coordinate(g, g.height);
   int64_t z = coordinate(g, g.width), top = coordinate(g, g.height), wide = thin(g);
@@ -422,7 +506,7 @@ static void add_thread(Outline *o, Ground g) {
 }
 
 static void add_shape(Outline *o, Ground g) {
-  switch (pick(0, 8)) {
+  switch (pick(0, 11)) {
   case 0: add_comb(o, g); break;
   case 1: add_diagonal(o, g); break;
   case 2: add_ring(o, g); break;
@@ -430,6 +514,9 @@ static void add_shape(Outline *o, Ground g) {
   case 4: add_polygon(o, g); break;
   case 5: add_thread(o, g); break;
   case 6: add_box(o, coordinate(g, g.width), coordinate(g, 1), coordinate(g, g.width), coordinate(g, 1)); break;
+  case 7: add_fence(o, g); break;
+  case 8:
+  case 9: add_dot(o, g); break;
   default: add_stem(o, g); break;
   }
 }
@@ -472,13 +559,13 @@ static void add_box_of_points(Outline *o, Ground g) {
   }
 }
 
-/* Half of the frames have all rows of the window and of two pixels round it, on which the code answers by the tape that
+/* Half of the frames have all rows of the window and of five pixels round it, on which the code answers by the tape that
  * it was given; for others it makes one. */
 static Frame random_frame(Window w) {
   Frame f = {pick(1, 12), pick(1, 12), pick(0, 4), w.bottom + pick(-8, 8)};
   if (one_in(2)) {
-    int64_t above = pick(2, 4);
-    f.height = w.height + 8;
+    int64_t above = pick(5, 8);
+    f.height = w.height + 13;
     f.rise = w.bottom + w.height + above - f.margin;
   }
   return f;
@@ -497,15 +584,53 @@ static void random_case(Case *it) {
   it->frame = random_frame(it->window);
 }
 
+/* The laws of dots, of which one in four cases is asked: dots only add, each contour one pixel at most; no contour of the
+ * size of a dot that has no gap ask is white at its middle; and an outline moved by whole pixels has its dropouts moved. */
+static void keep_laws(const Case *it, Rules rules, const Ink *ink, char dropout[SIDE][SIDE]) {
+  static char without[SIDE][SIDE], shifted[SIDE][SIDE];
+  static Ink far;
+  Window w = it->window;
+  Outline o = it->outline, round = turned_round(&o);
+  int64_t x = pick(-1000, 1000), y = pick(-1000, 1000);
+  int had[KINDS] = {0}, added = 0;
+  find_dropouts(&o, (Rules){rules.stubs, rules.smart, 0}, w, ink, without, had);
+  for (int64_t r = 0; r < w.height; r++) {
+    for (int64_t c = 0; c < w.width; c++) {
+      if (without[r][c] && !dropout[r][c]) fail("a dropout is lost with dots");
+      added += dropout[r][c] && !without[r][c];
+    }
+  }
+  if (added > (rules.dots ? o.contours : 0)) fail("more dots than contours");
+  for (int k = 0, from = 0; rules.dots && k < o.contours; from = o.ends[k++]) {
+    Point p;
+    if (!is_dot(&o, &round, from, o.ends[k], rules.stubs, &p)) continue;
+    int64_t c = p.x - w.left, r = p.y - w.bottom;
+    if (c < 0 || w.width <= c || r < 0 || w.height <= r) continue;
+    if (!ink->black[r + ROUND][c + ROUND] && !dropout[r][c]) fail("a dot is white");
+  }
+  move(&o, x * PIXEL, y * PIXEL);
+  o.least = (Point){o.least.x + x * PIXEL, o.least.y + y * PIXEL};
+  o.most = (Point){o.most.x + x * PIXEL, o.most.y + y * PIXEL};
+  w.left += x, w.bottom += y;
+  ink_outline(&o, w, &far);
+  find_dropouts(&o, rules, w, &far, shifted, had);
+  for (int64_t r = 0; r < w.height; r++) {
+    for (int64_t c = 0; c < w.width; c++) {
+      if (shifted[r][c] != dropout[r][c]) fail("a moved outline has other dropouts");
+    }
+  }
+}
+
 /* Writes a case for each of the four rules, and counts what they had. */
 static void ask(FILE *cases, FILE *answers, const Case *it, long *counts) {
   Ink ink;
   char dropout[SIDE][SIDE];
   ink_outline(&it->outline, it->window, &ink);
   for (int type = 0; type < 4; type++) {
-    Rules rules = {type % 2 == 0, type / 2};
+    Rules rules = {type % 2 == 0, type / 2, one_in(2)};
     int had[KINDS] = {0};
     find_dropouts(&it->outline, rules, it->window, &ink, dropout, had);
+    if (one_in(4)) keep_laws(it, rules, &ink, dropout);
     write_case(cases, rules, it);
     write_answer(answers, it->window, dropout);
     for (int k = 0; k < KINDS; k++) counts[k] += had[k];

@@ -14,10 +14,15 @@ is a crossing, or where an edge that is not level ends on the line in the gap, w
 types 0 and 1 it is the left pixel, by 4 and 5 the right one where the least place of a crossing upward and the least of
 one downward are 8320 or more together. A pixel outside the columns of the glyph's box is not taken, but the other one:
 these are the columns with centres in it, or where there is none, the one nearer to its middle, and of two the right
-one. The box is that of all points, those off the curve too. A gap adds its pixel unless the gap on its left asks for
-the pixel in common.
+one. The box is that of all points, those off the curve too. A gap adds its pixel unless the gap on its left takes the
+pixel in common: unless, of the gaps side by side up to that one that each ask for their right pixel, counted to four,
+there is an odd number.
 
 First all rows are filled, then all columns, for which what the rows added is black.
+
+A dot is a contour no crossing of which asks, by rows or by columns, free or not, whose box has at most two columns and
+two rows, and is at least 3/8 pixel long one way and 1/8 pixel the other. Where no program was run for a glyph, the pixel
+that holds the middle of each dot's box is black; a middle on a border goes right and up.
 """
 from itertools import accumulate
 
@@ -80,27 +85,61 @@ def added(contours, columns, black, stubs, smart):
         if is_asked and (gap, line) not in black and (gap + 1, line) not in black:
             column = gap + 1 if smart and min(up) + min(down) >= 8320 else gap
             asks[line, gap] = gap + 1 if column < first else gap if column > last else column
-    return {(column, line) for (line, gap), column in asks.items() if asks.get((line, gap - 1)) != gap}
+
+    def before(line, gap, most):
+        return 1 + before(line, gap - 1, most - 1) if most and asks.get((line, gap - 1)) == gap else 0
+
+    return {(column, line) for (line, gap), column in asks.items() if not before(line, gap, 4) % 2}
+
+
+def dot(edges, stubs):
+    """Returns the pixel, as (column, row), of a contour that is a dot, or None."""
+    places = [end for edge in edges for end in edge]
+    sides, pixel = [], []
+    for seen in places, [it[::-1] for it in places]:
+        first, last = columns_of(seen)
+        low, high = min(it[0] for it in seen), max(it[0] for it in seen)
+        if last - first > 1:
+            return None
+        sides.append(high - low)
+        pixel.append((low + high) // (2 * PIXEL))
+    if max(sides) < 3 * PIXEL // 8 or min(sides) < PIXEL // 8:
+        return None
+    if any(mark[0] for seen in ([edges], exchanged([edges])) for mark in marks(seen, stubs).values()):
+        return None
+    return tuple(pixel)
 
 
 def exchanged(contours):
     return [[tuple((y, x) for x, y in edge) for edge in edges] for edges in contours]
 
 
-def filled(contours, points, scan_type):
-    """Returns what is black of a glyph, by its pixels: `#` without dropouts, `r` by rows and `c` by columns."""
+def filled(contours, points, scan_type, dots):
+    """Returns what is black of a glyph, by its pixels: `#` without dropouts, `r` by rows, `c` by columns and `d` for dots,
+    if they are drawn."""
     edges = [edge for each in contours for edge in each]
     if not edges:
         return {}
     (left, right), (low, high) = columns_of(points), columns_of([it[::-1] for it in points])
     spots = [(column, row) for column in range(left - 1, right + 2) for row in range(low - 1, high + 2)]
     black = {spot for spot in spots if is_black(edges, *(PIXEL * it + HALF for it in spot))}
-    rows, columns = set(), set()
+    rows, columns, alone = set(), set(), set()
     if scan_type in "0145":
         rules = scan_type in "04", scan_type in "45"
         rows = added(contours, (left, right), black, *rules)
         columns = added(exchanged(contours), (low, high), {spot[::-1] for spot in black | rows}, *rules)
-    return {**{spot[::-1]: "c" for spot in columns}, **dict.fromkeys(rows, "r"), **dict.fromkeys(black, "#")}
+        alone = {dot(edges, rules[0]) for edges in contours if dots} - {None}
+    return {**dict.fromkeys(alone, "d"), **{spot[::-1]: "c" for spot in columns}, **dict.fromkeys(rows, "r"), **dict.fromkeys(black, "#")}
+
+
+def has_program(font, name):
+    """Tells whether a glyph or one of its components has a program, in a font that runs the programs of glyphs."""
+    glyph = font["glyf"][name]
+    if not {"fpgm", "prep"} & {*font.keys()} or not glyph.numberOfContours:
+        return False
+    if getattr(glyph, "program", None) and glyph.program.getBytecode():
+        return True
+    return glyph.isComposite() and any(has_program(font, it.glyphName) for it in glyph.components)
 
 
 def drawn_by_types(file, text, size, margin, types, outline=None):
@@ -119,8 +158,9 @@ def drawn_by_types(file, text, size, margin, types, outline=None):
         points, ends, phantom = outline or outlines.outline(glyph)
         contours = [chords(points[start:end], -phantom[0][0], True) for start, end in zip([0, *ends], ends)]
         places = [(128 * (x - phantom[0][0]), 128 * y) for x, y, _ in points]
-        for (column, row), sign in filled([it for it in contours if it], places, scan_type).items():
+        dots = not has_program(font, font.getGlyphName(glyph))
+        for (column, row), sign in filled([it for it in contours if it], places, scan_type, dots).items():
             r, c = rise + margin - 1 - row, pen + column
             if 0 <= r < len(rows) and 0 <= c < len(rows[0]):
-                rows[r][c] = min(rows[r][c], sign, key="#rc.".index)
+                rows[r][c] = min(rows[r][c], sign, key="#rcd.".index)
     return ["".join(it) for it in rows]

@@ -191,7 +191,7 @@ def picture(rows):
     """Returns the P4 file of rows of '#', 'r', 'c' and '.'."""
     file = f"P4\n{len(rows[0])} {len(rows)}\n".encode()
     for row in rows:
-        bits = row.translate(str.maketrans("#rc.", "1110"))
+        bits = row.translate(str.maketrans("#rcd.", "11110"))
         bits += "0" * (-len(bits) % 8)
         file += int(bits, 2).to_bytes(len(bits) // 8, "big")
     return file

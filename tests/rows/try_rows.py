@@ -135,7 +135,7 @@ def other_picture():
             continue
         rows = drawn_by_types(file, text, int(size), int(margin), "1" * len(text))
         count += 1
-        if ["".join("01"[it in "#rc"] for it in row) for row in rows] != rows_of(bytes.fromhex(stdout)):
+        if ["".join("01"[it in "#rcd"] for it in row) for row in rows] != rows_of(bytes.fromhex(stdout)):
             others.append(name)
     return count, others
 

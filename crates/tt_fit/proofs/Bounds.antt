@@ -51,11 +51,11 @@ placed-size : (grid : Grid) (z : FontSize) (r : Record) (component o all : Outli
 unfolding placed appended within_point_limit
 placed-size grid z r component o all was =
     let moved = came-through (shift_of grid z r component.points o.points) _ all was in
-    let landed = came-through (each (placed_point r moved.value) component.points) _ all moved.rest in
+    let landed = came-through (each (placed_point z.scale.halves r moved.value) component.points) _ all moved.rest in
     let few = came-through (within_point_limit r.at (o.points ++ landed.value)) _ all landed.rest in
     let same = (passed (nat_lt point_limit (length (o.points ++ landed.value))) _ (o.points ++ landed.value) few.value
     few.first).1 in
-    let many = length-each (placed_point r moved.value) component.points landed.value landed.first in
+    let many = length-each (placed_point z.scale.halves r moved.value) component.points landed.value landed.first in
     let points : length all.points ≡ length few.value = cc few.rest in
     let joined_ends : o.ends ++ ends_after (length o.points) component.ends ≡ all.ends = cc few.rest in
     let ends : length all.ends ≡ length o.ends + length component.ends = rw (← joined_ends)

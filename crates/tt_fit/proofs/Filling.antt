@@ -9,7 +9,7 @@ use Rattle.tt_state.specs.declared.graphics_state.ScanControl.{ScanControl}
 use Rattle.tt_fit.specs.declared.dropouts.DropoutsBy.TheVariants as by
 use Rattle.tt_fit.specs.declared.programs.Fit.{Fit}
 use Rattle.tt_fit.specs.declared.programs.Fit.TheVariants as fit
-use Rattle.tt_fit.specs.Dropouts.{default_rules, type_rules, rules_by}
+use Rattle.tt_fit.specs.Dropouts.{default_rules, none_ran, rules_by, type_rules}
 use Rattle.tt_fit.specs.Fitting.{Fitter, after_glyph}
 use Rattle.tt_fit_outline.specs.Hinting.{Hinting, off}
 use Rattle.tt_fit.specs.Laws.{OthersFillNone, RulesStay, UnfittedByTypeOne, EmptyByTypeOne, SkippedByTypeOne, FittedByScan, OffFillsNone, OtherTypesFillNone}
@@ -73,10 +73,10 @@ pub off-fills-none : OffFillsNone
 off-fills-none m tables programs ppem s o scan left is =
     rw (fitted-by-scan m tables programs ppem s o scan left, is) refl
 
-other_by : (on : Bool) (n : ℕ) → n ≢ 0 → n ≢ 1 → n ≢ 4 → n ≢ 5 → (if on then type_rules n else None) ≡ None
-other_by true n a b c d = rw (not_same n 0 a, not_same n 1 b, not_same n 4 c, not_same n 5 d) refl
-other_by false n a b c d = refl
+other_by : (on dots : Bool) (n : ℕ) → n ≢ 0 → n ≢ 1 → n ≢ 4 → n ≢ 5 → (if on then type_rules dots n else None) ≡ None
+other_by true dots n a b c d = rw (not_same n 0 a, not_same n 1 b, not_same n 4 c, not_same n 5 d) refl
+other_by false dots n a b c d = refl
 
 pub other-types-fill-none : OtherTypesFillNone
 other-types-fill-none m tables programs ppem s o scan left a b c d =
-    fitted-by-scan m tables programs ppem s o scan left ∙ other_by scan.on scan.scan_type a b c d
+    fitted-by-scan m tables programs ppem s o scan left ∙ other_by scan.on (none_ran o.scan) scan.scan_type a b c d

@@ -114,9 +114,10 @@ bad-place : (s : Fitter) (r : Record) (component o : Outline) (f : Fault)
 unfolding is_program_fault why_number
 bad-place s r component o f (inl unmatched) = rw (unmatched.2) refl
 bad-place s r component o f (inr (inl landing)) =
+    let h = (size_of s).scale.halves in
     let P : ℤ × ℤ → Type 0 = λ by.
     (i : ℕ) × (p : ℤ × ℤ × Bool) × (slice_get component.points i ≡ Some p)
-    × LeavesLimit (landed r by p).0 (landed r by p).1 × (f ≡ coordinate_fault r.at) in
+    × LeavesLimit (landed h r by p).0 (landed h r by p).1 × (f ≡ coordinate_fault r.at) in
     within (shift_of (glyph_grid s) (size_of s) r component.points o.points) P f (λ by bad. bad-start r.at f bad.4)
     landing
 bad-place s r component o f (inr (inr many)) = rw (many.1) refl

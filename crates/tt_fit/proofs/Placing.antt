@@ -8,6 +8,7 @@ use Rattle.std.proofs.lemmas.Option.{slice_get_within, slice_get_cases}
 use Rattle.tt_core.specs.Chains.{came-through, was-err, passed, passed-else, failed, failed-else, not-below}
 use Rattle.tt_core.specs.Faults.{Fault}
 use Rattle.tt_core.specs.declared.fault.Why.TheVariants as why
+use Rattle.tt_core.specs.declared.halves.Halves.{Halves}
 use Rattle.tt_core.specs.Limits.{point_limit}
 use Rattle.tt_core.specs.Outcomes.{each}
 use Rattle.tt_core.proofs.Each.{each-failed, each-made, length-each}
@@ -145,19 +146,19 @@ has-point ps (pos n) p is (inl below) = absurd (omega (arith, ints))
 has-point ps (pos n) p is (inr past) = let within = slice_get_within ps n p is in absurd (omega (arith, ints))
 has-point ps (negsuc n) p is lacking = absurd cc
 
-matched-broke : (r : Record) (p q : Option (ℤ × ℤ × Bool)) (f : Fault) → matched_by r p q ≡ Err f
+matched-broke : (h : Halves) (r : Record) (p q : Option (ℤ × ℤ × Bool)) (f : Fault) → matched_by h r p q ≡ Err f
     → ((p ≡ None) ⊎ (q ≡ None)) × (f ≡ glyf_fault r.at why.MatchPoint)
-matched-broke r (Some p) (Some q) f was = absurd cc
-matched-broke r (Some p) None f was = (inr refl, cc)
-matched-broke r None q f was = (inl refl, cc)
+matched-broke h r (Some p) (Some q) f was = absurd cc
+matched-broke h r (Some p) None f was = (inr refl, cc)
+matched-broke h r None q f was = (inl refl, cc)
 
 shift-broke-by : (grid : Grid) (z : FontSize) (r : Record) (component points : List (ℤ × ℤ × Bool)) (f : Fault) (by_offset : Bool)
     → has r.flags args_are_xy_values ≡ by_offset
-    → (if by_offset then Ok (offset_of grid z r) else matched_by r (point_of component r.arg2) (point_of points r.arg1))
+    → (if by_offset then Ok (offset_of grid z r) else matched_by z.scale.halves r (point_of component r.arg2) (point_of points r.arg1))
     ≡ Err f → IsMatchDefect r component points f
 shift-broke-by grid z r component points f true is was = absurd cc
 shift-broke-by grid z r component points f false is was =
-    let broke = matched-broke r (point_of component r.arg2) (point_of points r.arg1) f was in (
+    let broke = matched-broke z.scale.halves r (point_of component r.arg2) (point_of points r.arg1) f was in (
       is,
       elim (broke.0) [
         | inl none ↦ inl (lacks component r.arg2 none)
@@ -172,19 +173,19 @@ unfolding shift_of
 shift-broke grid z r component points f was =
     shift-broke-by grid z r component points f (has r.flags args_are_xy_values) refl was
 
-matched-made : (r : Record) (p q : Option (ℤ × ℤ × Bool)) (by : ℤ × ℤ) → matched_by r p q ≡ Ok by
+matched-made : (h : Halves) (r : Record) (p q : Option (ℤ × ℤ × Bool)) (by : ℤ × ℤ) → matched_by h r p q ≡ Ok by
     → (a : ℤ × ℤ × Bool) × (b : ℤ × ℤ × Bool) × (p ≡ Some a) × (q ≡ Some b)
-matched-made r (Some p) (Some q) by was = (p, q, refl, refl)
-matched-made r (Some p) None by was = absurd cc
-matched-made r None q by was = absurd cc
+matched-made h r (Some p) (Some q) by was = (p, q, refl, refl)
+matched-made h r (Some p) None by was = absurd cc
+matched-made h r None q by was = absurd cc
 
 shift-whole-by : (grid : Grid) (z : FontSize) (r : Record) (component points : List (ℤ × ℤ × Bool)) (by : ℤ × ℤ) (f : Fault)
     (by_offset : Bool) → has r.flags args_are_xy_values ≡ by_offset
-    → (if by_offset then Ok (offset_of grid z r) else matched_by r (point_of component r.arg2) (point_of points r.arg1))
+    → (if by_offset then Ok (offset_of grid z r) else matched_by z.scale.halves r (point_of component r.arg2) (point_of points r.arg1))
     ≡ Ok by → IsMatchDefect r component points f → ⊥
 shift-whole-by grid z r component points by f true is was bad = let other = bad.0 in absurd cc
 shift-whole-by grid z r component points by f false is was bad =
-    let found = matched-made r (point_of component r.arg2) (point_of points r.arg1) by was in
+    let found = matched-made z.scale.halves r (point_of component r.arg2) (point_of points r.arg1) by was in
     elim (bad.1) [
       | inl lacking ↦ has-point component r.arg2 found.0 found.2 lacking
       | inr lacking ↦ has-point points r.arg1 found.1 found.3 lacking
@@ -218,37 +219,37 @@ count-whole r points landed component all f many was bad =
 
 -- a component's points in their places
 landing-broke : (grid : Grid) (z : FontSize) (r : Record) (component points : List (ℤ × ℤ × Bool)) (by : ℤ × ℤ) (f : Fault)
-    → shift_of grid z r component points ≡ Ok by → each (placed_point r by) component ≡ Err f
+    → shift_of grid z r component points ≡ Ok by → each (placed_point z.scale.halves r by) component ≡ Err f
     → IsLandingDefect grid z r component points f
 landing-broke grid z r component points by f shifted was =
-    let point = each-failed (placed_point r by) component f was in
-    let broke = settled-broke r.at (landed r by point.1) f point.3 in
+    let point = each-failed (placed_point z.scale.halves r by) component f was in
+    let broke = settled-broke r.at (landed z.scale.halves r by point.1) f point.3 in
     let P : Result (ℤ × ℤ) Fault → Type 0 = λ x. IsOkAnd x (λ by.
     (i : ℕ) × (p : ℤ × ℤ × Bool) × (slice_get component i ≡ Some p)
-    × LeavesLimit (landed r by p).0 (landed r by p).1 × (f ≡ coordinate_fault r.at)) in
+    × LeavesLimit (landed z.scale.halves r by p).0 (landed z.scale.halves r by p).1 × (f ≡ coordinate_fault r.at)) in
     subst P (sym shifted) (point.0, point.1, point.2, broke.0, broke.1)
 
 landing-whole : (grid : Grid) (z : FontSize) (r : Record) (component points all : List (ℤ × ℤ × Bool)) (by : ℤ × ℤ) (f : Fault)
-    → shift_of grid z r component points ≡ Ok by → each (placed_point r by) component ≡ Ok all
+    → shift_of grid z r component points ≡ Ok by → each (placed_point z.scale.halves r by) component ≡ Ok all
     → IsLandingDefect grid z r component points f → ⊥
 landing-whole grid z r component points all by f shifted was bad =
     let P : Result (ℤ × ℤ) Fault → Type 0 = λ x. IsOkAnd x (λ by.
     (i : ℕ) × (p : ℤ × ℤ × Bool) × (slice_get component i ≡ Some p)
-    × LeavesLimit (landed r by p).0 (landed r by p).1 × (f ≡ coordinate_fault r.at)) in
+    × LeavesLimit (landed z.scale.halves r by p).0 (landed z.scale.halves r by p).1 × (f ≡ coordinate_fault r.at)) in
     let there = subst P shifted bad in
-    let one = each-made (placed_point r by) component all there.0 there.1 was there.2 in
-    settled-stays r.at (landed r by there.1) one.0 one.1 there.3
+    let one = each-made (placed_point z.scale.halves r by) component all there.0 there.1 was there.2 in
+    settled-stays r.at (landed z.scale.halves r by there.1) one.0 one.1 there.3
 
 pub placing-broke : (grid : Grid) (z : FontSize) (r : Record) (component o : Outline) (f : Fault) → placed grid z r component o ≡ Err f
     → IsPlacingDefect grid z r component o f
 unfolding placed appended
 placing-broke grid z r component o f was = elim (was-err (shift_of grid z r component.points o.points) _ f was) [
   | inl here ↦ inl (shift-broke grid z r component.points o.points f here)
-  | inr moved ↦ elim (was-err (each (placed_point r moved.value) component.points) _ f moved.rest) [
+  | inr moved ↦ elim (was-err (each (placed_point z.scale.halves r moved.value) component.points) _ f moved.rest) [
     | inl here ↦ inr (inl (landing-broke grid z r component.points o.points moved.value f moved.first here))
     | inr all ↦ elim (was-err (within_point_limit r.at (o.points ++ all.value)) _ f all.rest) [
       | inl here ↦
-          let many = length-each (placed_point r moved.value) component.points all.value all.first in
+          let many = length-each (placed_point z.scale.halves r moved.value) component.points all.value all.first in
           inr (inr (count-broke r o.points all.value component.points f many here))
       | inr whole ↦ let done = whole.rest in absurd cc
     ]
@@ -260,12 +261,12 @@ pub placing-whole : (grid : Grid) (z : FontSize) (r : Record) (component o made 
 unfolding placed appended
 placing-whole grid z r component o made f was bad =
     let moved = came-through (shift_of grid z r component.points o.points) _ made was in
-    let all = came-through (each (placed_point r moved.value) component.points) _ made moved.rest in
+    let all = came-through (each (placed_point z.scale.halves r moved.value) component.points) _ made moved.rest in
     let few = came-through (within_point_limit r.at (o.points ++ all.value)) _ made all.rest in
     elim bad [
       | inl unmatched ↦ shift-whole grid z r component.points o.points moved.value f moved.first unmatched
       | inr (inl past) ↦ landing-whole grid z r component.points o.points all.value moved.value f moved.first all.first past
       | inr (inr count) ↦
-          let many = length-each (placed_point r moved.value) component.points all.value all.first in
+          let many = length-each (placed_point z.scale.halves r moved.value) component.points all.value all.first in
           count-whole r o.points all.value component.points few.value f many few.first count
     ]

@@ -3,6 +3,7 @@ use Rattle.std.proofs.Common.{◌≡◌, ◌∙◌, sym, ap, ℕ, zero, suc, ◌
 use Rattle.std.proofs.lemmas.Grind.{and-not_self, and_not_bit}
 use Rattle.tt_core.specs.Faults.{Fault}
 use Rattle.tt_core.specs.Outcomes.{◌>>=◌, each}
+use Rattle.tt_core.specs.declared.halves.Halves.{Halves}
 use Rattle.tt_glyf.specs.Format.{args_are_xy_values, round_xy_to_grid, use_my_metrics, has}
 use Rattle.tt_glyf.specs.GlyphData.{glyph_data_of}
 use Rattle.tt_glyf.specs.Loca.{glyph_offset}
@@ -70,10 +71,10 @@ if-same : {X : Type 0} (p q : Bool) (a b c d : X) → p ≡ q → a ≡ b → c 
     → (if p then a else c) ≡ (if q then b else d)
 if-same p q a b c d test first second = rw (test, first, second) refl
 
-matched-plain : (r : Record) (p q : Option (ℤ × ℤ × Bool)) → matched_by r p q ≡ matched_by (without_rounding r) p q
-matched-plain r (Some p) (Some q) = refl
-matched-plain r (Some p) None = refl
-matched-plain r None q = refl
+matched-plain : (h : Halves) (r : Record) (p q : Option (ℤ × ℤ × Bool)) → matched_by h r p q ≡ matched_by h (without_rounding r) p q
+matched-plain h r (Some p) (Some q) = refl
+matched-plain h r (Some p) None = refl
+matched-plain h r None q = refl
 
 shift-plain : (z : FontSize) (by : Grid) (r : Record) (component points : List (ℤ × ℤ × Bool))
     → shift_of rounding.Unrounded z r component points ≡ shift_of by z (without_rounding r) component points
@@ -81,12 +82,12 @@ unfolding shift_of
 shift-plain z by r component points =
     if-same (has r.flags args_are_xy_values) (has (without_rounding r).flags args_are_xy_values)
     (Ok (offset_of rounding.Unrounded z r)) (Ok (offset_of by z (without_rounding r)))
-    (matched_by r (point_of component r.arg2) (point_of points r.arg1))
-    (matched_by (without_rounding r) (point_of component r.arg2) (point_of points r.arg1)) (sym (xy-stays r))
+    (matched_by z.scale.halves r (point_of component r.arg2) (point_of points r.arg1))
+    (matched_by z.scale.halves (without_rounding r) (point_of component r.arg2) (point_of points r.arg1)) (sym (xy-stays r))
     (both-same (offset_along rounding.Unrounded z r r.arg1) (offset_along by z (without_rounding r) r.arg1)
     (offset_along rounding.Unrounded z r r.arg2) (offset_along by z (without_rounding r) r.arg2) (along z by r r.arg1)
     (along z by r r.arg2))
-    (matched-plain r (point_of component r.arg2) (point_of points r.arg1))
+    (matched-plain z.scale.halves r (point_of component r.arg2) (point_of points r.arg1))
 
 phantom-plain : (r : Record) (component o : Outline)
     → phantom_with r component o ≡ phantom_with (without_rounding r) component o
@@ -109,12 +110,12 @@ ended-alike : (points : List (ℤ × ℤ × Bool)) (a b : PhantomPoints) (compon
     → ◌≡◌ {A = Result Outline Fault} (Ok (joined_with points a component o)) (Ok (joined_with points b component o))
 ended-alike points a b component o same = rw same refl
 
-appended-plain : (r : Record) (by : ℤ × ℤ) (component o : Outline)
-    → appended r by component o ≡ appended (without_rounding r) by component o
+appended-plain : (h : Halves) (r : Record) (by : ℤ × ℤ) (component o : Outline)
+    → appended h r by component o ≡ appended h (without_rounding r) by component o
 unfolding appended
-appended-plain r by component o =
+appended-plain h r by component o =
     let p = without_rounding r in
-    bind-same (each (placed_point r by) component.points)
+    bind-same (each (placed_point h r by) component.points)
     (λ landed. within_point_limit r.at (o.points ++ landed) >>= ended r component o)
     (λ landed. within_point_limit r.at (o.points ++ landed) >>= ended p component o)
     (λ landed. bind-same (within_point_limit r.at (o.points ++ landed)) (ended r component o) (ended p component o)
@@ -126,9 +127,9 @@ placed-plain : (z : FontSize) (by : Grid) (r : Record) (component o : Outline)
 unfolding placed
 placed-plain z by r component o =
     bind-alike (shift_of rounding.Unrounded z r component.points o.points)
-    (shift_of by z (without_rounding r) component.points o.points) (λ to. appended r to component o)
-    (λ to. appended (without_rounding r) to component o) (shift-plain z by r component.points o.points)
-    (λ to. appended-plain r to component o)
+    (shift_of by z (without_rounding r) component.points o.points) (λ to. appended z.scale.halves r to component o)
+    (λ to. appended z.scale.halves (without_rounding r) to component o) (shift-plain z by r component.points o.points)
+    (λ to. appended-plain z.scale.halves r to component o)
 
 -- the records of a glyph
 joined-plain : (add plain_add : Record → Outline → Result Outline Fault)

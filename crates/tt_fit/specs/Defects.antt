@@ -65,7 +65,7 @@ IsMatchDefect r component points fault =
 abbrev pub IsLandingDefect : Grid → FontSize → Record → List (ℤ × ℤ × Bool) → List (ℤ × ℤ × Bool) → Fault → Type 0
 IsLandingDefect grid z r component points fault = IsOkAnd (shift_of grid z r component points) (λ by.
     (i : ℕ) × (p : ℤ × ℤ × Bool) × (slice_get component i ≡ Some p)
-    × LeavesLimit (landed r by p).0 (landed r by p).1 × (fault ≡ coordinate_fault r.at))
+    × LeavesLimit (landed z.scale.halves r by p).0 (landed z.scale.halves r by p).1 × (fault ≡ coordinate_fault r.at))
 
 -- together they are more points than a glyph may have
 abbrev pub IsCountDefect : Record → List (ℤ × ℤ × Bool) → List (ℤ × ℤ × Bool) → Fault → Type 0

@@ -18,7 +18,7 @@ use Rattle.tt_state.specs.declared.point.Point.{Point}
 use Rattle.tt_fit.specs.declared.programs.Fit.{Fit}
 use Rattle.tt_fit.specs.declared.programs.Fit.TheVariants as fit
 use Rattle.tt_fit.specs.Defects.{IsOutlineDefect}
-use Rattle.tt_fit.specs.Dropouts.{default_rules, scan_rules, scan_left, dropouts_of}
+use Rattle.tt_fit.specs.Dropouts.{default_rules, none_ran, scan_rules, scan_left, dropouts_of}
 use Rattle.tt_fit.specs.Fallback.{never, where_refused, is_program_fault}
 use Rattle.tt_fit.specs.Fitting.{Fitter, with_hinting, size_of, start, simple_program, outline_at, glyph_work, unfitted_fault, fitted_outline, after_glyph}
 use Rattle.tt_fit_outline.specs.Hinting.{off, ready, run_of}
@@ -220,10 +220,10 @@ pub record LeftScan (m : Metrics) (tables : Glyf) (programs : ProgramTables) (pp
   pub hinting : s.hinting ≡ ready parts
   pub left : scan_left o.scan parts.state.scan ≡ scan
 
--- then a fitted glyph has the rules of the scan control
+-- then a fitted glyph has the rules of the scan control, with dots where no program was run for it
 abbrev pub FittedByScan : Type 0
 FittedByScan = (m : Metrics) (tables : Glyf) (programs : ProgramTables) (ppem : ℕ) (s : Fitter) (o : Outline)
-    (scan : ScanControl) → LeftScan m tables programs ppem s o scan → dropouts_of s None o ≡ scan_rules scan
+    (scan : ScanControl) → LeftScan m tables programs ppem s o scan → dropouts_of s None o ≡ scan_rules (none_ran o.scan) scan
 
 -- where the scan control is off, the glyph's dropouts are not filled
 abbrev pub OffFillsNone : Type 0

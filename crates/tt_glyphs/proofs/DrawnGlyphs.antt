@@ -19,7 +19,7 @@ use Rattle.tt_scan.specs.Contours.{contours_at}
 use Rattle.tt_scan_dropouts.specs.Dropouts.{is_dropout}
 use Rattle.tt_scan_dropouts.specs.Laws.{outline_moved, rules_moved}
 use Rattle.tt_scan_dropouts.specs.declared.boxed.BoxedRules.{BoxedRules}
-use Rattle.tt_scan_dropouts.proofs.Moved.{dropouts_move}
+use Rattle.tt_scan_dropouts.proofs.MovedDots.{dropouts_move}
 use Rattle.tt_scan_edges.specs.declared.edge.Edge.{Edge}
 use Rattle.tt_scan_edges.specs.Winding.{is_black}
 use Rattle.tt_scan_gaps.specs.Crossings.{centre}

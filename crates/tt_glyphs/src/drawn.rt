@@ -121,7 +121,7 @@ fn filled_in(alloc: Global, window: Window, edged: &EdgedOutline) -> Result<Vec<
     let Some(rules) = *filled else {
         return Ok(Vec::new(alloc));
     };
-    if !may_have_dropouts(rules.rules.stubs, tape.lend(), ends) {
+    if !may_have_dropouts(rules.rules, tape.lend(), ends) {
         return Ok(Vec::new(alloc));
     }
     dropouts(alloc, Outlined { rules, tape, ends }, window)

@@ -20,7 +20,7 @@ use tt_arc::OutlineEdges;
 use tt_core::Fault;
 use tt_picture::{edges_of, tape_crossings};
 use tt_scan::{Frame, Tape};
-use tt_scan_dropouts::{BoxedRules, pixels_in};
+use tt_scan_dropouts::{BoxedRules, pixels_reached};
 use tt_scan_ink::{GlyphInk, dropouts_ink, edges_ink, joined};
 
 /// A frame of `height` rows. The highest is the line below line `past`; columns count from the pen.
@@ -47,7 +47,7 @@ fn first_frame(filled: Option<BoxedRules>) -> Frame
     let Some(rules) = filled else {
         return rows_frame(0, 1);
     };
-    let (_, rows) = pixels_in(rules.extents);
+    let (_, rows) = pixels_reached(rules.extents, rules.rules.dots);
     let height = count(rows.first, rows.last);
     if height > MOST_SIDE {
         return rows_frame(0, 1);

@@ -14,7 +14,7 @@ use crate::lines::LineWords;
 use crate::placing::count;
 use std::alloc::{AllocError, Global};
 use tt_scan::Sweep;
-use tt_scan_dropouts::{Bitmap, Columns, Window, black_pixels, pixels_in};
+use tt_scan_dropouts::{Bitmap, Columns, Window, black_pixels, pixels_reached};
 
 /// The most columns, and the most rows, of the box of a glyph whose pixels are words.
 pub(crate) const MOST_SIDE: u32 = 32;
@@ -121,7 +121,7 @@ pub(crate) fn words_by(
     let Some(rules) = edged.filled else {
         return Ok(None);
     };
-    let (columns, rows) = pixels_in(rules.extents);
+    let (columns, rows) = pixels_reached(rules.extents, rules.rules.dots);
     if !is_small(columns, rows) {
         return Ok(None);
     }

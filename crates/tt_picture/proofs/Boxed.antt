@@ -4,12 +4,12 @@ use Rattle.std.proofs.lemmas.Int.{ints}
 use Rattle.tt_scan.specs.Contours.{AreEnds, contours_at}
 use Rattle.tt_scan_dropouts.proofs.Clips.{dropout_boxed}
 use Rattle.tt_scan_dropouts.proofs.Outlines.{edges_at}
-use Rattle.tt_scan_dropouts.specs.Dropouts.{is_dropout}
+use Rattle.tt_scan_dropouts.specs.Dropouts.{columns_of_rules, is_dropout, rows_of_rules}
 use Rattle.tt_scan_dropouts.specs.Windows.{box_has, has}
 use Rattle.tt_scan_dropouts.specs.declared.boxed.BoxedRules.{BoxedRules}
 use Rattle.tt_scan_dropouts.specs.declared.window.Window.{Window}
 use Rattle.tt_scan_edges.specs.declared.edge.Edge.{Edge}
-use Rattle.tt_scan_gaps.specs.Boxes.{IsBoxOf, columns_in, rows_in}
+use Rattle.tt_scan_gaps.specs.Boxes.{IsBoxOf}
 use Rattle.tt_scan_gaps.specs.declared.mark.Columns.{Columns}
 use Rattle.std.specs.Prelude.{ℕ, length}
 
@@ -35,9 +35,9 @@ where_so false true so = let not : false ≡ true = so refl in absurd cc
 where_so false false so = refl
 
 pub all_in_window : (rules : BoxedRules) (es : List Edge) (ends : List ℕ) (w : Window) (c j : ℤ)
-    → IsBoxOf rules.extents es → AreEnds (length es) ends → IsWindowOf (columns_in rules.extents) (rows_in rules.extents) w
+    → IsBoxOf rules.extents es → AreEnds (length es) ends → IsWindowOf (columns_of_rules rules) (rows_of_rules rules) w
     → (has w c j && is_dropout rules (contours_at es ends) c j) ≡ is_dropout rules (contours_at es ends) c j
 all_in_window rules es ends w c j boxed are is =
     where_so (has w c j) (is_dropout rules (contours_at es ends) c j)
-    (λ drop. in_window (columns_in rules.extents) (rows_in rules.extents) w c j is
+    (λ drop. in_window (columns_of_rules rules) (rows_of_rules rules) w c j is
     (dropout_boxed rules (contours_at es ends) c j (rw (edges_at es ends are) boxed.held) drop))

@@ -156,7 +156,7 @@ box_by : (filled : Option BoxedRules) (rules : Option DropoutRules) (way : Chord
 box_by None rules way o es is fits edges = tt
 box_by (Some boxed) None way o es is fits edges = absurd cc
 box_by (Some boxed) (Some rules) way o es is fits edges =
-    let same : boxed ≡ record { rules = record { stubs = rules.stubs; smart = rules.smart }; extents = extents_of o } = cc in
+    let same : boxed ≡ record { rules = record { stubs = rules.stubs; smart = rules.smart; dots = rules.dots }; extents = extents_of o } = cc in
     let box : boxed.extents ≡ extents_of o = ap (λ (b : BoxedRules). b.extents) same in
     record {
       fits = fits;

@@ -70,7 +70,7 @@ box_of None rules way o body is of_tape fits has = tt
 box_of (Some boxed) None way o body is of_tape fits has = let none = is of_tape in absurd cc
 box_of (Some boxed) (Some rules) way o body is of_tape fits has =
     let some = is of_tape in
-    let same : boxed ≡ record { rules = record { stubs = rules.stubs; smart = rules.smart }; extents = extents_of o } = cc in
+    let same : boxed ≡ record { rules = record { stubs = rules.stubs; smart = rules.smart; dots = rules.dots }; extents = extents_of o } = cc in
     let box : boxed.extents ≡ extents_of o = ap (λ (b : BoxedRules). b.extents) same in
     record {
       fits = fits;

@@ -20,7 +20,7 @@ use Rattle.tt_scan_dropouts.specs.Counted.{edges_counted}
 use Rattle.tt_scan_dropouts.specs.Dropouts.{is_dropout}
 use Rattle.tt_scan_dropouts.specs.Laws.{moved, outline_moved, rules_moved}
 use Rattle.tt_scan_dropouts.proofs.Counts.{edges_stay}
-use Rattle.tt_scan_dropouts.proofs.Moved.{dropouts_move}
+use Rattle.tt_scan_dropouts.proofs.MovedDots.{dropouts_move}
 use Rattle.tt_scan_dropouts.specs.Pictures.{column_at, line_at}
 use Rattle.tt_scan_dropouts.specs.declared.boxed.BoxedRules.{BoxedRules}
 use Rattle.tt_scan_rows.specs.Raster.{line_y}

@@ -49,7 +49,7 @@ extents_of o = points_box o.points (offset_at 0 o) (pos 0)
 -- the dropout rules in the scan converter's type, with the glyph's box
 abbrev pub rules_for : Extents → Option DropoutRules → Option BoxedRules
 rules_for b None = None
-rules_for b (Some rules) = Some (record { rules = record { stubs = rules.stubs; smart = rules.smart }; extents = b })
+rules_for b (Some rules) = Some (record { rules = record { stubs = rules.stubs; smart = rules.smart; dots = rules.dots }; extents = b })
 
 -- the dropout rules of a glyph at pen 0
 abbrev pub filled_by : Fitter → ℕ → Outline → Option BoxedRules

@@ -26,7 +26,7 @@ use tt_core::{Fault, HEIGHT_LIMIT, WIDTH_LIMIT};
 use tt_scan::Tape;
 use tt_scan_dropouts::{
     BoxedRules, Columns, Outlined, Pixel, Window, all_counted, dropouts, edges_counted,
-    may_have_dropouts, pixels_in,
+    may_have_dropouts, pixels_reached,
 };
 use tt_scan_rows::{CutGlyph, Raster};
 use tt_strike_kept::KeptGlyph;
@@ -77,10 +77,10 @@ fn all_dropouts(alloc: Global, glyph: Outlined) -> Result<Option<Vec<Pixel>>, Al
     ensures { IfOk result (λ o. IfSome o (λ v. (c j : ℤ) → has_pixel v.items c j
         ≡ is_dropout glyph.entry.rules (contours_at glyph.entry.tape.now.edges glyph.entry.ends.now) c j)) }
 {
-    if !may_have_dropouts(glyph.rules.rules.stubs, glyph.tape.lend(), glyph.ends) {
+    if !may_have_dropouts(glyph.rules.rules, glyph.tape.lend(), glyph.ends) {
         return Ok(Some(Vec::new(alloc)));
     }
-    let (columns, rows) = pixels_in(glyph.rules.extents);
+    let (columns, rows) = pixels_reached(glyph.rules.extents, glyph.rules.rules.dots);
     let Some(window) = window_of(columns, rows) else {
         return Ok(None);
     };

@@ -186,6 +186,7 @@ pub fn rules_for(outline: &Outline, rules: Option<DropoutRules>) -> Option<Boxed
             rules: Rules {
                 stubs: rules.stubs,
                 smart: rules.smart,
+                dots: rules.dots,
             },
             extents: extents_of(outline),
         }),

@@ -11,7 +11,7 @@ ghost use Rattle.tt_picture.specs.Unfitted.{unfitted_standing};
 use crate::dropouts::line_dropouts;
 use crate::glyph::Glyph;
 use crate::report::{Report, Unfitted, report_on};
-use crate::rows::{add_dropouts, add_glyphs, crosses, most_edges, row_bytes, whiten};
+use crate::rows::{add_dropouts, add_glyphs, crosses, most_edges, row_bytes};
 use std::alloc::{AllocError, Global};
 use std::marker::Model;
 use tt_scan::{Frame, Sweep};
@@ -180,7 +180,7 @@ impl Picture {
     {
         let frame = self.frame;
         let from = self.made;
-        whiten(band);
+        band.fill(0);
         add_glyphs(&mut self.glyphs, &mut self.sweep, frame, from, count, band);
         add_dropouts(&self.dropouts, frame, from, count, band);
         self.made += count;

@@ -1,6 +1,6 @@
 //! What some glyphs and dropouts give to some rows of their picture.
 
-ghost use Rattle.std.specs.Prelude.{◌≡◌, ℕ, ◌+◌, ◌-◌, ◌^◌, ◌≤◌, ◌&&◌, min, nat_lt, length, replicate, All};
+ghost use Rattle.std.specs.Prelude.{◌≡◌, ℕ, ◌+◌, ◌-◌, ◌^◌, ◌≤◌, ◌&&◌, min, nat_lt, length, All};
 ghost use Rattle.tt_core.specs.Bits.{stride};
 ghost use Rattle.tt_scan_dropouts.specs.Pictures.{AreDropouts, is_among};
 ghost use Rattle.tt_scan_rows.specs.Bands.{IsBandBlackened};
@@ -38,13 +38,6 @@ pub(crate) fn row_bytes(frame: Frame) -> usize
     ensures { result ≡ stride frame.width }
 {
     (frame.width as usize).div_ceil(8)
-}
-
-/// Makes each pixel of some rows white.
-pub(crate) fn whiten(band: &mut [u8])
-    ensures { band.new ≡ replicate (length band.old) 0 }
-{
-    band.fill(0);
 }
 
 /// Blackens the pixels of `count` rows from row `from` on that some glyph covers; all others are unchanged.

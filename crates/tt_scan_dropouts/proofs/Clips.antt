@@ -1,17 +1,18 @@
 -- The part of a window that lies in a box. A glyph's dropouts need be sought in its box alone.
-use Rattle.std.proofs.Common.{◌≡◌, refl, sym, ◌∙◌, ℕ, Bool, true, false, ◌&&◌, List, arith}
+use Rattle.std.proofs.Common.{◌≡◌, refl, sym, ◌∙◌, ℕ, ◌+◌, ◌≤◌, Bool, true, false, ◌&&◌, List, arith}
 use Rattle.std.specs.Prelude.{ℤ, pos, ◌+ℤ◌, ◌-ℤ◌, ◌≤ℤ◌, ◌<ℤ◌, int_le, int_lt, unsigned_abs}
 use Rattle.std.specs.Int.{int_max, int_min}
 use Rattle.std.proofs.lemmas.Int.{clamps, ints}
 use Rattle.tt_scan_edges.specs.declared.edge.Edge.{Edge}
-use Rattle.tt_scan_gaps.specs.Boxes.{ColumnsFit, HoldsEdges, columns_in, is_column_of, rows_in}
-use Rattle.tt_scan_dropouts.specs.Dropouts.{edges_of, is_dropout}
-use Rattle.tt_scan_dropouts.specs.Windows.{IsPart, WindowFits, box_has, has, is_within, widened}
+use Rattle.tt_scan_gaps.specs.Boxes.{ColumnsNear, HoldsEdges, is_column_of}
+use Rattle.tt_scan_dropouts.specs.Dropouts.{columns_of_rules, edges_of, is_dropout, rows_of_rules}
+use Rattle.tt_scan_dropouts.specs.Windows.{IsPart, WindowFits, WindowNear, box_has, has, is_within, widened}
 use Rattle.tt_scan_gaps.specs.declared.mark.Columns.{Columns}
 use Rattle.tt_scan_dropouts.specs.declared.boxed.BoxedRules.{BoxedRules}
 use Rattle.tt_scan_dropouts.specs.declared.window.Part.{Part}
 use Rattle.tt_scan_dropouts.specs.declared.window.Window.{Window}
-use Rattle.tt_scan_dropouts.proofs.InBox.{LiesInBox, dropout_in_box}
+use Rattle.tt_scan_dropouts.proofs.InBox.{LiesInBox}
+use Rattle.tt_scan_dropouts.proofs.Reached.{dropout_reached}
 
 -- numbers from one up to another
 
@@ -54,6 +55,8 @@ overlap_part first count b from end h order =
     let stop = h.stop in
     record {
       some = omega (arith, ints, order);
+      within = omega (arith, ints, clamps, start);
+      last = omega (arith, ints, clamps, order, stop);
       low = omega (arith, ints, clamps, start);
       near = omega (arith, ints, start);
       high = omega (arith, ints, clamps, order, stop);
@@ -78,17 +81,27 @@ parts_are w columns rows across up is also c j =
     (swapped (is_within w.left w.width c) (is_column_of columns c) (is_within w.bottom w.height j)
     (is_column_of rows j))
 
-pub parts_fit : (w : Window) (columns rows : Columns) (across up : Part) → WindowFits (widened 2 w)
-    → ColumnsFit columns → ColumnsFit rows
+pub parts_near : (w : Window) (columns rows : Columns) (across up : Part) → ColumnsNear columns → ColumnsNear rows
     → IsPart w.left w.width columns across → IsPart w.bottom w.height rows up
-    → WindowFits (widened 2 (record { left = across.from; bottom = up.from; width = across.count; height = up.count }))
-parts_fit w columns rows across up fits column row is also = record {
-  left = omega (arith, ints, clamps, fits.left, column.first, is.low, is.near);
-  bottom = omega (arith, ints, clamps, fits.bottom, row.first, also.low, also.near);
-  top = omega (arith, ints, fits.bottom, fits.top, also.low, also.high, also.some);
-  width = omega (arith, ints, fits.width, is.low, is.high);
+    → WindowNear (record { left = across.from; bottom = up.from; width = across.count; height = up.count })
+parts_near w columns rows across up column row is also = record {
+  left = omega (arith, ints, column.first, column.last, is.within, is.last, is.some);
+  bottom = omega (arith, ints, row.first, row.last, also.within, also.last, also.some);
+  top = omega (arith, ints, row.first, row.last, also.within, also.last, also.some);
+  width = omega (arith, ints, column.first, column.last, is.within, is.last);
+  some = also.some;
+}
+
+-- a few rows of a window near the origin
+pub band_fits : (w : Window) (done height : ℕ) → WindowNear w → 1 ≤ height → height ≤ 2048 → done + height ≤ w.height
+    → WindowFits (widened 5 (record { left = w.left; bottom = w.bottom +ℤ pos done; width = w.width; height = height }))
+band_fits w done height near some few within = record {
+  left = omega (arith, ints, near.left);
+  bottom = omega (arith, ints, near.bottom, near.top, within);
+  top = omega (arith, ints, near.bottom, near.top, within);
+  width = omega (arith, near.width);
   low = omega arith;
-  high = omega (arith, ints, fits.high, also.low, also.high);
+  high = omega (arith, few);
 }
 
 pub no_columns : (w : Window) (columns rows : Columns)
@@ -118,22 +131,22 @@ cut_away : (window box is : Bool) → (window && box) ≡ false → (is ≡ true
 cut_away window box is cuts within = grind (arith, cuts, within)
 
 pub dropout_boxed : (rules : BoxedRules) (contours : List (List Edge)) (c j : ℤ) → HoldsEdges rules.extents (edges_of contours)
-    → is_dropout rules contours c j ≡ true → box_has (columns_in rules.extents) (rows_in rules.extents) c j ≡ true
+    → is_dropout rules contours c j ≡ true → box_has (columns_of_rules rules) (rows_of_rules rules) c j ≡ true
 dropout_boxed rules contours c j held is =
-    box_has_it (columns_in rules.extents) (rows_in rules.extents) c j (dropout_in_box rules contours c j held is)
+    box_has_it (columns_of_rules rules) (rows_of_rules rules) c j (dropout_reached rules contours c j held is)
 
 pub clipped_alike : (rules : BoxedRules) (contours : List (List Edge)) (window w : Window) (c j : ℤ)
     → HoldsEdges rules.extents (edges_of contours)
-    → has w c j ≡ (has window c j && box_has (columns_in rules.extents) (rows_in rules.extents) c j)
+    → has w c j ≡ (has window c j && box_has (columns_of_rules rules) (rows_of_rules rules) c j)
     → (has w c j && is_dropout rules contours c j) ≡ (has window c j && is_dropout rules contours c j)
 clipped_alike rules contours window w c j held cuts =
-    cut_alike (has w c j) (has window c j) (box_has (columns_in rules.extents) (rows_in rules.extents) c j)
+    cut_alike (has w c j) (has window c j) (box_has (columns_of_rules rules) (rows_of_rules rules) c j)
     (is_dropout rules contours c j) cuts (dropout_boxed rules contours c j held)
 
 pub clipped_away : (rules : BoxedRules) (contours : List (List Edge)) (window : Window) (c j : ℤ)
     → HoldsEdges rules.extents (edges_of contours)
-    → (has window c j && box_has (columns_in rules.extents) (rows_in rules.extents) c j) ≡ false
+    → (has window c j && box_has (columns_of_rules rules) (rows_of_rules rules) c j) ≡ false
     → (has window c j && is_dropout rules contours c j) ≡ false
 clipped_away rules contours window c j held cuts =
-    cut_away (has window c j) (box_has (columns_in rules.extents) (rows_in rules.extents) c j)
+    cut_away (has window c j) (box_has (columns_of_rules rules) (rows_of_rules rules) c j)
     (is_dropout rules contours c j) cuts (dropout_boxed rules contours c j held)

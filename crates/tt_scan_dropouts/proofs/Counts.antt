@@ -14,7 +14,7 @@ use Rattle.tt_scan_edges.specs.Winding.{crossings_of, is_between, row_y, rows_me
 use Rattle.tt_scan_edges.proofs.Ranges.{between_from}
 use Rattle.tt_scan_dropouts.specs.Counted.{bands, bands_bytes, bitmap_bytes, box_rows, edges_counted, extent_columns, extent_rows, filling_counted, numbers_in, rows_counted, rows_of_band}
 use Rattle.tt_scan_gaps.specs.Crossings.{line_from, lines_crossed}
-use Rattle.tt_scan_gaps.specs.Boxes.{columns_between, columns_of, rows_in}
+use Rattle.tt_scan_gaps.specs.Boxes.{columns_between, columns_of, reached, rows_reached}
 use Rattle.tt_scan_gaps.specs.Seen.{turned_round}
 use Rattle.tt_scan_dropouts.specs.Dropouts.{crossed}
 use Rattle.tt_scan_dropouts.specs.Laws.{BandsAreCounted, BitmapIsCounted, CountsStay, RowsAreCounted, extents_moved, moved}
@@ -131,13 +131,13 @@ sum_counted sum a b n is less = omega (arith, is, less)
 within_bands : (c w r h : ℕ) → c ≤ w → r ≤ h + 1 → bitmap_bytes c r ≤ bands_bytes w (h + 1)
 within_bands c w r h narrow low =
     let some = some_band h in
-    mul-le (stride (c + 4)) (r + 4) (stride (w + 4)) ((h + 1) + 4 * bands (h + 1))
-    (strides (c + 4) (w + 4) (omega (arith, narrow))) (omega (arith, low, some))
+    mul-le (stride (c + 10)) (r + 10) (stride (w + 10)) ((h + 1) + 10 * bands (h + 1))
+    (strides (c + 10) (w + 10) (omega (arith, narrow))) (omega (arith, low, some))
 
 pub bitmap_is_counted : BitmapIsCounted
 unfolding filling_counted
 bitmap_is_counted b es columns rows narrow low =
-    let r = rows_in b in
+    let r = rows_reached true b in
     counted_too (bitmap_bytes columns rows) (bands_bytes (extent_columns b) (extent_rows b))
     ((bands (extent_rows b) + 3) * crossed es)
     (within_bands columns (extent_columns b) rows (unsigned_abs (r.last -ℤ r.first)) narrow low)
@@ -152,34 +152,34 @@ rows_of_bands rows k zero = omega arith
 rows_of_bands rows k (suc n) = sum_by-cons (rows_of_band rows) k (range_with_len (k + 1) n)
     ∙ one_more_band rows k n _ (rows_of_bands rows (k + 1) n)
 
-one_band : (s h t n : ℕ) → s * (h + 4) + s * (t + 4 * n) ≡ s * ((h + t) + 4 * suc n)
+one_band : (s h t n : ℕ) → s * (h + 10) + s * (t + 10 * n) ≡ s * ((h + t) + 10 * suc n)
 one_band s h t n =
-    let more : (h + 4) + (t + 4 * n) ≡ (h + t) + 4 * suc n = omega arith in
-    sym (mul-add s (h + 4) (t + 4 * n)) ∙ ap (λ m. s * m) more
+    let more : (h + 10) + (t + 10 * n) ≡ (h + t) + 10 * suc n = omega arith in
+    sym (mul-add s (h + 10) (t + 10 * n)) ∙ ap (λ m. s * m) more
 
 bytes_of_bands : (columns rows k n : ℕ)
     → sum_by (λ k. bitmap_bytes columns (rows_of_band rows k)) (range_with_len k n)
-    ≡ stride (columns + 4) * (sum_by (rows_of_band rows) (range_with_len k n) + 4 * n)
+    ≡ stride (columns + 10) * (sum_by (rows_of_band rows) (range_with_len k n) + 10 * n)
 bytes_of_bands columns rows k zero = omega arith
 bytes_of_bands columns rows k (suc n) =
     let rest = range_with_len (k + 1) n in
     sum_by-cons (λ k. bitmap_bytes columns (rows_of_band rows k)) k rest
     ∙ ap (λ m. bitmap_bytes columns (rows_of_band rows k) + m) (bytes_of_bands columns rows (k + 1) n)
-    ∙ one_band (stride (columns + 4)) (rows_of_band rows k) (sum_by (rows_of_band rows) rest) n
-    ∙ ap (λ m. stride (columns + 4) * (m + 4 * suc n)) (sym (sum_by-cons (rows_of_band rows) k rest))
+    ∙ one_band (stride (columns + 10)) (rows_of_band rows k) (sum_by (rows_of_band rows) rest) n
+    ∙ ap (λ m. stride (columns + 10) * (m + 10 * suc n)) (sym (sum_by-cons (rows_of_band rows) k rest))
 
 all_rows : (rows : ℕ) → sum_by (rows_of_band rows) (range_with_len 0 (bands rows)) ≡ rows
 all_rows rows = let all = rows_of_bands rows 0 (bands rows) in omega (arith, all)
 
 wider : (c w rows : ℕ) → c ≤ w → bands_bytes c rows ≤ bands_bytes w rows
-wider c w rows narrow = mul-le-mul_right (rows + 4 * bands rows) (strides (c + 4) (w + 4) (omega (arith, narrow)))
+wider c w rows narrow = mul-le-mul_right (rows + 10 * bands rows) (strides (c + 10) (w + 10) (omega (arith, narrow)))
 
 pub bands_are_counted : BandsAreCounted
 unfolding filling_counted
 bands_are_counted b es columns narrow =
     let rows = extent_rows b in
     let bytes = bytes_of_bands columns rows 0 (bands rows)
-    ∙ ap (λ m. stride (columns + 4) * (m + 4 * bands rows)) (all_rows rows) in
+    ∙ ap (λ m. stride (columns + 10) * (m + 10 * bands rows)) (all_rows rows) in
     sum_counted _ (bands_bytes columns rows) (bands_bytes (extent_columns b) rows) ((bands rows + 3) * crossed es) bytes
     (wider columns (extent_columns b) rows narrow)
 
@@ -192,9 +192,18 @@ box_columns_stay : (k m : ℤ) (es : List Edge) → numbers_in (columns_of (map 
 box_columns_stay k m [] = refl
 box_columns_stay k m (e ∷ es) = ap numbers_in (box_moved k m e es) ∙ numbers_moved k (columns_of (e ∷ es))
 
-extent_stays : (k low high : ℤ) → numbers_in (columns_between (low +ℤ pos 8192 *ℤ k) (high +ℤ pos 8192 *ℤ k))
-    ≡ numbers_in (columns_between low high)
-extent_stays k low high = ap numbers_in (between_moved k low high) ∙ numbers_moved k (columns_between low high)
+reached_moved : (k : ℤ) (b : Columns) → reached true (columns_moved k b) ≡ columns_moved k (reached true b)
+reached_moved k b =
+    let first : (b.first +ℤ k) -ℤ pos 1 ≡ (b.first -ℤ pos 1) +ℤ k = omega (arith, ints) in
+    let last : (b.last +ℤ k) +ℤ pos 1 ≡ (b.last +ℤ pos 1) +ℤ k = omega (arith, ints) in
+    rw (first, last) refl
+
+extent_stays : (k low high : ℤ) → numbers_in (reached true (columns_between (low +ℤ pos 8192 *ℤ k) (high +ℤ pos 8192 *ℤ k)))
+    ≡ numbers_in (reached true (columns_between low high))
+extent_stays k low high =
+    ap (λ b. numbers_in (reached true b)) (between_moved k low high)
+    ∙ ap numbers_in (reached_moved k (columns_between low high))
+    ∙ numbers_moved k (reached true (columns_between low high))
 
 box_rows_stay : (k m : ℤ) (es : List Edge) → box_rows (map (moved k m) es) ≡ box_rows es
 box_rows_stay k m es = ap (λ turned. numbers_in (columns_of turned)) (contour_turned k m es)

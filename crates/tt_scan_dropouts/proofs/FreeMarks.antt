@@ -17,6 +17,7 @@ use Rattle.tt_scan_gaps.specs.declared.mark.Crossing.{Crossing}
 use Rattle.tt_scan_gaps.specs.declared.mark.Step.{Step}
 use Rattle.tt_scan_gaps.specs.declared.mark.Step.TheVariants as step
 use Rattle.tt_scan.specs.Contours.{contours_from}
+use Rattle.tt_scan_gaps.proofs.GivesWay.{gives_same}
 use Rattle.tt_scan_gaps.proofs.Walks.{flat_more, more_crossings, range_more}
 
 filter_twice : {X : Type 0} (p q : X → Bool) (xs : List X) → ((x : X) → q x ≡ true → p x ≡ true)
@@ -45,10 +46,9 @@ asked_kept rules b black ms j c false is = rw is refl
 pub added_kept : (rules : Rules) (b : Columns) (black : ℤ → ℤ → Bool) (ms : List Mark) (p j : ℤ)
     → is_added rules b (free_marks black ms) black p j ≡ is_added rules b ms black p j
 added_kept rules b black ms p j =
-    let here = asked_kept rules b black ms j p (is_free black p j) refl in
-    let left = asked_kept rules b black ms j (p -ℤ pos 1) (is_free black (p -ℤ pos 1) j) refl in
-    let before = asked_kept rules b black ms j ((p -ℤ pos 1) -ℤ pos 1) (is_free black ((p -ℤ pos 1) -ℤ pos 1) j) refl in
-    rw (here, left, before) refl
+    let kept = λ (g : ℤ). asked_kept rules b black ms j g (is_free black g j) refl in
+    let gives = λ (c : ℤ). gives_same (asked rules b (free_marks black ms) black j) (asked rules b ms black j) c kept in
+    rw (kept p, kept (p -ℤ pos 1), gives p, gives (p -ℤ pos 1)) refl
 
 -- the free marks of lists one after another
 pub free_append : (black : ℤ → ℤ → Bool) (ms ns : List Mark)

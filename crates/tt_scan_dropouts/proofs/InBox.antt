@@ -11,7 +11,7 @@ use Rattle.tt_scan_edges.specs.declared.edge.Edge.{Edge}
 use Rattle.tt_scan_gaps.specs.Crossings.{centre, gap_at, line_from}
 use Rattle.tt_scan_gaps.specs.Boxes.{EdgeWithin, HoldsEdges, columns_between, columns_in, columns_of, extents_turned, greatest_x, least_x, rows_in}
 use Rattle.tt_scan_gaps.specs.Seen.{turned_round}
-use Rattle.tt_scan_dropouts.specs.Dropouts.{edges_of, is_added_by_columns, is_added_by_rows, is_dropout, is_inked, outline_turned}
+use Rattle.tt_scan_dropouts.specs.Dropouts.{edges_of, is_added_by_columns, is_added_by_rows, is_bridged, is_inked, outline_turned}
 use Rattle.tt_scan_gaps.specs.Gaps.{asked, boxed, gap_marks, in_gap, is_added, is_asked, is_free, leans_right, some_asks}
 use Rattle.tt_scan_gaps.specs.Walk.{marks}
 use Rattle.tt_scan_gaps.specs.declared.mark.Columns.{Columns}
@@ -25,7 +25,7 @@ use Rattle.tt_scan_gaps.proofs.Lines.{floor_high, floor_low}
 
 -- the least and the greatest x of edge ends
 
-least_first : (x : ℤ) (es : List Edge) → least_x x es ≤ℤ x
+pub least_first : (x : ℤ) (es : List Edge) → least_x x es ≤ℤ x
 least_first x [] = omega (arith, ints)
 least_first x (e ∷ es) = let rest = least_first (int_min x (int_min e.ax e.bx)) es in omega (arith, ints, clamps)
 
@@ -36,7 +36,7 @@ least_of_all x (e ∷ es) =
     All-cons (λ f. least_x x (e ∷ es) ≤ℤ int_min f.ax f.bx) e es (omega (arith, ints, clamps, first))
     (least_of_all (int_min x (int_min e.ax e.bx)) es)
 
-greatest_first : (x : ℤ) (es : List Edge) → x ≤ℤ greatest_x x es
+pub greatest_first : (x : ℤ) (es : List Edge) → x ≤ℤ greatest_x x es
 greatest_first x [] = omega (arith, ints)
 greatest_first x (e ∷ es) = let rest = greatest_first (int_max x (int_max e.ax e.bx)) es in omega (arith, ints, clamps)
 
@@ -132,6 +132,17 @@ pub record LiesInBox (columns rows : Columns) (c j : ℤ) : Type 0 where
   pub column : IsColumnOf columns c
   pub row : IsColumnOf rows j
 
+-- a gap with a mark that needs a pixel reaches into every box with the gap's marks, on a line of the box
+pub asks_within : (l r b t : ℤ) (ms : List Mark) (j c : ℤ) → All (λ m. IsWithin l r b t m.at) ms
+    → some_asks (gap_marks ms j c) ≡ true → IsGapOf (columns_between l r) c × IsColumnOf (columns_between b t) j
+asks_within l r b t ms j c h some =
+    let mark = asking (λ m. IsWithin l r b t m.at) (in_gap j c) ms h some in
+    let line : mark.0.at.line ≡ j = grind (arith, ints, mark.1) in
+    let gap : mark.0.at.gap ≡ c = grind (arith, ints, mark.1) in (
+      gap_within l r c (rw gap at mark.2.left) (rw gap at mark.2.right),
+      line_within b t j (rw line at mark.2.bottom) (rw line at mark.2.top),
+    )
+
 -- the pixel that a gap needs lies in every box with the gap's marks
 asked_within : (rules : Rules) (l r b t : ℤ) (ms : List Mark) (black : ℤ → ℤ → Bool) (j c p : ℤ)
     → All (λ m. IsWithin l r b t m.at) ms → is_asked (asked rules (columns_between l r) ms black j c) p ≡ true
@@ -139,13 +150,10 @@ asked_within : (rules : Rules) (l r b t : ℤ) (ms : List Mark) (black : ℤ →
 asked_within rules l r b t ms black j c p h is = elim (cases_Bool (is_free black c j && some_asks (gap_marks ms j c))) [
   | inl both ↦
       let some : some_asks (gap_marks ms j c) ≡ true = grind (arith, both) in
-      let mark = asking (λ m. IsWithin l r b t m.at) (in_gap j c) ms h some in
-      let line : mark.0.at.line ≡ j = grind (arith, ints, mark.1) in
-      let gap : mark.0.at.gap ≡ c = grind (arith, ints, mark.1) in
+      let lies = asks_within l r b t ms j c h some in
       record {
-        column = boxed_within (columns_between l r) c p (rules.smart && leans_right (gap_marks ms j c))
-            (gap_within l r c (rw gap at mark.2.left) (rw gap at mark.2.right)) (rw both at is);
-        row = line_within b t j (rw line at mark.2.bottom) (rw line at mark.2.top);
+        column = boxed_within (columns_between l r) c p (rules.smart && leans_right (gap_marks ms j c)) lies.0 (rw both at is);
+        row = lies.1;
       }
   | inr none ↦ absurd (grind (arith, none, is))
 ]
@@ -159,7 +167,7 @@ added_within rules l r b t ms black p j h is =
       | inr other ↦ asked_within rules l r b t ms black j (p -ℤ pos 1) p h (grind (arith, other, is))
     ]
 
-outline_within : (l r b t : ℤ) (stubs : Bool) (contours : List (List Edge))
+pub outline_within : (l r b t : ℤ) (stubs : Bool) (contours : List (List Edge))
     → All (EdgeWithin l r b t) (edges_of contours)
     → All (λ m. IsWithin l r b t m.at) (marks stubs contours)
 outline_within l r b t stubs contours h = outline_leaves (IsWithin l r b t) stubs contours
@@ -222,9 +230,9 @@ one_of_two : (a b : Bool) → (a || b) ≡ true → (a ≡ true) ⊎ (b ≡ true
 one_of_two true b is = inl refl
 one_of_two false b is = inr is
 
-pub dropout_in_box : (rules : BoxedRules) (contours : List (List Edge)) (c j : ℤ) → HoldsEdges rules.extents (edges_of contours)
-    → is_dropout rules contours c j ≡ true → LiesInExtents rules.extents c j
-dropout_in_box rules contours c j held is =
+pub bridged_in_box : (rules : BoxedRules) (contours : List (List Edge)) (c j : ℤ) → HoldsEdges rules.extents (edges_of contours)
+    → is_bridged rules contours c j ≡ true → LiesInExtents rules.extents c j
+bridged_in_box rules contours c j held is =
     elim (one_of_two (is_added_by_rows rules contours c j) (is_added_by_columns rules contours c j) is) [
       | inl rows ↦ by_rows_in_box rules contours c j held rows
       | inr columns ↦ by_columns_in_box rules contours c j held columns

@@ -32,7 +32,7 @@ all_behind : {A : Type 0} (P : A → Type 0) (xs ys : List A) → All P (xs ++ y
 all_behind P [] ys h = h
 all_behind P (x ∷ xs) ys h = all_behind P xs ys (All-tail P x (xs ++ ys) h)
 
-all_parts : {X A : Type 0} (P : A → Type 0) (f : X → List A) (xs : List X) → All P (flat_map f xs)
+pub all_parts : {X A : Type 0} (P : A → Type 0) (f : X → List A) (xs : List X) → All P (flat_map f xs)
     → All (λ x. All P (f x)) xs
 all_parts P f [] h = All-nil (λ x. All P (f x))
 all_parts P f (x ∷ xs) h =

@@ -1,4 +1,5 @@
 pub mod AllBlack
+pub mod Bands
 pub mod BothWays
 pub mod Clips
 pub mod Counts
@@ -8,21 +9,26 @@ pub mod FreeMarks
 pub mod InBox
 pub mod Inked
 pub mod InkedInBox
+mod Kept
 pub mod Leaves
 pub mod LineWords
 pub mod Locality
 pub mod Moved
+pub mod MovedDots
 pub mod MovedGaps
 pub mod MovedLines
 pub mod MovedMarks
+pub mod NextDots
 pub mod NoDropouts
 pub mod NoFreeGap
+mod NotLost
 pub mod Outlines
 pub mod PassGroups
 pub mod PassSteps
 pub mod Pictured
 pub mod Pixels
 pub mod Places
+pub mod Reached
 pub mod Rising
 pub mod Rounds
 pub mod Through

@@ -1,4 +1,4 @@
--- Dropouts move with their outline.
+-- The pixels of both passes move with their outline.
 use Rattle.std.proofs.Common.{◌≡◌, refl, sym, ◌∙◌, ap, ap₂, Bool, not, ◌&&◌, ◌||◌, List, [], ◌∷◌, ◌++◌, arith}
 use Rattle.std.specs.Prelude.{ℤ, pos, ◌+ℤ◌, ◌*ℤ◌, map}
 use Rattle.std.proofs.lemmas.Int.{ints}
@@ -8,9 +8,9 @@ use Rattle.tt_scan_edges.specs.Winding.{is_between, is_black, is_zero, lies_on, 
 use Rattle.tt_scan_gaps.specs.Crossings.{centre}
 use Rattle.tt_scan_gaps.specs.Boxes.{columns_in}
 use Rattle.tt_scan_gaps.specs.Seen.{turned_round}
-use Rattle.tt_scan_dropouts.specs.Dropouts.{edges_of, is_added_by_columns, is_added_by_rows, is_inked, outline_turned, row_adds, rules_turned}
+use Rattle.tt_scan_dropouts.specs.Dropouts.{edges_of, is_added_by_columns, is_added_by_rows, is_bridged, is_inked, outline_turned, row_adds, rules_turned}
 use Rattle.tt_scan_gaps.specs.Gaps.{is_added}
-use Rattle.tt_scan_dropouts.specs.Laws.{DropoutsMoved, moved, outline_moved, rules_moved}
+use Rattle.tt_scan_dropouts.specs.Laws.{moved, outline_moved, rules_moved}
 use Rattle.tt_scan_gaps.specs.Walk.{marks}
 use Rattle.tt_scan_dropouts.specs.declared.boxed.BoxedRules.{BoxedRules}
 use Rattle.tt_scan_dropouts.proofs.MovedGaps.{IsMoved, added_moved, between_moved, up_to_moved}
@@ -71,7 +71,7 @@ edges_moved k m (es ∷ contours) =
     ap (λ rest. map (moved k m) es ++ rest) (edges_moved k m contours)
     ∙ sym (map-append (moved k m) es (edges_of contours))
 
-ink_moved : (k m : ℤ) (contours : List (List Edge))
+pub ink_moved : (k m : ℤ) (contours : List (List Edge))
     → IsMoved k m (is_inked contours) (is_inked (outline_moved k m contours))
 ink_moved k m contours c j =
     ap (λ es. is_black es (centre (c +ℤ k)) (centre (j +ℤ m))) (edges_moved k m contours)
@@ -115,6 +115,7 @@ columns_moved k m rules contours c j =
     (λ q p. ap₂ (λ a b. a || b) (ink_moved k m contours p q) (rows_moved k m rules contours p q))
     (rules_turned rules) (outline_turned contours) j c
 
-pub dropouts_move : DropoutsMoved
-dropouts_move rules contours k m c j =
+pub bridged_moved : (k m : ℤ) (rules : BoxedRules) (contours : List (List Edge))
+    → IsMoved k m (is_bridged rules contours) (is_bridged (rules_moved k m rules) (outline_moved k m contours))
+bridged_moved k m rules contours c j =
     ap₂ (λ a b. a || b) (rows_moved k m rules contours c j) (columns_moved k m rules contours c j)

@@ -13,6 +13,7 @@ use Rattle.tt_scan_dropouts.specs.Laws.{moved}
 use Rattle.tt_scan_gaps.specs.declared.mark.Columns.{Columns}
 use Rattle.tt_scan_gaps.specs.declared.mark.Mark.{Mark}
 use Rattle.tt_scan_gaps.specs.declared.mark.Rules.{Rules}
+use Rattle.tt_scan_gaps.proofs.GivesWay.{gives_moved}
 use Rattle.tt_scan_dropouts.proofs.MovedLines.{gap_moved, less_moved, line_from_moved}
 use Rattle.tt_scan_dropouts.proofs.MovedMarks.{equal_moved, mark_moved}
 
@@ -63,7 +64,7 @@ min_moved a b d = grind (arith, ints)
 max_moved : (a b d : ℤ) → int_max (a +ℤ d) (b +ℤ d) ≡ int_max a b +ℤ d
 max_moved a b d = grind (arith, ints)
 
-least_x_moved : (k m x : ℤ) (es : List Edge)
+pub least_x_moved : (k m x : ℤ) (es : List Edge)
     → least_x (x +ℤ pos 8192 *ℤ k) (map (moved k m) es) ≡ least_x x es +ℤ pos 8192 *ℤ k
 least_x_moved k m x [] = refl
 least_x_moved k m x (e ∷ es) =
@@ -71,7 +72,7 @@ least_x_moved k m x (e ∷ es) =
     ∙ min_moved x (int_min e.ax e.bx) (pos 8192 *ℤ k))
     ∙ least_x_moved k m (int_min x (int_min e.ax e.bx)) es
 
-greatest_x_moved : (k m x : ℤ) (es : List Edge)
+pub greatest_x_moved : (k m x : ℤ) (es : List Edge)
     → greatest_x (x +ℤ pos 8192 *ℤ k) (map (moved k m) es) ≡ greatest_x x es +ℤ pos 8192 *ℤ k
 greatest_x_moved k m x [] = refl
 greatest_x_moved k m x (e ∷ es) =
@@ -102,7 +103,7 @@ gap_marks_moved : (k m : ℤ) (ms : List Mark) (j c : ℤ)
 gap_marks_moved k m ms j c = filter_square (in_gap j c) (mark_moved k m) (in_gap (j +ℤ m) (c +ℤ k)) ms
     (λ mark. ap₂ (λ a b. a && b) (equal_moved mark.at.line j m) (equal_moved mark.at.gap c k))
 
-asks_kept : (k m : ℤ) (ms : List Mark) → some_asks (map (mark_moved k m) ms) ≡ some_asks ms
+pub asks_kept : (k m : ℤ) (ms : List Mark) → some_asks (map (mark_moved k m) ms) ≡ some_asks ms
 asks_kept k m [] = refl
 asks_kept k m (mark ∷ ms) = ap (λ b. mark.asks || b) (asks_kept k m ms)
 
@@ -196,9 +197,8 @@ adds_kept : (k m : ℤ) (black there : ℤ → ℤ → Bool) → IsMoved k m bla
     ≡ adds rules b ms black j c p
 adds_kept k m black there same rules b ms j c p =
     ap₂ (λ x y. x && not y) (is_asked_kept k m black there same rules b ms j c p)
-    (ap (λ d. is_asked (asked rules (columns_moved k b) (map (mark_moved k m) ms) there (j +ℤ m) d) (c +ℤ k))
-    (last_moved c k)
-    ∙ is_asked_kept k m black there same rules b ms j (c -ℤ pos 1) c)
+    (gives_moved (asked rules b ms black j) (asked rules (columns_moved k b) (map (mark_moved k m) ms) there (j +ℤ m)) k
+    (is_asked_kept k m black there same rules b ms j) c)
 
 pub added_moved : (k m : ℤ) (black there : ℤ → ℤ → Bool) → IsMoved k m black there
     → (rules : Rules) (b : Columns) (ms : List Mark) (p j : ℤ)

@@ -133,7 +133,7 @@ edge_marks_moved k m e =
     ∙ map_square (mark_of true) (mark_moved k m) (crossing_moved k m) (mark_of true) (crossings e ++ touches e)
     (λ c. refl)
 
-contour_marks_moved : (k m : ℤ) (stubs : Bool) (es : List Edge)
+pub contour_marks_moved : (k m : ℤ) (stubs : Bool) (es : List Edge)
     → contour_marks stubs (map (moved k m) es) ≡ map (mark_moved k m) (contour_marks stubs es)
 contour_marks_moved k m true es = flat_square edge_marks (moved k m) (mark_moved k m) edge_marks es
     (λ e. edge_marks_moved k m e)

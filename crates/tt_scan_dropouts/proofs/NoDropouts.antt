@@ -1,6 +1,6 @@
 -- Where all contours are closed, no free gap is crossed both ways and no end that counts lies on a line, there are no
 -- dropouts.
-use Rattle.std.proofs.Common.{◌≡◌, refl, sym, ap, ap₂, ◌∙◌, ℕ, ◌<◌, Bool, true, false, not, ◌&&◌, ◌||◌, List, map, get_or, length, inl, inr, arith}
+use Rattle.std.proofs.Common.{◌≡◌, refl, sym, ap, ap₂, ◌∙◌, ℕ, ◌<◌, Bool, true, false, not, ◌&&◌, ◌||◌, List, [], ◌∷◌, Option, Some, None, map, get_or, length, inl, inr, arith}
 use Rattle.std.specs.Prelude.{ℤ, pos, ◌+ℤ◌, All}
 use Rattle.std.specs.List.{list_any}
 use Rattle.std.specs.Ordering.{int_eq}
@@ -13,7 +13,9 @@ use Rattle.tt_scan_edges.specs.Winding.{is_black}
 use Rattle.tt_scan_edges.specs.declared.edge.Edge.{Edge}
 use Rattle.tt_scan_gaps.specs.BothWays.{NoneFreeBothWays, crosses_gap, goes_through, is_black_seen, is_through}
 use Rattle.tt_scan_gaps.specs.Crossings.{agree, centre, crossings, has_end_on_line, is_on_line}
+use Rattle.tt_scan_gaps.specs.Dots.{asks, ends_box, has_dot, has_dot_box, is_boxed_as_dot, is_dot, is_dot_in}
 use Rattle.tt_scan_gaps.specs.Seen.{turned_round}
+use Rattle.tt_scan_gaps.specs.declared.extent.Extents.{Extents}
 use Rattle.tt_scan_dropouts.specs.Dropouts.{edges_of, is_added_by_columns, is_added_by_rows, is_dropout, is_inked, outline_turned, row_adds, rules_turned}
 use Rattle.tt_scan_gaps.specs.Gaps.{is_free}
 use Rattle.tt_scan_gaps.specs.Walk.{is_in_free_gap, some_in_free_gap}
@@ -146,11 +148,41 @@ no_columns rules es ends fit closed none off c j =
     let free = nothing_free rules.rules.stubs black turned balanced none_more off_turned in
     ap (λ cs. row_adds (rules_turned rules) cs black j c) (sym alike) ∙ nothing_added rules.rules (rows_in rules.extents) black turned ends fit_turned free j c
 
+-- where no contour has the box of a dot, there is none
+not_boxed : (box : Option Extents) (asking : Bool) (c j : ℤ) → is_boxed_as_dot box ≡ false → is_dot_in box asking c j ≡ false
+not_boxed None asking c j none = refl
+not_boxed (Some b) asking c j none = rw none refl
+
+no_dot : (stubs : Bool) (es : List Edge) (c j : ℤ) → has_dot_box es ≡ false → is_dot stubs es c j ≡ false
+unfolding is_dot
+no_dot stubs es c j none = not_boxed (ends_box es) (asks stubs es) c j none
+
+neither_of : (a b : Bool) → (a || b) ≡ false → (a ≡ false) × (b ≡ false)
+neither_of true b is = absurd cc
+neither_of false b is = (refl, is)
+
+no_dots : (stubs : Bool) (contours : List (List Edge)) (c j : ℤ) → list_any has_dot_box contours ≡ false
+    → has_dot stubs contours c j ≡ false
+no_dots stubs [] c j none = refl
+no_dots stubs (es ∷ contours) c j none =
+    let both = neither_of (has_dot_box es) (list_any has_dot_box contours) none in
+    ap₂ (λ a b. a || b) (no_dot stubs es c j both.0) (no_dots stubs contours c j both.1)
+
+not_dotted : (dots white dot : Bool) → (dots ≡ true → dot ≡ false) → (dots && (white && dot)) ≡ false
+not_dotted true true dot none = none refl
+not_dotted true false dot none = refl
+not_dotted false white dot none = refl
+
 pub no_dropout : (rules : BoxedRules) (es : List Edge) (ends : List ℕ) → AreEnds (length es) ends
     → All IsClosed (contours_at es ends) → NoneFreeBothWays (is_black_seen over.Rows es) es
     → NoneFreeBothWays (is_black_seen over.Columns es) (map turned_round es)
-    → (rules.rules.stubs ≡ true → list_any has_end_on_line es ≡ false) → (c j : ℤ) → is_dropout rules (contours_at es ends) c j ≡ false
-no_dropout rules es ends fit closed rows columns off c j =
+    → (rules.rules.stubs ≡ true → list_any has_end_on_line es ≡ false)
+    → (rules.rules.dots ≡ true → list_any has_dot_box (contours_at es ends) ≡ false)
+    → (c j : ℤ) → is_dropout rules (contours_at es ends) c j ≡ false
+no_dropout rules es ends fit closed rows columns off boxless c j =
     let by_rows = no_rows rules es ends fit rows off in
     let by_columns = no_columns rules es ends fit closed columns off in
-    ap₂ (λ a b. a || b) (by_rows c j) (by_columns c j)
+    let contours = contours_at es ends in
+    ap₂ (λ a b. a || b) (ap₂ (λ a b. a || b) (by_rows c j) (by_columns c j))
+    (not_dotted rules.rules.dots (not (is_inked contours c j)) (has_dot rules.rules.stubs contours c j)
+    (λ dots. no_dots rules.rules.stubs contours c j (boxless dots)))

@@ -1,18 +1,19 @@
 -- The step of a pass from one gap to the next: whether the gap gives way, and which gap needed a pixel last.
-use Rattle.std.proofs.Common.{◌≡◌, refl, sym, ◌∙◌, ap, ℕ, zero, suc, ◌+◌, ◌-◌, ◌<◌, ◌≤◌, Bool, true, false, not, ◌&&◌, ◌||◌, Option, Some, None, List, [], ◌∷◌, length, take, drop, get_or, slice_range, ℤ, pos, ◌+ℤ◌, ◌-ℤ◌, inl, inr, arith}
+use Rattle.std.proofs.Common.{◌≡◌, refl, sym, ◌∙◌, ap, ap₂, min, if◌then◌else◌, ℕ, zero, suc, ◌+◌, ◌-◌, ◌<◌, ◌≤◌, Bool, true, false, not, ◌&&◌, ◌||◌, Option, Some, None, List, [], ◌∷◌, length, take, drop, get_or, slice_range, ℤ, pos, ◌+ℤ◌, ◌-ℤ◌, inl, inr, arith}
 use Rattle.std.proofs.lemmas.Bool.{cases_Bool}
 use Rattle.std.proofs.lemmas.Int.{ints}
 use Rattle.std.proofs.lemmas.List.{get_or_default, get_or-drop, get_or-take}
 use Rattle.std.specs.List.{list_any}
 use Rattle.std.specs.Ordering.{int_eq}
-use Rattle.tt_scan_gaps.specs.Gaps.{IsFirstInGap, IsGroup, IsInOrder, asked, asked_by, in_gap, is_asked, is_up_to}
-use Rattle.tt_scan_dropouts.specs.Passes.{gives_way}
+use Rattle.tt_scan_gaps.specs.Gaps.{IsFirstInGap, IsGroup, IsInOrder, asked, asked_by, asked_rightwards, gives_way, in_gap, is_asked, is_odd, is_up_to}
+use Rattle.tt_scan_dropouts.specs.Passes.{asked_before}
 use Rattle.tt_scan_gaps.specs.declared.mark.Columns.{Columns}
 use Rattle.tt_scan_gaps.specs.declared.mark.Crossing.{Crossing}
 use Rattle.tt_scan_gaps.specs.declared.mark.Mark.{Mark}
 use Rattle.tt_scan_gaps.specs.declared.mark.Rules.{Rules}
 use Rattle.tt_scan_dropouts.specs.declared.pass.Wish.{Wish}
-use Rattle.tt_scan_dropouts.proofs.PassSteps.{AreBefore, IsLast, added_so_far, done, done_more, gap_of, none_in}
+use Rattle.tt_scan_dropouts.proofs.PassSteps.{AreBefore, IsLast, added_so_far, counted_if, done, done_more, gap_of, none_in}
+use Rattle.tt_scan_gaps.proofs.GivesWay.{counted_on}
 
 -- a gap without a mark needs no pixel, and a gap that needs one takes one of its two pixels
 abbrev pub IsUnasked : (ℤ → ℤ → Option ℤ) → List Mark → Type 0
@@ -75,16 +76,21 @@ done_or_none : (any asks : Bool) → (any ≡ false → asks ≡ false) → (any
 done_or_none true asks none = refl
 done_or_none false asks none = sym (none refl)
 
-pub gives_way_is : (ask : ℤ → ℤ → Option ℤ) (ms : List Mark) (start : ℕ) (d : Mark) (last : Option Wish) (q : ℤ)
+pub asked_before_is : (ask : ℤ → ℤ → Option ℤ) (ms : List Mark) (start : ℕ) (d : Mark) (last : Option Wish)
     → IsUnasked ask ms → IsInOrder ms → IsFirstInGap ms start → start < length ms → IsLast ask ms start last
-    → gives_way last (record { line = (get_or ms start d).at.line; gap = (get_or ms start d).at.gap; pixel = q })
-    ≡ is_asked (ask (get_or ms start d).at.line ((get_or ms start d).at.gap -ℤ pos 1)) (get_or ms start d).at.gap
-gives_way_is ask ms start d last q unasked order first below is_last =
+    → asked_before last (get_or ms start d).at.line (get_or ms start d).at.gap
+    ≡ asked_rightwards 4 (ask (get_or ms start d).at.line) (get_or ms start d).at.gap
+asked_before_is ask ms start d last unasked order first below is_last =
     let j = (get_or ms start d).at.line in
     let c = (get_or ms start d).at.gap in
-    is_last (record { line = j; gap = c; pixel = q }) (are_before ms start d order first below)
-    ∙ done_or_none (done ms start j (c -ℤ pos 1)) (is_asked (ask j (c -ℤ pos 1)) c)
-    (λ none. unasked j (c -ℤ pos 1) c (none_in_gap_before ms start d order none))
+    is_last j c (are_before ms start d order first below)
+    ∙ ap (λ right. counted_if right (ask j) c) (done_or_none (done ms start j (c -ℤ pos 1)) (is_asked (ask j (c -ℤ pos 1)) c)
+    (λ none. unasked j (c -ℤ pos 1) c (none_in_gap_before ms start d order none)))
+    ∙ sym (counted_on (ask j) c)
+
+pub gives_way_is : (ask : ℤ → Option ℤ) (c : ℤ) (n : ℕ) → n ≡ asked_rightwards 4 ask c → is_odd n ≡ gives_way ask c
+unfolding gives_way
+gives_way_is ask c n is = ap is_odd is
 
 -- the pixel that one more gap adds
 
@@ -103,7 +109,7 @@ one_more x g a = grind arith
 
 -- a gap with marks adds a pixel
 abbrev one_adds : (ℤ → ℤ → Option ℤ) → ℤ → ℤ → ℤ → Bool
-one_adds ask j c p = is_asked (ask j c) p && not (is_asked (ask j (c -ℤ pos 1)) c)
+one_adds ask j c p = is_asked (ask j c) p && not (gives_way (ask j) c)
 
 gap_more : (ask : ℤ → ℤ → Option ℤ) (ms : List Mark) (start end : ℕ) (d : Mark) → start < length ms
     → IsGroup ms start end → (j c p : ℤ) → added_so_far ask ms end j c p ≡ (added_so_far ask ms start j c p
@@ -128,8 +134,7 @@ near_of c q p near takes = let one = near takes in grind (arith, ints, one)
 pub added_asked : (ask : ℤ → ℤ → Option ℤ) (ms : List Mark) (start end : ℕ) (d : Mark) (q : ℤ) (gives : Bool)
     → IsNear ask → start < length ms → IsGroup ms start end
     → ask (get_or ms start d).at.line (get_or ms start d).at.gap ≡ Some q
-    → gives
-    ≡ is_asked (ask (get_or ms start d).at.line ((get_or ms start d).at.gap -ℤ pos 1)) (get_or ms start d).at.gap
+    → gives ≡ gives_way (ask (get_or ms start d).at.line) (get_or ms start d).at.gap
     → (p j : ℤ) → (added_so_far ask ms end j p p || added_so_far ask ms end j (p -ℤ pos 1) p)
     ≡ ((added_so_far ask ms start j p p || added_so_far ask ms start j (p -ℤ pos 1) p)
     || (not gives && (int_eq q p && int_eq (get_or ms start d).at.line j)))
@@ -166,11 +171,11 @@ added_unasked ask ms start end d below group none p j =
 
 -- the gap that needed a pixel last, after one more gap
 
-not_yet_there : (a b : Crossing) (w : Wish) → is_up_to a b ≡ true
-    → is_up_to b (record { line = w.line; gap = w.gap -ℤ pos 1; place = 0; up = false }) ≡ true
-    → (int_eq b.line w.line && int_eq b.gap (w.gap -ℤ pos 1)) ≡ false
-    → (int_eq a.line w.line && int_eq a.gap (w.gap -ℤ pos 1)) ≡ false
-not_yet_there a b w low high other = grind (arith, ints)
+not_yet_there : (a b : Crossing) (j c : ℤ) → is_up_to a b ≡ true
+    → is_up_to b (record { line = j; gap = c -ℤ pos 1; place = 0; up = false }) ≡ true
+    → (int_eq b.line j && int_eq b.gap (c -ℤ pos 1)) ≡ false
+    → (int_eq a.line j && int_eq a.gap (c -ℤ pos 1)) ≡ false
+not_yet_there a b j c low high other = grind (arith, ints)
 
 none_taken : (p : Mark → Bool) (ms : List Mark) (n : ℕ)
     → ((i : ℕ) (d : Mark) → i < n → i < length ms → p (get_or ms i d) ≡ false) → list_any p (take n ms) ≡ false
@@ -180,36 +185,66 @@ none_taken p (m ∷ ms) (suc n) out =
     let rest = none_taken p ms n (λ i d under below. out (suc i) d (omega arith) (omega arith)) in
     rw (out 0 m (omega arith) (omega arith), rest) refl
 
-not_done : (ms : List Mark) (start : ℕ) (d : Mark) (w : Wish) → IsInOrder ms → start < length ms
-    → is_up_to (get_or ms start d).at (record { line = w.line; gap = w.gap -ℤ pos 1; place = 0; up = false }) ≡ true
-    → gap_of ms start d w.line (w.gap -ℤ pos 1) ≡ false → done ms start w.line (w.gap -ℤ pos 1) ≡ false
-not_done ms start d w order below up other =
-    none_taken (in_gap w.line (w.gap -ℤ pos 1)) ms start (λ i e under within.
+not_done : (ms : List Mark) (start : ℕ) (d : Mark) (j c : ℤ) → IsInOrder ms → start < length ms
+    → is_up_to (get_or ms start d).at (record { line = j; gap = c -ℤ pos 1; place = 0; up = false }) ≡ true
+    → gap_of ms start d j (c -ℤ pos 1) ≡ false → done ms start j (c -ℤ pos 1) ≡ false
+not_done ms start d j c order below up other =
+    none_taken (in_gap j (c -ℤ pos 1)) ms start (λ i e under within.
     rw (get_or_default ms i e d within)
-    (not_yet_there (get_or ms i d).at (get_or ms start d).at w (order i start d (omega arith) below) up other))
+    (not_yet_there (get_or ms i d).at (get_or ms start d).at j c (order i start d (omega arith) below) up other))
 
-next_takes : (j c q : ℤ) (w : Wish) → (int_eq j w.line && (int_eq (c +ℤ pos 1) w.gap && int_eq q w.gap))
-    ≡ ((int_eq j w.line && int_eq c (w.gap -ℤ pos 1)) && int_eq q w.gap)
-next_takes j c q w = grind (arith, ints)
+next_takes : (line gap q j c : ℤ) → (int_eq line j && (int_eq (gap +ℤ pos 1) c && int_eq q c))
+    ≡ ((int_eq line j && int_eq gap (c -ℤ pos 1)) && int_eq q c)
+next_takes line gap q j c = grind (arith, ints)
 
-pub last_asked : (ask : ℤ → ℤ → Option ℤ) (ms : List Mark) (start end : ℕ) (d : Mark) (q : ℤ)
+-- the last gap needed its right pixel, and that is gap c's left pixel
+takes_it : (ask : ℤ → ℤ → Option ℤ) (ms : List Mark) (start end : ℕ) (d : Mark) (q : ℤ)
     → IsInOrder ms → start < length ms → IsGroup ms start end
     → ask (get_or ms start d).at.line (get_or ms start d).at.gap ≡ Some q
-    → IsLast ask ms end
-    (Some (record { line = (get_or ms start d).at.line; gap = (get_or ms start d).at.gap; pixel = q }))
-last_asked ask ms start end d q order below group asks = λ w before.
+    → (j c : ℤ) → AreBefore ms end j (c -ℤ pos 1)
+    → (int_eq (get_or ms start d).at.line j && (int_eq ((get_or ms start d).at.gap +ℤ pos 1) c && int_eq q c))
+    ≡ (done ms end j (c -ℤ pos 1) && is_asked (ask j (c -ℤ pos 1)) c)
+takes_it ask ms start end d q order below group asks j c before =
     let line = (get_or ms start d).at.line in
     let gap = (get_or ms start d).at.gap in
     let up = before start d group.order in
-    let at_there = at_one_gap (λ j c. is_asked (ask j c) w.gap) line gap w.line (w.gap -ℤ pos 1) in
-    let gives = next_takes line gap q w in
-    let more = done_more ms start end d below group w.line (w.gap -ℤ pos 1) in
-    elim (cases_Bool (gap_of ms start d w.line (w.gap -ℤ pos 1))) [
+    let at_there = at_one_gap (λ j g. is_asked (ask j g) c) line gap j (c -ℤ pos 1) in
+    let gives = next_takes line gap q j c in
+    let more = done_more ms start end d below group j (c -ℤ pos 1) in
+    elim (cases_Bool (gap_of ms start d j (c -ℤ pos 1))) [
       | inl same ↦ grind (arith, same, at_there, gives, more, asks)
       | inr other ↦
-          let none = not_done ms start d w order below up other in
+          let none = not_done ms start d j c order below up other in
           grind (arith, other, gives, more, none)
     ]
+
+same_count : (a b : Bool) (m n : ℕ) → a ≡ b → (a ≡ true → m ≡ n) → (if a then m else 0) ≡ (if b then n else 0)
+same_count true true m n is same = same refl
+same_count false false m n is same = refl
+same_count true false m n is same = absurd cc
+same_count false true m n is same = absurd cc
+
+its_line : (line gap q j c : ℤ) → (int_eq line j && (int_eq (gap +ℤ pos 1) c && int_eq q c)) ≡ true → line ≡ j
+its_line line gap q j c is = grind (arith, ints, is)
+
+its_gap : (line gap q j c : ℤ) → (int_eq line j && (int_eq (gap +ℤ pos 1) c && int_eq q c)) ≡ true → gap ≡ c -ℤ pos 1
+its_gap line gap q j c is = grind (arith, ints, is)
+
+pub last_asked : (ask : ℤ → ℤ → Option ℤ) (ms : List Mark) (start end : ℕ) (d : Mark) (q : ℤ) (n : ℕ)
+    → IsInOrder ms → start < length ms → IsGroup ms start end
+    → ask (get_or ms start d).at.line (get_or ms start d).at.gap ≡ Some q
+    → n ≡ asked_rightwards 4 (ask (get_or ms start d).at.line) (get_or ms start d).at.gap
+    → IsLast ask ms end
+    (Some (record { line = (get_or ms start d).at.line; gap = (get_or ms start d).at.gap; pixel = q; before = n }))
+last_asked ask ms start end d q n order below group asks is = λ j c before.
+    let line = (get_or ms start d).at.line in
+    let gap = (get_or ms start d).at.gap in
+    let test = int_eq line j && (int_eq (gap +ℤ pos 1) c && int_eq q c) in
+    let count = λ (m : ℕ). min m 3 + 1 in
+    same_count test (done ms end j (c -ℤ pos 1) && is_asked (ask j (c -ℤ pos 1)) c) (count n)
+    (count (asked_rightwards 4 (ask j) (c -ℤ pos 1)))
+    (takes_it ask ms start end d q order below group asks j c before)
+    (λ both. ap count (is ∙ ap₂ (λ l g. asked_rightwards 4 (ask l) g) (its_line line gap q j c both) (its_gap line gap q j c both)))
 
 none_is_asked : (done here asks : Bool) → (here ≡ true → asks ≡ false) → (done && asks) ≡ ((done || here) && asks)
 none_is_asked done here asks none = grind (arith, none)
@@ -217,12 +252,13 @@ none_is_asked done here asks none = grind (arith, none)
 pub last_unasked : (ask : ℤ → ℤ → Option ℤ) (ms : List Mark) (start end : ℕ) (d : Mark) (last : Option Wish)
     → start < length ms → IsGroup ms start end → IsLast ask ms start last
     → ask (get_or ms start d).at.line (get_or ms start d).at.gap ≡ None → IsLast ask ms end last
-last_unasked ask ms start end d last below group is_last none = λ w before.
-    let same : (gap_of ms start d w.line (w.gap -ℤ pos 1) && is_asked (ask w.line (w.gap -ℤ pos 1)) w.gap)
-    ≡ (gap_of ms start d w.line (w.gap -ℤ pos 1) && false) =
-    rw none at (at_one_gap (λ j c. is_asked (ask j c) w.gap) (get_or ms start d).at.line (get_or ms start d).at.gap
-    w.line (w.gap -ℤ pos 1)) in
-    rw (done_more ms start end d below group w.line (w.gap -ℤ pos 1))
-    (is_last w (λ i e under. before i e (omega (arith, group.order)))
-    ∙ none_is_asked (done ms start w.line (w.gap -ℤ pos 1)) (gap_of ms start d w.line (w.gap -ℤ pos 1))
-    (is_asked (ask w.line (w.gap -ℤ pos 1)) w.gap) (λ here. grind (arith, same, here)))
+last_unasked ask ms start end d last below group is_last none = λ j c before.
+    let same : (gap_of ms start d j (c -ℤ pos 1) && is_asked (ask j (c -ℤ pos 1)) c)
+    ≡ (gap_of ms start d j (c -ℤ pos 1) && false) =
+    rw none at (at_one_gap (λ j g. is_asked (ask j g) c) (get_or ms start d).at.line (get_or ms start d).at.gap
+    j (c -ℤ pos 1)) in
+    is_last j c (λ i e under. before i e (omega (arith, group.order)))
+    ∙ ap (λ right. counted_if right (ask j) c)
+    (none_is_asked (done ms start j (c -ℤ pos 1)) (gap_of ms start d j (c -ℤ pos 1))
+    (is_asked (ask j (c -ℤ pos 1)) c) (λ here. grind (arith, same, here))
+    ∙ ap (λ more. more && is_asked (ask j (c -ℤ pos 1)) c) (sym (done_more ms start end d below group j (c -ℤ pos 1))))

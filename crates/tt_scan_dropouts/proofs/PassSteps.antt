@@ -1,12 +1,12 @@
 -- A pass gap by gap: the pixels that it has added, and the gap that needed one last.
-use Rattle.std.proofs.Common.{◌≡◌, refl, ◌∙◌, ap, ℕ, zero, suc, ◌+◌, ◌-◌, ◌<◌, ◌≤◌, Bool, true, false, not, ◌&&◌, ◌||◌, Option, Some, List, [], ◌∷◌, ◌++◌, length, take, drop, get_or, slice_range, filter, if◌then◌else◌, ℤ, pos, ◌+ℤ◌, ◌-ℤ◌, inl, inr, arith}
+use Rattle.std.proofs.Common.{◌≡◌, refl, ◌∙◌, ap, ℕ, zero, suc, ◌+◌, ◌-◌, ◌<◌, ◌≤◌, Bool, true, false, not, ◌&&◌, ◌||◌, Option, Some, List, [], ◌∷◌, ◌++◌, length, take, drop, get_or, slice_range, filter, min, if◌then◌else◌, ℤ, pos, ◌+ℤ◌, ◌-ℤ◌, inl, inr, arith}
 use Rattle.std.proofs.lemmas.Bool.{cases_Bool}
 use Rattle.std.proofs.lemmas.Int.{ints}
 use Rattle.std.proofs.lemmas.List.Folds.{list_any-append}
 use Rattle.std.specs.List.{list_any}
 use Rattle.std.specs.Ordering.{int_eq}
-use Rattle.tt_scan_gaps.specs.Gaps.{IsGroup, asked, asked_by, boxed, gap_marks, in_gap, is_added, is_asked, is_free, is_up_to, leans_right, pixel_of, some_asks}
-use Rattle.tt_scan_dropouts.specs.Passes.{gives_way, has_pixel}
+use Rattle.tt_scan_gaps.specs.Gaps.{IsGroup, asked, asked_by, asked_rightwards, boxed, gap_marks, gives_way, in_gap, is_added, is_asked, is_free, is_up_to, leans_right, pixel_of, some_asks}
+use Rattle.tt_scan_dropouts.specs.Passes.{asked_before, has_pixel}
 use Rattle.tt_scan_gaps.specs.declared.mark.Columns.{Columns}
 use Rattle.tt_scan_gaps.specs.declared.mark.Crossing.{Crossing}
 use Rattle.tt_scan_gaps.specs.declared.mark.Mark.{Mark}
@@ -117,16 +117,20 @@ done_more ms start end d below group j c =
 
 -- the pixels added by the gaps so far
 abbrev pub added_so_far : (ℤ → ℤ → Option ℤ) → List Mark → ℕ → ℤ → ℤ → ℤ → Bool
-added_so_far ask ms start j c p = done ms start j c && (is_asked (ask j c) p && not (is_asked (ask j (c -ℤ pos 1)) c))
+added_so_far ask ms start j c p = done ms start j c && (is_asked (ask j c) p && not (gives_way (ask j) c))
 
 -- all marks before one are at its gap or before it
 abbrev pub AreBefore : List Mark → ℕ → ℤ → ℤ → Type 0
 AreBefore ms start j c = (i : ℕ) (d : Mark) → i < start → is_up_to (get_or ms i d).at (record { line = j; gap = c; place = 0; up = false }) ≡ true
 
+-- how many gaps left of gap c need the pixel at their right, if a test of the gap before it holds
+abbrev pub counted_if : Bool → (ℤ → Option ℤ) → ℤ → ℕ
+counted_if right ask c = if right then min (asked_rightwards 4 ask (c -ℤ pos 1)) 3 + 1 else 0
+
 -- the last gap so far that needed a pixel, as the next gaps see it
 abbrev pub IsLast : (ℤ → ℤ → Option ℤ) → List Mark → ℕ → Option Wish → Type 0
-IsLast ask ms start last = (w : Wish) → AreBefore ms start w.line (w.gap -ℤ pos 1)
-    → gives_way last w ≡ (done ms start w.line (w.gap -ℤ pos 1) && is_asked (ask w.line (w.gap -ℤ pos 1)) w.gap)
+IsLast ask ms start last = (j c : ℤ) → AreBefore ms start j (c -ℤ pos 1)
+    → asked_before last j c ≡ counted_if (done ms start j (c -ℤ pos 1) && is_asked (ask j (c -ℤ pos 1)) c) (ask j) c
 
 pub granted : (ps : List Pixel) (x : Pixel) (p j : ℤ)
     → has_pixel (ps ++ x ∷ []) p j ≡ (has_pixel ps p j || (not false && (int_eq x.column p && int_eq x.row j)))
@@ -149,6 +153,6 @@ pub all_added : (rules : Rules) (b : Columns) (ms : List Mark) (black : ℤ → 
 all_added rules b ms black start p j over =
     rw (
       take_whole ms start over,
-      all_of_gap (is_asked (asked rules b ms black j p) p) (list_any (in_gap j p) ms) (not (is_asked (asked rules b ms black j (p -ℤ pos 1)) p)) (unasked rules b ms black j p p),
-      all_of_gap (is_asked (asked rules b ms black j (p -ℤ pos 1)) p) (list_any (in_gap j (p -ℤ pos 1)) ms) (not (is_asked (asked rules b ms black j ((p -ℤ pos 1) -ℤ pos 1)) (p -ℤ pos 1))) (unasked rules b ms black j (p -ℤ pos 1) p),
+      all_of_gap (is_asked (asked rules b ms black j p) p) (list_any (in_gap j p) ms) (not (gives_way (asked rules b ms black j) p)) (unasked rules b ms black j p p),
+      all_of_gap (is_asked (asked rules b ms black j (p -ℤ pos 1)) p) (list_any (in_gap j (p -ℤ pos 1)) ms) (not (gives_way (asked rules b ms black j) (p -ℤ pos 1))) (unasked rules b ms black j (p -ℤ pos 1) p),
     ) refl

@@ -6,8 +6,11 @@ use Rattle.std.proofs.lemmas.Int.{ints}
 use Rattle.tt_scan_gaps.specs.Gaps.{asked, is_added, is_free}
 use Rattle.tt_scan_dropouts.specs.Laws.{AddedByColumnsWasWhite, AddedByRowsWasWhite, DropoutWasWhite}
 use Rattle.tt_scan_gaps.specs.Boxes.{columns_in, rows_in}
-use Rattle.tt_scan_dropouts.specs.Dropouts.{is_added_by_columns, is_added_by_rows, is_inked, outline_turned}
+use Rattle.tt_scan_dropouts.specs.Dropouts.{is_added_by_columns, is_added_by_rows, is_bridged, is_dotted, is_inked, outline_turned}
+use Rattle.tt_scan_gaps.specs.Dots.{has_dot}
 use Rattle.tt_scan_gaps.specs.Walk.{marks}
+use Rattle.tt_scan_edges.specs.declared.edge.Edge.{Edge}
+use Rattle.tt_scan_dropouts.specs.declared.boxed.BoxedRules.{BoxedRules}
 use Rattle.tt_scan_gaps.specs.declared.mark.Columns.{Columns}
 use Rattle.tt_scan_gaps.specs.declared.mark.Mark.{Mark}
 use Rattle.tt_scan_gaps.specs.declared.mark.Rules.{Rules}
@@ -63,9 +66,21 @@ by_columns rules contours c j added =
     (added_was_white rules.rules (rows_in rules.extents) (marks rules.rules.stubs (outline_turned contours))
     (λ k q. is_inked contours q k || is_added_by_rows rules contours q k) j c added)
 
-pub by_both : DropoutWasWhite
-by_both rules contours c j added = elim (cases_Bool (is_added_by_rows rules contours c j)) [
+bridged : (rules : BoxedRules) (contours : List (List Edge)) (c j : ℤ) → is_bridged rules contours c j ≡ true → is_inked contours c j ≡ false
+bridged rules contours c j added = elim (cases_Bool (is_added_by_rows rules contours c j)) [
   | inl first ↦ by_rows rules contours c j first
   | inr not_first ↦ (by_columns rules contours c j
       (second_of (is_added_by_rows rules contours c j) (is_added_by_columns rules contours c j) added not_first)).0
+]
+
+was_white : (dots ink dot : Bool) → (dots && (not ink && dot)) ≡ true → ink ≡ false
+was_white true true dot is = absurd cc
+was_white true false dot is = refl
+was_white false ink dot is = absurd cc
+
+pub by_both : DropoutWasWhite
+by_both rules contours c j added = elim (cases_Bool (is_bridged rules contours c j)) [
+  | inl first ↦ bridged rules contours c j first
+  | inr not_first ↦ was_white rules.rules.dots (is_inked contours c j) (has_dot rules.rules.stubs contours c j)
+      (second_of (is_bridged rules contours c j) (is_dotted rules contours c j) added not_first)
 ]

@@ -1,10 +1,10 @@
 -- No part of the standard: what the edges of one glyph count where a job's work is bounded (profile). The count does
 -- not know the picture: rows inside and outside count, and a glyph counts the same at each pen.
-use Rattle.std.specs.Prelude.{◌≡◌, refl, ℕ, ◌+◌, ◌*◌, ◌/◌, ◌-◌, min, max, ℤ, pos, negsuc, ◌-ℤ◌, unsigned_abs, List, [], ◌∷◌, length, map}
+use Rattle.std.specs.Prelude.{◌≡◌, refl, ℕ, ◌+◌, ◌*◌, ◌/◌, ◌-◌, min, max, true, ℤ, pos, negsuc, ◌-ℤ◌, unsigned_abs, List, [], ◌∷◌, length, map}
 use Rattle.tt_core.specs.Bits.{stride}
 use Rattle.tt_scan_edges.specs.declared.edge.Edge.{Edge}
 use Rattle.tt_scan_gaps.specs.Crossings.{lines_crossed}
-use Rattle.tt_scan_gaps.specs.Boxes.{columns_in, columns_of, rows_in}
+use Rattle.tt_scan_gaps.specs.Boxes.{columns_of, columns_reached, rows_reached}
 use Rattle.tt_scan_gaps.specs.Seen.{turned_round}
 use Rattle.tt_scan_dropouts.specs.Dropouts.{crossed}
 use Rattle.tt_scan_gaps.specs.declared.extent.Extents.{Extents}
@@ -26,12 +26,12 @@ numbers_in b = unsigned_abs (b.last -ℤ b.first) + 1
 abbrev pub box_rows : List Edge → ℕ
 box_rows es = numbers_in (columns_of (map turned_round es))
 
--- how many columns a box has, and how many rows
+-- how many columns the black pixels of a glyph may lie in, dots too, and how many rows
 abbrev pub extent_columns : Extents → ℕ
-extent_columns b = numbers_in (columns_in b)
+extent_columns b = numbers_in (columns_reached true b)
 
 abbrev pub extent_rows : Extents → ℕ
-extent_rows b = numbers_in (rows_in b)
+extent_rows b = numbers_in (rows_reached true b)
 
 -- what an edge counts for the rows that it crosses: five for each, but at least seven, since it takes memory
 abbrev pub edge_rows : Edge → ℕ
@@ -47,13 +47,13 @@ rows_counted (e ∷ es) = edge_rows e + rows_counted es
 unfoldable pub edges_counted : List Edge → ℕ
 edges_counted es = bands (box_rows es) * length es + (rows_counted es + box_rows es)
 
--- the bytes of a bitmap of this many columns and rows, with two pixels more on each side
+-- the bytes of a bitmap of this many columns and rows, with five pixels more on each side
 abbrev pub bitmap_bytes : ℕ → ℕ → ℕ
-bitmap_bytes columns rows = stride (columns + 4) * (rows + 4)
+bitmap_bytes columns rows = stride (columns + 10) * (rows + 10)
 
 -- the bytes of the bitmaps of all bands
 abbrev pub bands_bytes : ℕ → ℕ → ℕ
-bands_bytes columns rows = stride (columns + 4) * (rows + 4 * bands rows)
+bands_bytes columns rows = stride (columns + 10) * (rows + 10 * bands rows)
 
 -- where dropouts are filled: for each row or column that an edge crosses three, and one for each band, since a band
 -- reads them all; and one for each 64 bytes of the bitmaps of the glyph's box
@@ -77,10 +77,10 @@ one_row_more = refl
 the_band_of_that_row : rows_of_band 2049 1 ≡ 1
 the_band_of_that_row = refl
 
-forty_by_999 : bands_bytes 40 999 ≡ 6018
+forty_by_999 : bands_bytes 40 999 ≡ 7063
 forty_by_999 = refl
 
-one_pixel : bitmap_bytes 1 1 ≡ 5
+one_pixel : bitmap_bytes 1 1 ≡ 22
 one_pixel = refl
 
 -- no edge: its box is one pixel, and the row of that pixel is counted
@@ -127,13 +127,14 @@ a_point_is_not_filled : filling_counted (box (pos 0) (pos 0) (pos 0) (pos 0)) (a
 unfolding filling_counted box at_a_corner
 a_point_is_not_filled = refl
 
--- the level edge crosses four columns, and the upright edge two rows: four times 6, and a byte for each of six rows
+-- the level edge crosses four columns, and the upright edge two rows: four times 6. The two bytes
+-- of each of 14 rows are less than 64
 both_are_filled : filling_counted (box (pos 0) (negsuc 8191) (pos 32768) (pos 8192)) (upright ∷ level ∷ []) ≡ 24
 unfolding filling_counted box upright level
 both_are_filled = refl
 
--- the same edges in a box of 999 columns: 126 bytes for each of six rows
-a_wider_box_counts_more : filling_counted (box (pos 0) (negsuc 8191) (pos 8183808) (pos 8192)) (upright ∷ level ∷ []) ≡ 35
+-- the same edges in a box of 999 columns: 127 bytes for each of 14 rows
+a_wider_box_counts_more : filling_counted (box (pos 0) (negsuc 8191) (pos 8183808) (pos 8192)) (upright ∷ level ∷ []) ≡ 51
 unfolding filling_counted box upright level
 a_wider_box_counts_more = refl
 
@@ -154,7 +155,7 @@ two_bands_count : edges_counted (high ∷ high ∷ []) ≡ 22543
 unfolding edges_counted high
 two_bands_count = refl
 
--- five for each row, and 2,057 bytes of bitmaps: 32 times 64, and nine
-their_bitmaps_count : filling_counted (box (pos 0) (pos 0) (pos 0) (pos 16785408)) (high ∷ []) ≡ 10277
+-- five for each row, and 4,142 bytes of bitmaps: 64 times 64, and 46
+their_bitmaps_count : filling_counted (box (pos 0) (pos 0) (pos 0) (pos 16785408)) (high ∷ []) ≡ 10309
 unfolding filling_counted box high
 their_bitmaps_count = refl

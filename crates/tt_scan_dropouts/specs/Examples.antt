@@ -1,11 +1,13 @@
 -- Worked pictures of outlines by the scan types 0, 1, 4 and 5, side by side, from the top row down. Points are in 26.6,
 -- so pixel centres are at 32, 96, 160 and 224. `#` is black by rules 1 and 2, `r` is added by the rows and `c` by the
--- columns.
-use Rattle.std.specs.Prelude.{◌≡◌, refl, ℕ, ◌*◌, true, false, if◌then◌else◌, pos, List, [], ◌∷◌, ◌++◌, map, codes}
+-- columns; `d` is a dot.
+use Rattle.std.specs.Prelude.{◌≡◌, refl, ℕ, zero, suc, ◌+◌, ◌*◌, true, false, if◌then◌else◌, pos, List, [], ◌∷◌, ◌++◌, map, codes}
 use Rattle.std.specs.List.{range_with_len}
 use Rattle.tt_scan_edges.specs.declared.edge.Edge.{Edge}
-use Rattle.tt_scan_dropouts.specs.Dropouts.{is_inked, is_added_by_rows, is_added_by_columns}
+use Rattle.tt_scan_dropouts.specs.Dropouts.{is_inked, is_added_by_rows, is_added_by_columns, is_dotted}
 use Rattle.tt_scan_gaps.specs.Boxes.{greatest_x, least_x}
+use Rattle.tt_scan_gaps.specs.Dots.{is_dot}
+use Rattle.tt_scan_gaps.specs.Gaps.{gives_way}
 use Rattle.tt_scan_gaps.specs.Seen.{turned_round}
 use Rattle.tt_scan_gaps.specs.declared.extent.Extents.{Extents}
 use Rattle.tt_scan_gaps.specs.declared.mark.Rules.{Rules}
@@ -36,7 +38,8 @@ shown : BoxedRules → List Edge → ℕ → ℕ → List ℕ
 shown rules es j c =
     if is_inked (es ∷ []) (pos c) (pos j) then codes "#" else (
     if is_added_by_rows rules (es ∷ []) (pos c) (pos j) then codes "r" else (
-    if is_added_by_columns rules (es ∷ []) (pos c) (pos j) then codes "c" else codes "."))
+    if is_added_by_columns rules (es ∷ []) (pos c) (pos j) then codes "c" else (
+    if is_dotted rules (es ∷ []) (pos c) (pos j) then codes "d" else codes ".")))
 
 texts : List (List ℕ) → List ℕ
 texts [] = []
@@ -46,16 +49,23 @@ row_shown : List Edge → ℕ → BoxedRules → ℕ → List ℕ
 row_shown es width rules j = texts (map (shown rules es j) (range_with_len 0 width))
 
 type_0 : Rules
-type_0 = record { stubs = true; smart = false }
+type_0 = record { stubs = true; smart = false; dots = false }
 
 type_1 : Rules
-type_1 = record { stubs = false; smart = false }
+type_1 = record { stubs = false; smart = false; dots = false }
 
 type_4 : Rules
-type_4 = record { stubs = true; smart = true }
+type_4 = record { stubs = true; smart = true; dots = false }
 
 type_5 : Rules
-type_5 = record { stubs = false; smart = true }
+type_5 = record { stubs = false; smart = true; dots = false }
+
+-- type 1 with dots
+type_1_dots : Rules
+type_1_dots = record { stubs = false; smart = false; dots = true }
+
+type_4_dots : Rules
+type_4_dots = record { stubs = true; smart = true; dots = true }
 
 in_box : Extents → Rules → BoxedRules
 in_box b rules = record { rules = rules; extents = b }
@@ -80,7 +90,7 @@ upright_stem_is_drawn : drawn upright_stem 3 ≡
     ∷ codes "r..  r..  r..  r.."
     ∷ codes "r..  r..  r..  r.."
     ∷ codes "r..  ...  r..  ..." ∷ []
-unfolding drawn drawn_in extents_of in_box row_by_each row_shown shown texts type_0 type_1 type_4 type_5 polygon path line upright_stem
+unfolding gives_way drawn drawn_in extents_of in_box row_by_each row_shown shown texts type_0 type_1 type_4 type_5 polygon path line upright_stem
 upright_stem_is_drawn = refl
 
 -- a stem nearer the right: the right pixel is taken
@@ -92,7 +102,7 @@ stem_nearer_the_right_is_drawn : drawn stem_nearer_the_right 3 ≡
     ∷ codes ".r.  .r.  .r.  .r."
     ∷ codes ".r.  .r.  .r.  .r."
     ∷ codes ".r.  ...  .r.  ..." ∷ []
-unfolding drawn drawn_in extents_of in_box row_by_each row_shown shown texts type_0 type_1 type_4 type_5 polygon path line stem_nearer_the_right
+unfolding gives_way drawn drawn_in extents_of in_box row_by_each row_shown shown texts type_0 type_1 type_4 type_5 polygon path line stem_nearer_the_right
 stem_nearer_the_right_is_drawn = refl
 
 -- the same stem with a point at 16 in 26.6, which widens the box: the left pixel is taken
@@ -104,7 +114,7 @@ a_point_widens_the_box : drawn_in box_from_16 stem_nearer_the_right 3 ≡
     ∷ codes "r..  r..  r..  r.."
     ∷ codes "r..  r..  r..  r.."
     ∷ codes "r..  ...  r..  ..." ∷ []
-unfolding drawn_in in_box row_by_each row_shown shown texts type_0 type_1 type_4 type_5 polygon path line stem_nearer_the_right box_from_16
+unfolding gives_way drawn_in in_box row_by_each row_shown shown texts type_0 type_1 type_4 type_5 polygon path line stem_nearer_the_right box_from_16
 a_point_widens_the_box = refl
 
 -- a stem on a foot, so that the glyph's box is wider than the stem
@@ -116,7 +126,7 @@ stem_on_a_foot_is_drawn : drawn stem_on_a_foot 3 ≡
     ∷ codes "r..  r..  .r.  .r."
     ∷ codes "r..  r..  .r.  .r."
     ∷ codes "###  ###  ###  ###" ∷ []
-unfolding drawn drawn_in extents_of in_box row_by_each row_shown shown texts type_0 type_1 type_4 type_5 polygon path line stem_on_a_foot
+unfolding gives_way drawn drawn_in extents_of in_box row_by_each row_shown shown texts type_0 type_1 type_4 type_5 polygon path line stem_on_a_foot
 stem_on_a_foot_is_drawn = refl
 
 -- a stem exactly in the middle between two centres
@@ -128,7 +138,7 @@ stem_in_the_middle_is_drawn : drawn stem_in_the_middle 3 ≡
     ∷ codes "r..  r..  r..  r.."
     ∷ codes "r..  r..  r..  r.."
     ∷ codes "###  ###  ###  ###" ∷ []
-unfolding drawn drawn_in extents_of in_box row_by_each row_shown shown texts type_0 type_1 type_4 type_5 polygon path line stem_in_the_middle
+unfolding gives_way drawn drawn_in extents_of in_box row_by_each row_shown shown texts type_0 type_1 type_4 type_5 polygon path line stem_in_the_middle
 stem_in_the_middle_is_drawn = refl
 
 -- a stem 1/64 pixel right of the middle
@@ -140,7 +150,7 @@ stem_past_the_middle_is_drawn : drawn stem_past_the_middle 3 ≡
     ∷ codes "r..  r..  .r.  .r."
     ∷ codes "r..  r..  .r.  .r."
     ∷ codes "###  ###  ###  ###" ∷ []
-unfolding drawn drawn_in extents_of in_box row_by_each row_shown shown texts type_0 type_1 type_4 type_5 polygon path line stem_past_the_middle
+unfolding gives_way drawn drawn_in extents_of in_box row_by_each row_shown shown texts type_0 type_1 type_4 type_5 polygon path line stem_past_the_middle
 stem_past_the_middle_is_drawn = refl
 
 -- a stem left of all other centres, with a bar
@@ -152,7 +162,7 @@ stem_at_the_left_edge_is_drawn : drawn stem_at_the_left_edge 3 ≡
     ∷ codes ".##  .##  .##  .##"
     ∷ codes ".r.  .r.  .r.  .r."
     ∷ codes ".r.  ...  .r.  ..." ∷ []
-unfolding drawn drawn_in extents_of in_box row_by_each row_shown shown texts type_0 type_1 type_4 type_5 polygon path line stem_at_the_left_edge
+unfolding gives_way drawn drawn_in extents_of in_box row_by_each row_shown shown texts type_0 type_1 type_4 type_5 polygon path line stem_at_the_left_edge
 stem_at_the_left_edge_is_drawn = refl
 
 -- a level bar: the columns alone add pixels
@@ -164,7 +174,7 @@ level_bar_is_drawn : drawn level_bar 4 ≡
     ∷ codes "....  ....  ....  ...."
     ∷ codes "cccc  .cc.  cccc  .cc."
     ∷ codes "....  ....  ....  ...." ∷ []
-unfolding drawn drawn_in extents_of in_box row_by_each row_shown shown texts type_0 type_1 type_4 type_5 polygon path line level_bar
+unfolding gives_way drawn drawn_in extents_of in_box row_by_each row_shown shown texts type_0 type_1 type_4 type_5 polygon path line level_bar
 level_bar_is_drawn = refl
 
 -- a dot between four centres crosses no line
@@ -176,7 +186,7 @@ dot_between_centres_is_drawn : drawn dot_between_centres 4 ≡
     ∷ codes "....  ....  ....  ...."
     ∷ codes "....  ....  ....  ...."
     ∷ codes "....  ....  ....  ...." ∷ []
-unfolding drawn drawn_in extents_of in_box row_by_each row_shown shown texts type_0 type_1 type_4 type_5 polygon path line dot_between_centres
+unfolding gives_way drawn drawn_in extents_of in_box row_by_each row_shown shown texts type_0 type_1 type_4 type_5 polygon path line dot_between_centres
 dot_between_centres_is_drawn = refl
 
 -- a tip that reaches less than half a pixel beyond a line
@@ -196,7 +206,7 @@ stub_drawn =
     ∷ codes "####  ####  ####  ####" ∷ []
 
 both_tips_are_drawn : map (λ es. drawn es 4) (low_tip ∷ narrow_tip ∷ []) ≡ stub_drawn ∷ stub_drawn ∷ []
-unfolding drawn drawn_in extents_of in_box row_by_each row_shown shown texts type_0 type_1 type_4 type_5 polygon path line low_tip narrow_tip stub_drawn
+unfolding gives_way drawn drawn_in extents_of in_box row_by_each row_shown shown texts type_0 type_1 type_4 type_5 polygon path line low_tip narrow_tip stub_drawn
 both_tips_are_drawn = refl
 
 -- a tip that reaches further, and is more than half a pixel wide
@@ -208,7 +218,7 @@ wide_tip_is_drawn : drawn wide_tip 4 ≡
     ∷ codes ".r..  .r..  .r..  .r.."
     ∷ codes "####  ####  ####  ####"
     ∷ codes "####  ####  ####  ####" ∷ []
-unfolding drawn drawn_in extents_of in_box row_by_each row_shown shown texts type_0 type_1 type_4 type_5 polygon path line wide_tip
+unfolding gives_way drawn drawn_in extents_of in_box row_by_each row_shown shown texts type_0 type_1 type_4 type_5 polygon path line wide_tip
 wide_tip_is_drawn = refl
 
 -- a thin diagonal stroke
@@ -220,7 +230,7 @@ diagonal_is_drawn : drawn diagonal 4 ≡
     ∷ codes "..#.  ..#.  ..#.  ..#."
     ∷ codes ".r..  .r..  .r..  .r.."
     ∷ codes "r...  ....  r...  ...." ∷ []
-unfolding drawn drawn_in extents_of in_box row_by_each row_shown shown texts type_0 type_1 type_4 type_5 polygon path line diagonal
+unfolding gives_way drawn drawn_in extents_of in_box row_by_each row_shown shown texts type_0 type_1 type_4 type_5 polygon path line diagonal
 diagonal_is_drawn = refl
 
 -- a triangle whose tip touches a line
@@ -232,7 +242,7 @@ tip_on_a_line_is_drawn : drawn tip_on_a_line 3 ≡
     ∷ codes ".r.  ...  .r.  ..."
     ∷ codes ".r.  .r.  .r.  .r."
     ∷ codes ".r.  .r.  .r.  .r." ∷ []
-unfolding drawn drawn_in extents_of in_box row_by_each row_shown shown texts type_0 type_1 type_4 type_5 polygon path line tip_on_a_line
+unfolding gives_way drawn drawn_in extents_of in_box row_by_each row_shown shown texts type_0 type_1 type_4 type_5 polygon path line tip_on_a_line
 tip_on_a_line_is_drawn = refl
 
 -- a stem of no width
@@ -244,7 +254,7 @@ stem_of_no_width_is_drawn : drawn stem_of_no_width 3 ≡
     ∷ codes "r..  ...  r..  ..."
     ∷ codes "r..  r..  r..  r.."
     ∷ codes "r..  ...  r..  ..." ∷ []
-unfolding drawn drawn_in extents_of in_box row_by_each row_shown shown texts type_0 type_1 type_4 type_5 polygon path line stem_of_no_width
+unfolding gives_way drawn drawn_in extents_of in_box row_by_each row_shown shown texts type_0 type_1 type_4 type_5 polygon path line stem_of_no_width
 stem_of_no_width_is_drawn = refl
 
 -- a dot that crosses one line: a stub twice
@@ -256,10 +266,10 @@ dot_on_one_line_is_drawn : drawn dot_on_one_line 3 ≡
     ∷ codes "...  ...  ...  ..."
     ∷ codes "r..  ...  r..  ..."
     ∷ codes "...  ...  ...  ..." ∷ []
-unfolding drawn drawn_in extents_of in_box row_by_each row_shown shown texts type_0 type_1 type_4 type_5 polygon path line dot_on_one_line
+unfolding gives_way drawn drawn_in extents_of in_box row_by_each row_shown shown texts type_0 type_1 type_4 type_5 polygon path line dot_on_one_line
 dot_on_one_line_is_drawn = refl
 
--- two stems; the left one gives way
+-- two stems; the right one gives way
 two_stems : List Edge
 two_stems = polygon ((16, 0) ∷ (16, 64) ∷ (80, 64) ∷ (80, 256) ∷ (92, 256) ∷ (92, 64)
     ∷ (140, 64) ∷ (140, 256) ∷ (156, 256) ∷ (156, 64) ∷ (240, 64) ∷ (240, 0) ∷ [])
@@ -269,5 +279,46 @@ two_stems_is_drawn : drawn two_stems 4 ≡
     ∷ codes "rr..  rr..  .r..  .r.."
     ∷ codes "rr..  rr..  .r..  .r.."
     ∷ codes "####  ####  ####  ####" ∷ []
-unfolding drawn drawn_in extents_of in_box row_by_each row_shown shown texts type_0 type_1 type_4 type_5 polygon path line two_stems
+unfolding gives_way drawn drawn_in extents_of in_box row_by_each row_shown shown texts type_0 type_1 type_4 type_5 polygon path line two_stems
 two_stems_is_drawn = refl
+
+-- the two dots by type 1 and by type 4, where dots are drawn: a dot that needs a pixel by type 4 is none
+with_dots : List Edge → ℕ → List (List ℕ)
+with_dots es width = map (λ j. row_shown es width (in_box (extents_of es) type_1_dots) j
+    ++ (codes "  " ++ row_shown es width (in_box (extents_of es) type_4_dots) j)) (3 ∷ 2 ∷ 1 ∷ 0 ∷ [])
+
+a_dot_between_centres : with_dots dot_between_centres 4 ≡
+    codes "....  ...."
+    ∷ codes "..d.  ..d."
+    ∷ codes "....  ...."
+    ∷ codes "....  ...." ∷ []
+unfolding gives_way is_dot with_dots extents_of in_box row_shown shown texts type_1_dots type_4_dots polygon path line dot_between_centres
+a_dot_between_centres = refl
+
+a_dot_on_one_line : with_dots dot_on_one_line 3 ≡
+    codes "...  ..."
+    ∷ codes "...  ..."
+    ∷ codes "d..  r.."
+    ∷ codes "...  ..." ∷ []
+unfolding gives_way is_dot with_dots extents_of in_box row_shown shown texts type_1_dots type_4_dots polygon path line dot_on_one_line
+a_dot_on_one_line = refl
+
+-- stems side by side on a foot, each of which needs the pixel at its right
+rectangle : ℕ → ℕ → ℕ → ℕ → List Edge
+rectangle l b r t = polygon ((l, b) ∷ (l, t) ∷ (r, t) ∷ (r, b) ∷ [])
+
+stems : ℕ → List Edge
+stems zero = rectangle 0 0 448 64
+stems (suc n) = stems n ++ rectangle (80 + 64 * n) 32 (92 + 64 * n) 256
+
+stems_shown : ℕ → List ℕ
+stems_shown n = row_shown (stems n) 7 (in_box (extents_of (stems n)) type_4) 2
+
+-- the gaps before one count to four: of six stems the last one gives way no longer
+three_stems : stems_shown 3 ≡ codes ".r.r..."
+unfolding gives_way stems_shown stems rectangle extents_of in_box row_shown shown texts type_4 polygon path line
+three_stems = refl
+
+six_stems : stems_shown 6 ≡ codes ".r.r.rr"
+unfolding gives_way stems_shown stems rectangle extents_of in_box row_shown shown texts type_4 polygon path line
+six_stems = refl

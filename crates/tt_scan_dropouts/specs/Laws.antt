@@ -1,6 +1,7 @@
--- Lemmas about the definitions: dropouts are white without them, and move with their glyph. A free gap is crossed both
--- ways or not at all. What a glyph needs is at most what it counts, and it counts the same at each pen.
-use Rattle.std.specs.Prelude.{◌≡◌, refl, ℕ, ◌/◌, ◌≤◌, true, false, ℤ, pos, ◌+ℤ◌, ◌*ℤ◌, All, List, [], ◌∷◌, map}
+-- Lemmas about the definitions: dropouts are white without them, and move with their glyph. No gap that needs a pixel
+-- stays white, and no dot is lost. A free gap is crossed both ways or not at all. What a glyph needs is at most what it
+-- counts, and it counts the same at each pen.
+use Rattle.std.specs.Prelude.{◌≡◌, refl, ℕ, ◌/◌, ◌<◌, ◌≤◌, Bool, true, false, ◌||◌, ℤ, pos, ◌+ℤ◌, ◌*ℤ◌, All, List, [], ◌∷◌, get_or, length, map, Some}
 use Rattle.std.specs.List.{range_with_len, sum_by}
 use Rattle.tt_scan.specs.Contours.{IsClosed}
 use Rattle.tt_scan_edges.specs.Winding.{crossings_of, is_black}
@@ -8,11 +9,13 @@ use Rattle.tt_scan_edges.specs.declared.edge.Edge.{Edge}
 use Rattle.tt_scan_edges.specs.declared.edge.Frame.{Frame}
 use Rattle.tt_scan_dropouts.specs.Counted.{bands, bitmap_bytes, edges_counted, extent_columns, extent_rows, filling_counted, rows_of_band}
 use Rattle.tt_scan_gaps.specs.BothWays.{crosses_gap}
-use Rattle.tt_scan_gaps.specs.Boxes.{HoldsEdges, columns_in, rows_in}
+use Rattle.tt_scan_gaps.specs.Boxes.{HoldsEdges}
 use Rattle.tt_scan_gaps.specs.Crossings.{centre}
-use Rattle.tt_scan_dropouts.specs.Dropouts.{edges_of, is_added_by_columns, is_added_by_rows, is_dropout, is_inked, outline_turned}
+use Rattle.tt_scan_gaps.specs.Dots.{asks, ends_box, is_dot_box, middle}
+use Rattle.tt_scan_dropouts.specs.Dropouts.{columns_of_rules, edges_of, is_added_by_columns, is_added_by_rows, is_dropout, is_inked, outline_turned, row_adds, rows_of_rules}
 use Rattle.tt_scan_dropouts.specs.Windows.{box_has}
-use Rattle.tt_scan_gaps.specs.Gaps.{is_free}
+use Rattle.tt_scan_gaps.specs.Gaps.{gap_marks, is_free, some_asks}
+use Rattle.tt_scan_gaps.specs.Walk.{marks}
 use Rattle.tt_scan_gaps.specs.declared.extent.Extent.{Extent}
 use Rattle.tt_scan_gaps.specs.declared.extent.Extents.{Extents}
 use Rattle.tt_scan_dropouts.specs.declared.boxed.BoxedRules.{BoxedRules}
@@ -60,11 +63,25 @@ abbrev pub DropoutsMoved : Type 0
 DropoutsMoved = (rules : BoxedRules) (contours : List (List Edge)) (k m c j : ℤ)
     → is_dropout (rules_moved k m rules) (outline_moved k m contours) (c +ℤ k) (j +ℤ m) ≡ is_dropout rules contours c j
 
--- a dropout lies in the glyph's box, where the box holds the edges
+-- a dropout lies in the glyph's box, where the box holds the edges. A dot may lie in the next column or row
 abbrev pub DropoutsLieInBox : Type 0
 DropoutsLieInBox = (rules : BoxedRules) (contours : List (List Edge)) (c j : ℤ) → HoldsEdges rules.extents (edges_of contours)
     → is_dropout rules contours c j ≡ true
-    → box_has (columns_in rules.extents) (rows_in rules.extents) c j ≡ true
+    → box_has (columns_of_rules rules) (rows_of_rules rules) c j ≡ true
+
+-- a pass over rows leaves no gap white that needs a pixel, whatever is black before: one of the gap's two pixels is
+-- added. With x and y exchanged this holds of columns
+abbrev pub NoGapStaysWhite : Type 0
+NoGapStaysWhite = (rules : BoxedRules) (contours : List (List Edge)) (black : ℤ → ℤ → Bool) (c j : ℤ)
+    → is_free black c j ≡ true → some_asks (gap_marks (marks rules.rules.stubs contours) j c) ≡ true
+    → (row_adds rules contours black c j || row_adds rules contours black (c +ℤ pos 1) j) ≡ true
+
+-- no dot is lost: a contour with the box of a dot needs a pixel, or the pixel that holds its middle is black
+abbrev pub NoDotIsLost : Type 0
+NoDotIsLost = (rules : BoxedRules) (contours : List (List Edge)) (k : ℕ) (d : List Edge) (b : Extents)
+    → rules.rules.dots ≡ true → k < length contours → ends_box (get_or contours k d) ≡ Some b → is_dot_box b ≡ true
+    → asks rules.rules.stubs (get_or contours k d) ≡ false
+    → (is_inked contours (middle b.across) (middle b.up) || is_dropout rules contours (middle b.across) (middle b.up)) ≡ true
 
 -- some edge rises through a free gap of a row if and only if one falls through it, whatever the edges
 abbrev pub RowsCrossedBothWays : Type 0

@@ -23,6 +23,14 @@ pub record WindowFits (w : Window) : Type 0 where
   pub low : 1 ≤ w.height
   pub high : w.height ≤ height_limit + 4
 
+-- a window is near the origin, and has a row
+pub record WindowNear (w : Window) : Type 0 where
+  pub left : unsigned_abs w.left ≤ 2 ^ 18
+  pub bottom : unsigned_abs w.bottom ≤ 2 ^ 18
+  pub top : unsigned_abs (w.bottom +ℤ pos w.height) ≤ 2 ^ 18
+  pub width : w.width ≤ 2 ^ 19
+  pub some : 1 ≤ w.height
+
 -- one of `count` numbers from `first` on
 abbrev pub is_within : ℤ → ℕ → ℤ → Bool
 is_within first count n = int_le first n && int_lt n (first +ℤ pos count)
@@ -35,9 +43,11 @@ has w c j = is_within w.left w.width c && is_within w.bottom w.height j
 abbrev pub box_has : Columns → Columns → ℤ → ℤ → Bool
 box_has columns rows c j = is_column_of columns c && is_column_of rows j
 
--- a part of `count` numbers from `first` on: it begins no later than the columns of a box need
+-- a part of `count` numbers from `first` on: it begins no later than the columns of a box need, and lies in the box
 pub record IsPart (first : ℤ) (count : ℕ) (b : Columns) (p : Part) : Type 0 where
   pub some : 1 ≤ p.count
+  pub within : b.first ≤ℤ p.from
+  pub last : (p.from +ℤ pos p.count) ≤ℤ (b.last +ℤ pos 1)
   pub low : first ≤ℤ p.from
   pub near : p.from ≤ℤ int_max first b.first
   pub high : (p.from +ℤ pos p.count) ≤ℤ (first +ℤ pos count)

@@ -228,7 +228,7 @@ impl Bitmap {
 
     /// Whether two pixels are white. A pixel outside the window is not.
     #[inline(always)]
-    fn are_white(&self, column: i64, row: i64, other_column: i64, other_row: i64) -> bool
+    pub(crate) fn are_white(&self, column: i64, row: i64, other_column: i64, other_row: i64) -> bool
         ensures { result ≡ (not (is_black_in self.now column row) && not (is_black_in self.now other_column other_row)) }
     {
         if !has(self.window, column, row) {

@@ -5,18 +5,19 @@ ghost use Rattle.std.specs.Prelude.{◌≡◌, true, false, ℤ, ◌^◌, ◌≤
 ghost use Rattle.std.specs.List.{list_any};
 ghost use Rattle.tt_scan.specs.Contours.{AreEnds, IsClosed, contours_at};
 ghost use Rattle.tt_scan_edges.specs.Winding.{EdgeFits, is_black};
-ghost use Rattle.tt_scan_gaps.specs.Boxes.{IsBoxOf, columns_in, rows_in};
+ghost use Rattle.tt_scan_gaps.specs.Boxes.{IsBoxOf};
 ghost use Rattle.tt_scan_gaps.specs.Crossings.{centre};
 ghost use Rattle.tt_scan_gaps.specs.Seen.{seen_by, turned_round};
 ghost use Rattle.tt_scan_gaps.specs.Walk.{is_in_free_gap};
 ghost use Rattle.tt_scan_gaps.specs.declared.seen.Over.TheVariants as over;
-ghost use Rattle.tt_scan_dropouts.specs.Dropouts.{is_dropout};
+ghost use Rattle.tt_scan_dropouts.specs.Dropouts.{columns_of_rules, is_dropout, rows_of_rules};
 ghost use Rattle.tt_scan_dropouts.specs.Rising.{rises_in_free_gap};
 ghost use Rattle.tt_scan_dropouts.specs.Windows.{WindowFits, box_has, has, is_black_by, is_black_in, is_shown, widened};
 
 use crate::bitmap::{Bitmap, has_rows};
 use crate::boxed::BoxedRules;
 use crate::contours::{Contours, Outlined};
+use crate::dots::push_dots;
 use crate::filling::{both_passes, push_within, some_in_free_gap};
 use crate::marks::crosses_free_gap;
 use crate::window::{Window, widened};
@@ -82,7 +83,7 @@ fn may_mark(ink: &Bitmap, stubs: bool, contours: Contours) -> (bool, bool)
 }
 
 /// Blackens the dropouts of a glyph in a bitmap that has two pixels more on each side of a window. The window is the
-/// glyph's box. Error: memory ran out.
+/// glyph's box, with one pixel more on each side where dots are drawn. Error: memory ran out.
 fn blacken_all_dropouts(
     alloc: Global,
     glyph: Outlined,
@@ -90,7 +91,7 @@ fn blacken_all_dropouts(
     ink: &mut Bitmap,
 ) -> Result<(), AllocError>
     requires closed { All IsClosed (contours_at glyph.tape.now.edges glyph.ends.now) }
-    requires sides { (c j : ℤ) → has window c j ≡ box_has (columns_in glyph.rules.extents) (rows_in glyph.rules.extents) c j }
+    requires sides { (c j : ℤ) → has window c j ≡ box_has (columns_of_rules glyph.rules) (rows_of_rules glyph.rules) c j }
     requires window { ink.old.window ≡ widened 2 window }
     requires ink { (c j : ℤ) → has (widened 2 window) c j ≡ true
         → is_black_in ink.old c j ≡ is_black glyph.tape.now.edges (centre c) (centre j) }
@@ -98,17 +99,18 @@ fn blacken_all_dropouts(
     ensures exact { OnOk result ((c j : ℤ) → is_shown ink.new c j ≡ (is_black glyph.entry.tape.now.edges (centre c) (centre j)
         || is_dropout glyph.entry.rules (contours_at glyph.entry.tape.now.edges glyph.entry.ends.now) c j)) }
 {
+    let mut found = Vec::new(alloc);
+    push_dots(alloc, &mut found, glyph, window, ink)?;
     let some = may_mark(ink, glyph.rules.rules.stubs, glyph.contours());
     let (_, by_columns) = both_passes(alloc, glyph, some, ink)?;
-    let mut found = Vec::new(alloc);
     push_within(&mut found, window, Over::Columns, &by_columns)?;
     ink.blacken_all(&found);
     Ok(())
 }
 
 /// All black pixels of a glyph whose contours are closed, in a bitmap with two pixels more on each side of a window. The
-/// window is the glyph's box. None where the tape's frame lacks a row of the bitmap. The sweep has memory for the edges.
-/// Error: memory ran out.
+/// window is the glyph's box, with one pixel more on each side where dots are drawn. None where the tape's frame lacks
+/// a row of the bitmap. The sweep has memory for the edges. Error: memory ran out.
 pub fn black_pixels(
     alloc: Global,
     rules: BoxedRules,
@@ -124,14 +126,14 @@ pub fn black_pixels(
     requires fresh { tape.old.crosses ≡ 0 }
     requires room { length tape.old.edges ≤ sweep.old.room }
     requires window { WindowFits (widened 2 window) }
-    requires sides { (c j : ℤ) → has window c j ≡ box_has (columns_in rules.extents) (rows_in rules.extents) c j }
+    requires sides { (c j : ℤ) → has window c j ≡ box_has (columns_of_rules rules) (rows_of_rules rules) c j }
     ensures window { IfOk result (λ o. IfSome o (λ b. b.window ≡ widened 2 window)) }
     ensures exact { IfOk result (λ o. IfSome o (λ b. (c j : ℤ) → is_shown b c j ≡ (is_black tape.old.edges (centre c) (centre j)
         || is_dropout rules (contours_at tape.old.edges ends.now) c j))) }
     ensures edges { OnOk result (tape.new.edges ≡ tape.old.edges) }
     ensures room { OnOk result (sweep.new.room ≡ sweep.old.room) }
 {
-    let shown = widened(window);
+    let shown = widened(window, 2);
     if !has_rows(tape.frame(), shown) {
         return Ok(None);
     }

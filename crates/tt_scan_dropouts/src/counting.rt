@@ -7,7 +7,7 @@ ghost use Rattle.tt_scan_dropouts.specs.Dropouts.{crossed};
 ghost use Rattle.tt_scan_gaps.specs.Boxes.{ColumnsFit, ExtentsFit};
 
 use tt_scan::Edge;
-use tt_scan_gaps::{Columns, Extents, box_of, lines_crossed, pixels_in, turned_round};
+use tt_scan_gaps::{Columns, Extents, box_of, lines_crossed, pixels_reached, turned_round};
 
 /// The most rows that are worked on at once where a glyph may have more rows than a picture.
 pub const BAND_ROWS: u32 = 2048;
@@ -90,7 +90,7 @@ fn bands_bytes(columns: u64, rows: u64) -> u64
     ensures exact { result ≡ bands_bytes columns rows }
     ensures bound { result ≤ 2 ^ 39 }
 {
-    (columns + 4).div_ceil(8) * (rows + 4 * bands(rows))
+    (columns + 10).div_ceil(8) * (rows + 10 * bands(rows))
 }
 
 /// What edges count: one for each band of the rows of their box, and what they count for the rows that they cross, which
@@ -140,7 +140,7 @@ fn filling_by(extents: Extents, edges: &[Edge], met: u64) -> u64
     ensures exact { result ≡ filling_counted extents edges.now }
     ensures bound { result ≤ 2 ^ 31 * length edges.now + 2 ^ 33 }
 {
-    let (columns, rows) = pixels_in(extents);
+    let (columns, rows) = pixels_reached(extents, true);
     let rows = numbers_in(rows);
     searched(bands(rows), met) + bands_bytes(numbers_in(columns), rows) / 64
 }

@@ -16,6 +16,8 @@ ghost use Rattle.tt_scan_gaps.specs.declared.seen.Over.TheVariants as over;
 
 use crate::bitmap::Bitmap;
 use crate::contours::{Contours, Outlined};
+use crate::counting::BAND_ROWS;
+use crate::dots::push_dots;
 use crate::marks::{Pass, crosses_free_gap, free_marks, touches_free_gap};
 use crate::may_have::closed_may_have_dropouts;
 use crate::pass::added_by;
@@ -23,18 +25,9 @@ use crate::pixel::Pixel;
 use crate::window::{Window, clipped, has, widened};
 use std::alloc::{AllocError, Global};
 use tt_scan::Edge;
-use tt_scan_gaps::{Columns, Over, meets, pixels_in, seen_by, sort_marks, turned_round};
-
-/// Edges with x and y exchanged. Error: memory ran out.
-fn all_turned_round(alloc: Global, edges: &[Edge]) -> Result<Vec<Edge>, AllocError>
-    ensures { IfOk result (λ v. v.items ≡ map turned_round edges.now) }
-{
-    let mut turned = Vec::with_capacity(alloc, edges.len())?;
-    for edge in edges {
-        turned.push(turned_round(*edge))?;
-    }
-    Ok(turned)
-}
+use tt_scan_gaps::{
+    Columns, Over, all_turned_round, meets, pixels_in, pixels_reached, seen_by, sort_marks,
+};
 
 /// The pixels that a pass adds, by contours as the pass sees them and the columns of the glyph's box. Error: memory ran
 /// out.
@@ -149,7 +142,11 @@ fn pixel_at(over: Over, pixel: Pixel) -> Pixel
 
 /// Adds a pixel if it lies in a window. Error: memory ran out.
 #[inline(always)]
-fn push_if_within(found: &mut Vec<Pixel>, window: Window, pixel: Pixel) -> Result<(), AllocError>
+pub(crate) fn push_if_within(
+    found: &mut Vec<Pixel>,
+    window: Window,
+    pixel: Pixel,
+) -> Result<(), AllocError>
     ensures { OnOk result ((c j : ℤ) → has_pixel found.new.items c j
         ≡ (has_pixel found.old.items c j || (has window c j && (int_eq pixel.column c && int_eq pixel.row j)))) }
 {
@@ -217,25 +214,51 @@ pub(crate) fn both_passes(
     Ok((by_rows, by_columns))
 }
 
+/// Adds the dropouts of a glyph in a few rows of the columns and rows where they may lie. Error: memory ran out.
+fn push_band(
+    alloc: Global,
+    found: &mut Vec<Pixel>,
+    glyph: Outlined,
+    band: Window,
+) -> Result<(), AllocError>
+    requires { WindowFits (widened 5 band) }
+    ensures { OnOk result ((c j : ℤ) → has_pixel found.new.items c j ≡ (has_pixel found.old.items c j
+        || (has band c j && is_dropout glyph.entry.rules (contours_at glyph.entry.tape.now.edges glyph.entry.ends.now) c j))) }
+{
+    // A dropout depends on pixels as far off as five gaps.
+    let mut ink = Bitmap::inked(alloc, glyph.tape, widened(band, 5))?;
+    push_dots(alloc, found, glyph, band, &ink)?;
+    let some = some_in_free_gap(&ink, glyph.rules.rules.stubs, glyph.tape.lend());
+    let (by_rows, by_columns) = both_passes(alloc, glyph, some, &mut ink)?;
+    push_within(found, band, Over::Rows, &by_rows)?;
+    push_within(found, band, Over::Columns, &by_columns)
+}
+
 /// The dropouts in a window of a glyph: the pixels that are black besides those of the scan converter's rules 1 and 2.
-/// OpenType, "TrueType Fundamentals", rules 3 and 4. A caller asks `may_have_dropouts` first, once for all windows of a
-/// glyph. Error: memory ran out.
+/// The rows are done band after band from the lowest on. Error: memory ran out.
 pub fn dropouts(alloc: Global, glyph: Outlined, window: Window) -> Result<Vec<Pixel>, AllocError>
-    requires { WindowFits (widened 2 window) }
+    requires window { WindowFits (widened 2 window) }
     ensures exact { IfOk result (λ v. (c j : ℤ) → has_pixel v.items c j
         ≡ (has window c j && is_dropout glyph.entry.rules (contours_at glyph.entry.tape.now.edges glyph.entry.ends.now) c j)) }
 {
-    let (columns, rows) = pixels_in(glyph.rules.extents);
+    let mut found = Vec::new(alloc);
+    let (columns, rows) = pixels_reached(glyph.rules.extents, glyph.rules.rules.dots);
     let part = match clipped(window, columns, rows) {
         Some(part) => part,
-        None => return Ok(Vec::new(alloc)),
+        None => return Ok(found),
     };
-    let mut ink = Bitmap::inked(alloc, glyph.tape, widened(part))?;
-    let some = some_in_free_gap(&ink, glyph.rules.rules.stubs, glyph.tape.lend());
-    let (by_rows, by_columns) = both_passes(alloc, glyph, some, &mut ink)?;
-    let mut found = Vec::new(alloc);
-    push_within(&mut found, part, Over::Rows, &by_rows)?;
-    push_within(&mut found, part, Over::Columns, &by_columns)?;
+    let mut done = 0;
+    while done < part.height {
+        let height = (part.height - done).min(BAND_ROWS);
+        let band = Window {
+            left: part.left,
+            bottom: part.bottom + done as i32,
+            width: part.width,
+            height,
+        };
+        push_band(alloc, &mut found, glyph, band)?;
+        done += height;
+    }
     Ok(found)
 }
 
@@ -250,7 +273,7 @@ pub(crate) fn closed_dropouts(
     ensures exact { IfOk result (λ v. (c j : ℤ) → has_pixel v.items c j
         ≡ (has window c j && is_dropout glyph.entry.rules (contours_at glyph.entry.tape.now.edges glyph.entry.ends.now) c j)) }
 {
-    if !closed_may_have_dropouts(glyph.rules.rules.stubs, glyph.contours()) {
+    if !closed_may_have_dropouts(glyph.rules.rules, glyph.contours()) {
         return Ok(Vec::new(alloc));
     }
     dropouts(alloc, glyph, window)

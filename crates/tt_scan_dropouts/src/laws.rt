@@ -1,6 +1,6 @@
 //! Lemmas about the definitions, for all outlines.
 
-ghost use Rattle.tt_scan_dropouts.specs.Laws.{AddedByColumnsWasWhite, AddedByRowsWasWhite, BandsAreCounted, BitmapIsCounted, ColumnsCrossedBothWays, CountsStay, DropoutWasWhite, DropoutsLieInBox, DropoutsMoved, RowsAreCounted, RowsCrossedBothWays};
+ghost use Rattle.tt_scan_dropouts.specs.Laws.{AddedByColumnsWasWhite, AddedByRowsWasWhite, BandsAreCounted, BitmapIsCounted, ColumnsCrossedBothWays, CountsStay, DropoutWasWhite, DropoutsLieInBox, DropoutsMoved, NoDotIsLost, NoGapStaysWhite, RowsAreCounted, RowsCrossedBothWays};
 
 /// Lemma: the rows add only pixels that rules 1 and 2 leave white, and the columns only pixels that are still white
 /// then.
@@ -15,9 +15,16 @@ pub fn dropouts_moved()
     ensures { DropoutsMoved }
 {}
 
-/// Lemma: a dropout lies in the glyph's box, where the box holds the edges.
+/// Lemma: a dropout lies in the glyph's box, where the box holds the edges. A dot may lie in the next column or row.
 pub fn dropouts_lie_in_box()
     ensures { DropoutsLieInBox }
+{}
+
+/// Lemma: nothing is lost. A gap that needs a pixel has a black one after its pass. If a contour has the box of a dot and
+/// needs no pixel, the pixel that holds its middle is black.
+pub fn nothing_is_lost()
+    ensures gaps { NoGapStaysWhite }
+    ensures dots { NoDotIsLost }
 {}
 
 /// Lemma: a free gap of a row is crossed both ways or not at all, whatever the edges. A free gap of a column is too, if

@@ -13,12 +13,13 @@
 //! bitmap.rt     the black pixels of a window
 //! marks.rt      the marks of an outline's contours in free gaps
 //! pass.rt       the pixels that a pass over the gaps of all rows adds, and which gap gives way
+//! dots.rt       the dots of a glyph in a window
 //! filling.rt    the dropouts of a glyph in a window
 //! black.rt      all black pixels of a small glyph in one bitmap
 //! counting.rt   what the edges of a glyph count where work is bounded
 //! picture.rt    the dropouts of a picture, as a list that is painted row by row
-//! laws.rt       dropouts are white without them, and move with their glyph; free gaps are crossed both ways; what is
-//!               needed is counted
+//! laws.rt       dropouts are white without them, and move with their glyph; nothing is lost; free gaps are crossed both
+//!               ways; what is needed is counted
 //! ```
 //!
 //! The text speaks of rows. Columns are the rows of the outline with x and y exchanged.
@@ -30,6 +31,7 @@ mod boxed;
 mod closed;
 mod contours;
 mod counting;
+mod dots;
 mod filling;
 pub mod laws;
 mod marks;
@@ -48,5 +50,5 @@ pub use filling::dropouts;
 pub use may_have::may_have_dropouts;
 pub use picture::{Dropout, blacken_dropouts, push_dropouts, sort_by_rows};
 pub use pixel::Pixel;
-pub use tt_scan_gaps::{Columns, Extent, Extents, Rules, box_of, pixels_in};
+pub use tt_scan_gaps::{Columns, Extent, Extents, Rules, box_of, pixels_in, pixels_reached};
 pub use window::Window;

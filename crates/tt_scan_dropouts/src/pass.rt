@@ -2,8 +2,8 @@
 
 ghost use Rattle.std.specs.Prelude.{◌≡◌, ℤ, ◌<◌, not, ◌&&◌, ◌||◌, ◌+ℤ◌, pos, length, get_or, IfOk, OnOk};
 ghost use Rattle.std.specs.Ordering.{int_eq};
-ghost use Rattle.tt_scan_gaps.specs.Gaps.{IsInOrder, asked_by, is_added};
-ghost use Rattle.tt_scan_dropouts.specs.Passes.{gives_way, has_pixel};
+ghost use Rattle.tt_scan_gaps.specs.Gaps.{IsInOrder, asked_by, is_added, is_odd};
+ghost use Rattle.tt_scan_dropouts.specs.Passes.{asked_before, has_pixel};
 ghost use Rattle.tt_scan_dropouts.specs.Seen.{is_black_to};
 ghost use Rattle.tt_scan_gaps.specs.declared.mark.Mark.{Mark};
 
@@ -32,39 +32,42 @@ struct Wish {
     line: i32,
     gap: i32,
     pixel: i64,
+    /// How many gaps side by side, the last of them left of this one, need the pixel at their right; counted to four.
+    before: u8,
 }
 
-/// Whether `next` is the gap right of `gap`.
-fn is_next(gap: i32, next: i32) -> bool
-    ensures { result ≡ int_eq (gap +ℤ pos 1) next }
+/// Whether a gap left of another needs the pixel in common.
+fn shares(left: Wish, gap: i32) -> bool
+    ensures { result ≡ (int_eq (left.gap +ℤ pos 1) gap && int_eq left.pixel gap) }
 {
-    i64::from(gap) + 1 == i64::from(next)
+    let gap = i64::from(gap);
+    i64::from(left.gap) + 1 == gap && left.pixel == gap
 }
 
-/// Whether a pixel is the left one of a gap.
-fn is_left(pixel: i64, gap: i32) -> bool
-    ensures { result ≡ int_eq pixel gap }
-{
-    pixel == i64::from(gap)
-}
-
-/// Whether a gap gives way: the gap left of it, which needed a pixel last, takes the pixel in common.
-fn gives_way(last: Option<Wish>, wish: Wish) -> bool
-    ensures { result ≡ gives_way last wish }
+/// How many gaps side by side, the last of them left of a gap, need the pixel at their right; counted to four. `last` is
+/// the gap before it that needed a pixel last.
+fn asked_before(last: Option<Wish>, line: i32, gap: i32) -> u8
+    ensures { result ≡ asked_before last line gap }
 {
     match last {
-        Some(l) => l.line == wish.line && is_next(l.gap, wish.gap) && is_left(l.pixel, wish.gap),
-        None => false,
+        Some(l) => {
+            if l.line == line && shares(l, gap) {
+                l.before.min(3) + 1
+            } else {
+                0
+            }
+        }
+        None => 0,
     }
 }
 
-/// Adds the pixel that a gap needs, unless the gap gives way. Error: memory ran out.
-fn grant(added: &mut Vec<Pixel>, last: Option<Wish>, wish: Wish) -> Result<(), AllocError>
+/// Adds the pixel that a gap needs, unless the gap left of it takes the pixel in common. Error: memory ran out.
+fn grant(added: &mut Vec<Pixel>, wish: Wish) -> Result<(), AllocError>
     ensures { OnOk result ((p j : ℤ) → has_pixel added.new.items p j
         ≡ (has_pixel added.old.items p j
-        || (not (gives_way last wish) && (int_eq wish.pixel p && int_eq wish.line j)))) }
+        || (not (is_odd wish.before) && (int_eq wish.pixel p && int_eq wish.line j)))) }
 {
-    if !gives_way(last, wish) {
+    if wish.before % 2 != 1 {
         added.push(Pixel {
             column: wish.pixel,
             row: i64::from(wish.line),
@@ -90,12 +93,14 @@ pub(crate) fn added_by(
     while start < marks.len() {
         let end = group_end(marks, start);
         if let Some(pixel) = asked(pass, columns, &marks[start..end]) {
+            let at = marks[start].at;
             let wish = Wish {
-                line: marks[start].at.line,
-                gap: marks[start].at.gap,
+                line: at.line,
+                gap: at.gap,
                 pixel,
+                before: asked_before(last, at.line, at.gap),
             };
-            grant(&mut added, last, wish)?;
+            grant(&mut added, wish)?;
             last = Some(wish);
         }
         start = end;

@@ -3,8 +3,8 @@
 ghost use Rattle.std.specs.Prelude.{◌≡◌, ℤ, pos, true, false, ◌&&◌, ◌+ℤ◌, ◌-ℤ◌, ◌^◌, ◌<◌, ◌≤◌, unsigned_abs, IfNone, IfSome};
 ghost use Rattle.std.specs.Int.{int_max, int_min};
 ghost use Rattle.tt_scan_dropouts.specs.Counted.{numbers_in};
-ghost use Rattle.tt_scan_gaps.specs.Boxes.{ColumnsFit, is_column_of};
-ghost use Rattle.tt_scan_dropouts.specs.Windows.{IsPart, WindowFits, box_has, has, is_within, widened};
+ghost use Rattle.tt_scan_gaps.specs.Boxes.{ColumnsFit, ColumnsNear, is_column_of};
+ghost use Rattle.tt_scan_dropouts.specs.Windows.{IsPart, WindowFits, WindowNear, box_has, has, is_within, widened};
 
 use tt_scan_gaps::Columns;
 
@@ -44,16 +44,17 @@ pub(crate) fn has(window: Window, column: i64, row: i64) -> bool
     is_within(window.left, window.width, column) && is_within(window.bottom, window.height, row)
 }
 
-/// The window with two pixels more on each side: a dropout in the window depends on pixels as far off.
-pub(crate) fn widened(window: Window) -> Window
-    requires { WindowFits (widened 2 window) }
-    ensures { result ≡ widened 2 window }
+/// The window with some pixels more on each side.
+pub(crate) fn widened(window: Window, by: u32) -> Window
+    requires few { by ≤ 5 }
+    requires fits { WindowFits (widened by window) }
+    ensures { result ≡ widened by window }
 {
     Window {
-        left: window.left - 2,
-        bottom: window.bottom - 2,
-        width: window.width + 4,
-        height: window.height + 4,
+        left: window.left - by as i32,
+        bottom: window.bottom - by as i32,
+        width: window.width + 2 * by,
+        height: window.height + 2 * by,
     }
 }
 
@@ -106,10 +107,10 @@ fn overlap(first: i32, count: u32, columns: Columns) -> Option<Part>
 /// The part of a window that lies in a box.
 pub(crate) fn clipped(window: Window, columns: Columns, rows: Columns) -> Option<Window>
     requires window { WindowFits (widened 2 window) }
-    requires columns { ColumnsFit columns }
-    requires rows { ColumnsFit rows }
+    requires columns { ColumnsNear columns }
+    requires rows { ColumnsNear rows }
     ensures some { IfSome result (λ w. (c j : ℤ) → has w c j ≡ (has window c j && box_has columns rows c j)) }
-    ensures fits { IfSome result (λ w. WindowFits (widened 2 w)) }
+    ensures near { IfSome result WindowNear }
     ensures small { IfSome result (λ w. (w.width ≤ numbers_in columns) × (w.height ≤ numbers_in rows)) }
     ensures none { IfNone result ((c j : ℤ) → (has window c j && box_has columns rows c j) ≡ false) }
 {

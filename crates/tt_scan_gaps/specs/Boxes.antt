@@ -1,5 +1,5 @@
 -- The columns of a glyph's box (profile). The rows are the columns of the outline with x and y exchanged.
-use Rattle.std.specs.Prelude.{◌≡◌, refl, ◌^◌, ◌<◌, Bool, ◌&&◌, if◌then◌else◌, ℤ, pos, negsuc, ◌+ℤ◌, ◌*ℤ◌, ◌≤ℤ◌, int_le, unsigned_abs, All, List, [], ◌∷◌}
+use Rattle.std.specs.Prelude.{◌≡◌, refl, ◌^◌, ◌<◌, Bool, true, false, ◌&&◌, if◌then◌else◌, ℤ, pos, negsuc, ◌+ℤ◌, ◌-ℤ◌, ◌*ℤ◌, ◌≤ℤ◌, int_le, unsigned_abs, All, List, [], ◌∷◌}
 use Rattle.std.specs.Int.{int_max, int_min}
 use Rattle.tt_scan_edges.specs.declared.edge.Edge.{Edge}
 use Rattle.tt_scan_gaps.specs.Crossings.{gap_at, line_from}
@@ -36,6 +36,11 @@ pub record ColumnsFit (b : Columns) : Type 0 where
   pub first : unsigned_abs b.first < 2 ^ 19
   pub last : unsigned_abs b.last < 2 ^ 19
 
+-- those that a box within the limits reaches
+pub record ColumnsNear (b : Columns) : Type 0 where
+  pub first : unsigned_abs b.first < 2 ^ 18
+  pub last : unsigned_abs b.last < 2 ^ 18
+
 -- limits on an extent
 pub record ExtentFits (e : Extent) : Type 0 where
   pub low : unsigned_abs e.low < 2 ^ 30
@@ -51,6 +56,18 @@ columns_in b = columns_between b.across.low b.across.high
 
 abbrev pub rows_in : Extents → Columns
 rows_in b = columns_between b.up.low b.up.high
+
+-- where dots are drawn, a black pixel may lie one column or row outside the box
+abbrev pub reached : Bool → Columns → Columns
+reached true b = record { first = b.first -ℤ pos 1; last = b.last +ℤ pos 1 }
+reached false b = b
+
+-- the columns and the rows that a glyph's black pixels may lie in
+abbrev pub columns_reached : Bool → Extents → Columns
+columns_reached dots b = reached dots (columns_in b)
+
+abbrev pub rows_reached : Bool → Extents → Columns
+rows_reached dots b = reached dots (rows_in b)
 
 -- a box with x and y exchanged
 abbrev pub extents_turned : Extents → Extents

@@ -1,6 +1,6 @@
 -- The gaps of a line: which of them need a pixel, and which pixel. OpenType, "TrueType Fundamentals", rules 3 and 4 and
 -- the smart ones. The numbers and the glyph's box are profile. Places are in 1/8192 pixel.
-use Rattle.std.specs.Prelude.{◌≡◌, ℕ, ◌+◌, ◌<◌, ◌≤◌, Bool, true, false, not, ◌&&◌, ◌||◌, nat_le, if◌then◌else◌, ℤ, pos, ◌+ℤ◌, ◌-ℤ◌, int_le, int_lt, min, get_or, length, List, [], ◌∷◌, Option, Some, None}
+use Rattle.std.specs.Prelude.{◌≡◌, refl, ℕ, zero, suc, ◌+◌, ◌%◌, ◌==◌, ◌<◌, ◌≤◌, Bool, true, false, not, ◌&&◌, ◌||◌, nat_le, if◌then◌else◌, ℤ, pos, ◌+ℤ◌, ◌-ℤ◌, int_le, int_lt, min, get_or, length, List, [], ◌∷◌, Option, Some, None}
 use Rattle.std.specs.List.{filter, slice_range}
 use Rattle.std.specs.Ordering.{int_eq}
 use Rattle.tt_scan_gaps.specs.Crossings.{agree}
@@ -60,10 +60,24 @@ abbrev pub is_asked : Option ℤ → ℤ → Bool
 is_asked None p = false
 is_asked (Some q) p = int_eq q p
 
--- gap c of line j adds pixel p: it needs the pixel, and the gap left of it does not need the pixel in common
+-- how many gaps side by side, the last of them left of gap c, each need the pixel at their right; counted to `most`
+abbrev pub asked_rightwards : ℕ → (ℤ → Option ℤ) → ℤ → ℕ
+asked_rightwards zero ask c = 0
+asked_rightwards (suc most) ask c =
+    if is_asked (ask (c -ℤ pos 1)) c then suc (asked_rightwards most ask (c -ℤ pos 1)) else 0
+
+abbrev pub is_odd : ℕ → Bool
+is_odd n = n % 2 == 1
+
+-- a gap that needs a pixel gives way where the gap left of it takes the pixel in common: where the number of these gaps,
+-- counted to four, is odd (profile)
+unfoldable pub gives_way : (ℤ → Option ℤ) → ℤ → Bool
+gives_way ask c = is_odd (asked_rightwards 4 ask c)
+
+-- gap c of line j adds pixel p: it needs the pixel, and does not give way
 abbrev pub adds : Rules → Columns → List Mark → (ℤ → ℤ → Bool) → ℤ → ℤ → ℤ → Bool
 adds rules b ms black j c p =
-    is_asked (asked rules b ms black j c) p && not (is_asked (asked rules b ms black j (c -ℤ pos 1)) c)
+    is_asked (asked rules b ms black j c) p && not (gives_way (asked rules b ms black j) c)
 
 -- a pass over all gaps adds the pixel of column p and line j, by the gap right or left of its centre
 abbrev pub is_added : Rules → Columns → List Mark → (ℤ → ℤ → Bool) → ℤ → ℤ → Bool
@@ -88,4 +102,37 @@ pub record IsGroup (ms : List Mark) (start end : ℕ) : Type 0 where
   pub all : (d : Mark) → slice_range ms start end
       ≡ gap_marks ms (get_or ms start d).at.line (get_or ms start d).at.gap
 
--- worked values: Examples.antt of tt_scan_dropouts
+-- worked values: from gap 1 on each gap needs the pixel at its right
+all_to_the_right : ℤ → Option ℤ
+all_to_the_right c = if int_le (pos 1) c then Some (c +ℤ pos 1) else None
+
+no_gap_before_the_first : gives_way all_to_the_right (pos 1) ≡ false
+unfolding gives_way all_to_the_right
+no_gap_before_the_first = refl
+
+the_second_gives_way : gives_way all_to_the_right (pos 2) ≡ true
+unfolding gives_way all_to_the_right
+the_second_gives_way = refl
+
+the_third_does_not : gives_way all_to_the_right (pos 3) ≡ false
+unfolding gives_way all_to_the_right
+the_third_does_not = refl
+
+the_fourth_gives_way : gives_way all_to_the_right (pos 4) ≡ true
+unfolding gives_way all_to_the_right
+the_fourth_gives_way = refl
+
+-- four gaps count, and no more
+no_later_one_does : (gives_way all_to_the_right (pos 5) || gives_way all_to_the_right (pos 6)) ≡ false
+unfolding gives_way all_to_the_right
+no_later_one_does = refl
+
+-- gap 3 needs its left pixel, so gap 4 does not give way
+one_to_the_left : ℤ → Option ℤ
+one_to_the_left c = if int_eq c (pos 3) then Some c else Some (c +ℤ pos 1)
+
+the_chain_ends_there : gives_way one_to_the_left (pos 4) ≡ false
+unfolding gives_way one_to_the_left
+the_chain_ends_there = refl
+
+-- pictures: Examples.antt of tt_scan_dropouts

@@ -3,7 +3,7 @@
 ghost use Rattle.std.specs.Prelude.{◌≡◌, ◌^◌, ◌<◌, map, unsigned_abs, All};
 ghost use Rattle.std.specs.Int.{int_max, int_min};
 ghost use Rattle.tt_scan_edges.specs.Winding.{EdgeFits};
-ghost use Rattle.tt_scan_gaps.specs.Boxes.{ColumnsFit, ExtentFits, ExtentsFit, columns_between, columns_in, columns_of, greatest_x, least_x, rows_in};
+ghost use Rattle.tt_scan_gaps.specs.Boxes.{ColumnsFit, ExtentFits, ExtentsFit, ColumnsNear, columns_between, columns_in, columns_of, columns_reached, greatest_x, least_x, reached, rows_in, rows_reached};
 ghost use Rattle.tt_scan_gaps.specs.Seen.{turned_round};
 
 use crate::crossings::{PIXEL, gap_at, line_from};
@@ -31,7 +31,7 @@ fn columns_between(low: i32, high: i32) -> Columns
 
 /// An extent with two places more.
 #[inline(always)]
-fn with(extent: Extent, a: i32, b: i32) -> Extent
+pub(crate) fn with(extent: Extent, a: i32, b: i32) -> Extent
     requires extent { ExtentFits extent }
     requires a { unsigned_abs a < 2 ^ 30 }
     requires b { unsigned_abs b < 2 ^ 30 }
@@ -77,6 +77,33 @@ pub fn pixels_in(extents: Extents) -> (Columns, Columns)
         columns_between(extents.across.low, extents.across.high),
         columns_between(extents.up.low, extents.up.high),
     )
+}
+
+/// The columns, or the rows, that black pixels may lie in: where dots are drawn, one more on each side.
+fn reached(columns: Columns, dots: bool) -> Columns
+    requires { ColumnsFit columns }
+    ensures { result ≡ reached dots columns }
+{
+    if dots {
+        Columns {
+            first: columns.first - 1,
+            last: columns.last + 1,
+        }
+    } else {
+        columns
+    }
+}
+
+/// The columns and the rows that a glyph's black pixels may lie in, by its box.
+pub fn pixels_reached(extents: Extents, dots: bool) -> (Columns, Columns)
+    requires { ExtentsFit extents }
+    ensures columns { result.0 ≡ columns_reached dots extents }
+    ensures rows { result.1 ≡ rows_reached dots extents }
+    ensures near { ColumnsNear result.0 × ColumnsNear result.1 }
+    ensures small { ColumnsFit result.0 × ColumnsFit result.1 }
+{
+    let (columns, rows) = pixels_in(extents);
+    (reached(columns, dots), reached(rows, dots))
 }
 
 /// The columns and the rows of the box of edges: those with a centre from the least to the greatest x and y. Where

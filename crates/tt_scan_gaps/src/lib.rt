@@ -14,6 +14,7 @@
 //! extent.rt     a glyph's box
 //! columns.rt    the columns and the rows of a box
 //! gaps.rt       which pixel a gap needs
+//! dots.rt       small contours that need no pixel of a gap
 //! laws.rt       edges that are joined cross and touch the same lines
 //! ```
 //!
@@ -24,6 +25,7 @@
 mod both_ways;
 mod columns;
 mod crossings;
+mod dots;
 mod extent;
 mod gaps;
 pub mod laws;
@@ -34,12 +36,13 @@ mod seen;
 mod steps;
 mod stub;
 
-pub use columns::{box_of, pixels_in};
+pub use columns::{box_of, pixels_in, pixels_reached};
 pub use crossings::{crossing, gap_crossed, has_end_on_line, line_crossed, lines_crossed, touch};
+pub use dots::{Dot, dot_pixel, has_dot_box};
 pub use extent::{Extent, Extents};
 pub use gaps::{group_end, pixel_of, some_asks, sort_marks};
 pub use looks::may_cross_both_ways;
 pub use mark::{Columns, Crossing, Mark, Rules, Step};
-pub use seen::{Over, meets, seen_by, turned_round};
+pub use seen::{Over, all_turned_round, meets, seen_by, turned_round};
 pub use steps::walk;
 pub use stub::is_of_stub;

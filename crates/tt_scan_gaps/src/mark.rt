@@ -37,6 +37,8 @@ pub struct Rules {
     pub stubs: bool,
     /// The pixel nearer to the middle is taken, and not the left one: scan types 4 and 5.
     pub smart: bool,
+    /// A small contour that needs no pixel of a gap gets the pixel that holds its middle.
+    pub dots: bool,
 }
 
 /// The way to the next crossing: that crossing, and the greatest distance from a line of the edge ends on the way, in

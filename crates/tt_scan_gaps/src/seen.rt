@@ -1,11 +1,12 @@
 //! An edge as a pass sees it.
 
-ghost use Rattle.std.specs.Prelude.{◌≡◌, All};
+ghost use Rattle.std.specs.Prelude.{◌≡◌, map, All, IfOk};
 ghost use Rattle.tt_scan_edges.specs.Winding.{EdgeFits};
 ghost use Rattle.tt_scan_gaps.specs.Crossings.{meets_line};
 ghost use Rattle.tt_scan_gaps.specs.Seen.{seen_by, turned_round};
 
 use crate::crossings::meets_line;
+use std::alloc::{AllocError, Global};
 use tt_scan_edges::Edge;
 
 /// The direction of a pass. In a pass over columns these are the lines, and a pixel's column and row are exchanged.
@@ -34,6 +35,19 @@ pub fn turned_round(edge: Edge) -> Edge
         bx: edge.by,
         by: edge.bx,
     }
+}
+
+/// Edges with x and y exchanged. Error: memory ran out.
+pub fn all_turned_round(alloc: Global, edges: &[Edge]) -> Result<Vec<Edge>, AllocError>
+    requires { All EdgeFits edges.now }
+    ensures exact { IfOk result (λ v. v.items ≡ map turned_round edges.now) }
+    ensures fit { IfOk result (λ v. All EdgeFits v.items) }
+{
+    let mut turned = Vec::with_capacity(alloc, edges.len())?;
+    for edge in edges {
+        turned.push(turned_round(*edge))?;
+    }
+    Ok(turned)
 }
 
 /// An edge as a pass sees it: with x and y exchanged in a pass over columns.

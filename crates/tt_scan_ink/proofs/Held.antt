@@ -10,14 +10,15 @@ use Rattle.tt_scan_edges.specs.declared.edge.Edge.{Edge}
 use Rattle.tt_scan_gaps.specs.Crossings.{centre}
 use Rattle.tt_scan_gaps.specs.Boxes.{EdgeWithin, columns_in, columns_of, greatest_x, is_column_of, least_x, rows_in}
 use Rattle.tt_scan_gaps.specs.Seen.{turned_round}
-use Rattle.tt_scan_dropouts.specs.Dropouts.{edges_of, is_dropout, is_inked}
+use Rattle.tt_scan_dropouts.specs.Dropouts.{columns_of_rules, edges_of, is_dropout, is_inked, rows_of_rules}
 use Rattle.tt_scan_gaps.specs.declared.mark.Columns.{Columns}
-use Rattle.tt_scan_dropouts.proofs.InBox.{IsColumnOf, LiesInBox, LiesInBoxOf, dropout_in_box, edges_turned, edges_within, line_within, turned_twice}
+use Rattle.tt_scan_dropouts.proofs.InBox.{IsColumnOf, LiesInBox, LiesInBoxOf, edges_turned, edges_within, line_within, turned_twice}
+use Rattle.tt_scan_dropouts.proofs.Reached.{dropout_reached}
 use Rattle.tt_scan_dropouts.proofs.TurnedWinding.{round_all}
 use Rattle.tt_scan_ink.specs.Ink.{count_of, ink_in}
 use Rattle.tt_scan_ink.specs.Laws.{DropoutsInkHoldsAll, EdgesInkHoldsAll}
 use Rattle.tt_scan_ink.specs.Least.{IsInk, shown}
-use Rattle.tt_scan_ink.proofs.Near.{InOrder, between_order, columns_order}
+use Rattle.tt_scan_ink.proofs.Near.{InOrder, between_order, columns_order, one_more_order}
 use Rattle.tt_scan_ink.proofs.Regions.{counted, ink_is}
 use Rattle.tt_scan_ink.proofs.Together.{ink_alike}
 
@@ -47,8 +48,9 @@ all_held black columns rows across up within =
 pub dropouts_held : DropoutsInkHoldsAll
 dropouts_held rules contours held =
     let b = rules.extents in
-    all_held (is_dropout rules contours) (columns_in b) (rows_in b) (between_order b.across.low b.across.high)
-    (between_order b.up.low b.up.high) (λ c j is. dropout_in_box rules contours c j held is)
+    all_held (is_dropout rules contours) (columns_of_rules rules) (rows_of_rules rules)
+    (one_more_order rules.rules.dots (columns_in b) (between_order b.across.low b.across.high))
+    (one_more_order rules.rules.dots (rows_in b) (between_order b.up.low b.up.high)) (λ c j is. dropout_reached rules contours c j held is)
 
 -- on an edge
 

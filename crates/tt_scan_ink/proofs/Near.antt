@@ -7,12 +7,13 @@ use Rattle.std.proofs.lemmas.List.Elements.{All-head, All-map, All-tail, All-wea
 use Rattle.tt_scan_edges.specs.Winding.{EdgeFits}
 use Rattle.tt_scan_edges.specs.declared.edge.Edge.{Edge}
 use Rattle.tt_scan_gaps.specs.Crossings.{gap_at, line_from}
-use Rattle.tt_scan_gaps.specs.Boxes.{ExtentsFit, columns_between, columns_in, columns_of, greatest_x, least_x, rows_in}
+use Rattle.tt_scan_gaps.specs.Boxes.{ExtentsFit, columns_between, columns_in, columns_of, columns_reached, greatest_x, least_x, reached, rows_in, rows_reached}
 use Rattle.tt_scan_gaps.specs.Seen.{turned_round}
 use Rattle.tt_scan_gaps.specs.declared.extent.Extents.{Extents}
 use Rattle.tt_scan_gaps.specs.declared.mark.Columns.{Columns}
 use Rattle.tt_scan_gaps.proofs.Lines.{floor_high, floor_low}
 use Rattle.tt_scan_ink.specs.Least.{AreNear}
+use Rattle.tt_scan_gaps.proofs.Boxes as gaps
 
 -- the extents of the ends of edges
 
@@ -94,7 +95,17 @@ lines_near es fits =
     columns_near (map turned_round es)
     (All-map EdgeFits turned_round es (All-weaker EdgeFits (λ e. EdgeFits (turned_round e)) turned_fits es fits))
 
--- the columns and the rows of a box that fits
-pub box_near : (b : Extents) → ExtentsFit b → AreNear (columns_in b) × AreNear (rows_in b)
-box_near b fits =
-    (between_near b.across.low b.across.high fits.across.low fits.across.high, between_near b.up.low b.up.high fits.up.low fits.up.high)
+-- the columns and the rows that black pixels may lie in
+pub one_more_order : (dots : Bool) (b : Columns) → InOrder b → InOrder (reached dots b)
+one_more_order true b order = omega (arith, ints, order)
+one_more_order false b order = order
+
+one_more_near : (dots : Bool) (low high : ℤ) → unsigned_abs low < 2 ^ 30 → unsigned_abs high < 2 ^ 30
+    → AreNear (reached dots (columns_between low high))
+one_more_near dots low high is also =
+    let near = gaps.between_near dots low high is also in
+    record { first = near.first; last = near.last; order = one_more_order dots (columns_between low high) (between_order low high) }
+
+pub reached_near : (dots : Bool) (b : Extents) → ExtentsFit b → AreNear (columns_reached dots b) × AreNear (rows_reached dots b)
+reached_near dots b fits =
+    (one_more_near dots b.across.low b.across.high fits.across.low fits.across.high, one_more_near dots b.up.low b.up.high fits.up.low fits.up.high)

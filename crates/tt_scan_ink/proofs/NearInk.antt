@@ -7,7 +7,7 @@ use Rattle.tt_scan_edges.specs.declared.edge.Edge.{Edge}
 use Rattle.tt_scan_gaps.specs.Boxes.{ExtentsFit}
 use Rattle.tt_scan_gaps.specs.declared.mark.Columns.{Columns}
 use Rattle.tt_scan_dropouts.specs.declared.boxed.BoxedRules.{BoxedRules}
-use Rattle.tt_scan_ink.proofs.Near.{box_near, columns_near, lines_near}
+use Rattle.tt_scan_ink.proofs.Near.{columns_near, lines_near, reached_near}
 use Rattle.tt_scan_ink.specs.Ink.{count_of, dropouts_ink, edges_ink, ink_in, joined, line_ink, lines_ink, pixel_box}
 use Rattle.tt_scan_ink.specs.Least.{AreNear, IsNear}
 use Rattle.tt_scan_ink.specs.declared.ink.GlyphInk.{GlyphInk}
@@ -62,4 +62,4 @@ edges_near es fits = ink_near _ _ _ (columns_near es fits) (lines_near es fits)
 
 pub dropouts_near : (rules : BoxedRules) (contours : List (List Edge)) → ExtentsFit rules.extents
     → IfSome (dropouts_ink rules contours) IsNear
-dropouts_near rules contours fits = let near = box_near rules.extents fits in ink_near _ _ _ near.0 near.1
+dropouts_near rules contours fits = let near = reached_near rules.rules.dots rules.extents fits in ink_near _ _ _ near.0 near.1

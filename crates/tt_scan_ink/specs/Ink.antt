@@ -6,9 +6,9 @@ use Rattle.std.specs.Ordering.{int_eq}
 use Rattle.tt_scan_edges.specs.Winding.{is_black}
 use Rattle.tt_scan_edges.specs.declared.edge.Edge.{Edge}
 use Rattle.tt_scan_gaps.specs.Crossings.{centre}
-use Rattle.tt_scan_gaps.specs.Boxes.{columns_in, columns_of, rows_in}
+use Rattle.tt_scan_gaps.specs.Boxes.{columns_of}
 use Rattle.tt_scan_gaps.specs.Seen.{turned_round}
-use Rattle.tt_scan_dropouts.specs.Dropouts.{is_dropout}
+use Rattle.tt_scan_dropouts.specs.Dropouts.{columns_of_rules, is_dropout, rows_of_rules}
 use Rattle.tt_scan_gaps.specs.declared.mark.Columns.{Columns}
 use Rattle.tt_scan_dropouts.specs.declared.boxed.BoxedRules.{BoxedRules}
 use Rattle.tt_scan_ink.specs.declared.ink.GlyphInk.{GlyphInk}
@@ -56,9 +56,9 @@ abbrev pub edges_ink : List Edge → Option GlyphInk
 edges_ink es =
     ink_in (λ c j. is_black es (centre c) (centre j)) (columns_of es) (columns_of (map turned_round es))
 
--- the box of the dropouts of contours, which is sought in the glyph's box
+-- the box of the dropouts of contours, which is sought in the glyph's box, and next to it where dots are drawn
 abbrev pub dropouts_ink : BoxedRules → List (List Edge) → Option GlyphInk
-dropouts_ink rules contours = ink_in (is_dropout rules contours) (columns_in rules.extents) (rows_in rules.extents)
+dropouts_ink rules contours = ink_in (is_dropout rules contours) (columns_of_rules rules) (rows_of_rules rules)
 
 -- worked values: two pixels, and a pixel outside the columns and rows of the search
 two_and_one : ℤ → ℤ → Bool

@@ -15,7 +15,8 @@ use crate::lines::count_of;
 use std::alloc::{AllocError, Global};
 use tt_scan::Tape;
 use tt_scan_dropouts::{
-    BAND_ROWS, BoxedRules, Columns, Outlined, Pixel, Window, dropouts, may_have_dropouts, pixels_in,
+    BAND_ROWS, BoxedRules, Columns, Outlined, Pixel, Window, dropouts, may_have_dropouts,
+    pixels_reached,
 };
 
 /// The box of one pixel.
@@ -103,9 +104,9 @@ pub fn dropouts_ink(
 {
     // The question reads all edges, and one answer holds for all windows.
     let edges = tape.lend();
-    if !may_have_dropouts(rules.rules.stubs, edges, ends) {
+    if !may_have_dropouts(rules.rules, edges, ends) {
         return Ok(None);
     }
-    let (columns, rows) = pixels_in(rules.extents);
+    let (columns, rows) = pixels_reached(rules.extents, rules.rules.dots);
     windows_ink(alloc, Outlined { rules, tape, ends }, columns, rows)
 }

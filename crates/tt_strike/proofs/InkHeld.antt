@@ -22,7 +22,7 @@ use Rattle.tt_scan_dropouts.specs.Dropouts.{is_dropout}
 use Rattle.tt_scan_dropouts.specs.Laws.{outline_moved, rules_moved}
 use Rattle.tt_scan_dropouts.specs.Pictures.{column_at, line_at}
 use Rattle.tt_scan_dropouts.specs.declared.boxed.BoxedRules.{BoxedRules}
-use Rattle.tt_scan_dropouts.proofs.Moved.{dropouts_move}
+use Rattle.tt_scan_dropouts.proofs.MovedDots.{dropouts_move}
 use Rattle.tt_scan_ink.specs.Ink as ink
 use Rattle.tt_scan_ink.specs.Ink.{edges_ink}
 use Rattle.tt_scan_ink.specs.Laws.{DropoutsInkHoldsAll, EdgesInkHoldsAll}

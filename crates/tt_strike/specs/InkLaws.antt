@@ -16,6 +16,7 @@ use Rattle.tt_strike.specs.Refusals.{Refused}
 use Rattle.tt_face.specs.Faces.{Face}
 use Rattle.tt_strike.specs.declared.growing.Sides.{Sides}
 use Rattle.tt_picture.specs.declared.ink_box.InkBox.{InkBox}
+use Rattle.tt_scan_gaps.specs.Gaps.{gives_way}
 
 -- a row's line, counted upwards from the base line
 abbrev pub line_of : Frame → ℤ → ℤ
@@ -135,12 +136,12 @@ stem filled =
 
 by_type_zero : Option BoxedRules
 by_type_zero = Some (record {
-  rules = record { stubs = true; smart = false };
+  rules = record { stubs = true; smart = false; dots = false };
   extents = record { across = record { low = pos 5120; high = pos 7168 }; up = record { low = pos 8192; high = pos 24576 } };
 })
 
 dropout_above : is_ink one_pixel (stem by_type_zero) (pos 0) (negsuc 1) ≡ true
-unfolding one_pixel stem stem_side by_type_zero
+unfolding gives_way one_pixel stem stem_side by_type_zero
 dropout_above = refl
 
 unfilled_above : is_ink one_pixel (stem None) (pos 0) (negsuc 1) ≡ false

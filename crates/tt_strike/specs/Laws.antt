@@ -27,6 +27,7 @@ use Rattle.tt_strike.specs.Refusals.{Refused, job}
 use Rattle.tt_picture.specs.Pixels.{Shape, some_black, is_black_pixel}
 use Rattle.tt_strike.specs.Report.{report_of}
 use Rattle.tt_face.specs.Faces.{Face}
+use Rattle.tt_scan_gaps.specs.Gaps.{gives_way}
 
 -- a font file that gives a job's picture has no defect for the job and its reading
 abbrev pub DrawnFontsAreWhole : Type 0
@@ -117,7 +118,7 @@ stem filled = record { edges = stem_edges; contours = stem_edges ∷ []; filled 
 
 by_type_zero : Option BoxedRules
 by_type_zero = Some (record {
-  rules = record { stubs = true; smart = false };
+  rules = record { stubs = true; smart = false; dots = false };
   extents = record { across = record { low = pos 5120; high = pos 7168 }; up = record { low = pos 0; high = pos 16384 } };
 })
 
@@ -125,7 +126,7 @@ two_rows : Frame
 two_rows = record { width = 2; height = 2; margin = 0; rise = pos 2 }
 
 filled_it_is_seen : (picture two_rows (stem by_type_zero ∷ [])).rows ≡ 0x80 ∷ 0x80 ∷ []
-unfolding two_rows stem stem_edges stem_edge by_type_zero
+unfolding gives_way two_rows stem stem_edges stem_edge by_type_zero
 filled_it_is_seen = refl
 
 unfilled_it_is_lost : (picture two_rows (stem None ∷ [])).rows ≡ 0x00 ∷ 0x00 ∷ []

@@ -1,9 +1,9 @@
 //! Prints the dropouts of outlines, to be compared with those of another program. A line of standard input is a
 //! question, in whole numbers with blanks between:
 //!
-//!     STUBS SMART LEFT BOTTOM WIDTH HEIGHT COLUMNS ROWS MARGIN RISE COUNT AX AY BX BY .. CONTOURS END .. BOX
+//!     STUBS SMART DOTS LEFT BOTTOM WIDTH HEIGHT COLUMNS ROWS MARGIN RISE COUNT AX AY BX BY .. CONTOURS END .. BOX
 //!
-//! STUBS and SMART, 0 or 1, are the rules. The next four numbers are the window, in pixels. The four after them are the
+//! STUBS, SMART and DOTS, each 0 or 1, are the rules. The next four numbers are the window, in pixels. The four after them are the
 //! frame of the tape that holds the edges, in pixels too. No answer depends on this frame. The ends of the COUNT edges
 //! are in 1/8192 pixel. END is for each contour the count of its edges and of all edges before it. BOX is the glyph's
 //! box, which holds all edges: LEAST_X LEAST_Y MOST_X MOST_Y, in 1/8192 pixel.
@@ -170,6 +170,7 @@ pub(crate) fn answer(alloc: Global, line: &mut Line) {
     let rules = Rules {
         stubs: line.number(0, 1) == 1,
         smart: line.number(0, 1) == 1,
+        dots: line.number(0, 1) == 1,
     };
     let window = window_in(line);
     let tape = tape_in(alloc, line);
@@ -189,7 +190,7 @@ pub(crate) fn answer(alloc: Global, line: &mut Line) {
         line.refuse("the box does not hold the edges");
         return;
     }
-    if !may_have_dropouts(rules.stubs, tape.lend(), &ends) {
+    if !may_have_dropouts(rules, tape.lend(), &ends) {
         put_window(line, &[], window);
         return;
     }

@@ -19,7 +19,7 @@ pub returns-then-not-may_have_dropouts : goal.returns-then-not-may_have_dropouts
 returns-then-not-may_have_dropouts c =
     rw c.in-Some.is (λ k j.
     let none = rw (c.lend.ensures.exact, c.deref.ensures.value) at
-    (c.may_have_dropouts.ensures c.if-not-may_have_dropouts.true c.in-Some.rules refl k j) in
+    (c.may_have_dropouts.ensures c.if-not-may_have_dropouts.true c.in-Some.rules refl refl k j) in
     none_listed c.new-then-not-may_have_dropouts.result.items k j (has c.args.window k j) _ (search rules) none)
 
 pub returns : goal.returns

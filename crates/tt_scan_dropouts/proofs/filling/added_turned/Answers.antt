@@ -15,11 +15,11 @@ returns-then-not-some c = λ p j.
 
 pub invariant_of-contours-clause-are_ends : goal.invariant_of-contours-clause-are_ends
 invariant_of-contours-clause-are_ends c =
-    rw (c.deref.ensures.value, c.in_ok-turned.ensures) (ends_turned c.args.contours.edges.now c.args.contours.ends.now c.args.contours.are_ends)
+    rw (c.deref.ensures.value, c.in_ok-turned.ensures.exact) (ends_turned c.args.contours.edges.now c.args.contours.ends.now c.args.contours.are_ends)
 
 pub invariant_of-contours-clause-fit : goal.invariant_of-contours-clause-fit
 invariant_of-contours-clause-fit c =
-    rw (c.deref.ensures.value, c.in_ok-turned.ensures) (fits_turned c.args.contours.edges.now c.args.contours.fit)
+    rw (c.deref.ensures.value, c.in_ok-turned.ensures.exact) (fits_turned c.args.contours.edges.now c.args.contours.fit)
 
 pub returns : goal.returns
-returns c = simp (c.deref.ensures.value, c.in_ok-turned.ensures) at c.pass_over.ensures
+returns c = simp (c.deref.ensures.value, c.in_ok-turned.ensures.exact) at c.pass_over.ensures

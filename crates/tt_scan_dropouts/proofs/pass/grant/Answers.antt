@@ -1,12 +1,12 @@
 use Rattle.std.proofs.Common.{◌≡◌, false, SFits, w32, w64, rules, arith}
 use Rattle.std.proofs.lemmas.Int.{ints, to_z-of_z}
-use Rattle.tt_scan_dropouts.specs.Passes.{gives_way}
+use Rattle.tt_scan_gaps.specs.Gaps.{is_odd}
 use Rattle.tt_scan_dropouts.proofs.PassSteps.{granted}
 use Rattle.tt_scan_dropouts.proofs.pass.grant.Goals as goal
 
 pub returns-in_ok-push : goal.returns-in_ok-push
 returns-in_ok-push c = λ p j.
-    let gives : gives_way c.args.last c.args.wish ≡ false = grind (arith, c.gives_way.ensures, c.if-not-gives_way.true) in
+    let gives : is_odd c.args.wish.before ≡ false = grind (arith, c.if-wish-ne1.true) in
     let line : SFits w32 c.args.wish.line = search rules in
     let pixel : SFits w64 c.args.wish.pixel = search rules in
     let wide : SFits w64 c.args.wish.line = omega (arith, ints, line) in

@@ -1,6 +1,6 @@
 use Rattle.std.proofs.Common.{SFits, w32, rules}
 use Rattle.std.proofs.lemmas.Int.{to_z-of_z}
-use Rattle.tt_scan_dropouts.proofs.Clips.{no_columns, no_rows, parts_are, parts_fit}
+use Rattle.tt_scan_dropouts.proofs.Clips.{no_columns, no_rows, parts_are, parts_near}
 use Rattle.tt_scan_dropouts.proofs.window.clipped.Goals as goal
 
 pub returns-in_err-across-clause-none : goal.returns-in_err-across-clause-none
@@ -26,8 +26,8 @@ returns-clause-some c =
     simp to_z-of_z
     (parts_are c.args.window c.args.columns c.args.rows c.in_ok-across.across c.in_ok-up.up across upward)
 
-pub returns-clause-fits : goal.returns-clause-fits
-returns-clause-fits c =
+pub returns-clause-near : goal.returns-clause-near
+returns-clause-near c =
     let left : SFits w32 c.args.window.left = search rules in
     let bottom : SFits w32 c.args.window.bottom = search rules in
     let from : SFits w32 c.in_ok-across.across.from = search rules in
@@ -35,5 +35,5 @@ returns-clause-fits c =
     let across = simp to_z-of_z at c.in_ok-across.ensures.within in
     let upward = simp to_z-of_z at c.in_ok-up.ensures.within in
     simp to_z-of_z
-    (parts_fit c.args.window c.args.columns c.args.rows c.in_ok-across.across c.in_ok-up.up c.requires.window
+    (parts_near c.args.window c.args.columns c.args.rows c.in_ok-across.across c.in_ok-up.up
     c.requires.columns c.requires.rows across upward)

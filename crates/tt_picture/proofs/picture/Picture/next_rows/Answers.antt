@@ -1,4 +1,4 @@
-use Rattle.std.proofs.Common.{◌≡◌, ◌∙◌, ◌*◌, ◌+◌, List, ap, length, map, nat_lt, refl, sym, vec_len}
+use Rattle.std.proofs.Common.{◌≡◌, ◌∙◌, ◌*◌, ◌+◌, List, ap, length, map, nat_lt, refl, replicate, rules, sym, vec_len}
 use Rattle.std.proofs.lemmas.List.{length-map, length-replicate, with_items_is}
 use Rattle.tt_core.specs.Bits.{stride}
 use Rattle.tt_scan_dropouts.specs.Pictures.{is_among}
@@ -18,7 +18,7 @@ returns-clause-rows c =
     let from = c.self.inside.made in
     let count = c.args.count in
     let black = shows_by f (stamps_in gs) ds in
-    let white = c.whiten.ensures in
+    let white : c.fill.new.self ≡ replicate (length c.args.band.now) 0 = search rules in
     let glyphs = rw c.deref_mut.ensures.value at c.add_glyphs.ensures.painted in
     let dropouts = rw c.deref.ensures.value at c.add_dropouts.ensures in
     let room : length c.add_dropouts.new.band ≡ stride f.width * count = dropouts.len ∙ (glyphs.len
@@ -42,16 +42,20 @@ returns-clause-same c =
     (ap (λ (ss : List Stamp). record { frame = f; rows = rows f.width (shows_by f ss p.dropouts.items) 0 (stride f.width * f.height); made = p.made + c.args.count; unfitted = p.report.unfitted.items; edges = map (λ s. cut_from s.drawn) ss; cost = p.report.cost }) stamps)
 
 pub add_glyphs-requires-clause-band : goal.add_glyphs-requires-clause-band
-add_glyphs-requires-clause-band c = record {
-  height = c.self.invariant.1;
-  within = rw (← c.self.view_is) at c.requires.within;
-  len = ap length c.whiten.ensures ∙ (length-replicate (length c.args.band.now) 0 ∙ (rw (← c.self.view_is) at c.requires.len));
-}
+add_glyphs-requires-clause-band c =
+    let white : c.fill.new.self ≡ replicate (length c.args.band.now) 0 = search rules in
+    record {
+      height = c.self.invariant.1;
+      within = rw (← c.self.view_is) at c.requires.within;
+      len = ap length white ∙ (length-replicate (length c.args.band.now) 0 ∙ (rw (← c.self.view_is) at c.requires.len));
+    }
 
 pub add_dropouts-requires-clause-band : goal.add_dropouts-requires-clause-band
-add_dropouts-requires-clause-band c = record {
-  height = c.self.invariant.1;
-  within = rw (← c.self.view_is) at c.requires.within;
-  len = c.add_glyphs.ensures.painted.len ∙ (ap length c.whiten.ensures
-      ∙ (length-replicate (length c.args.band.now) 0 ∙ (rw (← c.self.view_is) at c.requires.len)));
-}
+add_dropouts-requires-clause-band c =
+    let white : c.fill.new.self ≡ replicate (length c.args.band.now) 0 = search rules in
+    record {
+      height = c.self.invariant.1;
+      within = rw (← c.self.view_is) at c.requires.within;
+      len = c.add_glyphs.ensures.painted.len ∙ (ap length white
+          ∙ (length-replicate (length c.args.band.now) 0 ∙ (rw (← c.self.view_is) at c.requires.len)));
+    }

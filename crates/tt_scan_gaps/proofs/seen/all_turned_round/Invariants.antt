@@ -1,6 +1,6 @@
 use Rattle.std.proofs.Common.{◌≡◌, map, take}
 use Rattle.tt_scan_gaps.specs.Seen.{turned_round}
-use Rattle.tt_scan_dropouts.proofs.filling.all_turned_round.Given as goal
+use Rattle.tt_scan_gaps.proofs.seen.all_turned_round.Given as goal
 
 -- the edges so far are turned round
 abbrev pub invariant-loop-edge : goal.invariant-loop-edge

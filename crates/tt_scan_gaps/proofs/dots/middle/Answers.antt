@@ -1,5 +1,5 @@
 use Rattle.std.proofs.Common.{rules}
-use Rattle.tt_picture.proofs.rows.whiten.Goals as goal
+use Rattle.tt_scan_gaps.proofs.dots.middle.Goals as goal
 
 pub returns : goal.returns
 returns c = search rules
