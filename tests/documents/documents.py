@@ -13,6 +13,7 @@ import habits
 import links
 import manual
 import markdown
+import promises
 import prose
 
 
@@ -53,6 +54,14 @@ def reports(documents):
     common.verdict("messages in the manual", manual.lacking(sources))
 
 
+def citations():
+    """Tries what promises cite, and that they name every law."""
+    lost, unnamed = promises.compared(markdown.tracked("crates/*/src/*.rt", "crates/*/specs/*.antt"))
+    common.verdict("wrong and right citations", promises.overlooked())
+    common.verdict("citations of promises", lost)
+    common.verdict("laws in promises", unnamed)
+
+
 def words(documents):
     """Tries the habits of words."""
     code = [it for it in markdown.tracked("crates") if re.fullmatch(r"crates/\w+/(src|specs)/.*\.(rt|antt)", it)]
@@ -88,6 +97,7 @@ def main():
     lengths(documents)
     paths(documents)
     reports(documents)
+    citations()
     words(documents)
     page()
     return common.report("documents")
