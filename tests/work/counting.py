@@ -97,20 +97,20 @@ def bands(rows):
 
 
 def bitmap_bytes(columns, rows):
-    """The bytes of a box as a bitmap, two pixels more on each side, band by band."""
-    return (columns + 4 + 7) // 8 * (rows + 4 * bands(rows))
+    """The bytes of a box as a bitmap, five pixels more on each side, band by band."""
+    return (columns + 10 + 7) // 8 * (rows + 10 * bands(rows))
 
 
 def counted(contours, filled):
     """What a glyph counts: each edge one for each band, and five for each row that it crosses, but at least seven; each
     row of the edges' box one. Where dropouts are filled, each edge three more for each row or column that it crosses, and
-    one for each band; and 64 bytes of the bitmap of the points' box one.
+    one for each band; and 64 bytes of the bitmap of the points' box one. A dot may lie a pixel outside of that box.
     """
     edges = [it for contour in contours for it in edges_of(contour)]
     rows = extent([end[1] for edge in edges for end in edge])
     count = bands(rows) * len(edges) + sum(max(LEAST, ROW * crossed(it, 1)) for it in edges) + rows
     if filled:
-        columns, rows = (extent([128 * point[axis] for it in contours for point in it]) for axis in (0, 1))
+        columns, rows = (extent([128 * point[axis] for it in contours for point in it]) + 2 for axis in (0, 1))
         met = sum(crossed(it, axis) for it in edges for axis in (0, 1))
         count += (bands(rows) + 3) * met + bitmap_bytes(columns, rows) // 64
     return count

@@ -134,7 +134,7 @@ def crossings(asked):
     assert below.count == inside.count
     at_the_limit(asked, "below the picture", below, same=True)
     filled = Crossing([zigzag(0, 3996)], 250, 1000, 4, 3996, filled=True)
-    assert filled.count == 800_359 + 4 * (159_840 + 80) + 94 == 1_440_133
+    assert filled.count == 800_359 + 4 * (159_840 + 80) + 110 == 1_440_149
     at_the_limit(asked, "with dropouts", filled)
     # At 32 units of 26.6: edges along the centre line of a row, which each count one for the band, and the least of 7.
     level = Crossing([[(200 * (it % 2), 1) for it in range(MOST_POINTS)]], 300, 600, 4, 16)
