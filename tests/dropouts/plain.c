@@ -584,6 +584,17 @@ static void random_case(Case *it) {
   it->frame = random_frame(it->window);
 }
 
+/* All ends of an outline stay within the limits, if the outline is moved. */
+static int may_move(const Outline *o, int64_t x, int64_t y) {
+  for (int i = 0; i < o->count; i++) {
+    Point ends[] = {o->edges[i].a, o->edges[i].b};
+    for (int k = 0; k < 2; k++) {
+      if (clamped(ends[k].x + x) != ends[k].x + x || clamped(ends[k].y + y) != ends[k].y + y) return 0;
+    }
+  }
+  return 1;
+}
+
 /* The laws of dots, of which one in four cases is asked: dots only add, each contour one pixel at most; no contour of the
  * size of a dot that has no gap ask is white at its middle; and an outline moved by whole pixels has its dropouts moved. */
 static void keep_laws(const Case *it, Rules rules, const Ink *ink, char dropout[SIDE][SIDE]) {
@@ -608,6 +619,7 @@ static void keep_laws(const Case *it, Rules rules, const Ink *ink, char dropout[
     if (c < 0 || w.width <= c || r < 0 || w.height <= r) continue;
     if (!ink->black[r + ROUND][c + ROUND] && !dropout[r][c]) fail("a dot is white");
   }
+  if (!may_move(&o, x * PIXEL, y * PIXEL)) return;
   move(&o, x * PIXEL, y * PIXEL);
   o.least = (Point){o.least.x + x * PIXEL, o.least.y + y * PIXEL};
   o.most = (Point){o.most.x + x * PIXEL, o.most.y + y * PIXEL};
