@@ -17,5 +17,6 @@ pub mod WideChoice
 pub mod WideDefects
 pub mod WideLaws
 pub mod WideLookup
+pub mod WideReads
 pub mod WideRows
 pub mod WideSubtables

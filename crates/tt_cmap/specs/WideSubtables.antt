@@ -70,7 +70,7 @@ wide_view (by.Ranged s) = ranged (subtable_view s)
 wide_view (by.Shared m) = shared m
 
 -- worked values: a group with one glyph for 0041 to 005A
-abbrev one_glyph : WideSubtable
+abbrev pub one_glyph : WideSubtable
 one_glyph = shared (record {
   table = 0 ∷ 13 ∷ 0 ∷ 0 ∷ 0 ∷ 0 ∷ 0 ∷ 28 ∷ 0 ∷ 0 ∷ 0 ∷ 0 ∷ 0 ∷ 0 ∷ 0 ∷ 1 ∷ 0 ∷ 0 ∷ 0 ∷ 65 ∷ 0 ∷ 0 ∷ 0 ∷ 90 ∷ 0 ∷ 0 ∷ 0 ∷ 2 ∷ [];
   at = 0;

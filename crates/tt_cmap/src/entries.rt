@@ -4,6 +4,7 @@ ghost use Rattle.std.specs.Prelude.{◌≡◌, ◌+◌, ◌*◌, ◌<◌, ◌≤
 ghost use Rattle.tt_core.specs.Limits.{font_limit};
 ghost use Rattle.tt_core.specs.Numbers.{unsigned_at};
 ghost use Rattle.tt_cmap.specs.Variations.{entry_offset, fitting, entry_count, entry_place, entry_start, entry_for, entry_glyph, default_offset, other_offset};
+ghost use Rattle.tt_cmap.specs.WideReads.{entry_ends_read};
 ghost use Rattle.tt_cmap.specs.declared.entries.EntryKind.TheVariants.{Selectors, Others};
 
 use crate::ends::{RangeEnds, reach};
@@ -103,11 +104,13 @@ impl<'a> Entries<'a> {
     }
 
     /// The entry where a binary search for a character ends.
+    #[tactic(auto, unfolding(crate::specs::WideReads::entry_ends_read))]
     pub(crate) fn entry_for(&self, c: usize, reads: &mut Reads) -> Option<usize>
         requires room { reads.old + 2 ^ 30 < 2 ^ 32 }
         ensures exact { result ≡ entry_for self.now c }
         ensures bound { IfSome result (λ i. i < entry_count self.now) }
-        ensures few { reads.new ≤ reads.old + 24 }
+        ensures count { reads.new ≡ reads.old + entry_ends_read self.now c }
+        ensures few { entry_ends_read self.now c ≤ 24 }
     {
         let i = reach(self, c, reads);
         if i < self.count { Some(i) } else { None }

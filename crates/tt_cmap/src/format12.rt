@@ -4,8 +4,9 @@ ghost use Rattle.std.specs.Prelude.{◌≡◌, ◌+◌, ◌^◌, ◌<◌, ◌≤
 ghost use Rattle.tt_core.specs.Limits.{font_limit};
 ghost use Rattle.tt_core.specs.Outcomes.{Gives};
 ghost use Rattle.tt_cmap.specs.Defects.{IsBadFormat12};
-ghost use Rattle.tt_cmap.specs.Format12.{groups_at};
+ghost use Rattle.tt_cmap.specs.Format12.{group_reads, groups_at};
 ghost use Rattle.tt_cmap.specs.Ranges.{groups};
+ghost use Rattle.tt_cmap.specs.WideReads.{reached_reads};
 ghost use Rattle.tt_cmap.specs.WideSubtables.{by_reached, by_shared_group};
 
 use crate::ends::{RangeEnds, reach};
@@ -77,12 +78,14 @@ impl<'a> Format12<'a> {
 
     /// The glyph of a character where all characters of a group have the group's glyph, as in format 13. The group is
     /// the one where a binary search ends.
+    #[tactic(auto, unfolding(crate::specs::Ranges::ends_read))]
     pub(crate) fn shared_glyph(&self, glyphs: u16, c: usize, reads: &mut Reads) -> u16
         requires glyphs { 0 < glyphs }
         requires room { reads.old + 2 ^ 31 < 2 ^ 32 }
         ensures exact { result ≡ by_reached (groups self.now) (by_shared_group self.now glyphs c) c }
         ensures bound { result < glyphs }
-        ensures few { reads.new ≤ reads.old + 27 }
+        ensures count { reads.new ≡ reads.old + reached_reads (groups self.now) (group_reads self.now c) c }
+        ensures few { reached_reads (groups self.now) (group_reads self.now c) c ≤ 27 }
     {
         let i = reach(self, c, reads);
         if i == self.count {

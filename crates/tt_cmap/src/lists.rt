@@ -6,6 +6,7 @@ ghost use Rattle.tt_core.specs.Limits.{font_limit};
 ghost use Rattle.tt_core.specs.Outcomes.{Gives};
 ghost use Rattle.tt_cmap.specs.Lists.{list_at, list_header, first_in, count_in, place_in, by_list};
 ghost use Rattle.tt_cmap.specs.WideDefects.{IsBadList};
+ghost use Rattle.tt_cmap.specs.WideReads.{list_reads};
 
 use crate::glyphs::or_missing;
 use crate::lookup::reads::Reads;
@@ -137,7 +138,8 @@ impl<'a> GlyphList<'a> {
         requires room { reads.old + 1 < 2 ^ 32 }
         ensures exact { result ≡ by_list self.now glyphs c }
         ensures bound { result < glyphs }
-        ensures few { reads.new ≤ reads.old + 1 }
+        ensures count { reads.new ≡ reads.old + list_reads self.now c }
+        ensures few { list_reads self.now c ≤ 1 }
     {
         if c < self.first || self.first + self.count <= c {
             return 0;

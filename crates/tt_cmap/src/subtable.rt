@@ -4,7 +4,8 @@ ghost use Rattle.std.specs.Prelude.{◌≡◌, ◌+◌, ◌-◌, ◌*◌, ◌^�
 ghost use Rattle.tt_core.specs.Limits.{font_limit};
 ghost use Rattle.tt_core.specs.Outcomes.{Gives};
 ghost use Rattle.tt_cmap.specs.Defects.{IsBadShape};
-ghost use Rattle.tt_cmap.specs.Ranges.{read_as, subtable_with, subtable_view, range_count, falls, falling_range, range_of, by_range, glyph_in, ends_read, reads_in, most_ends, IfSegments};
+ghost use Rattle.tt_cmap.specs.Ranges.{read_as, subtable_with, subtable_view, range_count, falls, falling_range, range_of, range_reads, by_range, glyph_in, ends_read, reads_in, most_ends, IfSegments};
+ghost use Rattle.tt_cmap.specs.WideReads.{reached_reads};
 ghost use Rattle.tt_cmap.specs.WideSubtables.{by_reached};
 
 use crate::ends::{RangeEnds, reach};
@@ -114,13 +115,15 @@ impl<'a> Subtable<'a> {
     }
 
     /// The glyph by the range where a binary search ends, whatever the order of the ends.
+    #[tactic(auto, unfolding(crate::specs::Ranges::ends_read))]
     pub(crate) fn glyph_by_search(&self, glyphs: u16, c: usize, reads: &mut Reads) -> u16
         requires character { c < 2 ^ 21 }
         requires glyphs { 0 < glyphs }
         requires room { reads.old + 2 ^ 31 < 2 ^ 32 }
         ensures exact { result ≡ by_reached (subtable_view self.now) (by_range (subtable_view self.now) glyphs c) c }
         ensures bound { result < glyphs }
-        ensures few { reads.new ≤ reads.old + 27 }
+        ensures count { reads.new ≡ reads.old + reached_reads (subtable_view self.now) (range_reads (subtable_view self.now) c) c }
+        ensures few { reached_reads (subtable_view self.now) (range_reads (subtable_view self.now) c) c ≤ 27 }
     {
         let i = reach(self, c, reads);
         if i < self.count() {

@@ -3,6 +3,7 @@
 ghost use Rattle.std.specs.Prelude.{◌≡◌, ◌+◌, ◌<◌, ◌≤◌, ◌^◌, length};
 ghost use Rattle.tt_core.specs.Limits.{font_limit};
 ghost use Rattle.tt_cmap.specs.Variations.{is_default, other_glyph, variation};
+ghost use Rattle.tt_cmap.specs.WideReads.{default_reads, other_reads, variation_reads};
 
 use crate::entries::{Entries, EntryKind};
 use crate::glyphs::or_missing;
@@ -44,7 +45,8 @@ impl<'a> Variations<'a> {
         requires place { offset < 2 ^ 32 }
         requires room { reads.old + 2 ^ 31 < 2 ^ 32 }
         ensures exact { result ≡ is_default self.now.table self.now.at offset c }
-        ensures few { reads.new ≤ reads.old + 25 }
+        ensures count { reads.new ≡ reads.old + default_reads self.now.table self.now.at offset c }
+        ensures few { default_reads self.now.table self.now.at offset c ≤ 25 }
     {
         if offset == 0 {
             return false;
@@ -63,7 +65,8 @@ impl<'a> Variations<'a> {
         requires room { reads.old + 2 ^ 31 < 2 ^ 32 }
         ensures exact { result ≡ other_glyph self.now.table self.now.at offset glyphs c }
         ensures bound { result < glyphs }
-        ensures few { reads.new ≤ reads.old + 26 }
+        ensures count { reads.new ≡ reads.old + other_reads self.now.table self.now.at offset c }
+        ensures few { other_reads self.now.table self.now.at offset c ≤ 26 }
     {
         if offset == 0 {
             return 0;
@@ -80,13 +83,14 @@ impl<'a> Variations<'a> {
 
     /// The glyph of a character with a selector; 0 where the subtable has no other glyph than the character's own. At
     /// most 78 numbers are read.
-    #[tactic(auto, unfolding(crate::specs::Variations::variation))]
+    #[tactic(auto, unfolding(crate::specs::Variations::variation, crate::specs::WideReads::variation_reads))]
     pub(crate) fn glyph(&self, glyphs: u16, c: usize, selector: usize, reads: &mut Reads) -> u16
         requires glyphs { 0 < glyphs }
         requires room { reads.old + 2 ^ 31 + 128 < 2 ^ 32 }
         ensures exact { result ≡ variation self.now.table self.now.at glyphs c selector }
         ensures bound { result < glyphs }
-        ensures few { reads.new ≤ reads.old + 78 }
+        ensures count { reads.new ≡ reads.old + variation_reads self.now.table self.now.at c selector }
+        ensures few { variation_reads self.now.table self.now.at c selector ≤ 78 }
     {
         let selectors = Entries::open(self.table, EntryKind::Selectors, self.at + 6);
         let Some(i) = selectors.entry_for(selector, reads) else {

@@ -4,6 +4,7 @@ ghost use Rattle.std.specs.Prelude.{◌≡◌, ◌+◌, ◌^◌, ◌<◌, ◌≤
 ghost use Rattle.tt_core.specs.Limits.{font_limit};
 ghost use Rattle.tt_core.specs.Outcomes.{Gives};
 ghost use Rattle.tt_cmap.specs.WideDefects.{IsBadWideShape};
+ghost use Rattle.tt_cmap.specs.WideReads.{code_reads};
 ghost use Rattle.tt_cmap.specs.WideSubtables.{readable_of, wide_subtable_at, wide_view, glyph_of_code};
 
 use crate::format12::Format12;
@@ -78,7 +79,8 @@ impl<'a> WideSubtable<'a> {
         requires room { reads.old + 2 ^ 31 < 2 ^ 32 }
         ensures exact { result ≡ glyph_of_code (wide_view self.now) glyphs c }
         ensures bound { result < glyphs }
-        ensures few { reads.new ≤ reads.old + 27 }
+        ensures count { reads.new ≡ reads.old + code_reads (wide_view self.now) c }
+        ensures few { code_reads (wide_view self.now) c ≤ 27 }
     {
         match self {
             WideSubtable::Listed(list) => list.glyph(glyphs, c, reads),

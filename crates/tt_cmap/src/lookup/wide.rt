@@ -5,6 +5,7 @@ ghost use Rattle.tt_core.specs.Directory.{HasNo};
 ghost use Rattle.tt_core.specs.Limits.{font_limit};
 ghost use Rattle.tt_core.specs.Outcomes.{Gives};
 ghost use Rattle.tt_cmap.specs.WideDefects.{IsBadWideCmap, IsBadWideChoice};
+ghost use Rattle.tt_cmap.specs.WideReads.{reads_of_variation, wide_reads_of, wide_reads_with};
 ghost use Rattle.tt_cmap.specs.WideLookup.{wide_cmap_of, glyph_by_way, wide_glyph_of, variation_in, wide_glyph_with};
 
 use crate::lookup::Lookup;
@@ -87,7 +88,8 @@ impl<'a> WideCmap<'a> {
         requires room { reads.old + 2 ^ 31 + 128 < 2 ^ 32 }
         ensures exact { result ≡ wide_glyph_of self.now c }
         ensures bound { result < self.now.glyphs }
-        ensures few { reads.new ≤ reads.old + 54 }
+        ensures count { reads.new ≡ reads.old + wide_reads_of self.now c }
+        ensures few { wide_reads_of self.now c ≤ 54 }
     {
         match self.way {
             CodeWay::Plain => self.subtable.glyph(self.glyphs, c, reads),
@@ -109,7 +111,8 @@ impl<'a> WideCmap<'a> {
         requires room { reads.old + 2 ^ 31 + 128 < 2 ^ 32 }
         ensures exact { result ≡ variation_in self.now.variations self.now.table self.now.glyphs c selector }
         ensures bound { result < self.now.glyphs }
-        ensures few { reads.new ≤ reads.old + 78 }
+        ensures count { reads.new ≡ reads.old + reads_of_variation self.now.variations self.now.table c selector }
+        ensures few { reads_of_variation self.now.variations self.now.table c selector ≤ 78 }
     {
         match self.variations {
             Some(at) => Variations::new(self.table, at).glyph(self.glyphs, c, selector, reads),
@@ -121,6 +124,7 @@ impl<'a> WideCmap<'a> {
     pub fn look_up(&self, c: char) -> Lookup
         ensures exact { result.glyph ≡ wide_glyph_of self.now c }
         ensures bound { result.glyph < self.now.glyphs }
+        ensures reads { result.reads ≡ wide_reads_of self.now c }
         ensures few { result.reads ≤ 54 }
     {
         let mut reads = Reads::none();
@@ -136,6 +140,7 @@ impl<'a> WideCmap<'a> {
     pub fn look_up_with(&self, c: char, selector: char) -> Lookup
         ensures exact { result.glyph ≡ wide_glyph_with self.now c selector }
         ensures bound { result.glyph < self.now.glyphs }
+        ensures reads { result.reads ≡ wide_reads_with self.now c selector }
         ensures few { result.reads ≤ 132 }
     {
         let mut reads = Reads::none();
