@@ -34,6 +34,11 @@ class Asked:
         """Draws the lines of some bytes, with a margin: a glyph without an advance has a picture too."""
         return self.run("draw", "--fit", fit, "--size", size, "--margin", 1, "--lines", *options, lines=lines)
 
+    def labels(self, fit, size, lines):
+        """Draws the lines of some bytes as labels. Of what is reported only the refusal of a line is returned."""
+        status, pictures, told = self.run("label", "--fit", fit, "--size", size, "--lines", lines=lines)
+        return status, pictures, [it for it in told if it.startswith("tt_render: line ") and "WorkLarge" in it]
+
     def measured(self, fit, size, lines):
         """Measures the lines of some bytes."""
         return self.run("measure", "--fit", fit, "--size", size, "--margin", 1, "--lines", lines=lines)

@@ -25,6 +25,7 @@ use Rattle.tt_picture.specs.Steps.{step_by}
 use Rattle.tt_scan_edges.specs.declared.edge.Frame.{Frame}
 use Rattle.tt_scan_edges.specs.Winding.{FrameFits}
 use Rattle.tt_scan_ink.specs.declared.ink.GlyphInk.{GlyphInk}
+use Rattle.tt_strike.specs.Costs.{line_cost}
 use Rattle.tt_strike.specs.Grown.{grown}
 use Rattle.tt_strike.specs.Job.{Job, tested}
 use Rattle.tt_strike.specs.Measures.{line_ink}
@@ -33,10 +34,11 @@ use Rattle.tt_strike.specs.Refusals.{Refused, as_font, as_job}
 use Rattle.tt_strike.specs.Report.{line_report}
 use Rattle.tt_strike.specs.Work.{lays_after_glyphs, line_fitter}
 
--- what a label's picture shows, and the unfitted glyphs of all lines
+-- what a label's picture shows, the unfitted glyphs of all lines, and what the label takes of the budget of many lines
 pub record LabelPicture : Type 0 where
   pub image : Image
   pub unfitted : List Unfitted
+  pub cost : ℕ
 
 -- a picture of a size within the limits, with all bytes of its rows
 pub record IsWhole (p : LabelPicture) : Type 0 where
@@ -131,3 +133,7 @@ label_outcome face a how =
 -- the unfitted glyphs of a label, each once, in order of first appearance
 unfoldable pub label_report : Face → Job → Align → Result (List Unfitted) Refused
 label_report face a how = label_placed face a how >>= λ lines. line_report face a (joint lines)
+
+-- what a label takes of the budget of a call of many lines: as much as all its glyphs on one line
+unfoldable pub label_cost : Face → Job → Align → Result ℕ Refused
+label_cost face a how = label_placed face a how >>= λ lines. line_cost face a (joint lines)

@@ -9,6 +9,7 @@ use Rattle.tt_metrics.specs.Metrics.{glyphs_of}
 use Rattle.tt_picture.specs.Glyphs.{AreSeated, Glyph}
 use Rattle.tt_picture.specs.Pixels.{Shape}
 use Rattle.tt_strike.specs.declared.laid.Laid.{Laid}
+use Rattle.tt_strike.specs.Costs.{line_cost}
 use Rattle.tt_strike.specs.Job.{Job}
 use Rattle.tt_strike.specs.Made.{AreMade, shapes_made}
 use Rattle.tt_strike.specs.Refusals.{Refused}
@@ -33,9 +34,11 @@ pub record AreLaid (face : Face) (margin : ℕ) (lines : List Laid) : Type 0 whe
   pub few : length (joint (placements_of lines)).glyphs ≤ text_limit
   pub known : All (λ g. g.0 < glyphs_of face.metrics) (joint (placements_of lines)).glyphs
 
--- the lines of a text are laid out, and their glyphs are made as those of one line
-pub record IsMadeLabel (face : Face) (a : Job) (how : Align) (lines : List Laid) (table : List ℕ) (gs : List Glyph) : Type 0 where
+-- the lines of a text are laid out, and their glyphs are made as those of one line, at this cost
+pub record IsMadeLabel (face : Face) (a : Job) (how : Align) (lines : List Laid) (table : List ℕ) (gs : List Glyph)
+    (n : ℕ) : Type 0 where
   pub placed : label_placed face a how ≡ Ok (placements_of lines)
   pub laid : AreLaid face a.margin lines
   pub made : AreMade false face a (joint (placements_of lines)) gs
   pub seated : AreSeated (glyphs_of face.metrics) table gs
+  pub cost : line_cost face a (joint (placements_of lines)) ≡ Ok n

@@ -4,7 +4,7 @@ ghost use Rattle.std.specs.Prelude.{◌≡◌, ℕ, ◌*◌, ◌≤◌, ◌<◌,
 ghost use Rattle.tt_core.specs.Bits.{stride};
 ghost use Rattle.tt_core.specs.Outcomes.{GivesUnless, draw_font_fault};
 ghost use Rattle.tt_fit.specs.Fitting.{Fitter};
-ghost use Rattle.tt_label.specs.Label.{joint, label_glyphs, label_outcome, label_report, line_shows, some_line_shows};
+ghost use Rattle.tt_label.specs.Label.{joint, label_cost, label_glyphs, label_outcome, label_report, line_shows, some_line_shows};
 ghost use Rattle.tt_label.specs.Made.{AreAlike};
 ghost use Rattle.tt_label.specs.Views.{placements_of};
 ghost use Rattle.tt_line.specs.Outcome.{placement_of};
@@ -99,6 +99,7 @@ pub fn label(
     ensures exact { GivesUnless refusal (λ p. p.image) result (label_outcome sized.old.face (job_by sized.old text.now margin) align) }
     ensures report { IfOk result (λ p. label_report sized.old.face (job_by sized.old text.now margin) align ≡ Ok p.unfitted) }
     ensures once { IfOk result (λ p. ListsOnce p.unfitted) }
+    ensures cost { IfOk result (λ p. label_cost sized.old.face (job_by sized.old text.now margin) align ≡ Ok p.cost) }
     ensures defects { TellsDefects draw_font_fault (IsLineDefect sized.old.face (job_by sized.old text.now margin) (label_glyphs sized.old.face.cmap text.now)) result }
     ensures same { sized.new ≡ sized.old }
 {
@@ -111,6 +112,6 @@ pub fn label(
     let lines = grown_lines(alloc, lines, ink)?;
     let count = sized.face().metrics().glyphs();
     let rows = painted(alloc, count, &lines, &inked.glyphs)?;
-    let report = report_on(alloc, &inked.glyphs.made, 0)?;
+    let report = report_on(alloc, &inked.glyphs.made, inked.glyphs.cost)?;
     Ok(LabelPicture::new(lines[0].frame(), rows, report))
 }

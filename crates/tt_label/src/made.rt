@@ -54,7 +54,7 @@ fn make_by_steps(
     requires tested { tested (job_by sized.old text.now margin) ≡ Ok tt }
     requires margin { margin ≤ margin_limit }
     requires text { length (chars text.now) ≤ text_limit }
-    ensures made { IfOk result (λ m. IsMadeLabel sized.old.face (job_by sized.old text.now margin) align m.lines.items m.glyphs.places.items m.glyphs.made.items) }
+    ensures made { IfOk result (λ m. IsMadeLabel sized.old.face (job_by sized.old text.now margin) align m.lines.items m.glyphs.places.items m.glyphs.made.items m.glyphs.cost) }
     ensures stops { IfTold refusal result (λ r. label_shapes sized.old.face (job_by sized.old text.now margin) align ≡ Err r) }
     ensures defects { TellsDefects draw_font_fault (IsLineDefect sized.old.face (job_by sized.old text.now margin) (label_glyphs sized.old.face.cmap text.now)) result }
     ensures same { sized.new ≡ sized.old }
@@ -123,7 +123,7 @@ fn make_by_advances(
     requires tested { tested (job_by sized.old text.now margin) ≡ Ok tt }
     requires margin { margin ≤ margin_limit }
     requires text { length (chars text.now) ≤ text_limit }
-    ensures made { IfOk result (λ m. IsMadeLabel sized.old.face (job_by sized.old text.now margin) align m.lines.items m.glyphs.places.items m.glyphs.made.items) }
+    ensures made { IfOk result (λ m. IsMadeLabel sized.old.face (job_by sized.old text.now margin) align m.lines.items m.glyphs.places.items m.glyphs.made.items m.glyphs.cost) }
     ensures stops { IfTold refusal result (λ r. label_shapes sized.old.face (job_by sized.old text.now margin) align ≡ Err r) }
     ensures defects { TellsDefects draw_font_fault (IsLineDefect sized.old.face (job_by sized.old text.now margin) (label_glyphs sized.old.face.cmap text.now)) result }
     ensures same { sized.new ≡ sized.old }
@@ -142,7 +142,7 @@ pub(crate) fn make_label(
     margin: u32,
     align: Align,
 ) -> Result<MadeLabel, DrawFault>
-    ensures made { IfOk result (λ m. IsMadeLabel sized.old.face (job_by sized.old text.now margin) align m.lines.items m.glyphs.places.items m.glyphs.made.items) }
+    ensures made { IfOk result (λ m. IsMadeLabel sized.old.face (job_by sized.old text.now margin) align m.lines.items m.glyphs.places.items m.glyphs.made.items m.glyphs.cost) }
     ensures stops { IfTold refusal result (λ r. label_shapes sized.old.face (job_by sized.old text.now margin) align ≡ Err r) }
     ensures defects { TellsDefects draw_font_fault (IsLineDefect sized.old.face (job_by sized.old text.now margin) (label_glyphs sized.old.face.cmap text.now)) result }
     ensures same { sized.new ≡ sized.old }

@@ -24,7 +24,7 @@ impl Model for LabelPicture {
 
     ghost Value = { labels.LabelPicture };
 
-    ghost view = { λ p. record { image = record { frame = p.frame; rows = p.rows.items }; unfitted = p.report.unfitted.items } };
+    ghost view = { λ p. record { image = record { frame = p.frame; rows = p.rows.items }; unfitted = p.report.unfitted.items; cost = p.report.cost } };
 
     ghost invariant = { λ p. FrameFits p.frame × (p.frame.height ≤ height_limit) };
 }
@@ -33,7 +33,7 @@ impl LabelPicture {
     /// A picture of this frame, with the bytes of its rows and its report.
     pub(crate) fn new(frame: Frame, rows: Vec<u8>, report: Report) -> LabelPicture
         requires frame { IsPictureFrame frame }
-        ensures { result ≡ record { image = record { frame = frame; rows = rows.items }; unfitted = report.unfitted.items } }
+        ensures { result ≡ record { image = record { frame = frame; rows = rows.items }; unfitted = report.unfitted.items; cost = report.cost } }
     {
         LabelPicture {
             frame,
@@ -73,5 +73,12 @@ impl LabelPicture {
         ensures { result.now ≡ self.now.unfitted }
     {
         &self.report.unfitted
+    }
+    /// What the text takes of the budget of a call of many lines: with `Fit::Best` as much as all its glyphs on one line.
+    /// 0 with any other fit.
+    pub fn cost(&self) -> u64
+        ensures { result ≡ self.now.cost }
+    {
+        self.report.cost
     }
 }

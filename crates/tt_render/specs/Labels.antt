@@ -26,7 +26,7 @@ use Rattle.tt_render.specs.Lines.{line_answer}
 use Rattle.tt_render.specs.Printing.{Errors}
 use Rattle.tt_render.specs.Reports.{label_report_of, told_view}
 use Rattle.tt_render.specs.Settings.{setting_tested, strike_of}
-use Rattle.tt_label.specs.Label.{label_outcome, label_report}
+use Rattle.tt_label.specs.Label.{label_cost, label_outcome, label_report}
 use Rattle.tt_line.specs.Labels.{label_lines}
 use Rattle.tt_render.specs.Texts.{LabelTold, TextAnswer, TextRefusal, answer_with, missing_among}
 use Rattle.tt_render.specs.TextsOutcome.{FontAnswers, IsIdle, IsNotReady, LinesGive, OpensFont, StopsAtFont}
@@ -73,14 +73,14 @@ label_told l file text = record {
   font = font_notes l.path.now file (face_number l.setting.opening.reading) l.face_given;
 }
 
--- the answer of a label's text by a font's tables at a size; a label takes nothing of the budget of many lines
+-- the answer of a label's text by a font's tables at a size
 unfoldable pub label_answer : Label → Strike → List ℕ → Result TextAnswer TextRefusal
 label_answer l s text =
     answer_with (Some (label_told l s.face.directory.file text))
     (as_file (label_outcome s.face (job_of s text l.setting.margin) l.align))
     (label_report s.face (job_of s text l.setting.margin) l.align)
     (missing_among l.setting.missing (lines_lacking s.face.cmap (label_lines text)))
-    (Ok 0)
+    (label_cost s.face (job_of s text l.setting.margin) l.align)
 
 -- the answer of a line that is drawn as a label
 unfoldable pub line_labelled : Label → Strike → List ℕ → Result TextAnswer TextRefusal
@@ -96,7 +96,7 @@ label_view r = record {
   bytes = r.file.items;
   unfitted = r.picture.unfitted;
   lacking = r.lacking.items;
-  cost = 0;
+  cost = r.picture.cost;
   label = Some (told_view r.told);
 }
 

@@ -193,9 +193,10 @@ fn draw_labels_by<R: Source, W: Sink, E: Sink>(
     ensures defects { LinesTell (IsDefectBy label_glyphs asked.now.setting (strike_in asked.now.setting sized.old)) (R.left lines.old) result }
 {
     let mut reader = LineReader::new(alloc)?;
+    let mut used = 0;
     for before in 0..u32::MAX {
         let number = before + 1;
-        let place = match next_line(&mut reader, lines, before, 0) {
+        let place = match next_line(&mut reader, lines, before, used) {
             Ok(Some(place)) => place,
             Ok(None) => return Ok(()),
             Err(stop) => return Err(texts_fault(Some(number), stop.refusal)),
@@ -205,6 +206,7 @@ fn draw_labels_by<R: Source, W: Sink, E: Sink>(
             Ok(ready) => ready,
             Err(fault) => return Err(texts_fault(Some(number), fault.refusal)),
         };
+        used += u128::from(ready.picture.cost());
         if let Err(cut) = write_all_of(out, &ready.file) {
             return Err(TextsFault {
                 line: Some(number),
@@ -244,12 +246,14 @@ fn draw_labels_of<R: Source, W: Sink, E: Sink>(
 
 /// Draws each line of a text as a label of its own, in order, and writes its picture as soon as it is made. Nothing of a
 /// refused line is written, and later lines are not drawn. After a line's picture its report is printed on `error`;
-/// behind the first one come the lines about the font. A failure of `error` does not stop the drawing.
+/// behind the first one come the lines about the font. A failure of `error` does not stop the drawing. With `Fit::Best`
+/// the lines share the budget of `draw_lines`.
 ///
 /// Errors, the first of: Job (SizeRange, MarginRange), before the font is read; FontRead, FontLarge; Font, of the
 /// tables needed for every text; then, line by line, with the line's number, from 1: Read; Job (TextLong, of more than
-/// 16,384 bytes); NotUtf8; Font and Job of `label`; Missing; and Write. Many comes after 4,294,967,295 lines. Memory may
-/// come at any allocation. A fault of the font has the hint about the font's file.
+/// 16,384 bytes; WorkLarge, where the lines before it took more than their budget); NotUtf8; Font and Job of `label`;
+/// Missing; and Write. Many comes after 4,294,967,295 lines. Memory may come at any allocation. A fault of the font has
+/// the hint about the font's file.
 pub fn draw_labels<F: Source, R: Source, W: Sink, E: Sink>(
     alloc: Global,
     font: &mut F,

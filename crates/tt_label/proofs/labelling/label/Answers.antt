@@ -1,7 +1,7 @@
 use Rattle.std.proofs.Common.{◌≡◌, ◌∙◌, ◌<◌, ◌≤◌, refl, sym, ap, ℕ, List, length, map, Option, Vec, Global, Result, Ok, Err, true, false, arith}
 use Rattle.std.proofs.lemmas.Result.{err_from_is_err_and}
 use Rattle.tt_core.specs.Bits.{stride}
-use Rattle.tt_label.specs.Label.{joint, joint_numbers, label_ink, label_outcome, label_report, some_line_shows}
+use Rattle.tt_label.specs.Label.{joint, joint_numbers, label_cost, label_ink, label_outcome, label_report, some_line_shows}
 use Rattle.tt_label.specs.Made.{AreLaid, IsMadeLabel}
 use Rattle.tt_label.specs.Views.{placements_of}
 use Rattle.tt_label.proofs.Drawn.{growth_stops, label_is, label_stops}
@@ -118,6 +118,12 @@ returns-clause-report c =
     let listed = rw c.deref-4.ensures.value at c.in_ok-report.ensures.unfitted in
     let told = reported_as_made face a (joint (placements_of c.in_ok-made.made.lines.items)) gs c.in_ok-report.report.unfitted.items is.made listed in
     rw (c.new.ensures, is.placed) told.0
+
+pub returns-clause-cost : goal.returns-clause-cost
+unfolding label_cost
+returns-clause-cost c =
+    let is = c.in_ok-made.ensures.made in
+    rw (c.new.ensures, c.in_ok-report.ensures.cost, is.placed) is.cost
 
 pub returns-clause-once : goal.returns-clause-once
 returns-clause-once c =

@@ -8,6 +8,7 @@ use Rattle.tt_line.specs.Layout.{Placement}
 use Rattle.tt_line.specs.Outcome.{placement_of}
 use Rattle.tt_strike.specs.declared.laid.Laid.{Laid}
 use Rattle.tt_strike.specs.Strikes.{job_by}
+use Rattle.tt_strike.proofs.Textless.{cost_textless}
 use Rattle.tt_label.proofs.made.make_by_advances.Goals.{In_ok-joint}
 use Rattle.tt_label.proofs.made.make_by_advances.Goals as goal
 
@@ -54,6 +55,7 @@ pub returns-clause-made : goal.returns-clause-made
 returns-clause-made c =
     let all = goal.at.returns-clause-made c in
     let made = rw c.absent-none.ensures at c.in_ok-glyphs.ensures.made in
+    let cost = rw (c.lay_label.ensures.same, c.in_ok-joint.ensures.margin, joint_then all.In_ok-joint) at c.in_ok-glyphs.ensures.cost in
     record {
       placed = c.in_ok-lines.ensures.exact;
       laid = c.in_ok-lines.ensures.laid;
@@ -61,6 +63,7 @@ returns-clause-made c =
           (placements_of c.in_ok-lines.lines.items) (placement_of c.in_ok-joint.joint.line) c.lay_label.ensures.same
           c.in_ok-joint.ensures.margin (joint_then all.In_ok-joint) made;
       seated = rw c.lay_label.ensures.same at c.in_ok-glyphs.ensures.valid;
+      cost = cost_textless c.args.sized.now c.args.text.now c.args.margin (joint (placements_of c.in_ok-lines.lines.items)) ∙ cost;
     }
 
 pub returns-clause-defects : goal.returns-clause-defects

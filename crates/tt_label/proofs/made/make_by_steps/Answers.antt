@@ -21,12 +21,15 @@ use Rattle.tt_metrics.specs.Metrics.{glyphs_of}
 use Rattle.tt_picture.specs.Distinct.{distinct}
 use Rattle.tt_picture.proofs.Among.{of_same_glyphs}
 use Rattle.tt_strike.specs.declared.laid.Laid.{Laid}
+use Rattle.tt_picture.specs.Shapes.{crossings_in}
+use Rattle.tt_strike.specs.Costs.{cost_of}
 use Rattle.tt_strike.specs.Defects.{IsLineDefect}
 use Rattle.tt_strike.specs.Job.{Job}
 use Rattle.tt_strike.specs.Makers.{IsMaker}
 use Rattle.tt_strike.specs.Picture.{edges_tested, shapes_in}
 use Rattle.tt_strike.specs.Strikes.{SizedFace, job_by}
-use Rattle.tt_strike.specs.Work.{line_fitter}
+use Rattle.tt_strike.specs.Work.{line_fitter, work_left}
+use Rattle.tt_strike.proofs.Costed.{costed}
 use Rattle.tt_strike.proofs.Placed.{of-job}
 use Rattle.tt_strike.proofs.Setting.{given_back, line_alike}
 use Rattle.tt_strike.proofs.Stepped.{line_tells_no_defect, outlines_pass, outlines_tell_defect}
@@ -267,6 +270,10 @@ returns-clause-made c =
     let of = as_joint maker (placement_of c.in_ok-joint.joint.line) (joint lines) c.in_ok-joint.joint.margin c.args.margin
     (line_then all.In_ok-joint) c.in_ok-joint.ensures.margin (c.in_ok-glyphs.ensures.line false maker is.fitted) in
     let room : length c.in_ok-label.label.places.items ≡ glyphs_of z.face.metrics = f.room ∙ c.in_ok-fitter.ensures.setting.glyphs in
+    let counts = rw (joint_then all.In_ok-joint) at c.in_ok-glyphs.ensures.cost in
+    let cost : c.in_ok-glyphs.glyphs.cost ≡ cost_of (work_left s (joint_numbers lines)) (crossings_in shapes.0) =
+    counts false maker shapes.0 is.fitted shapes.1
+    ∙ ap (λ left. cost_of left (crossings_in shapes.0)) (is.work ∙ ap (work_left s) (sym is.glyphs)) in
     rw (← c.sized.view_is) (record {
       placed = label_laid z.face a c.args.align s lines fs is;
       laid = laid_then all.In_ok-lines (few_glyphs all.In_ok-label are) (same_glyphs all.In_ok-label are) (as_many_lines all.In_ok-label are);
@@ -283,6 +290,7 @@ returns-clause-made c =
         stand = rw shapes.1 at of.stand;
       };
       seated = rw room at c.in_ok-glyphs.ensures.valid;
+      cost = costed z.face a (joint lines) s shapes.0 is.there few fitted seldom ∙ ap Ok (sym cost);
     })
 
 pub returns-clause-defects : goal.returns-clause-defects

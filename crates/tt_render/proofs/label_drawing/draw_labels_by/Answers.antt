@@ -1,4 +1,4 @@
-use Rattle.std.proofs.Common.{◌≡◌, ◌∙◌, ap, sym, ◌+◌, IfSome, Some, Ok, arith, refl, subst}
+use Rattle.std.proofs.Common.{◌≡◌, ◌∙◌, ap, sym, ℕ, ◌+◌, IfSome, Some, Ok, arith, refl, subst}
 use Rattle.std.proofs.lemmas.Result.{err_from_is_err_and}
 use Rattle.std.specs.Io.KnownBytes.{Appends}
 use Rattle.tt_label.specs.Label.{label_glyphs}
@@ -13,7 +13,7 @@ use Rattle.tt_render.specs.Printing.{PrintsBehind, errors_of}
 use Rattle.tt_render.specs.Reports.{told_of}
 use Rattle.tt_render.specs.TextsOutcome.{refusal_font_fault}
 use Rattle.tt_render.proofs.DefectLines.{begun_tells, next_tells, stop_tells}
-use Rattle.tt_render.proofs.DrawnLines.{all_drawn, drawn_too, many_sent, none_so_far, one_more, reader_at_end, some_sent, whole_text}
+use Rattle.tt_render.proofs.DrawnLines.{SoFar, all_drawn, drawn_too, many_sent, none_so_far, one_more, reader_at_end, some_sent, whole_text}
 use Rattle.tt_render.proofs.LabelLines.{long_label}
 use Rattle.tt_render.proofs.StoppedLines.{cut_sent, stopped_before, stopped_in}
 use Rattle.tt_render.proofs.Printed.{keeps_itself}
@@ -41,6 +41,7 @@ loop-before-init g c =
     record {
       sized = refl;
       reads = c.requires.lines;
+      few = omega arith;
       writes = c.requires.out;
       so_far = none_so_far (line_labelled c.args.asked.now (strike_in c.args.asked.now.setting c.args.sized.now)) left (text_left reader.reader left)
           (g.W.Sink.written c.args.out.now) (g.E.Sink.written c.args.error.now)
@@ -59,7 +60,7 @@ returns-in-Ok-None-clause-outcome g c =
     let none = rw c.in-Ok-None.field-0-is at c.in-Ok-None.ensures.outcome in
     let reads = c.in-Ok-None.ensures.failure in
     let sends = all_drawn draw (text_left c.loop-before.reader (left c.loop-before.lines)) t e c.loop-before.before
-    0 so_far.so_far none.0 in
+    c.loop-before.used so_far.so_far none.0 in
     let end = reader_at_end (held c.next_line.new.reader) (left c.next_line.new.lines) none.1 in
     (sends, (end, reads), so_far.writes)
 
@@ -73,7 +74,7 @@ returns-in-Err-clause-outcome g c =
     let e = errors_of g.E.Sink.written g.E.Sink.has_failed c.args.error.now c.loop-before.error in
     let fails = stopped_before draw (long_label c.args.asked.now (strike_in c.args.asked.now.setting c.args.sized.now)) c.next_line.new.reader c.in-Err.stop.refusal
     (text_left c.loop-before.reader (left c.loop-before.lines))
-    (text_left c.next_line.new.reader (left c.next_line.new.lines)) t e c.loop-before.before 0
+    (text_left c.next_line.new.reader (left c.next_line.new.lines)) t e c.loop-before.before c.loop-before.used
     so_far.so_far c.in-Err.ensures.outcome c.in-Err.ensures.failure so_far.writes in
     rw c.texts_fault.ensures fails
 
@@ -91,7 +92,7 @@ returns-in-Err-draw_line-clause-outcome g c =
     let fails = stopped_in ReadyLabel (line_labelled a (strike_in a.setting c.args.sized.now))
     (line_labelled a (strike_in a.setting c.loop-before.sized)) c.in-Err-draw_line.fault.refusal
     (text_left c.loop-before.reader (left c.loop-before.lines))
-    (text_left c.next_line.new.reader (left c.next_line.new.lines)) t e c.loop-before.before 0
+    (text_left c.next_line.new.reader (left c.next_line.new.lines)) t e c.loop-before.before c.loop-before.used
     (line_at c.next_line.new.reader c.in-Ok-Some.place) same so_far.so_far found.0 found.2 is
     c.in-Err-draw_line.ensures.serves c.in-Ok-Some.ensures.failure so_far.writes in
     rw c.texts_fault-in-Err-draw_line.ensures fails
@@ -115,7 +116,7 @@ returns-in-Err-write_all_of-clause-outcome g c =
     let e = errors_of g.E.Sink.written g.E.Sink.has_failed c.args.error.now c.loop-before.error in
     let sends = cut_sent draw (text_left c.loop-before.reader (left c.loop-before.lines))
     (text_left c.next_line.new.reader (left c.next_line.new.lines)) (written c.loop-before.out) t e
-    c.loop-before.before 0 cut.cut.sent line (label_view c.in-Ok.ready) so_far.so_far found.0 found.2 is
+    c.loop-before.before c.loop-before.used cut.cut.sent line (label_view c.in-Ok.ready) so_far.so_far found.0 found.2 is
     (rw c.deref.ensures.value at cut.ensures.within) (rw c.deref.ensures.value at cut.ensures.part) in
     (sends, c.in-Ok-Some.ensures.failure, cut.ensures.failure)
 
@@ -141,16 +142,23 @@ loop-before-preserved g c =
     rw (c.deref-in-loop-before.ensures, c.in-Ok.ensures.report) at c.print_text.ensures in
     let sent : Appends (written c.loop-before.out) (written c.write_all_of.new.out) answer.bytes =
     rw c.deref.ensures.value at c.in_default.ensures.all in
+    let Sent : ℕ → Type 0 = λ n. SoFar draw (left c.args.lines.now)
+    (text_left c.next_line.new.reader (left c.next_line.new.lines)) (written c.args.out.now)
+    (written c.write_all_of.new.out) (errors_of told failed c.args.error.now c.print_text.new.error)
+    (c.loop-before.before + 1) n in
+    let used : c.loop-before.used + answer.cost ≡ c.loop-before.used + c.from-used.result =
+    omega (arith, c.from-used.ensures, c.cost.ensures) in
     record {
       sized = c.in-Ok.ensures.same ∙ so_far.sized;
       reads = c.in-Ok-Some.ensures.failure;
+      few = omega (arith, so_far.few, c.from-used.ensures);
       writes = c.in_default.ensures.failure;
-      so_far = (one_more draw (left c.args.lines.now)
+      so_far = subst Sent used (one_more draw (left c.args.lines.now)
           (text_left c.loop-before.reader (left c.loop-before.lines))
           (text_left c.next_line.new.reader (left c.next_line.new.lines)) (written c.args.out.now)
           (written c.loop-before.out) (written c.write_all_of.new.out) (told c.args.error.now)
           (told c.loop-before.error) (told c.print_text.new.error) (failed c.loop-before.error)
-          (failed c.print_text.new.error) c.loop-before.before line answer 0 so_far.so_far
+          (failed c.print_text.new.error) c.loop-before.before line answer c.loop-before.used so_far.so_far
           found.0 found.2 is sent printed);
     }
 
@@ -165,7 +173,7 @@ returns-clause-outcome g c =
     c.loop-before.lines c.args.out.now c.loop-before.out in
     let e = errors_of g.E.Sink.written g.E.Sink.has_failed c.args.error.now c.loop-before.error in
     let sends = many_sent draw (text_left c.loop-before.reader (left c.loop-before.lines)) t e c.loop-before.before
-    lines_limit 0 all so_far.so_far in
+    lines_limit c.loop-before.used all so_far.so_far in
     (sends, so_far.reads, so_far.writes)
 
 pub returns-in_err-reader-clause-defects : goal.returns-in_err-reader-clause-defects
@@ -179,7 +187,7 @@ returns-in-Err-clause-defects g c =
     rw c.texts_fault.ensures (begun_tells (IsDefectBy label_glyphs a (strike_in a c.args.sized.now))
     (left c.args.lines.now) (text_left c.loop-before.reader (left c.loop-before.lines))
     (text_left c.next_line.new.reader (left c.next_line.new.lines)) c.next_line.new.reader c.loop-before.before
-    0 c.in-Err.stop.refusal c.in-Err.ensures.outcome)
+    c.loop-before.used c.in-Err.stop.refusal c.in-Err.ensures.outcome)
 
 pub returns-in-Err-draw_line-clause-defects : goal.returns-in-Err-draw_line-clause-defects
 returns-in-Err-draw_line-clause-defects g c =
@@ -197,7 +205,8 @@ returns-in-Err-draw_line-clause-defects g c =
     rw c.texts_fault-in-Err-draw_line.ensures
     (stop_tells IsOne (line_labelled c.args.asked.now (strike_in a c.args.sized.now)) (left c.args.lines.now) rest
     (g.W.Sink.written c.args.out.now) (g.W.Sink.written c.loop-before.out)
-    (errors_of g.E.Sink.written g.E.Sink.has_failed c.args.error.now c.loop-before.error) c.loop-before.before 0 why
+    (errors_of g.E.Sink.written g.E.Sink.has_failed c.args.error.now c.loop-before.error) c.loop-before.before
+    c.loop-before.used why
     so_far.so_far (next_tells IsOne rest after line why found.0 is))
 
 pub draw_line-requires-clause-file : goal.draw_line-requires-clause-file

@@ -1,4 +1,4 @@
-use Rattle.std.proofs.Common.{◌≡◌, false}
+use Rattle.std.proofs.Common.{◌≡◌, ◌*◌, ◌≤◌, false}
 use Rattle.tt_render.specs.Labels.{line_labelled, strike_in}
 use Rattle.tt_render.specs.LineReading.{text_left}
 use Rattle.tt_render.specs.Printing.{errors_of}
@@ -10,8 +10,9 @@ abbrev pub invariant-loop-before : goal.invariant-loop-before
 invariant-loop-before g l = record {
   sized : l.sized ≡ l.fn.sized;
   reads : g.R.Source.has_failed l.lines ≡ false;
+  few : l.used ≤ 18446744073709551615 * l.before;
   writes : g.W.Sink.has_failed l.out ≡ false;
   so_far : SoFar (line_labelled l.asked (strike_in l.asked.setting l.fn.sized)) (g.R.Source.left l.fn.lines)
       (text_left l.reader (g.R.Source.left l.lines)) (g.W.Sink.written l.fn.out) (g.W.Sink.written l.out)
-      (errors_of g.E.Sink.written g.E.Sink.has_failed l.fn.error l.error) l.before 0;
+      (errors_of g.E.Sink.written g.E.Sink.has_failed l.fn.error l.error) l.before l.used;
 }
