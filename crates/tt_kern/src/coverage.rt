@@ -4,87 +4,125 @@ ghost use Rattle.std.specs.Prelude.{◌≡◌, ◌+◌, ◌^◌, ◌<◌, ◌≤
 ghost use Rattle.tt_kern.specs.Words.{word};
 ghost use Rattle.tt_kern.specs.Coverage.{range_of, ranged_index, coverage_index, listed_class, ranged_class, class_of};
 
-use crate::search::{KeySize, find, reach};
-use crate::words::word;
+use crate::kerning::tally::Tally;
+use crate::search::{KeySize, Keys, find, reach};
+use crate::words::Words;
 
 /// The offset of a glyph's range: its first glyph, its last glyph and a number.
-fn range_of(bytes: &[u8], at: usize, glyph: usize) -> Option<usize>
+fn range_of(table: &Words, at: usize, glyph: usize, reads: &mut Tally) -> Option<usize>
     requires place { at < 2 ^ 50 }
-    ensures exact { result ≡ range_of bytes.now at glyph }
+    requires room { reads.old + 18 < 2 ^ 32 }
+    ensures exact { result ≡ range_of table.now at glyph }
     ensures near { IfSome result (λ p. p < 2 ^ 51) }
-    ensures from { IfSome result (λ p. word bytes.now p ≤ glyph) }
+    ensures from { IfSome result (λ p. word table.now p ≤ glyph) }
+    ensures few { reads.new ≤ reads.old + 18 }
 {
-    let count = word(bytes, at + 2);
-    let i = reach(bytes, KeySize::Word, at + 6, 6, count, glyph);
+    let keys = Keys {
+        size: KeySize::Word,
+        at: at + 6,
+        step: 6,
+        count: table.word(at + 2, reads),
+    };
+    let i = reach(table, keys, glyph, reads);
+    if i >= keys.count {
+        return None;
+    }
     let range = at + 4 + 6 * i;
-    if i < count && word(bytes, range) <= glyph {
+    if table.word(range, reads) <= glyph {
         Some(range)
     } else {
         None
     }
 }
 
-fn ranged_index(bytes: &[u8], at: usize, glyph: usize) -> Option<usize>
+fn ranged_index(table: &Words, at: usize, glyph: usize, reads: &mut Tally) -> Option<usize>
     requires place { at < 2 ^ 50 }
     requires glyph { glyph < 65536 }
-    ensures exact { result ≡ ranged_index bytes.now glyph (range_of bytes.now at glyph) }
+    requires room { reads.old + 20 < 2 ^ 32 }
+    ensures exact { result ≡ ranged_index table.now glyph (range_of table.now at glyph) }
     ensures bound { IfSome result (λ i. i < 2 ^ 17) }
+    ensures few { reads.new ≤ reads.old + 20 }
 {
-    match range_of(bytes, at, glyph) {
-        Some(range) => Some(word(bytes, range + 4) + (glyph - word(bytes, range))),
+    match range_of(table, at, glyph, reads) {
+        Some(range) => {
+            let number = table.word(range + 4, reads);
+            Some(number + (glyph - table.word(range, reads)))
+        }
         None => None,
     }
 }
 
 /// The index of a glyph in the coverage at an offset.
-pub(crate) fn coverage_index(bytes: &[u8], at: usize, glyph: usize) -> Option<usize>
+pub(crate) fn coverage_index(
+    table: &Words,
+    at: usize,
+    glyph: usize,
+    reads: &mut Tally,
+) -> Option<usize>
     requires place { at < 2 ^ 50 }
     requires glyph { glyph < 65536 }
-    ensures exact { result ≡ coverage_index bytes.now at glyph }
+    requires room { reads.old + 21 < 2 ^ 32 }
+    ensures exact { result ≡ coverage_index table.now at glyph }
     ensures bound { IfSome result (λ i. i < 2 ^ 17) }
+    ensures few { reads.new ≤ reads.old + 21 }
 {
-    match word(bytes, at) {
-        1 => find(bytes, KeySize::Word, at + 4, 2, word(bytes, at + 2), glyph),
-        2 => ranged_index(bytes, at, glyph),
+    match table.word(at, reads) {
+        1 => {
+            let keys = Keys {
+                size: KeySize::Word,
+                at: at + 4,
+                step: 2,
+                count: table.word(at + 2, reads),
+            };
+            find(table, keys, glyph, reads)
+        }
+        2 => ranged_index(table, at, glyph, reads),
         _ => None,
     }
 }
 
-fn listed_class(bytes: &[u8], at: usize, glyph: usize) -> usize
+fn listed_class(table: &Words, at: usize, glyph: usize, reads: &mut Tally) -> usize
     requires place { at < 2 ^ 50 }
     requires glyph { glyph < 65536 }
-    ensures exact { result ≡ listed_class bytes.now at glyph }
+    requires room { reads.old + 3 < 2 ^ 32 }
+    ensures exact { result ≡ listed_class table.now at glyph }
     ensures bound { result < 65536 }
+    ensures few { reads.new ≤ reads.old + 3 }
 {
-    let first = word(bytes, at + 2);
-    if first <= glyph && glyph - first < word(bytes, at + 4) {
-        word(bytes, at + 6 + 2 * (glyph - first))
+    let first = table.word(at + 2, reads);
+    let count = table.word(at + 4, reads);
+    if first <= glyph && glyph - first < count {
+        table.word(at + 6 + 2 * (glyph - first), reads)
     } else {
         0
     }
 }
 
-fn ranged_class(bytes: &[u8], at: usize, glyph: usize) -> usize
+fn ranged_class(table: &Words, at: usize, glyph: usize, reads: &mut Tally) -> usize
     requires place { at < 2 ^ 50 }
-    ensures exact { result ≡ ranged_class bytes.now (range_of bytes.now at glyph) }
+    requires room { reads.old + 19 < 2 ^ 32 }
+    ensures exact { result ≡ ranged_class table.now (range_of table.now at glyph) }
     ensures bound { result < 65536 }
+    ensures few { reads.new ≤ reads.old + 19 }
 {
-    match range_of(bytes, at, glyph) {
-        Some(range) => word(bytes, range + 4),
+    match range_of(table, at, glyph, reads) {
+        Some(range) => table.word(range + 4, reads),
         None => 0,
     }
 }
 
 /// The class of a glyph by the class definition at an offset. A glyph of no list and no range has class 0.
-pub(crate) fn class_of(bytes: &[u8], at: usize, glyph: usize) -> usize
+pub(crate) fn class_of(table: &Words, at: usize, glyph: usize, reads: &mut Tally) -> usize
     requires place { at < 2 ^ 50 }
     requires glyph { glyph < 65536 }
-    ensures exact { result ≡ class_of bytes.now at glyph }
+    requires room { reads.old + 20 < 2 ^ 32 }
+    ensures exact { result ≡ class_of table.now at glyph }
     ensures bound { result < 65536 }
+    ensures few { reads.new ≤ reads.old + 20 }
 {
-    match word(bytes, at) {
-        1 => listed_class(bytes, at, glyph),
-        2 => ranged_class(bytes, at, glyph),
+    match table.word(at, reads) {
+        1 => listed_class(table, at, glyph, reads),
+        2 => ranged_class(table, at, glyph, reads),
         _ => 0,
     }
 }

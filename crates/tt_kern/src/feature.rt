@@ -5,7 +5,8 @@ ghost use Rattle.tt_core.specs.Search.{first_below};
 ghost use Rattle.tt_kern.specs.Words.{word, long};
 ghost use Rattle.tt_kern.specs.Feature.{looked_at, offset_from, has_tag, record_offset, script_with, script_of, language_in, is_kern_of, feature_in, has_lists, feature_of};
 
-use crate::words::{long, word};
+use crate::kerning::tally::Tally;
+use crate::words::Words;
 
 const LATIN: usize = 0x6C61_746E;
 
@@ -35,108 +36,132 @@ fn offset_from(from: usize, offset: usize) -> Option<usize>
     }
 }
 
-fn has_tag(bytes: &[u8], list: usize, tag: usize, i: usize) -> bool
+fn has_tag(table: &Words, list: usize, tag: usize, i: usize, reads: &mut Tally) -> bool
     requires list { list < 65536 }
     requires record { i < 65536 }
-    ensures { result ≡ has_tag bytes.now list tag i }
+    requires room { reads.old + 1 < 2 ^ 32 }
+    ensures exact { result ≡ has_tag table.now list tag i }
+    ensures count { reads.new ≡ reads.old + 1 }
 {
-    long(bytes, list + 2 + 6 * i) == tag
+    table.long(list + 2 + 6 * i, reads) == tag
 }
 
-fn record_offset(bytes: &[u8], list: usize, i: usize) -> usize
+fn record_offset(table: &Words, list: usize, i: usize, reads: &mut Tally) -> usize
     requires list { list < 65536 }
     requires record { i < 65536 }
-    ensures exact { result ≡ record_offset bytes.now list i }
+    requires room { reads.old + 1 < 2 ^ 32 }
+    ensures exact { result ≡ record_offset table.now list i }
     ensures bound { result < 65536 }
+    ensures count { reads.new ≡ reads.old + 1 }
 {
-    word(bytes, list + 6 + 6 * i)
+    table.word(list + 6 + 6 * i, reads)
 }
 
-/// The first script with the tag.
+/// The first script with the tag. At most 258 numbers are read: the count, 256 tags and an offset.
 #[tactic(auto, using(tt_core::specs::Search::first_from_next, tt_core::specs::Search::first_from_here))]
-fn script_with(bytes: &[u8], list: usize, tag: usize) -> Option<usize>
+fn script_with(table: &Words, list: usize, tag: usize, reads: &mut Tally) -> Option<usize>
     requires list { list < 65536 }
-    ensures exact { result ≡ script_with bytes.now list tag }
+    requires room { reads.old + 258 < 2 ^ 32 }
+    ensures exact { result ≡ script_with table.now list tag }
     ensures near { IfSome result (λ p. p < 131072) }
+    ensures few { reads.new ≤ reads.old + 258 }
 {
-    let count = looked_at(word(bytes, list));
+    let count = looked_at(table.word(list, reads));
     for i in 0..count {
-        if has_tag(bytes, list, tag, i) {
-            return offset_from(list, record_offset(bytes, list, i));
+        if has_tag(table, list, tag, i, reads) {
+            return offset_from(list, record_offset(table, list, i, reads));
         }
     }
     None
 }
 
 /// The script of Latin, or else the default script.
-fn script_of(bytes: &[u8]) -> Option<usize>
-    ensures exact { result ≡ script_of bytes.now }
+fn script_of(table: &Words, reads: &mut Tally) -> Option<usize>
+    requires { reads.old + 517 < 2 ^ 32 }
+    ensures exact { result ≡ script_of table.now }
     ensures near { IfSome result (λ p. p < 131072) }
+    ensures few { reads.new ≤ reads.old + 517 }
 {
-    let list = word(bytes, 4);
-    match script_with(bytes, list, LATIN) {
+    let list = table.word(4, reads);
+    match script_with(table, list, LATIN, reads) {
         Some(script) => Some(script),
-        None => script_with(bytes, list, DEFAULT_SCRIPT),
+        None => script_with(table, list, DEFAULT_SCRIPT, reads),
     }
 }
 
 /// The default language.
-fn language_of(bytes: &[u8]) -> Option<usize>
-    ensures exact { result ≡ language_in bytes.now (script_of bytes.now) }
+fn language_of(table: &Words, reads: &mut Tally) -> Option<usize>
+    requires { reads.old + 518 < 2 ^ 32 }
+    ensures exact { result ≡ language_in table.now (script_of table.now) }
     ensures near { IfSome result (λ p. p < 196608) }
+    ensures few { reads.new ≤ reads.old + 518 }
 {
-    match script_of(bytes) {
-        Some(script) => offset_from(script, word(bytes, script)),
+    match script_of(table, reads) {
+        Some(script) => offset_from(script, table.word(script, reads)),
         None => None,
     }
 }
 
 /// Whether the feature with a number, of so many in the list, is a feature kern.
-fn is_kern(bytes: &[u8], list: usize, count: usize, number: usize) -> bool
+fn is_kern(table: &Words, list: usize, count: usize, number: usize, reads: &mut Tally) -> bool
     requires list { list < 65536 }
     requires number { number < 65536 }
-    ensures { result ≡ is_kern_of bytes.now list count number }
+    requires room { reads.old + 1 < 2 ^ 32 }
+    ensures exact { result ≡ is_kern_of table.now list count number }
+    ensures count { reads.new ≡ reads.old + 1 }
 {
-    number < count && has_tag(bytes, list, KERN, number)
+    let tagged = has_tag(table, list, KERN, number, reads);
+    number < count && tagged
 }
 
-/// The first feature kern of a language.
+/// The first feature kern of a language. At most 516 numbers are read: three counts and offsets, two for each of 256
+/// features, and an offset.
 #[tactic(auto, using(tt_core::specs::Search::first_from_next, tt_core::specs::Search::first_from_here))]
-fn feature_in(bytes: &[u8], language: usize) -> Option<usize>
+fn feature_in(table: &Words, language: usize, reads: &mut Tally) -> Option<usize>
     requires language { language < 196608 }
-    ensures exact { result ≡ feature_in bytes.now (Some language) }
+    requires room { reads.old + 516 < 2 ^ 32 }
+    ensures exact { result ≡ feature_in table.now (Some language) }
     ensures near { IfSome result (λ p. p < 131072) }
+    ensures few { reads.new ≤ reads.old + 516 }
 {
-    let list = word(bytes, 6);
-    let features = looked_at(word(bytes, list));
-    let count = looked_at(word(bytes, language + 4));
+    let list = table.word(6, reads);
+    let features = looked_at(table.word(list, reads));
+    let count = looked_at(table.word(language + 4, reads));
     for i in 0..count {
-        let number = word(bytes, language + 6 + 2 * i);
-        if is_kern(bytes, list, features, number) {
-            return Some(list + record_offset(bytes, list, number));
+        let number = table.word(language + 6 + 2 * i, reads);
+        if is_kern(table, list, features, number, reads) {
+            return Some(list + record_offset(table, list, number, reads));
         }
     }
     None
 }
 
 /// Whether GPOS has version 1, and lists of scripts, features and lookups.
-fn has_lists(bytes: &[u8]) -> bool
-    ensures { result ≡ has_lists bytes.now }
+fn has_lists(table: &Words, reads: &mut Tally) -> bool
+    requires { reads.old + 4 < 2 ^ 32 }
+    ensures exact { result ≡ has_lists table.now }
+    ensures count { reads.new ≡ reads.old + 4 }
 {
-    word(bytes, 0) == 1 && word(bytes, 4) > 0 && word(bytes, 6) > 0 && word(bytes, 8) > 0
+    let version = table.word(0, reads);
+    let scripts = table.word(4, reads);
+    let features = table.word(6, reads);
+    let lookups = table.word(8, reads);
+    version == 1 && scripts > 0 && features > 0 && lookups > 0
 }
 
-/// The offset of the feature kern in GPOS.
+/// The offset of the feature kern in GPOS. At most 1,038 numbers are read.
 #[tactic(auto, unfolding(crate::specs::Feature::feature_of))]
-pub(crate) fn feature_of(bytes: &[u8]) -> Option<usize>
-    ensures exact { result ≡ feature_of bytes.now }
+pub(crate) fn feature_of(table: &Words, reads: &mut Tally) -> Option<usize>
+    requires { reads.old + 1038 < 2 ^ 32 }
+    ensures exact { result ≡ feature_of table.now }
     ensures near { IfSome result (λ p. p < 131072) }
+    ensures few { reads.new ≤ reads.old + 1038 }
 {
-    if !has_lists(bytes) {
+    if !has_lists(table, reads) {
         return None;
     }
-    match language_of(bytes) {
-        Some(language) => feature_in(bytes, language),
+    match language_of(table, reads) {
+        Some(language) => feature_in(table, language, reads),
         None => None,
     }
 }

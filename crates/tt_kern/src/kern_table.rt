@@ -4,10 +4,11 @@
 ghost use Rattle.std.specs.Prelude.{◌≡◌, ◌+◌, ◌*◌, ◌^◌, ◌<◌, ◌≤◌, length, IfSome, unsigned_abs};
 ghost use Rattle.tt_core.specs.Limits.{font_limit};
 ghost use Rattle.tt_kern.specs.Words.{word};
-ghost use Rattle.tt_kern.specs.KernTable.{version_of, list_place, count_taken, header_size, length_told, is_usable, overrides, pair_count, value_in, after_subtable, kern_sum};
+ghost use Rattle.tt_kern.specs.KernTable.{version_of, list_place, count_told, count_taken, header_size, length_told, is_usable, overrides, pair_count, value_in, after_subtable, kern_sum};
 
-use crate::search::{KeySize, find};
-use crate::words::{long, signed, word};
+use crate::kerning::tally::Tally;
+use crate::search::{KeySize, Keys, find};
+use crate::words::Words;
 
 /// The version of a table kern. Its header and its subtables' headers depend on the version.
 #[derive(Clone, Copy)]
@@ -18,12 +19,15 @@ pub(crate) enum KernVersion {
     Apple,
 }
 
-fn version_of(bytes: &[u8]) -> Option<KernVersion>
-    ensures { result ≡ version_of bytes.now }
+fn version_of(table: &Words, reads: &mut Tally) -> Option<KernVersion>
+    requires { reads.old + 2 < 2 ^ 32 }
+    ensures exact { result ≡ version_of table.now }
+    ensures few { reads.new ≤ reads.old + 2 }
 {
-    if word(bytes, 0) == 0 {
-        Some(KernVersion::OpenType)
-    } else if long(bytes, 0) == 65536 {
+    if table.word(0, reads) == 0 {
+        return Some(KernVersion::OpenType);
+    }
+    if table.long(0, reads) == 65536 {
         Some(KernVersion::Apple)
     } else {
         None
@@ -41,15 +45,26 @@ fn list_place(version: KernVersion) -> usize
     }
 }
 
-/// The count of subtables, at most 32 (profile).
-fn count_taken(version: KernVersion, bytes: &[u8]) -> usize
-    ensures exact { result ≡ count_taken version bytes.now }
-    ensures bound { result ≤ 32 }
+/// The count of subtables, as the table tells it.
+fn count_told(version: KernVersion, table: &Words, reads: &mut Tally) -> usize
+    requires { reads.old + 1 < 2 ^ 32 }
+    ensures exact { result ≡ count_told version table.now }
+    ensures count { reads.new ≡ reads.old + 1 }
 {
-    let told = match version {
-        KernVersion::OpenType => word(bytes, 2),
-        KernVersion::Apple => long(bytes, 4),
-    };
+    match version {
+        KernVersion::OpenType => table.word(2, reads),
+        KernVersion::Apple => table.long(4, reads),
+    }
+}
+
+/// The count of subtables, at most 32 (profile).
+fn count_taken(version: KernVersion, table: &Words, reads: &mut Tally) -> usize
+    requires { reads.old + 1 < 2 ^ 32 }
+    ensures exact { result ≡ count_taken version table.now }
+    ensures bound { result ≤ 32 }
+    ensures count { reads.new ≡ reads.old + 1 }
+{
+    let told = count_told(version, table, reads);
     if told > 32 { 32 } else { told }
 }
 
@@ -64,23 +79,27 @@ fn header_size(version: KernVersion) -> usize
     }
 }
 
-fn length_told(version: KernVersion, bytes: &[u8], at: usize) -> usize
+fn length_told(version: KernVersion, table: &Words, at: usize, reads: &mut Tally) -> usize
     requires place { at < 2 ^ 34 }
-    ensures exact { result ≡ length_told version bytes.now at }
+    requires room { reads.old + 1 < 2 ^ 32 }
+    ensures exact { result ≡ length_told version table.now at }
     ensures bound { result < 2 ^ 32 }
+    ensures count { reads.new ≡ reads.old + 1 }
 {
     match version {
-        KernVersion::OpenType => word(bytes, at + 2),
-        KernVersion::Apple => long(bytes, at),
+        KernVersion::OpenType => table.word(at + 2, reads),
+        KernVersion::Apple => table.long(at, reads),
     }
 }
 
 /// Whether a subtable has horizontal pairs that are neither minimum nor cross-stream nor a variation, in format 0.
-fn is_usable(version: KernVersion, bytes: &[u8], at: usize) -> bool
+fn is_usable(version: KernVersion, table: &Words, at: usize, reads: &mut Tally) -> bool
     requires place { at < 2 ^ 34 }
-    ensures { result ≡ is_usable version bytes.now at }
+    requires room { reads.old + 1 < 2 ^ 32 }
+    ensures exact { result ≡ is_usable version table.now at }
+    ensures count { reads.new ≡ reads.old + 1 }
 {
-    let coverage = word(bytes, at + 4);
+    let coverage = table.word(at + 4, reads);
     match version {
         KernVersion::OpenType => coverage / 256 == 0 && coverage % 8 == 1,
         KernVersion::Apple => coverage / 8192 == 0 && coverage % 256 == 0,
@@ -88,65 +107,86 @@ fn is_usable(version: KernVersion, bytes: &[u8], at: usize) -> bool
 }
 
 /// Whether a subtable's value takes the place of the sum so far.
-fn overrides(version: KernVersion, bytes: &[u8], at: usize) -> bool
+fn overrides(version: KernVersion, table: &Words, at: usize, reads: &mut Tally) -> bool
     requires place { at < 2 ^ 34 }
-    ensures { result ≡ overrides version bytes.now at }
+    requires room { reads.old + 1 < 2 ^ 32 }
+    ensures exact { result ≡ overrides version table.now at }
+    ensures few { reads.new ≤ reads.old + 1 }
 {
     match version {
-        KernVersion::OpenType => word(bytes, at + 4) / 8 % 2 == 1,
+        KernVersion::OpenType => table.word(at + 4, reads) / 8 % 2 == 1,
         KernVersion::Apple => false,
     }
 }
 
 /// The count of pairs: as many as the subtable counts, or as fit into the table.
-fn pair_count(version: KernVersion, bytes: &[u8], at: usize) -> usize
+fn pair_count(version: KernVersion, table: &Words, at: usize, reads: &mut Tally) -> usize
     requires place { at < 2 ^ 34 }
-    ensures exact { result ≡ pair_count version bytes.now at }
+    requires room { reads.old + 1 < 2 ^ 32 }
+    ensures exact { result ≡ pair_count version table.now at }
     ensures bound { result < 65536 }
+    ensures count { reads.new ≡ reads.old + 1 }
 {
-    let told = word(bytes, at + header_size(version));
-    let fitting = bytes.len().saturating_sub(at + header_size(version) + 8) / 6;
+    let told = table.word(at + header_size(version), reads);
+    let fitting = table.len().saturating_sub(at + header_size(version) + 8) / 6;
     if told < fitting { told } else { fitting }
 }
 
 /// The value of two glyphs in a subtable.
-fn value_in(version: KernVersion, bytes: &[u8], at: usize, left: usize, right: usize) -> Option<i32>
+fn value_in(
+    version: KernVersion,
+    table: &Words,
+    at: usize,
+    left: usize,
+    right: usize,
+    reads: &mut Tally,
+) -> Option<i32>
     requires place { at < 2 ^ 34 }
     requires left { left < 65536 }
     requires right { right < 65536 }
-    ensures exact { result ≡ value_in version bytes.now at left right }
+    requires room { reads.old + 19 < 2 ^ 32 }
+    ensures exact { result ≡ value_in version table.now at left right }
     ensures bound { IfSome result (λ v. unsigned_abs v ≤ 32768) }
+    ensures few { reads.new ≤ reads.old + 19 }
 {
     let pairs = at + header_size(version) + 8;
-    let count = pair_count(version, bytes, at);
-    match find(bytes, KeySize::Long, pairs, 6, count, 65536 * left + right) {
-        Some(i) => Some(signed(bytes, pairs + 6 * i + 4)),
+    let keys = Keys {
+        size: KeySize::Long,
+        at: pairs,
+        step: 6,
+        count: pair_count(version, table, at, reads),
+    };
+    match find(table, keys, 65536 * left + right, reads) {
+        Some(i) => Some(table.signed(pairs + 6 * i + 4, reads)),
         None => None,
     }
 }
 
-/// The sum after a subtable.
+/// The sum after a subtable. At most 21 numbers are read.
 fn after_subtable(
     version: KernVersion,
-    bytes: &[u8],
+    table: &Words,
     left: usize,
     right: usize,
     total: i32,
     at: usize,
+    reads: &mut Tally,
 ) -> i32
     requires left { left < 65536 }
     requires right { right < 65536 }
     requires total { unsigned_abs total ≤ 2 ^ 20 }
     requires place { at < 2 ^ 34 }
-    ensures exact { result ≡ after_subtable version bytes.now left right total at }
+    requires room { reads.old + 21 < 2 ^ 32 }
+    ensures exact { result ≡ after_subtable version table.now left right total at }
     ensures bound { unsigned_abs result ≤ unsigned_abs total + 32768 }
+    ensures few { reads.new ≤ reads.old + 21 }
 {
-    if !is_usable(version, bytes, at) {
+    if !is_usable(version, table, at, reads) {
         return total;
     }
-    match value_in(version, bytes, at, left, right) {
+    match value_in(version, table, at, left, right, reads) {
         Some(value) => {
-            if overrides(version, bytes, at) {
+            if overrides(version, table, at, reads) {
                 value
             } else {
                 total + value
@@ -156,26 +196,28 @@ fn after_subtable(
     }
 }
 
-/// The kerning of two glyphs by the table.
+/// The kerning of two glyphs by the table. At most 707 numbers are read: 3 before the subtables, and 22 for each of 32.
 #[tactic(auto, unfolding(crate::specs::KernTable::kern_sum))]
-pub(crate) fn kern_sum(bytes: &[u8], left: usize, right: usize) -> i32
-    requires size { length bytes.now ≤ font_limit }
+pub(crate) fn kern_sum(table: &Words, left: usize, right: usize, reads: &mut Tally) -> i32
+    requires size { length table.now ≤ font_limit }
     requires left { left < 65536 }
     requires right { right < 65536 }
-    ensures exact { result ≡ kern_sum bytes.now left right }
+    requires room { reads.old + 707 < 2 ^ 32 }
+    ensures exact { result ≡ kern_sum table.now left right }
     ensures bound { unsigned_abs result ≤ 2 ^ 20 }
+    ensures few { reads.new ≤ reads.old + 707 }
 {
-    let Some(version) = version_of(bytes) else {
+    let Some(version) = version_of(table, reads) else {
         return 0;
     };
     let mut total = 0;
     let mut at = list_place(version);
-    for i in 0..count_taken(version, bytes) {
-        if bytes.len() < at + 8 {
+    for i in 0..count_taken(version, table, reads) {
+        if table.len() < at + 8 {
             return total;
         }
-        total = after_subtable(version, bytes, left, right, total, at);
-        let length = length_told(version, bytes, at);
+        total = after_subtable(version, table, left, right, total, at, reads);
+        let length = length_told(version, table, at, reads);
         if length < header_size(version) {
             return total;
         }

@@ -1,28 +1,42 @@
 //! The kerning of two neighbouring glyphs.
 
-ghost use Rattle.std.specs.Prelude.{◌≡◌, ◌^◌, ◌≤◌, length, unsigned_abs};
+ghost use Rattle.std.specs.Prelude.{◌≡◌, ◌+◌, ◌^◌, ◌<◌, ◌≤◌, length, unsigned_abs};
 ghost use Rattle.tt_core.specs.Limits.{font_limit};
 ghost use Rattle.tt_kern.specs.Kerning.{kerning};
 
+pub(crate) mod tally;
+
 use crate::feature::feature_of;
 use crate::kern_table::kern_sum;
+use crate::kerning::tally::Tally;
 use crate::pairs::list::PairList;
 use crate::pairs::pairs_of;
 use crate::sum::pair_sum;
+use crate::words::Words;
 use std::marker::Model;
+
+/// The kerning of two neighbouring glyphs.
+#[derive(Clone, Copy)]
+pub struct PairKerning {
+    /// How much farther the second glyph stands, in font units.
+    pub value: i32,
+    /// The count of numbers that were read from GPOS or kern.
+    pub reads: u32,
+}
 
 /// The tables GPOS and kern of a font, and GPOS's pair subtables, which are found once. Clauses see the bytes of both
 /// tables.
 #[derive(Drop)]
 pub struct Kerning<'a> {
-    gpos: &'a [u8],
-    kern: &'a [u8],
+    gpos: Words<'a>,
+    kern: Words<'a>,
     feature: Option<usize>,
     pairs: PairList,
+    reads: u32,
 }
 
 impl<'a> Model for Kerning<'a> {
-    ghost use Rattle.std.specs.Prelude.{◌≡◌, ◌≤◌, length};
+    ghost use Rattle.std.specs.Prelude.{◌≡◌, ◌<◌, ◌≤◌, length};
     ghost use Rattle.tt_core.specs.Limits.{font_limit};
     ghost use Rattle.tt_kern.specs.Feature.{feature_of};
     ghost use Rattle.tt_kern.specs.Kerning.{Tables};
@@ -30,57 +44,89 @@ impl<'a> Model for Kerning<'a> {
 
     ghost Value = { Tables };
 
-    ghost view = { λ k. record { gpos = k.gpos.now; kern = k.kern.now } };
+    ghost view = { λ k. record { gpos = k.gpos; kern = k.kern } };
 
-    ghost invariant = { λ k. (k.feature ≡ feature_of k.gpos.now) × (k.pairs ≡ pairs_of k.gpos.now)
-        × (length k.kern.now ≤ font_limit) };
+    ghost invariant = { λ k. (k.feature ≡ feature_of k.gpos) × (k.pairs ≡ pairs_of k.gpos)
+        × (length k.kern ≤ font_limit) × (k.reads < 10000) };
 }
 
 impl<'a> Kerning<'a> {
     /// Opens both tables, and finds the pair subtables of GPOS. A table that a font lacks is an empty slice; so is a
-    /// table whose record passes the file's end (profile). No defect of either table is an error. Fewer than 10,000
-    /// numbers are read.
+    /// table whose record passes the file's end (profile). No defect of either table is an error. `reads` tells how many
+    /// numbers were read.
     pub fn open(gpos: &'a [u8], kern: &'a [u8]) -> Kerning<'a>
         requires gpos { length gpos.now ≤ font_limit }
         requires kern { length kern.now ≤ font_limit }
         ensures exact { result ≡ record { gpos = gpos.now; kern = kern.now } }
     {
-        let feature = feature_of(gpos);
-        let pairs = pairs_of(gpos, feature);
+        let gpos = Words::new(gpos);
+        let kern = Words::new(kern);
+        let mut reads = Tally::none();
+        let feature = feature_of(&gpos, &mut reads);
+        let pairs = pairs_of(&gpos, feature, &mut reads);
         Kerning {
             gpos,
             kern,
             feature,
             pairs,
+            reads: reads.count(),
         }
     }
 
-    /// A copy, with the pair subtables that were found. The tables' bytes are not copied.
+    /// A copy, with the pair subtables that were found. The tables' bytes are not copied, and no number is read.
     pub fn copy(&self) -> Kerning<'a>
         ensures { result ≡ self.now }
     {
         Kerning {
-            gpos: self.gpos,
-            kern: self.kern,
+            gpos: self.gpos.copy(),
+            kern: self.kern.copy(),
             feature: self.feature,
             pairs: self.pairs.copy(),
+            reads: self.reads,
         }
     }
 
-    /// The kerning of two neighbouring glyphs, in font units: how much farther the second stands. At most 5,120 numbers
-    /// are read.
+    /// The count of numbers that `open` read from GPOS.
+    pub fn reads(&self) -> u32
+        ensures few { result < 10000 }
+    {
+        self.reads
+    }
+
+    fn value(&self, left: u16, right: u16, reads: &mut Tally) -> i32
+        requires { reads.old + 5120 < 2 ^ 32 }
+        ensures exact { result ≡ kerning self.now left right }
+        ensures bound { unsigned_abs result ≤ 2 ^ 20 }
+        ensures few { reads.new ≤ reads.old + 5120 }
+    {
+        let left = usize::from(left);
+        let right = usize::from(right);
+        match self.feature {
+            Some(_) => pair_sum(&self.gpos, &self.pairs, left, right, reads),
+            None => kern_sum(&self.kern, left, right, reads),
+        }
+    }
+
+    /// The kerning of two neighbouring glyphs, and the count of numbers that were read.
+    pub fn look_up(&self, left: u16, right: u16) -> PairKerning
+        ensures exact { result.value ≡ kerning self.now left right }
+        ensures bound { unsigned_abs result.value ≤ 2 ^ 20 }
+        ensures few { result.reads ≤ 5120 }
+    {
+        let mut reads = Tally::none();
+        let value = self.value(left, right, &mut reads);
+        PairKerning {
+            value,
+            reads: reads.count(),
+        }
+    }
+
+    /// The kerning of two neighbouring glyphs, in font units: how much farther the second stands. `look_up` also tells
+    /// how many numbers were read.
     pub fn kerning(&self, left: u16, right: u16) -> i32
         ensures exact { result ≡ kerning self.now left right }
         ensures bound { unsigned_abs result ≤ 2 ^ 20 }
     {
-        match self.feature {
-            Some(_) => pair_sum(
-                self.gpos,
-                &self.pairs,
-                usize::from(left),
-                usize::from(right),
-            ),
-            None => kern_sum(self.kern, usize::from(left), usize::from(right)),
-        }
+        self.look_up(left, right).value
     }
 }

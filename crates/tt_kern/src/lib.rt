@@ -12,4 +12,4 @@ mod search;
 mod sum;
 mod words;
 
-pub use kerning::Kerning;
+pub use kerning::{Kerning, PairKerning};

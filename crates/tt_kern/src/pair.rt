@@ -4,8 +4,9 @@ ghost use Rattle.std.specs.Prelude.{◌≡◌, ◌+◌, ◌^◌, ◌<◌, ◌≤
 ghost use Rattle.tt_kern.specs.Pair.{bits, values_size, advance_at, value_in_set, value_by_sets, value_by_classes, pair_value};
 
 use crate::coverage::{class_of, coverage_index};
-use crate::search::{KeySize, find};
-use crate::words::{product, signed, word};
+use crate::kerning::tally::Tally;
+use crate::search::{KeySize, Keys, find};
+use crate::words::{Words, product};
 
 /// The count of bits that are set in the low byte.
 fn bits(format: usize) -> usize
@@ -23,90 +24,141 @@ fn bits(format: usize) -> usize
 }
 
 /// The bytes of the values of two glyphs, each value two bytes.
-fn values_size(bytes: &[u8], at: usize) -> usize
+fn values_size(table: &Words, at: usize, reads: &mut Tally) -> usize
     requires place { at < 2 ^ 34 }
-    ensures exact { result ≡ values_size bytes.now at }
+    requires room { reads.old + 2 < 2 ^ 32 }
+    ensures exact { result ≡ values_size table.now at }
     ensures bound { result ≤ 32 }
+    ensures count { reads.new ≡ reads.old + 2 }
 {
-    2 * bits(word(bytes, at + 4)) + 2 * bits(word(bytes, at + 6))
+    2 * bits(table.word(at + 4, reads)) + 2 * bits(table.word(at + 6, reads))
 }
 
 /// XAdvance of the first glyph, in the values at an offset. It comes after XPlacement and YPlacement.
-fn advance_at(bytes: &[u8], at: usize, values: usize) -> i32
+fn advance_at(table: &Words, at: usize, values: usize, reads: &mut Tally) -> i32
     requires place { at < 2 ^ 34 }
     requires values { values < 2 ^ 50 }
-    ensures exact { result ≡ advance_at bytes.now at values }
+    requires room { reads.old + 2 < 2 ^ 32 }
+    ensures exact { result ≡ advance_at table.now at values }
     ensures bound { unsigned_abs result ≤ 32768 }
+    ensures few { reads.new ≤ reads.old + 2 }
 {
-    let format = word(bytes, at + 4);
+    let format = table.word(at + 4, reads);
     if format / 4 % 2 == 1 {
-        signed(bytes, values + 2 * (format % 2 + format / 2 % 2))
+        table.signed(values + 2 * (format % 2 + format / 2 % 2), reads)
     } else {
         0
     }
 }
 
 /// The value by a set of second glyphs, if it has the glyph.
-fn value_in_set(bytes: &[u8], at: usize, set: usize, right: usize) -> Option<i32>
+fn value_in_set(
+    table: &Words,
+    at: usize,
+    set: usize,
+    right: usize,
+    reads: &mut Tally,
+) -> Option<i32>
     requires place { at < 2 ^ 34 }
     requires set { set < 2 ^ 35 }
-    ensures exact { result ≡ value_in_set bytes.now at set right }
+    requires room { reads.old + 22 < 2 ^ 32 }
+    ensures exact { result ≡ value_in_set table.now at set right }
     ensures bound { IfSome result (λ v. unsigned_abs v ≤ 32768) }
+    ensures few { reads.new ≤ reads.old + 22 }
 {
-    let step = 2 + values_size(bytes, at);
-    match find(bytes, KeySize::Word, set + 2, step, word(bytes, set), right) {
-        Some(i) => Some(advance_at(bytes, at, set + 2 + product(step, i) + 2)),
+    let step = 2 + values_size(table, at, reads);
+    let keys = Keys {
+        size: KeySize::Word,
+        at: set + 2,
+        step,
+        count: table.word(set, reads),
+    };
+    match find(table, keys, right, reads) {
+        Some(i) => {
+            let values = set + 2 + product(step, i) + 2;
+            Some(advance_at(table, at, values, reads))
+        }
         None => None,
     }
 }
 
 /// Format 1: the value by the set of the first glyph.
-fn value_by_sets(bytes: &[u8], at: usize, index: usize, right: usize) -> Option<i32>
+fn value_by_sets(
+    table: &Words,
+    at: usize,
+    index: usize,
+    right: usize,
+    reads: &mut Tally,
+) -> Option<i32>
     requires place { at < 2 ^ 34 }
     requires index { index < 2 ^ 17 }
-    ensures exact { result ≡ value_by_sets bytes.now at index right }
+    requires room { reads.old + 24 < 2 ^ 32 }
+    ensures exact { result ≡ value_by_sets table.now at index right }
     ensures bound { IfSome result (λ v. unsigned_abs v ≤ 32768) }
+    ensures few { reads.new ≤ reads.old + 24 }
 {
-    if index < word(bytes, at + 8) {
-        value_in_set(bytes, at, at + word(bytes, at + 10 + 2 * index), right)
+    if index < table.word(at + 8, reads) {
+        let set = at + table.word(at + 10 + 2 * index, reads);
+        value_in_set(table, at, set, right, reads)
     } else {
         None
     }
 }
 
 /// Format 2: the value by the classes of both glyphs.
-fn value_by_classes(bytes: &[u8], at: usize, left: usize, right: usize) -> Option<i32>
+fn value_by_classes(
+    table: &Words,
+    at: usize,
+    left: usize,
+    right: usize,
+    reads: &mut Tally,
+) -> Option<i32>
     requires place { at < 2 ^ 34 }
     requires left { left < 65536 }
     requires right { right < 65536 }
-    ensures exact { result ≡ value_by_classes bytes.now at left right }
+    requires room { reads.old + 48 < 2 ^ 32 }
+    ensures exact { result ≡ value_by_classes table.now at left right }
     ensures bound { IfSome result (λ v. unsigned_abs v ≤ 32768) }
+    ensures few { reads.new ≤ reads.old + 48 }
 {
-    let first = class_of(bytes, at + word(bytes, at + 8), left);
-    let second = class_of(bytes, at + word(bytes, at + 10), right);
-    let count = word(bytes, at + 14);
-    if first < word(bytes, at + 12) && second < count {
+    let first_classes = at + table.word(at + 8, reads);
+    let first = class_of(table, first_classes, left, reads);
+    let second_classes = at + table.word(at + 10, reads);
+    let second = class_of(table, second_classes, right, reads);
+    let first_count = table.word(at + 12, reads);
+    let count = table.word(at + 14, reads);
+    if first < first_count && second < count {
         let record = product(first, count) + second;
-        Some(advance_at(bytes, at, at + 16 + product(values_size(bytes, at), record)))
+        let values = at + 16 + product(values_size(table, at, reads), record);
+        Some(advance_at(table, at, values, reads))
     } else {
         None
     }
 }
 
-/// The value of two glyphs by the subtable at an offset, if the subtable applies.
-pub(crate) fn pair_value(bytes: &[u8], at: usize, left: usize, right: usize) -> Option<i32>
+/// The value of two glyphs by the subtable at an offset, if the subtable applies. At most 71 numbers are read.
+pub(crate) fn pair_value(
+    table: &Words,
+    at: usize,
+    left: usize,
+    right: usize,
+    reads: &mut Tally,
+) -> Option<i32>
     requires place { at < 2 ^ 34 }
     requires left { left < 65536 }
     requires right { right < 65536 }
-    ensures exact { result ≡ pair_value bytes.now at left right }
+    requires room { reads.old + 71 < 2 ^ 32 }
+    ensures exact { result ≡ pair_value table.now at left right }
     ensures bound { IfSome result (λ v. unsigned_abs v ≤ 32768) }
+    ensures few { reads.new ≤ reads.old + 71 }
 {
-    let Some(index) = coverage_index(bytes, at + word(bytes, at + 2), left) else {
+    let coverage = at + table.word(at + 2, reads);
+    let Some(index) = coverage_index(table, coverage, left, reads) else {
         return None;
     };
-    match word(bytes, at) {
-        1 => value_by_sets(bytes, at, index, right),
-        2 => value_by_classes(bytes, at, left, right),
+    match table.word(at, reads) {
+        1 => value_by_sets(table, at, index, right, reads),
+        2 => value_by_classes(table, at, left, right, reads),
         _ => None,
     }
 }

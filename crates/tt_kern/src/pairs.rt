@@ -9,111 +9,134 @@ pub(crate) mod list;
 mod numbers;
 
 use crate::feature::looked_at;
-use crate::words::{long, word};
+use crate::kerning::tally::Tally;
+use crate::words::Words;
 use list::{PairList, PairSubtable};
 use numbers::Numbers;
 
 /// The numbers of lookups that a feature lists, at most 256 (profile).
-fn listed_by(bytes: &[u8], feature: usize) -> Numbers
-    requires { feature < 2 ^ 20 }
-    ensures { result ≡ listed_by bytes.now feature }
+fn listed_by(table: &Words, feature: usize, reads: &mut Tally) -> Numbers
+    requires feature { feature < 2 ^ 20 }
+    requires room { reads.old + 257 < 2 ^ 32 }
+    ensures exact { result ≡ listed_by table.now feature }
+    ensures few { reads.new ≤ reads.old + 257 }
 {
     let mut numbers = Numbers::new();
-    for i in 0..looked_at(word(bytes, feature + 2)) {
-        numbers.push(word(bytes, feature + 4 + 2 * i));
+    for i in 0..looked_at(table.word(feature + 2, reads)) {
+        numbers.push(table.word(feature + 4 + 2 * i, reads));
     }
     numbers
 }
 
 /// The offset of a lookup by number.
-fn lookup_place(bytes: &[u8], number: usize) -> usize
-    requires { number < 65536 }
-    ensures exact { result ≡ lookup_place bytes.now number }
+fn lookup_place(table: &Words, number: usize, reads: &mut Tally) -> usize
+    requires number { number < 65536 }
+    requires room { reads.old + 2 < 2 ^ 32 }
+    ensures exact { result ≡ lookup_place table.now number }
     ensures bound { result < 131072 }
+    ensures count { reads.new ≡ reads.old + 2 }
 {
-    let list = word(bytes, 8);
-    list + word(bytes, list + 2 + 2 * number)
+    let list = table.word(8, reads);
+    list + table.word(list + 2 + 2 * number, reads)
 }
 
 /// The subtable of an extension, if that is a pair subtable.
-fn extended(bytes: &[u8], at: usize) -> Option<usize>
-    requires { at < 2 ^ 20 }
-    ensures exact { result ≡ extended bytes.now at }
+fn extended(table: &Words, at: usize, reads: &mut Tally) -> Option<usize>
+    requires place { at < 2 ^ 20 }
+    requires room { reads.old + 3 < 2 ^ 32 }
+    ensures exact { result ≡ extended table.now at }
     ensures near { IfSome result (λ p. p < 2 ^ 33) }
+    ensures few { reads.new ≤ reads.old + 3 }
 {
-    if word(bytes, at) == 1 && word(bytes, at + 2) == 2 {
-        Some(at + long(bytes, at + 4))
+    let format = table.word(at, reads);
+    let lookup_type = table.word(at + 2, reads);
+    if format == 1 && lookup_type == 2 {
+        Some(at + table.long(at + 4, reads))
     } else {
         None
     }
 }
 
 /// By its lookup's type, the offset of a subtable as that of a pair subtable.
-fn pair_place(bytes: &[u8], lookup_type: usize, at: usize) -> Option<usize>
-    requires { at < 2 ^ 20 }
-    ensures exact { result ≡ pair_place_by lookup_type bytes.now at }
+fn pair_place(table: &Words, lookup_type: usize, at: usize, reads: &mut Tally) -> Option<usize>
+    requires place { at < 2 ^ 20 }
+    requires room { reads.old + 3 < 2 ^ 32 }
+    ensures exact { result ≡ pair_place_by lookup_type table.now at }
     ensures near { IfSome result (λ p. p < 2 ^ 33) }
+    ensures few { reads.new ≤ reads.old + 3 }
 {
     match lookup_type {
         2 => Some(at),
-        9 => extended(bytes, at),
+        9 => extended(table, at, reads),
         _ => None,
     }
 }
 
 /// The count of a lookup's subtables that are looked at, at most 64 (profile).
-fn subtable_count(bytes: &[u8], lookup: usize) -> usize
-    requires { lookup < 131072 }
-    ensures exact { result ≡ subtable_count bytes.now lookup }
+fn subtable_count(table: &Words, lookup: usize, reads: &mut Tally) -> usize
+    requires lookup { lookup < 131072 }
+    requires room { reads.old + 1 < 2 ^ 32 }
+    ensures exact { result ≡ subtable_count table.now lookup }
     ensures bound { result ≤ 64 }
+    ensures count { reads.new ≡ reads.old + 1 }
 {
-    let count = word(bytes, lookup + 4);
+    let count = table.word(lookup + 4, reads);
     if count > 64 { 64 } else { count }
 }
 
-/// Notes the pair subtables of the lookup at an offset.
-fn note_lookup(bytes: &[u8], i: usize, lookup: usize, pairs: &mut PairList)
+/// Notes the pair subtables of the lookup at an offset. At most 258 numbers are read: the type, the count, and 4 for each
+/// of 64 subtables.
+fn note_lookup(table: &Words, i: usize, lookup: usize, pairs: &mut PairList, reads: &mut Tally)
     requires number { i < 32 }
     requires lookup { lookup < 131072 }
-    requires few { length pairs.old ≤ 64 }
-    ensures { pairs.new ≡ take 64 (pairs.old ++ pairs_in bytes.now i lookup (subtable_count bytes.now lookup)) }
+    requires listed { length pairs.old ≤ 64 }
+    requires room { reads.old + 258 < 2 ^ 32 }
+    ensures exact { pairs.new ≡ take 64 (pairs.old ++ pairs_in table.now i lookup (subtable_count table.now lookup)) }
+    ensures few { reads.new ≤ reads.old + 258 }
 {
-    let lookup_type = word(bytes, lookup);
-    for k in 0..subtable_count(bytes, lookup) {
-        let subtable = lookup + word(bytes, lookup + 6 + 2 * k);
-        if let Some(at) = pair_place(bytes, lookup_type, subtable) {
+    let lookup_type = table.word(lookup, reads);
+    for k in 0..subtable_count(table, lookup, reads) {
+        let subtable = lookup + table.word(lookup + 6 + 2 * k, reads);
+        if let Some(at) = pair_place(table, lookup_type, subtable, reads) {
             pairs.note(PairSubtable { lookup: i, at });
         }
     }
 }
 
-/// The pair subtables of a feature's lookups, by rising numbers of the lookups.
-fn pairs_by(bytes: &[u8], feature: usize) -> PairList
-    requires { feature < 2 ^ 20 }
-    ensures { result ≡ pairs_by bytes.now (Some feature) }
+/// The pair subtables of a feature's lookups, by rising numbers of the lookups. At most 8,579 numbers are read: 257
+/// numbers of lookups, the count of lookups and its offset, and 260 for each of 32 lookups.
+fn pairs_by(table: &Words, feature: usize, reads: &mut Tally) -> PairList
+    requires feature { feature < 2 ^ 20 }
+    requires room { reads.old + 8579 < 2 ^ 32 }
+    ensures exact { result ≡ pairs_by table.now (Some feature) }
+    ensures few { reads.new ≤ reads.old + 8579 }
 {
     let mut pairs = PairList::new();
-    let numbers = listed_by(bytes, feature);
-    let count = word(bytes, word(bytes, 8));
+    let numbers = listed_by(table, feature, reads);
+    let list = table.word(8, reads);
+    let count = table.word(list, reads);
     let mut low = 0;
     for i in 0..32 {
         let number = numbers.next(low, count);
         if number >= count {
             return pairs;
         }
-        note_lookup(bytes, i, lookup_place(bytes, number), &mut pairs);
+        let lookup = lookup_place(table, number, reads);
+        note_lookup(table, i, lookup, &mut pairs, reads);
         low = number + 1;
     }
     pairs
 }
 
 /// The pair subtables of the feature; none without a feature.
-pub(crate) fn pairs_of(bytes: &[u8], feature: Option<usize>) -> PairList
-    requires { IfSome feature (λ p. p < 2 ^ 20) }
-    ensures { result ≡ pairs_by bytes.now feature }
+pub(crate) fn pairs_of(table: &Words, feature: Option<usize>, reads: &mut Tally) -> PairList
+    requires near { IfSome feature (λ p. p < 2 ^ 20) }
+    requires room { reads.old + 8579 < 2 ^ 32 }
+    ensures exact { result ≡ pairs_by table.now feature }
+    ensures few { reads.new ≤ reads.old + 8579 }
 {
     match feature {
-        Some(feature) => pairs_by(bytes, feature),
+        Some(feature) => pairs_by(table, feature, reads),
         None => PairList::new(),
     }
 }

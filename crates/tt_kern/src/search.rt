@@ -1,10 +1,11 @@
 //! The binary search for a key in a list of records.
 
 ghost use Rattle.std.specs.Prelude.{◌≡◌, ◌+◌, ◌*◌, ◌^◌, ◌<◌, ◌≤◌, IfSome};
-ghost use Rattle.tt_kern.specs.Halves.{reached};
+ghost use Rattle.tt_kern.specs.Halves.{asked, reached};
 ghost use Rattle.tt_kern.specs.Search.{key_at, is_at_least, found};
 
-use crate::words::{long, product, word};
+use crate::kerning::tally::Tally;
+use crate::words::{Words, product};
 
 /// The size of a key.
 #[derive(Clone, Copy)]
@@ -15,36 +16,44 @@ pub(crate) enum KeySize {
     Long,
 }
 
-fn key_at(bytes: &[u8], size: KeySize, at: usize) -> usize
-    ensures { result ≡ key_at size bytes.now at }
+/// The keys of a list of records: their size, the offset of the first, the bytes from each to the next, and their count.
+/// Their order is not tested.
+#[derive(Clone, Copy)]
+pub(crate) struct Keys {
+    pub(crate) size: KeySize,
+    pub(crate) at: usize,
+    pub(crate) step: usize,
+    pub(crate) count: usize,
+}
+
+fn key_at(table: &Words, size: KeySize, at: usize, reads: &mut Tally) -> usize
+    requires { reads.old + 1 < 2 ^ 32 }
+    ensures exact { result ≡ key_at size table.now at }
+    ensures count { reads.new ≡ reads.old + 1 }
 {
     match size {
-        KeySize::Word => word(bytes, at),
-        KeySize::Long => long(bytes, at),
+        KeySize::Word => table.word(at, reads),
+        KeySize::Long => table.long(at, reads),
     }
 }
 
-/// The number of the record where a binary search for a key ends, or the count of records. The keys stand every `step`
-/// bytes from `at` on. Their order is not tested.
-pub(crate) fn reach(
-    bytes: &[u8],
-    size: KeySize,
-    at: usize,
-    step: usize,
-    count: usize,
-    key: usize,
-) -> usize
-    requires place { at < 2 ^ 60 }
-    requires step { step < 65536 }
-    requires count { count < 65536 }
-    ensures exact { result ≡ reached count (is_at_least size bytes.now at step key) }
-    ensures bound { result ≤ count }
+/// The number of the record where a binary search for a key ends, or the count of records.
+pub(crate) fn reach(table: &Words, keys: Keys, key: usize, reads: &mut Tally) -> usize
+    requires place { keys.at < 2 ^ 60 }
+    requires step { keys.step < 65536 }
+    requires count { keys.count < 65536 }
+    requires room { reads.old + 16 < 2 ^ 32 }
+    ensures exact { result ≡ reached keys.count (is_at_least keys.size table.now keys.at keys.step key) }
+    ensures bound { result ≤ keys.count }
+    ensures count { reads.new ≡ reads.old + asked keys.count (is_at_least keys.size table.now keys.at keys.step key) }
+    ensures few { reads.new ≤ reads.old + 16 }
 {
     let mut low = 0;
-    let mut high = count;
+    let mut high = keys.count;
     while low < high {
         let middle = low + (high - low) / 2;
-        if key_at(bytes, size, at + product(step, middle)) < key {
+        let place = keys.at + product(keys.step, middle);
+        if key_at(table, keys.size, place, reads) < key {
             low = middle + 1;
         } else {
             high = middle;
@@ -54,22 +63,21 @@ pub(crate) fn reach(
 }
 
 /// The number of the record that a binary search finds for a key.
-pub(crate) fn find(
-    bytes: &[u8],
-    size: KeySize,
-    at: usize,
-    step: usize,
-    count: usize,
-    key: usize,
-) -> Option<usize>
-    requires place { at < 2 ^ 60 }
-    requires step { step < 65536 }
-    requires count { count < 65536 }
-    ensures exact { result ≡ found size bytes.now at step count key }
-    ensures bound { IfSome result (λ i. i < count) }
+pub(crate) fn find(table: &Words, keys: Keys, key: usize, reads: &mut Tally) -> Option<usize>
+    requires place { keys.at < 2 ^ 60 }
+    requires step { keys.step < 65536 }
+    requires count { keys.count < 65536 }
+    requires room { reads.old + 17 < 2 ^ 32 }
+    ensures exact { result ≡ found keys.size table.now keys.at keys.step keys.count key }
+    ensures bound { IfSome result (λ i. i < keys.count) }
+    ensures few { reads.new ≤ reads.old + 17 }
 {
-    let i = reach(bytes, size, at, step, count, key);
-    if i < count && key_at(bytes, size, at + product(step, i)) == key {
+    let i = reach(table, keys, key, reads);
+    if i >= keys.count {
+        return None;
+    }
+    let place = keys.at + product(keys.step, i);
+    if key_at(table, keys.size, place, reads) == key {
         Some(i)
     } else {
         None

@@ -3,11 +3,11 @@ use Rattle.std.proofs.lemmas.Int.{ints, to_z-of_z}
 use Rattle.tt_kern.proofs.KernTable.{short-ends, last-ends, goes-on}
 use Rattle.tt_kern.proofs.kern_table.kern_sum.Goals as goal
 
-pub returns-then-bytes-at-clause-exact : goal.returns-then-bytes-at-clause-exact
-returns-then-bytes-at-clause-exact c =
+pub returns-then-len-at-clause-exact : goal.returns-then-len-at-clause-exact
+returns-then-len-at-clause-exact c =
     let at = c.loop-i in
-    let ends = short-ends c.in-Some.version c.args.bytes.now c.args.left c.args.right (to_z w32 at.total-bits)
-    c.count_taken-i-end.result at.i at.at c.loop-i-test.true c.if-bytes-at.true in
+    let ends = short-ends c.in-Some.version c.args.table.now c.args.left c.args.right (to_z w32 at.total-bits)
+    c.count_taken-i-end.result at.i at.at c.loop-i-test.true (rw c.len.ensures at c.if-len-at.true) in
     sym ends ∙ at.invariant.left
 
 pub returns-then-length-header_size-clause-exact : goal.returns-then-length-header_size-clause-exact
@@ -17,8 +17,8 @@ returns-then-length-header_size-clause-exact c =
     let fits : SFits w32 c.after_subtable-total.result = omega (arith, ints, bound, at.invariant.bound, at.invariant.few, c.loop-i-test.true) in
     let same : to_z w32 (of_z w32 c.after_subtable-total.result) ≡ c.after_subtable-total.result = simp to_z-of_z refl in
     let short = rw (c.length_told-length.ensures.exact, c.header_size.ensures.exact) at c.if-length-header_size.true in
-    let ends = last-ends c.in-Some.version c.args.bytes.now c.args.left c.args.right (to_z w32 at.total-bits)
-    c.count_taken-i-end.result at.i at.at c.loop-i-test.true c.if-bytes-at.false short in
+    let ends = last-ends c.in-Some.version c.args.table.now c.args.left c.args.right (to_z w32 at.total-bits)
+    c.count_taken-i-end.result at.i at.at c.loop-i-test.true (rw c.len.ensures at c.if-len-at.false) short in
     rw (same, c.after_subtable-total.ensures.exact) (sym ends ∙ at.invariant.left)
 
 pub loop-i-preserved : goal.loop-i-preserved
@@ -28,11 +28,12 @@ loop-i-preserved c =
     let fits : SFits w32 c.after_subtable-total.result = omega (arith, ints, bound, at.invariant.bound, at.invariant.few, c.loop-i-test.true) in
     let same : to_z w32 (of_z w32 c.after_subtable-total.result) ≡ c.after_subtable-total.result = simp to_z-of_z refl in
     let long = rw (c.length_told-length.ensures.exact, c.header_size.ensures.exact) at c.if-length-header_size.false in
-    let next = goes-on c.in-Some.version c.args.bytes.now c.args.left c.args.right (to_z w32 at.total-bits)
-    c.count_taken-i-end.result at.i at.at c.loop-i-test.true c.if-bytes-at.false long in
+    let next = goes-on c.in-Some.version c.args.table.now c.args.left c.args.right (to_z w32 at.total-bits)
+    c.count_taken-i-end.result at.i at.at c.loop-i-test.true (rw c.len.ensures at c.if-len-at.false) long in
     record {
       left = rw (same, c.after_subtable-total.ensures.exact, c.length_told-length.ensures.exact) (sym next ∙ at.invariant.left);
       few = at.invariant.few;
       bound = rw same (omega (arith, bound, at.invariant.bound));
-      near = omega (arith, c.if-bytes-at.false, c.requires.size, c.length_told-length.ensures.bound);
+      near = omega (arith, c.if-len-at.false, c.len.ensures, c.requires.size, c.length_told-length.ensures.bound);
+      read = omega (arith, at.invariant.read, c.after_subtable-total.ensures.few, c.length_told-length.ensures.count);
     }

@@ -7,32 +7,35 @@ use Rattle.tt_kern.proofs.pairs.note_lookup.Goals as goal
 
 pub loop-k-init : goal.loop-k-init
 loop-k-init c = record {
-  noted = sym (kept 64 c.args.pairs.now c.requires.few);
+  noted = sym (kept 64 c.args.pairs.now c.requires.listed);
   few = c.subtable_count-k-end.ensures.bound;
+  read = omega (arith, c.word-lookup_type.ensures.count, c.subtable_count-k-end.ensures.count);
 }
 
 pub loop-k-preserved : goal.loop-k-preserved
 loop-k-preserved c =
     let at = c.loop-k in
-    let place : c.pair_place.result ≡ pair_place c.args.bytes.now c.args.lookup at.k
+    let place : c.pair_place.result ≡ pair_place c.args.table.now c.args.lookup at.k
     = rw (c.word-lookup_type.ensures.exact, c.word.ensures.exact) at c.pair_place.ensures.exact in
     elim c.match-pair_place.branch [
       | in-Some w ↦
           let there = sym place ∙ w.in-Some.is in
           record {
-            noted = rw w.pairs-is (w.note.ensures ∙ one-more c.args.bytes.now c.args.i c.args.lookup at.k w.in-Some.at c.args.pairs.now at.pairs at.invariant.noted there);
+            noted = rw w.pairs-is (w.note.ensures ∙ one-more c.args.table.now c.args.i c.args.lookup at.k w.in-Some.at c.args.pairs.now at.pairs at.invariant.noted there);
             few = at.invariant.few;
+            read = omega (arith, at.invariant.read, c.word.ensures.count, c.pair_place.ensures.few);
           }
       | in_default w ↦
           let there = sym place ∙ w.in_default.is in
           record {
-            noted = rw w.pairs-is (none-more c.args.bytes.now c.args.i c.args.lookup at.k c.args.pairs.now at.pairs at.invariant.noted there);
+            noted = rw w.pairs-is (none-more c.args.table.now c.args.i c.args.lookup at.k c.args.pairs.now at.pairs at.invariant.noted there);
             few = at.invariant.few;
+            read = omega (arith, at.invariant.read, c.word.ensures.count, c.pair_place.ensures.few);
           }
     ]
 
-pub returns : goal.returns
-returns c =
+pub returns-clause-exact : goal.returns-clause-exact
+returns-clause-exact c =
     let at = c.loop-k in
     let end : at.k ≡ c.subtable_count-k-end.result = omega (arith, c.loop-k-test.false, at.auto.k-end) in
     rw (← c.subtable_count-k-end.ensures.exact, ← end) at.invariant.noted

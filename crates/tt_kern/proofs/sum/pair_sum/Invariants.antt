@@ -1,4 +1,4 @@
-use Rattle.std.proofs.Common.{◌≡◌, ◌*◌, ◌≤◌, drop}
+use Rattle.std.proofs.Common.{◌≡◌, ◌+◌, ◌*◌, ◌≤◌, drop}
 use Rattle.std.specs.Prelude.{◌+ℤ◌, unsigned_abs}
 use Rattle.tt_kern.specs.Listed.{sum_from}
 use Rattle.tt_kern.proofs.sum.pair_sum.Given as goal
@@ -10,4 +10,6 @@ invariant-loop-i l = record {
       ≡ sum_from l.gpos l.left l.right 0 l.pairs;
   total : unsigned_abs l.so_far.total ≤ 32768 * l.so_far.ended;
   ended : l.so_far.ended ≤ 32;
+  few : l.i-end ≤ 64;
+  read : l.reads ≤ l.fn.reads + 71 * l.i;
 }
