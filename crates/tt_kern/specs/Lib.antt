@@ -7,6 +7,7 @@ pub mod Laws
 pub mod Listed
 pub mod Pair
 pub mod Pairs
+pub mod Reads
 pub mod Rows
 pub mod Search
 pub mod Words

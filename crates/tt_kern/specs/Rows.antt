@@ -2,10 +2,12 @@
 -- for the same fonts.
 use Rattle.std.specs.Prelude.{◌≡◌, refl, ℕ, List, [], ◌∷◌, ◌++◌, ℤ, pos, negsuc}
 use Rattle.tt_kern.specs.Feature.{feature_of}
-use Rattle.tt_kern.specs.Halves.{reached_within}
+use Rattle.tt_kern.specs.Halves.{asked_within, reached_within}
 use Rattle.tt_kern.specs.Kerning.{Tables, kerning}
 use Rattle.tt_kern.specs.KernTable.{kern_sum}
+use Rattle.tt_kern.specs.Listed.{pairs_of}
 use Rattle.tt_kern.specs.Pairs.{subtables_of}
+use Rattle.tt_kern.specs.Reads.{range_reads, coverage_reads, class_reads, set_reads, by_classes_reads, pair_reads, subtable_reads, kern_reads, reads_of, feature_reads, opening_reads}
 use Rattle.tt_kern.specs.Words.{word, long}
 
 abbrev by_tables : List ℕ → List ℕ → ℤ
@@ -209,3 +211,32 @@ two_lookups =
 of_both : by_tables two_lookups [] ≡ negsuc 191
 unfolding word long feature_of subtables_of kern_sum reached_within
 of_both = refl
+
+-- the counts of numbers that are read, by hand: without tables, by a pair of kern, by a set and by classes
+abbrev reads_by_tables : List ℕ → List ℕ → ℕ
+reads_by_tables gpos kern = reads_of (record { gpos = gpos; kern = kern }) 1 1
+
+reads_without_tables : reads_by_tables [] [] ≡ 2
+unfolding word long feature_of kern_reads subtable_reads asked_within reached_within
+reads_without_tables = refl
+
+reads_of_kern : reads_by_tables [] (one_pair 0 1 0xFF 0xC0) ≡ 9
+unfolding word long feature_of kern_reads subtable_reads asked_within reached_within
+reads_of_kern = refl
+
+reads_of_a_set : reads_by_tables (gpos_with (one_subtable (sets 0 18 4 0xFF 0xC0))) [] ≡ 15
+unfolding word long feature_of pairs_of pair_reads coverage_reads set_reads asked_within reached_within
+reads_of_a_set = refl
+
+reads_of_classes : reads_by_tables (gpos_with (one_subtable classes)) [] ≡ 24
+unfolding word long feature_of pairs_of pair_reads coverage_reads class_reads by_classes_reads range_reads asked_within reached_within
+reads_of_classes = refl
+
+-- opening: without tables, and with one lookup
+opens_without_tables : opening_reads [] ≡ 4
+unfolding word long feature_of feature_reads opening_reads
+opens_without_tables = refl
+
+opens_one_lookup : opening_reads (gpos_with (one_subtable (sets 0 18 4 0xFF 0xC0))) ≡ 26
+unfolding word long feature_of feature_reads opening_reads
+opens_one_lookup = refl

@@ -2,6 +2,7 @@
 
 ghost use Rattle.std.specs.Prelude.{◌≡◌, ◌+◌, ◌^◌, ◌<◌, ◌≤◌, IfSome};
 ghost use Rattle.tt_kern.specs.Words.{word};
+ghost use Rattle.tt_kern.specs.Reads.{if_some, range_reads, coverage_reads, listed_reads, class_reads};
 ghost use Rattle.tt_kern.specs.Coverage.{range_of, ranged_index, coverage_index, listed_class, ranged_class, class_of};
 
 use crate::kerning::tally::Tally;
@@ -9,12 +10,14 @@ use crate::search::{KeySize, Keys, find, reach};
 use crate::words::Words;
 
 /// The offset of a glyph's range: its first glyph, its last glyph and a number.
+#[tactic(auto, unfolding(crate::specs::Reads::range_reads))]
 fn range_of(table: &Words, at: usize, glyph: usize, reads: &mut Tally) -> Option<usize>
     requires place { at < 2 ^ 50 }
     requires room { reads.old + 18 < 2 ^ 32 }
     ensures exact { result ≡ range_of table.now at glyph }
     ensures near { IfSome result (λ p. p < 2 ^ 51) }
     ensures from { IfSome result (λ p. word table.now p ≤ glyph) }
+    ensures count { reads.new ≡ reads.old + range_reads table.now at glyph }
     ensures few { reads.new ≤ reads.old + 18 }
 {
     let keys = Keys {
@@ -41,6 +44,7 @@ fn ranged_index(table: &Words, at: usize, glyph: usize, reads: &mut Tally) -> Op
     requires room { reads.old + 20 < 2 ^ 32 }
     ensures exact { result ≡ ranged_index table.now glyph (range_of table.now at glyph) }
     ensures bound { IfSome result (λ i. i < 2 ^ 17) }
+    ensures count { reads.new ≡ reads.old + range_reads table.now at glyph + if_some (range_of table.now at glyph) 2 }
     ensures few { reads.new ≤ reads.old + 20 }
 {
     match range_of(table, at, glyph, reads) {
@@ -53,6 +57,7 @@ fn ranged_index(table: &Words, at: usize, glyph: usize, reads: &mut Tally) -> Op
 }
 
 /// The index of a glyph in the coverage at an offset.
+#[tactic(auto, unfolding(crate::specs::Reads::coverage_reads))]
 pub(crate) fn coverage_index(
     table: &Words,
     at: usize,
@@ -64,6 +69,7 @@ pub(crate) fn coverage_index(
     requires room { reads.old + 21 < 2 ^ 32 }
     ensures exact { result ≡ coverage_index table.now at glyph }
     ensures bound { IfSome result (λ i. i < 2 ^ 17) }
+    ensures count { reads.new ≡ reads.old + coverage_reads table.now at glyph }
     ensures few { reads.new ≤ reads.old + 21 }
 {
     match table.word(at, reads) {
@@ -87,6 +93,7 @@ fn listed_class(table: &Words, at: usize, glyph: usize, reads: &mut Tally) -> us
     requires room { reads.old + 3 < 2 ^ 32 }
     ensures exact { result ≡ listed_class table.now at glyph }
     ensures bound { result < 65536 }
+    ensures count { reads.new ≡ reads.old + listed_reads table.now at glyph }
     ensures few { reads.new ≤ reads.old + 3 }
 {
     let first = table.word(at + 2, reads);
@@ -103,6 +110,7 @@ fn ranged_class(table: &Words, at: usize, glyph: usize, reads: &mut Tally) -> us
     requires room { reads.old + 19 < 2 ^ 32 }
     ensures exact { result ≡ ranged_class table.now (range_of table.now at glyph) }
     ensures bound { result < 65536 }
+    ensures count { reads.new ≡ reads.old + range_reads table.now at glyph + if_some (range_of table.now at glyph) 1 }
     ensures few { reads.new ≤ reads.old + 19 }
 {
     match range_of(table, at, glyph, reads) {
@@ -112,12 +120,14 @@ fn ranged_class(table: &Words, at: usize, glyph: usize, reads: &mut Tally) -> us
 }
 
 /// The class of a glyph by the class definition at an offset. A glyph of no list and no range has class 0.
+#[tactic(auto, unfolding(crate::specs::Reads::class_reads))]
 pub(crate) fn class_of(table: &Words, at: usize, glyph: usize, reads: &mut Tally) -> usize
     requires place { at < 2 ^ 50 }
     requires glyph { glyph < 65536 }
     requires room { reads.old + 20 < 2 ^ 32 }
     ensures exact { result ≡ class_of table.now at glyph }
     ensures bound { result < 65536 }
+    ensures count { reads.new ≡ reads.old + class_reads table.now at glyph }
     ensures few { reads.new ≤ reads.old + 20 }
 {
     match table.word(at, reads) {

@@ -4,6 +4,7 @@ ghost use Rattle.std.specs.Prelude.{◌≡◌, ◌+◌, ◌^◌, ◌<◌, ◌≤
 ghost use Rattle.tt_core.specs.Search.{first_below};
 ghost use Rattle.tt_kern.specs.Words.{word, long};
 ghost use Rattle.tt_kern.specs.Feature.{looked_at, offset_from, has_tag, record_offset, script_with, script_of, language_in, is_kern_of, feature_in, has_lists, feature_of};
+ghost use Rattle.tt_kern.specs.Reads.{script_reads, scripts_reads, language_reads, features_reads, feature_reads};
 
 use crate::kerning::tally::Tally;
 use crate::words::Words;
@@ -64,6 +65,7 @@ fn script_with(table: &Words, list: usize, tag: usize, reads: &mut Tally) -> Opt
     requires room { reads.old + 258 < 2 ^ 32 }
     ensures exact { result ≡ script_with table.now list tag }
     ensures near { IfSome result (λ p. p < 131072) }
+    ensures count { reads.new ≡ reads.old + script_reads table.now list tag }
     ensures few { reads.new ≤ reads.old + 258 }
 {
     let count = looked_at(table.word(list, reads));
@@ -80,6 +82,7 @@ fn script_of(table: &Words, reads: &mut Tally) -> Option<usize>
     requires { reads.old + 517 < 2 ^ 32 }
     ensures exact { result ≡ script_of table.now }
     ensures near { IfSome result (λ p. p < 131072) }
+    ensures count { reads.new ≡ reads.old + scripts_reads table.now }
     ensures few { reads.new ≤ reads.old + 517 }
 {
     let list = table.word(4, reads);
@@ -94,6 +97,7 @@ fn language_of(table: &Words, reads: &mut Tally) -> Option<usize>
     requires { reads.old + 518 < 2 ^ 32 }
     ensures exact { result ≡ language_in table.now (script_of table.now) }
     ensures near { IfSome result (λ p. p < 196608) }
+    ensures count { reads.new ≡ reads.old + language_reads table.now }
     ensures few { reads.new ≤ reads.old + 518 }
 {
     match script_of(table, reads) {
@@ -122,6 +126,7 @@ fn feature_in(table: &Words, language: usize, reads: &mut Tally) -> Option<usize
     requires room { reads.old + 516 < 2 ^ 32 }
     ensures exact { result ≡ feature_in table.now (Some language) }
     ensures near { IfSome result (λ p. p < 131072) }
+    ensures count { reads.new ≡ reads.old + features_reads table.now (Some language) }
     ensures few { reads.new ≤ reads.old + 516 }
 {
     let list = table.word(6, reads);
@@ -150,11 +155,12 @@ fn has_lists(table: &Words, reads: &mut Tally) -> bool
 }
 
 /// The offset of the feature kern in GPOS. At most 1,038 numbers are read.
-#[tactic(auto, unfolding(crate::specs::Feature::feature_of))]
+#[tactic(auto, unfolding(crate::specs::Feature::feature_of, crate::specs::Reads::feature_reads))]
 pub(crate) fn feature_of(table: &Words, reads: &mut Tally) -> Option<usize>
     requires { reads.old + 1038 < 2 ^ 32 }
     ensures exact { result ≡ feature_of table.now }
     ensures near { IfSome result (λ p. p < 131072) }
+    ensures count { reads.new ≡ reads.old + feature_reads table.now }
     ensures few { reads.new ≤ reads.old + 1038 }
 {
     if !has_lists(table, reads) {

@@ -1,12 +1,14 @@
 //! The table kern: pairs of glyphs in subtables of format 0. OpenType, "kern: Kerning". Apple TrueType Reference Manual,
 //! "The 'kern' table".
 
-ghost use Rattle.std.specs.Prelude.{◌≡◌, ◌+◌, ◌*◌, ◌^◌, ◌<◌, ◌≤◌, length, IfSome, unsigned_abs};
+ghost use Rattle.std.specs.Prelude.{◌≡◌, ◌+◌, ◌*◌, ◌^◌, ◌<◌, ◌≤◌, length, IfSome, unsigned_abs, ◌==◌, if◌then◌else◌};
 ghost use Rattle.tt_core.specs.Limits.{font_limit};
+ghost use Rattle.tt_kern.specs.Reads.{overrides_reads, value_reads, subtable_reads, kern_reads};
 ghost use Rattle.tt_kern.specs.Words.{word};
 ghost use Rattle.tt_kern.specs.KernTable.{version_of, list_place, count_told, count_taken, header_size, length_told, is_usable, overrides, pair_count, value_in, after_subtable, kern_sum};
 
 use crate::kerning::tally::Tally;
+use crate::pair::GlyphPair;
 use crate::search::{KeySize, Keys, find};
 use crate::words::Words;
 
@@ -22,6 +24,7 @@ pub(crate) enum KernVersion {
 fn version_of(table: &Words, reads: &mut Tally) -> Option<KernVersion>
     requires { reads.old + 2 < 2 ^ 32 }
     ensures exact { result ≡ version_of table.now }
+    ensures count { reads.new ≡ reads.old + (if word table.now 0 == 0 then 1 else 2) }
     ensures few { reads.new ≤ reads.old + 2 }
 {
     if table.word(0, reads) == 0 {
@@ -45,7 +48,7 @@ fn list_place(version: KernVersion) -> usize
     }
 }
 
-/// The count of subtables, as the table tells it.
+/// The count of subtables in the header.
 fn count_told(version: KernVersion, table: &Words, reads: &mut Tally) -> usize
     requires { reads.old + 1 < 2 ^ 32 }
     ensures exact { result ≡ count_told version table.now }
@@ -111,6 +114,7 @@ fn overrides(version: KernVersion, table: &Words, at: usize, reads: &mut Tally) 
     requires place { at < 2 ^ 34 }
     requires room { reads.old + 1 < 2 ^ 32 }
     ensures exact { result ≡ overrides version table.now at }
+    ensures count { reads.new ≡ reads.old + overrides_reads version }
     ensures few { reads.new ≤ reads.old + 1 }
 {
     match version {
@@ -137,16 +141,14 @@ fn value_in(
     version: KernVersion,
     table: &Words,
     at: usize,
-    left: usize,
-    right: usize,
+    glyphs: GlyphPair,
     reads: &mut Tally,
 ) -> Option<i32>
     requires place { at < 2 ^ 34 }
-    requires left { left < 65536 }
-    requires right { right < 65536 }
     requires room { reads.old + 19 < 2 ^ 32 }
-    ensures exact { result ≡ value_in version table.now at left right }
+    ensures exact { result ≡ value_in version table.now at glyphs.left glyphs.right }
     ensures bound { IfSome result (λ v. unsigned_abs v ≤ 32768) }
+    ensures count { reads.new ≡ reads.old + value_reads version table.now at glyphs.left glyphs.right }
     ensures few { reads.new ≤ reads.old + 19 }
 {
     let pairs = at + header_size(version) + 8;
@@ -156,6 +158,8 @@ fn value_in(
         step: 6,
         count: pair_count(version, table, at, reads),
     };
+    let left = usize::from(glyphs.left);
+    let right = usize::from(glyphs.right);
     match find(table, keys, 65536 * left + right, reads) {
         Some(i) => Some(table.signed(pairs + 6 * i + 4, reads)),
         None => None,
@@ -163,28 +167,27 @@ fn value_in(
 }
 
 /// The sum after a subtable. At most 21 numbers are read.
+#[tactic(auto, unfolding(crate::specs::Reads::subtable_reads))]
 fn after_subtable(
     version: KernVersion,
     table: &Words,
-    left: usize,
-    right: usize,
+    glyphs: GlyphPair,
     total: i32,
     at: usize,
     reads: &mut Tally,
 ) -> i32
-    requires left { left < 65536 }
-    requires right { right < 65536 }
     requires total { unsigned_abs total ≤ 2 ^ 20 }
     requires place { at < 2 ^ 34 }
     requires room { reads.old + 21 < 2 ^ 32 }
-    ensures exact { result ≡ after_subtable version table.now left right total at }
+    ensures exact { result ≡ after_subtable version table.now glyphs.left glyphs.right total at }
     ensures bound { unsigned_abs result ≤ unsigned_abs total + 32768 }
+    ensures count { reads.new ≡ reads.old + subtable_reads version table.now glyphs.left glyphs.right at }
     ensures few { reads.new ≤ reads.old + 21 }
 {
     if !is_usable(version, table, at, reads) {
         return total;
     }
-    match value_in(version, table, at, left, right, reads) {
+    match value_in(version, table, at, glyphs, reads) {
         Some(value) => {
             if overrides(version, table, at, reads) {
                 value
@@ -197,14 +200,13 @@ fn after_subtable(
 }
 
 /// The kerning of two glyphs by the table. At most 707 numbers are read: 3 before the subtables, and 22 for each of 32.
-#[tactic(auto, unfolding(crate::specs::KernTable::kern_sum))]
-pub(crate) fn kern_sum(table: &Words, left: usize, right: usize, reads: &mut Tally) -> i32
+#[tactic(auto, unfolding(crate::specs::KernTable::kern_sum, crate::specs::Reads::kern_reads))]
+pub(crate) fn kern_sum(table: &Words, glyphs: GlyphPair, reads: &mut Tally) -> i32
     requires size { length table.now ≤ font_limit }
-    requires left { left < 65536 }
-    requires right { right < 65536 }
     requires room { reads.old + 707 < 2 ^ 32 }
-    ensures exact { result ≡ kern_sum table.now left right }
+    ensures exact { result ≡ kern_sum table.now glyphs.left glyphs.right }
     ensures bound { unsigned_abs result ≤ 2 ^ 20 }
+    ensures count { reads.new ≡ reads.old + kern_reads table.now glyphs.left glyphs.right }
     ensures few { reads.new ≤ reads.old + 707 }
 {
     let Some(version) = version_of(table, reads) else {
@@ -216,7 +218,7 @@ pub(crate) fn kern_sum(table: &Words, left: usize, right: usize, reads: &mut Tal
         if table.len() < at + 8 {
             return total;
         }
-        total = after_subtable(version, table, left, right, total, at, reads);
+        total = after_subtable(version, table, glyphs, total, at, reads);
         let length = length_told(version, table, at, reads);
         if length < header_size(version) {
             return total;

@@ -3,12 +3,14 @@
 ghost use Rattle.std.specs.Prelude.{◌≡◌, ◌+◌, ◌^◌, ◌<◌, ◌≤◌, length, unsigned_abs};
 ghost use Rattle.tt_core.specs.Limits.{font_limit};
 ghost use Rattle.tt_kern.specs.Kerning.{kerning};
+ghost use Rattle.tt_kern.specs.Reads.{opening_reads, reads_of};
 
 pub(crate) mod tally;
 
 use crate::feature::feature_of;
 use crate::kern_table::kern_sum;
 use crate::kerning::tally::Tally;
+use crate::pair::GlyphPair;
 use crate::pairs::list::PairList;
 use crate::pairs::pairs_of;
 use crate::sum::pair_sum;
@@ -41,19 +43,20 @@ impl<'a> Model for Kerning<'a> {
     ghost use Rattle.tt_kern.specs.Feature.{feature_of};
     ghost use Rattle.tt_kern.specs.Kerning.{Tables};
     ghost use Rattle.tt_kern.specs.Listed.{pairs_of};
+    ghost use Rattle.tt_kern.specs.Reads.{opening_reads};
 
     ghost Value = { Tables };
 
     ghost view = { λ k. record { gpos = k.gpos; kern = k.kern } };
 
     ghost invariant = { λ k. (k.feature ≡ feature_of k.gpos) × (k.pairs ≡ pairs_of k.gpos)
-        × (length k.kern ≤ font_limit) × (k.reads < 10000) };
+        × (length k.kern ≤ font_limit) × (k.reads ≡ opening_reads k.gpos) × (k.reads < 10000) };
 }
 
 impl<'a> Kerning<'a> {
     /// Opens both tables, and finds the pair subtables of GPOS. A table that a font lacks is an empty slice; so is a
-    /// table whose record passes the file's end (profile). No defect of either table is an error. `reads` tells how many
-    /// numbers were read.
+    /// table whose record passes the file's end (profile). No defect of either table is an error. `reads` is the count
+    /// of numbers read.
     pub fn open(gpos: &'a [u8], kern: &'a [u8]) -> Kerning<'a>
         requires gpos { length gpos.now ≤ font_limit }
         requires kern { length kern.now ≤ font_limit }
@@ -88,6 +91,7 @@ impl<'a> Kerning<'a> {
 
     /// The count of numbers that `open` read from GPOS.
     pub fn reads(&self) -> u32
+        ensures count { result ≡ opening_reads self.now.gpos }
         ensures few { result < 10000 }
     {
         self.reads
@@ -97,13 +101,13 @@ impl<'a> Kerning<'a> {
         requires { reads.old + 5120 < 2 ^ 32 }
         ensures exact { result ≡ kerning self.now left right }
         ensures bound { unsigned_abs result ≤ 2 ^ 20 }
+        ensures count { reads.new ≡ reads.old + reads_of self.now left right }
         ensures few { reads.new ≤ reads.old + 5120 }
     {
-        let left = usize::from(left);
-        let right = usize::from(right);
+        let glyphs = GlyphPair { left, right };
         match self.feature {
-            Some(_) => pair_sum(&self.gpos, &self.pairs, left, right, reads),
-            None => kern_sum(&self.kern, left, right, reads),
+            Some(_) => pair_sum(&self.gpos, &self.pairs, glyphs, reads),
+            None => kern_sum(&self.kern, glyphs, reads),
         }
     }
 
@@ -111,6 +115,7 @@ impl<'a> Kerning<'a> {
     pub fn look_up(&self, left: u16, right: u16) -> PairKerning
         ensures exact { result.value ≡ kerning self.now left right }
         ensures bound { unsigned_abs result.value ≤ 2 ^ 20 }
+        ensures count { result.reads ≡ reads_of self.now left right }
         ensures few { result.reads ≤ 5120 }
     {
         let mut reads = Tally::none();
@@ -121,8 +126,8 @@ impl<'a> Kerning<'a> {
         }
     }
 
-    /// The kerning of two neighbouring glyphs, in font units: how much farther the second stands. `look_up` also tells
-    /// how many numbers were read.
+    /// The kerning of two neighbouring glyphs, in font units: how much farther the second stands. `look_up` also has
+    /// the count of numbers read.
     pub fn kerning(&self, left: u16, right: u16) -> i32
         ensures exact { result ≡ kerning self.now left right }
         ensures bound { unsigned_abs result ≤ 2 ^ 20 }

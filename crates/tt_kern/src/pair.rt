@@ -2,11 +2,19 @@
 
 ghost use Rattle.std.specs.Prelude.{◌≡◌, ◌+◌, ◌^◌, ◌<◌, ◌≤◌, IfSome, unsigned_abs};
 ghost use Rattle.tt_kern.specs.Pair.{bits, values_size, advance_at, value_in_set, value_by_sets, value_by_classes, pair_value};
+ghost use Rattle.tt_kern.specs.Reads.{advance_reads, set_reads, by_sets_reads, by_classes_reads, pair_reads};
 
 use crate::coverage::{class_of, coverage_index};
 use crate::kerning::tally::Tally;
 use crate::search::{KeySize, Keys, find};
 use crate::words::{Words, product};
+
+/// Two neighbouring glyphs.
+#[derive(Clone, Copy)]
+pub(crate) struct GlyphPair {
+    pub(crate) left: u16,
+    pub(crate) right: u16,
+}
 
 /// The count of bits that are set in the low byte.
 fn bits(format: usize) -> usize
@@ -41,6 +49,7 @@ fn advance_at(table: &Words, at: usize, values: usize, reads: &mut Tally) -> i32
     requires room { reads.old + 2 < 2 ^ 32 }
     ensures exact { result ≡ advance_at table.now at values }
     ensures bound { unsigned_abs result ≤ 32768 }
+    ensures count { reads.new ≡ reads.old + advance_reads table.now at }
     ensures few { reads.new ≤ reads.old + 2 }
 {
     let format = table.word(at + 4, reads);
@@ -52,6 +61,7 @@ fn advance_at(table: &Words, at: usize, values: usize, reads: &mut Tally) -> i32
 }
 
 /// The value by a set of second glyphs, if it has the glyph.
+#[tactic(auto, unfolding(crate::specs::Reads::set_reads))]
 fn value_in_set(
     table: &Words,
     at: usize,
@@ -64,6 +74,7 @@ fn value_in_set(
     requires room { reads.old + 22 < 2 ^ 32 }
     ensures exact { result ≡ value_in_set table.now at set right }
     ensures bound { IfSome result (λ v. unsigned_abs v ≤ 32768) }
+    ensures count { reads.new ≡ reads.old + set_reads table.now at set right }
     ensures few { reads.new ≤ reads.old + 22 }
 {
     let step = 2 + values_size(table, at, reads);
@@ -95,6 +106,7 @@ fn value_by_sets(
     requires room { reads.old + 24 < 2 ^ 32 }
     ensures exact { result ≡ value_by_sets table.now at index right }
     ensures bound { IfSome result (λ v. unsigned_abs v ≤ 32768) }
+    ensures count { reads.new ≡ reads.old + by_sets_reads table.now at index right }
     ensures few { reads.new ≤ reads.old + 24 }
 {
     if index < table.word(at + 8, reads) {
@@ -106,25 +118,19 @@ fn value_by_sets(
 }
 
 /// Format 2: the value by the classes of both glyphs.
-fn value_by_classes(
-    table: &Words,
-    at: usize,
-    left: usize,
-    right: usize,
-    reads: &mut Tally,
-) -> Option<i32>
+#[tactic(auto, unfolding(crate::specs::Reads::by_classes_reads))]
+fn value_by_classes(table: &Words, at: usize, glyphs: GlyphPair, reads: &mut Tally) -> Option<i32>
     requires place { at < 2 ^ 34 }
-    requires left { left < 65536 }
-    requires right { right < 65536 }
     requires room { reads.old + 48 < 2 ^ 32 }
-    ensures exact { result ≡ value_by_classes table.now at left right }
+    ensures exact { result ≡ value_by_classes table.now at glyphs.left glyphs.right }
     ensures bound { IfSome result (λ v. unsigned_abs v ≤ 32768) }
+    ensures count { reads.new ≡ reads.old + by_classes_reads table.now at glyphs.left glyphs.right }
     ensures few { reads.new ≤ reads.old + 48 }
 {
     let first_classes = at + table.word(at + 8, reads);
-    let first = class_of(table, first_classes, left, reads);
+    let first = class_of(table, first_classes, usize::from(glyphs.left), reads);
     let second_classes = at + table.word(at + 10, reads);
-    let second = class_of(table, second_classes, right, reads);
+    let second = class_of(table, second_classes, usize::from(glyphs.right), reads);
     let first_count = table.word(at + 12, reads);
     let count = table.word(at + 14, reads);
     if first < first_count && second < count {
@@ -137,28 +143,27 @@ fn value_by_classes(
 }
 
 /// The value of two glyphs by the subtable at an offset, if the subtable applies. At most 71 numbers are read.
+#[tactic(auto, unfolding(crate::specs::Reads::pair_reads))]
 pub(crate) fn pair_value(
     table: &Words,
     at: usize,
-    left: usize,
-    right: usize,
+    glyphs: GlyphPair,
     reads: &mut Tally,
 ) -> Option<i32>
     requires place { at < 2 ^ 34 }
-    requires left { left < 65536 }
-    requires right { right < 65536 }
     requires room { reads.old + 71 < 2 ^ 32 }
-    ensures exact { result ≡ pair_value table.now at left right }
+    ensures exact { result ≡ pair_value table.now at glyphs.left glyphs.right }
     ensures bound { IfSome result (λ v. unsigned_abs v ≤ 32768) }
+    ensures count { reads.new ≡ reads.old + pair_reads table.now at glyphs.left glyphs.right }
     ensures few { reads.new ≤ reads.old + 71 }
 {
     let coverage = at + table.word(at + 2, reads);
-    let Some(index) = coverage_index(table, coverage, left, reads) else {
+    let Some(index) = coverage_index(table, coverage, usize::from(glyphs.left), reads) else {
         return None;
     };
     match table.word(at, reads) {
-        1 => value_by_sets(table, at, index, right, reads),
-        2 => value_by_classes(table, at, left, right, reads),
+        1 => value_by_sets(table, at, index, usize::from(glyphs.right), reads),
+        2 => value_by_classes(table, at, glyphs, reads),
         _ => None,
     }
 }

@@ -4,6 +4,8 @@ ghost use Rattle.std.specs.Prelude.{◌≡◌, ◌+◌, ◌++◌, ◌^◌, ◌<�
 ghost use Rattle.tt_kern.specs.Feature.{looked_at};
 ghost use Rattle.tt_kern.specs.Listed.{pairs_in, pairs_by};
 ghost use Rattle.tt_kern.specs.Pairs.{words_at, listed_by, lookup_place, subtable_count, extended, pair_place_by};
+ghost use Rattle.tt_kern.specs.Reads.{extended_reads, place_reads, places_reads, pairs_reads};
+ghost use Rattle.tt_kern.specs.Words.{word};
 
 pub(crate) mod list;
 mod numbers;
@@ -19,6 +21,7 @@ fn listed_by(table: &Words, feature: usize, reads: &mut Tally) -> Numbers
     requires feature { feature < 2 ^ 20 }
     requires room { reads.old + 257 < 2 ^ 32 }
     ensures exact { result ≡ listed_by table.now feature }
+    ensures count { reads.new ≡ reads.old + 1 + looked_at (word table.now (feature + 2)) }
     ensures few { reads.new ≤ reads.old + 257 }
 {
     let mut numbers = Numbers::new();
@@ -46,6 +49,7 @@ fn extended(table: &Words, at: usize, reads: &mut Tally) -> Option<usize>
     requires room { reads.old + 3 < 2 ^ 32 }
     ensures exact { result ≡ extended table.now at }
     ensures near { IfSome result (λ p. p < 2 ^ 33) }
+    ensures count { reads.new ≡ reads.old + extended_reads table.now at }
     ensures few { reads.new ≤ reads.old + 3 }
 {
     let format = table.word(at, reads);
@@ -63,6 +67,7 @@ fn pair_place(table: &Words, lookup_type: usize, at: usize, reads: &mut Tally) -
     requires room { reads.old + 3 < 2 ^ 32 }
     ensures exact { result ≡ pair_place_by lookup_type table.now at }
     ensures near { IfSome result (λ p. p < 2 ^ 33) }
+    ensures count { reads.new ≡ reads.old + place_reads lookup_type table.now at }
     ensures few { reads.new ≤ reads.old + 3 }
 {
     match lookup_type {
@@ -92,6 +97,7 @@ fn note_lookup(table: &Words, i: usize, lookup: usize, pairs: &mut PairList, rea
     requires listed { length pairs.old ≤ 64 }
     requires room { reads.old + 258 < 2 ^ 32 }
     ensures exact { pairs.new ≡ take 64 (pairs.old ++ pairs_in table.now i lookup (subtable_count table.now lookup)) }
+    ensures count { reads.new ≡ reads.old + 2 + places_reads table.now lookup (subtable_count table.now lookup) }
     ensures few { reads.new ≤ reads.old + 258 }
 {
     let lookup_type = table.word(lookup, reads);
@@ -109,6 +115,7 @@ fn pairs_by(table: &Words, feature: usize, reads: &mut Tally) -> PairList
     requires feature { feature < 2 ^ 20 }
     requires room { reads.old + 8579 < 2 ^ 32 }
     ensures exact { result ≡ pairs_by table.now (Some feature) }
+    ensures count { reads.new ≡ reads.old + pairs_reads table.now (Some feature) }
     ensures few { reads.new ≤ reads.old + 8579 }
 {
     let mut pairs = PairList::new();
@@ -133,6 +140,7 @@ pub(crate) fn pairs_of(table: &Words, feature: Option<usize>, reads: &mut Tally)
     requires near { IfSome feature (λ p. p < 2 ^ 20) }
     requires room { reads.old + 8579 < 2 ^ 32 }
     ensures exact { result ≡ pairs_by table.now feature }
+    ensures count { reads.new ≡ reads.old + pairs_reads table.now feature }
     ensures few { reads.new ≤ reads.old + 8579 }
 {
     match feature {

@@ -2,6 +2,7 @@
 
 ghost use Rattle.std.specs.Prelude.{◌≡◌, ◌+◌, ◌*◌, ◌^◌, ◌<◌, ◌≤◌, IfSome};
 ghost use Rattle.tt_kern.specs.Halves.{asked, reached};
+ghost use Rattle.tt_kern.specs.Reads.{found_reads};
 ghost use Rattle.tt_kern.specs.Search.{key_at, is_at_least, found};
 
 use crate::kerning::tally::Tally;
@@ -70,6 +71,7 @@ pub(crate) fn find(table: &Words, keys: Keys, key: usize, reads: &mut Tally) -> 
     requires room { reads.old + 17 < 2 ^ 32 }
     ensures exact { result ≡ found keys.size table.now keys.at keys.step keys.count key }
     ensures bound { IfSome result (λ i. i < keys.count) }
+    ensures count { reads.new ≡ reads.old + found_reads keys.size table.now keys.at keys.step keys.count key }
     ensures few { reads.new ≤ reads.old + 17 }
 {
     let i = reach(table, keys, key, reads);

@@ -2,10 +2,11 @@
 
 ghost use Rattle.std.specs.Prelude.{◌≡◌, ◌+◌, ◌*◌, ◌^◌, ◌<◌, ◌≤◌, ◌∷◌, ◌+ℤ◌, List, unsigned_abs};
 ghost use Rattle.tt_kern.specs.Listed.{IsNear, sum_from};
-ghost use Rattle.tt_kern.specs.declared.pairs.list.PairSubtable as declared;
+ghost use Rattle.tt_kern.specs.Reads.{reads_from};
+ghost use Rattle.tt_kern.specs.declared.pairs.list.PairSubtable as is;
 
 use crate::kerning::tally::Tally;
-use crate::pair::pair_value;
+use crate::pair::{GlyphPair, pair_value};
 use crate::pairs::list::{PairList, PairSubtable};
 use crate::words::Words;
 
@@ -19,28 +20,27 @@ struct SumSoFar {
 /// The sum after a subtable.
 fn after_pair(
     gpos: &Words,
-    left: usize,
-    right: usize,
+    glyphs: GlyphPair,
     so_far: SumSoFar,
     pair: PairSubtable,
     reads: &mut Tally,
 ) -> SumSoFar
-    requires left { left < 65536 }
-    requires right { right < 65536 }
     requires total { unsigned_abs so_far.total ≤ 32768 * so_far.ended }
     requires ended { so_far.ended ≤ 32 }
     requires near { IsNear pair }
     requires room { reads.old + 71 < 2 ^ 32 }
-    ensures exact { (rest : List declared.PairSubtable) → result.total +ℤ sum_from gpos.now left right result.ended rest
-        ≡ so_far.total +ℤ sum_from gpos.now left right so_far.ended (pair ∷ rest) }
+    ensures exact { (rest : List is.PairSubtable) → result.total +ℤ sum_from gpos.now glyphs.left glyphs.right result.ended rest
+        ≡ so_far.total +ℤ sum_from gpos.now glyphs.left glyphs.right so_far.ended (pair ∷ rest) }
     ensures total { unsigned_abs result.total ≤ 32768 * result.ended }
     ensures ended { result.ended ≤ 32 }
+    ensures count { (rest : List is.PairSubtable) → reads.new + reads_from gpos.now glyphs.left glyphs.right result.ended rest
+        ≡ reads.old + reads_from gpos.now glyphs.left glyphs.right so_far.ended (pair ∷ rest) }
     ensures few { reads.new ≤ reads.old + 71 }
 {
     if pair.lookup < so_far.ended {
         return so_far;
     }
-    match pair_value(gpos, pair.at, left, right, reads) {
+    match pair_value(gpos, pair.at, glyphs, reads) {
         Some(value) => SumSoFar {
             total: so_far.total + value,
             ended: pair.lookup + 1,
@@ -50,23 +50,16 @@ fn after_pair(
 }
 
 /// The sum over the lookups. At most 4,544 numbers are read, 71 for each of 64 subtables.
-pub(crate) fn pair_sum(
-    gpos: &Words,
-    pairs: &PairList,
-    left: usize,
-    right: usize,
-    reads: &mut Tally,
-) -> i32
-    requires left { left < 65536 }
-    requires right { right < 65536 }
+pub(crate) fn pair_sum(gpos: &Words, pairs: &PairList, glyphs: GlyphPair, reads: &mut Tally) -> i32
     requires room { reads.old + 4544 < 2 ^ 32 }
-    ensures exact { result ≡ sum_from gpos.now left right 0 pairs.now }
+    ensures exact { result ≡ sum_from gpos.now glyphs.left glyphs.right 0 pairs.now }
     ensures bound { unsigned_abs result ≤ 2 ^ 20 }
+    ensures count { reads.new ≡ reads.old + reads_from gpos.now glyphs.left glyphs.right 0 pairs.now }
     ensures few { reads.new ≤ reads.old + 4544 }
 {
     let mut so_far = SumSoFar { total: 0, ended: 0 };
     for i in 0..pairs.count() {
-        so_far = after_pair(gpos, left, right, so_far, pairs.get(i), reads);
+        so_far = after_pair(gpos, glyphs, so_far, pairs.get(i), reads);
     }
     so_far.total
 }

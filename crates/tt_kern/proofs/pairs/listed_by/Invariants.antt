@@ -8,5 +8,5 @@ invariant-loop-i l = record {
   listed : l.numbers ≡ words_at l.table (l.feature + 4) l.i;
   count : length l.numbers ≡ l.i;
   few : l.i-end ≤ 256;
-  read : l.reads ≤ l.fn.reads + 1 + l.i;
+  read : l.reads ≡ l.fn.reads + 1 + l.i;
 }
