@@ -3,6 +3,7 @@ pub mod Answered
 pub mod AskedTables
 mod Lines
 mod Plain
+mod ShortMessages
 pub mod TextTaken
 pub mod Rows
 pub mod LinesDrawn

@@ -1,12 +1,19 @@
 //! Lemmas about the definitions, for all faults, jobs, texts and files.
 
-ghost use Rattle.tt_c_calls.specs.Laws.{FontMessagesAreLines, JobMessagesAreLines, PlainIsRun};
+ghost use Rattle.tt_c_calls.specs.Laws.{FontMessagesAreLines, JobMessagesAreLines, MessagesAreShort, PlainIsRun, ShortRoomsAreEnough};
 
 /// Lemma: the message of a refused font or job is the program's line on standard error; for a font, if the tag of the
 /// table is ASCII.
 pub fn messages_are_lines()
     ensures fonts { FontMessagesAreLines }
     ensures jobs { JobMessagesAreLines }
+{}
+
+/// Lemma: the message of an answer has at most 90 bytes, its zero included. So `message` reports at most 90 bytes, and never
+/// finds a room of 90 bytes too small.
+pub fn messages_are_short()
+    ensures text { MessagesAreShort }
+    ensures room { ShortRoomsAreEnough }
 {}
 
 /// Lemma: without `grow` the picture of a text is the one that `run` writes, and is refused for the same reason.
