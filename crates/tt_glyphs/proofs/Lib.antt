@@ -4,6 +4,8 @@ pub mod Charged
 pub mod DrawnGlyphs
 pub mod EdgesMade
 pub mod Entered
+pub mod GrownBitmaps
+pub mod GrownInk
 pub mod InkBoxed
 pub mod KnownNumbers
 pub mod ListBegun
@@ -12,6 +14,7 @@ pub mod ListDrawn
 pub mod ListOutcomes
 pub mod LeastBitmaps
 pub mod LineBitmaps
+pub mod LineLimits
 pub mod ListFacts
 pub mod ListLaws
 pub mod MadeLines

@@ -9,7 +9,7 @@ use Rattle.tt_fit.specs.Fitting.{Fitter, fitted_outline}
 use Rattle.tt_fit_outline.specs.Outline.{Outline}
 use Rattle.tt_line.specs.Layout.{Placement}
 use Rattle.tt_picture.specs.Ink.{glyph_ink}
-use Rattle.tt_picture.specs.Pictures.{Image, picture}
+use Rattle.tt_picture.specs.Pictures.{Image, image, picture}
 use Rattle.tt_picture.specs.Pixels.{Shape, is_black_pixel, is_filled, some_black, some_filled}
 use Rattle.tt_picture.specs.Shapes.{chords_with, edges_at, filled_by, glyph_shape, shape_at}
 use Rattle.tt_picture.proofs.Alike.{image_alike}
@@ -169,10 +169,16 @@ of_shapes face a line s i made is =
           ∙ ap (picture (frame_of line a.margin)) (sym all);
     }
 
-pub lines_are_bitmaps : BoxLaws → LinesAreBitmaps
-lines_are_bitmaps laws face a line s i laid made is =
+-- however the line is laid out
+pub drawn_is_bitmaps : BoxLaws → (face : Face) (a : Job) (line : Placement) (s : Fitter) (i : Image) → setting_in face a ≡ Ok s
+    → drawn face a line ≡ Ok i
+    → i ≡ image (frame_of line a.margin) (some_entry_shows (line_fitter s (map (λ g. g.0) line.glyphs)) (frame_of line a.margin) line.glyphs)
+drawn_is_bitmaps laws face a line s i made is =
     let f = frame_of line a.margin in
     let maker = line_fitter s (map (λ (g : ℕ × ℕ). g.0) line.glyphs) in
     let of = of_shapes face a line s i made is in
     of.pictured ∙ image_alike f (is_black_pixel f of.shapes) (some_entry_shows maker f line.glyphs)
     (λ c r column row. pixels_are laws maker f line.glyphs of.shapes c r of.made)
+
+pub lines_are_bitmaps : BoxLaws → LinesAreBitmaps
+lines_are_bitmaps laws face a line s i laid made is = drawn_is_bitmaps laws face a line s i made is

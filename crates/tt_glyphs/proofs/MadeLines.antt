@@ -7,16 +7,20 @@ use Rattle.std.proofs.lemmas.List.Elements.{All-cons, All-head, All-nil, All-tai
 use Rattle.tt_core.specs.Faults.{Fault}
 use Rattle.tt_core.specs.Limits.{height_limit, width_limit}
 use Rattle.tt_core.specs.Outcomes.{each}
+use Rattle.tt_face.specs.Faces.{Face}
 use Rattle.tt_fit.specs.declared.programs.Fit.{Fit}
 use Rattle.tt_fit.specs.Fitting.{Fitter, fitted_outline, unfitted_fault}
 use Rattle.tt_fit_outline.specs.Outline.{Outline}
+use Rattle.tt_line.specs.Layout.{Placement}
 use Rattle.tt_metrics.specs.Metrics.{glyphs_of}
 use Rattle.tt_picture.specs.Ink.{glyph_ink}
+use Rattle.tt_picture.specs.Pictures.{Image}
 use Rattle.tt_picture.specs.Pixels.{Shape}
 use Rattle.tt_picture.specs.Shapes.{glyph_shape}
 use Rattle.tt_scan_edges.specs.declared.edge.Frame.{Frame}
 use Rattle.tt_scan_ink.specs.declared.ink.GlyphInk.{GlyphInk}
-use Rattle.tt_strike.specs.Picture.{frame_of}
+use Rattle.tt_strike.specs.Job.{Job}
+use Rattle.tt_strike.specs.Picture.{drawn, frame_of, setting_in}
 use Rattle.tt_strike.specs.Work.{line_fitter}
 use Rattle.tt_glyphs.specs.Bitmaps.{is_large, place_of}
 use Rattle.tt_glyphs.specs.declared.told.Told.TheVariants as told
@@ -88,8 +92,12 @@ number_made how t g count below made =
     let test : nat_lt g count ≡ true = grind (arith, nat_tests, below) in
     rw test made
 
-pub lines_are_made : LinesAreMade
-lines_are_made face a line s i laid made is wide high all within = λ k d below.
+-- however the line is laid out
+pub drawn_are_made : (face : Face) (a : Job) (line : Placement) (s : Fitter) (i : Image) → setting_in face a ≡ Ok s → drawn face a line ≡ Ok i
+    → line.width ≤ width_limit → line.height ≤ height_limit → All (λ g. g.0 < glyphs_of s.metrics) line.glyphs
+    → All (λ g. IsWithin (frame_of line a.margin) g.1 (place_of (glyph_ink (line_fitter s (map (λ g. g.0) line.glyphs) g.0) g.0))) line.glyphs
+    → All (λ g. IsMade (number_told a.fit s (map (λ g. g.0) line.glyphs) g.0)) line.glyphs
+drawn_are_made face a line s i made is wide high all within = λ k d below.
     let gs = line.glyphs in
     let ns = map (λ (g : ℕ × ℕ). g.0) gs in
     let g = get_or gs k d in
@@ -101,3 +109,6 @@ lines_are_made face a line s i laid made is wide high all within = λ k d below.
     let one : IsMade (number_told a.fit s ns g.0) =
     rw same (number_made a.fit t g.0 (glyphs_of s.metrics) (all k d below) (glyph_made a.fit t g.0 has.0 has.1 small)) in
     one
+
+pub lines_are_made : LinesAreMade
+lines_are_made face a line s i laid made is wide high all within = drawn_are_made face a line s i made is wide high all within

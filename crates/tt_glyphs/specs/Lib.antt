@@ -5,6 +5,7 @@ pub mod Edged
 pub mod Entries
 pub mod GlyphBitmap
 pub mod GlyphLaws
+pub mod GrownLaws
 pub mod Listed
 pub mod Lists
 pub mod Requests
