@@ -19,16 +19,16 @@ use Rattle.tt_strike.proofs.GrownWhole.{line_ink, moved_black, not_too_large, sa
 use Rattle.tt_strike.proofs.InkHeld.{BoxLaws, least_box, line_held, seen, shapes_black}
 use Rattle.tt_strike.proofs.Placed.{of-job}
 
-at_first : (at : ℤ) → 0 < before at → pos 0 -ℤ pos (before at) ≡ at
+pub at_first : (at : ℤ) → 0 < before at → pos 0 -ℤ pos (before at) ≡ at
 at_first (pos n) more = absurd (omega (arith, more))
 at_first (negsuc n) more = omega (arith, ints)
 
-at_last : (count left : ℕ) (at : ℤ) → 0 < past count at
+pub at_last : (count left : ℕ) (at : ℤ) → 0 < past count at
     → (pos (count + left + past count at) -ℤ pos 1) -ℤ pos left ≡ at
 at_last count left (pos n) more = omega (arith, ints, more)
 at_last count left (negsuc n) more = absurd (omega (arith, more))
 
-back : (at : ℤ) (n : ℕ) → (at +ℤ pos n) -ℤ pos n ≡ at
+pub back : (at : ℤ) (n : ℕ) → (at +ℤ pos n) -ℤ pos n ≡ at
 back at n = omega (arith, ints)
 
 -- ink of the line, in the enlarged line

@@ -61,11 +61,11 @@ same_glyphs l line (Some b) is =
 
 -- a place moved right or down by what a picture lacks before it, and the picture's end behind it
 
-not_before : (at c : ℤ) → at ≤ℤ (c -ℤ pos (before at)) → pos 0 ≤ℤ c
+pub not_before : (at c : ℤ) → at ≤ℤ (c -ℤ pos (before at)) → pos 0 ≤ℤ c
 not_before (pos n) c low = omega (arith, ints)
 not_before (negsuc n) c low = omega (arith, ints)
 
-not_past : (count left : ℕ) (at c : ℤ) → (c -ℤ pos left) ≤ℤ at → c <ℤ pos (count + left + past count at)
+pub not_past : (count left : ℕ) (at c : ℤ) → (c -ℤ pos left) ≤ℤ at → c <ℤ pos (count + left + past count at)
 not_past count left (pos n) c high = omega (arith, ints)
 not_past count left (negsuc n) c high = omega (arith, ints)
 

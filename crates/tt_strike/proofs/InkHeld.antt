@@ -133,7 +133,7 @@ abbrev pub seen : Option InkBox → Option GlyphInk
 seen None = None
 seen (Some b) = Some (view b)
 
-seen_joined : (a b : Option InkBox) → seen (joined a b) ≡ ink.joined (seen a) (seen b)
+pub seen_joined : (a b : Option InkBox) → seen (joined a b) ≡ ink.joined (seen a) (seen b)
 seen_joined None b = refl
 seen_joined (Some a) None = refl
 seen_joined (Some a) (Some b) = refl
@@ -193,11 +193,11 @@ line_black maker f [] c r = false
 line_black maker f (g ∷ gs) c r =
     from_place f g.1 (glyph_black (maker g.0) g.0) c r || line_black maker f gs c r
 
-abbrev boxes : (ℕ → Fitter) → Frame → List (ℕ × ℕ) → List (Option InkBox)
+abbrev pub boxes : (ℕ → Fitter) → Frame → List (ℕ × ℕ) → List (Option InkBox)
 boxes maker f gs = map (λ (g : ℕ × ℕ). ink_at f g.1 (glyph_ink (maker g.0) g.0)) gs
 
 -- the box so far and those of the other glyphs
-held_after : BoxLaws → (maker : ℕ → Fitter) (f : Frame) (gs : List (ℕ × ℕ)) (before : ℤ → ℤ → Bool)
+pub held_after : BoxLaws → (maker : ℕ → Fitter) (f : Frame) (gs : List (ℕ × ℕ)) (before : ℤ → ℤ → Bool)
     (so_far : Option InkBox) → IsInk before (seen so_far)
     → IsInk (λ c r. before c r || line_black maker f gs c r) (seen (all_joined so_far (boxes maker f gs)))
 held_after laws maker f [] before so_far held =

@@ -2,9 +2,9 @@ mod Characters
 mod Drawn
 pub mod Telling
 mod Beside
-mod InkHeld
-mod GrownWhole
-mod GrownNeeded
+pub mod InkHeld
+pub mod GrownWhole
+pub mod GrownNeeded
 mod Unfilled
 mod Listing
 mod Whole
