@@ -36,7 +36,7 @@ abbrev pub left_of : Option InkBox → ℕ
 left_of None = 0
 left_of (Some b) = before b.left
 
-unmoved : (gs : List (ℕ × ℕ)) → gs ≡ rightwards 0 gs
+pub unmoved : (gs : List (ℕ × ℕ)) → gs ≡ rightwards 0 gs
 unmoved [] = refl
 unmoved (g ∷ gs) = let here : g.1 + 0 ≡ g.1 = omega arith in rw here (ap (λ (hs : List (ℕ × ℕ)). g ∷ hs) (unmoved gs))
 

@@ -2,10 +2,14 @@ pub mod AmongDistinct
 pub mod ByAdvances
 pub mod ByStep
 pub mod Drawn
+pub mod EmptyTexts
 pub mod Grown
 pub mod Joined
 pub mod Larger
 pub mod Lines
+pub mod NeverEmpty
+pub mod OneLine
+pub mod OneLineDrawn
 pub mod Overlaid
 pub mod Overlays
 pub mod Placed

@@ -9,6 +9,7 @@
 //! overlay.rt  a line painted over pixels that are there
 //! labelling.rt  the lines, painted over each other
 //! picture.rt  the picture
+//! laws.rt     laws of the definitions
 //! ```
 #![tactic(auto)]
 
@@ -16,6 +17,7 @@ mod fitting;
 mod growing;
 mod joining;
 mod labelling;
+pub mod laws;
 mod made;
 mod overlay;
 mod picture;
