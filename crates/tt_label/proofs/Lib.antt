@@ -5,6 +5,9 @@ pub mod Drawn
 pub mod EmptyTexts
 pub mod Grown
 pub mod Joined
+pub mod LabelApart
+pub mod LabelInk
+pub mod LabelPlaced
 pub mod Larger
 pub mod Lines
 pub mod NeverEmpty

@@ -1,4 +1,5 @@
 pub mod Fitted
+pub mod InkLaws
 pub mod Label
 pub mod LineLaws
 pub mod Made
