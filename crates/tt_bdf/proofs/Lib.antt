@@ -2,6 +2,8 @@ pub mod Among
 pub mod Behind
 pub mod Blanks
 pub mod Cuts
+pub mod LeastBox
+pub mod ListedCodes
 pub mod Near
 pub mod Nothing
 pub mod Padded

@@ -6,5 +6,6 @@ pub mod Extent
 pub mod Facts
 pub mod File
 pub mod Head
+pub mod Laws
 pub mod Ranges
 pub mod Style

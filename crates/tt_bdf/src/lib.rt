@@ -9,6 +9,7 @@ mod extent;
 mod file;
 mod font;
 mod head;
+pub mod laws;
 mod range;
 mod spacing;
 mod style;
