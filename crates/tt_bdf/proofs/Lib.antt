@@ -9,4 +9,5 @@ pub mod Nothing
 pub mod Padded
 pub mod Pieces
 pub mod Reaching
+pub mod ReadBack
 pub mod Refused

@@ -8,4 +8,5 @@ pub mod File
 pub mod Head
 pub mod Laws
 pub mod Ranges
+pub mod Reading
 pub mod Style
