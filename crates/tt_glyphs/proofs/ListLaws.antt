@@ -41,7 +41,7 @@ same_fitter stays s (n ∷ ns) g none =
     either_same (n == g) s (fitter_for (after_glyph s n) ns g)
     (ap (λ (t : Fitter). fitter_for t ns g) (stays s n none).1 ∙ same_fitter stays s ns g none)
 
-alone : UnboundedStays → (s : Fitter) (gs : List ℕ) (g : ℕ) → s.work ≡ None → line_fitter s gs g ≡ s
+pub alone : UnboundedStays → (s : Fitter) (gs : List ℕ) (g : ℕ) → s.work ≡ None → line_fitter s gs g ≡ s
 alone stays s gs g none =
     ap (λ (t : Fitter). fitter_for t (distinct gs) g) (uncharged s (point_work * points_in s gs) none)
     ∙ same_fitter stays s (distinct gs) g none
@@ -72,7 +72,7 @@ known_length : (how : Fit) (s : Fitter) (g : ℕ) (b : Bool)
 known_length how s g true = length_by how s g (fitted_outline s g) refl
 known_length how s g false = refl
 
-number_length : (how : Fit) (s : Fitter) (gs : List ℕ) (g : ℕ) → length (number_rows how s gs g) ≡ number_bytes how s gs g
+pub number_length : (how : Fit) (s : Fitter) (gs : List ℕ) (g : ℕ) → length (number_rows how s gs g) ≡ number_bytes how s gs g
 number_length how s gs g = known_length how (line_fitter s (known s gs) g) g (nat_lt g (glyphs_of s.metrics))
 
 all_length : (rows : ℕ → List ℕ) (bytes : ℕ → ℕ) (ns : List ℕ) → ((n : ℕ) → length (rows n) ≡ bytes n)

@@ -3,6 +3,7 @@ pub mod Defects
 pub mod Drawn
 pub mod Edged
 pub mod Entries
+pub mod EntryLaws
 pub mod GlyphBitmap
 pub mod GlyphLaws
 pub mod GrownLaws

@@ -1,5 +1,6 @@
 //! Lemmas about the definitions, for all glyphs and lists.
 
+ghost use Rattle.tt_glyphs.specs.EntryLaws.{AdvancesAreDrawn, RowsAreDrawn, UnboundedAreAlike};
 ghost use Rattle.tt_glyphs.specs.GlyphLaws.{BitmapsAreLeast, LinesAreBitmaps, LinesAreMade, OrderChangesNothing, RepeatsAreEqual, RoomIsExact, RowsAreCounted};
 ghost use Rattle.tt_glyphs.specs.GrownLaws.{GrownLinesAreBitmaps, GrownLinesAreMade, GrownLinesHoldBitmaps};
 
@@ -50,3 +51,13 @@ pub fn rows_fit()
     ensures rows { RowsAreCounted }
     ensures room { RoomIsExact }
 {}
+
+/// Lemma: where a list and a line make a glyph alike, the rows of its entry have its black pixels in the line, and its
+/// entry has its advance there. Where work is not bounded, all glyphs are made alike.
+pub fn entries_are_drawn()
+    ensures rows { RowsAreDrawn }
+    ensures advances { AdvancesAreDrawn }
+    ensures alike { UnboundedAreAlike }
+{
+    tt_fit::laws::work_unfits();
+}
