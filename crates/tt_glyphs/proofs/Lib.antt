@@ -4,6 +4,8 @@ pub mod Charged
 pub mod DrawnGlyphs
 pub mod EdgesMade
 pub mod Entered
+pub mod EntriesDrawn
+pub mod EntryBytes
 pub mod GrownBitmaps
 pub mod GrownInk
 pub mod InkBoxed
