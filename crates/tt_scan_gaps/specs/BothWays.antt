@@ -12,7 +12,7 @@ use Rattle.tt_scan_gaps.specs.declared.mark.Crossing.{Crossing}
 use Rattle.tt_scan_gaps.specs.declared.seen.Over.{Over}
 use Rattle.tt_scan_gaps.specs.declared.seen.Over.TheVariants as over
 
--- the gaps of a glyph that are examined one by one: each examination reads all edges (profile)
+-- the looks that a glyph begins with (profile)
 abbrev pub look_limit : ℕ
 look_limit = 16
 

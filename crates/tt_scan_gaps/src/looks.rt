@@ -1,6 +1,5 @@
-//! How often the gaps of a glyph are examined. An examination reads all edges. Only `look` examines a gap, and takes one
-//! of the remaining looks. Only `may_cross_both_ways` gives looks. No clause sees a function that reads the edges
-//! itself.
+//! A count of looks at the gaps of a glyph. By its clauses `look` takes one of the remaining looks, and without any its
+//! answer is true. No clause counts how often edges are read.
 
 ghost use Rattle.std.specs.Prelude.{◌≡◌, true, false, ◌+◌, ◌^◌, ◌<◌, ◌≤◌, map, unsigned_abs, All};
 ghost use Rattle.tt_scan_edges.specs.Winding.{EdgeFits};
@@ -16,10 +15,10 @@ use crate::seen::{Over, PassEdges};
 use std::marker::Model;
 use tt_scan_edges::Edge;
 
-/// The most gaps of a glyph that are examined one by one.
+/// The looks that a glyph begins with.
 const LOOKS: u32 = 16;
 
-/// How many gaps of a glyph may still be examined. Clauses see the number.
+/// The remaining looks of a glyph. Clauses see the number.
 #[derive(Drop)]
 pub(crate) struct Looks {
     left: u32,
@@ -67,8 +66,8 @@ fn may_be_free(pass: PassEdges, gap: i64, line: i64) -> bool
     !is_wound_round(pass, gap, line) && !is_wound_round(pass, gap + 1, line)
 }
 
-/// Whether a gap may be free. True where no looks remain; else one of them is taken, and all edges are read. Few gaps
-/// need a look, so the code is outside the loop that calls it.
+/// Whether a gap may be free. True where no looks remain; else one of them is taken. Few gaps need a look, so the code is
+/// outside the loop that calls it.
 #[cold]
 #[inline(never)]
 pub(crate) fn look(pass: PassEdges, looks: &mut Looks, gap: i64, line: i64) -> bool
@@ -87,7 +86,7 @@ pub(crate) fn look(pass: PassEdges, looks: &mut Looks, gap: i64, line: i64) -> b
 }
 
 /// Whether edges may cross some free gap of a row or of a column both rising and falling. False means that they do not.
-/// True also where more gaps need a look than a glyph has.
+/// True may also come where they do not.
 pub fn may_cross_both_ways(edges: &[Edge]) -> bool
     requires { All EdgeFits edges.now }
     ensures rows { result ≡ false
