@@ -1,6 +1,7 @@
 pub mod Advances
 pub mod Asked
 pub mod Bitmap
+pub mod Composed
 pub mod Example
 pub mod Extent
 pub mod Facts

@@ -3,3 +3,4 @@ pub mod Characters
 pub mod Facts
 pub mod FontFiles
 pub mod Help
+pub mod Laws

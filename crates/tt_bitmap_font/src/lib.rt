@@ -11,6 +11,7 @@
 //! answers.rt      the file by a face, and its report
 //! writing.rt      reads a font and writes its file
 //! help.rt         the second line about a refused file
+//! laws.rt         lemmas about the definitions, for all fonts
 //! ```
 #![tactic(auto)]
 
@@ -21,6 +22,7 @@ mod facts;
 mod font_file;
 mod help;
 mod lacking;
+pub mod laws;
 mod made;
 mod report;
 mod writing;
