@@ -15,7 +15,7 @@ use Rattle.tt_picture.proofs.Standings.{contours_at_pen, from_pen}
 use Rattle.tt_scan_dropouts.specs.Dropouts.{is_dropout}
 use Rattle.tt_scan_dropouts.specs.Laws.{outline_moved, rules_moved}
 use Rattle.tt_scan_dropouts.specs.declared.boxed.BoxedRules.{BoxedRules}
-use Rattle.tt_scan_dropouts.proofs.Moved.{dropouts_move}
+use Rattle.tt_scan_dropouts.proofs.MovedDots.{dropouts_move}
 use Rattle.tt_scan_edges.specs.declared.edge.Edge.{Edge}
 use Rattle.tt_scan_edges.specs.declared.edge.Frame.{Frame}
 use Rattle.tt_scan_edges.specs.Winding.{column_x, is_black, row_y}
