@@ -34,7 +34,7 @@ use Rattle.tt_metrics.specs.Metrics.{Metrics, advance_of, glyphs_of}
 use Rattle.tt_picture.specs.Distinct.{is_among}
 use Rattle.tt_picture.specs.Pictures.{Image, image}
 use Rattle.tt_picture.proofs.Alike.{image_alike}
-use Rattle.tt_render.specs.Settings.{job_by}
+use Rattle.tt_render_lines.specs.Settings.{job_by}
 use Rattle.tt_strike.specs.Job.{Job, tested}
 use Rattle.tt_strike.specs.Picture.{drawn, frame_of, laid_out, line_outcome, pictured_by, setting, text_placed}
 use Rattle.tt_strike.specs.Programs.{programs_in}

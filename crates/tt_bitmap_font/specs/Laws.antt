@@ -13,7 +13,7 @@ use Rattle.tt_glyphs.specs.EntryLaws.{IsMadeAlike}
 use Rattle.tt_glyphs.specs.Requests.{Bitmaps}
 use Rattle.tt_metrics.specs.Metrics.{glyphs_of}
 use Rattle.tt_picture.specs.Pictures.{Image, image}
-use Rattle.tt_render.specs.Settings.{job_by}
+use Rattle.tt_render_lines.specs.Settings.{job_by}
 use Rattle.tt_strike.specs.Picture.{line_outcome, setting}
 use Rattle.tt_bitmap_font.specs.Bitmaps.{characters_by}
 use Rattle.tt_bitmap_font.specs.Characters.{glyph_for, glyphs_for}

@@ -30,5 +30,5 @@ mod writing;
 pub use font_file::FontFile;
 pub use help::bdf_help;
 pub use tt_bdf::CodeRange;
-pub use tt_render::Labelled;
+pub use tt_render_lines::Labelled;
 pub use writing::write_bdf;

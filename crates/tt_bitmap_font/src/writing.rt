@@ -4,10 +4,10 @@ ghost use Rattle.std.specs.Prelude.{◌≡◌, ◌≤◌, All, false, length, Ok
 ghost use Rattle.tt_bdf.specs.Ranges.{IsCodeRange};
 ghost use Rattle.tt_bitmap_font.specs.FontFiles.{FileReadies, FontFileGives, HintsBy, IsFileDefect, TellsFile, bdf_outcome, characters_hint, hint_for, setting_of};
 ghost use Rattle.tt_core.specs.Limits.{font_limit, size_limit};
-ghost use Rattle.tt_render.specs.Printing.{errors_of};
-ghost use Rattle.tt_render.specs.Settings.{strike_of};
-ghost use Rattle.tt_render.specs.TextsOutcome.{TextTellsDefects, TextTellsDefectsOf};
-ghost use Rattle.tt_render.specs.Views.{before_lines, refusal_of_run};
+ghost use Rattle.tt_render_lines.specs.Printing.{errors_of};
+ghost use Rattle.tt_render_lines.specs.Settings.{strike_of};
+ghost use Rattle.tt_render_lines.specs.TextsOutcome.{TextTellsDefects, TextTellsDefectsOf};
+ghost use Rattle.tt_render_lines.specs.Views.{before_lines, refusal_of_run};
 ghost use Rattle.tt_render_run.specs.Outcome.{traffic_of};
 
 use crate::answers::{ReadyFile, answer_file};
@@ -17,7 +17,7 @@ use tt_advice::{FixedHint, Hint, advice};
 use tt_core::{JobFault, Sink, Source};
 use tt_face::Face;
 use tt_pbm::write_all_of;
-use tt_render::{Labelled, Refusal, TextsFault, print_text};
+use tt_render_lines::{Labelled, Refusal, TextsFault, print_text};
 use tt_render_run::{RunFault, read_font};
 
 /// Which of the characters that are asked for a font has, where these refuse the file.

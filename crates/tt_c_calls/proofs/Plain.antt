@@ -18,7 +18,7 @@ use Rattle.tt_c_calls.specs.Asked.{job_opening}
 use Rattle.tt_c_calls.specs.Laws.{PlainIsRun}
 use Rattle.tt_c_calls.specs.Pictures.{made_of, picture_wanted}
 use Rattle.tt_c_calls.specs.Refusals.{as_call}
-use Rattle.tt_render.specs.Products.{picture_by}
+use Rattle.tt_render_lines.specs.Products.{picture_by}
 
 -- the tests of a line do not refuse the line of a tested job
 line_drawn : (face : Face) (a : Job) → tested a ≡ Ok tt → line_outcome face a ≡ pictured_by face a

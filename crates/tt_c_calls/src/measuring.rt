@@ -13,7 +13,7 @@ use crate::asked::{TextRequest, job_of};
 use crate::fault::CallFault;
 use crate::opening::opened_face;
 use std::alloc::Global;
-use tt_render::make_measure;
+use tt_render_lines::make_measure;
 use tt_strike::{CharacterMeasure, InkBox, Measure, Strike, test_job};
 
 /// A box of pixels; all four sides are included.

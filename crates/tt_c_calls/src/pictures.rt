@@ -15,7 +15,7 @@ use crate::asked::{TextRequest, job_of};
 use crate::fault::CallFault;
 use crate::opening::opened_face;
 use std::alloc::Global;
-use tt_render::make_picture;
+use tt_render_lines::make_picture;
 use tt_strike::{Picture, Strike, test_job};
 
 /// A picture without its pixels.

@@ -6,11 +6,11 @@ use Rattle.tt_bdf.specs.declared.range.CodeRange.{CodeRange}
 use Rattle.tt_bitmap_font.specs.declared.font_file.FontFile.{FontFile}
 use Rattle.tt_bitmap_font.specs.FontFiles.{FontFileGives, HintsBy, IsFileDefect}
 use Rattle.tt_bitmap_font.specs.Help.{bdf_help}
-use Rattle.tt_render.specs.declared.label.Labelled.{Labelled}
-use Rattle.tt_render.specs.declared.refusal.TextsFault.{TextsFault}
-use Rattle.tt_render.specs.Printing.{Errors}
-use Rattle.tt_render.specs.TextsMessages.{texts_line_of, texts_status_of}
-use Rattle.tt_render.specs.TextsOutcome.{TextTellsDefectsOf}
+use Rattle.tt_render_lines.specs.declared.label.Labelled.{Labelled}
+use Rattle.tt_render_lines.specs.declared.refusal.TextsFault.{TextsFault}
+use Rattle.tt_render_lines.specs.Printing.{Errors}
+use Rattle.tt_render_lines.specs.TextsMessages.{texts_line_of, texts_status_of}
+use Rattle.tt_render_lines.specs.TextsOutcome.{TextTellsDefectsOf}
 use Rattle.tt_render_run.specs.Outcome.{ReadsNothing, Traffic, WritesNothing}
 use Rattle.tt_program_decisions.specs.declared.stopping.Stop.{Stop}
 use Rattle.tt_program_decisions.specs.declared.stopping.Stop.TheVariants as stop

@@ -7,12 +7,12 @@ use Rattle.tt_render_run.specs.declared.fault.RunFault.{RunFault}
 use Rattle.tt_render_run.specs.declared.fault.RunFault.TheVariants as run
 use Rattle.tt_render_run.specs.Defects.{TellsDefectsOf}
 use Rattle.tt_render_run.specs.Outcome.{CallGives, Traffic, Wanted}
-use Rattle.tt_render.specs.Printing.{Errors, Prints, PrintsNothing}
-use Rattle.tt_render.specs.TextsMessages.{texts_line_of, texts_status_of}
-use Rattle.tt_render.specs.declared.label.Label.{Label}
-use Rattle.tt_render.specs.declared.label.Labelled.{Labelled}
-use Rattle.tt_render.specs.declared.refusal.TextsFault.{TextsFault}
-use Rattle.tt_render.specs.Help.{label_help}
+use Rattle.tt_render_lines.specs.Printing.{Errors, Prints, PrintsNothing}
+use Rattle.tt_render_lines.specs.TextsMessages.{texts_line_of, texts_status_of}
+use Rattle.tt_render_lines.specs.declared.label.Label.{Label}
+use Rattle.tt_render_lines.specs.declared.label.Labelled.{Labelled}
+use Rattle.tt_render_lines.specs.declared.refusal.TextsFault.{TextsFault}
+use Rattle.tt_render_lines.specs.Help.{label_help}
 use Rattle.tt_render_run.specs.Messages.{line_of, status_of}
 
 -- the status and the line of one fault

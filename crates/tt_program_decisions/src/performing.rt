@@ -3,7 +3,7 @@
 ghost use Rattle.std.specs.Prelude.{◌≡◌, ◌≤◌, false};
 ghost use Rattle.tt_program_decisions.specs.Requests.{Performs, UnlessLines};
 ghost use Rattle.tt_render_run.specs.Outcome.{traffic_of};
-ghost use Rattle.tt_render.specs.Printing.{errors_of};
+ghost use Rattle.tt_render_lines.specs.Printing.{errors_of};
 
 use crate::bdf::perform_bdf;
 use crate::faces::faces;

@@ -1,7 +1,7 @@
 //! The request of a command line.
 
 ghost use Rattle.std.specs.Prelude.{◌≡◌, ◌≢◌, ℕ, Bool, List, Option, None, codes, option_map};
-ghost use Rattle.tt_render.specs.declared.setting.Product.TheVariants.{Measure, Picture};
+ghost use Rattle.tt_render_lines.specs.declared.setting.Product.TheVariants.{Measure, Picture};
 ghost use Rattle.tt_program_decisions.specs.Requests.{AsksBdf, AsksDrawing, AsksLabel, AsksMap, AsksMeasure, AsksPlainSetting, AsksSetting, asked_of, faces_asked, fit_named, font_of, missing_named, without_ink};
 
 use crate::bdf::{BdfRequest, bdf_of};

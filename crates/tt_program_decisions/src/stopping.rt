@@ -2,7 +2,7 @@
 
 ghost use Rattle.std.specs.Prelude.{◌≡◌, ◌≤◌, false};
 ghost use Rattle.tt_program_decisions.specs.Stops.{stop_at_open, stop_at_words, stop_status, stop_text};
-ghost use Rattle.tt_render.specs.Printing.{Prints, errors_of};
+ghost use Rattle.tt_render_lines.specs.Printing.{Prints, errors_of};
 
 use crate::telling::NO_MEMORY;
 use std::io::ErrorKind;

@@ -1,7 +1,7 @@
 //! The report of an answer: the exit status, and a line on standard error.
 
 ghost use Rattle.std.specs.Prelude.{◌≡◌, ℕ, ◌≤◌, ◌++◌, false, List, codes, string_bytes, IfOk};
-ghost use Rattle.tt_render.specs.Printing.{errors_of};
+ghost use Rattle.tt_render_lines.specs.Printing.{errors_of};
 ghost use Rattle.tt_program_decisions.specs.Telling.{Tells, TellsLine, TellsText};
 
 use std::alloc::{AllocError, Global};

@@ -2,7 +2,7 @@
 //! people.
 
 ghost use Rattle.std.specs.Prelude.{◌≡◌, ◌≤◌, string_bytes, IfOk};
-ghost use Rattle.tt_render.specs.Printing.{errors_of};
+ghost use Rattle.tt_render_lines.specs.Printing.{errors_of};
 ghost use Rattle.tt_program_decisions.specs.BdfCalls.{TellsFile, file_lines_of};
 
 use crate::telling::tell_text;

@@ -1,7 +1,7 @@
 //! The report of labels that were drawn: the exit status, and on standard error a line for programs and one for people.
 
 ghost use Rattle.std.specs.Prelude.{◌≡◌, ◌≤◌, string_bytes, IfOk};
-ghost use Rattle.tt_render.specs.Printing.{errors_of};
+ghost use Rattle.tt_render_lines.specs.Printing.{errors_of};
 ghost use Rattle.tt_program_decisions.specs.Telling.{TellsLabel, label_lines_of};
 
 use crate::telling::tell_text;

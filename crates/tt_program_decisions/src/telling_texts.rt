@@ -2,7 +2,7 @@
 //! error.
 
 ghost use Rattle.std.specs.Prelude.{◌≤◌};
-ghost use Rattle.tt_render.specs.Printing.{errors_of};
+ghost use Rattle.tt_render_lines.specs.Printing.{errors_of};
 ghost use Rattle.tt_program_decisions.specs.Telling.{TellsTexts};
 
 use crate::telling::tell_line;

@@ -8,17 +8,17 @@ use Rattle.tt_render_run.specs.declared.fault.RunFault.{RunFault}
 use Rattle.tt_render_run.specs.declared.fault.RunFault.TheVariants as run
 use Rattle.tt_render_run.specs.Outcome.{Traffic}
 use Rattle.tt_render_run.specs.Reading.{FontIsRead, FontReader, ReadFails}
-use Rattle.tt_render.specs.declared.label.Label.{Label}
-use Rattle.tt_render.specs.declared.refusal.Refusal.{Refusal}
-use Rattle.tt_render.specs.declared.refusal.Refusal.TheVariants as reason
-use Rattle.tt_render.specs.declared.refusal.TextsFault.{TextsFault}
-use Rattle.tt_render.specs.declared.setting.Setting.{Setting}
+use Rattle.tt_render_lines.specs.declared.label.Label.{Label}
+use Rattle.tt_render_lines.specs.declared.refusal.Refusal.{Refusal}
+use Rattle.tt_render_lines.specs.declared.refusal.Refusal.TheVariants as reason
+use Rattle.tt_render_lines.specs.declared.refusal.TextsFault.{TextsFault}
+use Rattle.tt_render_lines.specs.declared.setting.Setting.{Setting}
 use Rattle.tt_render.specs.Labels.{FileLabelsGive, FontLabelsGive, IsUnopened, hint_for}
-use Rattle.tt_render.specs.Printing.{Errors}
-use Rattle.tt_render.specs.Settings.{setting_tested, strike_of}
-use Rattle.tt_render.specs.TextsOutcome.{StopsFor}
-use Rattle.tt_render.specs.Views.{refusal_of_run}
-use Rattle.tt_render.proofs.FontLines.{size_passes}
+use Rattle.tt_render_lines.specs.Printing.{Errors}
+use Rattle.tt_render_lines.specs.Settings.{setting_tested, strike_of}
+use Rattle.tt_render_lines.specs.TextsOutcome.{StopsFor}
+use Rattle.tt_render_lines.specs.Views.{refusal_of_run}
+use Rattle.tt_render_lines.proofs.FontLines.{size_passes}
 use Rattle.tt_strike.specs.Job.{size_tested}
 use Rattle.tt_strike.specs.Refusals.{as_job}
 

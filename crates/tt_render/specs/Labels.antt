@@ -12,24 +12,23 @@ use Rattle.tt_cmap.specs.Maps.{CharacterMap}
 use Rattle.tt_core.specs.declared.collection.Reading.{Reading}
 use Rattle.tt_core.specs.declared.collection.Reading.TheVariants as reading
 use Rattle.tt_strike.specs.Refusals.{Refused, font}
-use Rattle.tt_strike.specs.Strikes.{SizedFace, Strike, job_of}
+use Rattle.tt_strike.specs.Strikes.{Strike, job_of}
 use Rattle.tt_render_run.specs.File.{as_file}
-use Rattle.tt_render.specs.declared.label.Label.{Label}
-use Rattle.tt_render.specs.declared.label.Labelled.{Labelled}
+use Rattle.tt_render_lines.specs.declared.label.Label.{Label}
+use Rattle.tt_render_lines.specs.declared.label.Labelled.{Labelled}
 use Rattle.tt_render.specs.declared.label_answers.ReadyLabel.{ReadyLabel}
-use Rattle.tt_render.specs.declared.refusal.Refusal.{Refusal}
-use Rattle.tt_render.specs.declared.refusal.Refusal.TheVariants as reason
-use Rattle.tt_render.specs.declared.refusal.TextsFault.{TextsFault}
-use Rattle.tt_render.specs.declared.setting.Setting.{Setting}
-use Rattle.tt_render.specs.declared.signs.Signs.{Signs}
-use Rattle.tt_render.specs.Lines.{line_answer}
-use Rattle.tt_render.specs.Printing.{Errors}
-use Rattle.tt_render.specs.Reports.{label_report_of, told_view}
-use Rattle.tt_render.specs.Settings.{setting_tested, strike_of}
+use Rattle.tt_render_lines.specs.declared.refusal.Refusal.{Refusal}
+use Rattle.tt_render_lines.specs.declared.refusal.Refusal.TheVariants as reason
+use Rattle.tt_render_lines.specs.declared.refusal.TextsFault.{TextsFault}
+use Rattle.tt_render_lines.specs.declared.label_reports.Signs.{Signs}
+use Rattle.tt_render_lines.specs.Lines.{line_answer}
+use Rattle.tt_render_lines.specs.Printing.{Errors}
+use Rattle.tt_render_lines.specs.Reports.{label_report_of, told_view}
+use Rattle.tt_render_lines.specs.Settings.{setting_tested, strike_of}
 use Rattle.tt_label.specs.Label.{label_cost, label_outcome, label_report}
 use Rattle.tt_line.specs.Labels.{label_lines}
-use Rattle.tt_render.specs.Texts.{LabelTold, TextAnswer, TextRefusal, answer_with, missing_among}
-use Rattle.tt_render.specs.TextsOutcome.{FontAnswers, IsIdle, IsNotReady, LinesGive, OpensFont, StopsAtFont}
+use Rattle.tt_render_lines.specs.Texts.{LabelTold, TextAnswer, TextRefusal, answer_with, missing_among}
+use Rattle.tt_render_lines.specs.TextsOutcome.{FontAnswers, IsIdle, IsNotReady, LinesGive, OpensFont, StopsAtFont}
 use Rattle.tt_render_run.specs.Outcome.{Traffic}
 use Rattle.tt_render_run.specs.Reading.{FontReader}
 
@@ -85,10 +84,6 @@ label_answer l s text =
 -- the answer of a line that is drawn as a label
 unfoldable pub line_labelled : Label → Strike → List ℕ → Result TextAnswer TextRefusal
 line_labelled l s line = line_answer (label_answer l s) line
-
--- a face at a size as a strike without cached glyphs
-abbrev pub strike_in : Setting → SizedFace → Strike
-strike_in a z = record { face = z.face; ppem = z.ppem; fit = z.fit; most = a.most; kept = [] }
 
 -- the answer that is ready to be written
 abbrev pub label_view : ReadyLabel → TextAnswer

@@ -1,17 +1,1 @@
-pub mod Help
 pub mod Labels
-pub mod LayoutTexts
-pub mod LineReading
-pub mod Lines
-pub mod LinesDefects
-pub mod MeasureText
-pub mod Printing
-pub mod Products
-pub mod Readings
-pub mod Reports
-pub mod RunLaws
-pub mod Settings
-pub mod Texts
-pub mod TextsMessages
-pub mod TextsOutcome
-pub mod Views

@@ -3,26 +3,24 @@
 ghost use Rattle.std.specs.Prelude.{◌≡◌, ℕ, ◌≤◌, List, length, map, IfOk};
 ghost use Rattle.tt_core.specs.Limits.{font_limit};
 ghost use Rattle.tt_core.specs.Outcomes.{GivesUnless};
-ghost use Rattle.tt_render.specs.Labels.{TellsLabel, face_number, label_answer, label_told, label_view, signs_of, strike_in};
-ghost use Rattle.tt_render.specs.LinesDefects.{IsDefectBy};
-ghost use Rattle.tt_render.specs.Reports.{told_view};
+ghost use Rattle.tt_render.specs.Labels.{TellsLabel, face_number, label_answer, label_told, label_view, signs_of};
+ghost use Rattle.tt_render_lines.specs.LinesDefects.{IsDefectBy};
+ghost use Rattle.tt_render_lines.specs.Reports.{told_view};
+ghost use Rattle.tt_render_lines.specs.Settings.{strike_in};
 ghost use Rattle.tt_label.specs.Label.{label_glyphs};
 ghost use Rattle.tt_line.specs.Labels.{label_lines};
-ghost use Rattle.tt_render.specs.TextsOutcome.{IsOfText, refusal_font_fault, told, without_line};
+ghost use Rattle.tt_render_lines.specs.TextsOutcome.{IsOfText, refusal_font_fault, told, without_line};
 ghost use Rattle.tt_render_run.specs.File.{p4};
 ghost use Rattle.tt_strike.specs.Defects.{TellsDefects};
 
-use crate::label::Label;
-use crate::label_reports::LabelTold;
 use crate::label_texts::{label_lines, missing_in};
-use crate::refusal::TextsFault;
 use crate::signs::signs_of;
-use crate::texts_messages::Messages;
 use std::alloc::{AllocError, Global};
 use tt_advice::font_notes;
 use tt_core::Reading;
 use tt_label::{LabelPicture, SizedFace, label};
 use tt_pbm::p4_header;
+use tt_render_lines::{Label, LabelTold, Messages, TextsFault};
 
 /// A label, ready to be written: its picture, the file of that, the reported characters without a glyph, what else is
 /// reported, and the report as it is printed.

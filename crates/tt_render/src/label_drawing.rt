@@ -6,28 +6,26 @@ ghost use Rattle.tt_core.specs.Outcomes.{GivesUnless, IfTold};
 ghost use Rattle.tt_label.specs.Label.{label_glyphs};
 ghost use Rattle.tt_render_run.specs.Outcome.{traffic_of};
 ghost use Rattle.tt_render_run.specs.Reading.{font_reader_of};
-ghost use Rattle.tt_render.specs.Labels.{FileLabelsGive, FontLabelGives, FontLabelsGive, HintsBy, LabelReadies, TellsLabel, hint_for, label_answer, label_view, line_labelled, strike_in};
-ghost use Rattle.tt_render.specs.Lines.{line_limit};
-ghost use Rattle.tt_render.specs.LinesDefects.{IsDefectBy, IsTextDefect, LinesTell, LinesTellDefects, LinesTellDefectsOf};
-ghost use Rattle.tt_render.specs.Printing.{errors_of};
-ghost use Rattle.tt_render.specs.Settings.{job_by, setting_tested, strike_of};
-ghost use Rattle.tt_render.specs.TextsOutcome.{IsOfText, LinesGive, TextTellsDefects, TextTellsDefectsOf, refusal_font_fault, told, without_line};
-ghost use Rattle.tt_render.specs.Views.{before_lines};
+ghost use Rattle.tt_render.specs.Labels.{FileLabelsGive, FontLabelGives, FontLabelsGive, HintsBy, LabelReadies, TellsLabel, hint_for, label_answer, label_view, line_labelled};
+ghost use Rattle.tt_render_lines.specs.Lines.{line_limit};
+ghost use Rattle.tt_render_lines.specs.LinesDefects.{IsDefectBy, IsTextDefect, LinesTell, LinesTellDefects, LinesTellDefectsOf};
+ghost use Rattle.tt_render_lines.specs.Printing.{errors_of};
+ghost use Rattle.tt_render_lines.specs.Settings.{job_by, setting_tested, strike_in, strike_of};
+ghost use Rattle.tt_render_lines.specs.TextsOutcome.{IsOfText, LinesGive, TextTellsDefects, TextTellsDefectsOf, refusal_font_fault, told, without_line};
+ghost use Rattle.tt_render_lines.specs.Views.{before_lines};
 ghost use Rattle.tt_strike.specs.Job.{tested};
 
-use crate::drawing::next_line;
-use crate::label::{Label, Labelled};
 use crate::label_answers::{ReadyLabel, answer_label, face_number};
-use crate::lines::LineReader;
-use crate::printing::print_text;
-use crate::refusal::{Refusal, TextsFault, refusal_of_run, texts_fault};
-use crate::setting::test_setting;
 use std::alloc::Global;
 use std::str;
 use tt_advice::{Hint, advice};
 use tt_core::{Sink, Source};
 use tt_label::SizedFace;
 use tt_pbm::write_all_of;
+use tt_render_lines::{
+    Label, Labelled, LineReader, Refusal, TextsFault, next_line, print_text, refusal_of_run,
+    test_setting, texts_fault,
+};
 use tt_render_run::read_font;
 use tt_strike::{Face, test_job};
 
@@ -222,7 +220,7 @@ fn draw_labels_by<R: Source, W: Sink, E: Sink>(
 }
 
 /// Draws each line of a text as a label by a font file. Errors: those of `draw_labels` behind the reading of the font.
-#[tactic(auto, unfolding(crate::specs::Settings::strike_of))]
+#[tactic(auto, unfolding(tt_render_lines::specs::Settings::strike_of))]
 fn draw_labels_of<R: Source, W: Sink, E: Sink>(
     alloc: Global,
     file: &[u8],

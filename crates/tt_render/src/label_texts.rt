@@ -6,14 +6,13 @@ ghost use Rattle.tt_cmap.specs.Lacking.{distinct_after, with_character};
 ghost use Rattle.tt_core.specs.Outcomes.{GivesUnless, IfTold};
 ghost use Rattle.tt_render.specs.Labels.{lines_lacking};
 ghost use Rattle.tt_line.specs.Labels.{label_lines};
-ghost use Rattle.tt_render.specs.Texts.{missing_among};
-ghost use Rattle.tt_render.specs.TextsOutcome.{IsOfText, refusal_font_fault, told, without_line};
+ghost use Rattle.tt_render_lines.specs.Texts.{missing_among};
+ghost use Rattle.tt_render_lines.specs.TextsOutcome.{IsOfText, refusal_font_fault, told, without_line};
 
-use crate::refusal::{Refusal, TextsFault, texts_fault};
-use crate::setting::Missing;
 use std::alloc::{AllocError, Global};
 use tt_cmap::{CharacterMap, lacking};
-use tt_label::unmarked;
+use tt_line::unmarked;
+use tt_render_lines::{Missing, Refusal, TextsFault, texts_fault};
 
 /// The lines of a text: a line feed ends a line, and a carriage return just before it is no part of the line. Error:
 /// memory ran out.

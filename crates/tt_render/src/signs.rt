@@ -4,15 +4,7 @@ ghost use Rattle.std.specs.Prelude.{◌≡◌, map};
 ghost use Rattle.tt_render.specs.Labels.{first_sign, signs_of};
 
 use tt_advice::Sign;
-
-/// The first character of each sign, in the lines of a label.
-#[derive(Clone, Copy, Debug, PartialEq, Eq)]
-pub struct Signs {
-    pub control: Option<char>,
-    pub right_to_left: Option<char>,
-    pub shaped: Option<char>,
-    pub joining: Option<char>,
-}
+use tt_render_lines::Signs;
 
 /// The first character of some lines that has a sign.
 fn first_sign(sign: Sign, lines: &[&str]) -> Option<char>

@@ -8,7 +8,7 @@ use std::str;
 use tt_core::{Device, Reading};
 use tt_face::Opening;
 use tt_program_decisions::{DRAW, GLYPHS_KEPT, Request, fit_named, missing_named, perform};
-use tt_render::{Setting, fit_reading};
+use tt_render_lines::{Setting, fit_reading};
 use tt_test_words::Line;
 
 /// The font, and how it is read and the answer is taken.

@@ -5,9 +5,9 @@ use Rattle.tt_strike.specs.Refusals.{as_job}
 use Rattle.tt_label.specs.Label.{label_glyphs}
 use Rattle.tt_render.specs.declared.label_answers.ReadyLabel.{ReadyLabel}
 use Rattle.tt_render.specs.Labels.{label_answer}
-use Rattle.tt_render.specs.Settings.{job_by, strike_by, strike_of}
-use Rattle.tt_render.proofs.FontLines.{face_file, font_opened, font_refused}
-use Rattle.tt_render.proofs.OneText.{none_in_file, strike_stops, text_stops, text_tells}
+use Rattle.tt_render_lines.specs.Settings.{job_by, strike_by, strike_of}
+use Rattle.tt_render_lines.proofs.FontLines.{face_file, font_opened, font_refused}
+use Rattle.tt_render_lines.proofs.OneText.{none_in_file, strike_stops, text_stops, text_tells}
 use Rattle.tt_render.proofs.label_drawing.draw.Goals as goal
 
 pub returns-in_err-face-clause-outcome : goal.returns-in_err-face-clause-outcome

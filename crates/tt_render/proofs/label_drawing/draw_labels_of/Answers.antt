@@ -1,9 +1,9 @@
 use Rattle.std.proofs.Common.{inl, inr}
 use Rattle.std.proofs.lemmas.Result.{err_from_is_err_and}
 use Rattle.tt_label.specs.Label.{label_glyphs}
-use Rattle.tt_render.specs.Settings.{strike_by}
-use Rattle.tt_render.proofs.DefectLines.{lines_tell}
-use Rattle.tt_render.proofs.FontLines.{face_file, font_opened, font_refused, idle}
+use Rattle.tt_render_lines.specs.Settings.{strike_by}
+use Rattle.tt_render_lines.proofs.DefectLines.{lines_tell}
+use Rattle.tt_render_lines.proofs.FontLines.{face_file, font_opened, font_refused, idle}
 use Rattle.tt_render.proofs.LabelCalls.{size_stands}
 use Rattle.tt_render.proofs.label_drawing.draw_labels_of.Goals as goal
 

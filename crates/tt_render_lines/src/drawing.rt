@@ -1,0 +1,241 @@
+//! Draws one text, or the lines of a text in order, from a reader to a writer.
+
+ghost use Rattle.std.specs.Prelude.{◌≡◌, ◌≤◌, false, length, Ok, None, IfOk, Some};
+ghost use Rattle.tt_core.specs.Limits.{font_limit};
+ghost use Rattle.tt_render_run.specs.Outcome.{traffic_of};
+ghost use Rattle.tt_render_lines.specs.Printing.{errors_of};
+ghost use Rattle.tt_render_lines.specs.Products.{CanGoOut};
+ghost use Rattle.tt_render_lines.specs.Settings.{job_by, strike_of};
+ghost use Rattle.tt_render_lines.specs.Texts.{text_answer};
+ghost use Rattle.tt_render_lines.specs.TextsOutcome.{FontTextGives, ReadiesText, TellsOf, TextTellsDefects, TextTellsDefectsOf, FailsByStop, FindsLine, FontLinesGive, IsOfText, LinesGive, answer_view, refusal_font_fault, told, without_line};
+ghost use Rattle.tt_line.specs.Layout.{text_glyphs};
+ghost use Rattle.tt_strike.specs.Defects.{IsRunDefect};
+ghost use Rattle.tt_strike.specs.Job.{tested};
+ghost use Rattle.tt_core.specs.Outcomes.{GivesUnless, IfTold};
+ghost use Rattle.tt_render_lines.specs.LineReading.{text_left};
+ghost use Rattle.tt_render_lines.specs.Lines.{line_drawn, line_limit, lines_budget};
+ghost use Rattle.tt_render_lines.specs.LinesDefects.{IsDefectBy, LinesTell, LinesTellDefectsOf};
+ghost use Rattle.tt_render_run.specs.Reading.{font_reader_of};
+
+use crate::lines::{LINE_LIMIT, LinePlace, LineReader, NextLine};
+use crate::printing::print_text;
+use crate::products::write_output;
+use crate::refusal::{Refusal, TextsFault, texts_fault};
+use crate::setting::{Setting, test_setting};
+use crate::text_answers::{ReadyText, answer_text};
+use std::alloc::Global;
+use std::str;
+use tt_core::{JobFault, Sink, Source};
+use tt_render_run::read_font;
+use tt_strike::{Face, Strike, test_job};
+
+/// The answer of the one text by a font file. Errors, the first of: Font, of the tables needed for every text; those of
+/// `answer_text`. Memory may come at any allocation.
+fn draw(alloc: Global, file: &[u8], text: &str, setting: &Setting) -> Result<ReadyText, TextsFault>
+    requires size { length file.now ≤ font_limit }
+    requires tested { tested (job_by setting.now text.now) ≡ Ok tt }
+    ensures outcome { ReadiesText (λ s. text_answer setting.now s text.now) (strike_of setting.now file.now) result }
+    ensures defects { TextTellsDefects (IsRunDefect setting.now.opening (job_by setting.now text.now) file.now) result }
+    ensures valid { IfOk result (λ r. CanGoOut r.output) }
+    ensures report { IfOk result (TellsOf None) }
+{
+    let face = Face::read_with(file, setting.opening)?;
+    // There is no other line, so no glyph is cached.
+    let mut strike = Strike::new(alloc, &face, setting.ppem, setting.fit, 0)?;
+    match answer_text(alloc, &mut strike, file, setting, None, text) {
+        Ok(ready) => Ok(ready),
+        Err(fault) => Err(texts_fault(None, fault.refusal)),
+    }
+}
+
+/// Draws one text by a font, and writes its product: the picture, as `run` would write it; the picture enlarged so that
+/// no ink is cut; or the measure of either. Then its report is printed on `error`: a line for each glyph that could not
+/// be fitted. With `Missing::Tell` a line for each character without a glyph follows. A failure of `error` does not
+/// change the answer.
+///
+/// Errors, the first of these, with no line: Job (SizeRange, MarginRange, and TextLong, of more than 4,096 characters),
+/// before the font is read; FontRead, FontLarge; Font, of the tables needed for every text; Font and Job of
+/// `make_picture` or `make_measure`; Missing; and Write. Memory may come at any allocation, and then nothing was
+/// written.
+pub fn draw_text<R: Source, W: Sink, E: Sink>(
+    alloc: Global,
+    font: &mut R,
+    out: &mut W,
+    error: &mut E,
+    text: &str,
+    setting: &Setting,
+) -> Result<(), TextsFault>
+    requires font { R.has_failed font.old ≡ false }
+    requires out { W.has_failed out.old ≡ false }
+    requires error { E.has_failed error.old ≡ false }
+    // Either the call stopped before the text was drawn, and did nothing else. Or the font was read to its end and
+    // opened, and the writing and printing are as defined for the text by that font.
+    ensures outcome { FontTextGives setting.now text.now result (traffic_of R.left R.has_failed W.written W.has_failed font.old font.new out.old out.new) (errors_of E.written E.has_failed error.old error.new) }
+    ensures defects { TextTellsDefectsOf (R.left font.old) (IsRunDefect setting.now.opening (job_by setting.now text.now)) result }
+{
+    test_job(&setting.job(text))?;
+    let file = read_font(alloc, font)?;
+    let mut ready = draw(alloc, &file, text, setting)?;
+    match write_output(out, &mut ready.output) {
+        Ok(()) => {
+            print_text(error, &ready.report);
+            Ok(())
+        }
+        Err(cut) => Err(TextsFault {
+            line: None,
+            refusal: Refusal::Write { sent: cut.sent },
+        }),
+    }
+}
+
+/// What the lines of a call may take with `Fit::Best` before one more is drawn, by how many they are.
+pub fn lines_budget(before: u64) -> u128
+    ensures { result ≡ lines_budget before }
+{
+    10_000_000 + 4_000_000 * u128::from(before)
+}
+
+/// The answer of the line with this number, by a strike whose face is of this file. Errors, the first of: NotUtf8; those
+/// of a text. The caller puts the line into an error.
+#[tactic(auto, unfolding(crate::specs::Lines::line_drawn))]
+fn draw_line(
+    alloc: Global,
+    strike: &mut Strike,
+    file: &[u8],
+    setting: &Setting,
+    number: u32,
+    line: &[u8],
+) -> Result<ReadyText, TextsFault>
+    requires short { length line.now ≤ line_limit }
+    requires file { file.now ≡ strike.old.face.directory.file }
+    ensures exact { GivesUnless told answer_view (without_line result) (line_drawn setting.now strike.old line.now) }
+    ensures valid { IfOk result (λ r. CanGoOut r.output) }
+    ensures report { IfOk result (TellsOf (Some number)) }
+    ensures serves { IsOfText (without_line result) }
+    ensures defects { IfTold refusal_font_fault (without_line result) (IsDefectBy text_glyphs setting.now strike.old line.now) }
+    ensures same { strike.new ≡ record strike.old { kept = strike.new.kept } }
+{
+    let Ok(text) = str::from_utf8(line) else {
+        return Err(texts_fault(None, Refusal::NotUtf8));
+    };
+    answer_text(alloc, strike, file, setting, Some(number), text)
+}
+
+/// The place of the next line, if there is one. The `drawn` lines before it took `used` of the budget. Errors, the first
+/// of: Read; TextLong, of more than 16,384 bytes; WorkLarge, where those lines took more than the budget. The caller
+/// puts the line into an error.
+pub fn next_line<R: Source>(
+    reader: &mut LineReader,
+    lines: &mut R,
+    drawn: u32,
+    used: u128,
+) -> Result<Option<LinePlace>, TextsFault>
+    requires { R.has_failed lines.old ≡ false }
+    ensures outcome { FindsLine reader.new drawn used (without_line result) (text_left reader.old (R.left lines.old)) (text_left reader.new (R.left lines.new)) }
+    ensures failure { FailsByStop (R.has_failed lines.new) (without_line result) }
+{
+    let place = match reader.read_line(lines) {
+        Ok(NextLine::Line(place)) => place,
+        Ok(NextLine::Long) => return Err(texts_fault(None, Refusal::Job(JobFault::TextLong))),
+        Ok(NextLine::End) => return Ok(None),
+        Err(_) => return Err(texts_fault(None, Refusal::Read)),
+    };
+    let line = reader.line(place);
+    if line.len() > LINE_LIMIT {
+        return Err(texts_fault(None, Refusal::Job(JobFault::TextLong)));
+    }
+    let budget = lines_budget(u64::from(drawn));
+    if used > budget {
+        return Err(texts_fault(None, Refusal::Job(JobFault::WorkLarge)));
+    }
+    Ok(Some(place))
+}
+
+/// Draws the lines of a text with a strike, as `draw_lines` does. The strike's face is of this file. Returns the bytes
+/// of the cached glyphs.
+fn draw_lines_by<R: Source, W: Sink, E: Sink>(
+    alloc: Global,
+    strike: &mut Strike,
+    file: &[u8],
+    lines: &mut R,
+    out: &mut W,
+    error: &mut E,
+    setting: &Setting,
+) -> Result<usize, TextsFault>
+    requires lines { R.has_failed lines.old ≡ false }
+    requires out { W.has_failed out.old ≡ false }
+    requires error { E.has_failed error.old ≡ false }
+    requires file { file.now ≡ strike.old.face.directory.file }
+    ensures outcome { LinesGive (line_drawn setting.now strike.old) result (traffic_of R.left R.has_failed W.written W.has_failed lines.old lines.new out.old out.new) (errors_of E.written E.has_failed error.old error.new) }
+    ensures defects { LinesTell (IsDefectBy text_glyphs setting.now strike.old) (R.left lines.old) result }
+    ensures kept { IfOk result (λ n. n ≤ strike.old.most) }
+{
+    let mut reader = LineReader::new(alloc)?;
+    let mut used = 0;
+    for before in 0..u32::MAX {
+        let number = before + 1;
+        let place = match next_line(&mut reader, lines, before, used) {
+            Ok(Some(place)) => place,
+            Ok(None) => return Ok(strike.kept_bytes()),
+            Err(stop) => return Err(texts_fault(Some(number), stop.refusal)),
+        };
+        let line = reader.line(place);
+        let mut ready = match draw_line(alloc, strike, file, setting, number, line) {
+            Ok(ready) => ready,
+            Err(fault) => return Err(texts_fault(Some(number), fault.refusal)),
+        };
+        used += u128::from(ready.output.cost());
+        if let Err(cut) = write_output(out, &mut ready.output) {
+            return Err(TextsFault {
+                line: Some(number),
+                refusal: Refusal::Write { sent: cut.sent },
+            });
+        }
+        print_text(error, &ready.report);
+    }
+    Err(TextsFault {
+        line: None,
+        refusal: Refusal::Many,
+    })
+}
+
+/// Draws the lines of a text in order, and writes the product of each, as `draw_text` would write it, as soon as it is
+/// made. A line ends before its line feed, and before a carriage return there. The rest after the last line feed is a
+/// line too, unless it is empty. Nothing of a refused line is written, and later lines are not drawn. After a line's
+/// product its report is printed on `error`: a line for each glyph that could not be fitted. With `Missing::Tell` a
+/// line for each character without a glyph follows. A failure of `error` does not stop the drawing. With `Fit::Best`
+/// the lines share a budget: a line is drawn only if those before it took at most 10,000,000 and 4,000,000 for each of
+/// them. Returns the bytes of the glyphs that are cached at the end, which are at most the setting's `most`.
+///
+/// Errors, the first of: Job (SizeRange, MarginRange), before the font is read; FontRead, FontLarge; Font, of the
+/// tables needed for every text; then, line by line, with the line's number, from 1: Read; Job (TextLong, of more than
+/// 16,384 bytes; WorkLarge, where the lines before it took more than their budget); NotUtf8; Font and Job of
+/// `make_picture` or `make_measure`; Missing; and Write. Many comes after 4,294,967,295 lines. Memory may come at any
+/// allocation.
+#[tactic(auto, unfolding(crate::specs::Settings::strike_of))]
+pub fn draw_lines<F: Source, R: Source, W: Sink, E: Sink>(
+    alloc: Global,
+    font: &mut F,
+    lines: &mut R,
+    out: &mut W,
+    error: &mut E,
+    setting: &Setting,
+) -> Result<usize, TextsFault>
+    requires font { F.has_failed font.old ≡ false }
+    requires lines { R.has_failed lines.old ≡ false }
+    requires out { W.has_failed out.old ≡ false }
+    requires error { E.has_failed error.old ≡ false }
+    // Either the call stopped before it read a line, and did nothing else. Or the font was read to its end and opened,
+    // and the reading, writing and printing are as defined for the lines by that font.
+    ensures outcome { FontLinesGive setting.now result (font_reader_of F.left F.has_failed font.old font.new) (traffic_of R.left R.has_failed W.written W.has_failed lines.old lines.new out.old out.new) (errors_of E.written E.has_failed error.old error.new) }
+    // A font's fault in an error is a defect of the font: of the tables needed for every text, or of the data that the
+    // numbered line is drawn from.
+    ensures defects { LinesTellDefectsOf text_glyphs (F.left font.old) setting.now (R.left lines.old) result }
+    ensures kept { IfOk result (λ n. n ≤ setting.now.most) }
+{
+    test_setting(setting)?;
+    let file = read_font(alloc, font)?;
+    let face = Face::read_with(&file, setting.opening)?;
+    let mut strike = Strike::new(alloc, &face, setting.ppem, setting.fit, setting.most)?;
+    draw_lines_by(alloc, &mut strike, &file, lines, out, error, setting)
+}

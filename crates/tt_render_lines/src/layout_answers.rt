@@ -1,0 +1,64 @@
+//! The answer of a text without its ink: its lines and its report.
+
+ghost use Rattle.std.specs.Prelude.{◌≡◌, IfOk};
+ghost use Rattle.tt_core.specs.Outcomes.{GivesUnless};
+ghost use Rattle.tt_render_lines.specs.LayoutTexts.{IsLaidDefect, TellsLayout, layout_answer, layout_view};
+ghost use Rattle.tt_render_lines.specs.Settings.{strike_in};
+ghost use Rattle.tt_render_lines.specs.TextsOutcome.{IsOfText, refusal_font_fault, told, without_line};
+ghost use Rattle.tt_strike.specs.Defects.{TellsDefects};
+ghost use Rattle.tt_strike.specs.Strikes.{job_of};
+
+use crate::layout_texts::layout_text;
+use crate::refusal::TextsFault;
+use crate::setting::Setting;
+use crate::text_answers::missing_of;
+use crate::texts_messages::Messages;
+use std::alloc::Global;
+use tt_strike::SizedFace;
+
+/// The lines of a text, ready to be written; the reported characters without a glyph; and the report as it is printed.
+#[derive(Drop)]
+pub(crate) struct ReadyLayout {
+    pub(crate) lines: String,
+    pub(crate) lacking: Vec<char>,
+    pub(crate) report: String,
+}
+
+/// The answer of a text by a face at a size, which is of this file. Errors, the first of: those of `SizedFace::pens`;
+/// Missing.
+#[tactic(auto, unfolding(crate::specs::LayoutTexts::layout_answer, crate::specs::LayoutTexts::laid_text))]
+pub(crate) fn answer_layout(
+    alloc: Global,
+    sized: &mut SizedFace,
+    file: &[u8],
+    setting: &Setting,
+    text: &str,
+) -> Result<ReadyLayout, TextsFault>
+    requires file { file.now ≡ sized.old.face.directory.file }
+    ensures exact { GivesUnless told layout_view (without_line result) (layout_answer setting.now (strike_in setting.now sized.old) text.now) }
+    ensures report { IfOk result TellsLayout }
+    ensures serves { IsOfText (without_line result) }
+    ensures defects { TellsDefects refusal_font_fault (IsLaidDefect sized.old.face (job_of (strike_in setting.now sized.old) text.now setting.now.margin)) (without_line result) }
+{
+    let face = sized.face();
+    let placed = sized.pens(text, setting.margin)?;
+    let lines = layout_text(
+        alloc,
+        setting.opening.reading,
+        file,
+        face,
+        &placed.layout,
+        &placed.pens,
+    )?;
+    let lacking = missing_of(alloc, face.cmap(), setting.missing, text)?;
+    let report = Messages {
+        alloc,
+        number: None,
+    }
+    .report(&[], &lacking)?;
+    Ok(ReadyLayout {
+        lines,
+        lacking,
+        report,
+    })
+}

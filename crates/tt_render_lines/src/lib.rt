@@ -1,0 +1,47 @@
+//! Draws texts and lines by a font, from a reader to a writer, and has the messages about texts, lines and labels.
+//!
+//! ```text
+//! setting.rt, readings.rt                    how texts are drawn; the reading that a request asks for
+//! refusal.rt                                 why texts are not drawn
+//! products.rt, measure_text.rt               the output of a text: its picture, or its measure as lines of text
+//! text_answers.rt                            the answer of a text: its output and its report
+//! lines.rt, drawing.rt                       reads lines; draws one text, or the lines of a text
+//! layout_texts.rt, .._answers.rt, .._drawing.rt  the measure of a text without its ink
+//! texts_messages.rt, printing.rt             messages about texts, and how they are printed
+//! label.rt                                   how a label is drawn, and its answer
+//! label_reports.rt, help.rt                  messages about labels
+//! laws.rt                                    lemmas about the definitions
+//! ```
+#![tactic(auto)]
+
+mod drawing;
+mod help;
+mod label;
+mod label_reports;
+pub mod laws;
+mod layout_answers;
+mod layout_drawing;
+mod layout_texts;
+mod lines;
+mod measure_text;
+mod printing;
+mod products;
+mod readings;
+mod refusal;
+mod setting;
+mod text_answers;
+mod texts_messages;
+
+pub use drawing::{draw_lines, draw_text, lines_budget, next_line};
+pub use help::label_help;
+pub use label::{Label, Labelled};
+pub use label_reports::{LabelTold, Signs};
+pub use layout_drawing::write_layout;
+pub use lines::{LinePlace, LineReader};
+pub use printing::print_text;
+pub use products::{make_measure, make_picture};
+pub use readings::{fit_reading, reading_asked};
+pub use refusal::{Refusal, TextsFault, refusal_of_run, texts_fault};
+pub use setting::{Missing, Product, Setting, test_setting};
+pub use texts_messages::{Messages, texts_line, texts_status};
+pub use tt_line::Align;
