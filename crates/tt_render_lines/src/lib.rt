@@ -1,16 +1,23 @@
 //! Draws texts and lines by a font, from a reader to a writer, and has the messages about texts, lines and labels.
 //!
 //! ```text
-//! setting.rt, readings.rt                    how texts are drawn; the reading that a request asks for
-//! refusal.rt                                 why texts are not drawn
-//! products.rt, measure_text.rt               the output of a text: its picture, or its measure as lines of text
-//! text_answers.rt                            the answer of a text: its output and its report
-//! lines.rt, drawing.rt                       reads lines; draws one text, or the lines of a text
-//! layout_texts.rt, .._answers.rt, .._drawing.rt  the measure of a text without its ink
-//! texts_messages.rt, printing.rt             messages about texts, and how they are printed
-//! label.rt                                   how a label is drawn, and its answer
-//! label_reports.rt, help.rt                  messages about labels
-//! laws.rt                                    lemmas about the definitions
+//! setting.rt         how texts are drawn
+//! readings.rt        the reading that a request asks for
+//! refusal.rt         why texts are not drawn
+//! measure_text.rt    a measure as lines of text
+//! products.rt        the output of a text, and how it is written
+//! text_answers.rt    the answer of a text: its output and its report
+//! lines.rt           reads the lines of a text
+//! drawing.rt         draws one text, or the lines of a text
+//! layout_texts.rt    a measure without ink as lines of text
+//! layout_answers.rt  the answer of a text without its ink
+//! layout_drawing.rt  writes that measure
+//! texts_messages.rt  messages about texts
+//! printing.rt        prints messages
+//! label.rt           how labels are drawn, and why they are not
+//! label_reports.rt   what is reported of a label
+//! help.rt            the second line about a refused label
+//! laws.rt            lemmas about the definitions
 //! ```
 #![tactic(auto)]
 
