@@ -152,7 +152,7 @@ def limits():
 
 def version():
     """Returns what is wrong with the version in the documents and the page of the manual."""
-    wanted = re.search(r'\.version\("([\d.]+)"\)', markdown.read("crates/tt_program/src/command.rt"))[1]
+    wanted = re.search(r'\.version\("([\d.]+)"\)', markdown.read("crates/tt_program_commands/src/lib.rt"))[1]
     places = (
         ("CHANGELOG.md", r"(?m)^## \[?([\d.]+)"),
         ("SECURITY.md", r"Version ([\d.]+\d)"),

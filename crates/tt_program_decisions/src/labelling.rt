@@ -8,6 +8,7 @@ use crate::rules::rules_of;
 use tt_core::Reading;
 use tt_face::{LineRules, Opening};
 use tt_fit::Fit;
+use tt_program_words::{CENTRE, LEFT, RIGHT};
 use tt_render::{Align, Label, Missing, Product, Setting, reading_asked};
 
 /// The options of `label`.
@@ -75,16 +76,6 @@ fn label_options_of<'a, A: Arguments<'a>>(arguments: &A) -> Option<LabelOptions>
         rules: rules?,
     })
 }
-
-/// The default side of lines.
-pub const LEFT: &str = "left";
-
-const CENTRE: &str = "centre";
-
-const RIGHT: &str = "right";
-
-/// The words of `--align`.
-pub static ALIGNS: [&str; 3] = [LEFT, CENTRE, RIGHT];
 
 /// The side that has this name.
 pub fn align_named(name: &str) -> Option<Align>

@@ -15,12 +15,8 @@ mod telling_texts;
 mod unopened;
 
 pub use bdf::{BdfRequest, stop_of_request};
-pub use labelling::{ALIGNS, LEFT, LabelOptions, align_named};
+pub use labelling::{LabelOptions, align_named};
 pub use performing::perform;
-pub use request::{
-    Arguments, BEST, DRAW, FITS, FULL, GLYPHS_KEPT, MISSING_WORDS, Request, TELL, fit_named,
-    missing_named, request_of,
-};
-pub use rules::{EXACT, HEIGHTS};
+pub use request::{Arguments, GLYPHS_KEPT, Request, fit_named, missing_named, request_of};
 pub use stopping::{Stop, stop_of_open, stop_of_words, tell_stop};
 pub use unopened::tell_unopened;

@@ -10,6 +10,7 @@ use crate::rules::rules_of;
 use tt_core::Reading;
 use tt_face::Opening;
 use tt_fit::Fit;
+use tt_program_words::{BEST, DRAW, FALLBACK, FULL, NONE, REFUSE, TELL};
 use tt_render::{Missing, Product, Setting, fit_reading, reading_asked};
 
 /// The request of a command line.
@@ -259,19 +260,6 @@ fn setting_of<'a, A: Arguments<'a>>(arguments: &A, product: Product) -> Option<S
     })
 }
 
-/// The default way to fit of programs.
-pub const FULL: &str = "full";
-
-const NONE: &str = "none";
-
-const FALLBACK: &str = "fallback";
-
-/// The default way to fit of people.
-pub const BEST: &str = "best";
-
-/// The words of `--fit`.
-pub static FITS: [&str; 4] = [FULL, NONE, FALLBACK, BEST];
-
 /// The way to fit that has this name.
 pub fn fit_named(name: &str) -> Option<Fit>
     ensures { result ≡ fit_named name.now }
@@ -284,17 +272,6 @@ pub fn fit_named(name: &str) -> Option<Fit>
         _ => None,
     }
 }
-
-/// The default treatment of characters without a glyph.
-pub const DRAW: &str = "draw";
-
-/// What is done about them for people.
-pub const TELL: &str = "tell";
-
-const REFUSE: &str = "refuse";
-
-/// The words of `--missing`.
-pub static MISSING_WORDS: [&str; 3] = [DRAW, TELL, REFUSE];
 
 /// The treatment of characters without a glyph that has this name.
 pub fn missing_named(name: &str) -> Option<Missing>

@@ -5,14 +5,7 @@ ghost use Rattle.tt_program_decisions.specs.Rules.{AsksRules, heights_named};
 
 use crate::request::Arguments;
 use tt_face::{Heights, LineRules};
-
-/// The default rounding of heights.
-pub const EXACT: &str = "exact";
-
-const ROUNDED: &str = "rounded";
-
-/// The words of `--height`.
-pub static HEIGHTS: [&str; 2] = [EXACT, ROUNDED];
+use tt_program_words::{EXACT, ROUNDED};
 
 /// The rounding of heights that has this name.
 pub(crate) fn heights_named(name: &str) -> Option<Heights>

@@ -7,7 +7,8 @@ use std::alloc::Global;
 use std::str;
 use tt_core::{Device, Reading};
 use tt_face::Opening;
-use tt_program_decisions::{DRAW, GLYPHS_KEPT, Request, fit_named, missing_named, perform};
+use tt_program_decisions::{GLYPHS_KEPT, Request, fit_named, missing_named, perform};
+use tt_program_words::DRAW;
 use tt_render_lines::{Setting, fit_reading};
 use tt_test_words::Line;
 

@@ -1,0 +1,154 @@
+//! The words and options of the subcommands.
+
+use crate::arguments::{Argument, Takes};
+use tt_program_words::{ALIGNS, BEST, DRAW, EXACT, FITS, FULL, HEIGHTS, LEFT, MISSING_WORDS, TELL};
+
+const PLAIN: Argument = Argument {
+    name: "",
+    takes: Takes::Place,
+    values: &[],
+    defaults: &[],
+    required: false,
+    unless: &[],
+    conflicts: &[],
+    help: "",
+};
+
+pub(crate) const FONT: Argument = Argument {
+    name: "FONT",
+    required: true,
+    help: "The path of a TrueType font file",
+    ..PLAIN
+};
+
+pub(crate) const TEXT: Argument = Argument {
+    name: "TEXT",
+    help: "At most 4096 characters",
+    ..PLAIN
+};
+
+pub(crate) const TEXT_OR_LINES: Argument = Argument {
+    unless: &["lines"],
+    ..TEXT
+};
+
+pub(crate) const SIZE: Argument = Argument {
+    name: "size",
+    takes: Takes::Number,
+    values: &["N"],
+    required: true,
+    help: "Pixels per em, 1 to 300",
+    ..PLAIN
+};
+
+pub(crate) const MARGIN: Argument = Argument {
+    name: "margin",
+    takes: Takes::Number,
+    values: &["N"],
+    defaults: &["0"],
+    help: "Pixels round the line, 0 to 64",
+    ..PLAIN
+};
+
+pub(crate) const ALIGN: Argument = Argument {
+    name: "align",
+    takes: Takes::OneOf(ALIGNS),
+    values: &["SIDE"],
+    defaults: &[LEFT],
+    help: "left, centre or right, of shorter lines",
+    ..PLAIN
+};
+
+/// `--fit` for programs.
+pub(crate) const FIT: Argument = Argument {
+    name: "fit",
+    takes: Takes::OneOf(FITS),
+    values: &["HOW"],
+    defaults: &[FULL],
+    help: "How the font's own programs (hinting) are used:\n\
+           best      for any font; fills gaps in thin strokes\n\
+           fallback  as full, but a refused glyph is drawn unhinted\n\
+           none      not at all; outlines are scaled\n\
+           full      by the strict rules alone",
+    ..PLAIN
+};
+
+/// `--fit` for people.
+pub(crate) const FIT_BEST: Argument = Argument {
+    defaults: &[BEST],
+    ..FIT
+};
+
+pub(crate) const FACE: Argument = Argument {
+    name: "face",
+    takes: Takes::Number,
+    values: &["N"],
+    help: "The face of the file, counted from 0; 'faces' lists them",
+    ..PLAIN
+};
+
+/// `--missing` for programs.
+pub(crate) const MISSING: Argument = Argument {
+    name: "missing",
+    takes: Takes::OneOf(MISSING_WORDS),
+    values: &["HOW"],
+    defaults: &[DRAW],
+    help: "What to do with a character that the font lacks:\n\
+           tell      draw glyph 0, and report the character\n\
+           refuse    refuse the text\n\
+           draw      draw glyph 0, often a box",
+    ..PLAIN
+};
+
+/// `--missing` for people.
+pub(crate) const MISSING_TOLD: Argument = Argument {
+    defaults: &[TELL],
+    ..MISSING
+};
+
+pub(crate) const GROW: Argument = Argument {
+    name: "grow",
+    takes: Takes::Flag,
+    help: "Make the picture larger where ink would be cut",
+    ..PLAIN
+};
+
+pub(crate) const KERN: Argument = Argument {
+    name: "kern",
+    takes: Takes::Flag,
+    help: "Move pairs such as AV nearer; it pays from size 16 on",
+    ..PLAIN
+};
+
+pub(crate) const HEIGHT: Argument = Argument {
+    name: "height",
+    takes: Takes::OneOf(HEIGHTS),
+    values: &["HOW"],
+    defaults: &[EXACT],
+    help: "exact, or rounded so that box lines join",
+    ..PLAIN
+};
+
+pub(crate) const NO_INK: Argument = Argument {
+    name: "no-ink",
+    takes: Takes::Flag,
+    conflicts: &["grow", "lines"],
+    help: "Print no boxes of ink, and the distance of lines; quick",
+    ..PLAIN
+};
+
+pub(crate) const RANGE: Argument = Argument {
+    name: "range",
+    takes: Takes::Text,
+    values: &["R"],
+    help: "Hexadecimal code points, as 20-7E,A0-FF",
+    ..PLAIN
+};
+
+pub(crate) const LINES: Argument = Argument {
+    name: "lines",
+    takes: Takes::Flag,
+    conflicts: &["TEXT"],
+    help: "Draw each line of standard input, in place of TEXT",
+    ..PLAIN
+};

@@ -1,0 +1,149 @@
+//! The subcommands, as data.
+
+use crate::arguments::Argument;
+use crate::options::{
+    ALIGN, FACE, FIT, FIT_BEST, FONT, GROW, HEIGHT, KERN, LINES, MARGIN, MISSING, MISSING_TOLD,
+    NO_INK, RANGE, SIZE, TEXT, TEXT_OR_LINES,
+};
+
+/// A subcommand.
+pub(crate) struct Subcommand {
+    pub(crate) name: &'static str,
+    /// The words that call it.
+    pub(crate) call: &'static str,
+    pub(crate) about: &'static str,
+    /// The end of its help.
+    pub(crate) ending: Option<&'static str>,
+    pub(crate) arguments: &'static [Argument],
+}
+
+/// The subcommand that has this name, if there is one.
+pub(crate) fn subcommand_named(name: &str) -> Option<&'static Subcommand> {
+    for subcommand in subcommands() {
+        if subcommand.name == name {
+            return Some(subcommand);
+        }
+    }
+    None
+}
+
+/// All subcommands. Only this function reads the constants: a proof that sees them is slow.
+pub(crate) fn subcommands() -> &'static [Subcommand] {
+    SUBCOMMANDS.as_slice()
+}
+
+/// `tt_render map [--face N] FONT TEXT`, `tt_render faces FONT`, and `draw` and `measure` with `--size N [--margin N]
+/// [--fit full|none|fallback|best] [--face N] [--missing draw|tell|refuse] [--grow] [--kern] [--height exact|rounded]` and
+/// `FONT TEXT` or `--lines FONT`; and `label` with `--size N [--margin N] [--align left|centre|right] [--fit
+/// best|full|none|fallback] [--face N] [--missing tell|draw|refuse] [--kern] [--height exact|rounded]` and the same.
+/// `measure` has `--no-ink`, without `--grow` and `--lines`. `bdf` has `--size N [--range R] [--fit
+/// best|full|none|fallback] [--face N] [--height exact|rounded] FONT [TEXT]`.
+static SUBCOMMANDS: [Subcommand; 6] = [LABEL, DRAW, MEASURE, MAP, FACES, BDF];
+
+const LABEL: Subcommand = Subcommand {
+    name: "label",
+    call: "tt_render label",
+    about: "Writes the picture of a text for people, as binary PBM (P4)",
+    ending: Some(
+        "A line feed in TEXT begins a new line of the picture.\n\
+         A TEXT that begins with '-' goes after '--':\n  tt_render label --size N FONT -- -text",
+    ),
+    arguments: &[
+        SIZE,
+        Argument {
+            help: "Pixels round the lines, 0 to 64",
+            ..MARGIN
+        },
+        ALIGN,
+        FIT_BEST,
+        FACE,
+        MISSING_TOLD,
+        KERN,
+        HEIGHT,
+        LINES,
+        FONT,
+        TEXT_OR_LINES,
+    ],
+};
+
+const DRAW: Subcommand = Subcommand {
+    name: "draw",
+    call: "tt_render draw",
+    about: "Writes the picture of a line of text, as binary PBM (P4)",
+    ending: Some(
+        "A TEXT that begins with '-' goes after '--':\n  tt_render draw --size N FONT -- -text",
+    ),
+    arguments: &[
+        SIZE,
+        MARGIN,
+        FIT,
+        FACE,
+        MISSING,
+        GROW,
+        KERN,
+        HEIGHT,
+        LINES,
+        FONT,
+        TEXT_OR_LINES,
+    ],
+};
+
+const MEASURE: Subcommand = Subcommand {
+    name: "measure",
+    call: "tt_render measure",
+    about: "Prints where the baseline, the ink and each character are, in pixels",
+    ending: Some(
+        "A TEXT that begins with '-' goes after '--':\n  tt_render measure --size N FONT -- -text",
+    ),
+    arguments: &[
+        SIZE,
+        MARGIN,
+        FIT,
+        FACE,
+        MISSING,
+        GROW,
+        KERN,
+        HEIGHT,
+        Argument {
+            help: "Measure each line of standard input, in place of TEXT",
+            ..LINES
+        },
+        FONT,
+        TEXT_OR_LINES,
+        NO_INK,
+    ],
+};
+
+const MAP: Subcommand = Subcommand {
+    name: "map",
+    call: "tt_render map",
+    about: "Prints each character's glyph number and advance in font units",
+    ending: Some("A TEXT that begins with '-' goes after '--':\n  tt_render map FONT -- -text"),
+    arguments: &[
+        FACE,
+        FONT,
+        Argument {
+            required: true,
+            ..TEXT
+        },
+    ],
+};
+
+const FACES: Subcommand = Subcommand {
+    name: "faces",
+    call: "tt_render faces",
+    about: "Prints the faces of a file: glyphs, units per em and name of each",
+    ending: None,
+    arguments: &[FONT],
+};
+
+const BDF: Subcommand = Subcommand {
+    name: "bdf",
+    call: "tt_render bdf",
+    about: "Writes characters of a font at a size as a bitmap font (BDF 2.1)",
+    ending: Some(
+        "Without --range and TEXT it writes --range 20-7E,A0-FF.\n\
+         A TEXT that begins with '-' goes after '--':\n  tt_render bdf --size N FONT -- -text",
+    ),
+    arguments: &[SIZE, RANGE, FIT_BEST, FACE, HEIGHT, FONT, TEXT],
+};
