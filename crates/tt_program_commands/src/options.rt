@@ -3,6 +3,7 @@
 use crate::arguments::{Argument, Takes};
 use tt_program_words::{ALIGNS, BEST, DRAW, EXACT, FITS, FULL, HEIGHTS, LEFT, MISSING_WORDS, TELL};
 
+/// The start of each argument: the word at a place, which may be left out.
 const PLAIN: Argument = Argument {
     name: "",
     takes: Takes::Place,

@@ -32,12 +32,7 @@ pub(crate) fn subcommands() -> &'static [Subcommand] {
     SUBCOMMANDS.as_slice()
 }
 
-/// `tt_render map [--face N] FONT TEXT`, `tt_render faces FONT`, and `draw` and `measure` with `--size N [--margin N]
-/// [--fit full|none|fallback|best] [--face N] [--missing draw|tell|refuse] [--grow] [--kern] [--height exact|rounded]` and
-/// `FONT TEXT` or `--lines FONT`; and `label` with `--size N [--margin N] [--align left|centre|right] [--fit
-/// best|full|none|fallback] [--face N] [--missing tell|draw|refuse] [--kern] [--height exact|rounded]` and the same.
-/// `measure` has `--no-ink`, without `--grow` and `--lines`. `bdf` has `--size N [--range R] [--fit
-/// best|full|none|fallback] [--face N] [--height exact|rounded] FONT [TEXT]`.
+/// The subcommands in the order in which the help lists them.
 static SUBCOMMANDS: [Subcommand; 6] = [LABEL, DRAW, MEASURE, MAP, FACES, BDF];
 
 const LABEL: Subcommand = Subcommand {
