@@ -6,7 +6,7 @@ use std::alloc::{AllocError, Global};
 /// A word or an option of a subcommand.
 #[derive(Clone, Copy)]
 pub(crate) struct Argument {
-    /// Its name for clap; of an option also its own, behind `--`.
+    /// Its name for clap. An option has the same name behind `--`.
     pub(crate) name: &'static str,
     pub(crate) takes: Takes,
     /// The name of an option's value in the help, if it has a value.

@@ -32,7 +32,7 @@ pub(crate) fn subcommands() -> &'static [Subcommand] {
     SUBCOMMANDS.as_slice()
 }
 
-/// The subcommands in the order of the help.
+/// The subcommands, in the order of the help.
 static SUBCOMMANDS: [Subcommand; 6] = [LABEL, DRAW, MEASURE, MAP, FACES, BDF];
 
 const LABEL: Subcommand = Subcommand {
