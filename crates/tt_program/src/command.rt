@@ -14,7 +14,10 @@ pub(crate) fn request<'a>(
     alloc: Global,
     words: &'a [String],
 ) -> Result<Option<Request<'a>>, Error> {
-    let name = words.get(1).map_or("", String::as_str);
+    let name = match words.get(1) {
+        Some(word) => word.as_str(),
+        None => "",
+    };
     let Some(matches) = arguments_of(alloc, name, words)? else {
         return Ok(None);
     };
