@@ -9,6 +9,7 @@ use Rattle.tt_strike.specs.Costs.{cost_by}
 use Rattle.tt_picture.specs.Pictures.{Picture}
 use Rattle.tt_strike.specs.Job.{by_face}
 use Rattle.tt_strike.specs.Strikes.{Strike}
+use Rattle.tt_strike_kept.specs.Kept.{bytes_in}
 use Rattle.tt_face.specs.Faces.{Face}
 use Rattle.tt_c_calls.specs.declared.answer.CAnswer.{CAnswer}
 use Rattle.tt_c_calls.specs.declared.asked.CJob.{CJob}
@@ -160,6 +161,11 @@ pub record IsStrikeFor (j : CJob) (font : List ℕ) (s : Strike) : Type 0 where
   pub face : lines_wanted j font ≡ Ok s.face
   pub fit : fit_asked j.fit ≡ Ok s.fit
   pub size : s.ppem ≡ j.size
+
+-- the bytes of the cached glyphs at the end of a call: 0 where no strike was made, else those of one with this limit
+abbrev pub IsCachedAtEnd : CJob → List ℕ → ℕ → ℕ → Type 0
+IsCachedAtEnd j font keep bytes =
+    (bytes ≡ 0) ⊎ ((s : Strike) × IsStrikeFor j font s × (s.most ≡ keep) × (bytes ≡ bytes_in s.kept))
 
 -- the font and the job are accepted and all lines were drawn, in `used` bytes; or the reason why not
 abbrev pub EndsWith : CJob → List ℕ → List ℕ → List ℕ → ℕ → ℕ → CAnswer → Type 0

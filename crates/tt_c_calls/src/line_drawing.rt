@@ -3,7 +3,7 @@
 ghost use Rattle.std.specs.Prelude.{◌≡◌, ◌≢◌, ◌+◌, ◌<◌, ◌≤◌, ℕ, List, length};
 ghost use Rattle.tt_c_calls.specs.Answers.{DefectStands};
 ghost use Rattle.tt_c_calls.specs.Asked.{IsAskedDefect};
-ghost use Rattle.tt_c_calls.specs.Lines.{DrawsLines, DrawsTexts, EndsWith, IsLineWritten, IsLinesDefect, IsStrikeFor, IsTextStopped, LineDefectStands, stopped_answer};
+ghost use Rattle.tt_c_calls.specs.Lines.{DrawsLines, DrawsTexts, EndsWith, IsCachedAtEnd, IsLineWritten, IsLinesDefect, IsStrikeFor, IsTextStopped, LineDefectStands, stopped_answer};
 
 use crate::answer::{CAnswer, DONE, ROOM, answer_of, sized};
 use crate::asked::{CJob, fit_of, text_of};
@@ -152,7 +152,8 @@ pub fn draw_lines(
     lines: &mut [CLine],
 ) -> (CAnswer, usize)
     ensures draws { DrawsTexts job.now font.now texts.now.bytes.now texts.now.ends.now rows.old rows.new lines.old lines.new result.0 }
-    ensures cached { result.1 ≤ keep }
+    ensures cached { IsCachedAtEnd job.now font.now keep result.1 }
+    ensures most { result.1 ≤ keep }
 {
     let ends = texts.ends;
     let fit = match fit_of(job.fit) {

@@ -1,11 +1,12 @@
-use Rattle.std.proofs.Common.{◌≡◌, ℕ, List, ap, arith, inl, length, refl, subst}
-use Rattle.tt_c_calls.specs.Lines.{DrawsLines, EndsWith, IsLinesDefect, LineDefectStands, lines_wanted}
+use Rattle.std.proofs.Common.{◌≡◌, ◌∙◌, ℕ, List, ap, arith, inl, inr, length, refl, subst}
+use Rattle.tt_c_calls.specs.Lines.{DrawsLines, EndsWith, IsLinesDefect, IsStrikeFor, LineDefectStands, lines_wanted}
 use Rattle.tt_c_calls.specs.declared.fault.CallFault.TheVariants as call
 use Rattle.tt_c_calls.proofs.LinesStopped.{file_is, face_refused, fit_defect, fit_refused, job_first, job_refused, lines_defect_told, lines_opened, lines_refused, of_setting, opened_first, refused_first, room_names_none, strike_for, strike_refused}
 use Rattle.tt_c_calls.specs.Refusals.{call_font_fault}
 use Rattle.tt_c_calls.proofs.StrikeLines.{if_some_more}
 use Rattle.tt_c_calls.proofs.line_drawing.draw_lines.Goals as goal
 use Rattle.tt_strike.specs.Strikes.{Strike}
+use Rattle.tt_strike_kept.specs.Kept.{bytes_in}
 
 pub returns-in-Err-clause-draws : goal.returns-in-Err-clause-draws
 returns-in-Err-clause-draws c =
@@ -115,12 +116,34 @@ returns-clause-draws c =
       stands = subst Stands same own.ensures.stands;
     }
 
-pub returns-clause-cached : goal.returns-clause-cached
-returns-clause-cached c =
+pub returns-clause-most : goal.returns-clause-most
+returns-clause-most c =
     let most = λ (s : Strike). s.most in
     omega (
       arith,
       c.kept_bytes.ensures.most,
       ap most c.draw_by-answer.ensures.strike,
       ap most c.in-Ok-new.ensures.exact,
+    )
+
+pub returns-clause-cached : goal.returns-clause-cached
+returns-clause-cached c =
+    let j = c.args.job.now in
+    let font = c.args.font.now in
+    let made = c.in-Ok-new.strike in
+    let passed = of_setting j c.in-Ok.fit _ _ _ _ c.job.ensures.exact c.plain.ensures c.in_default.ensures.exact in
+    let face = c.in-Ok-opened_face.face in
+    let same : made.face.directory.file ≡ font = rw c.in-Ok-new.ensures.exact (file_is _ font face c.in-Ok-opened_face.ensures.exact) in
+    let for : IsStrikeFor j made.face.directory.file made =
+    strike_for j font c.in-Ok.fit face made c.args.keep c.in-Ok.ensures.exact passed
+    (rw c.opening-opening.ensures at c.in-Ok-opened_face.ensures.exact) c.in-Ok-new.ensures.exact in
+    let Is : List ℕ → Type 0 = λ file. IsStrikeFor j file made in
+    let is = subst Is same for in
+    let most = λ (s : Strike). s.most in
+    let after : Strike = record made { kept = c.draw_by-answer.new.strike.kept } in
+    inr (
+      after,
+      record { face = is.face; fit = is.fit; size = is.size },
+      ap most c.in-Ok-new.ensures.exact,
+      c.kept_bytes.ensures.exact ∙ ap (λ (s : Strike). bytes_in s.kept) c.draw_by-answer.ensures.strike,
     )
