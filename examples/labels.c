@@ -3,7 +3,7 @@
  *   labels FONT SIZE >labels.pbm
  *
  * One call draws as many labels as the room holds: the font's programs run once in it, and a glyph that is cached is
- * not fitted again. So that glyphs are cached, the pictures are not grown; their margin has room for ink that reaches
+ * not fitted again. So that all have one height, the pictures are not grown; their margin has room for ink that reaches
  * out of the line. README.md has the commands. The exit status is the library's. It is 2 also for a fault of the
  * command line, 3 where the font cannot be read, and 4 where the pictures cannot be written.
  */

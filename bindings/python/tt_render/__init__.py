@@ -111,8 +111,8 @@ class Font:
                kern: bool = False, rounded: bool = False, keep: int = 1 << 20) -> Iterator[Picture]:
         """Draws lines, for each what `label` draws, but with the font's programs run once for many of them.
 
-        Without `grow` at most `keep` bytes of glyphs are cached between lines, which then are up to twenty times as
-        fast. A line that is refused ends the drawing.
+        At most `keep` bytes of glyphs are cached between lines, which then are up to twenty times as fast. A line that
+        is refused ends the drawing.
         """
         job, room, done = self._job(size, margin, fit, grow, kern, rounded), 1 << 20, 0
         rest = [c.utf8_of(it) for it in texts][::-1]

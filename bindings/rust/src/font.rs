@@ -105,9 +105,9 @@ impl<'a> Font<'a> {
         Ok((shape, done(answer)?.bytes as usize))
     }
 
-    /// Draws lines of text, for each what `draw` draws, but with the font's programs run once for many of them. Without
-    /// `grow` glyphs are cached between lines, which then are up to twenty times as fast. The function `each` takes the
-    /// pictures in order. A line that is refused ends the drawing.
+    /// Draws lines of text, for each what `draw` draws, but with the font's programs run once for many of them. Glyphs
+    /// are cached between lines, which then are up to twenty times as fast. The function `each` takes the pictures in
+    /// order. A line that is refused ends the drawing.
     pub fn labels(
         &self,
         texts: &[&str],

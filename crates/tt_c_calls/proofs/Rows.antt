@@ -1,9 +1,8 @@
 -- Rows of a picture in a room.
-use Rattle.std.proofs.Common.{◌≡◌, ℕ, ◌+◌, ◌-◌, ◌*◌, ◌<◌, ◌≤◌, List, [], ◌∷◌, ◌++◌, length, take, drop, min, ap, sym, ◌∙◌, arith, inl, inr, length-drop, length-take-le}
+use Rattle.std.proofs.Common.{◌≡◌, ℕ, ◌+◌, ◌-◌, ◌*◌, ◌≤◌, List, [], ◌∷◌, ◌++◌, length, take, drop, min, ap, sym, ◌∙◌, arith, inl, inr, length-drop, length-take-le}
 use Rattle.std.proofs.Math.Nat.{min-le_right}
 use Rattle.std.proofs.lemmas.Bool.{cases_lt}
 use Rattle.std.proofs.lemmas.Nat.{mul-le}
-use Rattle.std.proofs.lemmas.Slice.{drop-append-drop}
 
 -- the number of bytes of a band of a picture's rows
 part_fits : (n k first height : ℕ) → k ≤ height - first → n * k ≤ n * height - n * first
@@ -25,13 +24,10 @@ band_long n first count height rows whole =
       part_fits n (min count (height - first)) first height (min-le_right count (height - first)),
     ))
 
--- a band is at the front of a room whose first bytes had a row before
-pub band_written : (n k : ℕ) (band row old new : List ℕ) → new ≡ band ++ drop (n * k) (row ++ drop n old)
-    → length row ≡ n → 0 < k → length band ≡ n * k → new ≡ band ++ drop (length band) old
-band_written n k band row old new is row_long some long =
-    let whole : n * 1 ≤ n * k = mul-le n 1 n k (omega arith) (omega arith) in
-    is ∙ ap (λ xs. band ++ xs) (drop-append-drop n old row (n * k) (omega (arith, whole)) row_long)
-    ∙ ap (λ m. band ++ drop m old) (sym long)
+-- a band is at the front of a room
+pub band_written : (m : ℕ) (band old new : List ℕ) → new ≡ band ++ drop m old → length band ≡ m
+    → new ≡ band ++ drop (length band) old
+band_written m band old new is long = is ∙ ap (λ n. band ++ drop n old) (sym long)
 
 -- a band of no rows is at the front of any room
 pub none_written : (n k : ℕ) (band old new : List ℕ) → new ≡ old → k ≤ 0 → length band ≡ n * k

@@ -10,7 +10,7 @@ use std::alloc::Global;
 /// Draws a band of the picture of a text. `rows` gets the rows one after the other at its front, the highest first, the
 /// leftmost pixel in the highest bit, 1 for black. `told` describes the whole picture. This is the picture that `run`
 /// writes for the font, text and job, or, with `grow`, that picture enlarged so that no ink is cut. The rows before the
-/// band are made too, and discarded.
+/// band are passed over.
 ///
 /// Answers: done, with the bytes and rows of the band; the font is refused, too large, or the job refused; memory was
 /// refused; the text is not UTF-8; the room is too small, with the bytes and rows needed. Unless the answer is done,

@@ -70,19 +70,6 @@ pub(crate) fn picture_of(alloc: Global, request: &TextRequest) -> Result<Picture
     Ok(picture)
 }
 
-/// Makes `count` rows of a picture in the place of one, and discards them.
-fn skip_rows(picture: &mut Picture, count: u32, row: &mut [u8])
-    requires none { picture.old.made ≡ 0 }
-    requires within { count ≤ picture.old.frame.height }
-    requires row { length row.old ≡ stride picture.old.frame.width }
-    ensures picture { picture.new ≡ record picture.old { made = count } }
-    ensures row { length row.new ≡ length row.old }
-{
-    for _r in 0..count {
-        picture.next_rows(1, row);
-    }
-}
-
 /// Writes a band of a picture at the front of a caller's room: at most `count` rows from row `first` on. Describes the
 /// picture in `told`. Answers: done; or the room is too small, and `room` and `told` are unchanged.
 pub(crate) fn write_band(
@@ -98,15 +85,14 @@ pub(crate) fn write_band(
     ensures kept { result.status ≢ 0 → room.new ≡ room.old }
     ensures told_kept { result.status ≢ 0 → told.new ≡ told.old }
 {
-    let bytes = picture.row_bytes();
     let count = count.min(picture.height().saturating_sub(first));
-    let wanted = bytes * count as usize;
+    let wanted = picture.row_bytes() * count as usize;
     if wanted > room.len() {
         return sized(ROOM, wanted as u64, u64::from(count));
     }
     *told = told_of(picture);
     if count > 0 {
-        skip_rows(picture, first, &mut room[..bytes]);
+        picture.skip_rows(first);
         picture.next_rows(count, &mut room[..wanted]);
     }
     sized(DONE, wanted as u64, u64::from(count))

@@ -1,16 +1,21 @@
--- The rows of a glyph's ink, by its edges and its dropouts, and one row more at a time.
-use Rattle.std.proofs.Common.{◌≡◌, ◌∙◌, refl, sym, ap, ℕ, ◌+◌, ◌*◌, ◌^◌, ◌<◌, ◌≤◌, Bool, true, false, ◌&&◌, nat_lt, ℤ, pos, ◌+ℤ◌, ◌-ℤ◌, ◌<ℤ◌, unsigned_abs, List, ◌++◌, length, take, drop, slice_index, zero-add, arith, length-drop, length-take-le}
+-- The rows of a glyph's ink: painted by its bitmap, or made by its edges and its dropouts, one row more at a time.
+use Rattle.std.proofs.Common.{◌≡◌, ◌∙◌, refl, sym, ap, ℕ, ◌+◌, ◌*◌, ◌^◌, ◌<◌, ◌≤◌, Bool, true, false, ◌&&◌, nat_lt, replicate, ℤ, pos, ◌+ℤ◌, ◌-ℤ◌, ◌<ℤ◌, unsigned_abs, List, ◌++◌, length, take, drop, slice_index, zero-add, arith, length-drop, length-take-le}
 use Rattle.std.proofs.lemmas.Bool.Decides.{nat_tests}
 use Rattle.std.proofs.lemmas.Int.{ints}
+use Rattle.std.proofs.lemmas.List.{length-replicate}
 use Rattle.std.proofs.lemmas.Nat.{mul-le}
 use Rattle.std.proofs.lemmas.Slice.{take-put_mid}
 use Rattle.tt_core.specs.Bits.{bit, stride}
 use Rattle.tt_core.specs.Limits.{height_limit, width_limit}
+use Rattle.tt_bitmap.specs.Bands as bands
+use Rattle.tt_bitmap.specs.Bands.{IsBandBlackened}
+use Rattle.tt_bitmap.specs.Bitmaps as bitmaps
+use Rattle.tt_bitmap.specs.Bitmaps.{BoxBitmap}
 use Rattle.tt_picture.specs.Pictures.{Image}
 use Rattle.tt_picture.specs.Rows.{rows}
 use Rattle.tt_picture.proofs.Alike.{AreAlike, image_alike}
 use Rattle.tt_picture.proofs.Bands.{band_is}
-use Rattle.tt_picture.proofs.RowBytes.{length-rows, rows_more}
+use Rattle.tt_picture.proofs.RowBytes.{bit-replicate_zero, length-rows, rows_more}
 use Rattle.tt_scan_edges.specs.declared.edge.Edge.{Edge}
 use Rattle.tt_scan_edges.specs.declared.mark.Span.{Span}
 use Rattle.tt_scan_edges.specs.Marks.{covers}
@@ -18,14 +23,33 @@ use Rattle.tt_scan_edges.specs.Winding.{column_x, is_black, row_y}
 use Rattle.tt_scan_gaps.specs.Crossings.{centre}
 use Rattle.tt_glyphs.specs.Bitmaps.{place_bytes}
 use Rattle.tt_glyphs.specs.declared.place.InkPlace.{InkPlace}
-use Rattle.tt_glyphs.specs.Drawn.{BitmapFits, column_of, frame_of, line_of, row_in}
-use Rattle.tt_glyphs.specs.GlyphBitmap.{GlyphBitmap}
+use Rattle.tt_glyphs.specs.Drawn.{LargeFits, column_of, frame_of, line_of, row_in, rows_in}
+use Rattle.tt_glyphs.specs.Large.{LargeRows}
 use borrow.Rule.Slice.PartMut.{put_mid, same_len_mid}
 
 -- rows with the same pixels are the same
 pub same_rows : (p : InkPlace) (a b : ℕ → ℕ → Bool) → AreAlike p.width p.height a b
     → rows p.width a 0 (place_bytes p) ≡ rows p.width b 0 (place_bytes p)
 same_rows p a b same = ap (λ (i : Image). i.rows) (image_alike (frame_of p) a b same)
+
+-- rows that were white, and then had a bitmap painted from the corner of its place on
+pub painted_rows : (p : InkPlace) (b : BoxBitmap) (n : ℕ) (old new : List ℕ) → old ≡ replicate n 0 → n ≡ place_bytes p
+    → IsBandBlackened (stride p.width) p.height
+    (λ i c. nat_lt c p.width && bitmaps.is_black b (pos c -ℤ (pos 0 -ℤ p.left)) ((p.top -ℤ pos 1) -ℤ pos i)) old new
+    → ((i : ℕ) → i < length new → slice_index new i < 256)
+    → new ≡ rows_in p (λ c r. bitmaps.is_black b (column_of p c) (line_of p r))
+painted_rows p b n old new white count painted bytes =
+    let w = p.width in
+    let black : ℕ → ℕ → Bool = λ c r. bitmaps.is_black b (column_of p c) (line_of p r) in
+    let long : length old ≡ n = ap length white ∙ length-replicate n 0 in
+    let made : new ≡ rows w black (stride w * 0) (stride w * p.height) =
+    band_is w 0 p.height black new (painted.len ∙ long ∙ count) bytes (λ i c below inside.
+    let across : pos c -ℤ (pos 0 -ℤ p.left) ≡ column_of p c = omega (arith, ints) in
+    let here : 0 + i ≡ i = omega arith in
+    let none : bands.column (stride w) old i c ≡ false = rw white (bit-replicate_zero n (8 * (stride w * i) + c)) in
+    painted.columns i c below inside ∙ rw (none, across, here) refl) in
+    let start : stride w * 0 ≡ 0 = omega arith in
+    rw start at made
 
 -- the columns that edges blacken in a row
 
@@ -114,6 +138,6 @@ pub no_row_more : (p : InkPlace) (black : ℕ → ℕ → Bool) (bytes : List �
     → take (stride p.width * 0) bytes ≡ rows p.width black 0 (stride p.width * 0)
 no_row_more p black bytes = let none : stride p.width * 0 ≡ 0 = omega arith in rw none refl
 
--- a bitmap keeps its facts where its crossings are counted
-pub fits_with : (b : GlyphBitmap) (n : ℕ) → BitmapFits b → BitmapFits (record b { crosses = n })
+-- rows keep their facts where their crossings are counted
+pub fits_with : (b : LargeRows) (n : ℕ) → LargeFits b → LargeFits (record b { crosses = n })
 fits_with b n fits = record { place = fits.place; frame = fits.frame; few = fits.few; dropouts = fits.dropouts }

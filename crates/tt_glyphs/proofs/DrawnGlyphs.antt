@@ -10,7 +10,7 @@ use Rattle.tt_fit_outline.specs.Steps.{step_of}
 use Rattle.tt_line.specs.Layout.{advance_in_pixels}
 use Rattle.tt_metrics.specs.Metrics.{Metrics}
 use Rattle.tt_picture.specs.Ink.{glyph_ink, ink_by}
-use Rattle.tt_picture.specs.Pixels.{is_filled}
+use Rattle.tt_glyph_pixels.specs.Shown.{is_filled}
 use Rattle.tt_picture.specs.Rows.{rows}
 use Rattle.tt_picture.specs.Shapes.{chords_with, contours_of, edges_at, filled_at, filled_by, shape_at}
 use Rattle.tt_picture.specs.Steps.{glyph_advance, glyph_step}
@@ -23,23 +23,21 @@ use Rattle.tt_scan_dropouts.proofs.MovedDots.{dropouts_move}
 use Rattle.tt_scan_edges.specs.declared.edge.Edge.{Edge}
 use Rattle.tt_scan_edges.specs.Winding.{is_black}
 use Rattle.tt_scan_gaps.specs.Crossings.{centre}
-use Rattle.tt_scan_ink.specs.declared.ink.GlyphInk.{GlyphInk}
+use Rattle.tt_bitmap.specs.declared.ink.LeastBox.{LeastBox}
 use Rattle.tt_strike.specs.declared.source.FitterSource.{FitterSource}
 use Rattle.tt_strike.specs.Work.{lays_after_glyphs}
 use Rattle.tt_glyphs.specs.Bitmaps.{bitmap_pixel, is_large, place_bytes, place_of}
-use Rattle.tt_glyphs.specs.declared.bitmap.GlyphRows.{GlyphRows}
 use Rattle.tt_glyphs.specs.declared.edged.EdgedOutline.{EdgedOutline}
-use Rattle.tt_glyphs.specs.declared.lines.LineWords.{LineWords}
 use Rattle.tt_glyphs.specs.declared.place.InkPlace.{InkPlace}
 use Rattle.tt_glyphs.specs.declared.ruled.TriedBody.TheVariants as body
 use Rattle.tt_glyphs.specs.declared.told.Told.{Told}
 use Rattle.tt_glyphs.specs.declared.told.Told.TheVariants as told
+use Rattle.tt_glyphs.specs.declared.written.GlyphRows.{GlyphRows}
 use Rattle.tt_glyphs.specs.Drawn.{IsDrawn, IsSourceOf, column_of, edged_pixel, line_of, rows_by}
-use Rattle.tt_glyphs.specs.Edged.{EdgedFits, IsEdged, IsEdgedBy, IsRuledBy, IsSameGlyph, inked_by}
+use Rattle.tt_glyphs.specs.Edged.{EdgedFits, IsEdged, IsEdgedBy, IsRuledBy, IsSameGlyph}
 use Rattle.tt_glyphs.specs.Entries.{advance_by, advance_of, glyph_told, made_within, outline_rows}
 use Rattle.tt_glyphs.specs.Ruled.{RuledOutline}
 use Rattle.tt_glyphs.specs.Tried.{ruled_by}
-use Rattle.tt_glyphs.specs.Words.{shows_on}
 use Rattle.tt_glyphs.proofs.BitmapRows.{same_rows}
 
 -- the outline that edges are made of, by its fitter
@@ -91,7 +89,8 @@ same_fits e f is fits = rw is.same (record {
   boxed = rw is.edges fits.boxed;
   ends = rw is.edges fits.ends;
   closed = rw is.edges fits.closed;
-  held = rw is.edges fits.held;
+  round = rw is.edges fits.round;
+  near = rw is.edges fits.near;
 })
 
 pub same_edged : (s : Fitter) (g : ℕ) (e f : EdgedOutline) → IsSameGlyph e f → IsEdgedBy s g e → IsEdgedBy s g f
@@ -109,14 +108,6 @@ same_edged s g e f is by =
       }),
     )
 
-same_inked : (e f : EdgedOutline) → IsSameGlyph e f → (c j : ℤ) → inked_by e c j ≡ inked_by f c j
-same_inked e f is c j = rw is.same (rw is.edges refl)
-
-pub same_shown : (o : Option LineWords) (e f : EdgedOutline) → IsSameGlyph e f
-    → IfSome o (λ l. (c j : ℤ) → shows_on l c j ≡ inked_by e c j) → IfSome o (λ l. (c j : ℤ) → shows_on l c j ≡ inked_by f c j)
-same_shown None e f is shown = tt
-same_shown (Some l) e f is shown = λ c j. shown c j ∙ same_inked e f is c j
-
 -- the ink of the edges is that of the glyph
 
 ink_same : (these filled : Option BoxedRules) (es fs : List Edge) (cs ds : List (List Edge)) → these ≡ filled → es ≡ fs
@@ -124,7 +115,7 @@ ink_same : (these filled : Option BoxedRules) (es fs : List Edge) (cs ds : List 
 ink_same these None es fs cs ds is edges contours = rw (is, edges) refl
 ink_same these (Some rules) es fs cs ds is edges contours = rw (is, edges, contours) refl
 
-pub ink_is : (s : Fitter) (g : ℕ) (e : EdgedOutline) (ink : Option GlyphInk) → IsEdgedBy s g e
+pub ink_is : (s : Fitter) (g : ℕ) (e : EdgedOutline) (ink : Option LeastBox) → IsEdgedBy s g e
     → ink ≡ ink_by e.tape.edges (contours_at e.tape.edges e.ends.items) e.filled → ink ≡ glyph_ink s g
 unfolding glyph_ink
 ink_is s g e ink by is =

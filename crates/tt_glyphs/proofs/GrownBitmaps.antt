@@ -6,7 +6,7 @@ use Rattle.tt_line.specs.Layout.{Placement}
 use Rattle.tt_picture.specs.Ink.{column_of, glyph_ink, row_of}
 use Rattle.tt_picture.specs.Pictures.{Image}
 use Rattle.tt_picture.specs.Shapes.{chords_with, filled_by}
-use Rattle.tt_scan_ink.specs.Least.{IsInk}
+use Rattle.tt_bitmap.specs.Inks.{IsInk}
 use Rattle.tt_strike.specs.Grown.{grown_outcome, grown_placement}
 use Rattle.tt_strike.specs.InkLaws.{GrownCutsNone}
 use Rattle.tt_strike.specs.Job.{Job}

@@ -9,7 +9,8 @@ use Rattle.tt_fit.specs.Fitting.{Fitter, fitted_outline}
 use Rattle.tt_fit_outline.specs.Outline.{Outline}
 use Rattle.tt_line.specs.Layout.{Placement}
 use Rattle.tt_picture.specs.Ink.{column_of, row_of}
-use Rattle.tt_picture.specs.Pixels.{Shape, is_filled, some_black}
+use Rattle.tt_glyph_pixels.specs.Shown.{is_filled}
+use Rattle.tt_picture.specs.Pixels.{Shape, some_black}
 use Rattle.tt_picture.specs.Shapes.{chords_with, contours_of, edges_at, filled_at, filled_by, glyph_shape, shape_at}
 use Rattle.tt_picture.proofs.Standings.{contours_at_pen, from_pen}
 use Rattle.tt_scan_dropouts.specs.Dropouts.{is_dropout}
@@ -20,8 +21,8 @@ use Rattle.tt_scan_edges.specs.declared.edge.Edge.{Edge}
 use Rattle.tt_scan_edges.specs.declared.edge.Frame.{Frame}
 use Rattle.tt_scan_edges.specs.Winding.{column_x, is_black, row_y}
 use Rattle.tt_scan_gaps.specs.Crossings.{centre}
-use Rattle.tt_scan_ink.specs.Least.{IsInk}
-use Rattle.tt_scan_ink.specs.declared.ink.GlyphInk.{GlyphInk}
+use Rattle.tt_bitmap.specs.Inks.{IsInk}
+use Rattle.tt_bitmap.specs.declared.ink.LeastBox.{LeastBox}
 use Rattle.tt_strike.specs.InkLaws.{IsInPicture, is_ink, line_of, some_dropout}
 use Rattle.tt_strike.specs.Picture.{frame_of}
 use Rattle.tt_glyphs.specs.Bitmaps.{place_of}
@@ -148,7 +149,7 @@ in_place p c j inside =
       top = by_lt j p.top lines.1;
     }
 
-pub place_within : (line : Placement) (margin pen : ℕ) (black : ℤ → ℤ → Bool) (x : Option GlyphInk) → IsInk black x
+pub place_within : (line : Placement) (margin pen : ℕ) (black : ℤ → ℤ → Bool) (x : Option LeastBox) → IsInk black x
     → ((k j : ℤ) → black k j ≡ true → IsInPicture line (column_of (frame_of line margin) pen k) (row_of (frame_of line margin) j))
     → IsWithin (frame_of line margin) pen (place_of x)
 place_within line margin pen black None ink held = λ c j inside.

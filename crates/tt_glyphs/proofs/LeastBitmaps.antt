@@ -11,7 +11,7 @@ use Rattle.tt_fit.specs.Dropouts.{dropouts_of}
 use Rattle.tt_fit.specs.Fitting.{Fitter, fitted_outline, unfitted_fault}
 use Rattle.tt_fit_outline.specs.Outline.{Outline}
 use Rattle.tt_picture.specs.Ink.{filled_ink, glyph_ink, ink_by}
-use Rattle.tt_picture.specs.Pixels.{is_filled}
+use Rattle.tt_glyph_pixels.specs.Shown.{is_filled}
 use Rattle.tt_picture.specs.Shapes.{chords_with, contours_of, edges_at, extents_of, filled_by, offset_at, rules_for, shape_at}
 use Rattle.tt_scan_dropouts.specs.declared.boxed.BoxedRules.{BoxedRules}
 use Rattle.tt_scan_edges.specs.declared.edge.Edge.{Edge}
@@ -21,8 +21,8 @@ use Rattle.tt_scan_gaps.specs.Crossings.{centre}
 use Rattle.tt_scan_gaps.specs.declared.extent.Extents.{Extents}
 use Rattle.tt_scan_ink.specs.Ink.{edges_ink}
 use Rattle.tt_scan_ink.specs.Laws.{DropoutsInkHoldsAll, EdgesInkHoldsAll}
-use Rattle.tt_scan_ink.specs.Least.{IsInBox, IsInk, IsLeastBox}
-use Rattle.tt_scan_ink.specs.declared.ink.GlyphInk.{GlyphInk}
+use Rattle.tt_bitmap.specs.Inks.{IsInBox, IsInk, IsLeastBox}
+use Rattle.tt_bitmap.specs.declared.ink.LeastBox.{LeastBox}
 use Rattle.tt_scan_ink.proofs.Together.{joined_is}
 use Rattle.tt_glyphs.specs.Bitmaps.{bitmap_pixel, is_large, place_of}
 use Rattle.tt_glyphs.specs.declared.place.InkPlace.{InkPlace}
@@ -81,10 +81,10 @@ outline_held laws s g o =
 
 -- a black pixel of the box by its column and its row
 
-abbrev AreOf : (ℤ → ℤ → Bool) → GlyphInk → (ℕ → ℕ → Bool) → Type 0
+abbrev AreOf : (ℤ → ℤ → Bool) → LeastBox → (ℕ → ℕ → Bool) → Type 0
 AreOf black b pixel = (c r : ℕ) → pixel c r ≡ black (b.left +ℤ pos c) (((b.top +ℤ pos 1) -ℤ pos 1) -ℤ pos r)
 
-record PixelAt (b : GlyphInk) (pixel : ℕ → ℕ → Bool) (c j : ℤ) : Type 0 where
+record PixelAt (b : LeastBox) (pixel : ℕ → ℕ → Bool) (c j : ℤ) : Type 0 where
   column : ℕ
   row : ℕ
   across : column < unsigned_abs (b.right -ℤ b.left) + 1
@@ -93,7 +93,7 @@ record PixelAt (b : GlyphInk) (pixel : ℕ → ℕ → Bool) (c j : ℤ) : Type 
   row_is : b.top -ℤ pos row ≡ j
   dark : pixel column row ≡ true
 
-pixel_at : (black : ℤ → ℤ → Bool) (b : GlyphInk) (pixel : ℕ → ℕ → Bool) → AreOf black b pixel → (c j : ℤ) → IsInBox b c j
+pixel_at : (black : ℤ → ℤ → Bool) (b : LeastBox) (pixel : ℕ → ℕ → Bool) → AreOf black b pixel → (c j : ℤ) → IsInBox b c j
     → black c j ≡ true → PixelAt b pixel c j
 pixel_at black b pixel are c j inside dark =
     let k = unsigned_abs (c -ℤ b.left) in
@@ -110,7 +110,7 @@ pixel_at black b pixel are c j inside dark =
       dark = are k r ∙ ap (λ x. black x (((b.top +ℤ pos 1) -ℤ pos 1) -ℤ pos r)) at ∙ ap (black c) line ∙ dark;
     }
 
-sides : (black : ℤ → ℤ → Bool) (b : GlyphInk) (pixel : ℕ → ℕ → Bool) → AreOf black b pixel → IsLeastBox black b
+sides : (black : ℤ → ℤ → Bool) (b : LeastBox) (pixel : ℕ → ℕ → Bool) → AreOf black b pixel → IsLeastBox black b
     → HasInkAtSides (unsigned_abs (b.right -ℤ b.left) + 1) (unsigned_abs (b.top -ℤ b.bottom) + 1) pixel
 sides black b pixel are least =
     let (j, left) = least.left in
@@ -152,7 +152,7 @@ pub ink_of : (s : Fitter) (g : ℕ) (o : Outline) → fitted_outline s g ≡ Ok 
 unfolding glyph_ink
 ink_of s g o made = rw made refl
 
-least_by : (s : Fitter) (g : ℕ) (o : Outline) (p : InkPlace) (x : Option GlyphInk)
+least_by : (s : Fitter) (g : ℕ) (o : Outline) (p : InkPlace) (x : Option LeastBox)
     → IsInk (outline_black (filled_by s g o) (chords_with s) o) x → p ≡ place_of x → 0 < p.width
     → HasInkAtSides p.width p.height (bitmap_pixel (shape_at s (g, 0) o) p)
 least_by s g o p None ink at some =

@@ -8,10 +8,8 @@ pub mod EntriesDrawn
 pub mod EntryBytes
 pub mod GrownBitmaps
 pub mod GrownInk
-pub mod InkBoxed
 pub mod KnownNumbers
 pub mod ListBegun
-pub mod LinesShown
 pub mod ListDrawn
 pub mod ListOutcomes
 pub mod LeastBitmaps
@@ -21,14 +19,10 @@ pub mod ListFacts
 pub mod ListLaws
 pub mod MadeLines
 pub mod Numbers
-pub mod PlaceHeld
 pub mod RoomLaws
 pub mod Refused
 pub mod Reported
 pub mod RowsWritten
 pub mod SeenPixels
 pub mod ToldAmong
-pub mod WordColumns
-pub mod WordInk
-pub mod WordRows
 pub mod WorkTested

@@ -10,7 +10,8 @@ use Rattle.tt_fit_outline.specs.Outline.{Outline}
 use Rattle.tt_line.specs.Layout.{Placement}
 use Rattle.tt_picture.specs.Ink.{glyph_ink}
 use Rattle.tt_picture.specs.Pictures.{Image, image, picture}
-use Rattle.tt_picture.specs.Pixels.{Shape, is_black_pixel, is_filled, some_black, some_filled}
+use Rattle.tt_glyph_pixels.specs.Shown.{is_filled}
+use Rattle.tt_picture.specs.Pixels.{Shape, is_black_pixel, some_black, some_filled}
 use Rattle.tt_picture.specs.Shapes.{chords_with, edges_at, filled_by, glyph_shape, shape_at}
 use Rattle.tt_picture.proofs.Alike.{image_alike}
 use Rattle.tt_picture.proofs.Standings.{filled_from_pen, from_pen}
@@ -18,8 +19,8 @@ use Rattle.tt_scan_dropouts.specs.Pictures.{column_at, line_at}
 use Rattle.tt_scan_edges.specs.declared.edge.Frame.{Frame}
 use Rattle.tt_scan_edges.specs.Winding.{column_x, is_black, row_y}
 use Rattle.tt_scan_gaps.specs.Crossings.{centre}
-use Rattle.tt_scan_ink.specs.Least.{IsInk}
-use Rattle.tt_scan_ink.specs.declared.ink.GlyphInk.{GlyphInk}
+use Rattle.tt_bitmap.specs.Inks.{IsInk}
+use Rattle.tt_bitmap.specs.declared.ink.LeastBox.{LeastBox}
 use Rattle.tt_strike.specs.Job.{Job}
 use Rattle.tt_strike.specs.Picture.{drawn, edges_tested, frame_of, line_shapes, points_tested, setting_in, shapes_in}
 use Rattle.tt_strike.specs.Refusals.{as_font, as_job}
@@ -38,7 +39,7 @@ le_true a b is = grind (arith, ints, is)
 pub lt_true : (a b : ℤ) → a <ℤ b → int_lt a b ≡ true
 lt_true a b is = grind (arith, ints, is)
 
-within_place : (black : ℤ → ℤ → Bool) (x : Option GlyphInk) (k j : ℤ) → IsInk black x → black k j ≡ true
+within_place : (black : ℤ → ℤ → Bool) (x : Option LeastBox) (k j : ℤ) → IsInk black x → black k j ≡ true
     → lies_in (place_of x) k j ≡ true
 within_place black None k j ink dark = let white = sym (ink k j) ∙ dark in absurd cc
 within_place black (Some b) k j ink dark =

@@ -18,7 +18,7 @@ use Rattle.tt_picture.specs.Pictures.{Image}
 use Rattle.tt_picture.specs.Pixels.{Shape}
 use Rattle.tt_picture.specs.Shapes.{glyph_shape}
 use Rattle.tt_scan_edges.specs.declared.edge.Frame.{Frame}
-use Rattle.tt_scan_ink.specs.declared.ink.GlyphInk.{GlyphInk}
+use Rattle.tt_bitmap.specs.declared.ink.LeastBox.{LeastBox}
 use Rattle.tt_strike.specs.Job.{Job}
 use Rattle.tt_strike.specs.Picture.{drawn, frame_of, setting_in}
 use Rattle.tt_strike.specs.Work.{line_fitter}
@@ -52,7 +52,7 @@ all_known count (g ∷ gs) known =
 
 -- ink within a picture is not too large
 
-small_by : (f : Frame) (pen : ℕ) (x : Option GlyphInk) → IsWithin f pen (place_of x) → f.width ≤ width_limit
+small_by : (f : Frame) (pen : ℕ) (x : Option LeastBox) → IsWithin f pen (place_of x) → f.width ≤ width_limit
     → f.height ≤ height_limit → is_large (place_of x) ≡ false
 small_by f pen None within wide high = refl
 small_by f pen (Some b) within wide high =
@@ -76,7 +76,7 @@ small_by f pen (Some b) within wide high =
 
 -- a glyph that is not too large is made
 
-made_by : (advance : ℕ) (unfitted : Option Fault) (x : Option GlyphInk) → is_large (place_of x) ≡ false
+made_by : (advance : ℕ) (unfitted : Option Fault) (x : Option LeastBox) → is_large (place_of x) ≡ false
     → IsMade (made_within advance unfitted (place_of x))
 made_by advance unfitted x small = rw small tt
 

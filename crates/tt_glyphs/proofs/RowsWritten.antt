@@ -6,11 +6,11 @@ use Rattle.std.proofs.lemmas.List.Sums.{sum_by-append, sum_by_push}
 use Rattle.std.proofs.lemmas.Slice.{take-put_mid}
 use Rattle.tt_picture.proofs.RowBytes.{length-rows}
 use Rattle.tt_glyphs.specs.Bitmaps.{place_bytes}
-use Rattle.tt_glyphs.specs.declared.bitmap.GlyphRows.{GlyphRows}
-use Rattle.tt_glyphs.specs.declared.bitmap.GlyphRows.TheVariants as made
 use Rattle.tt_glyphs.specs.declared.drawing.DrawnGlyph.{DrawnGlyph}
 use Rattle.tt_glyphs.specs.declared.told.Told.{Told}
-use Rattle.tt_glyphs.specs.Drawn.{DrawnFits, HasBitmap, drawn_pixel, drawn_rows, place_by, rows_by, some_rows, word_pixel}
+use Rattle.tt_glyphs.specs.declared.written.GlyphRows.{GlyphRows}
+use Rattle.tt_glyphs.specs.declared.written.GlyphRows.TheVariants as made
+use Rattle.tt_glyphs.specs.Drawn.{DrawnFits, HasBitmap, drawn_rows, large_pixel, place_by, rows_by, small_pixel, some_rows}
 use Rattle.tt_glyphs.specs.Entries.{told_bytes}
 use borrow.Rule.Slice.PartMut.{put_mid}
 
@@ -19,8 +19,8 @@ bytes_of d = told_bytes d.told
 
 -- a drawn glyph has as many bytes of rows as its report tells
 length_rows : (b : GlyphRows) → length (rows_by b) ≡ place_bytes (place_by b)
-length_rows (made.Edges b) = length-rows b.place.width (drawn_pixel b) 0 (place_bytes b.place)
-length_rows (made.Words b) = length-rows b.place.width (word_pixel b) 0 (place_bytes b.place)
+length_rows (made.Small b) = length-rows b.place.width (small_pixel b) 0 (place_bytes b.place)
+length_rows (made.Large b) = length-rows b.place.width (large_pixel b) 0 (place_bytes b.place)
 
 length_by : (t : Told) (b : Option GlyphRows) → HasBitmap t b → length (some_rows b) ≡ told_bytes t
 length_by t None has = sym has

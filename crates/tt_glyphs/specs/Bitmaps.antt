@@ -3,15 +3,16 @@
 use Rattle.std.specs.Prelude.{◌≡◌, refl, ℕ, ◌+◌, ◌*◌, ◌^◌, ◌<◌, ◌≤◌, Bool, ◌||◌, nat_lt, ℤ, pos, negsuc, ◌+ℤ◌, ◌-ℤ◌, unsigned_abs, List, Option, Some, None}
 use Rattle.tt_core.specs.Bits.{stride}
 use Rattle.tt_core.specs.Limits.{height_limit, width_limit}
-use Rattle.tt_picture.specs.Pixels.{Shape, is_filled}
+use Rattle.tt_glyph_pixels.specs.Shown.{is_filled}
+use Rattle.tt_picture.specs.Pixels.{Shape}
 use Rattle.tt_picture.specs.Rows.{rows}
 use Rattle.tt_scan_edges.specs.Winding.{is_black}
 use Rattle.tt_scan_gaps.specs.Crossings.{centre}
-use Rattle.tt_scan_ink.specs.declared.ink.GlyphInk.{GlyphInk}
+use Rattle.tt_bitmap.specs.declared.ink.LeastBox.{LeastBox}
 use Rattle.tt_glyphs.specs.declared.place.InkPlace.{InkPlace}
 
 -- the place of the ink in a box. Without ink all four numbers are 0
-abbrev pub place_of : Option GlyphInk → InkPlace
+abbrev pub place_of : Option LeastBox → InkPlace
 place_of None = record { left = pos 0; top = pos 0; width = 0; height = 0 }
 place_of (Some b) = record {
   left = b.left;

@@ -1,15 +1,13 @@
--- No part of the standard: a glyph that is drawn, whose rows are made of edges and dropouts, or of the words of its
--- lines.
+-- No part of the standard: a glyph that is drawn, whose rows are made of its bitmap, or of its edges and dropouts.
 use Rattle.std.specs.Prelude.{◌≡◌, ℕ, ◌+◌, ◌*◌, ◌^◌, ◌<◌, ◌≤◌, Bool, ◌&&◌, ◌||◌, ℤ, pos, ◌+ℤ◌, ◌-ℤ◌, unsigned_abs, List, [], length, Option, Some, None}
 use Rattle.std.specs.Ordering.{int_eq}
 use Rattle.tt_core.specs.Bits.{stride}
 use Rattle.tt_core.specs.Limits.{height_limit, width_limit}
+use Rattle.tt_bitmap.specs.Bitmaps as bitmaps
 use Rattle.tt_fit.specs.declared.programs.Fit.{Fit}
 use Rattle.tt_fit.specs.Fitting.{Fitter}
 use Rattle.tt_picture.specs.declared.fitting.LineLimits.{LineLimits}
-use Rattle.tt_picture.specs.Pixels.{is_filled}
 use Rattle.tt_picture.specs.Rows.{rows}
-use Rattle.tt_scan.specs.Contours.{contours_at}
 use Rattle.tt_scan_dropouts.specs.declared.pixel.Pixel.{Pixel}
 use Rattle.tt_scan_dropouts.specs.Pictures.{AreDropouts, is_among}
 use Rattle.tt_scan_edges.specs.declared.edge.Frame.{Frame}
@@ -17,16 +15,16 @@ use Rattle.tt_scan_edges.specs.Winding.{is_black}
 use Rattle.tt_scan_gaps.specs.Crossings.{centre}
 use Rattle.tt_strike.specs.declared.source.FitterSource.{FitterSource}
 use Rattle.tt_glyphs.specs.Bitmaps.{place_bytes}
-use Rattle.tt_glyphs.specs.declared.bitmap.GlyphRows.{GlyphRows}
-use Rattle.tt_glyphs.specs.declared.bitmap.GlyphRows.TheVariants as made
-use Rattle.tt_glyphs.specs.declared.bitmap.WordBitmap.{WordBitmap}
 use Rattle.tt_glyphs.specs.declared.drawing.DrawnGlyph.{DrawnGlyph}
 use Rattle.tt_glyphs.specs.declared.edged.EdgedOutline.{EdgedOutline}
 use Rattle.tt_glyphs.specs.declared.place.InkPlace.{InkPlace}
+use Rattle.tt_glyphs.specs.declared.small.SmallRows.{SmallRows}
 use Rattle.tt_glyphs.specs.declared.told.Told.{Told}
-use Rattle.tt_glyphs.specs.GlyphBitmap.{GlyphBitmap}
+use Rattle.tt_glyphs.specs.declared.written.GlyphRows.{GlyphRows}
+use Rattle.tt_glyphs.specs.declared.written.GlyphRows.TheVariants as made
+use Rattle.tt_glyphs.specs.Edged.{inked_by}
 use Rattle.tt_glyphs.specs.Entries.{ToldFits, glyph_told, told_bytes, told_rows}
-use Rattle.tt_glyphs.specs.Words.{HoldsPlace, shows_on}
+use Rattle.tt_glyphs.specs.Large.{LargeRows}
 
 -- a place with ink, of a bitmap that is not too large
 pub record IsInked (p : InkPlace) : Type 0 where
@@ -50,11 +48,6 @@ frame_of p = record { width = p.width; height = p.height; margin = 0; rise = p.t
 abbrev pub is_pixel_of : InkPlace → Pixel → ℕ → ℕ → Bool
 is_pixel_of p pixel c r = int_eq pixel.column (column_of p c) && int_eq pixel.row (line_of p r)
 
--- the rows of a glyph's ink by its edges and its dropouts
-abbrev pub drawn_pixel : GlyphBitmap → ℕ → ℕ → Bool
-drawn_pixel b c r =
-    is_black b.edges (centre (column_of b.place c)) (centre (line_of b.place r)) || is_among b.dropouts c r
-
 -- row r of the pixels in a place, and all rows
 abbrev pub row_in : InkPlace → (ℕ → ℕ → Bool) → ℕ → List ℕ
 row_in p black r = rows p.width black (stride p.width * r) (stride p.width)
@@ -62,55 +55,51 @@ row_in p black r = rows p.width black (stride p.width * r) (stride p.width)
 abbrev pub rows_in : InkPlace → (ℕ → ℕ → Bool) → List ℕ
 rows_in p black = rows p.width black 0 (place_bytes p)
 
-abbrev pub bitmap_row : GlyphBitmap → ℕ → List ℕ
-bitmap_row b r = row_in b.place (drawn_pixel b) r
+-- the pixels of a glyph's edges and of its dropouts, in a place
+abbrev pub edged_pixel : EdgedOutline → InkPlace → ℕ → ℕ → Bool
+edged_pixel e p c r = inked_by e (column_of p c) (line_of p r)
 
-abbrev pub bitmap_rows : GlyphBitmap → List ℕ
-bitmap_rows b = rows_in b.place (drawn_pixel b)
+-- the rows of a glyph's ink by its bitmap
+abbrev pub small_pixel : SmallRows → ℕ → ℕ → Bool
+small_pixel b c r = bitmaps.is_black b.bitmap (column_of b.place c) (line_of b.place r)
 
-pub record BitmapFits (b : GlyphBitmap) : Type 0 where
+abbrev pub small_rows : SmallRows → List ℕ
+small_rows b = rows_in b.place (small_pixel b)
+
+-- by its edges and its dropouts
+abbrev pub large_pixel : LargeRows → ℕ → ℕ → Bool
+large_pixel b c r =
+    is_black b.edges (centre (column_of b.place c)) (centre (line_of b.place r)) || is_among b.dropouts c r
+
+abbrev pub large_row : LargeRows → ℕ → List ℕ
+large_row b r = row_in b.place (large_pixel b) r
+
+abbrev pub large_rows : LargeRows → List ℕ
+large_rows b = rows_in b.place (large_pixel b)
+
+pub record LargeFits (b : LargeRows) : Type 0 where
   pub place : IsInked b.place
   pub frame : b.frame ≡ frame_of b.place
   pub few : length b.edges ≤ 2 ^ 19
   pub dropouts : AreDropouts b.place.width b.dropouts
 
--- the pixels of a glyph's edges and of its dropouts, in a place
-abbrev pub edged_pixel : EdgedOutline → InkPlace → ℕ → ℕ → Bool
-edged_pixel e p c r =
-    is_black e.tape.edges (centre (column_of p c)) (centre (line_of p r))
-    || is_filled e.filled (contours_at e.tape.edges e.ends.items) (column_of p c) (line_of p r)
-
--- the rows of a small glyph's ink by the words of its lines
-abbrev pub word_pixel : WordBitmap → ℕ → ℕ → Bool
-word_pixel b c r = shows_on b.lines (column_of b.place c) (line_of b.place r)
-
-abbrev pub word_row : WordBitmap → ℕ → List ℕ
-word_row b r = row_in b.place (word_pixel b) r
-
-abbrev pub word_rows : WordBitmap → List ℕ
-word_rows b = rows_in b.place (word_pixel b)
-
-pub record WordsFit (b : WordBitmap) : Type 0 where
-  pub place : IsInked b.place
-  pub held : HoldsPlace b.lines b.place
-
 -- the place of rows, the edges that they are made of, and the rows
 abbrev pub place_by : GlyphRows → InkPlace
-place_by (made.Edges b) = b.place
-place_by (made.Words b) = b.place
+place_by (made.Small b) = b.place
+place_by (made.Large b) = b.place
 
 abbrev pub edges_by : GlyphRows → ℕ
-edges_by (made.Edges b) = length b.edges
-edges_by (made.Words b) = 0
+edges_by (made.Small b) = 0
+edges_by (made.Large b) = length b.edges
 
 abbrev pub rows_by : GlyphRows → List ℕ
-rows_by (made.Edges b) = bitmap_rows b
-rows_by (made.Words b) = word_rows b
+rows_by (made.Small b) = small_rows b
+rows_by (made.Large b) = large_rows b
 
 -- the rows are still to be made
 abbrev pub RowsFit : GlyphRows → Type 0
-RowsFit (made.Edges b) = BitmapFits b × (b.crosses ≡ 0)
-RowsFit (made.Words b) = WordsFit b
+RowsFit (made.Small b) = IsInked b.place
+RowsFit (made.Large b) = LargeFits b × (b.crosses ≡ 0)
 
 -- the rows of a drawn glyph, and the edges that they are made of
 abbrev pub some_rows : Option GlyphRows → List ℕ

@@ -1,18 +1,16 @@
 -- No part of the standard: the edges of an outline at pen 0.
-use Rattle.std.specs.Prelude.{◌≡◌, ℕ, ◌+◌, ◌^◌, ◌≤◌, Bool, ◌||◌, ℤ, Option, length, All, IfSome}
+use Rattle.std.specs.Prelude.{◌≡◌, ℕ, ◌+◌, ◌^◌, ◌≤◌, Bool, ℤ, Option, length, All, IfSome}
 use Rattle.tt_fit.specs.Fitting.{Fitter, fitted_outline}
 use Rattle.tt_fit_outline.specs.Steps.{step_of}
 use Rattle.tt_picture.specs.Ink.{ink_by}
-use Rattle.tt_picture.specs.Pixels.{is_filled}
+use Rattle.tt_glyph_pixels.specs.Shown.{AreClosed, shows}
 use Rattle.tt_picture.specs.Shapes.{contours_of, edges_at, filling_crossings}
 use Rattle.tt_picture.specs.Steps.{chords_of}
 use Rattle.tt_scan.specs.Contours.{AreEnds, IsClosed, contours_at}
 use Rattle.tt_scan_dropouts.specs.Counted.{edges_counted}
-use Rattle.tt_scan_edges.specs.Winding.{is_black}
 use Rattle.tt_scan_gaps.specs.Boxes.{IsBoxOf}
-use Rattle.tt_scan_gaps.specs.Crossings.{centre}
-use Rattle.tt_scan_ink.specs.Least.{IsInk}
-use Rattle.tt_scan_ink.specs.declared.ink.GlyphInk.{GlyphInk}
+use Rattle.tt_scan_ink.specs.Least.{IsNear}
+use Rattle.tt_bitmap.specs.declared.ink.LeastBox.{LeastBox}
 use Rattle.tt_glyphs.specs.declared.edged.EdgedOutline.{EdgedOutline}
 use Rattle.tt_glyphs.specs.declared.ruled.TriedBody.TheVariants as body
 use Rattle.tt_glyphs.specs.Ruled.{RuledOutline}
@@ -20,20 +18,20 @@ use Rattle.tt_glyphs.specs.Tried.{ruled_by}
 
 -- the pixels that edges and their dropouts blacken, and the box of these pixels
 abbrev pub inked_by : EdgedOutline → ℤ → ℤ → Bool
-inked_by e c j =
-    is_black e.tape.edges (centre c) (centre j) || is_filled e.filled (contours_at e.tape.edges e.ends.items) c j
+inked_by e c j = shows e.tape.edges (contours_at e.tape.edges e.ends.items) e.filled c j
 
-abbrev pub ink_of : EdgedOutline → Option GlyphInk
+abbrev pub ink_of : EdgedOutline → Option LeastBox
 ink_of e = ink_by e.tape.edges (contours_at e.tape.edges e.ends.items) e.filled
 
 -- the edges are few, lie in the box of the dropout rules, and their contours are closed and end among them. The box of
--- their ink holds all that they blacken
+-- their ink is near
 pub record EdgedFits (e : EdgedOutline) : Type 0 where
   pub few : length e.tape.edges ≤ 2 ^ 19
   pub boxed : IfSome e.filled (λ rules. IsBoxOf rules.extents e.tape.edges)
   pub ends : IfSome e.filled (λ rules. AreEnds (length e.tape.edges) e.ends.items)
-  pub closed : IfSome e.filled (λ rules. All IsClosed (contours_at e.tape.edges e.ends.items))
-  pub held : IsInk (inked_by e) (ink_of e)
+  pub closed : AreClosed e.tape.edges
+  pub round : IfSome e.filled (λ rules. All IsClosed (contours_at e.tape.edges e.ends.items))
+  pub near : IfSome (ink_of e) IsNear
 
 -- the same glyph, whose rows may be cut
 pub record IsSameGlyph (e f : EdgedOutline) : Type 0 where

@@ -4,12 +4,11 @@ pub mod Drawn
 pub mod Edged
 pub mod Entries
 pub mod EntryLaws
-pub mod GlyphBitmap
 pub mod GlyphLaws
 pub mod GrownLaws
+pub mod Large
 pub mod Listed
 pub mod Lists
 pub mod Requests
 pub mod Ruled
 pub mod Tried
-pub mod Words

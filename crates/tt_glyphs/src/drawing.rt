@@ -1,32 +1,33 @@
 //! Draws the distinct glyphs of a list: their edges, the places of their ink, and their reports.
 
-ghost use Rattle.std.specs.Prelude.{◌≡◌, ◌⊎◌, ℕ, ℤ, ◌+◌, ◌^◌, ◌<◌, ◌≤◌, true, false, length, map, All, IfOk, IfNone, IfSome, OnOk, None};
+ghost use Rattle.std.specs.Prelude.{◌≡◌, ◌⊎◌, ℕ, ℤ, ◌+◌, ◌^◌, ◌<◌, ◌≤◌, true, false, length, map, All, IfOk, IfNone, IfSome, None};
+ghost use Rattle.tt_bitmap.specs.Bitmaps.{is_black};
 ghost use Rattle.tt_fit.specs.Fitting.{Fitter};
 ghost use Rattle.tt_glyphs.specs.Bitmaps.{IsPlace, place_of};
 ghost use Rattle.tt_glyphs.specs.Drawn.{DrawnFits, IsDrawn, IsLeft, IsSourceOf, drawn_edges, drawn_rows};
-ghost use Rattle.tt_glyphs.specs.Edged.{EdgedFits, IsEdgedBy, IsRuledBy, edged_crossings, ink_of, inked_by, outline_crossings};
+ghost use Rattle.tt_glyphs.specs.Edged.{EdgedFits, IsEdgedBy, IsRuledBy, edged_crossings, inked_by, outline_crossings};
 ghost use Rattle.tt_glyphs.specs.Entries.{advance_of, told_bytes};
 ghost use Rattle.tt_glyphs.specs.Tried.{AreTriedBy, IsPast, IsRuled, IsRuledBody, IsWithin, ruled_chords, ruled_crossings, tried_chords, tried_crossings, tried_glyph};
-ghost use Rattle.tt_glyphs.specs.Words.{shows_on};
 ghost use Rattle.tt_metrics.specs.Metrics.{glyphs_of};
 ghost use Rattle.tt_picture.specs.Ink.{glyph_ink};
 ghost use Rattle.tt_picture.specs.Steps.{chords_of};
 
-use crate::bitmap::GlyphRows;
-use crate::edged::{EdgedOutline, edged};
-use crate::inked::ink_of;
-use crate::lines::LineWords;
+use crate::edged::{EdgedOutline, edged, ink_of};
 use crate::place::InkPlace;
 use crate::placing::{is_large, place_bytes, place_of};
 use crate::ruled::{RuledOutline, TriedBody, TriedGlyph};
 use crate::told::{MadeBitmap, Told};
-use crate::words::{MOST_EDGES, words_by};
-use crate::written::rows_of;
+use crate::written::{GlyphRows, rows_of};
 use std::alloc::AllocError;
+use tt_glyph_pixels::{GlyphPixels, pixels_of};
 use tt_line::advance;
 use tt_picture::{LineLimits, has_chords_within};
 use tt_scan::Sweep;
 use tt_strike::{FitterSource, is_bounded};
+
+/// The most bytes that the bitmaps of a list's glyphs take together. A glyph past them keeps its edges, which take less
+/// than a large bitmap.
+const MOST_BYTES: usize = 8 * 1024 * 1024;
 
 /// A glyph that is drawn, or only its report.
 #[derive(Drop)]
@@ -70,19 +71,18 @@ fn advance_of(source: &FitterSource, number: u16, step: u32) -> u32
     advance(source.face.metrics(), source.ppem, number)
 }
 
-/// The report of a glyph with this place, and its rows if it has any; its lines may have words. Error: memory ran out.
+/// The report of a glyph with this place, and its rows if it has any; the glyph may have a bitmap. Error: memory ran out.
 fn placed(
     source: &FitterSource,
     number: u16,
     place: InkPlace,
     edged: EdgedOutline,
-    lines: Option<LineWords>,
+    pixels: Option<GlyphPixels>,
 ) -> Result<DrawnGlyph, AllocError>
     requires known { number < glyphs_of source.now.face.now.metrics }
     requires place { IsPlace place }
     requires edged { EdgedFits edged }
-    requires ink { place ≡ place_of (ink_of edged) }
-    requires shown { IfSome lines (λ l. (c j : ℤ) → shows_on l c j ≡ inked_by edged c j) }
+    requires shown { IfSome pixels (λ g. (c j : ℤ) → is_black g.bitmap c j ≡ inked_by edged c j) }
     ensures number { IfOk result (λ d. d.number ≡ number) }
     ensures drawn { IfOk result (λ d. (s : Fitter) → IsSourceOf source.now s → place ≡ place_of (glyph_ink s number) → IsEdgedBy s number edged → IsDrawn source.now.fit s d) }
     ensures fits { IfOk result DrawnFits }
@@ -98,7 +98,7 @@ fn placed(
     if place.width == 0 {
         return Ok(rowless(number, told));
     }
-    let bitmap = rows_of(source.alloc, place, edged, lines)?;
+    let bitmap = rows_of(source.alloc, place, edged, pixels)?;
     Ok(DrawnGlyph {
         number,
         told,
@@ -106,26 +106,30 @@ fn placed(
     })
 }
 
-/// A glyph that is drawn by its edges. Error: memory ran out.
+/// A glyph that is drawn by its edges: in a bitmap, where that takes at most so many bytes. Error: memory ran out.
 fn drawn(
     source: &FitterSource,
     number: u16,
     edged: EdgedOutline,
-    sweep: &mut Sweep,
+    most: usize,
 ) -> Result<DrawnGlyph, AllocError>
     requires known { number < glyphs_of source.now.face.now.metrics }
     requires edged { EdgedFits edged }
     requires fresh { edged.tape.crosses ≡ 0 }
-    requires room { 512 ≤ sweep.old.room }
     ensures number { IfOk result (λ d. d.number ≡ number) }
     ensures drawn { IfOk result (λ d. (s : Fitter) → IsSourceOf source.now s → IsEdgedBy s number edged → IsDrawn source.now.fit s d) }
     ensures fits { IfOk result DrawnFits }
-    ensures room { OnOk result (sweep.new.room ≡ sweep.old.room) }
 {
     let mut edged = edged;
-    let lines = words_by(source.alloc, &mut edged, sweep)?;
-    let place = place_of(ink_of(source.alloc, &edged, &lines)?);
-    placed(source, number, place, edged, lines)
+    let pixels = pixels_of(
+        source.alloc,
+        &mut edged.tape,
+        &edged.ends,
+        edged.filled,
+        most,
+    )?;
+    let ink = ink_of(source.alloc, &edged, &pixels)?;
+    placed(source, number, place_of(ink), edged, pixels)
 }
 
 /// Charges the chords and the crossings of a glyph. False where it has more of either than is left; without limits none
@@ -163,15 +167,13 @@ fn draw_ruled(
     number: u16,
     ruled: RuledOutline,
     left: &mut Option<LineLimits>,
-    sweep: &mut Sweep,
+    most: usize,
 ) -> Result<Option<DrawnGlyph>, AllocError>
     requires known { number < glyphs_of source.now.face.now.metrics }
     requires ruled { IsRuled ruled }
-    requires room { 512 ≤ sweep.old.room }
     ensures number { IfOk result (λ o. IfSome o (λ d. d.number ≡ number)) }
     ensures drawn { IfOk result (λ o. IfSome o (λ d. (s : Fitter) → IsSourceOf source.now s → IsRuledBy s number ruled → IsDrawn source.now.fit s d)) }
     ensures fits { IfOk result (λ o. IfSome o DrawnFits) }
-    ensures room { OnOk result (sweep.new.room ≡ sweep.old.room) }
     ensures left { IfOk result (λ o. IfSome o (λ _. IsLeft left.old (chords_of ruled.rule ruled.outline) (outline_crossings ruled) left.new)) }
     ensures past { IfOk result (λ o. IfNone o (IsPast left.old (chords_of ruled.rule ruled.outline) (outline_crossings ruled))) }
 {
@@ -182,7 +184,7 @@ fn draw_ruled(
     if !charge(left, &edged) {
         return Ok(None);
     }
-    Ok(Some(drawn(source, number, edged, sweep)?))
+    Ok(Some(drawn(source, number, edged, most)?))
 }
 
 /// A glyph that is drawn or refused; None where it has more chords or crossings than are left. Error: memory ran out.
@@ -190,22 +192,20 @@ fn draw_one(
     source: &FitterSource,
     tried: TriedGlyph,
     left: &mut Option<LineLimits>,
-    sweep: &mut Sweep,
+    most: usize,
 ) -> Result<Option<DrawnGlyph>, AllocError>
     requires known { tried.number < glyphs_of source.now.face.now.metrics }
     requires ruled { IsRuledBody tried.body }
-    requires room { 512 ≤ sweep.old.room }
     ensures number { IfOk result (λ o. IfSome o (λ d. d.number ≡ tried.number)) }
     ensures drawn { IfOk result (λ o. IfSome o (λ d. (s : Fitter) → IsSourceOf source.now s → tried ≡ tried_glyph s tried.number → IsDrawn source.now.fit s d)) }
     ensures fits { IfOk result (λ o. IfSome o DrawnFits) }
-    ensures room { OnOk result (sweep.new.room ≡ sweep.old.room) }
     ensures left { IfOk result (λ o. IfSome o (λ _. IsLeft left.old (ruled_chords tried.body) (ruled_crossings tried.body) left.new)) }
     ensures past { IfOk result (λ o. IfNone o (IsPast left.old (ruled_chords tried.body) (ruled_crossings tried.body))) }
 {
     let TriedGlyph { number, body } = tried;
     match body {
         TriedBody::Refused(fault) => Ok(Some(rowless(number, Told::Broken(fault)))),
-        TriedBody::Ruled(ruled) => draw_ruled(source, number, ruled, left, sweep),
+        TriedBody::Ruled(ruled) => draw_ruled(source, number, ruled, left, most),
     }
 }
 
@@ -225,12 +225,13 @@ pub(crate) fn draw_glyphs(
     ensures many { IfOk result (λ o. IfNone o (IsPast limits (tried_chords tried.items) (tried_crossings tried.items))) }
 {
     let mut left = limits;
-    let mut sweep = Sweep::new(source.alloc, MOST_EDGES)?;
+    let mut most = MOST_BYTES;
     let mut made = Vec::with_capacity(source.alloc, tried.len())?;
     for one in tried {
-        let Some(glyph) = draw_one(source, one, &mut left, &mut sweep)? else {
+        let Some(glyph) = draw_one(source, one, &mut left, most)? else {
             return Ok(None);
         };
+        most = most.saturating_sub(glyph.held());
         made.push(glyph)?;
     }
     Ok(Some(made))
@@ -245,6 +246,14 @@ impl DrawnGlyph {
     {
         match &self.bitmap {
             Some(bitmap) => place_bytes(bitmap.place()),
+            None => 0,
+        }
+    }
+
+    /// The bytes of its bitmap; 0 where it has none.
+    fn held(&self) -> usize {
+        match &self.bitmap {
+            Some(bitmap) => bitmap.held(),
             None => 0,
         }
     }

@@ -6,13 +6,10 @@
 //! ruled.rt     an outline with its rules, or the fault that refuses it
 //! outlines.rt  the outlines of the distinct glyphs
 //! edged.rt     the edges of an outline, their crossings and the box of their ink
-//! lines.rt     a word for each line of a small glyph
-//! words.rt     the black pixels of a small glyph
-//! inked.rt     the box of a glyph's ink, by the words of its lines or its edges
 //! placing.rt   the place of a glyph by that box, and the bytes of its rows
-//! bitmap.rt    what a glyph's rows are made of
-//! drawn.rt     the rows of a glyph by its edges and its dropouts
-//! written.rt   the rows of a glyph, written
+//! small.rt     the rows of a glyph by its bitmap
+//! large.rt     the rows of a large glyph by its edges and its dropouts
+//! written.rt   the rows of a glyph, which is small or large
 //! drawing.rt   the distinct glyphs, drawn within the limits of a request
 //! tried.rt     a list whose distinct glyphs are tried
 //! entries.rt   an entry for each place of the list
@@ -21,24 +18,21 @@
 //! ```
 #![tactic(auto)]
 
-mod bitmap;
 mod drawing;
-mod drawn;
 mod edged;
 mod entries;
-mod inked;
 mod known;
+mod large;
 pub mod laws;
-mod lines;
 mod list;
 mod outlines;
 mod place;
 mod placing;
 mod request;
 mod ruled;
+mod small;
 mod told;
 mod tried;
-mod words;
 mod written;
 
 pub use list::BitmapList;

@@ -205,8 +205,8 @@ impl BitmapList {
         self.wanted
     }
 
-    /// Writes all rows to the front of a room. No memory is taken. The list is used up, since its edges count how often
-    /// they are crossed.
+    /// Writes all rows to the front of a room. No memory is taken. The list is used up, since the edges of large glyphs
+    /// count how often they are crossed.
     pub fn write_rows(self, room: &mut [u8])
         requires { self.wanted ≤ length room.old }
         ensures rows { take self.wanted room.new ≡ self.rows }

@@ -7,11 +7,11 @@ ghost use Rattle.tt_glyphs.specs.Bitmaps.{IsPlace, is_large, place_bytes, place_
 ghost use Rattle.tt_scan_ink.specs.Least.{IsNear};
 
 use crate::place::InkPlace;
+use tt_bitmap::LeastBox;
 use tt_core::{HEIGHT_LIMIT, WIDTH_LIMIT};
-use tt_scan_ink::GlyphInk;
 
 /// How many columns or rows there are from one to another, both included.
-pub(crate) fn count(first: i64, last: i64) -> u32
+fn count(first: i64, last: i64) -> u32
     requires first { unsigned_abs first < 2 ^ 18 }
     requires last { unsigned_abs last < 2 ^ 18 }
     ensures exact { result ≡ unsigned_abs (last -ℤ first) + 1 }
@@ -21,7 +21,7 @@ pub(crate) fn count(first: i64, last: i64) -> u32
 }
 
 /// The place of the ink in a box; four zeros without a box.
-pub(crate) fn place_of(ink: Option<GlyphInk>) -> InkPlace
+pub(crate) fn place_of(ink: Option<LeastBox>) -> InkPlace
     requires { IfSome ink IsNear }
     ensures exact { result ≡ place_of ink }
     ensures placed { IsPlace result }

@@ -1,5 +1,5 @@
 -- A label that is laid out by advances: what its glyphs stop, and what they tell.
-use Rattle.std.proofs.Common.{◌≡◌, ◌∙◌, refl, sym, Bool, false, ℕ, List, map, Result, Ok, Err}
+use Rattle.std.proofs.Common.{◌≡◌, ◌∙◌, sym, false, ℕ, List, Result, Ok, Err}
 use Rattle.std.specs.Prelude.{IfSome}
 use Rattle.tt_core.specs.declared.draw_fault.DrawFault.{DrawFault}
 use Rattle.tt_core.specs.declared.draw_fault.DrawFault.TheVariants as draw
@@ -34,9 +34,9 @@ textless_tell z y text margin k how lines l d same one placed fails =
     let told = rw (same, one) at fails in
     shapes_tell z.face (job_by z text margin) how lines d placed (rw (shapes_textless z text margin (joint lines)) told)
 
-pub made_as_joint : {cached : Bool} {gs : List Glyph} (z y : SizedFace) (text : List ℕ) (margin k : ℕ) (lines : List Placement) (l : Placement)
-    → y ≡ z → k ≡ margin → l ≡ joint lines → AreMade cached y.face (job_with y k) l gs
-    → AreMade cached z.face (job_by z text margin) (joint lines) gs
+pub made_as_joint : {gs : List Glyph} (z y : SizedFace) (text : List ℕ) (margin k : ℕ) (lines : List Placement) (l : Placement)
+    → y ≡ z → k ≡ margin → l ≡ joint lines → AreMade y.face (job_with y k) l gs
+    → AreMade z.face (job_by z text margin) (joint lines) gs
 made_as_joint z y text margin k lines l same at one made =
     let is = rw (same, at, one) at made in made_textless z text margin (joint lines) is
 

@@ -1,5 +1,5 @@
 -- A label that is laid out by the steps of its glyphs: where each part of the work stops.
-use Rattle.std.proofs.Common.{◌≡◌, ◌∙◌, refl, sym, ap, ℕ, ℤ, Bool, true, false, List, length, map, Option, Result, Ok, Err}
+use Rattle.std.proofs.Common.{◌≡◌, ◌∙◌, refl, sym, ap, ℕ, ℤ, true, List, Option, Result, Ok, Err}
 use Rattle.std.specs.Prelude.{IfSome}
 use Rattle.tt_core.specs.declared.draw_fault.DrawFault.{DrawFault}
 use Rattle.tt_core.specs.declared.draw_fault.DrawFault.TheVariants as draw
@@ -21,14 +21,14 @@ use Rattle.tt_line.specs.Labels.{label_placement}
 use Rattle.tt_line.specs.Layout.{Placement}
 use Rattle.tt_picture.specs.Distinct.{distinct}
 use Rattle.tt_picture.specs.Fitted.{AreFitted, FittedGlyph, fitted_chords, fitted_numbers}
-use Rattle.tt_picture.specs.Glyphs.{AreOfLine, ArePlaces, Glyph}
+use Rattle.tt_picture.specs.Glyphs.{ArePlaces}
 use Rattle.tt_picture.specs.Pixels.{Shape}
 use Rattle.tt_picture.specs.Shapes.{crossings_in, glyph_shape}
 use Rattle.tt_picture.specs.Steps.{step_by}
 use Rattle.tt_picture.proofs.Among.{all_among}
 use Rattle.tt_picture.proofs.Outlines.{shapes_of_line}
 use Rattle.tt_strike.specs.Job.{Job, tested}
-use Rattle.tt_strike.specs.Picture.{advance_with, edges_tested, frame_of, outlines_in, outlines_tested, points_tested, setting_in, shapes_in}
+use Rattle.tt_strike.specs.Picture.{advance_with, edges_tested, outlines_in, outlines_tested, points_tested, setting_in, shapes_in}
 use Rattle.tt_strike.specs.Refusals.{as_job, refusal}
 use Rattle.tt_strike.specs.Work.{edges_limited, is_bounded, line_fitter, points_in, work_left, work_tested}
 use Rattle.tt_strike.proofs.Stepped.{chords_made, outlines_pass}
@@ -42,10 +42,9 @@ step_in face a s = step_by face.metrics a.ppem (advance_with s (label_glyphs fac
 pub record IsFittedText (face : Face) (a : Job) (s : Fitter) (stepped : List (List (ℕ × ℕ))) (table : List ℕ) (fs : List FittedGlyph) : Type 0 where
   pub steps : stepped ≡ stepped_lines face.metrics (step_in face a s) face.cmap a.text
   pub glyphs : glyphs_in stepped ≡ label_glyphs face.cmap a.text
-  pub room : length table ≡ s.tables.glyphs
   pub places : ArePlaces table (fitted_numbers fs)
   pub numbers : fitted_numbers fs ≡ distinct (label_glyphs face.cmap a.text)
-  pub fitted : AreFitted false (line_fitter s (label_glyphs face.cmap a.text)) fs
+  pub fitted : AreFitted (line_fitter s (label_glyphs face.cmap a.text)) fs
   pub made : (os : List Outline) × (outlines_in s (label_glyphs face.cmap a.text) ≡ Ok os)
 
 pub text_glyphs_are : (face : Face) (a : Job) (before : ℕ → ℤ → ℕ) (lines : List (List (ℕ × ℕ))) → lines ≡ stepped_lines face.metrics before face.cmap a.text
@@ -62,7 +61,6 @@ fitted_text face a s before lines stepped table fs are is =
     record {
       steps = steps;
       glyphs = text_glyphs_are face a (step_in face a s) stepped steps;
-      room = is.room;
       places = is.places;
       numbers = rw gs at is.numbers;
       fitted = rw gs at is.fitted;
@@ -76,7 +74,7 @@ pub record IsOutlinedLabel (face : Face) (a : Job) (how : Align) (s : Fitter) (l
   pub there : setting_in face a ≡ Ok s
   pub points : work_tested a.fit point_work_limit (points_in s (label_glyphs face.cmap a.text)) ≡ Ok tt
   pub outlines : (os : List Outline) × (outlines_in s (label_glyphs face.cmap a.text) ≡ Ok os)
-  pub fitted : AreFitted false (line_fitter s (label_glyphs face.cmap a.text)) fs
+  pub fitted : AreFitted (line_fitter s (label_glyphs face.cmap a.text)) fs
   pub numbers : fitted_numbers fs ≡ distinct (label_glyphs face.cmap a.text)
   pub glyphs : joint_numbers lines ≡ label_glyphs face.cmap a.text
   pub laid : label_placement face.metrics a.ppem a.margin how (stepped_lines face.metrics (step_in face a s) face.cmap a.text) ≡ Ok lines
@@ -151,8 +149,3 @@ pub size_tells_no_defect : {X Y : Type 0} (view : X → Y) (wanted : Result Y Jo
 size_tells_no_defect view wanted P (draw.Font f) gives = absurd gives
 size_tells_no_defect view wanted P (draw.Job j) gives = tt
 size_tells_no_defect view wanted P draw.Memory gives = tt
-
--- the glyphs of the joint line
-pub as_joint : {cached : Bool} {gs : List Glyph} (maker : ℕ → Fitter) (l m : Placement) (k margin : ℕ) → l ≡ m → k ≡ margin
-    → AreOfLine cached maker (frame_of l k) l.glyphs gs → AreOfLine cached maker (frame_of m margin) m.glyphs gs
-as_joint maker l m k margin same at of = rw (same, at) at of

@@ -1,5 +1,5 @@
 -- The picture of a label whose lines are enlarged: its glyphs are those that were made for the lines before.
-use Rattle.std.proofs.Common.{◌≡◌, ◌∙◌, refl, sym, ap, ap₂, ℕ, ◌+◌, false, nat_lt, ◌||◌, List, [], ◌∷◌, ◌++◌, map, Option, None, Some, Result, Ok, Err, inl, inr, arith}
+use Rattle.std.proofs.Common.{◌≡◌, ◌∙◌, refl, sym, ap, ap₂, ℕ, ◌+◌, nat_lt, ◌||◌, List, [], ◌∷◌, map, Option, None, Some, Result, Ok, Err, inl, inr, arith}
 use Rattle.std.proofs.lemmas.List.{map-append}
 use Rattle.std.specs.List.{flat_map}
 use Rattle.tt_core.specs.Chains.{came-through, passed-on, was-err}
@@ -10,14 +10,16 @@ use Rattle.tt_core.specs.declared.fault.JobFault.{JobFault}
 use Rattle.tt_core.specs.declared.fault.JobFault.TheVariants as fault
 use Rattle.tt_core.specs.Limits.{height_limit, width_limit}
 use Rattle.tt_core.specs.Outcomes.{◌>>=◌, JobGives, each}
+use Rattle.tt_core.specs.Faults.{Fault}
 use Rattle.tt_face.specs.Faces.{Face}
+use Rattle.tt_fit.specs.Fitting.{Fitter}
 use Rattle.tt_label.specs.Label.{grown_lines, joint, joint_numbers, label_drawn, label_grown, label_ink, label_outcome, label_placed, some_line_shows}
 use Rattle.tt_label.specs.Made.{label_shapes}
 use Rattle.tt_line.specs.declared.align.Align.{Align}
 use Rattle.tt_line.specs.Layout.{Placement}
 use Rattle.tt_picture.specs.declared.ink_box.InkBox.{InkBox}
 use Rattle.tt_picture.specs.Glyphs.{Glyph}
-use Rattle.tt_picture.specs.Pictures.{image}
+use Rattle.tt_picture.specs.Pictures.{Image, image}
 use Rattle.tt_strike.proofs.Enlarged.{larger_made, same_numbers}
 use Rattle.tt_strike.specs.Grown.{before, grown, lacking, not_large, with_sides}
 use Rattle.tt_strike.specs.Job.{Job}
@@ -73,7 +75,7 @@ pub lines_moved : (ink : Option InkBox) (ls ms : List Placement) → grown_lines
 lines_moved ink ls ms is = rw (joint_glyphs ms, joint_glyphs ls) (each_moved ink ls ms is)
 
 pub grown_as_made : (face : Face) (a : Job) (lines larger : List Placement) (ink : Option InkBox) (gs : List Glyph)
-    → (made : AreMade false face a (joint lines) gs) → ink ≡ label_ink (line_ink made.setting (joint lines)) a.margin lines
+    → (made : AreMade face a (joint lines) gs) → ink ≡ label_ink (line_ink made.setting (joint lines)) a.margin lines
     → grown_lines lines ink ≡ Ok larger → label_grown face a lines ≡ Ok larger
 unfolding label_grown
 grown_as_made face a lines larger ink gs made inked is =
@@ -81,23 +83,35 @@ grown_as_made face a lines larger ink gs made inked is =
     rw (made.opened, made.few, made.fitted, made.seldom, grows) refl
 
 pub not_grown_as_made : (face : Face) (a : Job) (lines : List Placement) (ink : Option InkBox) (gs : List Glyph) (j : JobFault)
-    → (made : AreMade false face a (joint lines) gs) → ink ≡ label_ink (line_ink made.setting (joint lines)) a.margin lines
+    → (made : AreMade face a (joint lines) gs) → ink ≡ label_ink (line_ink made.setting (joint lines)) a.margin lines
     → grown_lines lines ink ≡ Err j → label_grown face a lines ≡ Err (job j)
 unfolding label_grown
 not_grown_as_made face a lines ink gs j made inked is =
     let fails = rw inked at is in
     rw (made.opened, made.few, made.fitted, made.seldom, fails) refl
 
+-- the picture of lines whose glyphs are made
+drawn_as_made : (face : Face) (a : Job) (lines : List Placement) (gs : List Glyph) → (made : AreMade face a (joint lines) gs)
+    → label_drawn face a lines ≡ Ok (image (frame_of (joint lines) a.margin)
+    (some_line_shows (line_fitter made.setting (joint_numbers lines)) a.margin lines))
+unfolding label_drawn
+drawn_as_made face a lines gs made = rw (made.opened, made.few, made.fitted, made.seldom) refl
+
+same_setting : (r : Result Fitter Fault) (s t : Fitter) → r ≡ Ok s → r ≡ Ok t → s ≡ t
+same_setting r s t one other = cc
+
 -- the picture of the larger lines
 pub drawn_larger : (face : Face) (a : Job) (lines larger : List Placement) (left : ℕ) (gs : List Glyph)
-    → (made : AreMade false face a (joint lines) gs) → (joint larger).glyphs ≡ rightwards left (joint lines).glyphs
+    → (made : AreMade face a (joint lines) gs) → (joint larger).glyphs ≡ rightwards left (joint lines).glyphs
     → label_drawn face a larger ≡ Ok (image (frame_of (joint larger) a.margin)
     (some_line_shows (line_fitter made.setting (joint_numbers lines)) a.margin larger))
-unfolding label_drawn
 drawn_larger face a lines larger left gs made moved =
     let anew = larger_made face a (joint lines) (joint larger) left gs made moved in
+    let same = same_setting (setting_in face a) anew.setting made.setting anew.opened made.opened in
     let numbers : joint_numbers larger ≡ joint_numbers lines = rw moved (same_numbers left (joint lines).glyphs) in
-    rw (anew.opened, anew.few, anew.fitted, anew.seldom, numbers) refl
+    let shown : Fitter → List ℕ → Result Image Refused =
+    λ s ns. Ok (image (frame_of (joint larger) a.margin) (some_line_shows (line_fitter s ns) a.margin larger)) in
+    drawn_as_made face a larger gs anew ∙ ap₂ shown same numbers
 
 -- a stop in the glyphs of the lines stops the label
 no_larger_lines : (face : Face) (a : Job) (lines : List Placement) (r : Refused) → shapes_made face a (joint lines) ≡ Err r
@@ -121,7 +135,7 @@ label_stops face a how e = stops e (label_shapes face a how) (label_outcome face
 
 -- the picture of a label whose lines are enlarged
 pub label_is : (face : Face) (a : Job) (how : Align) (lines larger : List Placement) (ink : Option InkBox) (gs : List Glyph)
-    → label_placed face a how ≡ Ok lines → (made : AreMade false face a (joint lines) gs)
+    → label_placed face a how ≡ Ok lines → (made : AreMade face a (joint lines) gs)
     → ink ≡ label_ink (line_ink made.setting (joint lines)) a.margin lines → grown_lines lines ink ≡ Ok larger
     → label_outcome face a how ≡ Ok (image (frame_of (joint larger) a.margin)
     (some_line_shows (line_fitter made.setting (joint_numbers lines)) a.margin larger))
@@ -132,7 +146,7 @@ label_is face a how lines larger ink gs placed made inked grows =
 
 -- a picture that is too large once it is enlarged
 refused_larger : (face : Face) (a : Job) (how : Align) (lines : List Placement) (ink : Option InkBox) (gs : List Glyph) (j : JobFault)
-    → label_placed face a how ≡ Ok lines → (made : AreMade false face a (joint lines) gs)
+    → label_placed face a how ≡ Ok lines → (made : AreMade face a (joint lines) gs)
     → ink ≡ label_ink (line_ink made.setting (joint lines)) a.margin lines → grown_lines lines ink ≡ Err j
     → label_outcome face a how ≡ Err (job j)
 unfolding label_outcome
@@ -140,7 +154,7 @@ refused_larger face a how lines ink gs j placed made inked fails =
     rw (placed, not_grown_as_made face a lines ink gs j made inked fails) refl
 
 pub growth_stops : {X : Type 0} (view : X → List Placement) (face : Face) (a : Job) (how : Align) (lines : List Placement) (ink : Option InkBox)
-    (gs : List Glyph) (e : DrawFault) → label_placed face a how ≡ Ok lines → (made : AreMade false face a (joint lines) gs)
+    (gs : List Glyph) (e : DrawFault) → label_placed face a how ≡ Ok lines → (made : AreMade face a (joint lines) gs)
     → ink ≡ label_ink (line_ink made.setting (joint lines)) a.margin lines → JobGives view (Err e) (grown_lines lines ink)
     → IfSome (refusal e) (λ r. label_outcome face a how ≡ Err r)
 growth_stops view face a how lines ink gs (draw.Font f) placed made inked fails = absurd fails

@@ -8,7 +8,7 @@ use Rattle.tt_core.specs.Outcomes.{◌>>=◌, each}
 use Rattle.tt_face.specs.Faces.{Face}
 use Rattle.tt_fit.specs.Fitting.{Fitter}
 use Rattle.tt_label.specs.InkLaws.{LabelInkIsDrawn, LabelsAddFewest, LabelsCutNone, ink_of_label, is_inked, line_inks, some_line_inks, with_room}
-use Rattle.tt_label.specs.Label.{grown_lines, is_shown, joint, joint_numbers, label_ink, line_box}
+use Rattle.tt_label.specs.Label.{grown_lines, joint, joint_numbers, label_ink, line_box}
 use Rattle.tt_label.specs.Made.{AreAlike}
 use Rattle.tt_label.proofs.Drawn.{joint_glyphs}
 use Rattle.tt_label.proofs.LabelPlaced.{IsGrownLabel, all_enlarged, all_kept, grown_label, laid_label, numbers_alike}
@@ -16,12 +16,13 @@ use Rattle.tt_label.proofs.Placed.{placed_lines}
 use Rattle.tt_line.specs.Layout.{Placement}
 use Rattle.tt_picture.specs.declared.ink_box.InkBox.{InkBox}
 use Rattle.tt_picture.specs.Ink.{all_joined, glyph_ink, joined}
+use Rattle.tt_picture.specs.Lines.{is_shown}
 use Rattle.tt_picture.specs.Pixels.{Shape}
 use Rattle.tt_picture.specs.Shapes.{glyph_shape}
 use Rattle.tt_picture.proofs.Blackened.{or_false, or_or}
 use Rattle.tt_scan_edges.specs.declared.edge.Frame.{Frame}
-use Rattle.tt_scan_ink.specs.declared.ink.GlyphInk.{GlyphInk}
-use Rattle.tt_scan_ink.specs.Least.{IsInk}
+use Rattle.tt_bitmap.specs.declared.ink.LeastBox.{LeastBox}
+use Rattle.tt_bitmap.specs.Inks.{IsInk}
 use Rattle.tt_scan_ink.proofs.Together.{ink_alike, joined_is}
 use Rattle.tt_strike.specs.Grown.{lacking, with_sides}
 use Rattle.tt_strike.specs.InkLaws.{AreGlyphs, AreNeeded, IsInPicture, IsLeast}
@@ -42,7 +43,7 @@ abbrev lines_black : (ℕ → Fitter) → ℕ → List Placement → ℤ → ℤ
 lines_black maker margin [] c r = false
 lines_black maker margin (l ∷ ls) c r = line_black_in maker margin l c r || lines_black maker margin ls c r
 
-abbrev ink_by : (ℕ → Fitter) → ℕ → Option GlyphInk
+abbrev ink_by : (ℕ → Fitter) → ℕ → Option LeastBox
 ink_by maker g = glyph_ink (maker g) g
 
 one_line_held : BoxLaws → (maker : ℕ → Fitter) (margin : ℕ) (l : Placement)

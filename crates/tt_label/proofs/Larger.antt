@@ -1,18 +1,17 @@
 -- The lines of a label, each enlarged by the same ink, are laid out as those before.
-use Rattle.std.proofs.Common.{◌≡◌, ◌∙◌, refl, sym, ap, ℕ, ◌+◌, ◌<◌, ◌≤◌, List, [], ◌∷◌, length, map, get_or, Option, None, Some, Result, Ok, Err, arith}
+use Rattle.std.proofs.Common.{◌≡◌, ◌∙◌, refl, sym, ap, ℕ, ◌+◌, ◌<◌, ◌≤◌, List, [], ◌∷◌, length, map, get_or, Option, None, Some, Result, Ok, arith}
 use Rattle.std.proofs.lemmas.List.{get_or-map, get_or_default, length-map}
 use Rattle.std.proofs.lemmas.List.Elements.{All-cons, All-head, All-nil, All-tail, All-weaker}
 use Rattle.std.specs.List.{flat_map}
 use Rattle.std.specs.Prelude.{All}
 use Rattle.tt_core.specs.Chains.{came-through}
 use Rattle.tt_core.specs.declared.fault.JobFault.{JobFault}
-use Rattle.tt_core.specs.Limits.{text_limit}
 use Rattle.tt_core.specs.Outcomes.{◌>>=◌, each}
 use Rattle.tt_face.specs.Faces.{Face}
 use Rattle.tt_label.specs.Label.{grown_lines, joint}
 use Rattle.tt_label.specs.Made.{AreAlike, AreLaid}
 use Rattle.tt_label.specs.Views.{placements_of}
-use Rattle.tt_label.proofs.Drawn.{as_large, joint_glyphs, left_of, lines_moved, rightwards}
+use Rattle.tt_label.proofs.Drawn.{as_large, joint_glyphs, left_of, lines_moved}
 use Rattle.tt_label.proofs.Joined.{all_flat, flat_all, glyphs_joined, joint_is}
 use Rattle.tt_line.specs.Layout.{Placement}
 use Rattle.tt_line.specs.Outcome.{placement_of}

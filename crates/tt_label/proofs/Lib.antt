@@ -1,4 +1,3 @@
-pub mod AmongDistinct
 pub mod ByAdvances
 pub mod ByStep
 pub mod Drawn
@@ -13,6 +12,5 @@ pub mod Lines
 pub mod NeverEmpty
 pub mod OneLine
 pub mod OneLineDrawn
-pub mod Overlaid
-pub mod Overlays
 pub mod Placed
+pub mod Shown

@@ -6,12 +6,13 @@ use Rattle.tt_core.specs.Faults.{Fault}
 use Rattle.tt_core.specs.Outcomes.{◌>>=◌, each}
 use Rattle.tt_face.specs.Faces.{Face}
 use Rattle.tt_fit.specs.Fitting.{Fitter}
-use Rattle.tt_label.specs.Label.{grown_lines, is_shown, joint, label_drawn, label_grown, label_ink, label_outcome, label_placed, label_report, line_box, line_shows, some_line_shows}
+use Rattle.tt_label.specs.Label.{grown_lines, joint, label_drawn, label_grown, label_ink, label_outcome, label_placed, label_report, line_box, line_shows, some_line_shows}
 use Rattle.tt_label.specs.LineLaws.{LinesMakeLabels, OneLineHasPixels, OneLineIsGrown, OneLineReports, line_with_a_pixel, outcome_with_a_pixel}
 use Rattle.tt_label.proofs.Grown.{measured_box}
 use Rattle.tt_label.proofs.OneLine.{job_one, label_is_line, line_or_empty}
 use Rattle.tt_line.specs.Layout.{Placement}
 use Rattle.tt_picture.specs.declared.ink_box.InkBox.{InkBox}
+use Rattle.tt_picture.specs.Lines.{is_shown}
 use Rattle.tt_picture.specs.Pictures.{Image, image, picture}
 use Rattle.tt_picture.specs.Pixels.{Shape, is_black_pixel}
 use Rattle.tt_picture.specs.Shapes.{glyph_shape}

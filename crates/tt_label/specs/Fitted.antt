@@ -1,5 +1,5 @@
 -- No part of the standard: the glyphs of a label's lines, which are fitted before the lines are laid out.
-use Rattle.std.specs.Prelude.{◌≡◌, ℕ, ℤ, false, List, length, map, Ok}
+use Rattle.std.specs.Prelude.{◌≡◌, ℕ, ℤ, List, map, Ok}
 use Rattle.std.specs.List.{flat_map}
 use Rattle.tt_fit.specs.Fitting.{Fitter}
 use Rattle.tt_fit_outline.specs.Outline.{Outline}
@@ -23,8 +23,7 @@ with_steps m step lines = map (λ line. stepped m step (map (λ g. g.0) line)) l
 -- the distinct glyphs of some lines are fitted: these, with this table of their places. Each glyph has its step beside it
 pub record AreFittedLines (m : Metrics) (ppem : ℕ) (s : Fitter) (lines beside : List (List (ℕ × ℕ))) (table : List ℕ) (fs : List FittedGlyph) : Type 0 where
   pub steps : beside ≡ with_steps m (step_by m ppem (advance_with s (glyphs_in lines))) lines
-  pub room : length table ≡ s.tables.glyphs
   pub places : ArePlaces table (fitted_numbers fs)
   pub numbers : fitted_numbers fs ≡ distinct (glyphs_in lines)
-  pub fitted : AreFitted false (line_fitter s (glyphs_in lines)) fs
+  pub fitted : AreFitted (line_fitter s (glyphs_in lines)) fs
   pub made : (os : List Outline) × (outlines_in s (glyphs_in lines) ≡ Ok os)

@@ -1,12 +1,10 @@
 -- No part of the standard: the picture of a label, which is a text of several lines (profile). The lines lie in one
 -- picture, and their glyphs are made one after the other, as those of one line. The picture is enlarged so that the ink
 -- of no line is cut.
-use Rattle.std.specs.Prelude.{◌*◌, ◌≡◌, ℕ, ℤ, Bool, false, ◌||◌, if◌then◌else◌, pos, List, [], ◌∷◌, length, map, Option, None, Result, Ok, Err}
+use Rattle.std.specs.Prelude.{ℕ, ℤ, Bool, false, ◌||◌, if◌then◌else◌, pos, List, [], ◌∷◌, map, Option, None, Result, Ok}
 use Rattle.std.specs.List.{flat_map}
 use Rattle.tt_cmap.specs.Maps.{CharacterMap}
-use Rattle.tt_core.specs.Bits.{stride}
 use Rattle.tt_core.specs.declared.fault.JobFault.{JobFault}
-use Rattle.tt_core.specs.Faults.{Fault}
 use Rattle.tt_core.specs.Outcomes.{◌>>=◌, each}
 use Rattle.tt_face.specs.Faces.{Face}
 use Rattle.tt_fit.specs.Fitting.{Fitter}
@@ -19,12 +17,11 @@ use Rattle.tt_picture.specs.declared.ink_box.InkBox.{InkBox}
 use Rattle.tt_picture.specs.declared.report.Unfitted.{Unfitted}
 use Rattle.tt_picture.specs.Ink.{all_joined, ink_at}
 use Rattle.tt_picture.specs.Pictures.{Image, image}
-use Rattle.tt_picture.specs.Pixels.{Shape, is_black_pixel}
+use Rattle.tt_picture.specs.Lines.{is_shown}
 use Rattle.tt_picture.specs.Shapes.{glyph_shape}
 use Rattle.tt_picture.specs.Steps.{step_by}
 use Rattle.tt_scan_edges.specs.declared.edge.Frame.{Frame}
-use Rattle.tt_scan_edges.specs.Winding.{FrameFits}
-use Rattle.tt_scan_ink.specs.declared.ink.GlyphInk.{GlyphInk}
+use Rattle.tt_bitmap.specs.declared.ink.LeastBox.{LeastBox}
 use Rattle.tt_strike.specs.Costs.{line_cost}
 use Rattle.tt_strike.specs.Grown.{grown}
 use Rattle.tt_strike.specs.Job.{Job, tested}
@@ -33,17 +30,6 @@ use Rattle.tt_strike.specs.Picture.{advance_with, frame_of, line_shapes, outline
 use Rattle.tt_strike.specs.Refusals.{Refused, as_font, as_job}
 use Rattle.tt_strike.specs.Report.{line_report}
 use Rattle.tt_strike.specs.Work.{lays_after_glyphs, line_fitter}
-
--- what a label's picture shows, the unfitted glyphs of all lines, and what the label takes of the budget of many lines
-pub record LabelPicture : Type 0 where
-  pub image : Image
-  pub unfitted : List Unfitted
-  pub cost : ℕ
-
--- a picture of a size within the limits, with all bytes of its rows
-pub record IsWhole (p : LabelPicture) : Type 0 where
-  pub frame : FrameFits p.image.frame
-  pub rows : length p.image.rows ≡ stride p.image.frame.width * p.image.frame.height
 
 -- the glyphs of a text's units, line by line
 abbrev pub label_glyphs : CharacterMap → List ℕ → List ℕ
@@ -81,12 +67,16 @@ unfoldable pub label_placed : Face → Job → Align → Result (List Placement)
 label_placed face a how = as_job (tested a) >>= λ u.
     if lays_after_glyphs a.fit then label_by_steps face a how else label_by_advances face a how
 
--- the least box of a line's ink, by the ink of each glyph at pen 0
-abbrev pub line_box : (ℕ → Option GlyphInk) → ℕ → Placement → Option InkBox
-line_box inked margin line = all_joined None (map (λ g. ink_at (frame_of line margin) g.1 (inked g.0)) line.glyphs)
+-- the least box of the ink of some glyphs at their pens in a picture, by the ink of each at pen 0
+abbrev pub box_in : (ℕ → Option LeastBox) → Frame → List (ℕ × ℕ) → Option InkBox
+box_in inked f gs = all_joined None (map (λ g. ink_at f g.1 (inked g.0)) gs)
+
+-- the same of a line's glyphs
+abbrev pub line_box : (ℕ → Option LeastBox) → ℕ → Placement → Option InkBox
+line_box inked margin line = box_in inked (frame_of line margin) line.glyphs
 
 -- the least box of the ink of all lines
-abbrev pub label_ink : (ℕ → Option GlyphInk) → ℕ → List Placement → Option InkBox
+abbrev pub label_ink : (ℕ → Option LeastBox) → ℕ → List Placement → Option InkBox
 label_ink inked margin lines = all_joined None (map (line_box inked margin) lines)
 
 -- lines in whose picture this ink is not cut. All have one width and one height, so the same columns and rows are added
@@ -101,12 +91,7 @@ label_grown face a lines =
     line_shapes s a (joint lines) >>= λ glyphs.
     as_job (grown_lines lines (label_ink (line_ink s (joint lines)) a.margin lines))
 
--- some glyphs have column c of row r, if they are made
-abbrev pub is_shown : Frame → Result (List Shape) Fault → ℕ → ℕ → Bool
-is_shown f (Ok glyphs) c r = is_black_pixel f glyphs c r
-is_shown f (Err fault) c r = false
-
--- the picture of a line has it, by the fitter of each glyph
+-- the picture of a line has column c of row r, by the fitter of each glyph
 abbrev pub line_shows : (ℕ → Fitter) → ℕ → Placement → ℕ → ℕ → Bool
 line_shows maker margin line c r = is_shown (frame_of line margin) (each (glyph_shape maker) line.glyphs) c r
 

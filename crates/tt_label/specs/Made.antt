@@ -1,12 +1,12 @@
 -- No part of the standard: the lines of a label and their glyphs, made and tested before they are drawn.
-use Rattle.std.specs.Prelude.{◌≡◌, ◌<◌, ◌≤◌, ℕ, false, All, List, length, Result, Ok}
+use Rattle.std.specs.Prelude.{◌≡◌, ◌<◌, ◌≤◌, ℕ, All, List, length, Result, Ok}
 use Rattle.tt_core.specs.Limits.{margin_limit, text_limit}
 use Rattle.tt_core.specs.Outcomes.{◌>>=◌}
 use Rattle.tt_face.specs.Faces.{Face}
 use Rattle.tt_line.specs.declared.align.Align.{Align}
 use Rattle.tt_line.specs.Layout.{Placement}
 use Rattle.tt_metrics.specs.Metrics.{glyphs_of}
-use Rattle.tt_picture.specs.Glyphs.{AreSeated, Glyph}
+use Rattle.tt_picture.specs.Glyphs.{Glyph}
 use Rattle.tt_picture.specs.Pixels.{Shape}
 use Rattle.tt_strike.specs.declared.laid.Laid.{Laid}
 use Rattle.tt_strike.specs.Costs.{line_cost}
@@ -35,10 +35,8 @@ pub record AreLaid (face : Face) (margin : ℕ) (lines : List Laid) : Type 0 whe
   pub known : All (λ g. g.0 < glyphs_of face.metrics) (joint (placements_of lines)).glyphs
 
 -- the lines of a text are laid out, and their glyphs are made as those of one line, at this cost
-pub record IsMadeLabel (face : Face) (a : Job) (how : Align) (lines : List Laid) (table : List ℕ) (gs : List Glyph)
-    (n : ℕ) : Type 0 where
+pub record IsMadeLabel (face : Face) (a : Job) (how : Align) (lines : List Laid) (gs : List Glyph) (n : ℕ) : Type 0 where
   pub placed : label_placed face a how ≡ Ok (placements_of lines)
   pub laid : AreLaid face a.margin lines
-  pub made : AreMade false face a (joint (placements_of lines)) gs
-  pub seated : AreSeated (glyphs_of face.metrics) table gs
+  pub made : AreMade face a (joint (placements_of lines)) gs
   pub cost : line_cost face a (joint (placements_of lines)) ≡ Ok n

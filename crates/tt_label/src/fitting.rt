@@ -7,6 +7,7 @@ ghost use Rattle.tt_core.specs.Outcomes.{IfTold};
 ghost use Rattle.tt_label.specs.Fitted.{AreFittedLines, glyphs_in, with_steps};
 ghost use Rattle.tt_line.specs.Steps.{stepped};
 ghost use Rattle.tt_metrics.specs.Metrics.{glyphs_of};
+ghost use Rattle.tt_picture.specs.Cached.{IsCacheFor};
 ghost use Rattle.tt_picture.specs.Distinct.{distinct, fitter_after, is_among};
 ghost use Rattle.tt_picture.specs.Fitted.{AreAdvances, fitted_numbers};
 ghost use Rattle.tt_picture.specs.Glyphs.{ArePlaces};
@@ -75,28 +76,30 @@ fn step_lines(
     Ok(made)
 }
 
-/// The glyphs of some lines, fitted, where work is bounded. Errors, the first of: WorkLarge of their points; those of the
-/// glyphs in the order of the lines. Memory may come at any allocation.
+/// The glyphs of some lines, fitted, where work is bounded: from the cache where their costs are left, else made. Errors,
+/// the first of: WorkLarge of their points; those of the glyphs in the order of the lines. Memory may come at any
+/// allocation.
 pub(crate) fn fit_label(
     source: &FitterSource,
     fitter: &mut Fitter,
     steps: Vec<Vec<(u16, u32)>>,
+    cache: &Cache,
 ) -> Result<FittedLabel, DrawFault>
     requires known { All (λ l. All (λ g. g.0 < glyphs_of source.now.face.now.metrics) l.items) steps.items }
     requires few { length (flat_map (λ l. l.items) steps.items) ≤ text_limit }
     requires glyphs { fitter.old.tables.glyphs ≡ glyphs_of source.now.face.now.metrics }
     requires bounded { is_bounded source.now.fit ≡ true }
+    requires cache { IsCacheFor fitter.old cache.now }
     ensures fitted { IfOk result (λ t. AreFittedLines source.now.face.now.metrics source.now.ppem fitter.old (map (λ l. l.items) steps.items) (map (λ l. l.items) t.steps.items) t.places.items t.fitted.items) }
     ensures points { IfOk result (λ t. work_tested source.now.fit point_work_limit (points_in fitter.old (glyphs_in (map (λ l. l.items) steps.items))) ≡ Ok tt) }
     ensures after { IfOk result (λ t. fitter.new ≡ fitter_after (started fitter.old (glyphs_in (map (λ l. l.items) steps.items))) (distinct (glyphs_in (map (λ l. l.items) steps.items)))) }
     ensures stops { IfTold refusal result (λ r. outlines_tested fitter.old source.now.fit (glyphs_in (map (λ l. l.items) steps.items)) ≡ Err r) }
 {
-    let none = Cache::absent();
     let all = joined_steps(source.alloc, &steps)?;
     let met = distinct(source.alloc, source.face.metrics().glyphs(), &all)?;
     let DistinctGlyphs { places, numbers } = met;
-    charge_points(source.fit, fitter, &numbers, &none)?;
-    let fitted = fit_glyphs(source.alloc, fitter, &numbers, &none)?;
+    charge_points(source.fit, fitter, &numbers, cache)?;
+    let fitted = fit_glyphs(source.alloc, fitter, &numbers, cache)?;
     let steps = step_lines(source, &places, &fitted, steps)?;
     Ok(FittedLabel {
         steps,

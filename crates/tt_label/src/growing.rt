@@ -1,41 +1,46 @@
 //! Enlarges the picture of a label so that the ink of no line is cut.
 
-ghost use Rattle.std.specs.Prelude.{◌≡◌, ℕ, ℤ, ◌<◌, true, length, map, All, IfOk, Option};
+ghost use Rattle.std.specs.Prelude.{◌≡◌, ℕ, map, All, IfOk, Option};
+ghost use Rattle.tt_bitmap.specs.declared.ink.LeastBox.{LeastBox};
 ghost use Rattle.tt_core.specs.Outcomes.{Gives, JobGives};
-ghost use Rattle.tt_label.specs.Label.{grown_lines, label_ink};
+ghost use Rattle.tt_label.specs.Label.{box_in, grown_lines, label_ink};
 ghost use Rattle.tt_label.specs.Views.{placements_of};
 ghost use Rattle.tt_line.specs.Outcome.{placement_of};
-ghost use Rattle.tt_metrics.specs.Metrics.{glyphs_of};
-ghost use Rattle.tt_picture.specs.Distinct.{is_among};
 ghost use Rattle.tt_picture.specs.Glyphs.{numbers_of};
-ghost use Rattle.tt_scan_ink.specs.declared.ink.GlyphInk.{GlyphInk};
+ghost use Rattle.tt_picture.specs.Lines.{HasGlyphsOf};
 ghost use Rattle.tt_strike.specs.Grown.{grown};
-ghost use Rattle.tt_strike.specs.Measures.{made_step};
 
 use std::alloc::{AllocError, Global};
 use tt_core::{DrawFault, JobFault};
-use tt_picture::{InkBox, joined};
-use tt_strike::{InkedGlyphs, Laid, SizedFace, grown};
+use tt_picture::{InkBox, PlacedLine, ink_at, joined};
+use tt_strike::{InkedGlyphs, Laid, grown};
 
-/// The least box of the ink of some lines, whose glyphs are these. Error: Memory.
-pub(crate) fn label_ink(
-    sized: &SizedFace,
-    lines: &[Laid],
-    inked: &InkedGlyphs,
-) -> Result<Option<InkBox>, AllocError>
-    requires known { All (λ l. All (λ g. g.0 < glyphs_of sized.now.face.metrics) l.line.glyphs.items) lines.now }
-    requires room { length inked.now.glyphs.places.items ≡ glyphs_of sized.now.face.metrics }
-    requires among { All (λ l. All (λ g. is_among g.0 (numbers_of inked.now.glyphs.made.items) ≡ true) l.line.glyphs.items) lines.now }
-    ensures { IfOk result (λ b. (step : ℕ → ℤ → ℕ) (ink : ℕ → Option GlyphInk) (margin : ℕ) → All (λ g. (k : ℤ) → made_step sized.now.face.metrics sized.now.ppem sized.now.fit g k ≡ step g.number k) inked.now.glyphs.made.items
-        → inked.now.inks.items ≡ map ink (numbers_of inked.now.glyphs.made.items) → All (λ l. l.margin ≡ margin) lines.now
-        → b ≡ label_ink ink margin (placements_of lines.now)) }
+/// The least box of the ink of a line, whose glyphs are among these.
+fn line_ink(line: PlacedLine, inked: &InkedGlyphs) -> Option<InkBox>
+    requires { HasGlyphsOf (numbers_of inked.now.glyphs.made.items) line.glyphs.now }
+    ensures { (ink : ℕ → Option LeastBox) → inked.now.inks.items ≡ map ink (numbers_of inked.now.glyphs.made.items)
+        → result ≡ box_in ink line.entry.frame line.entry.glyphs.now }
 {
     let mut all = None;
-    for line in lines {
-        let measure = sized.measure_by(line, inked)?;
-        all = joined(all, measure.ink);
+    for placed in line.glyphs {
+        let (number, pen) = *placed;
+        let at = inked.glyphs.place_of(number);
+        all = joined(all, ink_at(line.frame, pen, inked.inks[at]));
     }
-    Ok(all)
+    all
+}
+
+/// The least box of the ink of some lines, whose glyphs are among these.
+pub(crate) fn label_ink(lines: &[Laid], inked: &InkedGlyphs) -> Option<InkBox>
+    requires { All (λ l. HasGlyphsOf (numbers_of inked.now.glyphs.made.items) l.line.glyphs.items) lines.now }
+    ensures { (ink : ℕ → Option LeastBox) (margin : ℕ) → inked.now.inks.items ≡ map ink (numbers_of inked.now.glyphs.made.items)
+        → All (λ l. l.margin ≡ margin) lines.now → result ≡ label_ink ink margin (placements_of lines.now) }
+{
+    let mut all = None;
+    for laid in lines {
+        all = joined(all, line_ink(laid.placed(), inked));
+    }
+    all
 }
 
 /// A line in whose picture this ink is not cut. Error: PictureLarge.

@@ -5,10 +5,8 @@
 //! fitting.rt  the glyphs of a label, fitted, and their steps
 //! made.rt     the lines of a label, laid out, and their glyphs
 //! growing.rt  the columns and rows that the ink of all lines needs
-//! sharing.rt  the glyphs of one line among those of all lines
-//! overlay.rt  a line painted over pixels that are there
-//! labelling.rt  the lines, painted over each other
-//! picture.rt  the picture
+//! placing.rt  the lines, each with its base line in the picture
+//! labelling.rt  the picture
 //! laws.rt     laws of the definitions
 //! ```
 #![tactic(auto)]
@@ -19,12 +17,9 @@ mod joining;
 mod labelling;
 pub mod laws;
 mod made;
-mod overlay;
-mod picture;
-mod sharing;
+mod placing;
 
 pub use labelling::label;
-pub use picture::LabelPicture;
 pub use tt_core::DrawFault;
 pub use tt_line::{Align, unmarked};
-pub use tt_strike::{Face, SizedFace, Unfitted};
+pub use tt_strike::{Face, Picture, Strike, Unfitted};

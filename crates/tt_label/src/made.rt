@@ -7,10 +7,11 @@ ghost use Rattle.tt_label.specs.Label.{label_glyphs, label_placed};
 ghost use Rattle.tt_label.specs.Made.{AreLaid, IsMadeLabel, label_shapes};
 ghost use Rattle.tt_label.specs.Views.{placements_of};
 ghost use Rattle.tt_line.specs.Outcome.{placement_of};
+ghost use Rattle.tt_picture.specs.Cached.{limit_of};
 ghost use Rattle.tt_strike.specs.Defects.{IsLineDefect, TellsDefects};
 ghost use Rattle.tt_strike.specs.Job.{tested};
 ghost use Rattle.tt_strike.specs.Refusals.{refusal};
-ghost use Rattle.tt_strike.specs.Strikes.{job_by};
+ghost use Rattle.tt_strike.specs.Strikes.{IsCacheOf, job_by};
 ghost use Rattle.tt_strike.specs.Work.{is_bounded};
 
 use crate::fitting::{FittedLabel, fit_label};
@@ -49,21 +50,25 @@ fn make_by_steps(
     text: &str,
     margin: u32,
     align: Align,
+    cache: &mut Cache,
 ) -> Result<MadeLabel, DrawFault>
+    requires cache { IsCacheOf sized.old cache.old }
     requires bounded { is_bounded sized.old.fit ≡ true }
     requires tested { tested (job_by sized.old text.now margin) ≡ Ok tt }
     requires margin { margin ≤ margin_limit }
     requires text { length (chars text.now) ≤ text_limit }
-    ensures made { IfOk result (λ m. IsMadeLabel sized.old.face (job_by sized.old text.now margin) align m.lines.items m.glyphs.places.items m.glyphs.made.items m.glyphs.cost) }
+    ensures made { IfOk result (λ m. IsMadeLabel sized.old.face (job_by sized.old text.now margin) align m.lines.items m.glyphs.made.items m.glyphs.cost) }
     ensures stops { IfTold refusal result (λ r. label_shapes sized.old.face (job_by sized.old text.now margin) align ≡ Err r) }
     ensures defects { TellsDefects draw_font_fault (IsLineDefect sized.old.face (job_by sized.old text.now margin) (label_glyphs sized.old.face.cmap text.now)) result }
+    ensures cache { IsCacheOf sized.old cache.new }
+    ensures limit { limit_of cache.new ≡ limit_of cache.old }
     ensures same { sized.new ≡ sized.old }
 {
     let source = sized.source;
     let steps = label_steps(source.alloc, &mut sized.known, text)?;
     let mut fitter = sized.maker.take(&source)?;
     let begun = fitter.work();
-    let label = fit_label(&source, &mut fitter, steps)?;
+    let label = fit_label(&source, &mut fitter, steps, cache)?;
     let left = fitter.work();
     sized.maker.give_back(fitter, begun);
     let FittedLabel {
@@ -75,7 +80,6 @@ fn make_by_steps(
     let laid = lay_lines(source.alloc, metrics, steps, source.ppem, margin, align)?;
     let lines = with_margin(source.alloc, laid, margin)?;
     let joint = joint_line(source.alloc, &lines, margin)?;
-    let mut none = Cache::absent();
     let glyphs = tested_edges(
         source.alloc,
         source.fit,
@@ -83,7 +87,7 @@ fn make_by_steps(
         fitted,
         &joint,
         left,
-        &mut none,
+        cache,
     )?;
     Ok(MadeLabel { lines, glyphs })
 }
@@ -118,20 +122,23 @@ fn make_by_advances(
     text: &str,
     margin: u32,
     align: Align,
+    cache: &mut Cache,
 ) -> Result<MadeLabel, DrawFault>
+    requires cache { IsCacheOf sized.old cache.old }
     requires unbounded { is_bounded sized.old.fit ≡ false }
     requires tested { tested (job_by sized.old text.now margin) ≡ Ok tt }
     requires margin { margin ≤ margin_limit }
     requires text { length (chars text.now) ≤ text_limit }
-    ensures made { IfOk result (λ m. IsMadeLabel sized.old.face (job_by sized.old text.now margin) align m.lines.items m.glyphs.places.items m.glyphs.made.items m.glyphs.cost) }
+    ensures made { IfOk result (λ m. IsMadeLabel sized.old.face (job_by sized.old text.now margin) align m.lines.items m.glyphs.made.items m.glyphs.cost) }
     ensures stops { IfTold refusal result (λ r. label_shapes sized.old.face (job_by sized.old text.now margin) align ≡ Err r) }
     ensures defects { TellsDefects draw_font_fault (IsLineDefect sized.old.face (job_by sized.old text.now margin) (label_glyphs sized.old.face.cmap text.now)) result }
+    ensures cache { IsCacheOf sized.old cache.new }
+    ensures limit { limit_of cache.new ≡ limit_of cache.old }
     ensures same { sized.new ≡ sized.old }
 {
     let lines = lay_label(sized, text, margin, align)?;
     let joint = joint_line(sized.alloc(), &lines, margin)?;
-    let mut none = Cache::absent();
-    let glyphs = sized.tested_glyphs(&joint, &mut none)?;
+    let glyphs = sized.tested_glyphs(&joint, cache)?;
     Ok(MadeLabel { lines, glyphs })
 }
 
@@ -141,17 +148,21 @@ pub(crate) fn make_label(
     text: &str,
     margin: u32,
     align: Align,
+    cache: &mut Cache,
 ) -> Result<MadeLabel, DrawFault>
-    ensures made { IfOk result (λ m. IsMadeLabel sized.old.face (job_by sized.old text.now margin) align m.lines.items m.glyphs.places.items m.glyphs.made.items m.glyphs.cost) }
+    requires cache { IsCacheOf sized.old cache.old }
+    ensures made { IfOk result (λ m. IsMadeLabel sized.old.face (job_by sized.old text.now margin) align m.lines.items m.glyphs.made.items m.glyphs.cost) }
     ensures stops { IfTold refusal result (λ r. label_shapes sized.old.face (job_by sized.old text.now margin) align ≡ Err r) }
     ensures defects { TellsDefects draw_font_fault (IsLineDefect sized.old.face (job_by sized.old text.now margin) (label_glyphs sized.old.face.cmap text.now)) result }
+    ensures cache { IsCacheOf sized.old cache.new }
+    ensures limit { limit_of cache.new ≡ limit_of cache.old }
     ensures same { sized.new ≡ sized.old }
 {
     let by_steps = is_bounded(sized.source.fit);
     test_margin(margin)?;
     test_text(text)?;
     if by_steps {
-        return make_by_steps(sized, text, margin, align);
+        return make_by_steps(sized, text, margin, align, cache);
     }
-    make_by_advances(sized, text, margin, align)
+    make_by_advances(sized, text, margin, align, cache)
 }

@@ -1,15 +1,11 @@
 -- Pictures with the same pixels have the same rows.
-use Rattle.std.proofs.Common.{◌≡◌, ℕ, zero, suc, ◌+◌, ◌*◌, ◌/◌, ◌%◌, ◌<◌, ◌≤◌, ◌^◌, Bool, true, false, ◌&&◌, ◌||◌, nat_lt, List, map, refl, ap, ap₂, ◌∙◌, arith}
+use Rattle.std.proofs.Common.{◌≡◌, ℕ, zero, suc, ◌+◌, ◌*◌, ◌/◌, ◌%◌, ◌<◌, ◌≤◌, Bool, true, false, ◌&&◌, nat_lt, List, map, refl, ap, arith}
 use Rattle.std.proofs.lemmas.Bool.Decides.{nat_tests}
 use Rattle.std.proofs.Math.Nat.{div-lt_iff_lt-mul, mul_comm}
 use Rattle.std.specs.List.{range_with_len}
 use Rattle.tt_core.specs.Bits.{stride}
 use Rattle.tt_scan_edges.specs.declared.edge.Frame.{Frame}
-use Rattle.tt_scan_dropouts.specs.Pictures.{is_among}
-use Rattle.tt_scan_dropouts.specs.declared.picture.Dropout.{Dropout}
-use Rattle.tt_picture.specs.Glyphs.{Glyph, Stand, shows_by, stamps_in}
-use Rattle.tt_picture.specs.Pictures.{Image, image, picture}
-use Rattle.tt_picture.specs.Pixels.{Shape, is_black_pixel, is_filled_by}
+use Rattle.tt_picture.specs.Pictures.{Image, image}
 use Rattle.tt_picture.specs.Rows.{columns, shows, byte_at, rows}
 
 -- alike in columns and rows below these
@@ -54,11 +50,3 @@ with_rows f bytes = record { frame = f; rows = bytes }
 -- images with the same pixels are the same
 pub image_alike : (f : Frame) (a b : ℕ → ℕ → Bool) → AreAlike f.width f.height a b → image f a ≡ image f b
 image_alike f a b same = ap (with_rows f) (rows_alike f.width f.height a b same)
-
--- glyphs and dropouts that blacken the same pixels as some shapes have the same image
-pub same_picture : (f : Frame) (gs : List Glyph) (ds : List Dropout) (shapes : List Shape)
-    → f.width < 2 ^ 62 → Stand f gs shapes
-    → AreAlike f.width f.height (is_among ds) (is_filled_by f (stamps_in gs))
-    → image f (shows_by f (stamps_in gs) ds) ≡ picture f shapes
-same_picture f gs ds shapes wide stand drops = image_alike f (shows_by f (stamps_in gs) ds) (is_black_pixel f shapes)
-    (λ c r column row. ap₂ (λ a b. a || b) (stand.black c r (omega (arith, column, wide))) (drops c r column row ∙ stand.dropouts c r))

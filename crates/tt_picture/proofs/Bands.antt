@@ -1,76 +1,112 @@
 -- Rows of a picture's bytes that are made together.
-use Rattle.std.proofs.Common.{◌≡◌, ◌∙◌, ap, sym, refl, ℕ, ◌+◌, ◌-◌, ◌*◌, ◌/◌, ◌%◌, ◌<◌, ◌≤◌, Bool, true, false, ◌&&◌, ◌||◌, ◌==◌, nat_lt, List, [], ◌∷◌, length, take, drop, min, get_or, slice_index, pos, ◌-ℤ◌, arith, inl, inr}
+use Rattle.std.proofs.Common.{◌≡◌, ◌∙◌, ap, sym, refl, ℕ, ◌+◌, ◌-◌, ◌*◌, ◌/◌, ◌%◌, ◌<◌, ◌≤◌, Bool, true, false, ◌&&◌, ◌||◌, ◌==◌, nat_lt, List, [], ◌∷◌, length, take, drop, replicate, min, slice_index, ℤ, pos, ◌-ℤ◌, arith, inl, inr}
 use Rattle.std.specs.Int.{bit_at}
 use Rattle.std.proofs.Math.Nat.{min-le_right}
 use Rattle.std.proofs.lemmas.Bool.{cases_lt}
 use Rattle.std.proofs.lemmas.Bool.Decides.{nat_tests}
 use Rattle.std.proofs.lemmas.Grind.{same_number_lists}
 use Rattle.std.proofs.lemmas.Int.{ints}
+use Rattle.std.proofs.lemmas.List.{get_or-drop, get_or-take, length-replicate}
 use Rattle.std.proofs.lemmas.List.FromFn.{get_or-map-range_with_len}
 use Rattle.std.proofs.lemmas.Nat.{div-add-mod', div-mul-add, div_below, le-div, mod-mul-add, mod_below, mul-le}
+use Rattle.tt_bitmap.specs.Bands.{IsBandBlackened, column}
+use Rattle.tt_bitmap.proofs.Bands.{not_painted, painted_over, repainted}
+use Rattle.tt_bitmap.specs.Bitmaps.{is_black}
 use Rattle.tt_core.specs.Bits.{stride}
 use Rattle.tt_core.specs.Limits.{width_limit}
-use Rattle.tt_scan_edges.specs.declared.edge.Frame.{Frame}
-use Rattle.tt_scan_dropouts.specs.Pictures.{is_among, line_at}
-use Rattle.tt_scan_dropouts.specs.declared.picture.Dropout.{Dropout}
-use Rattle.tt_scan_rows.specs.Bands.{IsBandBlackened, column}
-use Rattle.tt_scan_rows.specs.Raster.{Raster, shows_from}
-use Rattle.tt_picture.specs.Pixels as pixels
-use Rattle.tt_picture.specs.Pixels.{Stamp, is_black_by, is_black_from}
 use Rattle.tt_picture.specs.Rows.{byte_at, byte_of, rows, shows}
-use Rattle.tt_picture.proofs.Blackened.{one_glyph_more}
-use Rattle.tt_picture.proofs.Pens.{shown_from}
-use Rattle.tt_picture.proofs.RowBytes.{byte_is, length-rows, take-rows}
+use Rattle.tt_picture.specs.Stamps.{AreRowsOf, stamp_shows}
+use Rattle.tt_picture.specs.declared.stamp.PlacedBitmap.{PlacedBitmap}
+use Rattle.tt_picture.proofs.Blackened.{and_false, guarded_or, shown_within, twice_within}
+use Rattle.tt_picture.proofs.RowBytes.{bit-replicate_zero, byte_is, length-rows, take-rows}
 use Rattle.tt_picture.proofs.RowsCut.{rows_after}
+use Rattle.tt_scan_dropouts.specs.Pictures.{is_among}
+use Rattle.tt_scan_dropouts.specs.declared.picture.Dropout.{Dropout}
+use Rattle.tt_scan_edges.specs.declared.edge.Frame.{Frame}
 
--- the black columns of a raster in the rows of a band
-pub lines_shown : (f : Frame) (k : Raster) (pens : List ℕ) (from count : ℕ) (old new : List ℕ)
-    → IsBandBlackened (stride f.width) count (λ i c. nat_lt c f.width && shows_from k pens (pos c) (line_at f from -ℤ pos i)) old new
-    → IsBandBlackened (stride f.width) count (λ i c. nat_lt c f.width && is_black_from f (pixels.raster k) pens c (from + i)) old new
-lines_shown f k pens from count old new painted = record {
-  columns = λ i c below inside.
-      let line : line_at f from -ℤ pos i ≡ line_at f (from + i) = omega (arith, ints) in
-      painted.columns i c below inside
-      ∙ ap (λ b. column (stride f.width) old i c || (nat_lt c f.width && b))
-      (ap (λ j. shows_from k pens (pos c) j) line ∙ shown_from f k pens c (from + i));
-  len = painted.len;
+-- pixels so far, and some more, within a width
+pub painted_more : (bytes rows w : ℕ) (some one both : ℕ → ℕ → Bool) (old mid new : List ℕ)
+    → IsBandBlackened bytes rows (λ i c. nat_lt c w && some c i) old mid
+    → IsBandBlackened bytes rows (λ i c. nat_lt c w && one c i) mid new
+    → ((c i : ℕ) → c < w → i < rows → both c i ≡ (some c i || one c i))
+    → IsBandBlackened bytes rows (λ i c. nat_lt c w && both c i) old new
+painted_more bytes rows w some one both old mid new so_far more same =
+    painted_over bytes rows (λ i c. nat_lt c w && some c i) (λ i c. nat_lt c w && one c i) (λ i c. nat_lt c w && both c i)
+    old mid new so_far more
+    (λ i c below. guarded_or (nat_lt c w) (some c i) (one c i) (both c i)
+    (λ inside. same c i (grind (arith, nat_tests, inside)) below))
+
+-- no pixel
+pub none_painted : (bytes rows w : ℕ) (none : ℕ → ℕ → Bool) (band : List ℕ) → ((c i : ℕ) → none c i ≡ false)
+    → IsBandBlackened bytes rows (λ i c. nat_lt c w && none c i) band band
+none_painted bytes rows w none band white =
+    not_painted bytes rows (λ i c. nat_lt c w && none c i) band (λ i c. and_false (nat_lt c w) (none c i) (white c i))
+
+-- a bitmap at its place
+pub stamp_painted : (w : ℕ) (s : PlacedBitmap) (from count : ℕ) (line : ℤ) (old new : List ℕ) → line ≡ s.top -ℤ pos from
+    → IsBandBlackened (stride w) count (λ j c. nat_lt c w && is_black s.bitmap.value (pos c -ℤ pos s.column) (line -ℤ pos j)) old new
+    → IsBandBlackened (stride w) count (λ j c. nat_lt c w && stamp_shows s c (from + j)) old new
+stamp_painted w s from count line old new at painted =
+    repainted (stride w) count (λ j c. nat_lt c w && is_black s.bitmap.value (pos c -ℤ pos s.column) (line -ℤ pos j))
+    (λ j c. nat_lt c w && stamp_shows s c (from + j)) old new painted
+    (λ j c below.
+    let first : (s.top -ℤ pos from) -ℤ pos j ≡ s.top -ℤ pos (from + j) = omega (arith, ints) in
+    let here : line -ℤ pos j ≡ s.top -ℤ pos (from + j) = rw at first in
+    ap (λ y. nat_lt c w && is_black s.bitmap.value (pos c -ℤ pos s.column) y) here)
+
+-- an empty list of dropouts
+no_dropout : (ds : List Dropout) (c r : ℕ) → true ≡ (length ds == 0) → is_among ds c r ≡ false
+no_dropout [] c r none = refl
+no_dropout (d ∷ ds) c r none = absurd (grind (arith, nat_tests, none))
+
+pub no_dropout_painted : (bytes rows w : ℕ) (ds : List Dropout) (band : List ℕ) → true ≡ (length ds == 0)
+    → IsBandBlackened bytes rows (λ r c. nat_lt c w && is_among ds c r) band band
+no_dropout_painted bytes rows w ds band none =
+    none_painted bytes rows w (is_among ds) band (λ c r. no_dropout ds c r none)
+
+-- the pixels of all rows, painted over white ones
+pub white_rows : (n i c len : ℕ) → column n (replicate len 0) i c ≡ false
+white_rows n i c len = bit-replicate_zero len (8 * (n * i) + c)
+
+pub are_rows : (f : Frame) (len : ℕ) (black : ℕ → ℕ → Bool) (bytes : List ℕ) → len ≡ stride f.width * f.height
+    → IsBandBlackened (stride f.width) f.height (λ r c. nat_lt c f.width && black c r) (replicate len 0) bytes → AreRowsOf f bytes
+are_rows f len black bytes whole painted = record {
+  len = painted.len ∙ length-replicate len 0 ∙ whole;
+  padding = λ r c below inside.
+      twice_within (nat_lt c f.width) (column (stride f.width) (replicate len 0) r c) (black c r) (column (stride f.width) bytes r c)
+      (white_rows (stride f.width) r c len) (painted.columns r c below inside);
 }
 
--- a band with the first i glyphs, and with glyph i
-pub glyph_painted : (f : Frame) (stamps : List Stamp) (i : ℕ) (d : Stamp) (from count : ℕ) (old mid new : List ℕ)
-    → i < length stamps
-    → IsBandBlackened (stride f.width) count (λ j c. nat_lt c f.width && is_black_by f (take i stamps) c (from + j)) old mid
-    → IsBandBlackened (stride f.width) count
-    (λ j c. nat_lt c f.width && is_black_from f (get_or stamps i d).drawn (get_or stamps i d).pens c (from + j)) mid new
-    → IsBandBlackened (stride f.width) count (λ j c. nat_lt c f.width && is_black_by f (take (i + 1) stamps) c (from + j)) old new
-glyph_painted f stamps i d from count old mid new below so_far one = record {
-  columns = λ j c low inside.
-      one.columns j c low inside
-      ∙ rw (so_far.columns j c low inside)
-      (one_glyph_more f stamps i d c (from + j) (column (stride f.width) old j c) (nat_lt c f.width) below);
-  len = one.len ∙ so_far.len;
-}
+pub they_show : (f : Frame) (len : ℕ) (black : ℕ → ℕ → Bool) (bytes : List ℕ) (c r : ℕ) → c < f.width → r < f.height
+    → IsBandBlackened (stride f.width) f.height (λ r c. nat_lt c f.width && black c r) (replicate len 0) bytes
+    → column (stride f.width) bytes r c ≡ black c r
+they_show f len black bytes c r inside below painted =
+    shown_within (nat_lt c f.width) (column (stride f.width) (replicate len 0) r c) (black c r) (column (stride f.width) bytes r c)
+    (grind (arith, nat_tests, inside)) (white_rows (stride f.width) r c len) (painted.columns r c below (omega (arith, inside)))
 
-nothing : (b inside : Bool) → b ≡ (b || (inside && false))
-nothing true inside = refl
-nothing false true = refl
-nothing false false = refl
+-- some of the rows
+column_in : (n : ℕ) (band : List ℕ) (i c : ℕ) → column n band i c ≡ (bit_at (slice_index band (n * i + c / 8)) (7 - c % 8) == 1)
+column_in n band i c =
+    let byte : (8 * (n * i) + c) / 8 ≡ n * i + c / 8 = omega arith in
+    let place : (8 * (n * i) + c) % 8 ≡ c % 8 = omega arith in
+    rw (byte, place) refl
 
-pub no_glyph_painted : (f : Frame) (from count : ℕ) (band : List ℕ)
-    → IsBandBlackened (stride f.width) count (λ j c. nat_lt c f.width && is_black_by f [] c (from + j)) band band
-no_glyph_painted f from count band = record {
-  columns = λ j c below inside. nothing (column (stride f.width) band j c) (nat_lt c f.width);
-  len = refl;
-}
+pub column_cut : (n from count i c a k : ℕ) (bytes : List ℕ) → a ≡ n * from → k ≡ n * count → i < count → c < 8 * n
+    → column n (take k (drop a bytes)) i c ≡ column n bytes (from + i) c
+column_cut n from count i c a k bytes is_a is_k below inside =
+    let ends : n * (i + 1) ≤ n * count = mul-le n (i + 1) n count (omega arith) (omega (arith, below)) in
+    let low : n * i + c / 8 < k = omega (arith, ends, inside, is_k) in
+    let at : a + (n * i + c / 8) ≡ n * (from + i) + c / 8 = omega (arith, is_a) in
+    let same : slice_index (take k (drop a bytes)) (n * i + c / 8) ≡ slice_index bytes (n * (from + i) + c / 8) =
+    get_or-take k (drop a bytes) (n * i + c / 8) 0 low ∙ get_or-drop a bytes (n * i + c / 8) 0 ∙ ap (slice_index bytes) at in
+    column_in n (take k (drop a bytes)) i c ∙ ap (λ b. bit_at b (7 - c % 8) == 1) same ∙ sym (column_in n bytes (from + i) c)
 
--- an empty list of dropouts blackens nothing
-pub no_dropout_painted : (f : Frame) (ds : List Dropout) (from count : ℕ) (band : List ℕ) → true ≡ (length ds == 0)
-    → IsBandBlackened (stride f.width) count (λ j c. nat_lt c f.width && is_among ds c (from + j)) band band
-no_dropout_painted f [] from count band none = record {
-  columns = λ j c below inside. nothing (column (stride f.width) band j c) (nat_lt c f.width);
-  len = refl;
-}
-no_dropout_painted f (d ∷ ds) from count band none = absurd (grind (arith, nat_tests, none))
+-- rows from row `from` on end within all rows
+pub rows_end : (n from count height : ℕ) (bytes : List ℕ) → length bytes ≡ n * height → from + count ≤ height
+    → n * from + n * count ≤ length bytes
+rows_end n from count height bytes whole within =
+    let ends : n * (from + count) ≤ n * height = mul-le n (from + count) n height (omega arith) within in
+    omega (arith, ends, whole)
 
 -- the byte of a column
 column_byte : (bytes : ℕ) (band : List ℕ) (i b k : ℕ) → k < 8

@@ -1,7 +1,5 @@
--- A row with the glyphs so far, and with one glyph more.
-use Rattle.std.proofs.Common.{◌≡◌, ℕ, zero, suc, ◌+◌, ◌<◌, Bool, true, false, ◌&&◌, ◌||◌, List, [], ◌∷◌, length, take, get_or, refl, arith}
-use Rattle.tt_scan_edges.specs.declared.edge.Frame.{Frame}
-use Rattle.tt_picture.specs.Pixels.{Stamp, is_black_from, is_black_by}
+-- Pixels that are black by one or the other.
+use Rattle.std.proofs.Common.{◌≡◌, Bool, true, false, ◌&&◌, ◌||◌, refl, sym}
 
 pub or_false : (b : Bool) → (b || false) ≡ b
 or_false true = refl
@@ -11,31 +9,39 @@ pub or_or : (a b c : Bool) → (a || (b || c)) ≡ ((a || b) || c)
 or_or true b c = refl
 or_or false b c = refl
 
-by_one_more : (f : Frame) (gs : List Stamp) (i : ℕ) (d : Stamp) (c r : ℕ) → i < length gs
-    → is_black_by f (take (i + 1) gs) c r
-    ≡ (is_black_by f (take i gs) c r || is_black_from f (get_or gs i d).drawn (get_or gs i d).pens c r)
-by_one_more f [] i d c r below = absurd (omega arith)
-by_one_more f (g ∷ gs) zero d c r below = or_false (is_black_from f g.drawn g.pens c r)
-by_one_more f (g ∷ gs) (suc i) d c r below =
-    let next : suc i + 1 ≡ suc (i + 1) = omega arith in
-    let more = by_one_more f gs i d c r (omega arith) in
-    rw (next, more) (or_or (is_black_from f g.drawn g.pens c r) (is_black_by f (take i gs) c r)
-    (is_black_from f (get_or gs i d).drawn (get_or gs i d).pens c r))
+pub both_more : (a b c d : Bool) → ((a || b) || (c || d)) ≡ ((a || c) || (b || d))
+both_more true b c d = refl
+both_more false true true d = refl
+both_more false true false d = refl
+both_more false false c d = refl
 
-joined : (old inside some one : Bool) → ((old || (inside && some)) || (inside && one))
-    ≡ (old || (inside && (some || one)))
-joined true inside some one = refl
-joined false true some one = refl
-joined false false some one = refl
+pub absorbed : (a x : Bool) → (x || (a && x)) ≡ x
+absorbed a true = refl
+absorbed true false = refl
+absorbed false false = refl
 
--- a row with the first i glyphs, and with glyph i
-pub one_glyph_more : (f : Frame) (gs : List Stamp) (i : ℕ) (d : Stamp) (c r : ℕ) (old inside : Bool) → i < length gs
-    → ((old || (inside && is_black_by f (take i gs) c r))
-    || (inside && is_black_from f (get_or gs i d).drawn (get_or gs i d).pens c r))
-    ≡ (old || (inside && is_black_by f (take (i + 1) gs) c r))
-one_glyph_more f gs i d c r old inside below = rw (by_one_more f gs i d c r below)
-    (joined old inside (is_black_by f (take i gs) c r)
-    (is_black_from f (get_or gs i d).drawn (get_or gs i d).pens c r))
+-- under a test, two parts of each
+pub parted : (test a b p q : Bool) → ((test && (a || b)) || (p || q)) ≡ (((test && a) || p) || ((test && b) || q))
+parted true a b p q = both_more a b p q
+parted false a b p q = refl
+
+-- within a width, one and more
+pub guarded_or : (inside some one both : Bool) → (inside ≡ true → both ≡ (some || one))
+    → ((inside && some) || (inside && one)) ≡ (inside && both)
+guarded_or true some one both same = sym (same refl)
+guarded_or false some one both same = refl
+
+pub and_false : (inside b : Bool) → b ≡ false → (inside && b) ≡ false
+and_false true b off = off
+and_false false b off = refl
+
+-- a pixel within a width, over a white one
+pub twice_within : (inside old b new : Bool) → old ≡ false → new ≡ (old || (inside && b)) → new ≡ (inside && new)
+twice_within true old b new off is = refl
+twice_within false old b new off is = rw (is, off) refl
+
+pub shown_within : (inside old b new : Bool) → inside ≡ true → old ≡ false → new ≡ (old || (inside && b)) → new ≡ b
+shown_within inside old b new on off is = rw (is, off, on) refl
 
 -- a row with the glyphs, and then with the dropouts
 pub both_shown : (inside some one first then : Bool) → first ≡ (inside && some) → then ≡ (first || (inside && one))

@@ -7,11 +7,11 @@ use Rattle.tt_fit.specs.Counting.{points_asked}
 use Rattle.tt_fit.specs.Fitting.{Fitter, after_glyph}
 use Rattle.tt_fit.specs.GlyphCost.{all_used, without_work}
 use Rattle.tt_fit_outline.specs.Outline.{Outline}
-use Rattle.tt_picture.specs.Cached.{CachedStays, IsCacheFor, IsCached, IsOfOutline, entries_of, is_there, limit_of}
+use Rattle.tt_picture.specs.Cached.{CachedStays, IsCacheFor, IsCached, IsOfOutline, entries_of}
 use Rattle.tt_picture.specs.Distinct.{fitter_after, fitter_for}
 use Rattle.tt_picture.specs.Fitted.{AreFitted, FittedGlyph, IsFitted}
 use Rattle.tt_picture.specs.Shapes.{chords_with, rule_by}
-use Rattle.tt_picture.proofs.Reframed.{of_front, of_middle}
+use Rattle.tt_picture.proofs.Parts.{of_front, of_middle}
 use Rattle.tt_scan_dropouts.specs.declared.boxed.BoxedRules.{BoxedRules}
 use Rattle.tt_strike_kept.proofs.CallerLemmas.{all_found, all_kept}
 use Rattle.tt_strike_kept.specs.Glyph.{KeptGlyph}
@@ -22,9 +22,9 @@ IsAsMade s e = IsCached s e.0 e.1
 
 -- a glyph found in the cache
 pub one_found : (s : Fitter) (n : ℕ) (g : KeptGlyph) (c : Option Kept) → IsCacheFor s c
-    → lookup (nat_eq n) (entries_of c) ≡ Some g → (is_there c ≡ true) × IsCached s n g
+    → lookup (nat_eq n) (entries_of c) ≡ Some g → IsCached s n g
 one_found s n g None own found = absurd cc
-one_found s n g (Some k) own found = (refl, all_found (IsAsMade s) n k.entries g own found)
+one_found s n g (Some k) own found = all_found (IsAsMade s) n k.entries g own found
 
 -- a glyph put into the cache
 pub one_put : (s : Fitter) (old new : Kept) (n : ℕ) (g : KeptGlyph) → (old.most < bytes_of g → new ≡ old)
@@ -41,13 +41,6 @@ pub points_found : (n : ℕ) (k : Kept) (c : Option Kept) (points : Option ℕ) 
 points_found n k c None there found = tt
 points_found n k c (Some p) there found = λ s own.
     let one = all_found (IsAsMade s) n k.entries found.0 (rw there at own) found.1 in found.2 ∙ one.points
-
--- with one limit there is a cache before and after, or there is none
-pub same_there : (a b : Option Kept) → limit_of a ≡ limit_of b → is_there a ≡ is_there b
-same_there None None same = refl
-same_there None (Some l) same = absurd cc
-same_there (Some k) None same = absurd cc
-same_there (Some k) (Some l) same = refl
 
 -- the cache is that of every fitter that differs in its remaining work alone
 
@@ -98,26 +91,26 @@ for_alike s (g ∷ gs) n = for_by (g == n) s (fitter_for (after_glyph s g) gs n)
     (for_alike (after_glyph s g) gs n ∙ glyphs-take-work-alone s g)
 
 -- the cache after a glyph, which another fitter makes
-pub one_cached : (cached : Bool) (s t : Fitter) (g : FittedGlyph) (old new : Option Kept) → without_work t ≡ without_work s
-    → IsFitted cached t g → ((cached : Bool) (s : Fitter) → IsFitted cached s g → IsCacheFor s old → IsCacheFor s new)
+pub one_cached : (s t : Fitter) (g : FittedGlyph) (old new : Option Kept) → without_work t ≡ without_work s
+    → IsFitted t g → ((s : Fitter) → IsFitted s g → IsCacheFor s old → IsCacheFor s new)
     → IsCacheFor s old → IsCacheFor s new
-one_cached cached s t g old new alike is puts own =
-    cached_stays t s new (sym alike) (puts cached t is (cached_stays s t old alike own))
+one_cached s t g old new alike is puts own =
+    cached_stays t s new (sym alike) (puts t is (cached_stays s t old alike own))
 
 -- a cache that serves the fitters of some glyphs serves them still when the glyphs are drawn
 abbrev pub Serves : Option Kept → Option Kept → List FittedGlyph → Type 0
-Serves old new gs = (cached : Bool) (maker : ℕ → Fitter) (s : Fitter) → AreFitted cached maker gs
+Serves old new gs = (maker : ℕ → Fitter) (s : Fitter) → AreFitted maker gs
     → ((n : ℕ) → without_work (maker n) ≡ without_work s) → IsCacheFor s old → IsCacheFor s new
 
-abbrev IsBy : Bool → (ℕ → Fitter) → FittedGlyph → Type 0
-IsBy cached maker g = IsFitted cached (maker g.number) g
+abbrev IsBy : (ℕ → Fitter) → FittedGlyph → Type 0
+IsBy maker g = IsFitted (maker g.number) g
 
 -- one glyph more of some that are left
 pub served : (old middle new : Option Kept) (drawn left rest all : List FittedGlyph) (g : FittedGlyph) → drawn ++ left ≡ all
     → left ≡ g ∷ rest → Serves old middle drawn
-    → ((cached : Bool) (s : Fitter) → IsFitted cached s g → IsCacheFor s middle → IsCacheFor s new) → Serves old new all
-served old middle new drawn left rest all g parts first so_far puts = λ cached maker s fitted alike own.
+    → ((s : Fitter) → IsFitted s g → IsCacheFor s middle → IsCacheFor s new) → Serves old new all
+served old middle new drawn left rest all g parts first so_far puts = λ maker s fitted alike own.
     let here : drawn ++ g ∷ rest ≡ all = rw first at parts in
-    let each : AreFitted cached maker (drawn ++ g ∷ rest) = subst (AreFitted cached maker) (sym here) fitted in
-    one_cached cached s (maker g.number) g middle new (alike g.number) (of_middle (IsBy cached maker) drawn rest g each) puts
-    (so_far cached maker s (of_front (IsBy cached maker) drawn (g ∷ rest) each) alike own)
+    let each : AreFitted maker (drawn ++ g ∷ rest) = subst (AreFitted maker) (sym here) fitted in
+    one_cached s (maker g.number) g middle new (alike g.number) (of_middle (IsBy maker) drawn rest g each) puts
+    (so_far maker s (of_front (IsBy maker) drawn (g ∷ rest) each) alike own)

@@ -1,7 +1,8 @@
--- Glyphs that are made, and cut into pixels for the cache.
-use Rattle.std.proofs.Common.{◌≡◌, ◌∙◌, ◌+◌, ℕ, ℤ, Bool, true, false, List, nat_le, Option, None, Some, Ok, ◌⊎◌, inl, inr, ap, refl, sym}
-use Rattle.std.specs.Prelude.{IfSome, pos}
+-- Glyphs that are made, and their pixels for the cache.
+use Rattle.std.proofs.Common.{◌≡◌, ◌∙◌, ◌+◌, ◌^◌, ◌≤◌, ℕ, Bool, true, false, List, length, nat_le, Option, None, Some, Ok, ◌⊎◌, inl, inr, ap, refl, sym}
+use Rattle.std.specs.Prelude.{All, IfSome, pos}
 use Rattle.tt_core.specs.Faults.{Fault}
+use Rattle.tt_arc.proofs.Closed.{all_closed}
 use Rattle.tt_arc.proofs.PointsBox.{box_holds_edges}
 use Rattle.tt_arc.specs.declared.rule.ChordRule.{ChordRule}
 use Rattle.tt_fit.proofs.WorkApart.{own-work}
@@ -13,67 +14,100 @@ use Rattle.tt_fit.specs.Laws.{UnboundedStays}
 use Rattle.tt_fit.specs.declared.dropouts.DropoutRules.{DropoutRules}
 use Rattle.tt_fit_outline.specs.Outline.{Outline}
 use Rattle.tt_fit_outline.specs.Steps.{advance_left}
-use Rattle.tt_picture.specs.Cached.{IsCached, IsCutOf, IsOfOutline}
-use Rattle.tt_picture.specs.Cut.{HasFacts, IsCutBody}
-use Rattle.tt_picture.specs.Fitted.{kept, IsFittedBody, IsMadeOutline, MadeOutline}
-use Rattle.tt_picture.specs.Glyphs as glyphs
-use Rattle.tt_picture.specs.Glyphs.{GlyphBody, IsBodyOf, IsKeptOf, IsTape, body_crossings, edges_of}
-use Rattle.tt_picture.specs.Pixels.{is_filled}
+use Rattle.tt_picture.specs.Cached.{IsCached, IsOfOutline}
+use Rattle.tt_picture.specs.Cut.{IsKeptOf}
+use Rattle.tt_picture.specs.Fitted.{kept, IsFitted, IsFittedBody, IsMadeOutline, MadeOutline}
+use Rattle.tt_picture.specs.Glyphs.{CanBeCut, Glyph, IsBodyOf, IsDrawn, LargeGlyph, small}
 use Rattle.tt_picture.specs.Shapes.{chords_with, contours_of, edges_at, extents_of, filled_by, filling_crossings, offset_at, rules_for}
 use Rattle.tt_picture.specs.Steps.{chords_of}
-use Rattle.tt_picture.specs.declared.cutting.GlyphFacts.{GlyphFacts}
 use Rattle.tt_picture.specs.declared.outlined.KeptCounts.{KeptCounts}
-use Rattle.tt_picture.proofs.Standings.{same_filled}
+use Rattle.tt_picture.proofs.Inked.{body_as}
+use Rattle.tt_scan.specs.Contours.{AreEnds, IsClosed, contours_at}
 use Rattle.tt_scan_edges.specs.declared.edge.Edge.{Edge}
 use Rattle.tt_scan_dropouts.specs.Counted.{edges_counted}
 use Rattle.tt_scan_dropouts.specs.declared.boxed.BoxedRules.{BoxedRules}
 use Rattle.tt_scan_gaps.specs.Boxes.{ExtentsFit, IsBoxOf}
 use Rattle.tt_strike_kept.specs.Glyph.{KeptGlyph}
 
--- a glyph cut into pixels is that of its outline
+-- a glyph has the pixels and the facts of an outline
+pub record IsGlyphOf (s : Fitter) (n : ℕ) (o : Outline) (g : Glyph) : Type 0 where
+  pub body : IsBodyOf (edges_at (chords_with s) 0 o) (contours_of (chords_with s) 0 o) (filled_by s n o) g.body
+  pub crossings : g.crossings ≡ edges_counted (edges_at (chords_with s) 0 o)
+      + filling_crossings (filled_by s n o) (edges_at (chords_with s) 0 o)
+  pub advance : g.advance_left ≡ advance_left o
+  pub chords : g.chords ≡ chords_of (chords_with s) o
+  pub unfitted : g.unfitted ≡ unfitted_fault s n
 
-pub cut_shows : (cached : Bool) (s : Fitter) (n : ℕ) (o : Outline) (m : MadeOutline) (es : List Edge)
-    (contours : List (List Edge)) (facts : GlyphFacts) (k : KeptGlyph) → IsMadeOutline cached s n o m
-    → es ≡ edges_at m.rule 0 m.outline → IfSome m.filled (λ rules. contours ≡ contours_of m.rule 0 m.outline)
-    → facts.advance_left ≡ advance_left m.outline → facts.chords ≡ chords_of m.rule m.outline
-    → IsCutOf es contours m.filled k → HasFacts facts k → IsOfOutline s (filled_by s n o) o k
-cut_shows cached s n o m es contours facts k made edges lines advance chords cut has =
+-- it is that of its fitter's outline
+pub drawn_of_outline : (s : Fitter) (n : ℕ) (o : Outline) (g : Glyph) → fitted_outline s n ≡ Ok o → g.number ≡ n
+    → IsGlyphOf s n o g → IsDrawn s g
+drawn_of_outline s n o g outline number is = record {
+  shape = o;
+  outline = rw number outline;
+  body = rw number is.body;
+  crossings = rw number is.crossings;
+  advance = is.advance;
+  chords = is.chords;
+  unfitted = rw number is.unfitted;
+}
+
+-- a glyph that is made
+pub made_glyph : (s : Fitter) (n : ℕ) (o : Outline) (m : MadeOutline) (g : Glyph) (es : List Edge) (contours : List (List Edge))
+    → IsMadeOutline s n o m → es ≡ edges_at m.rule 0 m.outline
+    → IfSome m.filled (λ rules. contours ≡ contours_of m.rule 0 m.outline) → IsBodyOf es contours m.filled g.body
+    → g.crossings ≡ edges_counted es + filling_crossings m.filled es → g.advance_left ≡ advance_left m.outline
+    → g.chords ≡ chords_of m.rule m.outline → g.unfitted ≡ m.unfitted → IsGlyphOf s n o g
+made_glyph s n o m g es contours made edges lines body crossings advance chords unfitted =
     let edged : es ≡ edges_at (chords_with s) 0 o = rw (made.rule, made.outline) at edges in
     let lined : IfSome m.filled (λ rules. contours ≡ contours_of (chords_with s) 0 o) = rw (made.rule, made.outline) at lines in
-    let by : m.filled ≡ filled_by s n o = made.filled in
-    let crossed = rw (edged, by) at cut.crossings in
     record {
-      cut = record {
-        raster = rw edged at cut.raster;
-        dropouts = λ c j. cut.dropouts c j ∙ same_filled m.filled contours (contours_of (chords_with s) 0 o) c j lined
-            ∙ ap (λ f. is_filled f (contours_of (chords_with s) 0 o) c j) by;
-        crossings = crossed;
-      };
-      advance = has.advance ∙ rw made.outline at advance;
-      chords = has.chords ∙ rw (made.rule, made.outline) at chords;
+      body = body_as m.filled (filled_by s n o) es (edges_at (chords_with s) 0 o) contours (contours_of (chords_with s) 0 o)
+          g.body made.filled edged lined body;
+      crossings = rw (edged, made.filled) at crossings;
+      advance = advance ∙ ap advance_left made.outline;
+      chords = rw (made.rule, made.outline) at chords;
+      unfitted = unfitted ∙ made.unfitted;
     }
 
--- and it may be cached, where the glyph's counts are known
-pub as_cached : (cached : Bool) (s : Fitter) (n : ℕ) (o : Outline) (m : MadeOutline) (es : List Edge)
-    (contours : List (List Edge)) (facts : GlyphFacts) (k : KeptGlyph) → facts.counts ≡ m.counts
-    → facts.unfitted ≡ m.unfitted → IsMadeOutline cached s n o m
-    → es ≡ edges_at m.rule 0 m.outline → IfSome m.filled (λ rules. contours ≡ contours_of m.rule 0 m.outline)
-    → facts.advance_left ≡ advance_left m.outline → facts.chords ≡ chords_of m.rule m.outline
-    → IsCutOf es contours m.filled k → HasFacts facts k → IsCached s n k
-as_cached cached s n o m es contours facts k told fault made edges lines advance chords cut has =
-    let shown = cut_shows cached s n o m es contours facts k made edges lines advance chords cut has in
-    let counts = sym told ∙ has.counts in
-    let points : k.points ≡ points_asked s.tables s.levels n = rw counts at made.points in
-    let paid : IsMadeFor s n k.cost o m.unfitted = rw counts at made.made in
-    let reason : k.unfitted ≡ m.unfitted = has.unfitted ∙ fault in
+-- it may be cached, where its counts are known
+pub made_cached : (s : Fitter) (n : ℕ) (o : Outline) (m : MadeOutline) (g : Glyph) (k : KeptGlyph) → IsMadeOutline s n o m
+    → IsGlyphOf s n o g → IsKeptOf g m.counts k → IsCached s n k
+made_cached s n o m g k made is has =
+    let points : k.points ≡ points_asked s.tables s.levels n = rw has.counted at made.points in
+    let paid : IsMadeFor s n k.cost o m.unfitted = rw has.counted at made.made in
+    let fault : k.unfitted ≡ unfitted_fault s n = has.unfitted ∙ is.unfitted in
+    let reason : k.unfitted ≡ m.unfitted = fault ∙ sym made.unfitted in
     let rules : filled_by s n o ≡ rules_for (extents_of o) (dropouts_of s k.unfitted o) =
-    ap (λ f. rules_for (extents_of o) (dropouts_of s f o)) (sym (reason ∙ made.unfitted)) in
+    ap (λ f. rules_for (extents_of o) (dropouts_of s f o)) (sym fault) in
+    let body : IsBodyOf (edges_at (chords_with s) 0 o) (contours_of (chords_with s) 0 o) (filled_by s n o) (small k.bitmap k.ink) =
+    rw has.body at is.body in
+    let shown : IsOfOutline s (filled_by s n o) o k = record {
+      cut = record { pixels = body.pixels; ink = body.ink; crossings = has.crossings ∙ is.crossings };
+      advance = has.advance ∙ is.advance;
+      chords = has.chords ∙ is.chords;
+    } in
     record {
       shape = o;
       made = rw reason paid;
       shown = rw rules at shown;
       points = points;
     }
+
+-- a glyph from the cache
+pub cached_drawn : (s : Fitter) (n : ℕ) (k : KeptGlyph) (g : Glyph) → IsFitted s (record { number = n; body = kept k })
+    → g ≡ record { number = n; advance_left = k.advance_left; chords = k.chords; crossings = k.crossings; body = small k.bitmap k.ink; unfitted = k.unfitted }
+    → IsDrawn s g
+cached_drawn s n k g fitted is =
+    let of = fitted.body.1 in
+    rw is (record {
+      shape = fitted.shape;
+      outline = fitted.outline;
+      body = record { pixels = of.cut.pixels; ink = of.cut.ink };
+      crossings = of.cut.crossings;
+      advance = of.advance;
+      chords = of.chords;
+      unfitted = fitted.body.0;
+    })
 
 -- a cached glyph whose cost is paid
 
@@ -82,11 +116,11 @@ pub same_cost : (s : Fitter) (n a b : ℕ) (o : Outline) (reason : Option Fault)
 same_cost s n a b o reason same is = rw same is
 
 pub paid_is_fitted : (s new : Fitter) (n : ℕ) (k : KeptGlyph) (is : IsCached s n k)
-    → IsMade s n is.shape k.unfitted new → IsFittedBody true s n is.shape (kept k)
+    → IsMade s n is.shape k.unfitted new → IsFittedBody s n is.shape (kept k)
 paid_is_fitted s new n k is made =
     let rules : rules_for (extents_of is.shape) (dropouts_of s k.unfitted is.shape) ≡ filled_by s n is.shape =
     ap (λ f. rules_for (extents_of is.shape) (dropouts_of s f is.shape)) (sym made.unfitted) in
-    (refl, sym made.unfitted, rw rules at is.shown)
+    (sym made.unfitted, rw rules at is.shown)
 
 -- what a glyph counts
 
@@ -128,26 +162,7 @@ pub counts_points : (s : Fitter) (n : ℕ) (counts : Option KeptCounts) (points 
 counts_points s n None points are some = tt
 counts_points s n (Some k) points are some = rw some at are
 
--- the edges, the contours, the advance and the chords of an outline are those of its glyph
-
-pub made_edges : {cached : Bool} {s : Fitter} {n : ℕ} {o : Outline} (m : MadeOutline) (es : List Edge)
-    → IsMadeOutline cached s n o m → es ≡ edges_at m.rule 0 m.outline → es ≡ edges_at (chords_with s) 0 o
-made_edges m es made is = rw (made.rule, made.outline) at is
-
-pub made_lines : {cached : Bool} {s : Fitter} {n : ℕ} {o : Outline} (m : MadeOutline) (contours : List (List Edge))
-    → IsMadeOutline cached s n o m → IfSome m.filled (λ rules. contours ≡ contours_of m.rule 0 m.outline)
-    → IfSome m.filled (λ rules. contours ≡ contours_of (chords_with s) 0 o)
-made_lines m contours made is = rw (made.rule, made.outline) at is
-
-pub made_advance : {cached : Bool} {s : Fitter} {n : ℕ} {o : Outline} (m : MadeOutline) (k : ℤ)
-    → IsMadeOutline cached s n o m → k ≡ advance_left m.outline → k ≡ advance_left o
-made_advance m k made is = rw made.outline at is
-
-pub made_chords : {cached : Bool} {s : Fitter} {n : ℕ} {o : Outline} (m : MadeOutline) (k : ℕ)
-    → IsMadeOutline cached s n o m → k ≡ chords_of m.rule m.outline → k ≡ chords_of (chords_with s) o
-made_chords m k made is = rw (made.rule, made.outline) at is
-
--- the body of a glyph that is made
+-- the pixels of a glyph that is made can be cut
 
 -- the box of its points holds the edges of an outline
 box_by : (filled : Option BoxedRules) (rules : Option DropoutRules) (way : ChordRule) (o : Outline) (es : List Edge)
@@ -163,40 +178,29 @@ box_by (Some boxed) (Some rules) way o es is fits edges =
       held = rw (box, edges) (box_holds_edges way o.points o.ends (offset_at 0 o) (pos 0));
     }
 
-pub made_boxed : (cached : Bool) (s : Fitter) (n : ℕ) (o : Outline) (m : MadeOutline) (es : List Edge)
-    → IsMadeOutline cached s n o m → es ≡ edges_at m.rule 0 m.outline → IfSome m.filled (λ rules. IsBoxOf rules.extents es)
-made_boxed cached s n o m es made edges =
-    box_by m.filled (dropouts_of s (unfitted_fault s n) o) (chords_with s) o es made.filled made.fits
-    (rw (made.rule, made.outline) at edges)
+-- its contours are closed
+closed_as : (filled : Option BoxedRules) (contours outlined : List (List Edge)) → All IsClosed outlined
+    → IfSome filled (λ rules. contours ≡ outlined) → IfSome filled (λ rules. All IsClosed contours)
+closed_as None contours outlined closed are = are
+closed_as (Some rules) contours outlined closed are = rw are closed
 
-pub body_has : (es those : List Edge) (contours : List (List Edge)) (filled : Option BoxedRules) (facts : GlyphFacts)
-    (body : GlyphBody) → es ≡ those → IsCutBody es contours filled facts body → IsBodyOf those body
-body_has es those contours filled facts (glyphs.tape t) same is = is ∙ same
-body_has es those contours filled facts (glyphs.kept k) same is = rw same at is.0.raster
+pub can_be_cut : (s : Fitter) (n : ℕ) (o : Outline) (m : MadeOutline) (g : LargeGlyph) → IsMadeOutline s n o m
+    → g.edges ≡ edges_at m.rule 0 m.outline → length g.edges ≤ 2 ^ 19 → g.filled ≡ m.filled
+    → IfSome m.filled (λ rules. contours_at g.edges g.ends ≡ contours_of m.rule 0 m.outline)
+    → IfSome m.filled (λ rules. AreEnds (length g.edges) g.ends) → CanBeCut g
+can_be_cut s n o m g made edges few filled lines ends =
+    let edged : g.edges ≡ edges_at (chords_with s) 0 o = rw (made.rule, made.outline) at edges in
+    let lined : IfSome m.filled (λ rules. contours_at g.edges g.ends ≡ contours_of (chords_with s) 0 o) = rw (made.rule, made.outline) at lines in
+    record {
+      few = few;
+      ends = rw filled ends;
+      boxed = rw filled (box_by m.filled (dropouts_of s (unfitted_fault s n) o) (chords_with s) o g.edges made.filled made.fits edged);
+      closed = rw filled (closed_as m.filled (contours_at g.edges g.ends) (contours_of (chords_with s) 0 o)
+          (all_closed (chords_with s) o.points o.ends (offset_at 0 o) (pos 0)) lined);
+    }
 
-pub body_shows : (cached : Bool) (s : Fitter) (n : ℕ) (o : Outline) (m : MadeOutline) (es : List Edge)
-    (contours : List (List Edge)) (facts : GlyphFacts) (body : GlyphBody) → IsMadeOutline cached s n o m
-    → es ≡ edges_at m.rule 0 m.outline → IfSome m.filled (λ rules. contours ≡ contours_of m.rule 0 m.outline)
-    → facts.advance_left ≡ advance_left m.outline → facts.chords ≡ chords_of m.rule m.outline
-    → IsCutBody es contours m.filled facts body → IsKeptOf s (filled_by s n o) o body
-body_shows cached s n o m es contours facts (glyphs.tape t) made edges lines advance chords is = tt
-body_shows cached s n o m es contours facts (glyphs.kept k) made edges lines advance chords is =
-    cut_shows cached s n o m es contours facts k made edges lines advance chords is.0 is.1
-
-pub tape_has : (es : List Edge) (contours : List (List Edge)) (filled : Option BoxedRules) (facts : GlyphFacts)
-    (body : GlyphBody) → IsTape body → IsCutBody es contours filled facts body → edges_of body ≡ es
-tape_has es contours filled facts (glyphs.tape t) is has = has
-tape_has es contours filled facts (glyphs.kept k) is has = absurd is
-
--- a fact of rules, where they are told
-pub told_where : (told rules : Option BoxedRules) (T : Type 0) (A B : BoxedRules → Type 0) → IfSome told (λ r. T)
-    → (T → told ≡ rules) → IfSome rules A → ((r : BoxedRules) → T → A r → B r) → IfSome told B
-told_where None rules T A B is same holds more = tt
-told_where (Some r) rules T A B is same holds more = more r is (rw (← same is) at holds)
-
--- a body has the crossings of its edges
-pub cut_crosses : (es : List Edge) (contours : List (List Edge)) (filled these : Option BoxedRules) (facts : GlyphFacts)
-    (body : GlyphBody) → (IsTape body → these ≡ filled) → IsCutBody es contours filled facts body
-    → body_crossings body these ≡ edges_counted es + filling_crossings filled es
-cut_crosses es contours filled these facts (glyphs.tape t) same is = rw (same tt, is) refl
-cut_crosses es contours filled these facts (glyphs.kept k) same is = is.0.crossings
+-- the box of a glyph that can be cut is within the limits
+pub box_fits : (filled : Option BoxedRules) (es : List Edge) → IfSome filled (λ rules. IsBoxOf rules.extents es)
+    → IfSome filled (λ rules. ExtentsFit rules.extents)
+box_fits None es boxed = tt
+box_fits (Some rules) es boxed = boxed.fits

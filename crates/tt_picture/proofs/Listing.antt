@@ -8,16 +8,15 @@ use Rattle.tt_picture.specs.declared.report.Unfitted.{Unfitted}
 use Rattle.tt_picture.specs.Distinct.{is_among, with_glyph, distinct, distinct_after}
 use Rattle.tt_picture.specs.Glyphs.{Glyph, IsDrawn, AreDrawn, numbers_of}
 use Rattle.tt_picture.specs.Unfitted.{listed, unfitted_among, unfitted_standing, all_differ, ListsOnce}
-use Rattle.tt_scan_edges.specs.declared.edge.Frame.{Frame}
 
 -- drawn glyphs are those of the definition
-pub standing_listed : {cached : Bool} (maker : ℕ → Fitter) (f : Frame) (gs : List Glyph) → AreDrawn cached maker f gs
+pub standing_listed : (maker : ℕ → Fitter) (gs : List Glyph) → AreDrawn maker gs
     → unfitted_standing gs ≡ unfitted_among maker (numbers_of gs)
-standing_listed maker f [] drawn = refl
-standing_listed {cached} maker f (g ∷ gs) drawn =
-    let IsOne : Glyph → Type 0 = λ g. IsDrawn cached (maker g.number) f g in
-    let first : IsDrawn cached (maker g.number) f g = All-head IsOne g gs drawn in
-    rw (first.unfitted, standing_listed maker f gs (All-tail IsOne g gs drawn)) refl
+standing_listed maker [] drawn = refl
+standing_listed maker (g ∷ gs) drawn =
+    let IsOne : Glyph → Type 0 = λ g. IsDrawn (maker g.number) g in
+    let first : IsDrawn (maker g.number) g = All-head IsOne g gs drawn in
+    rw (first.unfitted, standing_listed maker gs (All-tail IsOne g gs drawn)) refl
 
 neither : (a b : Bool) → (a || b) ≡ false → (a ≡ false) × (b ≡ false)
 neither true b is = absurd cc
@@ -109,8 +108,8 @@ pub none_more : (gs : List Glyph) (i : ℕ) (g : Glyph) (before : List Unfitted)
 none_more gs i g before below is stands = rw (from_one gs i g below is, stands) refl
 
 -- the list of a line's glyphs is that of the definition
-pub of_line : {cached : Bool} (maker : ℕ → Fitter) (f : Frame) (gs : List Glyph) (line : List (ℕ × ℕ)) (entries : List Unfitted)
-    → AreDrawn cached maker f gs → numbers_of gs ≡ distinct (map (λ g. g.0) line) → entries ≡ unfitted_standing gs
+pub of_line : (maker : ℕ → Fitter) (gs : List Glyph) (line : List (ℕ × ℕ)) (entries : List Unfitted)
+    → AreDrawn maker gs → numbers_of gs ≡ distinct (map (λ g. g.0) line) → entries ≡ unfitted_standing gs
     → entries ≡ unfitted_among maker (distinct (map (λ g. g.0) line))
-of_line maker f gs line entries drawn numbers is =
-    is ∙ standing_listed maker f gs drawn ∙ ap (unfitted_among maker) numbers
+of_line maker gs line entries drawn numbers is =
+    is ∙ standing_listed maker gs drawn ∙ ap (unfitted_among maker) numbers

@@ -75,62 +75,66 @@ stuck_there (font.Font f) make ns i os below so_far fails = sym so_far ∙ rw (d
 stuck_there font.Memory make ns i os below so_far fails = tt
 
 -- fitted glyphs have the advances and the chords of the definition
-advance_is : (cached : Bool) (s : Fitter) (n : ℕ) (o : Outline) (body : FittedBody) → IsFittedBody cached s n o body
+advance_is : (s : Fitter) (n : ℕ) (o : Outline) (body : FittedBody) → IsFittedBody s n o body
     → advance_left o ≡ body_advance body
-advance_is cached s n o (outlined m) is = rw is.outline refl
-advance_is cached s n o (kept k) is = sym is.2.advance
+advance_is s n o (outlined m) is = rw is.outline refl
+advance_is s n o (kept k) is = sym is.1.advance
 
-pub advances_are : {cached : Bool} (maker : ℕ → Fitter) (fs : List FittedGlyph) → AreFitted cached maker fs
+pub advances_are : (maker : ℕ → Fitter) (fs : List FittedGlyph) → AreFitted maker fs
     → AreAdvances (λ g. glyph_advance (maker g) g) fs
 unfolding glyph_advance
-advances_are {cached} maker fs fitted = λ k d below.
-    let one = fitted k d below in rw one.outline (advance_is cached _ _ one.shape _ one.body)
+advances_are maker fs fitted = λ k d below.
+    let one = fitted k d below in rw one.outline (advance_is _ _ one.shape _ one.body)
 
-chord_is : (cached : Bool) (s : Fitter) (n : ℕ) (o : Outline) (body : FittedBody) → IsFittedBody cached s n o body
+chord_is : (s : Fitter) (n : ℕ) (o : Outline) (body : FittedBody) → IsFittedBody s n o body
     → body_chords body ≡ chords_of (chords_with s) o
-chord_is cached s n o (outlined m) is = rw (is.rule, is.outline) refl
-chord_is cached s n o (kept k) is = is.2.chords
+chord_is s n o (outlined m) is = rw (is.rule, is.outline) refl
+chord_is s n o (kept k) is = is.1.chords
 
-pub chords_are : {cached : Bool} (maker : ℕ → Fitter) (fs : List FittedGlyph) → AreFitted cached maker fs
+pub chords_are : (maker : ℕ → Fitter) (fs : List FittedGlyph) → AreFitted maker fs
     → map (λ g. body_chords g.body) fs ≡ map (λ g. glyph_chords (maker g) g) (fitted_numbers fs)
 unfolding glyph_chords
 chords_are maker [] fitted = refl
-chords_are {cached} maker (f ∷ fs) fitted =
-    let P : FittedGlyph → Type 0 = λ g. IsFitted cached (maker g.number) g in
+chords_are maker (f ∷ fs) fitted =
+    let P : FittedGlyph → Type 0 = λ g. IsFitted (maker g.number) g in
     let one = All-head P f fs fitted in
-    let own = chord_is cached (maker f.number) f.number one.shape f.body one.body in
+    let own = chord_is (maker f.number) f.number one.shape f.body one.body in
     rw (own, one.outline, chords_are maker fs (All-tail P f fs fitted)) refl
 
 -- where outlines are made, those of a line's glyphs give its shapes
-abbrev HasOutline : (ℕ → Fitter) → ℕ → Type 0
+abbrev pub HasOutline : (ℕ → Fitter) → ℕ → Type 0
 HasOutline maker n = (o : Outline) × (fitted_outline (maker n) n ≡ Ok o)
 
-found_by : {cached : Bool} (here : Bool) (maker : ℕ → Fitter) (f : FittedGlyph) (fs : List FittedGlyph) (n : ℕ) → (f.number == n) ≡ here
-    → (here || is_among n (fitted_numbers fs)) ≡ true → IsFitted cached (maker f.number) f
-    → (is_among n (fitted_numbers fs) ≡ true → HasOutline maker n) → HasOutline maker n
-found_by true maker f fs n same is one more =
-    let first : f.number ≡ n = grind (arith, nat_tests) in
-    let own : HasOutline maker f.number = (one.shape, one.outline) in
-    rw first at own
-found_by false maker f fs n other is one more = more is
+pub shapes_by : (maker : ℕ → Fitter) (numbers : List ℕ) (line : List (ℕ × ℕ))
+    → ((n : ℕ) → is_among n numbers ≡ true → HasOutline maker n) → All (λ (g : ℕ × ℕ). is_among g.0 numbers ≡ true) line
+    → (shapes : List Shape) × (each (glyph_shape maker) line ≡ Ok shapes)
+shapes_by maker numbers [] made among = ([], refl)
+shapes_by maker numbers (g ∷ gs) made among =
+    let P : ℕ × ℕ → Type 0 = λ g. is_among g.0 numbers ≡ true in
+    let one = made g.0 (All-head P g gs among) in
+    let rest = shapes_by maker numbers gs made (All-tail P g gs among) in
+    (shape_at (maker g.0) g one.0 ∷ rest.0, rw (one.1, rest.1) refl)
 
-has_outline : {cached : Bool} (maker : ℕ → Fitter) (fs : List FittedGlyph) (n : ℕ) → AreFitted cached maker fs
+-- one of some that are made
+pub first_or : (here : Bool) (maker : ℕ → Fitter) (h : ℕ) (hs : List ℕ) (n : ℕ) → (h == n) ≡ here
+    → (here || is_among n hs) ≡ true → HasOutline maker h → (is_among n hs ≡ true → HasOutline maker n) → HasOutline maker n
+first_or true maker h hs n same is one more = let first : h ≡ n = grind (arith, nat_tests) in rw first at one
+first_or false maker h hs n other is one more = more is
+
+has_outline : (maker : ℕ → Fitter) (fs : List FittedGlyph) (n : ℕ) → AreFitted maker fs
     → is_among n (fitted_numbers fs) ≡ true → HasOutline maker n
 has_outline maker [] n fitted among = absurd cc
-has_outline {cached} maker (f ∷ fs) n fitted among =
-    let P : FittedGlyph → Type 0 = λ g. IsFitted cached (maker g.number) g in
-    found_by (f.number == n) maker f fs n refl among (All-head P f fs fitted)
+has_outline maker (f ∷ fs) n fitted among =
+    let P : FittedGlyph → Type 0 = λ g. IsFitted (maker g.number) g in
+    let one = All-head P f fs fitted in
+    first_or (f.number == n) maker f.number (fitted_numbers fs) n refl among (one.shape, one.outline)
     (has_outline maker fs n (All-tail P f fs fitted))
 
-pub shapes_of_line : {cached : Bool} (maker : ℕ → Fitter) (fs : List FittedGlyph) (line : List (ℕ × ℕ)) → AreFitted cached maker fs
+pub shapes_of_line : (maker : ℕ → Fitter) (fs : List FittedGlyph) (line : List (ℕ × ℕ)) → AreFitted maker fs
     → All (λ (g : ℕ × ℕ). is_among g.0 (fitted_numbers fs) ≡ true) line
     → (shapes : List Shape) × (each (glyph_shape maker) line ≡ Ok shapes)
-shapes_of_line maker fs [] fitted among = ([], refl)
-shapes_of_line maker fs (g ∷ gs) fitted among =
-    let P : ℕ × ℕ → Type 0 = λ g. is_among g.0 (fitted_numbers fs) ≡ true in
-    let one = has_outline maker fs g.0 fitted (All-head P g gs among) in
-    let rest = shapes_of_line maker fs gs fitted (All-tail P g gs among) in
-    (shape_at (maker g.0) g one.0 ∷ rest.0, rw (one.1, rest.1) refl)
+shapes_of_line maker fs line fitted among =
+    shapes_by maker (fitted_numbers fs) line (λ n. has_outline maker fs n fitted) among
 
 -- a glyph keeps its number where its step is put
 pub numbers_kept : (gs : List (ℕ × ℕ)) (i n : ℕ) → i < length gs

@@ -1,17 +1,13 @@
 -- The glyphs of a line are made in order, each with the fitter after those before it.
-use Rattle.std.proofs.Common.{◌≡◌, ◌∙◌, ◌<◌, ℕ, Bool, true, false, ◌||◌, ◌==◌, List, [], ◌∷◌, ◌++◌, length, drop, get_or, Result, Ok, Err, refl, sym, append_assoc, append-nil, drop-cons, arith}
-use Rattle.std.specs.Prelude.{IfSome, Option}
+use Rattle.std.proofs.Common.{◌≡◌, ◌∙◌, ℕ, Bool, true, false, ◌||◌, ◌==◌, List, [], ◌∷◌, ◌++◌, Result, Ok, Err, refl, sym, append_assoc, append-nil, arith}
+use Rattle.std.specs.Prelude.{Option}
 use Rattle.std.proofs.lemmas.Bool.Decides.{nat_tests}
-use Rattle.tt_core.specs.declared.font_fault.FontFault.{FontFault}
-use Rattle.tt_core.specs.declared.font_fault.FontFault.TheVariants as font
-use Rattle.tt_core.specs.Outcomes.{◌>>=◌, each, after_each, font_fault}
+use Rattle.tt_core.specs.Outcomes.{◌>>=◌}
 use Rattle.tt_core.specs.Faults.{Fault}
 use Rattle.tt_fit.specs.Dropouts.{dropouts_of}
-use Rattle.tt_fit.specs.Fitting.{Fitter, fitted_outline, after_glyph}
+use Rattle.tt_fit.specs.Fitting.{Fitter, after_glyph}
 use Rattle.tt_fit_outline.specs.Outline.{Outline}
-use Rattle.tt_picture.specs.Distinct.{is_among, with_glyph, distinct_after, fitter_after, fitter_past, fitter_for, IsNext}
-use Rattle.tt_picture.specs.Shapes.{glyph_shape}
-use Rattle.tt_picture.specs.Pixels.{Shape}
+use Rattle.tt_picture.specs.Distinct.{is_among, distinct_after, fitter_after, fitter_for, IsNext}
 
 -- a glyph does not change the glyph data
 pub same_tables : (s : Fitter) (g : ℕ) → (after_glyph s g).tables ≡ s.tables
@@ -29,7 +25,7 @@ neither true b is = absurd cc
 neither false b is = (refl, is)
 
 -- the distinct glyphs of some begin with those before them
-abbrev BeginsWith : List ℕ → List ℕ → Type 0
+abbrev pub BeginsWith : List ℕ → List ℕ → Type 0
 BeginsWith before all = (rest : List ℕ) × (all ≡ before ++ rest)
 
 begins_by : (there : Bool) (before : List ℕ) (g : ℕ) (gs : List ℕ) → is_among g before ≡ there
@@ -40,7 +36,7 @@ begins_by true before g gs is same more = (same.0, rw is same.1)
 begins_by false before g gs is same more =
     (g ∷ more.0, rw is (more.1 ∙ append_assoc before (g ∷ []) more.0))
 
-begins_with : (before gs : List ℕ) → BeginsWith before (distinct_after before gs)
+pub begins_with : (before gs : List ℕ) → BeginsWith before (distinct_after before gs)
 begins_with before [] = ([], sym (append-nil before))
 begins_with before (g ∷ gs) = begins_by (is_among g before) before g gs refl (begins_with before gs)
     (begins_with (before ++ g ∷ []) gs)
@@ -65,37 +61,6 @@ next_is s now before all g gs are left absent =
 pub pushed : (s : Fitter) (before : List ℕ) (g : ℕ) → fitter_after s (before ++ g ∷ []) ≡ after_glyph (fitter_after s before) g
 pushed s [] g = refl
 pushed s (h ∷ hs) g = pushed (after_glyph s h) hs g
-
-left_by : (there : Bool) (s : Fitter) (before : List ℕ) (g : ℕ) → is_among g before ≡ there
-    → fitter_past (fitter_after s before) before g ≡ fitter_after s (with_glyph before g)
-left_by true s before g is = rw is refl
-left_by false s before g is = rw is (sym (pushed s before g))
-
--- the fitter after one more place of a line
-pub one_more_left : (s now next : Fitter) (before : List ℕ) (g : ℕ) → now ≡ fitter_after s before
-    → next ≡ fitter_past now before g → next ≡ fitter_after s (with_glyph before g)
-one_more_left s now next before g left is = is ∙ rw left (left_by (is_among g before) s before g refl)
-
--- the fault of a glyph that is not made yet
-pub of_next : (e : FontFault) (now : Fitter) (before : List ℕ) (g : ℕ) → is_among g before ≡ false
-    → IfSome (font_fault e) (λ f. fitted_outline now g ≡ Err f)
-    → IfSome (font_fault e) (λ f. (is_among g before ≡ false) × (fitted_outline now g ≡ Err f))
-of_next (font.Font f) now before g absent fails = (absent, fails)
-of_next font.Memory now before g absent fails = tt
-
--- the fault of a glyph that is not made yet is that of the line
-pub stuck_at : (e : FontFault) (maker : ℕ → Fitter) (now : Fitter) (before : List ℕ) (line : List (ℕ × ℕ)) (i : ℕ)
-    (shapes : List Shape) → i < length line → IsNext maker now before (get_or line i (0, 0)).0
-    → after_each (glyph_shape maker) (drop i line) shapes ≡ each (glyph_shape maker) line
-    → IfSome (font_fault e) (λ f. (is_among (get_or line i (0, 0)).0 before ≡ false)
-    × (fitted_outline now (get_or line i (0, 0)).0 ≡ Err f))
-    → IfSome (font_fault e) (λ f. each (glyph_shape maker) line ≡ Err f)
-stuck_at (font.Font f) maker now before line i shapes below next so_far fails =
-    let g = get_or line i (0, 0) in
-    let from = next fails.0 in
-    let stuck : glyph_shape maker g ≡ Err f = rw (from, fails.1) refl in
-    sym so_far ∙ rw (drop-cons line i (0, 0) below, stuck) refl
-stuck_at font.Memory maker now before line i shapes below next so_far fails = tt
 
 -- a result appended to nothing is the result
 pub none_before : {B E : Type 0} (r : Result (List B) E) → (r >>= λ ys. Ok ([] ++ ys)) ≡ r

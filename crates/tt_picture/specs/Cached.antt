@@ -7,21 +7,22 @@ use Rattle.tt_fit.specs.Fitting.{Fitter}
 use Rattle.tt_fit.specs.GlyphCost.{IsMadeFor, without_work}
 use Rattle.tt_fit_outline.specs.Outline.{Outline}
 use Rattle.tt_fit_outline.specs.Steps.{advance_left}
-use Rattle.tt_picture.specs.Pixels.{is_filled}
+use Rattle.tt_bitmap.specs.Bitmaps.{is_black}
+use Rattle.tt_glyph_pixels.specs.Shown.{shows}
+use Rattle.tt_picture.specs.Ink.{ink_by}
 use Rattle.tt_picture.specs.Shapes.{chords_with, contours_of, edges_at, extents_of, filling_crossings, rules_for}
 use Rattle.tt_picture.specs.Steps.{chords_of}
 use Rattle.tt_scan_edges.specs.declared.edge.Edge.{Edge}
 use Rattle.tt_scan_dropouts.specs.Counted.{edges_counted}
-use Rattle.tt_scan_dropouts.specs.Passes.{has_pixel}
 use Rattle.tt_scan_dropouts.specs.declared.boxed.BoxedRules.{BoxedRules}
-use Rattle.tt_scan_rows.specs.Raster.{IsRasterOf}
 use Rattle.tt_strike_kept.specs.Glyph.{KeptGlyph}
 use Rattle.tt_strike_kept.specs.Kept.{Kept}
 
--- a cached glyph has the black columns of some edges, the dropouts of some contours by these rules, and their crossings
+-- a cached glyph has the black pixels of some edges and the dropouts of some contours by these rules, with their box, and
+-- the crossings of the edges
 pub record IsCutOf (es : List Edge) (contours : List (List Edge)) (filled : Option BoxedRules) (k : KeptGlyph) : Type 0 where
-  pub raster : IsRasterOf es k.raster
-  pub dropouts : (c j : ℤ) → has_pixel k.dropouts c j ≡ is_filled filled contours c j
+  pub pixels : (c j : ℤ) → is_black k.bitmap c j ≡ shows es contours filled c j
+  pub ink : k.ink ≡ ink_by es contours filled
   pub crossings : k.crossings ≡ edges_counted es + filling_crossings filled es
 
 -- it has those of an outline at pen 0, by these rules, and the outline's advance and chords

@@ -25,10 +25,6 @@ abbrev pub fitter_after : Fitter → List ℕ → Fitter
 fitter_after s [] = s
 fitter_after s (g ∷ gs) = fitter_after (after_glyph s g) gs
 
--- the fitter after a glyph, unless it was made already
-abbrev pub fitter_past : Fitter → List ℕ → ℕ → Fitter
-fitter_past s before g = if is_among g before then s else after_glyph s g
-
 -- the fitter for one of some glyphs, which are made in this order
 abbrev pub fitter_for : Fitter → List ℕ → ℕ → Fitter
 fitter_for s [] g = s

@@ -1,6 +1,6 @@
 -- No part of the standard: the glyphs of a line that are fitted, before their edges are made: each by its outline, or from
 -- the cache.
-use Rattle.std.specs.Prelude.{◌≡◌, ℕ, ℤ, ◌+◌, Bool, true, false, All, IfSome, List, map, Option, None, Ok}
+use Rattle.std.specs.Prelude.{◌≡◌, ℕ, ℤ, ◌+◌, All, IfSome, List, map, Option, Ok}
 use Rattle.std.specs.List.{sum_by}
 use Rattle.tt_core.specs.Faults.{Fault}
 use Rattle.tt_fit.specs.Counting.{points_asked}
@@ -13,7 +13,7 @@ use Rattle.tt_scan_dropouts.specs.Counted.{edges_counted}
 use Rattle.tt_scan_dropouts.specs.declared.boxed.BoxedRules.{BoxedRules}
 use Rattle.tt_scan_gaps.specs.Boxes.{ExtentsFit}
 use Rattle.tt_picture.specs.Cached.{IsOfOutline}
-use Rattle.tt_picture.specs.Glyphs.{GlyphBody, crossings_cut}
+use Rattle.tt_picture.specs.Glyphs.{Glyph, crossings_cut}
 use Rattle.tt_picture.specs.Shapes.{chords_with, edges_at, filled_by, filling_crossings}
 use Rattle.tt_picture.specs.Steps.{chords_of}
 use Rattle.tt_picture.specs.declared.outlined.KeptCounts.{KeptCounts}
@@ -60,27 +60,25 @@ abbrev pub fitted_crossings : List FittedGlyph → ℕ
 fitted_crossings gs = sum_by (λ g. made_crossings g.body) gs
 
 -- an outline is that of a glyph, and what it counts is what the glyph counts in the cache
-pub record IsMadeOutline (cached : Bool) (s : Fitter) (number : ℕ) (o : Outline) (m : MadeOutline) : Type 0 where
+pub record IsMadeOutline (s : Fitter) (number : ℕ) (o : Outline) (m : MadeOutline) : Type 0 where
   pub outline : m.outline ≡ o
   pub rule : m.rule ≡ chords_with s
   pub filled : m.filled ≡ filled_by s number o
   pub unfitted : m.unfitted ≡ unfitted_fault s number
   pub fits : IfSome m.filled (λ rules. ExtentsFit rules.extents)
-  pub plain : cached ≡ false → m.counts ≡ None
   pub points : IfSome m.counts (λ n. n.points ≡ points_asked s.tables s.levels number)
   pub made : IfSome m.counts (λ n. IsMadeFor s number n.cost o m.unfitted)
 
--- a body gives the edges or the pixels of a glyph's outline; without a cache it is an outline
-abbrev pub IsFittedBody : Bool → Fitter → ℕ → Outline → FittedBody → Type 0
-IsFittedBody cached s number o (outlined m) = IsMadeOutline cached s number o m
-IsFittedBody cached s number o (kept k) =
-    (cached ≡ true) × (k.unfitted ≡ unfitted_fault s number) × IsOfOutline s (filled_by s number o) o k
+-- a body gives the edges or the pixels of a glyph's outline
+abbrev pub IsFittedBody : Fitter → ℕ → Outline → FittedBody → Type 0
+IsFittedBody s number o (outlined m) = IsMadeOutline s number o m
+IsFittedBody s number o (kept k) = (k.unfitted ≡ unfitted_fault s number) × IsOfOutline s (filled_by s number o) o k
 
 -- a glyph has the outline that its fitter makes
-pub record IsFitted (cached : Bool) (s : Fitter) (g : FittedGlyph) : Type 0 where
+pub record IsFitted (s : Fitter) (g : FittedGlyph) : Type 0 where
   pub shape : Outline
   pub outline : fitted_outline s g.number ≡ Ok shape
-  pub body : IsFittedBody cached s g.number shape g.body
+  pub body : IsFittedBody s g.number shape g.body
 
 -- the numbers and the chords of some glyphs, in their order
 abbrev pub fitted_numbers : List FittedGlyph → List ℕ
@@ -90,14 +88,14 @@ abbrev pub fitted_chords : List FittedGlyph → ℕ
 fitted_chords gs = sum_by (λ g. body_chords g.body) gs
 
 -- each glyph is made by its fitter
-abbrev pub AreFitted : Bool → (ℕ → Fitter) → List FittedGlyph → Type 0
-AreFitted cached maker gs = All (λ g. IsFitted cached (maker g.number) g) gs
+abbrev pub AreFitted : (ℕ → Fitter) → List FittedGlyph → Type 0
+AreFitted maker gs = All (λ g. IsFitted (maker g.number) g) gs
 
 -- this is the distance of the ends of each glyph's advance
 abbrev pub AreAdvances : (ℕ → ℤ) → List FittedGlyph → Type 0
 AreAdvances advance gs = All (λ g. advance g.number ≡ body_advance g.body) gs
 
 -- the crossings of a glyph that is cut when it is drawn; a glyph from the cache was cut before
-abbrev pub newly_cut : FittedBody → GlyphBody → ℕ
-newly_cut (outlined m) b = crossings_cut b
-newly_cut (kept k) b = 0
+abbrev pub newly_cut : FittedBody → Glyph → ℕ
+newly_cut (outlined m) g = crossings_cut g.crossings g.body
+newly_cut (kept k) g = 0

@@ -8,27 +8,27 @@ use Rattle.tt_fit_outline.specs.Outline.{Outline}
 use Rattle.tt_scan_edges.specs.declared.edge.Edge.{Edge}
 use Rattle.tt_scan_edges.specs.declared.edge.Frame.{Frame}
 use Rattle.tt_scan_dropouts.specs.declared.boxed.BoxedRules.{BoxedRules}
-use Rattle.tt_scan_ink.specs.Ink as ink
+use Rattle.tt_bitmap.specs.Inks as ink
 use Rattle.tt_scan_ink.specs.Ink.{dropouts_ink, edges_ink}
-use Rattle.tt_scan_ink.specs.declared.ink.GlyphInk.{GlyphInk}
+use Rattle.tt_bitmap.specs.declared.ink.LeastBox.{LeastBox}
 use Rattle.tt_picture.specs.Shapes.{chords_with, contours_of, edges_at, filled_by}
 use Rattle.tt_picture.specs.declared.ink_box.InkBox.{InkBox}
 
 -- the box of a glyph's dropouts, if they are filled
-abbrev pub filled_ink : Option BoxedRules → List (List Edge) → Option GlyphInk
+abbrev pub filled_ink : Option BoxedRules → List (List Edge) → Option LeastBox
 filled_ink None contours = None
 filled_ink (Some rules) contours = dropouts_ink rules contours
 
 -- the box of all black pixels of a glyph
-abbrev pub ink_by : List Edge → List (List Edge) → Option BoxedRules → Option GlyphInk
+abbrev pub ink_by : List Edge → List (List Edge) → Option BoxedRules → Option LeastBox
 ink_by es contours filled = ink.joined (edges_ink es) (filled_ink filled contours)
 
 -- the box at pen 0, by its fitter; a glyph without an outline has none
-abbrev pub outline_ink : Fitter → ℕ → Result Outline Fault → Option GlyphInk
+abbrev pub outline_ink : Fitter → ℕ → Result Outline Fault → Option LeastBox
 outline_ink s g (Ok o) = ink_by (edges_at (chords_with s) 0 o) (contours_of (chords_with s) 0 o) (filled_by s g o)
 outline_ink s g (Err fault) = None
 
-unfoldable pub glyph_ink : Fitter → ℕ → Option GlyphInk
+unfoldable pub glyph_ink : Fitter → ℕ → Option LeastBox
 glyph_ink s g = outline_ink s g (fitted_outline s g)
 
 -- the column and the row of a picture for column c and line j from a pen
@@ -39,7 +39,7 @@ abbrev pub row_of : Frame → ℤ → ℤ
 row_of f j = ((f.rise +ℤ pos f.margin) -ℤ pos 1) -ℤ j
 
 -- the box of a glyph's ink at a pen in a picture
-abbrev pub box_at : Frame → ℕ → GlyphInk → InkBox
+abbrev pub box_at : Frame → ℕ → LeastBox → InkBox
 box_at f pen b = record {
   left = column_of f pen b.left;
   top = row_of f b.top;
@@ -47,7 +47,7 @@ box_at f pen b = record {
   bottom = row_of f b.bottom;
 }
 
-abbrev pub ink_at : Frame → ℕ → Option GlyphInk → Option InkBox
+abbrev pub ink_at : Frame → ℕ → Option LeastBox → Option InkBox
 ink_at f pen None = None
 ink_at f pen (Some b) = Some (box_at f pen b)
 
@@ -71,7 +71,7 @@ five_rows : Frame
 five_rows = record { width = 9; height = 5; margin = 1; rise = pos 2 }
 
 -- two columns and three lines, the lowest of which is below the base line
-two_by_three : GlyphInk
+two_by_three : LeastBox
 two_by_three = record { left = negsuc 0; bottom = negsuc 0; right = pos 0; top = pos 1 }
 
 at_pen_four : box_at five_rows 4 two_by_three ≡ record { left = pos 4; top = pos 1; right = pos 5; bottom = pos 3 }

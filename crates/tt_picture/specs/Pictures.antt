@@ -1,22 +1,20 @@
 -- A picture whose rows are made one after the other, and its image.
-use Rattle.std.specs.Prelude.{◌≡◌, refl, ℕ, ◌+◌, ◌*◌, ◌/◌, ◌^◌, ◌≤◌, Bool, List, [], ◌∷◌, length, take, drop, min, pos, unsigned_abs}
+use Rattle.std.specs.Prelude.{◌≡◌, refl, ℕ, ◌*◌, ◌/◌, ◌^◌, ◌≤◌, Bool, List, [], ◌∷◌, length, take, drop, min, pos, unsigned_abs}
 use Rattle.tt_core.specs.Bits.{stride}
 use Rattle.tt_core.specs.Limits.{height_limit}
-use Rattle.tt_scan_edges.specs.declared.edge.Edge.{Edge}
 use Rattle.tt_scan_edges.specs.declared.edge.Frame.{Frame}
 use Rattle.tt_scan_edges.specs.Winding.{FrameFits}
-use Rattle.tt_picture.specs.Pixels.{Shape, crossings_up_to, is_black_pixel}
+use Rattle.tt_picture.specs.Pixels.{Shape, is_black_pixel}
 use Rattle.tt_picture.specs.Rows.{rows}
 use Rattle.tt_picture.specs.declared.report.Unfitted.{Unfitted}
 
--- the frame, the bytes of its rows, how many rows were made, the unfitted glyphs, the edges that rows are cut from,
--- glyph by glyph, and what the text takes of the budget of many lines
+-- the frame, the bytes of its rows, how many rows were made, the unfitted glyphs, and what the text takes of the budget of
+-- many lines
 pub record Picture : Type 0 where
   pub frame : Frame
   pub rows : List ℕ
   pub made : ℕ
   pub unfitted : List Unfitted
-  pub edges : List (List Edge)
   pub cost : ℕ
 
 -- the bytes of this many rows from row r on
@@ -43,18 +41,6 @@ image f black = record { frame = f; rows = rows f.width black 0 (stride f.width 
 abbrev pub picture : Frame → List Shape → Image
 picture f glyphs = image f (is_black_pixel f glyphs)
 
--- the crossings that the first rows of a frame need, this many, with the edges of all glyphs
-abbrev pub rows_crossings : Frame → ℕ → List (List Edge) → ℕ
-rows_crossings f count [] = 0
-rows_crossings f count (es ∷ ess) = crossings_up_to f count es + rows_crossings f count ess
-
--- the crossings of the rows that were made, and of all rows
-abbrev pub crossings_made : Picture → ℕ
-crossings_made p = rows_crossings p.frame p.made p.edges
-
-abbrev pub all_crossings : Picture → ℕ
-all_crossings p = rows_crossings p.frame p.frame.height p.edges
-
 -- the frame of a picture within the limits
 pub record IsPictureFrame (f : Frame) : Type 0 where
   pub fits : FrameFits f
@@ -68,17 +54,13 @@ pub record IsReady (p : Picture) : Type 0 where
   pub rows : length p.rows ≡ stride p.frame.width * p.frame.height
   pub made : p.made ≡ 0
 
--- worked values: three rows of nine pixels, with centre lines at 20480, 12288 and 4096. An edge meets the upper two
-upright : Edge
-upright = record { ax = pos 0; ay = pos 12288; bx = pos 0; by = pos 20480 }
-
+-- worked values: three rows of nine pixels
 nine_wide : Picture
 nine_wide = record {
   frame = record { width = 9; height = 3; margin = 0; rise = pos 3 };
   rows = 1 ∷ 128 ∷ 2 ∷ 0 ∷ 4 ∷ 128 ∷ [];
   made = 0;
   unfitted = [];
-  edges = (upright ∷ []) ∷ [] ∷ (upright ∷ upright ∷ []) ∷ [];
   cost = 0;
 }
 
@@ -92,15 +74,3 @@ its_lower_rows = refl
 
 the_largest_goes_out_by_32_rows : band_rows (record { width = 16384; height = 4096; margin = 0; rise = pos 0 }) ≡ 32
 the_largest_goes_out_by_32_rows = refl
-
-before_its_rows_no_crossing : crossings_made nine_wide ≡ 0
-unfolding nine_wide
-before_its_rows_no_crossing = refl
-
-after_a_row_three_crossings : crossings_made (record nine_wide { made = 1 }) ≡ 3
-unfolding nine_wide upright
-after_a_row_three_crossings = refl
-
-after_all_rows_six : all_crossings nine_wide ≡ 6
-unfolding nine_wide upright
-after_all_rows_six = refl

@@ -7,8 +7,8 @@ use Rattle.tt_picture.specs.Fitted as fitted
 use Rattle.tt_picture.specs.Glyphs as glyphs
 
 abbrev pub body_view : GlyphBody → glyphs.GlyphBody
-body_view (body.Tape t) = glyphs.tape t
-body_view (body.Kept k) = glyphs.kept k
+body_view (body.Small s) = glyphs.small s.bitmap.value s.ink
+body_view (body.Large g) = glyphs.large g
 
 abbrev pub fitted_view : declared_fitted.FittedBody → fitted.FittedBody
 fitted_view (fitted_body.Outline m) = fitted.outlined m

@@ -85,8 +85,8 @@ impl Cache {
         glyphs.keep(number, glyph);
     }
 
-    /// The greatest raster that is cached, in bytes: a sixteenth of the limit.
-    pub(crate) fn raster_limit(&self) -> usize
+    /// The bytes of the greatest bitmap that is cached: a sixteenth of the limit.
+    pub(crate) fn bitmap_limit(&self) -> usize
         ensures { IfSome (limit_of self.now) (λ most. result ≡ most / 16) }
     {
         match &self.glyphs {
@@ -95,7 +95,7 @@ impl Cache {
         }
     }
 
-    /// The bytes of the cached glyphs: for each those of its raster and its dropouts, and 224.
+    /// The bytes of the cached glyphs: for each those of its bitmap's words, and 224.
     pub fn bytes(&self) -> usize
         ensures exact { result ≡ bytes_in (entries_of self.now) }
         ensures limit { IfSome (limit_of self.now) (λ most. result ≤ most) }

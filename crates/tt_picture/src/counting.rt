@@ -1,41 +1,27 @@
-//! Counts the crossings of made glyphs at their pens.
+//! Counts the crossings of glyphs at their pens.
 
-ghost use Rattle.std.specs.Prelude.{◌≡◌, ◌-◌, ◌^◌, min, All};
-ghost use Rattle.tt_picture.specs.Glyphs.{CanBeCounted, crossings_standing, glyph_crossings, pen_crossings};
+ghost use Rattle.std.specs.Prelude.{◌≡◌, ℕ, ◌-◌, ◌^◌, min, List, Ok};
+ghost use Rattle.tt_core.specs.Outcomes.{each};
+ghost use Rattle.tt_fit.specs.Fitting.{Fitter};
+ghost use Rattle.tt_picture.specs.Glyphs.{AreDrawn, numbers_of};
+ghost use Rattle.tt_picture.specs.Lines.{HasGlyphsOf};
+ghost use Rattle.tt_picture.specs.Pixels.{Shape};
+ghost use Rattle.tt_picture.specs.Shapes.{crossings_in, glyph_shape};
 
-use crate::cutting::tape_crossings;
-use crate::glyph::{Glyph, GlyphBody};
+use crate::glyphs::Glyphs;
 
-impl Glyph {
-    /// The crossings of the glyph at one pen, in the picture and outside. Where dropouts are filled, the search for
-    /// them counts too.
-    pub(crate) fn pen_crossings(&self) -> u64
-        requires { CanBeCounted self.now }
-        ensures { result ≡ pen_crossings self.now }
-    {
-        match &self.body {
-            GlyphBody::Tape(tape) => tape_crossings(tape, self.filled),
-            GlyphBody::Kept(kept) => kept.crossings,
-        }
-    }
-
-    /// The crossings of the glyph at all its pens, or 2 ^ 64 - 1 if there are more.
-    fn crossings(&self) -> u64
-        requires { CanBeCounted self.now }
-        ensures { result ≡ min (glyph_crossings self.now) (2 ^ 64 - 1) }
-    {
-        self.pen_crossings().saturating_mul(self.pens.len() as u64)
-    }
-}
-
-/// The crossings of some glyphs at their pens, or 2 ^ 64 - 1 if there are more.
-pub fn crossings(glyphs: &[Glyph]) -> u64
-    requires { All CanBeCounted glyphs.now }
-    ensures { result ≡ min (crossings_standing glyphs.now) (2 ^ 64 - 1) }
+/// The crossings of a line's glyphs, each at its pen, in a picture and outside, or 2 ^ 64 - 1 if there are more. Where
+/// dropouts are filled, the search for them counts too.
+pub fn crossings(glyphs: &Glyphs, line: &[(u16, u32)]) -> u64
+    requires { HasGlyphsOf (numbers_of glyphs.now.made.items) line.now }
+    ensures { (maker : ℕ → Fitter) (shapes : List Shape) → AreDrawn maker glyphs.now.made.items
+        → each (glyph_shape maker) line.now ≡ Ok shapes → result ≡ min (crossings_in shapes) (2 ^ 64 - 1) }
 {
     let mut all: u64 = 0;
-    for glyph in glyphs {
-        all = all.saturating_add(glyph.crossings());
+    for placed in line {
+        let at = glyphs.place_of(placed.0);
+        let glyph = &glyphs.made[at];
+        all = all.saturating_add(glyph.crossings);
     }
     all
 }

@@ -1,15 +1,14 @@
 //! A glyph of a line that is fitted, before its edges are made: by its outline, or from the cache.
 
-ghost use Rattle.std.specs.Prelude.{◌≡◌, ◌<◌, ◌≤◌, nat_le, Bool, [], IfOk, IfSome, OnOk, Err};
-ghost use Rattle.tt_core.specs.Limits.{margin_limit};
+ghost use Rattle.std.specs.Prelude.{◌≡◌, ◌<◌, ◌≤◌, nat_le, IfOk, OnOk, Err};
 ghost use Rattle.tt_core.specs.Outcomes.{IfTold, font_fault};
 ghost use Rattle.tt_fit.specs.Fitting.{Fitter, fitted_outline, after_glyph};
-ghost use Rattle.tt_scan_edges.specs.Winding.{FrameFits};
-ghost use Rattle.tt_picture.specs.Cached.{IsCacheFor, is_there, limit_of};
+ghost use Rattle.tt_picture.specs.Cached.{IsCacheFor, limit_of};
 ghost use Rattle.tt_picture.specs.Fitted.{IsFitted, body_chords, body_advance, made_crossings, newly_cut};
-ghost use Rattle.tt_picture.specs.Glyphs.{IsDrawn, pen_crossings};
+ghost use Rattle.tt_picture.specs.Glyphs.{IsDrawn};
 
 use crate::cache::Cache;
+use crate::cutting::CutLimits;
 use crate::glyph::Glyph;
 use crate::outlined::{
     MadeOutline, cost_of, counts_of, has_chords_within, points_of, rule_by, rules_for,
@@ -18,7 +17,6 @@ use std::alloc::{AllocError, Global};
 use std::marker::Model;
 use tt_core::FontFault;
 use tt_fit::{Fitter, OutlineAtCost};
-use tt_scan::Frame;
 use tt_strike_kept::KeptGlyph;
 
 /// The part of a fitted glyph that gives its edges or its pixels.
@@ -57,7 +55,7 @@ impl FittedGlyph {
         requires known { number < fitter.old.tables.glyphs }
         requires cache { IsCacheFor fitter.old cache.now }
         ensures number { IfOk result (λ g. g.number ≡ number) }
-        ensures fitted { IfOk result (IsFitted (is_there cache.now) fitter.old) }
+        ensures fitted { IfOk result (IsFitted fitter.old) }
         ensures after { OnOk result (fitter.new ≡ after_glyph fitter.old number) }
         ensures fault { IfTold font_fault result (λ f. fitted_outline fitter.old number ≡ Err f) }
     {
@@ -98,7 +96,7 @@ impl FittedGlyph {
 
     /// Whether the glyph has at most so many chords and straight edges. None of them is made.
     pub(crate) fn has_chords_within(&self, most: usize) -> bool
-        requires fitted { (cached : Bool) × (s : Fitter) × IsFitted cached s self.now }
+        requires fitted { (s : Fitter) × IsFitted s self.now }
         ensures { result ≡ nat_le (body_chords self.now.body) most }
     {
         match &self.body {
@@ -107,35 +105,28 @@ impl FittedGlyph {
         }
     }
 
-    /// The glyph with its edges or its pixels, without a pen, with room for `room` pens. It is cached if it may be, is
-    /// small enough, and has no more crossings than are `allowed`. Error: Memory. The outline is dropped.
+    /// The glyph with its pixels, in a bitmap where that takes no more than the limits. The glyph is cached if it may be
+    /// and is small enough. Error: Memory. The outline is dropped.
     #[inline(always)]
     pub(crate) fn into_glyph(
         self,
         alloc: Global,
-        frame: Frame,
-        room: usize,
         cache: &mut Cache,
-        allowed: u64,
+        limits: CutLimits,
     ) -> Result<Glyph, AllocError>
-        requires frame { FrameFits frame }
-        requires fitted { (cached : Bool) × (s : Fitter) × IsFitted cached s self }
+        requires fitted { (s : Fitter) × IsFitted s self }
         ensures number { IfOk result (λ g. g.number ≡ self.number) }
-        ensures pens { IfOk result (λ g. g.pens ≡ []) }
-        ensures left { IfOk result (λ g. g.left ≤ margin_limit) }
         ensures chords { IfOk result (λ g. g.chords ≡ body_chords self.body) }
-        ensures cut { IfOk result (λ g. newly_cut self.body g.body ≤ allowed) }
-        ensures crossings { IfOk result (λ g. pen_crossings g ≡ made_crossings self.body) }
-        ensures valid { IfOk result (λ g. (cached : Bool) (s : Fitter) → IsFitted cached s self → IsDrawn cached s frame g) }
-        ensures cached { (cached : Bool) (s : Fitter) → IsFitted cached s self → IsCacheFor s cache.old → IsCacheFor s cache.new }
+        ensures crossings { IfOk result (λ g. g.crossings ≡ made_crossings self.body) }
+        ensures cut { IfOk result (λ g. newly_cut self.body g ≤ limits.crossings) }
+        ensures valid { IfOk result (λ g. (s : Fitter) → IsFitted s self → IsDrawn s g) }
+        ensures cached { (s : Fitter) → IsFitted s self → IsCacheFor s cache.old → IsCacheFor s cache.new }
         ensures limit { limit_of cache.new ≡ limit_of cache.old }
     {
         let FittedGlyph { number, body } = self;
         match body {
-            FittedBody::Outline(made) => {
-                made.into_glyph(alloc, number, frame, room, cache, allowed)
-            }
-            FittedBody::Kept(kept) => Glyph::cached(alloc, number, kept, frame, room),
+            FittedBody::Outline(made) => made.into_glyph(alloc, number, cache, limits),
+            FittedBody::Kept(kept) => Ok(Glyph::cached(number, kept)),
         }
     }
 }

@@ -1,65 +1,100 @@
-//! A glyph of a line, made once however often it appears. For painting see painting.rt.
+//! A distinct glyph of some lines: its pixels at pen 0, made once however often it appears.
 
-ghost use Rattle.std.specs.Prelude.{◌≡◌, ◌+◌, ◌<◌, ◌≤◌, ◌^◌, Bool, true, ◌++◌, [], ◌∷◌, length, IfOk, IfSome, IfNone, OnOk, Some, None, Err};
-ghost use Rattle.tt_core.specs.Limits.{margin_limit, width_limit};
-ghost use Rattle.tt_core.specs.Outcomes.{IfTold, font_fault};
-ghost use Rattle.tt_fit.specs.Fitting.{Fitter, fitted_outline, after_glyph};
-ghost use Rattle.tt_scan_edges.specs.Winding.{FrameFits};
+ghost use Rattle.std.proofs.Props.{props};
+ghost use Rattle.std.specs.Prelude.{◌≡◌, ◌+◌, IfNone, IfOk, IfSome, Some, None};
+ghost use Rattle.tt_bitmap.specs.Inks.{IsNear};
+ghost use Rattle.tt_fit.specs.Fitting.{Fitter};
 ghost use Rattle.tt_picture.specs.Fitted as fitted;
 ghost use Rattle.tt_picture.specs.Fitted.{IsFitted};
-ghost use Rattle.tt_picture.specs.Glyphs.{BodyFits, IsBodyOf, IsDrawn, IsTape, edges_of, left_of, pen_crossings};
-ghost use Rattle.tt_picture.specs.Cached.{IsCacheFor, is_there, limit_of};
-ghost use Rattle.tt_picture.specs.Views.{body_view};
+ghost use Rattle.tt_picture.specs.Glyphs.{IsDrawn, body_ink};
+ghost use Rattle.tt_picture.specs.Ink.{filled_ink, ink_by};
+ghost use Rattle.tt_picture.specs.Shapes.{filling_crossings};
+ghost use Rattle.tt_scan.specs.Contours.{contours_at};
+ghost use Rattle.tt_scan_dropouts.specs.Counted.{edges_counted};
 
-use crate::cache::Cache;
-use crate::fitted::FittedGlyph;
+use crate::cutting::tape_crossings;
 use crate::report::Unfitted;
-use smallvec::SmallVec;
 use std::alloc::{AllocError, Global};
 use std::marker::Model;
-use tt_core::{Fault, FontFault};
-use tt_fit::Fitter;
-use tt_scan::{EdgeList, Frame, Tape};
+use std::rc::Rc;
+use tt_bitmap::{BoxBitmap, LeastBox};
+use tt_core::Fault;
+use tt_scan::Tape;
 use tt_scan_dropouts::BoxedRules;
+use tt_scan_ink::{dropouts_ink, edges_ink};
 use tt_strike_kept::KeptGlyph;
 
-/// How many pens of a glyph take no memory of their own. Most glyphs of a label have no more.
-const INLINE_PENS: usize = 4;
+/// The pixels of a glyph in a bitmap.
+#[derive(Drop)]
+pub(crate) struct SmallGlyph {
+    /// All black pixels at pen 0. The bitmap may have other owners.
+    pub(crate) bitmap: Rc<BoxBitmap>,
+    /// The least box that holds them; None where the glyph is blank.
+    pub(crate) ink: Option<LeastBox>,
+    pub(crate) ghost near: { IfSome ink IsNear } by { Prim.hlevel props },
+}
 
-/// The part of a glyph that blackens rows.
+/// The edges of a glyph whose bitmap would take too many bytes. Its pixels are cut from them when it is painted.
+#[derive(Drop)]
+pub(crate) struct LargeGlyph {
+    /// Its edges at pen 0, of which no row was cut. The tape's frame does not matter.
+    pub(crate) tape: Tape,
+    /// The number of edges up to the end of each contour; empty where no dropouts are filled.
+    pub(crate) ends: Vec<usize>,
+    /// The rules for filling its dropouts, with its box at pen 0.
+    pub(crate) filled: Option<BoxedRules>,
+}
+
+impl Model for LargeGlyph {
+    ghost use Rattle.std.specs.Prelude.{◌≡◌};
+    ghost use Rattle.tt_picture.specs.Glyphs as glyphs;
+
+    ghost Value = { glyphs.LargeGlyph };
+
+    ghost view = { λ g. record { edges = g.tape.edges; ends = g.ends.items; filled = g.filled } };
+
+    ghost invariant = { λ g. glyphs.CanBeCut (record { edges = g.tape.edges; ends = g.ends.items; filled = g.filled }) × (g.tape.crosses ≡ 0) };
+}
+
+impl LargeGlyph {
+    /// The crossings of the glyph at one pen, in a picture and outside. Where dropouts are filled, the search for them
+    /// counts too.
+    pub(crate) fn crossings(&self) -> u64
+        ensures { result ≡ edges_counted self.now.edges + filling_crossings self.now.filled self.now.edges }
+    {
+        tape_crossings(&self.tape, self.filled)
+    }
+
+    /// The least box of the dropouts at pen 0, if they are filled. Error: Memory.
+    fn filled_ink(&self, alloc: Global) -> Result<Option<LeastBox>, AllocError>
+        ensures exact { IfOk result (λ ink. ink ≡ filled_ink self.now.filled (contours_at self.now.edges self.now.ends)) }
+        ensures near { IfOk result (λ ink. IfSome ink IsNear) }
+    {
+        match self.filled {
+            Some(rules) => dropouts_ink(alloc, rules, &self.tape, &self.ends),
+            None => Ok(None),
+        }
+    }
+
+    /// The least box of the black pixels at pen 0. Error: Memory.
+    fn ink(&self, alloc: Global) -> Result<Option<LeastBox>, AllocError>
+        ensures exact { IfOk result (λ ink. ink ≡ ink_by self.now.edges (contours_at self.now.edges self.now.ends) self.now.filled) }
+        ensures near { IfOk result (λ ink. IfSome ink IsNear) }
+    {
+        let filled = self.filled_ink(alloc)?;
+        let edges = edges_ink(alloc, self.tape.copied()?.into_list())?;
+        Ok(tt_bitmap::joined(edges, filled))
+    }
+}
+
+/// The pixels of a glyph at pen 0.
 #[derive(Drop)]
 pub(crate) enum GlyphBody {
-    /// Its edges at pen 0.
-    Tape(Tape),
-    /// Its pixels.
-    Kept(KeptGlyph),
+    Small(SmallGlyph),
+    Large(LargeGlyph),
 }
 
-impl GlyphBody {
-    /// Added to every pen: 0 for a tape, the margin for a cached glyph.
-    pub(crate) fn left(&self, frame: Frame) -> u32
-        ensures exact { result ≡ left_of frame (body_view self.now) }
-        ensures limit { frame.margin ≤ margin_limit → result ≤ margin_limit }
-    {
-        match self {
-            GlyphBody::Tape(_) => 0,
-            GlyphBody::Kept(_) => frame.margin,
-        }
-    }
-
-    /// The dropout rules of a tape. A cached glyph needs none.
-    pub(crate) fn filled(&self, rules: Option<BoxedRules>) -> Option<BoxedRules>
-        ensures tape { IsTape (body_view self.now) → result ≡ rules }
-        ensures some { IfSome result (λ _. IsTape (body_view self.now)) }
-    {
-        match self {
-            GlyphBody::Tape(_) => rules,
-            GlyphBody::Kept(_) => None,
-        }
-    }
-}
-
-/// A glyph by its number in the font, with its body.
+/// A glyph by its number in the font, with its pixels.
 #[derive(Drop)]
 pub struct Glyph {
     pub(crate) number: u16,
@@ -67,15 +102,9 @@ pub struct Glyph {
     pub(crate) advance_left: i32,
     /// The number of its chords and straight edges.
     pub(crate) chords: usize,
+    /// Its crossings at one pen, in a picture and outside, with the search for dropouts.
+    pub(crate) crossings: u64,
     pub(crate) body: GlyphBody,
-    /// The rules for filling a tape's dropouts, with its box at pen 0.
-    pub(crate) filled: Option<BoxedRules>,
-    /// The number of edges up to the end of each contour; empty where a tape has no dropouts filled.
-    pub(crate) ends: Vec<usize>,
-    /// Added to every pen: 0 for a tape, the margin for a cached glyph.
-    pub(crate) left: u32,
-    /// Its pens in the line, in pixels from the left end, with `left` added.
-    pub(crate) pens: SmallVec<u32, INLINE_PENS>,
     /// The fault that makes it unfitted.
     pub(crate) unfitted: Option<Fault>,
 }
@@ -86,66 +115,34 @@ impl Model for Glyph {
 
     ghost Value = { glyphs.Glyph };
 
-    ghost view = { λ g. record { number = g.number; advance_left = g.advance_left; chords = g.chords; body = body_view g.body; filled = g.filled; ends = g.ends.items; left = g.left; pens = g.pens.items; unfitted = g.unfitted } };
+    ghost view = { λ g. record { number = g.number; advance_left = g.advance_left; chords = g.chords; crossings = g.crossings; body = body_view g.body; unfitted = g.unfitted } };
 }
 
 impl Glyph {
-    /// A glyph without a pen, with room for `room` pens, from the cache where its cost is left. Else it is made from its
-    /// outline, and cached if it may be and is small enough. The fitter then serves later glyphs. Errors: those of its
-    /// outline, Memory.
-    #[inline(always)]
-    pub(crate) fn of(
-        alloc: Global,
-        fitter: &mut Fitter,
-        number: u16,
-        frame: Frame,
-        room: usize,
-        cache: &mut Cache,
-    ) -> Result<Glyph, FontFault>
-        requires known { number < fitter.old.tables.glyphs }
-        requires frame { FrameFits frame }
-        requires cache { IsCacheFor fitter.old cache.old }
-        ensures number { IfOk result (λ g. g.number ≡ number) }
-        ensures pens { IfOk result (λ g. g.pens ≡ []) }
-        ensures left { IfOk result (λ g. g.left ≤ margin_limit) }
-        ensures valid { IfOk result (IsDrawn (is_there cache.old) fitter.old frame) }
-        ensures after { OnOk result (fitter.new ≡ after_glyph fitter.old number) }
-        ensures cache { IsCacheFor fitter.old cache.new }
-        ensures limit { limit_of cache.new ≡ limit_of cache.old }
-        ensures fault { IfTold font_fault result (λ f. fitted_outline fitter.old number ≡ Err f) }
+    /// A glyph from the cache.
+    pub(crate) fn cached(number: u16, kept: KeptGlyph) -> Glyph
+        ensures number { result.number ≡ number }
+        ensures chords { result.chords ≡ kept.chords }
+        ensures crossings { result.crossings ≡ kept.crossings }
+        ensures valid { (s : Fitter) → IsFitted s (record { number = number; body = fitted.kept kept }) → IsDrawn s result }
     {
-        let fitted = FittedGlyph::of(fitter, number, cache)?;
-        let made = fitted.into_glyph(alloc, frame, room, cache, u64::MAX)?;
-        Ok(made)
-    }
-
-    /// A cached glyph, without a pen, with room for `room` pens. Error: Memory.
-    #[inline(always)]
-    pub(crate) fn cached(
-        alloc: Global,
-        number: u16,
-        kept: KeptGlyph,
-        frame: Frame,
-        room: usize,
-    ) -> Result<Glyph, AllocError>
-        ensures number { IfOk result (λ g. g.number ≡ number) }
-        ensures pens { IfOk result (λ g. g.pens ≡ []) }
-        ensures left { IfOk result (λ g. g.left ≡ frame.margin) }
-        ensures chords { IfOk result (λ g. g.chords ≡ kept.chords) }
-        ensures crossings { IfOk result (λ g. pen_crossings g ≡ kept.crossings) }
-        ensures valid { IfOk result (λ g. (cached : Bool) (s : Fitter) → IsFitted cached s (record { number = number; body = fitted.kept kept }) → IsDrawn cached s frame g) }
-    {
-        Ok(Glyph {
+        let KeptGlyph {
+            bitmap,
+            ink,
+            advance_left,
+            chords,
+            crossings,
+            unfitted,
+            ..
+        } = kept;
+        Glyph {
             number,
-            advance_left: kept.advance_left,
-            chords: kept.chords,
-            unfitted: kept.unfitted,
-            body: GlyphBody::Kept(kept),
-            filled: None,
-            ends: Vec::new(alloc),
-            left: frame.margin,
-            pens: SmallVec::with_capacity(alloc, room)?,
-        })
+            advance_left,
+            chords,
+            crossings,
+            body: GlyphBody::Small(SmallGlyph { bitmap, ink }),
+            unfitted,
+        }
     }
 
     /// The report of the glyph, if its outline is not fitted.
@@ -162,22 +159,22 @@ impl Glyph {
         }
     }
 
-    /// Adds a pen of the glyph, in pixels from the left end of the line. Error: Memory.
-    pub(crate) fn stand(&mut self, pen: u32) -> Result<(), AllocError>
-        requires pen { pen ≤ width_limit }
-        requires left { self.old.left ≤ margin_limit }
-        ensures { OnOk result (self.new ≡ record self.old { pens = self.old.pens ++ (pen + self.old.left) ∷ [] }) }
-    {
-        Ok(self.pens.push(pen + self.left)?)
+    /// The bytes of its bitmap; 0 where there is none.
+    pub(crate) fn bytes(&self) -> usize {
+        match &self.body {
+            GlyphBody::Small(small) => small.bitmap.bytes(),
+            GlyphBody::Large(_) => 0,
+        }
     }
 
-    /// The number of its edges; 0 for a cached glyph.
-    pub(crate) fn edges(&self) -> usize
-        ensures { result ≡ length (edges_of self.now.body) }
+    /// The least box of its black pixels at pen 0; None where it is blank. Error: Memory.
+    pub(crate) fn ink(&self, alloc: Global) -> Result<Option<LeastBox>, AllocError>
+        ensures exact { IfOk result (λ ink. ink ≡ body_ink self.now.body) }
+        ensures near { IfOk result (λ ink. IfSome ink IsNear) }
     {
         match &self.body {
-            GlyphBody::Tape(tape) => tape.edges(),
-            GlyphBody::Kept(_) => 0,
+            GlyphBody::Small(small) => Ok(small.ink),
+            GlyphBody::Large(large) => large.ink(alloc),
         }
     }
 
@@ -194,13 +191,4 @@ impl Glyph {
     {
         self.advance_left
     }
-}
-
-/// A tape of edges. Each row is cut when it is made.
-pub(crate) fn tape_of(alloc: Global, list: EdgeList, frame: Frame) -> Result<GlyphBody, AllocError>
-    requires frame { FrameFits frame }
-    requires few { length list.edges ≤ 2 ^ 19 }
-    ensures body { IfOk result (λ b. IsBodyOf list.edges (body_view b) × IsTape (body_view b) × BodyFits frame 0 (body_view b)) }
-{
-    Ok(GlyphBody::Tape(Tape::of(alloc, frame, list)?))
 }

@@ -3,10 +3,10 @@
 ghost use Rattle.std.specs.Prelude.{◌≡◌, ◌<◌, ◌≤◌, ◌^◌, unsigned_abs, IfSome};
 ghost use Rattle.tt_core.specs.Limits.{margin_limit, width_limit};
 ghost use Rattle.tt_picture.specs.Ink.{column_of, ink_at, joined, joined_boxes, row_of};
-ghost use Rattle.tt_scan_ink.specs.Least.{IsNear};
+ghost use Rattle.tt_bitmap.specs.Inks.{IsNear};
 
+use tt_bitmap::LeastBox;
 use tt_scan::Frame;
-use tt_scan_ink::GlyphInk;
 
 /// The least box of some black pixels: columns and rows of a picture, counted from 0, all four included. A value is
 /// below 0 or past the picture's last where ink is cut.
@@ -22,7 +22,7 @@ pub struct InkBox {
 fn column_of(frame: Frame, pen: u32, column: i64) -> i64
     requires margin { frame.margin ≤ margin_limit }
     requires pen { pen ≤ width_limit }
-    requires near { unsigned_abs column < 2 ^ 18 }
+    requires near { unsigned_abs column < 2 ^ 22 }
     ensures { result ≡ column_of frame pen column }
 {
     column + i64::from(pen + frame.margin)
@@ -31,14 +31,14 @@ fn column_of(frame: Frame, pen: u32, column: i64) -> i64
 /// The row of a picture for a line counted from the base line.
 fn row_of(frame: Frame, line: i64) -> i64
     requires margin { frame.margin ≤ margin_limit }
-    requires near { unsigned_abs line < 2 ^ 18 }
+    requires near { unsigned_abs line < 2 ^ 22 }
     ensures { result ≡ row_of frame line }
 {
     i64::from(frame.rise) + i64::from(frame.margin) - 1 - line
 }
 
 /// The box of a glyph's ink at a pen in a picture, if it has any.
-pub fn ink_at(frame: Frame, pen: u32, ink: Option<GlyphInk>) -> Option<InkBox>
+pub fn ink_at(frame: Frame, pen: u32, ink: Option<LeastBox>) -> Option<InkBox>
     requires margin { frame.margin ≤ margin_limit }
     requires pen { pen ≤ width_limit }
     requires near { IfSome ink IsNear }

@@ -1,32 +1,29 @@
 //! The outline of a glyph that is made, before its edges are.
 
-ghost use Rattle.std.specs.Prelude.{◌≡◌, ◌⊎◌, ◌<◌, ◌≤◌, ◌^◌, false, nat_le, [], length, IfOk, IfSome, OnOk, None, Some, Err, ℕ, Bool};
-ghost use Rattle.tt_core.specs.Limits.{margin_limit};
-ghost use Rattle.tt_core.specs.Outcomes.{IfTold, font_fault};
+ghost use Rattle.std.specs.Prelude.{◌≡◌, ◌⊎◌, ◌<◌, ◌≤◌, ◌^◌, false, nat_le, length, IfOk, IfSome, None, Some, Ok};
 ghost use Rattle.tt_fit.specs.Counting.{points_asked};
-ghost use Rattle.tt_fit.specs.Fitting.{Fitter, fitted_outline, after_glyph};
+ghost use Rattle.tt_fit.specs.Fitting.{Fitter, fitted_outline};
 ghost use Rattle.tt_fit_outline.specs.Outline as shape;
 ghost use Rattle.tt_fit_outline.specs.Outline.{IsOutline};
 ghost use Rattle.tt_fit_outline.specs.Views.{outline_of};
 ghost use Rattle.tt_scan.specs.Contours.{AreEnds, contours_at};
-ghost use Rattle.tt_scan_edges.specs.Winding.{FrameFits};
 ghost use Rattle.tt_scan_gaps.specs.Boxes.{ExtentsFit};
 ghost use Rattle.tt_picture.specs.Cached.{IsCacheFor, limit_of};
 ghost use Rattle.tt_picture.specs.Fitted.{IsMadeOutline, outline_crossings};
-ghost use Rattle.tt_picture.specs.Glyphs.{IsDrawn, crossings_cut, pen_crossings};
+ghost use Rattle.tt_picture.specs.Glyphs.{IsDrawn, crossings_cut};
 ghost use Rattle.tt_picture.specs.Shapes.{contours_of, edges_at, extents_of, rule_by, rules_for};
 ghost use Rattle.tt_picture.specs.Steps.{chords_of};
 
 use crate::cache::Cache;
-use crate::cutting::{GlyphFacts, body_of};
-use crate::glyph::Glyph;
-use smallvec::SmallVec;
+use crate::cutting::CutLimits;
+use crate::glyph::{Glyph, LargeGlyph};
 use std::alloc::{AllocError, Global};
 use std::marker::Model;
 use tt_arc::{ChordRule, OutlineEdges, edges, points_box};
 use tt_core::POINT_WORK_LIMIT;
 use tt_fit::{DropoutRules, Fitter, Outline};
-use tt_scan::{Frame, Tape};
+use tt_glyph_pixels::glyph_frame;
+use tt_scan::Tape;
 use tt_scan_dropouts::{BoxedRules, Extents, Rules};
 
 /// What a glyph counts of a line's work when it is taken from the cache.
@@ -58,28 +55,23 @@ impl Model for MadeOutline {
 }
 
 impl MadeOutline {
-    /// The glyph with its edges or its pixels, without a pen, with room for `room` pens. It is cached if it may be, is
-    /// small enough, and has no more crossings than are `allowed`. Error: Memory. The outline is dropped.
+    /// The glyph with its pixels, in a bitmap where that takes no more than the limits. The glyph is cached if it may be
+    /// and is small enough. Error: Memory. The outline is dropped.
     #[inline(never)]
     pub(crate) fn into_glyph(
         self,
         alloc: Global,
         number: u16,
-        frame: Frame,
-        room: usize,
         cache: &mut Cache,
-        allowed: u64,
+        limits: CutLimits,
     ) -> Result<Glyph, AllocError>
-        requires frame { FrameFits frame }
-        requires made { (cached : Bool) × (s : Fitter) × (o : shape.Outline) × IsMadeOutline cached s number o self }
+        requires made { (s : Fitter) × (o : shape.Outline) × IsMadeOutline s number o self }
         ensures number { IfOk result (λ g. g.number ≡ number) }
-        ensures pens { IfOk result (λ g. g.pens ≡ []) }
-        ensures left { IfOk result (λ g. g.left ≤ margin_limit) }
         ensures chords { IfOk result (λ g. g.chords ≡ chords_of self.rule self.outline) }
-        ensures cut { IfOk result (λ g. crossings_cut g.body ≤ allowed) }
-        ensures crossings { IfOk result (λ g. pen_crossings g ≡ outline_crossings self) }
-        ensures valid { IfOk result (λ g. (cached : Bool) (s : Fitter) (o : shape.Outline) → fitted_outline s number ≡ Ok o → IsMadeOutline cached s number o self → IsDrawn cached s frame g) }
-        ensures cached { (cached : Bool) (s : Fitter) (o : shape.Outline) → IsMadeOutline cached s number o self → IsCacheFor s cache.old → IsCacheFor s cache.new }
+        ensures crossings { IfOk result (λ g. g.crossings ≡ outline_crossings self) }
+        ensures cut { IfOk result (λ g. crossings_cut g.crossings g.body ≤ limits.crossings) }
+        ensures valid { IfOk result (λ g. (s : Fitter) (o : shape.Outline) → fitted_outline s number ≡ Ok o → IsMadeOutline s number o self → IsDrawn s g) }
+        ensures cached { (s : Fitter) (o : shape.Outline) → IsMadeOutline s number o self → IsCacheFor s cache.old → IsCacheFor s cache.new }
         ensures limit { limit_of cache.new ≡ limit_of cache.old }
     {
         let MadeOutline {
@@ -90,30 +82,22 @@ impl MadeOutline {
         } = self;
         let made = edges_of(alloc, &outline, rule, filled)?;
         let OutlineEdges { list, ends, chords } = made;
-        let advance_left = outline.advance_left();
-        let unfitted = outline.unfitted;
+        let frame = glyph_frame(&list, filled);
         let tape = Tape::of(alloc, frame, list)?;
-        let facts = GlyphFacts {
+        tt_arc::laws::contours_joined();
+        let edged = LargeGlyph { tape, ends, filled };
+        let crossings = edged.crossings();
+        let body = edged.into_body(alloc, crossings, limits)?;
+        let glyph = Glyph {
             number,
-            advance_left,
+            advance_left: outline.advance_left(),
             chords,
-            counts,
-            unfitted,
-        };
-        let body = body_of(alloc, tape, &ends, filled, facts, cache, allowed)?;
-        let left = body.left(frame);
-        let filled = body.filled(filled);
-        Ok(Glyph {
-            number,
-            advance_left,
-            chords,
+            crossings,
             body,
-            filled,
-            ends,
-            left,
-            pens: SmallVec::with_capacity(alloc, room)?,
-            unfitted,
-        })
+            unfitted: outline.unfitted,
+        };
+        glyph.cache_in(cache, counts)?;
+        Ok(glyph)
     }
 }
 

@@ -1,82 +1,83 @@
-//! The picture of a line, whose rows are made in order.
+//! The picture of some lines, whose rows are made in order.
 
-ghost use Rattle.std.specs.Prelude.{◌≡◌, ◌+ℤ◌, ◌+◌, ◌-◌, ◌*◌, ◌^◌, ◌≤◌, List, min, pos, length, All, IfOk};
+ghost use Rattle.std.specs.Prelude.{◌≡◌, ℕ, ◌+ℤ◌, ◌+◌, ◌-◌, ◌*◌, ◌≤◌, min, pos, length, IfOk};
 ghost use Rattle.tt_core.specs.Bits.{stride};
 ghost use Rattle.tt_core.specs.Limits.{width_limit, height_limit};
-ghost use Rattle.tt_picture.specs.Glyphs.{BodyFits, CanBeFilled, Stand, edges_cut};
-ghost use Rattle.tt_picture.specs.Pictures.{IsPictureFrame, IsReady, all_crossings, band_rows, crossings_made, image_of, picture, rows_at};
-ghost use Rattle.tt_picture.specs.Pixels.{Shape};
+ghost use Rattle.tt_fit.specs.Fitting.{Fitter};
+ghost use Rattle.tt_picture.specs.Glyphs.{AreDrawn, numbers_of};
+ghost use Rattle.tt_picture.specs.Lines.{AreLinesOf, some_line_shows};
+ghost use Rattle.tt_picture.specs.Pictures.{IsPictureFrame, IsReady, band_rows, image, image_of, rows_at};
 ghost use Rattle.tt_picture.specs.Unfitted.{unfitted_standing};
 
-use crate::dropouts::line_dropouts;
-use crate::glyph::Glyph;
+use crate::band::{row_bytes, write_rows};
+use crate::glyphs::Glyphs;
+use crate::large::large_rows;
+use crate::lines::PlacedLine;
 use crate::report::{Report, Unfitted, report_on};
-use crate::rows::{add_dropouts, add_glyphs, crosses, most_edges, row_bytes};
+use crate::stamp::PlacedBitmap;
+use crate::stamps::{add_stamps, stamps_of};
 use std::alloc::{AllocError, Global};
 use std::marker::Model;
-use tt_scan::{Frame, Sweep};
-use tt_scan_dropouts::Dropout;
+use tt_scan::Frame;
 
 /// The most bytes of a band, in which some rows are made at once.
 const BAND_BYTES: u32 = 65536;
 
-/// The picture of a line: its size, its base line, its rows, which are made in order, and its report. It already has
+/// The picture of some lines: its size, its base line, its rows, which are made in order, and its report. It already has
 /// all the memory that its rows need.
 #[derive(Drop)]
 pub struct Picture {
     frame: Frame,
-    glyphs: Vec<Glyph>,
-    sweep: Sweep,
-    /// In order of their rows.
-    dropouts: Vec<Dropout>,
+    /// The bitmaps of the lines' glyphs at their places.
+    stamps: Vec<PlacedBitmap>,
+    /// The bytes of all rows with the glyphs that have no bitmap, if there are such glyphs.
+    large: Option<Vec<u8>>,
     /// How many rows were made.
     made: u32,
     report: Report,
 }
 
 impl Model for Picture {
-    ghost use Rattle.std.specs.Prelude.{◌≤◌, All};
+    ghost use Rattle.std.specs.Prelude.{◌*◌, ◌≤◌, option_map, IfSome};
+    ghost use Rattle.std.specs.Vec.{vec_items};
+    ghost use Rattle.tt_core.specs.Bits.{stride};
     ghost use Rattle.tt_core.specs.Limits.{height_limit};
     ghost use Rattle.tt_scan_edges.specs.Winding.{FrameFits};
-    ghost use Rattle.tt_scan_dropouts.specs.Pictures.{AreDropouts};
-    ghost use Rattle.tt_picture.specs.Glyphs.{GlyphFits, all_rows, edges_cut};
     ghost use Rattle.tt_picture.specs.Pictures as pictures;
+    ghost use Rattle.tt_picture.specs.Rows.{rows};
+    ghost use Rattle.tt_picture.specs.Stamps.{AreRowsOf, picture_shows};
 
     ghost Value = { pictures.Picture };
 
-    ghost view = { λ p. record { frame = p.frame; rows = all_rows p.frame p.glyphs.items p.dropouts.items; made = p.made; unfitted = p.report.unfitted.items; edges = edges_cut p.glyphs.items; cost = p.report.cost } };
+    ghost view = { λ p. record { frame = p.frame; rows = rows p.frame.width (picture_shows p.frame (option_map vec_items p.large) p.stamps.items) 0 (stride p.frame.width * p.frame.height); made = p.made; unfitted = p.report.unfitted.items; cost = p.report.cost } };
 
     ghost invariant = { λ p. FrameFits p.frame × (p.frame.height ≤ height_limit) × (p.made ≤ p.frame.height)
-        × All (GlyphFits p.frame p.made p.sweep.room) p.glyphs.items
-        × AreDropouts p.frame.width p.dropouts.items };
+        × IfSome p.large (λ v. AreRowsOf p.frame v.items) };
 }
 
 impl Picture {
-    /// The picture of some glyphs and their dropouts, with no row made yet, of a text with this cost. Error: Memory.
+    /// The picture of some lines in this frame, with no row made yet. The glyphs of the lines are these. Error: Memory.
     pub fn new(
         alloc: Global,
         frame: Frame,
-        glyphs: Vec<Glyph>,
-        cost: u64,
+        glyphs: &Glyphs,
+        lines: &[PlacedLine],
     ) -> Result<Picture, AllocError>
         requires frame { IsPictureFrame frame }
-        requires glyphs { All CanBeFilled glyphs.items }
-        requires bodies { All (λ g. BodyFits frame 0 g.body) glyphs.items }
-        ensures exact { IfOk result (λ p. (shapes : List Shape) → Stand frame glyphs.items shapes → image_of p ≡ picture frame shapes) }
+        requires lines { AreLinesOf frame (numbers_of glyphs.now.made.items) lines.now }
+        ensures exact { IfOk result (λ p. (maker : ℕ → Fitter) → AreDrawn maker glyphs.now.made.items → image_of p ≡ image frame (some_line_shows maker lines.now)) }
         ensures valid { IfOk result IsReady }
         ensures frame { IfOk result (λ p. p.frame ≡ frame) }
-        ensures unfitted { IfOk result (λ p. p.unfitted ≡ unfitted_standing glyphs.items) }
-        ensures edges { IfOk result (λ p. p.edges ≡ edges_cut glyphs.items) }
-        ensures cost { IfOk result (λ p. p.cost ≡ cost) }
+        ensures unfitted { IfOk result (λ p. p.unfitted ≡ unfitted_standing glyphs.now.made.items) }
+        ensures cost { IfOk result (λ p. p.cost ≡ glyphs.now.cost) }
     {
-        let dropouts = line_dropouts(alloc, frame, &glyphs)?;
-        let most = most_edges(&glyphs);
-        let report = report_on(alloc, &glyphs, cost)?;
+        let stamps = stamps_of(alloc, glyphs, lines)?;
+        let large = large_rows(alloc, frame, glyphs, lines)?;
+        let report = report_on(alloc, &glyphs.made, glyphs.cost)?;
         Ok(Picture {
             frame,
-            glyphs,
-            sweep: Sweep::new(alloc, most)?,
-            dropouts,
+            stamps,
+            large,
             made: 0,
             report,
         })
@@ -143,14 +144,6 @@ impl Picture {
         report
     }
 
-    /// How often the rows made so far crossed edges, or 2 ^ 64 - 1 if that is more. Only tests call this function.
-    pub fn crosses(&self) -> u64
-        ensures exact { result ≡ min (crossings_made self.now) (2 ^ 64 - 1) }
-        ensures within { result ≤ all_crossings self.now }
-    {
-        crosses(&self.glyphs)
-    }
-
     /// The most rows that a band of at most 65,536 bytes has: all rows of a small picture.
     pub fn band_rows(&self) -> u32
         ensures exact { result ≡ band_rows self.now.frame }
@@ -180,9 +173,16 @@ impl Picture {
     {
         let frame = self.frame;
         let from = self.made;
-        band.fill(0);
-        add_glyphs(&mut self.glyphs, &mut self.sweep, frame, from, count, band);
-        add_dropouts(&self.dropouts, frame, from, count, band);
+        write_rows(&self.large, frame, from, count, band);
+        add_stamps(&self.stamps, frame, from, count, band);
+        self.made += count;
+    }
+
+    /// Passes over the next `count` rows, which are not made.
+    pub fn skip_rows(&mut self, count: u32)
+        requires { self.old.made + count ≤ self.old.frame.height }
+        ensures { self.new ≡ record self.old { made = self.old.made + count } }
+    {
         self.made += count;
     }
 }

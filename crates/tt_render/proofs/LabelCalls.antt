@@ -1,9 +1,10 @@
 -- The steps of a call that draws labels, joined.
-use Rattle.std.proofs.Common.{◌≡◌, ap, ℕ, Bool, List, Option, Some, None, Result, Ok, Err, inl, inr, refl}
+use Rattle.std.proofs.Common.{◌≡◌, ℕ, Bool, List, Option, Some, None, Result, Ok, Err, inl, inr, refl}
 use Rattle.std.specs.Prelude.{IfSome}
 use Rattle.tt_advice.specs.declared.hint.Hint.{Hint}
 use Rattle.tt_core.specs.declared.collection.Reading.{Reading}
-use Rattle.tt_core.specs.declared.fault.JobFault.{JobFault}
+use Rattle.tt_core.specs.declared.draw_fault.DrawFault.{DrawFault}
+use Rattle.tt_core.specs.declared.draw_fault.DrawFault.TheVariants as draw
 use Rattle.tt_render_run.specs.declared.fault.RunFault.{RunFault}
 use Rattle.tt_render_run.specs.declared.fault.RunFault.TheVariants as run
 use Rattle.tt_render_run.specs.Outcome.{Traffic}
@@ -13,14 +14,16 @@ use Rattle.tt_render_lines.specs.declared.refusal.Refusal.{Refusal}
 use Rattle.tt_render_lines.specs.declared.refusal.Refusal.TheVariants as reason
 use Rattle.tt_render_lines.specs.declared.refusal.TextsFault.{TextsFault}
 use Rattle.tt_render_lines.specs.declared.setting.Setting.{Setting}
-use Rattle.tt_render.specs.Labels.{FileLabelsGive, FontLabelsGive, IsUnopened, hint_for}
+use Rattle.tt_render.specs.Labels.{FileLabelsGive, FontLabelsGive, IsUnopened, StopsUnopened, hint_for}
 use Rattle.tt_render_lines.specs.Printing.{Errors}
 use Rattle.tt_render_lines.specs.Settings.{setting_tested, strike_of}
 use Rattle.tt_render_lines.specs.TextsOutcome.{StopsFor}
-use Rattle.tt_render_lines.specs.Views.{refusal_of_run}
+use Rattle.tt_render_lines.specs.Views.{before_lines, refusal_of_draw, refusal_of_run}
 use Rattle.tt_render_lines.proofs.FontLines.{size_passes}
 use Rattle.tt_strike.specs.Job.{size_tested}
-use Rattle.tt_strike.specs.Refusals.{as_job}
+use Rattle.tt_strike.specs.Refusals.{Refused, as_job}
+use Rattle.tt_strike.specs.Refusals as drawing
+use Rattle.tt_strike.specs.Strikes.{Strike}
 
 pub if_some_all : {X : Type 0} (o : Option X) (P : X → Type 0) → ((x : X) → P x) → IfSome o P
 if_some_all None P all = tt
@@ -36,10 +39,16 @@ reading_hints run.FontLarge before after failed file r fails = refl
 reading_hints (run.Write sent) before after failed file r fails = refl
 reading_hints run.Memory before after failed file r fails = refl
 
--- a size that passed its test is not refused again
-pub size_stands : (a : Setting) (j : JobFault) → setting_tested a ≡ Ok tt → size_tested a.ppem ≡ Err j → ⊥
+-- a strike of a tested size is made, unless memory runs out
+pub strike_unopened : (V : Type 0) (a : Setting) (opened : Result Strike Refused) (d : DrawFault)
+    → setting_tested a ≡ Ok tt → IfSome (drawing.refusal d) (λ why. as_job (size_tested a.ppem) ≡ Err why)
+    → StopsUnopened {V = V} opened (Err (before_lines (refusal_of_draw d)))
 unfolding setting_tested
-size_stands a j passes refused = size_passes (size_tested a.ppem) _ _ passes (ap as_job refused)
+strike_unopened V a opened (draw.Font f) passes refused =
+    absurd (size_passes (size_tested a.ppem) _ _ passes refused)
+strike_unopened V a opened (draw.Job j) passes refused =
+    absurd (size_passes (size_tested a.ppem) _ _ passes refused)
+strike_unopened V a opened draw.Memory passes refused = tt
 
 -- a call that stopped before it read a line, by the bytes of its font
 stopped : (l : Label) (file : List ℕ) (why : Refusal) (line : Option ℕ) (f : FontReader) → setting_tested l.setting ≡ Ok tt

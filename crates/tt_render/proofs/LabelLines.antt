@@ -1,5 +1,5 @@
 -- The answer of a line that is drawn as a label.
-use Rattle.std.proofs.Common.{◌≡◌, ℕ, ◌<◌, ◌≤◌, Bool, true, false, nat_lt, List, length, Err, refl, arith}
+use Rattle.std.proofs.Common.{◌≡◌, ◌∙◌, ap, ℕ, ◌<◌, ◌≤◌, Bool, true, false, nat_lt, List, length, Err, refl, arith}
 use Rattle.std.specs.Prelude.{IsUtf8}
 use Rattle.std.proofs.lemmas.Bool.Decides.{nat_tests}
 use Rattle.std.proofs.lemmas.Str.{IsUtf8-from_is_utf8, is_utf8-from_IsUtf8}
@@ -38,3 +38,17 @@ label_of_text l s line text short is_text =
     let is : nat_lt line_limit (length line) ≡ false = grind (arith, nat_tests) in
     let whole = is_utf8-from_IsUtf8 line is_text.1 in
     rw (is, whole, is_text.0) refl
+
+-- the answer of a label does not depend on the cache's limit
+pub most_aside : (l : Label) (s : Strike) (most : ℕ) (text : List ℕ)
+    → label_answer l s text ≡ label_answer l (record s { most = most }) text
+unfolding label_answer
+most_aside l s most text = refl
+
+-- a label is drawn alike whatever glyphs are cached
+kept_aside : (l : Label) (s t : Strike) → line_labelled l (record s { kept = t.kept }) ≡ line_labelled l s
+unfolding line_labelled label_answer
+kept_aside l s t = refl
+
+pub labelled_alike : (l : Label) (s t : Strike) → t ≡ record s { kept = t.kept } → line_labelled l t ≡ line_labelled l s
+labelled_alike l s t alone = ap (λ (x : Strike). line_labelled l x) alone ∙ kept_aside l s t

@@ -11,9 +11,10 @@ use Rattle.tt_cmap.specs.Lacking.{distinct_after, lacking_of}
 use Rattle.tt_cmap.specs.Maps.{CharacterMap}
 use Rattle.tt_core.specs.declared.collection.Reading.{Reading}
 use Rattle.tt_core.specs.declared.collection.Reading.TheVariants as reading
+use Rattle.tt_picture.specs.Pictures.{IsReady}
 use Rattle.tt_strike.specs.Refusals.{Refused, font}
 use Rattle.tt_strike.specs.Strikes.{Strike, job_of}
-use Rattle.tt_render_run.specs.File.{as_file}
+use Rattle.tt_render_run.specs.File.{as_file, picture_bytes, piece_bytes}
 use Rattle.tt_render_lines.specs.declared.label.Label.{Label}
 use Rattle.tt_render_lines.specs.declared.label.Labelled.{Labelled}
 use Rattle.tt_render.specs.declared.label_answers.ReadyLabel.{ReadyLabel}
@@ -88,17 +89,21 @@ line_labelled l s line = line_answer (label_answer l s) line
 -- the answer that is ready to be written
 abbrev pub label_view : ReadyLabel → TextAnswer
 label_view r = record {
-  bytes = r.file.items;
-  unfitted = r.picture.unfitted;
+  bytes = picture_bytes r.drawn.picture;
+  unfitted = r.drawn.picture.unfitted;
   lacking = r.lacking.items;
-  cost = r.picture.cost;
+  cost = r.drawn.picture.cost;
   label = Some (told_view r.told);
 }
 
 -- its report, as it is printed
 abbrev pub TellsLabel : Option ℕ → ReadyLabel → Type 0
 TellsLabel number r =
-    string_bytes r.report ≡ label_report_of number (told_view r.told) (length r.picture.unfitted) r.lacking.items
+    string_bytes r.report ≡ label_report_of number (told_view r.told) (length r.drawn.picture.unfitted) r.lacking.items
+
+-- no row of its picture is made yet, and there is memory for writing it
+abbrev pub CanGoOut : ReadyLabel → Type 0
+CanGoOut r = IsReady r.drawn.picture × (length r.drawn.piece.items ≡ piece_bytes r.drawn.picture)
 
 -- what is reported to a person of the font's file, where the font is refused
 abbrev pub hint_for : Refusal → List ℕ → Reading → Option Hint

@@ -6,11 +6,11 @@ ghost use Rattle.tt_core.specs.Outcomes.{GivesUnless, IfTold};
 ghost use Rattle.tt_label.specs.Label.{label_glyphs};
 ghost use Rattle.tt_render_run.specs.Outcome.{traffic_of};
 ghost use Rattle.tt_render_run.specs.Reading.{font_reader_of};
-ghost use Rattle.tt_render.specs.Labels.{FileLabelsGive, FontLabelGives, FontLabelsGive, HintsBy, LabelReadies, TellsLabel, hint_for, label_answer, label_view, line_labelled};
+ghost use Rattle.tt_render.specs.Labels.{CanGoOut, FileLabelsGive, FontLabelGives, FontLabelsGive, HintsBy, LabelReadies, TellsLabel, hint_for, label_answer, label_view, line_labelled};
 ghost use Rattle.tt_render_lines.specs.Lines.{line_limit};
 ghost use Rattle.tt_render_lines.specs.LinesDefects.{IsDefectBy, IsTextDefect, LinesTell, LinesTellDefects, LinesTellDefectsOf};
 ghost use Rattle.tt_render_lines.specs.Printing.{errors_of};
-ghost use Rattle.tt_render_lines.specs.Settings.{job_by, setting_tested, strike_in, strike_of};
+ghost use Rattle.tt_render_lines.specs.Settings.{job_by, setting_tested, strike_of};
 ghost use Rattle.tt_render_lines.specs.TextsOutcome.{IsOfText, LinesGive, TextTellsDefects, TextTellsDefectsOf, refusal_font_fault, told, without_line};
 ghost use Rattle.tt_render_lines.specs.Views.{before_lines};
 ghost use Rattle.tt_strike.specs.Job.{tested};
@@ -20,14 +20,12 @@ use std::alloc::Global;
 use std::str;
 use tt_advice::{Hint, advice};
 use tt_core::{Sink, Source};
-use tt_label::SizedFace;
-use tt_pbm::write_all_of;
 use tt_render_lines::{
     Label, Labelled, LineReader, Refusal, TextsFault, next_line, print_text, refusal_of_run,
     test_setting, texts_fault,
 };
-use tt_render_run::read_font;
-use tt_strike::{Face, test_job};
+use tt_render_run::{read_font, write_picture};
+use tt_strike::{Face, Strike, test_job};
 
 /// What is reported to a person of the font's file, where the font is refused.
 fn hint_for(refusal: Refusal, file: &[u8], asked: &Label) -> Option<Hint>
@@ -91,19 +89,20 @@ fn draw(alloc: Global, file: &[u8], text: &str, asked: &Label) -> Result<ReadyLa
     requires tested { tested (job_by asked.now.setting text.now) ≡ Ok tt }
     ensures outcome { LabelReadies (λ s. label_answer asked.now s text.now) (strike_of asked.now.setting file.now) result }
     ensures defects { TextTellsDefects (IsTextDefect label_glyphs asked.now.setting text.now file.now) result }
+    ensures valid { IfOk result CanGoOut }
     ensures report { IfOk result (TellsLabel None) }
 {
     let face = Face::read_with(file, asked.setting.opening)?;
-    let mut sized = SizedFace::new(alloc, &face, asked.setting.ppem, asked.setting.fit)?;
-    match answer_label(alloc, &mut sized, file, asked, None, text) {
+    let mut strike = Strike::new(alloc, &face, asked.setting.ppem, asked.setting.fit, 0)?;
+    match answer_label(alloc, &mut strike, file, asked, None, text) {
         Ok(ready) => Ok(ready),
         Err(fault) => Err(texts_fault(None, fault.refusal)),
     }
 }
 
 /// Draws one text as a label by a font, and writes its picture: that of its lines, one below the other, enlarged so that
-/// no ink is cut. Then its report is printed on `error`, and behind it the lines about the font. A failure of `error`
-/// does not change the answer.
+/// no ink is cut. From the first written byte on no memory is taken. Then its report is printed on `error`, and behind
+/// that report the lines about the font. A failure of `error` does not change the answer.
 ///
 /// Errors, the first of these, with no line: Job (SizeRange, MarginRange, and TextLong, of more than 4,096 characters),
 /// before the font is read; FontRead, FontLarge; Font, of the tables needed for every text; Font and Job of `label`;
@@ -133,11 +132,11 @@ pub fn draw_label<R: Source, W: Sink, E: Sink>(
         Ok(file) => file,
         Err(fault) => return unhinted(refusal_of_run(fault)),
     };
-    let ready = match draw(alloc, &file, text, asked) {
+    let mut ready = match draw(alloc, &file, text, asked) {
         Ok(ready) => ready,
         Err(fault) => return hinted(fault, &file, asked),
     };
-    match write_all_of(out, &ready.file) {
+    match write_picture(out, &mut ready.drawn) {
         Ok(()) => {
             print_text(error, &ready.report);
             done()
@@ -146,12 +145,12 @@ pub fn draw_label<R: Source, W: Sink, E: Sink>(
     }
 }
 
-/// The answer of the line with this number as a label. Errors, the first of: NotUtf8; those of a text. The caller puts
-/// the line into an error.
+/// The answer of the line with this number as a label, by a strike whose face is of this file. Errors, the first of:
+/// NotUtf8; those of a text. The caller puts the line into an error.
 #[tactic(auto, unfolding(crate::specs::Labels::line_labelled))]
 fn draw_line(
     alloc: Global,
-    sized: &mut SizedFace,
+    strike: &mut Strike,
     file: &[u8],
     asked: &Label,
     number: u32,
@@ -159,23 +158,24 @@ fn draw_line(
 ) -> Result<ReadyLabel, TextsFault>
     requires short { length line.now ≤ line_limit }
     requires size { length file.now ≤ font_limit }
-    requires file { file.now ≡ sized.old.face.directory.file }
-    ensures exact { GivesUnless told label_view (without_line result) (line_labelled asked.now (strike_in asked.now.setting sized.old) line.now) }
+    requires file { file.now ≡ strike.old.face.directory.file }
+    ensures exact { GivesUnless told label_view (without_line result) (line_labelled asked.now strike.old line.now) }
+    ensures valid { IfOk result CanGoOut }
     ensures report { IfOk result (TellsLabel (Some number)) }
     ensures serves { IsOfText (without_line result) }
-    ensures defects { IfTold refusal_font_fault (without_line result) (IsDefectBy label_glyphs asked.now.setting (strike_in asked.now.setting sized.old) line.now) }
-    ensures same { sized.new ≡ sized.old }
+    ensures defects { IfTold refusal_font_fault (without_line result) (IsDefectBy label_glyphs asked.now.setting strike.old line.now) }
+    ensures same { strike.new ≡ record strike.old { kept = strike.new.kept } }
 {
     let Ok(text) = str::from_utf8(line) else {
         return Err(texts_fault(None, Refusal::NotUtf8));
     };
-    answer_label(alloc, sized, file, asked, Some(number), text)
+    answer_label(alloc, strike, file, asked, Some(number), text)
 }
 
-/// Draws each line of a text as a label, as `draw_labels` does. The face is of this file.
+/// Draws each line of a text as a label with a strike, as `draw_labels` does. The strike's face is of this file.
 fn draw_labels_by<R: Source, W: Sink, E: Sink>(
     alloc: Global,
-    sized: &mut SizedFace,
+    strike: &mut Strike,
     file: &[u8],
     lines: &mut R,
     out: &mut W,
@@ -186,9 +186,9 @@ fn draw_labels_by<R: Source, W: Sink, E: Sink>(
     requires out { W.has_failed out.old ≡ false }
     requires error { E.has_failed error.old ≡ false }
     requires size { length file.now ≤ font_limit }
-    requires file { file.now ≡ sized.old.face.directory.file }
-    ensures outcome { LinesGive (line_labelled asked.now (strike_in asked.now.setting sized.old)) result (traffic_of R.left R.has_failed W.written W.has_failed lines.old lines.new out.old out.new) (errors_of E.written E.has_failed error.old error.new) }
-    ensures defects { LinesTell (IsDefectBy label_glyphs asked.now.setting (strike_in asked.now.setting sized.old)) (R.left lines.old) result }
+    requires file { file.now ≡ strike.old.face.directory.file }
+    ensures outcome { LinesGive (line_labelled asked.now strike.old) result (traffic_of R.left R.has_failed W.written W.has_failed lines.old lines.new out.old out.new) (errors_of E.written E.has_failed error.old error.new) }
+    ensures defects { LinesTell (IsDefectBy label_glyphs asked.now.setting strike.old) (R.left lines.old) result }
 {
     let mut reader = LineReader::new(alloc)?;
     let mut used = 0;
@@ -200,12 +200,12 @@ fn draw_labels_by<R: Source, W: Sink, E: Sink>(
             Err(stop) => return Err(texts_fault(Some(number), stop.refusal)),
         };
         let line = reader.line(place);
-        let ready = match draw_line(alloc, sized, file, asked, number, line) {
+        let mut ready = match draw_line(alloc, strike, file, asked, number, line) {
             Ok(ready) => ready,
             Err(fault) => return Err(texts_fault(Some(number), fault.refusal)),
         };
-        used += u128::from(ready.picture.cost());
-        if let Err(cut) = write_all_of(out, &ready.file) {
+        used += u128::from(ready.drawn.picture.cost());
+        if let Err(cut) = write_picture(out, &mut ready.drawn) {
             return Err(TextsFault {
                 line: Some(number),
                 refusal: Refusal::Write { sent: cut.sent },
@@ -238,12 +238,14 @@ fn draw_labels_of<R: Source, W: Sink, E: Sink>(
     ensures defects { LinesTellDefects label_glyphs asked.now.setting (R.left lines.old) result file.now }
 {
     let face = Face::read_with(file, asked.setting.opening)?;
-    let mut sized = SizedFace::new(alloc, &face, asked.setting.ppem, asked.setting.fit)?;
-    draw_labels_by(alloc, &mut sized, file, lines, out, error, asked)
+    let setting = asked.setting;
+    let mut strike = Strike::new(alloc, &face, setting.ppem, setting.fit, setting.most)?;
+    draw_labels_by(alloc, &mut strike, file, lines, out, error, asked)
 }
 
 /// Draws each line of a text as a label of its own, in order, and writes its picture as soon as it is made. Nothing of a
-/// refused line is written, and later lines are not drawn. After a line's picture its report is printed on `error`;
+/// refused line is written, and later lines are not drawn. Between lines at most the setting's `most` bytes of glyphs are
+/// cached. After a line's picture its report is printed on `error`;
 /// behind the first one come the lines about the font. A failure of `error` does not stop the drawing. With `Fit::Best`
 /// the lines share the budget of `draw_lines`.
 ///

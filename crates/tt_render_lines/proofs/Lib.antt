@@ -9,6 +9,3 @@ mod LayoutCalls
 pub mod DefectLines
 pub mod OneText
 mod TextsReports
-mod Runs
-mod JobRefusals
-mod Plain

@@ -8,7 +8,6 @@ pub mod Printing
 pub mod Products
 pub mod Readings
 pub mod Reports
-pub mod RunLaws
 pub mod Settings
 pub mod Texts
 pub mod TextsMessages

@@ -8,8 +8,8 @@ use tt_line::Align;
 /// How the lines of a text are drawn in one picture for people.
 #[derive(Clone, Copy)]
 pub struct Label<'a> {
-    /// The picture is that of all lines, enlarged so that no ink is cut: the fields `grow`, `product` and `most` are not
-    /// used.
+    /// The picture is that of all lines, enlarged so that no ink is cut: the fields `grow` and `product` are not used.
+    /// `most` is the limit of glyphs that are cached from label to label.
     pub setting: Setting,
     /// The side at which the lines begin or end.
     pub align: Align,

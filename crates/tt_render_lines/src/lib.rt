@@ -17,7 +17,6 @@
 //! label.rt           how labels are drawn, and why they are not
 //! label_reports.rt   what is reported of a label
 //! help.rt            the second line about a refused label
-//! laws.rt            lemmas about the definitions
 //! ```
 #![tactic(auto)]
 
@@ -25,7 +24,6 @@ mod drawing;
 mod help;
 mod label;
 mod label_reports;
-pub mod laws;
 mod layout_answers;
 mod layout_drawing;
 mod layout_texts;

@@ -86,7 +86,7 @@ pub fn make_measure(
     ensures report { IfOk result (λ m. report_by strike.old.face (job_of strike.old text.now margin) ≡ Ok m.report.unfitted.items) }
     ensures cost { IfOk result (λ m. cost_by strike.old.face (job_of strike.old text.now margin) ≡ Ok m.report.cost) }
     ensures defects { TellsDefects draw_font_fault (IsLineDefect strike.old.face (job_of strike.old text.now margin) (text_glyphs strike.old.face.cmap text.now)) result }
-    ensures same { strike.new ≡ strike.old }
+    ensures same { strike.new ≡ record strike.old { kept = strike.new.kept } }
 {
     if grow {
         strike.grown_measure(text, margin)

@@ -17,7 +17,8 @@ use Rattle.tt_scan_dropouts.proofs.Reached.{dropout_reached}
 use Rattle.tt_scan_dropouts.proofs.TurnedWinding.{round_all}
 use Rattle.tt_scan_ink.specs.Ink.{count_of, ink_in}
 use Rattle.tt_scan_ink.specs.Laws.{DropoutsInkHoldsAll, EdgesInkHoldsAll}
-use Rattle.tt_scan_ink.specs.Least.{IsInk, shown}
+use Rattle.tt_bitmap.specs.Inks.{IsInk}
+use Rattle.tt_scan_ink.specs.Least.{shown}
 use Rattle.tt_scan_ink.proofs.Near.{InOrder, between_order, columns_order, one_more_order}
 use Rattle.tt_scan_ink.proofs.Regions.{counted, ink_is}
 use Rattle.tt_scan_ink.proofs.Together.{ink_alike}

@@ -7,7 +7,7 @@ use Rattle.std.proofs.lemmas.List.Elements.{All-head, All-map, All-tail, All-wea
 use Rattle.tt_scan_edges.specs.Winding.{EdgeFits}
 use Rattle.tt_scan_edges.specs.declared.edge.Edge.{Edge}
 use Rattle.tt_scan_gaps.specs.Crossings.{gap_at, line_from}
-use Rattle.tt_scan_gaps.specs.Boxes.{ExtentsFit, columns_between, columns_in, columns_of, columns_reached, greatest_x, least_x, reached, rows_in, rows_reached}
+use Rattle.tt_scan_gaps.specs.Boxes.{ExtentsFit, columns_between, columns_of, columns_reached, greatest_x, least_x, reached, rows_reached}
 use Rattle.tt_scan_gaps.specs.Seen.{turned_round}
 use Rattle.tt_scan_gaps.specs.declared.extent.Extents.{Extents}
 use Rattle.tt_scan_gaps.specs.declared.mark.Columns.{Columns}

@@ -8,11 +8,12 @@ use Rattle.tt_scan_gaps.specs.Boxes.{ExtentsFit}
 use Rattle.tt_scan_gaps.specs.declared.mark.Columns.{Columns}
 use Rattle.tt_scan_dropouts.specs.declared.boxed.BoxedRules.{BoxedRules}
 use Rattle.tt_scan_ink.proofs.Near.{columns_near, lines_near, reached_near}
-use Rattle.tt_scan_ink.specs.Ink.{count_of, dropouts_ink, edges_ink, ink_in, joined, line_ink, lines_ink, pixel_box}
+use Rattle.tt_bitmap.specs.Inks.{joined}
+use Rattle.tt_scan_ink.specs.Ink.{count_of, dropouts_ink, edges_ink, ink_in, line_ink, lines_ink, pixel_box}
 use Rattle.tt_scan_ink.specs.Least.{AreNear, IsNear}
-use Rattle.tt_scan_ink.specs.declared.ink.GlyphInk.{GlyphInk}
+use Rattle.tt_bitmap.specs.declared.ink.LeastBox.{LeastBox}
 
-pub joined_near : (a b : Option GlyphInk) → IfSome a IsNear → IfSome b IsNear → IfSome (joined a b) IsNear
+pub joined_near : (a b : Option LeastBox) → IfSome a IsNear → IfSome b IsNear → IfSome (joined a b) IsNear
 joined_near None b is also = also
 joined_near (Some a) None is also = is
 joined_near (Some a) (Some b) is also = record {

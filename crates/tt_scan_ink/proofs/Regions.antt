@@ -16,8 +16,9 @@ use Rattle.tt_scan_dropouts.specs.Windows.{has, is_within}
 use Rattle.tt_scan_gaps.specs.declared.mark.Columns.{Columns}
 use Rattle.tt_scan_dropouts.specs.declared.pixel.Pixel.{Pixel}
 use Rattle.tt_scan_ink.specs.Ink.{count_of, ink_in, line_ink, lines_ink, pixel_box}
-use Rattle.tt_scan_ink.specs.Least.{AreNear, IsInk, IsLeastBox, covered, is_inked_by, shown}
-use Rattle.tt_scan_ink.specs.declared.ink.GlyphInk.{GlyphInk}
+use Rattle.tt_bitmap.specs.Inks.{IsInk, IsLeastBox}
+use Rattle.tt_scan_ink.specs.Least.{AreNear, covered, is_inked_by, shown}
+use Rattle.tt_bitmap.specs.declared.ink.LeastBox.{LeastBox}
 use Rattle.tt_scan_ink.proofs.Together.{ink_alike, joined_is, one_ink}
 
 same_number : (a b : ℤ) → int_eq a b ≡ true → a ≡ b
@@ -368,7 +369,7 @@ ink_is black columns rows order =
     (lines_are black columns rows.first (count_of rows))
 
 -- the least box of the region is the box of the definition
-pub found_is : (black : ℤ → ℤ → Bool) (columns rows : Columns) (x : Option GlyphInk) → AreNear columns
+pub found_is : (black : ℤ → ℤ → Bool) (columns rows : Columns) (x : Option LeastBox) → AreNear columns
     → IsInk (shown columns rows.first (count_of rows) black) x → x ≡ ink_in black columns rows
 found_is black columns rows x near is =
     one_ink (shown columns rows.first (count_of rows) black) x (ink_in black columns rows) is

@@ -1,7 +1,6 @@
 -- No part of the standard: the least box that holds the black pixels of a glyph. A column counts rightwards from the
 -- glyph's pen, a line counts pixel rows upwards from the base line.
 use Rattle.std.specs.Prelude.{◌≡◌, refl, ℕ, zero, suc, ◌+◌, Bool, ◌&&◌, if◌then◌else◌, ℤ, pos, negsuc, ◌+ℤ◌, ◌-ℤ◌, unsigned_abs, List, [], ◌∷◌, map, Option, Some, None}
-use Rattle.std.specs.Int.{int_max, int_min}
 use Rattle.std.specs.Ordering.{int_eq}
 use Rattle.tt_scan_edges.specs.Winding.{is_black}
 use Rattle.tt_scan_edges.specs.declared.edge.Edge.{Edge}
@@ -11,28 +10,15 @@ use Rattle.tt_scan_gaps.specs.Seen.{turned_round}
 use Rattle.tt_scan_dropouts.specs.Dropouts.{columns_of_rules, is_dropout, rows_of_rules}
 use Rattle.tt_scan_gaps.specs.declared.mark.Columns.{Columns}
 use Rattle.tt_scan_dropouts.specs.declared.boxed.BoxedRules.{BoxedRules}
-use Rattle.tt_scan_ink.specs.declared.ink.GlyphInk.{GlyphInk}
+use Rattle.tt_bitmap.specs.Inks.{joined}
+use Rattle.tt_bitmap.specs.declared.ink.LeastBox.{LeastBox}
 
 -- the box of one pixel
-abbrev pub pixel_box : ℤ → ℤ → GlyphInk
+abbrev pub pixel_box : ℤ → ℤ → LeastBox
 pixel_box c j = record { left = c; bottom = j; right = c; top = j }
 
--- the least box that holds two boxes
-abbrev pub joined_boxes : GlyphInk → GlyphInk → GlyphInk
-joined_boxes a b = record {
-  left = int_min a.left b.left;
-  bottom = int_min a.bottom b.bottom;
-  right = int_max a.right b.right;
-  top = int_max a.top b.top;
-}
-
-abbrev pub joined : Option GlyphInk → Option GlyphInk → Option GlyphInk
-joined None b = b
-joined (Some a) None = Some a
-joined (Some a) (Some b) = Some (joined_boxes a b)
-
 -- the box of the black pixels among a number of pixels of a line, from column c on
-abbrev pub line_ink : (ℤ → ℤ → Bool) → ℤ → ℤ → ℕ → Option GlyphInk
+abbrev pub line_ink : (ℤ → ℤ → Bool) → ℤ → ℤ → ℕ → Option LeastBox
 line_ink black j c zero = None
 line_ink black j c (suc n) =
     joined (if black c j then Some (pixel_box c j) else None) (line_ink black j (c +ℤ pos 1) n)
@@ -42,22 +28,22 @@ abbrev pub count_of : Columns → ℕ
 count_of b = unsigned_abs (b.last -ℤ b.first) + 1
 
 -- the box of the black pixels in some columns of a number of lines, from line j on
-abbrev pub lines_ink : (ℤ → ℤ → Bool) → Columns → ℤ → ℕ → Option GlyphInk
+abbrev pub lines_ink : (ℤ → ℤ → Bool) → Columns → ℤ → ℕ → Option LeastBox
 lines_ink black columns j zero = None
 lines_ink black columns j (suc n) =
     joined (line_ink black j columns.first (count_of columns)) (lines_ink black columns (j +ℤ pos 1) n)
 
 -- the box of the black pixels in some columns and rows
-unfoldable pub ink_in : (ℤ → ℤ → Bool) → Columns → Columns → Option GlyphInk
+unfoldable pub ink_in : (ℤ → ℤ → Bool) → Columns → Columns → Option LeastBox
 ink_in black columns rows = lines_ink black columns rows.first (count_of rows)
 
 -- the box of what edges blacken, which is sought in the box of the edges
-abbrev pub edges_ink : List Edge → Option GlyphInk
+abbrev pub edges_ink : List Edge → Option LeastBox
 edges_ink es =
     ink_in (λ c j. is_black es (centre c) (centre j)) (columns_of es) (columns_of (map turned_round es))
 
 -- the box of the dropouts of contours, which is sought in the glyph's box, and next to it where dots are drawn
-abbrev pub dropouts_ink : BoxedRules → List (List Edge) → Option GlyphInk
+abbrev pub dropouts_ink : BoxedRules → List (List Edge) → Option LeastBox
 dropouts_ink rules contours = ink_in (is_dropout rules contours) (columns_of_rules rules) (rows_of_rules rules)
 
 -- worked values: two pixels, and a pixel outside the columns and rows of the search

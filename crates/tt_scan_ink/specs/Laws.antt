@@ -1,13 +1,12 @@
 -- Lemmas about the definitions: the box holds all black pixels of the plane, and no smaller box does.
-use Rattle.std.specs.Prelude.{Bool, ◌||◌, ℤ, All, List, Option}
+use Rattle.std.specs.Prelude.{All, List}
 use Rattle.tt_scan.specs.Contours.{IsClosed}
 use Rattle.tt_scan_edges.specs.declared.edge.Edge.{Edge}
 use Rattle.tt_scan_dropouts.specs.Dropouts.{edges_of, is_dropout, is_inked}
 use Rattle.tt_scan_gaps.specs.Boxes.{HoldsEdges}
 use Rattle.tt_scan_dropouts.specs.declared.boxed.BoxedRules.{BoxedRules}
-use Rattle.tt_scan_ink.specs.Ink.{dropouts_ink, edges_ink, joined}
-use Rattle.tt_scan_ink.specs.Least.{IsInk}
-use Rattle.tt_scan_ink.specs.declared.ink.GlyphInk.{GlyphInk}
+use Rattle.tt_bitmap.specs.Inks.{IsInk}
+use Rattle.tt_scan_ink.specs.Ink.{dropouts_ink, edges_ink}
 
 -- where all contours are closed, their edges blacken nothing outside the box of the edges
 abbrev pub EdgesInkHoldsAll : Type 0
@@ -18,8 +17,3 @@ EdgesInkHoldsAll = (contours : List (List Edge)) → All IsClosed contours
 abbrev pub DropoutsInkHoldsAll : Type 0
 DropoutsInkHoldsAll = (rules : BoxedRules) (contours : List (List Edge)) → HoldsEdges rules.extents (edges_of contours)
     → IsInk (is_dropout rules contours) (dropouts_ink rules contours)
-
--- two boxes joined are the box of the pixels that are black in either
-abbrev pub JoinedHoldsBoth : Type 0
-JoinedHoldsBoth = (black other : ℤ → ℤ → Bool) (a b : Option GlyphInk) → IsInk black a → IsInk other b
-    → IsInk (λ c j. black c j || other c j) (joined a b)

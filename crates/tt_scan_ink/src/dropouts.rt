@@ -8,11 +8,12 @@ ghost use Rattle.tt_scan_dropouts.specs.Dropouts.{is_dropout};
 ghost use Rattle.tt_scan_dropouts.specs.Passes.{has_pixel};
 ghost use Rattle.tt_scan_dropouts.specs.Windows.{WindowFits, widened};
 ghost use Rattle.tt_scan_ink.specs.Ink.{count_of, dropouts_ink};
-ghost use Rattle.tt_scan_ink.specs.Least.{AreNear, IsInk, IsNear, shown};
+ghost use Rattle.tt_bitmap.specs.Inks.{IsInk};
+ghost use Rattle.tt_scan_ink.specs.Least.{AreNear, IsNear, shown};
 
-use crate::ink::{GlyphInk, joined};
 use crate::lines::count_of;
 use std::alloc::{AllocError, Global};
+use tt_bitmap::{LeastBox, joined};
 use tt_scan::Tape;
 use tt_scan_dropouts::{
     BAND_ROWS, BoxedRules, Columns, Outlined, Pixel, Window, dropouts, may_have_dropouts,
@@ -21,10 +22,10 @@ use tt_scan_dropouts::{
 
 /// The box of one pixel.
 #[inline(always)]
-fn pixel_ink(pixel: Pixel) -> Option<GlyphInk>
+fn pixel_ink(pixel: Pixel) -> Option<LeastBox>
     ensures { IsInk (has_pixel (pixel ∷ [])) result }
 {
-    Some(GlyphInk {
+    Some(LeastBox {
         left: pixel.column,
         bottom: pixel.row,
         right: pixel.column,
@@ -33,7 +34,7 @@ fn pixel_ink(pixel: Pixel) -> Option<GlyphInk>
 }
 
 /// The box of some pixels.
-fn pixels_ink(pixels: &[Pixel]) -> Option<GlyphInk>
+fn pixels_ink(pixels: &[Pixel]) -> Option<LeastBox>
     ensures { IsInk (has_pixel pixels.now) result }
 {
     let mut ink = None;
@@ -68,7 +69,7 @@ fn windows_ink(
     glyph: Outlined,
     columns: Columns,
     rows: Columns,
-) -> Result<Option<GlyphInk>, AllocError>
+) -> Result<Option<LeastBox>, AllocError>
     requires columns { AreNear columns }
     requires rows { AreNear rows }
     ensures { IfOk result (IsInk (shown columns rows.first (count_of rows)
@@ -95,7 +96,7 @@ pub fn dropouts_ink(
     rules: BoxedRules,
     tape: &Tape,
     ends: &[usize],
-) -> Result<Option<GlyphInk>, AllocError>
+) -> Result<Option<LeastBox>, AllocError>
     requires few { length tape.now.edges ≤ 2 ^ 32 }
     requires boxed { IsBoxOf rules.extents tape.now.edges }
     requires ends { AreEnds (length tape.now.edges) ends.now }

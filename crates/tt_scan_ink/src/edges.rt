@@ -4,24 +4,25 @@ ghost use Rattle.std.specs.Prelude.{◌≡◌, ◌+◌, ◌*◌, ◌^◌, ◌<�
 ghost use Rattle.tt_core.specs.Limits.{height_limit};
 ghost use Rattle.tt_scan_edges.specs.Winding.{FrameFits};
 ghost use Rattle.tt_scan_ink.specs.Ink.{count_of, edges_ink};
-ghost use Rattle.tt_scan_ink.specs.Least.{AreNear, IsInk, IsNear, covered, is_inked_by, shown};
+ghost use Rattle.tt_bitmap.specs.Inks.{IsInk};
+ghost use Rattle.tt_scan_ink.specs.Least.{AreNear, IsNear, covered, is_inked_by, shown};
 
-use crate::ink::{GlyphInk, joined};
 use crate::lines::count_of;
 use std::alloc::{AllocError, Global};
+use tt_bitmap::{LeastBox, joined};
 use tt_core::HEIGHT_LIMIT;
 use tt_scan::{EdgeList, Frame, Span, Sweep, Tape};
 use tt_scan_dropouts::{Columns, box_of};
 
 /// The box of a span on a line, cut to some columns.
 #[inline(always)]
-fn span_ink(span: Span, columns: Columns, line: i64) -> Option<GlyphInk>
+fn span_ink(span: Span, columns: Columns, line: i64) -> Option<LeastBox>
     ensures { IsInk (covered columns line (span ∷ [])) result }
 {
     let left = span.first.max(columns.first);
     let right = span.last.min(columns.last);
     if left <= right {
-        Some(GlyphInk {
+        Some(LeastBox {
             left,
             bottom: line,
             right,
@@ -33,7 +34,7 @@ fn span_ink(span: Span, columns: Columns, line: i64) -> Option<GlyphInk>
 }
 
 /// The box of spans on a line, cut to some columns.
-fn spans_ink(spans: &[Span], columns: Columns, line: i64) -> Option<GlyphInk>
+fn spans_ink(spans: &[Span], columns: Columns, line: i64) -> Option<LeastBox>
     ensures { IsInk (covered columns line spans.now) result }
 {
     let mut ink = None;
@@ -45,7 +46,7 @@ fn spans_ink(spans: &[Span], columns: Columns, line: i64) -> Option<GlyphInk>
 
 /// The box of the pixels that edges blacken in some columns of the rows of a tape's frame. The highest row is the line
 /// below line `past`.
-fn rows_ink(tape: &mut Tape, sweep: &mut Sweep, columns: Columns, past: i64) -> Option<GlyphInk>
+fn rows_ink(tape: &mut Tape, sweep: &mut Sweep, columns: Columns, past: i64) -> Option<LeastBox>
     requires columns { AreNear columns }
     requires margin { tape.old.frame.margin ≡ 0 }
     requires past { tape.old.frame.rise ≡ past }
@@ -89,7 +90,7 @@ fn band_ink(
     columns: Columns,
     past: i64,
     height: u32,
-) -> Result<(EdgeList, Option<GlyphInk>), AllocError>
+) -> Result<(EdgeList, Option<LeastBox>), AllocError>
     requires edges { length list.edges ≤ 2 ^ 19 }
     requires columns { AreNear columns }
     requires past { unsigned_abs past < 2 ^ 20 }
@@ -112,7 +113,7 @@ fn bands_ink(
     list: EdgeList,
     columns: Columns,
     rows: Columns,
-) -> Result<Option<GlyphInk>, AllocError>
+) -> Result<Option<LeastBox>, AllocError>
     requires edges { length list.edges ≤ 2 ^ 19 }
     requires columns { AreNear columns }
     requires rows { AreNear rows }
@@ -136,7 +137,7 @@ fn bands_ink(
 /// The least box that holds the pixels that edges blacken by the scan converter's rules 1 and 2, in the box of the
 /// edges; None where no pixel is black there. Closed contours blacken nothing outside the box of the edges. Edges are
 /// in 1/8192 pixel. Error: memory ran out.
-pub fn edges_ink(alloc: Global, list: EdgeList) -> Result<Option<GlyphInk>, AllocError>
+pub fn edges_ink(alloc: Global, list: EdgeList) -> Result<Option<LeastBox>, AllocError>
     requires few { length list.edges ≤ 2 ^ 19 }
     ensures exact { IfOk result (λ ink. ink ≡ edges_ink list.edges) }
     ensures near { IfOk result (λ ink. IfSome ink IsNear) }

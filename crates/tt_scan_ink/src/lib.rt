@@ -1,7 +1,6 @@
 //! The least box that holds the black pixels of one glyph, inside and outside any picture.
 //!
 //! ```text
-//! ink.rt        a box, and two joined
 //! edges.rt      the box of the pixels that edges blacken by rules 1 and 2, line by line
 //! dropouts.rt   the box of the dropouts, window by window
 //! lines.rt      the number of columns or lines of a box
@@ -11,10 +10,8 @@
 
 mod dropouts;
 mod edges;
-mod ink;
 pub mod laws;
 mod lines;
 
 pub use dropouts::dropouts_ink;
 pub use edges::edges_ink;
-pub use ink::{GlyphInk, joined};

@@ -6,7 +6,8 @@ use Rattle.tt_scan_edges.specs.declared.edge.Frame.{Frame}
 use Rattle.tt_scan_edges.specs.Winding.{is_black, column_x, row_y}
 use Rattle.tt_scan_dropouts.specs.Pictures.{column_at, line_at}
 use Rattle.tt_strike.specs.Laws.{MarginMoves, GlyphsByThemselves, AreUnfilled, UnfilledAreEdges}
-use Rattle.tt_picture.specs.Pixels.{Shape, is_filled, some_black, some_filled}
+use Rattle.tt_glyph_pixels.specs.Shown.{is_filled}
+use Rattle.tt_picture.specs.Pixels.{Shape, some_black, some_filled}
 use Rattle.tt_picture.proofs.Blackened.{or_false, or_or}
 
 -- a greater margin does not move a column and a row of the outline

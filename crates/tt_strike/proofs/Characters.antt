@@ -3,11 +3,11 @@ use Rattle.std.proofs.Common.{◌≡◌, refl, ap, ℕ, zero, suc, ◌+◌, ◌<
 use Rattle.tt_line.specs.Steps.{kerning_before, stepped}
 use Rattle.tt_metrics.specs.Metrics.{Metrics}
 use Rattle.tt_scan_edges.specs.declared.edge.Frame.{Frame}
-use Rattle.tt_scan_ink.specs.declared.ink.GlyphInk.{GlyphInk}
+use Rattle.tt_bitmap.specs.declared.ink.LeastBox.{LeastBox}
 use Rattle.tt_strike.specs.declared.measuring.CharacterMeasure.{CharacterMeasure}
 use Rattle.tt_strike.specs.Measures.{character_at, characters_at}
 
-pub length-characters : (m : Metrics) (step : ℕ → ℤ → ℕ) (f : Frame) (inked : ℕ → Option GlyphInk) (gs : List (ℕ × ℕ))
+pub length-characters : (m : Metrics) (step : ℕ → ℤ → ℕ) (f : Frame) (inked : ℕ → Option LeastBox) (gs : List (ℕ × ℕ))
     → length (characters_at m step f inked gs) ≡ length gs
 length-characters m step f inked [] = refl
 length-characters m step f inked (g ∷ gs) = ap (λ (n : ℕ). suc n) (length-characters m step f inked gs)
@@ -17,7 +17,7 @@ unfoldable pub step_at : Metrics → (ℕ → ℤ → ℕ) → List (ℕ × ℕ)
 step_at m step gs i =
     step (get_or gs i (0, 0)).0 (kerning_before m (get_or gs i (0, 0)).0 (map (λ (g : ℕ × ℕ). g.0) (drop (i + 1) gs)))
 
-pub character_of : (m : Metrics) (step : ℕ → ℤ → ℕ) (f : Frame) (inked : ℕ → Option GlyphInk) (gs : List (ℕ × ℕ)) (i : ℕ)
+pub character_of : (m : Metrics) (step : ℕ → ℤ → ℕ) (f : Frame) (inked : ℕ → Option LeastBox) (gs : List (ℕ × ℕ)) (i : ℕ)
     (d : CharacterMeasure) → i < length gs
     → get_or (characters_at m step f inked gs) i d ≡ character_at f inked (get_or gs i (0, 0)) (step_at m step gs i)
 unfolding step_at

@@ -1,12 +1,10 @@
 -- What a line takes of the budget of a call of many lines.
-use Rattle.std.proofs.Common.{◌≡◌, ◌∙◌, refl, ap, Bool, ℕ, List, map, None, Ok}
+use Rattle.std.proofs.Common.{◌≡◌, ◌∙◌, refl, ap, ℕ, List, map, None, Ok}
 use Rattle.tt_fit.specs.Fitting.{Fitter}
 use Rattle.tt_fit.specs.Laws.{UnboundedStays}
 use Rattle.tt_line.specs.Layout.{Placement}
 use Rattle.tt_strike.specs.Costs.{cost_by, cost_of, line_cost}
-use Rattle.tt_picture.specs.Glyphs.{Glyph}
 use Rattle.tt_strike.specs.Job.{Job}
-use Rattle.tt_strike.specs.Made.{AreMade}
 use Rattle.tt_strike.specs.Picture.{edges_tested, laid_out, points_tested, setting_in, shapes_in}
 use Rattle.tt_picture.specs.Pixels.{Shape}
 use Rattle.tt_strike.specs.Refusals.{as_job}
@@ -23,12 +21,6 @@ pub costed : (face : Face) (a : Job) (l : Placement) (s : Fitter) (shapes : List
     → line_cost face a l ≡ Ok (cost_of (work_left s (map (λ g. g.0) l.glyphs)) (crossings_in shapes))
 unfolding line_cost
 costed face a l s shapes opened few fitted seldom = rw (opened, few, fitted, seldom) refl
-
-pub costed_as_made : {cached : Bool} (face : Face) (a : Job) (l : Placement) (gs : List Glyph)
-    → (made : AreMade cached face a l gs)
-    → line_cost face a l ≡ Ok (cost_of (work_left made.setting (map (λ g. g.0) l.glyphs)) (crossings_in made.shapes))
-costed_as_made face a l gs made =
-    costed face a l made.setting made.shapes made.opened made.few made.fitted made.seldom
 
 -- the cost of a text is that of its line
 pub cost_of_line : (face : Face) (a : Job) (l : Placement) (n : ℕ) → laid_out face a ≡ Ok l → cost_by face a ≡ Ok n

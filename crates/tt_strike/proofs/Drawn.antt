@@ -1,19 +1,25 @@
 -- Glyphs drawn in order: the fault of the first that fails is the answer.
 use Rattle.std.proofs.Common.{◌≡◌, ℕ, zero, suc, ◌<◌, List, [], ◌∷◌, length, map, get_or, slice_index, Some, Ok, Err, inl, inr, refl, arith}
 use Rattle.std.specs.List.{slice_get}
+use Rattle.std.specs.Prelude.{IfSome}
 use Rattle.std.proofs.lemmas.List.{length-map}
 use Rattle.std.proofs.lemmas.Option.{slice_get_within, slice_get-get_or}
 use Rattle.tt_core.specs.Chains.{came-through, was-err}
 use Rattle.tt_core.specs.Faults.{Fault}
 use Rattle.tt_core.specs.Directory.{HasNo}
-use Rattle.tt_core.specs.Outcomes.{each}
+use Rattle.tt_core.specs.Outcomes.{each, font_fault}
+use Rattle.tt_core.specs.declared.font_fault.FontFault.{FontFault}
+use Rattle.tt_core.specs.declared.font_fault.FontFault.TheVariants as font
 use Rattle.tt_core.proofs.Each.{each-failed, each-made}
 use Rattle.tt_fit.specs.Defects.{IsOutlineDefect}
 use Rattle.tt_fit.specs.Fitting.{Fitter, fitted_outline}
 use Rattle.tt_fit_outline.specs.Outline.{Outline}
 use Rattle.tt_fit.proofs.Standing.{faults-stand, outlines-whole}
 use Rattle.tt_strike.specs.Defects.{IsGlyphDefect}
+use Rattle.tt_picture.specs.Distinct.{distinct}
 use Rattle.tt_picture.specs.Shapes.{glyph_shape}
+use Rattle.tt_picture.specs.Steps.{outlines_by}
+use Rattle.tt_picture.proofs.LineShapes.{fault_of_line}
 use Rattle.tt_picture.specs.Pixels.{Shape}
 
 -- a glyph that fails has no outline, and one that is made has one
@@ -33,6 +39,13 @@ number-at : (gs : List (ℕ × ℕ)) (i : ℕ) (g : ℕ × ℕ) → slice_get gs
 number-at [] i g there = absurd cc
 number-at (z ∷ gs) zero g there = let same : z ≡ g = cc in rw same refl
 number-at (z ∷ gs) (suc i) g there = number-at gs i g there
+
+-- where a distinct glyph of a line fails first, the line fails with its fault
+pub line_fails : (maker : ℕ → Fitter) (gs : List (ℕ × ℕ)) (e : FontFault)
+    → IfSome (font_fault e) (λ f. outlines_by maker (distinct (map (λ g. g.0) gs)) ≡ Err f)
+    → IfSome (font_fault e) (λ f. each (glyph_shape maker) gs ≡ Err f)
+line_fails maker gs (font.Font f) fails = fault_of_line maker (distinct (map (λ g. g.0) gs)) gs f refl fails
+line_fails maker gs font.Memory fails = tt
 
 pub defect_of_line : (maker : ℕ → Fitter) (gs : List (ℕ × ℕ)) (e : Fault) → each (glyph_shape maker) gs ≡ Err e → IsGlyphDefect maker
     (map (λ g. g.0) gs) e

@@ -5,7 +5,7 @@ use Rattle.tt_core.specs.Chains.{came-through}
 use Rattle.tt_core.specs.Outcomes.{each}
 use Rattle.tt_fit.specs.Fitting.{Fitter}
 use Rattle.tt_line.specs.Layout.{Placement}
-use Rattle.tt_scan_ink.specs.Least.{IsInk}
+use Rattle.tt_bitmap.specs.Inks.{IsInk}
 use Rattle.tt_strike.specs.Work.{line_fitter}
 use Rattle.tt_strike.specs.Grown.{before, grown, grown_line, grown_placement, lacking, past, with_sides}
 use Rattle.tt_strike.specs.InkLaws.{AreNeeded, GrownAddsFewest, IsLeast, is_ink}

@@ -9,7 +9,7 @@ use Rattle.tt_core.specs.Outcomes.{each}
 use Rattle.tt_fit.specs.Fitting.{Fitter}
 use Rattle.tt_line.specs.Layout.{Placement}
 use Rattle.tt_scan_edges.specs.declared.edge.Frame.{Frame}
-use Rattle.tt_scan_ink.specs.Least.{IsInk}
+use Rattle.tt_bitmap.specs.Inks.{IsInk}
 use Rattle.tt_strike.specs.Work.{line_fitter}
 use Rattle.tt_strike.specs.Grown.{before, grown, grown_line, grown_placement, lacking, not_large, past, with_sides}
 use Rattle.tt_strike.specs.InkLaws.{GrownCutsNone, IsLeast, IsInPicture, line_of}

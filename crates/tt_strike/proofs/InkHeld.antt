@@ -23,11 +23,11 @@ use Rattle.tt_scan_dropouts.specs.Laws.{outline_moved, rules_moved}
 use Rattle.tt_scan_dropouts.specs.Pictures.{column_at, line_at}
 use Rattle.tt_scan_dropouts.specs.declared.boxed.BoxedRules.{BoxedRules}
 use Rattle.tt_scan_dropouts.proofs.MovedDots.{dropouts_move}
-use Rattle.tt_scan_ink.specs.Ink as ink
+use Rattle.tt_bitmap.specs.Inks as ink
 use Rattle.tt_scan_ink.specs.Ink.{edges_ink}
 use Rattle.tt_scan_ink.specs.Laws.{DropoutsInkHoldsAll, EdgesInkHoldsAll}
-use Rattle.tt_scan_ink.specs.Least.{IsInk, IsLeastBox}
-use Rattle.tt_scan_ink.specs.declared.ink.GlyphInk.{GlyphInk}
+use Rattle.tt_bitmap.specs.Inks.{IsInk, IsLeastBox}
+use Rattle.tt_bitmap.specs.declared.ink.LeastBox.{LeastBox}
 use Rattle.tt_scan_ink.proofs.Together.{ink_alike, joined_is}
 use Rattle.tt_strike.specs.Work.{line_fitter}
 use Rattle.tt_picture.specs.Ink.{all_joined, box_at, column_of, filled_ink, glyph_ink, ink_at, ink_by, joined, outline_ink, row_of}
@@ -37,7 +37,8 @@ use Rattle.tt_metrics.specs.Metrics.{Metrics}
 use Rattle.tt_strike.specs.Measures.{Measure, characters_at, line_ink, line_step, measure_by, measured_line}
 use Rattle.tt_picture.specs.Shapes.{chords_with, contours_of, edges_at, extents_of, filled_at, filled_by, glyph_shape, offset_at, rules_for}
 use Rattle.tt_strike.specs.Picture.{frame_of, line_shapes, setting_in}
-use Rattle.tt_picture.specs.Pixels.{Shape, is_filled, some_black, some_filled}
+use Rattle.tt_glyph_pixels.specs.Shown.{is_filled}
+use Rattle.tt_picture.specs.Pixels.{Shape, some_black, some_filled}
 use Rattle.tt_strike.specs.Refusals.{as_font}
 use Rattle.tt_face.specs.Faces.{Face}
 use Rattle.tt_picture.specs.declared.ink_box.InkBox.{InkBox}
@@ -126,10 +127,10 @@ glyph_held laws s g = fitted_held laws s g (fitted_outline s g)
 
 -- a box of a picture as a box of a glyph, whose lines are the rows of the picture
 
-abbrev view : InkBox → GlyphInk
+abbrev view : InkBox → LeastBox
 view b = record { left = b.left; bottom = b.top; right = b.right; top = b.bottom }
 
-abbrev pub seen : Option InkBox → Option GlyphInk
+abbrev pub seen : Option InkBox → Option LeastBox
 seen None = None
 seen (Some b) = Some (view b)
 
@@ -164,7 +165,7 @@ there f pen black c j is =
     let line : line_of f (row_of f j) ≡ j = omega (arith, ints) in
     ap (λ k. black k (line_of f (row_of f j))) column ∙ ap (black c) line ∙ is
 
-least_there : (f : Frame) (pen : ℕ) (black : ℤ → ℤ → Bool) (b : GlyphInk) → IsLeastBox black b
+least_there : (f : Frame) (pen : ℕ) (black : ℤ → ℤ → Bool) (b : LeastBox) → IsLeastBox black b
     → IsLeastBox (from_place f pen black) (view (box_at f pen b))
 least_there f pen black b least = record {
   within = λ c r is.
@@ -181,7 +182,7 @@ least_there f pen black b least = record {
   top = (column_of f pen least.bottom.0, there f pen black least.bottom.0 b.bottom least.bottom.1);
 }
 
-place_held : (f : Frame) (pen : ℕ) (black : ℤ → ℤ → Bool) (x : Option GlyphInk) → IsInk black x
+place_held : (f : Frame) (pen : ℕ) (black : ℤ → ℤ → Bool) (x : Option LeastBox) → IsInk black x
     → IsInk (from_place f pen black) (seen (ink_at f pen x))
 place_held f pen black None none = λ c r. none (c -ℤ pos (pen + f.margin)) (line_of f r)
 place_held f pen black (Some b) least = least_there f pen black b least

@@ -15,7 +15,8 @@ use Rattle.tt_strike.specs.Grown.{with_sides}
 use Rattle.tt_strike.specs.Laws.{SidesMove}
 use Rattle.tt_picture.specs.Shapes.{chords_with, contours_of, edges_at, filled_at, filled_by, glyph_shape, shape_at}
 use Rattle.tt_strike.specs.Picture.{frame_of}
-use Rattle.tt_picture.specs.Pixels.{Shape, is_filled, some_black, some_filled}
+use Rattle.tt_glyph_pixels.specs.Shown.{is_filled}
+use Rattle.tt_picture.specs.Pixels.{Shape, some_black, some_filled}
 use Rattle.tt_picture.proofs.Standings.{filled_from_pen, from_pen}
 
 -- one glyph, in a frame with m more rows above

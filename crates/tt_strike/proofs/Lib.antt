@@ -10,16 +10,16 @@ mod Listing
 mod Whole
 pub mod Stopped
 pub mod Setting
-mod Caches
+pub mod Caches
 pub mod Textless
 pub mod Made
-mod GrownStops
 mod Larger
 pub mod Enlarged
 mod Agreeing
 mod SidesRefuse
 pub mod Costed
-mod Needed
+mod FewCrossings
+pub mod OneLine
 pub mod Placed
 pub mod Stepped
 mod Limited

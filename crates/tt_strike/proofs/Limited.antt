@@ -1,6 +1,7 @@
 -- The edges of a line's glyphs, within their limits and past them.
-use Rattle.std.proofs.Common.{◌≡◌, refl, ℕ, ◌+◌, ◌<◌, ◌≤◌, nat_lt, true, false, Bool, if◌then◌else◌, List, [], ◌∷◌, ◌++◌, map, Option, Result, Ok, Err, arith}
+use Rattle.std.proofs.Common.{◌≡◌, refl, ℕ, ◌+◌, ◌-◌, ◌^◌, ◌<◌, ◌≤◌, nat_lt, true, false, Bool, if◌then◌else◌, List, [], ◌∷◌, ◌++◌, map, Option, Result, Ok, Err, arith}
 use Rattle.std.specs.List.{sum_by}
+use Rattle.std.specs.Prelude.{min}
 use Rattle.std.proofs.lemmas.Bool.Decides.{nat_tests}
 use Rattle.std.proofs.lemmas.List.Elements.{All-head, All-tail}
 use Rattle.std.proofs.lemmas.List.Sums.{sum_by-cons, sum_by_push}
@@ -12,12 +13,10 @@ use Rattle.tt_fit_outline.specs.Outline.{Outline}
 use Rattle.tt_fit.specs.declared.programs.Fit.{Fit}
 use Rattle.tt_picture.specs.Distinct.{distinct, distinct_after, is_among, with_glyph}
 use Rattle.tt_picture.specs.Fitted.{AreFitted, FittedBody, FittedGlyph, IsFitted, IsFittedBody, fitted_crossings, fitted_numbers, kept, made_crossings, outlined}
-use Rattle.tt_picture.specs.Glyphs.{AreOfLine, Glyph, crossings_standing}
 use Rattle.tt_picture.specs.Pixels.{Shape}
 use Rattle.tt_picture.specs.Shapes.{chords_with, crossings_in, edges_at, filled_at, filled_by, filling_crossings, glyph_shape}
 use Rattle.tt_picture.proofs.Standings.{counts_from_pen, filling_from_pen}
 use Rattle.tt_scan_dropouts.specs.Counted.{edges_counted}
-use Rattle.tt_scan_edges.specs.declared.edge.Frame.{Frame}
 use Rattle.tt_strike.proofs.Larger.{first_of}
 use Rattle.tt_strike.specs.Refusals.{as_job, job}
 use Rattle.tt_strike.specs.Work.{chord_limit, crossings_allowed, edges_limited, is_bounded, work_tested}
@@ -34,6 +33,20 @@ in_limit how limit work bounded few =
     let within : nat_lt limit work ≡ false = grind (arith, nat_tests) in
     rw (bounded, within) refl
 
+-- crossings that are counted up to 2 ^ 64 - 1
+pub count_over : (how : Fit) (most work count : ℕ) → is_bounded how ≡ true → count ≡ min work (2 ^ 64 - 1) → most < count
+    → work_tested how most work ≡ Err fault.WorkLarge
+count_over how most work count bounded is past = past_limit how most work bounded (omega (arith, is, past))
+
+pub count_within : (how : Fit) (most work count : ℕ) → is_bounded how ≡ true → count ≡ min work (2 ^ 64 - 1) → count ≤ most
+    → most < 2 ^ 64 - 1 → (work_tested how most work ≡ Ok tt) × (count ≡ work)
+count_within how most work count bounded is within under =
+    (in_limit how most work bounded (omega (arith, is, within, under)), omega (arith, is, within, under))
+
+pub unbounded_work : (how : Fit) (most work : ℕ) → is_bounded how ≡ false → work_tested how most work ≡ Ok tt
+unfolding work_tested
+unbounded_work how most work other = rw other refl
+
 pub too_many_chords : (how : Fit) (left : Option ℕ) (chords crossings : ℕ) → is_bounded how ≡ true → 32000000 < chords
     → as_job (edges_limited how left chords crossings) ≡ Err (job fault.WorkLarge)
 unfolding edges_limited
@@ -44,14 +57,6 @@ pub few_chords : (how : Fit) (left : Option ℕ) (chords crossings : ℕ) → is
     → edges_limited how left chords crossings ≡ work_tested how (crossings_allowed left) crossings
 unfolding edges_limited
 few_chords how left chords crossings bounded few = rw (in_limit how chord_limit chords bounded few) refl
-
--- the glyphs of a line count as its shapes do
-pub standing_counts : {cached : Bool} (maker : ℕ → Fitter) (f : Frame) (line : List (ℕ × ℕ)) (gs : List Glyph) (shapes : List Shape)
-    → AreOfLine cached maker f line gs → each (glyph_shape maker) line ≡ Ok shapes
-    → crossings_standing gs ≡ crossings_in shapes
-standing_counts maker f line gs shapes of made =
-    let stood = rw made at of.stand in
-    stood.crossings
 
 either_way : (b : Bool)
     → as_job {X = Unit {0}} ((if b then Err fault.WorkLarge else Ok (tt {0})) >>= λ (u : Unit {0}). Err fault.WorkLarge) ≡ Err (job fault.WorkLarge)
@@ -74,18 +79,18 @@ crosses_by s n (Err f) = 0
 abbrev crosses : (ℕ → Fitter) → ℕ → ℕ
 crosses maker n = crosses_by (maker n) n (fitted_outline (maker n) n)
 
-body_crosses : (cached : Bool) (s : Fitter) (n : ℕ) (o : Outline) (body : FittedBody) → IsFittedBody cached s n o body
+body_crosses : (s : Fitter) (n : ℕ) (o : Outline) (body : FittedBody) → IsFittedBody s n o body
     → made_crossings body ≡ crosses_by s n (Ok o)
-body_crosses cached s n o (outlined m) is = rw (is.rule, is.outline, is.filled) refl
-body_crosses cached s n o (kept k) is = is.2.cut.crossings
+body_crosses s n o (outlined m) is = rw (is.rule, is.outline, is.filled) refl
+body_crosses s n o (kept k) is = is.1.cut.crossings
 
-fitted_crosses : {cached : Bool} (maker : ℕ → Fitter) (fs : List FittedGlyph) → AreFitted cached maker fs
+fitted_crosses : (maker : ℕ → Fitter) (fs : List FittedGlyph) → AreFitted maker fs
     → fitted_crossings fs ≡ sum_by (crosses maker) (fitted_numbers fs)
 fitted_crosses maker [] fitted = refl
-fitted_crosses {cached} maker (f ∷ fs) fitted =
-    let P : FittedGlyph → Type 0 = λ g. IsFitted cached (maker g.number) g in
+fitted_crosses maker (f ∷ fs) fitted =
+    let P : FittedGlyph → Type 0 = λ g. IsFitted (maker g.number) g in
     let one = All-head P f fs fitted in
-    let own : made_crossings f.body ≡ crosses maker f.number = rw one.outline (body_crosses cached (maker f.number) f.number one.shape f.body one.body) in
+    let own : made_crossings f.body ≡ crosses maker f.number = rw one.outline (body_crosses (maker f.number) f.number one.shape f.body one.body) in
     let rest = fitted_crosses maker fs (All-tail P f fs fitted) in
     let first = sum_by-cons (λ (g : FittedGlyph). made_crossings g.body) f fs in
     let number = sum_by-cons (crosses maker) f.number (fitted_numbers fs) in
@@ -119,8 +124,8 @@ few_distinct f before (g ∷ gs) =
     omega (arith, rest, one, first)
 
 -- the distinct glyphs of a line have no more crossings than the line
-pub few_fitted : {cached : Bool} (maker : ℕ → Fitter) (fs : List FittedGlyph) (line : List (ℕ × ℕ)) (shapes : List Shape)
-    → AreFitted cached maker fs → fitted_numbers fs ≡ distinct (map (λ g. g.0) line) → each (glyph_shape maker) line ≡ Ok shapes
+pub few_fitted : (maker : ℕ → Fitter) (fs : List FittedGlyph) (line : List (ℕ × ℕ)) (shapes : List Shape)
+    → AreFitted maker fs → fitted_numbers fs ≡ distinct (map (λ g. g.0) line) → each (glyph_shape maker) line ≡ Ok shapes
     → fitted_crossings fs ≤ crossings_in shapes
 few_fitted maker fs line shapes fitted numbers made =
     let own : fitted_crossings fs ≡ sum_by (crosses maker) (distinct (map (λ g. g.0) line)) = rw numbers at (fitted_crosses maker fs fitted) in

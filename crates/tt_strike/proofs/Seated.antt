@@ -6,7 +6,7 @@ use Rattle.std.proofs.lemmas.List.Elements.{All-cons, All-nil}
 use Rattle.tt_picture.specs.Distinct.{is_among}
 use Rattle.tt_picture.specs.Glyphs.{ArePlaces}
 use Rattle.tt_picture.proofs.Keeping.{is_there_at}
-use Rattle.tt_picture.proofs.Reframed.{seat_of}
+use Rattle.tt_picture.proofs.Seats.{seat_of}
 
 neither : (a b : Bool) → (a || b) ≡ false → (a ≡ false) × (b ≡ false)
 neither true b is = absurd cc

@@ -207,7 +207,7 @@ extent_by_steps_tells face a s os job_of.MarginRange bounded there made stands =
 extent_by_steps_tells face a s os job_of.WorkLarge bounded there made stands = absurd stands
 
 -- the chords of the made glyphs are those of the definition
-pub chords_made : {cached : Bool} (s : Fitter) (gs : List ℕ) (fs : List FittedGlyph) → AreFitted cached (line_fitter s gs) fs
+pub chords_made : (s : Fitter) (gs : List ℕ) (fs : List FittedGlyph) → AreFitted (line_fitter s gs) fs
     → fitted_numbers fs ≡ distinct gs → fitted_chords fs ≡ chords_in s gs
 chords_made s gs fs fitted numbers =
     let maker = line_fitter s gs in
@@ -221,44 +221,44 @@ pub outlines_pass : (s : Fitter) (a : Job) (gs : List ℕ) (os : List Outline)
 outlines_pass s a gs os few made = rw (few, made) refl
 
 -- a text that is laid out by the steps of its outlines, with the work that they left
-pub record IsOutlinedLine (cached : Bool) (face : Face) (a : Job) (s : Fitter) (l : Placement) (fs : List FittedGlyph) (left : Option ℕ) : Type 0 where
+pub record IsOutlinedLine (face : Face) (a : Job) (s : Fitter) (l : Placement) (fs : List FittedGlyph) (left : Option ℕ) : Type 0 where
   pub passes : tested a ≡ Ok tt
   pub bounded : is_bounded a.fit ≡ true
   pub there : setting_in face a ≡ Ok s
   pub points : work_tested a.fit point_work_limit (points_in s (text_glyphs face.cmap a.text)) ≡ Ok tt
   pub outlines : (os : List Outline) × (outlines_in s (text_glyphs face.cmap a.text) ≡ Ok os)
-  pub fitted : AreFitted cached (line_fitter s (text_glyphs face.cmap a.text)) fs
+  pub fitted : AreFitted (line_fitter s (text_glyphs face.cmap a.text)) fs
   pub numbers : fitted_numbers fs ≡ distinct (text_glyphs face.cmap a.text)
   pub glyphs : map (λ g. g.0) l.glyphs ≡ text_glyphs face.cmap a.text
   pub laid : laid_at face.metrics a.ppem a.margin (text_glyphs face.cmap a.text) (steps_in face.metrics a.ppem s (text_glyphs face.cmap a.text)) ≡ Ok l
   pub work : left ≡ work_left s (text_glyphs face.cmap a.text)
 
-pub line_laid : {cached : Bool} {left : Option ℕ} (face : Face) (a : Job) (s : Fitter) (l : Placement) (fs : List FittedGlyph)
-    → IsOutlinedLine cached face a s l fs left → laid_out face a ≡ Ok l
+pub line_laid : {left : Option ℕ} (face : Face) (a : Job) (s : Fitter) (l : Placement) (fs : List FittedGlyph)
+    → IsOutlinedLine face a s l fs left → laid_out face a ≡ Ok l
 line_laid face a s l fs is =
     laid_out_by_steps face a s is.outlines.0 l is.passes is.bounded is.there
     (outlines_pass s a (text_glyphs face.cmap a.text) is.outlines.0 is.points is.outlines.1) is.laid
 
-pub line_points : {cached : Bool} {left : Option ℕ} (face : Face) (a : Job) (s : Fitter) (l : Placement) (fs : List FittedGlyph)
-    → IsOutlinedLine cached face a s l fs left → as_job (points_tested s a l) ≡ Ok tt
+pub line_points : {left : Option ℕ} (face : Face) (a : Job) (s : Fitter) (l : Placement) (fs : List FittedGlyph)
+    → IsOutlinedLine face a s l fs left → as_job (points_tested s a l) ≡ Ok tt
 line_points face a s l fs is = rw (is.glyphs, is.points) refl
 
-pub line_made : {cached : Bool} {left : Option ℕ} (face : Face) (a : Job) (s : Fitter) (l : Placement) (fs : List FittedGlyph)
-    → IsOutlinedLine cached face a s l fs left
+pub line_made : {left : Option ℕ} (face : Face) (a : Job) (s : Fitter) (l : Placement) (fs : List FittedGlyph)
+    → IsOutlinedLine face a s l fs left
     → (shapes : List Shape) × (each (glyph_shape (line_fitter s (text_glyphs face.cmap a.text))) l.glyphs ≡ Ok shapes)
 line_made face a s l fs is =
     shapes_of_line (line_fitter s (text_glyphs face.cmap a.text)) fs l.glyphs is.fitted
     (all_among l.glyphs (fitted_numbers fs) (is.numbers ∙ ap distinct (sym is.glyphs)))
 
-pub line_edges : {cached : Bool} {left : Option ℕ} (face : Face) (a : Job) (s : Fitter) (l : Placement) (fs : List FittedGlyph) (shapes : List Shape)
-    → IsOutlinedLine cached face a s l fs left
+pub line_edges : {left : Option ℕ} (face : Face) (a : Job) (s : Fitter) (l : Placement) (fs : List FittedGlyph) (shapes : List Shape)
+    → IsOutlinedLine face a s l fs left
     → edges_limited a.fit left (fitted_chords fs) (crossings_in shapes) ≡ edges_tested s a l shapes
 line_edges face a s l fs shapes is =
     rw (is.glyphs, is.work, chords_made s (text_glyphs face.cmap a.text) fs is.fitted is.numbers) refl
 
 -- a stop at the edges of the line
-pub line_stops_text : {cached : Bool} {left : Option ℕ} (face : Face) (a : Job) (s : Fitter) (l : Placement) (fs : List FittedGlyph)
-    (shapes : List Shape) (e : DrawFault) → IsOutlinedLine cached face a s l fs left → shapes_in s l ≡ Ok shapes
+pub line_stops_text : {left : Option ℕ} (face : Face) (a : Job) (s : Fitter) (l : Placement) (fs : List FittedGlyph)
+    (shapes : List Shape) (e : DrawFault) → IsOutlinedLine face a s l fs left → shapes_in s l ≡ Ok shapes
     → IfSome (refusal e) (λ r. as_job (edges_tested s a l shapes) ≡ Err r) → IfSome (refusal e) (λ r. text_shapes face a ≡ Err r)
 line_stops_text face a s l fs shapes (draw.Font f) is made fails = absurd (not_of_job (edges_tested s a l shapes) f fails)
 line_stops_text face a s l fs shapes (draw.Job j) is made fails =
@@ -272,8 +272,8 @@ line_tells_no_defect P r (draw.Font f) fails = absurd (not_of_job r f fails)
 line_tells_no_defect P r (draw.Job j) fails = tt
 line_tells_no_defect P r draw.Memory fails = tt
 
-pub line_tells_refusal : {cached : Bool} {left : Option ℕ} (face : Face) (a : Job) (s : Fitter) (l : Placement) (fs : List FittedGlyph)
-    (shapes : List Shape) (e : DrawFault) → IsOutlinedLine cached face a s l fs left → shapes_in s l ≡ Ok shapes
+pub line_tells_refusal : {left : Option ℕ} (face : Face) (a : Job) (s : Fitter) (l : Placement) (fs : List FittedGlyph)
+    (shapes : List Shape) (e : DrawFault) → IsOutlinedLine face a s l fs left → shapes_in s l ≡ Ok shapes
     → IfSome (refusal e) (λ r. as_job (edges_tested s a l shapes) ≡ Err r) → IfSome (draw_job_fault e) (IsLineRefusal face a)
 line_tells_refusal face a s l fs shapes (draw.Font f) is made fails = tt
 line_tells_refusal face a s l fs shapes (draw.Job j) is made fails =

@@ -1,19 +1,17 @@
 -- What is made of a line that is laid out does not depend on the text of its job.
-use Rattle.std.proofs.Common.{◌≡◌, Bool, ℕ, List, refl}
+use Rattle.std.proofs.Common.{◌≡◌, ℕ, List, refl}
 use Rattle.tt_line.specs.Layout.{Placement}
 use Rattle.tt_picture.specs.Glyphs.{Glyph}
 use Rattle.tt_strike.specs.Costs.{line_cost}
 use Rattle.tt_strike.specs.Made.{AreMade, shapes_made}
-use Rattle.tt_strike.specs.Picture.{drawn}
-use Rattle.tt_strike.specs.Report.{line_report}
 use Rattle.tt_strike.specs.Strikes.{SizedFace, job_by, job_with}
 
 pub shapes_textless : (z : SizedFace) (text : List ℕ) (margin : ℕ) (l : Placement)
     → shapes_made z.face (job_by z text margin) l ≡ shapes_made z.face (job_with z margin) l
 shapes_textless z text margin l = refl
 
-pub made_textless : {cached : Bool} {gs : List Glyph} (z : SizedFace) (text : List ℕ) (margin : ℕ) (l : Placement)
-    → AreMade cached z.face (job_with z margin) l gs → AreMade cached z.face (job_by z text margin) l gs
+pub made_textless : {gs : List Glyph} (z : SizedFace) (text : List ℕ) (margin : ℕ) (l : Placement)
+    → AreMade z.face (job_with z margin) l gs → AreMade z.face (job_by z text margin) l gs
 made_textless z text margin l made = record {
   setting = made.setting;
   shapes = made.shapes;
@@ -23,21 +21,9 @@ made_textless z text margin l made = record {
   seldom = made.seldom;
   drawn = made.drawn;
   numbers = made.numbers;
-  within = made.within;
-  stand = made.stand;
 }
 
 pub cost_textless : (z : SizedFace) (text : List ℕ) (margin : ℕ) (l : Placement)
     → line_cost z.face (job_by z text margin) l ≡ line_cost z.face (job_with z margin) l
 unfolding line_cost
 cost_textless z text margin l = refl
-
-pub drawn_textless : (z : SizedFace) (text : List ℕ) (margin : ℕ) (l : Placement)
-    → drawn z.face (job_by z text margin) l ≡ drawn z.face (job_with z margin) l
-unfolding drawn
-drawn_textless z text margin l = refl
-
-pub report_textless : (z : SizedFace) (text : List ℕ) (margin : ℕ) (l : Placement)
-    → line_report z.face (job_by z text margin) l ≡ line_report z.face (job_with z margin) l
-unfolding line_report
-report_textless z text margin l = refl

@@ -11,7 +11,8 @@ use Rattle.tt_strike.specs.Grown.{grown_measured, grown_outcome, grown_placement
 use Rattle.tt_strike.specs.Job.{Job}
 use Rattle.tt_strike.specs.Measures.{Measure, measured_line}
 use Rattle.tt_strike.specs.Picture.{frame_of, laid_out, setting_in, shapes_in}
-use Rattle.tt_picture.specs.Pixels.{Shape, is_black_pixel, is_filled, some_black}
+use Rattle.tt_glyph_pixels.specs.Shown.{is_filled}
+use Rattle.tt_picture.specs.Pixels.{Shape, is_black_pixel, some_black}
 use Rattle.tt_strike.specs.Refusals.{Refused}
 use Rattle.tt_face.specs.Faces.{Face}
 use Rattle.tt_strike.specs.declared.growing.Sides.{Sides}

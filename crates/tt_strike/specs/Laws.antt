@@ -1,7 +1,8 @@
 -- Laws of the definitions. A font with a picture has no defect, and only fallback and best make a glyph unfitted. The
 -- others say which pixels are black with another margin, beside other glyphs, and without filled dropouts.
-use Rattle.std.specs.Prelude.{◌≡◌, ◌≢◌, refl, ℕ, ◌+◌, ◌||◌, true, false, pos, All, List, [], ◌∷◌, ◌++◌, ◌↔◌, ◌⊎◌, Option, Some, None, Ok, Err}
+use Rattle.std.specs.Prelude.{◌≡◌, ◌≢◌, refl, ℕ, ◌+◌, ◌≤◌, ◌||◌, true, false, pos, All, List, [], ◌∷◌, ◌++◌, ◌↔◌, ◌⊎◌, Option, Some, None, Ok, Err}
 use Rattle.tt_core.specs.Directory.{HasNo}
+use Rattle.tt_core.specs.Limits.{crossing_limit}
 use Rattle.tt_core.specs.Outcomes.{each}
 use Rattle.tt_face.specs.declared.rules.Opening.{Opening}
 use Rattle.tt_core.specs.declared.fault.JobFault.TheVariants as fault
@@ -20,12 +21,14 @@ use Rattle.tt_strike.specs.Grown.{grown_outcome, with_sides}
 use Rattle.tt_strike.specs.declared.growing.Sides.{Sides}
 use Rattle.tt_strike.specs.Picture as pictures
 use Rattle.tt_picture.specs.Pictures.{Image, image, picture}
-use Rattle.tt_picture.specs.Shapes.{glyph_shape}
+use Rattle.tt_picture.specs.Shapes.{crossings_in, glyph_shape}
 use Rattle.tt_strike.specs.Picture.{setting_in, frame_of, line_outcome, pictured, shapes_in, text_placed}
+use Rattle.tt_strike.specs.Made.{text_shapes}
 use Rattle.tt_strike.specs.Measures.{measured}
 use Rattle.tt_strike.specs.Refusals.{Refused, job}
 use Rattle.tt_picture.specs.Pixels.{Shape, some_black, is_black_pixel}
 use Rattle.tt_strike.specs.Report.{report_of}
+use Rattle.tt_strike.specs.Work.{is_bounded}
 use Rattle.tt_face.specs.Faces.{Face}
 use Rattle.tt_scan_gaps.specs.Gaps.{gives_way}
 
@@ -75,6 +78,11 @@ GlyphsByThemselves = (f : Frame) (glyphs others : List Shape) (c r : ℕ)
 -- no dropouts of some glyphs are filled
 abbrev pub AreUnfilled : List Shape → Type 0
 AreUnfilled glyphs = All (λ s. s.filled ≡ None) glyphs
+
+-- where work is bounded, the glyphs of a line that is not refused have few crossings, in its picture and outside
+abbrev pub BoundedLinesCrossFew : Type 0
+BoundedLinesCrossFew = (face : Face) (a : Job) (glyphs : List Shape) → is_bounded a.fit ≡ true
+    → text_shapes face a ≡ Ok glyphs → crossings_in glyphs ≤ crossing_limit
 
 -- unfilled glyphs are black exactly where their edges blacken
 abbrev pub UnfilledAreEdges : Type 0

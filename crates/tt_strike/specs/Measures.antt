@@ -9,7 +9,7 @@ use Rattle.tt_metrics.specs.Metrics.{Metrics}
 use Rattle.tt_fit.specs.declared.programs.Fit.{Fit}
 use Rattle.tt_picture.specs.Glyphs.{Glyph}
 use Rattle.tt_scan_edges.specs.declared.edge.Frame.{Frame}
-use Rattle.tt_scan_ink.specs.declared.ink.GlyphInk.{GlyphInk}
+use Rattle.tt_bitmap.specs.declared.ink.LeastBox.{LeastBox}
 use Rattle.tt_picture.specs.Ink.{all_joined, glyph_ink, ink_at}
 use Rattle.tt_picture.specs.Steps.{kerned_step}
 use Rattle.tt_strike.specs.Job.{Job}
@@ -39,7 +39,7 @@ measure_view m = record {
 }
 
 -- a glyph at its pen with its step, by the ink of each glyph at pen 0
-abbrev pub character_at : Frame → (ℕ → Option GlyphInk) → ℕ × ℕ → ℕ → CharacterMeasure
+abbrev pub character_at : Frame → (ℕ → Option LeastBox) → ℕ × ℕ → ℕ → CharacterMeasure
 character_at f inked g step = record {
   glyph = g.0;
   pen = pos (g.1 + f.margin);
@@ -48,7 +48,7 @@ character_at f inked g step = record {
 }
 
 -- the characters of a line, by the step of a glyph with its kerning
-abbrev pub characters_at : Metrics → (ℕ → ℤ → ℕ) → Frame → (ℕ → Option GlyphInk) → List (ℕ × ℕ) → List CharacterMeasure
+abbrev pub characters_at : Metrics → (ℕ → ℤ → ℕ) → Frame → (ℕ → Option LeastBox) → List (ℕ × ℕ) → List CharacterMeasure
 characters_at m step f inked [] = []
 characters_at m step f inked (g ∷ gs) =
     character_at f inked g (step g.0 (kerning_before m g.0 (map (λ h. h.0) gs))) ∷ characters_at m step f inked gs
@@ -58,7 +58,7 @@ abbrev pub ink_of : List CharacterMeasure → Option InkBox
 ink_of characters = all_joined None (map (λ c. c.ink) characters)
 
 -- the measure of a laid-out line, by the step and the ink of each glyph
-abbrev pub measure_by : Metrics → (ℕ → ℤ → ℕ) → ℕ → (ℕ → Option GlyphInk) → Placement → Measure
+abbrev pub measure_by : Metrics → (ℕ → ℤ → ℕ) → ℕ → (ℕ → Option LeastBox) → Placement → Measure
 measure_by m step margin inked line =
     let f = frame_of line margin in
     let characters = characters_at m step f inked line.glyphs in
@@ -71,7 +71,7 @@ measure_by m step margin inked line =
     }
 
 -- the ink of each glyph of a line, by its fitter
-abbrev pub line_ink : Fitter → Placement → ℕ → Option GlyphInk
+abbrev pub line_ink : Fitter → Placement → ℕ → Option LeastBox
 line_ink s line g = glyph_ink (line_fitter s (map (λ g. g.0) line.glyphs) g) g
 
 -- the step of each glyph of a line with its kerning: by its own advance, by its fitter, or by that of hmtx

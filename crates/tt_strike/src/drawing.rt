@@ -5,33 +5,32 @@ ghost use Rattle.tt_core.specs.Outcomes.{GivesUnless, IfTold, draw_font_fault, d
 ghost use Rattle.tt_line.specs.Layout.{text_glyphs};
 ghost use Rattle.tt_line.specs.Outcome.{placement_of};
 ghost use Rattle.tt_metrics.specs.Metrics.{glyphs_of};
-ghost use Rattle.tt_picture.specs.Cached.{is_there, limit_of};
-ghost use Rattle.tt_picture.specs.Glyphs.{AreSeated};
+ghost use Rattle.tt_picture.specs.Cached.{limit_of};
 ghost use Rattle.tt_picture.specs.Pictures.{image_of};
 ghost use Rattle.tt_strike.specs.Costs.{line_cost};
 ghost use Rattle.tt_strike.specs.Defects.{IsLineDefect, IsLineRefusal, TellsDefects};
 ghost use Rattle.tt_strike.specs.Made.{AreMade, shapes_made};
-ghost use Rattle.tt_strike.specs.Picture.{drawn, frame_of, laid_out, line_outcome};
+ghost use Rattle.tt_strike.specs.Picture.{frame_of, laid_out, line_outcome};
 ghost use Rattle.tt_strike.specs.Refusals.{refusal};
 ghost use Rattle.tt_strike.specs.Reported.{IsReported};
 ghost use Rattle.tt_strike.specs.Strikes.{IsCacheOf, job_by, job_with};
 ghost use Rattle.tt_strike.specs.Work.{is_bounded};
 
+use crate::distinct_glyphs::{DistinctGlyphs, distinct};
 use crate::laid::Laid;
 use crate::making::MadeLine;
 use crate::sized::SizedFace;
 use tt_core::DrawFault;
-use tt_picture::{Cache, Glyphs, Picture, line_glyphs};
+use tt_picture::{Cache, Glyphs, Picture, made_glyphs};
 
 impl<'f, 'a> SizedFace<'f, 'a> {
-    /// The glyphs of a laid-out line; only where work is not bounded. Errors: those of loca and glyf, of the programs,
-    /// and of the glyphs in the order of the line; Memory.
+    /// The glyphs of a laid-out line; only where work is not bounded. Those that may be and are small enough are cached.
+    /// Errors: those of loca and glyf, of the programs, and of the glyphs in the order of the line; Memory.
     pub fn tested_glyphs(&mut self, laid: &Laid, cache: &mut Cache) -> Result<Glyphs, DrawFault>
         requires known { All (λ g. g.0 < glyphs_of self.old.face.metrics) laid.now.line.glyphs.items }
         requires cache { IsCacheOf self.old cache.old }
         requires unbounded { is_bounded self.old.fit ≡ false }
-        ensures made { IfOk result (λ g. AreMade (is_there cache.old) self.old.face (job_with self.old laid.now.margin) (placement_of laid.now.line) g.made.items) }
-        ensures valid { IfOk result (λ g. AreSeated (glyphs_of self.old.face.metrics) g.places.items g.made.items) }
+        ensures made { IfOk result (λ g. AreMade self.old.face (job_with self.old laid.now.margin) (placement_of laid.now.line) g.made.items) }
         ensures cost { IfOk result (λ g. line_cost self.old.face (job_with self.old laid.now.margin) (placement_of laid.now.line) ≡ Ok g.cost) }
         ensures stops { IfTold refusal result (λ r. shapes_made self.old.face (job_with self.old laid.now.margin) (placement_of laid.now.line) ≡ Err r) }
         ensures cache { IsCacheOf self.old cache.new }
@@ -42,35 +41,18 @@ impl<'f, 'a> SizedFace<'f, 'a> {
     {
         tt_fit::laws::work_unfits();
         let source = self.source;
+        let count = source.face.metrics().glyphs();
+        let met = distinct(source.alloc, count, &laid.line.glyphs)?;
+        let DistinctGlyphs { places, numbers } = met;
         let mut fitter = self.maker.take(&source)?;
         let begun = fitter.work();
-        let count = source.face.metrics().glyphs();
-        let line = &laid.line;
-        let frame = laid.frame();
-        let mut glyphs = line_glyphs(source.alloc, &mut fitter, count, &line.glyphs, frame, cache)?;
-        glyphs.cost = 0;
+        let made = made_glyphs(source.alloc, &mut fitter, &numbers, cache)?;
         self.maker.give_back(fitter, begun);
-        Ok(glyphs)
-    }
-
-    /// The picture of a line that is laid out; only where work is not bounded. Errors: as `tested_glyphs`.
-    #[tactic(auto, unfolding(crate::specs::Picture::drawn, crate::specs::Report::line_report))]
-    pub(crate) fn draw_line(&mut self, laid: &Laid, cache: &mut Cache) -> Result<Picture, DrawFault>
-        requires known { All (λ g. g.0 < glyphs_of self.old.face.metrics) laid.now.line.glyphs.items }
-        requires cache { IsCacheOf self.old cache.old }
-        requires unbounded { is_bounded self.old.fit ≡ false }
-        ensures exact { GivesUnless refusal image_of result (drawn self.old.face (job_with self.old laid.now.margin) (placement_of laid.now.line)) }
-        ensures frame { IfOk result (λ p. p.frame ≡ frame_of (placement_of laid.now.line) laid.now.margin) }
-        ensures reported { IfOk result (IsReported self.old.face (job_with self.old laid.now.margin) (placement_of laid.now.line)) }
-        ensures cache { IsCacheOf self.old cache.new }
-        ensures limit { limit_of cache.new ≡ limit_of cache.old }
-        ensures same { self.new ≡ self.old }
-        ensures defects { TellsDefects draw_font_fault (IsLineDefect self.old.face (job_with self.old laid.now.margin) (map (λ g. g.0) laid.now.line.glyphs.items)) result }
-        ensures job { IfTold draw_job_fault result (λ j. ⊥) }
-    {
-        let glyphs = self.tested_glyphs(laid, cache)?;
-        let frame = laid.frame();
-        Ok(Picture::new(self.alloc(), frame, glyphs.made, glyphs.cost)?)
+        Ok(Glyphs {
+            places,
+            made,
+            cost: 0,
+        })
     }
 
     /// The picture of a text. Errors: as `make_line`.
@@ -94,6 +76,6 @@ impl<'f, 'a> SizedFace<'f, 'a> {
         let made = self.make_line(text, margin, cache)?;
         let MadeLine { laid, glyphs } = made;
         let frame = laid.frame();
-        Ok(Picture::new(self.alloc(), frame, glyphs.made, glyphs.cost)?)
+        Ok(Picture::new(self.alloc(), frame, &glyphs, &[laid.placed()])?)
     }
 }

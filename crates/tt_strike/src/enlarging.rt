@@ -1,13 +1,10 @@
-//! Measures and draws a line with the added columns and rows that its ink needs. Its programs run once, since their
-//! work is bounded with `Fit::Best`.
+//! Measures and draws a line with the added columns and rows that its ink needs. Its glyphs are made once for both.
 
-ghost use Rattle.std.specs.Prelude.{◌≡◌, map, Ok, Err, IfOk, IsOkAnd};
+ghost use Rattle.std.specs.Prelude.{◌≡◌, Ok, Err, IfOk, IsOkAnd};
 ghost use Rattle.tt_core.specs.Outcomes.{GivesUnless, IfTold, draw_font_fault};
 ghost use Rattle.tt_line.specs.Layout.{text_glyphs};
 ghost use Rattle.tt_line.specs.Outcome.{placement_of};
-ghost use Rattle.tt_metrics.specs.Metrics.{glyphs_of};
 ghost use Rattle.tt_picture.specs.Cached.{limit_of};
-ghost use Rattle.tt_picture.specs.Glyphs.{AreSeated};
 ghost use Rattle.tt_picture.specs.Pictures.{image_of};
 ghost use Rattle.tt_picture.specs.Unfitted.{ListsOnce};
 ghost use Rattle.tt_strike.specs.Costs.{cost_by};
@@ -27,7 +24,6 @@ use crate::laid::Laid;
 use crate::making::MadeLine;
 use crate::measuring::Measure;
 use crate::sized::SizedFace;
-use crate::work::is_bounded;
 use tt_core::DrawFault;
 use tt_picture::{Cache, Picture, glyph_inks};
 
@@ -38,31 +34,21 @@ pub(crate) struct Enlarged {
     laid: Laid,
 }
 
-impl Enlarged {
-    /// The line alone. The glyphs are dropped.
-    fn into_laid(self) -> Laid
-        ensures { result ≡ self.laid }
-    {
-        let Enlarged { laid, .. } = self;
-        laid
-    }
-}
-
 impl<'f, 'a> SizedFace<'f, 'a> {
     /// The line of a text with the fewest added columns and rows such that no ink is cut. Errors: as `make_line`, and
-    /// PictureLarge. No glyph is cached.
-    fn enlarge(&mut self, text: &str, margin: u32) -> Result<Enlarged, DrawFault>
+    /// PictureLarge. The glyphs are made once, and those that may be and are small enough are cached.
+    fn enlarge(&mut self, text: &str, margin: u32, cache: &mut Cache) -> Result<Enlarged, DrawFault>
+        requires cache { IsCacheOf self.old cache.old }
         ensures enlarged { IfOk result (λ e. IsOkAnd (laid_out self.old.face (job_by self.old text.now margin)) (λ l. IsEnlarged self.old.face (job_by self.old text.now margin) l (placement_of e.laid.line) e.inked.glyphs.made.items)) }
         ensures margin { IfOk result (λ e. e.laid.margin ≡ margin) }
         ensures cost { IfOk result (λ e. cost_by self.old.face (job_by self.old text.now margin) ≡ Ok e.inked.glyphs.cost) }
-        ensures valid { IfOk result (λ e. AreSeated (glyphs_of self.old.face.metrics) e.inked.glyphs.places.items e.inked.glyphs.made.items) }
-        ensures glyphs { IfOk result (λ e. map (λ g. g.0) e.laid.line.glyphs.items ≡ text_glyphs self.old.face.cmap text.now) }
         ensures stops { IfTold refusal result (λ r. grown_placement self.old.face (job_by self.old text.now margin) ≡ Err r) }
+        ensures cache { IsCacheOf self.old cache.new }
+        ensures limit { limit_of cache.new ≡ limit_of cache.old }
         ensures same { self.new ≡ self.old }
         ensures defects { TellsDefects draw_font_fault (IsLineDefect self.old.face (job_by self.old text.now margin) (text_glyphs self.old.face.cmap text.now)) result }
     {
-        let mut none = Cache::absent();
-        let made = self.make_line(text, margin, &mut none)?;
+        let made = self.make_line(text, margin, cache)?;
         let MadeLine { laid, glyphs } = made;
         let inks = glyph_inks(self.alloc(), &glyphs.made)?;
         let inked = InkedGlyphs { glyphs, inks };
@@ -75,7 +61,7 @@ impl<'f, 'a> SizedFace<'f, 'a> {
     }
 
     /// The picture of a text's line with the fewest added columns and rows such that no ink is cut. Errors: as `enlarge`.
-    /// Where work is bounded the glyphs are made once; elsewhere they are drawn from the cache.
+    /// The picture is drawn from the glyphs that were measured.
     pub(crate) fn draw_grown(
         &mut self,
         text: &str,
@@ -91,30 +77,30 @@ impl<'f, 'a> SizedFace<'f, 'a> {
         ensures same { self.new ≡ self.old }
         ensures defects { TellsDefects draw_font_fault (IsLineDefect self.old.face (job_by self.old text.now margin) (text_glyphs self.old.face.cmap text.now)) result }
     {
-        let enlarged = self.enlarge(text, margin)?;
-        if !is_bounded(self.fit()) {
-            let laid = enlarged.into_laid();
-            return self.draw_line(&laid, cache);
-        }
+        let enlarged = self.enlarge(text, margin, cache)?;
         let Enlarged { inked, laid } = enlarged;
-        let alloc = self.alloc();
-        let cost = inked.glyphs.cost;
         let frame = laid.frame();
-        let moved = inked.glyphs.reframed(alloc, frame, &laid.line.glyphs)?;
-        Ok(Picture::new(alloc, frame, moved, cost)?)
+        Ok(Picture::new(self.alloc(), frame, &inked.glyphs, &[laid.placed()])?)
     }
 
-    /// The measure of the picture that `draw_grown` makes. Errors: as `enlarge`. The glyphs are made once, and none is
-    /// cached.
-    pub(crate) fn measure_grown(&mut self, text: &str, margin: u32) -> Result<Measure, DrawFault>
+    /// The measure of the picture that `draw_grown` makes. Errors: as `enlarge`.
+    pub(crate) fn measure_grown(
+        &mut self,
+        text: &str,
+        margin: u32,
+        cache: &mut Cache,
+    ) -> Result<Measure, DrawFault>
+        requires cache { IsCacheOf self.old cache.old }
         ensures exact { GivesUnless refusal measure_view result (grown_measured self.old.face (job_by self.old text.now margin)) }
         ensures report { IfOk result (λ m. report_by self.old.face (job_by self.old text.now margin) ≡ Ok m.report.unfitted.items) }
         ensures once { IfOk result (λ m. ListsOnce m.report.unfitted.items) }
         ensures cost { IfOk result (λ m. cost_by self.old.face (job_by self.old text.now margin) ≡ Ok m.report.cost) }
+        ensures cache { IsCacheOf self.old cache.new }
+        ensures limit { limit_of cache.new ≡ limit_of cache.old }
         ensures same { self.new ≡ self.old }
         ensures defects { TellsDefects draw_font_fault (IsLineDefect self.old.face (job_by self.old text.now margin) (text_glyphs self.old.face.cmap text.now)) result }
     {
-        let enlarged = self.enlarge(text, margin)?;
+        let enlarged = self.enlarge(text, margin, cache)?;
         let Enlarged { inked, laid } = enlarged;
         Ok(self.measure_by(&laid, &inked)?)
     }

@@ -7,6 +7,7 @@ ghost use Rattle.tt_picture.specs.Pictures.{IsPictureFrame};
 ghost use Rattle.tt_strike.specs.Picture.{frame_of};
 
 use tt_line::Line;
+use tt_picture::PlacedLine;
 use tt_scan::Frame;
 
 /// A line that is laid out, and the margin of its picture.
@@ -29,6 +30,17 @@ impl Laid {
             height: self.line.height,
             margin: self.margin,
             rise: self.line.rise,
+        }
+    }
+
+    /// The line as one of its picture.
+    pub fn placed(&self) -> PlacedLine<'_>
+        ensures frame { result.frame ≡ frame_of (placement_of self.now.line) self.now.margin }
+        ensures glyphs { result.glyphs.now ≡ self.now.line.glyphs.items }
+    {
+        PlacedLine {
+            frame: self.frame(),
+            glyphs: &self.line.glyphs,
         }
     }
 }

@@ -1,7 +1,7 @@
 //! Laws of the definitions. Each function is a lemma: its clauses hold of all jobs, files and glyphs, and no code runs.
 
 ghost use Rattle.tt_face.specs.Files.{FacesAreWhole, ReadFacesAreWhole};
-ghost use Rattle.tt_strike.specs.Laws.{DrawnFontsAreWhole, OthersListNothing, MarginMoves, MeasuredAsDrawn, GlyphsByThemselves, UnfilledAreEdges, OthersFillNone, OthersDrawByEdges, GrownRefusals, SidesMove, SidesRefuseNothing};
+ghost use Rattle.tt_strike.specs.Laws.{DrawnFontsAreWhole, OthersListNothing, MarginMoves, MeasuredAsDrawn, BoundedLinesCrossFew, GlyphsByThemselves, UnfilledAreEdges, OthersFillNone, OthersDrawByEdges, GrownRefusals, SidesMove, SidesRefuseNothing};
 ghost use Rattle.tt_strike.specs.LayoutLaws.{LaidOutAsMeasured, LayoutsAddUp, NoGlyphIsRead};
 ghost use Rattle.tt_strike.specs.ReadingLaws.{FacesDrawAlike};
 ghost use Rattle.tt_strike.specs.StepLaws.{BestLaysBySteps, EqualGlyphsStepAlike, GlyphsBeforeExtent, MeasureTellsSteps, MovedOutlinesAgree, OthersLayByAdvances};
@@ -89,6 +89,12 @@ pub fn sides_refuse_nothing()
 /// Lemma: the black pixels of a glyph, dropouts included, do not depend on its neighbours.
 pub fn glyphs_by_themselves()
     ensures { GlyphsByThemselves }
+{}
+
+/// Lemma: with `Fit::Best` the glyphs of a line that is not refused have at most 10,000,000 crossings, in its picture and
+/// outside.
+pub fn bounded_lines_cross_few()
+    ensures { BoundedLinesCrossFew }
 {}
 
 /// Lemma: glyphs without filled dropouts are black exactly where their edges blacken. With every fit but `Fit::Best`

@@ -1,21 +1,20 @@
 //! Lays out the line of a text, and makes and tests its glyphs.
 
-ghost use Rattle.std.specs.Prelude.{◌≡◌, ℕ, ◌<◌, length, map, Bool, true, false, All, List, Ok, Err, IfOk};
+ghost use Rattle.std.specs.Prelude.{◌≡◌, ℕ, map, true, false, List, Ok, Err, IfOk};
 ghost use Rattle.tt_core.specs.Outcomes.{GivesUnless, IfTold, draw_font_fault, draw_job_fault, each};
 ghost use Rattle.tt_fit.specs.Fitting.{Fitter};
 ghost use Rattle.tt_fit.specs.GlyphCost.{without_work};
 ghost use Rattle.tt_line.specs.Layout.{text_glyphs};
 ghost use Rattle.tt_line.specs.Outcome.{placement_of};
-ghost use Rattle.tt_picture.specs.Cached.{IsCacheFor, is_there, limit_of};
+ghost use Rattle.tt_picture.specs.Cached.{IsCacheFor, limit_of};
 ghost use Rattle.tt_picture.specs.Distinct.{distinct};
 ghost use Rattle.tt_picture.specs.Fitted.{AreFitted, fitted_chords, fitted_numbers};
-ghost use Rattle.tt_picture.specs.Glyphs.{AreOfLine, ArePlaces, AreSeated};
+ghost use Rattle.tt_picture.specs.Glyphs.{AreDrawn, ArePlaces, numbers_of};
 ghost use Rattle.tt_picture.specs.Pixels.{Shape};
 ghost use Rattle.tt_picture.specs.Shapes.{crossings_in, glyph_shape};
 ghost use Rattle.tt_strike.specs.Costs.{cost_of};
 ghost use Rattle.tt_strike.specs.Defects.{IsLineDefect, IsLineRefusal, TellsDefects};
 ghost use Rattle.tt_strike.specs.Made.{IsMadeLine, text_shapes};
-ghost use Rattle.tt_strike.specs.Picture.{frame_of};
 ghost use Rattle.tt_strike.specs.Refusals.{as_job, refusal};
 ghost use Rattle.tt_strike.specs.Strikes.{IsCacheOf, job_by};
 ghost use Rattle.tt_strike.specs.Work.{edges_limited, is_bounded};
@@ -29,7 +28,7 @@ use std::alloc::Global;
 use tt_core::{DrawFault, JobFault};
 use tt_fit::Fit;
 use tt_line::lay_steps;
-use tt_picture::{Cache, FittedGlyph, Glyphs, LineLimits};
+use tt_picture::{Cache, FittedGlyph, Glyphs, LineLimits, drawn_glyphs};
 
 /// A line that is laid out, and its glyphs, which are made and tested.
 #[derive(Drop)]
@@ -38,7 +37,7 @@ pub(crate) struct MadeLine {
     pub(crate) glyphs: Glyphs,
 }
 
-/// The glyphs of a line, fitted before, by the table of their places, where work is bounded. Those that may be and are
+/// The glyphs of a line, fitted before, with the table of their places, where work is bounded. Those that may be and are
 /// small enough are cached. Errors: WorkLarge of their chords, and then of their crossings by the work that is left;
 /// Memory.
 pub fn tested_edges(
@@ -51,34 +50,39 @@ pub fn tested_edges(
     cache: &mut Cache,
 ) -> Result<Glyphs, DrawFault>
     requires bounded { is_bounded fit ≡ true }
-    requires made { (cached : Bool) × (maker : ℕ → Fitter) × AreFitted cached maker fitted.items }
+    requires made { (maker : ℕ → Fitter) × AreFitted maker fitted.items }
     requires places { ArePlaces places.items (fitted_numbers fitted.items) }
-    requires known { All (λ g. g.0 < length places.items) laid.now.line.glyphs.items }
     requires numbers { fitted_numbers fitted.items ≡ distinct (map (λ g. g.0) laid.now.line.glyphs.items) }
-    ensures valid { IfOk result (λ g. AreSeated (length places.items) g.places.items g.made.items) }
-    ensures line { IfOk result (λ g. (cached : Bool) (maker : ℕ → Fitter) → AreFitted cached maker fitted.items → AreOfLine cached maker (frame_of (placement_of laid.now.line) laid.now.margin) laid.now.line.glyphs.items g.made.items) }
-    ensures exact { (cached : Bool) (maker : ℕ → Fitter) (shapes : List Shape) → AreFitted cached maker fitted.items → each (glyph_shape maker) laid.now.line.glyphs.items ≡ Ok shapes
+    ensures numbers { IfOk result (λ g. numbers_of g.made.items ≡ fitted_numbers fitted.items) }
+    ensures drawn { IfOk result (λ g. (maker : ℕ → Fitter) → AreFitted maker fitted.items → AreDrawn maker g.made.items) }
+    ensures exact { (maker : ℕ → Fitter) (shapes : List Shape) → AreFitted maker fitted.items → each (glyph_shape maker) laid.now.line.glyphs.items ≡ Ok shapes
         → GivesUnless refusal (λ g. tt) result (as_job (edges_limited fit left (fitted_chords fitted.items) (crossings_in shapes))) }
-    ensures cost { (cached : Bool) (maker : ℕ → Fitter) (shapes : List Shape) → AreFitted cached maker fitted.items → each (glyph_shape maker) laid.now.line.glyphs.items ≡ Ok shapes
+    ensures cost { (maker : ℕ → Fitter) (shapes : List Shape) → AreFitted maker fitted.items → each (glyph_shape maker) laid.now.line.glyphs.items ≡ Ok shapes
         → IfOk result (λ g. g.cost ≡ cost_of left (crossings_in shapes)) }
-    ensures cached { (cached : Bool) (maker : ℕ → Fitter) (s : Fitter) → AreFitted cached maker fitted.items
+    ensures cached { (maker : ℕ → Fitter) (s : Fitter) → AreFitted maker fitted.items
         → ((n : ℕ) → without_work (maker n) ≡ without_work s) → IsCacheFor s cache.old → IsCacheFor s cache.new }
     ensures limit { limit_of cache.new ≡ limit_of cache.old }
 {
-    let frame = laid.frame();
-    let line = &laid.line.glyphs;
     let allowed = crossings_allowed(left);
     let limits = LineLimits {
         chords: CHORD_LIMIT,
         crossings: allowed,
     };
-    let made = Glyphs::of_fitted(alloc, places, fitted, frame, line, limits, cache)?;
-    let Some(mut glyphs) = made else {
+    let Some(made) = drawn_glyphs(alloc, fitted, limits, cache)? else {
         return Err(DrawFault::Job(JobFault::WorkLarge));
     };
-    let crossings = test_crossings(fit, allowed, &glyphs.made)?;
-    glyphs.cost = cost_of(left, crossings);
-    Ok(glyphs)
+    let glyphs = Glyphs {
+        places,
+        made,
+        cost: 0,
+    };
+    let crossings = test_crossings(fit, allowed, &glyphs, &laid.line.glyphs)?;
+    let Glyphs { places, made, .. } = glyphs;
+    Ok(Glyphs {
+        places,
+        made,
+        cost: cost_of(left, crossings),
+    })
 }
 
 impl<'f, 'a> SizedFace<'f, 'a> {
@@ -94,7 +98,7 @@ impl<'f, 'a> SizedFace<'f, 'a> {
     ) -> Result<MadeLine, DrawFault>
         requires cache { IsCacheOf self.old cache.old }
         requires bounded { is_bounded self.old.fit ≡ true }
-        ensures made { IfOk result (λ m. IsMadeLine (is_there cache.old) self.old.face (job_by self.old text.now margin) (placement_of m.laid.line) m.glyphs.places.items m.glyphs.made.items m.glyphs.cost) }
+        ensures made { IfOk result (λ m. IsMadeLine self.old.face (job_by self.old text.now margin) (placement_of m.laid.line) m.glyphs.made.items m.glyphs.cost) }
         ensures margin { IfOk result (λ m. m.laid.margin ≡ margin) }
         ensures stops { IfTold refusal result (λ r. text_shapes self.old.face (job_by self.old text.now margin) ≡ Err r) }
         ensures defects { TellsDefects draw_font_fault (IsLineDefect self.old.face (job_by self.old text.now margin) (text_glyphs self.old.face.cmap text.now)) result }
@@ -133,7 +137,7 @@ impl<'f, 'a> SizedFace<'f, 'a> {
     ) -> Result<MadeLine, DrawFault>
         requires cache { IsCacheOf self.old cache.old }
         requires unbounded { is_bounded self.old.fit ≡ false }
-        ensures made { IfOk result (λ m. IsMadeLine (is_there cache.old) self.old.face (job_by self.old text.now margin) (placement_of m.laid.line) m.glyphs.places.items m.glyphs.made.items m.glyphs.cost) }
+        ensures made { IfOk result (λ m. IsMadeLine self.old.face (job_by self.old text.now margin) (placement_of m.laid.line) m.glyphs.made.items m.glyphs.cost) }
         ensures margin { IfOk result (λ m. m.laid.margin ≡ margin) }
         ensures stops { IfTold refusal result (λ r. text_shapes self.old.face (job_by self.old text.now margin) ≡ Err r) }
         ensures defects { TellsDefects draw_font_fault (IsLineDefect self.old.face (job_by self.old text.now margin) (text_glyphs self.old.face.cmap text.now)) result }
@@ -155,7 +159,7 @@ impl<'f, 'a> SizedFace<'f, 'a> {
         cache: &mut Cache,
     ) -> Result<MadeLine, DrawFault>
         requires cache { IsCacheOf self.old cache.old }
-        ensures made { IfOk result (λ m. IsMadeLine (is_there cache.old) self.old.face (job_by self.old text.now margin) (placement_of m.laid.line) m.glyphs.places.items m.glyphs.made.items m.glyphs.cost) }
+        ensures made { IfOk result (λ m. IsMadeLine self.old.face (job_by self.old text.now margin) (placement_of m.laid.line) m.glyphs.made.items m.glyphs.cost) }
         ensures margin { IfOk result (λ m. m.laid.margin ≡ margin) }
         ensures stops { IfTold refusal result (λ r. text_shapes self.old.face (job_by self.old text.now margin) ≡ Err r) }
         ensures defects { TellsDefects draw_font_fault (IsLineDefect self.old.face (job_by self.old text.now margin) (text_glyphs self.old.face.cmap text.now)) result }

@@ -1,22 +1,23 @@
 //! Measures the line of a text.
 
-ghost use Rattle.std.specs.Prelude.{◌≡◌, ℕ, ℤ, ◌+◌, ◌<◌, ◌≤◌, ◌^◌, pos, ◌+ℤ◌, true, length, map, All, IfOk, Ok, Option, unsigned_abs};
+ghost use Rattle.std.specs.Prelude.{◌≡◌, ℕ, ℤ, ◌+◌, ◌<◌, ◌≤◌, ◌^◌, pos, ◌+ℤ◌, true, map, All, IfOk, Ok, Option, unsigned_abs};
 ghost use Rattle.tt_core.specs.Limits.{width_limit};
 ghost use Rattle.tt_core.specs.Outcomes.{GivesUnless, IfTold, draw_font_fault, draw_job_fault};
 ghost use Rattle.tt_line.specs.Layout.{text_glyphs};
 ghost use Rattle.tt_line.specs.Outcome.{placement_of};
 ghost use Rattle.tt_metrics.specs.Metrics.{glyphs_of};
+ghost use Rattle.tt_picture.specs.Cached.{limit_of};
 ghost use Rattle.tt_picture.specs.Distinct.{is_among};
 ghost use Rattle.tt_picture.specs.Glyphs.{numbers_of};
 ghost use Rattle.tt_picture.specs.Unfitted.{ListsOnce, unfitted_standing};
 ghost use Rattle.tt_scan_edges.specs.Winding.{FrameFits};
-ghost use Rattle.tt_scan_ink.specs.declared.ink.GlyphInk.{GlyphInk};
+ghost use Rattle.tt_bitmap.specs.declared.ink.LeastBox.{LeastBox};
 ghost use Rattle.tt_strike.specs.Costs.{cost_by};
 ghost use Rattle.tt_strike.specs.Defects.{IsLineDefect, IsLineRefusal, TellsDefects};
 ghost use Rattle.tt_strike.specs.Measures.{character_at, characters_at, ink_of, made_step, measure_by, measure_view, measured};
 ghost use Rattle.tt_strike.specs.Refusals.{refusal};
 ghost use Rattle.tt_strike.specs.Report.{report_by};
-ghost use Rattle.tt_strike.specs.Strikes.{job_by};
+ghost use Rattle.tt_strike.specs.Strikes.{IsCacheOf, job_by};
 
 use crate::inked::InkedGlyphs;
 use crate::laid::Laid;
@@ -113,22 +114,18 @@ impl<'f, 'a> SizedFace<'f, 'a> {
         requires known { placed.0 < glyphs_of self.now.face.metrics }
         requires pen { placed.1 ≤ width_limit }
         requires kerning { unsigned_abs kerning ≤ 2 ^ 20 }
-        requires room { length inked.now.glyphs.places.items ≡ glyphs_of self.now.face.metrics }
         requires among { is_among placed.0 (numbers_of inked.now.glyphs.made.items) ≡ true }
-        ensures { (step : ℕ → ℤ → ℕ) (ink : ℕ → Option GlyphInk) → All (λ g. (k : ℤ) → made_step self.now.face.metrics self.now.ppem self.now.fit g k ≡ step g.number k) inked.now.glyphs.made.items
+        ensures { (step : ℕ → ℤ → ℕ) (ink : ℕ → Option LeastBox) → All (λ g. (k : ℤ) → made_step self.now.face.metrics self.now.ppem self.now.fit g k ≡ step g.number k) inked.now.glyphs.made.items
             → inked.now.inks.items ≡ map ink (numbers_of inked.now.glyphs.made.items)
             → result ≡ character_at frame ink placed (step placed.0 kerning) }
     {
         let (glyph, pen) = placed;
-        let (step, ink) = match inked.glyphs.find(glyph) {
-            Some(i) => (self.step_of(&inked.glyphs.made[i], kerning), inked.inks[i]),
-            None => (0, None),
-        };
+        let at = inked.glyphs.place_of(glyph);
         CharacterMeasure {
             glyph,
             pen: i64::from(pen + frame.margin),
-            advance: step,
-            ink: ink_at(frame, pen, ink),
+            advance: self.step_of(&inked.glyphs.made[at], kerning),
+            ink: ink_at(frame, pen, inked.inks[at]),
         }
     }
 
@@ -142,9 +139,8 @@ impl<'f, 'a> SizedFace<'f, 'a> {
         requires frame { FrameFits frame }
         requires known { All (λ g. g.0 < glyphs_of self.now.face.metrics) line.now }
         requires pens { All (λ g. g.1 ≤ width_limit) line.now }
-        requires room { length inked.now.glyphs.places.items ≡ glyphs_of self.now.face.metrics }
         requires among { All (λ g. is_among g.0 (numbers_of inked.now.glyphs.made.items) ≡ true) line.now }
-        ensures { IfOk result (λ v. (step : ℕ → ℤ → ℕ) (ink : ℕ → Option GlyphInk) → All (λ g. (k : ℤ) → made_step self.now.face.metrics self.now.ppem self.now.fit g k ≡ step g.number k) inked.now.glyphs.made.items
+        ensures { IfOk result (λ v. (step : ℕ → ℤ → ℕ) (ink : ℕ → Option LeastBox) → All (λ g. (k : ℤ) → made_step self.now.face.metrics self.now.ppem self.now.fit g k ≡ step g.number k) inked.now.glyphs.made.items
             → inked.now.inks.items ≡ map ink (numbers_of inked.now.glyphs.made.items)
             → v.items ≡ characters_at self.now.face.metrics step frame ink line.now) }
     {
@@ -159,9 +155,8 @@ impl<'f, 'a> SizedFace<'f, 'a> {
     /// The measure of a laid-out line, whose glyphs are these. Error: Memory.
     pub fn measure_by(&self, laid: &Laid, inked: &InkedGlyphs) -> Result<Measure, AllocError>
         requires known { All (λ g. g.0 < glyphs_of self.now.face.metrics) laid.now.line.glyphs.items }
-        requires room { length inked.now.glyphs.places.items ≡ glyphs_of self.now.face.metrics }
         requires among { All (λ g. is_among g.0 (numbers_of inked.now.glyphs.made.items) ≡ true) laid.now.line.glyphs.items }
-        ensures exact { IfOk result (λ m. (step : ℕ → ℤ → ℕ) (ink : ℕ → Option GlyphInk) → All (λ g. (k : ℤ) → made_step self.now.face.metrics self.now.ppem self.now.fit g k ≡ step g.number k) inked.now.glyphs.made.items
+        ensures exact { IfOk result (λ m. (step : ℕ → ℤ → ℕ) (ink : ℕ → Option LeastBox) → All (λ g. (k : ℤ) → made_step self.now.face.metrics self.now.ppem self.now.fit g k ≡ step g.number k) inked.now.glyphs.made.items
             → inked.now.inks.items ≡ map ink (numbers_of inked.now.glyphs.made.items)
             → measure_view m ≡ measure_by self.now.face.metrics step laid.now.margin ink (placement_of laid.now.line)) }
         ensures unfitted { IfOk result (λ m. m.report.unfitted.items ≡ unfitted_standing inked.now.glyphs.made.items) }
@@ -173,19 +168,26 @@ impl<'f, 'a> SizedFace<'f, 'a> {
         Ok(measure_of(frame, characters, report))
     }
 
-    /// The measure of a text. Errors: as `make_line`. No glyph is cached.
+    /// The measure of a text. Errors: as `make_line`. Glyphs that may be and are small enough are cached.
     #[tactic(auto, unfolding(crate::specs::Measures::measured, crate::specs::Measures::measured_line, crate::specs::Report::report_by, crate::specs::Report::line_report, crate::specs::Costs::cost_by))]
-    pub(crate) fn measure(&mut self, text: &str, margin: u32) -> Result<Measure, DrawFault>
+    pub(crate) fn measure(
+        &mut self,
+        text: &str,
+        margin: u32,
+        cache: &mut Cache,
+    ) -> Result<Measure, DrawFault>
+        requires cache { IsCacheOf self.old cache.old }
         ensures exact { GivesUnless refusal measure_view result (measured self.old.face (job_by self.old text.now margin)) }
         ensures report { IfOk result (λ m. report_by self.old.face (job_by self.old text.now margin) ≡ Ok m.report.unfitted.items) }
         ensures once { IfOk result (λ m. ListsOnce m.report.unfitted.items) }
         ensures cost { IfOk result (λ m. cost_by self.old.face (job_by self.old text.now margin) ≡ Ok m.report.cost) }
+        ensures cache { IsCacheOf self.old cache.new }
+        ensures limit { limit_of cache.new ≡ limit_of cache.old }
         ensures same { self.new ≡ self.old }
         ensures defects { TellsDefects draw_font_fault (IsLineDefect self.old.face (job_by self.old text.now margin) (text_glyphs self.old.face.cmap text.now)) result }
         ensures job { IfTold draw_job_fault result (IsLineRefusal self.old.face (job_by self.old text.now margin)) }
     {
-        let mut none = Cache::absent();
-        let made = self.make_line(text, margin, &mut none)?;
+        let made = self.make_line(text, margin, cache)?;
         let MadeLine { laid, glyphs } = made;
         let inks = glyph_inks(self.alloc(), &glyphs.made)?;
         let inked = InkedGlyphs { glyphs, inks };

@@ -5,7 +5,7 @@ ghost use Rattle.tt_core.specs.Limits.{point_work_limit, text_limit};
 ghost use Rattle.tt_core.specs.Outcomes.{IfTold};
 ghost use Rattle.tt_line.specs.Layout.{text_glyphs};
 ghost use Rattle.tt_metrics.specs.Metrics.{glyphs_of};
-ghost use Rattle.tt_picture.specs.Cached.{IsCacheFor, is_there};
+ghost use Rattle.tt_picture.specs.Cached.{IsCacheFor};
 ghost use Rattle.tt_picture.specs.Distinct.{distinct, fitter_after};
 ghost use Rattle.tt_strike.specs.Made.{AreOutlined};
 ghost use Rattle.tt_strike.specs.Picture.{outlines_tested};
@@ -49,7 +49,7 @@ impl<'f, 'a> FitterSource<'f, 'a> {
         requires glyphs { fitter.old.tables.glyphs ≡ glyphs_of self.now.face.now.metrics }
         requires bounded { is_bounded self.now.fit ≡ true }
         requires cache { IsCacheFor fitter.old cache.now }
-        ensures outlined { IfOk result (λ t. AreOutlined (is_there cache.now) self.now.face.now.metrics self.now.ppem fitter.old (text_glyphs self.now.face.now.cmap text.now) t.steps.items t.places.items t.fitted.items) }
+        ensures outlined { IfOk result (λ t. AreOutlined self.now.face.now.metrics self.now.ppem fitter.old (text_glyphs self.now.face.now.cmap text.now) t.steps.items t.places.items t.fitted.items) }
         ensures points { IfOk result (λ t. work_tested self.now.fit point_work_limit (points_in fitter.old (text_glyphs self.now.face.now.cmap text.now)) ≡ Ok tt) }
         ensures known { IfOk result (λ t. All (λ g. g.0 < glyphs_of self.now.face.now.metrics) t.steps.items) }
         ensures few { IfOk result (λ t. length t.steps.items ≤ text_limit) }

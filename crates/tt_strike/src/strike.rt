@@ -1,10 +1,9 @@
 //! A font at a size, which draws many lines and runs its programs once.
 
-ghost use Rattle.std.specs.Prelude.{◌≡◌, ◌≤◌, true, [], Ok, IfOk, IsOkAnd};
-ghost use Rattle.tt_core.specs.Limits.{crossing_limit};
+ghost use Rattle.std.specs.Prelude.{◌≡◌, ◌≤◌, [], Ok, IfOk, IsOkAnd};
 ghost use Rattle.tt_core.specs.Outcomes.{GivesUnless, IfTold, draw_font_fault, draw_job_fault};
 ghost use Rattle.tt_line.specs.Layout.{text_glyphs};
-ghost use Rattle.tt_picture.specs.Pictures.{IsReady, all_crossings, image_of};
+ghost use Rattle.tt_picture.specs.Pictures.{IsReady, image_of};
 ghost use Rattle.tt_picture.specs.Unfitted.{ListsOnce};
 ghost use Rattle.tt_strike.specs.Costs.{cost_by};
 ghost use Rattle.tt_strike.specs.Defects.{IsLineDefect, IsLineRefusal, TellsDefects};
@@ -15,7 +14,6 @@ ghost use Rattle.tt_strike.specs.Picture.{frame_of, line_outcome, text_placed};
 ghost use Rattle.tt_strike.specs.Refusals.{as_job, refusal};
 ghost use Rattle.tt_strike.specs.Report.{report_by};
 ghost use Rattle.tt_strike.specs.Strikes.{IsFresh, job_of};
-ghost use Rattle.tt_strike.specs.Work.{is_bounded};
 ghost use Rattle.tt_strike_kept.specs.Kept.{bytes_in};
 
 use crate::measuring::Measure;
@@ -33,10 +31,10 @@ use tt_picture::{Cache, Picture};
 /// see the cached glyphs with their numbers too, the newest first. A line changes the cached glyphs alone.
 #[derive(Drop)]
 pub struct Strike<'f, 'a> {
-    sized: SizedFace<'f, 'a>,
-    cache: Cache,
+    pub sized: SizedFace<'f, 'a>,
+    pub cache: Cache,
     /// The limit of the cache in bytes, also where there is none.
-    most: usize,
+    pub most: usize,
 }
 
 impl<'f, 'a> Model for Strike<'f, 'a> {
@@ -102,7 +100,6 @@ impl<'f, 'a> Strike<'f, 'a> {
         ensures report { IfOk result (λ p. report_by self.old.face (job_of self.old text.now margin) ≡ Ok p.unfitted) }
         ensures once { IfOk result (λ p. ListsOnce p.unfitted) }
         ensures cost { IfOk result (λ p. cost_by self.old.face (job_of self.old text.now margin) ≡ Ok p.cost) }
-        ensures few { is_bounded self.old.fit ≡ true → IfOk result (λ p. all_crossings p ≤ crossing_limit) }
         ensures defects { TellsDefects draw_font_fault (IsLineDefect self.old.face (job_of self.old text.now margin) (text_glyphs self.old.face.cmap text.now)) result }
         ensures job { IfTold draw_job_fault result (IsLineRefusal self.old.face (job_of self.old text.now margin)) }
         ensures same { self.new ≡ record self.old { kept = self.new.kept } }
@@ -111,8 +108,8 @@ impl<'f, 'a> Strike<'f, 'a> {
     }
 
     /// The base line, the ink and the characters' places of a text's picture, without the picture. Errors as those of
-    /// `line`. No glyph is cached, and the strike is unchanged.
-    /// `SizedFace::measure` is apart (for the prover): that function has no cache.
+    /// `line`. Glyphs are cached as by `line`.
+    /// `SizedFace::measure` is apart (for the prover): that function has the face and the cache one by one.
     pub fn measure(&mut self, text: &str, margin: u32) -> Result<Measure, DrawFault>
         ensures exact { GivesUnless refusal measure_view result (measured self.old.face (job_of self.old text.now margin)) }
         ensures report { IfOk result (λ m. report_by self.old.face (job_of self.old text.now margin) ≡ Ok m.report.unfitted.items) }
@@ -120,9 +117,9 @@ impl<'f, 'a> Strike<'f, 'a> {
         ensures cost { IfOk result (λ m. cost_by self.old.face (job_of self.old text.now margin) ≡ Ok m.report.cost) }
         ensures defects { TellsDefects draw_font_fault (IsLineDefect self.old.face (job_of self.old text.now margin) (text_glyphs self.old.face.cmap text.now)) result }
         ensures job { IfTold draw_job_fault result (IsLineRefusal self.old.face (job_of self.old text.now margin)) }
-        ensures same { self.new ≡ self.old }
+        ensures same { self.new ≡ record self.old { kept = self.new.kept } }
     {
-        self.sized.measure(text, margin)
+        self.sized.measure(text, margin, &mut self.cache)
     }
 
     /// The picture of a text with the fewest added columns and rows such that no ink is cut; equal to that of `line`
@@ -137,7 +134,6 @@ impl<'f, 'a> Strike<'f, 'a> {
         ensures report { IfOk result (λ p. report_by self.old.face (job_of self.old text.now margin) ≡ Ok p.unfitted) }
         ensures once { IfOk result (λ p. ListsOnce p.unfitted) }
         ensures cost { IfOk result (λ p. cost_by self.old.face (job_of self.old text.now margin) ≡ Ok p.cost) }
-        ensures few { is_bounded self.old.fit ≡ true → IfOk result (λ p. all_crossings p ≤ crossing_limit) }
         ensures defects { TellsDefects draw_font_fault (IsLineDefect self.old.face (job_of self.old text.now margin) (text_glyphs self.old.face.cmap text.now)) result }
         ensures same { self.new ≡ record self.old { kept = self.new.kept } }
     {
@@ -145,21 +141,20 @@ impl<'f, 'a> Strike<'f, 'a> {
     }
 
     /// The measure of the picture that `grown_line` makes. Errors: those of `measure`, and PictureLarge of the larger
-    /// picture. No glyph is cached, and the strike is unchanged.
-    /// `SizedFace::measure_grown` is apart (for the prover): that function has no cache.
+    /// picture. Glyphs are cached as by `line`.
+    /// `SizedFace::measure_grown` is apart (for the prover): that function has the face and the cache one by one.
     pub fn grown_measure(&mut self, text: &str, margin: u32) -> Result<Measure, DrawFault>
         ensures exact { GivesUnless refusal measure_view result (grown_measured self.old.face (job_of self.old text.now margin)) }
         ensures report { IfOk result (λ m. report_by self.old.face (job_of self.old text.now margin) ≡ Ok m.report.unfitted.items) }
         ensures once { IfOk result (λ m. ListsOnce m.report.unfitted.items) }
         ensures cost { IfOk result (λ m. cost_by self.old.face (job_of self.old text.now margin) ≡ Ok m.report.cost) }
         ensures defects { TellsDefects draw_font_fault (IsLineDefect self.old.face (job_of self.old text.now margin) (text_glyphs self.old.face.cmap text.now)) result }
-        ensures same { self.new ≡ self.old }
+        ensures same { self.new ≡ record self.old { kept = self.new.kept } }
     {
-        self.sized.measure_grown(text, margin)
+        self.sized.measure_grown(text, margin, &mut self.cache)
     }
 
-    /// The bytes of the cached glyphs: for each those of its black columns and its dropouts, and 224. The newest glyphs
-    /// are cached.
+    /// The bytes of the cached glyphs: for each those of its bitmap's words, and 224. The newest glyphs are cached.
     pub fn kept_bytes(&self) -> usize
         ensures exact { result ≡ bytes_in self.now.kept }
         ensures most { result ≤ self.now.most }

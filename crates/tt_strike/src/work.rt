@@ -1,21 +1,24 @@
 //! The work of a job, which is bounded with `Fit::Best`.
 
 ghost use Rattle.std.specs.List.{sum_by};
-ghost use Rattle.std.specs.Prelude.{◌≡◌, ◌<◌, ◌≤◌, ◌-◌, ◌*◌, ◌^◌, true, min, length, All, IfOk, OnOk};
+ghost use Rattle.std.specs.Prelude.{◌≡◌, ℕ, ◌<◌, ◌≤◌, ◌-◌, ◌*◌, ◌^◌, true, All, List, IfOk, OnOk, Ok};
 ghost use Rattle.tt_core.specs.Limits.{crossing_limit, point_work_limit};
-ghost use Rattle.tt_core.specs.Outcomes.{Gives, GivesUnless};
+ghost use Rattle.tt_core.specs.Outcomes.{Gives, GivesUnless, each};
 ghost use Rattle.tt_fit.specs.Counting.{counted, left_of, points_asked};
-ghost use Rattle.tt_fit.specs.Fitting.{charged_fitter};
+ghost use Rattle.tt_fit.specs.Fitting.{Fitter, charged_fitter};
 ghost use Rattle.tt_strike.specs.Costs.{cost_of};
 ghost use Rattle.tt_picture.specs.Cached.{IsCacheFor};
-ghost use Rattle.tt_picture.specs.Glyphs.{CanBeCounted, crossings_standing};
+ghost use Rattle.tt_picture.specs.Glyphs.{AreDrawn, numbers_of};
+ghost use Rattle.tt_picture.specs.Lines.{HasGlyphsOf};
+ghost use Rattle.tt_picture.specs.Pixels.{Shape};
+ghost use Rattle.tt_picture.specs.Shapes.{crossings_in, glyph_shape};
 ghost use Rattle.tt_strike.specs.Refusals.{as_job, refusal};
 ghost use Rattle.tt_strike.specs.Work.{crossings_allowed, is_bounded, point_work, work_tested};
 
 use std::alloc::AllocError;
 use tt_core::{CROSSING_LIMIT, DrawFault, JobFault, POINT_WORK_LIMIT, WORK_LIMIT};
 use tt_fit::{Fit, Fitter};
-use tt_picture::{Cache, Glyph, crossings};
+use tt_picture::{Cache, Glyphs, crossings};
 
 /// The work that each point of a line's glyphs takes.
 const POINT_WORK: u64 = 40;
@@ -114,18 +117,25 @@ fn points_left(
     Ok(Some(left))
 }
 
-/// Counts the crossings of a job's glyphs at their pens, where work is bounded; else 0. Error: WorkLarge, where they are
+/// Counts the crossings of a line's glyphs at their pens, where work is bounded; else 0. Error: WorkLarge, where they are
 /// more than `most`.
 #[tactic(auto, unfolding(crate::specs::Work::work_tested))]
-pub(crate) fn test_crossings(fit: Fit, most: u64, glyphs: &[Glyph]) -> Result<u64, JobFault>
-    requires glyphs { All CanBeCounted glyphs.now }
+pub(crate) fn test_crossings(
+    fit: Fit,
+    most: u64,
+    glyphs: &Glyphs,
+    line: &[(u16, u32)],
+) -> Result<u64, JobFault>
+    requires line { HasGlyphsOf (numbers_of glyphs.now.made.items) line.now }
     requires most { most < 2 ^ 64 - 1 }
-    ensures exact { Gives (λ n. tt) result (work_tested fit most (crossings_standing glyphs.now)) }
-    ensures count { is_bounded fit ≡ true → IfOk result (λ n. n ≡ crossings_standing glyphs.now) }
+    ensures exact { (maker : ℕ → Fitter) (shapes : List Shape) → AreDrawn maker glyphs.now.made.items → each (glyph_shape maker) line.now ≡ Ok shapes
+        → Gives (λ n. tt) result (work_tested fit most (crossings_in shapes)) }
+    ensures count { (maker : ℕ → Fitter) (shapes : List Shape) → AreDrawn maker glyphs.now.made.items → each (glyph_shape maker) line.now ≡ Ok shapes
+        → is_bounded fit ≡ true → IfOk result (λ n. n ≡ crossings_in shapes) }
     ensures few { IfOk result (λ n. n ≤ most) }
 {
     let count = if is_bounded(fit) {
-        crossings(glyphs)
+        crossings(glyphs, line)
     } else {
         0
     };

@@ -1,14 +1,14 @@
 -- No part of the standard: a glyph cached from line to line.
-use Rattle.std.specs.Prelude.{ℕ, ℤ, List, Option}
+use Rattle.std.specs.Prelude.{ℕ, ℤ, Option}
+use Rattle.tt_bitmap.specs.Bitmaps.{BoxBitmap}
+use Rattle.tt_bitmap.specs.declared.ink.LeastBox.{LeastBox}
 use Rattle.tt_core.specs.Faults.{Fault}
-use Rattle.tt_scan_dropouts.specs.declared.pixel.Pixel.{Pixel}
-use Rattle.tt_scan_rows.specs.Raster.{Raster}
 
--- its black columns, its dropouts at pen 0, the distance of its advance's two ends, its chords, and its crossings at one
+-- its black pixels at pen 0 and their box, the distance of its advance's two ends, its chords, and its crossings at one
 -- pen; then its points, the cost of its programs, and the fault that makes it unfitted
 pub record KeptGlyph : Type 0 where
-  pub raster : Raster
-  pub dropouts : List Pixel
+  pub bitmap : BoxBitmap
+  pub ink : Option LeastBox
   pub advance_left : ℤ
   pub chords : ℕ
   pub crossings : ℕ

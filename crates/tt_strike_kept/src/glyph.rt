@@ -1,26 +1,27 @@
 //! A cached glyph, and its bytes.
 
+ghost use Rattle.std.proofs.Props.{props};
 ghost use Rattle.std.specs.Prelude.{◌≡◌, ◌+◌, ◌-◌, ◌<◌, ◌≤◌, IfNone, IfSome};
+ghost use Rattle.tt_bitmap.specs.Inks.{IsNear};
 ghost use Rattle.tt_strike_kept.specs.Kept.{bytes_of};
 
 use std::alloc::AllocError;
 use std::marker::Model;
 use std::rc::Rc;
+use tt_bitmap::{BoxBitmap, LeastBox};
 use tt_core::Fault;
-use tt_scan_dropouts::Pixel;
-use tt_scan_rows::Raster;
 
-/// Roughly the bytes of a glyph without its rows and its dropouts: its place in the cache, and the owners of both.
+/// Roughly the bytes of a glyph without the words of its bitmap: its place in the cache, and the bitmap's owners.
 const PLACE: usize = 224;
 
 /// A cached glyph: its pixels, the counts for which a line need not make the glyph anew, and the fault that makes the
-/// glyph unfitted. Clauses see the raster and the dropouts themselves.
+/// glyph unfitted. Clauses see the bitmap itself.
 #[derive(Drop)]
 pub struct KeptGlyph {
-    /// The black columns, which may have other owners too.
-    pub raster: Rc<Raster>,
-    /// The pixels that are black besides, for pen 0. They may have other owners too.
-    pub dropouts: Rc<Vec<Pixel>>,
+    /// All black pixels at pen 0, its dropouts too. The bitmap may have other owners.
+    pub bitmap: Rc<BoxBitmap>,
+    /// The least box that holds the black pixels; None where the glyph is blank.
+    pub ink: Option<LeastBox>,
     /// The distance of its advance's two ends, in 26.6 pixels.
     pub advance_left: i32,
     /// The chords and straight edges of its outline.
@@ -33,6 +34,7 @@ pub struct KeptGlyph {
     pub cost: u64,
     /// The fault of the font for which it is not fitted, if it was to be.
     pub unfitted: Option<Fault>,
+    pub ghost near: { IfSome ink IsNear } by { Prim.hlevel props },
 }
 
 impl Model for KeptGlyph {
@@ -41,8 +43,8 @@ impl Model for KeptGlyph {
     ghost Value = { glyph.KeptGlyph };
 
     ghost view = { λ g. record {
-      raster = g.raster.value;
-      dropouts = g.dropouts.value.items;
+      bitmap = g.bitmap.value;
+      ink = g.ink;
       advance_left = g.advance_left;
       chords = g.chords;
       crossings = g.crossings;
@@ -55,11 +57,11 @@ impl Model for KeptGlyph {
 impl Clone for KeptGlyph {
     ghost is_clone = { λ g copy. copy ≡ g };
 
-    /// One more owner of the raster and of the dropouts, which are not copied. Error: too many owners to be counted.
+    /// One more owner of the bitmap, which is not copied. Error: too many owners to be counted.
     fn clone(&self) -> Result<KeptGlyph, AllocError> {
         Ok(KeptGlyph {
-            raster: self.raster.clone()?,
-            dropouts: self.dropouts.clone()?,
+            bitmap: self.bitmap.clone()?,
+            ink: self.ink,
             advance_left: self.advance_left,
             chords: self.chords,
             crossings: self.crossings,
@@ -76,10 +78,7 @@ impl KeptGlyph {
         ensures left { IfSome result (λ n. n + bytes_of self.now ≡ bytes) }
         ensures larger { IfNone result (bytes < bytes_of self.now) }
     {
-        bytes
-            .checked_sub(PLACE)?
-            .checked_sub(self.raster.bytes())?
-            .checked_sub(self.dropouts.len().checked_mul(16)?)
+        bytes.checked_sub(PLACE)?.checked_sub(self.bitmap.bytes())
     }
 
     /// What remains of the bytes of some glyphs without this one.
@@ -87,6 +86,6 @@ impl KeptGlyph {
         requires { bytes_of self.now ≤ bytes }
         ensures { result ≡ bytes - bytes_of self.now }
     {
-        bytes - PLACE - self.raster.bytes() - 16 * self.dropouts.len()
+        bytes - PLACE - self.bitmap.bytes()
     }
 }

@@ -44,8 +44,8 @@ impl KeptGlyphs {
         })
     }
 
-    /// The glyph with this number, whose raster then has one more owner; the order is unchanged. None where the cache
-    /// lacks the number, and where the raster has too many owners to be counted.
+    /// The glyph with this number, whose bitmap then has one more owner; the order is unchanged. None where the cache
+    /// lacks the number, and where the bitmap has too many owners to be counted.
     pub fn find(&self, number: u16) -> Option<KeptGlyph>
         ensures { IfSome result (λ g. lookup (nat_eq number) self.now.entries ≡ Some g) }
     {
@@ -121,7 +121,7 @@ impl KeptGlyphs {
         }
     }
 
-    /// The bytes of all glyphs: for each those of its raster and its dropouts, and 224.
+    /// The bytes of all glyphs: for each those of its bitmap's words, and 224.
     pub fn bytes(&self) -> usize
         ensures exact { result ≡ bytes_in self.now.entries }
         ensures most { result ≤ self.now.most }

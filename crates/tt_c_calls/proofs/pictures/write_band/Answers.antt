@@ -1,5 +1,4 @@
-use Rattle.std.proofs.Common.{◌≡◌, ◌*◌, ◌<◌, ◌≤◌, length, ◌∙◌, arith, length-take-le}
-use Rattle.std.proofs.lemmas.Nat.{mul-le}
+use Rattle.std.proofs.Common.{◌≡◌, ◌+◌, ◌*◌, arith}
 use Rattle.tt_core.specs.Bits.{stride}
 use Rattle.tt_c_calls.specs.Pictures.{band_of, band_rows}
 use Rattle.tt_c_calls.proofs.Rows.{band_long, band_written, none_written}
@@ -11,7 +10,7 @@ returns-clause-done c =
     let p = c.args.picture.now in
     let first = c.args.first in
     let n = stride p.frame.width in
-    let bytes = c.row_bytes-bytes.ensures in
+    let bytes = c.row_bytes.ensures in
     let band = band_of p first c.args.count in
     let count : c.min-count.result ≡ band_rows p.frame.height first c.args.count =
     rw (c.saturating_sub.ensures, c.height.ensures.exact) at c.min-count.ensures in
@@ -19,16 +18,11 @@ returns-clause-done c =
     let answer = rw (bytes, c.from-2.ensures, count, ← long) at c.sized-2.ensures in
     λ done. elim c.if-count-gt0.branch [
       | then-count-gt0 w ↦
-          let made = rw (w.skip_rows.ensures.picture, count) at w.next_rows.ensures.rows in
-          let some : 0 < band_rows p.frame.height first c.args.count = rw count at w.if-count-gt0.true in
-          let fits : n * band_rows p.frame.height first c.args.count ≤ length c.args.room.now =
-          rw (bytes, count) at c.if-wanted-room.false in
-          let one : n * 1 ≤ n * band_rows p.frame.height first c.args.count =
-          mul-le n 1 n (band_rows p.frame.height first c.args.count) (omega arith) (omega (arith, some)) in
-          let row = (rw bytes at w.skip_rows.ensures.row) ∙ length-take-le n c.args.room.now (omega (arith, one, fits)) in
+          let begun : p.made + first ≡ first = omega (arith, c.requires.made) in
+          let made = rw (w.skip_rows.ensures, begun, count) at w.next_rows.ensures.rows in
           record {
-            rows = band_written n (band_rows p.frame.height first c.args.count) band w.skip_rows.new.row c.args.room.now
-                c.if-count-gt0.room (rw (made, bytes, count) at w.room-is) row some long;
+            rows = band_written (n * band_rows p.frame.height first c.args.count) band c.args.room.now
+                c.if-count-gt0.room (rw (made, bytes, count) at w.room-is) long;
             picture = c.told_of.ensures;
             answer = answer;
           }
@@ -44,7 +38,7 @@ pub returns-then-wanted-room-clause-small : goal.returns-then-wanted-room-clause
 returns-then-wanted-room-clause-small c =
     let p = c.args.picture.now in
     let first = c.args.first in
-    let bytes = c.row_bytes-bytes.ensures in
+    let bytes = c.row_bytes.ensures in
     let count : c.min-count.result ≡ band_rows p.frame.height first c.args.count =
     rw (c.saturating_sub.ensures, c.height.ensures.exact) at c.min-count.ensures in
     let long = band_long (stride p.frame.width) first c.args.count p.frame.height p.rows c.requires.rows in

@@ -4,7 +4,7 @@ use Rattle.std.proofs.lemmas.List.{map-append}
 use Rattle.std.proofs.lemmas.List.Elements.{All-pop, All-push}
 use Rattle.std.proofs.lemmas.List.Sums.{sum_by-append, sum_by-cons, sum_by_push}
 use Rattle.tt_metrics.specs.Metrics.{glyphs_of}
-use Rattle.tt_picture.proofs.Reframed.{nothing_left, of_middle}
+use Rattle.tt_picture.proofs.Parts.{nothing_left, of_middle}
 use Rattle.tt_glyphs.specs.declared.drawing.DrawnGlyph.{DrawnGlyph}
 use Rattle.tt_glyphs.specs.declared.ruled.TriedGlyph.{TriedGlyph}
 use Rattle.tt_glyphs.specs.Drawn.{DrawnFits, IsDrawn}
@@ -59,7 +59,6 @@ loop-one-preserved c =
           rw pushed (All-push (λ (d : DrawnGlyph). IsDrawn c.args.source.now.fit (maker d.number) d) at.made.items d
           (so_far.drawn maker source parts.0) here);
       fits = rw pushed (All-push DrawnFits at.made.items d so_far.fits one.fits);
-      room = rw c.in_ok-glyph.ensures.room so_far.room;
       left = rw (chords, crossings)
           (one_charged c.args.limits at.left c.draw_one.new.left (tried_chords at.yielded) (tried_crossings at.yielded)
           (ruled_chords t.body) (ruled_crossings t.body) so_far.left one.left);

@@ -17,6 +17,5 @@ invariant-loop-one l = record {
   drawn : (maker : ℕ → Fitter) → ((n : ℕ) → IsSourceOf l.source (maker n)) → All (IsTriedBy maker) l.yielded
       → All (λ (d : DrawnGlyph). IsDrawn l.source.fit (maker d.number) d) l.made.items;
   fits : All DrawnFits l.made.items;
-  room : l.sweep.room ≡ 512;
   left : IsLeft l.fn.limits (tried_chords l.yielded) (tried_crossings l.yielded) l.left;
 }

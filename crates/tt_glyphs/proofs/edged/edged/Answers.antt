@@ -1,14 +1,16 @@
-use Rattle.std.proofs.Common.{refl}
+use Rattle.std.proofs.Common.{◌≡◌, ◌∙◌, ap, refl, All}
 use Rattle.tt_fit_outline.specs.Views.{outline_of}
 use Rattle.tt_scan.specs.Contours.{contours_at}
-use Rattle.tt_glyphs.proofs.EdgesMade.{box_fits, boxed_by, contours_close, ink_held}
+use Rattle.tt_scan.specs.Tape.{Tape}
+use Rattle.tt_scan_edges.specs.Winding.{EdgeFits}
+use Rattle.tt_glyphs.proofs.EdgesMade.{box_fits, boxed_by, contours_close, contours_round, ink_near}
 use Rattle.tt_glyphs.proofs.edged.edged.Goals as goal
 
-pub first_frame-requires : goal.first_frame-requires
-first_frame-requires c =
+pub glyph_frame-frame-requires : goal.glyph_frame-frame-requires
+glyph_frame-frame-requires c =
     let i = c.ruled.inside in
     let ruled = rw (← c.ruled.view_is) at c.requires in
-    box_fits i.filled (outline_of i.outline) ruled
+    record { boxed = box_fits i.filled (outline_of i.outline) ruled }
 
 pub returns-clause-exact : goal.returns-clause-exact
 returns-clause-exact c =
@@ -25,16 +27,21 @@ returns-clause-exact c =
 pub returns-clause-fits : goal.returns-clause-fits
 returns-clause-fits c =
     let i = c.ruled.inside in
+    let o = outline_of i.outline in
+    let made = c.in_ok-made.made in
+    let es = made.list.edges in
+    let cs = contours_at es made.ends.items in
     let tape = c.in_ok-tape.ensures in
+    let exact = c.in_ok-made.ensures.exact in
     let ruled = rw (← c.ruled.view_is) at c.requires in
+    let boxed = boxed_by i.filled i.rule o es ruled exact in
+    let lent : c.lend.result.now ≡ es = c.lend.ensures.exact ∙ ap (λ (t : Tape). t.edges) tape in
+    let fit : All EdgeFits es = rw lent at c.lend.ensures.fits in
     record {
       few = rw tape c.in_ok-made.ensures.few;
-      boxed = rw tape (boxed_by i.filled i.rule (outline_of i.outline) c.in_ok-made.made.list.edges ruled c.in_ok-made.ensures.exact);
+      boxed = rw tape boxed;
       ends = rw tape c.in_ok-made.ensures.ends;
-      closed = let made = c.in_ok-made.made in
-          rw tape (contours_close i.filled i.rule (outline_of i.outline) (contours_at made.list.edges made.ends.items) c.in_ok-made.ensures.contours);
-      held =
-          let made = c.in_ok-made.made in
-          rw tape (ink_held c.contours_joined.ensures i.filled i.rule (outline_of i.outline) made.list.edges (contours_at made.list.edges made.ends.items)
-          ruled c.in_ok-made.ensures.exact c.in_ok-made.ensures.contours);
+      closed = rw tape (contours_close c.contours_joined.ensures i.rule o es exact);
+      round = rw tape (contours_round i.filled i.rule o cs c.in_ok-made.ensures.contours);
+      near = rw tape (ink_near i.filled es cs fit boxed);
     }

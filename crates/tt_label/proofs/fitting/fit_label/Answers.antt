@@ -1,7 +1,6 @@
-use Rattle.std.proofs.Common.{◌≡◌, ◌∙◌, ap, ℕ, ◌<◌, List, [], true, false, length, map, refl, sym, Ok, Vec, Global}
+use Rattle.std.proofs.Common.{◌≡◌, ◌∙◌, ap, ℕ, ◌<◌, List, [], true, map, refl, sym, Ok, Vec, Global}
 use Rattle.std.proofs.lemmas.Result.{err_from_is_err_and}
 use Rattle.tt_core.specs.Limits.{point_work_limit}
-use Rattle.tt_fit.specs.Fitting.{Fitter}
 use Rattle.tt_label.specs.Fitted.{glyphs_in}
 use Rattle.tt_label.proofs.Joined.{all_flat, flat_all, lists_joined}
 use Rattle.tt_metrics.specs.Metrics.{glyphs_of}
@@ -9,10 +8,12 @@ use Rattle.tt_picture.specs.Distinct.{distinct, is_among}
 use Rattle.tt_picture.specs.Fitted.{AreFitted, fitted_numbers}
 use Rattle.tt_strike.specs.Picture.{advance_with}
 use Rattle.tt_picture.proofs.Among.{all_among}
+use Rattle.tt_picture.proofs.Cached.{cached_stays}
 use Rattle.tt_picture.proofs.Listing.{distinct_differ}
 use Rattle.tt_picture.proofs.Outlines.{advances_are}
 use Rattle.tt_strike.specs.Work.{line_fitter, points_in, started, work_tested}
 use Rattle.tt_strike.proofs.Placed.{of-job}
+use Rattle.tt_strike.proofs.Setting.{started_alike}
 use Rattle.tt_strike.proofs.Stepped.{outline_stops_outlines, points_stop_outlines}
 use Rattle.tt_label.proofs.fitting.fit_label.Goals.{In_ok-charge_points, In_ok-fitted, In_ok-met}
 use Rattle.tt_label.proofs.fitting.fit_label.Goals as goal
@@ -49,8 +50,8 @@ charged_is c are = rw (c.deref-3.ensures.value, are) at c.in_ok-charge_points.en
 fitted_are : (c : In_ok-fitted)
     → c.in_ok-met.met.numbers.items ≡ distinct (glyphs_in (items_of c.args.steps.items))
     → c.charge_points.new.fitter ≡ started c.args.fitter.now (glyphs_in (items_of c.args.steps.items))
-    → AreFitted false (line_fitter c.args.fitter.now (glyphs_in (items_of c.args.steps.items))) c.in_ok-fitted.fitted.items
-fitted_are c are charged = rw (c.deref-4.ensures.value, are, charged, c.absent-none.ensures) at c.in_ok-fitted.ensures.fitted
+    → AreFitted (line_fitter c.args.fitter.now (glyphs_in (items_of c.args.steps.items))) c.in_ok-fitted.fitted.items
+fitted_are c are charged = rw (c.deref-4.ensures.value, are, charged) at c.in_ok-fitted.ensures.fitted
 
 fitted_numbers_are : (c : In_ok-fitted)
     → c.in_ok-met.met.numbers.items ≡ distinct (glyphs_in (items_of c.args.steps.items))
@@ -68,7 +69,11 @@ step_lines-requires-clause-among c =
     (λ (l : Vec (ℕ × ℕ) Global). l.items) c.args.steps.items (rw joined at all))
 
 pub fit_glyphs-requires-clause-cache : goal.fit_glyphs-requires-clause-cache
-fit_glyphs-requires-clause-cache c = rw c.absent-none.ensures tt
+fit_glyphs-requires-clause-cache c =
+    let all = goal.at.fit_glyphs-requires-clause-cache c in
+    let gs = glyphs_in (items_of c.args.steps.items) in
+    rw (charged_is all.In_ok-charge_points (numbers_are all.In_ok-met)) (cached_stays c.args.fitter.now
+    (started c.args.fitter.now gs) c.args.cache.now (started_alike c.args.fitter.now gs) c.requires.cache)
 
 pub fit_glyphs-requires-clause-differ : goal.fit_glyphs-requires-clause-differ
 fit_glyphs-requires-clause-differ c =
@@ -104,7 +109,6 @@ returns-clause-fitted c =
     let fitted = fitted_are all.In_ok-fitted numbers charged in
     record {
       steps = rw c.deref-6.ensures.value at c.in_ok-steps.ensures (advance_with s gs) (advances_are (line_fitter s gs) c.in_ok-fitted.fitted.items fitted);
-      room = c.in_ok-met.ensures.room ∙ rw c.metrics.ensures at c.glyphs.ensures.exact ∙ sym c.requires.glyphs;
       places = rw (fitted_numbers_are all.In_ok-fitted numbers, ← numbers) c.in_ok-met.ensures.places;
       numbers = fitted_numbers_are all.In_ok-fitted numbers;
       fitted = fitted;

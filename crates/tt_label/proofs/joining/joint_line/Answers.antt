@@ -1,4 +1,4 @@
-use Rattle.std.proofs.Common.{◌≡◌, ◌∙◌, refl, get_or, SFits, w32, arith}
+use Rattle.std.proofs.Common.{refl, get_or, SFits, w32, arith}
 use Rattle.std.proofs.lemmas.Int.{ints, to_z-of_z}
 use Rattle.tt_label.proofs.Joined.{glyphs_joined, joint_is}
 use Rattle.tt_label.proofs.Larger.{pens_within}

@@ -1,4 +1,4 @@
-use Rattle.std.proofs.Common.{◌≡◌, ◌∙◌, ◌<◌, ℕ, List, Vec, Global, map, refl, Ok}
+use Rattle.std.proofs.Common.{◌∙◌, ◌<◌, ℕ, Vec, Global, map, refl}
 use Rattle.std.proofs.lemmas.Result.{err_from_is_err_and}
 use Rattle.tt_core.specs.Limits.{text_limit}
 use Rattle.tt_label.specs.Label.{label_placed, stepped_lines}

@@ -1,4 +1,4 @@
-use Rattle.std.proofs.Common.{◌≡◌, ◌∙◌, ℕ, List, Vec, Global, ap, map, refl}
+use Rattle.std.proofs.Common.{◌≡◌, ◌∙◌, ℕ, List, Vec, Global, ap, map}
 use Rattle.std.proofs.lemmas.Result.{err_from_is_err_and}
 use Rattle.tt_label.specs.Label.{joint, label_glyphs}
 use Rattle.tt_label.specs.Views.{placements_of}
@@ -54,15 +54,13 @@ returns-in_err-glyphs-clause-defects c =
 pub returns-clause-made : goal.returns-clause-made
 returns-clause-made c =
     let all = goal.at.returns-clause-made c in
-    let made = rw c.absent-none.ensures at c.in_ok-glyphs.ensures.made in
     let cost = rw (c.lay_label.ensures.same, c.in_ok-joint.ensures.margin, joint_then all.In_ok-joint) at c.in_ok-glyphs.ensures.cost in
     record {
       placed = c.in_ok-lines.ensures.exact;
       laid = c.in_ok-lines.ensures.laid;
       made = made_as_joint c.args.sized.now c.lay_label.new.sized c.args.text.now c.args.margin c.in_ok-joint.joint.margin
           (placements_of c.in_ok-lines.lines.items) (placement_of c.in_ok-joint.joint.line) c.lay_label.ensures.same
-          c.in_ok-joint.ensures.margin (joint_then all.In_ok-joint) made;
-      seated = rw c.lay_label.ensures.same at c.in_ok-glyphs.ensures.valid;
+          c.in_ok-joint.ensures.margin (joint_then all.In_ok-joint) c.in_ok-glyphs.ensures.made;
       cost = cost_textless c.args.sized.now c.args.text.now c.args.margin (joint (placements_of c.in_ok-lines.lines.items)) ∙ cost;
     }
 
@@ -70,3 +68,12 @@ pub returns-clause-defects : goal.returns-clause-defects
 returns-clause-defects c =
     let all = goal.at.returns-clause-defects c in
     rw (← numbers_then all.In_ok-joint) (rw c.lay_label.ensures.same at c.in_ok-glyphs.ensures.defects)
+
+pub tested_glyphs-requires-clause-cache : goal.tested_glyphs-requires-clause-cache
+tested_glyphs-requires-clause-cache c = rw c.lay_label.ensures.same c.requires.cache
+
+pub returns-in_err-glyphs-clause-cache : goal.returns-in_err-glyphs-clause-cache
+returns-in_err-glyphs-clause-cache c = rw c.lay_label.ensures.same at c.tested_glyphs.ensures.cache
+
+pub returns-clause-cache : goal.returns-clause-cache
+returns-clause-cache c = rw c.lay_label.ensures.same at c.tested_glyphs.ensures.cache

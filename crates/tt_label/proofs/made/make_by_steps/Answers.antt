@@ -1,4 +1,4 @@
-use Rattle.std.proofs.Common.{◌≡◌, ◌∙◌, ◌<◌, ◌≤◌, ℕ, false, List, Vec, Global, ap, length, map, refl, sym, Ok}
+use Rattle.std.proofs.Common.{◌≡◌, ◌∙◌, ◌<◌, ◌≤◌, ℕ, List, Vec, Global, ap, length, map, sym, Ok}
 use Rattle.std.proofs.lemmas.List.{length-map}
 use Rattle.std.proofs.lemmas.Result.{err_from_is_err_and}
 use Rattle.std.specs.List.{flat_map}
@@ -10,7 +10,7 @@ use Rattle.tt_label.specs.Fitted.{glyphs_in}
 use Rattle.tt_label.specs.Label.{joint, joint_numbers, label_glyphs, stepped_lines}
 use Rattle.tt_label.specs.Made.{AreLaid}
 use Rattle.tt_label.specs.Views.{placements_of}
-use Rattle.tt_label.proofs.ByStep.{IsFittedText, IsOutlinedLabel, as_joint, edges_stop_label, fitted_text, label_edges, label_laid, label_made, label_points, outlines_stop_label, setting_stops_label, size_stops_label, size_tells_no_defect, text_glyphs_are}
+use Rattle.tt_label.proofs.ByStep.{IsFittedText, IsOutlinedLabel, edges_stop_label, fitted_text, label_edges, label_laid, label_made, label_points, outlines_stop_label, setting_stops_label, size_stops_label, size_tells_no_defect, text_glyphs_are}
 use Rattle.tt_label.proofs.Joined.{all_flat, each_short, lists_joined}
 use Rattle.tt_label.proofs.Placed.{laid_by, placed_lines}
 use Rattle.tt_line.specs.declared.line.Line.{Line}
@@ -19,6 +19,7 @@ use Rattle.tt_line.specs.Steps.{step_in_pixels}
 use Rattle.tt_line.specs.Outcome.{placement_of}
 use Rattle.tt_metrics.specs.Metrics.{glyphs_of}
 use Rattle.tt_picture.specs.Distinct.{distinct}
+use Rattle.tt_picture.specs.Fitted.{AreFitted}
 use Rattle.tt_picture.proofs.Among.{of_same_glyphs}
 use Rattle.tt_strike.specs.declared.laid.Laid.{Laid}
 use Rattle.tt_picture.specs.Shapes.{crossings_in}
@@ -27,15 +28,16 @@ use Rattle.tt_strike.specs.Defects.{IsLineDefect}
 use Rattle.tt_strike.specs.Job.{Job}
 use Rattle.tt_strike.specs.Makers.{IsMaker}
 use Rattle.tt_strike.specs.Picture.{edges_tested, shapes_in}
-use Rattle.tt_strike.specs.Strikes.{SizedFace, job_by}
+use Rattle.tt_strike.specs.Strikes.{IsCacheOf, SizedFace, job_by}
 use Rattle.tt_strike.specs.Work.{line_fitter, work_left}
+use Rattle.tt_strike.proofs.Caches.{of_face, of_fitter}
 use Rattle.tt_strike.proofs.Costed.{costed}
 use Rattle.tt_strike.proofs.Placed.{of-job}
-use Rattle.tt_strike.proofs.Setting.{given_back, line_alike}
+use Rattle.tt_strike.proofs.Setting.{given_back, line_alike, maker_alike}
 use Rattle.tt_strike.proofs.Stepped.{line_tells_no_defect, outlines_pass, outlines_tell_defect}
 use Rattle.tt_strike.proofs.Stopped.{font_tells}
 use Rattle.tt_strike.proofs.Telling.{no_line_defect, setting_tells}
-use Rattle.tt_label.proofs.made.make_by_steps.Goals.{After-give_back, In_ok-joint, In_ok-label, In_ok-lines, In_ok-steps}
+use Rattle.tt_label.proofs.made.make_by_steps.Goals.{After-give_back, After-tested_edges, In_ok-joint, In_ok-label, In_ok-lines, In_ok-steps}
 use Rattle.tt_label.proofs.made.make_by_steps.Goals as goal
 
 -- the job of a text at this place
@@ -134,6 +136,11 @@ outlined_then c are f =
 pub fit_label-requires-clause-known : goal.fit_label-requires-clause-known
 fit_label-requires-clause-known c = rw c.sized.invariant.1 at c.in_ok-steps.ensures.known
 
+pub fit_label-requires-clause-cache : goal.fit_label-requires-clause-cache
+fit_label-requires-clause-cache c =
+    let z : SizedFace = record { face = c.sized.inside.source.face.now; ppem = c.sized.inside.source.ppem; fit = c.sized.inside.source.fit } in
+    of_fitter z c.in_ok-fitter.fitter c.args.cache.now c.in_ok-fitter.ensures.setting (rw (← c.sized.view_is) at c.requires.cache)
+
 pub fit_label-requires-clause-bounded : goal.fit_label-requires-clause-bounded
 fit_label-requires-clause-bounded c = rw (← c.sized.view_is) at c.requires.bounded
 
@@ -228,7 +235,7 @@ returns-in_err-glyphs-clause-stops c =
     let shapes = label_made z.face a c.args.align s lines fs is in
     let exact = rw (joint_then all.In_ok-joint) at c.in_err-glyphs.ensures.exact in
     let fails = rw (label_edges z.face a c.args.align s lines fs shapes.0 is) at
-    (exact false (line_fitter s (label_glyphs z.face.cmap c.args.text.now)) shapes.0 is.fitted shapes.1) in
+    (exact (line_fitter s (label_glyphs z.face.cmap c.args.text.now)) shapes.0 is.fitted shapes.1) in
     let p = err_from_is_err_and c.from_residual-in_err-glyphs.result c.from_residual-in_err-glyphs.ensures.1 in
     rw (p.1, p.2, ← c.sized.view_is) (edges_stop_label z.face a c.args.align s lines fs shapes.0 c.in_err-glyphs.field-0.0 is
     (rw is.glyphs shapes.1) fails)
@@ -245,7 +252,7 @@ returns-in_err-glyphs-clause-defects c =
     let is = outlined_then all.In_ok-lines are (fitted_then all.In_ok-label are) in
     let shapes = label_made z.face a c.args.align s lines fs is in
     let exact = rw (joint_then all.In_ok-joint) at c.in_err-glyphs.ensures.exact in
-    let fails = exact false (line_fitter s (label_glyphs z.face.cmap c.args.text.now)) shapes.0 is.fitted shapes.1 in
+    let fails = exact (line_fitter s (label_glyphs z.face.cmap c.args.text.now)) shapes.0 is.fitted shapes.1 in
     let p = err_from_is_err_and c.from_residual-in_err-glyphs.result c.from_residual-in_err-glyphs.ensures.1 in
     rw (p.1, p.2) (line_tells_no_defect _ _ c.in_err-glyphs.field-0.0 fails)
 
@@ -266,13 +273,10 @@ returns-clause-made c =
     let few = label_points z.face a c.args.align s lines fs is in
     let exact = rw (joint_then all.In_ok-joint) at c.in_ok-glyphs.ensures.exact in
     let seldom : edges_tested s a (joint lines) shapes.0 ≡ Ok tt = of-job (edges_tested s a (joint lines) shapes.0) tt
-    (rw (label_edges z.face a c.args.align s lines fs shapes.0 is) at (exact false maker shapes.0 is.fitted shapes.1)) in
-    let of = as_joint maker (placement_of c.in_ok-joint.joint.line) (joint lines) c.in_ok-joint.joint.margin c.args.margin
-    (line_then all.In_ok-joint) c.in_ok-joint.ensures.margin (c.in_ok-glyphs.ensures.line false maker is.fitted) in
-    let room : length c.in_ok-label.label.places.items ≡ glyphs_of z.face.metrics = f.room ∙ c.in_ok-fitter.ensures.setting.glyphs in
+    (rw (label_edges z.face a c.args.align s lines fs shapes.0 is) at (exact maker shapes.0 is.fitted shapes.1)) in
     let counts = rw (joint_then all.In_ok-joint) at c.in_ok-glyphs.ensures.cost in
     let cost : c.in_ok-glyphs.glyphs.cost ≡ cost_of (work_left s (joint_numbers lines)) (crossings_in shapes.0) =
-    counts false maker shapes.0 is.fitted shapes.1
+    counts maker shapes.0 is.fitted shapes.1
     ∙ ap (λ left. cost_of left (crossings_in shapes.0)) (is.work ∙ ap (work_left s) (sym is.glyphs)) in
     rw (← c.sized.view_is) (record {
       placed = label_laid z.face a c.args.align s lines fs is;
@@ -284,12 +288,9 @@ returns-clause-made c =
         few = few;
         fitted = fitted;
         seldom = seldom;
-        drawn = rw is.glyphs of.drawn;
-        numbers = of.numbers;
-        within = of.pens;
-        stand = rw shapes.1 at of.stand;
+        drawn = rw is.glyphs (c.in_ok-glyphs.ensures.drawn maker is.fitted);
+        numbers = c.in_ok-glyphs.ensures.numbers ∙ is.numbers ∙ ap distinct (sym is.glyphs);
       };
-      seated = rw room at c.in_ok-glyphs.ensures.valid;
       cost = costed z.face a (joint lines) s shapes.0 is.there few fitted seldom ∙ ap Ok (sym cost);
     })
 
@@ -313,7 +314,7 @@ tested_edges-requires-clause-bounded c = rw (← c.sized.view_is) at c.requires.
 pub tested_edges-requires-clause-made : goal.tested_edges-requires-clause-made
 tested_edges-requires-clause-made c =
     let all = goal.at.tested_edges-requires-clause-made c in
-    (false, line_fitter c.in_ok-fitter.fitter (label_glyphs c.sized.inside.source.face.now.cmap c.args.text.now), (fitted_then all.In_ok-label (lines_are all.In_ok-steps)).fitted)
+    (line_fitter c.in_ok-fitter.fitter (label_glyphs c.sized.inside.source.face.now.cmap c.args.text.now), (fitted_then all.In_ok-label (lines_are all.In_ok-steps)).fitted)
 
 pub tested_edges-requires-clause-places : goal.tested_edges-requires-clause-places
 tested_edges-requires-clause-places c = c.in_ok-label.ensures.fitted.places
@@ -326,15 +327,6 @@ tested_edges-requires-clause-numbers c =
     let is = outlined_then all.In_ok-lines are f in
     rw (joint_then all.In_ok-joint) (f.numbers ∙ ap distinct (sym is.glyphs))
 
-pub tested_edges-requires-clause-known : goal.tested_edges-requires-clause-known
-tested_edges-requires-clause-known c =
-    let all = goal.at.tested_edges-requires-clause-known c in
-    let are = lines_are all.In_ok-steps in
-    let laid = laid_then all.In_ok-lines (few_glyphs all.In_ok-label are) (same_glyphs all.In_ok-label are) (as_many_lines all.In_ok-label are) in
-    let room : length c.in_ok-label.label.places.items ≡ glyphs_of c.sized.inside.source.face.now.metrics =
-    (fitted_then all.In_ok-label are).room ∙ c.in_ok-fitter.ensures.setting.glyphs in
-    rw (room, joint_then all.In_ok-joint) laid.known
-
 pub joint_line-requires : goal.joint_line-requires
 joint_line-requires c =
     let all = goal.at.joint_line-requires c in
@@ -343,6 +335,30 @@ joint_line-requires c =
       rw c.deref.ensures.value (laid_then all.In_ok-lines (few_glyphs all.In_ok-label are) (same_glyphs all.In_ok-label are)
           (as_many_lines all.In_ok-label are)),
     )
+
+-- the cache is then that of the font at the size
+cache_then : (c : After-tested_edges)
+    → AreFitted (line_fitter c.in_ok-fitter.fitter (label_glyphs c.sized.inside.source.face.now.cmap c.args.text.now)) c.in_ok-label.label.fitted.items
+    → IsCacheOf c.args.sized.now c.tested_edges.new.cache
+cache_then c fitted =
+    let z : SizedFace = record { face = c.sized.inside.source.face.now; ppem = c.sized.inside.source.ppem; fit = c.sized.inside.source.fit } in
+    let s = c.in_ok-fitter.fitter in
+    let gs = label_glyphs z.face.cmap c.args.text.now in
+    let before = rw (← c.sized.view_is) at c.requires.cache in
+    let own = of_fitter z s c.args.cache.now c.in_ok-fitter.ensures.setting before in
+    let after = c.tested_edges.ensures.cached (line_fitter s gs) s fitted (maker_alike s gs) own in
+    rw (← c.sized.view_is) (of_face z s c.args.cache.now c.tested_edges.new.cache c.in_ok-fitter.ensures.exact
+    c.tested_edges.ensures.limit before after)
+
+pub returns-in_err-glyphs-clause-cache : goal.returns-in_err-glyphs-clause-cache
+returns-in_err-glyphs-clause-cache c =
+    let all = goal.at.returns-in_err-glyphs-clause-cache c in
+    cache_then all.After-tested_edges (fitted_then all.In_ok-label (lines_are all.In_ok-steps)).fitted
+
+pub returns-clause-cache : goal.returns-clause-cache
+returns-clause-cache c =
+    let all = goal.at.returns-clause-cache c in
+    cache_then all.After-tested_edges (fitted_then all.In_ok-label (lines_are all.In_ok-steps)).fitted
 
 -- the fitter that is given back is the one before the label
 maker_then : (c : After-give_back) → items_of c.in_ok-steps.steps.items

@@ -1,10 +1,8 @@
-use Rattle.std.proofs.Common.{◌≡◌, ◌∙◌, ℕ, List, [], ◌∷◌, ◌++◌, append-nil, append_assoc, length, map, refl, sym, ap, arith}
+use Rattle.std.proofs.Common.{◌≡◌, ◌∙◌, [], ◌∷◌, append-nil, append_assoc, length, map, refl, sym, ap, arith}
 use Rattle.std.proofs.lemmas.List.{map_push, nil_from_length}
 use Rattle.std.proofs.lemmas.List.Elements.{All-push}
 use Rattle.std.specs.Vec.Iter.{into_iter_items}
 use Rattle.tt_label.specs.Views.{placements_of}
-use Rattle.tt_line.specs.declared.line.Line.{Line}
-use Rattle.tt_line.specs.Layout.{Placement}
 use Rattle.tt_line.specs.Outcome.{placement_of}
 use Rattle.tt_strike.specs.declared.laid.Laid.{Laid}
 use Rattle.tt_label.proofs.made.with_margin.Goals as goal

@@ -1,22 +1,43 @@
-use Rattle.std.proofs.Common.{◌-◌, ◌^◌, ◌≤◌, length, arith}
-use Rattle.tt_picture.specs.Glyphs.{crossings_standing}
-use Rattle.tt_picture.proofs.Crossed.{all_crossed, one_glyph_crosses}
+use Rattle.std.proofs.Common.{◌≡◌, ◌∙◌, ◌∷◌, [], ◌++◌, ◌-◌, ◌^◌, ◌<◌, ◌≤◌, ap, get_or, length, refl, arith}
+use Rattle.tt_core.specs.Outcomes.{each}
+use Rattle.tt_picture.specs.Glyphs.{Glyph}
+use Rattle.tt_picture.specs.Shapes.{glyph_shape}
+use Rattle.tt_picture.proofs.Crossed.{all_crossed, one_shape_crosses}
+use Rattle.tt_picture.proofs.Places.{one_more_made}
+use Rattle.tt_picture.proofs.Standings.{drawn_at, drawn_is, number_is}
+use Rattle.tt_picture.proofs.Turns.{none_before}
 use Rattle.tt_picture.proofs.counting.crossings.Goals as goal
 
-pub loop-glyph-preserved : goal.loop-glyph-preserved
-loop-glyph-preserved c =
-    let gs = c.args.glyphs.now in
-    let more = c.saturating_add-all.ensures in
-    record {
-      sum = rw (more, c.crossings.ensures) (one_glyph_crosses gs c.loop-glyph.glyph-index c.glyph-item.result
-          c.loop-glyph.all (2 ^ 64 - 1) (crossings_standing gs) c.loop-glyph-test.true c.glyph-item.is
-          c.loop-glyph.invariant.sum);
-      small = omega (arith, more);
-    }
+pub place_of-at-requires : goal.place_of-at-requires
+place_of-at-requires c = c.requires c.loop-placed.placed-index (0, 0) c.loop-placed-test.true
+
+pub loop-placed-init : goal.loop-placed-init
+loop-placed-init c = λ maker drawn. ([], none_before (each (glyph_shape maker) c.args.line.now), refl)
+
+pub loop-placed-preserved : goal.loop-placed-preserved
+loop-placed-preserved c = λ maker drawn.
+    let gs = c.args.glyphs.now.made.items in
+    let line = c.args.line.now in
+    let i = c.loop-placed.placed-index in
+    let placed = get_or line i (0, 0) in
+    let below : i < length line = c.loop-placed-test.true in
+    let (done, made, sum) = c.loop-placed.invariant maker drawn in
+    let at = c.place_of-at.result in
+    let g : Glyph = c.index-glyph.result.now in
+    let is : g ≡ get_or gs at g = c.index-glyph.ensures in
+    let own = drawn_is maker gs at g drawn c.place_of-at.ensures.within is in
+    let number : g.number ≡ placed.0 = number_is gs at g placed.0 c.place_of-at.ensures.within is c.place_of-at.ensures.number in
+    let (shape, shaped, crosses) = drawn_at maker g placed own number in
+    let counted : c.glyph.inside.crossings ≡ g.crossings = ap (λ (g : Glyph). g.crossings) c.glyph.view_is in (
+      done ++ shape ∷ [],
+      one_more_made (glyph_shape maker) line i (0, 0) done shape below shaped ∙ made,
+      c.saturating_add-all.ensures ∙ one_shape_crosses done shape c.loop-placed.all c.glyph.inside.crossings (2 ^ 64 - 1) sum
+          (counted ∙ crosses),
+    )
 
 pub returns : goal.returns
-returns c =
-    let gs = c.args.glyphs.now in
-    let over : length gs ≤ c.loop-glyph.glyph-index = omega (arith, c.loop-glyph-test.false) in
-    all_crossed gs c.loop-glyph.glyph-index c.loop-glyph.all (2 ^ 64 - 1) (crossings_standing gs) over
-    c.loop-glyph.invariant.small c.loop-glyph.invariant.sum
+returns c = λ maker shapes drawn made.
+    let line = c.args.line.now in
+    let over : length line ≤ c.loop-placed.placed-index = omega (arith, c.loop-placed-test.false) in
+    let (done, so_far, sum) = c.loop-placed.invariant maker drawn in
+    all_crossed (glyph_shape maker) line c.loop-placed.placed-index done shapes c.loop-placed.all (2 ^ 64 - 1) over so_far made sum

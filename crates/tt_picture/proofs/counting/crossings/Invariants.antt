@@ -1,11 +1,13 @@
-use Rattle.std.proofs.Common.{◌≡◌, ◌+◌, ◌-◌, ◌^◌, ◌≤◌, min, drop}
-use Rattle.tt_picture.specs.Glyphs.{crossings_standing}
+use Rattle.std.proofs.Common.{◌≡◌, ◌-◌, ◌^◌, ℕ, min, drop, List}
+use Rattle.tt_core.specs.Outcomes.{each, after_each}
+use Rattle.tt_fit.specs.Fitting.{Fitter}
+use Rattle.tt_picture.specs.Glyphs.{AreDrawn}
+use Rattle.tt_picture.specs.Pixels.{Shape}
+use Rattle.tt_picture.specs.Shapes.{crossings_in, glyph_shape}
 use Rattle.tt_picture.proofs.counting.crossings.Given as goal
 
--- the crossings so far, and those of the remaining glyphs, are all
-abbrev pub invariant-loop-glyph : goal.invariant-loop-glyph
-invariant-loop-glyph l = record {
-  sum : min (l.all + crossings_standing (drop l.glyph-index l.glyphs)) (2 ^ 64 - 1)
-      ≡ min (crossings_standing l.glyphs) (2 ^ 64 - 1);
-  small : l.all ≤ 2 ^ 64 - 1;
-}
+-- the crossings of the shapes so far
+abbrev pub invariant-loop-placed : goal.invariant-loop-placed
+invariant-loop-placed l = (maker : ℕ → Fitter) → AreDrawn maker l.glyphs.made.items
+    → (done : List Shape) × (after_each (glyph_shape maker) (drop l.placed-index l.line) done ≡ each (glyph_shape maker) l.line)
+    × (l.all ≡ min (crossings_in done) (2 ^ 64 - 1))

@@ -1,4 +1,4 @@
-use Rattle.std.proofs.Common.{◌≡◌, ◌∙◌, ◌∷◌, [], ◌++◌, ◌+◌, ◌<◌, ◌≤◌, inl, inr, ℕ, List, Bool, Some, length, refl, sym, ap, subst, append_assoc, append-nil, arith}
+use Rattle.std.proofs.Common.{◌≡◌, ◌∙◌, ◌∷◌, [], ◌++◌, ◌+◌, ◌<◌, ◌≤◌, inl, inr, ℕ, List, Some, length, refl, sym, ap, subst, append_assoc, append-nil, arith}
 use Rattle.std.specs.Vec.Iter.{into_iter_items}
 use Rattle.std.proofs.lemmas.List.{map-append}
 use Rattle.std.proofs.lemmas.List.Elements.{All-pop, All-push}
@@ -6,34 +6,32 @@ use Rattle.tt_fit.specs.Fitting.{Fitter}
 use Rattle.tt_picture.specs.Fitted.{AreFitted, FittedGlyph, IsFitted, body_chords, fitted_chords, fitted_crossings, fitted_numbers}
 use Rattle.tt_picture.specs.Glyphs.{Glyph, IsDrawn}
 use Rattle.tt_picture.proofs.Cached.{served}
-use Rattle.tt_picture.proofs.Filled.{one_can_be_counted}
 use Rattle.tt_picture.proofs.Outlines.{one_chord_more, one_glyph_more, too_many_chords, too_many_crossings}
-use Rattle.tt_picture.proofs.Reframed.{IsBare, nothing_left, of_middle}
+use Rattle.tt_picture.proofs.Parts.{nothing_left, of_middle}
 use Rattle.tt_picture.proofs.fitting.drawn_glyphs.Goals as goal
 
-abbrev IsBy : Bool → (ℕ → Fitter) → FittedGlyph → Type 0
-IsBy cached maker g = IsFitted cached (maker g.number) g
+abbrev IsBy : (ℕ → Fitter) → FittedGlyph → Type 0
+IsBy maker g = IsFitted (maker g.number) g
 
-pub into_glyph-requires-clause-fitted : goal.into_glyph-requires-clause-fitted
-into_glyph-requires-clause-fitted c =
-    let at = c.loop-one in
-    let g = c.in-Some.one in
-    let (cached, maker, fitted) = c.requires.made in
-    let rest = into_iter_items c.next.new.self in
-    let steps : into_iter_items at.one-iterator ≡ g ∷ rest = c.in-Some.ensures.steps.0 in
-    let all : at.yielded ++ g ∷ rest ≡ c.args.fitted.items = rw (← steps) at.invariant.all in
-    (cached, maker g.number, of_middle (IsBy cached maker) at.yielded rest g (subst (AreFitted cached maker) (sym all) fitted))
+-- the next glyph is fitted
+next_fitted : (drawn left rest all : List FittedGlyph) (g : FittedGlyph) → drawn ++ left ≡ all → left ≡ g ∷ rest
+    → (maker : ℕ → Fitter) × AreFitted maker all → (s : Fitter) × IsFitted s g
+next_fitted drawn left rest all g parts first made =
+    let (maker, fitted) = made in
+    let here : drawn ++ g ∷ rest ≡ all = rw first at parts in
+    (maker g.number, of_middle (IsBy maker) drawn rest g (subst (AreFitted maker) (sym here) fitted))
 
-pub pen_crossings-crossings-requires : goal.pen_crossings-crossings-requires
-pen_crossings-crossings-requires c =
-    let at = c.loop-one in
-    let g = c.in-Some.one in
-    let (cached, maker, fitted) = c.requires.made in
-    let rest = into_iter_items c.next.new.self in
-    let steps : into_iter_items at.one-iterator ≡ g ∷ rest = c.in-Some.ensures.steps.0 in
-    let all : at.yielded ++ g ∷ rest ≡ c.args.fitted.items = rw (← steps) at.invariant.all in
-    let own = of_middle (IsBy cached maker) at.yielded rest g (subst (AreFitted cached maker) (sym all) fitted) in
-    one_can_be_counted (maker g.number) c.args.frame c.in_ok-glyph.glyph (c.in_ok-glyph.ensures.valid cached (maker g.number) own)
+pub has_chords_within-requires : goal.has_chords_within-requires
+has_chords_within-requires c = record {
+  fitted = next_fitted c.loop-one.yielded (into_iter_items c.loop-one.one-iterator) (into_iter_items c.next.new.self)
+      c.args.fitted.items c.in-Some.one c.loop-one.invariant.all c.in-Some.ensures.steps.0 c.requires.made;
+}
+
+pub into_glyph-requires : goal.into_glyph-requires
+into_glyph-requires c = record {
+  fitted = next_fitted c.loop-one.yielded (into_iter_items c.loop-one.one-iterator) (into_iter_items c.next.new.self)
+      c.args.fitted.items c.in-Some.one c.loop-one.invariant.all c.in-Some.ensures.steps.0 c.requires.made;
+}
 
 pub loop-one-preserved : goal.loop-one-preserved
 loop-one-preserved c =
@@ -48,8 +46,9 @@ loop-one-preserved c =
     let has = c.has_chords_within.ensures in
     let few = c.if-not-has_chords_within.false in
     let within : body_chords g.body ≤ at.left.chords = grind (arith, has, few) in
-    let fits : (c.glyph.inside.chords ≤ at.left.chords) × (c.pen_crossings-crossings.result ≤ at.left.crossings) =
-    (omega (arith, same, one.chords, within), omega (arith, c.if-crossings-left.false)) in
+    let crosses : c.glyph.inside.crossings ≡ h.crossings = ap (λ (g : Glyph). g.crossings) c.glyph.view_is in
+    let fits : (c.glyph.inside.chords ≤ at.left.chords) × (c.glyph.inside.crossings ≤ at.left.crossings) =
+    (omega (arith, same, one.chords, within), omega (arith, c.if-glyph-left.false)) in
     record {
       all = append_assoc at.yielded (g ∷ []) _ ∙ rw (← steps) so_far.all;
       count = let was = so_far.count in
@@ -58,17 +57,15 @@ loop-one-preserved c =
           omega arith;
       numbers = rw pushed (map-append (λ (g : Glyph). g.number) at.made.items (h ∷ [])
           ∙ rw (so_far.numbers, one.number) (sym (map-append (λ (g : FittedGlyph). g.number) at.yielded (g ∷ []))));
-      bare = rw pushed (All-push IsBare at.made.items h so_far.bare (one.left, one.pens));
-      drawn = λ cached maker all.
-          let parts = All-pop (IsBy cached maker) (at.yielded ++ g ∷ []) at.yielded (Some g) refl all in
+      drawn = λ maker all.
+          let parts = All-pop (IsBy maker) (at.yielded ++ g ∷ []) at.yielded (Some g) refl all in
           let from : maker h.number ≡ maker g.number = ap maker one.number in
-          let valid : IsDrawn cached (maker g.number) c.args.frame h = one.valid cached (maker g.number) parts.1 in
-          let here : IsDrawn cached (maker h.number) c.args.frame h = rw from valid in
-          rw pushed (All-push (λ (g : Glyph). IsDrawn cached (maker g.number) c.args.frame g) at.made.items h
-          (so_far.drawn cached maker parts.0) here);
+          let valid : IsDrawn (maker g.number) h = one.valid (maker g.number) parts.1 in
+          let here : IsDrawn (maker h.number) h = rw from valid in
+          rw pushed (All-push (λ (g : Glyph). IsDrawn (maker g.number) g) at.made.items h (so_far.drawn maker parts.0) here);
       left = one_chord_more at.yielded g at.left.chords c.args.limits.chords c.glyph.inside.chords so_far.left (same ∙ one.chords) fits.0;
-      crossed = one_glyph_more at.yielded g at.left.crossings c.args.limits.crossings c.pen_crossings-crossings.result so_far.crossed
-          (c.pen_crossings-crossings.ensures ∙ one.crossings) fits.1;
+      crossed = one_glyph_more at.yielded g at.left.crossings c.args.limits.crossings c.glyph.inside.crossings so_far.crossed
+          (crosses ∙ one.crossings) fits.1;
       cached = served c.args.cache.now at.cache c.into_glyph.new.cache at.yielded (g ∷ []) [] (at.yielded ++ g ∷ []) g refl refl
           so_far.cached one.cached;
       limit = one.limit ∙ so_far.limit;
@@ -85,10 +82,10 @@ returns-clause-numbers c =
     at.invariant.numbers ∙ ap fitted_numbers all
 
 pub returns-clause-drawn : goal.returns-clause-drawn
-returns-clause-drawn c = λ cached maker fitted.
+returns-clause-drawn c = λ maker fitted.
     let at = c.loop-one in
     let all = all_drawn at.yielded _ c.args.fitted.items at.invariant.all (sym at.invariant.count ∙ c.in-None.ensures.steps.0) in
-    at.invariant.drawn cached maker (subst (AreFitted cached maker) (sym all) fitted)
+    at.invariant.drawn maker (subst (AreFitted maker) (sym all) fitted)
 
 pub returns-clause-few : goal.returns-clause-few
 returns-clause-few c =
@@ -129,24 +126,25 @@ returns-then-not-has_chords_within-clause-cached c =
     let at = c.loop-one in
     served c.args.cache.now at.cache at.cache at.yielded (into_iter_items at.one-iterator)
     (into_iter_items c.next.new.self) c.args.fitted.items c.in-Some.one at.invariant.all c.in-Some.ensures.steps.0
-    at.invariant.cached (λ cached s is before. before)
+    at.invariant.cached (λ s is before. before)
 
 -- a glyph has more crossings than are left
-pub returns-then-crossings-left-clause-many : goal.returns-then-crossings-left-clause-many
-returns-then-crossings-left-clause-many c =
+pub returns-then-glyph-left-clause-many : goal.returns-then-glyph-left-clause-many
+returns-then-glyph-left-clause-many c =
     let at = c.loop-one in
     let g = c.in-Some.one in
     let rest = into_iter_items c.next.new.self in
     let steps : into_iter_items at.one-iterator ≡ g ∷ rest = c.in-Some.ensures.steps.0 in
     let all : at.yielded ++ g ∷ rest ≡ c.args.fitted.items = rw (← steps) at.invariant.all in
-    let crosses = c.pen_crossings-crossings.ensures ∙ c.in_ok-glyph.ensures.crossings in
-    let over : at.left.crossings < c.pen_crossings-crossings.result = omega (arith, c.if-crossings-left.true) in
-    inr (rw (← all) (too_many_crossings at.yielded rest g at.left.crossings c.args.limits.crossings c.pen_crossings-crossings.result
+    let own : c.glyph.inside.crossings ≡ c.in_ok-glyph.glyph.crossings = ap (λ (g : Glyph). g.crossings) c.glyph.view_is in
+    let crosses = own ∙ c.in_ok-glyph.ensures.crossings in
+    let over : at.left.crossings < c.glyph.inside.crossings = omega (arith, c.if-glyph-left.true) in
+    inr (rw (← all) (too_many_crossings at.yielded rest g at.left.crossings c.args.limits.crossings c.glyph.inside.crossings
     at.invariant.crossed crosses over))
 
 -- the cache after the glyphs so far and one more
-pub returns-then-crossings-left-clause-cached : goal.returns-then-crossings-left-clause-cached
-returns-then-crossings-left-clause-cached c =
+pub returns-then-glyph-left-clause-cached : goal.returns-then-glyph-left-clause-cached
+returns-then-glyph-left-clause-cached c =
     let at = c.loop-one in
     served c.args.cache.now at.cache c.into_glyph.new.cache at.yielded (into_iter_items at.one-iterator)
     (into_iter_items c.next.new.self) c.args.fitted.items c.in-Some.one at.invariant.all c.in-Some.ensures.steps.0

@@ -5,12 +5,11 @@ use Rattle.std.proofs.lemmas.Result.{err_from_is_err_and}
 use Rattle.tt_core.specs.Outcomes.{each}
 use Rattle.tt_fit.specs.Fitting.{fitted_outline}
 use Rattle.tt_picture.specs.Distinct.{IsNext, fitter_after, fitter_for}
-use Rattle.tt_picture.specs.Cached.{is_there}
 use Rattle.tt_picture.specs.Fitted.{FittedGlyph, IsFitted}
 use Rattle.tt_picture.proofs.Cached.{cache_after}
 use Rattle.tt_picture.proofs.Outlines.{all_new, not_yet, stuck_there}
 use Rattle.tt_picture.proofs.Places.{one_more_made}
-use Rattle.tt_picture.proofs.Reframed.{none_left}
+use Rattle.tt_picture.proofs.Parts.{none_left}
 use Rattle.tt_picture.proofs.Turns.{next_is, none_before, pushed, same_tables}
 use Rattle.tt_picture.proofs.fitting.fit_glyphs.Goals.{After-of}
 use Rattle.tt_picture.proofs.fitting.fit_glyphs.Goals as goal
@@ -65,13 +64,12 @@ loop-number-preserved c =
     let items = c.in_ok-push.ensures.items in
     let number : h.number ≡ n = one.number in
     let own : maker h.number ≡ c.loop-number.fitter = ap maker number ∙ from in
-    let there = is_there c.args.cache.now in
-    let fitted : IsFitted there (maker h.number) h = rw own one.fitted in
+    let fitted : IsFitted (maker h.number) h = rw own one.fitted in
     let outline : fitted_outline (maker n) n ≡ Ok fitted.shape = rw number at fitted.outline in
     record {
       numbers = rw (items, map-append (λ (g : FittedGlyph). g.number) made (h ∷ []), so_far.numbers, number)
           (sym (take_more ns i 0 below));
-      fitted = rw items (All-push (λ (g : FittedGlyph). IsFitted there (maker g.number) g) made h so_far.fitted fitted);
+      fitted = rw items (All-push (λ (g : FittedGlyph). IsFitted (maker g.number) g) made h so_far.fitted fitted);
       outlines = (
         so_far.outlines.0 ++ fitted.shape ∷ [],
         one_more_made (λ g. fitted_outline (maker g) g) ns i 0 so_far.outlines.0 fitted.shape below outline

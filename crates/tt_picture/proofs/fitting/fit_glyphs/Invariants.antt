@@ -2,7 +2,6 @@ use Rattle.std.proofs.Common.{◌≡◌, drop, take, List}
 use Rattle.tt_core.specs.Outcomes.{after_each}
 use Rattle.tt_fit.specs.Fitting.{fitted_outline}
 use Rattle.tt_fit_outline.specs.Outline.{Outline}
-use Rattle.tt_picture.specs.Cached.{is_there}
 use Rattle.tt_picture.specs.Distinct.{fitter_after, fitter_for}
 use Rattle.tt_picture.specs.Fitted.{AreFitted, fitted_numbers}
 use Rattle.tt_picture.specs.Steps.{outlines_by}
@@ -12,7 +11,7 @@ use Rattle.tt_picture.proofs.fitting.fit_glyphs.Given as goal
 abbrev pub invariant-loop-number : goal.invariant-loop-number
 invariant-loop-number l = record {
   numbers : fitted_numbers l.made.items ≡ take l.number-index l.numbers;
-  fitted : AreFitted (is_there l.cache) (fitter_for l.fn.fitter l.numbers) l.made.items;
+  fitted : AreFitted (fitter_for l.fn.fitter l.numbers) l.made.items;
   outlines : (os : List Outline)
       × (after_each (λ g. fitted_outline (fitter_for l.fn.fitter l.numbers g) g) (drop l.number-index l.numbers) os
       ≡ outlines_by (fitter_for l.fn.fitter l.numbers) l.numbers);

@@ -69,22 +69,22 @@ returns-in-Err-draw-clause-outcome g c =
     (silent (left c.args.font.now) (left font) (g.W.Sink.written c.args.out.now) (g.E.Sink.written c.args.error.now)
     failed _ _ c.requires.out c.requires.error))
 
-pub returns-in-Ok-write_all_of-clause-outcome : goal.returns-in-Ok-write_all_of-clause-outcome
-returns-in-Ok-write_all_of-clause-outcome g c =
+pub returns-in-Ok-write_picture-clause-outcome : goal.returns-in-Ok-write_picture-clause-outcome
+returns-in-Ok-write_picture-clause-outcome g c =
     let file = c.in-Ok in
     let ready = c.in-Ok-draw in
     let l = c.args.asked.now in
     let good = subst (λ (k : Job). tested k ≡ Ok tt) c.job.ensures.exact c.in_default.ensures.exact in
     let made = rw c.deref.ensures.value at ready.ensures.outcome in
-    let printed = rw (c.requires.error, c.deref-in-Ok-write_all_of.ensures, ready.ensures.report) at c.print_text.ensures in
-    let sent = rw c.deref-2.ensures.value at c.in-Ok-write_all_of.ensures.all in
+    let printed = rw (c.requires.error, c.deref-in-Ok-write_picture.ensures, ready.ensures.report) at c.print_text.ensures in
     rw c.done.ensures
     (text_written l.setting (λ t. label_answer l t c.args.text.now) c.args.text.now file.file.items made.0
     (label_view ready.ready)
     (traffic_of g.R.Source.left g.R.Source.has_failed g.W.Sink.written g.W.Sink.has_failed c.args.font.now
-    c.read_font.new.font c.args.out.now c.write_all_of.new.out)
+    c.read_font.new.font c.args.out.now c.write_picture.new.out)
     (errors_of g.E.Sink.written g.E.Sink.has_failed c.args.error.now c.print_text.new.error)
-    good (file.ensures.0, file.ensures.1, file.ensures.3) made.1 made.2 sent c.in-Ok-write_all_of.ensures.failure printed)
+    good (file.ensures.0, file.ensures.1, file.ensures.3) made.1 made.2
+    c.in-Ok-write_picture.ensures.writes.all c.in-Ok-write_picture.ensures.writes.failure printed)
 
 pub returns-clause-outcome : goal.returns-clause-outcome
 returns-clause-outcome g c =
@@ -93,15 +93,15 @@ returns-clause-outcome g c =
     let l = c.args.asked.now in
     let good = subst (λ (k : Job). tested k ≡ Ok tt) c.job.ensures.exact c.in_default.ensures.exact in
     let made = rw c.deref.ensures.value at ready.ensures.outcome in
-    let cut = c.in-Err-write_all_of.ensures in
-    rw c.unhinted-in-Err-write_all_of.ensures
+    let cut = c.in-Err-write_picture.ensures.writes in
+    rw c.unhinted-in-Err-write_picture.ensures
     (text_cut l.setting (λ t. label_answer l t c.args.text.now) c.args.text.now file.file.items made.0
-    (label_view ready.ready) c.in-Err-write_all_of.cut.sent
+    (label_view ready.ready) c.in-Err-write_picture.cut.sent
     (traffic_of g.R.Source.left g.R.Source.has_failed g.W.Sink.written g.W.Sink.has_failed c.args.font.now
-    c.read_font.new.font c.args.out.now c.write_all_of.new.out)
+    c.read_font.new.font c.args.out.now c.write_picture.new.out)
     (errors_of g.E.Sink.written g.E.Sink.has_failed c.args.error.now c.args.error.now)
     good (file.ensures.0, file.ensures.1, file.ensures.3) made.1 made.2
-    (rw c.deref-2.ensures.value at cut.within, rw c.deref-2.ensures.value at cut.part) cut.failure
+    (cut.within, cut.part) cut.failure
     (keeps_itself (g.E.Sink.written c.args.error.now), c.requires.error))
 
 pub returns-in-Err-clause-hint : goal.returns-in-Err-clause-hint
@@ -125,13 +125,13 @@ returns-in-Err-draw-clause-hint g c =
     (rw (c.hinted.ensures, c.deref-in-Err-draw.ensures.value) (refl {a = hint_for c.in-Err-draw.fault.refusal file.file.items
     c.args.asked.now.setting.opening.reading}))
 
-pub returns-in-Ok-write_all_of-clause-hint : goal.returns-in-Ok-write_all_of-clause-hint
-returns-in-Ok-write_all_of-clause-hint g c =
+pub returns-in-Ok-write_picture-clause-hint : goal.returns-in-Ok-write_picture-clause-hint
+returns-in-Ok-write_picture-clause-hint g c =
     rw c.done.ensures (if_some_all (g.R.Source.left c.args.font.now) _ (λ file. refl))
 
 pub returns-clause-hint : goal.returns-clause-hint
 returns-clause-hint g c =
-    rw c.unhinted-in-Err-write_all_of.ensures (if_some_all (g.R.Source.left c.args.font.now) _ (λ file. refl))
+    rw c.unhinted-in-Err-write_picture.ensures (if_some_all (g.R.Source.left c.args.font.now) _ (λ file. refl))
 
 pub returns-in-Err-clause-defects : goal.returns-in-Err-clause-defects
 returns-in-Err-clause-defects g c =
@@ -156,8 +156,8 @@ returns-in-Err-draw-clause-defects g c =
     rw c.hinted.ensures
     (known_of (left c.args.font.now) (left c.read_font.new.font) file.file.items P file.ensures.0 file.ensures.1 tells)
 
-pub returns-in-Ok-write_all_of-clause-defects : goal.returns-in-Ok-write_all_of-clause-defects
-returns-in-Ok-write_all_of-clause-defects g c =
+pub returns-in-Ok-write_picture-clause-defects : goal.returns-in-Ok-write_picture-clause-defects
+returns-in-Ok-write_picture-clause-defects g c =
     let left = g.R.Source.left in
     let file = c.in-Ok in
     let tells = rw c.deref.ensures.value at c.in-Ok-draw.ensures.defects in
@@ -169,5 +169,5 @@ returns-clause-defects g c =
     let left = g.R.Source.left in
     let file = c.in-Ok in
     let tells = rw c.deref.ensures.value at c.in-Ok-draw.ensures.defects in
-    rw c.unhinted-in-Err-write_all_of.ensures
+    rw c.unhinted-in-Err-write_picture.ensures
     (known_of (left c.args.font.now) (left c.read_font.new.font) file.file.items _ file.ensures.0 file.ensures.1 tells)

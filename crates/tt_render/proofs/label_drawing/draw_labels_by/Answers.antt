@@ -1,8 +1,7 @@
 use Rattle.std.proofs.Common.{◌≡◌, ◌∙◌, ap, sym, ℕ, ◌+◌, IfSome, Some, Ok, arith, refl, subst}
 use Rattle.std.proofs.lemmas.Result.{err_from_is_err_and}
-use Rattle.std.specs.Io.KnownBytes.{Appends}
 use Rattle.tt_label.specs.Label.{label_glyphs}
-use Rattle.tt_strike.specs.Strikes.{SizedFace}
+use Rattle.tt_strike.specs.Strikes.{Strike}
 use Rattle.tt_render.specs.declared.label_answers.ReadyLabel.{ReadyLabel}
 use Rattle.tt_render.specs.Labels.{label_view, line_labelled}
 use Rattle.tt_render_lines.specs.LineReading.{held, line_at, text_left}
@@ -11,18 +10,17 @@ use Rattle.tt_render_lines.specs.LinesDefects.{IsDefectBy}
 use Rattle.tt_render_run.specs.Outcome.{traffic_of}
 use Rattle.tt_render_lines.specs.Printing.{PrintsBehind, errors_of}
 use Rattle.tt_render_lines.specs.Reports.{told_of}
-use Rattle.tt_render_lines.specs.Settings.{strike_in}
 use Rattle.tt_render_lines.specs.TextsOutcome.{refusal_font_fault}
 use Rattle.tt_render_lines.proofs.DefectLines.{begun_tells, next_tells, stop_tells}
-use Rattle.tt_render_lines.proofs.DrawnLines.{SoFar, all_drawn, drawn_too, many_sent, none_so_far, one_more, reader_at_end, some_sent, whole_text}
-use Rattle.tt_render.proofs.LabelLines.{long_label}
+use Rattle.tt_render_lines.proofs.DrawnLines.{SoFar, all_drawn, drawn_too, kept_alone, many_sent, none_so_far, one_more, reader_at_end, some_sent, whole_text}
+use Rattle.tt_render.proofs.LabelLines.{labelled_alike, long_label}
 use Rattle.tt_render_lines.proofs.StoppedLines.{cut_sent, stopped_before, stopped_in}
 use Rattle.tt_render_lines.proofs.Printed.{keeps_itself}
 use Rattle.tt_render.proofs.label_drawing.draw_labels_by.Goals as goal
 
 pub returns-in_err-reader-clause-outcome : goal.returns-in_err-reader-clause-outcome
 returns-in_err-reader-clause-outcome g c =
-    let draw = line_labelled c.args.asked.now (strike_in c.args.asked.now.setting c.args.sized.now) in
+    let draw = line_labelled c.args.asked.now c.args.strike.now in
     let left = g.R.Source.left c.args.lines.now in
     let out = g.W.Sink.written c.args.out.now in
     let error = g.E.Sink.written c.args.error.now in
@@ -40,11 +38,11 @@ loop-before-init g c =
     let left = g.R.Source.left c.args.lines.now in
     let reader = c.in_ok-reader in
     record {
-      sized = refl;
+      strike = refl;
       reads = c.requires.lines;
       few = omega arith;
       writes = c.requires.out;
-      so_far = none_so_far (line_labelled c.args.asked.now (strike_in c.args.asked.now.setting c.args.sized.now)) left (text_left reader.reader left)
+      so_far = none_so_far (line_labelled c.args.asked.now c.args.strike.now) left (text_left reader.reader left)
           (g.W.Sink.written c.args.out.now) (g.E.Sink.written c.args.error.now)
           (g.E.Sink.has_failed c.args.error.now) (whole_text (held reader.reader) left reader.ensures)
           c.requires.error;
@@ -53,7 +51,7 @@ loop-before-init g c =
 pub returns-in-Ok-None-clause-outcome : goal.returns-in-Ok-None-clause-outcome
 returns-in-Ok-None-clause-outcome g c =
     let so_far = c.loop-before.invariant in
-    let draw = line_labelled c.args.asked.now (strike_in c.args.asked.now.setting c.args.sized.now) in
+    let draw = line_labelled c.args.asked.now c.args.strike.now in
     let left = g.R.Source.left in
     let t = traffic_of left g.R.Source.has_failed g.W.Sink.written g.W.Sink.has_failed c.args.lines.now
     c.next_line.new.lines c.args.out.now c.loop-before.out in
@@ -68,12 +66,12 @@ returns-in-Ok-None-clause-outcome g c =
 pub returns-in-Err-clause-outcome : goal.returns-in-Err-clause-outcome
 returns-in-Err-clause-outcome g c =
     let so_far = c.loop-before.invariant in
-    let draw = line_labelled c.args.asked.now (strike_in c.args.asked.now.setting c.args.sized.now) in
+    let draw = line_labelled c.args.asked.now c.args.strike.now in
     let left = g.R.Source.left in
     let t = traffic_of left g.R.Source.has_failed g.W.Sink.written g.W.Sink.has_failed c.args.lines.now
     c.next_line.new.lines c.args.out.now c.loop-before.out in
     let e = errors_of g.E.Sink.written g.E.Sink.has_failed c.args.error.now c.loop-before.error in
-    let fails = stopped_before draw (long_label c.args.asked.now (strike_in c.args.asked.now.setting c.args.sized.now)) c.next_line.new.reader c.in-Err.stop.refusal
+    let fails = stopped_before draw (long_label c.args.asked.now c.args.strike.now) c.next_line.new.reader c.in-Err.stop.refusal
     (text_left c.loop-before.reader (left c.loop-before.lines))
     (text_left c.next_line.new.reader (left c.next_line.new.lines)) t e c.loop-before.before c.loop-before.used
     so_far.so_far c.in-Err.ensures.outcome c.in-Err.ensures.failure so_far.writes in
@@ -88,44 +86,44 @@ returns-in-Err-draw_line-clause-outcome g c =
     let t = traffic_of left g.R.Source.has_failed g.W.Sink.written g.W.Sink.has_failed c.args.lines.now
     c.next_line.new.lines c.args.out.now c.loop-before.out in
     let e = errors_of g.E.Sink.written g.E.Sink.has_failed c.args.error.now c.loop-before.error in
-    let same = ap (λ (z : SizedFace). line_labelled a (strike_in a.setting z)) so_far.sized in
+    let same = labelled_alike a c.args.strike.now c.loop-before.strike so_far.strike in
     let is = rw c.line-line.ensures at c.in-Err-draw_line.ensures.exact in
-    let fails = stopped_in ReadyLabel (line_labelled a (strike_in a.setting c.args.sized.now))
-    (line_labelled a (strike_in a.setting c.loop-before.sized)) c.in-Err-draw_line.fault.refusal
+    let fails = stopped_in ReadyLabel (line_labelled a c.args.strike.now) (line_labelled a c.loop-before.strike)
+    c.in-Err-draw_line.fault.refusal
     (text_left c.loop-before.reader (left c.loop-before.lines))
     (text_left c.next_line.new.reader (left c.next_line.new.lines)) t e c.loop-before.before c.loop-before.used
     (line_at c.next_line.new.reader c.in-Ok-Some.place) same so_far.so_far found.0 found.2 is
     c.in-Err-draw_line.ensures.serves c.in-Ok-Some.ensures.failure so_far.writes in
     rw c.texts_fault-in-Err-draw_line.ensures fails
 
-pub returns-in-Err-write_all_of-clause-outcome : goal.returns-in-Err-write_all_of-clause-outcome
-returns-in-Err-write_all_of-clause-outcome g c =
+pub returns-in-Err-write_picture-clause-outcome : goal.returns-in-Err-write_picture-clause-outcome
+returns-in-Err-write_picture-clause-outcome g c =
     let so_far = c.loop-before.invariant in
     let a = c.args.asked.now in
-    let draw = line_labelled a (strike_in a.setting c.args.sized.now) in
+    let draw = line_labelled a c.args.strike.now in
     let left = g.R.Source.left in
     let written = g.W.Sink.written in
     let found = rw c.in-Ok-Some.field-0-is at c.in-Ok-Some.ensures.outcome in
     let line = line_at c.next_line.new.reader c.in-Ok-Some.place in
     let is : draw line ≡ Ok (label_view c.in-Ok.ready) =
-    drawn_too draw (line_labelled a (strike_in a.setting c.loop-before.sized)) line (Ok (label_view c.in-Ok.ready))
-    (ap (λ (z : SizedFace). line_labelled a (strike_in a.setting z)) so_far.sized)
+    drawn_too draw (line_labelled a c.loop-before.strike) line (Ok (label_view c.in-Ok.ready))
+    (labelled_alike a c.args.strike.now c.loop-before.strike so_far.strike)
     (rw c.line-line.ensures at c.in-Ok.ensures.exact) in
-    let cut = c.in-Err-write_all_of in
+    let cut = c.in-Err-write_picture in
     let t = traffic_of left g.R.Source.has_failed written g.W.Sink.has_failed c.args.lines.now
-    c.next_line.new.lines c.args.out.now c.write_all_of.new.out in
+    c.next_line.new.lines c.args.out.now c.write_picture.new.out in
     let e = errors_of g.E.Sink.written g.E.Sink.has_failed c.args.error.now c.loop-before.error in
     let sends = cut_sent draw (text_left c.loop-before.reader (left c.loop-before.lines))
     (text_left c.next_line.new.reader (left c.next_line.new.lines)) (written c.loop-before.out) t e
     c.loop-before.before c.loop-before.used cut.cut.sent line (label_view c.in-Ok.ready) so_far.so_far found.0 found.2 is
-    (rw c.deref.ensures.value at cut.ensures.within) (rw c.deref.ensures.value at cut.ensures.part) in
-    (sends, c.in-Ok-Some.ensures.failure, cut.ensures.failure)
+    cut.ensures.writes.within cut.ensures.writes.part in
+    (sends, c.in-Ok-Some.ensures.failure, cut.ensures.writes.failure)
 
 pub loop-before-preserved : goal.loop-before-preserved
 loop-before-preserved g c =
     let so_far = c.loop-before.invariant in
     let a = c.args.asked.now in
-    let draw = line_labelled a (strike_in a.setting c.args.sized.now) in
+    let draw = line_labelled a c.args.strike.now in
     let left = g.R.Source.left in
     let written = g.W.Sink.written in
     let told = g.E.Sink.written in
@@ -134,39 +132,38 @@ loop-before-preserved g c =
     let line = line_at c.next_line.new.reader c.in-Ok-Some.place in
     let answer = label_view c.in-Ok.ready in
     let is : draw line ≡ Ok answer =
-    drawn_too draw (line_labelled a (strike_in a.setting c.loop-before.sized)) line (Ok answer)
-    (ap (λ (z : SizedFace). line_labelled a (strike_in a.setting z)) so_far.sized)
+    drawn_too draw (line_labelled a c.loop-before.strike) line (Ok answer)
+    (labelled_alike a c.args.strike.now c.loop-before.strike so_far.strike)
     (rw c.line-line.ensures at c.in-Ok.ensures.exact) in
     let printed : PrintsBehind (failed c.loop-before.error)
     (errors_of told failed c.loop-before.error c.print_text.new.error)
     (told_of (Some (c.loop-before.before + 1)) answer) =
-    rw (c.deref-in-loop-before.ensures, c.in-Ok.ensures.report) at c.print_text.ensures in
-    let sent : Appends (written c.loop-before.out) (written c.write_all_of.new.out) answer.bytes =
-    rw c.deref.ensures.value at c.in_default.ensures.all in
+    rw (c.deref.ensures, c.in-Ok.ensures.report) at c.print_text.ensures in
     let Sent : ℕ → Type 0 = λ n. SoFar draw (left c.args.lines.now)
     (text_left c.next_line.new.reader (left c.next_line.new.lines)) (written c.args.out.now)
-    (written c.write_all_of.new.out) (errors_of told failed c.args.error.now c.print_text.new.error)
+    (written c.write_picture.new.out) (errors_of told failed c.args.error.now c.print_text.new.error)
     (c.loop-before.before + 1) n in
     let used : c.loop-before.used + answer.cost ≡ c.loop-before.used + c.from-used.result =
     omega (arith, c.from-used.ensures, c.cost.ensures) in
     record {
-      sized = c.in-Ok.ensures.same ∙ so_far.sized;
+      strike = kept_alone c.args.strike.now c.loop-before.strike c.draw_line.new.strike so_far.strike
+          c.in-Ok.ensures.same;
       reads = c.in-Ok-Some.ensures.failure;
       few = omega (arith, so_far.few, c.from-used.ensures);
-      writes = c.in_default.ensures.failure;
+      writes = c.in_default.ensures.writes.failure;
       so_far = subst Sent used (one_more draw (left c.args.lines.now)
           (text_left c.loop-before.reader (left c.loop-before.lines))
           (text_left c.next_line.new.reader (left c.next_line.new.lines)) (written c.args.out.now)
-          (written c.loop-before.out) (written c.write_all_of.new.out) (told c.args.error.now)
+          (written c.loop-before.out) (written c.write_picture.new.out) (told c.args.error.now)
           (told c.loop-before.error) (told c.print_text.new.error) (failed c.loop-before.error)
           (failed c.print_text.new.error) c.loop-before.before line answer c.loop-before.used so_far.so_far
-          found.0 found.2 is sent printed);
+          found.0 found.2 is c.in_default.ensures.writes.all printed);
     }
 
 pub returns-clause-outcome : goal.returns-clause-outcome
 returns-clause-outcome g c =
     let so_far = c.loop-before.invariant in
-    let draw = line_labelled c.args.asked.now (strike_in c.args.asked.now.setting c.args.sized.now) in
+    let draw = line_labelled c.args.asked.now c.args.strike.now in
     let left = g.R.Source.left in
     let all : c.loop-before.before ≡ lines_limit =
     omega (arith, c.loop-before.auto.before-end, c.loop-before-test.false) in
@@ -185,7 +182,7 @@ pub returns-in-Err-clause-defects : goal.returns-in-Err-clause-defects
 returns-in-Err-clause-defects g c =
     let left = g.R.Source.left in
     let a = c.args.asked.now.setting in
-    rw c.texts_fault.ensures (begun_tells (IsDefectBy label_glyphs a (strike_in a c.args.sized.now))
+    rw c.texts_fault.ensures (begun_tells (IsDefectBy label_glyphs a c.args.strike.now)
     (left c.args.lines.now) (text_left c.loop-before.reader (left c.loop-before.lines))
     (text_left c.next_line.new.reader (left c.next_line.new.lines)) c.next_line.new.reader c.loop-before.before
     c.loop-before.used c.in-Err.stop.refusal c.in-Err.ensures.outcome)
@@ -200,11 +197,11 @@ returns-in-Err-draw_line-clause-defects g c =
     let found = rw c.in-Ok-Some.field-0-is at c.in-Ok-Some.ensures.outcome in
     let line = line_at c.next_line.new.reader c.in-Ok-Some.place in
     let why = c.in-Err-draw_line.fault.refusal in
-    let Tells : SizedFace → Type 0 = λ z. IfSome (refusal_font_fault why) (IsDefectBy label_glyphs a (strike_in a z) line) in
-    let is = subst Tells so_far.sized (rw c.line-line.ensures at c.in-Err-draw_line.ensures.defects) in
-    let IsOne = IsDefectBy label_glyphs a (strike_in a c.args.sized.now) in
+    let Tells : Strike → Type 0 = λ s. IfSome (refusal_font_fault why) (IsDefectBy label_glyphs a s line) in
+    let is = subst Tells so_far.strike (rw c.line-line.ensures at c.in-Err-draw_line.ensures.defects) in
+    let IsOne = IsDefectBy label_glyphs a c.args.strike.now in
     rw c.texts_fault-in-Err-draw_line.ensures
-    (stop_tells IsOne (line_labelled c.args.asked.now (strike_in a c.args.sized.now)) (left c.args.lines.now) rest
+    (stop_tells IsOne (line_labelled c.args.asked.now c.args.strike.now) (left c.args.lines.now) rest
     (g.W.Sink.written c.args.out.now) (g.W.Sink.written c.loop-before.out)
     (errors_of g.E.Sink.written g.E.Sink.has_failed c.args.error.now c.loop-before.error) c.loop-before.before
     c.loop-before.used why
@@ -212,4 +209,4 @@ returns-in-Err-draw_line-clause-defects g c =
 
 pub draw_line-requires-clause-file : goal.draw_line-requires-clause-file
 draw_line-requires-clause-file g c =
-    c.requires.file ∙ sym (ap (λ (z : SizedFace). z.face.directory.file) c.loop-before.invariant.sized)
+    c.requires.file ∙ sym (ap (λ (s : Strike). s.face.directory.file) c.loop-before.invariant.strike)

@@ -2,18 +2,17 @@ use Rattle.std.proofs.Common.{◌≡◌, ◌*◌, ◌≤◌, false}
 use Rattle.tt_render.specs.Labels.{line_labelled}
 use Rattle.tt_render_lines.specs.LineReading.{text_left}
 use Rattle.tt_render_lines.specs.Printing.{errors_of}
-use Rattle.tt_render_lines.specs.Settings.{strike_in}
 use Rattle.tt_render_lines.proofs.DrawnLines.{SoFar}
 use Rattle.tt_render.proofs.label_drawing.draw_labels_by.Given as goal
 
 -- the earlier lines were written with their reports, and the remaining text has the others
 abbrev pub invariant-loop-before : goal.invariant-loop-before
 invariant-loop-before g l = record {
-  sized : l.sized ≡ l.fn.sized;
+  strike : l.strike ≡ record l.fn.strike { kept = l.strike.kept };
   reads : g.R.Source.has_failed l.lines ≡ false;
   few : l.used ≤ 18446744073709551615 * l.before;
   writes : g.W.Sink.has_failed l.out ≡ false;
-  so_far : SoFar (line_labelled l.asked (strike_in l.asked.setting l.fn.sized)) (g.R.Source.left l.fn.lines)
+  so_far : SoFar (line_labelled l.asked l.fn.strike) (g.R.Source.left l.fn.lines)
       (text_left l.reader (g.R.Source.left l.lines)) (g.W.Sink.written l.fn.out) (g.W.Sink.written l.out)
       (errors_of g.E.Sink.written g.E.Sink.has_failed l.fn.error l.error) l.before l.used;
 }

@@ -1,10 +1,10 @@
-use Rattle.std.proofs.Common.{inl, inr}
+use Rattle.std.proofs.Common.{Some, inl, inr}
 use Rattle.std.proofs.lemmas.Result.{err_from_is_err_and}
 use Rattle.tt_label.specs.Label.{label_glyphs}
-use Rattle.tt_render_lines.specs.Settings.{strike_by}
-use Rattle.tt_render_lines.proofs.DefectLines.{lines_tell}
+use Rattle.tt_render_lines.specs.Settings.{strike_by, strike_of}
+use Rattle.tt_render_lines.proofs.DefectLines.{lines_tell, strike_tells}
 use Rattle.tt_render_lines.proofs.FontLines.{face_file, font_opened, font_refused, idle}
-use Rattle.tt_render.proofs.LabelCalls.{size_stands}
+use Rattle.tt_render.proofs.LabelCalls.{strike_unopened}
 use Rattle.tt_render.proofs.label_drawing.draw_labels_of.Goals as goal
 
 pub returns-in_err-face-clause-outcome : goal.returns-in_err-face-clause-outcome
@@ -18,21 +18,31 @@ returns-in_err-face-clause-outcome g c =
     c.in_err-face.ensures.exact in
     rw (p.1, p.2) (inl (refused, rest))
 
-pub returns-in_err-sized-clause-outcome : goal.returns-in_err-sized-clause-outcome
-returns-in_err-sized-clause-outcome g c =
-    absurd (size_stands c.args.asked.now.setting c.in_err-sized.field-0.0 c.requires.tested c.in_err-sized.ensures.tested)
+pub returns-in_err-strike-clause-outcome : goal.returns-in_err-strike-clause-outcome
+returns-in_err-strike-clause-outcome g c =
+    let p = err_from_is_err_and c.from_residual-in_err-strike.result c.from_residual-in_err-strike.ensures.1 in
+    let a = c.args.asked.now.setting in
+    let rest = idle (g.R.Source.left c.args.lines.now) (g.W.Sink.written c.args.out.now)
+    (g.E.Sink.written c.args.error.now) (g.R.Source.has_failed c.args.lines.now)
+    (g.W.Sink.has_failed c.args.out.now) (g.E.Sink.has_failed c.args.error.now) c.requires.lines c.requires.out
+    c.requires.error in
+    rw (p.1, p.2) (inl (
+      strike_unopened (Unit {0}) a (strike_of a c.args.file.now) c.in_err-strike.field-0.0 c.requires.tested
+          c.in_err-strike.ensures.tested,
+      rest,
+    ))
 
 pub returns-clause-outcome : goal.returns-clause-outcome
 returns-clause-outcome g c =
     let a = c.args.asked.now.setting in
     let face = c.in_ok-face.face in
     let opened = font_opened a c.args.file.now face c.requires.size c.in_ok-face.ensures.exact in
-    let gives = rw c.in_ok-sized.ensures.exact at c.draw_labels_by.ensures.outcome in
+    let gives = rw c.in_ok-strike.ensures.exact at c.draw_labels_by.ensures.outcome in
     inr (strike_by a face, opened, gives)
 
 pub draw_labels_by-requires-clause-file : goal.draw_labels_by-requires-clause-file
 draw_labels_by-requires-clause-file g c =
-    rw c.in_ok-sized.ensures.exact
+    rw c.in_ok-strike.ensures.exact
     (face_file c.args.file.now c.args.asked.now.setting.opening c.in_ok-face.face c.in_ok-face.ensures.exact)
 
 pub returns-in_err-face-clause-defects : goal.returns-in_err-face-clause-defects
@@ -40,12 +50,14 @@ returns-in_err-face-clause-defects g c =
     let p = err_from_is_err_and c.from_residual.result c.from_residual.ensures.1 in
     rw (p.1, p.2) c.in_err-face.ensures.fault
 
-pub returns-in_err-sized-clause-defects : goal.returns-in_err-sized-clause-defects
-returns-in_err-sized-clause-defects g c =
-    absurd (size_stands c.args.asked.now.setting c.in_err-sized.field-0.0 c.requires.tested c.in_err-sized.ensures.tested)
+pub returns-in_err-strike-clause-defects : goal.returns-in_err-strike-clause-defects
+returns-in_err-strike-clause-defects g c =
+    let p = err_from_is_err_and c.from_residual-in_err-strike.result c.from_residual-in_err-strike.ensures.1 in
+    rw (p.1, p.2) (strike_tells (Unit {0}) label_glyphs (Some c.args.file.now) c.args.asked.now.setting
+    (g.R.Source.left c.args.lines.now) c.in_err-strike.field-0.0 c.in_err-strike.ensures.font)
 
 pub returns-clause-defects : goal.returns-clause-defects
 returns-clause-defects g c =
-    let tells = rw c.in_ok-sized.ensures.exact at c.draw_labels_by.ensures.defects in
+    let tells = rw c.in_ok-strike.ensures.exact at c.draw_labels_by.ensures.defects in
     lines_tell label_glyphs c.args.asked.now.setting c.args.file.now c.in_ok-face.face (g.R.Source.left c.args.lines.now)
     c.draw_labels_by.result c.in_ok-face.ensures.exact tells

@@ -1,4 +1,3 @@
-use Rattle.tt_render_lines.specs.Settings.{strike_in}
 use Rattle.tt_render_lines.specs.TextsOutcome.{without_line}
 use Rattle.tt_render_lines.proofs.DefectLines.{told_of_text}
 use Rattle.tt_render.proofs.LabelLines.{label_of_no_text, label_of_text}
@@ -6,13 +5,13 @@ use Rattle.tt_render.proofs.label_drawing.draw_line.Goals as goal
 
 pub returns-in_default-clause-exact : goal.returns-in_default-clause-exact
 returns-in_default-clause-exact c =
-    rw c.texts_fault.ensures (label_of_no_text c.args.asked.now (strike_in c.args.asked.now.setting c.args.sized.now)
-    c.args.line.now c.requires.short c.in_default.ensures.cases.0)
+    rw c.texts_fault.ensures (label_of_no_text c.args.asked.now c.args.strike.now c.args.line.now c.requires.short
+    c.in_default.ensures.cases.0)
 
 pub returns-clause-exact : goal.returns-clause-exact
 returns-clause-exact c =
-    let drawn = label_of_text c.args.asked.now (strike_in c.args.asked.now.setting c.args.sized.now) c.args.line.now
-    c.in-Ok.text.now c.requires.short c.in-Ok.ensures.cases in
+    let drawn = label_of_text c.args.asked.now c.args.strike.now c.args.line.now c.in-Ok.text.now c.requires.short
+    c.in-Ok.ensures.cases in
     rw drawn c.answer_label.ensures.exact
 
 pub returns-clause-defects : goal.returns-clause-defects

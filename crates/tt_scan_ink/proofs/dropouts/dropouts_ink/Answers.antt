@@ -4,7 +4,8 @@ use Rattle.std.proofs.lemmas.Result.{IfOk-weaker}
 use Rattle.tt_scan.specs.Contours.{contours_at}
 use Rattle.tt_scan_dropouts.specs.Dropouts.{columns_of_rules, is_dropout, rows_of_rules}
 use Rattle.tt_scan_ink.specs.Ink.{count_of, dropouts_ink, ink_in}
-use Rattle.tt_scan_ink.specs.Least.{IsInk, IsNear, shown}
+use Rattle.tt_bitmap.specs.Inks.{IsInk}
+use Rattle.tt_scan_ink.specs.Least.{IsNear, shown}
 use Rattle.tt_scan_ink.proofs.Near.{reached_near}
 use Rattle.tt_scan_ink.proofs.NearInk.{dropouts_near}
 use Rattle.tt_scan_ink.proofs.Regions.{found_is, none_is}

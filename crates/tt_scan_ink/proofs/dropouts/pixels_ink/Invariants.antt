@@ -1,6 +1,6 @@
 use Rattle.std.proofs.Common.{take}
 use Rattle.tt_scan_dropouts.specs.Passes.{has_pixel}
-use Rattle.tt_scan_ink.specs.Least.{IsInk}
+use Rattle.tt_bitmap.specs.Inks.{IsInk}
 use Rattle.tt_scan_ink.proofs.dropouts.pixels_ink.Given as goal
 
 -- the box of the pixels so far

@@ -6,7 +6,8 @@ use Rattle.tt_scan_dropouts.specs.Passes.{has_pixel}
 use Rattle.tt_scan_dropouts.specs.Windows.{has}
 use Rattle.tt_scan_dropouts.specs.declared.window.Window.{Window}
 use Rattle.tt_scan_ink.specs.Ink.{count_of}
-use Rattle.tt_scan_ink.specs.Least.{IsInk, shown}
+use Rattle.tt_bitmap.specs.Inks.{IsInk}
+use Rattle.tt_scan_ink.specs.Least.{shown}
 use Rattle.tt_scan_ink.proofs.Regions.{bands_more, no_rows, window_is}
 use Rattle.tt_scan_ink.proofs.Together.{ink_alike, joined_is}
 use Rattle.tt_scan_ink.proofs.dropouts.windows_ink.Goals as goal

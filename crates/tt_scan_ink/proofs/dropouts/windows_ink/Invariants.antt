@@ -2,7 +2,8 @@ use Rattle.std.proofs.Common.{◌≡◌, ◌-◌, ◌≤◌}
 use Rattle.tt_scan.specs.Contours.{contours_at}
 use Rattle.tt_scan_dropouts.specs.Dropouts.{is_dropout}
 use Rattle.tt_scan_ink.specs.Ink.{count_of}
-use Rattle.tt_scan_ink.specs.Least.{IsInk, shown}
+use Rattle.tt_bitmap.specs.Inks.{IsInk}
+use Rattle.tt_scan_ink.specs.Least.{shown}
 use Rattle.tt_scan_ink.proofs.dropouts.windows_ink.Given as goal
 
 -- the box of the lines so far

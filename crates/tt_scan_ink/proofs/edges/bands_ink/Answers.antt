@@ -1,7 +1,8 @@
 use Rattle.std.proofs.Common.{◌≡◌, ◌∙◌, refl, ◌+◌, pos, ◌+ℤ◌, ◌-ℤ◌, SFits, w64, rules, arith}
 use Rattle.std.proofs.lemmas.Int.{ints, to_z-of_z}
 use Rattle.tt_scan_ink.specs.Ink.{count_of}
-use Rattle.tt_scan_ink.specs.Least.{IsInk, is_inked_by, shown}
+use Rattle.tt_bitmap.specs.Inks.{IsInk}
+use Rattle.tt_scan_ink.specs.Least.{is_inked_by, shown}
 use Rattle.tt_scan_ink.proofs.Regions.{bands_more, no_rows}
 use Rattle.tt_scan_ink.proofs.Together.{joined_is}
 use Rattle.tt_scan_ink.proofs.edges.bands_ink.Goals as goal

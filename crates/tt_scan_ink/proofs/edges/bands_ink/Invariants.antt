@@ -1,6 +1,7 @@
 use Rattle.std.proofs.Common.{◌≡◌, ◌-◌, ◌≤◌}
 use Rattle.tt_scan_ink.specs.Ink.{count_of}
-use Rattle.tt_scan_ink.specs.Least.{IsInk, is_inked_by, shown}
+use Rattle.tt_bitmap.specs.Inks.{IsInk}
+use Rattle.tt_scan_ink.specs.Least.{is_inked_by, shown}
 use Rattle.tt_scan_ink.proofs.edges.bands_ink.Given as goal
 
 -- the box of the lines so far

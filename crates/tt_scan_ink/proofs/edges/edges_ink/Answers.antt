@@ -6,7 +6,8 @@ use Rattle.tt_scan_edges.specs.Winding.{EdgeFits}
 use Rattle.tt_scan_gaps.specs.Boxes.{columns_of}
 use Rattle.tt_scan_gaps.specs.Seen.{turned_round}
 use Rattle.tt_scan_ink.specs.Ink.{count_of, edges_ink, ink_in}
-use Rattle.tt_scan_ink.specs.Least.{IsInk, IsNear, is_inked_by, shown}
+use Rattle.tt_bitmap.specs.Inks.{IsInk}
+use Rattle.tt_scan_ink.specs.Least.{IsNear, is_inked_by, shown}
 use Rattle.tt_scan_ink.proofs.Near.{columns_near, lines_near}
 use Rattle.tt_scan_ink.proofs.NearInk.{edges_near}
 use Rattle.tt_scan_ink.proofs.Regions.{found_is}

@@ -2,7 +2,8 @@ use Rattle.std.proofs.Common.{◌≡◌, ◌∙◌, ap, refl, ◌+◌, ◌<◌, 
 use Rattle.std.proofs.lemmas.Int.{ints, to_z-of_z}
 use Rattle.tt_scan.specs.Tape.{Tape}
 use Rattle.tt_scan_edges.specs.Winding.{FrameFits, row_y, rows_met}
-use Rattle.tt_scan_ink.specs.Least.{IsInk, covered, is_inked_by, shown}
+use Rattle.tt_bitmap.specs.Inks.{IsInk}
+use Rattle.tt_scan_ink.specs.Least.{covered, is_inked_by, shown}
 use Rattle.tt_scan_ink.proofs.Counts.{met_few, one_row_more}
 use Rattle.tt_scan_ink.proofs.Regions.{rows_more}
 use Rattle.tt_scan_ink.proofs.Together.{joined_is}

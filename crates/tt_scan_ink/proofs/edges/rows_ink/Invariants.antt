@@ -1,5 +1,6 @@
 use Rattle.std.proofs.Common.{◌≡◌, ◌+◌, ◌*◌, ◌≤◌, ◌-ℤ◌, pos, length}
-use Rattle.tt_scan_ink.specs.Least.{IsInk, is_inked_by, shown}
+use Rattle.tt_bitmap.specs.Inks.{IsInk}
+use Rattle.tt_scan_ink.specs.Least.{is_inked_by, shown}
 use Rattle.tt_scan_ink.proofs.edges.rows_ink.Given as goal
 
 -- the box of the lines so far, each cut once

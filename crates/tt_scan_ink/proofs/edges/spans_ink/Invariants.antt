@@ -1,5 +1,6 @@
 use Rattle.std.proofs.Common.{take}
-use Rattle.tt_scan_ink.specs.Least.{IsInk, covered}
+use Rattle.tt_bitmap.specs.Inks.{IsInk}
+use Rattle.tt_scan_ink.specs.Least.{covered}
 use Rattle.tt_scan_ink.proofs.edges.spans_ink.Given as goal
 
 -- the box of the spans so far

@@ -7,7 +7,7 @@ use Rattle.tt_line.specs.Steps.{kerning_before}
 use Rattle.tt_line.proofs.Kerned.{at_end, at_start, drop-numbers, one_kerned, step_here}
 use Rattle.tt_picture.specs.Steps.{step_by}
 use Rattle.tt_picture.proofs.Outlines.{advance_at, numbers_kept, same_number}
-use Rattle.tt_picture.proofs.Reframed.{seated}
+use Rattle.tt_picture.proofs.Seats.{seated}
 use Rattle.tt_strike.proofs.steps.put_steps.Goals.{After-from-place}
 use Rattle.tt_strike.proofs.steps.put_steps.Goals as goal
 

@@ -12,7 +12,7 @@ use Rattle.tt_picture.proofs.fitted.FittedGlyph.of.Goals as goal
 
 -- the cached glyph of this number
 found : (c : After-pay) → IsCached c.args.fitter.now c.args.number c.in-Some.kept
-found c = (one_found c.args.fitter.now c.args.number c.in-Some.kept c.args.cache.now c.requires.cache c.in-Some.ensures).1
+found c = one_found c.args.fitter.now c.args.number c.in-Some.kept c.args.cache.now c.requires.cache c.in-Some.ensures
 
 pub returns-then-pay-clause-fitted : goal.returns-then-pay-clause-fitted
 returns-then-pay-clause-fitted c =
@@ -20,12 +20,11 @@ returns-then-pay-clause-fitted c =
     let n = c.args.number in
     let k = c.in-Some.kept in
     let is = found (goal.at.returns-then-pay-clause-fitted c).After-pay in
-    let there = (one_found s n k c.args.cache.now c.requires.cache c.in-Some.ensures).0 in
     let same : c.kept.inside.cost ≡ k.cost = ap (λ (k : KeptGlyph). k.cost) c.kept.view_is in
     let cost : IsMadeFor s n c.kept.inside.cost is.shape k.unfitted =
     same_cost s n c.kept.inside.cost k.cost is.shape k.unfitted same is.made in
     let made : IsMade s n is.shape k.unfitted c.pay.new.self = c.pay.ensures.made c.if-pay.true n is.shape k.unfitted cost in
-    record { shape = is.shape; outline = made.outline; body = rw there (paid_is_fitted s c.pay.new.self n k is made) }
+    record { shape = is.shape; outline = made.outline; body = paid_is_fitted s c.pay.new.self n k is made }
 
 pub returns-then-pay-clause-after : goal.returns-then-pay-clause-after
 returns-then-pay-clause-after c =
@@ -64,7 +63,6 @@ returns-clause-fitted c =
         ) refl;
         unfitted = made.unfitted;
         fits = c.rules_for-filled.ensures.fits;
-        plain = λ off. c.counts_of-counts.ensures.none (c.in_ok-points.ensures.none (c.is_there.ensures ∙ off));
         points = counts_points m n c.counts_of-counts.result c.in_ok-points.points c.in_ok-points.ensures.exact
             c.counts_of-counts.ensures.points;
         made = counts_made unbounded-stays m n o c.in_ok-made.made.outline.unfitted c.counts_of-counts.result

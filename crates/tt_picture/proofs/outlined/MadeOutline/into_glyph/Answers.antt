@@ -1,120 +1,108 @@
-use Rattle.std.proofs.Common.{◌≡◌, ◌∙◌, Bool, length, SFits, w32, of_z, to_z, refl, rules}
+use Rattle.std.proofs.Common.{◌≡◌, ◌∙◌, SFits, w32, of_z, to_z, refl, rules}
 use Rattle.std.proofs.lemmas.Int.{to_z-of_z}
-use Rattle.std.specs.Prelude.{IfSome}
+use Rattle.std.specs.Prelude.{pos}
+use Rattle.tt_arc.proofs.Closed.{all_closed}
 use Rattle.tt_fit.specs.Fitting.{Fitter}
 use Rattle.tt_fit_outline.specs.Outline.{Outline}
 use Rattle.tt_fit_outline.specs.Steps.{advance_left}
 use Rattle.tt_fit_outline.specs.Views.{outline_of}
-use Rattle.tt_scan.specs.Contours.{AreEnds, contours_at}
-use Rattle.tt_scan_dropouts.specs.declared.boxed.BoxedRules.{BoxedRules}
-use Rattle.tt_scan_gaps.specs.Boxes.{ExtentsFit}
-use Rattle.tt_strike_kept.specs.Glyph.{KeptGlyph}
-use Rattle.tt_picture.specs.Cached.{IsCached, IsCutOf}
-use Rattle.tt_picture.specs.Cut.{HasFacts, IsCutBody}
+use Rattle.tt_scan.specs.Contours.{contours_at}
 use Rattle.tt_picture.specs.Fitted.{IsMadeOutline, MadeOutline}
-use Rattle.tt_picture.specs.Glyphs.{IsTape, edges_of}
-use Rattle.tt_picture.specs.Shapes.{chords_with, contours_of, edges_at}
+use Rattle.tt_picture.specs.Glyphs.{Glyph, IsBodyOf}
+use Rattle.tt_picture.specs.Shapes.{contours_of, offset_at}
 use Rattle.tt_picture.specs.Views.{body_view}
-use Rattle.tt_picture.specs.declared.cutting.GlyphFacts.{GlyphFacts}
-use Rattle.tt_picture.proofs.CutGlyphs.{as_cached, body_has, body_shows, cut_crosses, made_boxed, made_chords, made_edges, made_lines, made_advance, tape_has, told_where}
-use Rattle.tt_picture.proofs.outlined.MadeOutline.into_glyph.Goals.{After-of}
+use Rattle.tt_picture.proofs.CutGlyphs.{IsGlyphOf, can_be_cut, drawn_of_outline, made_cached, made_glyph}
+use Rattle.tt_picture.proofs.outlined.MadeOutline.into_glyph.Goals.{After-advance_left}
 use Rattle.tt_picture.proofs.outlined.MadeOutline.into_glyph.Goals as goal
 
-pub body_of-requires-clause-boxed : goal.body_of-requires-clause-boxed
-body_of-requires-clause-boxed c =
+-- the box of an outline is within the limits
+pub glyph_frame-frame-requires : goal.glyph_frame-frame-requires
+glyph_frame-frame-requires c =
     let i = c.self.inside in
     let m : MadeOutline = record { outline = outline_of i.outline; rule = i.rule; filled = i.filled; counts = i.counts; unfitted = i.outline.unfitted } in
-    let (cached, s, o, made) = c.requires.made in
-    let own : IsMadeOutline cached s c.args.number o m = rw c.self.view_is made in
-    rw c.in_ok-tape.ensures (made_boxed cached s c.args.number o m c.in_ok-made.made.list.edges own c.in_ok-made.ensures.exact)
+    let (s, o, made) = c.requires.made in
+    let own : IsMadeOutline s c.args.number o m = rw c.self.view_is made in
+    record { boxed = own.fits }
 
--- the distance that the glyph keeps is that of its outline
-advance_is : (c : After-of) → to_z w32 (of_z w32 c.advance_left-advance_left.result) ≡ advance_left (outline_of c.self.inside.outline)
-advance_is c =
-    let fits : SFits w32 c.advance_left-advance_left.result = search rules in
-    let same : to_z w32 (of_z w32 c.advance_left-advance_left.result) ≡ c.advance_left-advance_left.result = simp to_z-of_z refl in
-    same ∙ c.advance_left-advance_left.ensures.exact
+pub invariant_of-edged : goal.invariant_of-edged
+invariant_of-edged c =
+    let i = c.self.inside in
+    let m : MadeOutline = record { outline = outline_of i.outline; rule = i.rule; filled = i.filled; counts = i.counts; unfitted = i.outline.unfitted } in
+    let (s, o, made) = c.requires.made in
+    let own : IsMadeOutline s c.args.number o m = rw c.self.view_is made in
+    let of_outline = c.in_ok-made.ensures in
+    rw c.in_ok-tape.ensures (
+      can_be_cut s c.args.number o m
+          (record { edges = c.in_ok-made.made.list.edges; ends = c.in_ok-made.made.ends.items; filled = i.filled }) own
+          of_outline.exact of_outline.few refl of_outline.contours of_outline.ends,
+      refl,
+    )
+
+-- the edges of an outline are those of its contours, which are closed
+pub into_body-requires : goal.into_body-requires
+into_body-requires c =
+    let i = c.self.inside in
+    let o = outline_of i.outline in
+    rw (c.in_ok-tape.ensures, c.in_ok-made.ensures.exact) (
+      contours_of i.rule 0 o,
+      all_closed i.rule o.points o.ends (offset_at 0 o) (pos 0),
+      c.contours_joined.ensures i.rule o.points o.ends (offset_at 0 o) (pos 0),
+    )
 
 pub returns-clause-chords : goal.returns-clause-chords
 returns-clause-chords c = rw (← c.self.view_is) c.in_ok-made.ensures.chords
 
 pub returns-clause-crossings : goal.returns-clause-crossings
 returns-clause-crossings c =
-    let i = c.self.inside in
-    let es = c.in_ok-made.made.list.edges in
-    let lines = contours_at es c.in_ok-made.made.ends.items in
-    let b = body_view c.in_ok-body.body in
-    let facts : GlyphFacts = record { number = c.args.number; advance_left = to_z w32 (of_z w32 c.advance_left-advance_left.result); chords = c.in_ok-made.made.chords; counts = i.counts; unfitted = i.outline.unfitted } in
-    let cut : IsCutBody es lines i.filled facts b = rw (c.in_ok-tape.ensures, c.deref.ensures.value) at c.in_ok-body.ensures.body.0 in
-    let crosses = cut_crosses es lines i.filled c.filled-filled.result facts b c.filled-filled.ensures.tape cut in
+    let crosses = rw c.in_ok-tape.ensures at c.crossings-crossings.ensures in
     rw (← c.self.view_is, ← c.in_ok-made.ensures.exact) crosses
 
+-- the glyph
+abbrev glyph_of : After-advance_left → Glyph
+glyph_of c = record {
+  number = c.args.number;
+  advance_left = to_z w32 (of_z w32 c.advance_left.result);
+  chords = c.in_ok-made.made.chords;
+  crossings = c.crossings-crossings.result;
+  body = body_view c.in_ok-body.body;
+  unfitted = c.self.inside.outline.unfitted;
+}
+
+-- it has the pixels and the facts of its outline
+is_of : (c : After-advance_left) → (s : Fitter) (o : Outline) → IsMadeOutline s c.args.number o c.args.self
+    → IsGlyphOf s c.args.number o (glyph_of c)
+is_of c s o made =
+    let i = c.self.inside in
+    let m : MadeOutline = record { outline = outline_of i.outline; rule = i.rule; filled = i.filled; counts = i.counts; unfitted = i.outline.unfitted } in
+    let own : IsMadeOutline s c.args.number o m = rw c.self.view_is made in
+    let es = c.in_ok-made.made.list.edges in
+    let lines = contours_at es c.in_ok-made.made.ends.items in
+    let of_outline = c.in_ok-made.ensures in
+    let body : IsBodyOf es lines i.filled (body_view c.in_ok-body.body) = rw c.in_ok-tape.ensures at c.in_ok-body.ensures.body in
+    let fits : SFits w32 c.advance_left.result = search rules in
+    let same : to_z w32 (of_z w32 c.advance_left.result) ≡ c.advance_left.result = simp to_z-of_z refl in
+    let advance : to_z w32 (of_z w32 c.advance_left.result) ≡ advance_left (outline_of i.outline) = same ∙ c.advance_left.ensures.exact in
+    made_glyph s c.args.number o m (glyph_of c) es lines own of_outline.exact of_outline.contours body
+    (rw c.in_ok-tape.ensures at c.crossings-crossings.ensures) advance of_outline.chords refl
+
 pub returns-clause-valid : goal.returns-clause-valid
-returns-clause-valid c = λ cached s o outlined made.
-    let i = c.self.inside in
-    let n = c.args.number in
-    let m : MadeOutline = record { outline = outline_of i.outline; rule = i.rule; filled = i.filled; counts = i.counts; unfitted = i.outline.unfitted } in
-    let own : IsMadeOutline cached s n o m = rw c.self.view_is made in
-    let es = c.in_ok-made.made.list.edges in
-    let ends = c.in_ok-made.made.ends.items in
-    let lines = contours_at es ends in
-    let way = chords_with s in
-    let of_outline = c.in_ok-made.ensures in
-    let edged : es ≡ edges_at way 0 o = made_edges m es own of_outline.exact in
-    let lined : IfSome i.filled (λ rules. lines ≡ contours_of way 0 o) = made_lines m lines own of_outline.contours in
-    let b = body_view c.in_ok-body.body in
-    let facts : GlyphFacts = record { number = n; advance_left = to_z w32 (of_z w32 c.advance_left-advance_left.result); chords = c.in_ok-made.made.chords; counts = i.counts; unfitted = i.outline.unfitted } in
-    let cut : IsCutBody es lines i.filled facts b = rw (c.in_ok-tape.ensures, c.deref.ensures.value) at c.in_ok-body.ensures.body.0 in
-    let filled = c.filled-filled.result in
-    let told = c.filled-filled.ensures in
-    let Fits : BoxedRules → Type 0 = λ rules. ExtentsFit rules.extents in
-    record {
-      shape = o;
-      unfitted = own.unfitted;
-      outline = outlined;
-      body = body_has es (edges_at way 0 o) lines i.filled facts b edged cut;
-      left = c.left-left.ensures.exact;
-      tape = λ off. c.in_ok-body.ensures.plain (own.plain off);
-      advance = made_advance m facts.advance_left own (advance_is (goal.at.returns-clause-valid c).After-of);
-      chords = made_chords m c.in_ok-made.made.chords own of_outline.chords;
-      kept = body_shows cached s n o m es lines facts b own of_outline.exact of_outline.contours (advance_is (goal.at.returns-clause-valid c).After-of) of_outline.chords cut;
-      filled = λ is. told.tape is ∙ own.filled;
-      of_tape = told.some;
-      boxed = told_where filled i.filled (IsTape b) Fits Fits told.some told.tape own.fits (λ rules is fits. fits);
-      contours = told_where filled i.filled (IsTape b) (λ rules. lines ≡ contours_of way 0 o)
-          (λ rules. contours_at (edges_of b) ends ≡ contours_of way 0 o) told.some told.tape lined
-          (λ rules is same. rw (tape_has es lines i.filled facts b is cut) same);
-      ends = told_where filled i.filled (IsTape b) (λ rules. AreEnds (length es) ends) (λ rules. AreEnds (length (edges_of b)) ends)
-          told.some told.tape of_outline.ends (λ rules is are. rw (tape_has es lines i.filled facts b is cut) are);
-      fits = rw c.in_ok-tape.ensures at c.in_ok-body.ensures.body.1;
-    }
+returns-clause-valid c = λ s o outlined made.
+    let all = (goal.at.returns-clause-valid c).After-advance_left in
+    drawn_of_outline s c.args.number o (glyph_of all) outlined refl (is_of all s o made)
 
--- a glyph that is cut may be cached
-as_made : (c : After-of) → (cached : Bool) (s : Fitter) (o : Outline) → IsMadeOutline cached s c.args.number o c.args.self
-    → (k : KeptGlyph)
-    → IsCutOf c.in_ok-made.made.list.edges (contours_at c.in_ok-made.made.list.edges c.in_ok-made.made.ends.items) c.self.inside.filled k
-    → HasFacts (record { number = c.args.number; advance_left = to_z w32 (of_z w32 c.advance_left-advance_left.result); chords = c.in_ok-made.made.chords; counts = c.self.inside.counts; unfitted = c.self.inside.outline.unfitted }) k
-    → IsCached s c.args.number k
-as_made c cached s o made k cut has =
+-- a glyph that is made may be cached
+pub returns-in_err-cache_in-clause-cached : goal.returns-in_err-cache_in-clause-cached
+returns-in_err-cache_in-clause-cached c = λ s o made before.
+    let all = (goal.at.returns-in_err-cache_in-clause-cached c).After-advance_left in
     let i = c.self.inside in
     let m : MadeOutline = record { outline = outline_of i.outline; rule = i.rule; filled = i.filled; counts = i.counts; unfitted = i.outline.unfitted } in
-    let own : IsMadeOutline cached s c.args.number o m = rw c.self.view_is made in
-    let es = c.in_ok-made.made.list.edges in
-    let of_outline = c.in_ok-made.ensures in
-    as_cached cached s c.args.number o m es (contours_at es c.in_ok-made.made.ends.items) _ k refl refl own of_outline.exact
-    of_outline.contours (advance_is c) of_outline.chords cut has
-
-pub returns-in_err-body-clause-cached : goal.returns-in_err-body-clause-cached
-returns-in_err-body-clause-cached c = λ cached s o made before.
-    let puts = rw (c.in_ok-tape.ensures, c.deref.ensures.value) at (c.in_err-body.ensures.cached s) in
-    puts (as_made (goal.at.returns-in_err-body-clause-cached c).After-of cached s o made) before
-
-pub returns-in_err-with_capacity-clause-cached : goal.returns-in_err-with_capacity-clause-cached
-returns-in_err-with_capacity-clause-cached c = λ cached s o made before.
-    let puts = rw (c.in_ok-tape.ensures, c.deref.ensures.value) at (c.in_ok-body.ensures.cached s) in
-    puts (as_made (goal.at.returns-in_err-with_capacity-clause-cached c).After-of cached s o made) before
+    c.in_err-cache_in.ensures.cached s
+    (λ k kept. made_cached s c.args.number o m (glyph_of all) k (rw c.self.view_is made) (is_of all s o made) kept) before
 
 pub returns-clause-cached : goal.returns-clause-cached
-returns-clause-cached c = λ cached s o made before.
-    let puts = rw (c.in_ok-tape.ensures, c.deref.ensures.value) at (c.in_ok-body.ensures.cached s) in
-    puts (as_made (goal.at.returns-clause-cached c).After-of cached s o made) before
+returns-clause-cached c = λ s o made before.
+    let all = (goal.at.returns-clause-cached c).After-advance_left in
+    let i = c.self.inside in
+    let m : MadeOutline = record { outline = outline_of i.outline; rule = i.rule; filled = i.filled; counts = i.counts; unfitted = i.outline.unfitted } in
+    c.in_ok-cache_in.ensures.cached s
+    (λ k kept. made_cached s c.args.number o m (glyph_of all) k (rw c.self.view_is made) (is_of all s o made) kept) before

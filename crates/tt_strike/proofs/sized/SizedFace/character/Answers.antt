@@ -1,16 +1,14 @@
 use Rattle.std.proofs.Common.{◌≡◌, ◌∙◌, sym, ap, get_or, All, ℕ, ℤ, ◌+◌, ◌<◌, List, length, map, slice_index, slice_index_or, pos, SFits, w32, w64, of_z, to_z, refl, Option, arith, rules}
 use Rattle.std.proofs.lemmas.Int.{ints, to_z-of_z}
 use Rattle.std.proofs.lemmas.List.{get_or-map, length-map}
-use Rattle.tt_scan_ink.specs.declared.ink.GlyphInk.{GlyphInk}
+use Rattle.tt_bitmap.specs.declared.ink.LeastBox.{LeastBox}
 use Rattle.tt_picture.specs.Glyphs.{Glyph, numbers_of}
-use Rattle.tt_picture.proofs.Keeping.{is_not_there}
 use Rattle.tt_strike.specs.Measures.{made_step}
-use Rattle.tt_strike.proofs.sized.SizedFace.character.Goals.{in-Some, in-None}
 use Rattle.tt_strike.proofs.sized.SizedFace.character.Goals as goal
 
 -- the box at a place, of boxes of some numbers
-box_found : (inked : ℕ → Option GlyphInk) (boxes : List (Option GlyphInk)) (gs : List Glyph) (i n : ℕ)
-    (d : Option GlyphInk) → boxes ≡ map inked (numbers_of gs) → i < length gs → slice_index (numbers_of gs) i ≡ n
+box_found : (inked : ℕ → Option LeastBox) (boxes : List (Option LeastBox)) (gs : List Glyph) (i n : ℕ)
+    (d : Option LeastBox) → boxes ≡ map inked (numbers_of gs) → i < length gs → slice_index (numbers_of gs) i ≡ n
     → slice_index_or boxes i d ≡ inked n
 box_found inked boxes gs i n d are below is =
     let count = length-map gs (λ (g : Glyph). g.number) in
@@ -29,38 +27,29 @@ pub returns : goal.returns
 returns c = λ step inked steps same.
     let gs = c.args.inked.now.glyphs.made.items in
     let z = c.args.self.now in
+    let at = c.place_of-at.ensures in
     let narrow : SFits w32 c.args.kerning = c.ranges.kerning in
     let same_kerning : to_z w32 (of_z w32 c.args.kerning) ≡ c.args.kerning = simp to_z-of_z refl in
-    let found : (c.match-find.step.0 ≡ step c.args.placed.0 c.args.kerning) × (c.match-find.step.1 ≡ inked c.args.placed.0) =
-    elim c.match-find.branch [
-      | in-Some w ↦
-          let at = w.in-Some.ensures.found in
-          let own = made_step z.face.metrics z.ppem z.fit in
-          let told : w.step_of.result ≡ own w.index.result.now c.args.kerning = rw same_kerning at w.step_of.ensures in (
-            ap (λ (p : ℕ × Option GlyphInk). p.0) w.step-is ∙ (told ∙ step_found own step c.args.kerning gs w.in-Some.i
-                c.args.placed.0 w.index.result.now steps at.0 at.1 w.index.ensures),
-            ap (λ (p : ℕ × Option GlyphInk). p.1) w.step-is ∙ (w.index-in-Some.ensures
-                ∙ box_found inked c.args.inked.now.inks.items gs w.in-Some.i c.args.placed.0 w.index-in-Some.result.now same at.0 at.1),
-          )
-      | in-None w ↦
-          let none = is_not_there (numbers_of gs) c.args.placed.0 w.in-None.ensures.absent in
-          let there = c.requires.among in
-          absurd cc
-    ] in
+    let own = made_step z.face.metrics z.ppem z.fit in
+    let told : c.step_of.result ≡ own c.index.result.now c.args.kerning = rw same_kerning at c.step_of.ensures in
+    let stepped : c.step_of.result ≡ step c.args.placed.0 c.args.kerning =
+    told ∙ step_found own step c.args.kerning gs c.place_of-at.result c.args.placed.0 c.index.result.now steps at.within at.number c.index.ensures in
+    let boxed : c.index-2.result.now ≡ inked c.args.placed.0 = c.index-2.ensures
+    ∙ box_found inked c.args.inked.now.inks.items gs c.place_of-at.result c.args.placed.0 c.index-2.result.now same at.within at.number in
     let fits : SFits w64 (pos (c.args.placed.1 + c.args.frame.margin)) =
     omega (arith, ints, c.requires.pen, c.requires.frame.margin) in
-    rw (c.from.ensures, found.0, c.ink_at.ensures, found.1) (simp to_z-of_z)
+    rw (c.from.ensures, stepped, c.ink_at.ensures, boxed) (simp to_z-of_z)
 
 pub step_of-requires-clause-known : goal.step_of-requires-clause-known
 step_of-requires-clause-known c =
     let gs = c.args.inked.now.glyphs.made.items in
-    let at = c.in-Some.ensures.found in
+    let at = c.place_of-at.ensures in
     let here : c.index.result.now.number ≡ c.args.placed.0 = ap (λ (t : Glyph). t.number) c.index.ensures
-    ∙ sym (get_or-map (λ (t : Glyph). t.number) gs c.in-Some.i c.index.result.now 0 at.0) ∙ at.1 in
+    ∙ sym (get_or-map (λ (t : Glyph). t.number) gs c.place_of-at.result c.index.result.now 0 at.within) ∙ at.number in
     rw here c.requires.known
 
-pub index-requires-in-Some : goal.index-requires-in-Some
-index-requires-in-Some c =
-    let below : c.in-Some.i < length c.args.inked.now.inks.items =
-    rw (c.args.inked.now.inked, length-map) c.in-Some.ensures.found.0 in
+pub index-requires-2 : goal.index-requires-2
+index-requires-2 c =
+    let below : c.place_of-at.result < length c.args.inked.now.inks.items =
+    rw (c.args.inked.now.inked, length-map) c.place_of-at.ensures.within in
     search rules

@@ -1,16 +1,17 @@
 use Rattle.std.proofs.Common.{◌≡◌, ◌∙◌, ap, sym, map, Ok}
 use Rattle.std.proofs.lemmas.Result.{err_from_is_err_and}
 use Rattle.tt_line.specs.Outcome.{placement_of}
-use Rattle.tt_picture.specs.Cached.{is_there}
+use Rattle.tt_picture.specs.Glyphs.{numbers_of}
 use Rattle.tt_picture.specs.Pictures.{image_of, picture}
-use Rattle.tt_picture.proofs.Filled.{can_be_filled}
+use Rattle.tt_picture.proofs.Among.{all_among}
+use Rattle.tt_picture.proofs.Shown.{one_line_image}
 use Rattle.tt_strike.specs.Picture.{frame_of}
 use Rattle.tt_strike.specs.Strikes.{job_by}
 use Rattle.tt_strike.specs.Work.{line_fitter}
 use Rattle.tt_strike.proofs.Made.{drawn_as_made, reported_as_made}
-use Rattle.tt_strike.proofs.Needed.{tested_crossings}
+use Rattle.tt_strike.proofs.OneLine.{one_line}
 use Rattle.tt_strike.proofs.Stopped.{line_as_laid, line_stops}
-use Rattle.tt_strike.proofs.sized.SizedFace.draw.Goals.{After-frame-frame}
+use Rattle.tt_strike.proofs.sized.SizedFace.draw.Goals.{After-frame-frame, After-placed}
 use Rattle.tt_strike.proofs.sized.SizedFace.draw.Goals as goal
 
 pub returns-in_err-made-clause-exact : goal.returns-in_err-made-clause-exact
@@ -25,16 +26,15 @@ frame_is : (c : After-frame-frame) → c.frame-frame.result
 frame_is c =
     c.frame-frame.ensures.exact ∙ ap (frame_of (placement_of c.in_ok-made.made.laid.line)) c.in_ok-made.ensures.margin
 
-pub new-requires-clause-glyphs : goal.new-requires-clause-glyphs
-new-requires-clause-glyphs c =
-    let made = c.in_ok-made.ensures.made.made in
-    can_be_filled (line_fitter made.setting (map (λ g. g.0) c.in_ok-made.made.laid.line.glyphs.items))
-    c.in_ok-made.made.glyphs.made.items made.drawn made.within
+-- the line has this frame, and its glyphs
+placed_frame : (c : After-placed) → c.placed.result.frame ≡ c.frame-frame.result
+placed_frame c = c.placed.ensures.frame ∙ sym c.frame-frame.ensures.exact
 
-pub new-requires-clause-bodies : goal.new-requires-clause-bodies
-new-requires-clause-bodies c = λ k d below.
-    rw (frame_is (goal.at.new-requires-clause-bodies c).After-frame-frame)
-    (c.in_ok-made.ensures.made.made.drawn k d below).fits
+pub new-requires-clause-lines : goal.new-requires-clause-lines
+new-requires-clause-lines c =
+    let numbers = numbers_of c.in_ok-made.made.glyphs.made.items in
+    one_line c.frame-frame.result numbers c.placed.result (placed_frame (goal.at.new-requires-clause-lines c).After-placed)
+    (rw c.placed.ensures.glyphs (all_among c.in_ok-made.made.laid.line.glyphs.items numbers c.in_ok-made.ensures.made.made.numbers))
 
 pub returns-clause-exact : goal.returns-clause-exact
 returns-clause-exact c =
@@ -45,8 +45,12 @@ returns-clause-exact c =
     let is = c.in_ok-made.ensures.made in
     let made = is.made in
     let p = c.in_ok-new.field-0 in
-    let drawn = rw (frame_is (goal.at.returns-clause-exact c).After-frame-frame) at c.in_ok-new.ensures.exact in
-    let image : image_of p ≡ picture (frame_of l a.margin) made.shapes = drawn made.shapes made.stand in
+    let all = goal.at.returns-clause-exact c in
+    let maker = line_fitter made.setting (map (λ g. g.0) l.glyphs) in
+    let shown = one_line_image maker c.placed.result c.frame-frame.result made.shapes (placed_frame all.After-placed)
+    (rw c.placed.ensures.glyphs made.fitted) in
+    let image : image_of p ≡ picture (frame_of l a.margin) made.shapes =
+    rw (frame_is all.After-frame-frame) at (c.in_ok-new.ensures.exact maker made.drawn ∙ shown) in
     line_as_laid face a ∙ rw is.laid (drawn_as_made face a l gs made
     ∙ ap Ok {x = picture (frame_of l a.margin) made.shapes} {y = image_of p} (sym image))
 
@@ -65,13 +69,9 @@ returns-clause-reported c =
     let made = is.made in
     let p = c.in_ok-new.field-0 in
     let told = reported_as_made face a l gs p.unfitted made c.in_ok-new.ensures.unfitted in
-    let frame : p.frame ≡ frame_of l a.margin = c.in_ok-new.ensures.frame
-    ∙ frame_is (goal.at.returns-clause-reported c).After-frame-frame in
     rw is.laid (record {
       ready = c.in_ok-new.ensures.valid;
       report = told.0;
       once = told.1;
       cost = rw c.in_ok-new.ensures.cost is.cost;
-      few = λ bounded. rw (frame, c.in_ok-new.ensures.edges) (tested_crossings {cached = is_there c.args.cache.now} a l
-          made.setting (frame_of l a.margin) gs made.shapes made.drawn made.numbers made.fitted made.seldom bounded);
     })

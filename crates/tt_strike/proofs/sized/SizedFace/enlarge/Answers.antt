@@ -1,18 +1,16 @@
-use Rattle.std.proofs.Common.{◌≡◌, ◌∙◌, false, map, refl, Ok}
+use Rattle.std.proofs.Common.{◌≡◌, ◌∙◌, refl, Ok}
 use Rattle.std.proofs.lemmas.Result.{err_from_is_err_and}
 use Rattle.tt_line.specs.Outcome.{placement_of}
+use Rattle.tt_metrics.specs.Metrics.{glyphs_of}
 use Rattle.tt_picture.specs.Glyphs.{numbers_of}
 use Rattle.tt_picture.proofs.Among.{all_among}
-use Rattle.tt_picture.proofs.Filled.{can_be_filled}
 use Rattle.tt_strike.specs.Costs.{cost_by}
 use Rattle.tt_strike.specs.Enlarged.{IsEnlarged}
 use Rattle.tt_strike.specs.Made.{AreMade}
 use Rattle.tt_strike.specs.Measures.{line_ink, line_step, measure_view, measured_line}
 use Rattle.tt_strike.specs.Strikes.{job_by}
-use Rattle.tt_strike.specs.Work.{line_fitter}
-use Rattle.tt_strike.proofs.Enlarged.{grown_as_measured, grown_moves, not_grown, numbers_kept}
-use Rattle.tt_strike.proofs.GrownStops.{placed_as_laid}
-use Rattle.tt_strike.proofs.Made.{inks_as_made, known_as_made, measured_as_made, steps_as_made, tapes_as_made}
+use Rattle.tt_strike.proofs.Enlarged.{grown_as_measured, grown_moves, known_rightwards, not_grown, placed_as_laid}
+use Rattle.tt_strike.proofs.Made.{inks_as_made, measured_as_made, steps_as_made}
 use Rattle.tt_strike.proofs.Placed.{placed_of}
 use Rattle.tt_strike.proofs.Stopped.{placing_stops}
 use Rattle.tt_strike.proofs.sized.SizedFace.enlarge.Goals.{In_ok-line, In_ok-measure}
@@ -29,28 +27,8 @@ returns-in_err-made-clause-defects c =
     let p = err_from_is_err_and c.from_residual.result c.from_residual.ensures.1 in
     rw (p.1, p.2) c.in_err-made.ensures.defects
 
-pub make_line-requires : goal.make_line-requires
-make_line-requires c = rw c.absent-none.ensures (record { cache = tt })
-
-pub glyph_inks-requires-clause-tapes : goal.glyph_inks-requires-clause-tapes
-glyph_inks-requires-clause-tapes c =
-    let is = rw c.absent-none.ensures at c.in_ok-made.ensures.made in
-    rw c.deref.ensures.value (tapes_as_made c.args.self.now.face (job_by c.args.self.now c.args.text.now c.args.margin)
-    (placement_of c.in_ok-made.made.laid.line) c.in_ok-made.made.glyphs.made.items is.made)
-
-pub glyph_inks-requires-clause-glyphs : goal.glyph_inks-requires-clause-glyphs
-glyph_inks-requires-clause-glyphs c =
-    let made = c.in_ok-made.ensures.made.made in
-    rw c.deref.ensures.value (can_be_filled (line_fitter made.setting (map (λ g. g.0) c.in_ok-made.made.laid.line.glyphs.items))
-    c.in_ok-made.made.glyphs.made.items made.drawn made.within)
-
 pub measure_by-requires-clause-known : goal.measure_by-requires-clause-known
-measure_by-requires-clause-known c =
-    let is = c.in_ok-made.ensures.made in
-    rw c.make_line.ensures.same (known_as_made c.in_ok-made.made.laid.line.glyphs.items is.seated is.made.numbers)
-
-pub measure_by-requires-clause-room : goal.measure_by-requires-clause-room
-measure_by-requires-clause-room c = rw c.make_line.ensures.same c.in_ok-made.ensures.made.seated.room
+measure_by-requires-clause-known c = rw c.make_line.ensures.same c.in_ok-made.ensures.made.known
 
 pub measure_by-requires-clause-among : goal.measure_by-requires-clause-among
 measure_by-requires-clause-among c =
@@ -58,7 +36,7 @@ measure_by-requires-clause-among c =
     c.in_ok-made.ensures.made.made.numbers
 
 -- the measure is that of the line
-measured_then : (c : In_ok-measure) → (made : AreMade false c.args.self.now.face
+measured_then : (c : In_ok-measure) → (made : AreMade c.args.self.now.face
     (job_by c.args.self.now c.args.text.now c.args.margin) (placement_of c.in_ok-made.made.laid.line)
     c.in_ok-made.made.glyphs.made.items)
     → measured_line c.args.self.now.face (job_by c.args.self.now c.args.text.now c.args.margin)
@@ -78,7 +56,7 @@ returns-in_err-line-clause-stops c =
     let face = c.args.self.now.face in
     let a = job_by c.args.self.now c.args.text.now c.args.margin in
     let l = placement_of c.in_ok-made.made.laid.line in
-    let is = rw c.absent-none.ensures at c.in_ok-made.ensures.made in
+    let is = c.in_ok-made.ensures.made in
     let p = err_from_is_err_and c.from_residual-in_err-line.result c.from_residual-in_err-line.ensures.1 in
     rw (p.1, p.2, placed_as_laid face a l is.laid) (not_grown face a l (measure_view c.in_ok-measure.measure) c.in_err-line.field-0.0
     (measured_then (goal.at.returns-in_err-line-clause-stops c).In_ok-measure is.made) c.in_err-line.ensures)
@@ -94,10 +72,11 @@ enlarged_then c measured =
     let l = placement_of c.in_ok-made.made.laid.line in
     let larger = placement_of c.in_ok-line.line in
     let m = measure_view c.in_ok-measure.measure in
-    let is = rw c.absent-none.ensures at c.in_ok-made.ensures.made in
+    let is = c.in_ok-made.ensures.made in
     let moved = grown_moves l larger m.ink c.in_ok-line.ensures in
     record {
       made = is.made;
+      known = rw moved.1 (known_rightwards (glyphs_of face.metrics) moved.0 l.glyphs is.known);
       left = moved.0;
       moved = moved.1;
       exact = grown_as_measured face a l larger m measured c.in_ok-line.ensures;
@@ -106,14 +85,8 @@ enlarged_then c measured =
 pub returns-clause-enlarged : goal.returns-clause-enlarged
 returns-clause-enlarged c =
     let all = goal.at.returns-clause-enlarged c in
-    let is = rw c.absent-none.ensures at c.in_ok-made.ensures.made in
+    let is = c.in_ok-made.ensures.made in
     rw c.in_ok-made.ensures.made.laid (enlarged_then all.In_ok-line (measured_then all.In_ok-measure is.made))
-
-pub returns-clause-glyphs : goal.returns-clause-glyphs
-returns-clause-glyphs c =
-    let all = goal.at.returns-clause-glyphs c in
-    let is = rw c.absent-none.ensures at c.in_ok-made.ensures.made in
-    numbers_kept (enlarged_then all.In_ok-line (measured_then all.In_ok-measure is.made)) ∙ c.in_ok-made.ensures.made.glyphs
 
 pub returns-clause-cost : goal.returns-clause-cost
 unfolding cost_by

@@ -50,7 +50,7 @@ returns-clause-made c =
       laid = c.in_ok-laid.ensures.exact;
       glyphs = c.in_ok-laid.ensures.glyphs;
       made = made_textless z c.args.text.now c.args.margin l made;
-      seated = rw c.lay_out.ensures.same at c.in_ok-glyphs.ensures.valid;
+      known = c.in_ok-laid.ensures.known;
       cost = cost_textless z c.args.text.now c.args.margin l ∙ cost;
     }
 

@@ -1,4 +1,4 @@
-use Rattle.std.proofs.Common.{◌≡◌, ◌∙◌, ◌<◌, ℕ, List, ap, length, map, refl, sym, Ok}
+use Rattle.std.proofs.Common.{◌≡◌, ◌∙◌, ◌<◌, ℕ, List, ap, map, refl, sym, Ok}
 use Rattle.std.proofs.lemmas.Result.{err_from_is_err_and}
 use Rattle.tt_face.specs.Faces.{Face}
 use Rattle.tt_fit.specs.Fitting.{Fitter}
@@ -6,7 +6,6 @@ use Rattle.tt_fit.specs.declared.programs.Fit.{Fit}
 use Rattle.tt_line.specs.Layout.{text_glyphs}
 use Rattle.tt_line.specs.Outcome.{placement_of}
 use Rattle.tt_metrics.specs.Metrics.{glyphs_of}
-use Rattle.tt_picture.specs.Cached.{is_there}
 use Rattle.tt_picture.specs.Distinct.{distinct}
 use Rattle.tt_picture.specs.Shapes.{crossings_in}
 use Rattle.tt_picture.proofs.Among.{of_same_glyphs}
@@ -160,7 +159,7 @@ returns-in_err-line-clause-job c =
 
 -- the line by the outlines of its glyphs
 outlined_then : (c : In_ok-line) → tested (job_here c.self.inside.source.face.now c.self.inside.source.ppem
-    c.self.inside.source.fit c.args.text.now c.args.margin) ≡ Ok tt → IsOutlinedLine (is_there c.args.cache.now) c.self.inside.source.face.now (job_here c.self.inside.source.face.now c.self.inside.source.ppem c.self.inside.source.fit c.args.text.now c.args.margin) c.in_ok-fitter.fitter
+    c.self.inside.source.fit c.args.text.now c.args.margin) ≡ Ok tt → IsOutlinedLine c.self.inside.source.face.now (job_here c.self.inside.source.face.now c.self.inside.source.ppem c.self.inside.source.fit c.args.text.now c.args.margin) c.in_ok-fitter.fitter
     (placement_of c.in_ok-line.line) c.in_ok-outlined.outlined.fitted.items c.work-left.result
 outlined_then c passes =
     let o = c.in_ok-outlined.ensures.outlined in
@@ -188,7 +187,7 @@ returns-in_err-glyphs-clause-stops c =
     let is = outlined_then all.In_ok-line (passed all.In_ok-test_text) in
     let shapes = line_made z.face a s l fs is in
     let fails = rw (line_edges z.face a s l fs shapes.0 is) at
-    (c.in_err-glyphs.ensures.exact (is_there c.args.cache.now) (line_fitter s (text_glyphs z.face.cmap c.args.text.now)) shapes.0 is.fitted shapes.1) in
+    (c.in_err-glyphs.ensures.exact (line_fitter s (text_glyphs z.face.cmap c.args.text.now)) shapes.0 is.fitted shapes.1) in
     let p = err_from_is_err_and c.from_residual-in_err-glyphs.result c.from_residual-in_err-glyphs.ensures.1 in
     rw (p.1, p.2, ← c.self.view_is) (line_stops_text z.face a s l fs shapes.0 c.in_err-glyphs.field-0.0 is
     (rw is.glyphs shapes.1) fails)
@@ -203,7 +202,7 @@ returns-in_err-glyphs-clause-defects c =
     let all = goal.at.returns-in_err-glyphs-clause-defects c in
     let is = outlined_then all.In_ok-line (passed all.In_ok-test_text) in
     let shapes = line_made z.face a s l fs is in
-    let fails = c.in_err-glyphs.ensures.exact (is_there c.args.cache.now) (line_fitter s (text_glyphs z.face.cmap c.args.text.now)) shapes.0 is.fitted shapes.1 in
+    let fails = c.in_err-glyphs.ensures.exact (line_fitter s (text_glyphs z.face.cmap c.args.text.now)) shapes.0 is.fitted shapes.1 in
     let p = err_from_is_err_and c.from_residual-in_err-glyphs.result c.from_residual-in_err-glyphs.ensures.1 in
     rw (p.1, p.2) (line_tells_no_defect _ _ c.in_err-glyphs.field-0.0 fails)
 
@@ -218,7 +217,7 @@ returns-in_err-glyphs-clause-job c =
     let is = outlined_then all.In_ok-line (passed all.In_ok-test_text) in
     let shapes = line_made z.face a s l fs is in
     let fails = rw (line_edges z.face a s l fs shapes.0 is) at
-    (c.in_err-glyphs.ensures.exact (is_there c.args.cache.now) (line_fitter s (text_glyphs z.face.cmap c.args.text.now)) shapes.0 is.fitted shapes.1) in
+    (c.in_err-glyphs.ensures.exact (line_fitter s (text_glyphs z.face.cmap c.args.text.now)) shapes.0 is.fitted shapes.1) in
     let p = err_from_is_err_and c.from_residual-in_err-glyphs.result c.from_residual-in_err-glyphs.ensures.1 in
     rw (p.1, p.2, ← c.self.view_is) (line_tells_refusal z.face a s l fs shapes.0 c.in_err-glyphs.field-0.0 is
     (rw is.glyphs shapes.1) fails)
@@ -238,17 +237,18 @@ returns-clause-made c =
     let shapes = line_made z.face a s l fs is in
     let fitted : shapes_in s l ≡ Ok shapes.0 = rw is.glyphs shapes.1 in
     let few = line_points z.face a s l fs is in
-    let passes = c.in_ok-glyphs.ensures.exact (is_there c.args.cache.now) maker shapes.0 is.fitted shapes.1 in
+    let passes = c.in_ok-glyphs.ensures.exact maker shapes.0 is.fitted shapes.1 in
     let seldom : edges_tested s a l shapes.0 ≡ Ok tt = of-job (edges_tested s a l shapes.0) tt
     (rw (line_edges z.face a s l fs shapes.0 is) at passes) in
-    let of = c.in_ok-glyphs.ensures.line (is_there c.args.cache.now) maker is.fitted in
-    let room : length c.in_ok-outlined.outlined.places.items ≡ glyphs_of z.face.metrics = o.room ∙ c.in_ok-fitter.ensures.setting.glyphs in
+    let numbers = c.in_ok-glyphs.ensures.numbers ∙ o.numbers ∙ ap distinct (sym is.glyphs) in
     let cost : c.in_ok-glyphs.glyphs.cost ≡ cost_of (work_left s (map (λ g. g.0) l.glyphs)) (crossings_in shapes.0) =
-    c.in_ok-glyphs.ensures.cost (is_there c.args.cache.now) maker shapes.0 is.fitted shapes.1
+    c.in_ok-glyphs.ensures.cost maker shapes.0 is.fitted shapes.1
     ∙ ap (λ left. cost_of left (crossings_in shapes.0)) (is.work ∙ ap (work_left s) (sym is.glyphs)) in
     rw (← c.self.view_is) (record {
       laid = line_laid z.face a s l fs is;
       glyphs = is.glyphs;
+      known = of_same_glyphs (λ n. n < glyphs_of z.face.metrics) c.in_ok-outlined.outlined.steps.items l.glyphs
+          c.in_ok-line.ensures.glyphs c.in_ok-outlined.ensures.known;
       made = record {
         setting = s;
         shapes = shapes.0;
@@ -256,12 +256,9 @@ returns-clause-made c =
         few = few;
         fitted = fitted;
         seldom = seldom;
-        drawn = rw is.glyphs of.drawn;
-        numbers = of.numbers;
-        within = of.pens;
-        stand = rw shapes.1 at of.stand;
+        drawn = rw is.glyphs (c.in_ok-glyphs.ensures.drawn maker is.fitted);
+        numbers = numbers;
       };
-      seated = rw room at c.in_ok-glyphs.ensures.valid;
       cost = costed z.face a l s shapes.0 is.there few fitted seldom ∙ ap Ok (sym cost);
     })
 
@@ -289,7 +286,6 @@ tested_edges-requires-clause-bounded c = rw (← c.self.view_is) at c.requires.b
 
 pub tested_edges-requires-clause-made : goal.tested_edges-requires-clause-made
 tested_edges-requires-clause-made c = (
-  is_there c.args.cache.now,
   line_fitter c.in_ok-fitter.fitter (text_glyphs c.self.inside.source.face.now.cmap c.args.text.now),
   c.in_ok-outlined.ensures.outlined.fitted,
 )
@@ -301,14 +297,6 @@ pub tested_edges-requires-clause-numbers : goal.tested_edges-requires-clause-num
 tested_edges-requires-clause-numbers c =
     let o = c.in_ok-outlined.ensures.outlined in
     o.numbers ∙ ap distinct (sym (c.in_ok-line.ensures.glyphs ∙ o.glyphs))
-
-pub tested_edges-requires-clause-known : goal.tested_edges-requires-clause-known
-tested_edges-requires-clause-known c =
-    let o = c.in_ok-outlined.ensures.outlined in
-    let room : length c.in_ok-outlined.outlined.places.items ≡ glyphs_of c.self.inside.source.face.now.metrics =
-    o.room ∙ c.in_ok-fitter.ensures.setting.glyphs in
-    rw room (of_same_glyphs (λ n. n < glyphs_of c.self.inside.source.face.now.metrics) c.in_ok-outlined.outlined.steps.items
-    c.in_ok-line.line.glyphs.items c.in_ok-line.ensures.glyphs c.in_ok-outlined.ensures.known)
 
 pub outlined-requires-clause-cache : goal.outlined-requires-clause-cache
 outlined-requires-clause-cache c =
@@ -323,7 +311,7 @@ cache_then c =
     let gs = text_glyphs z.face.cmap c.args.text.now in
     let before = rw (← c.self.view_is) at c.requires.cache in
     let own = of_fitter z s c.args.cache.now c.in_ok-fitter.ensures.setting before in
-    let after = c.tested_edges.ensures.cached (is_there c.args.cache.now) (line_fitter s gs) s
+    let after = c.tested_edges.ensures.cached (line_fitter s gs) s
     c.in_ok-outlined.ensures.outlined.fitted (maker_alike s gs) own in
     rw (← c.self.view_is) (of_face z s c.args.cache.now c.tested_edges.new.cache c.in_ok-fitter.ensures.exact
     c.tested_edges.ensures.limit before after)

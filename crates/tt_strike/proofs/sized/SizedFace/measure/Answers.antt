@@ -1,15 +1,13 @@
-use Rattle.std.proofs.Common.{◌∙◌, map, refl}
+use Rattle.std.proofs.Common.{◌∙◌, refl}
 use Rattle.std.proofs.lemmas.Result.{err_from_is_err_and}
 use Rattle.tt_line.specs.Outcome.{placement_of}
 use Rattle.tt_picture.specs.Glyphs.{numbers_of}
 use Rattle.tt_picture.proofs.Among.{all_among}
-use Rattle.tt_picture.proofs.Filled.{can_be_filled}
 use Rattle.tt_strike.specs.Costs.{cost_by}
 use Rattle.tt_strike.specs.Measures.{line_ink, line_step, measured}
 use Rattle.tt_strike.specs.Report.{report_by}
 use Rattle.tt_strike.specs.Strikes.{job_by}
-use Rattle.tt_strike.specs.Work.{line_fitter}
-use Rattle.tt_strike.proofs.Made.{inks_as_made, known_as_made, measured_as_made, reported_as_made, steps_as_made, tapes_as_made}
+use Rattle.tt_strike.proofs.Made.{inks_as_made, measured_as_made, reported_as_made, steps_as_made}
 use Rattle.tt_strike.proofs.Placed.{placed_of}
 use Rattle.tt_strike.proofs.Stopped.{measure_stops}
 use Rattle.tt_strike.proofs.sized.SizedFace.measure.Goals as goal
@@ -20,28 +18,8 @@ returns-in_err-made-clause-exact c =
     rw (p.1, p.2) (measure_stops c.args.self.now.face (job_by c.args.self.now c.args.text.now c.args.margin)
     c.in_err-made.field-0.0 c.in_err-made.ensures.stops)
 
-pub make_line-requires : goal.make_line-requires
-make_line-requires c = rw c.absent-none.ensures (record { cache = tt })
-
-pub glyph_inks-requires-clause-tapes : goal.glyph_inks-requires-clause-tapes
-glyph_inks-requires-clause-tapes c =
-    let is = rw c.absent-none.ensures at c.in_ok-made.ensures.made in
-    rw c.deref.ensures.value (tapes_as_made c.args.self.now.face (job_by c.args.self.now c.args.text.now c.args.margin)
-    (placement_of c.in_ok-made.made.laid.line) c.in_ok-made.made.glyphs.made.items is.made)
-
-pub glyph_inks-requires-clause-glyphs : goal.glyph_inks-requires-clause-glyphs
-glyph_inks-requires-clause-glyphs c =
-    let made = c.in_ok-made.ensures.made.made in
-    rw c.deref.ensures.value (can_be_filled (line_fitter made.setting (map (λ g. g.0) c.in_ok-made.made.laid.line.glyphs.items))
-    c.in_ok-made.made.glyphs.made.items made.drawn made.within)
-
 pub measure_by-requires-clause-known : goal.measure_by-requires-clause-known
-measure_by-requires-clause-known c =
-    let is = c.in_ok-made.ensures.made in
-    rw c.make_line.ensures.same (known_as_made c.in_ok-made.made.laid.line.glyphs.items is.seated is.made.numbers)
-
-pub measure_by-requires-clause-room : goal.measure_by-requires-clause-room
-measure_by-requires-clause-room c = rw c.make_line.ensures.same c.in_ok-made.ensures.made.seated.room
+measure_by-requires-clause-known c = rw c.make_line.ensures.same c.in_ok-made.ensures.made.known
 
 pub measure_by-requires-clause-among : goal.measure_by-requires-clause-among
 measure_by-requires-clause-among c =
@@ -55,7 +33,7 @@ returns-clause-exact c =
     let a = job_by c.args.self.now c.args.text.now c.args.margin in
     let l = placement_of c.in_ok-made.made.laid.line in
     let gs = c.in_ok-made.made.glyphs.made.items in
-    let is = rw c.absent-none.ensures at c.in_ok-made.ensures.made in
+    let is = c.in_ok-made.ensures.made in
     let made = is.made in
     let inks = (rw c.deref.ensures.value at c.in_ok-inks.ensures.exact) ∙ inks_as_made face a l gs made in
     let by = rw (c.make_line.ensures.same, c.in_ok-made.ensures.margin) at c.in_ok-measure_by.ensures.exact in

@@ -11,9 +11,8 @@ use Rattle.tt_strike.specs.Measures.{line_ink, line_step}
 use Rattle.tt_strike.specs.Picture.{laid_out}
 use Rattle.tt_strike.specs.Report.{report_by}
 use Rattle.tt_strike.specs.Strikes.{job_by}
-use Rattle.tt_strike.proofs.Enlarged.{larger_made, larger_measured, numbers_kept}
-use Rattle.tt_strike.proofs.GrownStops.{placed_as_laid}
-use Rattle.tt_strike.proofs.Made.{inks_as_made, known_as_made, reported_as_made, steps_as_made}
+use Rattle.tt_strike.proofs.Enlarged.{larger_made, numbers_kept, placed_as_laid}
+use Rattle.tt_strike.proofs.Made.{inks_as_made, measured_as_made, reported_as_made, steps_as_made}
 use Rattle.tt_strike.proofs.Placed.{placed_of}
 use Rattle.tt_strike.proofs.Stopped.{grown_measure_stops}
 use Rattle.tt_strike.proofs.sized.SizedFace.measure_grown.Goals as goal
@@ -30,11 +29,7 @@ measure_by-requires-clause-known c =
     let a = job_by c.args.self.now c.args.text.now c.args.margin in
     let its = ok_and (laid_out face a) (λ l. IsEnlarged face a l (placement_of c.in_ok-enlarged.enlarged.laid.line)
     c.in_ok-enlarged.enlarged.inked.glyphs.made.items) c.in_ok-enlarged.ensures.enlarged in
-    rw c.enlarge.ensures.same (known_as_made c.in_ok-enlarged.enlarged.laid.line.glyphs.items c.in_ok-enlarged.ensures.valid
-    (its.2.made.numbers ∙ ap distinct (sym (numbers_kept its.2))))
-
-pub measure_by-requires-clause-room : goal.measure_by-requires-clause-room
-measure_by-requires-clause-room c = rw c.enlarge.ensures.same c.in_ok-enlarged.ensures.valid.room
+    rw c.enlarge.ensures.same its.2.known
 
 pub measure_by-requires-clause-among : goal.measure_by-requires-clause-among
 measure_by-requires-clause-among c =
@@ -57,12 +52,11 @@ returns-clause-exact c =
     let inked = c.in_ok-enlarged.enlarged.inked in
     let gs = inked.glyphs.made.items in
     let e = its.2 in
-    let s = e.made.setting in
     let made = larger_made face a l larger e.left gs e.made e.moved in
-    let inks = inked.inked ∙ inks_as_made face a l gs e.made in
+    let inks = inked.inked ∙ inks_as_made face a larger gs made in
     let by = rw (c.enlarge.ensures.same, c.in_ok-enlarged.ensures.margin) at c.in_ok-measure_by.ensures.exact in
-    let measured = by (line_step face a s l) (line_ink s l) (steps_as_made face a l gs e.made) inks in
-    rw (placed_as_laid face a l its.1, e.exact, larger_measured face a l larger s (numbers_kept e) made, measured) refl
+    let measured = by (line_step face a made.setting larger) (line_ink made.setting larger) (steps_as_made face a larger gs made) inks in
+    rw (placed_as_laid face a l its.1, e.exact, measured_as_made face a larger gs made, measured) refl
 
 pub returns-clause-report : goal.returns-clause-report
 unfolding report_by

@@ -6,7 +6,6 @@ use Rattle.tt_core.specs.Limits.{point_work_limit}
 use Rattle.tt_cmap.specs.Maps.{CharacterMap}
 use Rattle.tt_line.specs.Layout.{text_glyphs}
 use Rattle.tt_metrics.specs.Metrics.{glyphs_of}
-use Rattle.tt_picture.specs.Cached.{is_there}
 use Rattle.tt_picture.specs.Distinct.{distinct}
 use Rattle.tt_picture.specs.Fitted.{AreFitted, fitted_numbers}
 use Rattle.tt_picture.specs.Steps.{step_by}
@@ -56,7 +55,7 @@ charged_is c are = rw (c.deref-2.ensures.value, are) at c.in_ok-charge_points.en
 fitted_are : (c : In_ok-fitted)
     → c.in_ok-met.met.numbers.items ≡ glyphs_of_text c.args.self.now.face.now.cmap c.args.text.now
     → c.charge_points.new.fitter ≡ started c.args.fitter.now (text_glyphs c.args.self.now.face.now.cmap c.args.text.now)
-    → AreFitted (is_there c.args.cache.now) (line_fitter c.args.fitter.now (text_glyphs c.args.self.now.face.now.cmap c.args.text.now)) c.in_ok-fitted.fitted.items
+    → AreFitted (line_fitter c.args.fitter.now (text_glyphs c.args.self.now.face.now.cmap c.args.text.now)) c.in_ok-fitted.fitted.items
 fitted_are c are charged = rw (c.deref-3.ensures.value, are, charged) at c.in_ok-fitted.ensures.fitted
 
 fitted_numbers_are : (c : In_ok-fitted)
@@ -66,7 +65,7 @@ fitted_numbers_are c are = rw (c.deref-3.ensures.value, are) at c.in_ok-fitted.e
 
 steps_then : (c : After-put_steps)
     → map (λ (g : ℕ × ℕ). g.0) c.in_ok-steps.steps.items ≡ text_glyphs c.args.self.now.face.now.cmap c.args.text.now
-    → AreFitted (is_there c.args.cache.now) (line_fitter c.args.fitter.now (text_glyphs c.args.self.now.face.now.cmap c.args.text.now)) c.in_ok-fitted.fitted.items
+    → AreFitted (line_fitter c.args.fitter.now (text_glyphs c.args.self.now.face.now.cmap c.args.text.now)) c.in_ok-fitted.fitted.items
     → (with_items c.in_ok-steps.steps c.put_steps.new.line).items
     ≡ made_line c.args.self.now.face.now.metrics c.args.self.now.ppem c.args.fitter.now (text_glyphs c.args.self.now.face.now.cmap c.args.text.now)
 steps_then c are fitted =
@@ -137,7 +136,6 @@ returns-clause-outlined c =
       glyphs = rw line (firsts m step gs);
       steps = rw line refl;
       whole = line;
-      room = c.in_ok-met.ensures.room ∙ rw c.metrics.ensures at c.glyphs.ensures.exact ∙ sym c.requires.glyphs;
       places = rw (fitted_numbers_are all.In_ok-fitted numbers, ← numbers) c.in_ok-met.ensures.places;
       numbers = fitted_numbers_are all.In_ok-fitted numbers;
       fitted = fitted;

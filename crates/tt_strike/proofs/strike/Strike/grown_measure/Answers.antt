@@ -1,3 +1,4 @@
+use Rattle.std.proofs.Common.{refl}
 use Rattle.tt_strike.proofs.strike.Strike.grown_measure.Goals as goal
 
 pub returns-clause-exact : goal.returns-clause-exact
@@ -12,8 +13,12 @@ returns-clause-cost c = rw (← c.self.view_is) c.measure_grown.ensures.cost
 pub returns-clause-defects : goal.returns-clause-defects
 returns-clause-defects c = rw (← c.self.view_is) c.measure_grown.ensures.defects
 
-pub returns-clause-same : goal.returns-clause-same
-returns-clause-same c = rw c.measure_grown.ensures.same c.self.view_is
-
 pub invariant_of-self : goal.invariant_of-self
-invariant_of-self c = (rw c.measure_grown.ensures.same c.self.invariant.0, c.self.invariant.1)
+invariant_of-self c =
+    let before = c.self.invariant in (
+      rw c.measure_grown.ensures.same c.measure_grown.ensures.cache,
+      rw c.measure_grown.ensures.limit before.1,
+    )
+
+pub returns-clause-same : goal.returns-clause-same
+returns-clause-same c = rw (c.measure_grown.ensures.same, ← c.self.view_is) refl

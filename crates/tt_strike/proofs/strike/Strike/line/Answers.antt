@@ -1,8 +1,7 @@
-use Rattle.std.proofs.Common.{◌≡◌, ◌≤◌, Ok, refl}
+use Rattle.std.proofs.Common.{◌≡◌, Ok, refl}
 use Rattle.std.proofs.lemmas.Result.{IfOk-weaker}
-use Rattle.tt_core.specs.Limits.{crossing_limit}
 use Rattle.std.specs.Prelude.{IsOkAnd}
-use Rattle.tt_picture.specs.Pictures.{IsReady, Picture, all_crossings}
+use Rattle.tt_picture.specs.Pictures.{IsReady, Picture}
 use Rattle.tt_picture.specs.Unfitted.{ListsOnce}
 use Rattle.tt_strike.specs.Costs.{cost_by}
 use Rattle.tt_strike.specs.Picture.{frame_of, laid_out, text_placed}
@@ -51,14 +50,6 @@ returns-clause-cost c =
     let a = job_by z c.args.text.now c.args.margin in
     rw (← c.self.view_is) (IfOk-weaker c.draw.result (λ (p : Picture). IsOkAnd (laid_out z.face a) (λ l. IsReported z.face a l p))
     (λ (p : Picture). cost_by z.face a ≡ Ok p.cost) (λ p is. (reported_text z.face a p is).cost) c.draw.ensures.reported)
-
-pub returns-clause-few : goal.returns-clause-few
-returns-clause-few c =
-    let z = c.self.inside.sized in
-    let a = job_by z c.args.text.now c.args.margin in
-    rw (← c.self.view_is) (λ bounded. IfOk-weaker c.draw.result
-    (λ (p : Picture). IsOkAnd (laid_out z.face a) (λ l. IsReported z.face a l p))
-    (λ (p : Picture). all_crossings p ≤ crossing_limit) (λ p is. (reported_text z.face a p is).few bounded) c.draw.ensures.reported)
 
 pub returns-clause-exact : goal.returns-clause-exact
 returns-clause-exact c = rw (← c.self.view_is) c.draw.ensures.exact

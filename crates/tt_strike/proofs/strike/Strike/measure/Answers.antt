@@ -1,3 +1,4 @@
+use Rattle.std.proofs.Common.{refl}
 use Rattle.tt_strike.proofs.strike.Strike.measure.Goals as goal
 
 pub returns-clause-exact : goal.returns-clause-exact
@@ -15,8 +16,12 @@ returns-clause-defects c = rw (← c.self.view_is) c.measure.ensures.defects
 pub returns-clause-job : goal.returns-clause-job
 returns-clause-job c = rw (← c.self.view_is) c.measure.ensures.job
 
-pub returns-clause-same : goal.returns-clause-same
-returns-clause-same c = rw c.measure.ensures.same c.self.view_is
-
 pub invariant_of-self : goal.invariant_of-self
-invariant_of-self c = (rw c.measure.ensures.same c.self.invariant.0, c.self.invariant.1)
+invariant_of-self c =
+    let before = c.self.invariant in (
+      rw c.measure.ensures.same c.measure.ensures.cache,
+      rw c.measure.ensures.limit before.1,
+    )
+
+pub returns-clause-same : goal.returns-clause-same
+returns-clause-same c = rw (c.measure.ensures.same, ← c.self.view_is) refl

@@ -1,0 +1,5 @@
+pub mod Bands
+pub mod Bitmaps
+pub mod Inks
+pub mod Laws
+pub mod Words

@@ -1,0 +1,2 @@
+mod Boxed
+mod Lines

@@ -1,0 +1,23 @@
+use Rattle.std.proofs.Common.{◌≡◌, drop, take, List}
+use Rattle.tt_core.specs.Outcomes.{after_each}
+use Rattle.tt_fit.specs.Fitting.{fitted_outline}
+use Rattle.tt_fit_outline.specs.Outline.{Outline}
+use Rattle.tt_picture.specs.Cached.{IsCacheFor, limit_of}
+use Rattle.tt_picture.specs.Distinct.{fitter_after, fitter_for}
+use Rattle.tt_picture.specs.Glyphs.{AreDrawn, numbers_of}
+use Rattle.tt_picture.specs.Steps.{outlines_by}
+use Rattle.tt_picture.proofs.fitting.made_glyphs.Given as goal
+
+-- the glyphs so far are drawn, the fitter is the one after them, and the cache serves the fitters still
+abbrev pub invariant-loop-number : goal.invariant-loop-number
+invariant-loop-number l = record {
+  numbers : numbers_of l.made.items ≡ take l.number-index l.numbers;
+  drawn : AreDrawn (fitter_for l.fn.fitter l.numbers) l.made.items;
+  outlines : (os : List Outline)
+      × (after_each (λ g. fitted_outline (fitter_for l.fn.fitter l.numbers g) g) (drop l.number-index l.numbers) os
+      ≡ outlines_by (fitter_for l.fn.fitter l.numbers) l.numbers);
+  after : l.fitter ≡ fitter_after l.fn.fitter (take l.number-index l.numbers);
+  tables : l.fitter.tables ≡ l.fn.fitter.tables;
+  cache : IsCacheFor l.fn.fitter l.cache;
+  limit : limit_of l.cache ≡ limit_of l.fn.cache;
+}

@@ -1,0 +1,17 @@
+use Rattle.std.proofs.Common.{◌≡◌, ◌∙◌, ap, sym, refl}
+use Rattle.tt_picture.specs.Glyphs as glyphs
+use Rattle.tt_picture.specs.Glyphs.{Glyph}
+use Rattle.tt_picture.specs.Views.{body_view}
+use Rattle.tt_picture.proofs.glyph.Glyph.ink.Goals as goal
+
+pub returns-in-Small-clause-exact : goal.returns-in-Small-clause-exact
+returns-in-Small-clause-exact c =
+    let is : c.args.self.now.body ≡ glyphs.small c.in-Small.small.bitmap.value c.in-Small.small.ink =
+    ap (λ (g : Glyph). g.body) (sym c.self.view_is) ∙ ap body_view c.in-Small.is in
+    rw is refl
+
+pub returns-in-Large-clause-exact : goal.returns-in-Large-clause-exact
+returns-in-Large-clause-exact c =
+    let is : c.args.self.now.body ≡ glyphs.large c.in-Large.large =
+    ap (λ (g : Glyph). g.body) (sym c.self.view_is) ∙ ap body_view c.in-Large.is in
+    rw is c.ink.ensures.exact

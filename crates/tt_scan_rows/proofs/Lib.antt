@@ -1,6 +1,0 @@
-pub mod Bands
-pub mod CutRows
-pub mod Large
-pub mod Lines
-pub mod Stamps
-pub mod Starts

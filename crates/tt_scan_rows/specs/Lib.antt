@@ -1,4 +1,0 @@
-pub mod Bands
-pub mod Cut
-pub mod Raster
-pub mod Rows
