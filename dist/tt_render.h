@@ -57,9 +57,9 @@
  * This is so even where the room is too small. tt_glyphs runs the two programs once and fits each glyph of its list
  * once, also where the room for the rows is too small: a list costs what a text of its glyphs does. tt_draw_lines runs
  * the two programs once, and fits no glyph that is cached: a label of 16 letters then takes some 30,000 instructions.
- * With keep 0, and with grow, each line fits its glyphs anew, for up to a million instructions. With kern a call reads
- * at most 10,000 numbers of GPOS and kern when it opens the font. For each pair of neighbouring glyphs it reads at most
- * 5,120 numbers, up to three times; real fonts need some 50.
+ * With keep 0 each line fits its glyphs anew, for up to a million instructions. With kern a call reads at most 10,000
+ * numbers of GPOS and kern when it opens the font. For each pair of neighbouring glyphs it reads at most 5,120 numbers,
+ * up to three times; real fonts need some 50.
  */
 #ifndef TT_RENDER_H
 #define TT_RENDER_H
@@ -298,7 +298,7 @@ uint32_t tt_draw(const uint8_t *font, size_t font_bytes, const uint8_t *text, si
 
 /*
  * Draws a band of the picture that tt_draw draws: at most count rows from row first on, as many as the picture has. The
- * rows before the band are made too, and discarded. told describes the whole picture. bytes and count: of the band.
+ * rows before the band are passed over. told describes the whole picture. bytes and count: of the band.
  */
 uint32_t tt_draw_band(const uint8_t *font, size_t font_bytes, const uint8_t *text, size_t text_bytes,
                       const struct tt_job *job, uint32_t first, uint32_t count, uint8_t *rows, size_t room,
