@@ -85,7 +85,22 @@ where_so true is so = refl
 where_so false true so = let not : false ≡ true = so refl in absurd cc
 where_so false false so = refl
 
--- a bitmap that was white, and then had the pixels of the window blackened by the edges and by the dropouts
+-- a bitmap that was white, and then had the pixels of the window blackened by the edges
+pub all_inked : (filled : Option BoxedRules) (es : List Edge) (w : Window) (white inked : ℤ → ℤ → Bool)
+    → IfSome filled (λ rules. IsBoxOf rules.extents es) → AreClosed es
+    → w ≡ window_by (columns_by es filled) (rows_by es filled) → ((c j : ℤ) → white c j ≡ false)
+    → ((c j : ℤ) → inked c j ≡ (white c j || (has w c j && is_black es (centre c) (centre j))))
+    → (c j : ℤ) → inked c j ≡ is_black es (centre c) (centre j)
+all_inked filled es w white inked boxed closed window first then c j =
+    let columns = columns_by es filled in
+    let rows = rows_by es filled in
+    then c j ∙ rw (
+      first c j,
+      where_so (has w c j) (is_black es (centre c) (centre j))
+          (λ is. rw window (in_window columns rows c j (inked_boxed filled es c j boxed closed is))),
+    ) refl
+
+-- and then by the dropouts
 pub all_shown : (filled : Option BoxedRules) (es : List Edge) (ends : List ℕ) (w : Window) (white inked now : ℤ → ℤ → Bool)
     → IfSome filled (λ rules. IsBoxOf rules.extents es) → IfSome filled (λ rules. AreEnds (length es) ends) → AreClosed es
     → w ≡ window_by (columns_by es filled) (rows_by es filled) → ((c j : ℤ) → white c j ≡ false)

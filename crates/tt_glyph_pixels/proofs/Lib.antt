@@ -1,2 +1,3 @@
 mod Boxed
 mod Lines
+mod Tested

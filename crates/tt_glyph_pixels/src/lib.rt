@@ -4,6 +4,7 @@
 //! ```text
 //! reach.rt     the columns and the lines that black pixels may lie in, as a window and as a frame
 //! rows.rt      the lines of a window, cut from edges
+//! rising.rt    whether there may be dropouts beside the pixels that the edges blacken
 //! filling.rt   the dropouts in a window
 //! pixels.rt    the bitmap of a glyph, and the least box of its black pixels
 //! ```
@@ -12,6 +13,7 @@
 mod filling;
 mod pixels;
 mod reach;
+mod rising;
 mod rows;
 
 pub use pixels::{GlyphPixels, pixels_of};

@@ -104,6 +104,16 @@ band_fits w done height near some few within = record {
   high = omega (arith, few);
 }
 
+pub part_fits : (w : Window) → WindowNear w → w.height ≤ 2048 → WindowFits (widened 5 w)
+part_fits w near few = record {
+  left = omega (arith, ints, near.left);
+  bottom = omega (arith, ints, near.bottom);
+  top = omega (arith, ints, near.top);
+  width = omega (arith, near.width);
+  low = omega arith;
+  high = omega (arith, few);
+}
+
 pub no_columns : (w : Window) (columns rows : Columns)
     → ((n : ℤ) → (is_within w.left w.width n && is_column_of columns n) ≡ false)
     → (c j : ℤ) → (has w c j && box_has columns rows c j) ≡ false

@@ -1,5 +1,5 @@
 -- The rows of a window from the top down, and the inking of one row.
-use Rattle.std.proofs.Common.{◌≡◌, ◌∙◌, refl, sym, ap, ◌⊎◌, inl, inr, ℕ, zero, suc, ◌+◌, ◌-◌, ◌*◌, ◌/◌, ◌%◌, ◌^◌, ◌<◌, ◌≤◌, Bool, true, false, ◌&&◌, ◌||◌, nat_lt, if◌then◌else◌, ℤ, pos, ◌+ℤ◌, ◌-ℤ◌, ◌<ℤ◌, ◌≤ℤ◌, unsigned_abs, List, [], ◌∷◌, ◌++◌, length, take, drop, slice_index, replicate, arith}
+use Rattle.std.proofs.Common.{◌≡◌, ◌∙◌, refl, sym, ap, ◌⊎◌, inl, inr, ℕ, zero, suc, ◌+◌, ◌-◌, ◌*◌, ◌/◌, ◌%◌, ◌^◌, ◌<◌, ◌≤◌, Bool, true, false, ◌&&◌, ◌||◌, nat_lt, int_lt, if◌then◌else◌, ℤ, pos, ◌+ℤ◌, ◌-ℤ◌, ◌<ℤ◌, ◌≤ℤ◌, unsigned_abs, List, [], ◌∷◌, ◌++◌, length, take, drop, slice_index, replicate, arith}
 use Rattle.std.specs.Ordering.{int_eq}
 use Rattle.std.specs.Prelude.{int_le}
 use Rattle.std.proofs.lemmas.Bool.{cases_Bool, cases_eq, cases_lt}
@@ -9,6 +9,9 @@ use Rattle.std.proofs.lemmas.List.{get_or-append_right, get_or-drop, get_or-take
 use Rattle.std.proofs.lemmas.Nat.{mul-le}
 use Rattle.std.proofs.lemmas.Nat.Bits.{bit_at-zero}
 use borrow.Rule.Slice.PartMut.{put_mid}
+use Rattle.tt_bitmap.specs.Bands.{IsBandBlackened}
+use Rattle.tt_bitmap.specs.Bitmaps as bitmaps
+use Rattle.tt_bitmap.specs.Bitmaps.{BoxBitmap}
 use Rattle.tt_core.specs.Bits.{bit, stride}
 use Rattle.tt_scan_edges.specs.declared.edge.Edge.{Edge}
 use Rattle.tt_scan_edges.specs.declared.edge.Frame.{Frame}
@@ -17,7 +20,7 @@ use Rattle.tt_scan_edges.specs.Marks.{covers}
 use Rattle.tt_scan_edges.specs.Winding.{FrameFits, column_x, is_between, is_black, row_y, rows_met}
 use Rattle.tt_scan_edges.proofs.Visits.{within_width}
 use Rattle.tt_scan_gaps.specs.Crossings.{centre}
-use Rattle.tt_scan_dropouts.specs.Windows.{WindowFits, first_row, frame_of, has, has_rows, is_within, place, row_from_top}
+use Rattle.tt_scan_dropouts.specs.Windows.{Bitmap, WindowFits, first_row, frame_of, has, has_rows, is_black_in, is_within, place, row_from_top}
 use Rattle.tt_scan_dropouts.specs.declared.window.Window.{Window}
 use Rattle.tt_scan_gaps.proofs.Tests.{both, eq_of}
 use Rattle.tt_scan_dropouts.proofs.Places.{offset_within, or_false, row_within}
@@ -284,3 +287,99 @@ pub count_fits : (r h n crosses : ℕ) → r < h → h ≤ 4100 → n ≤ 2 ^ 32
 count_fits r h n crosses within low few so_far =
     let most : r * n ≤ 4100 * 2 ^ 32 = mul-le r n 4100 (2 ^ 32) (omega (arith, within, low)) few in
     omega (arith, most, so_far, few)
+
+-- a bitmap painted in one row of bytes of the window, which is `s` rows above its bottom
+
+same_line : (bottom : ℤ) (s : ℕ) (j : ℤ) → bottom +ℤ pos s ≡ j → int_eq (bottom +ℤ pos s) j ≡ true
+same_line bottom s j is = grind (arith, ints, is)
+
+other_line : (bottom : ℤ) (n s : ℕ) (j : ℤ) → bottom +ℤ pos n ≡ j → (n ≡ s → ⊥) → int_eq (bottom +ℤ pos s) j ≡ false
+other_line bottom n s j is other = elim (cases_Bool (int_eq (bottom +ℤ pos s) j)) [
+  | inl same ↦ let at : bottom +ℤ pos s ≡ j = eq_of _ j same in absurd (other (omega (arith, ints)))
+  | inr not_same ↦ not_same
+]
+
+pub line_painted : (w : Window) (black : ℤ → ℤ → Bool) (s a k : ℕ) (xs ys : List ℕ) (c j : ℤ) → s < w.height
+    → a ≡ stride w.width * s → k ≡ stride w.width → length xs ≡ stride w.width * w.height → length ys ≡ k
+    → ((d : ℕ) → d < 8 * k
+    → bit ys d ≡ (bit (take k (drop a xs)) d || (nat_lt d w.width && black (w.left +ℤ pos d) (w.bottom +ℤ pos s))))
+    → has w c j ≡ true
+    → bit (put_mid a k xs ys) (place w c j) ≡ (bit xs (place w c j) || (int_eq (w.bottom +ℤ pos s) j && black c j))
+line_painted w black s a k xs ys c j within start size long count painted inside =
+    let parts = both (is_within w.left w.width c) (is_within w.bottom w.height j) inside in
+    let d = unsigned_abs (c -ℤ w.left) in
+    let n = unsigned_abs (j -ℤ w.bottom) in
+    let column : d < w.width = offset_within w.left w.width c parts.0 in
+    let row : n < w.height = offset_within w.bottom w.height j parts.1 in
+    let across = offset_is w.left w.width c parts.0 in
+    let up = offset_is w.bottom w.height j parts.1 in
+    let room = row_within w.width w.height s within in
+    let before : a ≤ length xs = rw (long, start) (omega (arith, room)) in
+    elim (cases_eq n s) [
+      | inl same ↦
+          let here : w.bottom +ℤ pos s ≡ j = rw (← same) up in
+          let at : place w c j ≡ 8 * a + d = rw (same, start) refl in
+          let narrow : d < 8 * k = omega (arith, column, size) in
+          let drawn : nat_lt d w.width ≡ true = grind (arith, nat_tests, column) in
+          rw (at, same_line w.bottom s j here) (bit_within a k d xs ys narrow before count ∙ painted d narrow
+          ∙ rw (bit_of_part a k d xs narrow, drawn, across, here) refl)
+      | inr other ↦
+          let kept : bit (put_mid a k xs ys) (place w c j) ≡ bit xs (place w c j) = elim (cases_lt n s) [
+            | inl below ↦
+                let less = row_within w.width s n below in
+                bit_outside a k (place w c j) xs ys (inl (omega (arith, less, column, start))) before count
+            | inr not_below ↦
+                let more = row_within w.width n s (omega (arith, other, not_below)) in
+                bit_outside a k (place w c j) xs ys (inr (omega (arith, more, column, start, size))) before count
+          ] in
+          rw (other_line w.bottom n s j up other) (kept ∙ or_false (bit xs (place w c j)))
+    ]
+
+-- one row of bytes in which a bitmap is painted
+pub painted_row : (bytes : ℕ) (w : Window) (s d : ℕ) (black : ℤ → ℤ → Bool) (old new : List ℕ)
+    → IsBandBlackened bytes 1 (λ i c. nat_lt c w.width && black (pos c -ℤ (pos 0 -ℤ w.left)) ((w.bottom +ℤ pos s) -ℤ pos i)) old new
+    → d < 8 * bytes
+    → bit new d ≡ (bit old d || (nat_lt d w.width && black (w.left +ℤ pos d) (w.bottom +ℤ pos s)))
+painted_row bytes w s d black old new painted narrow =
+    let at : 8 * (bytes * 0) + d ≡ d = omega arith in
+    let across : pos d -ℤ (pos 0 -ℤ w.left) ≡ w.left +ℤ pos d = omega (arith, ints) in
+    let up : (w.bottom +ℤ pos s) -ℤ pos 0 ≡ w.bottom +ℤ pos s = omega (arith, ints) in
+    let here : bit new (8 * (bytes * 0) + d) ≡ (bit old (8 * (bytes * 0) + d)
+    || (nat_lt d w.width && black (pos d -ℤ (pos 0 -ℤ w.left)) ((w.bottom +ℤ pos s) -ℤ pos 0))) = painted.columns 0 d (omega arith) narrow in
+    rw (at, across, up) at here
+
+-- a pixel's row is one of the first `s` from the bottom
+abbrev pub is_begun : Window → ℕ → ℤ → Bool
+is_begun w s j = int_lt j (w.bottom +ℤ pos s)
+
+pub none_begun : (w : Window) (c j : ℤ) → has w c j ≡ true → is_begun w 0 j ≡ false
+none_begun w c j inside =
+    let within = (both (is_within w.left w.width c) (is_within w.bottom w.height j) inside).1 in
+    not_below w.bottom w.height j within where
+      not_below : (bottom : ℤ) (h : ℕ) (j : ℤ) → is_within bottom h j ≡ true → int_lt j (bottom +ℤ pos 0) ≡ false
+      not_below bottom h j within = grind (arith, ints)
+
+pub all_begun : (w : Window) (s : ℕ) (c j : ℤ) → s ≡ w.height → has w c j ≡ true → is_begun w s j ≡ true
+all_begun w s c j done inside =
+    let within = (both (is_within w.left w.width c) (is_within w.bottom w.height j) inside).1 in
+    below w.bottom w.height s j done within where
+      below : (bottom : ℤ) (h s : ℕ) (j : ℤ) → s ≡ h → is_within bottom h j ≡ true → int_lt j (bottom +ℤ pos s) ≡ true
+      below bottom h s j done within = grind (arith, ints)
+
+line_more : (bottom : ℤ) (s : ℕ) (j : ℤ)
+    → (int_lt j (bottom +ℤ pos s) || int_eq (bottom +ℤ pos s) j) ≡ int_lt j (bottom +ℤ pos (s + 1))
+line_more bottom s j = grind (arith, ints)
+
+pub one_line_more : (w : Window) (s : ℕ) (j : ℤ) (black : Bool)
+    → ((is_begun w s j && black) || (int_eq (w.bottom +ℤ pos s) j && black)) ≡ (is_begun w (s + 1) j && black)
+one_line_more w s j black =
+    either (is_begun w s j) (int_eq (w.bottom +ℤ pos s) j) black ∙ ap (λ b. b && black) (line_more w.bottom s j)
+
+-- what is black in a bitmap of a box is black where it is painted, as is all outside of the window
+pub painted_more : (b : Bitmap) (box : BoxBitmap) (w : Window) → b.window ≡ w
+    → ((c j : ℤ) → has w c j ≡ true → is_black_in b c j ≡ bitmaps.is_black box c j)
+    → (c j : ℤ) → bitmaps.is_black box c j ≡ true → is_black_in b c j ≡ true
+painted_more b box w window painted c j there = elim (cases_Bool (has w c j)) [
+  | inl inside ↦ painted c j inside ∙ there
+  | inr outside ↦ let out : has b.window c j ≡ false = rw window outside in rw out refl
+]

@@ -1,4 +1,3 @@
-pub mod AllBlack
 pub mod Bands
 pub mod BothWays
 pub mod Clips
@@ -11,7 +10,6 @@ pub mod Inked
 pub mod InkedInBox
 mod Kept
 pub mod Leaves
-pub mod LineWords
 pub mod Locality
 pub mod Moved
 pub mod MovedDots

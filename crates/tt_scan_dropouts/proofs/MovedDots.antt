@@ -1,13 +1,12 @@
 -- Dots move with their outline, and so do all dropouts.
-use Rattle.std.proofs.Common.{◌≡◌, refl, sym, ◌∙◌, ap, ap₂, Bool, not, ◌&&◌, ◌||◌, List, [], ◌∷◌, Option, Some, None, arith}
-use Rattle.std.specs.Prelude.{ℤ, pos, negsuc, ◌+ℤ◌, ◌-ℤ◌, ◌*ℤ◌, ◌≤ℤ◌, ◌<ℤ◌, int_le, map}
+use Rattle.std.proofs.Common.{◌≡◌, refl, ◌∙◌, ap, ap₂, Bool, not, ◌&&◌, ◌||◌, List, [], ◌∷◌, Option, Some, None, arith}
+use Rattle.std.specs.Prelude.{ℤ, pos, negsuc, ◌+ℤ◌, ◌*ℤ◌, ◌≤ℤ◌, ◌<ℤ◌, int_le, map}
 use Rattle.std.specs.Int.{int_div_euclid, int_max, int_min}
-use Rattle.std.specs.List.{list_any}
 use Rattle.std.specs.Option.{option_map}
 use Rattle.std.specs.Ordering.{int_eq}
 use Rattle.std.proofs.lemmas.Int.{ints}
 use Rattle.tt_scan_edges.specs.declared.edge.Edge.{Edge}
-use Rattle.tt_scan_gaps.specs.Boxes.{columns_in, greatest_x, least_x, rows_in}
+use Rattle.tt_scan_gaps.specs.Boxes.{columns_in, greatest_x, least_x}
 use Rattle.tt_scan_gaps.specs.Dots.{are_two, asks, asks_by_rows, ends_box, has_dot, is_dot, is_dot_box, is_dot_in, length_of, middle}
 use Rattle.tt_scan_gaps.specs.Gaps.{some_asks}
 use Rattle.tt_scan_gaps.specs.Seen.{turned_round}
@@ -15,7 +14,6 @@ use Rattle.tt_scan_gaps.specs.Walk.{contour_marks}
 use Rattle.tt_scan_gaps.specs.declared.extent.Extent.{Extent}
 use Rattle.tt_scan_gaps.specs.declared.extent.Extents.{Extents}
 use Rattle.tt_scan_gaps.specs.declared.mark.Columns.{Columns}
-use Rattle.tt_scan_dropouts.specs.Dropouts.{is_inked}
 use Rattle.tt_scan_dropouts.specs.Laws.{DropoutsMoved, extent_moved, extents_moved, moved, outline_moved}
 use Rattle.tt_scan_dropouts.proofs.Moved.{bridged_moved, contour_turned, ink_moved}
 use Rattle.tt_scan_dropouts.proofs.MovedGaps.{asks_kept, between_moved, columns_moved, greatest_x_moved, least_x_moved}

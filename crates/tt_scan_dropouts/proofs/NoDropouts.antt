@@ -12,7 +12,7 @@ use Rattle.tt_scan.specs.Contours.{AreEnds, IsClosed, contours_at}
 use Rattle.tt_scan_edges.specs.Winding.{is_black}
 use Rattle.tt_scan_edges.specs.declared.edge.Edge.{Edge}
 use Rattle.tt_scan_gaps.specs.BothWays.{NoneFreeBothWays, crosses_gap, goes_through, is_black_seen, is_through}
-use Rattle.tt_scan_gaps.specs.Crossings.{agree, centre, crossings, has_end_on_line, is_on_line}
+use Rattle.tt_scan_gaps.specs.Crossings.{agree, centre, crossings, has_end_on_line, is_on_line, touches}
 use Rattle.tt_scan_gaps.specs.Dots.{asks, ends_box, has_dot, has_dot_box, is_boxed_as_dot, is_dot, is_dot_in}
 use Rattle.tt_scan_gaps.specs.Seen.{turned_round}
 use Rattle.tt_scan_gaps.specs.declared.extent.Extents.{Extents}
@@ -24,7 +24,7 @@ use Rattle.tt_scan_gaps.specs.Boxes.{columns_in, rows_in}
 use Rattle.tt_scan_dropouts.specs.declared.boxed.BoxedRules.{BoxedRules}
 use Rattle.tt_scan_gaps.specs.declared.seen.Over.TheVariants as over
 use Rattle.tt_scan_dropouts.proofs.BothWays.{rows_crossed}
-use Rattle.tt_scan_dropouts.proofs.NoFreeGap.{none_touched, nothing_added}
+use Rattle.tt_scan_dropouts.proofs.NoFreeGap.{none_touched, nothing_added, still_none}
 use Rattle.tt_scan_dropouts.proofs.Outlines.{edges_at, ends_turned, turned_at}
 use Rattle.tt_scan_dropouts.proofs.TurnedWinding.{columns_crossed}
 
@@ -65,14 +65,20 @@ not_free black es balanced none i d within k p less =
     ]
 
 -- no edge makes a mark in a free gap
-pub nothing_free : (stubs : Bool) (black : ℤ → ℤ → Bool) (es : List Edge) → IsBalanced black es → NoneFreeBothWays black es
-    → All (λ e. (stubs && (is_on_line e.ay || is_on_line e.by)) ≡ false) es
+pub nothing_free_by : (stubs : Bool) (black : ℤ → ℤ → Bool) (es : List Edge) → IsBalanced black es → NoneFreeBothWays black es
+    → All (λ e. (stubs && some_in_free_gap black (touches e)) ≡ false) es
     → list_any (is_in_free_gap stubs black) es ≡ false
-nothing_free stubs black es balanced none off = list_any_none (is_in_free_gap stubs black) es (λ i d within.
+nothing_free_by stubs black es balanced none off = list_any_none (is_in_free_gap stubs black) es (λ i d within.
     let crossed : some_in_free_gap black (crossings (get_or es i d)) ≡ false =
     list_any_none (λ (q : Crossing). is_free black q.gap q.line) (crossings (get_or es i d))
     (not_free black es balanced none i d within) in
-    rw crossed (none_touched stubs black (get_or es i d) (off i d within)))
+    rw crossed (off i d within))
+
+pub nothing_free : (stubs : Bool) (black : ℤ → ℤ → Bool) (es : List Edge) → IsBalanced black es → NoneFreeBothWays black es
+    → All (λ e. (stubs && (is_on_line e.ay || is_on_line e.by)) ≡ false) es
+    → list_any (is_in_free_gap stubs black) es ≡ false
+nothing_free stubs black es balanced none off =
+    nothing_free_by stubs black es balanced none (λ i d within. none_touched stubs black (get_or es i d) (off i d within))
 
 -- ends that count lie on no line
 none_of_four : (a b c d : Bool) → ((a || b) || (c || d)) ≡ false → ((a || c) ≡ false) × ((b || d) ≡ false)
@@ -184,5 +190,32 @@ no_dropout rules es ends fit closed rows columns off boxless c j =
     let by_columns = no_columns rules es ends fit closed columns off in
     let contours = contours_at es ends in
     ap₂ (λ a b. a || b) (ap₂ (λ a b. a || b) (by_rows c j) (by_columns c j))
+    (not_dotted rules.rules.dots (not (is_inked contours c j)) (has_dot rules.rules.stubs contours c j)
+    (λ dots. no_dots rules.rules.stubs contours c j (boxless dots)))
+
+-- nor are there any where no edge makes a mark in a free gap, and no contour has the box of a dot
+
+pub no_dropout_marked : (rules : BoxedRules) (es : List Edge) (ends : List ℕ) (black : ℤ → ℤ → Bool) → AreEnds (length es) ends
+    → ((c j : ℤ) → black c j ≡ is_black es (centre c) (centre j))
+    → list_any (is_in_free_gap rules.rules.stubs black) es ≡ false
+    → list_any (is_in_free_gap rules.rules.stubs (λ p j. black j p)) (map turned_round es) ≡ false
+    → (rules.rules.dots ≡ true → list_any has_dot_box (contours_at es ends) ≡ false)
+    → (c j : ℤ) → is_dropout rules (contours_at es ends) c j ≡ false
+no_dropout_marked rules es ends black fit alike free free_turned boxless c j =
+    let contours = contours_at es ends in
+    let turned = map turned_round es in
+    let is : (c j : ℤ) → black c j ≡ is_inked contours c j = λ c j. alike c j
+    ∙ ap (λ es. is_black es (centre c) (centre j)) (sym (edges_at es ends fit)) in
+    let rows_free : list_any (is_in_free_gap rules.rules.stubs (is_inked contours)) es ≡ false =
+    still_none rules.rules.stubs black (is_inked contours) es (λ c j there. sym (is c j) ∙ there) free in
+    let by_rows : (c j : ℤ) → is_added_by_rows rules contours c j ≡ false = λ c j.
+    nothing_added rules.rules (columns_in rules.extents) (is_inked contours) es ends fit rows_free c j in
+    let more = λ (j : ℤ) (c : ℤ). is_inked contours c j || is_added_by_rows rules contours c j in
+    let columns_free : list_any (is_in_free_gap rules.rules.stubs more) turned ≡ false =
+    still_none rules.rules.stubs (λ p j. black j p) more turned (λ p j there. rw (sym (is j p) ∙ there) refl) free_turned in
+    let by_columns : is_added_by_columns rules contours c j ≡ false =
+    ap (λ cs. row_adds (rules_turned rules) cs more j c) (sym (turned_at es ends))
+    ∙ nothing_added rules.rules (rows_in rules.extents) more turned ends (ends_turned es ends fit) columns_free j c in
+    ap₂ (λ a b. a || b) (ap₂ (λ a b. a || b) (by_rows c j) by_columns)
     (not_dotted rules.rules.dots (not (is_inked contours c j)) (has_dot rules.rules.stubs contours c j)
     (λ dots. no_dots rules.rules.stubs contours c j (boxless dots)))

@@ -121,7 +121,7 @@ no_walk_free black (e ∷ es) none =
 
 -- contours without marks in free gaps
 
-no_contour_marks : (black : ℤ → ℤ → Bool) (stubs : Bool) (es : List Edge)
+pub no_contour_marks : (black : ℤ → ℤ → Bool) (stubs : Bool) (es : List Edge)
     → list_any (is_in_free_gap stubs black) es ≡ false
     → free_marks black (contour_marks stubs es) ≡ []
 no_contour_marks black true es none = no_marks_of_edges black es none

@@ -1,5 +1,5 @@
 -- No dot is lost: its pixel is black.
-use Rattle.std.proofs.Common.{◌≡◌, refl, ◌∙◌, ap₂, ℕ, Bool, true, false, not, ◌&&◌, ◌||◌, List, Option, Some, get_or, arith}
+use Rattle.std.proofs.Common.{◌≡◌, refl, Bool, true, false, not, ◌&&◌, ◌||◌, List, Option, Some, get_or, arith}
 use Rattle.std.specs.Prelude.{ℤ}
 use Rattle.std.specs.Ordering.{int_eq}
 use Rattle.std.proofs.lemmas.Int.{ints}

@@ -5,20 +5,21 @@ use Rattle.std.specs.List.{list_any, range_with_len}
 use Rattle.std.specs.Ordering.{int_eq}
 use Rattle.std.proofs.lemmas.Bool.{cases_Bool, false≢true}
 use Rattle.std.proofs.lemmas.Int.{ints}
+use Rattle.std.proofs.lemmas.List.Elements.{All-cons, All-nil}
 use Rattle.tt_scan.specs.Contours.{AreEnds, IsClosed, contours_at}
 use Rattle.tt_scan_edges.specs.Winding.{is_black}
 use Rattle.tt_scan_edges.specs.declared.edge.Edge.{Edge}
 use Rattle.tt_scan_gaps.specs.BothWays.{NoneFreeBothWays, crosses_gap, goes_through, is_through}
-use Rattle.tt_scan_gaps.specs.Crossings.{centre, crossing, crossings, is_rising, line_crossed, lines_crossed}
+use Rattle.tt_scan_gaps.specs.Crossings.{centre, crossing, crossings, is_rising, line_crossed, lines_crossed, touches}
 use Rattle.tt_scan_gaps.specs.Gaps.{is_free}
 use Rattle.tt_scan_gaps.specs.Seen.{turned_round}
 use Rattle.tt_scan_gaps.specs.Walk.{is_in_free_gap, some_in_free_gap}
 use Rattle.tt_scan_gaps.specs.declared.mark.Crossing.{Crossing}
 use Rattle.tt_scan_gaps.proofs.Tests.{first_not, other_not}
 use Rattle.tt_scan_dropouts.specs.Dropouts.{edges_of, is_inked, outline_turned}
-use Rattle.tt_scan_dropouts.specs.Rising.{rises_in_free_gap}
+use Rattle.tt_scan_dropouts.specs.Rising.{is_tested, rises_in_free_gap}
 use Rattle.tt_scan_dropouts.proofs.BothWays.{free, rows_crossed}
-use Rattle.tt_scan_dropouts.proofs.NoDropouts.{IsBalanced, nothing_free}
+use Rattle.tt_scan_dropouts.proofs.NoDropouts.{IsBalanced, nothing_free_by}
 use Rattle.tt_scan_dropouts.proofs.Outlines.{edges_at, ends_turned, turned_at}
 use Rattle.tt_scan_dropouts.proofs.TurnedWinding.{columns_crossed}
 
@@ -86,11 +87,29 @@ none_both_ways black es none j c two = elim (cases_Bool (is_free black c j)) [
   | inr not ↦ not
 ]
 
--- no edge makes a mark in a free gap, where stubs are not drawn
-pub nothing_marked : (black : ℤ → ℤ → Bool) (es : List Edge) → IsBalanced black es
-    → list_any (rises_in_free_gap black) es ≡ false → list_any (is_in_free_gap false black) es ≡ false
-nothing_marked black es balanced none =
-    nothing_free false black es balanced (none_both_ways black es none) (λ i d within. refl)
+-- no edge makes a mark in a free gap, if none of those that are tested does
+
+crossed_not : (stubs : Bool) (black : ℤ → ℤ → Bool) (es : List Edge) → list_any (is_tested stubs black) es ≡ false
+    → list_any (rises_in_free_gap black) es ≡ false
+crossed_not stubs black [] none = refl
+crossed_not stubs black (e ∷ es) none =
+    let here = first_not (is_tested stubs black e) (list_any (is_tested stubs black) es) none in
+    rw (first_not (rises_in_free_gap black e) (stubs && some_in_free_gap black (touches e)) here)
+    (crossed_not stubs black es (other_not (is_tested stubs black e) (list_any (is_tested stubs black) es) none))
+
+touched_not : (stubs : Bool) (black : ℤ → ℤ → Bool) (es : List Edge) → list_any (is_tested stubs black) es ≡ false
+    → All (λ e. (stubs && some_in_free_gap black (touches e)) ≡ false) es
+touched_not stubs black [] none = All-nil (λ e. (stubs && some_in_free_gap black (touches e)) ≡ false)
+touched_not stubs black (e ∷ es) none =
+    let here = first_not (is_tested stubs black e) (list_any (is_tested stubs black) es) none in
+    All-cons (λ e. (stubs && some_in_free_gap black (touches e)) ≡ false) e es
+    (other_not (rises_in_free_gap black e) (stubs && some_in_free_gap black (touches e)) here)
+    (touched_not stubs black es (other_not (is_tested stubs black e) (list_any (is_tested stubs black) es) none))
+
+pub none_tested : (stubs : Bool) (black : ℤ → ℤ → Bool) (es : List Edge) → IsBalanced black es
+    → list_any (is_tested stubs black) es ≡ false → list_any (is_in_free_gap stubs black) es ≡ false
+none_tested stubs black es balanced none =
+    nothing_free_by stubs black es balanced (none_both_ways black es (crossed_not stubs black es none)) (touched_not stubs black es none)
 
 -- in a picture with all black pixels of an outline and more, free gaps are crossed both ways or not at all
 

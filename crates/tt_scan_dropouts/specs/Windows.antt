@@ -88,10 +88,6 @@ place w c j = 8 * (stride w.width * unsigned_abs (j -ℤ w.bottom)) + unsigned_a
 abbrev pub is_black_in : Bitmap → ℤ → ℤ → Bool
 is_black_in b c j = if has b.window c j then bit b.bits (place b.window c j) else true
 
--- a pixel of the window is black; no pixel outside is
-abbrev pub is_shown : Bitmap → ℤ → ℤ → Bool
-is_shown b c j = has b.window c j && bit b.bits (place b.window c j)
-
 -- pixel p of line j is black in a bitmap, by rows or by columns
 abbrev pub is_black_by : Over → Bitmap → ℤ → ℤ → Bool
 is_black_by over.Rows b p j = is_black_in b p j

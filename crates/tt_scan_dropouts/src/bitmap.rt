@@ -1,25 +1,26 @@
 //! The black pixels of a glyph in a window. Pixels outside count as black, so that no gap there is free.
 
-ghost use Rattle.std.specs.Prelude.{◌≡◌, not, ℕ, ℤ, true, false, length, ◌+◌, ◌*◌, ◌^◌, ◌<◌, ◌≤◌, ◌&&◌, ◌||◌, ◌⊎◌, int_le, unsigned_abs, All, IfOk, OnOk};
+ghost use Rattle.std.specs.Prelude.{◌≡◌, not, ℕ, ℤ, true, false, length, ◌+◌, ◌*◌, ◌^◌, ◌<◌, ◌≤◌, ◌&&◌, ◌||◌, ◌⊎◌, ◌+ℤ◌, pos, unsigned_abs, All, IfOk, OnOk};
 ghost use Rattle.std.specs.Ordering.{int_eq};
+ghost use Rattle.tt_bitmap.specs.Bitmaps as bitmaps;
 ghost use Rattle.tt_core.specs.Bits.{bit, stride};
-ghost use Rattle.tt_scan.specs.Stamps.{shows};
 ghost use Rattle.tt_scan_edges.specs.Winding.{EdgeFits, FrameFits, is_black};
 ghost use Rattle.tt_scan_gaps.specs.Crossings.{centre};
 ghost use Rattle.tt_scan_gaps.specs.Gaps.{is_free};
 ghost use Rattle.tt_scan_dropouts.specs.Passes.{has_pixel};
-ghost use Rattle.tt_scan_dropouts.specs.Windows.{WindowFits, first_row, frame_of, has, has_rows, is_black_in, is_black_by, is_shown, place, row_from_top};
+ghost use Rattle.tt_scan_dropouts.specs.Windows.{WindowFits, first_row, frame_of, has, has_rows, is_black_in, is_black_by, place, row_from_top};
 
 use crate::pixel::Pixel;
 use crate::window::{Window, has, offset};
 use std::alloc::{AllocError, Global};
 use std::marker::Model;
+use tt_bitmap::BoxBitmap;
 use tt_scan::{Edge, Frame, Sweep, Tape, blacken};
 use tt_scan_gaps::Over;
 
 /// The rows of a window from the bottom up, each a whole number of bytes, the leftmost pixel in the highest bit.
 #[derive(Drop)]
-pub struct Bitmap {
+pub(crate) struct Bitmap {
     window: Window,
     bits: Vec<u8>,
 }
@@ -77,7 +78,7 @@ fn first_row(frame: Frame, window: Window) -> i64
 }
 
 /// Whether a frame has all rows of a window.
-pub(crate) fn has_rows(frame: Frame, window: Window) -> bool
+fn has_rows(frame: Frame, window: Window) -> bool
     requires frame { FrameFits frame }
     requires window { WindowFits window }
     ensures { result ≡ has_rows frame window }
@@ -145,6 +146,29 @@ fn ink_row(sweep: &mut Sweep, tape: &mut Tape, window: Window, r: u32, bits: &mu
     sweep.paint(shift, window.width, &mut bits[start..]);
 }
 
+/// Blackens the pixels of line `s` of the window that a bitmap of a box has; `s` counts from the bottom. `bits` has the
+/// bits of all rows of the window.
+fn paint_line(inked: &BoxBitmap, window: Window, s: u32, bits: &mut [u8])
+    requires window { WindowFits window }
+    requires within { s < window.height }
+    requires len { length bits.old ≡ stride window.width * window.height }
+    ensures black { (c j : ℤ) → has window c j ≡ true → bit bits.new (place window c j)
+        ≡ (bit bits.old (place window c j)
+        || (int_eq (window.bottom +ℤ pos s) j && bitmaps.is_black inked.now c j)) }
+    ensures len { length bits.new ≡ length bits.old }
+{
+    let bytes = stride(window);
+    let start = bytes * s as usize;
+    inked.paint(
+        -i64::from(window.left),
+        i64::from(window.bottom) + i64::from(s),
+        1,
+        window.width,
+        bytes,
+        &mut bits[start..start + bytes],
+    );
+}
+
 /// The number of a pixel of the window among the bits.
 #[inline(always)]
 fn place(window: Window, column: i64, row: i64) -> usize
@@ -160,7 +184,7 @@ fn place(window: Window, column: i64, row: i64) -> usize
 impl Bitmap {
     /// The pixels of a window that the edges of a tape blacken by the scan converter's rules 1 and 2. The tape's frame
     /// has all rows of the window, and the sweep has memory for its edges. Error: memory ran out.
-    pub(crate) fn cut(
+    fn cut(
         alloc: Global,
         tape: &mut Tape,
         sweep: &mut Sweep,
@@ -199,22 +223,22 @@ impl Bitmap {
         Bitmap::cut(alloc, &mut tape, &mut sweep, window)
     }
 
-    /// The columns of a line from `left` on as one word, the leftmost in the highest bit. The bitmap has at most 57
-    /// columns, and has the first pixel.
-    pub fn line_word(&self, left: i64, line: i64) -> u64
-        requires narrow { self.now.window.width ≤ 57 }
-        requires first { has self.now.window left line ≡ true }
-        ensures { (c : ℤ) → shows left result c ≡ (int_le left c && is_shown self.now c line) }
+    /// The pixels of a window that are black in a bitmap of a box. Error: memory ran out.
+    pub(crate) fn painted(
+        alloc: Global,
+        inked: &BoxBitmap,
+        window: Window,
+    ) -> Result<Bitmap, AllocError>
+        requires window { WindowFits window }
+        ensures window { IfOk result (λ b. b.window ≡ window) }
+        ensures black { IfOk result (λ b. (c j : ℤ) → has window c j ≡ true
+            → is_black_in b c j ≡ bitmaps.is_black inked.now c j) }
     {
-        let bytes = stride(self.window);
-        let start = bytes * offset(self.window.bottom, self.window.height, line);
-        let mut word = 0u64;
-        for i in 0..bytes {
-            word = 256 * word + u64::from(self.bits[start + i]);
+        let mut bits = vec![in alloc; 0u8; stride(window) * window.height as usize]?;
+        for s in 0..window.height {
+            paint_line(inked, window, s, &mut bits);
         }
-        let columns = word >> (8 * bytes - self.window.width as usize);
-        let by = offset(self.window.left, self.window.width, left);
-        columns << (64 - self.window.width as usize + by)
+        Ok(Bitmap { window, bits })
     }
 
     /// One of the bits.

@@ -1,15 +1,17 @@
 //! The dropouts of a glyph in a window: first a pass over the rows, and then a pass over the columns. For the second
 //! pass the pixels that the first added are black.
 
-ghost use Rattle.std.specs.Prelude.{◌≡◌, false, ℤ, ◌||◌, ◌&&◌, [], ◌∷◌, map, All, IfOk, OnOk};
+ghost use Rattle.std.specs.Prelude.{◌≡◌, true, false, ℤ, ◌||◌, ◌&&◌, [], ◌∷◌, map, All, IfOk, OnOk};
 ghost use Rattle.std.specs.List.{list_any};
 ghost use Rattle.std.specs.Ordering.{int_eq};
+ghost use Rattle.tt_bitmap.specs.Bitmaps as bitmaps;
 ghost use Rattle.tt_scan.specs.Contours.{IsClosed, contours_at};
-ghost use Rattle.tt_scan_edges.specs.Winding.{EdgeFits};
+ghost use Rattle.tt_scan_edges.specs.Winding.{EdgeFits, is_black};
+ghost use Rattle.tt_scan_gaps.specs.Crossings.{centre};
 ghost use Rattle.tt_scan_gaps.specs.Seen.{seen_by, turned_round};
 ghost use Rattle.tt_scan_dropouts.specs.Dropouts.{is_dropout, outline_turned, pass_adds, row_adds, rules_turned};
 ghost use Rattle.tt_scan_dropouts.specs.Passes.{has_pixel};
-ghost use Rattle.tt_scan_dropouts.specs.Seen.{is_black_to};
+ghost use Rattle.tt_scan_dropouts.specs.Seen.{is_black_on, is_black_to};
 ghost use Rattle.tt_scan_gaps.specs.Walk.{is_in_free_gap};
 ghost use Rattle.tt_scan_dropouts.specs.Windows.{WindowFits, has, has_pixel_by, is_black_by, is_black_in, widened};
 ghost use Rattle.tt_scan_gaps.specs.declared.seen.Over.TheVariants as over;
@@ -24,6 +26,7 @@ use crate::pass::added_by;
 use crate::pixel::Pixel;
 use crate::window::{Window, clipped, has, widened};
 use std::alloc::{AllocError, Global};
+use tt_bitmap::BoxBitmap;
 use tt_scan::Edge;
 use tt_scan_gaps::{
     Columns, Over, all_turned_round, meets, pixels_in, pixels_reached, seen_by, sort_marks,
@@ -48,7 +51,7 @@ fn pass_over(
 /// Whether an edge, as a pass sees it, makes a mark in a free gap: a crossing, or, where stubs are drawn, an end that
 /// touches a line. A pass in one value would be copied for each edge.
 #[inline(never)]
-pub(crate) fn makes_mark(ink: &Bitmap, over: Over, stubs: bool, edge: &Edge) -> bool
+fn makes_mark(ink: &Bitmap, over: Over, stubs: bool, edge: &Edge) -> bool
     requires { EdgeFits edge.now }
     ensures { result ≡ is_in_free_gap stubs (is_black_by over ink.now) (seen_by over edge.now) }
 {
@@ -68,7 +71,7 @@ fn is_in_free_gap(ink: &Bitmap, over: Over, stubs: bool, edge: &Edge) -> bool
 /// Whether some edge makes a mark in a free gap by rows, and whether some edge does by columns. Where none does, the
 /// pass adds nothing, and its walk is not needed.
 #[inline(never)]
-pub(crate) fn some_in_free_gap(ink: &Bitmap, stubs: bool, edges: &[Edge]) -> (bool, bool)
+fn some_in_free_gap(ink: &Bitmap, stubs: bool, edges: &[Edge]) -> (bool, bool)
     requires { All EdgeFits edges.now }
     ensures rows { result.0 ≡ list_any (is_in_free_gap stubs (is_black_by over.Rows ink.now)) edges.now }
     ensures columns { result.1
@@ -157,7 +160,7 @@ pub(crate) fn push_if_within(
 }
 
 /// Adds the pixels of a list that lie in a window. Error: memory ran out.
-pub(crate) fn push_within(
+fn push_within(
     found: &mut Vec<Pixel>,
     window: Window,
     over: Over,
@@ -175,7 +178,7 @@ pub(crate) fn push_within(
 /// The pixels that the pass over the rows adds, and then those that the pass over the columns adds, which have column and
 /// row exchanged. The pixels of the first are black in the bitmap afterwards. `some` has for each pass whether an edge
 /// makes a mark in a free gap. Error: memory ran out.
-pub(crate) fn both_passes(
+fn both_passes(
     alloc: Global,
     glyph: Outlined,
     some: (bool, bool),
@@ -214,6 +217,32 @@ pub(crate) fn both_passes(
     Ok((by_rows, by_columns))
 }
 
+/// Adds the dropouts of a glyph in a few rows of the columns and rows where they may lie. A bitmap has the pixels there, and
+/// five more on each side, that the edges blacken. `some` has for each pass whether an edge makes a mark in a free gap. Error:
+/// memory ran out.
+fn push_found(
+    alloc: Global,
+    found: &mut Vec<Pixel>,
+    glyph: Outlined,
+    band: Window,
+    some: (bool, bool),
+    ink: &mut Bitmap,
+) -> Result<(), AllocError>
+    requires rows { some.0 ≡ false → list_any (is_in_free_gap glyph.rules.rules.stubs (is_black_by over.Rows ink.old))
+        glyph.tape.now.edges ≡ false }
+    requires columns { some.1 ≡ false → list_any (is_in_free_gap glyph.rules.rules.stubs (is_black_by over.Columns ink.old))
+        (map turned_round glyph.tape.now.edges) ≡ false }
+    requires ink { (c j : ℤ) → has (widened 5 band) c j ≡ true
+        → is_black_in ink.old c j ≡ is_black glyph.tape.now.edges (centre c) (centre j) }
+    ensures { OnOk result ((c j : ℤ) → has_pixel found.new.items c j ≡ (has_pixel found.old.items c j
+        || (has band c j && is_dropout glyph.entry.rules (contours_at glyph.entry.tape.now.edges glyph.entry.ends.now) c j))) }
+{
+    push_dots(alloc, found, glyph, band, ink)?;
+    let (by_rows, by_columns) = both_passes(alloc, glyph, some, ink)?;
+    push_within(found, band, Over::Rows, &by_rows)?;
+    push_within(found, band, Over::Columns, &by_columns)
+}
+
 /// Adds the dropouts of a glyph in a few rows of the columns and rows where they may lie. Error: memory ran out.
 fn push_band(
     alloc: Global,
@@ -227,11 +256,8 @@ fn push_band(
 {
     // A dropout depends on pixels as far off as five gaps.
     let mut ink = Bitmap::inked(alloc, glyph.tape, widened(band, 5))?;
-    push_dots(alloc, found, glyph, band, &ink)?;
     let some = some_in_free_gap(&ink, glyph.rules.rules.stubs, glyph.tape.lend());
-    let (by_rows, by_columns) = both_passes(alloc, glyph, some, &mut ink)?;
-    push_within(found, band, Over::Rows, &by_rows)?;
-    push_within(found, band, Over::Columns, &by_columns)
+    push_found(alloc, found, glyph, band, some, &mut ink)
 }
 
 /// The dropouts in a window of a glyph: the pixels that are black besides those of the scan converter's rules 1 and 2.
@@ -259,6 +285,38 @@ pub fn dropouts(alloc: Global, glyph: Outlined, window: Window) -> Result<Vec<Pi
         push_band(alloc, &mut found, glyph, band)?;
         done += height;
     }
+    Ok(found)
+}
+
+/// `dropouts` where a bitmap has all pixels that the edges blacken: no row is cut. `some` has for each pass whether an edge
+/// makes a mark in a free gap. Error: memory ran out.
+pub fn dropouts_beside(
+    alloc: Global,
+    glyph: Outlined,
+    window: Window,
+    inked: &BoxBitmap,
+    some: (bool, bool),
+) -> Result<Vec<Pixel>, AllocError>
+    requires window { WindowFits (widened 2 window) }
+    requires inked { (c j : ℤ) → bitmaps.is_black inked.now c j ≡ is_black glyph.tape.now.edges (centre c) (centre j) }
+    requires rows { some.0 ≡ false → list_any (is_in_free_gap glyph.rules.rules.stubs (is_black_on over.Rows inked.now))
+        glyph.tape.now.edges ≡ false }
+    requires columns { some.1 ≡ false → list_any (is_in_free_gap glyph.rules.rules.stubs (is_black_on over.Columns inked.now))
+        (map turned_round glyph.tape.now.edges) ≡ false }
+    ensures exact { IfOk result (λ v. (c j : ℤ) → has_pixel v.items c j
+        ≡ (has window c j && is_dropout glyph.entry.rules (contours_at glyph.entry.tape.now.edges glyph.entry.ends.now) c j)) }
+{
+    let (columns, rows) = pixels_reached(glyph.rules.extents, glyph.rules.rules.dots);
+    let mut found = Vec::new(alloc);
+    let part = match clipped(window, columns, rows) {
+        Some(part) => part,
+        None => return Ok(found),
+    };
+    if part.height > BAND_ROWS {
+        return dropouts(alloc, glyph, window);
+    }
+    let mut ink = Bitmap::painted(alloc, inked, widened(part, 5))?;
+    push_found(alloc, &mut found, glyph, part, some, &mut ink)?;
     Ok(found)
 }
 

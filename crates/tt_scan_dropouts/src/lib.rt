@@ -15,7 +15,6 @@
 //! pass.rt       the pixels that a pass over the gaps of all rows adds, and which gap gives way
 //! dots.rt       the dots of a glyph in a window
 //! filling.rt    the dropouts of a glyph in a window
-//! black.rt      all black pixels of a small glyph in one bitmap
 //! counting.rt   what the edges of a glyph count where work is bounded
 //! picture.rt    the dropouts of a picture, as a list that is painted row by row
 //! laws.rt       dropouts are white without them, and move with their glyph; nothing is lost; free gaps are crossed both
@@ -26,7 +25,6 @@
 #![tactic(auto)]
 
 mod bitmap;
-mod black;
 mod boxed;
 mod closed;
 mod contours;
@@ -41,13 +39,11 @@ mod picture;
 mod pixel;
 mod window;
 
-pub use bitmap::Bitmap;
-pub use black::black_pixels;
 pub use boxed::BoxedRules;
 pub use contours::Outlined;
 pub use counting::{BAND_ROWS, all_counted, edges_counted};
-pub use filling::dropouts;
-pub use may_have::may_have_dropouts;
+pub use filling::{dropouts, dropouts_beside};
+pub use may_have::{may_have_dots, may_have_dropouts};
 pub use picture::{Dropout, blacken_dropouts, push_dropouts, sort_by_rows};
 pub use pixel::Pixel;
 pub use tt_scan_gaps::{Columns, Extent, Extents, Rules, box_of, pixels_in, pixels_reached};

@@ -1,12 +1,13 @@
 //! The crossings of an outline as marks in the gaps of its lines. Marks in gaps that are not free have no effect and
 //! are omitted.
 
-ghost use Rattle.std.specs.Prelude.{◌≡◌, ◌++◌, [], ◌∷◌, ◌<◌, true, length, map, All, IfOk, OnOk};
+ghost use Rattle.std.specs.Prelude.{◌≡◌, ◌++◌, [], ◌∷◌, ◌<◌, true, false, length, map, All, IfOk, OnOk};
+ghost use Rattle.std.specs.List.{list_any};
 ghost use Rattle.tt_scan.specs.Contours.{contours_at};
 ghost use Rattle.tt_scan_edges.specs.Winding.{EdgeFits};
 ghost use Rattle.tt_scan_gaps.specs.Crossings.{crossings, touches};
 ghost use Rattle.tt_scan_gaps.specs.Gaps.{free_marks, is_free};
-ghost use Rattle.tt_scan_gaps.specs.Walk.{contour_marks, edge_marks, mark_of, marks, some_in_free_gap, step_marks, walk_marks};
+ghost use Rattle.tt_scan_gaps.specs.Walk.{contour_marks, edge_marks, is_in_free_gap, mark_of, marks, some_in_free_gap, step_marks, walk_marks};
 ghost use Rattle.tt_scan_dropouts.specs.Seen.{is_black_to};
 ghost use Rattle.tt_scan_dropouts.specs.Windows.{is_black_by};
 
@@ -16,7 +17,7 @@ use std::alloc::{AllocError, Global};
 use tt_scan::Edge;
 use tt_scan_gaps::{
     Crossing, Mark, Over, Rules, Step, crossing, gap_crossed, is_of_stub, line_crossed,
-    lines_crossed, touch, walk,
+    lines_crossed, meets, touch, walk,
 };
 
 /// A pass over the rows or the columns of a glyph: its rules, and the pixels that are black before it.
@@ -141,6 +142,28 @@ fn push_all_edge_marks(marks: &mut Vec<Mark>, pass: Pass, edges: &[Edge]) -> Res
     Ok(())
 }
 
+/// Whether an edge crosses a free gap. Most edges meet no line.
+#[inline(always)]
+fn is_in_free_gap(pass: Pass, edge: &Edge) -> bool
+    requires { EdgeFits edge.now }
+    ensures { result ≡ is_in_free_gap false (is_black_to pass.entry) edge.now }
+{
+    meets(Over::Rows, false, edge) && crosses_free_gap(pass.ink, pass.over, *edge)
+}
+
+/// Whether some edge of a contour crosses a free gap.
+fn some_in_free_gap(pass: Pass, edges: &[Edge]) -> bool
+    requires { All EdgeFits edges.now }
+    ensures { result ≡ false → list_any (is_in_free_gap false (is_black_to pass.entry)) edges.now ≡ false }
+{
+    for edge in edges {
+        if is_in_free_gap(pass, edge) {
+            return true;
+        }
+    }
+    false
+}
+
 /// Adds the marks of a contour. Error: memory ran out.
 fn push_contour_marks(
     alloc: Global,
@@ -154,6 +177,10 @@ fn push_contour_marks(
 {
     if pass.rules.stubs {
         return push_all_edge_marks(marks, pass, edges);
+    }
+    // Most contours cross no free gap, and their walks are not needed.
+    if !some_in_free_gap(pass, edges) {
+        return Ok(());
     }
     let steps = walk(alloc, edges)?;
     push_walk_marks(marks, pass, &steps)

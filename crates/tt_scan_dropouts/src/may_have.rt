@@ -44,6 +44,15 @@ fn some_dot_box(contours: Contours) -> bool
     false
 }
 
+/// Whether dots are drawn and some contour has the box of one. Each contour ends before the edge of a number in `ends`.
+pub fn may_have_dots(rules: Rules, edges: &[Edge], ends: &[usize]) -> bool
+    requires edges { All EdgeFits edges.now }
+    requires ends { AreEnds (length edges.now) ends.now }
+    ensures { result ≡ false → rules.dots ≡ true → list_any has_dot_box (contours_at edges.now ends.now) ≡ false }
+{
+    rules.dots && some_dot_box(Contours { edges, ends })
+}
+
 /// Whether an outline with closed contours may have dropouts. False means that it has none: it crosses no free gap both
 /// rising and falling, no edge ends on a line where stubs are drawn, and no contour has the box of a dot where dots are.
 pub(crate) fn closed_may_have_dropouts(rules: Rules, contours: Contours) -> bool
@@ -54,7 +63,7 @@ pub(crate) fn closed_may_have_dropouts(rules: Rules, contours: Contours) -> bool
     if rules.stubs && some_end_on_line(contours.edges) {
         return true;
     }
-    if rules.dots && some_dot_box(contours) {
+    if may_have_dots(rules, contours.edges, contours.ends) {
         return true;
     }
     may_cross_both_ways(contours.edges)

@@ -1,4 +1,4 @@
-use Rattle.std.proofs.Common.{◌∙◌, ◌&&◌, ◌||◌, ap, ap₂, refl}
+use Rattle.std.proofs.Common.{◌∙◌, ◌&&◌, ◌||◌, ap, ap₂}
 use Rattle.tt_bitmap.specs.Bitmaps.{is_black}
 use Rattle.tt_scan.specs.Contours.{contours_at}
 use Rattle.tt_scan_dropouts.specs.Dropouts.{is_dropout}
@@ -6,11 +6,9 @@ use Rattle.tt_scan_dropouts.specs.Windows as windows
 use Rattle.tt_glyph_pixels.proofs.Lines.{no_more, twice}
 use Rattle.tt_glyph_pixels.proofs.filling.blacken_dropouts.Goals as goal
 
-pub returns-then-not-may_have_dropouts-clause-black : goal.returns-then-not-may_have_dropouts-clause-black
-returns-then-not-may_have_dropouts-clause-black c = λ k j.
-    let none = rw c.lend.ensures.exact at c.may_have_dropouts.ensures in
-    rw (none c.if-not-may_have_dropouts.true c.args.glyph.rules refl refl k j)
-    (no_more (is_black c.args.bitmap.now k j) (windows.has c.args.window k j))
+pub returns-in_default-clause-black : goal.returns-in_default-clause-black
+returns-in_default-clause-black c = λ k j.
+    rw (c.in_default.ensures.none k j) (no_more (is_black c.args.bitmap.now k j) (windows.has c.args.window k j))
 
 pub returns-clause-black : goal.returns-clause-black
 returns-clause-black c = λ k j.

@@ -1,5 +1,4 @@
-use Rattle.std.proofs.Common.{◌≡◌, ◌&&◌, ◌∙◌, ℤ, sym, SFits, w64, true, false, not, rules}
-use Rattle.std.specs.Ordering.{int_eq}
+use Rattle.std.proofs.Common.{◌≡◌, ◌&&◌, ◌∙◌, sym, SFits, w64, not, rules}
 use Rattle.std.proofs.lemmas.Int.{to_z-of_z}
 use Rattle.tt_scan_gaps.specs.Dots.{is_dot}
 use Rattle.tt_scan_dropouts.specs.Passes.{has_pixel}

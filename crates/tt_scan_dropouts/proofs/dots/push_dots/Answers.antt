@@ -1,8 +1,8 @@
-use Rattle.std.proofs.Common.{◌≡◌, ◌≤◌, not, get_or, rules, length, drop, arith, true, ℤ, ◌-◌, ◌&&◌, ◌||◌}
+use Rattle.std.proofs.Common.{◌≡◌, ◌≤◌, not, get_or, rules, length, drop, arith, true, ◌-◌}
 use Rattle.std.proofs.lemmas.List.Elements.{All-drop, All-take}
 use Rattle.tt_scan.specs.Contours.{contours_at, contours_from}
 use Rattle.tt_scan_edges.specs.Winding.{EdgeFits}
-use Rattle.tt_scan_gaps.specs.Dots.{has_dot, is_dot}
+use Rattle.tt_scan_gaps.specs.Dots.{has_dot}
 use Rattle.tt_scan_dropouts.specs.Passes.{has_pixel}
 use Rattle.tt_scan_dropouts.specs.Windows.{has, is_black_in}
 use Rattle.tt_scan_dropouts.proofs.Ends.{next_end}

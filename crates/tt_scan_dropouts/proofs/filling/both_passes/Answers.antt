@@ -1,4 +1,4 @@
-use Rattle.std.proofs.Common.{◌≡◌, refl, ℤ, true, map, sym, ◌∙◌}
+use Rattle.std.proofs.Common.{◌≡◌, refl, ℤ, true, map, ◌∙◌}
 use Rattle.tt_scan_gaps.specs.Seen.{turned_round}
 use Rattle.tt_scan_dropouts.specs.Windows.{is_black_by}
 use Rattle.tt_scan_gaps.specs.declared.seen.Over.TheVariants as over
