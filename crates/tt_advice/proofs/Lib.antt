@@ -1,3 +1,4 @@
 mod Characters
+mod Plain
 mod Ranges
 mod Truth

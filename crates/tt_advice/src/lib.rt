@@ -13,4 +13,4 @@ pub use advising::{advice, has_record};
 pub use hint::{FixedHint, Hint, hint_line};
 pub use notes::font_notes;
 pub use shown::shown_words;
-pub use signs::Sign;
+pub use signs::{Sign, is_plain};

@@ -1,7 +1,8 @@
 //! Characters that are told to people, since a picture of them is not what may be expected.
 
-ghost use Rattle.std.specs.Prelude.{◌≡◌, chars, find};
-ghost use Rattle.tt_advice.specs.Signs.{in_range, in_ranges, is_of};
+ghost use Rattle.std.specs.Prelude.{◌≡◌, None, chars, find, true};
+ghost use Rattle.tt_advice.specs.declared.signs.Sign.{Sign};
+ghost use Rattle.tt_advice.specs.Signs.{in_range, in_ranges, is_of, is_plain, is_printed};
 
 /// Why a character is reported.
 #[derive(Clone, Copy, Debug, PartialEq, Eq)]
@@ -76,6 +77,26 @@ pub(crate) fn in_ranges(ranges: &[(char, char)], c: char) -> bool
         }
     }
     false
+}
+
+/// Whether a byte is a printed character of ASCII.
+fn is_printed(byte: u8) -> bool
+    ensures { result ≡ is_printed byte }
+{
+    0x20 <= byte && byte <= 0x7E
+}
+
+/// Whether the bytes of a text are printed characters of ASCII alone. Such a text has no sign.
+pub fn is_plain(text: &[u8]) -> bool
+    ensures exact { result ≡ is_plain text.now }
+    ensures signless { result ≡ true → (s : Sign) → find (is_of s) (chars text.now) ≡ None }
+{
+    for byte in text {
+        if !is_printed(*byte) {
+            return false;
+        }
+    }
+    true
 }
 
 impl Sign {

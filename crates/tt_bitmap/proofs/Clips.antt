@@ -1,12 +1,12 @@
 -- A word clipped to a row, and turned to its place.
-use Rattle.std.proofs.Common.{◌≡◌, ◌∙◌, sym, ap, refl, ℕ, ◌+◌, ◌-◌, ◌*◌, ◌/◌, ◌%◌, ◌^◌, ◌<◌, ◌≤◌, Bool, true, false, ◌&&◌, ◌==◌, nat_le, nat_lt, ℤ, pos, ◌+ℤ◌, ◌-ℤ◌, ◌≤ℤ◌, ◌<ℤ◌, int_le, unsigned_abs, bit_and, arith, inl, inr}
+use Rattle.std.proofs.Common.{◌≡◌, ◌∙◌, sym, ap, refl, ℕ, ◌+◌, ◌-◌, ◌*◌, ◌/◌, ◌%◌, ◌^◌, ◌<◌, ◌≤◌, Bool, true, false, ◌&&◌, ◌==◌, nat_le, nat_lt, min, ℤ, pos, ◌+ℤ◌, ◌-ℤ◌, ◌≤ℤ◌, ◌<ℤ◌, int_le, unsigned_abs, bit_and, arith, inl, inr}
 use Rattle.std.specs.Int.{bit_at}
 use Rattle.std.specs.Int.Bits.{and_lt, and_zero_r}
 use Rattle.std.proofs.lemmas.Bool.{cases_Bool, cases_lt, false≢true}
 use Rattle.std.proofs.lemmas.Bool.Decides.{nat_tests}
 use Rattle.std.proofs.lemmas.Int.{by_lt_z, ints}
 use Rattle.std.proofs.lemmas.Nat.Bits.{bit_at-zero}
-use Rattle.tt_bitmap.specs.Words.{in_eight, in_strip, in_word, turned_by}
+use Rattle.tt_bitmap.specs.Words.{in_eight, in_strip, in_word, is_whole, turned_by}
 use Rattle.tt_bitmap.proofs.Bools.{never, parts}
 use Rattle.tt_bitmap.proofs.Turns.{ones_masked, turned_bit}
 
@@ -198,42 +198,53 @@ none_shown at room width from to word k is none =
 
 -- a word of which the row has all columns
 
-pub record IsInside (at : ℤ) (width first : ℕ) : Type 0 where
-  pub is_first : pos first ≡ at +ℤ pos 0
+pub record IsWhole (at : ℤ) (columns width bytes : ℕ) : Type 0 where
+  pub some : 0 < columns
+  pub few : columns ≤ 56
+  pub many : 8 ≤ bytes
   pub low : pos 0 ≤ℤ at
-  pub ends : first + 64 ≤ width
+  pub high : (at +ℤ pos columns) ≤ℤ pos width
 
-pub is_inside : (at : ℤ) (width first : ℕ) → (int_le (pos 0) at && int_le (at +ℤ pos 64) (pos width)) ≡ true → pos first ≡ at +ℤ pos 0
-    → IsInside at width first
-is_inside at width first is is_first =
-    let (one, two) = parts (int_le (pos 0) at) (int_le (at +ℤ pos 64) (pos width)) is in
-    let low : pos 0 ≤ℤ at = grind (arith, ints, one) in
-    let high : (at +ℤ pos 64) ≤ℤ pos width = grind (arith, ints, two) in
+pub whole_parts : (at : ℤ) (columns width bytes : ℕ) → is_whole at columns width bytes ≡ true → IsWhole at columns width bytes
+whole_parts at columns width bytes is =
+    let (sized, rest) = parts (nat_lt 0 columns && nat_le columns 56)
+    (nat_le 8 bytes && (int_le (pos 0) at && int_le (at +ℤ pos columns) (pos width))) is in
+    let (one, two) = parts (nat_lt 0 columns) (nat_le columns 56) sized in
+    let (three, across) = parts (nat_le 8 bytes) (int_le (pos 0) at && int_le (at +ℤ pos columns) (pos width)) rest in
+    let (four, five) = parts (int_le (pos 0) at) (int_le (at +ℤ pos columns) (pos width)) across in
     record {
-      is_first = is_first;
-      low = low;
-      ends = omega (arith, ints, high, is_first);
+      some = grind (arith, nat_tests, one);
+      few = grind (arith, nat_tests, two);
+      many = grind (arith, nat_tests, three);
+      low = grind (arith, ints, four);
+      high = grind (arith, ints, five);
     }
 
-pub placed_inside : (at : ℤ) (room width mask first word k : ℕ) → IsInside at width first → room ≤ 56
-    → ((i : ℕ) → i < 64 → in_word mask i ≡ (nat_le 0 i && nat_lt i room)) → word < 2 ^ 64 → mask < 2 ^ 64
-    → in_eight (first / 8) (turned_by mask (first % 8) word) k ≡ (nat_lt k width && in_strip at room word k)
-placed_inside at room width mask first word k is few is_mask fits mask_fits =
-    let is_first = is.is_first in
+pub whole_placed : (at : ℤ) (columns width bytes start turn mask first word k : ℕ) → is_whole at columns width bytes ≡ true
+    → width ≤ 8 * bytes → pos first ≡ at +ℤ pos 0 → start ≡ min (first / 8) (bytes - 8) → turn ≡ (first - 8 * start) % 64
+    → ((i : ℕ) → i < 64 → in_word mask i ≡ (nat_le 0 i && nat_lt i columns)) → word < 2 ^ 64 → mask < 2 ^ 64
+    → in_eight start (turned_by mask turn word) k ≡ (nat_lt k width && in_strip at columns word k)
+whole_placed at columns width bytes start turn mask first word k whole enough is_first is_start is_turn is_mask fits mask_fits =
+    let is = whole_parts at columns width bytes whole in
+    let some = is.some in
+    let few = is.few in
+    let many = is.many in
     let is_low = is.low in
-    let ends = is.ends in
-    let clipped : IsClipped at room width 0 room = record {
-      before = λ i below. omega (arith, ints, below, few, is_first, ends);
+    let is_high = is.high in
+    let ends : first + columns ≤ width = omega (arith, ints, is_high, is_first) in
+    let within : first + columns ≤ 8 * start + 64 = omega (arith, is_start, ends, enough, many, few) in
+    let clipped : IsClipped at columns width 0 columns = record {
+      before = λ i below. omega (arith, ints, below, is_first, ends);
       past = λ i from under. absurd (omega (arith, from, under));
       left = λ i under. absurd (omega (arith, under));
       right = λ i from under. omega (arith, ints, is_low);
       most = omega arith;
       few = few;
     } in
-    let place : IsPlaced at (first / 8) (first % 8) first 0 room = record {
+    let place : IsPlaced at start turn first 0 columns = record {
       is_first = is_first;
-      begins = omega arith;
-      ends = omega (arith, few);
-      turns = omega arith;
+      begins = omega (arith, is_start);
+      ends = omega (arith, within);
+      turns = omega (arith, is_turn);
     } in
-    placed at room width (first / 8) (first % 8) mask first 0 room word k clipped place is_mask fits mask_fits
+    placed at columns width start turn mask first 0 columns word k clipped place is_mask fits mask_fits

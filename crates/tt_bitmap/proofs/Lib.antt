@@ -7,6 +7,8 @@ pub mod Bytes
 pub mod Clips
 pub mod Crops
 pub mod EightBytes
+pub mod NarrowInks
+pub mod OneWord
 pub mod Places
 pub mod Points
 pub mod Ranges

@@ -41,7 +41,7 @@ in_run w r s m a b from past column within is_a is_b = elim (cases_lt r s) [
   ]
 ]
 
-same_top : (top j k : ℤ) → j ≤ℤ top → k ≤ℤ top → (unsigned_abs (top -ℤ j) == unsigned_abs (top -ℤ k)) ≡ int_eq j k
+pub same_top : (top j k : ℤ) → j ≤ℤ top → k ≤ℤ top → (unsigned_abs (top -ℤ j) == unsigned_abs (top -ℤ k)) ≡ int_eq j k
 same_top top j k one two = grind (arith, ints, nat_tests)
 
 -- words made blacker, as the pixels of the box
@@ -108,12 +108,12 @@ span_blackened b words begin from past most c j line first last under is_begin i
 
 -- what the box lacks is not blackened
 
-off_false : (here same : Bool) → (here ≡ true → same ≡ true → false ≡ true) → (here && same) ≡ false
+pub off_false : (here same : Bool) → (here ≡ true → same ≡ true → false ≡ true) → (here && same) ≡ false
 off_false true true none = sym (none refl refl)
 off_false true false none = refl
 off_false false same none = refl
 
-same_line : (j k : ℤ) → int_eq j k ≡ true → j ≡ k
+pub same_line : (j k : ℤ) → int_eq j k ≡ true → j ≡ k
 same_line j k is = grind (arith, ints)
 
 pub no_pixel_blackened : (b : BoxBitmap) (c j column line : ℤ) → has b column line ≡ false

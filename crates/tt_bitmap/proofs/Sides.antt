@@ -18,7 +18,7 @@ swapped true false = refl
 swapped false true = refl
 swapped false false = refl
 
-left_or : (a b : Bool) → a ≡ true → (a || b) ≡ true
+pub left_or : (a b : Bool) → a ≡ true → (a || b) ≡ true
 left_or true b is = refl
 left_or false b is = absurd (false≢true is)
 
@@ -91,7 +91,7 @@ column_few word m is = elim (cases_lt m 64) [
   | inr past ↦ let off : nat_lt m 64 ≡ false = grind (arith, nat_tests) in absurd (false≢true (rw off at is))
 ]
 
-column_white : (word m : ℕ) → bit_at word (63 - m) ≡ 0 → has_column word m ≡ false
+pub column_white : (word m : ℕ) → bit_at word (63 - m) ≡ 0 → has_column word m ≡ false
 column_white word m none = rw none (never (nat_lt m 64))
 
 pub record IsBetween (word before after : ℕ) : Type 0 where

@@ -6,8 +6,9 @@ use Rattle.std.proofs.lemmas.Int.{by_lt_z, ints}
 use Rattle.std.proofs.lemmas.List.{get_or-drop}
 use Rattle.std.proofs.lemmas.Nat.{mul-le}
 use Rattle.tt_bitmap.specs.Bitmaps.{number_at, pixel, shown_in, strips}
-use Rattle.tt_bitmap.specs.Words.{in_strip, in_word}
+use Rattle.tt_bitmap.specs.Words.{in_strip, in_word, is_whole}
 use Rattle.tt_bitmap.proofs.Bools.{both, never, or_false}
+use Rattle.tt_bitmap.proofs.Clips.{whole_parts}
 
 -- a word of a row is one of the words
 pub word_within : (strips strip r rows len : ℕ) → strip < strips → r < rows → strips * rows ≤ len → strips * r + strip < len
@@ -83,6 +84,15 @@ narrow_strip words n r c at one =
           let out : nat_lt m n ≡ false = grind (arith, nat_tests) in
           rw (out, never (int_le at (pos c))) refl
     ]
+
+-- rows that a band has whole
+pub one_word_rows : (at : ℤ) (columns width bytes rows : ℕ) → is_whole at columns width bytes ≡ true → strips columns * rows ≡ rows
+one_word_rows at columns width bytes rows whole =
+    let is = whole_parts at columns width bytes whole in
+    let some = is.some in
+    let few = is.few in
+    let one : strips columns ≡ 1 = omega (arith, some, few) in
+    rw one (omega arith)
 
 pub all_strips : (columns s : ℕ) → strips columns ≤ s → min columns (56 * s) ≡ columns
 all_strips columns s many = omega (arith, many)

@@ -1,6 +1,7 @@
 -- No part of the standard: the black pixels of a box. A column counts rightwards from the pen, a line upwards from the base
 -- line.
 use Rattle.std.specs.Prelude.{◌≡◌, refl, ℕ, ◌+◌, ◌*◌, ◌/◌, ◌%◌, ◌^◌, ◌<◌, Bool, true, false, ◌&&◌, nat_lt, ℤ, pos, negsuc, ◌+ℤ◌, ◌-ℤ◌, int_le, int_lt, unsigned_abs, List, [], ◌∷◌, map, slice_index}
+use Rattle.std.specs.Ordering.{int_eq}
 use Rattle.tt_bitmap.specs.Words.{in_word}
 
 -- the rows of a box from the top line down, each as words of 56 columns
@@ -58,6 +59,10 @@ abbrev pub shown_in : List ℕ → ℕ → ℤ → ℕ → ℕ → ℕ → Bool
 shown_in words width at count r c = (int_le at (pos c) && nat_lt (unsigned_abs (pos c -ℤ at)) count)
     && pixel words (number_at width r (unsigned_abs (pos c -ℤ at)))
 
+-- a pixel is one of the columns of a word that begins at column `low` of a line
+abbrev pub in_line : ℤ → ℤ → ℕ → ℤ → ℤ → Bool
+in_line line low word c j = int_eq j line && (int_le low c && in_word word (unsigned_abs (c -ℤ low)))
+
 -- worked values: 58 columns from -1 on, two lines from 1 down. Black are the last column of the first word of line 1, the
 -- first of its second word, and the last column of line 0
 two_lines : BoxBitmap
@@ -99,3 +104,11 @@ an_empty_box_has_no_words = refl
 
 a_word_is_full_at_56 : map strips (1 ∷ 56 ∷ 57 ∷ 112 ∷ []) ≡ 1 ∷ 1 ∷ 2 ∷ 2 ∷ []
 a_word_is_full_at_56 = refl
+
+-- columns -2 and 0 of line 1
+from_column_minus_2 : map (λ c. in_line (pos 1) (negsuc 1) (2 ^ 63 + 2 ^ 61) c (pos 1)) (negsuc 2 ∷ negsuc 1 ∷ negsuc 0 ∷ pos 0 ∷ pos 1 ∷ [])
+    ≡ false ∷ true ∷ false ∷ true ∷ false ∷ []
+from_column_minus_2 = refl
+
+in_no_other_line : map (in_line (pos 1) (negsuc 1) (2 ^ 63) (negsuc 1)) (pos 0 ∷ pos 1 ∷ pos 2 ∷ negsuc 0 ∷ []) ≡ false ∷ true ∷ false ∷ false ∷ []
+in_no_other_line = refl

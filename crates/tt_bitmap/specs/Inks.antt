@@ -5,6 +5,7 @@ use Rattle.tt_bitmap.specs.Bitmaps.{number_at, pixel}
 use Rattle.tt_bitmap.specs.Words.{in_word}
 use Rattle.tt_bitmap.specs.declared.ink.LeastBox.{LeastBox}
 use Rattle.tt_bitmap.specs.declared.ink.InkSides.{InkSides}
+use Rattle.tt_bitmap.specs.declared.ink.NarrowInk.{NarrowInk}
 
 -- a pixel lies in a box
 pub record IsInBox (b : LeastBox) (c j : ℤ) : Type 0 where
@@ -95,6 +96,17 @@ in_row word row begin r m = (r == row) && (nat_le begin m && has_column word (m 
 -- one of the first `count` columns of row r of words is black
 abbrev pub row_has : List ℕ → ℕ → ℕ → ℕ → ℕ → Bool
 row_has words width count r m = nat_lt m count && pixel words (number_at width r m)
+
+-- all black pixels are in rows above a row
+abbrev pub AreAbove : ℕ → (ℕ → ℕ → Bool) → Type 0
+AreAbove row black = (r m : ℕ) → black r m ≡ true → r < row
+
+-- the columns of black pixels are those of one word, and each side has a black pixel where there is one
+pub record IsNarrowInk (black : ℕ → ℕ → Bool) (n : NarrowInk) : Type 0 where
+  pub within : (r m : ℕ) → black r m ≡ true → (n.first_row ≤ r) × ((r ≤ n.last_row) × (has_column n.columns m ≡ true))
+  pub across : (m : ℕ) → has_column n.columns m ≡ true → (r : ℕ) × (black r m ≡ true)
+  pub first : 0 < n.columns → (m : ℕ) × (black n.first_row m ≡ true)
+  pub last : 0 < n.columns → (m : ℕ) × (black n.last_row m ≡ true)
 
 -- worked values
 box : ℤ → ℤ → ℤ → ℤ → LeastBox

@@ -1,5 +1,5 @@
 -- No part of the standard: columns in words, the leftmost in the highest bit, and a word at its place in a row of bytes.
-use Rattle.std.specs.Prelude.{◌≡◌, refl, ℕ, ◌+◌, ◌-◌, ◌*◌, ◌^◌, Bool, true, false, ◌&&◌, ◌==◌, nat_le, nat_lt, ℤ, pos, negsuc, ◌-ℤ◌, int_le, unsigned_abs, [], ◌∷◌, map, bit_and}
+use Rattle.std.specs.Prelude.{◌≡◌, refl, ℕ, ◌+◌, ◌-◌, ◌*◌, ◌^◌, Bool, true, false, ◌&&◌, ◌==◌, nat_le, nat_lt, ℤ, pos, negsuc, ◌+ℤ◌, ◌-ℤ◌, int_le, unsigned_abs, [], ◌∷◌, map, bit_and}
 use Rattle.std.specs.Int.{bit_at, rotate_right, w64}
 use Rattle.tt_bitmap.specs.declared.place.WordPlace.{WordPlace}
 
@@ -23,6 +23,11 @@ turned_by mask turn word = rotate_right w64 (bit_and word mask) turn
 -- column c of a row is black, by a word at its place
 abbrev pub stamped : WordPlace → ℕ → ℕ → Bool
 stamped p word c = in_eight p.start (turned_by p.mask p.turn word) c
+
+-- a row of `width` pixels in at least eight bytes has all of some columns from column `at` on, which one word has
+abbrev pub is_whole : ℤ → ℕ → ℕ → ℕ → Bool
+is_whole at columns width bytes =
+    (nat_lt 0 columns && nat_le columns 56) && (nat_le 8 bytes && (int_le (pos 0) at && int_le (at +ℤ pos columns) (pos width)))
 
 -- worked values: columns 0, 1 and 55 of a word
 ends : ℕ
@@ -55,3 +60,13 @@ three_to_the_right = refl
 one_to_the_left : map (in_eight 0 (turned_by (2 ^ 63 - 1) 63 ends)) (0 ∷ 1 ∷ 54 ∷ 63 ∷ []) ≡ true ∷ false ∷ true ∷ false ∷ []
 unfolding ends
 one_to_the_left = refl
+
+-- nine columns in a row of 70 pixels
+up_to_both_ends_of_a_row : map (λ at. is_whole at 9 70 9) (negsuc 0 ∷ pos 0 ∷ pos 61 ∷ pos 62 ∷ []) ≡ false ∷ true ∷ true ∷ false ∷ []
+up_to_both_ends_of_a_row = refl
+
+at_least_a_column_and_at_most_a_word : map (λ columns. is_whole (pos 0) columns 70 9) (0 ∷ 1 ∷ 56 ∷ 57 ∷ []) ≡ false ∷ true ∷ true ∷ false ∷ []
+at_least_a_column_and_at_most_a_word = refl
+
+not_in_seven_bytes : map (is_whole (pos 0) 9 56) (7 ∷ 8 ∷ []) ≡ false ∷ true ∷ []
+not_in_seven_bytes = refl

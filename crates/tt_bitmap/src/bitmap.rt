@@ -1,14 +1,15 @@
 //! The bitmap of a box.
 
-ghost use Rattle.std.specs.Prelude.{◌≡◌, ℕ, ℤ, true, false, ◌+◌, ◌-◌, ◌*◌, ◌^◌, ◌<◌, ◌≤◌, ◌&&◌, ◌||◌, ◌+ℤ◌, ◌-ℤ◌, ◌≤ℤ◌, int_le, nat_le, nat_lt, pos, length, slice_range, unsigned_abs, IfOk, IfSome};
+ghost use Rattle.std.specs.Prelude.{◌≡◌, ℕ, ℤ, true, false, ◌+◌, ◌-◌, ◌*◌, ◌%◌, ◌^◌, ◌<◌, ◌≤◌, ◌&&◌, ◌||◌, ◌+ℤ◌, ◌-ℤ◌, ◌≤ℤ◌, int_le, nat_le, nat_lt, pos, length, slice_range, unsigned_abs, IfOk, IfSome};
+ghost use Rattle.std.specs.Int.{bit_at};
 ghost use Rattle.std.specs.Ordering.{int_eq};
 ghost use Rattle.tt_bitmap.specs.Bands.{IsBandBlackened};
-ghost use Rattle.tt_bitmap.specs.Bitmaps.{BoxFits, has, has_box, is_black, is_column, is_line, number, number_at, strips};
+ghost use Rattle.tt_bitmap.specs.Bitmaps.{BoxFits, has, has_box, in_line, is_black, is_column, is_line, number, number_at, strips};
 ghost use Rattle.tt_bitmap.specs.Inks.{IsInk, IsNear};
 
 use crate::ink::{LeastBox, box_by, sides_of};
 use crate::place::RowPlace;
-use crate::run::blacken_run;
+use crate::run::{blacken_run, or_word};
 use crate::shared::rows_shared;
 use crate::strip::{paint_shared, strips_of};
 use std::alloc::{AllocError, Global};
@@ -57,6 +58,20 @@ fn is_line(first: i64, count: u32, line: i64) -> bool
     first - i64::from(count) < line && line <= first
 }
 
+/// The number of a line's first word.
+#[inline(always)]
+fn row_word(top: i64, width: u32, height: u32, line: i64) -> usize
+    requires top { unsigned_abs top < 2 ^ 21 }
+    requires width { width < 2 ^ 20 }
+    requires height { height < 2 ^ 20 }
+    requires has { is_line top height line ≡ true }
+    ensures exact { result ≡ strips width * unsigned_abs (top -ℤ line) }
+    ensures within { result + strips width ≤ strips width * height }
+    ensures small { result < 2 ^ 41 }
+{
+    strips_of(width) * (top - line) as usize
+}
+
 /// The number of the first pixel of a line, 56 to a word.
 #[inline(always)]
 fn row_number(top: i64, width: u32, height: u32, line: i64) -> usize
@@ -68,7 +83,28 @@ fn row_number(top: i64, width: u32, height: u32, line: i64) -> usize
     ensures within { result + 56 * strips width ≤ 56 * (strips width * height) }
     ensures small { result < 2 ^ 50 }
 {
-    56 * (strips_of(width) * (top - line) as usize)
+    56 * row_word(top, width, height, line)
+}
+
+/// The column of a row of `width` columns where `columns` columns begin. None where the row lacks one of them, or they are
+/// in two of its words. Column `begin` is to be one of the row's, even if `columns` is 0.
+#[inline(always)]
+fn word_column(begin: i64, columns: u32, width: u32) -> Option<u32>
+    requires begin { unsigned_abs begin < 2 ^ 41 }
+    requires columns { columns ≤ 57 }
+    ensures at { IfSome result (λ at. pos at ≡ begin) }
+    ensures has { IfSome result (λ at. at < width) }
+    ensures within { IfSome result (λ at. at + columns ≤ width) }
+    ensures one { IfSome result (λ at. at % 56 + columns ≤ 56) }
+{
+    if begin < 0 || i64::from(width) < begin + i64::from(columns.max(1)) {
+        return None;
+    }
+    let at = begin as u32;
+    if 56 < at % 56 + columns {
+        return None;
+    }
+    Some(at)
 }
 
 /// How far a column is right of another.
@@ -237,6 +273,29 @@ impl BoxBitmap {
             begin + from as usize,
             begin + past as usize,
         );
+    }
+
+    /// Blackens the columns of a word in a line: `columns` columns from column `low` on, the leftmost in the highest bit. The
+    /// bitmap is unchanged where the box lacks one of these columns, or has them in two words of the row. Returns whether
+    /// they were blackened. It takes no memory.
+    #[inline(always)]
+    pub fn blacken_word(&mut self, line: i64, low: i64, columns: u32, word: u64) -> bool
+        requires columns { columns ≤ 57 }
+        requires low { unsigned_abs low ≤ 2 ^ 40 }
+        requires free { (i : ℕ) → i < 64 - columns → bit_at word i ≡ 0 }
+        ensures black { result ≡ true → (c j : ℤ) → is_black self.new c j ≡ (is_black self.old c j || in_line line low word c j) }
+        ensures kept { result ≡ false → self.new ≡ self.old }
+        ensures place { self.new ≡ record self.old { words = self.new.words } }
+    {
+        if !is_line(self.top, self.height, line) {
+            return false;
+        }
+        let Some(at) = word_column(low - self.left, columns, self.width) else {
+            return false;
+        };
+        let begin = row_word(self.top, self.width, self.height, line);
+        or_word(&mut self.words, begin + at as usize / 56, word >> (at % 56));
+        true
     }
 
     /// Blackens the bitmap's black pixels in a band, moved by `column` columns to the right. The band has `rows` rows of

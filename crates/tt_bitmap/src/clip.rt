@@ -1,7 +1,7 @@
 //! Where those columns of a word go that a row of bytes has.
 
-ghost use Rattle.std.specs.Prelude.{◌≡◌, ℕ, true, pos, ◌+ℤ◌, ◌≤ℤ◌, int_le, ◌+◌, ◌*◌, ◌^◌, ◌<◌, ◌≤◌, ◌&&◌, min, nat_lt, unsigned_abs};
-ghost use Rattle.tt_bitmap.specs.Words.{in_strip, stamped};
+ghost use Rattle.std.specs.Prelude.{◌≡◌, ℕ, true, pos, ◌+ℤ◌, ◌≤ℤ◌, ◌+◌, ◌*◌, ◌^◌, ◌<◌, ◌≤◌, ◌&&◌, min, nat_lt, unsigned_abs};
+ghost use Rattle.tt_bitmap.specs.Words.{in_strip, is_whole, stamped};
 
 use crate::place::WordPlace;
 use crate::run::ones;
@@ -18,30 +18,24 @@ fn column_of(at: i64, from: u32) -> usize
     (at + i64::from(from)) as usize
 }
 
-/// Whether 64 columns of a row of `width` pixels follow from column `at` on.
+/// The place of a word in a row of `width` pixels and `bytes` bytes that has all of the word's `columns` columns. The word
+/// begins at column `at`.
 #[inline(always)]
-fn is_inside(at: i64, width: u32) -> bool
-    requires { unsigned_abs at < 2 ^ 41 }
-    ensures { result ≡ (int_le (pos 0) at && int_le (at +ℤ pos 64) (pos width)) }
-{
-    0 <= at && at + 64 <= i64::from(width)
-}
-
-/// The place of a word's first `room` columns, where eight bytes of the row have them all from the byte of the first on.
-#[inline(always)]
-fn place_inside(at: i64, room: u32, width: u32, bytes: usize) -> WordPlace
+pub(crate) fn whole_place(at: i64, columns: u32, width: u32, bytes: usize) -> WordPlace
     requires at { unsigned_abs at < 2 ^ 41 }
-    requires inside { (int_le (pos 0) at && int_le (at +ℤ pos 64) (pos width)) ≡ true }
-    requires room { room ≤ 56 }
+    requires whole { is_whole at columns width bytes ≡ true }
+    requires few { columns ≤ 56 }
     requires width { width ≤ 8 * bytes }
-    ensures shown { (word k : ℕ) → word < 2 ^ 64 → stamped result word k ≡ (nat_lt k width && in_strip at room word k) }
+    ensures shown { (word k : ℕ) → word < 2 ^ 64 → stamped result word k ≡ (nat_lt k width && in_strip at columns word k) }
     ensures fits { result.start + min 8 bytes ≤ bytes }
 {
     let first = column_of(at, 0);
+    // Near the row's end the last eight bytes hold the word.
+    let start = bytes.saturating_sub(8).min(first / 8);
     WordPlace {
-        start: first / 8,
-        mask: ones(0, room),
-        turn: (first % 8) as u32,
+        start,
+        mask: ones(0, columns),
+        turn: ((first - 8 * start) % 64) as u32,
     }
 }
 
@@ -56,9 +50,6 @@ pub(crate) fn place_of(at: i64, room: u32, width: u32, bytes: usize) -> WordPlac
     ensures shown { (word k : ℕ) → word < 2 ^ 64 → stamped result word k ≡ (nat_lt k width && in_strip at room word k) }
     ensures fits { result.start + min 8 bytes ≤ bytes }
 {
-    if is_inside(at, width) {
-        return place_inside(at, room, width, bytes);
-    }
     let to = distance(at, i64::from(width), room);
     let from = distance(at, 0, room);
     if to <= from {

@@ -1,7 +1,7 @@
 //! A word at its place in the bytes of a row, as one number of eight bytes.
 
 ghost use Rattle.std.specs.Prelude.{◌≡◌, ℕ, ◌+◌, ◌-◌, ◌*◌, ◌<◌, ◌≤◌, ◌&&◌, nat_lt, length, slice_index};
-ghost use Rattle.std.specs.Int.{bit_at};
+ghost use Rattle.std.specs.Int.{bit_at, to_le_bytes, w64};
 ghost use Rattle.tt_bitmap.specs.Bands.{IsBlackened};
 ghost use Rattle.tt_bitmap.specs.Words.{in_eight, in_word, turned_by};
 
@@ -44,6 +44,18 @@ fn read_eight(row: &[u8], start: usize) -> u64
     u64::from_le_bytes(*row[start..start + 8].as_array::<8>().unwrap())
 }
 
+/// Writes a number in eight bytes, the lowest byte first. A copy of a slice would test whether both overlap.
+#[inline(always)]
+fn write_number(bytes: &mut [u8], number: u64)
+    requires { length bytes.old ≡ 8 }
+    ensures { bytes.new ≡ to_le_bytes w64 number }
+{
+    let Some(eight) = bytes.as_mut_array::<8>() else {
+        unreachable!()
+    };
+    *eight = number.to_le_bytes();
+}
+
 /// Writes a number in the place of eight bytes of a row, the lowest byte first.
 #[inline(always)]
 fn write_eight(row: &mut [u8], start: usize, eight: u64)
@@ -53,7 +65,7 @@ fn write_eight(row: &mut [u8], start: usize, eight: u64)
     ensures after { (at : ℕ) → start + 8 ≤ at → slice_index row.new at ≡ slice_index row.old at }
     ensures len { length row.new ≡ length row.old }
 {
-    row[start..start + 8].copy_from_slice(&eight.to_le_bytes());
+    write_number(&mut row[start..start + 8], eight);
 }
 
 /// Blackens the columns of a word in eight bytes of a row, from byte `start` on.

@@ -2,7 +2,7 @@
 
 ghost use Rattle.std.specs.Prelude.{◌≡◌, ℕ, Bool, ◌+◌, ◌*◌, ◌^◌, ◌<◌, ◌≤◌, ◌&&◌, ◌||◌, ◌==◌, nat_lt, min, max, length, unsigned_abs};
 ghost use Rattle.tt_bitmap.specs.Bitmaps.{strips};
-ghost use Rattle.tt_bitmap.specs.Inks.{AreSides, box_by, has_column, in_row, joined, joined_boxes, row_has};
+ghost use Rattle.tt_bitmap.specs.Inks.{AreAbove, AreSides, IsNarrowInk, box_by, has_column, in_row, joined, joined_boxes, row_has};
 ghost use Rattle.tt_bitmap.specs.Words.{in_word};
 
 use crate::run::ones;
@@ -24,6 +24,14 @@ pub(crate) struct InkSides {
     pub(crate) last_row: u32,
     pub(crate) first: u32,
     pub(crate) last: u32,
+}
+
+/// The black pixels of rows of one word: their columns, and the first and the last row that have one.
+#[derive(Clone, Copy)]
+pub(crate) struct NarrowInk {
+    pub(crate) columns: u64,
+    pub(crate) first_row: u32,
+    pub(crate) last_row: u32,
 }
 
 /// The least box that holds two boxes.
@@ -118,12 +126,73 @@ fn with_row(sides: Option<InkSides>, words: &[u64], columns: u32, row: u32) -> O
     sides
 }
 
+/// The black pixels so far, and of the word of row `row`, which is below them.
+#[inline(always)]
+fn with_narrow(ink: NarrowInk, word: u64, row: u32) -> NarrowInk
+    ensures { (black : ℕ → ℕ → Bool) → AreAbove row black → IsNarrowInk black ink
+        → IsNarrowInk (λ r m. black r m || ((r == row) && has_column word m)) result }
+{
+    if word == 0 {
+        return ink;
+    }
+    if ink.columns == 0 {
+        return NarrowInk {
+            columns: word,
+            first_row: row,
+            last_row: row,
+        };
+    }
+    NarrowInk {
+        columns: ink.columns | word,
+        first_row: ink.first_row,
+        last_row: row,
+    }
+}
+
+/// The sides of the black pixels of rows of one word; None where there is no black pixel.
+#[inline(always)]
+fn narrow_sides(ink: NarrowInk) -> Option<InkSides>
+    ensures { (black : ℕ → ℕ → Bool) → IsNarrowInk black ink → AreSides black result }
+{
+    if ink.columns == 0 {
+        return None;
+    }
+    Some(InkSides {
+        first_row: ink.first_row,
+        last_row: ink.last_row,
+        first: ink.columns.leading_zeros(),
+        last: 63 - ink.columns.trailing_zeros(),
+    })
+}
+
+/// The sides of the black pixels of `height` rows of one word, with `columns` columns; None where there is no black pixel.
+fn sides_of_narrow(words: &[u64], columns: u32, height: u32) -> Option<InkSides>
+    requires columns { strips columns ≡ 1 }
+    requires words { height ≤ length words.now }
+    ensures { AreSides (λ r m. nat_lt r height && row_has words.now columns columns r m) result }
+{
+    let mut ink = NarrowInk {
+        columns: 0,
+        first_row: 0,
+        last_row: 0,
+    };
+    for r in 0..height {
+        ink = with_narrow(ink, first_columns(words[r as usize], columns), r);
+    }
+    narrow_sides(ink)
+}
+
 /// The sides of the black pixels of words, `height` rows of `columns` columns; None where there is no black pixel.
 pub(crate) fn sides_of(words: &[u64], columns: u32, height: u32) -> Option<InkSides>
     requires columns { columns < 2 ^ 20 }
     requires words { strips columns * height ≤ length words.now }
     ensures { AreSides (λ r m. nat_lt r height && row_has words.now columns columns r m) result }
 {
+    let strips = strips_of(columns);
+    if strips == 1 {
+        // Most glyphs are so narrow.
+        return sides_of_narrow(words, columns, height);
+    }
     let mut sides = None;
     for row in 0..height {
         sides = with_row(sides, words, columns, row);

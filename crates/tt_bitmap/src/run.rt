@@ -1,6 +1,6 @@
 //! Pixels of words by their numbers, 56 to a word, the leftmost in the highest bit.
 
-ghost use Rattle.std.specs.Prelude.{◌≡◌, ℕ, ◌-◌, ◌*◌, ◌^◌, ◌<◌, ◌≤◌, ◌&&◌, ◌||◌, min, nat_le, nat_lt, length};
+ghost use Rattle.std.specs.Prelude.{◌≡◌, ℕ, ◌-◌, ◌*◌, ◌/◌, ◌%◌, ◌^◌, ◌<◌, ◌≤◌, ◌&&◌, ◌||◌, ◌==◌, min, nat_le, nat_lt, length};
 ghost use Rattle.tt_bitmap.specs.Bitmaps.{pixel};
 ghost use Rattle.tt_bitmap.specs.Words.{in_word};
 
@@ -21,6 +21,16 @@ fn count_before(number: usize, at: usize) -> u32
     ensures { result ≡ min 56 (number - 56 * at) }
 {
     number.saturating_sub(56 * at).min(56) as u32
+}
+
+/// Blackens the columns of a word in word `at` of others.
+#[inline(always)]
+pub(crate) fn or_word(words: &mut [u64], at: usize, word: u64)
+    requires { at < length words.old }
+    ensures pixels { (i : ℕ) → pixel words.new i ≡ (pixel words.old i || ((i / 56 == at) && in_word word (i % 56))) }
+    ensures len { length words.new ≡ length words.old }
+{
+    words[at] |= word;
 }
 
 /// Blackens the pixels from number `from` up to `past`, word by word.

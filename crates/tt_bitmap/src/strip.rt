@@ -1,12 +1,12 @@
 //! The words of all rows of a bitmap at their places in the rows of a band. Word `strip` of all rows is painted before
 //! the next word of any row, since all these words have one place.
 
-ghost use Rattle.std.specs.Prelude.{◌≡◌, ℕ, pos, ◌+ℤ◌, unsigned_abs, ◌+◌, ◌-◌, ◌*◌, ◌^◌, ◌<◌, ◌≤◌, ◌&&◌, min, nat_le, nat_lt, length, slice_index};
+ghost use Rattle.std.specs.Prelude.{◌≡◌, ℕ, true, pos, ◌+ℤ◌, unsigned_abs, ◌+◌, ◌-◌, ◌*◌, ◌^◌, ◌<◌, ◌≤◌, ◌&&◌, min, nat_le, nat_lt, length, slice_index};
 ghost use Rattle.tt_bitmap.specs.Bands.{IsBandBlackened};
 ghost use Rattle.tt_bitmap.specs.Bitmaps.{shown_in, strips};
-ghost use Rattle.tt_bitmap.specs.Words.{stamped};
+ghost use Rattle.tt_bitmap.specs.Words.{is_whole, stamped};
 
-use crate::clip::place_of;
+use crate::clip::{place_of, whole_place};
 use crate::eight::{or_eight, or_few, turned};
 use crate::place::{RowPlace, StripPlace};
 use crate::shared::SharedRows;
@@ -16,7 +16,7 @@ use crate::shared::SharedRows;
 pub(crate) fn strips_of(columns: u32) -> usize
     ensures { result ≡ strips columns }
 {
-    (columns as usize).div_ceil(56)
+    (columns as usize + 55) / 56
 }
 
 /// The columns that word `strip` has of a row of `columns` columns.
@@ -89,16 +89,26 @@ fn paint_strip(words: &[u64], at: StripPlace, band: &mut [u8])
     }
 }
 
-/// Paints rows of one word each in a band of as many rows.
+/// Whether the band's rows have eight bytes or more, and all columns of rows of one word.
 #[inline(always)]
-fn paint_narrow(words: &[u64], row: RowPlace, rows: usize, band: &mut [u8])
-    requires narrow { strips row.columns ≡ 1 }
+fn is_whole(row: RowPlace) -> bool
+    ensures { result ≡ is_whole row.at row.columns row.width row.bytes }
+{
+    (0 < row.columns && row.columns <= 56)
+        && (8 <= row.bytes
+            && (0 <= row.at && row.at + i64::from(row.columns) <= i64::from(row.width)))
+}
+
+/// Paints rows of one word in a band of as many rows that has all their columns.
+#[inline(always)]
+fn paint_whole(words: &[u64], row: RowPlace, rows: usize, band: &mut [u8])
+    requires whole { is_whole row.at row.columns row.width row.bytes ≡ true }
     requires words { rows ≤ length words.now }
     requires band { length band.old ≡ row.bytes * rows }
     ensures { IsBandBlackened row.bytes rows
         (λ i c. nat_lt c row.width && shown_in words.now row.columns row.at row.columns i c) band.old band.new }
 {
-    let place = place_of(row.at, row.columns, row.width, row.bytes);
+    let place = whole_place(row.at, row.columns, row.width, row.bytes);
     let at = StripPlace {
         strips: 1,
         strip: 0,
@@ -106,11 +116,11 @@ fn paint_narrow(words: &[u64], row: RowPlace, rows: usize, band: &mut [u8])
         bytes: row.bytes,
         place,
     };
-    paint_strip(words, at, band);
+    paint_eight(words, at, band);
 }
 
-/// Paints rows of words in a band of as many rows.
-#[inline(always)]
+/// Paints rows of words in a band of as many rows, as far as the band has their columns.
+#[inline(never)]
 fn paint_words(words: &[u64], row: RowPlace, rows: usize, band: &mut [u8])
     requires words { strips row.columns * rows ≤ length words.now }
     requires band { length band.old ≡ row.bytes * rows }
@@ -118,11 +128,6 @@ fn paint_words(words: &[u64], row: RowPlace, rows: usize, band: &mut [u8])
         (λ i c. nat_lt c row.width && shown_in words.now row.columns row.at row.columns i c) band.old band.new }
 {
     let strips = strips_of(row.columns);
-    if strips == 1 {
-        // Most glyphs are so narrow.
-        paint_narrow(words, row, rows, band);
-        return;
-    }
     for strip in 0..strips {
         let place = place_of(
             strip_at(row.at, strip),
@@ -142,6 +147,7 @@ fn paint_words(words: &[u64], row: RowPlace, rows: usize, band: &mut [u8])
 }
 
 /// Paints the rows of words that a band shares.
+#[inline(always)]
 pub(crate) fn paint_shared(words: &[u64], row: RowPlace, shared: SharedRows, band: &mut [u8])
     requires words { strips row.columns * (shared.own + shared.count) ≤ length words.now }
     requires band { row.bytes * (shared.first + shared.count) ≤ length band.old }
@@ -149,8 +155,18 @@ pub(crate) fn paint_shared(words: &[u64], row: RowPlace, shared: SharedRows, ban
         && (nat_lt c row.width && shown_in words.now row.columns row.at row.columns (shared.own + (i - shared.first)) c)) band.old band.new }
 {
     let count = shared.count as usize;
-    let own = strips_of(row.columns) * shared.own as usize;
     let first = row.bytes * shared.first as usize;
+    if is_whole(row) {
+        // Most glyphs are so narrow, and lie in their picture.
+        paint_whole(
+            &words[shared.own as usize..],
+            row,
+            count,
+            &mut band[first..first + row.bytes * count],
+        );
+        return;
+    }
+    let own = strips_of(row.columns) * shared.own as usize;
     paint_words(
         &words[own..],
         row,

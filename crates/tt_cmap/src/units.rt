@@ -17,6 +17,10 @@ pub struct TextUnit {
 fn is_selector(c: char) -> bool
     ensures { result ≡ is_selector c }
 {
+    // Nearly all characters are below both ranges.
+    if (c as u32) < 0xFE00 {
+        return false;
+    }
     ('\u{FE00}'..='\u{FE0F}').contains(&c) || ('\u{E0100}'..='\u{E01EF}').contains(&c)
 }
 

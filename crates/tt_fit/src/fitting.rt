@@ -36,16 +36,17 @@ use tt_metrics::Metrics;
 
 /// Makes the outlines of a font at a size. Clauses see the glyph data, the metrics, the size, and when distances are
 /// rounded to whole pixels. They see what the font's programs gave, and which glyphs are unfitted. They also see the
-/// depth limit of components, the job's remaining work, and the source of the dropout rules.
+/// depth limit of components, the job's remaining work, and the source of the dropout rules. The large parts are in boxes,
+/// since each line moves the fitter.
 #[derive(Drop)]
 pub struct Fitter<'a> {
     pub(crate) alloc: Global,
-    pub(crate) metrics: Metrics<'a>,
+    pub(crate) metrics: Box<Metrics<'a>>,
     pub(crate) glyf: Glyf<'a>,
     pub(crate) ppem: u32,
     pub(crate) scaling: Scaling,
     pub(crate) grid: GridRule,
-    pub(crate) hinting: Hinting<'a>,
+    pub(crate) hinting: Box<Hinting<'a>>,
     /// Reused for the program of each glyph; None before the first. Not visible to clauses.
     pub(crate) machine: GlyphMachine<'a>,
     pub(crate) fallback: Fallback,
@@ -62,9 +63,9 @@ impl<'a> Model for Fitter<'a> {
 
     ghost Value = { fitting.Fitter };
 
-    ghost view = { λ f. record { tables = f.glyf; metrics = f.metrics; ppem = f.ppem; scaling = f.scaling; grid = f.grid; hinting = hinting_view f.hinting; fallback = fallback_view f.fallback; levels = f.levels; work = f.work.left; dropouts = f.dropouts } };
+    ghost view = { λ f. record { tables = f.glyf; metrics = f.metrics.value; ppem = f.ppem; scaling = f.scaling; grid = f.grid; hinting = hinting_view f.hinting.value; fallback = fallback_view f.fallback; levels = f.levels; work = f.work.left; dropouts = f.dropouts } };
 
-    ghost invariant = { λ f. IsFitter (record { tables = f.glyf; metrics = f.metrics; ppem = f.ppem; scaling = f.scaling; grid = f.grid; hinting = hinting_view f.hinting; fallback = fallback_view f.fallback; levels = f.levels; work = f.work.left; dropouts = f.dropouts }) };
+    ghost invariant = { λ f. IsFitter (record { tables = f.glyf; metrics = f.metrics.value; ppem = f.ppem; scaling = f.scaling; grid = f.grid; hinting = hinting_view f.hinting.value; fallback = fallback_view f.fallback; levels = f.levels; work = f.work.left; dropouts = f.dropouts }) };
 }
 
 impl<'a> Fitter<'a> {
@@ -103,9 +104,11 @@ impl<'a> Fitter<'a> {
             fallback,
             work,
         } = sized.prepared(alloc)?;
+        let metrics = Box::new(alloc, metrics.copy())?;
+        let hinting = Box::new(alloc, hinting)?;
         Ok(Fitter {
             alloc,
-            metrics: metrics.copy(),
+            metrics,
             glyf,
             ppem,
             scaling: rules_of(fit).scaling,
@@ -241,11 +244,12 @@ impl<'a> Fitter<'a> {
         ensures left { OnOk result (runner.new.work.left ≡ (after_glyph self.now g).work) }
         ensures refused { IfTold font_fault result (λ _. runner.new.work.left ≡ (after_glyph self.now g).work) }
     {
+        let hinting = self.hinting.as_ref();
         match self.fallback {
-            Fallback::Never => self.marked(&self.hinting, g, None, runner),
+            Fallback::Never => self.marked(hinting, g, None, runner),
             Fallback::Everywhere(fault) => self.marked(&Hinting::Off, g, Some(fault), runner),
             Fallback::WhereRefused => {
-                match self.outline(&self.hinting, self.levels, g, runner) {
+                match self.outline(hinting, self.levels, g, runner) {
                     Ok(mut outline) => {
                         outline.unfitted = None;
                         Ok(outline)

@@ -1,13 +1,12 @@
 -- All black pixels of a glyph with closed contours lie in the window of its box.
-use Rattle.std.proofs.Common.{◌≡◌, refl, ◌∙◌, ℕ, Bool, true, false, ◌&&◌, ◌||◌, List, [], ◌∷◌, map, length, arith}
+use Rattle.std.proofs.Common.{◌≡◌, refl, sym, subst, ◌∙◌, ℕ, Bool, true, false, ◌&&◌, ◌||◌, List, length, arith}
 use Rattle.std.specs.Prelude.{ℤ, IfSome, Option, Some, None}
 use Rattle.std.proofs.lemmas.Bool.{false≢true}
 use Rattle.std.proofs.lemmas.Int.{ints}
-use Rattle.tt_glyph_pixels.specs.Reach.{columns_by, count_of, rows_by, window_by}
+use Rattle.tt_glyph_pixels.specs.Reach.{columns_by, count_of, draws_dots, rows_by, window_by}
 use Rattle.tt_glyph_pixels.specs.Shown.{AreClosed, is_filled, shows}
 use Rattle.tt_scan.specs.Contours.{AreEnds, contours_at}
 use Rattle.tt_scan_dropouts.proofs.Clips.{box_has_it, dropout_boxed}
-use Rattle.tt_scan_dropouts.proofs.InBox.{edges_within}
 use Rattle.tt_scan_dropouts.proofs.InkedInBox.{inked_in_extents}
 use Rattle.tt_scan_dropouts.proofs.Outlines.{edges_at}
 use Rattle.tt_scan_dropouts.proofs.Reached.{box_reached}
@@ -17,54 +16,42 @@ use Rattle.tt_scan_dropouts.specs.declared.boxed.BoxedRules.{BoxedRules}
 use Rattle.tt_scan_dropouts.specs.declared.window.Window.{Window}
 use Rattle.tt_scan_edges.specs.Winding.{is_black}
 use Rattle.tt_scan_edges.specs.declared.edge.Edge.{Edge}
-use Rattle.tt_scan_gaps.specs.Boxes.{HoldsEdges, IsBoxOf, columns_in, columns_of, greatest_x, is_column_of, least_x, rows_in}
+use Rattle.tt_scan_gaps.specs.Boxes.{HoldsEdges, IsBoxOf, columns_reached, is_column_of, rows_reached}
 use Rattle.tt_scan_gaps.specs.Crossings.{centre}
-use Rattle.tt_scan_gaps.specs.Seen.{turned_round}
 use Rattle.tt_scan_gaps.specs.declared.extent.Extents.{Extents}
 use Rattle.tt_scan_gaps.specs.declared.mark.Columns.{Columns}
 
--- in the box of the edges
-inked_there : (es : List Edge) (c j : ℤ) → AreClosed es → is_black es (centre c) (centre j) ≡ true
-    → box_has (columns_of es) (columns_of (map turned_round es)) c j ≡ true
-inked_there [] c j closed is = absurd (false≢true is)
-inked_there (e ∷ es) c j closed is =
-    let all : List Edge = e ∷ es in
-    let b : Extents = record {
-      across = record { low = least_x e.ax all; high = greatest_x e.ax all };
-      up = record { low = least_x e.ay (map turned_round all); high = greatest_x e.ay (map turned_round all) };
+-- black by the edges
+inked_boxed : (b : Extents) (filled : Option BoxedRules) (es : List Edge) (c j : ℤ) → HoldsEdges b es → AreClosed es
+    → is_black es (centre c) (centre j) ≡ true → box_has (columns_by b filled) (rows_by b filled) c j ≡ true
+inked_boxed b filled es c j held closed is =
+    let rules : BoxedRules = record {
+      rules = record { stubs = false; smart = false; dots = draws_dots filled };
+      extents = b;
     } in
     let (contours, round, whole) = closed in
-    let held : HoldsEdges b (edges_of contours) = rw whole (edges_within e.ax e.ay all) in
-    let inked : is_inked contours c j ≡ true = rw whole is in
-    box_has_it (columns_in b) (rows_in b) c j (inked_in_extents b contours round held c j inked)
-
--- in the box of the rules
-inked_within : (rules : BoxedRules) (es : List Edge) (c j : ℤ) → HoldsEdges rules.extents es → AreClosed es
-    → is_black es (centre c) (centre j) ≡ true → box_has (columns_of_rules rules) (rows_of_rules rules) c j ≡ true
-inked_within rules es c j held closed is =
-    let (contours, round, whole) = closed in
-    let all : HoldsEdges rules.extents (edges_of contours) = rw whole held in
+    let all : HoldsEdges b (edges_of contours) = rw whole held in
     let inked : is_inked contours c j ≡ true = rw whole is in
     box_has_it (columns_of_rules rules) (rows_of_rules rules) c j
-    (box_reached rules c j (inked_in_extents rules.extents contours round all c j inked))
+    (box_reached rules c j (inked_in_extents b contours round all c j inked))
 
-inked_boxed : (filled : Option BoxedRules) (es : List Edge) (c j : ℤ) → IfSome filled (λ rules. IsBoxOf rules.extents es)
-    → AreClosed es → is_black es (centre c) (centre j) ≡ true
-    → box_has (columns_by es filled) (rows_by es filled) c j ≡ true
-inked_boxed None es c j boxed closed is = inked_there es c j closed is
-inked_boxed (Some rules) es c j boxed closed is = inked_within rules es c j boxed.held closed is
+-- black by a dropout
+filled_boxed : (b : Extents) (filled : Option BoxedRules) (es : List Edge) (ends : List ℕ) (c j : ℤ) → HoldsEdges b es
+    → IfSome filled (λ rules. rules.extents ≡ b) → IfSome filled (λ rules. AreEnds (length es) ends)
+    → is_filled filled (contours_at es ends) c j ≡ true → box_has (columns_by b filled) (rows_by b filled) c j ≡ true
+filled_boxed b None es ends c j held same are is = absurd (false≢true is)
+filled_boxed b (Some rules) es ends c j held same are is =
+    let own : HoldsEdges rules.extents es = subst (λ (x : Extents). HoldsEdges x es) (sym same) held in
+    let all : HoldsEdges rules.extents (edges_of (contours_at es ends)) = rw (edges_at es ends are) own in
+    let there : box_has (columns_of_rules rules) (rows_of_rules rules) c j ≡ true =
+    dropout_boxed rules (contours_at es ends) c j all is in
+    subst (λ (x : Extents). box_has (columns_reached rules.rules.dots x) (rows_reached rules.rules.dots x) c j ≡ true) same there
 
-filled_boxed : (filled : Option BoxedRules) (es : List Edge) (ends : List ℕ) (c j : ℤ)
-    → IfSome filled (λ rules. IsBoxOf rules.extents es) → IfSome filled (λ rules. AreEnds (length es) ends)
-    → is_filled filled (contours_at es ends) c j ≡ true → box_has (columns_by es filled) (rows_by es filled) c j ≡ true
-filled_boxed None es ends c j boxed are is = absurd (false≢true is)
-filled_boxed (Some rules) es ends c j boxed are is =
-    dropout_boxed rules (contours_at es ends) c j (rw (edges_at es ends are) boxed.held) is
-
--- a fact where dropouts are filled
-pub where_filled : (filled : Option BoxedRules) (A B : Type 0) → IfSome filled (λ rules. A) → (A → B) → IfSome filled (λ rules. B)
-where_filled None A B is more = tt
-where_filled (Some rules) A B is more = more is
+-- the box of the rules, which is that of the glyph
+pub rules_boxed : (b : Extents) (filled : Option BoxedRules) (es : List Edge) → IsBoxOf b es
+    → IfSome filled (λ rules. rules.extents ≡ b) → IfSome filled (λ rules. IsBoxOf rules.extents es)
+rules_boxed b None es boxed same = tt
+rules_boxed b (Some rules) es boxed same = subst (λ (x : Extents). IsBoxOf x es) (sym same) boxed
 
 -- a box and its window
 within : (b : Columns) (n : ℤ) → is_column_of b n ≡ true → is_within b.first (count_of b) n ≡ true
@@ -86,32 +73,33 @@ where_so false true so = let not : false ≡ true = so refl in absurd cc
 where_so false false so = refl
 
 -- a bitmap that was white, and then had the pixels of the window blackened by the edges
-pub all_inked : (filled : Option BoxedRules) (es : List Edge) (w : Window) (white inked : ℤ → ℤ → Bool)
-    → IfSome filled (λ rules. IsBoxOf rules.extents es) → AreClosed es
-    → w ≡ window_by (columns_by es filled) (rows_by es filled) → ((c j : ℤ) → white c j ≡ false)
+pub all_inked : (b : Extents) (filled : Option BoxedRules) (es : List Edge) (w : Window) (white inked : ℤ → ℤ → Bool)
+    → HoldsEdges b es → AreClosed es → w ≡ window_by (columns_by b filled) (rows_by b filled)
+    → ((c j : ℤ) → white c j ≡ false)
     → ((c j : ℤ) → inked c j ≡ (white c j || (has w c j && is_black es (centre c) (centre j))))
     → (c j : ℤ) → inked c j ≡ is_black es (centre c) (centre j)
-all_inked filled es w white inked boxed closed window first then c j =
-    let columns = columns_by es filled in
-    let rows = rows_by es filled in
+all_inked b filled es w white inked held closed window first then c j =
+    let columns = columns_by b filled in
+    let rows = rows_by b filled in
     then c j ∙ rw (
       first c j,
       where_so (has w c j) (is_black es (centre c) (centre j))
-          (λ is. rw window (in_window columns rows c j (inked_boxed filled es c j boxed closed is))),
+          (λ is. rw window (in_window columns rows c j (inked_boxed b filled es c j held closed is))),
     ) refl
 
 -- and then by the dropouts
-pub all_shown : (filled : Option BoxedRules) (es : List Edge) (ends : List ℕ) (w : Window) (white inked now : ℤ → ℤ → Bool)
-    → IfSome filled (λ rules. IsBoxOf rules.extents es) → IfSome filled (λ rules. AreEnds (length es) ends) → AreClosed es
-    → w ≡ window_by (columns_by es filled) (rows_by es filled) → ((c j : ℤ) → white c j ≡ false)
+pub all_shown : (b : Extents) (filled : Option BoxedRules) (es : List Edge) (ends : List ℕ) (w : Window)
+    (white inked now : ℤ → ℤ → Bool) → HoldsEdges b es → IfSome filled (λ rules. rules.extents ≡ b)
+    → IfSome filled (λ rules. AreEnds (length es) ends) → AreClosed es
+    → w ≡ window_by (columns_by b filled) (rows_by b filled) → ((c j : ℤ) → white c j ≡ false)
     → ((c j : ℤ) → inked c j ≡ (white c j || (has w c j && is_black es (centre c) (centre j))))
     → ((c j : ℤ) → now c j ≡ (inked c j || (has w c j && is_filled filled (contours_at es ends) c j)))
     → (c j : ℤ) → now c j ≡ shows es (contours_at es ends) filled c j
-all_shown filled es ends w white inked now boxed are closed window first then last c j =
-    let columns = columns_by es filled in
-    let rows = rows_by es filled in
+all_shown b filled es ends w white inked now held same are closed window first then last c j =
+    let columns = columns_by b filled in
+    let rows = rows_by b filled in
     let inked_so = where_so (has w c j) (is_black es (centre c) (centre j))
-    (λ is. rw window (in_window columns rows c j (inked_boxed filled es c j boxed closed is))) in
+    (λ is. rw window (in_window columns rows c j (inked_boxed b filled es c j held closed is))) in
     let filled_so = where_so (has w c j) (is_filled filled (contours_at es ends) c j)
-    (λ is. rw window (in_window columns rows c j (filled_boxed filled es ends c j boxed are is))) in
+    (λ is. rw window (in_window columns rows c j (filled_boxed b filled es ends c j held same are is))) in
     last c j ∙ rw (then c j, first c j, inked_so, filled_so) refl

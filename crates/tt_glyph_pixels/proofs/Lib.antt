@@ -1,3 +1,4 @@
 mod Boxed
 mod Lines
+mod Stamps
 mod Tested

@@ -1,24 +1,25 @@
 -- No part of the standard: the columns and the lines that the black pixels of a glyph may lie in, and the limits of a
 -- bitmap (profile).
-use Rattle.std.specs.Prelude.{◌≡◌, ◌⊎◌, refl, ℕ, ◌+◌, ◌*◌, ◌<◌, pos, negsuc, ◌-ℤ◌, unsigned_abs, List, map, Option, Some, None}
+use Rattle.std.specs.Prelude.{◌≡◌, ◌⊎◌, refl, ℕ, ◌+◌, ◌*◌, ◌<◌, Bool, true, false, pos, negsuc, ◌-ℤ◌, unsigned_abs, Option, Some, None}
 use Rattle.tt_bitmap.specs.Bitmaps.{strips}
 use Rattle.tt_core.specs.Limits.{height_limit, width_limit}
-use Rattle.tt_scan_dropouts.specs.Dropouts.{columns_of_rules, rows_of_rules}
 use Rattle.tt_scan_dropouts.specs.declared.boxed.BoxedRules.{BoxedRules}
 use Rattle.tt_scan_dropouts.specs.declared.window.Window.{Window}
-use Rattle.tt_scan_edges.specs.declared.edge.Edge.{Edge}
-use Rattle.tt_scan_gaps.specs.Boxes.{columns_of}
-use Rattle.tt_scan_gaps.specs.Seen.{turned_round}
+use Rattle.tt_scan_gaps.specs.Boxes.{columns_reached, rows_reached}
+use Rattle.tt_scan_gaps.specs.declared.extent.Extents.{Extents}
 use Rattle.tt_scan_gaps.specs.declared.mark.Columns.{Columns}
 
--- the columns and the lines of the box of the dropout rules, or of the edges where no dropouts are filled
-abbrev pub columns_by : List Edge → Option BoxedRules → Columns
-columns_by es None = columns_of es
-columns_by es (Some rules) = columns_of_rules rules
+-- dots are drawn: dropouts are filled, by rules with dots
+abbrev pub draws_dots : Option BoxedRules → Bool
+draws_dots None = false
+draws_dots (Some rules) = rules.rules.dots
 
-abbrev pub rows_by : List Edge → Option BoxedRules → Columns
-rows_by es None = columns_of (map turned_round es)
-rows_by es (Some rules) = rows_of_rules rules
+-- the columns and the lines that the black pixels of a glyph may lie in, by its box
+abbrev pub columns_by : Extents → Option BoxedRules → Columns
+columns_by b filled = columns_reached (draws_dots filled) b
+
+abbrev pub rows_by : Extents → Option BoxedRules → Columns
+rows_by b filled = rows_reached (draws_dots filled) b
 
 -- how many numbers there are from a first to a last
 abbrev pub count_of : Columns → ℕ
@@ -42,7 +43,34 @@ abbrev pub IsLarge : ℕ → Columns → Columns → Type 0
 IsLarge most columns rows =
     (width_limit < count_of columns) ⊎ ((height_limit < count_of rows) ⊎ (most < bytes_by columns rows))
 
--- worked values: 57 columns from column -2 on, and the two lines at the base line
+-- worked values: a box from the middle of column -1 to that of column 1, and from the base line to the middle of line 0
+small_box : Extents
+small_box = record { across = record { low = negsuc 4095; high = pos 12288 }; up = record { low = pos 0; high = pos 4096 } }
+
+by_rules : Bool → Option BoxedRules
+by_rules dots = Some (record { rules = record { stubs = true; smart = true; dots = dots }; extents = small_box })
+
+its_own_columns_without_dropouts : columns_by small_box None ≡ record { first = negsuc 0; last = pos 1 }
+unfolding small_box
+its_own_columns_without_dropouts = refl
+
+the_same_with_dropouts : columns_by small_box (by_rules false) ≡ record { first = negsuc 0; last = pos 1 }
+unfolding small_box by_rules
+the_same_with_dropouts = refl
+
+a_column_more_on_each_side_with_dots : columns_by small_box (by_rules true) ≡ record { first = negsuc 1; last = pos 2 }
+unfolding small_box by_rules
+a_column_more_on_each_side_with_dots = refl
+
+its_line_without_dropouts : rows_by small_box None ≡ record { first = pos 0; last = pos 0 }
+unfolding small_box
+its_line_without_dropouts = refl
+
+a_line_more_above_and_below_with_dots : rows_by small_box (by_rules true) ≡ record { first = negsuc 0; last = pos 1 }
+unfolding small_box by_rules
+a_line_more_above_and_below_with_dots = refl
+
+-- 57 columns from column -2 on, and the two lines at the base line
 columns_57 : Columns
 columns_57 = record { first = negsuc 1; last = pos 54 }
 

@@ -64,7 +64,7 @@ pub(crate) fn blacken_filled(
     filled: Option<BoxedRules>,
     window: Window,
 ) -> Result<(), AllocError>
-    requires window { IfSome filled (λ _. WindowFits (widened 2 window)) }
+    requires window { WindowFits (widened 2 window) }
     requires has { (c j : ℤ) → has bitmap.old c j ≡ windows.has window c j }
     requires inked { (c j : ℤ) → is_black bitmap.old c j ≡ winding.is_black tape.now.edges (centre c) (centre j) }
     requires few { length tape.now.edges ≤ 2 ^ 32 }

@@ -15,7 +15,7 @@ use crate::rows::{blacken_inked, white};
 use std::alloc::{AllocError, Global};
 use tt_bitmap::{BoxBitmap, LeastBox};
 use tt_scan::Tape;
-use tt_scan_dropouts::BoxedRules;
+use tt_scan_dropouts::{BoxedRules, Extents};
 
 /// The black pixels of a glyph at pen 0.
 #[derive(Drop)]
@@ -26,20 +26,21 @@ pub struct GlyphPixels {
     pub ghost near: { IfSome ink IsNear } by { Prim.hlevel props },
 }
 
-/// All black pixels of a glyph at pen 0. The tape has the glyph's edges. In the frame of `glyph_frame` the lines are cut
-/// from the tape itself, in any other from a copy. The contours are closed. Where dropouts are filled, each contour ends
-/// before the edge of a number in `ends`. None where the glyph's box has more columns or lines than the greatest picture,
-/// or the bitmap takes more than `most` bytes. Error: memory ran out.
+/// All black pixels of a glyph at pen 0. The tape has the glyph's edges, and `extents` is a box that holds them. In the frame
+/// of `glyph_frame` the lines are cut from the tape itself, in any other from a copy. The contours are closed. Where dropouts
+/// are filled, the box is that of the rules, and each contour ends before the edge of a number in `ends`. None where the box
+/// has more columns or lines than the greatest picture, or the bitmap takes more than `most` bytes. Error: memory ran out.
 pub fn pixels_of(
     alloc: Global,
     tape: &mut Tape,
     ends: &[usize],
     filled: Option<BoxedRules>,
+    extents: Extents,
     most: usize,
 ) -> Result<Option<GlyphPixels>, AllocError>
     requires few { length tape.old.edges ≤ 2 ^ 32 }
     requires fresh { tape.old.crosses ≡ 0 }
-    requires boxed { IfSome filled (λ rules. IsBoxOf rules.extents tape.old.edges) }
+    requires boxed { IsBoxOf extents tape.old.edges × IfSome filled (λ rules. rules.extents ≡ extents) }
     requires ends { IfSome filled (λ rules. AreEnds (length tape.old.edges) ends.now) }
     requires closed { AreClosed tape.old.edges }
     requires round { IfSome filled (λ rules. All IsClosed (contours_at tape.old.edges ends.now)) }
@@ -47,12 +48,11 @@ pub fn pixels_of(
         ≡ shows tape.old.edges (contours_at tape.old.edges ends.now) filled c j)) }
     ensures ink { IfOk result (λ o. IfSome o (λ g. IsInk (is_black g.bitmap) g.ink)) }
     ensures held { IfOk result (λ o. IfSome o (λ g. 8 * (strips g.bitmap.width * g.bitmap.height) ≤ most)) }
-    ensures large { IfOk result (λ o. IfNone o (IsLarge most (columns_by tape.old.edges filled)
-        (rows_by tape.old.edges filled))) }
+    ensures large { IfOk result (λ o. IfNone o (IsLarge most (columns_by extents filled) (rows_by extents filled))) }
     ensures edges { OnOk result (tape.new.edges ≡ tape.old.edges) }
     ensures kept { IfOk result (λ o. IfNone o (tape.new ≡ tape.old)) }
 {
-    let Some(window) = window_within(tape, filled, most) else {
+    let Some(window) = window_within(extents, filled, most) else {
         return Ok(None);
     };
     let mut bitmap = white(alloc, window)?;

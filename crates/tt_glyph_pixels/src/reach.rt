@@ -10,22 +10,22 @@ ghost use Rattle.tt_scan_gaps.specs.Boxes.{ColumnsFit, ColumnsNear, ExtentsFit};
 
 use tt_bitmap::bytes_of;
 use tt_core::{HEIGHT_LIMIT, WIDTH_LIMIT};
-use tt_scan::{EdgeList, Frame, Tape};
-use tt_scan_dropouts::{
-    BoxedRules, Columns, Extent, Extents, Window, box_of, pixels_in, pixels_reached,
-};
+use tt_scan::Frame;
+use tt_scan_dropouts::{BoxedRules, Columns, Extents, Window, pixels_reached};
 
-/// The columns and the lines that the black pixels of a glyph may lie in: those of the rules' box, or of its edges.
-fn reached(tape: &Tape, filled: Option<BoxedRules>) -> (Columns, Columns)
-    requires boxed { IfSome filled (λ rules. ExtentsFit rules.extents) }
-    ensures columns { result.0 ≡ columns_by tape.now.edges filled }
-    ensures rows { result.1 ≡ rows_by tape.now.edges filled }
+/// The columns and the lines that the black pixels of a glyph may lie in: those of its box, and one more on each side where
+/// dots are drawn.
+#[inline(always)]
+fn reached(extents: Extents, filled: Option<BoxedRules>) -> (Columns, Columns)
+    requires { ExtentsFit extents }
+    ensures columns { result.0 ≡ columns_by extents filled }
+    ensures rows { result.1 ≡ rows_by extents filled }
     ensures fit { ColumnsFit result.0 × ColumnsFit result.1 }
-    ensures near { IfSome filled (λ _. ColumnsNear result.0 × ColumnsNear result.1) }
+    ensures near { ColumnsNear result.0 × ColumnsNear result.1 }
 {
     match filled {
-        Some(rules) => pixels_reached(rules.extents, rules.rules.dots),
-        None => box_of(tape.lend()),
+        Some(rules) => pixels_reached(extents, rules.rules.dots),
+        None => pixels_reached(extents, false),
     }
 }
 
@@ -60,36 +60,26 @@ fn window_of(columns: Columns, rows: Columns) -> Option<Window>
     })
 }
 
-/// The window that the black pixels of a glyph lie in. None where it has more columns or lines than the greatest picture,
-/// or its bitmap takes more than `most` bytes.
-pub(crate) fn window_within(tape: &Tape, filled: Option<BoxedRules>, most: usize) -> Option<Window>
-    requires boxed { IfSome filled (λ rules. ExtentsFit rules.extents) }
-    ensures exact { IfSome result (λ w. w ≡ window_by (columns_by tape.now.edges filled) (rows_by tape.now.edges filled)) }
+/// The window that the black pixels of a glyph lie in, by its box. None where it has more columns or lines than the greatest
+/// picture, or its bitmap takes more than `most` bytes.
+pub(crate) fn window_within(
+    extents: Extents,
+    filled: Option<BoxedRules>,
+    most: usize,
+) -> Option<Window>
+    requires { ExtentsFit extents }
+    ensures exact { IfSome result (λ w. w ≡ window_by (columns_by extents filled) (rows_by extents filled)) }
     ensures fits { IfSome result WindowFits }
-    ensures near { IfSome result (λ w. IfSome filled (λ _. WindowFits (widened 2 w))) }
+    ensures near { IfSome result (λ w. WindowFits (widened 2 w)) }
     ensures held { IfSome result (λ w. 8 * (strips w.width * w.height) ≤ most) }
-    ensures large { IfNone result (IsLarge most (columns_by tape.now.edges filled) (rows_by tape.now.edges filled)) }
+    ensures large { IfNone result (IsLarge most (columns_by extents filled) (rows_by extents filled)) }
 {
-    let (columns, rows) = reached(tape, filled);
+    let (columns, rows) = reached(extents, filled);
     let window = window_of(columns, rows)?;
     if bytes_of(window.width, window.height) > most {
         return None;
     }
     Some(window)
-}
-
-/// The lines of the box of edges; line 0 where there are no edges.
-fn rows_of(list: &EdgeList) -> Columns
-    ensures { ColumnsFit result }
-{
-    match list.heights() {
-        Some((low, high)) => {
-            let up = Extent { low, high };
-            let (_, rows) = pixels_in(Extents { across: up, up });
-            rows
-        }
-        None => Columns { first: 0, last: 0 },
-    }
 }
 
 /// A frame with some lines, from the highest down. It has one line where they are more than those of the greatest picture.
@@ -114,16 +104,12 @@ fn frame_by(rows: Columns) -> Frame
     }
 }
 
-/// The frame for a tape of a glyph's edges at pen 0. `pixels_of` then cuts the lines without a second tape.
-pub fn glyph_frame(list: &EdgeList, filled: Option<BoxedRules>) -> Frame
-    requires boxed { IfSome filled (λ rules. ExtentsFit rules.extents) }
+/// The frame for a tape of a glyph's edges at pen 0, by the glyph's box. `pixels_of` then cuts the lines without a second
+/// tape.
+pub fn glyph_frame(extents: Extents, filled: Option<BoxedRules>) -> Frame
+    requires { ExtentsFit extents }
     ensures { FrameFits result }
 {
-    match filled {
-        Some(rules) => {
-            let (_, rows) = pixels_reached(rules.extents, rules.rules.dots);
-            frame_by(rows)
-        }
-        None => frame_by(rows_of(list)),
-    }
+    let (_, rows) = reached(extents, filled);
+    frame_by(rows)
 }

@@ -65,7 +65,6 @@ fn is_frame_of(frame: Frame, window: Window) -> bool
 }
 
 /// Blackens the pixels of a line that spans cover, as far as the bitmap has them.
-#[inline(always)]
 fn blacken_spans(bitmap: &mut BoxBitmap, line: i64, spans: &[Span])
     ensures black { (c j : ℤ) → is_black bitmap.new c j
         ≡ (is_black bitmap.old c j || (has bitmap.old c j && (int_eq j line && covers spans.now c))) }
@@ -74,6 +73,35 @@ fn blacken_spans(bitmap: &mut BoxBitmap, line: i64, spans: &[Span])
     for span in spans {
         bitmap.blacken_span(line, span.first, span.last);
     }
+}
+
+/// Blackens the pixels of a line that a sweep has as one word, if the bitmap has them all, and in one word. Returns whether
+/// it has; else nothing is changed.
+#[inline(always)]
+fn blacken_stamp(bitmap: &mut BoxBitmap, line: i64, sweep: &Sweep) -> bool
+    ensures black { result ≡ true → (c j : ℤ) → is_black bitmap.new c j
+        ≡ (is_black bitmap.old c j || (int_eq j line && covers sweep.now.spans c)) }
+    ensures kept { result ≡ false → bitmap.new ≡ bitmap.old }
+    ensures place { bitmap.new ≡ record bitmap.old { words = bitmap.new.words } }
+{
+    match sweep.stamp() {
+        Some(stamp) => bitmap.blacken_word(line, stamp.low, stamp.columns, stamp.word),
+        None => false,
+    }
+}
+
+/// Blackens the pixels of a line that a sweep has, as far as the bitmap has them.
+#[inline(always)]
+fn blacken_swept(bitmap: &mut BoxBitmap, line: i64, sweep: &Sweep)
+    ensures black { (c j : ℤ) → is_black bitmap.new c j
+        ≡ (is_black bitmap.old c j || (has bitmap.old c j && (int_eq j line && covers sweep.now.spans c))) }
+    ensures place { bitmap.new ≡ record bitmap.old { words = bitmap.new.words } }
+{
+    // Most lines of a glyph are one word.
+    if blacken_stamp(bitmap, line, sweep) {
+        return;
+    }
+    blacken_spans(bitmap, line, sweep.spans());
 }
 
 /// Blackens the pixels of a window that the edges of a tape blacken by rules 1 and 2. The bitmap has the window's pixels,
@@ -94,7 +122,7 @@ fn blacken_rows(bitmap: &mut BoxBitmap, tape: &mut Tape, sweep: &mut Sweep, wind
     for r in 0..window.height {
         let row = i64::from(r);
         sweep.cut(tape, row);
-        blacken_spans(bitmap, top - row, sweep.spans());
+        blacken_swept(bitmap, top - row, sweep);
     }
 }
 

@@ -86,6 +86,8 @@ is_of s g e r has edged = record {
 pub same_fits : (e f : EdgedOutline) → IsSameGlyph e f → EdgedFits e → EdgedFits f
 same_fits e f is fits = rw is.same (record {
   few = rw is.edges fits.few;
+  held = rw is.edges fits.held;
+  same = fits.same;
   boxed = rw is.edges fits.boxed;
   ends = rw is.edges fits.ends;
   closed = rw is.edges fits.closed;

@@ -1,5 +1,4 @@
 pub mod BitmapRows
-pub mod BoxedRules
 pub mod Charged
 pub mod DrawnGlyphs
 pub mod EdgesMade

@@ -1,9 +1,14 @@
--- The column and the row of a glyph's pixel among the rows of its ink.
-use Rattle.std.proofs.Common.{◌≡◌, ◌≢◌, ℕ, ◌^◌, ◌<◌, false, ◌==◌, ℤ, pos, ◌+ℤ◌, ◌-ℤ◌, SFits, w64, inl, inr, arith}
-use Rattle.std.proofs.lemmas.Bool.{cases_Bool}
+-- The pixels of a glyph in the place of its ink, and their columns and rows among the rows of the place.
+use Rattle.std.proofs.Common.{◌≡◌, ◌∙◌, refl, sym, ℕ, zero, suc, ◌<◌, Bool, true, false, ◌&&◌, ◌==◌, ℤ, pos, ◌+ℤ◌, ◌-ℤ◌, List, [], ◌∷◌, length, get_or, All, arith}
 use Rattle.std.proofs.lemmas.Bool.Decides.{nat_tests}
 use Rattle.std.proofs.lemmas.Int.{ints}
 use Rattle.std.specs.Ordering.{int_eq}
+use Rattle.tt_scan_dropouts.specs.Passes.{has_pixel}
+use Rattle.tt_scan_dropouts.specs.Windows.{has}
+use Rattle.tt_scan_dropouts.specs.declared.pixel.Pixel.{Pixel}
+use Rattle.tt_scan_dropouts.specs.declared.window.Window.{Window}
+use Rattle.tt_glyphs.specs.declared.place.InkPlace.{InkPlace}
+use Rattle.tt_glyphs.specs.Drawn.{IsPixelIn, window_by}
 
 -- by their distances from the left side and from the upper edge
 pub same_column : (left : ℤ) (c k : ℕ) (column : ℤ) → column -ℤ left ≡ pos k → (k == c) ≡ int_eq column (left +ℤ pos c)
@@ -12,33 +17,30 @@ same_column left c k column is = grind (arith, ints, nat_tests, is)
 pub same_row : (top : ℤ) (r k : ℕ) (row : ℤ) → (top -ℤ pos 1) -ℤ row ≡ pos k → (k == r) ≡ int_eq row ((top -ℤ pos 1) -ℤ pos r)
 same_row top r k row is = grind (arith, ints, nat_tests, is)
 
-pub no_column : (left : ℤ) (c : ℕ) (column : ℤ) → column -ℤ left ≢ pos c → int_eq column (left +ℤ pos c) ≡ false
-no_column left c column other = elim (cases_Bool (int_eq column (left +ℤ pos c))) [
-  | inl is ↦ absurd (other (grind (arith, ints, is)))
-  | inr not ↦ not
-]
+-- a list has each of its pixels
+is_listed : (ps : List Pixel) (i : ℕ) (d : Pixel) → i < length ps
+    → has_pixel ps (get_or ps i d).column (get_or ps i d).row ≡ true
+is_listed [] i d below = absurd (omega arith)
+is_listed (p ∷ ps) zero d below = grind (arith, ints)
+is_listed (p ∷ ps) (suc i) d below = let rest = is_listed ps i d (omega arith) in grind (arith, rest)
 
-pub no_row : (top : ℤ) (r : ℕ) (row : ℤ) → (top -ℤ pos 1) -ℤ row ≢ pos r → int_eq row ((top -ℤ pos 1) -ℤ pos r) ≡ false
-no_row top r row other = elim (cases_Bool (int_eq row ((top -ℤ pos 1) -ℤ pos r))) [
-  | inl is ↦ absurd (other (grind (arith, ints, is)))
-  | inr not ↦ not
-]
+first_true : (a b : Bool) → (a && b) ≡ true → a ≡ true
+first_true true b is = refl
+first_true false b is = absurd cc
 
--- a distance too great for a number of 64 bits
-pub far_column : (left : ℤ) (c : ℕ) (column : ℤ) → c < 2 ^ 32 → (SFits w64 (column -ℤ left) → ⊥)
-    → int_eq column (left +ℤ pos c) ≡ false
-far_column left c column small far = elim (cases_Bool (int_eq column (left +ℤ pos c))) [
-  | inl is ↦
-      let at : column ≡ left +ℤ pos c = grind (arith, ints, is) in
-      absurd (far (omega (arith, ints, at, small)))
-  | inr not ↦ not
-]
+-- so those of a window are pixels of its place
+in_window : (p : InkPlace) (x : Pixel) → has (window_by p) x.column x.row ≡ true → IsPixelIn p x
+in_window p x is = record {
+  left = grind (arith, ints, is);
+  right = grind (arith, ints, is);
+  bottom = grind (arith, ints, is);
+  top = grind (arith, ints, is);
+}
 
-pub far_row : (top : ℤ) (r : ℕ) (row : ℤ) → r < 2 ^ 32 → (SFits w64 ((top -ℤ pos 1) -ℤ row) → ⊥)
-    → int_eq row ((top -ℤ pos 1) -ℤ pos r) ≡ false
-far_row top r row small far = elim (cases_Bool (int_eq row ((top -ℤ pos 1) -ℤ pos r))) [
-  | inl is ↦
-      let at : row ≡ (top -ℤ pos 1) -ℤ pos r = grind (arith, ints, is) in
-      absurd (far (omega (arith, ints, at, small)))
-  | inr not ↦ not
-]
+pub in_place : (p : InkPlace) (ps : List Pixel) (w : Window) (shown : ℤ → ℤ → Bool) → w ≡ window_by p
+    → ((c j : ℤ) → has_pixel ps c j ≡ (has w c j && shown c j)) → All (IsPixelIn p) ps
+in_place p ps w shown is told = λ i d below.
+    let x = get_or ps i d in
+    let both : (has w x.column x.row && shown x.column x.row) ≡ true = sym (told x.column x.row) ∙ is_listed ps i d below in
+    let inside = first_true (has w x.column x.row) (shown x.column x.row) both in
+    in_window p x (rw is at inside)

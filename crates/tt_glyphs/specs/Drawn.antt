@@ -1,5 +1,5 @@
 -- No part of the standard: a glyph that is drawn, whose rows are made of its bitmap, or of its edges and dropouts.
-use Rattle.std.specs.Prelude.{◌≡◌, ℕ, ◌+◌, ◌*◌, ◌^◌, ◌<◌, ◌≤◌, Bool, ◌&&◌, ◌||◌, ℤ, pos, ◌+ℤ◌, ◌-ℤ◌, unsigned_abs, List, [], length, Option, Some, None}
+use Rattle.std.specs.Prelude.{◌≡◌, ℕ, ◌+◌, ◌*◌, ◌^◌, ◌<◌, ◌≤◌, Bool, ◌&&◌, ◌||◌, ℤ, pos, ◌+ℤ◌, ◌-ℤ◌, ◌≤ℤ◌, ◌<ℤ◌, unsigned_abs, List, [], length, Option, Some, None}
 use Rattle.std.specs.Ordering.{int_eq}
 use Rattle.tt_core.specs.Bits.{stride}
 use Rattle.tt_core.specs.Limits.{height_limit, width_limit}
@@ -9,6 +9,7 @@ use Rattle.tt_fit.specs.Fitting.{Fitter}
 use Rattle.tt_picture.specs.declared.fitting.LineLimits.{LineLimits}
 use Rattle.tt_picture.specs.Rows.{rows}
 use Rattle.tt_scan_dropouts.specs.declared.pixel.Pixel.{Pixel}
+use Rattle.tt_scan_dropouts.specs.declared.window.Window.{Window}
 use Rattle.tt_scan_dropouts.specs.Pictures.{AreDropouts, is_among}
 use Rattle.tt_scan_edges.specs.declared.edge.Frame.{Frame}
 use Rattle.tt_scan_edges.specs.Winding.{is_black}
@@ -44,6 +45,16 @@ line_of p r = (p.top -ℤ pos 1) -ℤ pos r
 
 abbrev pub frame_of : InkPlace → Frame
 frame_of p = record { width = p.width; height = p.height; margin = 0; rise = p.top }
+
+-- the pixels of a place, counted from the pen and the base line
+abbrev pub window_by : InkPlace → Window
+window_by p = record { left = p.left; bottom = p.top -ℤ pos p.height; width = p.width; height = p.height }
+
+pub record IsPixelIn (p : InkPlace) (pixel : Pixel) : Type 0 where
+  pub left : p.left ≤ℤ pixel.column
+  pub right : pixel.column <ℤ (p.left +ℤ pos p.width)
+  pub bottom : (p.top -ℤ pos p.height) ≤ℤ pixel.row
+  pub top : pixel.row <ℤ p.top
 
 abbrev pub is_pixel_of : InkPlace → Pixel → ℕ → ℕ → Bool
 is_pixel_of p pixel c r = int_eq pixel.column (column_of p c) && int_eq pixel.row (line_of p r)

@@ -23,10 +23,12 @@ inked_by e c j = shows e.tape.edges (contours_at e.tape.edges e.ends.items) e.fi
 abbrev pub ink_of : EdgedOutline → Option LeastBox
 ink_of e = ink_by e.tape.edges (contours_at e.tape.edges e.ends.items) e.filled
 
--- the edges are few, lie in the box of the dropout rules, and their contours are closed and end among them. The box of
--- their ink is near
+-- the edges are few and lie in their box, which is that of the dropout rules. Their contours are closed and end among
+-- them. The box of their ink is near
 pub record EdgedFits (e : EdgedOutline) : Type 0 where
   pub few : length e.tape.edges ≤ 2 ^ 19
+  pub held : IsBoxOf e.extents e.tape.edges
+  pub same : IfSome e.filled (λ rules. rules.extents ≡ e.extents)
   pub boxed : IfSome e.filled (λ rules. IsBoxOf rules.extents e.tape.edges)
   pub ends : IfSome e.filled (λ rules. AreEnds (length e.tape.edges) e.ends.items)
   pub closed : AreClosed e.tape.edges

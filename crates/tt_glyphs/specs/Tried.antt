@@ -9,7 +9,6 @@ use Rattle.tt_picture.specs.declared.fitting.LineLimits.{LineLimits}
 use Rattle.tt_picture.specs.Shapes.{chords_with, edges_at, extents_of, filled_by, filling_crossings}
 use Rattle.tt_picture.specs.Steps.{chords_of}
 use Rattle.tt_scan_dropouts.specs.Counted.{edges_counted}
-use Rattle.tt_scan_gaps.specs.Boxes.{ExtentsFit}
 use Rattle.tt_glyphs.specs.declared.ruled.TriedBody.{TriedBody}
 use Rattle.tt_glyphs.specs.declared.ruled.TriedBody.TheVariants as body
 use Rattle.tt_glyphs.specs.declared.ruled.TriedGlyph.{TriedGlyph}
@@ -24,9 +23,9 @@ ruled_by s g (Err fault) = body.Refused fault
 abbrev pub tried_glyph : Fitter → ℕ → TriedGlyph
 tried_glyph s g = record { number = g; body = ruled_by s g (fitted_outline s g) }
 
--- the dropout rules of an outline have its box, which is within the limits
+-- the dropout rules of an outline have its box
 abbrev pub IsRuled : RuledOutline → Type 0
-IsRuled r = IfSome r.filled (λ rules. (rules.extents ≡ extents_of r.outline) × ExtentsFit rules.extents)
+IsRuled r = IfSome r.filled (λ rules. rules.extents ≡ extents_of r.outline)
 
 abbrev pub IsRuledBody : TriedBody → Type 0
 IsRuledBody (body.Ruled r) = IsRuled r

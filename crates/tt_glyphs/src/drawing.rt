@@ -38,7 +38,7 @@ pub(crate) struct DrawnGlyph {
     pub(crate) bitmap: Option<GlyphRows>,
 }
 
-/// A glyph of which no row is made.
+/// A glyph without rows.
 fn rowless(number: u16, told: Told) -> DrawnGlyph
     ensures { result ≡ record { number = number; told = told; bitmap = None } }
 {
@@ -126,6 +126,7 @@ fn drawn(
         &mut edged.tape,
         &edged.ends,
         edged.filled,
+        edged.extents,
         most,
     )?;
     let ink = ink_of(source.alloc, &edged, &pixels)?;

@@ -17,9 +17,9 @@ use tt_arc::OutlineEdges;
 use tt_bitmap::{LeastBox, joined};
 use tt_core::Fault;
 use tt_glyph_pixels::{GlyphPixels, glyph_frame};
-use tt_picture::{edges_of, tape_crossings};
+use tt_picture::{box_of, edges_of, tape_crossings};
 use tt_scan::Tape;
-use tt_scan_dropouts::BoxedRules;
+use tt_scan_dropouts::{BoxedRules, Extents};
 use tt_scan_ink::{dropouts_ink, edges_ink};
 
 /// The edges of an outline at pen 0.
@@ -29,6 +29,8 @@ pub(crate) struct EdgedOutline {
     /// The number of edges up to the end of each contour; empty where no dropouts are filled.
     pub(crate) ends: Vec<usize>,
     pub(crate) filled: Option<BoxedRules>,
+    /// The box of its points, which holds its edges.
+    pub(crate) extents: Extents,
     /// The number of its chords and straight edges.
     pub(crate) chords: usize,
     /// The pixels from its pen to the next, by its outline.
@@ -49,17 +51,16 @@ pub(crate) fn edged(alloc: Global, ruled: RuledOutline) -> Result<EdgedOutline, 
         rule,
         filled,
     } = ruled;
+    let extents = box_of(&outline, filled);
     let made = edges_of(alloc, &outline, rule, filled)?;
     let OutlineEdges { list, ends, chords } = made;
-    let frame = glyph_frame(&list, filled);
-    let tape = Tape::of(alloc, frame, list)?;
-    // What is lent is near, and so is its ink.
-    let _ = tape.lend();
+    let tape = Tape::of(alloc, glyph_frame(extents, filled), list)?;
     tt_arc::laws::contours_joined();
     Ok(EdgedOutline {
         tape,
         ends,
         filled,
+        extents,
         chords,
         step: outline.step(),
         unfitted: outline.unfitted,

@@ -16,7 +16,7 @@ fn known_number(count: u16, glyph: u32) -> Option<u16>
     }
 }
 
-/// The numbers of a list that are below the count of the font's glyphs, as a line in which all stand at pen 0. Error:
+/// The numbers of a list that are below the count of the font's glyphs, as a line whose glyphs all stand at pen 0. Error:
 /// memory ran out.
 pub(crate) fn known_line(
     alloc: Global,

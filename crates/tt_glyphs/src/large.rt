@@ -1,15 +1,15 @@
 //! The rows of a glyph whose bitmap would take too many bytes: by its edges, and then its dropouts.
 
-ghost use Rattle.std.specs.Prelude.{◌≡◌, ◌≢◌, ℕ, ℤ, ◌+◌, ◌^◌, ◌≤◌, ◌<◌, ◌||◌, ◌&&◌, true, false, pos, length, IfNone, IfOk, IfSome, OnOk};
+ghost use Rattle.std.specs.Prelude.{◌≡◌, ℕ, ℤ, ◌+◌, ◌^◌, ◌≤◌, ◌<◌, ◌≤ℤ◌, ◌-ℤ◌, ◌&&◌, true, pos, length, unsigned_abs, All, IfOk};
 ghost use Rattle.tt_core.specs.Bits.{stride};
 ghost use Rattle.tt_glyphs.specs.Bitmaps.{place_bytes};
-ghost use Rattle.tt_glyphs.specs.Drawn.{IsInked, LargeFits, column_of, edged_pixel, frame_of, is_pixel_of, large_row, large_rows, line_of};
+ghost use Rattle.tt_glyphs.specs.Drawn.{IsInked, IsPixelIn, LargeFits, column_of, edged_pixel, frame_of, is_pixel_of, large_row, large_rows, line_of, window_by};
 ghost use Rattle.tt_glyphs.specs.Edged.{EdgedFits};
 ghost use Rattle.tt_glyph_pixels.specs.Shown.{is_filled};
 ghost use Rattle.tt_picture.specs.Rows.{rows};
 ghost use Rattle.tt_scan.specs.Contours.{contours_at};
 ghost use Rattle.tt_scan_dropouts.specs.Passes.{has_pixel};
-ghost use Rattle.tt_scan_dropouts.specs.Pictures.{AreDropouts, AreInColumns, is_among, is_at};
+ghost use Rattle.tt_scan_dropouts.specs.Pictures.{AreDropouts, is_among, is_at};
 ghost use Rattle.tt_scan_dropouts.specs.Windows.{WindowFits, has, widened};
 ghost use Rattle.tt_scan_edges.specs.Winding.{FrameFits};
 
@@ -58,6 +58,7 @@ fn frame_of(place: InkPlace) -> Frame
 /// The pixels of a place, counted from the pen and the base line.
 fn window_of(place: InkPlace) -> Window
     requires { IsInked place }
+    ensures exact { result ≡ window_by place }
     ensures fits { WindowFits (widened 2 result) }
     ensures has { (c r : ℕ) → c < place.width → r < place.height → has result (column_of place c) (line_of place r) ≡ true }
 {
@@ -69,55 +70,41 @@ fn window_of(place: InkPlace) -> Window
     }
 }
 
-/// The column and row of a place's rows for a pixel counted from the pen; None where the rows do not have the pixel.
-fn seen(place: InkPlace, pixel: Pixel) -> Option<Dropout>
-    requires { IsInked place }
-    ensures within { IfSome result (λ d. d.column < place.width) }
-    ensures some { IfSome result (λ d. (c r : ℕ) → is_at c r d ≡ is_pixel_of place pixel c r) }
-    ensures none { IfNone result ((c r : ℕ) → c < place.width → r < place.height → is_pixel_of place pixel c r ≡ false) }
+/// How many columns or rows there are from one to another.
+fn distance(from: i64, to: i64) -> u32
+    requires order { from ≤ℤ to }
+    requires near { unsigned_abs (to -ℤ from) < 2 ^ 20 }
+    ensures { pos result ≡ to -ℤ from }
 {
-    let across = pixel.column.checked_sub(i64::from(place.left))?;
-    let down = (i64::from(place.top) - 1).checked_sub(pixel.row)?;
-    let column = one_of(across, place.width)?;
-    let row = one_of(down, place.height)?;
-    Some(Dropout { row, column })
+    (to - from) as u32
 }
 
-/// A number, if it is one of the `count` numbers from 0 on; else None.
-fn one_of(n: i64, count: u32) -> Option<u32>
-    ensures some { IfSome result (λ k. (n ≡ pos k) × (k < count)) }
-    ensures none { IfNone result ((k : ℕ) → k < count → n ≢ pos k) }
-{
-    if 0 <= n && n < i64::from(count) {
-        Some(n as u32)
-    } else {
-        None
-    }
-}
-
-/// Adds a pixel of a glyph to the dropouts of its rows, if the rows have the pixel. Error: memory ran out.
-fn push_seen(found: &mut Vec<Dropout>, place: InkPlace, pixel: Pixel) -> Result<(), AllocError>
+/// A pixel of a place, by its column and row among the rows of the place.
+fn dropout_of(place: InkPlace, pixel: Pixel) -> Dropout
     requires place { IsInked place }
-    requires found { AreInColumns place.width found.old.items }
-    ensures added { OnOk result ((c r : ℕ) → c < place.width → r < place.height → is_among found.new.items c r
-        ≡ (is_among found.old.items c r || is_pixel_of place pixel c r)) }
-    ensures within { OnOk result (AreInColumns place.width found.new.items) }
+    requires pixel { IsPixelIn place pixel }
+    ensures column { result.column < place.width }
+    ensures exact { (c r : ℕ) → is_at c r result ≡ is_pixel_of place pixel c r }
 {
-    if let Some(dropout) = seen(place, pixel) {
-        found.push(dropout)?;
-    }
-    Ok(())
+    let column = distance(i64::from(place.left), pixel.column);
+    let row = distance(pixel.row, i64::from(place.top) - 1);
+    Dropout { row, column }
 }
 
-/// Some pixels of a glyph as dropouts of its rows, in order of their rows. Error: memory ran out.
-fn seen_all(alloc: Global, place: InkPlace, pixels: &[Pixel]) -> Result<Vec<Dropout>, AllocError>
-    requires { IsInked place }
-    ensures exact { IfOk result (λ v. (c r : ℕ) → c < place.width → r < place.height → is_among v.items c r ≡ has_pixel pixels.now (column_of place c) (line_of place r)) }
+/// Some pixels of a place as dropouts of its rows, in order of their rows. Error: memory ran out.
+fn dropouts_among(
+    alloc: Global,
+    place: InkPlace,
+    pixels: &[Pixel],
+) -> Result<Vec<Dropout>, AllocError>
+    requires place { IsInked place }
+    requires pixels { All (IsPixelIn place) pixels.now }
+    ensures exact { IfOk result (λ v. (c r : ℕ) → is_among v.items c r ≡ has_pixel pixels.now (column_of place c) (line_of place r)) }
     ensures valid { IfOk result (λ v. AreDropouts place.width v.items) }
 {
     let mut found = Vec::with_capacity(alloc, pixels.len())?;
     for pixel in pixels {
-        push_seen(&mut found, place, *pixel)?;
+        found.push(dropout_of(place, *pixel))?;
     }
     sort_by_rows(&mut found);
     Ok(found)
@@ -157,7 +144,7 @@ fn dropouts_of(
     ensures valid { IfOk result (λ v. AreDropouts place.width v.items) }
 {
     let pixels = filled_in(alloc, window_of(place), edged)?;
-    seen_all(alloc, place, &pixels)
+    dropouts_among(alloc, place, &pixels)
 }
 
 impl LargeRows {

@@ -66,12 +66,13 @@ pub(crate) fn tried_list<'f, 'a>(
     let SizedFace {
         source,
         mut maker,
+        mut table,
         ..
     } = sized;
     let mut fitter = maker.take(&source)?;
     let count = face.metrics().glyphs();
     let line = known_line(alloc, count, glyphs)?;
-    let met = distinct(alloc, count, &line)?;
+    let met = distinct(alloc, &mut table, count, &line)?;
     let DistinctGlyphs { places, numbers } = met;
     charge(fit, &mut fitter, &numbers)?;
     let tried = try_glyphs(alloc, &mut fitter, &numbers)?;

@@ -1,5 +1,5 @@
 -- The glyphs of several lines one after the other.
-use Rattle.std.proofs.Common.{◌≡◌, refl, ap, subst, ℕ, ◌+◌, ◌≤◌, List, [], ◌∷◌, ◌++◌, length, map, get_or, Vec, Global, arith}
+use Rattle.std.proofs.Common.{◌≡◌, refl, sym, ap, subst, ℕ, ◌+◌, ◌≤◌, List, [], ◌∷◌, ◌++◌, append-nil, length, map, get_or, Vec, Global, arith}
 use Rattle.std.proofs.lemmas.List.{get_or-append-add, get_or_append_left, length-append}
 use Rattle.std.proofs.lemmas.List.Elements.{All-append, All-cons, All-head, All-nil, All-tail}
 use Rattle.std.specs.List.{flat_map}
@@ -7,6 +7,7 @@ use Rattle.std.specs.Prelude.{All}
 use Rattle.tt_label.specs.Label.{joint}
 use Rattle.tt_label.specs.Views.{placements_of}
 use Rattle.tt_line.specs.Layout.{Placement}
+use Rattle.tt_line.specs.Outcome.{placement_of}
 use Rattle.tt_strike.specs.declared.laid.Laid.{Laid}
 
 pub glyphs_joined : (ls : List Laid) → flat_map (λ (p : Placement). p.glyphs) (placements_of ls) ≡ flat_map (λ (l : Laid). l.line.glyphs.items) ls
@@ -56,3 +57,17 @@ pub lists_joined : (ls : List (Vec (ℕ × ℕ) Global))
     ≡ flat_map (λ (v : Vec (ℕ × ℕ) Global). v.items) ls
 lists_joined [] = refl
 lists_joined (l ∷ ls) = ap (λ (xs : List (ℕ × ℕ)). l.items ++ xs) (lists_joined ls)
+
+-- one line alone
+pub one_joined : (ls : List (Vec (ℕ × ℕ) Global)) (d : Vec (ℕ × ℕ) Global) → length ls ≡ 1
+    → (get_or ls 0 d).items ≡ flat_map (λ (v : Vec (ℕ × ℕ) Global). v.items) ls
+one_joined [] d one = absurd (omega (arith, one))
+one_joined (l ∷ []) d one = sym (append-nil l.items)
+one_joined (l ∷ m ∷ ls) d one = absurd (omega (arith, one))
+
+pub one_is_joint : (ls : List Laid) (d : Laid) → length ls ≡ 1 → placement_of (get_or ls 0 d).line ≡ joint (placements_of ls)
+one_is_joint [] d one = absurd (omega (arith, one))
+one_is_joint (l ∷ []) d one =
+    ap (λ (gs : List (ℕ × ℕ)). record { width = l.line.width; height = l.line.height; rise = l.line.rise; glyphs = gs })
+    (sym (append-nil l.line.glyphs.items))
+one_is_joint (l ∷ m ∷ ls) d one = absurd (omega (arith, one))

@@ -79,7 +79,7 @@ BaselinesAreApart = (face : Face) (a : Job) (how : Align) (lines larger : List P
     → label_placed face a how ≡ Ok lines → label_grown face a lines ≡ Ok larger
     → AreApart (line_step_of face.metrics a.ppem) larger
 
--- worked values: three lines, six rows apart, the first of which has its baseline above the picture
+-- worked values: three lines, six rows apart; the first has its baseline above the picture
 three_lines : List Placement
 three_lines =
     let line : ℤ → Placement = λ rise. record { width = 1; height = 14; rise = rise; glyphs = [] } in

@@ -15,17 +15,16 @@ use Rattle.tt_line.specs.Steps.{step_in_pixels, stepped}
 use Rattle.tt_metrics.specs.Metrics.{Metrics}
 use Rattle.tt_picture.specs.declared.ink_box.InkBox.{InkBox}
 use Rattle.tt_picture.specs.declared.report.Unfitted.{Unfitted}
-use Rattle.tt_picture.specs.Ink.{all_joined, ink_at}
+use Rattle.tt_picture.specs.Ink.{all_joined}
 use Rattle.tt_picture.specs.Pictures.{Image, image}
 use Rattle.tt_picture.specs.Lines.{is_shown}
 use Rattle.tt_picture.specs.Shapes.{glyph_shape}
 use Rattle.tt_picture.specs.Steps.{step_by}
-use Rattle.tt_scan_edges.specs.declared.edge.Frame.{Frame}
 use Rattle.tt_bitmap.specs.declared.ink.LeastBox.{LeastBox}
 use Rattle.tt_strike.specs.Costs.{line_cost}
 use Rattle.tt_strike.specs.Grown.{grown}
 use Rattle.tt_strike.specs.Job.{Job, tested}
-use Rattle.tt_strike.specs.Measures.{line_ink}
+use Rattle.tt_strike.specs.Measures.{box_in, line_ink}
 use Rattle.tt_strike.specs.Picture.{advance_with, frame_of, line_shapes, outlines_tested, setting_in}
 use Rattle.tt_strike.specs.Refusals.{Refused, as_font, as_job}
 use Rattle.tt_strike.specs.Report.{line_report}
@@ -67,11 +66,7 @@ unfoldable pub label_placed : Face → Job → Align → Result (List Placement)
 label_placed face a how = as_job (tested a) >>= λ u.
     if lays_after_glyphs a.fit then label_by_steps face a how else label_by_advances face a how
 
--- the least box of the ink of some glyphs at their pens in a picture, by the ink of each at pen 0
-abbrev pub box_in : (ℕ → Option LeastBox) → Frame → List (ℕ × ℕ) → Option InkBox
-box_in inked f gs = all_joined None (map (λ g. ink_at f g.1 (inked g.0)) gs)
-
--- the same of a line's glyphs
+-- the least box of the ink of a line's glyphs, by the ink of each at pen 0
 abbrev pub line_box : (ℕ → Option LeastBox) → ℕ → Placement → Option InkBox
 line_box inked margin line = box_in inked (frame_of line margin) line.glyphs
 

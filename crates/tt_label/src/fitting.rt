@@ -21,7 +21,7 @@ use std::alloc::{AllocError, Global};
 use tt_core::DrawFault;
 use tt_fit::Fitter;
 use tt_picture::{Cache, FittedGlyph, fit_glyphs};
-use tt_strike::{DistinctGlyphs, FitterSource, charge_points, distinct, put_steps};
+use tt_strike::{DistinctGlyphs, FitterSource, PlaceTable, charge_points, distinct, put_steps};
 
 /// A label whose glyphs are fitted.
 #[derive(Drop)]
@@ -76,11 +76,33 @@ fn step_lines(
     Ok(made)
 }
 
+/// The distinct glyphs of some lines, in order of first appearance. One line is not copied. Error: Memory.
+fn distinct_of(
+    source: &FitterSource,
+    table: &mut PlaceTable,
+    lines: &[Vec<(u16, u32)>],
+) -> Result<DistinctGlyphs, AllocError>
+    requires known { All (λ l. All (λ g. g.0 < glyphs_of source.now.face.now.metrics) l.items) lines.now }
+    requires few { length (flat_map (λ l. l.items) lines.now) ≤ text_limit }
+    ensures places { IfOk result (λ d. ArePlaces d.places.items d.numbers.items) }
+    ensures numbers { IfOk result (λ d. d.numbers.items ≡ distinct (glyphs_in (map (λ l. l.items) lines.now))) }
+    ensures room { IfOk result (λ d. length d.places.items ≡ glyphs_of source.now.face.now.metrics) }
+    ensures known { IfOk result (λ d. All (λ n. n < glyphs_of source.now.face.now.metrics) d.numbers.items) }
+{
+    let count = source.face.metrics().glyphs();
+    if lines.len() == 1 {
+        return distinct(source.alloc, table, count, &lines[0]);
+    }
+    let all = joined_steps(source.alloc, lines)?;
+    distinct(source.alloc, table, count, &all)
+}
+
 /// The glyphs of some lines, fitted, where work is bounded: from the cache where their costs are left, else made. Errors,
 /// the first of: WorkLarge of their points; those of the glyphs in the order of the lines. Memory may come at any
 /// allocation.
 pub(crate) fn fit_label(
     source: &FitterSource,
+    table: &mut PlaceTable,
     fitter: &mut Fitter,
     steps: Vec<Vec<(u16, u32)>>,
     cache: &Cache,
@@ -95,8 +117,7 @@ pub(crate) fn fit_label(
     ensures after { IfOk result (λ t. fitter.new ≡ fitter_after (started fitter.old (glyphs_in (map (λ l. l.items) steps.items))) (distinct (glyphs_in (map (λ l. l.items) steps.items)))) }
     ensures stops { IfTold refusal result (λ r. outlines_tested fitter.old source.now.fit (glyphs_in (map (λ l. l.items) steps.items)) ≡ Err r) }
 {
-    let all = joined_steps(source.alloc, &steps)?;
-    let met = distinct(source.alloc, source.face.metrics().glyphs(), &all)?;
+    let met = distinct_of(source, table, &steps)?;
     let DistinctGlyphs { places, numbers } = met;
     charge_points(source.fit, fitter, &numbers, cache)?;
     let fitted = fit_glyphs(source.alloc, fitter, &numbers, cache)?;

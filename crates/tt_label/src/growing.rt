@@ -3,7 +3,7 @@
 ghost use Rattle.std.specs.Prelude.{◌≡◌, ℕ, map, All, IfOk, Option};
 ghost use Rattle.tt_bitmap.specs.declared.ink.LeastBox.{LeastBox};
 ghost use Rattle.tt_core.specs.Outcomes.{Gives, JobGives};
-ghost use Rattle.tt_label.specs.Label.{box_in, grown_lines, label_ink};
+ghost use Rattle.tt_label.specs.Label.{grown_lines, label_ink};
 ghost use Rattle.tt_label.specs.Views.{placements_of};
 ghost use Rattle.tt_line.specs.Outcome.{placement_of};
 ghost use Rattle.tt_picture.specs.Glyphs.{numbers_of};
@@ -12,23 +12,8 @@ ghost use Rattle.tt_strike.specs.Grown.{grown};
 
 use std::alloc::{AllocError, Global};
 use tt_core::{DrawFault, JobFault};
-use tt_picture::{InkBox, PlacedLine, ink_at, joined};
-use tt_strike::{InkedGlyphs, Laid, grown};
-
-/// The least box of the ink of a line, whose glyphs are among these.
-fn line_ink(line: PlacedLine, inked: &InkedGlyphs) -> Option<InkBox>
-    requires { HasGlyphsOf (numbers_of inked.now.glyphs.made.items) line.glyphs.now }
-    ensures { (ink : ℕ → Option LeastBox) → inked.now.inks.items ≡ map ink (numbers_of inked.now.glyphs.made.items)
-        → result ≡ box_in ink line.entry.frame line.entry.glyphs.now }
-{
-    let mut all = None;
-    for placed in line.glyphs {
-        let (number, pen) = *placed;
-        let at = inked.glyphs.place_of(number);
-        all = joined(all, ink_at(line.frame, pen, inked.inks[at]));
-    }
-    all
-}
+use tt_picture::{InkBox, joined};
+use tt_strike::{InkedGlyphs, Laid, grown, line_ink};
 
 /// The least box of the ink of some lines, whose glyphs are among these.
 pub(crate) fn label_ink(lines: &[Laid], inked: &InkedGlyphs) -> Option<InkBox>

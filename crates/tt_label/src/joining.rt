@@ -1,7 +1,7 @@
 //! The glyphs of several lines one after the other, as those of one line.
 
 ghost use Rattle.std.specs.List.{flat_map};
-ghost use Rattle.std.specs.Prelude.{◌≡◌, IfOk};
+ghost use Rattle.std.specs.Prelude.{◌≡◌, ℕ, length, All, IfNone, IfOk, IfSome};
 ghost use Rattle.tt_face.specs.Faces.{Face};
 ghost use Rattle.tt_label.specs.Label.{joint};
 ghost use Rattle.tt_label.specs.Made.{AreLaid};
@@ -37,12 +37,20 @@ fn joined_glyphs(alloc: Global, lines: &[Laid]) -> Result<Vec<(u16, u32)>, Alloc
     Ok(all)
 }
 
-/// The glyphs of some lines of one picture as those of one line. Error: Memory.
-pub(crate) fn joint_line(alloc: Global, lines: &[Laid], margin: u32) -> Result<Laid, AllocError>
+/// The glyphs of several lines of one picture as those of one line. None for one line, which is not copied. Error: Memory.
+pub(crate) fn joint_line(
+    alloc: Global,
+    lines: &[Laid],
+    margin: u32,
+) -> Result<Option<Laid>, AllocError>
     requires { (face : Face) × AreLaid face margin lines.now }
-    ensures line { IfOk result (λ l. placement_of l.line ≡ joint (placements_of lines.now)) }
-    ensures margin { IfOk result (λ l. l.margin ≡ margin) }
+    ensures line { IfOk result (λ o. IfSome o (λ l. placement_of l.line ≡ joint (placements_of lines.now))) }
+    ensures margin { IfOk result (λ o. IfSome o (λ l. l.margin ≡ margin)) }
+    ensures none { IfOk result (λ o. IfNone o (length lines.now ≡ 1)) }
 {
+    if lines.len() == 1 {
+        return Ok(None);
+    }
     let glyphs = joined_glyphs(alloc, lines)?;
     let first = &lines[0].line;
     let line = Line {
@@ -51,5 +59,19 @@ pub(crate) fn joint_line(alloc: Global, lines: &[Laid], margin: u32) -> Result<L
         rise: first.rise,
         glyphs,
     };
-    Ok(Laid { line, margin })
+    Ok(Some(Laid { line, margin }))
+}
+
+/// Some lines of one picture as one line: the joint line, or the only one.
+pub(crate) fn joint_of<'l>(lines: &'l [Laid], joined: &'l Option<Laid>) -> &'l Laid
+    requires line { IfSome joined.now (λ l. placement_of l.line ≡ joint (placements_of lines.now)) }
+    requires none { IfNone joined.now (length lines.now ≡ 1) }
+    ensures line { placement_of result.now.line ≡ joint (placements_of lines.now) }
+    ensures margin { (margin : ℕ) → IfSome joined.now (λ l. l.margin ≡ margin) → All (λ l. l.margin ≡ margin) lines.now
+        → result.now.margin ≡ margin }
+{
+    match joined {
+        Some(line) => line,
+        None => &lines[0],
+    }
 }

@@ -46,7 +46,10 @@ fn draw_label(
     let lines = grown_lines(alloc, lines, ink)?;
     let frame = lines[0].frame();
     let placed = placed_lines(alloc, &lines)?;
-    Ok(Picture::new(alloc, frame, &inked.glyphs, &placed)?)
+    let picture = Picture::new(alloc, frame, &inked.glyphs, &placed)?;
+    let InkedGlyphs { glyphs, .. } = inked;
+    sized.give_back(glyphs);
+    Ok(picture)
 }
 
 /// The picture of a text's lines, one below the other, with a margin of 0 to 64 pixels and the fewest added columns and

@@ -15,7 +15,7 @@ ghost use Rattle.tt_strike.specs.Strikes.{IsCacheOf, job_by};
 ghost use Rattle.tt_strike.specs.Work.{is_bounded};
 
 use crate::fitting::{FittedLabel, fit_label};
-use crate::joining::joint_line;
+use crate::joining::{joint_line, joint_of};
 use std::alloc::{AllocError, Global};
 use tt_core::DrawFault;
 use tt_line::{Align, Line, label_steps, lay_lines};
@@ -68,7 +68,7 @@ fn make_by_steps(
     let steps = label_steps(source.alloc, &mut sized.known, text)?;
     let mut fitter = sized.maker.take(&source)?;
     let begun = fitter.work();
-    let label = fit_label(&source, &mut fitter, steps, cache)?;
+    let label = fit_label(&source, &mut sized.table, &mut fitter, steps, cache)?;
     let left = fitter.work();
     sized.maker.give_back(fitter, begun);
     let FittedLabel {
@@ -79,16 +79,9 @@ fn make_by_steps(
     let metrics = source.face.metrics();
     let laid = lay_lines(source.alloc, metrics, steps, source.ppem, margin, align)?;
     let lines = with_margin(source.alloc, laid, margin)?;
-    let joint = joint_line(source.alloc, &lines, margin)?;
-    let glyphs = tested_edges(
-        source.alloc,
-        source.fit,
-        places,
-        fitted,
-        &joint,
-        left,
-        cache,
-    )?;
+    let joined = joint_line(source.alloc, &lines, margin)?;
+    let joint = joint_of(&lines, &joined);
+    let glyphs = tested_edges(source.alloc, source.fit, places, fitted, joint, left, cache)?;
     Ok(MadeLabel { lines, glyphs })
 }
 
@@ -137,8 +130,8 @@ fn make_by_advances(
     ensures same { sized.new ≡ sized.old }
 {
     let lines = lay_label(sized, text, margin, align)?;
-    let joint = joint_line(sized.alloc(), &lines, margin)?;
-    let glyphs = sized.tested_glyphs(&joint, cache)?;
+    let joined = joint_line(sized.alloc(), &lines, margin)?;
+    let glyphs = sized.tested_glyphs(joint_of(&lines, &joined), cache)?;
     Ok(MadeLabel { lines, glyphs })
 }
 

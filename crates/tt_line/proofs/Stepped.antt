@@ -1,6 +1,7 @@
 -- The glyphs of a line, each with its step.
-use Rattle.std.proofs.Common.{◌≡◌, ◌∙◌, refl, sym, ap, ap₂, Bool, false, if◌then◌else◌, int_lt, neg_ℤ, ℕ, zero, suc, ◌+◌, ◌*◌, ◌/◌, ◌<◌, ℤ, pos, ◌+ℤ◌, ◌*ℤ◌, unsigned_abs, All, List, [], ◌∷◌, drop, get_or, length, map, Option, None, inl, inr, arith}
+use Rattle.std.proofs.Common.{◌≡◌, ◌∙◌, refl, sym, ap, ap₂, Bool, false, if◌then◌else◌, int_lt, neg_ℤ, ℕ, zero, suc, ◌+◌, ◌*◌, ◌/◌, ◌<◌, ℤ, pos, ◌+ℤ◌, ◌*ℤ◌, unsigned_abs, All, List, [], ◌∷◌, drop, get_or, length, map, Option, Some, None, inl, inr, arith}
 use Rattle.std.proofs.lemmas.List.{get_or-map, length-map}
+use Rattle.std.specs.Option.{is_some}
 use Rattle.tt_kern.specs.Feature.{feature_of}
 use Rattle.tt_kern.specs.Kerning.{Tables}
 use Rattle.tt_kern.specs.KernTable.{kern_sum}
@@ -66,6 +67,14 @@ unkerned-lines m ppem (g ∷ gs) none =
 pub unkerned_line : (m : Metrics) (ppem : ℕ) (gs : List ℕ) → m.kerning ≡ None
     → linear_line m ppem gs ≡ map (λ (g : ℕ). (g, advance_in_pixels m ppem g)) gs
 unkerned_line m ppem gs off = unkerned-lines m ppem gs (λ g h. ap (λ (k : Option Tables). kerning_by k g h) off)
+
+-- a glyph has no kerning where pairs are not kerned
+pub no_tables : (kerning : Option Tables) → false ≡ is_some kerning → kerning ≡ None
+no_tables None none = refl
+no_tables (Some tables) none = absurd cc
+
+pub unkerned_before : (m : Metrics) (g : ℕ) (gs : List ℕ) → m.kerning ≡ None → kerning_before m g gs ≡ pos 0
+unkerned_before m g gs off = kerning_none m g gs (λ g h. ap (λ (k : Option Tables). kerning_by k g h) off)
 
 pub no-table : NoTableNoKerning
 unfolding word long feature_of kern_sum

@@ -1,6 +1,7 @@
 //! A cache of glyphs and advances. A text has few distinct characters, and most occur many times.
 
-ghost use Rattle.std.specs.Prelude.{◌≡◌, ◌<◌, ◌≤◌, ◌^◌};
+ghost use Rattle.std.specs.Prelude.{◌≡◌, ◌<◌, ◌≤◌, ◌^◌, ◌↔◌, [], chars, true};
+ghost use Rattle.tt_cmap.specs.Lacking.{lacking_of};
 ghost use Rattle.tt_cmap.specs.Maps.{glyph_count, glyph_of_unit};
 ghost use Rattle.tt_cmap.specs.Units.{plain_unit};
 ghost use Rattle.tt_core.specs.Limits.{size_limit};
@@ -115,6 +116,20 @@ impl<'t, 'a> KnownAdvances<'t, 'a> {
         ensures limit { result ≤ size_limit }
     {
         self.ppem
+    }
+
+    /// Whether the font has a glyph for each unit of a text.
+    pub fn has_all(&mut self, text: &str) -> bool
+        ensures exact { (result ≡ true) ↔ (lacking_of self.old.cmap (chars text.now) ≡ []) }
+        ensures same { self.new ≡ self.old }
+    {
+        for unit in self.cmap().units(text) {
+            let glyph = self.step(unit).glyph;
+            if glyph == 0 {
+                return false;
+            }
+        }
+        true
     }
 
     /// The step of a unit.

@@ -46,6 +46,10 @@ pub fn kerning_at(metrics: &Metrics, line: &[(u16, u32)], i: usize) -> i32
     ensures exact { result ≡ kerning_before metrics.now (get_or line.now i (0, 0)).0 (map (λ p. p.0) (drop (i + 1) line.now)) }
     ensures bound { unsigned_abs result ≤ 2 ^ 20 }
 {
+    // Where no pair is kerned, the glyphs need not be read.
+    if !metrics.has_kerning() {
+        return 0;
+    }
     if i + 1 < line.len() {
         metrics.kerning(line[i].0, line[i + 1].0)
     } else {

@@ -1,25 +1,28 @@
--- The digits of a number from last to first, and their count.
-use Rattle.std.proofs.Common.{◌≡◌, ℕ, ◌+◌, ◌/◌, ◌%◌, ◌^◌, ◌<◌, ◌≤◌, ◌∷◌, ◌++◌, List, length, decimal, arith, ap, sym, ◌∙◌, append_assoc}
-use Rattle.std.proofs.lemmas.Fmt.{decimal_digit, decimal_nonempty, decimal_step, length-decimal-le}
-use Rattle.std.proofs.lemmas.List.{length-append}
+-- Bytes and numbers put before a text.
+use Rattle.std.proofs.Common.{◌≡◌, ◌∙◌, ℕ, ◌+◌, ◌-◌, ◌≤◌, true, false, true≢false, List, ◌∷◌, ◌++◌, length, take, drop, ℤ, pos, negsuc, int_lt, unsigned_abs, decimal, refl, ap, sym, arith}
+use Rattle.std.specs.Fmt.{signed_decimal}
+use Rattle.std.proofs.lemmas.Int.{ints}
+use Rattle.std.proofs.lemmas.List.{drop-drop, drop_at, length-take-le}
+use borrow.Rule.Slice.PartMut.{put_mid}
 
--- a digit other than the first is put before the text
-pub goes-on : (rest : ℕ) (text all : List ℕ) → 10 ≤ rest → rest < 2 ^ 16 → decimal rest ++ text ≡ all
-    → decimal (rest / 10) ++ ((48 + rest % 10) ∷ text) ≡ all
-goes-on rest text all large fits whole =
-    let step = decimal_step rest large (omega arith) in
-    let moved : decimal (rest / 10) ++ ((48 + rest % 10) ∷ text) ≡ decimal rest ++ text = rw step (simp append_assoc) in
-    moved ∙ whole
+-- bytes that end where the text begins in its buffer
+pub put_before : (at end : ℕ) (buffer bytes : List ℕ) → at ≤ end → end ≤ length buffer
+    → drop at (put_mid at (end - at) buffer bytes) ≡ bytes ++ drop end buffer
+put_before at end buffer bytes order within =
+    let place : at + (end - at) ≡ end = omega (arith, order) in
+    drop_at (take at buffer) (bytes ++ drop (end - at) (drop at buffer)) at (length-take-le at buffer (omega (arith, order, within)))
+    ∙ ap (λ xs. bytes ++ xs) (drop-drop (end - at) at buffer ∙ ap (λ n. drop n buffer) place)
 
--- the first digit is put before the text
-pub ends : (rest : ℕ) (text all : List ℕ) → rest < 10 → decimal rest ++ text ≡ all → (48 + rest) ∷ text ≡ all
-ends rest text all small whole = rw (decimal_digit rest small) at whole
+-- a number below 0 has a minus before its digits
+pub minus_before : (z : ℤ) (text : List ℕ) → int_lt z (pos 0) ≡ true
+    → 45 ∷ (decimal (unsigned_abs z) ++ text) ≡ signed_decimal z ++ text
+minus_before (pos n) text below =
+    let from : int_lt (pos n) (pos 0) ≡ false = grind (arith, ints) in
+    absurd (true≢false (sym below ∙ from))
+minus_before (negsuc n) text below = refl
 
--- while digits remain, at most four of the number's digits are in the text
-pub lacks-some : (rest n : ℕ) (text first : List ℕ) → rest < 2 ^ 16 → n < 2 ^ 16
-    → decimal rest ++ text ≡ decimal n ++ first → length text < length first + 5
-lacks-some rest n text first fits all-fit whole =
-    let some = decimal_nonempty rest (omega arith) in
-    let few = length-decimal-le 5 n (omega arith) (omega arith) (omega arith) in
-    let same = sym (length-append (decimal rest) text) ∙ ap length whole ∙ length-append (decimal n) first in
-    omega (arith, some, few, same)
+-- and no other has
+pub no_minus : (z : ℤ) (text : List ℕ) → int_lt z (pos 0) ≡ false
+    → decimal (unsigned_abs z) ++ text ≡ signed_decimal z ++ text
+no_minus (pos n) text from = refl
+no_minus (negsuc n) text from = absurd (true≢false from)

@@ -28,9 +28,9 @@ pub fn p4_header(w: u32, h: u32) -> Header
 {
     let mut text = Ascii::new();
     text.push(b'\n');
-    text.push_decimal(h as u16);
+    text.push_u16(h as u16);
     text.push(b' ');
-    text.push_decimal(w as u16);
+    text.push_u16(w as u16);
     text.push(b'\n');
     text.push(b'4');
     text.push(b'P');

@@ -44,15 +44,15 @@ none_painted bytes rows w none band white =
 
 -- a bitmap at its place
 pub stamp_painted : (w : ℕ) (s : PlacedBitmap) (from count : ℕ) (line : ℤ) (old new : List ℕ) → line ≡ s.top -ℤ pos from
-    → IsBandBlackened (stride w) count (λ j c. nat_lt c w && is_black s.bitmap.value (pos c -ℤ pos s.column) (line -ℤ pos j)) old new
+    → IsBandBlackened (stride w) count (λ j c. nat_lt c w && is_black s.cut.value.bitmap (pos c -ℤ pos s.column) (line -ℤ pos j)) old new
     → IsBandBlackened (stride w) count (λ j c. nat_lt c w && stamp_shows s c (from + j)) old new
 stamp_painted w s from count line old new at painted =
-    repainted (stride w) count (λ j c. nat_lt c w && is_black s.bitmap.value (pos c -ℤ pos s.column) (line -ℤ pos j))
+    repainted (stride w) count (λ j c. nat_lt c w && is_black s.cut.value.bitmap (pos c -ℤ pos s.column) (line -ℤ pos j))
     (λ j c. nat_lt c w && stamp_shows s c (from + j)) old new painted
     (λ j c below.
     let first : (s.top -ℤ pos from) -ℤ pos j ≡ s.top -ℤ pos (from + j) = omega (arith, ints) in
     let here : line -ℤ pos j ≡ s.top -ℤ pos (from + j) = rw at first in
-    ap (λ y. nat_lt c w && is_black s.bitmap.value (pos c -ℤ pos s.column) y) here)
+    ap (λ y. nat_lt c w && is_black s.cut.value.bitmap (pos c -ℤ pos s.column) y) here)
 
 -- an empty list of dropouts
 no_dropout : (ds : List Dropout) (c r : ℕ) → true ≡ (length ds == 0) → is_among ds c r ≡ false

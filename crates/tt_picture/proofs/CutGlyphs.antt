@@ -3,7 +3,6 @@ use Rattle.std.proofs.Common.{◌≡◌, ◌∙◌, ◌+◌, ◌^◌, ◌≤◌,
 use Rattle.std.specs.Prelude.{All, IfSome, pos}
 use Rattle.tt_core.specs.Faults.{Fault}
 use Rattle.tt_arc.proofs.Closed.{all_closed}
-use Rattle.tt_arc.proofs.PointsBox.{box_holds_edges}
 use Rattle.tt_arc.specs.declared.rule.ChordRule.{ChordRule}
 use Rattle.tt_fit.proofs.WorkApart.{own-work}
 use Rattle.tt_fit.specs.Counting.{counted, points_asked}
@@ -16,12 +15,13 @@ use Rattle.tt_fit_outline.specs.Outline.{Outline}
 use Rattle.tt_fit_outline.specs.Steps.{advance_left}
 use Rattle.tt_picture.specs.Cached.{IsCached, IsOfOutline}
 use Rattle.tt_picture.specs.Cut.{IsKeptOf}
-use Rattle.tt_picture.specs.Fitted.{kept, IsFitted, IsFittedBody, IsMadeOutline, MadeOutline}
-use Rattle.tt_picture.specs.Glyphs.{CanBeCut, Glyph, IsBodyOf, IsDrawn, LargeGlyph, small}
+use Rattle.tt_picture.specs.Fitted.{kept, outlined, FittedGlyph, IsFitted, IsFittedBody, IsMadeOutline, MadeOutline}
+use Rattle.tt_picture.specs.Glyphs.{CanBeCut, Glyph, GlyphBody, IsBodyOf, IsDrawn, LargeGlyph, large, small}
 use Rattle.tt_picture.specs.Shapes.{chords_with, contours_of, edges_at, extents_of, filled_by, filling_crossings, offset_at, rules_for}
 use Rattle.tt_picture.specs.Steps.{chords_of}
 use Rattle.tt_picture.specs.declared.outlined.KeptCounts.{KeptCounts}
 use Rattle.tt_picture.proofs.Inked.{body_as}
+use Rattle.tt_picture.proofs.OutlineBox.{outline_boxed, rules_boxed}
 use Rattle.tt_scan.specs.Contours.{AreEnds, IsClosed, contours_at}
 use Rattle.tt_scan_edges.specs.declared.edge.Edge.{Edge}
 use Rattle.tt_scan_dropouts.specs.Counted.{edges_counted}
@@ -68,6 +68,13 @@ made_glyph s n o m g es contours made edges lines body crossings advance chords 
       chords = rw (made.rule, made.outline) at chords;
       unfitted = unfitted ∙ made.unfitted;
     }
+
+-- a glyph that is fitted by its outline
+pub made_of : (s : Fitter) (g : FittedGlyph) (n : ℕ) (m : MadeOutline) → g ≡ record { number = n; body = outlined m }
+    → IsFitted s g → (o : Outline) × (fitted_outline s n ≡ Ok o) × IsMadeOutline s n o m
+made_of s g n m same is =
+    let own : IsFitted s (record { number = n; body = outlined m }) = rw same at is in
+    (own.shape, own.outline, own.body)
 
 -- it may be cached, where its counts are known
 pub made_cached : (s : Fitter) (n : ℕ) (o : Outline) (m : MadeOutline) (g : Glyph) (k : KeptGlyph) → IsMadeOutline s n o m
@@ -164,25 +171,20 @@ counts_points s n (Some k) points are some = rw some at are
 
 -- the pixels of a glyph that is made can be cut
 
--- the box of its points holds the edges of an outline
+-- the box of its rules holds the edges of an outline
 box_by : (filled : Option BoxedRules) (rules : Option DropoutRules) (way : ChordRule) (o : Outline) (es : List Edge)
     → filled ≡ rules_for (extents_of o) rules → IfSome filled (λ rules. ExtentsFit rules.extents) → es ≡ edges_at way 0 o
     → IfSome filled (λ rules. IsBoxOf rules.extents es)
 box_by None rules way o es is fits edges = tt
-box_by (Some boxed) None way o es is fits edges = absurd cc
-box_by (Some boxed) (Some rules) way o es is fits edges =
-    let same : boxed ≡ record { rules = record { stubs = rules.stubs; smart = rules.smart; dots = rules.dots }; extents = extents_of o } = cc in
-    let box : boxed.extents ≡ extents_of o = ap (λ (b : BoxedRules). b.extents) same in
-    record {
-      fits = fits;
-      held = rw (box, edges) (box_holds_edges way o.points o.ends (offset_at 0 o) (pos 0));
-    }
+box_by (Some boxed) rules way o es is fits edges =
+    let box : boxed.extents ≡ extents_of o = rules_boxed (Some boxed) rules o is in
+    rw (box, edges) (outline_boxed way o (rw box at fits))
 
 -- its contours are closed
-closed_as : (filled : Option BoxedRules) (contours outlined : List (List Edge)) → All IsClosed outlined
-    → IfSome filled (λ rules. contours ≡ outlined) → IfSome filled (λ rules. All IsClosed contours)
-closed_as None contours outlined closed are = are
-closed_as (Some rules) contours outlined closed are = rw are closed
+closed_as : (filled : Option BoxedRules) (contours lines : List (List Edge)) → All IsClosed lines
+    → IfSome filled (λ rules. contours ≡ lines) → IfSome filled (λ rules. All IsClosed contours)
+closed_as None contours lines closed are = are
+closed_as (Some rules) contours lines closed are = rw are closed
 
 pub can_be_cut : (s : Fitter) (n : ℕ) (o : Outline) (m : MadeOutline) (g : LargeGlyph) → IsMadeOutline s n o m
     → g.edges ≡ edges_at m.rule 0 m.outline → length g.edges ≤ 2 ^ 19 → g.filled ≡ m.filled
@@ -198,6 +200,16 @@ can_be_cut s n o m g made edges few filled lines ends =
       closed = rw filled (closed_as m.filled (contours_at g.edges g.ends) (contours_of (chords_with s) 0 o)
           (all_closed (chords_with s) o.points o.ends (offset_at 0 o) (pos 0)) lined);
     }
+
+-- a made outline's rules have its box
+pub made_box : (s : Fitter) (n : ℕ) (o : Outline) (m : MadeOutline) → IsMadeOutline s n o m
+    → IfSome m.filled (λ rules. rules.extents ≡ extents_of m.outline)
+made_box s n o m made =
+    rw made.outline (rules_boxed m.filled (dropouts_of s (unfitted_fault s n) o) o made.filled)
+
+-- a glyph that is not cut
+pub uncut_body : (g : LargeGlyph) (b : GlyphBody) → b ≡ large g → IsBodyOf g.edges (contours_at g.edges g.ends) g.filled b
+uncut_body g b is = rw is (record { pixels = λ c j. refl; ink = refl })
 
 -- the box of a glyph that can be cut is within the limits
 pub box_fits : (filled : Option BoxedRules) (es : List Edge) → IfSome filled (λ rules. IsBoxOf rules.extents es)

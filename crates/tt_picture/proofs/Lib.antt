@@ -11,6 +11,7 @@ pub mod Inked
 pub mod Keeping
 pub mod LineShapes
 pub mod Listing
+pub mod OutlineBox
 pub mod Outlines
 pub mod Parts
 mod Pens

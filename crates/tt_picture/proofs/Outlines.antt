@@ -12,12 +12,13 @@ use Rattle.tt_core.specs.Outcomes.{after_each, each, font_fault}
 use Rattle.tt_fit.specs.Fitting.{Fitter, fitted_outline}
 use Rattle.tt_fit_outline.specs.Outline.{Outline}
 use Rattle.tt_fit_outline.specs.Steps.{advance_left}
-use Rattle.tt_picture.specs.Distinct.{distinct_after, is_among}
+use Rattle.tt_picture.specs.Distinct.{IsNext, distinct_after, fitter_after, fitter_for, is_among}
 use Rattle.tt_picture.specs.Fitted.{AreFitted, AreAdvances, FittedBody, FittedGlyph, IsFitted, IsFittedBody, body_chords, body_advance, fitted_chords, fitted_crossings, fitted_numbers, kept, made_crossings, outlined}
 use Rattle.tt_picture.specs.Pixels.{Shape}
 use Rattle.tt_picture.specs.Shapes.{chords_with, glyph_shape, shape_at}
 use Rattle.tt_picture.specs.Steps.{chords_of, glyph_chords, glyph_advance}
 use Rattle.tt_picture.specs.Unfitted.{all_differ}
+use Rattle.tt_picture.proofs.Turns.{next_is}
 
 both_true : (a b : Bool) → (a && b) ≡ true → (a ≡ true) × (b ≡ true)
 both_true true b is = (refl, is)
@@ -66,6 +67,14 @@ pub all_new : (ns : List ℕ) (i : ℕ) → i < length ns → all_differ ns ≡ 
 all_new ns i below differ =
     each_new (take i ns) (get_or ns i 0 ∷ drop (suc i) ns) (ap all_differ (in_parts ns i below) ∙ differ)
     ∙ in_parts ns i below
+
+-- where all numbers differ, the fitter of the next glyph is the present one
+pub present_is : (s now : Fitter) (ns : List ℕ) (i : ℕ) → i < length ns → all_differ ns ≡ true
+    → now ≡ fitter_after s (take i ns) → fitter_for s ns (get_or ns i 0) ≡ now
+present_is s now ns i below differ after =
+    let next : IsNext (fitter_for s ns) now (take i ns) (get_or ns i 0) =
+    next_is s now (take i ns) ns (get_or ns i 0) (drop (suc i) ns) (all_new ns i below differ) after in
+    next (not_yet ns i below differ)
 
 -- the fault of an outline is that of all
 pub stuck_there : (e : FontFault) (make : ℕ → Result Outline Fault) (ns : List ℕ) (i : ℕ) (os : List Outline) → i < length ns

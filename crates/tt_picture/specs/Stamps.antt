@@ -9,7 +9,7 @@ use Rattle.tt_scan_edges.specs.declared.edge.Frame.{Frame}
 
 -- a bitmap has column c of row r
 abbrev pub stamp_shows : PlacedBitmap → ℕ → ℕ → Bool
-stamp_shows s c r = is_black s.bitmap.value (pos c -ℤ pos s.column) (s.top -ℤ pos r)
+stamp_shows s c r = is_black s.cut.value.bitmap (pos c -ℤ pos s.column) (s.top -ℤ pos r)
 
 -- one of some bitmaps has it
 abbrev pub some_stamp_shows : List PlacedBitmap → ℕ → ℕ → Bool

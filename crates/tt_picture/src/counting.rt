@@ -21,7 +21,7 @@ pub fn crossings(glyphs: &Glyphs, line: &[(u16, u32)]) -> u64
     for placed in line {
         let at = glyphs.place_of(placed.0);
         let glyph = &glyphs.made[at];
-        all = all.saturating_add(glyph.crossings);
+        all = all.saturating_add(glyph.crossings());
     }
     all
 }

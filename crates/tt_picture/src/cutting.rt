@@ -5,23 +5,24 @@ ghost use Rattle.tt_fit.specs.Fitting.{Fitter};
 ghost use Rattle.tt_glyph_pixels.specs.Shown.{AreClosed};
 ghost use Rattle.tt_picture.specs.Cached.{IsCacheFor, IsCached, limit_of};
 ghost use Rattle.tt_picture.specs.Cut.{IsKeptOf};
+ghost use Rattle.tt_picture.specs.Glyphs as glyphs;
 ghost use Rattle.tt_picture.specs.Glyphs.{IsBodyOf, crossings_cut};
 ghost use Rattle.tt_picture.specs.Shapes.{filling_crossings};
-ghost use Rattle.tt_picture.specs.Views.{body_view};
+ghost use Rattle.tt_picture.specs.Views.{body_view, facts_of};
 ghost use Rattle.tt_scan.specs.Contours.{contours_at};
 ghost use Rattle.tt_scan_dropouts.specs.Counted.{edges_counted};
-ghost use Rattle.tt_scan_gaps.specs.Boxes.{ExtentsFit};
+ghost use Rattle.tt_scan_gaps.specs.Boxes.{ExtentsFit, IsBoxOf};
 ghost use Rattle.tt_strike_kept.specs.Glyph.{KeptGlyph};
 
 use crate::cache::Cache;
-use crate::glyph::{Glyph, GlyphBody, LargeGlyph, SmallGlyph};
+use crate::glyph::{Glyph, GlyphBody, LargeGlyph, UncutGlyph};
 use crate::outlined::KeptCounts;
 use std::alloc::{AllocError, Global};
 use std::rc::Rc;
 use tt_glyph_pixels::{GlyphPixels, pixels_of};
 use tt_scan::Tape;
-use tt_scan_dropouts::{BoxedRules, all_counted, edges_counted};
-use tt_strike_kept::KeptGlyph;
+use tt_scan_dropouts::{BoxedRules, Extents, all_counted, edges_counted};
+use tt_strike_kept::{CutGlyph, GlyphFacts, KeptGlyph};
 
 /// What the bitmap of a glyph may take: its bytes, and the crossings of the edges that it is cut from.
 #[derive(Clone, Copy)]
@@ -45,40 +46,52 @@ pub fn tape_crossings(tape: &Tape, filled: Option<BoxedRules>) -> u64
 }
 
 impl LargeGlyph {
+    /// The glyph with its facts, not cut. Error: Memory.
+    fn uncut(self, alloc: Global, facts: GlyphFacts) -> Result<GlyphBody, AllocError>
+        ensures body { IfOk result (λ b. body_view b ≡ glyphs.large self) }
+        ensures facts { IfOk result (λ b. facts_of b ≡ facts) }
+    {
+        let uncut = UncutGlyph { large: self, facts };
+        Ok(GlyphBody::Large(Box::new(alloc, uncut)?))
+    }
+
     /// The glyph's pixels, in a bitmap where the bitmap takes no more than the limits. A glyph with more crossings than
-    /// the limit is not cut. Error: Memory.
+    /// the limit is not cut. The box holds its edges. Error: Memory.
     pub(crate) fn into_body(
         self,
         alloc: Global,
-        crossings: u64,
+        extents: Extents,
+        facts: GlyphFacts,
         limits: CutLimits,
     ) -> Result<GlyphBody, AllocError>
-        requires { AreClosed self.edges }
+        requires closed { AreClosed self.edges }
+        requires boxed { IsBoxOf extents self.edges }
+        requires same { IfSome self.filled (λ rules. rules.extents ≡ extents) }
         ensures body { IfOk result (λ b. IsBodyOf self.edges (contours_at self.edges self.ends) self.filled (body_view b)) }
-        ensures cut { IfOk result (λ b. crossings_cut crossings (body_view b) ≤ limits.crossings) }
+        ensures facts { IfOk result (λ b. facts_of b ≡ facts) }
+        ensures cut { IfOk result (λ b. crossings_cut facts.crossings (body_view b) ≤ limits.crossings) }
     {
-        if crossings > limits.crossings {
-            return Ok(GlyphBody::Large(self));
+        if facts.crossings > limits.crossings {
+            return self.uncut(alloc, facts);
         }
         let LargeGlyph {
             mut tape,
             ends,
             filled,
         } = self;
-        let made = pixels_of(alloc, &mut tape, &ends, filled, limits.bytes)?;
+        let made = pixels_of(alloc, &mut tape, &ends, filled, extents, limits.bytes)?;
         let Some(pixels) = made else {
-            return Ok(GlyphBody::Large(LargeGlyph { tape, ends, filled }));
+            return LargeGlyph { tape, ends, filled }.uncut(alloc, facts);
         };
         let GlyphPixels { bitmap, ink } = pixels;
-        Ok(GlyphBody::Small(SmallGlyph {
-            bitmap: Rc::new(alloc, bitmap)?,
-            ink,
-        }))
+        let cut = CutGlyph { bitmap, ink, facts };
+        Ok(GlyphBody::Small(Rc::new(alloc, cut)?))
     }
 }
 
 impl Glyph {
-    /// Caches the glyph if it is to be cached, and its bitmap takes no more than a sixteenth of the cache. Error: Memory.
+    /// Caches the glyph if it is to be cached, and its bitmap takes no more than a sixteenth of the cache. The glyph then
+    /// has one more owner. Error: Memory.
     pub(crate) fn cache_in(
         &self,
         cache: &mut Cache,
@@ -91,21 +104,16 @@ impl Glyph {
         let Some(counts) = counts else {
             return Ok(());
         };
-        let GlyphBody::Small(small) = &self.body else {
+        let GlyphBody::Small(cut) = &self.body else {
             return Ok(());
         };
-        if small.bitmap.bytes() > cache.bitmap_limit() {
+        if cut.bitmap.bytes() > cache.bitmap_limit() {
             return Ok(());
         }
         let kept = KeptGlyph {
-            bitmap: small.bitmap.clone()?,
-            ink: small.ink,
-            advance_left: self.advance_left,
-            chords: self.chords,
-            crossings: self.crossings,
+            cut: cut.clone()?,
             points: counts.points,
             cost: counts.cost,
-            unfitted: self.unfitted,
         };
         cache.put(self.number, kept);
         Ok(())

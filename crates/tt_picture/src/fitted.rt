@@ -19,11 +19,11 @@ use tt_core::FontFault;
 use tt_fit::{Fitter, OutlineAtCost};
 use tt_strike_kept::KeptGlyph;
 
-/// The part of a fitted glyph that gives its edges or its pixels.
+/// The part of a fitted glyph that gives its edges or its pixels. An outline is large, so it is behind a pointer.
 #[derive(Drop)]
 pub(crate) enum FittedBody {
     /// Its outline.
-    Outline(MadeOutline),
+    Outline(Box<MadeOutline>),
     /// Its pixels, from the cache.
     Kept(KeptGlyph),
 }
@@ -48,6 +48,7 @@ impl FittedGlyph {
     /// A glyph from the cache, where its cost is left of the job's work: the cost is paid. Else the glyph is made. The
     /// fitter then serves later glyphs. Errors: those of its outline, Memory.
     pub(crate) fn of(
+        alloc: Global,
         fitter: &mut Fitter,
         number: u16,
         cache: &Cache,
@@ -67,20 +68,39 @@ impl FittedGlyph {
                 });
             }
         }
-        let points = points_of(fitter, number, cache.is_there())?;
+        FittedGlyph::made(alloc, fitter, number, cache.is_there())
+    }
+
+    /// A glyph whose outline is made. What it counts is told where it may be cached. The fitter then serves later glyphs.
+    /// Errors: those of its outline, Memory. Not inline: a glyph from the cache needs no room for an outline.
+    #[inline(never)]
+    fn made(
+        alloc: Global,
+        fitter: &mut Fitter,
+        number: u16,
+        cached: bool,
+    ) -> Result<FittedGlyph, FontFault>
+        requires known { number < fitter.old.tables.glyphs }
+        ensures number { IfOk result (λ g. g.number ≡ number) }
+        ensures fitted { IfOk result (IsFitted fitter.old) }
+        ensures after { OnOk result (fitter.new ≡ after_glyph fitter.old number) }
+        ensures fault { IfTold font_fault result (λ f. fitted_outline fitter.old number ≡ Err f) }
+    {
+        let points = points_of(fitter, number, cached)?;
         let work = fitter.work();
         let made = fitter.fit_with_cost(number)?;
         let OutlineAtCost { outline, cost } = made;
         let filled = rules_for(&outline, fitter.dropouts(&outline));
         let counts = counts_of(points, cost_of(work, cost));
+        let outlined = MadeOutline {
+            outline,
+            rule: rule_by(work),
+            filled,
+            counts,
+        };
         Ok(FittedGlyph {
             number,
-            body: FittedBody::Outline(MadeOutline {
-                outline,
-                rule: rule_by(work),
-                filled,
-                counts,
-            }),
+            body: FittedBody::Outline(Box::new(alloc, outlined)?),
         })
     }
 
@@ -90,7 +110,7 @@ impl FittedGlyph {
     {
         match &self.body {
             FittedBody::Outline(made) => made.outline.advance_left(),
-            FittedBody::Kept(kept) => kept.advance_left,
+            FittedBody::Kept(kept) => kept.cut.facts.advance_left,
         }
     }
 
@@ -101,7 +121,7 @@ impl FittedGlyph {
     {
         match &self.body {
             FittedBody::Outline(made) => has_chords_within(&made.outline, made.rule, most),
-            FittedBody::Kept(kept) => kept.chords <= most,
+            FittedBody::Kept(kept) => kept.cut.facts.chords <= most,
         }
     }
 
@@ -125,7 +145,9 @@ impl FittedGlyph {
     {
         let FittedGlyph { number, body } = self;
         match body {
-            FittedBody::Outline(made) => made.into_glyph(alloc, number, cache, limits),
+            FittedBody::Outline(made) => {
+                Box::into_inner(made).into_glyph(alloc, number, cache, limits)
+            }
             FittedBody::Kept(kept) => Ok(Glyph::cached(number, kept)),
         }
     }

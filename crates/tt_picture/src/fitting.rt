@@ -45,7 +45,7 @@ pub fn fit_glyphs(
 {
     let mut made = Vec::with_capacity(alloc, numbers.len())?;
     for number in numbers {
-        let glyph = FittedGlyph::of(fitter, *number, cache)?;
+        let glyph = FittedGlyph::of(alloc, fitter, *number, cache)?;
         made.push(glyph)?;
     }
     Ok(made)
@@ -72,7 +72,7 @@ pub fn made_glyphs(
     let mut room = BITMAPS_BYTES;
     let mut made = Vec::with_capacity(alloc, numbers.len())?;
     for number in numbers {
-        let fitted = FittedGlyph::of(fitter, *number, cache)?;
+        let fitted = FittedGlyph::of(alloc, fitter, *number, cache)?;
         let cut = CutLimits {
             bytes: room.min(BITMAP_BYTES),
             crossings: u64::MAX,
@@ -123,11 +123,12 @@ pub fn drawn_glyphs(
             crossings: left.crossings,
         };
         let glyph = one.into_glyph(alloc, cache, cut)?;
-        if glyph.crossings > left.crossings {
+        let crossings = glyph.crossings();
+        if crossings > left.crossings {
             return Ok(None);
         }
-        left.chords -= glyph.chords;
-        left.crossings -= glyph.crossings;
+        left.chords -= glyph.chords();
+        left.crossings -= crossings;
         room = room.saturating_sub(glyph.bytes());
         made.push(glyph)?;
     }

@@ -1,6 +1,5 @@
 //! A distinct glyph of some lines: its pixels at pen 0, made once however often it appears.
 
-ghost use Rattle.std.proofs.Props.{props};
 ghost use Rattle.std.specs.Prelude.{◌≡◌, ◌+◌, IfNone, IfOk, IfSome, Some, None};
 ghost use Rattle.tt_bitmap.specs.Inks.{IsNear};
 ghost use Rattle.tt_fit.specs.Fitting.{Fitter};
@@ -9,6 +8,7 @@ ghost use Rattle.tt_picture.specs.Fitted.{IsFitted};
 ghost use Rattle.tt_picture.specs.Glyphs.{IsDrawn, body_ink};
 ghost use Rattle.tt_picture.specs.Ink.{filled_ink, ink_by};
 ghost use Rattle.tt_picture.specs.Shapes.{filling_crossings};
+ghost use Rattle.tt_picture.specs.Views.{facts_of};
 ghost use Rattle.tt_scan.specs.Contours.{contours_at};
 ghost use Rattle.tt_scan_dropouts.specs.Counted.{edges_counted};
 
@@ -17,22 +17,11 @@ use crate::report::Unfitted;
 use std::alloc::{AllocError, Global};
 use std::marker::Model;
 use std::rc::Rc;
-use tt_bitmap::{BoxBitmap, LeastBox};
-use tt_core::Fault;
+use tt_bitmap::LeastBox;
 use tt_scan::Tape;
 use tt_scan_dropouts::BoxedRules;
 use tt_scan_ink::{dropouts_ink, edges_ink};
-use tt_strike_kept::KeptGlyph;
-
-/// The pixels of a glyph in a bitmap.
-#[derive(Drop)]
-pub(crate) struct SmallGlyph {
-    /// All black pixels at pen 0. The bitmap may have other owners.
-    pub(crate) bitmap: Rc<BoxBitmap>,
-    /// The least box that holds them; None where the glyph is blank.
-    pub(crate) ink: Option<LeastBox>,
-    pub(crate) ghost near: { IfSome ink IsNear } by { Prim.hlevel props },
-}
+use tt_strike_kept::{CutGlyph, GlyphFacts, KeptGlyph};
 
 /// The edges of a glyph whose bitmap would take too many bytes. Its pixels are cut from them when it is painted.
 #[derive(Drop)]
@@ -87,35 +76,49 @@ impl LargeGlyph {
     }
 }
 
-/// The pixels of a glyph at pen 0.
+/// A glyph that is not cut, and its facts.
+#[derive(Drop)]
+pub(crate) struct UncutGlyph {
+    pub(crate) large: LargeGlyph,
+    pub(crate) facts: GlyphFacts,
+}
+
+/// The pixels of a glyph at pen 0, and its facts. Both are behind a pointer: glyphs are moved often.
 #[derive(Drop)]
 pub(crate) enum GlyphBody {
-    Small(SmallGlyph),
-    Large(LargeGlyph),
+    /// Cut into a bitmap. The glyph may have other owners.
+    Small(Rc<CutGlyph>),
+    /// Not cut.
+    Large(Box<UncutGlyph>),
+}
+
+impl GlyphBody {
+    /// The facts of the glyph beside its pixels.
+    #[inline(always)]
+    fn facts(&self) -> GlyphFacts
+        ensures { result ≡ facts_of self.now }
+    {
+        match self {
+            GlyphBody::Small(cut) => cut.facts,
+            GlyphBody::Large(uncut) => uncut.facts,
+        }
+    }
 }
 
 /// A glyph by its number in the font, with its pixels.
 #[derive(Drop)]
 pub struct Glyph {
     pub(crate) number: u16,
-    /// The distance of its advance's two ends, by its outline, in 26.6 pixels.
-    pub(crate) advance_left: i32,
-    /// The number of its chords and straight edges.
-    pub(crate) chords: usize,
-    /// Its crossings at one pen, in a picture and outside, with the search for dropouts.
-    pub(crate) crossings: u64,
     pub(crate) body: GlyphBody,
-    /// The fault that makes it unfitted.
-    pub(crate) unfitted: Option<Fault>,
 }
 
 impl Model for Glyph {
     ghost use Rattle.tt_picture.specs.Glyphs as glyphs;
-    ghost use Rattle.tt_picture.specs.Views.{body_view};
+    ghost use Rattle.tt_picture.specs.Views.{glyph_view};
 
     ghost Value = { glyphs.Glyph };
 
-    ghost view = { λ g. record { number = g.number; advance_left = g.advance_left; chords = g.chords; crossings = g.crossings; body = body_view g.body; unfitted = g.unfitted } };
+    ghost view = { λ g. glyph_view g.number g.body };
 }
 
 impl Glyph {
@@ -126,22 +129,10 @@ impl Glyph {
         ensures crossings { result.crossings ≡ kept.crossings }
         ensures valid { (s : Fitter) → IsFitted s (record { number = number; body = fitted.kept kept }) → IsDrawn s result }
     {
-        let KeptGlyph {
-            bitmap,
-            ink,
-            advance_left,
-            chords,
-            crossings,
-            unfitted,
-            ..
-        } = kept;
+        let KeptGlyph { cut, .. } = kept;
         Glyph {
             number,
-            advance_left,
-            chords,
-            crossings,
-            body: GlyphBody::Small(SmallGlyph { bitmap, ink }),
-            unfitted,
+            body: GlyphBody::Small(cut),
         }
     }
 
@@ -150,7 +141,7 @@ impl Glyph {
         ensures none { IfNone result (self.now.unfitted ≡ None) }
         ensures some { IfSome result (λ u. (self.now.unfitted ≡ Some u.fault) × (u.glyph ≡ self.now.number)) }
     {
-        match self.unfitted {
+        match self.body.facts().unfitted {
             Some(fault) => Some(Unfitted {
                 glyph: self.number,
                 fault,
@@ -162,7 +153,7 @@ impl Glyph {
     /// The bytes of its bitmap; 0 where there is none.
     pub(crate) fn bytes(&self) -> usize {
         match &self.body {
-            GlyphBody::Small(small) => small.bitmap.bytes(),
+            GlyphBody::Small(cut) => cut.bitmap.bytes(),
             GlyphBody::Large(_) => 0,
         }
     }
@@ -173,9 +164,23 @@ impl Glyph {
         ensures near { IfOk result (λ ink. IfSome ink IsNear) }
     {
         match &self.body {
-            GlyphBody::Small(small) => Ok(small.ink),
-            GlyphBody::Large(large) => large.ink(alloc),
+            GlyphBody::Small(cut) => Ok(cut.ink),
+            GlyphBody::Large(uncut) => uncut.large.ink(alloc),
         }
+    }
+
+    /// The number of its chords and straight edges.
+    pub(crate) fn chords(&self) -> usize
+        ensures { result ≡ self.now.chords }
+    {
+        self.body.facts().chords
+    }
+
+    /// Its crossings at one pen, in a picture and outside, with the search for dropouts.
+    pub(crate) fn crossings(&self) -> u64
+        ensures { result ≡ self.now.crossings }
+    {
+        self.body.facts().crossings
     }
 
     /// Its number in the font.
@@ -189,6 +194,6 @@ impl Glyph {
     pub fn advance_left(&self) -> i32
         ensures { result ≡ self.now.advance_left }
     {
-        self.advance_left
+        self.body.facts().advance_left
     }
 }

@@ -196,13 +196,13 @@ fn paint_glyph(
 {
     match &glyph.body {
         GlyphBody::Small(_) => Ok(()),
-        GlyphBody::Large(large) => {
+        GlyphBody::Large(uncut) => {
             let pens = pens_of(alloc, glyph.number, line)?;
             // The line may be without the glyph.
             if pens.is_empty() {
                 return Ok(());
             }
-            large.paint(alloc, frame, &pens, rows)
+            uncut.large.paint(alloc, frame, &pens, rows)
         }
     }
 }

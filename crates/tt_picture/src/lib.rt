@@ -51,6 +51,6 @@ pub use glyphs::Glyphs;
 pub use ink_box::{InkBox, ink_at, joined};
 pub use inks::glyph_inks;
 pub use lines::PlacedLine;
-pub use outlined::{edges_of, has_chords_within, rule_by, rules_for};
+pub use outlined::{box_of, edges_of, has_chords_within, rule_by, rules_for};
 pub use picture::Picture;
 pub use report::{Report, Unfitted, report_on};

@@ -1,6 +1,6 @@
 //! The outline of a glyph that is made, before its edges are.
 
-ghost use Rattle.std.specs.Prelude.{◌≡◌, ◌⊎◌, ◌<◌, ◌≤◌, ◌^◌, false, nat_le, length, IfOk, IfSome, None, Some, Ok};
+ghost use Rattle.std.specs.Prelude.{◌≡◌, ◌⊎◌, ◌<◌, ◌≤◌, ◌^◌, nat_le, length, IfOk, IfSome, None, Some, Ok};
 ghost use Rattle.tt_fit.specs.Counting.{points_asked};
 ghost use Rattle.tt_fit.specs.Fitting.{Fitter, fitted_outline};
 ghost use Rattle.tt_fit_outline.specs.Outline as shape;
@@ -25,6 +25,7 @@ use tt_fit::{DropoutRules, Fitter, Outline};
 use tt_glyph_pixels::glyph_frame;
 use tt_scan::Tape;
 use tt_scan_dropouts::{BoxedRules, Extents, Rules};
+use tt_strike_kept::GlyphFacts;
 
 /// What a glyph counts of a line's work when it is taken from the cache.
 #[derive(Clone, Copy)]
@@ -80,22 +81,20 @@ impl MadeOutline {
             filled,
             counts,
         } = self;
+        let extents = box_of(&outline, filled);
         let made = edges_of(alloc, &outline, rule, filled)?;
         let OutlineEdges { list, ends, chords } = made;
-        let frame = glyph_frame(&list, filled);
-        let tape = Tape::of(alloc, frame, list)?;
+        let tape = Tape::of(alloc, glyph_frame(extents, filled), list)?;
         tt_arc::laws::contours_joined();
         let edged = LargeGlyph { tape, ends, filled };
-        let crossings = edged.crossings();
-        let body = edged.into_body(alloc, crossings, limits)?;
-        let glyph = Glyph {
-            number,
+        let facts = GlyphFacts {
             advance_left: outline.advance_left(),
             chords,
-            crossings,
-            body,
+            crossings: edged.crossings(),
             unfitted: outline.unfitted,
         };
+        let body = edged.into_body(alloc, extents, facts, limits)?;
+        let glyph = Glyph { number, body };
         glyph.cache_in(cache, counts)?;
         Ok(glyph)
     }
@@ -108,8 +107,7 @@ pub(crate) fn points_of(
     cached: bool,
 ) -> Result<Option<u64>, AllocError>
     requires { number < fitter.now.tables.glyphs }
-    ensures exact { IfOk result (λ p. IfSome p (λ n. n ≡ points_asked fitter.now.tables fitter.now.levels number)) }
-    ensures none { cached ≡ false → IfOk result (λ p. p ≡ None) }
+    ensures { IfOk result (λ p. IfSome p (λ n. n ≡ points_asked fitter.now.tables fitter.now.levels number)) }
 {
     if !cached {
         return Ok(None);
@@ -129,7 +127,6 @@ pub(crate) fn cost_of(work: Option<u64>, cost: Option<u64>) -> Option<u64>
 
 /// What a glyph counts, where its points and its cost are known.
 pub(crate) fn counts_of(points: Option<u64>, cost: Option<u64>) -> Option<KeptCounts>
-    ensures none { points ≡ None → result ≡ None }
     ensures points { IfSome result (λ n. points ≡ Some n.points) }
     ensures cost { IfSome result (λ n. cost ≡ Some n.cost) }
 {
@@ -157,6 +154,20 @@ fn extents_of(outline: &Outline) -> Extents
 {
     let origin = outline.phantom[0].0;
     points_box(outline, -i64::from(origin), 0)
+}
+
+/// The box of an outline's points, where its first phantom point is at the left end of the line. The rules for filling
+/// its dropouts have the same box.
+pub fn box_of(outline: &Outline, filled: Option<BoxedRules>) -> Extents
+    requires outline { IsOutline (outline_of outline.now) }
+    requires same { IfSome filled (λ rules. rules.extents ≡ extents_of (outline_of outline.now)) }
+    ensures exact { result ≡ extents_of (outline_of outline.now) }
+    ensures fits { ExtentsFit result }
+{
+    match filled {
+        Some(rules) => rules.extents,
+        None => extents_of(outline),
+    }
 }
 
 /// The dropout rules in the scan converter's type, with the outline's box, which is needed only there.

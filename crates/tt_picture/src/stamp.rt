@@ -3,13 +3,13 @@
 ghost use Rattle.std.specs.Prelude.{◌^◌, ◌<◌, unsigned_abs};
 
 use std::rc::Rc;
-use tt_bitmap::BoxBitmap;
+use tt_strike_kept::CutGlyph;
 
-/// A bitmap at its place in a picture.
+/// The bitmap of a glyph at its place in a picture.
 #[derive(Drop)]
 pub(crate) struct PlacedBitmap {
-    /// All black pixels of a glyph at pen 0. The bitmap may have other owners.
-    pub(crate) bitmap: Rc<BoxBitmap>,
+    /// The glyph, with all its black pixels at pen 0. It may have other owners.
+    pub(crate) cut: Rc<CutGlyph>,
     /// The picture's column at the glyph's pen.
     pub(crate) column: u32,
     /// The line of the picture's first row, counted upwards from the glyph's base line.

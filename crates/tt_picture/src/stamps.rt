@@ -20,8 +20,8 @@ use crate::lines::PlacedLine;
 use crate::stamp::PlacedBitmap;
 use std::alloc::{AllocError, Global};
 use std::rc::Rc;
-use tt_bitmap::BoxBitmap;
 use tt_scan::Frame;
+use tt_strike_kept::CutGlyph;
 
 /// The line of a picture's first row, counted upwards from the base line.
 fn top_of(frame: Frame) -> i64
@@ -32,13 +32,13 @@ fn top_of(frame: Frame) -> i64
 }
 
 /// A glyph's bitmap at a pen of a line with this frame.
-fn stamp_at(bitmap: Rc<BoxBitmap>, frame: Frame, pen: u32) -> PlacedBitmap
+fn stamp_at(cut: Rc<CutGlyph>, frame: Frame, pen: u32) -> PlacedBitmap
     requires frame { FrameFits frame }
     requires pen { pen ≤ width_limit }
-    ensures { (c r : ℕ) → stamp_shows result c r ≡ is_black bitmap.value (column_at frame pen c) (line_at frame r) }
+    ensures { (c r : ℕ) → stamp_shows result c r ≡ is_black cut.value.bitmap (column_at frame pen c) (line_at frame r) }
 {
     PlacedBitmap {
-        bitmap,
+        cut,
         column: pen + frame.margin,
         top: top_of(frame),
     }
@@ -57,8 +57,8 @@ fn push_stamp(
         ≡ (some_stamp_shows stamps.old.items c r || in_bitmap glyph.now.body (column_at frame pen c) (line_at frame r))) }
 {
     match &glyph.body {
-        GlyphBody::Small(small) => {
-            let stamp = stamp_at(small.bitmap.clone()?, frame, pen);
+        GlyphBody::Small(cut) => {
+            let stamp = stamp_at(cut.clone()?, frame, pen);
             stamps.push(stamp)?;
             Ok(())
         }
@@ -128,7 +128,7 @@ pub(crate) fn add_stamps(
     let bytes = row_bytes(frame);
     for stamp in stamps {
         let line = stamp.line_of(from);
-        stamp.bitmap.paint(
+        stamp.cut.bitmap.paint(
             i64::from(stamp.column),
             line,
             count,

@@ -65,12 +65,16 @@ abbrev pub face_number : Reading → ℕ
 face_number reading.Strict = 0
 face_number (reading.Wide face) = face
 
+-- the lines about a label's font, by its file
+abbrev pub label_notes : Label → List ℕ → List ℕ
+label_notes l file = font_notes l.path.now file (face_number l.setting.opening.reading) l.face_given
+
 -- what is reported of a label, by its font's file
 abbrev pub label_told : Label → List ℕ → List ℕ → LabelTold
 label_told l file text = record {
   fit = l.setting.fit;
   signs = signs_of (label_lines text);
-  font = font_notes l.path.now file (face_number l.setting.opening.reading) l.face_given;
+  font = label_notes l file;
 }
 
 -- the answer of a label's text by a font's tables at a size

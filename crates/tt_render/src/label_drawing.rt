@@ -6,7 +6,7 @@ ghost use Rattle.tt_core.specs.Outcomes.{GivesUnless, IfTold};
 ghost use Rattle.tt_label.specs.Label.{label_glyphs};
 ghost use Rattle.tt_render_run.specs.Outcome.{traffic_of};
 ghost use Rattle.tt_render_run.specs.Reading.{font_reader_of};
-ghost use Rattle.tt_render.specs.Labels.{CanGoOut, FileLabelsGive, FontLabelGives, FontLabelsGive, HintsBy, LabelReadies, TellsLabel, hint_for, label_answer, label_view, line_labelled};
+ghost use Rattle.tt_render.specs.Labels.{CanGoOut, FileLabelsGive, FontLabelGives, FontLabelsGive, HintsBy, LabelReadies, TellsLabel, hint_for, label_answer, label_notes, label_view, line_labelled};
 ghost use Rattle.tt_render_lines.specs.Lines.{line_limit};
 ghost use Rattle.tt_render_lines.specs.LinesDefects.{IsDefectBy, IsTextDefect, LinesTell, LinesTellDefects, LinesTellDefectsOf};
 ghost use Rattle.tt_render_lines.specs.Printing.{errors_of};
@@ -15,7 +15,7 @@ ghost use Rattle.tt_render_lines.specs.TextsOutcome.{IsOfText, LinesGive, TextTe
 ghost use Rattle.tt_render_lines.specs.Views.{before_lines};
 ghost use Rattle.tt_strike.specs.Job.{tested};
 
-use crate::label_answers::{ReadyLabel, answer_label, face_number};
+use crate::label_answers::{ReadyLabel, answer_label, face_number, notes_of};
 use std::alloc::Global;
 use std::str;
 use tt_advice::{Hint, advice};
@@ -84,8 +84,15 @@ fn done() -> Labelled
 
 /// The answer of the one text by a font file. Errors, the first of: Font, of the tables needed for every text; those of
 /// `answer_label`. Memory may come at any allocation.
-fn draw(alloc: Global, file: &[u8], text: &str, asked: &Label) -> Result<ReadyLabel, TextsFault>
+fn draw<'n>(
+    alloc: Global,
+    file: &[u8],
+    notes: &'n str,
+    text: &str,
+    asked: &Label,
+) -> Result<ReadyLabel<'n>, TextsFault>
     requires size { length file.now ≤ font_limit }
+    requires notes { notes.now ≡ label_notes asked.now file.now }
     requires tested { tested (job_by asked.now.setting text.now) ≡ Ok tt }
     ensures outcome { LabelReadies (λ s. label_answer asked.now s text.now) (strike_of asked.now.setting file.now) result }
     ensures defects { TextTellsDefects (IsTextDefect label_glyphs asked.now.setting text.now file.now) result }
@@ -94,7 +101,7 @@ fn draw(alloc: Global, file: &[u8], text: &str, asked: &Label) -> Result<ReadyLa
 {
     let face = Face::read_with(file, asked.setting.opening)?;
     let mut strike = Strike::new(alloc, &face, asked.setting.ppem, asked.setting.fit, 0)?;
-    match answer_label(alloc, &mut strike, file, asked, None, text) {
+    match answer_label(alloc, &mut strike, notes, asked, None, text) {
         Ok(ready) => Ok(ready),
         Err(fault) => Err(texts_fault(None, fault.refusal)),
     }
@@ -132,7 +139,11 @@ pub fn draw_label<R: Source, W: Sink, E: Sink>(
         Ok(file) => file,
         Err(fault) => return unhinted(refusal_of_run(fault)),
     };
-    let mut ready = match draw(alloc, &file, text, asked) {
+    let notes = match notes_of(alloc, &file, asked) {
+        Ok(notes) => notes,
+        Err(_) => return unhinted(Refusal::Memory),
+    };
+    let mut ready = match draw(alloc, &file, &notes, text, asked) {
         Ok(ready) => ready,
         Err(fault) => return hinted(fault, &file, asked),
     };
@@ -145,20 +156,19 @@ pub fn draw_label<R: Source, W: Sink, E: Sink>(
     }
 }
 
-/// The answer of the line with this number as a label, by a strike whose face is of this file. Errors, the first of:
-/// NotUtf8; those of a text. The caller puts the line into an error.
+/// The answer of the line with this number as a label, by a strike, with the lines about the font of its face. Errors,
+/// the first of: NotUtf8; those of a text. The caller puts the line into an error.
 #[tactic(auto, unfolding(crate::specs::Labels::line_labelled))]
-fn draw_line(
+fn draw_line<'n>(
     alloc: Global,
     strike: &mut Strike,
-    file: &[u8],
+    notes: &'n str,
     asked: &Label,
     number: u32,
     line: &[u8],
-) -> Result<ReadyLabel, TextsFault>
+) -> Result<ReadyLabel<'n>, TextsFault>
     requires short { length line.now ≤ line_limit }
-    requires size { length file.now ≤ font_limit }
-    requires file { file.now ≡ strike.old.face.directory.file }
+    requires notes { notes.now ≡ label_notes asked.now strike.old.face.directory.file }
     ensures exact { GivesUnless told label_view (without_line result) (line_labelled asked.now strike.old line.now) }
     ensures valid { IfOk result CanGoOut }
     ensures report { IfOk result (TellsLabel (Some number)) }
@@ -169,14 +179,14 @@ fn draw_line(
     let Ok(text) = str::from_utf8(line) else {
         return Err(texts_fault(None, Refusal::NotUtf8));
     };
-    answer_label(alloc, strike, file, asked, Some(number), text)
+    answer_label(alloc, strike, notes, asked, Some(number), text)
 }
 
-/// Draws each line of a text as a label with a strike, as `draw_labels` does. The strike's face is of this file.
+/// Draws each line of a text as a label with a strike, as `draw_labels` does, with the lines about the font of its face.
 fn draw_labels_by<R: Source, W: Sink, E: Sink>(
     alloc: Global,
     strike: &mut Strike,
-    file: &[u8],
+    notes: &str,
     lines: &mut R,
     out: &mut W,
     error: &mut E,
@@ -185,8 +195,7 @@ fn draw_labels_by<R: Source, W: Sink, E: Sink>(
     requires lines { R.has_failed lines.old ≡ false }
     requires out { W.has_failed out.old ≡ false }
     requires error { E.has_failed error.old ≡ false }
-    requires size { length file.now ≤ font_limit }
-    requires file { file.now ≡ strike.old.face.directory.file }
+    requires notes { notes.now ≡ label_notes asked.now strike.old.face.directory.file }
     ensures outcome { LinesGive (line_labelled asked.now strike.old) result (traffic_of R.left R.has_failed W.written W.has_failed lines.old lines.new out.old out.new) (errors_of E.written E.has_failed error.old error.new) }
     ensures defects { LinesTell (IsDefectBy label_glyphs asked.now.setting strike.old) (R.left lines.old) result }
 {
@@ -200,7 +209,7 @@ fn draw_labels_by<R: Source, W: Sink, E: Sink>(
             Err(stop) => return Err(texts_fault(Some(number), stop.refusal)),
         };
         let line = reader.line(place);
-        let mut ready = match draw_line(alloc, strike, file, asked, number, line) {
+        let mut ready = match draw_line(alloc, strike, notes, asked, number, line) {
             Ok(ready) => ready,
             Err(fault) => return Err(texts_fault(Some(number), fault.refusal)),
         };
@@ -240,7 +249,8 @@ fn draw_labels_of<R: Source, W: Sink, E: Sink>(
     let face = Face::read_with(file, asked.setting.opening)?;
     let setting = asked.setting;
     let mut strike = Strike::new(alloc, &face, setting.ppem, setting.fit, setting.most)?;
-    draw_labels_by(alloc, &mut strike, file, lines, out, error, asked)
+    let notes = notes_of(alloc, file, asked)?;
+    draw_labels_by(alloc, &mut strike, &notes, lines, out, error, asked)
 }
 
 /// Draws each line of a text as a label of its own, in order, and writes its picture as soon as it is made. Nothing of a

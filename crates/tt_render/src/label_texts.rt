@@ -1,7 +1,6 @@
-//! The lines of a label's text, and what is found in them.
+//! The characters of a label's text that the font lacks.
 
-ghost use Rattle.std.specs.Prelude.{◌≡◌, map, IfOk, OnOk};
-ghost use Rattle.std.specs.Str.Lines.{lines};
+ghost use Rattle.std.specs.Prelude.{◌≡◌, IfOk, OnOk};
 ghost use Rattle.tt_cmap.specs.Lacking.{distinct_after, with_character};
 ghost use Rattle.tt_core.specs.Outcomes.{GivesUnless, IfTold};
 ghost use Rattle.tt_render.specs.Labels.{lines_lacking};
@@ -10,29 +9,9 @@ ghost use Rattle.tt_render_lines.specs.Texts.{missing_among};
 ghost use Rattle.tt_render_lines.specs.TextsOutcome.{IsOfText, refusal_font_fault, told, without_line};
 
 use std::alloc::{AllocError, Global};
-use tt_cmap::{CharacterMap, lacking};
 use tt_line::unmarked;
-use tt_render_lines::{Missing, Refusal, TextsFault, texts_fault};
-
-/// The lines of a text: a line feed ends a line, and a carriage return just before it is no part of the line. Error:
-/// memory ran out.
-fn all_lines(alloc: Global, text: &str) -> Result<Vec<&str>, AllocError>
-    ensures { IfOk result (λ v. map (λ l. l.now) v.items ≡ lines text.now) }
-{
-    text.lines().collect(alloc)
-}
-
-/// The lines of a label's text: at least one. Error: memory ran out.
-#[tactic(auto, unfolding(tt_line::specs::Labels::label_lines))]
-pub(crate) fn label_lines(alloc: Global, text: &str) -> Result<Vec<&str>, AllocError>
-    ensures { IfOk result (λ v. map (λ l. l.now) v.items ≡ label_lines text.now) }
-{
-    let mut lines = all_lines(alloc, unmarked(text))?;
-    if lines.is_empty() {
-        lines.push("")?;
-    }
-    Ok(lines)
-}
+use tt_render_lines::{Missing, TextsFault, none_missing};
+use tt_strike::Strike;
 
 /// Lists a character, unless the character is listed already. Error: memory ran out.
 fn list(listed: &mut Vec<char>, c: char) -> Result<(), AllocError>
@@ -54,43 +33,36 @@ fn list_all(listed: &mut Vec<char>, more: &[char]) -> Result<(), AllocError>
     Ok(())
 }
 
-/// The distinct characters of some lines without a glyph, in order of first appearance. Error: memory ran out.
-fn lines_lacking(
-    alloc: Global,
-    cmap: &CharacterMap,
-    lines: &[&str],
-) -> Result<Vec<char>, AllocError>
-    ensures { IfOk result (λ v. v.items ≡ lines_lacking cmap.now (map (λ l. l.now) lines.now)) }
+/// The distinct characters of a label's lines without a glyph, in order of first appearance. Error: memory ran out.
+fn lines_lacking(alloc: Global, strike: &mut Strike, text: &str) -> Result<Vec<char>, AllocError>
+    ensures exact { IfOk result (λ v. v.items ≡ lines_lacking strike.old.face.cmap (label_lines text.now)) }
+    ensures same { strike.new ≡ strike.old }
 {
     let mut listed = Vec::new(alloc);
-    for line in lines {
-        let lacking = lacking(alloc, cmap, line)?;
+    // An empty line, which stands in place of none, lacks no glyph.
+    for line in unmarked(text).lines() {
+        let lacking = strike.lacking(line)?;
         list_all(&mut listed, &lacking)?;
     }
     Ok(listed)
 }
 
-/// The characters of some lines without a glyph that are reported. Error: Missing, the first, where they are refused.
-/// The caller knows the line.
+/// The characters of a label's text without a glyph that are reported. Error: Missing, the first, where they are
+/// refused. The caller knows the line.
 pub(crate) fn missing_in(
     alloc: Global,
-    cmap: &CharacterMap,
+    strike: &mut Strike,
     how: Missing,
-    lines: &[&str],
+    text: &str,
 ) -> Result<Vec<char>, TextsFault>
-    ensures exact { GivesUnless told (λ v. v.items) (without_line result) (missing_among how (lines_lacking cmap.now (map (λ l. l.now) lines.now))) }
+    ensures exact { GivesUnless told (λ v. v.items) (without_line result) (missing_among how (lines_lacking strike.old.face.cmap (label_lines text.now))) }
     ensures font { IfTold refusal_font_fault (without_line result) (λ _. ⊥) }
     ensures serves { IsOfText (without_line result) }
+    ensures same { strike.new ≡ strike.old }
 {
     match how {
         Missing::Draw => Ok(Vec::new(alloc)),
-        Missing::Tell => Ok(lines_lacking(alloc, cmap, lines)?),
-        Missing::Refuse => {
-            let lacking = lines_lacking(alloc, cmap, lines)?;
-            match lacking.first() {
-                Some(c) => Err(texts_fault(None, Refusal::Missing(*c))),
-                None => Ok(lacking),
-            }
-        }
+        Missing::Tell => Ok(lines_lacking(alloc, strike, text)?),
+        Missing::Refuse => none_missing(lines_lacking(alloc, strike, text)?),
     }
 }

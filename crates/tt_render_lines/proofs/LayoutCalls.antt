@@ -1,5 +1,6 @@
 -- The steps of a call that writes the measure of a text without its ink, joined.
-use Rattle.std.proofs.Common.{◌≡◌, ◌∙◌, ℕ, List, ◌++◌, append_assoc, flat_map, Bool, true, false, None, Ok, Err, inl, inr, refl}
+use Rattle.std.proofs.Common.{◌≡◌, ◌∙◌, ℕ, List, ◌++◌, append_assoc, codes, decimal, flat_map, Bool, true, false, None, Ok, Err, inl, inr, refl}
+use Rattle.std.specs.Fmt.{signed_decimal}
 use Rattle.std.specs.Prelude.{IfSome}
 use Rattle.tt_core.specs.declared.collection.Reading.{Reading}
 use Rattle.tt_core.specs.declared.draw_fault.DrawFault.{DrawFault}
@@ -11,7 +12,7 @@ use Rattle.tt_core.specs.Faults.{Fault}
 use Rattle.tt_render_lines.specs.declared.refusal.Refusal.{Refusal}
 use Rattle.tt_render_lines.specs.declared.refusal.Refusal.TheVariants as reason
 use Rattle.tt_render_lines.specs.declared.setting.Setting.{Setting}
-use Rattle.tt_render_lines.specs.LayoutTexts.{IsLaidDefect, IsLayoutDefect, IsReadDefect, laid_text, layout_answer, layout_text, pen_text, size_text}
+use Rattle.tt_render_lines.specs.LayoutTexts.{IsLaidDefect, IsLayoutDefect, IsReadDefect, laid_text, layout_answer, layout_text, line_text, pen_text, size_text}
 use Rattle.tt_render_lines.specs.MeasureText.{face_text, font_text}
 use Rattle.tt_render_lines.specs.Settings.{job_by}
 use Rattle.tt_render_lines.specs.TextsOutcome.{IsOfText, TextTellsDefects, refusal_font_fault, told}
@@ -34,6 +35,12 @@ unfolding layout_text
 append_pens r file face l ps =
     append_assoc (face_text r file ++ font_text face.metrics) (size_text l) (flat_map pen_text ps)
     ∙ append_assoc (face_text r file) (font_text face.metrics) (size_text l ++ flat_map pen_text ps)
+
+-- the picture's line before that of a line of text
+pub size_before : (l : Layout)
+    → codes "picture " ++ (decimal l.size.width ++ (codes " " ++ (decimal l.size.height
+    ++ (codes " baseline " ++ (signed_decimal l.baseline ++ (codes "\n" ++ line_text l.size)))))) ≡ size_text l
+size_before l = simp append_assoc
 
 -- a text without pens has no lines
 pub stops_at_pens : (r : Reading) (face : Face) (j : Job) (d : DrawFault)

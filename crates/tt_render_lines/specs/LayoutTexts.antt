@@ -71,7 +71,7 @@ layout_answer a s text =
 -- the answer that is ready to be written
 abbrev pub layout_view : ReadyLayout → TextAnswer
 layout_view r =
-    record { bytes = string_bytes r.lines; unfitted = []; lacking = r.lacking.items; cost = 0; label = None }
+    record { bytes = r.lines.items; unfitted = []; lacking = r.lacking.items; cost = 0; label = None }
 
 -- its report, as it is printed
 abbrev pub TellsLayout : ReadyLayout → Type 0

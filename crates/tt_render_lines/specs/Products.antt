@@ -1,5 +1,5 @@
 -- No part of the standard: the products of a text, by a font at a size (profile).
-use Rattle.std.specs.Prelude.{◌≡◌, ℕ, Bool, true, false, List, length, string_bytes, Result, Ok, IsOkAnd, ⊤}
+use Rattle.std.specs.Prelude.{◌≡◌, ℕ, Bool, true, false, List, length, Result, Ok, IsOkAnd, ⊤}
 use Rattle.tt_core.specs.declared.collection.Reading.{Reading}
 use Rattle.tt_core.specs.Outcomes.{◌>>=◌}
 use Rattle.tt_scan_edges.specs.declared.edge.Frame.{Frame}
@@ -55,7 +55,7 @@ product_of a s text = product_by a.product a.grow a.opening.reading s.face (job_
 -- the bytes of an output, its unfitted glyphs, and what it takes of the budget of many lines
 abbrev pub bytes_in : Output → List ℕ
 bytes_in (output.Picture drawn) = picture_bytes drawn.picture
-bytes_in (output.Text text report) = string_bytes text
+bytes_in (output.Text lines report) = lines.items
 
 abbrev pub unfitted_in : Output → List Unfitted
 unfitted_in (output.Picture drawn) = drawn.picture.unfitted

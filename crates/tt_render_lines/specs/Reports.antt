@@ -1,5 +1,5 @@
 -- No part of the standard: the report of a drawn text, on standard error.
-use Rattle.std.specs.Prelude.{◌≡◌, refl, ℕ, Bool, true, ◌==◌, if◌then◌else◌, List, [], ◌∷◌, ◌++◌, length, flat_map, codes, decimal, string_bytes, Option, Some, None}
+use Rattle.std.specs.Prelude.{◌≡◌, refl, ℕ, Bool, true, ◌==◌, if◌then◌else◌, List, [], ◌∷◌, ◌++◌, length, flat_map, codes, decimal, Option, Some, None}
 use Rattle.std.specs.Fmt.{digits}
 use Rattle.tt_advice.specs.declared.signs.Sign.{Sign}
 use Rattle.tt_advice.specs.declared.signs.Sign.TheVariants as sign
@@ -95,7 +95,7 @@ label_report_of number t unfitted lacking =
 
 -- the reported parts of a label that is ready to be written
 abbrev pub told_view : ReadyTold → LabelTold
-told_view t = record { fit = t.fit; signs = t.signs; font = string_bytes t.font }
+told_view t = record { fit = t.fit; signs = t.signs; font = t.font.now }
 
 -- the report of an answer
 abbrev pub told_with : Option LabelTold → Option ℕ → List Unfitted → List ℕ → List ℕ

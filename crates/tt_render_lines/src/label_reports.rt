@@ -18,12 +18,12 @@ pub struct Signs {
 }
 
 /// What is reported of a label beside its unfitted glyphs and its characters without a glyph.
-#[derive(Drop)]
-pub struct LabelTold {
+#[derive(Clone, Copy)]
+pub struct LabelTold<'a> {
     pub fit: Fit,
     pub signs: Signs,
     /// The lines about the font, for the first picture of a call.
-    pub font: String,
+    pub font: &'a str,
 }
 
 /// The name of a way to fit.
@@ -76,7 +76,7 @@ impl Messages {
         self.push_count(&mut text, told.fit, unfitted)?;
         self.push_lacking(&mut text, lacking)?;
         self.push_signs(&mut text, told.signs)?;
-        self.push_font(&mut text, &told.font)?;
+        self.push_font(&mut text, told.font)?;
         Ok(text)
     }
 

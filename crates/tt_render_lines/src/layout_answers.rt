@@ -1,27 +1,48 @@
 //! The answer of a text without its ink: its lines and its report.
 
 ghost use Rattle.std.specs.Prelude.{◌≡◌, IfOk};
-ghost use Rattle.tt_core.specs.Outcomes.{GivesUnless};
+ghost use Rattle.tt_core.specs.Outcomes.{GivesUnless, IfTold};
 ghost use Rattle.tt_render_lines.specs.LayoutTexts.{IsLaidDefect, TellsLayout, layout_answer, layout_view};
 ghost use Rattle.tt_render_lines.specs.Settings.{strike_in};
+ghost use Rattle.tt_render_lines.specs.Texts.{missing_tested};
 ghost use Rattle.tt_render_lines.specs.TextsOutcome.{IsOfText, refusal_font_fault, told, without_line};
 ghost use Rattle.tt_strike.specs.Defects.{TellsDefects};
 ghost use Rattle.tt_strike.specs.Strikes.{job_of};
 
 use crate::layout_texts::layout_text;
 use crate::refusal::TextsFault;
-use crate::setting::Setting;
-use crate::text_answers::missing_of;
+use crate::setting::{Missing, Setting};
+use crate::text_answers::none_missing;
 use crate::texts_messages::Messages;
 use std::alloc::Global;
+use tt_cmap::{CharacterMap, lacking};
 use tt_strike::SizedFace;
 
 /// The lines of a text, ready to be written; the reported characters without a glyph; and the report as it is printed.
 #[derive(Drop)]
 pub(crate) struct ReadyLayout {
-    pub(crate) lines: String,
+    pub(crate) lines: Vec<u8>,
     pub(crate) lacking: Vec<char>,
     pub(crate) report: String,
+}
+
+/// The characters of a text without a glyph that are reported. Error: Missing, the first, where they are refused.
+#[tactic(auto, unfolding(crate::specs::Texts::missing_tested))]
+fn missing_of(
+    alloc: Global,
+    cmap: &CharacterMap,
+    how: Missing,
+    text: &str,
+) -> Result<Vec<char>, TextsFault>
+    ensures exact { GivesUnless told (λ v. v.items) (without_line result) (missing_tested cmap.now how text.now) }
+    ensures font { IfTold refusal_font_fault (without_line result) (λ _. ⊥) }
+    ensures serves { IsOfText (without_line result) }
+{
+    match how {
+        Missing::Draw => Ok(Vec::new(alloc)),
+        Missing::Tell => Ok(lacking(alloc, cmap, text)?),
+        Missing::Refuse => none_missing(lacking(alloc, cmap, text)?),
+    }
 }
 
 /// The answer of a text by a face at a size, which is of this file. Errors, the first of: those of `SizedFace::pens`;

@@ -68,7 +68,7 @@ pub fn write_layout<R: Source, W: Sink, E: Sink>(
     test_job(&setting.job(text))?;
     let file = read_font(alloc, font)?;
     let ready = lay_out(alloc, &file, text, setting)?;
-    match write_all_of(out, ready.lines.as_bytes()) {
+    match write_all_of(out, &ready.lines) {
         Ok(()) => {
             print_text(error, &ready.report);
             Ok(())

@@ -1,38 +1,48 @@
-//! The measure of a text without its ink, as lines of text.
+//! The measure of a text without its ink, as lines of text. A line is made from its end.
 
-ghost use Rattle.std.specs.Prelude.{◌≡◌, string_bytes, IfOk};
+ghost use Rattle.std.specs.Prelude.{◌≡◌, IfOk};
 ghost use Rattle.tt_render_lines.specs.LayoutTexts.{layout_text, pen_text, size_text};
 
-use crate::measure_text::{face_text, font_text};
+use crate::measure_text::first_lines;
 use std::alloc::{AllocError, Global};
 use tt_core::Reading;
+use tt_pbm::Ascii;
+use tt_render_run::push_name;
 use tt_strike::{Face, Layout, Pen};
 
-/// The picture's line, and that of a line of text.
-fn size_text(alloc: Global, layout: &Layout) -> Result<String, AllocError>
-    ensures { IfOk result (λ text. string_bytes text ≡ size_text layout.now) }
+/// Makes the picture's line, and that of a line of text.
+fn make_size_lines(line: &mut Ascii, layout: &Layout)
+    ensures { line.new ≡ size_text layout.now }
 {
-    let width = layout.size.width;
-    let height = layout.size.height;
-    let baseline = layout.baseline;
-    let rise = layout.size.rise;
-    let depth = layout.size.depth;
-    let gap = layout.size.gap;
-    let step = layout.size.step;
-    let mut text = format!(in alloc; "picture {width} {height} baseline {baseline}\n")?;
-    let line = format!(in alloc; "line {rise} {depth} {gap} {step}\n")?;
-    text.push_str(&line)?;
-    Ok(text)
+    line.clear();
+    line.push(b'\n');
+    line.push_u32(layout.size.step);
+    line.push(b' ');
+    line.push_u32(layout.size.gap);
+    line.push(b' ');
+    line.push_i64(i64::from(layout.size.depth));
+    line.push(b' ');
+    line.push_i64(i64::from(layout.size.rise));
+    line.push_bytes(b"\nline ");
+    line.push_i64(layout.baseline);
+    line.push_bytes(b" baseline ");
+    line.push_u32(layout.size.height);
+    line.push(b' ');
+    line.push_u32(layout.size.width);
+    line.push_bytes(b"picture ");
 }
 
-fn pen_text(alloc: Global, pen: &Pen) -> Result<String, AllocError>
-    ensures { IfOk result (λ text. string_bytes text ≡ pen_text pen.now) }
+fn make_pen_line(line: &mut Ascii, pen: &Pen)
+    ensures { line.new ≡ pen_text pen.now }
 {
-    let code = pen.unit.character as u32;
-    let glyph = pen.glyph;
-    let place = pen.pen;
-    let advance = pen.advance;
-    format!(in alloc; "U+{code:04X} {glyph} {place} {advance}\n")
+    line.clear();
+    line.push(b'\n');
+    line.push_u32(pen.advance);
+    line.push(b' ');
+    line.push_u32(pen.pen);
+    line.push(b' ');
+    line.push_u16(pen.glyph);
+    push_name(line, pen.unit.character);
 }
 
 /// The lines of a text by a face. First, for a face of a collection, `face`, and `font`, as in a measure with ink. Then
@@ -47,14 +57,16 @@ pub(crate) fn layout_text(
     face: &Face,
     layout: &Layout,
     pens: &[Pen],
-) -> Result<String, AllocError>
-    ensures { IfOk result (λ lines. string_bytes lines ≡ layout_text reading file.now face.now layout.now pens.now) }
+) -> Result<Vec<u8>, AllocError>
+    ensures { IfOk result (λ lines. lines.items ≡ layout_text reading file.now face.now layout.now pens.now) }
 {
-    let mut lines = face_text(alloc, reading, file)?;
-    lines.push_str(&font_text(alloc, face.metrics())?)?;
-    lines.push_str(&size_text(alloc, layout)?)?;
+    let mut lines = first_lines(alloc, reading, file, face.metrics(), pens.len())?;
+    let mut line = Ascii::new();
+    make_size_lines(&mut line, layout);
+    lines.extend_from_slice(line.as_bytes())?;
     for pen in pens {
-        lines.push_str(&pen_text(alloc, pen)?)?;
+        make_pen_line(&mut line, pen);
+        lines.extend_from_slice(line.as_bytes())?;
     }
     Ok(lines)
 }

@@ -48,5 +48,6 @@ pub use products::{make_measure, make_picture};
 pub use readings::{fit_reading, reading_asked};
 pub use refusal::{Refusal, TextsFault, refusal_of_run, texts_fault};
 pub use setting::{Missing, Product, Setting, test_setting};
+pub use text_answers::none_missing;
 pub use texts_messages::{Messages, texts_line, texts_status};
 pub use tt_line::Align;

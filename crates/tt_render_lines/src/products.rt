@@ -6,6 +6,7 @@ ghost use Rattle.tt_line.specs.Layout.{text_glyphs};
 ghost use Rattle.tt_pbm.specs.Writing.{Writes};
 ghost use Rattle.tt_picture.specs.Pictures.{IsReady, image_of};
 ghost use Rattle.tt_render_lines.specs.Products.{CanGoOut, IsMadeBy, bytes_in, cost_in, measure_by, picture_by, product_of, unfitted_in};
+ghost use Rattle.tt_render_run.specs.File.{picture_bytes};
 ghost use Rattle.tt_strike.specs.Costs.{cost_by};
 ghost use Rattle.tt_strike.specs.Defects.{IsLineDefect, TellsDefects};
 ghost use Rattle.tt_strike.specs.Measures.{measure_view};
@@ -15,7 +16,7 @@ ghost use Rattle.tt_strike.specs.Strikes.{job_of};
 
 use crate::measure_text::measure_text;
 use crate::setting::{Product, Setting};
-use std::alloc::Global;
+use std::alloc::{AllocError, Global};
 use tt_core::Sink;
 use tt_pbm::{Cut, write_all_of};
 use tt_render_run::{Drawn, piece_for, write_picture};
@@ -27,7 +28,7 @@ pub(crate) enum Output {
     /// A picture with memory for writing it.
     Picture(Drawn),
     /// Lines of text, and the report.
-    Text(String, Report),
+    Text(Vec<u8>, Report),
 }
 
 impl Output {
@@ -95,8 +96,20 @@ pub fn make_measure(
     }
 }
 
+/// A picture as an output, with memory for writing it. Error: memory ran out.
+fn picture_output(alloc: Global, picture: Picture) -> Result<Output, AllocError>
+    requires { IsReady picture }
+    ensures bytes { IfOk result (λ o. bytes_in o ≡ picture_bytes picture) }
+    ensures unfitted { IfOk result (λ o. unfitted_in o ≡ picture.unfitted) }
+    ensures cost { IfOk result (λ o. cost_in o ≡ picture.cost) }
+    ensures ready { IfOk result CanGoOut }
+{
+    let piece = piece_for(alloc, &picture)?;
+    Ok(Output::Picture(Drawn { picture, piece }))
+}
+
 /// A text's output by a strike whose face is of this file. Errors: those of `make_picture` or `make_measure`.
-#[tactic(auto, unfolding(crate::specs::Products::product_of))]
+#[tactic(auto, unfolding(crate::specs::Products::product_of, crate::specs::Products::picture_by))]
 pub(crate) fn make_output(
     alloc: Global,
     strike: &mut Strike,
@@ -112,13 +125,16 @@ pub(crate) fn make_output(
     ensures defects { TellsDefects draw_font_fault (IsLineDefect strike.old.face (job_of strike.old text.now setting.now.margin) (text_glyphs strike.old.face.cmap text.now)) result }
     ensures same { strike.new ≡ record strike.old { kept = strike.new.kept } }
 {
-    match setting.product {
-        Product::Picture => {
-            let picture = make_picture(strike, setting.grow, text, setting.margin)?;
-            let piece = piece_for(alloc, &picture)?;
-            Ok(Output::Picture(Drawn { picture, piece }))
+    match (setting.product, setting.grow) {
+        (Product::Picture, true) => {
+            let picture = strike.grown_line(text, setting.margin)?;
+            Ok(picture_output(alloc, picture)?)
         }
-        Product::Measure => {
+        (Product::Picture, false) => {
+            let picture = strike.line(text, setting.margin)?;
+            Ok(picture_output(alloc, picture)?)
+        }
+        (Product::Measure, _) => {
             let face = strike.face();
             let measure = make_measure(strike, setting.grow, text, setting.margin)?;
             let lines = measure_text(alloc, setting.opening.reading, file, face, text, &measure)?;
@@ -136,6 +152,6 @@ pub(crate) fn write_output<W: Sink>(out: &mut W, output: &mut Output) -> Result<
 {
     match output {
         Output::Picture(drawn) => write_picture(out, drawn),
-        Output::Text(text, _) => write_all_of(out, text.as_bytes()),
+        Output::Text(lines, _) => write_all_of(out, lines.as_slice()),
     }
 }

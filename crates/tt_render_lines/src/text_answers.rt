@@ -4,7 +4,7 @@ ghost use Rattle.std.specs.Prelude.{◌≡◌, IfOk};
 ghost use Rattle.tt_core.specs.Outcomes.{GivesUnless, IfTold};
 ghost use Rattle.tt_line.specs.Layout.{text_glyphs};
 ghost use Rattle.tt_render_lines.specs.Products.{CanGoOut};
-ghost use Rattle.tt_render_lines.specs.Texts.{missing_tested, text_answer};
+ghost use Rattle.tt_render_lines.specs.Texts.{missing_tested, none_missing, text_answer};
 ghost use Rattle.tt_render_lines.specs.TextsOutcome.{IsOfText, TellsOf, answer_view, refusal_font_fault, told, without_line};
 ghost use Rattle.tt_strike.specs.Defects.{IsLineDefect, TellsDefects};
 ghost use Rattle.tt_strike.specs.Strikes.{job_of};
@@ -14,7 +14,6 @@ use crate::refusal::{Refusal, TextsFault, texts_fault};
 use crate::setting::{Missing, Setting};
 use crate::texts_messages::Messages;
 use std::alloc::Global;
-use tt_cmap::{CharacterMap, lacking};
 use tt_strike::Strike;
 
 /// The output of a text, ready to be written; the reported characters without a glyph; and the report as it is printed.
@@ -25,29 +24,36 @@ pub(crate) struct ReadyText {
     pub(crate) report: String,
 }
 
-/// The characters of a text without a glyph that are reported. Error: Missing, the first, where they are refused. The
-/// caller knows the line.
-#[tactic(auto, unfolding(crate::specs::Texts::missing_tested))]
-pub(crate) fn missing_of(
-    alloc: Global,
-    cmap: &CharacterMap,
-    how: Missing,
-    text: &str,
-) -> Result<Vec<char>, TextsFault>
-    ensures exact { GivesUnless told (λ v. v.items) (without_line result) (missing_tested cmap.now how text.now) }
+/// The characters without a glyph, where there is none. Error: Missing, the first. The caller knows the line.
+pub fn none_missing(lacking: Vec<char>) -> Result<Vec<char>, TextsFault>
+    ensures exact { GivesUnless told (λ v. v.items) (without_line result) (none_missing lacking.items) }
     ensures font { IfTold refusal_font_fault (without_line result) (λ _. ⊥) }
     ensures serves { IsOfText (without_line result) }
 {
+    match lacking.first() {
+        Some(c) => Err(texts_fault(None, Refusal::Missing(*c))),
+        None => Ok(lacking),
+    }
+}
+
+/// The characters of a text without a glyph that are reported. Error: Missing, the first, where they are refused. The
+/// caller knows the line.
+#[tactic(auto, unfolding(crate::specs::Texts::missing_tested))]
+fn missing_of(
+    alloc: Global,
+    strike: &mut Strike,
+    how: Missing,
+    text: &str,
+) -> Result<Vec<char>, TextsFault>
+    ensures exact { GivesUnless told (λ v. v.items) (without_line result) (missing_tested strike.old.face.cmap how text.now) }
+    ensures font { IfTold refusal_font_fault (without_line result) (λ _. ⊥) }
+    ensures serves { IsOfText (without_line result) }
+    ensures same { strike.new ≡ strike.old }
+{
     match how {
         Missing::Draw => Ok(Vec::new(alloc)),
-        Missing::Tell => Ok(lacking(alloc, cmap, text)?),
-        Missing::Refuse => {
-            let lacking = lacking(alloc, cmap, text)?;
-            match lacking.first() {
-                Some(c) => Err(texts_fault(None, Refusal::Missing(*c))),
-                None => Ok(lacking),
-            }
-        }
+        Missing::Tell => Ok(strike.lacking(text)?),
+        Missing::Refuse => none_missing(strike.lacking(text)?),
     }
 }
 
@@ -70,9 +76,8 @@ pub(crate) fn answer_text(
     ensures defects { TellsDefects refusal_font_fault (IsLineDefect strike.old.face (job_of strike.old text.now setting.now.margin) (text_glyphs strike.old.face.cmap text.now)) (without_line result) }
     ensures same { strike.new ≡ record strike.old { kept = strike.new.kept } }
 {
-    let face = strike.face();
     let output = make_output(alloc, strike, file, setting, text)?;
-    let lacking = missing_of(alloc, face.cmap(), setting.missing, text)?;
+    let lacking = missing_of(alloc, strike, setting.missing, text)?;
     let report = Messages { alloc, number }.report(output.unfitted(), &lacking)?;
     Ok(ReadyText {
         output,

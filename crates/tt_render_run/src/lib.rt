@@ -12,7 +12,7 @@ mod writing;
 
 pub use drawing::{Drawn, piece_for};
 pub use fault::RunFault;
-pub use mapping::map;
+pub use mapping::{map, push_name};
 pub use messages::{line, status, unfitted_line};
 pub use reading::{read_after, read_font};
 pub use running::run;

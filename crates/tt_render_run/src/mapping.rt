@@ -1,7 +1,7 @@
 //! Writes each unit's glyph and advance as lines, by a font from a reader.
 
 ghost use Rattle.std.specs.Fmt.{digit_glyph};
-ghost use Rattle.std.specs.Prelude.{◌≡◌, ◌+◌, ◌^◌, ◌<◌, ◌≤◌, [], ◌∷◌, ◌++◌, true, false, length, chars, IfOk, IfSome, OnOk};
+ghost use Rattle.std.specs.Prelude.{◌≡◌, ◌+◌, ◌^◌, ◌<◌, ◌≤◌, ◌∷◌, ◌++◌, true, false, length, chars, IfOk, IfSome};
 ghost use Rattle.tt_cmap.specs.Maps.{glyph_count};
 ghost use Rattle.tt_core.specs.declared.fault.JobFault.TheVariants.{TextLong};
 ghost use Rattle.tt_core.specs.Limits.{font_limit, text_limit};
@@ -9,7 +9,7 @@ ghost use Rattle.tt_core.specs.Outcomes.{FontGives, font_fault};
 ghost use Rattle.tt_face.specs.Files.{IsFaceDefectBy};
 ghost use Rattle.tt_metrics.specs.Metrics.{glyphs_of};
 ghost use Rattle.tt_render_run.specs.Defects.{TellsDefectsOf};
-ghost use Rattle.tt_render_run.specs.MapLines.{code_point, line_text, lines_of, map_lines, map_wanted, named, unit_text};
+ghost use Rattle.tt_render_run.specs.MapLines.{code_point, lines_of, map_lines, map_wanted, named, unit_text};
 ghost use Rattle.tt_render_run.specs.Outcome.{CallGives, IfJob, IfLarge, traffic_of};
 ghost use Rattle.tt_strike.specs.Defects.{TellsDefects};
 
@@ -71,64 +71,38 @@ fn lines(
 {
     let mut lines = Vec::new(alloc);
     let mut known = KnownGlyphs::new(cmap);
+    let mut line = Ascii::new();
     for unit in cmap.units(text) {
         let glyph = known.glyph_of_unit(unit);
-        push_line(&mut lines, unit, glyph, metrics.advance(glyph))?;
+        make_line(&mut line, unit, glyph, metrics.advance(glyph));
+        lines.extend_from_slice(line.as_bytes())?;
     }
     Ok(lines)
 }
 
-/// Adds the line of a unit. Error: memory ran out.
-fn push_line(
-    lines: &mut Vec<u8>,
-    unit: TextUnit,
-    glyph: u16,
-    advance: u16,
-) -> Result<(), AllocError>
-    ensures { OnOk result (lines.new.items ≡ lines.old.items ++ unit_text unit glyph advance) }
+/// Makes the line of a unit, from its end.
+fn make_line(line: &mut Ascii, unit: TextUnit, glyph: u16, advance: u16)
+    ensures { line.new ≡ unit_text unit glyph advance }
 {
+    line.clear();
+    line.push(b'\n');
+    line.push_u16(advance);
+    line.push(b' ');
+    line.push_u16(glyph);
     match unit.selector {
-        None => {
-            let line = line(unit.character, glyph, advance);
-            lines.extend_from_slice(line.as_bytes())?;
-            Ok(())
-        }
+        None => push_name(line, unit.character),
         Some(selector) => {
-            let name = name(unit.character);
-            let line = line(selector, glyph, advance);
-            lines.extend_from_slice(name.as_bytes())?;
-            lines.extend_from_slice(line.as_bytes())?;
-            Ok(())
+            push_name(line, selector);
+            push_name(line, unit.character);
         }
     }
 }
 
-/// The name of a character, and a blank.
-fn name(c: char) -> Ascii
-    ensures { result ≡ named c [] }
-{
-    let mut name = Ascii::new();
-    push_name(&mut name, c);
-    name
-}
-
-/// The line of a character, or the rest of a unit's line from the selector on. The line is made from its end.
-fn line(c: char, glyph: u16, advance: u16) -> Ascii
-    ensures { result ≡ line_text c glyph advance }
-{
-    let mut line = Ascii::new();
-    line.push(b'\n');
-    line.push_decimal(advance);
-    line.push(b' ');
-    line.push_decimal(glyph);
-    push_name(&mut line, c);
-    line
-}
-
-/// Puts the name of a character and a blank before a text.
-fn push_name(line: &mut Ascii, c: char)
-    requires room { length line.old + 9 ≤ 24 }
-    ensures { line.new ≡ named c line.old }
+/// Puts `U+NNNN` of a character, and a blank, before a text.
+pub fn push_name(line: &mut Ascii, c: char)
+    requires room { length line.old + 9 ≤ 160 }
+    ensures text { line.new ≡ named c line.old }
+    ensures len { length line.new ≤ length line.old + 9 }
 {
     line.push(b' ');
     push_code_point(line, c as u32);
@@ -139,7 +113,7 @@ fn push_name(line: &mut Ascii, c: char)
 /// Puts a code point before a text, with at least four digits.
 fn push_code_point(line: &mut Ascii, code: u32)
     requires code { code < 2 ^ 24 }
-    requires room { length line.old + 6 ≤ 24 }
+    requires room { length line.old + 6 ≤ 160 }
     ensures text { line.new ≡ code_point code ++ line.old }
     ensures len { length line.new ≤ length line.old + 6 }
 {
@@ -158,7 +132,7 @@ fn push_code_point(line: &mut Ascii, code: u32)
 /// Puts a capital hexadecimal digit before a text.
 fn push_digit(line: &mut Ascii, digit: u32)
     requires digit { digit < 16 }
-    requires room { length line.old < 24 }
+    requires room { length line.old < 160 }
     ensures text { line.new ≡ digit_glyph true digit ∷ line.old }
 {
     let first = if digit < 10 { b'0' } else { b'A' - 10 };

@@ -1,5 +1,5 @@
 -- A line enlarged by the glyphs of the line: its refusals, and its glyphs.
-use Rattle.std.proofs.Common.{◌≡◌, ◌∙◌, refl, ap, sym, ℕ, ◌+◌, ◌<◌, Bool, true, false, ◌||◌, nat_lt, if◌then◌else◌, List, [], ◌∷◌, map, Option, Some, None, Result, Ok, Err, arith}
+use Rattle.std.proofs.Common.{◌≡◌, ◌∙◌, refl, ap, sym, ℕ, ◌+◌, ◌<◌, Bool, true, false, ◌||◌, nat_lt, if◌then◌else◌, ℤ, List, [], ◌∷◌, map, Option, Some, None, Result, Ok, Err, arith}
 use Rattle.std.specs.Prelude.{All}
 use Rattle.tt_core.specs.Limits.{height_limit, width_limit}
 use Rattle.tt_core.specs.Outcomes.{each}
@@ -7,16 +7,21 @@ use Rattle.tt_core.specs.declared.fault.JobFault.{JobFault}
 use Rattle.tt_core.specs.declared.fault.JobFault.TheVariants as fault
 use Rattle.tt_fit.specs.Fitting.{Fitter}
 use Rattle.tt_fit_outline.specs.Outline.{Outline}
+use Rattle.tt_bitmap.specs.declared.ink.LeastBox.{LeastBox}
 use Rattle.tt_line.specs.Layout.{Placement}
+use Rattle.tt_metrics.specs.Metrics.{Metrics}
+use Rattle.tt_picture.specs.Ink.{all_joined, ink_at}
+use Rattle.tt_scan_edges.specs.declared.edge.Frame.{Frame}
 use Rattle.tt_strike.specs.Work.{line_fitter}
 use Rattle.tt_picture.specs.Glyphs.{Glyph}
 use Rattle.tt_strike.specs.Enlarged.{IsEnlarged}
 use Rattle.tt_strike.specs.Grown.{grown, grown_line, grown_placement, lacking, not_large, with_sides}
 use Rattle.tt_strike.specs.Job.{Job}
 use Rattle.tt_strike.specs.Made.{AreMade}
-use Rattle.tt_strike.specs.Measures.{Measure, measured_line}
+use Rattle.tt_strike.specs.Measures.{Measure, box_in, characters_at, measure_by, measured_line}
+use Rattle.tt_strike.specs.declared.measuring.CharacterMeasure.{CharacterMeasure}
 use Rattle.tt_picture.specs.Shapes.{chords_with, crossings_in, filled_by, glyph_shape, shape_at}
-use Rattle.tt_strike.specs.Picture.{laid_out}
+use Rattle.tt_strike.specs.Picture.{frame_of, laid_out}
 use Rattle.tt_picture.specs.Pixels.{Shape}
 use Rattle.tt_strike.specs.Refusals.{as_job, job}
 use Rattle.tt_face.specs.Faces.{Face}
@@ -85,6 +90,18 @@ grown_as_measured face a l larger m measured is = by_measure face a l m measured
 pub not_grown : (face : Face) (a : Job) (l : Placement) (m : Measure) (j : JobFault) → measured_line face a l ≡ Ok m
     → grown l m.ink ≡ Err j → grown_line face a l ≡ Err (job j)
 not_grown face a l m j measured is = by_measure face a l m measured ∙ rw is refl
+
+-- the ink of a line's characters is that of its glyphs at their pens
+characters_ink : (m : Metrics) (step : ℕ → ℤ → ℕ) (f : Frame) (inked : ℕ → Option LeastBox) (gs : List (ℕ × ℕ))
+    → map (λ (at : CharacterMeasure). at.ink) (characters_at m step f inked gs) ≡ map (λ (g : ℕ × ℕ). ink_at f g.1 (inked g.0)) gs
+characters_ink m step f inked [] = refl
+characters_ink m step f inked (g ∷ gs) =
+    ap (λ (boxes : List (Option InkBox)). ink_at f g.1 (inked g.0) ∷ boxes) (characters_ink m step f inked gs)
+
+pub measured_box : (m : Metrics) (step : ℕ → ℤ → ℕ) (margin : ℕ) (inked : ℕ → Option LeastBox) (l : Placement)
+    → (measure_by m step margin inked l).ink ≡ box_in inked (frame_of l margin) l.glyphs
+measured_box m step margin inked l =
+    ap (λ (boxes : List (Option InkBox)). all_joined None boxes) (characters_ink m step (frame_of l margin) inked l.glyphs)
 
 -- the same glyphs further to the right: they are made, and have as many crossings
 record AreMoved (maker : ℕ → Fitter) (left : ℕ) (gs : List (ℕ × ℕ)) (shapes : List Shape) : Type 0 where

@@ -25,6 +25,7 @@ pub mod Stepped
 mod Limited
 mod Reported
 mod Seated
+mod Cleared
 mod StepLaws
 mod MeasuredSteps
 mod UnhintedSteps
@@ -33,3 +34,4 @@ mod TextSteps
 mod Pens
 mod LayoutLaws
 mod MeasuredLayouts
+mod Unkerned

@@ -57,6 +57,10 @@ characters_at m step f inked (g ∷ gs) =
 abbrev pub ink_of : List CharacterMeasure → Option InkBox
 ink_of characters = all_joined None (map (λ c. c.ink) characters)
 
+-- the least box of the ink of some glyphs at their pens in a picture, by the ink of each at pen 0
+abbrev pub box_in : (ℕ → Option LeastBox) → Frame → List (ℕ × ℕ) → Option InkBox
+box_in inked f gs = all_joined None (map (λ g. ink_at f g.1 (inked g.0)) gs)
+
 -- the measure of a laid-out line, by the step and the ink of each glyph
 abbrev pub measure_by : Metrics → (ℕ → ℤ → ℕ) → ℕ → (ℕ → Option LeastBox) → Placement → Measure
 measure_by m step margin inked line =

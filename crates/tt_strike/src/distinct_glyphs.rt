@@ -5,6 +5,7 @@ ghost use Rattle.tt_core.specs.Limits.{text_limit};
 ghost use Rattle.tt_picture.specs.Distinct.{distinct};
 ghost use Rattle.tt_picture.specs.Glyphs.{ArePlaces};
 
+use crate::place_table::PlaceTable;
 use std::alloc::{AllocError, Global};
 
 /// The distinct glyphs of a line, in order of first appearance.
@@ -15,9 +16,11 @@ pub struct DistinctGlyphs {
     pub numbers: Vec<u16>,
 }
 
-/// The distinct glyphs of a line, in order of first appearance. Error: out of memory.
+/// The distinct glyphs of a line, in order of first appearance. The table comes from this one, to which it is given back
+/// after the line. Error: out of memory.
 pub fn distinct(
     alloc: Global,
+    table: &mut PlaceTable,
     glyphs: u16,
     line: &[(u16, u32)],
 ) -> Result<DistinctGlyphs, AllocError>
@@ -28,7 +31,7 @@ pub fn distinct(
     ensures numbers { IfOk result (λ d. d.numbers.items ≡ distinct (map (λ g. g.0) line.now)) }
     ensures known { IfOk result (λ d. All (λ n. n < glyphs) d.numbers.items) }
 {
-    let mut places = vec![in alloc; 0u16; usize::from(glyphs)]?;
+    let mut places = table.take(usize::from(glyphs))?;
     let mut numbers = Vec::with_capacity(alloc, line.len())?;
     for placed in line {
         let (number, _) = *placed;

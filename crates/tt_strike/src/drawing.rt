@@ -42,7 +42,7 @@ impl<'f, 'a> SizedFace<'f, 'a> {
         tt_fit::laws::work_unfits();
         let source = self.source;
         let count = source.face.metrics().glyphs();
-        let met = distinct(source.alloc, count, &laid.line.glyphs)?;
+        let met = distinct(source.alloc, &mut self.table, count, &laid.line.glyphs)?;
         let DistinctGlyphs { places, numbers } = met;
         let mut fitter = self.maker.take(&source)?;
         let begun = fitter.work();
@@ -76,6 +76,8 @@ impl<'f, 'a> SizedFace<'f, 'a> {
         let made = self.make_line(text, margin, cache)?;
         let MadeLine { laid, glyphs } = made;
         let frame = laid.frame();
-        Ok(Picture::new(self.alloc(), frame, &glyphs, &[laid.placed()])?)
+        let picture = Picture::new(self.alloc(), frame, &glyphs, &[laid.placed()])?;
+        self.give_back(glyphs);
+        Ok(picture)
     }
 }

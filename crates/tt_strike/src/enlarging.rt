@@ -1,4 +1,4 @@
-//! Measures and draws a line with the added columns and rows that its ink needs. Its glyphs are made once for both.
+//! Measures or draws a line with the added columns and rows that its ink needs. Its glyphs are made once.
 
 ghost use Rattle.std.specs.Prelude.{◌≡◌, Ok, Err, IfOk, IsOkAnd};
 ghost use Rattle.tt_core.specs.Outcomes.{GivesUnless, IfTold, draw_font_fault};
@@ -21,6 +21,7 @@ ghost use Rattle.tt_strike.specs.Strikes.{IsCacheOf, job_by};
 use crate::growing::grown;
 use crate::inked::InkedGlyphs;
 use crate::laid::Laid;
+use crate::line_box::line_ink;
 use crate::making::MadeLine;
 use crate::measuring::Measure;
 use crate::sized::SizedFace;
@@ -52,8 +53,8 @@ impl<'f, 'a> SizedFace<'f, 'a> {
         let MadeLine { laid, glyphs } = made;
         let inks = glyph_inks(self.alloc(), &glyphs.made)?;
         let inked = InkedGlyphs { glyphs, inks };
-        let measure = self.measure_by(&laid, &inked)?;
-        let line = grown(laid.line, measure.ink)?;
+        let ink = line_ink(laid.placed(), &inked);
+        let line = grown(laid.line, ink)?;
         Ok(Enlarged {
             inked,
             laid: Laid { line, margin },
@@ -61,7 +62,7 @@ impl<'f, 'a> SizedFace<'f, 'a> {
     }
 
     /// The picture of a text's line with the fewest added columns and rows such that no ink is cut. Errors: as `enlarge`.
-    /// The picture is drawn from the glyphs that were measured.
+    /// The picture is drawn from the glyphs whose ink was found. Nothing is measured.
     pub(crate) fn draw_grown(
         &mut self,
         text: &str,
@@ -80,7 +81,10 @@ impl<'f, 'a> SizedFace<'f, 'a> {
         let enlarged = self.enlarge(text, margin, cache)?;
         let Enlarged { inked, laid } = enlarged;
         let frame = laid.frame();
-        Ok(Picture::new(self.alloc(), frame, &inked.glyphs, &[laid.placed()])?)
+        let picture = Picture::new(self.alloc(), frame, &inked.glyphs, &[laid.placed()])?;
+        let InkedGlyphs { glyphs, .. } = inked;
+        self.give_back(glyphs);
+        Ok(picture)
     }
 
     /// The measure of the picture that `draw_grown` makes. Errors: as `enlarge`.
@@ -102,6 +106,9 @@ impl<'f, 'a> SizedFace<'f, 'a> {
     {
         let enlarged = self.enlarge(text, margin, cache)?;
         let Enlarged { inked, laid } = enlarged;
-        Ok(self.measure_by(&laid, &inked)?)
+        let measure = self.measure_by(&laid, &inked)?;
+        let InkedGlyphs { glyphs, .. } = inked;
+        self.give_back(glyphs);
+        Ok(measure)
     }
 }

@@ -105,7 +105,13 @@ impl<'f, 'a> SizedFace<'f, 'a> {
         let source = self.source;
         let mut fitter = self.maker.take(&source)?;
         let begun = fitter.work();
-        let outlined = source.outlined(&mut fitter, &mut self.known, text, &Cache::absent())?;
+        let outlined = source.outlined(
+            &mut fitter,
+            &mut self.known,
+            &mut self.table,
+            text,
+            &Cache::absent(),
+        )?;
         self.maker.give_back(fitter, begun);
         let OutlinedText { steps, .. } = outlined;
         Ok(steps)

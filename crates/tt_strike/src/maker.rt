@@ -26,7 +26,10 @@ pub enum Maker<'a> {
 
 impl<'f, 'a> FitterSource<'f, 'a> {
     /// The fitter. Errors, the first of: those of loca and glyf; TableRange of the control values and the two programs;
-    /// those of running the two. Memory may come at any allocation.
+    /// those of running the two. Memory may come at any allocation. Not inline: only a strike's first line opens its
+    /// fitter, and the frame of each line would have room for the tables.
+    #[cold]
+    #[inline(never)]
     #[tactic(auto, unfolding(crate::specs::Picture::setting))]
     fn open(&self) -> Result<Fitter<'a>, FontFault>
         ensures exact { FontGives (λ f. f) result (setting self.now.face.now self.now.ppem self.now.fit) }

@@ -112,7 +112,7 @@ impl<'f, 'a> SizedFace<'f, 'a> {
         test_text(text)?;
         let mut fitter = self.maker.take(&source)?;
         let begun = fitter.work();
-        let outlined = source.outlined(&mut fitter, &mut self.known, text, cache)?;
+        let outlined = source.outlined(&mut fitter, &mut self.known, &mut self.table, text, cache)?;
         let left = fitter.work();
         self.maker.give_back(fitter, begun);
         let OutlinedText {

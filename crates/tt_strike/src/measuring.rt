@@ -191,6 +191,9 @@ impl<'f, 'a> SizedFace<'f, 'a> {
         let MadeLine { laid, glyphs } = made;
         let inks = glyph_inks(self.alloc(), &glyphs.made)?;
         let inked = InkedGlyphs { glyphs, inks };
-        Ok(self.measure_by(&laid, &inked)?)
+        let measure = self.measure_by(&laid, &inked)?;
+        let InkedGlyphs { glyphs, .. } = inked;
+        self.give_back(glyphs);
+        Ok(measure)
     }
 }

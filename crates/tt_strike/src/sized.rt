@@ -7,6 +7,7 @@ ghost use Rattle.tt_strike.specs.Job.{size_tested, IsSizeRefusal};
 
 use crate::job::test_size;
 use crate::maker::Maker;
+use crate::place_table::PlaceTable;
 use crate::source::FitterSource;
 use std::alloc::Global;
 use std::marker::Model;
@@ -14,15 +15,18 @@ use tt_core::JobFault;
 use tt_face::Face;
 use tt_fit::Fit;
 use tt_line::KnownAdvances;
+use tt_picture::Glyphs;
 
-/// A face at a size, with a fit. Clauses see these three. They do not see the fitter and the
-/// recent characters, which change no answer.
+/// A face at a size, with a fit. Clauses see these three. They do not see the fitter, the recent characters and the table
+/// of places, which change no answer.
 #[derive(Drop)]
 pub struct SizedFace<'f, 'a> {
     pub source: FitterSource<'f, 'a>,
     pub maker: Maker<'a>,
     /// The glyphs and the advances of recent characters.
     pub known: KnownAdvances<'f, 'a>,
+    /// The table of a line's places, while no line has it.
+    pub table: PlaceTable,
 }
 
 impl<'f, 'a> Model for SizedFace<'f, 'a> {
@@ -61,6 +65,7 @@ impl<'f, 'a> SizedFace<'f, 'a> {
             source,
             maker: Maker::Unmade,
             known: KnownAdvances::new(face.metrics(), face.cmap(), ppem),
+            table: PlaceTable::new(alloc),
         })
     }
 
@@ -89,5 +94,13 @@ impl<'f, 'a> SizedFace<'f, 'a> {
         ensures { result ≡ self.now.fit }
     {
         self.source.fit
+    }
+
+    /// Drops the glyphs of a line, and keeps the table of their places for later lines.
+    pub fn give_back(&mut self, glyphs: Glyphs)
+        ensures { self.new ≡ self.old }
+    {
+        let Glyphs { places, made, .. } = glyphs;
+        self.table.give_back(places, &made);
     }
 }

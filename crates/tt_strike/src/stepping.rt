@@ -14,6 +14,7 @@ ghost use Rattle.tt_strike.specs.Strikes.{advances_of};
 ghost use Rattle.tt_strike.specs.Work.{is_bounded, points_in, started, work_tested};
 
 use crate::distinct_glyphs::{DistinctGlyphs, distinct};
+use crate::place_table::PlaceTable;
 use crate::source::FitterSource;
 use crate::steps::put_steps;
 use crate::work::charge_points;
@@ -41,6 +42,7 @@ impl<'f, 'a> FitterSource<'f, 'a> {
         &self,
         fitter: &mut Fitter,
         known: &mut KnownAdvances,
+        table: &mut PlaceTable,
         text: &str,
         cache: &Cache,
     ) -> Result<OutlinedText, DrawFault>
@@ -58,7 +60,7 @@ impl<'f, 'a> FitterSource<'f, 'a> {
         ensures stops { IfTold refusal result (λ r. outlines_tested fitter.old self.now.fit (text_glyphs self.now.face.now.cmap text.now) ≡ Err r) }
     {
         let mut steps = unit_advances(self.alloc, known, text)?;
-        let met = distinct(self.alloc, self.face.metrics().glyphs(), &steps)?;
+        let met = distinct(self.alloc, table, self.face.metrics().glyphs(), &steps)?;
         let DistinctGlyphs { places, numbers } = met;
         charge_points(self.fit, fitter, &numbers, cache)?;
         let fitted = fit_glyphs(self.alloc, fitter, &numbers, cache)?;

@@ -21,6 +21,10 @@ pub(crate) fn kerned_step(metrics: &Metrics, ppem: u32, advance_left: i32, kerni
     requires kerning { unsigned_abs kerning ≤ 2 ^ 20 }
     ensures { result ≡ kerned_step metrics.now ppem advance_left kerning }
 {
+    // Nearly every pair is of this kind. Its step needs no scale, and so no division.
+    if kerning == 0 {
+        return pixels_of(i64::from(advance_left));
+    }
     let scale = Scale::rounded(ppem, metrics.units_per_em());
     pixels_of(i64::from(advance_left) + scale.scaled(kerning))
 }

@@ -44,8 +44,8 @@ impl KeptGlyphs {
         })
     }
 
-    /// The glyph with this number, whose bitmap then has one more owner; the order is unchanged. None where the cache
-    /// lacks the number, and where the bitmap has too many owners to be counted.
+    /// The glyph with this number, which then has one more owner; the order is unchanged. None where the cache lacks the
+    /// number, and where the glyph has too many owners to be counted.
     pub fn find(&self, number: u16) -> Option<KeptGlyph>
         ensures { IfSome result (λ g. lookup (nat_eq number) self.now.entries ≡ Some g) }
     {

@@ -1,10 +1,18 @@
-use Rattle.std.proofs.Common.{◌≡◌, ◌≤◌, ◌+◌, ◌*◌, ◌&&◌, ◌||◌, ◌==◌, nat_lt, arith}
+use Rattle.std.proofs.Common.{◌≡◌, ◌∙◌, sym, ◌≤◌, ◌+◌, ◌*◌, ◌&&◌, ◌||◌, ◌==◌, nat_lt, arith}
 use Rattle.std.proofs.lemmas.Nat.{mul-le}
 use Rattle.tt_bitmap.specs.Bitmaps.{strips}
 use Rattle.tt_bitmap.specs.Inks.{row_has}
 use Rattle.tt_bitmap.proofs.RowSides.{no_row, one_row_more}
 use Rattle.tt_bitmap.proofs.Sides.{sides_same}
 use Rattle.tt_bitmap.proofs.ink.sides_of.Goals as goal
+
+pub sides_of_narrow-requires-clause-columns : goal.sides_of_narrow-requires-clause-columns
+sides_of_narrow-requires-clause-columns c = sym c.strips_of-strips.ensures ∙ c.if-strips-eq1.true
+
+pub sides_of_narrow-requires-clause-words : goal.sides_of_narrow-requires-clause-words
+sides_of_narrow-requires-clause-words c =
+    let one : strips c.args.columns ≡ 1 = sym c.strips_of-strips.ensures ∙ c.if-strips-eq1.true in
+    omega (arith, rw one at c.requires.words)
 
 pub loop-row-init : goal.loop-row-init
 loop-row-init c = λ r m. no_row r (row_has c.args.words.now c.args.columns c.args.columns r m)

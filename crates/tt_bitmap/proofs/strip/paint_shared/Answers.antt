@@ -1,9 +1,37 @@
-use Rattle.std.proofs.Common.{◌≡◌, ◌+◌, ◌-◌, ◌*◌, ◌&&◌, nat_lt, ap, Bool, ℕ, length, take, drop, length-drop, arith, refl}
+use Rattle.std.proofs.Common.{◌≡◌, ◌+◌, ◌-◌, ◌*◌, ◌&&◌, nat_lt, ap, Bool, ℕ, length, take, drop, length-drop, sym, ◌∙◌, arith, refl}
 use Rattle.std.proofs.lemmas.List.{take_all}
 use Rattle.tt_bitmap.specs.Bitmaps.{shown_in}
 use Rattle.tt_bitmap.proofs.Bands.{part_painted, repainted}
-use Rattle.tt_bitmap.proofs.Strips.{rows_dropped}
+use Rattle.tt_bitmap.proofs.Strips.{one_word_rows, rows_dropped}
 use Rattle.tt_bitmap.proofs.strip.paint_shared.Goals as goal
+
+pub paint_whole-requires-clause-whole : goal.paint_whole-requires-clause-whole
+paint_whole-requires-clause-whole c = sym c.is_whole.ensures ∙ c.if-is_whole.true
+
+pub paint_whole-requires-clause-words : goal.paint_whole-requires-clause-words
+paint_whole-requires-clause-words c =
+    let row = c.args.row in
+    let words = c.args.words.now in
+    let own = c.args.shared.own in
+    let one = one_word_rows row.at row.columns row.width row.bytes (own + c.args.shared.count) (sym c.is_whole.ensures ∙ c.if-is_whole.true) in
+    let all : take (length words - own) (drop own words) ≡ drop own words = take_all (length words - own) (drop own words) (omega (arith, length-drop own words)) in
+    rw all (omega (arith, one, c.requires.words, length-drop own words))
+
+pub returns-then-is_whole : goal.returns-then-is_whole
+returns-then-is_whole c = λ rows.
+    let row = c.args.row in
+    let n = row.columns in
+    let words = c.args.words.now in
+    let bytes = row.bytes in
+    let own = c.args.shared.own in
+    let first = c.args.shared.first in
+    let count = c.args.shared.count in
+    let is_own = sym (one_word_rows row.at n row.width bytes own (sym c.is_whole.ensures ∙ c.if-is_whole.true)) in
+    let all : take (length words - own) (drop own words) ≡ drop own words = take_all (length words - own) (drop own words) (omega (arith, length-drop own words)) in
+    let part = repainted bytes count _ (λ i k. nat_lt k row.width && shown_in words n row.at n (own + i) k) _ c.paint_whole.new.band c.paint_whole.ensures
+    (λ i j below. ap (λ (x : Bool). nat_lt j row.width && x) (rw all (rows_dropped words n n own i j own row.at is_own))) in
+    part_painted bytes rows first count (bytes * first) _ (λ i k. nat_lt k row.width && shown_in words n row.at n (own + i) k) c.args.band.now c.paint_whole.new.band
+    refl (omega arith) (omega (arith, c.requires.band)) part
 
 pub returns : goal.returns
 returns c = λ rows.

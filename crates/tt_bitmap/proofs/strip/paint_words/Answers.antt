@@ -1,18 +1,10 @@
-use Rattle.std.proofs.Common.{◌≡◌, ◌∙◌, sym, ◌+◌, ◌*◌, ◌&&◌, nat_lt, min, slice_index, pos, ◌+ℤ◌, SFits, w64, rules, arith}
+use Rattle.std.proofs.Common.{◌≡◌, ◌+◌, ◌*◌, ◌&&◌, nat_lt, min, slice_index, pos, ◌+ℤ◌, SFits, w64, rules, arith}
 use Rattle.std.proofs.lemmas.Int.{to_z-of_z}
 use Rattle.tt_bitmap.specs.Bitmaps.{shown_in, strips}
 use Rattle.tt_bitmap.specs.Words.{stamped}
 use Rattle.tt_bitmap.proofs.Bands.{not_painted, painted_over}
 use Rattle.tt_bitmap.proofs.Strips.{all_strips, none_yet, strip_more}
 use Rattle.tt_bitmap.proofs.strip.paint_words.Goals as goal
-
-pub paint_narrow-requires-clause-narrow : goal.paint_narrow-requires-clause-narrow
-paint_narrow-requires-clause-narrow c = sym c.strips_of-strips.ensures ∙ c.if-strips-eq1.true
-
-pub paint_narrow-requires-clause-words : goal.paint_narrow-requires-clause-words
-paint_narrow-requires-clause-words c =
-    let one : strips c.args.row.columns ≡ 1 = sym c.strips_of-strips.ensures ∙ c.if-strips-eq1.true in
-    omega (arith, rw one at c.requires.words)
 
 pub loop-strip-init : goal.loop-strip-init
 loop-strip-init c =

@@ -64,13 +64,13 @@ loop-r-preserved c =
     rw (c.from-row.ensures, frame, edges) at (simp to_z-of_z at c.cut.ensures.crosses) in
     let few = met_few es (row_y (frame_of w) (pos r)) in
     let before = so_far.crosses in
-    let black = rw c.spans.ensures.exact at (simp to_z-of_z at c.blacken_spans.ensures.black) in
+    let black = simp to_z-of_z at c.blacken_swept.ensures.black in
     record {
       black = λ k j. black k j
           ∙ ap₂ (λ a b. a || (b && (int_eq j (c.top_of-top.result -ℤ c.from-row.result) && covers c.cut.new.self.spans k)))
           (so_far.black k j) (same_box mid old mid.words k j so_far.place ∙ c.requires.has k j)
           ∙ one_line_more w es c.cut.new.self.spans r (c.top_of-top.result -ℤ c.from-row.result) k j (is_black old k j) c.requires.window at cut;
-      place = same_place c.blacken_spans.new.bitmap mid old c.blacken_spans.ensures.place so_far.place;
+      place = same_place c.blacken_swept.new.bitmap mid old c.blacken_swept.ensures.place so_far.place;
       tape = c.cut.ensures.tape ∙ ap (λ (t : Tape). record t { crosses = c.cut.new.tape.crosses }) so_far.tape;
       crosses = omega (arith, crosses, few, before);
       room = c.cut.ensures.room ∙ so_far.room;

@@ -14,6 +14,9 @@ cut c = record c.args.edged { tape = c.pixels_of.new.tape }
 same : (c : In_ok-pixels) → IsSameGlyph c.args.edged (cut c)
 same c = record { same = refl; edges = c.in_ok-pixels.ensures.edges }
 
+pub pixels_of-requires-clause-boxed : goal.pixels_of-requires-clause-boxed
+pixels_of-requires-clause-boxed c = (c.requires.edged.held, c.requires.edged.same)
+
 pub pixels_of-requires-clause-ends : goal.pixels_of-requires-clause-ends
 pixels_of-requires-clause-ends c = rw c.deref.ensures.value c.requires.edged.ends
 

@@ -1,16 +1,14 @@
-use Rattle.std.proofs.Common.{◌≡◌, ◌∙◌, ap, refl, All}
+use Rattle.std.proofs.Common.{◌≡◌, refl}
+use Rattle.std.specs.Prelude.{IfSome}
 use Rattle.tt_fit_outline.specs.Views.{outline_of}
+use Rattle.tt_picture.proofs.OutlineBox.{outline_boxed}
 use Rattle.tt_scan.specs.Contours.{contours_at}
-use Rattle.tt_scan.specs.Tape.{Tape}
-use Rattle.tt_scan_edges.specs.Winding.{EdgeFits}
-use Rattle.tt_glyphs.proofs.EdgesMade.{box_fits, boxed_by, contours_close, contours_round, ink_near}
+use Rattle.tt_scan_gaps.specs.Boxes.{IsBoxOf}
+use Rattle.tt_glyphs.proofs.EdgesMade.{boxed_as, contours_close, contours_round, edges_fit, ink_near}
 use Rattle.tt_glyphs.proofs.edged.edged.Goals as goal
 
-pub glyph_frame-frame-requires : goal.glyph_frame-frame-requires
-glyph_frame-frame-requires c =
-    let i = c.ruled.inside in
-    let ruled = rw (← c.ruled.view_is) at c.requires in
-    record { boxed = box_fits i.filled (outline_of i.outline) ruled }
+pub box_of-extents-requires-clause-same : goal.box_of-extents-requires-clause-same
+box_of-extents-requires-clause-same c = rw (← c.ruled.view_is) at c.requires
 
 pub returns-clause-exact : goal.returns-clause-exact
 returns-clause-exact c =
@@ -34,14 +32,19 @@ returns-clause-fits c =
     let tape = c.in_ok-tape.ensures in
     let exact = c.in_ok-made.ensures.exact in
     let ruled = rw (← c.ruled.view_is) at c.requires in
-    let boxed = boxed_by i.filled i.rule o es ruled exact in
-    let lent : c.lend.result.now ≡ es = c.lend.ensures.exact ∙ ap (λ (t : Tape). t.edges) tape in
-    let fit : All EdgeFits es = rw lent at c.lend.ensures.fits in
+    let b = c.box_of-extents.result in
+    let is = c.box_of-extents.ensures.exact in
+    let fits = rw is at c.box_of-extents.ensures.fits in
+    let held : IsBoxOf b es = rw (is, exact) (outline_boxed i.rule o fits) in
+    let same : IfSome i.filled (λ rules. rules.extents ≡ b) = rw is ruled in
+    let boxed = boxed_as i.filled b es same held in
     record {
       few = rw tape c.in_ok-made.ensures.few;
+      held = rw tape held;
+      same = same;
       boxed = rw tape boxed;
       ends = rw tape c.in_ok-made.ensures.ends;
       closed = rw tape (contours_close c.contours_joined.ensures i.rule o es exact);
       round = rw tape (contours_round i.filled i.rule o cs c.in_ok-made.ensures.contours);
-      near = rw tape (ink_near i.filled es cs fit boxed);
+      near = rw tape (ink_near i.filled es cs (edges_fit b es held) boxed);
     }

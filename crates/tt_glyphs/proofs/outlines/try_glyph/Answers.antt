@@ -1,8 +1,8 @@
 use Rattle.std.proofs.Common.{◌≡◌, refl, sym, Ok}
 use Rattle.tt_fit.specs.Fitting.{fitted_outline, unfitted_fault}
 use Rattle.tt_fit_outline.specs.Views.{outline_of}
+use Rattle.tt_picture.proofs.OutlineBox.{rules_boxed}
 use Rattle.tt_picture.proofs.Turns.{same_dropouts}
-use Rattle.tt_glyphs.proofs.BoxedRules.{rules_boxed}
 use Rattle.tt_glyphs.proofs.outlines.try_glyph.Goals.{in-Made, in-Refused}
 use Rattle.tt_glyphs.proofs.outlines.try_glyph.Goals as goal
 
@@ -33,8 +33,6 @@ returns-clause-tried c =
 pub returns-clause-ruled : goal.returns-clause-ruled
 returns-clause-ruled c =
     elim c.match-branch-2.branch [
-      | in-Made w ↦
-          let fit = rw w.rules_for-filled.ensures.exact at w.rules_for-filled.ensures.fits in
-          rw (w.body-is, w.rules_for-filled.ensures.exact) (rules_boxed _ _ fit)
+      | in-Made w ↦ rw w.body-is (rules_boxed w.rules_for-filled.result _ (outline_of w.in-Made.outline) w.rules_for-filled.ensures.exact)
       | in-Refused w ↦ rw w.body-is tt
     ]

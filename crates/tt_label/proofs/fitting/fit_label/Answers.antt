@@ -1,9 +1,9 @@
-use Rattle.std.proofs.Common.{◌≡◌, ◌∙◌, ap, ℕ, ◌<◌, List, [], true, map, refl, sym, Ok, Vec, Global}
+use Rattle.std.proofs.Common.{◌≡◌, ◌∙◌, ap, ℕ, List, [], true, map, refl, Ok, Vec, Global}
 use Rattle.std.proofs.lemmas.Result.{err_from_is_err_and}
+use Rattle.std.specs.List.{flat_map}
 use Rattle.tt_core.specs.Limits.{point_work_limit}
 use Rattle.tt_label.specs.Fitted.{glyphs_in}
-use Rattle.tt_label.proofs.Joined.{all_flat, flat_all, lists_joined}
-use Rattle.tt_metrics.specs.Metrics.{glyphs_of}
+use Rattle.tt_label.proofs.Joined.{flat_all, lists_joined}
 use Rattle.tt_picture.specs.Distinct.{distinct, is_among}
 use Rattle.tt_picture.specs.Fitted.{AreFitted, fitted_numbers}
 use Rattle.tt_strike.specs.Picture.{advance_with}
@@ -22,14 +22,9 @@ abbrev items_of : List (Vec (ℕ × ℕ) Global) → List (List (ℕ × ℕ))
 items_of lines = map (λ (v : Vec (ℕ × ℕ) Global). v.items) lines
 
 -- the distinct glyphs are those of the text
-glyphs_are : (c : In_ok-met) → map (λ (g : ℕ × ℕ). g.0) c.in_ok-all.all.items
-    ≡ glyphs_in (items_of c.args.steps.items)
-glyphs_are c =
-    ap (map (λ (g : ℕ × ℕ). g.0)) (rw c.deref.ensures.value at c.in_ok-all.ensures ∙ sym (lists_joined c.args.steps.items))
-
 numbers_are : (c : In_ok-met) → c.in_ok-met.met.numbers.items
     ≡ distinct (glyphs_in (items_of c.args.steps.items))
-numbers_are c = rw c.deref-2.ensures.value at c.in_ok-met.ensures.numbers ∙ ap distinct (glyphs_are c)
+numbers_are c = rw c.deref.ensures.value at c.in_ok-met.ensures.numbers
 
 -- their points are few, and charged
 few_points : (c : In_ok-charge_points)
@@ -39,34 +34,34 @@ few_points : (c : In_ok-charge_points)
 few_points c are =
     of-job (work_tested c.args.source.now.fit point_work_limit
     (points_in c.args.fitter.now (glyphs_in (items_of c.args.steps.items)))) tt
-    (rw (c.deref-3.ensures.value, are) at c.in_ok-charge_points.ensures.exact)
+    (rw (c.deref-2.ensures.value, are) at c.in_ok-charge_points.ensures.exact)
 
 charged_is : (c : In_ok-charge_points)
     → c.in_ok-met.met.numbers.items ≡ distinct (glyphs_in (items_of c.args.steps.items))
     → c.charge_points.new.fitter ≡ started c.args.fitter.now (glyphs_in (items_of c.args.steps.items))
-charged_is c are = rw (c.deref-3.ensures.value, are) at c.in_ok-charge_points.ensures.charged
+charged_is c are = rw (c.deref-2.ensures.value, are) at c.in_ok-charge_points.ensures.charged
 
 -- the outlines are made, and the steps are theirs
 fitted_are : (c : In_ok-fitted)
     → c.in_ok-met.met.numbers.items ≡ distinct (glyphs_in (items_of c.args.steps.items))
     → c.charge_points.new.fitter ≡ started c.args.fitter.now (glyphs_in (items_of c.args.steps.items))
     → AreFitted (line_fitter c.args.fitter.now (glyphs_in (items_of c.args.steps.items))) c.in_ok-fitted.fitted.items
-fitted_are c are charged = rw (c.deref-4.ensures.value, are, charged) at c.in_ok-fitted.ensures.fitted
+fitted_are c are charged = rw (c.deref-3.ensures.value, are, charged) at c.in_ok-fitted.ensures.fitted
 
 fitted_numbers_are : (c : In_ok-fitted)
     → c.in_ok-met.met.numbers.items ≡ distinct (glyphs_in (items_of c.args.steps.items))
     → fitted_numbers c.in_ok-fitted.fitted.items ≡ distinct (glyphs_in (items_of c.args.steps.items))
-fitted_numbers_are c are = rw (c.deref-4.ensures.value, are) at c.in_ok-fitted.ensures.numbers
+fitted_numbers_are c are = rw (c.deref-3.ensures.value, are) at c.in_ok-fitted.ensures.numbers
 
 pub step_lines-requires-clause-among : goal.step_lines-requires-clause-among
 step_lines-requires-clause-among c =
-    let numbers = numbers_are (goal.at.step_lines-requires-clause-among c).In_ok-met in
-    let fitted = fitted_numbers_are (goal.at.step_lines-requires-clause-among c).In_ok-fitted numbers in
-    let all = all_among c.in_ok-all.all.items (fitted_numbers c.in_ok-fitted.fitted.items)
-    (fitted ∙ ap distinct (sym (glyphs_are (goal.at.step_lines-requires-clause-among c).In_ok-met))) in
-    let joined = rw c.deref.ensures.value at c.in_ok-all.ensures in
-    rw c.deref-6.ensures.value (flat_all (λ (g : ℕ × ℕ). is_among g.0 (fitted_numbers c.in_ok-fitted.fitted.items) ≡ true)
-    (λ (l : Vec (ℕ × ℕ) Global). l.items) c.args.steps.items (rw joined at all))
+    let all = goal.at.step_lines-requires-clause-among c in
+    let lines = c.args.steps.items in
+    let numbers = fitted_numbers c.in_ok-fitted.fitted.items in
+    let joined = ap (λ (gs : List (ℕ × ℕ)). distinct (map (λ (g : ℕ × ℕ). g.0) gs)) (lists_joined lines) in
+    let among = all_among (flat_map (λ (l : Vec (ℕ × ℕ) Global). l.items) lines) numbers
+    (fitted_numbers_are all.In_ok-fitted (numbers_are all.In_ok-met) ∙ joined) in
+    rw c.deref-5.ensures.value (flat_all (λ (g : ℕ × ℕ). is_among g.0 numbers ≡ true) (λ (l : Vec (ℕ × ℕ) Global). l.items) lines among)
 
 pub fit_glyphs-requires-clause-cache : goal.fit_glyphs-requires-clause-cache
 fit_glyphs-requires-clause-cache c =
@@ -78,14 +73,14 @@ fit_glyphs-requires-clause-cache c =
 pub fit_glyphs-requires-clause-differ : goal.fit_glyphs-requires-clause-differ
 fit_glyphs-requires-clause-differ c =
     let numbers = numbers_are (goal.at.fit_glyphs-requires-clause-differ c).In_ok-met in
-    rw (c.deref-4.ensures.value, numbers)
+    rw (c.deref-3.ensures.value, numbers)
     (distinct_differ [] (glyphs_in (items_of c.args.steps.items)) refl)
 
 pub returns-in_err-charge_points-clause-stops : goal.returns-in_err-charge_points-clause-stops
 returns-in_err-charge_points-clause-stops c =
     let gs = glyphs_in (items_of c.args.steps.items) in
     let numbers = numbers_are (goal.at.returns-in_err-charge_points-clause-stops c).In_ok-met in
-    let fails = rw (c.deref-3.ensures.value, numbers) at c.in_err-charge_points.ensures.exact in
+    let fails = rw (c.deref-2.ensures.value, numbers) at c.in_err-charge_points.ensures.exact in
     let p = err_from_is_err_and c.from_residual-in_err-charge_points.result c.from_residual-in_err-charge_points.ensures.1 in
     rw (p.1, p.2) (points_stop_outlines c.args.fitter.now c.args.source.now.fit gs c.in_err-charge_points.field-0.0 fails)
 
@@ -95,7 +90,7 @@ returns-in_err-fitted-clause-stops c =
     let all = goal.at.returns-in_err-fitted-clause-stops c in
     let numbers = numbers_are all.In_ok-met in
     let few = few_points all.In_ok-charge_points numbers in
-    let fails = rw (c.deref-4.ensures.value, numbers, charged_is all.In_ok-charge_points numbers) at c.in_err-fitted.ensures.fault in
+    let fails = rw (c.deref-3.ensures.value, numbers, charged_is all.In_ok-charge_points numbers) at c.in_err-fitted.ensures.fault in
     let p = err_from_is_err_and c.from_residual-in_err-fitted.result c.from_residual-in_err-fitted.ensures.1 in
     rw (p.1, p.2) (outline_stops_outlines c.args.fitter.now c.args.source.now.fit gs c.in_err-fitted.field-0.0 (rw few refl) fails)
 
@@ -108,11 +103,11 @@ returns-clause-fitted c =
     let charged = charged_is all.In_ok-charge_points numbers in
     let fitted = fitted_are all.In_ok-fitted numbers charged in
     record {
-      steps = rw c.deref-6.ensures.value at c.in_ok-steps.ensures (advance_with s gs) (advances_are (line_fitter s gs) c.in_ok-fitted.fitted.items fitted);
+      steps = rw c.deref-5.ensures.value at c.in_ok-steps.ensures (advance_with s gs) (advances_are (line_fitter s gs) c.in_ok-fitted.fitted.items fitted);
       places = rw (fitted_numbers_are all.In_ok-fitted numbers, ← numbers) c.in_ok-met.ensures.places;
       numbers = fitted_numbers_are all.In_ok-fitted numbers;
       fitted = fitted;
-      made = rw (c.deref-4.ensures.value, numbers, charged) at c.in_ok-fitted.ensures.made;
+      made = rw (c.deref-3.ensures.value, numbers, charged) at c.in_ok-fitted.ensures.made;
     }
 
 pub returns-clause-points : goal.returns-clause-points
@@ -124,11 +119,4 @@ pub returns-clause-after : goal.returns-clause-after
 returns-clause-after c =
     let all = goal.at.returns-clause-after c in
     let numbers = numbers_are all.In_ok-met in
-    rw (c.deref-4.ensures.value, numbers, charged_is all.In_ok-charge_points numbers) at c.in_ok-fitted.ensures.after
-
-pub distinct-requires-clause-known : goal.distinct-requires-clause-known
-distinct-requires-clause-known c =
-    let joined = rw c.deref.ensures.value at c.in_ok-all.ensures in
-    let count = rw c.metrics.ensures at c.glyphs.ensures.exact in
-    rw (c.deref-2.ensures.value, joined, count) (all_flat (λ (g : ℕ × ℕ). g.0 < glyphs_of c.args.source.now.face.now.metrics)
-    (λ (v : Vec (ℕ × ℕ) Global). v.items) c.args.steps.items c.requires.known)
+    rw (c.deref-3.ensures.value, numbers, charged_is all.In_ok-charge_points numbers) at c.in_ok-fitted.ensures.after

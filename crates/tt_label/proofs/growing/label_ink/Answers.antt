@@ -1,8 +1,9 @@
 use Rattle.std.proofs.Common.{◌≡◌, ◌∙◌, ℕ, ◌<◌, ◌≤◌, List, get_or, length, sym, ap, ap₂, arith}
 use Rattle.std.proofs.lemmas.List.{drop_all, drop_more}
-use Rattle.tt_label.specs.Label.{box_in, line_box}
+use Rattle.tt_label.specs.Label.{line_box}
 use Rattle.tt_line.specs.Outcome.{placement_of}
 use Rattle.tt_scan_edges.specs.declared.edge.Frame.{Frame}
+use Rattle.tt_strike.specs.Measures.{box_in}
 use Rattle.tt_strike.specs.Picture.{frame_of}
 use Rattle.tt_label.proofs.growing.label_ink.Goals as goal
 

@@ -16,7 +16,7 @@ use Rattle.tt_strike.specs.Picture.{frame_of}
 use Rattle.tt_strike.specs.Strikes.{job_by}
 use Rattle.tt_strike.specs.Work.{line_fitter}
 use Rattle.tt_strike.proofs.Made.{inks_as_made, reported_as_made}
-use Rattle.tt_label.proofs.labelling.draw_label.Goals.{After-frame-frame, After-label_ink-ink, In_ok-lines, In_ok-new}
+use Rattle.tt_label.proofs.labelling.draw_label.Goals.{After-frame-frame, After-label_ink-ink, In_ok-lines, In_ok-picture}
 use Rattle.tt_label.proofs.labelling.draw_label.Goals as goal
 
 -- the ink of the lines is that of the definition
@@ -98,7 +98,7 @@ returns-clause-exact c =
     (placements_of larger) c.label_ink-ink.result c.in_ok-made.made.glyphs.made.items is.placed is.made
     (ink_then all.After-label_ink-ink) c.in_ok-lines.ensures.exact in
     let same = rw c.deref-3.ensures.value at c.in_ok-placed.ensures in
-    let painted = rw c.deref-4.ensures.value at (c.in_ok-new.ensures.exact maker is.made.drawn) in
+    let painted = rw c.deref-4.ensures.value at (c.in_ok-picture.ensures.exact maker is.made.drawn) in
     let frame = frame_then all.After-frame-frame laid in
     drawn ∙ ap Ok (rw (
       painted,
@@ -107,23 +107,23 @@ returns-clause-exact c =
     ) refl)
 
 -- the unfitted glyphs are those of the joint line
-listed_then : (c : In_ok-new) → (label_report c.args.sized.now.face (job_by c.args.sized.now c.args.text.now c.args.margin) c.args.align
-    ≡ Ok c.in_ok-new.field-0.unfitted) × ListsOnce c.in_ok-new.field-0.unfitted
+listed_then : (c : In_ok-picture) → (label_report c.args.sized.now.face (job_by c.args.sized.now c.args.text.now c.args.margin) c.args.align
+    ≡ Ok c.in_ok-picture.picture.unfitted) × ListsOnce c.in_ok-picture.picture.unfitted
 unfolding label_report
 listed_then c =
     let is = c.in_ok-made.ensures.made in
     let told = reported_as_made c.args.sized.now.face (job_by c.args.sized.now c.args.text.now c.args.margin)
-    (joint (placements_of c.in_ok-made.made.lines.items)) c.in_ok-made.made.glyphs.made.items c.in_ok-new.field-0.unfitted is.made
-    c.in_ok-new.ensures.unfitted in (rw is.placed told.0, told.1)
+    (joint (placements_of c.in_ok-made.made.lines.items)) c.in_ok-made.made.glyphs.made.items c.in_ok-picture.picture.unfitted is.made
+    c.in_ok-picture.ensures.unfitted in (rw is.placed told.0, told.1)
 
 pub returns-clause-report : goal.returns-clause-report
-returns-clause-report c = (listed_then (goal.at.returns-clause-report c).In_ok-new).0
+returns-clause-report c = (listed_then (goal.at.returns-clause-report c).In_ok-picture).0
 
 pub returns-clause-once : goal.returns-clause-once
-returns-clause-once c = (listed_then (goal.at.returns-clause-once c).In_ok-new).1
+returns-clause-once c = (listed_then (goal.at.returns-clause-once c).In_ok-picture).1
 
 pub returns-clause-cost : goal.returns-clause-cost
 unfolding label_cost
 returns-clause-cost c =
     let is = c.in_ok-made.ensures.made in
-    rw (c.in_ok-new.ensures.cost, is.placed) is.cost
+    rw (c.in_ok-picture.ensures.cost, is.placed) is.cost

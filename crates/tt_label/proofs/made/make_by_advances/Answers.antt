@@ -9,12 +9,15 @@ use Rattle.tt_line.specs.Outcome.{placement_of}
 use Rattle.tt_strike.specs.declared.laid.Laid.{Laid}
 use Rattle.tt_strike.specs.Strikes.{job_by}
 use Rattle.tt_strike.proofs.Textless.{cost_textless}
-use Rattle.tt_label.proofs.made.make_by_advances.Goals.{In_ok-joint}
+use Rattle.tt_label.proofs.made.make_by_advances.Goals.{After-joint_of}
 use Rattle.tt_label.proofs.made.make_by_advances.Goals as goal
 
 -- the joint line is that of the lines
-joint_then : (c : In_ok-joint) → placement_of c.in_ok-joint.joint.line ≡ joint (placements_of c.in_ok-lines.lines.items)
-joint_then c = c.in_ok-joint.ensures.line ∙ ap (λ (ls : List Laid). joint (placements_of ls)) c.deref.ensures.value
+joint_then : (c : After-joint_of) → placement_of c.joint_of.result.now.line ≡ joint (placements_of c.in_ok-lines.lines.items)
+joint_then c = c.joint_of.ensures.line ∙ ap (λ (ls : List Laid). joint (placements_of ls)) c.deref-2.ensures.value
+
+margin_then : (c : After-joint_of) → c.joint_of.result.now.margin ≡ c.args.margin
+margin_then c = c.joint_of.ensures.margin c.args.margin c.in_ok-joined.ensures.margin (rw c.deref-2.ensures.value c.in_ok-lines.ensures.laid.margins)
 
 pub returns-in_err-lines-clause-stops : goal.returns-in_err-lines-clause-stops
 returns-in_err-lines-clause-stops c =
@@ -33,12 +36,12 @@ pub returns-in_err-glyphs-clause-stops : goal.returns-in_err-glyphs-clause-stops
 returns-in_err-glyphs-clause-stops c =
     let all = goal.at.returns-in_err-glyphs-clause-stops c in
     let p = err_from_is_err_and c.from_residual-in_err-glyphs.result c.from_residual-in_err-glyphs.ensures.1 in
-    rw (p.1, p.2) (textless_tell c.args.sized.now c.lay_label.new.sized c.args.text.now c.args.margin c.in_ok-joint.joint.margin c.args.align
-    (placements_of c.in_ok-lines.lines.items) (placement_of c.in_ok-joint.joint.line) c.in_err-glyphs.field-0.0 c.lay_label.ensures.same
-    (joint_then all.In_ok-joint) c.in_ok-lines.ensures.exact c.in_err-glyphs.ensures.stops)
+    rw (p.1, p.2) (textless_tell c.args.sized.now c.lay_label.new.sized c.args.text.now c.args.margin c.joint_of.result.now.margin c.args.align
+    (placements_of c.in_ok-lines.lines.items) (placement_of c.joint_of.result.now.line) c.in_err-glyphs.field-0.0 c.lay_label.ensures.same
+    (joint_then all.After-joint_of) c.in_ok-lines.ensures.exact c.in_err-glyphs.ensures.stops)
 
 -- the numbers of its glyphs are those of the text
-numbers_then : (c : In_ok-joint) → map (λ (g : ℕ × ℕ). g.0) c.in_ok-joint.joint.line.glyphs.items ≡ label_glyphs c.args.sized.now.face.cmap c.args.text.now
+numbers_then : (c : After-joint_of) → map (λ (g : ℕ × ℕ). g.0) c.joint_of.result.now.line.glyphs.items ≡ label_glyphs c.args.sized.now.face.cmap c.args.text.now
 numbers_then c =
     let joined = joint_then c in
     ap (λ (l : Placement). map (λ (g : ℕ × ℕ). g.0) l.glyphs) joined
@@ -49,25 +52,25 @@ pub returns-in_err-glyphs-clause-defects : goal.returns-in_err-glyphs-clause-def
 returns-in_err-glyphs-clause-defects c =
     let all = goal.at.returns-in_err-glyphs-clause-defects c in
     let p = err_from_is_err_and c.from_residual-in_err-glyphs.result c.from_residual-in_err-glyphs.ensures.1 in
-    rw (p.1, p.2, ← numbers_then all.In_ok-joint) (rw c.lay_label.ensures.same at c.in_err-glyphs.ensures.defects)
+    rw (p.1, p.2, ← numbers_then all.After-joint_of) (rw c.lay_label.ensures.same at c.in_err-glyphs.ensures.defects)
 
 pub returns-clause-made : goal.returns-clause-made
 returns-clause-made c =
     let all = goal.at.returns-clause-made c in
-    let cost = rw (c.lay_label.ensures.same, c.in_ok-joint.ensures.margin, joint_then all.In_ok-joint) at c.in_ok-glyphs.ensures.cost in
+    let cost = rw (c.lay_label.ensures.same, margin_then all.After-joint_of, joint_then all.After-joint_of) at c.in_ok-glyphs.ensures.cost in
     record {
       placed = c.in_ok-lines.ensures.exact;
       laid = c.in_ok-lines.ensures.laid;
-      made = made_as_joint c.args.sized.now c.lay_label.new.sized c.args.text.now c.args.margin c.in_ok-joint.joint.margin
-          (placements_of c.in_ok-lines.lines.items) (placement_of c.in_ok-joint.joint.line) c.lay_label.ensures.same
-          c.in_ok-joint.ensures.margin (joint_then all.In_ok-joint) c.in_ok-glyphs.ensures.made;
+      made = made_as_joint c.args.sized.now c.lay_label.new.sized c.args.text.now c.args.margin c.joint_of.result.now.margin
+          (placements_of c.in_ok-lines.lines.items) (placement_of c.joint_of.result.now.line) c.lay_label.ensures.same
+          (margin_then all.After-joint_of) (joint_then all.After-joint_of) c.in_ok-glyphs.ensures.made;
       cost = cost_textless c.args.sized.now c.args.text.now c.args.margin (joint (placements_of c.in_ok-lines.lines.items)) ∙ cost;
     }
 
 pub returns-clause-defects : goal.returns-clause-defects
 returns-clause-defects c =
     let all = goal.at.returns-clause-defects c in
-    rw (← numbers_then all.In_ok-joint) (rw c.lay_label.ensures.same at c.in_ok-glyphs.ensures.defects)
+    rw (← numbers_then all.After-joint_of) (rw c.lay_label.ensures.same at c.in_ok-glyphs.ensures.defects)
 
 pub tested_glyphs-requires-clause-cache : goal.tested_glyphs-requires-clause-cache
 tested_glyphs-requires-clause-cache c = rw c.lay_label.ensures.same c.requires.cache
@@ -77,3 +80,9 @@ returns-in_err-glyphs-clause-cache c = rw c.lay_label.ensures.same at c.tested_g
 
 pub returns-clause-cache : goal.returns-clause-cache
 returns-clause-cache c = rw c.lay_label.ensures.same at c.tested_glyphs.ensures.cache
+
+pub joint_of-requires-clause-line : goal.joint_of-requires-clause-line
+joint_of-requires-clause-line c = rw (c.deref-2.ensures.value, ← c.deref.ensures.value) c.in_ok-joined.ensures.line
+
+pub joint_of-requires-clause-none : goal.joint_of-requires-clause-none
+joint_of-requires-clause-none c = rw (c.deref-2.ensures.value, ← c.deref.ensures.value) c.in_ok-joined.ensures.none

@@ -37,7 +37,7 @@ use Rattle.tt_strike.proofs.Setting.{given_back, line_alike, maker_alike}
 use Rattle.tt_strike.proofs.Stepped.{line_tells_no_defect, outlines_pass, outlines_tell_defect}
 use Rattle.tt_strike.proofs.Stopped.{font_tells}
 use Rattle.tt_strike.proofs.Telling.{no_line_defect, setting_tells}
-use Rattle.tt_label.proofs.made.make_by_steps.Goals.{After-give_back, After-tested_edges, In_ok-joint, In_ok-label, In_ok-lines, In_ok-steps}
+use Rattle.tt_label.proofs.made.make_by_steps.Goals.{After-give_back, After-joint_of-joint, After-tested_edges, In_ok-label, In_ok-lines, In_ok-steps}
 use Rattle.tt_label.proofs.made.make_by_steps.Goals as goal
 
 -- the job of a text at this place
@@ -105,10 +105,11 @@ laid_then c few same count =
     c.in_ok-lines.ensures.margin laid
 
 -- the joint line, and its glyphs
-line_then : (c : In_ok-joint) → placement_of c.in_ok-joint.joint.line ≡ joint (placements_of c.in_ok-lines.lines.items)
-line_then c = c.in_ok-joint.ensures.line ∙ ap (λ (ls : List Laid). joint (placements_of ls)) c.deref.ensures.value
+line_then : (c : After-joint_of-joint) → placement_of c.joint_of-joint.result.now.line ≡ joint (placements_of c.in_ok-lines.lines.items)
+line_then c = c.joint_of-joint.ensures.line ∙ ap (λ (ls : List Laid). joint (placements_of ls)) c.deref-2.ensures.value
 
-joint_then : (c : In_ok-joint) → c.in_ok-joint.joint.line.glyphs.items ≡ (joint (placements_of c.in_ok-lines.lines.items)).glyphs
+joint_then : (c : After-joint_of-joint)
+    → c.joint_of-joint.result.now.line.glyphs.items ≡ (joint (placements_of c.in_ok-lines.lines.items)).glyphs
 joint_then c = let joined = line_then c in ap (λ (l : Placement). l.glyphs) joined
 
 -- the label by the outlines of its glyphs
@@ -233,7 +234,7 @@ returns-in_err-glyphs-clause-stops c =
     let are = lines_are all.In_ok-steps in
     let is = outlined_then all.In_ok-lines are (fitted_then all.In_ok-label are) in
     let shapes = label_made z.face a c.args.align s lines fs is in
-    let exact = rw (joint_then all.In_ok-joint) at c.in_err-glyphs.ensures.exact in
+    let exact = rw (joint_then all.After-joint_of-joint) at c.in_err-glyphs.ensures.exact in
     let fails = rw (label_edges z.face a c.args.align s lines fs shapes.0 is) at
     (exact (line_fitter s (label_glyphs z.face.cmap c.args.text.now)) shapes.0 is.fitted shapes.1) in
     let p = err_from_is_err_and c.from_residual-in_err-glyphs.result c.from_residual-in_err-glyphs.ensures.1 in
@@ -251,7 +252,7 @@ returns-in_err-glyphs-clause-defects c =
     let are = lines_are all.In_ok-steps in
     let is = outlined_then all.In_ok-lines are (fitted_then all.In_ok-label are) in
     let shapes = label_made z.face a c.args.align s lines fs is in
-    let exact = rw (joint_then all.In_ok-joint) at c.in_err-glyphs.ensures.exact in
+    let exact = rw (joint_then all.After-joint_of-joint) at c.in_err-glyphs.ensures.exact in
     let fails = exact (line_fitter s (label_glyphs z.face.cmap c.args.text.now)) shapes.0 is.fitted shapes.1 in
     let p = err_from_is_err_and c.from_residual-in_err-glyphs.result c.from_residual-in_err-glyphs.ensures.1 in
     rw (p.1, p.2) (line_tells_no_defect _ _ c.in_err-glyphs.field-0.0 fails)
@@ -271,10 +272,10 @@ returns-clause-made c =
     let shapes = label_made z.face a c.args.align s lines fs is in
     let fitted : shapes_in s (joint lines) ≡ Ok shapes.0 = rw is.glyphs shapes.1 in
     let few = label_points z.face a c.args.align s lines fs is in
-    let exact = rw (joint_then all.In_ok-joint) at c.in_ok-glyphs.ensures.exact in
+    let exact = rw (joint_then all.After-joint_of-joint) at c.in_ok-glyphs.ensures.exact in
     let seldom : edges_tested s a (joint lines) shapes.0 ≡ Ok tt = of-job (edges_tested s a (joint lines) shapes.0) tt
     (rw (label_edges z.face a c.args.align s lines fs shapes.0 is) at (exact maker shapes.0 is.fitted shapes.1)) in
-    let counts = rw (joint_then all.In_ok-joint) at c.in_ok-glyphs.ensures.cost in
+    let counts = rw (joint_then all.After-joint_of-joint) at c.in_ok-glyphs.ensures.cost in
     let cost : c.in_ok-glyphs.glyphs.cost ≡ cost_of (work_left s (joint_numbers lines)) (crossings_in shapes.0) =
     counts maker shapes.0 is.fitted shapes.1
     ∙ ap (λ left. cost_of left (crossings_in shapes.0)) (is.work ∙ ap (work_left s) (sym is.glyphs)) in
@@ -325,7 +326,13 @@ tested_edges-requires-clause-numbers c =
     let are = lines_are all.In_ok-steps in
     let f = fitted_then all.In_ok-label are in
     let is = outlined_then all.In_ok-lines are f in
-    rw (joint_then all.In_ok-joint) (f.numbers ∙ ap distinct (sym is.glyphs))
+    rw (joint_then all.After-joint_of-joint) (f.numbers ∙ ap distinct (sym is.glyphs))
+
+pub joint_of-joint-requires-clause-line : goal.joint_of-joint-requires-clause-line
+joint_of-joint-requires-clause-line c = rw (c.deref-2.ensures.value, ← c.deref.ensures.value) c.in_ok-joined.ensures.line
+
+pub joint_of-joint-requires-clause-none : goal.joint_of-joint-requires-clause-none
+joint_of-joint-requires-clause-none c = rw (c.deref-2.ensures.value, ← c.deref.ensures.value) c.in_ok-joined.ensures.none
 
 pub joint_line-requires : goal.joint_line-requires
 joint_line-requires c =
@@ -381,9 +388,9 @@ invariant_of-sized-in_err-lines c =
     let all = goal.at.invariant_of-sized-in_err-lines c in
     (maker_then all.After-give_back (lines_are all.In_ok-steps), c.label_steps.ensures.same ∙ c.sized.invariant.1)
 
-pub invariant_of-sized-in_err-joint : goal.invariant_of-sized-in_err-joint
-invariant_of-sized-in_err-joint c =
-    let all = goal.at.invariant_of-sized-in_err-joint c in
+pub invariant_of-sized-in_err-joined : goal.invariant_of-sized-in_err-joined
+invariant_of-sized-in_err-joined c =
+    let all = goal.at.invariant_of-sized-in_err-joined c in
     (maker_then all.After-give_back (lines_are all.In_ok-steps), c.label_steps.ensures.same ∙ c.sized.invariant.1)
 
 pub invariant_of-sized-in_err-glyphs : goal.invariant_of-sized-in_err-glyphs

@@ -1,20 +1,14 @@
-use Rattle.std.proofs.Common.{◌≡◌, ◌∙◌, ℕ, false, Option, Some, None, ap, chars, length, map, refl, sym, arith}
+use Rattle.std.proofs.Common.{◌≡◌, ◌∙◌, ℕ, ap, chars, length, map, sym, arith}
 use Rattle.std.proofs.lemmas.List.{length-map, with_items_is}
-use Rattle.std.specs.Option.{is_some}
 use Rattle.tt_cmap.specs.Maps.{glyph_of_unit, has_pairs, units_by}
 use Rattle.tt_cmap.proofs.UnitLaws.{units-are-few}
-use Rattle.tt_kern.specs.Kerning.{Tables}
 use Rattle.tt_metrics.specs.Metrics.{glyphs_of}
 use Rattle.tt_line.specs.Known.{Source}
 use Rattle.tt_line.specs.Layout.{advance_in_pixels, text_glyphs}
 use Rattle.tt_line.specs.Steps.{step_in_pixels}
-use Rattle.tt_line.proofs.Stepped.{firsts, known_alike, length-stepped, numbers_beside, unkerned_line}
+use Rattle.tt_line.proofs.Stepped.{firsts, known_alike, length-stepped, no_tables, numbers_beside, unkerned_line}
 use Rattle.tt_line.proofs.steps.advance_steps.Goals.{then-has_kerning, else-has_kerning}
 use Rattle.tt_line.proofs.steps.advance_steps.Goals as goal
-
-off : (kerning : Option Tables) → false ≡ is_some kerning → kerning ≡ None
-off None none = refl
-off (Some tables) none = absurd cc
 
 pub returns-clause-exact : goal.returns-clause-exact
 returns-clause-exact c = elim c.if-has_kerning.branch [
@@ -31,7 +25,7 @@ returns-clause-exact c = elim c.if-has_kerning.branch [
       rw w.line-is (with_items_is c.in_ok-line.line w.kern.new.line count ∙ new)
   | else-has_kerning w ↦
       let metrics : c.metrics-metrics.result.now ≡ c.args.known.now.metrics = c.metrics-metrics.ensures ∙ ap (λ (s : Source). s.metrics) c.in_ok-line.ensures.same in
-      let none = off c.args.known.now.metrics.kerning (rw metrics at w.if-has_kerning.ensures) in
+      let none = no_tables c.args.known.now.metrics.kerning (rw metrics at w.if-has_kerning.ensures) in
       rw (w.line-is, c.in_ok-line.ensures.exact) (sym (unkerned_line c.args.known.now.metrics c.args.known.now.ppem (text_glyphs c.args.known.now.cmap c.args.text.now) none))
 ]
 

@@ -1,4 +1,4 @@
-use Rattle.std.proofs.Common.{◌≡◌, ◌∙◌, ◌∷◌, [], ◌++◌, ◌-◌, ◌^◌, ◌<◌, ◌≤◌, ap, get_or, length, refl, arith}
+use Rattle.std.proofs.Common.{◌≡◌, ◌∙◌, ◌∷◌, [], ◌++◌, ◌-◌, ◌^◌, ◌<◌, ◌≤◌, get_or, length, refl, arith}
 use Rattle.tt_core.specs.Outcomes.{each}
 use Rattle.tt_picture.specs.Glyphs.{Glyph}
 use Rattle.tt_picture.specs.Shapes.{glyph_shape}
@@ -28,10 +28,10 @@ loop-placed-preserved c = λ maker drawn.
     let own = drawn_is maker gs at g drawn c.place_of-at.ensures.within is in
     let number : g.number ≡ placed.0 = number_is gs at g placed.0 c.place_of-at.ensures.within is c.place_of-at.ensures.number in
     let (shape, shaped, crosses) = drawn_at maker g placed own number in
-    let counted : c.glyph.inside.crossings ≡ g.crossings = ap (λ (g : Glyph). g.crossings) c.glyph.view_is in (
+    let counted : c.crossings.result ≡ g.crossings = c.crossings.ensures in (
       done ++ shape ∷ [],
       one_more_made (glyph_shape maker) line i (0, 0) done shape below shaped ∙ made,
-      c.saturating_add-all.ensures ∙ one_shape_crosses done shape c.loop-placed.all c.glyph.inside.crossings (2 ^ 64 - 1) sum
+      c.saturating_add-all.ensures ∙ one_shape_crosses done shape c.loop-placed.all c.crossings.result (2 ^ 64 - 1) sum
           (counted ∙ crosses),
     )
 

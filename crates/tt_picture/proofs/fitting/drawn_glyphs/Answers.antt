@@ -42,13 +42,13 @@ loop-one-preserved c =
     let one = c.in_ok-glyph.ensures in
     let pushed = c.in_ok-push.ensures.items in
     let steps : into_iter_items at.one-iterator ≡ g ∷ into_iter_items c.next.new.self = c.in-Some.ensures.steps.0 in
-    let same : c.glyph.inside.chords ≡ h.chords = ap (λ (g : Glyph). g.chords) c.glyph.view_is in
+    let same : c.chords.result ≡ h.chords = c.chords.ensures in
     let has = c.has_chords_within.ensures in
     let few = c.if-not-has_chords_within.false in
     let within : body_chords g.body ≤ at.left.chords = grind (arith, has, few) in
-    let crosses : c.glyph.inside.crossings ≡ h.crossings = ap (λ (g : Glyph). g.crossings) c.glyph.view_is in
-    let fits : (c.glyph.inside.chords ≤ at.left.chords) × (c.glyph.inside.crossings ≤ at.left.crossings) =
-    (omega (arith, same, one.chords, within), omega (arith, c.if-glyph-left.false)) in
+    let crosses : c.crossings-crossings.result ≡ h.crossings = c.crossings-crossings.ensures in
+    let fits : (c.chords.result ≤ at.left.chords) × (c.crossings-crossings.result ≤ at.left.crossings) =
+    (omega (arith, same, one.chords, within), omega (arith, c.if-crossings-left.false)) in
     record {
       all = append_assoc at.yielded (g ∷ []) _ ∙ rw (← steps) so_far.all;
       count = let was = so_far.count in
@@ -63,8 +63,8 @@ loop-one-preserved c =
           let valid : IsDrawn (maker g.number) h = one.valid (maker g.number) parts.1 in
           let here : IsDrawn (maker h.number) h = rw from valid in
           rw pushed (All-push (λ (g : Glyph). IsDrawn (maker g.number) g) at.made.items h (so_far.drawn maker parts.0) here);
-      left = one_chord_more at.yielded g at.left.chords c.args.limits.chords c.glyph.inside.chords so_far.left (same ∙ one.chords) fits.0;
-      crossed = one_glyph_more at.yielded g at.left.crossings c.args.limits.crossings c.glyph.inside.crossings so_far.crossed
+      left = one_chord_more at.yielded g at.left.chords c.args.limits.chords c.chords.result so_far.left (same ∙ one.chords) fits.0;
+      crossed = one_glyph_more at.yielded g at.left.crossings c.args.limits.crossings c.crossings-crossings.result so_far.crossed
           (crosses ∙ one.crossings) fits.1;
       cached = served c.args.cache.now at.cache c.into_glyph.new.cache at.yielded (g ∷ []) [] (at.yielded ++ g ∷ []) g refl refl
           so_far.cached one.cached;
@@ -129,22 +129,21 @@ returns-then-not-has_chords_within-clause-cached c =
     at.invariant.cached (λ s is before. before)
 
 -- a glyph has more crossings than are left
-pub returns-then-glyph-left-clause-many : goal.returns-then-glyph-left-clause-many
-returns-then-glyph-left-clause-many c =
+pub returns-then-crossings-left-clause-many : goal.returns-then-crossings-left-clause-many
+returns-then-crossings-left-clause-many c =
     let at = c.loop-one in
     let g = c.in-Some.one in
     let rest = into_iter_items c.next.new.self in
     let steps : into_iter_items at.one-iterator ≡ g ∷ rest = c.in-Some.ensures.steps.0 in
     let all : at.yielded ++ g ∷ rest ≡ c.args.fitted.items = rw (← steps) at.invariant.all in
-    let own : c.glyph.inside.crossings ≡ c.in_ok-glyph.glyph.crossings = ap (λ (g : Glyph). g.crossings) c.glyph.view_is in
-    let crosses = own ∙ c.in_ok-glyph.ensures.crossings in
-    let over : at.left.crossings < c.glyph.inside.crossings = omega (arith, c.if-glyph-left.true) in
-    inr (rw (← all) (too_many_crossings at.yielded rest g at.left.crossings c.args.limits.crossings c.glyph.inside.crossings
+    let crosses = c.crossings-crossings.ensures ∙ c.in_ok-glyph.ensures.crossings in
+    let over : at.left.crossings < c.crossings-crossings.result = omega (arith, c.if-crossings-left.true) in
+    inr (rw (← all) (too_many_crossings at.yielded rest g at.left.crossings c.args.limits.crossings c.crossings-crossings.result
     at.invariant.crossed crosses over))
 
 -- the cache after the glyphs so far and one more
-pub returns-then-glyph-left-clause-cached : goal.returns-then-glyph-left-clause-cached
-returns-then-glyph-left-clause-cached c =
+pub returns-then-crossings-left-clause-cached : goal.returns-then-crossings-left-clause-cached
+returns-then-crossings-left-clause-cached c =
     let at = c.loop-one in
     served c.args.cache.now at.cache c.into_glyph.new.cache at.yielded (into_iter_items at.one-iterator)
     (into_iter_items c.next.new.self) c.args.fitted.items c.in-Some.one at.invariant.all c.in-Some.ensures.steps.0

@@ -1,16 +1,16 @@
-use Rattle.std.proofs.Common.{◌≡◌, ◌∙◌, ◌∷◌, [], ◌++◌, ◌<◌, ◌≤◌, ap, drop, get_or, length, refl, suc, sym, take, Ok, arith}
+use Rattle.std.proofs.Common.{◌≡◌, ◌∙◌, ◌∷◌, [], ◌++◌, ◌<◌, ◌≤◌, ap, get_or, length, refl, sym, take, Ok, arith}
 use Rattle.std.proofs.lemmas.List.{map-append, take_all, take_more}
 use Rattle.std.proofs.lemmas.List.Elements.{All-push}
 use Rattle.std.proofs.lemmas.Result.{err_from_is_err_and}
 use Rattle.tt_core.specs.Outcomes.{each}
 use Rattle.tt_fit.specs.Fitting.{fitted_outline}
 use Rattle.tt_picture.specs.Cached.{IsCacheFor}
-use Rattle.tt_picture.specs.Distinct.{IsNext, fitter_after, fitter_for}
+use Rattle.tt_picture.specs.Distinct.{fitter_after, fitter_for}
 use Rattle.tt_picture.specs.Glyphs.{Glyph, IsDrawn}
 use Rattle.tt_picture.proofs.Cached.{cache_after, cache_before}
-use Rattle.tt_picture.proofs.Outlines.{all_new, not_yet, stuck_there}
+use Rattle.tt_picture.proofs.Outlines.{present_is, stuck_there}
 use Rattle.tt_picture.proofs.Places.{one_more_made}
-use Rattle.tt_picture.proofs.Turns.{next_is, none_before, pushed, same_tables}
+use Rattle.tt_picture.proofs.Turns.{none_before, pushed, same_tables}
 use Rattle.tt_picture.proofs.fitting.made_glyphs.Goals.{After-of}
 use Rattle.tt_picture.proofs.fitting.made_glyphs.Goals as goal
 
@@ -33,13 +33,8 @@ loop-number-init c =
 maker_is : (c : After-of) → fitter_for c.args.fitter.now c.args.numbers.now
     (get_or c.args.numbers.now c.loop-number.number-index 0) ≡ c.loop-number.fitter
 maker_is c =
-    let ns = c.args.numbers.now in
-    let i = c.loop-number.number-index in
-    let below : i < length ns = c.loop-number-test.true in
-    let next : IsNext (fitter_for c.args.fitter.now ns) c.loop-number.fitter (take i ns) (get_or ns i 0) =
-    next_is c.args.fitter.now c.loop-number.fitter (take i ns) ns (get_or ns i 0) (drop (suc i) ns)
-    (all_new ns i below c.requires.differ) c.loop-number.invariant.after in
-    next (not_yet ns i below c.requires.differ)
+    present_is c.args.fitter.now c.loop-number.fitter c.args.numbers.now c.loop-number.number-index c.loop-number-test.true
+    c.requires.differ c.loop-number.invariant.after
 
 -- the cache serves the present fitter
 serves : (c : After-of) → IsCacheFor c.loop-number.fitter c.loop-number.cache

@@ -8,6 +8,7 @@ use Rattle.tt_picture.proofs.Blackened.{or_false}
 use Rattle.tt_picture.proofs.Placed.{stamp_pushed}
 use Rattle.tt_scan_dropouts.specs.Pictures.{column_at, line_at}
 use Rattle.tt_picture.proofs.stamps.push_stamp.Goals as goal
+use Rattle.tt_strike_kept.specs.declared.cut.CutGlyph.{CutGlyph}
 
 pub returns-in_ok-push-in-Small : goal.returns-in_ok-push-in-Small
 returns-in_ok-push-in-Small c = λ k r.
@@ -16,8 +17,9 @@ returns-in_ok-push-in-Small c = λ k r.
     let y = line_at c.args.frame r in
     let before = c.args.stamps.now.items in
     let body : body_view c.glyph.inside.body ≡ g.body = ap (λ (g : glyphs.Glyph). g.body) c.glyph.view_is in
-    let is : body_view c.glyph.inside.body ≡ glyphs.small c.in-Small.small.bitmap.value c.in-Small.small.ink = ap body_view c.in-Small.is in
-    let shown = c.stamp_at-stamp.ensures k r ∙ ap (λ b. is_black b x y) c.in_ok-clone-in-Small.ensures.cases
+    let cut = c.in-Small.cut.value in
+    let is : body_view c.glyph.inside.body ≡ glyphs.small cut.bitmap cut.ink = ap body_view c.in-Small.is in
+    let shown = c.stamp_at-stamp.ensures k r ∙ ap (λ (cut : CutGlyph). is_black cut.bitmap x y) c.in_ok-clone-in-Small.ensures.cases
     ∙ ap (λ b. in_bitmap b x y) (sym is ∙ body) in
     rw c.in_ok-push-in-Small.ensures.items (stamp_pushed before c.stamp_at-stamp.result k r ∙ ap (λ b. some_stamp_shows before k r || b) shown)
 

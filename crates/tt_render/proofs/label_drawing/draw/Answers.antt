@@ -1,8 +1,8 @@
-use Rattle.std.proofs.Common.{◌∙◌, inl, refl}
+use Rattle.std.proofs.Common.{◌∙◌, ap, inl, refl}
 use Rattle.std.proofs.lemmas.Result.{err_from_is_err_and}
 use Rattle.tt_label.specs.Label.{label_glyphs}
 use Rattle.tt_render.specs.declared.label_answers.ReadyLabel.{ReadyLabel}
-use Rattle.tt_render.specs.Labels.{label_answer}
+use Rattle.tt_render.specs.Labels.{label_answer, label_notes}
 use Rattle.tt_render_lines.specs.LinesDefects.{IsTextDefect}
 use Rattle.tt_render_lines.specs.Settings.{job_by, strike_by, strike_of}
 use Rattle.tt_render_lines.proofs.FontLines.{face_file, font_opened, font_refused}
@@ -68,7 +68,8 @@ returns-clause-defects c =
     rw c.texts_fault.ensures (text_tells ReadyLabel label_glyphs c.args.asked.now.setting c.args.text.now c.args.file.now
     c.in_ok-face.face c.in-Err.fault.refusal c.in_ok-face.ensures.exact stands c.in-Err.ensures.serves)
 
-pub answer_label-requires-clause-file : goal.answer_label-requires-clause-file
-answer_label-requires-clause-file c =
-    rw c.in_ok-strike.ensures.exact
-    (face_file c.args.file.now c.args.asked.now.setting.opening c.in_ok-face.face c.in_ok-face.ensures.exact)
+pub answer_label-requires : goal.answer_label-requires
+answer_label-requires c =
+    let l = c.args.asked.now in
+    let file = face_file c.args.file.now l.setting.opening c.in_ok-face.face c.in_ok-face.ensures.exact in
+    record { notes = rw c.in_ok-strike.ensures.exact (c.requires.notes ∙ ap (λ bytes. label_notes l bytes) file) }

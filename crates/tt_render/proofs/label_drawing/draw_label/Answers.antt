@@ -49,6 +49,23 @@ returns-in-Err-read_font-clause-outcome g c =
           (g.E.Sink.written c.args.error.now) failed _ _ c.requires.out c.requires.error,
     ))
 
+pub returns-in-Err-notes_of-clause-outcome : goal.returns-in-Err-notes_of-clause-outcome
+returns-in-Err-notes_of-clause-outcome g c =
+    let left = g.R.Source.left in
+    let font = c.read_font.new.font in
+    let failed = g.R.Source.has_failed font in
+    let file = c.in-Ok in
+    let l = c.args.asked.now in
+    let text = c.args.text.now in
+    let good = subst (λ (k : Job). tested k ≡ Ok tt) c.job.ensures.exact c.in_default.ensures.exact in
+    rw c.unhinted-in-Err-notes_of.ensures
+    (text_fails l.setting (λ t. label_answer l t text) text file.file.items (before_lines reason.Memory)
+    (traffic_of left g.R.Source.has_failed g.W.Sink.written g.W.Sink.has_failed c.args.font.now font c.args.out.now
+    c.args.out.now) (errors_of g.E.Sink.written g.E.Sink.has_failed c.args.error.now c.args.error.now)
+    good (file.ensures.0, file.ensures.1, file.ensures.3) tt
+    (silent (left c.args.font.now) (left font) (g.W.Sink.written c.args.out.now) (g.E.Sink.written c.args.error.now)
+    failed _ _ c.requires.out c.requires.error))
+
 pub returns-in-Err-draw-clause-outcome : goal.returns-in-Err-draw-clause-outcome
 returns-in-Err-draw-clause-outcome g c =
     let left = g.R.Source.left in
@@ -60,7 +77,7 @@ returns-in-Err-draw-clause-outcome g c =
     let fault = c.in-Err-draw.fault in
     let good = subst (λ (k : Job). tested k ≡ Ok tt) c.job.ensures.exact c.in_default.ensures.exact in
     let P : List ℕ → Type 0 = λ bytes. LabelReadies (λ t. label_answer l t text) (strike_of l.setting bytes) (Err fault) in
-    let why = subst P c.deref.ensures.value c.in-Err-draw.ensures.outcome in
+    let why = subst P c.deref-2.ensures.value c.in-Err-draw.ensures.outcome in
     rw c.hinted.ensures
     (text_fails l.setting (λ t. label_answer l t text) text file.file.items fault
     (traffic_of left g.R.Source.has_failed g.W.Sink.written g.W.Sink.has_failed c.args.font.now font c.args.out.now
@@ -75,7 +92,7 @@ returns-in-Ok-write_picture-clause-outcome g c =
     let ready = c.in-Ok-draw in
     let l = c.args.asked.now in
     let good = subst (λ (k : Job). tested k ≡ Ok tt) c.job.ensures.exact c.in_default.ensures.exact in
-    let made = rw c.deref.ensures.value at ready.ensures.outcome in
+    let made = rw c.deref-2.ensures.value at ready.ensures.outcome in
     let printed = rw (c.requires.error, c.deref-in-Ok-write_picture.ensures, ready.ensures.report) at c.print_text.ensures in
     rw c.done.ensures
     (text_written l.setting (λ t. label_answer l t c.args.text.now) c.args.text.now file.file.items made.0
@@ -92,7 +109,7 @@ returns-clause-outcome g c =
     let ready = c.in-Ok-draw in
     let l = c.args.asked.now in
     let good = subst (λ (k : Job). tested k ≡ Ok tt) c.job.ensures.exact c.in_default.ensures.exact in
-    let made = rw c.deref.ensures.value at ready.ensures.outcome in
+    let made = rw c.deref-2.ensures.value at ready.ensures.outcome in
     let cut = c.in-Err-write_picture.ensures.writes in
     rw c.unhinted-in-Err-write_picture.ensures
     (text_cut l.setting (λ t. label_answer l t c.args.text.now) c.args.text.now file.file.items made.0
@@ -115,6 +132,10 @@ returns-in-Err-read_font-clause-hint g c =
     rw (c.unhinted-in-Err-read_font.ensures, c.refusal_of_run.ensures)
     (if_some_all (left c.args.font.now) _ (λ file. reading_hints c.in-Err-read_font.fault (left c.args.font.now) (left font)
     (g.R.Source.has_failed font) file c.args.asked.now.setting.opening.reading c.in-Err-read_font.ensures))
+
+pub returns-in-Err-notes_of-clause-hint : goal.returns-in-Err-notes_of-clause-hint
+returns-in-Err-notes_of-clause-hint g c =
+    rw c.unhinted-in-Err-notes_of.ensures (if_some_all (g.R.Source.left c.args.font.now) _ (λ file. refl))
 
 pub returns-in-Err-draw-clause-hint : goal.returns-in-Err-draw-clause-hint
 returns-in-Err-draw-clause-hint g c =
@@ -146,13 +167,21 @@ returns-in-Err-read_font-clause-defects g c =
     (reading_tells c.in-Err-read_font.fault (left c.args.font.now) (left font) (g.R.Source.has_failed font)
     (IsTextDefect label_glyphs c.args.asked.now.setting c.args.text.now) c.in-Err-read_font.ensures)
 
+pub returns-in-Err-notes_of-clause-defects : goal.returns-in-Err-notes_of-clause-defects
+returns-in-Err-notes_of-clause-defects g c =
+    rw c.unhinted-in-Err-notes_of.ensures (if_some_all (g.R.Source.left c.args.font.now) _ (λ file. tt))
+
+pub draw-requires-clause-notes : goal.draw-requires-clause-notes
+draw-requires-clause-notes g c =
+    rw (c.deref-3.ensures, c.in-Ok-notes_of.ensures, c.deref.ensures.value, c.deref-2.ensures.value) refl
+
 pub returns-in-Err-draw-clause-defects : goal.returns-in-Err-draw-clause-defects
 returns-in-Err-draw-clause-defects g c =
     let left = g.R.Source.left in
     let file = c.in-Ok in
     let P : List ℕ → Type 0 = λ bytes. TextTellsDefects {V = Unit {0}}
     (IsTextDefect label_glyphs c.args.asked.now.setting c.args.text.now bytes) (Err c.in-Err-draw.fault) in
-    let tells = subst P c.deref.ensures.value c.in-Err-draw.ensures.defects in
+    let tells = subst P c.deref-2.ensures.value c.in-Err-draw.ensures.defects in
     rw c.hinted.ensures
     (known_of (left c.args.font.now) (left c.read_font.new.font) file.file.items P file.ensures.0 file.ensures.1 tells)
 
@@ -160,7 +189,7 @@ pub returns-in-Ok-write_picture-clause-defects : goal.returns-in-Ok-write_pictur
 returns-in-Ok-write_picture-clause-defects g c =
     let left = g.R.Source.left in
     let file = c.in-Ok in
-    let tells = rw c.deref.ensures.value at c.in-Ok-draw.ensures.defects in
+    let tells = rw c.deref-2.ensures.value at c.in-Ok-draw.ensures.defects in
     rw c.done.ensures
     (known_of (left c.args.font.now) (left c.read_font.new.font) file.file.items _ file.ensures.0 file.ensures.1 tells)
 
@@ -168,6 +197,6 @@ pub returns-clause-defects : goal.returns-clause-defects
 returns-clause-defects g c =
     let left = g.R.Source.left in
     let file = c.in-Ok in
-    let tells = rw c.deref.ensures.value at c.in-Ok-draw.ensures.defects in
+    let tells = rw c.deref-2.ensures.value at c.in-Ok-draw.ensures.defects in
     rw c.unhinted-in-Err-write_picture.ensures
     (known_of (left c.args.font.now) (left c.read_font.new.font) file.file.items _ file.ensures.0 file.ensures.1 tells)

@@ -3,7 +3,7 @@ use Rattle.std.proofs.lemmas.Result.{err_from_is_err_and}
 use Rattle.tt_label.specs.Label.{label_glyphs}
 use Rattle.tt_strike.specs.Strikes.{Strike}
 use Rattle.tt_render.specs.declared.label_answers.ReadyLabel.{ReadyLabel}
-use Rattle.tt_render.specs.Labels.{label_view, line_labelled}
+use Rattle.tt_render.specs.Labels.{label_notes, label_view, line_labelled}
 use Rattle.tt_render_lines.specs.LineReading.{held, line_at, text_left}
 use Rattle.tt_render_lines.specs.Lines.{lines_limit}
 use Rattle.tt_render_lines.specs.LinesDefects.{IsDefectBy}
@@ -207,6 +207,7 @@ returns-in-Err-draw_line-clause-defects g c =
     c.loop-before.used why
     so_far.so_far (next_tells IsOne rest after line why found.0 is))
 
-pub draw_line-requires-clause-file : goal.draw_line-requires-clause-file
-draw_line-requires-clause-file g c =
-    c.requires.file ∙ sym (ap (λ (s : Strike). s.face.directory.file) c.loop-before.invariant.strike)
+pub draw_line-requires-clause-notes : goal.draw_line-requires-clause-notes
+draw_line-requires-clause-notes g c =
+    c.requires.notes
+    ∙ sym (ap (λ (s : Strike). label_notes c.args.asked.now s.face.directory.file) c.loop-before.invariant.strike)

@@ -1,6 +1,7 @@
-use Rattle.std.proofs.Common.{Some, inl, inr}
+use Rattle.std.proofs.Common.{Some, ap, inl, inr}
 use Rattle.std.proofs.lemmas.Result.{err_from_is_err_and}
 use Rattle.tt_label.specs.Label.{label_glyphs}
+use Rattle.tt_render.specs.Labels.{label_notes}
 use Rattle.tt_render_lines.specs.Settings.{strike_by, strike_of}
 use Rattle.tt_render_lines.proofs.DefectLines.{lines_tell, strike_tells}
 use Rattle.tt_render_lines.proofs.FontLines.{face_file, font_opened, font_refused, idle}
@@ -32,6 +33,15 @@ returns-in_err-strike-clause-outcome g c =
       rest,
     ))
 
+pub returns-in_err-notes-clause-outcome : goal.returns-in_err-notes-clause-outcome
+returns-in_err-notes-clause-outcome g c =
+    let p = err_from_is_err_and c.from_residual-in_err-notes.result c.from_residual-in_err-notes.ensures.1 in
+    let rest = idle (g.R.Source.left c.args.lines.now) (g.W.Sink.written c.args.out.now)
+    (g.E.Sink.written c.args.error.now) (g.R.Source.has_failed c.args.lines.now)
+    (g.W.Sink.has_failed c.args.out.now) (g.E.Sink.has_failed c.args.error.now) c.requires.lines c.requires.out
+    c.requires.error in
+    rw (p.1, p.2) (inl (tt, rest))
+
 pub returns-clause-outcome : goal.returns-clause-outcome
 returns-clause-outcome g c =
     let a = c.args.asked.now.setting in
@@ -40,10 +50,11 @@ returns-clause-outcome g c =
     let gives = rw c.in_ok-strike.ensures.exact at c.draw_labels_by.ensures.outcome in
     inr (strike_by a face, opened, gives)
 
-pub draw_labels_by-requires-clause-file : goal.draw_labels_by-requires-clause-file
-draw_labels_by-requires-clause-file g c =
-    rw c.in_ok-strike.ensures.exact
-    (face_file c.args.file.now c.args.asked.now.setting.opening c.in_ok-face.face c.in_ok-face.ensures.exact)
+pub draw_labels_by-requires-clause-notes : goal.draw_labels_by-requires-clause-notes
+draw_labels_by-requires-clause-notes g c =
+    let l = c.args.asked.now in
+    let file = face_file c.args.file.now l.setting.opening c.in_ok-face.face c.in_ok-face.ensures.exact in
+    rw (c.deref.ensures, c.in_ok-notes.ensures, c.in_ok-strike.ensures.exact) (ap (λ bytes. label_notes l bytes) file)
 
 pub returns-in_err-face-clause-defects : goal.returns-in_err-face-clause-defects
 returns-in_err-face-clause-defects g c =
@@ -55,6 +66,11 @@ returns-in_err-strike-clause-defects g c =
     let p = err_from_is_err_and c.from_residual-in_err-strike.result c.from_residual-in_err-strike.ensures.1 in
     rw (p.1, p.2) (strike_tells (Unit {0}) label_glyphs (Some c.args.file.now) c.args.asked.now.setting
     (g.R.Source.left c.args.lines.now) c.in_err-strike.field-0.0 c.in_err-strike.ensures.font)
+
+pub returns-in_err-notes-clause-defects : goal.returns-in_err-notes-clause-defects
+returns-in_err-notes-clause-defects g c =
+    let p = err_from_is_err_and c.from_residual-in_err-notes.result c.from_residual-in_err-notes.ensures.1 in
+    rw (p.1, p.2) tt
 
 pub returns-clause-defects : goal.returns-clause-defects
 returns-clause-defects g c =

@@ -1,9 +1,10 @@
-use Rattle.std.proofs.Common.{◌≡◌, drop}
-use Rattle.tt_render.specs.Labels.{lacking_after, lines_lacking}
-use Rattle.tt_render.proofs.LabelTexts.{texts}
+use Rattle.std.proofs.Common.{◌≡◌, [], map}
+use Rattle.tt_render.specs.Labels.{lacking_after}
 use Rattle.tt_render.proofs.label_texts.lines_lacking.Given as goal
 
--- the list so far, and then the remaining lines
+-- the characters of the lines so far
 abbrev pub invariant-loop-line : goal.invariant-loop-line
-invariant-loop-line l =
-    lacking_after l.cmap l.listed.items (texts (drop l.line-index l.lines)) ≡ lines_lacking l.cmap (texts l.lines)
+invariant-loop-line l = record {
+  listed : l.listed.items ≡ lacking_after l.fn.strike.face.cmap [] (map (λ x. x.now) l.yielded);
+  same : l.strike ≡ l.fn.strike;
+}

@@ -72,7 +72,7 @@ returns-in-Ok-clause-outcome g c =
     let ready = c.in_ok-ready in
     let made = rw c.deref.ensures.value at ready.ensures.outcome in
     let printed = rw (c.requires.error, c.deref-in-Ok.ensures, ready.ensures.report) at c.print_text.ensures in
-    let sent = rw c.as_bytes.ensures.value at c.in-Ok.ensures.all in
+    let sent = rw c.deref-2.ensures.value at c.in-Ok.ensures.all in
     text_written c.args.setting.now (λ t. layout_answer c.args.setting.now t c.args.text.now) c.args.text.now file.file.items made.0 (layout_view ready.ready)
     (traffic_of g.R.Source.left g.R.Source.has_failed g.W.Sink.written g.W.Sink.has_failed c.args.font.now
     c.read_font.new.font c.args.out.now c.write_all_of.new.out)
@@ -92,7 +92,7 @@ returns-clause-outcome g c =
     c.read_font.new.font c.args.out.now c.write_all_of.new.out)
     (errors_of g.E.Sink.written g.E.Sink.has_failed c.args.error.now c.args.error.now)
     (subst (λ (j : Job). tested j ≡ Ok tt) c.job.ensures.exact c.in_ok-test_job.ensures.exact) (file.ensures.0, file.ensures.1, file.ensures.3) made.1 made.2
-    (rw c.as_bytes.ensures.value at cut.within, rw c.as_bytes.ensures.value at cut.part) cut.failure
+    (rw c.deref-2.ensures.value at cut.within, rw c.deref-2.ensures.value at cut.part) cut.failure
     (keeps_itself (g.E.Sink.written c.args.error.now), c.requires.error)
 
 pub returns-in_err-test_job-clause-defects : goal.returns-in_err-test_job-clause-defects

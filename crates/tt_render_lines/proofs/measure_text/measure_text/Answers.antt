@@ -26,6 +26,6 @@ loop-unit-preserved c =
     let line : TextUnit × CharacterMeasure → List ℕ = λ p. character_text p.0.character p.1 in
     let before = (face_text c.args.reading c.args.file.now ++ font_text c.args.face.now.metrics)
     ++ picture_text (measure_view c.args.measure.now) in
-    rw (c.in_ok-push_str-3.ensures.bytes, c.deref-in-loop-unit.ensures, c.in_ok-character_text.ensures)
+    rw (c.in_ok-extend_from_slice-2.ensures.items, c.as_bytes-in-loop-unit.ensures.exact, c.make_character_line.ensures)
     (rw (c.loop-unit.invariant, map-append {B = TextUnit × CharacterMeasure} (λ p. (p.0, p.1.now)) c.loop-unit.yielded ((c.in-Some.unit, c.in-Some.character) ∷ []))
     (flat_map_more line before (map (λ p. (p.0, p.1.now)) c.loop-unit.yielded) (c.in-Some.unit, c.in-Some.character.now)))

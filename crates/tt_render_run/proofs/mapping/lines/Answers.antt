@@ -20,7 +20,7 @@ loop-unit-preserved c =
     let glyph : c.glyph_of_unit-glyph.result ≡ glyph_of_unit c.args.cmap.now c.in-Some.unit =
     rw c.loop-unit.invariant.same at c.glyph_of_unit-glyph.ensures.exact in
     record {
-      lines = rw c.in_ok-push_line.ensures
+      lines = rw (c.in_ok-extend_from_slice.ensures.items, c.as_bytes.ensures.exact, c.make_line.ensures)
           (rw (c.advance.ensures, glyph, c.loop-unit.invariant.lines)
           (flat_map_more line [] c.loop-unit.yielded c.in-Some.unit));
       same = c.glyph_of_unit-glyph.ensures.same ∙ c.loop-unit.invariant.same;

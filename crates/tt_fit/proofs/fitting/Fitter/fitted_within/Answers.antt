@@ -27,18 +27,18 @@ pub returns-in-Ok-clause-exact : goal.returns-in-Ok-clause-exact
 returns-in-Ok-clause-exact c =
     let s = c.args.self.now in
     let refused_so : s.fallback ≡ where_refused = grind (arith, c.self.view_is, c.in-WhereRefused.is) in
-    let hinting : s.hinting ≡ hinting_view c.self.inside.hinting = grind (arith, c.self.view_is) in
+    let hinting : s.hinting ≡ hinting_view c.as_ref-hinting.result.now = rw c.as_ref-hinting.ensures (grind (arith, c.self.view_is)) in
     let levels : s.levels ≡ c.self.inside.levels = grind (arith, c.self.view_is) in
-    made-by-programs s c.args.g (hinting_view c.self.inside.hinting) (outline_of c.in-Ok.outline) _ _
+    made-by-programs s c.args.g (hinting_view c.as_ref-hinting.result.now) (outline_of c.in-Ok.outline) _ _
     refused_so hinting c.requires.work (rw (← levels) at c.in-Ok.ensures.work) (rw (← levels) at c.in-Ok.ensures.exact)
 
 pub returns-in-Ok-clause-left : goal.returns-in-Ok-clause-left
 returns-in-Ok-clause-left c =
     let s = c.args.self.now in
     let refused_so : s.fallback ≡ where_refused = grind (arith, c.self.view_is, c.in-WhereRefused.is) in
-    let hinting : s.hinting ≡ hinting_view c.self.inside.hinting = grind (arith, c.self.view_is) in
+    let hinting : s.hinting ≡ hinting_view c.as_ref-hinting.result.now = rw c.as_ref-hinting.ensures (grind (arith, c.self.view_is)) in
     let levels : s.levels ≡ c.self.inside.levels = grind (arith, c.self.view_is) in
-    let pays = pays-too s c.args.g (hinting_view c.self.inside.hinting) _ _ hinting c.requires.work
+    let pays = pays-too s c.args.g (hinting_view c.as_ref-hinting.result.now) _ _ hinting c.requires.work
     (rw (← levels) at c.in-Ok.ensures.work) in
     sym (left-where-enough s c.args.g _ refused_so pays)
 

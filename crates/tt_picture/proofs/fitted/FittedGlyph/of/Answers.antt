@@ -1,12 +1,9 @@
-use Rattle.std.proofs.Common.{◌≡◌, ◌∙◌, ap, refl, sym}
+use Rattle.std.proofs.Common.{◌≡◌, ◌∙◌, ap, sym}
 use Rattle.tt_fit.specs.GlyphCost.{IsMade, IsMadeFor}
-use Rattle.tt_fit.proofs.Falling.{unbounded-stays}
-use Rattle.tt_fit_outline.specs.Views.{outline_of}
 use Rattle.tt_strike_kept.specs.Glyph.{KeptGlyph}
 use Rattle.tt_picture.specs.Cached.{IsCached}
 use Rattle.tt_picture.proofs.Cached.{one_found}
-use Rattle.tt_picture.proofs.CutGlyphs.{counts_made, counts_points, paid_is_fitted, same_cost}
-use Rattle.tt_picture.proofs.Turns.{same_dropouts}
+use Rattle.tt_picture.proofs.CutGlyphs.{paid_is_fitted, same_cost}
 use Rattle.tt_picture.proofs.fitted.FittedGlyph.of.Goals.{After-pay, in-Some+else-pay, in_default}
 use Rattle.tt_picture.proofs.fitted.FittedGlyph.of.Goals as goal
 
@@ -37,36 +34,28 @@ returns-then-pay-clause-after c =
     same_cost s n c.kept.inside.cost k.cost is.shape k.unfitted same is.made in
     sym (c.pay.ensures.made c.if-pay.true n is.shape k.unfitted cost).after
 
+-- nothing was paid
+
 pub returns-clause-fitted : goal.returns-clause-fitted
 returns-clause-fitted c =
-    let m = c.match-find.fitter in
-    let n = c.args.number in
-    -- nothing was paid
-    let same : m ≡ c.args.fitter.now = elim c.match-find.branch [
+    let same : c.match-find.fitter ≡ c.args.fitter.now = elim c.match-find.branch [
       | in-Some+else-pay w ↦ w.fitter-is ∙ w.if-pay.ensures.exact.0
       | in_default w ↦ w.fitter-is
     ] in
-    let made = c.in_ok-made.ensures in
-    let o = outline_of c.in_ok-made.made.outline in
-    rw (sym same) (record {
-      shape = o;
-      outline = made.exact;
-      body = record {
-        outline = refl;
-        rule = rw (c.rule_by.ensures, c.work-work.ensures) refl;
-        filled = rw (
-          c.rules_for-filled.ensures.exact,
-          c.dropouts.ensures,
-          made.after,
-          made.unfitted,
-          same_dropouts m n _ o,
-        ) refl;
-        unfitted = made.unfitted;
-        fits = c.rules_for-filled.ensures.fits;
-        points = counts_points m n c.counts_of-counts.result c.in_ok-points.points c.in_ok-points.ensures.exact
-            c.counts_of-counts.ensures.points;
-        made = counts_made unbounded-stays m n o c.in_ok-made.made.outline.unfitted c.counts_of-counts.result
-            c.cost_of.result c.in_ok-made.made.cost made.exact made.unfitted made.cost
-            (rw c.work-work.ensures at c.cost_of.ensures) c.counts_of-counts.ensures.cost;
-      };
-    })
+    rw (sym same) c.made.ensures.fitted
+
+pub returns-clause-after : goal.returns-clause-after
+returns-clause-after c =
+    let same : c.match-find.fitter ≡ c.args.fitter.now = elim c.match-find.branch [
+      | in-Some+else-pay w ↦ w.fitter-is ∙ w.if-pay.ensures.exact.0
+      | in_default w ↦ w.fitter-is
+    ] in
+    rw (sym same) c.made.ensures.after
+
+pub returns-clause-fault : goal.returns-clause-fault
+returns-clause-fault c =
+    let same : c.match-find.fitter ≡ c.args.fitter.now = elim c.match-find.branch [
+      | in-Some+else-pay w ↦ w.fitter-is ∙ w.if-pay.ensures.exact.0
+      | in_default w ↦ w.fitter-is
+    ] in
+    rw (sym same) c.made.ensures.fault

@@ -1,5 +1,4 @@
-use Rattle.std.proofs.Common.{◌≡◌, SFits, w32, of_z, to_z, refl, rules}
-use Rattle.std.proofs.lemmas.Int.{to_z-of_z}
+use Rattle.std.proofs.Common.{refl}
 use Rattle.tt_picture.specs.Fitted as fitted
 use Rattle.tt_picture.specs.Fitted.{IsFitted}
 use Rattle.tt_strike_kept.specs.Glyph.{KeptGlyph}
@@ -9,17 +8,16 @@ use Rattle.tt_picture.proofs.glyph.Glyph.cached.Goals as goal
 pub returns-clause-valid : goal.returns-clause-valid
 returns-clause-valid c = λ s is.
     let i = c.kept.inside in
+    let cut = i.cut.value in
     let k : KeptGlyph = record {
-      bitmap = i.bitmap.value;
-      ink = i.ink;
-      advance_left = i.advance_left;
-      chords = i.chords;
-      crossings = i.crossings;
+      bitmap = cut.bitmap;
+      ink = cut.ink;
+      advance_left = cut.facts.advance_left;
+      chords = cut.facts.chords;
+      crossings = cut.facts.crossings;
       points = i.points;
       cost = i.cost;
-      unfitted = i.unfitted;
+      unfitted = cut.facts.unfitted;
     } in
     let own : IsFitted s (record { number = c.args.number; body = fitted.kept k }) = rw c.kept.view_is is in
-    let fits : SFits w32 i.advance_left = search rules in
-    let same : to_z w32 (of_z w32 i.advance_left) ≡ i.advance_left = simp to_z-of_z refl in
-    cached_drawn s c.args.number k _ own (rw same refl)
+    cached_drawn s c.args.number k _ own refl

@@ -44,20 +44,20 @@ returns-clause-exact c =
     let gs = c.in_ok-made.made.glyphs.made.items in
     let is = c.in_ok-made.ensures.made in
     let made = is.made in
-    let p = c.in_ok-new.field-0 in
+    let p = c.in_ok-picture.picture in
     let all = goal.at.returns-clause-exact c in
     let maker = line_fitter made.setting (map (λ g. g.0) l.glyphs) in
     let shown = one_line_image maker c.placed.result c.frame-frame.result made.shapes (placed_frame all.After-placed)
     (rw c.placed.ensures.glyphs made.fitted) in
     let image : image_of p ≡ picture (frame_of l a.margin) made.shapes =
-    rw (frame_is all.After-frame-frame) at (c.in_ok-new.ensures.exact maker made.drawn ∙ shown) in
+    rw (frame_is all.After-frame-frame) at (c.in_ok-picture.ensures.exact maker made.drawn ∙ shown) in
     line_as_laid face a ∙ rw is.laid (drawn_as_made face a l gs made
     ∙ ap Ok {x = picture (frame_of l a.margin) made.shapes} {y = image_of p} (sym image))
 
 pub returns-clause-frame : goal.returns-clause-frame
 returns-clause-frame c =
     rw c.in_ok-made.ensures.made.laid
-    (c.in_ok-new.ensures.frame ∙ frame_is (goal.at.returns-clause-frame c).After-frame-frame)
+    (c.in_ok-picture.ensures.frame ∙ frame_is (goal.at.returns-clause-frame c).After-frame-frame)
 
 pub returns-clause-reported : goal.returns-clause-reported
 returns-clause-reported c =
@@ -67,11 +67,11 @@ returns-clause-reported c =
     let gs = c.in_ok-made.made.glyphs.made.items in
     let is = c.in_ok-made.ensures.made in
     let made = is.made in
-    let p = c.in_ok-new.field-0 in
-    let told = reported_as_made face a l gs p.unfitted made c.in_ok-new.ensures.unfitted in
+    let p = c.in_ok-picture.picture in
+    let told = reported_as_made face a l gs p.unfitted made c.in_ok-picture.ensures.unfitted in
     rw is.laid (record {
-      ready = c.in_ok-new.ensures.valid;
+      ready = c.in_ok-picture.ensures.valid;
       report = told.0;
       once = told.1;
-      cost = rw c.in_ok-new.ensures.cost is.cost;
+      cost = rw c.in_ok-picture.ensures.cost is.cost;
     })

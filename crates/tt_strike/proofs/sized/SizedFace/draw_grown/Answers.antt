@@ -74,13 +74,13 @@ returns-clause-exact c =
     let gs = c.in_ok-enlarged.enlarged.inked.glyphs.made.items in
     let e = its.2 in
     let f = frame_of larger a.margin in
-    let p = c.in_ok-new.field-0 in
+    let p = c.in_ok-picture.picture in
     let made = larger_made face a l larger e.left gs e.made e.moved in
     let maker = line_fitter made.setting (map (λ g. g.0) larger.glyphs) in
     let shown = one_line_image maker c.placed.result c.frame-frame.result made.shapes (placed_frame all.After-placed)
     (rw c.placed.ensures.glyphs made.fitted) in
     let image : image_of p ≡ picture f made.shapes =
-    rw (frame_is all.After-frame-frame) at (c.in_ok-new.ensures.exact maker made.drawn ∙ shown) in
+    rw (frame_is all.After-frame-frame) at (c.in_ok-picture.ensures.exact maker made.drawn ∙ shown) in
     rw (placed_as_laid face a l its.1, e.exact)
     (drawn_as_made face a larger gs made ∙ ap Ok {x = picture f made.shapes} {y = image_of p} (sym image))
 
@@ -90,7 +90,7 @@ returns-clause-frame c =
     let a = job_by c.args.self.now c.args.text.now c.args.margin in
     let all = goal.at.returns-clause-frame c in
     let its = plain all.In_ok-enlarged in
-    rw (placed_as_laid face a its.0 its.1, its.2.exact) (c.in_ok-new.ensures.frame ∙ frame_is all.After-frame-frame)
+    rw (placed_as_laid face a its.0 its.1, its.2.exact) (c.in_ok-picture.ensures.frame ∙ frame_is all.After-frame-frame)
 
 -- the report and the cost are those of the line
 pub returns-clause-reported : goal.returns-clause-reported
@@ -100,11 +100,11 @@ returns-clause-reported c =
     let its = plain (goal.at.returns-clause-reported c).In_ok-enlarged in
     let l = its.0 in
     let gs = c.in_ok-enlarged.enlarged.inked.glyphs.made.items in
-    let p = c.in_ok-new.field-0 in
-    let told = reported_as_made face a l gs p.unfitted its.2.made c.in_ok-new.ensures.unfitted in
-    let cost : cost_by face a ≡ Ok p.cost = rw c.in_ok-new.ensures.cost c.in_ok-enlarged.ensures.cost in
+    let p = c.in_ok-picture.picture in
+    let told = reported_as_made face a l gs p.unfitted its.2.made c.in_ok-picture.ensures.unfitted in
+    let cost : cost_by face a ≡ Ok p.cost = rw c.in_ok-picture.ensures.cost c.in_ok-enlarged.ensures.cost in
     rw its.1 (record {
-      ready = c.in_ok-new.ensures.valid;
+      ready = c.in_ok-picture.ensures.valid;
       report = told.0;
       once = told.1;
       cost = cost_of_line face a l p.cost its.1 cost;

@@ -36,7 +36,7 @@ returns-clause-exact c =
     let is = c.in_ok-made.ensures.made in
     let made = is.made in
     let inks = (rw c.deref.ensures.value at c.in_ok-inks.ensures.exact) ∙ inks_as_made face a l gs made in
-    let by = rw (c.make_line.ensures.same, c.in_ok-made.ensures.margin) at c.in_ok-measure_by.ensures.exact in
+    let by = rw (c.make_line.ensures.same, c.in_ok-made.ensures.margin) at c.in_ok-measure.ensures.exact in
     let is_measure = by (line_step face a made.setting l) (line_ink made.setting l) (steps_as_made face a l gs made) inks in
     rw (is.laid, measured_as_made face a l gs made, is_measure) refl
 
@@ -48,14 +48,14 @@ returns-clause-report c =
     let l = placement_of c.in_ok-made.made.laid.line in
     let is = c.in_ok-made.ensures.made in
     rw (placed_of face a l is.laid) (reported_as_made face a l c.in_ok-made.made.glyphs.made.items
-    c.in_ok-measure_by.field-0.report.unfitted.items is.made c.in_ok-measure_by.ensures.unfitted).0
+    c.in_ok-measure.measure.report.unfitted.items is.made c.in_ok-measure.ensures.unfitted).0
 
 pub returns-clause-once : goal.returns-clause-once
 returns-clause-once c =
     let face = c.args.self.now.face in
     let a = job_by c.args.self.now c.args.text.now c.args.margin in
     (reported_as_made face a (placement_of c.in_ok-made.made.laid.line) c.in_ok-made.made.glyphs.made.items
-    c.in_ok-measure_by.field-0.report.unfitted.items c.in_ok-made.ensures.made.made c.in_ok-measure_by.ensures.unfitted).1
+    c.in_ok-measure.measure.report.unfitted.items c.in_ok-made.ensures.made.made c.in_ok-measure.ensures.unfitted).1
 
 pub returns-clause-cost : goal.returns-clause-cost
 unfolding cost_by
@@ -64,4 +64,4 @@ returns-clause-cost c =
     let a = job_by c.args.self.now c.args.text.now c.args.margin in
     let l = placement_of c.in_ok-made.made.laid.line in
     let is = c.in_ok-made.ensures.made in
-    rw (placed_of face a l is.laid, c.in_ok-measure_by.ensures.cost) is.cost
+    rw (placed_of face a l is.laid, c.in_ok-measure.ensures.cost) is.cost

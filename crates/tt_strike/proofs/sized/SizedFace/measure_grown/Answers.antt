@@ -54,7 +54,7 @@ returns-clause-exact c =
     let e = its.2 in
     let made = larger_made face a l larger e.left gs e.made e.moved in
     let inks = inked.inked ∙ inks_as_made face a larger gs made in
-    let by = rw (c.enlarge.ensures.same, c.in_ok-enlarged.ensures.margin) at c.in_ok-measure_by.ensures.exact in
+    let by = rw (c.enlarge.ensures.same, c.in_ok-enlarged.ensures.margin) at c.in_ok-measure.ensures.exact in
     let measured = by (line_step face a made.setting larger) (line_ink made.setting larger) (steps_as_made face a larger gs made) inks in
     rw (placed_as_laid face a l its.1, e.exact, measured_as_made face a larger gs made, measured) refl
 
@@ -66,7 +66,7 @@ returns-clause-report c =
     let its = ok_and (laid_out face a) (λ l. IsEnlarged face a l (placement_of c.in_ok-enlarged.enlarged.laid.line)
     c.in_ok-enlarged.enlarged.inked.glyphs.made.items) c.in_ok-enlarged.ensures.enlarged in
     rw (placed_of face a its.0 its.1) (reported_as_made face a its.0 c.in_ok-enlarged.enlarged.inked.glyphs.made.items
-    c.in_ok-measure_by.field-0.report.unfitted.items its.2.made c.in_ok-measure_by.ensures.unfitted).0
+    c.in_ok-measure.measure.report.unfitted.items its.2.made c.in_ok-measure.ensures.unfitted).0
 
 pub returns-clause-once : goal.returns-clause-once
 returns-clause-once c =
@@ -75,7 +75,7 @@ returns-clause-once c =
     let its = ok_and (laid_out face a) (λ l. IsEnlarged face a l (placement_of c.in_ok-enlarged.enlarged.laid.line)
     c.in_ok-enlarged.enlarged.inked.glyphs.made.items) c.in_ok-enlarged.ensures.enlarged in
     (reported_as_made face a its.0 c.in_ok-enlarged.enlarged.inked.glyphs.made.items
-    c.in_ok-measure_by.field-0.report.unfitted.items its.2.made c.in_ok-measure_by.ensures.unfitted).1
+    c.in_ok-measure.measure.report.unfitted.items its.2.made c.in_ok-measure.ensures.unfitted).1
 
 pub returns-clause-cost : goal.returns-clause-cost
-returns-clause-cost c = rw c.in_ok-measure_by.ensures.cost c.in_ok-enlarged.ensures.cost
+returns-clause-cost c = rw c.in_ok-measure.ensures.cost c.in_ok-enlarged.ensures.cost
