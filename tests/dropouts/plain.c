@@ -3,7 +3,7 @@
  *
  *   plain SEED CASES ANSWERS COUNTS
  *
- * The first two files are written, a line a case, in the form that crates/tt_test_glyphs/src/dropouts.rt states; the
+ * The first two files are written, a line a case, in the form that crates/tt_test_pixels/src/dropouts.rt states; the
  * third one says how many cases had what is worth asking, a line for each. All lengths are in 1/8192 pixel. Which
  * points an outline blackens stands in ../plain.h. All that follows is said of rows; for columns it is said of the
  * outline with x and y exchanged.

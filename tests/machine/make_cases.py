@@ -19,22 +19,22 @@ import sys
 HEAD = """\
 # Runs of the bytecode machine; the answers are values by another program, an independent model of the instruction set
 # that was written from the rules alone. Made by make_cases.py. A run is a line NAME|QUESTION|ANSWER, where NAME has
-# the opcode under test. The words of question and answer stand at the head of crates/tt_test_glyphs/src/machine.rt. A
+# the opcode under test. The words of question and answer stand at the head of crates/tt_test_machine/src/machine.rt. A
 # line `font BASE CODE` is the font program whose functions the runs after it have.
 """
 HEAD_OF_WHOLE = """\
 # Runs of the bytecode machine with the whole instruction set; the answers are values by another program, an independent
 # model of it that was written from the rules alone. Made by make_cases.py. A run is a line NAME|QUESTION|ANSWER, where
 # NAME has the opcode under test, or says what reaches a limit. The words of question and answer stand at the head of
-# crates/tt_test_glyphs/src/machine.rt. A line `font BASE CODE` is the font program whose functions and instructions the
-# runs after it have.
+# crates/tt_test_machine/src/machine.rt. A line `font BASE CODE` is the font program whose functions and instructions
+# the runs after it have.
 """
 HEAD_OF_TOLERANT = """\
 # Runs of the bytecode machine that a tolerant one goes on with; the answers are values by another program, an
 # independent model of it that was written from the rules alone. Made by make_cases.py. A run is a line
 # NAME|QUESTION|ANSWER|REFUSAL, where NAME has the opcode under test, and REFUSAL is the answer to the same question
 # with `whole` in the place of `tolerant`. The words of question and answer stand at the head of
-# crates/tt_test_glyphs/src/machine.rt. A line `font BASE CODE` is the font program whose functions and instructions
+# crates/tt_test_machine/src/machine.rt. A line `font BASE CODE` is the font program whose functions and instructions
 # the runs after it have.
 """
 

@@ -3,7 +3,7 @@
  *
  *   plain SEED CASES ANSWERS
  *
- * Both files are written, a line a case, in the form that crates/tt_test_glyphs/src/pixels.rt tells. All lengths are
+ * Both files are written, a line a case, in the form that crates/tt_test_pixels/src/pixels.rt tells. All lengths are
  * in 1/8192 pixel; a centre is that of a pixel, in column c and row r, rows counted from the top. The definitions stand
  * in ../plain.h.
  */

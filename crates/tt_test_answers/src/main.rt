@@ -12,7 +12,7 @@
 //!
 //! FIT is `full`, `none`, `fallback` or `best`. The last five read questions from standard input: about edges and
 //! pixels, about dropouts, about runs of the bytecode machine, and about damaged fonts and devices that fail. After
-//! `any` each line begins with one of the four words above it. The module of each word, here and in tt_test_glyphs, states the form of its lines.
+//! `any` each line begins with one of the four words above it. The module of each word states the form of its lines.
 //! Where memory is refused for a glyph, a note on standard error names the glyph, and the glyph is requested once more.
 #![tactic(auto)]
 
@@ -22,8 +22,10 @@ use crate::fonts::Asked;
 use anyhow::{Result, bail};
 use std::io::{BufRead, BufReader};
 use std::{env, fs};
-use tt_test_glyphs::machine::Program;
-use tt_test_glyphs::{dropouts, glyphs, machine, outlines, pixels};
+use tt_test_glyphs::{glyphs, outlines};
+use tt_test_machine::machine;
+use tt_test_machine::machine::Program;
+use tt_test_pixels::{dropouts, pixels};
 use tt_test_words::Line;
 
 fn main(rt: HostRuntime) -> Result<()> {

@@ -1,3 +1,1 @@
-mod Ends
 pub mod Near
-mod Ranges

@@ -8,13 +8,14 @@
 ghost use Rattle.std.specs.Prelude.{◌≡◌, ◌<◌, IfSome};
 ghost use Rattle.tt_scan_edges.specs.Winding.{FrameFits};
 
-use crate::pictures::{frame_in, put_picture};
-use crate::tables::{note_glyph, programs_of, put_fault, tables_of};
+use crate::tables::{note_glyph, programs_of, tables_of};
 use std::alloc::Global;
 use tt_arc::{ChordRule, chords};
 use tt_core::{COORDINATE_LIMIT, FontFault, SIZE_LIMIT};
 use tt_fit::{Fit, Fitter, Outline};
 use tt_scan::{Frame, Tape};
+use tt_test_machine::faults::put_fault;
+use tt_test_pixels::pictures::{frame_in, put_picture};
 use tt_test_words::Line;
 
 /// Puts the outlines that the words request. The first two words are the size and the way to fit.

@@ -4,7 +4,7 @@ ghost use Rattle.std.specs.Prelude.{◌≡◌, ◌≤◌, length, IfSome};
 ghost use Rattle.tt_core.specs.Limits.{font_limit};
 ghost use Rattle.tt_metrics.specs.Metrics.{loca_format_of, glyphs_of};
 
-use tt_core::{Dir, FONT_LIMIT, Fault};
+use tt_core::{Dir, FONT_LIMIT};
 use tt_fit::Programs;
 use tt_glyf::Glyf;
 use tt_metrics::Metrics;
@@ -41,17 +41,6 @@ pub(crate) fn programs_of(font: &[u8]) -> Option<Programs<'_>>
         fpgm: dir.table(*b"fpgm").ok()?.unwrap_or(&[]),
         prep: dir.table(*b"prep").ok()?.unwrap_or(&[]),
     })
-}
-
-/// Puts a fault in the form of the program's messages.
-pub(crate) fn put_fault(line: &mut Line, fault: Fault) {
-    line.put(fault.tag());
-    line.put("+");
-    line.put_number(i64::from(fault.offset));
-    line.put(":");
-    line.put_field(i64::from(fault.why.number()));
-    line.put(" ");
-    line.put(fault.why.name());
 }
 
 /// Notes that memory was refused for a glyph.

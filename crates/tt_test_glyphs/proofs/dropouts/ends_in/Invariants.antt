@@ -1,5 +1,0 @@
-use Rattle.tt_test_glyphs.proofs.Ends.{Begin}
-use Rattle.tt_test_glyphs.proofs.dropouts.ends_in.Given as goal
-
-abbrev pub invariant-contours : goal.invariant-contours
-invariant-contours l = Begin l.ends.items l.from l.fn.edges

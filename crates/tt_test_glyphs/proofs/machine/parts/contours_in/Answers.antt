@@ -1,5 +1,0 @@
-use Rattle.tt_test_glyphs.proofs.Ranges.{whole}
-use Rattle.tt_test_glyphs.proofs.machine.parts.contours_in.Goals as goal
-
-pub returns : goal.returns
-returns c = whole _ _ _ c.contours.invariant
