@@ -137,9 +137,18 @@ def read_verdicts(root):
     return said.pop("toolchain", ""), said
 
 
+def judged_elsewhere(root):
+    """Returns the toolchain that the verdicts were made with, where the one here is another; else None."""
+    was = read_verdicts(root)[0]
+    return was if was and was != toolchain_of(root) else None
+
+
 def stale_crates(root):
-    """Returns the crates whose recorded sum is not that of what is here, and recorded ones that have no edits now."""
-    toolchain, (_, said) = toolchain_of(root), read_verdicts(root)
+    """Returns the crates whose recorded sum is not that of what is here, and recorded ones that have no edits now.
+
+    A verdict stays that of its toolchain, so another toolchain makes none stale.
+    """
+    toolchain, said = read_verdicts(root)
     names = crates_with_edits(root)
     changed = [it for it in names if said.get(it, "").split(" ")[0] != sum_of(root, it, toolchain)]
     return [*changed, *sorted(set(said) - set(names))]
