@@ -15,7 +15,7 @@ use Rattle.tt_face.specs.Faces.{Face}
 use Rattle.tt_glyphs.specs.Defects.{IsListDefect}
 use Rattle.tt_glyphs.specs.Listed.{known_of}
 use Rattle.tt_metrics.specs.Metrics.{glyphs_of}
-use Rattle.tt_render_lines.specs.Settings.{job_by}
+use Rattle.tt_render_settings.specs.Settings.{job_by}
 use Rattle.tt_strike.specs.Defects.{IsLineDefect}
 use Rattle.tt_bitmap_font.specs.Characters.{asked_ranges, file_glyphs, glyphs_for}
 use Rattle.tt_bitmap_font.specs.declared.font_file.FontFile.{FontFile}

@@ -12,8 +12,8 @@ use Rattle.tt_glyphs.specs.Defects.{IsListDefect}
 use Rattle.tt_glyphs.specs.Listed.{known_of}
 use Rattle.tt_glyphs.specs.Requests.{Bitmaps, sound_outcome}
 use Rattle.tt_metrics.specs.Metrics.{glyphs_of}
-use Rattle.tt_render_lines.specs.TextsOutcome.{told}
-use Rattle.tt_render_lines.specs.Views.{refusal_of_draw}
+use Rattle.tt_render_settings.specs.TextsOutcome.{told}
+use Rattle.tt_render_texts.specs.Views.{refusal_of_draw}
 use Rattle.tt_strike.specs.Refusals.{job, refusal}
 use Rattle.tt_bitmap_font.specs.Bitmaps.{size_of_rows_tested}
 use Rattle.tt_bitmap_font.specs.Characters.{asked_ranges, file_glyphs, glyphs_for}

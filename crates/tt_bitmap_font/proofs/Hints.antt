@@ -3,13 +3,13 @@ use Rattle.std.proofs.Common.{◌≡◌, refl, ℕ, Bool, List, Option, Some, No
 use Rattle.std.specs.Prelude.{IfSome}
 use Rattle.tt_advice.specs.declared.hint.Hint.{Hint}
 use Rattle.tt_core.specs.declared.fault.JobFault.{JobFault}
-use Rattle.tt_render_lines.specs.declared.label.Labelled.{Labelled}
-use Rattle.tt_render_lines.specs.declared.refusal.Refusal.TheVariants as reason
-use Rattle.tt_render_lines.specs.declared.refusal.TextsFault.{TextsFault}
-use Rattle.tt_render_lines.specs.Views.{before_lines, refusal_of_run}
-use Rattle.tt_render_run.specs.declared.fault.RunFault.{RunFault}
-use Rattle.tt_render_run.specs.declared.fault.RunFault.TheVariants as run
-use Rattle.tt_render_run.specs.Reading.{ReadFails}
+use Rattle.tt_render_settings.specs.declared.label.Labelled.{Labelled}
+use Rattle.tt_render_texts.specs.declared.refusal.Refusal.TheVariants as reason
+use Rattle.tt_render_texts.specs.declared.refusal.TextsFault.{TextsFault}
+use Rattle.tt_render_texts.specs.Views.{before_lines, refusal_of_run}
+use Rattle.tt_render_streams.specs.declared.fault.RunFault.{RunFault}
+use Rattle.tt_render_streams.specs.declared.fault.RunFault.TheVariants as run
+use Rattle.tt_render_streams.specs.Reading.{ReadFails}
 use Rattle.tt_bitmap_font.specs.declared.font_file.FontFile.{FontFile}
 use Rattle.tt_bitmap_font.specs.FontFiles.{HintsBy, asked_tested, hint_for}
 

@@ -1,8 +1,5 @@
-pub mod Composing
-pub mod FileEntries
 pub mod FileGlyphs
 pub mod Files
 pub mod Fitting
 pub mod Hints
-pub mod LineSteps
 pub mod Listing

@@ -20,19 +20,20 @@ use Rattle.tt_face.specs.Rules.{plain_opening}
 use Rattle.tt_fit.specs.declared.programs.Fit.{Fit}
 use Rattle.tt_fit.specs.declared.programs.Fit.TheVariants as fit
 use Rattle.tt_glyphs.specs.Requests.{Bitmaps, GlyphJob, job_for, sound_outcome}
-use Rattle.tt_render_lines.specs.declared.label.Labelled.{Labelled}
-use Rattle.tt_render_lines.specs.declared.refusal.Refusal.{Refusal}
-use Rattle.tt_render_lines.specs.declared.refusal.Refusal.TheVariants as reason
-use Rattle.tt_render_lines.specs.declared.refusal.TextsFault.{TextsFault}
-use Rattle.tt_render_lines.specs.declared.setting.Setting.{Setting}
-use Rattle.tt_render_lines.specs.declared.label_reports.Signs.{Signs}
-use Rattle.tt_render_lines.specs.LinesDefects.{IsTextDefect}
-use Rattle.tt_render_lines.specs.Printing.{Errors}
-use Rattle.tt_render_lines.specs.Reports.{label_report_of}
-use Rattle.tt_render_lines.specs.Settings.{job_by, plain_setting}
-use Rattle.tt_render_lines.specs.Texts.{LabelTold, TextAnswer, TextRefusal, as_text}
-use Rattle.tt_render_lines.specs.TextsOutcome.{FontAnswers, IsNotReady}
-use Rattle.tt_render_run.specs.Outcome.{Traffic}
+use Rattle.tt_render_settings.specs.declared.label.Labelled.{Labelled}
+use Rattle.tt_render_texts.specs.declared.refusal.Refusal.{Refusal}
+use Rattle.tt_render_texts.specs.declared.refusal.Refusal.TheVariants as reason
+use Rattle.tt_render_texts.specs.declared.refusal.TextsFault.{TextsFault}
+use Rattle.tt_render_settings.specs.declared.setting.Setting.{Setting}
+use Rattle.tt_render_texts.specs.declared.label_reports.Signs.{Signs}
+use Rattle.tt_render_settings.specs.LinesDefects.{IsTextDefect}
+use Rattle.tt_render_texts.specs.Printing.{Errors}
+use Rattle.tt_render_texts.specs.Reports.{label_report_of}
+use Rattle.tt_render_settings.specs.Settings.{job_by, plain_setting}
+use Rattle.tt_render_texts.specs.Answers.{LabelTold, TextAnswer}
+use Rattle.tt_render_settings.specs.Texts.{TextRefusal, as_text}
+use Rattle.tt_render_settings.specs.TextsOutcome.{FontAnswers, IsNotReady}
+use Rattle.tt_render_streams.specs.Traffic.{Traffic}
 use Rattle.tt_strike.specs.Defects.{IsLineDefect}
 use Rattle.tt_strike.specs.Job.{size_tested, tested}
 use Rattle.tt_strike.specs.Refusals.{Refused, as_job}

@@ -8,12 +8,12 @@ use Rattle.tt_advice.specs.Hints.{fixed_words, hint_line, line_about}
 use Rattle.tt_core.specs.declared.fault.JobFault.{JobFault}
 use Rattle.tt_core.specs.declared.fault.JobFault.TheVariants as job
 use Rattle.tt_line.specs.declared.align.Align.TheVariants as align
-use Rattle.tt_render_lines.specs.declared.label.Label.{Label}
-use Rattle.tt_render_lines.specs.declared.refusal.Refusal.{Refusal}
-use Rattle.tt_render_lines.specs.declared.refusal.Refusal.TheVariants as reason
-use Rattle.tt_render_lines.specs.declared.refusal.TextsFault.{TextsFault}
-use Rattle.tt_render_lines.specs.Help.{label_help}
-use Rattle.tt_render_lines.specs.Views.{before_lines}
+use Rattle.tt_render_settings.specs.declared.label.Label.{Label}
+use Rattle.tt_render_texts.specs.declared.refusal.Refusal.{Refusal}
+use Rattle.tt_render_texts.specs.declared.refusal.Refusal.TheVariants as reason
+use Rattle.tt_render_texts.specs.declared.refusal.TextsFault.{TextsFault}
+use Rattle.tt_render_settings.specs.Help.{label_help}
+use Rattle.tt_render_texts.specs.Views.{before_lines}
 use Rattle.tt_bitmap_font.specs.declared.font_file.FontFile.{FontFile}
 use Rattle.tt_bitmap_font.specs.FontFiles.{setting_of}
 

@@ -3,4 +3,3 @@ pub mod Characters
 pub mod Facts
 pub mod FontFiles
 pub mod Help
-pub mod Laws

@@ -5,7 +5,7 @@ ghost use Rattle.tt_bdf.specs.Ranges.{IsCodeRange};
 ghost use Rattle.tt_bitmap_font.specs.FontFiles.{IsGlyphsDefect, TellsFile, bdf_outcome, file_view};
 ghost use Rattle.tt_core.specs.Limits.{font_limit, size_limit};
 ghost use Rattle.tt_core.specs.Outcomes.{GivesUnless};
-ghost use Rattle.tt_render_lines.specs.TextsOutcome.{IsOfText, refusal_font_fault, told, without_line};
+ghost use Rattle.tt_render_settings.specs.TextsOutcome.{IsOfText, refusal_font_fault, told, without_line};
 ghost use Rattle.tt_strike.specs.Defects.{TellsDefects};
 
 use crate::bitmaps::file_bitmaps;
@@ -17,7 +17,7 @@ use std::alloc::Global;
 use tt_advice::font_notes;
 use tt_face::Face;
 use tt_fit::Fit;
-use tt_render_lines::TextsFault;
+use tt_render_texts::TextsFault;
 use tt_strike::Unfitted;
 
 /// A file, ready to be written: its text, its unfitted glyphs, the characters of the text that the font lacks, the

@@ -9,7 +9,7 @@ use tt_bdf::CodeRange;
 use tt_core::{JobFault, Reading};
 use tt_face::{Heights, LineRules, Opening};
 use tt_fit::Fit;
-use tt_render_lines::Setting;
+use tt_render_settings::Setting;
 use tt_strike::test_job;
 
 /// A font at a size, and the characters of its file.

@@ -7,7 +7,8 @@ use crate::font_file::FontFile;
 use std::alloc::{AllocError, Global};
 use tt_advice::{Hint, hint_line};
 use tt_core::JobFault;
-use tt_render_lines::{Align, Label, Refusal, TextsFault, label_help};
+use tt_render_settings::{Align, Label, label_help};
+use tt_render_texts::{Refusal, TextsFault};
 
 const LARGE: &str =
     "tt_render: a glyph has at most 16384 columns and 4096 rows, all together 67108864 bytes\n";

@@ -11,7 +11,6 @@
 //! answers.rt      the file by a face, and its report
 //! writing.rt      reads a font and writes its file
 //! help.rt         the second line about a refused file
-//! laws.rt         lemmas about the definitions, for all fonts
 //! ```
 #![tactic(auto)]
 
@@ -22,7 +21,6 @@ mod facts;
 mod font_file;
 mod help;
 mod lacking;
-pub mod laws;
 mod made;
 mod report;
 mod writing;
@@ -30,5 +28,5 @@ mod writing;
 pub use font_file::FontFile;
 pub use help::bdf_help;
 pub use tt_bdf::CodeRange;
-pub use tt_render_lines::Labelled;
+pub use tt_render_settings::Labelled;
 pub use writing::write_bdf;

@@ -4,11 +4,11 @@ ghost use Rattle.std.specs.Prelude.{◌≡◌, ◌≤◌, All, false, length, Ok
 ghost use Rattle.tt_bdf.specs.Ranges.{IsCodeRange};
 ghost use Rattle.tt_bitmap_font.specs.FontFiles.{FileReadies, FontFileGives, HintsBy, IsFileDefect, TellsFile, bdf_outcome, characters_hint, hint_for, setting_of};
 ghost use Rattle.tt_core.specs.Limits.{font_limit, size_limit};
-ghost use Rattle.tt_render_lines.specs.Printing.{errors_of};
-ghost use Rattle.tt_render_lines.specs.Settings.{strike_of};
-ghost use Rattle.tt_render_lines.specs.TextsOutcome.{TextTellsDefects, TextTellsDefectsOf};
-ghost use Rattle.tt_render_lines.specs.Views.{before_lines, refusal_of_run};
-ghost use Rattle.tt_render_run.specs.Outcome.{traffic_of};
+ghost use Rattle.tt_render_texts.specs.Printing.{errors_of};
+ghost use Rattle.tt_render_settings.specs.Settings.{strike_of};
+ghost use Rattle.tt_render_settings.specs.TextsOutcome.{TextTellsDefects, TextTellsDefectsOf};
+ghost use Rattle.tt_render_texts.specs.Views.{before_lines, refusal_of_run};
+ghost use Rattle.tt_render_streams.specs.Traffic.{traffic_of};
 
 use crate::answers::{ReadyFile, answer_file};
 use crate::font_file::FontFile;
@@ -17,8 +17,9 @@ use tt_advice::{FixedHint, Hint, advice};
 use tt_core::{JobFault, Sink, Source};
 use tt_face::Face;
 use tt_pbm::write_all_of;
-use tt_render_lines::{Labelled, Refusal, TextsFault, print_text};
-use tt_render_run::{RunFault, read_font};
+use tt_render_settings::Labelled;
+use tt_render_streams::{RunFault, read_font};
+use tt_render_texts::{Refusal, TextsFault, print_text};
 
 /// Which of the characters that are asked for a font has, where these refuse the file.
 fn characters_hint(job: JobFault) -> Option<Hint>

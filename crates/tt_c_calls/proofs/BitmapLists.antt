@@ -20,8 +20,8 @@ use Rattle.tt_glyphs.specs.declared.told.Told.TheVariants as told
 use Rattle.tt_glyphs.specs.Defects.{TellGlyphDefects, TellsDefectsOf}
 use Rattle.tt_glyphs.specs.Entries.{known}
 use Rattle.tt_glyphs.specs.Requests.{GlyphJob, bitmaps_in, bitmaps_outcome, count_tested, job_for, limits_tested, request_tested}
-use Rattle.tt_render_lines.specs.declared.setting.Setting.{Setting}
-use Rattle.tt_render_lines.specs.Settings.{job_by, plain_setting}
+use Rattle.tt_render_settings.specs.declared.setting.Setting.{Setting}
+use Rattle.tt_render_settings.specs.Settings.{job_by, plain_setting}
 use Rattle.tt_strike.specs.Defects.{IsSettingDefect}
 use Rattle.tt_strike.specs.Job.{Job, margin_tested, size_tested, tested, text_tested}
 use Rattle.tt_strike.specs.Makers.{job_at}

@@ -10,7 +10,7 @@ use Rattle.std.specs.Prelude.{IsOkAnd}
 use Rattle.tt_core.specs.declared.fault.JobFault.TheVariants as fault
 use Rattle.tt_core.specs.Faults.{Fault}
 use Rattle.tt_core.specs.Outcomes.{◌>>=◌}
-use Rattle.tt_render_lines.specs.Lines.{lines_budget}
+use Rattle.tt_render_settings.specs.Lines.{lines_budget}
 use Rattle.tt_strike.specs.Costs.{cost_by}
 use Rattle.tt_strike.specs.Job.{Job}
 use Rattle.tt_strike.specs.Refusals.{as_font}
@@ -25,7 +25,7 @@ use Rattle.tt_c_calls.specs.Answers.{job_answer}
 use Rattle.tt_c_calls.specs.Refusals.{Refusal, as_call}
 use Rattle.tt_c_calls.specs.Lines.{AreAffordable, cost_asked, cost_taken, first_taken, lines_taken, AreEnds, AreLinesDrawn, DrawsLines, EndsWith, IsLineDrawn, IsLineWritten, IsTextStopped, line_between, line_bytes, line_told, lines_by, lines_bytes, start_of, stopped_answer}
 use Rattle.tt_c_calls.specs.Pictures.{IsPictureOf, IsWritten}
-use Rattle.tt_render_lines.specs.Products.{IsMadeBy}
+use Rattle.tt_render_settings.specs.Products.{IsMadeBy}
 use Rattle.tt_picture.specs.Pictures.{Picture}
 
 -- equal lists have equal parts

@@ -8,9 +8,9 @@ use Rattle.tt_core.specs.Faults.{Fault}
 use Rattle.tt_core.specs.Outcomes.{◌>>=◌}
 use Rattle.tt_face.specs.Faces.{Face}
 use Rattle.tt_fit.specs.declared.programs.Fit.{Fit}
-use Rattle.tt_render_lines.proofs.FontLines.{face_file}
-use Rattle.tt_render_lines.specs.declared.setting.Setting.{Setting}
-use Rattle.tt_render_lines.specs.Settings.{job_by, plain_setting}
+use Rattle.tt_render_settings.proofs.FontLines.{face_file}
+use Rattle.tt_render_settings.specs.declared.setting.Setting.{Setting}
+use Rattle.tt_render_settings.specs.Settings.{job_by, plain_setting}
 use Rattle.tt_core.specs.declared.draw_fault.DrawFault.{DrawFault}
 use Rattle.tt_core.specs.declared.draw_fault.DrawFault.TheVariants as draw
 use Rattle.tt_strike.specs.Job.{Job, size_tested, tested}

@@ -7,7 +7,7 @@ use Rattle.tt_core.specs.Faults.{Fault}
 use Rattle.tt_core.specs.Limits.{font_limit}
 use Rattle.tt_core.specs.Outcomes.{◌>>=◌}
 use Rattle.tt_picture.specs.Pictures.{Image}
-use Rattle.tt_render_run.specs.File.{as_file}
+use Rattle.tt_render_streams.specs.File.{as_file}
 use Rattle.tt_render_run.specs.Run.{run_outcome}
 use Rattle.tt_strike.specs.Job.{Job, tested}
 use Rattle.tt_strike.specs.Picture.{line_outcome, pictured, pictured_by}
@@ -18,7 +18,7 @@ use Rattle.tt_c_calls.specs.Asked.{job_opening}
 use Rattle.tt_c_calls.specs.Laws.{PlainIsRun}
 use Rattle.tt_c_calls.specs.Pictures.{made_of, picture_wanted}
 use Rattle.tt_c_calls.specs.Refusals.{as_call}
-use Rattle.tt_render_lines.specs.Products.{picture_by}
+use Rattle.tt_render_settings.specs.Products.{picture_by}
 
 -- the tests of a line do not refuse the line of a tested job
 line_drawn : (face : Face) (a : Job) → tested a ≡ Ok tt → line_outcome face a ≡ pictured_by face a

@@ -11,8 +11,8 @@ use Rattle.tt_core.specs.declared.fault.JobFault.TheVariants as job
 use Rattle.tt_core.specs.declared.fault.Why.{Why}
 use Rattle.tt_core.specs.declared.fault.Why.TheVariants as why
 use Rattle.tt_core.specs.Faults.{Fault, fault_at, is_ascii, job_fault_of, job_name, job_number, why_name, why_number, why_of}
-use Rattle.tt_render_run.specs.declared.fault.RunFault.TheVariants as run
-use Rattle.tt_render_run.specs.Messages.{fault_words, font_line, job_line, job_words, line_of}
+use Rattle.tt_render_streams.specs.declared.fault.RunFault.TheVariants as run
+use Rattle.tt_render_streams.specs.Messages.{fault_words, font_line, job_line, job_words, line_of}
 use Rattle.tt_c_calls.specs.declared.answer.CAnswer.{CAnswer}
 use Rattle.tt_c_calls.specs.Laws.{AnswerFits, MessagesAreShort, ShortRoomsAreEnough}
 use Rattle.tt_c_calls.specs.Messages.{defect_message, defect_of, fault_of, fault_text, job_message, message_of, refusal_text, room_message, unknown_text}

@@ -28,7 +28,7 @@ use Rattle.tt_c_calls.specs.Answers.{call_answer}
 use Rattle.tt_c_calls.specs.Asked.{IsAskedDefect, asked, grows, job_opening, text_asked}
 use Rattle.tt_c_calls.specs.Lines.{IsLineWritten, IsStrikeFor, IsTextStopped, lines_wanted}
 use Rattle.tt_c_calls.specs.Pictures.{IsBandSmall, IsBandWritten, IsPictureOf, band_of, band_rows, picture_wanted}
-use Rattle.tt_render_lines.specs.Products.{IsMadeBy, picture_by}
+use Rattle.tt_render_settings.specs.Products.{IsMadeBy, picture_by}
 use Rattle.tt_c_calls.specs.Refusals.{Refusal, as_call, call_font_fault, call_refusal, line_ends, not_utf8, refused, unknown_fit}
 
 -- a job tested twice is a job tested once

@@ -11,7 +11,7 @@ use Rattle.tt_fit.specs.declared.programs.Fit.TheVariants as fit
 use Rattle.tt_face.specs.Files.{IsFaceDefectBy}
 use Rattle.tt_metrics.specs.declared.heights.Heights.{Heights}
 use Rattle.tt_metrics.specs.declared.heights.Heights.TheVariants as heights
-use Rattle.tt_render_lines.specs.Readings.{fit_reading, reading_asked}
+use Rattle.tt_render_texts.specs.Readings.{fit_reading, reading_asked}
 use Rattle.tt_strike.specs.Defects.{IsRunDefect}
 use Rattle.tt_strike.specs.Job.{Job, job_for}
 use Rattle.tt_c_calls.specs.declared.asked.CJob.{CJob}

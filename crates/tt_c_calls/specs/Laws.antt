@@ -5,8 +5,8 @@ use Rattle.std.specs.Fmt.{digits}
 use Rattle.tt_core.specs.declared.fault.JobFault.{JobFault}
 use Rattle.tt_core.specs.declared.fault.Why.TheVariants as why
 use Rattle.tt_core.specs.Faults.{Fault, fault_at, is_ascii, why_name, why_number, why_of}
-use Rattle.tt_render_run.specs.File.{as_file}
-use Rattle.tt_render_run.specs.Messages.{font_line, job_line}
+use Rattle.tt_render_streams.specs.File.{as_file}
+use Rattle.tt_render_streams.specs.Messages.{font_line, job_line}
 use Rattle.tt_render_run.specs.Run.{run_outcome}
 use Rattle.tt_strike.specs.Job.{Job}
 use Rattle.tt_c_calls.specs.declared.answer.CAnswer.{CAnswer}

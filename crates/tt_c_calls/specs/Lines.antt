@@ -4,7 +4,7 @@ use Rattle.std.specs.List.{sum_by}
 use Rattle.tt_core.specs.declared.fault.JobFault.TheVariants as fault
 use Rattle.tt_core.specs.Faults.{Fault, job_number}
 use Rattle.tt_core.specs.Outcomes.{◌>>=◌}
-use Rattle.tt_render_lines.specs.Lines.{lines_budget}
+use Rattle.tt_render_settings.specs.Lines.{lines_budget}
 use Rattle.tt_strike.specs.Costs.{cost_by}
 use Rattle.tt_picture.specs.Pictures.{Picture}
 use Rattle.tt_strike.specs.Job.{by_face}

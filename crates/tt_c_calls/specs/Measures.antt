@@ -1,7 +1,7 @@
 -- No part of the standard: the measure of a text, for C (profile).
 use Rattle.std.specs.Prelude.{◌≡◌, ◌≢◌, ℕ, ◌<◌, pos, List, ◌++◌, length, drop, map, Option, Some, None, Result, Ok, IsOkAnd}
 use Rattle.tt_core.specs.Outcomes.{◌>>=◌}
-use Rattle.tt_render_lines.specs.Products.{measure_by}
+use Rattle.tt_render_settings.specs.Products.{measure_by}
 use Rattle.tt_strike.specs.Job.{ByFace}
 use Rattle.tt_strike.specs.Measures.{Measure}
 use Rattle.tt_strike.specs.Report.{report_by}

@@ -6,8 +6,8 @@ use Rattle.tt_core.specs.declared.fault.JobFault.TheVariants as job
 use Rattle.tt_core.specs.declared.fault.Why.{Why}
 use Rattle.tt_core.specs.declared.fault.Why.TheVariants as why
 use Rattle.tt_core.specs.Faults.{Fault, fault_at, is_ascii, why_name, why_number, why_of, job_name, job_number, job_fault_of}
-use Rattle.tt_render_run.specs.Messages.{font_line, job_line, line_of}
-use Rattle.tt_render_run.specs.declared.fault.RunFault.TheVariants as run
+use Rattle.tt_render_streams.specs.Messages.{font_line, job_line, line_of}
+use Rattle.tt_render_streams.specs.declared.fault.RunFault.TheVariants as run
 use Rattle.tt_c_calls.specs.declared.answer.CAnswer.{CAnswer}
 use Rattle.tt_c_calls.specs.Answers.{done_answer, fault_answer, job_answer, memory_answer, plain_answer, room_answer}
 

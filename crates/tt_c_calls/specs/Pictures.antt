@@ -5,7 +5,7 @@ use Rattle.tt_core.specs.Bits.{stride}
 use Rattle.tt_face.specs.declared.rules.Opening.{Opening}
 use Rattle.tt_core.specs.Outcomes.{◌>>=◌}
 use Rattle.tt_render_run.specs.Outcome.{of_font}
-use Rattle.tt_render_lines.specs.Products.{IsMadeBy, picture_by}
+use Rattle.tt_render_settings.specs.Products.{IsMadeBy, picture_by}
 use Rattle.tt_strike.specs.Job.{ByFace, Job, by_face, tested}
 use Rattle.tt_picture.specs.Pictures.{Image, IsReady, Picture, image_of}
 use Rattle.tt_strike.specs.Refusals.{Refused, as_job}

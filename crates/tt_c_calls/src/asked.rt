@@ -12,7 +12,8 @@ use std::str;
 use tt_core::Reading;
 use tt_face::{Heights, LineRules, Opening};
 use tt_fit::Fit;
-use tt_render_lines::{Setting, fit_reading, reading_asked};
+use tt_render_settings::Setting;
+use tt_render_texts::{fit_reading, reading_asked};
 use tt_strike::Job;
 
 /// How a text is to be drawn.

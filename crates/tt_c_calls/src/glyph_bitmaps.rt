@@ -12,7 +12,7 @@ use crate::opening::face_of;
 use std::alloc::Global;
 use tt_core::{Fault, JobFault};
 use tt_glyphs::{BitmapList, GlyphEntry, MadeBitmap, Told, test_count};
-use tt_render_lines::Setting;
+use tt_render_settings::Setting;
 use tt_strike::{Opening, test_job};
 
 /// The place of a glyph's bitmap from the pen, and in the caller's room. Unused fields are 0.

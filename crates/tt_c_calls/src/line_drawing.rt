@@ -12,7 +12,8 @@ use crate::opening::opened_face;
 use crate::pictures::{CPicture, told_of, write_band};
 use std::alloc::Global;
 use tt_core::JobFault;
-use tt_render_lines::{Setting, lines_budget, make_picture};
+use tt_render_lines::make_picture;
+use tt_render_settings::{Setting, lines_budget};
 use tt_strike::{Strike, test_job};
 
 /// A line that was drawn.

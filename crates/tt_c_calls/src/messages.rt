@@ -8,7 +8,7 @@ use crate::answer::{CAnswer, DONE, ROOM, answer_of, sized};
 use crate::fault::CallFault;
 use std::alloc::{AllocError, Global};
 use tt_core::{Fault, JobFault, Why};
-use tt_render_run::{RunFault, line};
+use tt_render_streams::{RunFault, line};
 
 /// Whether the bytes of a tag are ASCII.
 fn is_tag(table: &[u8]) -> bool

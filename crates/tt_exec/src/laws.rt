@@ -5,9 +5,7 @@ ghost use Rattle.tt_exec.specs.MoreWork.{EndsStay, FaultsStay};
 ghost use Rattle.tt_exec.specs.RunCost.{RunsGrow, RunsHaveCosts};
 ghost use Rattle.tt_exec.specs.Worked.{SpentWork, UnboundedWork, WorkFalls};
 
-pub use tt_exec_step::laws::{
-    one_outcome, runs_loosen, runs_stay, sizes_are_kept, tolerant_runs_lack_nothing,
-};
+pub use tt_exec_step::laws::{one_outcome, sizes_are_kept};
 
 /// Lemma: for the same parts, a run on a machine that is begun again is the run on a new machine.
 pub fn runs_begin_again()

@@ -1,6 +1,1 @@
-mod Missing
 pub mod Shapes
-mod WithAll
-mod Loosened
-mod Total
-mod Short

@@ -1,11 +1,8 @@
 pub mod Computed
 pub mod Entries
-pub mod Lacking
-pub mod Loosened
 pub mod OpcodeTable
 pub mod Single
 pub mod Sizes
 pub mod Slots
 pub mod Steps
 pub mod Tables
-pub mod WithAll

@@ -34,5 +34,5 @@ pub use callers::Callers;
 pub use function_table::Functions;
 pub use machine_state::{Kind, MachineState};
 pub use outcome::Outcome;
-pub use program::{Body, CallFrame, Code};
+pub use program::{Body, CallFrame, Code, Definition};
 pub use table::fixed_work;

@@ -24,7 +24,7 @@ pub struct Body<'a> {
 
 /// The subject of a definition.
 #[derive(Clone, Copy)]
-pub(crate) enum Definition {
+pub enum Definition {
     /// FDEF: the function with this number.
     Function(u16),
     /// IDEF: the instruction with this opcode.

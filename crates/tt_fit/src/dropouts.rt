@@ -20,7 +20,7 @@ pub struct DropoutRules {
 
 /// The source of a glyph's dropout rules.
 #[derive(Clone, Copy)]
-pub(crate) enum DropoutsBy {
+pub enum DropoutsBy {
     /// No dropouts are filled.
     Nobody,
     /// The scan control of the font's programs; scan type 1 where hinting is off.

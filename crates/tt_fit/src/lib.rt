@@ -13,7 +13,7 @@ mod programs;
 mod rules;
 mod tried;
 
-pub use dropouts::DropoutRules;
+pub use dropouts::{DropoutRules, DropoutsBy};
 pub use fitting::Fitter;
 pub use paying::OutlineAtCost;
 pub use programs::Fit;

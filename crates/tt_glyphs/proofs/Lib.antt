@@ -5,8 +5,6 @@ pub mod EdgesMade
 pub mod Entered
 pub mod EntriesDrawn
 pub mod EntryBytes
-pub mod GrownBitmaps
-pub mod GrownInk
 pub mod KnownNumbers
 pub mod ListBegun
 pub mod ListDrawn

@@ -5,7 +5,6 @@ pub mod Edged
 pub mod Entries
 pub mod EntryLaws
 pub mod GlyphLaws
-pub mod GrownLaws
 pub mod Large
 pub mod Listed
 pub mod Lists

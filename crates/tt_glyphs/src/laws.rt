@@ -2,7 +2,6 @@
 
 ghost use Rattle.tt_glyphs.specs.EntryLaws.{AdvancesAreDrawn, RowsAreDrawn, UnboundedAreAlike};
 ghost use Rattle.tt_glyphs.specs.GlyphLaws.{BitmapsAreLeast, LinesAreBitmaps, LinesAreMade, OrderChangesNothing, RepeatsAreEqual, RoomIsExact, RowsAreCounted};
-ghost use Rattle.tt_glyphs.specs.GrownLaws.{GrownLinesAreBitmaps, GrownLinesAreMade, GrownLinesHoldBitmaps};
 
 /// Lemma: each side of a bitmap that is made has a black pixel.
 pub fn bitmaps_are_least()
@@ -22,19 +21,6 @@ pub fn lines_are_bitmaps()
     tt_scan_ink::laws::holds_all_ink();
     tt_arc::laws::contours_joined();
     tt_arc::laws::contours_closed();
-}
-
-/// Lemma: a grown picture has the black pixels of its glyphs' bitmaps at the grown line's pens, and no others. All of these
-/// bitmaps lie in the picture. They are made, if their numbers are glyphs of the font.
-pub fn grown_lines_are_bitmaps()
-    ensures pixels { GrownLinesAreBitmaps }
-    ensures within { GrownLinesHoldBitmaps }
-    ensures made { GrownLinesAreMade }
-{
-    tt_scan_ink::laws::holds_all_ink();
-    tt_arc::laws::contours_joined();
-    tt_arc::laws::contours_closed();
-    tt_strike::laws::grown_cuts_none();
 }
 
 /// Lemma: equal numbers of a list have equal entries. Where work is not bounded, the report of a number does not depend

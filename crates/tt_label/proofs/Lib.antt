@@ -5,7 +5,6 @@ pub mod EmptyTexts
 pub mod Grown
 pub mod Joined
 pub mod LabelApart
-pub mod LabelInk
 pub mod LabelPlaced
 pub mod Larger
 pub mod Lines

@@ -1,6 +1,6 @@
 //! Lemmas about the definitions, for all faces, jobs and lines. No code runs.
 
-ghost use Rattle.tt_label.specs.InkLaws.{BaselinesAreApart, LabelInkIsDrawn, LabelsAddFewest, LabelsCutNone};
+ghost use Rattle.tt_label.specs.InkLaws.{BaselinesAreApart};
 ghost use Rattle.tt_label.specs.LineLaws.{EmptyTextsAreColumns, LabelsAreNeverEmpty, LinesMakeLabels, OneLineHasPixels, OneLineIsGrown, OneLineReports};
 
 /// Lemma: a label of one line is the picture of `Strike::grown_line`. The refusals are the same too, except EmptyPicture,
@@ -23,18 +23,6 @@ pub fn labels_are_never_empty()
 pub fn lines_make_labels()
     ensures { LinesMakeLabels }
 {}
-
-/// Lemma: no ink of a label lies outside of its picture. On each side where columns or rows were added, the outermost one
-/// has ink. Ink within the picture is black pixels.
-pub fn labels_cut_none()
-    ensures cut { LabelsCutNone }
-    ensures fewest { LabelsAddFewest }
-    ensures drawn { LabelInkIsDrawn }
-{
-    tt_scan_ink::laws::holds_all_ink();
-    tt_arc::laws::contours_joined();
-    tt_arc::laws::contours_closed();
-}
 
 /// Lemma: from one baseline of a label to the next are the rows of one line and the font's gap, and at least one row. The
 /// enlarged picture has the same distances.

@@ -1,12 +1,12 @@
 -- No exit status is above 5.
 use Rattle.std.proofs.Common.{◌≤◌, arith}
-use Rattle.tt_render_run.specs.declared.fault.RunFault.{RunFault}
-use Rattle.tt_render_run.specs.declared.fault.RunFault.TheVariants as run
-use Rattle.tt_render_lines.specs.declared.refusal.Refusal.{Refusal}
-use Rattle.tt_render_lines.specs.declared.refusal.Refusal.TheVariants as reason
-use Rattle.tt_render_lines.specs.declared.refusal.TextsFault.{TextsFault}
-use Rattle.tt_render_run.specs.Messages.{status_of}
-use Rattle.tt_render_lines.specs.TextsMessages.{refusal_status_of, texts_status_of}
+use Rattle.tt_render_streams.specs.declared.fault.RunFault.{RunFault}
+use Rattle.tt_render_streams.specs.declared.fault.RunFault.TheVariants as run
+use Rattle.tt_render_texts.specs.declared.refusal.Refusal.{Refusal}
+use Rattle.tt_render_texts.specs.declared.refusal.Refusal.TheVariants as reason
+use Rattle.tt_render_texts.specs.declared.refusal.TextsFault.{TextsFault}
+use Rattle.tt_render_streams.specs.Messages.{status_of}
+use Rattle.tt_render_texts.specs.TextsMessages.{refusal_status_of, texts_status_of}
 use Rattle.tt_program_decisions.specs.declared.stopping.Stop.{Stop}
 use Rattle.tt_program_decisions.specs.declared.stopping.Stop.TheVariants as stop
 use Rattle.tt_program_decisions.specs.Stops.{stop_status}

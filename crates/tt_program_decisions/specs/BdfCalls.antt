@@ -6,12 +6,12 @@ use Rattle.tt_bdf.specs.declared.range.CodeRange.{CodeRange}
 use Rattle.tt_bitmap_font.specs.declared.font_file.FontFile.{FontFile}
 use Rattle.tt_bitmap_font.specs.FontFiles.{FontFileGives, HintsBy, IsFileDefect}
 use Rattle.tt_bitmap_font.specs.Help.{bdf_help}
-use Rattle.tt_render_lines.specs.declared.label.Labelled.{Labelled}
-use Rattle.tt_render_lines.specs.declared.refusal.TextsFault.{TextsFault}
-use Rattle.tt_render_lines.specs.Printing.{Errors}
-use Rattle.tt_render_lines.specs.TextsMessages.{texts_line_of, texts_status_of}
-use Rattle.tt_render_lines.specs.TextsOutcome.{TextTellsDefectsOf}
-use Rattle.tt_render_run.specs.Outcome.{ReadsNothing, Traffic, WritesNothing}
+use Rattle.tt_render_settings.specs.declared.label.Labelled.{Labelled}
+use Rattle.tt_render_texts.specs.declared.refusal.TextsFault.{TextsFault}
+use Rattle.tt_render_texts.specs.Printing.{Errors}
+use Rattle.tt_render_texts.specs.TextsMessages.{texts_line_of, texts_status_of}
+use Rattle.tt_render_settings.specs.TextsOutcome.{TextTellsDefectsOf}
+use Rattle.tt_render_streams.specs.Traffic.{ReadsNothing, Traffic, WritesNothing}
 use Rattle.tt_program_decisions.specs.declared.stopping.Stop.{Stop}
 use Rattle.tt_program_decisions.specs.declared.stopping.Stop.TheVariants as stop
 use Rattle.tt_program_decisions.specs.BdfRequests.{BdfAsked, ranges_asked}

@@ -14,7 +14,7 @@ use Rattle.tt_face.specs.Files.{face_at, face_by}
 use Rattle.tt_face.specs.Names.{full_name_of}
 use Rattle.tt_metrics.specs.Head.{head_of}
 use Rattle.tt_metrics.specs.Metrics.{Metrics, glyphs_of, metrics_of, units_per_em_of}
-use Rattle.tt_render_run.specs.Messages.{fault_words}
+use Rattle.tt_render_streams.specs.Messages.{fault_words}
 use Rattle.tt_render_run.specs.Outcome.{Wanted, outcome_of}
 use Rattle.tt_strike.specs.Refusals.{Refused, as_font}
 

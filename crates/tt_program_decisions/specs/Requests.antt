@@ -10,24 +10,24 @@ use Rattle.tt_face.specs.Files.{IsFaceDefectBy}
 use Rattle.tt_face.specs.Rules.{plain_opening}
 use Rattle.tt_metrics.specs.declared.heights.Heights.{Heights}
 use Rattle.tt_strike.specs.Defects.{IsRunDefect}
-use Rattle.tt_render_lines.specs.declared.setting.Missing.{Missing}
-use Rattle.tt_render_lines.specs.declared.setting.Missing.TheVariants as missing
-use Rattle.tt_render_lines.specs.declared.label.Label.{Label as DrawnLabel}
-use Rattle.tt_render_lines.specs.declared.setting.Product.{Product}
-use Rattle.tt_render_lines.specs.declared.setting.Product.TheVariants.{Measure, Picture}
+use Rattle.tt_render_settings.specs.declared.setting.Missing.{Missing}
+use Rattle.tt_render_settings.specs.declared.setting.Missing.TheVariants as missing
+use Rattle.tt_render_settings.specs.declared.label.Label.{Label as DrawnLabel}
+use Rattle.tt_render_settings.specs.declared.setting.Product.{Product}
+use Rattle.tt_render_settings.specs.declared.setting.Product.TheVariants.{Measure, Picture}
 use Rattle.tt_line.specs.declared.align.Align.{Align}
 use Rattle.tt_line.specs.declared.align.Align.TheVariants as align
 use Rattle.tt_label.specs.Label.{label_glyphs}
 use Rattle.tt_line.specs.Layout.{text_glyphs}
 use Rattle.tt_render.specs.Labels.{FontLabelGives, FontLabelsGive, HintsBy}
-use Rattle.tt_render_lines.specs.declared.setting.Setting.{Setting}
+use Rattle.tt_render_settings.specs.declared.setting.Setting.{Setting}
 use Rattle.tt_render_lines.specs.LayoutTexts.{FontLayoutGives, IsLayoutDefect}
-use Rattle.tt_render_lines.specs.LinesDefects.{IsTextDefect, LinesTellDefectsOf}
+use Rattle.tt_render_settings.specs.LinesDefects.{IsTextDefect, LinesTellDefectsOf}
 use Rattle.tt_render_run.specs.MapLines.{map_wanted}
-use Rattle.tt_render_run.specs.Outcome.{Traffic}
-use Rattle.tt_render_lines.specs.Readings.{fit_reading, reading_asked}
-use Rattle.tt_render_lines.specs.Settings.{job_by}
-use Rattle.tt_render_lines.specs.TextsOutcome.{FontLinesGive, FontTextGives, TextTellsDefectsOf, reader_in}
+use Rattle.tt_render_streams.specs.Traffic.{Traffic}
+use Rattle.tt_render_texts.specs.Readings.{fit_reading, reading_asked}
+use Rattle.tt_render_settings.specs.Settings.{job_by}
+use Rattle.tt_render_settings.specs.TextsOutcome.{FontLinesGive, FontTextGives, TextTellsDefectsOf, reader_in}
 use Rattle.tt_program_decisions.specs.declared.request.Request.{Request}
 use Rattle.tt_program_decisions.specs.declared.labelling.LabelOptions.{LabelOptions}
 use Rattle.tt_program_decisions.specs.declared.request.Request.TheVariants.{Map, Faces, Text, Lines, Layout, Label, Labels, Bdf}
@@ -35,7 +35,7 @@ use Rattle.tt_program_decisions.specs.BdfCalls.{PerformsBdf}
 use Rattle.tt_program_decisions.specs.BdfRequests.{BdfAsked, bdf_view, range_words, text_or_none}
 use Rattle.tt_program_decisions.specs.FaceLines.{IsFacesDefect, faces_wanted}
 use Rattle.tt_program_decisions.specs.Rules.{AsksRules, heights_named}
-use Rattle.tt_render_lines.specs.Printing.{Errors}
+use Rattle.tt_render_texts.specs.Printing.{Errors}
 use Rattle.tt_program_decisions.specs.Telling.{Does, DoesLabel, DoesTexts}
 
 -- the ways to fit by their names

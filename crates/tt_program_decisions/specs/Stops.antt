@@ -3,9 +3,9 @@ use Rattle.std.specs.Prelude.{◌≡◌, ℕ, true, List, [], ◌++◌, codes, O
 use Rattle.std.specs.declared.io.ErrorKind.{ErrorKind}
 use Rattle.std.specs.declared.io.ErrorKind.TheVariants.{OutOfMemory}
 use Rattle.tt_bdf.specs.declared.range.CodeRange.{CodeRange}
-use Rattle.tt_render_run.specs.declared.fault.RunFault.TheVariants as run
-use Rattle.tt_render_run.specs.Messages.{line_of, status_of}
-use Rattle.tt_render_lines.specs.Printing.{Errors, Prints}
+use Rattle.tt_render_streams.specs.declared.fault.RunFault.TheVariants as run
+use Rattle.tt_render_streams.specs.Messages.{line_of, status_of}
+use Rattle.tt_render_texts.specs.Printing.{Errors, Prints}
 use Rattle.tt_program_decisions.specs.declared.request.Request.{Request}
 use Rattle.tt_program_decisions.specs.declared.request.Request.TheVariants as request
 use Rattle.tt_program_decisions.specs.declared.stopping.Stop.{Stop}

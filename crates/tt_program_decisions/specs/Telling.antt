@@ -3,17 +3,18 @@ use Rattle.std.specs.Prelude.{◌≡◌, ◌⊎◌, ℕ, Bool, true, false, List
 use Rattle.std.specs.Io.KnownBytes.{Keeps}
 use Rattle.tt_advice.specs.declared.hint.Hint.{Hint}
 use Rattle.tt_core.specs.Faults.{Fault}
-use Rattle.tt_render_run.specs.declared.fault.RunFault.{RunFault}
-use Rattle.tt_render_run.specs.declared.fault.RunFault.TheVariants as run
+use Rattle.tt_render_streams.specs.declared.fault.RunFault.{RunFault}
+use Rattle.tt_render_streams.specs.declared.fault.RunFault.TheVariants as run
 use Rattle.tt_render_run.specs.Defects.{TellsDefectsOf}
-use Rattle.tt_render_run.specs.Outcome.{CallGives, Traffic, Wanted}
-use Rattle.tt_render_lines.specs.Printing.{Errors, Prints, PrintsNothing}
-use Rattle.tt_render_lines.specs.TextsMessages.{texts_line_of, texts_status_of}
-use Rattle.tt_render_lines.specs.declared.label.Label.{Label}
-use Rattle.tt_render_lines.specs.declared.label.Labelled.{Labelled}
-use Rattle.tt_render_lines.specs.declared.refusal.TextsFault.{TextsFault}
-use Rattle.tt_render_lines.specs.Help.{label_help}
-use Rattle.tt_render_run.specs.Messages.{line_of, status_of}
+use Rattle.tt_render_run.specs.Outcome.{CallGives, Wanted}
+use Rattle.tt_render_streams.specs.Traffic.{Traffic}
+use Rattle.tt_render_texts.specs.Printing.{Errors, Prints, PrintsNothing}
+use Rattle.tt_render_texts.specs.TextsMessages.{texts_line_of, texts_status_of}
+use Rattle.tt_render_settings.specs.declared.label.Label.{Label}
+use Rattle.tt_render_settings.specs.declared.label.Labelled.{Labelled}
+use Rattle.tt_render_texts.specs.declared.refusal.TextsFault.{TextsFault}
+use Rattle.tt_render_settings.specs.Help.{label_help}
+use Rattle.tt_render_streams.specs.Messages.{line_of, status_of}
 
 -- the status and the line of one fault
 abbrev pub TellsFault : RunFault → ℕ → Errors → Type 0

@@ -7,7 +7,7 @@ use Rattle.tt_advice.specs.declared.hint.FixedHint.{FixedHint}
 use Rattle.tt_advice.specs.declared.hint.FixedHint.TheVariants as fixed
 use Rattle.tt_advice.specs.declared.hint.Hint.TheVariants as hint
 use Rattle.tt_advice.specs.Hints.{hint_line}
-use Rattle.tt_render_lines.specs.Printing.{Errors}
+use Rattle.tt_render_texts.specs.Printing.{Errors}
 use Rattle.tt_program_decisions.specs.declared.request.Request.{Request}
 use Rattle.tt_program_decisions.specs.declared.request.Request.TheVariants as request
 use Rattle.tt_program_decisions.specs.declared.stopping.Stop.{Stop}

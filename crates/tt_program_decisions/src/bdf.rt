@@ -2,8 +2,8 @@
 
 ghost use Rattle.std.specs.Prelude.{◌≡◌, ◌≤◌, false, All, IfOk, IfSome, option_map};
 ghost use Rattle.tt_bdf.specs.Ranges.{IsCodeRange};
-ghost use Rattle.tt_render_lines.specs.Printing.{errors_of};
-ghost use Rattle.tt_render_run.specs.Outcome.{traffic_of};
+ghost use Rattle.tt_render_texts.specs.Printing.{errors_of};
+ghost use Rattle.tt_render_streams.specs.Traffic.{traffic_of};
 ghost use Rattle.tt_program_decisions.specs.BdfCalls.{PerformsBdf, face_or_first};
 ghost use Rattle.tt_program_decisions.specs.BdfRequests.{bdf_view, range_words, ranges_asked, text_or_none};
 ghost use Rattle.tt_program_decisions.specs.Requests.{AsksBdf, asked_of};

@@ -6,7 +6,8 @@ ghost use Rattle.tt_core.specs.Outcomes.{FontGives, font_fault};
 ghost use Rattle.tt_face.specs.Files.{face_by};
 ghost use Rattle.tt_program_decisions.specs.FaceLines.{IsFacesDefect, behind_blank, face_words, faces_of, faces_text, faces_wanted, fault_line, figures, read_words, wide};
 ghost use Rattle.tt_render_run.specs.Defects.{TellsDefectsOf};
-ghost use Rattle.tt_render_run.specs.Outcome.{CallGives, traffic_of};
+ghost use Rattle.tt_render_run.specs.Outcome.{CallGives};
+ghost use Rattle.tt_render_streams.specs.Traffic.{traffic_of};
 ghost use Rattle.tt_strike.specs.Defects.{TellsDefects};
 
 use std::alloc::{AllocError, Global};
@@ -14,8 +15,7 @@ use tt_core::{Fault, FontFault, Reading, Sink, Source, face_count};
 use tt_face::Face;
 use tt_metrics::Metrics;
 use tt_pbm::write_all_of;
-use tt_render::RunFault;
-use tt_render_run::read_font;
+use tt_render_streams::{RunFault, read_font};
 
 /// Faces that have a line (profile).
 const FACES_TOLD: u32 = 256;

@@ -9,7 +9,8 @@ use tt_core::Reading;
 use tt_face::{LineRules, Opening};
 use tt_fit::Fit;
 use tt_program_words::{CENTRE, LEFT, RIGHT};
-use tt_render::{Align, Label, Missing, Product, Setting, reading_asked};
+use tt_render_settings::{Align, Label, Missing, Product, Setting};
+use tt_render_texts::reading_asked;
 
 /// The options of `label`.
 #[derive(Clone, Copy)]

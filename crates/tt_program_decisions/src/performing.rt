@@ -2,8 +2,8 @@
 
 ghost use Rattle.std.specs.Prelude.{◌≡◌, ◌≤◌, false};
 ghost use Rattle.tt_program_decisions.specs.Requests.{Performs, UnlessLines};
-ghost use Rattle.tt_render_run.specs.Outcome.{traffic_of};
-ghost use Rattle.tt_render_lines.specs.Printing.{errors_of};
+ghost use Rattle.tt_render_streams.specs.Traffic.{traffic_of};
+ghost use Rattle.tt_render_texts.specs.Printing.{errors_of};
 
 use crate::bdf::perform_bdf;
 use crate::faces::faces;
@@ -37,7 +37,7 @@ pub fn perform<R: Source, L: Source, W: Sink, E: Sink>(
 {
     match request {
         Request::Map { text, reading, .. } => {
-            let mapped = tt_render::map(alloc, font, text, out, *reading);
+            let mapped = tt_render_run::map(alloc, font, text, out, *reading);
             tell(alloc, &mapped, error)
         }
         Request::Faces { .. } => {
@@ -45,15 +45,15 @@ pub fn perform<R: Source, L: Source, W: Sink, E: Sink>(
             tell(alloc, &told, error)
         }
         Request::Text { text, setting, .. } => {
-            let drawn = tt_render::draw_text(alloc, font, out, error, text, setting);
+            let drawn = tt_render_lines::draw_text(alloc, font, out, error, text, setting);
             tell_texts(alloc, &drawn, error)
         }
         Request::Lines { setting, .. } => {
-            let drawn = tt_render::draw_lines(alloc, font, lines, out, error, setting);
+            let drawn = tt_render_lines::draw_lines(alloc, font, lines, out, error, setting);
             tell_texts(alloc, &drawn, error)
         }
         Request::Layout { text, setting, .. } => {
-            let told = tt_render::write_layout(alloc, font, out, error, text, setting);
+            let told = tt_render_lines::write_layout(alloc, font, out, error, text, setting);
             tell_texts(alloc, &told, error)
         }
         Request::Label {

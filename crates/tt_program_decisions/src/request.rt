@@ -1,7 +1,7 @@
 //! The request of a command line.
 
 ghost use Rattle.std.specs.Prelude.{◌≡◌, ◌≢◌, ℕ, Bool, List, Option, None, codes, option_map};
-ghost use Rattle.tt_render_lines.specs.declared.setting.Product.TheVariants.{Measure, Picture};
+ghost use Rattle.tt_render_settings.specs.declared.setting.Product.TheVariants.{Measure, Picture};
 ghost use Rattle.tt_program_decisions.specs.Requests.{AsksBdf, AsksDrawing, AsksLabel, AsksMap, AsksMeasure, AsksPlainSetting, AsksSetting, asked_of, faces_asked, fit_named, font_of, missing_named, without_ink};
 
 use crate::bdf::{BdfRequest, bdf_of};
@@ -11,7 +11,8 @@ use tt_core::Reading;
 use tt_face::Opening;
 use tt_fit::Fit;
 use tt_program_words::{BEST, DRAW, FALLBACK, FULL, NONE, REFUSE, TELL};
-use tt_render::{Missing, Product, Setting, fit_reading, reading_asked};
+use tt_render_settings::{Missing, Product, Setting};
+use tt_render_texts::{fit_reading, reading_asked};
 
 /// The request of a command line.
 #[derive(Clone, Copy)]

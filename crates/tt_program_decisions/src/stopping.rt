@@ -2,12 +2,12 @@
 
 ghost use Rattle.std.specs.Prelude.{◌≡◌, ◌≤◌, false};
 ghost use Rattle.tt_program_decisions.specs.Stops.{stop_at_open, stop_at_words, stop_status, stop_text};
-ghost use Rattle.tt_render_lines.specs.Printing.{Prints, errors_of};
+ghost use Rattle.tt_render_texts.specs.Printing.{Prints, errors_of};
 
 use crate::telling::NO_MEMORY;
 use std::io::ErrorKind;
 use tt_core::Sink;
-use tt_render::print_text;
+use tt_render_texts::print_text;
 
 /// The reason why there is no request to perform.
 #[derive(Clone, Copy)]

@@ -1,12 +1,13 @@
 //! The report of an answer: the exit status, and a line on standard error.
 
 ghost use Rattle.std.specs.Prelude.{◌≡◌, ℕ, ◌≤◌, ◌++◌, false, List, codes, string_bytes, IfOk};
-ghost use Rattle.tt_render_lines.specs.Printing.{errors_of};
+ghost use Rattle.tt_render_texts.specs.Printing.{errors_of};
 ghost use Rattle.tt_program_decisions.specs.Telling.{Tells, TellsLine, TellsText};
 
 use std::alloc::{AllocError, Global};
 use tt_core::Sink;
-use tt_render::{RunFault, line, print_text, status};
+use tt_render_streams::{RunFault, line, status};
+use tt_render_texts::print_text;
 
 /// The line for refused memory; it takes no memory.
 pub(crate) const NO_MEMORY: &str = "tt_render: out of memory\n";

@@ -2,7 +2,7 @@
 //! people.
 
 ghost use Rattle.std.specs.Prelude.{◌≡◌, ◌≤◌, string_bytes, IfOk};
-ghost use Rattle.tt_render_lines.specs.Printing.{errors_of};
+ghost use Rattle.tt_render_texts.specs.Printing.{errors_of};
 ghost use Rattle.tt_program_decisions.specs.BdfCalls.{TellsFile, file_lines_of};
 
 use crate::telling::tell_text;
@@ -10,7 +10,8 @@ use std::alloc::{AllocError, Global};
 use tt_advice::Hint;
 use tt_bitmap_font::{FontFile, bdf_help};
 use tt_core::Sink;
-use tt_render::{Labelled, TextsFault, texts_line, texts_status};
+use tt_render_settings::Labelled;
+use tt_render_texts::{TextsFault, texts_line, texts_status};
 
 /// The lines about a refused font file, for one write. Error: memory ran out.
 fn file_lines(

@@ -1,14 +1,15 @@
 //! The report of labels that were drawn: the exit status, and on standard error a line for programs and one for people.
 
 ghost use Rattle.std.specs.Prelude.{◌≡◌, ◌≤◌, string_bytes, IfOk};
-ghost use Rattle.tt_render_lines.specs.Printing.{errors_of};
+ghost use Rattle.tt_render_texts.specs.Printing.{errors_of};
 ghost use Rattle.tt_program_decisions.specs.Telling.{TellsLabel, label_lines_of};
 
 use crate::telling::tell_text;
 use std::alloc::{AllocError, Global};
 use tt_advice::Hint;
 use tt_core::Sink;
-use tt_render::{Label, Labelled, TextsFault, label_help, texts_line, texts_status};
+use tt_render_settings::{Label, Labelled, label_help};
+use tt_render_texts::{TextsFault, texts_line, texts_status};
 
 /// The lines about a refused label, for one write. Error: memory ran out.
 fn label_lines(

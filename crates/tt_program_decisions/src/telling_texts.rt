@@ -2,13 +2,13 @@
 //! error.
 
 ghost use Rattle.std.specs.Prelude.{◌≤◌};
-ghost use Rattle.tt_render_lines.specs.Printing.{errors_of};
+ghost use Rattle.tt_render_texts.specs.Printing.{errors_of};
 ghost use Rattle.tt_program_decisions.specs.Telling.{TellsTexts};
 
 use crate::telling::tell_line;
 use std::alloc::Global;
 use tt_core::Sink;
-use tt_render::{TextsFault, texts_line, texts_status};
+use tt_render_texts::{TextsFault, texts_line, texts_status};
 
 /// Reports the answer of `draw_text` or `draw_lines` on standard error. Returns the exit status.
 #[tactic(auto, using(crate::proofs::Statuses::texts_status_within))]

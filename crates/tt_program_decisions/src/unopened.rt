@@ -3,7 +3,7 @@
 ghost use Rattle.std.specs.Prelude.{◌≡◌, ◌≤◌, false, None, option_map, string_bytes, IfOk};
 ghost use Rattle.tt_program_decisions.specs.Stops.{TellsStop, stop_at_open};
 ghost use Rattle.tt_program_decisions.specs.Unopened.{TellsUnopened, hint_of_open, lowered, names_font, opening_hint, opening_text, unfound_hint};
-ghost use Rattle.tt_render_lines.specs.Printing.{errors_of};
+ghost use Rattle.tt_render_texts.specs.Printing.{errors_of};
 
 use crate::request::Request;
 use crate::stopping::{stop_of_open, tell_stop};

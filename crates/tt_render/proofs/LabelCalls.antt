@@ -5,21 +5,21 @@ use Rattle.tt_advice.specs.declared.hint.Hint.{Hint}
 use Rattle.tt_core.specs.declared.collection.Reading.{Reading}
 use Rattle.tt_core.specs.declared.draw_fault.DrawFault.{DrawFault}
 use Rattle.tt_core.specs.declared.draw_fault.DrawFault.TheVariants as draw
-use Rattle.tt_render_run.specs.declared.fault.RunFault.{RunFault}
-use Rattle.tt_render_run.specs.declared.fault.RunFault.TheVariants as run
-use Rattle.tt_render_run.specs.Outcome.{Traffic}
-use Rattle.tt_render_run.specs.Reading.{FontIsRead, FontReader, ReadFails}
-use Rattle.tt_render_lines.specs.declared.label.Label.{Label}
-use Rattle.tt_render_lines.specs.declared.refusal.Refusal.{Refusal}
-use Rattle.tt_render_lines.specs.declared.refusal.Refusal.TheVariants as reason
-use Rattle.tt_render_lines.specs.declared.refusal.TextsFault.{TextsFault}
-use Rattle.tt_render_lines.specs.declared.setting.Setting.{Setting}
+use Rattle.tt_render_streams.specs.declared.fault.RunFault.{RunFault}
+use Rattle.tt_render_streams.specs.declared.fault.RunFault.TheVariants as run
+use Rattle.tt_render_streams.specs.Traffic.{Traffic}
+use Rattle.tt_render_streams.specs.Reading.{FontIsRead, FontReader, ReadFails}
+use Rattle.tt_render_settings.specs.declared.label.Label.{Label}
+use Rattle.tt_render_texts.specs.declared.refusal.Refusal.{Refusal}
+use Rattle.tt_render_texts.specs.declared.refusal.Refusal.TheVariants as reason
+use Rattle.tt_render_texts.specs.declared.refusal.TextsFault.{TextsFault}
+use Rattle.tt_render_settings.specs.declared.setting.Setting.{Setting}
 use Rattle.tt_render.specs.Labels.{FileLabelsGive, FontLabelsGive, IsUnopened, StopsUnopened, hint_for}
-use Rattle.tt_render_lines.specs.Printing.{Errors}
-use Rattle.tt_render_lines.specs.Settings.{setting_tested, strike_of}
-use Rattle.tt_render_lines.specs.TextsOutcome.{StopsFor}
-use Rattle.tt_render_lines.specs.Views.{before_lines, refusal_of_draw, refusal_of_run}
-use Rattle.tt_render_lines.proofs.FontLines.{size_passes}
+use Rattle.tt_render_texts.specs.Printing.{Errors}
+use Rattle.tt_render_settings.specs.Settings.{setting_tested, strike_of}
+use Rattle.tt_render_settings.specs.TextsOutcome.{StopsFor}
+use Rattle.tt_render_texts.specs.Views.{before_lines, refusal_of_draw, refusal_of_run}
+use Rattle.tt_render_settings.proofs.FontLines.{size_passes}
 use Rattle.tt_strike.specs.Job.{size_tested}
 use Rattle.tt_strike.specs.Refusals.{Refused, as_job}
 use Rattle.tt_strike.specs.Refusals as drawing

@@ -7,10 +7,10 @@ use Rattle.std.specs.Str.{is_utf8}
 use Rattle.tt_core.specs.declared.fault.JobFault.TheVariants as fault
 use Rattle.tt_strike.specs.Refusals.{job}
 use Rattle.tt_strike.specs.Strikes.{Strike}
-use Rattle.tt_render_lines.specs.declared.label.Label.{Label}
+use Rattle.tt_render_settings.specs.declared.label.Label.{Label}
 use Rattle.tt_render.specs.Labels.{label_answer, line_labelled}
-use Rattle.tt_render_lines.specs.Lines.{line_limit}
-use Rattle.tt_render_lines.specs.Texts.{not_utf8, refused}
+use Rattle.tt_render_texts.specs.Lines.{line_limit}
+use Rattle.tt_render_settings.specs.Texts.{not_utf8, refused}
 
 pub long_label : (l : Label) (s : Strike) (line : List ℕ) → line_limit < length line
     → line_labelled l s line ≡ Err (refused (job fault.TextLong))

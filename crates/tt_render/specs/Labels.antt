@@ -14,24 +14,25 @@ use Rattle.tt_core.specs.declared.collection.Reading.TheVariants as reading
 use Rattle.tt_picture.specs.Pictures.{IsReady}
 use Rattle.tt_strike.specs.Refusals.{Refused, font}
 use Rattle.tt_strike.specs.Strikes.{Strike, job_of}
-use Rattle.tt_render_run.specs.File.{as_file, picture_bytes, piece_bytes}
-use Rattle.tt_render_lines.specs.declared.label.Label.{Label}
-use Rattle.tt_render_lines.specs.declared.label.Labelled.{Labelled}
+use Rattle.tt_render_streams.specs.File.{as_file, picture_bytes, piece_bytes}
+use Rattle.tt_render_settings.specs.declared.label.Label.{Label}
+use Rattle.tt_render_settings.specs.declared.label.Labelled.{Labelled}
 use Rattle.tt_render.specs.declared.label_answers.ReadyLabel.{ReadyLabel}
-use Rattle.tt_render_lines.specs.declared.refusal.Refusal.{Refusal}
-use Rattle.tt_render_lines.specs.declared.refusal.Refusal.TheVariants as reason
-use Rattle.tt_render_lines.specs.declared.refusal.TextsFault.{TextsFault}
-use Rattle.tt_render_lines.specs.declared.label_reports.Signs.{Signs}
-use Rattle.tt_render_lines.specs.Lines.{line_answer}
-use Rattle.tt_render_lines.specs.Printing.{Errors}
-use Rattle.tt_render_lines.specs.Reports.{label_report_of, told_view}
-use Rattle.tt_render_lines.specs.Settings.{setting_tested, strike_of}
+use Rattle.tt_render_texts.specs.declared.refusal.Refusal.{Refusal}
+use Rattle.tt_render_texts.specs.declared.refusal.Refusal.TheVariants as reason
+use Rattle.tt_render_texts.specs.declared.refusal.TextsFault.{TextsFault}
+use Rattle.tt_render_texts.specs.declared.label_reports.Signs.{Signs}
+use Rattle.tt_render_settings.specs.Lines.{line_answer}
+use Rattle.tt_render_texts.specs.Printing.{Errors}
+use Rattle.tt_render_texts.specs.Reports.{label_report_of, told_view}
+use Rattle.tt_render_settings.specs.Settings.{setting_tested, strike_of}
 use Rattle.tt_label.specs.Label.{label_cost, label_outcome, label_report}
 use Rattle.tt_line.specs.Labels.{label_lines}
-use Rattle.tt_render_lines.specs.Texts.{LabelTold, TextAnswer, TextRefusal, answer_with, missing_among}
-use Rattle.tt_render_lines.specs.TextsOutcome.{FontAnswers, IsIdle, IsNotReady, LinesGive, OpensFont, StopsAtFont}
-use Rattle.tt_render_run.specs.Outcome.{Traffic}
-use Rattle.tt_render_run.specs.Reading.{FontReader}
+use Rattle.tt_render_texts.specs.Answers.{LabelTold, TextAnswer}
+use Rattle.tt_render_settings.specs.Texts.{TextRefusal, answer_with, missing_among}
+use Rattle.tt_render_settings.specs.TextsOutcome.{FontAnswers, IsIdle, IsNotReady, LinesGive, OpensFont, StopsAtFont}
+use Rattle.tt_render_streams.specs.Traffic.{Traffic}
+use Rattle.tt_render_streams.specs.Reading.{FontReader}
 
 -- the first character of some lines that has a sign
 abbrev pub or_later : Option ℕ → Option ℕ → Option ℕ

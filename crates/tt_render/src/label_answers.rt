@@ -4,9 +4,9 @@ ghost use Rattle.std.specs.Prelude.{◌≡◌, ◌≤◌, length, string_bytes, 
 ghost use Rattle.tt_core.specs.Limits.{font_limit};
 ghost use Rattle.tt_core.specs.Outcomes.{GivesUnless};
 ghost use Rattle.tt_render.specs.Labels.{CanGoOut, TellsLabel, face_number, label_answer, label_notes, label_view};
-ghost use Rattle.tt_render_lines.specs.LinesDefects.{IsDefectBy};
+ghost use Rattle.tt_render_settings.specs.LinesDefects.{IsDefectBy};
 ghost use Rattle.tt_label.specs.Label.{label_glyphs};
-ghost use Rattle.tt_render_lines.specs.TextsOutcome.{IsOfText, refusal_font_fault, told, without_line};
+ghost use Rattle.tt_render_settings.specs.TextsOutcome.{IsOfText, refusal_font_fault, told, without_line};
 ghost use Rattle.tt_strike.specs.Defects.{TellsDefects};
 
 use crate::label_texts::missing_in;
@@ -15,8 +15,9 @@ use std::alloc::{AllocError, Global};
 use tt_advice::font_notes;
 use tt_core::Reading;
 use tt_label::label;
-use tt_render_lines::{Label, LabelTold, Messages, TextsFault};
-use tt_render_run::{Drawn, piece_for};
+use tt_render_settings::Label;
+use tt_render_streams::{Drawn, piece_for};
+use tt_render_texts::{LabelTold, Messages, TextsFault};
 use tt_strike::Strike;
 
 /// A label, ready to be written: its picture with memory for writing the rows, the reported characters without a glyph,

@@ -4,15 +4,15 @@ ghost use Rattle.std.specs.Prelude.{◌≡◌, ◌≤◌, false, length, Ok, Err
 ghost use Rattle.tt_core.specs.Limits.{font_limit};
 ghost use Rattle.tt_core.specs.Outcomes.{GivesUnless, IfTold};
 ghost use Rattle.tt_label.specs.Label.{label_glyphs};
-ghost use Rattle.tt_render_run.specs.Outcome.{traffic_of};
-ghost use Rattle.tt_render_run.specs.Reading.{font_reader_of};
+ghost use Rattle.tt_render_streams.specs.Traffic.{traffic_of};
+ghost use Rattle.tt_render_streams.specs.Reading.{font_reader_of};
 ghost use Rattle.tt_render.specs.Labels.{CanGoOut, FileLabelsGive, FontLabelGives, FontLabelsGive, HintsBy, LabelReadies, TellsLabel, hint_for, label_answer, label_notes, label_view, line_labelled};
-ghost use Rattle.tt_render_lines.specs.Lines.{line_limit};
-ghost use Rattle.tt_render_lines.specs.LinesDefects.{IsDefectBy, IsTextDefect, LinesTell, LinesTellDefects, LinesTellDefectsOf};
-ghost use Rattle.tt_render_lines.specs.Printing.{errors_of};
-ghost use Rattle.tt_render_lines.specs.Settings.{job_by, setting_tested, strike_of};
-ghost use Rattle.tt_render_lines.specs.TextsOutcome.{IsOfText, LinesGive, TextTellsDefects, TextTellsDefectsOf, refusal_font_fault, told, without_line};
-ghost use Rattle.tt_render_lines.specs.Views.{before_lines};
+ghost use Rattle.tt_render_texts.specs.Lines.{line_limit};
+ghost use Rattle.tt_render_settings.specs.LinesDefects.{IsDefectBy, IsTextDefect, LinesTell, LinesTellDefects, LinesTellDefectsOf};
+ghost use Rattle.tt_render_texts.specs.Printing.{errors_of};
+ghost use Rattle.tt_render_settings.specs.Settings.{job_by, setting_tested, strike_of};
+ghost use Rattle.tt_render_settings.specs.TextsOutcome.{IsOfText, LinesGive, TextTellsDefects, TextTellsDefectsOf, refusal_font_fault, told, without_line};
+ghost use Rattle.tt_render_texts.specs.Views.{before_lines};
 ghost use Rattle.tt_strike.specs.Job.{tested};
 
 use crate::label_answers::{ReadyLabel, answer_label, face_number, notes_of};
@@ -20,11 +20,9 @@ use std::alloc::Global;
 use std::str;
 use tt_advice::{Hint, advice};
 use tt_core::{Sink, Source};
-use tt_render_lines::{
-    Label, Labelled, LineReader, Refusal, TextsFault, next_line, print_text, refusal_of_run,
-    test_setting, texts_fault,
-};
-use tt_render_run::{read_font, write_picture};
+use tt_render_settings::{Label, Labelled, next_line, test_setting};
+use tt_render_streams::{read_font, write_picture};
+use tt_render_texts::{LineReader, Refusal, TextsFault, print_text, refusal_of_run, texts_fault};
 use tt_strike::{Face, Strike, test_job};
 
 /// What is reported to a person of the font's file, where the font is refused.
@@ -229,7 +227,7 @@ fn draw_labels_by<R: Source, W: Sink, E: Sink>(
 }
 
 /// Draws each line of a text as a label by a font file. Errors: those of `draw_labels` behind the reading of the font.
-#[tactic(auto, unfolding(tt_render_lines::specs::Settings::strike_of))]
+#[tactic(auto, unfolding(tt_render_settings::specs::Settings::strike_of))]
 fn draw_labels_of<R: Source, W: Sink, E: Sink>(
     alloc: Global,
     file: &[u8],

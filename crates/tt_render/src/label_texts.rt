@@ -5,12 +5,13 @@ ghost use Rattle.tt_cmap.specs.Lacking.{distinct_after, with_character};
 ghost use Rattle.tt_core.specs.Outcomes.{GivesUnless, IfTold};
 ghost use Rattle.tt_render.specs.Labels.{lines_lacking};
 ghost use Rattle.tt_line.specs.Labels.{label_lines};
-ghost use Rattle.tt_render_lines.specs.Texts.{missing_among};
-ghost use Rattle.tt_render_lines.specs.TextsOutcome.{IsOfText, refusal_font_fault, told, without_line};
+ghost use Rattle.tt_render_settings.specs.Texts.{missing_among};
+ghost use Rattle.tt_render_settings.specs.TextsOutcome.{IsOfText, refusal_font_fault, told, without_line};
 
 use std::alloc::{AllocError, Global};
 use tt_line::unmarked;
-use tt_render_lines::{Missing, TextsFault, none_missing};
+use tt_render_settings::{Missing, none_missing};
+use tt_render_texts::TextsFault;
 use tt_strike::Strike;
 
 /// Lists a character, unless the character is listed already. Error: memory ran out.

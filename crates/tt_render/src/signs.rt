@@ -7,7 +7,7 @@ ghost use Rattle.tt_render.specs.Labels.{or_later, signs_of};
 
 use tt_advice::{Sign, is_plain};
 use tt_line::unmarked;
-use tt_render_lines::Signs;
+use tt_render_texts::Signs;
 
 /// The first character that has a sign: the one of the lines before, or else that of a line.
 fn first_of(before: Option<char>, sign: Sign, line: &str) -> Option<char>

@@ -9,14 +9,14 @@ use Rattle.tt_face.specs.Faces.{Face}
 use Rattle.tt_face.specs.Files.{IsFaceDefectBy, face_with}
 use Rattle.tt_core.specs.Directory.{HasNo}
 use Rattle.tt_core.specs.Faults.{Fault}
-use Rattle.tt_render_lines.specs.declared.refusal.Refusal.{Refusal}
-use Rattle.tt_render_lines.specs.declared.refusal.Refusal.TheVariants as reason
-use Rattle.tt_render_lines.specs.declared.setting.Setting.{Setting}
+use Rattle.tt_render_texts.specs.declared.refusal.Refusal.{Refusal}
+use Rattle.tt_render_texts.specs.declared.refusal.Refusal.TheVariants as reason
+use Rattle.tt_render_settings.specs.declared.setting.Setting.{Setting}
 use Rattle.tt_render_lines.specs.LayoutTexts.{IsLaidDefect, IsLayoutDefect, IsReadDefect, laid_text, layout_answer, layout_text, line_text, pen_text, size_text}
-use Rattle.tt_render_lines.specs.MeasureText.{face_text, font_text}
-use Rattle.tt_render_lines.specs.Settings.{job_by}
-use Rattle.tt_render_lines.specs.TextsOutcome.{IsOfText, TextTellsDefects, refusal_font_fault, told}
-use Rattle.tt_render_lines.specs.Views.{before_lines, refusal_of_draw}
+use Rattle.tt_render_settings.specs.MeasureText.{face_text, font_text}
+use Rattle.tt_render_settings.specs.Settings.{job_by}
+use Rattle.tt_render_settings.specs.TextsOutcome.{IsOfText, TextTellsDefects, refusal_font_fault, told}
+use Rattle.tt_render_texts.specs.Views.{before_lines, refusal_of_draw}
 use Rattle.tt_strike.specs.declared.layouts.Layout.{Layout}
 use Rattle.tt_strike.specs.declared.layouts.Pen.{Pen}
 use Rattle.tt_strike.specs.Job.{Job}

@@ -9,8 +9,8 @@ use Rattle.tt_cmap.specs.Units.{plain_unit, selected_unit}
 use Rattle.tt_face.specs.Faces.{Face}
 use Rattle.tt_line.specs.declared.measured.LineSize.{LineSize}
 use Rattle.tt_line.specs.Layout.{text_glyphs}
-use Rattle.tt_render_run.specs.MapLines.{code_point}
-use Rattle.tt_render_run.specs.Outcome.{Traffic}
+use Rattle.tt_render_streams.specs.CodePoints.{code_point}
+use Rattle.tt_render_streams.specs.Traffic.{Traffic}
 use Rattle.tt_strike.specs.declared.layouts.Layout.{Layout}
 use Rattle.tt_strike.specs.declared.layouts.Pen.{Pen}
 use Rattle.tt_strike.specs.Defects.{IsLineDefect}
@@ -20,14 +20,15 @@ use Rattle.tt_strike.specs.Refusals.{Refused}
 use Rattle.tt_strike.specs.Strikes.{Strike, job_of}
 use Rattle.tt_strike.specs.Work.{is_bounded}
 use Rattle.tt_render_lines.specs.declared.layout_answers.ReadyLayout.{ReadyLayout}
-use Rattle.tt_render_lines.specs.declared.refusal.TextsFault.{TextsFault}
-use Rattle.tt_render_lines.specs.declared.setting.Setting.{Setting}
-use Rattle.tt_render_lines.specs.MeasureText.{face_text, font_text}
-use Rattle.tt_render_lines.specs.Printing.{Errors}
-use Rattle.tt_render_lines.specs.Reports.{report_text_of}
-use Rattle.tt_render_lines.specs.Settings.{job_by}
-use Rattle.tt_render_lines.specs.Texts.{TextAnswer, TextRefusal, answer_of, missing_tested}
-use Rattle.tt_render_lines.specs.TextsOutcome.{FontAnswers, IsNotReady}
+use Rattle.tt_render_texts.specs.declared.refusal.TextsFault.{TextsFault}
+use Rattle.tt_render_settings.specs.declared.setting.Setting.{Setting}
+use Rattle.tt_render_settings.specs.MeasureText.{face_text, font_text}
+use Rattle.tt_render_texts.specs.Printing.{Errors}
+use Rattle.tt_render_texts.specs.Reports.{report_text_of}
+use Rattle.tt_render_settings.specs.Settings.{job_by}
+use Rattle.tt_render_texts.specs.Answers.{TextAnswer}
+use Rattle.tt_render_settings.specs.Texts.{TextRefusal, answer_of, missing_tested}
+use Rattle.tt_render_settings.specs.TextsOutcome.{FontAnswers, IsNotReady}
 
 -- `picture <width> <height> baseline <rows above it>` and a line feed
 abbrev pub frame_text : Layout → List ℕ

@@ -1,15 +1,2 @@
-pub mod Help
 pub mod LayoutTexts
-pub mod LineReading
-pub mod Lines
-pub mod LinesDefects
-pub mod MeasureText
-pub mod Printing
-pub mod Products
-pub mod Readings
-pub mod Reports
-pub mod Settings
-pub mod Texts
-pub mod TextsMessages
-pub mod TextsOutcome
-pub mod Views
+pub mod Outputs

@@ -2,31 +2,30 @@
 
 ghost use Rattle.std.specs.Prelude.{◌≡◌, ◌≤◌, false, length, Ok, None, IfOk, Some};
 ghost use Rattle.tt_core.specs.Limits.{font_limit};
-ghost use Rattle.tt_render_run.specs.Outcome.{traffic_of};
-ghost use Rattle.tt_render_lines.specs.Printing.{errors_of};
-ghost use Rattle.tt_render_lines.specs.Products.{CanGoOut};
-ghost use Rattle.tt_render_lines.specs.Settings.{job_by, strike_of};
-ghost use Rattle.tt_render_lines.specs.Texts.{text_answer};
-ghost use Rattle.tt_render_lines.specs.TextsOutcome.{FontTextGives, ReadiesText, TellsOf, TextTellsDefects, TextTellsDefectsOf, FailsByStop, FindsLine, FontLinesGive, IsOfText, LinesGive, answer_view, refusal_font_fault, told, without_line};
+ghost use Rattle.tt_render_streams.specs.Traffic.{traffic_of};
+ghost use Rattle.tt_render_texts.specs.Printing.{errors_of};
+ghost use Rattle.tt_render_lines.specs.Outputs.{CanGoOut};
+ghost use Rattle.tt_render_settings.specs.Settings.{job_by, strike_of};
+ghost use Rattle.tt_render_settings.specs.Texts.{text_answer};
+ghost use Rattle.tt_render_settings.specs.TextsOutcome.{FontTextGives, TextTellsDefects, TextTellsDefectsOf, FontLinesGive, IsOfText, LinesGive, refusal_font_fault, told, without_line};
+ghost use Rattle.tt_render_lines.specs.Outputs.{ReadiesText, TellsOf, answer_view};
 ghost use Rattle.tt_line.specs.Layout.{text_glyphs};
 ghost use Rattle.tt_strike.specs.Defects.{IsRunDefect};
 ghost use Rattle.tt_strike.specs.Job.{tested};
 ghost use Rattle.tt_core.specs.Outcomes.{GivesUnless, IfTold};
-ghost use Rattle.tt_render_lines.specs.LineReading.{text_left};
-ghost use Rattle.tt_render_lines.specs.Lines.{line_drawn, line_limit, lines_budget};
-ghost use Rattle.tt_render_lines.specs.LinesDefects.{IsDefectBy, LinesTell, LinesTellDefectsOf};
-ghost use Rattle.tt_render_run.specs.Reading.{font_reader_of};
+ghost use Rattle.tt_render_settings.specs.Lines.{line_drawn};
+ghost use Rattle.tt_render_texts.specs.Lines.{line_limit};
+ghost use Rattle.tt_render_settings.specs.LinesDefects.{IsDefectBy, LinesTell, LinesTellDefectsOf};
+ghost use Rattle.tt_render_streams.specs.Reading.{font_reader_of};
 
-use crate::lines::{LINE_LIMIT, LinePlace, LineReader, NextLine};
-use crate::printing::print_text;
 use crate::products::write_output;
-use crate::refusal::{Refusal, TextsFault, texts_fault};
-use crate::setting::{Setting, test_setting};
 use crate::text_answers::{ReadyText, answer_text};
 use std::alloc::Global;
 use std::str;
-use tt_core::{JobFault, Sink, Source};
-use tt_render_run::read_font;
+use tt_core::{Sink, Source};
+use tt_render_settings::{Setting, next_line, test_setting};
+use tt_render_streams::read_font;
+use tt_render_texts::{LineReader, Refusal, TextsFault, print_text, texts_fault};
 use tt_strike::{Face, Strike, test_job};
 
 /// The answer of the one text by a font file. Errors, the first of: Font, of the tables needed for every text; those of
@@ -88,16 +87,9 @@ pub fn draw_text<R: Source, W: Sink, E: Sink>(
     }
 }
 
-/// What the lines of a call may take with `Fit::Best` before one more is drawn, by how many they are.
-pub fn lines_budget(before: u64) -> u128
-    ensures { result ≡ lines_budget before }
-{
-    10_000_000 + 4_000_000 * u128::from(before)
-}
-
 /// The answer of the line with this number, by a strike whose face is of this file. Errors, the first of: NotUtf8; those
 /// of a text. The caller puts the line into an error.
-#[tactic(auto, unfolding(crate::specs::Lines::line_drawn))]
+#[tactic(auto, unfolding(tt_render_settings::specs::Lines::line_drawn))]
 fn draw_line(
     alloc: Global,
     strike: &mut Strike,
@@ -119,36 +111,6 @@ fn draw_line(
         return Err(texts_fault(None, Refusal::NotUtf8));
     };
     answer_text(alloc, strike, file, setting, Some(number), text)
-}
-
-/// The place of the next line, if there is one. The `drawn` lines before it took `used` of the budget. Errors, the first
-/// of: Read; TextLong, of more than 16,384 bytes; WorkLarge, where those lines took more than the budget. The caller
-/// puts the line into an error.
-pub fn next_line<R: Source>(
-    reader: &mut LineReader,
-    lines: &mut R,
-    drawn: u32,
-    used: u128,
-) -> Result<Option<LinePlace>, TextsFault>
-    requires { R.has_failed lines.old ≡ false }
-    ensures outcome { FindsLine reader.new drawn used (without_line result) (text_left reader.old (R.left lines.old)) (text_left reader.new (R.left lines.new)) }
-    ensures failure { FailsByStop (R.has_failed lines.new) (without_line result) }
-{
-    let place = match reader.read_line(lines) {
-        Ok(NextLine::Line(place)) => place,
-        Ok(NextLine::Long) => return Err(texts_fault(None, Refusal::Job(JobFault::TextLong))),
-        Ok(NextLine::End) => return Ok(None),
-        Err(_) => return Err(texts_fault(None, Refusal::Read)),
-    };
-    let line = reader.line(place);
-    if line.len() > LINE_LIMIT {
-        return Err(texts_fault(None, Refusal::Job(JobFault::TextLong)));
-    }
-    let budget = lines_budget(u64::from(drawn));
-    if used > budget {
-        return Err(texts_fault(None, Refusal::Job(JobFault::WorkLarge)));
-    }
-    Ok(Some(place))
 }
 
 /// Draws the lines of a text with a strike, as `draw_lines` does. The strike's face is of this file. Returns the bytes
@@ -212,7 +174,7 @@ fn draw_lines_by<R: Source, W: Sink, E: Sink>(
 /// 16,384 bytes; WorkLarge, where the lines before it took more than their budget); NotUtf8; Font and Job of
 /// `make_picture` or `make_measure`; Missing; and Write. Many comes after 4,294,967,295 lines. Memory may come at any
 /// allocation.
-#[tactic(auto, unfolding(crate::specs::Settings::strike_of))]
+#[tactic(auto, unfolding(tt_render_settings::specs::Settings::strike_of))]
 pub fn draw_lines<F: Source, R: Source, W: Sink, E: Sink>(
     alloc: Global,
     font: &mut F,

@@ -3,19 +3,17 @@
 ghost use Rattle.std.specs.Prelude.{◌≡◌, IfOk};
 ghost use Rattle.tt_core.specs.Outcomes.{GivesUnless, IfTold};
 ghost use Rattle.tt_render_lines.specs.LayoutTexts.{IsLaidDefect, TellsLayout, layout_answer, layout_view};
-ghost use Rattle.tt_render_lines.specs.Settings.{strike_in};
-ghost use Rattle.tt_render_lines.specs.Texts.{missing_tested};
-ghost use Rattle.tt_render_lines.specs.TextsOutcome.{IsOfText, refusal_font_fault, told, without_line};
+ghost use Rattle.tt_render_settings.specs.Settings.{strike_in};
+ghost use Rattle.tt_render_settings.specs.Texts.{missing_tested};
+ghost use Rattle.tt_render_settings.specs.TextsOutcome.{IsOfText, refusal_font_fault, told, without_line};
 ghost use Rattle.tt_strike.specs.Defects.{TellsDefects};
 ghost use Rattle.tt_strike.specs.Strikes.{job_of};
 
 use crate::layout_texts::layout_text;
-use crate::refusal::TextsFault;
-use crate::setting::{Missing, Setting};
-use crate::text_answers::none_missing;
-use crate::texts_messages::Messages;
 use std::alloc::Global;
 use tt_cmap::{CharacterMap, lacking};
+use tt_render_settings::{Missing, Setting, none_missing};
+use tt_render_texts::{Messages, TextsFault};
 use tt_strike::SizedFace;
 
 /// The lines of a text, ready to be written; the reported characters without a glyph; and the report as it is printed.
@@ -27,7 +25,7 @@ pub(crate) struct ReadyLayout {
 }
 
 /// The characters of a text without a glyph that are reported. Error: Missing, the first, where they are refused.
-#[tactic(auto, unfolding(crate::specs::Texts::missing_tested))]
+#[tactic(auto, unfolding(tt_render_settings::specs::Texts::missing_tested))]
 fn missing_of(
     alloc: Global,
     cmap: &CharacterMap,

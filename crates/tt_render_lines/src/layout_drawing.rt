@@ -3,20 +3,19 @@
 ghost use Rattle.std.specs.Prelude.{◌≡◌, ◌≤◌, false, length, Ok, IfOk};
 ghost use Rattle.tt_core.specs.Limits.{font_limit};
 ghost use Rattle.tt_render_lines.specs.LayoutTexts.{FontLayoutGives, IsLayoutDefect, LayoutReadies, TellsLayout, layout_answer};
-ghost use Rattle.tt_render_lines.specs.Printing.{errors_of};
-ghost use Rattle.tt_render_lines.specs.Settings.{job_by, strike_of};
-ghost use Rattle.tt_render_lines.specs.TextsOutcome.{TextTellsDefects, TextTellsDefectsOf};
-ghost use Rattle.tt_render_run.specs.Outcome.{traffic_of};
+ghost use Rattle.tt_render_texts.specs.Printing.{errors_of};
+ghost use Rattle.tt_render_settings.specs.Settings.{job_by, strike_of};
+ghost use Rattle.tt_render_settings.specs.TextsOutcome.{TextTellsDefects, TextTellsDefectsOf};
+ghost use Rattle.tt_render_streams.specs.Traffic.{traffic_of};
 ghost use Rattle.tt_strike.specs.Job.{tested};
 
 use crate::layout_answers::{ReadyLayout, answer_layout};
-use crate::printing::print_text;
-use crate::refusal::{Refusal, TextsFault, texts_fault};
-use crate::setting::Setting;
 use std::alloc::Global;
 use tt_core::{Sink, Source};
 use tt_pbm::write_all_of;
-use tt_render_run::read_font;
+use tt_render_settings::Setting;
+use tt_render_streams::read_font;
+use tt_render_texts::{Refusal, TextsFault, print_text, texts_fault};
 use tt_strike::{Face, SizedFace, test_job};
 
 /// The answer of the one text by a font file. Errors, the first of: Font, of the tables needed for every text; those of

@@ -7,7 +7,7 @@ use crate::measure_text::first_lines;
 use std::alloc::{AllocError, Global};
 use tt_core::Reading;
 use tt_pbm::Ascii;
-use tt_render_run::push_name;
+use tt_render_streams::push_name;
 use tt_strike::{Face, Layout, Pen};
 
 /// Makes the picture's line, and that of a line of text.

@@ -1,14 +1,14 @@
 //! The measure of a text as lines of text. A line is made from its end.
 
 ghost use Rattle.std.specs.Prelude.{◌≡◌, ◌+◌, ◌≤◌, ◌++◌, length, IfOk};
-ghost use Rattle.tt_render_lines.specs.MeasureText.{box_words, character_text, face_text, font_text, fonts_in, measure_text, picture_text};
+ghost use Rattle.tt_render_settings.specs.MeasureText.{box_words, character_text, face_text, font_text, fonts_in, measure_text, picture_text};
 ghost use Rattle.tt_strike.specs.Measures.{measure_view};
 
 use std::alloc::{AllocError, Global};
 use tt_core::{Reading, u32_at};
 use tt_metrics::Metrics;
 use tt_pbm::Ascii;
-use tt_render_run::push_name;
+use tt_render_streams::push_name;
 use tt_strike::{CharacterMeasure, Face, InkBox, Measure};
 
 /// The first four bytes of a collection: 'ttcf'.
@@ -22,7 +22,7 @@ const LINE_BYTES: usize = 40;
 /// font units. Then `picture`: its width and height; `baseline`, the rows above it; `ink`, the box of all ink. Then for
 /// each unit `U+NNNN`: its glyph, the column of its origin, its advance in columns, the box of its ink. A box is its
 /// leftmost column, highest row, rightmost column and lowest row, or `none`.
-#[tactic(auto, unfolding(crate::specs::MeasureText::measure_text))]
+#[tactic(auto, unfolding(tt_render_settings::specs::MeasureText::measure_text))]
 pub(crate) fn measure_text(
     alloc: Global,
     reading: Reading,

@@ -5,8 +5,9 @@ ghost use Rattle.tt_core.specs.Outcomes.{GivesUnless, draw_font_fault};
 ghost use Rattle.tt_line.specs.Layout.{text_glyphs};
 ghost use Rattle.tt_pbm.specs.Writing.{Writes};
 ghost use Rattle.tt_picture.specs.Pictures.{IsReady, image_of};
-ghost use Rattle.tt_render_lines.specs.Products.{CanGoOut, IsMadeBy, bytes_in, cost_in, measure_by, picture_by, product_of, unfitted_in};
-ghost use Rattle.tt_render_run.specs.File.{picture_bytes};
+ghost use Rattle.tt_render_lines.specs.Outputs.{CanGoOut, bytes_in, cost_in, unfitted_in};
+ghost use Rattle.tt_render_settings.specs.Products.{IsMadeBy, measure_by, picture_by, product_of};
+ghost use Rattle.tt_render_streams.specs.File.{picture_bytes};
 ghost use Rattle.tt_strike.specs.Costs.{cost_by};
 ghost use Rattle.tt_strike.specs.Defects.{IsLineDefect, TellsDefects};
 ghost use Rattle.tt_strike.specs.Measures.{measure_view};
@@ -15,11 +16,11 @@ ghost use Rattle.tt_strike.specs.Report.{report_by};
 ghost use Rattle.tt_strike.specs.Strikes.{job_of};
 
 use crate::measure_text::measure_text;
-use crate::setting::{Product, Setting};
 use std::alloc::{AllocError, Global};
 use tt_core::Sink;
 use tt_pbm::{Cut, write_all_of};
-use tt_render_run::{Drawn, piece_for, write_picture};
+use tt_render_settings::{Product, Setting};
+use tt_render_streams::{Drawn, piece_for, write_picture};
 use tt_strike::{DrawFault, Measure, Picture, Report, Strike, Unfitted};
 
 /// A text's output, ready to be written.
@@ -55,7 +56,7 @@ impl Output {
 
 /// The picture of a text by a strike: as it is, or with `grow` enlarged so that no ink is cut. Errors: those of
 /// `Strike::line` or `Strike::grown_line`.
-#[tactic(auto, unfolding(crate::specs::Products::picture_by))]
+#[tactic(auto, unfolding(tt_render_settings::specs::Products::picture_by))]
 pub fn make_picture(
     strike: &mut Strike,
     grow: bool,
@@ -76,7 +77,7 @@ pub fn make_picture(
 }
 
 /// The measure of the picture that `make_picture` makes. Errors: those of `Strike::measure` or `Strike::grown_measure`.
-#[tactic(auto, unfolding(crate::specs::Products::measure_by))]
+#[tactic(auto, unfolding(tt_render_settings::specs::Products::measure_by))]
 pub fn make_measure(
     strike: &mut Strike,
     grow: bool,
@@ -109,7 +110,7 @@ fn picture_output(alloc: Global, picture: Picture) -> Result<Output, AllocError>
 }
 
 /// A text's output by a strike whose face is of this file. Errors: those of `make_picture` or `make_measure`.
-#[tactic(auto, unfolding(crate::specs::Products::product_of, crate::specs::Products::picture_by))]
+#[tactic(auto, unfolding(tt_render_settings::specs::Products::product_of, tt_render_settings::specs::Products::picture_by))]
 pub(crate) fn make_output(
     alloc: Global,
     strike: &mut Strike,

@@ -3,17 +3,17 @@
 ghost use Rattle.std.specs.Prelude.{◌≡◌, IfOk};
 ghost use Rattle.tt_core.specs.Outcomes.{GivesUnless, IfTold};
 ghost use Rattle.tt_line.specs.Layout.{text_glyphs};
-ghost use Rattle.tt_render_lines.specs.Products.{CanGoOut};
-ghost use Rattle.tt_render_lines.specs.Texts.{missing_tested, none_missing, text_answer};
-ghost use Rattle.tt_render_lines.specs.TextsOutcome.{IsOfText, TellsOf, answer_view, refusal_font_fault, told, without_line};
+ghost use Rattle.tt_render_lines.specs.Outputs.{CanGoOut};
+ghost use Rattle.tt_render_settings.specs.Texts.{missing_tested, text_answer};
+ghost use Rattle.tt_render_settings.specs.TextsOutcome.{IsOfText, refusal_font_fault, told, without_line};
+ghost use Rattle.tt_render_lines.specs.Outputs.{TellsOf, answer_view};
 ghost use Rattle.tt_strike.specs.Defects.{IsLineDefect, TellsDefects};
 ghost use Rattle.tt_strike.specs.Strikes.{job_of};
 
 use crate::products::{Output, make_output};
-use crate::refusal::{Refusal, TextsFault, texts_fault};
-use crate::setting::{Missing, Setting};
-use crate::texts_messages::Messages;
 use std::alloc::Global;
+use tt_render_settings::{Missing, Setting, none_missing};
+use tt_render_texts::{Messages, TextsFault};
 use tt_strike::Strike;
 
 /// The output of a text, ready to be written; the reported characters without a glyph; and the report as it is printed.
@@ -24,21 +24,9 @@ pub(crate) struct ReadyText {
     pub(crate) report: String,
 }
 
-/// The characters without a glyph, where there is none. Error: Missing, the first. The caller knows the line.
-pub fn none_missing(lacking: Vec<char>) -> Result<Vec<char>, TextsFault>
-    ensures exact { GivesUnless told (λ v. v.items) (without_line result) (none_missing lacking.items) }
-    ensures font { IfTold refusal_font_fault (without_line result) (λ _. ⊥) }
-    ensures serves { IsOfText (without_line result) }
-{
-    match lacking.first() {
-        Some(c) => Err(texts_fault(None, Refusal::Missing(*c))),
-        None => Ok(lacking),
-    }
-}
-
 /// The characters of a text without a glyph that are reported. Error: Missing, the first, where they are refused. The
 /// caller knows the line.
-#[tactic(auto, unfolding(crate::specs::Texts::missing_tested))]
+#[tactic(auto, unfolding(tt_render_settings::specs::Texts::missing_tested))]
 fn missing_of(
     alloc: Global,
     strike: &mut Strike,
@@ -59,7 +47,7 @@ fn missing_of(
 
 /// The answer of a text by a strike whose face is of this file; `number` is that of a line. Errors, the first of: those
 /// of `make_output`; Missing. The caller puts the line into an error.
-#[tactic(auto, unfolding(crate::specs::Texts::text_answer))]
+#[tactic(auto, unfolding(tt_render_settings::specs::Texts::text_answer))]
 pub(crate) fn answer_text(
     alloc: Global,
     strike: &mut Strike,

@@ -12,8 +12,8 @@ use Rattle.tt_core.specs.Limits.{font_limit}
 use Rattle.tt_core.specs.Outcomes.{font_fault, draw_font_fault, draw_job_fault}
 use Rattle.tt_core.specs.declared.draw_fault.DrawFault.{DrawFault}
 use Rattle.tt_core.specs.declared.draw_fault.DrawFault.TheVariants as draw
-use Rattle.tt_render_run.specs.declared.fault.RunFault.{RunFault}
-use Rattle.tt_render_run.specs.declared.fault.RunFault.TheVariants as run
+use Rattle.tt_render_streams.specs.declared.fault.RunFault.{RunFault}
+use Rattle.tt_render_streams.specs.declared.fault.RunFault.TheVariants as run
 use Rattle.tt_strike.specs.Job.{Job}
 use Rattle.tt_render_run.specs.Defects.{TellsDefectsOf, IsJobRefusal}
 use Rattle.tt_strike.specs.Defects.{IsFontRefusal}
@@ -21,9 +21,10 @@ use Rattle.tt_face.specs.Faces.{Face}
 use Rattle.tt_face.specs.Files.{face_with}
 use Rattle.tt_strike.specs.Refusals.{Refused, as_font, needs_font, refusal}
 use Rattle.tt_render_run.specs.Outcome.{Wanted, CallFails, IfJob, IfLarge}
-use Rattle.tt_render_run.specs.Reading.{ReadFails}
-use Rattle.tt_render_run.specs.Views.{run_fault_of_font, run_fault_of_draw}
-use Rattle.tt_render_run.proofs.Calls.{IsOfFont, IsRead, font_fails, late_job_fails, memory_fails, known_of, tells_of_known}
+use Rattle.tt_render_streams.specs.Reading.{ReadFails}
+use Rattle.tt_render_streams.specs.Views.{run_fault_of_font, run_fault_of_draw}
+use Rattle.tt_render_run.proofs.Calls.{IsOfFont, IsRead, font_fails, late_job_fails, memory_fails, tells_of_known}
+use Rattle.tt_render_streams.proofs.Known.{known_of}
 
 -- reading a font refuses no job
 pub reading_job : (e : RunFault) (before after : Option (List ℕ)) (read : Bool) (P : JobFault → Type 0)

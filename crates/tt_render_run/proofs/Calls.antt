@@ -7,8 +7,8 @@ use Rattle.tt_face.specs.declared.rules.Opening.{Opening}
 use Rattle.tt_core.specs.declared.fault.JobFault.{JobFault}
 use Rattle.tt_core.specs.Faults.{Fault}
 use Rattle.tt_core.specs.Limits.{font_limit}
-use Rattle.tt_render_run.specs.declared.fault.RunFault.{RunFault}
-use Rattle.tt_render_run.specs.declared.fault.RunFault.TheVariants as run
+use Rattle.tt_render_streams.specs.declared.fault.RunFault.{RunFault}
+use Rattle.tt_render_streams.specs.declared.fault.RunFault.TheVariants as run
 use Rattle.tt_strike.specs.Job.{Job, tested, text_tested}
 use Rattle.tt_render_run.specs.Defects.{CallTellsDefects, TellsDefectsOf}
 use Rattle.tt_render_run.specs.File.{file_pictured}
@@ -16,8 +16,8 @@ use Rattle.tt_render_run.specs.MapLines.{lines_of, map_outcome}
 use Rattle.tt_strike.specs.Refusals.{Refused, font, job, large, as_font, needs_font}
 use Rattle.tt_render_run.specs.Outcome.{of_font, Wanted, WithBytes, CallFails}
 use Rattle.tt_render_run.specs.Run.{run_outcome}
-use Rattle.tt_render_run.specs.Reading.{ReadFails}
-use Rattle.tt_render_run.proofs.Known.{consumes_all}
+use Rattle.tt_render_streams.specs.Reading.{ReadFails}
+use Rattle.tt_render_streams.proofs.Known.{consumes_all}
 
 -- the definition for a font is its result, if the font is not too large and the job passed its own tests
 pub record IsOfFont (w : Wanted) (made : List ℕ → Result (List ℕ) Refused) : Type 0 where
@@ -142,9 +142,3 @@ tells_of_known IsOne None after file result taken end tells = tt
 tells_of_known {V} IsOne (Some xs) after file result taken end tells =
     let same = consumes_all xs after file taken end in
     let P : List ℕ → Type 0 = λ all. CallTellsDefects (IsOne all) result in subst P same tells
-
--- a fact of the bytes read to the end is one of the reader's
-pub known_of : (before after : Option (List ℕ)) (file : List ℕ) (P : List ℕ → Type 0) → Consumes before after file
-    → IsAtEnd after → P file → IfSome before P
-known_of None after file P taken end holds = tt
-known_of (Some xs) after file P taken end holds = subst P (consumes_all xs after file taken end) holds

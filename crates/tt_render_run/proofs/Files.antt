@@ -2,7 +2,7 @@
 use Rattle.std.proofs.Common.{◌≡◌, ℕ, List, Option, Some, None, IfSome, Result, Ok, Err, ap, refl, sym}
 use Rattle.tt_picture.specs.Pictures.{Image}
 use Rattle.tt_strike.specs.Refusals.{Refused}
-use Rattle.tt_render_run.specs.File.{as_file, p4}
+use Rattle.tt_render_streams.specs.File.{as_file, p4}
 
 -- an image that is refused has no file
 pub no_file : (made : Result Image Refused) (told : Option Refused) → IfSome told (λ e. made ≡ Err e)

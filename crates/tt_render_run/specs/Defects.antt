@@ -7,8 +7,8 @@ use Rattle.tt_core.specs.declared.fault.JobFault.{JobFault}
 use Rattle.tt_strike.specs.Defects.{IsFontRefusal}
 use Rattle.tt_strike.specs.Job.{ByFace, Job, IsTestRefusal}
 use Rattle.tt_strike.specs.Refusals.{needs_font}
-use Rattle.tt_render_run.specs.declared.fault.RunFault.{RunFault}
-use Rattle.tt_render_run.specs.declared.fault.RunFault.TheVariants as run
+use Rattle.tt_render_streams.specs.declared.fault.RunFault.{RunFault}
+use Rattle.tt_render_streams.specs.declared.fault.RunFault.TheVariants as run
 
 -- a call that ends with Ok or Write found no defect, and a font fault in its error is one
 abbrev pub CallTellsDefects : {V : Type 0} → (Fault → Type 0) → Result V RunFault → Type 0

@@ -1,10 +1,5 @@
 pub mod Defects
 pub mod File
-pub mod Laws
 pub mod MapLines
-pub mod Messages
 pub mod Outcome
-pub mod Reading
-pub mod ReadingLaws
 pub mod Run
-pub mod Views

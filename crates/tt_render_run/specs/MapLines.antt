@@ -1,5 +1,5 @@
 -- The lines of `map`: for each unit its code points, its glyph and the glyph's advance in font units.
-use Rattle.std.specs.Prelude.{ℕ, ◌-◌, List, ◌++◌, length, replicate, flat_map, true, chars, codes, decimal, Option, Some, None, Result, Ok, ◌≡◌, refl}
+use Rattle.std.specs.Prelude.{ℕ, List, ◌++◌, flat_map, chars, codes, decimal, Option, Some, None, Result, Ok, ◌≡◌, refl}
 use Rattle.std.specs.Fmt.{digits}
 use Rattle.tt_core.specs.declared.collection.Reading.{Reading}
 use Rattle.tt_core.specs.Faults.{Fault}
@@ -11,19 +11,8 @@ use Rattle.tt_metrics.specs.Metrics.{Metrics, advance_of}
 use Rattle.tt_strike.specs.Job.{text_tested}
 use Rattle.tt_face.specs.Files.{face_by}
 use Rattle.tt_strike.specs.Refusals.{Refused, as_font}
+use Rattle.tt_render_streams.specs.CodePoints.{named}
 use Rattle.tt_render_run.specs.Outcome.{Wanted, outcome_of}
-
--- digits, with zeros in front to make at least four
-abbrev pub at_least_four : List ℕ → List ℕ
-at_least_four ds = replicate (4 - length ds) 48 ++ ds
-
--- a code point in capital hexadecimal
-abbrev pub code_point : ℕ → List ℕ
-code_point c = at_least_four (digits 16 true c)
-
--- `U+NNNN` and a blank before a text
-abbrev pub named : ℕ → List ℕ → List ℕ
-named c text = codes "U+" ++ (code_point c ++ (codes " " ++ text))
 
 -- `U+NNNN glyph advance` and a line feed
 abbrev pub line_text : ℕ → ℕ → ℕ → List ℕ
@@ -64,7 +53,3 @@ a_letter = refl
 a_letter_with_a_selector : unit_text (selected_unit 66 0xFE01) 1 256 ≡ codes "U+0042 U+FE01 1 256\n"
 unfolding digits
 a_letter_with_a_selector = refl
-
-past_the_first_plane : code_point 0x1F600 ≡ codes "1F600"
-unfolding digits
-past_the_first_plane = refl

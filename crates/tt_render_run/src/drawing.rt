@@ -5,30 +5,16 @@ ghost use Rattle.tt_core.specs.Limits.{font_limit};
 ghost use Rattle.tt_core.specs.Outcomes.{GivesUnless, IfTold, draw_font_fault, draw_job_fault};
 ghost use Rattle.tt_picture.specs.Pictures.{IsReady, image_of};
 ghost use Rattle.tt_picture.specs.Unfitted.{ListsOnce};
-ghost use Rattle.tt_render_run.specs.File.{piece_bytes};
+ghost use Rattle.tt_render_streams.specs.File.{piece_bytes};
 ghost use Rattle.tt_strike.specs.Defects.{IsFontRefusal, IsRunDefect, TellsDefects};
 ghost use Rattle.tt_strike.specs.Job.{job_view, tested, ByFace, IsJob};
 ghost use Rattle.tt_strike.specs.Picture.{pictured};
 ghost use Rattle.tt_strike.specs.Refusals.{refusal};
 ghost use Rattle.tt_strike.specs.Report.{report_of};
 
-use std::alloc::{AllocError, Global};
-use tt_pbm::HEADER_ROOM;
-use tt_strike::{DrawFault, Face, Job, Picture, Strike};
-
-/// A picture, and memory for its header and a band of its rows.
-#[derive(Drop)]
-pub struct Drawn {
-    pub picture: Picture,
-    pub piece: Vec<u8>,
-}
-
-/// Memory for the header of a picture and a band of its rows. Error: Memory.
-pub fn piece_for(alloc: Global, picture: &Picture) -> Result<Vec<u8>, AllocError>
-    ensures { IfOk result (λ v. length v.items ≡ piece_bytes picture.now) }
-{
-    vec![in alloc; 0u8; HEADER_ROOM + picture.band_bytes()]
-}
+use std::alloc::Global;
+use tt_render_streams::{Drawn, piece_for};
+use tt_strike::{DrawFault, Face, Job, Strike};
 
 /// The picture of a job by a font file, and memory for writing it. Errors, the first of: those of the tables
 /// needed for every text, by the job's reading; EmptyPicture, PictureLarge; those of loca and glyf; those of the programs; those of the glyphs

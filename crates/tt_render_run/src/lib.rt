@@ -2,18 +2,8 @@
 #![tactic(auto)]
 
 mod drawing;
-mod fault;
-pub mod laws;
 mod mapping;
-mod messages;
-mod reading;
 mod running;
-mod writing;
 
-pub use drawing::{Drawn, piece_for};
-pub use fault::RunFault;
-pub use mapping::{map, push_name};
-pub use messages::{line, status, unfitted_line};
-pub use reading::{read_after, read_font};
+pub use mapping::map;
 pub use running::run;
-pub use writing::write_picture;

@@ -1,7 +1,6 @@
 //! Writes each unit's glyph and advance as lines, by a font from a reader.
 
-ghost use Rattle.std.specs.Fmt.{digit_glyph};
-ghost use Rattle.std.specs.Prelude.{◌≡◌, ◌+◌, ◌^◌, ◌<◌, ◌≤◌, ◌∷◌, ◌++◌, true, false, length, chars, IfOk, IfSome};
+ghost use Rattle.std.specs.Prelude.{◌≡◌, ◌<◌, ◌≤◌, false, length, chars, IfOk, IfSome};
 ghost use Rattle.tt_cmap.specs.Maps.{glyph_count};
 ghost use Rattle.tt_core.specs.declared.fault.JobFault.TheVariants.{TextLong};
 ghost use Rattle.tt_core.specs.Limits.{font_limit, text_limit};
@@ -9,17 +8,17 @@ ghost use Rattle.tt_core.specs.Outcomes.{FontGives, font_fault};
 ghost use Rattle.tt_face.specs.Files.{IsFaceDefectBy};
 ghost use Rattle.tt_metrics.specs.Metrics.{glyphs_of};
 ghost use Rattle.tt_render_run.specs.Defects.{TellsDefectsOf};
-ghost use Rattle.tt_render_run.specs.MapLines.{code_point, lines_of, map_lines, map_wanted, named, unit_text};
-ghost use Rattle.tt_render_run.specs.Outcome.{CallGives, IfJob, IfLarge, traffic_of};
+ghost use Rattle.tt_render_run.specs.MapLines.{lines_of, map_lines, map_wanted, unit_text};
+ghost use Rattle.tt_render_run.specs.Outcome.{CallGives, IfJob, IfLarge};
+ghost use Rattle.tt_render_streams.specs.Traffic.{traffic_of};
 ghost use Rattle.tt_strike.specs.Defects.{TellsDefects};
 
-use crate::fault::RunFault;
-use crate::reading::read_font;
 use std::alloc::{AllocError, Global};
 use tt_cmap::{CharacterMap, KnownGlyphs, TextUnit};
 use tt_core::{FontFault, Reading, Sink, Source};
 use tt_metrics::Metrics;
 use tt_pbm::{Ascii, write_all_of};
+use tt_render_streams::{RunFault, push_name, read_font};
 use tt_strike::{Face, test_text};
 
 /// Writes a line `U+NNNN glyph advance` for each unit of the text: the code point in capital hexadecimal, the glyph's
@@ -96,45 +95,4 @@ fn make_line(line: &mut Ascii, unit: TextUnit, glyph: u16, advance: u16)
             push_name(line, unit.character);
         }
     }
-}
-
-/// Puts `U+NNNN` of a character, and a blank, before a text.
-pub fn push_name(line: &mut Ascii, c: char)
-    requires room { length line.old + 9 ≤ 160 }
-    ensures text { line.new ≡ named c line.old }
-    ensures len { length line.new ≤ length line.old + 9 }
-{
-    line.push(b' ');
-    push_code_point(line, c as u32);
-    line.push(b'+');
-    line.push(b'U');
-}
-
-/// Puts a code point before a text, with at least four digits.
-fn push_code_point(line: &mut Ascii, code: u32)
-    requires code { code < 2 ^ 24 }
-    requires room { length line.old + 6 ≤ 160 }
-    ensures text { line.new ≡ code_point code ++ line.old }
-    ensures len { length line.new ≤ length line.old + 6 }
-{
-    push_digit(line, code % 16);
-    push_digit(line, code / 16 % 16);
-    push_digit(line, code / 256 % 16);
-    push_digit(line, code / 4096 % 16);
-    if code >= 0x1_0000 {
-        push_digit(line, code / 0x1_0000 % 16);
-        if code >= 0x10_0000 {
-            push_digit(line, code / 0x10_0000);
-        }
-    }
-}
-
-/// Puts a capital hexadecimal digit before a text.
-fn push_digit(line: &mut Ascii, digit: u32)
-    requires digit { digit < 16 }
-    requires room { length line.old < 160 }
-    ensures text { line.new ≡ digit_glyph true digit ∷ line.old }
-{
-    let first = if digit < 10 { b'0' } else { b'A' - 10 };
-    line.push(first + digit as u8);
 }

@@ -4,18 +4,17 @@ ghost use Rattle.std.specs.Prelude.{◌≡◌, ◌<◌, false, length, Ok, IfOk,
 ghost use Rattle.tt_core.specs.Limits.{font_limit};
 ghost use Rattle.tt_picture.specs.Unfitted.{ListsOnce};
 ghost use Rattle.tt_render_run.specs.Defects.{IsJobRefusal, TellsDefectsOf};
-ghost use Rattle.tt_render_run.specs.Outcome.{CallGives, IfJob, IfLarge, traffic_of};
+ghost use Rattle.tt_render_run.specs.Outcome.{CallGives, IfJob, IfLarge};
+ghost use Rattle.tt_render_streams.specs.Traffic.{traffic_of};
 ghost use Rattle.tt_render_run.specs.Run.{run_wanted};
 ghost use Rattle.tt_strike.specs.Defects.{IsRunDefect};
 ghost use Rattle.tt_strike.specs.Job.{job_view};
 ghost use Rattle.tt_strike.specs.Report.{report_of};
 
-use crate::drawing::{Drawn, draw};
-use crate::fault::RunFault;
-use crate::reading::read_font;
-use crate::writing::write_picture;
+use crate::drawing::draw;
 use std::alloc::Global;
 use tt_core::{Sink, Source};
+use tt_render_streams::{Drawn, RunFault, read_font, write_picture};
 use tt_strike::{Job, Report, test_job};
 
 /// Draws a line of text and writes its picture as binary PBM (P4). A pixel is black where its centre lies on, or

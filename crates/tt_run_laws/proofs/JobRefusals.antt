@@ -21,7 +21,7 @@ use Rattle.tt_strike.specs.Refusals.{Refused, as_font, as_job, job, large, needs
 use Rattle.tt_face.specs.Faces.{Face}
 use Rattle.tt_face.specs.Files.{face_with}
 use Rattle.tt_strike.specs.Work.{chord_limit, chords_in, edges_limited, is_bounded, lays_after_glyphs, points_in, work_tested}
-use Rattle.tt_render_run.specs.File.{as_file}
+use Rattle.tt_render_streams.specs.File.{as_file}
 use Rattle.tt_render_run.specs.Run.{run_outcome}
 use Rattle.tt_render_run.proofs.Files.{no_image}
 

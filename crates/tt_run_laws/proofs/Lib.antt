@@ -1,3 +1,5 @@
 mod Runs
 mod JobRefusals
 mod Plain
+mod Made
+mod Readings

@@ -19,24 +19,28 @@ use Rattle.tt_strike.specs.Strikes.{Strike, job_of}
 use Rattle.tt_face.specs.Faces.{Face}
 use Rattle.tt_face.specs.Files.{face_with}
 use Rattle.tt_strike.specs.Work.{line_fitter}
-use Rattle.tt_render_run.specs.declared.fault.RunFault.TheVariants as run
-use Rattle.tt_render_run.specs.File.{as_file, file_pictured}
-use Rattle.tt_render_run.specs.Outcome.{SendsAll, SendsFirst, Traffic, WithBytes, of_font}
-use Rattle.tt_render_run.specs.Reading.{FontIsRead}
+use Rattle.tt_render_streams.specs.declared.fault.RunFault.TheVariants as run
+use Rattle.tt_render_streams.specs.File.{as_file}
+use Rattle.tt_render_run.specs.File.{file_pictured}
+use Rattle.tt_render_streams.specs.Traffic.{SendsAll, SendsFirst, Traffic}
+use Rattle.tt_render_run.specs.Outcome.{WithBytes, of_font}
+use Rattle.tt_render_streams.specs.Reading.{FontIsRead}
 use Rattle.tt_render_run.specs.Run.{run_outcome, run_wanted}
-use Rattle.tt_render_run.proofs.Calls.{known_of, run_refused}
-use Rattle.tt_render_lines.specs.declared.refusal.Refusal.{Refusal}
-use Rattle.tt_render_lines.specs.declared.refusal.Refusal.TheVariants as reason
-use Rattle.tt_render_lines.specs.declared.refusal.TextsFault.{TextsFault}
-use Rattle.tt_render_lines.specs.declared.setting.Missing.{Missing}
-use Rattle.tt_render_lines.specs.declared.setting.Missing.TheVariants as how
-use Rattle.tt_render_lines.specs.declared.setting.Setting.{Setting}
-use Rattle.tt_render_lines.specs.Printing.{Errors}
+use Rattle.tt_render_streams.proofs.Known.{known_of}
+use Rattle.tt_render_run.proofs.Calls.{run_refused}
+use Rattle.tt_render_texts.specs.declared.refusal.Refusal.{Refusal}
+use Rattle.tt_render_texts.specs.declared.refusal.Refusal.TheVariants as reason
+use Rattle.tt_render_texts.specs.declared.refusal.TextsFault.{TextsFault}
+use Rattle.tt_render_settings.specs.declared.setting.Missing.{Missing}
+use Rattle.tt_render_settings.specs.declared.setting.Missing.TheVariants as how
+use Rattle.tt_render_settings.specs.declared.setting.Setting.{Setting}
+use Rattle.tt_render_texts.specs.Printing.{Errors}
 use Rattle.tt_run_laws.specs.RunLaws.{GivesAsRun, PlainCallsAreRuns, PlainReportsAreRuns, PlainTextsAreRuns, bytes_of}
-use Rattle.tt_render_lines.specs.Settings.{IsPlain, job_by, strike_by, strike_of}
-use Rattle.tt_render_lines.specs.Texts.{TextAnswer, TextRefusal, answer_of, as_text, missing, missing_tested, not_utf8, refused, text_answer}
-use Rattle.tt_render_lines.specs.TextsOutcome.{IsSilent, StopsAtFont, StopsFor, TextFails, TextGives, reader_in, told}
-use Rattle.tt_render_lines.proofs.DefectLines.{if_some_more}
+use Rattle.tt_render_settings.specs.Settings.{IsPlain, job_by, strike_by, strike_of}
+use Rattle.tt_render_texts.specs.Answers.{TextAnswer}
+use Rattle.tt_render_settings.specs.Texts.{TextRefusal, answer_of, as_text, missing, missing_tested, not_utf8, refused, text_answer}
+use Rattle.tt_render_settings.specs.TextsOutcome.{IsSilent, StopsAtFont, StopsFor, TextFails, TextGives, reader_in, told}
+use Rattle.tt_render_settings.proofs.DefectLines.{if_some_more}
 use Rattle.tt_run_laws.proofs.JobRefusals.{run_late, tested_early}
 use Rattle.tt_run_laws.proofs.Runs.{ok_same, texts_are_runs}
 

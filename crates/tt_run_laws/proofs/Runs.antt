@@ -23,16 +23,19 @@ use Rattle.tt_strike.specs.Report.{line_report, report_by}
 use Rattle.tt_strike.specs.Strikes.{Strike, job_of}
 use Rattle.tt_face.specs.Faces.{Face}
 use Rattle.tt_face.specs.Files.{face_with}
-use Rattle.tt_render_lines.specs.declared.setting.Setting.{Setting}
-use Rattle.tt_render_lines.specs.Lines.{line_drawn, line_limit}
+use Rattle.tt_render_settings.specs.declared.setting.Setting.{Setting}
+use Rattle.tt_render_settings.specs.Lines.{line_drawn}
+use Rattle.tt_render_texts.specs.Lines.{line_limit}
 use Rattle.tt_render_run.specs.Outcome.{of_font}
 use Rattle.tt_render_run.specs.Run.{run_outcome}
-use Rattle.tt_render_run.specs.File.{as_file, file_pictured}
+use Rattle.tt_render_streams.specs.File.{as_file}
+use Rattle.tt_render_run.specs.File.{file_pictured}
 use Rattle.tt_render_run.proofs.Files.{file_made}
 use Rattle.tt_run_laws.specs.RunLaws.{LinesAreRuns, LinesAreTexts, TextsAreRuns, bytes_of}
-use Rattle.tt_render_lines.specs.Settings.{DrawsAsItIs, job_by, strike_by, strike_of}
-use Rattle.tt_render_lines.specs.Products.{picture_by, product_of}
-use Rattle.tt_render_lines.specs.Texts.{TextAnswer, TextRefusal, answer_of, as_text, missing_tested, not_utf8, refused, text_answer}
+use Rattle.tt_render_settings.specs.Settings.{DrawsAsItIs, job_by, strike_by, strike_of}
+use Rattle.tt_render_settings.specs.Products.{picture_by, product_of}
+use Rattle.tt_render_texts.specs.Answers.{TextAnswer}
+use Rattle.tt_render_settings.specs.Texts.{TextRefusal, answer_of, as_text, missing_tested, not_utf8, refused, text_answer}
 
 -- a text with a picture has a report
 report_is : (face : Face) (a : Job) (line : Placement) (s : Fitter) (shapes : List Shape)

@@ -8,18 +8,21 @@ use Rattle.tt_strike.specs.Job.{tested}
 use Rattle.tt_strike.specs.Refusals.{as_job, job}
 use Rattle.tt_strike.specs.Report.{report_of}
 use Rattle.tt_strike.specs.Strikes.{Strike}
-use Rattle.tt_render_lines.specs.declared.refusal.TextsFault.{TextsFault}
-use Rattle.tt_render_lines.specs.declared.setting.Missing.TheVariants as how
-use Rattle.tt_render_lines.specs.declared.setting.Setting.{Setting}
-use Rattle.tt_render_lines.specs.Lines.{line_drawn, line_limit}
-use Rattle.tt_render_lines.specs.Printing.{Errors}
-use Rattle.tt_render_run.specs.declared.fault.RunFault.{RunFault}
-use Rattle.tt_render_run.specs.Outcome.{CallFails, CallGives, Traffic, Wanted}
+use Rattle.tt_render_texts.specs.declared.refusal.TextsFault.{TextsFault}
+use Rattle.tt_render_settings.specs.declared.setting.Missing.TheVariants as how
+use Rattle.tt_render_settings.specs.declared.setting.Setting.{Setting}
+use Rattle.tt_render_settings.specs.Lines.{line_drawn}
+use Rattle.tt_render_texts.specs.Lines.{line_limit}
+use Rattle.tt_render_texts.specs.Printing.{Errors}
+use Rattle.tt_render_streams.specs.declared.fault.RunFault.{RunFault}
+use Rattle.tt_render_run.specs.Outcome.{CallFails, CallGives, Wanted}
+use Rattle.tt_render_streams.specs.Traffic.{Traffic}
 use Rattle.tt_render_run.specs.Run.{run_outcome, run_wanted}
-use Rattle.tt_render_lines.specs.Settings.{DrawsAsItIs, IsPlain, job_by, strike_of}
-use Rattle.tt_render_lines.specs.Texts.{TextAnswer, TextRefusal, as_text, missing, missing_tested, refused, text_answer}
-use Rattle.tt_render_lines.specs.TextsOutcome.{FontTextGives}
-use Rattle.tt_render_lines.specs.Views.{before_lines, refusal_of_run}
+use Rattle.tt_render_settings.specs.Settings.{DrawsAsItIs, IsPlain, job_by, strike_of}
+use Rattle.tt_render_texts.specs.Answers.{TextAnswer}
+use Rattle.tt_render_settings.specs.Texts.{TextRefusal, as_text, missing, missing_tested, refused, text_answer}
+use Rattle.tt_render_settings.specs.TextsOutcome.{FontTextGives}
+use Rattle.tt_render_texts.specs.Views.{before_lines, refusal_of_run}
 
 -- the bytes of an answer, or its refusal
 abbrev pub bytes_of : Result TextAnswer TextRefusal → Result (List ℕ) TextRefusal

@@ -26,7 +26,7 @@ use Rattle.tt_picture.specs.Pixels.{Shape}
 use Rattle.tt_strike.specs.Refusals.{as_job, job}
 use Rattle.tt_face.specs.Faces.{Face}
 use Rattle.tt_picture.specs.declared.ink_box.InkBox.{InkBox}
-use Rattle.tt_strike.proofs.Larger.{first_of}
+use Rattle.tt_strike.proofs.FirstShape.{first_of}
 use Rattle.tt_picture.proofs.Among.{of_same_glyphs}
 use Rattle.tt_picture.proofs.Standings.{counts_from_pen, filling_from_pen}
 

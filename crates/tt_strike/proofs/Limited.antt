@@ -17,7 +17,7 @@ use Rattle.tt_picture.specs.Pixels.{Shape}
 use Rattle.tt_picture.specs.Shapes.{chords_with, crossings_in, edges_at, filled_at, filled_by, filling_crossings, glyph_shape}
 use Rattle.tt_picture.proofs.Standings.{counts_from_pen, filling_from_pen}
 use Rattle.tt_scan_dropouts.specs.Counted.{edges_counted}
-use Rattle.tt_strike.proofs.Larger.{first_of}
+use Rattle.tt_strike.proofs.FirstShape.{first_of}
 use Rattle.tt_strike.specs.Refusals.{as_job, job}
 use Rattle.tt_strike.specs.Work.{chord_limit, crossings_allowed, edges_limited, is_bounded, work_tested}
 

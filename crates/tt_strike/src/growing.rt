@@ -12,11 +12,11 @@ use tt_picture::InkBox;
 
 /// How many columns and rows are added on each side of a picture.
 #[derive(Clone, Copy)]
-pub(crate) struct Sides {
-    pub(crate) left: u64,
-    pub(crate) top: u64,
-    pub(crate) right: u64,
-    pub(crate) bottom: u64,
+pub struct Sides {
+    pub left: u64,
+    pub top: u64,
+    pub right: u64,
+    pub bottom: u64,
 }
 
 /// How far a place lies before the first one.

@@ -9,7 +9,6 @@ mod having;
 mod inked;
 mod job;
 mod laid;
-pub mod laws;
 mod laying;
 mod layouts;
 mod line_box;
@@ -26,7 +25,7 @@ mod strike;
 mod work;
 
 pub use distinct_glyphs::{DistinctGlyphs, distinct};
-pub use growing::grown;
+pub use growing::{Sides, grown};
 pub use inked::InkedGlyphs;
 pub use job::{Job, test_job, test_margin, test_text};
 pub use laid::Laid;

@@ -9,7 +9,8 @@ use tt_core::{Device, Reading};
 use tt_face::Opening;
 use tt_program_decisions::{GLYPHS_KEPT, Request, fit_named, missing_named, perform};
 use tt_program_words::DRAW;
-use tt_render_lines::{Setting, fit_reading};
+use tt_render_settings::Setting;
+use tt_render_texts::fit_reading;
 use tt_test_words::Line;
 
 /// The font, and how it is read and the answer is taken.

@@ -1,5 +1,5 @@
 use Rattle.std.proofs.lemmas.Result.{err_from_is_err_and}
-use Rattle.tt_render_lines.proofs.OneText.{output_serves, output_tells}
+use Rattle.tt_render_settings.proofs.OneText.{output_serves, output_tells}
 use Rattle.tt_bitmap_font.specs.declared.answers.ReadyFile.{ReadyFile}
 use Rattle.tt_bitmap_font.specs.FontFiles.{IsGlyphsDefect}
 use Rattle.tt_bitmap_font.proofs.Files.{answer_made, bitmaps_stop}

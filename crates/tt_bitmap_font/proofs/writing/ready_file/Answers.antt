@@ -1,8 +1,8 @@
 use Rattle.std.proofs.Common.{inl, refl}
 use Rattle.std.proofs.lemmas.Result.{err_from_is_err_and}
-use Rattle.tt_render_lines.proofs.FontLines.{face_file, font_opened, font_refused}
-use Rattle.tt_render_lines.proofs.OneText.{none_in_file, text_stops, text_tells}
-use Rattle.tt_render_lines.specs.Settings.{strike_by, strike_of}
+use Rattle.tt_render_settings.proofs.FontLines.{face_file, font_opened, font_refused}
+use Rattle.tt_render_settings.proofs.OneText.{none_in_file, text_stops, text_tells}
+use Rattle.tt_render_settings.specs.Settings.{strike_by, strike_of}
 use Rattle.tt_bitmap_font.specs.Characters.{file_glyphs}
 use Rattle.tt_bitmap_font.specs.declared.answers.ReadyFile.{ReadyFile}
 use Rattle.tt_bitmap_font.specs.FontFiles.{bdf_outcome, setting_of}

@@ -1,8 +1,8 @@
 use Rattle.std.proofs.Common.{◌≡◌, ◌∙◌, ap, ℕ, List, Ok, refl}
 use Rattle.tt_face.specs.declared.rules.Opening.{Opening}
 use Rattle.tt_fit.specs.declared.programs.Fit.{Fit}
-use Rattle.tt_render_lines.specs.declared.setting.Setting.{Setting}
-use Rattle.tt_render_lines.specs.Settings.{job_by, plain_setting}
+use Rattle.tt_render_settings.specs.declared.setting.Setting.{Setting}
+use Rattle.tt_render_settings.specs.Settings.{job_by, plain_setting}
 use Rattle.tt_strike.specs.Job.{Job}
 use Rattle.tt_c_calls.specs.declared.asked.CJob.{CJob}
 use Rattle.tt_c_calls.specs.Asked.{asked, fit_asked, job_opening, text_asked}

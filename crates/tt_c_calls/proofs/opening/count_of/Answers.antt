@@ -1,4 +1,4 @@
-use Rattle.tt_render_lines.proofs.FirstFaces.{count-stands, count-whole}
+use Rattle.tt_render_settings.proofs.FirstFaces.{count-stands, count-whole}
 use Rattle.tt_c_calls.proofs.opening.count_of.Goals as goal
 
 pub returns-in-Ok-clause-defects : goal.returns-in-Ok-clause-defects

@@ -10,7 +10,7 @@ use Rattle.tt_c_calls.specs.declared.fault.CallFault.{CallFault}
 use Rattle.tt_c_calls.specs.Asked.{IsAskedDefect, asked, grows, job_opening}
 use Rattle.tt_c_calls.specs.Fonts.{opened_wanted}
 use Rattle.tt_c_calls.specs.Pictures.{IsPictureOf, picture_wanted}
-use Rattle.tt_render_lines.specs.Products.{IsMadeBy, picture_by}
+use Rattle.tt_render_settings.specs.Products.{IsMadeBy, picture_by}
 use Rattle.tt_c_calls.specs.Refusals.{as_call, call_of_draw, call_refusal}
 use Rattle.tt_c_calls.proofs.Answered.{draw_refused, draw_tells, drawn_too, first_stops}
 use Rattle.tt_c_calls.proofs.AskedTables.{asked_defects, asked_tells, face_defects, face_opened, of_tables}

@@ -1,4 +1,4 @@
-use Rattle.tt_render_run.specs.Messages.{line_of}
+use Rattle.tt_render_streams.specs.Messages.{line_of}
 use Rattle.tt_program_decisions.proofs.telling.tell.Goals as goal
 
 pub returns-in-Err-clause-told : goal.returns-in-Err-clause-told

@@ -1,5 +1,5 @@
 use Rattle.std.proofs.Common.{◌≡◌, false, rules}
-use Rattle.tt_render_lines.specs.TextsMessages.{texts_line_of}
+use Rattle.tt_render_texts.specs.TextsMessages.{texts_line_of}
 use Rattle.tt_program_decisions.proofs.telling_texts.tell_texts.Goals as goal
 
 pub returns-else-failed-clause-told : goal.returns-else-failed-clause-told

@@ -3,10 +3,10 @@ use Rattle.std.proofs.lemmas.Result.{err_from_is_err_and}
 use Rattle.tt_label.specs.Label.{label_glyphs}
 use Rattle.tt_render.specs.declared.label_answers.ReadyLabel.{ReadyLabel}
 use Rattle.tt_render.specs.Labels.{label_answer, label_notes}
-use Rattle.tt_render_lines.specs.LinesDefects.{IsTextDefect}
-use Rattle.tt_render_lines.specs.Settings.{job_by, strike_by, strike_of}
-use Rattle.tt_render_lines.proofs.FontLines.{face_file, font_opened, font_refused}
-use Rattle.tt_render_lines.proofs.OneText.{none_in_file, strike_stops, strike_tells, text_stops, text_tells}
+use Rattle.tt_render_settings.specs.LinesDefects.{IsTextDefect}
+use Rattle.tt_render_settings.specs.Settings.{job_by, strike_by, strike_of}
+use Rattle.tt_render_settings.proofs.FontLines.{face_file, font_opened, font_refused}
+use Rattle.tt_render_settings.proofs.OneText.{none_in_file, strike_stops, strike_tells, text_stops, text_tells}
 use Rattle.tt_render.proofs.LabelLines.{most_aside}
 use Rattle.tt_render.proofs.label_drawing.draw.Goals as goal
 

@@ -1,16 +1,16 @@
 use Rattle.std.proofs.Common.{refl, List, Ok, Err, inl, subst}
 use Rattle.tt_label.specs.Label.{label_glyphs}
 use Rattle.tt_render.specs.Labels.{FileLabelsGive, HintsBy}
-use Rattle.tt_render_lines.specs.LinesDefects.{LinesTellDefects}
-use Rattle.tt_render_run.specs.Outcome.{traffic_of}
-use Rattle.tt_render_lines.specs.Printing.{errors_of}
-use Rattle.tt_render_run.specs.Reading.{FontIsRead, FontIsUnread, font_reader_of}
-use Rattle.tt_render_lines.specs.Settings.{strike_of}
-use Rattle.tt_render_run.proofs.Calls.{known_of}
-use Rattle.tt_render_lines.proofs.DefectLines.{reading_tells, setting_tells}
-use Rattle.tt_render_lines.proofs.FontLines.{idle, reading_stops}
+use Rattle.tt_render_settings.specs.LinesDefects.{LinesTellDefects}
+use Rattle.tt_render_streams.specs.Traffic.{traffic_of}
+use Rattle.tt_render_texts.specs.Printing.{errors_of}
+use Rattle.tt_render_streams.specs.Reading.{FontIsRead, FontIsUnread, font_reader_of}
+use Rattle.tt_render_settings.specs.Settings.{strike_of}
+use Rattle.tt_render_streams.proofs.Known.{known_of}
+use Rattle.tt_render_settings.proofs.DefectLines.{reading_tells, setting_tells}
+use Rattle.tt_render_settings.proofs.FontLines.{idle, reading_stops}
 use Rattle.tt_render.proofs.LabelCalls.{by_reader, if_some_all, reading_hints}
-use Rattle.tt_render_lines.proofs.Printed.{keeps_itself}
+use Rattle.tt_render_texts.proofs.Printed.{keeps_itself}
 use Rattle.tt_render.proofs.label_drawing.draw_labels.Goals as goal
 
 pub returns-in-Err-clause-outcome : goal.returns-in-Err-clause-outcome

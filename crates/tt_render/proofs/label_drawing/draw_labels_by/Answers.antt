@@ -4,18 +4,18 @@ use Rattle.tt_label.specs.Label.{label_glyphs}
 use Rattle.tt_strike.specs.Strikes.{Strike}
 use Rattle.tt_render.specs.declared.label_answers.ReadyLabel.{ReadyLabel}
 use Rattle.tt_render.specs.Labels.{label_notes, label_view, line_labelled}
-use Rattle.tt_render_lines.specs.LineReading.{held, line_at, text_left}
-use Rattle.tt_render_lines.specs.Lines.{lines_limit}
-use Rattle.tt_render_lines.specs.LinesDefects.{IsDefectBy}
-use Rattle.tt_render_run.specs.Outcome.{traffic_of}
-use Rattle.tt_render_lines.specs.Printing.{PrintsBehind, errors_of}
-use Rattle.tt_render_lines.specs.Reports.{told_of}
-use Rattle.tt_render_lines.specs.TextsOutcome.{refusal_font_fault}
-use Rattle.tt_render_lines.proofs.DefectLines.{begun_tells, next_tells, stop_tells}
-use Rattle.tt_render_lines.proofs.DrawnLines.{SoFar, all_drawn, drawn_too, kept_alone, many_sent, none_so_far, one_more, reader_at_end, some_sent, whole_text}
+use Rattle.tt_render_texts.specs.LineReading.{held, line_at, text_left}
+use Rattle.tt_render_settings.specs.Lines.{lines_limit}
+use Rattle.tt_render_settings.specs.LinesDefects.{IsDefectBy}
+use Rattle.tt_render_streams.specs.Traffic.{traffic_of}
+use Rattle.tt_render_texts.specs.Printing.{PrintsBehind, errors_of}
+use Rattle.tt_render_texts.specs.Reports.{told_of}
+use Rattle.tt_render_settings.specs.TextsOutcome.{refusal_font_fault}
+use Rattle.tt_render_settings.proofs.DefectLines.{begun_tells, next_tells, stop_tells}
+use Rattle.tt_render_settings.proofs.DrawnLines.{SoFar, all_drawn, drawn_too, kept_alone, many_sent, none_so_far, one_more, reader_at_end, some_sent, whole_text}
 use Rattle.tt_render.proofs.LabelLines.{labelled_alike, long_label}
-use Rattle.tt_render_lines.proofs.StoppedLines.{cut_sent, stopped_before, stopped_in}
-use Rattle.tt_render_lines.proofs.Printed.{keeps_itself}
+use Rattle.tt_render_settings.proofs.StoppedLines.{cut_sent, stopped_before, stopped_in}
+use Rattle.tt_render_texts.proofs.Printed.{keeps_itself}
 use Rattle.tt_render.proofs.label_drawing.draw_labels_by.Goals as goal
 
 pub returns-in_err-reader-clause-outcome : goal.returns-in_err-reader-clause-outcome

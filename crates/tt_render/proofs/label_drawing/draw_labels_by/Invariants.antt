@@ -1,8 +1,8 @@
 use Rattle.std.proofs.Common.{◌≡◌, ◌*◌, ◌≤◌, false}
 use Rattle.tt_render.specs.Labels.{line_labelled}
-use Rattle.tt_render_lines.specs.LineReading.{text_left}
-use Rattle.tt_render_lines.specs.Printing.{errors_of}
-use Rattle.tt_render_lines.proofs.DrawnLines.{SoFar}
+use Rattle.tt_render_texts.specs.LineReading.{text_left}
+use Rattle.tt_render_texts.specs.Printing.{errors_of}
+use Rattle.tt_render_settings.proofs.DrawnLines.{SoFar}
 use Rattle.tt_render.proofs.label_drawing.draw_labels_by.Given as goal
 
 -- the earlier lines were written with their reports, and the remaining text has the others

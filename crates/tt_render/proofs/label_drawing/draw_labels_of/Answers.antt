@@ -2,9 +2,9 @@ use Rattle.std.proofs.Common.{Some, ap, inl, inr}
 use Rattle.std.proofs.lemmas.Result.{err_from_is_err_and}
 use Rattle.tt_label.specs.Label.{label_glyphs}
 use Rattle.tt_render.specs.Labels.{label_notes}
-use Rattle.tt_render_lines.specs.Settings.{strike_by, strike_of}
-use Rattle.tt_render_lines.proofs.DefectLines.{lines_tell, strike_tells}
-use Rattle.tt_render_lines.proofs.FontLines.{face_file, font_opened, font_refused, idle}
+use Rattle.tt_render_settings.specs.Settings.{strike_by, strike_of}
+use Rattle.tt_render_settings.proofs.DefectLines.{lines_tell, strike_tells}
+use Rattle.tt_render_settings.proofs.FontLines.{face_file, font_opened, font_refused, idle}
 use Rattle.tt_render.proofs.LabelCalls.{strike_unopened}
 use Rattle.tt_render.proofs.label_drawing.draw_labels_of.Goals as goal
 

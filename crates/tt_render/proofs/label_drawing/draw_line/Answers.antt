@@ -1,5 +1,5 @@
-use Rattle.tt_render_lines.specs.TextsOutcome.{without_line}
-use Rattle.tt_render_lines.proofs.DefectLines.{told_of_text}
+use Rattle.tt_render_settings.specs.TextsOutcome.{without_line}
+use Rattle.tt_render_settings.proofs.DefectLines.{told_of_text}
 use Rattle.tt_render.proofs.LabelLines.{label_of_no_text, label_of_text}
 use Rattle.tt_render.proofs.label_drawing.draw_line.Goals as goal
 

@@ -2,10 +2,10 @@ use Rattle.std.proofs.Common.{◌∙◌, inl, refl}
 use Rattle.std.proofs.lemmas.Result.{err_from_is_err_and}
 use Rattle.tt_line.specs.Layout.{text_glyphs}
 use Rattle.tt_render_lines.specs.declared.text_answers.ReadyText.{ReadyText}
-use Rattle.tt_render_lines.specs.Settings.{job_by, strike_by, strike_of}
-use Rattle.tt_render_lines.specs.Texts.{text_answer}
-use Rattle.tt_render_lines.proofs.FontLines.{face_file, font_opened, font_refused}
-use Rattle.tt_render_lines.proofs.OneText.{most_aside, none_in_file, strike_stops, strike_tells, text_stops, text_tells}
+use Rattle.tt_render_settings.specs.Settings.{job_by, strike_by, strike_of}
+use Rattle.tt_render_settings.specs.Texts.{text_answer}
+use Rattle.tt_render_settings.proofs.FontLines.{face_file, font_opened, font_refused}
+use Rattle.tt_render_settings.proofs.OneText.{most_aside, none_in_file, strike_stops, strike_tells, text_stops, text_tells}
 use Rattle.tt_render_lines.proofs.drawing.draw.Goals as goal
 use Rattle.tt_strike.specs.Defects.{IsRunDefect}
 

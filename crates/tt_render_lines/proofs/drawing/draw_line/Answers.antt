@@ -1,6 +1,6 @@
-use Rattle.tt_render_lines.specs.TextsOutcome.{without_line}
-use Rattle.tt_render_lines.proofs.DefectLines.{told_of_text}
-use Rattle.tt_render_lines.proofs.DrawnLines.{line_of_no_text, line_of_text}
+use Rattle.tt_render_settings.specs.TextsOutcome.{without_line}
+use Rattle.tt_render_settings.proofs.DefectLines.{told_of_text}
+use Rattle.tt_render_settings.proofs.DrawnLines.{line_of_no_text, line_of_text}
 use Rattle.tt_render_lines.proofs.drawing.draw_line.Goals as goal
 
 pub returns-in_default-clause-exact : goal.returns-in_default-clause-exact

@@ -1,14 +1,14 @@
 use Rattle.std.proofs.Common.{ℕ, List, ap, inl, inr, subst}
 use Rattle.std.proofs.lemmas.Result.{err_from_is_err_and}
 use Rattle.tt_line.specs.Layout.{text_glyphs}
-use Rattle.tt_render_lines.specs.LinesDefects.{LinesTellDefects}
-use Rattle.tt_render_run.specs.Reading.{FontIsRead, FontIsUnread, font_reader_of}
-use Rattle.tt_render_lines.specs.Settings.{strike_by, strike_of}
-use Rattle.tt_render_run.proofs.Calls.{known_of}
-use Rattle.tt_render_lines.proofs.DrawnLines.{kept_within}
-use Rattle.tt_render_lines.proofs.DefectLines.{lines_tell, reading_tells, setting_tells, strike_tells}
-use Rattle.tt_render_lines.proofs.FontLines.{face_file, font_opened, font_refused, idle, reading_stops, strike_stops}
-use Rattle.tt_render_lines.proofs.Printed.{keeps_itself}
+use Rattle.tt_render_settings.specs.LinesDefects.{LinesTellDefects}
+use Rattle.tt_render_streams.specs.Reading.{FontIsRead, FontIsUnread, font_reader_of}
+use Rattle.tt_render_settings.specs.Settings.{strike_by, strike_of}
+use Rattle.tt_render_streams.proofs.Known.{known_of}
+use Rattle.tt_render_settings.proofs.DrawnLines.{kept_within}
+use Rattle.tt_render_settings.proofs.DefectLines.{lines_tell, reading_tells, setting_tells, strike_tells}
+use Rattle.tt_render_settings.proofs.FontLines.{face_file, font_opened, font_refused, idle, reading_stops, strike_stops}
+use Rattle.tt_render_texts.proofs.Printed.{keeps_itself}
 use Rattle.tt_render_lines.proofs.drawing.draw_lines.Goals as goal
 use Rattle.tt_face.specs.Files.{IsFaceDefectBy}
 use Rattle.tt_strike.specs.Strikes.{Strike}

@@ -3,17 +3,18 @@ use Rattle.std.proofs.lemmas.Result.{err_from_is_err_and}
 use Rattle.tt_line.specs.Layout.{text_glyphs}
 use Rattle.tt_strike.specs.Strikes.{Strike}
 use Rattle.tt_render_lines.specs.declared.text_answers.ReadyText.{ReadyText}
-use Rattle.tt_render_lines.specs.LineReading.{held, line_at, text_left}
-use Rattle.tt_render_lines.specs.Lines.{line_drawn, lines_limit}
-use Rattle.tt_render_lines.specs.LinesDefects.{IsDefectBy}
-use Rattle.tt_render_run.specs.Outcome.{traffic_of}
-use Rattle.tt_render_lines.specs.Printing.{PrintsBehind, errors_of}
-use Rattle.tt_render_lines.specs.Reports.{told_of}
-use Rattle.tt_render_lines.specs.TextsOutcome.{answer_view, refusal_font_fault}
-use Rattle.tt_render_lines.proofs.DefectLines.{begun_tells, next_tells, stop_tells}
-use Rattle.tt_render_lines.proofs.DrawnLines.{SoFar, all_drawn, drawn_alike, drawn_too, kept_alone, long_line, many_sent, none_so_far, one_more, reader_at_end, same_most, some_sent, whole_text}
-use Rattle.tt_render_lines.proofs.StoppedLines.{cut_sent, stopped_before, stopped_in}
-use Rattle.tt_render_lines.proofs.Printed.{keeps_itself}
+use Rattle.tt_render_texts.specs.LineReading.{held, line_at, text_left}
+use Rattle.tt_render_settings.specs.Lines.{line_drawn, lines_limit}
+use Rattle.tt_render_settings.specs.LinesDefects.{IsDefectBy}
+use Rattle.tt_render_streams.specs.Traffic.{traffic_of}
+use Rattle.tt_render_texts.specs.Printing.{PrintsBehind, errors_of}
+use Rattle.tt_render_texts.specs.Reports.{told_of}
+use Rattle.tt_render_lines.specs.Outputs.{answer_view}
+use Rattle.tt_render_settings.specs.TextsOutcome.{refusal_font_fault}
+use Rattle.tt_render_settings.proofs.DefectLines.{begun_tells, next_tells, stop_tells}
+use Rattle.tt_render_settings.proofs.DrawnLines.{SoFar, all_drawn, drawn_alike, drawn_too, kept_alone, long_line, many_sent, none_so_far, one_more, reader_at_end, same_most, some_sent, whole_text}
+use Rattle.tt_render_settings.proofs.StoppedLines.{cut_sent, stopped_before, stopped_in}
+use Rattle.tt_render_texts.proofs.Printed.{keeps_itself}
 use Rattle.tt_render_lines.proofs.drawing.draw_lines_by.Goals as goal
 
 pub returns-in_err-reader-clause-outcome : goal.returns-in_err-reader-clause-outcome

@@ -1,7 +1,7 @@
 use Rattle.std.proofs.lemmas.Result.{err_from_is_err_and}
 use Rattle.tt_render_lines.specs.declared.layout_answers.ReadyLayout.{ReadyLayout}
-use Rattle.tt_render_lines.specs.Settings.{strike_in}
-use Rattle.tt_render_lines.proofs.OneText.{output_serves}
+use Rattle.tt_render_settings.specs.Settings.{strike_in}
+use Rattle.tt_render_settings.proofs.OneText.{output_serves}
 use Rattle.tt_render_lines.proofs.LayoutCalls.{lines_stop, made_tell, none_made, stops_at_pens}
 use Rattle.tt_strike.specs.Strikes.{job_of}
 use Rattle.tt_render_lines.proofs.layout_answers.answer_layout.Goals as goal

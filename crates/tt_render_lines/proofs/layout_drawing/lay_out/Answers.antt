@@ -4,10 +4,10 @@ use Rattle.tt_core.specs.declared.draw_fault.DrawFault.TheVariants as draw
 use Rattle.tt_strike.specs.Refusals.{as_job}
 use Rattle.tt_render_lines.specs.declared.layout_answers.ReadyLayout.{ReadyLayout}
 use Rattle.tt_render_lines.specs.LayoutTexts.{layout_answer}
-use Rattle.tt_render_lines.specs.Settings.{job_by, strike_by, strike_of}
-use Rattle.tt_render_lines.proofs.FontLines.{face_file, font_opened, font_refused}
+use Rattle.tt_render_settings.specs.Settings.{job_by, strike_by, strike_of}
+use Rattle.tt_render_settings.proofs.FontLines.{face_file, font_opened, font_refused}
 use Rattle.tt_render_lines.proofs.LayoutCalls.{layout_tells, none_by_layout}
-use Rattle.tt_render_lines.proofs.OneText.{strike_stops, text_stops}
+use Rattle.tt_render_settings.proofs.OneText.{strike_stops, text_stops}
 use Rattle.tt_render_lines.proofs.layout_drawing.lay_out.Goals as goal
 
 pub returns-in_err-face-clause-outcome : goal.returns-in_err-face-clause-outcome

@@ -1,18 +1,18 @@
 use Rattle.std.proofs.Common.{◌≡◌, ℕ, List, Ok, Err, inl, subst}
 use Rattle.std.proofs.lemmas.Result.{err_from_is_err_and}
-use Rattle.tt_render_lines.specs.declared.refusal.Refusal.TheVariants as reason
-use Rattle.tt_render_run.specs.Outcome.{traffic_of}
+use Rattle.tt_render_texts.specs.declared.refusal.Refusal.TheVariants as reason
+use Rattle.tt_render_streams.specs.Traffic.{traffic_of}
 use Rattle.tt_render_lines.specs.LayoutTexts.{IsLayoutDefect, LayoutReadies, layout_answer, layout_view}
-use Rattle.tt_render_lines.specs.Printing.{errors_of}
-use Rattle.tt_render_run.specs.Reading.{font_reader_of}
-use Rattle.tt_render_lines.specs.Settings.{job_by, strike_of}
-use Rattle.tt_render_lines.specs.TextsOutcome.{StopsAtFont, TextTellsDefects}
-use Rattle.tt_render_lines.specs.Views.{before_lines}
+use Rattle.tt_render_texts.specs.Printing.{errors_of}
+use Rattle.tt_render_streams.specs.Reading.{font_reader_of}
+use Rattle.tt_render_settings.specs.Settings.{job_by, strike_of}
+use Rattle.tt_render_settings.specs.TextsOutcome.{StopsAtFont, TextTellsDefects}
+use Rattle.tt_render_texts.specs.Views.{before_lines}
 use Rattle.tt_strike.specs.Job.{Job, tested}
-use Rattle.tt_render_run.proofs.Calls.{known_of}
-use Rattle.tt_render_lines.proofs.FontLines.{reading_stops}
-use Rattle.tt_render_lines.proofs.OneText.{job_tells, reading_tells, silent, text_cut, text_fails, text_written}
-use Rattle.tt_render_lines.proofs.Printed.{keeps_itself}
+use Rattle.tt_render_streams.proofs.Known.{known_of}
+use Rattle.tt_render_settings.proofs.FontLines.{reading_stops}
+use Rattle.tt_render_settings.proofs.OneText.{job_tells, reading_tells, silent, text_cut, text_fails, text_written}
+use Rattle.tt_render_texts.proofs.Printed.{keeps_itself}
 use Rattle.tt_render_lines.proofs.layout_drawing.write_layout.Goals as goal
 
 pub returns-in_err-test_job-clause-outcome : goal.returns-in_err-test_job-clause-outcome

@@ -1,7 +1,7 @@
 use Rattle.std.proofs.Common.{◌≡◌, ◌++◌, ◌∙◌, sym, flat_map, append_assoc, arith}
 use Rattle.std.proofs.lemmas.List.{append-nil, at_drop_all, at_drop_more}
 use Rattle.tt_render_lines.specs.LayoutTexts.{pen_text, size_text}
-use Rattle.tt_render_lines.specs.MeasureText.{face_text, font_text}
+use Rattle.tt_render_settings.specs.MeasureText.{face_text, font_text}
 use Rattle.tt_render_lines.proofs.LayoutCalls.{append_pens, no_pen}
 use Rattle.tt_render_lines.proofs.layout_texts.layout_text.Goals as goal
 

@@ -1,6 +1,6 @@
 use Rattle.std.proofs.Common.{◌≡◌, ◌++◌, drop, flat_map}
 use Rattle.tt_render_lines.specs.LayoutTexts.{pen_text, size_text}
-use Rattle.tt_render_lines.specs.MeasureText.{face_text, font_text}
+use Rattle.tt_render_settings.specs.MeasureText.{face_text, font_text}
 use Rattle.tt_render_lines.proofs.layout_texts.layout_text.Given as goal
 
 -- the lines so far, and then those of the remaining pens, are all lines

@@ -5,7 +5,7 @@ use Rattle.std.proofs.lemmas.List.{flat_map_more, map-append}
 use Rattle.tt_cmap.specs.declared.units.TextUnit.{TextUnit}
 use Rattle.tt_cmap.specs.Maps.{units_by}
 use Rattle.tt_render_lines.proofs.MeasureLines.{append_all}
-use Rattle.tt_render_lines.specs.MeasureText.{character_text, face_text, font_text, picture_text}
+use Rattle.tt_render_settings.specs.MeasureText.{character_text, face_text, font_text, picture_text}
 use Rattle.tt_strike.specs.declared.measuring.CharacterMeasure.{CharacterMeasure}
 use Rattle.tt_strike.specs.Measures.{measure_view}
 use Rattle.tt_render_lines.proofs.measure_text.measure_text.Goals as goal

@@ -1,5 +1,5 @@
 use Rattle.std.proofs.Common.{◌≡◌, ◌++◌, map}
-use Rattle.tt_render_lines.specs.MeasureText.{face_text, font_text, picture_text, unit_lines}
+use Rattle.tt_render_settings.specs.MeasureText.{face_text, font_text, picture_text, unit_lines}
 use Rattle.tt_strike.specs.Measures.{measure_view}
 use Rattle.tt_render_lines.proofs.measure_text.measure_text.Given as goal
 

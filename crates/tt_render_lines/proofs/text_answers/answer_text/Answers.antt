@@ -1,6 +1,6 @@
 use Rattle.std.proofs.lemmas.Result.{err_from_is_err_and}
 use Rattle.tt_render_lines.specs.declared.text_answers.ReadyText.{ReadyText}
-use Rattle.tt_render_lines.proofs.OneText.{output_serves, output_stops, output_tells}
+use Rattle.tt_render_settings.proofs.OneText.{output_serves, output_stops, output_tells}
 use Rattle.tt_render_lines.proofs.text_answers.answer_text.Goals as goal
 
 pub returns-in_err-output-clause-exact : goal.returns-in_err-output-clause-exact

@@ -6,7 +6,8 @@ use Rattle.tt_strike.specs.Defects.{IsRunDefect}
 use Rattle.tt_strike.specs.Picture.{pictured}
 use Rattle.tt_strike.specs.Refusals.{refusal}
 use Rattle.tt_render_run.specs.Run.{run_wanted}
-use Rattle.tt_render_run.specs.File.{as_file, file_pictured, picture_bytes}
+use Rattle.tt_render_streams.specs.File.{as_file, picture_bytes}
+use Rattle.tt_render_run.specs.File.{file_pictured}
 use Rattle.tt_render_run.proofs.Answered.{reading_job, reading_large, reading_defects, drawing_fails, drawing_job, drawing_large, drawing_defects}
 use Rattle.tt_render_run.proofs.Calls.{IsRead, run_is_of_font, run_refused, job_fails, reading_fails, with_bytes, tells_of_known}
 use Rattle.tt_render_run.proofs.Files.{no_file}

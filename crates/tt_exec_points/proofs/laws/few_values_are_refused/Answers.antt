@@ -1,5 +1,0 @@
-use Rattle.tt_exec_points.proofs.Short.{points_short}
-use Rattle.tt_exec_points.proofs.laws.few_values_are_refused.Goals as goal
-
-pub returns : goal.returns
-returns c = points_short

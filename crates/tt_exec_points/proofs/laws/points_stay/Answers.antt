@@ -1,5 +1,0 @@
-use Rattle.tt_exec_points.proofs.WithAll.{points_stay}
-use Rattle.tt_exec_points.proofs.laws.points_stay.Goals as goal
-
-pub returns : goal.returns
-returns c = points_stay c.singles_stay.ensures c.several_stay.ensures

@@ -1,0 +1,3 @@
+mod Composing
+mod FileEntries
+mod LineSteps

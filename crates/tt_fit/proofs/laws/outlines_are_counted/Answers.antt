@@ -1,5 +1,0 @@
-use Rattle.tt_fit.proofs.Bounds.{outlines-counted}
-use Rattle.tt_fit.proofs.laws.outlines_are_counted.Goals as goal
-
-pub returns : goal.returns
-returns c = outlines-counted

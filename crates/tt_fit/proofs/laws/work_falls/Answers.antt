@@ -1,8 +1,0 @@
-use Rattle.tt_fit.proofs.Fewer.{best-is-bounded, work-falls}
-use Rattle.tt_fit.proofs.laws.work_falls.Goals as goal
-
-pub returns-clause-begun : goal.returns-clause-begun
-returns-clause-begun c = best-is-bounded
-
-pub returns-clause-falls : goal.returns-clause-falls
-returns-clause-falls c = work-falls

@@ -1,0 +1,11 @@
+mod Bounds
+mod Counts
+mod Ends
+mod Fewer
+mod Filling
+mod Hinted
+mod Hintings
+mod Leftovers
+mod Originals
+mod Plain
+mod FallingBack

@@ -1,0 +1,3 @@
+mod LabelInk
+mod GrownInk
+mod GrownBitmaps

@@ -1,0 +1,2 @@
+pub mod LabelInk
+pub mod GrownLaws

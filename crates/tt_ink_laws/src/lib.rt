@@ -1,0 +1,4 @@
+//! Laws of ink: labels and grown pictures hold all of it.
+#![tactic(auto)]
+
+pub mod laws;

@@ -1,8 +1,0 @@
-use Rattle.tt_render_run.proofs.Made.{written-whole, mapped-whole}
-use Rattle.tt_render_run.proofs.laws.fonts_are_whole.Goals as goal
-
-pub returns-clause-run : goal.returns-clause-run
-returns-clause-run c = written-whole c.fonts_are_whole.ensures.picture
-
-pub returns-clause-map : goal.returns-clause-map
-returns-clause-map c = mapped-whole c.fonts_are_whole.ensures.readings

@@ -1,4 +1,0 @@
-use Rattle.tt_render_run.proofs.writing.write_band.Goals as goal
-
-pub returns-clause-writes : goal.returns-clause-writes
-returns-clause-writes g c = rw c.next_rows.ensures.rows at c.write_all_of.ensures

@@ -1,0 +1,6 @@
+pub mod DrawnLines
+pub mod StoppedLines
+pub mod DefectLines
+pub mod OneText
+pub mod FontLines
+pub mod FirstFaces

@@ -1,0 +1,27 @@
+//! How labels are drawn, and why they are not.
+
+use crate::setting::Setting;
+use tt_advice::Hint;
+use tt_line::Align;
+use tt_render_texts::TextsFault;
+
+/// How the lines of a text are drawn in one picture for people.
+#[derive(Clone, Copy)]
+pub struct Label<'a> {
+    /// The picture is that of all lines, enlarged so that no ink is cut: the fields `grow` and `product` are not used.
+    /// `most` is the limit of glyphs that are cached from label to label.
+    pub setting: Setting,
+    /// The side at which the lines begin or end.
+    pub align: Align,
+    /// The path of the font, as it is reported.
+    pub path: &'a str,
+    /// Whether a face was asked for.
+    pub face_given: bool,
+}
+
+/// The answer of a call that draws labels, and the report to a person of the font's file, where the font is refused.
+#[derive(Drop)]
+pub struct Labelled {
+    pub answer: Result<(), TextsFault>,
+    pub hint: Option<Hint>,
+}

@@ -1,0 +1,23 @@
+//! How texts, lines and labels are drawn, and their definitions.
+//!
+//! ```text
+//! setting.rt  how texts are drawn
+//! label.rt    how labels are drawn, and why they are not
+//! help.rt     the second line about a refused label
+//! budget.rt   the next line, and what the lines of a call may take
+//! missing.rt  refuses a text for a character without a glyph
+//! ```
+#![tactic(auto)]
+
+mod budget;
+mod help;
+mod label;
+mod missing;
+mod setting;
+
+pub use budget::{lines_budget, next_line};
+pub use help::label_help;
+pub use label::{Label, Labelled};
+pub use missing::none_missing;
+pub use setting::{Missing, Product, Setting, test_setting};
+pub use tt_line::Align;

@@ -1,0 +1,4 @@
+pub mod Known
+pub mod Sent
+pub mod Text
+mod Pieces

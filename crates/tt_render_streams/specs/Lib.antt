@@ -1,0 +1,6 @@
+pub mod CodePoints
+pub mod File
+pub mod Messages
+pub mod Reading
+pub mod Traffic
+pub mod Views

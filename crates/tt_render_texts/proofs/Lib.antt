@@ -1,0 +1,3 @@
+pub mod HeldLines
+pub mod Printed
+mod TextsReports

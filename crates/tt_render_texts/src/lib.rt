@@ -1,0 +1,25 @@
+//! Reads the lines of a text, and has the messages and reports about texts, lines and labels.
+//!
+//! ```text
+//! lines.rt           reads the lines of a text
+//! readings.rt        the reading that a request asks for
+//! refusal.rt         why texts are not drawn
+//! texts_messages.rt  messages about texts
+//! label_reports.rt   what is reported of a label
+//! printing.rt        prints messages
+//! ```
+#![tactic(auto)]
+
+mod label_reports;
+mod lines;
+mod printing;
+mod readings;
+mod refusal;
+mod texts_messages;
+
+pub use label_reports::{LabelTold, Signs};
+pub use lines::{LINE_LIMIT, LinePlace, LineReader, NextLine};
+pub use printing::print_text;
+pub use readings::{fit_reading, reading_asked};
+pub use refusal::{Refusal, TextsFault, refusal_of_run, texts_fault};
+pub use texts_messages::{Messages, named_line, texts_line, texts_status};

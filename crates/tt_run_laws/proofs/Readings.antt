@@ -1,0 +1,244 @@
+-- The answers of `run` and `map` by the strict reading, by the wide one, and by a face's own font.
+use Rattle.std.proofs.Common.{◌≡◌, ◌∙◌, ℕ, ◌≤◌, Bool, true, false, nat_lt, if◌then◌else◌, All, List, [], ◌∷◌, ◌++◌, length, map, flat_map, chars, Result, Ok, Err, refl, sym, ap, ap₂, arith}
+use Rattle.std.proofs.lemmas.Bool.Decides.{nat_tests}
+use Rattle.tt_cmap.specs.Lookup.{Cmap, glyph_of}
+use Rattle.tt_cmap.specs.Maps.{CharacterMap, strict, wide, glyph_by, glyph_of_unit, map_by, units_by}
+use Rattle.tt_cmap.specs.Units.{is_selector, plain_unit}
+use Rattle.tt_cmap.proofs.PlainUnits.{no-selector}
+use Rattle.tt_cmap.proofs.UnitLaws.{plain-texts, characters-are-units}
+use Rattle.tt_core.specs.Chains.{came-through}
+use Rattle.tt_core.specs.Collections.{directory_by}
+use Rattle.tt_core.specs.declared.collection.Reading.{Reading}
+use Rattle.tt_core.specs.declared.collection.Reading.TheVariants as reading
+use Rattle.tt_core.specs.declared.fault.JobFault.{JobFault}
+use Rattle.tt_core.specs.Directory.{Directory, needed_table, table_of}
+use Rattle.tt_core.specs.Faults.{Fault}
+use Rattle.tt_core.specs.Limits.{font_limit}
+use Rattle.tt_core.specs.Outcomes.{◌>>=◌}
+use Rattle.tt_face.specs.declared.rules.LineRules.{LineRules}
+use Rattle.tt_face.specs.Faces.{Face, cmap_tag}
+use Rattle.tt_face.specs.Files.{FacesAreTheirFonts, SameTables, StrictIsTheFace, WideFacesExtend, face_at, face_by, face_of, face_with}
+use Rattle.tt_face.specs.Rules.{gpos_tag, kern_tag, kerning_by, ruled, table_bytes}
+use Rattle.tt_line.specs.Layout.{text_glyphs}
+use Rattle.tt_metrics.specs.Metrics.{Metrics, advance_of, glyphs_of, metrics_of}
+use Rattle.tt_picture.specs.Pictures.{Image}
+use Rattle.tt_strike.specs.Job.{Job, tested, text_tested}
+use Rattle.tt_strike.specs.Picture.{pictured, pictured_by}
+use Rattle.tt_strike_laws.specs.ReadingLaws.{FacesDrawAlike}
+use Rattle.tt_strike.specs.Refusals.{Refused, as_font, as_job, large}
+use Rattle.tt_render_streams.specs.File.{as_file}
+use Rattle.tt_render_run.specs.MapLines.{line_text, lines_of, map_line, map_lines, map_outcome}
+use Rattle.tt_run_laws.specs.ReadingLaws.{CharactersHaveLines, FacesMapAsFonts, FacesRunAsFonts, IsFontOf, IsPlainText, StrictMaps, StrictRuns, WideMaps, WideRuns, opened}
+use Rattle.tt_render_run.specs.Run.{run_outcome}
+
+-- what a file's bytes give, by the face alone
+abbrev run_by : LineRules → Job → Result Face Fault → Result (List ℕ) Refused
+run_by rules a read = as_file (as_font (read >>= λ face. Ok (ruled rules face)) >>= λ face. pictured_by face a)
+
+abbrev map_by_face : List ℕ → Result Face Fault → Result (List ℕ) Refused
+map_by_face text read = as_font (read >>= λ face. Ok (map_lines face.metrics face.cmap text))
+
+-- the answer for a file by what its face gives
+abbrev answered : Result (Unit {0}) JobFault → (Result Face Fault → Result (List ℕ) Refused) → List ℕ → Result Face Fault
+    → Result (List ℕ) Refused
+answered tests by file read =
+    as_job tests >>= λ u. if nat_lt font_limit (length file) then Err large else by read
+
+run_answered : (r : Reading) (rules : LineRules) (a : Job) (file : List ℕ)
+    → run_outcome (opened r rules) a file ≡ answered (tested a) (run_by rules a) file (face_by file r)
+unfolding run_outcome pictured face_with
+run_answered r rules a file = refl
+
+map_answered : (r : Reading) (text file : List ℕ)
+    → map_outcome r text file ≡ answered (text_tested text) (map_by_face text) file (face_by file r)
+unfolding map_outcome lines_of
+map_answered r text file = refl
+
+-- the rules are those of the face that is drawn
+by_rules : (rules : LineRules) (a : Job) (r : Result Face Fault)
+    → run_by rules a r ≡ as_file (as_font r >>= λ face. pictured_by (ruled rules face) a)
+by_rules rules a (Ok face) = refl
+by_rules rules a (Err fault) = refl
+
+-- the strict reading
+pub strict_runs : StrictIsTheFace → StrictRuns
+strict_runs law rules a file =
+    run_answered reading.Strict rules a file
+    ∙ ap (answered (tested a) (run_by rules a) file) (law file)
+    ∙ ap (λ (r : Result (List ℕ) Refused). as_job (tested a) >>= λ u. if nat_lt font_limit (length file) then Err large else r)
+    (by_rules rules a (face_of file))
+
+pub strict_maps : StrictIsTheFace → StrictMaps
+strict_maps law text file =
+    map_answered reading.Strict text file ∙ ap (answered (text_tested text) (map_by_face text) file) (law file)
+
+-- the lines of characters that are units
+unit_lines : (m : Metrics) (cmap : Cmap) (cs : List ℕ) → flat_map (map_line m (strict cmap)) (map plain_unit cs)
+    ≡ flat_map (λ c. line_text c (glyph_of cmap c) (advance_of m (glyph_of cmap c))) cs
+unit_lines m cmap [] = refl
+unit_lines m cmap (c ∷ cs) =
+    ap (λ (text : List ℕ). line_text c (glyph_of cmap c) (advance_of m (glyph_of cmap c)) ++ text) (unit_lines m cmap cs)
+
+pub characters_have_lines : CharactersHaveLines
+characters_have_lines m cmap text =
+    ap (flat_map (map_line m (strict cmap))) (characters-are-units (chars text)) ∙ unit_lines m cmap (chars text)
+
+-- with either reading each character of a text without selectors is a unit
+abbrev IsNoSelector : ℕ → Type 0
+IsNoSelector c = is_selector c ≡ false
+
+plain_units : (m : CharacterMap) (cs : List ℕ) → All IsNoSelector cs → units_by m cs ≡ map plain_unit cs
+plain_units (strict m) cs plain = characters-are-units cs
+plain_units (wide m) cs plain = plain-texts cs plain
+
+-- maps with the same glyphs for characters have the same glyphs and lines for these units
+abbrev SameGlyphs : CharacterMap → CharacterMap → Type 0
+SameGlyphs k l = (c : ℕ) → glyph_by k c ≡ glyph_by l c
+
+same_glyph : (k l : CharacterMap) (c : ℕ) → SameGlyphs k l → glyph_of_unit k (plain_unit c) ≡ glyph_of_unit l (plain_unit c)
+same_glyph k l c same =
+    no-selector k (plain_unit c) refl ∙ same c ∙ sym (no-selector l (plain_unit c) refl)
+
+glyphs_of_units : (k l : CharacterMap) (cs : List ℕ) → SameGlyphs k l
+    → map (glyph_of_unit k) (map plain_unit cs) ≡ map (glyph_of_unit l) (map plain_unit cs)
+glyphs_of_units k l [] same = refl
+glyphs_of_units k l (c ∷ cs) same =
+    ap₂ (λ (g : ℕ) (gs : List ℕ). g ∷ gs) (same_glyph k l c same) (glyphs_of_units k l cs same)
+
+glyphs_alike : (k l : CharacterMap) (text : List ℕ) → IsPlainText text → SameGlyphs k l
+    → text_glyphs k text ≡ text_glyphs l text
+glyphs_alike k l text plain same =
+    let cs = chars text in
+    ap (map (glyph_of_unit k)) (plain_units k cs plain)
+    ∙ glyphs_of_units k l cs same
+    ∙ ap (map (glyph_of_unit l)) (sym (plain_units l cs plain))
+
+lines_of_units : (m : Metrics) (k l : CharacterMap) (cs : List ℕ) → SameGlyphs k l
+    → flat_map (map_line m k) (map plain_unit cs) ≡ flat_map (map_line m l) (map plain_unit cs)
+lines_of_units m k l [] same = refl
+lines_of_units m k l (c ∷ cs) same =
+    ap₂ (λ (line text : List ℕ). line ++ text)
+    (ap (λ (g : ℕ). line_text c g (advance_of m g)) (same_glyph k l c same)) (lines_of_units m k l cs same)
+
+lines_alike : (m : Metrics) (k l : CharacterMap) (text : List ℕ) → IsPlainText text → SameGlyphs k l
+    → map_lines m k text ≡ map_lines m l text
+lines_alike m k l text plain same =
+    let cs = chars text in
+    ap (flat_map (map_line m k)) (plain_units k cs plain)
+    ∙ lines_of_units m k l cs same
+    ∙ ap (flat_map (map_line m l)) (sym (plain_units l cs plain))
+
+-- the metrics of a face with some rules
+abbrev ruled_metrics : LineRules → Metrics → Directory → Metrics
+ruled_metrics rules m d = record m { heights = rules.heights; kerning = kerning_by rules.kerned d }
+
+-- the wide reading
+same_tables : (d e : Directory) → d ≡ e → SameTables d e
+same_tables d e is = λ tag. ap (λ (x : Directory). table_of x tag) is
+
+pub wide_runs : StrictIsTheFace → WideFacesExtend → FacesDrawAlike → WideRuns
+unfolding ruled
+wide_runs first extends alike rules a file face was plain =
+    let more = extends file face was in
+    let strict_face : face_by file reading.Strict ≡ Ok face = first file ∙ was in
+    let glyphs = glyphs_alike more.wide.cmap face.cmap a.text plain more.same in
+    let metrics = ap₂ (ruled_metrics rules) more.metrics more.directory in
+    let drawn = alike (ruled rules more.wide) (ruled rules face) a (same_tables _ _ more.directory) metrics glyphs in
+    let by = answered (tested a) (λ (r : Result Face Fault). run_by rules a r) file in
+    run_answered (reading.Wide 0) rules a file
+    ∙ ap by more.given
+    ∙ ap (λ (image : Result Image Refused). as_job (tested a) >>= λ u. if nat_lt font_limit (length file) then Err large else as_file image) drawn
+    ∙ ap by (sym strict_face)
+    ∙ sym (run_answered reading.Strict rules a file)
+
+pub wide_maps : StrictIsTheFace → WideFacesExtend → WideMaps
+wide_maps first extends text file face was plain =
+    let more = extends file face was in
+    let strict_face : face_by file reading.Strict ≡ Ok face = first file ∙ was in
+    let lines = ap (λ (m : Metrics). map_lines m more.wide.cmap text) more.metrics
+    ∙ lines_alike face.metrics more.wide.cmap face.cmap text plain more.same in
+    let by = answered (text_tested text) (λ (r : Result Face Fault). map_by_face text r) file in
+    map_answered (reading.Wide 0) text file
+    ∙ ap by more.given
+    ∙ ap (λ (bytes : List ℕ). as_job (text_tested text) >>= λ u. if nat_lt font_limit (length file) then Err large else Ok bytes) lines
+    ∙ ap by (sym strict_face)
+    ∙ sym (map_answered reading.Strict text file)
+
+-- a face's directory
+face_directory : (d : Directory) (r : Reading) (face : Face) → face_at d r ≡ Ok face → d ≡ face.directory
+unfolding face_at
+face_directory d r face was =
+    let by_metrics = came-through (metrics_of d) _ face was in
+    let by_table = came-through (needed_table d cmap_tag) _ face by_metrics.rest in
+    let by_map = came-through (map_by r by_table.value (glyphs_of by_metrics.value)) _ face by_table.rest in
+    let same : record { directory = d; metrics = by_metrics.value; cmap = by_map.value } ≡ face = let done = by_map.rest in cc in
+    ap (λ (f : Face). f.directory) same
+
+-- a face with its directory elsewhere
+abbrev moved : Directory → Face → Face
+moved e face = record { directory = e; metrics = face.metrics; cmap = face.cmap }
+
+abbrev all_moved : Directory → Result Face Fault → Result Face Fault
+all_moved e faces = faces >>= λ face. Ok (moved e face)
+
+kerned_alike : (kerned : Bool) (d e : Directory) → SameTables d e → kerning_by kerned d ≡ kerning_by kerned e
+unfolding table_bytes
+kerned_alike true d e same = rw (same gpos_tag, same kern_tag) refl
+kerned_alike false d e same = refl
+
+runs_moved : FacesDrawAlike → (rules : LineRules) (a : Job) (d e : Directory) (r : Result Face Fault)
+    → ((face : Face) → r ≡ Ok face → d ≡ face.directory) → SameTables d e
+    → run_by rules a r ≡ run_by rules a (all_moved e r)
+unfolding ruled
+runs_moved alike rules a d e (Ok face) its same =
+    let tables : SameTables face.directory e = λ tag. ap (λ (x : Directory). table_of x tag) (sym (its face refl)) ∙ same tag in
+    let metrics : (ruled rules face).metrics ≡ (ruled rules (moved e face)).metrics = rw (kerned_alike rules.kerned face.directory e tables) refl in
+    ap (λ (image : Result Image Refused). as_file image)
+    (alike (ruled rules face) (ruled rules (moved e face)) a tables metrics refl)
+runs_moved alike rules a d e (Err f) its same = refl
+
+maps_moved : (text : List ℕ) (e : Directory) (r : Result Face Fault) → map_by_face text r ≡ map_by_face text (all_moved e r)
+maps_moved text e (Ok face) = refl
+maps_moved text e (Err f) = refl
+
+-- files that are not too large, with the same result
+answered_alike : (tests : Result (Unit {0}) JobFault) (by : Result Face Fault → Result (List ℕ) Refused) (file font : List ℕ)
+    (r s : Result Face Fault) → length file ≤ font_limit → length font ≤ font_limit → by r ≡ by s
+    → answered tests by file r ≡ answered tests by font s
+answered_alike tests by file font r s small small_too same =
+    let fits : nat_lt font_limit (length file) ≡ false = grind (arith, nat_tests) in
+    let fits_too : nat_lt font_limit (length font) ≡ false = grind (arith, nat_tests) in
+    ap (λ (b : Bool). as_job tests >>= λ u. if b then Err large else by r) fits
+    ∙ ap (λ (answer : Result (List ℕ) Refused). as_job tests >>= λ u. answer) same
+    ∙ sym (ap (λ (b : Bool). as_job tests >>= λ u. if b then Err large else by s) fits_too)
+
+face_of_file : (file : List ℕ) (r : Reading) (d : Directory) → directory_by file r ≡ Ok d → face_by file r ≡ face_at d r
+unfolding face_by
+face_of_file file r d is = rw is refl
+
+-- a face and its font give the same face, but for the directory
+its_font : FacesAreTheirFonts → (file : List ℕ) (n : ℕ) (font : List ℕ) (is : IsFontOf file n font)
+    → all_moved is.own (face_by file (reading.Wide n)) ≡ face_by font (reading.Wide 0)
+its_font law file n font is =
+    ap (all_moved is.own) (face_of_file file (reading.Wide n) is.face is.read)
+    ∙ sym (law is.face is.own n 0 is.same)
+    ∙ sym (face_of_file font (reading.Wide 0) is.own is.alone)
+
+pub faces_run_as_fonts : FacesAreTheirFonts → FacesDrawAlike → FacesRunAsFonts
+faces_run_as_fonts law alike rules a file n font is =
+    let r = face_by file (reading.Wide n) in
+    let its : (face : Face) → r ≡ Ok face → is.face ≡ face.directory = λ face was.
+    face_directory is.face (reading.Wide n) face (sym (face_of_file file (reading.Wide n) is.face is.read) ∙ was) in
+    let same = runs_moved alike rules a is.face is.own r its is.same
+    ∙ ap (λ (s : Result Face Fault). run_by rules a s) (its_font law file n font is) in
+    run_answered (reading.Wide n) rules a file
+    ∙ answered_alike (tested a) (λ (s : Result Face Fault). run_by rules a s) file font r (face_by font (reading.Wide 0)) is.small is.small_too same
+    ∙ sym (run_answered (reading.Wide 0) rules a font)
+
+pub faces_map_as_fonts : FacesAreTheirFonts → FacesMapAsFonts
+faces_map_as_fonts law text file n font is =
+    let r = face_by file (reading.Wide n) in
+    let same = maps_moved text is.own r ∙ ap (λ (s : Result Face Fault). map_by_face text s) (its_font law file n font is) in
+    map_answered (reading.Wide n) text file
+    ∙ answered_alike (text_tested text) (λ (s : Result Face Fault). map_by_face text s) file font r (face_by font (reading.Wide 0)) is.small is.small_too same
+    ∙ sym (map_answered (reading.Wide 0) text font)

@@ -1,5 +1,0 @@
-use Rattle.tt_strike.proofs.FewCrossings.{bounded_lines_cross_few}
-use Rattle.tt_strike.proofs.laws.bounded_lines_cross_few.Goals as goal
-
-pub returns : goal.returns
-returns c = bounded_lines_cross_few

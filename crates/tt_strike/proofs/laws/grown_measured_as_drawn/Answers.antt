@@ -1,5 +1,0 @@
-use Rattle.tt_strike.proofs.Agreeing.{grown_measured_as_drawn}
-use Rattle.tt_strike.proofs.laws.grown_measured_as_drawn.Goals as goal
-
-pub returns : goal.returns
-returns c = grown_measured_as_drawn

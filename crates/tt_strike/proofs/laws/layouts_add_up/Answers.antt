@@ -1,8 +1,0 @@
-use Rattle.tt_strike.proofs.LayoutLaws.{layouts_add_up, no_glyph_is_read}
-use Rattle.tt_strike.proofs.laws.layouts_add_up.Goals as goal
-
-pub returns-clause-sums : goal.returns-clause-sums
-returns-clause-sums c = layouts_add_up
-
-pub returns-clause-unread : goal.returns-clause-unread
-returns-clause-unread c = no_glyph_is_read

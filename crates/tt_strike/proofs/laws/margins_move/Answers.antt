@@ -1,5 +1,0 @@
-use Rattle.tt_strike.proofs.Beside.{margins_move}
-use Rattle.tt_strike.proofs.laws.margins_move.Goals as goal
-
-pub returns : goal.returns
-returns c = margins_move

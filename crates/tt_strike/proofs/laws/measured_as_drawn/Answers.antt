@@ -1,5 +1,0 @@
-use Rattle.tt_strike.proofs.Agreeing.{measured_as_drawn}
-use Rattle.tt_strike.proofs.laws.measured_as_drawn.Goals as goal
-
-pub returns : goal.returns
-returns c = measured_as_drawn

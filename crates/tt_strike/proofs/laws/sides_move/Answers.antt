@@ -1,5 +1,0 @@
-use Rattle.tt_strike.proofs.Larger.{sides_move}
-use Rattle.tt_strike.proofs.laws.sides_move.Goals as goal
-
-pub returns : goal.returns
-returns c = sides_move

@@ -1,5 +1,0 @@
-use Rattle.tt_strike.proofs.UnhintedSteps.{unhinted_steps_are_near}
-use Rattle.tt_strike.proofs.laws.unhinted_steps_are_near.Goals as goal
-
-pub returns : goal.returns
-returns c = unhinted_steps_are_near c.scales_keep_order.ensures.differences
