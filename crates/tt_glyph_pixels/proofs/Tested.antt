@@ -1,5 +1,5 @@
 -- Where no edge that is tested makes a pass needed, no edge makes a mark in a free gap.
-use Rattle.std.proofs.Common.{◌≡◌, ◌∙◌, sym, Bool, true, false, ℕ, List, All, length, map}
+use Rattle.std.proofs.Common.{◌≡◌, ◌∙◌, refl, sym, ap, Bool, true, false, ◌||◌, ℕ, List, [], ◌∷◌, All, length, map}
 use Rattle.std.specs.Prelude.{ℤ}
 use Rattle.std.specs.List.{list_any}
 use Rattle.tt_bitmap.specs.Bitmaps as bitmaps
@@ -14,6 +14,11 @@ use Rattle.tt_scan_gaps.specs.Crossings.{centre}
 use Rattle.tt_scan_gaps.specs.Seen.{turned_round}
 use Rattle.tt_scan_gaps.specs.Walk.{is_in_free_gap}
 use Rattle.tt_scan_gaps.specs.declared.seen.Over.TheVariants as over
+
+-- a test of edges that are turned round, and the test that turns them round
+pub any_mapped : (p : Edge → Bool) (f : Edge → Edge) (es : List Edge) → list_any (λ e. p (f e)) es ≡ list_any p (map f es)
+any_mapped p f [] = refl
+any_mapped p f (e ∷ es) = ap (λ b. p (f e) || b) (any_mapped p f es)
 
 -- a bitmap has exactly the pixels that edges blacken
 abbrev pub HasInk : BoxBitmap → List Edge → Type 0

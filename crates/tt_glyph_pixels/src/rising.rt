@@ -1,7 +1,7 @@
 //! Whether a glyph may have dropouts, by the bitmap of the pixels that its edges blacken. Its contours are closed. If closed
 //! contours cross a free gap, some edge rises through the gap. So of the edges that cross, those that rise are tested.
 
-ghost use Rattle.std.specs.Prelude.{◌≡◌, false, ℤ, ◌||◌, ◌^◌, ◌<◌, map, unsigned_abs, All, IfNone, IfSome};
+ghost use Rattle.std.specs.Prelude.{◌≡◌, false, ℤ, ◌^◌, ◌<◌, map, unsigned_abs, All, IfNone, IfSome};
 ghost use Rattle.std.specs.List.{list_any};
 ghost use Rattle.tt_bitmap.specs.Bitmaps as bitmaps;
 ghost use Rattle.tt_scan.specs.Contours.{IsClosed, contours_at};
@@ -80,14 +80,28 @@ fn rises(inked: &BoxBitmap, over: Over, edge: &Edge) -> bool
     meets(over, false, edge) && rises_there(inked, over, seen_by(over, *edge))
 }
 
-/// Whether an edge is such that a pass is needed, or an edge before it was.
+/// Whether an edge, as a pass sees it, is such that the pass is needed.
 #[inline(always)]
-fn or_tested(so_far: bool, inked: &BoxBitmap, over: Over, stubs: bool, edge: &Edge) -> bool
+fn is_tested(inked: &BoxBitmap, over: Over, stubs: bool, edge: &Edge) -> bool
     requires { EdgeFits edge.now }
-    ensures { result ≡ (so_far || is_tested stubs (is_black_on over inked.now) (seen_by over edge.now)) }
+    ensures { result ≡ is_tested stubs (is_black_on over inked.now) (seen_by over edge.now) }
 {
-    so_far
-        || (rises(inked, over, edge) || (stubs && touches_free(inked, over, seen_by(over, *edge))))
+    rises(inked, over, edge) || (stubs && touches_free(inked, over, seen_by(over, *edge)))
+}
+
+/// Whether some edge makes a pass needed. Each pass has a loop of its own, since most edges meet no line and a short loop
+/// passes over them.
+#[inline(always)]
+fn some_tested_over(inked: &BoxBitmap, over: Over, stubs: bool, edges: &[Edge]) -> bool
+    requires { All EdgeFits edges.now }
+    ensures { result ≡ list_any (λ e. is_tested stubs (is_black_on over inked.now) (seen_by over e)) edges.now }
+{
+    for edge in edges {
+        if is_tested(inked, over, stubs, edge) {
+            return true;
+        }
+    }
+    false
 }
 
 /// Whether some edge makes the pass over rows needed, and whether some edge makes that over columns needed.
@@ -97,13 +111,13 @@ fn some_tested(inked: &BoxBitmap, stubs: bool, edges: &[Edge]) -> (bool, bool)
     ensures rows { result.0 ≡ list_any (is_tested stubs (is_black_on over.Rows inked.now)) edges.now }
     ensures columns { result.1 ≡ list_any (is_tested stubs (is_black_on over.Columns inked.now)) (map turned_round edges.now) }
 {
-    let mut rows = false;
-    let mut columns = false;
-    for edge in edges {
-        rows = or_tested(rows, inked, Over::Rows, stubs, edge);
-        columns = or_tested(columns, inked, Over::Columns, stubs, edge);
+    // The loops of the second pair ask nothing about stubs.
+    if stubs {
+        let rows = some_tested_over(inked, Over::Rows, true, edges);
+        return (rows, some_tested_over(inked, Over::Columns, true, edges));
     }
-    (rows, columns)
+    let rows = some_tested_over(inked, Over::Rows, false, edges);
+    (rows, some_tested_over(inked, Over::Columns, false, edges))
 }
 
 /// Whether the pass over rows may add dropouts to the pixels of a bitmap, and whether that over columns may. The bitmap has
