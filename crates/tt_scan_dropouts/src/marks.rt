@@ -42,6 +42,10 @@ pub(crate) fn crosses_free_gap(ink: &Bitmap, over: Over, edge: Edge) -> bool
     requires { EdgeFits edge }
     ensures { result ≡ some_in_free_gap (is_black_by over ink.now) (crossings edge) }
 {
+    // Most edges that cross lines cross one, and for one line a loop is not begun.
+    if lines_crossed(edge) == 1 {
+        return ink.is_free(over, gap_crossed(edge, 0), line_crossed(edge, 0));
+    }
     for k in 0..lines_crossed(edge) {
         if ink.is_free(over, gap_crossed(edge, k), line_crossed(edge, k)) {
             return true;
