@@ -2,7 +2,6 @@ mod EightBytes
 mod Pens
 pub mod Columns
 pub mod Gaps
-pub mod Heights
 pub mod Moved
 pub mod Points
 pub mod Reached

@@ -1,9 +1,7 @@
 //! The edges of one glyph while they are made. Their rows are not known yet: `Tape::of` finds the rows of all at once.
 
-ghost use Rattle.std.specs.Prelude.{◌≡◌, ℤ, false, ◌+◌, ◌^◌, ◌<◌, ◌≤◌, ◌≤ℤ◌, unsigned_abs, length, [], ◌∷◌, ◌++◌, IfSome, OnOk};
-ghost use Rattle.tt_scan_edges.specs.Crossing.{spans};
-ghost use Rattle.tt_scan.specs.EdgeList.{heights_of, heights_with};
-ghost use Rattle.tt_scan_edges.specs.Winding.{EdgeFits, is_black};
+ghost use Rattle.std.specs.Prelude.{◌≡◌, ◌+◌, ◌^◌, ◌<◌, ◌≤◌, length, [], ◌∷◌, ◌++◌, OnOk};
+ghost use Rattle.tt_scan_edges.specs.Winding.{EdgeFits};
 
 use std::alloc::{AllocError, Global};
 use std::marker::Model;
@@ -24,19 +22,6 @@ impl Model for EdgeList {
     ghost view = { λ l. record { edges = l.edges.edges; capacity = l.edges.capacity } };
 
     ghost invariant = { λ l. l.edges.crosses ≡ 0 };
-}
-
-/// The least and the greatest height of the ends of an edge and of others.
-#[inline(always)]
-fn with_edge(heights: Option<(i32, i32)>, edge: Edge) -> (i32, i32)
-    ensures { result ≡ heights_with edge heights }
-{
-    let low = edge.ay.min(edge.by);
-    let high = edge.ay.max(edge.by);
-    match heights {
-        Some((least, greatest)) => (low.min(least), high.max(greatest)),
-        None => (low, high),
-    }
 }
 
 impl EdgeList {
@@ -76,23 +61,6 @@ impl EdgeList {
         ensures small { result < 2 ^ 63 }
     {
         self.edges.len()
-    }
-
-    /// The least and the greatest height of the ends of all edges, in 1/8192 pixel; None where there are no edges.
-    /// Nothing is black below the least or above the greatest.
-    pub fn heights(&self) -> Option<(i32, i32)>
-        ensures exact { result ≡ heights_of self.now.edges }
-        ensures blank { (x y : ℤ) → spans result y ≡ false → is_black self.now.edges x y ≡ false }
-        ensures order { IfSome result (λ t. t.0 ≤ℤ t.1) }
-        ensures low { IfSome result (λ t. unsigned_abs t.0 < 2 ^ 30) }
-        ensures high { IfSome result (λ t. unsigned_abs t.1 < 2 ^ 30) }
-    {
-        let edges = self.edges.lend();
-        let mut heights = None;
-        for edge in edges {
-            heights = Some(with_edge(heights, *edge));
-        }
-        heights
     }
 
     /// The list of some edges, whose count of crossings is 0.

@@ -20,7 +20,6 @@ mod edge_list;
 mod edge_table;
 pub mod laws;
 mod paint;
-mod row;
 mod rows;
 mod stamp;
 mod sweep;
@@ -29,9 +28,8 @@ mod word;
 
 pub use bytes::blacken;
 pub use edge_list::EdgeList;
-pub use row::row_into;
 pub use stamp::paint_columns;
 pub use sweep::Sweep;
 pub use tape::Tape;
-pub use tt_scan_edges::{Cross, Edge, Frame, Last, Span, bounds_of};
+pub use tt_scan_edges::{Cross, Edge, Frame, Last, Span};
 pub use word::Stamp;

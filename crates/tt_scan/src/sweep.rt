@@ -2,7 +2,6 @@
 
 ghost use Rattle.std.specs.Prelude.{◌≡◌, ℕ, ℤ, ◌+◌, ◌-ℤ◌, ◌*◌, ◌^◌, ◌<◌, ◌≤◌, ◌<ℤ◌, ◌≤ℤ◌, ◌&&◌, ◌||◌, nat_lt, pos, [], length, unsigned_abs, IfOk, IfSome};
 ghost use Rattle.tt_core.specs.Bits.{bit};
-ghost use Rattle.tt_scan_edges.specs.Bounds.{AreBounds};
 ghost use Rattle.tt_scan_edges.specs.Marks.{covers, covers_from};
 ghost use Rattle.tt_scan_edges.specs.Winding.{is_black, column_x, row_y, rows_met};
 ghost use Rattle.tt_scan.specs.Stamps.{IsStampOf};
@@ -13,7 +12,7 @@ use crate::tape::Tape;
 use crate::word::Stamp;
 use std::alloc::{AllocError, Global};
 use std::marker::Model;
-use tt_scan_edges::{RowLeft, Span, bounds_of};
+use tt_scan_edges::{RowLeft, Span};
 
 /// The black columns of a row, and memory for the rows of a tape.
 #[derive(Drop)]
@@ -105,12 +104,5 @@ impl Sweep {
         ensures { IfSome result (IsStampOf self.now.spans) }
     {
         self.stamp
-    }
-
-    /// The least and the greatest black column of the row cut last, both included; None where no column is black.
-    pub fn bounds(&self) -> Option<(i64, i64)>
-        ensures { AreBounds self.now.spans result }
-    {
-        bounds_of(self.left.black())
     }
 }

@@ -2,7 +2,6 @@ pub mod Bools
 pub mod Crossed
 pub mod Crosses
 pub mod Edges
-pub mod Extents
 pub mod Floors
 pub mod Followed
 pub mod JoinedKept

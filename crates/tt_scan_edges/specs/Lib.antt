@@ -1,4 +1,3 @@
-pub mod Bounds
 pub mod Counted
 pub mod Crossing
 pub mod Entries

@@ -17,13 +17,11 @@
 //! insertion.rt   sorting marks and walks, which are nearly in order
 //! last.rt        the last edge of a contour so far, and whether the next is joined to it
 //! laws.rt        joined edges blacken what the edges do
-//! bounds.rt      the least and the greatest black column
 //! ```
 //!
 //! tt_scan_order sorts entries. tt_scan has all edges of a glyph together, and its rows.
 #![tactic(auto)]
 
-mod bounds;
 mod counted;
 mod crossing;
 mod edge;
@@ -40,7 +38,6 @@ mod row_at;
 mod stretch;
 mod walk;
 
-pub use bounds::bounds_of;
 pub use counted::CountedEdges;
 pub use edge::{Cross, Edge, Frame};
 pub use entry::Entry;
