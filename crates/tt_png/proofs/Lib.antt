@@ -1,0 +1,10 @@
+pub mod Joined
+pub mod Lengths
+pub mod Parts
+pub mod ReadBlocks
+pub mod ReadChunks
+pub mod ReadFiles
+pub mod Registers
+pub mod Rows
+pub mod Sums
+pub mod Table
