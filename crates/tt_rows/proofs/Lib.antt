@@ -1,0 +1,12 @@
+mod Letters
+mod Fits
+mod Greatest
+mod Growing
+mod Halves
+mod Ranges
+mod RowFacts
+mod RowLaws
+mod RowLoops
+mod RowUnits
+mod Seconds
+mod Widths

@@ -1,0 +1,11 @@
+pub mod Breaks
+pub mod Classes
+pub mod Composed
+pub mod ComposedExamples
+pub mod ComposedLaws
+pub mod Greatest
+pub mod Places
+pub mod RowLaws
+pub mod Rows
+pub mod Units
+pub mod Widths
