@@ -1,3 +1,5 @@
+pub mod Counts
+pub mod Hintings
 pub mod Falling
 pub mod GlyphPrograms
 pub mod GlyphCosts

@@ -1,10 +1,8 @@
 mod Bounds
-mod Counts
 mod Ends
 mod Fewer
 mod Filling
 mod Hinted
-mod Hintings
 mod Leftovers
 mod Originals
 mod Plain
