@@ -1,10 +1,12 @@
-"""The parts of printers/run with small fonts: letters that are composed, files in PNG, files that -o names, lines of
-which one is refused."""
+"""The parts of printers/run with small fonts: letters that are composed, lines that fit a width, files in PNG, files
+that -o names, lines of which one is refused."""
+import re
 import unicodedata
 
 import cases
 import common
 import labels
+import model
 import parts
 from labels import lines_of
 
@@ -84,6 +86,27 @@ def drawn_rows():
     for row in labels.rows():
         if row.status == 0 and row.stdout.count(b"P4\n") == 1 and b"--lines" not in row.words and row.font is not None:
             yield row
+
+
+def try_padded(asked):
+    """--width of each such row whose lines begin at the left, where all lines fit: the picture of the row, with other
+    columns at its sides."""
+    more = 7
+    found = [it for it in drawn_rows() if b"--align" not in it.words]
+    found = [it for it in found if model.rows_of(it.stdout)[0] + more <= model.WIDTH_LIMIT]
+
+    def answered(row):
+        columns, rows = model.rows_of(row.stdout)
+        width = columns + more
+        words = [b"label", b"--width", b"%d" % width, *row.words]
+        status, picture, errors = asked.run(words, asked.folder(row.font, row.file), row.stdin)
+        cut = re.search(rb"tt_render: ink is cut: (?:(\d+) columns? at the left)?.*\n", errors)
+        left = int(cut[1] or 0) if cut else 0
+        wanted = model.picture_of(width, [(it << more + left) & ((1 << width) - 1) for it in rows])
+        return (status, picture, errors.replace(cut[0], b"") if cut else errors), (0, wanted, row.errors)
+
+    for row, (got, wanted) in zip(found, asked.each(answered, found)):
+        common.tried(f"padded {row.name}", got, wanted)
 
 
 def try_png(asked):
