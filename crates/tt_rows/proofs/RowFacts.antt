@@ -3,7 +3,7 @@ use Rattle.std.proofs.Common.{◌≡◌, ◌∙◌, refl, sym, ap, subst, ℕ, s
 use Rattle.std.specs.Prelude.{nat_lt}
 use Rattle.std.proofs.lemmas.Bool.{both_ways, cases_eq, cases_lt, cond-true, cond-false, eq-eqb, le-ltb, lt-ltb, ne_eqb}
 use Rattle.std.proofs.lemmas.List.{length-drop}
-use Rattle.tt_rows.specs.declared.row.Row.{Row}
+use Rattle.tt_rows.specs.declared.row.LineRow.{LineRow}
 use Rattle.tt_rows.specs.declared.unit.RowUnit.{RowUnit}
 use Rattle.tt_rows.specs.Breaks.{breaks_before}
 use Rattle.tt_rows.specs.RowLaws.{MayEnd, Overflows}
@@ -46,7 +46,7 @@ overflows line room from j some above =
     let same : part line from k ≡ take (suc count) (drop from line) = part_by line from k (suc count) (omega arith) in
     (k, omega arith, omega (arith, above), subst (λ (l : List RowUnit). room < row_width l) (sym same) over)
 
-pub record IsRow (line : List RowUnit) (room from : ℕ) (r : Row) : Type 0 where
+pub record IsRow (line : List RowUnit) (room from : ℕ) (r : LineRow) : Type 0 where
   pub starts : r.from ≡ from
   pub after : from < r.next
   pub within : r.next ≤ length line

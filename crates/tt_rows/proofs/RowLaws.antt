@@ -3,7 +3,7 @@ use Rattle.std.proofs.Common.{◌≡◌, ◌∙◌, refl, sym, ap, ap₂, subst,
 use Rattle.std.specs.List.{flat_map}
 use Rattle.std.proofs.lemmas.Bool.{both_ways, cases_Bool, cases_lt, cond-true, cond-false, eq-eqb, le-ltb, lt-ltb}
 use Rattle.std.proofs.lemmas.List.{drop-drop, drop_all, length-append, length-drop, length-take-le, take-append-drop, take-take, take_at}
-use Rattle.tt_rows.specs.declared.row.Row.{Row}
+use Rattle.tt_rows.specs.declared.row.LineRow.{LineRow}
 use Rattle.tt_rows.specs.declared.unit.RowUnit.{RowUnit}
 use Rattle.tt_rows.specs.Classes.{is_blank}
 use Rattle.tt_rows.specs.RowLaws.{AreBlanks, BreaksOfNeed, DropsBlanks, EachRow, FitsWhole, IsLongest, LinesThatFitStay, Overflows, RowsAreGreedy, RowsDropBlanks, RowsFit, RowsHaveEachUnit, WordsBreakOfNeed, units_of}
@@ -24,7 +24,7 @@ unfolding rows_from
 no_row line room from zero none = refl
 no_row line room from (suc most) none = cond-false _ _ _ (le-ltb from (length line) none)
 
-each_from : (P : Row → Type 0) (line : List RowUnit) (room : ℕ) → ((from : ℕ) → from < length line → P (row_from line room from))
+each_from : (P : LineRow → Type 0) (line : List RowUnit) (room : ℕ) → ((from : ℕ) → from < length line → P (row_from line room from))
     → (from most : ℕ) → EachRow P (rows_from line room from most)
 unfolding rows_from
 each_from P line room holds from zero = tt
@@ -36,7 +36,7 @@ each_from P line room holds from (suc most) =
       | inr none ↦ subst (EachRow P) (sym (no_row line room from (suc most) none)) tt
     ]
 
-each_row : (P : List RowUnit → Row → Type 0) (room : ℕ) → P [] empty_row
+each_row : (P : List RowUnit → LineRow → Type 0) (room : ℕ) → P [] empty_row
     → ((line : List RowUnit) (from : ℕ) → from < length line → P line (row_from line room from))
     → (line : List RowUnit) → EachRow (P line) (rows line room)
 unfolding rows
@@ -181,8 +181,8 @@ lines_stay [] room fit = refl
 lines_stay (u ∷ us) room fit =
     let line : List RowUnit = u ∷ us in
     let whole = whole_line line room (all_fit line room fit) in
-    let next : (row_from line room 0).next ≡ length line = ap (λ (r : Row). r.next) whole in
+    let next : (row_from line room 0).next ≡ length line = ap (λ (r : LineRow). r.next) whole in
     let some : 0 < length line = omega arith in
     one_row line room 0 (length us) some
-    ∙ ap₂ (λ (r : Row) (rs : List Row). r ∷ rs) whole
+    ∙ ap₂ (λ (r : LineRow) (rs : List LineRow). r ∷ rs) whole
     (no_row line room (row_from line room 0).next (length us) (omega (arith, next)))

@@ -4,7 +4,7 @@ use Rattle.std.specs.List.{sum_by}
 use Rattle.std.proofs.lemmas.Bool.{cond-true, cond-false}
 use Rattle.std.proofs.lemmas.List.{drop_all, drop_more, length-take-le, take_all, take_more}
 use Rattle.std.proofs.lemmas.List.Sums.{sum-map, sum_by-cons}
-use Rattle.tt_rows.specs.declared.row.Row.{Row}
+use Rattle.tt_rows.specs.declared.row.LineRow.{LineRow}
 use Rattle.tt_rows.specs.declared.unit.RowUnit.{RowUnit}
 use Rattle.tt_rows.specs.Breaks.{no_unit}
 use Rattle.tt_rows.specs.Classes.{is_blank}
@@ -55,7 +55,7 @@ all_units us = ap drawn (take_all (length us) us (omega arith))
 -- ---- the rows
 
 -- the rows so far, and then at most so many from a unit on
-pub record IsLeft (line : List RowUnit) (room : ℕ) (made : List Row) (from : ℕ) : Type 0 where
+pub record IsLeft (line : List RowUnit) (room : ℕ) (made : List LineRow) (from : ℕ) : Type 0 where
   pub most : ℕ
   pub enough : length line ≤ from + most
   pub all : made ++ rows_from line room from most ≡ rows_from line room 0 (length line)
@@ -63,7 +63,7 @@ pub record IsLeft (line : List RowUnit) (room : ℕ) (made : List Row) (from : �
 pub none_made : (line : List RowUnit) (room : ℕ) → IsLeft line room [] 0
 none_made line room = record { most = length line; enough = omega arith; all = refl }
 
-pub one_made : (line : List RowUnit) (room : ℕ) (made : List Row) (from : ℕ) → from < length line
+pub one_made : (line : List RowUnit) (room : ℕ) (made : List LineRow) (from : ℕ) → from < length line
     → from < (row_from line room from).next → IsLeft line room made from
     → IsLeft line room (made ++ row_from line room from ∷ []) (row_from line room from).next
 one_made line room made from some after left =
@@ -79,7 +79,7 @@ one_made line room made from some after left =
       all = append_assoc made (r ∷ []) (rows_from line room r.next k) ∙ sym (ap (λ l. made ++ l) split) ∙ left.all;
     }
 
-pub all_made : (line : List RowUnit) (room : ℕ) (made : List Row) (from : ℕ) → 0 < length line → length line ≤ from
+pub all_made : (line : List RowUnit) (room : ℕ) (made : List LineRow) (from : ℕ) → 0 < length line → length line ≤ from
     → IsLeft line room made from → made ≡ rows line room
 unfolding rows
 all_made [] room made from some over left = absurd (omega (arith, some))

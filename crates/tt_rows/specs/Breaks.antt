@@ -4,7 +4,7 @@ use Rattle.std.specs.Prelude.{◌≡◌, refl, ℕ, ◌-◌, Bool, true, false, 
 use Rattle.tt_rows.specs.declared.unit.RowUnit.{RowUnit}
 use Rattle.tt_rows.specs.Classes.{begins_no_row, ends_no_row, is_blank, is_digit, is_hyphen, is_ideograph, is_zero_width_space}
 
--- between characters a and b, of which a follows a character that is no blank, or not; the first that holds
+-- between characters a and b, where a follows a character that is no blank, or not; the first that holds
 unfoldable pub may_break : Bool → ℕ → ℕ → Bool
 may_break after_word a b =
     if is_blank a then not (is_blank b)

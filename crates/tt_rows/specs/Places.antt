@@ -14,7 +14,7 @@ indent_by align.Left rest = pos 0
 indent_by align.Centre rest = half rest
 indent_by align.Right rest = rest
 
--- the column at which a row of this width begins, in a picture whose room is between two margins
+-- the first column of a row of this width, in a picture whose room is between two margins
 abbrev pub left_of : Align → ℕ → ℕ → ℕ → ℤ
 left_of how margin room width = pos margin +ℤ indent_by how (pos room -ℤ pos width)
 

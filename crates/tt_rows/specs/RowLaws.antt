@@ -2,7 +2,7 @@
 -- where they have to be.
 use Rattle.std.specs.Prelude.{◌≡◌, ℕ, ◌+◌, ◌<◌, ◌≤◌, true, false, ◌⊎◌, ⊤, List, [], ◌∷◌, ◌++◌, length, take}
 use Rattle.std.specs.List.{flat_map}
-use Rattle.tt_rows.specs.declared.row.Row.{Row}
+use Rattle.tt_rows.specs.declared.row.LineRow.{LineRow}
 use Rattle.tt_rows.specs.declared.unit.RowUnit.{RowUnit}
 use Rattle.tt_rows.specs.Breaks.{breaks_before}
 use Rattle.tt_rows.specs.Classes.{is_blank}
@@ -10,12 +10,12 @@ use Rattle.tt_rows.specs.Rows.{fitting, row_between, rows}
 use Rattle.tt_rows.specs.Widths.{part, row_width}
 
 -- each row of some has a property
-abbrev pub EachRow : (Row → Type 0) → List Row → Type 0
+abbrev pub EachRow : (LineRow → Type 0) → List LineRow → Type 0
 EachRow P [] = ⊤
 EachRow P (r ∷ rs) = P r × EachRow P rs
 
 -- all units of a row, with the blanks at its end
-abbrev pub units_of : List RowUnit → Row → List RowUnit
+abbrev pub units_of : List RowUnit → LineRow → List RowUnit
 units_of line r = part line r.from r.next
 
 -- each unit of a line stands in exactly one row, in the line's order
@@ -28,7 +28,7 @@ AreBlanks [] = ⊤
 AreBlanks (u ∷ us) = (is_blank u.character ≡ true) × AreBlanks us
 
 -- the units of a row that are drawn, and after them blanks alone
-abbrev pub DropsBlanks : List RowUnit → Row → Type 0
+abbrev pub DropsBlanks : List RowUnit → LineRow → Type 0
 DropsBlanks line r = (blanks : List RowUnit) × (units_of line r ≡ part line r.from r.until ++ blanks) × AreBlanks blanks
 
 abbrev pub RowsDropBlanks : Type 0
@@ -39,7 +39,7 @@ abbrev pub MayEnd : List RowUnit → ℕ → Type 0
 MayEnd line j = (breaks_before line j ≡ true) ⊎ (j ≡ length line)
 
 -- a row that breaks no word ends where it may, and is no wider than the room
-abbrev pub FitsWhole : List RowUnit → ℕ → Row → Type 0
+abbrev pub FitsWhole : List RowUnit → ℕ → LineRow → Type 0
 FitsWhole line room r = r.broken ≡ false → MayEnd line r.next × (row_width (units_of line r) ≤ room)
 
 -- a row from unit `from` up to before unit j is wider than the room, or a beginning of it is. Only kerning that is wider
@@ -48,12 +48,12 @@ abbrev pub Overflows : List RowUnit → ℕ → ℕ → ℕ → Type 0
 Overflows line room from j = (k : ℕ) × (from < k) × (k ≤ j) × (room < row_width (part line from k))
 
 -- every longer row that ends where it may overflows the room
-abbrev pub IsLongest : List RowUnit → ℕ → Row → Type 0
+abbrev pub IsLongest : List RowUnit → ℕ → LineRow → Type 0
 IsLongest line room r = (j : ℕ) → r.next < j → j ≤ length line → MayEnd line j → Overflows line room r.from j
 
 -- from the first unit of a row that breaks a word on, every row that ends where it may overflows the room. The row has one
 -- unit, or is no wider than the room, and is wider with the first unit of the next row
-abbrev pub BreaksOfNeed : List RowUnit → ℕ → Row → Type 0
+abbrev pub BreaksOfNeed : List RowUnit → ℕ → LineRow → Type 0
 BreaksOfNeed line room r = r.broken ≡ true
     → ((j : ℕ) → r.from < j → j ≤ length line → MayEnd line j → Overflows line room r.from j)
     × ((r.next ≡ r.from + 1) ⊎ (row_width (units_of line r) ≤ room))

@@ -1,7 +1,7 @@
 -- A line broken into rows of at most a room's width (profile). A row ends at the last place where it may end such that it
 -- fits. Where there is no such place, a word is broken.
 use Rattle.std.specs.Prelude.{◌≡◌, refl, ℕ, zero, suc, ◌+◌, ◌==◌, Bool, true, false, ◌||◌, nat_le, nat_lt, if◌then◌else◌, List, [], ◌∷◌, drop, length, map}
-use Rattle.tt_rows.specs.declared.row.Row.{Row}
+use Rattle.tt_rows.specs.declared.row.LineRow.{LineRow}
 use Rattle.tt_rows.specs.declared.unit.RowUnit.{RowUnit}
 use Rattle.tt_rows.specs.Breaks.{breaks_before, may_break}
 use Rattle.tt_rows.specs.Classes.{begins_no_row, ends_no_row, is_blank, is_ideograph}
@@ -26,7 +26,7 @@ unfoldable pub whole_words : List RowUnit → ℕ → ℕ → ℕ
 whole_words line from most = greatest (λ count. breaks_before line (from + count)) most
 
 -- the row of the units from `from` up to before `next`
-abbrev pub row_between : List RowUnit → ℕ → ℕ → Bool → Row
+abbrev pub row_between : List RowUnit → ℕ → ℕ → Bool → LineRow
 row_between line from next broken = record {
   from = from;
   until = from + length (drawn (part line from next));
@@ -39,29 +39,29 @@ abbrev pub one_at_least : ℕ → ℕ
 one_at_least n = if n == 0 then 1 else n
 
 -- the row from unit `from` on, where so many units fit, and so many before the last break among them
-abbrev pub row_by : List RowUnit → ℕ → ℕ → ℕ → Row
+abbrev pub row_by : List RowUnit → ℕ → ℕ → ℕ → LineRow
 row_by line from count whole =
     if from + count == length line then row_between line from (from + count) false
     else if nat_lt 0 whole then row_between line from (from + whole) false
     else row_between line from (from + one_at_least count) true
 
 -- the row from a unit on
-unfoldable pub row_from : List RowUnit → ℕ → ℕ → Row
+unfoldable pub row_from : List RowUnit → ℕ → ℕ → LineRow
 row_from line room from =
     row_by line from (fitting room (drop from line)) (whole_words line from (fitting room (drop from line)))
 
 -- at most so many rows from a unit on
-unfoldable pub rows_from : List RowUnit → ℕ → ℕ → ℕ → List Row
+unfoldable pub rows_from : List RowUnit → ℕ → ℕ → ℕ → List LineRow
 rows_from line room from zero = []
 rows_from line room from (suc most) =
     if nat_lt from (length line) then row_from line room from ∷ rows_from line room (row_from line room from).next most
     else []
 
-abbrev pub empty_row : Row
+abbrev pub empty_row : LineRow
 empty_row = record { from = 0; until = 0; next = 0; broken = false }
 
 -- the rows of a line; each has a unit, so a line has at most as many rows as units. An empty line is one row
-unfoldable pub rows : List RowUnit → ℕ → List Row
+unfoldable pub rows : List RowUnit → ℕ → List LineRow
 rows [] room = empty_row ∷ []
 rows (u ∷ us) room = rows_from (u ∷ us) room 0 (length (u ∷ us))
 
@@ -72,13 +72,13 @@ step_of c = if c == 0x20 then 2 else if c == 0x200B then 0 else 4
 unkerned : ℕ → RowUnit
 unkerned c = record { character = c; glyph = 1; step = step_of c; kerned = step_of c }
 
-of_text : ℕ → List ℕ → List Row
+of_text : ℕ → List ℕ → List LineRow
 of_text room cs = rows (map unkerned cs) room
 
-unbroken : ℕ → ℕ → ℕ → Row
+unbroken : ℕ → ℕ → ℕ → LineRow
 unbroken from until next = record { from = from; until = until; next = next; broken = false }
 
-cut : ℕ → ℕ → Row
+cut : ℕ → ℕ → LineRow
 cut from next = record { from = from; until = next; next = next; broken = true }
 
 -- "AA AA A" in 18, "AA A" in 14 and in 13

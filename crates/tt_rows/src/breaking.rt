@@ -8,7 +8,7 @@ ghost use Rattle.tt_rows.specs.Widths.{drawn};
 use crate::breaks::breaks_before;
 use crate::classes::is_blank;
 use crate::fitting::fitting;
-use crate::row::Row;
+use crate::row::LineRow;
 use crate::unit::RowUnit;
 use std::alloc::{AllocError, Global};
 
@@ -44,13 +44,13 @@ fn drawn_count(units: &[RowUnit]) -> usize
 }
 
 /// The row of the units from `from` up to before `next`.
-fn row_between(line: &[RowUnit], from: usize, next: usize, broken: bool) -> Row
+fn row_between(line: &[RowUnit], from: usize, next: usize, broken: bool) -> LineRow
     requires order { from ≤ next }
     requires within { next ≤ length line.now }
     ensures exact { result ≡ row_between line.now from next broken }
     ensures next { result.next ≡ next }
 {
-    Row {
+    LineRow {
         from,
         until: from + drawn_count(&line[from..next]),
         next,
@@ -68,7 +68,7 @@ fn one_at_least(n: usize) -> usize
 /// The row from a unit of a line on. The row ends at the last place where it may end and fits the room. Where there is
 /// no such place, the row has as many units as fit, and at least one.
 #[tactic(auto, unfolding(crate::specs::Rows::row_from))]
-pub fn row_from(line: &[RowUnit], room: u32, from: usize) -> Row
+pub fn row_from(line: &[RowUnit], room: u32, from: usize) -> LineRow
     requires few { length line.now ≤ text_limit }
     requires within { from < length line.now }
     ensures exact { result ≡ row_from line.now room from }
@@ -87,13 +87,13 @@ pub fn row_from(line: &[RowUnit], room: u32, from: usize) -> Row
 }
 
 /// The rows of a line. Work is linear in its units: each is read for at most three rows. Error: Memory.
-pub fn rows(alloc: Global, line: &[RowUnit], room: u32) -> Result<Vec<Row>, AllocError>
+pub fn rows(alloc: Global, line: &[RowUnit], room: u32) -> Result<Vec<LineRow>, AllocError>
     requires few { length line.now ≤ text_limit }
     ensures exact { IfOk result (λ v. v.items ≡ rows line.now room) }
 {
     let mut made = Vec::new(alloc);
     if line.is_empty() {
-        made.push(Row {
+        made.push(LineRow {
             from: 0,
             until: 0,
             next: 0,

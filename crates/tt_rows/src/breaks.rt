@@ -6,7 +6,7 @@ ghost use Rattle.tt_rows.specs.Breaks.{breaks_before, is_after_word, may_break};
 use crate::classes::{begins_no_row, ends_no_row, is_blank, is_digit, is_hyphen, is_ideograph};
 use crate::unit::RowUnit;
 
-/// Whether a row may end between characters `a` and `b`, of which `a` follows a character that is no blank, or not. The
+/// Whether a row may end between characters `a` and `b`, where `a` follows a character that is no blank, or not. The
 /// first rule that holds decides (profile).
 #[tactic(auto, unfolding(crate::specs::Breaks::may_break))]
 fn may_break(after_word: bool, a: char, b: char) -> bool

@@ -78,7 +78,7 @@ fn composed_after(
     Ok(made)
 }
 
-/// A line in which characters that the font has take the place of pairs that compose. Nothing is reordered. Error:
+/// A line whose pairs that compose are replaced by characters that the font has. Nothing is reordered. Error:
 /// Memory.
 pub fn composed(alloc: Global, cmap: &CharacterMap, line: &str) -> Result<String, AllocError>
     ensures exact { IfOk result (λ s. string_bytes s ≡ encode_utf8_all (composed cmap.now (chars line.now))) }

@@ -16,7 +16,7 @@ mod units;
 pub use breaking::{row_from, rows};
 pub use composing::{composed, has_pair};
 pub use places::{base_line, first_base_line, left_of, rows_height};
-pub use row::Row;
+pub use row::LineRow;
 pub use row_line::row_steps;
 pub use unit::RowUnit;
 pub use units::row_units;

@@ -28,7 +28,7 @@ fn indent(align: Align, rest: i64) -> i64
     }
 }
 
-/// The column at which a row of this width begins, in a picture whose room is between two margins.
+/// The first column of a row of this width, in a picture whose room is between two margins.
 pub fn left_of(align: Align, margin: u32, room: u32, width: u64) -> i64
     requires margin { margin ≤ margin_limit }
     requires room { room ≤ width_limit }

@@ -2,7 +2,7 @@
 
 /// The places of a row's units in their line.
 #[derive(Clone, Copy, Debug, PartialEq, Eq)]
-pub struct Row {
+pub struct LineRow {
     /// The first unit.
     pub from: usize,
     /// One past the last unit that is drawn. Blanks at the end of a row are not.
