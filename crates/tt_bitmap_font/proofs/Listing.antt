@@ -4,7 +4,7 @@ use Rattle.std.proofs.lemmas.List.{at_drop_all, at_drop_more, map-append}
 use Rattle.tt_cmap.specs.Maps.{CharacterMap}
 use Rattle.tt_face.specs.Faces.{Face}
 use Rattle.tt_glyphs.specs.declared.told.GlyphEntry.{GlyphEntry}
-use Rattle.tt_picture.specs.declared.report.Unfitted.{Unfitted}
+use Rattle.tt_strike.specs.picture.declared.report.Unfitted.{Unfitted}
 use Rattle.std.specs.Prelude.{◌==◌}
 use Rattle.tt_bdf.specs.declared.character.BdfCharacter.{BdfCharacter}
 use Rattle.tt_bitmap_font.specs.Bitmaps.{character_by, has_large, is_listed, is_too_large, unfitted_after, with_unfitted}

@@ -14,7 +14,7 @@ use Rattle.tt_glyphs.specs.declared.told.Told.{Told}
 use Rattle.tt_glyphs.specs.declared.told.Told.TheVariants as told
 use Rattle.tt_glyphs.specs.Requests.{Bitmaps}
 use Rattle.tt_metrics.specs.Metrics.{advance_of}
-use Rattle.tt_picture.specs.declared.report.Unfitted.{Unfitted}
+use Rattle.tt_strike.specs.picture.declared.report.Unfitted.{Unfitted}
 use Rattle.tt_bitmap_font.specs.Characters.{glyph_for}
 
 -- the most bytes of all rows

@@ -6,7 +6,7 @@ use Rattle.std.proofs.lemmas.List.{get_or_past}
 use Rattle.tt_code.specs.Skips.{if_end, else_end}
 use Rattle.tt_code.specs.declared.decoding.Halt.{Halt}
 use Rattle.tt_core.specs.Outcomes.{Gives}
-use Rattle.tt_exec_stack.specs.Logic.{is_true}
+use Rattle.tt_exec_step.specs.stack.Logic.{is_true}
 use Rattle.tt_exec_step.specs.FixedWork.{fixed_work, works}
 use Rattle.tt_exec_step.specs.Flow.{skips_if}
 use Rattle.tt_exec_step.specs.MachineState.{MachineState}

@@ -3,13 +3,13 @@
 use Rattle.std.specs.Prelude.{◌≡◌, ℕ, zero, suc, ℤ, pos, negsuc, false, List, [], ◌∷◌, codes, Some, Result, Ok, Err, refl}
 use Rattle.tt_core.specs.Scales.{exact_scale}
 use Rattle.tt_core.specs.declared.halves.Halves.TheVariants as halves
-use Rattle.tt_points_zones.specs.Zones.{in_pixels}
+use Rattle.tt_exec_step.specs.zones.Zones.{in_pixels}
 use Rattle.tt_core.specs.Faults.{Fault, fault_at}
 use Rattle.tt_core.specs.Outcomes.{◌>>=◌}
 use Rattle.tt_core.specs.declared.fault.Why.TheVariants as why
 use Rattle.tt_state.specs.GraphicsState.{default_state}
 use Rattle.tt_state.specs.declared.tolerance.Tolerance.TheVariants as tolerance
-use Rattle.tt_exec_stack.specs.Stack.{pushed}
+use Rattle.tt_exec_step.specs.stack.Stack.{pushed}
 use Rattle.tt_exec.specs.Machines.{fresh, run_from}
 use Rattle.tt_exec_step.specs.MachineState.{MachineState}
 use Rattle.tt_exec.specs.Parts.{Parts}

@@ -10,3 +10,5 @@ pub mod RunCost
 pub mod Work
 pub mod WorkExamples
 pub mod Worked
+pub use Rattle.tt_exec_step.specs as step
+pub use Rattle.tt_exec_step.specs.zones as zones

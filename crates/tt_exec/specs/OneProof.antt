@@ -2,7 +2,7 @@
 use Rattle.std.specs.Prelude.{ℕ, List, [], ◌∷◌}
 use Rattle.std.specs.Coded.{le_prop}
 use Rattle.std.proofs.Props.{props}
-use Rattle.tt_points_zones.specs.Zones.{ZoneLists, AreContours, IsZones}
+use Rattle.tt_exec_step.specs.zones.Zones.{ZoneLists, AreContours, IsZones}
 
 pub contours-prop : (from : ℕ) (contours : List (ℕ × ℕ)) (points : ℕ) → IsProp (AreContours from contours points)
 contours-prop from [] points = le_prop

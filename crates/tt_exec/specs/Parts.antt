@@ -3,8 +3,8 @@ use Rattle.std.specs.Prelude.{ℕ, ℤ, Bool, List}
 use Rattle.tt_core.specs.declared.scaling.Scale.{Scale}
 use Rattle.tt_state.specs.declared.graphics_state.GraphicsState.{GraphicsState}
 use Rattle.tt_state.specs.declared.tolerance.Tolerance.{Tolerance}
-use Rattle.tt_points_zones.specs.Views.{zones_view}
-use Rattle.tt_points_zones.specs.Zones.{ZoneLists}
+use Rattle.tt_exec_step.specs.zones.Views.{zones_view}
+use Rattle.tt_exec_step.specs.zones.Zones.{ZoneLists}
 use Rattle.tt_exec.specs.declared.parts.Parts as declared
 use Rattle.tt_exec_step.specs.MachineState.{Body}
 

@@ -11,7 +11,7 @@ use Rattle.tt_core.specs.Limits.{step_limit}
 use Rattle.tt_core.specs.declared.fault.Why.TheVariants as why
 use Rattle.tt_code.specs.declared.decoding.Halt.{Halt}
 use Rattle.tt_code.specs.Skips.{if_end, else_end, definition_end}
-use Rattle.tt_exec_stack.specs.Logic.{is_true}
+use Rattle.tt_exec_step.specs.stack.Logic.{is_true}
 use Rattle.tt_exec_step.specs.MachineState.{MachineState, fault_in}
 use Rattle.tt_exec_step.specs.Numbered.{table_copies}
 use Rattle.tt_exec_step.specs.Step.{step, is_ended}

@@ -2,7 +2,7 @@
 use Rattle.std.specs.Prelude.{◌≡◌, ℕ, ℤ, pos, negsuc, false, List, [], ◌∷◌, map, replicate, codes, refl}
 use Rattle.tt_core.specs.Scales.{exact_scale}
 use Rattle.tt_core.specs.declared.halves.Halves.TheVariants as halves
-use Rattle.tt_points_zones.specs.Zones.{in_pixels}
+use Rattle.tt_exec_step.specs.zones.Zones.{in_pixels}
 use Rattle.tt_state.specs.GraphicsState.{default_state}
 use Rattle.tt_state.specs.declared.point.Point.{Point}
 use Rattle.tt_state.specs.declared.tolerance.Tolerance.TheVariants as tolerance

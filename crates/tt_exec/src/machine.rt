@@ -3,9 +3,9 @@
 ghost use Rattle.std.specs.Prelude.{◌≡◌, ◌+◌, ◌≤◌, length, reverse, true, All, IfOk, OnErr, OnOk};
 ghost use Rattle.std.specs.Option.{option_map};
 ghost use Rattle.tt_core.specs.Limits.{stack_limit, step_limit};
-ghost use Rattle.tt_exec_points.specs.Zones.{no_zones};
-ghost use Rattle.tt_points_zones.specs.Views.{zones_view};
-ghost use Rattle.tt_points_zones.specs.Zones.{IsPoint, IsZones, SameShape};
+ghost use Rattle.tt_exec_step.specs.on_points.Zones.{no_zones};
+ghost use Rattle.tt_exec_step.specs.zones.Views.{zones_view};
+ghost use Rattle.tt_exec_step.specs.zones.Zones.{IsPoint, IsZones, SameShape};
 ghost use Rattle.tt_exec_step.specs.Runs.{run_outcome};
 ghost use Rattle.tt_exec_step.specs.Sizes.{SameSizes};
 ghost use Rattle.tt_exec_step.specs.States.{state_of};
@@ -25,11 +25,7 @@ use std::alloc::{AllocError, Global};
 use std::marker::Model;
 use std::mem::replace;
 use tt_core::{Fault, Why};
-use tt_exec_points::Points;
-use tt_exec_stack::Stack;
-use tt_exec_state::Size;
-use tt_exec_step::{CallFrame, Callers, Code, Kind, MachineState};
-use tt_points::Zones;
+use tt_exec_step::{CallFrame, Callers, Code, Kind, MachineState, Points, Size, Stack, Zones};
 use tt_state::{Point, ScanControl};
 
 /// A machine runs programs one after another. A clause sees its state, and whether a run failed.

@@ -4,13 +4,12 @@ ghost use Rattle.std.specs.Prelude.{◌≡◌, ◌≤◌, IfOk};
 ghost use Rattle.tt_core.specs.Limits.{size_limit};
 ghost use Rattle.tt_core.specs.Scales.{IsScale};
 ghost use Rattle.tt_exec.specs.OneProof.{zones-prop};
-ghost use Rattle.tt_points_zones.specs.Views.{zones_view};
-ghost use Rattle.tt_points_zones.specs.Zones.{IsZones};
+ghost use Rattle.tt_exec_step.specs.zones.Views.{zones_view};
+ghost use Rattle.tt_exec_step.specs.zones.Zones.{IsZones};
 
 use std::alloc::AllocError;
 use tt_core::Scale;
-use tt_exec_step::{Functions, MachineState};
-use tt_points::Zones;
+use tt_exec_step::{Functions, MachineState, Zones};
 use tt_state::{GraphicsState, Tolerance};
 
 /// The parts of a machine, before and after runs. Distances are in 26.6 pixels.

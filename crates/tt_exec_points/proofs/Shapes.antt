@@ -19,10 +19,10 @@ use Rattle.tt_points_loops.specs.Flipping as flipping
 use Rattle.tt_points_loops.specs.Moving as moving
 use Rattle.tt_points_loops.specs.Series.{one_by_one}
 use Rattle.tt_points_loops.specs.Shapes as on_many
-use Rattle.tt_points_zones.specs.Shapes.{whatever, through, same}
+use Rattle.tt_points.specs.zones.Shapes.{whatever, through, same}
 use Rattle.tt_points_loops.specs.Shifting as shifting
-use Rattle.tt_points_zones.specs.Points.{has_point}
-use Rattle.tt_points_zones.specs.Zones.{ZoneLists, AreContours, SameShape, KeepsShape, KeepsShapeBefore}
+use Rattle.tt_points.specs.zones.Points.{has_point}
+use Rattle.tt_points.specs.zones.Zones.{ZoneLists, AreContours, SameShape, KeepsShape, KeepsShapeBefore}
 use Rattle.tt_exec_state.specs.StoredValues.{place}
 use Rattle.tt_exec_points.specs.ControlValues.{value_of, change_by, change_pair, change, changes, popped, deltac}
 use Rattle.tt_exec_points.specs.Instruction.{with_values, with_points, on_points}

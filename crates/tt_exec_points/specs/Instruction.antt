@@ -31,9 +31,9 @@ use Rattle.tt_points.specs.ControlValues.{chosen_from, mirp_distance}
 use Rattle.tt_points.specs.Distances.{keeping, single_width}
 use Rattle.tt_points.specs.Moving.{kept, referred, zero_and, zero_and_touched}
 use Rattle.tt_points.specs.Twilight.{made}
-use Rattle.tt_points_zones.specs.Motions.{direction}
-use Rattle.tt_points_zones.specs.Points.{has_point}
-use Rattle.tt_points_zones.specs.Zones.{ZoneLists}
+use Rattle.tt_points.specs.zones.Motions.{direction}
+use Rattle.tt_points.specs.zones.Points.{has_point}
+use Rattle.tt_points.specs.zones.Zones.{ZoneLists}
 use Rattle.tt_exec_stack.specs.Stack.{pushed}
 use Rattle.tt_exec_state.specs.StoredValues.{place}
 use Rattle.tt_exec_points.specs.ControlValues.{deltac}

@@ -5,7 +5,7 @@ use Rattle.tt_state.specs.Loosening.{Loosens, IsTotal}
 use Rattle.tt_state.specs.declared.graphics_state.GraphicsState.{GraphicsState}
 use Rattle.tt_state.specs.declared.tolerance.Tolerance.{Tolerance}
 use Rattle.tt_state.specs.declared.tolerance.Tolerance.TheVariants as tolerance
-use Rattle.tt_points_zones.specs.Zones.{ZoneLists}
+use Rattle.tt_points.specs.zones.Zones.{ZoneLists}
 use Rattle.tt_exec_points.specs.Instruction.{on_points, takes}
 use Rattle.tt_exec_points.specs.declared.instruction.OnPoints.{OnPoints}
 

@@ -5,3 +5,6 @@ pub mod Popping
 pub mod Shapes
 pub mod WithAll
 pub mod Zones
+pub use Rattle.tt_points.specs.zones as zones
+pub use Rattle.tt_points_loops.specs as loops
+pub use Rattle.tt_points.specs as points

@@ -10,7 +10,7 @@ use Rattle.tt_state.specs.declared.tolerance.Tolerance.{Tolerance}
 use Rattle.tt_state.specs.declared.tolerance.Tolerance.TheVariants as tolerance
 use Rattle.tt_exec_stack.specs.Stack.{top}
 use Rattle.tt_points_loops.specs.Series.{set_back}
-use Rattle.tt_points_zones.specs.Zones.{ZoneLists}
+use Rattle.tt_points.specs.zones.Zones.{ZoneLists}
 
 -- the stack, the zones and the graphics state, or a refusal
 abbrev pub Left : Type 0

@@ -3,8 +3,8 @@
 use Rattle.std.specs.Prelude.{ℕ, ℤ, List}
 use Rattle.tt_state.specs.declared.graphics_state.GraphicsState.{GraphicsState}
 use Rattle.tt_state.specs.declared.tolerance.Tolerance.{Tolerance}
-use Rattle.tt_points_zones.specs.WithAll.{with_all, Stays}
-use Rattle.tt_points_zones.specs.Zones.{ZoneLists}
+use Rattle.tt_points.specs.zones.WithAll.{with_all, Stays}
+use Rattle.tt_points.specs.zones.Zones.{ZoneLists}
 use Rattle.tt_exec_points.specs.Instruction.{on_points}
 use Rattle.tt_exec_points.specs.declared.instruction.OnPoints.{OnPoints}
 

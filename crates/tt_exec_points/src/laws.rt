@@ -3,7 +3,7 @@
 ghost use Rattle.std.specs.Prelude.{ℕ, ℤ, List, length, IfOk};
 ghost use Rattle.tt_state.specs.declared.graphics_state.GraphicsState.{GraphicsState};
 ghost use Rattle.tt_state.specs.declared.tolerance.Tolerance.{Tolerance};
-ghost use Rattle.tt_points_zones.specs.Zones.{ZoneLists, AreContours};
+ghost use Rattle.tt_points.specs.zones.Zones.{ZoneLists, AreContours};
 ghost use Rattle.tt_exec_points.specs.declared.instruction.OnPoints.{OnPoints};
 ghost use Rattle.tt_exec_points.specs.Instruction as is;
 ghost use Rattle.tt_exec_points.specs.Shapes.{SameSizes};

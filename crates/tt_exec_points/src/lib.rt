@@ -29,3 +29,7 @@ pub use measuring::Measuring;
 pub use moving::OnOne;
 pub use points::Points;
 pub use several::{InTurn, OnRange};
+pub use tt_points::measuring::Position;
+pub use tt_points::{Keeping, Originals, Zones};
+pub use tt_points_loops::deltas::DeltaRange;
+pub use tt_points_loops::shifting::ReferencePoint;

@@ -2,14 +2,13 @@
 
 ghost use Rattle.std.specs.Prelude.{◌≡◌, ◌^◌, ◌<◌, length, All};
 ghost use Rattle.tt_exec_points.specs.Zones.{no_zones};
-ghost use Rattle.tt_points_zones.specs.Views.{zones_view};
-ghost use Rattle.tt_points_zones.specs.Zones.{IsPoint, IsZones};
+ghost use Rattle.tt_points.specs.zones.Views.{zones_view};
+ghost use Rattle.tt_points.specs.zones.Zones.{IsPoint, IsZones};
 
 use std::alloc::Global;
 use std::marker::Model;
 use tt_core::Halves;
-use tt_points::Zones;
-use tt_points_zones::Originals;
+use tt_points::{Originals, Zones};
 use tt_state::Point;
 
 /// The zones, after each instruction. A clause sees them as their lists.
@@ -19,8 +18,8 @@ pub struct Points {
 }
 
 impl Model for Points {
-    ghost use Rattle.tt_points_zones.specs.Views.{zones_view};
-    ghost use Rattle.tt_points_zones.specs.Zones.{ZoneLists, IsZones};
+    ghost use Rattle.tt_points.specs.zones.Views.{zones_view};
+    ghost use Rattle.tt_points.specs.zones.Zones.{ZoneLists, IsZones};
 
     ghost Value = { ZoneLists };
 

@@ -8,7 +8,7 @@ use Rattle.tt_code.specs.declared.decoding.Halt.{Halt}
 use Rattle.tt_code.specs.Decoding.{Instr, instruction_at, takes_data}
 use Rattle.tt_code.specs.Skips.{if_end, else_end, definition_end}
 use Rattle.tt_state.specs.declared.graphics_state.GraphicsState.{GraphicsState}
-use Rattle.tt_points_zones.specs.Zones.{ZoneLists, SameShape}
+use Rattle.tt_exec_points.specs.zones.Zones.{ZoneLists, SameShape}
 use Rattle.tt_exec_points.specs.declared.instruction.OnPoints.{OnPoints}
 use Rattle.tt_exec_points.specs.Instruction as points
 use Rattle.tt_exec_points.specs.Shapes as shapes

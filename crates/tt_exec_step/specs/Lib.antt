@@ -17,3 +17,6 @@ pub mod States
 pub mod Step
 pub mod Views
 pub mod WithAll
+pub use Rattle.tt_exec_points.specs.zones as zones
+pub use Rattle.tt_exec_points.specs as on_points
+pub use Rattle.tt_exec_stack.specs as stack

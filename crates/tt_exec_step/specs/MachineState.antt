@@ -5,7 +5,7 @@ use Rattle.tt_core.specs.Faults.{Fault, fault_at}
 use Rattle.tt_core.specs.declared.fault.Why.{Why}
 use Rattle.tt_state.specs.declared.graphics_state.GraphicsState.{GraphicsState}
 use Rattle.tt_state.specs.declared.tolerance.Tolerance.{Tolerance}
-use Rattle.tt_points_zones.specs.Zones.{ZoneLists}
+use Rattle.tt_exec_points.specs.zones.Zones.{ZoneLists}
 use Rattle.tt_exec_step.specs.declared.machine_state.Kind.{Kind}
 
 -- a program: its table, the offset of its first byte there, and its bytes

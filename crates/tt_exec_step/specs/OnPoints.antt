@@ -4,7 +4,7 @@ use Rattle.std.specs.Prelude.{ℕ, ℤ, List, Result, Ok, Err}
 use Rattle.tt_core.specs.Faults.{Fault}
 use Rattle.tt_core.specs.declared.fault.Why.{Why}
 use Rattle.tt_state.specs.declared.graphics_state.GraphicsState.{GraphicsState}
-use Rattle.tt_points_zones.specs.Zones.{ZoneLists}
+use Rattle.tt_exec_points.specs.zones.Zones.{ZoneLists}
 use Rattle.tt_exec_points.specs.declared.instruction.OnPoints.{OnPoints}
 use Rattle.tt_exec_points.specs.Instruction as is
 use Rattle.tt_exec_step.specs.MachineState.{MachineState, fault_in}

@@ -11,11 +11,11 @@ use Rattle.tt_exec_state.specs.declared.instruction.Query.TheVariants as query
 use Rattle.tt_exec_state.specs.declared.instruction.GraphicsSetting.TheVariants as setting
 use Rattle.tt_exec_state.specs.declared.instruction.Vectors.TheVariants as vectors
 use Rattle.tt_code.specs.Decoding.{takes_data}
-use Rattle.tt_points.specs.Distances.{keeping}
-use Rattle.tt_points.specs.declared.distances.Keeping.{Keeping}
-use Rattle.tt_points.specs.declared.measuring.Position.TheVariants as position
-use Rattle.tt_points_loops.specs.declared.deltas.DeltaRange.TheVariants as ranges
-use Rattle.tt_points_loops.specs.declared.shifting.ReferencePoint.TheVariants as by
+use Rattle.tt_exec_points.specs.points.Distances.{keeping}
+use Rattle.tt_exec_points.specs.points.declared.distances.Keeping.{Keeping}
+use Rattle.tt_exec_points.specs.points.declared.measuring.Position.TheVariants as position
+use Rattle.tt_exec_points.specs.loops.declared.deltas.DeltaRange.TheVariants as ranges
+use Rattle.tt_exec_points.specs.loops.declared.shifting.ReferencePoint.TheVariants as by
 use Rattle.tt_exec_points.specs.declared.instruction.OnPoints.TheVariants as on
 use Rattle.tt_exec_points.specs.declared.lines.OnLines.TheVariants as line
 use Rattle.tt_exec_points.specs.declared.measuring.Measuring.TheVariants as measure

@@ -1,6 +1,6 @@
 -- No part of the standard: no instruction adds or removes a point, a storage place or a control value.
 use Rattle.std.specs.Prelude.{◌≡◌, length}
-use Rattle.tt_points_zones.specs.Zones.{ZoneLists, AreContours}
+use Rattle.tt_exec_points.specs.zones.Zones.{ZoneLists, AreContours}
 use Rattle.tt_exec_step.specs.MachineState.{MachineState}
 
 -- the contours are ranges of the glyph's points

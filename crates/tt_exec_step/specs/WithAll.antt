@@ -2,7 +2,7 @@
 -- One that halts has the same fault, unless that is a refusal of the profile.
 use Rattle.std.specs.Prelude.{◌≡◌, false, Result, Ok, Err}
 use Rattle.tt_core.specs.Faults.{Fault}
-use Rattle.tt_points_zones.specs.WithAll.{with_all, is_of_profile}
+use Rattle.tt_exec_points.specs.zones.WithAll.{with_all, is_of_profile}
 use Rattle.tt_exec_step.specs.MachineState.{MachineState}
 use Rattle.tt_exec_step.specs.Runs.{run_outcome}
 

@@ -1,7 +1,7 @@
 //! Laws of steps one after another, which are runs. Apple TrueType Reference Manual, "Instructing TrueType Glyphs".
 
 ghost use Rattle.std.specs.Prelude.{ℕ};
-ghost use Rattle.tt_points_zones.specs.Zones.{SameShape};
+ghost use Rattle.tt_exec_points.specs.zones.Zones.{SameShape};
 ghost use Rattle.tt_exec_step.specs.MachineState.{MachineState};
 ghost use Rattle.tt_exec_step.specs.Outcomes.{HasOneOutcome};
 ghost use Rattle.tt_exec_step.specs.Runs.{Ends};

@@ -36,3 +36,6 @@ pub use machine_state::{Kind, MachineState};
 pub use outcome::Outcome;
 pub use program::{Body, CallFrame, Code, Definition};
 pub use table::fixed_work;
+pub use tt_exec_points::{Originals, Points, Zones};
+pub use tt_exec_stack::Stack;
+pub use tt_exec_state::Size;

@@ -12,13 +12,12 @@ ghost use Rattle.tt_exec_step.specs.Outcome.{wants_memory};
 use crate::machine_state::MachineState;
 use crate::outcome::Outcome;
 use tt_core::Why;
-use tt_exec_points::{InTurn, Measuring, OnLines, OnOne, OnPoints, OnRange};
+use tt_exec_points::{
+    DeltaRange, InTurn, Keeping, Measuring, OnLines, OnOne, OnPoints, OnRange, Position,
+    ReferencePoint,
+};
 use tt_exec_stack::{Arithmetic, Logic, Managing};
 use tt_exec_state::{GraphicsSetting, Query, StoredValues, Vectors};
-use tt_points::Keeping;
-use tt_points::measuring::Position;
-use tt_points_loops::deltas::DeltaRange;
-use tt_points_loops::shifting::ReferencePoint;
 use tt_state::{Axis, Round};
 
 /// Whether an opcode has the bit with this value.

@@ -4,7 +4,7 @@ use Rattle.tt_core.specs.Faults.{Fault}
 use Rattle.tt_core.specs.declared.font_fault.FontFault.{FontFault}
 use Rattle.tt_core.specs.declared.font_fault.FontFault.TheVariants as font
 use Rattle.tt_core.specs.Outcomes.{◌>>=◌, IfTold, font_fault}
-use Rattle.tt_exec.specs.Work.{Worked, enough, spent}
+use Rattle.tt_fit_outline.specs.machine.Work.{Worked, enough, spent}
 use Rattle.tt_glyf.specs.Loca.{Glyf}
 use Rattle.tt_metrics.specs.Metrics.{Metrics}
 use Rattle.tt_fit.specs.declared.dropouts.DropoutsBy.{DropoutsBy}

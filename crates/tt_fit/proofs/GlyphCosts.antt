@@ -1,10 +1,10 @@
 -- The cost of a glyph's programs is one number, whatever remains of the job's work.
 use Rattle.std.proofs.Common.{ℕ, zero, suc, List, [], ◌∷◌, Option, Result}
 use Rattle.tt_core.specs.Faults.{Fault}
-use Rattle.tt_exec.proofs.RunCosts.{free, costs_both, is_cost}
-use Rattle.tt_exec.specs.Parts.{Parts}
-use Rattle.tt_exec.specs.RunCost.{HasCost}
-use Rattle.tt_exec.specs.Work.{Worked}
+use Rattle.tt_fit_outline.proofs.machine.RunCosts.{free, costs_both, is_cost}
+use Rattle.tt_fit_outline.specs.machine.Parts.{Parts}
+use Rattle.tt_fit_outline.specs.machine.RunCost.{HasCost}
+use Rattle.tt_fit_outline.specs.machine.Work.{Worked}
 use Rattle.tt_face.specs.Programs.{ProgramTables}
 use Rattle.tt_fit.specs.Fitting.{Fitter, with_hinting, size_of, start, simple_start, composite_program, simple_program, joined, added, simple_work, composite_work, made_work, work_by, added_work, glyph_work}
 use Rattle.tt_fit.specs.GlyphCost.{GlyphsHaveCosts}

@@ -3,7 +3,7 @@ use Rattle.std.proofs.Common.{◌≡◌, ℕ, Bool, true, false, if◌then◌els
 use Rattle.std.specs.Prelude.{IsOkAnd, ◌⊎◌}
 use Rattle.tt_core.specs.Chains.{came-through, was-err, passed-else, failed-else}
 use Rattle.tt_core.specs.Faults.{Fault}
-use Rattle.tt_exec.specs.Parts.{Parts}
+use Rattle.tt_fit_outline.specs.machine.Parts.{Parts}
 use Rattle.tt_fit.specs.Defects.{PassesLimit, IsGridDefect, IsProgramDefect, IsHintingDefect}
 use Rattle.tt_fit_outline.specs.declared.grid.Grid.{Grid}
 use Rattle.tt_fit_outline.specs.GlyphZone.{GlyphProgram, program_in_glyf, on_grid, are_on_grid, on_grid_at}

@@ -4,7 +4,7 @@ use Rattle.tt_core.specs.Faults.{Fault}
 use Rattle.tt_core.specs.Outcomes.{◌>>=◌, font_fault}
 use Rattle.tt_core.specs.declared.font_fault.FontFault.{FontFault}
 use Rattle.tt_core.specs.declared.font_fault.FontFault.TheVariants as font
-use Rattle.tt_exec.specs.Work.{Worked, enough}
+use Rattle.tt_fit_outline.specs.machine.Work.{Worked, enough}
 use Rattle.tt_glyf.specs.declared.raw.Record.{Record}
 use Rattle.tt_fit_outline.specs.declared.outline_fault.OutlineFault.{OutlineFault}
 use Rattle.tt_fit_outline.specs.declared.outline_fault.OutlineFault.TheVariants as outline

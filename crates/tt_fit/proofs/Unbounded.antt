@@ -1,11 +1,11 @@
 -- Unbounded work is always enough.
 use Rattle.std.proofs.Common.{◌≡◌, ℕ, zero, suc, Bool, true, false, if◌then◌else◌, List, [], ◌∷◌, Option, None, Result, Ok, Err, ◌⊎◌, inl, inr, ap, refl}
 use Rattle.tt_core.specs.Faults.{Fault}
-use Rattle.tt_exec.proofs.WorkPaid.{unbounded}
-use Rattle.tt_exec.specs.Machines.{fresh, run_from}
-use Rattle.tt_exec_step.specs.MachineState.{Code}
-use Rattle.tt_exec.specs.Parts.{Parts}
-use Rattle.tt_exec.specs.Work.{Worked, enough, then_work}
+use Rattle.tt_fit_outline.proofs.machine.WorkPaid.{unbounded}
+use Rattle.tt_fit_outline.specs.machine.Machines.{fresh, run_from}
+use Rattle.tt_fit_outline.specs.step.MachineState.{Code}
+use Rattle.tt_fit_outline.specs.machine.Parts.{Parts}
+use Rattle.tt_fit_outline.specs.machine.Work.{Worked, enough, then_work}
 use Rattle.tt_glyf.specs.declared.raw.Record.{Record}
 use Rattle.tt_glyf.specs.GlyphData.{glyph_data_of}
 use Rattle.tt_glyf.specs.Loca.{glyph_offset}

@@ -13,7 +13,7 @@ use Rattle.tt_glyf.specs.Defects.{IsGlyphDefect}
 use Rattle.tt_glyf.specs.GlyphData.{glyph_data_of}
 use Rattle.tt_glyf.specs.Loca.{glyph_offset}
 use Rattle.tt_glyf.specs.Raw.{Raw, empty, simple, composite}
-use Rattle.tt_exec.specs.Parts.{Parts}
+use Rattle.tt_fit_outline.specs.machine.Parts.{Parts}
 use Rattle.tt_fit_outline.specs.Component.{shift_of, landed}
 use Rattle.tt_fit.specs.Fitting.{Fitter, size_of, start, glyph_grid, simple_start, composite_program, simple_program, joined, added, outline_at, glyph_fitter}
 use Rattle.tt_fit_outline.specs.declared.grid.Grid.{Grid}

@@ -8,8 +8,8 @@ use Rattle.tt_core.specs.Outcomes.{◌>>=◌}
 use Rattle.tt_core.specs.Scales.{scaled_by}
 use Rattle.tt_core.specs.declared.halves.Halves.TheVariants as halves
 use Rattle.tt_core.specs.declared.scaling.Scale.{Scale}
-use Rattle.tt_exec.specs.Parts.{Parts}
-use Rattle.tt_exec.specs.Work.{enough, spent}
+use Rattle.tt_fit_outline.specs.machine.Parts.{Parts}
+use Rattle.tt_fit_outline.specs.machine.Work.{enough, spent}
 use Rattle.tt_glyf.specs.Loca.{Glyf, glyph_offset}
 use Rattle.tt_glyf.specs.Raw.{SimpleGlyph}
 use Rattle.tt_metrics.specs.Metrics.{Metrics}

@@ -13,3 +13,4 @@ pub mod Rules
 pub mod Tried
 pub mod Views
 pub mod Work
+pub use Rattle.tt_fit_outline.specs as outline

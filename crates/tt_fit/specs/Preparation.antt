@@ -5,9 +5,9 @@
 use Rattle.std.specs.Prelude.{ℕ, if◌then◌else◌, List, codes, Option, Some, None, Result, Ok, Err}
 use Rattle.tt_core.specs.Faults.{Fault}
 use Rattle.tt_core.specs.Outcomes.{◌>>=◌}
-use Rattle.tt_exec_step.specs.MachineState.{Code}
-use Rattle.tt_exec.specs.Parts.{Parts}
-use Rattle.tt_exec.specs.Work.{Worked, enough, spent, then_work}
+use Rattle.tt_fit_outline.specs.step.MachineState.{Code}
+use Rattle.tt_fit_outline.specs.machine.Parts.{Parts}
+use Rattle.tt_fit_outline.specs.machine.Work.{Worked, enough, spent, then_work}
 use Rattle.tt_face.specs.Programs.{ProgramTables}
 use Rattle.tt_glyf.specs.Loca.{Glyf}
 use Rattle.tt_metrics.specs.Metrics.{Metrics}

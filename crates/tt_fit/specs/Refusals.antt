@@ -5,8 +5,8 @@ use Rattle.std.specs.Prelude.{◌≡◌, true, pos, neg_ℤ, codes, [], ◌∷�
 use Rattle.tt_core.specs.Faults.{Fault, fault_at, why_number}
 use Rattle.tt_core.specs.declared.fault.Why.TheVariants as why
 use Rattle.tt_core.specs.Limits.{level_limit}
-use Rattle.tt_exec_step.specs.Runs.{run_within, run_outcome}
-use Rattle.tt_exec.specs.Work.{run_work, slowness, work_within}
+use Rattle.tt_fit_outline.specs.step.Runs.{run_within, run_outcome}
+use Rattle.tt_fit_outline.specs.machine.Work.{run_work, slowness, work_within}
 use Rattle.tt_glyf.specs.Bytes.{byte_in, word_in, signed_in, slice_in}
 use Rattle.tt_glyf.specs.Composite.{transform_at, argument_at, arguments_at, unscaled, known_glyph, record_at, records_from, program_of, composite_of}
 use Rattle.tt_glyf.specs.Coordinates.{delta_at, within_words, coordinate_at, coordinates_from}

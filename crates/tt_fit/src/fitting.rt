@@ -26,10 +26,9 @@ use crate::tried::TriedOutline;
 use std::alloc::{AllocError, Global};
 use std::marker::Model;
 use tt_core::{Fault, FontFault};
-use tt_exec::Work;
 use tt_face::Programs;
 use tt_fit_outline::{
-    GlyphMachine, GridRule, Hinting, Outline, OutlineFault, Runner, Scaling, unbounded,
+    GlyphMachine, GridRule, Hinting, Outline, OutlineFault, Runner, Scaling, Work, unbounded,
 };
 use tt_glyf::Glyf;
 use tt_metrics::Metrics;

@@ -21,4 +21,4 @@ pub use programs::Fit;
 pub use tried::TriedOutline;
 pub use tt_core::FontFault as FitFault;
 pub use tt_face::Programs;
-pub use tt_fit_outline::Outline;
+pub use tt_fit_outline::{Outline, pixels_of};

@@ -5,8 +5,8 @@ ghost use Rattle.std.specs.Prelude.{◌≡◌, ◌≤◌, length, Ok, IsTrue};
 ghost use Rattle.tt_core.specs.Faults.{is_ascii};
 ghost use Rattle.tt_core.specs.Limits.{font_limit};
 ghost use Rattle.tt_core.specs.Outcomes.{FontGives};
-ghost use Rattle.tt_exec.specs.Parts.{parts_of};
-ghost use Rattle.tt_exec_step.specs.Views.{code_of};
+ghost use Rattle.tt_fit_outline.specs.machine.Parts.{parts_of};
+ghost use Rattle.tt_fit_outline.specs.step.Views.{code_of};
 ghost use Rattle.tt_face.specs.Programs.{program_tables};
 ghost use Rattle.tt_fit.specs.Preparation.{hinting_left, left_by_programs, programs_work, without_fallback, within_work, begun_at, left_at, work_from, work_at, prepared};
 ghost use Rattle.tt_fit.specs.Fallback.{everywhere};
@@ -22,8 +22,9 @@ use crate::rules::{cvt_read, rules_of, runs_programs, work_of};
 use std::alloc::Global;
 use std::mem::swap;
 use tt_core::{Fault, FontFault};
-use tt_exec::{Code, Parts, Work};
-use tt_fit_outline::{Hinting, OutlineFault, begun_parts, left_to_glyphs, run, unbounded};
+use tt_fit_outline::{
+    Code, Hinting, OutlineFault, Parts, Work, begun_parts, left_to_glyphs, run, unbounded,
+};
 
 /// The state for glyph programs, which glyphs are unfitted, and the job's remaining work.
 #[derive(Drop)]

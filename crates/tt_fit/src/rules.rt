@@ -6,9 +6,8 @@ ghost use Rattle.tt_fit.specs.Rules.{rules_of, grid_of, runs_programs, levels_of
 use crate::dropouts::DropoutsBy;
 use crate::programs::Fit;
 use tt_core::{BEST_LEVEL_LIMIT, LEVEL_LIMIT, WORK_LIMIT};
-use tt_exec::Work;
 use tt_face::Programs;
-use tt_fit_outline::{GridRule, OutlineRules, Scaling};
+use tt_fit_outline::{GridRule, OutlineRules, Scaling, Work};
 use tt_state::Tolerance;
 
 /// Bytes of the control values that are read, if the job's work is bounded.

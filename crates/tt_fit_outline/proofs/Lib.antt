@@ -6,3 +6,4 @@ pub mod Pixels
 pub mod ProgramCosts
 pub mod Shifts
 pub mod Zones
+pub use Rattle.tt_exec.proofs as machine

@@ -5,11 +5,11 @@ use Rattle.tt_core.specs.Limits.{step_limit}
 use Rattle.tt_core.specs.declared.fault.Why.TheVariants as why
 use Rattle.tt_exec.proofs.WorkPaid.{run_begun, run_spent}
 use Rattle.tt_exec.specs.Machines.{Machine, begun_again, fresh, run_from}
-use Rattle.tt_exec_step.specs.MachineState.{Code, MachineState}
+use Rattle.tt_exec.specs.step.MachineState.{Code, MachineState}
 use Rattle.tt_exec.specs.Parts.{Parts}
 use Rattle.tt_exec.specs.Worked.{OutcomeWithin, WorkIs}
 use Rattle.tt_exec.specs.declared.work.WorkFault.{WorkFault}
-use Rattle.tt_exec_step.specs.Runs.{run_outcome}
+use Rattle.tt_exec.specs.step.Runs.{run_outcome}
 use Rattle.tt_fit_outline.specs.declared.outline_fault.OutlineFault.{OutlineFault}
 use Rattle.tt_fit_outline.specs.declared.outline_fault.OutlineFault.TheVariants as outline
 use Rattle.tt_fit_outline.specs.Hinting.{by_program, run_of}

@@ -6,7 +6,7 @@ use Rattle.tt_exec.specs.Machines.{fresh, run_from}
 use Rattle.tt_exec.specs.Parts.{Parts}
 use Rattle.tt_exec.specs.RunCost.{HasCost}
 use Rattle.tt_exec.specs.Work.{Worked, enough}
-use Rattle.tt_exec_step.specs.MachineState.{Code}
+use Rattle.tt_exec.specs.step.MachineState.{Code}
 use Rattle.tt_fit_outline.specs.GlyphZone.{GlyphProgram, program_in_glyf, on_grid_at}
 use Rattle.tt_fit_outline.specs.Hinting.{Hinting, off, ready, is_run}
 use Rattle.tt_fit_outline.specs.Outline.{Outline}

@@ -3,12 +3,12 @@ use Rattle.std.proofs.Common.{◌≡◌, ap, ℕ, ℤ, zero, suc, ◌+◌, ◌<�
 use Rattle.std.specs.Prelude.{slice_index}
 use Rattle.std.proofs.lemmas.List.{length-map}
 use Rattle.std.proofs.lemmas.List.Elements.{All-push}
-use Rattle.tt_points_zones.specs.Zones.{IsPoint, AreContours, IsZones}
+use Rattle.tt_exec.specs.zones.Zones.{IsPoint, AreContours, IsZones}
 use Rattle.tt_state.specs.declared.point.Point.{Point}
 use Rattle.tt_core.specs.Scales.{IsScale}
 use Rattle.tt_core.specs.declared.scaling.Scale.{Scale}
 use Rattle.tt_glyf.specs.declared.raw.RawPoint.{RawPoint}
-use Rattle.tt_points_zones.specs.declared.zones.Originals.{Originals}
+use Rattle.tt_exec.specs.zones.declared.zones.Originals.{Originals}
 use Rattle.tt_fit_outline.specs.GlyphZone.{contours_from, glyph_zone}
 use Rattle.tt_fit_outline.specs.Parts.{originals_by}
 use Rattle.tt_fit_outline.specs.Units.{Units, in_units, with_units}

@@ -3,7 +3,7 @@
 use Rattle.std.specs.Prelude.{◌≡◌, ℕ, Bool, ◌&&◌, true, false, if◌then◌else◌, ℤ, pos, negsuc, List, [], ◌∷◌, ◌++◌, length, map, take, drop, Option, Some, None, Result, Ok, Err, refl}
 use Rattle.tt_core.specs.Faults.{Fault}
 use Rattle.tt_core.specs.Outcomes.{◌>>=◌}
-use Rattle.tt_exec_step.specs.MachineState.{Code}
+use Rattle.tt_exec.specs.step.MachineState.{Code}
 use Rattle.tt_glyf.specs.Bytes.{glyf_tag}
 use Rattle.tt_state.specs.GraphicsState.{default_scan}
 use Rattle.tt_state.specs.declared.graphics_state.ScanControl.{ScanControl}

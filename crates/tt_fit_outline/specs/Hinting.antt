@@ -5,9 +5,9 @@ use Rattle.std.specs.Prelude.{◌≡◌, ⊤, Bool, true, false, ◌==◌, not, 
 use Rattle.tt_core.specs.Faults.{Fault}
 use Rattle.tt_core.specs.Outcomes.{◌>>=◌}
 use Rattle.tt_exec.specs.Machines.{fresh, parts_in, run_from}
-use Rattle.tt_exec_step.specs.MachineState.{Code}
+use Rattle.tt_exec.specs.step.MachineState.{Code}
 use Rattle.tt_exec.specs.Parts.{Parts}
-use Rattle.tt_exec_step.specs.Runs.{run_outcome}
+use Rattle.tt_exec.specs.step.Runs.{run_outcome}
 use Rattle.tt_fit_outline.specs.declared.grid.Grid.{Grid}
 use Rattle.tt_fit_outline.specs.declared.grid.Grid.TheVariants as rounding
 use Rattle.tt_fit_outline.specs.declared.grid.GridRule.{GridRule}

@@ -12,3 +12,5 @@ pub mod Units
 pub mod Views
 pub mod Work
 pub mod WorkLaws
+pub use Rattle.tt_exec.specs as machine
+pub use Rattle.tt_exec.specs.step as step

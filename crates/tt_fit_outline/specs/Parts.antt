@@ -9,8 +9,8 @@ use Rattle.tt_core.specs.declared.halves.Halves.{Halves}
 use Rattle.tt_core.specs.declared.scaling.Scale.{Scale}
 use Rattle.tt_exec.specs.Parts.{Parts}
 use Rattle.tt_metrics.specs.Metrics.{Metrics, storage_of, twilight_of, units_per_em_of}
-use Rattle.tt_points_zones.specs.Zones.{ZoneLists, IsZones, in_pixels}
-use Rattle.tt_points_zones.specs.declared.zones.Originals.{Originals}
+use Rattle.tt_exec.specs.zones.Zones.{ZoneLists, IsZones, in_pixels}
+use Rattle.tt_exec.specs.zones.declared.zones.Originals.{Originals}
 use Rattle.tt_state.specs.declared.graphics_state.GraphicsState.{GraphicsState}
 use Rattle.tt_state.specs.declared.point.Point.{Point}
 use Rattle.tt_state.specs.GraphicsState.{default_of, default_state}

@@ -9,7 +9,7 @@ use Rattle.tt_exec.specs.declared.fault.ExecFault.TheVariants as exec
 use Rattle.tt_exec.specs.declared.work.WorkFault.{WorkFault}
 use Rattle.tt_exec.specs.declared.work.WorkFault.TheVariants as work
 use Rattle.tt_exec.specs.Machines.{fresh, run_from}
-use Rattle.tt_exec_step.specs.MachineState.{Code}
+use Rattle.tt_exec.specs.step.MachineState.{Code}
 use Rattle.tt_exec.specs.Parts.{Parts}
 use Rattle.tt_exec.specs.Work.{Worked, enough, spent, run_work}
 use Rattle.tt_fit_outline.specs.declared.outline_fault.OutlineFault.{OutlineFault}

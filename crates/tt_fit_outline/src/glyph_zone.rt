@@ -3,7 +3,7 @@
 
 ghost use Rattle.std.specs.Prelude.{◌≡◌, ◌+◌, true, false, length, map, option_map, All, IfOk, IfErr};
 ghost use Rattle.tt_core.specs.Outcomes.{Gives};
-ghost use Rattle.tt_points_zones.specs.Zones.{IsPoint as IsZonePoint};
+ghost use Rattle.tt_exec.specs.zones.Zones.{IsPoint as IsZonePoint};
 ghost use Rattle.tt_fit_outline.specs.Grid.{rounded_to};
 ghost use Rattle.tt_fit_outline.specs.GlyphZone.{on_grid_at, ends_on_grid, untouched, outline_point, glyph_zone, contours_from, place_of, seen, left_outline};
 ghost use Rattle.tt_fit_outline.specs.Outline.{phantom_of, IsCoordinate, IsPoint, IsPosition, ArePhantom};

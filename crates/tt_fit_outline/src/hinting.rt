@@ -2,7 +2,7 @@
 
 ghost use Rattle.std.specs.Prelude.{◌≡◌};
 ghost use Rattle.tt_exec.specs.Parts.{parts_of};
-ghost use Rattle.tt_exec_step.specs.Views.{code_of};
+ghost use Rattle.tt_exec.specs.step.Views.{code_of};
 ghost use Rattle.tt_fit_outline.specs.GlyphZone.{program_in_glyf};
 ghost use Rattle.tt_fit_outline.specs.Hinting.{by_program, grid_by, hinted, run_of};
 ghost use Rattle.tt_fit_outline.specs.Views.{hinting_view, outline_of, program_view};

@@ -32,4 +32,5 @@ pub use rules::{OutlineRules, Scaling};
 pub use scaling::{Phantom, blank, glyf_fault, phantom_points, phantom_units, scaled_outline};
 pub use size::FontSize;
 pub use steps::pixels_of;
+pub use tt_exec::{Code, Parts, Work};
 pub use units::{PhantomUnits, Units};

@@ -7,7 +7,7 @@ ghost use Rattle.tt_fit_outline.specs.Outline.{phantom_of};
 ghost use Rattle.tt_core.specs.Limits.{size_limit};
 ghost use Rattle.tt_fit_outline.specs.Parts.{begun_parts, control_value, control_values, glyph_state, left_to_glyphs, originals_by, parts_with, pointers_set_back, without_glyph};
 ghost use Rattle.tt_fit_outline.specs.Views.{outline_of, size_view, units_view};
-ghost use Rattle.tt_points_zones.specs.Views.{zones_view};
+ghost use Rattle.tt_exec.specs.zones.Views.{zones_view};
 
 use crate::glyph_zone::{contours, glyph_zone, untouched};
 use crate::ready_glyph::ReadyGlyph;
@@ -16,9 +16,8 @@ use crate::size::FontSize;
 use crate::units::Units;
 use std::alloc::{AllocError, Global};
 use tt_core::{Halves, Scale, i16_at};
-use tt_exec::{Copies, Functions, Parts};
+use tt_exec::{Copies, Functions, Originals, Parts, Zones};
 use tt_metrics::Metrics;
-use tt_points_zones::{Originals, Zones};
 use tt_state::GraphicsState;
 
 /// A control value in 26.6 pixels.

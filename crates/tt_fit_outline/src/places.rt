@@ -4,7 +4,7 @@
 ghost use Rattle.std.specs.Prelude.{◌≡◌, option_map, All};
 ghost use Rattle.tt_fit_outline.specs.Units.{IsNear, in_units, phantom_places, places_of, with_units};
 ghost use Rattle.tt_fit_outline.specs.Views.{phantom_units_view, units_view};
-ghost use Rattle.tt_points_zones.specs.Zones.{IsPoint as IsZonePoint};
+ghost use Rattle.tt_exec.specs.zones.Zones.{IsPoint as IsZonePoint};
 
 use crate::units::{PhantomUnits, Units};
 use tt_glyf::RawPoint;

@@ -6,7 +6,7 @@ use Rattle.std.specs.Prelude.{All, IfSome, pos}
 use Rattle.tt_arc.proofs.Closed.{all_closed}
 use Rattle.tt_arc.specs.Laws.{ContoursJoined}
 use Rattle.tt_arc.specs.declared.rule.ChordRule.{ChordRule}
-use Rattle.tt_fit_outline.specs.Outline.{Outline}
+use Rattle.tt_fit.specs.outline.Outline.{Outline}
 use Rattle.tt_glyph_pixels.specs.Shown.{AreClosed}
 use Rattle.tt_picture.specs.Ink.{ink_by}
 use Rattle.tt_picture.specs.Shapes.{contours_of, edges_at, offset_at}

@@ -13,8 +13,8 @@ use Rattle.tt_fit.specs.Fitting.{Fitter, fitted_outline, outline_at, unfitted_fa
 use Rattle.tt_fit.specs.GlyphCost.{all_used, without_work}
 use Rattle.tt_fit.specs.Laws.{UnboundedStays}
 use Rattle.tt_fit.proofs.WorkApart.{work-is-apart}
-use Rattle.tt_fit_outline.specs.Outline.{Outline}
-use Rattle.tt_fit_outline.specs.Steps.{pixels_of}
+use Rattle.tt_fit.specs.outline.Outline.{Outline}
+use Rattle.tt_fit.specs.outline.Steps.{pixels_of}
 use Rattle.tt_line.specs.Layout.{advance_in_pixels}
 use Rattle.tt_metrics.specs.Metrics.{glyphs_of}
 use Rattle.tt_picture.specs.Distinct.{distinct, is_among}

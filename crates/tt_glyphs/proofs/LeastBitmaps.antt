@@ -9,7 +9,7 @@ use Rattle.tt_core.specs.Faults.{Fault}
 use Rattle.tt_fit.specs.declared.dropouts.DropoutRules.{DropoutRules}
 use Rattle.tt_fit.specs.Dropouts.{dropouts_of}
 use Rattle.tt_fit.specs.Fitting.{Fitter, fitted_outline, unfitted_fault}
-use Rattle.tt_fit_outline.specs.Outline.{Outline}
+use Rattle.tt_fit.specs.outline.Outline.{Outline}
 use Rattle.tt_picture.specs.Ink.{filled_ink, glyph_ink, ink_by}
 use Rattle.tt_glyph_pixels.specs.Shown.{is_filled}
 use Rattle.tt_picture.specs.Shapes.{chords_with, contours_of, edges_at, extents_of, filled_by, offset_at, rules_for, shape_at}

@@ -6,7 +6,7 @@ use Rattle.tt_core.specs.Faults.{Fault}
 use Rattle.tt_core.specs.Outcomes.{each}
 use Rattle.tt_face.specs.Faces.{Face}
 use Rattle.tt_fit.specs.Fitting.{Fitter, fitted_outline}
-use Rattle.tt_fit_outline.specs.Outline.{Outline}
+use Rattle.tt_fit.specs.outline.Outline.{Outline}
 use Rattle.tt_line.specs.Layout.{Placement}
 use Rattle.tt_picture.specs.Ink.{glyph_ink}
 use Rattle.tt_picture.specs.Pictures.{Image, image, picture}

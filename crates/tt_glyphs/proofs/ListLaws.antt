@@ -7,7 +7,7 @@ use Rattle.tt_core.specs.Faults.{Fault}
 use Rattle.tt_fit.specs.declared.programs.Fit.{Fit}
 use Rattle.tt_fit.specs.Fitting.{Fitter, after_glyph, fitted_outline, unfitted_fault}
 use Rattle.tt_fit.specs.Laws.{UnboundedStays}
-use Rattle.tt_fit_outline.specs.Outline.{Outline}
+use Rattle.tt_fit.specs.outline.Outline.{Outline}
 use Rattle.tt_metrics.specs.Metrics.{glyphs_of}
 use Rattle.tt_picture.specs.Distinct.{distinct, fitter_for}
 use Rattle.tt_picture.specs.Ink.{glyph_ink}

@@ -10,7 +10,7 @@ use Rattle.tt_core.specs.Outcomes.{◌>>=◌, GivesUnless, IfTold, draw_font_fau
 use Rattle.tt_face.specs.Faces.{Face}
 use Rattle.tt_fit.specs.declared.programs.Fit.{Fit}
 use Rattle.tt_fit.specs.Fitting.{Fitter}
-use Rattle.tt_fit_outline.specs.Outline.{Outline}
+use Rattle.tt_fit.specs.outline.Outline.{Outline}
 use Rattle.tt_metrics.specs.Metrics.{glyphs_of}
 use Rattle.tt_strike.specs.Defects.{IsSettingDefect, TellsDefects}
 use Rattle.tt_strike.specs.Makers.{job_at}

@@ -7,7 +7,7 @@ use Rattle.tt_core.specs.declared.fault.JobFault.TheVariants as fault
 use Rattle.tt_core.specs.Faults.{Fault}
 use Rattle.tt_fit.specs.declared.programs.Fit.{Fit}
 use Rattle.tt_fit.specs.Fitting.{Fitter, fitted_outline}
-use Rattle.tt_fit_outline.specs.Outline.{Outline}
+use Rattle.tt_fit.specs.outline.Outline.{Outline}
 use Rattle.tt_picture.specs.declared.fitting.LineLimits.{LineLimits}
 use Rattle.tt_picture.specs.Distinct.{distinct}
 use Rattle.tt_picture.specs.Steps.{glyph_chords, outline_chords}

@@ -1,7 +1,7 @@
 -- No part of the standard: the edges of an outline at pen 0.
 use Rattle.std.specs.Prelude.{◌≡◌, ℕ, ◌+◌, ◌^◌, ◌≤◌, Bool, ℤ, Option, length, All, IfSome}
 use Rattle.tt_fit.specs.Fitting.{Fitter, fitted_outline}
-use Rattle.tt_fit_outline.specs.Steps.{step_of}
+use Rattle.tt_fit.specs.outline.Steps.{step_of}
 use Rattle.tt_picture.specs.Ink.{ink_by}
 use Rattle.tt_glyph_pixels.specs.Shown.{AreClosed, shows}
 use Rattle.tt_picture.specs.Shapes.{contours_of, edges_at, filling_crossings}

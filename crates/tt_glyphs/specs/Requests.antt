@@ -13,7 +13,7 @@ use Rattle.tt_face.specs.Faces.{Face}
 use Rattle.tt_face.specs.Files.{face_by}
 use Rattle.tt_fit.specs.declared.programs.Fit.{Fit}
 use Rattle.tt_fit.specs.Fitting.{Fitter, fitted_outline}
-use Rattle.tt_fit_outline.specs.Outline.{Outline}
+use Rattle.tt_fit.specs.outline.Outline.{Outline}
 use Rattle.tt_picture.specs.Distinct.{distinct}
 use Rattle.tt_picture.specs.Shapes.{chords_with, edges_at, filled_by, filling_crossings}
 use Rattle.tt_scan_dropouts.specs.Counted.{edges_counted}

@@ -3,7 +3,7 @@
 use Rattle.std.specs.Prelude.{Option}
 use Rattle.tt_arc.specs.declared.rule.ChordRule.{ChordRule}
 use Rattle.tt_core.specs.Faults.{Fault}
-use Rattle.tt_fit_outline.specs.Outline.{Outline}
+use Rattle.tt_fit.specs.outline.Outline.{Outline}
 use Rattle.tt_scan_dropouts.specs.declared.boxed.BoxedRules.{BoxedRules}
 
 pub record RuledOutline : Type 0 where

@@ -2,7 +2,7 @@
 
 ghost use Rattle.std.specs.Prelude.{◌≡◌, ℕ, ◌<◌, true, List, map, All, Ok, Err, IfErr, IfOk, OnOk};
 ghost use Rattle.tt_fit.specs.Fitting.{Fitter, after_glyph};
-ghost use Rattle.tt_fit_outline.specs.Outline.{Outline};
+ghost use Rattle.tt_fit.specs.outline.Outline.{Outline};
 ghost use Rattle.tt_glyphs.specs.Tried.{AreTriedBy, IsRuledBody, tried_glyph, tried_numbers};
 ghost use Rattle.tt_picture.specs.Distinct.{fitter_after, fitter_for};
 ghost use Rattle.tt_picture.specs.Steps.{outlines_by};

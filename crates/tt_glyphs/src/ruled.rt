@@ -15,7 +15,7 @@ pub(crate) struct RuledOutline {
 }
 
 impl Model for RuledOutline {
-    ghost use Rattle.tt_fit_outline.specs.Views.{outline_of};
+    ghost use Rattle.tt_fit.specs.outline.Views.{outline_of};
     ghost use Rattle.tt_glyphs.specs.Ruled as ruled;
 
     ghost Value = { ruled.RuledOutline };

@@ -11,7 +11,7 @@ use Rattle.tt_core.specs.declared.fault.JobFault.{JobFault}
 use Rattle.tt_core.specs.Outcomes.{FontGives, JobGives, each, draw_fault_of_font, draw_font_fault}
 use Rattle.tt_face.specs.Faces.{Face}
 use Rattle.tt_fit.specs.Fitting.{Fitter}
-use Rattle.tt_fit_outline.specs.Outline.{Outline}
+use Rattle.tt_fit.specs.outline.Outline.{Outline}
 use Rattle.tt_label.specs.Fitted.{AreFittedLines, glyphs_in}
 use Rattle.tt_label.specs.Label.{joint, joint_numbers, label_by_steps, label_glyphs, label_placed, stepped_lines}
 use Rattle.tt_label.specs.Made.{label_shapes}

@@ -8,7 +8,7 @@ use Rattle.tt_core.specs.Limits.{height_limit, width_limit}
 use Rattle.tt_core.specs.Outcomes.{◌>>=◌}
 use Rattle.tt_face.specs.Faces.{Face}
 use Rattle.tt_fit.specs.Fitting.{Fitter}
-use Rattle.tt_fit_outline.specs.Outline.{Outline}
+use Rattle.tt_fit.specs.outline.Outline.{Outline}
 use Rattle.tt_label.specs.Label.{label_by_advances, label_by_steps, label_glyphs, label_placed}
 use Rattle.tt_label.specs.LineLaws.{IsOneLine, laid_with_a_pixel, line_with_a_pixel, with_a_pixel}
 use Rattle.tt_label.proofs.Drawn.{unmoved}

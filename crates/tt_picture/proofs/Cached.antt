@@ -6,7 +6,7 @@ use Rattle.tt_fit.proofs.WorkApart.{costs-stay, glyphs-take-work-alone, work-is-
 use Rattle.tt_fit.specs.Counting.{points_asked}
 use Rattle.tt_fit.specs.Fitting.{Fitter, after_glyph}
 use Rattle.tt_fit.specs.GlyphCost.{all_used, without_work}
-use Rattle.tt_fit_outline.specs.Outline.{Outline}
+use Rattle.tt_fit.specs.outline.Outline.{Outline}
 use Rattle.tt_picture.specs.Cached.{CachedStays, IsCacheFor, IsCached, IsOfOutline, entries_of}
 use Rattle.tt_picture.specs.Distinct.{fitter_after, fitter_for}
 use Rattle.tt_picture.specs.Fitted.{AreFitted, FittedGlyph, IsFitted}

@@ -11,8 +11,8 @@ use Rattle.tt_fit.specs.Fitting.{Fitter, fitted_outline, unfitted_fault, with_wo
 use Rattle.tt_fit.specs.GlyphCost.{IsMade, IsMadeFor, all_used}
 use Rattle.tt_fit.specs.Laws.{UnboundedStays}
 use Rattle.tt_fit.specs.declared.dropouts.DropoutRules.{DropoutRules}
-use Rattle.tt_fit_outline.specs.Outline.{Outline}
-use Rattle.tt_fit_outline.specs.Steps.{advance_left}
+use Rattle.tt_fit.specs.outline.Outline.{Outline}
+use Rattle.tt_fit.specs.outline.Steps.{advance_left}
 use Rattle.tt_picture.specs.Cached.{IsCached, IsOfOutline}
 use Rattle.tt_picture.specs.Cut.{IsKeptOf}
 use Rattle.tt_picture.specs.Fitted.{kept, outlined, FittedGlyph, IsFitted, IsFittedBody, IsMadeOutline, MadeOutline}

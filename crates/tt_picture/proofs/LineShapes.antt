@@ -6,7 +6,7 @@ use Rattle.std.proofs.lemmas.List.Elements.{All-head, All-tail}
 use Rattle.tt_core.specs.Faults.{Fault}
 use Rattle.tt_core.specs.Outcomes.{◌>>=◌, each}
 use Rattle.tt_fit.specs.Fitting.{Fitter, fitted_outline}
-use Rattle.tt_fit_outline.specs.Outline.{Outline}
+use Rattle.tt_fit.specs.outline.Outline.{Outline}
 use Rattle.tt_picture.specs.Distinct.{distinct, distinct_after, is_among, with_glyph}
 use Rattle.tt_picture.specs.Glyphs.{AreDrawn, Glyph, IsDrawn, numbers_of}
 use Rattle.tt_picture.specs.Lines.{HasGlyphsOf}

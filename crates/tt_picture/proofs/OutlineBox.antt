@@ -9,7 +9,7 @@ use Rattle.tt_arc.specs.Chords.{edge_end_of, moved}
 use Rattle.tt_arc.specs.declared.rule.ChordRule.{ChordRule}
 use Rattle.tt_core.specs.Limits.{coordinate_limit}
 use Rattle.tt_fit.specs.declared.dropouts.DropoutRules.{DropoutRules}
-use Rattle.tt_fit_outline.specs.Outline.{IsOutline, IsPoint, Outline}
+use Rattle.tt_fit.specs.outline.Outline.{IsOutline, IsPoint, Outline}
 use Rattle.tt_picture.specs.Shapes.{edges_at, extents_of, offset_at, origin_of, rules_for}
 use Rattle.tt_scan_dropouts.specs.declared.boxed.BoxedRules.{BoxedRules}
 use Rattle.tt_scan_gaps.specs.Boxes.{ExtentsFit, IsBoxOf}

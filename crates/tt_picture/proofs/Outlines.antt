@@ -10,8 +10,8 @@ use Rattle.tt_core.specs.declared.font_fault.FontFault.TheVariants as font
 use Rattle.tt_core.specs.Faults.{Fault}
 use Rattle.tt_core.specs.Outcomes.{after_each, each, font_fault}
 use Rattle.tt_fit.specs.Fitting.{Fitter, fitted_outline}
-use Rattle.tt_fit_outline.specs.Outline.{Outline}
-use Rattle.tt_fit_outline.specs.Steps.{advance_left}
+use Rattle.tt_fit.specs.outline.Outline.{Outline}
+use Rattle.tt_fit.specs.outline.Steps.{advance_left}
 use Rattle.tt_picture.specs.Distinct.{IsNext, distinct_after, fitter_after, fitter_for, is_among}
 use Rattle.tt_picture.specs.Fitted.{AreFitted, AreAdvances, FittedBody, FittedGlyph, IsFitted, IsFittedBody, body_chords, body_advance, fitted_chords, fitted_crossings, fitted_numbers, kept, made_crossings, outlined}
 use Rattle.tt_picture.specs.Pixels.{Shape}

@@ -8,7 +8,7 @@ use Rattle.tt_arc.proofs.Moves.{contours_there, outline_at}
 use Rattle.tt_arc.specs.Chords.{chord_contours, chord_edges}
 use Rattle.tt_arc.specs.declared.rule.ChordRule.{ChordRule}
 use Rattle.tt_fit.specs.Fitting.{Fitter, fitted_outline}
-use Rattle.tt_fit_outline.specs.Outline.{Outline}
+use Rattle.tt_fit.specs.outline.Outline.{Outline}
 use Rattle.tt_glyph_pixels.specs.Shown.{is_filled}
 use Rattle.tt_picture.specs.Glyphs.{AreDrawn, Glyph, IsDrawn, numbers_of}
 use Rattle.tt_picture.specs.Pixels.{Shape}

@@ -6,7 +6,7 @@ use Rattle.tt_core.specs.Outcomes.{◌>>=◌}
 use Rattle.tt_core.specs.Faults.{Fault}
 use Rattle.tt_fit.specs.Dropouts.{dropouts_of}
 use Rattle.tt_fit.specs.Fitting.{Fitter, after_glyph}
-use Rattle.tt_fit_outline.specs.Outline.{Outline}
+use Rattle.tt_fit.specs.outline.Outline.{Outline}
 use Rattle.tt_picture.specs.Distinct.{is_among, distinct_after, fitter_after, fitter_for, IsNext}
 
 -- a glyph does not change the glyph data

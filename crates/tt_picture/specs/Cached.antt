@@ -5,8 +5,8 @@ use Rattle.tt_fit.specs.Counting.{points_asked}
 use Rattle.tt_fit.specs.Dropouts.{dropouts_of}
 use Rattle.tt_fit.specs.Fitting.{Fitter}
 use Rattle.tt_fit.specs.GlyphCost.{IsMadeFor, without_work}
-use Rattle.tt_fit_outline.specs.Outline.{Outline}
-use Rattle.tt_fit_outline.specs.Steps.{advance_left}
+use Rattle.tt_fit.specs.outline.Outline.{Outline}
+use Rattle.tt_fit.specs.outline.Steps.{advance_left}
 use Rattle.tt_bitmap.specs.Bitmaps.{is_black}
 use Rattle.tt_glyph_pixels.specs.Shown.{shows}
 use Rattle.tt_picture.specs.Ink.{ink_by}

@@ -6,8 +6,8 @@ use Rattle.tt_core.specs.Faults.{Fault}
 use Rattle.tt_fit.specs.Counting.{points_asked}
 use Rattle.tt_fit.specs.Fitting.{Fitter, fitted_outline, unfitted_fault}
 use Rattle.tt_fit.specs.GlyphCost.{IsMadeFor}
-use Rattle.tt_fit_outline.specs.Outline.{Outline}
-use Rattle.tt_fit_outline.specs.Steps.{advance_left}
+use Rattle.tt_fit.specs.outline.Outline.{Outline}
+use Rattle.tt_fit.specs.outline.Steps.{advance_left}
 use Rattle.tt_arc.specs.declared.rule.ChordRule.{ChordRule}
 use Rattle.tt_scan_dropouts.specs.Counted.{edges_counted}
 use Rattle.tt_scan_dropouts.specs.declared.boxed.BoxedRules.{BoxedRules}

@@ -5,8 +5,8 @@ use Rattle.tt_bitmap.specs.Bitmaps.{BoxBitmap}
 use Rattle.tt_bitmap.specs.declared.ink.LeastBox.{LeastBox}
 use Rattle.tt_core.specs.Faults.{Fault}
 use Rattle.tt_fit.specs.Fitting.{Fitter, fitted_outline, unfitted_fault}
-use Rattle.tt_fit_outline.specs.Outline.{Outline}
-use Rattle.tt_fit_outline.specs.Steps.{advance_left}
+use Rattle.tt_fit.specs.outline.Outline.{Outline}
+use Rattle.tt_fit.specs.outline.Steps.{advance_left}
 use Rattle.tt_glyph_pixels.specs.Shown.{shows}
 use Rattle.tt_picture.specs.Ink.{ink_by}
 use Rattle.tt_picture.specs.Shapes.{chords_with, contours_of, edges_at, filled_by, filling_crossings}

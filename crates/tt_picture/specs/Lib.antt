@@ -15,3 +15,4 @@ pub mod Stamps
 pub mod Steps
 pub mod Unfitted
 pub mod Views
+pub use Rattle.tt_scan_dropouts.specs as dropouts

@@ -3,8 +3,8 @@ use Rattle.std.specs.Prelude.{◌≡◌, refl, ℕ, ℤ, pos, negsuc, ◌+ℤ◌
 use Rattle.tt_core.specs.Faults.{Fault}
 use Rattle.tt_core.specs.Outcomes.{each}
 use Rattle.tt_fit.specs.Fitting.{Fitter, fitted_outline}
-use Rattle.tt_fit_outline.specs.Outline.{Outline}
-use Rattle.tt_fit_outline.specs.Steps.{advance_left, pixels_of}
+use Rattle.tt_fit.specs.outline.Outline.{Outline}
+use Rattle.tt_fit.specs.outline.Steps.{advance_left, pixels_of}
 use Rattle.tt_core.specs.Scales.{rounded_scale, scaled_by}
 use Rattle.tt_metrics.specs.declared.head.LocaFormat.TheVariants.{Short}
 use Rattle.tt_metrics.specs.declared.heights.Heights.TheVariants.{Exact}

@@ -4,7 +4,7 @@ ghost use Rattle.std.specs.Prelude.{◌≡◌, ◌⊎◌, ℕ, ◌<◌, ◌≤�
 ghost use Rattle.tt_core.specs.Outcomes.{IfTold, font_fault};
 ghost use Rattle.tt_fit.specs.Fitting.{Fitter};
 ghost use Rattle.tt_fit.specs.GlyphCost.{without_work};
-ghost use Rattle.tt_fit_outline.specs.Outline.{Outline};
+ghost use Rattle.tt_fit.specs.outline.Outline.{Outline};
 ghost use Rattle.tt_picture.specs.Cached.{IsCacheFor, limit_of};
 ghost use Rattle.tt_picture.specs.Distinct.{fitter_after, fitter_for};
 ghost use Rattle.tt_picture.specs.Fitted.{AreFitted, fitted_chords, fitted_crossings, fitted_numbers};

@@ -3,9 +3,9 @@
 ghost use Rattle.std.specs.Prelude.{◌≡◌, ◌⊎◌, ◌<◌, ◌≤◌, ◌^◌, nat_le, length, IfOk, IfSome, None, Some, Ok};
 ghost use Rattle.tt_fit.specs.Counting.{points_asked};
 ghost use Rattle.tt_fit.specs.Fitting.{Fitter, fitted_outline};
-ghost use Rattle.tt_fit_outline.specs.Outline as shape;
-ghost use Rattle.tt_fit_outline.specs.Outline.{IsOutline};
-ghost use Rattle.tt_fit_outline.specs.Views.{outline_of};
+ghost use Rattle.tt_fit.specs.outline.Outline as shape;
+ghost use Rattle.tt_fit.specs.outline.Outline.{IsOutline};
+ghost use Rattle.tt_fit.specs.outline.Views.{outline_of};
 ghost use Rattle.tt_scan.specs.Contours.{AreEnds, contours_at};
 ghost use Rattle.tt_scan_gaps.specs.Boxes.{ExtentsFit};
 ghost use Rattle.tt_picture.specs.Cached.{IsCacheFor, limit_of};
@@ -47,7 +47,7 @@ pub(crate) struct MadeOutline {
 }
 
 impl Model for MadeOutline {
-    ghost use Rattle.tt_fit_outline.specs.Views.{outline_of};
+    ghost use Rattle.tt_fit.specs.outline.Views.{outline_of};
     ghost use Rattle.tt_picture.specs.Fitted as fitted;
 
     ghost Value = { fitted.MadeOutline };

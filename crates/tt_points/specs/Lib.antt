@@ -10,3 +10,4 @@ pub mod Shapes
 pub mod WithAll
 pub mod Enough
 pub mod Halves
+pub use Rattle.tt_points_zones.specs as zones

@@ -17,4 +17,4 @@ mod twilight;
 mod unrounded;
 
 pub use distances::Keeping;
-pub use tt_points_zones::Zones;
+pub use tt_points_zones::{Originals, Zones};

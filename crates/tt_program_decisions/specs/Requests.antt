@@ -17,7 +17,7 @@ use Rattle.tt_render_settings.specs.declared.setting.Product.{Product}
 use Rattle.tt_render_settings.specs.declared.setting.Product.TheVariants.{Measure, Picture}
 use Rattle.tt_line.specs.declared.align.Align.{Align}
 use Rattle.tt_line.specs.declared.align.Align.TheVariants as align
-use Rattle.tt_label.specs.Label.{label_glyphs}
+use Rattle.tt_render.specs.label.Label.{label_glyphs}
 use Rattle.tt_line.specs.Layout.{text_glyphs}
 use Rattle.tt_render.specs.Labels.{FontLabelGives, FontLabelsGive, HintsBy}
 use Rattle.tt_render_settings.specs.declared.setting.Setting.{Setting}

@@ -11,7 +11,7 @@ use Rattle.tt_cmap.specs.Lacking.{distinct_after, lacking_of}
 use Rattle.tt_cmap.specs.Maps.{CharacterMap}
 use Rattle.tt_core.specs.declared.collection.Reading.{Reading}
 use Rattle.tt_core.specs.declared.collection.Reading.TheVariants as reading
-use Rattle.tt_picture.specs.Pictures.{IsReady}
+use Rattle.tt_strike.specs.picture.Pictures.{IsReady}
 use Rattle.tt_strike.specs.Refusals.{Refused, font}
 use Rattle.tt_strike.specs.Strikes.{Strike, job_of}
 use Rattle.tt_render_streams.specs.File.{as_file, picture_bytes, piece_bytes}

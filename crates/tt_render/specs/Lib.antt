@@ -1,1 +1,2 @@
 pub mod Labels
+pub use Rattle.tt_label.specs as label

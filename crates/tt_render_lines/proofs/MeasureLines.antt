@@ -5,7 +5,7 @@ use Rattle.std.specs.List.{zip}
 use Rattle.tt_cmap.specs.Maps.{units_by}
 use Rattle.tt_core.specs.declared.collection.Reading.{Reading}
 use Rattle.tt_face.specs.Faces.{Face}
-use Rattle.tt_picture.specs.declared.ink_box.InkBox.{InkBox}
+use Rattle.tt_strike.specs.picture.declared.ink_box.InkBox.{InkBox}
 use Rattle.tt_render_settings.specs.MeasureText.{box_words, face_text, font_text, measure_text, picture_text, unit_lines}
 use Rattle.tt_strike.specs.Measures.{Measure}
 

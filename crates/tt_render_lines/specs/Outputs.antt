@@ -1,7 +1,7 @@
 -- No part of the standard: the output of a text that is ready to be written (profile).
 use Rattle.std.specs.Prelude.{◌≡◌, ℕ, List, length, Option, None, Result, Ok, Err, string_bytes, ⊤}
-use Rattle.tt_picture.specs.declared.report.Unfitted.{Unfitted}
-use Rattle.tt_picture.specs.Pictures.{IsReady}
+use Rattle.tt_strike.specs.picture.declared.report.Unfitted.{Unfitted}
+use Rattle.tt_strike.specs.picture.Pictures.{IsReady}
 use Rattle.tt_render_streams.specs.File.{picture_bytes, piece_bytes}
 use Rattle.tt_render_texts.specs.declared.refusal.TextsFault.{TextsFault}
 use Rattle.tt_render_texts.specs.Answers.{TextAnswer}

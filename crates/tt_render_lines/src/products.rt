@@ -4,7 +4,7 @@ ghost use Rattle.std.specs.Prelude.{◌≡◌, false, Ok, IfOk};
 ghost use Rattle.tt_core.specs.Outcomes.{GivesUnless, draw_font_fault};
 ghost use Rattle.tt_line.specs.Layout.{text_glyphs};
 ghost use Rattle.tt_pbm.specs.Writing.{Writes};
-ghost use Rattle.tt_picture.specs.Pictures.{IsReady, image_of};
+ghost use Rattle.tt_strike.specs.picture.Pictures.{IsReady, image_of};
 ghost use Rattle.tt_render_lines.specs.Outputs.{CanGoOut, bytes_in, cost_in, unfitted_in};
 ghost use Rattle.tt_render_settings.specs.Products.{IsMadeBy, measure_by, picture_by, product_of};
 ghost use Rattle.tt_render_streams.specs.File.{picture_bytes};

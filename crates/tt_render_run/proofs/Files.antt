@@ -1,6 +1,6 @@
 -- The file of an image that is made.
 use Rattle.std.proofs.Common.{◌≡◌, ℕ, List, Option, Some, None, IfSome, Result, Ok, Err, ap, refl, sym}
-use Rattle.tt_picture.specs.Pictures.{Image}
+use Rattle.tt_strike.specs.picture.Pictures.{Image}
 use Rattle.tt_strike.specs.Refusals.{Refused}
 use Rattle.tt_render_streams.specs.File.{as_file, p4}
 

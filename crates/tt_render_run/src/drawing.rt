@@ -3,8 +3,8 @@
 ghost use Rattle.std.specs.Prelude.{◌≡◌, ◌≤◌, length, Ok, IfOk};
 ghost use Rattle.tt_core.specs.Limits.{font_limit};
 ghost use Rattle.tt_core.specs.Outcomes.{GivesUnless, IfTold, draw_font_fault, draw_job_fault};
-ghost use Rattle.tt_picture.specs.Pictures.{IsReady, image_of};
-ghost use Rattle.tt_picture.specs.Unfitted.{ListsOnce};
+ghost use Rattle.tt_strike.specs.picture.Pictures.{IsReady, image_of};
+ghost use Rattle.tt_strike.specs.picture.Unfitted.{ListsOnce};
 ghost use Rattle.tt_render_streams.specs.File.{piece_bytes};
 ghost use Rattle.tt_strike.specs.Defects.{IsFontRefusal, IsRunDefect, TellsDefects};
 ghost use Rattle.tt_strike.specs.Job.{job_view, tested, ByFace, IsJob};

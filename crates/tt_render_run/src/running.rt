@@ -2,7 +2,7 @@
 
 ghost use Rattle.std.specs.Prelude.{◌≡◌, ◌<◌, false, length, Ok, IfOk, IfSome};
 ghost use Rattle.tt_core.specs.Limits.{font_limit};
-ghost use Rattle.tt_picture.specs.Unfitted.{ListsOnce};
+ghost use Rattle.tt_strike.specs.picture.Unfitted.{ListsOnce};
 ghost use Rattle.tt_render_run.specs.Defects.{IsJobRefusal, TellsDefectsOf};
 ghost use Rattle.tt_render_run.specs.Outcome.{CallGives, IfJob, IfLarge};
 ghost use Rattle.tt_render_streams.specs.Traffic.{traffic_of};

@@ -4,8 +4,8 @@ use Rattle.std.proofs.lemmas.List.{get_or_at}
 use Rattle.tt_core.specs.declared.fault.JobFault.{JobFault}
 use Rattle.tt_core.specs.Faults.{Fault}
 use Rattle.tt_core.specs.Outcomes.{IfTold, draw_font_fault}
-use Rattle.tt_render_streams.specs.declared.fault.RunFault.{RunFault}
-use Rattle.tt_render_streams.specs.declared.fault.RunFault.TheVariants as run
+use Rattle.tt_render_texts.specs.streams.declared.fault.RunFault.{RunFault}
+use Rattle.tt_render_texts.specs.streams.declared.fault.RunFault.TheVariants as run
 use Rattle.tt_render_settings.specs.declared.setting.Setting.{Setting}
 use Rattle.tt_render_texts.specs.declared.lines.LineReader.{LineReader}
 use Rattle.tt_render_texts.specs.declared.refusal.Refusal.{Refusal}
@@ -15,7 +15,7 @@ use Rattle.tt_render_texts.specs.LineReading.{LosesLine}
 use Rattle.tt_render_texts.specs.Lines.{lines_of}
 use Rattle.tt_render_settings.specs.LinesDefects.{BeginsDefective, GlyphsOf, IsDefectBy, IsDefectIn, LineTells, LineTellsDefect, LinesTell, LinesTellDefects, LinesTellDefectsOf, line_numbered}
 use Rattle.tt_render_texts.specs.Printing.{Errors}
-use Rattle.tt_render_streams.specs.Reading.{ReadFails}
+use Rattle.tt_render_texts.specs.streams.Reading.{ReadFails}
 use Rattle.tt_render_settings.specs.Settings.{strike_by}
 use Rattle.tt_render_settings.specs.TextsOutcome.{Draws, FindsLine, refusal_font_fault}
 use Rattle.tt_render_texts.specs.Views.{before_lines, refusal_of_draw, refusal_of_run}

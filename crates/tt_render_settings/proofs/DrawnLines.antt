@@ -17,14 +17,14 @@ use Rattle.tt_render_texts.specs.LineReading.{BeginsLong, LosesLine}
 use Rattle.tt_render_settings.specs.Lines.{AreAffordable, LinesDrawn, cost_drawn, drawn_from, drawn_with, line_drawn, lines_budget, lines_cost}
 use Rattle.tt_render_texts.specs.Lines.{line_limit, lines_of}
 use Rattle.tt_render_settings.specs.TextsOutcome.{Draws, HasLine, SendsDrawn, SendsFirstLines, SendsSome}
-use Rattle.tt_render_streams.specs.Traffic.{Traffic}
+use Rattle.tt_render_texts.specs.streams.Traffic.{Traffic}
 use Rattle.tt_render_texts.specs.Printing.{Errors, Prints, PrintsBehind}
 use Rattle.tt_render_texts.specs.Reports.{told_of}
 use Rattle.tt_render_settings.specs.Products.{product_of}
 use Rattle.tt_render_texts.specs.Answers.{TextAnswer}
 use Rattle.tt_render_settings.specs.Texts.{TextRefusal, not_utf8, refused, text_answer}
 use Rattle.tt_render_texts.proofs.Printed.{appends_nothing, nothing_printed, printed_behind}
-use Rattle.tt_render_streams.proofs.Sent.{appends_more}
+use Rattle.tt_render_texts.proofs.streams.Sent.{appends_more}
 
 pub long_line : (a : Setting) (s : Strike) (line : List ℕ) → line_limit < length line
     → line_drawn a s line ≡ Err (refused (job fault.TextLong))

@@ -20,11 +20,11 @@ use Rattle.tt_face.specs.declared.rules.Opening.{Opening}
 use Rattle.tt_face.specs.Files.{face_at, face_by, face_with}
 use Rattle.tt_face.specs.Rules.{ruled}
 use Rattle.tt_metrics.specs.Metrics.{glyphs_of, metrics_of}
-use Rattle.tt_render_streams.specs.declared.fault.RunFault.{RunFault}
-use Rattle.tt_render_streams.specs.declared.fault.RunFault.TheVariants as run
+use Rattle.tt_render_texts.specs.streams.declared.fault.RunFault.{RunFault}
+use Rattle.tt_render_texts.specs.streams.declared.fault.RunFault.TheVariants as run
 use Rattle.tt_render_settings.specs.declared.setting.Setting.{Setting}
 use Rattle.tt_render_settings.specs.TextsOutcome.{IsIdle, StopsAtFont}
-use Rattle.tt_render_streams.specs.Reading.{FontIsRead, FontReader, ReadFails}
+use Rattle.tt_render_texts.specs.streams.Reading.{FontIsRead, FontReader, ReadFails}
 use Rattle.tt_render_settings.specs.Settings.{setting_tested, strike_by, strike_of}
 use Rattle.tt_render_texts.specs.Views.{before_lines, refusal_of_draw, refusal_of_run}
 use Rattle.tt_render_texts.proofs.Printed.{keeps_itself}

@@ -4,16 +4,16 @@ use Rattle.std.specs.Prelude.{IfSome}
 use Rattle.tt_core.specs.declared.fault.JobFault.{JobFault}
 use Rattle.tt_core.specs.Directory.{HasNo}
 use Rattle.tt_core.specs.Faults.{Fault}
-use Rattle.tt_render_streams.specs.declared.fault.RunFault.{RunFault}
-use Rattle.tt_render_streams.specs.declared.fault.RunFault.TheVariants as run
+use Rattle.tt_render_texts.specs.streams.declared.fault.RunFault.{RunFault}
+use Rattle.tt_render_texts.specs.streams.declared.fault.RunFault.TheVariants as run
 use Rattle.tt_render_settings.specs.declared.setting.Setting.{Setting}
 use Rattle.tt_render_texts.specs.declared.refusal.Refusal.{Refusal}
 use Rattle.tt_render_texts.specs.declared.refusal.Refusal.TheVariants as reason
 use Rattle.tt_render_texts.specs.declared.refusal.TextsFault.{TextsFault}
-use Rattle.tt_render_streams.specs.Traffic.{SendsAll, SendsFirst, Traffic, WriterFails, WriterServes}
+use Rattle.tt_render_texts.specs.streams.Traffic.{SendsAll, SendsFirst, Traffic, WriterFails, WriterServes}
 use Rattle.tt_render_settings.specs.LinesDefects.{GlyphsOf, IsTextDefect}
 use Rattle.tt_render_texts.specs.Printing.{Errors, Prints, PrintsNothing}
-use Rattle.tt_render_streams.specs.Reading.{FontIsRead, ReadFails}
+use Rattle.tt_render_texts.specs.streams.Reading.{FontIsRead, ReadFails}
 use Rattle.tt_render_texts.specs.Reports.{told_of}
 use Rattle.tt_render_settings.specs.Settings.{job_by, strike_of}
 use Rattle.tt_render_settings.specs.TextsOutcome.{FontAnswers, IsNotReady, IsOfText, IsAtFont, IsAtText, IsSilent, TextTellsDefects, TextTellsDefectsOf, reader_in, refusal_font_fault, told}

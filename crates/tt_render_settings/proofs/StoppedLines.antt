@@ -11,7 +11,7 @@ use Rattle.tt_render_texts.specs.LineReading.{BeginsLong, LosesLine}
 use Rattle.tt_render_settings.specs.Lines.{AreAffordable, drawn_from, lines_budget, lines_cost}
 use Rattle.tt_render_texts.specs.Lines.{line_limit, lines_of}
 use Rattle.tt_render_settings.specs.TextsOutcome.{Draws, FailsByStop, FindsLine, HasLine, IsCutAfter, IsNotBegun, IsOfText, LinesFail, SendsBudget, SendsDrawn, SendsFirstLines, StopsAtLine, told}
-use Rattle.tt_render_streams.specs.Traffic.{Traffic}
+use Rattle.tt_render_texts.specs.streams.Traffic.{Traffic}
 use Rattle.tt_render_texts.specs.Printing.{Errors}
 use Rattle.tt_render_texts.specs.Answers.{TextAnswer}
 use Rattle.tt_render_settings.specs.Texts.{TextRefusal, refused}

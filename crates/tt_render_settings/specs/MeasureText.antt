@@ -10,8 +10,8 @@ use Rattle.tt_core.specs.declared.collection.Reading.{Reading}
 use Rattle.tt_core.specs.declared.collection.Reading.TheVariants as reading
 use Rattle.tt_face.specs.Faces.{Face}
 use Rattle.tt_metrics.specs.Metrics.{Metrics, ascent_of, descent_of, glyphs_of, line_gap_of, units_per_em_of}
-use Rattle.tt_render_streams.specs.CodePoints.{code_point}
-use Rattle.tt_picture.specs.declared.ink_box.InkBox.{InkBox}
+use Rattle.tt_render_texts.specs.streams.CodePoints.{code_point}
+use Rattle.tt_strike.specs.picture.declared.ink_box.InkBox.{InkBox}
 use Rattle.tt_strike.specs.declared.measuring.CharacterMeasure.{CharacterMeasure}
 use Rattle.tt_strike.specs.Measures.{Measure}
 

@@ -3,7 +3,7 @@ use Rattle.std.specs.Prelude.{◌≡◌, ℕ, Bool, true, false, List, Result, O
 use Rattle.tt_core.specs.declared.collection.Reading.{Reading}
 use Rattle.tt_core.specs.Outcomes.{◌>>=◌}
 use Rattle.tt_scan_edges.specs.declared.edge.Frame.{Frame}
-use Rattle.tt_picture.specs.Pictures.{Image, Picture}
+use Rattle.tt_strike.specs.picture.Pictures.{Image, Picture}
 use Rattle.tt_strike.specs.Costs.{cost_by}
 use Rattle.tt_strike.specs.Grown.{grown_measured, grown_outcome, grown_placement}
 use Rattle.tt_strike.specs.Job.{Job}
@@ -17,7 +17,7 @@ use Rattle.tt_render_settings.specs.declared.setting.Product.{Product}
 use Rattle.tt_render_settings.specs.declared.setting.Product.TheVariants as product
 use Rattle.tt_render_settings.specs.declared.setting.Setting.{Setting}
 use Rattle.tt_render_settings.specs.MeasureText.{measure_text}
-use Rattle.tt_render_streams.specs.File.{as_file}
+use Rattle.tt_render_texts.specs.streams.File.{as_file}
 
 -- the image of the picture of a job by a font's tables: as it is, or enlarged so that no ink is cut
 unfoldable pub picture_by : Bool → Face → Job → Result Image Refused

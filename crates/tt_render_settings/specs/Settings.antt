@@ -16,7 +16,7 @@ use Rattle.tt_face.specs.Rules.{plain_opening}
 use Rattle.tt_render_settings.specs.declared.setting.Missing.TheVariants as how
 use Rattle.tt_render_settings.specs.declared.setting.Product.TheVariants as product
 use Rattle.tt_render_settings.specs.declared.setting.Setting.{Setting}
-use Rattle.tt_render_streams.specs.Traffic.{if_readable}
+use Rattle.tt_render_texts.specs.streams.Traffic.{if_readable}
 
 -- the limits of a setting, in the order of their tests
 unfoldable pub setting_tested : Setting → Result (Unit {0}) JobFault

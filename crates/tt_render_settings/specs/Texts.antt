@@ -4,7 +4,7 @@ use Rattle.tt_cmap.specs.Lacking.{lacking_of}
 use Rattle.tt_cmap.specs.Lookup.{by_segments}
 use Rattle.tt_cmap.specs.Maps.{CharacterMap, strict}
 use Rattle.tt_core.specs.Outcomes.{◌>>=◌}
-use Rattle.tt_picture.specs.declared.report.Unfitted.{Unfitted}
+use Rattle.tt_strike.specs.picture.declared.report.Unfitted.{Unfitted}
 use Rattle.tt_strike.specs.Costs.{cost_by}
 use Rattle.tt_strike.specs.Refusals.{Refused}
 use Rattle.tt_strike.specs.Report.{report_by}

@@ -15,9 +15,9 @@ use Rattle.tt_render_texts.specs.declared.lines.LineReader.{LineReader}
 use Rattle.tt_render_texts.specs.LineReading.{BeginsLong, LosesLine, line_at}
 use Rattle.tt_render_settings.specs.Lines.{AreAffordable, drawn_from, line_drawn, lines_budget, lines_cost, lines_limit, text_drawn}
 use Rattle.tt_render_texts.specs.Lines.{line_limit, lines_of}
-use Rattle.tt_render_streams.specs.Traffic.{Traffic, SendsAll, SendsFirst, ReadsNothing, ReadsToEnd, WritesNothing, WriterServes, WriterFails}
+use Rattle.tt_render_texts.specs.streams.Traffic.{Traffic, SendsAll, SendsFirst, ReadsNothing, ReadsToEnd, WritesNothing, WriterServes, WriterFails}
 use Rattle.tt_render_texts.specs.Printing.{Errors, Prints, PrintsNothing}
-use Rattle.tt_render_streams.specs.Reading.{FontReader, FontFails, FontIsBegun, FontIsRead, FontIsUnread}
+use Rattle.tt_render_texts.specs.streams.Reading.{FontReader, FontFails, FontIsBegun, FontIsRead, FontIsUnread}
 use Rattle.tt_render_texts.specs.Reports.{told_of}
 use Rattle.tt_render_settings.specs.Settings.{job_by, setting_tested, strike_of}
 use Rattle.tt_render_texts.specs.Answers.{TextAnswer}

@@ -4,3 +4,4 @@ pub mod Messages
 pub mod Reading
 pub mod Traffic
 pub mod Views
+pub use Rattle.tt_picture.specs as picture

@@ -13,4 +13,5 @@ pub use drawn::{Drawn, piece_for};
 pub use fault::RunFault;
 pub use messages::{line, status, unfitted_line};
 pub use reading::{read_after, read_font};
+pub use tt_picture::Unfitted;
 pub use writing::write_picture;

@@ -1,3 +1,4 @@
 pub mod HeldLines
 pub mod Printed
 mod TextsReports
+pub use Rattle.tt_render_streams.proofs as streams

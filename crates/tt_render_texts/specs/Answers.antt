@@ -1,7 +1,7 @@
 -- No part of the standard: the answer of a text (profile).
 use Rattle.std.specs.Prelude.{ℕ, List, Option}
 use Rattle.tt_fit.specs.declared.programs.Fit.{Fit}
-use Rattle.tt_picture.specs.declared.report.Unfitted.{Unfitted}
+use Rattle.tt_render_streams.specs.picture.declared.report.Unfitted.{Unfitted}
 use Rattle.tt_render_texts.specs.declared.label_reports.Signs.{Signs}
 
 -- what is reported of a label beside its unfitted glyphs and its characters without a glyph: how it is fitted, the first

@@ -6,3 +6,4 @@ pub mod Readings
 pub mod Reports
 pub mod TextsMessages
 pub mod Views
+pub use Rattle.tt_render_streams.specs as streams

@@ -7,7 +7,7 @@ use Rattle.tt_core.specs.declared.fault.Why.TheVariants as why
 use Rattle.tt_core.specs.Faults.{fault_at, why_number, why_name}
 use Rattle.tt_fit.specs.declared.programs.Fit.{Fit}
 use Rattle.tt_fit.specs.declared.programs.Fit.TheVariants as fit
-use Rattle.tt_picture.specs.declared.report.Unfitted.{Unfitted}
+use Rattle.tt_render_streams.specs.picture.declared.report.Unfitted.{Unfitted}
 use Rattle.tt_render_streams.specs.CodePoints.{code_point}
 use Rattle.tt_render_streams.specs.Messages.{fault_words}
 use Rattle.tt_render_texts.specs.declared.label_reports.LabelTold.{LabelTold as ReadyTold}

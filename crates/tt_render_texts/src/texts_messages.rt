@@ -6,7 +6,7 @@ ghost use Rattle.tt_render_texts.specs.TextsMessages.{named_line_of, texts_line_
 
 use crate::refusal::{Refusal, TextsFault};
 use std::alloc::{AllocError, Global};
-use tt_picture::Unfitted;
+use tt_render_streams::Unfitted;
 
 /// The program's exit status after this fault of `draw_text` or `draw_lines`.
 pub fn texts_status(fault: &TextsFault) -> u8

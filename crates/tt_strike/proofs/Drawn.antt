@@ -13,7 +13,7 @@ use Rattle.tt_core.specs.declared.font_fault.FontFault.TheVariants as font
 use Rattle.tt_core.proofs.Each.{each-failed, each-made}
 use Rattle.tt_fit.specs.Defects.{IsOutlineDefect}
 use Rattle.tt_fit.specs.Fitting.{Fitter, fitted_outline}
-use Rattle.tt_fit_outline.specs.Outline.{Outline}
+use Rattle.tt_fit.specs.outline.Outline.{Outline}
 use Rattle.tt_fit.proofs.Standing.{faults-stand, outlines-whole}
 use Rattle.tt_strike.specs.Defects.{IsGlyphDefect}
 use Rattle.tt_picture.specs.Distinct.{distinct}

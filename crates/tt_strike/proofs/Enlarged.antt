@@ -6,7 +6,7 @@ use Rattle.tt_core.specs.Outcomes.{each}
 use Rattle.tt_core.specs.declared.fault.JobFault.{JobFault}
 use Rattle.tt_core.specs.declared.fault.JobFault.TheVariants as fault
 use Rattle.tt_fit.specs.Fitting.{Fitter}
-use Rattle.tt_fit_outline.specs.Outline.{Outline}
+use Rattle.tt_fit.specs.outline.Outline.{Outline}
 use Rattle.tt_bitmap.specs.declared.ink.LeastBox.{LeastBox}
 use Rattle.tt_line.specs.Layout.{Placement}
 use Rattle.tt_metrics.specs.Metrics.{Metrics}

@@ -9,14 +9,14 @@ use Rattle.tt_core.specs.Faults.{Fault}
 use Rattle.tt_core.specs.declared.fault.JobFault.TheVariants as fault
 use Rattle.tt_core.specs.Outcomes.{◌>>=◌, each}
 use Rattle.tt_fit.specs.Fitting.{Fitter, fitted_outline}
-use Rattle.tt_fit_outline.specs.Outline.{Outline}
+use Rattle.tt_fit.specs.outline.Outline.{Outline}
 use Rattle.tt_fit.specs.declared.programs.Fit.{Fit}
 use Rattle.tt_picture.specs.Distinct.{distinct, distinct_after, is_among, with_glyph}
 use Rattle.tt_picture.specs.Fitted.{AreFitted, FittedBody, FittedGlyph, IsFitted, IsFittedBody, fitted_crossings, fitted_numbers, kept, made_crossings, outlined}
 use Rattle.tt_picture.specs.Pixels.{Shape}
 use Rattle.tt_picture.specs.Shapes.{chords_with, crossings_in, edges_at, filled_at, filled_by, filling_crossings, glyph_shape}
 use Rattle.tt_picture.proofs.Standings.{counts_from_pen, filling_from_pen}
-use Rattle.tt_scan_dropouts.specs.Counted.{edges_counted}
+use Rattle.tt_picture.specs.dropouts.Counted.{edges_counted}
 use Rattle.tt_strike.proofs.FirstShape.{first_of}
 use Rattle.tt_strike.specs.Refusals.{as_job, job}
 use Rattle.tt_strike.specs.Work.{chord_limit, crossings_allowed, edges_limited, is_bounded, work_tested}

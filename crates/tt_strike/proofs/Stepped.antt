@@ -20,7 +20,7 @@ use Rattle.tt_face.specs.Faces.{Face}
 use Rattle.tt_fit.proofs.Standing.{faults-stand}
 use Rattle.tt_fit.specs.Fitting.{Fitter, fitted_outline}
 use Rattle.tt_fit.specs.declared.programs.Fit.{Fit}
-use Rattle.tt_fit_outline.specs.Outline.{Outline}
+use Rattle.tt_fit.specs.outline.Outline.{Outline}
 use Rattle.tt_line.specs.Layout.{Placement, laid_at, text_glyphs, IsRefusal}
 use Rattle.tt_picture.specs.Distinct.{distinct, distinct_after, is_among, with_glyph}
 use Rattle.tt_picture.specs.Fitted.{AreFitted, FittedGlyph, fitted_chords, fitted_numbers}

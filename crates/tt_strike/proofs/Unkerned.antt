@@ -3,7 +3,7 @@ use Rattle.std.proofs.Common.{◌≡◌, ◌∙◌, ap, ℕ, ℤ, pos, ◌+ℤ�
 use Rattle.std.proofs.lemmas.Int.{ints}
 use Rattle.tt_core.specs.declared.halves.Halves.TheVariants as halves
 use Rattle.tt_core.specs.Scales.{away_quotient, factor, rounded_scale, scaled_by}
-use Rattle.tt_fit_outline.specs.Steps.{pixels_of}
+use Rattle.tt_fit.specs.outline.Steps.{pixels_of}
 use Rattle.tt_metrics.specs.Metrics.{Metrics, units_per_em_of}
 use Rattle.tt_picture.specs.Steps.{kerned_step}
 

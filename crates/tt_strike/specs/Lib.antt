@@ -14,3 +14,4 @@ pub mod Report
 pub mod Reported
 pub mod Strikes
 pub mod Work
+pub use Rattle.tt_picture.specs as picture

@@ -10,7 +10,7 @@ use Rattle.tt_core.specs.Outcomes.{◌>>=◌, each}
 use Rattle.tt_fit.specs.Fitting.{Fitter}
 use Rattle.tt_fit.specs.Preparation.{fitter_of}
 use Rattle.tt_fit.specs.declared.programs.Fit.{Fit}
-use Rattle.tt_fit_outline.specs.Outline.{Outline}
+use Rattle.tt_fit.specs.outline.Outline.{Outline}
 use Rattle.tt_line.specs.Layout.{Placement, laid_at, placement, text_glyphs}
 use Rattle.tt_line.specs.Steps.{stepped}
 use Rattle.tt_metrics.specs.Metrics.{Metrics}

@@ -9,7 +9,7 @@ ghost use Rattle.tt_picture.specs.Glyphs.{ArePlaces};
 ghost use Rattle.tt_picture.specs.Steps.{kerned_step, step_by};
 
 use tt_core::Scale;
-use tt_fit_outline::pixels_of;
+use tt_fit::pixels_of;
 use tt_line::kerning_at;
 use tt_metrics::Metrics;
 use tt_picture::FittedGlyph;

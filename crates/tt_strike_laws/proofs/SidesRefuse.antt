@@ -7,7 +7,7 @@ use Rattle.tt_core.specs.Outcomes.{◌>>=◌, each}
 use Rattle.tt_core.specs.declared.fault.JobFault.{JobFault}
 use Rattle.tt_core.specs.declared.fault.JobFault.TheVariants as fault
 use Rattle.tt_fit.specs.Fitting.{Fitter, fitted_outline}
-use Rattle.tt_fit_outline.specs.Outline.{Outline}
+use Rattle.tt_fit.specs.outline.Outline.{Outline}
 use Rattle.tt_line.specs.Layout.{Placement}
 use Rattle.tt_strike.specs.Grown.{grown, grown_line, grown_outcome, grown_placement, lacking, not_large, with_sides}
 use Rattle.tt_strike.specs.Job.{Job}

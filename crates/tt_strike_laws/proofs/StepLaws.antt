@@ -5,7 +5,7 @@ use Rattle.tt_arc.specs.Bounds.{box_of}
 use Rattle.tt_arc.specs.Chords.{moved, outline_contours, outline_edges}
 use Rattle.tt_fit.specs.declared.programs.Fit.{Fit}
 use Rattle.tt_fit.specs.declared.programs.Fit.TheVariants as fit
-use Rattle.tt_fit_outline.specs.Steps.{pixels_of}
+use Rattle.tt_fit.specs.outline.Steps.{pixels_of}
 use Rattle.tt_picture.specs.Shapes.{origin_of}
 use Rattle.tt_strike.specs.Picture.{placed_by_steps}
 use Rattle.tt_strike_laws.specs.StepLaws.{BestLaysBySteps, GlyphsBeforeExtent, MovedOutlinesAgree, OthersLayByAdvances}

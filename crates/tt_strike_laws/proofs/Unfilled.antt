@@ -8,7 +8,7 @@ use Rattle.tt_core.specs.Outcomes.{each}
 use Rattle.tt_fit.specs.Dropouts.{dropouts_of}
 use Rattle.tt_fit.specs.Fitting.{Fitter, unfitted_fault, fitted_outline, after_glyph}
 use Rattle.tt_fit.specs.Laws as fit_laws
-use Rattle.tt_fit_outline.specs.Outline.{Outline}
+use Rattle.tt_fit.specs.outline.Outline.{Outline}
 use Rattle.tt_fit.specs.declared.programs.Fit.TheVariants as fit
 use Rattle.tt_line.specs.Layout.{Placement}
 use Rattle.tt_scan_edges.specs.declared.edge.Frame.{Frame}

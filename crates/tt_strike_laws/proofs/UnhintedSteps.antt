@@ -5,7 +5,7 @@ use Rattle.std.proofs.lemmas.Bool.{cases_lt}
 use Rattle.std.proofs.lemmas.Int.{ints}
 use Rattle.tt_core.specs.Numbers.{nearest_quotient, rounded_quotient}
 use Rattle.tt_core.specs.Scales.{ScalesKeepDifferences, away_quotient, factor, rounded_scale, scaled_by}
-use Rattle.tt_fit_outline.specs.Steps.{pixels_of}
+use Rattle.tt_fit.specs.outline.Steps.{pixels_of}
 use Rattle.tt_strike_laws.specs.UnhintedSteps.{IsNearHalf, UnhintedStepsAreNear, linear_step}
 
 -- a quotient of natural numbers, rounded to the nearest

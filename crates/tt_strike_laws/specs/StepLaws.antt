@@ -5,9 +5,9 @@ use Rattle.tt_core.specs.Faults.{Fault}
 use Rattle.tt_face.specs.Faces.{Face}
 use Rattle.tt_fit.specs.declared.programs.Fit.TheVariants as fit
 use Rattle.tt_fit.specs.Fitting.{Fitter}
-use Rattle.tt_fit_outline.specs.Outline.{Outline}
+use Rattle.tt_fit.specs.outline.Outline.{Outline}
 use Rattle.tt_line.specs.Layout.{placement, text_glyphs}
-use Rattle.tt_fit_outline.specs.Steps.{step_of}
+use Rattle.tt_fit.specs.outline.Steps.{step_of}
 use Rattle.tt_arc.specs.declared.rule.ChordRule.{ChordRule}
 use Rattle.tt_picture.specs.Shapes.{contours_of, edges_at, extents_of}
 use Rattle.tt_strike.specs.Job.{Job}

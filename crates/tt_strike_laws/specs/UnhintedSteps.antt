@@ -3,7 +3,7 @@
 use Rattle.std.specs.Prelude.{◌≡◌, ◌≢◌, refl, ℕ, ◌+◌, ◌*◌, ◌<◌, ◌≤◌, ℤ, pos, ◌+ℤ◌, ◌-ℤ◌, unsigned_abs}
 use Rattle.tt_core.specs.Numbers.{rounded_quotient}
 use Rattle.tt_core.specs.Scales.{IsScale, rounded_scale, scaled_by}
-use Rattle.tt_fit_outline.specs.Steps.{pixels_of}
+use Rattle.tt_fit.specs.outline.Steps.{pixels_of}
 
 -- at a size in pixels per em, of an advance in font units that starts at this place
 abbrev pub unhinted_step : ℕ → ℕ → ℤ → ℕ → ℕ

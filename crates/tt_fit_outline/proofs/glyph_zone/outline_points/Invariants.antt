@@ -1,6 +1,6 @@
 use Rattle.std.proofs.Common.{◌≡◌, ◌++◌, map, drop, All}
 use Rattle.tt_fit_outline.specs.GlyphZone.{outline_point}
-use Rattle.tt_points_zones.specs.Zones.{IsPoint}
+use Rattle.tt_exec.specs.zones.Zones.{IsPoint}
 use Rattle.tt_fit_outline.proofs.glyph_zone.outline_points.Given as goal
 
 abbrev pub invariant-loop-point : goal.invariant-loop-point

@@ -2,7 +2,7 @@ use Rattle.std.proofs.Common.{◌∙◌, ◌<◌, pos, false, length, get_or, SF
 use Rattle.std.proofs.lemmas.Int.{to_z-of_z}
 use Rattle.std.proofs.lemmas.List.Elements.{All-set}
 use Rattle.tt_glyf.specs.declared.raw.RawPoint.{RawPoint}
-use Rattle.tt_points_zones.specs.Zones.{IsPoint}
+use Rattle.tt_exec.specs.zones.Zones.{IsPoint}
 use Rattle.tt_fit_outline.proofs.Zones.{one_put, all_placed}
 use Rattle.tt_fit_outline.proofs.places.put_units.Goals as goal
 

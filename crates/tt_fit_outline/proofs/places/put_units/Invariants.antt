@@ -1,5 +1,5 @@
 use Rattle.std.proofs.Common.{◌≡◌, take, All}
-use Rattle.tt_points_zones.specs.Zones.{IsPoint}
+use Rattle.tt_exec.specs.zones.Zones.{IsPoint}
 use Rattle.tt_fit_outline.specs.Units.{in_units}
 use Rattle.tt_fit_outline.proofs.places.put_units.Given as goal
 

@@ -1,5 +1,5 @@
 use Rattle.std.proofs.Common.{◌<◌, inl, arith}
-use Rattle.tt_fit_outline.specs.Views.{outline_of}
+use Rattle.tt_fit.specs.outline.Views.{outline_of}
 use Rattle.tt_picture.specs.Steps.{chords_of}
 use Rattle.tt_glyphs.proofs.drawing.exceeds_chords.Goals as goal
 

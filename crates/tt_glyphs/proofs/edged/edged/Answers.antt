@@ -1,6 +1,6 @@
 use Rattle.std.proofs.Common.{◌≡◌, refl}
 use Rattle.std.specs.Prelude.{IfSome}
-use Rattle.tt_fit_outline.specs.Views.{outline_of}
+use Rattle.tt_fit.specs.outline.Views.{outline_of}
 use Rattle.tt_picture.proofs.OutlineBox.{outline_boxed}
 use Rattle.tt_scan.specs.Contours.{contours_at}
 use Rattle.tt_scan_gaps.specs.Boxes.{IsBoxOf}

@@ -1,6 +1,6 @@
 use Rattle.std.proofs.Common.{◌≡◌, refl, sym, Ok}
 use Rattle.tt_fit.specs.Fitting.{fitted_outline, unfitted_fault}
-use Rattle.tt_fit_outline.specs.Views.{outline_of}
+use Rattle.tt_fit.specs.outline.Views.{outline_of}
 use Rattle.tt_picture.proofs.OutlineBox.{rules_boxed}
 use Rattle.tt_picture.proofs.Turns.{same_dropouts}
 use Rattle.tt_glyphs.proofs.outlines.try_glyph.Goals.{in-Made, in-Refused}

@@ -1,7 +1,7 @@
 use Rattle.std.proofs.Common.{◌≡◌, drop, take, List}
 use Rattle.tt_core.specs.Outcomes.{after_each}
 use Rattle.tt_fit.specs.Fitting.{fitted_outline}
-use Rattle.tt_fit_outline.specs.Outline.{Outline}
+use Rattle.tt_fit.specs.outline.Outline.{Outline}
 use Rattle.tt_picture.specs.Cached.{IsCacheFor, limit_of}
 use Rattle.tt_picture.specs.Distinct.{fitter_after, fitter_for}
 use Rattle.tt_picture.specs.Glyphs.{AreDrawn, numbers_of}

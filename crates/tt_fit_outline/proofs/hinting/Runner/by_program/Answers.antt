@@ -4,7 +4,7 @@ use Rattle.tt_core.specs.Limits.{step_limit}
 use Rattle.tt_exec.specs.Machines.{Machine, run_from}
 use Rattle.tt_exec.specs.Parts.{parts_of}
 use Rattle.tt_exec.specs.Work.{work_within}
-use Rattle.tt_exec_step.specs.Views.{code_of}
+use Rattle.tt_exec.specs.step.Views.{code_of}
 use Rattle.tt_fit_outline.proofs.Paid.{copies-spent, copies-paid, program-refused, refusal-leaves}
 use Rattle.tt_fit_outline.proofs.Zones.{zone-length}
 use Rattle.tt_fit_outline.specs.Outline.{phantom_of}

@@ -1,5 +1,5 @@
 use Rattle.std.proofs.Common.{◌≡◌, ◌∙◌, ap}
-use Rattle.tt_fit_outline.specs.Views.{outline_of}
+use Rattle.tt_fit.specs.outline.Views.{outline_of}
 use Rattle.tt_picture.specs.Fitted.{MadeOutline}
 use Rattle.tt_picture.proofs.fitted.FittedGlyph.has_chords_within.Goals as goal
 

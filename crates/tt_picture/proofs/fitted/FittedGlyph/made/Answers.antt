@@ -1,6 +1,6 @@
 use Rattle.std.proofs.Common.{◌≡◌, refl}
 use Rattle.tt_fit.proofs.Falling.{unbounded-stays}
-use Rattle.tt_fit_outline.specs.Views.{outline_of}
+use Rattle.tt_fit.specs.outline.Views.{outline_of}
 use Rattle.tt_picture.proofs.CutGlyphs.{counts_made, counts_points}
 use Rattle.tt_picture.proofs.Turns.{same_dropouts}
 use Rattle.tt_picture.proofs.fitted.FittedGlyph.made.Goals as goal

@@ -3,9 +3,9 @@ use Rattle.std.specs.Prelude.{IfSome, pos}
 use Rattle.std.proofs.lemmas.Int.{to_z-of_z}
 use Rattle.tt_arc.proofs.Closed.{all_closed}
 use Rattle.tt_fit.specs.Fitting.{Fitter}
-use Rattle.tt_fit_outline.specs.Outline.{Outline}
-use Rattle.tt_fit_outline.specs.Steps.{advance_left}
-use Rattle.tt_fit_outline.specs.Views.{outline_of}
+use Rattle.tt_fit.specs.outline.Outline.{Outline}
+use Rattle.tt_fit.specs.outline.Steps.{advance_left}
+use Rattle.tt_fit.specs.outline.Views.{outline_of}
 use Rattle.tt_scan.specs.Contours.{contours_at}
 use Rattle.tt_scan_gaps.specs.Boxes.{ExtentsFit}
 use Rattle.tt_strike_kept.specs.declared.cut.GlyphFacts.{GlyphFacts}
