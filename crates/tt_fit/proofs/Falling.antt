@@ -4,7 +4,7 @@ use Rattle.tt_core.specs.Faults.{Fault}
 use Rattle.tt_core.specs.declared.font_fault.FontFault.{FontFault}
 use Rattle.tt_core.specs.declared.font_fault.FontFault.TheVariants as font
 use Rattle.tt_core.specs.Outcomes.{◌>>=◌, IfTold, font_fault}
-use Rattle.tt_fit_outline.specs.machine.Work.{Worked, enough, spent}
+use Rattle.tt_fit_hinting.specs.machine.Work.{Worked, enough, spent}
 use Rattle.tt_glyf.specs.Loca.{Glyf}
 use Rattle.tt_metrics.specs.Metrics.{Metrics}
 use Rattle.tt_fit.specs.declared.dropouts.DropoutsBy.{DropoutsBy}
@@ -16,7 +16,7 @@ use Rattle.tt_fit.specs.Laws.{HasWork, ProgramsHaveWork, UnboundedIsEnough, Othe
 use Rattle.tt_fit_outline.specs.Outline.{Outline}
 use Rattle.tt_face.specs.Programs.{ProgramTables}
 use Rattle.tt_fit.specs.Preparation.{left_at, work_at, prepared_by, prepared, fitter_with, fitter_of}
-use Rattle.tt_fit_outline.specs.Hinting.{Hinting, off}
+use Rattle.tt_fit_hinting.specs.Hinting.{Hinting, off}
 use Rattle.tt_fit.specs.Rules.{levels_of, dropouts_by}
 use Rattle.tt_fit.proofs.Unbounded.{of-outline, of-left}
 

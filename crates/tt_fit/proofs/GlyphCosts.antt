@@ -1,20 +1,20 @@
 -- The cost of a glyph's programs is one number, whatever remains of the job's work.
 use Rattle.std.proofs.Common.{ℕ, zero, suc, List, [], ◌∷◌, Option, Result}
 use Rattle.tt_core.specs.Faults.{Fault}
-use Rattle.tt_fit_outline.proofs.machine.RunCosts.{free, costs_both, is_cost}
-use Rattle.tt_fit_outline.specs.machine.Parts.{Parts}
-use Rattle.tt_fit_outline.specs.machine.RunCost.{HasCost}
-use Rattle.tt_fit_outline.specs.machine.Work.{Worked}
+use Rattle.tt_fit_hinting.proofs.machine.RunCosts.{free, costs_both, is_cost}
+use Rattle.tt_fit_hinting.specs.machine.Parts.{Parts}
+use Rattle.tt_fit_hinting.specs.machine.RunCost.{HasCost}
+use Rattle.tt_fit_hinting.specs.machine.Work.{Worked}
 use Rattle.tt_face.specs.Programs.{ProgramTables}
 use Rattle.tt_fit.specs.Fitting.{Fitter, with_hinting, size_of, start, simple_start, composite_program, simple_program, joined, added, simple_work, composite_work, made_work, work_by, added_work, glyph_work}
 use Rattle.tt_fit.specs.GlyphCost.{GlyphsHaveCosts}
 use Rattle.tt_fit.specs.Preparation.{font_program, control_value_program, with_definitions, programs_work}
 use Rattle.tt_fit.specs.Work.{joined_work}
-use Rattle.tt_fit_outline.proofs.ProgramCosts.{after-ok, of-code, of-hinted}
-use Rattle.tt_fit_outline.specs.Hinting.{run_of}
+use Rattle.tt_fit_hinting.proofs.ProgramCosts.{after-ok, of-code, of-hinted}
+use Rattle.tt_fit_hinting.specs.Hinting.{run_of}
 use Rattle.tt_fit_outline.specs.Outline.{Outline}
 use Rattle.tt_fit_outline.specs.Scaling.{scaled_outline}
-use Rattle.tt_fit_outline.specs.Work.{if_ok, code_work, hinted_work}
+use Rattle.tt_fit_hinting.specs.Work.{if_ok, code_work, hinted_work}
 use Rattle.tt_glyf.specs.declared.raw.Record.{Record}
 use Rattle.tt_glyf.specs.GlyphData.{glyph_data_of}
 use Rattle.tt_glyf.specs.Loca.{glyph_offset}

@@ -3,13 +3,13 @@ use Rattle.std.proofs.Common.{◌≡◌, ℕ, Bool, true, false, if◌then◌els
 use Rattle.std.specs.Prelude.{IsOkAnd, ◌⊎◌}
 use Rattle.tt_core.specs.Chains.{came-through, was-err, passed-else, failed-else}
 use Rattle.tt_core.specs.Faults.{Fault}
-use Rattle.tt_fit_outline.specs.machine.Parts.{Parts}
+use Rattle.tt_fit_hinting.specs.machine.Parts.{Parts}
 use Rattle.tt_fit.specs.Defects.{PassesLimit, IsGridDefect, IsProgramDefect, IsHintingDefect}
 use Rattle.tt_fit_outline.specs.declared.grid.Grid.{Grid}
-use Rattle.tt_fit_outline.specs.GlyphZone.{GlyphProgram, program_in_glyf, on_grid, are_on_grid, on_grid_at}
-use Rattle.tt_fit_outline.specs.Parts.{parts_with}
+use Rattle.tt_fit_hinting.specs.GlyphZone.{GlyphProgram, program_in_glyf, on_grid, are_on_grid, on_grid_at}
+use Rattle.tt_fit_hinting.specs.Parts.{parts_with}
 use Rattle.tt_fit_outline.specs.Outline.{PhantomPoints, Outline}
-use Rattle.tt_fit_outline.specs.Hinting.{Hinting, off, ready, is_run, run_of, by_program, hinted}
+use Rattle.tt_fit_hinting.specs.Hinting.{Hinting, off, ready, is_run, run_of, by_program, hinted}
 use Rattle.tt_fit_outline.specs.Scaling.{is_coordinate}
 use Rattle.tt_fit.proofs.Placing.{passes, fits, one-fails, all-hold}
 

@@ -1,8 +1,8 @@
 -- What the two programs give to glyph programs is the parts of a machine.
-use Rattle.tt_fit_outline.specs.declared.hinting.Hinting as declared
-use Rattle.tt_fit_outline.specs.declared.hinting.Hinting.TheVariants as state
-use Rattle.tt_fit_outline.specs.Hinting.{IsHinting}
-use Rattle.tt_fit_outline.specs.Views.{hinting_view}
+use Rattle.tt_fit_hinting.specs.declared.hinting.Hinting as declared
+use Rattle.tt_fit_hinting.specs.declared.hinting.Hinting.TheVariants as state
+use Rattle.tt_fit_hinting.specs.Hinting.{IsHinting}
+use Rattle.tt_fit_hinting.specs.Views.{hinting_view}
 
 pub is_hinting : (h : declared.Hinting) → IsHinting (hinting_view h)
 is_hinting state.Off = tt

@@ -4,19 +4,19 @@ use Rattle.tt_core.specs.Faults.{Fault}
 use Rattle.tt_core.specs.Outcomes.{◌>>=◌, font_fault}
 use Rattle.tt_core.specs.declared.font_fault.FontFault.{FontFault}
 use Rattle.tt_core.specs.declared.font_fault.FontFault.TheVariants as font
-use Rattle.tt_fit_outline.specs.machine.Work.{Worked, enough}
+use Rattle.tt_fit_hinting.specs.machine.Work.{Worked, enough}
 use Rattle.tt_glyf.specs.declared.raw.Record.{Record}
-use Rattle.tt_fit_outline.specs.declared.outline_fault.OutlineFault.{OutlineFault}
-use Rattle.tt_fit_outline.specs.declared.outline_fault.OutlineFault.TheVariants as outline
+use Rattle.tt_fit_hinting.specs.declared.outline_fault.OutlineFault.{OutlineFault}
+use Rattle.tt_fit_hinting.specs.declared.outline_fault.OutlineFault.TheVariants as outline
 use Rattle.tt_fit_outline.specs.Joining.{placed}
 use Rattle.tt_glyf.specs.GlyphData.{glyph_data_of}
 use Rattle.tt_glyf.specs.Loca.{glyph_offset}
 use Rattle.tt_glyf.specs.Raw.{CompositeGlyph, SimpleGlyph, composite, simple}
-use Rattle.tt_fit_outline.specs.Hinting.{hinted}
+use Rattle.tt_fit_hinting.specs.Hinting.{hinted}
 use Rattle.tt_fit.specs.Fitting.{Fitter, size_of, start, glyph_grid, simple_start, simple_program, composite_program, joined, added, outline_at, added_work, outline_work}
 use Rattle.tt_fit_outline.specs.Outline.{Outline}
 use Rattle.tt_fit_outline.specs.Scaling.{scaled_outline}
-use Rattle.tt_fit_outline.specs.Work.{RefusalLeaves, outline_fault, outline_fault_of}
+use Rattle.tt_fit_hinting.specs.Work.{RefusalLeaves, outline_fault, outline_fault_of}
 use Rattle.tt_fit.specs.Work.{joined_work}
 
 pub one_record_more : (add : Record → Outline → Result Outline Fault) (rs : List Record) (i : ℕ) (d : Record)

@@ -2,8 +2,8 @@
 use Rattle.std.proofs.Common.{◌≡◌, ◌∙◌, sym, ap, ℕ, ◌+◌, ◌-◌, Option, Some, None, IfSome, Result, Ok, Err, refl, arith}
 use Rattle.tt_core.specs.Faults.{Fault}
 use Rattle.tt_core.specs.declared.fault.Why.TheVariants as why
-use Rattle.tt_fit_outline.proofs.machine.RunCosts.{is_cost, limited, paid}
-use Rattle.tt_fit_outline.specs.machine.Work.{Worked, enough, spent}
+use Rattle.tt_fit_hinting.proofs.machine.RunCosts.{is_cost, limited, paid}
+use Rattle.tt_fit_hinting.specs.machine.Work.{Worked, enough, spent}
 use Rattle.tt_fit.proofs.Falling.{left-where-enough, unbounded-is-enough}
 use Rattle.tt_fit.proofs.GlyphCosts.{of-glyph}
 use Rattle.tt_fit.proofs.WorkApart.{own-work, more-bound}

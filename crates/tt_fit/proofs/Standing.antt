@@ -15,10 +15,10 @@ use Rattle.tt_fit.specs.Defects.{IsStartDefect, IsPlacingDefect, assembled_befor
 use Rattle.tt_fit.specs.Fitting.{Fitter, size_of, start, glyph_grid, simple_start, joined, composite_program, simple_program, made, outline_by, added, glyph_fitter, fitted_outline}
 use Rattle.tt_fit_outline.specs.declared.grid.Grid.{Grid}
 use Rattle.tt_fit_outline.specs.declared.grid.Grid.TheVariants as rounding
-use Rattle.tt_fit_outline.specs.GlyphZone.{GlyphProgram, on_grid_at, ends_on_grid}
+use Rattle.tt_fit_hinting.specs.GlyphZone.{GlyphProgram, on_grid_at, ends_on_grid}
 use Rattle.tt_fit.specs.Laws.{OutlinesAreWhole, OutlineFaultsStand}
 use Rattle.tt_fit_outline.specs.Outline.{Outline}
-use Rattle.tt_fit_outline.specs.Hinting.{Hinting, hinted}
+use Rattle.tt_fit_hinting.specs.Hinting.{Hinting, hinted}
 use Rattle.tt_fit_outline.specs.Scaling.{phantom_points, scaled_outline}
 use Rattle.tt_fit.proofs.GlyphPrograms.{grid-broke, grid-whole, hinted-broke, hinted-whole}
 use Rattle.tt_fit.proofs.Placing.{blank-broke, blank-whole, scaled-broke, scaled-whole, placing-broke, placing-whole}

@@ -1,11 +1,11 @@
 -- Unbounded work is always enough.
 use Rattle.std.proofs.Common.{◌≡◌, ℕ, zero, suc, Bool, true, false, if◌then◌else◌, List, [], ◌∷◌, Option, None, Result, Ok, Err, ◌⊎◌, inl, inr, ap, refl}
 use Rattle.tt_core.specs.Faults.{Fault}
-use Rattle.tt_fit_outline.proofs.machine.WorkPaid.{unbounded}
-use Rattle.tt_fit_outline.specs.machine.Machines.{fresh, run_from}
-use Rattle.tt_fit_outline.specs.step.MachineState.{Code}
-use Rattle.tt_fit_outline.specs.machine.Parts.{Parts}
-use Rattle.tt_fit_outline.specs.machine.Work.{Worked, enough, then_work}
+use Rattle.tt_fit_hinting.proofs.machine.WorkPaid.{unbounded}
+use Rattle.tt_fit_hinting.specs.machine.Machines.{fresh, run_from}
+use Rattle.tt_fit_hinting.specs.step.MachineState.{Code}
+use Rattle.tt_fit_hinting.specs.machine.Parts.{Parts}
+use Rattle.tt_fit_hinting.specs.machine.Work.{Worked, enough, then_work}
 use Rattle.tt_glyf.specs.declared.raw.Record.{Record}
 use Rattle.tt_glyf.specs.GlyphData.{glyph_data_of}
 use Rattle.tt_glyf.specs.Loca.{glyph_offset}
@@ -13,18 +13,18 @@ use Rattle.tt_glyf.specs.Raw.{Raw, empty, simple, composite}
 use Rattle.tt_metrics.specs.Metrics.{Metrics}
 use Rattle.tt_fit.specs.declared.programs.Fit.{Fit}
 use Rattle.tt_fit.specs.declared.programs.Fit.TheVariants as fit
-use Rattle.tt_fit_outline.specs.declared.outline_fault.OutlineFault.{OutlineFault}
-use Rattle.tt_fit_outline.specs.declared.outline_fault.OutlineFault.TheVariants as outline
+use Rattle.tt_fit_hinting.specs.declared.outline_fault.OutlineFault.{OutlineFault}
+use Rattle.tt_fit_hinting.specs.declared.outline_fault.OutlineFault.TheVariants as outline
 use Rattle.tt_fit.specs.Fitting.{Fitter, size_of, start, simple_start, composite_program, simple_program, joined, added, simple_work, composite_work, made_work, work_by, added_work, outline_work}
-use Rattle.tt_fit_outline.specs.GlyphZone.{GlyphProgram, program_in_glyf, on_grid_at}
-use Rattle.tt_fit_outline.specs.Hinting.{Hinting, off, ready, is_run, run_of}
+use Rattle.tt_fit_hinting.specs.GlyphZone.{GlyphProgram, program_in_glyf, on_grid_at}
+use Rattle.tt_fit_hinting.specs.Hinting.{Hinting, off, ready, is_run, run_of}
 use Rattle.tt_fit_outline.specs.Outline.{Outline}
-use Rattle.tt_fit_outline.specs.Parts.{parts_with}
+use Rattle.tt_fit_hinting.specs.Parts.{parts_with}
 use Rattle.tt_face.specs.Programs.{ProgramTables}
 use Rattle.tt_fit.specs.Preparation.{Preparation, font_program, control_value_program, with_definitions, programs_work, with_fallback, within_work, begun_at, left_at, work_from, work_at, prepared}
 use Rattle.tt_fit.specs.Rules.{runs_programs}
 use Rattle.tt_fit_outline.specs.Scaling.{scaled_outline}
-use Rattle.tt_fit_outline.specs.Work.{IsUnbounded, RefusalLeaves, if_ok, code_work, program_work, hinted_work}
+use Rattle.tt_fit_hinting.specs.Work.{IsUnbounded, RefusalLeaves, if_ok, code_work, program_work, hinted_work}
 use Rattle.tt_fit.specs.Work.{joined_work}
 
 pub after-ok : {X : Type 0} (x : Result X Fault) (more : X → Option ℕ → Worked) (left : Option ℕ)

@@ -1,8 +1,8 @@
 -- Glyphs and charges change nothing of a fitter but its remaining work.
 use Rattle.std.proofs.Common.{◌≡◌, ◌∙◌, sym, ap, ℕ, Option, Some, None, refl}
 use Rattle.tt_core.specs.Faults.{Fault}
-use Rattle.tt_fit_outline.proofs.machine.RunCosts.{rest_is}
-use Rattle.tt_fit_outline.specs.machine.Work.{Worked, enough, spent}
+use Rattle.tt_fit_hinting.proofs.machine.RunCosts.{rest_is}
+use Rattle.tt_fit_hinting.specs.machine.Work.{Worked, enough, spent}
 use Rattle.tt_fit.proofs.Falling.{unbounded-is-enough}
 use Rattle.tt_fit.proofs.GlyphCosts.{of-glyph}
 use Rattle.tt_fit.specs.Dropouts.{dropouts_of}

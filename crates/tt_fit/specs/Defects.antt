@@ -13,15 +13,15 @@ use Rattle.tt_glyf.specs.Defects.{IsGlyphDefect}
 use Rattle.tt_glyf.specs.GlyphData.{glyph_data_of}
 use Rattle.tt_glyf.specs.Loca.{glyph_offset}
 use Rattle.tt_glyf.specs.Raw.{Raw, empty, simple, composite}
-use Rattle.tt_fit_outline.specs.machine.Parts.{Parts}
+use Rattle.tt_fit_hinting.specs.machine.Parts.{Parts}
 use Rattle.tt_fit_outline.specs.Component.{shift_of, landed}
 use Rattle.tt_fit.specs.Fitting.{Fitter, size_of, start, glyph_grid, simple_start, composite_program, simple_program, joined, added, outline_at, glyph_fitter}
 use Rattle.tt_fit_outline.specs.declared.grid.Grid.{Grid}
 use Rattle.tt_fit_outline.specs.declared.grid.Grid.TheVariants as rounding
-use Rattle.tt_fit_outline.specs.GlyphZone.{GlyphProgram, program_in_glyf, on_grid, on_grid_at}
-use Rattle.tt_fit_outline.specs.Parts.{parts_with}
+use Rattle.tt_fit_hinting.specs.GlyphZone.{GlyphProgram, program_in_glyf, on_grid, on_grid_at}
+use Rattle.tt_fit_hinting.specs.Parts.{parts_with}
 use Rattle.tt_fit_outline.specs.Outline.{PhantomPoints, Outline}
-use Rattle.tt_fit_outline.specs.Hinting.{Hinting, off, ready, is_run, run_of}
+use Rattle.tt_fit_hinting.specs.Hinting.{Hinting, off, ready, is_run, run_of}
 use Rattle.tt_fit_outline.specs.Scaling.{glyf_fault, coordinate_fault, phantom_points, scaled_outline}
 use Rattle.tt_fit_outline.specs.Size.{FontSize, scale}
 

@@ -10,7 +10,7 @@ use Rattle.tt_fit.specs.declared.dropouts.DropoutsBy.{DropoutsBy}
 use Rattle.tt_fit.specs.declared.dropouts.DropoutsBy.TheVariants as by
 use Rattle.tt_fit.specs.Fallback.{hinting_for}
 use Rattle.tt_fit.specs.Fitting.{Fitter}
-use Rattle.tt_fit_outline.specs.Hinting.{Hinting, off, ready}
+use Rattle.tt_fit_hinting.specs.Hinting.{Hinting, off, ready}
 use Rattle.tt_fit_outline.specs.Outline.{Outline}
 
 -- the rules of scan type 1, with dots

@@ -3,9 +3,9 @@
 use Rattle.std.specs.Prelude.{◌≡◌, Bool, true, false, ◌&&◌, nat_le, if◌then◌else◌, codes, Option, Some, None, Result, Ok, Err, refl}
 use Rattle.tt_core.specs.declared.fault.Why.TheVariants as why
 use Rattle.tt_core.specs.Faults.{Fault, fault_at, why_number}
-use Rattle.tt_fit_outline.specs.machine.Work.{Worked, enough, spent}
+use Rattle.tt_fit_hinting.specs.machine.Work.{Worked, enough, spent}
 use Rattle.tt_fit_outline.specs.Outline.{Outline}
-use Rattle.tt_fit_outline.specs.Hinting.{Hinting, off}
+use Rattle.tt_fit_hinting.specs.Hinting.{Hinting, off}
 
 -- a fault of a program; smaller numbers are faults of the font's tables
 unfoldable pub is_program_fault : Fault → Bool

@@ -6,7 +6,7 @@ use Rattle.tt_core.specs.declared.fault.Why.TheVariants as why
 use Rattle.tt_core.specs.Faults.{fault_at}
 use Rattle.tt_core.specs.Limits.{level_limit, size_limit}
 use Rattle.tt_core.specs.Outcomes.{◌>>=◌}
-use Rattle.tt_fit_outline.specs.machine.Work.{Worked, enough, then_work}
+use Rattle.tt_fit_hinting.specs.machine.Work.{Worked, enough, then_work}
 use Rattle.tt_glyf.specs.Bytes.{byte_in, word_in, signed_in, slice_in}
 use Rattle.tt_glyf.specs.Composite.{transform_at, argument_at, arguments_at, unscaled, known_glyph, record_at, records_from, program_of, composite_of}
 use Rattle.tt_glyf.specs.Coordinates.{delta_at, within_words, coordinate_at, coordinates_from}
@@ -29,14 +29,14 @@ use Rattle.tt_fit_outline.specs.Outline.{PhantomPoints, Outline}
 use Rattle.tt_fit_outline.specs.declared.grid.Grid.{Grid}
 use Rattle.tt_fit_outline.specs.declared.grid.GridRule.{GridRule}
 use Rattle.tt_fit_outline.specs.declared.grid.GridRule.TheVariants as grid_rule
-use Rattle.tt_fit_outline.specs.GlyphZone.{GlyphProgram, ends_on_grid}
-use Rattle.tt_fit_outline.specs.Hinting.{Hinting, off, IsHinting, is_on, grid_by, hinted}
+use Rattle.tt_fit_hinting.specs.GlyphZone.{GlyphProgram, ends_on_grid}
+use Rattle.tt_fit_hinting.specs.Hinting.{Hinting, off, IsHinting, is_on, grid_by, hinted}
 use Rattle.tt_fit_outline.specs.Scaling.{glyf_fault, phantom_points, phantom_units, blank, scaled_outline, settled}
 use Rattle.tt_fit_outline.specs.Size.{FontSize, size_by}
 use Rattle.tt_fit_outline.specs.Units.{Units, units_by}
 use Rattle.tt_fit_outline.specs.declared.rules.Scaling.{Scaling}
 use Rattle.tt_fit_outline.specs.declared.rules.Scaling.TheVariants as scaling
-use Rattle.tt_fit_outline.specs.Work.{if_ok, hinted_work}
+use Rattle.tt_fit_hinting.specs.Work.{if_ok, hinted_work}
 use Rattle.tt_fit.specs.Work.{joined_work, left_in}
 
 -- The inputs of outlines: a font's glyph data and metrics, the pixels per em, the scaling, and when distances are

@@ -3,7 +3,7 @@
 use Rattle.std.specs.Prelude.{◌≡◌, ℕ, ◌+◌, ◌<◌, Bool, true, false, ⊤, codes, Option, Some, None, Ok, refl}
 use Rattle.tt_core.specs.Faults.{Fault, fault_at}
 use Rattle.tt_core.specs.declared.fault.Why.TheVariants as why
-use Rattle.tt_fit_outline.specs.machine.RunCost.{IsCost}
+use Rattle.tt_fit_hinting.specs.machine.RunCost.{IsCost}
 use Rattle.tt_fit.specs.Dropouts.{dropouts_of}
 use Rattle.tt_fit.specs.Fallback.{Fallback, never, where_refused, everywhere}
 use Rattle.tt_fit.specs.Fitting.{Fitter, after_glyph, charged_fitter, fitted_outline, glyph_work, unfitted_fault, with_work}

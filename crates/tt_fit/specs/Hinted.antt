@@ -19,8 +19,8 @@ use Rattle.tt_fit.specs.Preparation.{fitter_of}
 use Rattle.tt_fit_outline.specs.declared.grid.Grid.TheVariants as rounding
 use Rattle.tt_fit_outline.specs.declared.grid.GridRule.{GridRule}
 use Rattle.tt_fit_outline.specs.declared.grid.GridRule.TheVariants as grid_rule
-use Rattle.tt_fit_outline.specs.GlyphZone.{on_grid_at}
-use Rattle.tt_fit_outline.specs.Hinting.{off}
+use Rattle.tt_fit_hinting.specs.GlyphZone.{on_grid_at}
+use Rattle.tt_fit_hinting.specs.Hinting.{off}
 use Rattle.tt_fit_outline.specs.Joining.{placed}
 use Rattle.tt_fit_outline.specs.Outline.{Outline, PhantomPoints}
 use Rattle.tt_fit_outline.specs.Scaling.{glyf_fault}

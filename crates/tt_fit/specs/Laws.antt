@@ -8,8 +8,8 @@ use Rattle.tt_core.specs.Outcomes.{◌>>=◌}
 use Rattle.tt_core.specs.Scales.{scaled_by}
 use Rattle.tt_core.specs.declared.halves.Halves.TheVariants as halves
 use Rattle.tt_core.specs.declared.scaling.Scale.{Scale}
-use Rattle.tt_fit_outline.specs.machine.Parts.{Parts}
-use Rattle.tt_fit_outline.specs.machine.Work.{enough, spent}
+use Rattle.tt_fit_hinting.specs.machine.Parts.{Parts}
+use Rattle.tt_fit_hinting.specs.machine.Work.{enough, spent}
 use Rattle.tt_glyf.specs.Loca.{Glyf, glyph_offset}
 use Rattle.tt_glyf.specs.Raw.{SimpleGlyph}
 use Rattle.tt_metrics.specs.Metrics.{Metrics}
@@ -21,8 +21,8 @@ use Rattle.tt_fit.specs.Defects.{IsOutlineDefect}
 use Rattle.tt_fit.specs.Dropouts.{default_rules, none_ran, scan_rules, scan_left, dropouts_of}
 use Rattle.tt_fit.specs.Fallback.{never, where_refused, is_program_fault}
 use Rattle.tt_fit.specs.Fitting.{Fitter, with_hinting, size_of, start, simple_program, outline_at, glyph_work, unfitted_fault, fitted_outline, after_glyph}
-use Rattle.tt_fit_outline.specs.Hinting.{off, ready, run_of}
-use Rattle.tt_fit_outline.specs.GlyphZone.{glyph_zone}
+use Rattle.tt_fit_hinting.specs.Hinting.{off, ready, run_of}
+use Rattle.tt_fit_hinting.specs.GlyphZone.{glyph_zone}
 use Rattle.tt_fit_outline.specs.Outline.{Outline, PhantomPoints}
 use Rattle.tt_face.specs.Programs.{ProgramTables}
 use Rattle.tt_fit.specs.Preparation.{font_program, control_value_program, with_definitions, begun_at, left_at, work_at, fitter_with, fitter_of}

@@ -5,9 +5,9 @@
 use Rattle.std.specs.Prelude.{ℕ, if◌then◌else◌, List, codes, Option, Some, None, Result, Ok, Err}
 use Rattle.tt_core.specs.Faults.{Fault}
 use Rattle.tt_core.specs.Outcomes.{◌>>=◌}
-use Rattle.tt_fit_outline.specs.step.MachineState.{Code}
-use Rattle.tt_fit_outline.specs.machine.Parts.{Parts}
-use Rattle.tt_fit_outline.specs.machine.Work.{Worked, enough, spent, then_work}
+use Rattle.tt_fit_hinting.specs.step.MachineState.{Code}
+use Rattle.tt_fit_hinting.specs.machine.Parts.{Parts}
+use Rattle.tt_fit_hinting.specs.machine.Work.{Worked, enough, spent, then_work}
 use Rattle.tt_face.specs.Programs.{ProgramTables}
 use Rattle.tt_glyf.specs.Loca.{Glyf}
 use Rattle.tt_metrics.specs.Metrics.{Metrics}
@@ -16,10 +16,10 @@ use Rattle.tt_fit.specs.declared.programs.Fit.TheVariants as fit
 use Rattle.tt_fit.specs.declared.dropouts.DropoutsBy.TheVariants as by
 use Rattle.tt_fit.specs.Fallback.{Fallback, never, where_refused, everywhere}
 use Rattle.tt_fit.specs.Fitting.{Fitter}
-use Rattle.tt_fit_outline.specs.Hinting.{Hinting, off, ready, run_of}
-use Rattle.tt_fit_outline.specs.Parts.{begun_parts, left_to_glyphs}
+use Rattle.tt_fit_hinting.specs.Hinting.{Hinting, off, ready, run_of}
+use Rattle.tt_fit_hinting.specs.Parts.{begun_parts, left_to_glyphs}
 use Rattle.tt_fit.specs.Rules.{rules_of, grid_of, runs_programs, levels_of, work_of, cvt_read, dropouts_by}
-use Rattle.tt_fit_outline.specs.Work.{if_ok, code_work}
+use Rattle.tt_fit_hinting.specs.Work.{if_ok, code_work}
 
 abbrev pub font_program : List ℕ → Code
 font_program fpgm = record { table = codes "fpgm"; base = 0; bytes = fpgm }

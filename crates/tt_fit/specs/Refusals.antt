@@ -5,8 +5,8 @@ use Rattle.std.specs.Prelude.{◌≡◌, true, pos, neg_ℤ, codes, [], ◌∷�
 use Rattle.tt_core.specs.Faults.{Fault, fault_at, why_number}
 use Rattle.tt_core.specs.declared.fault.Why.TheVariants as why
 use Rattle.tt_core.specs.Limits.{level_limit}
-use Rattle.tt_fit_outline.specs.step.Runs.{run_within, run_outcome}
-use Rattle.tt_fit_outline.specs.machine.Work.{run_work, slowness, work_within}
+use Rattle.tt_fit_hinting.specs.step.Runs.{run_within, run_outcome}
+use Rattle.tt_fit_hinting.specs.machine.Work.{run_work, slowness, work_within}
 use Rattle.tt_glyf.specs.Bytes.{byte_in, word_in, signed_in, slice_in}
 use Rattle.tt_glyf.specs.Composite.{transform_at, argument_at, arguments_at, unscaled, known_glyph, record_at, records_from, program_of, composite_of}
 use Rattle.tt_glyf.specs.Coordinates.{delta_at, within_words, coordinate_at, coordinates_from}
@@ -23,14 +23,14 @@ use Rattle.tt_fit_outline.specs.Component.{shift_of}
 use Rattle.tt_fit_outline.specs.Joining.{placed, appended, within_point_limit}
 use Rattle.tt_fit.specs.Fallback.{Fallback, never, where_refused, everywhere, is_program_fault}
 use Rattle.tt_fit.specs.Fitting.{Fitter, simple_start, added, added_work, fitted_outline, unfitted_fault}
-use Rattle.tt_fit_outline.specs.GlyphZone.{on_grid_at}
+use Rattle.tt_fit_hinting.specs.GlyphZone.{on_grid_at}
 use Rattle.tt_face.specs.Programs.{ProgramTables}
 use Rattle.tt_fit.specs.Preparation.{left_by_programs, programs_work, prepared}
-use Rattle.tt_fit_outline.specs.Parts.{begun_parts}
+use Rattle.tt_fit_hinting.specs.Parts.{begun_parts}
 use Rattle.tt_fit.specs.Rules.{of_profile}
-use Rattle.tt_fit_outline.specs.Hinting.{off, ready, run_of, by_program}
+use Rattle.tt_fit_hinting.specs.Hinting.{off, ready, run_of, by_program}
 use Rattle.tt_fit_outline.specs.Scaling.{blank, scaled_outline, settled}
-use Rattle.tt_fit_outline.specs.Work.{program_work}
+use Rattle.tt_fit_hinting.specs.Work.{program_work}
 use Rattle.tt_fit_outline.specs.declared.grid.GridRule.TheVariants as grid_rule
 use Rattle.tt_fit_outline.specs.declared.rules.Scaling.TheVariants as scaling
 

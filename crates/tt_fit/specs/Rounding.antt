@@ -24,11 +24,11 @@ use Rattle.tt_fit_outline.specs.declared.grid.GridRule.{GridRule}
 use Rattle.tt_fit_outline.specs.declared.grid.GridRule.TheVariants as grid_rule
 use Rattle.tt_fit_outline.specs.declared.rules.Scaling.TheVariants as scaling
 use Rattle.tt_fit_outline.specs.Component.{shift_of}
-use Rattle.tt_fit_outline.specs.GlyphZone.{on_grid_at}
-use Rattle.tt_fit_outline.specs.Hinting.{Hinting, off, ready}
+use Rattle.tt_fit_hinting.specs.GlyphZone.{on_grid_at}
+use Rattle.tt_fit_hinting.specs.Hinting.{Hinting, off, ready}
 use Rattle.tt_fit_outline.specs.Joining.{placed, appended, within_point_limit}
 use Rattle.tt_fit_outline.specs.Outline.{Outline, PhantomPoints}
-use Rattle.tt_fit_outline.specs.Parts.{begun_parts}
+use Rattle.tt_fit_hinting.specs.Parts.{begun_parts}
 use Rattle.tt_fit_outline.specs.Scaling.{blank, coordinate_fault, scaled_outline, settled}
 
 -- the advance is two bytes

@@ -4,7 +4,7 @@ use Rattle.tt_fit.specs.declared.fallback.Fallback.TheVariants as falling
 use Rattle.tt_fit.specs.declared.preparation.Preparation as preparation
 use Rattle.tt_fit.specs.Fallback.{Fallback, never, where_refused, everywhere}
 use Rattle.tt_fit.specs.Preparation.{Preparation}
-use Rattle.tt_fit_outline.specs.Views.{hinting_view}
+use Rattle.tt_fit_hinting.specs.Views.{hinting_view}
 
 abbrev pub fallback_view : fallback.Fallback → Fallback
 fallback_view falling.Never = never

@@ -2,10 +2,10 @@
 -- definition corresponds to that of the same outline. A program has the work that remains after the one before it.
 use Rattle.std.specs.Prelude.{◌≡◌, ℕ, List, [], ◌∷◌, Option, Some, Result}
 use Rattle.tt_core.specs.Faults.{Fault}
-use Rattle.tt_fit_outline.specs.machine.Work.{Worked, enough, spent, then_work}
+use Rattle.tt_fit_hinting.specs.machine.Work.{Worked, enough, spent, then_work}
 use Rattle.tt_glyf.specs.declared.raw.Record.{Record}
 use Rattle.tt_fit_outline.specs.Outline.{Outline}
-use Rattle.tt_fit_outline.specs.Work.{if_ok}
+use Rattle.tt_fit_hinting.specs.Work.{if_ok}
 
 -- the work of each record in order, by how a record extends the outline so far, and by its work
 abbrev pub joined_work : (Record → Outline → Result Outline Fault) → (Record → Option ℕ → Worked) → List Record → Outline

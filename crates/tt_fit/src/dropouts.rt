@@ -2,9 +2,9 @@
 
 ghost use Rattle.std.specs.Prelude.{◌≡◌};
 ghost use Rattle.tt_fit.specs.Dropouts.{type_rules, scan_rules, program_rules};
-ghost use Rattle.tt_fit_outline.specs.Views.{hinting_view};
+ghost use Rattle.tt_fit_hinting.specs.Views.{hinting_view};
 
-use tt_fit_outline::Hinting;
+use tt_fit_hinting::Hinting;
 use tt_state::ScanControl;
 
 /// Which dropouts are filled, and with which pixel.

@@ -12,8 +12,9 @@ ghost use Rattle.tt_fit.specs.Fallback.{where_refused};
 ghost use Rattle.tt_fit.specs.Fitting.{IsFitter, with_hinting, outline_at, glyph_work, unfitted_fault, fitted_outline, after_glyph, charged_fitter};
 ghost use Rattle.tt_fit.specs.Preparation.{fitter_of};
 ghost use Rattle.tt_fit.specs.Tried.{IfMade, IfRefused, outcome_of};
-ghost use Rattle.tt_fit_outline.specs.Views.{hinting_view, outline_of};
-ghost use Rattle.tt_fit_outline.specs.Work.{RefusalLeaves, outline_fault};
+ghost use Rattle.tt_fit_outline.specs.Views.{outline_of};
+ghost use Rattle.tt_fit_hinting.specs.Views.{hinting_view};
+ghost use Rattle.tt_fit_hinting.specs.Work.{RefusalLeaves, outline_fault};
 ghost use Rattle.tt_metrics.specs.Metrics.{loca_format_of, glyphs_of};
 
 use crate::counting::Counter;
@@ -27,9 +28,8 @@ use std::alloc::{AllocError, Global};
 use std::marker::Model;
 use tt_core::{Fault, FontFault};
 use tt_face::Programs;
-use tt_fit_outline::{
-    GlyphMachine, GridRule, Hinting, Outline, OutlineFault, Runner, Scaling, Work, unbounded,
-};
+use tt_fit_hinting::{GlyphMachine, Hinting, OutlineFault, Runner, Work, unbounded};
+use tt_fit_outline::{GridRule, Outline, Scaling};
 use tt_glyf::Glyf;
 use tt_metrics::Metrics;
 
@@ -57,7 +57,7 @@ pub struct Fitter<'a> {
 impl<'a> Model for Fitter<'a> {
     ghost use Rattle.tt_fit.specs.Fitting.{IsFitter};
     ghost use Rattle.tt_fit.specs.Fitting as fitting;
-    ghost use Rattle.tt_fit_outline.specs.Views.{hinting_view};
+    ghost use Rattle.tt_fit_hinting.specs.Views.{hinting_view};
     ghost use Rattle.tt_fit.specs.Views.{fallback_view};
 
     ghost Value = { fitting.Fitter };

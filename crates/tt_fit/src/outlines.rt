@@ -7,15 +7,17 @@ ghost use Rattle.tt_fit_outline.specs.Joining.{placed};
 ghost use Rattle.tt_fit.specs.Fitting.{with_hinting, size_of, start, glyph_grid, simple_start, glyph_program, joined, added, outline_at, added_work, outline_work};
 ghost use Rattle.tt_fit_outline.specs.Scaling.{phantom_units};
 ghost use Rattle.tt_fit_outline.specs.Units.{units_by};
-ghost use Rattle.tt_fit_outline.specs.Views.{hinting_view, outline_of, size_view, program_view, units_view};
-ghost use Rattle.tt_fit_outline.specs.Work.{Makes, WorkGives};
+ghost use Rattle.tt_fit_outline.specs.Views.{outline_of, size_view, units_view};
+ghost use Rattle.tt_fit_hinting.specs.Views.{hinting_view, program_view};
+ghost use Rattle.tt_fit_hinting.specs.Work.{Makes, WorkGives};
 ghost use Rattle.tt_fit.specs.Work.{joined_work};
 
 use crate::fitting::Fitter;
 use tt_core::{Fault, Why};
+use tt_fit_hinting::{GlyphProgram, Hinting, OutlineFault, Runner, ends_on_grid};
 use tt_fit_outline::{
-    FontSize, GlyphProgram, Grid, Hinting, Outline, OutlineFault, Runner, Scaling, Units, blank,
-    ends_on_grid, glyf_fault, phantom_points, phantom_units, placed, scaled_outline,
+    FontSize, Grid, Outline, Scaling, Units, blank, glyf_fault, phantom_points, phantom_units,
+    placed, scaled_outline,
 };
 use tt_glyf::{Raw, RawPoint, Record};
 

@@ -12,7 +12,8 @@ ghost use Rattle.tt_fit_outline.specs.Views.{outline_of};
 use crate::fallback::Fallback;
 use crate::fitting::Fitter;
 use tt_core::{Fault, FontFault, Why};
-use tt_fit_outline::{Outline, Work};
+use tt_fit_hinting::Work;
+use tt_fit_outline::Outline;
 
 /// An outline with the cost of its glyph. The cost is None where the glyph may have lacked work.
 #[derive(Drop)]

@@ -5,16 +5,16 @@ ghost use Rattle.std.specs.Prelude.{◌≡◌, ◌≤◌, length, Ok, IsTrue};
 ghost use Rattle.tt_core.specs.Faults.{is_ascii};
 ghost use Rattle.tt_core.specs.Limits.{font_limit};
 ghost use Rattle.tt_core.specs.Outcomes.{FontGives};
-ghost use Rattle.tt_fit_outline.specs.machine.Parts.{parts_of};
-ghost use Rattle.tt_fit_outline.specs.step.Views.{code_of};
+ghost use Rattle.tt_fit_hinting.specs.machine.Parts.{parts_of};
+ghost use Rattle.tt_fit_hinting.specs.step.Views.{code_of};
 ghost use Rattle.tt_face.specs.Programs.{program_tables};
 ghost use Rattle.tt_fit.specs.Preparation.{hinting_left, left_by_programs, programs_work, without_fallback, within_work, begun_at, left_at, work_from, work_at, prepared};
 ghost use Rattle.tt_fit.specs.Fallback.{everywhere};
-ghost use Rattle.tt_fit_outline.specs.Hinting.{off};
+ghost use Rattle.tt_fit_hinting.specs.Hinting.{off};
 ghost use Rattle.tt_fit.specs.Rules.{rules_of, work_of};
-ghost use Rattle.tt_fit_outline.specs.Views.{hinting_view};
+ghost use Rattle.tt_fit_hinting.specs.Views.{hinting_view};
 ghost use Rattle.tt_fit.specs.Views.{preparation_view};
-ghost use Rattle.tt_fit_outline.specs.Work.{Makes, WorkGives};
+ghost use Rattle.tt_fit_hinting.specs.Work.{Makes, WorkGives};
 
 use crate::fallback::Fallback;
 use crate::programs::{Fit, ProgramsAtSize};
@@ -22,7 +22,7 @@ use crate::rules::{cvt_read, rules_of, runs_programs, work_of};
 use std::alloc::Global;
 use std::mem::swap;
 use tt_core::{Fault, FontFault};
-use tt_fit_outline::{
+use tt_fit_hinting::{
     Code, Hinting, OutlineFault, Parts, Work, begun_parts, left_to_glyphs, run, unbounded,
 };
 

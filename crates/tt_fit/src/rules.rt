@@ -7,7 +7,8 @@ use crate::dropouts::DropoutsBy;
 use crate::programs::Fit;
 use tt_core::{BEST_LEVEL_LIMIT, LEVEL_LIMIT, WORK_LIMIT};
 use tt_face::Programs;
-use tt_fit_outline::{GridRule, OutlineRules, Scaling, Work};
+use tt_fit_hinting::Work;
+use tt_fit_outline::{GridRule, OutlineRules, Scaling};
 use tt_state::Tolerance;
 
 /// Bytes of the control values that are read, if the job's work is bounded.

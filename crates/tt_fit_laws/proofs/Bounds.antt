@@ -20,11 +20,11 @@ use Rattle.tt_fit_outline.specs.declared.grid.Grid.{Grid}
 use Rattle.tt_fit_outline.specs.Component.{placed_point, shift_of}
 use Rattle.tt_fit.specs.Counting.{OutlinesAreCounted, outline_size, points_asked}
 use Rattle.tt_fit.specs.Fitting.{Fitter, size_of, start, glyph_grid, simple_start, composite_program, simple_program, joined, made, outline_by, added, glyph_fitter, fitted_outline}
-use Rattle.tt_fit_outline.specs.GlyphZone.{GlyphProgram, program_in_glyf, on_grid_at, left_outline}
-use Rattle.tt_fit_outline.specs.Hinting.{Hinting, off, ready, is_run, run_of, by_program, hinted}
+use Rattle.tt_fit_hinting.specs.GlyphZone.{GlyphProgram, program_in_glyf, on_grid_at, left_outline}
+use Rattle.tt_fit_hinting.specs.Hinting.{Hinting, off, ready, is_run, run_of, by_program, hinted}
 use Rattle.tt_fit_outline.specs.Joining.{placed, appended, ends_after, within_point_limit}
 use Rattle.tt_fit_outline.specs.Outline.{Outline}
-use Rattle.tt_fit_outline.specs.Parts.{parts_with}
+use Rattle.tt_fit_hinting.specs.Parts.{parts_with}
 use Rattle.tt_fit_outline.specs.Scaling.{phantom_points, are_positions, scaled_point, scaled_outline, blank}
 use Rattle.tt_fit_outline.specs.Size.{FontSize}
 

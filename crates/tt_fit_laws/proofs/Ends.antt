@@ -15,9 +15,9 @@ use Rattle.tt_fit_outline.specs.declared.grid.Grid.{Grid}
 use Rattle.tt_fit_outline.specs.declared.grid.Grid.TheVariants as rounding
 use Rattle.tt_fit_outline.specs.declared.grid.GridRule.{GridRule}
 use Rattle.tt_fit_outline.specs.declared.grid.GridRule.TheVariants as grid_rule
-use Rattle.tt_fit_outline.specs.GlyphZone.{GlyphProgram, on_grid, are_on_grid, on_grid_at, ends_on_grid}
+use Rattle.tt_fit_hinting.specs.GlyphZone.{GlyphProgram, on_grid, are_on_grid, on_grid_at, ends_on_grid}
 use Rattle.tt_fit_outline.specs.Grid.{up}
-use Rattle.tt_fit_outline.specs.Hinting.{Hinting, off, ready, is_on, grid_by, hinted}
+use Rattle.tt_fit_hinting.specs.Hinting.{Hinting, off, ready, is_on, grid_by, hinted}
 use Rattle.tt_fit_outline.specs.Outline.{Outline, PhantomPoints}
 use Rattle.tt_fit_outline.specs.Scaling.{scaled_point, scaled_outline}
 use Rattle.tt_fit_outline.specs.Size.{FontSize}

@@ -14,7 +14,7 @@ use Rattle.tt_fit.specs.Fitting.{Fitter, with_hinting, outline_at, unfitted_faul
 use Rattle.tt_fit.specs.Laws.{HasWork, FallbackFits, FallbackScales, FallbackRefuses, FallbackUnfitsAll, OthersNeverFallBack, FullIsByPrograms, NoneIsWithoutPrograms}
 use Rattle.tt_fit_outline.specs.Outline.{Outline}
 use Rattle.tt_fit.specs.Preparation.{with_fallback, left_at, work_at, prepared, fitter_with, fitter_of}
-use Rattle.tt_fit_outline.specs.Hinting.{Hinting, off}
+use Rattle.tt_fit_hinting.specs.Hinting.{Hinting, off}
 use Rattle.tt_fit.specs.Rules.{falls_back, dropouts_by}
 use Rattle.tt_fit.proofs.Falling.{alone-is, filled, fitted-where-made, fitter_by, made-fitted, made-unfitted, never-unfitted, unfitted-everywhere, unfitted-where-refused}
 

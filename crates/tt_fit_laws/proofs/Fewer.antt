@@ -8,12 +8,12 @@ use Rattle.tt_exec.specs.Work.{Worked, enough, spent}
 use Rattle.tt_glyf.specs.Loca.{Glyf}
 use Rattle.tt_metrics.specs.Metrics.{Metrics}
 use Rattle.tt_fit.proofs.GlyphCosts.{of-glyph, of-programs}
-use Rattle.tt_fit_outline.proofs.ProgramCosts.{where-run}
+use Rattle.tt_fit_hinting.proofs.ProgramCosts.{where-run}
 use Rattle.tt_fit.specs.declared.dropouts.DropoutsBy.{DropoutsBy}
 use Rattle.tt_fit.specs.declared.programs.Fit.TheVariants as fit
 use Rattle.tt_fit.specs.Fallback.{Fallback, never, where_refused, everywhere}
 use Rattle.tt_fit.specs.Fitting.{Fitter, glyph_work, left_after_glyph, after_glyph}
-use Rattle.tt_fit_outline.specs.Hinting.{Hinting, off}
+use Rattle.tt_fit_hinting.specs.Hinting.{Hinting, off}
 use Rattle.tt_fit.specs.Laws.{Fewer, WorkFalls, BestIsBounded}
 use Rattle.tt_fit.specs.Preparation.{programs_work, begun_at, left_at, work_from, work_at, prepared_by, prepared, fitter_with, fitter_of}
 use Rattle.tt_fit.specs.Rules.{runs_programs, dropouts_by}

@@ -11,7 +11,7 @@ use Rattle.tt_fit.specs.declared.programs.Fit.{Fit}
 use Rattle.tt_fit.specs.declared.programs.Fit.TheVariants as fit
 use Rattle.tt_fit.specs.Dropouts.{default_rules, none_ran, rules_by, type_rules}
 use Rattle.tt_fit.specs.Fitting.{Fitter, after_glyph}
-use Rattle.tt_fit_outline.specs.Hinting.{Hinting, off}
+use Rattle.tt_fit_hinting.specs.Hinting.{Hinting, off}
 use Rattle.tt_fit.specs.Laws.{OthersFillNone, RulesStay, UnfittedByTypeOne, EmptyByTypeOne, SkippedByTypeOne, FittedByScan, OffFillsNone, OtherTypesFillNone}
 use Rattle.tt_face.specs.Programs.{ProgramTables}
 use Rattle.tt_fit.specs.Preparation.{prepared, fitter_of}

@@ -16,7 +16,7 @@ use Rattle.tt_fit.specs.Laws.{AreEmpty, SwitchedOff}
 use Rattle.tt_fit.specs.Preparation.{font_program, control_value_program, with_definitions, left_by_programs, within_work, begun_at, left_at, work_at, prepared, fitter_of}
 use Rattle.tt_fit.specs.Rules.{grid_of, runs_programs}
 use Rattle.tt_fit_outline.specs.declared.grid.GridRule.TheVariants as grid_rule
-use Rattle.tt_fit_outline.specs.Hinting.{Hinting, off, is_on, grid_by, run_of}
+use Rattle.tt_fit_hinting.specs.Hinting.{Hinting, off, is_on, grid_by, run_of}
 
 -- the hinting of a fitter of Best
 of-fitter : (t s : Fitter) → ◌≡◌ {A = Result Fitter Fault} (Ok t) (Ok s) → s.hinting ≡ t.hinting

@@ -26,8 +26,8 @@ use Rattle.tt_fit.specs.Laws.{AreEmpty, HasWork}
 use Rattle.tt_fit.specs.Preparation.{within_work, left_at, work_at, prepared, fitter_of}
 use Rattle.tt_fit_outline.specs.declared.grid.Grid.{Grid}
 use Rattle.tt_fit_outline.specs.Component.{shift_of, landed}
-use Rattle.tt_fit_outline.specs.GlyphZone.{GlyphProgram}
-use Rattle.tt_fit_outline.specs.Hinting.{Hinting, off}
+use Rattle.tt_fit_hinting.specs.GlyphZone.{GlyphProgram}
+use Rattle.tt_fit_hinting.specs.Hinting.{Hinting, off}
 use Rattle.tt_fit_outline.specs.Outline.{Outline}
 use Rattle.tt_fit_outline.specs.Scaling.{glyf_fault, coordinate_fault, scaled_outline}
 use Rattle.tt_fit.proofs.Falling.{fitted-where-made, never-unfitted, made-fitted}

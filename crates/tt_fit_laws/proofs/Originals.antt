@@ -16,7 +16,7 @@ use Rattle.tt_fit.specs.declared.programs.Fit.TheVariants as fit
 use Rattle.tt_fit_outline.specs.declared.rules.Scaling.{Scaling}
 use Rattle.tt_fit_outline.specs.declared.rules.Scaling.TheVariants as scaling
 use Rattle.tt_fit.specs.Fitting.{Fitter, size_of, start}
-use Rattle.tt_fit_outline.specs.GlyphZone.{untouched, outline_point, phantom_zone, glyph_zone}
+use Rattle.tt_fit_hinting.specs.GlyphZone.{untouched, outline_point, phantom_zone, glyph_zone}
 use Rattle.tt_fit.specs.Laws.{IsScaledBy, OriginalsAreScaled, OthersMeasureInPixels}
 use Rattle.tt_fit_outline.specs.Outline.{Outline, PhantomPoints}
 use Rattle.tt_face.specs.Programs.{ProgramTables}

@@ -17,8 +17,8 @@ use Rattle.tt_fit_outline.specs.declared.grid.GridRule.{GridRule}
 use Rattle.tt_fit_outline.specs.declared.grid.GridRule.TheVariants as grid_rule
 use Rattle.tt_fit_outline.specs.Component.{offset_along, offset_of, point_of, matched_by, shift_of, placed_point}
 use Rattle.tt_fit_outline.specs.Grid.{rounded_to}
-use Rattle.tt_fit_outline.specs.GlyphZone.{ends_on_grid}
-use Rattle.tt_fit_outline.specs.Hinting.{Hinting, off, ready, is_on, grid_by, hinted}
+use Rattle.tt_fit_hinting.specs.GlyphZone.{ends_on_grid}
+use Rattle.tt_fit_hinting.specs.Hinting.{Hinting, off, ready, is_on, grid_by, hinted}
 use Rattle.tt_fit_outline.specs.Joining.{within_point_limit, phantom_with, scan_after, ends_after, placed, appended}
 use Rattle.tt_fit_outline.specs.Outline.{Outline, PhantomPoints}
 use Rattle.tt_fit_outline.specs.Scaling.{scaled_outline}

@@ -1,11 +1,7 @@
 -- The definitions' views of the code's values.
-use Rattle.std.specs.Prelude.{Bool, ℤ, pos, option_map}
-use Rattle.tt_exec.specs.Parts.{parts_of}
+use Rattle.std.specs.Prelude.{Bool, ℤ, pos}
 use Rattle.tt_fit_outline.specs.declared.shift.ComponentPoint as component_point
 use Rattle.tt_fit_outline.specs.declared.shift.Shift as shift
-use Rattle.tt_fit_outline.specs.declared.hinting.Hinting as hinting
-use Rattle.tt_fit_outline.specs.declared.hinting.Hinting.TheVariants as state
-use Rattle.tt_fit_outline.specs.declared.glyph_program.GlyphProgram as program
 use Rattle.tt_fit_outline.specs.declared.outline.Outline as outline
 use Rattle.tt_fit_outline.specs.declared.scaling.Landing as landing
 use Rattle.tt_fit_outline.specs.declared.scaling.Phantom as phantom
@@ -13,8 +9,6 @@ use Rattle.tt_fit_outline.specs.declared.size.FontSize as size
 use Rattle.tt_fit_outline.specs.declared.units.PhantomUnits as phantom_units
 use Rattle.tt_fit_outline.specs.declared.units.Units as units
 use Rattle.tt_fit_outline.specs.Outline.{PhantomPoints, Outline, phantom_of}
-use Rattle.tt_fit_outline.specs.GlyphZone.{GlyphProgram}
-use Rattle.tt_fit_outline.specs.Hinting.{Hinting, off, ready}
 use Rattle.tt_fit_outline.specs.Size.{FontSize}
 use Rattle.tt_fit_outline.specs.Units.{Units}
 
@@ -43,11 +37,3 @@ phantom_units_view p = record
 
 abbrev pub units_view : units.Units → Units
 units_view u = record { points = u.points.now; phantom = phantom_units_view u.phantom }
-
-abbrev pub program_view : program.GlyphProgram → GlyphProgram
-program_view p =
-    record { code = p.code.now; code_at = p.code_at; glyph_at = p.glyph_at; grid = p.grid; units = option_map units_view p.units }
-
-abbrev pub hinting_view : hinting.Hinting → Hinting
-hinting_view state.Off = off
-hinting_view (state.Ready parts) = ready (parts_of parts)

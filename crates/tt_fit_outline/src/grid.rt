@@ -37,7 +37,7 @@ fn up(v: i64) -> i64
 
 impl Grid {
     /// A distance by this grid.
-    pub(crate) fn rounded(self, v: i64) -> i64
+    pub fn rounded(self, v: i64) -> i64
         requires { unsigned_abs v < 2 ^ 40 }
         ensures exact { result ≡ rounded_to self v }
         ensures bound { unsigned_abs result ≤ unsigned_abs v + 256 }

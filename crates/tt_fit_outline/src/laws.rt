@@ -2,7 +2,6 @@
 
 ghost use Rattle.tt_fit_outline.specs.Grid.{UpIsNear, UpKeepsOrder, UpMovesByPixels};
 ghost use Rattle.tt_fit_outline.specs.Steps.{StepsAreBounded, StepsAreForward, StepsAreNear, StepsStay};
-ghost use Rattle.tt_fit_outline.specs.WorkLaws.{ProgramsHaveCosts};
 
 /// Lemma: halves that go up to whole pixels keep the order of distances. A distance one pixel longer stays one pixel
 /// longer, and no distance moves by more than half a pixel.
@@ -19,10 +18,4 @@ pub fn steps_are_near()
     ensures near { StepsAreNear }
     ensures forward { StepsAreForward }
     ensures stay { StepsStay }
-{}
-
-/// Lemma: the work of a glyph's program has one cost, whatever remains of the job's work. At least that much leaves the
-/// difference, and less is refused by StepLimit.
-pub fn programs_have_costs()
-    ensures { ProgramsHaveCosts }
 {}

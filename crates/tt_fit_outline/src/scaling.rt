@@ -28,7 +28,7 @@ pub fn glyf_fault(at: u32, why: Why) -> Fault
 }
 
 /// A coordinate in 26.6 pixels. Error: CoordRange, at this offset in glyf.
-pub(crate) fn coordinate(at: u32, v: i64) -> Result<i32, Fault>
+pub fn coordinate(at: u32, v: i64) -> Result<i32, Fault>
     ensures ok { IfOk result (λ w. (w ≡ v) × (is_coordinate v ≡ true)) }
     ensures within { IfOk result IsCoordinate }
     ensures err { IfErr result (λ f. (f ≡ coordinate_fault at) × (is_coordinate v ≡ false)) }

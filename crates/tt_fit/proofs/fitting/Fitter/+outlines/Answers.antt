@@ -6,7 +6,8 @@ use Rattle.tt_glyf.specs.Loca.{glyph_offset}
 use Rattle.tt_glyf.specs.Raw.{CompositeGlyph, SimpleGlyph, composite, simple}
 use Rattle.tt_fit.specs.Fitting.{with_hinting, size_of, start, simple_start, added, added_work}
 use Rattle.tt_fit_outline.specs.Scaling.{scaled_outline}
-use Rattle.tt_fit_outline.specs.Views.{hinting_view, outline_of}
+use Rattle.tt_fit_outline.specs.Views.{outline_of}
+use Rattle.tt_fit_hinting.specs.Views.{hinting_view}
 use Rattle.tt_fit.proofs.Levels.{one_record_more, one_record_paid, one_record_refused, one_level_done, one_level_work, composite_made, simple_made, simple_refused, simple_unpaid}
 use Rattle.tt_fit.proofs.fitting.Fitter.+outlines.Goals as goal
 

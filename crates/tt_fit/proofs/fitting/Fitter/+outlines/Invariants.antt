@@ -1,6 +1,7 @@
 use Rattle.std.proofs.Common.{◌≡◌, ◌+◌, ◌*◌, drop}
 use Rattle.tt_fit.specs.Fitting.{with_hinting, joined, added, added_work}
-use Rattle.tt_fit_outline.specs.Views.{hinting_view, outline_of}
+use Rattle.tt_fit_outline.specs.Views.{outline_of}
+use Rattle.tt_fit_hinting.specs.Views.{hinting_view}
 use Rattle.tt_fit.specs.Work.{joined_work}
 use Rattle.tt_fit.proofs.fitting.Fitter.+outlines.Given as goal
 

@@ -1,6 +1,7 @@
 use Rattle.std.proofs.Common.{◌≡◌, ◌∙◌, sym, arith}
 use Rattle.tt_fit.specs.Fallback.{never, where_refused, everywhere}
-use Rattle.tt_fit_outline.specs.Views.{hinting_view, outline_of}
+use Rattle.tt_fit_outline.specs.Views.{outline_of}
+use Rattle.tt_fit_hinting.specs.Views.{hinting_view}
 use Rattle.tt_fit.proofs.Falling.{unfitted-everywhere, left-where-never, left-where-everywhere, left-where-enough, made-by-programs, pays-too, on-ok, on-told}
 use Rattle.tt_fit.proofs.fitting.Fitter.fitted_within.Goals as goal
 

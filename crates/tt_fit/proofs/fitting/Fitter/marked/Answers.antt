@@ -1,6 +1,6 @@
 use Rattle.std.proofs.Common.{◌≡◌, arith}
 use Rattle.tt_fit.specs.Fitting.{with_hinting}
-use Rattle.tt_fit_outline.specs.Views.{hinting_view}
+use Rattle.tt_fit_hinting.specs.Views.{hinting_view}
 use Rattle.tt_fit.proofs.Unbounded.{of-outline, never-spent}
 use Rattle.tt_fit.proofs.fitting.Fitter.marked.Goals as goal
 

@@ -1,5 +1,0 @@
-use Rattle.tt_fit_outline.proofs.ProgramCosts.{programs-have-costs}
-use Rattle.tt_fit_outline.proofs.laws.programs_have_costs.Goals as goal
-
-pub returns : goal.returns
-returns c = programs-have-costs
