@@ -1,5 +1,5 @@
 -- A glyph that is tried: what its refusal tells.
-use Rattle.std.proofs.Common.{◌≡◌, Option, None, Some, Result, Ok, Err, OnOk}
+use Rattle.std.proofs.Common.{Option, None, Some, Result, Ok, Err, OnOk}
 use Rattle.std.specs.Prelude.{IfOk, IfSome}
 use Rattle.std.specs.declared.alloc.AllocError.{AllocError}
 use Rattle.tt_core.specs.declared.font_fault.FontFault.{FontFault}

@@ -1,8 +1,8 @@
-use Rattle.std.proofs.Common.{◌≡◌, ◌∙◌, ap, Err}
+use Rattle.std.proofs.Common.{◌∙◌, ap, Err}
 use Rattle.tt_core.specs.Chains.{if-told}
 use Rattle.tt_core.specs.Outcomes.{font_fault}
 use Rattle.tt_fit.specs.Defects.{IsOutlineDefect}
-use Rattle.tt_fit.specs.Fitting.{Fitter, after_glyph, fitted_outline}
+use Rattle.tt_fit.specs.Fitting.{Fitter, fitted_outline}
 use Rattle.tt_fit_outline.specs.Views.{outline_of}
 use Rattle.tt_fit.proofs.Falling.{after-is}
 use Rattle.tt_fit.proofs.Standing.{faults-stand}
