@@ -3,7 +3,6 @@
 use Rattle.std.specs.Prelude.{◌≡◌, refl, ℕ, List, ◌++◌, codes, Option, Some, None}
 use Rattle.std.specs.declared.io.ErrorKind.{ErrorKind}
 use Rattle.std.specs.declared.io.ErrorKind.TheVariants as kind
-use Rattle.tt_advice.specs.declared.hint.FixedHint.{FixedHint}
 use Rattle.tt_advice.specs.declared.hint.FixedHint.TheVariants as fixed
 use Rattle.tt_advice.specs.declared.hint.Hint.TheVariants as hint
 use Rattle.tt_advice.specs.Hints.{hint_line}

@@ -1,4 +1,4 @@
-use Rattle.std.proofs.Common.{◌≡◌, codes}
+use Rattle.std.proofs.Common.{codes}
 use Rattle.tt_program_decisions.specs.Unfound.{quoted}
 use Rattle.tt_program_decisions.proofs.Quotes.{of_five}
 use Rattle.tt_program_decisions.proofs.unfound.line_of_family.Goals as goal
