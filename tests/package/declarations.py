@@ -16,7 +16,7 @@ RUST = re.sub(r"///.*", "", (ROOT / "bindings/rust/src/c.rs").read_text(encoding
 OF_PYTHON = {"u32": "uint32_t", "i32": "int32_t", "u64": "uint64_t", "i64": "int64_t",
              "c_char * 4": "uint8_t[4]", "tt_box": "tt_box", "tt_picture": "tt_picture"}
 OF_RUST = {"u8": "uint8_t", "u32": "uint32_t", "i32": "int32_t", "u64": "uint64_t", "i64": "int64_t",
-           "usize": "size_t", "[u8; 4]": "uint8_t[4]"}
+           "usize": "size_t", "c_int": "int", "[u8; 4]": "uint8_t[4]"}
 NAMES = {"Figures": "tt_font", "Shape": "tt_picture", "PixelBox": "tt_box"}
 
 
@@ -41,7 +41,7 @@ def calls_of_header():
     found = {}
     for result, name, words in re.findall(r"^(\w+) (tt_\w+)\((.*?)\);", HEADER, re.M | re.S):
         words = [re.fullmatch(r"(.*?)(\w+)", " ".join(it.split())) for it in words.replace("struct ", "").split(",")]
-        found[name] = [*((it[2], it[1].strip()) for it in words), ("", result)]
+        found[name] = [*((it[2], it[1].strip()) for it in words if it[2] != "void"), ("", result)]
     return found
 
 

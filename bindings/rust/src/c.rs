@@ -1,4 +1,5 @@
 //! The declarations of tt_render.h, in its order, as far as this crate calls them.
+use std::os::raw::c_int;
 
 #[repr(C)]
 #[derive(Clone, Copy, Debug, Default, PartialEq, Eq)]
@@ -177,6 +178,7 @@ pub struct Pen {
 }
 
 extern "C" {
+    pub fn tt_supported() -> c_int;
     pub fn tt_faces(font: *const u8, font_bytes: usize, answer: *mut Answer) -> u32;
     pub fn tt_open_face(
         font: *const u8,

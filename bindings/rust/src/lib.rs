@@ -18,5 +18,5 @@ mod picture;
 
 pub use c::{Bitmap, Figures, Glyph, Layout, Pen, PixelBox, Shape};
 pub use error::Error;
-pub use font::{faces, Font};
+pub use font::{faces, supported, Font};
 pub use picture::{Bitmaps, Character, Fit, Job, Measure, Picture};

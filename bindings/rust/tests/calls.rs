@@ -2,7 +2,7 @@
 use std::env;
 use std::io::Write;
 use std::process::{Command, Stdio};
-use tt_render::{faces, Error, Fit, Font, Job};
+use tt_render::{faces, supported, Error, Fit, Font, Job};
 
 fn font_path() -> String {
     env::var("TT_FONT").expect("TT_FONT names a font")
@@ -399,4 +399,9 @@ fn layouts_are_those_of_measures() {
         .map(|it| (it.glyph, it.advance, it.pen))
         .collect();
     assert_eq!(pens, places);
+}
+
+#[test]
+fn this_processor_is_supported() {
+    assert!(supported());
 }
