@@ -77,8 +77,8 @@ def differences(binding, wanted, got):
 
 
 # Where the version stands beside the header: as a text, its first two parts, and as a number.
-VERSIONS = {"bindings/python/pyproject.toml": r'^version = "(.*)"', "bindings/rust/Cargo.toml": r'^version = "(.*)"',
-            "bindings/rust/Cargo.lock": r'^name = "tt_render"\nversion = "(.*)"', "tt_render.1": r'"tt_render (.*?)"',
+VERSIONS = {"bindings/python/pyproject.toml": r'^version = "(.*)"', "Cargo.toml": r'^version = "(.*)"',
+            "Cargo.lock": r'^name = "tt_render"\nversion = "(.*)"', "tt_render.1": r'"tt_render (.*?)"',
             "crates/tt_program_commands/src/lib.rt": r'\.version\("(.*)"\)', "SECURITY.md": r"^Version (\S+) ",
             "CHANGELOG.md": r"^## (\d.*) - \d{4}-\d\d-\d\d$"}
 SHORT = {"docs/C_LIBRARY.md": r"find_package\(tt_render (\S+)"}

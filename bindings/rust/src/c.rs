@@ -15,6 +15,7 @@ pub struct Answer {
 /// The figures of a font, in font units except the number of glyphs.
 #[repr(C)]
 #[derive(Clone, Copy, Debug, Default, PartialEq, Eq)]
+#[non_exhaustive]
 pub struct Figures {
     /// 16 to 16,384.
     pub units_per_em: u32,
@@ -42,6 +43,7 @@ pub struct Job {
 /// A picture without its pixels.
 #[repr(C)]
 #[derive(Clone, Copy, Debug, Default, PartialEq, Eq)]
+#[non_exhaustive]
 pub struct Shape {
     /// Pixels in a row, 1 to 16,384.
     pub width: u32,
@@ -93,6 +95,7 @@ pub struct Character {
 /// A character of a text in the font.
 #[repr(C)]
 #[derive(Clone, Copy, Debug, Default, PartialEq, Eq)]
+#[non_exhaustive]
 pub struct Glyph {
     /// The character's.
     pub code_point: u32,
@@ -114,6 +117,7 @@ pub struct Line {
 /// The bitmap of a glyph: the least box that holds its ink, from the pen and the base line. Unused fields are 0.
 #[repr(C)]
 #[derive(Clone, Copy, Debug, Default, PartialEq, Eq)]
+#[non_exhaustive]
 pub struct Bitmap {
     /// The number, as asked for.
     pub glyph: u32,
@@ -142,6 +146,7 @@ pub struct Bitmap {
 /// The picture of a text without its ink, and what a next line needs.
 #[repr(C)]
 #[derive(Clone, Copy, Debug, Default, PartialEq, Eq)]
+#[non_exhaustive]
 pub struct Layout {
     /// Of the picture that does not grow.
     pub width: u32,
@@ -164,6 +169,7 @@ pub struct Layout {
 /// The pen of a character of a text.
 #[repr(C)]
 #[derive(Clone, Copy, Debug, Default, PartialEq, Eq)]
+#[non_exhaustive]
 pub struct Pen {
     /// The character's.
     pub code_point: u32,

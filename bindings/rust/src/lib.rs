@@ -9,6 +9,9 @@
 //! ```
 //!
 //! The library has no state: a `Font` is the caller's bytes and a number. tt_render.h describes each call.
+//!
+//! Types that are `#[non_exhaustive]` may get further fields or members. A request is made by `Job::of_size`, and then
+//! changed field by field.
 #![warn(missing_docs)]
 
 mod c;
