@@ -80,13 +80,13 @@ def differences(binding, wanted, got):
 VERSIONS = {"bindings/python/pyproject.toml": r'^version = "(.*)"', "Cargo.toml": r'^version = "(.*)"',
             "Cargo.lock": r'^name = "tt_render"\nversion = "(.*)"', "tt_render.1": r'"tt_render (.*?)"',
             "crates/tt_program_commands/src/lib.rt": r'\.version\("(.*)"\)', "SECURITY.md": r"^Version (\S+) ",
-            "CHANGELOG.md": r"^## (\d.*) - \d{4}-\d\d-\d\d$"}
+            "CHANGELOG.md": r"^## (\d.*) - \d{4}-\d\d-\d\d$", "debian/changelog": r"^tt-render \((.*)\)"}
 SHORT = {"docs/C_LIBRARY.md": r"find_package\(tt_render (\S+)"}
 NUMBERS = {"include/tt_render.h": r"#define TT_RENDER_VERSION (\d+)",
            "crates/tt_c/src/lib.rt": r"fn tt_version\(\) -> u32\s+ensures \{ result ≡ (\d+)"}
 # Where the name of the shared library stands.
 SONAMES = ("dist/install", "include/tt_render.h", "docs/C_LIBRARY.md", "bindings/python/backend.py",
-           "bindings/python/tt_render/_library.py", "tests/package/run")
+           "bindings/python/tt_render/_library.py", "debian/libtt-render1.symbols", "tests/package/run")
 
 
 def read(path):
