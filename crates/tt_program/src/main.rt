@@ -17,8 +17,8 @@ use std::{env, fs, io};
 use tt_advice::shown_words;
 use tt_core::{Device, Sink};
 use tt_program_decisions::{
-    OutDevice, Stop, perform, stop_of_print, stop_of_request, stop_of_words, tell_refused, tell_stop,
-    tell_unopened,
+    OutDevice, Stop, perform, stop_of_print, stop_of_request, stop_of_words, tell_refused,
+    tell_stop, tell_unopened,
 };
 
 fn main(rt: HostRuntime) -> ExitCode {
