@@ -4,8 +4,10 @@
 ghost use Rattle.std.specs.Prelude.{◌≤◌};
 
 mod command;
+mod output;
 
 use crate::command::request;
+use crate::output::Output;
 use clap::Error;
 use clap::error::ErrorKind;
 use std::fs::OpenFile;
@@ -16,7 +18,7 @@ use std::{env, fs, io};
 use tt_advice::shown_words;
 use tt_core::Device;
 use tt_program_decisions::{
-    Stop, perform, stop_of_request, stop_of_words, tell_stop, tell_unopened,
+    Stop, perform, stop_of_request, stop_of_words, tell_stop, tell_unmade, tell_unopened,
 };
 
 fn main(rt: HostRuntime) -> ExitCode {
@@ -73,8 +75,8 @@ fn serve<R: Files + Env + Print + Eprint + AllocGlobal>(rt: &R, stdin: Stdin, st
     let folder = is_folder(&file);
     let mut font = Device::new(file);
     let mut lines = Device::new(lines);
-    let mut out = Device::new(io::writer(rt));
-    perform(
+    let mut out = Output::new(rt, io::writer(rt), request.output());
+    let status = perform(
         rt.alloc(),
         &request,
         folder,
@@ -82,7 +84,11 @@ fn serve<R: Files + Env + Print + Eprint + AllocGlobal>(rt: &R, stdin: Stdin, st
         &mut lines,
         &mut out,
         &mut errors,
-    )
+    );
+    if let Some(unmade) = &out.unmade {
+        tell_unmade(rt.alloc(), &unmade.path, unmade.kind, &mut errors);
+    }
+    status
 }
 
 /// Whether a file that was opened is a folder.

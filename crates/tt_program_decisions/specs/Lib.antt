@@ -1,6 +1,7 @@
 pub mod BdfCalls
 pub mod BdfRequests
 pub mod FaceLines
+pub mod Output
 pub mod Requests
 pub mod Rules
 pub mod Stops

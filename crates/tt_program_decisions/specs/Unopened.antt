@@ -1,6 +1,6 @@
 -- No part of the standard: the report of a font that cannot be opened (profile). For `label` and `bdf` a line tells a
 -- person what to do.
-use Rattle.std.specs.Prelude.{◌≡◌, refl, ℕ, ◌+◌, ◌-◌, Bool, true, false, ◌&&◌, ◌||◌, nat_le, nat_lt, if◌then◌else◌, List, [], ◌∷◌, ◌++◌, length, map, slice_index, codes, bytes_eq, Option, Some, None}
+use Rattle.std.specs.Prelude.{◌≡◌, refl, ℕ, Bool, true, false, ◌||◌, nat_lt, if◌then◌else◌, List, [], ◌∷◌, ◌++◌, length, map, codes, bytes_eq, Option, Some, None}
 use Rattle.std.specs.declared.io.ErrorKind.{ErrorKind}
 use Rattle.std.specs.declared.io.ErrorKind.TheVariants as kind
 use Rattle.tt_advice.specs.declared.hint.FixedHint.{FixedHint}
@@ -12,23 +12,14 @@ use Rattle.tt_program_decisions.specs.declared.request.Request.{Request}
 use Rattle.tt_program_decisions.specs.declared.request.Request.TheVariants as request
 use Rattle.tt_program_decisions.specs.declared.stopping.Stop.{Stop}
 use Rattle.tt_program_decisions.specs.declared.stopping.Stop.TheVariants as stop
+use Rattle.tt_program_decisions.specs.Output.{last_four}
 use Rattle.tt_program_decisions.specs.Requests.{font_of}
 use Rattle.tt_program_decisions.specs.Stops.{TellsStop, stop_at_open, stop_status, stop_text}
 use Rattle.tt_program_decisions.specs.Telling.{TellsText}
 
--- a byte in lower case, if it is a letter of ASCII
-abbrev pub lowered : ℕ → ℕ
-lowered b = if nat_le 65 b && nat_le b 90 then b + 32 else b
-
 -- the names of font files end like this
 abbrev pub is_suffix : List ℕ → Bool
 is_suffix end = bytes_eq end (codes ".ttf") || bytes_eq end (codes ".ttc") || bytes_eq end (codes ".otf")
-
--- the last four characters, of which a suffix has all as bytes
-abbrev pub last_four : List ℕ → List ℕ
-last_four text =
-    lowered (slice_index text (length text - 4)) ∷ lowered (slice_index text (length text - 3))
-    ∷ lowered (slice_index text (length text - 2)) ∷ lowered (slice_index text (length text - 1)) ∷ []
 
 abbrev pub names_font : List ℕ → Bool
 names_font text = if nat_lt (length text) 4 then false else is_suffix (last_four text)
@@ -49,8 +40,8 @@ opening_hint why text = None
 
 -- only `label` and `bdf` have hints; `bdf` without a text has the empty one, which is no path
 abbrev pub hint_of_open : Request → ErrorKind → Option FixedHint
-hint_of_open (request.Label font text options) k = opening_hint k (Some text.now)
-hint_of_open (request.Labels font options) k = opening_hint k None
+hint_of_open (request.Label font text options output) k = opening_hint k (Some text.now)
+hint_of_open (request.Labels font options output) k = opening_hint k None
 hint_of_open (request.Bdf asked) k = opening_hint k (Some asked.text.now)
 hint_of_open r k = None
 

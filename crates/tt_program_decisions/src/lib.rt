@@ -4,6 +4,7 @@
 mod bdf;
 mod faces;
 mod labelling;
+mod output;
 mod performing;
 mod request;
 mod rules;
@@ -16,7 +17,8 @@ mod unopened;
 
 pub use bdf::{BdfRequest, stop_of_request};
 pub use labelling::{LabelOptions, align_named};
+pub use output::file_name;
 pub use performing::perform;
 pub use request::{Arguments, GLYPHS_KEPT, Request, fit_named, missing_named, request_of};
 pub use stopping::{Stop, stop_of_open, stop_of_words, tell_stop};
-pub use unopened::tell_unopened;
+pub use unopened::{tell_unmade, tell_unopened};

@@ -2,7 +2,8 @@
 
 ghost use Rattle.std.specs.Prelude.{◌≡◌, ◌≤◌, false, None, option_map, string_bytes, IfOk};
 ghost use Rattle.tt_program_decisions.specs.Stops.{TellsStop, stop_at_open};
-ghost use Rattle.tt_program_decisions.specs.Unopened.{TellsUnopened, hint_of_open, lowered, names_font, opening_hint, opening_text, unfound_hint};
+ghost use Rattle.tt_program_decisions.specs.Output.{lowered};
+ghost use Rattle.tt_program_decisions.specs.Unopened.{TellsUnopened, hint_of_open, names_font, opening_hint, opening_text, unfound_hint};
 ghost use Rattle.tt_render_texts.specs.Printing.{errors_of};
 
 use crate::request::Request;
@@ -12,9 +13,10 @@ use std::alloc::{AllocError, Global};
 use std::io::ErrorKind;
 use tt_advice::{FixedHint, Hint, hint_line};
 use tt_core::Sink;
+use tt_render_texts::print_text;
 
 /// A byte in lower case, if it is a letter of ASCII.
-fn lowered(byte: u8) -> u8
+pub(crate) fn lowered(byte: u8) -> u8
     ensures { result ≡ lowered byte }
 {
     if (b'A'..=b'Z').contains(&byte) {
@@ -114,5 +116,16 @@ pub fn tell_unopened<E: Sink>(
     match hint_of_open(request, kind) {
         None => tell_stop(stop_of_open(kind), error),
         Some(hint) => tell_text(opening_text(alloc, request.font(), hint), 3, error),
+    }
+}
+
+/// Tells a person, after the line about a picture whose place could not be made, why the file of this path cannot be
+/// created. Some kinds of errors have no words.
+pub fn tell_unmade<E: Sink>(alloc: Global, path: &str, kind: ErrorKind, error: &mut E) {
+    let Some(hint) = opening_hint(kind, None) else {
+        return;
+    };
+    if let Ok(line) = hint_line(alloc, path, Hint::Fixed(hint)) {
+        print_text(error, &line);
     }
 }
