@@ -59,6 +59,7 @@ creating_hint kind.NotFound = Some fixed.NoFile
 creating_hint kind.PermissionDenied = Some fixed.NotAllowed
 creating_hint kind.NotADirectory = Some fixed.FileOnPath
 creating_hint kind.FilesystemLoop = Some fixed.Links
+creating_hint kind.IsADirectory = Some fixed.Folder
 creating_hint kind.InvalidFilename = Some fixed.LongName
 creating_hint why = None
 

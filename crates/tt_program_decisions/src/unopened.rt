@@ -94,6 +94,7 @@ fn creating_hint(kind: ErrorKind) -> Option<FixedHint>
         ErrorKind::PermissionDenied => Some(FixedHint::NotAllowed),
         ErrorKind::NotADirectory => Some(FixedHint::FileOnPath),
         ErrorKind::FilesystemLoop => Some(FixedHint::Links),
+        ErrorKind::IsADirectory => Some(FixedHint::Folder),
         ErrorKind::InvalidFilename => Some(FixedHint::LongName),
         _ => None,
     }
