@@ -1,5 +1,5 @@
 use Rattle.std.proofs.Common.{refl}
-use Rattle.tt_program_decisions.proofs.telling_labels.label_lines.Goals as goal
+use Rattle.tt_render_settings.proofs.help.label_lines.Goals as goal
 
 -- the line for programs comes first
 pub returns : goal.returns
