@@ -20,9 +20,10 @@ LEAST = 80_000
 READ = f"3 {NOTHING}|tt_render: cannot read the font|"
 
 
-def cut_answer(stdout, room):
-    """Returns the answer of a writer that took so many bytes."""
-    return f"4 {room} {sum_of(stdout[:room])}|tt_render: cannot write after {room} bytes|"
+def cut_answer(stdout, room, end):
+    """Returns the answer of a writer that took so many bytes. Where its reader is gone, nothing is told of that."""
+    line = "" if end == "closed" else f"tt_render: cannot write after {room} bytes|"
+    return f"4 {room} {sum_of(stdout[:room])}|{line}"
 
 
 def writers(stdout, answer):
@@ -31,8 +32,8 @@ def writers(stdout, answer):
         yield f"{ALL} 0 {step} {ALL} fails", answer
     for room in range(len(stdout)):
         for step in (1, ALL):
-            for end in ("fails", "nothing"):
-                yield f"{ALL} 0 {step} {room} {end}", cut_answer(stdout, room)
+            for end in ("fails", "nothing", "closed"):
+                yield f"{ALL} 0 {step} {room} {end}", cut_answer(stdout, room, end)
     yield f"{ALL} 0 {ALL} {len(stdout)} fails", answer
 
 
@@ -90,8 +91,10 @@ def line_cases():
         for room in range(len(both)):
             count, sent = divmod(room, len(row.stdout))
             last = b"tt_render: line %d: cannot write after %d bytes\n" % (count + 1, sent)
-            asks = [*font, f"devices {ALL} 0 1 {room} fails", lines_question(row, 0, 2 * line)]
-            yield f"{row.name}, {row.kind}, lines in room for {room}", asks, answer_of(4, both[:room], told(row, count) + last)
+            for end, why in (("fails", last), ("closed", b"")):
+                asks = [*font, f"devices {ALL} 0 1 {room} {end}", lines_question(row, 0, 2 * line)]
+                want = answer_of(4, both[:room], told(row, count) + why)
+                yield f"{row.name}, {row.kind}, lines in room for {room}, {end}", asks, want
         asks = [*font, f"devices 1 0 1 {len(both)} fails", lines_question(row, 0, 2 * line)]
         yield f"{row.name}, {row.kind}, two lines", asks, answer_of(0, both, told(row, 2))
 

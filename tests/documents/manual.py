@@ -45,7 +45,7 @@ def lacking(files):
     """Returns the messages whose words, up to the help behind a semicolon, a colon or a bracket, the page lacks."""
     words, faults = page(), []
     for file, text in messages(files):
-        front = re.split(r"; |: | \(", text)[0]
+        front = re.split(r"; |: | \(", text)[0].strip()
         pattern = r"\S+".join(re.escape(it) for it in re.split(r"\{[^}]*\}", front))
         if " " in front and not re.search(rf"(?<!\w){pattern}(?!\w)", words):
             faults.append(f"tt_render.1 lacks {front!r} of {file}")

@@ -12,6 +12,8 @@ from labels import lines_of
 # The user `nobody`, who may read less than root.
 NOBODY = 65534
 LIMIT = 67108864
+# The names of font files end like this.
+ENDINGS = (".ttf", ".ttc", ".otf", ".otc")
 
 
 def unreadable(font, why):
@@ -20,21 +22,32 @@ def unreadable(font, why):
     return 3, b"", lines_of(["cannot read the font", *second])
 
 
+def family(path):
+    """Returns what is said of a path where no file is, which may be the name of a family."""
+    if path == "-":
+        return "a font is read from a file: /dev/stdin"
+    if not path or path[0] == "-" or "/" in path or path[-4:].lower() in ENDINGS:
+        return "no such file"
+    quoted = model.shown(path).replace("'", "'\\''")
+    return f"no such file; fc-match -f '%{{file}}' '{quoted}' finds a family's file"
+
+
 def missing(asked):
     """Tries fonts that are not there, and a FONT behind TEXT."""
     folder = asked.folder(labels.fonts()["T"])
-    texts = "A", "F.ttf", "F.TTC", ".otf", "x.oTf", "F.ttf ", "ttf", "F.ttx", "a/b.TtF", "\u00e9.ttf", "\u00e9ttf"
+    texts = "A", "F.ttf", "F.TTC", ".otf", "x.oTf", "F.otC", "F.ttf ", "ttf", "F.ttx", "a/b.TtF", "\u00e9.ttf", "\u00e9ttf"
     for text in texts:
-        turned = text[-4:].lower() in (".ttf", ".ttc", ".otf")
-        why = "no such file" + ("; FONT stands before TEXT" if turned else "")
+        turned = text[-4:].lower() in ENDINGS
+        why = "no such file; FONT stands before TEXT" if turned else family("Hello")
         got = asked.run(["label", "--size", "16", "--", "Hello", text], folder)
         common.tried(f"no such file, and the text {text!r}", got, unreadable("Hello", why))
     got = asked.run(["label", "--size", "16", "--lines", "Hello.ttf"], folder, b"F.ttf\n")
     common.tried("no such file, and lines", got, unreadable("Hello.ttf", "no such file"))
     ends = {it for one, last in model.ranges(model.STEERING) for it in (one - 1, one, last, last + 1) if it > 0}
-    for path in ("a\nb", "\x1b[2J\x7f", "\u0085\u009b1A\u00a0", "\t.ttf", *map(chr, sorted(ends))):
+    names = "-", "--", "-a", "O'Neil", "''", "a'\n'", "Noto Sans", "Dr. No", ".ttf", "a.OTC", "a.ttf ", "\u00e9.tt\u0192"
+    for path in (*names, "a\nb", "\x1b[2J\x7f", "\u0085\u009b1A\u00a0", "\t.ttf", *map(chr, sorted(ends))):
         got = asked.run(["label", "--size", "16", "--", path, "A"], folder)
-        common.tried(f"no such file {path!r}", got, unreadable(path, "no such file"))
+        common.tried(f"no such file {path!r}", got, unreadable(path, family(path)))
 
 
 def paths(asked):
@@ -54,7 +67,7 @@ def paths(asked):
         (".", "is a folder"),
         ("font/x", "a folder of this path is a file"),
         ("loop", "too many symbolic links"),
-        ("nowhere", "no such file"),
+        ("nowhere", family("nowhere")),
         ("x" * 300, "the name is too long"),
         ("", "no such file"),
         ("socket", ""),
@@ -63,7 +76,7 @@ def paths(asked):
     for path, why in cases:
         got = asked.run(["label", "--size", "16", "--", path, "A"], folder)
         common.tried(f"font {path[:30]!r}", got, unreadable(path, why))
-        if why != "no such file":
+        if not why.startswith("no such file"):
             got = asked.run(["label", "--size", "16", "--", path, "A.ttf"], folder)
             common.tried(f"font {path[:30]!r}, and a text like a font", got, unreadable(path, why))
     got = asked.run(["label", "--size", "0", "--", "folder", "A"], folder)

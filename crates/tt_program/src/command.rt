@@ -14,14 +14,19 @@ pub(crate) fn request<'a>(
     alloc: Global,
     words: &'a [String],
 ) -> Result<Option<Request<'a>>, Error> {
-    let name = match words.get(1) {
-        Some(word) => word.as_str(),
-        None => "",
-    };
+    let name = subcommand(words);
     let Some(matches) = arguments_of(alloc, name, words)? else {
         return Ok(None);
     };
     Ok(request_of(name, &Found { matches: &matches }))
+}
+
+/// The word at the place of the subcommand. Empty where no word is.
+pub(crate) fn subcommand(words: &[String]) -> &str {
+    match words.get(1) {
+        Some(word) => word.as_str(),
+        None => "",
+    }
 }
 
 /// The arguments of a subcommand, as clap found them.

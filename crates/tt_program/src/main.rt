@@ -1,22 +1,24 @@
 //! The program: clap, the font's file and the standard streams, handed to tt_program_decisions, which decides.
 #![tactic(auto)]
 
-ghost use Rattle.std.specs.Prelude.{◌≤◌};
+ghost use Rattle.std.specs.Prelude.{◌≡◌, ◌≤◌, false};
 
 mod command;
 
-use crate::command::request;
+use crate::command::{request, subcommand};
 use clap::Error;
 use clap::error::ErrorKind;
+use std::alloc::{AllocError, Global};
 use std::fs::OpenFile;
 use std::io::Read;
 use std::process::ExitCode;
 use std::rt::{Env, Files, Stderr, Stdin};
 use std::{env, fs, io};
 use tt_advice::shown_words;
-use tt_core::Device;
+use tt_core::{Device, Sink};
 use tt_program_decisions::{
-    Stop, perform, stop_of_request, stop_of_words, tell_stop, tell_unopened,
+    OutDevice, Stop, perform, stop_of_print, stop_of_request, stop_of_words, tell_refused, tell_stop,
+    tell_unopened,
 };
 
 fn main(rt: HostRuntime) -> ExitCode {
@@ -60,7 +62,7 @@ fn serve<R: Files + Env + Print + Eprint + AllocGlobal>(rt: &R, stdin: Stdin, st
     let request = match request(rt.alloc(), &words) {
         Ok(Some(request)) => request,
         Ok(None) => return tell_stop(Stop::Incomplete, &mut errors),
-        Err(error) => return tell_stop(stop_of_error(rt, &words, &error), &mut errors),
+        Err(error) => return tell_error(rt, &words, &error, &mut errors),
     };
     if let Some(stop) = stop_of_request(rt.alloc(), &request) {
         return tell_stop(stop, &mut errors);
@@ -73,7 +75,7 @@ fn serve<R: Files + Env + Print + Eprint + AllocGlobal>(rt: &R, stdin: Stdin, st
     let folder = is_folder(&file);
     let mut font = Device::new(file);
     let mut lines = Device::new(lines);
-    let mut out = Device::new(io::writer(rt));
+    let mut out = OutDevice::new(io::writer(rt));
     perform(
         rt.alloc(),
         &request,
@@ -98,32 +100,44 @@ fn words<R: Env + AllocGlobal>(rt: &R) -> io::Result<Vec<String>> {
     Ok(words)
 }
 
-/// Prints what clap says: help and the version on standard output, all else on standard error.
-fn stop_of_error<R: Print + Eprint + AllocGlobal>(rt: &R, words: &[String], error: &Error) -> Stop {
+/// Prints what clap says: help and the version on standard output, all else on standard error. Returns the exit status.
+fn tell_error<R: Print + Eprint + AllocGlobal, E: Sink>(
+    rt: &R,
+    words: &[String],
+    error: &Error,
+    errors: &mut E,
+) -> u8
+    requires { E.has_failed errors.old ≡ false }
+    ensures { result ≤ 5 }
+{
     if error.kind() == ErrorKind::OutOfMemory {
-        return Stop::Memory;
+        return tell_stop(Stop::Memory, errors);
     }
     if error.use_stderr() {
-        return refused(rt, words);
+        return tell_refusal(rt.alloc(), words, errors);
     }
     match error.print(rt) {
-        Ok(()) => Stop::Shown,
-        Err(_) => Stop::NotShown,
+        Ok(()) => tell_stop(Stop::Shown, errors),
+        Err(error) => tell_stop(stop_of_print(error.kind()), errors),
     }
 }
 
-/// Prints why clap refuses the words. Clap repeats words, so it reads them once more as they are reported. A word that
-/// has question marks by that is refused no less, since no option, value or subcommand has one.
-fn refused<R: Print + Eprint + AllocGlobal>(rt: &R, words: &[String]) -> Stop {
-    let Ok(shown) = shown_words(rt.alloc(), words) else {
-        return Stop::Memory;
+/// Prints why clap refuses the words, with a tip if there is one. Clap repeats words, so it reads them once more as they
+/// are reported. A word that has question marks by that is refused no less, since no option, value or subcommand has one.
+/// Returns the exit status.
+fn tell_refusal<E: Sink>(alloc: Global, words: &[String], errors: &mut E) -> u8
+    requires { E.has_failed errors.old ≡ false }
+    ensures { result ≤ 5 }
+{
+    let Ok(shown) = shown_words(alloc, words) else {
+        return tell_stop(Stop::Memory, errors);
     };
-    match request(rt.alloc(), &shown) {
-        Err(error) if error.kind() == ErrorKind::OutOfMemory => Stop::Memory,
-        Err(error) if error.use_stderr() => {
-            let _ = error.print(rt);
-            Stop::Refused
-        }
-        _ => Stop::Incomplete,
+    match request(alloc, &shown) {
+        Err(error) if error.kind() == ErrorKind::OutOfMemory => tell_stop(Stop::Memory, errors),
+        Err(error) if error.use_stderr() => match format!(in alloc; "{error}") {
+            Ok(refusal) => tell_refused(alloc, subcommand(&shown), &refusal, errors),
+            Err(AllocError) => tell_stop(Stop::Memory, errors),
+        },
+        _ => tell_stop(Stop::Incomplete, errors),
     }
 }

@@ -1,3 +1,5 @@
 mod FaceCalls
 mod FaceTexts
+mod KeptBytes
+mod Quotes
 pub mod Statuses

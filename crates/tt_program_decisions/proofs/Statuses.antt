@@ -37,7 +37,7 @@ texts_status_within fault = refusal_status_within fault.refusal
 pub stop_within : (why : Stop) → stop_status why ≤ 5
 stop_within stop.Shown = omega arith
 stop_within stop.NotShown = omega arith
-stop_within stop.Refused = omega arith
+stop_within stop.Unread = omega arith
 stop_within stop.NoText = omega arith
 stop_within stop.Incomplete = omega arith
 stop_within stop.Range = omega arith

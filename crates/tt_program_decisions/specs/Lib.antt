@@ -1,8 +1,11 @@
 pub mod BdfCalls
 pub mod BdfRequests
 pub mod FaceLines
+pub mod Outputs
 pub mod Requests
 pub mod Rules
 pub mod Stops
 pub mod Telling
+pub mod Tips
+pub mod Unfound
 pub mod Unopened

@@ -287,31 +287,32 @@ font_of (Bdf asked) = asked.font.now
 
 -- a request is performed and reported: the contract of its call holds for some answer. For the lines that map a text, or
 -- tell faces: the bytes to write for a font file, and the defects for which it is refused. The second traffic is that of
--- standard input, and of the writer again. The Boolean says whether the font's path is that of a folder
-abbrev pub Performs : Request → Bool → Traffic → Traffic → Errors → ℕ → Type 0
-Performs (Map font text r) folder t lines e status =
-    Does (map_wanted r text.now) (λ file. IsFaceDefectBy file r) t e status
-Performs (Faces font) folder t lines e status = Does faces_wanted IsFacesDefect t e status
-Performs (Text font text setting) folder t lines e status =
+-- standard input, and of the writer again. The Booleans say whether the font's path is that of a
+-- folder, and whether the reader had closed the output
+abbrev pub Performs : Request → Bool → Bool → Traffic → Traffic → Errors → ℕ → Type 0
+Performs (Map font text r) folder closed t lines e status =
+    Does (map_wanted r text.now) (λ file. IsFaceDefectBy file r) closed t e status
+Performs (Faces font) folder closed t lines e status = Does faces_wanted IsFacesDefect closed t e status
+Performs (Text font text setting) folder closed t lines e status =
     DoesTexts {V = Unit {0}} (λ answer told. FontTextGives setting text.now answer t told
-    × TextTellsDefectsOf t.left_before (IsRunDefect setting.opening (job_by setting text.now)) answer) e status
-Performs (Lines font setting) folder t lines e status =
+    × TextTellsDefectsOf t.left_before (IsRunDefect setting.opening (job_by setting text.now)) answer) closed e status
+Performs (Lines font setting) folder closed t lines e status =
     DoesTexts {V = ℕ} (λ answer told. FontLinesGive setting answer (reader_in t) lines told
-    × LinesTellDefectsOf text_glyphs t.left_before setting lines.left_before answer) e status
-Performs (Layout font text setting) folder t lines e status =
+    × LinesTellDefectsOf text_glyphs t.left_before setting lines.left_before answer) closed e status
+Performs (Layout font text setting) folder closed t lines e status =
     DoesTexts {V = Unit {0}} (λ answer told. FontLayoutGives setting text.now answer t told
-    × TextTellsDefectsOf t.left_before (IsLayoutDefect setting text.now) answer) e status
-Performs (Label font text options) folder t lines e status =
+    × TextTellsDefectsOf t.left_before (IsLayoutDefect setting text.now) answer) closed e status
+Performs (Label font text options) folder closed t lines e status =
     (l : DrawnLabel) × IsLabelFor font.now options l
     × DoesLabel (λ drawn told. FontLabelGives l text.now drawn.answer t told
     × TextTellsDefectsOf t.left_before (IsTextDefect label_glyphs l.setting text.now) drawn.answer
-    × IfSome t.left_before (HintsBy l drawn)) l folder e status
-Performs (Labels font options) folder t lines e status =
+    × IfSome t.left_before (HintsBy l drawn)) l folder closed e status
+Performs (Labels font options) folder closed t lines e status =
     (l : DrawnLabel) × IsLabelFor font.now options l
     × DoesLabel (λ drawn told. FontLabelsGive l drawn.answer (reader_in t) lines told
     × LinesTellDefectsOf label_glyphs t.left_before l.setting lines.left_before drawn.answer
-    × IfSome t.left_before (HintsBy l drawn)) l folder e status
-Performs (Bdf asked) folder t lines e status = PerformsBdf (bdf_view asked) folder t e status
+    × IfSome t.left_before (HintsBy l drawn)) l folder closed e status
+Performs (Bdf asked) folder closed t lines e status = PerformsBdf (bdf_view asked) folder closed t e status
 
 -- a property that holds unless the request is for standard input's lines
 abbrev pub UnlessLines : Request → Type 0 → Type 0

@@ -1,7 +1,7 @@
 -- No part of the standard: the ends of the program without a request.
 use Rattle.std.specs.Prelude.{◌≡◌, ℕ, true, List, [], ◌++◌, codes, Option, Some, None, is_some, ⊤}
 use Rattle.std.specs.declared.io.ErrorKind.{ErrorKind}
-use Rattle.std.specs.declared.io.ErrorKind.TheVariants.{OutOfMemory}
+use Rattle.std.specs.declared.io.ErrorKind.TheVariants.{BrokenPipe, OutOfMemory}
 use Rattle.tt_bdf.specs.declared.range.CodeRange.{CodeRange}
 use Rattle.tt_render_streams.specs.declared.fault.RunFault.TheVariants as run
 use Rattle.tt_render_streams.specs.Messages.{line_of, status_of}
@@ -22,18 +22,24 @@ abbrev pub stop_at_open : ErrorKind → Stop
 stop_at_open OutOfMemory = stop.Memory
 stop_at_open kind = stop.Unopened
 
+-- the help or the version is not printed
+abbrev pub stop_at_print : ErrorKind → Stop
+stop_at_print BrokenPipe = stop.Unread
+stop_at_print kind = stop.NotShown
+
 abbrev pub stop_status : Stop → ℕ
 stop_status stop.Shown = 0
 stop_status stop.NotShown = 4
+stop_status stop.Unread = 4
 stop_status stop.Unopened = status_of run.Read
 stop_status stop.Memory = status_of run.Memory
 stop_status other = 2
 
--- where the text is empty, clap has printed the help, the version or its refusal
+-- where the text is empty, clap has printed the help or the version, or nobody reads
 abbrev pub stop_text : Stop → List ℕ
 stop_text stop.Shown = []
 stop_text stop.NotShown = codes "tt_render: cannot write the help\n"
-stop_text stop.Refused = []
+stop_text stop.Unread = []
 stop_text stop.NoText = codes "tt_render: the command line is not UTF-8\n"
 stop_text stop.Incomplete = codes "tt_render: the command line is incomplete\n"
 stop_text stop.Range = codes "tt_render: --range is hexadecimal, as 20-7E,A0-FF\n"

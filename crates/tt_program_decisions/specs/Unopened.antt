@@ -1,9 +1,8 @@
 -- No part of the standard: the report of a font that cannot be opened (profile). For `label` and `bdf` a line tells a
 -- person what to do.
-use Rattle.std.specs.Prelude.{◌≡◌, refl, ℕ, ◌+◌, ◌-◌, Bool, true, false, ◌&&◌, ◌||◌, nat_le, nat_lt, if◌then◌else◌, List, [], ◌∷◌, ◌++◌, length, map, slice_index, codes, bytes_eq, Option, Some, None}
+use Rattle.std.specs.Prelude.{◌≡◌, refl, ℕ, List, ◌++◌, codes, Option, Some, None}
 use Rattle.std.specs.declared.io.ErrorKind.{ErrorKind}
 use Rattle.std.specs.declared.io.ErrorKind.TheVariants as kind
-use Rattle.tt_advice.specs.declared.hint.FixedHint.{FixedHint}
 use Rattle.tt_advice.specs.declared.hint.FixedHint.TheVariants as fixed
 use Rattle.tt_advice.specs.declared.hint.Hint.TheVariants as hint
 use Rattle.tt_advice.specs.Hints.{hint_line}
@@ -12,52 +11,39 @@ use Rattle.tt_program_decisions.specs.declared.request.Request.{Request}
 use Rattle.tt_program_decisions.specs.declared.request.Request.TheVariants as request
 use Rattle.tt_program_decisions.specs.declared.stopping.Stop.{Stop}
 use Rattle.tt_program_decisions.specs.declared.stopping.Stop.TheVariants as stop
+use Rattle.tt_program_decisions.specs.declared.unfound.PathHint.{PathHint}
+use Rattle.tt_program_decisions.specs.declared.unfound.PathHint.TheVariants as path_hint
 use Rattle.tt_program_decisions.specs.Requests.{font_of}
 use Rattle.tt_program_decisions.specs.Stops.{TellsStop, stop_at_open, stop_status, stop_text}
 use Rattle.tt_program_decisions.specs.Telling.{TellsText}
-
--- a byte in lower case, if it is a letter of ASCII
-abbrev pub lowered : ℕ → ℕ
-lowered b = if nat_le 65 b && nat_le b 90 then b + 32 else b
-
--- the names of font files end like this
-abbrev pub is_suffix : List ℕ → Bool
-is_suffix end = bytes_eq end (codes ".ttf") || bytes_eq end (codes ".ttc") || bytes_eq end (codes ".otf")
-
--- the last four characters, of which a suffix has all as bytes
-abbrev pub last_four : List ℕ → List ℕ
-last_four text =
-    lowered (slice_index text (length text - 4)) ∷ lowered (slice_index text (length text - 3))
-    ∷ lowered (slice_index text (length text - 2)) ∷ lowered (slice_index text (length text - 1)) ∷ []
-
-abbrev pub names_font : List ℕ → Bool
-names_font text = if nat_lt (length text) 4 then false else is_suffix (last_four text)
-
--- the text may be the path
-abbrev pub unfound_hint : Option (List ℕ) → FixedHint
-unfound_hint None = fixed.NoFile
-unfound_hint (Some text) = if names_font text then fixed.Swapped else fixed.NoFile
+use Rattle.tt_program_decisions.specs.Unfound.{family_line, stream_line, unfound_hint}
 
 -- the hint by the kind of the error that opening gave
-abbrev pub opening_hint : ErrorKind → Option (List ℕ) → Option FixedHint
-opening_hint kind.NotFound text = Some (unfound_hint text)
-opening_hint kind.PermissionDenied text = Some fixed.NotAllowed
-opening_hint kind.NotADirectory text = Some fixed.FileOnPath
-opening_hint kind.FilesystemLoop text = Some fixed.Links
-opening_hint kind.InvalidFilename text = Some fixed.LongName
-opening_hint why text = None
+abbrev pub opening_hint : ErrorKind → List ℕ → Option (List ℕ) → Option PathHint
+opening_hint kind.NotFound path text = Some (unfound_hint path text)
+opening_hint kind.PermissionDenied path text = Some (path_hint.Fixed fixed.NotAllowed)
+opening_hint kind.NotADirectory path text = Some (path_hint.Fixed fixed.FileOnPath)
+opening_hint kind.FilesystemLoop path text = Some (path_hint.Fixed fixed.Links)
+opening_hint kind.InvalidFilename path text = Some (path_hint.Fixed fixed.LongName)
+opening_hint why path text = None
 
 -- only `label` and `bdf` have hints; `bdf` without a text has the empty one, which is no path
-abbrev pub hint_of_open : Request → ErrorKind → Option FixedHint
-hint_of_open (request.Label font text options) k = opening_hint k (Some text.now)
-hint_of_open (request.Labels font options) k = opening_hint k None
-hint_of_open (request.Bdf asked) k = opening_hint k (Some asked.text.now)
+abbrev pub hint_of_open : Request → ErrorKind → Option PathHint
+hint_of_open (request.Label font text options) k = opening_hint k font.now (Some text.now)
+hint_of_open (request.Labels font options) k = opening_hint k font.now None
+hint_of_open (request.Bdf asked) k = opening_hint k asked.font.now (Some asked.text.now)
 hint_of_open r k = None
 
-abbrev pub opening_text : List ℕ → FixedHint → List ℕ
-opening_text path h = stop_text stop.Unopened ++ hint_line path (hint.Fixed h)
+-- the line of a hint about a path
+abbrev pub path_line : List ℕ → PathHint → List ℕ
+path_line path (path_hint.Fixed h) = hint_line path (hint.Fixed h)
+path_line path path_hint.Stream = stream_line
+path_line path path_hint.Family = family_line path
 
-abbrev pub TellsOpening : Stop → List ℕ → Option FixedHint → ℕ → Errors → Type 0
+abbrev pub opening_text : List ℕ → PathHint → List ℕ
+opening_text path h = stop_text stop.Unopened ++ path_line path h
+
+abbrev pub TellsOpening : Stop → List ℕ → Option PathHint → ℕ → Errors → Type 0
 TellsOpening why path None status e = TellsStop why status e
 TellsOpening why path (Some h) status e = TellsText (opening_text path h) (stop_status stop.Unopened) status e
 
@@ -66,9 +52,9 @@ abbrev pub TellsUnopened : Request → ErrorKind → ℕ → Errors → Type 0
 TellsUnopened r k status e = TellsOpening (stop_at_open k) (font_of r) (hint_of_open r k) status e
 
 -- worked values
-font_names : map names_font (codes "F.TTF" ∷ codes ".ttc" ∷ codes "a.Otf" ∷ codes "ttf" ∷ codes "f.ttfx" ∷ codes "Hello" ∷ [])
-    ≡ true ∷ true ∷ true ∷ false ∷ false ∷ false ∷ []
-font_names = refl
-
-the_text_is_the_font : opening_hint kind.NotFound (Some (codes "F.TTF")) ≡ Some fixed.Swapped
+the_text_is_the_font : opening_hint kind.NotFound (codes "Hello") (Some (codes "F.TTF")) ≡ Some (path_hint.Fixed fixed.Swapped)
+unfolding unfound_hint
 the_text_is_the_font = refl
+
+a_family_that_may_not_be_read : opening_hint kind.PermissionDenied (codes "Arial") None ≡ Some (path_hint.Fixed fixed.NotAllowed)
+a_family_that_may_not_be_read = refl

@@ -9,6 +9,7 @@ ghost use Rattle.tt_program_decisions.specs.BdfRequests.{bdf_view, range_words, 
 ghost use Rattle.tt_program_decisions.specs.Requests.{AsksBdf, asked_of};
 ghost use Rattle.tt_program_decisions.specs.Stops.{IsStopBefore};
 
+use crate::output::Outlet;
 use crate::request::{Arguments, Request, fit_named};
 use crate::rules::heights_named;
 use crate::stopping::{Stop, tell_stop};
@@ -125,7 +126,7 @@ fn face_or_first(face: Option<u32>) -> u32
 }
 
 /// Performs the request `bdf`, as `perform` does. Returns the exit status.
-pub(crate) fn perform_bdf<R: Source, W: Sink, E: Sink>(
+pub(crate) fn perform_bdf<R: Source, W: Outlet, E: Sink>(
     alloc: Global,
     asked: &BdfRequest,
     folder: bool,
@@ -137,7 +138,7 @@ pub(crate) fn perform_bdf<R: Source, W: Sink, E: Sink>(
     requires out { W.has_failed out.old ≡ false }
     requires error { E.has_failed error.old ≡ false }
     ensures bound { result ≤ 5 }
-    ensures outcome { PerformsBdf (bdf_view asked.now) folder (traffic_of R.left R.has_failed W.written W.has_failed font.old font.new out.old out.new) (errors_of E.written E.has_failed error.old error.new) result }
+    ensures outcome { PerformsBdf (bdf_view asked.now) folder (W.closes out.new) (traffic_of R.left R.has_failed W.written W.has_failed font.old font.new out.old out.new) (errors_of E.written E.has_failed error.old error.new) result }
 {
     match ranges_asked(alloc, asked.range) {
         Ok(Some(ranges)) => {
@@ -152,7 +153,7 @@ pub(crate) fn perform_bdf<R: Source, W: Sink, E: Sink>(
                 face_given: asked.face.is_some(),
             };
             let written = write_bdf(alloc, font, out, error, &file);
-            tell_bdf(alloc, &written, &file, folder, error)
+            tell_bdf(alloc, &written, &file, folder, out.is_closed(), error)
         }
         Ok(None) => tell_stop(Stop::Range, error),
         Err(AllocError) => tell_stop(Stop::Memory, error),

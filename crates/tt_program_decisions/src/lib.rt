@@ -4,7 +4,9 @@
 mod bdf;
 mod faces;
 mod labelling;
+mod output;
 mod performing;
+mod refusal;
 mod request;
 mod rules;
 mod stopping;
@@ -12,11 +14,15 @@ mod telling;
 mod telling_bdf;
 mod telling_labels;
 mod telling_texts;
+mod tips;
+mod unfound;
 mod unopened;
 
 pub use bdf::{BdfRequest, stop_of_request};
 pub use labelling::{LabelOptions, align_named};
+pub use output::{OutDevice, Outlet};
 pub use performing::perform;
 pub use request::{Arguments, GLYPHS_KEPT, Request, fit_named, missing_named, request_of};
-pub use stopping::{Stop, stop_of_open, stop_of_words, tell_stop};
+pub use stopping::{Stop, stop_of_open, stop_of_print, stop_of_words, tell_stop};
+pub use tips::tell_refused;
 pub use unopened::tell_unopened;

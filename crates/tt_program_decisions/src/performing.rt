@@ -8,6 +8,7 @@ ghost use Rattle.tt_render_texts.specs.Printing.{errors_of};
 use crate::bdf::perform_bdf;
 use crate::faces::faces;
 use crate::labelling::label_for;
+use crate::output::Outlet;
 use crate::request::Request;
 use crate::telling::tell;
 use crate::telling_labels::tell_label;
@@ -16,8 +17,9 @@ use std::alloc::Global;
 use tt_core::{Sink, Source};
 
 /// Performs a request, and reports on standard error the unfitted glyphs and, where requested, the characters without a
-/// glyph, or a fault. `folder` says whether the font's path is that of a folder. Returns the exit status.
-pub fn perform<R: Source, L: Source, W: Sink, E: Sink>(
+/// glyph, or a fault. Nothing is reported behind the closing of the output by its reader. `folder` says whether the font's
+/// path is that of a folder. Returns the exit status.
+pub fn perform<R: Source, L: Source, W: Outlet, E: Sink>(
     alloc: Global,
     request: &Request,
     folder: bool,
@@ -32,29 +34,29 @@ pub fn perform<R: Source, L: Source, W: Sink, E: Sink>(
     requires error { E.has_failed error.old ≡ false }
     ensures bound { result ≤ 5 }
     // For some answer the call's contract about the devices holds, and the status and the lines report that answer.
-    ensures outcome { Performs request.now folder (traffic_of R.left R.has_failed W.written W.has_failed font.old font.new out.old out.new) (traffic_of L.left L.has_failed W.written W.has_failed lines.old lines.new out.old out.new) (errors_of E.written E.has_failed error.old error.new) result }
+    ensures outcome { Performs request.now folder (W.closes out.new) (traffic_of R.left R.has_failed W.written W.has_failed font.old font.new out.old out.new) (traffic_of L.left L.has_failed W.written W.has_failed lines.old lines.new out.old out.new) (errors_of E.written E.has_failed error.old error.new) result }
     ensures lines { UnlessLines request.now (lines.new ≡ lines.old) }
 {
     match request {
         Request::Map { text, reading, .. } => {
             let mapped = tt_render_run::map(alloc, font, text, out, *reading);
-            tell(alloc, &mapped, error)
+            tell(alloc, &mapped, out.is_closed(), error)
         }
         Request::Faces { .. } => {
             let told = faces(alloc, font, out);
-            tell(alloc, &told, error)
+            tell(alloc, &told, out.is_closed(), error)
         }
         Request::Text { text, setting, .. } => {
             let drawn = tt_render_lines::draw_text(alloc, font, out, error, text, setting);
-            tell_texts(alloc, &drawn, error)
+            tell_texts(alloc, &drawn, out.is_closed(), error)
         }
         Request::Lines { setting, .. } => {
             let drawn = tt_render_lines::draw_lines(alloc, font, lines, out, error, setting);
-            tell_texts(alloc, &drawn, error)
+            tell_texts(alloc, &drawn, out.is_closed(), error)
         }
         Request::Layout { text, setting, .. } => {
             let told = tt_render_lines::write_layout(alloc, font, out, error, text, setting);
-            tell_texts(alloc, &told, error)
+            tell_texts(alloc, &told, out.is_closed(), error)
         }
         Request::Label {
             font: path,
@@ -63,7 +65,7 @@ pub fn perform<R: Source, L: Source, W: Sink, E: Sink>(
         } => {
             let label = label_for(path, options);
             let drawn = tt_render::draw_label(alloc, font, out, error, text, &label);
-            tell_label(alloc, &drawn, &label, folder, error)
+            tell_label(alloc, &drawn, &label, folder, out.is_closed(), error)
         }
         Request::Labels {
             font: path,
@@ -71,7 +73,7 @@ pub fn perform<R: Source, L: Source, W: Sink, E: Sink>(
         } => {
             let label = label_for(path, options);
             let drawn = tt_render::draw_labels(alloc, font, lines, out, error, &label);
-            tell_label(alloc, &drawn, &label, folder, error)
+            tell_label(alloc, &drawn, &label, folder, out.is_closed(), error)
         }
         Request::Bdf(asked) => perform_bdf(alloc, asked, folder, font, out, error),
     }

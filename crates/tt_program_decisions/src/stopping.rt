@@ -1,7 +1,7 @@
 //! The ends of the program without a request.
 
 ghost use Rattle.std.specs.Prelude.{◌≡◌, ◌≤◌, false};
-ghost use Rattle.tt_program_decisions.specs.Stops.{stop_at_open, stop_at_words, stop_status, stop_text};
+ghost use Rattle.tt_program_decisions.specs.Stops.{stop_at_open, stop_at_print, stop_at_words, stop_status, stop_text};
 ghost use Rattle.tt_render_texts.specs.Printing.{Prints, errors_of};
 
 use crate::telling::NO_MEMORY;
@@ -16,8 +16,8 @@ pub enum Stop {
     Shown,
     /// The help or the version was requested, and cannot be printed.
     NotShown,
-    /// The command line is refused, and clap has printed why.
-    Refused,
+    /// The help or the version was requested, and its reader had closed the output.
+    Unread,
     /// A word of the command line is not UTF-8.
     NoText,
     /// A word is missing, though clap accepted the command line.
@@ -50,6 +50,16 @@ pub fn stop_of_open(kind: ErrorKind) -> Stop
     }
 }
 
+/// The reason why the help or the version is not printed.
+pub fn stop_of_print(kind: ErrorKind) -> Stop
+    ensures { result ≡ stop_at_print kind }
+{
+    match kind {
+        ErrorKind::BrokenPipe => Stop::Unread,
+        _ => Stop::NotShown,
+    }
+}
+
 /// Reports on standard error why there is no request to perform. Returns the exit status.
 #[tactic(auto, using(crate::proofs::Statuses::stop_within))]
 pub fn tell_stop<E: Sink>(stop: Stop, error: &mut E) -> u8
@@ -67,19 +77,19 @@ fn status_of(stop: Stop) -> u8
 {
     match stop {
         Stop::Shown => 0,
-        Stop::Refused | Stop::NoText | Stop::Incomplete | Stop::Range => 2,
+        Stop::NoText | Stop::Incomplete | Stop::Range => 2,
         Stop::Unopened => 3,
-        Stop::NotShown => 4,
+        Stop::NotShown | Stop::Unread => 4,
         Stop::Memory => 5,
     }
 }
 
-/// A line with its line feed; empty where clap has printed.
+/// A line with its line feed; empty where clap has printed, or nobody reads.
 fn text_of(stop: Stop) -> &'static str
     ensures { result.now ≡ stop_text stop }
 {
     match stop {
-        Stop::Shown | Stop::Refused => "",
+        Stop::Shown | Stop::Unread => "",
         Stop::NotShown => "tt_render: cannot write the help\n",
         Stop::NoText => "tt_render: the command line is not UTF-8\n",
         Stop::Incomplete => "tt_render: the command line is incomplete\n",

@@ -12,16 +12,28 @@ use tt_render_texts::print_text;
 /// The line for refused memory; it takes no memory.
 pub(crate) const NO_MEMORY: &str = "tt_render: out of memory\n";
 
-/// Reports the answer of `map` on standard error. Returns the exit status.
+/// Reports the answer of `map` on standard error, or by the status alone where the reader had closed the output. Returns
+/// the exit status.
 #[tactic(auto, using(crate::proofs::Statuses::status_within))]
-pub(crate) fn tell<E: Sink>(alloc: Global, answer: &Result<(), RunFault>, error: &mut E) -> u8
+pub(crate) fn tell<E: Sink>(
+    alloc: Global,
+    answer: &Result<(), RunFault>,
+    closed: bool,
+    error: &mut E,
+) -> u8
     requires { E.has_failed error.old ≡ false }
     ensures bound { result ≤ 5 }
-    ensures told { Tells answer.now result (errors_of E.written E.has_failed error.old error.new) }
+    ensures told { Tells closed answer.now result (errors_of E.written E.has_failed error.old error.new) }
 {
     match answer {
         Ok(()) => 0,
-        Err(fault) => tell_line(line(alloc, fault), status(fault), error),
+        Err(fault) => {
+            let code = status(fault);
+            if closed {
+                return code;
+            }
+            tell_line(line(alloc, fault), code, error)
+        }
     }
 }
 

@@ -30,23 +30,25 @@ fn file_lines(
     Ok(text)
 }
 
-/// Reports the answer of `write_bdf` on standard error. Returns the exit status.
+/// Reports the answer of `write_bdf` on standard error, or by the status alone where the reader had closed the output.
+/// Returns the exit status.
 #[tactic(auto, using(crate::proofs::Statuses::texts_status_within))]
 pub(crate) fn tell_bdf<E: Sink>(
     alloc: Global,
     written: &Labelled,
     file: &FontFile,
     folder: bool,
+    closed: bool,
     error: &mut E,
 ) -> u8
     ensures bound { result ≤ 5 }
-    ensures told { TellsFile (E.has_failed error.old) file.now folder written.now.hint written.now.answer result (errors_of E.written E.has_failed error.old error.new) }
+    ensures told { TellsFile closed (E.has_failed error.old) file.now folder written.now.hint written.now.answer result (errors_of E.written E.has_failed error.old error.new) }
 {
     match &written.answer {
         Ok(()) => 0,
         Err(fault) => {
             let status = texts_status(fault);
-            if error.failed() {
+            if closed || error.failed() {
                 return status;
             }
             let lines = file_lines(alloc, fault, written.hint, file, folder);

@@ -28,23 +28,25 @@ fn label_lines(
     Ok(text)
 }
 
-/// Reports the answer of `draw_label` or `draw_labels` on standard error. Returns the exit status.
+/// Reports the answer of `draw_label` or `draw_labels` on standard error, or by the status alone where the reader had
+/// closed the output. Returns the exit status.
 #[tactic(auto, using(crate::proofs::Statuses::texts_status_within))]
 pub(crate) fn tell_label<E: Sink>(
     alloc: Global,
     drawn: &Labelled,
     label: &Label,
     folder: bool,
+    closed: bool,
     error: &mut E,
 ) -> u8
     ensures bound { result ≤ 5 }
-    ensures told { TellsLabel (E.has_failed error.old) label.now folder drawn.now.hint drawn.now.answer result (errors_of E.written E.has_failed error.old error.new) }
+    ensures told { TellsLabel closed (E.has_failed error.old) label.now folder drawn.now.hint drawn.now.answer result (errors_of E.written E.has_failed error.old error.new) }
 {
     match &drawn.answer {
         Ok(()) => 0,
         Err(fault) => {
             let status = texts_status(fault);
-            if error.failed() {
+            if closed || error.failed() {
                 return status;
             }
             let lines = label_lines(alloc, fault, drawn.hint, label, folder);

@@ -10,20 +10,22 @@ use std::alloc::Global;
 use tt_core::Sink;
 use tt_render_texts::{TextsFault, texts_line, texts_status};
 
-/// Reports the answer of `draw_text` or `draw_lines` on standard error. Returns the exit status.
+/// Reports the answer of `draw_text` or `draw_lines` on standard error, or by the status alone where the reader had closed
+/// the output. Returns the exit status.
 #[tactic(auto, using(crate::proofs::Statuses::texts_status_within))]
 pub(crate) fn tell_texts<T, E: Sink>(
     alloc: Global,
     answer: &Result<T, TextsFault>,
+    closed: bool,
     error: &mut E,
 ) -> u8
     ensures bound { result ≤ 5 }
-    ensures told { TellsTexts (E.has_failed error.old) answer.now result (errors_of E.written E.has_failed error.old error.new) }
+    ensures told { TellsTexts closed (E.has_failed error.old) answer.now result (errors_of E.written E.has_failed error.old error.new) }
 {
     match answer {
         Ok(_) => 0,
         Err(fault) => {
-            if error.failed() {
+            if closed || error.failed() {
                 return texts_status(fault);
             }
             tell_line(texts_line(alloc, fault), texts_status(fault), error)

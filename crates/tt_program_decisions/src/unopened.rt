@@ -2,84 +2,40 @@
 
 ghost use Rattle.std.specs.Prelude.{◌≡◌, ◌≤◌, false, None, option_map, string_bytes, IfOk};
 ghost use Rattle.tt_program_decisions.specs.Stops.{TellsStop, stop_at_open};
-ghost use Rattle.tt_program_decisions.specs.Unopened.{TellsUnopened, hint_of_open, lowered, names_font, opening_hint, opening_text, unfound_hint};
+ghost use Rattle.tt_program_decisions.specs.Unopened.{TellsUnopened, hint_of_open, opening_hint, opening_text, path_line};
 ghost use Rattle.tt_render_texts.specs.Printing.{errors_of};
 
 use crate::request::Request;
 use crate::stopping::{stop_of_open, tell_stop};
 use crate::telling::tell_text;
+use crate::unfound::{PathHint, family_line, stream_line, unfound_hint};
 use std::alloc::{AllocError, Global};
 use std::io::ErrorKind;
 use tt_advice::{FixedHint, Hint, hint_line};
 use tt_core::Sink;
 
-/// A byte in lower case, if it is a letter of ASCII.
-fn lowered(byte: u8) -> u8
-    ensures { result ≡ lowered byte }
-{
-    if (b'A'..=b'Z').contains(&byte) {
-        byte + 32
-    } else {
-        byte
-    }
-}
-
-/// Whether a text ends like the name of a font file: `.ttf`, `.ttc` or `.otf`, in letters of any case.
-fn names_font(text: &str) -> bool
-    ensures { result ≡ names_font text.now }
-{
-    let bytes = text.as_bytes();
-    let len = bytes.len();
-    if len < 4 {
-        return false;
-    }
-    let end = [
-        lowered(bytes[len - 4]),
-        lowered(bytes[len - 3]),
-        lowered(bytes[len - 2]),
-        lowered(bytes[len - 1]),
-    ];
-    end == *b".ttf" || end == *b".ttc" || end == *b".otf"
-}
-
-/// The hint about a path that was not found. The text may be the path.
-fn unfound_hint(text: Option<&str>) -> FixedHint
-    ensures { result ≡ unfound_hint (option_map (λ s. s.now) text.entry) }
-{
-    match text {
-        Some(text) => {
-            if names_font(text) {
-                FixedHint::Swapped
-            } else {
-                FixedHint::NoFile
-            }
-        }
-        None => FixedHint::NoFile,
-    }
-}
-
-/// The hint about a path that cannot be opened, by the kind of the error.
-fn opening_hint(kind: ErrorKind, text: Option<&str>) -> Option<FixedHint>
-    ensures { result ≡ opening_hint kind (option_map (λ s. s.now) text.entry) }
+/// The hint about a path that cannot be opened, by the kind of the error. The text may be the path.
+fn opening_hint(kind: ErrorKind, path: &str, text: Option<&str>) -> Option<PathHint>
+    ensures { result ≡ opening_hint kind path.now (option_map (λ s. s.now) text.entry) }
 {
     match kind {
-        ErrorKind::NotFound => Some(unfound_hint(text)),
-        ErrorKind::PermissionDenied => Some(FixedHint::NotAllowed),
-        ErrorKind::NotADirectory => Some(FixedHint::FileOnPath),
-        ErrorKind::FilesystemLoop => Some(FixedHint::Links),
-        ErrorKind::InvalidFilename => Some(FixedHint::LongName),
+        ErrorKind::NotFound => Some(unfound_hint(path, text)),
+        ErrorKind::PermissionDenied => Some(PathHint::Fixed(FixedHint::NotAllowed)),
+        ErrorKind::NotADirectory => Some(PathHint::Fixed(FixedHint::FileOnPath)),
+        ErrorKind::FilesystemLoop => Some(PathHint::Fixed(FixedHint::Links)),
+        ErrorKind::InvalidFilename => Some(PathHint::Fixed(FixedHint::LongName)),
         _ => None,
     }
 }
 
 /// The hint of a request whose font cannot be opened. Only `label` and `bdf` have hints.
-fn hint_of_open(request: &Request, kind: ErrorKind) -> Option<FixedHint>
+fn hint_of_open(request: &Request, kind: ErrorKind) -> Option<PathHint>
     ensures { result ≡ hint_of_open request.now kind }
 {
     match request {
-        Request::Label { text, .. } => opening_hint(kind, Some(*text)),
-        Request::Labels { .. } => opening_hint(kind, None),
-        Request::Bdf(asked) => opening_hint(kind, Some(asked.text)),
+        Request::Label { font, text, .. } => opening_hint(kind, font, Some(*text)),
+        Request::Labels { font, .. } => opening_hint(kind, font, None),
+        Request::Bdf(asked) => opening_hint(kind, asked.font, Some(asked.text)),
         Request::Map { .. }
         | Request::Faces { .. }
         | Request::Text { .. }
@@ -88,12 +44,23 @@ fn hint_of_open(request: &Request, kind: ErrorKind) -> Option<FixedHint>
     }
 }
 
+/// The line of a hint about a path, with its line feed. Error: memory ran out.
+fn path_line(alloc: Global, path: &str, hint: PathHint) -> Result<String, AllocError>
+    ensures { IfOk result (λ text. string_bytes text ≡ path_line path.now hint) }
+{
+    match hint {
+        PathHint::Fixed(hint) => hint_line(alloc, path, Hint::Fixed(hint)),
+        PathHint::Stream => stream_line(alloc),
+        PathHint::Family => family_line(alloc, path),
+    }
+}
+
 /// The line of a font that cannot be opened, and the line of a hint. Error: memory ran out.
-fn opening_text(alloc: Global, path: &str, hint: FixedHint) -> Result<String, AllocError>
+fn opening_text(alloc: Global, path: &str, hint: PathHint) -> Result<String, AllocError>
     ensures { IfOk result (λ text. string_bytes text ≡ opening_text path.now hint) }
 {
     let mut text = String::from_str(alloc, "tt_render: cannot read the font\n")?;
-    let line = hint_line(alloc, path, Hint::Fixed(hint))?;
+    let line = path_line(alloc, path, hint)?;
     text.push_str(&line)?;
     Ok(text)
 }

@@ -11,9 +11,9 @@
 //!
 //! A question is about the first LENGTH bytes of the font, with other bytes at the places that are named. HEX and
 //! TEXT are in hexadecimal, or `-`. A call of the reader gives READ bytes at most, and the call number FAILS fails, if
-//! that is not 0; a call of the writer takes WRITE bytes at most, and one that finds ROOM bytes taken fails, or takes
-//! nothing, as END says: `fails` or `nothing`. For `lines` TEXT is the content of standard input, which is read as the
-//! font is, but for the number LINES of the call that fails; MISSING is a word of `--missing`.
+//! that is not 0; a call of the writer takes WRITE bytes at most, and one that finds ROOM bytes taken fails, takes nothing,
+//! or finds its reader gone, as END says: `fails`, `nothing` or `closed`. For `lines` TEXT is the content of standard
+//! input, which is read as the font is, but for the number LINES of the call that fails; MISSING is a word of `--missing`.
 //!
 //! The answer of a question is a line too, `STATUS COUNT SUM|LINE|`: the exit status, the number of bytes that were
 //! written, their sum by FNV-1a of 64 bits, and the lines on standard error, with `|` for each line feed.

@@ -2,12 +2,12 @@
 
 ghost use Rattle.std.specs.Prelude.{◌≤◌, ◌<◌, ◌^◌};
 
-use super::devices::{Given, Manner, Written};
+use super::devices::{End, Given, Manner, Written};
 use std::alloc::Global;
 use std::str;
 use tt_core::{Device, Reading};
 use tt_face::Opening;
-use tt_program_decisions::{GLYPHS_KEPT, Request, fit_named, missing_named, perform};
+use tt_program_decisions::{GLYPHS_KEPT, OutDevice, Request, fit_named, missing_named, perform};
 use tt_program_words::DRAW;
 use tt_render_settings::Setting;
 use tt_render_texts::fit_reading;
@@ -125,7 +125,7 @@ fn put_done(alloc: Global, line: &mut Line, request: &Request, font: Given, line
         false,
         &mut font,
         &mut lines,
-        &mut Device::new(&mut written),
+        &mut OutDevice::new(&mut written),
         &mut Device::new(&mut errors),
     );
     line.put_number(i64::from(status));
@@ -152,12 +152,13 @@ fn manner_in(line: &mut Line) -> Manner {
         fails_at: size_in(line),
         write_step: size_in(line),
         room: size_in(line),
-        takes_nothing: match line.word() {
-            "fails" => false,
-            "nothing" => true,
+        end: match line.word() {
+            "fails" => End::Fails,
+            "nothing" => End::TakesNothing,
+            "closed" => End::Closed,
             _ => {
                 line.refuse("no such end");
-                false
+                End::Fails
             }
         },
     }

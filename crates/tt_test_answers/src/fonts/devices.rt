@@ -13,8 +13,19 @@ pub(crate) struct Manner {
     pub(crate) write_step: usize,
     /// How many bytes are taken in all.
     pub(crate) room: usize,
-    /// Whether a write after those takes nothing. Else it fails.
-    pub(crate) takes_nothing: bool,
+    /// How a write after those ends.
+    pub(crate) end: End,
+}
+
+/// How a write without room ends.
+#[derive(Clone, Copy)]
+pub(crate) enum End {
+    /// It fails.
+    Fails,
+    /// It takes nothing.
+    TakesNothing,
+    /// It fails since the reader has closed the device.
+    Closed,
 }
 
 impl Manner {
@@ -25,7 +36,7 @@ impl Manner {
             fails_at: 0,
             write_step: usize::MAX,
             room: usize::MAX,
-            takes_nothing: false,
+            end: End::Fails,
         }
     }
 
@@ -112,8 +123,12 @@ impl Write for Written {
     fn write(&mut self, buf: &[u8]) -> io::Result<usize> {
         let left = self.manner.room.saturating_sub(self.count);
         let n = self.manner.write_step.min(buf.len()).min(left);
-        if n == 0 && !buf.is_empty() && !self.manner.takes_nothing {
-            return Err(io::Error::from(ErrorKind::BrokenPipe));
+        if n == 0 && !buf.is_empty() {
+            match self.manner.end {
+                End::Fails => return Err(io::Error::from(ErrorKind::Other)),
+                End::Closed => return Err(io::Error::from(ErrorKind::BrokenPipe)),
+                End::TakesNothing => {}
+            }
         }
         self.add(&buf[..n]);
         Ok(n)

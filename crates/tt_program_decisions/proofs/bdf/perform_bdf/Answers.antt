@@ -31,6 +31,6 @@ returns-in-Ok-Some-clause-outcome g c =
         between = g.E.Sink.written c.write_bdf-written.new.error;
         had_failed = g.E.Sink.has_failed c.write_bdf-written.new.error;
         outcome = (c.write_bdf-written.ensures.outcome, c.write_bdf-written.ensures.defects, c.write_bdf-written.ensures.hint);
-        told = c.tell_bdf.ensures.told;
+        told = rw c.is_closed.ensures at c.tell_bdf.ensures.told;
       },
     ))

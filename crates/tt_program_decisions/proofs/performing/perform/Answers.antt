@@ -8,7 +8,7 @@ returns-in-Text-clause-outcome g c =
       between = g.E.Sink.written c.draw_text-drawn.new.error;
       had_failed = g.E.Sink.has_failed c.draw_text-drawn.new.error;
       outcome = (c.draw_text-drawn.ensures.outcome, c.draw_text-drawn.ensures.defects);
-      told = c.tell_texts.ensures.told;
+      told = rw c.is_closed-in-Text.ensures at c.tell_texts.ensures.told;
     })
 
 pub returns-in-Lines-clause-outcome : goal.returns-in-Lines-clause-outcome
@@ -19,7 +19,7 @@ returns-in-Lines-clause-outcome g c =
       between = g.E.Sink.written c.draw_lines-drawn.new.error;
       had_failed = g.E.Sink.has_failed c.draw_lines-drawn.new.error;
       outcome = (c.draw_lines-drawn.ensures.outcome, c.draw_lines-drawn.ensures.defects);
-      told = c.tell_texts-in-Lines.ensures.told;
+      told = rw c.is_closed-in-Lines.ensures at c.tell_texts-in-Lines.ensures.told;
     })
 
 pub returns-in-Layout-clause-outcome : goal.returns-in-Layout-clause-outcome
@@ -30,7 +30,7 @@ returns-in-Layout-clause-outcome g c =
       between = g.E.Sink.written c.write_layout-told.new.error;
       had_failed = g.E.Sink.has_failed c.write_layout-told.new.error;
       outcome = (c.write_layout-told.ensures.outcome, c.write_layout-told.ensures.defects);
-      told = c.tell_texts-in-Layout.ensures.told;
+      told = rw c.is_closed-in-Layout.ensures at c.tell_texts-in-Layout.ensures.told;
     })
 
 pub returns-in-Label-clause-outcome : goal.returns-in-Label-clause-outcome
@@ -43,7 +43,7 @@ returns-in-Label-clause-outcome g c =
         between = g.E.Sink.written c.draw_label-drawn.new.error;
         had_failed = g.E.Sink.has_failed c.draw_label-drawn.new.error;
         outcome = (c.draw_label-drawn.ensures.outcome, c.draw_label-drawn.ensures.defects, c.draw_label-drawn.ensures.hint);
-        told = c.tell_label.ensures.told;
+        told = rw c.is_closed-in-Label.ensures at c.tell_label.ensures.told;
       },
     )
 
@@ -57,6 +57,6 @@ returns-in-Labels-clause-outcome g c =
         between = g.E.Sink.written c.draw_labels-drawn.new.error;
         had_failed = g.E.Sink.has_failed c.draw_labels-drawn.new.error;
         outcome = (c.draw_labels-drawn.ensures.outcome, c.draw_labels-drawn.ensures.defects, c.draw_labels-drawn.ensures.hint);
-        told = c.tell_label-in-Labels.ensures.told;
+        told = rw c.is_closed-in-Labels.ensures at c.tell_label-in-Labels.ensures.told;
       },
     )

@@ -4,7 +4,8 @@ use Rattle.tt_program_decisions.proofs.telling_bdf.tell_bdf.Goals as goal
 
 pub returns-else-failed-clause-told : goal.returns-else-failed-clause-told
 returns-else-failed-clause-told g c =
+    let unclosed : c.args.closed ≡ false = search rules in
     let serves : g.E.Sink.has_failed c.args.error.now ≡ false = search rules in
-    rw (c.in-Err.is, serves)
+    rw (c.in-Err.is, unclosed, serves)
     (rw c.texts_status-status.ensures at
     (c.tell_text.ensures.told (file_lines_of c.args.file.now c.args.folder c.in-Err.fault c.args.written.now.hint) c.file_lines-lines.ensures))

@@ -1,5 +1,5 @@
 use Rattle.std.proofs.Common.{◌≡◌, ◌∙◌, Option, Some, None, sym}
-use Rattle.tt_advice.specs.declared.hint.FixedHint.{FixedHint}
+use Rattle.tt_program_decisions.specs.declared.unfound.PathHint.{PathHint}
 use Rattle.tt_program_decisions.specs.Unopened.{opening_text}
 use Rattle.tt_program_decisions.proofs.unopened.tell_unopened.Goals as goal
 
@@ -18,7 +18,7 @@ returns-in-Some-clause-told g c =
     (rw c.font.ensures at
     (c.tell_text.ensures.told (opening_text c.font.result.now c.in-Some.hint) c.opening_text.ensures))
 
-never : (o : Option FixedHint) (h : FixedHint) → o ≡ Some h → o ≡ None → ⊥
+never : (o : Option PathHint) (h : PathHint) → o ≡ Some h → o ≡ None → ⊥
 never o h some none = cc
 
 pub returns-in-Some-clause-plain : goal.returns-in-Some-clause-plain
