@@ -113,15 +113,18 @@ compile() {
 # link_program ROOM FILE: makes the program, in a folder for what stands between.
 link_program() {
   text_of tt_render "$1/tt_render.s"
-  compile "${link[@]}" -o "$2" "$1/tt_render.s" "$dist/host.c" "$dist/heap.c" -Wl,--gc-sections -Wl,--wrap=main
+  compile "${link[@]}" -o "$2" "$1/tt_render.s" "$dist"/{host,heap,processor}.c -Wl,--gc-sections -Wl,--wrap=main
 }
 
-# archive_library ROOM HEAP [FLAG..]: makes of the library's text, in the room, and of a heap in C the archive. It has two
-# members: a host that defines the three functions of the heap itself takes the first alone.
+# archive_library ROOM FOLDER [FLAG..]: makes of the library's text, in the room, and of heap.c and processor.c of a
+# folder the archive. It has three members: a host that defines the three functions of the heap itself omits heap.o.
 archive_library() {
+  local part
   command -v ar >/dev/null || stop 'ar is not on the PATH'
   compile -fPIC -c -o "$1/libtt_render.o" "$1/libtt_render.s"
-  compile "${@:3}" -fPIC -c -o "$1/heap.o" "$2"
+  for part in heap processor; do
+    compile "${@:3}" -fPIC -c -o "$1/$part.o" "$2/$part.c"
+  done
   rm -f -- "$1/libtt_render.a"
-  ar rcs "$1/libtt_render.a" "$1/libtt_render.o" "$1/heap.o" || stop 'ar failed'
+  ar rcs "$1/libtt_render.a" "$1"/{libtt_render,heap,processor}.o || stop 'ar failed'
 }

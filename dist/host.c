@@ -4,6 +4,17 @@
 #include <errno.h>
 #include <stddef.h>
 #include <stdint.h>
+#include <unistd.h>
+
+#include "tt_render.h"
+
+/* The status on a processor that is too old. No status of the program's own is above 5. */
+enum { TOO_OLD = 70 };
+
+static const char too_old[] =
+    "tt_render: this processor lacks a feature of x86-64-v2, which the program needs\n"
+    "tt_render: run it on a newer one, or here by qemu-x86_64 -cpu max; for every x86-64 the Rattle toolchain compiles "
+    "the sources with --cpu x86-64\n";
 
 static int count;
 static char **words;
@@ -11,8 +22,15 @@ static char **words;
 int __real_main(int argc, char **argv);
 int __wrap_main(int argc, char **argv);
 
-/* Stores the arguments, and calls the program's own main, which reads none. */
+/* Stores the arguments, and calls the program's own main, which reads none. The processor is tested before: no code
+ * that was proved has run yet.
+ */
 int __wrap_main(int argc, char **argv) {
+  if (!tt_supported()) {
+    ptrdiff_t written = write(STDERR_FILENO, too_old, sizeof too_old - 1);
+    (void)written;
+    return TOO_OLD;
+  }
   count = argc;
   words = argv;
   return __real_main(argc, argv);
@@ -73,8 +91,6 @@ const struct features *__x86_get_cpuid_feature_leaf(unsigned number) {
 #endif
 
 #if defined(__x86_64__) && !defined(__GLIBC__)
-#include <unistd.h>
-
 ptrdiff_t __write(int file, const void *from, size_t size);
 
 /* write, under the name by which the program reports that its processor is too old. */

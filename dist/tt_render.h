@@ -2,13 +2,13 @@
  * tt_render: text drawn with a TrueType font, as black and white pictures.
  *
  * A call takes a font as the bytes of its file. The library has no state, no handle and no thread. Each call but
- * tt_version fills the caller's answer, and returns the status in it. Unless the status is 0, all other memory of the
- * caller's is unchanged, except that tt_draw_lines has written the lines before the one that stopped it. What follows
- * the written bytes and entries of a room is unchanged. A text is UTF-8, and needs no zero at its end. Several threads
- * may call at once.
+ * tt_version and tt_supported fills the caller's answer, and returns the status in it. Unless the status is 0, all
+ * other memory of the caller's is unchanged, except that tt_draw_lines has written the lines before the one that
+ * stopped it. What follows the written bytes and entries of a room is unchanged. A text is UTF-8, and needs no zero at
+ * its end. Several threads may call at once.
  *
- * It is proved of the library's source that each call does what its comment says, except for costs. No proof holds C to
- * the caller's part, which is:
+ * It is proved of the library's source that each call does what its comment says, except for costs, and for
+ * tt_supported, which is C. No proof holds C to the caller's part, which is:
  *   - Each pointer is valid for as many elements as its length says, and aligned for its type. NULL goes with the
  *     length 0 alone, and a struct is never NULL. The library tests no pointer: another NULL is undefined behaviour, a
  *     crash as a rule.
@@ -16,7 +16,8 @@
  *     are two structs. Memory that a call only reads may overlap. No one else writes to it before the call returns, and
  *     no one else touches the memory that the call writes.
  *   - 64 KiB of stack are free.
- *   - The processor is x86-64-v2 or newer, or aarch64 (Armv8-A). The library does not test this; `install` does.
+ *   - The processor is x86-64-v2 or newer, or aarch64 (Armv8-A). tt_supported tests this, and no other call: on an
+ *     older x86-64 the others may end the process by SIGILL.
  *   - rattle_alloc, rattle_realloc and rattle_dealloc do what the end of this header says. The library also needs
  *     memcpy, memmove, memset and, from the compiler's own runtime, __udivti3 (-lgcc where nothing else is linked).
  *   - No call comes from a signal handler, or from the forked child of a process with threads.
@@ -231,6 +232,12 @@ struct tt_pen {
  * The version of the library, in the form of TT_RENDER_VERSION. It takes no memory.
  */
 uint32_t tt_version(void);
+
+/*
+ * Whether the processor has what the code of the other calls needs: 1, or 0 where no other call may come. It takes no
+ * memory and runs on every processor. processor.c has it, outside of the proofs.
+ */
+int tt_supported(void);
 
 /*
  * Counts the faces of a font file: 1, or those of a collection. A face that is counted may still be refused. The file is

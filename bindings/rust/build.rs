@@ -6,7 +6,7 @@ use std::process::Command;
 
 /// The folder dist/.
 fn dist() -> PathBuf {
-    env::var_os("TT_RENDER_DIST").map_or_else(|| PathBuf::from("../../dist"), PathBuf::from)
+    env::var_os("TT_RENDER_DIST").map_or_else(|| PathBuf::from("dist"), PathBuf::from)
 }
 
 fn main() {

@@ -16,7 +16,7 @@ RUST = re.sub(r"///.*", "", (ROOT / "bindings/rust/src/c.rs").read_text(encoding
 OF_PYTHON = {"u32": "uint32_t", "i32": "int32_t", "u64": "uint64_t", "i64": "int64_t",
              "c_char * 4": "uint8_t[4]", "tt_box": "tt_box", "tt_picture": "tt_picture"}
 OF_RUST = {"u8": "uint8_t", "u32": "uint32_t", "i32": "int32_t", "u64": "uint64_t", "i64": "int64_t",
-           "usize": "size_t", "[u8; 4]": "uint8_t[4]"}
+           "usize": "size_t", "c_int": "int", "[u8; 4]": "uint8_t[4]"}
 NAMES = {"Figures": "tt_font", "Shape": "tt_picture", "PixelBox": "tt_box"}
 
 
@@ -41,7 +41,7 @@ def calls_of_header():
     found = {}
     for result, name, words in re.findall(r"^(\w+) (tt_\w+)\((.*?)\);", HEADER, re.M | re.S):
         words = [re.fullmatch(r"(.*?)(\w+)", " ".join(it.split())) for it in words.replace("struct ", "").split(",")]
-        found[name] = [*((it[2], it[1].strip()) for it in words), ("", result)]
+        found[name] = [*((it[2], it[1].strip()) for it in words if it[2] != "void"), ("", result)]
     return found
 
 
@@ -77,16 +77,16 @@ def differences(binding, wanted, got):
 
 
 # Where the version stands beside the header: as a text, its first two parts, and as a number.
-VERSIONS = {"bindings/python/pyproject.toml": r'^version = "(.*)"', "bindings/rust/Cargo.toml": r'^version = "(.*)"',
-            "bindings/rust/Cargo.lock": r'^name = "tt_render"\nversion = "(.*)"', "tt_render.1": r'"tt_render (.*?)"',
+VERSIONS = {"bindings/python/pyproject.toml": r'^version = "(.*)"', "Cargo.toml": r'^version = "(.*)"',
+            "Cargo.lock": r'^name = "tt_render"\nversion = "(.*)"', "tt_render.1": r'"tt_render (.*?)"',
             "crates/tt_program_commands/src/lib.rt": r'\.version\("(.*)"\)', "SECURITY.md": r"^Version (\S+) ",
-            "CHANGELOG.md": r"^## (\d.*) - \d{4}-\d\d-\d\d$"}
+            "CHANGELOG.md": r"^## (\d.*) - \d{4}-\d\d-\d\d$", "debian/changelog": r"^tt-render \((.*)\)"}
 SHORT = {"docs/C_LIBRARY.md": r"find_package\(tt_render (\S+)"}
 NUMBERS = {"include/tt_render.h": r"#define TT_RENDER_VERSION (\d+)",
            "crates/tt_c/src/lib.rt": r"fn tt_version\(\) -> u32\s+ensures \{ result ≡ (\d+)"}
 # Where the name of the shared library stands.
 SONAMES = ("dist/install", "include/tt_render.h", "docs/C_LIBRARY.md", "bindings/python/backend.py",
-           "bindings/python/tt_render/_library.py", "tests/package/run")
+           "bindings/python/tt_render/_library.py", "debian/libtt-render1.symbols", "tests/package/run")
 
 
 def read(path):

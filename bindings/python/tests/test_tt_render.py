@@ -180,6 +180,9 @@ class Calls(unittest.TestCase):
             self.assertEqual((error.status, error.number, error.table, error.line), (2, 60, "", None))
         self.assertEqual(self.refused(self.font.label, "\ud800", 16).status, 6)
 
+    def test_processor(self):
+        self.assertIs(tt_render.supported(), True)
+
 
 if __name__ == "__main__":
     unittest.main()

@@ -4,7 +4,8 @@
     picture = font.label("Shelf 12", 16)
     pathlib.Path("label.pbm").write_bytes(picture.pbm())
 
-What is refused raises Error. Several threads may call at once. tt_render.h describes each call.
+What is refused raises Error. Several threads may call at once. tt_render.h describes each call. Where `supported()` is
+False the processor is too old, and any other call may end the process.
 
 With `kern` pairs of characters such as AV are moved nearer, by the font's tables; it pays from size 16 on. With
 `rounded` ascent and descent are each rounded to the nearest row, and not up. Then box drawing characters join, of
@@ -20,7 +21,7 @@ import pathlib
 from typing import Any, Iterable, Iterator, NamedTuple, Optional
 
 from . import _library as c
-from ._library import Box, Error
+from ._library import Box, Error, supported
 
 
 class Fit(enum.IntEnum):

@@ -1,4 +1,4 @@
-"""The calls of the C library, which stands beside this file, with the structs of tt_render.h."""
+"""The calls of the C library, with the structs of tt_render.h."""
 from __future__ import annotations
 
 import ctypes
@@ -7,7 +7,9 @@ from ctypes import c_char, c_size_t
 from ctypes import c_int32 as i32, c_int64 as i64, c_uint32 as u32, c_uint64 as u64
 from typing import Any, Container, NamedTuple, Optional
 
-_LIBRARY = ctypes.CDLL(str(pathlib.Path(__file__).with_name("libtt_render.so.1")))
+# A package of a distribution has the library apart: then the system finds it.
+_BESIDE = pathlib.Path(__file__).with_name("libtt_render.so.1")
+_LIBRARY = ctypes.CDLL(str(_BESIDE) if _BESIDE.exists() else _BESIDE.name)
 DONE, ROOM, _MESSAGE_BYTES = 0, 7, 90
 # A box of pixels; all four sides are included.
 Box = NamedTuple("Box", [("left", int), ("top", int), ("right", int), ("bottom", int)])
@@ -32,6 +34,11 @@ tt_bitmap = _struct("tt_bitmap", glyph=u32, status=u32, number=u32, table=c_char
 tt_layout = _struct("tt_layout", width=u32, height=u32, baseline=i64, rise=i64, depth=i64, gap=u64, step=u64,
                   characters=u64)
 tt_pen = _struct("tt_pen", code_point=u32, selector=u32, glyph=u32, advance=u32, pen=i64)
+
+
+def supported() -> bool:
+    """Says whether this processor has what the library needs, as all of x86-64-v2."""
+    return bool(_LIBRARY.tt_supported())
 
 
 def ask(call: str, *words: Any, allowed: Container[int] = (DONE,)) -> Any:

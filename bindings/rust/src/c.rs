@@ -1,4 +1,5 @@
 //! The declarations of tt_render.h, in its order, as far as this crate calls them.
+use std::os::raw::c_int;
 
 #[repr(C)]
 #[derive(Clone, Copy, Debug, Default, PartialEq, Eq)]
@@ -14,6 +15,7 @@ pub struct Answer {
 /// The figures of a font, in font units except the number of glyphs.
 #[repr(C)]
 #[derive(Clone, Copy, Debug, Default, PartialEq, Eq)]
+#[non_exhaustive]
 pub struct Figures {
     /// 16 to 16,384.
     pub units_per_em: u32,
@@ -41,6 +43,7 @@ pub struct Job {
 /// A picture without its pixels.
 #[repr(C)]
 #[derive(Clone, Copy, Debug, Default, PartialEq, Eq)]
+#[non_exhaustive]
 pub struct Shape {
     /// Pixels in a row, 1 to 16,384.
     pub width: u32,
@@ -92,6 +95,7 @@ pub struct Character {
 /// A character of a text in the font.
 #[repr(C)]
 #[derive(Clone, Copy, Debug, Default, PartialEq, Eq)]
+#[non_exhaustive]
 pub struct Glyph {
     /// The character's.
     pub code_point: u32,
@@ -113,6 +117,7 @@ pub struct Line {
 /// The bitmap of a glyph: the least box that holds its ink, from the pen and the base line. Unused fields are 0.
 #[repr(C)]
 #[derive(Clone, Copy, Debug, Default, PartialEq, Eq)]
+#[non_exhaustive]
 pub struct Bitmap {
     /// The number, as asked for.
     pub glyph: u32,
@@ -141,6 +146,7 @@ pub struct Bitmap {
 /// The picture of a text without its ink, and what a next line needs.
 #[repr(C)]
 #[derive(Clone, Copy, Debug, Default, PartialEq, Eq)]
+#[non_exhaustive]
 pub struct Layout {
     /// Of the picture that does not grow.
     pub width: u32,
@@ -163,6 +169,7 @@ pub struct Layout {
 /// The pen of a character of a text.
 #[repr(C)]
 #[derive(Clone, Copy, Debug, Default, PartialEq, Eq)]
+#[non_exhaustive]
 pub struct Pen {
     /// The character's.
     pub code_point: u32,
@@ -177,6 +184,7 @@ pub struct Pen {
 }
 
 extern "C" {
+    pub fn tt_supported() -> c_int;
     pub fn tt_faces(font: *const u8, font_bytes: usize, answer: *mut Answer) -> u32;
     pub fn tt_open_face(
         font: *const u8,

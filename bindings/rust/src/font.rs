@@ -16,6 +16,13 @@ pub fn faces(bytes: &[u8]) -> Result<u64, Error> {
     Ok(done(answer)?.count)
 }
 
+/// Says whether this processor has what the library needs. Where it lacks a feature of x86-64-v2, any other call may
+/// end the process.
+pub fn supported() -> bool {
+    // SAFETY: the call takes nothing, and runs on every processor.
+    unsafe { c::tt_supported() != 0 }
+}
+
 /// A face of a font file.
 #[derive(Clone, Copy, Debug)]
 pub struct Font<'a> {

@@ -9,6 +9,9 @@
 //! ```
 //!
 //! The library has no state: a `Font` is the caller's bytes and a number. tt_render.h describes each call.
+//!
+//! Types that are `#[non_exhaustive]` may get further fields or members. A request is made by `Job::of_size`, and then
+//! changed field by field.
 #![warn(missing_docs)]
 
 mod c;
@@ -18,5 +21,5 @@ mod picture;
 
 pub use c::{Bitmap, Figures, Glyph, Layout, Pen, PixelBox, Shape};
 pub use error::Error;
-pub use font::{faces, Font};
+pub use font::{faces, supported, Font};
 pub use picture::{Bitmaps, Character, Fit, Job, Measure, Picture};

@@ -3,6 +3,7 @@ use crate::c;
 
 /// The ways to fit outlines to the pixels.
 #[derive(Clone, Copy, Debug, Default, PartialEq, Eq)]
+#[non_exhaustive]
 pub enum Fit {
     /// By the font's programs; if a glyph's program is refused, so is the text.
     Full = 0,
@@ -17,6 +18,7 @@ pub enum Fit {
 
 /// A request to draw a text.
 #[derive(Clone, Copy, Debug, PartialEq, Eq)]
+#[non_exhaustive]
 pub struct Job {
     /// Pixels per em, 1 to 300.
     pub size: u32,
@@ -98,6 +100,7 @@ impl Picture {
 
 /// The size of a text's picture, and the box of all ink, which may reach past the picture's edges.
 #[derive(Clone, Copy, Debug, PartialEq, Eq)]
+#[non_exhaustive]
 pub struct Measure {
     /// Pixels in a row.
     pub width: u32,
@@ -133,6 +136,7 @@ impl From<c::Measure> for Measure {
 
 /// A character of a text, in its picture's columns and rows.
 #[derive(Clone, Copy, Debug, PartialEq, Eq)]
+#[non_exhaustive]
 pub struct Character {
     /// 0 where the font has none for the character.
     pub glyph: u32,

@@ -2,7 +2,7 @@
 use std::env;
 use std::io::Write;
 use std::process::{Command, Stdio};
-use tt_render::{faces, Error, Fit, Font, Job};
+use tt_render::{faces, supported, Error, Fit, Font, Job};
 
 fn font_path() -> String {
     env::var("TT_FONT").expect("TT_FONT names a font")
@@ -27,6 +27,13 @@ fn printed(words: &[&str], stdin: &str) -> Vec<u8> {
         .write_all(stdin.as_bytes())
         .unwrap();
     ran.wait_with_output().unwrap().stdout
+}
+
+/// A request of a size, with some fields changed.
+fn changed(size: u32, change: impl FnOnce(&mut Job)) -> Job {
+    let mut job = Job::of_size(size);
+    change(&mut job);
+    job
 }
 
 /// A collection of two faces, which both are the font.
@@ -71,12 +78,11 @@ fn options_are_those_of_the_program() {
         (Fit::Fallback, "fallback"),
         (Fit::Best, "best"),
     ] {
-        let job = Job {
-            margin: 3,
-            fit,
-            grow: false,
-            ..Job::of_size(20)
-        };
+        let job = changed(20, |it| {
+            it.margin = 3;
+            it.fit = fit;
+            it.grow = false;
+        });
         let wanted = printed(
             &[
                 "draw", "--size", "20", "--margin", "3", "--fit", name, &path, "Hello",
@@ -94,13 +100,12 @@ fn kerning_and_heights_are_those_of_the_program() {
     let text = "AVA To";
     for (fit, name) in [(Fit::None, "none"), (Fit::Best, "best")] {
         for (kern, rounded) in [(false, false), (true, false), (false, true), (true, true)] {
-            let job = Job {
-                fit,
-                grow: false,
-                kern,
-                rounded,
-                ..Job::of_size(24)
-            };
+            let job = changed(24, |it| {
+                it.fit = fit;
+                it.grow = false;
+                it.kern = kern;
+                it.rounded = rounded;
+            });
             let height = if rounded { "rounded" } else { "exact" };
             let mut words = vec!["draw", "--size", "24", "--fit", name, "--height", height];
             words.extend(["--kern"].iter().filter(|_| kern));
@@ -124,10 +129,9 @@ fn kerning_and_heights_are_those_of_the_program() {
         }
     }
     let width = |kern| {
-        let job = Job {
-            kern,
-            ..Job::of_size(24)
-        };
+        let job = changed(24, |it| {
+            it.kern = kern;
+        });
         font.measure(text, &job).unwrap().width
     };
     assert!(width(true) < width(false));
@@ -207,10 +211,9 @@ fn a_measure_is_that_of_the_picture() {
 fn characters_follow_each_other() {
     let bytes = font_bytes();
     let font = Font::new(&bytes).unwrap();
-    let job = Job {
-        grow: false,
-        ..Job::of_size(24)
-    };
+    let job = changed(24, |it| {
+        it.grow = false;
+    });
     let (got, mut pen) = (font.characters("Hé j", &job).unwrap(), 0);
     assert_eq!(got.len(), 4);
     for it in &got {
@@ -293,10 +296,9 @@ fn a_defect_has_its_place() {
     let refused = font
         .draw(
             "2",
-            &Job {
-                fit: Fit::Full,
-                ..Job::of_size(16)
-            },
+            &changed(16, |it| {
+                it.fit = Fit::Full;
+            }),
         )
         .unwrap_err();
     assert_eq!(
@@ -373,11 +375,10 @@ fn bitmaps_are_those_of_pictures() {
 fn layouts_are_those_of_measures() {
     let bytes = font_bytes();
     let font = Font::new(&bytes).unwrap();
-    let job = Job {
-        grow: false,
-        margin: 2,
-        ..Job::of_size(24)
-    };
+    let job = changed(24, |it| {
+        it.grow = false;
+        it.margin = 2;
+    });
     let (got, wanted) = (
         font.layout("Hi j", &job).unwrap(),
         font.measure("Hi j", &job).unwrap(),
@@ -399,4 +400,9 @@ fn layouts_are_those_of_measures() {
         .map(|it| (it.glyph, it.advance, it.pen))
         .collect();
     assert_eq!(pens, places);
+}
+
+#[test]
+fn this_processor_is_supported() {
+    assert!(supported());
 }
