@@ -1,0 +1,4 @@
+pub mod IndexMap
+pub mod Items
+pub mod Numbers
+pub mod Store
