@@ -1,4 +1,9 @@
+pub mod Deltas
+pub mod Gdef
+pub mod Hvar
 pub mod IndexMap
 pub mod Items
+pub mod Mvar
 pub mod Numbers
+pub mod Regions
 pub mod Store

@@ -1,5 +1,5 @@
 -- OpenType, "Data types". A number that isn't whole within its table is 0 (profile).
-use Rattle.std.specs.Prelude.{◌≡◌, refl, ℕ, ◌*◌, ◌^◌, nat_lt, if◌then◌else◌, List, [], ◌∷◌, ℤ, pos, negsuc, ◌-ℤ◌, int_lt, map}
+use Rattle.std.specs.Prelude.{◌≡◌, refl, ℕ, ◌*◌, ◌^◌, nat_lt, if◌then◌else◌, List, [], ◌∷◌, ℤ, pos, negsuc, ◌-ℤ◌, int_lt, unsigned_abs, map}
 use Rattle.std.specs.Option.{unwrap_or}
 use Rattle.tt_core.specs.Numbers.{number_at}
 
@@ -26,15 +26,17 @@ twos_complement span n = if nat_lt (2 * n) span then pos n else pos n -ℤ pos s
 abbrev pub signed : List ℕ → ℕ → ℕ → ℤ
 signed b at size = twos_complement (256 ^ size) (number b at size)
 
--- the nearest number that an int16, or a uint16, holds
+-- the nearest number within two bounds
 abbrev pub kept_within : ℤ → ℤ → ℤ → ℤ
 kept_within least most z = if int_lt z least then least else (if int_lt most z then most else z)
 
+-- the nearest number that an int16 holds
 abbrev pub kept_int16 : ℤ → ℤ
 kept_int16 z = kept_within (negsuc 32767) (pos 32767) z
 
-abbrev pub kept_uint16 : ℤ → ℤ
-kept_uint16 z = kept_within (pos 0) (pos 65535) z
+-- the nearest number that a uint16 holds
+abbrev pub kept_uint16 : ℤ → ℕ
+kept_uint16 z = unsigned_abs (kept_within (pos 0) (pos 65535) z)
 
 -- worked values
 a_byte : byte (1 ∷ 2 ∷ []) 1 ≡ 2
@@ -70,5 +72,5 @@ int16s : map kept_int16 (negsuc 32768 ∷ negsuc 32767 ∷ pos 0 ∷ pos 32767 �
 int16s = refl
 
 uint16s : map kept_uint16 (negsuc 0 ∷ pos 0 ∷ pos 65535 ∷ pos 65536 ∷ [])
-    ≡ pos 0 ∷ pos 0 ∷ pos 65535 ∷ pos 65535 ∷ []
+    ≡ 0 ∷ 0 ∷ 65535 ∷ 65535 ∷ []
 uint16s = refl

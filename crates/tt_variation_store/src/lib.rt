@@ -3,10 +3,17 @@
 #![tactic(auto)]
 
 mod data;
+mod gdef;
+mod hvar;
 mod index;
 mod index_map;
+mod mvar;
 mod numbers;
+mod regions;
 mod store;
 
+pub use gdef::{gdef_store, pair_value, variation_index};
+pub use hvar::Hvar;
 pub use index::DeltaSetIndex;
+pub use mvar::{Height, Mvar};
 pub use store::VariationStore;

@@ -87,6 +87,15 @@ pub(crate) fn signed(table: &[u8], at: usize, size: usize) -> i64
     twos_complement(number(table, at, size), span(size))
 }
 
+/// The int16 at an offset.
+pub(crate) fn signed_word(table: &[u8], at: usize) -> i32
+    ensures exact { result ≡ signed table.now at 2 }
+    ensures bound { unsigned_abs result ≤ 32768 }
+{
+    let number = word(table, at) as i32;
+    if number < 32768 { number } else { number - 65536 }
+}
+
 /// The product of two numbers of a table.
 pub(crate) fn product(a: usize, b: usize) -> usize
     requires first { a < 2 ^ 18 }
@@ -112,7 +121,7 @@ pub(crate) fn kept_int16(number: i64) -> i16
 
 /// The nearest number that a uint16 holds.
 pub(crate) fn kept_uint16(number: i64) -> u16
-    ensures { pos result ≡ kept_uint16 number }
+    ensures { result ≡ kept_uint16 number }
 {
     if number < 0 {
         0

@@ -1,32 +1,49 @@
 //! An item variation store. OpenType, "OpenType Font Variations Common Table Formats".
 
-ghost use Rattle.std.specs.Prelude.{◌≡◌, ◌+◌, ◌*◌, ◌^◌, ◌<◌, ◌≤◌, length};
+ghost use Rattle.std.specs.Prelude.{◌≡◌, ◌+◌, ◌*◌, ◌^◌, ◌<◌, ◌≤◌, length, pos, ◌*ℤ◌, unsigned_abs};
 ghost use Rattle.tt_core.specs.Limits.{font_limit};
-ghost use Rattle.tt_variation_store.specs.Store.{Store, store_at, axis_count, region_count, region_list};
+ghost use Rattle.tt_variation_store.specs.Deltas.{delta, fine_delta, scaled_delta, sum_of_first, sum_of_row};
+ghost use Rattle.tt_variation_store.specs.Items.{data_of, index_count};
+ghost use Rattle.tt_variation_store.specs.Store.{Store, store_at, region_list};
 
-use crate::numbers::{long, product, word};
+use crate::data::ItemData;
+use crate::index::DeltaSetIndex;
+use crate::numbers::{long, word};
+use crate::regions::RegionList;
 use std::marker::Model;
+use tt_axes::{Coordinates, Share, whole_units};
 
-/// An item variation store that is there. Clauses see the table's bytes and the store's offset.
+/// An item variation store that is there. Clauses see the bytes of its table, and its offset in the table.
 #[derive(Drop)]
 pub struct VariationStore<'a> {
     table: &'a [u8],
     at: usize,
-    /// The offset of the list of regions.
-    regions: usize,
+    regions: RegionList<'a>,
+    /// The count of item variation data.
+    count: usize,
 }
 
 impl<'a> Model for VariationStore<'a> {
     ghost use Rattle.std.specs.Prelude.{◌≡◌, ◌<◌, ◌≤◌, ◌^◌, length};
     ghost use Rattle.tt_core.specs.Limits.{font_limit};
-    ghost use Rattle.tt_variation_store.specs.Store.{Store, region_list};
+    ghost use Rattle.tt_variation_store.specs.Store.{Store, region_list, data_count};
 
     ghost Value = { Store };
 
     ghost view = { λ s. record { table = s.table.now; at = s.at } };
 
     ghost invariant = { λ s. (length s.table.now ≤ font_limit) × (s.at < 2 ^ 32)
-        × (s.regions ≡ region_list (record { table = s.table.now; at = s.at })) };
+        × (s.regions ≡ region_list (record { table = s.table.now; at = s.at }))
+        × (s.count ≡ data_count (record { table = s.table.now; at = s.at })) × (s.count < 65536) };
+}
+
+/// A row's number at an instance, in 1/65536 font unit.
+fn scaled(delta: i64, share: Share) -> i64
+    requires { unsigned_abs delta ≤ 2 ^ 31 }
+    ensures exact { result ≡ delta *ℤ pos share.parts }
+    ensures bound { unsigned_abs result ≤ 2 ^ 47 }
+{
+    delta * i64::from(share.parts)
 }
 
 impl<'a> VariationStore<'a> {
@@ -38,15 +55,75 @@ impl<'a> VariationStore<'a> {
         requires axes { axes ≤ 64 }
         ensures { result ≡ store_at table.now at axes }
     {
-        let data = word(table, at + 6);
-        if word(table, at) != 1 || data == 0 || table.len() < at + 8 + 4 * data {
+        let count = word(table, at + 6);
+        if word(table, at) != 1 || count == 0 || table.len() < at + 8 + 4 * count {
             return None;
         }
-        let regions = at + long(table, at + 2);
-        let count = word(table, regions + 2);
-        if word(table, regions) != axes || table.len() < regions + 4 + product(6 * axes, count) {
+        match RegionList::open(table, at + long(table, at + 2), axes) {
+            Some(regions) => Some(VariationStore {
+                table,
+                at,
+                regions,
+                count,
+            }),
+            None => None,
+        }
+    }
+
+    /// The bytes of the store's table.
+    pub(crate) fn table(&self) -> &'a [u8]
+        ensures exact { result.now ≡ self.now.table }
+        ensures size { length result.now ≤ font_limit }
+    {
+        self.table
+    }
+
+    /// The item variation data with an outer index.
+    fn data(&self, outer: usize) -> Option<ItemData<'a>>
+        ensures { result ≡ data_of self.now outer }
+    {
+        if outer >= self.count {
             return None;
         }
-        Some(VariationStore { table, at, regions })
+        let offset = long(self.table, self.at + 8 + 4 * outer);
+        Some(ItemData::read(self.table, self.at + offset))
+    }
+
+    /// The sum of the numbers of the row at an offset, each at the instance.
+    fn sum(&self, data: &ItemData, row: usize, coordinates: &Coordinates) -> i64
+        requires row { row ≤ font_limit }
+        requires few { index_count data.now ≤ 512 }
+        ensures exact { result ≡ sum_of_first (region_list self.now) coordinates.now data.now row (index_count data.now) }
+        ensures bound { unsigned_abs result ≤ 2 ^ 56 }
+    {
+        let mut sum = 0;
+        for i in 0..data.regions() {
+            let share = self.regions.share(data.region(i), coordinates);
+            sum += scaled(data.delta(row, i), share);
+        }
+        sum
+    }
+
+    /// The delta of a row at an instance, in 1/65536 font unit. A row that isn't there has a delta of 0 (profile).
+    #[tactic(auto, unfolding(crate::specs::Deltas::fine_delta))]
+    fn fine_delta(&self, index: DeltaSetIndex, coordinates: &Coordinates) -> i64
+        ensures exact { result ≡ fine_delta self.now index coordinates.now }
+        ensures bound { unsigned_abs result ≤ 2 ^ 56 }
+    {
+        let Some(data) = self.data(index.outer) else {
+            return 0;
+        };
+        match data.row(index.inner) {
+            Some(row) => self.sum(&data, row, coordinates),
+            None => 0,
+        }
+    }
+
+    /// The delta of a row at an instance, in font units. A row that isn't there has a delta of 0 (profile).
+    pub fn delta(&self, index: DeltaSetIndex, coordinates: &Coordinates) -> i64
+        ensures exact { result ≡ delta self.now index coordinates.now }
+        ensures bound { unsigned_abs result ≤ 2 ^ 40 }
+    {
+        whole_units(self.fine_delta(index, coordinates))
     }
 }
