@@ -1,6 +1,6 @@
 -- OpenType, "OpenType Font Variations Overview": deltas, scaled and added up, are fractions of a font unit. Which way
 -- halves are rounded is profile.
-use Rattle.std.specs.Prelude.{◌≡◌, refl, ℤ, pos, negsuc, ◌*ℤ◌, List, [], ◌∷◌, map}
+use Rattle.std.specs.Prelude.{◌≡◌, refl, ℤ, pos, negsuc, ◌*ℤ◌, [], ◌∷◌, map}
 use Rattle.tt_core.specs.Numbers.{nearest_quotient}
 use Rattle.tt_core.specs.Scales.{away_quotient}
 

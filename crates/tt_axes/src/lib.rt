@@ -2,6 +2,7 @@
 #![tactic(auto)]
 
 mod coordinates;
+pub mod laws;
 mod region;
 mod rounding;
 mod share;

@@ -1,10 +1,9 @@
 //! How much of a variation holds on one axis. OpenType, "OpenType Font Variations Common Table Formats".
 
-ghost use Rattle.std.specs.Prelude.{◌≡◌, ◌≢◌, ◌^◌, ◌<◌, ◌≤◌, unsigned_abs};
+ghost use Rattle.std.specs.Prelude.{◌≡◌, ◌≢◌, ◌<◌, ◌≤◌, pos};
 ghost use Rattle.tt_axes.specs.Shares.{has_effect, portion, share_between, share_to_peak, share_of_tuple_axis, share_of_region_axis, whole_share};
 
 use crate::share::Share;
-use tt_core::{Halves, quotient};
 
 /// The ends of a region on one axis, as coordinates in 1/65536.
 #[derive(Clone, Copy)]
@@ -13,17 +12,17 @@ pub struct Ends {
     pub end: i32,
 }
 
-/// A part of a share, in proportion. The part is no further from 0 than the whole.
-fn portion(share: Share, part: i64, whole: i64) -> Share
-    requires part { unsigned_abs part ≤ unsigned_abs whole }
-    requires whole { unsigned_abs whole < 2 ^ 33 }
-    requires some { 0 < unsigned_abs whole }
+/// A share times `part / whole`, rounded to the nearest whole number, a half up.
+fn portion(share: Share, part: u32, whole: u32) -> Share
+    requires part { part ≤ whole }
+    requires some { 0 < whole }
     ensures exact { result.parts ≡ portion share.parts part whole }
     ensures less { result.parts ≤ share.parts }
 {
-    let parts = quotient(Halves::AwayFromZero, i64::from(share.parts) * part, whole);
+    let product = u64::from(share.parts) * u64::from(part);
+    let whole = u64::from(whole);
     Share {
-        parts: parts.unsigned_abs() as u32,
+        parts: ((2 * product + whole) / (2 * whole)) as u32,
     }
 }
 
@@ -32,30 +31,27 @@ fn share_between(share: Share, coordinate: i32, peak: i32, ends: Ends) -> Share
     ensures exact { result.parts ≡ share_between share.parts coordinate peak ends }
     ensures less { result.parts ≤ share.parts }
 {
-    if coordinate <= ends.start || coordinate >= ends.end {
+    if coordinate <= ends.start || ends.end <= coordinate {
         return Share::none();
     }
-    let at = i64::from(coordinate);
-    let peak = i64::from(peak);
-    if at < peak {
-        let start = i64::from(ends.start);
-        portion(share, at - start, peak - start)
+    let end = if coordinate < peak {
+        ends.start
     } else {
-        let end = i64::from(ends.end);
-        portion(share, end - at, end - peak)
-    }
+        ends.end
+    };
+    portion(share, coordinate.abs_diff(end), peak.abs_diff(end))
 }
 
 /// The share without a region: nothing at 0, all at the peak, and nothing past the peak.
 fn share_to_peak(share: Share, coordinate: i32, peak: i32) -> Share
-    requires { unsigned_abs peak ≢ 0 }
+    requires { peak ≢ pos 0 }
     ensures exact { result.parts ≡ share_to_peak share.parts coordinate peak }
     ensures less { result.parts ≤ share.parts }
 {
-    if coordinate < peak.min(0) || coordinate > peak.max(0) {
+    if coordinate < peak.min(0) || peak.max(0) < coordinate {
         return Share::none();
     }
-    portion(share, i64::from(coordinate), i64::from(peak))
+    portion(share, coordinate.unsigned_abs(), peak.unsigned_abs())
 }
 
 impl Share {
