@@ -5,7 +5,7 @@ ghost use Rattle.std.specs.Prelude.{◌≡◌, ◌+◌, ◌*◌, ◌^◌, ◌<�
 ghost use Rattle.tt_core.specs.Limits.{font_limit};
 ghost use Rattle.tt_variation_store.specs.Regions.{RegionList, if_whole, axis_count, axis_place, coordinate_in, ends_in, share_by, share_after, region_share};
 
-use crate::numbers::{product, signed, word};
+use crate::numbers::{product, signed_word, word};
 use std::marker::Model;
 use tt_axes::{Coordinates, Ends, Share};
 

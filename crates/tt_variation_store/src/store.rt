@@ -89,7 +89,18 @@ impl<'a> VariationStore<'a> {
         Some(ItemData::read(self.table, self.at + offset))
     }
 
-    /// The sum of the numbers of the row at an offset, each at the instance.
+    /// Number i of the row at an offset, at the instance, in 1/65536 font unit.
+    fn scaled_delta(&self, data: &ItemData, row: usize, i: usize, coordinates: &Coordinates) -> i64
+        requires row { row ≤ font_limit }
+        requires i { i < 65536 }
+        ensures exact { result ≡ scaled_delta (region_list self.now) coordinates.now data.now row i }
+        ensures bound { unsigned_abs result ≤ 2 ^ 47 }
+    {
+        let share = self.regions.share(data.region(i), coordinates);
+        scaled(data.delta(row, i), share)
+    }
+
+    /// The sum of the numbers of the row at an offset, at the instance, in 1/65536 font unit.
     fn sum(&self, data: &ItemData, row: usize, coordinates: &Coordinates) -> i64
         requires row { row ≤ font_limit }
         requires few { index_count data.now ≤ 512 }
@@ -98,8 +109,7 @@ impl<'a> VariationStore<'a> {
     {
         let mut sum = 0;
         for i in 0..data.regions() {
-            let share = self.regions.share(data.region(i), coordinates);
-            sum += scaled(data.delta(row, i), share);
+            sum += self.scaled_delta(data, row, i, coordinates);
         }
         sum
     }
