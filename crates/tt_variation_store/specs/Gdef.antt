@@ -18,11 +18,12 @@ abbrev pub variation_index : List ℕ → ℕ → ℕ → Option DeltaSetIndex
 variation_index table parent offset =
     if not (offset == 0) && (word table (parent + offset + 4) == 0x8000) then Some (index_at table (parent + offset)) else None
 
+-- a value at an instance, kept an int16; without indexes the value stays
 abbrev pub value_by_index : Store → ℤ → Option DeltaSetIndex → List ℤ → ℤ
 value_by_index s value None coordinates = value
 value_by_index s value (Some index) coordinates = kept_int16 (value +ℤ delta s index coordinates)
 
--- a value at an instance, kept an int16; without a store the value stays
-abbrev pub value_at : Option Store → ℤ → Option DeltaSetIndex → List ℤ → ℤ
-value_at None value index coordinates = value
-value_at (Some s) value index coordinates = value_by_index s value index coordinates
+-- the value of a pair at an instance; without a store the value stays
+abbrev pub pair_value : Option Store → ℤ → Option DeltaSetIndex → List ℤ → ℤ
+pair_value None value index coordinates = value
+pair_value (Some s) value index coordinates = value_by_index s value index coordinates

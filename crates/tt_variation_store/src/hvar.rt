@@ -50,6 +50,16 @@ impl<'a> Hvar<'a> {
         }
     }
 
+    /// A copy. The bytes are not copied.
+    pub fn copy(&self) -> Hvar<'a>
+        ensures { result ≡ self.now }
+    {
+        Hvar {
+            store: self.store.copy(),
+            map: self.map,
+        }
+    }
+
     /// A glyph's advance at an instance, in font units: the advance that hmtx has, and the glyph's delta, kept within 0
     /// to 65535 (profile).
     pub fn advance(&self, glyph: u16, advance: u16, coordinates: &Coordinates) -> u16

@@ -88,7 +88,16 @@ impl<'a> Mvar<'a> {
         }
     }
 
-    /// How much farther from 0 upwards a height is at an instance, in font units.
+    /// A copy. The bytes are not copied.
+    pub fn copy(&self) -> Mvar<'a>
+        ensures { result ≡ self.now }
+    {
+        Mvar {
+            store: self.store.copy(),
+        }
+    }
+
+    /// How much higher a height is at an instance, in font units.
     fn delta(&self, height: Height, coordinates: &Coordinates) -> i64
         ensures exact { result ≡ record_delta self.now coordinates.now (record_of self.now.table height) }
         ensures bound { unsigned_abs result ≤ 2 ^ 40 }

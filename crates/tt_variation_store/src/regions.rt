@@ -63,6 +63,18 @@ impl<'a> RegionList<'a> {
         })
     }
 
+    /// A copy. The bytes are not copied.
+    pub(crate) fn copy(&self) -> RegionList<'a>
+        ensures { result ≡ self.now }
+    {
+        RegionList {
+            table: self.table,
+            at: self.at,
+            axes: self.axes,
+            count: self.count,
+        }
+    }
+
     /// The offset of a region's axis.
     fn axis_place(&self, region: usize, axis: usize) -> usize
         requires region { region < 65536 }
@@ -88,7 +100,7 @@ impl<'a> RegionList<'a> {
         share.on_region_axis(coordinate, coordinate_at(self.table, at + 2), ends)
     }
 
-    /// How much of a region's deltas holds at an instance. Of a region that isn't there nothing holds.
+    /// How much of a region's deltas holds at an instance. Of a region that isn't there nothing holds (profile).
     pub(crate) fn share(&self, region: usize, coordinates: &Coordinates) -> Share
         requires { region < 65536 }
         ensures { result.parts ≡ region_share self.now region coordinates.now }
@@ -96,9 +108,13 @@ impl<'a> RegionList<'a> {
         if region >= self.count {
             return Share::none();
         }
+        tt_axes::laws::shares_fall();
         let mut share = Share::whole();
         for axis in 0..coordinates.count() {
             share = self.share_by(region, axis, share, coordinates.at(axis));
+            if share.parts == 0 {
+                return share;
+            }
         }
         share
     }

@@ -70,6 +70,18 @@ impl<'a> VariationStore<'a> {
         }
     }
 
+    /// A copy. The bytes are not copied.
+    pub fn copy(&self) -> VariationStore<'a>
+        ensures { result ≡ self.now }
+    {
+        VariationStore {
+            table: self.table,
+            at: self.at,
+            regions: self.regions.copy(),
+            count: self.count,
+        }
+    }
+
     /// The bytes of the store's table.
     pub(crate) fn table(&self) -> &'a [u8]
         ensures exact { result.now ≡ self.now.table }
