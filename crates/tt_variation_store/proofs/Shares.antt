@@ -1,7 +1,9 @@
 -- The share of a region falls from axis to axis.
-use Rattle.std.proofs.Common.{◌≡◌, ℕ, zero, suc, ◌+◌, ◌-◌, ◌<◌, ◌≤◌, List, length, ℤ, Bool, true, false, arith, zero-add}
+use Rattle.std.proofs.Common.{◌≡◌, ℕ, zero, suc, ◌+◌, ◌-◌, ◌<◌, ◌≤◌, List, length, ℤ, Bool, true, false, refl, arith, zero-add}
 use Rattle.std.specs.Prelude.{nat_lt, if◌then◌else◌}
-use Rattle.tt_axes.specs.Shares.{RegionSharesFall}
+use Rattle.tt_axes.specs.declared.region.Ends.{Ends}
+use Rattle.tt_axes.specs.Shares.{whole_share, share_of_region_axis, RegionSharesFall}
+use Rattle.tt_variation_store.specs.Laws.{SharesAreParts, WholeAtPeaks, OneAxisEnds}
 use Rattle.tt_variation_store.specs.Regions.{RegionList, axis_place, coordinate_in, ends_in, region_count, share_after, region_share}
 use Rattle.tt_axes.specs.Coordinates.{coordinate_at}
 
@@ -35,3 +37,38 @@ nothing-holds fall l region coordinates axis share within is none =
     let here : share_after l region coordinates (suc axis) ≡ 0 = cc in
     let all = nothing-left fall l region coordinates (suc axis) (length coordinates) (omega arith) here in
     none-by (nat_lt region (region_count l)) (share_after l region coordinates (length coordinates)) share all none
+
+part-by : (b : Bool) (n most : ℕ) → n ≤ most → (if b then n else 0) ≤ most
+part-by true n most less = less
+part-by false n most less = omega arith
+
+pub parts : RegionSharesFall → SharesAreParts
+parts fall l region coordinates =
+    let n = length coordinates in
+    let all : n ≡ n + 0 = omega arith in
+    let least = falls fall l region coordinates 0 n in
+    part-by (nat_lt region (region_count l)) (share_after l region coordinates n) whole_share (rw all least)
+
+-- the first axes, each at its peak, leave the whole
+whole-after : ((share : ℕ) (peak : ℤ) (e : Ends) → share_of_region_axis share peak peak e ≡ share)
+    → (l : RegionList) (region : ℕ) (coordinates : List ℤ) (n : ℕ)
+    → ((axis : ℕ) → axis < n → coordinate_at coordinates axis ≡ coordinate_in l.table (axis_place l region axis + 2))
+    → share_after l region coordinates n ≡ whole_share
+whole-after stays l region coordinates zero at = refl
+whole-after stays l region coordinates (suc n) at =
+    let here = at n (omega arith) in
+    let before = whole-after stays l region coordinates n (λ axis below. at axis (omega (arith, below))) in
+    rw (here, stays) before
+
+pub peaks : ((share : ℕ) (peak : ℤ) (e : Ends) → share_of_region_axis share peak peak e ≡ share) → WholeAtPeaks
+peaks stays l region coordinates at = whole-after stays l region coordinates (length coordinates) at
+
+nothing-by : (b : Bool) (n left : ℕ) → n ≡ left → (if b then n else left) ≡ left
+nothing-by true n left none = none
+nothing-by false n left none = refl
+
+pub one-ends : RegionSharesFall → OneAxisEnds
+one-ends fall l region coordinates axis below leaves =
+    let all = nothing-left fall l region coordinates (suc axis) (length coordinates) (omega (arith, below))
+    (leaves (share_after l region coordinates axis)) in
+    nothing-by (nat_lt region (region_count l)) (share_after l region coordinates (length coordinates)) 0 all

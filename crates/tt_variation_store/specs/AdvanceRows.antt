@@ -1,5 +1,5 @@
--- Worked values: advances by whole tables HVAR. Each table is built by hand; FreeType was asked for the same fonts, and had
--- other advances where this file says so.
+-- Worked values: advances by whole tables HVAR. Each table is built by hand. FreeType was asked for most of them in fonts,
+-- and had other advances where this file says so.
 use Rattle.std.specs.Prelude.{◌≡◌, refl, ℕ, List, [], ◌∷◌, ◌++◌, map, take, Option, Some, None, option_map, ℤ, pos, negsuc}
 use Rattle.tt_axes.specs.Shares.{share_of_region_axis}
 use Rattle.tt_variation_store.specs.Deltas.{fine_delta}
@@ -172,3 +172,26 @@ row_cut_short = refl
 data_cut_short : advances (hvar (0 ∷ 3 ∷ [])) (pos 65536) ≡ Some 256 ∷ Some 256 ∷ []
 unfolding number fine_delta share_of_region_axis
 data_cut_short = refl
+
+-- a row of 256 for the first region, in two bytes, and -128 for the second, in one
+abbrev mixed : List ℕ
+mixed =
+    header 0 ++ (0 ∷ 1 ∷ 0 ∷ 0 ∷ 0 ∷ 12 ∷ 0 ∷ 1 ∷ 0 ∷ 0 ∷ 0 ∷ 28 ∷ 0 ∷ 1 ∷ 0 ∷ 2 ∷ to_1)
+    ++ (0xC0 ∷ 0 ∷ 0xC0 ∷ 0 ∷ 0 ∷ 0 ∷ 0 ∷ 3 ∷ 0 ∷ 1 ∷ 0 ∷ 2 ∷ 0 ∷ 0 ∷ 0 ∷ 1 ∷ 0 ∷ 0 ∷ 0 ∷ 1 ∷ 0 ∷ 0x80 ∷ 1 ∷ 0 ∷ 0x80 ∷ [])
+
+words_and_bytes : advances mixed (pos 65536) ∷ advances mixed (negsuc 65535) ∷ []
+    ≡ (Some 512 ∷ Some 512 ∷ []) ∷ (Some 128 ∷ Some 128 ∷ []) ∷ []
+unfolding number fine_delta share_of_region_axis
+words_and_bytes = refl
+
+-- two axes, at 21845 and 32768 of 65536: after the first 21845 parts are left, after the second 10922.5, and so 10923. Of 3
+-- that is more than half a unit
+abbrev of_two_axes : List ℕ
+of_two_axes =
+    header 0 ++ (0 ∷ 1 ∷ 0 ∷ 0 ∷ 0 ∷ 12 ∷ 0 ∷ 1 ∷ 0 ∷ 0 ∷ 0 ∷ 28 ∷ 0 ∷ 2 ∷ 0 ∷ 1 ∷ to_1) ++ to_1
+    ++ bytes 3 (0 ∷ 3 ∷ 0xFD ∷ [])
+
+each_axis_rounds : map (λ g. option_map (λ s. advance_of s g 256 (pos 21845 ∷ pos 32768 ∷ [])) (hvar_of of_two_axes 2)) (1 ∷ 2 ∷ [])
+    ≡ Some 257 ∷ Some 255 ∷ []
+unfolding number fine_delta share_of_region_axis
+each_axis_rounds = refl

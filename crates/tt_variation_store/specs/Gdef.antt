@@ -1,6 +1,6 @@
 -- OpenType, "GDEF: Glyph Definition Table", and "OpenType Layout Common Table Formats", VariationIndex tables: the values of
 -- GPOS at an instance.
-use Rattle.std.specs.Prelude.{ℕ, ◌+◌, Bool, not, ◌&&◌, ◌==◌, nat_le, if◌then◌else◌, List, length, Option, Some, None, ℤ, ◌+ℤ◌}
+use Rattle.std.specs.Prelude.{ℕ, ◌+◌, not, ◌&&◌, ◌==◌, nat_le, if◌then◌else◌, List, length, Option, Some, None, ℤ, ◌+ℤ◌}
 use Rattle.tt_variation_store.specs.declared.index.DeltaSetIndex.{DeltaSetIndex}
 use Rattle.tt_variation_store.specs.Deltas.{delta}
 use Rattle.tt_variation_store.specs.Mvar.{index_at}

@@ -1,6 +1,6 @@
--- Worked values: heights by whole tables MVAR. Each table is built by hand; FreeType was asked for the same fonts, and had
--- other heights where this file says so.
-use Rattle.std.specs.Prelude.{◌≡◌, refl, ℕ, List, [], ◌∷◌, ◌++◌, map, take, codes, Option, Some, None, option_map, ℤ, pos, negsuc}
+-- Worked values: heights by whole tables MVAR. Each table is built by hand. FreeType was asked for most of them in fonts,
+-- and had other heights where this file says so.
+use Rattle.std.specs.Prelude.{◌≡◌, refl, ℕ, List, [], ◌∷◌, ◌++◌, take, codes, Option, Some, None, option_map, ℤ, pos, negsuc}
 use Rattle.tt_axes.specs.Shares.{share_of_region_axis}
 use Rattle.tt_variation_store.specs.declared.mvar.Height.TheVariants as height
 use Rattle.tt_variation_store.specs.Deltas.{fine_delta}

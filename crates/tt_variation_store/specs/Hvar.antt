@@ -1,5 +1,5 @@
 -- OpenType, "HVAR: Horizontal Metrics Variations Table". Side bearings are not used (profile).
-use Rattle.std.specs.Prelude.{ℕ, Bool, ◌&&◌, ◌==◌, nat_le, if◌then◌else◌, List, length, Option, None, ℤ, pos, ◌+ℤ◌}
+use Rattle.std.specs.Prelude.{ℕ, ◌&&◌, ◌==◌, nat_le, if◌then◌else◌, List, length, Option, None, ℤ, pos, ◌+ℤ◌}
 use Rattle.tt_variation_store.specs.Deltas.{delta}
 use Rattle.tt_variation_store.specs.IndexMap.{index_of}
 use Rattle.tt_variation_store.specs.Numbers.{word, long, kept_uint16}

@@ -5,6 +5,7 @@ pub mod HeightRows
 pub mod Hvar
 pub mod IndexMap
 pub mod Items
+pub mod Laws
 pub mod Mvar
 pub mod Numbers
 pub mod PairRows

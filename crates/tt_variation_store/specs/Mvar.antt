@@ -1,5 +1,5 @@
 -- OpenType, "MVAR: Metrics Variations Table". Three of its records are used (profile).
-use Rattle.std.specs.Prelude.{◌≡◌, refl, ℕ, ◌+◌, ◌*◌, Bool, ◌&&◌, ◌==◌, nat_le, if◌then◌else◌, List, length, codes, Option, Some, None, ℤ, pos, ◌+ℤ◌}
+use Rattle.std.specs.Prelude.{ℕ, ◌+◌, ◌*◌, Bool, ◌&&◌, ◌==◌, nat_le, if◌then◌else◌, List, length, codes, Option, Some, None, ℤ, pos, ◌+ℤ◌}
 use Rattle.tt_core.specs.Numbers.{unsigned_at}
 use Rattle.tt_core.specs.Search.{first_below}
 use Rattle.tt_variation_store.specs.declared.index.DeltaSetIndex.{DeltaSetIndex}

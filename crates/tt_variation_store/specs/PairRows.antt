@@ -1,6 +1,6 @@
--- Worked values: pairs' values by whole tables GDEF, for which GPOS has -64. Each table is built by hand; HarfBuzz was asked
--- for the same fonts, and had another value where this file says so.
-use Rattle.std.specs.Prelude.{◌≡◌, refl, ℕ, List, [], ◌∷◌, ◌++◌, take, Option, Some, None, ℤ, pos, negsuc}
+-- Worked values: pairs' values by whole tables GDEF, where GPOS has -64. Each table is built by hand. HarfBuzz was asked for
+-- most of them in fonts, and had another value where this file says so.
+use Rattle.std.specs.Prelude.{◌≡◌, refl, ℕ, List, [], ◌∷◌, take, None, ℤ, pos, negsuc}
 use Rattle.tt_axes.specs.Shares.{share_of_region_axis}
 use Rattle.tt_variation_store.specs.Deltas.{fine_delta}
 use Rattle.tt_variation_store.specs.Gdef.{gdef_store_of, variation_index, pair_value}

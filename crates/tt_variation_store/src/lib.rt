@@ -7,6 +7,7 @@ mod gdef;
 mod hvar;
 mod index;
 mod index_map;
+pub mod laws;
 mod mvar;
 mod numbers;
 mod regions;

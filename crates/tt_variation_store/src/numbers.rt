@@ -93,7 +93,11 @@ pub(crate) fn signed_word(table: &[u8], at: usize) -> i32
     ensures bound { unsigned_abs result ≤ 32768 }
 {
     let number = word(table, at) as i32;
-    if number < 32768 { number } else { number - 65536 }
+    if number < 32768 {
+        number
+    } else {
+        number - 65536
+    }
 }
 
 /// The product of two numbers of a table.

@@ -1,4 +1,4 @@
-use Rattle.std.proofs.Common.{◌≡◌, refl, ℕ, add-one, ◌+ℤ◌, SFits, w64, of_z, to_z, arith}
+use Rattle.std.proofs.Common.{◌≡◌, refl, add-one, ◌+ℤ◌, SFits, w64, of_z, to_z, arith}
 use Rattle.std.proofs.lemmas.Int.{ints, to_z-of_z}
 use Rattle.tt_variation_store.proofs.store.VariationStore.sum.Goals as goal
 
