@@ -17,10 +17,10 @@ falls fall l region coordinates i (suc more) =
     (coordinate_in l.table (axis_place l region axis + 2)) (ends_in l.table (axis_place l region axis)) in
     rw one (omega (arith, next, falls fall l region coordinates i more))
 
--- once nothing is left, nothing comes back
-nothing-left : RegionSharesFall → (l : RegionList) (region : ℕ) (coordinates : List ℤ) (i n : ℕ) → i ≤ n
+-- a share that is 0 stays 0
+stays-0 : RegionSharesFall → (l : RegionList) (region : ℕ) (coordinates : List ℤ) (i n : ℕ) → i ≤ n
     → share_after l region coordinates i ≡ 0 → share_after l region coordinates n ≡ 0
-nothing-left fall l region coordinates i n below none =
+stays-0 fall l region coordinates i n below none =
     let all : n ≡ (n - i) + i = omega (arith, below) in
     let least = falls fall l region coordinates i (n - i) in
     rw all (omega (arith, none, least))
@@ -35,7 +35,7 @@ pub nothing-holds : RegionSharesFall → (l : RegionList) (region : ℕ) (coordi
     → share ≡ region_share l region coordinates
 nothing-holds fall l region coordinates axis share within is none =
     let here : share_after l region coordinates (suc axis) ≡ 0 = cc in
-    let all = nothing-left fall l region coordinates (suc axis) (length coordinates) (omega arith) here in
+    let all = stays-0 fall l region coordinates (suc axis) (length coordinates) (omega arith) here in
     none-by (nat_lt region (region_count l)) (share_after l region coordinates (length coordinates)) share all none
 
 part-by : (b : Bool) (n most : ℕ) → n ≤ most → (if b then n else 0) ≤ most
@@ -63,12 +63,12 @@ whole-after stays l region coordinates (suc n) at =
 pub peaks : ((share : ℕ) (peak : ℤ) (e : Ends) → share_of_region_axis share peak peak e ≡ share) → WholeAtPeaks
 peaks stays l region coordinates at = whole-after stays l region coordinates (length coordinates) at
 
-nothing-by : (b : Bool) (n left : ℕ) → n ≡ left → (if b then n else left) ≡ left
-nothing-by true n left none = none
-nothing-by false n left none = refl
+either-0 : (b : Bool) (n none : ℕ) → n ≡ none → (if b then n else none) ≡ none
+either-0 true n none is = is
+either-0 false n none is = refl
 
 pub one-ends : RegionSharesFall → OneAxisEnds
 one-ends fall l region coordinates axis below leaves =
-    let all = nothing-left fall l region coordinates (suc axis) (length coordinates) (omega (arith, below))
+    let all = stays-0 fall l region coordinates (suc axis) (length coordinates) (omega (arith, below))
     (leaves (share_after l region coordinates axis)) in
-    nothing-by (nat_lt region (region_count l)) (share_after l region coordinates (length coordinates)) 0 all
+    either-0 (nat_lt region (region_count l)) (share_after l region coordinates (length coordinates)) 0 all

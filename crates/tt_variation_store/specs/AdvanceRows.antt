@@ -1,16 +1,16 @@
--- Worked values: advances by whole tables HVAR. Each table is built by hand. FreeType was asked for most of them in fonts,
--- and had other advances where this file says so.
+-- Worked values: advances by whole tables HVAR. Each table is built by hand. FreeType 2.12.1 read most of them in fonts, and
+-- had other advances where this file says so.
 use Rattle.std.specs.Prelude.{◌≡◌, refl, ℕ, List, [], ◌∷◌, ◌++◌, map, take, Option, Some, None, option_map, ℤ, pos, negsuc}
 use Rattle.tt_axes.specs.Shares.{share_of_region_axis}
 use Rattle.tt_variation_store.specs.Deltas.{fine_delta}
 use Rattle.tt_variation_store.specs.Hvar.{hvar_of, advance_of}
 use Rattle.tt_variation_store.specs.Numbers.{number}
 
--- the header with the low byte of the map's offset; the store stands at 20
+-- the header with the low byte of the map's offset; the store is at 20
 abbrev header : ℕ → List ℕ
 header map = 0 ∷ 1 ∷ 0 ∷ 0 ∷ 0 ∷ 0 ∷ 0 ∷ 20 ∷ 0 ∷ 0 ∷ 0 ∷ map ∷ 0 ∷ 0 ∷ 0 ∷ 0 ∷ 0 ∷ 0 ∷ 0 ∷ 0 ∷ []
 
--- a store with a region of so many axes, and with item variation data
+-- a store by its count of axes, with one region and item variation data
 abbrev store : ℕ → List ℕ → List ℕ → List ℕ
 store axes region rows =
     0 ∷ 1 ∷ 0 ∷ 0 ∷ 0 ∷ 12 ∷ 0 ∷ 1 ∷ 0 ∷ 0 ∷ 0 ∷ 22 ∷ 0 ∷ axes ∷ 0 ∷ 1 ∷ (region ++ rows)
@@ -51,7 +51,7 @@ words : advances (hvar (0 ∷ 3 ∷ 0 ∷ 1 ∷ 0 ∷ 1 ∷ 0 ∷ 0 ∷ 0 ∷ 0 
 unfolding number fine_delta share_of_region_axis
 words = refl
 
--- the same in four bytes, which FreeType does not read
+-- four bytes each, which FreeType does not read
 long_words : advances (hvar (0 ∷ 3 ∷ 0x80 ∷ 1 ∷ 0 ∷ 1 ∷ 0 ∷ 0 ∷ 0 ∷ 0 ∷ 0 ∷ 0 ∷ 0 ∷ 0 ∷ 2 ∷ 0 ∷ 0xFF ∷ 0xFF ∷ 0xFE ∷ 0xD4 ∷ []))
     (pos 65536) ≡ Some 768 ∷ Some 0 ∷ []
 unfolding number fine_delta share_of_region_axis
@@ -164,7 +164,7 @@ regions_cut_short : hvar_of (take 41 (hvar (bytes 3 []))) 1 ≡ None
 unfolding number
 regions_cut_short = refl
 
--- what is cut short otherwise is 0
+-- a row, or item variation data, that is cut short: 0
 row_cut_short : advances (hvar (bytes 3 (0 ∷ 0x20 ∷ []))) (pos 65536) ≡ Some 288 ∷ Some 256 ∷ []
 unfolding number fine_delta share_of_region_axis
 row_cut_short = refl
@@ -184,8 +184,8 @@ words_and_bytes : advances mixed (pos 65536) ∷ advances mixed (negsuc 65535) �
 unfolding number fine_delta share_of_region_axis
 words_and_bytes = refl
 
--- two axes, at 21845 and 32768 of 65536: after the first 21845 parts are left, after the second 10922.5, and so 10923. Of 3
--- that is more than half a unit
+-- two axes, at 21845 and 32768: the share is 21845 after the first, and after the second 10922.5, rounded to 10923. This part
+-- of 3 is more than half a unit
 abbrev of_two_axes : List ℕ
 of_two_axes =
     header 0 ++ (0 ∷ 1 ∷ 0 ∷ 0 ∷ 0 ∷ 12 ∷ 0 ∷ 1 ∷ 0 ∷ 0 ∷ 0 ∷ 28 ∷ 0 ∷ 2 ∷ 0 ∷ 1 ∷ to_1) ++ to_1

@@ -1,5 +1,5 @@
--- Worked values: heights by whole tables MVAR. Each table is built by hand. FreeType was asked for most of them in fonts,
--- and had other heights where this file says so.
+-- Worked values: heights by whole tables MVAR. Each table is built by hand. FreeType 2.12.1 read most of them in fonts, and
+-- had other heights where this file says so.
 use Rattle.std.specs.Prelude.{◌≡◌, refl, ℕ, List, [], ◌∷◌, ◌++◌, take, codes, Option, Some, None, option_map, ℤ, pos, negsuc}
 use Rattle.tt_axes.specs.Shares.{share_of_region_axis}
 use Rattle.tt_variation_store.specs.declared.mvar.Height.TheVariants as height

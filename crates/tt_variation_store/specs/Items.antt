@@ -26,7 +26,7 @@ index_count d = word d.table (d.at + 4)
 abbrev pub region_index : ItemData → ℕ → ℕ
 region_index d i = word d.table (d.at + 6 + 2 * i)
 
--- bytes of a row's lesser numbers; the greater ones, which stand before them, have twice as many
+-- bytes of a row's lesser numbers; the greater ones, which come before them, have twice as many
 abbrev pub unit : ItemData → ℕ
 unit d = if has_long_words d then 2 else 1
 

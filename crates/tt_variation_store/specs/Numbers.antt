@@ -18,7 +18,7 @@ word b at = number b at 2
 abbrev pub long : List ℕ → ℕ → ℕ
 long b at = number b at 4
 
--- one of so many numbers, read as two's complement
+-- a number below a span, read as two's complement
 abbrev pub twos_complement : ℕ → ℕ → ℤ
 twos_complement span n = if nat_lt (2 * n) span then pos n else pos n -ℤ pos span
 

@@ -1,4 +1,4 @@
--- Worked values: pairs' values by whole tables GDEF, where GPOS has -64. Each table is built by hand. HarfBuzz was asked for
+-- Worked values: pairs' values by whole tables GDEF, where GPOS has -64. Each table is built by hand. HarfBuzz 6.0.0 read
 -- most of them in fonts, and had another value where this file says so.
 use Rattle.std.specs.Prelude.{◌≡◌, refl, ℕ, List, [], ◌∷◌, take, None, ℤ, pos, negsuc}
 use Rattle.tt_axes.specs.Shares.{share_of_region_axis}

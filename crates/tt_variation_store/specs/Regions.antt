@@ -18,7 +18,7 @@ axis_count l = word l.table l.at
 abbrev pub region_count : RegionList → ℕ
 region_count l = word l.table (l.at + 2)
 
--- whether the list has regions of so many axes, and all of them fit; each axis of a region has three words
+-- whether the regions have the font's count of axes, and all of them fit; each axis of a region has three words
 abbrev pub is_whole : ℕ → RegionList → Bool
 is_whole axes l = (axis_count l == axes) && nat_le (l.at + 4 + 6 * axes * region_count l) (length l.table)
 
@@ -36,11 +36,11 @@ coordinate_in table at = pos 4 *ℤ signed table at 2
 abbrev pub ends_in : List ℕ → ℕ → Ends
 ends_in table at = record { start = coordinate_in table at; end = coordinate_in table (at + 4) }
 
--- what the axis at an offset leaves of a share
+-- a share after the axis at an offset
 abbrev pub share_by : List ℕ → ℕ → ℕ → ℤ → ℕ
 share_by table at share coordinate = share_of_region_axis share coordinate (coordinate_in table (at + 2)) (ends_in table at)
 
--- what a region's first axes leave of the whole
+-- a region's share after its first axes
 abbrev pub share_after : RegionList → ℕ → List ℤ → ℕ → ℕ
 share_after l region coordinates zero = whole_share
 share_after l region coordinates (suc axis) =

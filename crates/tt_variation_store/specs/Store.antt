@@ -23,7 +23,7 @@ abbrev pub has_header : Store → Bool
 has_header s =
     (format_of s == 1) && not (data_count s == 0) && nat_le (s.at + 8 + 4 * data_count s) (length s.table)
 
--- whether the store is whole for a font with so many axes
+-- whether the store is whole, by the font's count of axes
 abbrev pub is_store : ℕ → Store → Bool
 is_store axes s = has_header s && is_whole axes (region_list s)
 

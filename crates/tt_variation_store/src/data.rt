@@ -15,7 +15,7 @@ pub(crate) struct ItemData<'a> {
     at: usize,
     /// The count of rows.
     items: usize,
-    /// The count of a row's greater numbers, which stand before the lesser.
+    /// The count of a row's greater numbers, which come before the lesser.
     words: usize,
     /// Whether the greater numbers are int32 and the lesser int16, in place of int16 and int8.
     has_longs: bool,

@@ -1,5 +1,5 @@
-//! GDEF's store, by which values of GPOS vary. OpenType, "GDEF: Glyph Definition Table", and "OpenType Layout Common Table
-//! Formats", VariationIndex tables.
+//! GDEF's store, whose deltas vary the values of GPOS. OpenType, "GDEF: Glyph Definition Table", and "OpenType Layout
+//! Common Table Formats", VariationIndex tables.
 
 ghost use Rattle.std.specs.Prelude.{◌≡◌, ◌<◌, ◌≤◌, ◌^◌, length, unsigned_abs};
 ghost use Rattle.tt_core.specs.Limits.{font_limit};
@@ -13,8 +13,8 @@ use tt_axes::Coordinates;
 /// The format of a VariationIndex table.
 const VARIATION_INDEX: usize = 0x8000;
 
-/// GDEF's store, for a font with so many axes. None if there is none: GDEF has 18 bytes, its version is 1.3 or a later one
-/// of major version 1, its offset of a store is not 0, and the store is whole (profile).
+/// GDEF's store, by the font's count of axes. None if there is none: GDEF has 18 bytes, its version is 1.3 or a later one of
+/// major version 1, its offset of a store is not 0, and the store is whole (profile).
 pub fn gdef_store<'a>(table: &'a [u8], axes: usize) -> Option<VariationStore<'a>>
     requires size { length table.now ≤ font_limit }
     requires axes { axes ≤ 64 }

@@ -31,7 +31,7 @@ impl<'a> Model for Hvar<'a> {
 }
 
 impl<'a> Hvar<'a> {
-    /// The table of a font with so many axes. None if the table is not there: it has 20 bytes, its major version is 1, and
+    /// The table, by the font's count of axes. None if the table is not there: it has 20 bytes, its major version is 1, and
     /// its store is whole (profile).
     pub fn open(table: &'a [u8], axes: usize) -> Option<Hvar<'a>>
         requires size { length table.now ≤ font_limit }

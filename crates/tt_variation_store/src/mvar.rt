@@ -72,8 +72,8 @@ fn record_of(table: &[u8], height: Height) -> Option<usize>
 }
 
 impl<'a> Mvar<'a> {
-    /// The table of a font with so many axes. None if the table is not there: it has 12 bytes, its major version is 1,
-    /// its records have at least 8 bytes, and its store is whole (profile).
+    /// The table, by the font's count of axes. None if the table is not there: it has 12 bytes, its major version is 1, its
+    /// records have at least 8 bytes, and its store is whole (profile).
     pub fn open(table: &'a [u8], axes: usize) -> Option<Mvar<'a>>
         requires size { length table.now ≤ font_limit }
         requires axes { axes ≤ 64 }

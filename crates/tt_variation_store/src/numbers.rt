@@ -48,7 +48,7 @@ pub(crate) fn long(table: &[u8], at: usize) -> usize
     number(table, at, 4)
 }
 
-/// The count of numbers that so many bytes hold.
+/// The count of numbers that a number of bytes holds.
 fn span(size: usize) -> usize
     requires some { 0 < size }
     requires most { size ≤ 4 }

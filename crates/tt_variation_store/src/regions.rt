@@ -44,7 +44,7 @@ fn coordinate_at(table: &[u8], at: usize) -> i32
 }
 
 impl<'a> RegionList<'a> {
-    /// The list at an offset of a table, if all of it is there and its regions have so many axes.
+    /// The list at an offset of a table, if all of it is there and its regions have the font's count of axes.
     pub(crate) fn open(table: &'a [u8], at: usize, axes: usize) -> Option<RegionList<'a>>
         requires size { length table.now ≤ font_limit }
         requires place { at < 2 ^ 33 }
@@ -85,7 +85,7 @@ impl<'a> RegionList<'a> {
         self.at + 4 + 6 * (product(self.axes, region) + axis)
     }
 
-    /// What an axis leaves of a region's share.
+    /// A region's share after one more axis.
     fn share_by(&self, region: usize, axis: usize, share: Share, coordinate: i32) -> Share
         requires region { region < 65536 }
         requires axis { axis < 64 }

@@ -47,8 +47,8 @@ fn scaled(delta: i64, share: Share) -> i64
 }
 
 impl<'a> VariationStore<'a> {
-    /// The store at an offset of a table, for a font with so many axes. None if the store isn't whole there: its format
-    /// is 1, it has item variation data, its regions have the font's axes, and both lists fit (profile).
+    /// The store at an offset of a table, by the font's count of axes. None if the store isn't whole there: its format is
+    /// 1, it has item variation data, its regions have the font's axes, and both lists fit (profile).
     pub fn open(table: &'a [u8], at: usize, axes: usize) -> Option<VariationStore<'a>>
         requires size { length table.now ≤ font_limit }
         requires place { at < 2 ^ 32 }

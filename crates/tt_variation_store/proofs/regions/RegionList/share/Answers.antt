@@ -11,7 +11,7 @@ returns-then-share-eq0 c =
     let fits : SFits w32 c.at.result = search rules in
     let same : to_z w32 (of_z w32 c.at.result) ≡ c.at.result = simp to_z-of_z refl in
     let next : c.share_by-share.result.parts ≡ share_after c.args.self.now c.args.region cs (suc at.axis)
-    = rw (c.share_by-share.ensures.exact, same, c.at.ensures.exact, at.invariant.left) refl in
+    = rw (c.share_by-share.ensures.exact, same, c.at.ensures.exact, at.invariant.so_far) refl in
     let within : at.axis < length cs = omega (arith, at.invariant.all, c.loop-axis-test.true) in
     nothing-holds c.shares_fall.ensures.regions c.args.self.now c.args.region cs at.axis c.share_by-share.result.parts within next
     c.if-share-eq0.true
