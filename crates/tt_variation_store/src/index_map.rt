@@ -1,7 +1,7 @@
 //! The delta-set index map of HVAR. OpenType, "OpenType Font Variations Common Table Formats".
 
 ghost use Rattle.std.specs.Prelude.{◌≡◌, ◌+◌, ◌^◌, ◌<◌, ◌≤◌};
-ghost use Rattle.tt_variation_store.specs.IndexMap.{entry_count, first_entry, entry_size, inner_bits, entry_number, entry_of, index_in, index_of};
+ghost use Rattle.tt_variation_store.specs.IndexMap.{entry_count, first_entry, entry_size, inner_bits, entry_number, index_in, index_of};
 
 use crate::index::DeltaSetIndex;
 use crate::numbers::{long, number, product, word};

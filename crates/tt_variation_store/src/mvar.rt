@@ -5,7 +5,7 @@ ghost use Rattle.tt_core.specs.Limits.{font_limit};
 ghost use Rattle.tt_core.specs.Numbers.{unsigned_at};
 ghost use Rattle.tt_variation_store.specs.Mvar.{mvar_of, height_tag, record_place, record_of, record_delta, height_of};
 
-use crate::index::{DeltaSetIndex, index_at};
+use crate::index::index_at;
 use crate::numbers::{kept_int16, long, product, word};
 use crate::store::VariationStore;
 use std::marker::Model;

@@ -1,6 +1,6 @@
 //! The numbers of a table. A number that isn't whole within its table is 0 (profile).
 
-ghost use Rattle.std.specs.Prelude.{◌≡◌, ◌+◌, ◌*◌, ◌^◌, ◌<◌, ◌≤◌, pos, negsuc, ◌≤ℤ◌, unsigned_abs};
+ghost use Rattle.std.specs.Prelude.{◌≡◌, ◌*◌, ◌^◌, ◌<◌, ◌≤◌, unsigned_abs};
 ghost use Rattle.tt_core.specs.Numbers.{number_at};
 ghost use Rattle.tt_variation_store.specs.Numbers.{number, word, long, twos_complement, signed, kept_int16, kept_uint16};
 

@@ -1,9 +1,9 @@
 //! The regions of a store, and how much of their deltas holds at an instance. OpenType, "OpenType Font Variations Common
 //! Table Formats".
 
-ghost use Rattle.std.specs.Prelude.{◌≡◌, ◌+◌, ◌*◌, ◌^◌, ◌<◌, ◌≤◌, length, option_map, unsigned_abs};
+ghost use Rattle.std.specs.Prelude.{◌≡◌, ◌+◌, ◌*◌, ◌^◌, ◌<◌, ◌≤◌, length};
 ghost use Rattle.tt_core.specs.Limits.{font_limit};
-ghost use Rattle.tt_variation_store.specs.Regions.{RegionList, if_whole, axis_count, axis_place, coordinate_in, ends_in, share_by, share_after, region_share};
+ghost use Rattle.tt_variation_store.specs.Regions.{RegionList, if_whole, axis_place, coordinate_in, share_by, region_share};
 
 use crate::numbers::{product, signed_word, word};
 use std::marker::Model;

@@ -2,9 +2,9 @@
 
 ghost use Rattle.std.specs.Prelude.{◌≡◌, ◌+◌, ◌*◌, ◌^◌, ◌<◌, ◌≤◌, length, pos, ◌*ℤ◌, unsigned_abs};
 ghost use Rattle.tt_core.specs.Limits.{font_limit};
-ghost use Rattle.tt_variation_store.specs.Deltas.{delta, fine_delta, scaled_delta, sum_of_first, sum_of_row};
+ghost use Rattle.tt_variation_store.specs.Deltas.{delta, fine_delta, scaled_delta, sum_of_first};
 ghost use Rattle.tt_variation_store.specs.Items.{data_of, index_count};
-ghost use Rattle.tt_variation_store.specs.Store.{Store, store_at, region_list};
+ghost use Rattle.tt_variation_store.specs.Store.{store_at, region_list};
 
 use crate::data::ItemData;
 use crate::index::DeltaSetIndex;
