@@ -1,7 +1,7 @@
 -- OpenType, "OpenType Font Variations Common Table Formats": item variation data and its rows of deltas. A row that isn't
 -- there has no deltas (profile).
-use Rattle.std.specs.Prelude.{ℕ, ◌+◌, ◌*◌, ◌/◌, ◌%◌, Bool, ◌&&◌, ◌==◌, nat_lt, nat_le, if◌then◌else◌, List, length, Option, Some, None, ℤ}
-use Rattle.tt_variation_store.specs.Numbers.{word, long, signed}
+use Rattle.std.specs.Prelude.{◌≡◌, refl, ℕ, ◌+◌, ◌*◌, ◌/◌, ◌%◌, Bool, ◌&&◌, ◌==◌, nat_lt, nat_le, if◌then◌else◌, List, [], ◌∷◌, length, replicate, map, Option, Some, None, ℤ, pos, negsuc}
+use Rattle.tt_variation_store.specs.Numbers.{number, word, long, signed}
 use Rattle.tt_variation_store.specs.Store.{Store, data_count}
 
 -- item variation data: the bytes of the store's table, and an offset in the table
@@ -62,3 +62,34 @@ data_in s outer = record { table = s.table; at = s.at + long s.table (s.at + 8 +
 
 abbrev pub data_of : Store → ℕ → Option ItemData
 data_of s outer = if nat_lt outer (data_count s) then Some (data_in s outer) else None
+
+-- worked values: a row of 512 numbers, a row of 513, and one that is cut short
+abbrev zeros : ℕ → ℕ → ItemData
+zeros low count = record { table = 0 ∷ 1 ∷ 0 ∷ 0 ∷ 2 ∷ low ∷ replicate count 0; at = 0 }
+
+a_row_of_512 : row_of (zeros 0 1536) 0 ≡ Some 1030
+unfolding number
+a_row_of_512 = refl
+
+a_row_of_513 : row_of (zeros 1 1539) 0 ≡ None
+unfolding number
+a_row_of_513 = refl
+
+a_row_cut_short : row_of (zeros 0 1535) 0 ≡ None
+unfolding number
+a_row_cut_short = refl
+
+-- a row of a long and two words: -65536, 515 and -2
+abbrev long_row : ItemData
+long_row = record {
+  table = 0 ∷ 1 ∷ 0x80 ∷ 1 ∷ 0 ∷ 3 ∷ 0 ∷ 0 ∷ 0 ∷ 1 ∷ 0 ∷ 2 ∷ 0xFF ∷ 0xFF ∷ 0 ∷ 0 ∷ 2 ∷ 3 ∷ 0xFF ∷ 0xFE ∷ [];
+  at = 0;
+}
+
+its_place : row_of long_row 0 ≡ Some 12
+unfolding number
+its_place = refl
+
+its_numbers : map (delta_in long_row 12) (0 ∷ 1 ∷ 2 ∷ []) ≡ negsuc 65535 ∷ pos 515 ∷ negsuc 1 ∷ []
+unfolding number
+its_numbers = refl
