@@ -1,4 +1,6 @@
+mod Axes
 mod Portions
+mod Records
 mod Regions
 mod Shares
 mod Signed
