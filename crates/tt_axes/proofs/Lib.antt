@@ -1,4 +1,6 @@
 mod Axes
+mod Instances
+mod Lists
 mod Portions
 mod Records
 mod Regions

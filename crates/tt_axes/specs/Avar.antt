@@ -1,6 +1,6 @@
 -- OpenType, "avar: Axis Variations Table": for each axis a list of pairs, by which its coordinate is mapped. A table of
 -- another version, of another count of axes, or whose lists do not fit, is not there (profile).
-use Rattle.std.specs.Prelude.{◌≡◌, refl, ℕ, zero, suc, ◌+◌, ◌-◌, ◌*◌, ◌<◌, ◌≤◌, ℤ, pos, negsuc, ◌+ℤ◌, ◌-ℤ◌, ◌*ℤ◌, int_lt, Bool, true, false, ◌&&◌, ◌==◌, nat_le, if◌then◌else◌, List, [], ◌∷◌, ◌++◌, length, take, map, codes, Option, Some, None, Result, Ok, Err}
+use Rattle.std.specs.Prelude.{◌≡◌, refl, ℕ, zero, suc, ◌+◌, ◌-◌, ◌*◌, ℤ, pos, negsuc, ◌+ℤ◌, ◌-ℤ◌, ◌*ℤ◌, int_lt, Bool, true, false, ◌&&◌, ◌==◌, nat_le, if◌then◌else◌, List, [], ◌∷◌, ◌++◌, length, take, map, codes, Option, Some, None, Result, Ok, Err}
 use Rattle.std.specs.Int.{int_max, int_min}
 use Rattle.std.specs.List.{range_with_len}
 use Rattle.std.specs.Ordering.{int_eq}
@@ -10,6 +10,10 @@ use Rattle.tt_core.specs.Numbers.{signed16, unsigned_at}
 use Rattle.tt_core.specs.Search.{first_from}
 use Rattle.tt_axes.specs.Coordinates.{coordinate_at}
 use Rattle.tt_axes.specs.Rounding.{product_quotient}
+
+-- axisCount
+abbrev pub avar_axes : List ℕ → ℕ
+avar_axes avar = unsigned_at avar 6 2
 
 -- positionMapCount of the list at an offset
 abbrev pub pair_count : List ℕ → ℕ → ℕ
@@ -27,7 +31,7 @@ list_place avar (suc i) = list_end avar (list_place avar i)
 -- whether the table is one of a font with so many axes
 unfoldable pub is_avar : ℕ → List ℕ → Bool
 is_avar axes avar =
-    (unsigned_at avar 0 4 == 0x00010000) && (unsigned_at avar 6 2 == axes) && nat_le (list_place avar axes) (length avar)
+    (unsigned_at avar 0 4 == 0x00010000) && (avar_axes avar == axes) && nat_le (list_place avar axes) (length avar)
 
 abbrev pub if_avar : ℕ → Result (Option (List ℕ)) Fault → Option (List ℕ)
 if_avar axes (Ok (Some avar)) = if is_avar axes avar then Some avar else None

@@ -1,6 +1,6 @@
 -- OpenType, "fvar: Font Variations Table", "VariationAxisRecord"; "OpenType Font Variations Overview", "Coordinate Scales
 -- and Normalization". A coordinate is not rounded to 2.14 (profile).
-use Rattle.std.specs.Prelude.{◌≡◌, refl, ℕ, ◌+◌, ◌≤◌, ℤ, pos, negsuc, neg_ℤ, int_lt, int_le, Bool, ◌&&◌, if◌then◌else◌, List, [], ◌∷◌, map, codes, slice_range}
+use Rattle.std.specs.Prelude.{◌≡◌, refl, ℕ, ◌+◌, ℤ, pos, negsuc, neg_ℤ, int_lt, int_le, ◌&&◌, if◌then◌else◌, List, [], ◌∷◌, map, codes, slice_range}
 use Rattle.tt_core.specs.Numbers.{signed32, unsigned_at}
 use Rattle.tt_axes.specs.declared.axis.Axis.{Axis}
 use Rattle.tt_axes.specs.Fvar.{axis_place, weights}

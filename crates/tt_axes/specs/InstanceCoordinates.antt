@@ -1,10 +1,10 @@
 -- The coordinates of an instance of a font: fvar, then avar where it is there.
-use Rattle.std.specs.Prelude.{◌≡◌, ℕ, Bool, List, Option, Result, Ok, IsOkAnd, ◌⊎◌, ℤ}
+use Rattle.std.specs.Prelude.{ℕ, List, Option, Result, Ok, IsOkAnd, ◌⊎◌, ℤ}
 use Rattle.tt_core.specs.Directory.{Directory}
 use Rattle.tt_core.specs.Faults.{Fault}
 use Rattle.tt_core.specs.Outcomes.{◌>>=◌}
 use Rattle.tt_axes.specs.Avar.{avar_of, mapped_by}
-use Rattle.tt_axes.specs.declared.instance.AxisValue.{AxisValue}
+use Rattle.tt_axes.specs.declared.values.AxisValue.{AxisValue}
 use Rattle.tt_axes.specs.Fvar.{axis_count, fvar_of, IsFvarDefect}
 use Rattle.tt_axes.specs.Instances.{coordinates_in, IsWrongInstance}
 

@@ -1,13 +1,13 @@
 -- OpenType, "fvar: Font Variations Table", "InstanceRecord"; CSS Fonts, "Font variation settings": of the values that a
 -- tag is given, the last one counts. A value counts for each axis with its tag (profile).
-use Rattle.std.specs.Prelude.{◌≡◌, refl, ℕ, ◌+◌, ◌*◌, ◌<◌, ◌≤◌, ℤ, pos, negsuc, Bool, true, false, not, nat_lt, if◌then◌else◌, List, [], ◌∷◌, ◌++◌, map, codes, bytes_eq, is_some, Option, Some, None, Result, Ok, Err, ◌⊎◌}
+use Rattle.std.specs.Prelude.{◌≡◌, refl, ℕ, ◌+◌, ◌*◌, ℤ, pos, negsuc, Bool, true, false, not, nat_lt, if◌then◌else◌, List, [], ◌∷◌, ◌++◌, map, codes, bytes_eq, is_some, Option, Some, None, Result, Ok, Err, ◌⊎◌}
 use Rattle.std.specs.List.{list_all, range_with_len}
 use Rattle.tt_core.specs.declared.fault.Why.TheVariants as why
 use Rattle.tt_core.specs.Faults.{Fault, fault_at}
 use Rattle.tt_core.specs.Numbers.{unsigned_at}
 use Rattle.tt_core.specs.Search.{first_below}
-use Rattle.tt_axes.specs.declared.instance.AxisValue.{AxisValue}
-use Rattle.tt_axes.specs.declared.instance.NamedInstance.{NamedInstance}
+use Rattle.tt_axes.specs.declared.values.AxisValue.{AxisValue}
+use Rattle.tt_axes.specs.declared.values.NamedInstance.{NamedInstance}
 use Rattle.tt_axes.specs.Axes.{axis_of, axis_tag, coordinate_on, fixed_at}
 use Rattle.tt_axes.specs.Fvar.{axis_count, fvar_tag, instance_count, instance_place, weights, with_at}
 

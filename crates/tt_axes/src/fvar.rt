@@ -9,12 +9,12 @@ ghost use Rattle.tt_axes.specs.Fvar.{axis_count, axis_limit, fvar_in, fvar_of, i
 ghost use Rattle.tt_axes.specs.Instances.{named_instance, place_in};
 
 use crate::axis::Axis;
-use crate::instance::NamedInstance;
+use crate::values::NamedInstance;
 use crate::words::{fixed, long, tag, word};
 use std::marker::Model;
 use tt_core::{Dir, Fault, Why};
 
-const FVAR: [u8; 4] = *b"fvar";
+pub(crate) const FVAR: [u8; 4] = *b"fvar";
 
 /// The table fvar. Clauses see its bytes.
 #[derive(Drop)]

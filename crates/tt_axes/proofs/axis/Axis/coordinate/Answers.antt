@@ -1,4 +1,4 @@
-use Rattle.std.proofs.Common.{◌≡◌, ◌≤◌, SFits, w32, rules, arith}
+use Rattle.std.proofs.Common.{SFits, w32, rules}
 use Rattle.std.proofs.lemmas.Int.{to_z-of_z}
 use Rattle.tt_axes.proofs.Axes.{above-default, below-default, turned, unsigned}
 use Rattle.tt_axes.proofs.axis.Axis.coordinate.Goals as goal

@@ -1,4 +1,4 @@
-use Rattle.std.proofs.Common.{◌≡◌, SFits, w32, rules, refl}
+use Rattle.std.proofs.Common.{SFits, w32, rules, refl}
 use Rattle.std.proofs.lemmas.Int.{to_z-of_z}
 use Rattle.tt_axes.specs.Axes.{axis_of}
 use Rattle.tt_axes.proofs.fvar.Fvar.axis.Goals as goal

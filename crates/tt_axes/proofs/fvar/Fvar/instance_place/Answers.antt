@@ -1,5 +1,5 @@
-use Rattle.std.proofs.Common.{◌≡◌, ◌+◌, ◌*◌, ◌<◌, ◌≤◌, length, refl, arith}
-use Rattle.tt_axes.specs.Fvar.{axis_count, instance_count, instance_place}
+use Rattle.std.proofs.Common.{◌≡◌, ◌+◌, ◌*◌, ◌<◌, refl, arith}
+use Rattle.tt_axes.specs.Fvar.{instance_count, instance_place}
 use Rattle.tt_axes.proofs.Records.{record-fits}
 use Rattle.tt_axes.proofs.fvar.Fvar.instance_place.Goals as goal
 

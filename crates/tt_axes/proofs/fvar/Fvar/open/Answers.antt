@@ -1,4 +1,3 @@
-use Rattle.std.proofs.Common.{◌≡◌}
 use Rattle.tt_core.specs.Directory.{HasNo-IsDefectIn}
 use Rattle.tt_axes.specs.Fvar.{fvar_tag, IsBadFvar}
 use Rattle.tt_axes.proofs.fvar.Fvar.open.Goals as goal
