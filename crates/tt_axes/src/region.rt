@@ -13,7 +13,7 @@ pub struct Ends {
 }
 
 /// A share times `part / whole`, rounded to the nearest whole number, a half up.
-fn portion(share: Share, part: u32, whole: u32) -> Share
+pub(crate) fn portion(share: Share, part: u32, whole: u32) -> Share
     requires part { part ≤ whole }
     requires some { 0 < whole }
     ensures exact { result.parts ≡ portion share.parts part whole }
