@@ -8,6 +8,9 @@ ghost use Rattle.tt_variation_store.specs.Items.{ItemData, index_count, region_i
 use crate::numbers::{product, signed, word};
 use std::marker::Model;
 
+/// The most numbers of a row (profile). 76 is the most in 151 variable fonts.
+const MOST_REGIONS: usize = 512;
+
 /// Item variation data. Clauses see the bytes of the store's table, and the offset in the table.
 #[derive(Drop)]
 pub(crate) struct ItemData<'a> {
@@ -75,13 +78,13 @@ impl<'a> ItemData<'a> {
         product(self.unit(), self.words + self.regions)
     }
 
-    /// The offset of a row, if the row is there. At most 512 numbers are in a row (profile).
+    /// The offset of a row, if the row is there. A row has at most 512 numbers (profile).
     pub(crate) fn row(&self, inner: usize) -> Option<usize>
         ensures exact { result ≡ row_of self.now inner }
         ensures near { IfSome result (λ row. row ≤ font_limit) }
         ensures few { IfSome result (λ _. index_count self.now ≤ most_regions) }
     {
-        if inner >= self.items || self.words > self.regions || self.regions > 512 {
+        if inner >= self.items || self.words > self.regions || self.regions > MOST_REGIONS {
             return None;
         }
         let size = self.row_size();

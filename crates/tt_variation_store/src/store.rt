@@ -3,7 +3,7 @@
 ghost use Rattle.std.specs.Prelude.{◌≡◌, ◌+◌, ◌*◌, ◌^◌, ◌<◌, ◌≤◌, length, pos, ◌*ℤ◌, unsigned_abs};
 ghost use Rattle.tt_core.specs.Limits.{font_limit};
 ghost use Rattle.tt_variation_store.specs.Deltas.{delta, fine_delta, scaled_delta, sum_of_first};
-ghost use Rattle.tt_variation_store.specs.Items.{data_of, index_count};
+ghost use Rattle.tt_variation_store.specs.Items.{data_of, index_count, most_regions};
 ghost use Rattle.tt_variation_store.specs.Store.{store_at, region_list};
 
 use crate::data::ItemData;
@@ -115,7 +115,7 @@ impl<'a> VariationStore<'a> {
     /// The sum of the numbers of the row at an offset, at the instance, in 1/65536 font unit.
     fn sum(&self, data: &ItemData, row: usize, coordinates: &Coordinates) -> i64
         requires row { row ≤ font_limit }
-        requires few { index_count data.now ≤ 512 }
+        requires few { index_count data.now ≤ most_regions }
         ensures exact { result ≡ sum_of_first (region_list self.now) coordinates.now data.now row (index_count data.now) }
         ensures bound { unsigned_abs result ≤ 2 ^ 56 }
     {
