@@ -32,6 +32,7 @@ use Rattle.tt_render_texts.specs.Reports.{label_report_of}
 use Rattle.tt_render_settings.specs.Settings.{job_by, plain_setting}
 use Rattle.tt_render_texts.specs.Answers.{LabelTold, TextAnswer}
 use Rattle.tt_render_settings.specs.Texts.{TextRefusal, as_text}
+use Rattle.tt_render_settings.specs.Lines.{stream}
 use Rattle.tt_render_settings.specs.TextsOutcome.{FontAnswers, IsNotReady}
 use Rattle.tt_render_streams.specs.Traffic.{Traffic}
 use Rattle.tt_strike.specs.Defects.{IsLineDefect}
@@ -117,7 +118,7 @@ FileReadies answer opened (Err fault) = IsNotReady answer opened fault.refusal f
 
 -- a call stopped before it made the file, or memory ran out by then; or it made the file by a font
 abbrev pub FontFileGives : {V : Type 0} → FontFile → Result V TextsFault → Traffic → Errors → Type 0
-FontFileGives a r t e = FontAnswers (setting_of a) (λ s. bdf_outcome a s.face) a.text.now r t e
+FontFileGives a r t e = FontAnswers stream (setting_of a) (λ s. bdf_outcome a s.face) a.text.now r t e
 
 -- a defect of a face that stops its file: of the tables and programs that glyphs need, or of a glyph of the file
 abbrev pub IsGlyphsDefect : FontFile → Face → Fault → Type 0

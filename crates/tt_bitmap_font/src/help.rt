@@ -90,6 +90,7 @@ pub fn bdf_help(
         | Refusal::FontRead
         | Refusal::FontLarge
         | Refusal::Read
+        | Refusal::Create
         | Refusal::Write { .. }
         | Refusal::Many
         | Refusal::Memory => plain_help(alloc, fault.refusal, hint, asked, folder),

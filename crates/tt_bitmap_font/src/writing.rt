@@ -48,6 +48,7 @@ fn hint_for(refusal: Refusal, file: &[u8], face: u32) -> Option<Hint>
         | Refusal::FontRead
         | Refusal::FontLarge
         | Refusal::Read
+        | Refusal::Create
         | Refusal::Write { .. }
         | Refusal::Many
         | Refusal::Memory => None,

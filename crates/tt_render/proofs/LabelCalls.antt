@@ -16,6 +16,7 @@ use Rattle.tt_render_texts.specs.declared.refusal.TextsFault.{TextsFault}
 use Rattle.tt_render_settings.specs.declared.setting.Setting.{Setting}
 use Rattle.tt_render.specs.Labels.{FileLabelsGive, FontLabelsGive, IsUnopened, StopsUnopened, hint_for}
 use Rattle.tt_render_texts.specs.Printing.{Errors}
+use Rattle.tt_render_settings.specs.Lines.{Outlet}
 use Rattle.tt_render_settings.specs.Settings.{setting_tested, strike_of}
 use Rattle.tt_render_settings.specs.TextsOutcome.{StopsFor}
 use Rattle.tt_render_texts.specs.Views.{before_lines, refusal_of_draw, refusal_of_run}
@@ -62,6 +63,7 @@ stopped l file (reason.Missing c) None f passes read is = absurd is
 stopped l file reason.FontRead None f passes read is = absurd is
 stopped l file reason.FontLarge None f passes read is = absurd is
 stopped l file reason.Read None f passes read is = absurd is
+stopped l file reason.Create None f passes read is = absurd is
 stopped l file (reason.Write sent) None f passes read is = absurd is
 stopped l file reason.Many None f passes read is = absurd is
 stopped l file (reason.Font fault) (Some n) f passes read is = absurd is
@@ -72,15 +74,16 @@ stopped l file (reason.Missing c) (Some n) f passes read is = absurd is
 stopped l file reason.FontRead (Some n) f passes read is = absurd is
 stopped l file reason.FontLarge (Some n) f passes read is = absurd is
 stopped l file reason.Read (Some n) f passes read is = absurd is
+stopped l file reason.Create (Some n) f passes read is = absurd is
 stopped l file (reason.Write sent) (Some n) f passes read is = absurd is
 stopped l file reason.Many (Some n) f passes read is = absurd is
 
 -- the labels of lines by the bytes of a font, and by the reader that gave these
-pub by_reader : {V : Type 0} (l : Label) (file : List ℕ) (r : Result V TextsFault) (f : FontReader) (t : Traffic)
-    (e : Errors) → setting_tested l.setting ≡ Ok tt → FontIsRead f file → FileLabelsGive l file r t e
-    → FontLabelsGive l r f t e
-by_reader l file (Ok v) f t e passes read (inl (stops, rest)) = absurd stops
-by_reader l file (Ok v) f t e passes read (inr (s, opened, gives)) = inr (passes, file, read, s, opened, gives)
-by_reader l file (Err fault) f t e passes read (inl (stops, rest)) =
+pub by_reader : (to : Outlet) (l : Label) (file : List ℕ) (r : Result (Option TextsFault) TextsFault) (f : FontReader)
+    (t : Traffic) (e : Errors) → setting_tested l.setting ≡ Ok tt → FontIsRead f file → FileLabelsGive to l file r t e
+    → FontLabelsGive to l r f t e
+by_reader to l file (Ok v) f t e passes read (inl (stops, rest)) = absurd stops
+by_reader to l file (Ok v) f t e passes read (inr (s, opened, gives)) = inr (passes, file, read, s, opened, gives)
+by_reader to l file (Err fault) f t e passes read (inl (stops, rest)) =
     inl (stopped l file fault.refusal fault.line f passes read stops, rest)
-by_reader l file (Err fault) f t e passes read (inr (s, opened, gives)) = inr (passes, file, read, s, opened, gives)
+by_reader to l file (Err fault) f t e passes read (inr (s, opened, gives)) = inr (passes, file, read, s, opened, gives)

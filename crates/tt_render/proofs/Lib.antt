@@ -1,3 +1,4 @@
 mod LabelCalls
 mod LabelLines
 mod LabelTexts
+mod SentLabels

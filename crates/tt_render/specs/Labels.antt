@@ -1,6 +1,6 @@
 -- No part of the standard: the answer of a text that is drawn as a label, by a font at a size (profile). A label is the
 -- picture of the lines of its text.
-use Rattle.std.specs.Prelude.{◌≡◌, ◌⊎◌, refl, ℕ, List, [], ◌∷◌, length, find, chars, string_bytes, Option, Some, None, Result, Ok, Err, ⊤}
+use Rattle.std.specs.Prelude.{◌≡◌, ◌⊎◌, refl, ℕ, false, List, [], ◌∷◌, length, find, chars, encode_utf8_all, string_bytes, Option, Some, None, Result, Ok, Err, ⊤}
 use Rattle.tt_advice.specs.Advice.{advice}
 use Rattle.tt_advice.specs.declared.hint.Hint.{Hint}
 use Rattle.tt_advice.specs.declared.signs.Sign.{Sign}
@@ -11,28 +11,35 @@ use Rattle.tt_cmap.specs.Lacking.{distinct_after, lacking_of}
 use Rattle.tt_cmap.specs.Maps.{CharacterMap}
 use Rattle.tt_core.specs.declared.collection.Reading.{Reading}
 use Rattle.tt_core.specs.declared.collection.Reading.TheVariants as reading
-use Rattle.tt_strike.specs.picture.Pictures.{IsReady}
-use Rattle.tt_strike.specs.Refusals.{Refused, font}
+use Rattle.tt_core.specs.Outcomes.{◌>>=◌}
+use Rattle.tt_strike.specs.Job.{tested}
+use Rattle.tt_strike.specs.Refusals.{Refused, as_job, font}
 use Rattle.tt_strike.specs.Strikes.{Strike, job_of}
-use Rattle.tt_render_streams.specs.File.{as_file, picture_bytes, piece_bytes}
+use Rattle.tt_render_streams.specs.declared.pictures.NotPut.{NotPut}
+use Rattle.tt_render_streams.specs.File.{as_file_in}
+use Rattle.tt_render_streams.specs.Formed.{IsWhole, formed_bytes, formed_picture}
+use Rattle.tt_render_streams.specs.Putting.{IsPart}
+use Rattle.tt_rows.specs.Composed.{composed}
+use Rattle.tt_render_settings.specs.Help.{label_lines_of}
 use Rattle.tt_render_settings.specs.declared.label.Label.{Label}
-use Rattle.tt_render_settings.specs.declared.label.Labelled.{Labelled}
+use Rattle.tt_render_settings.specs.declared.label.LabelsDrawn.{LabelsDrawn}
 use Rattle.tt_render.specs.declared.label_answers.ReadyLabel.{ReadyLabel}
 use Rattle.tt_render_texts.specs.declared.refusal.Refusal.{Refusal}
 use Rattle.tt_render_texts.specs.declared.refusal.Refusal.TheVariants as reason
 use Rattle.tt_render_texts.specs.declared.refusal.TextsFault.{TextsFault}
 use Rattle.tt_render_texts.specs.declared.label_reports.Signs.{Signs}
-use Rattle.tt_render_settings.specs.Lines.{line_answer}
+use Rattle.tt_render_settings.specs.Lines.{Drawing, Outlet, line_answer}
 use Rattle.tt_render_texts.specs.Printing.{Errors}
 use Rattle.tt_render_texts.specs.Reports.{label_report_of, told_view}
-use Rattle.tt_render_settings.specs.Settings.{setting_tested, strike_of}
-use Rattle.tt_label.specs.Label.{label_cost, label_outcome, label_report}
+use Rattle.tt_render_settings.specs.Settings.{job_by, setting_tested, strike_of}
+use Rattle.tt_label.specs.Label.{label_cost, label_glyphs, label_outcome, label_report}
 use Rattle.tt_line.specs.Labels.{label_lines}
 use Rattle.tt_render_texts.specs.Answers.{LabelTold, TextAnswer}
-use Rattle.tt_render_settings.specs.Texts.{TextRefusal, answer_with, missing_among}
-use Rattle.tt_render_settings.specs.TextsOutcome.{FontAnswers, IsIdle, IsNotReady, LinesGive, OpensFont, StopsAtFont}
+use Rattle.tt_render_settings.specs.Texts.{TextRefusal, answer_with, as_text, missing_among}
+use Rattle.tt_render_settings.specs.TextsOutcome.{FontAnswers, IsIdle, IsNotReady, LinesGive, OpensFont, StopsAtFont, line_fault, telling}
 use Rattle.tt_render_streams.specs.Traffic.{Traffic}
 use Rattle.tt_render_streams.specs.Reading.{FontReader}
+use Rattle.tt_render_texts.specs.Views.{refusal_of_put}
 
 -- the first character of some lines that has a sign
 abbrev pub or_later : Option ℕ → Option ℕ → Option ℕ
@@ -78,14 +85,27 @@ label_told l file text = record {
   font = label_notes l file;
 }
 
--- the answer of a label's text by a font's tables at a size
-unfoldable pub label_answer : Label → Strike → List ℕ → Result TextAnswer TextRefusal
-label_answer l s text =
+-- a text with composed letters. No line feed is one of a pair that composes, so each line is composed by itself
+unfoldable pub composed_text : CharacterMap → List ℕ → List ℕ
+composed_text m text = encode_utf8_all (composed m (chars text))
+
+-- the glyphs of its lines
+abbrev pub composed_glyphs : CharacterMap → List ℕ → List ℕ
+composed_glyphs m text = label_glyphs m (composed_text m text)
+
+-- the answer of a label's text, whose letters are composed, by a font's tables at a size
+unfoldable pub composed_answer : Label → Strike → List ℕ → Result TextAnswer TextRefusal
+composed_answer l s text =
     answer_with (Some (label_told l s.face.directory.file text))
-    (as_file (label_outcome s.face (job_of s text l.setting.margin) l.align))
+    (as_file_in l.format (label_outcome s.face (job_of s text l.setting.margin) l.align))
     (label_report s.face (job_of s text l.setting.margin) l.align)
     (missing_among l.setting.missing (lines_lacking s.face.cmap (label_lines text)))
     (label_cost s.face (job_of s text l.setting.margin) l.align)
+
+-- the answer of a label's text: its characters are counted before they are composed
+unfoldable pub label_answer : Label → Strike → List ℕ → Result TextAnswer TextRefusal
+label_answer l s text =
+    as_text (as_job (tested (job_by l.setting text))) >>= λ u. composed_answer l s (composed_text s.face.cmap text)
 
 -- the answer of a line that is drawn as a label
 unfoldable pub line_labelled : Label → Strike → List ℕ → Result TextAnswer TextRefusal
@@ -94,21 +114,35 @@ line_labelled l s line = line_answer (label_answer l s) line
 -- the answer that is ready to be written
 abbrev pub label_view : ReadyLabel → TextAnswer
 label_view r = record {
-  bytes = picture_bytes r.drawn.picture;
-  unfitted = r.drawn.picture.unfitted;
+  bytes = formed_bytes r.formed;
+  unfitted = (formed_picture r.formed).unfitted;
   lacking = r.lacking.items;
-  cost = r.drawn.picture.cost;
+  cost = (formed_picture r.formed).cost;
   label = Some (told_view r.told);
 }
 
 -- its report, as it is printed
 abbrev pub TellsLabel : Option ℕ → ReadyLabel → Type 0
 TellsLabel number r =
-    string_bytes r.report ≡ label_report_of number (told_view r.told) (length r.drawn.picture.unfitted) r.lacking.items
+    string_bytes r.report ≡ label_report_of number (told_view r.told) (length (formed_picture r.formed).unfitted) r.lacking.items
 
--- no row of its picture is made yet, and there is memory for writing it
+-- its picture is written without more memory
 abbrev pub CanGoOut : ReadyLabel → Type 0
-CanGoOut r = IsReady r.drawn.picture × (length r.drawn.piece.items ≡ piece_bytes r.drawn.picture)
+CanGoOut r = IsWhole r.formed
+
+-- why a label is not in its place, and what stands there of it
+abbrev pub IsNotSent : (List ℕ → List ℕ) → ℕ → Option (List ℕ) → Option (List ℕ) → List ℕ → TextsFault → Type 0
+IsNotSent shown number before after bytes e =
+    (f : NotPut) × (e ≡ record { line = Some number; refusal = refusal_of_put f }) × IsPart shown before after bytes f
+
+-- what is told of a refused line
+abbrev pub label_told_of : Label → ℕ → TextRefusal → List ℕ
+label_told_of l number why = label_lines_of l false (line_fault number why) None
+
+-- the drawing of lines as labels
+abbrev pub labels_drawing : Outlet → Label → Strike → Drawing
+labels_drawing to l s =
+    record { to = to; answer = line_labelled l s; tells = telling l.setting.keep_going (label_told_of l) }
 
 -- what is reported to a person of the font's file, where the font is refused
 abbrev pub hint_for : Refusal → List ℕ → Reading → Option Hint
@@ -116,23 +150,27 @@ hint_for (reason.Font f) file r = Some (advice f file (face_number r))
 hint_for why file r = None
 
 -- the hint of an answer
-abbrev pub hint_of : Result (Unit {0}) TextsFault → List ℕ → Reading → Option Hint
+abbrev pub hint_of : Result (Option TextsFault) TextsFault → List ℕ → Reading → Option Hint
 hint_of (Ok u) file r = None
 hint_of (Err fault) file r = hint_for fault.refusal file r
 
 -- the hint beside an answer is that about the font's file
-abbrev pub HintsBy : Label → Labelled → List ℕ → Type 0
+abbrev pub HintsBy : Label → LabelsDrawn → List ℕ → Type 0
 HintsBy l e file = e.hint ≡ hint_of e.answer file l.setting.opening.reading
 
 -- a call stopped before it drew the text, or memory ran out by then; or it drew the text by a font
-abbrev pub FontLabelGives : {V : Type 0} → Label → List ℕ → Result V TextsFault → Traffic → Errors → Type 0
-FontLabelGives l text r t e = FontAnswers l.setting (λ s. label_answer l s text) text r t e
+abbrev pub FontLabelGives : {V : Type 0} → Outlet → Label → List ℕ → Result V TextsFault → Traffic → Errors → Type 0
+FontLabelGives to l text r t e = FontAnswers to l.setting (λ s. label_answer l s text) text r t e
 
--- a call stopped before it read a line, or drew the lines of a text by a font, each as a label of its own
-abbrev pub FontLabelsGive : {V : Type 0} → Label → Result V TextsFault → FontReader → Traffic → Errors → Type 0
-FontLabelsGive l r f t e =
+-- a call drew the lines of a text by an opened font, each as a label of its own
+abbrev pub LabelsGive : Outlet → Label → Strike → Result (Option TextsFault) TextsFault → Traffic → Errors → Type 0
+LabelsGive to l s r t e = LinesGive (λ first. first) (labels_drawing to l s) r t e
+
+-- a call stopped before it read a line, or drew the lines of a text by a font
+abbrev pub FontLabelsGive : Outlet → Label → Result (Option TextsFault) TextsFault → FontReader → Traffic → Errors → Type 0
+FontLabelsGive to l r f t e =
     (StopsAtFont (setting_tested l.setting) (strike_of l.setting) r f × IsIdle t e)
-    ⊎ OpensFont (setting_tested l.setting) (strike_of l.setting) f (λ s. LinesGive (line_labelled l s) r t e)
+    ⊎ OpensFont (setting_tested l.setting) (strike_of l.setting) f (λ s. LabelsGive to l s r t e)
 
 -- the same by the bytes of the font: a table that every text needs is refused, or memory ran out, before a line was read;
 -- or the lines are drawn
@@ -145,10 +183,10 @@ abbrev pub StopsUnopened : {V : Type 0} → Result Strike Refused → Result V T
 StopsUnopened opened (Ok v) = ⊥
 StopsUnopened opened (Err fault) = IsUnopened opened fault.refusal fault.line
 
-abbrev pub FileLabelsGive : {V : Type 0} → Label → List ℕ → Result V TextsFault → Traffic → Errors → Type 0
-FileLabelsGive l file r t e =
+abbrev pub FileLabelsGive : Outlet → Label → List ℕ → Result (Option TextsFault) TextsFault → Traffic → Errors → Type 0
+FileLabelsGive to l file r t e =
     (StopsUnopened (strike_of l.setting file) r × IsIdle t e)
-    ⊎ ((s : Strike) × (strike_of l.setting file ≡ Ok s) × LinesGive (line_labelled l s) r t e)
+    ⊎ ((s : Strike) × (strike_of l.setting file ≡ Ok s) × LabelsGive to l s r t e)
 
 -- one label by an opened font, or the refusal
 abbrev pub LabelReadies : (Strike → Result TextAnswer TextRefusal) → Result Strike Refused → Result ReadyLabel TextsFault

@@ -1,17 +1,21 @@
-//! Draws one text as a label, or each line of a text in order, from a reader to a writer.
+//! Draws one text as a label, or each line of a text in order, and puts the pictures into their places.
 
-ghost use Rattle.std.specs.Prelude.{◌≡◌, ◌≤◌, false, length, Ok, Err, None, IfOk, IfSome, Some};
+ghost use Rattle.std.specs.Io.KnownBytes.{Appends};
+ghost use Rattle.std.specs.Prelude.{◌≡◌, ◌≤◌, true, false, length, is_err, Ok, Err, None, IfErr, IfOk, IfSome, OnErr, OnOk, Some};
 ghost use Rattle.tt_core.specs.Limits.{font_limit};
 ghost use Rattle.tt_core.specs.Outcomes.{GivesUnless, IfTold};
-ghost use Rattle.tt_label.specs.Label.{label_glyphs};
+ghost use Rattle.tt_render_streams.specs.Formed.{formed_bytes};
 ghost use Rattle.tt_render_streams.specs.Traffic.{traffic_of};
 ghost use Rattle.tt_render_streams.specs.Reading.{font_reader_of};
-ghost use Rattle.tt_render.specs.Labels.{CanGoOut, FileLabelsGive, FontLabelGives, FontLabelsGive, HintsBy, LabelReadies, TellsLabel, hint_for, label_answer, label_notes, label_view, line_labelled};
+ghost use Rattle.tt_render.specs.Labels.{CanGoOut, FileLabelsGive, FontLabelGives, FontLabelsGive, HintsBy, IsNotSent, LabelReadies, LabelsGive, TellsLabel, composed_glyphs, hint_for, label_answer, label_notes, label_view, line_labelled};
 ghost use Rattle.tt_render_texts.specs.Lines.{line_limit};
 ghost use Rattle.tt_render_settings.specs.LinesDefects.{IsDefectBy, IsTextDefect, LinesTell, LinesTellDefects, LinesTellDefectsOf};
-ghost use Rattle.tt_render_texts.specs.Printing.{errors_of};
+ghost use Rattle.tt_render_settings.specs.Help.{label_lines_of};
+ghost use Rattle.tt_render_settings.specs.Lines.{places};
+ghost use Rattle.tt_render_texts.specs.Printing.{PrintsBehind, errors_of};
+ghost use Rattle.tt_render_texts.specs.Reports.{told_of};
 ghost use Rattle.tt_render_settings.specs.Settings.{job_by, setting_tested, strike_of};
-ghost use Rattle.tt_render_settings.specs.TextsOutcome.{IsOfText, LinesGive, TextTellsDefects, TextTellsDefectsOf, refusal_font_fault, told, without_line};
+ghost use Rattle.tt_render_settings.specs.TextsOutcome.{IsOfText, StopsPassing, TextTellsDefects, TextTellsDefectsOf, earlier, goes_on, refusal_font_fault, told, without_line};
 ghost use Rattle.tt_render_texts.specs.Views.{before_lines};
 ghost use Rattle.tt_strike.specs.Job.{tested};
 
@@ -20,9 +24,13 @@ use std::alloc::Global;
 use std::str;
 use tt_advice::{Hint, advice};
 use tt_core::{Sink, Source};
-use tt_render_settings::{Label, Labelled, next_line, test_setting};
-use tt_render_streams::{read_font, write_picture};
-use tt_render_texts::{LineReader, Refusal, TextsFault, print_text, refusal_of_run, texts_fault};
+use tt_render_settings::{
+    Found, Label, LabelsDrawn, earlier, goes_on, label_lines, next_line, test_setting,
+};
+use tt_render_streams::{Pictures, read_font};
+use tt_render_texts::{
+    LineReader, Refusal, TextsFault, print_text, refusal_of_put, refusal_of_run, texts_fault,
+};
 use tt_strike::{Face, Strike, test_job};
 
 /// What is reported to a person of the font's file, where the font is refused.
@@ -42,6 +50,7 @@ fn hint_for(refusal: Refusal, file: &[u8], asked: &Label) -> Option<Hint>
         | Refusal::FontRead
         | Refusal::FontLarge
         | Refusal::Read
+        | Refusal::Create
         | Refusal::Write { .. }
         | Refusal::Many
         | Refusal::Memory => None,
@@ -49,33 +58,33 @@ fn hint_for(refusal: Refusal, file: &[u8], asked: &Label) -> Option<Hint>
 }
 
 /// A fault with the hint about the font's file.
-fn hinted(fault: TextsFault, file: &[u8], asked: &Label) -> Labelled
+fn hinted(fault: TextsFault, file: &[u8], asked: &Label) -> LabelsDrawn
     requires { length file.now ≤ font_limit }
     ensures { result ≡ record { answer = Err fault; hint = hint_for fault.refusal file.now asked.now.setting.opening.reading } }
 {
     let hint = hint_for(fault.refusal, file, asked);
-    Labelled {
+    LabelsDrawn {
         answer: Err(fault),
         hint,
     }
 }
 
 /// The fault of a call that no line stopped, and no byte of the font.
-fn unhinted(refusal: Refusal) -> Labelled
+fn unhinted(refusal: Refusal) -> LabelsDrawn
     ensures { result ≡ record { answer = Err (before_lines refusal); hint = None } }
 {
-    Labelled {
+    LabelsDrawn {
         answer: Err(texts_fault(None, refusal)),
         hint: None,
     }
 }
 
-/// All was drawn.
-fn done() -> Labelled
-    ensures { result ≡ record { answer = Ok tt; hint = None } }
+/// All was drawn, but for the lines that were refused and passed over, the first for this fault.
+fn done(first: Option<TextsFault>) -> LabelsDrawn
+    ensures { result ≡ record { answer = Ok first; hint = None } }
 {
-    Labelled {
-        answer: Ok(()),
+    LabelsDrawn {
+        answer: Ok(first),
         hint: None,
     }
 }
@@ -93,7 +102,7 @@ fn draw<'n>(
     requires notes { notes.now ≡ label_notes asked.now file.now }
     requires tested { tested (job_by asked.now.setting text.now) ≡ Ok tt }
     ensures outcome { LabelReadies (λ s. label_answer asked.now s text.now) (strike_of asked.now.setting file.now) result }
-    ensures defects { TextTellsDefects (IsTextDefect label_glyphs asked.now.setting text.now file.now) result }
+    ensures defects { TextTellsDefects (IsTextDefect composed_glyphs asked.now.setting text.now file.now) result }
     ensures valid { IfOk result CanGoOut }
     ensures report { IfOk result (TellsLabel None) }
 {
@@ -105,29 +114,29 @@ fn draw<'n>(
     }
 }
 
-/// Draws one text as a label by a font, and writes its picture: that of its lines, one below the other, enlarged so that
-/// no ink is cut. From the first written byte on no memory is taken. Then its report is printed on `error`, and behind
+/// Draws one text as a label by a font, and puts its picture into its place: that of its lines, one below the other,
+/// enlarged so that no ink is cut. Before that the picture is whole in memory. Then its report is printed on `error`, and behind
 /// that report the lines about the font. A failure of `error` does not change the answer.
 ///
 /// Errors, the first of these, with no line: Job (SizeRange, MarginRange, and TextLong, of more than 4,096 characters),
 /// before the font is read; FontRead, FontLarge; Font, of the tables needed for every text; Font and Job of `label`;
-/// Missing; and Write. Memory may come at any allocation, and then nothing was written. A fault of the font has the hint
+/// Missing; Create; and Write. Memory may come at any allocation, and then nothing was written. A fault of the font has the hint
 /// about the font's file.
-pub fn draw_label<R: Source, W: Sink, E: Sink>(
+pub fn draw_label<R: Source, P: Pictures, E: Sink>(
     alloc: Global,
     font: &mut R,
-    out: &mut W,
+    out: &mut P,
     error: &mut E,
     text: &str,
     asked: &Label,
-) -> Labelled
+) -> LabelsDrawn
     requires font { R.has_failed font.old ≡ false }
-    requires out { W.has_failed out.old ≡ false }
+    requires out { P.has_failed out.old ≡ false }
     requires error { E.has_failed error.old ≡ false }
     // Either the call stopped before the text was drawn, and did nothing else. Or the font was read to its end and
     // opened, and the writing and printing are as defined for the label by that font.
-    ensures outcome { FontLabelGives asked.now text.now result.answer (traffic_of R.left R.has_failed W.written W.has_failed font.old font.new out.old out.new) (errors_of E.written E.has_failed error.old error.new) }
-    ensures defects { TextTellsDefectsOf (R.left font.old) (IsTextDefect label_glyphs asked.now.setting text.now) result.answer }
+    ensures outcome { FontLabelGives (places P.shown) asked.now text.now result.answer (traffic_of R.left R.has_failed P.written P.has_failed font.old font.new out.old out.new) (errors_of E.written E.has_failed error.old error.new) }
+    ensures defects { TextTellsDefectsOf (R.left font.old) (IsTextDefect composed_glyphs asked.now.setting text.now) result.answer }
     ensures hint { IfSome (R.left font.old) (HintsBy asked.now result) }
 {
     if let Err(fault) = test_job(&asked.setting.job(text)) {
@@ -141,16 +150,16 @@ pub fn draw_label<R: Source, W: Sink, E: Sink>(
         Ok(notes) => notes,
         Err(_) => return unhinted(Refusal::Memory),
     };
-    let mut ready = match draw(alloc, &file, &notes, text, asked) {
+    let ReadyLabel { formed, report, .. } = match draw(alloc, &file, &notes, text, asked) {
         Ok(ready) => ready,
         Err(fault) => return hinted(fault, &file, asked),
     };
-    match write_picture(out, &mut ready.drawn) {
+    match out.put(None, formed) {
         Ok(()) => {
-            print_text(error, &ready.report);
-            done()
+            print_text(error, &report);
+            done(None)
         }
-        Err(cut) => unhinted(Refusal::Write { sent: cut.sent }),
+        Err(fault) => unhinted(refusal_of_put(fault)),
     }
 }
 
@@ -171,7 +180,7 @@ fn draw_line<'n>(
     ensures valid { IfOk result CanGoOut }
     ensures report { IfOk result (TellsLabel (Some number)) }
     ensures serves { IsOfText (without_line result) }
-    ensures defects { IfTold refusal_font_fault (without_line result) (IsDefectBy label_glyphs asked.now.setting strike.old line.now) }
+    ensures defects { IfTold refusal_font_fault (without_line result) (IsDefectBy composed_glyphs asked.now.setting strike.old line.now) }
     ensures same { strike.new ≡ record strike.old { kept = strike.new.kept } }
 {
     let Ok(text) = str::from_utf8(line) else {
@@ -180,45 +189,98 @@ fn draw_line<'n>(
     answer_label(alloc, strike, notes, asked, Some(number), text)
 }
 
+/// Puts the label of the line with this number into its place, and then prints its report. Errors: Create, Write.
+fn send<P: Pictures, E: Sink>(
+    out: &mut P,
+    error: &mut E,
+    number: u32,
+    ready: ReadyLabel,
+) -> Result<(), TextsFault>
+    requires out { P.has_failed out.old ≡ false }
+    requires valid { CanGoOut ready }
+    requires report { TellsLabel (Some number) ready }
+    ensures all { OnOk result (Appends (P.written out.old) (P.written out.new) (P.shown (Some number) (formed_bytes ready.entry.formed))) }
+    ensures told { OnOk result (PrintsBehind (E.has_failed error.old) (errors_of E.written E.has_failed error.old error.new) (told_of (Some number) (label_view ready.entry))) }
+    ensures part { IfErr result (IsNotSent (P.shown (Some number)) number (P.written out.old) (P.written out.new) (formed_bytes ready.entry.formed)) }
+    ensures silent { OnErr result (error.new ≡ error.old) }
+    ensures failure { P.has_failed out.new ≡ is_err result }
+{
+    let ReadyLabel { formed, report, .. } = ready;
+    match out.put(Some(number), formed) {
+        Ok(()) => {
+            print_text(error, &report);
+            Ok(())
+        }
+        Err(fault) => Err(texts_fault(Some(number), refusal_of_put(fault))),
+    }
+}
+
+/// Tells a refused line, where the lines behind it are drawn. Returns the fault of the first such line. Errors: this fault,
+/// where it stops the call; Memory.
+fn pass<E: Sink>(
+    alloc: Global,
+    asked: &Label,
+    fault: TextsFault,
+    first: Option<TextsFault>,
+    error: &mut E,
+) -> Result<Option<TextsFault>, TextsFault>
+    ensures goes { OnOk result (goes_on asked.now.setting.keep_going fault.refusal ≡ true) }
+    ensures told { OnOk result (PrintsBehind (E.has_failed error.old) (errors_of E.written E.has_failed error.old error.new) (label_lines_of asked.now false fault None)) }
+    ensures first { IfOk result (λ f. f ≡ earlier first (Some fault)) }
+    ensures stops { IfErr result (StopsPassing asked.now.setting.keep_going fault) }
+    ensures silent { OnErr result (error.new ≡ error.old) }
+{
+    if !goes_on(asked.setting.keep_going, fault.refusal) {
+        return Err(fault);
+    }
+    let lines = label_lines(alloc, &fault, None, asked, false)?;
+    print_text(error, &lines);
+    Ok(earlier(first, fault))
+}
+
 /// Draws each line of a text as a label with a strike, as `draw_labels` does, with the lines about the font of its face.
-fn draw_labels_by<R: Source, W: Sink, E: Sink>(
+fn draw_labels_by<R: Source, P: Pictures, E: Sink>(
     alloc: Global,
     strike: &mut Strike,
     notes: &str,
     lines: &mut R,
-    out: &mut W,
+    out: &mut P,
     error: &mut E,
     asked: &Label,
-) -> Result<(), TextsFault>
+) -> Result<Option<TextsFault>, TextsFault>
     requires lines { R.has_failed lines.old ≡ false }
-    requires out { W.has_failed out.old ≡ false }
+    requires out { P.has_failed out.old ≡ false }
     requires error { E.has_failed error.old ≡ false }
     requires notes { notes.now ≡ label_notes asked.now strike.old.face.directory.file }
-    ensures outcome { LinesGive (line_labelled asked.now strike.old) result (traffic_of R.left R.has_failed W.written W.has_failed lines.old lines.new out.old out.new) (errors_of E.written E.has_failed error.old error.new) }
-    ensures defects { LinesTell (IsDefectBy label_glyphs asked.now.setting strike.old) (R.left lines.old) result }
+    ensures outcome { LabelsGive (places P.shown) asked.now strike.old result (traffic_of R.left R.has_failed P.written P.has_failed lines.old lines.new out.old out.new) (errors_of E.written E.has_failed error.old error.new) }
+    ensures defects { LinesTell (IsDefectBy composed_glyphs asked.now.setting strike.old) (R.left lines.old) result }
 {
     let mut reader = LineReader::new(alloc)?;
     let mut used = 0;
+    let mut first = None;
     for before in 0..u32::MAX {
         let number = before + 1;
-        let place = match next_line(&mut reader, lines, before, used) {
-            Ok(Some(place)) => place,
-            Ok(None) => return Ok(()),
-            Err(stop) => return Err(texts_fault(Some(number), stop.refusal)),
+        let place = match next_line(&mut reader, lines, before, used, asked.setting.keep_going) {
+            Ok(Found::Line(place)) => place,
+            Ok(Found::End) => return Ok(first),
+            Ok(Found::Refused(why)) => {
+                let fault = texts_fault(Some(number), Refusal::Job(why));
+                first = pass(alloc, asked, fault, first, error)?;
+                continue;
+            }
+            Err(why) => return Err(texts_fault(Some(number), why)),
         };
         let line = reader.line(place);
-        let mut ready = match draw_line(alloc, strike, notes, asked, number, line) {
+        let ready = match draw_line(alloc, strike, notes, asked, number, line) {
             Ok(ready) => ready,
-            Err(fault) => return Err(texts_fault(Some(number), fault.refusal)),
+            Err(refused) => {
+                let fault = texts_fault(Some(number), refused.refusal);
+                first = pass(alloc, asked, fault, first, error)?;
+                continue;
+            }
         };
-        used += u128::from(ready.drawn.picture.cost());
-        if let Err(cut) = write_picture(out, &mut ready.drawn) {
-            return Err(TextsFault {
-                line: Some(number),
-                refusal: Refusal::Write { sent: cut.sent },
-            });
-        }
-        print_text(error, &ready.report);
+        used += u128::from(ready.formed.picture().cost());
+        send(out, error, number, ready)?;
     }
     Err(TextsFault {
         line: None,
@@ -228,21 +290,21 @@ fn draw_labels_by<R: Source, W: Sink, E: Sink>(
 
 /// Draws each line of a text as a label by a font file. Errors: those of `draw_labels` behind the reading of the font.
 #[tactic(auto, unfolding(tt_render_settings::specs::Settings::strike_of))]
-fn draw_labels_of<R: Source, W: Sink, E: Sink>(
+fn draw_labels_of<R: Source, P: Pictures, E: Sink>(
     alloc: Global,
     file: &[u8],
     lines: &mut R,
-    out: &mut W,
+    out: &mut P,
     error: &mut E,
     asked: &Label,
-) -> Result<(), TextsFault>
+) -> Result<Option<TextsFault>, TextsFault>
     requires lines { R.has_failed lines.old ≡ false }
-    requires out { W.has_failed out.old ≡ false }
+    requires out { P.has_failed out.old ≡ false }
     requires error { E.has_failed error.old ≡ false }
     requires size { length file.now ≤ font_limit }
     requires tested { setting_tested asked.now.setting ≡ Ok tt }
-    ensures outcome { FileLabelsGive asked.now file.now result (traffic_of R.left R.has_failed W.written W.has_failed lines.old lines.new out.old out.new) (errors_of E.written E.has_failed error.old error.new) }
-    ensures defects { LinesTellDefects label_glyphs asked.now.setting (R.left lines.old) result file.now }
+    ensures outcome { FileLabelsGive (places P.shown) asked.now file.now result (traffic_of R.left R.has_failed P.written P.has_failed lines.old lines.new out.old out.new) (errors_of E.written E.has_failed error.old error.new) }
+    ensures defects { LinesTellDefects composed_glyphs asked.now.setting (R.left lines.old) result file.now }
 {
     let face = Face::read_with(file, asked.setting.opening)?;
     let setting = asked.setting;
@@ -251,8 +313,9 @@ fn draw_labels_of<R: Source, W: Sink, E: Sink>(
     draw_labels_by(alloc, &mut strike, &notes, lines, out, error, asked)
 }
 
-/// Draws each line of a text as a label of its own, in order, and writes its picture as soon as it is made. Nothing of a
-/// refused line is written, and later lines are not drawn. Between lines at most the setting's `most` bytes of glyphs are
+/// Draws each line of a text as a label of its own, in order, and puts its picture into its place as soon as it is made.
+/// Nothing of a refused line is written, and later lines are not drawn. With `keep_going` they are, if the line alone is
+/// refused: both lines of standard error about that line are printed, and the answer has the first such fault. Between lines at most the setting's `most` bytes of glyphs are
 /// cached. After a line's picture its report is printed on `error`;
 /// behind the first one come the lines about the font. A failure of `error` does not stop the drawing. With `Fit::Best`
 /// the lines share the budget of `draw_lines`.
@@ -260,24 +323,24 @@ fn draw_labels_of<R: Source, W: Sink, E: Sink>(
 /// Errors, the first of: Job (SizeRange, MarginRange), before the font is read; FontRead, FontLarge; Font, of the
 /// tables needed for every text; then, line by line, with the line's number, from 1: Read; Job (TextLong, of more than
 /// 16,384 bytes; WorkLarge, where the lines before it took more than their budget); NotUtf8; Font and Job of `label`;
-/// Missing; and Write. Many comes after 4,294,967,295 lines. Memory may come at any allocation. A fault of the font has
-/// the hint about the font's file.
-pub fn draw_labels<F: Source, R: Source, W: Sink, E: Sink>(
+/// Missing; Create, where no place is made for its picture; and Write. Many comes after 4,294,967,295 lines, and after
+/// 2^64 - 1 reads of one line. Memory may come at any allocation. A fault of the font has the hint about the font's file.
+pub fn draw_labels<F: Source, R: Source, P: Pictures, E: Sink>(
     alloc: Global,
     font: &mut F,
     lines: &mut R,
-    out: &mut W,
+    out: &mut P,
     error: &mut E,
     asked: &Label,
-) -> Labelled
+) -> LabelsDrawn
     requires font { F.has_failed font.old ≡ false }
     requires lines { R.has_failed lines.old ≡ false }
-    requires out { W.has_failed out.old ≡ false }
+    requires out { P.has_failed out.old ≡ false }
     requires error { E.has_failed error.old ≡ false }
-    ensures outcome { FontLabelsGive asked.now result.answer (font_reader_of F.left F.has_failed font.old font.new) (traffic_of R.left R.has_failed W.written W.has_failed lines.old lines.new out.old out.new) (errors_of E.written E.has_failed error.old error.new) }
+    ensures outcome { FontLabelsGive (places P.shown) asked.now result.answer (font_reader_of F.left F.has_failed font.old font.new) (traffic_of R.left R.has_failed P.written P.has_failed lines.old lines.new out.old out.new) (errors_of E.written E.has_failed error.old error.new) }
     // A font's fault in an answer is a defect of the font: of the tables needed for every text, or of the data that the
     // numbered line is drawn from.
-    ensures defects { LinesTellDefectsOf label_glyphs (F.left font.old) asked.now.setting (R.left lines.old) result.answer }
+    ensures defects { LinesTellDefectsOf composed_glyphs (F.left font.old) asked.now.setting (R.left lines.old) result.answer }
     ensures hint { IfSome (F.left font.old) (HintsBy asked.now result) }
 {
     if let Err(fault) = test_setting(&asked.setting) {
@@ -288,7 +351,7 @@ pub fn draw_labels<F: Source, R: Source, W: Sink, E: Sink>(
         Err(fault) => return unhinted(refusal_of_run(fault)),
     };
     match draw_labels_of(alloc, &file, lines, out, error, asked) {
-        Ok(()) => done(),
+        Ok(first) => done(first),
         Err(fault) => hinted(fault, &file, asked),
     }
 }

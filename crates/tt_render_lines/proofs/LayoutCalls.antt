@@ -87,6 +87,7 @@ layout_tells V a text file face (reason.Missing c) there stands serves = tt
 layout_tells V a text file face reason.FontRead there stands serves = tt
 layout_tells V a text file face reason.FontLarge there stands serves = tt
 layout_tells V a text file face reason.Read there stands serves = tt
+layout_tells V a text file face reason.Create there stands serves = absurd serves
 layout_tells V a text file face (reason.Write sent) there stands serves = absurd serves
 layout_tells V a text file face reason.Many there stands serves = tt
 layout_tells V a text file face reason.Memory there stands serves = tt

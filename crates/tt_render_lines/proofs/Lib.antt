@@ -1,2 +1,3 @@
 mod MeasureLines
 mod LayoutCalls
+mod SentTexts

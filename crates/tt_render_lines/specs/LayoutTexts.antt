@@ -28,6 +28,7 @@ use Rattle.tt_render_texts.specs.Reports.{report_text_of}
 use Rattle.tt_render_settings.specs.Settings.{job_by}
 use Rattle.tt_render_texts.specs.Answers.{TextAnswer}
 use Rattle.tt_render_settings.specs.Texts.{TextRefusal, answer_of, missing_tested}
+use Rattle.tt_render_settings.specs.Lines.{stream}
 use Rattle.tt_render_settings.specs.TextsOutcome.{FontAnswers, IsNotReady}
 
 -- `picture <width> <height> baseline <rows above it>` and a line feed
@@ -86,7 +87,7 @@ LayoutReadies answer opened (Err fault) = IsNotReady answer opened fault.refusal
 
 -- a call stopped before it laid the text out, or memory ran out by then; or it laid the text out by a font
 abbrev pub FontLayoutGives : {V : Type 0} → Setting → List ℕ → Result V TextsFault → Traffic → Errors → Type 0
-FontLayoutGives a text r t e = FontAnswers a (λ s. layout_answer a s text) text r t e
+FontLayoutGives a text r t e = FontAnswers stream a (λ s. layout_answer a s text) text r t e
 
 -- a defect of the data that a text without ink is laid out from: where glyphs are made, one of these; else no glyph is
 -- read

@@ -1,8 +1,10 @@
 -- No part of the standard: the output of a text that is ready to be written (profile).
-use Rattle.std.specs.Prelude.{◌≡◌, ℕ, List, length, Option, None, Result, Ok, Err, string_bytes, ⊤}
+use Rattle.std.specs.Io.KnownBytes.{Appends}
+use Rattle.std.specs.Prelude.{◌≡◌, ℕ, ◌<◌, List, length, take, Option, None, Some, Result, Ok, Err, string_bytes, ⊤}
 use Rattle.tt_strike.specs.picture.declared.report.Unfitted.{Unfitted}
 use Rattle.tt_strike.specs.picture.Pictures.{IsReady}
 use Rattle.tt_render_streams.specs.File.{picture_bytes, piece_bytes}
+use Rattle.tt_render_texts.specs.declared.refusal.Refusal.TheVariants as reason
 use Rattle.tt_render_texts.specs.declared.refusal.TextsFault.{TextsFault}
 use Rattle.tt_render_texts.specs.Answers.{TextAnswer}
 use Rattle.tt_render_texts.specs.Reports.{report_text_of}
@@ -46,6 +48,12 @@ answer_view r = record {
 -- the report is this text's; the number is that of a line
 abbrev pub TellsOf : Option ℕ → ReadyText → Type 0
 TellsOf number r = string_bytes r.report ≡ report_text_of number (unfitted_in r.output) r.lacking.items
+
+-- writing the output of a line failed, and a front of its bytes was written
+abbrev pub IsNotSent : ℕ → Option (List ℕ) → Option (List ℕ) → List ℕ → TextsFault → Type 0
+IsNotSent number before after bytes e =
+    (sent : ℕ) × (e ≡ record { line = Some number; refusal = reason.Write sent }) × (sent < length bytes)
+    × Appends before after (take sent bytes)
 
 -- one text's output by an opened font, or the refusal
 abbrev pub ReadiesText : (Strike → Result TextAnswer TextRefusal) → Result Strike Refused → Result ReadyText TextsFault

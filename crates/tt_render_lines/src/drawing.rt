@@ -1,14 +1,17 @@
 //! Draws one text, or the lines of a text in order, from a reader to a writer.
 
-ghost use Rattle.std.specs.Prelude.{◌≡◌, ◌≤◌, false, length, Ok, None, IfOk, Some};
+ghost use Rattle.std.specs.Io.KnownBytes.{Appends};
+ghost use Rattle.std.specs.Prelude.{◌≡◌, ◌≤◌, ◌++◌, true, false, codes, is_err, length, string_bytes, Ok, None, IfErr, IfOk, OnErr, OnOk, Some};
 ghost use Rattle.tt_core.specs.Limits.{font_limit};
 ghost use Rattle.tt_render_streams.specs.Traffic.{traffic_of};
-ghost use Rattle.tt_render_texts.specs.Printing.{errors_of};
+ghost use Rattle.tt_render_texts.specs.Printing.{PrintsBehind, errors_of};
+ghost use Rattle.tt_render_texts.specs.Reports.{told_of};
+ghost use Rattle.tt_render_texts.specs.TextsMessages.{texts_line_of};
 ghost use Rattle.tt_render_lines.specs.Outputs.{CanGoOut};
 ghost use Rattle.tt_render_settings.specs.Settings.{job_by, strike_of};
 ghost use Rattle.tt_render_settings.specs.Texts.{text_answer};
-ghost use Rattle.tt_render_settings.specs.TextsOutcome.{FontTextGives, TextTellsDefects, TextTellsDefectsOf, FontLinesGive, IsOfText, LinesGive, refusal_font_fault, told, without_line};
-ghost use Rattle.tt_render_lines.specs.Outputs.{ReadiesText, TellsOf, answer_view};
+ghost use Rattle.tt_render_settings.specs.TextsOutcome.{FontTextGives, TextTellsDefects, TextTellsDefectsOf, FontLinesGive, IsOfText, LinesGive, StopsPassing, earlier, goes_on, lines_drawing, refusal_font_fault, told, without_line};
+ghost use Rattle.tt_render_lines.specs.Outputs.{IsNotSent, ReadiesText, TellsOf, answer_view, bytes_in};
 ghost use Rattle.tt_line.specs.Layout.{text_glyphs};
 ghost use Rattle.tt_strike.specs.Defects.{IsRunDefect};
 ghost use Rattle.tt_strike.specs.Job.{tested};
@@ -20,12 +23,14 @@ ghost use Rattle.tt_render_streams.specs.Reading.{font_reader_of};
 
 use crate::products::write_output;
 use crate::text_answers::{ReadyText, answer_text};
-use std::alloc::Global;
+use std::alloc::{AllocError, Global};
 use std::str;
 use tt_core::{Sink, Source};
-use tt_render_settings::{Setting, next_line, test_setting};
+use tt_render_settings::{Found, Setting, earlier, goes_on, next_line, test_setting};
 use tt_render_streams::read_font;
-use tt_render_texts::{LineReader, Refusal, TextsFault, print_text, texts_fault};
+use tt_render_texts::{
+    LineReader, Refusal, TextsFault, print_text, texts_fault, texts_line,
+};
 use tt_strike::{Face, Strike, test_job};
 
 /// The answer of the one text by a font file. Errors, the first of: Font, of the tables needed for every text; those of
@@ -113,8 +118,77 @@ fn draw_line(
     answer_text(alloc, strike, file, setting, Some(number), text)
 }
 
-/// Draws the lines of a text with a strike, as `draw_lines` does. The strike's face is of this file. Returns the bytes
-/// of the cached glyphs.
+/// Writes the output of the line with this number, and then prints its report. Error: Write.
+fn send<W: Sink, E: Sink>(
+    out: &mut W,
+    error: &mut E,
+    number: u32,
+    ready: ReadyText,
+) -> Result<(), TextsFault>
+    requires out { W.has_failed out.old ≡ false }
+    requires valid { CanGoOut ready.output }
+    requires report { TellsOf (Some number) ready }
+    ensures all { OnOk result (Appends (W.written out.old) (W.written out.new) (bytes_in ready.output)) }
+    ensures told { OnOk result (PrintsBehind (E.has_failed error.old) (errors_of E.written E.has_failed error.old error.new) (told_of (Some number) (answer_view ready))) }
+    ensures part { IfErr result (IsNotSent number (W.written out.old) (W.written out.new) (bytes_in ready.output)) }
+    ensures silent { OnErr result (error.new ≡ error.old) }
+    ensures failure { W.has_failed out.new ≡ is_err result }
+{
+    let mut ready = ready;
+    match write_output(out, &mut ready.output) {
+        Ok(()) => {
+            print_text(error, &ready.report);
+            Ok(())
+        }
+        Err(cut) => Err(texts_fault(
+            Some(number),
+            Refusal::Write { sent: cut.sent },
+        )),
+    }
+}
+
+/// The line about a refused line, with its line feed. Error: memory ran out.
+fn line_of(alloc: Global, fault: &TextsFault) -> Result<String, AllocError>
+    ensures { IfOk result (λ text. string_bytes text ≡ texts_line_of fault.now ++ codes "\n") }
+{
+    let mut text = texts_line(alloc, fault)?;
+    text.push_str("\n")?;
+    Ok(text)
+}
+
+/// Tells a refused line, where the lines behind it are drawn. Returns the fault of the first such line. Errors: this fault,
+/// where it stops the call; Memory.
+fn pass<E: Sink>(
+    alloc: Global,
+    keep_going: bool,
+    fault: TextsFault,
+    first: Option<TextsFault>,
+    error: &mut E,
+) -> Result<Option<TextsFault>, TextsFault>
+    ensures goes { OnOk result (goes_on keep_going fault.refusal ≡ true) }
+    ensures told { OnOk result (PrintsBehind (E.has_failed error.old) (errors_of E.written E.has_failed error.old error.new) (texts_line_of fault ++ codes "\n")) }
+    ensures first { IfOk result (λ f. f ≡ earlier first (Some fault)) }
+    ensures stops { IfErr result (StopsPassing keep_going fault) }
+    ensures silent { OnErr result (error.new ≡ error.old) }
+{
+    if !goes_on(keep_going, fault.refusal) {
+        return Err(fault);
+    }
+    let line = line_of(alloc, &fault)?;
+    print_text(error, &line);
+    Ok(earlier(first, fault))
+}
+
+/// Lines that were drawn.
+#[derive(Clone, Copy, Debug, PartialEq, Eq)]
+pub struct LinesDrawn {
+    /// The bytes of the cached glyphs.
+    pub kept: usize,
+    /// The fault of the first line that was refused and passed over.
+    pub refused: Option<TextsFault>,
+}
+
+/// Draws the lines of a text with a strike, as `draw_lines` does. The strike's face is of this file.
 fn draw_lines_by<R: Source, W: Sink, E: Sink>(
     alloc: Global,
     strike: &mut Strike,
@@ -123,37 +197,46 @@ fn draw_lines_by<R: Source, W: Sink, E: Sink>(
     out: &mut W,
     error: &mut E,
     setting: &Setting,
-) -> Result<usize, TextsFault>
+) -> Result<LinesDrawn, TextsFault>
     requires lines { R.has_failed lines.old ≡ false }
     requires out { W.has_failed out.old ≡ false }
     requires error { E.has_failed error.old ≡ false }
     requires file { file.now ≡ strike.old.face.directory.file }
-    ensures outcome { LinesGive (line_drawn setting.now strike.old) result (traffic_of R.left R.has_failed W.written W.has_failed lines.old lines.new out.old out.new) (errors_of E.written E.has_failed error.old error.new) }
+    ensures outcome { LinesGive (λ drawn. drawn.refused) (lines_drawing setting.now strike.old) result (traffic_of R.left R.has_failed W.written W.has_failed lines.old lines.new out.old out.new) (errors_of E.written E.has_failed error.old error.new) }
     ensures defects { LinesTell (IsDefectBy text_glyphs setting.now strike.old) (R.left lines.old) result }
-    ensures kept { IfOk result (λ n. n ≤ strike.old.most) }
+    ensures kept { IfOk result (λ drawn. drawn.kept ≤ strike.old.most) }
 {
     let mut reader = LineReader::new(alloc)?;
     let mut used = 0;
+    let mut first = None;
     for before in 0..u32::MAX {
         let number = before + 1;
-        let place = match next_line(&mut reader, lines, before, used) {
-            Ok(Some(place)) => place,
-            Ok(None) => return Ok(strike.kept_bytes()),
-            Err(stop) => return Err(texts_fault(Some(number), stop.refusal)),
+        let place = match next_line(&mut reader, lines, before, used, setting.keep_going) {
+            Ok(Found::Line(place)) => place,
+            Ok(Found::End) => {
+                return Ok(LinesDrawn {
+                    kept: strike.kept_bytes(),
+                    refused: first,
+                });
+            }
+            Ok(Found::Refused(why)) => {
+                let fault = texts_fault(Some(number), Refusal::Job(why));
+                first = pass(alloc, setting.keep_going, fault, first, error)?;
+                continue;
+            }
+            Err(why) => return Err(texts_fault(Some(number), why)),
         };
         let line = reader.line(place);
-        let mut ready = match draw_line(alloc, strike, file, setting, number, line) {
+        let ready = match draw_line(alloc, strike, file, setting, number, line) {
             Ok(ready) => ready,
-            Err(fault) => return Err(texts_fault(Some(number), fault.refusal)),
+            Err(refused) => {
+                let fault = texts_fault(Some(number), refused.refusal);
+                first = pass(alloc, setting.keep_going, fault, first, error)?;
+                continue;
+            }
         };
         used += u128::from(ready.output.cost());
-        if let Err(cut) = write_output(out, &mut ready.output) {
-            return Err(TextsFault {
-                line: Some(number),
-                refusal: Refusal::Write { sent: cut.sent },
-            });
-        }
-        print_text(error, &ready.report);
+        send(out, error, number, ready)?;
     }
     Err(TextsFault {
         line: None,
@@ -163,17 +246,19 @@ fn draw_lines_by<R: Source, W: Sink, E: Sink>(
 
 /// Draws the lines of a text in order, and writes the product of each, as `draw_text` would write it, as soon as it is
 /// made. A line ends before its line feed, and before a carriage return there. The rest after the last line feed is a
-/// line too, unless it is empty. Nothing of a refused line is written, and later lines are not drawn. After a line's
+/// line too, unless it is empty. Nothing of a refused line is written, and later lines are not drawn. With `keep_going`
+/// they are, if the line alone is refused: its line on standard error is printed, and the first such fault is returned.
+/// After a line's
 /// product its report is printed on `error`: a line for each glyph that could not be fitted. With `Missing::Tell` a
 /// line for each character without a glyph follows. A failure of `error` does not stop the drawing. With `Fit::Best`
 /// the lines share a budget: a line is drawn only if those before it took at most 10,000,000 and 4,000,000 for each of
-/// them. Returns the bytes of the glyphs that are cached at the end, which are at most the setting's `most`.
+/// them. Returns the bytes of the glyphs that are cached at the end too, which are at most the setting's `most`.
 ///
 /// Errors, the first of: Job (SizeRange, MarginRange), before the font is read; FontRead, FontLarge; Font, of the
 /// tables needed for every text; then, line by line, with the line's number, from 1: Read; Job (TextLong, of more than
 /// 16,384 bytes; WorkLarge, where the lines before it took more than their budget); NotUtf8; Font and Job of
-/// `make_picture` or `make_measure`; Missing; and Write. Many comes after 4,294,967,295 lines. Memory may come at any
-/// allocation.
+/// `make_picture` or `make_measure`; Missing; and Write. Many comes after 4,294,967,295 lines, and after 2^64 - 1 reads of
+/// one line. Memory may come at any allocation.
 #[tactic(auto, unfolding(tt_render_settings::specs::Settings::strike_of))]
 pub fn draw_lines<F: Source, R: Source, W: Sink, E: Sink>(
     alloc: Global,
@@ -182,18 +267,18 @@ pub fn draw_lines<F: Source, R: Source, W: Sink, E: Sink>(
     out: &mut W,
     error: &mut E,
     setting: &Setting,
-) -> Result<usize, TextsFault>
+) -> Result<LinesDrawn, TextsFault>
     requires font { F.has_failed font.old ≡ false }
     requires lines { R.has_failed lines.old ≡ false }
     requires out { W.has_failed out.old ≡ false }
     requires error { E.has_failed error.old ≡ false }
     // Either the call stopped before it read a line, and did nothing else. Or the font was read to its end and opened,
     // and the reading, writing and printing are as defined for the lines by that font.
-    ensures outcome { FontLinesGive setting.now result (font_reader_of F.left F.has_failed font.old font.new) (traffic_of R.left R.has_failed W.written W.has_failed lines.old lines.new out.old out.new) (errors_of E.written E.has_failed error.old error.new) }
+    ensures outcome { FontLinesGive (λ drawn. drawn.refused) setting.now result (font_reader_of F.left F.has_failed font.old font.new) (traffic_of R.left R.has_failed W.written W.has_failed lines.old lines.new out.old out.new) (errors_of E.written E.has_failed error.old error.new) }
     // A font's fault in an error is a defect of the font: of the tables needed for every text, or of the data that the
     // numbered line is drawn from.
     ensures defects { LinesTellDefectsOf text_glyphs (F.left font.old) setting.now (R.left lines.old) result }
-    ensures kept { IfOk result (λ n. n ≤ setting.now.most) }
+    ensures kept { IfOk result (λ drawn. drawn.kept ≤ setting.now.most) }
 {
     test_setting(setting)?;
     let file = read_font(alloc, font)?;

@@ -19,6 +19,6 @@ mod measure_text;
 mod products;
 mod text_answers;
 
-pub use drawing::{draw_lines, draw_text};
+pub use drawing::{LinesDrawn, draw_lines, draw_text};
 pub use layout_drawing::write_layout;
 pub use products::{make_measure, make_picture};

@@ -1,5 +1,5 @@
 -- A font's fault that stops the drawing of lines is a defect of the font.
-use Rattle.std.proofs.Common.{◌≡◌, ℕ, ◌+◌, ◌-◌, Bool, List, [], ◌∷◌, ◌++◌, length, get_or, Option, Some, None, IfSome, Result, Ok, Err, ap, ◌∙◌, inl, inr, arith}
+use Rattle.std.proofs.Common.{◌≡◌, ℕ, ◌+◌, ◌-◌, Bool, List, [], ◌∷◌, ◌++◌, length, get_or, Option, Some, None, IfSome, Result, Ok, Err, ap, ◌∙◌, arith}
 use Rattle.std.proofs.lemmas.List.{get_or_at}
 use Rattle.tt_core.specs.declared.fault.JobFault.{JobFault}
 use Rattle.tt_core.specs.Faults.{Fault}
@@ -13,11 +13,12 @@ use Rattle.tt_render_texts.specs.declared.refusal.Refusal.TheVariants as reason
 use Rattle.tt_render_texts.specs.declared.refusal.TextsFault.{TextsFault}
 use Rattle.tt_render_texts.specs.LineReading.{LosesLine}
 use Rattle.tt_render_texts.specs.Lines.{lines_of}
+use Rattle.tt_render_settings.specs.Lines.{Drawing}
 use Rattle.tt_render_settings.specs.LinesDefects.{BeginsDefective, GlyphsOf, IsDefectBy, IsDefectIn, LineTells, LineTellsDefect, LinesTell, LinesTellDefects, LinesTellDefectsOf, line_numbered}
 use Rattle.tt_render_texts.specs.Printing.{Errors}
 use Rattle.tt_render_texts.specs.streams.Reading.{ReadFails}
 use Rattle.tt_render_settings.specs.Settings.{strike_by}
-use Rattle.tt_render_settings.specs.TextsOutcome.{Draws, FindsLine, refusal_font_fault}
+use Rattle.tt_render_settings.specs.TextsOutcome.{FindsLine, refusal_font_fault}
 use Rattle.tt_render_texts.specs.Views.{before_lines, refusal_of_draw, refusal_of_run}
 use Rattle.tt_render_settings.proofs.DrawnLines.{SoFar}
 use Rattle.tt_strike.specs.Defects.{TellsDefects}
@@ -50,49 +51,55 @@ next_tells IsOne before after line why loses =
     if_some_more (refusal_font_fault why) _ _ (λ f is. begins IsOne before after line f loses is)
 
 -- it is a defect of the line with this number
-numbered : (IsOne : List ℕ → Fault → Type 0) (d : Draws) (text left out written : Option (List ℕ)) (e : Errors)
-    (before used : ℕ) (f : Fault) → SoFar d text left out written e before used → IfSome left (BeginsDefective IsOne f)
+numbered : (IsOne : List ℕ → Fault → Type 0) (d : Drawing) (text left out written : Option (List ℕ)) (e : Errors)
+    (before used : ℕ) (first : Option TextsFault) (f : Fault) → SoFar d text left out written e before used first → IfSome left (BeginsDefective IsOne f)
     → IfSome text (λ all. IsOne (line_numbered all (before + 1)) f)
-numbered IsOne d None left out written e before used f so_far is = tt
-numbered IsOne d (Some text) None out written e before used f so_far is = absurd so_far
-numbered IsOne d (Some text) (Some rest) out written e before used f so_far is =
+numbered IsOne d None left out written e before used first f so_far is = tt
+numbered IsOne d (Some text) None out written e before used first f so_far is = absurd so_far
+numbered IsOne d (Some text) (Some rest) out written e before used first f so_far is =
     let parts : lines_of text ≡ so_far.0 ++ is.0 ∷ is.1 = so_far.1 ∙ ap (λ ls. so_far.0 ++ ls) is.2 in
     let at : length so_far.0 ≡ before + 1 - 1 = omega (arith, so_far.2) in
     let same : line_numbered text (before + 1) ≡ is.0 =
     ap (λ ls. get_or ls (before + 1 - 1) []) parts ∙ get_or_at so_far.0 is.0 is.1 [] (before + 1 - 1) at in
     rw same is.3
 
-pub stop_tells : (IsOne : List ℕ → Fault → Type 0) (d : Draws) (text left out written : Option (List ℕ)) (e : Errors)
-    (before used : ℕ) (why : Refusal) → SoFar d text left out written e before used
+pub stop_tells : (IsOne : List ℕ → Fault → Type 0) (d : Drawing) (text left out written : Option (List ℕ)) (e : Errors)
+    (before used : ℕ) (first : Option TextsFault) (why : Refusal) → SoFar d text left out written e before used first
     → IfSome (refusal_font_fault why) (λ f. IfSome left (BeginsDefective IsOne f))
     → LineTells IsOne text why (Some (before + 1))
-stop_tells IsOne d text left out written e before used (reason.Font f) so_far is =
-    numbered IsOne d text left out written e before used f so_far is
-stop_tells IsOne d text left out written e before used (reason.Job j) so_far is = tt
-stop_tells IsOne d text left out written e before used reason.NotUtf8 so_far is = tt
-stop_tells IsOne d text left out written e before used (reason.Missing c) so_far is = tt
-stop_tells IsOne d text left out written e before used reason.FontRead so_far is = tt
-stop_tells IsOne d text left out written e before used reason.FontLarge so_far is = tt
-stop_tells IsOne d text left out written e before used reason.Read so_far is = tt
-stop_tells IsOne d text left out written e before used (reason.Write sent) so_far is = tt
-stop_tells IsOne d text left out written e before used reason.Many so_far is = tt
-stop_tells IsOne d text left out written e before used reason.Memory so_far is = tt
+stop_tells IsOne d text left out written e before used first (reason.Font f) so_far is =
+    numbered IsOne d text left out written e before used first f so_far is
+stop_tells IsOne d text left out written e before used first (reason.Job j) so_far is = tt
+stop_tells IsOne d text left out written e before used first reason.NotUtf8 so_far is = tt
+stop_tells IsOne d text left out written e before used first (reason.Missing c) so_far is = tt
+stop_tells IsOne d text left out written e before used first reason.FontRead so_far is = tt
+stop_tells IsOne d text left out written e before used first reason.FontLarge so_far is = tt
+stop_tells IsOne d text left out written e before used first reason.Read so_far is = tt
+stop_tells IsOne d text left out written e before used first reason.Create so_far is = tt
+stop_tells IsOne d text left out written e before used first (reason.Write sent) so_far is = tt
+stop_tells IsOne d text left out written e before used first reason.Many so_far is = tt
+stop_tells IsOne d text left out written e before used first reason.Memory so_far is = tt
 
--- a line that is not begun names no defect
-pub begun_tells : (IsOne : List ℕ → Fault → Type 0) (text left after : Option (List ℕ)) (r : LineReader)
-    (before used : ℕ) (why : Refusal) → FindsLine r before used (Err why) left after
+-- a line that is not found names no defect
+pub begun_tells : (IsOne : List ℕ → Fault → Type 0) (text left after : Option (List ℕ)) (r : LineReader) (keeps : Bool)
+    (before used : ℕ) (why : Refusal) → FindsLine r keeps before used (Err why) left after
     → LineTells IsOne text why (Some (before + 1))
-begun_tells IsOne text left after r before used (reason.Font f) (inl (is, long)) = absurd cc
-begun_tells IsOne text left after r before used (reason.Font f) (inr (is, spent, has)) = absurd cc
-begun_tells IsOne text left after r before used (reason.Job j) begun = tt
-begun_tells IsOne text left after r before used reason.NotUtf8 begun = tt
-begun_tells IsOne text left after r before used (reason.Missing c) begun = tt
-begun_tells IsOne text left after r before used reason.FontRead begun = tt
-begun_tells IsOne text left after r before used reason.FontLarge begun = tt
-begun_tells IsOne text left after r before used reason.Read begun = tt
-begun_tells IsOne text left after r before used (reason.Write sent) begun = tt
-begun_tells IsOne text left after r before used reason.Many begun = tt
-begun_tells IsOne text left after r before used reason.Memory begun = tt
+begun_tells IsOne text left after r keeps before used reason.Read found = tt
+begun_tells IsOne text left after r keeps before used reason.Many found = tt
+begun_tells IsOne text left after r keeps before used (reason.Font f) found = absurd found
+begun_tells IsOne text left after r keeps before used (reason.Job j) found = absurd found
+begun_tells IsOne text left after r keeps before used reason.NotUtf8 found = absurd found
+begun_tells IsOne text left after r keeps before used (reason.Missing c) found = absurd found
+begun_tells IsOne text left after r keeps before used reason.FontRead found = absurd found
+begun_tells IsOne text left after r keeps before used reason.FontLarge found = absurd found
+begun_tells IsOne text left after r keeps before used reason.Create found = absurd found
+begun_tells IsOne text left after r keeps before used (reason.Write sent) found = absurd found
+begun_tells IsOne text left after r keeps before used reason.Memory found = absurd found
+
+-- nor does a line that is not begun
+pub unbegun_tells : (IsOne : List ℕ → Fault → Type 0) (text : Option (List ℕ)) (j : JobFault) (line : Option ℕ)
+    → LineTells IsOne text (reason.Job j) line
+unbegun_tells IsOne text j line = tt
 
 -- a defect of a line by a font's tables is one by the font's file
 line_tells : (glyphs : GlyphsOf) (a : Setting) (file : List ℕ) (face : Face) (text : Option (List ℕ)) (why : Refusal)
@@ -107,6 +114,7 @@ line_tells glyphs a file face text (reason.Missing c) line there tells = tt
 line_tells glyphs a file face text reason.FontRead line there tells = tt
 line_tells glyphs a file face text reason.FontLarge line there tells = tt
 line_tells glyphs a file face text reason.Read line there tells = tt
+line_tells glyphs a file face text reason.Create line there tells = tt
 line_tells glyphs a file face text (reason.Write sent) line there tells = tt
 line_tells glyphs a file face text reason.Many line there tells = tt
 line_tells glyphs a file face text reason.Memory line there tells = tt

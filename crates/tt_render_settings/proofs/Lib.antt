@@ -1,5 +1,6 @@
 pub mod DrawnLines
 pub mod StoppedLines
+pub mod PassedOver
 pub mod DefectLines
 pub mod OneText
 pub mod FontLines

@@ -1,5 +1,6 @@
 -- The steps of a call that draws one text, joined.
-use Rattle.std.proofs.Common.{◌≡◌, ℕ, Bool, false, List, Option, Some, None, Result, Ok, Err, inl, inr, refl}
+use Rattle.std.proofs.Common.{◌≡◌, ℕ, ◌<◌, Bool, true, false, length, take, List, Option, Some, None, Result, Ok, Err, inl, inr, refl}
+use Rattle.std.specs.Io.KnownBytes.{Keeps}
 use Rattle.std.specs.Prelude.{IfSome}
 use Rattle.tt_core.specs.declared.fault.JobFault.{JobFault}
 use Rattle.tt_core.specs.Directory.{HasNo}
@@ -10,11 +11,12 @@ use Rattle.tt_render_settings.specs.declared.setting.Setting.{Setting}
 use Rattle.tt_render_texts.specs.declared.refusal.Refusal.{Refusal}
 use Rattle.tt_render_texts.specs.declared.refusal.Refusal.TheVariants as reason
 use Rattle.tt_render_texts.specs.declared.refusal.TextsFault.{TextsFault}
-use Rattle.tt_render_texts.specs.streams.Traffic.{SendsAll, SendsFirst, Traffic, WriterFails, WriterServes}
+use Rattle.tt_render_texts.specs.streams.Traffic.{SendsAll, Traffic, WriterFails, WriterServes}
 use Rattle.tt_render_settings.specs.LinesDefects.{GlyphsOf, IsTextDefect}
 use Rattle.tt_render_texts.specs.Printing.{Errors, Prints, PrintsNothing}
 use Rattle.tt_render_texts.specs.streams.Reading.{FontIsRead, ReadFails}
 use Rattle.tt_render_texts.specs.Reports.{told_of}
+use Rattle.tt_render_settings.specs.Lines.{Outlet}
 use Rattle.tt_render_settings.specs.Settings.{job_by, strike_of}
 use Rattle.tt_render_settings.specs.TextsOutcome.{FontAnswers, IsNotReady, IsOfText, IsAtFont, IsAtText, IsSilent, TextTellsDefects, TextTellsDefectsOf, reader_in, refusal_font_fault, told}
 use Rattle.tt_render_settings.specs.Products.{product_of}
@@ -62,33 +64,34 @@ text_stops V answer opened s (reason.Missing c) is refused serves = inr (s, _, i
 text_stops V answer opened s reason.FontRead is refused serves = absurd serves
 text_stops V answer opened s reason.FontLarge is refused serves = absurd serves
 text_stops V answer opened s reason.Read is refused serves = absurd serves
+text_stops V answer opened s reason.Create is refused serves = absurd serves
 text_stops V answer opened s (reason.Write sent) is refused serves = absurd serves
 text_stops V answer opened s reason.Many is refused serves = absurd serves
 text_stops V answer opened s reason.Memory is refused serves = tt
 
 -- a text that is refused by its font's tables, or by its own answer
-at_font : (a : Setting) (answer : Strike → Result TextAnswer TextRefusal) (text file : List ℕ) (why : Refusal) (t : Traffic) (errors : Errors)
+at_font : (V : Type 0) (to : Outlet) (a : Setting) (answer : Strike → Result TextAnswer TextRefusal) (text file : List ℕ) (why : Refusal) (t : Traffic) (errors : Errors)
     → tested (job_by a text) ≡ Ok tt → FontIsRead (reader_in t) file → IsAtFont (strike_of a file) why
-    → IsSilent t errors → FontAnswers {V = Unit {0}} a answer text (Err (before_lines why)) t errors
-at_font a answer text file why t errors good read (f, is, opened) silent = rw is (inl ((good, file, read, opened), silent))
+    → IsSilent t errors → FontAnswers {V = V} to a answer text (Err (before_lines why)) t errors
+at_font V to a answer text file why t errors good read (f, is, opened) silent = rw is (inl ((good, file, read, opened), silent))
 
-at_text : (a : Setting) (answer : Strike → Result TextAnswer TextRefusal) (text file : List ℕ) (f : Fault) (t : Traffic) (errors : Errors) → tested (job_by a text) ≡ Ok tt
+at_text : (V : Type 0) (to : Outlet) (a : Setting) (answer : Strike → Result TextAnswer TextRefusal) (text file : List ℕ) (f : Fault) (t : Traffic) (errors : Errors) → tested (job_by a text) ≡ Ok tt
     → FontIsRead (reader_in t) file → IsAtText answer (strike_of a file) (reason.Font f)
-    → IsSilent t errors → FontAnswers {V = Unit {0}} a answer text (Err (before_lines (reason.Font f))) t errors
-at_text a answer text file f t errors good read (s, r, opened, tells, answers) silent =
+    → IsSilent t errors → FontAnswers {V = V} to a answer text (Err (before_lines (reason.Font f))) t errors
+at_text V to a answer text file f t errors good read (s, r, opened, tells, answers) silent =
     inr (good, file, read, s, opened, (r, tells, answers, silent))
 
 -- so it stops the call
-pub text_fails : (a : Setting) (answer : Strike → Result TextAnswer TextRefusal) (text file : List ℕ) (e : TextsFault) (t : Traffic) (errors : Errors)
+pub text_fails : (V : Type 0) (to : Outlet) (a : Setting) (answer : Strike → Result TextAnswer TextRefusal) (text file : List ℕ) (e : TextsFault) (t : Traffic) (errors : Errors)
     → tested (job_by a text) ≡ Ok tt → FontIsRead (reader_in t) file
     → IsNotReady answer (strike_of a file) e.refusal e.line → IsSilent t errors
-    → FontAnswers {V = Unit {0}} a answer text (Err e) t errors
-text_fails a answer text file e t errors good read why silent = by e.refusal e.line why
+    → FontAnswers {V = V} to a answer text (Err e) t errors
+text_fails V to a answer text file e t errors good read why silent = by e.refusal e.line why
   where
     by : (r : Refusal) (line : Option ℕ) → IsNotReady answer (strike_of a file) r line
-        → FontAnswers {V = Unit {0}} a answer text (Err (record { line = line; refusal = r })) t errors
-    by (reason.Font f) None (inl font) = at_font a answer text file (reason.Font f) t errors good read font silent
-    by (reason.Font f) None (inr refused) = at_text a answer text file f t errors good read refused silent
+        → FontAnswers {V = V} to a answer text (Err (record { line = line; refusal = r })) t errors
+    by (reason.Font f) None (inl font) = at_font V to a answer text file (reason.Font f) t errors good read font silent
+    by (reason.Font f) None (inr refused) = at_text V to a answer text file f t errors good read refused silent
     by (reason.Job j) None (inl (f, is, opened)) = absurd cc
     by (reason.Job j) None (inr (s, r, opened, tells, answers)) =
         inr (good, file, read, s, opened, (r, tells, answers, silent))
@@ -104,6 +107,8 @@ text_fails a answer text file e t errors good read why silent = by e.refusal e.l
     by reason.FontLarge None (inr (s, r, opened, tells, answers)) = absurd cc
     by reason.Read None (inl (f, is, opened)) = absurd cc
     by reason.Read None (inr (s, r, opened, tells, answers)) = absurd cc
+    by reason.Create None (inl (f, is, opened)) = absurd cc
+    by reason.Create None (inr (s, r, opened, tells, answers)) = absurd cc
     by (reason.Write sent) None (inl (f, is, opened)) = absurd cc
     by (reason.Write sent) None (inr (s, r, opened, tells, answers)) = absurd cc
     by reason.Many None (inl (f, is, opened)) = absurd cc
@@ -116,6 +121,7 @@ text_fails a answer text file e t errors good read why silent = by e.refusal e.l
     by reason.FontRead (Some n) why = absurd why
     by reason.FontLarge (Some n) why = absurd why
     by reason.Read (Some n) why = absurd why
+    by reason.Create (Some n) why = absurd why
     by (reason.Write sent) (Some n) why = absurd why
     by reason.Many (Some n) why = absurd why
     by reason.Memory (Some n) why = absurd why
@@ -129,22 +135,30 @@ silent left rest out error read write failed serves prints =
     ((keeps_itself out, serves), (keeps_itself error, prints))
 
 -- the output of a text was written, and its report printed
-pub text_written : (a : Setting) (answers : Strike → Result TextAnswer TextRefusal) (text file : List ℕ) (s : Strike)
+pub text_written : (V : Type 0) (v : V) (to : Outlet) (a : Setting) (answers : Strike → Result TextAnswer TextRefusal) (text file : List ℕ) (s : Strike)
     (answer : TextAnswer) (t : Traffic) (e : Errors)
     → tested (job_by a text) ≡ Ok tt → FontIsRead (reader_in t) file → strike_of a file ≡ Ok s
-    → answers s ≡ Ok answer → SendsAll t answer.bytes → WriterServes t → Prints e (told_of None answer)
-    → FontAnswers {V = Unit {0}} a answers text (Ok tt) t e
-text_written a answers text file s answer t e good read opened made sent serves printed =
+    → answers s ≡ Ok answer → SendsAll t (to.shown None answer.bytes) → WriterServes t → Prints e (told_of None answer)
+    → FontAnswers {V = V} to a answers text (Ok v) t e
+text_written V v to a answers text file s answer t e good read opened made sent serves printed =
     inr (good, file, read, s, opened, (answer, made, sent, serves, printed))
 
 -- a front of it was written, and no report
-pub text_cut : (a : Setting) (answers : Strike → Result TextAnswer TextRefusal) (text file : List ℕ) (s : Strike)
+pub text_cut : (V : Type 0) (to : Outlet) (a : Setting) (answers : Strike → Result TextAnswer TextRefusal) (text file : List ℕ) (s : Strike)
     (answer : TextAnswer) (sent : ℕ) (t : Traffic)
     (e : Errors) → tested (job_by a text) ≡ Ok tt → FontIsRead (reader_in t) file → strike_of a file ≡ Ok s
-    → answers s ≡ Ok answer → SendsFirst sent t answer.bytes → WriterFails t → PrintsNothing e
-    → FontAnswers {V = Unit {0}} a answers text (Err (before_lines (reason.Write sent))) t e
-text_cut a answers text file s answer sent t e good read opened made first fails silent =
-    inr (good, file, read, s, opened, (answer, made, first, fails, silent))
+    → answers s ≡ Ok answer → sent < length answer.bytes → SendsAll t (to.shown None (take sent answer.bytes)) → WriterFails t
+    → PrintsNothing e → FontAnswers {V = V} to a answers text (Err (before_lines (reason.Write sent))) t e
+text_cut V to a answers text file s answer sent t e good read opened made few first fails silent =
+    inr (good, file, read, s, opened, (answer, made, few, first, fails, silent))
+
+-- no place was made for it
+pub text_unplaced : (V : Type 0) (to : Outlet) (a : Setting) (answers : Strike → Result TextAnswer TextRefusal) (text file : List ℕ) (s : Strike)
+    (answer : TextAnswer) (t : Traffic) (e : Errors) → tested (job_by a text) ≡ Ok tt → FontIsRead (reader_in t) file
+    → strike_of a file ≡ Ok s → answers s ≡ Ok answer → to.creates ≡ true → Keeps t.out_before t.out_after → WriterFails t
+    → PrintsNothing e → FontAnswers {V = V} to a answers text (Err (before_lines reason.Create)) t e
+text_unplaced V to a answers text file s answer t e good read opened made creates kept fails silent =
+    inr (good, file, read, s, opened, (creates, answer, made, kept, fails, silent))
 
 -- a failure to make a strike names no defect
 pub strike_tells : (V : Type 0) (IsOne : Fault → Type 0) (d : DrawFault) → IfSome (draw_font_fault d) (λ _. ⊥)
@@ -166,6 +180,7 @@ text_tells V glyphs a text file face (reason.Missing c) there stands serves = tt
 text_tells V glyphs a text file face reason.FontRead there stands serves = tt
 text_tells V glyphs a text file face reason.FontLarge there stands serves = tt
 text_tells V glyphs a text file face reason.Read there stands serves = tt
+text_tells V glyphs a text file face reason.Create there stands serves = absurd serves
 text_tells V glyphs a text file face (reason.Write sent) there stands serves = absurd serves
 text_tells V glyphs a text file face reason.Many there stands serves = tt
 text_tells V glyphs a text file face reason.Memory there stands serves = tt

@@ -19,7 +19,7 @@ use Rattle.tt_render_texts.specs.declared.refusal.TextsFault.{TextsFault}
 use Rattle.tt_render_settings.specs.declared.setting.Setting.{Setting}
 use Rattle.tt_render_texts.specs.Reports.{head_of}
 use Rattle.tt_render_settings.specs.Settings.{plain_setting}
-use Rattle.tt_render_texts.specs.TextsMessages.{named_line_of}
+use Rattle.tt_render_texts.specs.TextsMessages.{named_line_of, texts_line_of}
 
 -- a line of these words
 abbrev pub fixed_help : Option ℕ → List ℕ → List ℕ
@@ -51,6 +51,10 @@ help_by l folder why number h = []
 
 abbrev pub label_help : Label → Bool → TextsFault → Option Hint → List ℕ
 label_help l folder fault h = help_by l folder fault.refusal (named_line_of fault.refusal fault.line) h
+
+-- the lines about a refusal
+abbrev pub label_lines_of : Label → Bool → TextsFault → Option Hint → List ℕ
+label_lines_of l folder fault h = (texts_line_of fault ++ codes "\n") ++ label_help l folder fault h
 
 -- worked values
 a_size : job_help None job.SizeRange (plain_setting 301 65 fit.Best (plain_opening (reading.Wide 0)))

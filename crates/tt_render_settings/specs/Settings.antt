@@ -33,6 +33,7 @@ plain_setting ppem margin f o = record {
   grow = false;
   product = product.Picture;
   most = 0;
+  keep_going = false;
 }
 
 -- the output of a text is its picture as it is

@@ -1,7 +1,7 @@
 //! The second line about a refused label: what a person can do.
 
 ghost use Rattle.std.specs.Prelude.{◌≡◌, string_bytes, IfOk};
-ghost use Rattle.tt_render_settings.specs.Help.{fixed_help, folder_help, job_help, label_help};
+ghost use Rattle.tt_render_settings.specs.Help.{fixed_help, folder_help, job_help, label_help, label_lines_of};
 ghost use Rattle.tt_advice.specs.Notes.{hint_told};
 
 use crate::label::Label;
@@ -9,7 +9,7 @@ use crate::setting::Setting;
 use std::alloc::{AllocError, Global};
 use tt_advice::{FixedHint, Hint, hint_line};
 use tt_core::JobFault;
-use tt_render_texts::{Messages, Refusal, TextsFault, named_line};
+use tt_render_texts::{Messages, Refusal, TextsFault, named_line, texts_line};
 
 /// The line about the font's file, if there is a hint. Error: memory ran out.
 fn font_help(alloc: Global, path: &str, hint: Option<Hint>) -> Result<String, AllocError>
@@ -95,8 +95,27 @@ pub fn label_help(
         Refusal::Missing(_)
         | Refusal::FontLarge
         | Refusal::Read
+        | Refusal::Create
         | Refusal::Write { .. }
         | Refusal::Many
         | Refusal::Memory => Ok(String::new(alloc)),
     }
+}
+
+/// The lines on standard error about a refused label: the fault, and where something helps what a person can do. Error:
+/// memory ran out.
+pub fn label_lines(
+    alloc: Global,
+    fault: &TextsFault,
+    hint: Option<Hint>,
+    asked: &Label,
+    folder: bool,
+) -> Result<String, AllocError>
+    ensures { IfOk result (λ text. string_bytes text ≡ label_lines_of asked.now folder fault.now hint) }
+{
+    let mut text = texts_line(alloc, fault)?;
+    text.push_str("\n")?;
+    let help = label_help(alloc, fault, hint, asked, folder)?;
+    text.push_str(&help)?;
+    Ok(text)
 }

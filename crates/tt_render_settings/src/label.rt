@@ -3,7 +3,7 @@
 use crate::setting::Setting;
 use tt_advice::Hint;
 use tt_line::Align;
-use tt_render_texts::TextsFault;
+use tt_render_texts::{PictureFormat, TextsFault};
 
 /// How the lines of a text are drawn in one picture for people.
 #[derive(Clone, Copy)]
@@ -17,9 +17,19 @@ pub struct Label<'a> {
     pub path: &'a str,
     /// Whether a face was asked for.
     pub face_given: bool,
+    pub format: PictureFormat,
 }
 
-/// The answer of a call that draws labels, and the report to a person of the font's file, where the font is refused.
+/// The answer of a call that draws labels, with the fault of the first line that was refused and passed over; and the
+/// report to a person of the font's file, where the font is refused.
+#[derive(Drop)]
+pub struct LabelsDrawn {
+    pub answer: Result<Option<TextsFault>, TextsFault>,
+    pub hint: Option<Hint>,
+}
+
+/// The answer of a call that writes a file by a font, and the report to a person of the font's file, where the font is
+/// refused.
 #[derive(Drop)]
 pub struct Labelled {
     pub answer: Result<(), TextsFault>,

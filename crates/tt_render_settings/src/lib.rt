@@ -15,9 +15,9 @@ mod label;
 mod missing;
 mod setting;
 
-pub use budget::{lines_budget, next_line};
-pub use help::label_help;
-pub use label::{Label, Labelled};
+pub use budget::{Found, earlier, goes_on, lines_budget, next_line};
+pub use help::{label_help, label_lines};
+pub use label::{Label, Labelled, LabelsDrawn};
 pub use missing::none_missing;
 pub use setting::{Missing, Product, Setting, test_setting};
 pub use tt_line::Align;

@@ -46,6 +46,8 @@ pub struct Setting {
     pub product: Product,
     /// The most bytes of glyphs cached from line to line.
     pub most: usize,
+    /// Whether the lines behind a refused line are drawn.
+    pub keep_going: bool,
 }
 
 impl Setting {
@@ -62,6 +64,7 @@ impl Setting {
             grow: false,
             product: Product::Picture,
             most: 0,
+            keep_going: false,
         }
     }
 

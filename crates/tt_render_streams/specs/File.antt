@@ -1,10 +1,13 @@
--- The file of a picture (Netpbm, "PBM", format P4): its header, and then its rows from the top.
+-- The file of a picture: in Netpbm's format P4 ("PBM") its header, and then its rows from the top; or in PNG (RFC 2083).
 use Rattle.std.specs.Prelude.{◌≡◌, refl, ℕ, ◌+◌, ◌*◌, ◌≤◌, Bool, ◌&&◌, nat_le, nat_lt, pos, List, [], ◌∷◌, ◌++◌, codes, length, Result, Ok}
 use Rattle.std.specs.Fmt.{digits}
 use Rattle.tt_core.specs.Bits.{stride}
 use Rattle.tt_core.specs.Limits.{height_limit, width_limit}
 use Rattle.tt_core.specs.Outcomes.{◌>>=◌}
 use Rattle.tt_pbm.specs.P4.{p4_header_of}
+use Rattle.tt_render_streams.specs.declared.formed.PictureFormat.{PictureFormat}
+use Rattle.tt_render_streams.specs.declared.formed.PictureFormat.TheVariants as format
+use Rattle.tt_png.specs.Png.{png_text}
 use Rattle.tt_picture.specs.Pictures.{Image, Picture, band_rows, image, image_of}
 
 -- the bytes of the file of an image, and of a picture
@@ -14,9 +17,18 @@ p4 i = p4_header_of i.frame.width i.frame.height ++ i.rows
 abbrev pub picture_bytes : Picture → List ℕ
 picture_bytes p = p4 (image_of p)
 
+-- the bytes of the file of an image in a format
+abbrev pub file_in : PictureFormat → Image → List ℕ
+file_in format.Pbm i = p4 i
+file_in format.Png i = png_text i.frame.width i.frame.height i.rows
+
 -- the file of an image, or its refusal
 abbrev pub as_file : {E : Type 0} → Result Image E → Result (List ℕ) E
 as_file made = made >>= λ i. Ok (p4 i)
+
+-- the same in a format
+abbrev pub as_file_in : {E : Type 0} → PictureFormat → Result Image E → Result (List ℕ) E
+as_file_in f made = made >>= λ i. Ok (file_in f i)
 
 -- the bytes of the header of a picture, at most 16, and of a band of its rows
 abbrev pub piece_bytes : Picture → ℕ

@@ -1,6 +1,8 @@
 pub mod CodePoints
 pub mod File
+pub mod Formed
 pub mod Messages
+pub mod Putting
 pub mod Reading
 pub mod Traffic
 pub mod Views

@@ -30,13 +30,18 @@ LosesLine None after line = ⊤
 LosesLine (Some text) None line = ⊥
 LosesLine (Some text) (Some rest) line = lines_of text ≡ line ∷ lines_of rest
 
+-- a known text loses its first line, whichever that is
+abbrev pub LosesFirst : Option (List ℕ) → Option (List ℕ) → Type 0
+LosesFirst before after = (line : List ℕ) × LosesLine before after line
+
 -- the first line of a text is too long
 abbrev pub BeginsLong : List ℕ → Type 0
 BeginsLong text = (line : List ℕ) × (rest : List (List ℕ)) × (lines_of text ≡ line ∷ rest) × (line_limit < length line)
 
--- the remaining text after reading a line; a line that is too long, and a failed read, leave the text unchanged
+-- the remaining text after reading a line; a line that is too long, and a failed read, leave the text
+-- unchanged; some bytes of that line are held
 abbrev pub ReadsLine : {E : Type 0} → LineReader → Result NextLine E → Option (List ℕ) → Option (List ℕ) → Type 0
 ReadsLine r (Ok (next.Line place)) before after = LosesLine before after (line_at r place)
-ReadsLine r (Ok next.Long) before after = IfSome before BeginsLong × Keeps before after
+ReadsLine r (Ok next.Long) before after = IfSome before BeginsLong × Keeps before after × (0 < length (held r))
 ReadsLine r (Ok next.End) before after = IfSome before (λ text. lines_of text ≡ []) × IsAtEnd after
 ReadsLine r (Err e) before after = Keeps before after

@@ -18,6 +18,7 @@ refusal_status_of (reason.Missing c) = 2
 refusal_status_of reason.FontRead = 3
 refusal_status_of reason.FontLarge = 3
 refusal_status_of reason.Read = 3
+refusal_status_of reason.Create = 4
 refusal_status_of (reason.Write sent) = 4
 refusal_status_of reason.Many = 2
 refusal_status_of reason.Memory = 5
@@ -43,6 +44,7 @@ refusal_words (reason.Missing c) = missing_words c
 refusal_words reason.FontRead = codes "cannot read the font"
 refusal_words reason.FontLarge = codes "font larger than 67108864 bytes"
 refusal_words reason.Read = codes "cannot read the lines"
+refusal_words reason.Create = codes "cannot create the picture"
 refusal_words (reason.Write sent) = codes "cannot write after " ++ (decimal sent ++ codes " bytes")
 refusal_words reason.Many = codes "more than 4294967295 lines"
 refusal_words reason.Memory = codes "out of memory"
@@ -70,6 +72,11 @@ a_line_is_cut : texts_line_of (record { line = Some 2; refusal = reason.Write 10
     ≡ codes "tt_render: line 2: cannot write after 100 bytes"
 unfolding digits
 a_line_is_cut = refl
+
+a_file_of_a_line : texts_line_of (record { line = Some 2; refusal = reason.Create })
+    ≡ codes "tt_render: line 2: cannot create the picture"
+unfolding digits
+a_file_of_a_line = refl
 
 memory_is_no_lines_own : texts_line_of (record { line = Some 2; refusal = reason.Memory })
     ≡ codes "tt_render: out of memory"

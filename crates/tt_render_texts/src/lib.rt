@@ -21,5 +21,6 @@ pub use label_reports::{LabelTold, Signs};
 pub use lines::{LINE_LIMIT, LinePlace, LineReader, NextLine};
 pub use printing::print_text;
 pub use readings::{fit_reading, reading_asked};
-pub use refusal::{Refusal, TextsFault, refusal_of_run, texts_fault};
+pub use refusal::{Refusal, TextsFault, refusal_of_put, refusal_of_run, texts_fault};
 pub use texts_messages::{Messages, named_line, texts_line, texts_status};
+pub use tt_render_streams::PictureFormat;

@@ -1,7 +1,7 @@
 //! Reads the lines of a text in order.
 
 ghost use Rattle.std.specs.Io.KnownBytes.{IsAtEnd, Keeps};
-ghost use Rattle.std.specs.Prelude.{◌≡◌, ◌≢◌, ℕ, ◌+◌, ◌-◌, ◌<◌, ◌≤◌, [], false, is_err, length, take, drop, vec_len, All, IfOk, OnErr, MatchOption};
+ghost use Rattle.std.specs.Prelude.{◌≡◌, ◌≢◌, ℕ, ◌+◌, ◌-◌, ◌<◌, ◌≤◌, [], true, false, is_err, length, take, drop, vec_len, All, IfOk, OnErr, MatchOption};
 ghost use Rattle.tt_core.specs.Device.{RemembersFailure};
 ghost use Rattle.tt_render_texts.specs.Lines.{IsFirstFeed, before_feed, line_room};
 
@@ -70,7 +70,7 @@ fn len_before_feed(line: &[u8]) -> usize
 }
 
 impl LineReader {
-    ghost use Rattle.tt_render_texts.specs.LineReading.{GetsMore, ReadsLine, held, line_at, text_left};
+    ghost use Rattle.tt_render_texts.specs.LineReading.{GetsMore, LosesFirst, ReadsLine, held, line_at, text_left};
 
     /// A reader that has read nothing yet.
     pub fn new(alloc: Global) -> Result<LineReader, AllocError>
@@ -170,6 +170,27 @@ impl LineReader {
                 return Ok(NextLine::Line(self.give_rest()));
             }
         }
+    }
+
+    /// Passes over the next line, of which some bytes are held, whatever its length. Returns false where 2^64 - 1 reads
+    /// found no end of the line. Error: the device failed.
+    pub fn pass_line<R: Source>(&mut self, source: &mut R) -> Result<bool, IoFailed>
+        requires serves { R.has_failed source.old ≡ false }
+        requires some { 0 < length (held self.old) }
+        ensures passed { IfOk result (λ found. found ≡ true → LosesFirst (text_left self.old (R.left source.old)) (text_left self.new (R.left source.new))) }
+        ensures failure { R.has_failed source.new ≡ is_err result }
+    {
+        'pieces: for _ in 0..u64::MAX {
+            if let Some(at) = self.feed_behind(0) {
+                let _ = self.give_line(at);
+                return Ok(true);
+            }
+            let _ = self.give_rest();
+            if self.read_more(source)? == 0 {
+                return Ok(true);
+            }
+        }
+        Ok(false)
     }
 
     /// The bytes of the line given out last.

@@ -2,12 +2,12 @@
 
 ghost use Rattle.std.specs.Prelude.{◌≡◌};
 ghost use Rattle.tt_render_texts.specs.declared.refusal.Refusal.TheVariants as reason;
-ghost use Rattle.tt_render_texts.specs.Views.{before_lines, refusal_of_draw, refusal_of_run};
+ghost use Rattle.tt_render_texts.specs.Views.{before_lines, refusal_of_draw, refusal_of_put, refusal_of_run};
 
 use std::alloc::AllocError;
 use thiserror::Error;
 use tt_core::{DrawFault, Fault, JobFault};
-use tt_render_streams::RunFault;
+use tt_render_streams::{NotPut, RunFault};
 
 /// Why a text is refused, or a call that draws texts stops.
 #[derive(Clone, Copy, Debug, PartialEq, Eq, Error)]
@@ -33,10 +33,14 @@ pub enum Refusal {
     /// The lines could not be read to their end.
     #[error("cannot read the lines")]
     Read,
+    /// The place of the text's picture, as a file, could not be made. Nothing of the text was written.
+    #[error("cannot create the picture")]
+    Create,
     /// Writing failed after `sent` bytes of the text's output.
     #[error("cannot write after {sent} bytes")]
     Write { sent: u64 },
-    /// 4,294,967,295 lines were drawn; no test says whether there are more.
+    /// 4,294,967,295 lines were drawn, and no test says whether there are more; or so many reads found no end of a line
+    /// that is too long.
     #[error("too many lines")]
     Many,
     /// Memory was refused.
@@ -76,6 +80,16 @@ pub fn refusal_of_run(fault: RunFault) -> Refusal
         RunFault::FontLarge => Refusal::FontLarge,
         RunFault::Write { sent } => Refusal::Write { sent },
         RunFault::Memory => Refusal::Memory,
+    }
+}
+
+/// A picture that is not in its place stops the call.
+pub fn refusal_of_put(fault: NotPut) -> Refusal
+    ensures { result ≡ refusal_of_put fault }
+{
+    match fault {
+        NotPut::Uncreated => Refusal::Create,
+        NotPut::Cut { sent } => Refusal::Write { sent },
     }
 }
 

@@ -16,7 +16,7 @@ pub fn texts_status(fault: &TextsFault) -> u8
         Refusal::Font(_) => 1,
         Refusal::Job(_) | Refusal::NotUtf8 | Refusal::Missing(_) | Refusal::Many => 2,
         Refusal::FontRead | Refusal::FontLarge | Refusal::Read => 3,
-        Refusal::Write { .. } => 4,
+        Refusal::Create | Refusal::Write { .. } => 4,
         Refusal::Memory => 5,
     }
 }
@@ -32,6 +32,7 @@ pub fn named_line(fault: &TextsFault) -> Option<u32>
         | Refusal::Job(_)
         | Refusal::NotUtf8
         | Refusal::Missing(_)
+        | Refusal::Create
         | Refusal::Write { .. } => fault.line,
     }
 }
@@ -66,6 +67,7 @@ pub fn texts_line(alloc: Global, fault: &TextsFault) -> Result<String, AllocErro
         Refusal::FontRead => format!(in alloc; "{head}cannot read the font"),
         Refusal::FontLarge => format!(in alloc; "{head}font larger than 67108864 bytes"),
         Refusal::Read => format!(in alloc; "{head}cannot read the lines"),
+        Refusal::Create => format!(in alloc; "{head}cannot create the picture"),
         Refusal::Write { sent } => format!(in alloc; "{head}cannot write after {sent} bytes"),
         Refusal::Many => format!(in alloc; "{head}more than 4294967295 lines"),
         Refusal::Memory => format!(in alloc; "{head}out of memory"),

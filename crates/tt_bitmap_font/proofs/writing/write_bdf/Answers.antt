@@ -1,5 +1,6 @@
 use Rattle.std.proofs.Common.{ℕ, List, Err, inl, subst}
 use Rattle.tt_render_settings.proofs.FontLines.{reading_stops}
+use Rattle.tt_render_settings.specs.Lines.{stream}
 use Rattle.tt_render_settings.proofs.OneText.{job_tells, reading_tells, silent, text_cut, text_fails, text_written}
 use Rattle.tt_render_texts.proofs.Printed.{keeps_itself}
 use Rattle.tt_render_texts.specs.declared.refusal.Refusal.TheVariants as reason
@@ -66,7 +67,7 @@ returns-in-Err-ready_file-clause-outcome g c =
     let P : List ℕ → Type 0 = λ bytes. FileReadies (λ t. bdf_outcome asked t.face) (strike_of a bytes) (Err fault) in
     let why = subst P c.deref.ensures.value c.in-Err-ready_file.ensures.outcome in
     rw c.hinted.ensures
-    (text_fails a (λ t. bdf_outcome asked t.face) text file.file.items fault
+    (text_fails (Unit {0}) stream a (λ t. bdf_outcome asked t.face) text file.file.items fault
     (traffic_of left g.R.Source.has_failed g.W.Sink.written g.W.Sink.has_failed c.args.font.now font c.args.out.now
     c.args.out.now) (errors_of g.E.Sink.written g.E.Sink.has_failed c.args.error.now c.args.error.now)
     c.in_default.ensures.exact (file.ensures.0, file.ensures.1, file.ensures.3) why
@@ -82,7 +83,7 @@ returns-in-Ok-write_all_of-clause-outcome g c =
     let printed = rw (c.requires.error, c.deref-in-Ok-write_all_of.ensures, ready.ensures.report) at c.print_text.ensures in
     let sent = rw c.deref-2.ensures.value at c.in-Ok-write_all_of.ensures.all in
     rw c.done.ensures
-    (text_written (setting_of asked) (λ t. bdf_outcome asked t.face) asked.text.now file.file.items made.0
+    (text_written (Unit {0}) tt stream (setting_of asked) (λ t. bdf_outcome asked t.face) asked.text.now file.file.items made.0
     (file_view ready.ready)
     (traffic_of g.R.Source.left g.R.Source.has_failed g.W.Sink.written g.W.Sink.has_failed c.args.font.now
     c.read_font.new.font c.args.out.now c.write_all_of.new.out)
@@ -98,13 +99,13 @@ returns-clause-outcome g c =
     let made = rw c.deref.ensures.value at ready.ensures.outcome in
     let cut_off = c.in-Err-write_all_of.ensures in
     rw c.unhinted-in-Err-write_all_of.ensures
-    (text_cut (setting_of asked) (λ t. bdf_outcome asked t.face) asked.text.now file.file.items made.0
+    (text_cut (Unit {0}) stream (setting_of asked) (λ t. bdf_outcome asked t.face) asked.text.now file.file.items made.0
     (file_view ready.ready) c.in-Err-write_all_of.cut.sent
     (traffic_of g.R.Source.left g.R.Source.has_failed g.W.Sink.written g.W.Sink.has_failed c.args.font.now
     c.read_font.new.font c.args.out.now c.write_all_of.new.out)
     (errors_of g.E.Sink.written g.E.Sink.has_failed c.args.error.now c.args.error.now)
     c.in_default.ensures.exact (file.ensures.0, file.ensures.1, file.ensures.3) made.1 made.2
-    (rw c.deref-2.ensures.value at cut_off.within, rw c.deref-2.ensures.value at cut_off.part) cut_off.failure
+    (rw c.deref-2.ensures.value at cut_off.within) (rw c.deref-2.ensures.value at cut_off.part) cut_off.failure
     (keeps_itself (g.E.Sink.written c.args.error.now), c.requires.error))
 
 pub returns-in-Err-clause-hint : goal.returns-in-Err-clause-hint

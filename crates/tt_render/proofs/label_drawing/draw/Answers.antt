@@ -1,6 +1,6 @@
 use Rattle.std.proofs.Common.{◌∙◌, ap, inl, refl}
 use Rattle.std.proofs.lemmas.Result.{err_from_is_err_and}
-use Rattle.tt_label.specs.Label.{label_glyphs}
+use Rattle.tt_render.specs.Labels.{composed_glyphs}
 use Rattle.tt_render.specs.declared.label_answers.ReadyLabel.{ReadyLabel}
 use Rattle.tt_render.specs.Labels.{label_answer, label_notes}
 use Rattle.tt_render_settings.specs.LinesDefects.{IsTextDefect}
@@ -53,19 +53,19 @@ returns-in_err-face-clause-defects c =
 pub returns-in_err-strike-clause-defects : goal.returns-in_err-strike-clause-defects
 returns-in_err-strike-clause-defects c =
     let p = err_from_is_err_and c.from_residual-in_err-strike.result c.from_residual-in_err-strike.ensures.1 in
-    rw (p.1, p.2) (strike_tells ReadyLabel (IsTextDefect label_glyphs c.args.asked.now.setting c.args.text.now c.args.file.now)
+    rw (p.1, p.2) (strike_tells ReadyLabel (IsTextDefect composed_glyphs c.args.asked.now.setting c.args.text.now c.args.file.now)
     c.in_err-strike.field-0.0 c.in_err-strike.ensures.font)
 
 pub returns-in-Ok-clause-defects : goal.returns-in-Ok-clause-defects
 returns-in-Ok-clause-defects c =
     let none = rw c.in_ok-strike.ensures.exact at c.in-Ok.ensures.defects in
-    none_in_file label_glyphs c.args.asked.now.setting c.args.text.now c.args.file.now c.in_ok-face.face
+    none_in_file composed_glyphs c.args.asked.now.setting c.args.text.now c.args.file.now c.in_ok-face.face
     c.in_ok-face.ensures.exact c.in_ok-face.ensures.sound none
 
 pub returns-clause-defects : goal.returns-clause-defects
 returns-clause-defects c =
     let stands = rw c.in_ok-strike.ensures.exact at c.in-Err.ensures.defects in
-    rw c.texts_fault.ensures (text_tells ReadyLabel label_glyphs c.args.asked.now.setting c.args.text.now c.args.file.now
+    rw c.texts_fault.ensures (text_tells ReadyLabel composed_glyphs c.args.asked.now.setting c.args.text.now c.args.file.now
     c.in_ok-face.face c.in-Err.fault.refusal c.in_ok-face.ensures.exact stands c.in-Err.ensures.serves)
 
 pub answer_label-requires : goal.answer_label-requires

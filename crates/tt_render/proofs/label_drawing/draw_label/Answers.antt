@@ -1,19 +1,22 @@
-use Rattle.std.proofs.Common.{◌≡◌, refl, ℕ, List, Ok, Err, inl, subst}
+use Rattle.std.proofs.Common.{◌≡◌, refl, ℕ, List, Option, None, Ok, Err, inl, subst}
 use Rattle.tt_render_texts.specs.declared.refusal.Refusal.TheVariants as reason
 use Rattle.tt_render.specs.Labels.{HintsBy, LabelReadies, hint_for, label_answer, label_view}
-use Rattle.tt_label.specs.Label.{label_glyphs}
+use Rattle.tt_render.specs.Labels.{composed_glyphs}
+use Rattle.tt_render_settings.specs.Lines.{places}
+use Rattle.tt_render_texts.specs.declared.refusal.TextsFault.{TextsFault}
+use Rattle.tt_render.proofs.SentLabels.{not_put, put_hints, put_tells}
 use Rattle.tt_render_settings.specs.LinesDefects.{IsTextDefect}
 use Rattle.tt_render_streams.specs.Traffic.{traffic_of}
 use Rattle.tt_render_texts.specs.Printing.{errors_of}
 use Rattle.tt_render_streams.specs.Reading.{font_reader_of}
 use Rattle.tt_render_settings.specs.Settings.{job_by, strike_of}
-use Rattle.tt_render_settings.specs.TextsOutcome.{StopsAtFont, TextTellsDefects}
-use Rattle.tt_render_texts.specs.Views.{before_lines}
+use Rattle.tt_render_settings.specs.TextsOutcome.{StopsAtFont, TellsFor, TextTellsDefects}
+use Rattle.tt_render_texts.specs.Views.{before_lines, refusal_of_put}
 use Rattle.tt_strike.specs.Job.{Job, tested}
 use Rattle.tt_render_streams.proofs.Known.{known_of}
 use Rattle.tt_render_settings.proofs.FontLines.{reading_stops}
 use Rattle.tt_render.proofs.LabelCalls.{if_some_all, reading_hints}
-use Rattle.tt_render_settings.proofs.OneText.{job_tells, reading_tells, silent, text_cut, text_fails, text_written}
+use Rattle.tt_render_settings.proofs.OneText.{job_tells, reading_tells, silent, text_fails, text_written}
 use Rattle.tt_render_texts.proofs.Printed.{keeps_itself}
 use Rattle.tt_render.proofs.label_drawing.draw_label.Goals as goal
 
@@ -22,14 +25,14 @@ returns-in-Err-clause-outcome g c =
     let left = g.R.Source.left c.args.font.now in
     let a = c.args.asked.now.setting in
     let j = c.in-Err.fault in
-    let stops : StopsAtFont {V = Unit {0}} (tested (job_by a c.args.text.now)) (strike_of a)
+    let stops : StopsAtFont {V = Option TextsFault} (tested (job_by a c.args.text.now)) (strike_of a)
     (Err (before_lines (reason.Job j)))
     (font_reader_of g.R.Source.left g.R.Source.has_failed c.args.font.now c.args.font.now)
     = (subst (λ (k : Job). tested k ≡ Err j) c.job.ensures.exact c.in-Err.ensures.exact, (keeps_itself left, c.requires.font)) in
     rw c.unhinted.ensures
     (inl (
       stops,
-      silent left left (g.W.Sink.written c.args.out.now) (g.E.Sink.written c.args.error.now)
+      silent left left (g.P.Pictures.written c.args.out.now) (g.E.Sink.written c.args.error.now)
           (g.R.Source.has_failed c.args.font.now) _ _ c.requires.out c.requires.error,
     ))
 
@@ -40,12 +43,12 @@ returns-in-Err-read_font-clause-outcome g c =
     let font = c.read_font.new.font in
     let failed = g.R.Source.has_failed font in
     let good = subst (λ (k : Job). tested k ≡ Ok tt) c.job.ensures.exact c.in_default.ensures.exact in
-    let stops = reading_stops (Unit {0}) (tested (job_by a c.args.text.now)) (strike_of a) c.in-Err-read_font.fault
+    let stops = reading_stops (Option TextsFault) (tested (job_by a c.args.text.now)) (strike_of a) c.in-Err-read_font.fault
     (left c.args.font.now) (left font) failed good c.in-Err-read_font.ensures in
     rw (c.unhinted-in-Err-read_font.ensures, c.refusal_of_run.ensures)
     (inl (
       stops,
-      silent (left c.args.font.now) (left font) (g.W.Sink.written c.args.out.now)
+      silent (left c.args.font.now) (left font) (g.P.Pictures.written c.args.out.now)
           (g.E.Sink.written c.args.error.now) failed _ _ c.requires.out c.requires.error,
     ))
 
@@ -59,11 +62,11 @@ returns-in-Err-notes_of-clause-outcome g c =
     let text = c.args.text.now in
     let good = subst (λ (k : Job). tested k ≡ Ok tt) c.job.ensures.exact c.in_default.ensures.exact in
     rw c.unhinted-in-Err-notes_of.ensures
-    (text_fails l.setting (λ t. label_answer l t text) text file.file.items (before_lines reason.Memory)
-    (traffic_of left g.R.Source.has_failed g.W.Sink.written g.W.Sink.has_failed c.args.font.now font c.args.out.now
+    (text_fails (Option TextsFault) (places g.P.Pictures.shown) l.setting (λ t. label_answer l t text) text file.file.items (before_lines reason.Memory)
+    (traffic_of left g.R.Source.has_failed g.P.Pictures.written g.P.Pictures.has_failed c.args.font.now font c.args.out.now
     c.args.out.now) (errors_of g.E.Sink.written g.E.Sink.has_failed c.args.error.now c.args.error.now)
     good (file.ensures.0, file.ensures.1, file.ensures.3) tt
-    (silent (left c.args.font.now) (left font) (g.W.Sink.written c.args.out.now) (g.E.Sink.written c.args.error.now)
+    (silent (left c.args.font.now) (left font) (g.P.Pictures.written c.args.out.now) (g.E.Sink.written c.args.error.now)
     failed _ _ c.requires.out c.requires.error))
 
 pub returns-in-Err-draw-clause-outcome : goal.returns-in-Err-draw-clause-outcome
@@ -79,29 +82,29 @@ returns-in-Err-draw-clause-outcome g c =
     let P : List ℕ → Type 0 = λ bytes. LabelReadies (λ t. label_answer l t text) (strike_of l.setting bytes) (Err fault) in
     let why = subst P c.deref-2.ensures.value c.in-Err-draw.ensures.outcome in
     rw c.hinted.ensures
-    (text_fails l.setting (λ t. label_answer l t text) text file.file.items fault
-    (traffic_of left g.R.Source.has_failed g.W.Sink.written g.W.Sink.has_failed c.args.font.now font c.args.out.now
+    (text_fails (Option TextsFault) (places g.P.Pictures.shown) l.setting (λ t. label_answer l t text) text file.file.items fault
+    (traffic_of left g.R.Source.has_failed g.P.Pictures.written g.P.Pictures.has_failed c.args.font.now font c.args.out.now
     c.args.out.now) (errors_of g.E.Sink.written g.E.Sink.has_failed c.args.error.now c.args.error.now)
     good (file.ensures.0, file.ensures.1, file.ensures.3) why
-    (silent (left c.args.font.now) (left font) (g.W.Sink.written c.args.out.now) (g.E.Sink.written c.args.error.now)
+    (silent (left c.args.font.now) (left font) (g.P.Pictures.written c.args.out.now) (g.E.Sink.written c.args.error.now)
     failed _ _ c.requires.out c.requires.error))
 
-pub returns-in-Ok-write_picture-clause-outcome : goal.returns-in-Ok-write_picture-clause-outcome
-returns-in-Ok-write_picture-clause-outcome g c =
+pub returns-in-Ok-put-clause-outcome : goal.returns-in-Ok-put-clause-outcome
+returns-in-Ok-put-clause-outcome g c =
     let file = c.in-Ok in
     let ready = c.in-Ok-draw in
     let l = c.args.asked.now in
     let good = subst (λ (k : Job). tested k ≡ Ok tt) c.job.ensures.exact c.in_default.ensures.exact in
     let made = rw c.deref-2.ensures.value at ready.ensures.outcome in
-    let printed = rw (c.requires.error, c.deref-in-Ok-write_picture.ensures, ready.ensures.report) at c.print_text.ensures in
+    let printed = rw (c.requires.error, c.deref-in-Ok-put.ensures, ready.ensures.report) at c.print_text.ensures in
     rw c.done.ensures
-    (text_written l.setting (λ t. label_answer l t c.args.text.now) c.args.text.now file.file.items made.0
+    (text_written (Option TextsFault) None (places g.P.Pictures.shown) l.setting (λ t. label_answer l t c.args.text.now) c.args.text.now file.file.items made.0
     (label_view ready.ready)
-    (traffic_of g.R.Source.left g.R.Source.has_failed g.W.Sink.written g.W.Sink.has_failed c.args.font.now
-    c.read_font.new.font c.args.out.now c.write_picture.new.out)
+    (traffic_of g.R.Source.left g.R.Source.has_failed g.P.Pictures.written g.P.Pictures.has_failed c.args.font.now
+    c.read_font.new.font c.args.out.now c.put.new.self)
     (errors_of g.E.Sink.written g.E.Sink.has_failed c.args.error.now c.print_text.new.error)
     good (file.ensures.0, file.ensures.1, file.ensures.3) made.1 made.2
-    c.in-Ok-write_picture.ensures.writes.all c.in-Ok-write_picture.ensures.writes.failure printed)
+    c.in-Ok-put.ensures.all c.in-Ok-put.ensures.failure printed)
 
 pub returns-clause-outcome : goal.returns-clause-outcome
 returns-clause-outcome g c =
@@ -110,15 +113,13 @@ returns-clause-outcome g c =
     let l = c.args.asked.now in
     let good = subst (λ (k : Job). tested k ≡ Ok tt) c.job.ensures.exact c.in_default.ensures.exact in
     let made = rw c.deref-2.ensures.value at ready.ensures.outcome in
-    let cut = c.in-Err-write_picture.ensures.writes in
-    rw c.unhinted-in-Err-write_picture.ensures
-    (text_cut l.setting (λ t. label_answer l t c.args.text.now) c.args.text.now file.file.items made.0
-    (label_view ready.ready) c.in-Err-write_picture.cut.sent
-    (traffic_of g.R.Source.left g.R.Source.has_failed g.W.Sink.written g.W.Sink.has_failed c.args.font.now
-    c.read_font.new.font c.args.out.now c.write_picture.new.out)
-    (errors_of g.E.Sink.written g.E.Sink.has_failed c.args.error.now c.args.error.now)
-    good (file.ensures.0, file.ensures.1, file.ensures.3) made.1 made.2
-    (cut.within, cut.part) cut.failure
+    let t = traffic_of g.R.Source.left g.R.Source.has_failed g.P.Pictures.written g.P.Pictures.has_failed c.args.font.now
+    c.read_font.new.font c.args.out.now c.put.new.self in
+    let e = errors_of g.E.Sink.written g.E.Sink.has_failed c.args.error.now c.args.error.now in
+    rw (c.unhinted-in-Err-put.ensures, c.refusal_of_put.ensures)
+    (not_put (places g.P.Pictures.shown) l.setting (λ t. label_answer l t c.args.text.now) c.args.text.now file.file.items made.0
+    (label_view ready.ready) t e c.in-Err-put.fault refl good (file.ensures.0, file.ensures.1, file.ensures.3) made.1 made.2
+    c.in-Err-put.ensures.part c.in-Err-put.ensures.failure
     (keeps_itself (g.E.Sink.written c.args.error.now), c.requires.error))
 
 pub returns-in-Err-clause-hint : goal.returns-in-Err-clause-hint
@@ -146,18 +147,20 @@ returns-in-Err-draw-clause-hint g c =
     (rw (c.hinted.ensures, c.deref-in-Err-draw.ensures.value) (refl {a = hint_for c.in-Err-draw.fault.refusal file.file.items
     c.args.asked.now.setting.opening.reading}))
 
-pub returns-in-Ok-write_picture-clause-hint : goal.returns-in-Ok-write_picture-clause-hint
-returns-in-Ok-write_picture-clause-hint g c =
+pub returns-in-Ok-put-clause-hint : goal.returns-in-Ok-put-clause-hint
+returns-in-Ok-put-clause-hint g c =
     rw c.done.ensures (if_some_all (g.R.Source.left c.args.font.now) _ (λ file. refl))
 
 pub returns-clause-hint : goal.returns-clause-hint
 returns-clause-hint g c =
-    rw c.unhinted-in-Err-write_picture.ensures (if_some_all (g.R.Source.left c.args.font.now) _ (λ file. refl))
+    rw (c.unhinted-in-Err-put.ensures, c.refusal_of_put.ensures)
+    (if_some_all (g.R.Source.left c.args.font.now) _
+    (λ file. put_hints c.in-Err-put.fault file c.args.asked.now.setting.opening.reading))
 
 pub returns-in-Err-clause-defects : goal.returns-in-Err-clause-defects
 returns-in-Err-clause-defects g c =
     rw c.unhinted.ensures (job_tells (g.R.Source.left c.args.font.now)
-    (IsTextDefect label_glyphs c.args.asked.now.setting c.args.text.now) c.in-Err.fault)
+    (IsTextDefect composed_glyphs c.args.asked.now.setting c.args.text.now) c.in-Err.fault)
 
 pub returns-in-Err-read_font-clause-defects : goal.returns-in-Err-read_font-clause-defects
 returns-in-Err-read_font-clause-defects g c =
@@ -165,7 +168,7 @@ returns-in-Err-read_font-clause-defects g c =
     let font = c.read_font.new.font in
     rw (c.unhinted-in-Err-read_font.ensures, c.refusal_of_run.ensures)
     (reading_tells c.in-Err-read_font.fault (left c.args.font.now) (left font) (g.R.Source.has_failed font)
-    (IsTextDefect label_glyphs c.args.asked.now.setting c.args.text.now) c.in-Err-read_font.ensures)
+    (IsTextDefect composed_glyphs c.args.asked.now.setting c.args.text.now) c.in-Err-read_font.ensures)
 
 pub returns-in-Err-notes_of-clause-defects : goal.returns-in-Err-notes_of-clause-defects
 returns-in-Err-notes_of-clause-defects g c =
@@ -179,14 +182,14 @@ pub returns-in-Err-draw-clause-defects : goal.returns-in-Err-draw-clause-defects
 returns-in-Err-draw-clause-defects g c =
     let left = g.R.Source.left in
     let file = c.in-Ok in
-    let P : List ℕ → Type 0 = λ bytes. TextTellsDefects {V = Unit {0}}
-    (IsTextDefect label_glyphs c.args.asked.now.setting c.args.text.now bytes) (Err c.in-Err-draw.fault) in
+    let P : List ℕ → Type 0 = λ bytes. TextTellsDefects {V = Option TextsFault}
+    (IsTextDefect composed_glyphs c.args.asked.now.setting c.args.text.now bytes) (Err c.in-Err-draw.fault) in
     let tells = subst P c.deref-2.ensures.value c.in-Err-draw.ensures.defects in
     rw c.hinted.ensures
     (known_of (left c.args.font.now) (left c.read_font.new.font) file.file.items P file.ensures.0 file.ensures.1 tells)
 
-pub returns-in-Ok-write_picture-clause-defects : goal.returns-in-Ok-write_picture-clause-defects
-returns-in-Ok-write_picture-clause-defects g c =
+pub returns-in-Ok-put-clause-defects : goal.returns-in-Ok-put-clause-defects
+returns-in-Ok-put-clause-defects g c =
     let left = g.R.Source.left in
     let file = c.in-Ok in
     let tells = rw c.deref-2.ensures.value at c.in-Ok-draw.ensures.defects in
@@ -197,6 +200,9 @@ pub returns-clause-defects : goal.returns-clause-defects
 returns-clause-defects g c =
     let left = g.R.Source.left in
     let file = c.in-Ok in
-    let tells = rw c.deref-2.ensures.value at c.in-Ok-draw.ensures.defects in
-    rw c.unhinted-in-Err-write_picture.ensures
-    (known_of (left c.args.font.now) (left c.read_font.new.font) file.file.items _ file.ensures.0 file.ensures.1 tells)
+    let none = rw c.deref-2.ensures.value at c.in-Ok-draw.ensures.defects in
+    let P : List ℕ → Type 0 = λ bytes. TellsFor (IsTextDefect composed_glyphs c.args.asked.now.setting c.args.text.now bytes)
+    (refusal_of_put c.in-Err-put.fault) in
+    rw (c.unhinted-in-Err-put.ensures, c.refusal_of_put.ensures)
+    (known_of (left c.args.font.now) (left c.read_font.new.font) file.file.items P file.ensures.0 file.ensures.1
+    (put_tells (IsTextDefect composed_glyphs c.args.asked.now.setting c.args.text.now file.file.items) c.in-Err-put.fault none))

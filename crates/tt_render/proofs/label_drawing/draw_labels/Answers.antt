@@ -1,5 +1,7 @@
-use Rattle.std.proofs.Common.{refl, List, Ok, Err, inl, subst}
-use Rattle.tt_label.specs.Label.{label_glyphs}
+use Rattle.std.proofs.Common.{refl, List, Option, Ok, Err, inl, subst}
+use Rattle.tt_render_settings.specs.Lines.{places}
+use Rattle.tt_render_texts.specs.declared.refusal.TextsFault.{TextsFault}
+use Rattle.tt_render.specs.Labels.{composed_glyphs}
 use Rattle.tt_render.specs.Labels.{FileLabelsGive, HintsBy}
 use Rattle.tt_render_settings.specs.LinesDefects.{LinesTellDefects}
 use Rattle.tt_render_streams.specs.Traffic.{traffic_of}
@@ -15,9 +17,9 @@ use Rattle.tt_render.proofs.label_drawing.draw_labels.Goals as goal
 
 pub returns-in-Err-clause-outcome : goal.returns-in-Err-clause-outcome
 returns-in-Err-clause-outcome g c =
-    let rest = idle (g.R.Source.left c.args.lines.now) (g.W.Sink.written c.args.out.now)
+    let rest = idle (g.R.Source.left c.args.lines.now) (g.P.Pictures.written c.args.out.now)
     (g.E.Sink.written c.args.error.now) (g.R.Source.has_failed c.args.lines.now)
-    (g.W.Sink.has_failed c.args.out.now) (g.E.Sink.has_failed c.args.error.now) c.requires.lines c.requires.out
+    (g.P.Pictures.has_failed c.args.out.now) (g.E.Sink.has_failed c.args.error.now) c.requires.lines c.requires.out
     c.requires.error in
     let unread : FontIsUnread (font_reader_of g.F.Source.left g.F.Source.has_failed c.args.font.now c.args.font.now) =
     (keeps_itself (g.F.Source.left c.args.font.now), c.requires.font) in
@@ -26,11 +28,11 @@ returns-in-Err-clause-outcome g c =
 pub returns-in-Err-read_font-clause-outcome : goal.returns-in-Err-read_font-clause-outcome
 returns-in-Err-read_font-clause-outcome g c =
     let left = g.F.Source.left in
-    let rest = idle (g.R.Source.left c.args.lines.now) (g.W.Sink.written c.args.out.now)
+    let rest = idle (g.R.Source.left c.args.lines.now) (g.P.Pictures.written c.args.out.now)
     (g.E.Sink.written c.args.error.now) (g.R.Source.has_failed c.args.lines.now)
-    (g.W.Sink.has_failed c.args.out.now) (g.E.Sink.has_failed c.args.error.now) c.requires.lines c.requires.out
+    (g.P.Pictures.has_failed c.args.out.now) (g.E.Sink.has_failed c.args.error.now) c.requires.lines c.requires.out
     c.requires.error in
-    let stops = reading_stops (Unit {0}) _ (strike_of c.args.asked.now.setting) c.in-Err-read_font.fault
+    let stops = reading_stops (Option TextsFault) _ (strike_of c.args.asked.now.setting) c.in-Err-read_font.fault
     (left c.args.font.now) (left c.read_font.new.font) (g.F.Source.has_failed c.read_font.new.font) c.in_default.ensures
     c.in-Err-read_font.ensures in
     rw (c.unhinted-in-Err-read_font.ensures, c.refusal_of_run.ensures) (inl (stops, rest))
@@ -41,11 +43,11 @@ returns-in-Ok-draw_labels_of-clause-outcome g c =
     let file = c.in-Ok in
     let f = font_reader_of g.F.Source.left g.F.Source.has_failed c.args.font.now c.read_font.new.font in
     let read : FontIsRead f file.file.items = (file.ensures.0, file.ensures.1, file.ensures.3) in
-    let t = traffic_of g.R.Source.left g.R.Source.has_failed g.W.Sink.written g.W.Sink.has_failed c.args.lines.now
+    let t = traffic_of g.R.Source.left g.R.Source.has_failed g.P.Pictures.written g.P.Pictures.has_failed c.args.lines.now
     c.draw_labels_of.new.lines c.args.out.now c.draw_labels_of.new.out in
     let e = errors_of g.E.Sink.written g.E.Sink.has_failed c.args.error.now c.draw_labels_of.new.error in
     rw c.done.ensures
-    (by_reader {V = Unit {0}} l file.file.items (Ok tt) f t e c.in_default.ensures read
+    (by_reader (places g.P.Pictures.shown) l file.file.items (Ok c.in-Ok-draw_labels_of.first) f t e c.in_default.ensures read
     (rw c.deref.ensures.value at c.in-Ok-draw_labels_of.ensures.outcome))
 
 pub returns-clause-outcome : goal.returns-clause-outcome
@@ -54,13 +56,13 @@ returns-clause-outcome g c =
     let file = c.in-Ok in
     let f = font_reader_of g.F.Source.left g.F.Source.has_failed c.args.font.now c.read_font.new.font in
     let read : FontIsRead f file.file.items = (file.ensures.0, file.ensures.1, file.ensures.3) in
-    let t = traffic_of g.R.Source.left g.R.Source.has_failed g.W.Sink.written g.W.Sink.has_failed c.args.lines.now
+    let t = traffic_of g.R.Source.left g.R.Source.has_failed g.P.Pictures.written g.P.Pictures.has_failed c.args.lines.now
     c.draw_labels_of.new.lines c.args.out.now c.draw_labels_of.new.out in
     let e = errors_of g.E.Sink.written g.E.Sink.has_failed c.args.error.now c.draw_labels_of.new.error in
     let fault = c.in-Err-draw_labels_of.fault in
-    let Gives : List _ → Type 0 = λ bytes. FileLabelsGive {V = Unit {0}} l bytes (Err fault) t e in
+    let Gives : List _ → Type 0 = λ bytes. FileLabelsGive (places g.P.Pictures.shown) l bytes (Err fault) t e in
     rw c.hinted.ensures
-    (by_reader {V = Unit {0}} l file.file.items (Err fault) f t e c.in_default.ensures read
+    (by_reader (places g.P.Pictures.shown) l file.file.items (Err fault) f t e c.in_default.ensures read
     (subst Gives c.deref.ensures.value c.in-Err-draw_labels_of.ensures.outcome))
 
 pub returns-in-Err-clause-hint : goal.returns-in-Err-clause-hint
@@ -88,7 +90,7 @@ returns-clause-hint g c =
 
 pub returns-in-Err-clause-defects : goal.returns-in-Err-clause-defects
 returns-in-Err-clause-defects g c =
-    rw c.unhinted.ensures (setting_tells (Unit {0}) label_glyphs (g.F.Source.left c.args.font.now)
+    rw c.unhinted.ensures (setting_tells (Option TextsFault) composed_glyphs (g.F.Source.left c.args.font.now)
     c.args.asked.now.setting (g.R.Source.left c.args.lines.now) c.in-Err.fault)
 
 pub returns-in-Err-read_font-clause-defects : goal.returns-in-Err-read_font-clause-defects
@@ -96,7 +98,7 @@ returns-in-Err-read_font-clause-defects g c =
     let left = g.F.Source.left in
     let font = c.read_font.new.font in
     rw (c.unhinted-in-Err-read_font.ensures, c.refusal_of_run.ensures)
-    (reading_tells (Unit {0}) label_glyphs c.in-Err-read_font.fault (left c.args.font.now) (left font)
+    (reading_tells (Option TextsFault) composed_glyphs c.in-Err-read_font.fault (left c.args.font.now) (left font)
     (g.F.Source.has_failed font) c.args.asked.now.setting (g.R.Source.left c.args.lines.now) c.in-Err-read_font.ensures)
 
 pub returns-in-Ok-draw_labels_of-clause-defects : goal.returns-in-Ok-draw_labels_of-clause-defects
@@ -108,7 +110,7 @@ returns-clause-defects g c =
     let left = g.F.Source.left in
     let file = c.in-Ok in
     let fault = c.in-Err-draw_labels_of.fault in
-    let Tells : List _ → Type 0 = λ bytes. LinesTellDefects {V = Unit {0}} label_glyphs c.args.asked.now.setting
+    let Tells : List _ → Type 0 = λ bytes. LinesTellDefects {V = Option TextsFault} composed_glyphs c.args.asked.now.setting
     (g.R.Source.left c.args.lines.now) (Err fault) bytes in
     let tells = subst Tells c.deref.ensures.value c.in-Err-draw_labels_of.ensures.defects in
     rw c.hinted.ensures

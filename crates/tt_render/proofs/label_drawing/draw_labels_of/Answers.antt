@@ -1,6 +1,7 @@
-use Rattle.std.proofs.Common.{Some, ap, inl, inr}
+use Rattle.std.proofs.Common.{Option, Some, ap, inl, inr}
+use Rattle.tt_render_texts.specs.declared.refusal.TextsFault.{TextsFault}
 use Rattle.std.proofs.lemmas.Result.{err_from_is_err_and}
-use Rattle.tt_label.specs.Label.{label_glyphs}
+use Rattle.tt_render.specs.Labels.{composed_glyphs}
 use Rattle.tt_render.specs.Labels.{label_notes}
 use Rattle.tt_render_settings.specs.Settings.{strike_by, strike_of}
 use Rattle.tt_render_settings.proofs.DefectLines.{lines_tell, strike_tells}
@@ -11,9 +12,9 @@ use Rattle.tt_render.proofs.label_drawing.draw_labels_of.Goals as goal
 pub returns-in_err-face-clause-outcome : goal.returns-in_err-face-clause-outcome
 returns-in_err-face-clause-outcome g c =
     let p = err_from_is_err_and c.from_residual.result c.from_residual.ensures.1 in
-    let rest = idle (g.R.Source.left c.args.lines.now) (g.W.Sink.written c.args.out.now)
+    let rest = idle (g.R.Source.left c.args.lines.now) (g.P.Pictures.written c.args.out.now)
     (g.E.Sink.written c.args.error.now) (g.R.Source.has_failed c.args.lines.now)
-    (g.W.Sink.has_failed c.args.out.now) (g.E.Sink.has_failed c.args.error.now) c.requires.lines c.requires.out
+    (g.P.Pictures.has_failed c.args.out.now) (g.E.Sink.has_failed c.args.error.now) c.requires.lines c.requires.out
     c.requires.error in
     let refused = font_refused c.args.asked.now.setting c.args.file.now c.in_err-face.field-0.0 c.requires.size
     c.in_err-face.ensures.exact in
@@ -23,12 +24,12 @@ pub returns-in_err-strike-clause-outcome : goal.returns-in_err-strike-clause-out
 returns-in_err-strike-clause-outcome g c =
     let p = err_from_is_err_and c.from_residual-in_err-strike.result c.from_residual-in_err-strike.ensures.1 in
     let a = c.args.asked.now.setting in
-    let rest = idle (g.R.Source.left c.args.lines.now) (g.W.Sink.written c.args.out.now)
+    let rest = idle (g.R.Source.left c.args.lines.now) (g.P.Pictures.written c.args.out.now)
     (g.E.Sink.written c.args.error.now) (g.R.Source.has_failed c.args.lines.now)
-    (g.W.Sink.has_failed c.args.out.now) (g.E.Sink.has_failed c.args.error.now) c.requires.lines c.requires.out
+    (g.P.Pictures.has_failed c.args.out.now) (g.E.Sink.has_failed c.args.error.now) c.requires.lines c.requires.out
     c.requires.error in
     rw (p.1, p.2) (inl (
-      strike_unopened (Unit {0}) a (strike_of a c.args.file.now) c.in_err-strike.field-0.0 c.requires.tested
+      strike_unopened (Option TextsFault) a (strike_of a c.args.file.now) c.in_err-strike.field-0.0 c.requires.tested
           c.in_err-strike.ensures.tested,
       rest,
     ))
@@ -36,9 +37,9 @@ returns-in_err-strike-clause-outcome g c =
 pub returns-in_err-notes-clause-outcome : goal.returns-in_err-notes-clause-outcome
 returns-in_err-notes-clause-outcome g c =
     let p = err_from_is_err_and c.from_residual-in_err-notes.result c.from_residual-in_err-notes.ensures.1 in
-    let rest = idle (g.R.Source.left c.args.lines.now) (g.W.Sink.written c.args.out.now)
+    let rest = idle (g.R.Source.left c.args.lines.now) (g.P.Pictures.written c.args.out.now)
     (g.E.Sink.written c.args.error.now) (g.R.Source.has_failed c.args.lines.now)
-    (g.W.Sink.has_failed c.args.out.now) (g.E.Sink.has_failed c.args.error.now) c.requires.lines c.requires.out
+    (g.P.Pictures.has_failed c.args.out.now) (g.E.Sink.has_failed c.args.error.now) c.requires.lines c.requires.out
     c.requires.error in
     rw (p.1, p.2) (inl (tt, rest))
 
@@ -64,7 +65,7 @@ returns-in_err-face-clause-defects g c =
 pub returns-in_err-strike-clause-defects : goal.returns-in_err-strike-clause-defects
 returns-in_err-strike-clause-defects g c =
     let p = err_from_is_err_and c.from_residual-in_err-strike.result c.from_residual-in_err-strike.ensures.1 in
-    rw (p.1, p.2) (strike_tells (Unit {0}) label_glyphs (Some c.args.file.now) c.args.asked.now.setting
+    rw (p.1, p.2) (strike_tells (Option TextsFault) composed_glyphs (Some c.args.file.now) c.args.asked.now.setting
     (g.R.Source.left c.args.lines.now) c.in_err-strike.field-0.0 c.in_err-strike.ensures.font)
 
 pub returns-in_err-notes-clause-defects : goal.returns-in_err-notes-clause-defects
@@ -75,5 +76,5 @@ returns-in_err-notes-clause-defects g c =
 pub returns-clause-defects : goal.returns-clause-defects
 returns-clause-defects g c =
     let tells = rw c.in_ok-strike.ensures.exact at c.draw_labels_by.ensures.defects in
-    lines_tell label_glyphs c.args.asked.now.setting c.args.file.now c.in_ok-face.face (g.R.Source.left c.args.lines.now)
+    lines_tell composed_glyphs c.args.asked.now.setting c.args.file.now c.in_ok-face.face (g.R.Source.left c.args.lines.now)
     c.draw_labels_by.result c.in_ok-face.ensures.exact tells

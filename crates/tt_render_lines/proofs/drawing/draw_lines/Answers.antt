@@ -9,6 +9,7 @@ use Rattle.tt_render_settings.proofs.DrawnLines.{kept_within}
 use Rattle.tt_render_settings.proofs.DefectLines.{lines_tell, reading_tells, setting_tells, strike_tells}
 use Rattle.tt_render_settings.proofs.FontLines.{face_file, font_opened, font_refused, idle, reading_stops, strike_stops}
 use Rattle.tt_render_texts.proofs.Printed.{keeps_itself}
+use Rattle.tt_render_lines.specs.declared.drawing.LinesDrawn.{LinesDrawn}
 use Rattle.tt_render_lines.proofs.drawing.draw_lines.Goals as goal
 use Rattle.tt_face.specs.Files.{IsFaceDefectBy}
 use Rattle.tt_strike.specs.Strikes.{Strike}
@@ -32,7 +33,7 @@ returns-in_err-file-clause-outcome g c =
     (g.E.Sink.written c.args.error.now) (g.R.Source.has_failed c.args.lines.now)
     (g.W.Sink.has_failed c.args.out.now) (g.E.Sink.has_failed c.args.error.now) c.requires.lines c.requires.out
     c.requires.error in
-    let stops = reading_stops ℕ _ (strike_of c.args.setting.now) c.in_err-file.field-0.0 (left c.args.font.now)
+    let stops = reading_stops LinesDrawn _ (strike_of c.args.setting.now) c.in_err-file.field-0.0 (left c.args.font.now)
     (left c.read_font.new.font) (g.F.Source.has_failed c.read_font.new.font) c.in_ok-test_setting.ensures
     c.in_err-file.ensures in
     rw (p.1, p.2) (inl (stops, rest))
@@ -60,7 +61,7 @@ returns-in_err-strike-clause-outcome g c =
     (g.W.Sink.has_failed c.args.out.now) (g.E.Sink.has_failed c.args.error.now) c.requires.lines c.requires.out
     c.requires.error in
     let f = font_reader_of g.F.Source.left g.F.Source.has_failed c.args.font.now c.read_font.new.font in
-    let stops = strike_stops ℕ c.args.setting.now (strike_of c.args.setting.now) c.in_err-strike.field-0.0 f
+    let stops = strike_stops LinesDrawn c.args.setting.now (strike_of c.args.setting.now) c.in_err-strike.field-0.0 f
     file.file.items c.in_ok-test_setting.ensures (file.ensures.0, file.ensures.1, file.ensures.3)
     c.in_err-strike.ensures.tested in
     rw (p.1, p.2) (inl (stops, rest))
@@ -79,14 +80,14 @@ returns-clause-outcome g c =
 pub returns-in_err-test_setting-clause-defects : goal.returns-in_err-test_setting-clause-defects
 returns-in_err-test_setting-clause-defects g c =
     let p = err_from_is_err_and c.from_residual.result c.from_residual.ensures.1 in
-    rw (p.1, p.2) (setting_tells ℕ text_glyphs (g.F.Source.left c.args.font.now) c.args.setting.now
+    rw (p.1, p.2) (setting_tells LinesDrawn text_glyphs (g.F.Source.left c.args.font.now) c.args.setting.now
     (g.R.Source.left c.args.lines.now) c.in_err-test_setting.field-0.0)
 
 pub returns-in_err-file-clause-defects : goal.returns-in_err-file-clause-defects
 returns-in_err-file-clause-defects g c =
     let left = g.F.Source.left in
     let p = err_from_is_err_and c.from_residual-in_err-file.result c.from_residual-in_err-file.ensures.1 in
-    rw (p.1, p.2) (reading_tells ℕ text_glyphs c.in_err-file.field-0.0 (left c.args.font.now) (left c.read_font.new.font)
+    rw (p.1, p.2) (reading_tells LinesDrawn text_glyphs c.in_err-file.field-0.0 (left c.args.font.now) (left c.read_font.new.font)
     (g.F.Source.has_failed c.read_font.new.font) c.args.setting.now (g.R.Source.left c.args.lines.now)
     c.in_err-file.ensures)
 
@@ -103,7 +104,7 @@ returns-in_err-face-clause-defects g c =
 pub returns-in_err-strike-clause-defects : goal.returns-in_err-strike-clause-defects
 returns-in_err-strike-clause-defects g c =
     let p = err_from_is_err_and c.from_residual-in_err-strike.result c.from_residual-in_err-strike.ensures.1 in
-    rw (p.1, p.2) (strike_tells ℕ text_glyphs (g.F.Source.left c.args.font.now) c.args.setting.now
+    rw (p.1, p.2) (strike_tells LinesDrawn text_glyphs (g.F.Source.left c.args.font.now) c.args.setting.now
     (g.R.Source.left c.args.lines.now) c.in_err-strike.field-0.0 c.in_err-strike.ensures.font)
 
 pub returns-clause-defects : goal.returns-clause-defects
@@ -120,7 +121,7 @@ returns-clause-defects g c =
 
 pub returns-clause-kept : goal.returns-clause-kept
 returns-clause-kept g c =
-    kept_within c.draw_lines_by.result c.in_ok-strike.strike.most c.args.setting.now.most
+    kept_within (λ drawn. drawn.kept) c.draw_lines_by.result c.in_ok-strike.strike.most c.args.setting.now.most
     (ap (λ (s : Strike). s.most) c.in_ok-strike.ensures.exact) c.draw_lines_by.ensures.kept
 
 pub draw_lines_by-requires-clause-file : goal.draw_lines_by-requires-clause-file

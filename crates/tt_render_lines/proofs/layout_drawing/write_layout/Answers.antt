@@ -11,6 +11,7 @@ use Rattle.tt_render_texts.specs.Views.{before_lines}
 use Rattle.tt_strike.specs.Job.{Job, tested}
 use Rattle.tt_render_streams.proofs.Known.{known_of}
 use Rattle.tt_render_settings.proofs.FontLines.{reading_stops}
+use Rattle.tt_render_settings.specs.Lines.{stream}
 use Rattle.tt_render_settings.proofs.OneText.{job_tells, reading_tells, silent, text_cut, text_fails, text_written}
 use Rattle.tt_render_texts.proofs.Printed.{keeps_itself}
 use Rattle.tt_render_lines.proofs.layout_drawing.write_layout.Goals as goal
@@ -59,7 +60,7 @@ returns-in_err-ready-clause-outcome g c =
     let P : List ℕ → Type 0 = λ bytes. LayoutReadies (λ t. layout_answer a t text) (strike_of a bytes) (Err fault) in
     let why = subst P c.deref.ensures.value c.in_err-ready.ensures.outcome in
     rw (p.1, p.2)
-    (text_fails a (λ t. layout_answer a t text) text file.file.items fault
+    (text_fails (Unit {0}) stream a (λ t. layout_answer a t text) text file.file.items fault
     (traffic_of left g.R.Source.has_failed g.W.Sink.written g.W.Sink.has_failed c.args.font.now font c.args.out.now
     c.args.out.now) (errors_of g.E.Sink.written g.E.Sink.has_failed c.args.error.now c.args.error.now)
     (subst (λ (j : Job). tested j ≡ Ok tt) c.job.ensures.exact c.in_ok-test_job.ensures.exact) (file.ensures.0, file.ensures.1, file.ensures.3) why
@@ -73,7 +74,7 @@ returns-in-Ok-clause-outcome g c =
     let made = rw c.deref.ensures.value at ready.ensures.outcome in
     let printed = rw (c.requires.error, c.deref-in-Ok.ensures, ready.ensures.report) at c.print_text.ensures in
     let sent = rw c.deref-2.ensures.value at c.in-Ok.ensures.all in
-    text_written c.args.setting.now (λ t. layout_answer c.args.setting.now t c.args.text.now) c.args.text.now file.file.items made.0 (layout_view ready.ready)
+    text_written (Unit {0}) tt stream c.args.setting.now (λ t. layout_answer c.args.setting.now t c.args.text.now) c.args.text.now file.file.items made.0 (layout_view ready.ready)
     (traffic_of g.R.Source.left g.R.Source.has_failed g.W.Sink.written g.W.Sink.has_failed c.args.font.now
     c.read_font.new.font c.args.out.now c.write_all_of.new.out)
     (errors_of g.E.Sink.written g.E.Sink.has_failed c.args.error.now c.print_text.new.error)
@@ -86,7 +87,7 @@ returns-clause-outcome g c =
     let ready = c.in_ok-ready in
     let made = rw c.deref.ensures.value at ready.ensures.outcome in
     let cut = c.in-Err.ensures in
-    text_cut c.args.setting.now (λ t. layout_answer c.args.setting.now t c.args.text.now) c.args.text.now file.file.items made.0 (layout_view ready.ready)
+    text_cut (Unit {0}) stream c.args.setting.now (λ t. layout_answer c.args.setting.now t c.args.text.now) c.args.text.now file.file.items made.0 (layout_view ready.ready)
     c.in-Err.cut.sent
     (traffic_of g.R.Source.left g.R.Source.has_failed g.W.Sink.written g.W.Sink.has_failed c.args.font.now
     c.read_font.new.font c.args.out.now c.write_all_of.new.out)

@@ -22,7 +22,7 @@ returns-then-known-clause-outcome g c =
     omega (arith, length-drop r.from (take r.until r.buf.items), taken, c.if-known.true) in
     let begins = begins_long (text_left c.args.self.now (left c.args.source.now)) (left c.pieces.source) (held r) text
     c.in_default.ensures long in
-    (begins, text)
+    (begins, text, omega (arith, long))
 
 pub returns-then-known-eq0-clause-outcome : goal.returns-then-known-eq0-clause-outcome
 returns-then-known-eq0-clause-outcome g c =
