@@ -40,8 +40,9 @@ def command_line(asked):
         [*size, "--face", "-1", "F.ttf", "A"], [*size, "--face", "0", "--face", "0", "F.ttf", "A"],
         [*size, "--missing", "skip", "F.ttf", "A"], [*size, "--lines", "F.ttf", "A"], [*size, "--lines"],
         [*size, "--lines", "--lines", "F.ttf"], [*size, "--grow", "F.ttf", "A"], [*size, "F.ttf", "-A"],
-        [*size, "F.ttf", "A", "-o"], [*size, "-o", "x", "--output", "y", "F.ttf", "A"], [*size, "--png=x", "F.ttf", "A"],
-        [*size, "--keep-going", "F.ttf", "A"], [*size, "--lines", "--keep-going", "--keep-going", "F.ttf"],
+        [*size, "F.ttf", "A", "-o"], [*size, "-o", "x", "--output", "y", "F.ttf", "A"],
+        [*size, "--png=x", "F.ttf", "A"], [*size, "--keep-going", "F.ttf", "A"],
+        [*size, "--lines", "--keep-going", "--keep-going", "F.ttf"],
     ]
     for words in wrong:
         common.verdict(f"label {' '.join(words)}", complains(asked.run(["label", *words], folder)))

@@ -91,7 +91,7 @@ def unpacked(data):
 
 
 def pictures(data):
-    """Returns the pictures of a file, PBM (P4) or PNG, each as rows of '#' and '.', or nothing where it is no such file."""
+    """Returns the pictures of a file, PBM (P4) or PNG, each as rows of '#' and '.', or nothing in another file."""
     data = unpacked(data) if data.startswith(b"\x89PNG") else data
     found = []
     while data:
