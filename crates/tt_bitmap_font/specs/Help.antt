@@ -12,6 +12,7 @@ use Rattle.tt_render_settings.specs.declared.label.Label.{Label}
 use Rattle.tt_render_texts.specs.declared.refusal.Refusal.{Refusal}
 use Rattle.tt_render_texts.specs.declared.refusal.Refusal.TheVariants as reason
 use Rattle.tt_render_texts.specs.declared.refusal.TextsFault.{TextsFault}
+use Rattle.tt_render_streams.specs.declared.formed.PictureFormat.TheVariants as format
 use Rattle.tt_render_settings.specs.Help.{label_help}
 use Rattle.tt_render_texts.specs.Views.{before_lines}
 use Rattle.tt_bitmap_font.specs.declared.font_file.FontFile.{FontFile}
@@ -23,7 +24,13 @@ large_help = codes "tt_render: a glyph has at most 16384 columns and 4096 rows, 
 
 -- a file as a label of its font and its setting
 abbrev pub label_of : FontFile → Label
-label_of a = record { setting = setting_of a; align = align.Left; path = a.path; face_given = a.face_given }
+label_of a = record {
+  setting = setting_of a;
+  align = align.Left;
+  path = a.path;
+  face_given = a.face_given;
+  format = format.Pbm;
+}
 
 -- the line that a refused label of the font has
 abbrev pub plain_help : FontFile → Bool → Refusal → Option Hint → List ℕ

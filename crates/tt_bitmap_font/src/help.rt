@@ -8,7 +8,7 @@ use std::alloc::{AllocError, Global};
 use tt_advice::{Hint, hint_line};
 use tt_core::JobFault;
 use tt_render_settings::{Align, Label, label_help};
-use tt_render_texts::{Refusal, TextsFault};
+use tt_render_texts::{PictureFormat, Refusal, TextsFault};
 
 const LARGE: &str =
     "tt_render: a glyph has at most 16384 columns and 4096 rows, all together 67108864 bytes\n";
@@ -32,6 +32,7 @@ fn plain_help(
         align: Align::Left,
         path: asked.path,
         face_given: asked.face_given,
+        format: PictureFormat::Pbm,
     };
     label_help(alloc, &fault, hint, &label, folder)
 }

@@ -4,8 +4,10 @@
 ghost use Rattle.std.specs.Prelude.{◌≡◌, ◌≤◌, false};
 
 mod command;
+mod output;
 
 use crate::command::{request, subcommand};
+use crate::output::Output;
 use clap::Error;
 use clap::error::ErrorKind;
 use std::alloc::{AllocError, Global};
@@ -17,8 +19,8 @@ use std::{env, fs, io};
 use tt_advice::shown_words;
 use tt_core::{Device, Sink};
 use tt_program_decisions::{
-    OutDevice, Stop, perform, stop_of_print, stop_of_request, stop_of_words, tell_refused, tell_stop,
-    tell_unopened,
+    Stop, perform, stop_of_print, stop_of_request, stop_of_words, tell_refused, tell_stop,
+    tell_unmade, tell_unopened,
 };
 
 fn main(rt: HostRuntime) -> ExitCode {
@@ -75,8 +77,8 @@ fn serve<R: Files + Env + Print + Eprint + AllocGlobal>(rt: &R, stdin: Stdin, st
     let folder = is_folder(&file);
     let mut font = Device::new(file);
     let mut lines = Device::new(lines);
-    let mut out = OutDevice::new(io::writer(rt));
-    perform(
+    let mut out = Output::new(rt, io::writer(rt), request.output());
+    let status = perform(
         rt.alloc(),
         &request,
         folder,
@@ -84,7 +86,11 @@ fn serve<R: Files + Env + Print + Eprint + AllocGlobal>(rt: &R, stdin: Stdin, st
         &mut lines,
         &mut out,
         &mut errors,
-    )
+    );
+    if let Some(unmade) = &out.unmade {
+        tell_unmade(rt.alloc(), &unmade.path, unmade.kind, &mut errors);
+    }
+    status
 }
 
 /// Whether a file that was opened is a folder.

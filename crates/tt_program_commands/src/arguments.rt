@@ -9,6 +9,8 @@ pub(crate) struct Argument {
     /// Its name for clap. An option has the same name behind `--`.
     pub(crate) name: &'static str,
     pub(crate) takes: Takes,
+    /// The letter of an option behind `-`, if it has one.
+    pub(crate) short: Option<char>,
     /// The name of an option's value in the help, if it has a value.
     pub(crate) values: &'static [&'static str],
     /// The option's value where it is not given, if there is one.
@@ -47,12 +49,19 @@ pub(crate) fn arg_of<'a>(alloc: Global, argument: &Argument) -> Result<Arg<'a>, 
         .required_unless_present_any(argument.unless)
 }
 
+fn shortened<'a>(arg: Arg<'a>, short: Option<char>) -> Arg<'a> {
+    match short {
+        Some(letter) => arg.short(letter),
+        None => arg,
+    }
+}
+
 fn taking<'a>(arg: Arg<'a>, argument: &Argument) -> Arg<'a> {
     match argument.takes {
         Takes::Place => arg.action(ArgAction::Set),
         Takes::Flag => arg.long(argument.name).action(ArgAction::SetTrue),
         Takes::Number => arg.long(argument.name).value_parser(value_parser!(u32)),
-        Takes::Text => arg.long(argument.name),
+        Takes::Text => shortened(arg.long(argument.name), argument.short),
         Takes::OneOf(words) => arg
             .long(argument.name)
             .value_parser(words)

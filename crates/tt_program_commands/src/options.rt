@@ -7,6 +7,7 @@ use tt_program_words::{ALIGNS, BEST, DRAW, EXACT, FITS, FULL, HEIGHTS, LEFT, MIS
 const PLAIN: Argument = Argument {
     name: "",
     takes: Takes::Place,
+    short: None,
     values: &[],
     defaults: &[],
     required: false,
@@ -143,6 +144,31 @@ pub(crate) const RANGE: Argument = Argument {
     takes: Takes::Text,
     values: &["R"],
     help: "Hexadecimal code points, as 20-7E,A0-FF",
+    ..PLAIN
+};
+
+pub(crate) const OUTPUT: Argument = Argument {
+    name: "output",
+    takes: Takes::Text,
+    short: Some('o'),
+    values: &["FILE"],
+    help: "The file that takes the picture: PNG if it ends in .png;\n\
+           with --lines a file of each line, whose number is %d",
+    ..PLAIN
+};
+
+pub(crate) const PNG: Argument = Argument {
+    name: "png",
+    takes: Takes::Flag,
+    help: "Write PNG in place of P4",
+    ..PLAIN
+};
+
+pub(crate) const KEEP_GOING: Argument = Argument {
+    name: "keep-going",
+    takes: Takes::Flag,
+    conflicts: &["TEXT"],
+    help: "With --lines: report a refused line, and go on",
     ..PLAIN
 };
 

@@ -2,8 +2,8 @@
 
 use crate::arguments::Argument;
 use crate::options::{
-    ALIGN, FACE, FIT, FIT_BEST, FONT, GROW, HEIGHT, KERN, LINES, MARGIN, MISSING, MISSING_TOLD,
-    NO_INK, RANGE, SIZE, TEXT, TEXT_OR_LINES,
+    ALIGN, FACE, FIT, FIT_BEST, FONT, GROW, HEIGHT, KEEP_GOING, KERN, LINES, MARGIN, MISSING,
+    MISSING_TOLD, NO_INK, OUTPUT, PNG, RANGE, SIZE, TEXT, TEXT_OR_LINES,
 };
 
 /// A subcommand.
@@ -56,6 +56,9 @@ const LABEL: Subcommand = Subcommand {
         KERN,
         HEIGHT,
         LINES,
+        KEEP_GOING,
+        OUTPUT,
+        PNG,
         FONT,
         TEXT_OR_LINES,
     ],
@@ -78,6 +81,7 @@ const DRAW: Subcommand = Subcommand {
         KERN,
         HEIGHT,
         LINES,
+        KEEP_GOING,
         FONT,
         TEXT_OR_LINES,
     ],
@@ -103,6 +107,7 @@ const MEASURE: Subcommand = Subcommand {
             help: "Measure each line of standard input, in place of TEXT",
             ..LINES
         },
+        KEEP_GOING,
         FONT,
         TEXT_OR_LINES,
         NO_INK,

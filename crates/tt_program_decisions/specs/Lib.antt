@@ -1,7 +1,8 @@
 pub mod BdfCalls
 pub mod BdfRequests
+pub mod Closable
 pub mod FaceLines
-pub mod Outputs
+pub mod Output
 pub mod Requests
 pub mod Rules
 pub mod Stops

@@ -1,5 +1,5 @@
 -- No part of the standard: the requests of the program's command lines, and their performance.
-use Rattle.std.specs.Prelude.{◌≡◌, ℕ, Bool, true, false, List, codes, Option, Some, None, is_some, IfSome, if◌then◌else◌, ⊤}
+use Rattle.std.specs.Prelude.{◌≡◌, ℕ, Bool, true, false, List, codes, Option, Some, None, is_some, option_map, IfSome, if◌then◌else◌, ⊤}
 use Rattle.std.specs.Str.{bytes_eq}
 use Rattle.tt_core.specs.declared.collection.Reading.{Reading}
 use Rattle.tt_core.specs.declared.collection.Reading.TheVariants as reading
@@ -17,15 +17,15 @@ use Rattle.tt_render_settings.specs.declared.setting.Product.{Product}
 use Rattle.tt_render_settings.specs.declared.setting.Product.TheVariants.{Measure, Picture}
 use Rattle.tt_line.specs.declared.align.Align.{Align}
 use Rattle.tt_line.specs.declared.align.Align.TheVariants as align
-use Rattle.tt_render.specs.label.Label.{label_glyphs}
 use Rattle.tt_line.specs.Layout.{text_glyphs}
-use Rattle.tt_render.specs.Labels.{FontLabelGives, FontLabelsGive, HintsBy}
+use Rattle.tt_render.specs.Labels.{FontLabelGives, FontLabelsGive, HintsBy, composed_glyphs}
 use Rattle.tt_render_settings.specs.declared.setting.Setting.{Setting}
 use Rattle.tt_render_lines.specs.LayoutTexts.{FontLayoutGives, IsLayoutDefect}
 use Rattle.tt_render_settings.specs.LinesDefects.{IsTextDefect, LinesTellDefectsOf}
 use Rattle.tt_render_run.specs.MapLines.{map_wanted}
 use Rattle.tt_render_streams.specs.Traffic.{Traffic}
 use Rattle.tt_render_texts.specs.Readings.{fit_reading, reading_asked}
+use Rattle.tt_render_settings.specs.Lines.{places}
 use Rattle.tt_render_settings.specs.Settings.{job_by}
 use Rattle.tt_render_settings.specs.TextsOutcome.{FontLinesGive, FontTextGives, TextTellsDefectsOf, reader_in}
 use Rattle.tt_program_decisions.specs.declared.request.Request.{Request}
@@ -34,9 +34,11 @@ use Rattle.tt_program_decisions.specs.declared.request.Request.TheVariants.{Map,
 use Rattle.tt_program_decisions.specs.BdfCalls.{PerformsBdf}
 use Rattle.tt_program_decisions.specs.BdfRequests.{BdfAsked, bdf_view, range_words, text_or_none}
 use Rattle.tt_program_decisions.specs.FaceLines.{IsFacesDefect, faces_wanted}
+use Rattle.tt_program_decisions.specs.Output.{format_asked}
 use Rattle.tt_program_decisions.specs.Rules.{AsksRules, heights_named}
+use Rattle.tt_render_streams.specs.declared.formed.PictureFormat.{PictureFormat}
 use Rattle.tt_render_texts.specs.Printing.{Errors}
-use Rattle.tt_program_decisions.specs.Telling.{Does, DoesLabel, DoesTexts}
+use Rattle.tt_program_decisions.specs.Telling.{Does, DoesLabel, DoesLines, DoesTexts}
 
 -- the ways to fit by their names
 abbrev pub fit_named : List ℕ → Option Fit
@@ -65,8 +67,8 @@ abbrev pub glyphs_kept : ℕ
 glyphs_kept = 4194304
 
 -- a setting with this way to fit and this treatment of missing glyphs, where both names are known
-abbrev pub setting_named : ℕ → ℕ → Option Fit → Option Missing → Bool → Option ℕ → Product → Option Setting
-setting_named size margin (Some f) (Some m) grows face wanted = Some (record {
+abbrev pub setting_named : ℕ → ℕ → Option Fit → Option Missing → Bool → Bool → Option ℕ → Product → Option Setting
+setting_named size margin (Some f) (Some m) grows keeps face wanted = Some (record {
   ppem = size;
   margin = margin;
   fit = f;
@@ -75,16 +77,17 @@ setting_named size margin (Some f) (Some m) grows face wanted = Some (record {
   grow = grows;
   product = wanted;
   most = glyphs_kept;
+  keep_going = keeps;
 })
-setting_named size margin f m grows face wanted = None
+setting_named size margin f m grows keeps face wanted = None
 
--- `--size SIZE --margin MARGIN --fit FIT --missing MISSING`, whether there is `--grow`, and `--face FACE`; options may be
--- absent
+-- `--size SIZE --margin MARGIN --fit FIT --missing MISSING`, whether there are `--grow` and `--keep-going`, and
+-- `--face FACE`; options may be absent
 abbrev pub options_asked
-    : Option ℕ → Option ℕ → Option (List ℕ) → Option (List ℕ) → Bool → Option ℕ → Product → Option Setting
-options_asked (Some size) (Some margin) (Some how) (Some what) grows face wanted =
-    setting_named size margin (fit_named how) (missing_named what) grows face wanted
-options_asked size margin how what grows face wanted = None
+    : Option ℕ → Option ℕ → Option (List ℕ) → Option (List ℕ) → Bool → Bool → Option ℕ → Product → Option Setting
+options_asked (Some size) (Some margin) (Some how) (Some what) grows keeps face wanted =
+    setting_named size margin (fit_named how) (missing_named what) grows keeps face wanted
+options_asked size margin how what grows keeps face wanted = None
 
 -- the same setting with rules of lines, where both are present
 abbrev pub with_rules : Option LineRules → Option Setting → Option Setting
@@ -94,31 +97,41 @@ with_rules rules s = None
 
 -- the options of `label`, where all names are known
 abbrev pub label_named
-    : ℕ → ℕ → Option Align → Option Fit → Option Missing → Option ℕ → Option LineRules → Option LabelOptions
-label_named n m (Some a) (Some f) (Some w) face (Some rules) =
-    Some (record { size = n; margin = m; align = a; fit = f; missing = w; face = face; rules = rules })
-label_named n m a f w face rules = None
-
--- `--size SIZE --margin MARGIN --align ALIGN --fit FIT --missing MISSING`, `--face FACE`, and the rules of lines; options
--- may be absent
-abbrev pub label_options_asked
-    : Option ℕ → Option ℕ → Option (List ℕ) → Option (List ℕ) → Option (List ℕ) → Option ℕ → Option LineRules
+    : ℕ → ℕ → Option Align → Option Fit → Option Missing → Option ℕ → Option LineRules → Bool → PictureFormat
     → Option LabelOptions
-label_options_asked (Some n) (Some m) (Some side) (Some how) (Some what) face rules =
-    label_named n m (align_named side) (fit_named how) (missing_named what) face rules
-label_options_asked n m side how what face rules = None
+label_named n m (Some a) (Some f) (Some w) face (Some rules) keeps form = Some (record {
+  size = n;
+  margin = m;
+  align = a;
+  fit = f;
+  missing = w;
+  face = face;
+  rules = rules;
+  keep_going = keeps;
+  format = form;
+})
+label_named n m a f w face rules keeps form = None
+
+-- `--size SIZE --margin MARGIN --align ALIGN --fit FIT --missing MISSING`, `--face FACE`, and the rules of lines, which may
+-- be absent; whether there is `--keep-going`, and the format of pictures
+abbrev pub label_options_asked
+    : Option ℕ → Option ℕ → Option (List ℕ) → Option (List ℕ) → Option (List ℕ) → Option ℕ → Option LineRules → Bool
+    → PictureFormat → Option LabelOptions
+label_options_asked (Some n) (Some m) (Some side) (Some how) (Some what) face rules keeps form =
+    label_named n m (align_named side) (fit_named how) (missing_named what) face rules keeps form
+label_options_asked n m side how what face rules keeps form = None
 
 -- The requests, each with its font: the lines that map a text; the lines of the file's faces; the product of a text with
 -- a setting; the products of the lines of standard input; the measure of a text without ink; the label of a text; the
--- labels of the lines of standard input; a bitmap font.
+-- labels of the lines of standard input, both with the name of their files, if there is one; a bitmap font.
 pub data Asked : Type 0 where
   map_text : List ℕ → List ℕ → Reading → Asked
   tell_faces : List ℕ → Asked
   draw_text : List ℕ → List ℕ → Setting → Asked
   draw_lines : List ℕ → Setting → Asked
   lay_text : List ℕ → List ℕ → Setting → Asked
-  draw_label : List ℕ → List ℕ → LabelOptions → Asked
-  draw_labels : List ℕ → LabelOptions → Asked
+  draw_label : List ℕ → List ℕ → LabelOptions → Option (List ℕ) → Asked
+  draw_labels : List ℕ → LabelOptions → Option (List ℕ) → Asked
   make_bdf : BdfAsked → Asked
 
 abbrev pub asked_of : Request → Asked
@@ -127,8 +140,8 @@ asked_of (Faces font) = tell_faces font.now
 asked_of (Text font text setting) = draw_text font.now text.now setting
 asked_of (Lines font setting) = draw_lines font.now setting
 asked_of (Layout font text setting) = lay_text font.now text.now setting
-asked_of (Label font text options) = draw_label font.now text.now options
-asked_of (Labels font options) = draw_labels font.now options
+asked_of (Label font text options output) = draw_label font.now text.now options (option_map (λ o. o.now) output)
+asked_of (Labels font options output) = draw_labels font.now options (option_map (λ o. o.now) output)
 asked_of (Bdf asked) = make_bdf (bdf_view asked)
 
 -- `map [--face FACE] FONT TEXT`; words may be absent
@@ -185,10 +198,10 @@ bdf_asked font n how face height range text = None
 
 -- `label OPTION.. FONT TEXT`, or with standard input's lines `label OPTION.. --lines FONT`; words and options may be
 -- absent
-abbrev pub label_asked : Option (List ℕ) → Option (List ℕ) → Bool → Option LabelOptions → Option Asked
-label_asked (Some font) (Some text) false (Some o) = Some (draw_label font text o)
-label_asked (Some font) None true (Some o) = Some (draw_labels font o)
-label_asked font text lines o = None
+abbrev pub label_asked : Option (List ℕ) → Option (List ℕ) → Bool → Option LabelOptions → Option (List ℕ) → Option Asked
+label_asked (Some font) (Some text) false (Some o) output = Some (draw_label font text o output)
+label_asked (Some font) None true (Some o) output = Some (draw_labels font o output)
+label_asked font text lines o output = None
 
 -- the setting of `draw`, or of `measure`, by its arguments: a name's text, its number, and whether its flag is set. Heights
 -- are exact, and no pair is kerned
@@ -196,9 +209,9 @@ abbrev pub AsksPlainSetting
     : (List ℕ → Option (List ℕ)) → (List ℕ → Option ℕ → Type 0) → (List ℕ → Bool → Type 0) → Product
     → Option Setting → Type 0
 AsksPlainSetting text IsNumber IsFlag wanted answer =
-    (size margin face : Option ℕ) × (grows : Bool) × IsNumber (codes "size") size × IsNumber (codes "margin") margin
-    × IsNumber (codes "face") face × IsFlag (codes "grow") grows
-    × (answer ≡ options_asked size margin (text (codes "fit")) (text (codes "missing")) grows face wanted)
+    (size margin face : Option ℕ) × (grows keeps : Bool) × IsNumber (codes "size") size × IsNumber (codes "margin") margin
+    × IsNumber (codes "face") face × IsFlag (codes "grow") grows × IsFlag (codes "keep-going") keeps
+    × (answer ≡ options_asked size margin (text (codes "fit")) (text (codes "missing")) grows keeps face wanted)
 
 -- the same setting with the rules of its lines
 abbrev pub AsksSetting
@@ -235,9 +248,11 @@ abbrev pub AsksLabelOptions
     : (List ℕ → Option (List ℕ)) → (List ℕ → Option ℕ → Type 0) → (List ℕ → Bool → Type 0) → Option LabelOptions
     → Type 0
 AsksLabelOptions text IsNumber IsFlag answer =
-    (size margin face : Option ℕ) × (rules : Option LineRules) × IsNumber (codes "size") size
+    (size margin face : Option ℕ) × (rules : Option LineRules) × (keeps png : Bool) × IsNumber (codes "size") size
     × IsNumber (codes "margin") margin × IsNumber (codes "face") face × AsksRules text IsFlag rules
-    × (answer ≡ label_options_asked size margin (text (codes "align")) (text (codes "fit")) (text (codes "missing")) face rules)
+    × IsFlag (codes "keep-going") keeps × IsFlag (codes "png") png
+    × (answer ≡ label_options_asked size margin (text (codes "align")) (text (codes "fit")) (text (codes "missing")) face rules
+    keeps (format_asked png (text (codes "output"))))
 
 -- the request of `label` by its arguments
 abbrev pub AsksLabel
@@ -245,7 +260,7 @@ abbrev pub AsksLabel
 AsksLabel text IsNumber IsFlag answer =
     (options : Option LabelOptions) × (lines : Bool) × AsksLabelOptions text IsNumber IsFlag options
     × IsFlag (codes "lines") lines
-    × (answer ≡ label_asked (text (codes "FONT")) (text (codes "TEXT")) lines options)
+    × (answer ≡ label_asked (text (codes "FONT")) (text (codes "TEXT")) lines options (text (codes "output")))
 
 -- the request of `bdf` by its arguments
 abbrev pub AsksBdf : (List ℕ → Option (List ℕ)) → (List ℕ → Option ℕ → Type 0) → Option Asked → Type 0
@@ -265,6 +280,7 @@ label_setting o = record {
   grow = true;
   product = Picture;
   most = glyphs_kept;
+  keep_going = o.keep_going;
 }
 
 -- how a label with these options is drawn by the font of a path
@@ -273,6 +289,7 @@ pub record IsLabelFor (font : List ℕ) (o : LabelOptions) (l : DrawnLabel) : Ty
   pub align : l.align ≡ o.align
   pub path : l.path.now ≡ font
   pub given : l.face_given ≡ is_some o.face
+  pub format : l.format ≡ o.format
 
 -- the path of a request's font
 abbrev pub font_of : Request → List ℕ
@@ -281,41 +298,53 @@ font_of (Faces font) = font.now
 font_of (Text font text setting) = font.now
 font_of (Lines font setting) = font.now
 font_of (Layout font text setting) = font.now
-font_of (Label font text options) = font.now
-font_of (Labels font options) = font.now
+font_of (Label font text options output) = font.now
+font_of (Labels font options output) = font.now
 font_of (Bdf asked) = asked.font.now
+
+-- the name of the files that take a request's pictures
+abbrev pub output_of : Request → Option (List ℕ)
+output_of (Label font text options output) = option_map (λ o. o.now) output
+output_of (Labels font options output) = option_map (λ o. o.now) output
+output_of r = None
+
+-- where pictures go, beside a reader: what stands there for a picture, and the traffic
+pub record PictureTraffic : Type 0 where
+  pub shown : Option ℕ → List ℕ → List ℕ
+  pub font : Traffic
+  pub lines : Traffic
 
 -- a request is performed and reported: the contract of its call holds for some answer. For the lines that map a text, or
 -- tell faces: the bytes to write for a font file, and the defects for which it is refused. The second traffic is that of
--- standard input, and of the writer again. The Booleans say whether the font's path is that of a
--- folder, and whether the reader had closed the output
-abbrev pub Performs : Request → Bool → Bool → Traffic → Traffic → Errors → ℕ → Type 0
-Performs (Map font text r) folder closed t lines e status =
+-- standard input, and of the writer again; the third has that of the font and of standard input with the places of
+-- pictures. The Booleans say whether the font's path is that of a folder, and whether the reader had closed the output
+abbrev pub Performs : Request → Bool → Bool → Traffic → Traffic → PictureTraffic → Errors → ℕ → Type 0
+Performs (Map font text r) folder closed t lines p e status =
     Does (map_wanted r text.now) (λ file. IsFaceDefectBy file r) closed t e status
-Performs (Faces font) folder closed t lines e status = Does faces_wanted IsFacesDefect closed t e status
-Performs (Text font text setting) folder closed t lines e status =
+Performs (Faces font) folder closed t lines p e status = Does faces_wanted IsFacesDefect closed t e status
+Performs (Text font text setting) folder closed t lines p e status =
     DoesTexts {V = Unit {0}} (λ answer told. FontTextGives setting text.now answer t told
     × TextTellsDefectsOf t.left_before (IsRunDefect setting.opening (job_by setting text.now)) answer) closed e status
-Performs (Lines font setting) folder closed t lines e status =
-    DoesTexts {V = ℕ} (λ answer told. FontLinesGive setting answer (reader_in t) lines told
+Performs (Lines font setting) folder closed t lines p e status =
+    DoesLines (λ answer told. FontLinesGive (λ drawn. drawn.refused) setting answer (reader_in t) lines told
     × LinesTellDefectsOf text_glyphs t.left_before setting lines.left_before answer) closed e status
-Performs (Layout font text setting) folder closed t lines e status =
+Performs (Layout font text setting) folder closed t lines p e status =
     DoesTexts {V = Unit {0}} (λ answer told. FontLayoutGives setting text.now answer t told
     × TextTellsDefectsOf t.left_before (IsLayoutDefect setting text.now) answer) closed e status
-Performs (Label font text options) folder closed t lines e status =
+Performs (Label font text options output) folder closed t lines p e status =
     (l : DrawnLabel) × IsLabelFor font.now options l
-    × DoesLabel (λ drawn told. FontLabelGives l text.now drawn.answer t told
-    × TextTellsDefectsOf t.left_before (IsTextDefect label_glyphs l.setting text.now) drawn.answer
-    × IfSome t.left_before (HintsBy l drawn)) l folder closed e status
-Performs (Labels font options) folder closed t lines e status =
+    × DoesLabel (λ drawn told. FontLabelGives (places p.shown) l text.now drawn.answer p.font told
+    × TextTellsDefectsOf p.font.left_before (IsTextDefect composed_glyphs l.setting text.now) drawn.answer
+    × IfSome p.font.left_before (HintsBy l drawn)) l folder closed e status
+Performs (Labels font options output) folder closed t lines p e status =
     (l : DrawnLabel) × IsLabelFor font.now options l
-    × DoesLabel (λ drawn told. FontLabelsGive l drawn.answer (reader_in t) lines told
-    × LinesTellDefectsOf label_glyphs t.left_before l.setting lines.left_before drawn.answer
-    × IfSome t.left_before (HintsBy l drawn)) l folder closed e status
-Performs (Bdf asked) folder closed t lines e status = PerformsBdf (bdf_view asked) folder closed t e status
+    × DoesLabel (λ drawn told. FontLabelsGive (places p.shown) l drawn.answer (reader_in p.font) p.lines told
+    × LinesTellDefectsOf composed_glyphs p.font.left_before l.setting p.lines.left_before drawn.answer
+    × IfSome p.font.left_before (HintsBy l drawn)) l folder closed e status
+Performs (Bdf asked) folder closed t lines p e status = PerformsBdf (bdf_view asked) folder closed t e status
 
 -- a property that holds unless the request is for standard input's lines
 abbrev pub UnlessLines : Request → Type 0 → Type 0
 UnlessLines (Lines font setting) P = ⊤
-UnlessLines (Labels font options) P = ⊤
+UnlessLines (Labels font options output) P = ⊤
 UnlessLines r P = P

@@ -1,5 +1,5 @@
 -- No part of the standard: the ends of the program without a request.
-use Rattle.std.specs.Prelude.{◌≡◌, ℕ, true, List, [], ◌++◌, codes, Option, Some, None, is_some, ⊤}
+use Rattle.std.specs.Prelude.{◌≡◌, ℕ, true, List, [], ◌++◌, codes, Option, Some, None, is_some, option_map, if◌then◌else◌, ⊤}
 use Rattle.std.specs.declared.io.ErrorKind.{ErrorKind}
 use Rattle.std.specs.declared.io.ErrorKind.TheVariants.{BrokenPipe, OutOfMemory}
 use Rattle.tt_bdf.specs.declared.range.CodeRange.{CodeRange}
@@ -11,6 +11,9 @@ use Rattle.tt_program_decisions.specs.declared.request.Request.TheVariants as re
 use Rattle.tt_program_decisions.specs.declared.stopping.Stop.{Stop}
 use Rattle.tt_program_decisions.specs.declared.stopping.Stop.TheVariants as stop
 use Rattle.tt_program_decisions.specs.BdfRequests.{bdf_view, ranges_asked}
+use Rattle.tt_program_decisions.specs.Output.{is_numbered}
+use Rattle.tt_render_streams.specs.declared.formed.PictureFormat.{PictureFormat}
+use Rattle.tt_render_streams.specs.declared.formed.PictureFormat.TheVariants as format
 
 -- a word that is no text is a fault of the command line
 abbrev pub stop_at_words : ErrorKind → Stop
@@ -43,6 +46,8 @@ stop_text stop.Unread = []
 stop_text stop.NoText = codes "tt_render: the command line is not UTF-8\n"
 stop_text stop.Incomplete = codes "tt_render: the command line is incomplete\n"
 stop_text stop.Range = codes "tt_render: --range is hexadecimal, as 20-7E,A0-FF\n"
+stop_text stop.Unnumbered = codes "tt_render: with --lines the FILE of -o has %d once, as label-%d.png\n"
+stop_text stop.OneStream = codes "tt_render: --png with --lines goes with -o, as -o label-%d.png\n"
 stop_text stop.Unopened = line_of run.Read ++ codes "\n"
 stop_text stop.Memory = line_of run.Memory ++ codes "\n"
 
@@ -57,6 +62,16 @@ IsStopFor ranges (Some stop.Range) = ranges ≡ None
 IsStopFor ranges (Some stop.Memory) = ⊤
 IsStopFor ranges (Some why) = ⊥
 
+-- why the files of lines stop a request: their names are not numbered, or one stream takes several pictures in PNG
+abbrev pub stop_of_name : List ℕ → Option Stop
+stop_of_name name = if is_numbered name then None else Some stop.Unnumbered
+
+abbrev pub stop_of_output : PictureFormat → Option (List ℕ) → Option Stop
+stop_of_output form (Some name) = stop_of_name name
+stop_of_output format.Png None = Some stop.OneStream
+stop_of_output format.Pbm None = None
+
 abbrev pub IsStopBefore : Request → Option Stop → Type 0
+IsStopBefore (request.Labels font options output) why = why ≡ stop_of_output options.format (option_map (λ o. o.now) output)
 IsStopBefore (request.Bdf asked) why = IsStopFor (ranges_asked (bdf_view asked).range) why
 IsStopBefore r why = why ≡ None

@@ -1,5 +1,5 @@
 -- No part of the standard: the program's report of an answer, by its exit status and on standard error.
-use Rattle.std.specs.Prelude.{◌≡◌, ◌⊎◌, ℕ, Bool, true, false, ◌||◌, List, ◌++◌, codes, Option, Result, Ok, Err}
+use Rattle.std.specs.Prelude.{◌≡◌, ◌⊎◌, ℕ, Bool, true, false, ◌||◌, List, ◌++◌, codes, Option, None, Some, Result, Ok, Err}
 use Rattle.std.specs.Io.KnownBytes.{Keeps}
 use Rattle.tt_advice.specs.declared.hint.Hint.{Hint}
 use Rattle.tt_core.specs.Faults.{Fault}
@@ -11,9 +11,10 @@ use Rattle.tt_render_streams.specs.Traffic.{Traffic}
 use Rattle.tt_render_texts.specs.Printing.{Errors, Prints, PrintsNothing}
 use Rattle.tt_render_texts.specs.TextsMessages.{texts_line_of, texts_status_of}
 use Rattle.tt_render_settings.specs.declared.label.Label.{Label}
-use Rattle.tt_render_settings.specs.declared.label.Labelled.{Labelled}
+use Rattle.tt_render_settings.specs.declared.label.LabelsDrawn.{LabelsDrawn}
+use Rattle.tt_render_lines.specs.declared.drawing.LinesDrawn.{LinesDrawn}
 use Rattle.tt_render_texts.specs.declared.refusal.TextsFault.{TextsFault}
-use Rattle.tt_render_settings.specs.Help.{label_help}
+use Rattle.tt_render_settings.specs.Help.{label_lines_of}
 use Rattle.tt_render_streams.specs.Messages.{line_of, status_of}
 
 -- the status and the line of one fault
@@ -76,10 +77,24 @@ pub record DoesTexts {V : Type 0} (Gives : Result V TextsFault → Errors → Ty
     pub outcome : Gives answer (record { before = e.before; after = between; failed = had_failed })
     pub told : TellsTexts closed had_failed answer status (record { before = between; after = e.after; failed = e.failed })
 
--- the text about a refused label: the line of the refusal, and then the line that tells a person what to do, if there is
--- one
-abbrev pub label_lines_of : Label → Bool → TextsFault → Option Hint → List ℕ
-label_lines_of l folder fault hint = (texts_line_of fault ++ codes "\n") ++ label_help l folder fault hint
+-- the status where lines were drawn, by the first that was refused and passed over; that line was told already
+abbrev pub passed_status : Option TextsFault → ℕ
+passed_status None = 0
+passed_status (Some fault) = texts_status_of fault
+
+-- the same of lines
+abbrev pub TellsLines : Bool → Bool → Result LinesDrawn TextsFault → ℕ → Errors → Type 0
+TellsLines closed had_failed (Ok drawn) status e = TellsStatus (passed_status drawn.refused) had_failed status e
+TellsLines closed had_failed (Err fault) status e = TellsTextsFailure (closed || had_failed) had_failed fault status e
+
+pub record DoesLines (Gives : Result LinesDrawn TextsFault → Errors → Type 0) (closed : Bool) (e : Errors) (status : ℕ)
+    : Type 0
+  where
+    pub answer : Result LinesDrawn TextsFault
+    pub between : Option (List ℕ)
+    pub had_failed : Bool
+    pub outcome : Gives answer (record { before = e.before; after = between; failed = had_failed })
+    pub told : TellsLines closed had_failed answer status (record { before = between; after = e.after; failed = e.failed })
 
 -- it is reported as the refusal of a text, by the same status
 abbrev pub TellsLabelFailure : Bool → Bool → Label → Bool → Option Hint → TextsFault → ℕ → Errors → Type 0
@@ -87,17 +102,18 @@ TellsLabelFailure false had_failed l folder hint fault status e =
     TellsText (label_lines_of l folder fault hint) (texts_status_of fault) status e
 TellsLabelFailure true had_failed l folder hint fault status e = TellsStatus (texts_status_of fault) had_failed status e
 
-abbrev pub TellsLabel : Bool → Bool → Label → Bool → Option Hint → Result (Unit {0}) TextsFault → ℕ → Errors → Type 0
-TellsLabel closed had_failed l folder hint (Ok v) status e = TellsStatus 0 had_failed status e
+abbrev pub TellsLabel
+    : Bool → Bool → Label → Bool → Option Hint → Result (Option TextsFault) TextsFault → ℕ → Errors → Type 0
+TellsLabel closed had_failed l folder hint (Ok first) status e = TellsStatus (passed_status first) had_failed status e
 TellsLabel closed had_failed l folder hint (Err fault) status e =
     TellsLabelFailure (closed || had_failed) had_failed l folder hint fault status e
 
 -- a call that draws labels gave some answer, with its contract about the devices, and the program reported that answer
 -- after what the call had printed
-pub record DoesLabel (Gives : Labelled → Errors → Type 0) (l : Label) (folder closed : Bool) (e : Errors) (status : ℕ)
+pub record DoesLabel (Gives : LabelsDrawn → Errors → Type 0) (l : Label) (folder closed : Bool) (e : Errors) (status : ℕ)
     : Type 0
   where
-    pub drawn : Labelled
+    pub drawn : LabelsDrawn
     pub between : Option (List ℕ)
     pub had_failed : Bool
     pub outcome : Gives drawn (record { before = e.before; after = between; failed = had_failed })

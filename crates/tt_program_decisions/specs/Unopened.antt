@@ -1,12 +1,14 @@
 -- No part of the standard: the report of a font that cannot be opened (profile). For `label` and `bdf` a line tells a
 -- person what to do.
-use Rattle.std.specs.Prelude.{◌≡◌, refl, ℕ, List, ◌++◌, codes, Option, Some, None}
+use Rattle.std.specs.Prelude.{◌≡◌, ◌⊎◌, refl, ℕ, Bool, List, ◌++◌, codes, Option, Some, None}
+use Rattle.std.specs.Io.KnownBytes.{Keeps}
 use Rattle.std.specs.declared.io.ErrorKind.{ErrorKind}
 use Rattle.std.specs.declared.io.ErrorKind.TheVariants as kind
+use Rattle.tt_advice.specs.declared.hint.FixedHint.{FixedHint}
 use Rattle.tt_advice.specs.declared.hint.FixedHint.TheVariants as fixed
 use Rattle.tt_advice.specs.declared.hint.Hint.TheVariants as hint
 use Rattle.tt_advice.specs.Hints.{hint_line}
-use Rattle.tt_render_texts.specs.Printing.{Errors}
+use Rattle.tt_render_texts.specs.Printing.{Errors, PrintsBehind}
 use Rattle.tt_program_decisions.specs.declared.request.Request.{Request}
 use Rattle.tt_program_decisions.specs.declared.request.Request.TheVariants as request
 use Rattle.tt_program_decisions.specs.declared.stopping.Stop.{Stop}
@@ -29,8 +31,8 @@ opening_hint why path text = None
 
 -- only `label` and `bdf` have hints; `bdf` without a text has the empty one, which is no path
 abbrev pub hint_of_open : Request → ErrorKind → Option PathHint
-hint_of_open (request.Label font text options) k = opening_hint k font.now (Some text.now)
-hint_of_open (request.Labels font options) k = opening_hint k font.now None
+hint_of_open (request.Label font text options output) k = opening_hint k font.now (Some text.now)
+hint_of_open (request.Labels font options output) k = opening_hint k font.now None
 hint_of_open (request.Bdf asked) k = opening_hint k asked.font.now (Some asked.text.now)
 hint_of_open r k = None
 
@@ -50,6 +52,24 @@ TellsOpening why path (Some h) status e = TellsText (opening_text path h) (stop_
 -- a font that cannot be opened is reported, with a line for a person if there is one
 abbrev pub TellsUnopened : Request → ErrorKind → ℕ → Errors → Type 0
 TellsUnopened r k status e = TellsOpening (stop_at_open k) (font_of r) (hint_of_open r k) status e
+
+-- the hint about the file of a picture that cannot be created, by the kind of the error
+abbrev pub creating_hint : ErrorKind → Option FixedHint
+creating_hint kind.NotFound = Some fixed.NoFile
+creating_hint kind.PermissionDenied = Some fixed.NotAllowed
+creating_hint kind.NotADirectory = Some fixed.FileOnPath
+creating_hint kind.FilesystemLoop = Some fixed.Links
+creating_hint kind.InvalidFilename = Some fixed.LongName
+creating_hint why = None
+
+-- standard error is as it was
+abbrev pub IsSilent : Bool → Errors → Type 0
+IsSilent had_failed e = Keeps e.before e.after × (e.failed ≡ had_failed)
+
+-- a line for a person is printed behind what was printed before; none without a hint, or where memory ran out
+abbrev pub TellsHint : Option FixedHint → List ℕ → Bool → Errors → Type 0
+TellsHint None path had_failed e = IsSilent had_failed e
+TellsHint (Some h) path had_failed e = PrintsBehind had_failed e (hint_line path (hint.Fixed h)) ⊎ IsSilent had_failed e
 
 -- worked values
 the_text_is_the_font : opening_hint kind.NotFound (codes "Hello") (Some (codes "F.TTF")) ≡ Some (path_hint.Fixed fixed.Swapped)

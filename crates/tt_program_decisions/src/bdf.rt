@@ -9,7 +9,8 @@ ghost use Rattle.tt_program_decisions.specs.BdfRequests.{bdf_view, range_words, 
 ghost use Rattle.tt_program_decisions.specs.Requests.{AsksBdf, asked_of};
 ghost use Rattle.tt_program_decisions.specs.Stops.{IsStopBefore};
 
-use crate::output::Outlet;
+use crate::closable::Closable;
+use crate::output::stop_of_output;
 use crate::request::{Arguments, Request, fit_named};
 use crate::rules::heights_named;
 use crate::stopping::{Stop, tell_stop};
@@ -96,7 +97,8 @@ fn ranges_asked(alloc: Global, range: Option<&str>) -> Result<Option<Vec<CodeRan
     }
 }
 
-/// The reason why a request is not performed, by its words alone: the form of `--range`, or refused memory.
+/// The reason why a request is not performed, by its words alone: the form of `--range` or of the name of files, or refused
+/// memory.
 pub fn stop_of_request(alloc: Global, request: &Request) -> Option<Stop>
     ensures { IsStopBefore request.now result }
 {
@@ -111,8 +113,12 @@ pub fn stop_of_request(alloc: Global, request: &Request) -> Option<Stop>
         | Request::Text { .. }
         | Request::Lines { .. }
         | Request::Layout { .. }
-        | Request::Label { .. }
-        | Request::Labels { .. } => None,
+        | Request::Label { .. } => None,
+        Request::Labels {
+            options,
+            output,
+            ..
+        } => stop_of_output(options.format, *output),
     }
 }
 
@@ -126,7 +132,7 @@ fn face_or_first(face: Option<u32>) -> u32
 }
 
 /// Performs the request `bdf`, as `perform` does. Returns the exit status.
-pub(crate) fn perform_bdf<R: Source, W: Outlet, E: Sink>(
+pub(crate) fn perform_bdf<R: Source, W: Closable, E: Sink>(
     alloc: Global,
     asked: &BdfRequest,
     folder: bool,

@@ -3,6 +3,7 @@
 ghost use Rattle.std.specs.Prelude.{◌≡◌, option_map};
 ghost use Rattle.tt_program_decisions.specs.Requests.{AsksLabel, AsksLabelOptions, IsLabelFor, align_named, asked_of};
 
+use crate::output::format_asked;
 use crate::request::{Arguments, GLYPHS_KEPT, Request, fit_named, missing_named};
 use crate::rules::rules_of;
 use tt_core::Reading;
@@ -10,7 +11,7 @@ use tt_face::{LineRules, Opening};
 use tt_fit::Fit;
 use tt_program_words::{CENTRE, LEFT, RIGHT};
 use tt_render_settings::{Align, Label, Missing, Product, Setting};
-use tt_render_texts::reading_asked;
+use tt_render_texts::{PictureFormat, reading_asked};
 
 /// The options of `label`.
 #[derive(Clone, Copy)]
@@ -23,6 +24,9 @@ pub struct LabelOptions {
     /// The number of the face, if one is asked for.
     pub face: Option<u32>,
     pub rules: LineRules,
+    /// Whether the lines behind a refused line are drawn.
+    pub keep_going: bool,
+    pub format: PictureFormat,
 }
 
 /// The request `label OPTION.. FONT TEXT` or `label OPTION.. --lines FONT`, where its words and options are present.
@@ -31,6 +35,7 @@ pub(crate) fn labelling_of<'a, A: Arguments<'a>>(arguments: &A) -> Option<Reques
 {
     let text = arguments.text_for("TEXT");
     let lines = arguments.is_set("lines");
+    let output = arguments.text_for("output");
     let options = label_options_of(arguments);
     let font = arguments.text_for("FONT")?;
     let options = options?;
@@ -43,19 +48,24 @@ pub(crate) fn labelling_of<'a, A: Arguments<'a>>(arguments: &A) -> Option<Reques
                 font,
                 text,
                 options,
+                output,
             })
         }
         None => {
             if !lines {
                 return None;
             }
-            Some(Request::Labels { font, options })
+            Some(Request::Labels {
+                font,
+                options,
+                output,
+            })
         }
     }
 }
 
 /// The options `--size SIZE --margin MARGIN --align ALIGN --fit FIT --missing MISSING`, where all are present, and
-/// `--face FACE`, which may be absent, with the rules of `rules_of`. None where there are no rules, or where the name of a
+/// `--face FACE`, which may be absent, with the rules of `rules_of`; and `--keep-going`, `--png` and `--output FILE`. None where there are no rules, or where the name of a
 /// side, of the way to fit, or of the treatment of missing glyphs, is unknown.
 fn label_options_of<'a, A: Arguments<'a>>(arguments: &A) -> Option<LabelOptions>
     ensures { AsksLabelOptions (A.text arguments.now) (A.IsNumber arguments.now) (A.IsFlag arguments.now) result }
@@ -67,6 +77,9 @@ fn label_options_of<'a, A: Arguments<'a>>(arguments: &A) -> Option<LabelOptions>
     let missing = arguments.text_for("missing");
     let face = arguments.number_for("face");
     let rules = rules_of(arguments);
+    let keep_going = arguments.is_set("keep-going");
+    let png = arguments.is_set("png");
+    let format = format_asked(png, arguments.text_for("output"));
     Some(LabelOptions {
         size: size?,
         margin: margin?,
@@ -75,6 +88,8 @@ fn label_options_of<'a, A: Arguments<'a>>(arguments: &A) -> Option<LabelOptions>
         missing: missing_named(missing?)?,
         face,
         rules: rules?,
+        keep_going,
+        format,
     })
 }
 
@@ -106,11 +121,13 @@ pub(crate) fn label_for<'a>(path: &'a str, options: &LabelOptions) -> Label<'a>
         grow: true,
         product: Product::Picture,
         most: GLYPHS_KEPT,
+        keep_going: options.keep_going,
     };
     Label {
         setting,
         align: options.align,
         path,
         face_given: options.face.is_some(),
+        format: options.format,
     }
 }

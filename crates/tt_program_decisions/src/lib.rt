@@ -2,6 +2,7 @@
 #![tactic(auto)]
 
 mod bdf;
+mod closable;
 mod faces;
 mod labelling;
 mod output;
@@ -19,10 +20,11 @@ mod unfound;
 mod unopened;
 
 pub use bdf::{BdfRequest, stop_of_request};
+pub use closable::{Closable, OutDevice};
 pub use labelling::{LabelOptions, align_named};
-pub use output::{OutDevice, Outlet};
+pub use output::file_name;
 pub use performing::perform;
 pub use request::{Arguments, GLYPHS_KEPT, Request, fit_named, missing_named, request_of};
 pub use stopping::{Stop, stop_of_open, stop_of_print, stop_of_words, tell_stop};
 pub use tips::tell_refused;
-pub use unopened::tell_unopened;
+pub use unopened::{tell_unmade, tell_unopened};

@@ -1,96 +1,126 @@
-//! Standard output, which remembers whether its reader had closed it.
+//! The files that `-o` names: their format, and their names.
 
-ghost use Rattle.std.specs.Prelude.{◌≡◌, Bool, true, false};
+ghost use Rattle.std.specs.Prelude.{◌≡◌, option_map, string_bytes, IfOk};
+ghost use Rattle.tt_program_decisions.specs.Output.{IsFileName, format_asked, is_numbered, names_png, next_mark};
+ghost use Rattle.tt_program_decisions.specs.Stops.{stop_of_output};
 
-use std::io::{ErrorKind, Write};
-use tt_core::{IoFailed, Sink};
+use crate::stopping::Stop;
+use crate::unfound::lowered;
+use std::alloc::{AllocError, Global};
+use tt_render_texts::PictureFormat;
 
-/// How many times an interrupted write is tried before it counts as failed.
-const TRIES: u32 = 1000;
-
-/// A `Sink` that may have a reader.
-pub trait Outlet: Sink {
-    // Whether a write failed since the reader had closed the sink.
-    ghost closes: { Self → Bool };
-
-    /// Whether a write failed since the reader had closed the sink.
-    fn is_closed(&self) -> bool
-        ensures { result ≡ closes self.now };
-}
-
-/// A `Write` as an `Outlet`.
-#[derive(Drop)]
-pub struct OutDevice<W> {
-    inner: W,
-    failed: bool,
-    closed: bool,
-}
-
-impl<W> OutDevice<W> {
-    ghost use Rattle.tt_program_decisions.specs.Outputs.{has_output_failed, is_output_closed, output_inner};
-
-    pub fn new(inner: W) -> Self
-        ensures inner { output_inner result ≡ inner }
-        ensures failure { has_output_failed result ≡ false }
-        ensures closed { is_output_closed result ≡ false }
-    {
-        OutDevice {
-            inner,
-            failed: false,
-            closed: false,
-        }
+/// Whether a name ends in `.png`, in letters of any case.
+fn names_png(name: &str) -> bool
+    ensures { result ≡ names_png name.now }
+{
+    let bytes = name.as_bytes();
+    let len = bytes.len();
+    if len < 4 {
+        return false;
     }
-
-    /// Remembers a failure, and whether its cause is a reader that had closed the sink.
-    fn fail(&mut self, closed: bool) -> IoFailed
-        ensures { self.new ≡ record self.old { failed = true; closed = closed } }
-    {
-        self.failed = true;
-        self.closed = closed;
-        IoFailed
-    }
+    let end = [
+        lowered(bytes[len - 4]),
+        lowered(bytes[len - 3]),
+        lowered(bytes[len - 2]),
+        lowered(bytes[len - 1]),
+    ];
+    end == *b".png"
 }
 
-impl<W: Write> Sink for OutDevice<W> {
-    ghost use Rattle.std.specs.Prelude.{◌≡◌};
-    ghost use Rattle.tt_program_decisions.specs.Outputs.{has_output_failed, output_inner};
-
-    ghost written = { λ o. W.contents (output_inner o) };
-
-    ghost has_failed = { has_output_failed };
-
-    fn write(&mut self, buf: &[u8]) -> Result<usize, IoFailed> {
-        let mut closed = false;
-        for _ in 0..TRIES {
-            match self.inner.write(buf) {
-                Ok(n) => {
-                    if n > 0 || buf.is_empty() {
-                        return Ok(n);
-                    }
-                    break;
-                }
-                Err(error) => {
-                    closed = error.kind() == ErrorKind::BrokenPipe;
-                    if error.kind() != ErrorKind::Interrupted {
-                        break;
-                    }
-                }
+/// The format of pictures: PNG with `--png`, and where the name of a file says so; else P4.
+pub(crate) fn format_asked(png: bool, output: Option<&str>) -> PictureFormat
+    ensures { result ≡ format_asked png (option_map (λ s. s.now) output.entry) }
+{
+    if png {
+        return PictureFormat::Png;
+    }
+    match output {
+        Some(name) => {
+            if names_png(name) {
+                PictureFormat::Png
+            } else {
+                PictureFormat::Pbm
             }
         }
-        Err(self.fail(closed))
-    }
-
-    fn failed(&self) -> bool {
-        self.failed
+        None => PictureFormat::Pbm,
     }
 }
 
-impl<W: Write> Outlet for OutDevice<W> {
-    ghost use Rattle.tt_program_decisions.specs.Outputs.{is_output_closed};
+/// What is known of the `%d` in the first bytes of a name.
+#[derive(Clone, Copy)]
+struct Marks {
+    /// The last byte is `%`.
+    percent: bool,
+    /// There is a `%d`.
+    some: bool,
+    /// There is another one.
+    more: bool,
+}
 
-    ghost closes = { is_output_closed };
+/// The same with a byte more.
+fn next_mark(before: Marks, byte: u8) -> Marks
+    ensures { result ≡ next_mark before byte }
+{
+    if before.percent && byte == b'd' {
+        Marks {
+            percent: false,
+            some: true,
+            more: before.some,
+        }
+    } else {
+        Marks {
+            percent: byte == b'%',
+            some: before.some,
+            more: before.more,
+        }
+    }
+}
 
-    fn is_closed(&self) -> bool {
-        self.closed
+/// Whether a name has `%d` exactly once.
+#[tactic(auto, using(std::proofs::lemmas::List::Sums::fold_more))]
+pub(crate) fn is_numbered(name: &str) -> bool
+    ensures { result ≡ is_numbered name.now }
+{
+    let mut marks = Marks {
+        percent: false,
+        some: false,
+        more: false,
+    };
+    for byte in name.as_bytes() {
+        marks = next_mark(marks, *byte);
+    }
+    marks.some && !marks.more
+}
+
+/// The reason why pictures of lines have no place: the name of their files has not `%d` exactly once; or there is no name,
+/// and one stream takes no pictures in PNG.
+pub(crate) fn stop_of_output(format: PictureFormat, output: Option<&str>) -> Option<Stop>
+    ensures { result ≡ stop_of_output format (option_map (λ s. s.now) output.entry) }
+{
+    match output {
+        Some(name) => {
+            if is_numbered(name) {
+                None
+            } else {
+                Some(Stop::Unnumbered)
+            }
+        }
+        None => match format {
+            PictureFormat::Png => Some(Stop::OneStream),
+            PictureFormat::Pbm => None,
+        },
+    }
+}
+
+/// The name of the file of a picture: of a line with this number, `%d` in the name is the number. Error: memory ran out.
+pub fn file_name(alloc: Global, name: &str, number: Option<u32>) -> Result<String, AllocError>
+    ensures { IfOk result (λ text. IsFileName name.now number (string_bytes text)) }
+{
+    let Some(number) = number else {
+        return String::from_str(alloc, name);
+    };
+    match name.split_once("%d") {
+        Some((before, after)) => format!(in alloc; "{before}{number}{after}"),
+        None => String::from_str(alloc, name),
     }
 }

@@ -2,7 +2,7 @@
 
 ghost use Rattle.std.specs.Prelude.{◌≡◌, ◌≢◌, ℕ, Bool, List, Option, None, codes, option_map};
 ghost use Rattle.tt_render_settings.specs.declared.setting.Product.TheVariants.{Measure, Picture};
-ghost use Rattle.tt_program_decisions.specs.Requests.{AsksBdf, AsksDrawing, AsksLabel, AsksMap, AsksMeasure, AsksPlainSetting, AsksSetting, asked_of, faces_asked, fit_named, font_of, missing_named, without_ink};
+ghost use Rattle.tt_program_decisions.specs.Requests.{AsksBdf, AsksDrawing, AsksLabel, AsksMap, AsksMeasure, AsksPlainSetting, AsksSetting, asked_of, faces_asked, fit_named, font_of, missing_named, output_of, without_ink};
 
 use crate::bdf::{BdfRequest, bdf_of};
 use crate::labelling::{LabelOptions, labelling_of};
@@ -49,11 +49,15 @@ pub enum Request<'a> {
         font: &'a str,
         text: &'a str,
         options: LabelOptions,
+        /// The name of the file that takes the picture.
+        output: Option<&'a str>,
     },
     /// Draw each line of standard input for people.
     Labels {
         font: &'a str,
         options: LabelOptions,
+        /// The name of the files that take the pictures, with `%d` for the number of a line.
+        output: Option<&'a str>,
     },
     /// Write a bitmap font.
     Bdf(BdfRequest<'a>),
@@ -73,6 +77,21 @@ impl<'a> Request<'a> {
             | Request::Label { font, .. }
             | Request::Labels { font, .. } => font,
             Request::Bdf(asked) => asked.font,
+        }
+    }
+
+    /// The name of the files that take the pictures, if one is asked for.
+    pub fn output(&self) -> Option<&'a str>
+        ensures { option_map (λ s. s.now) result ≡ output_of self.now }
+    {
+        match self {
+            Request::Label { output, .. } | Request::Labels { output, .. } => *output,
+            Request::Map { .. }
+            | Request::Faces { .. }
+            | Request::Text { .. }
+            | Request::Lines { .. }
+            | Request::Layout { .. }
+            | Request::Bdf(_) => None,
         }
     }
 }
@@ -233,8 +252,8 @@ fn ruled_setting_of<'a, A: Arguments<'a>>(arguments: &A, product: Product) -> Op
     })
 }
 
-/// The setting of `--size SIZE --margin MARGIN --fit FIT --missing MISSING` for a product, where all are present, and of
-/// `--face FACE`, which may be absent. Heights are exact, and no pair is kerned. None where the name of the way to fit, or of the treatment of missing glyphs, is
+/// The setting of `--size SIZE --margin MARGIN --fit FIT --missing MISSING` for a product, where all are present, of
+/// `--face FACE`, which may be absent, and of `--keep-going`. Heights are exact, and no pair is kerned. None where the name of the way to fit, or of the treatment of missing glyphs, is
 /// unknown.
 fn setting_of<'a, A: Arguments<'a>>(arguments: &A, product: Product) -> Option<Setting>
     ensures { AsksPlainSetting (A.text arguments.now) (A.IsNumber arguments.now) (A.IsFlag arguments.now) product result }
@@ -245,6 +264,7 @@ fn setting_of<'a, A: Arguments<'a>>(arguments: &A, product: Product) -> Option<S
     let missing = arguments.text_for("missing");
     let grow = arguments.is_set("grow");
     let face = arguments.number_for("face");
+    let keep_going = arguments.is_set("keep-going");
     let strict = Setting {
         ppem: size?,
         margin: margin?,
@@ -254,6 +274,7 @@ fn setting_of<'a, A: Arguments<'a>>(arguments: &A, product: Product) -> Option<S
         grow,
         product,
         most: GLYPHS_KEPT,
+        keep_going,
     };
     Some(Setting {
         opening: Opening::plain(reading_asked(face, fit_reading(strict.fit))),

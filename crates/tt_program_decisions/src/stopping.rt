@@ -24,6 +24,10 @@ pub enum Stop {
     Incomplete,
     /// The words of `--range` are of another form.
     Range,
+    /// The name of files of lines has not `%d` exactly once.
+    Unnumbered,
+    /// One stream takes no pictures in PNG of several lines.
+    OneStream,
     /// The font cannot be opened.
     Unopened,
     /// Memory was refused before a request was known, or its font open.
@@ -77,7 +81,7 @@ fn status_of(stop: Stop) -> u8
 {
     match stop {
         Stop::Shown => 0,
-        Stop::NoText | Stop::Incomplete | Stop::Range => 2,
+        Stop::NoText | Stop::Incomplete | Stop::Range | Stop::Unnumbered | Stop::OneStream => 2,
         Stop::Unopened => 3,
         Stop::NotShown | Stop::Unread => 4,
         Stop::Memory => 5,
@@ -94,6 +98,8 @@ fn text_of(stop: Stop) -> &'static str
         Stop::NoText => "tt_render: the command line is not UTF-8\n",
         Stop::Incomplete => "tt_render: the command line is incomplete\n",
         Stop::Range => "tt_render: --range is hexadecimal, as 20-7E,A0-FF\n",
+        Stop::Unnumbered => "tt_render: with --lines the FILE of -o has %d once, as label-%d.png\n",
+        Stop::OneStream => "tt_render: --png with --lines goes with -o, as -o label-%d.png\n",
         Stop::Unopened => "tt_render: cannot read the font\n",
         Stop::Memory => NO_MEMORY,
     }

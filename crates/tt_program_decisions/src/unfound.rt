@@ -20,7 +20,7 @@ pub(crate) enum PathHint {
 }
 
 /// A byte in lower case, if it is a letter of ASCII.
-fn lowered(byte: u8) -> u8
+pub(crate) fn lowered(byte: u8) -> u8
     ensures { result ≡ lowered byte }
 {
     if (b'A'..=b'Z').contains(&byte) {

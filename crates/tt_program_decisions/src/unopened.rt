@@ -2,7 +2,7 @@
 
 ghost use Rattle.std.specs.Prelude.{◌≡◌, ◌≤◌, false, None, option_map, string_bytes, IfOk};
 ghost use Rattle.tt_program_decisions.specs.Stops.{TellsStop, stop_at_open};
-ghost use Rattle.tt_program_decisions.specs.Unopened.{TellsUnopened, hint_of_open, opening_hint, opening_text, path_line};
+ghost use Rattle.tt_program_decisions.specs.Unopened.{TellsHint, TellsUnopened, creating_hint, hint_of_open, opening_hint, opening_text, path_line};
 ghost use Rattle.tt_render_texts.specs.Printing.{errors_of};
 
 use crate::request::Request;
@@ -13,6 +13,7 @@ use std::alloc::{AllocError, Global};
 use std::io::ErrorKind;
 use tt_advice::{FixedHint, Hint, hint_line};
 use tt_core::Sink;
+use tt_render_texts::print_text;
 
 /// The hint about a path that cannot be opened, by the kind of the error. The text may be the path.
 fn opening_hint(kind: ErrorKind, path: &str, text: Option<&str>) -> Option<PathHint>
@@ -81,5 +82,32 @@ pub fn tell_unopened<E: Sink>(
     match hint_of_open(request, kind) {
         None => tell_stop(stop_of_open(kind), error),
         Some(hint) => tell_text(opening_text(alloc, request.font(), hint), 3, error),
+    }
+}
+
+/// The hint about the file of a picture that cannot be created, by the kind of the error.
+fn creating_hint(kind: ErrorKind) -> Option<FixedHint>
+    ensures { result ≡ creating_hint kind }
+{
+    match kind {
+        ErrorKind::NotFound => Some(FixedHint::NoFile),
+        ErrorKind::PermissionDenied => Some(FixedHint::NotAllowed),
+        ErrorKind::NotADirectory => Some(FixedHint::FileOnPath),
+        ErrorKind::FilesystemLoop => Some(FixedHint::Links),
+        ErrorKind::InvalidFilename => Some(FixedHint::LongName),
+        _ => None,
+    }
+}
+
+/// Tells a person, after the line about a picture whose place could not be made, why the file of this path cannot be
+/// created. Some kinds of errors have no words. Where memory runs out nothing is told.
+pub fn tell_unmade<E: Sink>(alloc: Global, path: &str, kind: ErrorKind, error: &mut E)
+    ensures told { TellsHint (creating_hint kind) path.now (E.has_failed error.old) (errors_of E.written E.has_failed error.old error.new) }
+{
+    let Some(hint) = creating_hint(kind) else {
+        return;
+    };
+    if let Ok(line) = hint_line(alloc, path, Hint::Fixed(hint)) {
+        print_text(error, &line);
     }
 }

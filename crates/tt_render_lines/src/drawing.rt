@@ -28,9 +28,7 @@ use std::str;
 use tt_core::{Sink, Source};
 use tt_render_settings::{Found, Setting, earlier, goes_on, next_line, test_setting};
 use tt_render_streams::read_font;
-use tt_render_texts::{
-    LineReader, Refusal, TextsFault, print_text, texts_fault, texts_line,
-};
+use tt_render_texts::{LineReader, Refusal, TextsFault, print_text, texts_fault, texts_line};
 use tt_strike::{Face, Strike, test_job};
 
 /// The answer of the one text by a font file. Errors, the first of: Font, of the tables needed for every text; those of
@@ -140,10 +138,7 @@ fn send<W: Sink, E: Sink>(
             print_text(error, &ready.report);
             Ok(())
         }
-        Err(cut) => Err(texts_fault(
-            Some(number),
-            Refusal::Write { sent: cut.sent },
-        )),
+        Err(cut) => Err(texts_fault(Some(number), Refusal::Write { sent: cut.sent })),
     }
 }
 

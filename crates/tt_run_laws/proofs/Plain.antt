@@ -39,6 +39,7 @@ use Rattle.tt_run_laws.specs.RunLaws.{GivesAsRun, PlainCallsAreRuns, PlainReport
 use Rattle.tt_render_settings.specs.Settings.{IsPlain, job_by, strike_by, strike_of}
 use Rattle.tt_render_texts.specs.Answers.{TextAnswer}
 use Rattle.tt_render_settings.specs.Texts.{TextRefusal, answer_of, as_text, missing, missing_tested, not_utf8, refused, text_answer}
+use Rattle.tt_render_settings.specs.Lines.{stream}
 use Rattle.tt_render_settings.specs.TextsOutcome.{IsSilent, StopsAtFont, StopsFor, TextFails, TextGives, reader_in, told}
 use Rattle.tt_render_settings.proofs.DefectLines.{if_some_more}
 use Rattle.tt_run_laws.proofs.JobRefusals.{run_late, tested_early}
@@ -211,6 +212,7 @@ before_text a text reason.Memory None t e (good, begun) silent = (run.Memory, re
 before_text a text reason.NotUtf8 None t e stops silent = absurd stops
 before_text a text (reason.Missing c) None t e stops silent = absurd stops
 before_text a text reason.Read None t e stops silent = absurd stops
+before_text a text reason.Create None t e stops silent = absurd stops
 before_text a text (reason.Write sent) None t e stops silent = absurd stops
 before_text a text reason.Many None t e stops silent = absurd stops
 before_text a text (reason.Job j) (Some n) t e stops silent = absurd stops
@@ -221,6 +223,7 @@ before_text a text reason.Memory (Some n) t e stops silent = absurd stops
 before_text a text reason.NotUtf8 (Some n) t e stops silent = absurd stops
 before_text a text (reason.Missing c) (Some n) t e stops silent = absurd stops
 before_text a text reason.Read (Some n) t e stops silent = absurd stops
+before_text a text reason.Create (Some n) t e stops silent = absurd stops
 before_text a text (reason.Write sent) (Some n) t e stops silent = absurd stops
 before_text a text reason.Many (Some n) t e stops silent = absurd stops
 
@@ -250,10 +253,11 @@ never a text file s t why by other is =
     not_told (run_outcome a.opening (job_by a text) file) why other (ran_into a text file s why by.plain by.opened is)
 
 at_text : (a : Setting) (text file : List ℕ) (s : Strike) (why : Refusal) (line : Option ℕ) (t : Traffic) (e : Errors)
-    → IsOpened a text file s t → TextFails (text_answer a s text) why line t e
+    → IsOpened a text file s t → TextFails stream (text_answer a s text) why line t e
     → GivesAsRun {V = Unit {0}} (Err (record { line = line; refusal = why })) t (run_wanted a.opening (job_by a text))
-at_text a text file s (reason.Write sent) None t e by (answer, is, first, fails, silent) =
-    (run.Write sent, refl, (by.good, with_run a text file s t answer (SendsFirst sent t) by is first, (by.read.1, by.read.2), fails))
+at_text a text file s reason.Create None t e by (creates, answer, is, kept, fails, silent) = absurd cc
+at_text a text file s (reason.Write sent) None t e by (answer, is, few, first, fails, silent) =
+    (run.Write sent, refl, (by.good, with_run a text file s t answer (SendsFirst sent t) by is (few, first), (by.read.1, by.read.2), fails))
 at_text a text file s (reason.Font f) None t e by (r, tells, is, silent) =
     let same = told_once (reason.Font f) r (refused (font f)) refl tells in
     let ran = refused_run a text file s t (font f) by (rw (← same) is) in
@@ -277,6 +281,7 @@ at_text a text file s reason.FontLarge None t e by (r, tells, is, silent) = absu
 at_text a text file s reason.Read None t e by (r, tells, is, silent) = absurd cc
 at_text a text file s reason.Many None t e by (r, tells, is, silent) = absurd cc
 at_text a text file s reason.Memory None t e by (r, tells, is, silent) = absurd cc
+at_text a text file s reason.Create (Some n) t e by fails = absurd fails
 at_text a text file s (reason.Write sent) (Some n) t e by fails = absurd fails
 at_text a text file s (reason.Font f) (Some n) t e by fails = absurd fails
 at_text a text file s (reason.Job j) (Some n) t e by fails = absurd fails
@@ -295,7 +300,7 @@ stopped a text (Ok v) t e stops silent = absurd stops
 stopped a text (Err fault) t e stops silent = before_text a text fault.refusal fault.line t e stops silent
 
 drew : (a : Setting) (text file : List ℕ) (s : Strike) (r : Result (Unit {0}) TextsFault) (t : Traffic) (e : Errors)
-    → IsOpened a text file s t → TextGives (text_answer a s text) r t e → GivesAsRun r t (run_wanted a.opening (job_by a text))
+    → IsOpened a text file s t → TextGives stream (text_answer a s text) r t e → GivesAsRun r t (run_wanted a.opening (job_by a text))
 drew a text file s (Ok v) t e by (answer, is, sent, serves, printed) =
     (by.good, with_run a text file s t answer (SendsAll t) by is sent, (by.read.1, by.read.2), serves)
 drew a text file s (Err fault) t e by fails = at_text a text file s fault.refusal fault.line t e by fails

@@ -19,7 +19,7 @@ returns-in-Lines-clause-outcome g c =
       between = g.E.Sink.written c.draw_lines-drawn.new.error;
       had_failed = g.E.Sink.has_failed c.draw_lines-drawn.new.error;
       outcome = (c.draw_lines-drawn.ensures.outcome, c.draw_lines-drawn.ensures.defects);
-      told = rw c.is_closed-in-Lines.ensures at c.tell_texts-in-Lines.ensures.told;
+      told = rw c.is_closed-in-Lines.ensures at c.tell_lines.ensures.told;
     })
 
 pub returns-in-Layout-clause-outcome : goal.returns-in-Layout-clause-outcome

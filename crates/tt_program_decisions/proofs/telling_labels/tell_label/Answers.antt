@@ -1,5 +1,5 @@
 use Rattle.std.proofs.Common.{◌≡◌, false, rules}
-use Rattle.tt_program_decisions.specs.Telling.{label_lines_of}
+use Rattle.tt_render_settings.specs.Help.{label_lines_of}
 use Rattle.tt_program_decisions.proofs.telling_labels.tell_label.Goals as goal
 
 pub returns-else-failed-clause-told : goal.returns-else-failed-clause-told

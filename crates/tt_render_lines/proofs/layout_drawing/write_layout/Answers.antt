@@ -93,7 +93,7 @@ returns-clause-outcome g c =
     c.read_font.new.font c.args.out.now c.write_all_of.new.out)
     (errors_of g.E.Sink.written g.E.Sink.has_failed c.args.error.now c.args.error.now)
     (subst (λ (j : Job). tested j ≡ Ok tt) c.job.ensures.exact c.in_ok-test_job.ensures.exact) (file.ensures.0, file.ensures.1, file.ensures.3) made.1 made.2
-    (rw c.deref-2.ensures.value at cut.within, rw c.deref-2.ensures.value at cut.part) cut.failure
+    (rw c.deref-2.ensures.value at cut.within) (rw c.deref-2.ensures.value at cut.part) cut.failure
     (keeps_itself (g.E.Sink.written c.args.error.now), c.requires.error)
 
 pub returns-in_err-test_job-clause-defects : goal.returns-in_err-test_job-clause-defects

@@ -1,6 +1,6 @@
 -- No part of the standard: standard output, which remembers whether its reader had closed it (profile).
 use Rattle.std.specs.Prelude.{Bool}
-use Rattle.tt_program_decisions.specs.declared.output.OutDevice.{OutDevice}
+use Rattle.tt_program_decisions.specs.declared.closable.OutDevice.{OutDevice}
 
 -- the wrapped writer
 abbrev pub output_inner : {W : Type 0} → OutDevice W → W
