@@ -59,10 +59,11 @@ pub(crate) fn tell_lines<E: Sink>(
     match answer {
         Ok(drawn) => passed_status(&drawn.refused),
         Err(fault) => {
+            let status = texts_status(fault);
             if closed || error.failed() {
-                return texts_status(fault);
+                return status;
             }
-            tell_line(texts_line(alloc, fault), texts_status(fault), error)
+            tell_line(texts_line(alloc, fault), status, error)
         }
     }
 }
