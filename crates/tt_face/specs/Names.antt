@@ -30,7 +30,7 @@ family_name = 1
 abbrev pub full_name : ℕ
 full_name = 4
 
--- whether record i is a name with this nameID for Windows, and in American English if that is asked for: platformID,
+-- whether record i is a name with this nameID for Windows, and in American English if that is wanted: platformID,
 -- nameID and languageID
 abbrev pub is_name : ℕ → Bool → List ℕ → ℕ → Bool
 is_name id english t i =

@@ -55,7 +55,7 @@ impl<'a> Names<'a> {
         Some(Names { table, count })
     }
 
-    /// Whether a record is a name with this number for Windows, and in American English if that is asked for.
+    /// Whether a record is a name with this number for Windows, and in American English if that is wanted.
     fn is_name(&self, id: u16, english: bool, i: usize) -> bool
         requires { i < name_count self.now }
         ensures { result ≡ is_name id english self.now i }
