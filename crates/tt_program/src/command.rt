@@ -18,7 +18,7 @@ pub(crate) fn request<'a>(
     let Some(matches) = arguments_of(alloc, name, words)? else {
         return Ok(None);
     };
-    Ok(request_of(name, &Found { matches: &matches }))
+    Ok(request_of(name, &FoundArguments { matches: &matches }))
 }
 
 /// The word at the place of the subcommand. Empty where no word is.
@@ -31,11 +31,11 @@ pub(crate) fn subcommand(words: &[String]) -> &str {
 
 /// The arguments of a subcommand, as clap found them.
 #[derive(Drop)]
-struct Found<'m, 'a> {
+struct FoundArguments<'m, 'a> {
     matches: &'m ArgMatches<'a>,
 }
 
-impl<'m, 'a> Arguments<'a> for Found<'m, 'a> {
+impl<'m, 'a> Arguments<'a> for FoundArguments<'m, 'a> {
     ghost text = { λ f name. first_value (found_of f.matches.now) name };
 
     ghost IsNumber = { λ f name n. (one_text (found_of f.matches.now) name ≡ None → n ≡ None)

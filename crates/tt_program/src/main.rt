@@ -7,7 +7,7 @@ mod command;
 mod output;
 
 use crate::command::{request, subcommand};
-use crate::output::Output;
+use crate::output::OutputFiles;
 use clap::Error;
 use clap::error::ErrorKind;
 use std::alloc::{AllocError, Global};
@@ -77,7 +77,7 @@ fn serve<R: Files + Env + Print + Eprint + AllocGlobal>(rt: &R, stdin: Stdin, st
     let folder = is_folder(&file);
     let mut font = Device::new(file);
     let mut lines = Device::new(lines);
-    let mut out = Output::new(rt, io::writer(rt), request.output());
+    let mut out = OutputFiles::new(rt, io::writer(rt), request.output());
     let status = perform(
         rt.alloc(),
         &request,

@@ -20,7 +20,7 @@ pub(crate) struct Unmade {
 
 /// Standard output, and the files of pictures, if `-o` names some.
 #[derive(Drop)]
-pub(crate) struct Output<'a, W, R> {
+pub(crate) struct OutputFiles<'a, W, R> {
     files: &'a R,
     stream: OutDevice<W>,
     /// The name of the files of pictures. Without one they go to standard output.
@@ -30,15 +30,15 @@ pub(crate) struct Output<'a, W, R> {
     pub(crate) unmade: Option<Unmade>,
 }
 
-impl<'a, W: Write, R: Files + AllocGlobal> Output<'a, W, R> {
+impl<'a, W: Write, R: Files + AllocGlobal> OutputFiles<'a, W, R> {
     ghost use Rattle.tt_program_decisions.specs.Closable.{has_output_failed};
 
     /// Nothing is written yet.
-    pub(crate) fn new(files: &'a R, stream: W, name: Option<&'a str>) -> Output<'a, W, R>
+    pub(crate) fn new(files: &'a R, stream: W, name: Option<&'a str>) -> OutputFiles<'a, W, R>
         ensures stream { has_output_failed result.stream ≡ false }
         ensures pictures { result.failed ≡ false }
     {
-        Output {
+        OutputFiles {
             files,
             stream: OutDevice::new(stream),
             name,
@@ -96,7 +96,7 @@ fn put_all<S: Sink>(out: &mut S, formed: &mut Formed) -> Result<(), NotPut>
     }
 }
 
-impl<'a, W: Write, R: Files + AllocGlobal> Sink for Output<'a, W, R> {
+impl<'a, W: Write, R: Files + AllocGlobal> Sink for OutputFiles<'a, W, R> {
     ghost use Rattle.tt_program_decisions.specs.Closable.{has_output_failed, output_inner};
 
     ghost written = { λ o. W.contents (output_inner o.stream) };
@@ -112,7 +112,7 @@ impl<'a, W: Write, R: Files + AllocGlobal> Sink for Output<'a, W, R> {
     }
 }
 
-impl<'a, W: Write, R: Files + AllocGlobal> Closable for Output<'a, W, R> {
+impl<'a, W: Write, R: Files + AllocGlobal> Closable for OutputFiles<'a, W, R> {
     ghost use Rattle.tt_program_decisions.specs.Closable.{is_output_closed};
 
     ghost closes = { λ o. is_output_closed o.stream };
@@ -123,7 +123,7 @@ impl<'a, W: Write, R: Files + AllocGlobal> Closable for Output<'a, W, R> {
 }
 
 // No contract knows what stands in files.
-impl<'a, W: Write, R: Files + AllocGlobal> Pictures for Output<'a, W, R> {
+impl<'a, W: Write, R: Files + AllocGlobal> Pictures for OutputFiles<'a, W, R> {
     ghost written = { λ o. None };
 
     ghost shown = { λ number bytes. bytes };

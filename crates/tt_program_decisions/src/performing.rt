@@ -61,22 +61,13 @@ pub fn perform<R: Source, L: Source, W: Closable + Pictures, E: Sink>(
             let told = tt_render_lines::write_layout(alloc, font, out, error, text, setting);
             tell_texts(alloc, &told, out.is_closed(), error)
         }
-        Request::Label {
-            font: path,
-            text,
-            options,
-            ..
-        } => {
-            let label = label_for(path, options);
+        Request::Label { text, options, .. } => {
+            let label = label_for(request.font(), options);
             let drawn = tt_render::draw_label(alloc, font, out, error, text, &label);
             tell_label(alloc, &drawn, &label, folder, out.is_closed(), error)
         }
-        Request::Labels {
-            font: path,
-            options,
-            ..
-        } => {
-            let label = label_for(path, options);
+        Request::Labels { options, .. } => {
+            let label = label_for(request.font(), options);
             let drawn = tt_render::draw_labels(alloc, font, lines, out, error, &label);
             tell_label(alloc, &drawn, &label, folder, out.is_closed(), error)
         }

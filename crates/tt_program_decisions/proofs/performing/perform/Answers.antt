@@ -37,7 +37,7 @@ pub returns-in-Label-clause-outcome : goal.returns-in-Label-clause-outcome
 returns-in-Label-clause-outcome g c =
     rw c.in-Label.is (
       c.label_for-label.result,
-      c.label_for-label.ensures,
+      rw (c.font.ensures, c.in-Label.is) at c.label_for-label.ensures,
       record {
         drawn = c.draw_label-drawn.result;
         between = g.E.Sink.written c.draw_label-drawn.new.error;
@@ -51,7 +51,7 @@ pub returns-in-Labels-clause-outcome : goal.returns-in-Labels-clause-outcome
 returns-in-Labels-clause-outcome g c =
     rw c.in-Labels.is (
       c.label_for-label-in-Labels.result,
-      c.label_for-label-in-Labels.ensures,
+      rw (c.font-in-Labels.ensures, c.in-Labels.is) at c.label_for-label-in-Labels.ensures,
       record {
         drawn = c.draw_labels-drawn.result;
         between = g.E.Sink.written c.draw_labels-drawn.new.error;

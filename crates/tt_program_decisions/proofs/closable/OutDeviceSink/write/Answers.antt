@@ -1,6 +1,6 @@
 use Rattle.std.proofs.Common.{take}
 use Rattle.tt_program_decisions.proofs.KeptBytes.{kept_appends}
-use Rattle.tt_program_decisions.proofs.output.OutDeviceSink.write.Goals as goal
+use Rattle.tt_program_decisions.proofs.closable.OutDeviceSink.write.Goals as goal
 
 pub returns-then-n-gt0-clause-bytes : goal.returns-then-n-gt0-clause-bytes
 returns-then-n-gt0-clause-bytes g c =

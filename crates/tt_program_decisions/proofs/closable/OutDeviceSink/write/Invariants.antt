@@ -1,6 +1,6 @@
 use Rattle.std.proofs.Common.{◌≡◌}
 use Rattle.std.specs.Io.KnownBytes.{Keeps}
-use Rattle.tt_program_decisions.proofs.output.OutDeviceSink.write.Given as goal
+use Rattle.tt_program_decisions.proofs.closable.OutDeviceSink.write.Given as goal
 
 -- interrupted calls have written nothing
 abbrev pub invariant-loop : goal.invariant-loop
