@@ -40,6 +40,9 @@ def command_line(asked):
         [*size, "--face", "-1", "F.ttf", "A"], [*size, "--face", "0", "--face", "0", "F.ttf", "A"],
         [*size, "--missing", "skip", "F.ttf", "A"], [*size, "--lines", "F.ttf", "A"], [*size, "--lines"],
         [*size, "--lines", "--lines", "F.ttf"], [*size, "--grow", "F.ttf", "A"], [*size, "F.ttf", "-A"],
+        [*size, "F.ttf", "A", "-o"], [*size, "-o", "x", "--output", "y", "F.ttf", "A"],
+        [*size, "--png=x", "F.ttf", "A"], [*size, "--keep-going", "F.ttf", "A"],
+        [*size, "--lines", "--keep-going", "--keep-going", "F.ttf"],
     ]
     for words in wrong:
         common.verdict(f"label {' '.join(words)}", complains(asked.run(["label", *words], folder)))
@@ -63,7 +66,8 @@ def command_line(asked):
         first = "60 SizeRange" if "--size" in second else "64 MarginRange"
         got = asked.run(["label", "--size", size, "--margin", margin, "F.ttf", "A"], folder)
         common.tried(f"size {size}, margin {margin}", got, (2, b"", labels.lines_of([first, second])))
-    parts = "--size <N>", "--align", "centre", "[default: best]", "[default: tell]", " -- "
+    parts = "--size <N>", "--align", "centre", "[default: best]", "[default: tell]", " -- ", "-o, --output <FILE>"
+    parts += "--png", "--keep-going"
     repeated(asked)
     helped(asked, ["label", "--help"], parts)
     helped(asked, ["--help"], ("label",))

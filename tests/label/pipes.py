@@ -10,7 +10,7 @@ FONT = "/usr/share/fonts/truetype/dejavu/DejaVuSans.ttf"
 NOTES = "a\tline with a tab, which is longer than thirty characters are\n\nthe last one\n"
 ADDRESS = "Mr A. Nobody\n12 Quay Street\n\nNowhere\n"
 # How files of these endings begin.
-STARTS = {"pbm": (b"P4", b"P1"), "png": (b"\x89PNG",), "xbm": (b"#define ",)}
+STARTS = {"pbm": (b"P4", b"P1"), "xbm": (b"#define ",)}
 
 
 def commands():
@@ -24,10 +24,8 @@ def commands():
 
 def faults_of(folder, command):
     """Returns what is wrong with the files that a command wrote."""
-    names = re.findall(r"(?:> |mv new )([\w.]+)$", command, re.M)
-    names += ["label0.pbm", "label1.pbm"] * ("pamsplit" in command)
     found = []
-    for name in (it for it in names if it != "new"):
+    for name in re.findall(r"> ([\w.]+)$", command, re.M):
         path = folder / name
         data = path.read_bytes() if path.exists() else b""
         if not data.startswith(STARTS[name.rsplit(".", 1)[1]]):
@@ -56,5 +54,5 @@ def pipes(asked):
         why = [] if not ran.returncode else [f"status {ran.returncode}: {ran.stderr[:300]!r}"]
         why += [] if b"tt_render:" not in ran.stderr else [f"standard error has {ran.stderr[:300]!r}"]
         common.verdict(f"pipe {example.strip()}", why or faults_of(folder, example))
-    if len(examples) < 11:
+    if len(examples) < 9:
         common.verdict("pipes", [f"the page of the manual has only {len(examples)} examples"])

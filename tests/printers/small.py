@@ -8,6 +8,7 @@ import common
 import labels
 import model
 import parts
+import places
 from labels import lines_of
 
 SIZE = "--size", "16"
@@ -116,7 +117,7 @@ def try_png(asked):
     for row, got in zip(found, asked.each(run, found)):
         common.tried(f"png {row.name}", got, (0, cases.png_of(row.stdout), row.errors))
     folder = asked.folder(labels.fonts()["T"])
-    for words in (["--png", "--lines", "F.ttf"], ["--png", "--png", "F.ttf", "A"]):
+    for words in (["--png", "--lines", "F.ttf"], ["--png", "--png", "F.ttf", "A"], ["--png=1", "F.ttf", "A"]):
         common.verdict(f"png {words}", is_fault(asked.run(["label", *SIZE, *words], folder)))
     got = asked.run(["label", *SIZE, "--png", "--missing", "refuse", "F.ttf", "Z"], folder)
     common.tried("png of a refused text", got, (2, b"", lines_of(["U+005A has no glyph"])))
@@ -128,6 +129,13 @@ def left_in(folder):
     for name in found:
         (folder / name).unlink()
     return found
+
+
+def written(name, folder, got, wanted, files):
+    """Compares an answer, and the files that it left."""
+    common.tried(name, got, wanted)
+    found = left_in(folder)
+    common.verdict(f"files of {name}", [] if found == files else [f"{found}"[:300]])
 
 
 def try_output(asked):
@@ -144,6 +152,9 @@ def try_output(asked):
             common.tried(f"output {option}", got, (0, b"", b""))
         found = left_in(folder)
         common.verdict(f"output in {name}", [] if found == {name: wanted} else [f"{found}"[:300]])
+    for words in (["--png", "-o", "x.pbm"], ["-o", "x.pbm", "--png"]):
+        got = asked.run(["label", *SIZE, *words, "F.ttf", "A"], folder)
+        written(f"output {words}", folder, got, (0, b"", b""), {"x.pbm": file})
     (folder / "x.png").write_bytes(b"as before")
     for size, *words in (["16", "--missing", "refuse", "F.ttf", "Z"], ["0", "F.ttf", "A"], ["9", "F.ttf", "A" * 4097],
                          ["16", "none.ttf", "A"]):
@@ -151,14 +162,42 @@ def try_output(asked):
         common.tried(f"output, refused {words[0]}", got, wanted)
     found = left_in(folder)
     common.verdict("output of refused texts", [] if found == {"x.png": b"as before"} else [f"{found}"[:300]])
-    (folder / "under").mkdir(exist_ok=True)
-    for name in "nowhere/x.png", "F.ttf/x.png", "under", "x" * 300 + ".png":
-        status, out, errors = asked.run(["label", *SIZE, "-o", name, "F.ttf", "A"], folder)
-        right = (status, out) == (4, b"") and errors.startswith(b"tt_render: cannot create the picture\n")
-        common.verdict(f"output in {name[:30]!r}", [] if right else [f"{status} {errors[:300]!r}"])
+    uncreated(asked, folder)
     got = asked.run(["label", *SIZE, "-o", "/dev/full", "F.ttf", "A"], folder)
     common.tried("output on a full device", got, (4, b"", lines_of(["cannot write after 0 bytes"])))
+    beside_streams(asked, folder, picture)
     numbered(asked, folder, picture)
+    going_on(asked, folder, picture)
+
+
+def uncreated(asked, folder):
+    """Tries files that cannot be created, and what is told of each."""
+    (folder / "under").mkdir(exist_ok=True)
+    (folder / "loop").symlink_to("loop")
+    cases_ = {"nowhere/x.png": "no such file", "F.ttf/x.png": "a folder of this path is a file", "under": "is a folder",
+              "x" * 300 + ".png": "the name is too long", "": "no such file", "loop": "too many symbolic links",
+              "no\x1bwhere/x": "no such file"}
+    for name, why in cases_.items():
+        got = asked.run(["label", *SIZE, "-o", name, "F.ttf", "A"], folder)
+        wanted = 4, b"", lines_of(["cannot create the picture", f"{model.shown(name)}: {why}"])
+        common.tried(f"output in {name[:30]!r}", got, wanted)
+    (folder / "loop").unlink()
+
+
+def beside_streams(asked, folder, picture):
+    """Tries a file where streams are closed, over the font itself, and through a link. No report is in the file."""
+    for how in "", ">&-", "<&-", ">&- 2>&-", "<&- 2>&-", "<&- >&- 2>&-", ">/dev/full":
+        status, out, _ = places.redirected(asked, ["label", *SIZE, "-o", "x.pbm", "F.ttf", "AZ"], how, folder)
+        alone = asked.run(["label", *SIZE, "F.ttf", "AZ"], folder)[1]
+        common.verdict(f"output and streams {how!r}", [] if (status, out, left_in(folder)) == (0, b"", {"x.pbm": alone})
+                       else [f"status {status}, or another file"])
+    (folder / "G.ttf").write_bytes((folder / "F.ttf").read_bytes())
+    got = asked.run(["label", *SIZE, "-o", "G.ttf", "G.ttf", "A"], folder)
+    written("output over its font", folder, got, (0, b"", b""), {"G.ttf": picture})
+    (folder / "link").symlink_to("behind")
+    got = asked.run(["label", *SIZE, "-o", "link", "F.ttf", "A"], folder)
+    (folder / "link").unlink()
+    written("output through a link", folder, got, (0, b"", b""), {"behind": picture})
 
 
 def numbered(asked, folder, picture):
@@ -174,9 +213,24 @@ def numbered(asked, folder, picture):
         wanted = {name.replace("%d", str(at)): form(it) for at, it in enumerate((picture, empty, picture), 1)}
         found = left_in(folder)
         common.verdict(f"files of lines in {name}", [] if found == wanted else [f"{found}"[:300]])
-    status, _, errors = asked.run([*words, "-o", "nowhere/%d", "F.ttf"], folder, b"A\nA\n")
-    right = status == 4 and errors.startswith(b"tt_render: line 1: cannot create the picture\n")
-    common.verdict("output of lines nowhere", [] if right else [f"{status} {errors[:300]!r}"])
+    got = asked.run([*words, "-o", "nowhere/%d", "F.ttf"], folder, b"A\nA\n")
+    told = ["line 1: cannot create the picture", "nowhere/1: no such file"]
+    common.tried("output of lines nowhere", got, (4, b"", lines_of(told)))
+    got = asked.run([*words, "--png", "-o", "%d.pbm", "F.ttf"], folder, b"A\n")
+    written("png of lines", folder, got, (0, b"", b""), {"1.pbm": cases.png_of(picture)})
+
+
+def going_on(asked, folder, picture):
+    """Tries -o with --keep-going: the file of a refused line is not there, and one that cannot be created stops all."""
+    words = ["label", *SIZE, "--lines", "--keep-going", "--missing", "refuse", "-o", "%d.pbm", "F.ttf"]
+    got = asked.run(words, folder, b"Z\nA\nZ\nA\n")
+    wanted = 2, b"", lines_of(["line 1: U+005A has no glyph", "line 3: U+005A has no glyph"])
+    written("output past refused lines", folder, got, wanted, {"2.pbm": picture, "4.pbm": picture})
+    (folder / "3.pbm").mkdir()
+    got = asked.run(words, folder, b"Z\nA\nA\nA\n")
+    told = ["line 1: U+005A has no glyph", "line 3: cannot create the picture", "3.pbm: is a folder"]
+    written("output up to a folder", folder, got, (4, b"", lines_of(told)), {"2.pbm": picture})
+    (folder / "3.pbm").rmdir()
 
 
 def alone(asked, words, folder, number, data):

@@ -53,16 +53,19 @@ def shown(pattern):
 
 
 def drawn(room, command):
-    """Returns the pictures that a command wrote to the file behind its last '>', and what is wrong with the command."""
+    """Returns the pictures that a command wrote to the file behind its last '>', or to those that -o names, and what is
+    wrong with the command."""
     ran = room.run(command)
-    name = re.search(r">\s*([\w.]+)\)?$", command)
-    found = pictures(room.read(name[1])) if name else []
-    return found, ran.faults() or ([] if found else [f"{command}: no picture in {name and name[1]}"])
+    name = re.search(r">\s*([\w.]+)\)?$|-o ([\w.%]+)", command)
+    word = name[1] or name[2] if name else ""
+    names = [word.replace("%d", str(it)) for it in (1, 2)] if "%d" in word else [word]
+    found = [picture for it in names for picture in pictures(room.read(it))]
+    return found, ran.faults() or ([] if found else [f"{command}: no picture in {word}"])
 
 
 def of_text(room, command, text):
     """Returns the picture that `draw` writes of a line alone, by the options of a command for `label`."""
-    options = re.search(r"label (.*?)(?:--lines |--align \w+ )?/", command)[1]
+    options = re.search(r"label (.*?)(?:--lines |--align \w+ )?(?:-o \S+ )?/", command)[1]
     return pictures(room.run(f"./tt_render draw --fit best --grow {options} {FONT} {shlex.quote(text)}").stdout)
 
 

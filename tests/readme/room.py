@@ -1,8 +1,10 @@
 """A folder that looks like the repository, in which commands of documents run without writing to the repository."""
 import os
 import shutil
+import struct
 import subprocess
 import tempfile
+import zlib
 from pathlib import Path
 
 import markdown
@@ -76,8 +78,21 @@ class Room:
         return path.read_bytes() if path.is_file() else b""
 
 
+def unpacked(data):
+    """Returns the PBM file (P4) of a file in PNG whose pictures have one bit a pixel and no filter."""
+    at, parts = 8, {}
+    while at < len(data):
+        size, kind = struct.unpack(">I4s", data[at : at + 8])
+        parts[kind] = parts.get(kind, b"") + data[at + 8 : at + 8 + size]
+        at += size + 12
+    width, height = struct.unpack(">II", parts[b"IHDR"][:8])
+    rows, size = zlib.decompress(parts[b"IDAT"]), (width + 7) // 8 + 1
+    return f"P4\n{width} {height}\n".encode() + b"".join(rows[it * size + 1 : (it + 1) * size] for it in range(height))
+
+
 def pictures(data):
-    """Returns the pictures of a PBM file (P4), each as rows of '#' and '.', or nothing where it is no such file."""
+    """Returns the pictures of a file, PBM (P4) or PNG, each as rows of '#' and '.', or nothing in another file."""
+    data = unpacked(data) if data.startswith(b"\x89PNG") else data
     found = []
     while data:
         head = data.split(b"\n", 2)

@@ -81,7 +81,7 @@ EndsRise = (r : ChordRule) (c : Quadratic) (k : ℕ) (b : Coordinates) → k < c
     → b.from ≤ℤ (pos 2 *ℤ b.control) → (pos 2 *ℤ b.control) ≤ℤ b.to
     → chord_place (chord_count r c) k b ≤ℤ chord_place (chord_count r c) (k + 1) b
 
--- eight chords are exact, and a quadratic whose bend asks for eight has the same eight
+-- eight chords are exact, and a quadratic whose bend needs eight has the same eight
 abbrev pub EightAreExact : Type 0
 EightAreExact = (c : Quadratic) (k : ℕ) → chord_end 8 c k ≡ record { x = weighed 8 k (along_x c); y = weighed 8 k (along_y c) }
 

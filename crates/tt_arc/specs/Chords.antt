@@ -1,7 +1,7 @@
 -- Apple TrueType Reference Manual, "Digitizing Letterform Designs". A contour is closed and runs from point to point.
 -- Two points on the curve give a straight line, and a point off the curve gives a quadratic curve. Midway between two
 -- points off the curve there is an implied point on it. Cutting a quadratic into chords is profile: into eight, or into
--- as many as its bend asks for. Points are in 26.6, ends of quadratics in 1/128 pixel, edges in 1/8192 pixel.
+-- as many as its bend needs. Points are in 26.6, ends of quadratics in 1/128 pixel, edges in 1/8192 pixel.
 use Rattle.std.specs.Prelude.{◌≡◌, ℕ, zero, suc, ◌+◌, ◌-◌, ◌*◌, ◌^◌, ◌<◌, ◌≤◌, Bool, false, ◌||◌, nat_eq, nat_lt, nat_le, max, if◌then◌else◌, ℤ, pos, ◌+ℤ◌, ◌-ℤ◌, ◌*ℤ◌, unsigned_abs, List, [], ◌∷◌, ◌++◌, length, map, get_or}
 use Rattle.std.specs.List.{slice_index, slice_range, sum_by, flat_map, range_with_len}
 use Rattle.tt_core.specs.Numbers.{nearest_quotient}

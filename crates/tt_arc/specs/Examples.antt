@@ -114,7 +114,7 @@ a_half_goes_up : ends half_up (1 ∷ []) ≡ end (pos 1008) (negsuc 1006) ∷ []
 unfolding half_up curve ends end
 a_half_goes_up = refl
 
--- where the bend asks for eight chords, they are the eight exact ones
+-- where the bend needs eight chords, they are the eight exact ones
 eight_by_bend : chords_by rule.ByBend bent_by_32 ≡ chords_by rule.Eight bent_by_32
 unfolding bent_by_32 curve first_chords
 eight_by_bend = refl

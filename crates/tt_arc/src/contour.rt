@@ -62,7 +62,7 @@ pub(crate) fn number_after(n: usize, i: usize) -> usize
     if i + 1 < n { i + 1 } else { 0 }
 }
 
-/// Adds the edges of a contour to a list, and tells how many chords and straight edges there were before any were
+/// Adds the edges of a contour to a list, and returns how many chords and straight edges there were before any were
 /// joined. A contour of one point has none. Error: memory ran out.
 #[inline(never)]
 pub(crate) fn push_contour(

@@ -52,7 +52,7 @@ ends_there : map (λ k. reached 5 (λ i. nat_le k i)) (0 ∷ 3 ∷ 4 ∷ 5 ∷ [
 unfolding reached_within
 ends_there = refl
 
--- two numbers, of which the first alone passes: the second is tested, and nothing is left
+-- two numbers, and the first alone passes: the second is tested, and nothing is left
 falls_back : reached 2 (λ i. nat_le i 0) ≡ 2
 unfolding reached_within
 falls_back = refl

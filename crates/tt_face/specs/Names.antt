@@ -1,5 +1,5 @@
 -- OpenType, "name: Naming Table": a header of 6 bytes, a record of 12 bytes for each name, and the strings. A name of a
--- face is told by its first 64 characters in ASCII; a defect of the table is an empty name (profile).
+-- face is printed by its first 64 characters in ASCII; a defect of the table is an empty name (profile).
 use Rattle.std.specs.Prelude.{◌≡◌, refl, ℕ, ◌+◌, ◌*◌, ◌/◌, min, Bool, true, false, not, ◌&&◌, ◌||◌, ◌==◌, nat_lt, nat_le, if◌then◌else◌, List, [], ◌∷◌, length, map, take, drop, codes, slice_range, Option, Some, None, Result, Ok, Err}
 use Rattle.std.specs.List.{range_with_len}
 use Rattle.tt_core.specs.Directory.{Directory, file_directory, table_of}
@@ -30,7 +30,7 @@ family_name = 1
 abbrev pub full_name : ℕ
 full_name = 4
 
--- whether record i is a name with this nameID for Windows, and in American English if that is asked for: platformID,
+-- whether record i is a name with this nameID for Windows, and in American English if that is wanted: platformID,
 -- nameID and languageID
 abbrev pub is_name : ℕ → Bool → List ℕ → ℕ → Bool
 is_name id english t i =
@@ -44,7 +44,7 @@ abbrev pub or_other : Option ℕ → Option ℕ → Option ℕ
 or_other None other = other
 or_other (Some i) other = Some i
 
--- the record of the name that is told: in American English before any other
+-- the record of the name that is printed: in American English before any other
 abbrev pub chosen_name : ℕ → List ℕ → Option ℕ
 chosen_name id t = or_other (first_name id true t) (first_name id false t)
 
@@ -79,7 +79,7 @@ string_of id (Err fault) = []
 abbrev pub told_character : ℕ → ℕ
 told_character c = if nat_le 0x20 c && nat_le c 0x7E then c else 0x3F
 
--- the characters of a string are words, and the first 64 are told
+-- the characters of a string are words, and the first 64 are printed
 abbrev pub told_text : List ℕ → List ℕ
 told_text string = map (λ k. told_character (unsigned_at string (2 * k) 2)) (range_with_len 0 (min 64 (length string / 2)))
 

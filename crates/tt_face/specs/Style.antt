@@ -1,4 +1,4 @@
--- Apple TrueType Reference Manual, "The 'head' table": macStyle, of which bit 0 is bold and bit 1 is italic. A face whose
+-- Apple TrueType Reference Manual, "The 'head' table": macStyle, whose bit 0 is bold and bit 1 is italic. A face whose
 -- head lacks the word has no style (profile).
 use Rattle.std.specs.Prelude.{◌≡◌, refl, ℕ, List, [], ◌∷◌, ◌++◌, codes, replicate, Option, Some, None, Result, Ok, Err}
 use Rattle.tt_core.specs.Directory.{Directory, table_of}

@@ -15,7 +15,7 @@ pub(crate) const FAMILY_NAME: u16 = 1;
 /// The number of a full name.
 pub(crate) const FULL_NAME: u16 = 4;
 
-/// Characters of a name that are told (profile).
+/// Characters of a name that are printed (profile).
 const TOLD: usize = 64;
 
 /// The records of a table of names. Clauses see the bytes of the table.
@@ -55,7 +55,7 @@ impl<'a> Names<'a> {
         Some(Names { table, count })
     }
 
-    /// Whether a record is a name with this number for Windows, and in American English if that is asked for.
+    /// Whether a record is a name with this number for Windows, and in American English if that is wanted.
     fn is_name(&self, id: u16, english: bool, i: usize) -> bool
         requires { i < name_count self.now }
         ensures { result ≡ is_name id english self.now i }
@@ -81,7 +81,7 @@ impl<'a> Names<'a> {
         None
     }
 
-    /// The record of the name that is told: in American English before any other.
+    /// The record of the name that is printed: in American English before any other.
     fn chosen_name(&self, id: u16) -> Option<usize>
         ensures exact { result ≡ chosen_name id self.now }
         ensures within { IfSome result (λ i. i < name_count self.now) }
@@ -109,7 +109,7 @@ impl<'a> Names<'a> {
         &table[start..end]
     }
 
-    /// The string of the name that is told, empty without one.
+    /// The string of the name that is printed, empty without one.
     pub(crate) fn chosen_string(&self, id: u16) -> &'a [u8]
         ensures exact { result.now ≡ chosen_string id self.now }
         ensures size { length result.now ≤ font_limit }

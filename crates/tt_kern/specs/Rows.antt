@@ -201,7 +201,7 @@ ended_by_0 : by_tables (gpos_with (0 ∷ 2 ∷ 0 ∷ 0 ∷ 0 ∷ 2 ∷ 0 ∷ 10 
 unfolding word long feature_of subtables_of kern_sum reached_within
 ended_by_0 = refl
 
--- two lookups, each of which applies: their values are added
+-- two lookups, and each applies: their values are added
 abbrev two_lookups : List ℕ
 two_lookups =
     0 ∷ 1 ∷ 0 ∷ 0 ∷ 0 ∷ 10 ∷ 0 ∷ 30 ∷ 0 ∷ 46 ∷ 0 ∷ 1 ∷ (tag_dflt ++ 0 ∷ 8 ∷ 0 ∷ 4 ∷ 0 ∷ 0 ∷ 0 ∷ 0 ∷ 0xFF ∷ 0xFF ∷ 0 ∷ 1 ∷ 0 ∷ 0 ∷

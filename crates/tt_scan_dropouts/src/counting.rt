@@ -40,7 +40,7 @@ fn in_each_band(bands: u64, edges: usize) -> u64
     bands * edges as u64
 }
 
-/// What an edge counts for the rows that it crosses, this many.
+/// The count of an edge for the rows that it crosses, this many.
 #[inline(always)]
 fn edge_rows(crossed: u64) -> u64
     requires { crossed ≤ 2 ^ 20 }
@@ -50,7 +50,7 @@ fn edge_rows(crossed: u64) -> u64
     (5 * crossed).max(7)
 }
 
-/// What edges count for the rows that they cross.
+/// The count of edges for the rows that they cross.
 fn rows_counted(edges: &[Edge]) -> u64
     requires edges { All EdgeFits edges.now }
     requires few { length edges.now ≤ 2 ^ 32 }
@@ -64,7 +64,7 @@ fn rows_counted(edges: &[Edge]) -> u64
     all
 }
 
-/// What edges count for the rows that they cross; and how many rows and columns they cross, all together.
+/// The count of edges for the rows that they cross; and how many rows and columns they cross, all together.
 fn crossed(edges: &[Edge]) -> (u64, u64)
     requires edges { All EdgeFits edges.now }
     requires few { length edges.now ≤ 2 ^ 32 }
@@ -93,8 +93,8 @@ fn bands_bytes(columns: u64, rows: u64) -> u64
     (columns + 10).div_ceil(8) * (rows + 10 * bands(rows))
 }
 
-/// What edges count: one for each band of the rows of their box, and what they count for the rows that they cross, which
-/// is known. Each row of the box counts one.
+/// The count of edges: one for each band of the rows of their box, and what they count for the rows that they cross,
+/// which is known. Each row of the box counts one.
 #[tactic(auto, unfolding(crate::specs::Counted::edges_counted))]
 fn counted_by(edges: &[Edge], counted: u64) -> u64
     requires edges { All EdgeFits edges.now }
@@ -109,7 +109,7 @@ fn counted_by(edges: &[Edge], counted: u64) -> u64
     in_each_band(bands(rows), edges.len()) + (counted + rows)
 }
 
-/// What edges count.
+/// The count of edges.
 pub fn edges_counted(edges: &[Edge]) -> u64
     requires edges { All EdgeFits edges.now }
     requires few { length edges.now ≤ 2 ^ 32 }
@@ -145,7 +145,7 @@ fn filling_by(extents: Extents, edges: &[Edge], met: u64) -> u64
     searched(bands(rows), met) + bands_bytes(numbers_in(columns), rows) / 64
 }
 
-/// What edges count where dropouts are filled, with the search for them. One walk over the edges serves both.
+/// The count of edges where dropouts are filled, with the search for them. One walk over the edges serves both.
 pub fn all_counted(extents: Extents, edges: &[Edge]) -> u64
     requires extents { ExtentsFit extents }
     requires edges { All EdgeFits edges.now }

@@ -21,7 +21,7 @@ lies_on_line v = int_eq (int_rem_euclid (v -ℤ pos 4096) (pos 8192)) (pos 0)
 abbrev pub meets_none : ℤ → ℤ → Bool
 meets_none a b = int_eq (line_below a) (line_below b) && (not (lies_on_line a) && not (lies_on_line b))
 
--- a line by which one sees whether a place and another meet none
+-- a line that shows whether a place and another meet none
 pub record IsTest (v line : ℤ) : Type 0 where
   pub small : unsigned_abs line < 2 ^ 41
   pub tells : (b : ℤ) → unsigned_abs b ≤ 2 ^ 31 → (int_lt line b && int_lt b (line +ℤ pos 8192)) ≡ meets_none v b

@@ -18,7 +18,7 @@ pub struct KeptGlyph {
     pub cut: Rc<CutGlyph>,
     /// Its points, those of components too.
     pub points: u64,
-    /// What its programs take of a job's work.
+    /// The part of a job's work that its programs take.
     pub cost: u64,
 }
 
