@@ -1,9 +1,9 @@
 //! The request of a call.
 
-ghost use Rattle.std.specs.Prelude.{◌≡◌, ◌≢◌, not, ◌==◌, IfErr, IfOk};
+ghost use Rattle.std.specs.Prelude.{◌≡◌, ◌≢◌, not, ◌||◌, ◌==◌, IfErr, IfOk};
 ghost use Rattle.tt_core.specs.Outcomes.{GivesUnless};
 ghost use Rattle.tt_strike.specs.Job.{job_view};
-ghost use Rattle.tt_c_calls.specs.Asked.{asked, face_named, face_reading, fit_asked, grows, heights_asked, job_opening, job_reading, text_asked};
+ghost use Rattle.tt_c_calls.specs.Asked.{asked, face_named, face_reading, fit_asked, grows, heights_asked, job_opening, job_reading, reads_widely, text_asked};
 ghost use Rattle.tt_c_calls.specs.declared.fault.CallFault.TheVariants as call;
 ghost use Rattle.tt_c_calls.specs.Refusals.{call_refusal};
 
@@ -58,6 +58,13 @@ impl CJob {
         ensures { result ≡ job_reading self.now fit }
     {
         reading_asked(face_named(self.face), fit_reading(fit))
+    }
+
+    /// Whether a text is read widely, so that variation selectors belong to characters.
+    pub(crate) fn reads_widely(&self) -> bool
+        ensures { result ≡ reads_widely self.now }
+    {
+        self.face != 0 || self.fit == 3
     }
 
     /// How the face is opened, by the way to fit.
