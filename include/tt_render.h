@@ -60,10 +60,10 @@
  * tt_draw_band each run the font's first two programs and fit all glyphs of the text: with hinting mostly some million
  * instructions. This is so even where the room is too small. tt_glyphs runs the two programs once and fits each glyph
  * of its list once, also where the room for the rows is too small: a list costs what a text of its glyphs does.
- * tt_draw_lines runs the two programs once, and fits no glyph that is cached: a label of 16 letters then takes some 30,000 instructions.
- * With keep 0 each line fits its glyphs anew, for up to a million instructions. With kern a call reads at most 10,000
- * numbers of GPOS and kern when it opens the font. For each pair of neighbouring glyphs it reads at most 5,120 numbers,
- * up to three times; real fonts need some 50.
+ * tt_draw_lines runs the two programs once, and fits no glyph that is cached: a label of 16 letters then takes some
+ * 30,000 instructions. With keep 0 each line fits its glyphs anew, for up to a million instructions. With kern a call
+ * reads at most 10,000 numbers of GPOS and kern when it opens the font. For each pair of neighbouring glyphs it reads
+ * at most 5,120 numbers, up to three times; real fonts need some 50.
  */
 #ifndef TT_RENDER_H
 #define TT_RENDER_H
