@@ -143,9 +143,10 @@ struct tt_job {
     uint32_t face;    /* n + 1: face n, read widely. 0: the only font, read strictly; with TT_BEST face 0, read widely */
     uint32_t kern;    /* not 0: pairs of neighbouring glyphs are kerned */
     uint32_t rounded; /* not 0: rise and depth are each rounded to the nearest row, so that box drawing joins */
+    uint32_t blank;   /* not 0: a line of tt_draw_lines without a byte is blank, and never refused */
 };
 
-/* A picture without its pixels. */
+/* A picture without its pixels. All is 0 for a blank line. */
 struct tt_picture {
     uint32_t width;     /* pixels in a row, 1 to 16,384 */
     uint32_t height;    /* rows, 1 to 4,096 */
@@ -351,6 +352,10 @@ uint32_t tt_draw_band(const uint8_t *font, size_t font_bytes, const uint8_t *tex
  *
  * Line i begins in texts where the line before it ends, and ends before ends[i]. rows gets the rows of all lines one
  * after the other, and lines[i] describes line i.
+ *
+ * Where the job's blank is not 0, a line without a byte is blank: a picture of no column and no row, whose base line is
+ * 0, in no byte of rows. Then tt_strike tells how far the next line is. Else such a line is drawn as tt_draw draws it,
+ * which without a margin refuses it (62).
  *
  * With TT_BEST the lines of a call share a budget. A line after which no budget is left is still drawn; the next one is
  * refused with number 65.

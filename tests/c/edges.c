@@ -280,6 +280,12 @@ static void try_all_ends(void) {
   try_ends("a line that ends in a character", text, (const uint64_t[]){2, 3, 5}, 3, usual, TT_NOT_UTF8, 0, 1);
   try_ends("a line without a character", text, (const uint64_t[]){1, 1, 2}, 3, usual, TT_JOB, 62, 1);
   try_ends("a line without a character in a margin", text, (const uint64_t[]){0, 1, 1}, 3, wide, TT_DONE, 0, 3);
+  struct tt_job blank = {.size = 16, .margin = 0, .fit = TT_FULL, .grow = 0, .blank = 1};
+  try_ends("blank lines", text, (const uint64_t[]){0, 1, 1, 1, 2, 2}, 6, blank, TT_DONE, 0, 6);
+  try_ends("blank lines before a line that ends in a character", text, (const uint64_t[]){1, 1, 2, 3}, 4, blank,
+           TT_NOT_UTF8, 0, 3);
+  blank.margin = 1;
+  try_ends("a blank line in a margin", text, (const uint64_t[]){0, 1, 1}, 3, blank, TT_DONE, 0, 3);
   try_ends("no line", text, NULL, 0, usual, TT_DONE, 0, 0);
   struct tt_job large = {.size = 301, .margin = 0, .fit = TT_FULL, .grow = 0};
   try_ends("no line, and a size of 301", text, NULL, 0, large, TT_JOB, 60, 0);

@@ -112,6 +112,11 @@ class Calls(unittest.TestCase):
         error = self.refused(next, got)
         self.assertEqual((error.line, error.number), (2, 62))
 
+    def test_blank_line(self):
+        got = list(self.font.labels(["A", "", "", "B"], 16, blank=True))
+        self.assertEqual([got[0], got[3]], [self.font.label("A", 16), self.font.label("B", 16)])
+        self.assertEqual(got[1:3], 2 * [tt_render.Picture(0, 0, 0, 0, b"")])
+
     def test_measure(self):
         got, picture = self.font.measure("jolly", 24), self.font.label("jolly", 24)
         self.assertEqual(got[:4], picture[:4])

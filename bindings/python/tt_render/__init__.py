@@ -47,8 +47,8 @@ class Picture(NamedTuple):
 # The size of a text's picture, and the box of all ink.
 Measure = NamedTuple("Measure", [("width", int), ("height", int), ("baseline", int), ("unfitted", int),
                                  ("ink", Optional[Box])])
-# A character in its picture's columns and rows. The glyph is 0 where the font has none. The offset is where the character
-# begins in the text as UTF-8, in bytes.
+# A character in its picture's columns and rows. The glyph is 0 where the font has none. The offset is where the
+# character begins in the text as UTF-8, in bytes.
 Character = NamedTuple("Character", [("glyph", int), ("advance", int), ("pen", int), ("ink", Optional[Box]),
                                      ("offset", int)])
 # A character in the font; the advance in font units, the variation selector or 0.
@@ -108,9 +108,9 @@ class Font:
         return cls(pathlib.Path(path).read_bytes(), face)
 
     def _job(self, size: int, margin: int, fit: int, grow: bool = False, kern: bool = False,
-             rounded: bool = False) -> Any:
+             rounded: bool = False, blank: bool = False) -> Any:
         numbers = map(c.number, (size, margin, fit))
-        return c.tt_job(*numbers, bool(grow), self._face, bool(kern), bool(rounded))
+        return c.tt_job(*numbers, bool(grow), self._face, bool(kern), bool(rounded), bool(blank))
 
     def label(self, text: str, size: int, *, margin: int = 0, fit: int = Fit.BEST, grow: bool = True,
               kern: bool = False, rounded: bool = False) -> Picture:
@@ -120,13 +120,13 @@ class Font:
         return c.tuple_of(Picture, told, rows=rows[: answer.bytes])
 
     def labels(self, texts: Iterable[str], size: int, *, margin: int = 0, fit: int = Fit.BEST, grow: bool = True,
-               kern: bool = False, rounded: bool = False, keep: int = 1 << 20) -> Iterator[Picture]:
+               kern: bool = False, rounded: bool = False, blank: bool = False, keep: int = 1 << 20) -> Iterator[Picture]:
         """Draws lines, for each what `label` draws, but with the font's programs run once for many of them.
 
         At most `keep` bytes of glyphs are cached between lines, which then are up to twenty times as fast. A line that
-        is refused ends the drawing.
+        is refused ends the drawing. With `blank` an empty text is a picture without a pixel.
         """
-        job, room, done = self._job(size, margin, fit, grow, kern, rounded), 1 << 20, 0
+        job, room, done = self._job(size, margin, fit, grow, kern, rounded, blank), 1 << 20, 0
         rest = [c.utf8_of(it) for it in texts][::-1]
         while rest:
             some = rest[: -4097 : -1]

@@ -22,7 +22,7 @@ def _struct(name: str, **fields: Any) -> Any:
 # The structs of tt_render.h, in its order.
 tt_answer = _struct("tt_answer", status=u32, number=u32, table=c_char * 4, offset=u32, bytes=u64, count=u64)
 tt_font = _struct("tt_font", units_per_em=u32, ascent=i32, descent=i32, glyphs=u32, line_gap=i32)
-tt_job = _struct("tt_job", size=u32, margin=u32, fit=u32, grow=u32, face=u32, kern=u32, rounded=u32)
+tt_job = _struct("tt_job", size=u32, margin=u32, fit=u32, grow=u32, face=u32, kern=u32, rounded=u32, blank=u32)
 tt_picture = _struct("tt_picture", width=u32, height=u32, row_bytes=u64, baseline=i64, unfitted=u64)
 tt_box = _struct("tt_box", left=i64, top=i64, right=i64, bottom=i64)
 tt_measure = _struct("tt_measure", width=u32, height=u32, baseline=i64, unfitted=u64, has_ink=u64, ink=tt_box)

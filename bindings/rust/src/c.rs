@@ -38,6 +38,7 @@ pub struct Job {
     pub face: u32,
     pub kern: u32,
     pub rounded: u32,
+    pub blank: u32,
 }
 
 /// A picture without its pixels.

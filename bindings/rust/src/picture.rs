@@ -33,6 +33,8 @@ pub struct Job {
     /// Whether ascent and descent are each rounded to the nearest row, and not up. Then box drawing characters join, of
     /// pictures that are set one below the other.
     pub rounded: bool,
+    /// Whether `Font::labels` gives a picture without a pixel for an empty text, and does not refuse it.
+    pub blank: bool,
 }
 
 impl Job {
@@ -45,6 +47,7 @@ impl Job {
             grow: true,
             kern: false,
             rounded: false,
+            blank: false,
         }
     }
 
@@ -56,6 +59,7 @@ impl Job {
             grow,
             kern,
             rounded,
+            blank,
         } = *self;
         c::Job {
             size,
@@ -65,6 +69,7 @@ impl Job {
             face,
             kern: kern.into(),
             rounded: rounded.into(),
+            blank: blank.into(),
         }
     }
 }

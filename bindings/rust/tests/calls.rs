@@ -176,6 +176,21 @@ fn a_refused_line_is_named() {
 }
 
 #[test]
+fn a_blank_line_is_passed() {
+    let bytes = font_bytes();
+    let font = Font::new(&bytes).unwrap();
+    let job = changed(16, |it| it.blank = true);
+    let mut got = Vec::new();
+    font.labels(&["A", "", "B"], &job, |it| got.push(it))
+        .unwrap();
+    assert_eq!(got.len(), 3);
+    assert_eq!(got[0], font.draw("A", &job).unwrap());
+    assert_eq!((got[1].shape.width, got[1].shape.height), (0, 0));
+    assert!(got[1].rows.is_empty());
+    assert_eq!(got[2], font.draw("B", &job).unwrap());
+}
+
+#[test]
 fn a_measure_is_that_of_the_picture() {
     let bytes = font_bytes();
     let font = Font::new(&bytes).unwrap();

@@ -35,6 +35,8 @@ pub struct CJob {
     pub kern: u32,
     /// Not 0 to round rise and depth to the nearest row each, so that lines of box drawing join.
     pub rounded: u32,
+    /// Not 0 so that of lines drawn one after the other, one without a byte is blank, and never refused.
+    pub blank: u32,
 }
 
 /// A request: a text, the font that draws it, and how.
