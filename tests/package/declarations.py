@@ -80,7 +80,7 @@ def differences(binding, wanted, got):
 VERSIONS = {"bindings/python/pyproject.toml": r'^version = "(.*)"', "Cargo.toml": r'^version = "(.*)"',
             "Cargo.lock": r'^name = "tt_render"\nversion = "(.*)"', "tt_render.1": r'"tt_render (.*?)"',
             "crates/tt_program_commands/src/lib.rt": r'\.version\("(.*)"\)', "SECURITY.md": r"^Version (\S+) ",
-            "CHANGELOG.md": r"^## (?:Unreleased: )?(\d\S*)", "debian/changelog": r"^tt-render \((.*)\)"}
+            "CHANGELOG.md": r"^## (\d\S*) - ", "debian/changelog": r"^tt-render \((.*)\)"}
 SHORT = {"docs/C_LIBRARY.md": r"find_package\(tt_render (\S+)"}
 NUMBERS = {"include/tt_render.h": r"#define TT_RENDER_VERSION (\d+)",
            "crates/tt_c/src/lib.rt": r"fn tt_version\(\) -> u32\s+ensures \{ result ≡ (\d+)"}

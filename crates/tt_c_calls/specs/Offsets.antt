@@ -1,4 +1,4 @@
--- No part of the standard: the bytes of a text at which its units begin (profile). A unit is a character that is no
+-- No part of the standard: where the units of a text begin, in bytes (profile). A unit is a character that is no
 -- variation selector; what follows up to the next such character is part of it, or passed over. Where selectors are
 -- characters like others, each character is a unit. Unicode, "UTF-8", has the bytes of a character.
 use Rattle.std.specs.Prelude.{◌≡◌, refl, ℕ, ◌+◌, ◌<◌, ◌≤◌, Bool, true, false, not, ◌&&◌, if◌then◌else◌, List, [], ◌∷◌, ◌++◌, drop, length, map, slice_range, ⊤}

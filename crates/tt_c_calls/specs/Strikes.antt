@@ -1,6 +1,6 @@
 -- A font at a size without a text, for C: the rows of its lines (profile) and of its underline. OpenType, "post":
 -- underlinePosition is the upper edge of the underline above the base line, and the thickness follows. A font without
--- these two numbers, or with a thickness that is not above 0, tells no underline (profile). Both are rounded to the
+-- these two numbers, or with a thickness that is not above 0, has no underline (profile). Both are rounded to the
 -- nearest row, a half up, and an underline has at least one row (profile).
 use Rattle.std.specs.Prelude.{◌≡◌, ◌≢◌, refl, ℕ, List, [], ◌∷◌, ◌++◌, codes, replicate, if◌then◌else◌, ℤ, pos, negsuc, ◌*ℤ◌, int_le, Option, Some, None, Result, Ok, Err}
 use Rattle.tt_core.specs.Collections.{directory_by}
@@ -68,7 +68,7 @@ strike_wanted j font =
     as_call (as_job (line_size face.metrics j.size j.margin 1)) >>= λ z.
     Ok (strike_told z (underline_in face.directory j.size (units_per_em_of face.metrics)))
 
--- a call told a strike, or says why not; it took no memory
+-- a call wrote a strike, or says why not; it took no memory
 pub record TellsStrike (j : CJob) (font : List ℕ) (before told : CStrike) (a : CAnswer) : Type 0 where
   pub done : a.status ≡ 0 → (strike_wanted j font ≡ Ok told) × (a ≡ done_answer 0 0)
   pub refused : a.status ≢ 0 → TellsRefusal (strike_wanted j font) a

@@ -1,4 +1,4 @@
-//! The bytes of a text at which its units begin. Unicode, "Variation Selectors" and "UTF-8".
+//! Where the units of a text begin, in bytes. Unicode, "Variation Selectors" and "UTF-8".
 
 ghost use Rattle.std.specs.Prelude.{◌≡◌, IfOk};
 ghost use Rattle.tt_cmap.specs.Units.{is_selector};

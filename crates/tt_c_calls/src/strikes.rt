@@ -20,11 +20,11 @@ use tt_line::{LineSize, size_by_steps};
 use tt_render_settings::Setting;
 use tt_strike::test_job;
 
-/// The underline of a font at a size. All is 0 where the font tells none.
+/// The underline of a font at a size. All is 0 where the font has none.
 #[repr(C)]
 #[derive(Clone, Copy)]
 pub struct CUnderline {
-    /// 0 where the font tells no underline.
+    /// 0 where the font has no underline.
     pub exists: u64,
     /// Rows from the base line up to the upper edge, so mostly negative.
     pub top: i64,
@@ -75,7 +75,7 @@ fn at_least_one(rows: i64) -> u64
     rows.unsigned_abs()
 }
 
-/// The underline of a font that tells none.
+/// The underline of a font that has none.
 fn no_underline() -> CUnderline
     ensures { result ≡ no_underline }
 {
@@ -165,7 +165,7 @@ fn strike_for(font: &[u8], job: &CJob) -> Result<CStrike, CallFault>
     Ok(strike_of(size, underline_by(font, opening.reading, job.size, em)))
 }
 
-/// Tells a font at a size, without a text: the rows of its lines, and its underline. Answers: done; the font is refused,
+/// Writes a font at a size, without a text: the rows of its lines, and its underline. Answers: done; the font is refused,
 /// too large, or the job refused. It takes no memory. Unless the answer is done, `told` is unchanged.
 pub fn strike(font: &[u8], job: &CJob, told: &mut CStrike) -> CAnswer
     ensures { TellsStrike job.now font.now told.old told.new result }
