@@ -1,15 +1,14 @@
 -- The characters of a measured text are as many as its units.
-use Rattle.std.proofs.Common.{◌≡◌, ◌∙◌, ℕ, ◌+◌, ◌||◌, nat_lt, true, false, Bool, ℤ, List, length, map, Option, Some, None, Result, Ok, Err, ap, sym, if◌then◌else◌, refl}
+use Rattle.std.proofs.Common.{◌≡◌, ◌∙◌, ℕ, ◌+◌, ◌||◌, nat_lt, true, false, Bool, List, length, Option, Some, None, Result, Ok, Err, ap, sym, if◌then◌else◌, refl}
 use Rattle.std.specs.Str.{chars}
 use Rattle.std.proofs.lemmas.List.{length-map}
 use Rattle.tt_cmap.specs.Maps.{glyph_of_unit, units_by}
-use Rattle.tt_core.specs.Chains.{came-through, passed}
-use Rattle.tt_core.specs.declared.fault.JobFault.{JobFault}
+use Rattle.tt_core.specs.Chains.{came-through}
 use Rattle.tt_core.specs.declared.fault.JobFault.TheVariants as fault
 use Rattle.tt_core.specs.Limits.{height_limit, width_limit}
 use Rattle.tt_face.specs.Faces.{Face}
 use Rattle.tt_line.specs.Laws.{PlacesGlyphs, StepsLead}
-use Rattle.tt_line.specs.Layout.{Placement, text_glyphs}
+use Rattle.tt_line.specs.Layout.{Placement}
 use Rattle.tt_picture.specs.declared.ink_box.InkBox.{InkBox}
 use Rattle.tt_render_settings.specs.Products.{measure_by}
 use Rattle.tt_strike.specs.Grown.{grown, grown_line, grown_measured, grown_placement, not_large, with_sides, lacking}

@@ -1,5 +1,5 @@
 -- Each unit of a text has an offset: the pens and the characters of the text are as many as its offsets.
-use Rattle.std.proofs.Common.{◌≡◌, ◌∙◌, ℕ, ◌+◌, ◌-◌, ◌||◌, ◌==◌, nat_lt, not, true, false, Bool, ℤ, List, [], ◌∷◌, length, map, pos, Option, Some, None, Result, Ok, Err, ap, sym, if◌then◌else◌, refl, arith}
+use Rattle.std.proofs.Common.{◌≡◌, ◌∙◌, ℕ, ◌+◌, ◌-◌, ◌||◌, ◌==◌, not, true, false, Bool, ℤ, List, [], ◌∷◌, length, Some, None, Ok, Err, ap, sym, if◌then◌else◌, refl, arith}
 use Rattle.std.specs.Prelude.{suc, ◌&&◌}
 use Rattle.std.specs.Char.{len_utf8}
 use Rattle.std.specs.Str.{chars, is_utf8}
@@ -10,20 +10,18 @@ use Rattle.tt_cmap.specs.Maps.{CharacterMap, glyph_of_unit, has_pairs, map_by, s
 use Rattle.tt_cmap.specs.Lookup.{cmap_of}
 use Rattle.tt_cmap.specs.Units.{is_selector, unit_before, units}
 use Rattle.tt_cmap.specs.WideLookup.{wide_cmap_of}
-use Rattle.tt_core.specs.Chains.{came-through, passed-on}
+use Rattle.tt_core.specs.Chains.{came-through}
 use Rattle.tt_core.specs.declared.collection.Reading.{Reading}
 use Rattle.tt_core.specs.declared.collection.Reading.TheVariants as reading
-use Rattle.tt_core.specs.declared.fault.JobFault.{JobFault}
 use Rattle.tt_core.specs.Collections.{directory_by}
 use Rattle.tt_core.specs.Directory.{Directory, needed_table}
-use Rattle.tt_core.specs.Outcomes.{◌>>=◌}
 use Rattle.tt_face.specs.declared.rules.Opening.{Opening}
 use Rattle.tt_face.specs.Faces.{Face, cmap_tag}
 use Rattle.tt_face.specs.Files.{face_at, face_by, face_with}
 use Rattle.tt_face.specs.Rules.{ruled}
 use Rattle.tt_fit.specs.declared.programs.Fit.{Fit}
 use Rattle.tt_fit.specs.declared.programs.Fit.TheVariants as fit
-use Rattle.tt_line.specs.Layout.{Placement, text_glyphs}
+use Rattle.tt_line.specs.Layout.{text_glyphs}
 use Rattle.tt_line.specs.Steps.{linear_line, step_in_pixels, stepped}
 use Rattle.tt_line.proofs.Stepped.{length-stepped}
 use Rattle.tt_strike.specs.declared.layouts.Pen.{Pen}
@@ -37,7 +35,7 @@ use Rattle.tt_strike.specs.Work.{lays_after_glyphs}
 use Rattle.tt_picture.specs.Steps.{step_by}
 use Rattle.tt_c_calls.specs.declared.asked.CJob.{CJob}
 use Rattle.tt_c_calls.specs.Asked.{asked, fit_asked, job_opening, job_reading, reads_widely, text_asked}
-use Rattle.tt_c_calls.specs.Offsets.{begins_unit, offsets_asked, offsets_from, unit_offsets}
+use Rattle.tt_c_calls.specs.Offsets.{offsets_asked, offsets_from}
 use Rattle.tt_c_calls.specs.Fonts.{opened_wanted}
 use Rattle.tt_c_calls.specs.Refusals.{not_utf8, unknown_fit}
 use Rattle.tt_c_calls.proofs.AskedTables.{face_opened}

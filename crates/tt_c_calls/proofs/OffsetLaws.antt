@@ -1,8 +1,8 @@
 -- The offsets of a text's units rise, and cut the text into its units.
-use Rattle.std.proofs.Common.{◌≡◌, ◌∙◌, ℕ, ◌+◌, ◌-◌, ◌<◌, ◌≤◌, ◌++◌, true, false, not, Bool, List, [], ◌∷◌, length, drop, map, encode_utf8, encode_utf8_all, slice_range, ◌⊎◌, inl, inr, ap, ap₂, sym, append_assoc, if◌then◌else◌, refl, arith}
+use Rattle.std.proofs.Common.{◌≡◌, ◌∙◌, ℕ, ◌+◌, ◌-◌, ◌≤◌, ◌++◌, true, false, not, Bool, List, [], ◌∷◌, length, drop, map, encode_utf8, encode_utf8_all, slice_range, ◌⊎◌, inl, inr, ap, ap₂, append_assoc, if◌then◌else◌, refl, arith}
 use Rattle.std.specs.Prelude.{◌&&◌}
 use Rattle.std.specs.Char.{len_utf8}
-use Rattle.std.specs.Str.{IsUtf8, chars}
+use Rattle.std.specs.Str.{chars}
 use Rattle.std.proofs.Math.Utf8.{scalar, scalars}
 use Rattle.std.proofs.lemmas.List.{append-nil, drop_at, length-append, take_at}
 use Rattle.std.proofs.lemmas.Str.{chars-encodes, encodes-append, len_utf8_bounds, length-encode}

@@ -1,5 +1,5 @@
 -- The offsets of a text's units, character by character.
-use Rattle.std.proofs.Common.{◌≡◌, ◌∙◌, ℕ, ◌+◌, ◌++◌, true, false, Bool, List, [], ◌∷◌, length, encode_utf8, IsUtf8, ap, append_assoc, refl, arith}
+use Rattle.std.proofs.Common.{◌≡◌, ◌∙◌, ℕ, ◌+◌, ◌++◌, true, false, Bool, List, [], ◌∷◌, length, encode_utf8, IsUtf8, ap, append_assoc, arith}
 use Rattle.std.specs.Char.{len_utf8}
 use Rattle.std.specs.Str.{chars}
 use Rattle.std.proofs.lemmas.List.{append-nil, length-append, nil_from_length}

@@ -9,7 +9,6 @@ use Rattle.tt_core.specs.declared.fault.JobFault.{JobFault}
 use Rattle.tt_core.specs.Directory.{Directory, needed_table}
 use Rattle.tt_core.specs.Faults.{Fault}
 use Rattle.tt_core.specs.Limits.{font_limit}
-use Rattle.tt_core.specs.Outcomes.{◌>>=◌}
 use Rattle.tt_face.specs.declared.rules.Opening.{Opening}
 use Rattle.tt_face.specs.Faces.{Face, cmap_tag}
 use Rattle.tt_face.specs.Files.{face_at, face_by, face_with}
@@ -18,14 +17,14 @@ use Rattle.tt_fit.specs.declared.programs.Fit.{Fit}
 use Rattle.tt_line.specs.declared.measured.LineSize.{LineSize}
 use Rattle.tt_line.specs.Sizes.{line_size}
 use Rattle.tt_metrics.specs.Metrics.{glyphs_of, metrics_of, units_per_em_of}
-use Rattle.tt_strike.specs.Refusals.{Refused, as_font, job, large}
+use Rattle.tt_strike.specs.Refusals.{as_font, job, large}
 use Rattle.tt_c_calls.specs.declared.asked.CJob.{CJob}
 use Rattle.tt_c_calls.specs.declared.fault.CallFault.{CallFault}
 use Rattle.tt_c_calls.specs.declared.strikes.CUnderline.{CUnderline}
 use Rattle.tt_c_calls.specs.Asked.{job_opening, job_reading}
 use Rattle.tt_c_calls.specs.Fonts.{opened_wanted}
 use Rattle.tt_c_calls.specs.Lines.{lines_wanted}
-use Rattle.tt_c_calls.specs.Refusals.{Refusal, as_call, call_refusal, refused}
+use Rattle.tt_c_calls.specs.Refusals.{as_call, call_refusal, refused}
 use Rattle.tt_c_calls.specs.Strikes.{strike_told, strike_wanted, underline_by, underline_in}
 use Rattle.tt_c_calls.proofs.Answered.{first_stops}
 use Rattle.tt_c_calls.proofs.AskedTables.{face_opened}

@@ -1,7 +1,7 @@
 -- No part of the standard: where the units of a text begin, in bytes (profile). A unit is a character that is no
 -- variation selector; what follows up to the next such character is part of it, or passed over. Where selectors are
 -- characters like others, each character is a unit. Unicode, "UTF-8", has the bytes of a character.
-use Rattle.std.specs.Prelude.{◌≡◌, refl, ℕ, ◌+◌, ◌<◌, ◌≤◌, Bool, true, false, not, ◌&&◌, if◌then◌else◌, List, [], ◌∷◌, ◌++◌, drop, length, map, slice_range, ⊤}
+use Rattle.std.specs.Prelude.{◌≡◌, refl, ℕ, ◌+◌, ◌<◌, ◌≤◌, Bool, true, false, not, ◌&&◌, if◌then◌else◌, List, [], ◌∷◌, drop, length, map, slice_range, ⊤}
 use Rattle.std.specs.Char.{len_utf8}
 use Rattle.std.specs.Str.{IsUtf8, chars}
 use Rattle.tt_cmap.specs.declared.units.TextUnit.{TextUnit}

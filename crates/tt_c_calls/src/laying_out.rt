@@ -1,6 +1,6 @@
 //! A text laid out without its ink.
 
-ghost use Rattle.std.specs.Prelude.{◌≡◌, ◌≢◌, length, map, zip, IfErr, IfOk};
+ghost use Rattle.std.specs.Prelude.{◌≡◌, ◌≢◌, length, map, IfErr, IfOk};
 ghost use Rattle.tt_core.specs.Outcomes.{GivesUnless, IfTold};
 ghost use Rattle.tt_c_calls.specs.Asked.{IsAskedDefect};
 ghost use Rattle.tt_c_calls.specs.declared.fault.CallFault.TheVariants as call;

@@ -1,6 +1,6 @@
 //! A text measured.
 
-ghost use Rattle.std.specs.Prelude.{◌≡◌, ◌≢◌, length, zip, IfOk};
+ghost use Rattle.std.specs.Prelude.{◌≡◌, ◌≢◌, length, IfOk};
 ghost use Rattle.tt_core.specs.Outcomes.{GivesUnless};
 ghost use Rattle.tt_strike.specs.Defects.{TellsDefects};
 ghost use Rattle.tt_strike.specs.Measures.{measure_view};

@@ -1,4 +1,4 @@
-use Rattle.std.proofs.Common.{◌≡◌, ◌∙◌, ap, length, sym}
+use Rattle.std.proofs.Common.{◌∙◌, ap, length, sym}
 use Rattle.std.proofs.lemmas.Result.{err_from_is_err_and}
 use Rattle.tt_strike.specs.Job.{job_view}
 use Rattle.tt_strike.specs.Layouts.{pens_outcome}

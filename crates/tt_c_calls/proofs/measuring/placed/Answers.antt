@@ -1,4 +1,4 @@
-use Rattle.std.proofs.Common.{◌≡◌, ◌∙◌, ap, length, sym}
+use Rattle.std.proofs.Common.{◌∙◌, ap, length, sym}
 use Rattle.std.proofs.lemmas.Result.{err_from_is_err_and}
 use Rattle.tt_strike.specs.Measures.{measure_view}
 use Rattle.tt_c_calls.proofs.CharactersCounted.{measured_is_text, wanted_counted}

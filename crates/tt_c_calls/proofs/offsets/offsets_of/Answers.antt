@@ -1,6 +1,4 @@
-use Rattle.std.proofs.Common.{◌≡◌, ◌∙◌, ◌+◌, arith, sym, ap}
-use Rattle.std.specs.Char.{len_utf8}
-use Rattle.std.specs.Str.Iter.{chars_rest}
+use Rattle.std.proofs.Common.{◌∙◌, ◌+◌, arith, sym}
 use Rattle.std.proofs.lemmas.Str.{IsUtf8-past_char}
 use Rattle.tt_c_calls.proofs.OffsetSteps.{bytes_on, none_left, one_begun, one_more_passed}
 use Rattle.tt_c_calls.proofs.offsets.offsets_of.Goals.{then-begins_unit+in_ok-push, else-begins_unit}
