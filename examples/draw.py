@@ -8,7 +8,7 @@ import sys
 
 class Job(ctypes.Structure):
     _fields_ = [
-        (name, ctypes.c_uint32) for name in ("size", "margin", "fit", "grow", "face", "kern", "rounded")
+        (name, ctypes.c_uint32) for name in ("size", "margin", "fit", "grow", "face", "kern", "rounded", "blank")
     ]
 
 

@@ -40,13 +40,13 @@ def made_library():
         ran = subprocess.run(["bash", dist() / "install", "--library", room], stdout=subprocess.PIPE)
         if ran.returncode:
             raise SystemExit("tt_render: the C library was not made; a line above says why")
-        return pathlib.Path(room, "lib/libtt_render.so.1").read_bytes()
+        return pathlib.Path(room, "lib/libtt_render.so.2").read_bytes()
 
 
 def build_wheel(wheel_directory, config_settings=None, metadata_directory=None):
     """Writes the wheel, and returns its name."""
     files = {f"tt_render/{it.name}": it.read_bytes() for it in sorted((HERE / "tt_render").glob("*.py*"))}
-    files["tt_render/libtt_render.so.1"] = made_library()
+    files["tt_render/libtt_render.so.2"] = made_library()
     files[f"{NAME}.dist-info/METADATA"] = METADATA.encode()
     files[f"{NAME}.dist-info/WHEEL"] = f"Wheel-Version: 1.0\nRoot-Is-Purelib: false\nTag: {TAG}\n".encode()
     record = ""

@@ -115,6 +115,56 @@ static void write_box(uint64_t has_ink, struct tt_box box) {
   }
 }
 
+/* Expects that this piece of the text has these units alone, none or one. */
+static void expect_piece(struct question q, size_t from, size_t end, const struct tt_pen *pen) {
+  q.text = held(q.text.at + from, end - from);
+  struct outcome map = tried(&maps_face, &q);
+  const struct tt_glyph *glyph = (const struct tt_glyph *)map.room.at;
+  expect(map.answer.status == TT_DONE && map.answer.count == (pen ? 1 : 0), "a piece of bytes %zu to %zu has %" PRIu64 " units",
+         from, end, map.answer.count);
+  expect(!pen || map.answer.count != 1 ||
+             (glyph->code_point == pen->code_point && glyph->selector == pen->selector && glyph->glyph == pen->glyph),
+         "bytes %zu to %zu have another unit than the text there", from, end);
+  forget(map);
+  give_up(q.text);
+}
+
+/* The offsets rise, and cut the text into its units. */
+static void compare_offsets(const struct question *q, const struct outcome *places) {
+  struct outcome it = tried(&pens, q);
+  const struct tt_pen *all = (const struct tt_pen *)it.room.at;
+  const struct tt_character *characters = (const struct tt_character *)places->room.at;
+  size_t count = it.answer.count;
+  if (expect(it.answer.status == TT_DONE && count == places->answer.count, "tt_pens: status %u, %zu pens",
+             it.answer.status, count)) {
+    expect_piece(*q, 0, count ? all[0].offset : q->text.size, NULL);
+    for (size_t i = 0; i < count; i++) {
+      size_t from = all[i].offset, end = i + 1 < count ? all[i + 1].offset : q->text.size;
+      expect(characters[i].offset == from, "tt_characters and tt_pens have two offsets of character %zu", i);
+      if (expect(from < end && end <= q->text.size, "an offset %zu before %zu", from, end)) {
+        expect_piece(*q, from, end, all + i);
+      }
+    }
+  }
+  forget(it);
+}
+
+/* A strike tells the rows of each of its lines. */
+static void compare_strike(const struct question *q) {
+  struct outcome it = tried(&strikes, q), layout = tried(&layouts, q);
+  if (layout.answer.status == TT_DONE) {
+    struct tt_strike told = *(struct tt_strike *)it.told.at;
+    struct tt_layout line = *(struct tt_layout *)layout.told.at;
+    expect(it.answer.status == TT_DONE && told.rise == line.rise && told.depth == line.depth && told.gap == line.gap &&
+               told.step == line.step,
+           "tt_strike: status %u, and other rows than tt_layout", it.answer.status);
+    expect(told.underline.exists ? told.underline.thickness > 0 : told.underline.top == 0 && !told.underline.thickness,
+           "tt_strike: an underline of %" PRIu64 " rows", told.underline.thickness);
+  }
+  forget(it);
+  forget(layout);
+}
+
 static void write_characters(const struct question *q) {
   struct outcome it = tried(&characters, q), map = tried(&maps_face, q);
   size_t count = it.room.size / sizeof(struct tt_character);
@@ -128,6 +178,7 @@ static void write_characters(const struct question *q) {
     printf("U+%04X %u %" PRId64 " %u ", glyph->code_point, one->glyph, one->pen, one->advance);
     write_box(one->has_ink, one->ink);
   }
+  compare_offsets(q, &it);
   forget(it);
   forget(map);
 }
@@ -148,6 +199,7 @@ static void write_measure(const struct question *q) {
     printf("picture %u %u baseline %" PRId64 " ink ", told.width, told.height, told.baseline);
     write_box(told.has_ink, told.ink);
     write_characters(q);
+    compare_strike(q);
   }
   forget(it);
   forget(open);

@@ -65,6 +65,11 @@ static uint32_t ask_band(const struct question *q, struct room room, void *told,
   return tt_draw_band(FONT, TEXT, JOB, q->first, q->count, room.at, room.size, told, answer);
 }
 
+static uint32_t ask_strike(const struct question *q, struct room room, void *told, struct tt_answer *answer) {
+  (void)room;
+  return tt_strike(FONT, JOB, told, answer);
+}
+
 static uint32_t ask_layout(const struct question *q, struct room room, void *told, struct tt_answer *answer) {
   (void)room;
   return tt_layout(FONT, TEXT, JOB, told, answer);
@@ -96,13 +101,14 @@ const struct call draws = {"tt_draw", ask_draw, 1, sizeof(struct tt_picture), tr
 const struct call draws_band = {"tt_draw_band", ask_band, 1, sizeof(struct tt_picture), true, true, 4};
 const struct call measures = {"tt_measure", ask_measure, 0, sizeof(struct tt_measure), true, true, 5};
 const struct call characters = {"tt_characters", ask_characters, sizeof(struct tt_character), 0, true, true, 5};
+const struct call strikes = {"tt_strike", ask_strike, 0, sizeof(struct tt_strike), false, true, 0};
 const struct call layouts = {"tt_layout", ask_layout, 0, sizeof(struct tt_layout), true, true, 0};
 const struct call pens = {"tt_pens", ask_pens, sizeof(struct tt_pen), 0, true, true, 2};
 const struct call glyphs = {"tt_glyphs", ask_glyphs, 1, LIST * sizeof(struct tt_bitmap), false, true, 4};
 const struct call messages = {"tt_message", ask_message, 1, 0, false, false, 1};
 
-const struct call *const every_call[] = {&opens,      &maps,    &draws, &draws_band, &measures,
-                                         &characters, &layouts, &pens,  &glyphs,     &messages, NULL};
+const struct call *const every_call[] = {&opens,   &maps,    &draws, &draws_band, &measures, &characters,
+                                         &strikes, &layouts, &pens,  &glyphs,     &messages, NULL};
 
 bool are_alike(const struct tt_answer *one, const struct tt_answer *other) {
   return memcmp(one, other, sizeof *one) == 0;

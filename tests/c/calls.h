@@ -26,8 +26,8 @@ struct call {
   long blocks;            /* it asks for so many blocks at the least; 0: it takes no memory, or only with TT_BEST */
 };
 
-extern const struct call opens, opens_face, maps, maps_face, measures, characters, layouts, pens, glyphs, draws,
-    draws_band, messages;
+extern const struct call opens, opens_face, maps, maps_face, measures, characters, strikes, layouts, pens, glyphs,
+    draws, draws_band, messages;
 
 /* Each of these, and then NULL; tt_draw_lines is in lines.h. */
 extern const struct call *const every_call[];

@@ -130,6 +130,9 @@ static void try_nothing(struct room text) {
   expect(tt_draw_lines(font.at, font.size, NULL, 0, NULL, 0, &wide, 0, NULL, 0, NULL, 0, &answer) == TT_DONE &&
              answer.bytes == 0 && answer.count == 0,
          "tt_draw_lines: status %u", answer.status);
+  struct tt_strike strike;
+  expect(tt_strike(NULL, 0, &wide, &strike, &answer) == TT_FONT && answer.number == 2, "tt_strike, of a font: status %u",
+         answer.status);
   expect(tt_message(&answer, NULL, 0, &answer) == TT_ROOM, "tt_message: status %u", answer.status);
   verdict("NULL where there are 0 bytes");
   give_up(none);
@@ -178,6 +181,37 @@ static void try_lists(void) {
   expect(tt_version() == TT_RENDER_VERSION, "tt_version: %" PRIu32, tt_version());
   verdict("the version");
   give_up(none);
+}
+
+/* The offsets of the characters of a text. */
+static void try_offsets(const char *name, const char *bytes, uint32_t face, const uint64_t *wanted, size_t count) {
+  struct room text = text_of(bytes);
+  struct tt_job job = {.size = 16, .margin = 1, .fit = TT_NONE, .face = face};
+  struct tt_pen told[16];
+  struct tt_character places[16];
+  struct tt_answer answer;
+  expect(tt_pens(font.at, font.size, text.at, text.size, &job, told, 16, &answer) == TT_DONE && answer.count == count,
+         "tt_pens: status %u, %" PRIu64 " pens", answer.status, answer.count);
+  for (size_t i = 0; i < count && i < answer.count; i++) {
+    expect(told[i].offset == wanted[i], "tt_pens: character %zu at byte %" PRIu64, i, told[i].offset);
+  }
+  expect(tt_characters(font.at, font.size, text.at, text.size, &job, places, 16, &answer) == TT_DONE &&
+             answer.count == count,
+         "tt_characters: status %u, %" PRIu64 " characters", answer.status, answer.count);
+  for (size_t i = 0; i < count && i < answer.count; i++) {
+    expect(places[i].offset == wanted[i], "tt_characters: character %zu at byte %" PRIu64, i, places[i].offset);
+  }
+  give_up(text);
+  verdict("%s", name);
+}
+
+static void try_all_offsets(void) {
+  const char *selected = "\xef\xb8\x8f" "A" "\xef\xb8\x8f\xef\xb8\x8f\xf3\xa0\x84\x80" "B";
+  try_offsets("offsets of characters of one to four bytes", "A\xc3\xa9\xe2\x82\xac\xf0\x9d\x84\x9e" "B", 0,
+              (const uint64_t[]){0, 1, 3, 6, 10}, 5);
+  try_offsets("offsets beside selectors, read widely", selected, 1, (const uint64_t[]){3, 14}, 2);
+  try_offsets("offsets of selectors, read strictly", selected, 0, (const uint64_t[]){0, 3, 4, 7, 10, 14}, 6);
+  try_offsets("no offset of selectors alone", "\xef\xb8\x8f\xef\xb8\x8f", 1, NULL, 0);
 }
 
 /* A font that is no collection has face 0 alone, which the number 1 means. */
@@ -246,6 +280,12 @@ static void try_all_ends(void) {
   try_ends("a line that ends in a character", text, (const uint64_t[]){2, 3, 5}, 3, usual, TT_NOT_UTF8, 0, 1);
   try_ends("a line without a character", text, (const uint64_t[]){1, 1, 2}, 3, usual, TT_JOB, 62, 1);
   try_ends("a line without a character in a margin", text, (const uint64_t[]){0, 1, 1}, 3, wide, TT_DONE, 0, 3);
+  struct tt_job blank = {.size = 16, .margin = 0, .fit = TT_FULL, .grow = 0, .blank = 1};
+  try_ends("blank lines", text, (const uint64_t[]){0, 1, 1, 1, 2, 2}, 6, blank, TT_DONE, 0, 6);
+  try_ends("blank lines before a line that ends in a character", text, (const uint64_t[]){1, 1, 2, 3}, 4, blank,
+           TT_NOT_UTF8, 0, 3);
+  blank.margin = 1;
+  try_ends("a blank line in a margin", text, (const uint64_t[]){0, 1, 1}, 3, blank, TT_DONE, 0, 3);
   try_ends("no line", text, NULL, 0, usual, TT_DONE, 0, 0);
   struct tt_job large = {.size = 301, .margin = 0, .fit = TT_FULL, .grow = 0};
   try_ends("no line, and a size of 301", text, NULL, 0, large, TT_JOB, 60, 0);
@@ -286,6 +326,7 @@ int main(int count, char **words) {
   try_nothing(text);
   try_faces(text);
   try_lists();
+  try_all_offsets();
   try_all_ends();
   try_sizes(text);
   give_up(text);

@@ -10,7 +10,7 @@ ENDINGS = (".md", ".rt", ".antt", ".py", ".txt", ".c", ".h", ".sh", ".awk", ".pn
 # Folders that have files inside of a crate or of tests/.
 INNER = ("src", "specs", "proofs", "must-fail", "pictures", "rows", "machine", "hinted", "dropouts", "c")
 # Files of the toolchain and of a reader's own, which the repository does not have.
-OTHERS = ("START-HERE.md", "./libtt_render.so", "libtt_render.so.1")
+OTHERS = ("START-HERE.md", "./libtt_render.so", "libtt_render.so.1", "libtt_render.so.2")
 # Folders that a build or a test makes, here or in a crate.
 MADE = re.compile(r"(^|/)out(/|$)")
 

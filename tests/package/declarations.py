@@ -14,7 +14,7 @@ RUST = re.sub(r"///.*", "", (ROOT / "bindings/rust/src/c.rs").read_text(encoding
 
 # The types of C by those of Python and of Rust, and the structs of Rust whose names are others.
 OF_PYTHON = {"u32": "uint32_t", "i32": "int32_t", "u64": "uint64_t", "i64": "int64_t",
-             "c_char * 4": "uint8_t[4]", "tt_box": "tt_box", "tt_picture": "tt_picture"}
+             "c_char * 4": "uint8_t[4]", "tt_box": "tt_box", "tt_picture": "tt_picture", "tt_underline": "tt_underline"}
 OF_RUST = {"u8": "uint8_t", "u32": "uint32_t", "i32": "int32_t", "u64": "uint64_t", "i64": "int64_t",
            "usize": "size_t", "c_int": "int", "[u8; 4]": "uint8_t[4]"}
 NAMES = {"Figures": "tt_font", "Shape": "tt_picture", "PixelBox": "tt_box"}
@@ -80,13 +80,13 @@ def differences(binding, wanted, got):
 VERSIONS = {"bindings/python/pyproject.toml": r'^version = "(.*)"', "Cargo.toml": r'^version = "(.*)"',
             "Cargo.lock": r'^name = "tt_render"\nversion = "(.*)"', "tt_render.1": r'"tt_render (.*?)"',
             "crates/tt_program_commands/src/lib.rt": r'\.version\("(.*)"\)', "SECURITY.md": r"^Version (\S+) ",
-            "CHANGELOG.md": r"^## (\d.*) - \d{4}-\d\d-\d\d$", "debian/changelog": r"^tt-render \((.*)\)"}
+            "CHANGELOG.md": r"^## (\d\S*) - ", "debian/changelog": r"^tt-render \((.*)\)"}
 SHORT = {"docs/C_LIBRARY.md": r"find_package\(tt_render (\S+)"}
 NUMBERS = {"include/tt_render.h": r"#define TT_RENDER_VERSION (\d+)",
            "crates/tt_c/src/lib.rt": r"fn tt_version\(\) -> u32\s+ensures \{ result ≡ (\d+)"}
 # Where the name of the shared library stands.
 SONAMES = ("dist/install", "include/tt_render.h", "docs/C_LIBRARY.md", "bindings/python/backend.py",
-           "bindings/python/tt_render/_library.py", "debian/libtt-render1.symbols", "tests/package/run")
+           "bindings/python/tt_render/_library.py", "debian/libtt-render2.symbols", "tests/package/run")
 
 
 def read(path):

@@ -92,7 +92,7 @@ class Calls(unittest.TestCase):
                     pens = self.font.pens("AVA To", 24, **options)
                     self.assertEqual(pens[-1].pen + pens[-1].advance + 1, got.width)
                     places = self.font.characters("AVA To", 24, grow=False, **options)
-                    self.assertEqual([it[1:3] for it in places], [it[3:] for it in pens])
+                    self.assertEqual([it[1:3] for it in places], [it[3:5] for it in pens])
         plain, kerned = self.font.label("AVA To", 24), self.font.label("AVA To", 24, kern=True)
         self.assertLess(kerned.width, plain.width)
         self.assertLessEqual(self.font.label("AVA To", 24, rounded=True).height, plain.height)
@@ -112,6 +112,11 @@ class Calls(unittest.TestCase):
         error = self.refused(next, got)
         self.assertEqual((error.line, error.number), (2, 62))
 
+    def test_blank_line(self):
+        got = list(self.font.labels(["A", "", "", "B"], 16, blank=True))
+        self.assertEqual([got[0], got[3]], [self.font.label("A", 16), self.font.label("B", 16)])
+        self.assertEqual(got[1:3], 2 * [tt_render.Picture(0, 0, 0, 0, b"")])
+
     def test_measure(self):
         got, picture = self.font.measure("jolly", 24), self.font.label("jolly", 24)
         self.assertEqual(got[:4], picture[:4])
@@ -124,6 +129,35 @@ class Calls(unittest.TestCase):
         pens = [sum(it.advance for it in got[:at]) for at in range(5)]
         self.assertEqual([it.pen for it in got] + [width], pens)
         self.assertIsNone(got[2].ink)
+
+    def test_offsets(self):
+        for text, wanted in (("Aé€\U0001d11eB", [0, 1, 3, 6, 10]), ("\ufe0fA\ufe0f\ufe0f\U000e0100B", [3, 14]), ("", [])):
+            pens, places = self.font.pens(text, 16, margin=1), self.font.characters(text, 16, margin=1)
+            self.assertEqual([it.offset for it in pens], wanted)
+            self.assertEqual([it.offset for it in places], wanted)
+        strict = tt_render.Font.open(FONT, None)
+        pens = strict.pens("\ufe0fA\ufe0f", 16, fit=tt_render.Fit.NONE)
+        self.assertEqual([it.offset for it in pens], [0, 3, 4])
+
+    def test_advances(self):
+        # The advances of FreeType 2, whose interpreter of version 35 runs the font's programs.
+        for size, wanted in ((9, [448, 192, 192, 192]), (16, [768, 192, 192, 320]), (24, [1152, 448, 448, 512])):
+            got = self.font.glyphs([it.glyph for it in self.font.map("Hij,")], size)
+            self.assertEqual([it.advance_64ths for it in got], wanted)
+            self.assertEqual([it.advance for it in got], [(it + 32) // 64 for it in wanted])
+        # 1,540 of 2,048 units at 16, and no program.
+        got = self.font.glyphs([self.font.map("H")[0].glyph], 16, fit=tt_render.Fit.NONE)
+        self.assertEqual((got[0].advance_64ths, got[0].advance), (770, 12))
+
+    def test_strike(self):
+        for size in (9, 24, 300):
+            for rounded in (False, True):
+                got, line = self.font.strike(size, rounded=rounded), self.font.layout("A", size, rounded=rounded)
+                self.assertEqual(got[:4], line[3:7])
+        # The table post has -40 and 90, of 2,048 units in an em.
+        self.assertEqual(self.font.strike(24).underline, tt_render.Underline(0, 1))
+        self.assertEqual(self.font.strike(300).underline, tt_render.Underline(-6, 13))
+        self.assertEqual(self.refused(self.font.strike, 301).number, 60)
 
     def test_map(self):
         said = printed("map", FONT, "Aé\U0010ffff").decode().split("\n")[:-1]

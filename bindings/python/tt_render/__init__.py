@@ -47,18 +47,28 @@ class Picture(NamedTuple):
 # The size of a text's picture, and the box of all ink.
 Measure = NamedTuple("Measure", [("width", int), ("height", int), ("baseline", int), ("unfitted", int),
                                  ("ink", Optional[Box])])
-# A character in its picture's columns and rows. The glyph is 0 where the font has none.
-Character = NamedTuple("Character", [("glyph", int), ("advance", int), ("pen", int), ("ink", Optional[Box])])
+# A character in its picture's columns and rows. The glyph is 0 where the font has none. The offset is where the
+# character begins in the text as UTF-8, in bytes.
+Character = NamedTuple("Character", [("glyph", int), ("advance", int), ("pen", int), ("ink", Optional[Box]),
+                                     ("offset", int)])
 # A character in the font; the advance in font units, the variation selector or 0.
 Glyph = NamedTuple("Glyph", [("code_point", int), ("glyph", int), ("advance", int), ("selector", int)])
 # The picture of a text that does not grow, without its ink, and the rows to a next line.
 Layout = NamedTuple("Layout", [(it, int) for it, _ in c.tt_layout._fields_])
-# The pen of a character, as a column of the picture.
+# The pen of a character, as a column of the picture, and the offset as a Character has it.
 Pen = NamedTuple("Pen", [(it, int) for it, _ in c.tt_pen._fields_])
+# The underline of a font at a size: rows from the base line up to its upper edge, and its rows.
+Underline = NamedTuple("Underline", [("top", int), ("thickness", int)])
+# A font at a size: the rows of its lines, and its underline where the font tells one.
+Strike = NamedTuple("Strike", [("rise", int), ("depth", int), ("gap", int), ("step", int),
+                               ("underline", Optional[Underline])])
 
 
 class Bitmap(NamedTuple):
-    """The ink of a glyph, from its pen and the base line. With status 0 a number says why the glyph is unfitted."""
+    """The ink of a glyph, from its pen and the base line. With status 0 a number says why the glyph is unfitted.
+
+    `advance_64ths` is the advance as the font's programs leave it, in 64ths of a pixel.
+    """
 
     glyph: int
     status: int
@@ -70,6 +80,7 @@ class Bitmap(NamedTuple):
     top: int
     width: int
     height: int
+    advance_64ths: int
     rows: bytes
 
 
@@ -97,9 +108,9 @@ class Font:
         return cls(pathlib.Path(path).read_bytes(), face)
 
     def _job(self, size: int, margin: int, fit: int, grow: bool = False, kern: bool = False,
-             rounded: bool = False) -> Any:
+             rounded: bool = False, blank: bool = False) -> Any:
         numbers = map(c.number, (size, margin, fit))
-        return c.tt_job(*numbers, bool(grow), self._face, bool(kern), bool(rounded))
+        return c.tt_job(*numbers, bool(grow), self._face, bool(kern), bool(rounded), bool(blank))
 
     def label(self, text: str, size: int, *, margin: int = 0, fit: int = Fit.BEST, grow: bool = True,
               kern: bool = False, rounded: bool = False) -> Picture:
@@ -109,13 +120,13 @@ class Font:
         return c.tuple_of(Picture, told, rows=rows[: answer.bytes])
 
     def labels(self, texts: Iterable[str], size: int, *, margin: int = 0, fit: int = Fit.BEST, grow: bool = True,
-               kern: bool = False, rounded: bool = False, keep: int = 1 << 20) -> Iterator[Picture]:
+               kern: bool = False, rounded: bool = False, blank: bool = False, keep: int = 1 << 20) -> Iterator[Picture]:
         """Draws lines, for each what `label` draws, but with the font's programs run once for many of them.
 
         At most `keep` bytes of glyphs are cached between lines, which then are up to twenty times as fast. A line that
-        is refused ends the drawing.
+        is refused ends the drawing. With `blank` an empty text is a picture without a pixel.
         """
-        job, room, done = self._job(size, margin, fit, grow, kern, rounded), 1 << 20, 0
+        job, room, done = self._job(size, margin, fit, grow, kern, rounded, blank), 1 << 20, 0
         rest = [c.utf8_of(it) for it in texts][::-1]
         while rest:
             some = rest[: -4097 : -1]
@@ -150,6 +161,13 @@ class Font:
         """Returns the glyph and the advance of each character of a text."""
         utf8 = c.utf8_of(text)
         return c.listed(Glyph, c.tt_glyph, len(utf8), "tt_map_face", self._data, self._face, utf8)
+
+    def strike(self, size: int, *, fit: int = Fit.BEST, rounded: bool = False) -> Strike:
+        """Tells the rows of the font's lines at a size, and its underline."""
+        told, job = c.tt_strike(), self._job(size, 0, fit, rounded=rounded)
+        c.ask("tt_strike", self._data, job, told)
+        line = told.underline
+        return c.tuple_of(Strike, told, underline=c.tuple_of(Underline, line) if line.exists else None)
 
     def layout(self, text: str, size: int, *, margin: int = 0, fit: int = Fit.BEST, kern: bool = False,
                rounded: bool = False) -> Layout:

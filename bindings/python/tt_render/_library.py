@@ -8,7 +8,7 @@ from ctypes import c_int32 as i32, c_int64 as i64, c_uint32 as u32, c_uint64 as 
 from typing import Any, Container, NamedTuple, Optional
 
 # A package of a distribution has the library apart: then the system finds it.
-_BESIDE = pathlib.Path(__file__).with_name("libtt_render.so.1")
+_BESIDE = pathlib.Path(__file__).with_name("libtt_render.so.2")
 _LIBRARY = ctypes.CDLL(str(_BESIDE) if _BESIDE.exists() else _BESIDE.name)
 DONE, ROOM, _MESSAGE_BYTES = 0, 7, 90
 # A box of pixels; all four sides are included.
@@ -22,18 +22,20 @@ def _struct(name: str, **fields: Any) -> Any:
 # The structs of tt_render.h, in its order.
 tt_answer = _struct("tt_answer", status=u32, number=u32, table=c_char * 4, offset=u32, bytes=u64, count=u64)
 tt_font = _struct("tt_font", units_per_em=u32, ascent=i32, descent=i32, glyphs=u32, line_gap=i32)
-tt_job = _struct("tt_job", size=u32, margin=u32, fit=u32, grow=u32, face=u32, kern=u32, rounded=u32)
+tt_job = _struct("tt_job", size=u32, margin=u32, fit=u32, grow=u32, face=u32, kern=u32, rounded=u32, blank=u32)
 tt_picture = _struct("tt_picture", width=u32, height=u32, row_bytes=u64, baseline=i64, unfitted=u64)
 tt_box = _struct("tt_box", left=i64, top=i64, right=i64, bottom=i64)
 tt_measure = _struct("tt_measure", width=u32, height=u32, baseline=i64, unfitted=u64, has_ink=u64, ink=tt_box)
-tt_character = _struct("tt_character", glyph=u32, advance=u32, pen=i64, has_ink=u64, ink=tt_box)
+tt_character = _struct("tt_character", glyph=u32, advance=u32, pen=i64, has_ink=u64, ink=tt_box, offset=u64)
 tt_glyph = _struct("tt_glyph", code_point=u32, glyph=u32, advance=u32, selector=u32)
 tt_line = _struct("tt_line", picture=tt_picture, at=u64)
 tt_bitmap = _struct("tt_bitmap", glyph=u32, status=u32, number=u32, table=c_char * 4, offset=u32, advance=u32, left=i32,
-                  top=i32, width=u32, height=u32, at=u64)
+                  top=i32, width=u32, height=u32, advance_64ths=i64, at=u64)
 tt_layout = _struct("tt_layout", width=u32, height=u32, baseline=i64, rise=i64, depth=i64, gap=u64, step=u64,
                   characters=u64)
-tt_pen = _struct("tt_pen", code_point=u32, selector=u32, glyph=u32, advance=u32, pen=i64)
+tt_pen = _struct("tt_pen", code_point=u32, selector=u32, glyph=u32, advance=u32, pen=i64, offset=u64)
+tt_underline = _struct("tt_underline", exists=u64, top=i64, thickness=u64)
+tt_strike = _struct("tt_strike", rise=i64, depth=i64, gap=u64, step=u64, underline=tt_underline)
 
 
 def supported() -> bool:

@@ -38,6 +38,7 @@ pub struct Job {
     pub face: u32,
     pub kern: u32,
     pub rounded: u32,
+    pub blank: u32,
 }
 
 /// A picture without its pixels.
@@ -90,6 +91,7 @@ pub struct Character {
     pub pen: i64,
     pub has_ink: u64,
     pub ink: PixelBox,
+    pub offset: u64,
 }
 
 /// A character of a text in the font.
@@ -139,6 +141,8 @@ pub struct Bitmap {
     pub width: u32,
     /// Rows of ink.
     pub height: u32,
+    /// The advance as the font's programs leave it, in 64ths of a pixel.
+    pub advance_64ths: i64,
     /// Where its rows begin among all rows.
     pub at: u64,
 }
@@ -181,6 +185,26 @@ pub struct Pen {
     pub advance: u32,
     /// The column of the picture.
     pub pen: i64,
+    /// Where the character begins, in bytes from the start of the text.
+    pub offset: u64,
+}
+
+#[repr(C)]
+#[derive(Clone, Copy, Default)]
+pub struct Underline {
+    pub exists: u64,
+    pub top: i64,
+    pub thickness: u64,
+}
+
+#[repr(C)]
+#[derive(Clone, Copy, Default)]
+pub struct Strike {
+    pub rise: i64,
+    pub depth: i64,
+    pub gap: u64,
+    pub step: u64,
+    pub underline: Underline,
 }
 
 extern "C" {
@@ -220,6 +244,13 @@ extern "C" {
         job: *const Job,
         characters: *mut Character,
         room: usize,
+        answer: *mut Answer,
+    ) -> u32;
+    pub fn tt_strike(
+        font: *const u8,
+        font_bytes: usize,
+        job: *const Job,
+        told: *mut Strike,
         answer: *mut Answer,
     ) -> u32;
     pub fn tt_layout(

@@ -1,7 +1,7 @@
 //! The calls of the library, as functions over slices.
 use crate::c::{self, Answer, Bitmap, Figures, Glyph, Layout, Line, Pen, Shape};
 use crate::error::{done, Error, ROOM};
-use crate::picture::{Bitmaps, Character, Job, Measure, Picture};
+use crate::picture::{Bitmaps, Character, Job, Measure, Picture, Strike};
 
 /// The room of a first call that draws a text.
 const FIRST_ROOM: usize = 1 << 16;
@@ -228,6 +228,22 @@ impl<'a> Font<'a> {
         };
         told.truncate(done(answer)?.count as usize);
         Ok(told)
+    }
+
+    /// Tells the rows of the font's lines at a size, and its underline.
+    pub fn strike(&self, job: &Job) -> Result<Strike, Error> {
+        let (mut told, mut answer) = (c::Strike::default(), Answer::default());
+        unsafe {
+            c::tt_strike(
+                self.bytes.as_ptr(),
+                self.bytes.len(),
+                &job.of_face(self.face),
+                &mut told,
+                &mut answer,
+            )
+        };
+        done(answer)?;
+        Ok(told.into())
     }
 
     /// Lays out a line of text without its ink. The request's `grow` is not looked at.

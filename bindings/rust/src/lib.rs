@@ -22,4 +22,4 @@ mod picture;
 pub use c::{Bitmap, Figures, Glyph, Layout, Pen, PixelBox, Shape};
 pub use error::Error;
 pub use font::{faces, supported, Font};
-pub use picture::{Bitmaps, Character, Fit, Job, Measure, Picture};
+pub use picture::{Bitmaps, Character, Fit, Job, Measure, Picture, Strike, Underline};

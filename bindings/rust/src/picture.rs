@@ -33,6 +33,8 @@ pub struct Job {
     /// Whether ascent and descent are each rounded to the nearest row, and not up. Then box drawing characters join, of
     /// pictures that are set one below the other.
     pub rounded: bool,
+    /// Whether `Font::labels` gives a picture without a pixel for an empty text, and does not refuse it.
+    pub blank: bool,
 }
 
 impl Job {
@@ -45,6 +47,7 @@ impl Job {
             grow: true,
             kern: false,
             rounded: false,
+            blank: false,
         }
     }
 
@@ -56,6 +59,7 @@ impl Job {
             grow,
             kern,
             rounded,
+            blank,
         } = *self;
         c::Job {
             size,
@@ -65,6 +69,7 @@ impl Job {
             face,
             kern: kern.into(),
             rounded: rounded.into(),
+            blank: blank.into(),
         }
     }
 }
@@ -146,6 +151,8 @@ pub struct Character {
     pub pen: i64,
     /// The box of its ink, where anything is black.
     pub ink: Option<c::PixelBox>,
+    /// Where the character begins, in bytes from the start of the text.
+    pub offset: u64,
 }
 
 impl From<c::Character> for Character {
@@ -156,12 +163,57 @@ impl From<c::Character> for Character {
             pen,
             has_ink,
             ink,
+            offset,
         } = it;
         Character {
             glyph,
             advance,
             pen,
             ink: (has_ink != 0).then_some(ink),
+            offset,
+        }
+    }
+}
+
+/// The underline of a font at a size.
+#[derive(Clone, Copy, Debug, PartialEq, Eq)]
+#[non_exhaustive]
+pub struct Underline {
+    /// Rows from the base line up to its upper edge, so mostly negative.
+    pub top: i64,
+    /// Its rows, at least 1.
+    pub thickness: u64,
+}
+
+/// A font at a size, without a text.
+#[derive(Clone, Copy, Debug, PartialEq, Eq)]
+#[non_exhaustive]
+pub struct Strike {
+    /// Rows of a line above its base line, without a margin.
+    pub rise: i64,
+    /// Rows of a line below its base line, without a margin.
+    pub depth: i64,
+    /// Rows between two lines.
+    pub gap: u64,
+    /// Rows from one base line to the next.
+    pub step: u64,
+    /// The underline, where the font tells one.
+    pub underline: Option<Underline>,
+}
+
+impl From<c::Strike> for Strike {
+    fn from(it: c::Strike) -> Strike {
+        let c::Underline {
+            exists,
+            top,
+            thickness,
+        } = it.underline;
+        Strike {
+            rise: it.rise,
+            depth: it.depth,
+            gap: it.gap,
+            step: it.step,
+            underline: (exists != 0).then_some(Underline { top, thickness }),
         }
     }
 }

@@ -176,6 +176,21 @@ fn a_refused_line_is_named() {
 }
 
 #[test]
+fn a_blank_line_is_passed() {
+    let bytes = font_bytes();
+    let font = Font::new(&bytes).unwrap();
+    let job = changed(16, |it| it.blank = true);
+    let mut got = Vec::new();
+    font.labels(&["A", "", "B"], &job, |it| got.push(it))
+        .unwrap();
+    assert_eq!(got.len(), 3);
+    assert_eq!(got[0], font.draw("A", &job).unwrap());
+    assert_eq!((got[1].shape.width, got[1].shape.height), (0, 0));
+    assert!(got[1].rows.is_empty());
+    assert_eq!(got[2], font.draw("B", &job).unwrap());
+}
+
+#[test]
 fn a_measure_is_that_of_the_picture() {
     let bytes = font_bytes();
     let font = Font::new(&bytes).unwrap();
@@ -400,6 +415,71 @@ fn layouts_are_those_of_measures() {
         .map(|it| (it.glyph, it.advance, it.pen))
         .collect();
     assert_eq!(pens, places);
+}
+
+#[test]
+fn offsets_are_those_of_the_characters() {
+    let bytes = font_bytes();
+    let font = Font::new(&bytes).unwrap();
+    let job = changed(16, |it| it.margin = 1);
+    for (text, wanted) in [
+        ("Aé€\u{1d11e}B", vec![0, 1, 3, 6, 10]),
+        ("\u{fe0f}A\u{fe0f}\u{fe0f}\u{e0100}B", vec![3, 14]),
+        ("", vec![]),
+    ] {
+        let pens = font.pens(text, &job).unwrap();
+        assert_eq!(pens.iter().map(|it| it.offset).collect::<Vec<_>>(), wanted);
+        let places = font.characters(text, &job).unwrap();
+        assert_eq!(
+            places.iter().map(|it| it.offset).collect::<Vec<_>>(),
+            wanted
+        );
+    }
+}
+
+#[test]
+fn advances_have_64ths() {
+    let bytes = font_bytes();
+    let font = Font::new(&bytes).unwrap();
+    let numbers: Vec<u32> = font
+        .map("Hij,")
+        .unwrap()
+        .iter()
+        .map(|it| it.glyph)
+        .collect();
+    // The advances of FreeType 2, whose interpreter of version 35 runs the font's programs.
+    for (size, wanted) in [
+        (9, [448, 192, 192, 192]),
+        (16, [768, 192, 192, 320]),
+        (24, [1152, 448, 448, 512]),
+    ] {
+        let got = font.glyphs(&numbers, &Job::of_size(size)).unwrap();
+        let advances: Vec<i64> = got.entries.iter().map(|it| it.advance_64ths).collect();
+        assert_eq!(advances, wanted);
+        let pixels: Vec<u32> = got.entries.iter().map(|it| it.advance).collect();
+        assert_eq!(pixels, wanted.map(|it| (it as u32 + 32) / 64));
+    }
+}
+
+#[test]
+fn a_strike_has_the_rows_of_its_lines() {
+    let bytes = font_bytes();
+    let font = Font::new(&bytes).unwrap();
+    for size in [9, 24, 300] {
+        let job = Job::of_size(size);
+        let (got, line) = (font.strike(&job).unwrap(), font.layout("A", &job).unwrap());
+        assert_eq!(
+            (got.rise, got.depth, got.gap, got.step),
+            (line.rise, line.depth, line.gap, line.step)
+        );
+    }
+    // The table post has -40 and 90, of 2,048 units in an em.
+    let underline = |size| {
+        let got = font.strike(&Job::of_size(size)).unwrap().underline.unwrap();
+        (got.top, got.thickness)
+    };
+    assert_eq!((underline(24), underline(300)), ((0, 1), (-6, 13)));
+    assert_eq!(font.strike(&Job::of_size(301)).unwrap_err().number(), 60);
 }
 
 #[test]

@@ -91,6 +91,7 @@ unfitted_of face cs es = unfitted_after face [] (zip cs es)
 abbrev ink_of_two : Told
 ink_of_two = told.Made (record {
   advance = 4;
+  advance_left = pos 256;
   place = record { left = pos 1; top = pos 2; width = 2; height = 2 };
   unfitted = None;
 })
@@ -98,6 +99,7 @@ ink_of_two = told.Made (record {
 abbrev no_ink_unfitted : Fault → Told
 no_ink_unfitted fault = told.Made (record {
   advance = 4;
+  advance_left = pos 256;
   place = record { left = pos 0; top = pos 0; width = 0; height = 0 };
   unfitted = Some fault;
 })

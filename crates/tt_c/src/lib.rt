@@ -12,20 +12,21 @@ ghost use Rattle.tt_c_calls.specs.Maps.{MapsText};
 ghost use Rattle.tt_c_calls.specs.Measures.{MeasuresText, PlacesCharacters};
 ghost use Rattle.tt_c_calls.specs.Messages.{WritesMessage};
 ghost use Rattle.tt_c_calls.specs.Pictures.{DrawsBand};
+ghost use Rattle.tt_c_calls.specs.Strikes.{TellsStrike};
 
 use std::alloc::Global;
 use tt_c_calls::{
     Band, CAnswer, CBitmap, CCharacter, CFont, CGlyph, CJob, CLayout, CLine, CMeasure, CPen,
-    CPicture, TextRequest, Texts,
+    CPicture, CStrike, TextRequest, Texts,
 };
 
 /// The version of the library, as `TT_RENDER_VERSION` of the header: 10,000 times its first part, 100 times the second,
 /// and the third.
 #[unsafe(no_mangle)]
 pub extern "C" fn tt_version() -> u32
-    ensures { result ≡ 200 }
+    ensures { result ≡ 300 }
 {
-    200
+    300
 }
 
 /// `tt_c_calls::faces`.
@@ -122,6 +123,21 @@ pub extern "C" fn tt_characters(
 {
     let request = TextRequest { font, text, job };
     *answer = tt_c_calls::characters(alloc, &request, characters);
+    answer.status
+}
+
+/// `tt_c_calls::strike`.
+#[unsafe(no_mangle)]
+pub extern "C" fn tt_strike(
+    font: &[u8],
+    job: &CJob,
+    told: &mut CStrike,
+    answer: &mut CAnswer,
+) -> u32
+    ensures status { result ≡ answer.new.status }
+    ensures tells { TellsStrike job.now font.now told.old told.new answer.new }
+{
+    *answer = tt_c_calls::strike(font, job, told);
     answer.status
 }
 

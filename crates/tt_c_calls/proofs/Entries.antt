@@ -1,7 +1,8 @@
 -- Entries written one after the other at the front of a room.
-use Rattle.std.proofs.Common.{◌≡◌, ℕ, ◌+◌, ◌<◌, ◌≤◌, List, [], ◌∷◌, ◌++◌, length, get_or, take, drop, map, sym, refl, ap, ◌∙◌, append_assoc, add-one, drop-cons, length-take-le, arith}
+use Rattle.std.proofs.Common.{◌≡◌, ℕ, ◌+◌, ◌<◌, ◌≤◌, List, [], ◌∷◌, ◌++◌, length, get_or, take, drop, map, zip, sym, refl, ap, ◌∙◌, append_assoc, add-one, drop-cons, length-take-le, arith}
 use Rattle.std.proofs.Math.ListN.{set}
-use Rattle.std.proofs.lemmas.List.{append-nil, length-append, length-map, map_more}
+use Rattle.std.proofs.lemmas.List.{append-nil, length-append, length-map, map_more, take_all}
+use Rattle.std.proofs.lemmas.Slice.Zip.{get_or-zip, length-zip}
 use Rattle.std.proofs.Math.Seq.{set-append_seam}
 
 pub one_more : {A : Type 0} (xs old : List A) (i : ℕ) (v : A) → i ≡ length xs → i < length old
@@ -32,3 +33,22 @@ one_further done left rest all x first split =
 
 pub none_further : {A : Type 0} (done left all : List A) → left ≡ [] → done ++ left ≡ all → done ≡ all
 none_further done left all none split = sym (append-nil done) ∙ (rw none at split)
+
+-- entries that are each made of two lists of equal length
+
+zipped_long : {A B : Type 0} (xs : List A) (ys : List B) → length xs ≡ length ys → length (zip xs ys) ≡ length xs
+zipped_long xs ys same = let long = length-zip xs ys in omega (arith, long, same)
+
+pub next_zipped : {A B C : Type 0} (told : A × B → C) (xs : List A) (ys : List B) (old : List C) (i : ℕ) (d : A × B)
+    → length xs ≡ length ys → i < length xs → length xs ≤ length old
+    → set (map told (take i (zip xs ys)) ++ drop i old) i (told (get_or xs i d.0, get_or ys i d.1))
+    ≡ map told (take (i + 1) (zip xs ys)) ++ drop (i + 1) old
+next_zipped told xs ys old i d same within few =
+    let long = zipped_long xs ys same in
+    rw (← (get_or-zip xs ys i d within (omega (arith, same, within))))
+    (next_told told (zip xs ys) old i d (omega (arith, long, within)) (omega (arith, long, few)))
+
+pub all_told : {A B C : Type 0} (told : A × B → C) (xs : List A) (ys : List B) (old : List C) → length xs ≡ length ys
+    → map told (take (length xs) (zip xs ys)) ++ drop (length xs) old ≡ map told (zip xs ys) ++ drop (length xs) old
+all_told told xs ys old same =
+    ap (λ ps. map told ps ++ drop (length xs) old) (take_all (length xs) (zip xs ys) (let long = zipped_long xs ys same in omega (arith, long)))

@@ -11,3 +11,8 @@ pub mod LinesStopped
 pub mod StrikeLines
 pub mod BitmapLists
 pub mod LaidOut
+pub mod OffsetSteps
+pub mod OffsetLaws
+pub mod StrikeWanted
+pub mod Counted
+pub mod CharactersCounted

@@ -20,10 +20,11 @@ use Rattle.tt_fit.specs.declared.programs.Fit.{Fit}
 use Rattle.tt_c_calls.specs.declared.answer.CAnswer.{CAnswer}
 use Rattle.tt_c_calls.specs.declared.asked.CJob.{CJob}
 use Rattle.tt_c_calls.specs.declared.line_drawing.CLine.{CLine}
+use Rattle.tt_c_calls.specs.declared.pictures.CPicture.{CPicture}
 use Rattle.tt_c_calls.specs.Asked.{asked, grows, job_opening}
 use Rattle.tt_c_calls.specs.Answers.{job_answer}
 use Rattle.tt_c_calls.specs.Refusals.{Refusal, as_call}
-use Rattle.tt_c_calls.specs.Lines.{AreAffordable, cost_asked, cost_taken, first_taken, lines_taken, AreEnds, AreLinesDrawn, DrawsLines, EndsWith, IsLineDrawn, IsLineWritten, IsTextStopped, line_between, line_bytes, line_told, lines_by, lines_bytes, start_of, stopped_answer}
+use Rattle.tt_c_calls.specs.Lines.{AreAffordable, cost_asked, cost_taken, first_taken, lines_taken, AreEnds, AreLinesDrawn, DrawsLines, EndsWith, IsLineDrawn, IsLineWritten, IsShown, IsTextStopped, line_between, line_bytes, line_taken, lines_by, lines_bytes, start_of, stopped_answer}
 use Rattle.tt_c_calls.specs.Pictures.{IsPictureOf, IsWritten}
 use Rattle.tt_render_settings.specs.Products.{IsMadeBy}
 use Rattle.tt_picture.specs.Pictures.{Picture}
@@ -36,12 +37,18 @@ same_part m at n old new same within =
     ∙ ap (drop at) (sym (take-take (at + n) m new within) ∙ ap (take (at + n)) same ∙ take-take (at + n) m old within)
     ∙ drop-take at n old
 
+-- the rows of a line have the bytes that its entry tells
+shown_bytes : (j : CJob) (font line : List ℕ) (told : CPicture) (rows : List ℕ) (cost : ℕ)
+    → IsShown j font line told rows cost → length rows ≡ told.row_bytes * told.height
+shown_bytes j font line told rows cost (inl (blank, is, none, free)) = rw (is, none) refl
+shown_bytes j font line told rows cost (inr (other, (p, of, is, those, takes))) = rw (is, those) of.ready.rows
+
 -- a drawn line remains where the rows up to its end are unchanged
 line_stays : (j : CJob) (font old new : List ℕ) (m at : ℕ) (line : List ℕ) (told : CLine) → take m new ≡ take m old
     → at + line_bytes told ≤ m → IsLineDrawn j font old at line told → IsLineDrawn j font new at line told
-line_stays j font old new m at line told same within (p, of, known, rows) =
-    let many : length p.rows ≡ line_bytes told = rw known of.ready.rows in
-    (p, of, known, same_part m at (length p.rows) old new same (rw many within) ∙ rows)
+line_stays j font old new m at line told same within (rows, cost, shown, place, there) =
+    let many : length rows ≡ line_bytes told = shown_bytes j font line told.picture rows cost shown in
+    (rows, cost, shown, place, same_part m at (length rows) old new same (rw many within) ∙ there)
 
 -- drawn lines remain where the rows up to their end are unchanged
 lines_stay : (j : CJob) (font old new : List ℕ) (m at : ℕ) (lines : List (List ℕ)) (told : List CLine)
@@ -101,10 +108,10 @@ none_plus : (n : ℕ) → 0 + n ≡ n
 none_plus n = omega arith
 
 taken_too : (j : CJob) (font : List ℕ) (lines : List (List ℕ)) (line : List ℕ)
-    → lines_taken j font (lines ++ line ∷ []) ≡ lines_taken j font lines + cost_taken (cost_asked j font line)
+    → lines_taken j font (lines ++ line ∷ []) ≡ lines_taken j font lines + line_taken j font line
 taken_too j font lines line =
-    sum_by-append (λ (l : List ℕ). cost_taken (cost_asked j font l)) lines (line ∷ [])
-    ∙ ap (λ (n : ℕ). lines_taken j font lines + n) (none_plus (cost_taken (cost_asked j font line)))
+    sum_by-append (λ (l : List ℕ). line_taken j font l) lines (line ∷ [])
+    ∙ ap (λ (n : ℕ). lines_taken j font lines + n) (none_plus (line_taken j font line))
 
 -- the budget serves for one line more
 affordable_behind : (j : CJob) (font : List ℕ) (first : List (List ℕ)) (line : List ℕ) → AreAffordable j font first
@@ -136,17 +143,23 @@ cost_of_line : (j : CJob) (font line : List ℕ) (p : Picture) → IsPictureOf j
 cost_of_line j font line p of =
     ap cost_taken (cost_found (asked j line) (λ how. face_with font (job_opening j how)) p (grows j) of.made)
 
+shown_cost : (j : CJob) (font line : List ℕ) (told : CPicture) (rows : List ℕ) (cost : ℕ)
+    → IsShown j font line told rows cost → line_taken j font line ≡ cost
+shown_cost j font line told rows cost (inl (blank, is, none, free)) = rw (blank, free) refl
+shown_cost j font line told rows cost (inr (other, (p, of, is, those, takes))) =
+    rw (other, takes) (cost_of_line j font line p of)
+
 -- what the lines so far take, and one line more
-first_taken_too : (j : CJob) (font texts ends : List ℕ) (i : ℕ) (p : Picture) → i < length ends
-    → IsPictureOf j (line_between texts (start_of ends i) (get_or ends i 0)) font p
-    → first_taken j font texts ends (i + 1) ≡ first_taken j font texts ends i + p.cost
-first_taken_too j font texts ends i p few of =
+first_taken_too : (j : CJob) (font texts ends : List ℕ) (i cost : ℕ) → i < length ends
+    → line_taken j font (line_between texts (start_of ends i) (get_or ends i 0)) ≡ cost
+    → first_taken j font texts ends (i + 1) ≡ first_taken j font texts ends i + cost
+first_taken_too j font texts ends i cost few takes =
     let line = line_between texts (start_of ends i) (get_or ends i 0) in
     let next : i + 1 ≡ suc i = omega arith in
     let all : lines_by texts 0 (take (i + 1) ends) ≡ lines_by texts 0 (take i ends) ++ line ∷ [] =
     rw next (lines_behind texts 0 i ends few) in
     ap (lines_taken j font) all
-    ∙ omega (arith, taken_too j font (lines_by texts 0 (take i ends)) line, cost_of_line j font line p of)
+    ∙ omega (arith, taken_too j font (lines_by texts 0 (take i ends)) line, takes)
 
 -- a room from a place on
 room_behind : (room : List ℕ) (used : ℕ) → take (length room - used) (drop used room) ≡ drop used room
@@ -175,28 +188,28 @@ rows_behind rows room new used within written =
 
 -- the lines so far, and one line more
 line_more : (j : CJob) (font texts ends before room new : List ℕ) (told_before told : List CLine) (used i : ℕ)
-    (p : Picture) → DrawsLines j font texts ends before room told_before told used i
+    (x : CLine) (rows : List ℕ) (cost : ℕ) → DrawsLines j font texts ends before room told_before told used i
     → first_taken j font texts ends i ≤ lines_budget i → i < length ends → i < length told → used ≤ length room → start_of ends i ≤ get_or ends i 0 → get_or ends i 0 ≤ length texts
-    → IsPictureOf j (line_between texts (start_of ends i) (get_or ends i 0)) font p
-    → IsWritten p.rows (drop used room) new
+    → IsShown j font (line_between texts (start_of ends i) (get_or ends i 0)) x.picture rows cost → x.at ≡ used
+    → IsWritten rows (drop used room) new
     → DrawsLines j font texts ends before (put_mid used (length room - used) room new) told_before
-    (set told i (line_told p used)) (used + length p.rows) (i + 1)
-line_more j font texts ends before room new told_before told used i p so_far enough few room_few within order small of
-    written =
+    (set told i x) (used + length rows) (i + 1)
+line_more j font texts ends before room new told_before told used i x rows cost so_far enough few room_few within order
+    small shown stands written =
     let room_new = put_mid used (length room - used) room new in
-    let x = line_told p used in
-    let n = length p.rows in
+    let n = length rows in
     let line = line_between texts (start_of ends i) (get_or ends i 0) in
     let next : i + 1 ≡ suc i = omega arith in
     let place : 0 + lines_bytes (take i told) ≡ used = omega (arith, so_far.bytes) in
     let lines : take (i + 1) (set told i x) ≡ take i told ++ x ∷ [] = take_more_set told i x room_few in
     let front : take used room_new ≡ take used room = take-put_mid_below used (length room - used) room new used
     (omega arith) within in
-    let placed = rows_behind p.rows room new used within written in
+    let placed = rows_behind rows room new used within written in
+    let many : n ≡ line_bytes x = shown_bytes j font line x.picture rows cost shown in
     let stay = lines_stay j font room room_new used 0 (lines_by texts 0 (take i ends)) (take i told) front
     (omega (arith, place)) so_far.drawn in
     let there : IsLineDrawn j font room_new used line x =
-    (p, of, refl, ap (take n) placed ∙ take_at p.rows _ n refl) in
+    (rows, cost, shown, stands, ap (take n) placed ∙ take_at rows _ n refl) in
     let one : IsLineDrawn j font room_new (0 + lines_bytes (take i told)) line x = rw place there in
     let so_many : length (lines_by texts 0 (take i ends)) ≡ i =
     lines_many texts 0 (take i ends) ∙ length-take-le i ends (omega (arith, few)) in
@@ -208,8 +221,8 @@ line_more j font texts ends before room new told_before told used i p so_far eno
       within = rw next (ends_behind (length texts) 0 i ends few so_far.within order small);
       drawn = rw (lines, next) (line_behind j font texts room_new 0 0 i ends (take i told) x few stay one);
       affordable = rw (next, lines_behind texts 0 i ends few) affords;
-      bytes = rw (lines, bytes_behind (take i told) x, of.ready.rows, so_far.bytes) refl;
-      rest = sym (drop-drop n used room_new) ∙ ap (drop n) placed ∙ drop_at p.rows _ n refl
+      bytes = rw (lines, bytes_behind (take i told) x) (omega (arith, many, so_far.bytes));
+      rest = sym (drop-drop n used room_new) ∙ ap (drop n) placed ∙ drop_at rows _ n refl
           ∙ ap (drop n) so_far.rest ∙ drop-drop n used before;
       others = drop-set-lt (i + 1) told i x (omega arith) ∙ sym (drop-drop 1 i told) ∙ ap (drop 1) so_far.others
           ∙ drop-drop 1 i told_before;
@@ -240,20 +253,25 @@ pub drawn_on : (j : CJob) (font texts ends before room new : List ℕ) (told_bef
     (set told i told_new) (get_or ends i 0) (used + a.bytes) (i + 1) after
 drawn_on j font texts ends before room new told_before told told_new from used i taken a cost after so_far enough low is
     few room_few order small w many =
-    let p = w.picture in
-    let written : IsWritten p.rows (drop used room) new = rw (room_behind room used) at w.rows in
+    let rows = w.bytes in
+    let written : IsWritten rows (drop used room) new = rw (room_behind room used) at w.rows in
     let many_new : length new ≡ length (drop used room) = rw (room_behind room used) at many in
     let keeps : length (put_mid used (length room - used) room new) ≡ length room =
     same_len_mid used (length room - used) room new many in
-    let of : IsPictureOf j (line_between texts (start_of ends i) (get_or ends i 0)) font p =
-    rw so_far.start at w.of in
+    let line = line_between texts (start_of ends i) (get_or ends i 0) in
+    let shown : IsShown j font line told_new.picture rows cost = rw so_far.start at w.shown in
     record {
       start = start_behind ends i;
-      room_used = rw (w.answer, keeps) (few_rows p.rows room new used so_far.room_used written many_new);
-      so_far = rw (w.answer, w.known) (line_more j font texts ends before room new told_before told used i p
+      room_used = rw (w.answer, keeps) (few_rows rows room new used so_far.room_used written many_new);
+      so_far = rw w.answer (line_more j font texts ends before room new told_before told used i told_new rows cost
           so_far.so_far (omega (arith, so_far.takes, enough)) few room_few so_far.room_used
-          (rw so_far.start at order) small of written);
-      takes = omega (arith, first_taken_too j font texts ends i p few of, so_far.takes, w.takes, is);
+          (rw so_far.start at order) small shown w.place written);
+      takes = omega (
+        arith,
+        first_taken_too j font texts ends i cost few (shown_cost j font line told_new.picture rows cost shown),
+        so_far.takes,
+        is,
+      );
       few = omega (arith, so_far.few, low, is);
     }
 

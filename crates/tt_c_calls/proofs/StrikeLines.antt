@@ -26,7 +26,7 @@ use Rattle.tt_c_calls.specs.declared.pictures.CPicture.{CPicture}
 use Rattle.tt_c_calls.specs.declared.fault.CallFault.TheVariants as call
 use Rattle.tt_c_calls.specs.Answers.{call_answer}
 use Rattle.tt_c_calls.specs.Asked.{IsAskedDefect, asked, grows, job_opening, text_asked}
-use Rattle.tt_c_calls.specs.Lines.{IsLineWritten, IsStrikeFor, IsTextStopped, lines_wanted}
+use Rattle.tt_c_calls.specs.Lines.{IsLineWritten, IsStrikeFor, IsTextStopped, is_blank, lines_wanted}
 use Rattle.tt_c_calls.specs.Pictures.{IsBandSmall, IsBandWritten, IsPictureOf, band_of, band_rows, picture_wanted}
 use Rattle.tt_render_settings.specs.Products.{IsMadeBy, picture_by}
 use Rattle.tt_c_calls.specs.Refusals.{Refusal, as_call, call_font_fault, call_refusal, line_ends, not_utf8, refused, unknown_fit}
@@ -116,16 +116,16 @@ line_refused j file line t s e for text = if_some_more (call_refusal e) _ _
     (λ why h. wanted_by j file line t s for text ∙ h)
 
 -- the answer for a line that is refused
-pub line_stopped : (j : CJob) (file line : List ℕ) (left : ℕ) (e : CallFault)
+pub line_stopped : (j : CJob) (file line : List ℕ) (left : ℕ) (e : CallFault) → is_blank j line ≡ false
     → IfSome (call_refusal e) (λ why. picture_wanted j line file ≡ Err why)
     → IsTextStopped j file line left (call_answer e)
-line_stopped j file line left (call.Font f) h = inr (inl (refused (font f), h, refl))
-line_stopped j file line left (call.Job why) h = inr (inl (refused (job why), h, refl))
-line_stopped j file line left call.FontLarge h = inr (inl (refused large, h, refl))
-line_stopped j file line left call.UnknownFit h = inr (inl (unknown_fit, h, refl))
-line_stopped j file line left call.LineEnds h = inr (inl (line_ends, h, refl))
-line_stopped j file line left call.NotUtf8 h = inr (inl (not_utf8, h, refl))
-line_stopped j file line left call.Memory h = inl refl
+line_stopped j file line left (call.Font f) other h = (other, inr (inl (refused (font f), h, refl)))
+line_stopped j file line left (call.Job why) other h = (other, inr (inl (refused (job why), h, refl)))
+line_stopped j file line left call.FontLarge other h = (other, inr (inl (refused large, h, refl)))
+line_stopped j file line left call.UnknownFit other h = (other, inr (inl (unknown_fit, h, refl)))
+line_stopped j file line left call.LineEnds other h = (other, inr (inl (line_ends, h, refl)))
+line_stopped j file line left call.NotUtf8 other h = (other, inr (inl (not_utf8, h, refl)))
+line_stopped j file line left call.Memory other h = (other, inl refl)
 
 -- the status of the answer for a fault is not 0, done
 pub not_done : (e : CallFault) → (call_answer e).status ≢ 0
@@ -156,24 +156,23 @@ whole_band p ready =
     (take_all (stride p.frame.width * p.frame.height) p.rows (omega (arith, ready.rows)))
 
 pub line_written : (j : CJob) (file line : List ℕ) (at height : ℕ) (p : Picture) (room new : List ℕ)
-    (known : CPicture) (told : CLine) (a : CAnswer) (cost : ℕ) → IsPictureOf j line file p → height ≡ p.frame.height
+    (known : CPicture) (told : CLine) (a : CAnswer) (cost : ℕ) → is_blank j line ≡ false → IsPictureOf j line file p → height ≡ p.frame.height
     → IsBandWritten p 0 height room new known a → told ≡ record { picture = known; at = at } → cost ≡ p.cost
     → IsLineWritten j file line at room new told a cost
-line_written j file line at height p room new known told a cost of all w is takes =
+line_written j file line at height p room new known told a cost other of all w is takes =
     let whole = whole_band p of.ready in
     record {
-      picture = p;
-      of = of;
+      bytes = p.rows;
+      shown = inr (other, (p, of, rw (is, w.picture) refl, refl, takes));
       rows = rw (all, whole) at w.rows;
-      known = rw w.picture at is;
-      answer = rw (all, whole, all_rows p.frame.height) at w.answer;
-      takes = takes;
+      place = rw is refl;
+      answer = rw (is, w.picture) (rw (all, whole, all_rows p.frame.height) at w.answer);
     }
 
 -- a room too small for all rows
-pub room_small : (j : CJob) (file line room : List ℕ) (height : ℕ) (p : Picture) (a : CAnswer)
+pub room_small : (j : CJob) (file line room : List ℕ) (height : ℕ) (p : Picture) (a : CAnswer) → is_blank j line ≡ false
     → IsPictureOf j line file p → height ≡ p.frame.height → IsBandSmall p 0 height room a
     → IsTextStopped j file line (length room) a
-room_small j file line room height p a of all small =
+room_small j file line room height p a other of all small =
     let facts = rw (all, whole_band p of.ready, all_rows p.frame.height) at small in
-    inr (inr (p, of, facts.0, facts.1))
+    (other, inr (inr (p, of, facts.0, facts.1)))

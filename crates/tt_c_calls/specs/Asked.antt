@@ -1,5 +1,5 @@
 -- No part of the standard: the requests of a call of C (profile).
-use Rattle.std.specs.Prelude.{◌≡◌, refl, ℕ, ◌-◌, ◌==◌, if◌then◌else◌, Bool, not, List, [], ◌∷◌, map, Option, Some, None, Result, Ok, Err, IsOkAnd}
+use Rattle.std.specs.Prelude.{◌≡◌, refl, ℕ, ◌-◌, ◌==◌, if◌then◌else◌, Bool, not, ◌||◌, List, [], ◌∷◌, map, Option, Some, None, Result, Ok, Err, IsOkAnd}
 use Rattle.std.specs.Str.{is_utf8}
 use Rattle.tt_core.specs.declared.collection.Reading.{Reading}
 use Rattle.tt_core.specs.declared.collection.Reading.TheVariants as reading
@@ -52,6 +52,10 @@ face_reading n = reading_asked (face_named n) reading.Strict
 -- the reading of a job with a way to fit
 abbrev pub job_reading : CJob → Fit → Reading
 job_reading j how = reading_asked (face_named j.face) (fit_reading how)
+
+-- whether the text of a job is read widely, so that variation selectors belong to characters
+abbrev pub reads_widely : CJob → Bool
+reads_widely j = not (j.face == 0) || (j.fit == 3)
 
 -- how heights are rounded, by a number that is 0 or not
 abbrev pub heights_asked : ℕ → Heights

@@ -35,6 +35,7 @@ empty_bitmap e status number = record {
   table = 0 ∷ 0 ∷ 0 ∷ 0 ∷ [];
   offset = 0;
   advance = 0;
+  advance_64ths = pos 0;
   left = pos 0;
   top = pos 0;
   width = 0;
@@ -55,6 +56,7 @@ bitmap_fitted b (Some f) = bitmap_with b f
 abbrev pub bitmap_made : GlyphEntry → MadeBitmap → CBitmap
 bitmap_made e m = bitmap_fitted (record (empty_bitmap e 0 0) {
   advance = m.advance;
+  advance_64ths = m.advance_left;
   left = m.place.left;
   top = m.place.top;
   width = m.place.width;
@@ -137,6 +139,7 @@ an_unfitted_glyph : bitmap_told (record {
   glyph = 1;
   told = told.Made (record {
     advance = 4;
+    advance_left = pos 287;
     place = two_by_two;
     unfitted = Some (fault_at (codes "glyf") 17 why.DivZero);
   });
@@ -149,6 +152,7 @@ an_unfitted_glyph : bitmap_told (record {
       table = codes "glyf";
       offset = 17;
       advance = 4;
+      advance_64ths = pos 287;
       left = pos 1;
       top = pos 2;
       width = 2;
@@ -169,6 +173,7 @@ a_glyph_too_deep : bitmap_told (record {
   table = codes "glyf";
   offset = 10;
   advance = 0;
+  advance_64ths = pos 0;
   left = pos 0;
   top = pos 0;
   width = 0;

@@ -1,5 +1,5 @@
 -- No part of the standard: the layout of a text without its ink, for C (profile).
-use Rattle.std.specs.Prelude.{◌≡◌, ◌≢◌, ℕ, pos, List, ◌++◌, length, drop, map, Result, Ok}
+use Rattle.std.specs.Prelude.{◌≡◌, ◌≢◌, ℕ, pos, List, ◌++◌, length, drop, map, zip, Result, Ok}
 use Rattle.tt_core.specs.Outcomes.{◌>>=◌}
 use Rattle.tt_strike.specs.declared.layouts.Layout.{Layout}
 use Rattle.tt_strike.specs.declared.layouts.Pen.{Pen}
@@ -12,6 +12,7 @@ use Rattle.tt_c_calls.specs.Answers.{DefectStands, TellsRefusal, done_answer}
 use Rattle.tt_c_calls.specs.Asked.{IsAskedDefect, asked, job_opening}
 use Rattle.tt_c_calls.specs.Maps.{selector_told}
 use Rattle.tt_c_calls.specs.Measures.{IsEntriesSmall}
+use Rattle.tt_c_calls.specs.Offsets.{offsets_asked}
 use Rattle.tt_c_calls.specs.Pictures.{made_of}
 use Rattle.tt_c_calls.specs.Refusals.{Refusal, as_call}
 
@@ -38,14 +39,15 @@ layout_told l = record {
   characters = l.characters;
 }
 
--- a pen for C
-abbrev pub pen_told : Pen → CPen
-pen_told p = record {
+-- a pen for C, with the offset of its unit in the text
+abbrev pub pen_told : Pen × ℕ → CPen
+pen_told (p, at) = record {
   code_point = p.unit.character;
   selector = selector_told p.unit.selector;
   glyph = p.glyph;
   advance = p.advance;
   pen = pos p.pen;
+  offset = at;
 }
 
 -- the layout of a text was written
@@ -61,14 +63,16 @@ pub record LaysOutText (j : CJob) (text font : List ℕ) (before told : CLayout)
   pub kept : a.status ≢ 0 → told ≡ before
   pub stands : DefectStands (IsAskedDefect j text font) a
 
--- some pens were written at the front of a room
-abbrev pub ArePensTold : List Pen → List CPen → List CPen → CAnswer → Type 0
-ArePensTold pens old new a = (new ≡ map pen_told pens ++ drop (length pens) old) × (a ≡ done_answer 0 (length pens))
+-- some pens were written at the front of a room, each with its offset
+abbrev pub ArePensTold : List Pen → List ℕ → List CPen → List CPen → CAnswer → Type 0
+ArePensTold pens offsets old new a =
+    (new ≡ map pen_told (zip pens offsets) ++ drop (length pens) old) × (a ≡ done_answer 0 (length pens))
 
--- the pens of a text were written at the front of a room
+-- the pens of a text were written at the front of a room; each has the offset of its unit
 abbrev pub ArePensOf : CJob → List ℕ → List ℕ → List CPen → List CPen → CAnswer → Type 0
 ArePensOf j text font old new a =
-    (pens : List Pen) × (pens_wanted j text font ≡ Ok pens) × ArePensTold pens old new a
+    (pens : List Pen) × (pens_wanted j text font ≡ Ok pens) × (length pens ≡ length (offsets_asked j text))
+    × ArePensTold pens (offsets_asked j text) old new a
 
 -- the pens of a text are more than a room has, and the answer reports their number
 abbrev pub IsPensSmall : CJob → List ℕ → List ℕ → ℕ → CAnswer → Type 0

@@ -4,9 +4,11 @@ pub mod Asked
 pub mod Fonts
 pub mod Pictures
 pub mod Lines
+pub mod Strikes
 pub mod Measures
 pub mod Maps
 pub mod Bitmaps
+pub mod Offsets
 pub mod Layouts
 pub mod Messages
 pub mod Laws

@@ -1,5 +1,5 @@
 -- No part of the standard: lines drawn one after the other by a call of C (profile).
-use Rattle.std.specs.Prelude.{◌≡◌, ◌≢◌, refl, ℕ, ◌+◌, ◌-◌, ◌*◌, ◌<◌, ◌≤◌, List, [], ◌∷◌, length, take, drop, get_or, Result, Ok, Err, ◌⊎◌, ⊤}
+use Rattle.std.specs.Prelude.{◌≡◌, ◌≢◌, refl, ℕ, ◌+◌, ◌-◌, ◌*◌, ◌<◌, ◌≤◌, ◌==◌, Bool, true, false, not, ◌&&◌, if◌then◌else◌, pos, List, [], ◌∷◌, length, take, drop, get_or, Result, Ok, Err, ◌⊎◌, ⊤}
 use Rattle.std.specs.List.{sum_by}
 use Rattle.tt_core.specs.declared.fault.JobFault.TheVariants as fault
 use Rattle.tt_core.specs.Faults.{Fault, job_number}
@@ -14,6 +14,7 @@ use Rattle.tt_face.specs.Faces.{Face}
 use Rattle.tt_c_calls.specs.declared.answer.CAnswer.{CAnswer}
 use Rattle.tt_c_calls.specs.declared.asked.CJob.{CJob}
 use Rattle.tt_c_calls.specs.declared.line_drawing.CLine.{CLine}
+use Rattle.tt_c_calls.specs.declared.pictures.CPicture.{CPicture}
 use Rattle.tt_c_calls.specs.Answers.{done_answer, fault_answer, job_answer, memory_answer, plain_answer, refusal_answer, room_answer}
 use Rattle.tt_c_calls.specs.Asked.{IsAskedDefect, IsAskedFaceDefect, asked, fit_asked, job_opening}
 use Rattle.tt_c_calls.specs.Pictures.{IsPictureOf, IsWritten, made_of, picture_told, picture_wanted}
@@ -33,6 +34,17 @@ abbrev pub AreEnds : ℕ → ℕ → List ℕ → Type 0
 AreEnds bytes from [] = ⊤
 AreEnds bytes from (end ∷ ends) = (from ≤ end) × (end ≤ bytes) × AreEnds bytes end ends
 
+-- a line is blank: the job says so, and the line has no byte
+abbrev pub is_blank : CJob → List ℕ → Bool
+is_blank j line = not (j.blank == 0) && (length line == 0)
+
+-- the picture of a blank line has no column and no row
+abbrev pub blank_picture : CPicture
+blank_picture = record { width = 0; height = 0; row_bytes = 0; baseline = pos 0; unfitted = 0 }
+
+abbrev pub blank_line : ℕ → CLine
+blank_line at = record { picture = blank_picture; at = at }
+
 -- what a line takes of the budget of a call
 abbrev pub cost_asked : CJob → List ℕ → List ℕ → Result ℕ Refusal
 cost_asked j font line = asked j line >>= λ a. as_call (by_face cost_by (job_opening j a.fit) a font)
@@ -42,9 +54,13 @@ abbrev pub cost_taken : Result ℕ Refusal → ℕ
 cost_taken (Ok n) = n
 cost_taken (Err why) = 0
 
+-- nor does a blank one
+abbrev pub line_taken : CJob → List ℕ → List ℕ → ℕ
+line_taken j font line = if is_blank j line then 0 else cost_taken (cost_asked j font line)
+
 -- what some lines take together
 abbrev pub lines_taken : CJob → List ℕ → List (List ℕ) → ℕ
-lines_taken j font lines = sum_by (λ line. cost_taken (cost_asked j font line)) lines
+lines_taken j font lines = sum_by (λ line. line_taken j font line) lines
 
 -- before each of these lines, the lines before it took no more than the budget
 abbrev pub AreAffordable : CJob → List ℕ → List (List ℕ) → Type 0
@@ -58,9 +74,13 @@ first_taken j font texts ends count = lines_taken j font (lines_by texts 0 (take
 abbrev pub start_of : List ℕ → ℕ → ℕ
 start_of ends i = get_or (0 ∷ ends) i 0
 
--- a line for C, by its picture and the place of its rows
-abbrev pub line_told : Picture → ℕ → CLine
-line_told p at = record { picture = picture_told p; at = at }
+-- the picture of a line for C, its rows, and what the line takes of the budget: of a blank line, or of the picture that is
+-- asked for
+abbrev pub IsShown : CJob → List ℕ → List ℕ → CPicture → List ℕ → ℕ → Type 0
+IsShown j font line told rows cost =
+    ((is_blank j line ≡ true) × (told ≡ blank_picture) × (rows ≡ []) × (cost ≡ 0))
+    ⊎ ((is_blank j line ≡ false) × ((p : Picture) × IsPictureOf j line font p × (told ≡ picture_told p) × (rows ≡ p.rows)
+    × (cost ≡ p.cost)))
 
 -- the bytes of a line's rows
 abbrev pub line_bytes : CLine → ℕ
@@ -73,19 +93,18 @@ lines_bytes (l ∷ ls) = line_bytes l + lines_bytes ls
 -- a line was drawn at a place of a room
 abbrev pub IsLineDrawn : CJob → List ℕ → List ℕ → ℕ → List ℕ → CLine → Type 0
 IsLineDrawn j font room at line told =
-    (p : Picture) × IsPictureOf j line font p × (told ≡ line_told p at)
-    × (take (length p.rows) (drop at room) ≡ p.rows)
+    (rows : List ℕ) × (cost : ℕ) × IsShown j font line told.picture rows cost × (told.at ≡ at)
+    × (take (length rows) (drop at room) ≡ rows)
 
--- the picture of a line was written at the front of a room, which is at place `at` of the caller's room, and takes this
--- much of the budget
+-- a line was written at the front of a room, which is at place `at` of the caller's room, and takes this much of the
+-- budget
 pub record IsLineWritten (j : CJob) (font line : List ℕ) (at : ℕ) (old new : List ℕ) (told : CLine) (a : CAnswer)
     (cost : ℕ) : Type 0 where
-  pub picture : Picture
-  pub of : IsPictureOf j line font picture
-  pub rows : IsWritten picture.rows old new
-  pub known : told ≡ line_told picture at
-  pub answer : a ≡ done_answer (length picture.rows) picture.frame.height
-  pub takes : cost ≡ picture.cost
+  pub bytes : List ℕ
+  pub shown : IsShown j font line told.picture bytes cost
+  pub rows : IsWritten bytes old new
+  pub place : told.at ≡ at
+  pub answer : a ≡ done_answer (length bytes) told.picture.height
 
 -- lines were drawn one after the other, the first at place `at`
 abbrev pub AreLinesDrawn : CJob → List ℕ → List ℕ → ℕ → List (List ℕ) → List CLine → Type 0
@@ -110,14 +129,13 @@ pub record DrawsLines (j : CJob) (font texts ends room_before room : List ℕ) (
 abbrev pub stopped_answer : CAnswer → ℕ → ℕ → CAnswer
 stopped_answer a used count = record a { bytes = used + a.bytes; count = count }
 
--- the reason why a line stopped a call, and the line's own answer, where `left` bytes of room remained: memory was
--- refused; the line is refused; the room is too small
+-- the reason why a line stopped a call, and the line's own answer, where `left` bytes of room remained. The line is not
+-- blank, and memory was refused; or the line is refused; or the room is too small
 abbrev pub IsTextStopped : CJob → List ℕ → List ℕ → ℕ → CAnswer → Type 0
-IsTextStopped j font line left a =
-    (a ≡ memory_answer)
+IsTextStopped j font line left a = (is_blank j line ≡ false) × ((a ≡ memory_answer)
     ⊎ ((why : Refusal) × (picture_wanted j line font ≡ Err why) × (a ≡ refusal_answer why))
     ⊎ ((p : Picture) × IsPictureOf j line font p × (left < length p.rows)
-    × (a ≡ room_answer (length p.rows) p.frame.height))
+    × (a ≡ room_answer (length p.rows) p.frame.height)))
 
 -- the reason why the line between two places stopped a call: there are no such ends; or the line itself
 abbrev pub IsLineStopped : CJob → List ℕ → List ℕ → ℕ → ℕ → ℕ → CAnswer → Type 0

@@ -1,5 +1,5 @@
 -- No part of the standard: the measure of a text, for C (profile).
-use Rattle.std.specs.Prelude.{◌≡◌, ◌≢◌, ℕ, ◌<◌, pos, List, ◌++◌, length, drop, map, Option, Some, None, Result, Ok, IsOkAnd}
+use Rattle.std.specs.Prelude.{◌≡◌, ◌≢◌, ℕ, ◌<◌, pos, List, ◌++◌, length, drop, map, zip, Option, Some, None, Result, Ok, IsOkAnd}
 use Rattle.tt_core.specs.Outcomes.{◌>>=◌}
 use Rattle.tt_render_settings.specs.Products.{measure_by}
 use Rattle.tt_strike.specs.Job.{ByFace}
@@ -15,6 +15,7 @@ use Rattle.tt_c_calls.specs.declared.measuring.CCharacter.{CCharacter}
 use Rattle.tt_c_calls.specs.declared.measuring.CMeasure.{CMeasure}
 use Rattle.tt_c_calls.specs.Answers.{DefectStands, TellsRefusal, done_answer, room_answer}
 use Rattle.tt_c_calls.specs.Asked.{IsAskedDefect, asked, grows, job_opening}
+use Rattle.tt_c_calls.specs.Offsets.{offsets_asked}
 use Rattle.tt_c_calls.specs.Pictures.{made_of}
 use Rattle.tt_c_calls.specs.Refusals.{Refusal, as_call}
 
@@ -49,13 +50,15 @@ measure_told m unfitted = record {
   ink = box_told m.ink;
 }
 
-abbrev pub character_told : CharacterMeasure → CCharacter
-character_told c = record {
+-- a character for C, with the offset of its unit in the text
+abbrev pub character_told : CharacterMeasure × ℕ → CCharacter
+character_told (c, at) = record {
   glyph = c.glyph;
   advance = c.advance;
   pen = c.pen;
   has_ink = ink_told c.ink;
   ink = box_told c.ink;
+  offset = at;
 }
 
 -- the measure of a text was written
@@ -71,19 +74,21 @@ pub record MeasuresText (j : CJob) (text font : List ℕ) (before told : CMeasur
   pub kept : a.status ≢ 0 → told ≡ before
   pub stands : DefectStands (IsAskedDefect j text font) a
 
--- some characters were written at the front of a room
-abbrev pub AreCharactersTold : List CharacterMeasure → List CCharacter → List CCharacter → CAnswer → Type 0
-AreCharactersTold measured old new a =
-    (new ≡ map character_told measured ++ drop (length measured) old) × (a ≡ done_answer 0 (length measured))
+-- some characters were written at the front of a room, each with its offset
+abbrev pub AreCharactersTold : List CharacterMeasure → List ℕ → List CCharacter → List CCharacter → CAnswer → Type 0
+AreCharactersTold measured offsets old new a =
+    (new ≡ map character_told (zip measured offsets) ++ drop (length measured) old)
+    × (a ≡ done_answer 0 (length measured))
 
 -- `count` entries are more than a room has, and the answer reports their number
 abbrev pub IsEntriesSmall : ℕ → ℕ → CAnswer → Type 0
 IsEntriesSmall count room a = (room < count) × (a ≡ room_answer 0 count)
 
--- the characters of a text were written at the front of a room
+-- the characters of a text were written at the front of a room; each has the offset of its unit
 abbrev pub AreCharactersOf : CJob → List ℕ → List ℕ → List CCharacter → List CCharacter → CAnswer → Type 0
 AreCharactersOf j text font old new a =
-    (m : Measure) × (measure_wanted j text font ≡ Ok m) × AreCharactersTold m.characters old new a
+    (m : Measure) × (measure_wanted j text font ≡ Ok m) × (length m.characters ≡ length (offsets_asked j text))
+    × AreCharactersTold m.characters (offsets_asked j text) old new a
 
 abbrev pub IsCharactersSmall : CJob → List ℕ → List ℕ → ℕ → CAnswer → Type 0
 IsCharactersSmall j text font room a =

@@ -1,9 +1,9 @@
 //! The request of a call.
 
-ghost use Rattle.std.specs.Prelude.{◌≡◌, ◌≢◌, not, ◌==◌, IfErr, IfOk};
+ghost use Rattle.std.specs.Prelude.{◌≡◌, ◌≢◌, not, ◌||◌, ◌==◌, IfErr, IfOk};
 ghost use Rattle.tt_core.specs.Outcomes.{GivesUnless};
 ghost use Rattle.tt_strike.specs.Job.{job_view};
-ghost use Rattle.tt_c_calls.specs.Asked.{asked, face_named, face_reading, fit_asked, grows, heights_asked, job_opening, job_reading, text_asked};
+ghost use Rattle.tt_c_calls.specs.Asked.{asked, face_named, face_reading, fit_asked, grows, heights_asked, job_opening, job_reading, reads_widely, text_asked};
 ghost use Rattle.tt_c_calls.specs.declared.fault.CallFault.TheVariants as call;
 ghost use Rattle.tt_c_calls.specs.Refusals.{call_refusal};
 
@@ -35,6 +35,8 @@ pub struct CJob {
     pub kern: u32,
     /// Not 0 to round rise and depth to the nearest row each, so that lines of box drawing join.
     pub rounded: u32,
+    /// Not 0 so that of lines drawn one after the other, one without a byte is blank, and never refused.
+    pub blank: u32,
 }
 
 /// A request: a text, the font that draws it, and how.
@@ -58,6 +60,13 @@ impl CJob {
         ensures { result ≡ job_reading self.now fit }
     {
         reading_asked(face_named(self.face), fit_reading(fit))
+    }
+
+    /// Whether a text is read widely, so that variation selectors belong to characters.
+    pub(crate) fn reads_widely(&self) -> bool
+        ensures { result ≡ reads_widely self.now }
+    {
+        self.face != 0 || self.fit == 3
     }
 
     /// How the face is opened, by the way to fit.

@@ -40,6 +40,8 @@ pub struct CBitmap {
     pub width: u32,
     /// Rows of ink.
     pub height: u32,
+    /// The distance of the advance's two ends as the font's programs leave them, in 64ths of a pixel.
+    pub advance_64ths: i64,
     /// Where its rows begin, in bytes from the start of the caller's room.
     pub at: u64,
 }
@@ -62,6 +64,7 @@ fn empty(entry: &GlyphEntry, status: u32, number: u32) -> CBitmap
         top: 0,
         width: 0,
         height: 0,
+        advance_64ths: 0,
         at: entry.at,
     }
 }
@@ -89,6 +92,7 @@ fn made_of(entry: &GlyphEntry, made: MadeBitmap) -> CBitmap
         top: made.place.top,
         width: made.place.width,
         height: made.place.height,
+        advance_64ths: i64::from(made.advance_left),
         ..empty(entry, 0, 0)
     };
     match made.unfitted {

@@ -1,5 +1,6 @@
 //! Lemmas about the definitions, for all faults, jobs, texts and files.
 
+ghost use Rattle.tt_c_calls.specs.Offsets.{OffsetsCutTexts, OffsetsRise};
 ghost use Rattle.tt_c_calls.specs.Laws.{FontMessagesAreLines, JobMessagesAreLines, MessagesAreShort, PlainIsRun, ShortRoomsAreEnough};
 
 /// Lemma: the message of a refused font or job is the program's line on standard error; for a font, if the tag of the
@@ -19,4 +20,11 @@ pub fn messages_are_short()
 /// Lemma: without `grow` the picture of a text is the one that `run` writes, and is refused for the same reason.
 pub fn plain_is_run()
     ensures { PlainIsRun }
+{}
+
+/// Lemma: the byte offsets of a text's units rise and lie in the text. They cut the text into its units: each piece, from an
+/// offset up to the next one or to the end, alone has one unit, which is the text's.
+pub fn offsets_cut_texts()
+    ensures rise { OffsetsRise }
+    ensures cut { OffsetsCutTexts }
 {}

@@ -1,20 +1,22 @@
 //! A text laid out without its ink.
 
-ghost use Rattle.std.specs.Prelude.{◌≡◌, ◌≢◌, length, map, IfErr};
+ghost use Rattle.std.specs.Prelude.{◌≡◌, ◌≢◌, length, map, IfErr, IfOk};
 ghost use Rattle.tt_core.specs.Outcomes.{GivesUnless, IfTold};
 ghost use Rattle.tt_c_calls.specs.Asked.{IsAskedDefect};
 ghost use Rattle.tt_c_calls.specs.declared.fault.CallFault.TheVariants as call;
 ghost use Rattle.tt_c_calls.specs.Layouts.{ArePensTold, LaysOutText, PlacesPens, layout_told, layout_wanted, pen_told, pens_wanted};
 ghost use Rattle.tt_c_calls.specs.Measures.{IsEntriesSmall};
+ghost use Rattle.tt_c_calls.specs.Offsets.{offsets_asked};
 ghost use Rattle.tt_c_calls.specs.Refusals.{call_font_fault, call_refusal};
 
 use crate::answer::{CAnswer, DONE, ROOM, answer_of, sized};
 use crate::asked::{TextRequest, job_of};
 use crate::fault::CallFault;
 use crate::mapping::selector_of;
+use crate::offsets::offsets_of;
 use crate::opening::opened_face;
 use std::alloc::Global;
-use tt_strike::{Layout, Pen, SizedFace, test_job};
+use tt_strike::{Layout, Pen, SizedFace, TextPens, test_job};
 
 /// The picture of a text without its ink, and its distance from a next line.
 #[repr(C)]
@@ -53,6 +55,15 @@ pub struct CPen {
     pub advance: u32,
     /// The column of the picture at the pen, the margin included.
     pub pen: i64,
+    /// Where the unit begins, in bytes from the start of the text.
+    pub offset: u64,
+}
+
+/// The pens of a text, and the offset of the unit of each.
+#[derive(Drop)]
+struct PlacedPens {
+    pens: Vec<Pen>,
+    offsets: Vec<usize>,
 }
 
 fn layout_of(layout: &Layout) -> CLayout
@@ -71,8 +82,8 @@ fn layout_of(layout: &Layout) -> CLayout
     }
 }
 
-fn pen_of(pen: &Pen) -> CPen
-    ensures { result ≡ pen_told pen.now }
+fn pen_of(pen: &Pen, offset: usize) -> CPen
+    ensures { result ≡ pen_told (pen.now, offset) }
 {
     CPen {
         code_point: pen.unit.character as u32,
@@ -80,6 +91,7 @@ fn pen_of(pen: &Pen) -> CPen
         glyph: u32::from(pen.glyph),
         advance: pen.advance,
         pen: i64::from(pen.pen),
+        offset: offset as u64,
     }
 }
 
@@ -113,11 +125,13 @@ pub fn layout(alloc: Global, request: &TextRequest, told: &mut CLayout) -> CAnsw
     }
 }
 
-/// The pens of a text by a font file. Errors, the first of: UnknownFit, NotUtf8; SizeRange, MarginRange, TextLong;
+/// The pens of a text by a font file, and their offsets. Errors, the first of: UnknownFit, NotUtf8; SizeRange, MarginRange, TextLong;
 /// FontLarge; those of the tables that every text needs; those of `SizedFace::pens`.
 #[tactic(auto, unfolding(crate::specs::Layouts::pens_wanted))]
-fn pens_of(alloc: Global, request: &TextRequest) -> Result<Vec<Pen>, CallFault>
-    ensures exact { GivesUnless call_refusal (λ ps. ps.items) result (pens_wanted request.now.job.now request.now.text.now request.now.font.now) }
+fn pens_of(alloc: Global, request: &TextRequest) -> Result<PlacedPens, CallFault>
+    ensures exact { GivesUnless call_refusal (λ p. p.pens.items) result (pens_wanted request.now.job.now request.now.text.now request.now.font.now) }
+    ensures offsets { IfOk result (λ p. p.offsets.items ≡ offsets_asked request.now.job.now request.now.text.now) }
+    ensures count { IfOk result (λ p. length p.pens.items ≡ length p.offsets.items) }
     ensures defects { IfTold call_font_fault result (IsAskedDefect request.now.job.now request.now.text.now request.now.font.now) }
 {
     let asked = job_of(request.job, request.text)?;
@@ -125,12 +139,17 @@ fn pens_of(alloc: Global, request: &TextRequest) -> Result<Vec<Pen>, CallFault>
     let face = opened_face(request.font, asked.opening)?;
     let mut sized = SizedFace::new(alloc, &face, asked.ppem, asked.fit)?;
     let placed = sized.pens(asked.text, asked.margin)?;
-    Ok(placed.pens)
+    let TextPens { pens, .. } = placed;
+    match offsets_of(alloc, request.job.reads_widely(), asked.text) {
+        Ok(offsets) => Ok(PlacedPens { pens, offsets }),
+        Err(_) => Err(CallFault::Memory),
+    }
 }
 
-/// Writes pens at the front of a caller's room. Answers: done; or the room is too small, and nothing is written.
-fn write_pens(pens: &[Pen], room: &mut [CPen]) -> CAnswer
-    ensures done { result.status ≡ 0 → ArePensTold pens.now room.old room.new result }
+/// Writes pens with their offsets at the front of a caller's room. Answers: done; or the room is too small, and nothing is written.
+fn write_pens(pens: &[Pen], offsets: &[usize], room: &mut [CPen]) -> CAnswer
+    requires { length pens.now ≡ length offsets.now }
+    ensures done { result.status ≡ 0 → ArePensTold pens.now offsets.now room.old room.new result }
     ensures small { result.status ≢ 0 → IsEntriesSmall (length pens.now) (length room.old) result }
     ensures kept { result.status ≢ 0 → room.new ≡ room.old }
 {
@@ -139,7 +158,7 @@ fn write_pens(pens: &[Pen], room: &mut [CPen]) -> CAnswer
         return sized(ROOM, 0, count as u64);
     }
     for i in 0..count {
-        room[i] = pen_of(&pens[i]);
+        room[i] = pen_of(&pens[i], offsets[i]);
     }
     sized(DONE, 0, count as u64)
 }
@@ -151,7 +170,7 @@ pub fn pens(alloc: Global, request: &TextRequest, room: &mut [CPen]) -> CAnswer
     ensures { PlacesPens request.now.job.now request.now.text.now request.now.font.now room.old room.new result }
 {
     match pens_of(alloc, request) {
-        Ok(pens) => write_pens(&pens, room),
+        Ok(placed) => write_pens(&placed.pens, &placed.offsets, room),
         Err(fault) => answer_of(fault),
     }
 }

@@ -12,8 +12,10 @@ mod line_drawing;
 mod mapping;
 mod measuring;
 mod messages;
+mod offsets;
 mod opening;
 mod pictures;
+mod strikes;
 
 pub use answer::CAnswer;
 pub use asked::{CJob, TextRequest};
@@ -26,3 +28,4 @@ pub use measuring::{CBox, CCharacter, CMeasure, characters, measure};
 pub use messages::message;
 pub use opening::{CFont, faces, open};
 pub use pictures::{Band, CPicture};
+pub use strikes::{CStrike, CUnderline, strike};

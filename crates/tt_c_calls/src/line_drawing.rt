@@ -3,7 +3,7 @@
 ghost use Rattle.std.specs.Prelude.{◌≡◌, ◌≢◌, ◌+◌, ◌<◌, ◌≤◌, ℕ, List, length};
 ghost use Rattle.tt_c_calls.specs.Answers.{DefectStands};
 ghost use Rattle.tt_c_calls.specs.Asked.{IsAskedDefect};
-ghost use Rattle.tt_c_calls.specs.Lines.{DrawsLines, DrawsTexts, EndsWith, IsCachedAtEnd, IsLineWritten, IsLinesDefect, IsStrikeFor, IsTextStopped, LineDefectStands, stopped_answer};
+ghost use Rattle.tt_c_calls.specs.Lines.{DrawsLines, DrawsTexts, EndsWith, IsCachedAtEnd, IsLineWritten, IsLinesDefect, IsStrikeFor, IsTextStopped, LineDefectStands, blank_line, is_blank, stopped_answer};
 
 use crate::answer::{CAnswer, DONE, ROOM, answer_of, sized};
 use crate::asked::{CJob, fit_of, text_of};
@@ -33,6 +33,30 @@ pub struct Texts<'a> {
     pub ends: &'a [u64],
 }
 
+/// Whether a line is blank: the job says so, and the line has no byte.
+fn is_blank(job: &CJob, line: &[u8]) -> bool
+    ensures { result ≡ is_blank job.now line.now }
+{
+    job.blank != 0 && line.is_empty()
+}
+
+/// The entry of a blank line, whose picture has no column and no row.
+fn blank_line(at: usize) -> CLine
+    ensures { result ≡ blank_line at }
+{
+    let picture = CPicture {
+        width: 0,
+        height: 0,
+        row_bytes: 0,
+        baseline: 0,
+        unfitted: 0,
+    };
+    CLine {
+        picture,
+        at: at as u64,
+    }
+}
+
 /// The answer of a call that a line stopped, by the line's own answer. The `count` lines before it were drawn in `used`
 /// bytes.
 fn stopped(answer: CAnswer, used: usize, count: usize) -> CAnswer
@@ -47,7 +71,7 @@ fn stopped(answer: CAnswer, used: usize, count: usize) -> CAnswer
 }
 
 /// Draws a line at the front of a room, which is at place `at` of the caller's room. Answers as `draw_band`, for the
-/// whole picture. Beside the answer it returns what the line takes of the budget of the call.
+/// whole picture; a blank line is done at once. Beside the answer it returns what the line takes of the budget of the call.
 fn draw_line(
     strike: &mut Strike,
     job: &CJob,
@@ -66,6 +90,10 @@ fn draw_line(
     ensures strike { strike.new ≡ record strike.old { kept = strike.new.kept } }
     ensures stands { DefectStands (IsAskedDefect job.now line.now font) result.0 }
 {
+    if is_blank(job, line) {
+        *told = blank_line(at);
+        return (sized(DONE, 0, 0), 0);
+    }
     let text = match text_of(line) {
         Ok(text) => text,
         Err(fault) => return (answer_of(fault), 0),

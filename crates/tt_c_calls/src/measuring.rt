@@ -6,11 +6,13 @@ ghost use Rattle.tt_strike.specs.Defects.{TellsDefects};
 ghost use Rattle.tt_strike.specs.Measures.{measure_view};
 ghost use Rattle.tt_c_calls.specs.Asked.{IsAskedDefect};
 ghost use Rattle.tt_c_calls.specs.Measures.{AreCharactersTold, IsEntriesSmall, IsMeasureOf, MeasuresText, PlacesCharacters, box_told, character_told, measure_told, measure_wanted};
+ghost use Rattle.tt_c_calls.specs.Offsets.{offsets_asked};
 ghost use Rattle.tt_c_calls.specs.Refusals.{call_font_fault, call_refusal};
 
 use crate::answer::{CAnswer, DONE, ROOM, answer_of, sized};
-use crate::asked::{TextRequest, job_of};
+use crate::asked::{TextRequest, job_of, text_of};
 use crate::fault::CallFault;
+use crate::offsets::offsets_of;
 use crate::opening::opened_face;
 use std::alloc::Global;
 use tt_render_lines::make_measure;
@@ -57,6 +59,15 @@ pub struct CCharacter {
     pub has_ink: u64,
     /// The box of the glyph's black pixels.
     pub ink: CBox,
+    /// Where the unit begins, in bytes from the start of the text.
+    pub offset: u64,
+}
+
+/// The measure of a text, and the offset of each of its units.
+#[derive(Drop)]
+struct PlacedCharacters {
+    measure: Measure,
+    offsets: Vec<usize>,
 }
 
 /// The box of some ink, all 0 where there is none.
@@ -79,8 +90,8 @@ fn box_of(ink: Option<InkBox>) -> CBox
     }
 }
 
-fn character_of(character: &CharacterMeasure) -> CCharacter
-    ensures { result ≡ character_told character.now }
+fn character_of(character: &CharacterMeasure, offset: usize) -> CCharacter
+    ensures { result ≡ character_told (character.now, offset) }
 {
     CCharacter {
         glyph: u32::from(character.glyph),
@@ -88,6 +99,7 @@ fn character_of(character: &CharacterMeasure) -> CCharacter
         pen: character.pen,
         has_ink: u64::from(character.ink.is_some()),
         ink: box_of(character.ink),
+        offset: offset as u64,
     }
 }
 
@@ -135,10 +147,32 @@ pub fn measure(alloc: Global, request: &TextRequest, told: &mut CMeasure) -> CAn
     }
 }
 
-/// Writes the units of a text at the front of a caller's room. Answers: done; or the room is too small, and
-/// nothing is written.
-fn write_characters(measured: &[CharacterMeasure], room: &mut [CCharacter]) -> CAnswer
-    ensures done { result.status ≡ 0 → AreCharactersTold measured.now room.old room.new result }
+/// The measure of a text by a font file, and the offsets of its units. Errors: those of `measured`.
+fn placed(alloc: Global, request: &TextRequest) -> Result<PlacedCharacters, CallFault>
+    ensures exact { GivesUnless call_refusal (λ p. measure_view p.measure) result (measure_wanted request.now.job.now request.now.text.now request.now.font.now) }
+    ensures offsets { IfOk result (λ p. p.offsets.items ≡ offsets_asked request.now.job.now request.now.text.now) }
+    ensures count { IfOk result (λ p. length p.measure.characters.items ≡ length p.offsets.items) }
+    ensures defects { TellsDefects call_font_fault (IsAskedDefect request.now.job.now request.now.text.now request.now.font.now) result }
+{
+    let measure = measured(alloc, request)?;
+    let text = text_of(request.text)?;
+    tt_line::laws::glyphs_are_placed();
+    tt_line::laws::steps_lead();
+    match offsets_of(alloc, request.job.reads_widely(), text) {
+        Ok(offsets) => Ok(PlacedCharacters { measure, offsets }),
+        Err(_) => Err(CallFault::Memory),
+    }
+}
+
+/// Writes the units of a text with their offsets at the front of a caller's room. Answers: done; or the room is too small,
+/// and nothing is written.
+fn write_characters(
+    measured: &[CharacterMeasure],
+    offsets: &[usize],
+    room: &mut [CCharacter],
+) -> CAnswer
+    requires { length measured.now ≡ length offsets.now }
+    ensures done { result.status ≡ 0 → AreCharactersTold measured.now offsets.now room.old room.new result }
     ensures small { result.status ≢ 0 → IsEntriesSmall (length measured.now) (length room.old) result }
     ensures kept { result.status ≢ 0 → room.new ≡ room.old }
 {
@@ -147,7 +181,7 @@ fn write_characters(measured: &[CharacterMeasure], room: &mut [CCharacter]) -> C
         return sized(ROOM, 0, count as u64);
     }
     for i in 0..count {
-        room[i] = character_of(&measured[i]);
+        room[i] = character_of(&measured[i], offsets[i]);
     }
     sized(DONE, 0, count as u64)
 }
@@ -158,8 +192,8 @@ fn write_characters(measured: &[CharacterMeasure], room: &mut [CCharacter]) -> C
 pub fn characters(alloc: Global, request: &TextRequest, room: &mut [CCharacter]) -> CAnswer
     ensures { PlacesCharacters request.now.job.now request.now.text.now request.now.font.now room.old room.new result }
 {
-    match measured(alloc, request) {
-        Ok(measure) => write_characters(&measure.characters, room),
+    match placed(alloc, request) {
+        Ok(placed) => write_characters(&placed.measure.characters, &placed.offsets, room),
         Err(fault) => answer_of(fault),
     }
 }

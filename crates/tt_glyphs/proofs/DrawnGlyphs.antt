@@ -6,7 +6,7 @@ use Rattle.tt_core.specs.Faults.{Fault}
 use Rattle.tt_fit.specs.declared.programs.Fit.{Fit}
 use Rattle.tt_fit.specs.Fitting.{Fitter, fitted_outline, unfitted_fault}
 use Rattle.tt_fit.specs.outline.Outline.{Outline}
-use Rattle.tt_fit.specs.outline.Steps.{step_of}
+use Rattle.tt_fit.specs.outline.Steps.{advance_left, step_of}
 use Rattle.tt_line.specs.Layout.{advance_in_pixels}
 use Rattle.tt_metrics.specs.Metrics.{Metrics}
 use Rattle.tt_picture.specs.Ink.{glyph_ink, ink_by}
@@ -69,6 +69,7 @@ record IsOf (s : Fitter) (g : ℕ) (e : EdgedOutline) (o : Outline) : Type 0 whe
   contours : IfSome (filled_by s g o) (λ rules. contours_at e.tape.edges e.ends.items ≡ contours_of (chords_with s) 0 o)
   filled : e.filled ≡ filled_by s g o
   step : e.step ≡ step_of o
+  advance : e.advance_left ≡ advance_left o
   unfitted : e.unfitted ≡ unfitted_fault s g
 
 is_of : (s : Fitter) (g : ℕ) (e : EdgedOutline) (r : RuledOutline) (has : HasOutline s g r) → IsEdged r e → IsOf s g e has.outline
@@ -78,6 +79,7 @@ is_of s g e r has edged = record {
   contours = rw has.ruled at edged.contours;
   filled = rw has.ruled at edged.filled;
   step = rw has.ruled at edged.step;
+  advance = rw has.ruled at edged.advance;
   unfitted = rw has.ruled at edged.unfitted;
 }
 
@@ -106,6 +108,7 @@ same_edged s g e f is by =
         filled = edged.filled;
         chords = edged.chords;
         step = edged.step;
+        advance = edged.advance;
         unfitted = edged.unfitted;
       }),
     )
@@ -130,17 +133,23 @@ ink_is s g e ink by is =
 
 -- the report
 
-told_large : (advance : ℕ) (unfitted : Option Fault) (p : InkPlace) → is_large p ≡ true → made_within advance unfitted p ≡ told.Large
-told_large advance unfitted p large = rw large refl
+told_large : (advance : ℕ) (left : ℤ) (unfitted : Option Fault) (p : InkPlace) → is_large p ≡ true
+    → made_within advance left unfitted p ≡ told.Large
+told_large advance left unfitted p large = rw large refl
 
-told_made : (advance : ℕ) (unfitted : Option Fault) (p : InkPlace) → is_large p ≡ false
-    → made_within advance unfitted p ≡ told.Made (record { advance = advance; place = p; unfitted = unfitted })
-told_made advance unfitted p small = rw small refl
+told_made : (advance : ℕ) (left : ℤ) (unfitted : Option Fault) (p : InkPlace) → is_large p ≡ false
+    → made_within advance left unfitted p
+    ≡ told.Made (record { advance = advance; advance_left = left; place = p; unfitted = unfitted })
+told_made advance left unfitted p small = rw small refl
 
 pub told_is : (how : Fit) (s : Fitter) (g : ℕ) (o : Outline) (p : InkPlace) → fitted_outline s g ≡ Ok o → p ≡ place_of (glyph_ink s g)
-    → glyph_told how s g ≡ made_within (advance_by how s g) (unfitted_fault s g) p
+    → glyph_told how s g ≡ made_within (advance_by how s g) (glyph_advance s g) (unfitted_fault s g) p
 unfolding glyph_told
 told_is how s g o p made at = rw (made, at) refl
+
+left_is : (s : Fitter) (g : ℕ) (o : Outline) → fitted_outline s g ≡ Ok o → glyph_advance s g ≡ advance_left o
+unfolding glyph_advance
+left_is s g o made = rw made refl
 
 step_is : (s : Fitter) (g : ℕ) (o : Outline) → fitted_outline s g ≡ Ok o → glyph_step s g ≡ step_of o
 unfolding glyph_advance
@@ -223,19 +232,24 @@ large_drawn how s g p e at by large =
     let (r, ruled, edged) = by in
     let has = has_outline s g r ruled in
     record {
-      told = sym (told_is how s g has.outline p has.made at ∙ told_large (advance_by how s g) (unfitted_fault s g) p large);
+      told = sym (told_is how s g has.outline p has.made at ∙ told_large (advance_by how s g) (glyph_advance s g) (unfitted_fault s g) p large);
       rows = refl;
     }
 
 abbrev made_as : FitterSource → Fit → ℕ → InkPlace → EdgedOutline → Told
 made_as z how g p e =
-    told.Made (record { advance = advance_of z.face.now.metrics z.ppem how g e.step; place = p; unfitted = e.unfitted })
+    told.Made (record {
+      advance = advance_of z.face.now.metrics z.ppem how g e.step;
+      advance_left = e.advance_left;
+      place = p;
+      unfitted = e.unfitted;
+    })
 
 made_told : (z : FitterSource) (how : Fit) (s : Fitter) (g : ℕ) (p : InkPlace) (e : EdgedOutline) (o : Outline) → IsSourceOf z s
     → p ≡ place_of (glyph_ink s g) → IsOf s g e o → is_large p ≡ false → made_as z how g p e ≡ glyph_told how s g
 made_told z how s g p e o source at of small =
-    rw (advance_is z how s g e.step o source of.made of.step, of.unfitted)
-    (sym (told_is how s g o p of.made at ∙ told_made (advance_by how s g) (unfitted_fault s g) p small))
+    rw (advance_is z how s g e.step o source of.made of.step, of.advance, ← (left_is s g o of.made), of.unfitted)
+    (sym (told_is how s g o p of.made at ∙ told_made (advance_by how s g) (glyph_advance s g) (unfitted_fault s g) p small))
 
 -- a glyph without ink
 

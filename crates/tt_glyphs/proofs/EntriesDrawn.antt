@@ -33,7 +33,7 @@ use Rattle.tt_glyphs.specs.declared.place.InkPlace.{InkPlace}
 use Rattle.tt_glyphs.specs.declared.told.MadeBitmap.{MadeBitmap}
 use Rattle.tt_glyphs.specs.declared.told.Told.TheVariants as told
 use Rattle.tt_glyphs.specs.Entries.{advance_by, all_rows, entry_of, glyph_told, known, number_bytes, number_rows, number_told, outline_rows, told_rows}
-use Rattle.tt_glyphs.specs.EntryLaws.{AdvancesAreDrawn, RowsAreDrawn, UnboundedAreAlike, has_bit}
+use Rattle.tt_glyphs.specs.EntryLaws.{AdvancesAreDrawn, AdvancesAreRounded, RowsAreDrawn, UnboundedAreAlike, has_bit}
 use Rattle.tt_glyphs.specs.GlyphLaws.{entry_shows, lies_in, outline_shows}
 use Rattle.tt_glyphs.proofs.BitmapRows.{row_within}
 use Rattle.tt_glyphs.proofs.DrawnGlyphs.{told_is, told_refused}
@@ -100,7 +100,12 @@ advance_alike how t u g same alike =
 record IsMadeBy (how : Fit) (t : Fitter) (g : ℕ) (m : MadeBitmap) : Type 0 where
   outline : Outline
   fitted : fitted_outline t g ≡ Ok outline
-  is : m ≡ record { advance = advance_by how t g; place = place_of (glyph_ink t g); unfitted = unfitted_fault t g }
+  is : m ≡ record {
+    advance = advance_by how t g;
+    advance_left = glyph_advance t g;
+    place = place_of (glyph_ink t g);
+    unfitted = unfitted_fault t g;
+  }
 
 made_is : (large : Bool) (b m : MadeBitmap) → (if large then told.Large else told.Made b) ≡ told.Made m → m ≡ b
 made_is true b m is = absurd cc
@@ -110,7 +115,12 @@ made_by : (how : Fit) (t : Fitter) (g : ℕ) (m : MadeBitmap) (x : Result Outlin
     → glyph_told how t g ≡ told.Made m → IsMadeBy how t g m
 made_by how t g m (Ok o) is report =
     let p = place_of (glyph_ink t g) in
-    let b : MadeBitmap = record { advance = advance_by how t g; place = p; unfitted = unfitted_fault t g } in
+    let b : MadeBitmap = record {
+      advance = advance_by how t g;
+      advance_left = glyph_advance t g;
+      place = p;
+      unfitted = unfitted_fault t g;
+    } in
     record { outline = o; fitted = is; is = made_is (is_large p) b m (sym (told_is how t g o p is refl) ∙ report) }
 made_by how t g m (Err fault) is report =
     absurd (let broken : told.Broken fault ≡ told.Made m = sym (told_refused how t g fault is) ∙ report in cc)
@@ -208,6 +218,14 @@ advances_are_drawn how s gs line g m report alike =
     let same : without_work u ≡ without_work t = maker_alike s line g ∙ sym (maker_alike s (known s gs) g) in
     let of = is_made how s gs g m report in
     ap (λ (b : MadeBitmap). b.advance) of.is ∙ sym (advance_alike how t u g same (sym alike))
+
+pub advances_are_rounded : AdvancesAreRounded
+advances_are_rounded how s gs g m report lays =
+    let of = is_made how s gs g m report in
+    let t = line_fitter s (known s gs) g in
+    let left : m.advance_left ≡ glyph_advance t g = ap (λ (b : MadeBitmap). b.advance_left) of.is in
+    let step : advance_by how t g ≡ glyph_step t g = rw lays refl in
+    ap (λ (b : MadeBitmap). b.advance) of.is ∙ step ∙ sym (ap pixels_of left)
 
 pub unbounded_are_alike : UnboundedStays → UnboundedAreAlike
 unbounded_are_alike stays s gs line g none =

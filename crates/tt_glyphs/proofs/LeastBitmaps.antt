@@ -29,6 +29,7 @@ use Rattle.tt_glyphs.specs.declared.place.InkPlace.{InkPlace}
 use Rattle.tt_glyphs.specs.declared.told.MadeBitmap.{MadeBitmap}
 use Rattle.tt_glyphs.specs.declared.told.Told.TheVariants as told
 use Rattle.tt_glyphs.specs.Drawn.{column_of, line_of}
+use Rattle.tt_picture.specs.Steps.{glyph_advance}
 use Rattle.tt_glyphs.specs.Entries.{advance_by, made_within}
 use Rattle.tt_glyphs.specs.GlyphLaws.{BitmapsAreLeast, HasInkAtSides}
 use Rattle.tt_glyphs.proofs.DrawnGlyphs.{filled_here, told_is}
@@ -134,18 +135,18 @@ sides black b pixel are least =
 
 -- the place of a bitmap that is made
 
-abbrev made_at : ℕ → Option Fault → InkPlace → MadeBitmap
-made_at advance unfitted p = record { advance = advance; place = p; unfitted = unfitted }
+abbrev made_at : ℕ → ℤ → Option Fault → InkPlace → MadeBitmap
+made_at advance left unfitted p = record { advance = advance; advance_left = left; place = p; unfitted = unfitted }
 
 same_made : (a b : MadeBitmap) → told.Made a ≡ told.Made b → a ≡ b
 same_made a b is = cc
 
-place_by : (advance : ℕ) (unfitted : Option Fault) (p : InkPlace) (m : MadeBitmap) (large : Bool) → is_large p ≡ large
-    → made_within advance unfitted p ≡ told.Made m → m.place ≡ p
-place_by advance unfitted p m true is made = let other : told.Large ≡ told.Made m = rw is at made in absurd cc
-place_by advance unfitted p m false is made =
-    let own : told.Made (made_at advance unfitted p) ≡ told.Made m = rw is at made in
-    sym (ap (λ (m : MadeBitmap). m.place) (same_made (made_at advance unfitted p) m own))
+place_by : (advance : ℕ) (left : ℤ) (unfitted : Option Fault) (p : InkPlace) (m : MadeBitmap) (large : Bool) → is_large p ≡ large
+    → made_within advance left unfitted p ≡ told.Made m → m.place ≡ p
+place_by advance left unfitted p m true is made = let other : told.Large ≡ told.Made m = rw is at made in absurd cc
+place_by advance left unfitted p m false is made =
+    let own : told.Made (made_at advance left unfitted p) ≡ told.Made m = rw is at made in
+    sym (ap (λ (m : MadeBitmap). m.place) (same_made (made_at advance left unfitted p) m own))
 
 pub ink_of : (s : Fitter) (g : ℕ) (o : Outline) → fitted_outline s g ≡ Ok o
     → glyph_ink s g ≡ ink_by (edges_at (chords_with s) 0 o) (contours_of (chords_with s) 0 o) (filled_by s g o)
@@ -169,6 +170,6 @@ pub bitmaps_are_least : BoxLaws → BitmapsAreLeast
 bitmaps_are_least laws how s g m o report made some =
     let p = place_of (glyph_ink s g) in
     let within = sym (told_is how s g o p made refl) ∙ report in
-    let at : m.place ≡ p = place_by (advance_by how s g) (unfitted_fault s g) p m (is_large p) refl within in
+    let at : m.place ≡ p = place_by (advance_by how s g) (glyph_advance s g) (unfitted_fault s g) p m (is_large p) refl within in
     let held : IsInk (outline_black (filled_by s g o) (chords_with s) o) (glyph_ink s g) = rw (ink_of s g o made) (outline_held laws s g o) in
     least_by s g o m.place (glyph_ink s g) held at some

@@ -1,5 +1,5 @@
 -- The tests of a list one after the other, the facts that refuse a list, and the defects that its reports tell.
-use Rattle.std.proofs.Common.{◌≡◌, ◌∙◌, refl, sym, ap, ℕ, zero, suc, ◌<◌, nat_lt, Bool, true, false, ◌||◌, ◌==◌, List, [], ◌∷◌, map, length, get_or, Option, Result, Ok, Err, All, ◌⊎◌, inl, inr, if◌then◌else◌, subst, arith}
+use Rattle.std.proofs.Common.{◌≡◌, ◌∙◌, refl, sym, ap, ℕ, zero, suc, ◌<◌, nat_lt, Bool, true, false, ◌||◌, ◌==◌, List, [], ◌∷◌, map, length, get_or, Option, Result, Ok, Err, All, ◌⊎◌, inl, inr, if◌then◌else◌, ℤ, subst, arith}
 use Rattle.std.specs.Prelude.{IsOkAnd}
 use Rattle.std.specs.List.{slice_index}
 use Rattle.std.proofs.lemmas.Bool.Decides.{nat_tests}
@@ -19,7 +19,7 @@ use Rattle.tt_fit.specs.outline.Outline.{Outline}
 use Rattle.tt_metrics.specs.Metrics.{Metrics, glyphs_of}
 use Rattle.tt_picture.specs.Distinct.{distinct, is_among}
 use Rattle.tt_picture.specs.Ink.{glyph_ink}
-use Rattle.tt_picture.specs.Steps.{outlines_by}
+use Rattle.tt_picture.specs.Steps.{glyph_advance, outlines_by}
 use Rattle.tt_strike.specs.Defects.{IsGlyphDefect, IsLineDefect, IsSettingDefect}
 use Rattle.tt_strike.specs.Job.{size_tested}
 use Rattle.tt_strike.specs.Makers.{job_at}
@@ -169,15 +169,15 @@ edges_refused face a s j begun was = elim (was-err (as_job (edges_of_list_tested
 
 -- what the reports tell of defects
 
-tells_made : (s : Fitter) (g advance : ℕ) (unfitted : Option Fault) (p : InkPlace) (o : Outline) (large : Bool)
-    → fitted_outline s g ≡ Ok o → is_large p ≡ large → TellsDefectsOf s g (made_within advance unfitted p)
-tells_made s g advance unfitted p o true made is = rw is (outlines-whole s g o made)
-tells_made s g advance unfitted p o false made is = rw is (outlines-whole s g o made)
+tells_made : (s : Fitter) (g advance : ℕ) (left : ℤ) (unfitted : Option Fault) (p : InkPlace) (o : Outline) (large : Bool)
+    → fitted_outline s g ≡ Ok o → is_large p ≡ large → TellsDefectsOf s g (made_within advance left unfitted p)
+tells_made s g advance left unfitted p o true made is = rw is (outlines-whole s g o made)
+tells_made s g advance left unfitted p o false made is = rw is (outlines-whole s g o made)
 
 tells_by : (how : Fit) (s : Fitter) (g : ℕ) (f : Result Outline Fault) → fitted_outline s g ≡ f → TellsDefectsOf s g (glyph_told how s g)
 tells_by how s g (Ok o) is =
     let p = place_of (glyph_ink s g) in
-    rw (told_is how s g o p is refl) (tells_made s g (advance_by how s g) (unfitted_fault s g) p o (is_large p) is refl)
+    rw (told_is how s g o p is refl) (tells_made s g (advance_by how s g) (glyph_advance s g) (unfitted_fault s g) p o (is_large p) is refl)
 tells_by how s g (Err f) is = rw (told_refused how s g f is) (faults-stand s g f is)
 
 tells_if : (below : Bool) (how : Fit) (s : Fitter) (g : ℕ) → TellsDefectsOf s g (if below then glyph_told how s g else told.Unknown)
@@ -229,10 +229,10 @@ made_known s gs os g made among below =
     each_made (line_fitter s (known s gs)) (distinct (known s gs)) os g made
     (among_distinct g (known s gs) ∙ among_filter p g gs below ∙ among)
 
-sound_made : (count g advance : ℕ) (unfitted : Option Fault) (p : InkPlace) (large : Bool) → is_large p ≡ large
-    → IsSoundReport count g (made_within advance unfitted p)
-sound_made count g advance unfitted p true is = rw is tt
-sound_made count g advance unfitted p false is = rw is tt
+sound_made : (count g advance : ℕ) (left : ℤ) (unfitted : Option Fault) (p : InkPlace) (large : Bool) → is_large p ≡ large
+    → IsSoundReport count g (made_within advance left unfitted p)
+sound_made count g advance left unfitted p true is = rw is tt
+sound_made count g advance left unfitted p false is = rw is tt
 
 sound_by : (below : Bool) (how : Fit) (s : Fitter) (g count : ℕ) → nat_lt g count ≡ below
     → (below ≡ true → (o : Outline) × (fitted_outline s g ≡ Ok o))
@@ -240,7 +240,7 @@ sound_by : (below : Bool) (how : Fit) (s : Fitter) (g count : ℕ) → nat_lt g 
 sound_by true how s g count is made =
     let o = made refl in
     let p = place_of (glyph_ink s g) in
-    rw (told_is how s g o.0 p o.1 refl) (sound_made count g (advance_by how s g) (unfitted_fault s g) p (is_large p) refl)
+    rw (told_is how s g o.0 p o.1 refl) (sound_made count g (advance_by how s g) (glyph_advance s g) (unfitted_fault s g) p (is_large p) refl)
 sound_by false how s g count is made = grind (arith, nat_tests, is)
 
 pub entries_sound : (how : Fit) (s : Fitter) (gs : List ℕ) (os : List Outline) → outlines_in s (known s gs) ≡ Ok os

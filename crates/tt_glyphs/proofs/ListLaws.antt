@@ -1,5 +1,5 @@
 -- Laws of the bitmaps of a list.
-use Rattle.std.proofs.Common.{◌≡◌, ◌∙◌, refl, sym, ap, ap₂, ℕ, ◌+◌, ◌*◌, Bool, true, false, ◌==◌, nat_lt, if◌then◌else◌, List, [], ◌∷◌, length, Option, None, Result, Ok, Err}
+use Rattle.std.proofs.Common.{◌≡◌, ◌∙◌, refl, sym, ap, ap₂, ℕ, ◌+◌, ◌*◌, Bool, true, false, ◌==◌, nat_lt, if◌then◌else◌, ℤ, List, [], ◌∷◌, length, Option, None, Result, Ok, Err}
 use Rattle.std.specs.List.{flat_map, sum_by}
 use Rattle.std.proofs.lemmas.List.{get_or-map, length-append}
 use Rattle.std.proofs.lemmas.List.Sums.{sum_by-cons}
@@ -18,6 +18,7 @@ use Rattle.tt_strike.specs.Work.{line_fitter, point_work, points_in}
 use Rattle.tt_glyphs.specs.Bitmaps.{bitmap_pixel, is_large, place_bytes, place_of}
 use Rattle.tt_glyphs.specs.declared.place.InkPlace.{InkPlace}
 use Rattle.tt_glyphs.specs.declared.told.Told.TheVariants as told
+use Rattle.tt_picture.specs.Steps.{glyph_advance}
 use Rattle.tt_glyphs.specs.Entries.{advance_by, entry_of, glyph_told, known, made_within, number_bytes, number_rows, told_bytes, told_rows}
 use Rattle.tt_glyphs.specs.GlyphLaws.{OrderChangesNothing, RepeatsAreEqual, RowsAreCounted}
 use Rattle.tt_glyphs.proofs.DrawnGlyphs.{told_is, told_refused}
@@ -53,18 +54,18 @@ order_changes_nothing stays how s gs hs g none =
 
 -- a report has the bytes of its rows
 
-made_length : (s : Fitter) (g : ℕ) (o : Outline) (p : InkPlace) (advance : ℕ) (unfitted : Option Fault) (large : Bool)
+made_length : (s : Fitter) (g : ℕ) (o : Outline) (p : InkPlace) (advance : ℕ) (left : ℤ) (unfitted : Option Fault) (large : Bool)
     → fitted_outline s g ≡ Ok o → is_large p ≡ large
-    → length (told_rows s g (made_within advance unfitted p)) ≡ told_bytes (made_within advance unfitted p)
-made_length s g o p advance unfitted true made is = rw is refl
-made_length s g o p advance unfitted false made is =
+    → length (told_rows s g (made_within advance left unfitted p)) ≡ told_bytes (made_within advance left unfitted p)
+made_length s g o p advance left unfitted true made is = rw is refl
+made_length s g o p advance left unfitted false made is =
     rw (is, made) (length-rows p.width (bitmap_pixel (shape_at s (g, 0) o) p) 0 (place_bytes p))
 
 length_by : (how : Fit) (s : Fitter) (g : ℕ) (f : Result Outline Fault) → fitted_outline s g ≡ f
     → length (told_rows s g (glyph_told how s g)) ≡ told_bytes (glyph_told how s g)
 length_by how s g (Ok o) is =
     let p = place_of (glyph_ink s g) in
-    rw (told_is how s g o p is refl) (made_length s g o p (advance_by how s g) (unfitted_fault s g) (is_large p) is refl)
+    rw (told_is how s g o p is refl) (made_length s g o p (advance_by how s g) (glyph_advance s g) (unfitted_fault s g) (is_large p) is refl)
 length_by how s g (Err fault) is = rw (told_refused how s g fault is) refl
 
 known_length : (how : Fit) (s : Fitter) (g : ℕ) (b : Bool)

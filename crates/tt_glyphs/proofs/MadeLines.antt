@@ -1,5 +1,5 @@
 -- Where the ink of a line lies in its picture, the bitmaps of its glyphs are made.
-use Rattle.std.proofs.Common.{◌≡◌, refl, ap, ℕ, ◌<◌, ◌≤◌, true, false, nat_lt, if◌then◌else◌, pos, ◌+ℤ◌, ◌-ℤ◌, unsigned_abs, List, [], ◌∷◌, get_or, map, Option, None, Some, Ok, All, arith}
+use Rattle.std.proofs.Common.{◌≡◌, refl, ap, ℕ, ◌<◌, ◌≤◌, true, false, nat_lt, if◌then◌else◌, ℤ, pos, ◌+ℤ◌, ◌-ℤ◌, unsigned_abs, List, [], ◌∷◌, get_or, map, Option, None, Some, Ok, All, arith}
 use Rattle.std.specs.List.{filter}
 use Rattle.std.proofs.lemmas.Bool.Decides.{nat_tests}
 use Rattle.std.proofs.lemmas.Int.{ints}
@@ -24,6 +24,7 @@ use Rattle.tt_strike.specs.Picture.{drawn, frame_of, setting_in}
 use Rattle.tt_strike.specs.Work.{line_fitter}
 use Rattle.tt_glyphs.specs.Bitmaps.{is_large, place_of}
 use Rattle.tt_glyphs.specs.declared.told.Told.TheVariants as told
+use Rattle.tt_picture.specs.Steps.{glyph_advance}
 use Rattle.tt_glyphs.specs.Entries.{advance_by, glyph_told, known, made_within, number_told}
 use Rattle.tt_glyphs.specs.GlyphLaws.{IsMade, IsWithin, LinesAreMade}
 use Rattle.tt_glyphs.proofs.DrawnGlyphs.{told_is}
@@ -76,15 +77,15 @@ small_by f pen (Some b) within wide high =
 
 -- a glyph that is not too large is made
 
-made_by : (advance : ℕ) (unfitted : Option Fault) (x : Option LeastBox) → is_large (place_of x) ≡ false
-    → IsMade (made_within advance unfitted (place_of x))
-made_by advance unfitted x small = rw small tt
+made_by : (advance : ℕ) (left : ℤ) (unfitted : Option Fault) (x : Option LeastBox) → is_large (place_of x) ≡ false
+    → IsMade (made_within advance left unfitted (place_of x))
+made_by advance left unfitted x small = rw small tt
 
 glyph_made : (how : Fit) (s : Fitter) (g : ℕ) (o : Outline) → fitted_outline s g ≡ Ok o
     → is_large (place_of (glyph_ink s g)) ≡ false → IsMade (glyph_told how s g)
 glyph_made how s g o made small =
     rw (told_is how s g o (place_of (glyph_ink s g)) made refl)
-    (made_by (advance_by how s g) (unfitted_fault s g) (glyph_ink s g) small)
+    (made_by (advance_by how s g) (glyph_advance s g) (unfitted_fault s g) (glyph_ink s g) small)
 
 number_made : (how : Fit) (t : Fitter) (g count : ℕ) → g < count → IsMade (glyph_told how t g)
     → IsMade (if nat_lt g count then glyph_told how t g else told.Unknown)

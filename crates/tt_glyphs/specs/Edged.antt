@@ -1,7 +1,7 @@
 -- No part of the standard: the edges of an outline at pen 0.
 use Rattle.std.specs.Prelude.{◌≡◌, ℕ, ◌+◌, ◌^◌, ◌≤◌, Bool, ℤ, Option, length, All, IfSome}
 use Rattle.tt_fit.specs.Fitting.{Fitter, fitted_outline}
-use Rattle.tt_fit.specs.outline.Steps.{step_of}
+use Rattle.tt_fit.specs.outline.Steps.{advance_left, step_of}
 use Rattle.tt_picture.specs.Ink.{ink_by}
 use Rattle.tt_glyph_pixels.specs.Shown.{AreClosed, shows}
 use Rattle.tt_picture.specs.Shapes.{contours_of, edges_at, filling_crossings}
@@ -47,6 +47,7 @@ pub record IsEdged (r : RuledOutline) (e : EdgedOutline) : Type 0 where
   pub filled : e.filled ≡ r.filled
   pub chords : e.chords ≡ chords_of r.rule r.outline
   pub step : e.step ≡ step_of r.outline
+  pub advance : e.advance_left ≡ advance_left r.outline
   pub unfitted : e.unfitted ≡ r.unfitted
 
 -- the crossings of an outline's edges in a picture that holds them all, and those of the search for its dropouts

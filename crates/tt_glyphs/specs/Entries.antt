@@ -1,7 +1,7 @@
 -- No part of the standard: the report of each glyph of a list (profile). The glyphs are made as those of a line are: in
 -- the order of the list, each number where it stands first, with one fitter and one bound of work. A glyph with a defect
 -- has its fault in the report, and the others are made.
-use Rattle.std.specs.Prelude.{◌≡◌, refl, ℕ, ◌+◌, ⊤, ◌==◌, nat_lt, if◌then◌else◌, List, [], ◌∷◌, flat_map, map, pos, codes, Option, None, Result, Ok, Err}
+use Rattle.std.specs.Prelude.{◌≡◌, refl, ℕ, ◌+◌, ⊤, ◌==◌, nat_lt, if◌then◌else◌, List, [], ◌∷◌, flat_map, map, ℤ, pos, codes, Option, None, Result, Ok, Err}
 use Rattle.std.specs.List.{filter, sum_by}
 use Rattle.tt_core.specs.declared.fault.Why.TheVariants as why
 use Rattle.tt_core.specs.Faults.{Fault, fault_at}
@@ -13,7 +13,7 @@ use Rattle.tt_metrics.specs.Metrics.{Metrics, glyphs_of}
 use Rattle.tt_picture.specs.Distinct.{distinct}
 use Rattle.tt_picture.specs.Ink.{glyph_ink}
 use Rattle.tt_picture.specs.Shapes.{shape_at}
-use Rattle.tt_picture.specs.Steps.{glyph_step}
+use Rattle.tt_picture.specs.Steps.{glyph_advance, glyph_step}
 use Rattle.tt_strike.specs.Work.{lays_after_glyphs, line_fitter}
 use Rattle.tt_glyphs.specs.Bitmaps.{PlaceFits, bitmap, is_large, place_bytes, place_of}
 use Rattle.tt_glyphs.specs.declared.place.InkPlace.{InkPlace}
@@ -21,9 +21,11 @@ use Rattle.tt_glyphs.specs.declared.told.GlyphEntry.{GlyphEntry}
 use Rattle.tt_glyphs.specs.declared.told.Told.{Told}
 use Rattle.tt_glyphs.specs.declared.told.Told.TheVariants as told
 
-abbrev pub made_within : ℕ → Option Fault → InkPlace → Told
-made_within advance unfitted p = if is_large p then told.Large
-    else told.Made (record { advance = advance; place = p; unfitted = unfitted })
+-- the report of a glyph by its advance in pixels, the distance of its advance's two ends in 26.6 pixels, its fault and its
+-- place
+abbrev pub made_within : ℕ → ℤ → Option Fault → InkPlace → Told
+made_within advance left unfitted p = if is_large p then told.Large
+    else told.Made (record { advance = advance; advance_left = left; place = p; unfitted = unfitted })
 
 abbrev pub told_of : Result Outline Fault → Told → Told
 told_of (Ok o) t = t
@@ -40,7 +42,8 @@ advance_of m ppem how g step = if lays_after_glyphs how then step else advance_i
 -- a glyph of the font, by its fitter
 unfoldable pub glyph_told : Fit → Fitter → ℕ → Told
 glyph_told how s g =
-    told_of (fitted_outline s g) (made_within (advance_by how s g) (unfitted_fault s g) (place_of (glyph_ink s g)))
+    told_of (fitted_outline s g)
+    (made_within (advance_by how s g) (glyph_advance s g) (unfitted_fault s g) (place_of (glyph_ink s g)))
 
 -- the numbers of a list that are glyphs of the font
 abbrev pub known : Fitter → List ℕ → List ℕ
@@ -116,9 +119,14 @@ a_repeated_number = refl
 a_fault_has_no_bytes : told_bytes (told.Broken (fault_at (codes "glyf") 10 why.ComponentDepth)) ≡ 0
 a_fault_has_no_bytes = refl
 
-too_wide : made_within 75 None (record { left = pos 0; top = pos 0; width = 16385; height = 1 }) ≡ told.Large
+too_wide : made_within 75 (pos 4800) None (record { left = pos 0; top = pos 0; width = 16385; height = 1 }) ≡ told.Large
 too_wide = refl
 
-as_wide_as_may_be : made_within 75 None (record { left = pos 0; top = pos 0; width = 16384; height = 4096 })
-    ≡ told.Made (record { advance = 75; place = record { left = pos 0; top = pos 0; width = 16384; height = 4096 }; unfitted = None })
+as_wide_as_may_be : made_within 75 (pos 4799) None (record { left = pos 0; top = pos 0; width = 16384; height = 4096 })
+    ≡ told.Made (record {
+      advance = 75;
+      advance_left = pos 4799;
+      place = record { left = pos 0; top = pos 0; width = 16384; height = 4096 };
+      unfitted = None;
+    })
 as_wide_as_may_be = refl

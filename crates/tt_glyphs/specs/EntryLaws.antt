@@ -4,10 +4,11 @@ use Rattle.std.specs.Int.{bit_at}
 use Rattle.tt_core.specs.Bits.{stride}
 use Rattle.tt_fit.specs.declared.programs.Fit.{Fit}
 use Rattle.tt_fit.specs.Fitting.{Fitter, unfitted_fault}
+use Rattle.tt_fit.specs.outline.Steps.{pixels_of}
 use Rattle.tt_picture.specs.Distinct.{is_among}
 use Rattle.tt_scan_dropouts.specs.Pictures.{column_at, line_at}
 use Rattle.tt_scan_edges.specs.declared.edge.Frame.{Frame}
-use Rattle.tt_strike.specs.Work.{line_fitter}
+use Rattle.tt_strike.specs.Work.{lays_after_glyphs, line_fitter}
 use Rattle.tt_glyphs.specs.declared.place.InkPlace.{InkPlace}
 use Rattle.tt_glyphs.specs.declared.told.MadeBitmap.{MadeBitmap}
 use Rattle.tt_glyphs.specs.declared.told.Told.TheVariants as told
@@ -44,6 +45,11 @@ RowsAreDrawn = (how : Fit) (s : Fitter) (gs line : List ℕ) (g : ℕ × ℕ) (m
 abbrev pub AdvancesAreDrawn : Type 0
 AdvancesAreDrawn = (how : Fit) (s : Fitter) (gs line : List ℕ) (g : ℕ) (m : MadeBitmap)
     → number_told how s gs g ≡ told.Made m → IsMadeAlike s gs line g → m.advance ≡ advance_by how (line_fitter s line g) g
+
+-- where glyphs are fitted before a line is laid out, the advance in whole pixels is the one in 26.6 pixels, rounded
+abbrev pub AdvancesAreRounded : Type 0
+AdvancesAreRounded = (how : Fit) (s : Fitter) (gs : List ℕ) (g : ℕ) (m : MadeBitmap)
+    → number_told how s gs g ≡ told.Made m → lays_after_glyphs how ≡ true → m.advance ≡ pixels_of m.advance_left
 
 -- worked values: nine columns of two rows, behind a byte of another bitmap. The rows begin left of the pen, above the
 -- base line

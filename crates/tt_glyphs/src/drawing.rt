@@ -92,6 +92,7 @@ fn placed(
     }
     let told = Told::Made(MadeBitmap {
         advance: advance_of(source, number, edged.step),
+        advance_left: edged.advance_left,
         place,
         unfitted: edged.unfitted,
     });

@@ -35,6 +35,8 @@ pub(crate) struct EdgedOutline {
     pub(crate) chords: usize,
     /// The pixels from its pen to the next, by its outline.
     pub(crate) step: u32,
+    /// The distance of its advance's two ends, in 26.6 pixels.
+    pub(crate) advance_left: i32,
     /// The fault of the program that makes it unfitted.
     pub(crate) unfitted: Option<Fault>,
 }
@@ -63,6 +65,7 @@ pub(crate) fn edged(alloc: Global, ruled: RuledOutline) -> Result<EdgedOutline, 
         extents,
         chords,
         step: outline.step(),
+        advance_left: outline.advance_left(),
         unfitted: outline.unfitted,
     })
 }

@@ -1,6 +1,6 @@
 //! Lemmas about the definitions, for all glyphs and lists.
 
-ghost use Rattle.tt_glyphs.specs.EntryLaws.{AdvancesAreDrawn, RowsAreDrawn, UnboundedAreAlike};
+ghost use Rattle.tt_glyphs.specs.EntryLaws.{AdvancesAreDrawn, AdvancesAreRounded, RowsAreDrawn, UnboundedAreAlike};
 ghost use Rattle.tt_glyphs.specs.GlyphLaws.{BitmapsAreLeast, LinesAreBitmaps, LinesAreMade, OrderChangesNothing, RepeatsAreEqual, RoomIsExact, RowsAreCounted};
 
 /// Lemma: each side of a bitmap that is made has a black pixel.
@@ -39,10 +39,12 @@ pub fn rows_fit()
 {}
 
 /// Lemma: where a list and a line make a glyph alike, the rows of its entry have its black pixels in the line, and its
-/// entry has its advance there. Where work is not bounded, all glyphs are made alike.
+/// entry has its advance there. Where glyphs are fitted before a line is laid out, the advance is the one in 26.6
+/// pixels, rounded. Where work is not bounded, all glyphs are made alike.
 pub fn entries_are_drawn()
     ensures rows { RowsAreDrawn }
     ensures advances { AdvancesAreDrawn }
+    ensures rounded { AdvancesAreRounded }
     ensures alike { UnboundedAreAlike }
 {
     tt_fit::laws::work_unfits();

@@ -8,6 +8,8 @@ use tt_core::Fault;
 pub struct MadeBitmap {
     /// Columns to the next pen.
     pub advance: u32,
+    /// The distance of the advance's two ends as the outline has them, in 26.6 pixels.
+    pub advance_left: i32,
     pub place: InkPlace,
     /// The fault of the program that makes the glyph unfitted.
     pub unfitted: Option<Fault>,

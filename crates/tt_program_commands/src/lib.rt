@@ -39,7 +39,7 @@ fn program<'a>(alloc: Global) -> Result<Command<'a>, AllocError> {
 fn bare_program<'a>(alloc: Global) -> Command<'a> {
     Command::new(alloc, "tt_render")
         .about("Draws lines of text from a TrueType font")
-        .version("0.2.0")
+        .version("0.3.0")
         .subcommand_required(true)
 }
 

@@ -1,17 +1,19 @@
-use Rattle.std.proofs.Common.{◌≡◌, ◌≢◌, arith, refl}
+use Rattle.std.proofs.Common.{◌≡◌, ◌≢◌, ◌∙◌, ap, arith, length, refl}
 use Rattle.tt_c_calls.specs.Layouts.{pens_wanted}
 use Rattle.tt_c_calls.proofs.Answered.{fails, stands, tells, wants_none}
 use Rattle.tt_c_calls.proofs.laying_out.pens.Goals as goal
 
 pub returns-in-Ok : goal.returns-in-Ok
 returns-in-Ok c =
-    let own = rw c.deref.ensures.value at c.write_pens.ensures in
+    let pens = c.in-Ok.placed.pens.items in
+    let own = rw (c.deref.ensures.value, c.deref-in-Ok.ensures.value, c.in-Ok.ensures.offsets) at c.write_pens.ensures in
+    let count = c.in-Ok.ensures.count ∙ ap length c.in-Ok.ensures.offsets in
     let status = c.write_pens.result.status in
     let seven : status ≢ 0 → status ≡ 7 = λ other. rw (own.small other).1 refl in
     record {
-      done = λ h. (c.in-Ok.pens.items, c.in-Ok.ensures.exact, own.done h);
+      done = λ h. (pens, c.in-Ok.ensures.exact, count, own.done h);
       refused = λ other not_seven. absurd (not_seven (seven other));
-      small = λ h. (c.in-Ok.pens.items, c.in-Ok.ensures.exact, own.small (λ zero. omega (arith, h, zero)));
+      small = λ h. (pens, c.in-Ok.ensures.exact, own.small (λ zero. omega (arith, h, zero)));
       kept = own.kept;
       stands = λ one. absurd (omega (arith, one, seven (λ zero. omega (arith, one, zero))));
     }

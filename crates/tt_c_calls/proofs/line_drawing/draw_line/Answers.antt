@@ -1,9 +1,15 @@
-use Rattle.std.proofs.Common.{◌≡◌, ◌≢◌, arith, refl}
+use Rattle.std.proofs.Common.{◌≡◌, ◌≢◌, [], inl, arith, refl}
 use Rattle.tt_c_calls.specs.Refusals.{call_of_draw}
 use Rattle.tt_c_calls.proofs.Answered.{draw_refused, draw_tells, drawn_too, fails, stands, writes_none}
 use Rattle.tt_c_calls.proofs.StrikeLines.{line_defect, line_refused, line_stopped, line_written, picture_of_line, room_small, text_refused}
 use Rattle.tt_c_calls.proofs.line_drawing.draw_line.Goals as goal
 use Rattle.tt_c_calls.proofs.line_drawing.draw_line.Goals.{then-answer-eq0, else-answer-eq0}
+
+pub returns-then-is_blank-clause-done : goal.returns-then-is_blank-clause-done
+returns-then-is_blank-clause-done g c done =
+    let yes = rw c.is_blank.ensures at c.if-is_blank.true in
+    rw (c.sized.ensures, c.blank_line.ensures)
+    (record { bytes = []; shown = inl (yes, refl, refl, refl); rows = refl; place = refl; answer = refl })
 
 pub returns-in-Err-clause-done : goal.returns-in-Err-clause-done
 returns-in-Err-clause-done g c = rw c.answer_of.ensures (λ h. absurd (fails c.in-Err.fault h))
@@ -24,7 +30,7 @@ returns-in-Err-make_picture-clause-bytes g c =
 pub returns-in-Err-clause-stopped : goal.returns-in-Err-clause-stopped
 returns-in-Err-clause-stopped g c not_done =
     let e = c.in-Err.fault in
-    rw c.answer_of.ensures (line_stopped c.args.job.now g.font c.args.line.now _ e
+    rw c.answer_of.ensures (line_stopped c.args.job.now g.font c.args.line.now _ e (rw c.is_blank.ensures at c.if-is_blank.false)
     (text_refused c.args.job.now g.font c.args.line.now c.args.strike.now e c.requires c.in-Err.ensures.exact))
 
 pub returns-in-Err-clause-stands : goal.returns-in-Err-clause-stands
@@ -36,7 +42,7 @@ returns-in-Err-make_picture-clause-stopped g c not_done =
     let d = c.in-Err-make_picture.fault in
     let exact = rw c.grows.ensures at c.in-Err-make_picture.ensures.exact in
     rw (c.answer_of-in-Err-make_picture.ensures, c.from.ensures)
-    (line_stopped c.args.job.now g.font c.args.line.now _ (call_of_draw d)
+    (line_stopped c.args.job.now g.font c.args.line.now _ (call_of_draw d) (rw c.is_blank.ensures at c.if-is_blank.false)
     (line_refused c.args.job.now g.font c.args.line.now c.in-Ok.text.now c.args.strike.now (call_of_draw d) c.requires
     c.in-Ok.ensures.exact (draw_refused _ d exact)))
 
@@ -57,13 +63,15 @@ returns-clause-done g c done =
       | then-answer-eq0 w ↦ w.told-is
       | else-answer-eq0 w ↦ absurd (w.if-answer-eq0.false done)
     ] in
-    line_written c.args.job.now g.font c.args.line.now c.args.at _ c.in-Ok-make_picture.picture c.args.room.now _ _ _ _ _ of
+    line_written c.args.job.now g.font c.args.line.now c.args.at _ c.in-Ok-make_picture.picture c.args.room.now _ _ _ _ _
+    (rw c.is_blank.ensures at c.if-is_blank.false) of
     c.height-height.ensures.exact (c.write_band-answer.ensures.done done) told c.cost-cost.ensures
 
 pub returns-clause-stopped : goal.returns-clause-stopped
 returns-clause-stopped g c not_done =
     let made = rw c.grows.ensures at c.in-Ok-make_picture.ensures in
     room_small c.args.job.now g.font c.args.line.now c.args.room.now _ c.in-Ok-make_picture.picture _
+    (rw c.is_blank.ensures at c.if-is_blank.false)
     (picture_of_line c.args.job.now g.font c.args.line.now c.in-Ok.text.now c.args.strike.now _ c.requires
     c.in-Ok.ensures.exact (drawn_too _ _ made.exact) made.ready made.made)
     c.height-height.ensures.exact (c.write_band-answer.ensures.small not_done)

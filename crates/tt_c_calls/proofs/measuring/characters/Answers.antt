@@ -1,4 +1,4 @@
-use Rattle.std.proofs.Common.{◌≡◌, ◌≢◌, arith, refl}
+use Rattle.std.proofs.Common.{◌≡◌, ◌≢◌, ◌∙◌, ap, arith, length, refl}
 use Rattle.tt_strike.specs.Measures.{measure_view}
 use Rattle.tt_c_calls.specs.Measures.{measure_wanted}
 use Rattle.tt_c_calls.proofs.Answered.{fails, stands, tells, wants_none}
@@ -6,12 +6,13 @@ use Rattle.tt_c_calls.proofs.measuring.characters.Goals as goal
 
 pub returns-in-Ok : goal.returns-in-Ok
 returns-in-Ok c =
-    let m = measure_view c.in-Ok.measure in
-    let own = rw c.deref.ensures.value at c.write_characters.ensures in
+    let m = measure_view c.in-Ok.placed.measure in
+    let own = rw (c.deref.ensures.value, c.deref-in-Ok.ensures.value, c.in-Ok.ensures.offsets) at c.write_characters.ensures in
+    let count = c.in-Ok.ensures.count ∙ ap length c.in-Ok.ensures.offsets in
     let status = c.write_characters.result.status in
     let seven : status ≢ 0 → status ≡ 7 = λ other. rw (own.small other).1 refl in
     record {
-      done = λ h. (m, c.in-Ok.ensures.exact, own.done h);
+      done = λ h. (m, c.in-Ok.ensures.exact, count, own.done h);
       refused = λ other not_seven. absurd (not_seven (seven other));
       small = λ h. (m, c.in-Ok.ensures.exact, own.small (λ zero. omega (arith, h, zero)));
       kept = own.kept;

@@ -1,5 +1,6 @@
-use Rattle.std.proofs.Common.{◌≡◌, ◌≤◌, true, false, refl, arith}
+use Rattle.std.proofs.Common.{◌≡◌, ◌≤◌, true, false, SFits, w32, of_z, to_z, refl, arith, rules}
 use Rattle.std.proofs.lemmas.Bool.Decides.{nat_tests}
+use Rattle.std.proofs.lemmas.Int.{to_z-of_z}
 use Rattle.tt_glyphs.specs.Bitmaps.{is_large}
 use Rattle.tt_glyphs.proofs.DrawnGlyphs.{blank_drawn, inked_drawn, large_drawn}
 use Rattle.tt_glyphs.proofs.drawing.placed.Goals as goal
@@ -12,7 +13,10 @@ returns-then-is_large-clause-drawn c = λ s source at by.
 pub returns-then-place-eq0-clause-drawn : goal.returns-then-place-eq0-clause-drawn
 returns-then-place-eq0-clause-drawn c = λ s source at by.
     let small : is_large c.args.place ≡ false = rw c.is_large.ensures at c.if-is_large.false in
-    rw (c.rowless-then-place-eq0.ensures, c.advance_of.ensures)
+    let left = c.args.edged.advance_left in
+    let fits : SFits w32 left = search rules in
+    let same : to_z w32 (of_z w32 left) ≡ left = simp to_z-of_z refl in
+    rw (c.rowless-then-place-eq0.ensures, c.advance_of.ensures, same)
     (blank_drawn c.args.source.now c.args.source.now.fit s c.args.number c.args.place c.args.edged source at by small c.if-place-eq0.true)
 
 pub returns-then-place-eq0-clause-fits : goal.returns-then-place-eq0-clause-fits
@@ -58,6 +62,9 @@ returns-clause-fits c =
 pub returns-clause-drawn : goal.returns-clause-drawn
 returns-clause-drawn c = λ s source at by.
     let small : is_large c.args.place ≡ false = rw c.is_large.ensures at c.if-is_large.false in
-    rw c.advance_of.ensures
+    let left = c.args.edged.advance_left in
+    let fits : SFits w32 left = search rules in
+    let same : to_z w32 (of_z w32 left) ≡ left = simp to_z-of_z refl in
+    rw (c.advance_of.ensures, same)
     (inked_drawn c.args.source.now c.args.source.now.fit s c.args.number c.args.place c.args.edged c.in_ok-bitmap.bitmap source at by small
     c.in_ok-bitmap.ensures.rows)

@@ -1,4 +1,5 @@
-use Rattle.std.proofs.Common.{◌≡◌, refl}
+use Rattle.std.proofs.Common.{◌≡◌, ◌∙◌, SFits, w32, of_z, to_z, refl, rules}
+use Rattle.std.proofs.lemmas.Int.{to_z-of_z}
 use Rattle.std.specs.Prelude.{IfSome}
 use Rattle.tt_fit.specs.outline.Views.{outline_of}
 use Rattle.tt_picture.proofs.OutlineBox.{outline_boxed}
@@ -13,12 +14,16 @@ box_of-extents-requires-clause-same c = rw (← c.ruled.view_is) at c.requires
 pub returns-clause-exact : goal.returns-clause-exact
 returns-clause-exact c =
     let tape = c.in_ok-tape.ensures in
+    let left = c.advance_left.result in
+    let fits : SFits w32 left = search rules in
+    let same : to_z w32 (of_z w32 left) ≡ left = simp to_z-of_z refl in
     rw (← c.ruled.view_is) (record {
       edges = rw tape c.in_ok-made.ensures.exact;
       contours = rw tape c.in_ok-made.ensures.contours;
       filled = refl;
       chords = c.in_ok-made.ensures.chords;
       step = c.step.ensures.exact;
+      advance = same ∙ c.advance_left.ensures.exact;
       unfitted = refl;
     })
 
