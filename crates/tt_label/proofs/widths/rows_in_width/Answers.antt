@@ -1,0 +1,99 @@
+use Rattle.std.proofs.Common.{◌≡◌, ◌∙◌, ◌<◌, ◌≤◌, ◌-◌, ◌*◌, ◌+◌, ◌+ℤ◌, ◌≤ℤ◌, pos, ℕ, ℤ, List, Vec, Global, ap, get_or, length, map, sym, refl, Ok, arith, SFits, w32}
+use Rattle.std.proofs.lemmas.Int.{ints, to_z-of_z}
+use Rattle.std.proofs.lemmas.List.{length-map}
+use Rattle.std.proofs.lemmas.Result.{err_from_is_err_and}
+use Rattle.std.specs.Prelude.{All}
+use Rattle.tt_core.specs.Limits.{text_limit}
+use Rattle.tt_label.specs.Views.{placements_of}
+use Rattle.tt_label.specs.Widths.{LaidRows, laid_in_width}
+use Rattle.tt_label.proofs.Larger.{of_one_size}
+use Rattle.tt_label.proofs.RowsPlaced.{laid_rows, laid_rows_fail, rows_counted, rows_sized, some_rows, wide_picture}
+use Rattle.tt_label_rows.specs.Heights.{row_heights}
+use Rattle.tt_label_rows.specs.Pictures.{rows_placed, start_of, width_picture}
+use Rattle.tt_label_rows.specs.Rows.{text_rows}
+use Rattle.tt_line.specs.Labels.{widest, width_of}
+use Rattle.tt_line.specs.Layout.{Placement}
+use Rattle.tt_line.specs.Outcome.{placement_of}
+use Rattle.tt_rows.specs.declared.unit.RowUnit.{RowUnit}
+use Rattle.tt_label.proofs.widths.rows_in_width.Goals.{In_ok-broken, In_ok-lines, In_ok-picture}
+use Rattle.tt_label.proofs.widths.rows_in_width.Goals as goal
+
+abbrev its : List (Vec (ℕ × ℕ) Global) → List (List (ℕ × ℕ))
+its rs = map (λ (v : Vec (ℕ × ℕ) Global). v.items) rs
+
+-- as many rows below the first
+more_then : (c : In_ok-picture) → c.saturating_sub-more.result ≡ length c.in_ok-broken.broken.rows.items - 1
+more_then c = omega (arith, c.saturating_sub-more.ensures, c.len.ensures, c.in_ok-broken.broken.rows.ok.0)
+
+pub lay_rows-laid-requires-clause-rows : goal.lay_rows-laid-requires-clause-rows
+lay_rows-laid-requires-clause-rows c = λ k d below.
+    let rs = c.in_ok-broken.broken.rows.items in
+    let least = rw c.deref.ensures.value at c.widest.ensures.least in
+    (c.in_ok-broken.ensures.short k d below, c.in_ok-picture.ensures.rows (width_of (get_or rs k d).items) (least k d below))
+
+pub lay_rows-laid-requires-clause-last : goal.lay_rows-laid-requires-clause-last
+lay_rows-laid-requires-clause-last c =
+    let more = more_then (goal.at.lay_rows-laid-requires-clause-last c).In_ok-picture in
+    let rise : SFits w32 c.row_heights-heights.result.rise = omega (arith, ints, c.row_heights-heights.ensures.within.rise) in
+    simp to_z-of_z (rw (← more) c.in_ok-picture.ensures.last)
+
+pub lay_rows-laid-requires-clause-first : goal.lay_rows-laid-requires-clause-first
+lay_rows-laid-requires-clause-first c =
+    let near = c.row_heights-heights.ensures.within.rise in
+    let rise : SFits w32 c.row_heights-heights.result.rise = omega (arith, ints, near) in
+    simp to_z-of_z (omega (arith, near))
+
+pub lay_rows-laid-requires-clause-count : goal.lay_rows-laid-requires-clause-count
+lay_rows-laid-requires-clause-count c =
+    let few = c.in_ok-broken.ensures.count in omega (arith, few, c.requires.rows)
+
+-- the picture of the rows
+picture_then : (c : In_ok-picture) → width_picture c.row_heights-heights.result (length (its c.in_ok-broken.broken.rows.items) - 1)
+    (widest (its c.in_ok-broken.broken.rows.items)) c.args.width c.args.margin c.args.align ≡ Ok c.in_ok-picture.picture
+picture_then c =
+    let many = length-map c.in_ok-broken.broken.rows.items (λ (v : Vec (ℕ × ℕ) Global). v.items) in
+    let wide : c.widest.result ≡ widest (its c.in_ok-broken.broken.rows.items) = rw c.deref.ensures.value at c.widest.ensures.exact in
+    let rows : length (its c.in_ok-broken.broken.rows.items) - 1 ≡ c.saturating_sub-more.result = let more = more_then c in omega (arith, many, more) in
+    rw (rows, ← wide) c.in_ok-picture.ensures.exact
+
+-- the lines are the rows in it
+lines_then : (c : In_ok-lines) → placements_of c.in_ok-lines.lines.items
+    ≡ rows_placed c.in_ok-picture.picture c.row_heights-heights.result.step c.row_heights-heights.result.rise (its c.in_ok-broken.broken.rows.items)
+lines_then c =
+    let rise : SFits w32 c.row_heights-heights.result.rise = omega (arith, ints, c.row_heights-heights.ensures.within.rise) in
+    let laid = simp to_z-of_z at c.in_ok-laid.ensures in
+    c.in_ok-lines.ensures.lines ∙ laid
+
+pub returns-in_err-picture-clause-exact : goal.returns-in_err-picture-clause-exact
+returns-in_err-picture-clause-exact c = ?
+
+pub returns-clause-exact : goal.returns-clause-exact
+returns-clause-exact c =
+    let all = goal.at.returns-clause-exact c in
+    let laid = laid_rows c.args.metrics.now c.args.ppem c.args.margin c.args.align c.args.width (its c.in_ok-broken.broken.rows.items) c.in_ok-picture.picture
+    c.row_heights-heights.result c.row_heights-heights.ensures.exact (picture_then all.In_ok-picture) in
+    rw (← c.in_ok-broken.ensures.rows, lines_then all.In_ok-lines) laid
+
+pub returns-clause-rows : goal.returns-clause-rows
+returns-clause-rows c =
+    let all = goal.at.returns-clause-rows c in
+    let p = c.in_ok-picture.picture in
+    let h = c.row_heights-heights.result in
+    let rs = its c.in_ok-broken.broken.rows.items in
+    let lines = lines_then all.In_ok-lines in
+    let some = some_rows (c.args.width - 2 * c.args.margin) (map (λ (v : Vec RowUnit Global). v.items) c.args.units.now)
+    (let many = length-map c.args.units.now (λ (v : Vec RowUnit Global). v.items) in omega (arith, many, c.requires.some)) in
+    let count : length c.in_ok-lines.lines.items ≡ length rs = sym (length-map c.in_ok-lines.lines.items _) ∙ ap length lines ∙ rows_counted p h.step h.rise rs in
+    let rows = ap length c.in_ok-broken.ensures.rows in
+    record {
+      some = omega (arith, some, count, rows);
+      within = c.requires.margin;
+      margins = c.in_ok-lines.ensures.margin;
+      alike = rw lines (of_one_size p.width p.height (rows_placed p h.step h.rise rs) (rows_sized p h.step h.rise rs));
+    }
+
+pub returns-clause-wide : goal.returns-clause-wide
+returns-clause-wide c =
+    let all = goal.at.returns-clause-wide c in
+    wide_picture c.row_heights-heights.result (length (its c.in_ok-broken.broken.rows.items) - 1) (widest (its c.in_ok-broken.broken.rows.items))
+    c.args.width c.args.margin c.args.align c.in_ok-picture.picture (picture_then all.In_ok-picture)

@@ -1,0 +1,11 @@
+use Rattle.std.proofs.Common.{◌≡◌, ◌∙◌, refl, ap, sym, ℕ, ◌+◌, Bool, true, false, ◌==◌, ◌&&◌, zero-add, arith}
+use Rattle.std.proofs.lemmas.Bool.Decides.{nat_tests}
+use Rattle.tt_picture.specs.Pictures.{Image, image, narrowed}
+use Rattle.tt_picture.proofs.Alike.{image_alike}
+use Rattle.tt_scan_edges.specs.declared.edge.Frame.{Frame}
+use Rattle.tt_label.proofs.widths.shown_columns.Goals as goal
+
+all_columns : (f : Frame) (width from : ℕ) (black : ℕ → ℕ → Bool) → from ≡ 0 → width ≡ f.width
+    → image f black ≡ image (narrowed f width) (λ c r. black (from + c) r)
+all_columns f width from black none whole =
+    rw (whole, none) (image_alike f black (λ c r. black (0 + c) r) (λ c r inside below. ap (λ k. black k r) (sym (zero-add {n = c}))))
