@@ -13,20 +13,24 @@ use Rattle.tt_core.specs.Limits.{height_limit, width_limit}
 use Rattle.tt_core.specs.Outcomes.{each}
 use Rattle.tt_label.specs.Label.{grown_lines, joint}
 use Rattle.tt_label.specs.Made.{AreAlike}
-use Rattle.tt_label.specs.Widths.{laid_in_width, upright}
+use Rattle.tt_label.specs.Widths.{LaidRows, laid_in_width, upright}
 use Rattle.tt_label.specs.Views.{placements_of}
+use Rattle.tt_label.proofs.Drawn.{joint_glyphs}
+use Rattle.tt_label.proofs.Joined.{all_flat, glyphs_joined}
+use Rattle.tt_label.proofs.UnitGlyphs.{its_units, units_have}
 use Rattle.tt_label.proofs.Larger.{all_large, larger_height, larger_width, of_one_size}
 use Rattle.tt_label_rows.specs.declared.picture.RowsPicture.{RowsPicture}
 use Rattle.tt_label_rows.specs.declared.heights.RowHeights.{RowHeights}
 use Rattle.tt_label_rows.specs.Heights.{row_heights}
 use Rattle.tt_label_rows.specs.Pictures.{row_placed, rows_placed, skipped_by, start_of, width_picture}
 use Rattle.tt_label_rows.specs.Rows.{line_rows, row_glyphs, text_rows}
+use Rattle.tt_label_rows.specs.Units.{all_glyphs}
 use Rattle.tt_line.specs.declared.align.Align.{Align}
 use Rattle.tt_line.specs.declared.label_extent.LabelExtent.{LabelExtent}
-use Rattle.tt_line.specs.Labels.{greater, label_limited, rows_of, widest, width_of}
+use Rattle.tt_line.specs.Labels.{greater, label_limited, line_step_of, rows_of, widest, width_of}
 use Rattle.tt_line.specs.Steps.{at_least}
 use Rattle.tt_metrics.specs.Metrics.{Metrics}
-use Rattle.tt_line.specs.Layout.{Placement, glyphs_at_pens}
+use Rattle.tt_line.specs.Layout.{Placement, glyphs_at_pens, rise_of}
 use Rattle.tt_line.proofs.Pens.{glyphs_by_steps}
 use Rattle.tt_line.specs.Outcome.{placement_of}
 use Rattle.tt_picture.specs.declared.ink_box.InkBox.{InkBox}
@@ -161,3 +165,32 @@ pub laid_rows_fail : (m : Metrics) (ppem margin : ℕ) (how : Align) (n : ℕ) (
     → h ≡ row_heights m ppem → width_picture h (length rs - 1) (widest rs) n margin how ≡ Err j
     → laid_in_width m ppem margin how n rs ≡ Err j
 laid_rows_fail m ppem margin how n rs j h is made = let there = rw is at made in rw there refl
+
+-- rows that are laid out are those of the definition
+pub laid_as : (m : Metrics) (ppem margin : ℕ) (how : Align) (n : ℕ) (rs : List (List (ℕ × ℕ))) (l : LaidRows) → laid_in_width m ppem margin how n rs ≡ Ok l
+    → l.lines ≡ rows_placed l.picture (line_step_of m ppem) (rise_of m ppem) rs
+laid_as m ppem margin how n rs l is =
+    let through = came-through (width_picture (row_heights m ppem) (length rs - 1) (widest rs) n margin how)
+    (λ p. Ok (record { picture = p; lines = rows_placed p (line_step_of m ppem) (rise_of m ppem) rs })) l is in
+    let last = through.rest in
+    let whole : record { picture = through.value; lines = rows_placed through.value (line_step_of m ppem) (rise_of m ppem) rs } ≡ l = cc in
+    rw (← whole) refl
+
+-- the width of the joint line
+pub first_width : (w h : ℕ) (ls : List Placement) → 1 ≤ length ls → All (HasSize w h) ls → (joint ls).width ≡ w
+first_width w h [] some all = absurd (omega (arith, some))
+first_width w h (l ∷ ls) some all = (All-head (HasSize w h) l ls all).0
+
+-- a fact of the glyphs of each line is one of all
+pub joint_have : (P : ℕ × ℕ → Type 0) (ls : List Laid) → All (λ (l : Laid). All P l.line.glyphs.items) ls → All P (joint (placements_of ls)).glyphs
+joint_have P ls all = rw (joint_glyphs (placements_of ls), glyphs_joined ls) (all_flat P (λ (l : Laid). l.line.glyphs.items) ls all)
+
+-- facts of the glyphs of the text hold for the rows that are laid out
+pub rows_have : (P : ℕ → Type 0) (m : Metrics) (ppem margin : ℕ) (how : Align) (n room : ℕ) (us : List (Vec RowUnit Global)) (l : LaidRows) (ls : List Laid)
+    → placements_of ls ≡ l.lines → laid_in_width m ppem margin how n (text_rows room (its_units us)) ≡ Ok l
+    → All P (all_glyphs (its_units us)) → All (λ (l : Laid). All (λ (g : ℕ × ℕ). P g.0) l.line.glyphs.items) ls
+rows_have P m ppem margin how n room us l ls same is all =
+    let rs = text_rows room (its_units us) in
+    of_placements (λ (l : Placement). All (λ (g : ℕ × ℕ). P g.0) l.glyphs) ls
+    (rw (same, laid_as m ppem margin how n rs l is)
+    (placed_have P l.picture (line_step_of m ppem) (rise_of m ppem) rs (text_rows_have P room us (units_have P us all))))

@@ -18,7 +18,7 @@ use Rattle.tt_face.specs.Faces.{Face}
 use Rattle.tt_fit.specs.Fitting.{Fitter}
 use Rattle.tt_fit.specs.outline.Outline.{Outline}
 use Rattle.tt_label.specs.Gathered.{gathered, unit_step, units_glyphs, units_in, units_made}
-use Rattle.tt_label_rows.specs.Units.{stepped_lines, stepped_units, text_units}
+use Rattle.tt_label_rows.specs.Units.{all_glyphs, stepped_lines, stepped_units, text_units, unit_glyphs}
 use Rattle.tt_label.proofs.Joined.{each_short}
 use Rattle.tt_metrics.specs.Metrics.{Metrics}
 use Rattle.tt_rows.specs.Rows.{one_at_least}
@@ -156,3 +156,19 @@ stopped_textless z text margin k gs l e at one fails = rw one at fails
 pub cache_for : (z : SizedFace) (s : Fitter) (c : Option Kept) → setting z.face z.ppem z.fit ≡ Ok s → IsCacheOf z c → IsCacheFor s c
 cache_for z s None there own = tt
 cache_for z s (Some k) there own = own s there
+
+-- steps change no glyph
+same_glyphs : (m : Metrics) (step : ℕ → ℤ → ℕ) (us : List RowUnit) → unit_glyphs (stepped_units m step us) ≡ unit_glyphs us
+same_glyphs m step [] = refl
+same_glyphs m step (u ∷ us) = ap (λ (gs : List ℕ). u.glyph ∷ gs) (same_glyphs m step us)
+
+stepped_glyphs : (m : Metrics) (step : ℕ → ℤ → ℕ) (ls : List (List RowUnit)) → all_glyphs (stepped_lines m step ls) ≡ all_glyphs ls
+stepped_glyphs m step [] = refl
+stepped_glyphs m step (us ∷ ls) = rw (same_glyphs m step us, stepped_glyphs m step ls) refl
+
+pub units_in_glyphs : (face : Face) (a : Job) (s : Fitter) → all_glyphs (units_in face a s) ≡ units_glyphs face a
+units_in_glyphs face a s = stepped_glyphs face.metrics (unit_step face a s) (text_units face.cmap a.text)
+
+-- glyphs that are made for a tested job
+pub begun_is : (face : Face) (a : Job) (s : Fitter) → tested a ≡ Ok tt → units_made face a ≡ Ok s → begun_outcome face a ≡ Ok s
+begun_is face a s passes made = rw (passes, made) refl

@@ -26,7 +26,7 @@ mod placing;
 mod widths;
 
 pub use labelling::label;
-pub use widths::{WidthLabel, label_in_width};
 pub use tt_core::DrawFault;
 pub use tt_line::{Align, unmarked};
 pub use tt_strike::{Face, Picture, Strike, Unfitted};
+pub use widths::{WidthLabel, label_in_width};

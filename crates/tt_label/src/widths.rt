@@ -27,7 +27,9 @@ use crate::made::with_margin;
 use crate::placing::placed_lines;
 use std::alloc::{AllocError, Global};
 use tt_core::DrawFault;
-use tt_label_rows::{RowsPicture, TextRows, lay_rows, row_heights, text_rows, widest, width_picture};
+use tt_label_rows::{
+    RowsPicture, TextRows, lay_rows, row_heights, text_rows, widest, width_picture,
+};
 use tt_line::Align;
 use tt_metrics::Metrics;
 use tt_picture::{Cache, InkBox, Picture, glyph_inks};
@@ -66,7 +68,7 @@ fn rows_in_width(
     requires rows { sum_by (λ l. one_at_least (length l.items)) units.now ≤ text_limit }
     requires some { 1 ≤ length units.now }
     ensures exact { JobGives rows_view result (laid_in_width metrics.now ppem margin align width (text_rows (width - 2 * margin) (map (λ l. l.items) units.now))) }
-    ensures rows { IfOk result (λ r. AreRows margin r.lines.items) }
+    ensures rows { IfOk result (AreRows margin) }
     ensures wide { IfOk result (λ r. (r.picture.skipped + width ≤ r.picture.width)) }
 {
     let heights = row_heights(metrics, ppem);
@@ -138,6 +140,7 @@ fn shown_columns(
     ensures exact { IfOk result (λ p. (black : ℕ → ℕ → Bool) → image_of picture ≡ image picture.frame black
         → image_of p ≡ image (narrowed picture.frame width) (λ c r. black (from + c) r)) }
     ensures valid { IfOk result IsReady }
+    ensures width { IfOk result (λ p. p.frame.width ≡ width) }
     ensures unfitted { IfOk result (λ p. p.unfitted ≡ picture.unfitted) }
     ensures cost { IfOk result (λ p. p.cost ≡ picture.cost) }
 {
@@ -155,21 +158,24 @@ fn draw_rows(
     inked: &InkedGlyphs,
     width: u32,
 ) -> Result<WidthLabel, DrawFault>
-    requires rows { (margin : ℕ) × AreRows margin rows.lines.items }
+    requires rows { (margin : ℕ) × AreRows margin rows }
     requires among { All (λ l. HasGlyphsOf (numbers_of inked.now.glyphs.made.items) l.line.glyphs.items) rows.lines.items }
     requires some { 1 ≤ width }
     requires wide { rows.picture.skipped + width ≤ rows.picture.width }
-    requires same { All (λ l. l.line.width ≡ rows.picture.width) rows.lines.items }
-    requires limit { rows.picture.width ≤ width_limit }
+    requires width { width ≤ width_limit }
     ensures exact { (ink : ℕ → Option LeastBox) (maker : ℕ → Fitter) (margin : ℕ)
         → inked.now.inks.items ≡ map ink (numbers_of inked.now.glyphs.made.items) → AreDrawn maker inked.now.glyphs.made.items
         → All (λ l. l.margin ≡ margin) rows.lines.items
         → JobGives cut_view result (rows_drawn ink maker margin width (rows_view rows)) }
     ensures valid { IfOk result (λ w. IsReady w.picture) }
+    ensures width { IfOk result (λ w. w.picture.frame.width ≡ width) }
     ensures unfitted { IfOk result (λ w. w.picture.unfitted ≡ unfitted_standing inked.now.glyphs.made.items) }
     ensures cost { IfOk result (λ w. w.picture.cost ≡ inked.now.glyphs.cost) }
 {
-    let LaidRows { picture: place, lines } = rows;
+    let LaidRows {
+        picture: place,
+        lines,
+    } = rows;
     let ink = label_ink(&lines, inked);
     let larger = grown_lines(alloc, lines, upright(ink))?;
     let frame = larger[0].frame();
@@ -197,6 +203,7 @@ fn draw_in_width(
     requires width { (2 * margin + 1 ≤ width) × (width ≤ width_limit) }
     ensures exact { GivesUnless refusal cut_view result (width_outcome sized.old.face (job_by sized.old text.now margin) align width) }
     ensures valid { IfOk result (λ w. IsReady w.picture) }
+    ensures width { IfOk result (λ w. w.picture.frame.width ≡ width) }
     ensures report { IfOk result (λ w. line_report sized.old.face (job_by sized.old text.now margin) (gathered (units_glyphs sized.old.face (job_by sized.old text.now margin))) ≡ Ok w.picture.unfitted) }
     ensures once { IfOk result (λ w. ListsOnce w.picture.unfitted) }
     ensures cost { IfOk result (λ w. line_cost sized.old.face (job_by sized.old text.now margin) (gathered (units_glyphs sized.old.face (job_by sized.old text.now margin))) ≡ Ok w.picture.cost) }

@@ -76,17 +76,20 @@ returns-clause-begun c =
     let cost = rw (← c.sized.view_is, line, margin) at c.in_ok-glyphs.ensures.cost in
     let step = step_in_pixels z.face.metrics z.ppem in
     let steps = rw (c.metrics-metrics.ensures, c.deref.ensures.value) at c.in_ok-lines.ensures in
-    rw (← c.sized.view_is) (made.setting, record {
-      tested = rw (← c.sized.view_is) at c.requires.tested;
-      made = shapes_make_units z.face a c.in_ok-glyphs.glyphs.made.items unbounded made;
-      finish = record {
-        opened = made.opened;
-        line = line;
-        stage = (unbounded, record { drawn = made; setting = refl; cost = cost_textless z c.args.text.now c.args.margin (gathered gs) ∙ cost });
-      };
-      lines = (rw units at steps) ∙ sym (unbounded_step z.face a made.setting unbounded);
-      margin = margin;
-      few = lines_as_short z.face.metrics step c.in_ok-units.units.items c.in_ok-lines.lines.items steps c.in_ok-units.ensures.few;
-      some = rw (count_as_many z.face.metrics step c.in_ok-units.units.items c.in_ok-lines.lines.items steps) c.in_ok-units.ensures.some;
-      rows = rows_as_few z.face.metrics step c.in_ok-units.units.items c.in_ok-lines.lines.items steps c.in_ok-units.ensures.rows;
-    })
+    rw (← c.sized.view_is) (
+      made.setting,
+      record {
+        tested = rw (← c.sized.view_is) at c.requires.tested;
+        made = shapes_make_units z.face a c.in_ok-glyphs.glyphs.made.items unbounded made;
+        finish = record {
+          opened = made.opened;
+          line = line;
+          stage = (unbounded, record { drawn = made; setting = refl; cost = cost_textless z c.args.text.now c.args.margin (gathered gs) ∙ cost });
+        };
+        lines = (rw units at steps) ∙ sym (unbounded_step z.face a made.setting unbounded);
+        margin = margin;
+        few = lines_as_short z.face.metrics step c.in_ok-units.units.items c.in_ok-lines.lines.items steps c.in_ok-units.ensures.few;
+        some = rw (count_as_many z.face.metrics step c.in_ok-units.units.items c.in_ok-lines.lines.items steps) c.in_ok-units.ensures.some;
+        rows = rows_as_few z.face.metrics step c.in_ok-units.units.items c.in_ok-lines.lines.items steps c.in_ok-units.ensures.rows;
+      },
+    )

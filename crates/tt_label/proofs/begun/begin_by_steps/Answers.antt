@@ -142,25 +142,28 @@ returns-clause-begun c =
     let steps = c.in_ok-lines.ensures (advance_with s gs) (advances_are (line_fitter s gs) fs fitted) in
     let step = step_by z.face.metrics z.ppem (advance_with s gs) in
     let made = rw c.deref-3.ensures.value at steps in
-    rw (← c.sized.view_is) (s, record {
-      tested = rw (← c.sized.view_is) at c.requires.tested;
-      made = outlines_make_units z.face a s outlines.0 bounded c.in_ok-fitter.ensures.exact (outlines_pass s a gs outlines.0 points outlines.1);
-      finish = record {
-        opened = c.in_ok-fitter.ensures.exact;
-        line = c.gathered_line.ensures.line ∙ rw flat refl;
-        stage = record {
-          bounded = bounded;
-          points = points;
-          outlines = outlines;
-          places = c.in_ok-fitted.ensures.places;
-          numbers = rw here at c.in_ok-fitted.ensures.numbers;
-          fitted = fitted;
-          work = c.work-left.ensures ∙ ap (λ (t : Fitter). t.work) (rw here at c.in_ok-fitted.ensures.after);
+    rw (← c.sized.view_is) (
+      s,
+      record {
+        tested = rw (← c.sized.view_is) at c.requires.tested;
+        made = outlines_make_units z.face a s outlines.0 bounded c.in_ok-fitter.ensures.exact (outlines_pass s a gs outlines.0 points outlines.1);
+        finish = record {
+          opened = c.in_ok-fitter.ensures.exact;
+          line = c.gathered_line.ensures.line ∙ rw flat refl;
+          stage = record {
+            bounded = bounded;
+            points = points;
+            outlines = outlines;
+            places = c.in_ok-fitted.ensures.places;
+            numbers = rw here at c.in_ok-fitted.ensures.numbers;
+            fitted = fitted;
+            work = c.work-left.ensures ∙ ap (λ (t : Fitter). t.work) (rw here at c.in_ok-fitted.ensures.after);
+          };
         };
-      };
-      lines = (rw units at made) ∙ sym (bounded_step z.face a s bounded);
-      margin = c.gathered_line.ensures.margin;
-      few = lines_as_short z.face.metrics step c.in_ok-units.units.items c.in_ok-lines.lines.items made c.in_ok-units.ensures.few;
-      some = rw (count_as_many z.face.metrics step c.in_ok-units.units.items c.in_ok-lines.lines.items made) c.in_ok-units.ensures.some;
-      rows = rows_as_few z.face.metrics step c.in_ok-units.units.items c.in_ok-lines.lines.items made c.in_ok-units.ensures.rows;
-    })
+        lines = (rw units at made) ∙ sym (bounded_step z.face a s bounded);
+        margin = c.gathered_line.ensures.margin;
+        few = lines_as_short z.face.metrics step c.in_ok-units.units.items c.in_ok-lines.lines.items made c.in_ok-units.ensures.few;
+        some = rw (count_as_many z.face.metrics step c.in_ok-units.units.items c.in_ok-lines.lines.items made) c.in_ok-units.ensures.some;
+        rows = rows_as_few z.face.metrics step c.in_ok-units.units.items c.in_ok-lines.lines.items made c.in_ok-units.ensures.rows;
+      },
+    )

@@ -30,8 +30,17 @@ loop-line-preserved c = λ advance are.
     let here : get_or lines i line ≡ line = sym c.line-item.is in
     let m = c.args.source.now.face.now.metrics in
     let step = stepped_units m (step_by m c.args.source.now.ppem advance) in
-    rw (c.in_ok-push.ensures.items, map_push its at.made.items _, at.invariant advance are, c.in_ok-stepped_line.ensures advance are, c.deref.ensures.value,
-        take_more lines i line below, here, map_push its (take i lines) line, map_push step (map its (take i lines)) line.items) refl
+    rw (
+      c.in_ok-push.ensures.items,
+      map_push its at.made.items _,
+      at.invariant advance are,
+      c.in_ok-stepped_line.ensures advance are,
+      c.deref.ensures.value,
+      take_more lines i line below,
+      here,
+      map_push its (take i lines) line,
+      map_push step (map its (take i lines)) line.items,
+    ) refl
 
 pub returns : goal.returns
 returns c = λ advance are.

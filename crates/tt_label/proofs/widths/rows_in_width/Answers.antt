@@ -1,4 +1,4 @@
-use Rattle.std.proofs.Common.{◌≡◌, ◌∙◌, ◌<◌, ◌≤◌, ◌-◌, ◌*◌, ◌+◌, ◌+ℤ◌, ◌≤ℤ◌, pos, ℕ, ℤ, List, Vec, Global, ap, get_or, length, map, sym, refl, Ok, arith, SFits, w32}
+use Rattle.std.proofs.Common.{◌≡◌, ◌∙◌, ◌<◌, ◌≤◌, ◌-◌, ◌*◌, ◌+◌, ◌+ℤ◌, ◌≤ℤ◌, pos, ℕ, ℤ, List, Vec, Global, ap, get_or, length, map, sym, refl, Err, Ok, arith, SFits, w32}
 use Rattle.std.proofs.lemmas.Int.{ints, to_z-of_z}
 use Rattle.std.proofs.lemmas.List.{length-map}
 use Rattle.std.proofs.lemmas.Result.{err_from_is_err_and}
@@ -6,7 +6,6 @@ use Rattle.std.specs.Prelude.{All}
 use Rattle.tt_core.specs.Limits.{text_limit}
 use Rattle.tt_label.specs.Views.{placements_of}
 use Rattle.tt_label.specs.Widths.{LaidRows, laid_in_width}
-use Rattle.tt_label.proofs.Larger.{of_one_size}
 use Rattle.tt_label.proofs.RowsPlaced.{laid_rows, laid_rows_fail, rows_counted, rows_sized, some_rows, wide_picture}
 use Rattle.tt_label_rows.specs.Heights.{row_heights}
 use Rattle.tt_label_rows.specs.Pictures.{rows_placed, start_of, width_picture}
@@ -65,7 +64,18 @@ lines_then c =
     c.in_ok-lines.ensures.lines ∙ laid
 
 pub returns-in_err-picture-clause-exact : goal.returns-in_err-picture-clause-exact
-returns-in_err-picture-clause-exact c = ?
+returns-in_err-picture-clause-exact c =
+    let p = err_from_is_err_and c.from_residual-in_err-picture.result c.from_residual-in_err-picture.ensures.1 in
+    let many = length-map c.in_ok-broken.broken.rows.items (λ (v : Vec (ℕ × ℕ) Global). v.items) in
+    let more : c.saturating_sub-more.result ≡ length c.in_ok-broken.broken.rows.items - 1 =
+    omega (arith, c.saturating_sub-more.ensures, c.len.ensures, c.in_ok-broken.broken.rows.ok.0) in
+    let wide : c.widest.result ≡ widest (its c.in_ok-broken.broken.rows.items) = rw c.deref.ensures.value at c.widest.ensures.exact in
+    let rows : length (its c.in_ok-broken.broken.rows.items) - 1 ≡ c.saturating_sub-more.result = omega (arith, many, more) in
+    let fails : width_picture c.row_heights-heights.result (length (its c.in_ok-broken.broken.rows.items) - 1)
+    (widest (its c.in_ok-broken.broken.rows.items)) c.args.width c.args.margin c.args.align ≡ Err c.in_err-picture.field-0.0 =
+    rw (rows, ← wide) c.in_err-picture.ensures.exact in
+    rw (p.1, p.2, ← c.in_ok-broken.ensures.rows) (laid_rows_fail c.args.metrics.now c.args.ppem c.args.margin c.args.align c.args.width
+    (its c.in_ok-broken.broken.rows.items) c.in_err-picture.field-0.0 c.row_heights-heights.result c.row_heights-heights.ensures.exact fails)
 
 pub returns-clause-exact : goal.returns-clause-exact
 returns-clause-exact c =
@@ -89,7 +99,8 @@ returns-clause-rows c =
       some = omega (arith, some, count, rows);
       within = c.requires.margin;
       margins = c.in_ok-lines.ensures.margin;
-      alike = rw lines (of_one_size p.width p.height (rows_placed p h.step h.rise rs) (rows_sized p h.step h.rise rs));
+      sizes = rw lines (rows_sized p h.step h.rise rs);
+      picture = c.in_ok-picture.ensures.within;
     }
 
 pub returns-clause-wide : goal.returns-clause-wide

@@ -8,4 +8,5 @@ use Rattle.tt_label.proofs.widths.shown_columns.Goals as goal
 all_columns : (f : Frame) (width from : ℕ) (black : ℕ → ℕ → Bool) → from ≡ 0 → width ≡ f.width
     → image f black ≡ image (narrowed f width) (λ c r. black (from + c) r)
 all_columns f width from black none whole =
-    rw (whole, none) (image_alike f black (λ c r. black (0 + c) r) (λ c r inside below. ap (λ k. black k r) (sym (zero-add {n = c}))))
+    rw (whole, none) (image_alike f black (λ c r. black (0 + c) r) (λ c r inside below.
+    let same : c ≡ 0 + c = omega arith in ap (λ k. black k r) same))
