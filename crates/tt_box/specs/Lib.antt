@@ -1,2 +1,0 @@
-pub mod BoxLaws
-pub mod Boxes
