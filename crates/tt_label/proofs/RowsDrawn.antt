@@ -169,7 +169,7 @@ ready_at z text margin k s gs n same there ready = (rw same at ready) s there
 pub unready_at : (z : SizedFace) (text : List ℕ) (margin k : ℕ) (e : DrawFault) → k ≡ margin
     → IfSome (refusal e) (λ r. shapes_made z.face (job_by z text k) (gathered (units_glyphs z.face (job_by z text k))) ≡ Err r)
     → IfSome (refusal e) (λ r. shapes_made z.face (job_by z text margin) (gathered (units_glyphs z.face (job_by z text margin))) ≡ Err r)
-unready_at z text margin k e same fails = rw same at fails
+unready_at z text margin k e same fails = fails
 
 -- the glyphs of the text are among those that are made
 pub text_among : (face : Face) (a : Job) (s : Fitter) (gs : List ℕ) (made : List Glyph) (n : ℕ) → AreReady face a s gs made n

@@ -25,7 +25,12 @@ mod made;
 mod placing;
 mod widths;
 
+pub use begun::{BegunLabel, Stage, begin_label, finish_label};
+pub use gathering::FittedGlyphs;
+pub use growing::label_ink;
 pub use labelling::label;
+pub use made::with_margin;
+pub use placing::placed_lines;
 pub use tt_core::DrawFault;
 pub use tt_line::{Align, unmarked};
 pub use tt_strike::{Face, Picture, Strike, Unfitted};

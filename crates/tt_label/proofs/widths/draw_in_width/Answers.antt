@@ -52,19 +52,6 @@ ready_then c =
     ready_at c.args.sized.now c.args.text.now c.args.margin c.in_ok-begun.begun.gathered.margin c.in_ok-begun.ensures.begun.0 c.in_ok-glyphs.glyphs.made.items
     c.in_ok-glyphs.glyphs.cost h.margin h.finish.opened (rw c.begin_label.ensures.same at c.in_ok-glyphs.ensures.ready)
 
-pub rows_in_width-rows-requires-clause-margin : goal.rows_in_width-rows-requires-clause-margin
-rows_in_width-rows-requires-clause-margin c =
-    let h = c.in_ok-begun.ensures.begun.1 in rw h.margin at c.in_ok-begun.begun.gathered.within
-
-pub rows_in_width-rows-requires-clause-few : goal.rows_in_width-rows-requires-clause-few
-rows_in_width-rows-requires-clause-few c = rw c.deref.ensures.value c.in_ok-begun.ensures.begun.1.few
-
-pub rows_in_width-rows-requires-clause-rows : goal.rows_in_width-rows-requires-clause-rows
-rows_in_width-rows-requires-clause-rows c = rw c.deref.ensures.value c.in_ok-begun.ensures.begun.1.rows
-
-pub rows_in_width-rows-requires-clause-some : goal.rows_in_width-rows-requires-clause-some
-rows_in_width-rows-requires-clause-some c = rw c.deref.ensures.value c.in_ok-begun.ensures.begun.1.some
-
 pub finish_label-requires-clause-cache : goal.finish_label-requires-clause-cache
 finish_label-requires-clause-cache c = rw c.begin_label.ensures.same c.begin_label.ensures.cache
 
@@ -74,12 +61,9 @@ finish_label-requires-clause-stage c =
     rw c.begin_label.ensures.same (finish_at c.args.sized.now c.args.text.now c.args.margin c.in_ok-begun.begun.gathered.margin c.in_ok-begun.begun.gathered
     c.in_ok-begun.begun.stage c.in_ok-begun.ensures.begun.0 h.margin h.finish)
 
-pub draw_rows-label-requires-clause-rows : goal.draw_rows-label-requires-clause-rows
-draw_rows-label-requires-clause-rows c = (c.args.margin, c.in_ok-rows.ensures.rows)
-
-pub draw_rows-label-requires-clause-among : goal.draw_rows-label-requires-clause-among
-draw_rows-label-requires-clause-among c =
-    let at = goal.at.draw_rows-label-requires-clause-among c in
+pub draw_rows-requires-clause-among : goal.draw_rows-requires-clause-among
+draw_rows-requires-clause-among c =
+    let at = goal.at.draw_rows-requires-clause-among c in
     let z = c.args.sized.now in
     let a = job_by z c.args.text.now c.args.margin in
     let h = c.in_ok-begun.ensures.begun.1 in
@@ -106,7 +90,7 @@ returns-in_err-rows-clause-exact c =
     let s = c.in_ok-begun.ensures.begun.0 in
     let p = err_from_is_err_and c.from_residual-in_err-rows.result c.from_residual-in_err-rows.ensures.1 in
     rw (p.1, p.2) (rows_stop_width rows_view z.face a c.args.align c.args.width s c.in_err-rows.field-0.0 (begun_is z.face a s h.tested h.made)
-    (rows_given rows_view _ z.face a c.args.align c.args.width c.ppem-ppem.result c.metrics-metrics.result.now s
+    (rows_given rows_view (Err c.in_err-rows.field-0.0) z.face a c.args.align c.args.width c.ppem-ppem.result c.metrics-metrics.result.now s
     (its_units c.in_ok-begun.begun.lines.items) (metrics_then at.After-ppem-ppem) (size_then at.After-ppem-ppem) h.lines
     (rw c.deref.ensures.value at c.in_err-rows.ensures.exact)))
 

@@ -1,4 +1,4 @@
-use Rattle.std.proofs.Common.{◌≡◌, ◌∙◌, refl, ap, sym, ℕ, Bool, Ok, arith}
+use Rattle.std.proofs.Common.{◌≡◌, ◌∙◌, refl, ap, sym, ℕ, Bool, Vec, Global, Ok, arith}
 use Rattle.std.proofs.lemmas.Result.{err_from_is_err_and}
 use Rattle.std.specs.Prelude.{All}
 use Rattle.tt_label.specs.Label.{grown_lines, joint, some_line_shows}
@@ -11,6 +11,7 @@ use Rattle.tt_label.proofs.Shown.{are_lines, placed_image}
 use Rattle.tt_line.specs.Outcome.{placement_of}
 use Rattle.tt_picture.specs.Glyphs.{numbers_of}
 use Rattle.tt_picture.specs.Pictures.{image, image_of}
+use Rattle.tt_scan_edges.specs.declared.edge.Frame.{Frame}
 use Rattle.tt_strike.specs.declared.laid.Laid.{Laid}
 use Rattle.tt_strike.specs.Picture.{frame_of}
 use Rattle.tt_label.proofs.widths.draw_rows.Goals.{After-frame-frame, In_ok-larger}
@@ -38,9 +39,9 @@ index-requires c =
     let some = some_larger c.requires.rows.0 c.args.rows c.label_ink-ink.result c.in_ok-larger.larger.items c.requires.rows.1 is in
     omega (arith, some, c.in_ok-larger.larger.ok.0)
 
-pub new-whole-requires-clause-lines : goal.new-whole-requires-clause-lines
-new-whole-requires-clause-lines c =
-    let at = goal.at.new-whole-requires-clause-lines c in
+pub new-requires-clause-lines : goal.new-requires-clause-lines
+new-requires-clause-lines c =
+    let at = goal.at.new-requires-clause-lines c in
     let larger = c.in_ok-larger.larger.items in
     let is = grown_then at.In_ok-larger in
     let margin = c.requires.rows.0 in
@@ -52,12 +53,9 @@ new-whole-requires-clause-lines c =
     (alike_larger margin c.args.rows c.label_ink-ink.result larger are is)
     (among_larger numbers c.args.rows c.label_ink-ink.result larger is c.requires.among))
 
-pub shown_columns-picture-requires-clause-frame : goal.shown_columns-picture-requires-clause-frame
-shown_columns-picture-requires-clause-frame c = rw c.in_ok-whole.ensures.frame c.frame-frame.ensures.fits
-
-pub shown_columns-picture-requires-clause-within : goal.shown_columns-picture-requires-clause-within
-shown_columns-picture-requires-clause-within c =
-    let at = goal.at.shown_columns-picture-requires-clause-within c in
+pub shown_columns-requires-clause-within : goal.shown_columns-requires-clause-within
+shown_columns-requires-clause-within c =
+    let at = goal.at.shown_columns-requires-clause-within c in
     let is = grown_then at.In_ok-larger in
     let margin = c.requires.rows.0 in
     let are = c.requires.rows.1 in
@@ -70,7 +68,7 @@ returns-in_err-larger-clause-exact c = λ ink maker margin inks drawn margins.
     let p = err_from_is_err_and c.from_residual.result c.from_residual.ensures.1 in
     let own = rw c.deref.ensures.value at c.label_ink-ink.ensures in
     let fails = rw c.upright.ensures at c.in_err-larger.ensures.exact in
-    rw (p.1, p.2) (growth_stops_rows _ cut_view ink maker margin c.args.width (rows_view c.args.rows) c.label_ink-ink.result c.in_err-larger.field-0.0
+    rw (p.1, p.2) (growth_stops_rows (λ (v : Vec Laid Global). placements_of v.items) cut_view ink maker margin c.args.width (rows_view c.args.rows) c.label_ink-ink.result c.in_err-larger.field-0.0
     (own ink margin inks margins) fails)
 
 pub returns-clause-exact : goal.returns-clause-exact
@@ -86,7 +84,8 @@ returns-clause-exact c = λ ink maker margin inks drawn margins.
     let black : ℕ → ℕ → Bool = some_line_shows maker margin (placements_of larger) in
     let painted = rw c.deref-3.ensures.value at (c.in_ok-whole.ensures.exact maker drawn) in
     let whole : image_of c.in_ok-whole.whole ≡ image c.in_ok-whole.whole.frame black =
-    rw c.in_ok-whole.ensures.frame (painted ∙ placed_image maker c.frame-frame.result margin c.in_ok-placed.placed.items larger same above) in
+    painted ∙ placed_image maker c.frame-frame.result margin c.in_ok-placed.placed.items larger same above
+    ∙ ap (λ (f : Frame). image f black) (sym c.in_ok-whole.ensures.frame) in
     let shown = rw (c.in_ok-whole.ensures.frame, frame_then at.After-frame-frame margin margins is) at (c.in_ok-picture.ensures.exact black whole) in
     told ∙ ap Ok (rw (shown, c.cut_left.ensures, c.cut_right.ensures) refl)
 

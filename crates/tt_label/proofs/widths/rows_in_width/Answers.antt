@@ -24,28 +24,6 @@ its rs = map (λ (v : Vec (ℕ × ℕ) Global). v.items) rs
 more_then : (c : In_ok-picture) → c.saturating_sub-more.result ≡ length c.in_ok-broken.broken.rows.items - 1
 more_then c = omega (arith, c.saturating_sub-more.ensures, c.len.ensures, c.in_ok-broken.broken.rows.ok.0)
 
-pub lay_rows-laid-requires-clause-rows : goal.lay_rows-laid-requires-clause-rows
-lay_rows-laid-requires-clause-rows c = λ k d below.
-    let rs = c.in_ok-broken.broken.rows.items in
-    let least = rw c.deref.ensures.value at c.widest.ensures.least in
-    (c.in_ok-broken.ensures.short k d below, c.in_ok-picture.ensures.rows (width_of (get_or rs k d).items) (least k d below))
-
-pub lay_rows-laid-requires-clause-last : goal.lay_rows-laid-requires-clause-last
-lay_rows-laid-requires-clause-last c =
-    let more = more_then (goal.at.lay_rows-laid-requires-clause-last c).In_ok-picture in
-    let rise : SFits w32 c.row_heights-heights.result.rise = omega (arith, ints, c.row_heights-heights.ensures.within.rise) in
-    simp to_z-of_z (rw (← more) c.in_ok-picture.ensures.last)
-
-pub lay_rows-laid-requires-clause-first : goal.lay_rows-laid-requires-clause-first
-lay_rows-laid-requires-clause-first c =
-    let near = c.row_heights-heights.ensures.within.rise in
-    let rise : SFits w32 c.row_heights-heights.result.rise = omega (arith, ints, near) in
-    simp to_z-of_z (omega (arith, near))
-
-pub lay_rows-laid-requires-clause-count : goal.lay_rows-laid-requires-clause-count
-lay_rows-laid-requires-clause-count c =
-    let few = c.in_ok-broken.ensures.count in omega (arith, few, c.requires.rows)
-
 -- the picture of the rows
 picture_then : (c : In_ok-picture) → width_picture c.row_heights-heights.result (length (its c.in_ok-broken.broken.rows.items) - 1)
     (widest (its c.in_ok-broken.broken.rows.items)) c.args.width c.args.margin c.args.align ≡ Ok c.in_ok-picture.picture
