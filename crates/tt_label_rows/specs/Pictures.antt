@@ -22,7 +22,7 @@ below_zero (negsuc n) = suc n
 abbrev pub shift_of : Align → ℕ → ℕ → ℤ
 shift_of how room width = indent_by how (pos room -ℤ pos width)
 
--- the columns by which rows of at most this width begin before the left margin
+-- how many columns before the left margin rows of at most this width begin
 abbrev pub skipped_by : Align → ℕ → ℕ → ℕ
 skipped_by how room widest = below_zero (shift_of how room widest)
 
@@ -44,7 +44,7 @@ abbrev pub rows_placed : RowsPicture → ℕ → ℤ → List (List (ℕ × ℕ)
 rows_placed p step rise [] = []
 rows_placed p step rise (row ∷ rows) = row_placed p rise row ∷ rows_placed p step (rise +ℤ pos step) rows
 
--- the picture in which a row and this many more stand, which is n columns wide without those that are skipped. It has room
+-- the picture of a row and this many more, which is n columns wide without those that are skipped. It has room
 -- for the widest row too
 unfoldable pub width_picture : RowHeights → ℕ → ℕ → ℕ → ℕ → Align → Result RowsPicture JobFault
 width_picture h more widest n margin how =

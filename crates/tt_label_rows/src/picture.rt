@@ -25,7 +25,7 @@ pub struct RowsPicture {
     pub skipped: u32,
 }
 
-/// The columns by which rows of at most this width begin before the left margin.
+/// How many columns before the left margin rows of at most this width begin.
 fn skipped_by(align: Align, room: u32, widest: u64) -> u64
     requires room { room ≤ width_limit }
     requires widest { widest < 2 ^ 45 }
