@@ -52,8 +52,8 @@ pub(crate) fn fit_all(
     ensures numbers { IfOk result (λ t. fitted_numbers t.fitted.items ≡ distinct (map (λ g. g.0) glyphs.now)) }
     ensures places { IfOk result (λ t. ArePlaces t.places.items (fitted_numbers t.fitted.items)) }
     ensures room { IfOk result (λ t. length t.places.items ≡ glyphs_of source.now.face.now.metrics) }
-    ensures made { IfOk result (λ t. (os : List Outline) × (outlines_in fitter.old (map (λ g. g.0) glyphs.now) ≡ Ok os)) }
-    ensures points { IfOk result (λ t. work_tested source.now.fit point_work_limit (points_in fitter.old (map (λ g. g.0) glyphs.now)) ≡ Ok tt) }
+    ensures outlines { IfOk result (λ t. (work_tested source.now.fit point_work_limit (points_in fitter.old (map (λ g. g.0) glyphs.now)) ≡ Ok tt)
+        × ((os : List Outline) × (outlines_in fitter.old (map (λ g. g.0) glyphs.now) ≡ Ok os))) }
     ensures after { IfOk result (λ t. fitter.new ≡ fitter_after (started fitter.old (map (λ g. g.0) glyphs.now)) (distinct (map (λ g. g.0) glyphs.now))) }
     ensures stops { IfTold refusal result (λ r. outlines_tested fitter.old source.now.fit (map (λ g. g.0) glyphs.now) ≡ Err r) }
 {

@@ -66,14 +66,13 @@ returns-clause-numbers c = rw (c.deref-2.ensures.value, c.in_ok-met.ensures.numb
 pub returns-clause-places : goal.returns-clause-places
 returns-clause-places c = rw (returns-clause-numbers c, ← c.in_ok-met.ensures.numbers) c.in_ok-met.ensures.places
 
-pub returns-clause-made : goal.returns-clause-made
-returns-clause-made c =
-    let all = goal.at.returns-clause-made c in
-    let numbers = c.in_ok-met.ensures.numbers in
-    rw (c.deref-2.ensures.value, numbers, charged_is all.In_ok-charge_points numbers) at c.in_ok-fitted.ensures.made
-
-pub returns-clause-points : goal.returns-clause-points
-returns-clause-points c = few_points (goal.at.returns-clause-points c).In_ok-charge_points c.in_ok-met.ensures.numbers
+pub returns-clause-outlines : goal.returns-clause-outlines
+returns-clause-outlines c =
+    let all = goal.at.returns-clause-outlines c in
+    let numbers = c.in_ok-met.ensures.numbers in (
+      few_points all.In_ok-charge_points numbers,
+      rw (c.deref-2.ensures.value, numbers, charged_is all.In_ok-charge_points numbers) at c.in_ok-fitted.ensures.made,
+    )
 
 pub returns-clause-after : goal.returns-clause-after
 returns-clause-after c =
