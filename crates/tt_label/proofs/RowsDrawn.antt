@@ -1,12 +1,12 @@
 -- The picture of rows whose glyphs are made.
-use Rattle.std.proofs.Common.{◌≡◌, ◌∙◌, refl, sym, ap, ℕ, ◌+◌, ◌-◌, ◌*◌, ◌<◌, ◌≤◌, Bool, true, List, length, map, get_or, Option, Result, Ok, Err, arith}
+use Rattle.std.proofs.Common.{◌≡◌, ◌∙◌, refl, sym, ℕ, ◌-◌, ◌*◌, ◌≤◌, true, List, length, map, Option, Result, Ok, Err, arith}
 use Rattle.std.proofs.lemmas.List.{length-map}
 use Rattle.std.specs.Prelude.{All, IfSome}
 use Rattle.tt_bitmap.specs.declared.ink.LeastBox.{LeastBox}
 use Rattle.tt_core.specs.declared.draw_fault.DrawFault.{DrawFault}
 use Rattle.tt_core.specs.declared.draw_fault.DrawFault.TheVariants as draw
 use Rattle.tt_core.specs.declared.fault.JobFault.{JobFault}
-use Rattle.tt_core.specs.Outcomes.{GivesUnless, IfTold, JobGives}
+use Rattle.tt_core.specs.Outcomes.{GivesUnless, JobGives}
 use Rattle.tt_face.specs.Faces.{Face}
 use Rattle.tt_fit.specs.Fitting.{Fitter}
 use Rattle.tt_label.specs.Begun.{CanFinish, HasFinish, begun_outcome}
@@ -17,7 +17,7 @@ use Rattle.tt_label.specs.RowViews.{AreRows}
 use Rattle.tt_label.specs.Views.{placements_of}
 use Rattle.tt_label.specs.Gathered.{AreReady, gathered, units_glyphs, units_in}
 use Rattle.tt_label.specs.Label.{grown_lines, joint, label_ink}
-use Rattle.tt_label.specs.Widths.{CutImage, LaidRows, columns_shown, cut_left, cut_right, drawn_in_width, laid_in_width, rows_drawn, rows_in_width, upright, width_outcome}
+use Rattle.tt_label.specs.Widths.{CutImage, LaidRows, columns_shown, cut_left, cut_right, laid_in_width, rows_drawn, rows_in_width, upright, width_outcome}
 use Rattle.tt_label.proofs.Larger.{as_many, each_line, larger_height, of_larger, of_one_size}
 use Rattle.tt_label.proofs.RowsPlaced.{HasSize, first_width, higher_alone, joint_have}
 use Rattle.tt_label.proofs.UnitGlyphs.{at_zero, zero_had, zero_numbers}
@@ -34,11 +34,11 @@ use Rattle.tt_rows.specs.declared.unit.RowUnit.{RowUnit}
 use Rattle.tt_strike.specs.declared.laid.Laid.{Laid}
 use Rattle.tt_strike.specs.Strikes.{SizedFace, job_by}
 use Rattle.tt_strike.proofs.Made.{inks_as_made}
-use Rattle.tt_strike.specs.Job.{Job, tested}
+use Rattle.tt_strike.specs.Job.{Job}
 use Rattle.tt_strike.specs.Made.{shapes_made}
 use Rattle.tt_strike.specs.Measures.{line_ink}
-use Rattle.tt_strike.specs.Picture.{line_shapes, setting_in}
-use Rattle.tt_strike.specs.Refusals.{Refused, as_font, as_job, job, refusal}
+use Rattle.tt_strike.specs.Picture.{setting_in}
+use Rattle.tt_strike.specs.Refusals.{refusal}
 use Rattle.tt_strike.specs.Work.{line_fitter}
 use Rattle.tt_strike.proofs.Stopped.{stops}
 

@@ -1,24 +1,21 @@
 -- The rows of a text in their picture.
-use Rattle.std.proofs.Common.{◌≡◌, ◌∙◌, refl, sym, ap, ℕ, ◌+◌, ◌-◌, ◌*◌, ◌<◌, ◌≤◌, ◌||◌, nat_lt, inl, inr, Err, ℤ, pos, ◌+ℤ◌, true, List, [], ◌∷◌, ◌++◌, length, map, take, drop, Vec, Global, Option, None, Some, Result, Ok, arith}
+use Rattle.std.proofs.Common.{◌≡◌, ◌∙◌, refl, ℕ, ◌+◌, ◌-◌, ◌*◌, ◌≤◌, ◌||◌, nat_lt, inl, inr, Err, ℤ, pos, ◌+ℤ◌, List, [], ◌∷◌, length, map, drop, Vec, Global, Option, None, Some, Ok, arith}
 use Rattle.std.proofs.lemmas.Bool.{cases_lt, cond-false, cond-true, le-ltb, lt-ltb}
 use Rattle.std.proofs.lemmas.List.{length-append, length-map}
-use Rattle.std.proofs.lemmas.List.Elements.{All-append, All-cons, All-drop, All-head, All-map, All-nil, All-tail, All-take, All-weaker}
+use Rattle.std.proofs.lemmas.List.Elements.{All-append, All-cons, All-drop, All-head, All-nil, All-tail, All-take}
 use Rattle.std.proofs.lemmas.Simd.{map-map}
-use Rattle.std.specs.List.{flat_map}
-use Rattle.std.specs.Prelude.{All, zero, suc}
+use Rattle.std.specs.Prelude.{All}
 use Rattle.tt_core.specs.Chains.{came-through, passed-on}
 use Rattle.tt_core.specs.declared.fault.JobFault.{JobFault}
 use Rattle.tt_core.specs.declared.fault.JobFault.TheVariants as fault
 use Rattle.tt_core.specs.Limits.{height_limit, width_limit}
-use Rattle.tt_core.specs.Outcomes.{each}
 use Rattle.tt_label.specs.Label.{grown_lines, joint}
-use Rattle.tt_label.specs.Made.{AreAlike}
 use Rattle.tt_label.specs.Widths.{LaidRows, laid_in_width, upright}
 use Rattle.tt_label.specs.Views.{placements_of}
 use Rattle.tt_label.proofs.Drawn.{joint_glyphs}
 use Rattle.tt_label.proofs.Joined.{all_flat, glyphs_joined}
 use Rattle.tt_label.proofs.UnitGlyphs.{its_units, units_have}
-use Rattle.tt_label.proofs.Larger.{all_large, larger_height, larger_width, of_one_size}
+use Rattle.tt_label.proofs.Larger.{all_large, larger_height, larger_width}
 use Rattle.tt_label_rows.specs.declared.picture.RowsPicture.{RowsPicture}
 use Rattle.tt_label_rows.specs.declared.heights.RowHeights.{RowHeights}
 use Rattle.tt_label_rows.specs.Heights.{row_heights}
@@ -37,7 +34,7 @@ use Rattle.tt_picture.specs.declared.ink_box.InkBox.{InkBox}
 use Rattle.tt_picture.proofs.Among.{of_same_glyphs}
 use Rattle.tt_rows.specs.declared.row.LineRow.{LineRow}
 use Rattle.tt_rows.specs.declared.unit.RowUnit.{RowUnit}
-use Rattle.tt_rows.specs.Rows.{row_from, rows, rows_from}
+use Rattle.tt_rows.specs.Rows.{rows, rows_from}
 use Rattle.tt_rows.specs.Widths.{part, stepped_row}
 use Rattle.tt_strike.specs.declared.laid.Laid.{Laid}
 

@@ -1,11 +1,10 @@
 -- The glyphs of the units of some lines.
-use Rattle.std.proofs.Common.{◌≡◌, ◌∙◌, refl, sym, ap, ℕ, ◌<◌, ◌≤◌, List, [], ◌∷◌, ◌++◌, length, map, Vec, Global, arith}
+use Rattle.std.proofs.Common.{◌≡◌, refl, ap, ℕ, ◌≤◌, List, [], ◌∷◌, length, map, Vec, Global, arith}
 use Rattle.std.proofs.lemmas.List.{length-append, length-map}
 use Rattle.std.proofs.lemmas.List.Elements.{All-append, All-cons, All-head, All-map, All-nil, All-tail}
 use Rattle.std.specs.List.{flat_map}
 use Rattle.std.specs.Prelude.{All}
-use Rattle.tt_cmap.specs.declared.units.TextUnit.{TextUnit}
-use Rattle.tt_cmap.specs.Maps.{CharacterMap, glyph_of_unit, units_by}
+use Rattle.tt_cmap.specs.Maps.{CharacterMap, units_by}
 use Rattle.tt_label.specs.Label.{label_glyphs}
 use Rattle.tt_label.proofs.Joined.{flat_all}
 use Rattle.tt_label_rows.specs.Units.{all_glyphs, line_units, text_units, unit_glyphs, unit_of}

@@ -6,11 +6,9 @@ use Rattle.std.proofs.lemmas.List.Sums.{sum_by-cons}
 use Rattle.std.specs.List.{flat_map, sum_by}
 use Rattle.std.specs.Prelude.{All, IfSome}
 use Rattle.tt_core.specs.declared.draw_fault.DrawFault.{DrawFault}
-use Rattle.tt_core.specs.declared.draw_fault.DrawFault.TheVariants as draw
 use Rattle.tt_core.specs.declared.font_fault.FontFault.{FontFault}
 use Rattle.tt_core.specs.declared.font_fault.FontFault.TheVariants as font
 use Rattle.tt_core.specs.Chains.{was-err}
-use Rattle.tt_core.specs.Faults.{Fault}
 use Rattle.tt_core.specs.Limits.{text_limit}
 use Rattle.tt_core.specs.declared.fault.JobFault.{JobFault}
 use Rattle.tt_core.specs.Outcomes.{FontGives, IfTold, draw_fault_of_font}
@@ -25,14 +23,13 @@ use Rattle.tt_rows.specs.Rows.{one_at_least}
 use Rattle.tt_line.specs.Layout.{Placement}
 use Rattle.tt_line.specs.Steps.{step_in_pixels}
 use Rattle.tt_picture.specs.Glyphs.{Glyph}
-use Rattle.tt_picture.specs.Pixels.{Shape}
 use Rattle.tt_picture.specs.Steps.{step_by}
 use Rattle.tt_rows.specs.declared.unit.RowUnit.{RowUnit}
 use Rattle.tt_label.specs.Begun.{begun_outcome}
 use Rattle.tt_strike.specs.Job.{Job, tested}
 use Rattle.tt_strike.specs.Made.{AreMade, shapes_made}
-use Rattle.tt_strike.specs.Picture.{advance_with, edges_tested, outlines_tested, setting, setting_in}
-use Rattle.tt_strike.specs.Refusals.{Refused, as_font, as_job, job, refusal}
+use Rattle.tt_strike.specs.Picture.{advance_with, outlines_tested, setting, setting_in}
+use Rattle.tt_strike.specs.Refusals.{Refused, as_font, job, refusal}
 use Rattle.tt_strike.specs.Strikes.{IsCacheOf, SizedFace, job_by, job_with}
 use Rattle.tt_strike.specs.Work.{is_bounded}
 use Rattle.tt_strike_kept.specs.Kept.{Kept}

@@ -1,6 +1,6 @@
 -- No part of the standard: a text that is broken into rows, whose glyphs are made before its rows are laid out.
 use Rattle.std.specs.List.{sum_by}
-use Rattle.std.specs.Prelude.{◌≡◌, ℕ, ◌≤◌, false, All, length, map, List, Result, Ok}
+use Rattle.std.specs.Prelude.{◌≡◌, ◌≤◌, false, All, length, map, Result, Ok}
 use Rattle.tt_core.specs.Limits.{text_limit}
 use Rattle.tt_core.specs.Outcomes.{◌>>=◌}
 use Rattle.tt_face.specs.Faces.{Face}

@@ -1,6 +1,6 @@
 -- No part of the standard: the glyphs of a text that is broken into rows. They are made one after the other, as those of one
 -- line, whatever rows they stand in.
-use Rattle.std.specs.Prelude.{◌≡◌, ℕ, ℤ, pos, if◌then◌else◌, true, false, List, map, Option, Result, Ok}
+use Rattle.std.specs.Prelude.{◌≡◌, ℕ, ℤ, pos, if◌then◌else◌, true, List, map, Option, Result, Ok}
 use Rattle.tt_core.specs.Limits.{point_work_limit}
 use Rattle.tt_core.specs.Outcomes.{◌>>=◌}
 use Rattle.tt_face.specs.Faces.{Face}

@@ -1,6 +1,6 @@
 -- No part of the standard: the picture of a label of a given width, whose lines are broken into rows (profile). Rows and
 -- columns of ink are added above and below alone. Ink past the sides is cut.
-use Rattle.std.specs.Prelude.{◌≡◌, refl, ℕ, ◌+◌, ◌-◌, ◌*◌, ℤ, pos, negsuc, ◌-ℤ◌, List, [], ◌∷◌, length, map, Option, None, Some, Result, Ok}
+use Rattle.std.specs.Prelude.{◌≡◌, refl, ℕ, ◌+◌, ◌-◌, ◌*◌, pos, negsuc, ◌-ℤ◌, List, length, Option, None, Some, Result, Ok}
 use Rattle.tt_bitmap.specs.declared.ink.LeastBox.{LeastBox}
 use Rattle.tt_core.specs.declared.fault.JobFault.{JobFault}
 use Rattle.tt_core.specs.Outcomes.{◌>>=◌}

@@ -1,7 +1,6 @@
-use Rattle.std.proofs.Common.{◌≡◌, ◌∙◌, ◌<◌, ◌≤◌, ℕ, List, Vec, Global, ap, length, map, sym, refl, false, Ok, arith}
+use Rattle.std.proofs.Common.{◌≡◌, ◌∙◌, ◌<◌, ◌≤◌, ℕ, ap, length, sym, refl, arith}
 use Rattle.std.proofs.lemmas.List.{length-map}
 use Rattle.std.proofs.lemmas.Result.{err_from_is_err_and}
-use Rattle.std.specs.Prelude.{All}
 use Rattle.tt_core.specs.Limits.{text_limit}
 use Rattle.tt_label.specs.Gathered.{gathered, units_glyphs}
 use Rattle.tt_label.proofs.UnitsMade.{count_as_many, lines_as_short, rows_as_few, shapes_make_units, shapes_stop_units, stopped_textless, unbounded_step}
@@ -11,7 +10,6 @@ use Rattle.tt_line.specs.Layout.{Placement}
 use Rattle.tt_line.specs.Outcome.{placement_of}
 use Rattle.tt_line.specs.Steps.{step_in_pixels}
 use Rattle.tt_metrics.specs.Metrics.{glyphs_of}
-use Rattle.tt_rows.specs.declared.unit.RowUnit.{RowUnit}
 use Rattle.tt_strike.specs.Strikes.{SizedFace, job_by}
 use Rattle.tt_strike.proofs.Textless.{cost_textless, made_textless}
 use Rattle.tt_label.proofs.begun.begin_by_advances.Goals.{After-gathered_line-gathered, In_ok-all_glyphs}

@@ -1,13 +1,11 @@
-use Rattle.std.proofs.Common.{◌≡◌, ◌∙◌, ◌<◌, ◌≤◌, ℕ, ℤ, List, Vec, Global, ap, length, map, sym, refl, true, Ok, arith}
+use Rattle.std.proofs.Common.{◌≡◌, ◌∙◌, ◌<◌, ◌≤◌, ℕ, List, ap, length, map, sym, refl, true, arith}
 use Rattle.std.proofs.lemmas.List.{length-map}
 use Rattle.std.proofs.lemmas.Result.{err_from_is_err_and}
 use Rattle.std.specs.Prelude.{All}
 use Rattle.tt_core.specs.Limits.{text_limit}
-use Rattle.tt_face.specs.Faces.{Face}
 use Rattle.tt_fit.specs.Fitting.{Fitter}
-use Rattle.tt_label.specs.Gathered.{gathered, units_glyphs}
+use Rattle.tt_label.specs.Gathered.{units_glyphs}
 use Rattle.tt_label.proofs.UnitsMade.{bounded_step, count_as_many, lines_as_short, outlines_make_units, outlines_stop_units, rows_as_few, setting_stops_units}
-use Rattle.tt_label.proofs.Joined.{each_short}
 use Rattle.tt_label.proofs.UnitGlyphs.{as_many_glyphs, at_zero, glyphs_have, its_units, units_have, zero_had, zero_have, zero_numbers, zero_pens}
 use Rattle.tt_label_rows.specs.Units.{all_glyphs, text_units}
 use Rattle.tt_metrics.specs.Metrics.{glyphs_of}

@@ -1,6 +1,5 @@
-use Rattle.std.proofs.Common.{◌≡◌, ◌∙◌, refl, Ok, Err}
+use Rattle.std.proofs.Common.{◌∙◌, refl}
 use Rattle.std.proofs.lemmas.Result.{err_from_is_err_and}
-use Rattle.tt_core.specs.declared.draw_fault.DrawFault.{DrawFault}
 use Rattle.tt_label.proofs.UnitsMade.{begun_stops, untested_begins}
 use Rattle.tt_strike.specs.Strikes.{SizedFace, job_by}
 use Rattle.tt_strike.proofs.Stopped.{tested_at}

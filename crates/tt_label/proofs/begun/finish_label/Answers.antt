@@ -1,26 +1,12 @@
-use Rattle.std.proofs.Common.{◌≡◌, ◌∙◌, refl, sym, ap, ℕ, List, map, true, Result, Ok}
-use Rattle.std.proofs.lemmas.Result.{IfOk-weaker}
-use Rattle.std.specs.Prelude.{All, IfSome}
-use Rattle.tt_core.specs.declared.draw_fault.DrawFault.{DrawFault}
-use Rattle.tt_core.specs.Faults.{Fault}
-use Rattle.tt_core.specs.Outcomes.{GivesUnless, IfTold}
-use Rattle.tt_face.specs.Faces.{Face}
-use Rattle.tt_fit.specs.Fitting.{Fitter}
-use Rattle.tt_label.specs.Begun.{HasStage}
-use Rattle.tt_label.specs.Gathered.{AreBegun, AreReady, gathered, units_glyphs}
+use Rattle.std.proofs.Common.{◌≡◌, ◌∙◌, sym, ap}
+use Rattle.tt_label.specs.Gathered.{AreBegun, units_glyphs}
 use Rattle.tt_label.proofs.Finished.{finish_ready, finish_stops, ready_again}
 use Rattle.tt_label.proofs.UnitGlyphs.{at_zero, zero_numbers}
 use Rattle.tt_label.proofs.UnitsMade.{cache_for}
 use Rattle.tt_line.specs.Layout.{Placement}
-use Rattle.tt_picture.specs.declared.glyphs.Glyphs.{Glyphs}
 use Rattle.tt_picture.specs.Distinct.{distinct}
-use Rattle.tt_picture.specs.Fitted.{AreFitted, fitted_chords, fitted_numbers}
-use Rattle.tt_picture.specs.Glyphs.{AreDrawn, Glyph, numbers_of}
-use Rattle.tt_picture.specs.Shapes.{crossings_in}
-use Rattle.tt_strike.specs.Job.{Job}
 use Rattle.tt_strike.specs.Strikes.{SizedFace, job_by}
-use Rattle.tt_strike.specs.Refusals.{as_job, refusal}
-use Rattle.tt_strike.specs.Work.{edges_limited, line_fitter}
+use Rattle.tt_strike.specs.Work.{line_fitter}
 use Rattle.tt_strike.proofs.Caches.{of_face}
 use Rattle.tt_strike.proofs.Setting.{maker_alike}
 use Rattle.tt_label.proofs.begun.finish_label.Goals.{In-Fitted}

@@ -1,8 +1,7 @@
-use Rattle.std.proofs.Common.{◌≡◌, ◌∙◌, ap, ℕ, List, [], true, map, refl, Ok}
+use Rattle.std.proofs.Common.{◌≡◌, ℕ, List, [], map, refl, Ok}
 use Rattle.std.proofs.lemmas.Result.{err_from_is_err_and}
 use Rattle.tt_core.specs.Limits.{point_work_limit}
 use Rattle.tt_picture.specs.Distinct.{distinct}
-use Rattle.tt_picture.specs.Fitted.{fitted_numbers}
 use Rattle.tt_picture.proofs.Cached.{cached_stays}
 use Rattle.tt_picture.proofs.Listing.{distinct_differ}
 use Rattle.tt_strike.specs.Work.{points_in, started, work_tested}

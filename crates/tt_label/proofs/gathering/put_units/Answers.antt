@@ -1,15 +1,10 @@
-use Rattle.std.proofs.Common.{◌≡◌, ◌∙◌, sym, ap, ap₂, ℕ, zero, suc, ℤ, ◌+◌, ◌<◌, ◌≤◌, List, [], ◌∷◌, drop, get_or, length, map, refl, true, arith}
-use Rattle.tt_picture.specs.Distinct.{is_among}
-use Rattle.tt_picture.specs.Fitted.{fitted_numbers}
-use Rattle.std.proofs.lemmas.List.{get_or-map, length-map, with_items_is}
-use Rattle.std.proofs.lemmas.List.Elements.{All-map}
-use Rattle.std.proofs.lemmas.Simd.{map-map}
-use Rattle.tt_label_rows.proofs.SteppedUnits.{all_stepped, at_zero, one_stepped}
+use Rattle.std.proofs.Common.{◌≡◌, ◌∙◌, sym, ap, ℕ, zero, suc, ℤ, ◌+◌, ◌<◌, List, [], ◌∷◌, drop, get_or, length, refl, arith}
+use Rattle.std.proofs.lemmas.List.{get_or-map, length-map}
+use Rattle.tt_label_rows.proofs.SteppedUnits.{all_stepped, one_stepped}
 use Rattle.tt_label_rows.specs.Units.{unit_glyphs}
-use Rattle.tt_line.proofs.Stepped.{length-stepped, stepped_at}
+use Rattle.tt_line.proofs.Stepped.{stepped_at}
 use Rattle.tt_line.specs.Steps.{kerning_before, stepped}
 use Rattle.tt_metrics.specs.Metrics.{Metrics}
-use Rattle.tt_picture.specs.Fitted.{AreAdvances}
 use Rattle.tt_picture.specs.Steps.{step_by}
 use Rattle.tt_rows.specs.Breaks.{no_unit}
 use Rattle.tt_rows.specs.declared.unit.RowUnit.{RowUnit}

@@ -1,23 +1,17 @@
-use Rattle.std.proofs.Common.{◌≡◌, ◌∙◌, refl, ap, sym, ℕ, ◌≤◌, ◌-◌, ◌*◌, List, map, Vec, Global, Ok, Err, true, arith}
+use Rattle.std.proofs.Common.{◌≡◌, ◌∙◌, refl, ap, ◌-◌, ◌*◌, Ok, Err, true}
 use Rattle.std.proofs.lemmas.Result.{err_from_is_err_and}
-use Rattle.std.specs.Prelude.{All}
 use Rattle.tt_face.specs.Faces.{Face}
-use Rattle.tt_label.specs.Begun.{HasBegun}
-use Rattle.tt_label.specs.Gathered.{AreReady, gathered, units_glyphs, units_in}
+use Rattle.tt_label.specs.Gathered.{AreReady, gathered, units_glyphs}
 use Rattle.tt_label.specs.RowViews.{cut_view, rows_view}
-use Rattle.tt_label.specs.Widths.{laid_in_width, rows_in_width}
+use Rattle.tt_label.specs.Widths.{rows_in_width}
 use Rattle.tt_label.proofs.RowsDrawn.{begun_stops_width, drawn_gives_width, finish_at, ready_at, rows_given, rows_stop_width, shapes_stop_width, text_among, text_drawn, text_inks, unready_at}
 use Rattle.tt_label.proofs.RowsPlaced.{rows_have}
 use Rattle.tt_label.proofs.UnitGlyphs.{its_units}
 use Rattle.tt_label.proofs.UnitsMade.{begun_is, units_in_glyphs}
-use Rattle.tt_label_rows.specs.Rows.{text_rows}
 use Rattle.tt_label_rows.specs.Units.{all_glyphs}
-use Rattle.tt_metrics.specs.Metrics.{Metrics}
 use Rattle.tt_picture.specs.Distinct.{is_among}
 use Rattle.tt_picture.specs.Glyphs.{numbers_of}
 use Rattle.tt_picture.specs.Unfitted.{ListsOnce}
-use Rattle.tt_rows.specs.declared.unit.RowUnit.{RowUnit}
-use Rattle.tt_strike.specs.Costs.{line_cost}
 use Rattle.tt_strike.specs.Measures.{line_ink}
 use Rattle.tt_strike.specs.Report.{line_report}
 use Rattle.tt_strike.specs.Strikes.{SizedFace, job_by}

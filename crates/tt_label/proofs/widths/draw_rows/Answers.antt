@@ -8,7 +8,6 @@ use Rattle.tt_label.specs.Widths.{upright}
 use Rattle.tt_label.proofs.Larger.{first_frame}
 use Rattle.tt_label.proofs.RowsDrawn.{alike_larger, among_larger, growth_stops_rows, rows_as_drawn, some_larger, width_larger}
 use Rattle.tt_label.proofs.Shown.{are_lines, placed_image}
-use Rattle.tt_line.specs.Outcome.{placement_of}
 use Rattle.tt_picture.specs.Glyphs.{numbers_of}
 use Rattle.tt_picture.specs.Pictures.{image, image_of}
 use Rattle.tt_scan_edges.specs.declared.edge.Frame.{Frame}

@@ -1,18 +1,11 @@
-use Rattle.std.proofs.Common.{◌≡◌, ◌∙◌, ◌<◌, ◌≤◌, ◌-◌, ◌*◌, ◌+◌, ◌+ℤ◌, ◌≤ℤ◌, pos, ℕ, ℤ, List, Vec, Global, ap, get_or, length, map, sym, refl, Err, Ok, arith, SFits, w32}
+use Rattle.std.proofs.Common.{◌≡◌, ◌∙◌, ◌-◌, ◌*◌, ℕ, List, Vec, Global, ap, length, map, sym, Err, Ok, arith, SFits, w32}
 use Rattle.std.proofs.lemmas.Int.{ints, to_z-of_z}
 use Rattle.std.proofs.lemmas.List.{length-map}
 use Rattle.std.proofs.lemmas.Result.{err_from_is_err_and}
-use Rattle.std.specs.Prelude.{All}
-use Rattle.tt_core.specs.Limits.{text_limit}
 use Rattle.tt_label.specs.Views.{placements_of}
-use Rattle.tt_label.specs.Widths.{LaidRows, laid_in_width}
 use Rattle.tt_label.proofs.RowsPlaced.{laid_rows, laid_rows_fail, rows_counted, rows_sized, some_rows, wide_picture}
-use Rattle.tt_label_rows.specs.Heights.{row_heights}
-use Rattle.tt_label_rows.specs.Pictures.{rows_placed, start_of, width_picture}
-use Rattle.tt_label_rows.specs.Rows.{text_rows}
-use Rattle.tt_line.specs.Labels.{widest, width_of}
-use Rattle.tt_line.specs.Layout.{Placement}
-use Rattle.tt_line.specs.Outcome.{placement_of}
+use Rattle.tt_label_rows.specs.Pictures.{rows_placed, width_picture}
+use Rattle.tt_line.specs.Labels.{widest}
 use Rattle.tt_rows.specs.declared.unit.RowUnit.{RowUnit}
 use Rattle.tt_label.proofs.widths.rows_in_width.Goals.{In_ok-broken, In_ok-lines, In_ok-picture}
 use Rattle.tt_label.proofs.widths.rows_in_width.Goals as goal

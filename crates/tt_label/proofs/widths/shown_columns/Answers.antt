@@ -1,9 +1,7 @@
-use Rattle.std.proofs.Common.{◌≡◌, ◌∙◌, refl, ap, sym, ℕ, ◌+◌, Bool, true, false, ◌==◌, ◌&&◌, zero-add, arith}
-use Rattle.std.proofs.lemmas.Bool.Decides.{nat_tests}
-use Rattle.tt_picture.specs.Pictures.{Image, image, narrowed}
+use Rattle.std.proofs.Common.{◌≡◌, ap, ℕ, ◌+◌, Bool, arith}
+use Rattle.tt_picture.specs.Pictures.{image, narrowed}
 use Rattle.tt_picture.proofs.Alike.{image_alike}
 use Rattle.tt_scan_edges.specs.declared.edge.Frame.{Frame}
-use Rattle.tt_label.proofs.widths.shown_columns.Goals as goal
 
 all_columns : (f : Frame) (width from : ℕ) (black : ℕ → ℕ → Bool) → from ≡ 0 → width ≡ f.width
     → image f black ≡ image (narrowed f width) (λ c r. black (from + c) r)
