@@ -24,11 +24,11 @@ use Rattle.tt_strike.specs.Picture.{frame_of}
 use Rattle.tt_strike.proofs.Enlarged.{same_numbers}
 
 -- the size of a picture in which this ink is not cut
-abbrev larger_width : ℕ → ℕ → Option InkBox → ℕ
+abbrev pub larger_width : ℕ → ℕ → Option InkBox → ℕ
 larger_width w h None = w
 larger_width w h (Some b) = w + (lacking w h b).left + (lacking w h b).right
 
-abbrev larger_height : ℕ → ℕ → Option InkBox → ℕ
+abbrev pub larger_height : ℕ → ℕ → Option InkBox → ℕ
 larger_height w h None = h
 larger_height w h (Some b) = h + (lacking w h b).top + (lacking w h b).bottom
 
@@ -39,7 +39,7 @@ one_large w h (Some b) l m size is =
     let same : with_sides l (lacking l.width l.height b) ≡ m = as_large (with_sides l (lacking l.width l.height b)) m is in
     rw (← same, size.0, size.1) (refl, refl)
 
-all_large : (w h : ℕ) (ink : Option InkBox) (ls ms : List Placement) → All (λ (l : Placement). (l.width ≡ w) × (l.height ≡ h)) ls
+pub all_large : (w h : ℕ) (ink : Option InkBox) (ls ms : List Placement) → All (λ (l : Placement). (l.width ≡ w) × (l.height ≡ h)) ls
     → each (λ l. grown l ink) ls ≡ Ok ms
     → All (λ (m : Placement). (m.width ≡ larger_width w h ink) × (m.height ≡ larger_height w h ink)) ms
 all_large w h ink [] ms sizes is =
@@ -57,7 +57,7 @@ all_large w h ink (l ∷ ls) ms sizes is =
     (all_large w h ink ls rest.value (All-tail P l ls sizes) rest.first))
 
 -- so all have the size of the first
-of_one_size : (w h : ℕ) (ls : List Placement) → All (λ (l : Placement). (l.width ≡ w) × (l.height ≡ h)) ls → AreAlike ls
+pub of_one_size : (w h : ℕ) (ls : List Placement) → All (λ (l : Placement). (l.width ≡ w) × (l.height ≡ h)) ls → AreAlike ls
 of_one_size w h [] all = All-nil (λ (l : Placement). (l.width ≡ (joint []).width) × (l.height ≡ (joint []).height))
 of_one_size w h (l ∷ ls) all =
     let P : Placement → Type 0 = λ l. (l.width ≡ w) × (l.height ≡ h) in
@@ -65,7 +65,7 @@ of_one_size w h (l ∷ ls) all =
     All-weaker P (λ (m : Placement). (m.width ≡ l.width) × (m.height ≡ l.height))
     (λ m size. (size.0 ∙ sym first.0, size.1 ∙ sym first.1)) (l ∷ ls) all
 
-as_many : (ink : Option InkBox) (ls ms : List Placement) → each (λ l. grown l ink) ls ≡ Ok ms → length ms ≡ length ls
+pub as_many : (ink : Option InkBox) (ls ms : List Placement) → each (λ l. grown l ink) ls ≡ Ok ms → length ms ≡ length ls
 as_many ink [] ms is = let none : [] ≡ ms = cc in rw (← none) refl
 as_many ink (l ∷ ls) ms is =
     let f : Placement → Result Placement JobFault = λ l. grown l ink in

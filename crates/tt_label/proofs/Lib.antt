@@ -2,6 +2,7 @@ pub mod ByAdvances
 pub mod ByStep
 pub mod Drawn
 pub mod EmptyTexts
+pub mod Finished
 pub mod Grown
 pub mod Joined
 pub mod LabelApart
@@ -12,4 +13,8 @@ pub mod NeverEmpty
 pub mod OneLine
 pub mod OneLineDrawn
 pub mod Placed
+pub mod RowsDrawn
+pub mod RowsPlaced
 pub mod Shown
+pub mod UnitGlyphs
+pub mod UnitsMade

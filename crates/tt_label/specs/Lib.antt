@@ -1,6 +1,10 @@
+pub mod Begun
 pub mod Fitted
+pub mod Gathered
 pub mod InkLaws
 pub mod Label
 pub mod LineLaws
 pub mod Made
+pub mod RowViews
 pub mod Views
+pub mod Widths

@@ -16,7 +16,7 @@ use tt_picture::{InkBox, joined};
 use tt_strike::{InkedGlyphs, Laid, grown, line_ink};
 
 /// The least box of the ink of some lines, whose glyphs are among these.
-pub(crate) fn label_ink(lines: &[Laid], inked: &InkedGlyphs) -> Option<InkBox>
+pub fn label_ink(lines: &[Laid], inked: &InkedGlyphs) -> Option<InkBox>
     requires { All (λ l. HasGlyphsOf (numbers_of inked.now.glyphs.made.items) l.line.glyphs.items) lines.now }
     ensures { (ink : ℕ → Option LeastBox) (margin : ℕ) → inked.now.inks.items ≡ map ink (numbers_of inked.now.glyphs.made.items)
         → All (λ l. l.margin ≡ margin) lines.now → result ≡ label_ink ink margin (placements_of lines.now) }

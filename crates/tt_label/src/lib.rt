@@ -3,23 +3,35 @@
 //! ```text
 //! joining.rt  the glyphs of several lines as those of one line
 //! fitting.rt  the glyphs of a label, fitted, and their steps
+//! gathering.rt  the glyphs of a text that is broken into rows, and the steps of its units
+//! begun.rt    these units and glyphs, made once for all rows
 //! made.rt     the lines of a label, laid out, and their glyphs
 //! growing.rt  the columns and rows that the ink of all lines needs
 //! placing.rt  the lines, each with its base line in the picture
 //! labelling.rt  the picture
+//! widths.rt   the picture of a given width
 //! laws.rt     laws of the definitions
 //! ```
 #![tactic(auto)]
 
+mod begun;
 mod fitting;
+mod gathering;
 mod growing;
 mod joining;
 mod labelling;
 pub mod laws;
 mod made;
 mod placing;
+mod widths;
 
+pub use begun::{BegunLabel, Stage, begin_label, finish_label};
+pub use gathering::FittedGlyphs;
+pub use growing::label_ink;
 pub use labelling::label;
+pub use made::with_margin;
+pub use placing::placed_lines;
 pub use tt_core::DrawFault;
 pub use tt_line::{Align, unmarked};
 pub use tt_strike::{Face, Picture, Strike, Unfitted};
+pub use widths::{WidthLabel, label_in_width};

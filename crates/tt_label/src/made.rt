@@ -30,7 +30,7 @@ pub(crate) struct MadeLabel {
 }
 
 /// Some lines with their margin. Error: Memory.
-fn with_margin(alloc: Global, lines: Vec<Line>, margin: u32) -> Result<Vec<Laid>, AllocError>
+pub fn with_margin(alloc: Global, lines: Vec<Line>, margin: u32) -> Result<Vec<Laid>, AllocError>
     requires { margin ≤ margin_limit }
     ensures lines { IfOk result (λ v. placements_of v.items ≡ map placement_of lines.items) }
     ensures margin { IfOk result (λ v. All (λ l. l.margin ≡ margin) v.items) }

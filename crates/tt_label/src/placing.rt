@@ -8,7 +8,7 @@ use tt_picture::PlacedLine;
 use tt_strike::Laid;
 
 /// Some lines at their places in the picture. Error: Memory.
-pub(crate) fn placed_lines(alloc: Global, lines: &[Laid]) -> Result<Vec<PlacedLine<'_>>, AllocError>
+pub fn placed_lines(alloc: Global, lines: &[Laid]) -> Result<Vec<PlacedLine<'_>>, AllocError>
     ensures { IfOk result (λ v. map placed_parts v.items ≡ map laid_parts lines.now) }
 {
     let mut made = Vec::with_capacity(alloc, lines.len())?;

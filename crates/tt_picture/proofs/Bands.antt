@@ -85,7 +85,7 @@ they_show f len black bytes c r inside below painted =
     (grind (arith, nat_tests, inside)) (white_rows (stride f.width) r c len) (painted.columns r c below (omega (arith, inside)))
 
 -- some of the rows
-column_in : (n : ℕ) (band : List ℕ) (i c : ℕ) → column n band i c ≡ (bit_at (slice_index band (n * i + c / 8)) (7 - c % 8) == 1)
+pub column_in : (n : ℕ) (band : List ℕ) (i c : ℕ) → column n band i c ≡ (bit_at (slice_index band (n * i + c / 8)) (7 - c % 8) == 1)
 column_in n band i c =
     let byte : (8 * (n * i) + c) / 8 ≡ n * i + c / 8 = omega arith in
     let place : (8 * (n * i) + c) % 8 ≡ c % 8 = omega arith in

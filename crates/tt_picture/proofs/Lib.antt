@@ -1,3 +1,5 @@
+mod Pens
+mod RowsCut
 pub mod Alike
 pub mod Among
 pub mod Bands
@@ -14,11 +16,10 @@ pub mod Listing
 pub mod OutlineBox
 pub mod Outlines
 pub mod Parts
-mod Pens
 pub mod Placed
 pub mod Places
 pub mod RowBytes
-mod RowsCut
+pub mod RowColumns
 pub mod Seats
 pub mod Shown
 pub mod Standings

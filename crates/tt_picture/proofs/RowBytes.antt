@@ -47,7 +47,7 @@ columns_below (suc n) is_black =
     let twice : 2 ^ suc n ≡ 2 * 2 ^ n = omega (arith, pow_more 2 n, add-one n) in
     omega arith
 
-columns_bit : (n i : ℕ) (is_black : ℕ → Bool) → i < n → bit_at (columns n is_black) i
+pub columns_bit : (n i : ℕ) (is_black : ℕ → Bool) → i < n → bit_at (columns n is_black) i
     ≡ (if is_black (n - 1 - i) then 1 else 0)
 columns_bit zero i is_black within = absurd (omega arith)
 columns_bit (suc n) zero is_black within =

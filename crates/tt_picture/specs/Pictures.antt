@@ -37,6 +37,10 @@ image_of p = record { frame = p.frame; rows = p.rows }
 abbrev pub image : Frame → (ℕ → ℕ → Bool) → Image
 image f black = record { frame = f; rows = rows f.width black 0 (stride f.width * f.height) }
 
+-- a frame of another width
+abbrev pub narrowed : Frame → ℕ → Frame
+narrowed f width = record { width = width; height = f.height; margin = f.margin; rise = f.rise }
+
 -- the image in which some glyphs are drawn
 abbrev pub picture : Frame → List Shape → Image
 picture f glyphs = image f (is_black_pixel f glyphs)

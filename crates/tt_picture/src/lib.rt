@@ -24,6 +24,7 @@
 
 mod band;
 mod cache;
+mod columns;
 mod counting;
 mod cutting;
 mod fitted;

@@ -1,12 +1,13 @@
 //! The picture of some lines, whose rows are made in order.
 
-ghost use Rattle.std.specs.Prelude.{◌≡◌, ℕ, ◌+ℤ◌, ◌+◌, ◌-◌, ◌*◌, ◌≤◌, min, pos, length, IfOk};
+ghost use Rattle.std.specs.Prelude.{◌≡◌, ℕ, ◌+ℤ◌, ◌+◌, ◌-◌, ◌*◌, ◌≤◌, min, pos, length, IfOk, Some};
 ghost use Rattle.tt_core.specs.Bits.{stride};
 ghost use Rattle.tt_core.specs.Limits.{width_limit, height_limit};
 ghost use Rattle.tt_fit.specs.Fitting.{Fitter};
 ghost use Rattle.tt_picture.specs.Glyphs.{AreDrawn, numbers_of};
 ghost use Rattle.tt_picture.specs.Lines.{AreLinesOf, some_line_shows};
 ghost use Rattle.tt_picture.specs.Pictures.{IsPictureFrame, IsReady, band_rows, image, image_of, rows_at};
+ghost use Rattle.tt_picture.specs.Stamps.{AreRowsOf, rows_show};
 ghost use Rattle.tt_picture.specs.Unfitted.{unfitted_standing};
 
 use crate::band::{row_bytes, write_rows};
@@ -83,6 +84,32 @@ impl Picture {
         })
     }
 
+    /// The picture whose rows have these bytes, with no row made yet. The bits after the last pixel of a row are 0.
+    pub fn of_rows(alloc: Global, frame: Frame, rows: Vec<u8>, report: Report) -> Picture
+        requires frame { IsPictureFrame frame }
+        requires rows { AreRowsOf frame rows.items }
+        ensures exact { image_of result ≡ image frame (rows_show frame (Some rows.items)) }
+        ensures valid { IsReady result }
+        ensures frame { result.frame ≡ frame }
+        ensures unfitted { result.unfitted ≡ report.unfitted.items }
+        ensures cost { result.cost ≡ report.cost }
+    {
+        Picture {
+            frame,
+            stamps: Vec::new(alloc),
+            large: Some(rows),
+            made: 0,
+            report,
+        }
+    }
+
+    /// The size of the picture, its margin, and its base line.
+    pub(crate) fn frame(&self) -> Frame
+        ensures { result ≡ self.now.frame }
+    {
+        self.frame
+    }
+
     /// Pixels in a row: 1 to 16,384.
     pub fn width(&self) -> u32
         ensures exact { result ≡ self.now.frame.width }
@@ -138,7 +165,8 @@ impl Picture {
 
     /// The picture's report.
     pub fn into_report(self) -> Report
-        ensures { result.unfitted.items ≡ self.unfitted }
+        ensures unfitted { result.unfitted.items ≡ self.unfitted }
+        ensures cost { result.cost ≡ self.cost }
     {
         let Picture { report, .. } = self;
         report

@@ -1,6 +1,6 @@
 //! Breaks a line into rows.
 
-ghost use Rattle.std.specs.Prelude.{◌≡◌, ◌+◌, ◌<◌, ◌≤◌, drop, length, IfOk};
+ghost use Rattle.std.specs.Prelude.{◌≡◌, ◌+◌, ◌<◌, ◌≤◌, drop, length, All, IfOk};
 ghost use Rattle.tt_core.specs.Limits.{text_limit};
 ghost use Rattle.tt_rows.specs.Rows.{one_at_least, row_between, row_from, rows, whole_words};
 ghost use Rattle.tt_rows.specs.Widths.{drawn};
@@ -49,6 +49,7 @@ fn row_between(line: &[RowUnit], from: usize, next: usize, broken: bool) -> Line
     requires within { next ≤ length line.now }
     ensures exact { result ≡ row_between line.now from next broken }
     ensures next { result.next ≡ next }
+    ensures drawn { (result.from ≤ result.until) × (result.until ≤ result.next) }
 {
     LineRow {
         from,
@@ -74,6 +75,7 @@ pub fn row_from(line: &[RowUnit], room: u32, from: usize) -> LineRow
     ensures exact { result ≡ row_from line.now room from }
     ensures after { from < result.next }
     ensures bound { result.next ≤ length line.now }
+    ensures drawn { (result.from ≤ result.until) × (result.until ≤ result.next) }
 {
     let count = fitting(&line[from..], room);
     if from + count == line.len() {
@@ -90,6 +92,8 @@ pub fn row_from(line: &[RowUnit], room: u32, from: usize) -> LineRow
 pub fn rows(alloc: Global, line: &[RowUnit], room: u32) -> Result<Vec<LineRow>, AllocError>
     requires few { length line.now ≤ text_limit }
     ensures exact { IfOk result (λ v. v.items ≡ rows line.now room) }
+    ensures within { IfOk result (λ v. All (λ r. (r.from ≤ r.until) × (r.until ≤ length line.now)) v.items) }
+    ensures count { IfOk result (λ v. length v.items ≤ one_at_least (length line.now)) }
 {
     let mut made = Vec::new(alloc);
     if line.is_empty() {

@@ -1,4 +1,4 @@
-use Rattle.std.proofs.Common.{◌≡◌, ◌∙◌, ap, ℕ, ◌<◌, map, sym, Vec, Global}
+use Rattle.std.proofs.Common.{◌∙◌, ap, ℕ, ◌<◌, Vec, Global}
 use Rattle.tt_label.proofs.Joined.{all_flat, lists_joined, one_joined}
 use Rattle.tt_metrics.specs.Metrics.{glyphs_of}
 use Rattle.tt_label.proofs.fitting.distinct_of.Goals as goal

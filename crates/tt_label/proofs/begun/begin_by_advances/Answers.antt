@@ -1,0 +1,93 @@
+use Rattle.std.proofs.Common.{◌≡◌, ◌∙◌, ◌<◌, ◌≤◌, ℕ, ap, length, sym, refl, arith}
+use Rattle.std.proofs.lemmas.List.{length-map}
+use Rattle.std.proofs.lemmas.Result.{err_from_is_err_and}
+use Rattle.tt_core.specs.Limits.{text_limit}
+use Rattle.tt_label.specs.Gathered.{gathered, units_glyphs}
+use Rattle.tt_label.proofs.UnitsMade.{count_as_many, lines_as_short, rows_as_few, shapes_make_units, shapes_stop_units, stopped_textless, unbounded_step}
+use Rattle.tt_label.proofs.UnitGlyphs.{as_many_glyphs, at_zero, glyphs_have, its_units, zero_have, zero_pens}
+use Rattle.tt_label_rows.specs.Units.{all_glyphs, text_units}
+use Rattle.tt_line.specs.Layout.{Placement}
+use Rattle.tt_line.specs.Outcome.{placement_of}
+use Rattle.tt_line.specs.Steps.{step_in_pixels}
+use Rattle.tt_metrics.specs.Metrics.{glyphs_of}
+use Rattle.tt_strike.specs.Strikes.{SizedFace, job_by}
+use Rattle.tt_strike.proofs.Textless.{cost_textless, made_textless}
+use Rattle.tt_label.proofs.begun.begin_by_advances.Goals.{After-gathered_line-gathered, In_ok-all_glyphs}
+use Rattle.tt_label.proofs.begun.begin_by_advances.Goals as goal
+
+-- the glyphs of the text
+flat_of : (c : In_ok-all_glyphs) → c.in_ok-all_glyphs.field-0.items ≡ at_zero (all_glyphs (its_units c.in_ok-units.units.items))
+flat_of c = rw c.deref-2.ensures.value at c.in_ok-all_glyphs.ensures
+
+few_then : (c : In_ok-all_glyphs) → length c.in_ok-all_glyphs.field-0.items ≤ text_limit
+few_then c =
+    let many = ap length (flat_of c) ∙ length-map (all_glyphs (its_units c.in_ok-units.units.items)) (λ (g : ℕ). (g, 0)) ∙ as_many_glyphs c.in_ok-units.units.items in
+    omega (arith, many, c.in_ok-units.ensures.few)
+
+pub gathered_line-gathered-requires-clause-few : goal.gathered_line-gathered-requires-clause-few
+gathered_line-gathered-requires-clause-few c = few_then (goal.at.gathered_line-gathered-requires-clause-few c).In_ok-all_glyphs
+
+pub gathered_line-gathered-requires-clause-pens : goal.gathered_line-gathered-requires-clause-pens
+gathered_line-gathered-requires-clause-pens c =
+    rw (flat_of (goal.at.gathered_line-gathered-requires-clause-pens c).In_ok-all_glyphs) (zero_pens (all_glyphs (its_units c.in_ok-units.units.items)))
+
+-- the gathered line
+line_then : (c : After-gathered_line-gathered) → placement_of c.gathered_line-gathered.result.line
+    ≡ gathered (all_glyphs (text_units c.sized.inside.source.face.now.cmap c.args.text.now))
+line_then c =
+    let units : its_units c.in_ok-units.units.items ≡ text_units c.sized.inside.source.face.now.cmap c.args.text.now = rw c.cmap.ensures.exact at c.in_ok-units.ensures.exact in
+    let flat : c.in_ok-all_glyphs.field-0.items ≡ at_zero (all_glyphs (its_units c.in_ok-units.units.items)) = rw c.deref-2.ensures.value at c.in_ok-all_glyphs.ensures in
+    c.gathered_line-gathered.ensures.line ∙ rw (flat, units) refl
+
+pub tested_glyphs-requires-clause-known : goal.tested_glyphs-requires-clause-known
+tested_glyphs-requires-clause-known c =
+    let all = goal.at.tested_glyphs-requires-clause-known c in
+    let P : ℕ → Type 0 = λ n. n < glyphs_of c.sized.inside.source.face.now.metrics in
+    let known = rw c.cmap.ensures.glyphs at c.in_ok-units.ensures.known in
+    let flat = flat_of all.In_ok-all_glyphs in
+    let own : c.gathered_line-gathered.result.line.glyphs.items ≡ c.in_ok-all_glyphs.field-0.items = ap (λ (l : Placement). l.glyphs) c.gathered_line-gathered.ensures.line in
+    rw (← c.sized.view_is, own, flat) (zero_have P (all_glyphs (its_units c.in_ok-units.units.items)) (glyphs_have P c.in_ok-units.units.items known))
+
+pub returns-in_err-glyphs-clause-stops : goal.returns-in_err-glyphs-clause-stops
+returns-in_err-glyphs-clause-stops c =
+    let z = c.args.sized.now in
+    let a = job_by z c.args.text.now c.args.margin in
+    let all = goal.at.returns-in_err-glyphs-clause-stops c in
+    let line : placement_of c.gathered_line-gathered.result.line ≡ gathered (units_glyphs z.face a) = rw (← c.sized.view_is) (line_then all.After-gathered_line-gathered) in
+    let p = err_from_is_err_and c.from_residual-in_err-glyphs.result c.from_residual-in_err-glyphs.ensures.1 in
+    rw (p.1, p.2) (shapes_stop_units z.face a c.in_err-glyphs.field-0.0 c.requires.unbounded
+    (stopped_textless z c.args.text.now c.args.margin c.gathered_line-gathered.result.margin (units_glyphs z.face a)
+    (placement_of c.gathered_line-gathered.result.line) c.in_err-glyphs.field-0.0 c.gathered_line-gathered.ensures.margin line c.in_err-glyphs.ensures.stops))
+
+pub returns-clause-begun : goal.returns-clause-begun
+returns-clause-begun c =
+    let z : SizedFace = record { face = c.sized.inside.source.face.now; ppem = c.sized.inside.source.ppem; fit = c.sized.inside.source.fit } in
+    let a = job_by z c.args.text.now c.args.margin in
+    let all = goal.at.returns-clause-begun c in
+    let gs = units_glyphs z.face a in
+    let line = line_then all.After-gathered_line-gathered in
+    let margin = c.gathered_line-gathered.ensures.margin in
+    let units : its_units c.in_ok-units.units.items ≡ text_units z.face.cmap a.text = rw c.cmap.ensures.exact at c.in_ok-units.ensures.exact in
+    let unbounded = rw (← c.sized.view_is) at c.requires.unbounded in
+    let textless = rw (← c.sized.view_is, line, margin) at c.in_ok-glyphs.ensures.made in
+    let made = made_textless z c.args.text.now c.args.margin (gathered gs) textless in
+    let cost = rw (← c.sized.view_is, line, margin) at c.in_ok-glyphs.ensures.cost in
+    let step = step_in_pixels z.face.metrics z.ppem in
+    let steps = rw (c.metrics-metrics.ensures, c.deref.ensures.value) at c.in_ok-lines.ensures in
+    rw (← c.sized.view_is) (
+      made.setting,
+      record {
+        tested = rw (← c.sized.view_is) at c.requires.tested;
+        made = shapes_make_units z.face a c.in_ok-glyphs.glyphs.made.items unbounded made;
+        finish = record {
+          opened = made.opened;
+          line = line;
+          stage = (unbounded, record { drawn = made; setting = refl; cost = cost_textless z c.args.text.now c.args.margin (gathered gs) ∙ cost });
+        };
+        lines = (rw units at steps) ∙ sym (unbounded_step z.face a made.setting unbounded);
+        margin = margin;
+        few = lines_as_short z.face.metrics step c.in_ok-units.units.items c.in_ok-lines.lines.items steps c.in_ok-units.ensures.few;
+        some = rw (count_as_many z.face.metrics step c.in_ok-units.units.items c.in_ok-lines.lines.items steps) c.in_ok-units.ensures.some;
+        rows = rows_as_few z.face.metrics step c.in_ok-units.units.items c.in_ok-lines.lines.items steps c.in_ok-units.ensures.rows;
+      },
+    )

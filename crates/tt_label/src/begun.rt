@@ -1,0 +1,180 @@
+//! The units of a text with their steps, and its glyphs, which are made once for all rows.
+
+ghost use Rattle.std.specs.Prelude.{◌≡◌, ◌<◌, ◌≤◌, true, false, length, map, chars, All, Ok, Err, IfOk, pos};
+ghost use Rattle.std.specs.List.{sum_by};
+ghost use Rattle.tt_core.specs.Limits.{margin_limit, text_limit};
+ghost use Rattle.tt_core.specs.Outcomes.{GivesUnless, IfTold};
+ghost use Rattle.tt_fit.specs.Fitting.{Fitter};
+ghost use Rattle.tt_label.specs.Begun.{HasFinish, IsBegun, begun_outcome};
+ghost use Rattle.tt_label.specs.Gathered.{AreReady, gathered, units_glyphs, units_made};
+ghost use Rattle.tt_line.specs.Outcome.{placement_of};
+ghost use Rattle.tt_picture.specs.Cached.{limit_of};
+ghost use Rattle.tt_rows.specs.Rows.{one_at_least};
+ghost use Rattle.tt_strike.specs.Job.{tested};
+ghost use Rattle.tt_strike.specs.Made.{shapes_made};
+ghost use Rattle.tt_strike.specs.Picture.{setting_in};
+ghost use Rattle.tt_strike.specs.Refusals.{refusal};
+ghost use Rattle.tt_strike.specs.Strikes.{IsCacheOf, job_by};
+ghost use Rattle.tt_strike.specs.Work.{is_bounded};
+
+use crate::gathering::{FittedGlyphs, fit_all, fitted_lines};
+use std::alloc::{AllocError, Global};
+use tt_core::DrawFault;
+use tt_label_rows::{all_glyphs, stepped_lines, text_units};
+use tt_line::Line;
+use tt_picture::{Cache, Glyphs};
+use tt_rows::RowUnit;
+use tt_strike::{Laid, SizedFace, is_bounded, test_margin, test_text, tested_edges};
+
+/// How far the glyphs of a text are made.
+#[derive(Drop)]
+pub enum Stage {
+    /// The glyphs are fitted, and so much work is left; only where work is bounded.
+    Fitted(FittedGlyphs, Option<u64>),
+    /// The glyphs are made; only where work is not bounded.
+    Made(Glyphs),
+}
+
+/// The units of a text with their steps, and its glyphs.
+#[derive(Drop)]
+pub struct BegunLabel {
+    /// The units of each line.
+    pub lines: Vec<Vec<RowUnit>>,
+    /// The glyphs of all units, one after the other, each at pen 0.
+    pub gathered: Laid,
+    pub stage: Stage,
+}
+
+/// Some glyphs as a line, whatever their places.
+fn gathered_line(glyphs: Vec<(u16, u32)>, margin: u32) -> Laid
+    requires margin { margin ≤ margin_limit }
+    requires few { length glyphs.items ≤ text_limit }
+    requires pens { All (λ g. g.1 ≤ 1) glyphs.items }
+    ensures line { placement_of result.line ≡ record { width = 1; height = 1; rise = pos 0; glyphs = glyphs.items } }
+    ensures margin { result.margin ≡ margin }
+{
+    let line = Line {
+        width: 1,
+        height: 1,
+        rise: 0,
+        glyphs,
+    };
+    Laid { line, margin }
+}
+
+/// The units of a text, by the steps of its glyphs, which are fitted; only where work is bounded. Errors, the first of:
+/// those of loca and glyf, of the programs; WorkLarge of the points; those of the glyphs in the order of the text. Memory
+/// may come at any allocation.
+fn begin_by_steps(
+    sized: &mut SizedFace,
+    text: &str,
+    margin: u32,
+    cache: &Cache,
+) -> Result<BegunLabel, DrawFault>
+    requires cache { IsCacheOf sized.old cache.now }
+    requires bounded { is_bounded sized.old.fit ≡ true }
+    requires tested { tested (job_by sized.old text.now margin) ≡ Ok tt }
+    requires margin { margin ≤ margin_limit }
+    requires text { length (chars text.now) ≤ text_limit }
+    ensures begun { IfOk result (IsBegun sized.old.face (job_by sized.old text.now margin)) }
+    ensures stops { IfTold refusal result (λ r. units_made sized.old.face (job_by sized.old text.now margin) ≡ Err r) }
+    ensures same { sized.new ≡ sized.old }
+{
+    let source = sized.source;
+    let units = text_units(source.alloc, source.face.cmap(), text)?;
+    let glyphs = all_glyphs(source.alloc, &units)?;
+    let mut fitter = sized.maker.take(&source)?;
+    let begun = fitter.work();
+    let fitted = fit_all(&source, &mut sized.table, &mut fitter, &glyphs, cache)?;
+    let left = fitter.work();
+    sized.maker.give_back(fitter, begun);
+    let lines = fitted_lines(&source, &fitted, &units)?;
+    Ok(BegunLabel {
+        lines,
+        gathered: gathered_line(glyphs, margin),
+        stage: Stage::Fitted(fitted, left),
+    })
+}
+
+/// The units of a text, by advances, and its glyphs; only where work is not bounded. Errors, the first of: those of loca
+/// and glyf, of the programs; those of the glyphs in the order of the text. Memory may come at any allocation.
+fn begin_by_advances(
+    sized: &mut SizedFace,
+    text: &str,
+    margin: u32,
+    cache: &mut Cache,
+) -> Result<BegunLabel, DrawFault>
+    requires cache { IsCacheOf sized.old cache.old }
+    requires unbounded { is_bounded sized.old.fit ≡ false }
+    requires tested { tested (job_by sized.old text.now margin) ≡ Ok tt }
+    requires margin { margin ≤ margin_limit }
+    requires text { length (chars text.now) ≤ text_limit }
+    ensures begun { IfOk result (IsBegun sized.old.face (job_by sized.old text.now margin)) }
+    ensures stops { IfTold refusal result (λ r. units_made sized.old.face (job_by sized.old text.now margin) ≡ Err r) }
+    ensures cache { IsCacheOf sized.old cache.new }
+    ensures limit { limit_of cache.new ≡ limit_of cache.old }
+    ensures same { sized.new ≡ sized.old }
+{
+    let source = sized.source;
+    let metrics = source.face.metrics();
+    let units = text_units(source.alloc, source.face.cmap(), text)?;
+    let lines = stepped_lines(source.alloc, metrics, source.ppem, &units)?;
+    let gathered = gathered_line(all_glyphs(source.alloc, &units)?, margin);
+    let glyphs = sized.tested_glyphs(&gathered, cache)?;
+    Ok(BegunLabel {
+        lines,
+        gathered,
+        stage: Stage::Made(glyphs),
+    })
+}
+
+/// The units of a text with their steps, and its glyphs. Errors, the first of: MarginRange, TextLong; those of the fit.
+pub fn begin_label(
+    sized: &mut SizedFace,
+    text: &str,
+    margin: u32,
+    cache: &mut Cache,
+) -> Result<BegunLabel, DrawFault>
+    requires cache { IsCacheOf sized.old cache.old }
+    ensures begun { IfOk result (IsBegun sized.old.face (job_by sized.old text.now margin)) }
+    ensures stops { IfTold refusal result (λ r. begun_outcome sized.old.face (job_by sized.old text.now margin) ≡ Err r) }
+    ensures cache { IsCacheOf sized.old cache.new }
+    ensures limit { limit_of cache.new ≡ limit_of cache.old }
+    ensures same { sized.new ≡ sized.old }
+{
+    let by_steps = is_bounded(sized.source.fit);
+    test_margin(margin)?;
+    test_text(text)?;
+    if by_steps {
+        return begin_by_steps(sized, text, margin, cache);
+    }
+    begin_by_advances(sized, text, margin, cache)
+}
+
+/// The glyphs of a label, drawn. Those that may be and are small enough are cached. Errors, where work is bounded:
+/// WorkLarge of their chords, and then of their crossings by the work that is left; Memory.
+pub fn finish_label(
+    sized: &mut SizedFace,
+    text: &str,
+    line: &Laid,
+    stage: Stage,
+    cache: &mut Cache,
+) -> Result<Glyphs, DrawFault>
+    requires cache { IsCacheOf sized.old cache.old }
+    requires stage { HasFinish sized.old.face (job_by sized.old text.now line.now.margin) line.now stage }
+    ensures ready { IfOk result (λ g. (s : Fitter) → setting_in sized.old.face (job_by sized.old text.now line.now.margin) ≡ Ok s
+        → AreReady sized.old.face (job_by sized.old text.now line.now.margin) s (units_glyphs sized.old.face (job_by sized.old text.now line.now.margin)) g.made.items g.cost) }
+    ensures stops { IfTold refusal result (λ r. shapes_made sized.old.face (job_by sized.old text.now line.now.margin)
+        (gathered (units_glyphs sized.old.face (job_by sized.old text.now line.now.margin))) ≡ Err r) }
+    ensures cache { IsCacheOf sized.old cache.new }
+    ensures limit { limit_of cache.new ≡ limit_of cache.old }
+    ensures same { sized.new ≡ sized.old }
+{
+    let source = sized.source;
+    let (glyphs, left) = match stage {
+        Stage::Made(glyphs) => return Ok(glyphs),
+        Stage::Fitted(glyphs, left) => (glyphs, left),
+    };
+    let FittedGlyphs { places, fitted } = glyphs;
+    tested_edges(source.alloc, source.fit, places, fitted, line, left, cache)
+}

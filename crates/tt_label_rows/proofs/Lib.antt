@@ -1,0 +1,4 @@
+pub mod Stood
+pub mod SteppedUnits
+pub mod InTheMiddle
+pub mod Broken

@@ -1,0 +1,4 @@
+pub mod Heights
+pub mod Pictures
+pub mod Rows
+pub mod Units
