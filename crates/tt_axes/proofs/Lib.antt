@@ -1,4 +1,5 @@
 mod Axes
+pub mod Digits
 mod Instances
 mod Lists
 mod Portions

@@ -1,5 +1,6 @@
 pub mod Avar
 pub mod Axes
+pub mod AxisWords
 pub mod Coordinates
 pub mod Fvar
 pub mod InstanceCoordinates

@@ -3,6 +3,7 @@
 
 mod avar;
 mod axis;
+mod axis_words;
 mod coordinates;
 mod fvar;
 mod instance;
@@ -15,6 +16,7 @@ mod words;
 
 pub use avar::Avar;
 pub use axis::Axis;
+pub use axis_words::read_axis_values;
 pub use coordinates::Coordinates;
 pub use fvar::Fvar;
 pub use instance::coordinates_of;

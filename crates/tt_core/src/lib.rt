@@ -2,6 +2,7 @@
 #![tactic(auto)]
 
 mod collection;
+mod cutting;
 mod device;
 mod directory;
 mod draw_fault;
@@ -14,6 +15,7 @@ mod number;
 mod scaling;
 
 pub use collection::{Reading, face_count};
+pub use cutting::cut;
 pub use device::{Device, IoFailed, Sink, Source};
 pub use directory::Dir;
 pub use draw_fault::DrawFault;
