@@ -5,5 +5,7 @@ pub mod Coordinates
 pub mod Fvar
 pub mod InstanceCoordinates
 pub mod Instances
+pub mod Laws
 pub mod Rounding
 pub mod Shares
+pub mod ShownValues

@@ -1,12 +1,12 @@
 //! The coordinates of an instance that a job asks for. OpenType, "fvar: Font Variations Table".
 
 ghost use Rattle.std.specs.Prelude.{◌≡◌, ◌<◌, ◌≤◌, true, length, map, IfOk, IfErr, IfSome, OnOk, unsigned_abs};
-ghost use Rattle.std.specs.List.{list_all, range_with_len};
+ghost use Rattle.std.specs.List.{range_with_len};
 ghost use Rattle.tt_core.specs.Directory.{HasNo};
 ghost use Rattle.tt_core.specs.Outcomes.{Gives};
 ghost use Rattle.tt_axes.specs.Fvar.{axis_count, instance_count};
 ghost use Rattle.tt_axes.specs.InstanceCoordinates.{coordinates_of, IsInstanceDefect};
-ghost use Rattle.tt_axes.specs.Instances.{coordinate_of, coordinates_in, first_place, has_axis, has_instance, last_value, IsWrongInstance};
+ghost use Rattle.tt_axes.specs.Instances.{coordinate_of, coordinates_in, first_place, has_axis, has_instance, last_value, missing_axis, IsWrongInstance};
 
 use crate::avar::Avar;
 use crate::coordinates::Coordinates;
@@ -41,11 +41,16 @@ impl<'a> Fvar<'a> {
         false
     }
 
-    /// Whether each value has an axis.
-    fn has_axes(&self, values: &[AxisValue]) -> bool
-        ensures { result ≡ list_all (has_axis self.now) values.now }
+    /// The tag of the first value without an axis.
+    pub fn missing_axis(&self, values: &[AxisValue]) -> Option<[u8; 4]>
+        ensures { result ≡ missing_axis self.now values.now }
     {
-        values.iter().all(|value| self.has_axis(*value))
+        for value in values {
+            if !self.has_axis(*value) {
+                return Some(value.tag);
+            }
+        }
+        None
     }
 
     /// Whether a named instance is there, if one is asked for.
@@ -112,7 +117,7 @@ impl<'a> Fvar<'a> {
         if !self.has_instance(named) {
             return Err(Fault::new(FVAR, 12, Why::NoInstance));
         }
-        if !self.has_axes(values) {
+        if self.missing_axis(values).is_some() {
             return Err(Fault::new(FVAR, 8, Why::NoAxis));
         }
         Ok(self.all_coordinates(named, values))
