@@ -8,4 +8,6 @@ mod Records
 mod Regions
 mod Rising
 mod Shares
+mod ShownDigits
+mod ShownParts
 mod Signed

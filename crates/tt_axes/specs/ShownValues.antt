@@ -1,6 +1,6 @@
 -- No part of a standard: a value of 16.16 as a decimal (profile), to the nearest 1/100000 and without zeros at its end.
 -- `--axis` reads the decimal as the same value.
-use Rattle.std.specs.Prelude.{◌≡◌, refl, ℕ, zero, suc, ◌+◌, ◌*◌, ◌/◌, ◌%◌, ◌^◌, ◌<◌, ◌==◌, if◌then◌else◌, ℤ, pos, negsuc, int_lt, unsigned_abs, List, [], ◌∷◌, ◌++◌, map, codes, decimal, Some}
+use Rattle.std.specs.Prelude.{◌≡◌, refl, ℕ, zero, suc, ◌+◌, ◌/◌, ◌%◌, ◌^◌, ◌==◌, if◌then◌else◌, ℤ, pos, negsuc, int_lt, unsigned_abs, List, [], ◌∷◌, ◌++◌, map, codes, decimal, Some}
 use Rattle.std.specs.Fmt.{digits}
 use Rattle.tt_axes.specs.AxisWords.{value_of}
 use Rattle.tt_axes.specs.Shares.{portion}

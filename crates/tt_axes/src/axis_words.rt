@@ -48,7 +48,7 @@ fn by_digits(digits: &[u8]) -> Option<u32>
 }
 
 /// The weight of the last of some digits behind a point, in 1/100000.
-fn last_weight(digits: usize) -> u32
+pub(crate) fn last_weight(digits: usize) -> u32
     requires some { 1 ≤ digits }
     requires few { digits ≤ 5 }
     ensures exact { result ≡ last_weight digits }

@@ -2,6 +2,7 @@
 
 ghost use Rattle.tt_axes.specs.Laws.{CoordinatesAreNear, CoordinatesRise, DefaultIsZero, DefaultsAreZero, NoPairKeeps, ZeroIsKept};
 ghost use Rattle.tt_axes.specs.Shares.{AllAtPeak, NothingAtEnds, RegionSharesFall, SharesFall};
+ghost use Rattle.tt_axes.specs.ShownValues.{PartsAreRead};
 
 /// Lemma: no axis makes a share larger. At its peak a variation keeps its share; at the ends of its region it has none.
 pub fn shares_fall()
@@ -25,4 +26,9 @@ pub fn defaults_are_zero()
     ensures instance { DefaultsAreZero }
     ensures pair { ZeroIsKept }
     ensures none { NoPairKeeps }
+{}
+
+/// Lemma: a magnitude of 16.16 in 1/100000, to the nearest, is read as the same magnitude.
+pub fn parts_are_read()
+    ensures { PartsAreRead }
 {}

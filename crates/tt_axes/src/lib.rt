@@ -11,6 +11,7 @@ pub mod laws;
 mod region;
 mod rounding;
 mod share;
+mod shown;
 mod values;
 mod words;
 
@@ -23,4 +24,5 @@ pub use instance::coordinates_of;
 pub use region::Ends;
 pub use rounding::{product_quotient, sixty_fourths, whole_units};
 pub use share::Share;
+pub use shown::value_text;
 pub use values::{AxisValue, NamedInstance};
