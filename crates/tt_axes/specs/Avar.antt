@@ -86,10 +86,10 @@ mapped_by None coordinates = coordinates
 mapped_by (Some avar) coordinates = all_mapped avar coordinates
 
 -- worked values: one axis, from -1 to -1, 0 to 0, 1/2 to 1/4 and 1 to 1
-abbrev avar_with : List ℕ → List ℕ
+abbrev pub avar_with : List ℕ → List ℕ
 avar_with list = (0 ∷ 1 ∷ 0 ∷ 0 ∷ 0 ∷ 0 ∷ 0 ∷ 1 ∷ []) ++ list
 
-abbrev four_pairs : List ℕ
+abbrev pub four_pairs : List ℕ
 four_pairs = avar_with (0 ∷ 4 ∷ 192 ∷ 0 ∷ 192 ∷ 0 ∷ 0 ∷ 0 ∷ 0 ∷ 0 ∷ 32 ∷ 0 ∷ 16 ∷ 0 ∷ 64 ∷ 0 ∷ 64 ∷ 0 ∷ [])
 
 it_is_there : map (λ n. is_avar n four_pairs) (1 ∷ 2 ∷ []) ≡ true ∷ false ∷ []

@@ -79,7 +79,7 @@ named_weights =
     with_at 12 (0 ∷ 4 ∷ []) weights
     ++ (1 ∷ 2 ∷ 0 ∷ 0 ∷ 0 ∷ 100 ∷ 0 ∷ 0 ∷ 1 ∷ 3 ∷ 0 ∷ 0 ∷ 2 ∷ 138 ∷ 0 ∷ 0 ∷ 1 ∷ 4 ∷ 0 ∷ 0 ∷ 3 ∷ 132 ∷ 0 ∷ 0 ∷ 1 ∷ 3 ∷ 0 ∷ 0 ∷ 3 ∷ 132 ∷ 0 ∷ 0 ∷ [])
 
-abbrev weight : ℤ → AxisValue
+abbrev pub weight : ℤ → AxisValue
 weight v = record { tag = codes "wght"; value = v }
 
 each_instance : map (λ k. coordinates_in named_weights (Some k) []) (0 ∷ 1 ∷ 2 ∷ 3 ∷ 4 ∷ [])
