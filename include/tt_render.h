@@ -402,6 +402,10 @@ uint32_t tt_message(const struct tt_answer *told, uint8_t *text, size_t room, st
     X(23, CoordRange) \
     X(24, CollectionVersion) \
     X(25, NoFace) \
+    X(26, VariationShape) \
+    X(27, NoAxis) \
+    X(28, NoInstance) \
+    X(29, GlyphVariation) \
     X(30, StepLimit) \
     X(31, StackFull) \
     X(32, StackShort) \

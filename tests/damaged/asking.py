@@ -28,6 +28,9 @@ PLACES_OF_FACE = {
     9: ("head", "maxp", "hhea", "hmtx"),
     **dict.fromkeys((10, 11), ("cmap",)),
     **dict.fromkeys((12, 13), ("loca",)),
+    26: ("fvar", "gvar"),
+    **dict.fromkeys((27, 28), ("fvar",)),
+    29: ("gvar",),
 }
 # The first number of the refusals of programs, and that of the refusals of requests.
 FIRST_OF_PROGRAMS, FIRST_OF_REQUESTS = 30, 60
@@ -45,7 +48,7 @@ def read_refusals():
 
 REFUSALS = read_refusals()
 # The numbers whose place is one alone, whatever the font; the place of a directory is that of a font alone.
-PLACES = {1: 0, 3: 0, 5: 12, 6: 18, 7: 50, 8: 0, 10: 0, 24: 4}
+PLACES = {1: 0, 3: 0, 5: 12, 6: 18, 7: 50, 8: 0, 10: 0, 24: 4, 27: 8, 28: 12}
 
 ANSWER = re.compile(r"([0-9]) ([0-9]+) ([0-9]+)\|(.*)")
 FAULT = r"([ -~]{4})\+(0|[1-9][0-9]*): ([1-9][0-9]*) ([A-Za-z]+)\|"

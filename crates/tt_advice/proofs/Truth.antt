@@ -34,8 +34,9 @@ kind_alone k l is = cc
 
 cff_lack : (f : Fault) (file : List ℕ) (n : ℕ) → lack_advice f file n ≡ hint.Fixed fixed.Cff → has_cff file n ≡ true
 cff_lack f file n is =
-    either (has_cff file n) _ _ _ _ is (λ holds e. holds)
-    (λ fails e. either (has_pictures file n) _ _ _ _ e (λ holds e. absurd cc) (λ fails e. absurd cc))
+    either (bytes_eq f.table (codes "fvar")) _ _ _ _ is (λ holds e. absurd cc) (λ fails e.
+    either (has_cff file n) _ _ _ _ e (λ holds e. holds)
+    (λ fails e. either (has_pictures file n) _ _ _ _ e (λ holds e. absurd cc) (λ fails e. absurd cc)))
 
 cff_maxp : (f : Fault) (file : List ℕ) (n : ℕ) → version_advice f file n ≡ hint.Fixed fixed.Cff → has_cff file n ≡ true
 cff_maxp f file n is = either (has_cff file n) _ _ _ _ is (λ holds e. holds) (λ fails e. absurd cc)
@@ -61,10 +62,11 @@ by_face file v P is no_collection no_faces faces =
     (λ fails e. no_collection e)
 
 lack_fixed : (f : Fault) (file : List ℕ) (n : ℕ) (v : Hint) (P : Type 0) → lack_advice f file n ≡ v
-    → (hint.Fixed fixed.Cff ≡ v → P) → (hint.Fixed fixed.Bitmaps ≡ v → P) → (hint.Lacks f ≡ v → P) → P
-lack_fixed f file n v P is cff pictures lacks =
-    either (has_cff file n) _ _ _ _ is (λ holds e. cff e)
-    (λ fails e. either (has_pictures file n) _ _ _ _ e (λ holds e. pictures e) (λ fails e. lacks e))
+    → (hint.Fixed fixed.NotVariable ≡ v → P) → (hint.Fixed fixed.Cff ≡ v → P) → (hint.Fixed fixed.Bitmaps ≡ v → P) → (hint.Lacks f ≡ v → P) → P
+lack_fixed f file n v P is plain cff pictures lacks =
+    either (bytes_eq f.table (codes "fvar")) _ _ _ _ is (λ holds e. plain e) (λ fails e.
+    either (has_cff file n) _ _ _ _ e (λ holds e. cff e)
+    (λ fails e. either (has_pictures file n) _ _ _ _ e (λ holds e. pictures e) (λ fails e. lacks e)))
 
 maxp_fixed : (f : Fault) (file : List ℕ) (n : ℕ) (v : Hint) (P : Type 0) → version_advice f file n ≡ v
     → (hint.Fixed fixed.Cff ≡ v → P) → (hint.Damaged f ≡ v → P) → P
@@ -73,13 +75,15 @@ maxp_fixed f file n v P is cff damaged = either (has_cff file n) _ _ _ _ is (λ 
 -- the advice that needs no byte of the file
 by_plain : (k : ℕ) (f : Fault) (v : Hint) (P : Type 0) → plain_advice k f ≡ v → (hint.Fixed fixed.Cut ≡ v → P)
     → (hint.Fixed fixed.NoMap ≡ v → P) → (hint.Fixed fixed.Beyond ≡ v → P) → (hint.Fixed fixed.Version ≡ v → P)
+    → (hint.Fixed fixed.NoInstance ≡ v → P)
     → (nat_le 30 k ≡ true → hint.Fixed fixed.Program ≡ v → P) → (hint.Damaged f ≡ v → P) → P
-by_plain k f v P is cut map limit version program damaged =
+by_plain k f v P is cut map limit version instance program damaged =
     either (k == 4) _ _ _ _ is (λ holds e. cut e) (λ fails e.
     either (k == 10) _ _ _ _ e (λ holds e. map e) (λ fails e.
     either (is_limit k) _ _ _ _ e (λ holds e. limit e) (λ fails e.
     either (k == 24) _ _ _ _ e (λ holds e. version e) (λ fails e.
-    either (nat_le 30 k) _ _ _ _ e (λ holds e. program holds e) (λ fails e. damaged e)))))
+    either (k == 28) _ _ _ _ e (λ holds e. instance e) (λ fails e.
+    either (nat_le 30 k) _ _ _ _ e (λ holds e. program holds e) (λ fails e. damaged e))))))
 
 pub cff_is_there : CffIsThere
 unfolding advice
@@ -91,7 +95,7 @@ cff_is_there f file n is =
     either (k == 8) _ _ _ _ e (λ holds e. inr (cff_maxp f file n e)) (λ fails e.
     either (k == 25) _ _ _ _ e (λ holds e. by_face file _ _ e (λ e. absurd cc) (λ e. absurd cc)
     (λ m has there e. absurd cc)) (λ fails e.
-    by_plain k f _ _ e (λ e. absurd cc) (λ e. absurd cc) (λ e. absurd cc) (λ e. absurd cc) (λ holds e. absurd cc) (λ e. absurd cc))))))
+    by_plain k f _ _ e (λ e. absurd cc) (λ e. absurd cc) (λ e. absurd cc) (λ e. absurd cc) (λ e. absurd cc) (λ holds e. absurd cc) (λ e. absurd cc))))))
 
 pub faces_are_counted : FacesAreCounted
 unfolding advice
@@ -99,11 +103,11 @@ faces_are_counted f file n count is =
     let k = why_number f.why in
     either (k == 1) _ _ _ _ is (λ holds e. absurd cc) (λ fails e.
     either (k == 2) _ _ _ _ e (λ holds e. not_cut f file _ _ e (λ e. absurd cc) (λ e. absurd cc)) (λ fails e.
-    either (k == 3) _ _ _ _ e (λ holds e. lack_fixed f file n _ _ e (λ e. absurd cc) (λ e. absurd cc) (λ e. absurd cc)) (λ fails e.
+    either (k == 3) _ _ _ _ e (λ holds e. lack_fixed f file n _ _ e (λ e. absurd cc) (λ e. absurd cc) (λ e. absurd cc) (λ e. absurd cc)) (λ fails e.
     either (k == 8) _ _ _ _ e (λ holds e. maxp_fixed f file n _ _ e (λ e. absurd cc) (λ e. absurd cc)) (λ fails e.
     either (k == 25) _ _ _ _ e (λ holds e. by_face file _ _ e (λ e. absurd cc) (λ e. absurd cc)
     (λ m has there e. let same : m ≡ count = cc in (has, rw same at there))) (λ fails e.
-    by_plain k f _ _ e (λ e. absurd cc) (λ e. absurd cc) (λ e. absurd cc) (λ e. absurd cc) (λ holds e. absurd cc) (λ e. absurd cc))))))
+    by_plain k f _ _ e (λ e. absurd cc) (λ e. absurd cc) (λ e. absurd cc) (λ e. absurd cc) (λ e. absurd cc) (λ holds e. absurd cc) (λ e. absurd cc))))))
 
 -- a kind is never that of a program
 no_program : (b : List ℕ) → kind_of b ≡ fixed.Program → ⊥
@@ -123,8 +127,8 @@ programs_are_refused f file n is =
     let k = why_number f.why in
     either (k == 1) _ _ _ _ is (λ holds e. absurd (no_program (drop f.offset file) (kind_alone _ _ e))) (λ fails e.
     either (k == 2) _ _ _ _ e (λ holds e. not_cut f file _ _ e (λ e. absurd cc) (λ e. absurd cc)) (λ fails e.
-    either (k == 3) _ _ _ _ e (λ holds e. lack_fixed f file n _ _ e (λ e. absurd cc) (λ e. absurd cc) (λ e. absurd cc)) (λ fails e.
+    either (k == 3) _ _ _ _ e (λ holds e. lack_fixed f file n _ _ e (λ e. absurd cc) (λ e. absurd cc) (λ e. absurd cc) (λ e. absurd cc)) (λ fails e.
     either (k == 8) _ _ _ _ e (λ holds e. maxp_fixed f file n _ _ e (λ e. absurd cc) (λ e. absurd cc)) (λ fails e.
     either (k == 25) _ _ _ _ e (λ holds e. by_face file _ _ e (λ e. absurd cc) (λ e. absurd cc)
     (λ m has there e. absurd cc)) (λ fails e.
-    by_plain k f _ _ e (λ e. absurd cc) (λ e. absurd cc) (λ e. absurd cc) (λ e. absurd cc) (λ holds e. grind (arith, nat_tests, holds)) (λ e. absurd cc))))))
+    by_plain k f _ _ e (λ e. absurd cc) (λ e. absurd cc) (λ e. absurd cc) (λ e. absurd cc) (λ e. absurd cc) (λ holds e. grind (arith, nat_tests, holds)) (λ e. absurd cc))))))

@@ -49,10 +49,11 @@ unfoldable pub face_advice : List ℕ → Hint
 face_advice file =
     if begins file (codes "ttcf") then counted_advice (number_at file 8 4) else hint.Fixed fixed.NoCollection
 
--- a table is missing
+-- a table is missing; fvar is needed for an instance alone
 abbrev pub lack_advice : Fault → List ℕ → ℕ → Hint
 lack_advice f file n =
-    if has_cff file n then hint.Fixed fixed.Cff else if has_pictures file n then hint.Fixed fixed.Bitmaps else hint.Lacks f
+    if bytes_eq f.table (codes "fvar") then hint.Fixed fixed.NotVariable
+    else if has_cff file n then hint.Fixed fixed.Cff else if has_pictures file n then hint.Fixed fixed.Bitmaps else hint.Lacks f
 
 -- maxp has another version: that of a font with CFF outlines is 0.5
 abbrev pub version_advice : Fault → List ℕ → ℕ → Hint
@@ -69,6 +70,7 @@ plain_advice k f =
     else if k == 10 then hint.Fixed fixed.NoMap
     else if is_limit k then hint.Fixed fixed.Beyond
     else if k == 24 then hint.Fixed fixed.Version
+    else if k == 28 then hint.Fixed fixed.NoInstance
     else if nat_le 30 k then hint.Fixed fixed.Program
     else hint.Damaged f
 
@@ -84,6 +86,10 @@ advice_by k f file n =
 
 unfoldable pub advice : Fault → List ℕ → ℕ → Hint
 advice f file n = advice_by (why_number f.why) f file n
+
+-- the same, where axes were asked for: with the tag of an axis that is not there
+unfoldable pub axis_advice : Fault → List ℕ → ℕ → List ℕ → Hint
+axis_advice f file n tag = if why_number f.why == 27 then hint.NoAxis tag else advice f file n
 
 -- worked values: a file with CFF outlines, an empty file and a file of one byte
 another_version : advice (file_fault 0 why.BadVersion) (codes "OTTO") 0 ≡ hint.Fixed fixed.Cff
@@ -129,3 +135,12 @@ of_other_faults : map (λ w. advice (fault_at (codes "glyf") 14 w) [] 0) (why.Co
     ≡ hint.Fixed fixed.Beyond ∷ hint.Fixed fixed.Program ∷ hint.Damaged (fault_at (codes "glyf") 14 why.GlyphShort) ∷ []
 unfolding advice why_number
 of_other_faults = refl
+
+-- an instance
+of_instances : map (λ f. axis_advice f [] 0 (codes "wdth"))
+    (fault_at (codes "fvar") 0 why.NoTable ∷ fault_at (codes "fvar") 8 why.NoAxis ∷ fault_at (codes "fvar") 12 why.NoInstance
+    ∷ fault_at (codes "gvar") 0 why.VariationShape ∷ fault_at (codes "gvar") 20 why.GlyphVariation ∷ [])
+    ≡ hint.Fixed fixed.NotVariable ∷ hint.NoAxis (codes "wdth") ∷ hint.Fixed fixed.NoInstance
+    ∷ hint.Damaged (fault_at (codes "gvar") 0 why.VariationShape) ∷ hint.Damaged (fault_at (codes "gvar") 20 why.GlyphVariation) ∷ []
+unfolding advice axis_advice why_number
+of_instances = refl

@@ -1,6 +1,7 @@
 -- No part of the standard: what is reported to people of a font's file (profile).
-use Rattle.std.specs.Prelude.{◌≡◌, refl, ℕ, ◌-◌, List, ◌++◌, codes, decimal}
+use Rattle.std.specs.Prelude.{◌≡◌, refl, ℕ, ◌-◌, List, [], ◌∷◌, ◌++◌, map, codes, decimal}
 use Rattle.std.specs.Fmt.{digits}
+use Rattle.std.specs.Str.{encode_utf8_all}
 use Rattle.tt_core.specs.declared.fault.Why.TheVariants as why
 use Rattle.tt_core.specs.Faults.{fault_at}
 use Rattle.tt_advice.specs.declared.hint.FixedHint.{FixedHint}
@@ -34,6 +35,8 @@ fixed_words fixed.Cut = codes "is cut off or damaged"
 fixed_words fixed.Beyond = codes "has a glyph beyond what is drawn"
 fixed_words fixed.Program = codes "has a program for fitting that is refused; --fit best draws it"
 fixed_words fixed.Variable = codes "is a variable font; its default instance is drawn"
+fixed_words fixed.NotVariable = codes "is no variable font"
+fixed_words fixed.NoInstance = codes "has no such instance; tt_render faces lists them"
 fixed_words fixed.ManyCharacters = codes "has more than 4096 of the characters asked for; --range says which"
 fixed_words fixed.NoCharacter = codes "has a glyph for none of the characters asked for"
 
@@ -44,6 +47,7 @@ hint_words (hint.Faces count) =
     codes "is a collection of " ++ (decimal count ++ (codes " faces: --face is 0 to " ++ decimal (count - 1)))
 hint_words (hint.Lacks f) = codes "lacks the table '" ++ (f.table ++ codes "'")
 hint_words (hint.Damaged f) = codes "is damaged in its table '" ++ (f.table ++ codes "'")
+hint_words (hint.NoAxis tag) = codes "has no axis " ++ (encode_utf8_all tag ++ codes "; tt_render faces lists its axes")
 hint_words (hint.FirstOf count) =
     codes "is a collection of " ++ (decimal count ++ codes " faces; face 0 is drawn (--face N)")
 
@@ -75,3 +79,12 @@ no_table = refl
 
 a_bad_table : line_about (codes "F") (hint.Damaged (fault_at (codes "maxp") 0 why.MaxpVersion)) ≡ codes "tt_render: F: is damaged in its table 'maxp'\n"
 a_bad_table = refl
+
+no_axis : line_about (codes "F.ttf") (hint.NoAxis (codes "wdth")) ≡ codes "tt_render: F.ttf: has no axis wdth; tt_render faces lists its axes\n"
+unfolding lib.Utf8.encode
+no_axis = refl
+
+no_instance : map (λ f. line_about (codes "F") (hint.Fixed f)) (fixed.NotVariable ∷ fixed.NoInstance ∷ [])
+    ≡ codes "tt_render: F: is no variable font\n" ∷ codes "tt_render: F: has no such instance; tt_render faces lists them\n" ∷ []
+unfolding fixed_words
+no_instance = refl

@@ -1,7 +1,7 @@
 //! The advice to people about a refused font.
 
 ghost use Rattle.std.specs.Prelude.{◌≡◌, ◌≤◌, is_some, length};
-ghost use Rattle.tt_advice.specs.Advice.{advice, count_advice, cut_advice, face_advice, has_cff, has_pictures, has_record, is_limit, lack_advice, plain_advice, version_advice};
+ghost use Rattle.tt_advice.specs.Advice.{advice, axis_advice, count_advice, cut_advice, face_advice, has_cff, has_pictures, has_record, is_limit, lack_advice, plain_advice, version_advice};
 ghost use Rattle.tt_core.specs.Directory.{record_of};
 ghost use Rattle.tt_core.specs.Limits.{font_limit};
 
@@ -91,7 +91,9 @@ fn lack_advice(fault: Fault, file: &[u8], face: u32) -> Hint
     requires { length file.now ≤ font_limit }
     ensures { result ≡ lack_advice fault file.now face }
 {
-    if has_cff(file, face) {
+    if fault.table == *b"fvar" {
+        Hint::Fixed(FixedHint::NotVariable)
+    } else if has_cff(file, face) {
         Hint::Fixed(FixedHint::Cff)
     } else if has_pictures(file, face) {
         Hint::Fixed(FixedHint::Bitmaps)
@@ -131,6 +133,8 @@ fn plain_advice(number: u8, fault: Fault) -> Hint
         Hint::Fixed(FixedHint::Beyond)
     } else if number == 24 {
         Hint::Fixed(FixedHint::Version)
+    } else if number == 28 {
+        Hint::Fixed(FixedHint::NoInstance)
     } else if number >= 30 {
         Hint::Fixed(FixedHint::Program)
     } else {
@@ -157,5 +161,18 @@ pub fn advice(fault: Fault, file: &[u8], face: u32) -> Hint
         face_advice(file)
     } else {
         plain_advice(number, fault)
+    }
+}
+
+/// The advice about a font that was asked for axes, with the tag of an axis that the font does not have.
+#[tactic(auto, unfolding(crate::specs::Advice::axis_advice))]
+pub fn axis_advice(fault: Fault, file: &[u8], face: u32, tag: [u8; 4]) -> Hint
+    requires { length file.now ≤ font_limit }
+    ensures { result ≡ axis_advice fault file.now face tag }
+{
+    if fault.why.number() == 27 {
+        Hint::NoAxis(tag)
+    } else {
+        advice(fault, file, face)
     }
 }

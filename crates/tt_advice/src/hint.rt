@@ -1,6 +1,7 @@
 //! What people are told of a font's file.
 
 ghost use Rattle.std.specs.Prelude.{◌≡◌, string_bytes, IfOk};
+ghost use Rattle.std.specs.Str.{encode_utf8_all};
 ghost use Rattle.tt_advice.specs.Hints.{fixed_words, hint_line, hint_words};
 
 use crate::shown::push_shown;
@@ -18,6 +19,8 @@ pub enum Hint {
     Lacks(Fault),
     /// The table of this fault is damaged.
     Damaged(Fault),
+    /// The font has no axis with this tag.
+    NoAxis([u8; 4]),
     /// The first of so many faces is drawn.
     FirstOf(u32),
 }
@@ -73,6 +76,10 @@ pub enum FixedHint {
     Program,
     /// One of the shapes of a variable font is drawn.
     Variable,
+    /// An instance was asked for, and the font has one shape.
+    NotVariable,
+    /// The font has no such named instance.
+    NoInstance,
     /// The font has more of the characters of a file than a file may have.
     ManyCharacters,
     /// The font has none of the characters of a file.
@@ -110,6 +117,8 @@ impl FixedHint {
             FixedHint::Beyond => "has a glyph beyond what is drawn",
             FixedHint::Program => PROGRAM,
             FixedHint::Variable => "is a variable font; its default instance is drawn",
+            FixedHint::NotVariable => "is no variable font",
+            FixedHint::NoInstance => "has no such instance; tt_render faces lists them",
             FixedHint::ManyCharacters => MANY_CHARACTERS,
             FixedHint::NoCharacter => "has a glyph for none of the characters asked for",
         }
@@ -126,6 +135,19 @@ const BITMAPS: &str = "has bitmaps or colour pictures, but no TrueType outlines"
 const PROGRAM: &str = "has a program for fitting that is refused; --fit best draws it";
 
 const MANY_CHARACTERS: &str = "has more than 4096 of the characters asked for; --range says which";
+
+/// The bytes of a tag, each as one character.
+fn tag_text(alloc: Global, tag: [u8; 4]) -> Result<String, AllocError>
+    ensures { IfOk result (λ text. string_bytes text ≡ encode_utf8_all tag) }
+{
+    let [first, second, third, fourth] = tag;
+    let mut text = String::new(alloc);
+    text.push(char::from(first))?;
+    text.push(char::from(second))?;
+    text.push(char::from(third))?;
+    text.push(char::from(fourth))?;
+    Ok(text)
+}
 
 /// What follows the font's path.
 fn words(alloc: Global, hint: Hint) -> Result<String, AllocError>
@@ -144,6 +166,10 @@ fn words(alloc: Global, hint: Hint) -> Result<String, AllocError>
         Hint::Damaged(fault) => {
             let table = fault.tag();
             format!(in alloc; "is damaged in its table '{table}'")
+        }
+        Hint::NoAxis(tag) => {
+            let axis = tag_text(alloc, tag)?;
+            format!(in alloc; "has no axis {axis}; tt_render faces lists its axes")
         }
         Hint::FirstOf(count) => {
             format!(in alloc; "is a collection of {count} faces; face 0 is drawn (--face N)")

@@ -9,7 +9,7 @@ mod notes;
 mod shown;
 mod signs;
 
-pub use advising::{advice, has_record};
+pub use advising::{advice, axis_advice, has_record};
 pub use hint::{FixedHint, Hint, hint_line};
 pub use notes::font_notes;
 pub use shown::shown_words;

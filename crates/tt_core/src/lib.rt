@@ -2,6 +2,7 @@
 #![tactic(auto)]
 
 mod collection;
+mod cutting;
 mod device;
 mod directory;
 mod draw_fault;
@@ -14,6 +15,7 @@ mod number;
 mod scaling;
 
 pub use collection::{Reading, face_count};
+pub use cutting::cut;
 pub use device::{Device, IoFailed, Sink, Source};
 pub use directory::Dir;
 pub use draw_fault::DrawFault;
@@ -25,5 +27,5 @@ pub use limits::{
     HEIGHT_LIMIT, LEVEL_LIMIT, MARGIN_LIMIT, POINT_LIMIT, POINT_WORK_LIMIT, SIZE_LIMIT,
     STACK_LIMIT, STEP_LIMIT, TEXT_LIMIT, WIDTH_LIMIT, WORK_LIMIT,
 };
-pub use number::{i16_at, rq, u16_at, u24_at, u32_at};
+pub use number::{i16_at, i32_at, rq, u16_at, u24_at, u32_at};
 pub use scaling::Scale;

@@ -1,7 +1,7 @@
 use Rattle.std.proofs.Common.{◌∙◌, ap, sym, ◌+◌, Some}
 use Rattle.std.proofs.lemmas.List.{take_rest}
-use Rattle.tt_bdf.proofs.Cuts.{front_all, front_ends, front_goes_on, rest_ends, rest_goes_on, rest_none}
-use Rattle.tt_bdf.proofs.range.cut.Goals as goal
+use Rattle.tt_core.proofs.Cuts.{front_all, front_ends, front_goes_on, rest_ends, rest_goes_on, rest_none}
+use Rattle.tt_core.proofs.cutting.cut.Goals as goal
 
 pub loop-i-preserved : goal.loop-i-preserved
 loop-i-preserved c =

@@ -1,10 +1,9 @@
--- The pieces of a text, one after the other.
+-- The pieces of a text, read one after the other.
 use Rattle.std.proofs.Common.{◌≡◌, refl, ap, ℕ, ◌<◌, ◌==◌, Bool, true, false, List, [], ◌∷◌, ◌++◌, length, Option, Some, None, append_assoc, arith}
-use Rattle.tt_bdf.specs.declared.range.CodeRange.{CodeRange}
-use Rattle.tt_bdf.specs.Ranges.{after, all_ranges, before, onto_first, onto_ranges, pieces, range_of}
+use Rattle.tt_core.specs.Cutting.{after, all_read, before, onto_first, onto_read, pieces}
 
--- ranges before others, if those are ranges
-abbrev pub behind : List CodeRange → Option (List CodeRange) → Option (List CodeRange)
+-- what was read before others, if those can be read
+abbrev pub behind : {A : Type 0} → List A → Option (List A) → Option (List A)
 behind rs None = None
 behind rs (Some ss) = Some (rs ++ ss)
 
@@ -27,31 +26,32 @@ pub pieces_are : (sep : ℕ) (t : List ℕ) → pieces sep t ≡ pieces_by sep (
 pieces_are sep [] = refl
 pieces_are sep (x ∷ t) = pieces_step sep x t (x == sep) refl (pieces_are sep t)
 
--- one more range before the others
-pub one_more : (rs : List CodeRange) (r : CodeRange) (ss : Option (List CodeRange))
-    → behind (rs ++ r ∷ []) ss ≡ behind rs (onto_ranges (Some r) ss)
+-- one more before the others
+pub one_more : {A : Type 0} (rs : List A) (r : A) (ss : Option (List A))
+    → behind (rs ++ r ∷ []) ss ≡ behind rs (onto_read (Some r) ss)
 one_more rs r None = refl
 one_more rs r (Some ss) = ap Some (append_assoc rs (r ∷ []) ss)
 
-stops_by : (rs : List CodeRange) (sep : ℕ) (t : List ℕ) (u : Option (List ℕ)) → range_of t ≡ None
-    → behind rs (all_ranges (pieces_by sep t u)) ≡ None
-stops_by rs sep t None none = rw none refl
-stops_by rs sep t (Some u) none = rw none refl
+stops_by : {A : Type 0} (read : List ℕ → Option A) (rs : List A) (sep : ℕ) (t : List ℕ) (u : Option (List ℕ)) → read t ≡ None
+    → behind rs (all_read read (pieces_by sep t u)) ≡ None
+stops_by read rs sep t None none = rw none refl
+stops_by read rs sep t (Some u) none = rw none refl
 
--- a piece that asks for no range
-pub stops : (rs : List CodeRange) (sep : ℕ) (t : List ℕ) → range_of (before sep t) ≡ None
-    → behind rs (all_ranges (pieces sep t)) ≡ None
-stops rs sep t none = rw (pieces_are sep t) (stops_by rs sep (before sep t) (after sep t) none)
+-- a piece that can't be read
+pub stops : {A : Type 0} (read : List ℕ → Option A) (rs : List A) (sep : ℕ) (t : List ℕ) → read (before sep t) ≡ None
+    → behind rs (all_read read (pieces sep t)) ≡ None
+stops read rs sep t none = rw (pieces_are sep t) (stops_by read rs sep (before sep t) (after sep t) none)
 
 -- the last piece
-pub ends : (rs : List CodeRange) (sep : ℕ) (t : List ℕ) (r : CodeRange) → range_of (before sep t) ≡ Some r
-    → after sep t ≡ None → behind rs (all_ranges (pieces sep t)) ≡ Some (rs ++ r ∷ [])
-ends rs sep t r is none = rw (pieces_are sep t, none, is) refl
+pub ends : {A : Type 0} (read : List ℕ → Option A) (rs : List A) (sep : ℕ) (t : List ℕ) (r : A) → read (before sep t) ≡ Some r
+    → after sep t ≡ None → behind rs (all_read read (pieces sep t)) ≡ Some (rs ++ r ∷ [])
+ends read rs sep t r is none = rw (pieces_are sep t, none, is) refl
 
 -- a piece before others
-pub goes_on : (rs : List CodeRange) (sep : ℕ) (t u : List ℕ) (r : CodeRange) → range_of (before sep t) ≡ Some r
-    → after sep t ≡ Some u → behind (rs ++ r ∷ []) (all_ranges (pieces sep u)) ≡ behind rs (all_ranges (pieces sep t))
-goes_on rs sep t u r is more = rw (pieces_are sep t, more, is) (one_more rs r (all_ranges (pieces sep u)))
+pub goes_on : {A : Type 0} (read : List ℕ → Option A) (rs : List A) (sep : ℕ) (t u : List ℕ) (r : A)
+    → read (before sep t) ≡ Some r → after sep t ≡ Some u
+    → behind (rs ++ r ∷ []) (all_read read (pieces sep u)) ≡ behind rs (all_read read (pieces sep t))
+goes_on read rs sep t u r is more = rw (pieces_are sep t, more, is) (one_more rs r (all_read read (pieces sep u)))
 
 shorter_by : (sep x : ℕ) (t u : List ℕ) (b : Bool) → (x == sep) ≡ b
     → (after sep t ≡ Some u → length u < length t) → after sep (x ∷ t) ≡ Some u → length u < length (x ∷ t)

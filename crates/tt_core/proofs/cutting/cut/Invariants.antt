@@ -1,6 +1,6 @@
 use Rattle.std.proofs.Common.{◌≡◌, ◌++◌, take, drop}
-use Rattle.tt_bdf.specs.Ranges.{after, before}
-use Rattle.tt_bdf.proofs.range.cut.Given as goal
+use Rattle.tt_core.specs.Cutting.{after, before}
+use Rattle.tt_core.proofs.cutting.cut.Given as goal
 
 -- no separator so far
 abbrev pub invariant-loop-i : goal.invariant-loop-i
