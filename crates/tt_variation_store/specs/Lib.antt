@@ -1,0 +1,13 @@
+pub mod AdvanceRows
+pub mod Deltas
+pub mod Gdef
+pub mod HeightRows
+pub mod Hvar
+pub mod IndexMap
+pub mod Items
+pub mod Laws
+pub mod Mvar
+pub mod Numbers
+pub mod PairRows
+pub mod Regions
+pub mod Store
