@@ -1,0 +1,3 @@
+pub mod DeltaRuns
+pub mod NumberRuns
+pub mod Chains

@@ -1,0 +1,4 @@
+pub mod Bytes
+pub mod Deltas
+pub mod PointNumbers
+pub mod Views
