@@ -1,6 +1,6 @@
 -- OpenType, "Data types". Packed data are read from front to back. A byte that is not there ends the reading, at the end
 -- of the bytes (profile).
-use Rattle.std.specs.Prelude.{◌≡◌, refl, ℕ, ◌+◌, ◌^◌, nat_lt, nat_le, if◌then◌else◌, ℤ, pos, negsuc, ◌-ℤ◌, List, [], ◌∷◌, ◌++◌, length, slice_index, map, Result, Ok, Err}
+use Rattle.std.specs.Prelude.{◌≡◌, refl, ℕ, ◌+◌, ◌^◌, nat_lt, nat_le, if◌then◌else◌, ℤ, pos, negsuc, ◌-ℤ◌, List, [], ◌∷◌, ◌++◌, length, slice_index, slice_range, map, Result, Ok, Err}
 use Rattle.tt_core.specs.Numbers.{unsigned_at, signed16}
 use Rattle.tt_tuples.specs.declared.fault.Broken.{Broken}
 
@@ -19,6 +19,10 @@ word_in b at = if nat_le (at + 2) (length b) then Ok (unsigned_at b at 2) else E
 -- the int16 at a place
 unfoldable pub signed_in : List ℕ → ℕ → Result ℤ Broken
 signed_in b at = if nat_le (at + 2) (length b) then Ok (signed16 (unsigned_at b at 2)) else Err (broken (length b))
+
+-- the n bytes from a place on
+unfoldable pub slice_in : List ℕ → ℕ → ℕ → Result (List ℕ) Broken
+slice_in b at n = if nat_le (at + n) (length b) then Ok (slice_range b at (at + n)) else Err (broken (length b))
 
 -- 8 bits read as two's complement
 abbrev pub signed8 : ℕ → ℤ

@@ -2,7 +2,7 @@
 
 ghost use Rattle.std.specs.Prelude.{◌≡◌, ◌+◌, ◌≤◌, length, IfOk};
 ghost use Rattle.tt_core.specs.Outcomes.{Gives};
-ghost use Rattle.tt_tuples.specs.Bytes.{broken, byte_in, word_in, signed_in};
+ghost use Rattle.tt_tuples.specs.Bytes.{broken, byte_in, word_in, signed_in, slice_in};
 
 use crate::fault::Broken;
 use tt_core::{i16_at, u16_at};
@@ -53,4 +53,16 @@ pub(crate) fn signed_at(bytes: &[u8], at: usize) -> Result<i16, Broken>
         Some(word) => Ok(word),
         None => Err(ended(bytes)),
     }
+}
+
+/// The `n` bytes from a place on.
+#[tactic(auto, unfolding(crate::specs::Bytes::slice_in))]
+pub(crate) fn slice_at(bytes: &[u8], at: usize, n: usize) -> Result<&[u8], Broken>
+    ensures exact { Gives (λ b. b.now) result (slice_in bytes.now at n) }
+    ensures room { IfOk result (λ b. at + n ≤ length bytes.now) }
+{
+    if at > bytes.len() || bytes.len() - at < n {
+        return Err(ended(bytes));
+    }
+    Ok(&bytes[at..at + n])
 }
