@@ -10,3 +10,14 @@ after-after a b (Err e) = refl
 pub after-nothing : {A : Type 0} (x : Result (Read (List A)) Broken) → after [] x ≡ x
 after-nothing (Ok read) = refl
 after-nothing (Err e) = refl
+
+-- a list that was read after other items
+pub record CameAfter {A : Type 0} (before : List A) (x : Result (Read (List A)) Broken) (y : Read (List A)) : Type 0 where
+  pub read : Read (List A)
+  pub was : x ≡ Ok read
+  pub is : y ≡ record { value = before ++ read.value; next = read.next }
+
+pub came-after : {A : Type 0} (before : List A) (x : Result (Read (List A)) Broken) (y : Read (List A))
+    → after before x ≡ Ok y → CameAfter before x y
+came-after before (Ok read) y was = record { read = read; was = refl; is = cc }
+came-after before (Err e) y was = absurd cc

@@ -1,3 +1,6 @@
+pub mod Axes
+pub mod Chains
 pub mod DeltaRuns
 pub mod NumberRuns
-pub mod Chains
+pub mod Rising
+pub mod Steps

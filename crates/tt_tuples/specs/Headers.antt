@@ -40,7 +40,7 @@ has word bit = bit_and word bit == bit
 pub record Header : Type 0 where
   pub tuples : ℕ
   pub shares_points : Bool
-  pub data : ℕ
+  pub data_at : ℕ
 
 -- data past the end of the bytes are refused at their offset
 unfoldable pub header_at : List ℕ → ℕ → Result Header Broken
@@ -48,7 +48,7 @@ header_at b at = do
   count ← word_in b at
   offset ← word_in b (at + 2)
   if nat_lt (length b) offset then Err (broken (at + 2))
-      else Ok (record { tuples = tuples_told count; shares_points = has count shared_point_numbers; data = offset })
+      else Ok (record { tuples = tuples_told count; shares_points = has count shared_point_numbers; data_at = offset })
 
 -- how many tuples are told, 0 where their count is not there
 unfoldable pub tuple_count : TupleTable → List ℕ → ℕ

@@ -1,7 +1,7 @@
 -- OpenType, "OpenType Font Variations Common Table Formats", "Tuple Variation Store": the tuples that hold at an instance,
 -- with their points and deltas, or the first defect that reading meets. A tuple that does not hold is read no further
 -- than its header. Data begin where the sizes before say, and end where the bytes end (profile).
-use Rattle.std.specs.Prelude.{◌≡◌, refl, ℕ, zero, suc, ◌+◌, ◌==◌, Bool, true, false, if◌then◌else◌, ℤ, pos, negsuc, List, [], ◌∷◌, Result, Ok, Err}
+use Rattle.std.specs.Prelude.{◌≡◌, refl, ℕ, zero, suc, ◌+◌, ◌==◌, Bool, true, false, if◌then◌else◌, ℤ, pos, negsuc, Option, Some, None, IfSome, List, [], ◌∷◌, Result, Ok, Err}
 use Rattle.tt_core.specs.Outcomes.{◌>>=◌}
 use Rattle.tt_axes.specs.Shares.{share_of_tuple_axis}
 use Rattle.tt_tuples.specs.declared.fault.Broken.{Broken}
@@ -19,7 +19,7 @@ use Rattle.tt_tuples.specs.Sources.{Source, Tuple, delta_count}
 -- the points of all tuples without point numbers of their own; no points where nothing is shared
 unfoldable pub shared_points_of : Source → Header → Result (Read Points) Broken
 shared_points_of s h =
-    if h.shares_points then points_at s.bytes h.data s.points else Ok (record { value = listed []; next = h.data })
+    if h.shares_points then points_at s.bytes h.data_at s.points else Ok (record { value = listed []; next = h.data_at })
 
 -- the points of a tuple whose data begin at a place
 abbrev pub tuple_points : Source → Points → Bool → ℕ → Result (Read Points) Broken
@@ -71,11 +71,21 @@ pub record TuplesLeft : Type 0 where
 abbrev pub rest : TuplesLeft → Result (List Tuple) Broken
 rest t = tuples_from t.source t.shared t.left t.at t.data_at
 
+-- the place that a fault tells; none if memory ran out
+abbrev pub told : TuplesFault → Option Broken
+told (fault.Broken e) = Some e
+told fault.Memory = None
+
 -- a reader gives these tuples, unless memory ran out
 abbrev pub Opens : Result TuplesLeft TuplesFault → Result (List Tuple) Broken → Type 0
 Opens (Ok t) wanted = wanted ≡ rest t
-Opens (Err (fault.Broken e)) wanted = wanted ≡ Err e
-Opens (Err fault.Memory) wanted = Unit {0}
+Opens (Err f) wanted = IfSome (told f) (λ e. wanted ≡ Err e)
+
+-- a reader has read a tuple that holds, or one that does not, or it was broken
+abbrev pub StepOf : Result Bool Broken → TuplesLeft → TuplesLeft → Type 0
+StepOf (Ok true) old new = rest old ≡ tuple_before new.tuple (rest new)
+StepOf (Ok false) old new = rest old ≡ rest new
+StepOf (Err e) old new = rest old ≡ Err e
 
 -- a reader has read a tuple, or there was none, or it was broken
 abbrev pub NextOf : Result Bool Broken → TuplesLeft → TuplesLeft → Type 0

@@ -18,6 +18,7 @@ use Rattle.tt_tuples.specs.declared.source.TupleSource as source
 use Rattle.tt_tuples.specs.declared.source.TupleTable.{TupleTable}
 use Rattle.tt_tuples.specs.declared.tuple.Tuple as tuple
 use Rattle.tt_tuples.specs.declared.tuple.TupleRoom as room
+use Rattle.tt_tuples.specs.declared.tuples.SharedPoints as shared_points
 use Rattle.tt_tuples.specs.Bytes.{Read}
 use Rattle.tt_tuples.specs.Deltas.{Delta, DeltaRun}
 use Rattle.tt_tuples.specs.Headers.{Header, TupleHeader}
@@ -63,7 +64,7 @@ source_of s =
     record { table = s.table; bytes = s.bytes.now; shared = s.shared.now; coordinates = s.coordinates.now; points = s.points }
 
 abbrev pub header_of : header.Header → Header
-header_of h = record { tuples = h.tuples; shares_points = h.shares_points; data = h.data }
+header_of h = record { tuples = h.tuples; shares_points = h.shares_points; data_at = h.data_at }
 
 abbrev pub peak_of : peak.Peak → Read (List ℕ)
 peak_of p = record { value = p.peak.now; next = p.next }
@@ -76,6 +77,9 @@ tuple_header_of h = record { size = h.size; share = h.share.parts; own_points = 
 
 abbrev pub tuple_of : tuple.Tuple → Tuple
 tuple_of t = record { share = t.share.parts; points = named_points t.points; xs = t.xs.now; ys = t.ys.now }
+
+abbrev pub shared_of : shared_points.SharedPoints → Read Points
+shared_of s = record { value = points_of s.points; next = s.next }
 
 -- the points of a tuple whose own ones are in memory
 abbrev pub room_points : room.TupleRoom → Points → Points

@@ -60,9 +60,10 @@ impl DeltaSize {
     /// The delta at a place.
     #[inline(always)]
     fn delta(self, bytes: &[u8], at: usize) -> Result<i16, Broken>
-        requires { at ≤ length bytes.now }
+        requires place { at < 2 ^ 32 }
+        requires size { length bytes.now ≤ font_limit }
         ensures exact { Gives (λ d. d) result (sized_delta self bytes.now at) }
-        ensures room { IfOk result (λ d. at + bytes_of self ≤ length bytes.now) }
+        ensures room { IfOk result (λ d. at + bytes_of self < 2 ^ 32) }
     {
         match self {
             DeltaSize::Zeros => Ok(0),
@@ -96,7 +97,7 @@ impl DeltaRun {
         requires { length bytes.now ≤ font_limit }
         ensures exact { Gives delta_run_of result (delta_run_at bytes.now at count) }
         ensures some { IfOk result (λ r. 0 < r.left) }
-        ensures room { IfOk result (λ r. r.at ≤ length bytes.now) }
+        ensures room { IfOk result (λ r. r.at < 2 ^ 32) }
     {
         let control = byte_at(bytes, at)?;
         let left = usize::from(control % 64) + 1;
@@ -113,11 +114,11 @@ impl DeltaRun {
     /// This run, or the one after it if it has ended.
     #[inline(always)]
     fn going_on(self, bytes: &[u8], count: usize) -> Result<DeltaRun, Broken>
-        requires place { self.at ≤ length bytes.now }
+        requires place { self.at < 2 ^ 32 }
         requires size { length bytes.now ≤ font_limit }
         ensures exact { Gives delta_run_of result (delta_run bytes.now (delta_run_of self) count) }
         ensures some { IfOk result (λ r. 0 < r.left) }
-        ensures room { IfOk result (λ r. r.at ≤ length bytes.now) }
+        ensures room { IfOk result (λ r. r.at < 2 ^ 32) }
     {
         if self.left == 0 {
             DeltaRun::begin(bytes, self.at, count)
@@ -130,10 +131,10 @@ impl DeltaRun {
     #[inline(always)]
     #[tactic(auto, unfolding(crate::specs::Deltas::next_delta))]
     fn next(self, bytes: &[u8], count: usize) -> Result<Delta, Broken>
-        requires place { self.at ≤ length bytes.now }
+        requires place { self.at < 2 ^ 32 }
         requires size { length bytes.now ≤ font_limit }
         ensures exact { Gives delta_of result (next_delta bytes.now (delta_run_of self) count) }
-        ensures room { IfOk result (λ d. d.run.at ≤ length bytes.now) }
+        ensures room { IfOk result (λ d. d.run.at < 2 ^ 32) }
     {
         let run = self.going_on(bytes, count)?;
         let delta = run.size.delta(bytes, run.at)?;
@@ -154,12 +155,12 @@ pub(crate) fn read_deltas(
     count: usize,
     deltas: &mut Vec<i16>,
 ) -> Result<usize, Broken>
-    requires place { at ≤ length bytes.now }
+    requires place { at < 2 ^ 32 }
     requires size { length bytes.now ≤ font_limit }
     requires room { count ≤ vec_capacity deltas.old }
     ensures exact { Gives (read_into deltas.new.items) result (deltas_at bytes.now at count) }
     ensures count { OnOk result (vec_len deltas.new ≡ count) }
-    ensures next { IfOk result (λ next. next ≤ length bytes.now) }
+    ensures next { IfOk result (λ next. next < 2 ^ 32) }
     ensures capacity { vec_capacity deltas.new ≡ vec_capacity deltas.old }
 {
     deltas.clear();

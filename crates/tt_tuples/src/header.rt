@@ -43,7 +43,7 @@ impl TupleTable {
 pub(crate) struct Header {
     pub(crate) tuples: usize,
     pub(crate) shares_points: bool,
-    pub(crate) data: usize,
+    pub(crate) data_at: usize,
 }
 
 /// The header at a place.
@@ -52,18 +52,18 @@ pub(crate) fn header_at(bytes: &[u8], at: usize) -> Result<Header, Broken>
     requires { at ≤ 4 }
     ensures exact { Gives header_of result (header_at bytes.now at) }
     ensures few { IfOk result (λ h. h.tuples < 4096) }
-    ensures data { IfOk result (λ h. h.data < 65536) }
+    ensures data { IfOk result (λ h. h.data_at < 65536) }
     ensures room { IfOk result (λ h. at + 4 ≤ length bytes.now) }
 {
     let count = word_at(bytes, at)?;
-    let data = usize::from(word_at(bytes, at + 2)?);
-    if data > bytes.len() {
+    let data_at = usize::from(word_at(bytes, at + 2)?);
+    if data_at > bytes.len() {
         return Err(Broken { at: at + 2 });
     }
     Ok(Header {
         tuples: usize::from(count % TUPLES),
         shares_points: has(count, SHARED_POINT_NUMBERS),
-        data,
+        data_at,
     })
 }
 

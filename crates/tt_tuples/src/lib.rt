@@ -4,6 +4,16 @@
 mod bytes;
 mod deltas;
 mod fault;
+mod header;
 mod point_numbers;
+mod region;
+mod source;
+mod tuple;
+mod tuples;
 
-pub use fault::Broken;
+pub use fault::{Broken, TuplesFault};
+pub use header::tuple_count;
+pub use point_numbers::Points;
+pub use source::{TupleSource, TupleTable};
+pub use tuple::Tuple;
+pub use tuples::Tuples;

@@ -1,13 +1,17 @@
 //! Packed point numbers. OpenType, "OpenType Font Variations Common Table Formats".
 
-ghost use Rattle.std.specs.Prelude.{◌≡◌, ◌+◌, ◌<◌, ◌≤◌, length, vec_len, vec_capacity, [], IfOk, OnOk, if◌then◌else◌};
+ghost use Rattle.std.specs.Prelude.{◌≡◌, ◌+◌, ◌<◌, ◌≤◌, ◌^◌, IsTrue, length, vec_len, vec_capacity, [], IfOk, OnOk, if◌then◌else◌};
 ghost use Rattle.tt_core.specs.Limits.{font_limit};
 ghost use Rattle.tt_core.specs.Outcomes.{Gives};
 ghost use Rattle.tt_tuples.specs.PointNumbers.{number_run_at, number_run, difference_in, number_in, next_number, numbers_at, count_at, listed, points_at};
-ghost use Rattle.tt_tuples.specs.Views.{number_run_of, number_of, count_of, points_of, read_into};
+ghost use Rattle.tt_tuples.specs.PointNumbers.{Points as points};
+ghost use Rattle.tt_tuples.specs.Sources.{AreNumbers, delta_count};
+ghost use Rattle.tt_tuples.specs.Tuples.{tuple_points};
+ghost use Rattle.tt_tuples.specs.Views.{count_of, named_points, number_of, number_run_of, points_of, read_into, source_of};
 
 use crate::bytes::{byte_at, word_at};
 use crate::fault::Broken;
+use crate::source::TupleSource;
 use std::alloc::{AllocError, Global};
 
 /// A run of differences between point numbers.
@@ -178,6 +182,25 @@ fn count_at(bytes: &[u8], at: usize) -> Result<Count, Broken>
     })
 }
 
+/// The points that a tuple names.
+#[derive(Clone, Copy)]
+pub enum Points<'a> {
+    All,
+    Listed(&'a [u16]),
+}
+
+impl<'a> Points<'a> {
+    /// How many points are named, of so many.
+    pub fn count(self, points: usize) -> usize
+        ensures { result ≡ delta_count (named_points self.entry) points }
+    {
+        match self {
+            Points::All => points,
+            Points::Listed(numbers) => numbers.len(),
+        }
+    }
+}
+
 /// The points that a tuple names, in memory that serves again.
 #[derive(Drop)]
 pub(crate) struct NumberList {
@@ -198,12 +221,23 @@ impl NumberList {
         })
     }
 
+    pub(crate) fn points(&self) -> Points<'_>
+        ensures { named_points result ≡ points_of self.now }
+    {
+        if self.all {
+            Points::All
+        } else {
+            Points::Listed(&self.numbers)
+        }
+    }
+
     /// Reads the point numbers at a place. Returns the place after them.
     #[tactic(auto, unfolding(crate::specs::PointNumbers::points_at, crate::specs::PointNumbers::listed_at))]
     pub(crate) fn read(&mut self, bytes: &[u8], at: usize, points: usize) -> Result<usize, Broken>
         requires size { length bytes.now ≤ font_limit }
         requires room { points ≤ vec_capacity self.old.numbers }
         ensures exact { Gives (read_into (points_of self.new)) result (points_at bytes.now at points) }
+        ensures numbers { OnOk result (AreNumbers points (points_of self.new)) }
         ensures next { IfOk result (λ next. next ≤ length bytes.now) }
         ensures capacity { vec_capacity self.new.numbers ≡ vec_capacity self.old.numbers }
     {
@@ -216,5 +250,24 @@ impl NumberList {
             return Err(Broken { at });
         }
         read_numbers(bytes, count.next, count.count, &mut self.numbers)
+    }
+
+    /// Reads the point numbers of a tuple whose data begin at a place, if it has its own. Returns the place of its
+    /// deltas.
+    pub(crate) fn read_own(&mut self, source: &TupleSource, own: bool, at: usize) -> Result<usize, Broken>
+        requires size { length source.now.bytes.now ≤ font_limit }
+        requires room { source.now.points ≤ vec_capacity self.old.numbers }
+        requires place { at < 2 ^ 32 }
+        ensures exact { (shared : points) → Gives (read_into (if own then points_of self.new else shared)) result
+            (tuple_points (source_of source.now) shared own at) }
+        ensures numbers { OnOk result (IsTrue own → AreNumbers source.now.points (points_of self.new)) }
+        ensures next { IfOk result (λ next. next < 2 ^ 32) }
+        ensures capacity { vec_capacity self.new.numbers ≡ vec_capacity self.old.numbers }
+    {
+        if own {
+            self.read(source.bytes, at, source.points)
+        } else {
+            Ok(at)
+        }
     }
 }

@@ -1,10 +1,10 @@
 //! The region of a tuple. OpenType, "OpenType Font Variations Common Table Formats".
 
-ghost use Rattle.std.specs.Prelude.{◌≡◌, ◌≤◌, length};
+ghost use Rattle.std.specs.Prelude.{◌≡◌, ◌<◌};
 ghost use Rattle.tt_tuples.specs.Regions.{ends_on, fixed_at, share_of};
 ghost use Rattle.tt_tuples.specs.Views.{region_of, sides_of};
 
-use tt_axes::{Coordinates, Ends, Share};
+use tt_axes::{Coordinates, Ends, Share, laws};
 use tt_core::i16_at;
 
 /// The ends of a region, a 2.14 for each axis.
@@ -50,6 +50,7 @@ impl<'a> Region<'a> {
     }
 
     /// How much of the tuple holds. Where nothing is left, the other axes have no effect.
+    #[tactic(auto, using(crate::proofs::Axes::no_axis, crate::proofs::Axes::one_more_axis))]
     pub(crate) fn share(&self, coordinates: &Coordinates) -> Share
         ensures { result.parts ≡ share_of coordinates.now (region_of self.now) }
     {
@@ -57,6 +58,7 @@ impl<'a> Region<'a> {
         for i in 0..coordinates.count() {
             share = share.on_tuple_axis(coordinates.at(i), fixed_at(self.peak, i), self.ends_on(i));
             if share.parts == 0 {
+                laws::shares_fall();
                 return share;
             }
         }

@@ -3,9 +3,9 @@
 ghost use Rattle.std.specs.Prelude.{◌≡◌, ◌<◌, ◌≤◌, ◌^◌, length, vec_len, vec_capacity, IfOk, OnOk};
 ghost use Rattle.tt_core.specs.Limits.{font_limit};
 ghost use Rattle.tt_core.specs.Outcomes.{Gives};
-ghost use Rattle.tt_tuples.specs.Sources.{AreNumbers, IsTuple, delta_count, second_count};
-ghost use Rattle.tt_tuples.specs.Tuples.{second_deltas, tuple_at, tuple_points};
-ghost use Rattle.tt_tuples.specs.Views.{HasRoom, points_of, read_into, room_points, room_tuple, source_of, tuple_header_of, tuple_of};
+ghost use Rattle.tt_tuples.specs.Sources.{AreNumbers, IsTuple, second_count};
+ghost use Rattle.tt_tuples.specs.Tuples.{second_deltas, tuple_at};
+ghost use Rattle.tt_tuples.specs.Views.{HasRoom, named_points, points_of, read_into, room_points, room_tuple, source_of, tuple_header_of, tuple_of};
 
 use crate::deltas::read_deltas;
 use crate::fault::Broken;
@@ -62,25 +62,35 @@ impl TupleRoom {
     {
         Tuple {
             share: self.share,
-            points: if self.own_points {
-                self.own.points()
-            } else {
-                shared.points()
-            },
+            points: self.points(shared),
             xs: &self.xs,
             ys: &self.ys,
         }
     }
 
-    /// Reads the points of a tuple, if it has its own. Returns the place after them.
-    fn read_points(&mut self, source: &TupleSource, own: bool, at: usize) -> Result<usize, Broken>
+    /// The points of the tuple that was read last.
+    fn points<'a>(&'a self, shared: &'a NumberList) -> Points<'a>
+        ensures { named_points result ≡ room_points self.now (points_of shared.now) }
+    {
+        if self.own_points {
+            self.own.points()
+        } else {
+            shared.points()
+        }
+    }
 
     /// Reads the data of a tuple that holds, from a place on.
     #[tactic(auto, unfolding(crate::specs::Tuples::tuple_at))]
-    pub(crate) fn read(&mut self, source: &TupleSource, shared: &NumberList, header: TupleHeader, at: usize) -> Result<(), Broken>
+    pub(crate) fn read(
+        &mut self,
+        source: &TupleSource,
+        shared: &NumberList,
+        header: TupleHeader,
+        at: usize,
+    ) -> Result<(), Broken>
         requires size { length source.now.bytes.now ≤ font_limit }
         requires few { source.now.points ≤ font_limit }
-        requires place { at < 2 ^ 31 }
+        requires place { at < 2 ^ 32 }
         requires room { HasRoom self.old source.now.table source.now.points }
         requires shared { AreNumbers source.now.points (points_of shared.now) }
         ensures exact { Gives (λ _. room_tuple self.new (points_of shared.now)) result
@@ -88,5 +98,30 @@ impl TupleRoom {
         ensures room { HasRoom self.new source.now.table source.now.points }
         ensures tuple { OnOk result (0 < header.share.parts → IsTuple (source_of source.now) (room_tuple self.new (points_of shared.now))) }
     {
+        self.share = header.share;
+        self.own_points = header.own_points;
+        let next = self.own.read_own(source, header.own_points, at)?;
+        let count = self.points(shared).count(source.points);
+        let next = read_deltas(source.bytes, next, count, &mut self.xs)?;
+        read_second(source, next, count, &mut self.ys)?;
+        Ok(())
+    }
+}
+
+/// Reads the second list of deltas, if the table has one. Returns the place after them.
+fn read_second(source: &TupleSource, at: usize, count: usize, ys: &mut Vec<i16>) -> Result<usize, Broken>
+    requires size { length source.now.bytes.now ≤ font_limit }
+    requires place { at < 2 ^ 32 }
+    requires room { second_count source.now.table count ≤ vec_capacity ys.old }
+    ensures exact { Gives (read_into ys.new.items) result (second_deltas source.now.table source.now.bytes.now at count) }
+    ensures count { OnOk result (vec_len ys.new ≡ second_count source.now.table count) }
+    ensures capacity { vec_capacity ys.new ≡ vec_capacity ys.old }
+{
+    match source.table {
+        TupleTable::Gvar => read_deltas(source.bytes, at, count, ys),
+        TupleTable::Cvar => {
+            ys.clear();
+            Ok(at)
+        }
     }
 }
