@@ -1,15 +1,15 @@
 -- Point numbers that are read rise, and have 16 bits.
-use Rattle.std.proofs.Common.{◌≡◌, ℕ, zero, suc, ◌+◌, ◌-◌, ◌<◌, ◌≤◌, ◌&&◌, nat_lt, Bool, true, false, List, [], ◌∷◌, ◌++◌, length, slice_index, Option, Some, None, Result, Ok, Err, OnOk, refl, arith, All, sym, ap, ◌∙◌}
+use Rattle.std.proofs.Common.{◌≡◌, ℕ, zero, suc, ◌<◌, ◌≤◌, ◌&&◌, nat_lt, Bool, true, false, List, [], ◌∷◌, length, slice_index, Option, Some, None, Result, Ok, Err, OnOk, refl, arith, All, ap}
 use Rattle.std.proofs.lemmas.List.Elements.{All-cons, All-nil}
 use Rattle.std.proofs.lemmas.Bool.Decides.{nat_tests}
-use Rattle.tt_core.specs.Chains.{CameThrough, came-through, passed-else}
-use Rattle.tt_core.specs.Outcomes.{◌>>=◌, Gives}
+use Rattle.tt_core.specs.Chains.{came-through, passed-else}
+use Rattle.tt_core.specs.Outcomes.{Gives}
 use Rattle.tt_tuples.specs.declared.fault.Broken.{Broken}
-use Rattle.tt_tuples.specs.Bytes.{Read, after}
+use Rattle.tt_tuples.specs.Bytes.{Read}
 use Rattle.tt_tuples.specs.PointNumbers.{Number, NumberRun, difference_in, is_above, next_number, number_in, number_run, number_within, numbers_at, numbers_from, summed}
 use Rattle.tt_tuples.specs.Sources.{IsList, Rises}
 use Rattle.tt_tuples.specs.Views.{read_into}
-use Rattle.tt_tuples.proofs.Chains.{CameAfter, came-after}
+use Rattle.tt_tuples.proofs.Chains.{came-after}
 
 -- above the number before, if there is one
 abbrev pub IsAbove : Option ℕ → ℕ → Type 0

@@ -1,5 +1,5 @@
 -- The tuples, one at a time.
-use Rattle.std.proofs.Common.{◌≡◌, ℕ, zero, suc, ◌+◌, ◌-◌, ◌<◌, ◌==◌, Bool, true, false, List, [], ◌∷◌, Result, Ok, Err, refl, arith, sub-one}
+use Rattle.std.proofs.Common.{◌≡◌, ℕ, zero, suc, ◌+◌, ◌-◌, ◌<◌, ◌==◌, false, [], Ok, Err, refl, arith}
 use Rattle.std.proofs.lemmas.Bool.Decides.{nat_tests}
 use Rattle.tt_tuples.specs.declared.fault.Broken.{Broken}
 use Rattle.tt_tuples.specs.Headers.{TupleHeader, tuple_header_at}

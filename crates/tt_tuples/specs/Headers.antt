@@ -1,13 +1,13 @@
 -- OpenType, "OpenType Font Variations Common Table Formats", "Tuple variation store header" and "TupleVariationHeader".
 -- In cvar the header follows four bytes, and its offset counts from the table's first byte.
-use Rattle.std.specs.Prelude.{◌≡◌, refl, ℕ, ◌+◌, ◌*◌, ◌%◌, ◌==◌, Bool, true, false, nat_lt, nat_le, if◌then◌else◌, Option, Some, None, ℤ, pos, List, [], ◌∷◌, length, slice_range, Result, Ok, Err}
+use Rattle.std.specs.Prelude.{ℕ, ◌+◌, ◌*◌, ◌%◌, ◌==◌, Bool, nat_lt, nat_le, if◌then◌else◌, Option, Some, None, List, length, slice_range, Result, Ok, Err}
 use Rattle.std.specs.Int.RustNames.{bit_and}
 use Rattle.tt_core.specs.Outcomes.{◌>>=◌}
 use Rattle.tt_tuples.specs.declared.fault.Broken.{Broken}
 use Rattle.tt_tuples.specs.declared.source.TupleTable.{TupleTable}
 use Rattle.tt_tuples.specs.declared.source.TupleTable.TheVariants as table
 use Rattle.tt_tuples.specs.Bytes.{broken, word_in, slice_in, Read}
-use Rattle.tt_tuples.specs.Regions.{Region, Sides, share_of}
+use Rattle.tt_tuples.specs.Regions.{Sides, share_of}
 use Rattle.tt_tuples.specs.Sources.{Source}
 
 -- where the header begins

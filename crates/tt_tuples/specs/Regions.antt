@@ -1,6 +1,6 @@
 -- OpenType, "OpenType Font Variations Common Table Formats": the region of a tuple, and how much of the tuple holds at
 -- the coordinates of an instance.
-use Rattle.std.specs.Prelude.{◌≡◌, refl, ℕ, zero, suc, ◌+◌, ◌*◌, ℤ, pos, negsuc, ◌*ℤ◌, Option, Some, None, List, [], ◌∷◌, length}
+use Rattle.std.specs.Prelude.{◌≡◌, refl, ℕ, zero, suc, ◌*◌, ℤ, pos, negsuc, ◌*ℤ◌, Option, Some, None, List, [], ◌∷◌, length}
 use Rattle.std.specs.Option.{unwrap_or}
 use Rattle.tt_core.specs.Numbers.{signed_at}
 use Rattle.tt_axes.specs.declared.region.Ends.{Ends}

@@ -1,5 +1,5 @@
 -- What tuples are read from, and what a tuple gives.
-use Rattle.std.specs.Prelude.{◌≡◌, ℕ, ◌+◌, ◌<◌, ◌≤◌, ℤ, List, length, slice_index, All}
+use Rattle.std.specs.Prelude.{◌≡◌, ℕ, ◌<◌, ◌≤◌, ℤ, List, length, slice_index, All}
 use Rattle.tt_tuples.specs.declared.source.TupleTable.{TupleTable}
 use Rattle.tt_tuples.specs.declared.source.TupleTable.TheVariants as table
 use Rattle.tt_tuples.specs.PointNumbers.{Points, all_points, listed}

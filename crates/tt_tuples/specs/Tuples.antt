@@ -1,19 +1,17 @@
 -- OpenType, "OpenType Font Variations Common Table Formats", "Tuple Variation Store": the tuples that hold at an instance,
 -- with their points and deltas, or the first defect that reading meets. A tuple that does not hold is read no further
 -- than its header. Data begin where the sizes before say, and end where the bytes end (profile).
-use Rattle.std.specs.Prelude.{◌≡◌, refl, ℕ, zero, suc, ◌+◌, ◌==◌, Bool, true, false, if◌then◌else◌, ℤ, pos, negsuc, Option, Some, None, IfSome, List, [], ◌∷◌, Result, Ok, Err}
+use Rattle.std.specs.Prelude.{◌≡◌, ℕ, zero, suc, ◌+◌, ◌==◌, Bool, true, false, if◌then◌else◌, ℤ, Option, Some, None, IfSome, List, [], ◌∷◌, Result, Ok, Err}
 use Rattle.tt_core.specs.Outcomes.{◌>>=◌}
-use Rattle.tt_axes.specs.Shares.{share_of_tuple_axis}
 use Rattle.tt_tuples.specs.declared.fault.Broken.{Broken}
 use Rattle.tt_tuples.specs.declared.fault.TuplesFault.{TuplesFault}
 use Rattle.tt_tuples.specs.declared.fault.TuplesFault.TheVariants as fault
 use Rattle.tt_tuples.specs.declared.source.TupleTable.{TupleTable}
 use Rattle.tt_tuples.specs.declared.source.TupleTable.TheVariants as table
-use Rattle.tt_tuples.specs.Bytes.{broken, byte_in, word_in, slice_in, signed_in, Read}
-use Rattle.tt_tuples.specs.Deltas.{deltas_at, deltas_from, next_delta, delta_run_at}
-use Rattle.tt_tuples.specs.Headers.{Header, TupleHeader, header_at, header_place, tuple_header_at, peak_at, sides_at}
-use Rattle.tt_tuples.specs.PointNumbers.{Points, all_points, listed, points_at, listed_at, count_at, numbers_from, next_number, number_run_at}
-use Rattle.tt_tuples.specs.Regions.{share_after}
+use Rattle.tt_tuples.specs.Bytes.{Read}
+use Rattle.tt_tuples.specs.Deltas.{deltas_at}
+use Rattle.tt_tuples.specs.Headers.{Header, TupleHeader, header_at, header_place, tuple_header_at}
+use Rattle.tt_tuples.specs.PointNumbers.{Points, listed, points_at}
 use Rattle.tt_tuples.specs.Sources.{Source, Tuple, delta_count}
 
 -- the points of all tuples without point numbers of their own; no points where nothing is shared

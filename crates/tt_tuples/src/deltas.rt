@@ -1,6 +1,6 @@
 //! Packed deltas. OpenType, "OpenType Font Variations Common Table Formats".
 
-ghost use Rattle.std.specs.Prelude.{◌≡◌, ◌+◌, ◌<◌, ◌≤◌, ◌^◌, length, vec_len, vec_capacity, IfOk, OnOk};
+ghost use Rattle.std.specs.Prelude.{◌≡◌, ◌+◌, ◌<◌, ◌≤◌, ◌^◌, length, vec_len, vec_capacity, IfOk, IfErr, OnOk};
 ghost use Rattle.tt_core.specs.Limits.{font_limit};
 ghost use Rattle.tt_core.specs.Outcomes.{Gives};
 ghost use Rattle.tt_tuples.specs.Bytes.{signed8};
@@ -64,6 +64,7 @@ impl DeltaSize {
         requires size { length bytes.now ≤ font_limit }
         ensures exact { Gives (λ d. d) result (sized_delta self bytes.now at) }
         ensures room { IfOk result (λ d. at + bytes_of self < 2 ^ 32) }
+        ensures within { IfErr result (λ e. e.at ≤ length bytes.now) }
     {
         match self {
             DeltaSize::Zeros => Ok(0),
@@ -98,6 +99,7 @@ impl DeltaRun {
         ensures exact { Gives delta_run_of result (delta_run_at bytes.now at count) }
         ensures some { IfOk result (λ r. 0 < r.left) }
         ensures room { IfOk result (λ r. r.at < 2 ^ 32) }
+        ensures within { IfErr result (λ e. e.at ≤ length bytes.now) }
     {
         let control = byte_at(bytes, at)?;
         let left = usize::from(control % 64) + 1;
@@ -119,6 +121,7 @@ impl DeltaRun {
         ensures exact { Gives delta_run_of result (delta_run bytes.now (delta_run_of self) count) }
         ensures some { IfOk result (λ r. 0 < r.left) }
         ensures room { IfOk result (λ r. r.at < 2 ^ 32) }
+        ensures within { IfErr result (λ e. e.at ≤ length bytes.now) }
     {
         if self.left == 0 {
             DeltaRun::begin(bytes, self.at, count)
@@ -135,6 +138,7 @@ impl DeltaRun {
         requires size { length bytes.now ≤ font_limit }
         ensures exact { Gives delta_of result (next_delta bytes.now (delta_run_of self) count) }
         ensures room { IfOk result (λ d. d.run.at < 2 ^ 32) }
+        ensures within { IfErr result (λ e. e.at ≤ length bytes.now) }
     {
         let run = self.going_on(bytes, count)?;
         let delta = run.size.delta(bytes, run.at)?;
@@ -161,6 +165,7 @@ pub(crate) fn read_deltas(
     ensures exact { Gives (read_into deltas.new.items) result (deltas_at bytes.now at count) }
     ensures count { OnOk result (vec_len deltas.new ≡ count) }
     ensures next { IfOk result (λ next. next < 2 ^ 32) }
+    ensures within { IfErr result (λ e. e.at ≤ length bytes.now) }
     ensures capacity { vec_capacity deltas.new ≡ vec_capacity deltas.old }
 {
     deltas.clear();

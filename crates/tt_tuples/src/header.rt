@@ -1,6 +1,6 @@
 //! Headers of tuples. OpenType, "OpenType Font Variations Common Table Formats".
 
-ghost use Rattle.std.specs.Prelude.{◌≡◌, ◌+◌, ◌*◌, ◌<◌, ◌≤◌, length, IfOk};
+ghost use Rattle.std.specs.Prelude.{◌≡◌, ◌+◌, ◌*◌, ◌<◌, ◌≤◌, length, IfOk, IfErr};
 ghost use Rattle.tt_core.specs.Limits.{font_limit};
 ghost use Rattle.tt_core.specs.Outcomes.{Gives};
 ghost use Rattle.tt_tuples.specs.Headers.{has, header_at, header_place, peak_at, shared_peak, sides_at, tuple_count, tuple_header_at};
@@ -13,9 +13,13 @@ use crate::source::{TupleSource, TupleTable};
 use tt_axes::Share;
 
 const TUPLES: u16 = 4096;
+
 const SHARED_POINT_NUMBERS: u16 = 0x8000;
+
 const EMBEDDED_PEAK_TUPLE: u16 = 0x8000;
+
 const INTERMEDIATE_REGION: u16 = 0x4000;
+
 const PRIVATE_POINT_NUMBERS: u16 = 0x2000;
 
 #[inline(always)]
@@ -54,6 +58,7 @@ pub(crate) fn header_at(bytes: &[u8], at: usize) -> Result<Header, Broken>
     ensures few { IfOk result (λ h. h.tuples < 4096) }
     ensures data { IfOk result (λ h. h.data_at < 65536) }
     ensures room { IfOk result (λ h. at + 4 ≤ length bytes.now) }
+    ensures within { IfErr result (λ e. e.at ≤ length bytes.now) }
 {
     let count = word_at(bytes, at)?;
     let data_at = usize::from(word_at(bytes, at + 2)?);
@@ -113,9 +118,11 @@ impl<'a> TupleSource<'a> {
 
     /// The shared peak that an index names, for the tuple at a place.
     fn shared_peak(&self, at: usize, index: u16) -> Result<Peak<'a>, Broken>
-        requires { at + 4 ≤ font_limit }
+        requires size { length self.now.bytes.now ≤ font_limit }
+        requires place { at + 4 ≤ length self.now.bytes.now }
         ensures exact { Gives peak_of result (shared_peak self.now.shared.now (length self.now.coordinates.now) index at) }
         ensures next { IfOk result (λ p. p.next ≡ at + 4) }
+        ensures within { IfErr result (λ e. e.at ≤ length self.now.bytes.now) }
     {
         let size = self.tuple_size();
         let from = size * usize::from(index % 4096);
@@ -135,6 +142,7 @@ impl<'a> TupleSource<'a> {
         requires place { at + 4 ≤ length self.now.bytes.now }
         ensures exact { Gives peak_of result (peak_at (source_of self.now) at index) }
         ensures room { IfOk result (λ p. p.next ≤ length self.now.bytes.now) }
+        ensures within { IfErr result (λ e. e.at ≤ length self.now.bytes.now) }
     {
         if !has(index, EMBEDDED_PEAK_TUPLE) {
             return self.shared_peak(at, index);
@@ -153,6 +161,7 @@ impl<'a> TupleSource<'a> {
         requires place { at ≤ length self.now.bytes.now }
         ensures exact { Gives sides_read result (sides_at (source_of self.now) at index) }
         ensures room { IfOk result (λ s. s.next ≤ length self.now.bytes.now) }
+        ensures within { IfErr result (λ e. e.at ≤ length self.now.bytes.now) }
     {
         if !has(index, INTERMEDIATE_REGION) {
             return Ok(PlacedSides {
@@ -177,6 +186,7 @@ impl<'a> TupleSource<'a> {
         ensures exact { Gives tuple_header_of result (tuple_header_at (source_of self.now) at) }
         ensures bound { IfOk result (λ h. h.size < 65536) }
         ensures room { IfOk result (λ h. h.next ≤ length self.now.bytes.now) }
+        ensures within { IfErr result (λ e. e.at ≤ length self.now.bytes.now) }
     {
         let size = word_at(self.bytes, at)?;
         let index = word_at(self.bytes, at + 2)?;

@@ -1,6 +1,6 @@
 //! Packed point numbers. OpenType, "OpenType Font Variations Common Table Formats".
 
-ghost use Rattle.std.specs.Prelude.{◌≡◌, ◌+◌, ◌<◌, ◌≤◌, ◌^◌, IsTrue, length, vec_len, vec_capacity, [], IfOk, OnOk, if◌then◌else◌};
+ghost use Rattle.std.specs.Prelude.{◌≡◌, ◌+◌, ◌<◌, ◌≤◌, ◌^◌, IsTrue, length, vec_len, vec_capacity, [], IfOk, IfErr, OnOk, if◌then◌else◌};
 ghost use Rattle.tt_core.specs.Limits.{font_limit};
 ghost use Rattle.tt_core.specs.Outcomes.{Gives};
 ghost use Rattle.tt_tuples.specs.PointNumbers.{number_run_at, number_run, difference_in, number_in, next_number, numbers_at, count_at, listed, points_at};
@@ -40,6 +40,7 @@ impl NumberRun {
         ensures exact { Gives number_run_of result (number_run_at bytes.now at) }
         ensures some { IfOk result (λ r. 0 < r.left) }
         ensures room { IfOk result (λ r. r.at ≤ length bytes.now) }
+        ensures within { IfErr result (λ e. e.at ≤ length bytes.now) }
     {
         let control = byte_at(bytes, at)?;
         Ok(NumberRun {
@@ -57,6 +58,7 @@ impl NumberRun {
         ensures exact { Gives number_run_of result (number_run bytes.now (number_run_of self)) }
         ensures some { IfOk result (λ r. 0 < r.left) }
         ensures room { IfOk result (λ r. r.at ≤ length bytes.now) }
+        ensures within { IfErr result (λ e. e.at ≤ length bytes.now) }
     {
         if self.left == 0 {
             NumberRun::begin(bytes, self.at)
@@ -78,6 +80,7 @@ impl NumberRun {
     fn difference(self, bytes: &[u8]) -> Result<u16, Broken>
         ensures exact { Gives (λ n. n) result (difference_in bytes.now (number_run_of self)) }
         ensures room { IfOk result (λ n. self.at + (if self.words then 2 else 1) ≤ length bytes.now) }
+        ensures within { IfErr result (λ e. e.at ≤ length bytes.now) }
     {
         if self.words {
             word_at(bytes, self.at)
@@ -91,6 +94,7 @@ impl NumberRun {
     fn number(self, bytes: &[u8], before: Option<u16>) -> Result<u16, Broken>
         ensures exact { Gives (λ n. n) result (number_in bytes.now (number_run_of self) before) }
         ensures room { IfOk result (λ n. self.at + (if self.words then 2 else 1) ≤ length bytes.now) }
+        ensures within { IfErr result (λ e. e.at ≤ length bytes.now) }
     {
         let by = self.difference(bytes)?;
         match before {
@@ -110,6 +114,7 @@ impl NumberRun {
         requires size { length bytes.now ≤ font_limit }
         ensures exact { Gives number_of result (next_number bytes.now (number_run_of self) before) }
         ensures room { IfOk result (λ n. n.run.at ≤ length bytes.now) }
+        ensures within { IfErr result (λ e. e.at ≤ length bytes.now) }
     {
         let run = self.going_on(bytes)?;
         let number = run.number(bytes, before)?;
@@ -136,6 +141,7 @@ fn read_numbers(
     ensures exact { Gives (read_into numbers.new.items) result (numbers_at bytes.now at count) }
     ensures count { OnOk result (vec_len numbers.new ≡ count) }
     ensures next { IfOk result (λ next. next ≤ length bytes.now) }
+    ensures within { IfErr result (λ e. e.at ≤ length bytes.now) }
     ensures capacity { vec_capacity numbers.new ≡ vec_capacity numbers.old }
 {
     numbers.clear();
@@ -167,6 +173,8 @@ fn count_at(bytes: &[u8], at: usize) -> Result<Count, Broken>
     requires { length bytes.now ≤ font_limit }
     ensures exact { Gives count_of result (count_at bytes.now at) }
     ensures room { IfOk result (λ c. c.next ≤ length bytes.now) }
+    ensures first { IfOk result (λ c. at < length bytes.now) }
+    ensures within { IfErr result (λ e. e.at ≤ length bytes.now) }
 {
     let first = byte_at(bytes, at)?;
     if first < 128 {
@@ -239,6 +247,7 @@ impl NumberList {
         ensures exact { Gives (read_into (points_of self.new)) result (points_at bytes.now at points) }
         ensures numbers { OnOk result (AreNumbers points (points_of self.new)) }
         ensures next { IfOk result (λ next. next ≤ length bytes.now) }
+        ensures within { IfErr result (λ e. e.at ≤ length bytes.now) }
         ensures capacity { vec_capacity self.new.numbers ≡ vec_capacity self.old.numbers }
     {
         self.all = byte_at(bytes, at)? == 0;
@@ -254,7 +263,12 @@ impl NumberList {
 
     /// Reads the point numbers of a tuple whose data begin at a place, if it has its own. Returns the place of its
     /// deltas.
-    pub(crate) fn read_own(&mut self, source: &TupleSource, own: bool, at: usize) -> Result<usize, Broken>
+    pub(crate) fn read_own(
+        &mut self,
+        source: &TupleSource,
+        own: bool,
+        at: usize,
+    ) -> Result<usize, Broken>
         requires size { length source.now.bytes.now ≤ font_limit }
         requires room { source.now.points ≤ vec_capacity self.old.numbers }
         requires place { at < 2 ^ 32 }
@@ -262,6 +276,7 @@ impl NumberList {
             (tuple_points (source_of source.now) shared own at) }
         ensures numbers { OnOk result (IsTrue own → AreNumbers source.now.points (points_of self.new)) }
         ensures next { IfOk result (λ next. next < 2 ^ 32) }
+        ensures within { IfErr result (λ e. e.at ≤ length source.now.bytes.now) }
         ensures capacity { vec_capacity self.new.numbers ≡ vec_capacity self.old.numbers }
     {
         if own {

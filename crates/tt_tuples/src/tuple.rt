@@ -1,6 +1,6 @@
 //! A tuple that holds, and the memory that its data are read into.
 
-ghost use Rattle.std.specs.Prelude.{◌≡◌, ◌<◌, ◌≤◌, ◌^◌, length, vec_len, vec_capacity, IfOk, OnOk};
+ghost use Rattle.std.specs.Prelude.{◌≡◌, ◌<◌, ◌≤◌, ◌^◌, length, vec_len, vec_capacity, IfOk, IfErr, OnOk};
 ghost use Rattle.tt_core.specs.Limits.{font_limit};
 ghost use Rattle.tt_core.specs.Outcomes.{Gives};
 ghost use Rattle.tt_tuples.specs.Sources.{AreNumbers, IsTuple, second_count};
@@ -40,7 +40,11 @@ pub(crate) struct TupleRoom {
 
 impl TupleRoom {
     /// Memory for tuples of a table, with so many points or control values.
-    pub(crate) fn new(alloc: Global, table: TupleTable, points: usize) -> Result<TupleRoom, AllocError>
+    pub(crate) fn new(
+        alloc: Global,
+        table: TupleTable,
+        points: usize,
+    ) -> Result<TupleRoom, AllocError>
         ensures room { IfOk result (λ r. HasRoom r table points) }
     {
         let second = match table {
@@ -96,6 +100,7 @@ impl TupleRoom {
         ensures exact { Gives (λ _. room_tuple self.new (points_of shared.now)) result
             (tuple_at (source_of source.now) (points_of shared.now) (tuple_header_of header) at) }
         ensures room { HasRoom self.new source.now.table source.now.points }
+        ensures within { IfErr result (λ e. e.at ≤ length source.now.bytes.now) }
         ensures tuple { OnOk result (0 < header.share.parts → IsTuple (source_of source.now) (room_tuple self.new (points_of shared.now))) }
     {
         self.share = header.share;
@@ -109,12 +114,18 @@ impl TupleRoom {
 }
 
 /// Reads the second list of deltas, if the table has one. Returns the place after them.
-fn read_second(source: &TupleSource, at: usize, count: usize, ys: &mut Vec<i16>) -> Result<usize, Broken>
+fn read_second(
+    source: &TupleSource,
+    at: usize,
+    count: usize,
+    ys: &mut Vec<i16>,
+) -> Result<usize, Broken>
     requires size { length source.now.bytes.now ≤ font_limit }
     requires place { at < 2 ^ 32 }
     requires room { second_count source.now.table count ≤ vec_capacity ys.old }
     ensures exact { Gives (read_into ys.new.items) result (second_deltas source.now.table source.now.bytes.now at count) }
     ensures count { OnOk result (vec_len ys.new ≡ second_count source.now.table count) }
+    ensures within { IfErr result (λ e. e.at ≤ length source.now.bytes.now) }
     ensures capacity { vec_capacity ys.new ≡ vec_capacity ys.old }
 {
     match source.table {

@@ -1,8 +1,8 @@
 //! The tuples that hold at an instance. OpenType, "OpenType Font Variations Common Table Formats".
 
-ghost use Rattle.std.specs.Prelude.{◌≡◌, ◌+◌, ◌-◌, ◌<◌, ◌≤◌, ◌^◌, length, IfOk, OnOk, OnErr, IsTrue};
+ghost use Rattle.std.specs.Prelude.{◌≡◌, ◌+◌, ◌-◌, ◌<◌, ◌≤◌, ◌^◌, length, IfOk, IfErr, OnOk, OnErr, IsTrue};
 ghost use Rattle.tt_core.specs.Limits.{font_limit};
-ghost use Rattle.tt_core.specs.Outcomes.{GivesUnless};
+ghost use Rattle.tt_core.specs.Outcomes.{GivesUnless, IfTold};
 ghost use Rattle.tt_tuples.specs.Sources.{AreNumbers, IsTuple};
 ghost use Rattle.tt_tuples.specs.Tuples.{NextOf, Opens, StepOf, rest, shared_points_of, told, tuples_of};
 ghost use Rattle.tt_tuples.specs.Views.{header_of, points_of, shared_of, source_of, tuple_of};
@@ -59,12 +59,17 @@ struct SharedPoints {
 
 /// Reads the shared point numbers, if there are any. No points where there are none.
 #[tactic(auto, unfolding(crate::specs::Tuples::shared_points_of))]
-fn shared_points(alloc: Global, source: &TupleSource, header: Header) -> Result<SharedPoints, TuplesFault>
+fn shared_points(
+    alloc: Global,
+    source: &TupleSource,
+    header: Header,
+) -> Result<SharedPoints, TuplesFault>
     requires size { length source.now.bytes.now ≤ font_limit }
     requires data { header.data_at < 65536 }
     ensures exact { GivesUnless told shared_of result (shared_points_of (source_of source.now) (header_of header)) }
     ensures numbers { IfOk result (λ s. AreNumbers source.now.points (points_of s.points)) }
     ensures next { IfOk result (λ s. s.next < 2 ^ 28) }
+    ensures within { IfTold told result (λ e. e.at ≤ length source.now.bytes.now) }
 {
     if !header.shares_points {
         return Ok(SharedPoints {
@@ -86,6 +91,7 @@ impl<'a> Tuples<'a> {
         ensures exact { Opens result (tuples_of (source_of source.entry)) }
         ensures source { IfOk result (λ t. t.source ≡ source_of source.entry) }
         ensures few { IfOk result (λ t. t.left < 4096) }
+        ensures within { IfTold told result (λ e. e.at ≤ length source.entry.bytes.now) }
     {
         let place = source.table.header_place();
         let header = header_at(source.bytes, place)?;
@@ -114,9 +120,9 @@ impl<'a> Tuples<'a> {
         requires size { header.size < 65536 }
         requires room { header.next ≤ length self.old.source.bytes }
         ensures { self.new ≡ record self.old {
-            at = header.next;
-            data_at = self.old.data_at + header.size;
-            left = self.old.left - 1;
+          at = header.next;
+          data_at = self.old.data_at + header.size;
+          left = self.old.left - 1;
         } }
     {
         self.at = header.next;
@@ -132,13 +138,15 @@ impl<'a> Tuples<'a> {
         ensures source { self.new.source ≡ self.old.source }
         ensures failed { OnErr result (rest self.new ≡ rest self.old) }
         ensures tuple { IfOk result (λ found. IsTrue found → IsTuple self.new.source self.new.tuple) }
+        ensures within { IfErr result (λ e. e.at ≤ length self.old.source.bytes) }
     {
         let header = self.source.tuple_header_at(self.at)?;
         if header.share.parts == 0 {
             self.pass(header);
             return Ok(false);
         }
-        self.room.read(&self.source, &self.shared, header, self.data_at)?;
+        self.room
+            .read(&self.source, &self.shared, header, self.data_at)?;
         self.pass(header);
         Ok(true)
     }
@@ -150,6 +158,7 @@ impl<'a> Tuples<'a> {
         ensures source { self.new.source ≡ self.old.source }
         ensures failed { OnErr result (rest self.new ≡ rest self.old) }
         ensures tuple { IfOk result (λ found. IsTrue found → IsTuple self.new.source self.new.tuple) }
+        ensures within { IfErr result (λ e. e.at ≤ length self.old.source.bytes) }
     {
         while self.left() > 0 {
             if self.step()? {

@@ -1,4 +1,3 @@
-use Rattle.std.proofs.Common.{arith}
 use Rattle.tt_tuples.proofs.Rising.{read-rises}
 use Rattle.tt_tuples.proofs.point_numbers.NumberList.read.Goals as goal
 
