@@ -1,5 +1,6 @@
 pub mod Bytes
 pub mod Deltas
+pub mod Examples
 pub mod Headers
 pub mod PointNumbers
 pub mod Regions
