@@ -5,9 +5,9 @@ use tt_axes::Coordinates;
 /// The table that has the tuples.
 #[derive(Clone, Copy, Debug, PartialEq, Eq)]
 pub enum TupleTable {
-    /// Deltas along x and y of a glyph's points. The header is in front.
+    /// Deltas along x and y of a glyph's points. The header is in front of a glyph's data.
     Gvar,
-    /// Deltas of control values. The header follows four bytes.
+    /// Deltas of control values. The header follows the table's first four bytes.
     Cvar,
 }
 
