@@ -1,6 +1,6 @@
 -- Worked values of whole tuples. A glyph has four points and four phantom points; cvar has three control values. The
 -- font has one axis, and the instance is at its end, where the only shared tuple has its peak.
-use Rattle.std.specs.Prelude.{◌≡◌, refl, ℕ, ℤ, pos, negsuc, List, [], ◌∷◌, map, Ok, Err}
+use Rattle.std.specs.Prelude.{◌≡◌, refl, ℕ, ℤ, pos, negsuc, List, [], ◌∷◌, map, Result, Ok, Err}
 use Rattle.tt_axes.specs.Shares.{share_of_tuple_axis}
 use Rattle.tt_tuples.specs.declared.source.TupleTable.TheVariants as table
 use Rattle.tt_tuples.specs.Bytes.{broken, byte_in, word_in, signed_in, slice_in}
@@ -91,7 +91,7 @@ unfolding tuples_of tuples_from tuple_at tuple_header_at header_at shared_points
     signed_in slice_in share_after share_of_tuple_axis
 regions = refl
 
--- all control values; a shared one; a shared tuple, of which cvar has none
+-- all control values; a shared one; an index of a shared tuple, which cvar lacks
 control_values : map (λ b. tuples_of (cvar b))
     ((0 ∷ 1 ∷ 0 ∷ 0 ∷ 0 ∷ 1 ∷ 0 ∷ 0x0E ∷ 0 ∷ 5 ∷ 0xA0 ∷ 0 ∷ 0x40 ∷ 0 ∷ 0 ∷ 1 ∷ 0xC0 ∷ 0x32 ∷ 0x80 ∷ [])
     ∷ (0 ∷ 1 ∷ 0 ∷ 0 ∷ 0x80 ∷ 1 ∷ 0 ∷ 0x0E ∷ 0 ∷ 2 ∷ 0x80 ∷ 0 ∷ 0x40 ∷ 0 ∷ 1 ∷ 0 ∷ 1 ∷ 0 ∷ 0x40 ∷ [])

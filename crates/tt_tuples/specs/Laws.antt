@@ -1,4 +1,4 @@
--- Lemmas about the definitions: how much of a tuple holds, and what is true of all tuples that are read.
+-- Lemmas about the definitions: how much of a tuple holds, and facts about all tuples that are read.
 use Rattle.std.specs.Prelude.{◌≡◌, ℕ, ◌<◌, ◌≤◌, ℤ, List, length, All, Ok}
 use Rattle.tt_axes.specs.Coordinates.{coordinate_at}
 use Rattle.tt_axes.specs.Shares.{whole_share}
@@ -22,7 +22,7 @@ abbrev pub NothingHolds : Type 0
 NothingHolds = (coordinates : List ℤ) (r : Region) (axes : ℕ) → axes ≤ length coordinates
     → share_after coordinates r axes ≡ 0 → share_of coordinates r ≡ 0
 
--- the tuples that are read are whole, and no more than the header tells
+-- the tuples that are read are whole, and no more than the header's count
 abbrev pub TuplesAreWhole : Type 0
 TuplesAreWhole = (s : Source) (ts : List Tuple) → tuples_of s ≡ Ok ts
     → All (IsTuple s) ts × (length ts ≤ tuple_count s.table s.bytes)

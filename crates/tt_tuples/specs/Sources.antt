@@ -1,4 +1,4 @@
--- What tuples are read from, and what a tuple gives.
+-- The source of a reader of tuples, and the data of a tuple.
 use Rattle.std.specs.Prelude.{◌≡◌, ℕ, ◌<◌, ◌≤◌, ℤ, List, length, slice_index, All}
 use Rattle.tt_tuples.specs.declared.source.TupleTable.{TupleTable}
 use Rattle.tt_tuples.specs.declared.source.TupleTable.TheVariants as table
@@ -44,7 +44,7 @@ abbrev pub AreNumbers : ℕ → Points → Type 0
 AreNumbers points all_points = Unit {0}
 AreNumbers points (listed ns) = IsList points ns
 
--- what is true of each tuple that is read
+-- each tuple that is read has these properties
 pub record IsTuple (s : Source) (t : Tuple) : Type 0 where
   pub some : 0 < t.share
   pub most : t.share ≤ 65536

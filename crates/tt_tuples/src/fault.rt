@@ -5,7 +5,7 @@ ghost use Rattle.tt_tuples.specs.declared.fault.TuplesFault.TheVariants.{Broken 
 
 use std::alloc::AllocError;
 
-/// Data that are wrong. A missing byte is told at the end of the bytes.
+/// Data that are wrong. A missing byte is a fault at the end of the bytes.
 #[derive(Clone, Copy, Debug, PartialEq, Eq)]
 pub struct Broken {
     /// The place in the bytes.

@@ -13,7 +13,7 @@ pub fn parts_hold()
     shares_fall();
 }
 
-/// Lemma: tuples that are read have as many deltas as points, which rise; and they are no more than the header tells.
+/// Lemma: tuples that are read have as many deltas as points, which rise; and are no more than the header's count.
 pub fn tuples_are_whole()
     ensures { TuplesAreWhole }
 {

@@ -19,7 +19,7 @@ use std::alloc::{AllocError, Global};
 struct NumberRun {
     /// The place of the next difference.
     at: usize,
-    /// How many differences are left.
+    /// How many differences remain.
     left: usize,
     /// Whether each has two bytes.
     words: bool,

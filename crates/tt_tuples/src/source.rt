@@ -1,4 +1,4 @@
-//! What tuples are read from.
+//! The sources of tuples.
 
 use tt_axes::Coordinates;
 
@@ -11,7 +11,7 @@ pub enum TupleTable {
     Cvar,
 }
 
-/// What tuples are read from.
+/// The source of a reader of tuples.
 #[derive(Clone, Copy)]
 pub struct TupleSource<'a> {
     pub table: TupleTable,

@@ -107,7 +107,7 @@ impl<'a> Tuples<'a> {
         })
     }
 
-    /// How many tuples are left, tuples that do not hold among them.
+    /// How many tuples remain, whether they hold or not.
     pub fn left(&self) -> usize
         ensures { result ≡ self.now.left }
     {
