@@ -19,7 +19,8 @@ abbrev glyph : List ℕ → Source
 glyph bytes = glyph_at (pos 65536) bytes
 
 abbrev cvar : List ℕ → Source
-cvar bytes = record { table = table.Cvar; bytes = bytes; shared = []; coordinates = pos 65536 ∷ []; points = 3 }
+cvar bytes =
+    record { table = table.Cvar; bytes = bytes; shared = 0x40 ∷ 0 ∷ []; coordinates = pos 65536 ∷ []; points = 3 }
 
 abbrev tuple : ℕ → Points → List ℤ → List ℤ → Tuple
 tuple share points xs ys = record { share = share; points = points; xs = xs; ys = ys }
@@ -91,13 +92,15 @@ unfolding tuples_of tuples_from tuple_at tuple_header_at header_at shared_points
     signed_in slice_in share_after share_of_tuple_axis
 regions = refl
 
--- all control values; a shared one; an index of a shared tuple, which cvar lacks
+-- all control values; a shared one; a shared tuple of gvar; one that is not there
 control_values : map (λ b. tuples_of (cvar b))
     ((0 ∷ 1 ∷ 0 ∷ 0 ∷ 0 ∷ 1 ∷ 0 ∷ 0x0E ∷ 0 ∷ 5 ∷ 0xA0 ∷ 0 ∷ 0x40 ∷ 0 ∷ 0 ∷ 1 ∷ 0xC0 ∷ 0x32 ∷ 0x80 ∷ [])
     ∷ (0 ∷ 1 ∷ 0 ∷ 0 ∷ 0x80 ∷ 1 ∷ 0 ∷ 0x0E ∷ 0 ∷ 2 ∷ 0x80 ∷ 0 ∷ 0x40 ∷ 0 ∷ 1 ∷ 0 ∷ 1 ∷ 0 ∷ 0x40 ∷ [])
-    ∷ (0 ∷ 1 ∷ 0 ∷ 0 ∷ 0 ∷ 1 ∷ 0 ∷ 0x0C ∷ 0 ∷ 5 ∷ 0x20 ∷ 0 ∷ 0 ∷ 1 ∷ 0xC0 ∷ 0x32 ∷ 0x80 ∷ []) ∷ [])
+    ∷ (0 ∷ 1 ∷ 0 ∷ 0 ∷ 0 ∷ 1 ∷ 0 ∷ 0x0C ∷ 0 ∷ 5 ∷ 0x20 ∷ 0 ∷ 0 ∷ 1 ∷ 0xC0 ∷ 0x32 ∷ 0x80 ∷ [])
+    ∷ (0 ∷ 1 ∷ 0 ∷ 0 ∷ 0 ∷ 1 ∷ 0 ∷ 0x0C ∷ 0 ∷ 5 ∷ 0x20 ∷ 5 ∷ 0 ∷ 1 ∷ 0xC0 ∷ 0x32 ∷ 0x80 ∷ []) ∷ [])
     ≡ Ok (tuple 65536 all_points (negsuc 63 ∷ pos 50 ∷ pos 0 ∷ []) [] ∷ [])
     ∷ Ok (tuple 65536 (listed (1 ∷ [])) (pos 64 ∷ []) [] ∷ [])
+    ∷ Ok (tuple 65536 all_points (negsuc 63 ∷ pos 50 ∷ pos 0 ∷ []) [] ∷ [])
     ∷ Err (broken 10) ∷ []
 unfolding tuples_of tuples_from tuple_at tuple_header_at header_at shared_points_of peak_at sides_at points_at
     listed_at count_at numbers_from next_number number_run_at deltas_from next_delta delta_run_at byte_in word_in

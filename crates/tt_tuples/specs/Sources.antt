@@ -4,8 +4,8 @@ use Rattle.tt_tuples.specs.declared.source.TupleTable.{TupleTable}
 use Rattle.tt_tuples.specs.declared.source.TupleTable.TheVariants as table
 use Rattle.tt_tuples.specs.PointNumbers.{Points, all_points, listed}
 
--- the bytes of a glyph in gvar and gvar's shared tuples, or the bytes of cvar; the coordinates of the instance; how many
--- points there are, with the phantom ones, or control values
+-- the bytes of a glyph in gvar, or of cvar; gvar's shared tuples; the coordinates of the instance; how many points there
+-- are, with the phantom ones, or control values
 pub record Source : Type 0 where
   pub table : TupleTable
   pub bytes : List ℕ

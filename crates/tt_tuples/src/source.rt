@@ -17,7 +17,7 @@ pub struct TupleSource<'a> {
     pub table: TupleTable,
     /// The data of a glyph in gvar, or the whole table cvar.
     pub bytes: &'a [u8],
-    /// The shared tuples of gvar, each a 2.14 for each axis. cvar has none.
+    /// The shared tuples of gvar, each a 2.14 for each axis. Tuples of cvar name them too.
     pub shared: &'a [u8],
     /// The coordinates of the instance.
     pub coordinates: &'a Coordinates,
