@@ -1,0 +1,10 @@
+pub mod ByNumber
+pub mod Choices
+pub mod Filled
+pub mod Named
+pub mod Passes
+pub mod Proportions
+pub mod Ranges
+pub mod Runs
+pub mod Swept
+pub mod Within
