@@ -4,7 +4,7 @@ use Rattle.std.specs.Prelude.{ℤ, nat_le, option_map, if◌then◌else◌}
 use Rattle.std.proofs.lemmas.Grind.{common_steps}
 use Rattle.byteorder.specs.Endian.{big_from}
 use Rattle.byteorder.specs.Numbers.{big_from-take}
-use Rattle.tt_core.specs.Numbers.{number_at, signed_at, signed16, unsigned_at}
+use Rattle.tt_core.specs.Numbers.{number_at, signed_at, signed16, signed32, signed32_at, unsigned_at}
 
 from_place : (b : List ℕ) (at i place k : ℕ) → place ≡ at + i → big_from i k (drop at b) ≡ unsigned_at b place k
 from_place b at i place zero is = refl
@@ -29,10 +29,13 @@ told false value n is = absurd cc
 pub number_told : (b : List ℕ) (at k n : ℕ) → number_at b at k ≡ Some n → unsigned_at b at k ≡ n
 number_told b at k n is = told (nat_le (at + k) (length b)) (unsigned_at b at k) n is
 
-signed : (there : Bool) (value : ℕ) (z : ℤ)
-    → ◌≡◌ {A = Option ℤ} (option_map signed16 (if there then Some value else None)) (Some z) → signed16 value ≡ z
-signed true value z is = cc
-signed false value z is = absurd cc
+signed : (read : ℕ → ℤ) (there : Bool) (value : ℕ) (z : ℤ)
+    → ◌≡◌ {A = Option ℤ} (option_map read (if there then Some value else None)) (Some z) → read value ≡ z
+signed read true value z is = cc
+signed read false value z is = absurd cc
 
 pub signed_told : (b : List ℕ) (at : ℕ) (z : ℤ) → signed_at b at ≡ Some z → signed16 (unsigned_at b at 2) ≡ z
-signed_told b at z is = signed (nat_le (at + 2) (length b)) (unsigned_at b at 2) z is
+signed_told b at z is = signed signed16 (nat_le (at + 2) (length b)) (unsigned_at b at 2) z is
+
+pub signed32_told : (b : List ℕ) (at : ℕ) (z : ℤ) → signed32_at b at ≡ Some z → signed32 (unsigned_at b at 4) ≡ z
+signed32_told b at z is = signed signed32 (nat_le (at + 4) (length b)) (unsigned_at b at 4) z is

@@ -60,6 +60,10 @@ why_in_messages why.PointLimit = numbered 22 (codes "PointLimit")
 why_in_messages why.CoordRange = numbered 23 (codes "CoordRange")
 why_in_messages why.CollectionVersion = numbered 24 (codes "CollectionVersion")
 why_in_messages why.NoFace = numbered 25 (codes "NoFace")
+why_in_messages why.VariationShape = numbered 26 (codes "VariationShape")
+why_in_messages why.NoAxis = numbered 27 (codes "NoAxis")
+why_in_messages why.NoInstance = numbered 28 (codes "NoInstance")
+why_in_messages why.GlyphVariation = numbered 29 (codes "GlyphVariation")
 why_in_messages why.StepLimit = numbered 30 (codes "StepLimit")
 why_in_messages why.StackFull = numbered 31 (codes "StackFull")
 why_in_messages why.StackShort = numbered 32 (codes "StackShort")
@@ -131,6 +135,10 @@ why_of n =
     else if n == 23 then Some why.CoordRange
     else if n == 24 then Some why.CollectionVersion
     else if n == 25 then Some why.NoFace
+    else if n == 26 then Some why.VariationShape
+    else if n == 27 then Some why.NoAxis
+    else if n == 28 then Some why.NoInstance
+    else if n == 29 then Some why.GlyphVariation
     else if n == 30 then Some why.StepLimit
     else if n == 31 then Some why.StackFull
     else if n == 32 then Some why.StackShort

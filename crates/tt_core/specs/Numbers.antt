@@ -20,6 +20,14 @@ signed16 n = if nat_lt n (2 ^ 15) then pos n else pos n -ℤ pos (2 ^ 16)
 abbrev pub signed_at : List ℕ → ℕ → Option ℤ
 signed_at bytes at = option_map signed16 (number_at bytes at 2)
 
+-- 32 bits read as two's complement
+abbrev pub signed32 : ℕ → ℤ
+signed32 n = if nat_lt n (2 ^ 31) then pos n else pos n -ℤ pos (2 ^ 32)
+
+-- the signed number in the four bytes at an offset, if they exist
+abbrev pub signed32_at : List ℕ → ℕ → Option ℤ
+signed32_at bytes at = option_map signed32 (number_at bytes at 4)
+
 -- n / d for a positive d, rounded to the nearest whole number, a half upwards: the floor of (2n + d) / (2d)
 abbrev pub nearest_quotient : ℤ → ℤ → ℤ
 nearest_quotient n d = int_div_euclid (pos 2 *ℤ n +ℤ d) (pos 2 *ℤ d)
@@ -37,6 +45,13 @@ past_the_end = refl
 
 minus_two : signed_at (255 ∷ 254 ∷ []) 0 ≡ Some (negsuc 1)
 minus_two = refl
+
+minus_one_and_a_half : signed32_at (255 ∷ 254 ∷ 128 ∷ 0 ∷ []) 0 ≡ Some (negsuc 98303)
+minus_one_and_a_half = refl
+
+the_ends_of_32_bits : map (λ b. signed32_at b 0) ((127 ∷ 255 ∷ 255 ∷ 255 ∷ []) ∷ (128 ∷ 0 ∷ 0 ∷ 0 ∷ []) ∷ (0 ∷ 0 ∷ 0 ∷ []) ∷ [])
+    ≡ Some (pos 2147483647) ∷ Some (negsuc 2147483647) ∷ None ∷ []
+the_ends_of_32_bits = refl
 
 -- a half goes up, below 0 too
 halves_go_up : map (λ n. rounded_quotient n (pos 2)) (pos 1 ∷ negsuc 0 ∷ negsuc 2 ∷ []) ≡ pos 1 ∷ pos 0 ∷ negsuc 0 ∷ []

@@ -36,6 +36,10 @@ macro_rules! whys {
             23 CoordRange,
             24 CollectionVersion,
             25 NoFace,
+            26 VariationShape,
+            27 NoAxis,
+            28 NoInstance,
+            29 GlyphVariation,
             30 StepLimit,
             31 StackFull,
             32 StackShort,
@@ -154,6 +158,14 @@ pub enum Why {
     CollectionVersion,
     /// The file has no face with this number.
     NoFace,
+    /// fvar's or gvar's header does not fit, or counts other axes.
+    VariationShape,
+    /// The font has no axis with a tag of the job.
+    NoAxis,
+    /// The font has no named instance with this number or name.
+    NoInstance,
+    /// A glyph's data in gvar do not fit.
+    GlyphVariation,
     /// A program makes too many steps.
     StepLimit,
     /// The stack is full.

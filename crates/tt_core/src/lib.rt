@@ -25,5 +25,5 @@ pub use limits::{
     HEIGHT_LIMIT, LEVEL_LIMIT, MARGIN_LIMIT, POINT_LIMIT, POINT_WORK_LIMIT, SIZE_LIMIT,
     STACK_LIMIT, STEP_LIMIT, TEXT_LIMIT, WIDTH_LIMIT, WORK_LIMIT,
 };
-pub use number::{i16_at, rq, u16_at, u24_at, u32_at};
+pub use number::{i16_at, i32_at, rq, u16_at, u24_at, u32_at};
 pub use scaling::Scale;

@@ -2,7 +2,7 @@
 //! types.
 
 ghost use Rattle.std.specs.Prelude.{◌≡◌, ◌≢◌, ℕ, ◌+◌, ◌*◌, ◌^◌, ◌<◌, ◌≤◌, ◌<ℤ◌, pos, unsigned_abs};
-ghost use Rattle.tt_core.specs.Numbers.{number_at, signed_at, nearest_quotient, rounded_quotient};
+ghost use Rattle.tt_core.specs.Numbers.{number_at, signed_at, signed32_at, nearest_quotient, rounded_quotient};
 
 use byteorder::{BigEndian, ByteOrder};
 
@@ -34,6 +34,16 @@ pub fn u32_at(b: &[u8], at: usize) -> Option<u32>
         return None;
     }
     Some(BigEndian::read_u32(&b[at..]))
+}
+
+/// The i32 at an offset, or None if its bytes pass the end.
+pub fn i32_at(b: &[u8], at: usize) -> Option<i32>
+    ensures { result ≡ signed32_at b.now at }
+{
+    match u32_at(b, at) {
+        Some(n) => Some(n.cast_signed()),
+        None => None,
+    }
 }
 
 /// The 24-bit number at an offset, or None if its bytes pass the end.

@@ -1,0 +1,4 @@
+mod Portions
+mod Regions
+mod Shares
+mod Signed

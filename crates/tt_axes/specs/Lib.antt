@@ -1,0 +1,3 @@
+pub mod Coordinates
+pub mod Rounding
+pub mod Shares

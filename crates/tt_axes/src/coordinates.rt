@@ -1,0 +1,82 @@
+//! The coordinates of an instance.
+
+ghost use Rattle.std.specs.Prelude.{◌≡◌, ◌++◌, ◌∷◌, [], ◌<◌, ◌≤◌, length, slice_get, Some, unsigned_abs};
+ghost use Rattle.tt_axes.specs.Coordinates.{are_zero, coordinate_at};
+
+use std::marker::Model;
+
+/// The coordinates of an instance: one for each of at most 64 axes, in 1/65536, from -65536 to 65536. Clauses see a list.
+#[derive(Drop)]
+pub struct Coordinates {
+    values: [i32; 64],
+    count: usize,
+}
+
+impl Model for Coordinates {
+    ghost use Rattle.std.specs.Prelude.{◌≡◌, ◌≤◌, List, ℤ, take, length, unsigned_abs};
+    ghost use Rattle.std.specs.List.{All};
+
+    ghost Value = { List ℤ };
+
+    ghost view = { λ c. take c.count c.values };
+
+    ghost invariant = { λ c. (c.count ≤ 64) × (length c.values ≡ 64) × All (λ v. unsigned_abs v ≤ 65536) (take c.count c.values) };
+}
+
+impl Coordinates {
+    /// No coordinate.
+    pub fn new() -> Coordinates
+        ensures { result ≡ [] }
+    {
+        Coordinates {
+            values: [0; 64],
+            count: 0,
+        }
+    }
+
+    /// Appends a coordinate.
+    pub fn push(&mut self, coordinate: i32)
+        requires room { length self.old < 64 }
+        requires within { unsigned_abs coordinate ≤ 65536 }
+        ensures { self.new ≡ self.old ++ coordinate ∷ [] }
+    {
+        self.values[self.count] = coordinate;
+        self.count += 1;
+    }
+
+    /// A copy.
+    pub fn copy(&self) -> Coordinates
+        ensures { result ≡ self.now }
+    {
+        Coordinates {
+            values: self.values,
+            count: self.count,
+        }
+    }
+
+    /// How many axes there are.
+    pub fn count(&self) -> usize
+        ensures exact { result ≡ length self.now }
+        ensures bound { result ≤ 64 }
+    {
+        self.count
+    }
+
+    /// The coordinate of the axis with a number.
+    pub fn at(&self, i: usize) -> i32
+        requires { i < length self.now }
+        ensures exact { result ≡ coordinate_at self.now i }
+        ensures there { slice_get self.now i ≡ Some result }
+        ensures within { unsigned_abs result ≤ 65536 }
+    {
+        let values = &self.values;
+        values[i]
+    }
+
+    /// Whether all coordinates are 0, so that the instance is the default's.
+    pub fn are_zero(&self) -> bool
+        ensures { result ≡ are_zero self.now }
+    {
+        self.values[..self.count].iter().all(|v| *v == 0)
+    }
+}
