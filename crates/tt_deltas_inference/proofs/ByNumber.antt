@@ -1,8 +1,9 @@
 -- The points of a contour by their numbers.
-use Rattle.std.proofs.Common.{◌≡◌, ◌∙◌, ℕ, zero, suc, ◌+◌, ◌<◌, true, false, List, [], ◌∷◌, ◌++◌, length, take, drop, get_or, None, All, ap, refl, arith, append_assoc}
-use Rattle.std.proofs.lemmas.List.{append-nil}
-use Rattle.std.proofs.lemmas.List.Elements.{All-head, All-tail}
-use Rattle.tt_deltas_inference.specs.Inference.{inferred_among, first_named, contour_from, contour}
+use Rattle.std.proofs.Common.{◌≡◌, ◌∙◌, ℕ, zero, suc, ◌+◌, ◌-◌, ◌<◌, ◌≤◌, true, false, List, [], ◌∷◌, ◌++◌, length, take, drop, get_or, None, All, ap, sym, refl, arith, append_assoc}
+use Rattle.std.proofs.lemmas.List.{append-nil, drop-drop, take-append-drop}
+use Rattle.std.proofs.lemmas.List.Elements.{All-head, All-tail, All-take, All-drop}
+use Rattle.tt_deltas_inference.specs.Bounds.{AreContourEnds}
+use Rattle.tt_deltas_inference.specs.Inference.{contours, inferred_among, first_named, contour_from, contour}
 use Rattle.tt_deltas_inference.specs.declared.point.AxisPoint.{AxisPoint}
 use Rattle.tt_deltas_inference.proofs.Passes.{stays, unnamed_stays}
 
@@ -50,3 +51,22 @@ all_from front (p ∷ ps) all =
 pub all_named : (ps : List AxisPoint) → All (λ p. p.named ≡ true) ps → contour ps ≡ ps
 unfolding contour
 all_named ps all = all_from [] ps all
+
+-- the contours of points that are all named
+pub contours_named : (from : ℕ) (ends : List ℕ) (ps : List AxisPoint) → AreContourEnds from ends (length ps)
+    → All (λ p. p.named ≡ true) ps → contours from ends ps ≡ drop from ps
+contours_named from [] ps are all = refl
+contours_named from (end ∷ ends) ps are all =
+    let k = (end + 1) - from in
+    let part = take k (drop from ps) in
+    let this = all_named part (All-take (λ q. q.named ≡ true) k (drop from ps) (All-drop (λ q. q.named ≡ true) from ps
+    all)) in
+    let rest = contours_named (end + 1) ends ps (are.1) all in
+    let order = are.0 in
+    let sum : from + k ≡ end + 1 = omega arith in
+    let behind : drop (end + 1) ps ≡ drop k (drop from ps) = rw sum at (sym (drop-drop k from ps)) in
+    rw (this, rest, behind) (take-append-drop k (drop from ps))
+
+pub all_contours_named : (ends : List ℕ) (ps : List AxisPoint) → AreContourEnds 0 ends (length ps)
+    → All (λ p. p.named ≡ true) ps → contours 0 ends ps ≡ ps
+all_contours_named ends ps are all = contours_named 0 ends ps are all

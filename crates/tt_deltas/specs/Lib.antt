@@ -1,0 +1,3 @@
+pub mod Along
+pub mod Gvar
+pub mod Views
