@@ -1,0 +1,6 @@
+pub mod Axes
+pub mod Chains
+pub mod DeltaRuns
+pub mod NumberRuns
+pub mod Rising
+pub mod Steps

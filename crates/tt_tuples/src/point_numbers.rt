@@ -1,0 +1,288 @@
+//! Packed point numbers. OpenType, "OpenType Font Variations Common Table Formats".
+
+ghost use Rattle.std.specs.Prelude.{◌≡◌, ◌+◌, ◌<◌, ◌≤◌, ◌^◌, IsTrue, length, vec_len, vec_capacity, [], IfOk, IfErr, OnOk, if◌then◌else◌};
+ghost use Rattle.tt_core.specs.Limits.{font_limit};
+ghost use Rattle.tt_core.specs.Outcomes.{Gives};
+ghost use Rattle.tt_tuples.specs.PointNumbers.{number_run_at, number_run, difference_in, number_in, next_number, numbers_at, count_at, listed, points_at};
+ghost use Rattle.tt_tuples.specs.PointNumbers.{Points as points};
+ghost use Rattle.tt_tuples.specs.Sources.{AreNumbers, delta_count};
+ghost use Rattle.tt_tuples.specs.Tuples.{tuple_points};
+ghost use Rattle.tt_tuples.specs.Views.{count_of, named_points, number_of, number_run_of, points_of, read_into, source_of};
+
+use crate::bytes::{byte_at, word_at};
+use crate::fault::Broken;
+use crate::source::TupleSource;
+use std::alloc::{AllocError, Global};
+
+/// A run of differences between point numbers.
+#[derive(Clone, Copy)]
+struct NumberRun {
+    /// The place of the next difference.
+    at: usize,
+    /// How many differences are left.
+    left: usize,
+    /// Whether each has two bytes.
+    words: bool,
+}
+
+/// A point's number, and the run after it.
+#[derive(Clone, Copy)]
+struct Number {
+    number: u16,
+    run: NumberRun,
+}
+
+impl NumberRun {
+    /// The run that begins at a place.
+    #[tactic(auto, unfolding(crate::specs::PointNumbers::number_run_at))]
+    fn begin(bytes: &[u8], at: usize) -> Result<NumberRun, Broken>
+        requires { length bytes.now ≤ font_limit }
+        ensures exact { Gives number_run_of result (number_run_at bytes.now at) }
+        ensures some { IfOk result (λ r. 0 < r.left) }
+        ensures room { IfOk result (λ r. r.at ≤ length bytes.now) }
+        ensures within { IfErr result (λ e. e.at ≤ length bytes.now) }
+    {
+        let control = byte_at(bytes, at)?;
+        Ok(NumberRun {
+            at: at + 1,
+            left: usize::from(control % 128) + 1,
+            words: control >= 128,
+        })
+    }
+
+    /// This run, or the one after it if it has ended.
+    #[inline(always)]
+    fn going_on(self, bytes: &[u8]) -> Result<NumberRun, Broken>
+        requires place { self.at ≤ length bytes.now }
+        requires size { length bytes.now ≤ font_limit }
+        ensures exact { Gives number_run_of result (number_run bytes.now (number_run_of self)) }
+        ensures some { IfOk result (λ r. 0 < r.left) }
+        ensures room { IfOk result (λ r. r.at ≤ length bytes.now) }
+        ensures within { IfErr result (λ e. e.at ≤ length bytes.now) }
+    {
+        if self.left == 0 {
+            NumberRun::begin(bytes, self.at)
+        } else {
+            Ok(self)
+        }
+    }
+
+    /// The bytes of a difference.
+    #[inline(always)]
+    fn size(self) -> usize
+        ensures { result ≡ (if self.words then 2 else 1) }
+    {
+        if self.words { 2 } else { 1 }
+    }
+
+    /// The next difference.
+    #[inline(always)]
+    fn difference(self, bytes: &[u8]) -> Result<u16, Broken>
+        ensures exact { Gives (λ n. n) result (difference_in bytes.now (number_run_of self)) }
+        ensures room { IfOk result (λ n. self.at + (if self.words then 2 else 1) ≤ length bytes.now) }
+        ensures within { IfErr result (λ e. e.at ≤ length bytes.now) }
+    {
+        if self.words {
+            word_at(bytes, self.at)
+        } else {
+            Ok(u16::from(byte_at(bytes, self.at)?))
+        }
+    }
+
+    /// The next number, above the one before it.
+    #[inline(always)]
+    fn number(self, bytes: &[u8], before: Option<u16>) -> Result<u16, Broken>
+        ensures exact { Gives (λ n. n) result (number_in bytes.now (number_run_of self) before) }
+        ensures room { IfOk result (λ n. self.at + (if self.words then 2 else 1) ≤ length bytes.now) }
+        ensures within { IfErr result (λ e. e.at ≤ length bytes.now) }
+    {
+        let by = self.difference(bytes)?;
+        match before {
+            None => Ok(by),
+            Some(before) => match before.checked_add(by) {
+                Some(number) if number > before => Ok(number),
+                _ => Err(Broken { at: self.at }),
+            },
+        }
+    }
+
+    /// The next number, and the run after it.
+    #[inline(always)]
+    #[tactic(auto, unfolding(crate::specs::PointNumbers::next_number))]
+    fn next(self, bytes: &[u8], before: Option<u16>) -> Result<Number, Broken>
+        requires place { self.at ≤ length bytes.now }
+        requires size { length bytes.now ≤ font_limit }
+        ensures exact { Gives number_of result (next_number bytes.now (number_run_of self) before) }
+        ensures room { IfOk result (λ n. n.run.at ≤ length bytes.now) }
+        ensures within { IfErr result (λ e. e.at ≤ length bytes.now) }
+    {
+        let run = self.going_on(bytes)?;
+        let number = run.number(bytes, before)?;
+        let run = NumberRun {
+            at: run.at + run.size(),
+            left: run.left - 1,
+            words: run.words,
+        };
+        Ok(Number { number, run })
+    }
+}
+
+/// Reads `count` numbers from a place into a list. Returns the place after them.
+#[tactic(auto, using(crate::proofs::NumberRuns::turn, crate::proofs::NumberRuns::breaks, crate::proofs::NumberRuns::done))]
+fn read_numbers(
+    bytes: &[u8],
+    at: usize,
+    count: usize,
+    numbers: &mut Vec<u16>,
+) -> Result<usize, Broken>
+    requires place { at ≤ length bytes.now }
+    requires size { length bytes.now ≤ font_limit }
+    requires room { count ≤ vec_capacity numbers.old }
+    ensures exact { Gives (read_into numbers.new.items) result (numbers_at bytes.now at count) }
+    ensures count { OnOk result (vec_len numbers.new ≡ count) }
+    ensures next { IfOk result (λ next. next ≤ length bytes.now) }
+    ensures within { IfErr result (λ e. e.at ≤ length bytes.now) }
+    ensures capacity { vec_capacity numbers.new ≡ vec_capacity numbers.old }
+{
+    numbers.clear();
+    let mut run = NumberRun {
+        at,
+        left: 0,
+        words: false,
+    };
+    let mut before = None;
+    for _ in 0..count {
+        let number = run.next(bytes, before)?;
+        numbers.push_reserved(number.number);
+        before = Some(number.number);
+        run = number.run;
+    }
+    Ok(run.at)
+}
+
+/// How many points are listed, and the place after that number.
+#[derive(Clone, Copy)]
+struct Count {
+    count: usize,
+    next: usize,
+}
+
+/// The number of listed points at a place.
+#[tactic(auto, unfolding(crate::specs::PointNumbers::count_at))]
+fn count_at(bytes: &[u8], at: usize) -> Result<Count, Broken>
+    requires { length bytes.now ≤ font_limit }
+    ensures exact { Gives count_of result (count_at bytes.now at) }
+    ensures room { IfOk result (λ c. c.next ≤ length bytes.now) }
+    ensures first { IfOk result (λ c. at < length bytes.now) }
+    ensures within { IfErr result (λ e. e.at ≤ length bytes.now) }
+{
+    let first = byte_at(bytes, at)?;
+    if first < 128 {
+        return Ok(Count {
+            count: usize::from(first),
+            next: at + 1,
+        });
+    }
+    let low = byte_at(bytes, at + 1)?;
+    Ok(Count {
+        count: 256 * usize::from(first - 128) + usize::from(low),
+        next: at + 2,
+    })
+}
+
+/// The points that a tuple names.
+#[derive(Clone, Copy)]
+pub enum Points<'a> {
+    All,
+    Listed(&'a [u16]),
+}
+
+impl<'a> Points<'a> {
+    /// How many points are named, of so many.
+    pub fn count(self, points: usize) -> usize
+        ensures { result ≡ delta_count (named_points self.entry) points }
+    {
+        match self {
+            Points::All => points,
+            Points::Listed(numbers) => numbers.len(),
+        }
+    }
+}
+
+/// The points that a tuple names, in memory that serves again.
+#[derive(Drop)]
+pub(crate) struct NumberList {
+    /// Whether all points are named. Then the list is left out of account.
+    pub(crate) all: bool,
+    pub(crate) numbers: Vec<u16>,
+}
+
+impl NumberList {
+    /// A list of no points, with room for so many.
+    pub(crate) fn new(alloc: Global, points: usize) -> Result<NumberList, AllocError>
+        ensures none { IfOk result (λ l. points_of l ≡ listed []) }
+        ensures room { IfOk result (λ l. points ≤ vec_capacity l.numbers) }
+    {
+        Ok(NumberList {
+            all: false,
+            numbers: Vec::with_capacity(alloc, points)?,
+        })
+    }
+
+    pub(crate) fn points(&self) -> Points<'_>
+        ensures { named_points result ≡ points_of self.now }
+    {
+        if self.all {
+            Points::All
+        } else {
+            Points::Listed(&self.numbers)
+        }
+    }
+
+    /// Reads the point numbers at a place. Returns the place after them.
+    #[tactic(auto, unfolding(crate::specs::PointNumbers::points_at, crate::specs::PointNumbers::listed_at))]
+    pub(crate) fn read(&mut self, bytes: &[u8], at: usize, points: usize) -> Result<usize, Broken>
+        requires size { length bytes.now ≤ font_limit }
+        requires room { points ≤ vec_capacity self.old.numbers }
+        ensures exact { Gives (read_into (points_of self.new)) result (points_at bytes.now at points) }
+        ensures numbers { OnOk result (AreNumbers points (points_of self.new)) }
+        ensures next { IfOk result (λ next. next ≤ length bytes.now) }
+        ensures within { IfErr result (λ e. e.at ≤ length bytes.now) }
+        ensures capacity { vec_capacity self.new.numbers ≡ vec_capacity self.old.numbers }
+    {
+        self.all = byte_at(bytes, at)? == 0;
+        if self.all {
+            return Ok(at + 1);
+        }
+        let count = count_at(bytes, at)?;
+        if count.count > points {
+            return Err(Broken { at });
+        }
+        read_numbers(bytes, count.next, count.count, &mut self.numbers)
+    }
+
+    /// Reads the point numbers of a tuple whose data begin at a place, if it has its own. Returns the place of its
+    /// deltas.
+    pub(crate) fn read_own(
+        &mut self,
+        source: &TupleSource,
+        own: bool,
+        at: usize,
+    ) -> Result<usize, Broken>
+        requires size { length source.now.bytes.now ≤ font_limit }
+        requires room { source.now.points ≤ vec_capacity self.old.numbers }
+        requires place { at < 2 ^ 32 }
+        ensures exact { (shared : points) → Gives (read_into (if own then points_of self.new else shared)) result
+            (tuple_points (source_of source.now) shared own at) }
+        ensures numbers { OnOk result (IsTrue own → AreNumbers source.now.points (points_of self.new)) }
+        ensures next { IfOk result (λ next. next < 2 ^ 32) }
+        ensures within { IfErr result (λ e. e.at ≤ length source.now.bytes.now) }
+        ensures capacity { vec_capacity self.new.numbers ≡ vec_capacity self.old.numbers }
+    {
+        if own {
+            self.read(source.bytes, at, source.points)
+        } else {
+            Ok(at)
+        }
+    }
+}
