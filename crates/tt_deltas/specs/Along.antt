@@ -55,6 +55,10 @@ AreNumbers (Some ns) deltas points = (deltas ≡ length ns) × Rises ns
 abbrev pub IsWithin : ℕ → Varied → Type 0
 IsWithin most v = unsigned_abs v.delta ≤ most
 
+-- not moved yet
+abbrev pub IsStill : Varied → Type 0
+IsStill v = v.delta ≡ pos 0
+
 -- a place in a list of numbers: those before it are below i, the others are not
 pub record IsPlaceFor (numbers : List ℕ) (i next : ℕ) : Type 0 where
   pub bound : next ≤ length numbers

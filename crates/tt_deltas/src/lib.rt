@@ -2,9 +2,12 @@
 #![tactic(auto)]
 
 mod along;
+mod control_values;
+mod glyph;
 mod gvar;
 mod naming;
 mod varied;
 
+pub use control_values::{control_value_deltas, moved_control_value};
 pub use gvar::{GlyphData, Gvar};
 pub use varied::Varied;

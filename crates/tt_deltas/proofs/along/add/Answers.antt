@@ -1,6 +1,5 @@
-use Rattle.std.proofs.Common.{◌≡◌, ◌<◌, ◌≤◌, length, get_or, arith}
-use Rattle.tt_deltas.specs.Along.{added}
-use Rattle.tt_deltas.proofs.Added.{many, same_value, more, rest_more, whole, within, no_value, no_point}
+use Rattle.std.proofs.Common.{◌<◌, length, arith}
+use Rattle.tt_deltas.proofs.Added.{same_value, more, rest_more, whole, within, no_value}
 use Rattle.tt_deltas.proofs.along.add.Goals as goal
 
 pub loop-i-preserved : goal.loop-i-preserved

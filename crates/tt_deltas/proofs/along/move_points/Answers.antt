@@ -1,8 +1,8 @@
-use Rattle.std.proofs.Common.{◌≡◌, ◌∙◌, ◌++◌, length, length-append, length-drop, drop, None, Some, sym, arith}
+use Rattle.std.proofs.Common.{◌≡◌, ◌++◌, length, length-append, length-drop, drop, None, Some, sym, arith}
 use Rattle.std.proofs.lemmas.List.{length-take}
 use Rattle.tt_deltas_inference.proofs.ByNumber.{all_contours_named}
 use Rattle.tt_deltas_inference.specs.Bounds.{AreContourEnds}
-use Rattle.tt_deltas.specs.Along.{axis_points, moved_points}
+use Rattle.tt_deltas.specs.Along.{axis_points}
 use Rattle.tt_deltas.proofs.Listed.{many, all_named}
 use Rattle.tt_deltas.proofs.along.move_points.Goals as goal
 

@@ -1,4 +1,4 @@
-use Rattle.std.proofs.Common.{◌≡◌, ◌≢◌, ◌∙◌, ◌<◌, ◌≤◌, length, get_or, slice_index, pos, Some, SFits, w16, sym, rules, arith}
+use Rattle.std.proofs.Common.{◌∙◌, ◌<◌, length, get_or, pos, SFits, w16, sym, rules, arith}
 use Rattle.std.proofs.lemmas.Int.{to_z-of_z}
 use Rattle.tt_deltas.proofs.Listed.{at_place, no_place, passed_by, past_all}
 use Rattle.tt_deltas.proofs.naming.listed_delta.Goals as goal

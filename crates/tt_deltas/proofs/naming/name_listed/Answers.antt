@@ -1,4 +1,4 @@
-use Rattle.std.proofs.Common.{◌≡◌, ◌∙◌, length, get_or, Some, arith}
+use Rattle.std.proofs.Common.{◌≡◌, ◌∙◌, get_or, Some, arith}
 use Rattle.std.proofs.lemmas.List.Elements.{All-push}
 use Rattle.tt_deltas_inference.specs.Bounds.{IsGiven}
 use Rattle.tt_deltas.specs.Along.{axis_point, own_delta}
