@@ -1,16 +1,16 @@
 -- OpenType, "cvar": control values at an instance. A table with a defect in what is read, or of another version, is taken
 -- as missing (profile).
-use Rattle.std.specs.Prelude.{◌≡◌, ℕ, ℤ, pos, negsuc, ◌+ℤ◌, ◌*ℤ◌, Bool, ◌&&◌, ◌==◌, nat_le, if◌then◌else◌, List, [], ◌∷◌, length, map, Result, Ok, Err, refl}
+use Rattle.std.specs.Prelude.{◌≡◌, ℕ, ℤ, pos, negsuc, Bool, ◌&&◌, ◌==◌, nat_le, if◌then◌else◌, List, [], ◌∷◌, length, map, Result, Ok, Err, refl}
 use Rattle.std.specs.Int.{int_max, int_min}
 use Rattle.tt_core.specs.Numbers.{unsigned_at}
 use Rattle.tt_core.specs.Outcomes.{◌>>=◌}
-use Rattle.tt_axes.specs.Rounding.{sixty_fourths}
 use Rattle.tt_tuples.specs.declared.fault.Broken.{Broken}
 use Rattle.tt_tuples.specs.declared.source.TupleTable.TheVariants as table
 use Rattle.tt_tuples.specs.Sources.{Source, Tuple}
 use Rattle.tt_tuples.specs.Tuples.{tuples_of}
 use Rattle.tt_deltas.specs.Along.{varied_along}
 use Rattle.tt_deltas.specs.Glyphs.{numbers_of}
+use Rattle.tt_deltas.specs.Units.{moved_sixty_fourths}
 use Rattle.tt_deltas.specs.declared.varied.Varied.{Varied}
 
 -- a header of eight bytes, of version 1.0
@@ -51,7 +51,7 @@ abbrev pub kept : ℤ → ℤ
 kept u = int_max (negsuc 2097151) (int_min u (pos 2097088))
 
 abbrev pub moved_control_value : Varied → ℤ
-moved_control_value v = kept (pos 64 *ℤ v.at +ℤ sixty_fourths v.delta)
+moved_control_value v = kept (moved_sixty_fourths v)
 
 -- worked values: halves of a 64th go up, and values are kept to their range
 abbrev by : ℤ → ℤ → Varied

@@ -13,7 +13,7 @@ use crate::along::{AxisTuple, vary_along};
 use crate::glyph::numbers_of;
 use crate::varied::Varied;
 use std::alloc::{AllocError, Global};
-use tt_axes::{Coordinates, sixty_fourths};
+use tt_axes::Coordinates;
 use tt_core::u32_at;
 use tt_deltas_inference::AxisPoint;
 use tt_tuples::{Broken, TupleSource, TupleTable, Tuples, TuplesFault};
@@ -61,7 +61,7 @@ fn vary_values(alloc: Global, source: TupleSource, values: &mut [Varied]) -> Res
 }
 
 /// Whether a table is a cvar of version 1.0.
-fn is_cvar(table: &[u8]) -> bool
+pub(crate) fn is_cvar(table: &[u8]) -> bool
     ensures { result ≡ is_cvar table.now }
 {
     table.len() >= 8 && u32_at(table, 0) == Some(0x0001_0000)
@@ -119,6 +119,5 @@ pub fn moved_control_value(value: Varied) -> i32
     ensures exact { result ≡ moved_control_value value }
     ensures bound { unsigned_abs result ≤ 64 * 32768 }
 {
-    let moved = 64 * i64::from(value.at) + sixty_fourths(value.delta);
-    moved.clamp(-64 * 32768, 64 * 32767) as i32
+    value.sixty_fourths().clamp(-64 * 32768, 64 * 32767) as i32
 }

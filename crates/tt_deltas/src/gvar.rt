@@ -5,7 +5,7 @@ ghost use Rattle.tt_core.specs.Directory.{HasNo, IsDefectIn};
 ghost use Rattle.tt_core.specs.Faults.{fault_at};
 ghost use Rattle.tt_core.specs.Limits.{font_limit};
 ghost use Rattle.tt_core.specs.Outcomes.{Gives};
-ghost use Rattle.tt_deltas.specs.Gvar.{IsGlyphDefect, IsShapeDefect, end_of, entry_place, glyph_count, glyph_data_of, gvar_in, gvar_of, gvar_tag, header_size, offset_at, offset_size, offsets_end, shared_bytes, shared_bytes_of, shared_end, shape_fault};
+ghost use Rattle.tt_deltas.specs.Gvar.{IsGlyphDefect, IsGvar, IsShapeDefect, end_of, entry_place, glyph_count, glyph_data_of, gvar_in, gvar_of, gvar_tag, header_size, offset_at, offset_size, offsets_end, shared_bytes, shared_bytes_of, shared_end, shape_fault};
 ghost use Rattle.tt_deltas.specs.Views.{data_view};
 
 use std::marker::Model;
@@ -95,6 +95,10 @@ impl<'a> Gvar<'a> {
     pub fn open(dir: &Dir<'a>, axes: usize) -> Result<Gvar<'a>, Fault>
         requires { axes ≤ 64 }
         ensures exact { Gives (λ g. g) result (gvar_of dir.now axes) }
+        ensures valid { IfOk result IsGvar }
+        ensures axes { IfOk result (λ g. g.axes ≡ axes) }
+        ensures sound { OnOk result (HasNo (IsDefectIn dir.now gvar_tag (IsShapeDefect axes))) }
+        ensures fault { IfErr result (IsDefectIn dir.now gvar_tag (IsShapeDefect axes)) }
     {
         let table = dir.needed(GVAR)?;
         Gvar::of(table, axes)
@@ -104,7 +108,11 @@ impl<'a> Gvar<'a> {
     fn of(table: &'a [u8], axes: usize) -> Result<Gvar<'a>, Fault>
         requires size { length table.now ≤ font_limit }
         requires axes { axes ≤ 64 }
-        ensures { Gives (λ g. g) result (gvar_in table.now axes) }
+        ensures exact { Gives (λ g. g) result (gvar_in table.now axes) }
+        ensures valid { IfOk result IsGvar }
+        ensures axes { IfOk result (λ g. g.axes ≡ axes) }
+        ensures sound { OnOk result (HasNo (IsShapeDefect axes table.now)) }
+        ensures fault { IfErr result (IsShapeDefect axes table.now) }
     {
         if table.len() < HEADER_SIZE {
             return Err(shape(table.len()));
@@ -122,6 +130,14 @@ impl<'a> Gvar<'a> {
             return Err(shape(8));
         }
         Ok(Gvar { table, axes })
+    }
+
+    /// The number of axes.
+    pub(crate) fn axes(&self) -> usize
+        ensures exact { result ≡ self.now.axes }
+        ensures few { result ≤ 64 }
+    {
+        self.axes
     }
 
     /// How many glyphs have an entry.
@@ -159,6 +175,8 @@ impl<'a> Gvar<'a> {
     pub fn data(&self, g: u16) -> Result<Option<GlyphData<'a>>, Fault>
         ensures exact { Gives data_view result (glyph_data_of self.now g) }
         ensures size { IfOk result (λ o. IfSome o (λ d. d.start + length d.bytes.now ≤ font_limit)) }
+        ensures sound { OnOk result (HasNo (IsGlyphDefect self.now g)) }
+        ensures fault { IfErr result (IsGlyphDefect self.now g) }
     {
         if g >= self.glyphs() {
             return Ok(None);
