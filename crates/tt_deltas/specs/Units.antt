@@ -1,6 +1,6 @@
 -- OpenType, "OpenType Font Variations Overview": moved coordinates in whole font units and in 1/64 of one. Halves go up
 -- (profile).
-use Rattle.std.specs.Prelude.{◌≡◌, ℤ, pos, negsuc, ◌+ℤ◌, ◌*ℤ◌, List, [], ◌∷◌, map, refl}
+use Rattle.std.specs.Prelude.{◌≡◌, ℤ, pos, negsuc, ◌+ℤ◌, ◌*ℤ◌, [], ◌∷◌, map, refl}
 use Rattle.tt_axes.specs.Rounding.{sixty_fourths, whole_units}
 use Rattle.tt_deltas.specs.declared.varied.Varied.{Varied}
 

@@ -1,4 +1,4 @@
-use Rattle.std.proofs.Common.{◌≡◌, SFits, w32, w64, rules, arith}
+use Rattle.std.proofs.Common.{SFits, w32, w64, rules, arith}
 use Rattle.std.proofs.lemmas.Int.{ints, to_z-of_z}
 use Rattle.tt_deltas.proofs.control_values.moved_control_value.Goals as goal
 

@@ -1,4 +1,4 @@
-use Rattle.std.proofs.Common.{◌≡◌, ◌^◌, ◌≤◌, pos, ◌+ℤ◌, ◌*ℤ◌, unsigned_abs, SFits, w16, w64, refl, rules, arith}
+use Rattle.std.proofs.Common.{◌≡◌, ◌^◌, SFits, w16, w64, rules, arith}
 use Rattle.std.proofs.lemmas.Int.{ints, to_z-of_z}
 use Rattle.tt_axes.specs.Rounding.{sixty_fourths}
 use Rattle.tt_deltas.proofs.varied.Varied.sixty_fourths.Goals as goal
