@@ -5,6 +5,7 @@ mod along;
 mod control_values;
 mod glyph;
 mod gvar;
+pub mod laws;
 mod naming;
 mod varied;
 mod work;

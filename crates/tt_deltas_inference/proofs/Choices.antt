@@ -1,8 +1,9 @@
 -- The delta between two named points, by each case of the definition.
-use Rattle.std.proofs.Common.{◌≡◌, ◌≢◌, Bool, true, false, ℤ, pos, int_le, int_lt, refl}
+use Rattle.std.proofs.Common.{◌≡◌, ◌≢◌, Bool, true, false, ℤ, pos, ◌<ℤ◌, int_le, int_lt, refl, arith}
 use Rattle.std.specs.Ordering.{int_eq}
 use Rattle.std.proofs.lemmas.Bool.Decides.{Decides-int_eq}
-use Rattle.tt_deltas_inference.specs.Inference.{delta_between, inferred, placed}
+use Rattle.std.proofs.lemmas.Int.{ints}
+use Rattle.tt_deltas_inference.specs.Inference.{delta_between, in_proportion, inferred, placed}
 use Rattle.tt_deltas_inference.specs.declared.point.AxisPoint.{AxisPoint}
 
 not-so : (b : Bool) → (b ≡ true → ⊥) → b ≡ false
@@ -27,6 +28,14 @@ below p lo hi other low = rw (unequal lo.at hi.at other, low) refl
 pub beyond : (p lo hi : AxisPoint) → lo.at ≢ hi.at → int_le p.at lo.at ≡ false → int_le hi.at p.at ≡ true
     → hi.delta ≡ delta_between p lo hi
 beyond p lo hi other low high = rw (unequal lo.at hi.at other, low, high) refl
+
+above : (a b : ℤ) → b <ℤ a → int_le a b ≡ false
+above a b h = grind (arith, ints)
+
+pub inside : (p lo hi : AxisPoint) → lo.at <ℤ p.at → p.at <ℤ hi.at → in_proportion p lo hi ≡ delta_between p lo hi
+inside p lo hi low high =
+    let other : lo.at ≢ hi.at = omega (arith, ints) in
+    rw (unequal lo.at hi.at other, above p.at lo.at low, above hi.at p.at high) refl
 
 -- the neighbours in the order of their coordinates
 pub exchanged : (a b p : AxisPoint) → int_lt b.at a.at ≡ true → placed b a p ≡ inferred a b p
