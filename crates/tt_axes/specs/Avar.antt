@@ -1,4 +1,4 @@
--- OpenType, "avar: Axis Variations Table": for each axis a list of pairs, by which its coordinate is mapped. A table of
+-- OpenType, "avar: Axis Variations Table": for each axis a list of pairs, which maps the axis' coordinate. A table of
 -- another version, of another count of axes, or whose lists do not fit, is not there (profile).
 use Rattle.std.specs.Prelude.{◌≡◌, refl, ℕ, zero, suc, ◌+◌, ◌-◌, ◌*◌, ℤ, pos, negsuc, ◌+ℤ◌, ◌-ℤ◌, ◌*ℤ◌, int_lt, Bool, true, false, ◌&&◌, ◌==◌, nat_le, if◌then◌else◌, List, [], ◌∷◌, ◌++◌, length, take, map, codes, Option, Some, None, Result, Ok, Err}
 use Rattle.std.specs.Int.{int_max, int_min}

@@ -40,7 +40,7 @@ place_of fvar named values i = last_value values (axis_tag fvar i) (first_place 
 abbrev pub coordinate_of : List ℕ → Option ℕ → List AxisValue → ℕ → ℤ
 coordinate_of fvar named values i = coordinate_on (axis_of fvar i) (place_of fvar named values i)
 
--- whether a named instance is there, if one is asked for
+-- whether a named instance is there, if a number is given
 abbrev pub has_instance : List ℕ → Option ℕ → Bool
 has_instance fvar None = true
 has_instance fvar (Some k) = nat_lt k (instance_count fvar)

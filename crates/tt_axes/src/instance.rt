@@ -53,7 +53,7 @@ impl<'a> Fvar<'a> {
         None
     }
 
-    /// Whether a named instance is there, if one is asked for.
+    /// Whether a named instance is there, if a number is given.
     fn has_instance(&self, named: Option<u32>) -> bool
         ensures exact { result ≡ has_instance self.now named }
         ensures there { result ≡ true → IfSome named (λ k. k < instance_count self.now) }
