@@ -1,4 +1,5 @@
--- OpenType, "cvar": control values at an instance. A table with a defect in what is read, or of another version, is taken
+-- OpenType, "cvar": control values at an instance. A tuple without a peak of its own has that of one of gvar's shared
+-- tuples. A table with a defect in what is read, or of another version, is taken
 -- as missing (profile).
 use Rattle.std.specs.Prelude.{◌≡◌, ℕ, ℤ, pos, negsuc, Bool, ◌&&◌, ◌==◌, nat_le, if◌then◌else◌, List, [], ◌∷◌, length, map, Result, Ok, Err, refl}
 use Rattle.std.specs.Int.{int_max, int_min}
@@ -10,6 +11,7 @@ use Rattle.tt_tuples.specs.Sources.{Source, Tuple}
 use Rattle.tt_tuples.specs.Tuples.{tuples_of}
 use Rattle.tt_deltas.specs.Along.{varied_along}
 use Rattle.tt_deltas.specs.Glyphs.{numbers_of}
+use Rattle.tt_deltas.specs.Gvar.{Gvar, shared_bytes_of}
 use Rattle.tt_deltas.specs.Units.{moved_sixty_fourths}
 use Rattle.tt_deltas.specs.declared.varied.Varied.{Varied}
 
@@ -30,9 +32,9 @@ unfoldable pub values_by_all : List Varied → Result (List Tuple) Broken → Re
 values_by_all vs tuples = tuples >>= λ ts. Ok (after_tuples vs ts)
 
 -- what the tuples are read from
-abbrev pub source_for : List ℕ → List ℤ → ℕ → Source
-source_for cvar coordinates values =
-    record { table = table.Cvar; bytes = cvar; shared = []; coordinates = coordinates; points = values }
+abbrev pub source_for : Gvar → List ℕ → List ℤ → ℕ → Source
+source_for g cvar coordinates values =
+    record { table = table.Cvar; bytes = cvar; shared = shared_bytes_of g; coordinates = coordinates; points = values }
 
 -- without a cvar that is whole the values stay
 abbrev pub or_still : List Varied → Result (List Varied) Broken → List Varied
@@ -40,10 +42,11 @@ or_still vs (Ok varied) = varied
 or_still vs (Err e) = vs
 
 -- the control values with their deltas
-unfoldable pub varied_values : List ℕ → List ℤ → List ℤ → List Varied
-varied_values cvar coordinates values =
+unfoldable pub varied_values : Gvar → List ℕ → List ℤ → List ℤ → List Varied
+varied_values g cvar coordinates values =
     if is_cvar cvar
-    then or_still (map still_at values) (values_by_all (map still_at values) (tuples_of (source_for cvar coordinates (length values))))
+    then or_still (map still_at values)
+    (values_by_all (map still_at values) (tuples_of (source_for g cvar coordinates (length values))))
     else map still_at values
 
 -- a control value in 1/64 of a font unit, kept within 64 times an int16 (profile)

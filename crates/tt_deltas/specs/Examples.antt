@@ -15,7 +15,7 @@ use Rattle.tt_tuples.specs.Tuples.{tuples_of, tuples_from, tuple_at, shared_poin
 use Rattle.tt_deltas.specs.Along.{varied_along}
 use Rattle.tt_deltas.specs.ControlValues.{still_at, values_by_all, varied_values}
 use Rattle.tt_deltas.specs.Glyphs.{VariedPoints, points_by_all, varied_glyph}
-use Rattle.tt_deltas.specs.Gvar.{glyph_data_of, gvar_tag}
+use Rattle.tt_deltas.specs.Gvar.{Gvar, glyph_data_of, gvar_tag}
 use Rattle.tt_deltas.specs.Units.{moved_units}
 use Rattle.tt_deltas.specs.declared.varied.Varied.{Varied}
 
@@ -194,9 +194,13 @@ unfolding varied_glyph glyph_data_of points_by_all varied_along contour inferred
     number_run_at deltas_from next_delta delta_run_at byte_in word_in signed_in slice_in share_after share_of_tuple_axis
 no_such_shared_tuple = refl
 
--- control values of 100, 200 and 300 units at the end of the only axis
+-- control values of 100, 200 and 300 units at the end of the only axis; gvar has one shared tuple, with its peak there
+abbrev shared_peak : Gvar
+shared_peak = record { table = 0 ∷ 1 ∷ 0 ∷ 0 ∷ 0 ∷ 1 ∷ 0 ∷ 1 ∷ 0 ∷ 0 ∷ 0 ∷ 22 ∷ 0 ∷ 0 ∷ 0 ∷ 0 ∷ 0 ∷ 0 ∷ 0 ∷ 24 ∷ 0 ∷ 0 ∷ 0x40 ∷ 0 ∷ []; axes = 1 }
+
 abbrev moved_values : List ℕ → List ℤ
-moved_values cvar = map moved_units (varied_values cvar (pos 65536 ∷ []) (pos 100 ∷ pos 200 ∷ pos 300 ∷ []))
+moved_values cvar =
+    map moved_units (varied_values shared_peak cvar (pos 65536 ∷ []) (pos 100 ∷ pos 200 ∷ pos 300 ∷ []))
 
 -- all values; the second; the second and one that is not there; the second, by shared numbers
 control_values : map moved_values ((0 ∷ 1 ∷ 0 ∷ 0 ∷ 0 ∷ 1 ∷ 0 ∷ 0xE ∷ 0 ∷ 5 ∷ 0xA0 ∷ 0 ∷ 0x40 ∷ 0 ∷ 0 ∷ 1 ∷ 0xC0 ∷ 0x32 ∷ 0x80 ∷
@@ -210,11 +214,21 @@ unfolding varied_values values_by_all varied_along tuples_of tuples_from tuple_a
     next_delta delta_run_at byte_in word_in signed_in slice_in share_after share_of_tuple_axis
 control_values = refl
 
--- broken in the second tuple, after a whole one; version 2: no value moves
-no_cvar : map moved_values ((0 ∷ 1 ∷ 0 ∷ 0 ∷ 0 ∷ 2 ∷ 0 ∷ 0x14 ∷ 0 ∷ 5 ∷ 0xA0 ∷ 0 ∷ 0x40 ∷ 0 ∷ 0 ∷ 5 ∷ 0xA0 ∷ 0 ∷ 0x40 ∷ 0
-    ∷ 1 ∷ 0 ∷ 1 ∷ 0 ∷ 0x40 ∷ 0 ∷ 2 ∷ 0xC0 ∷ 0x32 ∷ []) ∷ (0 ∷ 2 ∷ 0 ∷ 0 ∷ 0 ∷ 1 ∷ 0 ∷ 0xE ∷ 0 ∷ 5 ∷ 0xA0 ∷ 0 ∷ 0x40
-    ∷ 0 ∷ 0 ∷ 1 ∷ 0xC0 ∷ 0x32 ∷ 0x80 ∷ []) ∷ [])
-    ≡ (pos 100 ∷ pos 200 ∷ pos 300 ∷ []) ∷ (pos 100 ∷ pos 200 ∷ pos 300 ∷ []) ∷ []
+-- all values, by the shared tuple of gvar
+a_shared_peak : map moved_values ((0 ∷ 1 ∷ 0 ∷ 0 ∷ 0 ∷ 1 ∷ 0 ∷ 0xC ∷ 0 ∷ 5 ∷ 0x20 ∷ 0 ∷ 0 ∷ 1 ∷ 0xC0 ∷ 0x32 ∷ 0x80 ∷ []) ∷ [])
+    ≡ (pos 36 ∷ pos 250 ∷ pos 300 ∷ []) ∷ []
+unfolding varied_values values_by_all varied_along tuples_of tuples_from tuple_at tuple_header_at header_at
+    shared_points_of peak_at sides_at points_at listed_at count_at numbers_from next_number number_run_at deltas_from
+    next_delta delta_run_at byte_in word_in signed_in slice_in share_after share_of_tuple_axis
+a_shared_peak = refl
+
+-- no such shared tuple; broken in the second tuple, after a whole one; version 2: no value moves
+no_cvar : map moved_values ((0 ∷ 1 ∷ 0 ∷ 0 ∷ 0 ∷ 1 ∷ 0 ∷ 0xC ∷ 0 ∷ 5 ∷ 0x20 ∷ 5 ∷ 0 ∷ 1 ∷ 0xC0 ∷ 0x32 ∷ 0x80 ∷ []) ∷ (0 ∷
+    1 ∷ 0 ∷ 0 ∷ 0 ∷ 2 ∷ 0 ∷ 0x14 ∷ 0 ∷ 5 ∷ 0xA0 ∷ 0 ∷ 0x40 ∷ 0 ∷ 0 ∷ 5 ∷ 0xA0 ∷ 0 ∷ 0x40 ∷ 0 ∷ 1 ∷ 0 ∷ 1 ∷ 0 ∷ 0x40
+    ∷ 0 ∷ 2 ∷ 0xC0 ∷ 0x32 ∷ []) ∷ (0 ∷ 2 ∷ 0 ∷ 0 ∷ 0 ∷ 1 ∷ 0 ∷ 0xE ∷ 0 ∷ 5 ∷ 0xA0 ∷ 0 ∷ 0x40 ∷ 0 ∷ 0 ∷ 1 ∷ 0xC0 ∷
+    0x32 ∷ 0x80 ∷ []) ∷ [])
+    ≡ (pos 100 ∷ pos 200 ∷ pos 300 ∷ []) ∷ (pos 100 ∷ pos 200 ∷ pos 300 ∷ []) ∷ (pos 100 ∷ pos 200 ∷ pos 300 ∷ [])
+    ∷ []
 unfolding varied_values values_by_all varied_along tuples_of tuples_from tuple_at tuple_header_at header_at
     shared_points_of peak_at sides_at points_at listed_at count_at numbers_from next_number number_run_at deltas_from
     next_delta delta_run_at byte_in word_in signed_in slice_in share_after share_of_tuple_axis

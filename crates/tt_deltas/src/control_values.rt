@@ -11,6 +11,7 @@ ghost use Rattle.tt_deltas.specs.ControlValues.{is_cvar, moved_control_value, st
 
 use crate::along::{AxisTuple, vary_along};
 use crate::glyph::numbers_of;
+use crate::gvar::Gvar;
 use crate::varied::Varied;
 use std::alloc::{AllocError, Global};
 use tt_axes::Coordinates;
@@ -81,35 +82,39 @@ fn still(alloc: Global, values: &[i16]) -> Result<Vec<Varied>, AllocError>
         .collect(alloc)
 }
 
-/// The control values with their deltas at the coordinates of an instance. A table of another version, or with any defect
-/// in what is read, is taken as missing (profile): no value moves. Error: memory ran out.
-#[tactic(auto, unfolding(crate::specs::ControlValues::varied_values))]
-pub fn control_value_deltas(
-    alloc: Global,
-    cvar: &[u8],
-    coordinates: &Coordinates,
-    values: &[i16],
-) -> Result<Vec<Varied>, AllocError>
-    requires table { length cvar.now ≤ font_limit }
-    requires values { length values.now ≤ font_limit }
-    ensures exact { IfOk result (λ v. v.items ≡ varied_values cvar.now coordinates.now values.now) }
-    ensures within { IfOk result (λ v. All (IsWithin (2 ^ 46)) v.items) }
-{
-    let mut varied = still(alloc, values)?;
-    if !is_cvar(cvar) {
-        return Ok(varied);
-    }
-    let source = TupleSource {
-        table: TupleTable::Cvar,
-        bytes: cvar,
-        shared: &[],
-        coordinates,
-        points: values.len(),
-    };
-    match vary_values(alloc, source, &mut varied) {
-        Ok(()) => Ok(varied),
-        Err(TuplesFault::Broken(_)) => still(alloc, values),
-        Err(TuplesFault::Memory) => Err(AllocError),
+impl<'a> Gvar<'a> {
+    /// The control values with their deltas at the coordinates of an instance. Tuples of cvar may have their peaks among
+    /// gvar's shared tuples (profile). A table cvar of another version, or with any defect in what is read, is taken as
+    /// missing (profile): no value moves. Error: memory ran out.
+    #[tactic(auto, unfolding(crate::specs::ControlValues::varied_values))]
+    pub fn control_value_deltas(
+        &self,
+        alloc: Global,
+        cvar: &[u8],
+        coordinates: &Coordinates,
+        values: &[i16],
+    ) -> Result<Vec<Varied>, AllocError>
+        requires table { length cvar.now ≤ font_limit }
+        requires values { length values.now ≤ font_limit }
+        ensures exact { IfOk result (λ v. v.items ≡ varied_values self.now cvar.now coordinates.now values.now) }
+        ensures within { IfOk result (λ v. All (IsWithin (2 ^ 46)) v.items) }
+    {
+        let mut varied = still(alloc, values)?;
+        if !is_cvar(cvar) {
+            return Ok(varied);
+        }
+        let source = TupleSource {
+            table: TupleTable::Cvar,
+            bytes: cvar,
+            shared: self.shared(),
+            coordinates,
+            points: values.len(),
+        };
+        match vary_values(alloc, source, &mut varied) {
+            Ok(()) => Ok(varied),
+            Err(TuplesFault::Broken(_)) => still(alloc, values),
+            Err(TuplesFault::Memory) => Err(AllocError),
+        }
     }
 }
 

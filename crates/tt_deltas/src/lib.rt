@@ -10,7 +10,7 @@ mod naming;
 mod varied;
 mod work;
 
-pub use control_values::{control_value_deltas, moved_control_value};
+pub use control_values::moved_control_value;
 pub use gvar::{GlyphData, Gvar};
 pub use varied::Varied;
 pub use work::control_value_work;
