@@ -29,7 +29,6 @@ ELSEWHERE = {
     **dict.fromkeys(OF_C_ALONE, "tests/c/edges.c"),
     "GlyphNumber": "tests/glyph_sets/cases.txt",
     **dict.fromkeys(("CollectionVersion", "NoFace"), "tests/faces/rows.txt"),
-    **dict.fromkeys(("VariationShape", "NoAxis", "NoInstance", "GlyphVariation"), "tests/variations/rows.txt"),
 }
 
 

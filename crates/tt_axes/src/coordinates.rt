@@ -9,12 +9,12 @@ use tt_core::AXIS_LIMIT;
 
 /// The coordinates of an instance: one for each of at most 64 axes, in 1/65536, from -65536 to 65536. Clauses see a list.
 #[derive(Drop)]
-pub struct Coordinates {
+pub struct InstanceCoordinates {
     values: [i32; AXIS_LIMIT],
     count: usize,
 }
 
-impl Model for Coordinates {
+impl Model for InstanceCoordinates {
     ghost use Rattle.std.specs.Prelude.{◌≡◌, ◌≤◌, List, ℤ, take, length, unsigned_abs};
     ghost use Rattle.std.specs.List.{All};
     ghost use Rattle.tt_core.specs.Limits.{axis_limit};
@@ -26,12 +26,12 @@ impl Model for Coordinates {
     ghost invariant = { λ c. (c.count ≤ axis_limit) × (length c.values ≡ axis_limit) × All (λ v. unsigned_abs v ≤ 65536) (take c.count c.values) };
 }
 
-impl Coordinates {
+impl InstanceCoordinates {
     /// No coordinate.
-    pub fn new() -> Coordinates
+    pub fn new() -> InstanceCoordinates
         ensures { result ≡ [] }
     {
-        Coordinates {
+        InstanceCoordinates {
             values: [0; AXIS_LIMIT],
             count: 0,
         }
@@ -48,10 +48,10 @@ impl Coordinates {
     }
 
     /// A copy.
-    pub fn copy(&self) -> Coordinates
+    pub fn copy(&self) -> InstanceCoordinates
         ensures { result ≡ self.now }
     {
-        Coordinates {
+        InstanceCoordinates {
             values: self.values,
             count: self.count,
         }

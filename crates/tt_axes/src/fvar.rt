@@ -8,7 +8,7 @@ ghost use Rattle.tt_axes.specs.Axes.{axis_of, axis_tag};
 ghost use Rattle.tt_axes.specs.Fvar.{axis_count, fvar_in, fvar_of, instance_count, instance_place, IsBadFvar, IsFvar, IsFvarDefect};
 ghost use Rattle.tt_axes.specs.Instances.{named_instance, place_in};
 
-use crate::axis::Axis;
+use crate::axis::VariationAxis;
 use crate::values::NamedInstance;
 use crate::words::{fixed, long, tag, word};
 use std::marker::Model;
@@ -99,14 +99,14 @@ impl<'a> Fvar<'a> {
 
     /// The axis with a number.
     #[tactic(auto, unfolding(crate::specs::Axes::axis_of))]
-    pub fn axis(&self, i: usize) -> Axis
+    pub fn axis(&self, i: usize) -> VariationAxis
         requires { i < axis_count self.now }
         ensures exact { result ≡ axis_of self.now i }
         ensures low { result.least ≤ℤ result.default }
         ensures high { result.default ≤ℤ result.greatest }
     {
         let at = usize::from(word(self.table, 4)) + 20 * i;
-        let axis = Axis {
+        let axis = VariationAxis {
             tag: tag(self.table, at),
             least: fixed(self.table, at + 4),
             default: fixed(self.table, at + 8),

@@ -9,7 +9,7 @@ ghost use Rattle.tt_axes.specs.InstanceCoordinates.{coordinates_of, IsInstanceDe
 ghost use Rattle.tt_axes.specs.Instances.{coordinate_of, coordinates_in, first_place, has_axis, has_instance, last_value, missing_axis, IsWrongInstance};
 
 use crate::avar::Avar;
-use crate::coordinates::Coordinates;
+use crate::coordinates::InstanceCoordinates;
 use crate::fvar::{FVAR, Fvar};
 use crate::values::AxisValue;
 use tt_core::{Dir, Fault, Why};
@@ -89,12 +89,12 @@ impl<'a> Fvar<'a> {
     }
 
     /// The coordinates on all axes.
-    fn all_coordinates(&self, named: Option<u32>, values: &[AxisValue]) -> Coordinates
+    fn all_coordinates(&self, named: Option<u32>, values: &[AxisValue]) -> InstanceCoordinates
         requires { IfSome named (λ k. k < instance_count self.now) }
         ensures exact { result ≡ map (coordinate_of self.now named values.now) (range_with_len 0 (axis_count self.now)) }
         ensures count { length result ≡ axis_count self.now }
     {
-        let mut coordinates = Coordinates::new();
+        let mut coordinates = InstanceCoordinates::new();
         for i in 0..self.axis_count() {
             coordinates.push(self.coordinate(named, values, i));
         }
@@ -108,7 +108,7 @@ impl<'a> Fvar<'a> {
         &self,
         named: Option<u32>,
         values: &[AxisValue],
-    ) -> Result<Coordinates, Fault>
+    ) -> Result<InstanceCoordinates, Fault>
         ensures exact { Gives (λ c. c) result (coordinates_in self.now named values.now) }
         ensures count { IfOk result (λ c. length c ≡ axis_count self.now) }
         ensures sound { OnOk result (HasNo (IsWrongInstance self.now named values.now)) }
@@ -131,7 +131,7 @@ pub fn coordinates_of(
     dir: &Dir,
     named: Option<u32>,
     values: &[AxisValue],
-) -> Result<Coordinates, Fault>
+) -> Result<InstanceCoordinates, Fault>
     ensures exact { Gives (λ c. c) result (coordinates_of dir.now named values.now) }
     ensures sound { OnOk result (HasNo (IsInstanceDefect dir.now named values.now)) }
     ensures fault { IfErr result (IsInstanceDefect dir.now named values.now) }

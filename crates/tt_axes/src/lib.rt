@@ -16,12 +16,12 @@ mod values;
 mod words;
 
 pub use avar::Avar;
-pub use axis::Axis;
+pub use axis::VariationAxis;
 pub use axis_words::read_axis_values;
-pub use coordinates::Coordinates;
+pub use coordinates::InstanceCoordinates;
 pub use fvar::Fvar;
 pub use instance::coordinates_of;
-pub use region::Ends;
+pub use region::RegionEnds;
 pub use rounding::{product_quotient, sixty_fourths, whole_units};
 pub use share::Share;
 pub use shown::value_text;

@@ -1,7 +1,7 @@
 use Rattle.std.proofs.Common.{SFits, w32, rules}
 use Rattle.std.proofs.lemmas.Int.{to_z-of_z}
 use Rattle.tt_axes.proofs.Axes.{above-default, below-default, turned, unsigned}
-use Rattle.tt_axes.proofs.axis.Axis.coordinate.Goals as goal
+use Rattle.tt_axes.proofs.axis.VariationAxis.coordinate.Goals as goal
 
 pub returns-then-self-place-clause-exact : goal.returns-then-self-place-clause-exact
 returns-then-self-place-clause-exact c =
