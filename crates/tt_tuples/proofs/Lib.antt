@@ -4,3 +4,4 @@ pub mod DeltaRuns
 pub mod NumberRuns
 pub mod Rising
 pub mod Steps
+pub mod Whole

@@ -28,7 +28,7 @@ slice_in b at n = if nat_le (at + n) (length b) then Ok (slice_range b at (at + 
 abbrev pub signed8 : ℕ → ℤ
 signed8 n = if nat_lt n (2 ^ 7) then pos n else pos n -ℤ pos (2 ^ 8)
 
--- what is read from the bytes, and the place after it
+-- a value that is read from the bytes, and the place after its bytes
 pub record Read (A : Type 0) : Type 0 where
   pub value : A
   pub next : ℕ

@@ -7,7 +7,7 @@ use Rattle.tt_tuples.specs.declared.deltas.DeltaSize.TheVariants as size
 use Rattle.tt_tuples.specs.declared.fault.Broken.{Broken}
 use Rattle.tt_tuples.specs.Bytes.{broken, byte_in, signed_in, signed8, Read, after}
 
--- a run of deltas: the place of the next one, how many are left, and their size
+-- a run of deltas: the place of the next one, how many remain, and their size
 pub record DeltaRun : Type 0 where
   pub at : ℕ
   pub left : ℕ

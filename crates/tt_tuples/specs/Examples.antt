@@ -1,6 +1,6 @@
 -- Worked values of whole tuples. A glyph has four points and four phantom points; cvar has three control values. The
 -- font has one axis, and the instance is at its end, where the only shared tuple has its peak.
-use Rattle.std.specs.Prelude.{◌≡◌, refl, ℕ, ℤ, pos, negsuc, List, [], ◌∷◌, map, Ok, Err}
+use Rattle.std.specs.Prelude.{◌≡◌, refl, ℕ, ℤ, pos, negsuc, List, [], ◌∷◌, map, Result, Ok, Err}
 use Rattle.tt_axes.specs.Shares.{share_of_tuple_axis}
 use Rattle.tt_tuples.specs.declared.source.TupleTable.TheVariants as table
 use Rattle.tt_tuples.specs.Bytes.{broken, byte_in, word_in, signed_in, slice_in}
@@ -19,7 +19,8 @@ abbrev glyph : List ℕ → Source
 glyph bytes = glyph_at (pos 65536) bytes
 
 abbrev cvar : List ℕ → Source
-cvar bytes = record { table = table.Cvar; bytes = bytes; shared = []; coordinates = pos 65536 ∷ []; points = 3 }
+cvar bytes =
+    record { table = table.Cvar; bytes = bytes; shared = 0x40 ∷ 0 ∷ []; coordinates = pos 65536 ∷ []; points = 3 }
 
 abbrev tuple : ℕ → Points → List ℤ → List ℤ → Tuple
 tuple share points xs ys = record { share = share; points = points; xs = xs; ys = ys }
@@ -49,12 +50,12 @@ shared_points : map (λ b. tuples_of (glyph b))
     ((0x80 ∷ 1 ∷ 0 ∷ 0x0A ∷ 0 ∷ 4 ∷ 0x80 ∷ 0 ∷ 0x40 ∷ 0 ∷ 2 ∷ 1 ∷ 2 ∷ 1 ∷ 1 ∷ 0x40 ∷ 0x40 ∷ 0x81 ∷ [])
     ∷ (0x80 ∷ 1 ∷ 0 ∷ 0x0A ∷ 0 ∷ 6 ∷ 0x80 ∷ 0 ∷ 0x40 ∷ 0 ∷ 0 ∷ 0x81 ∷ 1 ∷ 0x40 ∷ 0x40 ∷ 0x83 ∷ 0x87 ∷ 0 ∷ [])
     ∷ (0x80 ∷ 1 ∷ 0 ∷ 0x0A ∷ 0 ∷ 0x0C ∷ 0xA0 ∷ 0 ∷ 0x40 ∷ 0 ∷ 1 ∷ 0 ∷ 2 ∷ 4 ∷ 3 ∷ 0 ∷ 1 ∷ 1 ∷ 1 ∷ 3 ∷ 0x40 ∷ 0x40 ∷
-      0x20 ∷ 0x20 ∷ 0x83 ∷ 0 ∷ [])
+    0x20 ∷ 0x20 ∷ 0x83 ∷ 0 ∷ [])
     ∷ (0 ∷ 1 ∷ 0 ∷ 0x0A ∷ 0 ∷ 6 ∷ 0x80 ∷ 0 ∷ 0x40 ∷ 0 ∷ 0x81 ∷ 1 ∷ 0x40 ∷ 0x40 ∷ 0x83 ∷ 0x87 ∷ []) ∷ [])
     ≡ Ok (tuple 65536 (listed (2 ∷ 3 ∷ [])) (pos 64 ∷ pos 64 ∷ []) (pos 0 ∷ pos 0 ∷ []) ∷ [])
     ∷ Ok (tuple 65536 all_points (right_side 64) still ∷ [])
     ∷ Ok (tuple 65536 (listed (0 ∷ 1 ∷ 2 ∷ 3 ∷ [])) (pos 64 ∷ pos 64 ∷ pos 32 ∷ pos 32 ∷ []) (pos 0 ∷ pos 0 ∷
-      pos 0 ∷ pos 0 ∷ []) ∷ [])
+    pos 0 ∷ pos 0 ∷ []) ∷ [])
     ∷ Ok (tuple 65536 (listed []) [] [] ∷ []) ∷ []
 unfolding tuples_of tuples_from tuple_at tuple_header_at header_at shared_points_of peak_at sides_at points_at
     listed_at count_at numbers_from next_number number_run_at deltas_from next_delta delta_run_at byte_in word_in
@@ -64,13 +65,13 @@ shared_points = refl
 -- data after each other; both at one place, where the first size is 0; a tuple that does not hold is not read
 two_tuples : map (λ b. tuples_of (glyph b))
     ((0 ∷ 2 ∷ 0 ∷ 0x10 ∷ 0 ∷ 7 ∷ 0xA0 ∷ 0 ∷ 0x40 ∷ 0 ∷ 0 ∷ 0x0B ∷ 0xA0 ∷ 0 ∷ 0x40 ∷ 0 ∷ 0 ∷ 0x81 ∷ 1 ∷ 0x30 ∷
-      0x30 ∷ 0x83 ∷ 0x87 ∷ 0 ∷ 0x81 ∷ 1 ∷ 0x10 ∷ 0x10 ∷ 0x83 ∷ 0x80 ∷ 1 ∷ 0x20 ∷ 0x20 ∷ 0x84 ∷ [])
+    0x30 ∷ 0x83 ∷ 0x87 ∷ 0 ∷ 0x81 ∷ 1 ∷ 0x10 ∷ 0x10 ∷ 0x83 ∷ 0x80 ∷ 1 ∷ 0x20 ∷ 0x20 ∷ 0x84 ∷ [])
     ∷ (0 ∷ 2 ∷ 0 ∷ 0x10 ∷ 0 ∷ 0 ∷ 0xA0 ∷ 0 ∷ 0x40 ∷ 0 ∷ 0 ∷ 7 ∷ 0xA0 ∷ 0 ∷ 0x40 ∷ 0 ∷ 0 ∷ 0x81 ∷ 1 ∷ 0x20 ∷ 0x20 ∷
-      0x83 ∷ 0x87 ∷ 0 ∷ 0x81 ∷ 1 ∷ 0x20 ∷ 0x20 ∷ 0x83 ∷ 0x87 ∷ [])
+    0x83 ∷ 0x87 ∷ 0 ∷ 0x81 ∷ 1 ∷ 0x20 ∷ 0x20 ∷ 0x83 ∷ 0x87 ∷ [])
     ∷ (0 ∷ 2 ∷ 0 ∷ 0x10 ∷ 0 ∷ 2 ∷ 0xA0 ∷ 0 ∷ 0xC0 ∷ 0 ∷ 0 ∷ 7 ∷ 0xA0 ∷ 0 ∷ 0x40 ∷ 0 ∷ 0 ∷ 0x7F ∷ 0 ∷ 0x81 ∷ 1 ∷
-      0x40 ∷ 0x40 ∷ 0x83 ∷ 0x87 ∷ 0 ∷ []) ∷ [])
+    0x40 ∷ 0x40 ∷ 0x83 ∷ 0x87 ∷ 0 ∷ []) ∷ [])
     ≡ Ok (tuple 65536 all_points (right_side 48) still ∷ tuple 65536 all_points (right_side 16) (pos 0 ∷ pos 32 ∷
-      pos 32 ∷ pos 0 ∷ pos 0 ∷ pos 0 ∷ pos 0 ∷ pos 0 ∷ []) ∷ [])
+    pos 32 ∷ pos 0 ∷ pos 0 ∷ pos 0 ∷ pos 0 ∷ pos 0 ∷ []) ∷ [])
     ∷ Ok (tuple 65536 all_points (right_side 32) still ∷ tuple 65536 all_points (right_side 32) still ∷ [])
     ∷ Ok (tuple 65536 all_points (right_side 64) still ∷ []) ∷ []
 unfolding tuples_of tuples_from tuple_at tuple_header_at header_at shared_points_of peak_at sides_at points_at
@@ -91,13 +92,15 @@ unfolding tuples_of tuples_from tuple_at tuple_header_at header_at shared_points
     signed_in slice_in share_after share_of_tuple_axis
 regions = refl
 
--- all control values; a shared one; a shared tuple, of which cvar has none
+-- all control values; a shared one; a shared tuple of gvar; one that is not there
 control_values : map (λ b. tuples_of (cvar b))
     ((0 ∷ 1 ∷ 0 ∷ 0 ∷ 0 ∷ 1 ∷ 0 ∷ 0x0E ∷ 0 ∷ 5 ∷ 0xA0 ∷ 0 ∷ 0x40 ∷ 0 ∷ 0 ∷ 1 ∷ 0xC0 ∷ 0x32 ∷ 0x80 ∷ [])
     ∷ (0 ∷ 1 ∷ 0 ∷ 0 ∷ 0x80 ∷ 1 ∷ 0 ∷ 0x0E ∷ 0 ∷ 2 ∷ 0x80 ∷ 0 ∷ 0x40 ∷ 0 ∷ 1 ∷ 0 ∷ 1 ∷ 0 ∷ 0x40 ∷ [])
-    ∷ (0 ∷ 1 ∷ 0 ∷ 0 ∷ 0 ∷ 1 ∷ 0 ∷ 0x0C ∷ 0 ∷ 5 ∷ 0x20 ∷ 0 ∷ 0 ∷ 1 ∷ 0xC0 ∷ 0x32 ∷ 0x80 ∷ []) ∷ [])
+    ∷ (0 ∷ 1 ∷ 0 ∷ 0 ∷ 0 ∷ 1 ∷ 0 ∷ 0x0C ∷ 0 ∷ 5 ∷ 0x20 ∷ 0 ∷ 0 ∷ 1 ∷ 0xC0 ∷ 0x32 ∷ 0x80 ∷ [])
+    ∷ (0 ∷ 1 ∷ 0 ∷ 0 ∷ 0 ∷ 1 ∷ 0 ∷ 0x0C ∷ 0 ∷ 5 ∷ 0x20 ∷ 5 ∷ 0 ∷ 1 ∷ 0xC0 ∷ 0x32 ∷ 0x80 ∷ []) ∷ [])
     ≡ Ok (tuple 65536 all_points (negsuc 63 ∷ pos 50 ∷ pos 0 ∷ []) [] ∷ [])
     ∷ Ok (tuple 65536 (listed (1 ∷ [])) (pos 64 ∷ []) [] ∷ [])
+    ∷ Ok (tuple 65536 all_points (negsuc 63 ∷ pos 50 ∷ pos 0 ∷ []) [] ∷ [])
     ∷ Err (broken 10) ∷ []
 unfolding tuples_of tuples_from tuple_at tuple_header_at header_at shared_points_of peak_at sides_at points_at
     listed_at count_at numbers_from next_number number_run_at deltas_from next_delta delta_run_at byte_in word_in
@@ -112,7 +115,7 @@ defects : map (λ b. tuples_of (glyph b))
     ∷ (0 ∷ 1 ∷ 0 ∷ 8 ∷ 0 ∷ 7 ∷ 0x20 ∷ 3 ∷ 0 ∷ 0x81 ∷ 1 ∷ 0x40 ∷ 0x40 ∷ 0x83 ∷ 0x87 ∷ 0 ∷ [])
     ∷ (0 ∷ 1 ∷ 0 ∷ 0x0A ∷ 0 ∷ 0x0A ∷ 0xA0 ∷ 0 ∷ 0x40 ∷ 0 ∷ 3 ∷ 2 ∷ 2 ∷ 0 ∷ 1 ∷ 2 ∷ 0x20 ∷ 0x20 ∷ 0x40 ∷ 0x82 ∷ [])
     ∷ (0 ∷ 1 ∷ 0 ∷ 0x0A ∷ 0 ∷ 0x11 ∷ 0xA0 ∷ 0 ∷ 0x40 ∷ 0 ∷ 9 ∷ 8 ∷ 0 ∷ 1 ∷ 1 ∷ 1 ∷ 1 ∷ 1 ∷ 1 ∷ 1 ∷ 1 ∷ 1 ∷ 0x81 ∷
-      1 ∷ 0x40 ∷ 0x40 ∷ 0x84 ∷ 0x88 ∷ 0 ∷ [])
+    1 ∷ 0x40 ∷ 0x40 ∷ 0x84 ∷ 0x88 ∷ 0 ∷ [])
     ∷ (0 ∷ 1 ∷ 0 ∷ 0x0A ∷ 0 ∷ 3 ∷ 0xA0 ∷ 0 ∷ 0x40 ∷ 0 ∷ 0 ∷ 0x88 ∷ 0x87 ∷ 0 ∷ [])
     ∷ (0 ∷ 1 ∷ 0 ∷ 0x0A ∷ 0 ∷ 7 ∷ 0xA0 ∷ 0 ∷ 0x40 ∷ 0 ∷ 0 ∷ 0x81 ∷ 1 ∷ 0x40 ∷ 0x40 ∷ 0x83 ∷ [])
     ∷ (0x70 ∷ 0 ∷ 0 ∷ 4 ∷ []) ∷ [])

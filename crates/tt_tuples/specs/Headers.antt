@@ -50,7 +50,7 @@ header_at b at = do
   if nat_lt (length b) offset then Err (broken (at + 2))
       else Ok (record { tuples = tuples_told count; shares_points = has count shared_point_numbers; data_at = offset })
 
--- how many tuples are told, 0 where their count is not there
+-- the count of tuples, 0 where the count is missing
 unfoldable pub tuple_count : TupleTable → List ℕ → ℕ
 tuple_count t b = counted (word_in b (header_place t))
   where

@@ -2,6 +2,7 @@ pub mod Bytes
 pub mod Deltas
 pub mod Examples
 pub mod Headers
+pub mod Laws
 pub mod PointNumbers
 pub mod Regions
 pub mod Sources

@@ -10,7 +10,7 @@ pub data Points : Type 0 where
   all_points : Points
   listed : List ℕ → Points
 
--- a run of differences: the place of the next one, how many are left, and whether each has two bytes
+-- a run of differences: the place of the next one, how many remain, and whether each has two bytes
 pub record NumberRun : Type 0 where
   pub at : ℕ
   pub left : ℕ

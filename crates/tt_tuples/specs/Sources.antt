@@ -1,11 +1,11 @@
--- What tuples are read from, and what a tuple gives.
+-- The source of a reader of tuples, and the data of a tuple.
 use Rattle.std.specs.Prelude.{◌≡◌, ℕ, ◌<◌, ◌≤◌, ℤ, List, length, slice_index, All}
 use Rattle.tt_tuples.specs.declared.source.TupleTable.{TupleTable}
 use Rattle.tt_tuples.specs.declared.source.TupleTable.TheVariants as table
 use Rattle.tt_tuples.specs.PointNumbers.{Points, all_points, listed}
 
--- the bytes of a glyph in gvar and gvar's shared tuples, or the bytes of cvar; the coordinates of the instance; how many
--- points there are, with the phantom ones, or control values
+-- the bytes of a glyph in gvar, or of cvar; gvar's shared tuples; the coordinates of the instance; how many points there
+-- are, with the phantom ones, or control values
 pub record Source : Type 0 where
   pub table : TupleTable
   pub bytes : List ℕ
@@ -44,7 +44,7 @@ abbrev pub AreNumbers : ℕ → Points → Type 0
 AreNumbers points all_points = Unit {0}
 AreNumbers points (listed ns) = IsList points ns
 
--- what is true of each tuple that is read
+-- each tuple that is read has these properties
 pub record IsTuple (s : Source) (t : Tuple) : Type 0 where
   pub some : 0 < t.share
   pub most : t.share ≤ 65536

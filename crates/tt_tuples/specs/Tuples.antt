@@ -55,7 +55,7 @@ tuples_of s = do
   shared ← shared_points_of s h
   tuples_from s shared.value h.tuples (header_place s.table + 4) shared.next
 
--- where a reader of tuples is: the shared points, the next header, its data, how many tuples are left, and the tuple
+-- where a reader of tuples is: the shared points, the next header, its data, how many tuples remain, and the tuple
 -- that was read last
 pub record TuplesLeft : Type 0 where
   pub source : Source
@@ -69,7 +69,7 @@ pub record TuplesLeft : Type 0 where
 abbrev pub rest : TuplesLeft → Result (List Tuple) Broken
 rest t = tuples_from t.source t.shared t.left t.at t.data_at
 
--- the place that a fault tells; none if memory ran out
+-- the defect of a fault; none if memory ran out
 abbrev pub told : TuplesFault → Option Broken
 told (fault.Broken e) = Some e
 told fault.Memory = None

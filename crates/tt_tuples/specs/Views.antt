@@ -48,7 +48,7 @@ delta_run_of r = record { at = r.at; left = r.left; size = r.size }
 abbrev pub delta_of : delta.Delta → Delta
 delta_of d = record { delta = d.delta; run = delta_run_of d.run }
 
--- what is left in a value, and the place after what was read
+-- a value with its read contents, and the place after their bytes
 abbrev pub read_into : {A : Type 0} → A → ℕ → Read A
 read_into value next = record { value = value; next = next }
 

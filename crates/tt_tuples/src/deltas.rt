@@ -31,7 +31,7 @@ enum DeltaSize {
 }
 
 impl DeltaSize {
-    /// The size that a run's first byte tells.
+    /// The size in a run's first byte.
     #[inline(always)]
     fn of(control: u8) -> DeltaSize
         ensures { result ≡ size_in control }
@@ -79,7 +79,7 @@ impl DeltaSize {
 struct DeltaRun {
     /// The place of the next delta.
     at: usize,
-    /// How many deltas are left.
+    /// How many deltas remain.
     left: usize,
     size: DeltaSize,
 }

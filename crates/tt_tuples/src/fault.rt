@@ -5,7 +5,7 @@ ghost use Rattle.tt_tuples.specs.declared.fault.TuplesFault.TheVariants.{Broken 
 
 use std::alloc::AllocError;
 
-/// Data that are wrong. A byte that is not there is told at the end of the bytes.
+/// Data that are wrong. A missing byte is a fault at the end of the bytes.
 #[derive(Clone, Copy, Debug, PartialEq, Eq)]
 pub struct Broken {
     /// The place in the bytes.
@@ -15,6 +15,7 @@ pub struct Broken {
 /// Why tuples are not opened.
 #[derive(Clone, Copy, Debug, PartialEq, Eq)]
 pub enum TuplesFault {
+    /// The data have this defect.
     Broken(Broken),
     /// Memory ran out.
     Memory,

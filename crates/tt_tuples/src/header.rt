@@ -72,7 +72,7 @@ pub(crate) fn header_at(bytes: &[u8], at: usize) -> Result<Header, Broken>
     })
 }
 
-/// How many tuples a header tells; none where their count is not there.
+/// The count of tuples in a header, 0 where the count is missing.
 #[tactic(auto, unfolding(crate::specs::Headers::tuple_count))]
 pub fn tuple_count(table: TupleTable, bytes: &[u8]) -> usize
     ensures exact { result ≡ tuple_count table bytes.now }

@@ -5,6 +5,7 @@ mod bytes;
 mod deltas;
 mod fault;
 mod header;
+pub mod laws;
 mod point_numbers;
 mod region;
 mod source;

@@ -19,7 +19,7 @@ use std::alloc::{AllocError, Global};
 struct NumberRun {
     /// The place of the next difference.
     at: usize,
-    /// How many differences are left.
+    /// How many differences remain.
     left: usize,
     /// Whether each has two bytes.
     words: bool,
@@ -190,7 +190,7 @@ fn count_at(bytes: &[u8], at: usize) -> Result<Count, Broken>
     })
 }
 
-/// The points that a tuple names.
+/// The points that a tuple names. Their numbers rise, and may be above those of the glyph.
 #[derive(Clone, Copy)]
 pub enum Points<'a> {
     All,
@@ -198,7 +198,7 @@ pub enum Points<'a> {
 }
 
 impl<'a> Points<'a> {
-    /// How many points are named, of so many.
+    /// How many points are named, where there are `points`.
     pub fn count(self, points: usize) -> usize
         ensures { result ≡ delta_count (named_points self.entry) points }
     {
@@ -212,7 +212,7 @@ impl<'a> Points<'a> {
 /// The points that a tuple names, in memory that serves again.
 #[derive(Drop)]
 pub(crate) struct NumberList {
-    /// Whether all points are named. Then the list is left out of account.
+    /// Whether all points are named. The list then means nothing.
     pub(crate) all: bool,
     pub(crate) numbers: Vec<u16>,
 }
@@ -261,8 +261,7 @@ impl NumberList {
         read_numbers(bytes, count.next, count.count, &mut self.numbers)
     }
 
-    /// Reads the point numbers of a tuple whose data begin at a place, if it has its own. Returns the place of its
-    /// deltas.
+    /// Reads the point numbers at the place of a tuple's data, if the tuple has its own. Returns the place of the deltas.
     pub(crate) fn read_own(
         &mut self,
         source: &TupleSource,

@@ -49,7 +49,7 @@ impl<'a> Region<'a> {
         }
     }
 
-    /// How much of the tuple holds. Where nothing is left, the other axes have no effect.
+    /// How much of the tuple holds. Where an axis leaves nothing, the others have no effect.
     #[tactic(auto, using(crate::proofs::Axes::no_axis, crate::proofs::Axes::one_more_axis))]
     pub(crate) fn share(&self, coordinates: &Coordinates) -> Share
         ensures { result.parts ≡ share_of coordinates.now (region_of self.now) }

@@ -15,15 +15,15 @@ use crate::source::{TupleSource, TupleTable};
 use std::alloc::{AllocError, Global};
 use tt_axes::Share;
 
-/// A tuple that holds.
+/// A tuple that holds. Deltas are in font units.
 #[derive(Clone, Copy)]
 pub struct Tuple<'a> {
-    /// How much of the tuple holds. Not nothing.
+    /// How much of the tuple holds, which is not nothing.
     pub share: Share,
     pub points: Points<'a>,
-    /// The deltas along x of the named points, or of the named control values.
+    /// The deltas along x of the named points, one for each; or of the named control values.
     pub xs: &'a [i16],
-    /// The deltas along y. cvar has none.
+    /// The deltas along y, likewise. cvar has none.
     pub ys: &'a [i16],
 }
 

@@ -15,8 +15,8 @@ use crate::tuple::{Tuple, TupleRoom};
 use std::alloc::Global;
 use std::marker::Model;
 
-/// A reader of the tuples that hold, one after the other. It takes memory once, when it is opened. Clauses see where it
-/// is.
+/// A reader of the tuples that hold, one after the other. Memory is taken once, when the reader is opened. Clauses see
+/// the reader's place. OpenType, "Tuple Variation Store".
 #[derive(Drop)]
 pub struct Tuples<'a> {
     source: TupleSource<'a>,
@@ -83,7 +83,7 @@ fn shared_points(
 }
 
 impl<'a> Tuples<'a> {
-    /// Reads the header and the shared point numbers.
+    /// Reads the header and the shared point numbers. Errors: a defect of these, Memory.
     #[tactic(auto, unfolding(crate::specs::Tuples::tuples_of))]
     pub fn open(alloc: Global, source: TupleSource<'a>) -> Result<Tuples<'a>, TuplesFault>
         requires bytes { length source.bytes.now ≤ font_limit }
@@ -107,14 +107,14 @@ impl<'a> Tuples<'a> {
         })
     }
 
-    /// How many tuples are left, with those that do not hold.
+    /// How many tuples remain, whether they hold or not.
     pub fn left(&self) -> usize
         ensures { result ≡ self.now.left }
     {
         self.left
     }
 
-    /// Goes on to the tuple after the one with a header.
+    /// Goes on to the tuple after the one that has this header.
     fn pass(&mut self, header: TupleHeader)
         requires some { 0 < self.old.left }
         requires size { header.size < 65536 }
@@ -130,7 +130,7 @@ impl<'a> Tuples<'a> {
         self.left -= 1;
     }
 
-    /// Reads one tuple. Whether it holds.
+    /// Reads one tuple. Whether the tuple holds.
     fn step(&mut self) -> Result<bool, Broken>
         requires { 0 < self.old.left }
         ensures exact { StepOf result self.old self.new }
@@ -151,7 +151,8 @@ impl<'a> Tuples<'a> {
         Ok(true)
     }
 
-    /// Reads the next tuple that holds; false where there is none. After a fault the next call has the same fault.
+    /// Reads the next tuple that holds; false where there is none. Error: a defect of a header, of the tuple's points or
+    /// of its deltas, whichever is read first. Later calls have the same error.
     pub fn next(&mut self) -> Result<bool, Broken>
         ensures exact { NextOf result self.old self.new }
         ensures fewer { IfOk result (λ found. IsTrue found → self.new.left < self.old.left) }
