@@ -27,7 +27,7 @@ struct AxisWay(i64);
 pub(crate) struct NamedNeighbours {
     lo: AxisPoint,
     hi: AxisPoint,
-    /// What a point's delta grows by for each font unit from the lower point on.
+    /// The growth of a point's delta for each font unit from the lower point on.
     growth: AxisWay,
     ghost are: { AreInOrder lo hi growth.0 },
 }
