@@ -31,7 +31,7 @@ after_tuples vs (t ∷ ts) = after_tuples (varied_along t.share (numbers_of t.po
 unfoldable pub values_by_all : List Varied → Result (List Tuple) Broken → Result (List Varied) Broken
 values_by_all vs tuples = tuples >>= λ ts. Ok (after_tuples vs ts)
 
--- what the tuples are read from
+-- the source of the tuples
 abbrev pub source_for : Gvar → List ℕ → List ℤ → ℕ → Source
 source_for g cvar coordinates values =
     record { table = table.Cvar; bytes = cvar; shared = shared_bytes_of g; coordinates = coordinates; points = values }

@@ -47,7 +47,7 @@ abbrev pub told_in_gvar : {A : Type 0} → ℕ → Result A Broken → Result A 
 told_in_gvar start (Ok x) = Ok x
 told_in_gvar start (Err e) = Err (broken_fault start e)
 
--- what the tuples of a glyph are read from
+-- the source of a glyph's tuples
 abbrev pub source_for : Gvar → List ℤ → ℕ → GlyphData → Source
 source_for g coordinates points d =
     record { table = table.Gvar; bytes = d.bytes; shared = shared_bytes_of g; coordinates = coordinates; points = points }

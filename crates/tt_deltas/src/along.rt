@@ -9,7 +9,7 @@ use crate::varied::Varied;
 use tt_axes::Share;
 use tt_deltas_inference::{AxisPoint, infer};
 
-/// What a tuple says of one axis.
+/// The part of a tuple for one axis.
 #[derive(Clone, Copy)]
 pub(crate) struct AxisTuple<'a> {
     /// How much of the tuple holds.

@@ -1,5 +1,6 @@
 pub mod ByNumber
 pub mod Choices
+pub mod Ends
 pub mod Filled
 pub mod Named
 pub mod Near

@@ -5,12 +5,12 @@ ghost use Rattle.tt_deltas_inference.specs.Inference as is;
 ghost use Rattle.tt_deltas_inference.specs.Bounds.{IsGiven};
 ghost use Rattle.tt_deltas_inference.specs.Sweeps.{swept, IsRun};
 
-use crate::point::{AxisPoint, Between, placed};
+use crate::point::{AxisPoint, NamedNeighbours, placed};
 use crate::search::{first_named, last_named, unnamed};
 
 /// A run of points: its length, and the last named point in it or before it.
 #[derive(Clone, Copy)]
-struct PointRun {
+struct InferredRun {
     len: usize,
     last: AxisPoint,
 }
@@ -22,7 +22,7 @@ fn fill(points: &mut [AxisPoint], before: AxisPoint, after: AxisPoint)
     requires after { IsGiven after }
     ensures { points.new ≡ map (is.inferred before after) points.old }
 {
-    let between = Between::of(before, after);
+    let between = NamedNeighbours::of(before, after);
     for p in points.iter_mut() {
         *p = placed(*p, between);
     }
@@ -30,7 +30,7 @@ fn fill(points: &mut [AxisPoint], before: AxisPoint, after: AxisPoint)
 
 /// Infers the deltas up to the next named point or the end. The run includes that named point. `before` is the named
 /// point before these, `first` the first one of the contour.
-fn next_run(points: &mut [AxisPoint], before: AxisPoint, first: AxisPoint) -> PointRun
+fn next_run(points: &mut [AxisPoint], before: AxisPoint, first: AxisPoint) -> InferredRun
     requires some { 0 < length points.old }
     requires points { All IsGiven points.old }
     requires before { IsGiven before }
@@ -40,11 +40,11 @@ fn next_run(points: &mut [AxisPoint], before: AxisPoint, first: AxisPoint) -> Po
     let len = unnamed(points);
     if len == points.len() {
         fill(points, before, first);
-        return PointRun { len, last: before };
+        return InferredRun { len, last: before };
     }
     let last = points[len];
     fill(&mut points[..len], before, last);
-    PointRun { len: len + 1, last }
+    InferredRun { len: len + 1, last }
 }
 
 /// Infers the deltas from a contour's first point to its end. `last` and `first` are its last and first named point.

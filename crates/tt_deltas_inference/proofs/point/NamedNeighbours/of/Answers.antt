@@ -1,7 +1,7 @@
 use Rattle.std.proofs.Common.{SFits, w16, rules}
 use Rattle.std.proofs.lemmas.Int.{to_z-of_z}
 use Rattle.tt_deltas_inference.proofs.Choices.{exchanged, in_order}
-use Rattle.tt_deltas_inference.proofs.point.Between.of.Goals as goal
+use Rattle.tt_deltas_inference.proofs.point.NamedNeighbours.of.Goals as goal
 
 pub returns-then-after-before : goal.returns-then-after-before
 returns-then-after-before c = λ p.
